@@ -1,0 +1,103 @@
+-- A footprint names different nodes of its graph, so there are no more of them than the graph has.
+use Rattle.std.proofs.Common.{◌≡◌, ℕ, ◌+◌, ◌<◌, ◌≤◌, true, inl, inr, eqb, List, [], ◌∷◌, ◌++◌, length, take, get_or, map, fold, Option, Some, None, IfSome, sym, ap, subst, ◌∙◌, arith, length-append}
+use Rattle.std.specs.List.{AllByRecursion, list_any}
+use Rattle.std.proofs.lemmas.List.{length-map, length-take-le, map_more}
+use Rattle.std.proofs.lemmas.List.Sums.{fold_push}
+use Rattle.std.proofs.lemmas.Map.Steps.{length-le_from_distinct_below}
+use Rattle.ww_plain.specs.declared.node.Node.{Node}
+use Rattle.ww_plain.specs.declared.graph.TheConstants.{MAX_NODES}
+use Rattle.ww_plain.specs.Transaction.{IsCourse}
+use Rattle.ww_plain.specs.Numbers.{is_among, AreDifferent, joined, distinct_of}
+use Rattle.ww_plain.specs.Graph.{IsGraph}
+use Rattle.ww_plain.specs.Walk.{IsWalk, Follows, stop_of, last_of, walk_of}
+use Rattle.ww_plain.specs.Footprint.{with_target, walked}
+use Rattle.ww_plain.proofs.Members.{or_cases, true_or_false, same_from_eqb, different_push}
+use Rattle.ww_plain.proofs.GraphFacts.{port_is_there, target_is_there}
+use Rattle.ww_plain.proofs.Walks.{gives_walk}
+
+-- ---- lists that nodes join
+
+abbrev pub AreBelow : ℕ → List ℕ → Type 0
+AreBelow size ns = AllByRecursion (λ n. n < size) ns
+
+below_push : (size : ℕ) (ns : List ℕ) (n : ℕ) → AreBelow size ns → n < size → AreBelow size (ns ++ n ∷ [])
+below_push size [] n below here = (here, tt)
+below_push size (m ∷ ms) n below here = (below.0, below_push size ms n below.1 here)
+
+pub below_joined : (size : ℕ) (ns : List ℕ) (n : ℕ) → AreBelow size ns → n < size → AreBelow size (joined ns n)
+below_joined size ns n below here = elim (true_or_false (is_among n ns)) [ inl e ↦ rw e below | inr e ↦ rw e (below_push size ns n below here) ]
+
+pub different_joined : (ns : List ℕ) (n : ℕ) → AreDifferent ns → AreDifferent (joined ns n)
+different_joined ns n different = elim (true_or_false (is_among n ns)) [ inl e ↦ rw e different | inr e ↦ rw e (different_push ns n different e) ]
+
+length_joined : (ns : List ℕ) (n : ℕ) → length (joined ns n) ≤ length ns + 1
+length_joined ns n = elim (true_or_false (is_among n ns)) [ inl e ↦ rw e (omega arith) | inr e ↦ rw e (omega (arith, length-append ns (n ∷ []))) ]
+
+pub length_all_joined : (ns ms : List ℕ) → length (fold joined ns ms) ≤ length ns + length ms
+length_all_joined ns [] = omega arith
+length_all_joined ns (m ∷ ms) = omega (arith, length_all_joined (joined ns m) ms, length_joined ns m)
+
+-- one item more
+pub distinct_more : {X : Type 0} (f : X → ℕ) (xs : List X) (i : ℕ) (d : X) → i < length xs → distinct_of (map f (take (i + 1) xs)) ≡ joined (distinct_of (map f (take i xs))) (f (get_or xs i d))
+distinct_more f xs i d lt = rw (map_more f xs i d lt) (fold_push joined [] (map f (take i xs)) (f (get_or xs i d)))
+
+-- ---- different nodes of a graph
+
+below_among : (size : ℕ) (ns : List ℕ) → AreBelow size ns → (n : ℕ) → list_any (eqb n) ns ≡ true → n < size
+below_among size [] below n e = absurd cc
+below_among size (m ∷ ms) below n e = elim (or_cases (eqb n m) (list_any (eqb n) ms) e) [
+  | inl same ↦ subst (λ (k : ℕ). k < size) (sym (same_from_eqb n m same)) below.0
+  | inr later ↦ below_among size ms below.1 n later
+]
+
+pub few_different : (size : ℕ) (ns : List ℕ) → AreDifferent ns → AreBelow size ns → length ns ≤ size
+few_different size ns different below = length-le_from_distinct_below ns size different (below_among size ns below)
+
+follows_below : (graph : List Node) (p v : ℕ) (ws : List ℕ) → IsGraph graph → v < length graph → Follows graph p (v ∷ ws) → AreBelow (length graph) (v ∷ ws)
+follows_below graph p v [] is here follows = (here, tt)
+follows_below graph p v (w ∷ ws) is here follows = (here, follows_below graph p w ws is (target_is_there graph v p w is follows.0) follows.1)
+
+begun_below : (graph : List Node) (start p most : ℕ) (vs : List ℕ) → IsGraph graph → start < length graph → IsWalk graph start p most vs → AreBelow (length graph) vs
+begun_below graph start p most [] is here walk = absurd walk.begins
+begun_below graph start p most (v ∷ ws) is here walk = follows_below graph p v ws is (subst (λ (n : ℕ). n < length graph) (sym walk.begins) here) walk.follows
+
+-- the nodes of a walk are there
+pub walk_below : (graph : List Node) (start p most : ℕ) → IsGraph graph → start < length graph → 1 ≤ most → AreBelow (length graph) (walk_of graph start p most)
+walk_below graph start p most is here some = begun_below graph start p most (walk_of graph start p most) is here (gives_walk graph start p most some)
+
+pub different_walk : (graph : List Node) (start p most : ℕ) → 1 ≤ most → AreDifferent (walk_of graph start p most)
+different_walk graph start p most some = (gives_walk graph start p most some).different
+
+few_with_target : (size : ℕ) (ns : List ℕ) (target : Option ℕ) → AreDifferent ns → AreBelow size ns → IfSome target (λ t. t < size) → length (with_target ns target) ≤ size
+few_with_target size ns None different below there = few_different size ns different below
+few_with_target size ns (Some t) different below there = few_different size (joined ns t) (different_joined ns t different) (below_joined size ns t below there)
+
+-- a walk and its stop are no more nodes than the graph has
+pub few_walked : (graph : List Node) (start p most : ℕ) → IsGraph graph → start < length graph → 1 ≤ most → length (walked graph p (walk_of graph start p most)) ≤ length graph
+few_walked graph start p most is here some =
+    few_with_target (length graph) (walk_of graph start p most) (stop_of graph p (walk_of graph start p most)) (different_walk graph start p most some) (walk_below graph start p most is here some) (port_is_there graph (last_of (walk_of graph start p most)) p is.closed)
+
+-- so far there are no more nodes than items
+pub few_more : {X : Type 0} (f : X → ℕ) (xs : List X) (i : ℕ) (d : X) (ns : List ℕ) → ns ≡ distinct_of (map f (take i xs)) → i < length xs → length (joined ns (f (get_or xs i d))) ≤ length xs
+few_more f xs i d ns is lt =
+    let more = length_joined ns (f (get_or xs i d)) in
+    let few = length_all_joined [] (map f (take i xs)) in
+    let same = ap length is in
+    omega (arith, more, few, same, length-map (take i xs) f, length-take-le i xs (omega arith))
+
+-- the walk's nodes, which the target joins
+pub target_joins : (graph : List Node) (start p most : ℕ) (vs : List ℕ) (stop : Option ℕ) (t : ℕ) → vs ≡ walk_of graph start p most → stop ≡ stop_of graph p (walk_of graph start p most) → stop ≡ Some t
+    → joined vs t ≡ walked graph p (walk_of graph start p most)
+target_joins graph start p most vs stop t is stops e =
+    rw is (ap (with_target (walk_of graph start p most)) (sym e ∙ stops))
+
+pub none_joins : (graph : List Node) (start p most : ℕ) (vs : List ℕ) (stop : Option ℕ) → vs ≡ walk_of graph start p most → stop ≡ stop_of graph p (walk_of graph start p most) → stop ≡ None
+    → vs ≡ walked graph p (walk_of graph start p most)
+none_joins graph start p most vs stop is stops e = is ∙ ap (with_target (walk_of graph start p most)) (sym e ∙ stops)
+
+pub room_for_target : (graph : List Node) (start p most : ℕ) (vs : List ℕ) (stop : Option ℕ) (t : ℕ) → IsGraph graph → IsCourse (length graph) start p most → vs ≡ walk_of graph start p most
+    → stop ≡ stop_of graph p (walk_of graph start p most) → stop ≡ Some t → length (joined vs t) ≤ MAX_NODES
+room_for_target graph start p most vs stop t graphs course is stops e =
+    let few = few_walked graph start p most graphs course.starts course.some in
+    let same = target_joins graph start p most vs stop t is stops e in
+    rw same (omega (arith, few, graphs.few))

@@ -1,0 +1,10 @@
+pub mod Members
+pub mod Walks
+pub mod GraphFacts
+pub mod Fronts
+pub mod Doubles
+pub mod FootprintFacts
+pub mod Turns
+pub mod Kept
+pub mod Histories
+pub mod Frames

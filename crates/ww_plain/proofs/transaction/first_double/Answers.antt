@@ -1,0 +1,9 @@
+use Rattle.ww_plain.proofs.Members.{different_none}
+use Rattle.ww_plain.proofs.Doubles.{double_of_two}
+use Rattle.ww_plain.proofs.transaction.first_double.Goals as goal
+
+pub returns-in-Move : goal.returns-in-Move
+returns-in-Move c = rw (c.in-Move.is, c.then_some.ensures) (double_of_two c.in-Move.from c.in-Move.to)
+
+pub returns-in-Reverse : goal.returns-in-Reverse
+returns-in-Reverse c = rw c.in-Reverse.is different_none

@@ -1,0 +1,58 @@
+-- What holds of the plain graph as a whole.
+use Rattle.std.specs.Prelude.{ℕ, ◌≡◌, ◌≢◌, ◌≤◌, ◌↔◌, ◌∷◌, ◌++◌, [], false, List, length, IsTrue}
+use Rattle.ww_plain.specs.declared.node.Node.{Node}
+use Rattle.ww_plain.specs.Numbers.{is_among, AreDifferent}
+use Rattle.ww_plain.specs.Graph.{IsGraph, node_at, Agree}
+use Rattle.ww_plain.specs.Footprint.{footprint_of, Concerns}
+use Rattle.ww_plain.specs.Transaction.{Transaction, Fits}
+use Rattle.ww_plain.specs.Walk.{IsWalk, walk_of}
+use Rattle.ww_plain.specs.Meaning.{answer_to, graph_after}
+use Rattle.ww_plain.specs.History.{Recorded, IsNext, IsLegal, last_graph, part_of}
+
+-- the walk has the properties of a walk, and no other list has them
+abbrev pub WalkIsTheOne : Type 0
+WalkIsTheOne = (graph : List Node) (start p most : ℕ) → 1 ≤ most →
+    IsWalk graph start p most (walk_of graph start p most) × ((vs : List ℕ) → IsWalk graph start p most vs → vs ≡ walk_of graph start p most)
+
+-- what a transaction leaves is a graph of the same size
+abbrev pub TransactionKeepsGraph : Type 0
+TransactionKeepsGraph = (graph : List Node) (txn : Transaction) → IsGraph graph → Fits (length graph) txn →
+    IsGraph (graph_after graph txn) × (length (graph_after graph txn) ≡ length graph)
+
+-- no node outside a transaction's footprint changes
+abbrev pub OnlyFootprintChanges : Type 0
+OnlyFootprintChanges = (graph : List Node) (txn : Transaction) (n : ℕ) → is_among n (footprint_of graph txn) ≡ false →
+    node_at (graph_after graph txn) n ≡ node_at graph n
+
+-- two graphs give the same footprint, the same answer, and the same nodes in the footprint
+pub record IsSameInside (graph other : List Node) (txn : Transaction) : Type 0 where
+  pub footprint : footprint_of other txn ≡ footprint_of graph txn
+  pub answer : answer_to other txn ≡ answer_to graph txn
+  pub agree : Agree (graph_after graph txn) (graph_after other txn) (footprint_of graph txn)
+
+-- only the nodes in a transaction's footprint matter for it
+abbrev pub OnlyFootprintMatters : Type 0
+OnlyFootprintMatters = (graph other : List Node) (txn : Transaction) → Fits (length graph) txn → length graph ≡ length other →
+    Agree graph other (footprint_of graph txn) → IsSameInside graph other txn
+
+-- a footprint names each node that concerns the transaction, once, and no other
+abbrev pub FootprintIsWhatConcerns : Type 0
+FootprintIsWhatConcerns = (graph : List Node) (txn : Transaction) → Fits (length graph) txn →
+    AreDifferent (footprint_of graph txn) × ((n : ℕ) → IsTrue (is_among n (footprint_of graph txn)) ↔ Concerns graph txn n)
+
+-- a history in two parts is legal where the first is, and the second from where the first ends
+abbrev pub HistoryGoesOn : Type 0
+HistoryGoesOn = (graph : List Node) (front rest : List Recorded) →
+    (IsLegal graph (front ++ rest) ↔ (IsLegal graph front × IsLegal (last_graph graph front) rest)) ×
+    (last_graph graph (front ++ rest) ≡ last_graph (last_graph graph front) rest)
+
+-- one record more
+pub record GrowsBy (graph : List Node) (history : List Recorded) (r : Recorded) : Type 0 where
+  pub legal : IsLegal graph (history ++ r ∷ []) ↔ (IsLegal graph history × IsNext (last_graph graph history) r)
+  pub ends : last_graph graph (history ++ r ∷ []) ≡ graph_after (last_graph graph history) r.transaction
+  pub own_part : part_of r.caller (history ++ r ∷ []) ≡ part_of r.caller history ++ (length history, r) ∷ []
+  pub other_parts : (caller : ℕ) → caller ≢ r.caller → part_of caller (history ++ r ∷ []) ≡ part_of caller history
+
+-- a record more takes the next place, follows from the graph so far, and joins its caller's part alone
+abbrev pub HistoryGrows : Type 0
+HistoryGrows = (graph : List Node) (history : List Recorded) (r : Recorded) → GrowsBy graph history r

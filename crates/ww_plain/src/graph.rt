@@ -1,0 +1,80 @@
+ghost use Rattle.std.specs.Prelude.{◌≡◌, ◌≤◌, ◌<◌, ◌↔◌, length, IsTrue, IsOk, IfOk, IfErr, slice_get, Some};
+
+use crate::node::Node;
+use std::alloc::{AllocError, Global};
+use std::marker::Model;
+
+/// How many nodes a graph has at most.
+pub const MAX_NODES: usize = 64;
+
+/// Why some nodes are no graph.
+#[derive(Clone, Copy, Debug, PartialEq, Eq)]
+pub enum GraphFault {
+    /// There is no node, or there are more than [`MAX_NODES`].
+    BadSize = 1,
+    /// A port names a node that isn't there.
+    BadGraph = 2,
+}
+
+/// A graph of 1 to 64 nodes, of which each port names one that is there. Contracts see it as the list of its nodes.
+#[derive(Debug, Drop)]
+pub struct Graph {
+    pub(crate) nodes: Vec<Node>,
+}
+
+impl Model for Graph {
+    ghost use Rattle.std.specs.Prelude.{List};
+    ghost use Rattle.ww_plain.specs.declared.node.Node.{Node};
+    ghost use Rattle.ww_plain.specs.Graph.{IsGraph};
+
+    ghost Value = { List Node };
+
+    ghost view = { λ graph. graph.nodes.items };
+
+    ghost invariant = { λ graph. IsGraph graph.nodes.items };
+}
+
+impl Graph {
+    ghost use Rattle.ww_plain.specs.Graph.{IsGraph, IsRefused};
+
+    /// Takes the nodes for a graph. It looks at their number first, and gives them back where they are none.
+    pub fn new(nodes: Vec<Node>) -> Result<Graph, (Vec<Node>, GraphFault)>
+        ensures ok { IsOk result ↔ IsGraph nodes.items }
+        ensures kept { IfOk result (λ graph. graph ≡ nodes.items) }
+        ensures fault { IfErr result (λ e. IsRefused nodes.items e.1) }
+        ensures back { IfErr result (λ e. e.0 ≡ nodes) }
+    {
+        let size = nodes.len();
+        if size < 1 || MAX_NODES < size {
+            return Err((nodes, GraphFault::BadSize));
+        }
+        if nodes.iter().all(|node| node.is_of(size)) {
+            Ok(Graph { nodes })
+        } else {
+            Err((nodes, GraphFault::BadGraph))
+        }
+    }
+
+    /// How many nodes there are.
+    pub fn size(&self) -> u8
+        ensures size { result ≡ length self.now }
+        ensures graph { IsGraph self.now }
+    {
+        self.nodes.len() as u8
+    }
+
+    pub fn node(&self, n: u8) -> Node
+        requires { n < length self.now }
+        ensures { slice_get self.now n ≡ Some result }
+    {
+        self.nodes[n as usize]
+    }
+
+    /// A second graph with the same nodes.
+    pub fn copy(&self, alloc: Global) -> Result<Graph, AllocError>
+        ensures { IfOk result (λ graph. graph ≡ self.now) }
+    {
+        let nodes = Vec::from_slice(alloc, &self.nodes)?;
+        Ok(Graph { nodes })
+    }
+}

@@ -1,0 +1,65 @@
+ghost use Rattle.std.specs.Prelude.{◌≡◌, IfOk, MatchBool};
+ghost use Rattle.std.specs.Option.{SomeIff};
+ghost use Rattle.ww_plain.specs.Meaning.{graph_after};
+ghost use Rattle.ww_plain.specs.History.{recorded_of, history_of, IsNext, IsLegal, last_graph};
+
+use crate::graph::Graph;
+use crate::meaning::apply;
+use crate::transaction::{Txn, first_double};
+use std::alloc::{AllocError, Global};
+
+/// What a transaction is answered.
+#[derive(Debug, PartialEq, Eq, Drop)]
+pub enum Reply {
+    /// The amounts were added.
+    Done,
+    /// The amount was moved.
+    Moved,
+    /// The first node has less than the amount.
+    Short,
+    /// The second node would rise above 2^64 - 1.
+    Full,
+    /// The walk was turned, and this was its last node.
+    End(u8),
+}
+
+/// A committed transaction: whose it was, which of that caller's, and what it was answered.
+#[derive(Debug, Drop)]
+pub struct Record {
+    pub caller: u8,
+    pub seq: u64,
+    pub txn: Txn,
+    pub reply: Reply,
+}
+
+/// The last graph of the records' history, if that is legal from the graph given: each transaction fits, has no double,
+/// and has the reply of its point.
+pub fn replays(
+    alloc: Global,
+    mut graph: Graph,
+    records: &[Record],
+) -> Result<Option<Graph>, AllocError>
+    ensures { let history = history_of records.now in IfOk result (λ last. SomeIff last (IsLegal graph history) (last_graph graph history)) }
+{
+    for next in records {
+        if !replays_one(alloc, &mut graph, next)? {
+            return Ok(None);
+        }
+    }
+    Ok(Some(graph))
+}
+
+/// Applies the next record's transaction, if the record may come next. Where it may not, the graph is of no more use.
+fn replays_one(alloc: Global, graph: &mut Graph, next: &Record) -> Result<bool, AllocError>
+    ensures { let r = recorded_of next.now in IfOk result (λ may.
+        MatchBool may (IsNext graph.old r × (graph.new ≡ graph_after graph.old r.transaction)) (¬ IsNext graph.old r)) }
+{
+    if !next.txn.fits(graph.size()) {
+        return Ok(false);
+    }
+    if first_double(&next.txn).is_some() {
+        return Ok(false);
+    }
+    let reply = apply(alloc, graph, &next.txn)?;
+    Ok(reply == next.reply)
+}

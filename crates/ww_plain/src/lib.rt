@@ -1,0 +1,21 @@
+//! The plain graph: nodes, transactions on them, and histories of transactions, for one thread.
+#![tactic(auto)]
+
+mod footprints;
+mod graph;
+mod history;
+pub mod laws;
+mod meaning;
+mod node;
+mod transaction;
+mod walk;
+
+pub use footprints::footprint;
+pub use graph::{Graph, GraphFault, MAX_NODES};
+pub use history::{Record, Reply, replays};
+pub use meaning::apply;
+pub use node::{Node, PORTS};
+pub use transaction::{By, Txn, first_double};
+
+#[cfg(test)]
+mod tests;

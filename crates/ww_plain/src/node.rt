@@ -1,0 +1,21 @@
+/// How many ports a node has.
+pub const PORTS: usize = 4;
+
+/// A node of a graph: a number, and for each port the node that it names, if any.
+#[derive(Clone, Copy, Debug, PartialEq, Eq)]
+pub struct Node {
+    pub value: u64,
+    pub ports: [Option<u8>; PORTS],
+}
+
+impl Node {
+    ghost use Rattle.std.specs.Prelude.{◌↔◌, IsTrue};
+    ghost use Rattle.ww_plain.specs.Graph.{IsNodeOf};
+
+    /// Each port is empty, or names one of `size` nodes.
+    pub(crate) fn is_of(&self, size: usize) -> bool
+        ensures { IsTrue result ↔ IsNodeOf size self.now }
+    {
+        self.ports.iter().all(|port| port.is_none_or(|target| usize::from(target) < size))
+    }
+}
