@@ -1,0 +1,6 @@
+pub mod Items
+pub mod Each
+pub mod Parsed
+pub mod Kept
+pub mod Said
+pub mod Numbered

@@ -1,0 +1,144 @@
+-- What a plan is said by is read as it.
+use Rattle.std.proofs.Common.{◌≡◌, ℕ, suc, ◌<◌, ◌≤◌, true, cond, List, [], ◌∷◌, length, map, Option, Some, None, Result, Ok, Err, refl, ap, ◌∙◌, arith}
+use Rattle.std.specs.Prelude.{IfSome}
+use Rattle.std.specs.List.{AllByRecursion}
+use Rattle.std.proofs.lemmas.Bool.{lt-ltb, le-leb}
+use Rattle.serde_json.specs.Data.{Data, string}
+use Rattle.serde_json.specs.View.{items_of}
+use Rattle.ww_plain.specs.declared.node.Node.{Node}
+use Rattle.ww_plain.specs.declared.transaction.By.{By}
+use Rattle.ww_plain.specs.declared.transaction.By.TheVariants as by
+use Rattle.ww_plain.specs.Graph.{IsNodeOf, IsGraph}
+use Rattle.ww_plain.specs.Transaction.{Transaction, add, move, reverse, Fits}
+use Rattle.ww_script.specs.declared.fault.InputFault.{InputFault}
+use Rattle.ww_script.specs.declared.fault.InputFault.TheVariants.{BadNumber}
+use Rattle.ww_script.specs.declared.scripts.Kind.{Kind}
+use Rattle.ww_script.specs.declared.scripts.Kind.TheVariants.{WoundWait, WaitDie}
+use Rattle.ww_script.specs.Parts.{◌>>=◌, list_of, each, counted, ranged, below, is_within}
+use Rattle.ww_script.specs.Transactions.{by_in, pair_in, add_of, move_of, reverse_of, transaction_in}
+use Rattle.ww_script.specs.Scripts.{IsScript, kind_in, port_in, ports_in, node_in, graph_in, script_in, scripts_in, plan_in}
+use Rattle.ww_script.specs.Reading.{version_in, input_in}
+use Rattle.ww_script.specs.Spelling.{list, whole, kind_word, by_word, port_data, node_data, pair_data, transaction_data, script_data, HasPorts, EachPlanCanBeSaid}
+
+list_of-items_of : (ds : List Data) → list_of (items_of ds) ≡ ds
+list_of-items_of [] = refl
+list_of-items_of (d ∷ ds) = ap (λ es. d ∷ es) (list_of-items_of ds)
+
+length-map : {A B : Type 0} (f : A → B) (xs : List A) → length (map f xs) ≡ length xs
+length-map f [] = refl
+length-map f (x ∷ xs) = ap suc (length-map f xs)
+
+is_within_of : (low high n : ℕ) → low ≤ n → n ≤ high → is_within low high n ≡ true
+is_within_of low high n least most = rw (le-leb low n least, le-leb n high most) refl
+
+below_said : (limit n : ℕ) → n < limit → below limit (whole n) ≡ Ok n
+below_said limit n lt = ap (λ b. cond b (Ok n) (Err BadNumber)) (lt-ltb n limit lt)
+
+ranged_said : (low high n : ℕ) → low ≤ n → n ≤ high → ranged low high (whole n) ≡ Ok n
+ranged_said low high n least most = ap (λ b. cond b (Ok n) (Err BadNumber)) (is_within_of low high n least most)
+
+counted_said : (low high : ℕ) (ds : List Data) → low ≤ length ds → length ds ≤ high → counted low high (list ds) ≡ Ok ds
+counted_said low high ds least most =
+    ap (λ es. cond (is_within low high (length es)) (Ok es) (Err BadNumber)) (list_of-items_of ds)
+    ∙ ap (λ b. cond b (Ok ds) (Err BadNumber)) (is_within_of low high (length ds) least most)
+
+-- each item that keeps the fact is read as it is
+each_said : {A : Type 0} (P : A → Type 0) (say : A → Data) (f : Data → Result A InputFault) (xs : List A) → ((x : A) → P x → f (say x) ≡ Ok x) → AllByRecursion P xs → each f (map say xs) ≡ Ok xs
+unfolding each
+each_said P say f [] h all = refl
+each_said P say f (x ∷ xs) h all = rw (h x all.0, each_said P say f xs h all.1) refl
+
+-- ---- transactions
+
+by_said : (b : By) → by_in (string (by_word b)) ≡ Ok b
+unfolding by_in
+by_said by.List = refl
+by_said by.Order = refl
+
+pair_said : (count : ℕ) (p : ℕ × ℕ) → p.0 < count → pair_in count (pair_data p) ≡ Ok p
+unfolding pair_in
+pair_said count p lt = ap (λ r. r >>= λ n. Ok (n, p.1)) (below_said count p.0 lt)
+
+add_said : (count : ℕ) (b : By) (pairs : List (ℕ × ℕ)) → Fits count (add b pairs) → add_of count (string (by_word b) ∷ list (map pair_data pairs) ∷ []) ≡ Ok (add b pairs)
+add_said count b pairs fits =
+    let n = length-map pair_data pairs in
+    let least : 1 ≤ length (map pair_data pairs) = omega (arith, fits.0.some) in
+    let most : length (map pair_data pairs) ≤ 64 = omega (arith, fits.0.few) in
+    rw (by_said b, counted_said 1 64 (map pair_data pairs) least most, each_said (λ (p : ℕ × ℕ). p.0 < count) pair_data (pair_in count) pairs (pair_said count) fits.1) refl
+
+move_said : (count from to amount : ℕ) → Fits count (move from to amount) → move_of count (whole from ∷ whole to ∷ whole amount ∷ []) ≡ Ok (move from to amount)
+move_said count from to amount fits = rw (below_said count from fits.0, below_said count to fits.1) refl
+
+reverse_said : (count start port length : ℕ) → Fits count (reverse start port length) → reverse_of count (whole start ∷ whole port ∷ whole length ∷ []) ≡ Ok (reverse start port length)
+reverse_said count start port length fits = rw (below_said count start fits.starts, below_said 4 port fits.port, ranged_said 1 64 length fits.some fits.few) refl
+
+transaction_said : (count : ℕ) (t : Transaction) → Fits count t → transaction_in count (transaction_data t) ≡ Ok t
+unfolding transaction_in
+transaction_said count (add b pairs) fits = add_said count b pairs fits
+transaction_said count (move from to amount) fits = move_said count from to amount fits
+transaction_said count (reverse start port length) fits = reverse_said count start port length fits
+
+-- ---- the graph
+
+port_said : (count : ℕ) → count ≤ 64 → (p : Option ℕ) → IfSome p (λ target. target < count) → port_in count (port_data p) ≡ Ok p
+unfolding port_in
+port_said count few None lt = refl
+port_said count few (Some n) lt = rw (below_said 64 n (omega arith), lt-ltb n count lt) refl
+
+ports_said : (count : ℕ) → count ≤ 64 → (ps : List (Option ℕ)) → length ps ≡ 4 → AllByRecursion (λ p. IfSome p (λ target. target < count)) ps → ports_in count (list (map port_data ps)) ≡ Ok ps
+unfolding ports_in
+ports_said count few ps four all =
+    let n = length-map port_data ps in
+    let least : 4 ≤ length (map port_data ps) = omega arith in
+    let most : length (map port_data ps) ≤ 4 = omega arith in
+    rw (counted_said 4 4 (map port_data ps) least most, each_said (λ p. IfSome p (λ target. target < count)) port_data (port_in count) ps (port_said count few) all) refl
+
+-- the node's ports lead to nodes that are there, and there are four
+abbrev IsWhole : ℕ → Node → Type 0
+IsWhole count node = IsNodeOf count node × HasPorts node
+
+node_said : (count : ℕ) → count ≤ 64 → (node : Node) → IsWhole count node → node_in count (node_data node) ≡ Ok node
+unfolding node_in
+node_said count few node h = rw (ports_said count few node.ports h.1 h.0) refl
+
+both_all : {A : Type 0} (P Q : A → Type 0) (xs : List A) → AllByRecursion P xs → AllByRecursion Q xs → AllByRecursion (λ x. P x × Q x) xs
+both_all P Q [] p q = tt
+both_all P Q (x ∷ xs) p q = ((p.0, q.0), both_all P Q xs p.1 q.1)
+
+graph_said : (graph : List Node) → IsGraph graph → AllByRecursion HasPorts graph → graph_in (list (map node_data graph)) ≡ Ok graph
+unfolding graph_in
+graph_said graph is four =
+    let n = length-map node_data graph in
+    let least : 1 ≤ length (map node_data graph) = omega (arith, is.some) in
+    let most : length (map node_data graph) ≤ 64 = omega (arith, is.few) in
+    let all = both_all (IsNodeOf (length graph)) HasPorts graph is.closed four in
+    rw (counted_said 1 64 (map node_data graph) least most, n, each_said (IsWhole (length graph)) node_data (node_in (length graph)) graph (node_said (length graph) is.few) all) refl
+
+-- ---- scripts
+
+script_said : (count : ℕ) (ts : List Transaction) → IsScript count ts → script_in count (script_data ts) ≡ Ok ts
+unfolding script_in
+script_said count ts is =
+    let n = length-map transaction_data ts in
+    let most : length (map transaction_data ts) ≤ 10000 = omega (arith, is.few) in
+    rw (counted_said 0 10000 (map transaction_data ts) (omega arith) most, each_said (Fits count) transaction_data (transaction_in count) ts (transaction_said count) is.fit) refl
+
+scripts_said : (count : ℕ) (ss : List (List Transaction)) → 1 ≤ length ss → length ss ≤ 16 → AllByRecursion (IsScript count) ss → scripts_in count (list (map script_data ss)) ≡ Ok ss
+unfolding scripts_in
+scripts_said count ss some few all =
+    let n = length-map script_data ss in
+    let least : 1 ≤ length (map script_data ss) = omega arith in
+    let most : length (map script_data ss) ≤ 16 = omega arith in
+    rw (counted_said 1 16 (map script_data ss) least most, each_said (IsScript count) script_data (script_in count) ss (script_said count) all) refl
+
+-- ---- inputs
+
+kind_said : (kind : Kind) → kind_in (string (kind_word kind)) ≡ Ok kind
+unfolding kind_in
+kind_said WoundWait = refl
+kind_said WaitDie = refl
+
+pub plan_said : EachPlanCanBeSaid
+unfolding input_in version_in plan_in
+plan_said plan is four =
+    rw (kind_said plan.kind, graph_said plan.graph is.graph four, scripts_said (length plan.graph) plan.scripts is.some is.few is.each) refl

@@ -1,0 +1,48 @@
+-- What an input says, or its first fault.
+use Rattle.std.specs.Prelude.{◌≡◌, ℕ, List, length, codes, Bool, false, nat_lt, ◌==◌, Option, Some, None, Result, Ok, Err, ok_or, if◌then◌else◌}
+use Rattle.std.specs.Str.{is_utf8}
+use Rattle.serde_json.specs.Data.{Data}
+use Rattle.serde_json.specs.Find.{as_number, as_u64}
+use Rattle.serde_json.specs.Read.{read}
+use Rattle.ww_script.specs.declared.fault.InputFault.{InputFault}
+use Rattle.ww_script.specs.declared.fault.InputFault.TheVariants.{NotJson, BadVersion, TooLong, BadType}
+use Rattle.ww_script.specs.declared.input.Input.{Input}
+use Rattle.ww_script.specs.declared.input.Input.TheVariants as input
+use Rattle.ww_script.specs.Parts.{◌>>=◌, size, member}
+use Rattle.ww_script.specs.Scripts.{Plan, IsPlan, plan_in}
+
+-- the number is there, and is 1
+abbrev pub is_one : Option ℕ → Bool
+is_one None = false
+is_one (Some n) = n == 1
+
+-- the version is 1
+unfoldable pub version_in : Data → Result (Unit {0}) InputFault
+version_in d = do
+  version ← member (codes "version") d
+  n ← ok_or (as_number version) BadType
+  if is_one (as_u64 n) then Ok tt else Err BadVersion
+
+-- an object: its version first, and then the rest
+unfoldable pub input_in : Data → Result Input InputFault
+input_in d = do
+  members ← size d
+  version ← version_in d
+  plan ← plan_in members d
+  Ok (input.Scripts plan)
+
+-- the value, if the text is UTF-8 and one was found
+abbrev pub value_if : Bool → Option Data → Result Data InputFault
+value_if utf8 found = if utf8 then ok_or found NotJson else Err NotJson
+
+-- the value of a text in UTF-8
+unfoldable pub parsed : List ℕ → Result Data InputFault
+parsed bytes = value_if (is_utf8 bytes) (read bytes)
+
+-- what the bytes of an input say, of which there are at most 1,048,576
+unfoldable pub reading : List ℕ → Result Input InputFault
+reading bytes = if nat_lt 1048576 (length bytes) then Err TooLong else (parsed bytes >>= input_in)
+
+-- whatever is read keeps to the ranges
+abbrev pub ReadingKeepsRanges : Type 0
+ReadingKeepsRanges = (bytes : List ℕ) (plan : Plan) → reading bytes ≡ Ok (input.Scripts plan) → IsPlan plan

@@ -1,0 +1,76 @@
+-- How an input says a plan.
+use Rattle.std.specs.Prelude.{◌≡◌, ℕ, List, [], ◌∷◌, length, map, codes, Option, Some, None, Ok}
+use Rattle.std.specs.List.{AllByRecursion}
+use Rattle.serde_json.specs.Data.{Data, null, boolean, number, string, array, object, unsigned, no_members, member}
+use Rattle.serde_json.specs.View.{items_of}
+use Rattle.ww_plain.specs.declared.node.Node.{Node}
+use Rattle.ww_plain.specs.declared.node.TheConstants.{PORTS}
+use Rattle.ww_plain.specs.declared.transaction.By.{By}
+use Rattle.ww_plain.specs.declared.transaction.By.TheVariants as by
+use Rattle.ww_plain.specs.Transaction.{Transaction, add, move, reverse}
+use Rattle.ww_script.specs.declared.scripts.Kind.{Kind}
+use Rattle.ww_script.specs.declared.scripts.Kind.TheVariants.{WoundWait, WaitDie}
+use Rattle.ww_script.specs.declared.input.Input.TheVariants as input
+use Rattle.ww_script.specs.Scripts.{Plan, IsPlan}
+use Rattle.ww_script.specs.Reading.{input_in}
+
+-- an array of these values
+abbrev pub list : List Data → Data
+list ds = array (items_of ds)
+
+-- a whole number
+abbrev pub whole : ℕ → Data
+whole n = number (unsigned n)
+
+-- the word for a kind
+abbrev pub kind_word : Kind → List ℕ
+kind_word WoundWait = codes "wound-wait"
+kind_word WaitDie = codes "wait-die"
+
+-- the word for a way of taking many locks
+abbrev pub by_word : By → List ℕ
+by_word by.List = codes "list"
+by_word by.Order = codes "order"
+
+-- a port, as a node has it
+abbrev pub port_data : Option ℕ → Data
+port_data None = null
+port_data (Some target) = whole target
+
+-- a node, with its keys in order
+abbrev pub node_data : Node → Data
+node_data node =
+    object (member (codes "ports") (list (map port_data node.ports)) (member (codes "value") (whole node.value) no_members))
+
+-- a node and an amount
+abbrev pub pair_data : ℕ × ℕ → Data
+pair_data pair = list (whole pair.0 ∷ whole pair.1 ∷ [])
+
+-- a transaction, with its word first
+abbrev pub transaction_data : Transaction → Data
+transaction_data (add by pairs) = list (string (codes "add") ∷ string (by_word by) ∷ list (map pair_data pairs) ∷ [])
+transaction_data (move from to amount) = list (string (codes "move") ∷ whole from ∷ whole to ∷ whole amount ∷ [])
+transaction_data (reverse start port length) =
+    list (string (codes "reverse") ∷ whole start ∷ whole port ∷ whole length ∷ [])
+
+-- a script
+abbrev pub script_data : List Transaction → Data
+script_data script = list (map transaction_data script)
+
+-- the value of an input, with the keys in the order in which an object holds them
+abbrev pub plan_data : Plan → Data
+plan_data plan =
+    object (member (codes "history") (boolean plan.history)
+    (member (codes "kind") (string (kind_word plan.kind))
+    (member (codes "nodes") (list (map node_data plan.graph))
+    (member (codes "scripts") (list (map script_data plan.scripts))
+    (member (codes "version") (whole 1) no_members)))))
+
+-- the node has four ports
+abbrev pub HasPorts : Node → Type 0
+HasPorts node = length node.ports ≡ PORTS
+
+-- each plan that keeps to the ranges, on nodes of four ports, can be said, and is read as it is
+abbrev pub EachPlanCanBeSaid : Type 0
+EachPlanCanBeSaid =
+    (plan : Plan) → IsPlan plan → AllByRecursion HasPorts plan.graph → input_in (plan_data plan) ≡ Ok (input.Scripts plan)

@@ -1,0 +1,68 @@
+-- The lines of an outcome, and those of refusals.
+use Rattle.std.specs.Prelude.{ℕ, ◌+◌, ◌-◌, List, [], ◌∷◌, ◌++◌, codes, decimal, Option, Some, None, slice_index_or}
+use Rattle.std.specs.List.{flat_map}
+use Rattle.ww_plain.specs.declared.node.Node.{Node}
+use Rattle.ww_plain.specs.Meaning.{Answer, done, moved, short, full, ended}
+use Rattle.ww_script.specs.Outcome.{Said, answered, already, Told}
+
+-- what a reply says
+abbrev pub answer_text : Answer → List ℕ
+answer_text done = codes "done"
+answer_text moved = codes "moved"
+answer_text short = codes "short"
+answer_text full = codes "full"
+answer_text (ended last) = codes "end " ++ decimal last
+
+-- what an answer to a transaction of a script says
+abbrev pub said_text : Said → List ℕ
+said_text (answered answer) = answer_text answer
+said_text (already node) = codes "already " ++ decimal node
+
+-- what a transaction of a script was told
+unfoldable pub reply_line : ℕ → ℕ → Said → List ℕ
+reply_line script index said =
+    codes "reply " ++ decimal script ++ codes " " ++ decimal index ++ codes " " ++ said_text said ++ codes "\n"
+
+-- a text for each, numbered from index on
+abbrev pub numbered : {A : Type 0} → (ℕ → A → List ℕ) → ℕ → List A → List ℕ
+numbered line index [] = []
+numbered line index (x ∷ xs) = line index x ++ numbered line (index + 1) xs
+
+-- the lines of a script
+unfoldable pub script_lines : ℕ → List Said → List ℕ
+script_lines script saids = numbered (reply_line script) 0 saids
+
+-- whose a place is, and which of that script's
+unfoldable pub place_line : ℕ → ℕ × ℕ → List ℕ
+place_line place p = codes "at " ++ decimal place ++ codes " " ++ decimal p.0 ++ codes " " ++ decimal p.1 ++ codes "\n"
+
+-- the lines of the places, if they are told
+abbrev pub place_lines : Option (List (ℕ × ℕ)) → List ℕ
+place_lines None = []
+place_lines (Some places) = numbered place_line 0 places
+
+-- a port, behind a space
+abbrev pub port_text : Option ℕ → List ℕ
+port_text None = codes " -"
+port_text (Some target) = codes " " ++ decimal target
+
+-- a node with its value and its ports
+unfoldable pub node_line : ℕ → Node → List ℕ
+node_line index node =
+    codes "node " ++ decimal index ++ codes " " ++ decimal node.value ++ flat_map port_text node.ports ++ codes "\n"
+
+-- the answers, the places if they are told, and the graph
+unfoldable pub outcome_lines : Told → List ℕ
+outcome_lines told = numbered script_lines 0 told.replies ++ place_lines told.places ++ numbered node_line 0 told.graph
+
+-- the refusals from number 10 on
+abbrev refusals : List (List ℕ)
+refusals =
+    codes "refused 10 not json" ∷ codes "refused 11 bad key" ∷ codes "refused 12 number out of range" ∷
+    codes "refused 13 bad graph" ∷ codes "refused 14 unknown word" ∷ codes "refused 15 unknown version" ∷
+    codes "refused 16 no memory" ∷ codes "refused 17 input too long" ∷ codes "refused 18 wrong type" ∷
+    codes "refused 19 no thread" ∷ []
+
+-- the line of the refusal of this number
+abbrev pub refusal_text : ℕ → List ℕ
+refusal_text number = slice_index_or refusals (number - 10) []

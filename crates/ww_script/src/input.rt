@@ -1,0 +1,79 @@
+ghost use Rattle.std.specs.Prelude.{◌≡◌, ◌<◌, length};
+ghost use Rattle.serde_json.specs.View.{view};
+ghost use Rattle.ww_script.specs.Parts.{Gives};
+ghost use Rattle.ww_script.specs.Reading.{version_in, input_in, parsed, reading, ReadingKeepsRanges};
+ghost use Rattle.ww_script.specs.Spelling.{EachPlanCanBeSaid};
+
+use crate::fault::InputFault;
+use crate::parts::{member_of, size_of};
+use crate::scripts::{Scripts, scripts_of};
+use serde_json::{Category, Value};
+use std::alloc::Global;
+
+/// How many bytes an input has at most.
+const MAX_BYTES: usize = 1_048_576;
+
+/// What an input asks for.
+#[derive(Debug, Drop)]
+pub enum Input {
+    Scripts(Scripts),
+}
+
+fn value_of(alloc: Global, bytes: &[u8]) -> Result<Value, InputFault>
+    ensures { Gives view result (parsed bytes.now) }
+{
+    match Value::from_slice(alloc, bytes) {
+        Ok(value) => Ok(value),
+        Err(error) => match error.classify() {
+            Category::Memory => Err(InputFault::NoMemory),
+            _ => Err(InputFault::NotJson),
+        },
+    }
+}
+
+/// The version is 1.
+#[tactic(auto, unfolding(crate::specs::Reading::version_in))]
+fn version_of(value: &Value) -> Result<(), InputFault>
+    ensures { Gives (λ done. done) result (version_in (view value.now)) }
+{
+    let version = member_of("version", value)?;
+    let number = version.as_number().ok_or(InputFault::BadType)?;
+    if number.as_u64() == Some(1) {
+        Ok(())
+    } else {
+        Err(InputFault::BadVersion)
+    }
+}
+
+#[tactic(auto, unfolding(crate::specs::Reading::input_in))]
+fn input_of(alloc: Global, value: &Value) -> Result<Input, InputFault>
+    ensures { Gives (λ input. input) result (input_in (view value.now)) }
+{
+    let members = size_of(value)?;
+    version_of(value)?;
+    let scripts = scripts_of(alloc, members, value)?;
+    Ok(Input::Scripts(scripts))
+}
+
+/// Reads an input, or answers its first fault.
+#[tactic(auto, unfolding(crate::specs::Reading::reading))]
+pub fn read_input(alloc: Global, bytes: &[u8]) -> Result<Input, InputFault>
+    ensures exact { Gives (λ input. input) result (reading bytes.now) }
+    ensures too_long { 1048576 < length bytes.now → result ≡ Err InputFault.TooLong }
+{
+    if bytes.len() > MAX_BYTES {
+        return Err(InputFault::TooLong);
+    }
+    let value = value_of(alloc, bytes)?;
+    input_of(alloc, &value)
+}
+
+/// A law of the definition by which [`read_input`] answers: whatever it reads keeps to the ranges of the format.
+pub fn reading_keeps_ranges()
+    ensures { ReadingKeepsRanges }
+{}
+
+/// A law of the definition by which [`read_input`] answers: whatever keeps to the ranges can be said in an input.
+pub fn each_plan_can_be_said()
+    ensures { EachPlanCanBeSaid }
+{}

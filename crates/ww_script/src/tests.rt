@@ -1,0 +1,267 @@
+use super::*;
+use std::test::*;
+use ww_plain::{Graph, Node, Reply};
+
+const HEAD: &str = r#"{"version":1,"kind":"wound-wait","history":false,"nodes":"#;
+
+const NODE: &str = r#"[{"value":0,"ports":[null,null,null,null]}]"#;
+
+/// The fault of these pieces, one after another.
+fn fault(rt: &HostRuntime, pieces: &[&str]) -> Option<InputFault> {
+    let mut text = String::new(rt.alloc());
+    for piece in pieces {
+        text.push_str(piece).ok()?;
+    }
+    read_input(rt.alloc(), text.as_bytes()).err()
+}
+
+#[test]
+fn an_input_is_read(rt: HostRuntime) -> Result<(), Fail> {
+    let text =
+        r#"{"scripts":[[["add","order",[[0,3],[1,18446744073709551615]]],["mo\u0076e",0,1,7]],[["reverse",1,3,64]]],
+        "nodes":[{"value":5,"ports":[null,0,1,null]},{"ports":[null,null,null,null],"value":2,"value":6}],
+        "kind":"wait-die","version":2,"version":1,"history":true}"#;
+    let Input::Scripts(input) = read_input(rt.alloc(), text.as_bytes())
+        .ok()
+        .ok_or("an input")?;
+    assert_eq!(rt; input.kind, Kind::WaitDie);
+    assert!(rt; input.history);
+    assert_eq!(rt; input.graph.size(), 2);
+    assert_eq!(rt;
+        input.graph.node(0),
+        Node {
+            value: 5,
+            ports: [None, Some(0), Some(1), None]
+        }
+    );
+    assert_eq!(rt; input.graph.node(1).value, 6);
+    assert_eq!(rt;
+        format!(in rt.alloc(); "{:?}", input.scripts)?.as_str(),
+        "[[Add(Order, [(0, 3), (1, 18446744073709551615)]), Move(0, 1, 7)], [Reverse(1, 3, 64)]]"
+    );
+    Ok(())
+}
+
+#[test]
+fn whole_inputs_are_refused(rt: HostRuntime) {
+    for (text, expected) in [
+        ("", InputFault::NotJson),
+        (r#"{"version":1,"#, InputFault::NotJson),
+        ("[]", InputFault::BadType),
+        (r#"{"kind":5}"#, InputFault::BadKey),
+        (r#"{"version":1}"#, InputFault::BadKey),
+        (
+            r#"{"version":1,"kind":5,"history":5,"nodes":5,"scripts":5,"events":[]}"#,
+            InputFault::BadKey,
+        ),
+        (
+            r#"{"version":1,"kind":5,"history":5,"nodes":5,"scripts":5}"#,
+            InputFault::BadType,
+        ),
+        (
+            r#"{"version":1,"kind":"x","history":5,"nodes":5,"scripts":5}"#,
+            InputFault::BadWord,
+        ),
+        (
+            r#"{"version":1,"kind":"wait-die","history":5,"nodes":[],"scripts":5}"#,
+            InputFault::BadType,
+        ),
+        (
+            r#"{"version":1,"kind":"wait-die","history":true,"nodes":[],"scripts":5}"#,
+            InputFault::BadNumber,
+        ),
+    ] {
+        assert_eq!(rt; fault(&rt, &[text]), Some(expected), "at {text}");
+    }
+    assert_eq!(rt;
+        read_input(rt.alloc(), &[255]).err(),
+        Some(InputFault::NotJson)
+    );
+}
+
+#[test]
+fn versions_are_refused(rt: HostRuntime) {
+    for (version, expected) in [
+        (r#""1""#, InputFault::BadType),
+        ("0", InputFault::BadVersion),
+        ("1.0", InputFault::BadVersion),
+        ("1e0", InputFault::BadVersion),
+        ("-0", InputFault::BadVersion),
+        ("1e999", InputFault::NotJson),
+        ("1", InputFault::BadKey),
+    ] {
+        assert_eq!(rt;
+            fault(&rt, &[r#"{"version":"#, version, "}"]),
+            Some(expected),
+            "at {version}"
+        );
+    }
+}
+
+#[test]
+fn long_and_deep_inputs_are_refused(rt: HostRuntime) -> Result<(), Fail> {
+    let mut spaces = Vec::new(rt.alloc());
+    for _ in 0..1_048_576 {
+        spaces.push(b' ')?;
+    }
+    assert_eq!(rt;
+        read_input(rt.alloc(), &spaces).err(),
+        Some(InputFault::NotJson)
+    );
+    spaces.push(b' ')?;
+    assert_eq!(rt;
+        read_input(rt.alloc(), &spaces).err(),
+        Some(InputFault::TooLong)
+    );
+    let deep = ["["; 200];
+    assert_eq!(rt; fault(&rt, &deep), Some(InputFault::NotJson));
+    Ok(())
+}
+
+#[test]
+fn nodes_are_refused(rt: HostRuntime) {
+    for (nodes, expected) in [
+        ("5", InputFault::BadType),
+        ("[]", InputFault::BadNumber),
+        ("[5]", InputFault::BadType),
+        (r#"[{"value":"x","ports":5,"more":5}]"#, InputFault::BadKey),
+        (r#"[{"value":"x","ports":5}]"#, InputFault::BadType),
+        (r#"[{"value":1.5,"ports":5}]"#, InputFault::BadNumber),
+        (r#"[{"value":-1,"ports":5}]"#, InputFault::BadNumber),
+        (
+            r#"[{"value":18446744073709551616,"ports":5}]"#,
+            InputFault::BadNumber,
+        ),
+        (r#"[{"value":0,"ports":5}]"#, InputFault::BadType),
+        (
+            r#"[{"value":0,"ports":["x",null,null]}]"#,
+            InputFault::BadNumber,
+        ),
+        (
+            r#"[{"value":0,"ports":["x",99,1,null]}]"#,
+            InputFault::BadType,
+        ),
+        (
+            r#"[{"value":0,"ports":[null,64,1,null]}]"#,
+            InputFault::BadNumber,
+        ),
+        (
+            r#"[{"value":0,"ports":[null,63,64,null]},5]"#,
+            InputFault::BadGraph,
+        ),
+    ] {
+        assert_eq!(rt;
+            fault(&rt, &[HEAD, nodes, r#","scripts":5}"#]),
+            Some(expected),
+            "at {nodes}"
+        );
+    }
+}
+
+#[test]
+fn scripts_are_refused(rt: HostRuntime) {
+    for (scripts, expected) in [
+        ("5", InputFault::BadType),
+        ("[]", InputFault::BadNumber),
+        (
+            "[[],[],[],[],[],[],[],[],[],[],[],[],[],[],[],[],5]",
+            InputFault::BadNumber,
+        ),
+        ("[[],5]", InputFault::BadType),
+    ] {
+        assert_eq!(rt;
+            fault(&rt, &[HEAD, NODE, r#","scripts":"#, scripts, "}"]),
+            Some(expected),
+            "at {scripts}"
+        );
+    }
+}
+
+#[test]
+fn transactions_are_refused(rt: HostRuntime) {
+    for (transaction, expected) in [
+        ("5", Some(InputFault::BadType)),
+        ("[]", Some(InputFault::BadWord)),
+        ("[5]", Some(InputFault::BadType)),
+        (r#"["get","list",[0]]"#, Some(InputFault::BadWord)),
+        (r#"["move",99,"x"]"#, Some(InputFault::BadWord)),
+        (r#"["move",99,"x",1]"#, Some(InputFault::BadNumber)),
+        (r#"["move",0,"x",1]"#, Some(InputFault::BadType)),
+        (r#"["move",0,0,-1]"#, Some(InputFault::BadNumber)),
+        (r#"["move",0,0,1]"#, None),
+        (r#"["add",5,[]]"#, Some(InputFault::BadType)),
+        (r#"["add","any",[]]"#, Some(InputFault::BadWord)),
+        (r#"["add","list",5]"#, Some(InputFault::BadType)),
+        (r#"["add","list",[]]"#, Some(InputFault::BadNumber)),
+        (r#"["add","list",[5]]"#, Some(InputFault::BadType)),
+        (r#"["add","list",[["x"]]]"#, Some(InputFault::BadWord)),
+        (r#"["add","list",[["x",1]]]"#, Some(InputFault::BadType)),
+        (r#"["add","list",[[1,1]]]"#, Some(InputFault::BadNumber)),
+        (r#"["add","list",[[0,1],[0,1]]]"#, None),
+        (r#"["reverse",1,0,1]"#, Some(InputFault::BadNumber)),
+        (r#"["reverse",0,4,1]"#, Some(InputFault::BadNumber)),
+        (r#"["reverse",0,0,0]"#, Some(InputFault::BadNumber)),
+        (r#"["reverse",0,0,65]"#, Some(InputFault::BadNumber)),
+        (r#"["reverse",0,3,64]"#, None),
+    ] {
+        let found = fault(&rt, &[HEAD, NODE, r#","scripts":[["#, transaction, "]]}"]);
+        assert_eq!(rt; found, expected, "at {transaction}");
+    }
+}
+
+#[test]
+fn an_outcome_has_its_text(rt: HostRuntime) -> Result<(), Fail> {
+    let first = vec![in rt.alloc();
+        ScriptAnswer::Reply(Reply::Done),
+        ScriptAnswer::Reply(Reply::Moved),
+        ScriptAnswer::Already(1),
+    ]?;
+    let second = vec![in rt.alloc();
+        ScriptAnswer::Reply(Reply::Short),
+        ScriptAnswer::Reply(Reply::Full),
+        ScriptAnswer::Reply(Reply::End(1)),
+    ]?;
+    let replies = vec![in rt.alloc(); first, second]?;
+    let places = vec![in rt.alloc(); (1, 0), (0, 0)]?;
+    let nodes = vec![in rt.alloc();
+        Node {
+            value: 18446744073709551615,
+            ports: [None, Some(1), None, Some(0)]
+        },
+        Node {
+            value: 0,
+            ports: [None; 4]
+        },
+    ]?;
+    let graph = Graph::new(nodes).ok().ok_or("a graph")?;
+    let outcome = Outcome {
+        replies,
+        places: Some(places),
+        graph,
+    };
+    let text = outcome_text(rt.alloc(), &outcome)?;
+    let expected =
+        "reply 0 0 done\nreply 0 1 moved\nreply 0 2 already 1\nreply 1 0 short\nreply 1 1 full\nreply 1 2 end 1\n\
+        at 0 1 0\nat 1 0 0\nnode 0 18446744073709551615 - 1 - 0\nnode 1 0 - - - -\n";
+    assert_eq!(rt; text.as_slice(), expected.as_bytes());
+    Ok(())
+}
+
+#[test]
+fn refusals_have_their_lines(rt: HostRuntime) {
+    for (number, expected) in [
+        (10, "refused 10 not json"),
+        (11, "refused 11 bad key"),
+        (12, "refused 12 number out of range"),
+        (13, "refused 13 bad graph"),
+        (14, "refused 14 unknown word"),
+        (15, "refused 15 unknown version"),
+        (16, "refused 16 no memory"),
+        (17, "refused 17 input too long"),
+        (18, "refused 18 wrong type"),
+        (19, "refused 19 no thread"),
+    ] {
+        assert_eq!(rt; refusal_line(number), expected);
+    }
+    assert_eq!(rt; InputFault::BadType.number(), 18);
+}
