@@ -1,0 +1,23 @@
+//! The program: reads scripts on standard input, runs them, and writes what came of them on standard output.
+#![tactic(auto)]
+
+mod run;
+mod streams;
+mod workers;
+
+use run::Status;
+use std::process::ExitCode;
+
+fn main(rt: HostRuntime) -> ExitCode {
+    let status = run::run(&rt, rt.alloc(), &mut rt.stdin(), &mut rt.stdout());
+    // Where this line can't be written either, the exit status still tells.
+    let _ = match status {
+        Status::ReadFailed => eprintln!(rt; "read failed"),
+        Status::WriteFailed => eprintln!(rt; "write failed"),
+        Status::Ended | Status::Refused | Status::Stopped => Ok(()),
+    };
+    ExitCode::from(status.code())
+}
+
+#[cfg(test)]
+mod tests;
