@@ -1,5 +1,5 @@
 -- The first double of the nodes that some pairs name.
-use Rattle.std.proofs.Common.{◌≡◌, ◌≢◌, ℕ, zero, suc, ◌+◌, ◌<◌, ◌≤◌, Bool, true, false, inl, inr, eqb, Option, Some, None, is_some, List, [], ◌∷◌, ◌++◌, length, take, drop, get_or, map, refl, ap, arith}
+use Rattle.std.proofs.Common.{◌≡◌, ◌≢◌, ℕ, zero, suc, ◌+◌, ◌<◌, ◌≤◌, Bool, true, false, inl, inr, eqb, Option, Some, None, is_some, List, [], ◌∷◌, ◌++◌, length, take, drop, get_or, map, refl, ap, arith, sym, ◌∙◌}
 use Rattle.std.specs.List.{IsDistinct}
 use Rattle.std.specs.Bool.{then_some}
 use Rattle.std.proofs.lemmas.List.{take_all, map_more}
@@ -14,19 +14,20 @@ map_around f (x ∷ xs) zero d lt = refl
 map_around f (x ∷ xs) (suc i) d lt = ap (λ ys. f x ∷ ys) (map_around f xs i d (omega arith))
 
 -- the item at i is named by an earlier one, and no two earlier ones name the same
-pub double_found : {X : Type 0} (f : X → ℕ) (xs : List X) (i : ℕ) (d : X) → i < length xs → AreDifferent (map f (take i xs)) → is_among (f (get_or xs i d)) (map f (take i xs)) ≡ true
-    → IsFirstDouble (map f xs) (f (get_or xs i d))
-double_found f xs i d lt different earlier = record {
+pub double_found : {X : Type 0} (f : X → ℕ) (xs : List X) (i : ℕ) (x : X) (n : ℕ) → i < length xs → x ≡ get_or xs i x → n ≡ f x → AreDifferent (map f (take i xs)) → is_among n (map f (take i xs)) ≡ true
+    → IsFirstDouble (map f xs) n
+double_found f xs i x n lt is names different earlier = record {
   front = map f (take i xs);
   rest = map f (drop (suc i) xs);
-  parts = map_around f xs i d lt;
+  parts = map_around f xs i x lt ∙ ap (λ m. map f (take i xs) ++ m ∷ map f (drop (suc i) xs)) (sym (names ∙ ap f is));
   different = different;
   earlier = earlier;
 }
 
-pub different_more : {X : Type 0} (f : X → ℕ) (xs : List X) (i : ℕ) (d : X) → i < length xs → AreDifferent (map f (take i xs)) → is_among (f (get_or xs i d)) (map f (take i xs)) ≡ false
+pub different_more : {X : Type 0} (f : X → ℕ) (xs : List X) (i : ℕ) (x : X) (n : ℕ) → i < length xs → x ≡ get_or xs i x → n ≡ f x → AreDifferent (map f (take i xs)) → is_among n (map f (take i xs)) ≡ false
     → AreDifferent (map f (take (i + 1) xs))
-different_more f xs i d lt different new = rw (map_more f xs i d lt) (different_push (map f (take i xs)) (f (get_or xs i d)) different new)
+different_more f xs i x n lt is names different new =
+    rw (map_more f xs i x lt, ← names ∙ ap f is) (different_push (map f (take i xs)) n different new)
 
 pub different_all : {X : Type 0} (f : X → ℕ) (xs : List X) (i : ℕ) → length xs ≤ i → AreDifferent (map f (take i xs)) → AreDifferent (map f xs)
 different_all f xs i le different = rw take_all at different

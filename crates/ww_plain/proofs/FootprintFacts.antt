@@ -38,8 +38,9 @@ length_all_joined ns [] = omega arith
 length_all_joined ns (m ∷ ms) = omega (arith, length_all_joined (joined ns m) ms, length_joined ns m)
 
 -- one item more
-pub distinct_more : {X : Type 0} (f : X → ℕ) (xs : List X) (i : ℕ) (d : X) → i < length xs → distinct_of (map f (take (i + 1) xs)) ≡ joined (distinct_of (map f (take i xs))) (f (get_or xs i d))
-distinct_more f xs i d lt = rw (map_more f xs i d lt) (fold_push joined [] (map f (take i xs)) (f (get_or xs i d)))
+pub distinct_more : {X : Type 0} (f : X → ℕ) (xs : List X) (i : ℕ) (x : X) (n : ℕ) → i < length xs → x ≡ get_or xs i x → n ≡ f x
+    → distinct_of (map f (take (i + 1) xs)) ≡ joined (distinct_of (map f (take i xs))) n
+distinct_more f xs i x n lt is names = rw (map_more f xs i x lt, ← names ∙ ap f is) (fold_push joined [] (map f (take i xs)) n)
 
 -- ---- different nodes of a graph
 
@@ -57,7 +58,7 @@ follows_below : (graph : List Node) (p v : ℕ) (ws : List ℕ) → IsGraph grap
 follows_below graph p v [] is here follows = (here, tt)
 follows_below graph p v (w ∷ ws) is here follows = (here, follows_below graph p w ws is (target_is_there graph v p w is follows.0) follows.1)
 
-begun_below : (graph : List Node) (start p most : ℕ) (vs : List ℕ) → IsGraph graph → start < length graph → IsWalk graph start p most vs → AreBelow (length graph) vs
+pub begun_below : (graph : List Node) (start p most : ℕ) (vs : List ℕ) → IsGraph graph → start < length graph → IsWalk graph start p most vs → AreBelow (length graph) vs
 begun_below graph start p most [] is here walk = absurd walk.begins
 begun_below graph start p most (v ∷ ws) is here walk = follows_below graph p v ws is (subst (λ (n : ℕ). n < length graph) (sym walk.begins) here) walk.follows
 
@@ -78,26 +79,16 @@ few_walked graph start p most is here some =
     few_with_target (length graph) (walk_of graph start p most) (stop_of graph p (walk_of graph start p most)) (different_walk graph start p most some) (walk_below graph start p most is here some) (port_is_there graph (last_of (walk_of graph start p most)) p is.closed)
 
 -- so far there are no more nodes than items
-pub few_more : {X : Type 0} (f : X → ℕ) (xs : List X) (i : ℕ) (d : X) (ns : List ℕ) → ns ≡ distinct_of (map f (take i xs)) → i < length xs → length (joined ns (f (get_or xs i d))) ≤ length xs
-few_more f xs i d ns is lt =
-    let more = length_joined ns (f (get_or xs i d)) in
+pub few_more : {X : Type 0} (f : X → ℕ) (xs : List X) (i : ℕ) (x : X) (n : ℕ) (ns : List ℕ) → i < length xs → x ≡ get_or xs i x → n ≡ f x → ns ≡ distinct_of (map f (take i xs)) → length (joined ns n) ≤ length xs
+few_more f xs i x n ns lt is names so_far =
+    let more = length_joined ns n in
     let few = length_all_joined [] (map f (take i xs)) in
-    let same = ap length is in
+    let same = ap length so_far in
     omega (arith, more, few, same, length-map (take i xs) f, length-take-le i xs (omega arith))
 
--- the walk's nodes, which the target joins
-pub target_joins : (graph : List Node) (start p most : ℕ) (vs : List ℕ) (stop : Option ℕ) (t : ℕ) → vs ≡ walk_of graph start p most → stop ≡ stop_of graph p (walk_of graph start p most) → stop ≡ Some t
-    → joined vs t ≡ walked graph p (walk_of graph start p most)
-target_joins graph start p most vs stop t is stops e =
-    rw is (ap (with_target (walk_of graph start p most)) (sym e ∙ stops))
-
-pub none_joins : (graph : List Node) (start p most : ℕ) (vs : List ℕ) (stop : Option ℕ) → vs ≡ walk_of graph start p most → stop ≡ stop_of graph p (walk_of graph start p most) → stop ≡ None
-    → vs ≡ walked graph p (walk_of graph start p most)
-none_joins graph start p most vs stop is stops e = is ∙ ap (with_target (walk_of graph start p most)) (sym e ∙ stops)
-
-pub room_for_target : (graph : List Node) (start p most : ℕ) (vs : List ℕ) (stop : Option ℕ) (t : ℕ) → IsGraph graph → IsCourse (length graph) start p most → vs ≡ walk_of graph start p most
-    → stop ≡ stop_of graph p (walk_of graph start p most) → stop ≡ Some t → length (joined vs t) ≤ MAX_NODES
-room_for_target graph start p most vs stop t graphs course is stops e =
+-- a walk and its stop have room
+pub room_for_stop : (graph : List Node) (start p most : ℕ) (vs : List ℕ) (stop : Option ℕ) → IsGraph graph → IsCourse (length graph) start p most → vs ≡ walk_of graph start p most
+    → stop ≡ stop_of graph p (walk_of graph start p most) → length (with_target vs stop) ≤ MAX_NODES
+room_for_stop graph start p most vs stop graphs course is stops =
     let few = few_walked graph start p most graphs course.starts course.some in
-    let same = target_joins graph start p most vs stop t is stops e in
-    rw same (omega (arith, few, graphs.few))
+    rw (is, stops) (omega (arith, few, graphs.few))

@@ -1,14 +1,15 @@
 -- Only a transaction's footprint changes, and only its footprint matters.
-use Rattle.std.proofs.Common.{◌≡◌, ◌≢◌, ℕ, zero, suc, ◌+◌, ◌-◌, ◌%◌, ◌^◌, ◌↔◌, Bool, true, false, ◌||◌, nat_lt, eqb, ◌⊎◌, inl, inr, List, [], ◌∷◌, length, get_or, set, map, fold, Option, Some, None, refl, sym, ap, subst, ◌∙◌, arith, length-set, get_or-set_other}
+use Rattle.std.proofs.Common.{◌≡◌, ◌≢◌, ℕ, zero, suc, ◌+◌, ◌-◌, ◌%◌, ◌^◌, ◌↔◌, Bool, true, false, ◌||◌, nat_lt, eqb, ◌⊎◌, inl, inr, List, [], ◌∷◌, length, get_or, set, map, fold, Option, Some, None, refl, sym, ap, subst, ◌∙◌, arith, length-set, get_or-set_other, sum_by, ◌≤◌}
+use Rattle.std.proofs.lemmas.List.Sums.{sum_by-cons}
 use Rattle.ww_plain.specs.declared.node.Node.{Node}
 use Rattle.ww_plain.specs.Numbers.{is_among, joined, distinct_of, AreDifferent}
 use Rattle.ww_plain.specs.Graph.{no_node, node_at, value_of, port_of, with_value, with_port, Agree}
-use Rattle.ww_plain.specs.Transaction.{Transaction, add, move, reverse, Fits, listed}
+use Rattle.ww_plain.specs.Transaction.{Transaction, get, add, move, link, sum, reverse, peek, Fits, listed}
 use Rattle.ww_plain.specs.Walk.{BeginsWith, walk_of, walk_past, stop_of, last_of, last_from, onward}
 use Rattle.ww_plain.specs.Footprint.{with_target, walked, footprint_of, Concerns}
-use Rattle.ww_plain.specs.Meaning.{raised, moving, turned, graph_after}
+use Rattle.ww_plain.specs.Meaning.{values, was, summed, raised, moving, turned, graph_after}
 use Rattle.ww_plain.specs.Laws.{IsSameInside}
-use Rattle.ww_plain.proofs.Members.{or_cases, or_false, or_right, true_or_false, different_none, same_from_eqb, eqb_same, is_among-head, is_among-tail, is_among-append}
+use Rattle.ww_plain.proofs.Members.{or_cases, or_false, or_right, true_or_false, different_none, same_from_eqb, eqb_same, is_among-head, is_among-tail, is_among-append, different_cons}
 use Rattle.ww_plain.proofs.Walks.{onward_new, gives_walk}
 use Rattle.ww_plain.proofs.FootprintFacts.{different_joined}
 
@@ -95,12 +96,17 @@ outside_turned graph p before (v ∷ vs) n e =
     outside_turned (with_port graph v p before) p (Some v) vs n both.1 ∙ outside_set graph v n _ both.0
 
 pub outside : (graph : List Node) (txn : Transaction) (n : ℕ) → is_among n (footprint_of graph txn) ≡ false → node_at (graph_after graph txn) n ≡ node_at graph n
+outside graph (get by nodes) n e = refl
 outside graph (add by amounts) n e = outside_added graph amounts n (sym (is_among-distinct_of n (listed (add by amounts))) ∙ e)
 outside graph (move from to amount) n e =
     let listed_not = or_false (eqb from n) (eqb to n || false) (sym (is_among-distinct_of n (from ∷ to ∷ [])) ∙ e) in
     outside_moving graph from to amount n listed_not.0 (or_false (eqb to n) false listed_not.1).0
+outside graph (link node port target) n e =
+    let apart = or_false (eqb node n) false (not_among_target n (node ∷ []) target e) in outside_set graph node n _ apart.0
+outside graph (sum start p most) n e = refl
 outside graph (reverse start p most) n e =
     outside_turned graph p (stop_of graph p (walk_of graph start p most)) (walk_of graph start p most) n (not_among_target n (walk_of graph start p most) (stop_of graph p (walk_of graph start p most)) e)
+outside graph (peek node) n e = refl
 
 -- ---- inside
 
@@ -188,7 +194,39 @@ moving_agrees graph other ns from to amount h a b =
       ])
     ])
 
+values_agree : (graph other : List Node) (ns nodes : List ℕ) → Agree graph other ns → ((n : ℕ) → is_among n nodes ≡ true → is_among n ns ≡ true) → map (value_of other) nodes ≡ map (value_of graph) nodes
+values_agree graph other ns [] agree within = refl
+values_agree graph other ns (m ∷ ms) agree within =
+    let here = ap (λ (node : Node). node.value) (agree m (within m (is_among-head m ms))) in
+    let later = values_agree graph other ns ms agree (λ n e. within n (is_among-tail m n ms e)) in
+    rw (here, later) refl
+
+sums_agree : (graph other : List Node) (ns nodes : List ℕ) → Agree graph other ns → ((n : ℕ) → is_among n nodes ≡ true → is_among n ns ≡ true) → sum_by (value_of other) nodes ≡ sum_by (value_of graph) nodes
+sums_agree graph other ns [] agree within = refl
+sums_agree graph other ns (m ∷ ms) agree within =
+    let here : value_of graph m ≡ value_of other m = ap (λ (node : Node). node.value) (agree m (within m (is_among-head m ms))) in
+    let later = sums_agree graph other ns ms agree (λ n e. within n (is_among-tail m n ms e)) in
+    let first = sum_by-cons (value_of other) m ms in
+    let second = sum_by-cons (value_of graph) m ms in
+    omega (arith, here, later, first, second)
+
+-- what two graphs that agree on a walk and its stop say of the walk
+record SameWalk (graph other : List Node) (start p most : ℕ) : Type 0 where
+  walk : walk_of graph start p most ≡ walk_of other start p most
+  stop : stop_of graph p (walk_of graph start p most) ≡ stop_of other p (walk_of graph start p most)
+
+same_walk : (graph other : List Node) (start p most : ℕ) → 1 ≤ most → Agree graph other (walked graph p (walk_of graph start p most)) → SameWalk graph other start p most
+same_walk graph other start p most some agree =
+    let vs = walk_of graph start p most in
+    let on_walk : Agree graph other vs = λ n e. agree n (among_with_target n vs (stop_of graph p vs) e) in
+    record { walk = walk_agrees graph other start p most on_walk; stop = stop_agrees graph other p vs start (gives_walk graph start p most some).begins on_walk }
+
 pub inside : (graph other : List Node) (txn : Transaction) → Fits (length graph) txn → length graph ≡ length other → Agree graph other (footprint_of graph txn) → IsSameInside graph other txn
+inside graph other (get by nodes) fits sizes agree = record {
+  footprint = refl;
+  answer = ap values (values_agree graph other (distinct_of nodes) nodes agree (λ n e. is_among-distinct_of n nodes ∙ e));
+  agree = agree;
+}
 inside graph other (add by amounts) fits sizes agree =
     let within : (n : ℕ) → is_among n (map (λ (pair : ℕ × ℕ). pair.0) amounts) ≡ true → is_among n (distinct_of (map (λ (pair : ℕ × ℕ). pair.0) amounts)) ≡ true
     = λ n e. is_among-distinct_of n (map (λ (pair : ℕ × ℕ). pair.0) amounts) ∙ e in
@@ -202,19 +240,35 @@ inside graph other (move from to amount) fits sizes agree =
     (is_among-distinct_of from (from ∷ to ∷ []) ∙ is_among-head from (to ∷ []))
     (is_among-distinct_of to (from ∷ to ∷ []) ∙ is_among-tail from to (to ∷ []) (is_among-head to [])) in
     record { footprint = refl; answer = both.0; agree = both.1 }
+inside graph other (link node port target) fits sizes agree =
+    let here = among_with_target node (node ∷ []) target (is_among-head node []) in
+    record {
+      footprint = refl;
+      answer = ap was (ap (λ (n : Node). get_or n.ports port None) (sym (agree node here)));
+      agree = (alike_port graph other (with_target (node ∷ []) target) node port target (record { sizes = sizes; agree = agree }) here).agree;
+    }
+inside graph other (sum start p most) fits sizes agree =
+    let vs = walk_of graph start p most in
+    let same = same_walk graph other start p most fits.some agree in
+    record {
+      footprint = rw (← same.walk, ← same.stop) refl;
+      answer = rw (← same.walk) (ap (summed (length vs)) (sums_agree graph other (walked graph p vs) vs agree (λ n e. among_with_target n vs (stop_of graph p vs) e)));
+      agree = agree;
+    }
 inside graph other (reverse start p most) fits sizes agree =
     let vs = walk_of graph start p most in
-    let stop = stop_of graph p vs in
-    let within : (n : ℕ) → is_among n vs ≡ true → is_among n (walked graph p vs) ≡ true = λ n e. among_with_target n vs stop e in
-    let on_walk : Agree graph other vs = λ n e. agree n (within n e) in
-    let walks : vs ≡ walk_of other start p most = walk_agrees graph other start p most on_walk in
-    let stops : stop ≡ stop_of other p vs = stop_agrees graph other p vs start (gives_walk graph start p most fits.some).begins on_walk in
-    let turns = alike_turned graph other (walked graph p vs) p stop vs (record { sizes = sizes; agree = agree }) within in
+    let same = same_walk graph other start p most fits.some agree in
+    let turns = alike_turned graph other (walked graph p vs) p (stop_of graph p vs) vs (record { sizes = sizes; agree = agree }) (λ n e. among_with_target n vs (stop_of graph p vs) e) in
     record {
-      footprint = rw (← walks, ← stops) refl;
-      answer = rw (← walks) refl;
-      agree = rw (← walks, ← stops) turns.agree;
+      footprint = rw (← same.walk, ← same.stop) refl;
+      answer = rw (← same.walk) refl;
+      agree = rw (← same.walk, ← same.stop) turns.agree;
     }
+inside graph other (peek node) fits sizes agree = record {
+  footprint = refl;
+  answer = ap values (values_agree graph other (node ∷ []) (node ∷ []) agree (λ n e. e));
+  agree = agree;
+}
 
 -- ---- what a footprint names
 
@@ -231,16 +285,23 @@ among_target_cases n ns (Some t) e = elim (or_cases (is_among n ns) (eqb t n) (s
 target_is_among : (n : ℕ) (ns : List ℕ) (target : Option ℕ) → target ≡ Some n → is_among n (with_target ns target) ≡ true
 target_is_among n ns target e = rw e (target_among ns n)
 
+concerns_target : (n : ℕ) (ns : List ℕ) (target : Option ℕ) → (is_among n (with_target ns target) ≡ true) ↔ ((is_among n ns ≡ true) ⊎ (target ≡ Some n))
+concerns_target n ns target = (
+  among_target_cases n ns target,
+  λ e. elim e [ inl here ↦ among_with_target n ns target here | inr named ↦ target_is_among n ns target named ],
+)
+
 pub concerns : (graph : List Node) (txn : Transaction) (n : ℕ) → (is_among n (footprint_of graph txn) ≡ true) ↔ Concerns graph txn n
+concerns graph (get by nodes) n =
+    let same = is_among-distinct_of n nodes in (λ e. sym same ∙ e, λ e. same ∙ e)
 concerns graph (add by amounts) n =
     let same = is_among-distinct_of n (listed (add by amounts)) in (λ e. sym same ∙ e, λ e. same ∙ e)
 concerns graph (move from to amount) n =
     let same = is_among-distinct_of n (listed (move from to amount)) in (λ e. sym same ∙ e, λ e. same ∙ e)
-concerns graph (reverse start p most) n =
-    let vs = walk_of graph start p most in (
-      among_target_cases n vs (stop_of graph p vs),
-      λ e. elim e [ inl here ↦ among_with_target n vs (stop_of graph p vs) here | inr stops ↦ target_is_among n vs (stop_of graph p vs) stops ],
-    )
+concerns graph (link node port target) n = concerns_target n (node ∷ []) target
+concerns graph (sum start p most) n = concerns_target n (walk_of graph start p most) (stop_of graph p (walk_of graph start p most))
+concerns graph (reverse start p most) n = concerns_target n (walk_of graph start p most) (stop_of graph p (walk_of graph start p most))
+concerns graph (peek node) n = (λ e. e, λ e. e)
 
 different_all_joined : (ns ms : List ℕ) → AreDifferent ns → AreDifferent (fold joined ns ms)
 different_all_joined ns [] h = h
@@ -251,6 +312,10 @@ different_with_target ns None h = h
 different_with_target ns (Some t) h = different_joined ns t h
 
 pub different_footprint : (graph : List Node) (txn : Transaction) → Fits (length graph) txn → AreDifferent (footprint_of graph txn)
+different_footprint graph (get by nodes) fits = different_all_joined [] nodes different_none
 different_footprint graph (add by amounts) fits = different_all_joined [] (listed (add by amounts)) different_none
 different_footprint graph (move from to amount) fits = different_all_joined [] (listed (move from to amount)) different_none
+different_footprint graph (link node port target) fits = different_with_target (node ∷ []) target (different_cons node [] refl different_none)
+different_footprint graph (sum start p most) fits = different_with_target (walk_of graph start p most) (stop_of graph p (walk_of graph start p most)) (gives_walk graph start p most fits.some).different
 different_footprint graph (reverse start p most) fits = different_with_target (walk_of graph start p most) (stop_of graph p (walk_of graph start p most)) (gives_walk graph start p most fits.some).different
+different_footprint graph (peek node) fits = different_cons node [] refl different_none

@@ -3,7 +3,7 @@ use Rattle.std.proofs.Common.{◌≡◌, ℕ, ◌+◌, ◌-◌, ◌%◌, ◌^◌
 use Rattle.std.specs.List.{AllByRecursion}
 use Rattle.ww_plain.specs.declared.node.Node.{Node}
 use Rattle.ww_plain.specs.Graph.{no_node, node_at, value_of, with_value, with_port, IsNodeOf, IsGraph}
-use Rattle.ww_plain.specs.Transaction.{Transaction, add, move, reverse, Fits}
+use Rattle.ww_plain.specs.Transaction.{Transaction, get, add, move, link, sum, reverse, peek, Fits}
 use Rattle.ww_plain.specs.Walk.{walk_of, stop_of, last_of}
 use Rattle.ww_plain.specs.Meaning.{raised, moving, turned, graph_after}
 use Rattle.ww_plain.proofs.Members.{true_or_false}
@@ -63,9 +63,13 @@ sized_turning graph start p most h here some =
     sized_turned (length graph) graph p (stop_of graph p (walk_of graph start p most)) (walk_of graph start p most) (sized_graph graph h) (port_is_there graph (last_of (walk_of graph start p most)) p h.closed) (walk_below graph start p most h here some)
 
 pub sized_after : (graph : List Node) (txn : Transaction) → IsGraph graph → Fits (length graph) txn → IsSized (length graph) (graph_after graph txn)
+sized_after graph (get by nodes) h fits = sized_graph graph h
 sized_after graph (add by amounts) h fits = sized_added (length graph) graph amounts (sized_graph graph h)
 sized_after graph (move from to amount) h fits = sized_moving (length graph) graph from to amount (sized_graph graph h)
+sized_after graph (link node port target) h fits = sized_port (length graph) graph node port target (sized_graph graph h) fits.2
+sized_after graph (sum start p most) h fits = sized_graph graph h
 sized_after graph (reverse start p most) h fits = sized_turning graph start p most h fits.starts fits.some
+sized_after graph (peek node) h fits = sized_graph graph h
 
 -- what a transaction leaves is a graph
 pub keeps_graph : (graph : List Node) (txn : Transaction) → IsGraph graph → Fits (length graph) txn → IsGraph (graph_after graph txn)

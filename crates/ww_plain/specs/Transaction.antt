@@ -1,23 +1,31 @@
 -- What a transaction asks for, and what it is answered.
-use Rattle.std.specs.Prelude.{ℕ, ◌≡◌, ◌≤◌, ◌<◌, ◌∷◌, ◌++◌, List, [], length, map, Option, Some, None, IsTrue}
+use Rattle.std.specs.Prelude.{ℕ, ◌≡◌, ◌≤◌, ◌<◌, ◌∷◌, ◌++◌, List, [], length, map, Option, Some, None, IfSome, IsTrue}
 use Rattle.std.specs.List.{AllByRecursion}
 use Rattle.ww_plain.specs.declared.node.TheConstants.{PORTS}
 use Rattle.ww_plain.specs.declared.graph.TheConstants.{MAX_NODES}
 use Rattle.ww_plain.specs.declared.transaction.By.{By}
 use Rattle.ww_plain.specs.declared.transaction.Txn.{Txn}
-use Rattle.ww_plain.specs.declared.transaction.Txn.TheVariants.{Add, Move, Reverse}
+use Rattle.ww_plain.specs.declared.transaction.Txn.TheVariants.{Get, Add, Move, Link, Sum, Reverse, Peek}
 use Rattle.ww_plain.specs.Numbers.{is_among, AreDifferent}
 
 -- a `Txn`, with a list where that has a vector
 pub data Transaction : Type 0 where
+  get : By → List ℕ → Transaction
   add : By → List (ℕ × ℕ) → Transaction
   move : ℕ → ℕ → ℕ → Transaction
+  link : ℕ → ℕ → Option ℕ → Transaction
+  sum : ℕ → ℕ → ℕ → Transaction
   reverse : ℕ → ℕ → ℕ → Transaction
+  peek : ℕ → Transaction
 
 abbrev pub transaction_of : Txn → Transaction
+transaction_of (Get by nodes) = get by nodes.items
 transaction_of (Add by amounts) = add by amounts.items
 transaction_of (Move from to amount) = move from to amount
+transaction_of (Link node port target) = link node port target
+transaction_of (Sum start port length) = sum start port length
 transaction_of (Reverse start port length) = reverse start port length
+transaction_of (Peek node) = peek node
 
 -- there are 1 to 64 of them
 pub record HasLength {A : Type 0} (xs : List A) : Type 0 where
@@ -33,15 +41,23 @@ pub record IsCourse (size start along length : ℕ) : Type 0 where
 
 -- the transaction's numbers are those of a graph of this size
 abbrev pub Fits : ℕ → Transaction → Type 0
+Fits size (get by nodes) = HasLength nodes × AllByRecursion (λ node. node < size) nodes
 Fits size (add by amounts) = HasLength amounts × AllByRecursion (λ pair. pair.0 < size) amounts
 Fits size (move from to amount) = (from < size) × (to < size)
+Fits size (link node port target) = (node < size) × (port < PORTS) × IfSome target (λ t. t < size)
+Fits size (sum start port length) = IsCourse size start port length
 Fits size (reverse start port length) = IsCourse size start port length
+Fits size (peek node) = node < size
 
 -- the nodes that the transaction lists, in its order
 abbrev pub listed : Transaction → List ℕ
+listed (get by nodes) = nodes
 listed (add by amounts) = map (λ pair. pair.0) amounts
 listed (move from to amount) = from ∷ to ∷ []
+listed (link node port target) = []
+listed (sum start port length) = []
 listed (reverse start port length) = []
+listed (peek node) = []
 
 -- no node is listed twice
 abbrev pub HasNoDouble : Transaction → Type 0

@@ -11,6 +11,8 @@ use std::alloc::{AllocError, Global};
 /// What a transaction is answered.
 #[derive(Debug, PartialEq, Eq, Drop)]
 pub enum Reply {
+    /// The values that were asked for.
+    Values(Vec<u64>),
     /// The amounts were added.
     Done,
     /// The amount was moved.
@@ -19,6 +21,10 @@ pub enum Reply {
     Short,
     /// The second node would rise above 2^64 - 1.
     Full,
+    /// The port led there before.
+    Was(Option<u8>),
+    /// The walk has so many nodes, and this is the sum of their values.
+    Sum(u8, u128),
     /// The walk was turned, and this was its last node.
     End(u8),
 }

@@ -1,15 +1,36 @@
-ghost use Rattle.std.specs.Prelude.{◌≡◌, ◌≢◌, ◌<◌, length, fold, IfOk, OnErr};
+ghost use Rattle.std.specs.Prelude.{◌≡◌, ◌≢◌, ◌<◌, ◌≤◌, length, map, fold, IfOk, OnErr};
 ghost use Rattle.std.specs.List.{AllByRecursion};
 ghost use Rattle.ww_plain.specs.Walk.{stop_of};
 ghost use Rattle.ww_plain.specs.Transaction.{transaction_of, Fits, HasNoDouble};
-ghost use Rattle.ww_plain.specs.Meaning.{answer_of, raised, moving, turning, meaning};
+ghost use Rattle.ww_plain.specs.Graph.{value_of, port_of, with_port};
+ghost use Rattle.ww_plain.specs.Meaning.{was, summing, answer_of, raised, moving, turning, meaning};
 
-use crate::graph::Graph;
+use crate::graph::{Graph, MAX_NODES};
 use crate::history::Reply;
 use crate::node::{Node, PORTS};
 use crate::transaction::Txn;
 use crate::walk::walk_from;
 use std::alloc::{AllocError, Global};
+
+/// The value of a node.
+fn value_at(graph: &[Node], node: u8) -> u64
+    requires { node < length graph.now }
+    ensures { result ≡ value_of graph.now node }
+{
+    graph[usize::from(node)].value
+}
+
+/// The values of the nodes, in their order.
+fn values(alloc: Global, graph: &[Node], nodes: &[u8]) -> Result<Vec<u64>, AllocError>
+    requires { AllByRecursion (λ node. node < length graph.now) nodes.now }
+    ensures { IfOk result (λ values. values.items ≡ map (value_of graph.now) nodes.now) }
+{
+    let mut values = Vec::new(alloc);
+    for node in nodes {
+        values.push(value_at(graph, *node))?;
+    }
+    Ok(values)
+}
 
 /// Adds each amount to its node.
 fn add(nodes: &mut [Node], amounts: &[(u8, u64)])
@@ -41,6 +62,32 @@ fn move_amount(nodes: &mut [Node], from: u8, to: u8, amount: u64) -> Reply
     Reply::Moved
 }
 
+/// Sets a port of a node.
+fn link(nodes: &mut [Node], node: u8, port: u8, target: Option<u8>) -> Reply
+    requires node { node < length nodes.old }
+    requires port { port < PORTS }
+    ensures reply { answer_of result ≡ was (port_of nodes.old node port) }
+    ensures graph { nodes.new ≡ with_port nodes.old node port target }
+{
+    let ports = &mut nodes[usize::from(node)].ports;
+    let before = ports[usize::from(port)];
+    ports[usize::from(port)] = target;
+    Reply::Was(before)
+}
+
+/// Counts the nodes of a walk, and sums their values.
+fn sum(graph: &[Node], walk: &[u8]) -> Reply
+    requires nodes { AllByRecursion (λ node. node < length graph.now) walk.now }
+    requires few { length walk.now ≤ MAX_NODES }
+    ensures { answer_of result ≡ summing graph.now walk.now }
+{
+    let mut total = 0;
+    for node in walk {
+        total += u128::from(value_at(graph, *node));
+    }
+    Reply::Sum(walk.len() as u8, total)
+}
+
 /// Turns the nodes of a walk, the first one to the walk's stop.
 fn turn(nodes: &mut [Node], port: u8, walk: &[u8], stop: Option<u8>) -> Reply
     requires port { port < PORTS }
@@ -58,22 +105,29 @@ fn turn(nodes: &mut [Node], port: u8, walk: &[u8], stop: Option<u8>) -> Reply
     Reply::End(last)
 }
 
-/// Applies the transaction to the graph. Only a reply that holds a list takes memory, which none of today's does.
-pub fn apply(_alloc: Global, graph: &mut Graph, txn: &Txn) -> Result<Reply, AllocError>
+/// Applies the transaction to the graph. Only the values of a `Get` or a `Peek` take memory.
+pub fn apply(alloc: Global, graph: &mut Graph, txn: &Txn) -> Result<Reply, AllocError>
     requires fits { Fits (length graph.old) (transaction_of txn.now) }
     requires no_double { HasNoDouble (transaction_of txn.now) }
     ensures ok { IfOk result (λ reply. meaning graph.old (transaction_of txn.now) ≡ (answer_of reply, graph.new)) }
     ensures err { OnErr result (graph.new ≡ graph.old) }
 {
     match txn {
+        Txn::Get(_, nodes) => Ok(Reply::Values(values(alloc, &graph.nodes, nodes)?)),
         Txn::Add(_, amounts) => {
             add(&mut graph.nodes, amounts);
             Ok(Reply::Done)
         }
         Txn::Move(from, to, amount) => Ok(move_amount(&mut graph.nodes, *from, *to, *amount)),
+        Txn::Link(node, port, target) => Ok(link(&mut graph.nodes, *node, *port, *target)),
+        Txn::Sum(start, port, most) => {
+            let walk = walk_from(&graph.nodes, *start, *port, *most);
+            Ok(sum(&graph.nodes, &walk.nodes))
+        }
         Txn::Reverse(start, port, most) => {
             let walk = walk_from(&graph.nodes, *start, *port, *most);
             Ok(turn(&mut graph.nodes, *port, &walk.nodes, walk.stop))
         }
+        Txn::Peek(node) => Ok(Reply::Values(values(alloc, &graph.nodes, &[*node])?)),
     }
 }

@@ -105,12 +105,41 @@ fn walks_turn(rt: HostRuntime) -> Result<(), Fail> {
 }
 
 #[test]
+fn values_links_and_sums(rt: HostRuntime) -> Result<(), Fail> {
+    let alloc = rt.alloc();
+    let mut graph = graph_of(alloc, &[(4, Some(1)), (5, Some(2)), (u64::MAX, None)])?;
+    let cases = [
+        (
+            Txn::Get(By::Order, [2, 0].to_vec(alloc)?),
+            Reply::Values([u64::MAX, 4].to_vec(alloc)?),
+        ),
+        (Txn::Sum(0, 0, 1), Reply::Sum(1, 4)),
+        (
+            Txn::Sum(0, 0, 64),
+            Reply::Sum(3, 18_446_744_073_709_551_624),
+        ),
+        (Txn::Link(0, 2, Some(1)), Reply::Was(None)),
+        (Txn::Link(0, 2, Some(0)), Reply::Was(Some(1))),
+        (Txn::Link(0, 2, None), Reply::Was(Some(0))),
+        (Txn::Peek(1), Reply::Values([5].to_vec(alloc)?)),
+    ];
+    for (txn, want) in &cases {
+        let reply = answer(alloc, &mut graph, txn)?.ok_or("it fits")?;
+        assert_eq!(rt; &reply, want);
+    }
+    Ok(())
+}
+
+#[test]
 fn footprints_and_doubles(rt: HostRuntime) -> Result<(), Fail> {
     let alloc = rt.alloc();
     let graph = graph_of(alloc, &[(4, Some(1)), (5, Some(2)), (6, None)])?;
-    let one = Txn::Reverse(0, 0, 1);
+    let one = Txn::Sum(0, 0, 1);
     assert!(rt; one.fits(graph.size()));
     assert_eq!(rt; footprint(&graph, &one).as_slice(), [0, 1].as_slice());
+    let link = Txn::Link(2, 3, Some(2));
+    assert!(rt; link.fits(graph.size()));
+    assert_eq!(rt; footprint(&graph, &link).as_slice(), [2].as_slice());
     assert_eq!(rt; one.fits(0), false);
     assert_eq!(rt; Txn::Reverse(0, 4, 1).fits(3), false);
     assert_eq!(rt; Txn::Reverse(0, 0, 65).fits(3), false);
@@ -123,6 +152,10 @@ fn footprints_and_doubles(rt: HostRuntime) -> Result<(), Fail> {
     assert_eq!(rt;
         first_double(&adds(alloc, &[(0, 1), (1, 1), (0, 1)])?),
         Some(0)
+    );
+    assert_eq!(rt;
+        first_double(&Txn::Get(By::Order, [0, 1, 1, 0].to_vec(alloc)?)),
+        Some(1)
     );
     assert_eq!(rt; first_double(&Txn::Move(0, 0, 1)), Some(0));
     assert_eq!(rt; first_double(&Txn::Move(0, 1, 1)), None);

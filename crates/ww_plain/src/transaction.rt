@@ -1,4 +1,4 @@
-ghost use Rattle.std.specs.Prelude.{◌≡◌, ◌<◌, ◌≤◌, ◌↔◌, map, IsTrue};
+ghost use Rattle.std.specs.Prelude.{◌≡◌, ◌<◌, ◌≤◌, ◌↔◌, ℕ, map, IsTrue};
 ghost use Rattle.ww_plain.specs.Transaction.{transaction_of, listed, FirstDouble};
 ghost use Rattle.ww_plain.specs.Numbers.{is_among};
 
@@ -17,12 +17,20 @@ pub enum By {
 /// A transaction on the nodes of a graph.
 #[derive(Debug, Drop)]
 pub enum Txn {
+    /// Asks for the values of the nodes, in the order of the list.
+    Get(By, Vec<u8>),
     /// Adds each amount to its node, wrapping at 2^64.
     Add(By, Vec<(u8, u64)>),
     /// Moves an amount from the first node to the second.
     Move(u8, u8, u64),
+    /// Sets a port of a node to a target.
+    Link(u8, u8, Option<u8>),
+    /// Counts the nodes of the walk from a start along a port, of at most so many nodes, and sums their values.
+    Sum(u8, u8, u8),
     /// Turns the walk from a start along a port, of at most so many nodes.
     Reverse(u8, u8, u8),
+    /// Asks for the value of one node.
+    Peek(u8),
 }
 
 impl Txn {
@@ -33,13 +41,22 @@ impl Txn {
         ensures { IsTrue result ↔ Fits size (transaction_of self.now) }
     {
         match self {
+            Txn::Get(_, nodes) => {
+                has_length(nodes.len()) && nodes.iter().all(|node| *node < size)
+            }
             Txn::Add(_, amounts) => {
                 has_length(amounts.len()) && amounts.iter().all(|(node, _)| *node < size)
             }
             Txn::Move(from, to, _) => *from < size && *to < size,
-            Txn::Reverse(start, port, most) => {
+            Txn::Link(node, port, target) => {
+                *node < size
+                    && usize::from(*port) < PORTS
+                    && target.is_none_or(|target| target < size)
+            }
+            Txn::Sum(start, port, most) | Txn::Reverse(start, port, most) => {
                 *start < size && usize::from(*port) < PORTS && has_length(usize::from(*most))
             }
+            Txn::Peek(node) => *node < size,
         }
     }
 }
@@ -56,30 +73,60 @@ pub fn first_double(txn: &Txn) -> Option<u8>
     ensures { FirstDouble (listed (transaction_of txn.now)) result }
 {
     match txn {
+        Txn::Get(_, nodes) => first_double_of(nodes),
         Txn::Add(_, amounts) => first_double_of(amounts),
         Txn::Move(from, to, _) => (from == to).then_some(*to),
+        Txn::Link(..) => None,
+        Txn::Sum(..) => None,
         Txn::Reverse(..) => None,
+        Txn::Peek(..) => None,
     }
 }
 
-/// The first node of the pairs that stands in an earlier pair too.
-fn first_double_of(amounts: &[(u8, u64)]) -> Option<u8>
-    ensures { FirstDouble (map (λ pair. pair.0) amounts.now) result }
+/// What stands in a transaction's list, and names a node.
+pub(crate) trait Listed {
+    /// The node's number.
+    ghost names: { Self → ℕ };
+
+    fn node(&self) -> u8
+        ensures { result ≡ names self.now };
+}
+
+impl Listed for u8 {
+    ghost names = { λ node. node };
+
+    fn node(&self) -> u8 {
+        *self
+    }
+}
+
+impl Listed for (u8, u64) {
+    ghost names = { λ pair. pair.0 };
+
+    fn node(&self) -> u8 {
+        self.0
+    }
+}
+
+/// The first node of a list that stands at an earlier position too.
+fn first_double_of<T: Listed>(items: &[T]) -> Option<u8>
+    ensures { FirstDouble (map T.names items.now) result }
 {
-    for (i, (node, _)) in amounts.iter().enumerate() {
-        if is_named(&amounts[..i], *node) {
-            return Some(*node);
+    for (i, item) in items.iter().enumerate() {
+        let node = item.node();
+        if is_named(&items[..i], node) {
+            return Some(node);
         }
     }
     None
 }
 
-/// Whether the node stands in a pair.
-fn is_named(amounts: &[(u8, u64)], node: u8) -> bool
-    ensures { result ≡ is_among node (map (λ pair. pair.0) amounts.now) }
+/// Whether one of the list names the node.
+fn is_named<T: Listed>(items: &[T], node: u8) -> bool
+    ensures { result ≡ is_among node (map T.names items.now) }
 {
-    amounts
+    items
         .iter()
-        .map(|(other, _)| *other)
+        .map(|item| item.node())
         .any(|other| other == node)
 }

@@ -1,4 +1,5 @@
 ghost use Rattle.std.specs.Prelude.{◌≡◌, ◌<◌, length, MatchOption};
+ghost use Rattle.std.specs.List.{AllByRecursion};
 ghost use Rattle.ww_plain.specs.Graph.{port_of, IsGraph};
 ghost use Rattle.ww_plain.specs.Transaction.{IsCourse};
 ghost use Rattle.ww_plain.specs.Walk.{walk_of, stop_of, IsEnd, GoesOnTo};
@@ -19,6 +20,7 @@ pub(crate) fn walk_from(graph: &[Node], start: u8, port: u8, most: u8) -> Walk
     requires graph { IsGraph graph.now }
     requires course { IsCourse (length graph.now) start port most }
     ensures nodes { result.nodes.items ≡ walk_of graph.now start port most }
+    ensures there { AllByRecursion (λ node. node < length graph.now) result.nodes.items }
     ensures stop { result.stop ≡ stop_of graph.now port (walk_of graph.now start port most) }
 {
     let mut nodes = ArrayVec::new();

@@ -7,13 +7,13 @@ use Rattle.serde_json.specs.Data.{Data}
 use Rattle.serde_json.specs.Find.{as_null}
 use Rattle.ww_plain.specs.declared.node.Node.{Node}
 use Rattle.ww_plain.specs.Graph.{IsNodeOf, IsGraph}
-use Rattle.ww_plain.specs.Transaction.{Transaction, add, move, reverse, Fits}
+use Rattle.ww_plain.specs.Transaction.{Transaction, get, add, move, link, sum, reverse, peek, IsCourse, Fits}
 use Rattle.ww_script.specs.declared.fault.InputFault.{InputFault}
 use Rattle.ww_script.specs.declared.fault.InputFault.TheVariants.{BadNumber, BadGraph, TooLong}
 use Rattle.ww_script.specs.declared.input.Input.{Input}
 use Rattle.ww_script.specs.declared.input.Input.TheVariants as input
 use Rattle.ww_script.specs.Parts.{◌>>=◌, each, counted, ranged, is_within, array, below, boolean, number, size, member, only, text}
-use Rattle.ww_script.specs.Transactions.{by_in, pair_of, pair_in, add_of, move_of, reverse_of, worded, transaction_from, transaction_in}
+use Rattle.ww_script.specs.Transactions.{by_in, get_of, pair_of, pair_in, add_of, move_of, target_in, link_of, course_of, sum_of, reverse_of, peek_of, worded, transaction_from, transaction_in}
 use Rattle.ww_script.specs.Scripts.{Plan, IsPlan, IsScript, kind_in, port_in, ports_in, node_in, graph_in, script_in, scripts_in, plan_in}
 use Rattle.ww_script.specs.Reading.{version_in, input_in, parsed, reading, ReadingKeepsRanges}
 
@@ -81,6 +81,18 @@ counted_kept low high d ds e =
 
 -- ---- transactions
 
+get_kept : (count : ℕ) (ds : List Data) (t : Transaction) → get_of count ds ≡ Ok t → Fits count t
+get_kept count [] t e = absurd cc
+get_kept count (a ∷ []) t e = absurd cc
+get_kept count (a ∷ b ∷ []) t e =
+    let w = bind_ok (by_in a) _ t e in
+    let xs = bind_ok (counted 1 64 b) _ t w.2 in
+    let ns = bind_ok (each (below count) xs.0) (λ ns. let r : Result Transaction InputFault = Ok (get w.0 ns) in r) t xs.2 in
+    let c = counted_kept 1 64 b xs.0 xs.1 in
+    let p = each_kept (λ n. n < count) (below count) xs.0 ns.0 (below_kept count) ns.1 in
+    subst (Fits count) (ok_is (get w.0 ns.0) t ns.2) (record { some = omega (arith, c.0, p.1); few = omega (arith, c.1, p.1) }, p.0)
+get_kept count (a ∷ b ∷ c ∷ ds) t e = absurd cc
+
 pair_of_kept : (count : ℕ) (ds : List Data) (p : ℕ × ℕ) → pair_of count ds ≡ Ok p → p.0 < count
 pair_of_kept count [] p e = absurd cc
 pair_of_kept count (a ∷ []) p e = absurd cc
@@ -118,24 +130,76 @@ move_kept count (a ∷ b ∷ c ∷ []) t e =
     subst (Fits count) (ok_is (move m.0 n.0 k.0) t k.2) (below_kept count a m.0 m.1, below_kept count b n.0 n.1)
 move_kept count (a ∷ b ∷ c ∷ d ∷ ds) t e = absurd cc
 
-reverse_kept : (count : ℕ) (ds : List Data) (t : Transaction) → reverse_of count ds ≡ Ok t → Fits count t
-reverse_kept count [] t e = absurd cc
-reverse_kept count (a ∷ []) t e = absurd cc
-reverse_kept count (a ∷ b ∷ []) t e = absurd cc
-reverse_kept count (a ∷ b ∷ c ∷ []) t e =
-    let s = bind_ok (below count a) _ t e in
-    let p = bind_ok (below 4 b) _ t s.2 in
-    let n = bind_ok (ranged 1 64 c) (λ n. let r : Result Transaction InputFault = Ok (reverse s.0 p.0 n) in r) t p.2 in
+-- the port is empty, or one of so many nodes
+abbrev IsPort : ℕ → Option ℕ → Type 0
+IsPort count port = IfSome port (λ target. target < count)
+
+target_kept : (count : ℕ) (d : Data) (p : Option ℕ) → target_in count d ≡ Ok p → IsPort count p
+unfolding target_in
+target_kept count d p e =
+    either_kept (IsPort count) (is_some (as_null d)) (Ok None) (below count d >>= λ n. Ok (Some n)) p
+    (λ none. subst (IsPort count) (ok_is None p none) tt)
+    (λ some.
+    let a = bind_ok (below count d) (λ n. let r : Result (Option ℕ) InputFault = Ok (Some n) in r) p some in
+    subst (IsPort count) (ok_is (Some a.0) p a.2) (below_kept count d a.0 a.1)) e
+
+link_kept : (count : ℕ) (ds : List Data) (t : Transaction) → link_of count ds ≡ Ok t → Fits count t
+link_kept count [] t e = absurd cc
+link_kept count (a ∷ []) t e = absurd cc
+link_kept count (a ∷ b ∷ []) t e = absurd cc
+link_kept count (a ∷ b ∷ c ∷ []) t e =
+    let n = bind_ok (below count a) _ t e in
+    let p = bind_ok (below 4 b) _ t n.2 in
+    let k = bind_ok (target_in count c) (λ k. let r : Result Transaction InputFault = Ok (link n.0 p.0 k) in r) t p.2 in
+    subst (Fits count) (ok_is (link n.0 p.0 k.0) t k.2) (below_kept count a n.0 n.1, below_kept 4 b p.0 p.1, target_kept count c k.0 k.1)
+link_kept count (a ∷ b ∷ c ∷ d ∷ ds) t e = absurd cc
+
+-- a walk's start, port and length are those of a course
+abbrev IsCourseOf : ℕ → ℕ × ℕ × ℕ → Type 0
+IsCourseOf count c = IsCourse count c.0 c.1 c.2
+
+course_kept : (count : ℕ) (ds : List Data) (c : ℕ × ℕ × ℕ) → course_of count ds ≡ Ok c → IsCourseOf count c
+course_kept count [] k e = absurd cc
+course_kept count (a ∷ []) k e = absurd cc
+course_kept count (a ∷ b ∷ []) k e = absurd cc
+course_kept count (a ∷ b ∷ c ∷ []) k e =
+    let s = bind_ok (below count a) _ k e in
+    let p = bind_ok (below 4 b) _ k s.2 in
+    let n = bind_ok (ranged 1 64 c) (λ n. let r : Result (ℕ × ℕ × ℕ) InputFault = Ok (s.0, p.0, n) in r) k p.2 in
     let w = ranged_kept 1 64 c n.0 n.1 in
-    subst (Fits count) (ok_is (reverse s.0 p.0 n.0) t n.2)
+    let made : ℕ × ℕ × ℕ = (s.0, p.0, n.0) in
+    subst (IsCourseOf count) (ok_is made k n.2)
     (record { starts = below_kept count a s.0 s.1; port = below_kept 4 b p.0 p.1; some = w.0; few = w.1 })
-reverse_kept count (a ∷ b ∷ c ∷ d ∷ ds) t e = absurd cc
+course_kept count (a ∷ b ∷ c ∷ d ∷ ds) k e = absurd cc
+
+sum_kept : (count : ℕ) (ds : List Data) (t : Transaction) → sum_of count ds ≡ Ok t → Fits count t
+unfolding sum_of
+sum_kept count ds t e =
+    let k = bind_ok (course_of count ds) (λ (c : ℕ × ℕ × ℕ). let r : Result Transaction InputFault = Ok (sum c.0 c.1 c.2) in r) t e in
+    subst (Fits count) (ok_is (sum k.0.0 k.0.1 k.0.2) t k.2) (course_kept count ds k.0 k.1)
+
+reverse_kept : (count : ℕ) (ds : List Data) (t : Transaction) → reverse_of count ds ≡ Ok t → Fits count t
+unfolding reverse_of
+reverse_kept count ds t e =
+    let k = bind_ok (course_of count ds) (λ (c : ℕ × ℕ × ℕ). let r : Result Transaction InputFault = Ok (reverse c.0 c.1 c.2) in r) t e in
+    subst (Fits count) (ok_is (reverse k.0.0 k.0.1 k.0.2) t k.2) (course_kept count ds k.0 k.1)
+
+peek_kept : (count : ℕ) (ds : List Data) (t : Transaction) → peek_of count ds ≡ Ok t → Fits count t
+peek_kept count [] t e = absurd cc
+peek_kept count (a ∷ []) t e =
+    let n = bind_ok (below count a) (λ n. let r : Result Transaction InputFault = Ok (peek n) in r) t e in
+    subst (Fits count) (ok_is (peek n.0) t n.2) (below_kept count a n.0 n.1)
+peek_kept count (a ∷ b ∷ ds) t e = absurd cc
 
 worded_kept : (count : ℕ) (word : List ℕ) (ds : List Data) (t : Transaction) → worded count word ds ≡ Ok t → Fits count t
 worded_kept count word ds t e =
-    either_kept (Fits count) (bytes_eq word (codes "add")) _ _ t (add_kept count ds t)
+    either_kept (Fits count) (bytes_eq word (codes "get")) _ _ t (get_kept count ds t)
+    (either_kept (Fits count) (bytes_eq word (codes "add")) _ _ t (add_kept count ds t)
     (either_kept (Fits count) (bytes_eq word (codes "move")) _ _ t (move_kept count ds t)
-    (either_kept (Fits count) (bytes_eq word (codes "reverse")) _ _ t (reverse_kept count ds t) (λ none. absurd cc))) e
+    (either_kept (Fits count) (bytes_eq word (codes "link")) _ _ t (link_kept count ds t)
+    (either_kept (Fits count) (bytes_eq word (codes "sum")) _ _ t (sum_kept count ds t)
+    (either_kept (Fits count) (bytes_eq word (codes "reverse")) _ _ t (reverse_kept count ds t)
+    (either_kept (Fits count) (bytes_eq word (codes "peek")) _ _ t (peek_kept count ds t) (λ none. absurd cc))))))) e
 
 transaction_from_kept : (count : ℕ) (ds : List Data) (t : Transaction) → transaction_from count ds ≡ Ok t → Fits count t
 transaction_from_kept count [] t e = absurd cc
@@ -150,9 +214,6 @@ transaction_kept count d t e =
     transaction_from_kept count a.0 t a.2
 
 -- ---- the graph
-
-abbrev IsPort : ℕ → Option ℕ → Type 0
-IsPort count port = IfSome port (λ target. target < count)
 
 port_kept : (count : ℕ) (d : Data) (p : Option ℕ) → port_in count d ≡ Ok p → IsPort count p
 unfolding port_in

@@ -9,16 +9,16 @@ use Rattle.ww_plain.specs.declared.node.Node.{Node}
 use Rattle.ww_plain.specs.declared.transaction.By.{By}
 use Rattle.ww_plain.specs.declared.transaction.By.TheVariants as by
 use Rattle.ww_plain.specs.Graph.{IsNodeOf, IsGraph}
-use Rattle.ww_plain.specs.Transaction.{Transaction, add, move, reverse, Fits}
+use Rattle.ww_plain.specs.Transaction.{Transaction, get, add, move, link, sum, reverse, peek, IsCourse, Fits}
 use Rattle.ww_script.specs.declared.fault.InputFault.{InputFault}
 use Rattle.ww_script.specs.declared.fault.InputFault.TheVariants.{BadNumber}
-use Rattle.ww_script.specs.declared.scripts.Kind.{Kind}
-use Rattle.ww_script.specs.declared.scripts.Kind.TheVariants.{WoundWait, WaitDie}
+use Rattle.ww_queue.specs.declared.kind.Kind.{Kind}
+use Rattle.ww_queue.specs.declared.kind.Kind.TheVariants.{WoundWait, WaitDie}
 use Rattle.ww_script.specs.Parts.{◌>>=◌, list_of, each, counted, ranged, below, is_within}
-use Rattle.ww_script.specs.Transactions.{by_in, pair_in, add_of, move_of, reverse_of, transaction_in}
+use Rattle.ww_script.specs.Transactions.{by_in, get_of, pair_in, add_of, move_of, target_in, link_of, course_of, sum_of, reverse_of, peek_of, transaction_in}
 use Rattle.ww_script.specs.Scripts.{IsScript, kind_in, port_in, ports_in, node_in, graph_in, script_in, scripts_in, plan_in}
 use Rattle.ww_script.specs.Reading.{version_in, input_in}
-use Rattle.ww_script.specs.Spelling.{list, whole, kind_word, by_word, port_data, node_data, pair_data, transaction_data, script_data, HasPorts, EachPlanCanBeSaid}
+use Rattle.ww_script.specs.Spelling.{list, whole, kind_word, by_word, target_data, node_data, pair_data, transaction_data, script_data, HasPorts, EachPlanCanBeSaid}
 
 list_of-items_of : (ds : List Data) → list_of (items_of ds) ≡ ds
 list_of-items_of [] = refl
@@ -55,6 +55,13 @@ unfolding by_in
 by_said by.List = refl
 by_said by.Order = refl
 
+get_said : (count : ℕ) (b : By) (nodes : List ℕ) → Fits count (get b nodes) → get_of count (string (by_word b) ∷ list (map whole nodes) ∷ []) ≡ Ok (get b nodes)
+get_said count b nodes fits =
+    let n = length-map whole nodes in
+    let least : 1 ≤ length (map whole nodes) = omega (arith, fits.0.some) in
+    let most : length (map whole nodes) ≤ 64 = omega (arith, fits.0.few) in
+    rw (by_said b, counted_said 1 64 (map whole nodes) least most, each_said (λ n. n < count) whole (below count) nodes (below_said count) fits.1) refl
+
 pair_said : (count : ℕ) (p : ℕ × ℕ) → p.0 < count → pair_in count (pair_data p) ≡ Ok p
 unfolding pair_in
 pair_said count p lt = ap (λ r. r >>= λ n. Ok (n, p.1)) (below_said count p.0 lt)
@@ -69,29 +76,52 @@ add_said count b pairs fits =
 move_said : (count from to amount : ℕ) → Fits count (move from to amount) → move_of count (whole from ∷ whole to ∷ whole amount ∷ []) ≡ Ok (move from to amount)
 move_said count from to amount fits = rw (below_said count from fits.0, below_said count to fits.1) refl
 
-reverse_said : (count start port length : ℕ) → Fits count (reverse start port length) → reverse_of count (whole start ∷ whole port ∷ whole length ∷ []) ≡ Ok (reverse start port length)
-reverse_said count start port length fits = rw (below_said count start fits.starts, below_said 4 port fits.port, ranged_said 1 64 length fits.some fits.few) refl
+target_said : (count : ℕ) (p : Option ℕ) → IfSome p (λ target. target < count) → target_in count (target_data p) ≡ Ok p
+unfolding target_in
+target_said count None lt = refl
+target_said count (Some n) lt = rw (below_said count n lt) refl
+
+link_said : (count node port : ℕ) (target : Option ℕ) → Fits count (link node port target) → link_of count (whole node ∷ whole port ∷ target_data target ∷ []) ≡ Ok (link node port target)
+link_said count node port target fits = rw (below_said count node fits.0, below_said 4 port fits.1, target_said count target fits.2) refl
+
+course_said : (count start port length : ℕ) → IsCourse count start port length → course_of count (whole start ∷ whole port ∷ whole length ∷ []) ≡ Ok (start, port, length)
+course_said count start port length fits = rw (below_said count start fits.starts, below_said 4 port fits.port, ranged_said 1 64 length fits.some fits.few) refl
+
+sum_said : (count start port length : ℕ) → IsCourse count start port length → sum_of count (whole start ∷ whole port ∷ whole length ∷ []) ≡ Ok (sum start port length)
+unfolding sum_of
+sum_said count start port length fits = rw (course_said count start port length fits) refl
+
+reverse_said : (count start port length : ℕ) → IsCourse count start port length → reverse_of count (whole start ∷ whole port ∷ whole length ∷ []) ≡ Ok (reverse start port length)
+unfolding reverse_of
+reverse_said count start port length fits = rw (course_said count start port length fits) refl
+
+peek_said : (count node : ℕ) → node < count → peek_of count (whole node ∷ []) ≡ Ok (peek node)
+peek_said count node lt = rw (below_said count node lt) refl
 
 transaction_said : (count : ℕ) (t : Transaction) → Fits count t → transaction_in count (transaction_data t) ≡ Ok t
 unfolding transaction_in
+transaction_said count (get b nodes) fits = get_said count b nodes fits
 transaction_said count (add b pairs) fits = add_said count b pairs fits
 transaction_said count (move from to amount) fits = move_said count from to amount fits
+transaction_said count (link node port target) fits = link_said count node port target fits
+transaction_said count (sum start port length) fits = sum_said count start port length fits
 transaction_said count (reverse start port length) fits = reverse_said count start port length fits
+transaction_said count (peek node) fits = peek_said count node fits
 
 -- ---- the graph
 
-port_said : (count : ℕ) → count ≤ 64 → (p : Option ℕ) → IfSome p (λ target. target < count) → port_in count (port_data p) ≡ Ok p
+port_said : (count : ℕ) → count ≤ 64 → (p : Option ℕ) → IfSome p (λ target. target < count) → port_in count (target_data p) ≡ Ok p
 unfolding port_in
 port_said count few None lt = refl
 port_said count few (Some n) lt = rw (below_said 64 n (omega arith), lt-ltb n count lt) refl
 
-ports_said : (count : ℕ) → count ≤ 64 → (ps : List (Option ℕ)) → length ps ≡ 4 → AllByRecursion (λ p. IfSome p (λ target. target < count)) ps → ports_in count (list (map port_data ps)) ≡ Ok ps
+ports_said : (count : ℕ) → count ≤ 64 → (ps : List (Option ℕ)) → length ps ≡ 4 → AllByRecursion (λ p. IfSome p (λ target. target < count)) ps → ports_in count (list (map target_data ps)) ≡ Ok ps
 unfolding ports_in
 ports_said count few ps four all =
-    let n = length-map port_data ps in
-    let least : 4 ≤ length (map port_data ps) = omega arith in
-    let most : length (map port_data ps) ≤ 4 = omega arith in
-    rw (counted_said 4 4 (map port_data ps) least most, each_said (λ p. IfSome p (λ target. target < count)) port_data (port_in count) ps (port_said count few) all) refl
+    let n = length-map target_data ps in
+    let least : 4 ≤ length (map target_data ps) = omega arith in
+    let most : length (map target_data ps) ≤ 4 = omega arith in
+    rw (counted_said 4 4 (map target_data ps) least most, each_said (λ p. IfSome p (λ target. target < count)) target_data (port_in count) ps (port_said count few) all) refl
 
 -- the node's ports lead to nodes that are there, and there are four
 abbrev IsWhole : ℕ → Node → Type 0

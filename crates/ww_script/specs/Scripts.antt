@@ -10,10 +10,10 @@ use Rattle.ww_plain.specs.declared.graph.TheConstants.{MAX_NODES}
 use Rattle.ww_plain.specs.declared.transaction.Txn.{Txn}
 use Rattle.ww_plain.specs.Graph.{IsGraph}
 use Rattle.ww_plain.specs.Transaction.{Transaction, transaction_of, Fits}
+use Rattle.ww_queue.specs.declared.kind.Kind.{Kind}
+use Rattle.ww_queue.specs.declared.kind.Kind.TheVariants.{WoundWait, WaitDie}
 use Rattle.ww_script.specs.declared.fault.InputFault.{InputFault}
 use Rattle.ww_script.specs.declared.fault.InputFault.TheVariants.{BadGraph, BadWord}
-use Rattle.ww_script.specs.declared.scripts.Kind.{Kind}
-use Rattle.ww_script.specs.declared.scripts.Kind.TheVariants.{WoundWait, WaitDie}
 use Rattle.ww_script.specs.Parts.{◌>>=◌, size, member, only, boolean, text, number, below, counted, each}
 use Rattle.ww_script.specs.Transactions.{transaction_in}
 

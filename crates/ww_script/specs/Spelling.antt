@@ -7,9 +7,9 @@ use Rattle.ww_plain.specs.declared.node.Node.{Node}
 use Rattle.ww_plain.specs.declared.node.TheConstants.{PORTS}
 use Rattle.ww_plain.specs.declared.transaction.By.{By}
 use Rattle.ww_plain.specs.declared.transaction.By.TheVariants as by
-use Rattle.ww_plain.specs.Transaction.{Transaction, add, move, reverse}
-use Rattle.ww_script.specs.declared.scripts.Kind.{Kind}
-use Rattle.ww_script.specs.declared.scripts.Kind.TheVariants.{WoundWait, WaitDie}
+use Rattle.ww_plain.specs.Transaction.{Transaction, get, add, move, link, sum, reverse, peek}
+use Rattle.ww_queue.specs.declared.kind.Kind.{Kind}
+use Rattle.ww_queue.specs.declared.kind.Kind.TheVariants.{WoundWait, WaitDie}
 use Rattle.ww_script.specs.declared.input.Input.TheVariants as input
 use Rattle.ww_script.specs.Scripts.{Plan, IsPlan}
 use Rattle.ww_script.specs.Reading.{input_in}
@@ -32,26 +32,34 @@ abbrev pub by_word : By → List ℕ
 by_word by.List = codes "list"
 by_word by.Order = codes "order"
 
--- a port, as a node has it
-abbrev pub port_data : Option ℕ → Data
-port_data None = null
-port_data (Some target) = whole target
+-- a node, or none
+abbrev pub target_data : Option ℕ → Data
+target_data None = null
+target_data (Some target) = whole target
 
 -- a node, with its keys in order
 abbrev pub node_data : Node → Data
 node_data node =
-    object (member (codes "ports") (list (map port_data node.ports)) (member (codes "value") (whole node.value) no_members))
+    object (member (codes "ports") (list (map target_data node.ports)) (member (codes "value") (whole node.value) no_members))
 
 -- a node and an amount
 abbrev pub pair_data : ℕ × ℕ → Data
 pair_data pair = list (whole pair.0 ∷ whole pair.1 ∷ [])
 
+-- a word, and then where a walk starts, along which port it leads, and its greatest length
+abbrev pub course_data : List ℕ → ℕ → ℕ → ℕ → Data
+course_data word start port length = list (string word ∷ whole start ∷ whole port ∷ whole length ∷ [])
+
 -- a transaction, with its word first
 abbrev pub transaction_data : Transaction → Data
+transaction_data (get by nodes) = list (string (codes "get") ∷ string (by_word by) ∷ list (map whole nodes) ∷ [])
 transaction_data (add by pairs) = list (string (codes "add") ∷ string (by_word by) ∷ list (map pair_data pairs) ∷ [])
 transaction_data (move from to amount) = list (string (codes "move") ∷ whole from ∷ whole to ∷ whole amount ∷ [])
-transaction_data (reverse start port length) =
-    list (string (codes "reverse") ∷ whole start ∷ whole port ∷ whole length ∷ [])
+transaction_data (link node port target) =
+    list (string (codes "link") ∷ whole node ∷ whole port ∷ target_data target ∷ [])
+transaction_data (sum start port length) = course_data (codes "sum") start port length
+transaction_data (reverse start port length) = course_data (codes "reverse") start port length
+transaction_data (peek node) = list (string (codes "peek") ∷ whole node ∷ [])
 
 -- a script
 abbrev pub script_data : List Transaction → Data

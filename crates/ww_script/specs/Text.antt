@@ -2,15 +2,27 @@
 use Rattle.std.specs.Prelude.{ℕ, ◌+◌, ◌-◌, List, [], ◌∷◌, ◌++◌, codes, decimal, Option, Some, None, slice_index_or}
 use Rattle.std.specs.List.{flat_map}
 use Rattle.ww_plain.specs.declared.node.Node.{Node}
-use Rattle.ww_plain.specs.Meaning.{Answer, done, moved, short, full, ended}
+use Rattle.ww_plain.specs.Meaning.{Answer, values, done, moved, short, full, was, summed, ended}
 use Rattle.ww_script.specs.Outcome.{Said, answered, already, Told}
+
+-- a number, behind a space
+abbrev pub spaced : ℕ → List ℕ
+spaced n = codes " " ++ decimal n
+
+-- a port, behind a space
+abbrev pub port_text : Option ℕ → List ℕ
+port_text None = codes " -"
+port_text (Some target) = spaced target
 
 -- what a reply says
 abbrev pub answer_text : Answer → List ℕ
+answer_text (values vs) = codes "values" ++ flat_map spaced vs
 answer_text done = codes "done"
 answer_text moved = codes "moved"
 answer_text short = codes "short"
 answer_text full = codes "full"
+answer_text (was target) = codes "was" ++ port_text target
+answer_text (summed count total) = codes "sum " ++ decimal count ++ codes " " ++ decimal total
 answer_text (ended last) = codes "end " ++ decimal last
 
 -- what an answer to a transaction of a script says
@@ -40,11 +52,6 @@ place_line place p = codes "at " ++ decimal place ++ codes " " ++ decimal p.0 ++
 abbrev pub place_lines : Option (List (ℕ × ℕ)) → List ℕ
 place_lines None = []
 place_lines (Some places) = numbered place_line 0 places
-
--- a port, behind a space
-abbrev pub port_text : Option ℕ → List ℕ
-port_text None = codes " -"
-port_text (Some target) = codes " " ++ decimal target
 
 -- a node with its value and its ports
 unfoldable pub node_line : ℕ → Node → List ℕ

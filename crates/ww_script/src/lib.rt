@@ -12,7 +12,7 @@ mod transactions;
 pub use fault::InputFault;
 pub use input::{Input, each_plan_can_be_said, read_input, reading_keeps_ranges};
 pub use outcome::{Outcome, ScriptAnswer};
-pub use scripts::{Kind, Scripts};
+pub use scripts::Scripts;
 pub use text::{outcome_text, refusal_line};
 
 #[cfg(test)]

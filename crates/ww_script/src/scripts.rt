@@ -14,21 +14,13 @@ use serde_json::Value;
 use std::alloc::Global;
 use std::marker::Model;
 use ww_plain::{Graph, MAX_NODES, Node, PORTS, Txn};
+use ww_queue::Kind;
 
 /// How many scripts there are at most.
 const MAX_SCRIPTS: usize = 16;
 
 /// How many transactions a script has at most.
 const MAX_TRANSACTIONS: usize = 10_000;
-
-/// Which rule parts the contexts that want one lock.
-#[derive(Clone, Copy, Debug, PartialEq, Eq, Drop)]
-pub enum Kind {
-    /// An older context wounds a younger one that holds the lock.
-    WoundWait,
-    /// A younger context dies rather than wait for an older one.
-    WaitDie,
-}
 
 /// 1 to 16 scripts of transactions on one graph, and whether the places of the transactions are to be told. Each
 /// transaction's numbers are those of the graph. Contracts see all of it as a plan.

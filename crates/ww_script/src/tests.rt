@@ -1,6 +1,7 @@
 use super::*;
 use std::test::*;
 use ww_plain::{Graph, Node, Reply};
+use ww_queue::Kind;
 
 const HEAD: &str = r#"{"version":1,"kind":"wound-wait","history":false,"nodes":"#;
 
@@ -18,7 +19,8 @@ fn fault(rt: &HostRuntime, pieces: &[&str]) -> Option<InputFault> {
 #[test]
 fn an_input_is_read(rt: HostRuntime) -> Result<(), Fail> {
     let text =
-        r#"{"scripts":[[["add","order",[[0,3],[1,18446744073709551615]]],["mo\u0076e",0,1,7]],[["reverse",1,3,64]]],
+        r#"{"scripts":[[["add","order",[[0,3],[1,18446744073709551615]]],["mo\u0076e",0,1,7]],
+        [["reverse",1,3,64],["get","list",[0,1,0]],["link",1,2,0],["link",0,0,null],["sum",0,1,2],["p\u0065ek",1]]],
         "nodes":[{"value":5,"ports":[null,0,1,null]},{"ports":[null,null,null,null],"value":2,"value":6}],
         "kind":"wait-die","version":2,"version":1,"history":true}"#;
     let Input::Scripts(input) = read_input(rt.alloc(), text.as_bytes())
@@ -37,7 +39,8 @@ fn an_input_is_read(rt: HostRuntime) -> Result<(), Fail> {
     assert_eq!(rt; input.graph.node(1).value, 6);
     assert_eq!(rt;
         format!(in rt.alloc(); "{:?}", input.scripts)?.as_str(),
-        "[[Add(Order, [(0, 3), (1, 18446744073709551615)]), Move(0, 1, 7)], [Reverse(1, 3, 64)]]"
+        "[[Add(Order, [(0, 3), (1, 18446744073709551615)]), Move(0, 1, 7)], \
+        [Reverse(1, 3, 64), Get(List, [0, 1, 0]), Link(1, 2, Some(0)), Link(0, 0, None), Sum(0, 1, 2), Peek(1)]]"
     );
     Ok(())
 }
@@ -183,7 +186,12 @@ fn transactions_are_refused(rt: HostRuntime) {
         ("5", Some(InputFault::BadType)),
         ("[]", Some(InputFault::BadWord)),
         ("[5]", Some(InputFault::BadType)),
-        (r#"["get","list",[0]]"#, Some(InputFault::BadWord)),
+        (r#"["put",1]"#, Some(InputFault::BadWord)),
+        (r#"["get","list"]"#, Some(InputFault::BadWord)),
+        (r#"["get","list",[]]"#, Some(InputFault::BadNumber)),
+        (r#"["get","list",[0,"x"]]"#, Some(InputFault::BadType)),
+        (r#"["get","list",[0,1]]"#, Some(InputFault::BadNumber)),
+        (r#"["get","order",[0,0]]"#, None),
         (r#"["move",99,"x"]"#, Some(InputFault::BadWord)),
         (r#"["move",99,"x",1]"#, Some(InputFault::BadNumber)),
         (r#"["move",0,"x",1]"#, Some(InputFault::BadType)),
@@ -198,6 +206,18 @@ fn transactions_are_refused(rt: HostRuntime) {
         (r#"["add","list",[["x",1]]]"#, Some(InputFault::BadType)),
         (r#"["add","list",[[1,1]]]"#, Some(InputFault::BadNumber)),
         (r#"["add","list",[[0,1],[0,1]]]"#, None),
+        (r#"["link",0,0]"#, Some(InputFault::BadWord)),
+        (r#"["link",1,"x",0]"#, Some(InputFault::BadNumber)),
+        (r#"["link",0,4,"x"]"#, Some(InputFault::BadNumber)),
+        (r#"["link",0,3,"x"]"#, Some(InputFault::BadType)),
+        (r#"["link",0,3,1]"#, Some(InputFault::BadNumber)),
+        (r#"["link",0,3,null]"#, None),
+        (r#"["link",0,3,0]"#, None),
+        (r#"["sum",0,0,65]"#, Some(InputFault::BadNumber)),
+        (r#"["sum",0,0,64]"#, None),
+        (r#"["peek",0,0]"#, Some(InputFault::BadWord)),
+        (r#"["peek",1]"#, Some(InputFault::BadNumber)),
+        (r#"["peek",0]"#, None),
         (r#"["reverse",1,0,1]"#, Some(InputFault::BadNumber)),
         (r#"["reverse",0,4,1]"#, Some(InputFault::BadNumber)),
         (r#"["reverse",0,0,0]"#, Some(InputFault::BadNumber)),
@@ -220,6 +240,10 @@ fn an_outcome_has_its_text(rt: HostRuntime) -> Result<(), Fail> {
         ScriptAnswer::Reply(Reply::Short),
         ScriptAnswer::Reply(Reply::Full),
         ScriptAnswer::Reply(Reply::End(1)),
+        ScriptAnswer::Reply(Reply::Values(vec![in rt.alloc(); 7, 0]?)),
+        ScriptAnswer::Reply(Reply::Was(None)),
+        ScriptAnswer::Reply(Reply::Was(Some(0))),
+        ScriptAnswer::Reply(Reply::Sum(2, 18446744073709551616)),
     ]?;
     let replies = vec![in rt.alloc(); first, second]?;
     let places = vec![in rt.alloc(); (1, 0), (0, 0)]?;
@@ -242,6 +266,7 @@ fn an_outcome_has_its_text(rt: HostRuntime) -> Result<(), Fail> {
     let text = outcome_text(rt.alloc(), &outcome)?;
     let expected =
         "reply 0 0 done\nreply 0 1 moved\nreply 0 2 already 1\nreply 1 0 short\nreply 1 1 full\nreply 1 2 end 1\n\
+        reply 1 3 values 7 0\nreply 1 4 was -\nreply 1 5 was 0\nreply 1 6 sum 2 18446744073709551616\n\
         at 0 1 0\nat 1 0 0\nnode 0 18446744073709551615 - 1 - 0\nnode 1 0 - - - -\n";
     assert_eq!(rt; text.as_slice(), expected.as_bytes());
     Ok(())

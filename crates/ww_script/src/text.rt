@@ -2,21 +2,48 @@ ghost use Rattle.std.specs.Prelude.{◌≡◌, ◌≤◌, ◌++◌, map, string_
 ghost use Rattle.std.specs.List.{flat_map};
 ghost use Rattle.ww_plain.specs.Meaning.{answer_of};
 ghost use Rattle.ww_script.specs.Outcome.{said_of};
-ghost use Rattle.ww_script.specs.Text.{answer_text, said_text, reply_line, numbered, script_lines, place_line, port_text, node_line, outcome_lines, refusal_text};
+ghost use Rattle.ww_script.specs.Text.{spaced, port_text, answer_text, said_text, reply_line, numbered, script_lines, place_line, node_line, outcome_lines, refusal_text};
 
 use crate::outcome::{Outcome, ScriptAnswer};
 use std::alloc::{AllocError, Global};
 use ww_plain::{Graph, Node, Reply};
+
+fn push_values(out: &mut String, values: &[u64]) -> Result<(), AllocError>
+    ensures { OnOk result (string_bytes out.new ≡ string_bytes out.old ++ flat_map spaced values.now) }
+{
+    for value in values {
+        write!(out, " {value}")?;
+    }
+    Ok(())
+}
+
+fn push_port(out: &mut String, port: Option<u8>) -> Result<(), AllocError>
+    ensures { OnOk result (string_bytes out.new ≡ string_bytes out.old ++ port_text port) }
+{
+    match port {
+        None => out.push_str(" -"),
+        Some(target) => write!(out, " {target}"),
+    }
+}
 
 fn push_reply(out: &mut String, reply: &Reply) -> Result<(), AllocError>
     ensures { OnOk result (string_bytes out.new ≡ string_bytes out.old
         ++ answer_text (answer_of reply.now)) }
 {
     match reply {
+        Reply::Values(values) => {
+            out.push_str("values")?;
+            push_values(out, values)
+        }
         Reply::Done => out.push_str("done"),
         Reply::Moved => out.push_str("moved"),
         Reply::Short => out.push_str("short"),
         Reply::Full => out.push_str("full"),
+        Reply::Was(target) => {
+            out.push_str("was")?;
+            push_port(out, *target)
+        }
+        Reply::Sum(count, total) => write!(out, "sum {count} {total}"),
         Reply::End(last) => write!(out, "end {last}"),
     }
 }
@@ -88,10 +115,7 @@ fn push_ports(out: &mut String, ports: &[Option<u8>]) -> Result<(), AllocError>
     ensures { OnOk result (string_bytes out.new ≡ string_bytes out.old ++ flat_map port_text ports.now) }
 {
     for port in ports {
-        match port {
-            None => out.push_str(" -")?,
-            Some(target) => write!(out, " {target}")?,
-        }
+        push_port(out, *port)?;
     }
     Ok(())
 }

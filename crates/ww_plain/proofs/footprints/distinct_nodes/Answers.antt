@@ -1,18 +1,18 @@
-use Rattle.std.proofs.Common.{ℕ, ◌∙◌, sym, ap, map, arith}
+use Rattle.std.proofs.Common.{◌∙◌, sym, ap, map, arith}
 use Rattle.std.proofs.lemmas.List.{take_all}
 use Rattle.ww_plain.specs.Numbers.{distinct_of}
 use Rattle.ww_plain.proofs.FootprintFacts.{few_more, distinct_more}
 use Rattle.ww_plain.proofs.footprints.distinct_nodes.Goals as goal
 
 pub join-requires : goal.join-requires
-join-requires c =
-    omega (arith, c.requires, few_more (λ (pair : ℕ × ℕ). pair.0) c.args.amounts.now c.loop-node.node-index (0, 0) c.loop-node.nodes.items c.loop-node.invariant c.loop-node-test.true)
+join-requires g c =
+    omega (arith, c.requires, few_more g.T.Listed.names c.args.items.now c.loop-item.item-index c.item-item.result c.node.result c.loop-item.nodes.items c.loop-item-test.true c.item-item.is c.node.ensures c.loop-item.invariant)
 
-pub loop-node-preserved : goal.loop-node-preserved
-loop-node-preserved c =
-    let more = distinct_more (λ (pair : ℕ × ℕ). pair.0) c.args.amounts.now c.loop-node.node-index (0, 0) c.loop-node-test.true in
-    rw (c.join.ensures, c.loop-node.invariant) (sym more)
+pub loop-item-preserved : goal.loop-item-preserved
+loop-item-preserved g c =
+    let more = distinct_more g.T.Listed.names c.args.items.now c.loop-item.item-index c.item-item.result c.node.result c.loop-item-test.true c.item-item.is c.node.ensures in
+    rw (c.join.ensures, c.loop-item.invariant) (sym more)
 
 pub returns : goal.returns
-returns c =
-    c.loop-node.invariant ∙ ap (λ pairs. distinct_of (map (λ (pair : ℕ × ℕ). pair.0) pairs)) (take_all c.loop-node.node-index c.args.amounts.now c.loop-node-test.false)
+returns g c =
+    c.loop-item.invariant ∙ ap (λ items. distinct_of (map g.T.Listed.names items)) (take_all c.loop-item.item-index c.args.items.now c.loop-item-test.false)

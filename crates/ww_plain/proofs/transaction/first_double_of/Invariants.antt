@@ -1,6 +1,6 @@
-use Rattle.std.proofs.Common.{take, map, ℕ}
+use Rattle.std.proofs.Common.{take, map}
 use Rattle.ww_plain.specs.Numbers.{AreDifferent}
 use Rattle.ww_plain.proofs.transaction.first_double_of.Given as goal
 
 abbrev pub invariant-loop-i : goal.invariant-loop-i
-invariant-loop-i l = AreDifferent (map (λ (pair : ℕ × ℕ). pair.0) (take l.i l.amounts))
+invariant-loop-i g l = AreDifferent (map g.T.Listed.names (take l.i l.items))

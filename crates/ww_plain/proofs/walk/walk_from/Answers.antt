@@ -3,6 +3,7 @@ use Rattle.ww_plain.specs.Walk.{IsWalk, stop_of}
 use Rattle.ww_plain.proofs.Fronts.{front_of_one, front_more, front_ends}
 use Rattle.ww_plain.proofs.Walks.{only_walk}
 use Rattle.ww_plain.proofs.GraphFacts.{target_is_there}
+use Rattle.ww_plain.proofs.FootprintFacts.{begun_below}
 use Rattle.ww_plain.proofs.walk.walk_from.Goals as goal
 
 pub loop-next-init : goal.loop-next-init
@@ -33,3 +34,6 @@ returns-clause-nodes c = only_walk _ _ _ _ _ (is_walk c)
 pub returns-clause-stop : goal.returns-clause-stop
 returns-clause-stop c =
     c.loop-next.invariant.leads ∙ ap (stop_of c.args.graph.now c.args.port) (only_walk _ _ _ _ _ (is_walk c))
+
+pub returns-clause-there : goal.returns-clause-there
+returns-clause-there c = begun_below _ _ _ _ _ c.requires.graph c.requires.course.starts (is_walk c)

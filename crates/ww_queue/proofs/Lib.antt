@@ -1,0 +1,9 @@
+pub mod Outcomes
+pub mod Places
+pub mod Members
+pub mod Joins
+pub mod Leaves
+pub mod Aheads
+pub mod Deaths
+pub mod Signs
+pub mod Rooms

@@ -1,0 +1,4 @@
+pub mod Entry
+pub mod Queue
+pub mod Rules
+pub mod Laws

@@ -1,0 +1,73 @@
+//! Laws of wait lists and their rules: each function's contract is one.
+
+ghost use Rattle.ww_queue.specs.Laws.{JoinTakesItsPlace, SoloJoinsLast, JoinKeepsEach, JoinKeepsOrder, LeaveTakesOneOut, LeaveKeepsOrder, EachSeatHasRoom, AheadIsFirstContext, WaitDieCondemns, WoundWaitCondemns, OnlyWaitersDie, DeathIsOfOlder, SignsAreDeaths, SignIsWound};
+
+/// Whoever joins stands immediately before the first younger context, else last, and nobody else moves.
+pub fn join_takes_its_place()
+    ensures { JoinTakesItsPlace }
+{}
+
+/// A waiter without a context goes last.
+pub fn solo_joins_last()
+    ensures { SoloJoinsLast }
+{}
+
+/// After a join the list has those that were there and the new one, in the order in which they were.
+pub fn join_keeps_each()
+    ensures { JoinKeepsEach }
+{}
+
+/// A join keeps the contexts in the order of their stamps, and no seat waits twice after it.
+pub fn join_keeps_order()
+    ensures { JoinKeepsOrder }
+{}
+
+/// Whoever leaves is taken out and nobody else moves; where the seat doesn't wait, the list stays.
+pub fn leave_takes_one_out()
+    ensures { LeaveTakesOneOut }
+{}
+
+/// A leave keeps the contexts in order, no seat waits twice after it, and the seat itself no longer waits.
+pub fn leave_keeps_order()
+    ensures { LeaveKeepsOrder }
+{}
+
+/// Where each waiter is another of 16 seats, there is room for a seat that doesn't wait yet.
+pub fn each_seat_has_room()
+    ensures { EachSeatHasRoom }
+{}
+
+/// Who is ahead with a context is the first one in the list, where the seat waits behind that.
+pub fn ahead_is_first_context()
+    ensures { AheadIsFirstContext }
+{}
+
+/// In Wait-Die a waiter has to die exactly where it holds locks and an older owner or a context before it is the cause.
+pub fn wait_die_condemns()
+    ensures { WaitDieCondemns }
+{}
+
+/// In Wound-Wait a waiter has to die exactly where it holds locks and has a sign.
+pub fn wound_wait_condemns()
+    ensures { WoundWaitCondemns }
+{}
+
+/// A seat that doesn't wait doesn't have to die.
+pub fn only_waiters_die()
+    ensures { OnlyWaitersDie }
+{}
+
+/// In Wait-Die a waiter dies of an older context only.
+pub fn death_is_of_older()
+    ensures { DeathIsOfOlder }
+{}
+
+/// In Wait-Die exactly those that have to die are signed, but for the seat inside.
+pub fn signs_are_deaths()
+    ensures { SignsAreDeaths }
+{}
+
+/// In Wound-Wait the owner alone is signed, exactly where it has taken the lock and an older waiter holds locks.
+pub fn sign_is_wound()
+    ensures { SignIsWound }
+{}

@@ -1,0 +1,43 @@
+//! Laws of owner words: each function's contract is one.
+
+ghost use Rattle.ww_word.specs.Laws.{PackingFits, PackingIsInjective, UnpackingIsInverse, ReadingIsUnique, WaitersAddOne, HandingIsSeatAndStamp, HandingTellsPickup, ZeroIsIdle};
+
+/// A valid owner packs to 64 bits.
+pub fn packing_fits()
+    ensures { PackingFits }
+{}
+
+/// No two valid owners pack to one word.
+pub fn packing_is_injective()
+    ensures { PackingIsInjective }
+{}
+
+/// What a valid owner packs to is read as that owner, and what is read packs to its word again.
+pub fn unpacking_is_inverse()
+    ensures { UnpackingIsInverse }
+{}
+
+/// A word is read in one way only.
+pub fn reading_is_unique()
+    ensures { ReadingIsUnique }
+{}
+
+/// Waiters add one to a word that has no flag, and leave the others.
+pub fn waiters_add_one()
+    ensures { WaitersAddOne }
+{}
+
+/// Handing over makes the word of that seat and stamp with the flags of waiters and of a pickup.
+pub fn handing_is_seat_and_stamp()
+    ensures { HandingIsSeatAndStamp }
+{}
+
+/// Of a valid owner the flags of waiters and of a pickup, and no others, tell that the lock was handed over.
+pub fn handing_tells_pickup()
+    ensures { HandingTellsPickup }
+{}
+
+/// The word 0 is the free lock with an empty wait list, and no other owner's.
+pub fn zero_is_idle()
+    ensures { ZeroIsIdle }
+{}

@@ -1,0 +1,10 @@
+//! The owner word of a lock: who owns it and which flags stand, in one number of 64 bits.
+#![tactic(auto)]
+
+pub mod laws;
+mod owner;
+
+pub use owner::{HANDOFF, Owner, PICKUP, WAITERS, pack, unpack};
+
+#[cfg(test)]
+mod tests;
