@@ -4,8 +4,10 @@ use Rattle.std.specs.Io.KnownBytes.{Appends, Keeps, Consumes, IsAtEnd}
 use Rattle.ww_script.specs.declared.fault.InputFault.{InputFault}
 use Rattle.ww_script.specs.declared.fault.InputFault.TheVariants.{NoMemory}
 use Rattle.ww_script.specs.Fault.{number_of}
-use Rattle.ww_script.specs.declared.input.Input.TheVariants.{Scripts}
+use Rattle.ww_script.specs.declared.input.Input.TheVariants.{Scripts, Schedule}
 use Rattle.ww_script.specs.Scripts.{Plan}
+use Rattle.ww_script.specs.Schedules.{Timetable}
+use Rattle.ww_script.specs.Replay.{IsTextOf}
 use Rattle.ww_script.specs.Reading.{reading}
 use Rattle.ww_script.specs.Outcome.{Told, IsOutcome}
 use Rattle.ww_script.specs.Text.{outcome_lines, refusal_text}
@@ -52,6 +54,16 @@ pub record IsOutcomeText (input text : List ℕ) : Type 0 where
   pub outcome : IsOutcome plan told
   pub text_is : text ≡ outcome_lines told
 
+-- the input asks for a schedule to be replayed, and this is the text of its replay
+pub record IsReplayText (input text : List ℕ) : Type 0 where
+  pub timetable : Timetable
+  pub read : reading input ≡ Ok (Schedule timetable)
+  pub text_is : IsTextOf timetable text
+
+-- the text of what the input asks for
+abbrev pub IsTextFor : List ℕ → List ℕ → Type 0
+IsTextFor input text = IsOutcomeText input text ⊎ IsReplayText input text
+
 -- the input has the fault, where it is refused for one
 abbrev pub IsRefusedFor : List ℕ → Refusal → Type 0
 IsRefusedFor input (Input fault) = fault ≢ NoMemory → reading input ≡ Err fault
@@ -76,7 +88,7 @@ pub record IsRead (left rest : Option (List ℕ)) (input : List ℕ) : Type 0 wh
 
 -- what is to be written, and how the run ends where it is
 abbrev pub IsDue : Option (List ℕ) → Option (List ℕ) → Status → List ℕ → Type 0
-IsDue left rest Ended text = (input : List ℕ) × IsRead left rest input × IsOutcomeText input text
+IsDue left rest Ended text = (input : List ℕ) × IsRead left rest input × IsTextFor input text
 IsDue left rest Refused text = (input : List ℕ) × IsRead left rest input × IsRefusalLine input text
 IsDue left rest Stopped text = ConsumesSome most_read left rest × IsStopLine text
 IsDue left rest ReadFailed text = ⊥

@@ -2,14 +2,14 @@ ghost use Rattle.std.specs.Prelude.{◌≡◌, ◌≤◌, OnOk, OnErr, IfOk, IfE
 ghost use Rattle.std.specs.Io.KnownBytes.{Appends};
 ghost use Rattle.ww_run.specs.declared.run.Status.TheVariants.{Ended};
 ghost use Rattle.ww_run.specs.Streams.{AppendsFront};
-ghost use Rattle.ww_run.specs.Run.{IsOutcomeText, IsRefusedFor, refusal_number, status_of, line_of, Writes, Runs};
+ghost use Rattle.ww_run.specs.Run.{IsTextFor, IsRefusedFor, refusal_number, status_of, line_of, Writes, Runs};
 
 use crate::streams::{ReadFault, read_front, write_out};
 use crate::workers::{RunFault, run_scripts};
 use std::alloc::{AllocError, Global};
 use std::io;
 use std::io::{Read, Write};
-use ww_script::{Input, InputFault, outcome_text, read_input, refusal_line};
+use ww_script::{Input, InputFault, outcome_text, read_input, refusal_line, schedule_text};
 
 /// One byte more than an input may have: of a longer one no more needs to be read.
 const MOST: usize = 1_048_577;
@@ -17,7 +17,7 @@ const MOST: usize = 1_048_577;
 /// How a run ended.
 #[derive(Clone, Copy, Debug, PartialEq, Eq)]
 pub enum Status {
-    /// The outcome's text was written.
+    /// The text of an outcome or of a replay was written.
     Ended,
     /// The input has a fault, and its line was written.
     Refused,
@@ -111,9 +111,9 @@ impl Refusal {
     }
 }
 
-/// The text of an outcome of what the input asks for.
+/// The text of what the input asks for: of an outcome of its scripts, or of its schedule's replay.
 fn text_of<H>(rt: &H, alloc: Global, input: &[u8]) -> Result<Vec<u8>, Refusal>
-    ensures ok { IfOk result (λ text. IsOutcomeText input.now text.items) }
+    ensures ok { IfOk result (λ text. IsTextFor input.now text.items) }
     ensures err { IfErr result (IsRefusedFor input.now) }
 {
     match read_input(alloc, input)? {
@@ -121,6 +121,7 @@ fn text_of<H>(rt: &H, alloc: Global, input: &[u8]) -> Result<Vec<u8>, Refusal>
             let outcome = run_scripts(rt, alloc, scripts)?;
             Ok(outcome_text(alloc, &outcome)?)
         }
+        Input::Schedule(schedule) => Ok(schedule_text(alloc, &schedule)?),
     }
 }
 
@@ -155,7 +156,8 @@ fn refuse<W: Write>(writer: &mut W, refusal: Refusal) -> Status
     }
 }
 
-/// Reads an input, runs its scripts, and writes the text of their outcome, or the line that says why there is none.
+/// Reads an input, runs its scripts or replays its schedule, and writes the text of what comes of it, or the line that says
+/// why there is none.
 pub fn run<H, R: Read, W: Write>(rt: &H, alloc: Global, reader: &mut R, writer: &mut W) -> Status
     ensures { Runs (R.remaining reader.old) (R.remaining reader.new) (W.contents writer.old) (W.contents writer.new) result }
 {

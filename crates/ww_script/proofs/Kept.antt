@@ -5,6 +5,8 @@ use Rattle.std.specs.List.{AllByRecursion}
 use Rattle.std.proofs.lemmas.Bool.{ltb-true, leb-true}
 use Rattle.serde_json.specs.Data.{Data}
 use Rattle.serde_json.specs.Find.{as_null}
+use Rattle.ww_model.specs.declared.event.Event.{Event}
+use Rattle.ww_model.specs.declared.event.Event.TheVariants.{Begin, Clear, Fast, FastGive, Guard, Join, Sign, Take, Ask, Give, Die, Unguard, Commit, End}
 use Rattle.ww_plain.specs.declared.node.Node.{Node}
 use Rattle.ww_plain.specs.Graph.{IsNodeOf, IsGraph}
 use Rattle.ww_plain.specs.Transaction.{Transaction, get, add, move, link, sum, reverse, peek, IsCourse, Fits}
@@ -14,8 +16,11 @@ use Rattle.ww_script.specs.declared.input.Input.{Input}
 use Rattle.ww_script.specs.declared.input.Input.TheVariants as input
 use Rattle.ww_script.specs.Parts.{◌>>=◌, each, counted, ranged, is_within, array, below, boolean, number, size, member, only, text}
 use Rattle.ww_script.specs.Transactions.{by_in, get_of, pair_of, pair_in, add_of, move_of, target_in, link_of, course_of, sum_of, reverse_of, peek_of, worded, transaction_from, transaction_in}
-use Rattle.ww_script.specs.Scripts.{Plan, IsPlan, IsScript, kind_in, port_in, ports_in, node_in, graph_in, script_in, scripts_in, plan_in}
-use Rattle.ww_script.specs.Reading.{version_in, input_in, parsed, reading, ReadingKeepsRanges}
+use Rattle.ww_script.specs.Kinds.{kind_in}
+use Rattle.ww_script.specs.Scripts.{Plan, IsPlan, IsScript, port_in, ports_in, node_in, graph_in, script_in, scripts_in, plan_in}
+use Rattle.ww_script.specs.Events.{seat_of, both_of, alone, both, event_with, event_from, event_in}
+use Rattle.ww_script.specs.Schedules.{Timetable, IsThere, AreEvents, IsTimetable, events_in, timetable_in}
+use Rattle.ww_script.specs.Reading.{version_in, as_scripts, as_schedule, has_events, input_in, parsed, reading, IsInput, ReadingKeepsRanges}
 
 -- ---- results
 
@@ -67,7 +72,7 @@ below_kept limit d n e =
     let g = guard_ok (nat_lt a.0 limit) BadNumber a.0 n a.2 in
     subst (λ k. k < limit) g.1 (ltb-true _ _ g.0)
 
-ranged_kept : (low high : ℕ) (d : Data) (n : ℕ) → ranged low high d ≡ Ok n → (low ≤ n) × (n ≤ high)
+pub ranged_kept : (low high : ℕ) (d : Data) (n : ℕ) → ranged low high d ≡ Ok n → (low ≤ n) × (n ≤ high)
 ranged_kept low high d n e =
     let a = bind_ok (number d) (λ k. cond (is_within low high k) (Ok k) (Err BadNumber)) n e in
     let g = guard_ok (is_within low high a.0) BadNumber a.0 n a.2 in
@@ -295,22 +300,120 @@ plan_kept members d plan e =
     let all = scripts_kept (length graph.0) s.0 ss.0 ss.1 in
     subst IsPlan (ok_is made plan ss.2) (record { graph = graph_kept n.0 graph.0 graph.1; some = all.some; few = all.few; each = all.each })
 
+-- ---- events
+
+seat_kept : (seats : ℕ) (ds : List Data) (s : ℕ) → seat_of seats ds ≡ Ok s → s < seats
+seat_kept seats [] s e = absurd cc
+seat_kept seats (a ∷ []) s e = below_kept seats a s e
+seat_kept seats (a ∷ b ∷ ds) s e = absurd cc
+
+-- a seat, and a number below the limit
+abbrev AreBelow : ℕ → ℕ → ℕ × ℕ → Type 0
+AreBelow seats limit p = (p.0 < seats) × (p.1 < limit)
+
+both_kept : (seats limit : ℕ) (ds : List Data) (p : ℕ × ℕ) → both_of seats limit ds ≡ Ok p → AreBelow seats limit p
+both_kept seats limit [] p e = absurd cc
+both_kept seats limit (a ∷ []) p e = absurd cc
+both_kept seats limit (a ∷ b ∷ []) p e =
+    let s = bind_ok (below seats a) _ p e in
+    let n = bind_ok (below limit b) (λ n. let r : Result (ℕ × ℕ) InputFault = Ok (s.0, n) in r) p s.2 in
+    let made : ℕ × ℕ = (s.0, n.0) in
+    subst (AreBelow seats limit) (ok_is made p n.2) (below_kept seats a s.0 s.1, below_kept limit b n.0 n.1)
+both_kept seats limit (a ∷ b ∷ c ∷ ds) p e = absurd cc
+
+-- what every event of a seat keeps, one that is read keeps
+alone_kept : (P : Event → Type 0) (event : ℕ → Event) (seats : ℕ) (ds : List Data) (x : Event) → ((s : ℕ) → s < seats → P (event s)) → alone event seats ds ≡ Ok x → P x
+alone_kept P event seats ds x h e =
+    let s = bind_ok (seat_of seats ds) (λ s. done (event s)) x e in
+    subst P (ok_is (event s.0) x s.2) (h s.0 (seat_kept seats ds s.0 s.1))
+
+-- the same of events of a seat and of a number below the limit
+pair_event_kept : (P : Event → Type 0) (event : ℕ → ℕ → Event) (seats limit : ℕ) (ds : List Data) (x : Event) → ((s n : ℕ) → s < seats → n < limit → P (event s n)) → both event seats limit ds ≡ Ok x → P x
+pair_event_kept P event seats limit ds x h e =
+    let p = bind_ok (both_of seats limit ds) (λ (p : ℕ × ℕ). done (event p.0 p.1)) x e in
+    let b = both_kept seats limit ds p.0 p.1 in
+    subst P (ok_is (event p.0.0 p.0.1) x p.2) (h p.0.0 p.0.1 b.0 b.1)
+
+event_with_kept : (seats locks : ℕ) (word : List ℕ) (ds : List Data) (x : Event) → event_with seats locks word ds ≡ Ok x → IsThere seats locks x
+unfolding event_with
+event_with_kept seats locks word ds x e =
+    let P = IsThere seats locks in
+    either_kept P (bytes_eq word (codes "begin")) _ _ x (alone_kept P Begin seats ds x (λ s a. a))
+    (either_kept P (bytes_eq word (codes "clear")) _ _ x (alone_kept P Clear seats ds x (λ s a. a))
+    (either_kept P (bytes_eq word (codes "fast")) _ _ x (pair_event_kept P Fast seats locks ds x (λ s n a b. (a, b)))
+    (either_kept P (bytes_eq word (codes "fast-give")) _ _ x (pair_event_kept P FastGive seats locks ds x (λ s n a b. (a, b)))
+    (either_kept P (bytes_eq word (codes "guard")) _ _ x (pair_event_kept P Guard seats locks ds x (λ s n a b. (a, b)))
+    (either_kept P (bytes_eq word (codes "join")) _ _ x (pair_event_kept P Join seats locks ds x (λ s n a b. (a, b)))
+    (either_kept P (bytes_eq word (codes "sign")) _ _ x (pair_event_kept P Sign seats seats ds x (λ s v a b. (a, b)))
+    (either_kept P (bytes_eq word (codes "take")) _ _ x (pair_event_kept P Take seats locks ds x (λ s n a b. (a, b)))
+    (either_kept P (bytes_eq word (codes "ask")) _ _ x (pair_event_kept P Ask seats locks ds x (λ s n a b. (a, b)))
+    (either_kept P (bytes_eq word (codes "give")) _ _ x (pair_event_kept P Give seats locks ds x (λ s n a b. (a, b)))
+    (either_kept P (bytes_eq word (codes "die")) _ _ x (pair_event_kept P Die seats locks ds x (λ s n a b. (a, b)))
+    (either_kept P (bytes_eq word (codes "unguard")) _ _ x (pair_event_kept P Unguard seats locks ds x (λ s n a b. (a, b)))
+    (either_kept P (bytes_eq word (codes "commit")) _ _ x (alone_kept P Commit seats ds x (λ s a. a))
+    (either_kept P (bytes_eq word (codes "end")) _ _ x (alone_kept P End seats ds x (λ s a. a)) (λ none. absurd cc)))))))))))))) e
+
+event_from_kept : (seats locks : ℕ) (ds : List Data) (x : Event) → event_from seats locks ds ≡ Ok x → IsThere seats locks x
+event_from_kept seats locks [] x e = absurd cc
+event_from_kept seats locks (d ∷ ds) x e =
+    let w = bind_ok (text d) (λ word. event_with seats locks word ds) x e in
+    event_with_kept seats locks w.0 ds x w.2
+
+event_kept : (seats locks : ℕ) (d : Data) (x : Event) → event_in seats locks d ≡ Ok x → IsThere seats locks x
+unfolding event_in
+event_kept seats locks d x e =
+    let a = bind_ok (array d) (event_from seats locks) x e in
+    event_from_kept seats locks a.0 x a.2
+
+-- ---- schedules
+
+pub events_kept : (seats locks : ℕ) (d : Data) (es : List Event) → events_in seats locks d ≡ Ok es → AreEvents seats locks es
+unfolding events_in
+events_kept seats locks d es e =
+    let a = bind_ok (counted 0 10000 d) (λ ds. each (event_in seats locks) ds) es e in
+    let c = counted_kept 0 10000 d a.0 a.1 in
+    let p = each_kept (IsThere seats locks) (event_in seats locks) a.0 es (event_kept seats locks) a.2 in
+    record { few = omega (arith, c.1, p.1); there = p.0 }
+
+timetable_kept : (members : ℕ) (d : Data) (t : Timetable) → timetable_in members d ≡ Ok t → IsTimetable t
+unfolding timetable_in
+timetable_kept members d t e =
+    let k = bind_ok (member (codes "kind") d) _ t e in
+    let l = bind_ok (member (codes "locks") d) _ t k.2 in
+    let s = bind_ok (member (codes "seats") d) _ t l.2 in
+    let v = bind_ok (member (codes "events") d) _ t s.2 in
+    let o = bind_ok (only 5 members) _ t v.2 in
+    let kind = bind_ok (kind_in k.0) _ t o.2 in
+    let locks = bind_ok (ranged 1 64 l.0) _ t kind.2 in
+    let seats = bind_ok (ranged 1 16 s.0) _ t locks.2 in
+    let es = bind_ok (events_in seats.0 locks.0 v.0) (λ (es : List Event). let r : Result Timetable InputFault = Ok (record { kind = kind.0; locks = locks.0; seats = seats.0; events = es }) in r) t seats.2 in
+    let made : Timetable = record { kind = kind.0; locks = locks.0; seats = seats.0; events = es.0 } in
+    let some_locks = ranged_kept 1 64 l.0 locks.0 locks.1 in
+    let some_seats = ranged_kept 1 16 s.0 seats.0 seats.1 in
+    subst IsTimetable (ok_is made t es.2) (record {
+      some_lock = some_locks.0;
+      few_locks = some_locks.1;
+      some_seat = some_seats.0;
+      few_seats = some_seats.1;
+      events = events_kept seats.0 locks.0 v.0 es.0 es.1;
+    })
+
 -- ---- inputs
 
-scripts_are : (p q : Plan) → done (input.Scripts p) ≡ done (input.Scripts q) → p ≡ q
-scripts_are p q e = cc
-
-input_kept : (d : Data) (plan : Plan) → input_in d ≡ Ok (input.Scripts plan) → IsPlan plan
+input_kept : (d : Data) (i : Input) → input_in d ≡ Ok i → IsInput i
 unfolding input_in
-input_kept d plan e =
-    let m = bind_ok (size d) _ (input.Scripts plan) e in
-    let v = bind_ok (version_in d) _ (input.Scripts plan) m.2 in
-    let p = bind_ok (plan_in m.0 d) (λ (p : Plan). let r : Result Input InputFault = Ok (input.Scripts p) in r) (input.Scripts plan) v.2 in
-    subst IsPlan (scripts_are p.0 plan p.2) (plan_kept m.0 d p.0 p.1)
+input_kept d i e =
+    let m = bind_ok (size d) _ i e in
+    let v = bind_ok (version_in d) _ i m.2 in
+    either_kept IsInput (has_events d) (as_schedule m.0 d) (as_scripts m.0 d) i
+    (λ is. let t = bind_ok (timetable_in m.0 d) (λ (t : Timetable). done (input.Schedule t)) i is in
+    subst IsInput (ok_is (input.Schedule t.0) i t.2) (timetable_kept m.0 d t.0 t.1))
+    (λ is. let p = bind_ok (plan_in m.0 d) (λ (p : Plan). done (input.Scripts p)) i is in
+    subst IsInput (ok_is (input.Scripts p.0) i p.2) (plan_kept m.0 d p.0 p.1)) v.2
 
 pub reading_kept : ReadingKeepsRanges
 unfolding reading
-reading_kept bytes plan e =
-    either_kept (λ (i : Input). input.Scripts plan ≡ i → IsPlan plan) (nat_lt 1048576 (length bytes)) (Err TooLong) (parsed bytes >>= input_in) (input.Scripts plan)
+reading_kept bytes i e =
+    either_kept IsInput (nat_lt 1048576 (length bytes)) (Err TooLong) (parsed bytes >>= input_in) i
     (λ long. absurd cc)
-    (λ short. λ same. let p = bind_ok (parsed bytes) input_in (input.Scripts plan) short in input_kept p.0 plan p.2) e refl
+    (λ short. let p = bind_ok (parsed bytes) input_in i short in input_kept p.0 i p.2) e

@@ -4,3 +4,4 @@ pub mod Parsed
 pub mod Kept
 pub mod Said
 pub mod Numbered
+pub mod Replays

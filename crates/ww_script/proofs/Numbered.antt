@@ -12,13 +12,13 @@ numbered_push line start (y ∷ ys) x k e =
     ap (λ r. line start y ++ r) later ∙ sym (append_assoc (line start y) (numbered line (start + 1) ys) (line k x))
 
 -- one line more
-numbered_more : {A : Type 0} (line : ℕ → A → List ℕ) (front more : List A) (i : ℕ) (x : A) (old out new : List ℕ) → length front ≡ i → more ≡ front ++ x ∷ []
+pub numbered_more : {A : Type 0} (line : ℕ → A → List ℕ) (front more : List A) (i : ℕ) (x : A) (old out new : List ℕ) → length front ≡ i → more ≡ front ++ x ∷ []
     → out ≡ old ++ numbered line 0 front → new ≡ out ++ line i x → new ≡ old ++ numbered line 0 more
 numbered_more line front more i x old out new long is before pushed =
     let line_more : numbered line 0 more ≡ numbered line 0 front ++ line i x = ap (numbered line 0) is ∙ numbered_push line 0 front x i (omega arith) in
     pushed ∙ ap (λ o. o ++ line i x) before ∙ append_assoc old (numbered line 0 front) (line i x) ∙ ap (λ r. old ++ r) (sym line_more)
 
-length_front : {A : Type 0} (xs : List A) (i : ℕ) → i < length xs → length (take i xs) ≡ i
+pub length_front : {A : Type 0} (xs : List A) (i : ℕ) → i < length xs → length (take i xs) ≡ i
 length_front xs i lt = length-take-le i xs (omega arith)
 
 -- one line more, of the item at i

@@ -1,10 +1,12 @@
--- What a plan is said by is read as it.
+-- What an input is said by is read as it.
 use Rattle.std.proofs.Common.{◌≡◌, ℕ, suc, ◌<◌, ◌≤◌, true, cond, List, [], ◌∷◌, length, map, Option, Some, None, Result, Ok, Err, refl, ap, ◌∙◌, arith}
 use Rattle.std.specs.Prelude.{IfSome}
 use Rattle.std.specs.List.{AllByRecursion}
 use Rattle.std.proofs.lemmas.Bool.{lt-ltb, le-leb}
 use Rattle.serde_json.specs.Data.{Data, string}
 use Rattle.serde_json.specs.View.{items_of}
+use Rattle.ww_model.specs.declared.event.Event.{Event}
+use Rattle.ww_model.specs.declared.event.Event.TheVariants.{Begin, Clear, Fast, FastGive, Guard, Join, Sign, Take, Ask, Give, Die, Unguard, Commit, End}
 use Rattle.ww_plain.specs.declared.node.Node.{Node}
 use Rattle.ww_plain.specs.declared.transaction.By.{By}
 use Rattle.ww_plain.specs.declared.transaction.By.TheVariants as by
@@ -16,9 +18,13 @@ use Rattle.ww_queue.specs.declared.kind.Kind.{Kind}
 use Rattle.ww_queue.specs.declared.kind.Kind.TheVariants.{WoundWait, WaitDie}
 use Rattle.ww_script.specs.Parts.{◌>>=◌, list_of, each, counted, ranged, below, is_within}
 use Rattle.ww_script.specs.Transactions.{by_in, get_of, pair_in, add_of, move_of, target_in, link_of, course_of, sum_of, reverse_of, peek_of, transaction_in}
-use Rattle.ww_script.specs.Scripts.{IsScript, kind_in, port_in, ports_in, node_in, graph_in, script_in, scripts_in, plan_in}
+use Rattle.ww_script.specs.Kinds.{kind_in}
+use Rattle.ww_script.specs.Scripts.{Plan, IsPlan, IsScript, port_in, ports_in, node_in, graph_in, script_in, scripts_in, plan_in}
+use Rattle.ww_script.specs.declared.input.Input.TheVariants as input
+use Rattle.ww_script.specs.Events.{alone, both, event_with, event_in}
+use Rattle.ww_script.specs.Schedules.{Timetable, IsThere, AreEvents, IsTimetable, events_in, timetable_in}
 use Rattle.ww_script.specs.Reading.{version_in, input_in}
-use Rattle.ww_script.specs.Spelling.{list, whole, kind_word, by_word, target_data, node_data, pair_data, transaction_data, script_data, HasPorts, EachPlanCanBeSaid}
+use Rattle.ww_script.specs.Spelling.{list, whole, kind_word, by_word, target_data, node_data, pair_data, transaction_data, script_data, plan_data, event_data, timetable_data, HasPorts, EachInputCanBeSaid}
 
 list_of-items_of : (ds : List Data) → list_of (items_of ds) ≡ ds
 list_of-items_of [] = refl
@@ -161,6 +167,38 @@ scripts_said count ss some few all =
     let most : length (map script_data ss) ≤ 16 = omega arith in
     rw (counted_said 1 16 (map script_data ss) least most, each_said (IsScript count) script_data (script_in count) ss (script_said count) all) refl
 
+-- ---- schedules
+
+alone_said : (event : ℕ → Event) (seats s : ℕ) → s < seats → alone event seats (whole s ∷ []) ≡ Ok (event s)
+alone_said event seats s lt = rw (below_said seats s lt) refl
+
+both_said : (event : ℕ → ℕ → Event) (seats limit s n : ℕ) → (s < seats) × (n < limit) → both event seats limit (whole s ∷ whole n ∷ []) ≡ Ok (event s n)
+both_said event seats limit s n lt = rw (below_said seats s lt.0, below_said limit n lt.1) refl
+
+event_said : (seats locks : ℕ) (e : Event) → IsThere seats locks e → event_in seats locks (event_data e) ≡ Ok e
+unfolding event_in event_with
+event_said seats locks (Begin s) there = alone_said Begin seats s there
+event_said seats locks (Clear s) there = alone_said Clear seats s there
+event_said seats locks (Fast s n) there = both_said Fast seats locks s n there
+event_said seats locks (FastGive s n) there = both_said FastGive seats locks s n there
+event_said seats locks (Guard s n) there = both_said Guard seats locks s n there
+event_said seats locks (Join s n) there = both_said Join seats locks s n there
+event_said seats locks (Sign s v) there = both_said Sign seats seats s v there
+event_said seats locks (Take s n) there = both_said Take seats locks s n there
+event_said seats locks (Ask s n) there = both_said Ask seats locks s n there
+event_said seats locks (Give s n) there = both_said Give seats locks s n there
+event_said seats locks (Die s n) there = both_said Die seats locks s n there
+event_said seats locks (Unguard s n) there = both_said Unguard seats locks s n there
+event_said seats locks (Commit s) there = alone_said Commit seats s there
+event_said seats locks (End s) there = alone_said End seats s there
+
+events_said : (seats locks : ℕ) (es : List Event) → AreEvents seats locks es → events_in seats locks (list (map event_data es)) ≡ Ok es
+unfolding events_in
+events_said seats locks es are =
+    let n = length-map event_data es in
+    let most : length (map event_data es) ≤ 10000 = omega (arith, are.few) in
+    rw (counted_said 0 10000 (map event_data es) (omega arith) most, each_said (IsThere seats locks) event_data (event_in seats locks) es (event_said seats locks) are.there) refl
+
 -- ---- inputs
 
 kind_said : (kind : Kind) → kind_in (string (kind_word kind)) ≡ Ok kind
@@ -168,7 +206,16 @@ unfolding kind_in
 kind_said WoundWait = refl
 kind_said WaitDie = refl
 
-pub plan_said : EachPlanCanBeSaid
+plan_said : (plan : Plan) → IsPlan plan → AllByRecursion HasPorts plan.graph → input_in (plan_data plan) ≡ Ok (input.Scripts plan)
 unfolding input_in version_in plan_in
 plan_said plan is four =
     rw (kind_said plan.kind, graph_said plan.graph is.graph four, scripts_said (length plan.graph) plan.scripts is.some is.few is.each) refl
+
+timetable_said : (t : Timetable) → IsTimetable t → input_in (timetable_data t) ≡ Ok (input.Schedule t)
+unfolding input_in version_in timetable_in
+timetable_said t is =
+    rw (kind_said t.kind, ranged_said 1 64 t.locks is.some_lock is.few_locks, ranged_said 1 16 t.seats is.some_seat is.few_seats, events_said t.seats t.locks t.events is.events) refl
+
+pub input_said : EachInputCanBeSaid
+input_said (input.Scripts plan) is = plan_said plan is.0 is.1
+input_said (input.Schedule timetable) is = timetable_said timetable is

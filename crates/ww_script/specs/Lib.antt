@@ -1,8 +1,13 @@
 pub mod Fault
 pub mod Parts
+pub mod Kinds
 pub mod Transactions
 pub mod Scripts
+pub mod Events
+pub mod Schedules
 pub mod Reading
 pub mod Spelling
 pub mod Outcome
 pub mod Text
+pub mod ScheduleText
+pub mod Replay

@@ -1,15 +1,16 @@
 -- What an input says, or its first fault.
-use Rattle.std.specs.Prelude.{◌≡◌, ℕ, List, length, codes, Bool, false, nat_lt, ◌==◌, Option, Some, None, Result, Ok, Err, ok_or, if◌then◌else◌}
+use Rattle.std.specs.Prelude.{◌≡◌, ℕ, List, length, codes, Bool, false, nat_lt, ◌==◌, Option, Some, None, is_some, Result, Ok, Err, ok_or, if◌then◌else◌}
 use Rattle.std.specs.Str.{is_utf8}
 use Rattle.serde_json.specs.Data.{Data}
-use Rattle.serde_json.specs.Find.{as_number, as_u64}
+use Rattle.serde_json.specs.Find.{get, as_number, as_u64}
 use Rattle.serde_json.specs.Read.{read}
 use Rattle.ww_script.specs.declared.fault.InputFault.{InputFault}
 use Rattle.ww_script.specs.declared.fault.InputFault.TheVariants.{NotJson, BadVersion, TooLong, BadType}
 use Rattle.ww_script.specs.declared.input.Input.{Input}
 use Rattle.ww_script.specs.declared.input.Input.TheVariants as input
 use Rattle.ww_script.specs.Parts.{◌>>=◌, size, member}
-use Rattle.ww_script.specs.Scripts.{Plan, IsPlan, plan_in}
+use Rattle.ww_script.specs.Scripts.{IsPlan, plan_in}
+use Rattle.ww_script.specs.Schedules.{IsTimetable, timetable_in}
 
 -- the number is there, and is 1
 abbrev pub is_one : Option ℕ → Bool
@@ -23,13 +24,28 @@ version_in d = do
   n ← ok_or (as_number version) BadType
   if is_one (as_u64 n) then Ok tt else Err BadVersion
 
--- an object: its version first, and then the rest
+-- what an object says as scripts
+abbrev pub as_scripts : ℕ → Data → Result Input InputFault
+as_scripts members d = do
+  plan ← plan_in members d
+  Ok (input.Scripts plan)
+
+-- what an object says as a schedule
+abbrev pub as_schedule : ℕ → Data → Result Input InputFault
+as_schedule members d = do
+  timetable ← timetable_in members d
+  Ok (input.Schedule timetable)
+
+-- the object has events
+abbrev pub has_events : Data → Bool
+has_events d = is_some (get (codes "events") d)
+
+-- an object: its version first, and then the rest, which is a schedule where there are events
 unfoldable pub input_in : Data → Result Input InputFault
 input_in d = do
   members ← size d
   version ← version_in d
-  plan ← plan_in members d
-  Ok (input.Scripts plan)
+  if has_events d then as_schedule members d else as_scripts members d
 
 -- the value, if the text is UTF-8 and one was found
 abbrev pub value_if : Bool → Option Data → Result Data InputFault
@@ -43,6 +59,11 @@ parsed bytes = value_if (is_utf8 bytes) (read bytes)
 unfoldable pub reading : List ℕ → Result Input InputFault
 reading bytes = if nat_lt 1048576 (length bytes) then Err TooLong else (parsed bytes >>= input_in)
 
+-- the input keeps to the ranges
+abbrev pub IsInput : Input → Type 0
+IsInput (input.Scripts plan) = IsPlan plan
+IsInput (input.Schedule timetable) = IsTimetable timetable
+
 -- whatever is read keeps to the ranges
 abbrev pub ReadingKeepsRanges : Type 0
-ReadingKeepsRanges = (bytes : List ℕ) (plan : Plan) → reading bytes ≡ Ok (input.Scripts plan) → IsPlan plan
+ReadingKeepsRanges = (bytes : List ℕ) (i : Input) → reading bytes ≡ Ok i → IsInput i

@@ -1,5 +1,5 @@
 -- Scripts, what they keep to, and how an input writes them.
-use Rattle.std.specs.Prelude.{ℕ, ◌≤◌, List, length, map, codes, bytes_eq, nat_lt, Bool, Option, Some, None, is_some, Result, Ok, Err, if◌then◌else◌}
+use Rattle.std.specs.Prelude.{ℕ, ◌≤◌, List, length, map, codes, nat_lt, Bool, Option, Some, None, is_some, Result, Ok, Err, if◌then◌else◌}
 use Rattle.std.specs.List.{AllByRecursion}
 use Rattle.std.specs.Global.{Vec}
 use Rattle.serde_json.specs.Data.{Data}
@@ -11,10 +11,10 @@ use Rattle.ww_plain.specs.declared.transaction.Txn.{Txn}
 use Rattle.ww_plain.specs.Graph.{IsGraph}
 use Rattle.ww_plain.specs.Transaction.{Transaction, transaction_of, Fits}
 use Rattle.ww_queue.specs.declared.kind.Kind.{Kind}
-use Rattle.ww_queue.specs.declared.kind.Kind.TheVariants.{WoundWait, WaitDie}
 use Rattle.ww_script.specs.declared.fault.InputFault.{InputFault}
-use Rattle.ww_script.specs.declared.fault.InputFault.TheVariants.{BadGraph, BadWord}
-use Rattle.ww_script.specs.Parts.{◌>>=◌, size, member, only, boolean, text, number, below, counted, each}
+use Rattle.ww_script.specs.declared.fault.InputFault.TheVariants.{BadGraph}
+use Rattle.ww_script.specs.Parts.{◌>>=◌, size, member, only, boolean, number, below, counted, each}
+use Rattle.ww_script.specs.Kinds.{kind_in}
 use Rattle.ww_script.specs.Transactions.{transaction_in}
 
 -- `Scripts`, with lists where they have vectors
@@ -43,13 +43,6 @@ pub record IsPlan (plan : Plan) : Type 0 where
   pub some : 1 ≤ length plan.scripts
   pub few : length plan.scripts ≤ 16
   pub each : AllByRecursion (IsScript (length plan.graph)) plan.scripts
-
--- a word for the kind
-unfoldable pub kind_in : Data → Result Kind InputFault
-kind_in d = do
-  word ← text d
-  if bytes_eq word (codes "wound-wait") then Ok WoundWait else
-      (if bytes_eq word (codes "wait-die") then Ok WaitDie else Err BadWord)
 
 -- null, or one of so many nodes
 unfoldable pub port_in : ℕ → Data → Result (Option ℕ) InputFault

@@ -1,4 +1,4 @@
--- How an input says a plan.
+-- How an input says scripts, and how it says a schedule.
 use Rattle.std.specs.Prelude.{◌≡◌, ℕ, List, [], ◌∷◌, length, map, codes, Option, Some, None, Ok}
 use Rattle.std.specs.List.{AllByRecursion}
 use Rattle.serde_json.specs.Data.{Data, null, boolean, number, string, array, object, unsigned, no_members, member}
@@ -10,8 +10,12 @@ use Rattle.ww_plain.specs.declared.transaction.By.TheVariants as by
 use Rattle.ww_plain.specs.Transaction.{Transaction, get, add, move, link, sum, reverse, peek}
 use Rattle.ww_queue.specs.declared.kind.Kind.{Kind}
 use Rattle.ww_queue.specs.declared.kind.Kind.TheVariants.{WoundWait, WaitDie}
+use Rattle.ww_model.specs.declared.event.Event.{Event}
+use Rattle.ww_model.specs.declared.event.Event.TheVariants.{Begin, Clear, Fast, FastGive, Guard, Join, Sign, Take, Ask, Give, Die, Unguard, Commit, End}
+use Rattle.ww_script.specs.declared.input.Input.{Input}
 use Rattle.ww_script.specs.declared.input.Input.TheVariants as input
 use Rattle.ww_script.specs.Scripts.{Plan, IsPlan}
+use Rattle.ww_script.specs.Schedules.{Timetable, IsTimetable}
 use Rattle.ww_script.specs.Reading.{input_in}
 
 -- an array of these values
@@ -65,7 +69,7 @@ transaction_data (peek node) = list (string (codes "peek") ∷ whole node ∷ []
 abbrev pub script_data : List Transaction → Data
 script_data script = list (map transaction_data script)
 
--- the value of an input, with the keys in the order in which an object holds them
+-- the value of an input of scripts, with the keys in the order in which an object holds them
 abbrev pub plan_data : Plan → Data
 plan_data plan =
     object (member (codes "history") (boolean plan.history)
@@ -74,11 +78,50 @@ plan_data plan =
     (member (codes "scripts") (list (map script_data plan.scripts))
     (member (codes "version") (whole 1) no_members)))))
 
+-- a word and its numbers
+abbrev pub said_with : List ℕ → List ℕ → Data
+said_with word numbers = list (string word ∷ map whole numbers)
+
+-- an event, with its word first
+abbrev pub event_data : Event → Data
+event_data (Begin s) = said_with (codes "begin") (s ∷ [])
+event_data (Clear s) = said_with (codes "clear") (s ∷ [])
+event_data (Fast s n) = said_with (codes "fast") (s ∷ n ∷ [])
+event_data (FastGive s n) = said_with (codes "fast-give") (s ∷ n ∷ [])
+event_data (Guard s n) = said_with (codes "guard") (s ∷ n ∷ [])
+event_data (Join s n) = said_with (codes "join") (s ∷ n ∷ [])
+event_data (Sign s v) = said_with (codes "sign") (s ∷ v ∷ [])
+event_data (Take s n) = said_with (codes "take") (s ∷ n ∷ [])
+event_data (Ask s n) = said_with (codes "ask") (s ∷ n ∷ [])
+event_data (Give s n) = said_with (codes "give") (s ∷ n ∷ [])
+event_data (Die s n) = said_with (codes "die") (s ∷ n ∷ [])
+event_data (Unguard s n) = said_with (codes "unguard") (s ∷ n ∷ [])
+event_data (Commit s) = said_with (codes "commit") (s ∷ [])
+event_data (End s) = said_with (codes "end") (s ∷ [])
+
+-- the value of a schedule's input, with the keys in the order in which an object holds them
+abbrev pub timetable_data : Timetable → Data
+timetable_data t =
+    object (member (codes "events") (list (map event_data t.events))
+    (member (codes "kind") (string (kind_word t.kind))
+    (member (codes "locks") (whole t.locks)
+    (member (codes "seats") (whole t.seats)
+    (member (codes "version") (whole 1) no_members)))))
+
+-- the value of an input
+abbrev pub input_data : Input → Data
+input_data (input.Scripts plan) = plan_data plan
+input_data (input.Schedule timetable) = timetable_data timetable
+
 -- the node has four ports
 abbrev pub HasPorts : Node → Type 0
 HasPorts node = length node.ports ≡ PORTS
 
--- each plan that keeps to the ranges, on nodes of four ports, can be said, and is read as it is
-abbrev pub EachPlanCanBeSaid : Type 0
-EachPlanCanBeSaid =
-    (plan : Plan) → IsPlan plan → AllByRecursion HasPorts plan.graph → input_in (plan_data plan) ≡ Ok (input.Scripts plan)
+-- the input keeps to the ranges, and its nodes have four ports
+abbrev pub IsSayable : Input → Type 0
+IsSayable (input.Scripts plan) = IsPlan plan × AllByRecursion HasPorts plan.graph
+IsSayable (input.Schedule timetable) = IsTimetable timetable
+
+-- each input that keeps to the ranges, with nodes of four ports, can be said, and is read as it is
+abbrev pub EachInputCanBeSaid : Type 0
+EachInputCanBeSaid = (i : Input) → IsSayable i → input_in (input_data i) ≡ Ok i

@@ -9,10 +9,10 @@ use Rattle.ww_script.specs.Outcome.{Said, answered, already, Told}
 abbrev pub spaced : ℕ → List ℕ
 spaced n = codes " " ++ decimal n
 
--- a port, behind a space
-abbrev pub port_text : Option ℕ → List ℕ
-port_text None = codes " -"
-port_text (Some target) = spaced target
+-- a number behind a space, or a dash where there is none
+abbrev pub spaced_or_dash : Option ℕ → List ℕ
+spaced_or_dash None = codes " -"
+spaced_or_dash (Some n) = spaced n
 
 -- what a reply says
 abbrev pub answer_text : Answer → List ℕ
@@ -21,7 +21,7 @@ answer_text done = codes "done"
 answer_text moved = codes "moved"
 answer_text short = codes "short"
 answer_text full = codes "full"
-answer_text (was target) = codes "was" ++ port_text target
+answer_text (was target) = codes "was" ++ spaced_or_dash target
 answer_text (summed count total) = codes "sum " ++ decimal count ++ codes " " ++ decimal total
 answer_text (ended last) = codes "end " ++ decimal last
 
@@ -56,7 +56,7 @@ place_lines (Some places) = numbered place_line 0 places
 -- a node with its value and its ports
 unfoldable pub node_line : ℕ → Node → List ℕ
 node_line index node =
-    codes "node " ++ decimal index ++ codes " " ++ decimal node.value ++ flat_map port_text node.ports ++ codes "\n"
+    codes "node " ++ decimal index ++ codes " " ++ decimal node.value ++ flat_map spaced_or_dash node.ports ++ codes "\n"
 
 -- the answers, the places if they are told, and the graph
 unfoldable pub outcome_lines : Told → List ℕ

@@ -2,10 +2,11 @@ ghost use Rattle.std.specs.Prelude.{◌≡◌, ◌<◌, length};
 ghost use Rattle.serde_json.specs.View.{view};
 ghost use Rattle.ww_script.specs.Parts.{Gives};
 ghost use Rattle.ww_script.specs.Reading.{version_in, input_in, parsed, reading, ReadingKeepsRanges};
-ghost use Rattle.ww_script.specs.Spelling.{EachPlanCanBeSaid};
+ghost use Rattle.ww_script.specs.Spelling.{EachInputCanBeSaid};
 
 use crate::fault::InputFault;
 use crate::parts::{member_of, size_of};
+use crate::schedules::{Schedule, schedule_of};
 use crate::scripts::{Scripts, scripts_of};
 use serde_json::{Category, Value};
 use std::alloc::Global;
@@ -16,7 +17,10 @@ const MAX_BYTES: usize = 1_048_576;
 /// What an input asks for.
 #[derive(Debug, Drop)]
 pub enum Input {
+    /// Scripts of transactions, to be run.
     Scripts(Scripts),
+    /// Events of the core, to be replayed.
+    Schedule(Schedule),
 }
 
 fn value_of(alloc: Global, bytes: &[u8]) -> Result<Value, InputFault>
@@ -51,8 +55,13 @@ fn input_of(alloc: Global, value: &Value) -> Result<Input, InputFault>
 {
     let members = size_of(value)?;
     version_of(value)?;
-    let scripts = scripts_of(alloc, members, value)?;
-    Ok(Input::Scripts(scripts))
+    if value.get("events").is_some() {
+        let schedule = schedule_of(alloc, members, value)?;
+        Ok(Input::Schedule(schedule))
+    } else {
+        let scripts = scripts_of(alloc, members, value)?;
+        Ok(Input::Scripts(scripts))
+    }
 }
 
 /// Reads an input, or answers its first fault.
@@ -74,6 +83,6 @@ pub fn reading_keeps_ranges()
 {}
 
 /// A law of the definition by which [`read_input`] answers: whatever keeps to the ranges can be said in an input.
-pub fn each_plan_can_be_said()
-    ensures { EachPlanCanBeSaid }
+pub fn each_input_can_be_said()
+    ensures { EachInputCanBeSaid }
 {}

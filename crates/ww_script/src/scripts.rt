@@ -3,12 +3,11 @@ ghost use Rattle.serde_json.specs.View.{view};
 ghost use Rattle.ww_plain.specs.Transaction.{transaction_of};
 ghost use Rattle.ww_script.specs.Parts.{Gives, each};
 ghost use Rattle.ww_script.specs.Transactions.{transaction_in};
-ghost use Rattle.ww_script.specs.Scripts.{script_lists, kind_in, port_in, ports_in, node_in, graph_in, script_in, scripts_in, plan_in};
+ghost use Rattle.ww_script.specs.Scripts.{script_lists, port_in, ports_in, node_in, graph_in, script_in, scripts_in, plan_in};
 
 use crate::fault::InputFault;
-use crate::parts::{
-    below_of, bool_of, counted_of, member_of, number_of, only_of, size_of, text_of,
-};
+use crate::kinds::kind_of;
+use crate::parts::{below_of, bool_of, counted_of, member_of, number_of, only_of, size_of};
 use crate::transactions::transaction_of;
 use serde_json::Value;
 use std::alloc::Global;
@@ -40,17 +39,6 @@ impl Model for Scripts {
     ghost view = { λ s. plan_of s.kind s.history s.graph s.scripts };
 
     ghost invariant = { λ s. IsPlan (plan_of s.kind s.history s.graph s.scripts) };
-}
-
-#[tactic(auto, unfolding(crate::specs::Scripts::kind_in))]
-fn kind_of(value: &Value) -> Result<Kind, InputFault>
-    ensures { Gives (λ kind. kind) result (kind_in (view value.now)) }
-{
-    match text_of(value)? {
-        "wound-wait" => Ok(Kind::WoundWait),
-        "wait-die" => Ok(Kind::WaitDie),
-        _ => Err(InputFault::BadWord),
-    }
 }
 
 /// Null, or one of `size` nodes.

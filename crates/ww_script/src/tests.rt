@@ -23,9 +23,9 @@ fn an_input_is_read(rt: HostRuntime) -> Result<(), Fail> {
         [["reverse",1,3,64],["get","list",[0,1,0]],["link",1,2,0],["link",0,0,null],["sum",0,1,2],["p\u0065ek",1]]],
         "nodes":[{"value":5,"ports":[null,0,1,null]},{"ports":[null,null,null,null],"value":2,"value":6}],
         "kind":"wait-die","version":2,"version":1,"history":true}"#;
-    let Input::Scripts(input) = read_input(rt.alloc(), text.as_bytes())
-        .ok()
-        .ok_or("an input")?;
+    let Some(Input::Scripts(input)) = read_input(rt.alloc(), text.as_bytes()).ok() else {
+        return Err(Fail::from("scripts"));
+    };
     assert_eq!(rt; input.kind, Kind::WaitDie);
     assert!(rt; input.history);
     assert_eq!(rt; input.graph.size(), 2);
@@ -230,6 +230,98 @@ fn transactions_are_refused(rt: HostRuntime) {
 }
 
 #[test]
+fn a_schedule_is_read(rt: HostRuntime) -> Result<(), Fail> {
+    let text =
+        r#"{"events":[["begin",0],["clear",1],["fast",0,1],["fast-give",0,1],["guard",2,0],["join",2,0],["sign",1,2],
+        ["take",0,0],["ask",0,0],["give",0,0],["die",0,0],["unguard",0,0],["commit",0],["end",2]],
+        "version":1,"seats":3,"locks":2,"kind":"wait-die"}"#;
+    let Some(Input::Schedule(input)) = read_input(rt.alloc(), text.as_bytes()).ok() else {
+        return Err(Fail::from("a schedule"));
+    };
+    assert_eq!(rt;
+        (input.kind, input.locks, input.seats),
+        (Kind::WaitDie, 2, 3)
+    );
+    assert_eq!(rt;
+        format!(in rt.alloc(); "{:?}", input.events)?.as_str(),
+        "[Begin(0), Clear(1), Fast(0, 1), FastGive(0, 1), Guard(2, 0), Join(2, 0), Sign(1, 2), \
+        Take(0, 0), Ask(0, 0), Give(0, 0), Die(0, 0), Unguard(0, 0), Commit(0), End(2)]"
+    );
+    Ok(())
+}
+
+#[test]
+fn schedules_are_refused(rt: HostRuntime) {
+    for (rest, expected) in [
+        (
+            r#""kind":5,"locks":5,"seats":5,"nodes":5"#,
+            InputFault::BadKey,
+        ),
+        (
+            r#""kind":5,"locks":0,"seats":5,"nodes":5"#,
+            InputFault::BadKey,
+        ),
+        (r#""kind":"x","locks":0,"seats":5"#, InputFault::BadWord),
+        (
+            r#""kind":"wait-die","locks":0,"seats":"x""#,
+            InputFault::BadNumber,
+        ),
+        (
+            r#""kind":"wait-die","locks":65,"seats":"x""#,
+            InputFault::BadNumber,
+        ),
+        (
+            r#""kind":"wait-die","locks":64,"seats":"x""#,
+            InputFault::BadType,
+        ),
+        (
+            r#""kind":"wait-die","locks":64,"seats":0"#,
+            InputFault::BadNumber,
+        ),
+        (
+            r#""kind":"wait-die","locks":64,"seats":17"#,
+            InputFault::BadNumber,
+        ),
+        (
+            r#""kind":"wait-die","locks":64,"seats":16"#,
+            InputFault::BadType,
+        ),
+    ] {
+        let found = fault(&rt, &[r#"{"version":1,"events":5,"#, rest, "}"]);
+        assert_eq!(rt; found, Some(expected), "at {rest}");
+    }
+    assert_eq!(rt;
+        fault(&rt, &[r#"{"version":2,"events":5,"nodes":5}"#]),
+        Some(InputFault::BadVersion)
+    );
+}
+
+#[test]
+fn events_are_refused(rt: HostRuntime) {
+    for (event, expected) in [
+        ("5", Some(InputFault::BadType)),
+        ("[]", Some(InputFault::BadWord)),
+        ("[5]", Some(InputFault::BadType)),
+        (r#"["lock","x"]"#, Some(InputFault::BadWord)),
+        (r#"["begin"]"#, Some(InputFault::BadWord)),
+        (r#"["begin",0,0]"#, Some(InputFault::BadWord)),
+        (r#"["begin","x"]"#, Some(InputFault::BadType)),
+        (r#"["begin",2]"#, Some(InputFault::BadNumber)),
+        (r#"["begin",1]"#, None),
+        (r#"["fast",0]"#, Some(InputFault::BadWord)),
+        (r#"["fast",2,"x"]"#, Some(InputFault::BadNumber)),
+        (r#"["fast",1,"x"]"#, Some(InputFault::BadType)),
+        (r#"["fast",1,1]"#, Some(InputFault::BadNumber)),
+        (r#"["fast",1,0]"#, None),
+        (r#"["sign",0,2]"#, Some(InputFault::BadNumber)),
+        (r#"["sign",0,1]"#, None),
+    ] {
+        let head = r#"{"version":1,"kind":"wound-wait","locks":1,"seats":2,"events":["#;
+        assert_eq!(rt; fault(&rt, &[head, event, "]}"]), expected, "at {event}");
+    }
+}
+
+#[test]
 fn an_outcome_has_its_text(rt: HostRuntime) -> Result<(), Fail> {
     let first = vec![in rt.alloc();
         ScriptAnswer::Reply(Reply::Done),
@@ -268,6 +360,96 @@ fn an_outcome_has_its_text(rt: HostRuntime) -> Result<(), Fail> {
         "reply 0 0 done\nreply 0 1 moved\nreply 0 2 already 1\nreply 1 0 short\nreply 1 1 full\nreply 1 2 end 1\n\
         reply 1 3 values 7 0\nreply 1 4 was -\nreply 1 5 was 0\nreply 1 6 sum 2 18446744073709551616\n\
         at 0 1 0\nat 1 0 0\nnode 0 18446744073709551615 - 1 - 0\nnode 1 0 - - - -\n";
+    assert_eq!(rt; text.as_slice(), expected.as_bytes());
+    Ok(())
+}
+
+/// The text of the schedule that these pieces, one after another, are.
+fn replayed(rt: &HostRuntime, pieces: &[&str]) -> Result<Vec<u8>, Fail> {
+    let mut text = String::new(rt.alloc());
+    for piece in pieces {
+        text.push_str(piece)?;
+    }
+    let Some(Input::Schedule(schedule)) = read_input(rt.alloc(), text.as_bytes()).ok() else {
+        return Err(Fail::from("a schedule"));
+    };
+    Ok(schedule_text(rt.alloc(), &schedule)?)
+}
+
+#[test]
+fn a_ring_has_its_text(rt: HostRuntime) -> Result<(), Fail> {
+    let events =
+        r#"["begin",0],["begin",1],["fast",0,0],["fast",1,1],["guard",1,0],["join",1,0],["unguard",1,0],
+        ["guard",0,1],["join",0,1],["sign",0,1],["unguard",0,1]"#;
+    let expected =
+        "event 0 stamp 1\nevent 1 stamp 2\nevent 2 locked\nevent 3 locked\nevent 4 ok\nevent 5 ok\n\
+        event 6 ok\nevent 7 ok\nevent 8 ok\nevent 9 met 1\nevent 10 ok\nring 0 1\ncondemned 1\n\
+        lock 0 0/1 : 1/2+\nlock 1 1/2 : 0/1+\nseat 0 1 0\nseat 1 2 1\n";
+    let text = replayed(
+        &rt,
+        &[
+            r#"{"version":1,"kind":"wound-wait","locks":2,"seats":2,"events":["#,
+            events,
+            "]}",
+        ],
+    )?;
+    assert_eq!(rt; text.as_slice(), expected.as_bytes());
+    Ok(())
+}
+
+#[test]
+fn an_impossible_event_ends_the_events(rt: HostRuntime) -> Result<(), Fail> {
+    let events =
+        r#"["begin",0],["begin",1],["begin",2],["fast",2,0],["fast",1,1],["guard",1,0],["join",1,0],
+        ["unguard",1,0],["guard",2,0],["give",2,0],["unguard",2,0],["guard",0,0],["take",0,0],
+        ["unguard",0,0],["guard",0,1]"#;
+    let expected =
+        "event 0 stamp 1\nevent 1 stamp 2\nevent 2 stamp 3\nevent 3 locked\nevent 4 locked\nevent 5 ok\n\
+        event 6 ok\nevent 7 ok\nevent 8 ok\nevent 9 free\nevent 10 ok\nevent 11 ok\nevent 12 locked\n\
+        impossible 13\nring -\ncondemned -\nlock 0 0/1 : 1/2+\nlock 1 1/2 :\nseat 0 1 0\nseat 1 2 0\n\
+        seat 2 3 0\n";
+    let text = replayed(
+        &rt,
+        &[
+            r#"{"version":1,"kind":"wait-die","locks":2,"seats":3,"events":["#,
+            events,
+            "]}",
+        ],
+    )?;
+    assert_eq!(rt; text.as_slice(), expected.as_bytes());
+    Ok(())
+}
+
+#[test]
+fn a_handed_lock_has_its_text(rt: HostRuntime) -> Result<(), Fail> {
+    let events =
+        r#"["begin",0],["begin",1],["begin",2],["begin",3],["fast",4,0],["fast",3,1],["guard",5,0],
+        ["join",5,0],["unguard",5,0],["guard",3,0],["join",3,0],["unguard",3,0],["guard",1,0],["join",1,0],
+        ["sign",1,3],["unguard",1,0],["guard",5,0],["ask",5,0],["unguard",5,0],["guard",4,0],["give",4,0],
+        ["unguard",4,0]"#;
+    let expected =
+        "event 0 stamp 1\nevent 1 stamp 2\nevent 2 stamp 3\nevent 3 stamp 4\nevent 4 locked\n\
+        event 5 locked\nevent 6 ok\nevent 7 ok\nevent 8 ok\nevent 9 ok\nevent 10 ok\nevent 11 ok\n\
+        event 12 ok\nevent 13 ok\nevent 14 met 2\nevent 15 ok\nevent 16 ok\nevent 17 ok\nevent 18 ok\n\
+        event 19 ok\nevent 20 handed 5\nevent 21 ok\nring -\ncondemned -\nlock 0 5/0h : 5/0 1/2 3/4+\n\
+        lock 1 3/4 :\nseat 0 1 0\nseat 1 2 0\nseat 2 3 0\nseat 3 4 2\nseat 4 0 0\nseat 5 0 0\n";
+    let text = replayed(
+        &rt,
+        &[
+            r#"{"version":1,"kind":"wait-die","locks":2,"seats":6,"events":["#,
+            events,
+            "]}",
+        ],
+    )?;
+    assert_eq!(rt; text.as_slice(), expected.as_bytes());
+    Ok(())
+}
+
+#[test]
+fn a_schedule_without_events_has_its_text(rt: HostRuntime) -> Result<(), Fail> {
+    let head = r#"{"version":1,"kind":"wait-die","locks":1,"seats":1,"#;
+    let text = replayed(&rt, &[head, r#""events":[]}"#])?;
+    let expected = "ring -\ncondemned -\nlock 0 - :\nseat 0 0 0\n";
     assert_eq!(rt; text.as_slice(), expected.as_bytes());
     Ok(())
 }

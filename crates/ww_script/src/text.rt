@@ -2,7 +2,7 @@ ghost use Rattle.std.specs.Prelude.{◌≡◌, ◌≤◌, ◌++◌, map, string_
 ghost use Rattle.std.specs.List.{flat_map};
 ghost use Rattle.ww_plain.specs.Meaning.{answer_of};
 ghost use Rattle.ww_script.specs.Outcome.{said_of};
-ghost use Rattle.ww_script.specs.Text.{spaced, port_text, answer_text, said_text, reply_line, numbered, script_lines, place_line, node_line, outcome_lines, refusal_text};
+ghost use Rattle.ww_script.specs.Text.{spaced, spaced_or_dash, answer_text, said_text, reply_line, numbered, script_lines, place_line, node_line, outcome_lines, refusal_text};
 
 use crate::outcome::{Outcome, ScriptAnswer};
 use std::alloc::{AllocError, Global};
@@ -17,12 +17,13 @@ fn push_values(out: &mut String, values: &[u64]) -> Result<(), AllocError>
     Ok(())
 }
 
-fn push_port(out: &mut String, port: Option<u8>) -> Result<(), AllocError>
-    ensures { OnOk result (string_bytes out.new ≡ string_bytes out.old ++ port_text port) }
+/// A number behind a space, or a dash where there is none.
+pub(crate) fn push_option(out: &mut String, number: Option<u8>) -> Result<(), AllocError>
+    ensures { OnOk result (string_bytes out.new ≡ string_bytes out.old ++ spaced_or_dash number) }
 {
-    match port {
+    match number {
         None => out.push_str(" -"),
-        Some(target) => write!(out, " {target}"),
+        Some(number) => write!(out, " {number}"),
     }
 }
 
@@ -41,7 +42,7 @@ fn push_reply(out: &mut String, reply: &Reply) -> Result<(), AllocError>
         Reply::Full => out.push_str("full"),
         Reply::Was(target) => {
             out.push_str("was")?;
-            push_port(out, *target)
+            push_option(out, *target)
         }
         Reply::Sum(count, total) => write!(out, "sum {count} {total}"),
         Reply::End(last) => write!(out, "end {last}"),
@@ -112,10 +113,10 @@ fn push_places(out: &mut String, places: &[(u8, u64)]) -> Result<(), AllocError>
 }
 
 fn push_ports(out: &mut String, ports: &[Option<u8>]) -> Result<(), AllocError>
-    ensures { OnOk result (string_bytes out.new ≡ string_bytes out.old ++ flat_map port_text ports.now) }
+    ensures { OnOk result (string_bytes out.new ≡ string_bytes out.old ++ flat_map spaced_or_dash ports.now) }
 {
     for port in ports {
-        push_port(out, *port)?;
+        push_option(out, *port)?;
     }
     Ok(())
 }

@@ -1,0 +1,81 @@
+-- How an owner leaves a lock, how a condemned seat dies, and that the wait lists ascend.
+use Rattle.std.proofs.Common.{◌≡◌, ◌≢◌, inl, inr, ⊎_elim, ℕ, suc, ◌<◌, sym, ap, ◌∙◌, arith}
+use Rattle.std.specs.Prelude.{unwrap_or}
+use mathlib.Core.Logic.{dite}
+use native.Mathlib.Decide.{ℕ_discrete, dec_le}
+use Rattle.ww_queue.specs.declared.entry.Entry.{Entry}
+use Rattle.ww_queue.specs.Queue.{Has, joined, left}
+use Rattle.ww_queue.proofs.Joins.{joined_has}
+use Rattle.ww_queue.proofs.Leaves.{left_has}
+use Rattle.ww_model.specs.declared.state.Holder.{Holder}
+use Rattle.ww_model.specs.declared.state.Holder.TheVariants.{Nobody, Taken}
+use Rattle.ww_model.specs.declared.event.Event.{Event}
+use Rattle.ww_model.specs.declared.event.Event.TheVariants.{Fast, FastGive, Join, Take, Give, Die}
+use Rattle.ww_model.specs.declared.event.Answer.TheVariants.{Deadlk}
+use Rattle.ww_model.specs.State.{State, put, HasOther, waiter_of}
+use Rattle.ww_model.specs.Event.{given_to, BasePossible, after}
+use Rattle.ww_model.specs.Lawful.{IsBase}
+use Rattle.ww_model.specs.Run.{at_start, further}
+use Rattle.ww_model.specs.Laws.{TakenLeavesByGiving, OfReached, QueuesAscend, WaitersAreSeats, CondemnedCanDie}
+use Rattle.ww_model.proofs.Puts.{put_here, put_else, put_cases}
+use Rattle.ww_model.proofs.Kept.{reached_is_lawful}
+
+-- an owner that has taken one lock stays where another changes, or the same one by no such event
+pub stays_taken : (c : State) (n m s : ℕ) (o : Holder) → (m ≡ n → ⊥) → c.owner m ≡ Taken s → put c.owner n o m ≢ Taken s → ⊥
+stays_taken c n m s o other own gone = gone (put_else c.owner n o m other ∙ own)
+
+pub taken_leaves_by_giving : TakenLeavesByGiving
+taken_leaves_by_giving c (Fast u m) s n can own gone = absurd (stays_taken c m n s (Taken u) (λ is. let z = ap c.owner is in let y = can.idle.free in cc) own gone)
+taken_leaves_by_giving c (Take u m) s n can own gone = absurd (stays_taken c m n s (Taken u)
+    (λ is. let z = ap c.owner is in ⊎_elim (λ y. let w : ⊥ = cc in w) (λ y. let w : ⊥ = cc in w) can.free) own gone)
+taken_leaves_by_giving c (FastGive u m) s n can own gone = dite (ℕ_discrete n m)
+    (λ is. let z = ap c.owner is in let y = can.owns in let same : u ≡ s = cc in inl (cc))
+    (λ isnt. absurd (stays_taken c m n s Nobody isnt own gone))
+taken_leaves_by_giving c (Give u m) s n can own gone = dite (ℕ_discrete n m)
+    (λ is. let z = ap c.owner is in let y = can.owns in let same : u ≡ s = cc in inr (cc))
+    (λ isnt. absurd (stays_taken c m n s (given_to (c.asked m) (c.queue m)) isnt own gone))
+taken_leaves_by_giving c _ s n can own gone = absurd (gone own)
+
+pub queues_ascend : OfReached QueuesAscend
+queues_ascend c run n = ((reached_is_lawful c run).base.queues.at n).ascends
+
+pub keeps_seats : (c : State) (e : Event) → BasePossible c e → WaitersAreSeats c → WaitersAreSeats (after c e)
+keeps_seats c (Join s n) can l = λ m e. put_cases c.queue n (joined (c.queue n) (waiter_of c s)) m (λ q. Has q e → e.seat < c.seats)
+    (λ _ h. ⊎_elim (λ i. let z = ap (λ (y : Entry). y.seat) i in let k = can.inside.seat in omega arith) (λ i. l n e i) (joined_has (c.queue n) (waiter_of c s) e h))
+    (λ _. l m e)
+keeps_seats c (Take s n) can l = λ m e. put_cases c.queue n (left (c.queue n) s) m (λ q. Has q e → e.seat < c.seats)
+    (λ _ h. l n e (left_has (c.queue n) s e h)) (λ _. l m e)
+keeps_seats c (Die s n) can l = λ m e. put_cases c.queue n (left (c.queue n) s) m (λ q. Has q e → e.seat < c.seats)
+    (λ _ h. l n e (left_has (c.queue n) s e h)) (λ _. l m e)
+keeps_seats c _ can l = l
+
+pub waiters_are_seats : OfReached WaitersAreSeats
+waiters_are_seats _ (at_start kind locks seats) = λ n e h. absurd h
+waiters_are_seats _ (further c e run can) = keeps_seats c e can.base (waiters_are_seats c run)
+
+-- a lock with an owner is one of the locks
+pub owned_below : (c : State) → IsBase c → (a n : ℕ) → HasOther c a n → n < c.locks
+owned_below c l a n other = dite (dec_le c.locks n)
+    (λ beyond. let z = l.owners.beyond n beyond in absurd (⊎_elim (λ y. let w : ⊥ = cc in w) (λ y. let w : ⊥ = cc in w) other.2))
+    (λ within. omega arith)
+
+pub condemned_can_die : OfReached CondemnedCanDie
+condemned_can_die c run a condemned free other k d = let l = reached_is_lawful c run in let n = condemned.lock in let h = condemned.waits in
+    let lock = owned_below c l.base a n other in
+    let seat : a < c.seats = (let z = waiters_are_seats c run n h.0 h.1 in let y = h.2 in omega arith) in record {
+      guard = record {
+        base = record {
+          seat = seat;
+          lock = lock;
+          inside_none = λ m g. let same = l.base.guards.own_guard n m h.0 h.1 (g ∙ ap suc (sym h.2)) in let z = ap c.guard same in omega arith;
+          free = free;
+          why = inr (inl h);
+        };
+        signs = inr (inl h);
+      };
+      die = record {
+        base = record { inside = record { guard = put_here c.guard n (suc a); lock = lock; seat = seat }; waits = h; other = other };
+        signs = condemned.dies_there;
+      };
+      answers = ap (λ o. Deadlk (unwrap_or o 0)) d;
+    }

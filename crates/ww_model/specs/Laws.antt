@@ -1,0 +1,72 @@
+-- The laws: of each event, and of each reached state.
+use Rattle.std.specs.Prelude.{ℕ, ◌≡◌, ◌≢◌, ◌<◌, ◌⊎◌, List, Some}
+use Rattle.ww_queue.specs.declared.kind.Kind.{Kind}
+use Rattle.ww_queue.specs.declared.kind.Kind.TheVariants.{WaitDie}
+use Rattle.ww_queue.specs.declared.entry.Entry.{Entry}
+use Rattle.ww_queue.specs.Queue.{Has, Before, Ascends}
+use Rattle.ww_model.specs.declared.state.Holder.TheVariants.{Taken}
+use Rattle.ww_model.specs.declared.event.Event.{Event}
+use Rattle.ww_model.specs.declared.event.Event.TheVariants.{FastGive, Guard, Give, Die}
+use Rattle.ww_model.specs.declared.event.Answer.TheVariants.{Deadlk}
+use Rattle.ww_model.specs.State.{State, start, OwnsSome, HasOther, dies}
+use Rattle.ww_model.specs.Event.{BasePossible, Possible, after, answer}
+use Rattle.ww_model.specs.Lawful.{IsBase, IsLawful, KeepsBase, Keeps}
+use Rattle.ww_model.specs.Run.{Reached}
+use Rattle.ww_model.specs.Waits.{IsCycle, AreContexts, IsOneOf, IsRing, IsCondemned}
+
+-- ---- of each event
+
+-- the base is kept, whatever the signs say
+abbrev pub BaseIsKept : Type 0
+BaseIsKept = KeepsBase IsBase
+
+-- a possible event of a lawful state leads to a lawful one
+abbrev pub LawfulIsKept : Type 0
+LawfulIsKept = Keeps IsLawful
+
+-- the start is lawful
+abbrev pub StartIsLawful : Type 0
+StartIsLawful = (kind : Kind) (locks seats : ℕ) → IsLawful (start kind locks seats)
+
+-- an owner that has taken the lock leaves it only by its own FastGive or Give
+abbrev pub TakenLeavesByGiving : Type 0
+TakenLeavesByGiving = (c : State) (e : Event) (s n : ℕ) → BasePossible c e → c.owner n ≡ Taken s → (after c e).owner n ≢ Taken s →
+    (e ≡ FastGive s n) ⊎ (e ≡ Give s n)
+
+-- ---- of each reached state
+
+-- every reached state is so
+abbrev pub OfReached : (State → Type 0) → Type 0
+OfReached P = (c : State) → Reached c → P c
+
+-- every ring has a condemned member
+abbrev pub RingsAreCondemned : Type 0
+RingsAreCondemned = (c : State) → Reached c → (ring : List ℕ) → IsRing c ring → (a : ℕ) × IsOneOf a ring × IsCondemned c a
+
+-- no seat without a context stands in a cycle of waits
+abbrev pub CyclesAreOfContexts : Type 0
+CyclesAreOfContexts = (c : State) → Reached c → (seats : List ℕ) → IsCycle c seats → AreContexts c seats
+
+-- the stamps of the waiters with a context ascend in each wait list
+abbrev pub QueuesAscend : State → Type 0
+QueuesAscend c = (n : ℕ) → Ascends (c.queue n)
+
+-- Wait-Die: where a guard is free, only the first of the waiters with a context may hold locks without a sign
+abbrev pub OnlyFirstIsUnsigned : State → Type 0
+OnlyFirstIsUnsigned c = c.kind ≡ WaitDie → (n : ℕ) → c.guard n ≡ 0 → (e f : Entry) → Before (c.queue n) e f → 0 < e.stamp → 0 < f.stamp →
+    OwnsSome c f.seat → 0 < c.sign f.seat
+
+-- whoever waits is one of the seats
+abbrev pub WaitersAreSeats : State → Type 0
+WaitersAreSeats c = (n : ℕ) (e : Entry) → Has (c.queue n) e → e.seat < c.seats
+
+-- seat a can go inside the guard of lock n and then die there, of stamp k
+pub record CanGoAndDie (c : State) (a n k : ℕ) : Type 0 where
+  pub guard : Possible c (Guard a n)
+  pub die : Possible (after c (Guard a n)) (Die a n)
+  pub answers : answer (after c (Guard a n)) (Die a n) ≡ Deadlk k
+
+-- so can a condemned seat, once the guard is free, as long as another seat owns the lock where it waits
+abbrev pub CondemnedCanDie : State → Type 0
+CondemnedCanDie c = (a : ℕ) (condemned : IsCondemned c a) → c.guard condemned.lock ≡ 0 → HasOther c a condemned.lock →
+    (k : ℕ) → dies c a condemned.lock ≡ Some k → CanGoAndDie c a condemned.lock k

@@ -1,0 +1,12 @@
+pub mod State
+pub mod Event
+pub mod Lawful
+pub mod Run
+pub mod Waits
+pub mod Met
+pub mod Laws
+pub mod Snapshot
+pub mod Core
+pub mod Step
+pub mod Replay
+pub mod Least

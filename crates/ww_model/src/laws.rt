@@ -1,0 +1,86 @@
+//! Laws of the core: each function's contract is one.
+
+ghost use Rattle.ww_model.specs.Lawful.{FreeGuardsOweNothing, SignedOwnsOutside};
+ghost use Rattle.ww_model.specs.Run.{ReachedIsLawful, RunsAreLawful};
+ghost use Rattle.ww_model.specs.Met.{SignWasMet, DeadlkWasMet};
+ghost use Rattle.ww_model.specs.Laws.{BaseIsKept, LawfulIsKept, StartIsLawful, TakenLeavesByGiving, OfReached, RingsAreCondemned, CyclesAreOfContexts, QueuesAscend, OnlyFirstIsUnsigned, WaitersAreSeats, CondemnedCanDie};
+
+/// Each event that is possible as far as stamps, owners, wait lists and guards go keeps these in order.
+pub fn keeps_base()
+    ensures { BaseIsKept }
+{}
+
+/// Each possible event of a lawful state leads to a lawful state.
+pub fn keeps_lawful()
+    ensures { LawfulIsKept }
+{}
+
+/// The start state is lawful.
+pub fn start_is_lawful()
+    ensures { StartIsLawful }
+{}
+
+/// Every reached state is lawful.
+pub fn reached_is_lawful()
+    ensures { ReachedIsLawful }
+{}
+
+/// Every state of a run is lawful.
+pub fn runs_are_lawful()
+    ensures { RunsAreLawful }
+{}
+
+/// Every ring of a reached state has a condemned member, whichever the kind.
+pub fn rings_are_condemned()
+    ensures { RingsAreCondemned }
+{}
+
+/// No seat without a context stands in a cycle of waits of a reached state.
+pub fn cycles_are_of_contexts()
+    ensures { CyclesAreOfContexts }
+{}
+
+/// Wait-Die: where a guard is free, whoever must die there has a sign.
+pub fn free_guards_owe_nothing()
+    ensures { OfReached FreeGuardsOweNothing }
+{}
+
+/// Wait-Die: a seat with a sign owns a lock whose guard it isn't inside of.
+pub fn signed_owns_outside()
+    ensures { OfReached SignedOwnsOutside }
+{}
+
+/// Wound-Wait: the sign of a seat that owns a lock is the stamp of a context that it met.
+pub fn sign_was_met()
+    ensures { SignWasMet }
+{}
+
+/// Whoever is told to die owns a lock and met the older context whose stamp it is told.
+pub fn deadlk_was_met()
+    ensures { DeadlkWasMet }
+{}
+
+/// An owner that has taken a lock leaves it only by its own FastGive or Give.
+pub fn taken_leaves_by_giving()
+    ensures { TakenLeavesByGiving }
+{}
+
+/// The stamps of the contexts ascend in each wait list of a reached state.
+pub fn queues_ascend()
+    ensures { OfReached QueuesAscend }
+{}
+
+/// Wait-Die: where a guard is free, only the first of the waiting contexts may hold locks without a sign.
+pub fn only_first_is_unsigned()
+    ensures { OfReached OnlyFirstIsUnsigned }
+{}
+
+/// Whoever waits in a reached state is one of the seats.
+pub fn waiters_are_seats()
+    ensures { OfReached WaitersAreSeats }
+{}
+
+/// A condemned seat can go inside a free guard and die there while another seat owns the lock, and is told the stamp for which it has to die.
+pub fn condemned_can_die()
+    ensures { OfReached CondemnedCanDie }
+{}

@@ -1,0 +1,21 @@
+//! The core of the locks: contexts, owners, wait lists, guards and signs, and the events that change them.
+#![tactic(auto)]
+
+mod contexts;
+mod event;
+mod fast;
+mod guarded;
+pub mod laws;
+mod run;
+mod state;
+mod step;
+mod terms;
+mod waits;
+
+pub use event::{Answer, Event, NotPossible};
+pub use run::{ReplayFault, replay};
+pub use state::{Core, Holder, MAX_LOCKS, MAX_SEATS};
+pub use waits::{condemned_in, cycle_in};
+
+#[cfg(test)]
+mod tests;

@@ -1,0 +1,121 @@
+ghost use Rattle.std.specs.Prelude.{◌≡◌, IfOk, [], replicate};
+
+use std::alloc::{AllocError, Global};
+use std::marker::Model;
+use ww_queue::{Entry, Kind, Queue};
+
+/// How many locks a core has at most.
+pub const MAX_LOCKS: usize = 64;
+
+/// How many seats a core has at most.
+pub const MAX_SEATS: usize = 16;
+
+/// Who owns a lock.
+#[derive(Clone, Copy, Debug, PartialEq, Eq)]
+pub enum Holder {
+    /// Nobody.
+    Nobody,
+    /// The seat has taken it.
+    Taken(u8),
+    /// It was handed to the seat, which has not taken it yet.
+    Handed(u8),
+}
+
+/// The core: what all seats and locks are at, at one moment. Contracts see it as plain lists.
+#[derive(Debug, Drop)]
+pub struct Core {
+    pub(crate) kind: Kind,
+    pub(crate) drawn: u64,
+    pub(crate) commits: u64,
+    pub(crate) stamps: Vec<u64>,
+    pub(crate) signs: Vec<u64>,
+    pub(crate) owners: Vec<Holder>,
+    pub(crate) asked: Vec<bool>,
+    pub(crate) queues: Vec<Queue>,
+    pub(crate) guards: Vec<Option<u8>>,
+}
+
+impl Model for Core {
+    ghost use Rattle.ww_model.specs.Snapshot.{Snapshot};
+
+    ghost Value = { Snapshot };
+
+    ghost use Rattle.ww_model.specs.Snapshot.{IsCore};
+    ghost use Rattle.ww_model.specs.Core.{snapshot_of};
+
+    ghost view = { snapshot_of };
+
+    ghost invariant = { λ core. IsCore (snapshot_of core) };
+}
+
+impl Core {
+    ghost use Rattle.std.specs.Prelude.{◌≡◌, ◌<◌, ◌≤◌, IfOk};
+    ghost use Rattle.ww_model.specs.State.{start};
+    ghost use Rattle.ww_model.specs.Snapshot.{state_of};
+
+    /// A core in which nothing has happened yet.
+    pub fn new(alloc: Global, kind: Kind, locks: u8, seats: u8) -> Result<Core, AllocError>
+        requires some_lock { 1 ≤ locks }
+        requires locks { locks ≤ MAX_LOCKS }
+        requires some_seat { 1 ≤ seats }
+        requires seats { seats ≤ MAX_SEATS }
+        ensures { IfOk result (λ core. state_of core ≡ start kind locks seats) }
+    {
+        let (locks, seats) = (locks as usize, seats as usize);
+        Ok(Core {
+            kind,
+            drawn: 0,
+            commits: 0,
+            stamps: vec![in alloc; 0; seats]?,
+            signs: vec![in alloc; 0; seats]?,
+            owners: vec![in alloc; Holder::Nobody; locks]?,
+            asked: vec![in alloc; false; locks]?,
+            queues: empty_queues(alloc, locks)?,
+            guards: vec![in alloc; None; locks]?,
+        })
+    }
+
+    /// Who owns the lock.
+    pub fn owner_of(&self, lock: u8) -> Holder
+        requires { lock < (state_of self.now).locks }
+        ensures { result ≡ (state_of self.now).owner lock }
+    {
+        self.owners[lock as usize]
+    }
+
+    /// The waiters of the lock, in their order.
+    pub fn queue_of(&self, lock: u8) -> &[Entry]
+        requires { lock < (state_of self.now).locks }
+        ensures { result.now ≡ (state_of self.now).queue lock }
+    {
+        let queue = &self.queues[lock as usize];
+        queue.entries()
+    }
+
+    /// The stamp of the seat's context, 0 without one.
+    pub fn stamp_of(&self, seat: u8) -> u64
+        requires { seat < (state_of self.now).seats }
+        ensures { result ≡ (state_of self.now).stamp seat }
+    {
+        self.stamps[seat as usize]
+    }
+
+    /// The sign of the seat: the stamp of the older context that condemns it, 0 if none does.
+    pub fn sign_of(&self, seat: u8) -> u64
+        requires { seat < (state_of self.now).seats }
+        ensures { result ≡ (state_of self.now).sign seat }
+    {
+        self.signs[seat as usize]
+    }
+}
+
+/// So many empty wait lists.
+fn empty_queues(alloc: Global, count: usize) -> Result<Vec<Queue>, AllocError>
+    ensures { IfOk result (λ queues. queues.items ≡ replicate count []) }
+{
+    let mut queues = Vec::new(alloc);
+    for _ in 0..count {
+        queues.push(Queue::new())?;
+    }
+    Ok(queues)
+}
