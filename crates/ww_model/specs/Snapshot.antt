@@ -3,13 +3,14 @@ use Rattle.std.specs.Prelude.{ℕ, suc, ◌≡◌, ◌≤◌, Bool, false, List,
 use Rattle.std.specs.List.{slice_index_or}
 use Rattle.ww_queue.specs.declared.kind.Kind.{Kind}
 use Rattle.ww_queue.specs.declared.entry.Entry.{Entry}
+use Rattle.ww_queue.specs.Queue.{Stands}
 use Rattle.ww_model.specs.declared.state.Holder.{Holder}
 use Rattle.ww_model.specs.declared.state.Holder.TheVariants.{Nobody}
-use Rattle.ww_queue.specs.Queue.{Stands}
 use Rattle.ww_model.specs.State.{State}
 use Rattle.ww_model.specs.Event.{MayLive}
 use Rattle.ww_model.specs.Run.{Reached}
 
+-- what the fields of a core are, as a contract sees it
 pub record Snapshot : Type 0 where
   pub kind : Kind
   pub drawn : ℕ

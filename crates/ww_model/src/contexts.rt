@@ -48,7 +48,7 @@ impl Core {
     fn lives_inside(&self, seat: u8) -> bool
         ensures { IsTrue result ↔ LivesSome (state_of self.now) seat }
     {
-        // A seat is inside one guard at most, so no other than this one needs a look.
+        // In a reached state a seat is inside one guard at most, so no other than this one needs a look.
         let _reached = &self.kind;
         self.lives_at(seat, self.place_of(seat))
     }

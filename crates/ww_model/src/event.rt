@@ -52,6 +52,6 @@ pub enum Answer {
     Place(u64),
 }
 
-/// The event isn't possible in this state.
+/// The event isn't possible in the core's state: a seat or a lock isn't there, or the case is none of the event's.
 #[derive(Clone, Copy, Debug, PartialEq, Eq)]
 pub struct NotPossible;

@@ -1,6 +1,6 @@
 //! The events inside the guard of a wait list, its entrance and exit.
 
-ghost use Rattle.std.specs.Prelude.{◌≡◌, ◌≢◌, ◌<◌, ◌⊎◌, ◌↔◌, ℕ, IsTrue};
+ghost use Rattle.std.specs.Prelude.{◌≡◌, ◌≢◌, ◌⊎◌, ◌↔◌, ℕ, IsTrue};
 ghost use Rattle.ww_queue.specs.Queue.{Has};
 ghost use Rattle.ww_model.specs.declared.state.Holder.TheVariants.{Nobody, Taken, Handed};
 ghost use Rattle.ww_model.specs.Event.{given_to, giving};
@@ -10,12 +10,11 @@ use crate::state::{Core, Holder};
 use ww_queue::{Entry, Kind};
 
 impl Core {
-    ghost use Rattle.std.specs.Prelude.{◌≡◌, ◌≢◌, ◌⊎◌, ◌↔◌, ℕ, IsTrue, []};
-    ghost use Rattle.ww_queue.specs.Queue.{Stands};
+    ghost use Rattle.std.specs.Prelude.{◌≡◌, ◌≢◌, ◌↔◌, ℕ, IsTrue};
     ghost use Rattle.ww_model.specs.declared.event.Event.TheVariants.{Guard, Join, Sign, Take, Ask, Give, Die, Unguard};
     ghost use Rattle.ww_model.specs.Event.{Possible, IsSafe, IsPaid};
     ghost use Rattle.ww_queue.specs.declared.kind.Kind.TheVariants.{WaitDie};
-    ghost use Rattle.ww_model.specs.State.{Owns, waiter_of, HasOther, owes};
+    ghost use Rattle.ww_model.specs.State.{waiter_of};
     ghost use Rattle.ww_model.specs.Snapshot.{state_of, IsFirst};
     ghost use Rattle.ww_model.specs.Step.{IsStep};
 

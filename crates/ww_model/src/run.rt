@@ -33,6 +33,8 @@ pub fn replay(
     requires seats { seats ≤ MAX_SEATS }
     ensures run { IfOk result (λ core. IsRun (start kind locks seats) events.now) }
     ensures state { IfOk result (λ core. state_of core ≡ state_after (start kind locks seats) events.now) }
+    ensures locks { IfOk result (λ core. (state_of core).locks ≡ locks) }
+    ensures seats { IfOk result (λ core. (state_of core).seats ≡ seats) }
     ensures fault { IfErr result (IsReplayFault (start kind locks seats) events.now) }
 {
     let Ok(mut core) = Core::new(alloc, kind, locks, seats) else {

@@ -21,14 +21,18 @@ pub enum Holder {
     Handed(u8),
 }
 
-/// The core: what all seats and locks are at, at one moment. Contracts see it as plain lists.
+/// The core: what all seats and locks are at, at one moment. It is made at its start, and only steps change it: so its
+/// state is always a reached one. Contracts see it as plain lists, and name the state that they show.
 #[derive(Debug, Drop)]
 pub struct Core {
     pub(crate) kind: Kind,
+    /// The stamp drawn last.
     pub(crate) drawn: u64,
     pub(crate) commits: u64,
+    // Of each seat: the stamp of its context, and the stamp of the older context that condemns it; 0 without one.
     pub(crate) stamps: Vec<u64>,
     pub(crate) signs: Vec<u64>,
+    // Of each lock: the owner, whether it is asked to hand the lock over, the waiters, and the seat inside the guard.
     pub(crate) owners: Vec<Holder>,
     pub(crate) asked: Vec<bool>,
     pub(crate) queues: Vec<Queue>,

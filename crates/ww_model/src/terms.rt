@@ -13,8 +13,8 @@ use ww_queue::{Entry, Kind, MAX_WAITERS, Queue, must_die, owed_signs};
 use ww_word::{Owner, PICKUP, WAITERS};
 
 impl Core {
-    ghost use Rattle.std.specs.Prelude.{ℕ, suc, ◌≡◌, ◌≢◌, ◌<◌, ◌↔◌, IsTrue, []};
-    ghost use Rattle.ww_queue.specs.Queue.{Stands, StandsNot};
+    ghost use Rattle.std.specs.Prelude.{◌≡◌, ◌<◌, ◌↔◌, IsTrue};
+    ghost use Rattle.ww_queue.specs.Queue.{Stands};
     ghost use Rattle.ww_model.specs.State.{Owns, OwnsSome, Inside, Away, MayOwn, IsCalm, HasOther, owns_some, owner_as, dies, owes, place_of};
     ghost use Rattle.ww_model.specs.Event.{IsIdle, owed_to};
     ghost use Rattle.ww_model.specs.Snapshot.{state_of, guard_number, InsideSome, StandsSome};

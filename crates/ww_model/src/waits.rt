@@ -16,6 +16,7 @@ use arrayvec::ArrayVec;
 pub fn cycle_in(core: &Core) -> Option<ArrayVec<u8, MAX_SEATS>>
     ensures { let c = state_of core.now in MatchOption result ((ring : List ℕ) → ¬ IsRing c ring) (λ ring. IsLeastRing c ring.items) }
 {
+    // Where nobody's ring is found there is none, since whoever waits is one of the seats: the core's state was reached.
     let _reached = &core.kind;
     for seat in 0..core.seats() {
         if let Some(ring) = core.ring_from(seat) {
@@ -31,6 +32,7 @@ pub fn condemned_in(core: &Core, ring: &[u8]) -> Option<u8>
     ensures least { let c = state_of core.now in MatchOption result ((a : ℕ) → IsOneOf a ring.now → ¬ IsCondemned c a) (IsLeastCondemned c ring.now) }
     ensures ring { IsRing (state_of core.now) ring.now → IsSome result }
 {
+    // In a reached state each ring has a condemned member.
     let _reached = &core.kind;
     let mut least = None;
     for seat in ring {
@@ -42,7 +44,7 @@ pub fn condemned_in(core: &Core, ring: &[u8]) -> Option<u8>
 }
 
 impl Core {
-    ghost use Rattle.std.specs.Prelude.{ℕ, ◌≡◌, ◌≤◌, ◌<◌, ◌↔◌, List, length, IsTrue, MatchOption};
+    ghost use Rattle.std.specs.Prelude.{ℕ, ◌≡◌, ◌<◌, ◌↔◌, List, length, IsTrue, MatchOption};
     ghost use Rattle.ww_model.specs.Waits.{WaitsAt, WaitsFor, IsOneOf, IsRing, IsCondemned};
     ghost use Rattle.ww_model.specs.Snapshot.{state_of};
     ghost use Rattle.ww_model.specs.Least.{IsRingFrom, DiesSome};
@@ -93,7 +95,7 @@ impl Core {
         requires { first < (state_of self.now).seats }
         ensures { let c = state_of self.now in MatchOption result ((ring : List ℕ) → IsRing c ring → ¬ IsOneOf first ring) (λ ring. IsRingFrom c first ring.items) }
     {
-        // Nobody waits for more than one seat, so there is one way to go: it ends, or it comes to a seat where it was.
+        // In a reached state nobody waits for two, so there is one way to go. It ends, or it comes to a seat where it was.
         let _reached = &self.kind;
         let mut ring = ArrayVec::new();
         let mut here = first;

@@ -3,7 +3,8 @@ use Rattle.std.specs.List.{list_any}
 use Rattle.ww_model.specs.declared.state.Holder.TheVariants.{Nobody, Taken}
 use Rattle.ww_model.specs.State.{OwnsSome, owns_some, is_taken_by}
 use Rattle.ww_model.specs.Snapshot.{Snapshot, state_of}
-use Rattle.ww_model.proofs.Outcomes.{taken_true, true_taken}
+use Rattle.ww_model.proofs.Outcomes.{taken_true}
+use Rattle.ww_model.proofs.Outcomes.{true_taken}
 use Rattle.ww_model.proofs.Slots.{below_any, any_tells}
 use Rattle.ww_model.proofs.state.Core.owns_some.Goals as goal
 
