@@ -17,7 +17,7 @@ use Rattle.ww_model.specs.Least.{IsRingFrom}
 use Rattle.ww_model.proofs.Leaving.{waiters_are_seats}
 use Rattle.ww_model.proofs.Kept.{reached_is_lawful}
 use Rattle.ww_model.proofs.Rings.{cycles_are_of_contexts}
-use Rattle.ww_model.proofs.Ranges.{takers_are_seats}
+use Rattle.ww_model.proofs.Ranges.{owners_are_seats}
 
 -- ---- lists of seats
 
@@ -79,10 +79,7 @@ pub waiter_is_seat : (c : State) → Reached c → (a b : ℕ) → WaitsFor c a 
 waiter_is_seat c run a b w = subst (λ (x : ℕ). x < c.seats) w.1.stands.2 (waiters_are_seats c run w.0 w.1.stands.0 w.1.stands.1)
 
 pub awaited_is_seat : (c : State) → Reached c → (a b : ℕ) → WaitsFor c a b → b < c.seats
-awaited_is_seat c run a b w = ⊎_elim (takers_are_seats c run w.0 b)
-    (λ handed. let there = ((reached_is_lawful c run).base.owners.at w.0).handed_stands b handed in
-    subst (λ (x : ℕ). x < c.seats) there.2 (waiters_are_seats c run w.0 there.0 there.1))
-    w.1.owner
+awaited_is_seat c run a b w = owners_are_seats c run w.0 b w.1.owner
 
 -- ---- chains
 

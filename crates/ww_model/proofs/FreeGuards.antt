@@ -4,9 +4,9 @@ use Rattle.std.proofs.lemmas.Bool.{true_from_ne_false}
 use Rattle.ww_queue.specs.declared.entry.Entry.{Entry}
 use Rattle.ww_queue.specs.Queue.{Has, Before, Ascends}
 use Rattle.ww_queue.proofs.Aheads.{before_second}
-use Rattle.ww_model.specs.State.{State, dies}
-use Rattle.ww_model.specs.Lawful.{IsLawful, FreeGuardsOweNothing}
-use Rattle.ww_model.specs.Laws.{OfReached, OnlyFirstIsUnsigned}
+use Rattle.ww_model.specs.State.{dies}
+use Rattle.ww_model.specs.Lawful.{FreeGuardsOweNothing}
+use Rattle.ww_model.specs.Laws.{OfLawful, OfReached, OnlyFirstIsUnsigned}
 use Rattle.ww_model.proofs.Options.{some_of}
 use Rattle.ww_model.proofs.Dues.{dies_why}
 use Rattle.ww_model.proofs.Kept.{reached_is_lawful}
@@ -19,8 +19,8 @@ older_before (e ∷ es) x y order h h' some older = ⊎_elim
     (λ later. ⊎_elim (λ same. let v = ap (λ (z : Entry). z.stamp) same in let w = order.0 x later (omega arith) some in absurd (omega arith))
     (λ later'. inr (older_before es x y order.1 later later' some older)) h') h
 
-pub free_signed : (c : State) → IsLawful c → FreeGuardsOweNothing c
-free_signed c l dying n s free d =
+pub free_guards_owe_nothing : OfLawful FreeGuardsOweNothing
+free_guards_owe_nothing c l dying n s free d =
     let k = some_of (dies c s n) d in let y = dies_why c s n k.0 k.1 in let at = l.signs.deaths dying n in let q = l.base.queues.at n in
     let out = λ (t : ℕ) (z : c.guard n ≡ suc t). let w : ⊥ = omega arith in w in
     subst (λ x. 0 < c.sign x) y.seat (⊎_elim
@@ -31,9 +31,6 @@ free_signed c l dying n s free d =
     at.later_holders_signed f.0 y.entry (older_before (c.queue n) f.0 y.entry q.ascends f.1 y.stands (omega arith) (omega arith))
     (omega arith) y.context (out f.0.seat) (out y.entry.seat) y.holds) i.1)
     (λ i. at.later_holders_signed i.0 y.entry i.1 i.2 y.context (out i.0.seat) (out y.entry.seat) y.holds) (y.older dying))
-
-pub free_guards_owe_nothing : OfReached FreeGuardsOweNothing
-free_guards_owe_nothing c run = free_signed c (reached_is_lawful c run)
 
 -- of the waiters with a context only the first may hold locks without a sign
 pub only_first_is_unsigned : OfReached OnlyFirstIsUnsigned

@@ -60,7 +60,8 @@ owned_below c l a n other = dite (dec_le c.locks n)
     (λ within. omega arith)
 
 pub condemned_can_die : OfReached CondemnedCanDie
-condemned_can_die c run a condemned free other k d = let l = reached_is_lawful c run in let n = condemned.lock in let h = condemned.waits in
+condemned_can_die c run a condemned free k d = let l = reached_is_lawful c run in let n = condemned.lock in let h = condemned.waits.stands in
+    let other : HasOther c a n = (condemned.awaited, (λ is. condemned.waits.other (sym is)), condemned.waits.owner) in
     let lock = owned_below c l.base a n other in
     let seat : a < c.seats = (let z = waiters_are_seats c run n h.0 h.1 in let y = h.2 in omega arith) in record {
       guard = record {

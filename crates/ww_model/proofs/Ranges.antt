@@ -1,14 +1,15 @@
 -- Of a reached state: who stands in a wait list, owns a lock or is owed a sign is one of the seats, and there is room for each.
-use Rattle.std.proofs.Common.{ℕ, suc, zero, ◌≡◌, ◌≢◌, ◌<◌, ◌≤◌, ◌==◌, ⊎_elim, Bool, true, length, IsSome, sym, ap, ◌∙◌, subst, arith, true≢false}
+use Rattle.std.proofs.Common.{ℕ, suc, zero, ◌≡◌, ◌≢◌, ◌<◌, ◌≤◌, ◌==◌, ◌⊎◌, ⊎_elim, Bool, true, length, IsSome, sym, ap, ◌∙◌, subst, arith, true≢false}
 use Rattle.ww_queue.specs.Queue.{StandsNot, IsNewStamp}
 use Rattle.ww_queue.proofs.Outcomes.{by_test, same_number}
 use Rattle.ww_queue.proofs.Rooms.{room_for}
-use Rattle.ww_model.specs.declared.state.Holder.TheVariants.{Nobody, Taken}
+use Rattle.ww_model.specs.declared.state.Holder.TheVariants.{Nobody, Taken, Handed}
 use Rattle.ww_model.specs.declared.event.Event.{Event}
 use Rattle.ww_model.specs.declared.event.Event.TheVariants.{Clear, Fast, FastGive, Take, Give}
 use Rattle.ww_model.specs.State.{State, Inside, owes, last_below, place_of}
 use Rattle.ww_model.specs.Event.{Possible, BasePossible, after, given_to, owed_to}
 use Rattle.ww_model.specs.Run.{Reached, at_start, further}
+use Rattle.ww_model.specs.Laws.{OfLawful, PlaceIsTheGuard}
 use Rattle.ww_model.proofs.Outcomes.{number_same}
 use Rattle.ww_model.proofs.Puts.{put_cases}
 use Rattle.ww_model.proofs.Options.{some_of}
@@ -46,6 +47,12 @@ pub takers_are_seats : (c : State) → Reached c → (n t : ℕ) → c.owner n �
 unfolding TakersAreSeats
 takers_are_seats c run = takers c run
 
+-- whoever owns a lock, taken or handed, is one of the seats
+pub owners_are_seats : (c : State) → Reached c → (n s : ℕ) → (c.owner n ≡ Taken s) ⊎ (c.owner n ≡ Handed s) → s < c.seats
+owners_are_seats c run n s = ⊎_elim (takers_are_seats c run n s)
+    (λ handed. let there = ((reached_is_lawful c run).base.owners.at n).handed_stands s handed in
+    subst (λ (x : ℕ). x < c.seats) there.2 (waiters_are_seats c run n there.0 there.1))
+
 -- ---- room for each
 
 pub has_room : (c : State) → Reached c → c.seats ≤ 16 → (n s : ℕ) → s < c.seats → StandsNot (c.queue n) s → length (c.queue n) < 16
@@ -74,7 +81,9 @@ last_found (suc k) test n below is only = by_test (test k) k (last_below k test)
     (λ other. last_found k test n (let apart : n ≢ k = λ e. true≢false (sym is ∙ ap test e ∙ other) in omega arith) is only)
 
 -- the guard that a seat is inside of is the one in which it is found
-pub place_is : (c : State) → Reached c → (s n : ℕ) → Inside c s n → place_of c s ≡ n
-place_is c run s n inside = let lawful = reached_is_lawful c run in
-    last_found c.locks (λ m. c.guard m == suc s) n inside.lock (number_same (c.guard n) (suc s) inside.guard)
+pub lawful_place : OfLawful PlaceIsTheGuard
+lawful_place c lawful s n inside = last_found c.locks (λ m. c.guard m == suc s) n inside.lock (number_same (c.guard n) (suc s) inside.guard)
     (λ m is. lawful.base.guards.one_guard s m n (same_number (c.guard m) (suc s) is) inside.guard)
+
+pub place_is : (c : State) → Reached c → (s n : ℕ) → Inside c s n → place_of c s ≡ n
+place_is c run = lawful_place c (reached_is_lawful c run)

@@ -11,13 +11,13 @@ use Rattle.ww_queue.specs.Queue.{Has}
 use Rattle.ww_model.specs.declared.state.Holder.TheVariants.{Taken}
 use Rattle.ww_model.specs.State.{State, OwnsSome, dies}
 use Rattle.ww_model.specs.Lawful.{IsBase, IsLawful}
-use Rattle.ww_model.specs.Waits.{WaitsFor, Leads, IsCycle, AreContexts, IsOneOf, IsCondemned}
+use Rattle.ww_model.specs.Waits.{WaitsAt, WaitsFor, Leads, IsCycle, AreContexts, IsOneOf, IsCondemned}
 use Rattle.ww_model.specs.Laws.{RingsAreCondemned, CyclesAreOfContexts}
 use Rattle.ww_model.proofs.Dues.{dies_wounded, dies_younger}
 use Rattle.ww_model.proofs.Kept.{reached_is_lawful}
 
 module _ (c : State) where
-  -- the seat waits at the lock with a context, outside the guard, and owns a lock itself
+  -- the seat waits at the lock with a context, and owns a lock itself
   pub record Member (a n : ℕ) : Type 0 where
     pub entry : Entry
     pub stands : Has (c.queue n) entry
@@ -26,7 +26,8 @@ module _ (c : State) where
     pub context : 0 < entry.stamp
     pub stamp : entry.stamp ≡ c.stamp a
     pub owns : OwnsSome c a
-    pub outside : c.guard n ≢ suc a
+    pub awaited : ℕ
+    pub waits : WaitsAt c a awaited n
 
 -- nobody hands a lock to a seat that waits for another one
 pub is_taken : (c : State) → IsBase c → (x a b : ℕ) (w : WaitsFor c x a) → WaitsFor c a b → c.owner w.0 ≡ Taken a
@@ -36,22 +37,26 @@ is_taken c l x a b w v = ⊎_elim (λ o. o)
     let p = ap c.owner same ∙ o in
     absurd (v.1.other (⊎_elim (λ q. absurd (cc)) (λ q. let z : a ≡ b = cc in z) v.1.owner))) w.1.owner
 
-pub member : (c : State) → IsBase c → (x a b : ℕ) → WaitsFor c x a → (v : WaitsFor c a b) → Member c a v.0
-member c l x a b w v =
-    let h = v.1.stands in let e = h.0 in
-    let own = is_taken c l x a b w v in
-    let own' : c.owner w.0 ≡ Taken e.seat = own ∙ ap Taken (sym h.2) in
+-- an owner that waits elsewhere is a context, and its entry says that it holds locks
+pub waiting_owner : (c : State) → IsBase c → (a b n m : ℕ) → c.owner n ≡ Taken a → WaitsAt c a b m → Member c a m
+waiting_owner c l a b n m own w =
+    let h = w.stands in let e = h.0 in
+    let own' : c.owner n ≡ Taken e.seat = own ∙ ap Taken (sym h.2) in
     record {
       entry = e;
       stands = h.1;
       seat = h.2;
-      holds = true_from_ne_false e.holds (λ f. (l.queues.at v.0).holds_not e h.1 f w.0 own');
-      context = let s = (l.queues.at v.0).stamps e h.1 in
-          dite (ℕ_discrete (c.stamp e.seat) 0) (λ z. absurd (l.solos.none_queued v.0 w.0 e h.1 z own')) (λ z. omega arith);
-      stamp = (l.queues.at v.0).stamps e h.1 ∙ ap c.stamp h.2;
-      owns = (w.0, own);
-      outside = v.1.outside;
+      holds = true_from_ne_false e.holds (λ f. (l.queues.at m).holds_not e h.1 f n own');
+      context = let s = (l.queues.at m).stamps e h.1 in
+          dite (ℕ_discrete (c.stamp e.seat) 0) (λ z. absurd (l.solos.none_queued m n e h.1 z own')) (λ z. omega arith);
+      stamp = (l.queues.at m).stamps e h.1 ∙ ap c.stamp h.2;
+      owns = (n, own);
+      awaited = b;
+      waits = w;
     }
+
+pub member : (c : State) → IsBase c → (x a b : ℕ) → WaitsFor c x a → (v : WaitsFor c a b) → Member c a v.0
+member c l x a b w v = waiting_owner c l a b w.0 v.0 (is_taken c l x a b w v) v.1
 
 -- nobody who waits is inside the guard of what it owns
 pub outside : (c : State) → IsBase c → (a b d : ℕ) (w : WaitsFor c a b) → WaitsFor c b d → c.guard w.0 ≢ suc b
@@ -65,7 +70,8 @@ condemns c a n m p d = record {
   signed = p;
   owns = m.owns;
   lock = n;
-  waits = (m.entry, m.stands, m.seat);
+  awaited = m.awaited;
+  waits = m.waits;
   dies_there = subst (λ x. IsSome (dies c x n)) m.seat d;
 }
 
@@ -91,14 +97,14 @@ pub edge : (c : State) → IsLawful c → (kind : Kind) → c.kind ≡ kind → 
 edge c l WoundWait is a b n m p q own out other = dite (dec_le (c.stamp b) (c.stamp a))
     (λ le. let d = apart c l.base a b n m p q other in inr (inr (omega arith)))
     (λ gt. let k = p.stamp in
-    let signed = l.signs.wounds is n b p.entry own out p.stands (λ g. p.outside (g ∙ ap suc p.seat)) p.holds p.context (omega arith) in
+    let signed = l.signs.wounds is n b p.entry own out p.stands (λ g. p.waits.outside (g ∙ ap suc p.seat)) p.holds p.context (omega arith) in
     inr (inl (condemns c b m q signed (dies_wounded c m q.entry is (l.base.queues.at m).once q.stands q.context q.holds
     (subst (λ x. 0 < c.sign x) (sym q.seat) signed)))))
 edge c l WaitDie is a b n m p q own out other = dite (dec_le (c.stamp a) (c.stamp b))
     (λ le. let d = apart c l.base a b n m p q other in inr (inr (omega arith)))
     (λ gt. let k = p.stamp in let j = q.stamp in let h = q.context in
     let younger : c.stamp b < p.entry.stamp = omega arith in
-    let signed = (l.signs.deaths is n).younger_signed b p.entry own (omega arith) out p.stands (λ g. p.outside (g ∙ ap suc p.seat)) p.holds younger in
+    let signed = (l.signs.deaths is n).younger_signed b p.entry own (omega arith) out p.stands (λ g. p.waits.outside (g ∙ ap suc p.seat)) p.holds younger in
     inl (condemns c a n p (subst (λ s. 0 < c.sign s) p.seat signed)
     (dies_younger c n p.entry is (l.base.queues.at n).once p.stands p.context p.holds b own (λ i. other (sym (i ∙ p.seat))) (omega arith) younger)))
 

@@ -80,7 +80,7 @@ abbrev pub Deaths : Kind → (ℕ → ℕ) → (ℕ → ℕ) → (ℕ → Holder
 Deaths kind stamp sign owner queue guard = kind ≡ WaitDie → (n : ℕ) → DeathsAt stamp sign (owner n) (queue n) (guard n)
 
 -- Where signs may stand. Wound-Wait: not on a waiter that owns no lock. Wait-Die: only on a seat that waits or is inside a
--- guard, and then it owns a lock whose guard it isn't inside of.
+-- guard.
 pub record Signs (kind : Kind) (sign : ℕ → ℕ) (owner : ℕ → Holder) (queue : ℕ → List Entry) (guard : ℕ → ℕ) : Type 0 where
   pub unowning : kind ≡ WoundWait → (n : ℕ) (e : Entry) → Has (queue n) e → ((m : ℕ) → owner m ≢ Taken e.seat) → sign e.seat ≡ 0
   pub waiting : kind ≡ WaitDie → (s : ℕ) → 0 < sign s → ((n : ℕ) × Stands (queue n) s) ⊎ ((n : ℕ) × (guard n ≡ suc s))

@@ -8,7 +8,7 @@ use Rattle.ww_model.specs.declared.state.Holder.TheVariants.{Taken}
 use Rattle.ww_model.specs.declared.event.Event.{Event}
 use Rattle.ww_model.specs.declared.event.Event.TheVariants.{FastGive, Guard, Give, Die}
 use Rattle.ww_model.specs.declared.event.Answer.TheVariants.{Deadlk}
-use Rattle.ww_model.specs.State.{State, start, OwnsSome, HasOther, dies}
+use Rattle.ww_model.specs.State.{State, start, OwnsSome, Inside, dies, place_of}
 use Rattle.ww_model.specs.Event.{BasePossible, Possible, after, answer}
 use Rattle.ww_model.specs.Lawful.{IsBase, IsLawful, KeepsBase, Keeps}
 use Rattle.ww_model.specs.Run.{Reached}
@@ -32,6 +32,16 @@ StartIsLawful = (kind : Kind) (locks seats : ℕ) → IsLawful (start kind locks
 abbrev pub TakenLeavesByGiving : Type 0
 TakenLeavesByGiving = (c : State) (e : Event) (s n : ℕ) → BasePossible c e → c.owner n ≡ Taken s → (after c e).owner n ≢ Taken s →
     (e ≡ FastGive s n) ⊎ (e ≡ Give s n)
+
+-- ---- of each lawful state
+
+-- every lawful state is so
+abbrev pub OfLawful : (State → Type 0) → Type 0
+OfLawful P = (c : State) → IsLawful c → P c
+
+-- the guard in which a seat is found is the one that it is inside of
+abbrev pub PlaceIsTheGuard : State → Type 0
+PlaceIsTheGuard c = (s n : ℕ) → Inside c s n → place_of c s ≡ n
 
 -- ---- of each reached state
 
@@ -66,7 +76,7 @@ pub record CanGoAndDie (c : State) (a n k : ℕ) : Type 0 where
   pub die : Possible (after c (Guard a n)) (Die a n)
   pub answers : answer (after c (Guard a n)) (Die a n) ≡ Deadlk k
 
--- so can a condemned seat, once the guard is free, as long as another seat owns the lock where it waits
+-- so can a condemned seat, where the guard of the lock is free
 abbrev pub CondemnedCanDie : State → Type 0
-CondemnedCanDie c = (a : ℕ) (condemned : IsCondemned c a) → c.guard condemned.lock ≡ 0 → HasOther c a condemned.lock →
-    (k : ℕ) → dies c a condemned.lock ≡ Some k → CanGoAndDie c a condemned.lock k
+CondemnedCanDie c = (a : ℕ) (condemned : IsCondemned c a) → c.guard condemned.lock ≡ 0 → (k : ℕ) → dies c a condemned.lock ≡ Some k →
+    CanGoAndDie c a condemned.lock k

@@ -10,3 +10,4 @@ pub mod Core
 pub mod Step
 pub mod Replay
 pub mod Least
+pub mod Emptied

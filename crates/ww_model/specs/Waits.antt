@@ -52,12 +52,13 @@ module _ (c : State) where
     pub contexts : AreContexts c ring
     pub different : Differ ring
 
-  -- the seat is signed, owns a lock, and must die at the lock where it waits
+  -- the seat is signed, owns a lock, and must die at the lock where it waits for another
   pub record IsCondemned (a : ℕ) : Type 0 where
     pub signed : 0 < c.sign a
     pub owns : OwnsSome c a
     pub lock : ℕ
-    pub waits : Stands (c.queue lock) a
+    pub awaited : ℕ
+    pub waits : WaitsAt c a awaited lock
     pub dies_there : IsSome (dies c a lock)
 
   -- the ring begins with the least seat that is in any ring

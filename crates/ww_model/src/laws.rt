@@ -3,7 +3,8 @@
 ghost use Rattle.ww_model.specs.Lawful.{FreeGuardsOweNothing, SignedOwnsOutside};
 ghost use Rattle.ww_model.specs.Run.{ReachedIsLawful, RunsAreLawful};
 ghost use Rattle.ww_model.specs.Met.{SignWasMet, DeadlkWasMet};
-ghost use Rattle.ww_model.specs.Laws.{BaseIsKept, LawfulIsKept, StartIsLawful, TakenLeavesByGiving, OfReached, RingsAreCondemned, CyclesAreOfContexts, QueuesAscend, OnlyFirstIsUnsigned, WaitersAreSeats, CondemnedCanDie};
+ghost use Rattle.ww_model.specs.Emptied.{CanBeEmptied};
+ghost use Rattle.ww_model.specs.Laws.{BaseIsKept, LawfulIsKept, StartIsLawful, TakenLeavesByGiving, OfLawful, PlaceIsTheGuard, OfReached, RingsAreCondemned, CyclesAreOfContexts, QueuesAscend, OnlyFirstIsUnsigned, WaitersAreSeats, CondemnedCanDie};
 
 /// Each event that is possible as far as stamps, owners, wait lists and guards go keeps these in order.
 pub fn keeps_base()
@@ -40,9 +41,14 @@ pub fn cycles_are_of_contexts()
     ensures { CyclesAreOfContexts }
 {}
 
-/// Wait-Die: where a guard is free, whoever must die there has a sign.
+/// Wait-Die, in every lawful state: where a guard is free, whoever must die there has a sign.
 pub fn free_guards_owe_nothing()
-    ensures { OfReached FreeGuardsOweNothing }
+    ensures { OfLawful FreeGuardsOweNothing }
+{}
+
+/// In every lawful state the guard in which a seat is found is the one that it is inside of.
+pub fn place_is_the_guard()
+    ensures { OfLawful PlaceIsTheGuard }
 {}
 
 /// Wait-Die: a seat with a sign owns a lock whose guard it isn't inside of.
@@ -80,7 +86,13 @@ pub fn waiters_are_seats()
     ensures { OfReached WaitersAreSeats }
 {}
 
-/// A condemned seat can go inside a free guard and die there while another seat owns the lock, and is told the stamp for which it has to die.
+/// A condemned seat can go inside the guard of the lock where it waits, if that is free, and die there, and is told the stamp
+/// for which it has to die.
 pub fn condemned_can_die()
     ensures { OfReached CondemnedCanDie }
+{}
+
+/// From every reached state a run of events that begin nothing new leads to one in which everything is free: nobody is ever stuck for good.
+pub fn can_be_emptied()
+    ensures { OfReached CanBeEmptied }
 {}

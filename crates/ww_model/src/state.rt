@@ -53,7 +53,8 @@ impl Model for Core {
 }
 
 impl Core {
-    ghost use Rattle.std.specs.Prelude.{◌≡◌, ◌<◌, ◌≤◌, IfOk};
+    ghost use Rattle.std.specs.Prelude.{ℕ, ◌≡◌, ◌<◌, ◌≤◌, ◌⊎◌, IfOk};
+    ghost use Rattle.ww_model.specs.declared.state.Holder.TheVariants.{Taken, Handed};
     ghost use Rattle.ww_model.specs.State.{start};
     ghost use Rattle.ww_model.specs.Snapshot.{state_of};
 
@@ -79,10 +80,11 @@ impl Core {
         })
     }
 
-    /// Who owns the lock.
+    /// Who owns the lock: nobody, or one of the seats.
     pub fn owner_of(&self, lock: u8) -> Holder
         requires { lock < (state_of self.now).locks }
-        ensures { result ≡ (state_of self.now).owner lock }
+        ensures owner { result ≡ (state_of self.now).owner lock }
+        ensures seat { (seat : ℕ) → (result ≡ Taken seat) ⊎ (result ≡ Handed seat) → seat < (state_of self.now).seats }
     {
         self.owners[lock as usize]
     }

@@ -10,7 +10,7 @@ ghost use Rattle.ww_model.specs.Snapshot.{guard_number};
 use crate::state::{Core, Holder, MAX_LOCKS};
 use arrayvec::ArrayVec;
 use ww_queue::{Entry, Kind, MAX_WAITERS, Queue, must_die, owed_signs};
-use ww_word::{Owner, PICKUP, WAITERS};
+use ww_word::Owner;
 
 impl Core {
     ghost use Rattle.std.specs.Prelude.{◌≡◌, ◌<◌, ◌↔◌, IsTrue};
@@ -171,11 +171,7 @@ impl Core {
                 stamp: self.stamp_at(seat),
                 flags: 0,
             },
-            Holder::Handed(seat) => Owner {
-                seat: Some(seat),
-                stamp: self.stamp_at(seat),
-                flags: WAITERS | PICKUP,
-            },
+            Holder::Handed(seat) => Owner::handed_to(seat, self.stamp_at(seat)),
         }
     }
 

@@ -12,11 +12,13 @@ use crate::terms::is_guard_of;
 use arrayvec::ArrayVec;
 
 /// A ring of contexts that each wait for the next, and the last for the first: the one with the least seat that is in any
-/// ring, beginning with that seat. `None` where there is no ring.
+/// ring, beginning with that seat. `None` where there is no ring. The kernel keeps no such list: where a ring would close,
+/// its rules have condemned a member before.
 pub fn cycle_in(core: &Core) -> Option<ArrayVec<u8, MAX_SEATS>>
     ensures { let c = state_of core.now in MatchOption result ((ring : List ℕ) → ¬ IsRing c ring) (λ ring. IsLeastRing c ring.items) }
 {
-    // Where nobody's ring is found there is none, since whoever waits is one of the seats: the core's state was reached.
+    // Where nobody's ring is found there is none, since whoever waits is one of the seats: the core's state was reached,
+    // which is known where a field is used.
     let _reached = &core.kind;
     for seat in 0..core.seats() {
         if let Some(ring) = core.ring_from(seat) {
@@ -32,7 +34,7 @@ pub fn condemned_in(core: &Core, ring: &[u8]) -> Option<u8>
     ensures least { let c = state_of core.now in MatchOption result ((a : ℕ) → IsOneOf a ring.now → ¬ IsCondemned c a) (IsLeastCondemned c ring.now) }
     ensures ring { IsRing (state_of core.now) ring.now → IsSome result }
 {
-    // In a reached state each ring has a condemned member.
+    // In a reached state each ring has a condemned member; that this one was is known where a field is used.
     let _reached = &core.kind;
     let mut least = None;
     for seat in ring {
@@ -47,7 +49,7 @@ impl Core {
     ghost use Rattle.std.specs.Prelude.{ℕ, ◌≡◌, ◌<◌, ◌↔◌, List, length, IsTrue, MatchOption};
     ghost use Rattle.ww_model.specs.Waits.{WaitsAt, WaitsFor, IsOneOf, IsRing, IsCondemned};
     ghost use Rattle.ww_model.specs.Snapshot.{state_of};
-    ghost use Rattle.ww_model.specs.Least.{IsRingFrom, DiesSome};
+    ghost use Rattle.ww_model.specs.Least.{IsRingFrom, DiesAt, DiesSome};
 
     /// How many seats there are.
     fn seats(&self) -> u8
@@ -95,7 +97,8 @@ impl Core {
         requires { first < (state_of self.now).seats }
         ensures { let c = state_of self.now in MatchOption result ((ring : List ℕ) → IsRing c ring → ¬ IsOneOf first ring) (λ ring. IsRingFrom c first ring.items) }
     {
-        // In a reached state nobody waits for two, so there is one way to go. It ends, or it comes to a seat where it was.
+        // In a reached state, which this one is known to be where a field is used, nobody waits for two: there is one way
+        // to go. It ends, or it comes to a seat where it was.
         let _reached = &self.kind;
         let mut ring = ArrayVec::new();
         let mut here = first;
@@ -109,12 +112,22 @@ impl Core {
         if here == first { Some(ring) } else { None }
     }
 
-    /// Whether the seat has to die at some lock.
+    /// Whether the seat has to die at the lock, where it waits for another.
+    fn dies_at(&self, seat: u8, lock: u8) -> bool
+        ensures { IsTrue result ↔ DiesAt (state_of self.now) seat lock }
+    {
+        match self.awaited_at(seat, lock) {
+            Some(_) => self.dies(seat, lock).is_some(),
+            None => false,
+        }
+    }
+
+    /// Whether it has to at some lock.
     fn dies_some(&self, seat: u8) -> bool
         ensures { IsTrue result ↔ DiesSome (state_of self.now) seat }
     {
         for lock in 0..self.locks() {
-            if self.waits_at(seat, lock) && self.dies(seat, lock).is_some() {
+            if self.dies_at(seat, lock) {
                 return true;
             }
         }

@@ -46,7 +46,8 @@ fn older_owner(owner: Owner, entry: Entry) -> Option<u64>
 /// The signs that the seat inside the guard owes to others, as pairs of a seat and the stamp that condemns it. In
 /// Wound-Wait the oldest waiter that holds locks wounds the owner, if that is younger; an owner to whom the lock was
 /// handed has not taken it yet, and looks at the list itself. In Wait-Die each other waiter that has to die is told.
-/// Whom to tell is the kernel's; that a seat is told by a sign with the stamp in it is ours.
+/// The kernel wakes and wounds at moments of its own. That one rule on a lock's state stands for all of these, and that a
+/// seat is told by a sign with the stamp in it, is ours: `docs/RULES.md`, "Who must die, and which signs are owed".
 pub fn owed_signs(
     kind: Kind,
     owner: Owner,
@@ -102,7 +103,7 @@ fn least_of(stamp: Option<u64>, other: Option<u64>) -> Option<u64>
 {
     match (stamp, other) {
         (Some(a), Some(b)) => Some(a.min(b)),
-        (one, none) => one.or(none),
+        (one, other) => one.or(other),
     }
 }
 

@@ -5,3 +5,4 @@ pub mod Kept
 pub mod Said
 pub mod Numbered
 pub mod Replays
+pub mod OneText

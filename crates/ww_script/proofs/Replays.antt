@@ -1,22 +1,18 @@
--- Replays of events: what is told of them, one after the other, and which seats the states name.
-use Rattle.std.proofs.Common.{◌≡◌, ◌⊎◌, ⊎_elim, ℕ, suc, ◌+◌, ◌<◌, ◌≤◌, List, [], ◌∷◌, ◌++◌, length, take, get_or, Option, Some, None, Result, Ok, Err, refl, sym, ap, ◌∙◌, subst, append_assoc}
+-- Replays of events: what is told of them, one after the other.
+use Rattle.std.proofs.Common.{◌≡◌, ℕ, suc, ◌+◌, ◌<◌, ◌≤◌, List, [], ◌∷◌, ◌++◌, length, take, get_or, Option, Some, None, Result, Ok, Err, refl, sym, ap, ◌∙◌, subst, append_assoc}
 use Rattle.std.proofs.lemmas.List.{take_more, take_all, append-nil}
 use Rattle.std.proofs.lemmas.Option.{slice_get-get_or}
 use Rattle.std.specs.Result.{OnOk}
-use Rattle.ww_model.specs.declared.state.Holder.TheVariants.{Taken, Handed}
 use Rattle.ww_model.specs.declared.event.Event.{Event}
 use Rattle.ww_model.specs.declared.event.Event.TheVariants.{Begin, Clear, Fast, FastGive, Guard, Join, Sign, Take, Ask, Give, Die, Unguard, Commit, End}
 use Rattle.ww_model.specs.declared.event.Answer.{Answer}
 use Rattle.ww_model.specs.State.{State}
 use Rattle.ww_model.specs.Event.{Possible, after, answer}
-use Rattle.ww_model.specs.Run.{state_after, IsRun, Reached, at_start, further}
-use Rattle.ww_model.proofs.Kept.{reached_is_lawful}
-use Rattle.ww_model.proofs.Leaving.{waiters_are_seats}
-use Rattle.ww_model.proofs.Ranges.{takers_are_seats}
+use Rattle.ww_model.specs.Run.{state_after, IsRun}
 use Rattle.ww_script.specs.Schedules.{Timetable}
 use Rattle.ww_script.specs.Text.{numbered}
 use Rattle.ww_script.specs.ScheduleText.{event_line, impossible_text, ring_line, condemned_line}
-use Rattle.ww_script.specs.Replay.{StopsAt, front, answers_of, run_lines, AreTold, below_count, RingOf, CondemnedOf, seats_of, IsRingTold, Replay, first_state, last_state, IsReplay, line_of_lock, line_of_seat, replay_lines, IsReplayTold}
+use Rattle.ww_script.specs.Replay.{front, answers_of, run_lines, AreTold, below_count, RingOf, CondemnedOf, seats_of, IsRingTold, Replay, first_state, last_state, IsReplay, line_of_lock, line_of_seat, replay_lines, IsReplayTold}
 use Rattle.ww_script.proofs.Numbered.{numbered_more, length_front}
 
 -- ---- runs
@@ -36,14 +32,6 @@ answers_push c (x ∷ es) e = ap (λ rest. answer c x ∷ rest) (answers_push (a
 answers_counted : (c : State) (es : List Event) → length (answers_of c es) ≡ length es
 answers_counted c [] = refl
 answers_counted c (x ∷ es) = ap suc (answers_counted (after c x) es)
-
-pub run_reaches : (c : State) (es : List Event) → Reached c → IsRun c es → Reached (state_after c es)
-run_reaches c [] reached run = reached
-run_reaches c (e ∷ es) reached run = run_reaches (after c e) es (further c e reached run.0) run.1
-
-pub front_runs : (c : State) (es : List Event) (stop : Option ℕ) → StopsAt c es stop → IsRun c (front stop es)
-front_runs c es None stops = stops
-front_runs c es (Some index) stops = stops.before
 
 same_sizes : (c : State) (e : Event) → ((after c e).locks ≡ c.locks) × ((after c e).seats ≡ c.seats)
 same_sizes c (Begin s) = (refl, refl)
@@ -65,14 +53,6 @@ same_sizes c (End s) = (refl, refl)
 pub run_sizes : (c : State) (es : List Event) → ((state_after c es).locks ≡ c.locks) × ((state_after c es).seats ≡ c.seats)
 run_sizes c [] = (refl, refl)
 run_sizes c (e ∷ es) = let here = same_sizes c e in let later = run_sizes (after c e) es in (later.0 ∙ here.0, later.1 ∙ here.1)
-
--- ---- seats
-
-pub owner_is_seat : (c : State) → Reached c → (n s : ℕ) → (c.owner n ≡ Taken s) ⊎ (c.owner n ≡ Handed s) → s < c.seats
-owner_is_seat c reached n s =
-    ⊎_elim (takers_are_seats c reached n s)
-    (λ handed. let stands = ((reached_is_lawful c reached).base.owners.at n).handed_stands s handed in
-    subst (λ t. t < c.seats) stands.2 (waiters_are_seats c reached n stands.0 stands.1))
 
 -- ---- what is told of events
 
@@ -148,21 +128,18 @@ ring_told c ring seat old mid new found condemned first second = record {
 
 -- ---- what is told of a schedule
 
--- the state after a schedule's events has its locks and seats, and was reached
+-- the state after a schedule's events has its locks and seats
 pub record IsEnd (t : Timetable) (end : State) : Type 0 where
   pub locks : end.locks ≡ t.locks
   pub seats : end.seats ≡ t.seats
-  pub reached : Reached end
 
 pub end_of : (t : Timetable) (end : State) (old new : List ℕ) → AreTold (first_state t) t.events end old new → IsEnd t end
 end_of t end old new told =
     let events = front told.stop t.events in
     let sizes = run_sizes (first_state t) events in
-    let run = front_runs (first_state t) t.events told.stop told.stops in
     record {
       locks = ap (λ (s : State). s.locks) told.state ∙ sizes.0;
       seats = ap (λ (s : State). s.seats) told.state ∙ sizes.1;
-      reached = subst Reached (sym told.state) (run_reaches (first_state t) events (at_start t.kind t.locks t.seats) run);
     }
 
 -- the same, where the first state and the events are known to be the schedule's

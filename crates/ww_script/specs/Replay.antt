@@ -104,6 +104,10 @@ IsReplayTold t old new = (r : Replay) × IsReplay t r × (new ≡ old ++ replay_
 abbrev pub IsTextOf : Timetable → List ℕ → Type 0
 IsTextOf t text = IsReplayTold t [] text
 
+-- no timetable has two texts
+abbrev pub HasOneText : Type 0
+HasOneText = (t : Timetable) (a b : List ℕ) → IsTextOf t a → IsTextOf t b → a ≡ b
+
 -- ---- parts of a text
 
 -- the events up to the first that isn't possible were told behind a text, and led to this state

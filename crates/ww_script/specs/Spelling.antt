@@ -122,6 +122,6 @@ abbrev pub IsSayable : Input → Type 0
 IsSayable (input.Scripts plan) = IsPlan plan × AllByRecursion HasPorts plan.graph
 IsSayable (input.Schedule timetable) = IsTimetable timetable
 
--- each input that keeps to the ranges, with nodes of four ports, can be said, and is read as it is
+-- each input that keeps to the ranges, with nodes of four ports, can be said by a JSON value, which is read as it
 abbrev pub EachInputCanBeSaid : Type 0
 EachInputCanBeSaid = (i : Input) → IsSayable i → input_in (input_data i) ≡ Ok i

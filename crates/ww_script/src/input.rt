@@ -82,7 +82,8 @@ pub fn reading_keeps_ranges()
     ensures { ReadingKeepsRanges }
 {}
 
-/// A law of the definition by which [`read_input`] answers: whatever keeps to the ranges can be said in an input.
+/// A law of the definition by which [`read_input`] answers: for whatever keeps to the ranges there is a JSON
+/// value that is read as it. Whether its text is too long for an input is another question.
 pub fn each_input_can_be_said()
     ensures { EachInputCanBeSaid }
 {}

@@ -16,7 +16,7 @@ mod transactions;
 pub use fault::InputFault;
 pub use input::{Input, each_input_can_be_said, read_input, reading_keeps_ranges};
 pub use outcome::{Outcome, ScriptAnswer};
-pub use replay::schedule_text;
+pub use replay::{a_schedule_has_one_text, schedule_text};
 pub use schedules::Schedule;
 pub use scripts::Scripts;
 pub use text::{outcome_text, refusal_line};

@@ -1,14 +1,14 @@
 ghost use Rattle.std.specs.Prelude.{◌≡◌, ◌<◌, ◌≤◌, ◌++◌, string_bytes, Some, OnOk, IfOk};
 ghost use Rattle.std.specs.List.{flat_map};
-ghost use Rattle.ww_model.specs.Run.{Reached};
 ghost use Rattle.ww_model.specs.Snapshot.{state_of};
 ghost use Rattle.ww_script.specs.Text.{spaced};
 ghost use Rattle.ww_script.specs.ScheduleText.{answer_text, event_line, ring_line, condemned_line, owner_text, entry_text, lock_line};
-ghost use Rattle.ww_script.specs.Replay.{first_state, owner_stamp, line_of_lock, line_of_seat, below_count, AreTold, IsRingTold, IsReplayTold, IsTextOf};
+ghost use Rattle.ww_script.specs.Replay.{first_state, owner_stamp, line_of_lock, line_of_seat, below_count, AreTold, IsRingTold, IsReplayTold, IsTextOf, HasOneText};
 
 use crate::schedules::Schedule;
 use crate::text::push_option;
 use std::alloc::{AllocError, Global};
+use ww_model::laws::runs_are_lawful;
 use ww_model::{Answer, Core, Event, Holder, condemned_in, cycle_in};
 use ww_queue::Entry;
 
@@ -94,8 +94,7 @@ fn push_lock_line(
 
 /// The stamp of the lock's owner, 0 of none.
 fn stamp_of_owner(core: &Core, lock: u8) -> u64
-    requires lock { lock < (state_of core.now).locks }
-    requires reached { Reached (state_of core.now) }
+    requires { lock < (state_of core.now).locks }
     ensures { result ≡ owner_stamp (state_of core.now) ((state_of core.now).owner lock) }
 {
     match core.owner_of(lock) {
@@ -107,8 +106,7 @@ fn stamp_of_owner(core: &Core, lock: u8) -> u64
 
 #[tactic(auto, unfolding(crate::specs::Replay::line_of_lock))]
 fn push_lock(out: &mut String, core: &Core, lock: u8) -> Result<(), AllocError>
-    requires lock { lock < (state_of core.now).locks }
-    requires reached { Reached (state_of core.now) }
+    requires { lock < (state_of core.now).locks }
     ensures { OnOk result (string_bytes out.new ≡ string_bytes out.old ++ line_of_lock (state_of core.now) lock) }
 {
     let stamp = stamp_of_owner(core, lock);
@@ -116,8 +114,7 @@ fn push_lock(out: &mut String, core: &Core, lock: u8) -> Result<(), AllocError>
 }
 
 fn push_locks(out: &mut String, core: &Core, locks: u8) -> Result<(), AllocError>
-    requires locks { locks ≤ (state_of core.now).locks }
-    requires reached { Reached (state_of core.now) }
+    requires { locks ≤ (state_of core.now).locks }
     ensures { OnOk result (string_bytes out.new ≡ string_bytes out.old
         ++ below_count locks (line_of_lock (state_of core.now))) }
 {
@@ -215,4 +212,12 @@ pub fn schedule_text(alloc: Global, schedule: &Schedule) -> Result<Vec<u8>, Allo
     let mut core = Core::new(alloc, schedule.kind, schedule.locks, schedule.seats)?;
     push_replay(&mut out, &mut core, schedule)?;
     Ok(out.into_bytes())
+}
+
+/// A law of the definition by which [`schedule_text`] answers: no schedule has two texts.
+pub fn a_schedule_has_one_text()
+    ensures { HasOneText }
+{
+    // In a lawful state nobody waits for two, so that a seat begins one ring at most.
+    runs_are_lawful();
 }

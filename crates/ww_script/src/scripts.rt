@@ -41,7 +41,7 @@ impl Model for Scripts {
     ghost invariant = { λ s. IsPlan (plan_of s.kind s.history s.graph s.scripts) };
 }
 
-/// Null, or one of `size` nodes.
+/// A node's port: null, or a node's number below 64, which is a bad graph where none of the `size` nodes has it.
 #[tactic(auto, unfolding(crate::specs::Scripts::port_in))]
 fn port_of(size: usize, value: &Value) -> Result<Option<u8>, InputFault>
     ensures { Gives (λ port. port) result (port_in size (view value.now)) }

@@ -102,7 +102,7 @@ fn move_of(size: u8, members: &[Value]) -> Result<Txn, InputFault>
     }
 }
 
-/// Null, or one of `size` nodes.
+/// A link's target: null, or the number of one of the `size` nodes. Another is out of range.
 #[tactic(auto, unfolding(crate::specs::Transactions::target_in))]
 fn target_of(size: u8, value: &Value) -> Result<Option<u8>, InputFault>
     ensures { Gives (λ target. target) result (target_in size (view value.now)) }

@@ -48,10 +48,8 @@ impl Owner {
     /// The owner of a lock that an unlock hands to the first waiter, by that waiter's seat and stamp. The waiter stands
     /// in the list until it picks the lock up, so [`WAITERS`] is set beside [`PICKUP`].
     pub fn handed_to(seat: u8, stamp: u64) -> Owner
-        requires seat { seat < 16 }
-        requires stamp { stamp < 2 ^ 56 }
         ensures same { result ≡ handed_to seat stamp }
-        ensures valid { IsValid result }
+        ensures valid { seat < 16 → stamp < 2 ^ 56 → IsValid result }
     {
         Owner {
             seat: Some(seat),

@@ -5,8 +5,8 @@ use Rattle.ww_script.specs.Replay.{line_of_lock, line_of_seat, below_count}
 use Rattle.ww_script.proofs.Replays.{on_ok, told_of, end_of, replay_told}
 use Rattle.ww_script.proofs.replay.push_replay.Goals as goal
 
-pub push_locks-requires-clause-locks : goal.push_locks-requires-clause-locks
-push_locks-requires-clause-locks c =
+pub push_locks-requires : goal.push_locks-requires
+push_locks-requires c =
     let t = c.args.schedule.now in
     let same = c.deref.ensures.value ∙ ap (λ (s : Timetable). s.events) c.schedule.view_is in
     let told = told_of t (state_of c.args.core.now) c.deref.result.now (state_of c.push_events.new.core) (string_bytes c.args.out.now) (string_bytes c.push_events.new.out) c.requires same c.in_ok-push_events.ensures in
@@ -14,13 +14,6 @@ push_locks-requires-clause-locks c =
     let size = ap (λ (s : Timetable). s.locks) c.schedule.view_is in
     let there = end.locks in
     omega arith
-
-pub push_locks-requires-clause-reached : goal.push_locks-requires-clause-reached
-push_locks-requires-clause-reached c =
-    let t = c.args.schedule.now in
-    let same = c.deref.ensures.value ∙ ap (λ (s : Timetable). s.events) c.schedule.view_is in
-    let told = told_of t (state_of c.args.core.now) c.deref.result.now (state_of c.push_events.new.core) (string_bytes c.args.out.now) (string_bytes c.push_events.new.out) c.requires same c.in_ok-push_events.ensures in
-    (end_of t (state_of c.push_events.new.core) _ _ told).reached
 
 pub push_seats-requires : goal.push_seats-requires
 push_seats-requires c =

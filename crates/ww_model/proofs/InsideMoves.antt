@@ -1,0 +1,198 @@
+-- Who is inside a guard can take the lock, die, or leave the guard.
+use Rattle.std.proofs.Common.{ℕ, ◌≡◌, ◌≢◌, ◌<◌, ◌==◌, ◌⊎◌, inl, inr, ⊎_elim, Bool, true, false, List, [], ◌∷◌, Option, Some, None, refl, sym, ap, ◌∙◌, subst, arith}
+use Rattle.std.specs.Option.{IsSome, option_map}
+use Rattle.std.specs.Prelude.{find}
+use mathlib.Core.Logic.{dite}
+use native.Mathlib.Decide.{ℕ_discrete}
+use Rattle.ww_queue.specs.declared.kind.Kind.{Kind}
+use Rattle.ww_queue.specs.declared.kind.Kind.TheVariants.{WoundWait, WaitDie}
+use Rattle.ww_queue.specs.declared.entry.Entry.{Entry}
+use Rattle.ww_queue.specs.Queue.{Has, Stands, StandsNot}
+use Rattle.ww_queue.specs.Rules.{must_die, owed_signs}
+use Rattle.ww_queue.proofs.Outcomes.{by_test, other_number}
+use Rattle.ww_queue.proofs.Deaths.{only_waiters_die}
+use Rattle.ww_queue.proofs.Signs.{signed_why}
+use Rattle.ww_model.specs.declared.state.Holder.{Holder}
+use Rattle.ww_model.specs.declared.state.Holder.TheVariants.{Nobody, Taken, Handed}
+use Rattle.ww_model.specs.declared.event.Event.TheVariants.{Clear, Sign, Unguard}
+use Rattle.ww_model.specs.State.{State, put, HasOther, Inside, MayOwn, IsCalm, owner_as, dies, owes, place_of}
+use Rattle.ww_model.specs.Event.{Possible, owed_to, after}
+use Rattle.ww_model.specs.Lawful.{IsLawful}
+use Rattle.ww_model.specs.Run.{Reached}
+use Rattle.ww_model.specs.Emptied.{LeadsTo}
+use Rattle.ww_model.proofs.Puts.{put_here, put_cases}
+use Rattle.ww_model.proofs.Dues.{by_kind, sign_for, sign_some}
+use Rattle.ww_model.proofs.Kept.{reached_is_lawful}
+use Rattle.ww_model.proofs.Outside.{signed_owns_outside}
+use Rattle.ww_model.proofs.Ranges.{place_is}
+use Rattle.ww_model.proofs.Moves.{stay, first, and_then, ButSigns, Move, takes, dies as dies_now, leaves}
+
+-- the state with these signs
+abbrev pub with_signs : State → (ℕ → ℕ) → State
+with_signs c signs = record c { sign = signs }
+
+-- ---- a waiter, by what it owns
+
+pub stands_or_not : (q : List Entry) (s : ℕ) → Stands q s ⊎ StandsNot q s
+stands_or_not [] s = inr (λ e h. absurd h)
+stands_or_not (x ∷ xs) s = dite (ℕ_discrete x.seat s)
+    (λ is. inl (x, inl refl, is))
+    (λ isnt. ⊎_elim (λ later. inl (later.0, inr later.1, later.2))
+    (λ none. inr (λ e h. ⊎_elim (λ same other. isnt (sym (ap (λ (y : Entry). y.seat) same) ∙ other)) (λ h'. none e h') h))
+    (stands_or_not xs s))
+
+module _ (c : State) (reached : Reached c) (s n : ℕ) (waits : Stands (c.queue n) s) where
+  lawful : IsLawful c
+  lawful = reached_is_lawful c reached
+
+  pub waiter_may_own : MayOwn c s
+  waiter_may_own = dite (ℕ_discrete (c.stamp s) 0)
+      (λ none. inr (λ m own. lawful.base.solos.none_queued n m waits.0 waits.1 (ap c.stamp waits.2 ∙ none) (own ∙ ap Taken (sym waits.2))))
+      (λ some. inl (omega arith))
+
+  -- a waiter that owns no lock has no sign
+  pub waiter_is_calm : IsCalm c s
+  waiter_is_calm = dite (ℕ_discrete (c.sign s) 0) inl
+      (λ some. let signed : 0 < c.sign s = omega arith in by_kind c.kind (IsCalm c s)
+      (λ wounding. by_holds wounding waits.0.holds refl)
+      (λ dying. let own = signed_owns_outside c reached dying s signed in inr (own.0, own.1)))
+    where
+      by_holds : c.kind ≡ WoundWait → (holds : Bool) → waits.0.holds ≡ holds → IsCalm c s
+      by_holds wounding true is = let own = (lawful.base.queues.at n).holds waits.0 waits.1 is in inr (own.0, own.1 ∙ ap Taken waits.2)
+      by_holds wounding false is = inl (ap c.sign (sym waits.2) ∙ lawful.signs.signs.unowning wounding n waits.0 waits.1 ((lawful.base.queues.at n).holds_not waits.0 waits.1 is))
+
+-- ---- leaving the guard
+
+-- a sign doesn't say who has to die in Wait-Die
+dies_unsigned : (kind : Kind) → kind ≡ WaitDie → (c : State) (s n sign sign' : ℕ) →
+    must_die kind (owner_as c (c.owner n)) (c.queue n) s sign ≡ must_die kind (owner_as c (c.owner n)) (c.queue n) s sign'
+dies_unsigned WoundWait dying c s n sign sign' = absurd (cc)
+dies_unsigned WaitDie dying c s n sign sign' = refl
+
+owed_there : (v k : ℕ) (pairs : List (ℕ × ℕ)) → Has pairs (v, k) → IsSome (owed_to v pairs)
+owed_there v k [] h = absurd h
+owed_there v k (p ∷ ps) h = by_test (p.0 == v) (Some p) (find (λ (x : ℕ × ℕ). x.0 == v) ps) (λ o. IsSome (option_map (λ (x : ℕ × ℕ). x.1) o))
+    (λ _. refl)
+    (λ isnt. ⊎_elim (λ is. absurd (other_number p.0 v isnt (sym (ap (λ (x : ℕ × ℕ). x.0) is)))) (λ later. owed_there v k ps later) h)
+
+module _ (c : State) (s n : ℕ) (inside : Inside c s n) where
+  -- the signs that are owed to these are given, and in Wait-Die the seat itself gets none
+  record ArePaid (pairs : List (ℕ × ℕ)) (d : State) : Type 0 where
+    pub signs : ℕ → ℕ
+    pub state : d ≡ with_signs c signs
+    pub signed : (v k : ℕ) → Has pairs (v, k) → signs v ≢ 0
+    pub unsigned : c.kind ≡ WaitDie → signs s ≡ 0
+
+  -- one sign more
+  pay_one : (pairs : List (ℕ × ℕ)) (v k : ℕ) → Has (owes c s n) (v, k) → (d : State) → Reached d → ArePaid pairs d → LeadsTo d (ArePaid ((v, k) ∷ pairs))
+  pay_one pairs v k owed d reached paid = subst (λ x. LeadsTo x (ArePaid ((v, k) ∷ pairs))) (sym paid.state) (dite (ℕ_discrete (paid.signs v) 0)
+      (λ none. first e (Sign s v) (ArePaid ((v, k) ∷ pairs)) tt (can none) (stay (after e (Sign s v)) (ArePaid ((v, k) ∷ pairs)) (record {
+        signs = put paid.signs v (sign_for e s v);
+        state = refl;
+        signed = λ u j h. put_cases paid.signs v (sign_for e s v) u (λ x. x ≢ 0) (λ _ z. let p = given none in omega arith)
+            (λ isnt. ⊎_elim (λ is. absurd (isnt (ap (λ (x : ℕ × ℕ). x.0) is))) (λ h'. paid.signed u j h') h);
+        unsigned = λ dying. put_cases paid.signs v (sign_for e s v) s (λ x. x ≡ 0)
+            (λ is. absurd ((signed_why (owner_as c (c.owner n)) (c.queue n) s v k (subst (λ x. Has (owed_signs x (owner_as c (c.owner n)) (c.queue n) s) (v, k)) dying owed)).0 (sym is)))
+            (λ _. paid.unsigned dying);
+      })))
+      (λ some. stay e (ArePaid ((v, k) ∷ pairs)) (record {
+        signs = paid.signs;
+        state = refl;
+        signed = λ u j h. ⊎_elim (λ is z. some (sym (ap paid.signs (ap (λ (x : ℕ × ℕ). x.0) is)) ∙ z)) (λ h'. paid.signed u j h') h;
+        unsigned = paid.unsigned;
+      })))
+    where
+      e : State
+      e = with_signs c paid.signs
+
+      reached_e : Reached e
+      reached_e = subst Reached paid.state reached
+
+      place : place_of e s ≡ n
+      place = place_is e reached_e s n (record { guard = inside.guard; lock = inside.lock; seat = inside.seat })
+
+      can_pay : IsSome (owed_to v (owes e s (place_of e s)))
+      can_pay = subst (λ m. IsSome (owed_to v (owes e s m))) (sym place) (owed_there v k (owes c s n) owed)
+
+      given : paid.signs v ≡ 0 → 0 < sign_for e s v
+      given none = sign_some e s v (reached_is_lawful e reached_e).base can_pay
+
+      can : paid.signs v ≡ 0 → Possible e (Sign s v)
+      can none = record {
+        base = subst (λ m. Inside e s m) (sym place) (record { guard = inside.guard; lock = inside.lock; seat = inside.seat });
+        signs = record { unsigned = none; owed = can_pay };
+      }
+
+  pay : (pairs : List (ℕ × ℕ)) → ((v k : ℕ) → Has pairs (v, k) → Has (owes c s n) (v, k)) → (d : State) → Reached d → ArePaid [] d → LeadsTo d (ArePaid pairs)
+  pay [] owed d reached paid = stay d (ArePaid []) paid
+  pay (p ∷ ps) owed d reached paid = and_then d (ArePaid ps) (ArePaid (p ∷ ps)) reached (pay ps (λ v k h. owed v k (inr h)) d reached paid)
+      (λ d' reached' paid'. pay_one ps p.0 p.1 (owed p.0 p.1 (inl refl)) d' reached' paid')
+
+  -- whoever is not kept inside leaves, after it has cleared its sign, in Wait-Die, and paid what it owes
+  pub leave : Reached c → (Stands (c.queue n) s → HasOther c s n) → (c.kind ≡ WaitDie → dies c s n ≡ None) → LeadsTo c (λ d. ButSigns c d × Possible d (Unguard s n))
+  leave reached contended lives = and_then c (ArePaid []) (λ d. ButSigns c d × Possible d (Unguard s n)) reached cleared
+      (λ d reached' paid. and_then d (ArePaid (owes c s n)) (λ d. ButSigns c d × Possible d (Unguard s n)) reached'
+      (pay (owes c s n) (λ v k h. h) d reached' paid)
+      (λ d' _ paid'. stay d' (λ d. ButSigns c d × Possible d (Unguard s n)) ((paid'.signs, paid'.state), subst (λ x. Possible x (Unguard s n)) (sym paid'.state) (can_leave paid'.signs paid'.signed paid'.unsigned))))
+    where
+      lawful : IsLawful c
+      lawful = reached_is_lawful c reached
+
+      stays : (c.kind ≡ WaitDie → c.sign s ≡ 0) → LeadsTo c (ArePaid [])
+      stays none = stay c (ArePaid []) (record { signs = c.sign; state = refl; signed = λ v k h. absurd h; unsigned = none })
+
+      cleared : LeadsTo c (ArePaid [])
+      cleared = by_kind c.kind (LeadsTo c (ArePaid []))
+          (λ wounding. stays (λ dying. absurd (let clash = sym wounding ∙ dying in cc)))
+          (λ dying. dite (ℕ_discrete (c.sign s) 0)
+          (λ none. stays (λ _. none))
+          (λ some. first c (Clear s) (ArePaid []) tt (record {
+            base = let older = lawful.signs.older_signs s (omega arith) in omega arith;
+            signs = inr (n, record { kind = dying; inside = inside; lives = lives dying });
+          }) (stay (after c (Clear s)) (ArePaid []) (record {
+            signs = put c.sign s 0;
+            state = refl;
+            signed = λ v k h. absurd h;
+            unsigned = λ _. put_here c.sign s 0;
+          }))))
+
+      can_leave : (signs : ℕ → ℕ) → ((v k : ℕ) → Has (owes c s n) (v, k) → signs v ≢ 0) → (c.kind ≡ WaitDie → signs s ≡ 0) → Possible (with_signs c signs) (Unguard s n)
+      can_leave signs signed unsigned = record {
+        base = record { inside = record { guard = inside.guard; lock = inside.lock; seat = inside.seat }; contended = contended };
+        signs = record {
+          signed = signed;
+          safe = λ dying. record { lives = dies_unsigned c.kind dying c s n (signs s) (c.sign s) ∙ lives dying; unsigned = unsigned dying };
+        };
+      }
+
+-- ---- what is possible inside
+
+-- a waiter that another keeps from the lock dies or leaves
+meets_other : (c : State) → Reached c → (s n : ℕ) → Inside c s n → Stands (c.queue n) s → HasOther c s n → (cause : Option ℕ) → dies c s n ≡ cause → Move c
+meets_other c reached s n inside waits other (Some k) is = dies_now c s n (record {
+  base = record { inside = inside; waits = waits; other = other };
+  signs = subst IsSome (sym is) refl;
+})
+meets_other c reached s n inside waits other None is = leaves c s n (leave c s n inside reached (λ _. other) (λ _. is))
+
+-- a waiter that finds the lock free takes it
+finds_free : (c : State) → Reached c → (s n : ℕ) → Inside c s n → Stands (c.queue n) s → (c.owner n ≡ Nobody) ⊎ (c.owner n ≡ Handed s) → Move c
+finds_free c reached s n inside waits free = takes c s n waits (record {
+  base = record { inside = inside; may_own = waiter_may_own c reached s n waits; free = free };
+  signs = waiter_is_calm c reached s n waits;
+})
+
+waits_inside : (c : State) → Reached c → (s n : ℕ) → Inside c s n → Stands (c.queue n) s → (owner : Holder) → c.owner n ≡ owner → Move c
+waits_inside c reached s n inside waits Nobody is = finds_free c reached s n inside waits (inl is)
+waits_inside c reached s n inside waits (Taken t) is = dite (ℕ_discrete t s)
+    (λ same. absurd (((reached_is_lawful c reached).base.owners.at n).taken_stands_not t is waits.0 waits.1 (waits.2 ∙ sym same)))
+    (λ isnt. meets_other c reached s n inside waits (t, isnt, inl is) (dies c s n) refl)
+waits_inside c reached s n inside waits (Handed t) is = dite (ℕ_discrete t s)
+    (λ same. finds_free c reached s n inside waits (inr (is ∙ ap Handed same)))
+    (λ isnt. meets_other c reached s n inside waits (t, isnt, inr is) (dies c s n) refl)
+
+pub inside_move : (c : State) → Reached c → (s n : ℕ) → Inside c s n → Move c
+inside_move c reached s n inside = ⊎_elim
+    (λ waits. waits_inside c reached s n inside waits (c.owner n) refl)
+    (λ none. leaves c s n (leave c s n inside reached (λ waits. absurd (none waits.0 waits.1 waits.2)) (λ _. only_waiters_die c.kind (owner_as c (c.owner n)) (c.queue n) s (c.sign s) none)))
+    (stands_or_not (c.queue n) s)

@@ -1,0 +1,45 @@
+-- That the core can always be emptied again.
+use Rattle.std.specs.Prelude.{ℕ, ◌≡◌, false, List, [], ◌∷◌}
+use Rattle.ww_queue.specs.Queue.{Stands}
+use Rattle.ww_model.specs.declared.state.Holder.TheVariants.{Nobody}
+use Rattle.ww_model.specs.declared.event.Event.{Event}
+use Rattle.ww_model.specs.declared.event.Event.TheVariants.{Begin, Fast, Join, Take, Ask, Commit}
+use Rattle.ww_model.specs.State.{State}
+use Rattle.ww_model.specs.Event.{after}
+use Rattle.ww_model.specs.Run.{state_after, IsRun}
+
+-- every lock is free, nobody waits or is inside a guard, and no seat has a context or a sign
+pub record IsEmptied (c : State) : Type 0 where
+  pub owner : (n : ℕ) → c.owner n ≡ Nobody
+  pub queue : (n : ℕ) → c.queue n ≡ []
+  pub asked : (n : ℕ) → c.asked n ≡ false
+  pub guard : (n : ℕ) → c.guard n ≡ 0
+  pub stamp : (s : ℕ) → c.stamp s ≡ 0
+  pub sign : (s : ℕ) → c.sign s ≡ 0
+
+-- The event winds up: with it no context begins, nobody joins a wait list or takes a lock without having waited for it,
+-- nothing is committed and nothing asked for.
+abbrev pub WindsUp : State → Event → Type 0
+WindsUp c (Begin s) = ⊥
+WindsUp c (Fast s n) = ⊥
+WindsUp c (Join s n) = ⊥
+WindsUp c (Take s n) = Stands (c.queue n) s
+WindsUp c (Ask s n) = ⊥
+WindsUp c (Commit s) = ⊥
+WindsUp c _ = Unit {0}
+
+-- each of the events does, in its turn
+abbrev pub AllWindUp : State → List Event → Type 0
+AllWindUp c [] = Unit {0}
+AllWindUp c (e ∷ es) = WindsUp c e × AllWindUp (after c e) es
+
+-- a run of events that wind up leads from the state to one like this
+pub record LeadsTo (c : State) (P : State → Type 0) : Type 0 where
+  pub events : List Event
+  pub winds_up : AllWindUp c events
+  pub run : IsRun c events
+  pub there : P (state_after c events)
+
+-- ... to one in which everything is free
+abbrev pub CanBeEmptied : State → Type 0
+CanBeEmptied c = LeadsTo c IsEmptied
