@@ -89,7 +89,7 @@ outside_moving graph from to amount n a b = elim (true_or_false (nat_lt (value_o
   ])
 ]
 
-outside_turned : (graph : List Node) (p : ℕ) (before : Option ℕ) (vs : List ℕ) (n : ℕ) → is_among n vs ≡ false → node_at (turned graph p before vs) n ≡ node_at graph n
+pub outside_turned : (graph : List Node) (p : ℕ) (before : Option ℕ) (vs : List ℕ) (n : ℕ) → is_among n vs ≡ false → node_at (turned graph p before vs) n ≡ node_at graph n
 outside_turned graph p before [] n e = refl
 outside_turned graph p before (v ∷ vs) n e =
     let both = or_false (eqb v n) (is_among n vs) e in

@@ -12,6 +12,12 @@ all_at P [] i d default all = default
 all_at P (x ∷ xs) zero d default all = all.0
 all_at P (x ∷ xs) (suc i) d default all = all_at P xs i d default all.1
 
+-- what holds of each element of a list holds of the one at a position
+pub all_item : {X : Type 0} (P : X → Type 0) (xs : List X) (i : ℕ) (d : X) → i < length xs → AllByRecursion P xs → P (get_or xs i d)
+all_item P [] i d lt all = absurd (omega arith)
+all_item P (x ∷ xs) zero d lt all = all.0
+all_item P (x ∷ xs) (suc i) d lt all = all_item P xs i d (omega arith) all.1
+
 pub all_set : {X : Type 0} (P : X → Type 0) (xs : List X) (i : ℕ) (x : X) → P x → AllByRecursion P xs → AllByRecursion P (set xs i x)
 all_set P [] i y here all = tt
 all_set P (x ∷ xs) zero y here all = (here, all.1)

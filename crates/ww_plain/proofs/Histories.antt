@@ -35,7 +35,7 @@ legal_front : (graph : List Node) (front rest : List Recorded) → IsLegal graph
 legal_front graph [] rest h = (tt, h)
 legal_front graph (r ∷ rs) rest h = let later = legal_front (graph_after graph r.transaction) rs rest h.1 in ((h.0, later.0), later.1)
 
-legal_append : (graph : List Node) (front rest : List Recorded) → IsLegal graph front → IsLegal (last_graph graph front) rest → IsLegal graph (front ++ rest)
+pub legal_append : (graph : List Node) (front rest : List Recorded) → IsLegal graph front → IsLegal (last_graph graph front) rest → IsLegal graph (front ++ rest)
 legal_append graph [] rest a b = b
 legal_append graph (r ∷ rs) rest a b = (a.0, legal_append (graph_after graph r.transaction) rs rest a.1 b)
 
@@ -48,7 +48,7 @@ part_step : (own : Bool) (entry : ℕ × Recorded) (xs ys zs : List (ℕ × Reco
 part_step true entry xs ys zs e = ap (λ rest. entry ∷ rest) e
 part_step false entry xs ys zs e = e
 
-part_from-append : (place caller : ℕ) (front rest : List Recorded) → part_from place caller (front ++ rest) ≡ part_from place caller front ++ part_from (place + length front) caller rest
+pub part_from-append : (place caller : ℕ) (front rest : List Recorded) → part_from place caller (front ++ rest) ≡ part_from place caller front ++ part_from (place + length front) caller rest
 part_from-append place caller [] rest = let same : place ≡ place + 0 = omega arith in ap (λ p. part_from p caller rest) same
 part_from-append place caller (r ∷ rs) rest =
     let same : place + 1 + length rs ≡ place + suc (length rs) = omega arith in

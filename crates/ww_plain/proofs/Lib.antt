@@ -8,3 +8,4 @@ pub mod Turns
 pub mod Kept
 pub mod Histories
 pub mod Frames
+pub mod Reversals

@@ -1,8 +1,18 @@
 //! Laws of the plain graph: each function's contract is one.
 
-ghost use Rattle.ww_plain.specs.Laws.{WalkIsTheOne, TransactionKeepsGraph, OnlyFootprintChanges, OnlyFootprintMatters, FootprintIsWhatConcerns, HistoryGoesOn, HistoryGrows};
+ghost use Rattle.std.specs.Prelude.{◌≡◌};
+ghost use Rattle.ww_plain.specs.Laws.{WalkIsTheOne, TransactionKeepsGraph, OnlyFootprintChanges, OnlyFootprintMatters, FootprintIsWhatConcerns, ReverseTurnsTheWalk, HistoryGoesOn, HistoryGrows};
 
-/// The walk is the one list with a walk's four properties.
+use crate::graph::MAX_NODES;
+use crate::node::PORTS;
+
+/// A graph has at most 64 nodes, and a node has 4 ports.
+pub fn limits()
+    ensures nodes { MAX_NODES ≡ 64 }
+    ensures ports { PORTS ≡ 4 }
+{}
+
+/// The walk is the one list with a walk's five properties.
 pub fn walk_is_the_one()
     ensures { WalkIsTheOne }
 {}
@@ -23,9 +33,16 @@ pub fn only_footprint_matters()
     ensures { OnlyFootprintMatters }
 {}
 
-/// A footprint names each node that concerns its transaction once: those of the list, or those of the walk and its stop.
+/// A footprint names each node that concerns its transaction once: those of the list, a link's node and its target, those of
+/// the walk and its stop, or the node of a peek.
 pub fn footprint_is_what_concerns()
     ensures { FootprintIsWhatConcerns }
+{}
+
+/// A `Reverse` turns its walk: along the port, the walk's first node leads to where its last one led, and each other one to
+/// the node before it. No other port, no value and no other node changes.
+pub fn reverse_turns_the_walk()
+    ensures { ReverseTurnsTheWalk }
 {}
 
 /// A history's every front is legal, and what comes behind it is legal from where the front ends.

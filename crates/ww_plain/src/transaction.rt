@@ -5,7 +5,7 @@ ghost use Rattle.ww_plain.specs.Numbers.{is_among};
 use crate::graph::MAX_NODES;
 use crate::node::PORTS;
 
-/// Which way of taking many locks a transaction asks for. The plain graph makes no difference of it.
+/// Which way of taking many locks a transaction asks for. The plain graph treats both alike.
 #[derive(Clone, Copy, Debug, PartialEq, Eq)]
 pub enum By {
     /// Along the fixed list.
