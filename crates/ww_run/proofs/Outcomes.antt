@@ -4,6 +4,7 @@ use Rattle.std.specs.Prelude.{◌==◌}
 use Rattle.std.proofs.lemmas.Bool.Decides.{nat_tests}
 use Rattle.std.proofs.lemmas.List.{map_push, map-append, append-nil}
 use Rattle.std.specs.List.{AllByRecursion}
+use Rattle.std.specs.Bool.{then_some}
 use Rattle.ww_plain.specs.declared.node.Node.{Node}
 use Rattle.ww_plain.specs.Graph.{IsGraph}
 use Rattle.std.specs.Global.{Vec}
@@ -13,19 +14,10 @@ use Rattle.ww_plain.specs.Transaction.{Transaction, transaction_of, Fits, listed
 use Rattle.ww_plain.specs.Meaning.{Answer, meaning, answer_to, graph_after}
 use Rattle.ww_plain.specs.History.{Recorded, IsNext, IsLegal, last_graph, part_from, part_of}
 use Rattle.ww_script.specs.Outcome.{Said, answered, already, IsRecordOf, IsAnswered, AreAnswered, places_of, place_list, Told, LeadsTo, IsOutcome}
+use Rattle.ww_plain.proofs.GraphFacts.{all_item}
 use Rattle.ww_plain.proofs.Kept.{sized_after, keeps_graph}
+use Rattle.ww_plain.proofs.Histories.{last_graph-append, legal_append, part_from-append}
 use Rattle.ww_run.specs.Workers.{IsCarriedOut}
-
--- the fold, and what is legal, over two histories in a row
-pub last_graph-append : (graph : List Node) (rs more : List Recorded)
-    → last_graph graph (rs ++ more) ≡ last_graph (last_graph graph rs) more
-last_graph-append graph [] more = refl
-last_graph-append graph (r ∷ rs) more = last_graph-append (graph_after graph r.transaction) rs more
-
-pub legal_append : (graph : List Node) (rs more : List Recorded) → IsLegal graph rs
-    → IsLegal (last_graph graph rs) more → IsLegal graph (rs ++ more)
-legal_append graph [] more p q = q
-legal_append graph (r ∷ rs) more p q = (p.0, legal_append (graph_after graph r.transaction) rs more p.1 q)
 
 pub all_append : {X : Type 0} (P : X → Type 0) (xs ys : List X) → AllByRecursion P xs → AllByRecursion P ys
     → AllByRecursion P (xs ++ ys)
@@ -42,23 +34,6 @@ same_test n = grind (arith, nat_tests)
 
 other_test : (m n : ℕ) → m ≢ n → (m == n) ≡ false
 other_test m n h = grind (arith, nat_tests)
-
-chosen-append : {X : Type 0} (b : Bool) (x : X) (xs ys : List X)
-    → if◌then◌else◌ b (x ∷ (xs ++ ys)) (xs ++ ys) ≡ if◌then◌else◌ b (x ∷ xs) xs ++ ys
-chosen-append true x xs ys = refl
-chosen-append false x xs ys = refl
-
--- the part of a caller, over two histories in a row
-pub part_from-append : (place caller : ℕ) (rs more : List Recorded)
-    → part_from place caller (rs ++ more) ≡ part_from place caller rs ++ part_from (place + length rs) caller more
-part_from-append place caller [] more = ap (λ k. part_from k caller more) (sym (add-zero place))
-part_from-append place caller (r ∷ rs) more =
-    let next : place + 1 + length rs ≡ place + suc (length rs) = omega arith in
-    let later = part_from-append (place + 1) caller rs more
-    ∙ ap (λ k. part_from (place + 1) caller rs ++ part_from k caller more) next in
-    ap (λ ps. if◌then◌else◌ (r.caller == caller) ((place, r) ∷ ps) ps) later
-    ∙ chosen-append (r.caller == caller) (place, r) (part_from (place + 1) caller rs)
-    (part_from (place + suc (length rs)) caller more)
 
 -- who has no record has no part
 pub part_from-others : (place caller : ℕ) (rs : List Recorded) → AllByRecursion (λ r. r.caller ≢ caller) rs
@@ -319,12 +294,6 @@ scripts_more scripts replies graph next last places told caller script saids h i
       graph_still = subst IsGraph d.last kept.0;
     }
 
-pub all_item : {X : Type 0} (P : X → Type 0) (xs : List X) (i : ℕ) (d : X) → i < length xs → AllByRecursion P xs
-    → P (get_or xs i d)
-all_item P [] i d lt h = absurd (omega arith)
-all_item P (x ∷ xs) zero d lt h = h.0
-all_item P (x ∷ xs) (suc i) d lt h = all_item P xs i d (omega arith) h.1
-
 -- the same two steps, as a loop makes them
 pub step_double : (caller : ℕ) (txns txns' : List Transaction) (saids saids' : List Said)
     (graph next next' : List Node) (places told told' : List (ℕ × ℕ)) (seq seq' : ℕ) (t : Transaction) (n : ℕ)
@@ -379,13 +348,10 @@ pub step_script : (scripts scripts' : List (List Transaction)) (replies replies'
 step_script scripts scripts' replies replies' graph next last places told caller script saids e f is h d =
     rw (e, f) (scripts_more scripts replies graph next last places told caller script saids h is d)
 
-pub places_told : (b : Bool) (told : Option (Vec (ℕ × ℕ))) (places : Vec (ℕ × ℕ)) → b ≡ true → told ≡ Some places
+pub places_told : (b : Bool) (told : Option (Vec (ℕ × ℕ))) (places : Vec (ℕ × ℕ)) → told ≡ then_some b places
     → place_list told ≡ if◌then◌else◌ b (Some places.items) None
-places_told b told places e f = rw (e, f) refl
-
-pub places_untold : (b : Bool) (told : Option (Vec (ℕ × ℕ))) (places : Vec (ℕ × ℕ)) → b ≡ false → told ≡ None
-    → place_list told ≡ if◌then◌else◌ b (Some places.items) None
-places_untold b told places e f = rw (e, f) refl
+places_told true told places e = rw e refl
+places_told false told places e = rw e refl
 
 -- what all scripts came to is an outcome
 pub outcome_of : (seen plan : Plan) (told : Told) (scripts : List (List Transaction)) (places : List (ℕ × ℕ))

@@ -64,10 +64,11 @@ pub record IsReplayText (input text : List ℕ) : Type 0 where
 abbrev pub IsTextFor : List ℕ → List ℕ → Type 0
 IsTextFor input text = IsOutcomeText input text ⊎ IsReplayText input text
 
--- the input has the fault, where it is refused for one
+-- The input has the fault, where it is refused for one. No run starts a thread yet, so none is given up for want of one.
 abbrev pub IsRefusedFor : List ℕ → Refusal → Type 0
 IsRefusedFor input (Input fault) = fault ≢ NoMemory → reading input ≡ Err fault
-IsRefusedFor input (Run fault) = Unit {0}
+IsRefusedFor input (Run run.NoMemory) = Unit {0}
+IsRefusedFor input (Run run.NoThread) = ⊥
 
 -- the input has a fault, which want of memory isn't, and this is the fault's line
 pub record IsRefusalLine (input text : List ℕ) : Type 0 where
@@ -76,9 +77,9 @@ pub record IsRefusalLine (input text : List ℕ) : Type 0 where
   pub read : reading input ≡ Err fault
   pub text_is : text ≡ line_of (number_of fault)
 
--- the line that says that memory or a thread was refused
+-- the line that says that memory was refused; that of a thread joins it once runs start threads
 abbrev pub IsStopLine : List ℕ → Type 0
-IsStopLine text = (text ≡ line_of 16) ⊎ (text ≡ line_of 19)
+IsStopLine text = text ≡ line_of 16
 
 -- these bytes were read: all that there were, unless that was one more than an input may have
 pub record IsRead (left rest : Option (List ℕ)) (input : List ℕ) : Type 0 where

@@ -25,7 +25,7 @@ pub enum Status {
     ReadFailed,
     /// The writer failed. It has a front of what was to be written.
     WriteFailed,
-    /// Memory or a thread was refused, and the line that says so was written.
+    /// Memory was refused, and the line that says so was written.
     Stopped,
 }
 
@@ -45,12 +45,12 @@ impl Status {
     }
 }
 
-/// Why there is no outcome.
+/// Why there is neither an outcome nor a replay.
 #[derive(Clone, Copy, Debug, PartialEq, Eq)]
 pub(crate) enum Refusal {
     /// The input has this fault, or there was no memory to read it.
     Input(InputFault),
-    /// The scripts were given up.
+    /// The scripts, or the text of a replay, were given up.
     Run(RunFault),
 }
 
@@ -136,7 +136,7 @@ fn write_line<W: Write>(writer: &mut W, number: u8) -> io::Result<()>
     write_out(writer, b"\n")
 }
 
-/// Ends a run with the text of an outcome.
+/// Ends a run with the text of an outcome or of a replay.
 fn end<W: Write>(writer: &mut W, text: &[u8]) -> Status
     ensures { Writes (W.contents writer.old) (W.contents writer.new) Ended text.now result }
 {

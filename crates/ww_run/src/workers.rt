@@ -11,11 +11,12 @@ use thiserror::Error;
 use ww_plain::{Graph, Txn, apply, first_double};
 use ww_script::{Outcome, ScriptAnswer, Scripts};
 
-/// Why scripts were given up. The numbers are those of the refusal lines.
+/// Why scripts, or the text of a schedule's replay, were given up. The numbers are those of the refusal lines.
 #[derive(Clone, Copy, Debug, PartialEq, Eq, Error)]
 pub enum RunFault {
     #[error("no memory")]
     NoMemory = 16,
+    /// For the day when each script has a thread of its own: until then no run ends with it.
     #[error("no thread")]
     NoThread = 19,
 }
@@ -86,7 +87,7 @@ pub fn run_scripts<H>(_rt: &H, alloc: Global, scripts: Scripts) -> Result<Outcom
     }
     Ok(Outcome {
         replies,
-        places: if history { Some(places) } else { None },
+        places: history.then_some(places),
         graph,
     })
 }

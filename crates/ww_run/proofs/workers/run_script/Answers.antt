@@ -2,7 +2,8 @@ use Rattle.std.proofs.Common.{◌++◌, ◌∷◌, [], length, map, take, ap, �
 use Rattle.std.proofs.lemmas.List.{map_push, map_more}
 use Rattle.ww_plain.specs.Transaction.{transaction_of, listed, FirstDouble, Fits}
 use Rattle.ww_script.specs.Outcome.{said_of}
-use Rattle.ww_run.proofs.Outcomes.{under_way, step_double, step_more, all_item}
+use Rattle.ww_plain.proofs.GraphFacts.{all_item}
+use Rattle.ww_run.proofs.Outcomes.{under_way, step_double, step_more}
 use Rattle.ww_run.proofs.workers.run_script.Goals as goal
 use Rattle.ww_run.proofs.workers.run_script.Goals.{in-Some, in-None+in_ok-reply-in-None+in_ok-push-in-None}
 

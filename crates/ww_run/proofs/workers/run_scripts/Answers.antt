@@ -2,9 +2,8 @@ use Rattle.std.proofs.Common.{◌++◌, ◌∷◌, [], length, map, take, ap, �
 use Rattle.std.proofs.lemmas.List.{map_push, map_more, take_all}
 use Rattle.ww_plain.specs.Transaction.{transaction_of}
 use Rattle.ww_script.specs.Outcome.{said_of}
-use Rattle.ww_run.proofs.Outcomes.{length_taken, step_script, script_fits, places_told, places_untold, outcome_of}
+use Rattle.ww_run.proofs.Outcomes.{length_taken, step_script, script_fits, places_told, outcome_of}
 use Rattle.ww_run.proofs.workers.run_scripts.Goals as goal
-use Rattle.ww_run.proofs.workers.run_scripts.Goals.{then-history, else-history}
 
 pub run_script-requires-clause-fits : goal.run_script-requires-clause-fits
 run_script-requires-clause-fits g c =
@@ -36,7 +35,4 @@ returns-clause-outcome g c =
     let all = ap (map (λ s. map transaction_of s.items))
     (take_all c.loop-script.script items c.loop-script-test.false ∙ c.deref-txns-items.ensures.value) in
     outcome_of _ c.args.scripts _ _ c.loop-script.places.items c.scripts.view_is all c.loop-script.invariant
-    (elim c.if-history.branch [
-      | then-history w ↦ places_told _ _ c.loop-script.places w.if-history.true w.result-is
-      | else-history w ↦ places_untold _ _ c.loop-script.places w.if-history.false w.result-is
-    ])
+    (places_told _ _ c.loop-script.places c.then_some.ensures)
