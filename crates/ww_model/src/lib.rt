@@ -16,6 +16,3 @@ pub use event::{Answer, Event, NotPossible};
 pub use run::{ReplayFault, replay};
 pub use state::{Core, Holder, MAX_LOCKS, MAX_SEATS};
 pub use waits::{condemned_in, cycle_in};
-
-#[cfg(test)]
-mod tests;

@@ -80,6 +80,20 @@ impl Core {
         })
     }
 
+    /// How many locks there are.
+    pub fn locks(&self) -> u8
+        ensures { result ≡ (state_of self.now).locks }
+    {
+        self.owners.len() as u8
+    }
+
+    /// How many seats there are.
+    pub fn seats(&self) -> u8
+        ensures { result ≡ (state_of self.now).seats }
+    {
+        self.stamps.len() as u8
+    }
+
     /// Who owns the lock: nobody, or one of the seats.
     pub fn owner_of(&self, lock: u8) -> Holder
         requires { lock < (state_of self.now).locks }

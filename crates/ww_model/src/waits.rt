@@ -51,21 +51,6 @@ impl Core {
     ghost use Rattle.ww_model.specs.Snapshot.{state_of};
     ghost use Rattle.ww_model.specs.Least.{IsRingFrom, DiesAt, DiesSome};
 
-    /// How many seats there are.
-    fn seats(&self) -> u8
-        ensures { result ≡ (state_of self.now).seats }
-    {
-        self.stamps.len() as u8
-    }
-
-    /// How many locks there are.
-    fn locks(&self) -> u8
-        ensures locks { result ≡ (state_of self.now).locks }
-        ensures queues { result ≡ length self.now.queues }
-    {
-        self.owners.len() as u8
-    }
-
     /// The seat for which this one waits at the lock, if it waits there.
     fn awaited_at(&self, seat: u8, lock: u8) -> Option<u8>
         ensures { let c = state_of self.now in MatchOption result ((b : ℕ) → ¬ WaitsAt c seat b lock) (λ b. WaitsAt c seat b lock) }

@@ -9,3 +9,4 @@ pub mod Kept
 pub mod Histories
 pub mod Frames
 pub mod Reversals
+pub mod Sames

@@ -44,6 +44,11 @@ abbrev pub IsRefused : List Node → GraphFault → Type 0
 IsRefused nodes BadSize = (length nodes < 1) ⊎ (MAX_NODES < length nodes)
 IsRefused nodes BadGraph = (1 ≤ length nodes) × (length nodes ≤ MAX_NODES) × ¬ AllByRecursion (IsNodeOf (length nodes)) nodes
 
+-- the number of a fault
+abbrev pub number_of : GraphFault → ℕ
+number_of BadSize = 1
+number_of BadGraph = 2
+
 -- the two graphs have the same nodes at these positions
 abbrev pub Agree : List Node → List Node → List ℕ → Type 0
 Agree graph other ns = (n : ℕ) → IsTrue (is_among n ns) → node_at graph n ≡ node_at other n

@@ -1,4 +1,4 @@
-ghost use Rattle.std.specs.Prelude.{◌≡◌, ◌≤◌, ◌<◌, ◌↔◌, length, IsTrue, IsOk, IfOk, IfErr, slice_get, Some};
+ghost use Rattle.std.specs.Prelude.{◌≡◌, ◌≤◌, ◌<◌, ◌↔◌, length, IsTrue, IsOk, IfOk, IfErr, slice_get, slice_set, Some};
 
 use crate::node::Node;
 use std::alloc::{AllocError, Global};
@@ -14,6 +14,17 @@ pub enum GraphFault {
     BadSize = 1,
     /// A port names a node that isn't there.
     BadGraph = 2,
+}
+
+impl GraphFault {
+    ghost use Rattle.ww_plain.specs.Graph.{number_of};
+
+    /// The number of the fault.
+    pub fn number(self) -> u8
+        ensures { result ≡ number_of self }
+    {
+        self as u8
+    }
 }
 
 /// A graph of 1 to 64 nodes, of which each port names one that is there. Contracts see it as the list of its nodes.
@@ -35,7 +46,7 @@ impl Model for Graph {
 }
 
 impl Graph {
-    ghost use Rattle.ww_plain.specs.Graph.{IsGraph, IsRefused};
+    ghost use Rattle.ww_plain.specs.Graph.{IsGraph, IsRefused, node_at};
 
     /// Takes the nodes for a graph. It looks at their number first, and gives them back where they are none.
     pub fn new(nodes: Vec<Node>) -> Result<Graph, (Vec<Node>, GraphFault)>
@@ -70,11 +81,27 @@ impl Graph {
         self.nodes[n as usize]
     }
 
+    /// Takes one node over from another graph of the same size.
+    pub fn take_from(&mut self, other: &Graph, n: u8)
+        requires there { n < length self.old }
+        requires sizes { length other.now ≡ length self.old }
+        ensures { self.new ≡ slice_set self.old n (node_at other.now n) }
+    {
+        self.nodes[usize::from(n)] = other.nodes[usize::from(n)];
+    }
+
     /// A second graph with the same nodes.
     pub fn copy(&self, alloc: Global) -> Result<Graph, AllocError>
         ensures { IfOk result (λ graph. graph ≡ self.now) }
     {
         let nodes = Vec::from_slice(alloc, &self.nodes)?;
         Ok(Graph { nodes })
+    }
+    /// Whether it is the same graph.
+    #[tactic(auto, using(crate::proofs::Sames::nodes_same))]
+    pub fn is_same(&self, other: &Graph) -> bool
+        ensures { IsTrue result ↔ self.now ≡ other.now }
+    {
+        self.nodes == other.nodes
     }
 }

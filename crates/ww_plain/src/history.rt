@@ -1,6 +1,6 @@
-ghost use Rattle.std.specs.Prelude.{◌≡◌, IfOk, MatchBool};
+ghost use Rattle.std.specs.Prelude.{◌≡◌, ◌↔◌, IsTrue, IfOk, MatchBool};
 ghost use Rattle.std.specs.Option.{SomeIff};
-ghost use Rattle.ww_plain.specs.Meaning.{graph_after};
+ghost use Rattle.ww_plain.specs.Meaning.{answer_of, graph_after};
 ghost use Rattle.ww_plain.specs.History.{recorded_of, history_of, IsNext, IsLegal, last_graph};
 
 use crate::graph::Graph;
@@ -29,13 +29,59 @@ pub enum Reply {
     End(u8),
 }
 
+impl Reply {
+    /// A second reply with the same answer.
+    pub fn copy(&self, alloc: Global) -> Result<Reply, AllocError>
+        ensures { IfOk result (λ reply. answer_of reply ≡ answer_of self.now) }
+    {
+        Ok(match self {
+            Reply::Values(values) => Reply::Values(Vec::from_slice(alloc, values)?),
+            Reply::Done => Reply::Done,
+            Reply::Moved => Reply::Moved,
+            Reply::Short => Reply::Short,
+            Reply::Full => Reply::Full,
+            Reply::Was(target) => Reply::Was(*target),
+            Reply::Sum(count, total) => Reply::Sum(*count, *total),
+            Reply::End(last) => Reply::End(*last),
+        })
+    }
+
+    /// Whether it is the same answer.
+    pub fn is_same(&self, other: &Reply) -> bool
+        ensures { IsTrue result ↔ answer_of self.now ≡ answer_of other.now }
+    {
+        self == other
+    }
+}
+
 /// A committed transaction: whose it was, which of that caller's, and what it was answered.
-#[derive(Debug, Drop)]
+#[derive(Debug, PartialEq, Eq, Drop)]
 pub struct Record {
     pub caller: u8,
     pub seq: u64,
     pub txn: Txn,
     pub reply: Reply,
+}
+
+impl Record {
+    /// A second record that says the same.
+    pub fn copy(&self, alloc: Global) -> Result<Record, AllocError>
+        ensures { IfOk result (λ r. recorded_of r ≡ recorded_of self.now) }
+    {
+        Ok(Record {
+            caller: self.caller,
+            seq: self.seq,
+            txn: self.txn.copy(alloc)?,
+            reply: self.reply.copy(alloc)?,
+        })
+    }
+
+    /// Whether it says the same.
+    pub fn is_same(&self, other: &Record) -> bool
+        ensures { IsTrue result ↔ recorded_of self.now ≡ recorded_of other.now }
+    {
+        self == other
+    }
 }
 
 /// The last graph of the records' history, if that is legal from the graph given: each transaction fits, has no double,

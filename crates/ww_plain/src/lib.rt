@@ -16,6 +16,3 @@ pub use history::{Record, Reply, replays};
 pub use meaning::apply;
 pub use node::{Node, PORTS};
 pub use transaction::{By, Txn, first_double};
-
-#[cfg(test)]
-mod tests;

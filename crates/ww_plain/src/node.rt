@@ -9,7 +9,7 @@ pub struct Node {
 }
 
 impl Node {
-    ghost use Rattle.std.specs.Prelude.{◌↔◌, IsTrue};
+    ghost use Rattle.std.specs.Prelude.{◌≡◌, ◌↔◌, IsTrue};
     ghost use Rattle.ww_plain.specs.Graph.{IsNodeOf};
 
     /// Each port is empty, or names one of `size` nodes.
@@ -17,5 +17,13 @@ impl Node {
         ensures { IsTrue result ↔ IsNodeOf size self.now }
     {
         self.ports.iter().all(|port| port.is_none_or(|target| usize::from(target) < size))
+    }
+
+    /// Whether it is the same node.
+    #[tactic(auto, using(crate::proofs::Sames::node_same))]
+    pub fn is_same(&self, other: &Node) -> bool
+        ensures { IsTrue result ↔ self.now ≡ other.now }
+    {
+        self == other
     }
 }

@@ -4,6 +4,7 @@ ghost use Rattle.ww_plain.specs.Numbers.{is_among};
 
 use crate::graph::MAX_NODES;
 use crate::node::PORTS;
+use std::alloc::{AllocError, Global};
 
 /// Which way of taking many locks a transaction asks for. The plain graph treats both alike.
 #[derive(Clone, Copy, Debug, PartialEq, Eq)]
@@ -15,7 +16,7 @@ pub enum By {
 }
 
 /// A transaction on the nodes of a graph.
-#[derive(Debug, Drop)]
+#[derive(Debug, PartialEq, Eq, Drop)]
 pub enum Txn {
     /// Asks for the values of the nodes, in the order of the list.
     Get(By, Vec<u8>),
@@ -34,6 +35,7 @@ pub enum Txn {
 }
 
 impl Txn {
+    ghost use Rattle.std.specs.Prelude.{IfOk};
     ghost use Rattle.ww_plain.specs.Transaction.{transaction_of, Fits};
 
     /// Whether all of the transaction's numbers are within the limits of a graph of `size` nodes.
@@ -58,6 +60,28 @@ impl Txn {
             }
             Txn::Peek(node) => *node < size,
         }
+    }
+
+    /// A second transaction that asks for the same.
+    pub fn copy(&self, alloc: Global) -> Result<Txn, AllocError>
+        ensures { IfOk result (λ txn. transaction_of txn ≡ transaction_of self.now) }
+    {
+        Ok(match self {
+            Txn::Get(by, nodes) => Txn::Get(*by, Vec::from_slice(alloc, nodes)?),
+            Txn::Add(by, amounts) => Txn::Add(*by, Vec::from_slice(alloc, amounts)?),
+            Txn::Move(from, to, amount) => Txn::Move(*from, *to, *amount),
+            Txn::Link(node, port, target) => Txn::Link(*node, *port, *target),
+            Txn::Sum(start, port, most) => Txn::Sum(*start, *port, *most),
+            Txn::Reverse(start, port, most) => Txn::Reverse(*start, *port, *most),
+            Txn::Peek(node) => Txn::Peek(*node),
+        })
+    }
+
+    /// Whether it asks for the same.
+    pub fn is_same(&self, other: &Txn) -> bool
+        ensures { IsTrue result ↔ transaction_of self.now ≡ transaction_of other.now }
+    {
+        self == other
     }
 }
 

@@ -1,6 +1,14 @@
 //! Laws of wait lists and their rules: each function's contract is one.
 
+ghost use Rattle.std.specs.Prelude.{◌≡◌};
 ghost use Rattle.ww_queue.specs.Laws.{JoinTakesItsPlace, SoloJoinsLast, JoinKeepsEach, JoinKeepsOrder, LeaveTakesOneOut, LeaveKeepsOrder, EachSeatHasRoom, AheadIsFirstContext, WaitDieCondemns, WoundWaitCondemns, OnlyWaitersDie, DeathIsOfOlder, SignsAreDeaths, SignIsWound};
+
+use crate::queue::MAX_WAITERS;
+
+/// A list has room for 16 waiters.
+pub fn limits()
+    ensures { MAX_WAITERS ≡ 16 }
+{}
 
 /// Whoever joins stands immediately before the first younger context, else last, and nobody else moves.
 pub fn join_takes_its_place()

@@ -11,6 +11,3 @@ pub use entry::Entry;
 pub use kind::Kind;
 pub use queue::{MAX_WAITERS, Queue};
 pub use rules::{must_die, owed_signs};
-
-#[cfg(test)]
-mod tests;

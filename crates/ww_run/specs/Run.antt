@@ -1,16 +1,16 @@
 -- What a run reads and writes.
 use Rattle.std.specs.Prelude.{ℕ, ◌≡◌, ◌≢◌, ◌≤◌, ◌<◌, ◌⊎◌, ◌++◌, List, length, codes, Option, Ok, Err}
 use Rattle.std.specs.Io.KnownBytes.{Appends, Keeps, Consumes, IsAtEnd}
-use Rattle.ww_script.specs.declared.fault.InputFault.{InputFault}
-use Rattle.ww_script.specs.declared.fault.InputFault.TheVariants.{NoMemory}
-use Rattle.ww_script.specs.Fault.{number_of}
+use Rattle.ww_parts.specs.declared.fault.InputFault.{InputFault}
+use Rattle.ww_parts.specs.declared.fault.InputFault.TheVariants.{NoMemory}
+use Rattle.ww_script.specs.Fault.{number_of, refusal_text}
 use Rattle.ww_script.specs.declared.input.Input.TheVariants.{Scripts, Schedule}
 use Rattle.ww_script.specs.Scripts.{Plan}
 use Rattle.ww_script.specs.Schedules.{Timetable}
 use Rattle.ww_script.specs.Replay.{IsTextOf}
 use Rattle.ww_script.specs.Reading.{reading}
 use Rattle.ww_script.specs.Outcome.{Told, IsOutcome}
-use Rattle.ww_script.specs.Text.{outcome_lines, refusal_text}
+use Rattle.ww_script.specs.Text.{outcome_lines}
 use Rattle.ww_run.specs.declared.workers.RunFault.TheVariants as run
 use Rattle.ww_run.specs.declared.run.Refusal.{Refusal}
 use Rattle.ww_run.specs.declared.run.Refusal.TheVariants.{Input, Run}

@@ -1,15 +1,14 @@
 ghost use Rattle.std.specs.Prelude.{◌≡◌, ◌<◌, length};
 ghost use Rattle.serde_json.specs.View.{view};
-ghost use Rattle.ww_script.specs.Parts.{Gives};
+ghost use Rattle.ww_parts.specs.Parts.{Gives, Says};
 ghost use Rattle.ww_script.specs.Reading.{version_in, input_in, parsed, reading, ReadingKeepsRanges};
 ghost use Rattle.ww_script.specs.Spelling.{EachInputCanBeSaid};
 
-use crate::fault::InputFault;
-use crate::parts::{member_of, size_of};
-use crate::schedules::{Schedule, schedule_of};
-use crate::scripts::{Scripts, scripts_of};
 use serde_json::{Category, Value};
 use std::alloc::Global;
+use ww_parts::{InputFault, member_of, size_of};
+use ww_plan::{Scripts, scripts_of};
+use ww_schedule::{Schedule, schedule_of};
 
 /// How many bytes an input has at most.
 const MAX_BYTES: usize = 1_048_576;
@@ -38,7 +37,7 @@ fn value_of(alloc: Global, bytes: &[u8]) -> Result<Value, InputFault>
 /// The version is 1.
 #[tactic(auto, unfolding(crate::specs::Reading::version_in))]
 fn version_of(value: &Value) -> Result<(), InputFault>
-    ensures { Gives (λ done. done) result (version_in (view value.now)) }
+    ensures { Says (λ done. done) result (version_in (view value.now)) }
 {
     let version = member_of("version", value)?;
     let number = version.as_number().ok_or(InputFault::BadType)?;

@@ -1,12 +1,11 @@
 -- Owner words: one for each valid owner, and what the flags do to it.
-use Rattle.std.proofs.Common.{ℕ, ◌≡◌, ◌==◌, ◌+◌, not, bit_and, ⊎_elim, Some, None, refl, sym, ap, subst, arith}
+use Rattle.std.proofs.Common.{ℕ, ◌≡◌, ◌==◌, not, bit_and, ⊎_elim, Some, None, refl, sym, ap, subst, arith}
 use Rattle.std.proofs.lemmas.Grind.{common_steps}
-use Rattle.ww_word.specs.declared.owner.TheConstants.{WAITERS, PICKUP}
 use Rattle.ww_word.specs.Owner.{IsValid, AreFlags, packed}
 use Rattle.ww_word.specs.Laws.{PackingFits, PackingIsInjective, UnpackingIsInverse, ReadingIsUnique, WaitersAddOne, HandingTellsPickup, ZeroIsIdle}
 
 TellsPickup : ℕ → Type 0
-TellsPickup flags = not (bit_and flags PICKUP == 0) ≡ (flags == WAITERS + PICKUP)
+TellsPickup flags = not (bit_and flags 4 == 0) ≡ (flags == 5)
 
 by_flags : (flags : ℕ) → AreFlags flags → TellsPickup flags
 unfolding TellsPickup

@@ -1,7 +1,6 @@
 -- What holds of owner words as a whole.
 use Rattle.std.specs.Prelude.{ℕ, ◌≡◌, ◌+◌, ◌*◌, ◌^◌, ◌<◌, ◌==◌, ◌↔◌, Option, Some, if◌then◌else◌}
 use Rattle.ww_word.specs.declared.owner.Owner.{Owner}
-use Rattle.ww_word.specs.declared.owner.TheConstants.{WAITERS, PICKUP}
 use Rattle.ww_word.specs.Owner.{IsValid, packed, IsReadOf, is_handed, idle, with_waiters, handed_to}
 
 -- a valid owner packs to 64 bits
@@ -22,10 +21,10 @@ UnpackingIsInverse =
 abbrev pub ReadingIsUnique : Type 0
 ReadingIsUnique = (word : ℕ) (read other : Option Owner) → IsReadOf word read → IsReadOf word other → read ≡ other
 
--- WAITERS adds its number to a word that has no flag, and leaves the others
+-- WAITERS adds 1 to a word that has no flag, and leaves the others
 abbrev pub WaitersAddOne : Type 0
 WaitersAddOne = (owner : Owner) → IsValid owner →
-    packed (with_waiters owner) ≡ (if owner.flags == 0 then packed owner + WAITERS else packed owner)
+    packed (with_waiters owner) ≡ (if owner.flags == 0 then packed owner + 1 else packed owner)
 
 -- handing over makes the word of that seat and stamp with WAITERS and PICKUP
 abbrev pub HandingIsSeatAndStamp : Type 0
@@ -33,7 +32,7 @@ HandingIsSeatAndStamp = (seat stamp : ℕ) → packed (handed_to seat stamp) ≡
 
 -- of a valid owner the flags WAITERS and PICKUP, and no others, tell that the lock was handed over
 abbrev pub HandingTellsPickup : Type 0
-HandingTellsPickup = (owner : Owner) → IsValid owner → is_handed owner ≡ (owner.flags == WAITERS + PICKUP)
+HandingTellsPickup = (owner : Owner) → IsValid owner → is_handed owner ≡ (owner.flags == 5)
 
 -- the word 0 is the free lock with an empty wait list, and no other owner's
 abbrev pub ZeroIsIdle : Type 0

@@ -1,6 +1,16 @@
 //! Laws of owner words: each function's contract is one.
 
+ghost use Rattle.std.specs.Prelude.{◌≡◌};
 ghost use Rattle.ww_word.specs.Laws.{PackingFits, PackingIsInjective, UnpackingIsInverse, ReadingIsUnique, WaitersAddOne, HandingIsSeatAndStamp, HandingTellsPickup, ZeroIsIdle};
+
+use crate::owner::{HANDOFF, PICKUP, WAITERS};
+
+/// The numbers of the flags.
+pub fn flag_numbers()
+    ensures waiters { WAITERS ≡ 1 }
+    ensures handoff { HANDOFF ≡ 2 }
+    ensures pickup { PICKUP ≡ 4 }
+{}
 
 /// A valid owner packs to 64 bits.
 pub fn packing_fits()

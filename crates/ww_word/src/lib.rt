@@ -5,6 +5,3 @@ pub mod laws;
 mod owner;
 
 pub use owner::{HANDOFF, Owner, PICKUP, WAITERS, pack, unpack};
-
-#[cfg(test)]
-mod tests;

@@ -35,9 +35,8 @@ impl Owner {
 
     /// The same owner, with [`WAITERS`] set.
     pub fn with_waiters(self) -> Owner
-        requires { IsValid self }
         ensures same { result ≡ with_waiters self }
-        ensures valid { IsValid result }
+        ensures valid { IsValid self → IsValid result }
     {
         Owner {
             flags: self.flags | WAITERS,

@@ -2,7 +2,7 @@ use Rattle.std.proofs.Common.{◌∙◌, subst, List, ℕ}
 use Rattle.std.specs.Prelude.{codes}
 use Rattle.std.specs.Io.KnownBytes.{Appends}
 use Rattle.std.proofs.lemmas.Result.{on_ok_weaker, on_err_weaker}
-use Rattle.ww_script.specs.Text.{refusal_text}
+use Rattle.ww_script.specs.Fault.{refusal_text}
 use Rattle.ww_run.specs.Streams.{AppendsFront}
 use Rattle.ww_run.specs.Run.{line_of}
 use Rattle.ww_run.proofs.Bytes.{appends_then, front_more, front_after, on_err_always}

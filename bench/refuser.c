@@ -1,0 +1,76 @@
+/* Preloaded before a program, this refuses some of its allocations: those from number REFUSE_FIRST to number REFUSE_LAST,
+ * counted from 1 since the program began. For each it writes one byte to descriptor 9, so that whoever started the
+ * program can tell that something was refused, and how often.
+ *
+ * It includes no header and wants no start-up code, so that a compiler that stands alone can make it too. */
+
+typedef __SIZE_TYPE__ size_t;
+
+enum { TOLD = 9, INVALID = 22, NO_MEMORY = 12 };
+
+char *getenv(const char *name);
+unsigned long strtoul(const char *text, char **end, int base);
+long write(int descriptor, const void *bytes, size_t count);
+int *__errno_location(void);
+
+/* What the C library does under the names below, where nothing stands before it. */
+void *__libc_malloc(size_t size);
+void *__libc_calloc(size_t count, size_t size);
+void *__libc_realloc(void *block, size_t size);
+void *__libc_memalign(size_t alignment, size_t size);
+
+static unsigned long first, last, asked;
+
+static unsigned long number(const char *name) {
+    const char *text = getenv(name);
+    return text ? strtoul(text, 0, 10) : 0;
+}
+
+/* Until this has run `last` is 0, so the loader's own allocations are neither counted nor refused. */
+__attribute__((constructor)) static void start(void) {
+    first = number("REFUSE_FIRST");
+    last = number("REFUSE_LAST");
+}
+
+static int is_refused(void) {
+    if (last == 0)
+        return 0;
+    asked++;
+    if (asked < first || asked > last)
+        return 0;
+    /* A byte that can't be written is missed by whoever counts them, so nothing is to be done about it here. */
+    if (write(TOLD, ".", 1) != 1) {
+    }
+    *__errno_location() = NO_MEMORY;
+    return 1;
+}
+
+void *malloc(size_t size) {
+    return is_refused() ? 0 : __libc_malloc(size);
+}
+
+void *calloc(size_t count, size_t size) {
+    return is_refused() ? 0 : __libc_calloc(count, size);
+}
+
+void *realloc(void *block, size_t size) {
+    return is_refused() ? 0 : __libc_realloc(block, size);
+}
+
+void *memalign(size_t alignment, size_t size) {
+    return is_refused() ? 0 : __libc_memalign(alignment, size);
+}
+
+void *aligned_alloc(size_t alignment, size_t size) {
+    return memalign(alignment, size);
+}
+
+int posix_memalign(void **block, size_t alignment, size_t size) {
+    if (alignment < sizeof(void *) || (alignment & (alignment - 1)) != 0)
+        return INVALID;
+    void *made = memalign(alignment, size);
+    if (!made)
+        return NO_MEMORY;
+    *block = made;
+    return 0;
+}

@@ -1,0 +1,8 @@
+//! What comes of scripts, and how it is told.
+#![tactic(auto)]
+
+mod outcome;
+mod text;
+
+pub use outcome::{Outcome, ScriptAnswer};
+pub use text::outcome_text;

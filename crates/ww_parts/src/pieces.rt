@@ -1,0 +1,16 @@
+//! Pieces of a line that several kinds of lines have.
+
+ghost use Rattle.std.specs.Prelude.{◌≡◌, ◌++◌, string_bytes, OnOk};
+ghost use Rattle.ww_parts.specs.Pieces.{spaced_or_dash};
+
+use std::alloc::AllocError;
+
+/// A number behind a space, or a dash where there is none.
+pub fn push_option(out: &mut String, number: Option<u8>) -> Result<(), AllocError>
+    ensures { OnOk result (string_bytes out.new ≡ string_bytes out.old ++ spaced_or_dash number) }
+{
+    match number {
+        None => out.push_str(" -"),
+        Some(number) => write!(out, " {number}"),
+    }
+}

@@ -1,0 +1,191 @@
+//! The forms of transactions. Of a transaction's own faults each comes before any fault of its members.
+
+ghost use Rattle.std.specs.Prelude.{map};
+ghost use Rattle.serde_json.specs.View.{view};
+ghost use Rattle.ww_plain.specs.Transaction.{transaction_of};
+ghost use Rattle.ww_parts.specs.Parts.{Gives, Says, below, each};
+ghost use Rattle.ww_plan.specs.Transactions.{by_in, get_of as get_members, pair_in, add_of as add_members, move_of as move_members, target_in, link_of as link_members, course_of as course_members, sum_of as sum_members, reverse_of as reverse_members, peek_of as peek_members, transaction_in};
+
+use serde_json::Value;
+use std::alloc::Global;
+use ww_parts::{InputFault, array_of, below_of, counted_of, number_of, ranged_of, text_of};
+use ww_plain::{By, MAX_NODES, PORTS, Txn};
+
+#[tactic(auto, unfolding(crate::specs::Transactions::by_in))]
+fn by_of(value: &Value) -> Result<By, InputFault>
+    ensures { Says (λ by. by) result (by_in (view value.now)) }
+{
+    match text_of(value)? {
+        "list" => Ok(By::List),
+        "order" => Ok(By::Order),
+        _ => Err(InputFault::BadWord),
+    }
+}
+
+fn each_below(alloc: Global, limit: u8, items: &[Value]) -> Result<Vec<u8>, InputFault>
+    ensures { Gives (λ numbers. numbers.items) result (each (below limit) (map view items.now)) }
+{
+    let mut numbers = Vec::new(alloc);
+    for item in items {
+        let number = below_of(limit, item)?;
+        numbers.push(number)?;
+    }
+    Ok(numbers)
+}
+
+fn get_of(alloc: Global, size: u8, members: &[Value]) -> Result<Txn, InputFault>
+    ensures { Gives transaction_of result (get_members size (map view members.now)) }
+{
+    match members {
+        [by, nodes] => {
+            let by = by_of(by)?;
+            let items = counted_of(1, MAX_NODES, nodes)?;
+            let nodes = each_below(alloc, size, items)?;
+            Ok(Txn::Get(by, nodes))
+        }
+        _ => Err(InputFault::BadWord),
+    }
+}
+
+/// A node of a graph of `size` nodes, and an amount.
+#[tactic(auto, unfolding(crate::specs::Transactions::pair_in))]
+fn pair_of(size: u8, value: &Value) -> Result<(u8, u64), InputFault>
+    ensures { Says (λ pair. pair) result (pair_in size (view value.now)) }
+{
+    match array_of(value)?.as_slice() {
+        [node, amount] => {
+            let node = below_of(size, node)?;
+            let amount = number_of(amount)?;
+            Ok((node, amount))
+        }
+        _ => Err(InputFault::BadWord),
+    }
+}
+
+fn each_pair(alloc: Global, size: u8, items: &[Value]) -> Result<Vec<(u8, u64)>, InputFault>
+    ensures { Gives (λ pairs. pairs.items) result (each (pair_in size) (map view items.now)) }
+{
+    let mut pairs = Vec::new(alloc);
+    for item in items {
+        let pair = pair_of(size, item)?;
+        pairs.push(pair)?;
+    }
+    Ok(pairs)
+}
+
+fn add_of(alloc: Global, size: u8, members: &[Value]) -> Result<Txn, InputFault>
+    ensures { Gives transaction_of result (add_members size (map view members.now)) }
+{
+    match members {
+        [by, pairs] => {
+            let by = by_of(by)?;
+            let items = counted_of(1, MAX_NODES, pairs)?;
+            let pairs = each_pair(alloc, size, items)?;
+            Ok(Txn::Add(by, pairs))
+        }
+        _ => Err(InputFault::BadWord),
+    }
+}
+
+fn move_of(size: u8, members: &[Value]) -> Result<Txn, InputFault>
+    ensures { Says transaction_of result (move_members size (map view members.now)) }
+{
+    match members {
+        [from, to, amount] => {
+            let from = below_of(size, from)?;
+            let to = below_of(size, to)?;
+            let amount = number_of(amount)?;
+            Ok(Txn::Move(from, to, amount))
+        }
+        _ => Err(InputFault::BadWord),
+    }
+}
+
+/// A link's target: null, or the number of one of the `size` nodes. Another is out of range.
+#[tactic(auto, unfolding(crate::specs::Transactions::target_in))]
+fn target_of(size: u8, value: &Value) -> Result<Option<u8>, InputFault>
+    ensures { Says (λ target. target) result (target_in size (view value.now)) }
+{
+    if value.is_null() {
+        return Ok(None);
+    }
+    let target = below_of(size, value)?;
+    Ok(Some(target))
+}
+
+fn link_of(size: u8, members: &[Value]) -> Result<Txn, InputFault>
+    ensures { Says transaction_of result (link_members size (map view members.now)) }
+{
+    match members {
+        [node, port, target] => {
+            let node = below_of(size, node)?;
+            let port = below_of(PORTS as u8, port)?;
+            let target = target_of(size, target)?;
+            Ok(Txn::Link(node, port, target))
+        }
+        _ => Err(InputFault::BadWord),
+    }
+}
+
+/// Where a walk starts, along which port it leads, and its greatest length.
+fn course_of(size: u8, members: &[Value]) -> Result<(u8, u8, u8), InputFault>
+    ensures { Says (λ course. course) result (course_members size (map view members.now)) }
+{
+    match members {
+        [start, port, length] => {
+            let start = below_of(size, start)?;
+            let port = below_of(PORTS as u8, port)?;
+            let length = ranged_of(1, MAX_NODES as u8, length)?;
+            Ok((start, port, length))
+        }
+        _ => Err(InputFault::BadWord),
+    }
+}
+
+#[tactic(auto, unfolding(crate::specs::Transactions::sum_of))]
+fn sum_of(size: u8, members: &[Value]) -> Result<Txn, InputFault>
+    ensures { Says transaction_of result (sum_members size (map view members.now)) }
+{
+    let (start, port, length) = course_of(size, members)?;
+    Ok(Txn::Sum(start, port, length))
+}
+
+#[tactic(auto, unfolding(crate::specs::Transactions::reverse_of))]
+fn reverse_of(size: u8, members: &[Value]) -> Result<Txn, InputFault>
+    ensures { Says transaction_of result (reverse_members size (map view members.now)) }
+{
+    let (start, port, length) = course_of(size, members)?;
+    Ok(Txn::Reverse(start, port, length))
+}
+
+fn peek_of(size: u8, members: &[Value]) -> Result<Txn, InputFault>
+    ensures { Says transaction_of result (peek_members size (map view members.now)) }
+{
+    match members {
+        [node] => {
+            let node = below_of(size, node)?;
+            Ok(Txn::Peek(node))
+        }
+        _ => Err(InputFault::BadWord),
+    }
+}
+
+/// A word, and then the members that it asks for.
+#[tactic(auto, unfolding(crate::specs::Transactions::transaction_in))]
+pub(crate) fn transaction_of(alloc: Global, size: u8, value: &Value) -> Result<Txn, InputFault>
+    ensures { Gives transaction_of result (transaction_in size (view value.now)) }
+{
+    match array_of(value)?.as_slice() {
+        [word, members @ ..] => match text_of(word)? {
+            "get" => get_of(alloc, size, members),
+            "add" => add_of(alloc, size, members),
+            "move" => move_of(size, members),
+            "link" => link_of(size, members),
+            "sum" => sum_of(size, members),
+            "reverse" => reverse_of(size, members),
+            "peek" => peek_of(size, members),
+            _ => Err(InputFault::BadWord),
+        },
+        [] => Err(InputFault::BadWord),
+    }
+}

@@ -1,0 +1,71 @@
+//! The forms of events. Of an event's own faults each comes before any fault of its members.
+
+ghost use Rattle.std.specs.Prelude.{map};
+ghost use Rattle.serde_json.specs.View.{view};
+ghost use Rattle.ww_parts.specs.Parts.{Says};
+ghost use Rattle.ww_schedule.specs.Events.{seat_of as seat_members, both_of as both_members, event_with, event_in};
+
+use serde_json::Value;
+use ww_model::Event;
+use ww_parts::{InputFault, array_of, below_of, text_of};
+
+/// One member, a seat.
+fn seat_of(seats: u8, members: &[Value]) -> Result<u8, InputFault>
+    ensures { Says (λ seat. seat) result (seat_members seats (map view members.now)) }
+{
+    match members {
+        [seat] => below_of(seats, seat),
+        _ => Err(InputFault::BadWord),
+    }
+}
+
+/// Two members, a seat and a number below the limit.
+fn both_of(seats: u8, limit: u8, members: &[Value]) -> Result<(u8, u8), InputFault>
+    ensures { Says (λ both. both) result (both_members seats limit (map view members.now)) }
+{
+    match members {
+        [seat, other] => {
+            let seat = below_of(seats, seat)?;
+            let other = below_of(limit, other)?;
+            Ok((seat, other))
+        }
+        _ => Err(InputFault::BadWord),
+    }
+}
+
+/// What follows the word of an event.
+#[tactic(auto, unfolding(crate::specs::Events::event_with))]
+fn worded_of(seats: u8, locks: u8, word: &str, members: &[Value]) -> Result<Event, InputFault>
+    ensures { Says (λ event. event) result (event_with seats locks word.now (map view members.now)) }
+{
+    match word {
+        "begin" => seat_of(seats, members).map(Event::Begin),
+        "clear" => seat_of(seats, members).map(Event::Clear),
+        "fast" => both_of(seats, locks, members).map(|(seat, lock)| Event::Fast(seat, lock)),
+        "fast-give" => both_of(seats, locks, members).map(|(seat, lock)| Event::FastGive(
+            seat, lock,
+        )),
+        "guard" => both_of(seats, locks, members).map(|(seat, lock)| Event::Guard(seat, lock)),
+        "join" => both_of(seats, locks, members).map(|(seat, lock)| Event::Join(seat, lock)),
+        "sign" => both_of(seats, seats, members).map(|(seat, victim)| Event::Sign(seat, victim)),
+        "take" => both_of(seats, locks, members).map(|(seat, lock)| Event::Take(seat, lock)),
+        "ask" => both_of(seats, locks, members).map(|(seat, lock)| Event::Ask(seat, lock)),
+        "give" => both_of(seats, locks, members).map(|(seat, lock)| Event::Give(seat, lock)),
+        "die" => both_of(seats, locks, members).map(|(seat, lock)| Event::Die(seat, lock)),
+        "unguard" => both_of(seats, locks, members).map(|(seat, lock)| Event::Unguard(seat, lock)),
+        "commit" => seat_of(seats, members).map(Event::Commit),
+        "end" => seat_of(seats, members).map(Event::End),
+        _ => Err(InputFault::BadWord),
+    }
+}
+
+/// A word, and then the members that it asks for.
+#[tactic(auto, unfolding(crate::specs::Events::event_in))]
+pub(crate) fn event_of(seats: u8, locks: u8, value: &Value) -> Result<Event, InputFault>
+    ensures { Says (λ event. event) result (event_in seats locks (view value.now)) }
+{
+    match array_of(value)?.as_slice() {
+        [word, members @ ..] => worded_of(seats, locks, text_of(word)?, members),
+        [] => Err(InputFault::BadWord),
+    }
+}

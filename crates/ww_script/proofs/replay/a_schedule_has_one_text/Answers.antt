@@ -1,5 +1,0 @@
-use Rattle.ww_script.proofs.OneText.{one_text}
-use Rattle.ww_script.proofs.replay.a_schedule_has_one_text.Goals as goal
-
-pub returns : goal.returns
-returns c = one_text c.runs_are_lawful.ensures

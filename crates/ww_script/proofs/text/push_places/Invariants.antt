@@ -1,6 +1,0 @@
-use Rattle.std.proofs.Common.{◌≡◌, ◌++◌, take, string_bytes}
-use Rattle.ww_script.specs.Text.{numbered, place_line}
-use Rattle.ww_script.proofs.text.push_places.Given as goal
-
-abbrev pub invariant-loop-place : goal.invariant-loop-place
-invariant-loop-place l = string_bytes l.out ≡ string_bytes l.initial.out ++ numbered place_line 0 (take l.place l.places)
