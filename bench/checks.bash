@@ -12,6 +12,9 @@ fail() {
     exit 1
 }
 
+# Short inputs that are refused, one a row.
+rows=cases/refused.rows
+
 # The inputs of cases/ and examples/, into the array `inputs`. Each has a file beside it with what it prints, so a file that
 # belongs to no input, or an input to which none belongs, is a slip that would leave something untried.
 find_inputs() {
@@ -19,6 +22,7 @@ find_inputs() {
     inputs=()
     for file in cases/* examples/*; do
         case $file in
+        "$rows") ;;
         *.stdout | *.status)
             [ -f "${file%.*}" ] || fail "$file belongs to no input"
             ;;
@@ -29,6 +33,34 @@ find_inputs() {
         esac
     done
     [ "${#inputs[@]}" -ge 50 ] || fail "only ${#inputs[@]} inputs were found"
+}
+
+# The inputs in the rows, each into a file of this folder that is named by its line, with what it prints and its status beside
+# it as in cases/; and into the array `inputs`.
+spread_rows() {
+    local folder=$1 row frame='' line text input number=0 count=0
+    while IFS= read -r row || [ -n "$row" ]; do
+        number=$((number + 1))
+        case $row in
+        '#'*) ;;
+        '') frame='' ;;
+        'in  '*@*) frame=${row#in  } ;;
+        'refused '*'  '*)
+            [ -n "$frame" ] || fail "$rows: line $number stands in no group"
+            line=${row%%  *}
+            text=${row#"$line"}
+            text=${text#"${text%%[! ]*}"}
+            input=$folder/refused_rows_line_$number
+            printf '%s%s%s' "${frame%%@*}" "$text" "${frame#*@}" >"$input"
+            echo "$line" >"$input.stdout"
+            echo 1 >"$input.status"
+            inputs+=("$input")
+            count=$((count + 1))
+            ;;
+        *) fail "$rows: line $number is no row" ;;
+        esac
+    done <"$rows"
+    [ "$count" -ge 80 ] || fail "$rows: only $count rows were found"
 }
 
 # The exit status that a run on this input must have.

@@ -57,58 +57,72 @@ fn contexts_stand_in_the_order_of_their_stamps(rt: HostRuntime) -> Result<(), Fa
         waiter(5, 6, false),
     ];
     let mut queue = queue_of(&[five, three, solo, four, seven, six])?;
-    assert_eq!(rt;
-        queue.entries(),
-        [three, four, five, solo, six, seven].as_slice()
-    );
-    assert_eq!(rt; queue.first(), Some(three));
-    assert_eq!(rt; queue.ahead_with_context(2), Some(three));
-    assert_eq!(rt; queue.ahead_with_context(1), None);
-    assert_eq!(rt; queue.ahead_with_context(9), None);
-    assert_eq!(rt; queue.leave(3), Some(four));
-    assert_eq!(rt; queue.leave(3), None);
-    assert_eq!(rt; queue.entries(), [three, five, solo, six, seven].as_slice());
+    let order = [three, four, five, solo, six, seven];
+    assert!(rt; queue.entries() == order.as_slice());
+    assert!(rt; queue.leave(3) == Some(four));
+    assert!(rt; queue.leave(3).is_none());
+    let rest = [three, five, solo, six, seven];
+    assert!(rt; queue.entries() == rest.as_slice());
     Ok(())
 }
 
 #[test]
+fn a_waiter_sees_the_context_ahead(rt: HostRuntime) -> Result<(), Fail> {
+    let [five, three, solo] = [waiter(0, 5, true), waiter(1, 3, false), waiter(2, 0, false)];
+    let queue = queue_of(&[three, five, solo])?;
+    assert!(rt; queue.first() == Some(three));
+    assert!(rt; queue.ahead_with_context(2) == Some(three));
+    assert!(rt; queue.ahead_with_context(1).is_none());
+    assert!(rt; queue.ahead_with_context(9).is_none());
+    Ok(())
+}
+
+/// The contexts 2, 4 and 6, of which the first holds no lock.
+fn three_contexts() -> Result<Queue, Fail> {
+    queue_of(&[waiter(1, 2, false), waiter(2, 4, true), waiter(3, 6, true)])
+}
+
+#[test]
 fn a_younger_owner_is_wounded(rt: HostRuntime) -> Result<(), Fail> {
-    let queue = queue_of(&[waiter(1, 2, false), waiter(2, 4, true), waiter(3, 6, true)])?;
+    let queue = three_contexts()?;
     let kind = Kind::WoundWait;
-    assert_eq!(rt;
-        owed_signs(kind, taken(0, 5), &queue, 1).as_slice(),
-        [(0, 4)].as_slice()
-    );
+    assert!(rt; owed_signs(kind, taken(0, 5), &queue, 1).as_slice() == [(0, 4)].as_slice());
     assert!(rt; owed_signs(kind, taken(0, 3), &queue, 1).is_empty());
     assert!(rt; owed_signs(kind, taken(0, 0), &queue, 1).is_empty());
     let handed = Owner::handed_to(3, 6);
     assert!(rt; handed.flags & PICKUP != 0);
     assert!(rt; owed_signs(kind, handed, &queue, 1).is_empty());
-    assert_eq!(rt; must_die(kind, taken(0, 5), &queue, 3, 4), Some(4));
-    assert_eq!(rt; must_die(kind, taken(0, 5), &queue, 3, 0), None);
-    assert_eq!(rt; must_die(kind, taken(0, 5), &queue, 1, 4), None);
+    Ok(())
+}
+
+#[test]
+fn a_signed_holder_dies(rt: HostRuntime) -> Result<(), Fail> {
+    let queue = three_contexts()?;
+    let kind = Kind::WoundWait;
+    assert!(rt; must_die(kind, taken(0, 5), &queue, 3, 4) == Some(4));
+    assert!(rt; must_die(kind, taken(0, 5), &queue, 3, 0).is_none());
+    assert!(rt; must_die(kind, taken(0, 5), &queue, 1, 4).is_none());
+    Ok(())
+}
+
+#[test]
+fn a_younger_waiter_is_signed(rt: HostRuntime) -> Result<(), Fail> {
+    let queue = three_contexts()?;
+    let owner = taken(0, 5);
+    let both = [(2, 2), (3, 5)];
+    assert!(rt; owed_signs(Kind::WaitDie, owner, &queue, 1).as_slice() == both.as_slice());
+    assert!(rt; owed_signs(Kind::WaitDie, owner, &queue, 2).as_slice() == [(3, 5)].as_slice());
     Ok(())
 }
 
 #[test]
 fn a_younger_waiter_dies(rt: HostRuntime) -> Result<(), Fail> {
-    let queue = queue_of(&[waiter(1, 2, false), waiter(2, 4, true), waiter(3, 6, true)])?;
+    let queue = three_contexts()?;
     let kind = Kind::WaitDie;
-    assert_eq!(rt;
-        owed_signs(kind, taken(0, 5), &queue, 1).as_slice(),
-        [(2, 2), (3, 5)].as_slice()
-    );
-    assert_eq!(rt;
-        owed_signs(kind, taken(0, 5), &queue, 2).as_slice(),
-        [(3, 5)].as_slice()
-    );
-    assert_eq!(rt; must_die(kind, taken(0, 5), &queue, 3, 0), Some(5));
-    assert_eq!(rt; must_die(kind, taken(0, 7), &queue, 3, 0), Some(2));
-    assert_eq!(rt;
-        must_die(kind, Owner::handed_to(2, 4), &queue, 3, 0),
-        Some(4)
-    );
-    assert_eq!(rt; must_die(kind, taken(0, 1), &queue, 1, 0), None);
-    assert_eq!(rt; must_die(kind, taken(0, 1), &queue, 9, 0), None);
+    assert!(rt; must_die(kind, taken(0, 5), &queue, 3, 0) == Some(5));
+    assert!(rt; must_die(kind, taken(0, 7), &queue, 3, 0) == Some(2));
+    assert!(rt; must_die(kind, Owner::handed_to(2, 4), &queue, 3, 0) == Some(4));
+    assert!(rt; must_die(kind, taken(0, 1), &queue, 1, 0).is_none());
+    assert!(rt; must_die(kind, taken(0, 1), &queue, 9, 0).is_none());
     Ok(())
 }

@@ -8,31 +8,31 @@ fn owners_pack_to_their_words(rt: HostRuntime) -> Result<(), Fail> {
         stamp: 1,
         flags: 0,
     };
-    assert_eq!(rt; pack(first), 264);
-    assert_eq!(rt; pack(first.with_waiters()), 265);
+    assert!(rt; pack(first) == 264);
+    assert!(rt; pack(first.with_waiters()) == 265);
     let last = Owner {
         seat: Some(15),
         stamp: 5,
         flags: WAITERS | HANDOFF,
     };
-    assert_eq!(rt; pack(last), 1411);
-    assert_eq!(rt; pack(last.with_waiters()), 1411);
+    assert!(rt; pack(last) == 1411);
+    assert!(rt; pack(last.with_waiters()) == 1411);
     let free = Owner {
         seat: None,
         stamp: 0,
         flags: WAITERS,
     };
     assert!(rt; free.is_free() && !last.is_free());
-    assert_eq!(rt; pack(free), 1);
-    assert_eq!(rt; pack(Owner::handed_to(2, 3)), 797);
+    assert!(rt; pack(free) == 1);
+    assert!(rt; pack(Owner::handed_to(2, 3)) == 797);
     Ok(())
 }
 
 #[test]
 fn words_of_no_owner_are_refused(rt: HostRuntime) -> Result<(), Fail> {
     for word in [2, 136, 256] {
-        assert_eq!(rt; unpack(word), None);
+        assert!(rt; unpack(word).is_none());
     }
-    assert_eq!(rt; unpack(797), Some(Owner::handed_to(2, 3)));
+    assert!(rt; unpack(797) == Some(Owner::handed_to(2, 3)));
     Ok(())
 }
