@@ -1,0 +1,4 @@
+pub mod Helds
+pub mod Patches
+pub mod Changes
+pub mod Closings

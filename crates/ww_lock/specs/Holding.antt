@@ -1,0 +1,82 @@
+-- What a contract sees of a pass, and of each state that it becomes.
+use Rattle.std.specs.Prelude.{ℕ, ◌≡◌, ◌<◌, ◌≤◌, List, length, map, Option, Some, None, IsTrue, if◌then◌else◌}
+use Rattle.std.specs.List.{AllByRecursion}
+use Rattle.ww_plain.specs.declared.node.Node.{Node}
+use Rattle.ww_plain.specs.declared.history.Record.{Record}
+use Rattle.ww_plain.specs.Numbers.{is_among, AreDifferent}
+use Rattle.ww_plain.specs.Graph.{node_at}
+use Rattle.ww_plain.specs.Transaction.{Transaction}
+use Rattle.ww_plain.specs.Meaning.{Answer}
+use Rattle.ww_plain.specs.History.{Recorded, recorded_of}
+
+-- which world a pass is of
+abbrev pub Home : Type 0
+Home = ℕ
+
+-- Its world and its number there; how many contexts and solos it may still start; its stamp, 0 without a context; its own
+-- list: all its commits with their places, oldest first, with room for so many more; the nodes that it holds, in the order
+-- in which it took them; and the graph as it has seen it, of which the nodes held are as they were when they were locked.
+pub record Holding : Type 0 where
+  pub home : Home
+  pub caller : ℕ
+  pub left : ℕ
+  pub stamp : ℕ
+  pub own : List (ℕ × Recorded)
+  pub room : ℕ
+  pub held : List ℕ
+  pub seen : List Node
+
+-- a context that is told EDEADLK: the lock that it couldn't get, and the stamp of the older context that it met
+pub record Refused : Type 0 where
+  pub holding : Holding
+  pub contended : ℕ
+  pub met : ℕ
+
+-- a context that has given all locks back, and wants this one
+pub record Wanting : Type 0 where
+  pub holding : Holding
+  pub contended : ℕ
+
+-- a transaction that was prepared, its answer, and the graphs that it was made from and leads to
+pub record Change : Type 0 where
+  pub transaction : Transaction
+  pub answer : Answer
+  pub before : List Node
+  pub after : List Node
+
+-- a world: its number, the graph that it was opened with, and how many passes it gave
+pub record Place : Type 0 where
+  pub home : Home
+  pub first : List Node
+  pub passes : ℕ
+
+-- the state came from a pass of this world
+pub record IsAtHome (s : Holding) (w : Place) : Type 0 where
+  pub home : s.home ≡ w.home
+  pub size : length s.seen ≡ length w.first
+  pub number : s.caller < w.passes
+
+-- each of these passes came from this world
+abbrev pub AreAtHome : List Holding → Place → Type 0
+AreAtHome passes w = AllByRecursion (λ s. IsAtHome s w) passes
+
+abbrev pub own_of : List (ℕ × Record) → List (ℕ × Recorded)
+own_of records = map (λ p. (p.0, recorded_of p.1)) records
+
+-- what it reads at a node: nothing where it doesn't hold that
+abbrev pub reads : Holding → ℕ → Option Node
+reads s n = if is_among n s.held then Some (node_at s.seen n) else None
+
+-- it holds all of these nodes
+abbrev pub Holds : Holding → List ℕ → Type 0
+Holds s ns = AllByRecursion (λ n. IsTrue (is_among n s.held)) ns
+
+-- each node that is held is one of the graph, and is held once
+pub record AreHeld (held : List ℕ) (seen : List Node) : Type 0 where
+  pub there : AllByRecursion (λ n. n < length seen) held
+  pub once : AreDifferent held
+  pub few : length seen ≤ 64
+
+-- all places of the own list are below this one
+abbrev pub AreBelow : ℕ → List (ℕ × Recorded) → Type 0
+AreBelow place own = AllByRecursion (λ p. p.0 < place) own

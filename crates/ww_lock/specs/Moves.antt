@@ -1,0 +1,87 @@
+-- How one state becomes another.
+use Rattle.std.specs.Prelude.{ℕ, ◌≡◌, ◌<◌, ◌≤◌, ◌-◌, ◌∷◌, ◌++◌, [], length, Bool, true, false, slice_set}
+use Rattle.ww_plain.specs.declared.node.Node.{Node}
+use Rattle.ww_plain.specs.Numbers.{is_among}
+use Rattle.ww_plain.specs.Meaning.{answer_of}
+use Rattle.ww_lock.specs.declared.prepared.Receipt.{Receipt}
+use Rattle.ww_lock.specs.declared.acquiring.Lock.{Lock}
+use Rattle.ww_lock.specs.declared.acquiring.Lock.TheVariants.{Locked, Already, Deadlk}
+use Rattle.ww_lock.specs.declared.acquiring.Try.{Try}
+use Rattle.ww_lock.specs.declared.acquiring.Try.TheVariants as try
+use Rattle.ww_lock.specs.declared.look.Look.{Look}
+use Rattle.ww_lock.specs.declared.look.Look.TheVariants as look
+use Rattle.ww_lock.specs.Holding.{Holding, Refused, Change, AreBelow}
+
+-- one node more is held, with these contents
+abbrev pub with_node : Holding → ℕ → Node → Holding
+with_node s n x = record s { held = s.held ++ n ∷ []; seen = slice_set s.seen n x }
+
+-- nothing is held any more
+abbrev pub emptied : Holding → Holding
+emptied s = record s { held = [] }
+
+-- a context was started, with a stamp, for one of what was left; it holds nothing
+pub record IsBegun (s a : Holding) : Type 0 where
+  pub some : 1 ≤ s.left
+  pub is_stamped : 1 ≤ a.stamp
+  pub nothing : a.held ≡ []
+  pub rest : a ≡ record s { left = s.left - 1; stamp = a.stamp }
+
+-- a lock was taken without a context, for one of what was left: it is all that is held
+pub record IsSolo (s : Holding) (n : ℕ) (a : Holding) : Type 0 where
+  pub some : 1 ≤ s.left
+  pub contents : Node
+  pub rest : a ≡ with_node (record s { left = s.left - 1 }) n contents
+  pub alone : a.held ≡ n ∷ []
+  pub no_context : a.stamp ≡ 0
+
+-- the node wasn't held, and now is, with some contents
+pub record IsTaken (s : Holding) (n : ℕ) (a : Holding) : Type 0 where
+  pub new : is_among n s.held ≡ false
+  pub contents : Node
+  pub added : a ≡ with_node s n contents
+
+-- The node wasn't held, and for it an older context was met. The state still holds what it held, which is one node at least.
+pub record IsRefused (s : Holding) (n : ℕ) (b : Refused) : Type 0 where
+  pub new : is_among n s.held ≡ false
+  pub holds : 1 ≤ length s.held
+  pub same : b.holding ≡ s
+  pub contended : b.contended ≡ n
+  pub older : b.met < s.stamp
+
+-- the answer of a lock call
+abbrev pub IsLockAnswer : Holding → ℕ → Lock → Type 0
+IsLockAnswer s n (Locked a) = IsTaken s n a
+IsLockAnswer s n (Already a) = (is_among n s.held ≡ true) × (a ≡ s)
+IsLockAnswer s n (Deadlk b) = IsRefused s n b
+
+-- the error number of the answer, 0 without one
+abbrev pub code_of : Lock → ℕ
+code_of (Locked a) = 0
+code_of (Already a) = 114
+code_of (Deadlk b) = 35
+
+-- the answer of a trylock: a held node is busy too
+abbrev pub IsTryAnswer : Holding → ℕ → Try → Type 0
+IsTryAnswer s n (try.Locked a) = IsTaken s n a
+IsTryAnswer s n (try.Busy a) = a ≡ s
+
+-- what one try, or one look, does to a hand: only where it got the lock it is changed
+abbrev pub IsTry : Holding → ℕ → Holding → Bool → Type 0
+IsTry s n a true = IsTaken s n a
+IsTry s n a false = a ≡ s
+
+abbrev pub IsLook : Holding → ℕ → Holding → Look → Type 0
+IsLook s n a look.Locked = IsTaken s n a
+IsLook s n a _ = a ≡ s
+
+-- One record more in the own list, of this caller and of the next number, with the transaction and the answer that were
+-- prepared. Its place, which the receipt tells, is above all before.
+pub record IsCommitted (s : Holding) (p : Change) (a : Holding) (told : Receipt) : Type 0 where
+  pub own : a ≡ record s {
+    own = s.own ++ (told.place, record { caller = s.caller; seq = length s.own; transaction = p.transaction; answer = p.answer }) ∷ [];
+    room = a.room;
+  }
+  pub above : AreBelow told.place s.own
+  pub seq : told.seq ≡ length s.own
+  pub reply : answer_of told.reply ≡ p.answer

@@ -1,0 +1,38 @@
+-- What opening a world gives.
+use Rattle.std.specs.Prelude.{ℕ, ◌≡◌, ◌≤◌, ◌<◌, ◌⊎◌, List, [], length, slice_index_or}
+use Rattle.ww_plain.specs.declared.node.Node.{Node}
+use Rattle.ww_lock.specs.declared.world.OpenFault.{OpenFault}
+use Rattle.ww_lock.specs.declared.world.OpenFault.TheVariants.{BadSize, NoMemory}
+use Rattle.ww_lock.specs.Holding.{Home, Holding, Place, AreAtHome}
+
+-- the pass of this number, which has done nothing yet
+abbrev pub fresh : Home → List Node → ℕ → ℕ → ℕ → Holding
+fresh home first budget caller room =
+    record { home = home; caller = caller; left = budget; stamp = 0; own = []; room = room; held = []; seen = first }
+
+-- so many passes, each with its number, that have done nothing yet
+pub record AreFresh (all : List Holding) (first : List Node) (home : Home) (passes budget : ℕ) : Type 0 where
+  pub count : length all ≡ passes
+  pub each : (i : ℕ) (d : Holding) → i < length all → slice_index_or all i d ≡ fresh home first budget i (slice_index_or all i d).room
+
+-- 1 to 16 passes, each of which may do something
+pub record IsWorldSize (passes budget : ℕ) : Type 0 where
+  pub some : 1 ≤ passes
+  pub few : passes ≤ 16
+  pub budgeted : 1 ≤ budget
+
+-- a world over this graph, and its passes, which are at home there
+pub record IsOpened (w : Place) (all : List Holding) (first : List Node) (passes budget : ℕ) : Type 0 where
+  pub sizes : IsWorldSize passes budget
+  pub first_graph : w.first ≡ first
+  pub count : w.passes ≡ passes
+  pub passes_fresh : AreFresh all first w.home passes budget
+  pub home : AreAtHome all w
+
+abbrev pub IsOpenFault : ℕ → ℕ → OpenFault → Type 0
+IsOpenFault passes budget BadSize = (passes ≡ 0) ⊎ (16 < passes) ⊎ (budget ≡ 0)
+IsOpenFault passes budget NoMemory = IsWorldSize passes budget
+
+abbrev pub open_number : OpenFault → ℕ
+open_number BadSize = 1
+open_number NoMemory = 3

@@ -1,0 +1,143 @@
+use crate::backoff::Backoff;
+use crate::done::{Done, Empty};
+use crate::hand::Hand;
+use crate::world::World;
+use std::marker::Model;
+use std::sync::Wait;
+use ww_plain::Node;
+
+/// A context that takes locks.
+pub struct Acquiring {
+    pub(crate) hand: Hand,
+}
+
+impl Model for Acquiring {
+    ghost use Rattle.std.specs.Prelude.{◌<◌};
+    ghost use Rattle.ww_lock.specs.Holding.{Holding};
+
+    ghost Value = { Holding };
+
+    ghost view = { λ s. s.hand };
+
+    ghost invariant = { λ s. 0 < s.hand.stamp };
+}
+
+/// What a lock call answers.
+pub enum Lock {
+    Locked(Acquiring),
+    /// The context holds the node: the kernel's EALREADY.
+    Already(Acquiring),
+    /// An older context was met, and all locks have to be given back: the kernel's EDEADLK. Only a context that holds a lock is
+    /// told so.
+    Deadlk(Backoff),
+}
+
+impl Lock {
+    ghost use Rattle.std.specs.Prelude.{◌≡◌};
+    ghost use Rattle.ww_lock.specs.Moves.{code_of};
+
+    /// The kernel's error number of the answer, without its sign; 0 where the lock was taken.
+    pub fn code(&self) -> u8
+        ensures { result ≡ code_of self.now }
+    {
+        match self {
+            Lock::Locked(_) => 0,
+            Lock::Already(_) => 114,
+            Lock::Deadlk(_) => 35,
+        }
+    }
+}
+
+/// What a trylock answers.
+pub enum Try {
+    Locked(Acquiring),
+    /// Somebody has the lock, or waits for it; or the context holds it itself.
+    Busy(Acquiring),
+}
+
+impl Acquiring {
+    ghost use Rattle.std.specs.Prelude.{◌≡◌, ◌<◌, length};
+    ghost use Rattle.ww_plain.specs.Numbers.{is_among};
+    ghost use Rattle.ww_lock.specs.Holding.{IsAtHome, reads};
+    ghost use Rattle.ww_lock.specs.Moves.{IsLockAnswer, IsTryAnswer, emptied};
+
+    /// The context's stamp: the smaller of two is that of the older context.
+    pub fn stamp(&self) -> u64
+        ensures { result ≡ self.now.stamp }
+    {
+        self.hand.stamp
+    }
+
+    /// Whether the node is held.
+    pub fn held(&self, n: u8) -> bool
+        ensures { result ≡ is_among n self.now.held }
+    {
+        self.hand.holds(n)
+    }
+
+    /// Takes the lock of a node, and waits for it where the rules say so.
+    pub fn lock<R: Wait>(self, rt: &R, world: &World, n: u8) -> Lock
+        requires home { IsAtHome self world.now }
+        requires node { n < length world.now.first }
+        ensures { IsLockAnswer self n result }
+    {
+        if self.held(n) {
+            return Lock::Already(self);
+        }
+        let Acquiring { hand } = self;
+        let (hand, met) = world.take(rt, hand, n);
+        match met {
+            None => Lock::Locked(Acquiring { hand }),
+            Some(met) => Lock::Deadlk(Backoff {
+                hand,
+                contended: n,
+                met,
+            }),
+        }
+    }
+
+    /// Takes the lock of a node if nobody has it or waits for it, and waits for nobody.
+    pub fn try_lock<R: Wait>(self, rt: &R, world: &World, n: u8) -> Try
+        requires home { IsAtHome self world.now }
+        requires node { n < length world.now.first }
+        ensures { IsTryAnswer self n result }
+    {
+        if self.held(n) {
+            return Try::Busy(self);
+        }
+        let Acquiring { mut hand } = self;
+        if world.try_take(rt, &mut hand, n) {
+            Try::Locked(Acquiring { hand })
+        } else {
+            Try::Busy(Acquiring { hand })
+        }
+    }
+
+    /// The node as it was when it was locked; nothing where it isn't held.
+    pub fn read<R: Wait>(&self, _rt: &R, world: &World, n: u8) -> Option<Node>
+        requires home { IsAtHome self.now world.now }
+        requires node { n < length world.now.first }
+        ensures { result ≡ reads self.now n }
+    {
+        self.hand.read(n)
+    }
+
+    /// The context has all its locks.
+    pub fn done(self) -> Done
+        ensures { result ≡ self }
+    {
+        let Acquiring { hand } = self;
+        Done { hand }
+    }
+
+    /// Gives all locks back.
+    pub fn unlock_all<R: Wait>(self, rt: &R, world: &World) -> Empty
+        requires home { IsAtHome self world.now }
+        ensures { result ≡ emptied self }
+    {
+        let Acquiring { hand } = self;
+        Empty {
+            hand: world.give_all(rt, hand),
+        }
+    }
+}

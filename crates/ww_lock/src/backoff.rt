@@ -1,0 +1,59 @@
+use crate::contended::Contended;
+use crate::hand::Hand;
+use crate::world::World;
+use std::marker::Model;
+use std::sync::Wait;
+
+/// A context that was told EDEADLK. It still holds its locks, and can only give them all back.
+pub struct Backoff {
+    pub(crate) hand: Hand,
+    pub(crate) contended: u8,
+    pub(crate) met: u64,
+}
+
+impl Model for Backoff {
+    ghost use Rattle.std.specs.Prelude.{◌<◌, length};
+    ghost use Rattle.ww_lock.specs.Holding.{Refused};
+
+    ghost Value = { Refused };
+
+    ghost view = { λ s. record { holding = s.hand; contended = s.contended; met = s.met } };
+
+    ghost invariant = { λ s. (s.met < s.hand.stamp) × (s.contended < length s.hand.seen) };
+}
+
+impl Backoff {
+    ghost use Rattle.std.specs.Prelude.{◌≡◌};
+    ghost use Rattle.ww_lock.specs.Holding.{IsAtHome};
+    ghost use Rattle.ww_lock.specs.Moves.{emptied};
+
+    /// The node whose lock it couldn't get.
+    pub fn contended(&self) -> u8
+        ensures { result ≡ self.now.contended }
+    {
+        self.contended
+    }
+
+    /// The stamp of the older context that it met.
+    pub fn met(&self) -> u64
+        ensures { result ≡ self.now.met }
+    {
+        self.met
+    }
+
+    /// Gives all locks back.
+    pub fn unlock_all<R: Wait>(self, rt: &R, world: &World) -> Contended
+        requires home { IsAtHome self.holding world.now }
+        ensures { result ≡ record { holding = emptied self.holding; contended = self.contended } }
+    {
+        let Backoff {
+            hand,
+            contended,
+            met: _,
+        } = self;
+        Contended {
+            hand: world.give_all(rt, hand),
+            contended,
+        }
+    }
+}

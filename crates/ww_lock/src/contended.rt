@@ -1,0 +1,52 @@
+use crate::acquiring::Acquiring;
+use crate::hand::Hand;
+use crate::pass::Pass;
+use crate::world::World;
+use std::marker::Model;
+use std::sync::Wait;
+
+/// A context that was told EDEADLK and has given all locks back. It may take the lock that it couldn't get, or end.
+pub struct Contended {
+    pub(crate) hand: Hand,
+    pub(crate) contended: u8,
+}
+
+impl Model for Contended {
+    ghost use Rattle.std.specs.Prelude.{◌≡◌, ◌<◌, [], length};
+    ghost use Rattle.ww_lock.specs.Holding.{Wanting};
+
+    ghost Value = { Wanting };
+
+    ghost view = { λ s. record { holding = s.hand; contended = s.contended } };
+
+    ghost invariant = { λ s. (0 < s.hand.stamp) × (s.hand.held ≡ []) × (s.contended < length s.hand.seen) };
+}
+
+impl Contended {
+    ghost use Rattle.std.specs.Prelude.{◌≡◌, ◌∷◌, []};
+    ghost use Rattle.ww_lock.specs.Holding.{IsAtHome};
+    ghost use Rattle.ww_lock.specs.Moves.{IsTaken};
+
+    /// Takes the contended lock, however long that takes: the kernel's slow path. It holds no other lock, so nobody tells it
+    /// EDEADLK.
+    pub fn lock_slow<R: Wait>(self, rt: &R, world: &World) -> Acquiring
+        requires home { IsAtHome self.holding world.now }
+        ensures taken { IsTaken self.holding self.contended result }
+        ensures alone { result.held ≡ self.contended ∷ [] }
+    {
+        let Contended { hand, contended } = self;
+        let (hand, _) = world.take(rt, hand, contended);
+        Acquiring { hand }
+    }
+
+    /// Ends the context.
+    pub fn fini<R: Wait>(self, rt: &R, world: &World) -> Pass
+        requires home { IsAtHome self.holding world.now }
+        ensures { result ≡ record self.holding { stamp = 0 } }
+    {
+        let Contended { hand, contended: _ } = self;
+        Pass {
+            hand: world.end(rt, hand),
+        }
+    }
+}

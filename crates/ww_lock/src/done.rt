@@ -1,0 +1,157 @@
+use crate::hand::Hand;
+use crate::pass::Pass;
+use crate::prepared::{Prepared, Receipt};
+use crate::world::World;
+use std::alloc::AllocError;
+use std::marker::Model;
+use std::sync::Wait;
+use ww_plain::Txn;
+
+/// A context that has all its locks.
+pub struct Done {
+    pub(crate) hand: Hand,
+}
+
+impl Model for Done {
+    ghost use Rattle.ww_lock.specs.Holding.{Holding};
+
+    ghost Value = { Holding };
+
+    ghost view = { λ s. s.hand };
+}
+
+/// A context that has committed, and still holds its locks.
+pub struct Committed {
+    pub(crate) hand: Hand,
+}
+
+impl Model for Committed {
+    ghost use Rattle.ww_lock.specs.Holding.{Holding};
+
+    ghost Value = { Holding };
+
+    ghost view = { λ s. s.hand };
+}
+
+/// A context that has given all locks back.
+pub struct Empty {
+    pub(crate) hand: Hand,
+}
+
+impl Model for Empty {
+    ghost use Rattle.std.specs.Prelude.{◌≡◌, []};
+    ghost use Rattle.ww_lock.specs.Holding.{Holding};
+
+    ghost Value = { Holding };
+
+    ghost view = { λ s. s.hand };
+
+    ghost invariant = { λ s. s.hand.held ≡ [] };
+}
+
+impl Done {
+    ghost use Rattle.std.specs.Prelude.{◌≡◌, ◌↔◌, length, IsTrue, IfOk, IfErr, OnErr};
+    ghost use Rattle.ww_plain.specs.Transaction.{transaction_of, Fits, HasNoDouble};
+    ghost use Rattle.ww_lock.specs.Holding.{IsAtHome};
+    ghost use Rattle.ww_lock.specs.Making.{Covers, IsMade, IsMadeOf};
+    ghost use Rattle.ww_lock.specs.Moves.{IsCommitted, emptied};
+
+    /// Whether all that the transaction depends on and may change is held.
+    pub fn covers<R: Wait>(&self, _rt: &R, world: &World, txn: &Txn) -> bool
+        requires home { IsAtHome self.now world.now }
+        requires fits { Fits (length self.now.seen) (transaction_of txn.now) }
+        ensures { IsTrue result ↔ Covers self.now (transaction_of txn.now) }
+    {
+        self.hand.covers(txn)
+    }
+
+    /// Prepares a transaction: makes every growth that its commit needs. Nothing is changed or recorded until that.
+    pub fn prepare<R: Wait>(
+        &mut self,
+        _rt: &R,
+        world: &World,
+        txn: Txn,
+    ) -> Result<Prepared, (Txn, AllocError)>
+        requires home { IsAtHome self.old world.now }
+        requires fits { Fits (length self.old.seen) (transaction_of txn) }
+        requires no_double { HasNoDouble (transaction_of txn) }
+        requires covers { Covers self.old (transaction_of txn) }
+        ensures same { self.new ≡ record self.old { room = self.new.room } }
+        ensures ok { IfOk result (λ p. IsMadeOf self.new p (transaction_of txn)) }
+        ensures err { IfErr result (λ e. e.0 ≡ txn) }
+        ensures refused { OnErr result (self.new ≡ self.old) }
+    {
+        self.hand.prepare(txn)
+    }
+
+    /// Whether what was prepared can be committed here: the nodes that it depends on and may change are held, with the contents
+    /// that it was made from, and there is room for its record.
+    pub fn made(&self, prepared: &Prepared) -> bool
+        ensures { IsTrue result ↔ IsMade self.now prepared.now }
+    {
+        self.hand.made(prepared)
+    }
+
+    /// Commits what was prepared: it takes the next place of the one history, and the nodes change. It takes no memory.
+    pub fn commit<R: Wait>(
+        self,
+        rt: &R,
+        world: &World,
+        prepared: Prepared,
+    ) -> Result<(Committed, Receipt), (Done, Prepared)>
+        requires home { IsAtHome self world.now }
+        requires made { IsMade self prepared }
+        ensures ok { IfOk result (λ r. IsCommitted self prepared r.0 r.1) }
+        ensures err { IfErr result (λ e. (e.0 ≡ self) × (e.1 ≡ prepared)) }
+    {
+        let Done { hand } = self;
+        match hand.commit(rt, world, prepared) {
+            Ok((hand, receipt)) => Ok((Committed { hand }, receipt)),
+            Err((hand, prepared)) => Err((Done { hand }, prepared)),
+        }
+    }
+
+    /// Gives all locks back, with nothing committed.
+    pub fn unlock_all<R: Wait>(self, rt: &R, world: &World) -> Empty
+        requires home { IsAtHome self world.now }
+        ensures { result ≡ emptied self }
+    {
+        let Done { hand } = self;
+        Empty {
+            hand: world.give_all(rt, hand),
+        }
+    }
+}
+
+impl Committed {
+    ghost use Rattle.std.specs.Prelude.{◌≡◌};
+    ghost use Rattle.ww_lock.specs.Holding.{IsAtHome};
+    ghost use Rattle.ww_lock.specs.Moves.{emptied};
+
+    /// Gives all locks back.
+    pub fn unlock_all<R: Wait>(self, rt: &R, world: &World) -> Empty
+        requires home { IsAtHome self world.now }
+        ensures { result ≡ emptied self }
+    {
+        let Committed { hand } = self;
+        Empty {
+            hand: world.give_all(rt, hand),
+        }
+    }
+}
+
+impl Empty {
+    ghost use Rattle.std.specs.Prelude.{◌≡◌};
+    ghost use Rattle.ww_lock.specs.Holding.{IsAtHome};
+
+    /// Ends the context.
+    pub fn fini<R: Wait>(self, rt: &R, world: &World) -> Pass
+        requires home { IsAtHome self world.now }
+        ensures { result ≡ record self { stamp = 0 } }
+    {
+        let Empty { hand } = self;
+        Pass {
+            hand: world.end(rt, hand),
+        }
+    }
+}
