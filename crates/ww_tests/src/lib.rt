@@ -5,10 +5,14 @@
 #[cfg(test)]
 mod cores;
 #[cfg(test)]
+mod locks;
+#[cfg(test)]
 mod plain;
 #[cfg(test)]
 mod queues;
 #[cfg(test)]
 mod scripts;
+#[cfg(test)]
+mod threads;
 #[cfg(test)]
 mod words;

@@ -1,0 +1,491 @@
+//! Threads that take random sets of locks in random orders. What is asked at the end is the same whatever the schedule.
+
+ghost use Rattle.std.specs.Prelude.{◌≡◌, ◌<◌, length, IsTrue, IfOk, IfErr};
+ghost use Rattle.std.specs.List.{AllByRecursion};
+ghost use Rattle.ww_lock.specs.Holding.{IsAtHome, AreAtHome};
+ghost use Rattle.ww_lock.specs.Making.{Covers};
+ghost use Rattle.ww_plain.specs.Transaction.{transaction_of, Fits, HasNoDouble};
+
+use crate::locks::{closed, graph_of};
+use rand_core::utils::NextWord;
+use rand_pcg::Pcg32;
+use std::alloc::{AllocError, Global};
+use std::process::Abort;
+use std::sync::Wait;
+use std::test::Fail;
+use std::thread;
+use std::thread::Threads;
+use ww_lock::{Acquiring, Backoff, Done, History, Lock, Pass, Receipt, Solo, Try, World};
+use ww_plain::{By, Record, Txn, first_double, replays};
+use ww_queue::Kind;
+
+const ROUNDS: u32 = 200;
+
+const NODES: usize = 16;
+
+const FIRST_VALUES: [u64; NODES] = [5; NODES];
+
+/// What a thread remembers: its random numbers, the place and the number that each receipt told, what it added to each node,
+/// and how often something went wrong.
+#[derive(Drop)]
+struct Memory {
+    random: Pcg32,
+    receipts: Vec<(u64, u64)>,
+    added: [u64; NODES],
+    faults: u32,
+}
+
+/// What a round does: the locks that it takes, each with what is added to its node; that addition; and what is done instead, if
+/// the locks serve for it.
+#[derive(Drop)]
+struct Plan {
+    amounts: Vec<(u8, u64)>,
+    add: Txn,
+    change: Option<Txn>,
+    is_alone: bool,
+    tries: bool,
+}
+
+impl Memory {
+    fn new(alloc: Global, seed: u8) -> Memory {
+        Memory {
+            random: Pcg32::new(u64::from(seed), 1),
+            receipts: Vec::new(alloc),
+            added: [0; NODES],
+            faults: 0,
+        }
+    }
+
+    /// A random number below a limit; 0 where that is 0.
+    fn below(&mut self, limit: u8) -> u8 {
+        (self.random.next_word() >> 8)
+            .checked_rem(u32::from(limit))
+            .unwrap_or(0) as u8
+    }
+
+    /// Some nodes in a random order, each with what to add to it: 8 draws at most, of which those drawn before fall away.
+    fn draw(&mut self, alloc: Global) -> Result<Vec<(u8, u64)>, AllocError> {
+        let mut amounts: Vec<(u8, u64)> = Vec::new(alloc);
+        for _ in 0..self.below(8).saturating_add(1) {
+            let n = self.below(NODES as u8);
+            let amount = u64::from(self.random.next_word()) << 32;
+            if !amounts.iter().any(|(m, _)| *m == n) {
+                amounts.push((n, amount))?;
+            }
+        }
+        Ok(amounts)
+    }
+
+    /// What to do next.
+    fn plan(&mut self, alloc: Global) -> Result<Plan, AllocError> {
+        let mut amounts = self.draw(alloc)?;
+        let is_alone = self.below(8) == 0;
+        if is_alone {
+            amounts.truncate(1);
+        }
+        Ok(Plan {
+            add: Txn::Add(By::List, Vec::from_slice(alloc, &amounts)?),
+            change: self.change(alloc, &amounts)?,
+            amounts,
+            is_alone,
+            tries: self.below(4) == 0,
+        })
+    }
+
+    /// A transaction that names nodes of this list alone, as far as that can be seen without the graph; nothing in half of all
+    /// cases.
+    fn change(&mut self, alloc: Global, amounts: &[(u8, u64)]) -> Result<Option<Txn>, AllocError> {
+        let (Some((from, _)), Some((to, _))) = (amounts.first(), amounts.last()) else {
+            return Ok(None);
+        };
+        let port = self.below(4);
+        let most = self.below(3).saturating_add(1);
+        Ok(match self.below(10) {
+            0 => Some(Txn::Link(*from, port, Some(*to))),
+            1 => Some(Txn::Link(*from, port, None)),
+            2 => Some(Txn::Reverse(*from, port, most)),
+            3 => Some(Txn::Sum(*from, port, most)),
+            4 => Some(Txn::Get(By::Order, [*to].to_vec(alloc)?)),
+            _ => None,
+        })
+    }
+
+    /// Notes a commit, if there was one, and what it added.
+    fn note(&mut self, receipt: Option<Receipt>, added: &[(u8, u64)]) {
+        let is_noted = receipt.is_some_and(|told| self
+            .receipts
+            .push((told.place, told.seq))
+            .is_ok());
+        if !is_noted {
+            self.faults = self.faults.saturating_add(1);
+            return;
+        }
+        for (n, amount) in added {
+            if let Some(total) = self.added.get_mut(usize::from(*n)) {
+                *total = total.wrapping_add(*amount);
+            }
+        }
+    }
+}
+
+/// Takes a lock, or tries for it first. Who is told EDEADLK has to back off.
+fn take<R: Wait>(
+    rt: &R,
+    world: &World,
+    acquiring: Acquiring,
+    n: u8,
+    tries: bool,
+) -> Result<Acquiring, Backoff>
+    requires home { IsAtHome acquiring world.now }
+    requires node { n < length world.now.first }
+    ensures home { IfOk result (λ a. IsAtHome a world.now) }
+    ensures holding { IfErr result (λ b. IsAtHome b.holding world.now) }
+{
+    let mut acquiring = acquiring;
+    if tries {
+        acquiring = match acquiring.try_lock(rt, world, n) {
+            Try::Locked(next) => return Ok(next),
+            Try::Busy(next) => next,
+        };
+    }
+    match acquiring.lock(rt, world, n) {
+        Lock::Locked(next) => Ok(next),
+        Lock::Already(next) => Ok(next),
+        Lock::Deadlk(backoff) => Err(backoff),
+    }
+}
+
+/// Takes the locks of these nodes in turn.
+fn take_in_turn<R: Wait>(
+    rt: &R,
+    world: &World,
+    mut acquiring: Acquiring,
+    amounts: &[(u8, u64)],
+    tries: bool,
+) -> Result<Acquiring, Backoff>
+    requires home { IsAtHome acquiring world.now }
+    ensures home { IfOk result (λ a. IsAtHome a world.now) }
+    ensures holding { IfErr result (λ b. IsAtHome b.holding world.now) }
+{
+    for (n, _) in amounts {
+        if *n < world.size() {
+            acquiring = match take(rt, world, acquiring, *n, tries) {
+                Ok(next) => next,
+                Err(backoff) => return Err(backoff),
+            };
+        }
+    }
+    Ok(acquiring)
+}
+
+/// Takes the locks of these nodes, by backing off and beginning again.
+fn take_all<R: Wait>(
+    rt: &R,
+    world: &World,
+    mut acquiring: Acquiring,
+    amounts: &[(u8, u64)],
+    tries: bool,
+) -> Acquiring
+    requires home { IsAtHome acquiring world.now }
+    ensures home { IsAtHome result world.now }
+{
+    for _ in rt.forever() {
+        acquiring = match take_in_turn(rt, world, acquiring, amounts, tries) {
+            Ok(all) => return all,
+            Err(backoff) => backoff.unlock_all(rt, world).lock_slow(rt, world),
+        };
+    }
+    unreachable!()
+}
+
+/// Whether the transaction can be prepared with these locks.
+fn is_possible<R: Wait>(rt: &R, world: &World, done: &Done, txn: &Txn) -> bool
+    requires home { IsAtHome done.now world.now }
+    ensures fits { IsTrue result → Fits (length done.now.seen) (transaction_of txn.now) }
+    ensures no_double { IsTrue result → HasNoDouble (transaction_of txn.now) }
+    ensures covers { IsTrue result → Covers done.now (transaction_of txn.now) }
+{
+    txn.fits(world.size()) && first_double(txn).is_none() && done.covers(rt, world, txn)
+}
+
+/// Commits a transaction, if that is possible, and gives all back.
+fn commit<R: Wait>(rt: &R, world: &World, mut done: Done, txn: Txn) -> (Pass, Option<Receipt>)
+    requires home { IsAtHome done world.now }
+    ensures home { IsAtHome result.0 world.now }
+{
+    if !is_possible(rt, world, &done, &txn) {
+        return (done.unlock_all(rt, world).fini(rt, world), None);
+    }
+    let Ok(prepared) = done.prepare(rt, world, txn) else {
+        return (done.unlock_all(rt, world).fini(rt, world), None);
+    };
+    match done.commit(rt, world, prepared) {
+        Ok((done, receipt)) => (done.unlock_all(rt, world).fini(rt, world), Some(receipt)),
+        Err((done, _)) => (done.unlock_all(rt, world).fini(rt, world), None),
+    }
+}
+
+/// Adds an amount to a node without a context.
+fn commit_alone<R: Wait>(rt: &R, world: &World, mut solo: Solo, add: Txn) -> (Pass, Option<Receipt>)
+    requires home { IsAtHome solo world.now }
+    ensures home { IsAtHome result.0 world.now }
+{
+    if !add.fits(world.size()) || first_double(&add).is_some() {
+        return (solo.unlock(rt, world), None);
+    }
+    if !solo.covers(rt, world, &add) {
+        return (solo.unlock(rt, world), None);
+    }
+    let Ok(prepared) = solo.prepare(rt, world, add) else {
+        return (solo.unlock(rt, world), None);
+    };
+    match solo.commit(rt, world, prepared) {
+        Ok((done, receipt)) => (done.unlock(rt, world), Some(receipt)),
+        Err((solo, _)) => (solo.unlock(rt, world), None),
+    }
+}
+
+/// A round without a context.
+fn round_alone<R: Wait>(
+    rt: &R,
+    world: &World,
+    pass: Pass,
+    n: u8,
+    add: Txn,
+) -> (Pass, Option<Receipt>)
+    requires home { IsAtHome pass world.now }
+    ensures home { IsAtHome result.0 world.now }
+{
+    if n >= world.size() {
+        return (pass, None);
+    }
+    match pass.lock_solo(rt, world, n) {
+        Ok(solo) => commit_alone(rt, world, solo, add),
+        Err(pass) => (pass, None),
+    }
+}
+
+/// Commits the change, where all that it needs is held, else the addition. Tells whether it was the addition.
+fn commit_one<R: Wait>(
+    rt: &R,
+    world: &World,
+    done: Done,
+    change: Option<Txn>,
+    add: Txn,
+) -> (Pass, Option<Receipt>, bool)
+    requires home { IsAtHome done world.now }
+    ensures home { IsAtHome result.0 world.now }
+{
+    if let Some(change) = change {
+        if is_possible(rt, world, &done, &change) {
+            let (pass, receipt) = commit(rt, world, done, change);
+            return (pass, receipt, false);
+        }
+    }
+    let (pass, receipt) = commit(rt, world, done, add);
+    (pass, receipt, true)
+}
+
+/// A round in a context.
+fn round_together<R: Wait>(
+    rt: &R,
+    world: &World,
+    pass: Pass,
+    plan: Plan,
+    memory: &mut Memory,
+) -> Pass
+    requires home { IsAtHome pass world.now }
+    ensures home { IsAtHome result world.now }
+{
+    let Plan {
+        amounts,
+        add,
+        change,
+        is_alone: _,
+        tries,
+    } = plan;
+    match pass.begin(rt, world) {
+        Ok(acquiring) => {
+            let done = take_all(rt, world, acquiring, &amounts, tries).done();
+            let (pass, receipt, is_added) = commit_one(rt, world, done, change, add);
+            if is_added {
+                memory.note(receipt, &amounts);
+            } else {
+                memory.note(receipt, &[]);
+            }
+            pass
+        }
+        Err(pass) => {
+            memory.note(None, &[]);
+            pass
+        }
+    }
+}
+
+/// One round, which is to commit once.
+fn round<R: Wait>(rt: &R, world: &World, pass: Pass, plan: Plan, memory: &mut Memory) -> Pass
+    requires home { IsAtHome pass world.now }
+    ensures home { IsAtHome result world.now }
+{
+    let Some((n, _)) = plan.amounts.first().copied() else {
+        memory.note(None, &[]);
+        return pass;
+    };
+    if !plan.is_alone {
+        return round_together(rt, world, pass, plan, memory);
+    }
+    let (pass, receipt) = round_alone(rt, world, pass, n, plan.add);
+    memory.note(receipt, &plan.amounts);
+    pass
+}
+
+/// What a thread gives back.
+#[derive(Drop)]
+struct Work {
+    pass: Pass,
+    memory: Memory,
+}
+
+/// All rounds of a thread.
+fn all_rounds<R: Wait>(rt: &R, alloc: Global, world: &World, mut pass: Pass, rounds: u32) -> Work
+    requires home { IsAtHome pass world.now }
+    ensures home { IsAtHome result.pass world.now }
+{
+    let mut memory = Memory::new(alloc, pass.caller());
+    for _ in 0..rounds {
+        match memory.plan(alloc) {
+            Ok(plan) => pass = round(rt, world, pass, plan, &mut memory),
+            Err(_) => memory.note(None, &[]),
+        }
+    }
+    Work { pass, memory }
+}
+
+/// Takes what the threads gave back apart.
+fn passes_of(
+    _world: &World,
+    alloc: Global,
+    works: Vec<Work>,
+) -> Result<(Vec<Pass>, Vec<Memory>), AllocError>
+    requires { AllByRecursion (λ w. IsAtHome w.pass _world.now) works.items }
+    ensures { IfOk result (λ r. AreAtHome r.0.items _world.now) }
+{
+    let mut passes = Vec::new(alloc);
+    let mut memories = Vec::new(alloc);
+    for Work { pass, memory } in works {
+        passes.push(pass)?;
+        memories.push(memory)?;
+    }
+    Ok((passes, memories))
+}
+
+/// What the threads added to a node, and its value before.
+fn total(memories: &[Memory], n: usize) -> u64 {
+    let mut total = 5u64;
+    for memory in memories {
+        total = total.wrapping_add(memory.added.get(n).copied().unwrap_or(0));
+    }
+    total
+}
+
+/// Whether the receipts are exactly the caller's part of the history: the place and the number of each of its records.
+fn is_part(records: &[Record], caller: u8, receipts: &[(u64, u64)]) -> bool {
+    let mut rest = receipts.iter();
+    for (place, record) in records.iter().enumerate() {
+        if record.caller == caller && rest.next() != Some(&(place as u64, record.seq)) {
+            return false;
+        }
+    }
+    rest.next().is_none()
+}
+
+/// Asks all that is the same whatever the schedule.
+fn check<R: Abort>(
+    rt: &R,
+    alloc: Global,
+    history: &History,
+    memories: &[Memory],
+) -> Result<(), AllocError> {
+    let mut count = 0;
+    let mut caller = 0u8;
+    for memory in memories {
+        assert_eq!(rt; memory.faults, 0, "thread {caller}");
+        assert!(rt;
+            is_part(&history.records, caller, &memory.receipts),
+            "thread {caller}"
+        );
+        count = memory.receipts.len().saturating_add(count);
+        caller = caller.wrapping_add(1);
+    }
+    assert_eq!(rt; history.records.len(), count);
+    assert!(rt; usize::from(history.graph.size()) == NODES);
+    for n in 0..NODES {
+        assert_eq!(rt;
+            history.graph.node(n as u8).value,
+            total(memories, n),
+            "node {n}"
+        );
+    }
+    match replays(alloc, graph_of(alloc, &FIRST_VALUES)?, &history.records)? {
+        Some(last) => assert!(rt; last.is_same(&history.graph)),
+        None => panic!(rt; "the history isn't legal"),
+    }
+    Ok(())
+}
+
+/// So many threads at once, a pass each.
+fn storm<R: Threads + Wait + Abort + Sync>(
+    rt: &R,
+    alloc: Global,
+    kind: Kind,
+    threads: u8,
+    rounds: u32,
+) -> Result<(), Fail> {
+    let graph = graph_of(alloc, &FIRST_VALUES)?;
+    let Ok((world, passes)) = World::open(alloc, kind, graph, threads, rounds) else {
+        return Err(Fail::from("it opens"));
+    };
+    let shared = &world;
+    let works = thread::map_vec(
+        rt,
+        passes,
+        &|pass: Pass| -> Work
+            requires { IsAtHome pass shared.now }
+            ensures { IsAtHome result.pass shared.entry.now }
+        { all_rounds(rt, alloc, shared, pass, rounds) },
+    )?;
+    let (passes, memories) = passes_of(&world, alloc, works)?;
+    assert_eq!(rt; passes.len(), usize::from(threads));
+    check(rt, alloc, &closed(rt, world, passes), &memories)?;
+    Ok(())
+}
+
+#[test]
+fn two_threads_wound_and_wait(rt: HostRuntime) -> Result<(), Fail> {
+    storm(&rt, rt.alloc(), Kind::WoundWait, 2, ROUNDS)
+}
+
+#[test]
+fn two_threads_wait_and_die(rt: HostRuntime) -> Result<(), Fail> {
+    storm(&rt, rt.alloc(), Kind::WaitDie, 2, ROUNDS)
+}
+
+#[test]
+fn four_threads_wound_and_wait(rt: HostRuntime) -> Result<(), Fail> {
+    storm(&rt, rt.alloc(), Kind::WoundWait, 4, ROUNDS)
+}
+
+#[test]
+fn four_threads_wait_and_die(rt: HostRuntime) -> Result<(), Fail> {
+    storm(&rt, rt.alloc(), Kind::WaitDie, 4, ROUNDS)
+}
+
+#[test]
+fn sixteen_threads_wound_and_wait(rt: HostRuntime) -> Result<(), Fail> {
+    storm(&rt, rt.alloc(), Kind::WoundWait, 16, ROUNDS)
+}
+
+#[test]
+fn sixteen_threads_wait_and_die(rt: HostRuntime) -> Result<(), Fail> {
+    storm(&rt, rt.alloc(), Kind::WaitDie, 16, ROUNDS)
+}
