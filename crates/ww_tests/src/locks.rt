@@ -1,7 +1,7 @@
 //! What one thread sees that takes several passes of a world. A state isn't dropped: a helper that meets another answer than
 //! it must meet stops the test.
 
-ghost use Rattle.std.specs.Prelude.{◌≡◌, ◌<◌, length, IfOk};
+ghost use Rattle.std.specs.Prelude.{◌≡◌, ◌<◌, ◌≤◌, length, IfOk};
 ghost use Rattle.ww_lock.specs.Holding.{IsAtHome, AreAtHome};
 
 use std::alloc::{AllocError, Global};
@@ -11,7 +11,7 @@ use std::test::Fail;
 use ww_lock::{
     Acquiring, Backoff, CloseFault, History, Lock, OpenFault, Pass, Receipt, Try, World,
 };
-use ww_plain::{Graph, Node, Reply, Txn, first_double};
+use ww_plain::{By, Graph, Node, Reply, Txn, first_double};
 use ww_queue::Kind;
 
 /// A graph of nodes with these values, of which no port leads anywhere.
@@ -195,35 +195,72 @@ fn bad_sizes_give_the_graph_back(rt: HostRuntime) -> Result<(), Fail> {
     Ok(())
 }
 
-/// Tries to close a world without its passes, and then closes it with both.
-fn close_with_none<R: Abort>(rt: &R, alloc: Global) -> Result<(), Fail> {
-    let (world, zero, one) = two_passes(alloc, Kind::WoundWait, &[6, 7], 1)?;
-    let (world, _none, fault) = world
-        .close(Vec::new(alloc))
-        .err()
-        .ok_or("both are missing")?;
-    assert!(rt; fault == CloseFault::Missing(2) && fault.number() == 5);
-    let history = closed(rt, world, vec![in alloc; zero, one]?);
-    assert!(rt; history.records.is_empty());
-    assert!(rt; history.graph.is_same(&graph_of(alloc, &[6, 7])?));
-    Ok(())
+/// Divides the passes of a world: so many, and the others.
+fn divided(
+    _world: &World,
+    mut passes: Vec<Pass>,
+    count: usize,
+) -> Result<(Vec<Pass>, Vec<Pass>), AllocError>
+    requires count { count ≤ length passes.items }
+    requires home { AreAtHome passes.items _world.now }
+    ensures there { IfOk result (λ r. AreAtHome r.0.items _world.now) }
+    ensures missing { IfOk result (λ r. AreAtHome r.1.items _world.now) }
+{
+    let missing = passes.split_off(count)?;
+    Ok((passes, missing))
 }
 
-/// Tries to close a world with one of two passes, which comes back.
-fn close_with_one<R: Abort>(rt: &R, alloc: Global) -> Result<(), Fail> {
-    let (world, zero, _one) = two_passes(alloc, Kind::WaitDie, &[6, 7], 1)?;
-    let (_world, there, fault) = world
-        .close(vec![in alloc; zero]?)
-        .err()
-        .ok_or("one is missing")?;
-    assert!(rt; fault == CloseFault::Missing(1) && there.len() == 1);
-    Ok(())
+/// Puts the passes of a world together.
+fn together(
+    _world: &World,
+    mut passes: Vec<Pass>,
+    mut others: Vec<Pass>,
+) -> Result<Vec<Pass>, AllocError>
+    requires passes { AreAtHome passes.items _world.now }
+    requires others { AreAtHome others.items _world.now }
+    ensures { IfOk result (λ all. AreAtHome all.items _world.now) }
+{
+    passes.append(&mut others)?;
+    Ok(passes)
+}
+
+/// Tries to close a world with so many of its passes and not the others. All comes back.
+fn close_with_some<R: Abort>(
+    rt: &R,
+    world: World,
+    passes: Vec<Pass>,
+    count: usize,
+) -> Result<(World, Vec<Pass>), AllocError>
+    requires { AreAtHome passes.items world }
+    ensures { IfOk result (λ r. AreAtHome r.1.items r.0) }
+{
+    let all = passes.len();
+    assert!(rt; count < all && all <= 16);
+    let (there, missing) = divided(&world, passes, count)?;
+    let Err((world, there, fault)) = world.close(there) else {
+        panic!(rt; "some are missing")
+    };
+    assert!(rt; fault == CloseFault::Missing((all - count) as u8));
+    assert!(rt; fault.number() == 5 && there.len() == count);
+    let passes = together(&world, there, missing)?;
+    Ok((world, passes))
 }
 
 #[test]
-fn missing_passes_are_counted(rt: HostRuntime) -> Result<(), Fail> {
-    close_with_none(&rt, rt.alloc())?;
-    close_with_one(&rt, rt.alloc())
+fn full_world_closes_with_all_its_passes(rt: HostRuntime) -> Result<(), Fail> {
+    let alloc = rt.alloc();
+    let opened = World::open(alloc, Kind::WoundWait, full_graph(alloc)?, 16, 1);
+    let (mut world, mut passes) = opened.ok().ok_or("it opens")?;
+    for count in 0..16 {
+        let (open, all) = close_with_some(&rt, world, passes, count)?;
+        world = open;
+        passes = all;
+    }
+    assert!(rt; passes.len() == 16);
+    let history = closed(&rt, world, passes);
+    assert!(rt; history.records.is_empty());
+    assert!(rt; history.graph.is_same(&full_graph(alloc)?));
+    Ok(())
 }
 
 #[test]
@@ -299,5 +336,24 @@ fn solo_peeks(rt: HostRuntime) -> Result<(), Fail> {
     assert!(rt;
         matches!(&told.reply, Reply::Values(values) if values.as_slice() == [9].as_slice())
     );
+    Ok(())
+}
+
+#[test]
+fn later_get_reads_what_was_written(rt: HostRuntime) -> Result<(), Fail> {
+    let alloc = rt.alloc();
+    let (world, zero, one) = two_passes(alloc, Kind::WoundWait, &[5], 1)?;
+    assert!(rt; world.size() == 1);
+    let add = Txn::Add(By::List, [(0, 7)].to_vec(alloc)?);
+    let (zero, _) = committed_alone(&rt, &world, zero, 0, add);
+    let get = Txn::Get(By::Order, [0].to_vec(alloc)?);
+    let (one, told) = committed_alone(&rt, &world, one, 0, get);
+    assert!(rt; told.place == 1 && told.seq == 0);
+    assert!(rt;
+        matches!(&told.reply, Reply::Values(values) if values.as_slice() == [12].as_slice())
+    );
+    let history = closed(&rt, world, vec![in alloc; zero, one]?);
+    assert!(rt; history.records.len() == 2);
+    assert!(rt; history.graph.is_same(&graph_of(alloc, &[12])?));
     Ok(())
 }

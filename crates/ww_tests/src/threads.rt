@@ -19,7 +19,7 @@ use ww_lock::{Acquiring, Backoff, Done, History, Lock, Pass, Receipt, Solo, Try,
 use ww_plain::{By, Record, Txn, first_double, replays};
 use ww_queue::Kind;
 
-const ROUNDS: u32 = 200;
+const ROUNDS: u32 = 2_000;
 
 const NODES: usize = 16;
 
