@@ -1,15 +1,16 @@
 -- Who has to die at a lock and why, and to whom a seat inside its guard owes a sign and why.
-use Rattle.std.proofs.Common.{◌≡◌, ◌≢◌, ◌⊎◌, inl, inr, ⊎_elim, ℕ, ◌<◌, ◌==◌, true, false, nat_lt, List, Some, refl, sym, ap, ◌∙◌, subst, arith, true≢false}
+use Rattle.std.proofs.Common.{◌≡◌, ◌≢◌, ◌⊎◌, inl, inr, ⊎_elim, ℕ, ◌<◌, ◌==◌, true, false, nat_lt, List, [], ◌∷◌, Some, refl, sym, ap, ◌∙◌, subst, arith, true≢false}
 use Rattle.std.specs.Prelude.{find, unwrap_or}
-use Rattle.std.specs.Option.{IsSome}
+use Rattle.std.specs.Option.{IsSome, option_map}
 use Rattle.std.proofs.lemmas.Option.{cond_some}
+use Rattle.ww_word.specs.declared.owner.Owner.{Owner}
 use Rattle.ww_word.specs.Owner.{is_handed}
 use Rattle.ww_queue.specs.declared.kind.Kind.{Kind}
 use Rattle.ww_queue.specs.declared.kind.Kind.TheVariants.{WoundWait, WaitDie}
 use Rattle.ww_queue.specs.declared.entry.Entry.{Entry}
 use Rattle.ww_queue.specs.Queue.{Has, Before, Once}
 use Rattle.ww_queue.specs.Rules.{must_die, owed_signs}
-use Rattle.ww_queue.proofs.Outcomes.{same_number}
+use Rattle.ww_queue.proofs.Outcomes.{by_test, same_number, other_number}
 use Rattle.ww_queue.proofs.Aheads.{before_older}
 use Rattle.ww_queue.proofs.Deaths.{must_die_why, death_why, wound_wait_condemns, dies_when, dies_why as wait_die_why, death_is_of_context}
 use Rattle.ww_queue.proofs.Signs.{signed_why, signed_when, wounded_why, wounded_some}
@@ -139,6 +140,11 @@ pub by_kind : (kind : Kind) (P : Type 0) → (kind ≡ WoundWait → P) → (kin
 by_kind WoundWait P wounding dying = wounding refl
 by_kind WaitDie P wounding dying = dying refl
 
+-- a sign doesn't say who has to die in Wait-Die
+pub dies_unsigned : (kind : Kind) → kind ≡ WaitDie → (o : Owner) (q : List Entry) (s k j : ℕ) → must_die kind o q s k ≡ must_die kind o q s j
+dies_unsigned WoundWait dying o q s k j = absurd (cc)
+dies_unsigned WaitDie dying o q s k j = refl
+
 -- the stamp of which a waiter dies is an older one than its own
 pub dies_older : (c : State) (s n k : ℕ) → IsBase c → c.kind ≡ WaitDie → DiesOf c s n k → (0 < k) × (k < c.stamp s)
 dies_older c s n k l dying d = let same = (l.queues.at n).stamps d.entry d.stands ∙ ap c.stamp d.seat in ⊎_elim
@@ -160,6 +166,13 @@ pub owed_from : (v : ℕ) (pairs : List (ℕ × ℕ)) (k : ℕ) → owed_to v pa
 owed_from v pairs k h = let r = mapped_from (λ (p : ℕ × ℕ). p.1) (find (λ (p : ℕ × ℕ). p.0 == v) pairs) k h in
     let f = found_from (λ (p : ℕ × ℕ). p.0 == v) pairs r.0 r.1 in
     subst (λ x. Has pairs (x, k)) (same_number r.0.0 v f.1) (subst (λ x. Has pairs (r.0.0, x)) r.2 f.0)
+
+-- where a stamp is owed to a seat, one is found
+pub owed_there : (v k : ℕ) (pairs : List (ℕ × ℕ)) → Has pairs (v, k) → IsSome (owed_to v pairs)
+owed_there v k [] h = absurd h
+owed_there v k (p ∷ ps) h = by_test (p.0 == v) (Some p) (find (λ (x : ℕ × ℕ). x.0 == v) ps) (λ o. IsSome (option_map (λ (x : ℕ × ℕ). x.1) o))
+    (λ _. refl)
+    (λ isnt. ⊎_elim (λ is. absurd (other_number p.0 v isnt (sym (ap (λ (x : ℕ × ℕ). x.0) is)))) (λ later. owed_there v k ps later) h)
 
 pub sign_owed : (c : State) (s v : ℕ) → IsSome (owed_to v (owes c s (place_of c s))) → Has (owes c s (place_of c s)) (v, sign_for c s v)
 sign_owed c s v h = let r = some_of (owed_to v (owes c s (place_of c s))) h in

@@ -1,15 +1,12 @@
 -- Who is inside a guard can take the lock, die, or leave the guard.
-use Rattle.std.proofs.Common.{ℕ, ◌≡◌, ◌≢◌, ◌<◌, ◌==◌, ◌⊎◌, inl, inr, ⊎_elim, Bool, true, false, List, [], ◌∷◌, Option, Some, None, refl, sym, ap, ◌∙◌, subst, arith}
-use Rattle.std.specs.Option.{IsSome, option_map}
-use Rattle.std.specs.Prelude.{find}
+use Rattle.std.proofs.Common.{ℕ, ◌≡◌, ◌≢◌, ◌<◌, ◌⊎◌, inl, inr, ⊎_elim, Bool, true, false, List, [], ◌∷◌, Option, Some, None, refl, sym, ap, ◌∙◌, subst, arith}
+use Rattle.std.specs.Option.{IsSome}
 use mathlib.Core.Logic.{dite}
 use native.Mathlib.Decide.{ℕ_discrete}
-use Rattle.ww_queue.specs.declared.kind.Kind.{Kind}
 use Rattle.ww_queue.specs.declared.kind.Kind.TheVariants.{WoundWait, WaitDie}
 use Rattle.ww_queue.specs.declared.entry.Entry.{Entry}
 use Rattle.ww_queue.specs.Queue.{Has, Stands, StandsNot}
-use Rattle.ww_queue.specs.Rules.{must_die, owed_signs}
-use Rattle.ww_queue.proofs.Outcomes.{by_test, other_number}
+use Rattle.ww_queue.specs.Rules.{owed_signs}
 use Rattle.ww_queue.proofs.Deaths.{only_waiters_die}
 use Rattle.ww_queue.proofs.Signs.{signed_why}
 use Rattle.ww_model.specs.declared.state.Holder.{Holder}
@@ -21,7 +18,7 @@ use Rattle.ww_model.specs.Lawful.{IsLawful}
 use Rattle.ww_model.specs.Run.{Reached}
 use Rattle.ww_model.specs.Emptied.{LeadsTo}
 use Rattle.ww_model.proofs.Puts.{put_here, put_cases}
-use Rattle.ww_model.proofs.Dues.{by_kind, sign_for, sign_some}
+use Rattle.ww_model.proofs.Dues.{by_kind, dies_unsigned, sign_for, owed_there, sign_some}
 use Rattle.ww_model.proofs.Kept.{reached_is_lawful}
 use Rattle.ww_model.proofs.Outside.{signed_owns_outside}
 use Rattle.ww_model.proofs.Ranges.{place_is}
@@ -62,18 +59,6 @@ module _ (c : State) (reached : Reached c) (s n : ℕ) (waits : Stands (c.queue 
       by_holds wounding false is = inl (ap c.sign (sym waits.2) ∙ lawful.signs.signs.unowning wounding n waits.0 waits.1 ((lawful.base.queues.at n).holds_not waits.0 waits.1 is))
 
 -- ---- leaving the guard
-
--- a sign doesn't say who has to die in Wait-Die
-dies_unsigned : (kind : Kind) → kind ≡ WaitDie → (c : State) (s n sign sign' : ℕ) →
-    must_die kind (owner_as c (c.owner n)) (c.queue n) s sign ≡ must_die kind (owner_as c (c.owner n)) (c.queue n) s sign'
-dies_unsigned WoundWait dying c s n sign sign' = absurd (cc)
-dies_unsigned WaitDie dying c s n sign sign' = refl
-
-owed_there : (v k : ℕ) (pairs : List (ℕ × ℕ)) → Has pairs (v, k) → IsSome (owed_to v pairs)
-owed_there v k [] h = absurd h
-owed_there v k (p ∷ ps) h = by_test (p.0 == v) (Some p) (find (λ (x : ℕ × ℕ). x.0 == v) ps) (λ o. IsSome (option_map (λ (x : ℕ × ℕ). x.1) o))
-    (λ _. refl)
-    (λ isnt. ⊎_elim (λ is. absurd (other_number p.0 v isnt (sym (ap (λ (x : ℕ × ℕ). x.0) is)))) (λ later. owed_there v k ps later) h)
 
 module _ (c : State) (s n : ℕ) (inside : Inside c s n) where
   -- the signs that are owed to these are given, and in Wait-Die the seat itself gets none
@@ -161,7 +146,7 @@ module _ (c : State) (s n : ℕ) (inside : Inside c s n) where
         base = record { inside = record { guard = inside.guard; lock = inside.lock; seat = inside.seat }; contended = contended };
         signs = record {
           signed = signed;
-          safe = λ dying. record { lives = dies_unsigned c.kind dying c s n (signs s) (c.sign s) ∙ lives dying; unsigned = unsigned dying };
+          safe = λ dying. record { lives = dies_unsigned c.kind dying (owner_as c (c.owner n)) (c.queue n) s (signs s) (c.sign s) ∙ lives dying; unsigned = unsigned dying };
         };
       }
 

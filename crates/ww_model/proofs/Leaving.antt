@@ -1,5 +1,5 @@
 -- How an owner leaves a lock, how a condemned seat dies, and that the wait lists ascend.
-use Rattle.std.proofs.Common.{◌≡◌, ◌≢◌, inl, inr, ⊎_elim, ℕ, suc, ◌<◌, sym, ap, ◌∙◌, arith}
+use Rattle.std.proofs.Common.{◌≡◌, ◌≢◌, ◌⊎◌, inl, inr, ⊎_elim, ℕ, suc, ◌<◌, sym, ap, ◌∙◌, arith}
 use Rattle.std.specs.Prelude.{unwrap_or}
 use mathlib.Core.Logic.{dite}
 use native.Mathlib.Decide.{ℕ_discrete, dec_le}
@@ -8,7 +8,7 @@ use Rattle.ww_queue.specs.Queue.{Has, joined, left}
 use Rattle.ww_queue.proofs.Joins.{joined_has}
 use Rattle.ww_queue.proofs.Leaves.{left_has}
 use Rattle.ww_model.specs.declared.state.Holder.{Holder}
-use Rattle.ww_model.specs.declared.state.Holder.TheVariants.{Nobody, Taken}
+use Rattle.ww_model.specs.declared.state.Holder.TheVariants.{Nobody, Taken, Handed}
 use Rattle.ww_model.specs.declared.event.Event.{Event}
 use Rattle.ww_model.specs.declared.event.Event.TheVariants.{Fast, FastGive, Join, Take, Give, Die}
 use Rattle.ww_model.specs.declared.event.Answer.TheVariants.{Deadlk}
@@ -16,7 +16,8 @@ use Rattle.ww_model.specs.State.{State, put, HasOther, waiter_of}
 use Rattle.ww_model.specs.Event.{given_to, BasePossible, after}
 use Rattle.ww_model.specs.Lawful.{IsBase}
 use Rattle.ww_model.specs.Run.{at_start, further}
-use Rattle.ww_model.specs.Laws.{TakenLeavesByGiving, OfReached, QueuesAscend, WaitersAreSeats, CondemnedCanDie}
+use Rattle.ww_model.specs.Alone.{TakenLeavesByGiving, HandedLeavesByTaking}
+use Rattle.ww_model.specs.Laws.{OfReached, QueuesAscend, WaitersAreSeats, CondemnedCanDie}
 use Rattle.ww_model.proofs.Puts.{put_here, put_else, put_cases}
 use Rattle.ww_model.proofs.Kept.{reached_is_lawful}
 
@@ -35,6 +36,19 @@ taken_leaves_by_giving c (Give u m) s n can own gone = dite (ℕ_discrete n m)
     (λ is. let z = ap c.owner is in let y = can.owns in let same : u ≡ s = cc in inr (cc))
     (λ isnt. absurd (stays_taken c m n s (given_to (c.asked m) (c.queue m)) isnt own gone))
 taken_leaves_by_giving c _ s n can own gone = absurd (gone own)
+
+-- a handed lock is taken by its seat, or stays handed
+pub handed_or_taken : (c : State) (e : Event) (s n : ℕ) → BasePossible c e → c.owner n ≡ Handed s → (e ≡ Take s n) ⊎ ((after c e).owner n ≡ Handed s)
+handed_or_taken c (Fast u m) s n can own = inr (put_else c.owner m (Taken u) n (λ is. let z = ap c.owner is in let y = can.idle.free in cc) ∙ own)
+handed_or_taken c (FastGive u m) s n can own = inr (put_else c.owner m Nobody n (λ is. let z = ap c.owner is in let y = can.owns in cc) ∙ own)
+handed_or_taken c (Give u m) s n can own = inr (put_else c.owner m (given_to (c.asked m) (c.queue m)) n (λ is. let z = ap c.owner is in let y = can.owns in cc) ∙ own)
+handed_or_taken c (Take u m) s n can own = dite (ℕ_discrete n m)
+    (λ is. let z = ap c.owner is in ⊎_elim (λ y. absurd (cc)) (λ y. let same : u ≡ s = cc in inl (cc)) can.free)
+    (λ isnt. inr (put_else c.owner m (Taken u) n isnt ∙ own))
+handed_or_taken c _ s n can own = inr own
+
+pub handed_leaves_by_taking : HandedLeavesByTaking
+handed_leaves_by_taking c e s n can own gone = ⊎_elim (λ is. is) (λ stays. absurd (gone stays)) (handed_or_taken c e s n can own)
 
 pub queues_ascend : OfReached QueuesAscend
 queues_ascend c run n = ((reached_is_lawful c run).base.queues.at n).ascends

@@ -18,6 +18,8 @@ pub mod FreeGuards
 pub mod Outside
 pub mod Meetings
 pub mod Leaving
+pub mod Words
+pub mod Stays
 pub mod Outcomes
 pub mod Slots
 pub mod Waiters

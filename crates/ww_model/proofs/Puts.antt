@@ -1,5 +1,5 @@
 -- Functions changed at one place.
-use Rattle.std.proofs.Common.{◌≡◌, ◌≢◌, ◌⊎◌, inl, inr, ⊎_elim, ℕ, refl, sym, ap, ◌∙◌, subst}
+use Rattle.std.proofs.Common.{◌≡◌, ◌≢◌, ◌⊎◌, ◌↔◌, inl, inr, ⊎_elim, ℕ, refl, sym, ap, ◌∙◌, subst}
 use mathlib.Core.Logic.{dite}
 use native.Mathlib.Decide.{ℕ_discrete}
 use Rattle.ww_model.specs.State.{pick, put}
@@ -44,3 +44,10 @@ module _ {A : Type 0} where
   -- where the new value doesn't have it, the old one has
   pub put_kept : (f : ℕ → A) (i : ℕ) (c : A) (j : ℕ) (P : A → Type 0) → (P c → ⊥) → P (put f i c j) → P (f j)
   put_kept f i c j P isnt h = ⊎_elim (λ x. absurd (isnt x.1)) (λ x. x.1) (put_was f i c j P h)
+
+  -- a function changed where this holds of both values or of neither
+  pub put_like : (f : ℕ → A) (i : ℕ) (c : A) (P : A → Type 0) → (P (f i) → P c) → (P c → P (f i)) → (j : ℕ) → P (f j) ↔ P (put f i c j)
+  put_like f i c P to from j = (
+    put_cases f i c j (λ x. P (f j) → P x) (λ is h. to (subst (λ k. P (f k)) is h)) (λ _ h. h),
+    put_cases f i c j (λ x. P x → P (f j)) (λ is h. subst (λ k. P (f k)) (sym is) (from h)) (λ _ h. h),
+  )

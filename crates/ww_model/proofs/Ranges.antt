@@ -5,11 +5,12 @@ use Rattle.ww_queue.proofs.Outcomes.{by_test, same_number}
 use Rattle.ww_queue.proofs.Rooms.{room_for}
 use Rattle.ww_model.specs.declared.state.Holder.TheVariants.{Nobody, Taken, Handed}
 use Rattle.ww_model.specs.declared.event.Event.{Event}
-use Rattle.ww_model.specs.declared.event.Event.TheVariants.{Clear, Fast, FastGive, Take, Give}
+use Rattle.ww_model.specs.declared.event.Event.TheVariants.{Begin, Clear, Fast, FastGive, Take, Give}
 use Rattle.ww_model.specs.State.{State, Inside, owes, last_below, place_of}
 use Rattle.ww_model.specs.Event.{Possible, BasePossible, after, given_to, owed_to}
 use Rattle.ww_model.specs.Run.{Reached, at_start, further}
-use Rattle.ww_model.specs.Laws.{OfLawful, PlaceIsTheGuard}
+use Rattle.ww_model.specs.Alone.{StampsAreFew}
+use Rattle.ww_model.specs.Laws.{OfLawful, PlaceIsTheGuard, OfReached}
 use Rattle.ww_model.proofs.Outcomes.{number_same}
 use Rattle.ww_model.proofs.Puts.{put_cases}
 use Rattle.ww_model.proofs.Options.{some_of}
@@ -52,6 +53,16 @@ pub owners_are_seats : (c : State) → Reached c → (n s : ℕ) → (c.owner n 
 owners_are_seats c run n s = ⊎_elim (takers_are_seats c run n s)
     (λ handed. let there = ((reached_is_lawful c run).base.owners.at n).handed_stands s handed in
     subst (λ (x : ℕ). x < c.seats) there.2 (waiters_are_seats c run n there.0 there.1))
+
+-- ---- stamps
+
+keeps_few : (c : State) (e : Event) → BasePossible c e → StampsAreFew c → StampsAreFew (after c e)
+keeps_few c (Begin s) can few = let left = can.stamps_left in omega arith
+keeps_few c _ can few = few
+
+pub few_stamps : OfReached StampsAreFew
+few_stamps _ (at_start kind locks seats) = omega arith
+few_stamps _ (further c e run can) = keeps_few c e can.base (few_stamps c run)
 
 -- ---- room for each
 

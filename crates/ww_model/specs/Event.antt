@@ -11,6 +11,23 @@ use Rattle.ww_model.specs.declared.event.Answer.{Answer}
 use Rattle.ww_model.specs.declared.event.Answer.TheVariants.{Stamp, Done, Locked, Met, Handed, Free, Deadlk, Place}
 use Rattle.ww_model.specs.State.{State, put, Owns, OwnsNone, OwnsSome, HasOther, Inside, InsideNone, InNoQueue, Away, MayOwn, IsCalm, waiter_of, dies, owes, place_of}
 
+-- the seat whose event it is
+abbrev pub actor : Event → ℕ
+actor (Begin s) = s
+actor (Clear s) = s
+actor (Fast s n) = s
+actor (FastGive s n) = s
+actor (Guard s n) = s
+actor (Join s n) = s
+actor (Sign s v) = s
+actor (Take s n) = s
+actor (Ask s n) = s
+actor (Give s n) = s
+actor (Die s n) = s
+actor (Unguard s n) = s
+actor (Commit s) = s
+actor (End s) = s
+
 -- the stamp that is owed to a seat
 abbrev pub owed_to : ℕ → List (ℕ × ℕ) → Option ℕ
 owed_to v pairs = option_map (λ pair. pair.1) (find (λ pair. pair.0 == v) pairs)

@@ -1,15 +1,13 @@
 -- The laws: of each event, and of each reached state.
-use Rattle.std.specs.Prelude.{ℕ, ◌≡◌, ◌≢◌, ◌<◌, ◌⊎◌, List, Some}
+use Rattle.std.specs.Prelude.{ℕ, ◌≡◌, ◌<◌, List, Some}
 use Rattle.ww_queue.specs.declared.kind.Kind.{Kind}
 use Rattle.ww_queue.specs.declared.kind.Kind.TheVariants.{WaitDie}
 use Rattle.ww_queue.specs.declared.entry.Entry.{Entry}
 use Rattle.ww_queue.specs.Queue.{Has, Before, Ascends}
-use Rattle.ww_model.specs.declared.state.Holder.TheVariants.{Taken}
-use Rattle.ww_model.specs.declared.event.Event.{Event}
-use Rattle.ww_model.specs.declared.event.Event.TheVariants.{FastGive, Guard, Give, Die}
+use Rattle.ww_model.specs.declared.event.Event.TheVariants.{Guard, Die}
 use Rattle.ww_model.specs.declared.event.Answer.TheVariants.{Deadlk}
 use Rattle.ww_model.specs.State.{State, start, OwnsSome, Inside, dies, place_of}
-use Rattle.ww_model.specs.Event.{BasePossible, Possible, after, answer}
+use Rattle.ww_model.specs.Event.{Possible, after, answer}
 use Rattle.ww_model.specs.Lawful.{IsBase, IsLawful, KeepsBase, Keeps}
 use Rattle.ww_model.specs.Run.{Reached}
 use Rattle.ww_model.specs.Waits.{IsCycle, AreContexts, IsOneOf, IsRing, IsCondemned}
@@ -27,11 +25,6 @@ LawfulIsKept = Keeps IsLawful
 -- the start is lawful
 abbrev pub StartIsLawful : Type 0
 StartIsLawful = (kind : Kind) (locks seats : ℕ) → IsLawful (start kind locks seats)
-
--- an owner that has taken the lock leaves it only by its own FastGive or Give
-abbrev pub TakenLeavesByGiving : Type 0
-TakenLeavesByGiving = (c : State) (e : Event) (s n : ℕ) → BasePossible c e → c.owner n ≡ Taken s → (after c e).owner n ≢ Taken s →
-    (e ≡ FastGive s n) ⊎ (e ≡ Give s n)
 
 -- ---- of each lawful state
 

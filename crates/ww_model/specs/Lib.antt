@@ -4,6 +4,7 @@ pub mod Lawful
 pub mod Run
 pub mod Waits
 pub mod Met
+pub mod Alone
 pub mod Laws
 pub mod Snapshot
 pub mod Core

@@ -1,5 +1,5 @@
 -- The core state: what all seats and locks are at, at one moment.
-use Rattle.std.specs.Prelude.{ℕ, suc, zero, ◌≡◌, ◌≢◌, ◌<◌, ◌⊎◌, ◌==◌, ◌||◌, Bool, false, List, [], Option, Some, if◌then◌else◌}
+use Rattle.std.specs.Prelude.{ℕ, suc, zero, ◌≡◌, ◌≢◌, ◌<◌, ◌⊎◌, ◌==◌, ◌||◌, ◌+◌, ◌*◌, Bool, true, false, List, [], ◌∷◌, Option, Some, if◌then◌else◌}
 use native.Mathlib.Decide.{ℕ_discrete}
 use Rattle.ww_word.specs.declared.owner.Owner.{Owner}
 use Rattle.ww_word.specs.Owner.{idle, handed_to}
@@ -70,6 +70,21 @@ is_taken_by s Nobody = false
 is_taken_by s (Taken t) = t == s
 is_taken_by s (Handed t) = false
 
+-- ---- the flags of an owner word: WAITERS, HANDOFF and PICKUP
+
+abbrev pub waiting : List Entry → ℕ
+waiting [] = 0
+waiting (e ∷ es) = 1
+
+abbrev pub one_if : Bool → ℕ
+one_if true = 1
+one_if false = 0
+
+abbrev pub pickup : Holder → ℕ
+pickup Nobody = 0
+pickup (Taken s) = 0
+pickup (Handed s) = 4
+
 -- ---- terms, of a state
 
 module _ (c : State) where
@@ -126,6 +141,14 @@ module _ (c : State) where
   owner_as Nobody = idle
   owner_as (Taken s) = record { seat = Some s; stamp = c.stamp s; flags = 0 }
   owner_as (Handed s) = handed_to s (c.stamp s)
+
+  -- the owner word of a lock with this owner, that is asked to hand itself over or not, with this wait list
+  abbrev pub word_from : Holder → Bool → List Entry → Owner
+  word_from o asked q = record (owner_as o) { flags = waiting q + 2 * one_if asked + pickup o }
+
+  -- the owner word of the lock
+  abbrev pub word_of : ℕ → Owner
+  word_of n = word_from (c.owner n) (c.asked n) (c.queue n)
 
   -- the stamp for which the seat has to die at the lock
   abbrev pub dies : ℕ → ℕ → Option ℕ

@@ -4,7 +4,8 @@ ghost use Rattle.ww_model.specs.Lawful.{FreeGuardsOweNothing, SignedOwnsOutside}
 ghost use Rattle.ww_model.specs.Run.{ReachedIsLawful, RunsAreLawful};
 ghost use Rattle.ww_model.specs.Met.{SignWasMet, DeadlkWasMet};
 ghost use Rattle.ww_model.specs.Emptied.{CanBeEmptied};
-ghost use Rattle.ww_model.specs.Laws.{BaseIsKept, LawfulIsKept, StartIsLawful, TakenLeavesByGiving, OfLawful, PlaceIsTheGuard, OfReached, RingsAreCondemned, CyclesAreOfContexts, QueuesAscend, OnlyFirstIsUnsigned, WaitersAreSeats, CondemnedCanDie};
+ghost use Rattle.ww_model.specs.Alone.{OthersAreLeftAlone, OthersAreSignedOnce, TakenLeavesByGiving, HandedLeavesByTaking, OutsidersOweNothing, StampsAreFew};
+ghost use Rattle.ww_model.specs.Laws.{BaseIsKept, LawfulIsKept, StartIsLawful, OfLawful, PlaceIsTheGuard, OfReached, RingsAreCondemned, CyclesAreOfContexts, QueuesAscend, OnlyFirstIsUnsigned, WaitersAreSeats, CondemnedCanDie};
 
 /// Each event that is possible as far as stamps, owners, wait lists and guards go keeps these in order.
 pub fn keeps_base()
@@ -66,9 +67,35 @@ pub fn deadlk_was_met()
     ensures { DeadlkWasMet }
 {}
 
-/// An owner that has taken a lock leaves it only by its own FastGive or Give.
+/// A possible event of a lawful state leaves to each other seat its stamp, its locks, its guard and its place in the lists, and
+/// to one that is inside a guard what it sees there.
+pub fn others_are_left_alone()
+    ensures { OthersAreLeftAlone }
+{}
+
+/// The sign of another seat changes only from 0, and by Sign.
+pub fn others_are_signed_once()
+    ensures { OthersAreSignedOnce }
+{}
+
+/// An owner that has taken a lock leaves it only by its own FastGive or Give there.
 pub fn taken_leaves_by_giving()
     ensures { TakenLeavesByGiving }
+{}
+
+/// A lock that was handed to a seat leaves it only by its own Take there.
+pub fn handed_leaves_by_taking()
+    ensures { HandedLeavesByTaking }
+{}
+
+/// In every lawful state a seat inside a guard that neither waits there nor has taken the lock owes no unsigned seat.
+pub fn outsiders_owe_nothing()
+    ensures { OfLawful OutsidersOweNothing }
+{}
+
+/// The stamps drawn in a reached state fit an owner word.
+pub fn stamps_are_few()
+    ensures { OfReached StampsAreFew }
 {}
 
 /// The stamps of the contexts ascend in each wait list of a reached state.
