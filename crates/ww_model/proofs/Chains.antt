@@ -11,8 +11,10 @@ use Rattle.ww_queue.proofs.Rooms.{room_for}
 use Rattle.ww_model.specs.declared.state.Holder.{Holder}
 use Rattle.ww_model.specs.declared.state.Holder.TheVariants.{Nobody, Taken, Handed}
 use Rattle.ww_model.specs.State.{State}
+use Rattle.ww_model.specs.Lawful.{IsLawful}
 use Rattle.ww_model.specs.Run.{Reached}
 use Rattle.ww_model.specs.Waits.{WaitsAt, WaitsFor, Leads, IsCycle, IsNoneOf, Differ, IsOneOf, IsRing, IsLeastRing}
+use Rattle.ww_model.specs.Laws.{OfLawful, EachWaitsForOne, RingsAreApart}
 use Rattle.ww_model.specs.Least.{IsRingFrom}
 use Rattle.ww_model.proofs.Leaving.{waiters_are_seats}
 use Rattle.ww_model.proofs.Kept.{reached_is_lawful}
@@ -70,9 +72,9 @@ same_owner h a b (inr i) (inl j) = absurd (cc)
 same_owner h a b (inr i) (inr j) = cc
 
 -- nobody waits for two
-pub waits_once : (c : State) → Reached c → (a b d : ℕ) → WaitsFor c a b → WaitsFor c a d → b ≡ d
-waits_once c run a b d v w = let base = (reached_is_lawful c run).base in
-    let same = base.queues.one_queue v.0 w.0 v.1.stands.0 w.1.stands.0 v.1.stands.1 w.1.stands.1 (v.1.stands.2 ∙ sym w.1.stands.2) in
+pub waits_once : OfLawful EachWaitsForOne
+waits_once c l a b d v w =
+    let same = l.base.queues.one_queue v.0 w.0 v.1.stands.0 w.1.stands.0 v.1.stands.1 w.1.stands.1 (v.1.stands.2 ∙ sym w.1.stands.2) in
     same_owner (c.owner v.0) b d v.1.owner (subst (λ (n : ℕ). (c.owner n ≡ Taken d) ⊎ (c.owner n ≡ Handed d)) (sym same) w.1.owner)
 
 pub waiter_is_seat : (c : State) → Reached c → (a b : ℕ) → WaitsFor c a b → a < c.seats
@@ -107,6 +109,8 @@ record Cut (c : State) (a : ℕ) (bs : List ℕ) (z x : ℕ) : Type 0 where
   after : List ℕ
   from : Leads c x after z
   within : (y : ℕ) → IsOneOf y after → IsOneOf y bs
+  within_before : (y : ℕ) → IsOneOf y before → IsOneOf y bs
+  each : (y : ℕ) → IsOneOf y bs → IsOneOf y before ⊎ ((y ≡ x) ⊎ IsOneOf y after)
 
 cut : (c : State) (a : ℕ) (bs : List ℕ) (z x : ℕ) → Leads c a bs z → IsOneOf x bs → Cut c a bs z x
 cut c a [] z x l one = absurd one
@@ -116,6 +120,8 @@ cut c a (b ∷ bs) z x l (inl is) = record {
   after = bs;
   from = subst (λ (y : ℕ). Leads c y bs z) (sym is) l.1;
   within = λ y one. inr one;
+  within_before = λ y one. absurd one;
+  each = λ y one. inr (⊎_elim (λ same. inl (same ∙ sym is)) inr one);
 }
 cut c a (b ∷ bs) z x l (inr later) = let rest = cut c b bs z x l.1 later in record {
   before = b ∷ rest.before;
@@ -123,6 +129,8 @@ cut c a (b ∷ bs) z x l (inr later) = let rest = cut c b bs z x l.1 later in re
   after = rest.after;
   from = rest.from;
   within = λ y one. inr (rest.within y one);
+  within_before = λ y one. ⊎_elim inl (λ later. inr (rest.within_before y later)) one;
+  each = λ y one. ⊎_elim (λ same. inl (inl same)) (λ later. ⊎_elim (λ old. inl (inr old)) inr (rest.each y later)) one;
 }
 
 -- from each seat of a cycle a chain leads back to it
@@ -137,9 +145,9 @@ walked_more c a [] h k walked w = (walked, subst (λ (x : ℕ). WaitsFor c x k) 
 walked_more c a (x ∷ xs) h k walked w = (walked.0, leads_more c a xs h k walked.1 w)
 
 -- who leads back to a seat of its cycle does so from the next seat on too
-pub returns_on : (c : State) → Reached c → (a x y : ℕ) → Reaches c a a → Reaches c x a → WaitsFor c x y → Reaches c y a
-returns_on c run a x y cycle ([], l) w = subst (λ (z : ℕ). Reaches c z a) (waits_once c run x a y l w) cycle
-returns_on c run a x y cycle (b ∷ bs, l) w = subst (λ (z : ℕ). Reaches c z a) (waits_once c run x b y l.0 w) (bs, l.1)
+pub returns_on : (c : State) → IsLawful c → (a x y : ℕ) → Reaches c a a → Reaches c x a → WaitsFor c x y → Reaches c y a
+returns_on c l a x y cycle ([], m) w = subst (λ (z : ℕ). Reaches c z a) (waits_once c l x a y m w) cycle
+returns_on c l a x y cycle (b ∷ bs, m) w = subst (λ (z : ℕ). Reaches c z a) (waits_once c l x b y m.0 w) (bs, m.1)
 
 -- who leads anywhere waits
 pub reaches_waits : (c : State) (x z : ℕ) → Reaches c x z → (y : ℕ) × WaitsFor c x y
@@ -162,14 +170,70 @@ walk_has_room c run a r h walked differ new seat = subst (λ (k : ℕ). k < c.se
     (λ e there is. new (subst (λ (x : ℕ). IsOneOf x r) is (waiter_from r e there))) seat)
 
 -- nobody leads out of a cycle
-stays : (c : State) → Reached c → (h : ℕ) (back : List ℕ) → Leads c h back h → (y : ℕ) (ws : List ℕ) → Leads c y ws h →
+stays : (c : State) → IsLawful c → (h : ℕ) (back : List ℕ) → Leads c h back h → (y : ℕ) (ws : List ℕ) → Leads c y ws h →
     ((x : ℕ) → IsOneOf x ws → IsOneOf x back) → (bs : List ℕ) (z : ℕ) → Leads c y bs z → (z ≡ h) ⊎ IsOneOf z back
-stays c run h back cycle y [] l within [] z m = inl (waits_once c run y z h m l)
-stays c run h back cycle y (w ∷ ws) l within [] z m = inr (within z (inl (waits_once c run y z w m l.0)))
-stays c run h back cycle y [] l within (b ∷ bs) z m =
-    stays c run h back cycle h back cycle (λ x one. one) bs z (subst (λ (x : ℕ). Leads c x bs z) (waits_once c run y b h m.0 l) m.1)
-stays c run h back cycle y (w ∷ ws) l within (b ∷ bs) z m =
-    stays c run h back cycle w ws l.1 (λ x one. within x (inr one)) bs z (subst (λ (x : ℕ). Leads c x bs z) (waits_once c run y b w m.0 l.0) m.1)
+stays c l h back cycle y [] k within [] z m = inl (waits_once c l y z h m k)
+stays c l h back cycle y (w ∷ ws) k within [] z m = inr (within z (inl (waits_once c l y z w m k.0)))
+stays c l h back cycle y [] k within (b ∷ bs) z m =
+    stays c l h back cycle h back cycle (λ x one. one) bs z (subst (λ (x : ℕ). Leads c x bs z) (waits_once c l y b h m.0 k) m.1)
+stays c l h back cycle y (w ∷ ws) k within (b ∷ bs) z m =
+    stays c l h back cycle w ws k.1 (λ x one. within x (inr one)) bs z (subst (λ (x : ℕ). Leads c x bs z) (waits_once c l y b w m.0 k.0) m.1)
+
+-- ---- two rings
+
+one_of_either : (r t : List ℕ) (x : ℕ) → IsOneOf x (r ++ t) → IsOneOf x r ⊎ IsOneOf x t
+one_of_either [] t x one = inr one
+one_of_either (y ∷ ys) t x one = ⊎_elim (λ is. inl (inl is)) (λ later. ⊎_elim (λ old. inl (inr old)) inr (one_of_either ys t x later)) one
+
+either_one_of : (r t : List ℕ) (x : ℕ) → IsOneOf x r ⊎ IsOneOf x t → IsOneOf x (r ++ t)
+either_one_of [] t x one = ⊎_elim (λ none. absurd none) (λ later. later) one
+either_one_of (y ∷ ys) t x (inl one) = ⊎_elim inl (λ later. inr (either_one_of ys t x (inl later))) one
+either_one_of (y ∷ ys) t x (inr one) = inr (either_one_of ys t x (inr one))
+
+-- a cycle, begun with another of its seats
+record Turned (c : State) (ring : List ℕ) (x : ℕ) : Type 0 where
+  back : List ℕ
+  cycle : Leads c x back x
+  within : (y : ℕ) → IsOneOf y back → IsOneOf y ring
+  each : (y : ℕ) → IsOneOf y ring → (y ≡ x) ⊎ IsOneOf y back
+
+turned : (c : State) (ring : List ℕ) (x : ℕ) → IsCycle c ring → IsOneOf x ring → Turned c ring x
+turned c [] x cycle one = absurd cycle
+turned c (a ∷ bs) x cycle (inl is) = record {
+  back = bs;
+  cycle = subst (λ (y : ℕ). Leads c y bs y) (sym is) cycle;
+  within = λ y one. inr one;
+  each = λ y one. ⊎_elim (λ same. inl (same ∙ sym is)) inr one;
+}
+turned c (a ∷ bs) x cycle (inr later) = let parts = cut c a bs a x cycle later in record {
+  back = parts.after ++ a ∷ parts.before;
+  cycle = leads_on c x parts.after a parts.before x parts.from parts.to;
+  within = λ y one. ⊎_elim (λ after. inr (parts.within y after)) (⊎_elim inl (λ before. inr (parts.within_before y before)))
+      (one_of_either parts.after (a ∷ parts.before) y one);
+  each = λ y one. ⊎_elim (λ first. inr (either_one_of parts.after (a ∷ parts.before) y (inr (inl first))))
+      (λ old. ⊎_elim (λ before. inr (either_one_of parts.after (a ∷ parts.before) y (inr (inr before))))
+      (⊎_elim inl (λ after. inr (either_one_of parts.after (a ∷ parts.before) y (inl after)))) (parts.each y old)) one;
+}
+
+same_chain : (c : State) → IsLawful c → (a x : ℕ) (bs ds : List ℕ) → Leads c x bs a → Leads c x ds a → IsNoneOf a bs → IsNoneOf a ds → bs ≡ ds
+same_chain c l a x [] [] v w none none' = refl
+same_chain c l a x [] (d ∷ ds) v w none none' = absurd (none'.0 (waits_once c l x a d v w.0))
+same_chain c l a x (b ∷ bs) [] v w none none' = absurd (none.0 (waits_once c l x a b w v.0))
+same_chain c l a x (b ∷ bs) (d ∷ ds) v w none none' = let is = waits_once c l x b d v.0 w.0 in
+    ap (λ y. y ∷ bs) is ∙ ap (λ ys. d ∷ ys) (same_chain c l a d bs ds (subst (λ y. Leads c y bs a) is v.1) w.1 none.1 none'.1)
+
+pub rings_are_apart : OfLawful RingsAreApart
+rings_are_apart c l = record {
+  same_members = λ ring other a b is is' one one' mine.
+      let t = turned c ring a is.cycle one in let u = turned c other a is'.cycle one' in
+      ⊎_elim (λ same. subst (λ y. IsOneOf y other) (sym same) one')
+      (λ on. let parts = cut c a t.back a b t.cycle on in
+      ⊎_elim (λ same. subst (λ y. IsOneOf y other) (sym same) one') (u.within b)
+      (stays c l a u.back u.cycle a u.back u.cycle (λ y back. back) parts.before b parts.to)) (t.each b mine);
+  same_order = λ a bs ds is is'. same_chain c l a a bs ds is.cycle is'.cycle is.different.0 is'.different.0;
+}
+
+-- ---- what a walk comes to
 
 -- a walk that comes back to another seat than its first doesn't lead back to the first
 pub no_return : (c : State) → Reached c → (a : ℕ) (r : List ℕ) (h : ℕ) → Walked c a r h → Differ r → IsOneOf h r → h ≢ a → Reaches c h a → ⊥
@@ -177,7 +241,7 @@ no_return c run a [] h walked differ one other reaches = absurd one
 no_return c run a (x ∷ xs) h walked differ (inl is) other reaches = other (is ∙ walked.0)
 no_return c run a (x ∷ xs) h walked differ (inr later) other reaches = let parts = cut c a xs h h walked.1 later in
     ⊎_elim (λ is. other (sym is)) (λ one. not_one_of x xs differ.0 (subst (λ (y : ℕ). IsOneOf y xs) (sym walked.0) (parts.within a one)))
-    (stays c run h parts.after parts.from h parts.after parts.from (λ y one. one) reaches.0 a reaches.1)
+    (stays c (reached_is_lawful c run) h parts.after parts.from h parts.after parts.from (λ y one. one) reaches.0 a reaches.1)
 
 -- a walk that comes back to its first seat is a ring
 pub ring_walked : (c : State) → Reached c → (a : ℕ) (r : List ℕ) (h : ℕ) → Walked c a r h → Differ r → IsOneOf h r → h ≡ a → IsRingFrom c a r
@@ -185,7 +249,7 @@ ring_walked c run a [] h walked differ one is = absurd one
 ring_walked c run a (x ∷ xs) h walked differ one is = let cycle : IsCycle c (x ∷ xs) = subst (λ (y : ℕ). Leads c y xs y) (sym walked.0) (subst (Leads c a xs) is walked.1) in record {
   rest = xs;
   parts = ap (λ (y : ℕ). y ∷ xs) walked.0;
-  ring_is = record { cycle = cycle; contexts = cycles_are_of_contexts c run (x ∷ xs) cycle; different = differ };
+  ring_is = record { cycle = cycle; contexts = cycles_are_of_contexts c (reached_is_lawful c run) (x ∷ xs) cycle; different = differ };
 }
 
 -- ---- what a search of the locks finds

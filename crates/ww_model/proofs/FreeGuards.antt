@@ -9,10 +9,9 @@ use Rattle.ww_model.specs.declared.state.Holder.TheVariants.{Taken}
 use Rattle.ww_model.specs.State.{State, dies}
 use Rattle.ww_model.specs.Lawful.{IsLawful, FreeGuardsOweNothing}
 use Rattle.ww_model.specs.Alone.{OutsidersOweNothing}
-use Rattle.ww_model.specs.Laws.{OfLawful, OfReached, OnlyFirstIsUnsigned}
+use Rattle.ww_model.specs.Laws.{OfLawful, OnlyFirstIsUnsigned}
 use Rattle.ww_model.proofs.Options.{some_of}
 use Rattle.ww_model.proofs.Dues.{by_kind, DiesOf, dies_why, wound_from, death_from}
-use Rattle.ww_model.proofs.Kept.{reached_is_lawful}
 
 -- the older of two contexts in a list stands before the other
 pub older_before : (q : List Entry) (x y : Entry) → Ascends q → Has q x → Has q y → 0 < x.stamp → x.stamp < y.stamp → Before q x y
@@ -49,8 +48,8 @@ owes_nothing c l s n inside away isnt v k owed = let out : (e : Entry) → Has (
     (λ dying none. let signed = death_signed c v n k l dying out free (death_from c s n v k dying owed) in omega arith)
 
 -- of the waiters with a context only the first may hold locks without a sign
-pub only_first_is_unsigned : OfReached OnlyFirstIsUnsigned
-only_first_is_unsigned c run dying n free e f h p p' own =
-    let l = reached_is_lawful c run in let k = before_second (c.queue n) e f h in
+pub only_first_is_unsigned : OfLawful OnlyFirstIsUnsigned
+only_first_is_unsigned c l dying n free e f h p p' own =
+    let k = before_second (c.queue n) e f h in
     (l.signs.deaths dying n).later_holders_signed e f h p p' (λ z. omega arith) (λ z. omega arith)
     (true_from_ne_false f.holds (λ b. (l.base.queues.at n).holds_not f k b own.0 own.1))

@@ -5,7 +5,8 @@ use Rattle.ww_model.specs.declared.event.Event.{Event}
 use Rattle.ww_model.specs.State.{State, start}
 use Rattle.ww_model.specs.Event.{after}
 use Rattle.ww_model.specs.Lawful.{IsBase, IsLawful, KeepsBase, Keeps}
-use Rattle.ww_model.specs.Run.{state_after, IsRun, at_start, further, ReachedIsLawful, RunsAreLawful}
+use Rattle.ww_model.specs.Run.{state_after, IsRun, at_start, further, RunsAreLawful}
+use Rattle.ww_model.specs.Theorem.{ReachedIsLawful}
 use Rattle.ww_model.proofs.Stamps.{keeps_stamps}
 use Rattle.ww_model.proofs.Owners.{keeps_owners}
 use Rattle.ww_model.proofs.Queues.{keeps_queues}

@@ -1,5 +1,5 @@
 -- How an owner leaves a lock, how a condemned seat dies, and that the wait lists ascend.
-use Rattle.std.proofs.Common.{◌≡◌, ◌≢◌, ◌⊎◌, inl, inr, ⊎_elim, ℕ, suc, ◌<◌, sym, ap, ◌∙◌, arith}
+use Rattle.std.proofs.Common.{◌≡◌, ◌≢◌, ◌⊎◌, inl, inr, ⊎_elim, ℕ, suc, ◌<◌, Bool, true, false, List, [], ◌∷◌, refl, sym, ap, ◌∙◌, arith}
 use Rattle.std.specs.Prelude.{unwrap_or}
 use mathlib.Core.Logic.{dite}
 use native.Mathlib.Decide.{ℕ_discrete, dec_le}
@@ -11,13 +11,14 @@ use Rattle.ww_model.specs.declared.state.Holder.{Holder}
 use Rattle.ww_model.specs.declared.state.Holder.TheVariants.{Nobody, Taken, Handed}
 use Rattle.ww_model.specs.declared.event.Event.{Event}
 use Rattle.ww_model.specs.declared.event.Event.TheVariants.{Fast, FastGive, Join, Take, Give, Die}
-use Rattle.ww_model.specs.declared.event.Answer.TheVariants.{Deadlk}
+use Rattle.ww_model.specs.declared.event.Answer.TheVariants as told
 use Rattle.ww_model.specs.State.{State, put, HasOther, waiter_of}
-use Rattle.ww_model.specs.Event.{given_to, BasePossible, after}
+use Rattle.ww_model.specs.Event.{given_to, giving, BasePossible, after}
 use Rattle.ww_model.specs.Lawful.{IsBase}
 use Rattle.ww_model.specs.Run.{at_start, further}
 use Rattle.ww_model.specs.Alone.{TakenLeavesByGiving, HandedLeavesByTaking}
-use Rattle.ww_model.specs.Laws.{OfReached, QueuesAscend, WaitersAreSeats, CondemnedCanDie}
+use Rattle.ww_model.specs.Laws.{OnlyTheFirstAsks, HandedToTheFirst, OfLawful, OfReached, QueuesAscend, WaitersAreSeats, CondemnedCanDie}
+use Rattle.ww_model.specs.Snapshot.{IsFirst}
 use Rattle.ww_model.proofs.Puts.{put_here, put_else, put_cases}
 use Rattle.ww_model.proofs.Kept.{reached_is_lawful}
 
@@ -50,8 +51,24 @@ handed_or_taken c _ s n can own = inr own
 pub handed_leaves_by_taking : HandedLeavesByTaking
 handed_leaves_by_taking c e s n can own gone = ⊎_elim (λ is. is) (λ stays. absurd (gone stays)) (handed_or_taken c e s n can own)
 
-pub queues_ascend : OfReached QueuesAscend
-queues_ascend c run n = ((reached_is_lawful c run).base.queues.at n).ascends
+-- ---- handing over
+
+handed_first : (b : Bool) (q : List Entry) (t : ℕ) → giving (given_to b q) ≡ told.Handed t → IsFirst q t × (given_to b q ≡ Handed t)
+handed_first true [] t is = absurd (cc)
+handed_first true (e ∷ es) t is = let same : e.seat ≡ t = cc in ((e, es, refl, same), ap Handed same)
+handed_first false q t is = absurd (cc)
+
+pub handed_to_the_first : HandedToTheFirst
+handed_to_the_first c s n t can is = let first = handed_first (c.asked n) (c.queue n) t is in
+    (first.0, put_here c.owner n (given_to (c.asked n) (c.queue n)) ∙ first.1)
+
+pub only_the_first_asks : OnlyTheFirstAsks
+only_the_first_asks c s n can = can.base.first
+
+-- ---- wait lists
+
+pub queues_ascend : OfLawful QueuesAscend
+queues_ascend c l n = (l.base.queues.at n).ascends
 
 pub keeps_seats : (c : State) (e : Event) → BasePossible c e → WaitersAreSeats c → WaitersAreSeats (after c e)
 keeps_seats c (Join s n) can l = λ m e. put_cases c.queue n (joined (c.queue n) (waiter_of c s)) m (λ q. Has q e → e.seat < c.seats)
@@ -92,5 +109,5 @@ condemned_can_die c run a condemned free k d = let l = reached_is_lawful c run i
         base = record { inside = record { guard = put_here c.guard n (suc a); lock = lock; seat = seat }; waits = h; other = other };
         signs = condemned.dies_there;
       };
-      answers = ap (λ o. Deadlk (unwrap_or o 0)) d;
+      answers = ap (λ o. told.Deadlk (unwrap_or o 0)) d;
     }

@@ -30,9 +30,3 @@ pub mod Ranges
 pub mod Effects
 pub mod Chains
 pub mod Condemned
-pub mod Moves
-pub mod Beyond
-pub mod InsideMoves
-pub mod OutsideMoves
-pub mod Burden
-pub mod Emptying

@@ -1,17 +1,20 @@
 -- Whoever is wounded, or told to die, has met an older context.
-use Rattle.std.proofs.Common.{◌≡◌, ◌⊎◌, inl, inr, ⊎_elim, ℕ, ◌<◌, refl, sym, ap, ◌∙◌, subst, arith}
+use Rattle.std.proofs.Common.{◌≡◌, ◌⊎◌, inl, inr, ⊎_elim, ℕ, ◌<◌, Option, Some, unwrap_or, refl, sym, ap, ◌∙◌, subst, arith}
 use mathlib.Core.Logic.{dite}
 use native.Mathlib.Decide.{ℕ_discrete}
 use Rattle.ww_queue.specs.declared.kind.Kind.TheVariants.{WoundWait}
 use Rattle.ww_model.specs.declared.state.Holder.{Holder}
-use Rattle.ww_model.specs.declared.state.Holder.TheVariants.{Nobody, Taken}
+use Rattle.ww_model.specs.declared.state.Holder.TheVariants.{Nobody, Taken, Handed}
 use Rattle.ww_model.specs.declared.event.Event.{Event}
-use Rattle.ww_model.specs.declared.event.Event.TheVariants.{Begin, Clear, Fast, FastGive, Sign, Take, Give}
-use Rattle.ww_model.specs.State.{State, put, OwnsSome, IsCalm, place_of}
-use Rattle.ww_model.specs.Event.{given_to, Possible, after}
-use Rattle.ww_model.specs.Run.{at_start, further}
-use Rattle.ww_model.specs.Met.{MeetsNow, HasMet, SignWasMet, DeadlkWasMet}
+use Rattle.ww_model.specs.declared.event.Event.TheVariants.{Begin, Clear, Fast, FastGive, Sign, Take, Give, Die}
+use Rattle.ww_model.specs.declared.event.Answer.TheVariants.{Deadlk}
+use Rattle.ww_model.specs.State.{State, put, OwnsSome, IsCalm, dies, place_of}
+use Rattle.ww_model.specs.Event.{given_to, giving, Possible, after}
+use Rattle.ww_model.specs.Run.{Reached, at_start, further}
+use Rattle.ww_model.specs.Met.{MeetsNow, HasMet, SignWasMet, DeadlkIsMet}
+use Rattle.ww_model.specs.Theorem.{DeadlkWasMet}
 use Rattle.ww_model.proofs.Puts.{put_here, put_else, put_was}
+use Rattle.ww_model.proofs.Options.{some_of}
 use Rattle.ww_model.proofs.Holders.{not_given}
 use Rattle.ww_model.proofs.Dues.{dies_why, wound_from, dies_older, sign_for, sign_owed}
 use Rattle.ww_model.proofs.Kept.{reached_is_lawful}
@@ -62,8 +65,8 @@ sign_was_met _ (at_start kind locks seats) wounding s p own = absurd (omega arit
 sign_was_met _ (further c e run can) wounding s p own = let was : c.kind ≡ WoundWait = sym (same_kind c e) ∙ wounding in
     (own, ⊎_elim inl (λ x. inr (subst (HasMet c run s) (sym x.1) (sign_was_met c run was s (let y = x.1 in omega arith) x.0))) (stays c e can was s p own))
 
-pub deadlk_was_met : DeadlkWasMet
-deadlk_was_met c run s n k can h = let l = reached_is_lawful c run in let d = dies_why c s n k h in
+pub death_was_met : (c : State) (run : Reached c) (s n k : ℕ) → Possible c (Die s n) → dies c s n ≡ Some k → DeadlkIsMet c run s n k
+death_was_met c run s n k can h = let l = reached_is_lawful c run in let d = dies_why c s n k h in
     let own = (l.base.queues.at n).holds d.entry d.stands d.holds in let mine : OwnsSome c s = (own.0, own.1 ∙ ap Taken d.seat) in record {
       owns = mine;
       wounded = λ wounding. let w = d.wounded wounding in subst (HasMet c run s) (sym w.1) (sign_was_met c run wounding s w.0 mine);
@@ -73,3 +76,19 @@ deadlk_was_met c run s n k can h = let l = reached_is_lawful c run in let d = di
         who = ⊎_elim (λ i. inl (i.0, i.1, i.2)) (λ i. inr (i.0, d.entry, i.1, d.seat, i.3)) (d.older dying);
       };
     }
+
+-- giving back answers no EDEADLK
+giving_is_none : (o : Holder) (k : ℕ) → giving o ≡ Deadlk k → ⊥
+giving_is_none Nobody k is = cc
+giving_is_none (Taken s) k is = cc
+giving_is_none (Handed s) k is = cc
+
+pub deadlk_was_met : DeadlkWasMet
+deadlk_was_met c run (Die s n) k can is = let cause = some_of (dies c s n) can.signs in record {
+  seat = s;
+  lock = n;
+  event = refl;
+  met = death_was_met c run s n k can (cause.1 ∙ ap Some (let same = ap (λ (o : Option ℕ). unwrap_or o 0) cause.1 in let told : unwrap_or (dies c s n) 0 ≡ k = cc in sym same ∙ told));
+}
+deadlk_was_met c run (Give s n) k can is = absurd (giving_is_none (given_to (c.asked n) (c.queue n)) k is)
+deadlk_was_met c run _ k can is = absurd (cc)

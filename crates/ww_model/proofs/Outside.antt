@@ -2,11 +2,10 @@
 use Rattle.std.proofs.Common.{◌≡◌, ◌≢◌, ⊎_elim, ℕ, suc, ◌<◌, refl, sym, ap, ◌∙◌, arith}
 use Rattle.ww_model.specs.declared.state.Holder.{Holder}
 use Rattle.ww_model.specs.declared.state.Holder.TheVariants.{Nobody, Taken}
-use Rattle.ww_model.specs.declared.event.Event.{Event}
 use Rattle.ww_model.specs.declared.event.Event.TheVariants.{Clear, Fast, FastGive, Guard, Sign, Take, Give, Unguard}
 use Rattle.ww_model.specs.State.{State, put, place_of}
-use Rattle.ww_model.specs.Event.{given_to, Possible, after}
-use Rattle.ww_model.specs.Lawful.{IsLawful, SignedOwnsOutside}
+use Rattle.ww_model.specs.Event.{given_to}
+use Rattle.ww_model.specs.Lawful.{SignedOwnsOutside, OutsideIsKept}
 use Rattle.ww_model.specs.Run.{at_start, further}
 use Rattle.ww_model.specs.Laws.{OfReached}
 use Rattle.ww_model.proofs.Puts.{put_else, put_cases}
@@ -18,7 +17,7 @@ pub keeps_witness : (c : State) (n : ℕ) (o : Holder) (t : ℕ) → c.owner n �
     (k : ℕ) × (put c.owner n o k ≡ Taken t) × (c.guard k ≢ suc t)
 keeps_witness c n o t isnt w = (w.0, put_else c.owner n o w.0 (λ is. isnt (ap c.owner (sym is) ∙ w.1)) ∙ w.1, w.2)
 
-pub keeps_outside : (c : State) (e : Event) → Possible c e → IsLawful c → SignedOwnsOutside c → SignedOwnsOutside (after c e)
+pub keeps_outside : OutsideIsKept
 keeps_outside c (Clear s) can l k = λ dying t. put_cases c.sign s 0 t (λ x. 0 < x → (n : ℕ) × (c.owner n ≡ Taken t) × (c.guard n ≢ suc t))
     (λ _ p. absurd (omega arith)) (λ _. k dying t)
 keeps_outside c (Fast s n) can l k = λ dying t p. keeps_witness c n (Taken s) t (λ i. let o = can.base.idle.free in cc) (k dying t p)

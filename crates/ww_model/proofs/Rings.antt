@@ -11,8 +11,8 @@ use Rattle.ww_queue.specs.Queue.{Has}
 use Rattle.ww_model.specs.declared.state.Holder.TheVariants.{Taken}
 use Rattle.ww_model.specs.State.{State, OwnsSome, dies}
 use Rattle.ww_model.specs.Lawful.{IsBase, IsLawful}
-use Rattle.ww_model.specs.Waits.{WaitsAt, WaitsFor, Leads, IsCycle, AreContexts, IsOneOf, IsCondemned}
-use Rattle.ww_model.specs.Laws.{RingsAreCondemned, CyclesAreOfContexts}
+use Rattle.ww_model.specs.Waits.{WaitsAt, WaitsFor, Leads, AreContexts, IsOneOf, IsCondemned}
+use Rattle.ww_model.specs.Theorem.{RingsAreCondemned, CyclesAreCondemned, CyclesAreOfContexts}
 use Rattle.ww_model.proofs.Dues.{dies_wounded, dies_younger}
 use Rattle.ww_model.proofs.Kept.{reached_is_lawful}
 
@@ -88,25 +88,37 @@ pub not_onward : (kind : Kind) (x : ℕ) → Onward kind x x → ⊥
 not_onward WoundWait x p = omega arith
 not_onward WaitDie x p = omega arith
 
+-- a is condemned, and has a younger context than b
+abbrev pub YieldsTo : State → ℕ → ℕ → Type 0
+YieldsTo c a b = IsCondemned c a × (0 < c.stamp b) × (c.stamp b < c.stamp a)
+
 -- the stamps of two members differ
 pub apart : (c : State) → IsBase c → (a b n m : ℕ) → Member c a n → Member c b m → a ≢ b → c.stamp a ≢ c.stamp b
 apart c l a b n m p q other e = other (l.stamps.differ a b (subst (λ z. 0 < z) p.stamp p.context) e)
 
 pub edge : (c : State) → IsLawful c → (kind : Kind) → c.kind ≡ kind → (a b n m : ℕ) → Member c a n → Member c b m →
-    c.owner n ≡ Taken b → c.guard n ≢ suc b → a ≢ b → IsCondemned c a ⊎ (IsCondemned c b ⊎ Onward kind (c.stamp a) (c.stamp b))
+    c.owner n ≡ Taken b → c.guard n ≢ suc b → a ≢ b → YieldsTo c a b ⊎ (YieldsTo c b a ⊎ Onward kind (c.stamp a) (c.stamp b))
 edge c l WoundWait is a b n m p q own out other = dite (dec_le (c.stamp b) (c.stamp a))
     (λ le. let d = apart c l.base a b n m p q other in inr (inr (omega arith)))
-    (λ gt. let k = p.stamp in
+    (λ gt. let k = p.stamp in let h = p.context in
     let signed = l.signs.wounds is n b p.entry own out p.stands (λ g. p.waits.outside (g ∙ ap suc p.seat)) p.holds p.context (omega arith) in
-    inr (inl (condemns c b m q signed (dies_wounded c m q.entry is (l.base.queues.at m).once q.stands q.context q.holds
-    (subst (λ x. 0 < c.sign x) (sym q.seat) signed)))))
+    inr (inl (
+      condemns c b m q signed (dies_wounded c m q.entry is (l.base.queues.at m).once q.stands q.context q.holds
+          (subst (λ x. 0 < c.sign x) (sym q.seat) signed)),
+      omega arith,
+      omega arith,
+    )))
 edge c l WaitDie is a b n m p q own out other = dite (dec_le (c.stamp a) (c.stamp b))
     (λ le. let d = apart c l.base a b n m p q other in inr (inr (omega arith)))
     (λ gt. let k = p.stamp in let j = q.stamp in let h = q.context in
     let younger : c.stamp b < p.entry.stamp = omega arith in
     let signed = (l.signs.deaths is n).younger_signed b p.entry own (omega arith) out p.stands (λ g. p.waits.outside (g ∙ ap suc p.seat)) p.holds younger in
-    inl (condemns c a n p (subst (λ s. 0 < c.sign s) p.seat signed)
-    (dies_younger c n p.entry is (l.base.queues.at n).once p.stands p.context p.holds b own (λ i. other (sym (i ∙ p.seat))) (omega arith) younger)))
+    inl (
+      condemns c a n p (subst (λ s. 0 < c.sign s) p.seat signed)
+          (dies_younger c n p.entry is (l.base.queues.at n).once p.stands p.context p.holds b own (λ i. other (sym (i ∙ p.seat))) (omega arith) younger),
+      omega arith,
+      omega arith,
+    ))
 
 -- the first wait of a chain, and the last
 pub first : (c : State) (a : ℕ) (bs : List ℕ) (z : ℕ) → Leads c a bs z → (b : ℕ) × WaitsFor c a b
@@ -119,8 +131,8 @@ last c a (b ∷ bs) z w = last c b bs z w.1
 
 pub link : (c : State) → IsLawful c → (x a b d : ℕ) → WaitsFor c x a → WaitsFor c a b → WaitsFor c b d →
     IsCondemned c a ⊎ (IsCondemned c b ⊎ Onward c.kind (c.stamp a) (c.stamp b))
-link c l x a b d w v u = edge c l c.kind refl a b v.0 u.0 (member c l.base x a b w v) (member c l.base a b d v u)
-    (is_taken c l.base a b d v u) (outside c l.base a b d v u) v.1.other
+link c l x a b d w v u = ⊎_elim (λ yields. inl yields.0) (⊎_elim (λ yields. inr (inl yields.0)) (λ on. inr (inr on))) (edge c l c.kind refl a b v.0 u.0 (member c l.base x a b w v) (member c l.base a b d v u)
+    (is_taken c l.base a b d v u) (outside c l.base a b d v u) v.1.other)
 
 -- somebody of the chain is condemned, or the stamps go one way from its first seat to its last
 pub chain : (c : State) → IsLawful c → (x a : ℕ) (bs : List ℕ) (z d : ℕ) → WaitsFor c x a → Leads c a bs z → WaitsFor c z d →
@@ -134,13 +146,13 @@ chain c l x a (b ∷ bs) z d w v u = let f = first c b bs z v.1 in ⊎_elim
     (link c l x a b f.0 w v.0 f.1)
 
 -- every cycle has a condemned member
-pub condemned_member : (c : State) → IsLawful c → (seats : List ℕ) → IsCycle c seats → (a : ℕ) × IsOneOf a seats × IsCondemned c a
-condemned_member c l [] r = absurd r
-condemned_member c l (a ∷ bs) r = let f = first c a bs a r in let b = last c a bs a r in ⊎_elim
+pub cycles_are_condemned : CyclesAreCondemned
+cycles_are_condemned c l [] r = absurd r
+cycles_are_condemned c l (a ∷ bs) r = let f = first c a bs a r in let b = last c a bs a r in ⊎_elim
     (λ p. (p.0, ⊎_elim (λ h. h) (λ e. inl e) p.1, p.2)) (λ on. absurd (not_onward c.kind (c.stamp a) on)) (chain c l b.0 a bs a f.0 b.1 r f.1)
 
 pub rings_are_condemned : RingsAreCondemned
-rings_are_condemned c run ring is = condemned_member c (reached_is_lawful c run) ring is.cycle
+rings_are_condemned c run ring is = cycles_are_condemned c (reached_is_lawful c run) ring is.cycle
 
 -- whoever is waited for and waits has a context
 pub context_of : (c : State) → IsBase c → (x a b : ℕ) → WaitsFor c x a → WaitsFor c a b → 0 < c.stamp a
@@ -151,5 +163,5 @@ contexts_of c l x a [] z w v = (context_of c l x a z w v, tt)
 contexts_of c l x a (b ∷ bs) z w v = (context_of c l x a b w v.0, contexts_of c l a b bs z v.0 v.1)
 
 pub cycles_are_of_contexts : CyclesAreOfContexts
-cycles_are_of_contexts c run [] r = absurd r
-cycles_are_of_contexts c run (a ∷ bs) r = let b = last c a bs a r in contexts_of c (reached_is_lawful c run).base b.0 a bs a b.1 r
+cycles_are_of_contexts c l [] r = absurd r
+cycles_are_of_contexts c l (a ∷ bs) r = let b = last c a bs a r in contexts_of c l.base b.0 a bs a b.1 r

@@ -9,7 +9,7 @@ use Rattle.ww_model.specs.Replay.{IsFirstImpossible}
 use Rattle.ww_model.specs.declared.event.Event.{Event}
 use Rattle.ww_model.specs.State.{State}
 use Rattle.ww_model.specs.Event.{Possible, after}
-use Rattle.ww_model.specs.Run.{state_after, IsRun}
+use Rattle.ww_model.specs.Run.{state_after, IsRun, Reached, further}
 
 pub state_more : (c : State) (es : List Event) (e : Event) → state_after c (es ++ e ∷ []) ≡ after (state_after c es) e
 state_more c [] e = refl
@@ -57,3 +57,12 @@ stopped from es i d c within goes cannot = record {
 
 pub went_all : (from : State) (es : List Event) (i : ℕ) (c : State) → length es ≤ i → Goes from (take i es) c → Goes from es c
 went_all from es i c past goes = subst (λ (xs : List Event). Goes from xs c) (take_all i es past) goes
+
+-- ---- where a run comes to
+
+pub run_reached : (c : State) (es : List Event) → Reached c → IsRun c es → Reached (state_after c es)
+run_reached c [] there run = there
+run_reached c (e ∷ es) there run = run_reached (after c e) es (further c e there run.0) run.1
+
+pub goes_reached : (from : State) (es : List Event) (c : State) → Reached from → Goes from es c → Reached c
+goes_reached from es c there goes = subst Reached (sym goes.state) (run_reached from es there goes.run)

@@ -1,4 +1,4 @@
--- That the core can always be emptied again.
+-- Where a core can be led without anything new being begun: to one in which everything is free.
 use Rattle.std.specs.Prelude.{ℕ, ◌≡◌, false, List, [], ◌∷◌}
 use Rattle.ww_queue.specs.Queue.{Stands}
 use Rattle.ww_model.specs.declared.state.Holder.TheVariants.{Nobody}
@@ -7,6 +7,18 @@ use Rattle.ww_model.specs.declared.event.Event.TheVariants.{Begin, Fast, Join, T
 use Rattle.ww_model.specs.State.{State}
 use Rattle.ww_model.specs.Event.{after}
 use Rattle.ww_model.specs.Run.{state_after, IsRun}
+
+-- each of the events is allowed, in its turn
+abbrev pub AllAllowed : (State → Event → Type 0) → State → List Event → Type 0
+AllAllowed Allowed c [] = Unit {0}
+AllAllowed Allowed c (e ∷ es) = Allowed c e × AllAllowed Allowed (after c e) es
+
+-- some run of allowed events leads from the state to one like this
+pub record LeadsBy (Allowed : State → Event → Type 0) (c : State) (P : State → Type 0) : Type 0 where
+  pub events : List Event
+  pub allowed : AllAllowed Allowed c events
+  pub run : IsRun c events
+  pub there : P (state_after c events)
 
 -- every lock is free, nobody waits or is inside a guard, and no seat has a context or a sign
 pub record IsEmptied (c : State) : Type 0 where
@@ -27,19 +39,3 @@ WindsUp c (Take s n) = Stands (c.queue n) s
 WindsUp c (Ask s n) = ⊥
 WindsUp c (Commit s) = ⊥
 WindsUp c _ = Unit {0}
-
--- each of the events does, in its turn
-abbrev pub AllWindUp : State → List Event → Type 0
-AllWindUp c [] = Unit {0}
-AllWindUp c (e ∷ es) = WindsUp c e × AllWindUp (after c e) es
-
--- a run of events that wind up leads from the state to one like this
-pub record LeadsTo (c : State) (P : State → Type 0) : Type 0 where
-  pub events : List Event
-  pub winds_up : AllWindUp c events
-  pub run : IsRun c events
-  pub there : P (state_after c events)
-
--- ... to one in which everything is free
-abbrev pub CanBeEmptied : State → Type 0
-CanBeEmptied c = LeadsTo c IsEmptied

@@ -121,3 +121,7 @@ FreeGuardsOweNothing c = c.kind ≡ WaitDie → (n s : ℕ) → c.guard n ≡ 0 
 -- Wait-Die: a seat with a sign owns a lock whose guard it isn't inside of
 abbrev pub SignedOwnsOutside : State → Type 0
 SignedOwnsOutside c = c.kind ≡ WaitDie → (s : ℕ) → 0 < c.sign s → (n : ℕ) × (c.owner n ≡ Taken s) × (c.guard n ≢ suc s)
+
+-- ... which a possible event of a lawful state keeps
+abbrev pub OutsideIsKept : Type 0
+OutsideIsKept = (c : State) (e : Event) → Possible c e → IsLawful c → SignedOwnsOutside c → SignedOwnsOutside (after c e)

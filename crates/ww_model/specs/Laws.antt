@@ -1,16 +1,18 @@
 -- The laws: of each event, and of each reached state.
-use Rattle.std.specs.Prelude.{ℕ, ◌≡◌, ◌<◌, List, Some}
+use Rattle.std.specs.Prelude.{ℕ, ◌≡◌, ◌<◌, List, ◌∷◌, Some}
 use Rattle.ww_queue.specs.declared.kind.Kind.{Kind}
 use Rattle.ww_queue.specs.declared.kind.Kind.TheVariants.{WaitDie}
 use Rattle.ww_queue.specs.declared.entry.Entry.{Entry}
 use Rattle.ww_queue.specs.Queue.{Has, Before, Ascends}
-use Rattle.ww_model.specs.declared.event.Event.TheVariants.{Guard, Die}
-use Rattle.ww_model.specs.declared.event.Answer.TheVariants.{Deadlk}
+use Rattle.ww_model.specs.declared.state.Holder.TheVariants as holder
+use Rattle.ww_model.specs.declared.event.Event.TheVariants.{Guard, Ask, Give, Die}
+use Rattle.ww_model.specs.declared.event.Answer.TheVariants.{Handed, Deadlk}
 use Rattle.ww_model.specs.State.{State, start, OwnsSome, Inside, dies, place_of}
 use Rattle.ww_model.specs.Event.{Possible, after, answer}
 use Rattle.ww_model.specs.Lawful.{IsBase, IsLawful, KeepsBase, Keeps}
 use Rattle.ww_model.specs.Run.{Reached}
-use Rattle.ww_model.specs.Waits.{IsCycle, AreContexts, IsOneOf, IsRing, IsCondemned}
+use Rattle.ww_model.specs.Waits.{WaitsFor, IsOneOf, IsRing, IsCondemned}
+use Rattle.ww_model.specs.Snapshot.{IsFirst}
 
 -- ---- of each event
 
@@ -26,6 +28,15 @@ LawfulIsKept = Keeps IsLawful
 abbrev pub StartIsLawful : Type 0
 StartIsLawful = (kind : Kind) (locks seats : ℕ) → IsLawful (start kind locks seats)
 
+-- only the first waiter can ask for a lock
+abbrev pub OnlyTheFirstAsks : Type 0
+OnlyTheFirstAsks = (c : State) (s n : ℕ) → Possible c (Ask s n) → IsFirst (c.queue n) s
+
+-- a lock that is handed over goes to the first waiter of that moment
+abbrev pub HandedToTheFirst : Type 0
+HandedToTheFirst = (c : State) (s n t : ℕ) → Possible c (Give s n) → answer c (Give s n) ≡ Handed t →
+    IsFirst (c.queue n) t × ((after c (Give s n)).owner n ≡ holder.Handed t)
+
 -- ---- of each lawful state
 
 -- every lawful state is so
@@ -36,20 +47,6 @@ OfLawful P = (c : State) → IsLawful c → P c
 abbrev pub PlaceIsTheGuard : State → Type 0
 PlaceIsTheGuard c = (s n : ℕ) → Inside c s n → place_of c s ≡ n
 
--- ---- of each reached state
-
--- every reached state is so
-abbrev pub OfReached : (State → Type 0) → Type 0
-OfReached P = (c : State) → Reached c → P c
-
--- every ring has a condemned member
-abbrev pub RingsAreCondemned : Type 0
-RingsAreCondemned = (c : State) → Reached c → (ring : List ℕ) → IsRing c ring → (a : ℕ) × IsOneOf a ring × IsCondemned c a
-
--- no seat without a context stands in a cycle of waits
-abbrev pub CyclesAreOfContexts : Type 0
-CyclesAreOfContexts = (c : State) → Reached c → (seats : List ℕ) → IsCycle c seats → AreContexts c seats
-
 -- the stamps of the waiters with a context ascend in each wait list
 abbrev pub QueuesAscend : State → Type 0
 QueuesAscend c = (n : ℕ) → Ascends (c.queue n)
@@ -58,6 +55,21 @@ QueuesAscend c = (n : ℕ) → Ascends (c.queue n)
 abbrev pub OnlyFirstIsUnsigned : State → Type 0
 OnlyFirstIsUnsigned c = c.kind ≡ WaitDie → (n : ℕ) → c.guard n ≡ 0 → (e f : Entry) → Before (c.queue n) e f → 0 < e.stamp → 0 < f.stamp →
     OwnsSome c f.seat → 0 < c.sign f.seat
+
+-- nobody waits for two
+abbrev pub EachWaitsForOne : State → Type 0
+EachWaitsForOne c = (a b d : ℕ) → WaitsFor c a b → WaitsFor c a d → b ≡ d
+
+-- Two rings with a common member have the same members, and if they begin with the same one they are the same.
+pub record RingsAreApart (c : State) : Type 0 where
+  pub same_members : (ring other : List ℕ) (a b : ℕ) → IsRing c ring → IsRing c other → IsOneOf a ring → IsOneOf a other → IsOneOf b ring → IsOneOf b other
+  pub same_order : (a : ℕ) (bs ds : List ℕ) → IsRing c (a ∷ bs) → IsRing c (a ∷ ds) → bs ≡ ds
+
+-- ---- of each reached state
+
+-- every reached state is so
+abbrev pub OfReached : (State → Type 0) → Type 0
+OfReached P = (c : State) → Reached c → P c
 
 -- whoever waits is one of the seats
 abbrev pub WaitersAreSeats : State → Type 0

@@ -4,11 +4,13 @@ pub mod Lawful
 pub mod Run
 pub mod Waits
 pub mod Met
+pub mod Emptied
+pub mod Oldest
+pub mod Theorem
+pub mod Snapshot
 pub mod Alone
 pub mod Laws
-pub mod Snapshot
 pub mod Core
 pub mod Step
 pub mod Replay
 pub mod Least
-pub mod Emptied

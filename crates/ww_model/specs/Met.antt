@@ -1,12 +1,11 @@
 -- Whom a context met.
-use Rattle.std.specs.Prelude.{ℕ, ◌≡◌, ◌<◌, ◌⊎◌, true, Some}
+use Rattle.std.specs.Prelude.{ℕ, ◌≡◌, ◌<◌, ◌⊎◌, true}
 use Rattle.ww_queue.specs.declared.kind.Kind.TheVariants.{WoundWait, WaitDie}
 use Rattle.ww_queue.specs.declared.entry.Entry.{Entry}
 use Rattle.ww_queue.specs.Queue.{Has, Before}
 use Rattle.ww_model.specs.declared.state.Holder.TheVariants.{Taken, Handed}
-use Rattle.ww_model.specs.declared.event.Event.TheVariants.{Die}
-use Rattle.ww_model.specs.State.{State, OwnsSome, dies}
-use Rattle.ww_model.specs.Event.{Possible, after}
+use Rattle.ww_model.specs.State.{State, OwnsSome}
+use Rattle.ww_model.specs.Event.{after}
 use Rattle.ww_model.specs.Run.{Reached, at_start, further}
 
 module _ (c : State) (s k : ℕ) where
@@ -42,7 +41,3 @@ pub record DeadlkIsMet (c : State) (run : Reached c) (s n k : ℕ) : Type 0 wher
   pub owns : OwnsSome c s
   pub wounded : c.kind ≡ WoundWait → HasMet c run s k
   pub met : c.kind ≡ WaitDie → MeetsAt c s k n
-
--- ... at every death of every run
-abbrev pub DeadlkWasMet : Type 0
-DeadlkWasMet = (c : State) (run : Reached c) (s n k : ℕ) → Possible c (Die s n) → dies c s n ≡ Some k → DeadlkIsMet c run s n k

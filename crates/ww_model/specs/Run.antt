@@ -21,11 +21,7 @@ pub data Reached : State → Type 0 where
   at_start : (kind : Kind) (locks seats : ℕ) → Reached (start kind locks seats)
   further : (c : State) (e : Event) → Reached c → Possible c e → Reached (after c e)
 
--- every reached state is lawful
-abbrev pub ReachedIsLawful : Type 0
-ReachedIsLawful = (c : State) → Reached c → IsLawful c
-
--- ... and so is every state of a run
+-- every state of a run is lawful
 abbrev pub RunsAreLawful : Type 0
 RunsAreLawful = (kind : Kind) (locks seats : ℕ) (events : List Event) → IsRun (start kind locks seats) events →
     IsLawful (state_after (start kind locks seats) events)

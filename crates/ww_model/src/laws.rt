@@ -1,11 +1,11 @@
-//! Laws of the core: each function's contract is one.
+//! Laws of the core: each function's contract is one. Those of whole runs, on what can always be done, are in `ww_laws`.
 
-ghost use Rattle.ww_model.specs.Lawful.{FreeGuardsOweNothing, SignedOwnsOutside};
-ghost use Rattle.ww_model.specs.Run.{ReachedIsLawful, RunsAreLawful};
-ghost use Rattle.ww_model.specs.Met.{SignWasMet, DeadlkWasMet};
-ghost use Rattle.ww_model.specs.Emptied.{CanBeEmptied};
+ghost use Rattle.ww_model.specs.Lawful.{FreeGuardsOweNothing, SignedOwnsOutside, OutsideIsKept};
+ghost use Rattle.ww_model.specs.Run.{RunsAreLawful};
+ghost use Rattle.ww_model.specs.Met.{SignWasMet};
+ghost use Rattle.ww_model.specs.Theorem.{RingsAreCondemned, CyclesAreCondemned, CyclesAreOfContexts, ReachedIsLawful, DeadlkWasMet};
 ghost use Rattle.ww_model.specs.Alone.{OthersAreLeftAlone, OthersAreSignedOnce, TakenLeavesByGiving, HandedLeavesByTaking, OutsidersOweNothing, StampsAreFew};
-ghost use Rattle.ww_model.specs.Laws.{BaseIsKept, LawfulIsKept, StartIsLawful, OfLawful, PlaceIsTheGuard, OfReached, RingsAreCondemned, CyclesAreOfContexts, QueuesAscend, OnlyFirstIsUnsigned, WaitersAreSeats, CondemnedCanDie};
+ghost use Rattle.ww_model.specs.Laws.{BaseIsKept, LawfulIsKept, StartIsLawful, OnlyTheFirstAsks, HandedToTheFirst, OfLawful, PlaceIsTheGuard, QueuesAscend, OnlyFirstIsUnsigned, EachWaitsForOne, RingsAreApart, OfReached, WaitersAreSeats, CondemnedCanDie};
 
 /// Each event that is possible as far as stamps, owners, wait lists and guards go keeps these in order.
 pub fn keeps_base()
@@ -37,7 +37,12 @@ pub fn rings_are_condemned()
     ensures { RingsAreCondemned }
 {}
 
-/// No seat without a context stands in a cycle of waits of a reached state.
+/// Every cycle of waits of a lawful state, in which a seat may come more than once, has a condemned member.
+pub fn cycles_are_condemned()
+    ensures { CyclesAreCondemned }
+{}
+
+/// No seat without a context stands in a cycle of waits of a lawful state.
 pub fn cycles_are_of_contexts()
     ensures { CyclesAreOfContexts }
 {}
@@ -52,7 +57,22 @@ pub fn place_is_the_guard()
     ensures { OfLawful PlaceIsTheGuard }
 {}
 
-/// Wait-Die: a seat with a sign owns a lock whose guard it isn't inside of.
+/// Nobody waits for two, in every lawful state.
+pub fn each_waits_for_one()
+    ensures { OfLawful EachWaitsForOne }
+{}
+
+/// In every lawful state at most one ring goes through a seat.
+pub fn rings_are_apart()
+    ensures { OfLawful RingsAreApart }
+{}
+
+/// Wait-Die: a seat with a sign owns a lock whose guard it isn't inside of; each possible event of a lawful state keeps that.
+pub fn outside_is_kept()
+    ensures { OutsideIsKept }
+{}
+
+/// ... so it is of every reached state.
 pub fn signed_owns_outside()
     ensures { OfReached SignedOwnsOutside }
 {}
@@ -62,13 +82,13 @@ pub fn sign_was_met()
     ensures { SignWasMet }
 {}
 
-/// Whoever is told to die owns a lock and met the older context whose stamp it is told.
+/// Whoever is answered EDEADLK dies, owns a lock, and met the older context whose stamp it is told.
 pub fn deadlk_was_met()
     ensures { DeadlkWasMet }
 {}
 
-/// A possible event of a lawful state leaves to each other seat its stamp, its locks, its guard and its place in the lists, and
-/// to one that is inside a guard what it sees there.
+/// A possible event of a lawful state leaves to each other seat its stamp, its locks, its guard and its places in the lists,
+/// and to one that is inside a guard what it sees there.
 pub fn others_are_left_alone()
     ensures { OthersAreLeftAlone }
 {}
@@ -98,14 +118,24 @@ pub fn stamps_are_few()
     ensures { OfReached StampsAreFew }
 {}
 
-/// The stamps of the contexts ascend in each wait list of a reached state.
-pub fn queues_ascend()
-    ensures { OfReached QueuesAscend }
+/// Only the first waiter of a lock can ask that it be handed over.
+pub fn only_the_first_asks()
+    ensures { OnlyTheFirstAsks }
 {}
 
-/// Wait-Die: where a guard is free, only the first of the waiting contexts may hold locks without a sign.
+/// A lock that is handed over goes to the first waiter of that moment.
+pub fn handed_to_the_first()
+    ensures { HandedToTheFirst }
+{}
+
+/// The stamps of the contexts ascend in each wait list of a lawful state.
+pub fn queues_ascend()
+    ensures { OfLawful QueuesAscend }
+{}
+
+/// Wait-Die, in every lawful state: where a guard is free, only the first of the waiting contexts may hold locks unsigned.
 pub fn only_first_is_unsigned()
-    ensures { OfReached OnlyFirstIsUnsigned }
+    ensures { OfLawful OnlyFirstIsUnsigned }
 {}
 
 /// Whoever waits in a reached state is one of the seats.
@@ -117,9 +147,4 @@ pub fn waiters_are_seats()
 /// for which it has to die.
 pub fn condemned_can_die()
     ensures { OfReached CondemnedCanDie }
-{}
-
-/// From every reached state a run of events that begin nothing new leads to one in which everything is free: nobody is ever stuck for good.
-pub fn can_be_emptied()
-    ensures { OfReached CanBeEmptied }
 {}

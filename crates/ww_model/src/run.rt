@@ -1,7 +1,7 @@
 ghost use Rattle.std.specs.Prelude.{◌≡◌, ◌≤◌, IfOk, IfErr};
 ghost use Rattle.ww_model.specs.declared.state.TheConstants.{MAX_LOCKS, MAX_SEATS};
 ghost use Rattle.ww_model.specs.State.{start};
-ghost use Rattle.ww_model.specs.Run.{state_after, IsRun};
+ghost use Rattle.ww_model.specs.Run.{state_after, IsRun, Reached};
 ghost use Rattle.ww_model.specs.Snapshot.{state_of};
 ghost use Rattle.ww_model.specs.Replay.{IsReplayFault};
 
@@ -33,6 +33,7 @@ pub fn replay(
     requires seats { seats ≤ MAX_SEATS }
     ensures run { IfOk result (λ core. IsRun (start kind locks seats) events.now) }
     ensures state { IfOk result (λ core. state_of core ≡ state_after (start kind locks seats) events.now) }
+    ensures reached { IfOk result (λ core. Reached (state_of core)) }
     ensures locks { IfOk result (λ core. (state_of core).locks ≡ locks) }
     ensures seats { IfOk result (λ core. (state_of core).seats ≡ seats) }
     ensures fault { IfErr result (IsReplayFault (start kind locks seats) events.now) }

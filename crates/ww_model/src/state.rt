@@ -56,6 +56,7 @@ impl Core {
     ghost use Rattle.std.specs.Prelude.{ℕ, ◌≡◌, ◌<◌, ◌≤◌, ◌⊎◌, IfOk};
     ghost use Rattle.ww_model.specs.declared.state.Holder.TheVariants.{Taken, Handed};
     ghost use Rattle.ww_model.specs.State.{start};
+    ghost use Rattle.ww_model.specs.Run.{Reached};
     ghost use Rattle.ww_model.specs.Snapshot.{state_of};
 
     /// A core in which nothing has happened yet.
@@ -64,7 +65,8 @@ impl Core {
         requires locks { locks ≤ MAX_LOCKS }
         requires some_seat { 1 ≤ seats }
         requires seats { seats ≤ MAX_SEATS }
-        ensures { IfOk result (λ core. state_of core ≡ start kind locks seats) }
+        ensures state { IfOk result (λ core. state_of core ≡ start kind locks seats) }
+        ensures reached { IfOk result (λ core. Reached (state_of core)) }
     {
         let (locks, seats) = (locks as usize, seats as usize);
         Ok(Core {
@@ -78,6 +80,14 @@ impl Core {
             queues: empty_queues(alloc, locks)?,
             guards: vec![in alloc; None; locks]?,
         })
+    }
+
+    /// A run of possible events comes to the core's state, as to that of every core: so what holds of reached states holds of it.
+    pub fn is_reached(&self)
+        ensures { Reached (state_of self.now) }
+    {
+        // It is known where a field is used.
+        let _kind = &self.kind;
     }
 
     /// How many locks there are.

@@ -2,15 +2,16 @@ use Rattle.std.proofs.Common.{◌≡◌, get_or, sym, ap, ◌∙◌, arith}
 use Rattle.ww_model.specs.declared.event.Event.TheVariants.{Begin}
 use Rattle.ww_model.specs.State.{State, start}
 use Rattle.ww_model.specs.Event.{after}
+use Rattle.ww_model.specs.Run.{at_start}
 use Rattle.ww_model.specs.Snapshot.{state_of}
-use Rattle.ww_model.proofs.Runs.{ok_of, on_ok, err_of, went_on, stopped, went_all}
+use Rattle.ww_model.proofs.Runs.{ok_of, on_ok, err_of, went_on, stopped, went_all, goes_reached}
 use Rattle.ww_model.proofs.run.replay.Goals as goal
 
 pub loop-i-init : goal.loop-i-init
 loop-i-init c = record {
-  goes = record { run = tt; state = c.in-Ok.ensures };
-  locks = ap (λ (s : State). s.locks) c.in-Ok.ensures;
-  seats = ap (λ (s : State). s.seats) c.in-Ok.ensures;
+  goes = record { run = tt; state = c.in-Ok.ensures.state };
+  locks = ap (λ (s : State). s.locks) c.in-Ok.ensures.state;
+  seats = ap (λ (s : State). s.seats) c.in-Ok.ensures.state;
 }
 
 pub loop-i-preserved : goal.loop-i-preserved
@@ -31,3 +32,7 @@ returns-clause-run c = (went_all (start c.args.kind c.args.locks c.args.seats) c
 
 pub returns-clause-state : goal.returns-clause-state
 returns-clause-state c = (went_all (start c.args.kind c.args.locks c.args.seats) c.args.events.now c.loop-i.i (state_of c.loop-i.core) (omega arith) c.loop-i.invariant.goes).state
+
+pub returns-clause-reached : goal.returns-clause-reached
+returns-clause-reached c = goes_reached (start c.args.kind c.args.locks c.args.seats) c.args.events.now (state_of c.loop-i.core) (at_start c.args.kind c.args.locks c.args.seats)
+    (went_all (start c.args.kind c.args.locks c.args.seats) c.args.events.now c.loop-i.i (state_of c.loop-i.core) (omega arith) c.loop-i.invariant.goes)

@@ -7,3 +7,9 @@ invariant_of-result c = (made c.args.kind c.args.locks c.args.seats c.in_ok-vec.
     (c.in_ok-vec.ensures.items_if_clones_equal (λ y is. is)) (c.in_ok-vec-2.ensures.items_if_clones_equal (λ y is. is)) (c.in_ok-vec-3.ensures.items_if_clones_equal (λ y is. is))
     (c.in_ok-vec-4.ensures.items_if_clones_equal (λ y is. is)) c.in_ok-empty_queues.ensures (c.in_ok-vec-5.ensures.items_if_clones_equal (search rules))
     c.requires.some_lock c.requires.locks c.requires.some_seat c.requires.seats).core
+
+pub returns-clause-reached : goal.returns-clause-reached
+returns-clause-reached c = (made c.args.kind c.args.locks c.args.seats c.in_ok-vec.field-0.items c.in_ok-vec-2.field-0.items c.in_ok-vec-3.field-0.items c.in_ok-vec-4.field-0.items c.in_ok-empty_queues.field-0.items c.in_ok-vec-5.field-0.items
+    (c.in_ok-vec.ensures.items_if_clones_equal (λ y is. is)) (c.in_ok-vec-2.ensures.items_if_clones_equal (λ y is. is)) (c.in_ok-vec-3.ensures.items_if_clones_equal (λ y is. is))
+    (c.in_ok-vec-4.ensures.items_if_clones_equal (λ y is. is)) c.in_ok-empty_queues.ensures (c.in_ok-vec-5.ensures.items_if_clones_equal (search rules))
+    c.requires.some_lock c.requires.locks c.requires.some_seat c.requires.seats).core.reached

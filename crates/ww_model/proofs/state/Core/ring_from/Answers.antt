@@ -3,6 +3,7 @@ use Rattle.std.specs.List.{list_any}
 use Rattle.ww_model.specs.Run.{Reached}
 use Rattle.ww_model.specs.Waits.{IsOneOf, Differ}
 use Rattle.ww_model.specs.Snapshot.{Snapshot, state_of}
+use Rattle.ww_model.proofs.Kept.{reached_is_lawful}
 use Rattle.ww_model.proofs.Chains.{Walked, one_tells, tells_one, differ_more, walked_more, awaited_is_seat, walk_has_room, cycle_returns, returns_on, reaches_waits, no_return, ring_walked}
 use Rattle.ww_model.proofs.state.Core.ring_from.Goals as goal
 
@@ -41,7 +42,7 @@ loop-ring-preserved c = let now = state_of c.args.self.now in
       walked = subst (λ (r : List ℕ). Walked now c.args.first r c.in-Some.next) (sym c.push.ensures.items) (walked_more now c.args.first ring c.loop-ring.here c.in-Some.next c.loop-ring.invariant.walked c.in-Some.ensures);
       differ = subst Differ (sym c.push.ensures.items) (differ_more ring c.loop-ring.here c.loop-ring.invariant.differ new);
       seat = awaited_is_seat now reached c.loop-ring.here c.in-Some.next c.in-Some.ensures;
-      returns = λ cycle. returns_on now reached c.args.first c.loop-ring.here c.in-Some.next cycle (c.loop-ring.invariant.returns cycle) c.in-Some.ensures;
+      returns = λ cycle. returns_on now (reached_is_lawful now reached) c.args.first c.loop-ring.here c.in-Some.next cycle (c.loop-ring.invariant.returns cycle) c.in-Some.ensures;
     }
 
 pub returns-then-here-first : goal.returns-then-here-first
