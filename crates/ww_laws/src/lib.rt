@@ -1,0 +1,20 @@
+//! Laws of whole runs of the core: each function's contract is one.
+#![tactic(auto)]
+
+ghost use Rattle.ww_model.specs.Theorem.{OldestNeverDies, OldestCanTake, CanBeEmptied};
+
+/// The oldest context of all, if it has no sign in Wound-Wait, is never signed and never told to back off, until it ends.
+pub fn oldest_never_dies()
+    ensures { OldestNeverDies }
+{}
+
+/// Wherever the oldest context waits, some run leads to it owning the lock in which nothing new is begun, and in which it neither
+/// dies nor gives anything back: whoever is in its way can be made to give way, and it never has to.
+pub fn oldest_can_take()
+    ensures { OldestCanTake }
+{}
+
+/// From every reached state some run of events that begin nothing new leads to one in which everything is free: a way out exists.
+pub fn can_be_emptied()
+    ensures { CanBeEmptied }
+{}
