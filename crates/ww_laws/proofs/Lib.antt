@@ -6,3 +6,4 @@ pub mod InsideMoves
 pub mod OutsideMoves
 pub mod Emptying
 pub mod Taking
+pub mod Joining

@@ -290,7 +290,7 @@ module _ (spared : ℕ → Type 0) (c : State) (reached : Reached c) (spared_wai
           (λ within. rest n (omega arith))
 
 -- whether somebody is inside the guard
-guard_is : (g : ℕ) → (g ≡ 0) ⊎ ((s : ℕ) × (g ≡ suc s))
+pub guard_is : (g : ℕ) → (g ≡ 0) ⊎ ((s : ℕ) × (g ≡ suc s))
 guard_is zero = inl refl
 guard_is (suc s) = inr (s, refl)
 

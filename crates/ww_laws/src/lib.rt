@@ -1,7 +1,7 @@
 //! Laws of whole runs of the core: each function's contract is one.
 #![tactic(auto)]
 
-ghost use Rattle.ww_model.specs.Theorem.{OldestNeverDies, OldestCanTake, CanBeEmptied};
+ghost use Rattle.ww_model.specs.Theorem.{OldestNeverDies, OldestCanTake, OldestCanJoinAndTake, CanBeEmptied};
 
 /// The oldest context of all, if it has no sign in Wound-Wait, is never signed and never told to back off, until it ends.
 pub fn oldest_never_dies()
@@ -12,6 +12,11 @@ pub fn oldest_never_dies()
 /// dies nor gives anything back: whoever is in its way can be made to give way, and it never has to.
 pub fn oldest_can_take()
     ensures { OldestCanTake }
+{}
+
+/// The same where the oldest context waits nowhere and wants a lock of another, with one Join, its own.
+pub fn oldest_can_join_and_take()
+    ensures { OldestCanJoinAndTake }
 {}
 
 /// From every reached state some run of events that begin nothing new leads to one in which everything is free: a way out exists.
