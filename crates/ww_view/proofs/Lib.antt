@@ -1,0 +1,9 @@
+pub mod Tells
+pub mod Others
+pub mod Written
+pub mod Shows
+pub mod Mine
+pub mod Inside
+pub mod Events
+pub mod Starts
+pub mod Deaths

@@ -1,0 +1,173 @@
+-- What each step makes of the view.
+use Rattle.std.specs.Prelude.{ℕ, zero, suc, ◌+◌, ◌==◌, not, Bool, true, false, List, [], ◌∷◌, Option, Some, None, slice_set}
+use Rattle.ww_word.specs.declared.owner.Owner.{Owner}
+use Rattle.ww_word.specs.Owner.{with_waiters}
+use Rattle.ww_queue.specs.declared.kind.Kind.{Kind}
+use Rattle.ww_queue.specs.declared.kind.Kind.TheVariants.{WoundWait, WaitDie}
+use Rattle.ww_queue.specs.declared.entry.Entry.{Entry}
+use Rattle.ww_queue.specs.Queue.{joined, left}
+use Rattle.ww_model.specs.declared.event.Event.{Event}
+use Rattle.ww_model.specs.declared.event.Event.TheVariants.{Begin, Clear, Fast, FastGive, Guard, Join, Sign, Take, Ask, Give, Die, Unguard, Commit, End}
+use Rattle.ww_model.specs.State.{State, any_below, word_of}
+use Rattle.ww_view.specs.declared.view.View.{View}
+use Rattle.ww_view.specs.Word.{taken_word, asked_word, given_word, rest_word}
+use Rattle.ww_view.specs.View.{owns}
+
+-- ---- the own sign, as far as it is known
+
+-- inside a guard: in Wait-Die who neither waited nor was inside had none
+abbrev pub once_inside : Kind → ℕ → Option ℕ → Option ℕ
+once_inside WaitDie zero sign = Some 0
+once_inside WaitDie (suc m) sign = sign
+once_inside WoundWait waits sign = sign
+
+-- once a lock was taken inside a guard: in Wound-Wait others may sign its owner
+abbrev pub once_taken : Kind → Option ℕ → Option ℕ
+once_taken WoundWait sign = None
+once_taken WaitDie sign = sign
+
+-- once outside again: in Wait-Die others may sign a waiter there
+abbrev pub once_outside : Kind → Option ℕ → Option ℕ
+once_outside WoundWait sign = sign
+once_outside WaitDie sign = None
+
+-- ---- outside
+
+abbrev pub begun : View → ℕ → View
+begun v k = record v { stamp = k; sign = Some 0; fresh = false }
+
+abbrev pub ended : View → View
+ended v = record v { stamp = 0; sign = Some 0; fresh = false }
+
+abbrev pub fast_taken : View → ℕ → View
+fast_taken v n = record v { owned = slice_set v.owned n true; sign = None; fresh = false; tries = v.tries + 1 }
+
+-- the word wasn't 0
+abbrev pub fast_missed : View → View
+fast_missed v = record v { fresh = false; tries = v.tries + 1 }
+
+abbrev pub fast_given : View → ℕ → View
+fast_given v n = record v { owned = slice_set v.owned n false; fresh = false }
+
+-- ---- into the guard and out of it
+
+-- with this wait list
+abbrev pub entered : View → ℕ → List Entry → View
+entered v n q = record v {
+  inside = suc n;
+  list = q;
+  seen = None;
+  signed = [];
+  sign = once_inside v.kind v.waits v.sign;
+  later = not (v.waits == 0);
+  acted = not (v.waits == 0);
+  fresh = false;
+}
+
+abbrev pub exited : View → View
+exited v = record v {
+  inside = 0;
+  list = [];
+  seen = None;
+  signed = [];
+  sign = once_outside v.kind v.sign;
+  later = false;
+  acted = false;
+  fresh = false;
+}
+
+-- ---- inside
+
+-- the seat as a waiter
+abbrev pub entry_of_view : View → Entry
+entry_of_view v = record { seat = v.who; stamp = v.stamp; holds = any_below 64 (owns v) }
+
+-- it joined the list; o was the word before
+abbrev pub queued : View → ℕ → Owner → View
+queued v n o = record v {
+  list = joined v.list (entry_of_view v);
+  waits = suc n;
+  seen = Some (with_waiters o);
+  signed = [];
+  acted = true;
+  fresh = false;
+}
+
+abbrev pub taken : View → ℕ → View
+taken v n = let q : List Entry = left v.list v.who in record v {
+  owned = slice_set v.owned n true;
+  list = q;
+  waits = 0;
+  seen = Some (taken_word v.who v.stamp q);
+  signed = [];
+  sign = once_taken v.kind v.sign;
+  acted = true;
+  fresh = false;
+}
+
+abbrev pub has_asked : View → Owner → View
+has_asked v o = record v { seen = Some (asked_word o); fresh = false }
+
+-- whether HANDOFF stood in the word before
+abbrev pub given : View → ℕ → Bool → View
+given v n asked = record v {
+  owned = slice_set v.owned n false;
+  seen = Some (given_word asked v.list);
+  signed = [];
+  acted = true;
+  fresh = false;
+}
+
+-- it left the list; o was the word before
+abbrev pub died : View → Owner → View
+died v o = let q : List Entry = left v.list v.who in record v {
+  list = q;
+  waits = 0;
+  seen = Some (rest_word q o);
+  signed = [];
+  fresh = false;
+}
+
+-- it read the word
+abbrev pub has_looked : View → Owner → View
+has_looked v o = record v { seen = Some o; fresh = false }
+
+-- that seat is signed
+abbrev pub noted : View → ℕ → View
+noted v u = record v { signed = u ∷ v.signed; fresh = false }
+
+-- ---- the own sign
+
+-- it is k, and stays so
+abbrev pub has_read : View → ℕ → View
+has_read v k = record v { sign = Some k; fresh = k == 0 }
+
+-- it was 0, and others may change that at once
+abbrev pub found_none : View → View
+found_none v = record v { sign = None; fresh = true }
+
+abbrev pub cleared : View → View
+cleared v = record v { sign = Some 0; fresh = false }
+
+-- a step that told the seat nothing that lasts
+abbrev pub stepped : View → View
+stepped v = record v { fresh = false }
+
+-- ---- all events
+
+-- what the seat's event makes of its view
+abbrev pub view_after : State → Event → View → View
+view_after c (Begin s) v = begun v (c.drawn + 1)
+view_after c (Clear s) v = cleared v
+view_after c (Fast s n) v = fast_taken v n
+view_after c (FastGive s n) v = fast_given v n
+view_after c (Guard s n) v = entered v n (c.queue n)
+view_after c (Join s n) v = queued v n (word_of c n)
+view_after c (Sign s u) v = noted v u
+view_after c (Take s n) v = taken v n
+view_after c (Ask s n) v = has_asked v (word_of c n)
+view_after c (Give s n) v = given v n (c.asked n)
+view_after c (Die s n) v = died v (word_of c n)
+view_after c (Unguard s n) v = exited v
+view_after c (Commit s) v = v
+view_after c (End s) v = ended v

@@ -1,0 +1,73 @@
+//! Laws of views: each function's contract is one.
+
+ghost use Rattle.ww_view.specs.Laws.{OthersKnow, ActorKnows, FoundIsKnown, KnowsAtStart, RestsAsAtStart, ShownIsPossible, ExitIsPossible, ViewDecides, SignIsTold, DeathIsShown, ShownDeathWasMet, WordsAreWritten, WordsAreTold, WordsAreValid};
+
+/// What a seat knows stays, whatever the others do.
+pub fn others_know()
+    ensures { OthersKnow }
+{}
+
+/// After its own event a seat knows what that event makes of its view.
+pub fn actor_knows()
+    ensures { ActorKnows }
+{}
+
+/// What a seat finds by a step that is no event, it knows.
+pub fn found_is_known()
+    ensures { FoundIsKnown }
+{}
+
+/// At the start each seat knows what its first view says.
+pub fn knows_at_start()
+    ensures { KnowsAtStart }
+{}
+
+/// A seat that rests knows no more and no less than at the start, whatever it did before.
+pub fn rests_as_at_start()
+    ensures { RestsAsAtStart }
+{}
+
+/// The event that a seat's view shows, with what the seat finds, is possible.
+pub fn shown_is_possible()
+    ensures { ShownIsPossible }
+{}
+
+/// A seat whose view shows that it may leave the guard may leave it.
+pub fn exit_is_possible()
+    ensures { ExitIsPossible }
+{}
+
+/// Who must die and whom to sign is the same by the view as by the core.
+pub fn view_decides()
+    ensures { ViewDecides }
+{}
+
+/// The stamp that the view tells for a sign is the one that is given.
+pub fn sign_is_told()
+    ensures { SignIsTold }
+{}
+
+/// The view of a seat that has to die shows the older context that it met.
+pub fn death_is_shown()
+    ensures { DeathIsShown }
+{}
+
+/// A seat that has to die by its view met that context in the run.
+pub fn shown_death_was_met()
+    ensures { ShownDeathWasMet }
+{}
+
+/// Each event writes to the owner words what the definition says, and nothing else changes there.
+pub fn words_are_written()
+    ensures { WordsAreWritten }
+{}
+
+/// A number found in an owner word is that of one owner.
+pub fn words_are_told()
+    ensures { WordsAreTold }
+{}
+
+/// What the owner words of a reached state tell is valid.
+pub fn words_are_valid()
+    ensures { WordsAreValid }
+{}

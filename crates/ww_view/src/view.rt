@@ -1,0 +1,33 @@
+//! The view of a seat: what it knows of the locks while other seats act. No value of it is made; contracts speak of it.
+use std::collections::LinkedList;
+use ww_queue::{Kind, Queue};
+use ww_word::Owner;
+
+/// What a seat at the table knows.
+pub struct View {
+    pub kind: Kind,
+    pub who: u8,
+    pub stamp: u64,
+    /// Whether it owns the lock.
+    pub owned: [bool; 64],
+    /// 0, or 1 more than the lock whose guard it is inside of.
+    pub inside: u8,
+    /// The wait list of that lock.
+    pub list: Queue,
+    /// 0, or 1 more than the lock in whose list it stands.
+    pub waits: u8,
+    /// The owner word of the lock that it is inside of, as it last read or wrote it there.
+    pub seen: Option<Owner>,
+    /// The seats that it found or made signed there, since it last changed the list or the owner.
+    pub signed: LinkedList<u8>,
+    /// Its own sign, where it is known.
+    pub sign: Option<u64>,
+    /// It stood in the list as it went inside.
+    pub later: bool,
+    /// It stands in the list, took the lock or gave it, since it went inside.
+    pub acted: bool,
+    /// Its last step was to read its own sign.
+    pub fresh: bool,
+    /// How often it tried to take a lock at once.
+    pub tries: u64,
+}
