@@ -56,7 +56,8 @@ pub enum Try {
 }
 
 impl Acquiring {
-    ghost use Rattle.std.specs.Prelude.{◌≡◌, ◌<◌, length};
+    ghost use Rattle.std.specs.Prelude.{◌≡◌, ◌<◌, length, IfSome};
+    ghost use Rattle.ww_plain.specs.Graph.{IsNodeOf};
     ghost use Rattle.ww_plain.specs.Numbers.{is_among};
     ghost use Rattle.ww_lock.specs.Holding.{IsAtHome, reads};
     ghost use Rattle.ww_lock.specs.Moves.{IsLockAnswer, IsTryAnswer, emptied};
@@ -113,11 +114,12 @@ impl Acquiring {
         }
     }
 
-    /// The node as it was when it was locked; nothing where it isn't held.
+    /// The node as it was when it was locked; nothing where it isn't held. Its ports name nodes of the world, or none.
     pub fn read<R: Wait>(&self, _rt: &R, world: &World, n: u8) -> Option<Node>
         requires home { IsAtHome self.now world.now }
         requires node { n < length world.now.first }
-        ensures { result ≡ reads self.now n }
+        ensures contents { result ≡ reads self.now n }
+        ensures there { IfSome result (IsNodeOf (length world.now.first)) }
     {
         self.hand.read(n)
     }

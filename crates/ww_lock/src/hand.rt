@@ -40,8 +40,8 @@ impl Model for Hand {
 }
 
 impl Hand {
-    ghost use Rattle.std.specs.Prelude.{◌≡◌, ◌<◌, ◌↔◌, false, length, IsTrue};
-    ghost use Rattle.ww_plain.specs.Graph.{node_at};
+    ghost use Rattle.std.specs.Prelude.{◌≡◌, ◌<◌, ◌↔◌, false, length, IsTrue, IfSome};
+    ghost use Rattle.ww_plain.specs.Graph.{node_at, IsNodeOf};
     ghost use Rattle.ww_plain.specs.Numbers.{is_among};
     ghost use Rattle.ww_plain.specs.Transaction.{transaction_of, Fits};
     ghost use Rattle.ww_lock.specs.Holding.{reads};
@@ -77,9 +77,12 @@ impl Hand {
     /// A node as it was when it was locked; nothing where it isn't held.
     pub(crate) fn read(&self, n: u8) -> Option<Node>
         requires { n < length self.now.seen }
-        ensures { result ≡ reads self.now n }
+        ensures contents { result ≡ reads self.now n }
+        ensures there { IfSome result (IsNodeOf (length self.now.seen)) }
     {
         if self.holds(n) {
+            // Its contract says that what was seen is a graph.
+            let _size = self.seen.size();
             Some(self.seen.node(n))
         } else {
             None
