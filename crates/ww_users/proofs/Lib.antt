@@ -1,0 +1,4 @@
+pub mod Contexts
+pub mod Entries
+pub mod Orders
+pub mod Alongs

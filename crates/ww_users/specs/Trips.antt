@@ -1,0 +1,55 @@
+-- What one trip through a list, or along a walk, does to the context that makes it.
+use Rattle.std.specs.Prelude.{ℕ, ◌≡◌, ◌<◌, ◌+◌, ◌∷◌, [], List, length, take, slice_get, Option, Some, None, IfSome, IsTrue}
+use Rattle.std.specs.List.Sorted.{IsPermutation}
+use Rattle.ww_plain.specs.Numbers.{is_among, AreDifferent}
+use Rattle.ww_plain.specs.Graph.{Agree}
+use Rattle.ww_plain.specs.Footprint.{walked}
+use Rattle.ww_plain.specs.Transaction.{FirstDouble}
+use Rattle.ww_plain.specs.Walk.{walk_of}
+use Rattle.ww_lock.specs.Holding.{Holding, Refused, Holds}
+use Rattle.ww_users.specs.declared.trip.Trip.{Trip}
+use Rattle.ww_users.specs.declared.trip.Trip.TheVariants.{Through, Already, Deadlk}
+use Rattle.ww_users.specs.Ways.{HoldsExactly}
+
+-- the same context, which may hold other locks
+pub record IsSameContext (s a : Holding) : Type 0 where
+  pub rest : a ≡ record s { held = a.held; seen = a.seen }
+  pub size : length a.seen ≡ length s.seen
+
+-- the same context, which holds this node too; what it held before is as it was
+pub record HasLocked (s : Holding) (n : ℕ) (a : Holding) : Type 0 where
+  pub same : IsSameContext s a
+  pub holds : IsTrue (is_among n a.held)
+  pub keeps : (m : ℕ) → IsTrue (is_among m s.held) → IsTrue (is_among m a.held)
+  pub contents : Agree s.seen a.seen s.held
+
+-- the node that was kept from a slow lock, if one was
+abbrev pub kept_nodes : Option ℕ → List ℕ
+kept_nodes None = []
+kept_nodes (Some n) = n ∷ []
+
+-- it holds what was kept, which is an entry of the list, and nothing else
+pub record HoldsKept (kept : Option ℕ) (list : List ℕ) (s : Holding) : Type 0 where
+  pub held : s.held ≡ kept_nodes kept
+  pub listed : IfSome kept (λ n. IsTrue (is_among n list))
+
+-- it was told EDEADLK at the entry of this place, and all entries up to there differ
+pub record IsContended (list : List ℕ) (b : Refused) (place : ℕ) : Type 0 where
+  pub there : place < length list
+  pub entry : slice_get list place ≡ Some b.contended
+  pub different : AreDifferent (take (place + 1) list)
+
+-- How a trip through a list ended: with all of it locked, at its first double, or with EDEADLK.
+abbrev pub IsTrip : Holding → List ℕ → Trip → Type 0
+IsTrip s list (Through a) = IsSameContext s a × HoldsExactly list a × FirstDouble list None
+IsTrip s list (Already a n) = IsSameContext s a × FirstDouble list (Some n)
+IsTrip s list (Deadlk b place) = IsSameContext s b.holding × IsContended list b place
+
+-- the same entries in another order, with the same first double
+pub record IsReordered (list order : List ℕ) : Type 0 where
+  pub moved : IsPermutation list order
+  pub double : (d : Option ℕ) → FirstDouble order d → FirstDouble list d
+
+-- it holds the walk and its stop, in the graph as it has seen it
+abbrev pub HoldsWalk : ℕ → ℕ → ℕ → Holding → Type 0
+HoldsWalk start port most a = Holds a (walked a.seen port (walk_of a.seen start port most))

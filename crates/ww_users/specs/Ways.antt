@@ -1,0 +1,33 @@
+-- What the three ways of taking many locks give.
+use Rattle.std.specs.Prelude.{ℕ, ◌≡◌, ◌≤◌, ◌-◌, [], List, length, Some}
+use Rattle.ww_plain.specs.Numbers.{is_among}
+use Rattle.ww_plain.specs.Transaction.{FirstDouble}
+use Rattle.ww_lock.specs.Holding.{Holding}
+use Rattle.ww_users.specs.declared.fault.UserFault.{UserFault}
+use Rattle.ww_users.specs.declared.fault.UserFault.TheVariants.{PassSpent, Already}
+
+-- a pass that comes back after a refusal: one context less to start, no context, no lock, and the same own list
+pub record IsReturned (s a : Holding) : Type 0 where
+  pub some : 1 ≤ s.left
+  pub rest : a ≡ record s { left = s.left - 1; stamp = 0; held = []; room = a.room; seen = a.seen }
+  pub size : length a.seen ≡ length s.seen
+
+-- a context of this pass, that holds some nodes
+pub record IsContext (s a : Holding) : Type 0 where
+  pub some : 1 ≤ s.left
+  pub stamped : 1 ≤ a.stamp
+  pub rest : a ≡ record s { left = s.left - 1; stamp = a.stamp; held = a.held; seen = a.seen }
+  pub size : length a.seen ≡ length s.seen
+
+-- it holds the nodes of the list, and no others
+abbrev pub HoldsExactly : List ℕ → Holding → Type 0
+HoldsExactly list a = (n : ℕ) → is_among n a.held ≡ is_among n list
+
+-- why the nodes of the list were not locked: the budget is looked at first
+abbrev pub IsUserFault : Holding → List ℕ → Holding → UserFault → Type 0
+IsUserFault s list a PassSpent = (s.left ≡ 0) × (a ≡ s)
+IsUserFault s list a (Already n) = FirstDouble list (Some n) × IsReturned s a
+
+abbrev pub user_number : UserFault → ℕ
+user_number PassSpent = 4
+user_number (Already n) = 9

@@ -1,0 +1,23 @@
+/// Why the nodes of a list were not locked.
+#[derive(Clone, Copy, Debug, PartialEq, Eq)]
+pub enum UserFault {
+    /// The pass has no context left to start.
+    PassSpent,
+    /// The list names this node a second time: the kernel's EALREADY.
+    Already(u8),
+}
+
+impl UserFault {
+    ghost use Rattle.std.specs.Prelude.{◌≡◌};
+    ghost use Rattle.ww_users.specs.Ways.{user_number};
+
+    /// The number of the fault.
+    pub fn number(self) -> u8
+        ensures { result ≡ user_number self }
+    {
+        match self {
+            UserFault::PassSpent => 4,
+            UserFault::Already(_) => 9,
+        }
+    }
+}

@@ -1,0 +1,51 @@
+ghost use Rattle.std.specs.Prelude.{◌≡◌, ◌≤◌, ◌<◌, None, length, IfOk, IfErr};
+ghost use Rattle.std.specs.List.{AllByRecursion};
+ghost use Rattle.ww_plain.specs.Transaction.{FirstDouble};
+ghost use Rattle.ww_lock.specs.Holding.{IsAtHome};
+ghost use Rattle.ww_users.specs.Ways.{IsContext, HoldsExactly, IsUserFault};
+
+use crate::context::back_off;
+use crate::fault::UserFault;
+use crate::trip::{Trip, lock_entries};
+use std::sync::Wait;
+use ww_lock::{Done, Pass, World};
+
+/// Method 1: locks the nodes in the order of the list. On EDEADLK it gives all back, takes the contended lock by the slow path,
+/// and starts again with that entry skipped once. A list that names a node twice is refused with the first entry whose node
+/// stands earlier; then, as with a spent pass, no lock is held and nothing is recorded.
+pub fn lock_list<R: Wait>(
+    world: &World,
+    pass: Pass,
+    rt: &R,
+    list: &[u8],
+) -> Result<Done, (Pass, UserFault)>
+    requires home { IsAtHome pass world.now }
+    requires some { 1 ≤ length list.now }
+    requires few { length list.now ≤ 64 }
+    requires nodes { AllByRecursion (λ n. n < length world.now.first) list.now }
+    ensures context { IfOk result (IsContext pass) }
+    ensures holds { IfOk result (HoldsExactly list.now) }
+    ensures no_double { IfOk result (λ _. FirstDouble list.now None) }
+    ensures err { IfErr result (λ e. IsUserFault pass list.now e.0 e.1) }
+    ensures room { IfErr result (λ e. e.0.room ≡ pass.room) }
+{
+    let mut acquiring = match pass.begin(rt, world) {
+        Ok(acquiring) => acquiring,
+        Err(pass) => return Err((pass, UserFault::PassSpent)),
+    };
+    let mut kept = None;
+    for _ in rt.forever() {
+        acquiring = match lock_entries(world, acquiring, rt, list, kept) {
+            Trip::Through(acquiring) => return Ok(acquiring.done()),
+            Trip::Already(acquiring, n) => {
+                let pass = acquiring.unlock_all(rt, world).fini(rt, world);
+                return Err((pass, UserFault::Already(n)));
+            }
+            Trip::Deadlk(backoff, _) => {
+                kept = Some(backoff.contended());
+                back_off(world, backoff, rt)
+            }
+        };
+    }
+    unreachable!()
+}

@@ -1,0 +1,15 @@
+//! The three ways of taking many locks that the kernel's document of wound/wait mutexes describes: a fixed list, a list whose
+//! contended entry is moved to its head, and objects that are found on the way.
+#![tactic(auto)]
+
+mod context;
+mod fault;
+mod fixed_list;
+mod reordered_list;
+mod trip;
+mod walk;
+
+pub use fault::UserFault;
+pub use fixed_list::lock_list;
+pub use reordered_list::lock_order;
+pub use walk::lock_walk;

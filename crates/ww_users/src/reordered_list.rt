@@ -1,0 +1,58 @@
+ghost use Rattle.std.specs.Prelude.{◌≡◌, ◌≤◌, ◌<◌, None, length, IfOk, IfErr};
+ghost use Rattle.std.specs.List.{AllByRecursion};
+ghost use Rattle.ww_plain.specs.Transaction.{FirstDouble};
+ghost use Rattle.ww_lock.specs.Holding.{IsAtHome};
+ghost use Rattle.ww_users.specs.Ways.{IsContext, HoldsExactly, IsUserFault};
+
+use crate::context::back_off;
+use crate::fault::UserFault;
+use crate::trip::{Trip, lock_entries};
+use arrayvec::ArrayVec;
+use std::sync::Wait;
+use ww_lock::{Done, Pass, World};
+use ww_plain::MAX_NODES;
+
+/// Method 2: as method 1, but after the slow lock the contended entry is moved to the head of the list, and the trip goes on
+/// behind it. So an entry that was contended is locked first from then on. The double that a refusal names is that of the
+/// list as it was given, not of the reordered one.
+pub fn lock_order<R: Wait>(
+    world: &World,
+    pass: Pass,
+    rt: &R,
+    list: &[u8],
+) -> Result<Done, (Pass, UserFault)>
+    requires home { IsAtHome pass world.now }
+    requires some { 1 ≤ length list.now }
+    requires few { length list.now ≤ 64 }
+    requires nodes { AllByRecursion (λ n. n < length world.now.first) list.now }
+    ensures context { IfOk result (IsContext pass) }
+    ensures holds { IfOk result (HoldsExactly list.now) }
+    ensures no_double { IfOk result (λ _. FirstDouble list.now None) }
+    ensures err { IfErr result (λ e. IsUserFault pass list.now e.0 e.1) }
+    ensures room { IfErr result (λ e. e.0.room ≡ pass.room) }
+{
+    let mut acquiring = match pass.begin(rt, world) {
+        Ok(acquiring) => acquiring,
+        Err(pass) => return Err((pass, UserFault::PassSpent)),
+    };
+    let Ok(mut order) = ArrayVec::<u8, MAX_NODES>::try_from(list) else {
+        unreachable!()
+    };
+    let mut kept = None;
+    for _ in rt.forever() {
+        acquiring = match lock_entries(world, acquiring, rt, &order, kept) {
+            Trip::Through(acquiring) => return Ok(acquiring.done()),
+            Trip::Already(acquiring, n) => {
+                let pass = acquiring.unlock_all(rt, world).fini(rt, world);
+                return Err((pass, UserFault::Already(n)));
+            }
+            Trip::Deadlk(backoff, place) => {
+                let entry = order.remove(place);
+                order.insert(0, entry);
+                kept = Some(entry);
+                back_off(world, backoff, rt)
+            }
+        };
+    }
+    unreachable!()
+}

@@ -1,0 +1,48 @@
+//! One trip through a list, as the fixed list and the reordered one make it until none is told EDEADLK.
+
+ghost use Rattle.std.specs.Prelude.{◌<◌, length};
+ghost use Rattle.std.specs.List.{AllByRecursion};
+ghost use Rattle.ww_lock.specs.Holding.{IsAtHome};
+ghost use Rattle.ww_users.specs.Trips.{HoldsKept, IsTrip};
+
+use std::sync::Wait;
+use ww_lock::{Acquiring, Backoff, Lock, World};
+
+/// How a trip through a list ended.
+pub(crate) enum Trip {
+    /// Each entry is locked.
+    Through(Acquiring),
+    /// An entry named a node that an earlier entry had locked: the kernel's EALREADY.
+    Already(Acquiring, u8),
+    /// The context was told EDEADLK at the entry of this place.
+    Deadlk(Backoff, usize),
+}
+
+/// Locks the entries in the order of the list. The node that was kept from a slow lock is skipped once.
+pub(crate) fn lock_entries<R: Wait>(
+    world: &World,
+    acquiring: Acquiring,
+    rt: &R,
+    list: &[u8],
+    kept: Option<u8>,
+) -> Trip
+    requires home { IsAtHome acquiring world.now }
+    requires nodes { AllByRecursion (λ n. n < length world.now.first) list.now }
+    requires kept { HoldsKept kept list.now acquiring }
+    ensures { IsTrip acquiring list.now result }
+{
+    let mut acquiring = acquiring;
+    let mut kept = kept;
+    for (place, n) in list.iter().enumerate() {
+        if kept == Some(*n) {
+            kept = None;
+            continue;
+        }
+        acquiring = match acquiring.lock(rt, world, *n) {
+            Lock::Locked(acquiring) => acquiring,
+            Lock::Already(acquiring) => return Trip::Already(acquiring, *n),
+            Lock::Deadlk(backoff) => return Trip::Deadlk(backoff, place),
+        };
+    }
+    Trip::Through(acquiring)
+}

@@ -1,0 +1,94 @@
+ghost use Rattle.std.specs.Prelude.{◌≡◌, ◌<◌, false, length, Some, IfOk, IfErr, IfSome, IsTrue};
+ghost use Rattle.ww_plain.specs.Graph.{port_of};
+ghost use Rattle.ww_plain.specs.Numbers.{is_among};
+ghost use Rattle.ww_plain.specs.Transaction.{IsCourse, sum, reverse};
+ghost use Rattle.ww_plain.specs.Walk.{IsEnd, GoesOnTo};
+ghost use Rattle.ww_lock.specs.Holding.{IsAtHome};
+ghost use Rattle.ww_lock.specs.Making.{Covers};
+ghost use Rattle.ww_users.specs.Ways.{IsContext};
+ghost use Rattle.ww_users.specs.Trips.{IsSameContext, HoldsWalk};
+
+use crate::context::{back_off, lock_one};
+use arrayvec::ArrayVec;
+use std::sync::Wait;
+use ww_lock::{Acquiring, Backoff, Done, Pass, World};
+use ww_plain::{MAX_NODES, PORTS};
+
+/// Method 3: locks the walk from a node along a port, of at most so many nodes, and its stop, as it finds them. On EDEADLK it
+/// gives all back, takes the contended lock by the slow path, keeps it, and starts the walk again: others may have changed
+/// the ports along it. A spent pass is given back.
+pub fn lock_walk<R: Wait>(
+    world: &World,
+    pass: Pass,
+    rt: &R,
+    start: u8,
+    port: u8,
+    most: u8,
+) -> Result<Done, Pass>
+    requires home { IsAtHome pass world.now }
+    requires course { IsCourse (length world.now.first) start port most }
+    ensures context { IfOk result (IsContext pass) }
+    ensures sum { IfOk result (λ d. Covers d (sum start port most)) }
+    ensures reverse { IfOk result (λ d. Covers d (reverse start port most)) }
+    ensures err { IfErr result (λ p. (pass.left ≡ 0) × (p ≡ pass)) }
+{
+    let mut acquiring = pass.begin(rt, world)?;
+    for _ in rt.forever() {
+        acquiring = match lock_along(world, acquiring, rt, start, port, most) {
+            Ok(acquiring) => return Ok(acquiring.done()),
+            Err(backoff) => back_off(world, backoff, rt),
+        };
+    }
+    unreachable!()
+}
+
+/// One walk, with the stop, or as far as it gets. A node that is held already ends it where that is one of the walk. Where it
+/// is the one kept from a slow lock, and the walk hasn't come to it before, the walk goes on from it.
+fn lock_along<R: Wait>(
+    world: &World,
+    acquiring: Acquiring,
+    rt: &R,
+    start: u8,
+    port: u8,
+    most: u8,
+) -> Result<Acquiring, Backoff>
+    requires home { IsAtHome acquiring world.now }
+    requires course { IsCourse (length world.now.first) start port most }
+    ensures ok { IfOk result (IsSameContext acquiring) }
+    ensures holds { IfOk result (HoldsWalk start port most) }
+    ensures err { IfErr result (λ b. IsSameContext acquiring b.holding) }
+{
+    let mut acquiring = lock_one(world, acquiring, rt, start)?;
+    let mut walk = ArrayVec::<u8, MAX_NODES>::new();
+    walk.push(start);
+    let mut stop = target_of(world, &acquiring, rt, start, port);
+    while let Some(next) = stop {
+        acquiring = lock_one(world, acquiring, rt, next)?;
+        if is_over(&walk, most, next) {
+            return Ok(acquiring);
+        }
+        walk.push(next);
+        stop = target_of(world, &acquiring, rt, next, port);
+    }
+    Ok(acquiring)
+}
+
+/// Whether a walk of at most so many nodes ends behind these, where the port of the last one names this node.
+fn is_over(walk: &[u8], most: u8, next: u8) -> bool
+    ensures over { IsTrue result → IsEnd walk.now most (Some next) }
+    ensures goes_on { result ≡ false → GoesOnTo walk.now most (Some next) next }
+{
+    walk.len() >= usize::from(most) || walk.contains(&next)
+}
+
+/// Where a port of a held node leads.
+fn target_of<R: Wait>(world: &World, acquiring: &Acquiring, rt: &R, n: u8, port: u8) -> Option<u8>
+    requires home { IsAtHome acquiring.now world.now }
+    requires node { n < length world.now.first }
+    requires held { IsTrue (is_among n acquiring.now.held) }
+    requires port { port < PORTS }
+    ensures leads { result ≡ port_of acquiring.now.seen n port }
+    ensures there { IfSome result (λ target. target < length world.now.first) }
+{
+    acquiring.read(rt, world, n)?.ports[usize::from(port)]
+}
