@@ -7,3 +7,5 @@ pub mod OutsideMoves
 pub mod Emptying
 pub mod Taking
 pub mod Joining
+pub mod Tests
+pub mod Reaching

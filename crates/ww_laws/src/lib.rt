@@ -1,7 +1,7 @@
 //! Laws of whole runs of the core: each function's contract is one.
 #![tactic(auto)]
 
-ghost use Rattle.ww_model.specs.Theorem.{OldestNeverDies, OldestCanTake, OldestCanJoinAndTake, CanBeEmptied};
+ghost use Rattle.ww_model.specs.Theorem.{OldestNeverDies, OldestCanTake, OldestCanJoinAndTake, CanBeEmptied, RingsAreReached, EventsHappen};
 
 /// The oldest context of all, if it has no sign in Wound-Wait, is never signed and never told to back off, until it ends.
 pub fn oldest_never_dies()
@@ -22,4 +22,14 @@ pub fn oldest_can_join_and_take()
 /// From every reached state some run of events that begin nothing new leads to one in which everything is free: a way out exists.
 pub fn can_be_emptied()
     ensures { CanBeEmptied }
+{}
+
+/// In each kind a state with a ring is reached.
+pub fn rings_are_reached()
+    ensures { RingsAreReached }
+{}
+
+/// In each kind each of the fourteen events is possible in some reached state.
+pub fn events_happen()
+    ensures { EventsHappen }
 {}
