@@ -1,15 +1,15 @@
-//! Laws of whole runs of the core: each function's contract is one.
+//! Laws of the core that say what can always be done, or never happens, from a state on: each function's contract is one.
 #![tactic(auto)]
 
 ghost use Rattle.ww_model.specs.Theorem.{OldestNeverDies, OldestCanTake, OldestCanJoinAndTake, CanBeEmptied, RingsAreReached, EventsHappen};
 
-/// The oldest context of all, if it has no sign in Wound-Wait, is never signed and never told to back off, until it ends.
+/// The oldest context of all, if in Wound-Wait it has no sign, is never signed and never told to back off, until it ends.
 pub fn oldest_never_dies()
     ensures { OldestNeverDies }
 {}
 
-/// Wherever the oldest context waits, some run leads to it owning the lock in which nothing new is begun, and in which it neither
-/// dies nor gives anything back: whoever is in its way can be made to give way, and it never has to.
+/// Wherever the oldest context waits, some run leads to it owning the lock in which nobody begins anything new, and in
+/// which it neither dies nor gives anything back: whoever is in its way can be made to give way, and it never has to.
 pub fn oldest_can_take()
     ensures { OldestCanTake }
 {}
@@ -19,7 +19,8 @@ pub fn oldest_can_join_and_take()
     ensures { OldestCanJoinAndTake }
 {}
 
-/// From every reached state some run of events that begin nothing new leads to one in which everything is free: a way out exists.
+/// From every reached state some run in which nobody begins anything new leads to one in which everything is free: a way
+/// out exists.
 pub fn can_be_emptied()
     ensures { CanBeEmptied }
 {}

@@ -11,7 +11,8 @@ use Rattle.ww_model.specs.declared.event.Answer.TheVariants.{Deadlk}
 use Rattle.ww_model.specs.State.{State, put, OwnsSome, IsCalm, dies, place_of}
 use Rattle.ww_model.specs.Event.{given_to, giving, Possible, after}
 use Rattle.ww_model.specs.Run.{Reached, at_start, further}
-use Rattle.ww_model.specs.Met.{MeetsNow, HasMet, SignWasMet, DeadlkIsMet}
+use Rattle.ww_model.specs.Met.{MeetsNow, HasMet, DeadlkIsMet}
+use Rattle.ww_model.specs.Laws.{SignWasMet}
 use Rattle.ww_model.specs.Theorem.{DeadlkWasMet}
 use Rattle.ww_model.proofs.Puts.{put_here, put_else, put_was}
 use Rattle.ww_model.proofs.Options.{some_of}

@@ -39,7 +39,8 @@ module _ (c d : State) (t : ℕ) where
 
 -- a possible event of a lawful state leaves the others alone
 abbrev pub OthersAreLeftAlone : Type 0
-OthersAreLeftAlone = (c : State) (e : Event) (t : ℕ) → IsLawful c → Possible c e → actor e ≢ t → LeavesAlone c (after c e) t
+OthersAreLeftAlone = (c : State) (e : Event) (t : ℕ) → IsLawful c → Possible c e → actor e ≢ t →
+    LeavesAlone c (after c e) t
 
 -- the sign of another changes only from 0, and by Sign
 abbrev pub OthersAreSignedOnce : Type 0
@@ -50,20 +51,20 @@ OthersAreSignedOnce = (c : State) (e : Event) (t : ℕ) → Possible c e → act
 
 -- an owner that has taken the lock leaves it only by its own FastGive or Give there
 abbrev pub TakenLeavesByGiving : Type 0
-TakenLeavesByGiving = (c : State) (e : Event) (s n : ℕ) → BasePossible c e → c.owner n ≡ Taken s → (after c e).owner n ≢ Taken s →
-    (e ≡ FastGive s n) ⊎ (e ≡ Give s n)
+TakenLeavesByGiving = (c : State) (e : Event) (s n : ℕ) → BasePossible c e →
+    c.owner n ≡ Taken s → (after c e).owner n ≢ Taken s → (e ≡ FastGive s n) ⊎ (e ≡ Give s n)
 
 -- a seat to which the lock was handed ceases to be the handed owner only by its own Take there
 abbrev pub HandedLeavesByTaking : Type 0
-HandedLeavesByTaking = (c : State) (e : Event) (s n : ℕ) → BasePossible c e → c.owner n ≡ Handed s → (after c e).owner n ≢ Handed s →
-    e ≡ Take s n
+HandedLeavesByTaking = (c : State) (e : Event) (s n : ℕ) → BasePossible c e →
+    c.owner n ≡ Handed s → (after c e).owner n ≢ Handed s → e ≡ Take s n
 
 -- ---- of one state
 
 -- Whoever is inside a guard, doesn't wait there and hasn't taken the lock owes nobody who is unsigned.
 abbrev pub OutsidersOweNothing : State → Type 0
-OutsidersOweNothing c = (s n : ℕ) → c.guard n ≡ suc s → StandsNot (c.queue n) s → c.owner n ≢ Taken s → (v k : ℕ) → Has (owes c s n) (v, k) →
-    c.sign v ≢ 0
+OutsidersOweNothing c = (s n : ℕ) → c.guard n ≡ suc s → StandsNot (c.queue n) s → c.owner n ≢ Taken s →
+    (v k : ℕ) → Has (owes c s n) (v, k) → c.sign v ≢ 0
 
 -- the stamps that were drawn fit an owner word
 abbrev pub StampsAreFew : State → Type 0

@@ -1,7 +1,7 @@
 -- The laws: of each event, and of each reached state.
 use Rattle.std.specs.Prelude.{ℕ, ◌≡◌, ◌<◌, List, ◌∷◌, Some}
 use Rattle.ww_queue.specs.declared.kind.Kind.{Kind}
-use Rattle.ww_queue.specs.declared.kind.Kind.TheVariants.{WaitDie}
+use Rattle.ww_queue.specs.declared.kind.Kind.TheVariants.{WoundWait, WaitDie}
 use Rattle.ww_queue.specs.declared.entry.Entry.{Entry}
 use Rattle.ww_queue.specs.Queue.{Has, Before, Ascends}
 use Rattle.ww_model.specs.declared.state.Holder.TheVariants as holder
@@ -11,6 +11,7 @@ use Rattle.ww_model.specs.State.{State, start, OwnsSome, Inside, dies, place_of}
 use Rattle.ww_model.specs.Event.{Possible, after, answer}
 use Rattle.ww_model.specs.Lawful.{IsBase, IsLawful, KeepsBase, Keeps}
 use Rattle.ww_model.specs.Run.{Reached}
+use Rattle.ww_model.specs.Met.{HasMet}
 use Rattle.ww_model.specs.Waits.{WaitsFor, IsOneOf, IsRing, IsCondemned}
 use Rattle.ww_model.specs.Snapshot.{IsFirst}
 
@@ -62,10 +63,16 @@ EachWaitsForOne c = (a b d : ℕ) → WaitsFor c a b → WaitsFor c a d → b �
 
 -- Two rings with a common member have the same members, and if they begin with the same one they are the same.
 pub record RingsAreApart (c : State) : Type 0 where
-  pub same_members : (ring other : List ℕ) (a b : ℕ) → IsRing c ring → IsRing c other → IsOneOf a ring → IsOneOf a other → IsOneOf b ring → IsOneOf b other
+  pub same_members : (ring other : List ℕ) (a b : ℕ) → IsRing c ring → IsRing c other →
+      IsOneOf a ring → IsOneOf a other → IsOneOf b ring → IsOneOf b other
   pub same_order : (a : ℕ) (bs ds : List ℕ) → IsRing c (a ∷ bs) → IsRing c (a ∷ ds) → bs ≡ ds
 
 -- ---- of each reached state
+
+-- Wound-Wait: a sign of a seat that owns a lock is the stamp of a context that it met
+abbrev pub SignWasMet : Type 0
+SignWasMet = (c : State) (run : Reached c) → c.kind ≡ WoundWait → (s : ℕ) → 0 < c.sign s → OwnsSome c s →
+    HasMet c run s (c.sign s)
 
 -- every reached state is so
 abbrev pub OfReached : (State → Type 0) → Type 0

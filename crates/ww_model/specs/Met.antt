@@ -32,10 +32,6 @@ abbrev pub HasMet : (c : State) → Reached c → ℕ → ℕ → Type 0
 HasMet _ (at_start kind locks seats) s k = ⊥
 HasMet _ (further c e run can) s k = OwnsSome (after c e) s × (MeetsNow (after c e) s k ⊎ HasMet c run s k)
 
--- Wound-Wait: a sign of a seat that owns a lock is the stamp of a context that it met
-abbrev pub SignWasMet : Type 0
-SignWasMet = (c : State) (run : Reached c) → c.kind ≡ WoundWait → (s : ℕ) → 0 < c.sign s → OwnsSome c s → HasMet c run s (c.sign s)
-
 -- who is told to die owned a lock, and met the older context whose stamp it is told
 pub record DeadlkIsMet (c : State) (run : Reached c) (s n k : ℕ) : Type 0 where
   pub owns : OwnsSome c s

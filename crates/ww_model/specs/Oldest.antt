@@ -42,4 +42,5 @@ ComesToOwn c s n = LeadsBy (WindsUpSparing s) c (λ d. Owns d s n)
 
 -- such a run leads to where the seat can join the wait list, and from there, once it has, one to it owning the lock
 abbrev pub JoinsAndComesToOwn : State → ℕ → ℕ → Type 0
-JoinsAndComesToOwn c s n = LeadsBy (WindsUpSparing s) c (λ d. Possible d (Join s n) × ComesToOwn (after d (Join s n)) s n)
+JoinsAndComesToOwn c s n = LeadsBy (WindsUpSparing s) c
+    (λ d. Possible d (Join s n) × ComesToOwn (after d (Join s n)) s n)

@@ -18,11 +18,13 @@ use Rattle.ww_model.specs.Oldest.{IsOldest, IsOldestUnsigned, GoesOn, ComesToOwn
 
 -- every ring of a reached state has a condemned member
 abbrev pub RingsAreCondemned : Type 0
-RingsAreCondemned = (c : State) → Reached c → (ring : List ℕ) → IsRing c ring → (a : ℕ) × IsOneOf a ring × IsCondemned c a
+RingsAreCondemned = (c : State) → Reached c → (ring : List ℕ) → IsRing c ring →
+    (a : ℕ) × IsOneOf a ring × IsCondemned c a
 
 -- the same of every lawful state and every cycle of waits, in which a seat may come more than once
 abbrev pub CyclesAreCondemned : Type 0
-CyclesAreCondemned = (c : State) → IsLawful c → (seats : List ℕ) → IsCycle c seats → (a : ℕ) × IsOneOf a seats × IsCondemned c a
+CyclesAreCondemned = (c : State) → IsLawful c → (seats : List ℕ) → IsCycle c seats →
+    (a : ℕ) × IsOneOf a seats × IsCondemned c a
 
 -- no seat without a context stands in a cycle of waits of a lawful state
 abbrev pub CyclesAreOfContexts : Type 0
@@ -43,24 +45,26 @@ pub record IsMetDeath (c : State) (run : Reached c) (e : Event) (k : ℕ) : Type
 
 -- whoever is told EDEADLK, in whatever run, by whatever event
 abbrev pub DeadlkWasMet : Type 0
-DeadlkWasMet = (c : State) (run : Reached c) (e : Event) (k : ℕ) → Possible c e → answer c e ≡ Deadlk k → IsMetDeath c run e k
+DeadlkWasMet = (c : State) (run : Reached c) (e : Event) (k : ℕ) → Possible c e → answer c e ≡ Deadlk k →
+    IsMetDeath c run e k
 
 -- ---- the oldest never backs off
 
--- The oldest context of all, if it has no sign in Wound-Wait, goes on as the oldest whatever happens, until it ends: it is
--- never signed and never told to back off.
+-- The oldest context of all, if in Wound-Wait it has no sign, goes on as the oldest whatever happens, until it ends: it
+-- is never signed and never told to back off.
 abbrev pub OldestNeverDies : Type 0
-OldestNeverDies = (c : State) → IsLawful c → (s : ℕ) → IsOldestUnsigned c s → (events : List Event) → IsRun c events → ¬ Has events (End s) →
-    GoesOn c (state_after c events) s
+OldestNeverDies = (c : State) → IsLawful c → (s : ℕ) → IsOldestUnsigned c s →
+    (events : List Event) → IsRun c events → ¬ Has events (End s) → GoesOn c (state_after c events) s
 
--- Wherever the oldest context waits, whoever is in its way can be made to give way: some run leads to it owning the lock,
--- in which it neither dies nor gives anything back, and nothing new is begun by anybody.
+-- Wherever the oldest context waits, whoever is in its way can be made to give way: some run leads to it owning the
+-- lock, in which it neither dies nor gives anything back, and nobody begins anything new.
 abbrev pub OldestCanTake : Type 0
 OldestCanTake = (c : State) → Reached c → (s n : ℕ) → IsOldest c s → Stands (c.queue n) s → ComesToOwn c s n
 
 -- the same where it waits nowhere and wants a lock of another, with one Join, its own
 abbrev pub OldestCanJoinAndTake : Type 0
-OldestCanJoinAndTake = (c : State) → Reached c → (s n : ℕ) → IsOldest c s → InNoQueue c s → HasOther c s n → JoinsAndComesToOwn c s n
+OldestCanJoinAndTake = (c : State) → Reached c → (s n : ℕ) → IsOldest c s → InNoQueue c s → HasOther c s n →
+    JoinsAndComesToOwn c s n
 
 -- ---- nobody is stuck for good
 

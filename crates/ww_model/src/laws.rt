@@ -1,11 +1,10 @@
-//! Laws of the core: each function's contract is one. Those of whole runs, on what can always be done, are in `ww_laws`.
+//! Laws of the core: each function's contract is one. Those that say what can always be done are in `ww_laws`.
 
 ghost use Rattle.ww_model.specs.Lawful.{FreeGuardsOweNothing, SignedOwnsOutside, OutsideIsKept};
 ghost use Rattle.ww_model.specs.Run.{RunsAreLawful};
-ghost use Rattle.ww_model.specs.Met.{SignWasMet};
 ghost use Rattle.ww_model.specs.Theorem.{RingsAreCondemned, CyclesAreCondemned, CyclesAreOfContexts, ReachedIsLawful, DeadlkWasMet};
 ghost use Rattle.ww_model.specs.Alone.{OthersAreLeftAlone, OthersAreSignedOnce, TakenLeavesByGiving, HandedLeavesByTaking, OutsidersOweNothing, StampsAreFew};
-ghost use Rattle.ww_model.specs.Laws.{BaseIsKept, LawfulIsKept, StartIsLawful, OnlyTheFirstAsks, HandedToTheFirst, OfLawful, PlaceIsTheGuard, QueuesAscend, OnlyFirstIsUnsigned, EachWaitsForOne, RingsAreApart, OfReached, WaitersAreSeats, CondemnedCanDie};
+ghost use Rattle.ww_model.specs.Laws.{BaseIsKept, LawfulIsKept, StartIsLawful, OnlyTheFirstAsks, HandedToTheFirst, OfLawful, PlaceIsTheGuard, QueuesAscend, OnlyFirstIsUnsigned, EachWaitsForOne, RingsAreApart, OfReached, SignWasMet, WaitersAreSeats, CondemnedCanDie};
 
 /// Each event that is possible as far as stamps, owners, wait lists and guards go keeps these in order.
 pub fn keeps_base()
@@ -67,7 +66,8 @@ pub fn rings_are_apart()
     ensures { OfLawful RingsAreApart }
 {}
 
-/// Wait-Die: a seat with a sign owns a lock whose guard it isn't inside of; each possible event of a lawful state keeps that.
+/// Wait-Die: that a seat with a sign owns a lock whose guard it isn't inside of is kept by each possible event of a lawful
+/// state.
 pub fn outside_is_kept()
     ensures { OutsideIsKept }
 {}
@@ -87,8 +87,8 @@ pub fn deadlk_was_met()
     ensures { DeadlkWasMet }
 {}
 
-/// A possible event of a lawful state leaves to each other seat its stamp, its locks, its guard and its places in the lists,
-/// and to one that is inside a guard what it sees there.
+/// A possible event of a lawful state leaves to each other seat its stamp, its locks, its guard and its places in the
+/// lists, and to one that is inside a guard what it sees there.
 pub fn others_are_left_alone()
     ensures { OthersAreLeftAlone }
 {}
@@ -133,7 +133,8 @@ pub fn queues_ascend()
     ensures { OfLawful QueuesAscend }
 {}
 
-/// Wait-Die, in every lawful state: where a guard is free, only the first of the waiting contexts may hold locks unsigned.
+/// Wait-Die, in every lawful state: where a guard is free, only the first of the waiting contexts may hold locks
+/// unsigned.
 pub fn only_first_is_unsigned()
     ensures { OfLawful OnlyFirstIsUnsigned }
 {}

@@ -82,7 +82,7 @@ impl Core {
         })
     }
 
-    /// A run of possible events comes to the core's state, as to that of every core: so what holds of reached states holds of it.
+    /// A run of possible events comes to the core's state, so what holds of every reached state holds of it.
     pub fn is_reached(&self)
         ensures { Reached (state_of self.now) }
     {
