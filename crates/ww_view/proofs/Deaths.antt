@@ -33,9 +33,10 @@ die_shows v n o k may = go v.kind refl may.why.1 may.why.2
         must_die kind o v.list v.who s ≡ Some k → MetByView v o k
     go WoundWait is how dies = let r = must_die_why WoundWait o v.list v.who s k dies in
         let d = death_why WoundWait o v.list s r.0 k r.3 in
+        let context = death_is_of_context WoundWait o v.list v.who s k dies in
         let same = (cond_some (nat_lt 0 s) s k d.1).1 in record {
           wounded = λ _.
-              (⊎_elim (λ x. absurd (cc)) (λ x. x ∙ ap Some same) how, death_is_of_context WoundWait o v.list v.who s k dies);
+              (⊎_elim (λ x. absurd (cc)) (λ x. x ∙ ap Some same) how, context);
           older = λ x. absurd (cc);
         }
     go WaitDie is how dies = let r = dies_why o v.list v.who s k dies in record {

@@ -110,7 +110,8 @@ module _ (c : State) (v : View) (l : IsLawful c) (k : Knows c v) where
   pub mine_die : (n : ℕ) (o : Owner) → v.inside ≡ suc n → o ≡ word_of c n → Possible c (Die v.who n) →
       Knows (after c (Die v.who n)) (died v o)
   mine_die n o at found can =
-      let word = (λ i. rest_word (left (k.queues.list n at i) v.who) (found i)) ∙ sym (word_die c v.who n l.base can.base) in
+      let back = sym (word_die c v.who n l.base can.base) in
+      let word = (λ i. rest_word (left (k.queues.list n at i) v.who) (found i)) ∙ back in
       search (rules, gone n at, seen_is (after c (Die v.who n)) n (rest_word (left v.list v.who) o) at word)
 
   -- ---- signs

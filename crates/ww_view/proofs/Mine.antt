@@ -15,7 +15,7 @@ use Rattle.ww_model.specs.Lawful.{IsLawful}
 use Rattle.ww_model.proofs.Dues.{by_kind}
 use Rattle.ww_model.proofs.Puts.{put_here, put_cases}
 use Rattle.ww_view.specs.declared.view.View.{View}
-use Rattle.ww_view.specs.View.{KnowsItself, KnowsOwned, Knows, IsBare}
+use Rattle.ww_view.specs.View.{KnowsItself, KnowsOwned, KnowsGuard, Knows, IsBare}
 use Rattle.ww_view.specs.Made.{once_inside, once_outside, once_taken, begun, ended, fast_taken, fast_given, entered, exited}
 use Rattle.ww_view.proofs.Shows.{solo_unsigned}
 
@@ -35,11 +35,13 @@ inside_from WoundWait w sign j is = inl is
 inside_from WaitDie (suc w) sign j is = inl is
 inside_from WaitDie zero sign j is = inr (refl, refl, let z : 0 ≡ j = cc in z)
 
-outside_from : (kind : Kind) (sign : Option ℕ) (j : ℕ) → once_outside kind sign ≡ Some j → (kind ≡ WoundWait) × (sign ≡ Some j)
+outside_from : (kind : Kind) (sign : Option ℕ) (j : ℕ) → once_outside kind sign ≡ Some j →
+    (kind ≡ WoundWait) × (sign ≡ Some j)
 outside_from WoundWait sign j is = (refl, is)
 outside_from WaitDie sign j is = absurd (cc)
 
-pub taken_from : (kind : Kind) (sign : Option ℕ) (j : ℕ) → once_taken kind sign ≡ Some j → (kind ≡ WaitDie) × (sign ≡ Some j)
+pub taken_from : (kind : Kind) (sign : Option ℕ) (j : ℕ) → once_taken kind sign ≡ Some j →
+    (kind ≡ WaitDie) × (sign ≡ Some j)
 taken_from WoundWait sign j is = absurd (cc)
 taken_from WaitDie sign j is = (refl, is)
 
@@ -110,45 +112,30 @@ module _ (c : State) (v : View) (l : IsLawful c) (k : Knows c v) where
       (λ x. let y = k.queues.waits x.0 x.1 in omega arith) (λ x. can.base.inside_none x.0 x.1)
       (l.signs.signs.waiting (sym k.itself.kind ∙ dying) v.who (omega arith))))
 
-  entering_sign : (n j : ℕ) → Possible c (Guard v.who n) → once_inside v.kind v.waits v.sign ≡ Some j → c.sign v.who ≡ j
-  entering_sign n j can is = ⊎_elim (k.sign j) (λ x. away_unsigned n can x.0 x.1 ∙ x.2) (inside_from v.kind v.waits v.sign j is)
+  entering_sign : (n : ℕ) → Possible c (Guard v.who n) → (j : ℕ) → once_inside v.kind v.waits v.sign ≡ Some j →
+      c.sign v.who ≡ j
+  entering_sign n can j is =
+      ⊎_elim (k.sign j) (λ x. away_unsigned n can x.0 x.1 ∙ x.2) (inside_from v.kind v.waits v.sign j is)
 
   entering_quiet : (n : ℕ) → once_inside v.kind v.waits v.sign ≡ Some 0 → IsBare v ⊎ ((v.kind ≡ WaitDie) × (suc n ≢ 0))
   entering_quiet n is = by_kind v.kind (IsBare v ⊎ ((v.kind ≡ WaitDie) × (suc n ≢ 0)))
-      (λ wounding. inl (quiet_bare wounding (⊎_elim (λ s. s) (λ x. absurd (let y = x.0 in cc)) (inside_from v.kind v.waits v.sign 0 is))))
+      (λ wounding. inl (quiet_bare wounding
+      (⊎_elim (λ s. s) (λ x. absurd (let y = x.0 in cc)) (inside_from v.kind v.waits v.sign 0 is))))
       (λ dying. inr (dying, λ i. omega arith))
 
   pub mine_guard : (n : ℕ) → Possible c (Guard v.who n) → Knows (after c (Guard v.who n)) (entered v n (c.queue n))
-  mine_guard n can = record {
-    itself = k.itself;
-    owned = k.owned;
-    guard = record {
-      inside = λ m. put_cases c.guard n (suc v.who) m (λ g. g ≡ suc v.who → suc n ≡ suc m)
-          (λ is _. ap suc (sym is)) (λ _ i. absurd (can.base.inside_none m i));
-      guards = λ m is. let same : m ≡ n = omega arith in (
-        subst (λ x. x < c.locks) (sym same) can.base.lock,
-        ap (put c.guard n (suc v.who)) same ∙ put_here c.guard n (suc v.who),
-      );
-    };
-    queues = search rules;
-    seen = search rules;
-    signed = search rules;
-    sign = λ j. entering_sign n j can;
-    quiet = entering_quiet n;
-  }
+  mine_guard n can = let g = put c.guard n (suc v.who) in
+      let there : KnowsGuard c.locks g v.who (suc n) = record {
+        inside = λ m. put_cases c.guard n (suc v.who) m (λ x. x ≡ suc v.who → suc n ≡ suc m)
+            (λ is _. ap suc (sym is)) (λ _ i. absurd (can.base.inside_none m i));
+        guards = λ m is. let same : n ≡ m = omega arith in subst (λ x. (x < c.locks) × (g x ≡ suc v.who)) same
+            (can.base.lock, put_here c.guard n (suc v.who));
+      } in search (rules, there, entering_sign n can, entering_quiet n)
 
   pub mine_unguard : (n : ℕ) → Possible c (Unguard v.who n) → Knows (after c (Unguard v.who n)) (exited v)
-  mine_unguard n can = record {
-    itself = k.itself;
-    owned = k.owned;
-    guard = record {
-      inside = λ m. put_cases c.guard n 0 m (λ g. g ≡ suc v.who → 0 ≡ suc m) (λ _ i. absurd (omega arith))
-          (λ isnt i. absurd (isnt (l.base.guards.one_guard v.who m n i can.base.inside.guard)));
-      guards = λ m is. absurd (omega arith);
-    };
-    queues = search (rules, arith);
-    seen = search (rules, arith);
-    signed = search (rules, arith);
-    sign = λ j is. k.sign j (outside_from v.kind v.sign j is).1;
-    quiet = λ is. let s = outside_from v.kind v.sign 0 is in inl (quiet_bare s.0 s.1);
-  }
+  mine_unguard n can =
+      let out : KnowsGuard c.locks (put c.guard n 0) v.who 0 = record {
+        inside = λ m. put_cases c.guard n 0 m (λ x. x ≡ suc v.who → 0 ≡ suc m) (λ _ i. absurd (omega arith))
+            (λ isnt i. absurd (isnt (l.base.guards.one_guard v.who m n i can.base.inside.guard)));
+        guards = λ m is. absurd (omega arith);
+      } in search (rules, arith, out, outside_from v.kind v.sign, quiet_bare)

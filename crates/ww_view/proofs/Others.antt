@@ -6,7 +6,7 @@ use Rattle.ww_model.proofs.Meetings.{same_kind}
 use Rattle.ww_model.proofs.Stays.{same_seats, same_locks, stands_stays, sign_stays, others_are_left_alone}
 use Rattle.ww_view.specs.declared.view.View.{View}
 use Rattle.ww_view.specs.View.{Knows, IsQuiet}
-use Rattle.ww_view.specs.Laws.{OthersKnow}
+use Rattle.ww_view.specs.Laws.{OthersKnow, QuietIsLeftAlone}
 
 -- a seat inside is inside of some lock
 some_lock : (i : ℕ) → i ≢ 0 → (n : ℕ) × (i ≡ suc n)
@@ -49,3 +49,7 @@ others_know c e v l can other k = let t = v.who in let alone = others_are_left_a
   sign = λ j is. sign_stays c e t j can l other (λ none. quiet_safe c v k (k.quiet (is ∙ ap Some none))) (k.sign j is);
   quiet = k.quiet;
 }
+
+pub quiet_is_left_alone : QuietIsLeftAlone
+quiet_is_left_alone c e v l can other k quiet =
+    (others_are_left_alone c e v.who l can other).unsigned (quiet_safe c v k quiet)

@@ -161,7 +161,8 @@ module _ (c : State) (v : View) (l : IsLawful c) (k : Knows c v) where
   pub shows_clear : MayClear v → Possible c (Clear v.who)
   shows_clear may = record {
     base = subst (λ x. 0 < x) k.itself.stamp may.context;
-    signs = ⊎_elim (λ x. inl (is_away x.0, bare_none x.1)) (λ x. let lives = lives_by_view x.1.0 x.2.0 x.1.1 x.2.1 x.0 x.2.2 in
+    signs = ⊎_elim (λ x. inl (is_away x.0, bare_none x.1))
+        (λ x. let lives = lives_by_view x.1.0 x.2.0 x.1.1 x.2.1 x.0 x.2.2 in
         inr (x.1.0, assumption (sym k.itself.kind ∙ x.0, is_inside x.1.0 x.1.1, lives))) may.why;
   }
 
@@ -192,7 +193,8 @@ module _ (c : State) (v : View) (l : IsLawful c) (k : Knows c v) where
             (λ p. lives_by_view n p.word may.inside p.seen mine (p.lives mine)) may.why;
         unsigned = ⊎_elim solo_unsigned (⊎_elim (k.sign 0)
             (λ bare. dite (ℕ_discrete (c.sign v.who) 0) (λ i. i)
-            (λ some. let own = outside dying v.who (omega arith) in absurd (bare_none bare own.0 own.1)))) (may.unsigned mine);
+            (λ some. let own = outside dying v.who (omega arith) in absurd (bare_none bare own.0 own.1))))
+            (may.unsigned mine);
       };
     };
   }

@@ -25,6 +25,11 @@ abbrev pub OthersKnow : Type 0
 OthersKnow = (c : State) (e : Event) (v : View) → IsLawful c → Possible c e → actor e ≢ v.who → Knows c v →
     Knows (after c e) v
 
+-- and nobody else signs the seat, where its view is quiet
+abbrev pub QuietIsLeftAlone : Type 0
+QuietIsLeftAlone = (c : State) (e : Event) (v : View) → IsLawful c → Possible c e → actor e ≢ v.who → Knows c v →
+    IsQuiet v → (after c e).sign v.who ≡ c.sign v.who
+
 -- its own event makes that of it
 abbrev pub ActorKnows : Type 0
 ActorKnows = (c : State) (e : Event) (v : View) → IsLawful c → SignedOwnsOutside c → Knows c v → actor e ≡ v.who →

@@ -76,8 +76,9 @@ pub record KnowsQueues (queue : ℕ → List Entry) (who own_inside : ℕ) (own_
   pub waits : (n : ℕ) → Stands (queue n) who → own_waits ≡ suc n
   pub waited : (n : ℕ) → own_waits ≡ suc n → Stands (queue n) who
 
--- All of it. Of owner words and signs it knows what no other seat can change: the word inside, where somebody waits; that
--- whom it found signed there is so, as long as it owes that sign; its own sign, and that this is 0 only while it is quiet.
+-- All of it. Of owner words and signs it knows what no other seat can change: the word inside, where somebody waits;
+-- that whom it found signed there is so, as long as it owes that sign; and its own sign. That this is 0 it knows only
+-- while it is quiet.
 pub record Knows (c : State) (v : View) : Type 0 where
   pub itself : KnowsItself c.kind c.locks c.seats c.stamp v.kind v.who v.stamp
   pub owned : KnowsOwned c.owner v.who v.owned

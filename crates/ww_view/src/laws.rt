@@ -1,10 +1,15 @@
 //! Laws of views: each function's contract is one.
 
-ghost use Rattle.ww_view.specs.Laws.{OthersKnow, ActorKnows, FoundIsKnown, KnowsAtStart, RestsAsAtStart, ShownIsPossible, ExitIsPossible, ViewDecides, SignIsTold, DeathIsShown, ShownDeathWasMet, WordsAreWritten, WordsAreTold, WordsAreValid};
+ghost use Rattle.ww_view.specs.Laws.{OthersKnow, QuietIsLeftAlone, ActorKnows, FoundIsKnown, KnowsAtStart, RestsAsAtStart, ShownIsPossible, ExitIsPossible, ViewDecides, SignIsTold, DeathIsShown, ShownDeathWasMet, WordsAreWritten, WordsAreTold, WordsAreValid};
 
 /// What a seat knows stays, whatever the others do.
 pub fn others_know()
     ensures { OthersKnow }
+{}
+
+/// Nobody else signs a seat whose view is quiet.
+pub fn quiet_is_left_alone()
+    ensures { QuietIsLeftAlone }
 {}
 
 /// After its own event a seat knows what that event makes of its view.
