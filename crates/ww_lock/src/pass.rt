@@ -42,6 +42,13 @@ impl Pass {
         self.hand.left
     }
 
+    /// How many commits it has made, which is the number of its next one.
+    pub fn commits(&self) -> u64
+        ensures { result ≡ length self.now.own }
+    {
+        self.hand.records.len() as u64
+    }
+
     /// One context or solo less; a spent pass is given back.
     fn spend(self) -> Result<Hand, Pass>
         ensures ok { IfOk result (λ h. (1 ≤ self.left) × (h ≡ record self { left = self.left - 1 }) × (h.held ≡ []) × (h.stamp ≡ 0)) }
