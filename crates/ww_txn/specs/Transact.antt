@@ -1,0 +1,56 @@
+-- What becomes of a transaction, and of the pass that it is given.
+use Rattle.std.specs.Prelude.{ℕ, ◌≡◌, ◌≤◌, ◌-◌, ◌∷◌, ◌++◌, [], length, Some, None}
+use Rattle.ww_plain.specs.Transaction.{Transaction, listed, FirstDouble}
+use Rattle.ww_plain.specs.Meaning.{answer_of}
+use Rattle.ww_lock.specs.declared.prepared.Receipt.{Receipt}
+use Rattle.ww_lock.specs.Holding.{Holding, AreBelow}
+use Rattle.ww_lock.specs.Making.{Covers}
+use Rattle.ww_users.specs.declared.fault.UserFault.{UserFault}
+use Rattle.ww_users.specs.declared.fault.UserFault.TheVariants as user
+use Rattle.ww_users.specs.Ways.{IsReturned}
+use Rattle.ww_txn.specs.declared.transacting.TxnFault.{TxnFault}
+use Rattle.ww_txn.specs.declared.transacting.TxnFault.TheVariants.{PassSpent, Already, NoMemory, NotHeld}
+
+-- Exactly one record more: that of this transaction, with the place, the number and the answer that the receipt tells. The
+-- pass holds no lock, and has one context less to start.
+pub record IsTransacted (s a : Holding) (txn : Transaction) (told : Receipt) : Type 0 where
+  pub some : 1 ≤ s.left
+  pub no_double : FirstDouble (listed txn) None
+  pub rest : a ≡ record s {
+    left = s.left - 1;
+    stamp = 0;
+    own = s.own ++ (told.place, record { caller = s.caller; seq = length s.own; transaction = txn; answer = answer_of told.reply }) ∷ [];
+    room = a.room;
+    held = [];
+    seen = a.seen;
+  }
+  pub above : AreBelow told.place s.own
+  pub seq : told.seq ≡ length s.own
+  pub size : length a.seen ≡ length s.seen
+
+-- why nothing was recorded: first it is looked whether the pass has a context left, then for a double
+abbrev pub IsTxnFault : Holding → Transaction → Holding → TxnFault → Type 0
+IsTxnFault s txn a PassSpent = (s.left ≡ 0) × (a ≡ s)
+IsTxnFault s txn a (Already n) = FirstDouble (listed txn) (Some n) × IsReturned s a
+IsTxnFault s txn a NoMemory = FirstDouble (listed txn) None × IsReturned s a
+IsTxnFault s txn a NotHeld = FirstDouble (listed txn) None × IsReturned s a
+
+abbrev pub txn_number : TxnFault → ℕ
+txn_number PassSpent = 4
+txn_number (Already n) = 9
+txn_number NoMemory = 6
+txn_number NotHeld = 8
+
+-- why a list wasn't locked, as why its transaction wasn't made
+abbrev pub fault_of : UserFault → TxnFault
+fault_of user.PassSpent = PassSpent
+fault_of (user.Already n) = Already n
+
+-- A state of this pass, for one of the contexts and solos that it had left, that holds all that the transaction depends on and
+-- may change.
+pub record IsReady (s : Holding) (txn : Transaction) (a : Holding) : Type 0 where
+  pub some : 1 ≤ s.left
+  pub no_double : FirstDouble (listed txn) None
+  pub rest : a ≡ record s { left = s.left - 1; stamp = a.stamp; held = a.held; seen = a.seen }
+  pub size : length a.seen ≡ length s.seen
+  pub covers : Covers a txn

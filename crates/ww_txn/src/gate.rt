@@ -1,0 +1,20 @@
+ghost use Rattle.std.specs.Prelude.{ℕ};
+
+/// Who is told of each transaction that commits, by the thread that makes it, and may hold that thread up. A transaction that is
+/// refused isn't told.
+pub trait Gate {
+    /// What holds once a gate was asked before the commit of this number of this caller.
+    ghost is_asked: { Self → ℕ → ℕ → Type 0 } = { λ _ _ _. Unit {0} };
+
+    /// What holds once a gate was told that the commit of this number of this caller is answered.
+    ghost is_answered: { Self → ℕ → ℕ → Type 0 } = { λ _ _ _. Unit {0} };
+
+    /// The transaction is prepared, and all its locks are held.
+    fn before_commit(&self, caller: u8, seq: u64)
+        ensures { is_asked self.now caller seq };
+
+    /// The transaction is committed, and all its locks were given back.
+    fn answered(&self, caller: u8, seq: u64)
+        requires { is_asked self.now caller seq }
+        ensures { is_answered self.now caller seq };
+}

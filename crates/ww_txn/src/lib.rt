@@ -1,0 +1,10 @@
+//! Transactions on a shared graph: each takes the locks of all that it depends on and may change, commits, and gives the locks
+//! back, in one call.
+#![tactic(auto)]
+
+mod gate;
+mod transacting;
+mod ways;
+
+pub use gate::Gate;
+pub use transacting::{TxnFault, transact};

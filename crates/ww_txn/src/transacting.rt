@@ -1,0 +1,155 @@
+ghost use Rattle.std.specs.Prelude.{◌≡◌, ◌<◌, length, IfOk, IfErr, OnOk};
+ghost use Rattle.ww_plain.specs.Transaction.{transaction_of, peek, Fits};
+ghost use Rattle.ww_lock.specs.Holding.{IsAtHome};
+ghost use Rattle.ww_txn.specs.Transact.{IsTransacted, IsTxnFault};
+
+use crate::gate::Gate;
+use crate::ways::lock_all;
+use std::sync::Wait;
+use ww_lock::{Pass, Receipt, World};
+use ww_plain::Txn;
+use ww_users::UserFault;
+
+/// Why a transaction wasn't made. Nothing is recorded then, nothing has changed, and the pass holds no lock.
+#[derive(Clone, Copy, Debug, PartialEq, Eq)]
+pub enum TxnFault {
+    /// The pass has no context left to start.
+    PassSpent,
+    /// The list names this node twice; it is the first one that does.
+    Already(u8),
+    /// A growth was refused.
+    NoMemory,
+    /// The locks were not as the pass had them. No run comes to this; see `docs/DESIGN.md`.
+    NotHeld,
+}
+
+impl TxnFault {
+    ghost use Rattle.std.specs.Prelude.{◌≡◌};
+    ghost use Rattle.ww_txn.specs.Transact.{txn_number};
+
+    pub fn number(self) -> u8
+        ensures { result ≡ txn_number self }
+    {
+        match self {
+            TxnFault::PassSpent => 4,
+            TxnFault::Already(_) => 9,
+            TxnFault::NoMemory => 6,
+            TxnFault::NotHeld => 8,
+        }
+    }
+}
+
+impl From<UserFault> for TxnFault {
+    ghost use Rattle.std.specs.Prelude.{◌≡◌};
+    ghost use Rattle.ww_txn.specs.Transact.{fault_of};
+
+    ghost from_gives = { λ fault told. told ≡ fault_of fault };
+
+    fn from(fault: UserFault) -> TxnFault {
+        match fault {
+            UserFault::PassSpent => TxnFault::PassSpent,
+            UserFault::Already(n) => TxnFault::Already(n),
+        }
+    }
+}
+
+/// Makes a transaction: takes its locks, commits it and gives all back, for one of the contexts and solos that the pass has
+/// left. The gate is told of it twice, where it commits. It is refused where the pass has none left; else where its list names a
+/// node twice; else for want of memory.
+pub fn transact<R: Wait, G: Gate>(
+    world: &World,
+    pass: Pass,
+    rt: &R,
+    gate: &G,
+    txn: Txn,
+) -> (Pass, Result<Receipt, TxnFault>)
+    requires home { IsAtHome pass world.now }
+    requires fits { Fits (length world.now.first) (transaction_of txn) }
+    ensures home { IsAtHome result.0 world.now }
+    ensures ok { IfOk result.1 (IsTransacted pass result.0 (transaction_of txn)) }
+    ensures err { IfErr result.1 (IsTxnFault pass (transaction_of txn) result.0) }
+    ensures gate { OnOk result.1 (G.is_answered gate.now pass.caller (length pass.own)) }
+{
+    match txn {
+        Txn::Peek(node) => transact_alone(world, pass, rt, gate, node),
+        txn => transact_together(world, pass, rt, gate, txn),
+    }
+}
+
+/// Makes a transaction in a context.
+fn transact_together<R: Wait, G: Gate>(
+    world: &World,
+    pass: Pass,
+    rt: &R,
+    gate: &G,
+    txn: Txn,
+) -> (Pass, Result<Receipt, TxnFault>)
+    requires home { IsAtHome pass world.now }
+    requires fits { Fits (length world.now.first) (transaction_of txn) }
+    ensures home { IsAtHome result.0 world.now }
+    ensures ok { IfOk result.1 (IsTransacted pass result.0 (transaction_of txn)) }
+    ensures err { IfErr result.1 (IsTxnFault pass (transaction_of txn) result.0) }
+    ensures gate { OnOk result.1 (G.is_answered gate.now pass.caller (length pass.own)) }
+{
+    let caller = pass.caller();
+    let seq = pass.commits();
+    let mut done = match lock_all(world, pass, rt, &txn) {
+        Ok(done) => done,
+        Err((pass, fault)) => return (pass, Err(TxnFault::from(fault))),
+    };
+    let Ok(prepared) = done.prepare(rt, world, txn) else {
+        let pass = done.unlock_all(rt, world).fini(rt, world);
+        return (pass, Err(TxnFault::NoMemory));
+    };
+    gate.before_commit(caller, seq);
+    match done.commit(rt, world, prepared) {
+        Ok((committed, receipt)) => {
+            let pass = committed.unlock_all(rt, world).fini(rt, world);
+            gate.answered(caller, seq);
+            (pass, Ok(receipt))
+        }
+        Err((done, _)) => {
+            let pass = done.unlock_all(rt, world).fini(rt, world);
+            (pass, Err(TxnFault::NotHeld))
+        }
+    }
+}
+
+/// Asks for the value of one node without a context.
+fn transact_alone<R: Wait, G: Gate>(
+    world: &World,
+    pass: Pass,
+    rt: &R,
+    gate: &G,
+    node: u8,
+) -> (Pass, Result<Receipt, TxnFault>)
+    requires home { IsAtHome pass world.now }
+    requires node { node < length world.now.first }
+    ensures home { IsAtHome result.0 world.now }
+    ensures ok { IfOk result.1 (IsTransacted pass result.0 (peek node)) }
+    ensures err { IfErr result.1 (IsTxnFault pass (peek node) result.0) }
+    ensures gate { OnOk result.1 (G.is_answered gate.now pass.caller (length pass.own)) }
+{
+    let caller = pass.caller();
+    let seq = pass.commits();
+    let mut solo = match pass.lock_solo(rt, world, node) {
+        Ok(solo) => solo,
+        Err(pass) => return (pass, Err(TxnFault::PassSpent)),
+    };
+    let Ok(prepared) = solo.prepare(rt, world, Txn::Peek(node)) else {
+        let pass = solo.unlock(rt, world);
+        return (pass, Err(TxnFault::NoMemory));
+    };
+    gate.before_commit(caller, seq);
+    match solo.commit(rt, world, prepared) {
+        Ok((committed, receipt)) => {
+            let pass = committed.unlock(rt, world);
+            gate.answered(caller, seq);
+            (pass, Ok(receipt))
+        }
+        Err((solo, _)) => {
+            let pass = solo.unlock(rt, world);
+            (pass, Err(TxnFault::NotHeld))
+        }
+    }
+}
