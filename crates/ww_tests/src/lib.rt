@@ -15,4 +15,6 @@ mod scripts;
 #[cfg(test)]
 mod threads;
 #[cfg(test)]
+mod users;
+#[cfg(test)]
 mod words;

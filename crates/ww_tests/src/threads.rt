@@ -199,7 +199,7 @@ fn take_all<R: Wait>(
 }
 
 /// Whether the transaction can be prepared with these locks.
-fn is_possible<R: Wait>(rt: &R, world: &World, done: &Done, txn: &Txn) -> bool
+pub(crate) fn is_possible<R: Wait>(rt: &R, world: &World, done: &Done, txn: &Txn) -> bool
     requires home { IsAtHome done.now world.now }
     ensures fits { IsTrue result → Fits (length done.now.seen) (transaction_of txn.now) }
     ensures no_double { IsTrue result → HasNoDouble (transaction_of txn.now) }
@@ -209,7 +209,12 @@ fn is_possible<R: Wait>(rt: &R, world: &World, done: &Done, txn: &Txn) -> bool
 }
 
 /// Commits a transaction, if that is possible, and gives all back.
-fn commit<R: Wait>(rt: &R, world: &World, mut done: Done, txn: Txn) -> (Pass, Option<Receipt>)
+pub(crate) fn commit<R: Wait>(
+    rt: &R,
+    world: &World,
+    mut done: Done,
+    txn: Txn,
+) -> (Pass, Option<Receipt>)
     requires home { IsAtHome done world.now }
     ensures home { IsAtHome result.0 world.now }
 {
