@@ -16,5 +16,6 @@ mod scripts;
 mod threads;
 #[cfg(test)]
 mod users;
+mod transactions;
 #[cfg(test)]
 mod words;
