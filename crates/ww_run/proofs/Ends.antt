@@ -1,5 +1,5 @@
 -- How a run ends, by what is due.
-use Rattle.std.proofs.Common.{ℕ, List, Option, refl, sym, subst}
+use Rattle.std.proofs.Common.{ℕ, List, Option, inl, inr, refl, sym, subst}
 use Rattle.ww_parts.specs.declared.fault.InputFault.TheVariants.{NotJson, BadKey, BadNumber, BadGraph, BadWord, BadVersion, NoMemory, TooLong, BadType}
 use Rattle.ww_run.specs.declared.workers.RunFault.TheVariants as run
 use Rattle.ww_run.specs.declared.run.Refusal.{Refusal}
@@ -34,13 +34,18 @@ due_refused left rest input (Input BadWord) r h =
     (input, r, record { fault = BadWord; own = (λ e. absurd cc); read = h (λ e. absurd cc); text_is = refl })
 due_refused left rest input (Input BadVersion) r h =
     (input, r, record { fault = BadVersion; own = (λ e. absurd cc); read = h (λ e. absurd cc); text_is = refl })
-due_refused left rest input (Input NoMemory) r h = ((input, r.few, r.taken), refl)
+due_refused left rest input (Input NoMemory) r h = inl ((input, r.few, r.taken), refl)
 due_refused left rest input (Input TooLong) r h =
     (input, r, record { fault = TooLong; own = (λ e. absurd cc); read = h (λ e. absurd cc); text_is = refl })
 due_refused left rest input (Input BadType) r h =
     (input, r, record { fault = BadType; own = (λ e. absurd cc); read = h (λ e. absurd cc); text_is = refl })
-due_refused left rest input (Run run.NoMemory) r h = ((input, r.few, r.taken), refl)
-due_refused left rest input (Run run.NoThread) r h = absurd h
+due_refused left rest input (Run run.NoMemory) r h = inl ((input, r.few, r.taken), refl)
+due_refused left rest input (Run run.NoThread) r h =
+    inr (input, r, record { scripts = h (λ e. absurd cc); fault = run.NoThread; text_is = refl })
+due_refused left rest input (Run run.NotHeld) r h =
+    inr (input, r, record { scripts = h (λ e. absurd cc); fault = run.NotHeld; text_is = refl })
+due_refused left rest input (Run run.Mismatch) r h =
+    inr (input, r, record { scripts = h (λ e. absurd cc); fault = run.Mismatch; text_is = refl })
 
 pub runs_refused : (left rest held holds : Option (List ℕ)) (input : List ℕ) (refusal : Refusal) (status : Status)
     → IsRead left rest input → IsRefusedFor input refusal
@@ -53,4 +58,4 @@ runs_refused left rest held holds input refusal status r h w = runs_due left res
 pub runs_stopped : (left rest held holds : Option (List ℕ)) (status : Status) → ConsumesSome most_read left rest
     → Writes held holds Stopped (line_of 16) status → Runs left rest held holds status
 runs_stopped left rest held holds status r w = runs_due left rest held holds Stopped (line_of 16) status
-    (r, refl) w
+    (inl (r, refl)) w

@@ -1,3 +1,5 @@
 pub mod Bytes
-pub mod Outcomes
+pub mod Scripts
+pub mod Starts
+pub mod Ready
 pub mod Ends

@@ -11,12 +11,14 @@ use Rattle.ww_script.specs.Replay.{IsTextOf}
 use Rattle.ww_script.specs.Reading.{reading}
 use Rattle.ww_script.specs.Outcome.{Told, IsOutcome}
 use Rattle.ww_script.specs.Text.{outcome_lines}
+use Rattle.ww_run.specs.declared.workers.RunFault.{RunFault}
 use Rattle.ww_run.specs.declared.workers.RunFault.TheVariants as run
 use Rattle.ww_run.specs.declared.run.Refusal.{Refusal}
 use Rattle.ww_run.specs.declared.run.Refusal.TheVariants.{Input, Run}
 use Rattle.ww_run.specs.declared.run.Status.{Status}
 use Rattle.ww_run.specs.declared.run.Status.TheVariants.{Ended, Refused, ReadFailed, WriteFailed, Stopped}
 use Rattle.ww_run.specs.Streams.{AppendsFront, ConsumesSome}
+use Rattle.ww_run.specs.Workers.{run_number}
 
 -- one byte more than an input may have
 abbrev pub most_read : ℕ
@@ -33,8 +35,7 @@ exit_of Stopped = 3
 -- the number of a refusal's line
 abbrev pub refusal_number : Refusal → ℕ
 refusal_number (Input fault) = number_of fault
-refusal_number (Run run.NoMemory) = 16
-refusal_number (Run run.NoThread) = 19
+refusal_number (Run fault) = run_number fault
 
 -- how a run ends that writes a refusal's line
 abbrev pub status_of : Refusal → Status
@@ -64,11 +65,15 @@ pub record IsReplayText (input text : List ℕ) : Type 0 where
 abbrev pub IsTextFor : List ℕ → List ℕ → Type 0
 IsTextFor input text = IsOutcomeText input text ⊎ IsReplayText input text
 
--- The input has the fault, where it is refused for one. No run starts a thread yet, so none is given up for want of one.
+-- the input asks for scripts
+abbrev pub AsksForScripts : List ℕ → Type 0
+AsksForScripts input = (plan : Plan) × (reading input ≡ Ok (Scripts plan))
+
+-- The input has the fault, where it is refused for one. Where it is given up for anything but want of memory, it asks for
+-- scripts: nothing else starts threads.
 abbrev pub IsRefusedFor : List ℕ → Refusal → Type 0
 IsRefusedFor input (Input fault) = fault ≢ NoMemory → reading input ≡ Err fault
-IsRefusedFor input (Run run.NoMemory) = Unit {0}
-IsRefusedFor input (Run run.NoThread) = ⊥
+IsRefusedFor input (Run fault) = fault ≢ run.NoMemory → AsksForScripts input
 
 -- the input has a fault, which want of memory isn't, and this is the fault's line
 pub record IsRefusalLine (input text : List ℕ) : Type 0 where
@@ -77,9 +82,11 @@ pub record IsRefusalLine (input text : List ℕ) : Type 0 where
   pub read : reading input ≡ Err fault
   pub text_is : text ≡ line_of (number_of fault)
 
--- the line that says that memory was refused; that of a thread joins it once runs start threads
-abbrev pub IsStopLine : List ℕ → Type 0
-IsStopLine text = text ≡ line_of 16
+-- the input asks for scripts, and this is the line that says why they were given up
+pub record IsGivenUpLine (input text : List ℕ) : Type 0 where
+  pub scripts : AsksForScripts input
+  pub fault : RunFault
+  pub text_is : text ≡ line_of (run_number fault)
 
 -- these bytes were read: all that there were, unless that was one more than an input may have
 pub record IsRead (left rest : Option (List ℕ)) (input : List ℕ) : Type 0 where
@@ -87,11 +94,13 @@ pub record IsRead (left rest : Option (List ℕ)) (input : List ℕ) : Type 0 wh
   pub taken : Consumes left rest input
   pub whole : length input < most_read → IsAtEnd rest
 
--- what is to be written, and how the run ends where it is
+-- What is to be written, and how the run ends where it is. Memory may be refused before all is read.
 abbrev pub IsDue : Option (List ℕ) → Option (List ℕ) → Status → List ℕ → Type 0
 IsDue left rest Ended text = (input : List ℕ) × IsRead left rest input × IsTextFor input text
 IsDue left rest Refused text = (input : List ℕ) × IsRead left rest input × IsRefusalLine input text
-IsDue left rest Stopped text = ConsumesSome most_read left rest × IsStopLine text
+IsDue left rest Stopped text =
+    (ConsumesSome most_read left rest × (text ≡ line_of 16))
+    ⊎ ((input : List ℕ) × IsRead left rest input × IsGivenUpLine input text)
 IsDue left rest ReadFailed text = ⊥
 IsDue left rest WriteFailed text = ⊥
 

@@ -4,6 +4,7 @@
 
 mod run;
 mod streams;
+mod worker;
 mod workers;
 
 use run::Status;
@@ -20,5 +21,7 @@ fn main(rt: HostRuntime) -> ExitCode {
     ExitCode::from(status.code())
 }
 
+#[cfg(test)]
+mod gates;
 #[cfg(test)]
 mod tests;

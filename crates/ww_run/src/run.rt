@@ -1,4 +1,4 @@
-ghost use Rattle.std.specs.Prelude.{◌≡◌, ◌≤◌, OnOk, OnErr, IfOk, IfErr};
+ghost use Rattle.std.specs.Prelude.{◌≡◌, ◌≢◌, ◌≤◌, OnOk, OnErr, IfOk, IfErr};
 ghost use Rattle.std.specs.Io.KnownBytes.{Appends};
 ghost use Rattle.ww_run.specs.declared.run.Status.TheVariants.{Ended};
 ghost use Rattle.ww_run.specs.Streams.{AppendsFront};
@@ -9,7 +9,10 @@ use crate::workers::{RunFault, run_scripts};
 use std::alloc::{AllocError, Global};
 use std::io;
 use std::io::{Read, Write};
+use std::sync::Wait;
+use std::thread::Threads;
 use ww_script::{Input, InputFault, outcome_text, read_input, refusal_line, schedule_text};
+use ww_txn::Gate;
 
 /// One byte more than an input may have: of a longer one no more needs to be read.
 const MOST: usize = 1_048_577;
@@ -25,7 +28,7 @@ pub enum Status {
     ReadFailed,
     /// The writer failed. It has a front of what was to be written.
     WriteFailed,
-    /// Memory was refused, and the line that says so was written.
+    /// Memory or a thread was refused, or the locks broke their rules, and the line that says so was written.
     Stopped,
 }
 
@@ -91,12 +94,13 @@ impl Refusal {
     /// The number of its line.
     fn number(self) -> u8
         ensures number { result ≡ refusal_number self }
-        ensures least { 10 ≤ result }
+        ensures least { 7 ≤ result }
+        ensures known { result ≢ 9 }
         ensures most { result ≤ 19 }
     {
         match self {
             Refusal::Input(fault) => fault.number(),
-            Refusal::Run(fault) => fault as u8,
+            Refusal::Run(fault) => fault.number(),
         }
     }
 
@@ -111,14 +115,27 @@ impl Refusal {
     }
 }
 
+/// The program's gate: it keeps no transaction waiting.
+pub(crate) struct Open;
+
+impl Gate for Open {
+    fn before_commit(&self, _caller: u8, _seq: u64) {}
+
+    fn answered(&self, _caller: u8, _seq: u64) {}
+}
+
 /// The text of what the input asks for: of an outcome of its scripts, or of its schedule's replay.
-fn text_of<H>(rt: &H, alloc: Global, input: &[u8]) -> Result<Vec<u8>, Refusal>
+fn text_of<H: Threads + Wait + Sync>(
+    rt: &H,
+    alloc: Global,
+    input: &[u8],
+) -> Result<Vec<u8>, Refusal>
     ensures ok { IfOk result (λ text. IsTextFor input.now text.items) }
     ensures err { IfErr result (IsRefusedFor input.now) }
 {
     match read_input(alloc, input)? {
         Input::Scripts(scripts) => {
-            let outcome = run_scripts(rt, alloc, scripts)?;
+            let outcome = run_scripts(rt, alloc, scripts, &Open)?;
             Ok(outcome_text(alloc, &outcome)?)
         }
         Input::Schedule(schedule) => Ok(schedule_text(alloc, &schedule)?),
@@ -127,7 +144,8 @@ fn text_of<H>(rt: &H, alloc: Global, input: &[u8]) -> Result<Vec<u8>, Refusal>
 
 /// Writes a refusal's line.
 fn write_line<W: Write>(writer: &mut W, number: u8) -> io::Result<()>
-    requires least { 10 ≤ number }
+    requires least { 7 ≤ number }
+    requires known { number ≢ 9 }
     requires most { number ≤ 19 }
     ensures ok { OnOk result (Appends (W.contents writer.old) (W.contents writer.new) (line_of number)) }
     ensures err { OnErr result (AppendsFront (W.contents writer.old) (W.contents writer.new) (line_of number)) }
@@ -158,7 +176,12 @@ fn refuse<W: Write>(writer: &mut W, refusal: Refusal) -> Status
 
 /// Reads an input, runs its scripts or replays its schedule, and writes the text of what comes of it, or the line that says
 /// why there is none.
-pub fn run<H, R: Read, W: Write>(rt: &H, alloc: Global, reader: &mut R, writer: &mut W) -> Status
+pub fn run<H: Threads + Wait + Sync, R: Read, W: Write>(
+    rt: &H,
+    alloc: Global,
+    reader: &mut R,
+    writer: &mut W,
+) -> Status
     ensures { Runs (R.remaining reader.old) (R.remaining reader.new) (W.contents writer.old) (W.contents writer.new) result }
 {
     match read_front(alloc, reader, MOST) {

@@ -1,24 +1,51 @@
-ghost use Rattle.std.specs.Prelude.{◌≡◌, ◌≤◌, ◌++◌, length, map, IfOk, IfErr};
-ghost use Rattle.std.specs.List.{AllByRecursion};
-ghost use Rattle.ww_plain.specs.Graph.{IsGraph};
-ghost use Rattle.ww_plain.specs.Transaction.{transaction_of, Fits};
-ghost use Rattle.ww_script.specs.Outcome.{said_of, IsOutcome};
-ghost use Rattle.ww_run.specs.Workers.{IsCarriedOut};
+ghost use Rattle.std.specs.Prelude.{◌≡◌, ◌≤◌, ◌<◌, ℕ, length, map, slice_index_or, IfOk, IfSome};
+ghost use Rattle.ww_plain.specs.History.{history_of};
+ghost use Rattle.ww_script.specs.Scripts.{script_lists};
+ghost use Rattle.ww_script.specs.Outcome.{places_of, IsOutcome};
+ghost use Rattle.ww_lock.specs.Holding.{AreAtHome};
+ghost use Rattle.ww_lock.specs.Closed.{missing_of, IsClosed};
 ghost use Rattle.ww_run.specs.declared.workers.RunFault.TheVariants.{NoMemory};
+ghost use Rattle.ww_plain.specs.Transaction.{transaction_of};
+ghost use Rattle.ww_run.specs.Workers.{run_number, IsReady, IsWork, AreReady, AreWorks, IsHighest, AreParted};
 
+use crate::worker::{Work, WorkOf, run_script};
 use std::alloc::{AllocError, AllocFailed, Global};
+use std::snapshot::Snapshot;
+use std::sync::Wait;
+use std::thread;
+use std::thread::Threads;
 use thiserror::Error;
-use ww_plain::{Graph, Txn, apply, first_double};
+use ww_lock::{CloseFault, History, Pass, World};
+use ww_plain::{Record, Txn};
 use ww_script::{Outcome, ScriptAnswer, Scripts};
+use ww_txn::Gate;
 
-/// Why scripts, or the text of a schedule's replay, were given up. The numbers are those of the refusal lines.
+/// Why scripts, or the text of a schedule's replay, were given up. The numbers are those of the refusal lines. Of several
+/// reasons the one with the highest number is told.
 #[derive(Clone, Copy, Debug, PartialEq, Eq, Error)]
 pub enum RunFault {
+    /// The passes' own lists were not the parts of the one history. No run comes to this while the locks keep their rules.
+    #[error("mismatch")]
+    Mismatch = 7,
+    /// The locks were not as a pass had them when it committed. No run comes to this while the locks keep their rules.
+    #[error("not held")]
+    NotHeld = 8,
     #[error("no memory")]
     NoMemory = 16,
-    /// For the day when each script has a thread of its own: until then no run ends with it.
+    /// A worker couldn't be started.
     #[error("no thread")]
     NoThread = 19,
+}
+
+impl RunFault {
+    ghost use Rattle.ww_run.specs.Workers.{run_number};
+
+    /// The number of its refusal line.
+    pub fn number(self) -> u8
+        ensures { result ≡ run_number self }
+    {
+        self as u8
+    }
 }
 
 impl From<AllocError> for RunFault {
@@ -37,57 +64,169 @@ impl<T: Drop> From<AllocFailed<T>> for RunFault {
     }
 }
 
-/// Runs one script to its end, and adds the places of what it committed, each by the script and its seq there. A
-/// transaction that lists a node twice is told so, and takes no place.
-fn run_script(
-    alloc: Global,
-    script: u8,
-    txns: &[Txn],
-    graph: &mut Graph,
-    places: &mut Vec<(u8, u64)>,
-) -> Result<Vec<ScriptAnswer>, AllocError>
-    requires graph { IsGraph graph.old }
-    requires fits { AllByRecursion (λ txn. Fits (length graph.old) (transaction_of txn)) txns.now }
-    ensures { IfOk result (λ answers.
-        IsCarriedOut script (map transaction_of txns.now) (map said_of answers.items) graph.old graph.new places.old.items places.new.items) }
+/// How many transactions the longest script has, and 1 if none has any.
+fn budget(scripts: &[Vec<Txn>]) -> u32
+    requires { (i : ℕ) (d : _) → i < length scripts.now → length (slice_index_or scripts.now i d).items ≤ 10000 }
+    ensures some { 1 ≤ result }
+    ensures each { (i : ℕ) (d : _) → i < length scripts.now → length (slice_index_or scripts.now i d).items ≤ result }
 {
-    let mut answers = Vec::new(alloc);
-    let mut seq = 0;
-    for txn in txns {
-        let answer = match first_double(txn) {
-            Some(node) => ScriptAnswer::Already(node),
-            None => {
-                let reply = apply(alloc, graph, txn)?;
-                places.push((script, seq))?;
-                seq += 1;
-                ScriptAnswer::Reply(reply)
-            }
-        };
-        answers.push(answer)?;
+    let mut most = 1;
+    for txns in scripts {
+        most = most.max(txns.len());
     }
-    Ok(answers)
+    most as u32
 }
 
-/// Runs the scripts, one after another. The runtime is for the day when each has a thread of its own.
-pub fn run_scripts<H>(_rt: &H, alloc: Global, scripts: Scripts) -> Result<Outcome, RunFault>
-    ensures outcome { IfOk result (λ outcome. IsOutcome scripts outcome) }
-    ensures memory { IfErr result (λ fault. fault ≡ RunFault.NoMemory) }
+/// Starts a worker for each script, and joins all of them. If one can't be started, the others still end their scripts.
+fn work<R: Threads + Wait + Sync, G: Gate + Sync>(
+    rt: &R,
+    alloc: Global,
+    world: &World,
+    passes: Vec<Pass>,
+    scripts: Vec<Vec<Txn>>,
+    gate: &G,
+) -> Result<Vec<Work>, RunFault>
+    requires { AreReady world.now (script_lists scripts) passes.items }
+    ensures { IfOk result (λ works. AreWorks world.now (script_lists scripts) works.items) }
+{
+    thread::scope(
+        thread::scope_env(),
+        rt,
+        |scope| -> Result<Vec<Work>, RunFault>
+            requires { AreReady world.now (script_lists scripts) passes.items }
+            ensures { IfOk result (λ works. AreWorks world.entry.now (script_lists scripts) works.items) }
+        {
+            let mut workers = Vec::with_capacity(alloc, passes.len())?;
+            let mut is_short = false;
+            let mut rest = scripts.into_iter();
+            for pass in passes {
+                let Some(txns) = rest.next() else {
+                    unreachable!()
+                };
+                let promise = WorkOf {
+                    world,
+                    caller: pass.caller(),
+                    txns: Snapshot::of(&txns),
+                };
+                let started = scope.spawn_with(
+                    promise,
+                    move || -> Work
+                        requires { IsReady world.now pass.caller (map transaction_of txns.items) pass }
+                        ensures { IsWork world.entry.now pass.caller (map transaction_of txns.items) result }
+                    { run_script(rt, alloc, world, pass, gate, txns) },
+                );
+                match started {
+                    Ok(worker) => workers.push_reserved(worker),
+                    Err(_refused) => is_short = true,
+                }
+            }
+            let works = thread::join_promised(rt, workers);
+            if is_short {
+                return Err(RunFault::NoThread);
+            }
+            Ok(works?)
+        },
+    )
+}
+
+/// The one of two faults, the first of which may be none, that has the higher number.
+fn higher(most: Option<RunFault>, fault: RunFault) -> RunFault
+    ensures this { run_number fault ≤ run_number result }
+    ensures that { IfSome most (λ other. run_number other ≤ run_number result) }
+{
+    match most {
+        Some(other) if other.number() > fault.number() => other,
+        _ => fault,
+    }
+}
+
+/// The fault of the workers that stopped which has the highest number.
+fn highest(works: &[Work]) -> Option<RunFault>
+    ensures { IsHighest works.now result }
+{
+    let mut most = None;
+    for work in works {
+        match &work.told {
+            Ok(_) => {}
+            Err(fault) => most = Some(higher(most, *fault)),
+        }
+    }
+    most
+}
+
+/// Parts what the workers gave back.
+fn parted(alloc: Global, works: Vec<Work>) -> Result<(Vec<Pass>, Vec<Vec<ScriptAnswer>>), RunFault>
+    ensures { IfOk result (λ r. AreParted works.items r.0.items r.1.items) }
+{
+    if let Some(fault) = highest(&works) {
+        return Err(fault);
+    }
+    let mut passes = Vec::new(alloc);
+    let mut replies = Vec::new(alloc);
+    for Work { pass, told } in works {
+        passes.push(pass)?;
+        replies.push(told?)?;
+    }
+    Ok((passes, replies))
+}
+
+/// Closes the world, with all of its passes.
+fn close(world: World, passes: Vec<Pass>) -> Result<History, RunFault>
+    requires home { AreAtHome passes.items world }
+    requires there { missing_of world.passes passes.items ≡ 0 }
+    ensures { IfOk result (IsClosed world passes.items) }
+{
+    match world.close(passes) {
+        Ok(history) => Ok(history),
+        Err((_, _, fault)) => match fault {
+            CloseFault::Mismatch => Err(RunFault::Mismatch),
+            CloseFault::NoMemory => Err(RunFault::NoMemory),
+            CloseFault::Missing(_) => unreachable!(),
+        },
+    }
+}
+
+/// Whose each place is, and which of that caller's.
+fn places(alloc: Global, records: &[Record]) -> Result<Vec<(u8, u64)>, AllocError>
+    ensures { IfOk result (λ places. places.items ≡ places_of (history_of records.now)) }
+{
+    let mut places = Vec::new(alloc);
+    for record in records {
+        places.push((record.caller, record.seq))?;
+    }
+    Ok(places)
+}
+
+/// Runs the scripts, each in a thread of its own.
+pub fn run_scripts<R: Threads + Wait + Sync, G: Gate + Sync>(
+    rt: &R,
+    alloc: Global,
+    scripts: Scripts,
+    gate: &G,
+) -> Result<Outcome, RunFault>
+    ensures { IfOk result (λ outcome. IsOutcome scripts outcome) }
 {
     let Scripts {
-        kind: _,
+        kind,
         history,
-        mut graph,
+        graph,
         scripts,
     } = scripts;
-    let mut replies = Vec::new(alloc);
-    let mut places = Vec::new(alloc);
-    for (script, txns) in scripts.iter().enumerate() {
-        let answers = run_script(alloc, script as u8, txns, &mut graph, &mut places)?;
-        replies.push(answers)?;
-    }
+    let budget = budget(&scripts);
+    let Ok((world, passes)) = World::open(alloc, kind, graph, scripts.len() as u8, budget) else {
+        return Err(RunFault::NoMemory);
+    };
+    let works = work(rt, alloc, &world, passes, scripts, gate)?;
+    let (passes, replies) = parted(alloc, works)?;
+    let closed = close(world, passes)?;
+    let places = if history {
+        Some(places(alloc, &closed.records)?)
+    } else {
+        None
+    };
     Ok(Outcome {
         replies,
-        places: history.then_some(places),
-        graph,
+        places,
+        graph: closed.graph,
     })
 }

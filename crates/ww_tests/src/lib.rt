@@ -15,7 +15,8 @@ mod scripts;
 #[cfg(test)]
 mod threads;
 #[cfg(test)]
-mod users;
 mod transactions;
+#[cfg(test)]
+mod users;
 #[cfg(test)]
 mod words;

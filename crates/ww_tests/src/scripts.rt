@@ -19,7 +19,7 @@ fn scripts_are_read(rt: HostRuntime) -> Result<(), Fail> {
     Ok(())
 }
 
-/// The text of an outcome that the program doesn't come to today: the scripts' parts in it take turns.
+/// The text of an outcome in which the scripts' parts take turns.
 #[test]
 fn an_outcome_has_its_text(rt: HostRuntime) -> Result<(), Fail> {
     let alloc = rt.alloc();
@@ -41,8 +41,9 @@ fn an_outcome_has_its_text(rt: HostRuntime) -> Result<(), Fail> {
     Ok(())
 }
 
-/// The line that the program has no cause to print yet.
+/// The lines that no run of the program comes to.
 #[test]
-fn want_of_a_thread_has_its_line(rt: HostRuntime) {
-    assert!(rt; refusal_line(19) == "refused 19 no thread");
+fn broken_locks_have_their_lines(rt: HostRuntime) {
+    assert!(rt; refusal_line(7) == "refused 7 mismatch");
+    assert!(rt; refusal_line(8) == "refused 8 not held");
 }

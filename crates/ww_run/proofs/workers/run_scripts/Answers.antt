@@ -1,38 +1,50 @@
-use Rattle.std.proofs.Common.{◌++◌, ◌∷◌, [], length, map, take, ap, ◌∙◌, sym}
-use Rattle.std.proofs.lemmas.List.{map_push, map_more, take_all}
-use Rattle.ww_plain.specs.Transaction.{transaction_of}
-use Rattle.ww_script.specs.Outcome.{said_of}
-use Rattle.ww_run.proofs.Outcomes.{length_taken, step_script, script_fits, places_told, outcome_of}
+use Rattle.std.proofs.Common.{◌≡◌, ℕ, ◌<◌, ◌≤◌, List, length, get_or, Some, None, if◌then◌else◌, refl, ap, subst, ◌∙◌, rules}
+use Rattle.std.specs.Global.{Vec}
+use Rattle.ww_plain.specs.declared.transaction.Txn.{Txn}
+use Rattle.ww_plain.specs.History.{history_of}
+use Rattle.ww_script.specs.Scripts.{script_lists}
+use Rattle.ww_script.specs.Outcome.{place_list, places_of}
+use Rattle.ww_run.proofs.Scripts.{all_worked, all_there, outcome_of}
+use Rattle.ww_run.proofs.Ready.{few_each, same_count, are_ready}
 use Rattle.ww_run.proofs.workers.run_scripts.Goals as goal
+use Rattle.ww_run.proofs.workers.run_scripts.Goals.{then-history+in_ok-places, else-history}
 
-pub run_script-requires-clause-fits : goal.run_script-requires-clause-fits
-run_script-requires-clause-fits g c =
-    let same = c.deref-txns-items.ensures.value in
-    script_fits (length c.scripts.inside.graph) _ c.deref-txns-items.result.now c.loop-script.script
-    c.txns-item.result c.deref.result.now c.loop-script.invariant.sized
-    (rw same c.scripts.invariant.each) c.loop-script-test.true c.txns-item.is c.deref.ensures.value
+pub budget-budget-requires : goal.budget-budget-requires
+budget-budget-requires g c = rw c.deref.ensures.value
+    (few_each (length c.scripts.inside.graph) c.scripts.inside.scripts.items c.scripts.invariant.each)
 
-pub loop-script-preserved : goal.loop-script-preserved
-loop-script-preserved g c =
-    let i = c.loop-script.script in
-    let items = c.deref-txns-items.result.now in
-    let front = map (λ s. map transaction_of s.items) (take i items) in
-    let scripts_more = map_more (λ s. map transaction_of s.items) items i c.txns-item.result c.loop-script-test.true
-    ∙ ap (λ s. front ++ map transaction_of s.items ∷ []) (sym c.txns-item.is)
-    ∙ ap (λ txns. front ++ map transaction_of txns ∷ []) (sym c.deref.ensures.value) in
-    let replies = c.loop-script.replies.items in
-    let replies_more = ap (map (λ answers. map said_of answers.items)) c.in_ok-push.ensures.items
-    ∙ map_push (λ answers. map said_of answers.items) replies c.in_ok-answers.answers in
-    step_script front _ (map (λ answers. map said_of answers.items) replies) _ c.scripts.inside.graph
-    c.loop-script.graph _ c.loop-script.places.items _ i (map transaction_of c.deref.result.now)
-    (map said_of c.in_ok-answers.answers.items)
-    scripts_more replies_more (length_taken (λ s. map transaction_of s.items) items i c.loop-script-test.true)
-    c.loop-script.invariant c.in_ok-answers.ensures
+pub work-requires-after_bounds : goal.work-requires-after_bounds
+work-requires-after_bounds g c = λ κs within.
+    let scripts = c.scripts.inside.scripts.items in
+    are_ready c.in-Ok.world scripts c.in-Ok.passes.items c.scripts.inside.graph _ c.budget-budget.result c.in-Ok.ensures.ok
+    (grind rules) c.scripts.invariant.each
+    (subst (λ (xs : List (Vec Txn)). (i : ℕ) (d : Vec Txn) → i < length xs → length (get_or xs i d).items ≤ c.budget-budget.result)
+    c.deref.ensures.value c.budget-budget.ensures.each)
 
-pub returns-clause-outcome : goal.returns-clause-outcome
-returns-clause-outcome g c =
-    let items = c.deref-txns-items.result.now in
-    let all = ap (map (λ s. map transaction_of s.items))
-    (take_all c.loop-script.script items c.loop-script-test.false ∙ c.deref-txns-items.ensures.value) in
-    outcome_of _ c.args.scripts _ _ c.loop-script.places.items c.scripts.view_is all c.loop-script.invariant
-    (places_told _ _ c.loop-script.places c.then_some.ensures)
+pub close-requires-clause-home : goal.close-requires-clause-home
+close-requires-clause-home g c = (all_worked c.in-Ok.world (script_lists c.scripts.inside.scripts) c.in_ok-works.works.items
+    c.in_ok-passes.passes.items c.in_ok-passes.replies.items c.in_ok-works.ensures c.in_ok-passes.ensures).1
+
+pub close-requires-clause-there : goal.close-requires-clause-there
+close-requires-clause-there g c =
+    let worked = all_worked c.in-Ok.world (script_lists c.scripts.inside.scripts) c.in_ok-works.works.items
+    c.in_ok-passes.passes.items c.in_ok-passes.replies.items c.in_ok-works.ensures c.in_ok-passes.ensures in
+    all_there c.in-Ok.world.passes _ _ c.in_ok-passes.passes.items
+    (same_count c.in-Ok.world c.scripts.inside.scripts.items c.in-Ok.passes.items c.scripts.inside.graph _ _ c.in-Ok.ensures.ok
+    (grind rules)) worked.0
+
+pub returns : goal.returns
+returns g c =
+    let worked = all_worked c.in-Ok.world (script_lists c.scripts.inside.scripts) c.in_ok-works.works.items
+    c.in_ok-passes.passes.items c.in_ok-passes.replies.items c.in_ok-works.ensures c.in_ok-passes.ensures in
+    let history = history_of c.in_ok-closed.closed.records.items in
+    let places : place_list c.if-history.places ≡ if◌then◌else◌ c.scripts.inside.history (Some (places_of history)) None =
+    elim c.if-history.branch [
+      | then-history+in_ok-places w ↦ rw (w.places-is, w.if-history.true)
+          (ap Some (w.in_ok-places.ensures ∙ ap (λ rs. places_of (history_of rs)) w.deref-then-history.ensures.value))
+      | else-history w ↦ rw (w.places-is, w.if-history.false) refl
+    ] in
+    outcome_of _ c.args.scripts _ c.in-Ok.world c.in_ok-passes.passes.items c.in_ok-closed.closed c.scripts.view_is
+    c.in-Ok.ensures.ok.first_graph
+    (same_count c.in-Ok.world c.scripts.inside.scripts.items c.in-Ok.passes.items c.scripts.inside.graph _ _ c.in-Ok.ensures.ok
+    (grind rules)) worked.0 c.in_ok-closed.ensures refl places

@@ -1,0 +1,22 @@
+use Rattle.std.proofs.Common.{ap, ◌∙◌, map, subst, Result, IfOk}
+use Rattle.std.proofs.lemmas.List.{map_push}
+use Rattle.ww_plain.specs.Transaction.{transaction_of}
+use Rattle.ww_outcome.specs.declared.outcome.ScriptAnswer.{ScriptAnswer}
+use Rattle.ww_script.specs.Outcome.{said_of}
+use Rattle.ww_run.specs.declared.workers.RunFault.{RunFault}
+use Rattle.ww_run.specs.Workers.{IsTold}
+use Rattle.ww_run.proofs.Scripts.{one_more}
+use Rattle.ww_run.proofs.worker.run_script.Goals as goal
+
+pub loop-txn-preserved : goal.loop-txn-preserved
+loop-txn-preserved g c =
+    let answers = c.loop-txn.answers.items in
+    let t = transaction_of c.in-Some.txn in
+    let done = c.carry_out-next in
+    one_more c.args.world.now c.args.pass.caller (map transaction_of c.args.txns.items) _ _ (map said_of answers) _ t
+    (said_of c.in-Ok.answer) c.loop-txn.pass done.result.0
+    (ap (map transaction_of) c.in-Some.ensures.steps.0)
+    (ap (map said_of) c.in-Ok-push.ensures.items ∙ map_push said_of answers c.in-Ok.answer)
+    c.loop-txn.invariant done.ensures.home done.ensures.after
+    (subst (λ (r : Result ScriptAnswer RunFault). IfOk r (λ answer. IsTold c.loop-txn.pass t (said_of answer) done.result.0))
+    c.in-Ok.is done.ensures.told)

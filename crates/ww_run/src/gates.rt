@@ -1,0 +1,206 @@
+//! Scripts that run side by side. A gate holds a transaction back just before its commit, so that only threads come to an end.
+
+use crate::run::Open;
+use crate::workers::run_scripts;
+use std::alloc::Global;
+use std::sync::Wait;
+use std::sync::atomic::{AtomicBool, Ordering};
+use std::test::Fail;
+use std::thread;
+use std::thread::Threads;
+use ww_plain::{Record, Reply, Txn, replays};
+use ww_script::{Input, Outcome, ScriptAnswer, Scripts, read_input};
+use ww_txn::Gate;
+
+/// Two scripts of one add, each on a node of its own.
+const WOUND_WAIT: &str = r#"{"version":1,"kind":"wound-wait","history":true,
+    "nodes":[{"value":0,"ports":[null,null,null,null]},{"value":0,"ports":[null,null,null,null]}],
+    "scripts":[[["add","list",[[0,1]]]],[["add","list",[[1,1]]]]]}"#;
+
+const WAIT_DIE: &str = r#"{"version":1,"kind":"wait-die","history":true,
+    "nodes":[{"value":0,"ports":[null,null,null,null]},{"value":0,"ports":[null,null,null,null]}],
+    "scripts":[[["add","list",[[0,1]]]],[["add","list",[[1,1]]]]]}"#;
+
+/// Scripts of which each transaction depends on the other script.
+const TRANSFERS: &str = r#"{"version":1,"kind":"wait-die","history":true,
+    "nodes":[{"value":10,"ports":[null,null,null,null]},{"value":0,"ports":[null,null,null,null]}],
+    "scripts":[[["move",0,1,4],["add","list",[[0,1],[0,2]]],["move",0,1,7]],[["add","order",[[1,5],[0,1]]]]]}"#;
+
+/// All kinds of transactions, on nodes that lead to one another.
+const ALL_KINDS: &str =
+    r#"{"scripts":[[["add","order",[[0,3],[1,18446744073709551615]]],["move",0,1,7]],
+    [["reverse",1,3,64],["get","list",[0,1,0]],["link",1,2,0],["link",0,0,null],["sum",0,1,2],["peek",1]]],
+    "nodes":[{"value":5,"ports":[null,0,1,null]},{"ports":[null,null,null,null],"value":6}],
+    "kind":"wait-die","version":1,"history":true}"#;
+
+fn scripts_of(alloc: Global, text: &str) -> Result<Scripts, Fail> {
+    match read_input(alloc, text.as_bytes()) {
+        Ok(Input::Scripts(scripts)) => Ok(scripts),
+        _ => Err(Fail::from("scripts")),
+    }
+}
+
+fn outcome_of<R: Threads + Wait + Sync, G: Gate + Sync>(
+    rt: &R,
+    alloc: Global,
+    text: &str,
+    gate: &G,
+) -> Result<Outcome, Fail> {
+    match run_scripts(rt, alloc, scripts_of(alloc, text)?, gate) {
+        Ok(outcome) => Ok(outcome),
+        Err(_) => Err(Fail::from("an outcome")),
+    }
+}
+
+/// Turns until the flag is set, and tells whether it was within 2^32 - 1 turns.
+fn is_set_in_time(flag: &AtomicBool) -> bool {
+    for _ in 0..u32::MAX {
+        if flag.load(Ordering::SeqCst) {
+            return true;
+        }
+        thread::yield_now();
+    }
+    false
+}
+
+/// Script 0 commits once script 1 was answered.
+#[derive(Drop)]
+struct Second {
+    answered: AtomicBool,
+    is_late: AtomicBool,
+}
+
+impl Gate for Second {
+    fn before_commit(&self, caller: u8, seq: u64) {
+        if caller == 0 && seq == 0 && !is_set_in_time(&self.answered) {
+            self.is_late.store(true, Ordering::SeqCst);
+        }
+    }
+
+    fn answered(&self, caller: u8, seq: u64) {
+        if caller == 1 && seq == 0 {
+            self.answered.store(true, Ordering::SeqCst);
+        }
+    }
+}
+
+fn second_comes_first<R: Threads + Wait + Sync>(
+    rt: &R,
+    alloc: Global,
+    text: &str,
+) -> Result<bool, Fail> {
+    let gate = Second {
+        answered: AtomicBool::new(false),
+        is_late: AtomicBool::new(false),
+    };
+    let outcome = outcome_of(rt, alloc, text, &gate)?;
+    let places = outcome.places.ok_or("places")?;
+    Ok(!gate.is_late.load(Ordering::SeqCst) && places.as_slice() == [(1, 0), (0, 0)].as_slice())
+}
+
+#[test]
+fn a_script_waits_for_another_to_be_answered(rt: HostRuntime) -> Result<(), Fail> {
+    assert!(rt; second_comes_first(&rt, rt.alloc(), WOUND_WAIT)?);
+    assert!(rt; second_comes_first(&rt, rt.alloc(), WAIT_DIE)?);
+    Ok(())
+}
+
+/// Each of two scripts commits once the other is about to.
+#[derive(Drop)]
+struct Meeting {
+    first: AtomicBool,
+    second: AtomicBool,
+    is_late: AtomicBool,
+}
+
+impl Gate for Meeting {
+    fn before_commit(&self, caller: u8, _seq: u64) {
+        let (mine, theirs) = if caller == 0 {
+            (&self.first, &self.second)
+        } else {
+            (&self.second, &self.first)
+        };
+        mine.store(true, Ordering::SeqCst);
+        if !is_set_in_time(theirs) {
+            self.is_late.store(true, Ordering::SeqCst);
+        }
+    }
+
+    fn answered(&self, _caller: u8, _seq: u64) {}
+}
+
+fn both_are_about_to_commit<R: Threads + Wait + Sync>(
+    rt: &R,
+    alloc: Global,
+    text: &str,
+) -> Result<bool, Fail> {
+    let gate = Meeting {
+        first: AtomicBool::new(false),
+        second: AtomicBool::new(false),
+        is_late: AtomicBool::new(false),
+    };
+    let outcome = outcome_of(rt, alloc, text, &gate)?;
+    let places = outcome.places.ok_or("places")?;
+    Ok(!gate.is_late.load(Ordering::SeqCst) && places.len() == 2)
+}
+
+#[test]
+fn two_scripts_hold_their_locks_at_once(rt: HostRuntime) -> Result<(), Fail> {
+    assert!(rt; both_are_about_to_commit(&rt, rt.alloc(), WOUND_WAIT)?);
+    assert!(rt; both_are_about_to_commit(&rt, rt.alloc(), WAIT_DIE)?);
+    Ok(())
+}
+
+/// The transaction of this number among those of a script that were carried out, with its reply.
+fn carried_out<'a>(
+    txns: &'a [Txn],
+    answers: &'a [ScriptAnswer],
+    seq: u64,
+) -> Option<(&'a Txn, &'a Reply)> {
+    let mut before = 0;
+    for (txn, answer) in txns.iter().zip(answers) {
+        if let ScriptAnswer::Reply(reply) = answer {
+            if before == seq {
+                return Some((txn, reply));
+            }
+            before = seq.min(before.saturating_add(1));
+        }
+    }
+    None
+}
+
+/// The records that an outcome tells of.
+fn records_of(alloc: Global, scripts: &Scripts, outcome: &Outcome) -> Result<Vec<Record>, Fail> {
+    let mut records = Vec::new(alloc);
+    let places = outcome.places.as_ref().ok_or("places")?;
+    for (caller, seq) in places {
+        let script = usize::from(*caller);
+        let txns = scripts.scripts.get(script).ok_or("a script")?;
+        let answers = outcome.replies.get(script).ok_or("answers")?;
+        let (txn, reply) = carried_out(txns, answers, *seq).ok_or("a transaction")?;
+        records.push(Record {
+            caller: *caller,
+            seq: *seq,
+            txn: txn.copy(alloc)?,
+            reply: reply.copy(alloc)?,
+        })?;
+    }
+    Ok(records)
+}
+
+/// Whether the transactions, one after another in the order of the places, come to the replies and the last graph.
+fn is_explained<R: Threads + Wait + Sync>(rt: &R, alloc: Global, text: &str) -> Result<bool, Fail> {
+    let outcome = outcome_of(rt, alloc, text, &Open)?;
+    let scripts = scripts_of(alloc, text)?;
+    let records = records_of(alloc, &scripts, &outcome)?;
+    let last = replays(alloc, scripts.graph, &records)?.ok_or("a legal history")?;
+    Ok(last.is_same(&outcome.graph))
+}
+
+/// What comes of these is another from run to run.
+#[test]
+fn whatever_comes_of_scripts_is_explained(rt: HostRuntime) -> Result<(), Fail> {
+    assert!(rt; is_explained(&rt, rt.alloc(), TRANSFERS)?);
+    assert!(rt; is_explained(&rt, rt.alloc(), ALL_KINDS)?);
+    Ok(())
+}
