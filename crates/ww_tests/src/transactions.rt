@@ -1,5 +1,5 @@
-//! Transactions, each in one call: what their contracts leave open, which is that they succeed where nothing is against it,
-//! when the gate is called, and what comes of two threads that make them side by side.
+//! Transactions, each in one call: what their contracts leave open, which is that they succeed where nothing is
+//! against it, when the gate is called, and what comes of two threads that make them side by side.
 
 ghost use Rattle.std.specs.Prelude.{◌≡◌, IfOk};
 ghost use Rattle.ww_lock.specs.Holding.{IsAtHome};
@@ -115,7 +115,8 @@ fn three_nodes(alloc: Global, nodes: [(u64, Option<u8>); 3]) -> Result<Graph, Al
     Graph::new(all).ok().ok_or(AllocError)
 }
 
-/// Each kind of transaction, by both ways where it may name one, and what it is answered when they are made in this order.
+/// Each kind of transaction, by both ways where it may name one, and what it is answered when they are made in this
+/// order.
 fn all_kinds(alloc: Global) -> Result<Vec<(Txn, Reply)>, AllocError> {
     Ok(vec![in alloc;
         (get(alloc, By::List, &[2, 0])?, values(alloc, &[3, 1])?),
@@ -204,7 +205,8 @@ fn tries<R: Wait + Abort>(rt: &R, world: &World, pass: Pass) -> (Pass, bool)
     (acquiring.unlock_all(rt, world).fini(rt, world), is_busy)
 }
 
-/// A gate that counts its calls, and sees that node 0 is locked in the first of each transaction and free in the second.
+/// A gate that counts its calls, and sees that node 0 is locked in the first of each transaction and free in the
+/// second.
 #[derive(Drop)]
 struct Watch<'a, R> {
     rt: &'a R,

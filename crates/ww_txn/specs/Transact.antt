@@ -11,8 +11,8 @@ use Rattle.ww_users.specs.Ways.{IsReturned}
 use Rattle.ww_txn.specs.declared.transacting.TxnFault.{TxnFault}
 use Rattle.ww_txn.specs.declared.transacting.TxnFault.TheVariants.{PassSpent, Already, NoMemory, NotHeld}
 
--- Exactly one record more: that of this transaction, with the place, the number and the answer that the receipt tells. The
--- pass holds no lock, and has one context less to start.
+-- Exactly one record more: that of this transaction, with the place, the number and the answer that the receipt
+-- tells. The pass holds no lock, and has one context less to start.
 pub record IsTransacted (s a : Holding) (txn : Transaction) (told : Receipt) : Type 0 where
   pub some : 1 ≤ s.left
   pub no_double : FirstDouble (listed txn) None
@@ -46,8 +46,8 @@ abbrev pub fault_of : UserFault → TxnFault
 fault_of user.PassSpent = PassSpent
 fault_of (user.Already n) = Already n
 
--- A state of this pass, for one of the contexts and solos that it had left, that holds all that the transaction depends on and
--- may change.
+-- A state of this pass, for one of the contexts and solos that it had left, that holds all that the transaction
+-- depends on and may change.
 pub record IsReady (s : Holding) (txn : Transaction) (a : Holding) : Type 0 where
   pub some : 1 ≤ s.left
   pub no_double : FirstDouble (listed txn) None

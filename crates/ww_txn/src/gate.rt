@@ -1,7 +1,7 @@
 ghost use Rattle.std.specs.Prelude.{ℕ};
 
-/// Who is told of each transaction that commits, by the thread that makes it, and may hold that thread up. A transaction that is
-/// refused isn't told.
+/// Who is told of each transaction that commits, by the thread that makes it, and may hold that thread up. A
+/// transaction that is refused isn't told.
 pub trait Gate {
     /// What holds once a gate was asked before the commit of this number of this caller.
     ghost is_asked: { Self → ℕ → ℕ → Type 0 } = { λ _ _ _. Unit {0} };

@@ -1,5 +1,5 @@
-//! Transactions on a shared graph: each takes the locks of all that it depends on and may change, commits, and gives the locks
-//! back, in one call.
+//! Transactions on a shared graph: each takes the locks of all that it depends on and may change, commits, and gives
+//! the locks back, in one call.
 #![tactic(auto)]
 
 mod gate;

@@ -53,9 +53,9 @@ impl From<UserFault> for TxnFault {
     }
 }
 
-/// Makes a transaction: takes its locks, commits it and gives all back, for one of the contexts and solos that the pass has
-/// left. The gate is told of it twice, where it commits. It is refused where the pass has none left; else where its list names a
-/// node twice; else for want of memory.
+/// Makes a transaction: takes its locks, commits it and gives all back, for one of the contexts and solos that the
+/// pass has left. The gate is told of it twice, where it commits. It is refused where the pass has none left; else
+/// where its list names a node twice; else for want of memory.
 pub fn transact<R: Wait, G: Gate>(
     world: &World,
     pass: Pass,

@@ -15,8 +15,8 @@ use ww_lock::{Done, Pass, World};
 use ww_plain::{By, MAX_NODES, Txn};
 use ww_users::{UserFault, lock_list, lock_order, lock_walk};
 
-/// Takes the locks of a transaction in a context: by the way that a Get or an Add names, by the walk for a Sum and a Reverse,
-/// and by the fixed list for all others.
+/// Takes the locks of a transaction in a context: by the way that a Get or an Add names, by the walk for a Sum and a
+/// Reverse, and by the fixed list for all others.
 pub(crate) fn lock_all<R: Wait>(
     world: &World,
     pass: Pass,
