@@ -10,9 +10,9 @@ use crate::trip::{Trip, lock_entries};
 use std::sync::Wait;
 use ww_lock::{Done, Pass, World};
 
-/// Method 1: locks the nodes in the order of the list. On EDEADLK it gives all back, takes the contended lock by the slow path,
-/// and starts again with that entry skipped once. A list that names a node twice is refused with the first entry whose node
-/// stands earlier; then, as with a spent pass, no lock is held and nothing is recorded.
+/// Method 1: locks the nodes in the order of the list. On EDEADLK it gives all back, takes the contended lock by
+/// the slow path, and starts again with that entry skipped once. A list that names a node twice is refused with the
+/// first entry whose node stands earlier; then, as with a spent pass, no lock is held and nothing is recorded.
 pub fn lock_list<R: Wait>(
     world: &World,
     pass: Pass,

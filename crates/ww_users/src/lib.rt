@@ -1,5 +1,5 @@
-//! The three ways of taking many locks that the kernel's document of wound/wait mutexes describes: a fixed list, a list whose
-//! contended entry is moved to its head, and objects that are found on the way.
+//! The three ways of taking many locks that the kernel's document of wound/wait mutexes describes: a fixed list, a
+//! list whose contended entry is moved to its head, and objects that are found on the way.
 #![tactic(auto)]
 
 mod context;

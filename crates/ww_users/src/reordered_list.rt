@@ -12,9 +12,9 @@ use std::sync::Wait;
 use ww_lock::{Done, Pass, World};
 use ww_plain::MAX_NODES;
 
-/// Method 2: as method 1, but after the slow lock the contended entry is moved to the head of the list, and the trip goes on
-/// behind it. So an entry that was contended is locked first from then on. The double that a refusal names is that of the
-/// list as it was given, not of the reordered one.
+/// Method 2: as method 1, but after the slow lock the contended entry is moved to the head of the list, and the
+/// trip goes on behind it. So an entry that was contended is locked first from then on. The double that a refusal
+/// names is that of the list as it was given, not of the reordered one.
 pub fn lock_order<R: Wait>(
     world: &World,
     pass: Pass,

@@ -14,9 +14,9 @@ use std::sync::Wait;
 use ww_lock::{Acquiring, Backoff, Done, Pass, World};
 use ww_plain::{MAX_NODES, PORTS};
 
-/// Method 3: locks the walk from a node along a port, of at most so many nodes, and its stop, as it finds them. On EDEADLK it
-/// gives all back, takes the contended lock by the slow path, keeps it, and starts the walk again: others may have changed
-/// the ports along it. A spent pass is given back.
+/// Method 3: locks the walk from a node along a port, of at most so many nodes, and its stop, as it finds them. On
+/// EDEADLK it gives all back, takes the contended lock by the slow path, keeps it, and starts the walk again:
+/// others may have changed the ports along it. A spent pass is given back.
 pub fn lock_walk<R: Wait>(
     world: &World,
     pass: Pass,
@@ -42,8 +42,9 @@ pub fn lock_walk<R: Wait>(
     unreachable!()
 }
 
-/// One walk, with the stop, or as far as it gets. A node that is held already ends it where that is one of the walk. Where it
-/// is the one kept from a slow lock, and the walk hasn't come to it before, the walk goes on from it.
+/// One walk, with the stop, or as far as it gets. A node that is held already ends it where that is one of the
+/// walk. Where it is the one kept from a slow lock, and the walk hasn't come to it before, the walk goes on from
+/// it.
 fn lock_along<R: Wait>(
     world: &World,
     acquiring: Acquiring,
