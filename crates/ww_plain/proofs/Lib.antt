@@ -1,4 +1,5 @@
 pub mod Members
+pub mod Seens
 pub mod Walks
 pub mod GraphFacts
 pub mod Fronts

@@ -1,4 +1,5 @@
 pub mod Numbers
+pub mod Seen
 pub mod Graph
 pub mod Transaction
 pub mod Walk

@@ -7,6 +7,7 @@ mod history;
 pub mod laws;
 mod meaning;
 mod node;
+mod seen;
 mod transaction;
 mod walk;
 

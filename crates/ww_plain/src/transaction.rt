@@ -1,9 +1,9 @@
 ghost use Rattle.std.specs.Prelude.{◌≡◌, ◌<◌, ◌≤◌, ◌↔◌, ℕ, map, IsTrue};
 ghost use Rattle.ww_plain.specs.Transaction.{transaction_of, listed, FirstDouble};
-ghost use Rattle.ww_plain.specs.Numbers.{is_among};
 
 use crate::graph::MAX_NODES;
 use crate::node::PORTS;
+use crate::seen::Seen;
 use std::alloc::{AllocError, Global};
 
 /// Which way of taking many locks a transaction asks for. The plain graph treats both alike.
@@ -136,21 +136,12 @@ impl Listed for (u8, u64) {
 fn first_double_of<T: Listed>(items: &[T]) -> Option<u8>
     ensures { FirstDouble (map T.names items.now) result }
 {
-    for (i, item) in items.iter().enumerate() {
+    let mut seen = Seen::new();
+    for item in items {
         let node = item.node();
-        if is_named(&items[..i], node) {
+        if !seen.insert(node) {
             return Some(node);
         }
     }
     None
-}
-
-/// Whether one of the list names the node.
-fn is_named<T: Listed>(items: &[T], node: u8) -> bool
-    ensures { result ≡ is_among node (map T.names items.now) }
-{
-    items
-        .iter()
-        .map(|item| item.node())
-        .any(|other| other == node)
 }
