@@ -25,7 +25,7 @@ fn values(alloc: Global, graph: &[Node], nodes: &[u8]) -> Result<Vec<u64>, Alloc
     requires { AllByRecursion (λ node. node < length graph.now) nodes.now }
     ensures { IfOk result (λ values. values.items ≡ map (value_of graph.now) nodes.now) }
 {
-    let mut values = Vec::new(alloc);
+    let mut values = Vec::with_capacity(alloc, nodes.len())?;
     for node in nodes {
         values.push(value_at(graph, *node))?;
     }
