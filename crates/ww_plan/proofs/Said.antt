@@ -10,7 +10,7 @@ use Rattle.ww_plain.specs.declared.transaction.By.{By}
 use Rattle.ww_plain.specs.declared.transaction.By.TheVariants as by
 use Rattle.ww_plain.specs.Graph.{IsNodeOf, IsGraph}
 use Rattle.ww_plain.specs.Transaction.{Transaction, get, add, move, link, sum, reverse, peek, IsCourse, Fits}
-use Rattle.ww_parts.specs.Parts.{◌>>=◌, each, below}
+use Rattle.ww_parts.specs.Parts.{◌>>=◌, below}
 use Rattle.ww_parts.specs.Spelling.{list, whole}
 use Rattle.ww_parts.proofs.Said.{below_said, ranged_said, counted_said, each_said, kind_said}
 use Rattle.ww_plan.specs.Transactions.{by_in, get_of, pair_in, add_of, move_of, target_in, link_of, course_of, sum_of, reverse_of, peek_of, transaction_in}

@@ -88,7 +88,7 @@ fn node_of(size: usize, value: &Value) -> Result<Node, InputFault>
 fn each_node(alloc: Global, size: usize, items: &[Value]) -> Result<Vec<Node>, InputFault>
     ensures { Gives (λ nodes. nodes.items) result (each (node_in size) (map view items.now)) }
 {
-    let mut nodes = Vec::new(alloc);
+    let mut nodes = Vec::with_capacity(alloc, items.len())?;
     for item in items {
         let node = node_of(size, item)?;
         nodes.push(node)?;
@@ -117,7 +117,7 @@ fn each_transaction(alloc: Global, size: u8, items: &[Value]) -> Result<Vec<Txn>
     ensures { Gives (λ script. map transaction_of script.items) result
         (each (transaction_in size) (map view items.now)) }
 {
-    let mut transactions = Vec::new(alloc);
+    let mut transactions = Vec::with_capacity(alloc, items.len())?;
     for item in items {
         let transaction = transaction_of(alloc, size, item)?;
         transactions.push(transaction)?;
@@ -136,7 +136,7 @@ fn script_of(alloc: Global, size: u8, value: &Value) -> Result<Vec<Txn>, InputFa
 fn each_script(alloc: Global, size: u8, items: &[Value]) -> Result<Vec<Vec<Txn>>, InputFault>
     ensures { Gives script_lists result (each (script_in size) (map view items.now)) }
 {
-    let mut scripts = Vec::new(alloc);
+    let mut scripts = Vec::with_capacity(alloc, items.len())?;
     for item in items {
         let script = script_of(alloc, size, item)?;
         scripts.push(script)?;

@@ -25,7 +25,7 @@ fn by_of(value: &Value) -> Result<By, InputFault>
 fn each_below(alloc: Global, limit: u8, items: &[Value]) -> Result<Vec<u8>, InputFault>
     ensures { Gives (λ numbers. numbers.items) result (each (below limit) (map view items.now)) }
 {
-    let mut numbers = Vec::new(alloc);
+    let mut numbers = Vec::with_capacity(alloc, items.len())?;
     for item in items {
         let number = below_of(limit, item)?;
         numbers.push(number)?;
@@ -65,7 +65,7 @@ fn pair_of(size: u8, value: &Value) -> Result<(u8, u64), InputFault>
 fn each_pair(alloc: Global, size: u8, items: &[Value]) -> Result<Vec<(u8, u64)>, InputFault>
     ensures { Gives (λ pairs. pairs.items) result (each (pair_in size) (map view items.now)) }
 {
-    let mut pairs = Vec::new(alloc);
+    let mut pairs = Vec::with_capacity(alloc, items.len())?;
     for item in items {
         let pair = pair_of(size, item)?;
         pairs.push(pair)?;

@@ -43,7 +43,7 @@ fn each_event(
 ) -> Result<Vec<Event>, InputFault>
     ensures { Gives (λ events. events.items) result (each (event_in seats locks) (map view items.now)) }
 {
-    let mut events = Vec::new(alloc);
+    let mut events = Vec::with_capacity(alloc, items.len())?;
     for item in items {
         let event = event_of(seats, locks, item)?;
         events.push(event)?;

@@ -17,6 +17,6 @@ loop-item-preserved c =
 
 pub returns-in_err-node : goal.returns-in_err-node
 returns-in_err-node c =
-    let p = err_from_is_err_and c.from_residual.result c.from_residual.ensures.1 in
+    let p = err_from_is_err_and c.from_residual-in_err-node.result c.from_residual-in_err-node.ensures.1 in
     rw (p.1, p.2) (λ _. each_stops view (node_in c.args.size) c.args.items.now c.loop-item.item-index c.item-item.result _ _
     c.loop-item-test.true c.item-item.is c.loop-item.invariant c.in_err-node.ensures)

@@ -18,6 +18,6 @@ loop-item-preserved c =
 
 pub returns-in_err-script : goal.returns-in_err-script
 returns-in_err-script c =
-    let p = err_from_is_err_and c.from_residual.result c.from_residual.ensures.1 in
+    let p = err_from_is_err_and c.from_residual-in_err-script.result c.from_residual-in_err-script.ensures.1 in
     rw (p.1, p.2) (λ ne. each_stops view (script_in c.args.size) c.args.items.now c.loop-item.item-index c.item-item.result _ _
     c.loop-item-test.true c.item-item.is c.loop-item.invariant (c.in_err-script.ensures ne))

@@ -16,6 +16,6 @@ loop-item-preserved c =
 
 pub returns-in_err-number : goal.returns-in_err-number
 returns-in_err-number c =
-    let p = err_from_is_err_and c.from_residual.result c.from_residual.ensures.1 in
+    let p = err_from_is_err_and c.from_residual-in_err-number.result c.from_residual-in_err-number.ensures.1 in
     rw (p.1, p.2) (λ _. each_stops view (below c.args.limit) c.args.items.now c.loop-item.item-index c.item-item.result _ _
     c.loop-item-test.true c.item-item.is c.loop-item.invariant c.in_err-number.ensures)

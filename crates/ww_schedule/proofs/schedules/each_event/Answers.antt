@@ -17,6 +17,6 @@ loop-item-preserved c =
 
 pub returns-in_err-event : goal.returns-in_err-event
 returns-in_err-event c =
-    let p = err_from_is_err_and c.from_residual.result c.from_residual.ensures.1 in
+    let p = err_from_is_err_and c.from_residual-in_err-event.result c.from_residual-in_err-event.ensures.1 in
     rw (p.1, p.2) (λ _. each_stops view (event_in c.args.seats c.args.locks) c.args.items.now c.loop-item.item-index c.item-item.result _ _
     c.loop-item-test.true c.item-item.is c.loop-item.invariant c.in_err-event.ensures)
