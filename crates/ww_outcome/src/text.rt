@@ -7,14 +7,14 @@ ghost use Rattle.ww_outcome.specs.Text.{answer_text, said_text, reply_line, scri
 
 use crate::outcome::{Outcome, ScriptAnswer};
 use std::alloc::{AllocError, Global};
-use ww_parts::push_option;
+use ww_parts::{push_number, push_option};
 use ww_plain::{Graph, Node, Reply};
 
 fn push_values(out: &mut String, values: &[u64]) -> Result<(), AllocError>
     ensures { OnOk result (string_bytes out.new ≡ string_bytes out.old ++ flat_map spaced values.now) }
 {
     for value in values {
-        write!(out, " {value}")?;
+        push_number(out, " ", *value)?;
     }
     Ok(())
 }
@@ -36,8 +36,11 @@ fn push_reply(out: &mut String, reply: &Reply) -> Result<(), AllocError>
             out.push_str("was")?;
             push_option(out, *target)
         }
-        Reply::Sum(count, total) => write!(out, "sum {count} {total}"),
-        Reply::End(last) => write!(out, "end {last}"),
+        Reply::Sum(count, total) => {
+            push_number(out, "sum ", *count)?;
+            push_number(out, " ", *total)
+        }
+        Reply::End(last) => push_number(out, "end ", *last),
     }
 }
 
@@ -46,7 +49,7 @@ fn push_answer(out: &mut String, answer: &ScriptAnswer) -> Result<(), AllocError
 {
     match answer {
         ScriptAnswer::Reply(reply) => push_reply(out, reply),
-        ScriptAnswer::Already(node) => write!(out, "already {node}"),
+        ScriptAnswer::Already(node) => push_number(out, "already ", *node),
     }
 }
 
@@ -60,7 +63,9 @@ fn push_answer_line(
     ensures { OnOk result (string_bytes out.new ≡ string_bytes out.old
         ++ reply_line script index (said_of answer.now)) }
 {
-    write!(out, "reply {script} {index} ")?;
+    push_number(out, "reply ", script)?;
+    push_number(out, " ", index)?;
+    out.push_str(" ")?;
     push_answer(out, answer)?;
     out.push_str("\n")
 }
@@ -91,7 +96,10 @@ fn push_place_line(out: &mut String, place: usize, taken: &(u8, u64)) -> Result<
     ensures { OnOk result (string_bytes out.new ≡ string_bytes out.old ++ place_line place taken.now) }
 {
     let (script, seq) = *taken;
-    writeln!(out, "at {place} {script} {seq}")
+    push_number(out, "at ", place)?;
+    push_number(out, " ", script)?;
+    push_number(out, " ", seq)?;
+    out.push_str("\n")
 }
 
 fn push_places(out: &mut String, places: &[(u8, u64)]) -> Result<(), AllocError>
@@ -117,7 +125,8 @@ fn push_ports(out: &mut String, ports: &[Option<u8>]) -> Result<(), AllocError>
 fn push_node_line(out: &mut String, index: u8, node: &Node) -> Result<(), AllocError>
     ensures { OnOk result (string_bytes out.new ≡ string_bytes out.old ++ node_line index node.now) }
 {
-    write!(out, "node {index} {}", node.value)?;
+    push_number(out, "node ", index)?;
+    push_number(out, " ", node.value)?;
     push_ports(out, &node.ports)?;
     out.push_str("\n")
 }

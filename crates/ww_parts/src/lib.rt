@@ -12,4 +12,4 @@ pub use parts::{
     array_of, below_of, bool_of, counted_of, member_of, number_of, only_of, ranged_of, size_of,
     text_of,
 };
-pub use pieces::push_option;
+pub use pieces::{push_number, push_option};

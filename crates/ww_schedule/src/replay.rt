@@ -2,28 +2,28 @@ ghost use Rattle.std.specs.Prelude.{◌≡◌, ◌<◌, ◌≤◌, ◌++◌, str
 ghost use Rattle.std.specs.List.{flat_map};
 ghost use Rattle.ww_model.specs.Snapshot.{state_of};
 ghost use Rattle.ww_parts.specs.Pieces.{spaced};
-ghost use Rattle.ww_schedule.specs.ScheduleText.{answer_text, event_line, ring_line, condemned_line, owner_text, entry_text, lock_line};
+ghost use Rattle.ww_schedule.specs.ScheduleText.{answer_text, event_line, ring_line, condemned_line, stamped, owner_text, entry_text, lock_line};
 ghost use Rattle.ww_schedule.specs.Replay.{first_state, owner_stamp, line_of_lock, line_of_seat, below_count, AreTold, IsRingTold, IsReplayTold, IsTextOf, HasOneText};
 
 use crate::schedules::Schedule;
 use std::alloc::{AllocError, Global};
 use ww_model::laws::runs_are_lawful;
 use ww_model::{Answer, Core, Event, Holder, condemned_in, cycle_in};
-use ww_parts::push_option;
+use ww_parts::{push_number, push_option};
 use ww_queue::Entry;
 
 fn push_answer(out: &mut String, answer: Answer) -> Result<(), AllocError>
     ensures { OnOk result (string_bytes out.new ≡ string_bytes out.old ++ answer_text answer) }
 {
     match answer {
-        Answer::Stamp(stamp) => write!(out, "stamp {stamp}"),
+        Answer::Stamp(stamp) => push_number(out, "stamp ", stamp),
         Answer::Done => out.push_str("ok"),
         Answer::Locked => out.push_str("locked"),
-        Answer::Met(stamp) => write!(out, "met {stamp}"),
-        Answer::Handed(seat) => write!(out, "handed {seat}"),
+        Answer::Met(stamp) => push_number(out, "met ", stamp),
+        Answer::Handed(seat) => push_number(out, "handed ", seat),
         Answer::Free => out.push_str("free"),
-        Answer::Deadlk(stamp) => write!(out, "deadlk {stamp}"),
-        Answer::Place(place) => write!(out, "place {place}"),
+        Answer::Deadlk(stamp) => push_number(out, "deadlk ", stamp),
+        Answer::Place(place) => push_number(out, "place ", place),
     }
 }
 
@@ -31,7 +31,8 @@ fn push_answer(out: &mut String, answer: Answer) -> Result<(), AllocError>
 fn push_event_line(out: &mut String, index: usize, answer: Answer) -> Result<(), AllocError>
     ensures { OnOk result (string_bytes out.new ≡ string_bytes out.old ++ event_line index answer) }
 {
-    write!(out, "event {index} ")?;
+    push_number(out, "event ", index)?;
+    out.push_str(" ")?;
     push_answer(out, answer)?;
     out.push_str("\n")
 }
@@ -40,9 +41,17 @@ fn push_ring_seats(out: &mut String, seats: &[u8]) -> Result<(), AllocError>
     ensures { OnOk result (string_bytes out.new ≡ string_bytes out.old ++ flat_map spaced seats.now) }
 {
     for seat in seats {
-        write!(out, " {seat}")?;
+        push_number(out, " ", *seat)?;
     }
     Ok(())
+}
+
+/// A seat and its stamp, behind a text.
+fn push_stamped(out: &mut String, before: &str, seat: u8, stamp: u64) -> Result<(), AllocError>
+    ensures { OnOk result (string_bytes out.new ≡ string_bytes out.old ++ before.now ++ stamped seat stamp) }
+{
+    push_number(out, before, seat)?;
+    push_number(out, "/", stamp)
 }
 
 fn push_owner(out: &mut String, owner: Holder, stamp: u64) -> Result<(), AllocError>
@@ -50,15 +59,18 @@ fn push_owner(out: &mut String, owner: Holder, stamp: u64) -> Result<(), AllocEr
 {
     match owner {
         Holder::Nobody => out.push_str("-"),
-        Holder::Taken(seat) => write!(out, "{seat}/{stamp}"),
-        Holder::Handed(seat) => write!(out, "{seat}/{stamp}h"),
+        Holder::Taken(seat) => push_stamped(out, "", seat, stamp),
+        Holder::Handed(seat) => {
+            push_stamped(out, "", seat, stamp)?;
+            out.push_str("h")
+        }
     }
 }
 
 fn push_entry(out: &mut String, entry: &Entry) -> Result<(), AllocError>
     ensures { OnOk result (string_bytes out.new ≡ string_bytes out.old ++ entry_text entry.now) }
 {
-    write!(out, " {}/{}", entry.seat, entry.stamp)?;
+    push_stamped(out, " ", entry.seat, entry.stamp)?;
     if entry.holds {
         out.push_str("+")
     } else {
@@ -85,7 +97,8 @@ fn push_lock_line(
 ) -> Result<(), AllocError>
     ensures { OnOk result (string_bytes out.new ≡ string_bytes out.old ++ lock_line lock owner stamp queue.now) }
 {
-    write!(out, "lock {lock} ")?;
+    push_number(out, "lock ", lock)?;
+    out.push_str(" ")?;
     push_owner(out, owner, stamp)?;
     out.push_str(" :")?;
     push_queue(out, queue)?;
@@ -131,7 +144,10 @@ fn push_seat(out: &mut String, core: &Core, seat: u8) -> Result<(), AllocError>
 {
     let stamp = core.stamp_of(seat);
     let sign = core.sign_of(seat);
-    writeln!(out, "seat {seat} {stamp} {sign}")
+    push_number(out, "seat ", seat)?;
+    push_number(out, " ", stamp)?;
+    push_number(out, " ", sign)?;
+    out.push_str("\n")
 }
 
 fn push_seats(out: &mut String, core: &Core, seats: u8) -> Result<(), AllocError>
