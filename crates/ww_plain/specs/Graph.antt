@@ -27,7 +27,8 @@ with_value graph n value = slice_set graph n (record (node_at graph n) { value =
 
 -- the graph with another target of port p of node n
 abbrev pub with_port : List Node → ℕ → ℕ → Option ℕ → List Node
-with_port graph n p target = slice_set graph n (record (node_at graph n) { ports = slice_set (node_at graph n).ports p target })
+with_port graph n p target =
+    slice_set graph n (record (node_at graph n) { ports = slice_set (node_at graph n).ports p target })
 
 -- each port of the node names one of so many nodes, or none
 abbrev pub IsNodeOf : ℕ → Node → Type 0
@@ -42,7 +43,8 @@ pub record IsGraph (graph : List Node) : Type 0 where
 -- why nodes are no graph: first their number is looked at, then where their ports lead
 abbrev pub IsRefused : List Node → GraphFault → Type 0
 IsRefused nodes BadSize = (length nodes < 1) ⊎ (MAX_NODES < length nodes)
-IsRefused nodes BadGraph = (1 ≤ length nodes) × (length nodes ≤ MAX_NODES) × ¬ AllByRecursion (IsNodeOf (length nodes)) nodes
+IsRefused nodes BadGraph =
+    (1 ≤ length nodes) × (length nodes ≤ MAX_NODES) × ¬ AllByRecursion (IsNodeOf (length nodes)) nodes
 
 -- the number of a fault
 abbrev pub number_of : GraphFault → ℕ

@@ -13,7 +13,8 @@ pub record Recorded : Type 0 where
   pub answer : Answer
 
 abbrev pub recorded_of : Record → Recorded
-recorded_of r = record { caller = r.caller; seq = r.seq; transaction = transaction_of r.txn; answer = answer_of r.reply }
+recorded_of r =
+    record { caller = r.caller; seq = r.seq; transaction = transaction_of r.txn; answer = answer_of r.reply }
 
 -- the history that the records make
 abbrev pub history_of : List Record → List Recorded

@@ -14,7 +14,8 @@ use Rattle.ww_plain.specs.History.{Recorded, IsNext, IsLegal, last_graph, part_o
 -- the walk has the properties of a walk, and no other list has them
 abbrev pub WalkIsTheOne : Type 0
 WalkIsTheOne = (graph : List Node) (start p most : ℕ) → 1 ≤ most →
-    IsWalk graph start p most (walk_of graph start p most) × ((vs : List ℕ) → IsWalk graph start p most vs → vs ≡ walk_of graph start p most)
+    IsWalk graph start p most (walk_of graph start p most) ×
+    ((vs : List ℕ) → IsWalk graph start p most vs → vs ≡ walk_of graph start p most)
 
 -- what a transaction leaves is a graph of the same size
 abbrev pub TransactionKeepsGraph : Type 0
@@ -34,13 +35,14 @@ pub record IsSameInside (graph other : List Node) (txn : Transaction) : Type 0 w
 
 -- only the nodes in a transaction's footprint matter for it
 abbrev pub OnlyFootprintMatters : Type 0
-OnlyFootprintMatters = (graph other : List Node) (txn : Transaction) → Fits (length graph) txn → length graph ≡ length other →
-    Agree graph other (footprint_of graph txn) → IsSameInside graph other txn
+OnlyFootprintMatters = (graph other : List Node) (txn : Transaction) → Fits (length graph) txn →
+    length graph ≡ length other → Agree graph other (footprint_of graph txn) → IsSameInside graph other txn
 
 -- a footprint names each node that concerns the transaction, once, and no other
 abbrev pub FootprintIsWhatConcerns : Type 0
 FootprintIsWhatConcerns = (graph : List Node) (txn : Transaction) → Fits (length graph) txn →
-    AreDifferent (footprint_of graph txn) × ((n : ℕ) → IsTrue (is_among n (footprint_of graph txn)) ↔ Concerns graph txn n)
+    AreDifferent (footprint_of graph txn) ×
+    ((n : ℕ) → IsTrue (is_among n (footprint_of graph txn)) ↔ Concerns graph txn n)
 
 -- each node has its four ports, as the type of a `Node` says
 abbrev pub HaveAllPorts : List Node → Type 0
@@ -57,7 +59,8 @@ pub record IsTurned (graph after : List Node) (start p : ℕ) (walk : List ℕ) 
 
 -- a `Reverse` turns its walk, and changes nothing else
 abbrev pub ReverseTurnsTheWalk : Type 0
-ReverseTurnsTheWalk = (graph : List Node) (start p most : ℕ) → IsGraph graph → HaveAllPorts graph → Fits (length graph) (reverse start p most) →
+ReverseTurnsTheWalk = (graph : List Node) (start p most : ℕ) → IsGraph graph → HaveAllPorts graph →
+    Fits (length graph) (reverse start p most) →
     IsTurned graph (graph_after graph (reverse start p most)) start p (walk_of graph start p most)
 
 -- a history in two parts is legal where the first is, and the second from where the first ends

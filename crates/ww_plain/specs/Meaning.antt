@@ -35,9 +35,9 @@ raised graph pair = with_value graph pair.0 ((value_of graph pair.0 + pair.1) % 
 -- the amount goes from one node to another, if the one has it and the other has room for it
 abbrev pub moving : List Node → ℕ → ℕ → ℕ → Answer × List Node
 moving graph from to amount =
-    if nat_lt (value_of graph from) amount then (short, graph) else
-    (if nat_lt (2 ^ 64 - 1) (value_of graph to + amount) then (full, graph) else
-    (moved, with_value (with_value graph from (value_of graph from - amount)) to (value_of graph to + amount)))
+    if nat_lt (value_of graph from) amount then (short, graph)
+    else if nat_lt (2 ^ 64 - 1) (value_of graph to + amount) then (full, graph)
+    else (moved, with_value (with_value graph from (value_of graph from - amount)) to (value_of graph to + amount))
 
 -- port p of each of the nodes leads to the node before it, that of the first one to `before`
 abbrev pub turned : List Node → ℕ → Option ℕ → List ℕ → List Node

@@ -55,7 +55,8 @@ onward (Some n) past go = if is_among n past then [] else go n
 -- the nodes from v on, at most so many, behind those of `past`
 unfoldable pub walk_past : List Node → ℕ → ℕ → List ℕ → ℕ → List ℕ
 walk_past graph p zero past v = []
-walk_past graph p (suc most) past v = v ∷ onward (port_of graph v p) (v ∷ past) (λ n. walk_past graph p most (v ∷ past) n)
+walk_past graph p (suc most) past v =
+    v ∷ onward (port_of graph v p) (v ∷ past) (λ n. walk_past graph p most (v ∷ past) n)
 
 -- the walk from a node along port p, of at most so many nodes
 unfoldable pub walk_of : List Node → ℕ → ℕ → ℕ → List ℕ

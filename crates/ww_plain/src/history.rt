@@ -91,7 +91,8 @@ pub fn replays(
     mut graph: Graph,
     records: &[Record],
 ) -> Result<Option<Graph>, AllocError>
-    ensures { let history = history_of records.now in IfOk result (λ last. SomeIff last (IsLegal graph history) (last_graph graph history)) }
+    ensures { let history = history_of records.now in IfOk result (λ last.
+        SomeIff last (IsLegal graph history) (last_graph graph history)) }
 {
     for next in records {
         if !replays_one(alloc, &mut graph, next)? {
