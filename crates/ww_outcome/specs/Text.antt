@@ -43,7 +43,8 @@ place_lines (Some places) = numbered place_line 0 places
 -- a node with its value and its ports
 unfoldable pub node_line : ℕ → Node → List ℕ
 node_line index node =
-    codes "node " ++ decimal index ++ codes " " ++ decimal node.value ++ flat_map spaced_or_dash node.ports ++ codes "\n"
+    codes "node " ++ decimal index ++ codes " " ++ decimal node.value ++
+    flat_map spaced_or_dash node.ports ++ codes "\n"
 
 -- the answers, the places if they are told, and the graph
 unfoldable pub outcome_lines : Told → List ℕ

@@ -30,7 +30,8 @@ script_lists scripts = map (λ script. map transaction_of script.items) scripts.
 
 -- the plan of these fields of `Scripts`
 abbrev pub plan_of : Kind → Bool → List Node → Vec (Vec Txn) → Plan
-plan_of kind history graph scripts = record { kind = kind; history = history; graph = graph; scripts = script_lists scripts }
+plan_of kind history graph scripts =
+    record { kind = kind; history = history; graph = graph; scripts = script_lists scripts }
 
 -- a script of at most 10,000 transactions, whose numbers are those of a graph of this size
 pub record IsScript (size : ℕ) (script : List Transaction) : Type 0 where
@@ -47,8 +48,8 @@ pub record IsPlan (plan : Plan) : Type 0 where
 -- null, or one of so many nodes
 unfoldable pub port_in : ℕ → Data → Result (Option ℕ) InputFault
 port_in size d =
-    if is_some (as_null d) then Ok None else
-    (below MAX_NODES d >>= λ n. if nat_lt n size then Ok (Some n) else Err BadGraph)
+    if is_some (as_null d) then Ok None
+    else (below MAX_NODES d >>= λ n. if nat_lt n size then Ok (Some n) else Err BadGraph)
 
 -- an array of four ports
 unfoldable pub ports_in : ℕ → Data → Result (List (Option ℕ)) InputFault

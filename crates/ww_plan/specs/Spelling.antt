@@ -22,7 +22,8 @@ target_data (Some target) = whole target
 -- a node, with its keys in order
 abbrev pub node_data : Node → Data
 node_data node =
-    object (member (codes "ports") (list (map target_data node.ports)) (member (codes "value") (whole node.value) no_members))
+    object (member (codes "ports") (list (map target_data node.ports))
+        (member (codes "value") (whole node.value) no_members))
 
 -- a node and an amount
 abbrev pub pair_data : ℕ × ℕ → Data

@@ -15,8 +15,9 @@ use Rattle.ww_parts.specs.Parts.{◌>>=◌, array, text, number, below, ranged, 
 unfoldable pub by_in : Data → Result By InputFault
 by_in d = do
   word ← text d
-  if bytes_eq word (codes "list") then Ok by.List else
-      (if bytes_eq word (codes "order") then Ok by.Order else Err BadWord)
+  if bytes_eq word (codes "list") then Ok by.List
+    else if bytes_eq word (codes "order") then Ok by.Order
+    else Err BadWord
 
 -- what follows the word `get`
 abbrev pub get_of : ℕ → List Data → Result Transaction InputFault
@@ -101,13 +102,14 @@ peek_of size _ = Err BadWord
 -- what follows this word
 abbrev pub worded : ℕ → List ℕ → List Data → Result Transaction InputFault
 worded size word members =
-    if bytes_eq word (codes "get") then get_of size members else
-    (if bytes_eq word (codes "add") then add_of size members else
-    (if bytes_eq word (codes "move") then move_of size members else
-    (if bytes_eq word (codes "link") then link_of size members else
-    (if bytes_eq word (codes "sum") then sum_of size members else
-    (if bytes_eq word (codes "reverse") then reverse_of size members else
-    (if bytes_eq word (codes "peek") then peek_of size members else Err BadWord))))))
+    if bytes_eq word (codes "get") then get_of size members
+    else if bytes_eq word (codes "add") then add_of size members
+    else if bytes_eq word (codes "move") then move_of size members
+    else if bytes_eq word (codes "link") then link_of size members
+    else if bytes_eq word (codes "sum") then sum_of size members
+    else if bytes_eq word (codes "reverse") then reverse_of size members
+    else if bytes_eq word (codes "peek") then peek_of size members
+    else Err BadWord
 
 -- a word, and then the members that it asks for
 abbrev pub transaction_from : ℕ → List Data → Result Transaction InputFault

@@ -9,6 +9,7 @@ use Rattle.ww_model.specs.declared.event.Answer.{Answer}
 use Rattle.ww_model.specs.State.{State}
 use Rattle.ww_model.specs.Event.{Possible, after, answer}
 use Rattle.ww_model.specs.Run.{state_after, IsRun}
+use Rattle.ww_model.proofs.Runs.{run_more, state_more}
 use Rattle.ww_schedule.specs.Schedules.{Timetable}
 use Rattle.ww_parts.specs.Pieces.{numbered}
 use Rattle.ww_schedule.specs.ScheduleText.{event_line, impossible_text, ring_line, condemned_line}
@@ -16,14 +17,6 @@ use Rattle.ww_schedule.specs.Replay.{front, answers_of, run_lines, AreTold, belo
 use Rattle.ww_parts.proofs.Numbered.{numbered_more, length_front}
 
 -- ---- runs
-
-run_push : (c : State) (es : List Event) (e : Event) → IsRun c es → Possible (state_after c es) e → IsRun c (es ++ e ∷ [])
-run_push c [] e run can = (can, tt)
-run_push c (x ∷ es) e run can = (run.0, run_push (after c x) es e run.1 can)
-
-state_push : (c : State) (es : List Event) (e : Event) → state_after c (es ++ e ∷ []) ≡ after (state_after c es) e
-state_push c [] e = refl
-state_push c (x ∷ es) e = state_push (after c x) es e
 
 answers_push : (c : State) (es : List Event) (e : Event) → answers_of c (es ++ e ∷ []) ≡ answers_of c es ++ answer (state_after c es) e ∷ []
 answers_push c [] e = refl
@@ -73,8 +66,8 @@ told_more c es i e a end next old out new lt told can says is pushed =
     let more = take_more es i e lt in
     let here = told.state in
     record {
-      run = subst (IsRun c) (sym more) (run_push c (take i es) x told.run (subst (λ s. Possible s x) here can));
-      state = is ∙ ap (λ s. after s x) here ∙ sym (state_push c (take i es) x) ∙ ap (state_after c) (sym more);
+      run = subst (IsRun c) (sym more) (run_more c (take i es) x told.run (subst (λ s. Possible s x) here can));
+      state = is ∙ ap (λ s. after s x) here ∙ sym (state_more c (take i es) x) ∙ ap (state_after c) (sym more);
       text = numbered_more event_line (answers_of c (take i es)) (answers_of c (take (i + 1) es)) i a old out new
           (answers_counted c (take i es) ∙ length_front es i lt)
           (ap (answers_of c) more ∙ answers_push c (take i es) x ∙ ap (λ y. answers_of c (take i es) ++ y ∷ []) (sym (says ∙ ap (λ s. answer s x) here)))

@@ -35,20 +35,21 @@ both event seats limit members = do
 -- what follows this word
 unfoldable pub event_with : ℕ → ℕ → List ℕ → List Data → Result Event InputFault
 event_with seats locks word members =
-    if bytes_eq word (codes "begin") then alone Begin seats members else
-    (if bytes_eq word (codes "clear") then alone Clear seats members else
-    (if bytes_eq word (codes "fast") then both Fast seats locks members else
-    (if bytes_eq word (codes "fast-give") then both FastGive seats locks members else
-    (if bytes_eq word (codes "guard") then both Guard seats locks members else
-    (if bytes_eq word (codes "join") then both Join seats locks members else
-    (if bytes_eq word (codes "sign") then both Sign seats seats members else
-    (if bytes_eq word (codes "take") then both Take seats locks members else
-    (if bytes_eq word (codes "ask") then both Ask seats locks members else
-    (if bytes_eq word (codes "give") then both Give seats locks members else
-    (if bytes_eq word (codes "die") then both Die seats locks members else
-    (if bytes_eq word (codes "unguard") then both Unguard seats locks members else
-    (if bytes_eq word (codes "commit") then alone Commit seats members else
-    (if bytes_eq word (codes "end") then alone End seats members else Err BadWord)))))))))))))
+    if bytes_eq word (codes "begin") then alone Begin seats members
+    else if bytes_eq word (codes "clear") then alone Clear seats members
+    else if bytes_eq word (codes "fast") then both Fast seats locks members
+    else if bytes_eq word (codes "fast-give") then both FastGive seats locks members
+    else if bytes_eq word (codes "guard") then both Guard seats locks members
+    else if bytes_eq word (codes "join") then both Join seats locks members
+    else if bytes_eq word (codes "sign") then both Sign seats seats members
+    else if bytes_eq word (codes "take") then both Take seats locks members
+    else if bytes_eq word (codes "ask") then both Ask seats locks members
+    else if bytes_eq word (codes "give") then both Give seats locks members
+    else if bytes_eq word (codes "die") then both Die seats locks members
+    else if bytes_eq word (codes "unguard") then both Unguard seats locks members
+    else if bytes_eq word (codes "commit") then alone Commit seats members
+    else if bytes_eq word (codes "end") then alone End seats members
+    else Err BadWord
 
 -- a word, and then the members that it asks for
 abbrev pub event_from : ℕ → ℕ → List Data → Result Event InputFault

@@ -36,7 +36,8 @@ seats_of (Some ring) = ring
 
 -- the condemned one of these seats, if there is one
 abbrev pub CondemnedOf : State → List ℕ → Option ℕ → Type 0
-CondemnedOf c seats found = MatchOption found ((seat : ℕ) → IsOneOf seat seats → ¬ IsCondemned c seat) (IsLeastCondemned c seats)
+CondemnedOf c seats found =
+    MatchOption found ((seat : ℕ) → IsOneOf seat seats → ¬ IsCondemned c seat) (IsLeastCondemned c seats)
 
 -- ---- what is told of it
 

@@ -63,7 +63,8 @@ entry_text e = codes " " ++ stamped e.seat e.stamp ++ holds_text e
 -- a lock: its owner with its stamp, and its wait list
 unfoldable pub lock_line : ℕ → Holder → ℕ → List Entry → List ℕ
 lock_line lock owner stamp queue =
-    codes "lock " ++ decimal lock ++ codes " " ++ owner_text owner stamp ++ codes " :" ++ flat_map entry_text queue ++ codes "\n"
+    codes "lock " ++ decimal lock ++ codes " " ++ owner_text owner stamp ++ codes " :" ++
+    flat_map entry_text queue ++ codes "\n"
 
 -- a seat: its stamp and its sign
 unfoldable pub seat_line : ℕ → ℕ → ℕ → List ℕ
