@@ -13,6 +13,8 @@ mod queues;
 #[cfg(test)]
 mod scripts;
 #[cfg(test)]
+mod tables;
+#[cfg(test)]
 mod threads;
 #[cfg(test)]
 mod transactions;

@@ -1,0 +1,222 @@
+-- Closing a table: the records in the order of their places.
+use Rattle.std.proofs.Common.{◌≡◌, ◌≢◌, ◌⊎◌, ℕ, zero, suc, ◌+◌, ◌<◌, ◌≤◌, Bool, true, false, eqb, List, [], ◌∷◌, ◌++◌, length, set, take, get_or, sym, refl, ap, ◌∙◌, subst, ⊎_elim, inl, inr, arith, Option, Some, None, length-set, get_or-set_other}
+use Rattle.std.specs.Bool.{if◌then◌else◌}
+use Rattle.std.specs.List.{AllByRecursion}
+use mathlib.Core.Logic.{dite}
+use mathlib.Core.Option.{some, some-injective}
+use native.Mathlib.Decide.{ℕ_discrete}
+use lib.ListN.{get_elem?}
+use Rattle.atomic_table.proofs.Lists.{set_here, set_else, at_last, at_longer}
+use Rattle.ww_queue.specs.Queue.{Has}
+use Rattle.ww_plain.specs.declared.history.Record.{Record}
+use Rattle.ww_plain.specs.History.{Recorded, recorded_of, history_of, part_from, part_of}
+use Rattle.ww_plain.proofs.Members.{eqb_same}
+use Rattle.atomic_table.specs.declared.shared.Seat.{Seat}
+use Rattle.atomic_table.specs.Seated.{TableId}
+use Rattle.ww_view.specs.View.{IsBare}
+use Rattle.ww_plain.specs.declared.node.Node.{Node}
+use Rattle.ww_table.specs.declared.cells.Cell.{Cell}
+use Rattle.ww_table.specs.declared.cells.Cell.TheVariants.{Content}
+use Rattle.ww_table.specs.declared.cells.Part.{Part}
+use Rattle.ww_table.specs.declared.cells.Sight.{Sight}
+use Rattle.ww_table.specs.declared.seat.Seat16.{Seat16}
+use Rattle.ww_table.specs.Steps.{with_seat}
+use Rattle.ww_table.specs.Rule.{own_of}
+use Rattle.ww_table.specs.Closed.{AreTakenBelow, HasCome, ArePut, AreLaid, AreFree, IsGathered, parts_of, somes}
+
+pub has_all : {A : Type 0} (P : A → Type 0) (xs : List A) (x : A) → AllByRecursion P xs → Has xs x → P x
+has_all P [] x all h = absurd h
+has_all P (y ∷ ys) x all h = ⊎_elim (λ is. subst P (sym is) all.0) (λ more. has_all P ys x all.1 more) h
+
+pub all_at : {A : Type 0} (P : A → Type 0) (xs ys : List A) (y : A) → AllByRecursion P (xs ++ y ∷ ys) → P y
+all_at P [] ys y all = all.0
+all_at P (x ∷ xs) ys y all = all_at P xs ys y all.1
+
+pub has_more : {A : Type 0} (xs ys : List A) (x : A) → Has xs x → Has (xs ++ ys) x
+has_more [] ys x h = absurd h
+has_more (y ∷ xs) ys x h = ⊎_elim (λ is. inl is) (λ more. inr (has_more xs ys x more)) h
+
+pub has_last : {A : Type 0} (xs : List A) (x : A) → Has (xs ++ x ∷ []) x
+has_last [] x = inl refl
+has_last (y ∷ xs) x = inr (has_last xs x)
+
+pub has_either : {A : Type 0} (xs : List A) (y x : A) → Has (xs ++ y ∷ []) x → Has xs x ⊎ (x ≡ y)
+has_either [] y x h = ⊎_elim (λ is. inr is) (λ none. absurd none) h
+has_either (z ∷ xs) y x h = ⊎_elim (λ is. inl (inl is)) (λ more. ⊎_elim (λ a. inl (inr a)) (λ b. inr b) (has_either xs y x more)) h
+
+pub below_more : (m n : ℕ) (own : List (ℕ × Record)) → m ≤ n → AllByRecursion (λ (p : ℕ × Record). p.0 < m) own → AllByRecursion (λ (p : ℕ × Record). p.0 < n) own
+below_more m n [] le all = tt
+below_more m n (p ∷ ps) le all = (let h = all.0 in omega arith, below_more m n ps le all.1)
+
+-- ---- records in their places
+
+pub put_none : (places : List (Option Record)) → ArePut places [] places
+put_none places = record { size = refl; sound = λ i r e. inl e; kept = λ i r e. (r, e); filled = λ i r h. absurd h }
+
+pub put_one : (old places : List (Option Record)) (own : List (ℕ × Record)) (i : ℕ) (r : Record) → ArePut old own places → i < length places → ArePut old (own ++ (i, r) ∷ []) (set places i (Some r))
+put_one old places own i r are small = record {
+  size = length-set places i (Some r) ∙ are.size;
+  sound = λ j t e. dite (ℕ_discrete j i)
+      (λ is. let same : Some r ≡ Some t = some-injective (Some r) (Some t) (sym (set_here places i (Some r) small) ∙ ap (get_elem? (set places i (Some r))) (sym is) ∙ e) in
+      inr (subst (λ (p : ℕ × Record). Has (own ++ (i, r) ∷ []) p) (λ k. (sym is k, (let z : r ≡ t = cc in z) k)) (has_last own (i, r))))
+      (λ isnt. ⊎_elim (λ was. inl was) (λ h. inr (has_more own ((i, r) ∷ []) (j, t) h)) (are.sound j t (sym (set_else places i j (Some r) isnt) ∙ e)));
+  kept = λ j t e. dite (ℕ_discrete j i)
+      (λ is. (r, ap (get_elem? (set places i (Some r))) is ∙ set_here places i (Some r) small))
+      (λ isnt. let k = are.kept j t e in (k.0, set_else places i j (Some r) isnt ∙ k.1));
+  filled = λ j t h. ⊎_elim
+      (λ was. dite (ℕ_discrete j i)
+      (λ is. (r, ap (get_elem? (set places i (Some r))) is ∙ set_here places i (Some r) small))
+      (λ isnt. let k = are.filled j t was in (k.0, set_else places i j (Some r) isnt ∙ k.1)))
+      (λ is. (r, ap (λ (p : ℕ × Record). get_elem? (set places i (Some r)) p.0) is ∙ set_here places i (Some r) small))
+      (has_either own (i, r) (j, t) h);
+}
+
+-- the records of one more number
+pub laid_more : (parts : List Part) (p : Part) (old new : List (Option Record)) (own : List (ℕ × Record)) → AreLaid parts old → own ≡ p.own → ArePut old own new → AreLaid (parts ++ p ∷ []) new
+laid_more parts p old new own laid same put = record {
+  sound = λ i r e. ⊎_elim
+      (λ was. let s = laid.sound i r was in (s.0, has_more parts (p ∷ []) s.0 s.1, s.2))
+      (λ h. (p, has_last parts p, subst (λ l. Has l (i, r)) same h))
+      (put.sound i r e);
+  filled = λ q i r h own'. ⊎_elim
+      (λ was. let f = laid.filled q i r was own' in put.kept i f.0 f.1)
+      (λ is. put.filled i r (subst (λ l. Has l (i, r)) (ap (λ (x : Part). x.own) is ∙ sym same) own'))
+      (has_either parts p q h);
+}
+
+pub laid_none : (places : List (Option Record)) → ((i : ℕ) (r : Record) → get_elem? places i ≢ some (Some r)) → AreLaid [] places
+laid_none places none = record { sound = λ i r e. absurd (none i r e); filled = λ p i r h. absurd h }
+
+-- ---- the history that they are
+
+-- a part has the records of its caller at their places
+part_has : (place caller i : ℕ) (log : List Recorded) (x : Recorded) → get_elem? log i ≡ some x → x.caller ≡ caller → Has (part_from place caller log) (place + i, x)
+part_has place caller i [] x e by = absurd cc
+part_has place caller zero (y ∷ log) x e by = let same : y ≡ x = some-injective y x e in
+    subst (λ (b : Bool). Has (if b then (place, y) ∷ part_from (place + 1) caller log else part_from (place + 1) caller log) (place + 0, x)) (sym (ap (λ (k : ℕ). eqb k caller) (ap (λ (z : Recorded). z.caller) same ∙ by) ∙ eqb_same caller))
+    (inl (λ k. ((let z : place + 0 ≡ place = omega arith in z) k, sym same k)))
+part_has place caller (suc i) (y ∷ log) x e by = go (eqb y.caller caller) (subst (λ (k : ℕ). Has (part_from (place + 1) caller log) (k, x)) (let z : place + 1 + i ≡ place + suc i = omega arith in z) (part_has (place + 1) caller i log x e by))
+  where
+    go : (b : Bool) → Has (part_from (place + 1) caller log) (place + suc i, x) → Has (if b then (place, y) ∷ part_from (place + 1) caller log else part_from (place + 1) caller log) (place + suc i, x)
+    go true h = inr h
+    go false h = h
+
+-- and no others
+has_part : (place caller : ℕ) (log : List Recorded) (j : ℕ) (x : Recorded) → Has (part_from place caller log) (j, x) → (i : ℕ) × (j ≡ place + i) × (get_elem? log i ≡ some x)
+has_part place caller [] j x h = absurd h
+has_part place caller (y ∷ log) j x h = go (eqb y.caller caller) h (λ more. has_part (place + 1) caller log j x more)
+  where
+    later : ((i : ℕ) × (j ≡ place + 1 + i) × (get_elem? log i ≡ some x)) → (i : ℕ) × (j ≡ place + i) × (get_elem? (y ∷ log) i ≡ some x)
+    later t = (suc t.0, (let z = t.1 in omega arith), t.2)
+
+    go : (b : Bool) → Has (if b then (place, y) ∷ part_from (place + 1) caller log else part_from (place + 1) caller log) (j, x)
+        → (Has (part_from (place + 1) caller log) (j, x) → (i : ℕ) × (j ≡ place + 1 + i) × (get_elem? log i ≡ some x)) → (i : ℕ) × (j ≡ place + i) × (get_elem? (y ∷ log) i ≡ some x)
+    go true h more = ⊎_elim (λ is. (0, (let z = ap (λ (p : ℕ × Recorded). p.0) is in omega arith), ap some (sym (ap (λ (p : ℕ × Recorded). p.1) is)))) (λ t. later (more t)) h
+    go false h more = later (more h)
+
+own_has : (own : List (ℕ × Record)) (i : ℕ) (x : Recorded) → Has (own_of own) (i, x) → (r : Record) × Has own (i, r) × (recorded_of r ≡ x)
+own_has [] i x h = absurd h
+own_has (p ∷ ps) i x h = ⊎_elim (λ is. (p.1, inl (λ k. (ap (λ (q : ℕ × Recorded). q.0) is k, p.1)), sym (ap (λ (q : ℕ × Recorded). q.1) is))) (λ more. let t = own_has ps i x more in (t.0, inr t.1, t.2)) h
+
+has_own : (own : List (ℕ × Record)) (i : ℕ) (r : Record) → Has own (i, r) → Has (own_of own) (i, recorded_of r)
+has_own [] i r h = absurd h
+has_own (p ∷ ps) i r h = ⊎_elim (λ is. inl (ap (λ (q : ℕ × Record). let z : ℕ × Recorded = (q.0, recorded_of q.1) in z) is)) (λ more. inr (has_own ps i r more)) h
+
+-- where the places have the records of a history and nothing beyond, they are it
+pub somes_are : (places : List (Option Record)) (log : List Recorded) → ((i : ℕ) (x : Recorded) → get_elem? log i ≡ some x → (r : Record) × (get_elem? places i ≡ some (Some r)) × (recorded_of r ≡ x))
+    → ((i : ℕ) (r : Record) → get_elem? places i ≡ some (Some r) → (x : Recorded) × (get_elem? log i ≡ some x)) → history_of (somes places) ≡ log
+somes_are [] [] full sound = refl
+somes_are [] (x ∷ log) full sound = absurd (let t = full 0 x refl in let z = t.1 in cc)
+somes_are (None ∷ os) [] full sound = somes_are os [] (λ i x e. absurd cc) (λ i r e. sound (suc i) r e)
+somes_are (Some r ∷ os) [] full sound = absurd (let t = sound 0 r refl in let z = t.1 in cc)
+somes_are (None ∷ os) (x ∷ log) full sound = absurd (let t = full 0 x refl in let z = some-injective None (Some t.0) t.1 in cc)
+somes_are (Some r ∷ os) (x ∷ log) full sound = let t = full 0 x refl in let same : Some r ≡ Some t.0 = some-injective (Some r) (Some t.0) t.1 in
+    (λ i. (ap recorded_of (let z : r ≡ t.0 = cc in z) ∙ t.2) i ∷ somes_are os log (λ i x e. full (suc i) x e) (λ i r e. sound (suc i) r e) i)
+
+-- the places of all numbers are the history
+pub laid_is : (log : List Recorded) (parts : List Part) (places : List (Option Record)) → AreLaid parts places → ((p : Part) → Has parts p → own_of p.own ≡ part_of p.core.who log)
+    → ((i : ℕ) (x : Recorded) → get_elem? log i ≡ some x → (p : Part) × Has parts p × (p.core.who ≡ x.caller)) → history_of (somes places) ≡ log
+laid_is log parts places laid owns all = somes_are places log
+    (λ i x e. let w = all i x e in let h = subst (λ l. Has l (0 + i, x)) (sym (owns w.0 w.1)) (part_has 0 w.0.core.who i log x e (sym w.2)) in let t = own_has w.0.own (0 + i) x h in
+    let f = laid.filled w.0 (0 + i) t.0 w.1 t.1 in let at : get_elem? places i ≡ some (Some f.0) = ap (get_elem? places) (let z : i ≡ 0 + i = omega arith in z) ∙ f.1 in
+    let u = there i f.0 at in (f.0, at, some-injective _ _ (sym u ∙ e)))
+    (λ i r e. (recorded_of r, there i r e))
+  where
+    there : (i : ℕ) (r : Record) → get_elem? places i ≡ some (Some r) → get_elem? log i ≡ some (recorded_of r)
+    there i r e = let s = laid.sound i r e in let p = has_part 0 s.0.core.who log i (recorded_of r) (subst (λ l. Has l (i, recorded_of r)) (owns s.0 s.1) (has_own s.0.own i r s.2)) in
+        ap (get_elem? log) (let z : i ≡ p.0 = (let y = p.1 in omega arith) in z) ∙ p.2
+
+-- ---- seats that are joined
+
+pub take_all : {A : Type 0} (P : A → Type 0) (xs : List A) (i : ℕ) (x : A) → i < length xs → x ≡ get_or xs i x → AllByRecursion P (take i xs) → P x → AllByRecursion P (take (i + 1) xs)
+take_all P [] i x small is all here = absurd (omega arith)
+take_all P (y ∷ ys) zero x small is all here = (subst P is here, tt)
+take_all P (y ∷ ys) (suc i) x small is all here = subst (λ (k : ℕ). AllByRecursion P (take k (y ∷ ys))) (let z : suc (i + 1) ≡ suc i + 1 = omega arith in z) (all.0, take_all P ys i x (omega arith) is all.1 here)
+
+pub all_more : {A : Type 0} (P Q : A → Type 0) → ((x : A) → P x → Q x) → (xs : List A) → AllByRecursion P xs → AllByRecursion Q xs
+all_more P Q more [] all = tt
+all_more P Q more (x ∷ xs) all = (more x all.0, all_more P Q more xs all.1)
+
+pub gathered_one : (table : TableId) (s : Seat16) (token : Seat Cell Sight) (old new : List (Option Record)) → HasCome table s → token ≡ s.seat → AreFree old → ArePut old s.records.items new → IsGathered table (s ∷ []) (length old) token new
+gathered_one table s token old new come is free put = subst (λ (t : Seat Cell Sight). IsGathered table (s ∷ []) (length old) t new) (sym is) (record {
+  home = come.seated.home;
+  seated = come.seated.seated;
+  bare = come.bare;
+  size = put.size;
+  laid = subst (λ l. AreLaid (s.seat.me.0.part ∷ l) new) (sym come.seated.alone) (laid_more [] s.seat.me.0.part old new s.records.items (laid_none old free) come.seated.records put);
+  all = λ t h. ⊎_elim (λ same. inl (ap (λ (x : Seat16). x.seat.me.0.part) same)) (λ none. absurd none) h;
+})
+
+pub gathered_more : (table : TableId) (seats : List Seat16) (s : Seat16) (count : ℕ) (token next : Seat Cell Sight) (old new : List (Option Record)) → IsGathered table seats count token old → HasCome table s → ArePut old s.records.items new
+    → next.table_id ≡ token.table_id → next.me.0 ≡ with_seat token.me.0 s.seat.me.0 → IsGathered table (seats ++ s ∷ []) count next new
+gathered_more table seats s count token next old new g come put home view =
+    let parts : parts_of next.me.0 ≡ parts_of token.me.0 ++ s.seat.me.0.part ∷ [] = ap parts_of view ∙ ap (λ l. token.me.0.part ∷ (token.me.0.idle ++ s.seat.me.0.part ∷ l)) come.seated.alone in record {
+      home = home ∙ g.home;
+      seated = ap (λ (v : Sight). v.seated) view ∙ g.seated;
+      bare = subst (λ (v : Sight). IsBare v.part.core) (sym view) g.bare;
+      size = put.size ∙ g.size;
+      laid = subst (λ l. AreLaid l new) (sym parts) (laid_more (parts_of token.me.0) s.seat.me.0.part old new s.records.items g.laid come.seated.records put);
+      all = λ t h. subst (λ l. Has l t.seat.me.0.part) (sym parts) (⊎_elim
+          (λ was. has_more (parts_of token.me.0) (s.seat.me.0.part ∷ []) t.seat.me.0.part (g.all t was))
+          (λ same. subst (λ (p : Part). Has (parts_of token.me.0 ++ s.seat.me.0.part ∷ []) p) (ap (λ (x : Seat16). x.seat.me.0.part) (sym same)) (has_last (parts_of token.me.0) s.seat.me.0.part))
+          (has_either seats s t h));
+    }
+
+-- the seats in the order in which they came
+pub gathered_all : (table : TableId) (seats later : List Seat16) (last : Seat16) (count : ℕ) (token : Seat Cell Sight) (places : List (Option Record)) → IsGathered table (last ∷ later) count token places → seats ≡ later ++ last ∷ [] → IsGathered table seats count token places
+gathered_all table seats later last count token places g is = record {
+  home = g.home;
+  seated = g.seated;
+  bare = g.bare;
+  size = g.size;
+  laid = g.laid;
+  all = λ s h. g.all s (⊎_elim (λ was. inr was) (λ same. inl same) (has_either later last s (subst (λ l. Has l s) is h)));
+}
+
+-- ---- taking the slots of a closed table
+
+pub none_taken : (count : ℕ) (filled : List Bool) → ((k : ℕ) → 0 ≤ k → k < count → get_or filled k false ≡ true) → AreTakenBelow 0 count filled
+none_taken count filled full = record { there = full; gone = λ k low. absurd (omega arith) }
+
+pub take_on : (taken count : ℕ) (filled : List Bool) → AreTakenBelow taken count filled → AreTakenBelow (taken + 1) count (set filled taken false)
+take_on taken count filled are = record {
+  there = λ k low small. get_or-set_other filled taken k false false (λ e. omega arith) ∙ are.there k (omega arith) small;
+  gone = λ k low. dite (ℕ_discrete k taken)
+      (λ e. ap (λ (i : ℕ). get_or (set filled taken false) i false) e ∙ set_false filled taken)
+      (λ ne. get_or-set_other filled taken k false false ne ∙ are.gone k (omega arith));
+}
+  where
+    set_false : (fs : List Bool) (i : ℕ) → get_or (set fs i false) i false ≡ false
+    set_false [] i = refl
+    set_false (f ∷ fs) zero = refl
+    set_false (f ∷ fs) (suc i) = set_false fs i
+
+pub node_more : (nodes : List Node) (slots : List Cell) (n : ℕ) (node : Node) → length nodes ≡ n → get_elem? slots n ≡ some (Content node) → ((k : ℕ) (x : Node) → k < n → get_elem? slots k ≡ some (Content x) → get_elem? nodes k ≡ some x)
+    → (k : ℕ) (x : Node) → k < n + 1 → get_elem? slots k ≡ some (Content x) → get_elem? (nodes ++ node ∷ []) k ≡ some x
+node_more nodes slots n node long here are k x low e = dite (ℕ_discrete k n)
+    (λ is. ap (get_elem? (nodes ++ node ∷ [])) is ∙ at_last nodes node n long ∙ ap some (let z : some (Content node) ≡ some (Content x) = sym here ∙ sym (ap (get_elem? slots) is) ∙ e in let y : Content node ≡ Content x = some-injective _ _ z in let w : node ≡ x = cc in w))
+    (λ isnt. at_longer nodes (node ∷ []) k x (are k x (omega arith) e))
+
+pub none_left : {A : Type 0} (xs : List A) → length xs ≡ 0 → xs ≡ []
+none_left [] e = refl
+none_left (x ∷ xs) e = absurd (omega arith)

@@ -1,0 +1,14 @@
+pub mod Totals
+pub mod Regions
+pub mod Fits
+pub mod Moves
+pub mod Places
+pub mod Seats
+pub mod Turning
+pub mod Making
+pub mod Closing
+pub mod Ends
+pub mod InsideRegions
+pub mod InsideMoves
+pub mod InsideSteps
+pub mod InsideTurning

@@ -1,0 +1,106 @@
+-- Making a table: its slots, and its seats one after another.
+use Rattle.std.proofs.Common.{refl, ◌≡◌, ℕ, suc, ◌+◌, ◌-◌, ◌<◌, ◌≤◌, ◌^◌, List, [], ◌∷◌, ◌++◌, length, sym, ap, ◌∙◌, subst, ⊎_elim, arith, None, replicate, length-append, zero, inl, inr}
+use mathlib.Core.Logic.{dite}
+use mathlib.Core.Option.{some}
+use mathlib.Core.Option as maybe
+use native.Mathlib.Decide.{ℕ_discrete}
+use lib.ListN.{get_elem?, length-replicate}
+use Rattle.atomic_table.specs.Seated.{TableId}
+use Rattle.atomic_table.specs.Table.{Splits, opening}
+use Rattle.atomic_table.proofs.Lists.{at_longer, at_last}
+use Rattle.std.specs.List.{AllByRecursion}
+use Rattle.ww_plain.specs.declared.node.Node.{Node}
+use Rattle.ww_plain.specs.declared.history.Record.{Record}
+use Rattle.ww_plain.specs.Graph.{IsGraph, node_at}
+use Rattle.ww_table.specs.declared.cells.Cell.{Cell}
+use Rattle.ww_table.specs.declared.cells.Cell.TheVariants.{Content, Line}
+use Rattle.ww_table.specs.declared.cells.Part.{Part}
+use Rattle.ww_table.specs.declared.cells.Sight.{Sight}
+use Rattle.ww_table.specs.declared.cells.Start.{Start}
+use Rattle.ww_table.specs.declared.seat.Seat16.{Seat16}
+use Rattle.ww_table.specs.Rule.{Sat, first_graph, first_part, first_parts, first_sight, Ruled}
+use Rattle.ww_table.specs.Steps.{seat_of, first_seat, rest_of, without_first}
+use Rattle.ww_table.specs.Seat.{IsNew, numbers_of}
+use Rattle.ww_table.specs.Made.{AreSlots, AreNew, less}
+use Rattle.ww_table.specs.Closed.{HasCome, HaveAllCome}
+use Rattle.ww_queue.specs.Queue.{Has}
+use Rattle.ww_view.specs.View.{IsBare}
+use Rattle.ww_table.proofs.Seats.{opens, splits, at_end, bare_first}
+
+pub slots_more : (graph : List Node) (n : ℕ) (slots : List Cell) (x : Cell) → AreSlots graph n slots → (n < length graph → x ≡ Content (node_at graph n)) → (length graph ≤ n → x ≡ Line []) → AreSlots graph (n + 1) (slots ++ x ∷ [])
+slots_more graph n slots x are node list = record {
+  many = let l = length-append slots (x ∷ []) in let m = are.many in omega arith;
+  nodes = λ k low small. dite (ℕ_discrete k n)
+      (λ e. ap (get_elem? (slots ++ x ∷ [])) e ∙ at_last slots x n are.many ∙ ap some (node (let s = small in omega arith)) ∙ ap (λ (j : ℕ). some (Content (node_at graph j))) (sym e))
+      (λ ne. at_longer slots (x ∷ []) k (Content (node_at graph k)) (are.nodes k (omega arith) small));
+  lists = λ k low big. dite (ℕ_discrete k n)
+      (λ e. ap (get_elem? (slots ++ x ∷ [])) e ∙ at_last slots x n are.many ∙ ap some (list (let s = big in omega arith)))
+      (λ ne. at_longer slots (x ∷ []) k (Line []) (are.lists k (omega arith) big));
+}
+
+pub new_seat : (table : TableId) (key : Start) (k : ℕ) (s : Seat16) → s.seat.table_id ≡ table → s.seat.me ≡ (seat_of (length (first_graph key)) (first_part key.kind k), []) → s.who ≡ k → k < 16 → s.stamp ≡ 0 → s.order.items ≡ [] → s.records.items ≡ [] → IsNew table key k s
+new_seat table key k s home me who few stamp order records = record {
+  seated = record {
+    home = home;
+    seated = ap (λ (m : Sat). m.0.seated) me;
+    who = ap (λ (m : Sat). m.0.part.core.who) me ∙ sym who;
+    few = subst (λ (t : ℕ). t < 16) (sym who) few;
+    stamp = ap (λ (m : Sat). m.0.part.core.stamp) me ∙ sym stamp;
+    small = omega arith;
+    order = order ∙ sym (ap (λ (m : Sat). numbers_of m.1) me);
+    records = records ∙ sym (ap (λ (m : Sat). m.0.part.own) me);
+    alone = ap (λ (m : Sat). m.0.idle) me;
+    places = subst (AllByRecursion (λ (p : ℕ × Record). p.0 < 2 ^ 37)) (sym records) tt;
+  };
+  number = who;
+  me = me;
+}
+
+pub news_more : (table : TableId) (key : Start) (n : ℕ) (seats : List Seat16) (s : Seat16) → AreNew table key n seats → IsNew table key n s → AreNew table key (n + 1) (seats ++ s ∷ [])
+news_more table key n seats s are new = record {
+  many = let l = length-append seats (s ∷ []) in let m = are.many in omega arith;
+  new = λ k t there. ⊎_elim (λ was. are.new k t was) (λ now. subst (λ (x : ℕ × Seat16). IsNew table key x.0 x.1) (λ i. (sym (now.0 ∙ are.many) i, now.1 i)) new) (at_end seats s t k there);
+}
+
+-- the idle numbers of the first seat begin with the next
+next_idle : (key : Start) (k : ℕ) → k < key.seats - 1 → (less key k).idle ≡ first_part key.kind k ∷ (less key (k + 1)).idle
+next_idle key k more = ap (first_parts key.kind k) (let z : key.seats - 1 - k ≡ suc (key.seats - 1 - (k + 1)) = omega arith in z)
+
+pub next_splits : (key : Start) (id k : ℕ) (v : Sight) → v ≡ less key k → k < key.seats - 1 → Splits (Ruled key) id v (without_first v) (first_seat (length v.held) v.idle)
+next_splits key id k v is more = splits key id v (first_part key.kind k) (less key (k + 1)).idle (ap (λ (w : Sight). w.seated) is) (ap (λ (w : Sight). w.idle) is ∙ next_idle key k more)
+
+pub next_left : (key : Start) (k : ℕ) (v : Sight) → v ≡ less key k → k < key.seats - 1 → without_first v ≡ less key (k + 1)
+next_left key k v is more = ap without_first is ∙ ap (λ (l : List Part). let w : Sight = record (first_sight key) { idle = rest_of l } in w) (next_idle key k more)
+
+pub next_cut : (key : Start) (k : ℕ) (v : Sight) → v ≡ less key k → k < key.seats - 1 → first_seat (length v.held) v.idle ≡ seat_of (length (first_graph key)) (first_part key.kind k)
+next_cut key k v is more = ap (λ (w : Sight). first_seat (length w.held) w.idle) is ∙ ap (first_seat (length (less key k).held)) (next_idle key k more)
+    ∙ ap (λ (n : ℕ). seat_of n (first_part key.kind k)) (length-replicate {A = _} (length (first_graph key)) None)
+
+-- with all numbers but the last cut off, the first seat is that of the last
+pub last_left : (key : Start) (k : ℕ) → k ≡ key.seats - 1 → less key k ≡ seat_of (length (first_graph key)) (first_part key.kind k)
+last_left key k is = (λ i. record (first_sight key) { part = first_part key.kind (sym is i); idle = first_parts key.kind k ((let z : key.seats - 1 - k ≡ 0 = omega arith in z) i) })
+
+pub opens_made : (key : Start) (graph : List Node) (slots : List Cell) → first_graph key ≡ graph → 1 ≤ key.seats → key.seats ≤ 16 → IsGraph graph → AreSlots graph 128 slots → Ruled key (opening (replicate 656 0) slots (first_sight key))
+opens_made key graph slots same one few is are = opens key one (omega arith) (subst IsGraph (sym same) is) slots are.many
+    (λ n low. are.nodes n (let m = is.few in let l = ap length same in omega arith) (let l = ap length same in omega arith) ∙ ap (λ (g : List Node). maybe.some (Content (node_at g n))) (sym same))
+    (λ n low. are.lists (64 + n) (omega arith) (let m = is.few in omega arith))
+
+all_from : {A : Type 0} (P : A → Type 0) (xs : List A) → ((k : ℕ) (x : A) → get_elem? xs k ≡ some x → P x) → AllByRecursion P xs
+all_from P [] each = tt
+all_from P (x ∷ xs) each = (each 0 x refl, all_from P xs (λ k y e. each (suc k) y e))
+
+there : {A : Type 0} (xs : List A) (k : ℕ) → k < length xs → (x : A) × Has xs x × (get_elem? xs k ≡ some x)
+there [] k low = absurd (omega arith)
+there (x ∷ xs) zero low = (x, inl refl, refl)
+there (x ∷ xs) (suc k) low = let t = there xs k (omega arith) in (t.0, inr t.1, t.2)
+
+-- seats that did nothing yet hold nothing
+pub new_come : (table : TableId) (key : Start) (seats : List Seat16) → AreNew table key key.seats seats → HaveAllCome table key seats
+new_come table key seats are = record {
+  each = all_from (HasCome table) seats (λ k s e. let n = are.new k s e in record {
+    seated = n.seated;
+    bare = subst (λ (m : Sat). IsBare m.0.part.core) (sym n.me) (bare_first key.kind k);
+    nothing = ap (λ (m : Sat). m.1) n.me;
+  });
+  all = λ k low. let m = are.many in let t = there seats k (omega arith) in (t.0, t.1, (are.new k t.0 t.2).number);
+}

@@ -1,0 +1,15 @@
+use Rattle.std.proofs.Common.{arith}
+use Rattle.ww_table.proofs.Places.{places}
+use Rattle.ww_table.proofs.place.place_said.Goals as goal
+
+pub fetch_add-requires : goal.fetch_add-requires
+fetch_add-requires g c = let r = c.requires in (r.home, (let z = c.args.board.now.sized.0 in omega arith), places _ _ _ _ _ c.args.done.now r.seated r.said r.may)
+
+pub returns-clause-placed : goal.returns-clause-placed
+returns-clause-placed g c = (c.fetch_add.ensures.2 c.args.done.now c.requires.said).0
+
+pub returns-clause-above : goal.returns-clause-above
+returns-clause-above g c = (c.fetch_add.ensures.2 c.args.done.now c.requires.said).1
+
+pub returns-clause-few : goal.returns-clause-few
+returns-clause-few g c = (c.fetch_add.ensures.2 c.args.done.now c.requires.said).2

@@ -1,0 +1,6 @@
+use Rattle.std.proofs.Common.{arith}
+use Rattle.ww_table.proofs.Moves.{draws_one}
+use Rattle.ww_table.proofs.seat.Seat16.draw.Goals as goal
+
+pub fetch_add-stamp-requires : goal.fetch_add-stamp-requires
+fetch_add-stamp-requires c = let s = c.requires.seat in (s.home, (let z = c.args.board.now.sized.0 in omega arith), draws_one _ _ _ _ s.seated c.requires.may)

@@ -1,0 +1,12 @@
+use Rattle.std.proofs.Common.{arith, ℕ, ◌+◌, ◌*◌, sym, refl, ap, ◌∙◌}
+use Rattle.ww_table.specs.Seat.{numbers_of}
+use Rattle.ww_table.proofs.InsideSteps.{reads, read_is}
+use Rattle.ww_table.proofs.Turning.{seated_as}
+use Rattle.ww_table.proofs.seat.Seat16.own_sign.Goals as goal
+
+pub load-requires : goal.load-requires
+load-requires c = let s = c.requires.seat in let small = s.few in let word = c.sign_word.ensures in (s.home, (let z = c.args.board.now.sized.0 in omega arith), reads _ _ _ _ _ (word ∙ ap (λ (t : ℕ). 512 + 8 * t) (sym s.who)) s.seated)
+
+pub returns-clause-seat : goal.returns-clause-seat
+returns-clause-seat c = let s = c.requires.seat in let e = c.load.ensures in let r = read_is 0 0 c.args.self.now.seat.me c.load.new.seat.me c.load.result e.2 in
+    seated_as _ c.args.self.now _ _ s e.0 (ap (λ m. m.0) r.3) refl r.1 r.2 refl refl refl refl refl (s.order ∙ ap numbers_of (sym (ap (λ m. m.1) r.3)))

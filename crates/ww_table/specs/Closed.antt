@@ -1,0 +1,84 @@
+-- What closing a table asks, and what it gives.
+use Rattle.std.specs.Prelude.{ℕ, ◌≡◌, ◌≢◌, ◌<◌, ◌≤◌, ◌⊎◌, ◌∷◌, [], Bool, true, false, List, slice_index_or, length, Option, Some, None}
+use mathlib.Core.Option.{some}
+use lib.ListN.{get_elem?}
+use Rattle.std.specs.List.{AllByRecursion}
+use Rattle.atomic_table.specs.declared.shared.Seat.{Seat}
+use Rattle.atomic_table.specs.Seated.{TableId}
+use Rattle.ww_queue.specs.Queue.{Has}
+use Rattle.ww_plain.specs.declared.node.Node.{Node}
+use Rattle.ww_plain.specs.declared.history.Record.{Record}
+use Rattle.ww_plain.specs.History.{Recorded, history_of, IsLegal, last_graph, part_of}
+use Rattle.ww_view.specs.View.{IsBare}
+use Rattle.ww_table.specs.declared.cells.Cell.{Cell}
+use Rattle.ww_table.specs.declared.cells.Part.{Part}
+use Rattle.ww_table.specs.declared.cells.Sight.{Sight}
+use Rattle.ww_table.specs.declared.cells.Start.{Start}
+use Rattle.ww_table.specs.declared.seat.Seat16.{Seat16}
+use Rattle.ww_table.specs.Rule.{first_graph, own_of}
+use Rattle.ww_table.specs.Seat.{IsSeated}
+
+-- a seat of the table that holds nothing
+pub record HasCome (table : TableId) (s : Seat16) : Type 0 where
+  pub seated : IsSeated table s
+  pub bare : IsBare s.seat.me.0.part.core
+  pub nothing : s.seat.me.1 ≡ []
+
+-- the seats of all numbers are there, and hold nothing
+pub record HaveAllCome (table : TableId) (key : Start) (seats : List Seat16) : Type 0 where
+  pub each : AllByRecursion (HasCome table) seats
+  pub all : (k : ℕ) → k < key.seats → (s : Seat16) × Has seats s × (s.who ≡ k)
+
+-- The records are a legal history from the first graph, and lead to this graph. Each is one of a seat's, and the part of each
+-- seat is exactly its own list.
+pub record IsClosed (key : Start) (seats : List Seat16) (records : List Record) (graph : List Node) : Type 0 where
+  pub legal : IsLegal (first_graph key) (history_of records)
+  pub fold : graph ≡ last_graph (first_graph key) (history_of records)
+  pub callers : (k : ℕ) (r : Recorded) → get_elem? (history_of records) k ≡ some r → r.caller < key.seats
+  pub parts : (s : Seat16) → Has seats s → part_of s.who (history_of records) ≡ own_of s.records.items
+
+-- ---- on the way
+
+-- the records of an own list are put in their places
+pub record ArePut (old : List (Option Record)) (own : List (ℕ × Record)) (new : List (Option Record)) : Type 0 where
+  pub size : length new ≡ length old
+  pub sound : (i : ℕ) (r : Record) → get_elem? new i ≡ some (Some r) → (get_elem? old i ≡ some (Some r)) ⊎ Has own (i, r)
+  pub kept : (i : ℕ) (r : Record) → get_elem? old i ≡ some (Some r) → (t : Record) × (get_elem? new i ≡ some (Some t))
+  pub filled : (i : ℕ) (r : Record) → Has own (i, r) → (t : Record) × (get_elem? new i ≡ some (Some t))
+
+-- the numbers that a view says something of
+abbrev pub parts_of : Sight → List Part
+parts_of v = v.part ∷ v.idle
+
+-- the places have the records of these numbers, and no others
+pub record AreLaid (parts : List Part) (places : List (Option Record)) : Type 0 where
+  pub sound : (i : ℕ) (r : Record) → get_elem? places i ≡ some (Some r) → (p : Part) × Has parts p × Has p.own (i, r)
+  pub filled : (p : Part) (i : ℕ) (r : Record) → Has parts p → Has p.own (i, r) → (t : Record) × (get_elem? places i ≡ some (Some t))
+
+-- the records of the places, in order
+abbrev pub somes : List (Option Record) → List Record
+somes [] = []
+somes (None ∷ os) = somes os
+somes (Some r ∷ os) = r ∷ somes os
+
+-- These seats are one, which holds nothing and has all their numbers, and the places have their records.
+pub record IsGathered (table : TableId) (seats : List Seat16) (count : ℕ) (token : Seat Cell Sight) (places : List (Option Record)) : Type 0 where
+  pub home : token.table_id ≡ table
+  pub seated : token.me.0.seated ≡ true
+  pub bare : IsBare token.me.0.part.core
+  pub size : length places ≡ count
+  pub laid : AreLaid (parts_of token.me.0) places
+  pub all : (s : Seat16) → Has seats s → Has (parts_of token.me.0) s.seat.me.0.part
+
+-- the places have room for the records of a seat
+abbrev pub HasPlaces : ℕ → Seat16 → Type 0
+HasPlaces count s = AllByRecursion (λ p. p.0 < count) s.records.items
+
+-- no place has a record yet
+abbrev pub AreFree : List (Option Record) → Type 0
+AreFree places = (i : ℕ) (r : Record) → get_elem? places i ≢ some (Some r)
+
+-- the slots from this one on are not taken yet, and those before it are
+pub record AreTakenBelow (taken count : ℕ) (filled : List Bool) : Type 0 where
+  pub there : (k : ℕ) → taken ≤ k → k < count → slice_index_or filled k false ≡ true
+  pub gone : (k : ℕ) → k < taken → slice_index_or filled k false ≡ false

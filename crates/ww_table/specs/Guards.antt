@@ -1,0 +1,47 @@
+-- What each step at a guard makes of the seat.
+use Rattle.std.specs.Prelude.{ℕ, ◌≡◌, ◌≢◌, ◌<◌, ◌^◌, List, ◌∷◌}
+use Rattle.atomic_table.specs.Table.{Step, rest}
+use Rattle.ww_word.specs.declared.owner.Owner.{Owner}
+use Rattle.ww_word.specs.Owner.{IsValid, packed}
+use Rattle.ww_queue.specs.declared.entry.Entry.{Entry}
+use Rattle.ww_queue.specs.Queue.{Has}
+use Rattle.ww_view.specs.Made.{stepped, entered, exited, has_looked}
+use Rattle.ww_table.specs.declared.cells.Cell.{Cell}
+use Rattle.ww_table.specs.declared.cells.Cell.TheVariants.{Line}
+use Rattle.ww_table.specs.declared.cells.Sight.{Sight}
+use Rattle.ww_table.specs.Layout.{guard_at, list_at}
+use Rattle.ww_table.specs.Rule.{Sat}
+use Rattle.ww_table.specs.Steps.{knowing}
+
+-- the word was another than the seat expected
+abbrev pub lost : Sight → Sight
+lost v = knowing v (stepped v.part.core)
+
+-- each waiter is one of the seats, and an owner word has room for its stamp
+abbrev pub AreSeats : List Entry → Type 0
+AreSeats q = (e : Entry) → Has q e → (e.seat < 16) × (e.stamp < 2 ^ 56)
+
+-- ---- enter: one try to go inside the guard, and the wait list comes with it
+
+abbrev pub entering : Sight → ℕ → List Entry → Sight
+entering v n q = knowing v (entered v.part.core n q)
+
+abbrev pub enters_to : Step Cell → Sat → ℕ → Sat → Type 0
+enters_to st m found m' = (n : ℕ) → st.word ≡ guard_at n →
+    (found ≡ 0 → (q : List Entry) × AreSeats q × (m' ≡ (entering m.0 n q, (list_at n, Line q) ∷ m.1))) × (found ≢ 0 → m' ≡ (lost m.0, m.1))
+
+-- ---- exit: out of the guard, and the wait list goes home
+
+abbrev pub exiting : Sight → Sight
+exiting v = knowing v (exited v.part.core)
+
+abbrev pub exits_to : Step Cell → Sat → ℕ → Sat → Type 0
+exits_to st m stored m' = m' ≡ (exiting m.0, rest m.1)
+
+-- ---- look: the owner word, read inside the guard
+
+abbrev pub looking : Sight → Owner → Sight
+looking v o = knowing v (has_looked v.part.core o)
+
+abbrev pub looks_to : Step Cell → Sat → ℕ → Sat → Type 0
+looks_to st m found m' = (o : Owner) × IsValid o × (found ≡ packed o) × (m' ≡ (looking m.0 o, m.1))

@@ -1,0 +1,87 @@
+ghost use Rattle.std.specs.Prelude.{ℕ, ◌≡◌, ◌≢◌, ◌<◌, ◌+◌, ◌∷◌, length, true, false, Some, List};
+ghost use Rattle.ww_word.specs.Owner.{IsValid};
+ghost use Rattle.ww_queue.specs.declared.entry.Entry.{Entry};
+ghost use Rattle.ww_view.specs.May.{MayEnter, MayLeave};
+ghost use Rattle.ww_table.specs.declared.cells.Cell.{Cell};
+ghost use Rattle.ww_table.specs.declared.cells.Cell.TheVariants.{Line};
+ghost use Rattle.ww_table.specs.Layout.{guard_at, list_at};
+ghost use Rattle.ww_table.specs.Rule.{first_graph};
+ghost use Rattle.ww_table.specs.Seat.{IsSeated, AreOthers, slot_of};
+ghost use Rattle.ww_table.specs.Guards.{AreSeats, lost, entering, exiting, looking};
+
+use crate::board::Board;
+use crate::layout::owner_word;
+use crate::plays_inside::{Enter, Exit, Look};
+use crate::seat::{Seat16, bring};
+use ww_word::{Owner, unpack};
+
+/// The guard word of a lock.
+fn guard_word(lock: u8) -> usize
+    requires { lock < 64 }
+    ensures { result ≡ guard_at lock }
+{
+    8 * usize::from(lock) + 1
+}
+
+/// The slot of the wait list of a lock.
+pub(crate) fn list_slot(lock: u8) -> u8
+    requires { lock < 64 }
+    ensures { result ≡ list_at lock }
+{
+    64 + lock
+}
+
+impl Seat16 {
+    /// One try to go inside the guard of a lock. The wait list comes with it.
+    pub fn enter(&mut self, board: &Board, lock: u8) -> bool
+        requires seat { IsSeated board.now.table.shared.table_id self.old }
+        requires lock { lock < length (first_graph board.now.table.shared.key) }
+        requires may { MayEnter self.old.seat.me.0.part.core lock }
+        requires room { length self.old.seat.me.1 < 65 }
+        ensures seat { IsSeated board.now.table.shared.table_id self.new }
+        ensures entered { result ≡ true → (q : List Entry) × AreSeats q × (self.new.seat.me ≡ (entering self.old.seat.me.0 lock q, (list_at lock, Line q) ∷ self.old.seat.me.1)) }
+        ensures lost { result ≡ false → self.new.seat.me ≡ (lost self.old.seat.me.0, self.old.seat.me.1) }
+    {
+        let own = u64::from(self.who) + 1;
+        let shared = &board.table.shared;
+        let found = shared.compare_exchange::<Enter>(&mut self.seat, guard_word(lock), 0, own);
+        if found != 0 {
+            return false;
+        }
+        self.order.push(list_slot(lock));
+        true
+    }
+
+    /// Leaves the guard, and the wait list goes home as the view has it.
+    pub fn exit(&mut self, board: &Board, lock: u8)
+        requires seat { IsSeated board.now.table.shared.table_id self.old }
+        requires lock { lock < length (first_graph board.now.table.shared.key) }
+        requires may { MayLeave self.old.seat.me.0.part.core lock }
+        requires list { slot_of self.old.seat.me.1 (list_at lock) ≡ Some (Line self.old.seat.me.0.part.core.list) }
+        ensures seat { IsSeated board.now.table.shared.table_id self.new }
+        ensures view { self.new.seat.me.0 ≡ exiting self.old.seat.me.0 }
+        ensures home { AreOthers self.old.seat.me.1 (list_at lock) (Line self.old.seat.me.0.part.core.list) self.new.seat.me.1 }
+    {
+        bring(&mut self.seat, &mut self.order, list_slot(lock));
+        let shared = &board.table.shared;
+        shared.store::<Exit>(&mut self.seat, guard_word(lock), 0);
+        self.order.pop();
+    }
+
+    /// The owner word of the lock whose guard the seat is inside of.
+    pub fn look(&mut self, board: &Board, lock: u8) -> Owner
+        requires seat { IsSeated board.now.table.shared.table_id self.old }
+        requires lock { lock < length (first_graph board.now.table.shared.key) }
+        requires inside { self.old.seat.me.0.part.core.inside ≡ lock + 1 }
+        ensures seat { IsSeated board.now.table.shared.table_id self.new }
+        ensures looked { self.new.seat.me ≡ (looking self.old.seat.me.0 result, self.old.seat.me.1) }
+        ensures valid { IsValid result }
+    {
+        let shared = &board.table.shared;
+        let word = shared.load::<Look>(&mut self.seat, owner_word(lock));
+        match unpack(word) {
+            Some(owner) => owner,
+            None => unreachable!(),
+        }
+    }
+}

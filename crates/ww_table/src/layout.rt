@@ -1,0 +1,31 @@
+//! Which word is which: see `specs/Layout.antt`.
+ghost use Rattle.std.specs.Prelude.{◌≡◌, ◌<◌};
+ghost use Rattle.ww_table.specs.Layout.{owner_at, sign_at, stamp_at, front_at};
+
+/// How many words there are, most of them unused: they keep the others on cache lines of their own.
+pub(crate) const WORDS: usize = 656;
+
+/// How many slots there are.
+pub(crate) const SLOTS: usize = 128;
+
+/// The stamp drawn last.
+pub(crate) const STAMP: usize = 640;
+
+/// The number of commits.
+pub(crate) const FRONT: usize = 648;
+
+/// The owner word of a lock.
+pub(crate) fn owner_word(lock: u8) -> usize
+    requires { lock < 64 }
+    ensures { result ≡ owner_at lock }
+{
+    8 * usize::from(lock)
+}
+
+/// The sign word of a seat.
+pub(crate) fn sign_word(seat: u8) -> usize
+    requires { seat < 16 }
+    ensures { result ≡ sign_at seat }
+{
+    512 + 8 * usize::from(seat)
+}

@@ -1,0 +1,127 @@
+ghost use Rattle.std.specs.Prelude.{◌≡◌, ◌<◌, ◌≤◌, [], length, IfOk, IfErr, vec_len, vec_capacity};
+ghost use Rattle.ww_plain.specs.Graph.{node_at};
+ghost use Rattle.ww_table.specs.declared.cells.Cell.TheVariants.{Content, Line};
+ghost use Rattle.ww_table.specs.Layout.{IsSized};
+ghost use Rattle.ww_table.specs.Rule.{first_sight};
+ghost use Rattle.ww_table.specs.Made.{AreSlots, AreNew, IsMade};
+
+use crate::board::Board;
+use crate::cells::{Cell, Place, Start, Top, Waiters};
+use crate::layout::{SLOTS, WORDS};
+use crate::plays::Seats;
+use crate::seat::Seat16;
+use arrayvec::ArrayVec;
+use atomic_table::Table;
+use std::alloc::{AllocError, Global};
+use std::snapshot::Snapshot;
+use ww_plain::Graph;
+use ww_queue::Kind;
+
+impl Board {
+    /// A table of locks of this kind for the nodes of a graph, and so many seats; seat k has the number k. Where a growth is
+    /// refused the graph comes back.
+    pub fn make(
+        alloc: Global,
+        kind: Kind,
+        graph: Graph,
+        seats: u8,
+    ) -> Result<(Board, Vec<Seat16>), (Graph, AllocError)>
+        requires seats { (1 ≤ seats) × (seats ≤ 16) }
+        ensures ok { IfOk result (λ r. IsMade kind graph seats r.0 r.1.items) }
+        ensures err { IfErr result (λ e. e.0 ≡ graph) }
+    {
+        match lay(alloc, kind, &graph, seats) {
+            Ok(made) => Ok(made),
+            Err(error) => Err((graph, error)),
+        }
+    }
+}
+
+/// Makes the table, and cuts off its seats.
+fn lay(
+    alloc: Global,
+    kind: Kind,
+    graph: &Graph,
+    seats: u8,
+) -> Result<(Board, Vec<Seat16>), AllocError>
+    requires seats { (1 ≤ seats) × (seats ≤ 16) }
+    ensures { IfOk result (λ r. IsMade kind graph.now seats r.0 r.1.items) }
+{
+    let size = graph.size();
+    let room = Vec::with_capacity(alloc, usize::from(seats))?;
+    let slots = slots(alloc, graph)?;
+    let about = Start {
+        kind,
+        seats,
+        nodes: Snapshot::of(graph),
+    };
+    match Table::new(alloc, &[0; WORDS], slots, &about) {
+        Ok((table, first)) => {
+            let board = Board { table, size };
+            let made = cut(alloc, &board.table.shared, first, seats, room);
+            Ok((board, made))
+        }
+        Err(_) => Err(AllocError),
+    }
+}
+
+/// What the slots have at the start.
+fn slots(alloc: Global, graph: &Graph) -> Result<Vec<Cell>, AllocError>
+    ensures { IfOk result (λ slots. AreSlots graph.now 128 slots.items) }
+{
+    let mut slots = Vec::with_capacity(alloc, SLOTS)?;
+    for n in 0..SLOTS as u8 {
+        slots.push_reserved(cell(graph, n));
+    }
+    Ok(slots)
+}
+
+/// What a slot has at the start.
+fn cell(graph: &Graph, n: u8) -> Cell
+    ensures node { n < length graph.now → result ≡ Content (node_at graph.now n) }
+    ensures list { length graph.now ≤ n → result ≡ Line [] }
+{
+    if n < graph.size() {
+        Cell::Content(graph.node(n))
+    } else {
+        Cell::Line(Waiters::new())
+    }
+}
+
+/// Cuts off a seat for each number but the last, which the first seat keeps.
+fn cut(
+    alloc: Global,
+    shared: &Top,
+    mut first: Place,
+    seats: u8,
+    mut made: Vec<Seat16>,
+) -> Vec<Seat16>
+    requires sized { IsSized shared.now.table_id }
+    requires home { first.table_id ≡ shared.now.table_id }
+    requires view { first.me ≡ (first_sight shared.now.key, []) }
+    requires seats { (seats ≡ shared.now.key.seats) × (1 ≤ seats) × (seats ≤ 16) }
+    requires room { (made.items ≡ []) × (vec_len made ≡ 0) × (seats ≤ vec_capacity made) }
+    ensures { AreNew shared.now.table_id shared.now.key seats result.items }
+{
+    for who in 0..seats - 1 {
+        let seat = shared.split_seat::<Seats>(&mut first);
+        made.push_reserved(seated(alloc, seat, who));
+    }
+    made.push_reserved(seated(alloc, first, seats - 1));
+    made
+}
+
+/// A seat that did nothing yet.
+fn seated(alloc: Global, seat: Place, who: u8) -> Seat16
+    ensures same { result ≡ record { seat = seat; who = who; stamp = 0; order = result.order; records = result.records } }
+    ensures order { result.order.items ≡ [] }
+    ensures records { result.records.items ≡ [] }
+{
+    Seat16 {
+        seat,
+        who,
+        stamp: 0,
+        order: ArrayVec::new(),
+        records: Vec::new(alloc),
+    }
+}

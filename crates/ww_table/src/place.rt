@@ -1,0 +1,55 @@
+ghost use Rattle.std.specs.Prelude.{◌≡◌, ◌<◌, ◌^◌, true, Some, IfOk, OnErr, vec_len, vec_capacity};
+ghost use Rattle.std.specs.List.{AllByRecursion};
+ghost use Rattle.ww_plain.specs.History.{recorded_of};
+ghost use Rattle.ww_table.specs.Seat.{IsSeated};
+ghost use Rattle.ww_table.specs.Steps.{MayPlace, placing};
+
+use crate::board::Board;
+use crate::cells::Place;
+use crate::layout::FRONT;
+use crate::plays::{Commit, Said};
+use crate::seat::Seat16;
+use std::alloc::AllocError;
+use std::marker::Brand;
+use ww_plain::Record;
+
+impl Seat16 {
+    /// Makes room for the record of a commit: the one growth that a commit needs.
+    pub fn reserve(&mut self) -> Result<(), AllocError>
+        ensures same { self.new ≡ record self.old { records = self.new.records } }
+        ensures list { self.new.records.items ≡ self.old.records.items }
+        ensures ok { IfOk result (λ _. vec_len self.new.records < vec_capacity self.new.records) }
+        ensures err { OnErr result (vec_capacity self.new.records ≡ vec_capacity self.old.records) }
+    {
+        self.records.reserve(1)
+    }
+
+    /// Commits: the record takes the next place of the one history, which this gives, and the view names the nodes held as
+    /// the transaction leaves them. The slots are changed by `swap_node`.
+    pub fn place(&mut self, board: &Board, done: Record) -> u64
+        requires seat { IsSeated board.now.table.shared.table_id self.old }
+        requires may { MayPlace self.old.seat.me.0 (recorded_of done) }
+        requires reserved { vec_len self.old.records < vec_capacity self.old.records }
+        ensures seat { IsSeated board.now.table.shared.table_id self.new }
+        ensures placed { self.new.seat.me ≡ (placing self.old.seat.me.0 result done, self.old.seat.me.1) }
+        ensures above { AllByRecursion (λ p. p.0 < result) self.old.seat.me.0.part.own }
+    {
+        let place = place_said::<Brand>(&mut self.seat, board, &done);
+        self.records.push_reserved((place, done));
+        place
+    }
+}
+
+/// The record is named by W, since a step is told numbers alone.
+fn place_said<W: Said>(seat: &mut Place, board: &Board, done: &Record) -> u64
+    requires said { W.about ≡ Some done.now }
+    requires home { seat.old.table_id ≡ board.now.table.shared.table_id }
+    requires seated { seat.old.me.0.seated ≡ true }
+    requires may { MayPlace seat.old.me.0 (recorded_of done.now) }
+    ensures home { (seat.new.table_id ≡ seat.old.table_id) × (seat.new.id ≡ seat.old.id) }
+    ensures placed { seat.new.me ≡ (placing seat.old.me.0 result done.now, seat.old.me.1) }
+    ensures above { AllByRecursion (λ p. p.0 < result) seat.old.me.0.part.own }
+    ensures few { result < 2 ^ 37 }
+{
+    board.table.shared.fetch_add::<Commit<W>>(seat, FRONT, 1)
+}

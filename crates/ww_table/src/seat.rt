@@ -1,0 +1,167 @@
+ghost use Rattle.std.specs.Prelude.{◌≡◌, ◌≢◌, ◌<◌, ◌∷◌, length, true, false, Some};
+ghost use lib.ListN.{get_elem?};
+ghost use mathlib.Core.Option.{some};
+ghost use Rattle.ww_plain.specs.declared.node.Node.{Node};
+ghost use Rattle.ww_view.specs.View.{owns, IsAway};
+ghost use Rattle.ww_view.specs.May.{MayFast};
+ghost use Rattle.ww_view.specs.Made.{ended, fast_missed, has_read};
+ghost use Rattle.ww_table.specs.declared.cells.Cell.{Cell};
+ghost use Rattle.ww_table.specs.declared.cells.Cell.TheVariants.{Content};
+ghost use Rattle.ww_table.specs.Rule.{first_graph};
+ghost use Rattle.ww_table.specs.Seat.{IsSeated, AreOthers, slot_of, numbers_of};
+ghost use Rattle.std.specs.Prelude.{ℕ, ◌^◌, List};
+ghost use Rattle.ww_word.specs.Owner.{packed};
+ghost use Rattle.ww_table.specs.Steps.{knowing, drawing, taking, giving, MayDraw, MayEnd};
+
+use crate::board::Board;
+use crate::cells::{Cell, Place};
+use crate::layout::{STAMP, owner_word, sign_word};
+use crate::plays::{Draw, End, GiveFree, TakeFree};
+use arrayvec::ArrayVec;
+use std::mem;
+use ww_plain::{Node, Record};
+use ww_word::{Owner, pack};
+
+/// How many slots a seat can have out: all nodes, and the wait list of one lock.
+pub(crate) const MAX_OUT: usize = 65;
+
+/// A seat of a board. It may start one context after another, and each of its calls is one atomic step.
+#[derive(Drop)]
+pub struct Seat16 {
+    pub seat: Place,
+    pub(crate) who: u8,
+    pub(crate) stamp: u64,
+    /// The slots that it has out, the one taken last at the end.
+    pub(crate) order: ArrayVec<u8, MAX_OUT>,
+    pub(crate) records: Vec<(u64, Record)>,
+}
+
+impl Seat16 {
+    /// Starts a context, and gives its stamp: one more than the stamp drawn last.
+    pub fn draw(&mut self, board: &Board) -> u64
+        requires seat { IsSeated board.now.table.shared.table_id self.old }
+        requires may { MayDraw self.old.seat.me.0.part }
+        ensures seat { IsSeated board.now.table.shared.table_id self.new }
+        ensures drew { self.new.seat.me ≡ (drawing self.old.seat.me.0 result, self.old.seat.me.1) }
+        ensures context { 0 < result }
+    {
+        let stamp = board
+            .table
+            .shared
+            .fetch_add::<Draw>(&mut self.seat, STAMP, 1)
+            + 1;
+        self.stamp = stamp;
+        stamp
+    }
+
+    /// The owner word of a lock that this seat has taken, with nobody waiting.
+    fn word(&self) -> u64
+        requires few { self.now.who < 16 }
+        requires small { self.now.stamp < 2 ^ 56 }
+        ensures { result ≡ packed (record { seat = Some self.now.who; stamp = self.now.stamp; flags = 0 }) }
+    {
+        pack(Owner {
+            seat: Some(self.who),
+            stamp: self.stamp,
+            flags: 0,
+        })
+    }
+
+    /// One try to take a lock at once, which only a free one with an empty wait list allows.
+    pub fn take_free(&mut self, board: &Board, lock: u8) -> bool
+        requires seat { IsSeated board.now.table.shared.table_id self.old }
+        requires lock { lock < length (first_graph board.now.table.shared.key) }
+        requires may { MayFast self.old.seat.me.0.part.core }
+        requires room { length self.old.seat.me.1 < 65 }
+        ensures seat { IsSeated board.now.table.shared.table_id self.new }
+        ensures took { result ≡ true → (x : Node) × (self.new.seat.me ≡ (taking self.old.seat.me.0 lock x, (lock, Content x) ∷ self.old.seat.me.1)) }
+        ensures lost { result ≡ false → self.new.seat.me ≡ (knowing self.old.seat.me.0 (fast_missed self.old.seat.me.0.part.core), self.old.seat.me.1) }
+    {
+        let own = self.word();
+        let shared = &board.table.shared;
+        let found = shared.compare_exchange::<TakeFree>(&mut self.seat, owner_word(lock), 0, own);
+        if found != 0 {
+            return false;
+        }
+        self.order.push(lock);
+        true
+    }
+
+    /// One try to give a lock back at once, which only an empty wait list allows.
+    pub fn give_free(&mut self, board: &Board, lock: u8) -> bool
+        requires seat { IsSeated board.now.table.shared.table_id self.old }
+        requires lock { lock < length (first_graph board.now.table.shared.key) }
+        requires away { IsAway self.old.seat.me.0.part.core }
+        requires owner { owns self.old.seat.me.0.part.core lock ≡ true }
+        requires out { (x : Node) × (slot_of self.old.seat.me.1 lock ≡ Some (Content x)) × (get_elem? self.old.seat.me.0.held lock ≡ some (Some x)) }
+        ensures seat { IsSeated board.now.table.shared.table_id self.new }
+        ensures gave { result ≡ true → (x : Node) × (self.new.seat.me.0 ≡ giving self.old.seat.me.0 lock) × AreOthers self.old.seat.me.1 lock (Content x) self.new.seat.me.1 }
+        ensures kept { result ≡ false → (x : Node) × (others : List (ℕ × Cell)) × AreOthers self.old.seat.me.1 lock (Content x) others × (self.new.seat.me ≡ (self.old.seat.me.0, (lock, Content x) ∷ others)) }
+    {
+        bring(&mut self.seat, &mut self.order, lock);
+        let own = self.word();
+        let shared = &board.table.shared;
+        let found = shared.compare_exchange::<GiveFree>(&mut self.seat, owner_word(lock), own, 0);
+        if found != own {
+            return false;
+        }
+        self.order.pop();
+        true
+    }
+
+    /// Ends the context, if its own sign word is 0.
+    pub fn end(&mut self, board: &Board) -> bool
+        requires seat { IsSeated board.now.table.shared.table_id self.old }
+        requires may { MayEnd self.old.seat.me.0.part.core }
+        ensures seat { IsSeated board.now.table.shared.table_id self.new }
+        ensures ended { result ≡ true → self.new.seat.me ≡ (knowing self.old.seat.me.0 (ended self.old.seat.me.0.part.core), self.old.seat.me.1) }
+        ensures signed { result ≡ false → (k : ℕ) × (0 < k) × (self.new.seat.me ≡ (knowing self.old.seat.me.0 (has_read self.old.seat.me.0.part.core k), self.old.seat.me.1)) }
+    {
+        let sign = board
+            .table
+            .shared
+            .load::<End>(&mut self.seat, sign_word(self.who));
+        if sign != 0 {
+            return false;
+        }
+        self.stamp = 0;
+        true
+    }
+
+    /// Writes a node that the seat has out, and gives what was there. It is no step: nobody else sees it.
+    pub fn swap_node(&mut self, board: &Board, node: u8, new: Node) -> Node
+        requires seat { IsSeated board.now.table.shared.table_id self.old }
+        requires out { (x : Node) × (slot_of self.old.seat.me.1 node ≡ Some (Content x)) }
+        ensures seat { IsSeated board.now.table.shared.table_id self.new }
+        ensures swapped { (others : List (ℕ × Cell)) × AreOthers self.old.seat.me.1 node (Content result) others × (self.new.seat.me ≡ (self.old.seat.me.0, (node, Content new) ∷ others)) }
+    {
+        bring(&mut self.seat, &mut self.order, node);
+        match self.seat.slot_mut(&board.table.shared, usize::from(node)) {
+            Cell::Content(old) => mem::replace(old, new),
+            Cell::Line(_) => unreachable!(),
+        }
+    }
+}
+
+/// Turns the slots that are out until this one is that taken last. It is no step, and costs nothing for a slot that was
+/// taken last.
+pub(crate) fn bring(seat: &mut Place, order: &mut ArrayVec<u8, MAX_OUT>, slot: u8)
+    requires order { order.old.items ≡ numbers_of seat.old.me.1 }
+    requires out { (y : Cell) × (slot_of seat.old.me.1 slot ≡ Some y) }
+    ensures home { (seat.new.table_id ≡ seat.old.table_id) × (seat.new.id ≡ seat.old.id) }
+    ensures view { seat.new.me.0 ≡ seat.old.me.0 }
+    ensures slots { (y : Cell) × (others : List (ℕ × Cell)) × (slot_of seat.old.me.1 slot ≡ Some y) × AreOthers seat.old.me.1 slot y others × (seat.new.me.1 ≡ (slot, y) ∷ others) }
+    ensures order { order.new.items ≡ numbers_of seat.new.me.1 }
+{
+    for _ in 0..order.len() {
+        let Some(last) = order.pop() else {
+            return;
+        };
+        if last == slot {
+            order.push(last);
+            return;
+        }
+        order.insert(0, last);
+        seat.turn();
+    }
+}

@@ -1,0 +1,238 @@
+ghost use Rattle.std.specs.Prelude.{ℕ, ◌≡◌, ◌<◌, ◌==◌, ◌∷◌, length, nat_lt, true, false, List, Some};
+ghost use lib.ListN.{get_elem?};
+ghost use mathlib.Core.Option.{some};
+ghost use Rattle.atomic_table.specs.Table.{rest};
+ghost use Rattle.ww_word.specs.Owner.{IsValid};
+ghost use Rattle.ww_queue.specs.declared.entry.Entry.{Entry};
+ghost use Rattle.ww_queue.specs.Queue.{left};
+ghost use Rattle.ww_model.specs.State.{any_below};
+ghost use Rattle.ww_plain.specs.declared.node.Node.{Node};
+ghost use Rattle.ww_model.specs.State.{waiting};
+ghost use Rattle.ww_view.specs.Word.{given_word};
+ghost use Rattle.ww_view.specs.View.{owns};
+ghost use Rattle.ww_view.specs.May.{MayAsk, MayDie, MayGive, MayJoin, MayTake};
+ghost use Rattle.ww_view.specs.Made.{died, queued, taken};
+ghost use Rattle.ww_table.specs.declared.cells.Cell.{Cell};
+ghost use Rattle.ww_table.specs.declared.cells.Cell.TheVariants.{Content, Line};
+ghost use Rattle.ww_table.specs.Layout.{list_at};
+ghost use Rattle.ww_table.specs.Rule.{first_graph};
+ghost use Rattle.ww_table.specs.Seat.{IsSeated, AreOthers, slot_of};
+ghost use Rattle.ww_table.specs.Guards.{AreSeats, lost};
+ghost use Rattle.ww_table.specs.Waiting.{IsOut, joining, taking_inside, giving_inside, asking, dying};
+
+use crate::board::Board;
+use crate::cells::{Cell, Place};
+use crate::guards::list_slot;
+use crate::layout::owner_word;
+use crate::plays_inside::{Ask, Die, Give, Join, Take};
+use crate::seat::{Seat16, bring};
+use ww_queue::{Entry, Queue};
+use ww_word::{HANDOFF, Owner, WAITERS, pack};
+
+impl Seat16 {
+    /// Stands in the wait list of the lock, if its owner word is still the one seen.
+    pub fn join(&mut self, board: &Board, lock: u8, seen: Owner) -> bool
+        requires seat { IsSeated board.now.table.shared.table_id self.old }
+        requires lock { lock < length (first_graph board.now.table.shared.key) }
+        requires may { MayJoin self.old.seat.me.0.part.core lock seen }
+        requires valid { IsValid seen }
+        requires list { slot_of self.old.seat.me.1 (list_at lock) ≡ Some (Line self.old.seat.me.0.part.core.list) }
+        requires nodes { any_below 64 (owns self.old.seat.me.0.part.core) ≡ nat_lt 1 (length self.old.seat.me.1) }
+        ensures seat { IsSeated board.now.table.shared.table_id self.new }
+        ensures joined { result ≡ true → (others : List (ℕ × Cell)) × AreOthers self.old.seat.me.1 (list_at lock) (Line self.old.seat.me.0.part.core.list) others × (self.new.seat.me ≡ (joining self.old.seat.me.0 lock seen, (list_at lock, Line (queued self.old.seat.me.0.part.core lock seen).list) ∷ others)) }
+        ensures lost { result ≡ false → self.new.seat.me ≡ (lost self.old.seat.me.0, self.old.seat.me.1) }
+    {
+        let shared = &board.table.shared;
+        let old = pack(seen);
+        let new = pack(seen.with_waiters());
+        let found = shared.compare_exchange::<Join>(&mut self.seat, owner_word(lock), old, new);
+        if found != old {
+            return false;
+        }
+        let entry = Entry {
+            seat: self.who,
+            stamp: self.stamp,
+            holds: self.order.len() > 1,
+        };
+        let slot = list_slot(lock);
+        bring(&mut self.seat, &mut self.order, slot);
+        match self.seat.slot_mut(shared, usize::from(slot)) {
+            Cell::Line(waiters) => waiters.queue.join(entry),
+            Cell::Content(_) => unreachable!(),
+        }
+        true
+    }
+
+    /// Asks whoever owns the lock to hand it over, if its owner word is still the one seen.
+    pub fn ask(&mut self, board: &Board, lock: u8, seen: Owner) -> bool
+        requires seat { IsSeated board.now.table.shared.table_id self.old }
+        requires lock { lock < length (first_graph board.now.table.shared.key) }
+        requires may { MayAsk self.old.seat.me.0.part.core lock seen }
+        requires valid { IsValid seen }
+        ensures seat { IsSeated board.now.table.shared.table_id self.new }
+        ensures asked { result ≡ true → self.new.seat.me ≡ (asking self.old.seat.me.0 seen, self.old.seat.me.1) }
+        ensures lost { result ≡ false → self.new.seat.me ≡ (lost self.old.seat.me.0, self.old.seat.me.1) }
+    {
+        let old = pack(seen);
+        let new = pack(Owner {
+            flags: WAITERS | HANDOFF,
+            ..seen
+        });
+        let shared = &board.table.shared;
+        shared.compare_exchange::<Ask>(&mut self.seat, owner_word(lock), old, new) == old
+    }
+
+    /// Takes the lock, if its owner word is still the one seen: that of a free lock, or of one handed to the seat. The node
+    /// comes with it, and the seat leaves the wait list.
+    pub fn take(&mut self, board: &Board, lock: u8, seen: Owner) -> bool
+        requires seat { IsSeated board.now.table.shared.table_id self.old }
+        requires lock { lock < length (first_graph board.now.table.shared.key) }
+        requires may { MayTake self.old.seat.me.0.part.core lock seen }
+        requires valid { IsValid seen }
+        requires list { slot_of self.old.seat.me.1 (list_at lock) ≡ Some (Line self.old.seat.me.0.part.core.list) }
+        requires room { length self.old.seat.me.1 < 65 }
+        ensures seat { IsSeated board.now.table.shared.table_id self.new }
+        ensures took { result ≡ true → (x : Node) × (others : List (ℕ × Cell)) × AreOthers self.old.seat.me.1 (list_at lock) (Line self.old.seat.me.0.part.core.list) others × (self.new.seat.me ≡ (taking_inside self.old.seat.me.0 lock x, (list_at lock, Line (taken self.old.seat.me.0.part.core lock).list) ∷ (lock, Content x) ∷ others)) }
+        ensures lost { result ≡ false → (others : List (ℕ × Cell)) × AreOthers self.old.seat.me.1 (list_at lock) (Line self.old.seat.me.0.part.core.list) others × (self.new.seat.me ≡ (lost self.old.seat.me.0, (list_at lock, Line self.old.seat.me.0.part.core.list) ∷ others)) }
+    {
+        let slot = list_slot(lock);
+        bring(&mut self.seat, &mut self.order, slot);
+        let flags = flag_left(&mut self.seat, board, slot, self.who);
+        let old = pack(seen);
+        let new = pack(Owner {
+            seat: Some(self.who),
+            stamp: self.stamp,
+            flags,
+        });
+        let shared = &board.table.shared;
+        let found = shared.compare_exchange::<Take>(&mut self.seat, owner_word(lock), old, new);
+        if found != old {
+            return false;
+        }
+        self.order.pop();
+        self.order.push(lock);
+        self.order.push(slot);
+        leave_list(&mut self.seat, board, slot, self.who);
+        true
+    }
+
+    /// Leaves the wait list, as the context has to back off, if the owner word is still the one seen.
+    pub fn die(&mut self, board: &Board, lock: u8, seen: Owner) -> bool
+        requires seat { IsSeated board.now.table.shared.table_id self.old }
+        requires lock { lock < length (first_graph board.now.table.shared.key) }
+        requires may { (k : ℕ) × MayDie self.old.seat.me.0.part.core lock seen k }
+        requires valid { IsValid seen }
+        requires list { slot_of self.old.seat.me.1 (list_at lock) ≡ Some (Line self.old.seat.me.0.part.core.list) }
+        ensures seat { IsSeated board.now.table.shared.table_id self.new }
+        ensures died { result ≡ true → (others : List (ℕ × Cell)) × AreOthers self.old.seat.me.1 (list_at lock) (Line self.old.seat.me.0.part.core.list) others × (self.new.seat.me ≡ (dying self.old.seat.me.0 seen, (list_at lock, Line (died self.old.seat.me.0.part.core seen).list) ∷ others)) }
+        ensures lost { result ≡ false → (others : List (ℕ × Cell)) × AreOthers self.old.seat.me.1 (list_at lock) (Line self.old.seat.me.0.part.core.list) others × (self.new.seat.me ≡ (lost self.old.seat.me.0, (list_at lock, Line self.old.seat.me.0.part.core.list) ∷ others)) }
+    {
+        let slot = list_slot(lock);
+        bring(&mut self.seat, &mut self.order, slot);
+        let is_last = flag_left(&mut self.seat, board, slot, self.who) == 0;
+        let old = pack(seen);
+        let new = pack(if is_last { Owner { flags: 0, ..seen } } else { seen });
+        let shared = &board.table.shared;
+        let found = shared.compare_exchange::<Die>(&mut self.seat, owner_word(lock), old, new);
+        if found != old {
+            return false;
+        }
+        leave_list(&mut self.seat, board, slot, self.who);
+        true
+    }
+
+    /// Gives the lock back, if its owner word is still the one seen: to the first waiter, if that was asked for. The node
+    /// goes home.
+    pub fn give(&mut self, board: &Board, lock: u8, seen: Owner) -> bool
+        requires seat { IsSeated board.now.table.shared.table_id self.old }
+        requires lock { lock < length (first_graph board.now.table.shared.key) }
+        requires may { MayGive self.old.seat.me.0.part.core lock }
+        requires valid { IsValid seen }
+        requires list { slot_of self.old.seat.me.1 (list_at lock) ≡ Some (Line self.old.seat.me.0.part.core.list) }
+        requires waiters { AreSeats self.old.seat.me.0.part.core.list }
+        requires out { (x : Node) × IsOut self.old.seat.me.1 lock (Content x) × (get_elem? self.old.seat.me.0.held lock ≡ some (Some x)) }
+        ensures seat { IsSeated board.now.table.shared.table_id self.new }
+        ensures gave { result ≡ true → (x : Node) × (others : List (ℕ × Cell)) × (self.new.seat.me.0 ≡ giving_inside self.old.seat.me.0 lock (seen.flags == 3)) × AreOthers self.old.seat.me.1 (list_at lock) (Line self.old.seat.me.0.part.core.list) others × AreOthers ((list_at lock, Line self.old.seat.me.0.part.core.list) ∷ others) lock (Content x) self.new.seat.me.1 }
+        ensures lost { result ≡ false → (x : Node) × (others : List (ℕ × Cell)) × (rest : List (ℕ × Cell)) × AreOthers self.old.seat.me.1 (list_at lock) (Line self.old.seat.me.0.part.core.list) others × AreOthers ((list_at lock, Line self.old.seat.me.0.part.core.list) ∷ others) lock (Content x) rest × (self.new.seat.me ≡ (lost self.old.seat.me.0, (lock, Content x) ∷ rest)) }
+    {
+        let slot = list_slot(lock);
+        bring(&mut self.seat, &mut self.order, slot);
+        let owner = next_owner(&mut self.seat, board, slot, seen.flags == WAITERS | HANDOFF);
+        bring(&mut self.seat, &mut self.order, lock);
+        let old = pack(seen);
+        let new = pack(owner);
+        let shared = &board.table.shared;
+        let found = shared.compare_exchange::<Give>(&mut self.seat, owner_word(lock), old, new);
+        if found != old {
+            return false;
+        }
+        self.order.pop();
+        true
+    }
+}
+
+/// The flag of the waiters that are left in a list once this seat has gone.
+fn flag_without(queue: &Queue, who: u8) -> u8
+    ensures { result ≡ waiting (left queue.now who) }
+{
+    match queue.first() {
+        None => 0,
+        Some(first) if queue.entries().len() == 1 && first.seat == who => 0,
+        Some(_) => WAITERS,
+    }
+}
+
+/// The owner of a lock that is given back, with this wait list.
+fn owner_after(queue: &Queue, is_asked: bool) -> Owner
+    ensures { result ≡ given_word is_asked queue.now }
+{
+    match queue.first() {
+        None => Owner { seat: None, stamp: 0, flags: 0 },
+        Some(first) if is_asked => Owner::handed_to(first.seat, first.stamp),
+        Some(_) => Owner { seat: None, stamp: 0, flags: WAITERS },
+    }
+}
+
+/// The flag of the waiters that are left in the list that was taken last, once this seat has gone.
+fn flag_left(seat: &mut Place, board: &Board, slot: u8, who: u8) -> u8
+    requires home { seat.old.table_id ≡ board.now.table.shared.table_id }
+    requires top { (q : List Entry) × (seat.old.me.1 ≡ (slot, Line q) ∷ rest seat.old.me.1) }
+    ensures home { (seat.new.table_id ≡ seat.old.table_id) × (seat.new.id ≡ seat.old.id) }
+    ensures same { seat.new.me ≡ seat.old.me }
+    ensures flag { (q : List Entry) → seat.old.me.1 ≡ (slot, Line q) ∷ rest seat.old.me.1 → result ≡ waiting (left q who) }
+{
+    match seat.slot_mut(&board.table.shared, usize::from(slot)) {
+        Cell::Line(waiters) => flag_without(&waiters.queue, who),
+        Cell::Content(_) => unreachable!(),
+    }
+}
+
+/// Takes the seat out of the list that was taken last.
+fn leave_list(seat: &mut Place, board: &Board, slot: u8, who: u8)
+    requires home { seat.old.table_id ≡ board.now.table.shared.table_id }
+    requires top { (q : List Entry) × (seat.old.me.1 ≡ (slot, Line q) ∷ rest seat.old.me.1) }
+    ensures home { (seat.new.table_id ≡ seat.old.table_id) × (seat.new.id ≡ seat.old.id) }
+    ensures view { seat.new.me.0 ≡ seat.old.me.0 }
+    ensures list { (q : List Entry) → seat.old.me.1 ≡ (slot, Line q) ∷ rest seat.old.me.1 → seat.new.me.1 ≡ (slot, Line (left q who)) ∷ rest seat.old.me.1 }
+{
+    match seat.slot_mut(&board.table.shared, usize::from(slot)) {
+        Cell::Line(waiters) => {
+            waiters.queue.leave(who);
+        }
+        Cell::Content(_) => unreachable!(),
+    }
+}
+
+/// The owner of a lock that is given back, with the list that was taken last.
+fn next_owner(seat: &mut Place, board: &Board, slot: u8, is_asked: bool) -> Owner
+    requires home { seat.old.table_id ≡ board.now.table.shared.table_id }
+    requires top { (q : List Entry) × (seat.old.me.1 ≡ (slot, Line q) ∷ rest seat.old.me.1) }
+    ensures home { (seat.new.table_id ≡ seat.old.table_id) × (seat.new.id ≡ seat.old.id) }
+    ensures same { seat.new.me ≡ seat.old.me }
+    ensures owner { (q : List Entry) → seat.old.me.1 ≡ (slot, Line q) ∷ rest seat.old.me.1 → result ≡ given_word is_asked q }
+{
+    match seat.slot_mut(&board.table.shared, usize::from(slot)) {
+        Cell::Line(waiters) => owner_after(&waiters.queue, is_asked),
+        Cell::Content(_) => unreachable!(),
+    }
+}
