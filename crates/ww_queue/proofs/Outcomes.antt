@@ -1,41 +1,9 @@
 -- What a test that came out true or false says.
-use Rattle.std.proofs.Common.{ℕ, ◌≡◌, ◌≢◌, ◌<◌, ◌≤◌, ◌==◌, ◌&&◌, Bool, true, false, cond, refl, sym, arith, true≢false}
+use Rattle.std.proofs.Common.{ℕ, ◌≡◌, ◌<◌, ◌≤◌, true, false, arith}
 use Rattle.std.proofs.lemmas.Grind.{common_steps}
+pub use Rattle.std.proofs.lemmas.Bool.{cond_both as by_test, cond-true as true_picks, cond-false as false_picks, and_parts as both_true, and_from as true_both, eqb-true as same_number, eqb-false as other_number, ne_eqb as number_other}
 use Rattle.ww_queue.specs.declared.entry.Entry.{Entry}
 use Rattle.ww_queue.specs.Entry.{is_older, IsOlder, has_context, is_holder, IsHolder}
-
--- what a choice is, by its test
-pub by_test : {A : Type 0} (b : Bool) (x y : A) (P : A → Type 0) → (b ≡ true → P x) → (b ≡ false → P y) → P (cond b x y)
-by_test true x y P here other = here refl
-by_test false x y P here other = other refl
-
-pub true_picks : {A : Type 0} (b : Bool) (x y : A) → b ≡ true → cond b x y ≡ x
-true_picks true x y is = refl
-true_picks false x y is = absurd (true≢false (sym is))
-
-pub false_picks : {A : Type 0} (b : Bool) (x y : A) → b ≡ false → cond b x y ≡ y
-false_picks true x y isnt = absurd (true≢false isnt)
-false_picks false x y isnt = refl
-
-pub both_true : (a b : Bool) → (a && b) ≡ true → (a ≡ true) × (b ≡ true)
-both_true true b is = (refl, is)
-both_true false b is = absurd (true≢false (sym is))
-
-pub true_both : (a b : Bool) → a ≡ true → b ≡ true → (a && b) ≡ true
-true_both true b is is' = is'
-true_both false b is is' = absurd (true≢false (sym is))
-
-pub same_number : (m n : ℕ) → (m == n) ≡ true → m ≡ n
-same_number m n is = grind (arith, common_steps)
-
-pub other_number : (m n : ℕ) → (m == n) ≡ false → m ≢ n
-other_number m n isnt e = grind (arith, common_steps)
-
-pub number_itself : (n : ℕ) → (n == n) ≡ true
-number_itself n = grind (arith, common_steps)
-
-pub number_other : (m n : ℕ) → m ≢ n → (m == n) ≡ false
-number_other m n other = grind (arith, common_steps)
 
 pub older_true : (k m : ℕ) → is_older k m ≡ true → IsOlder k m
 older_true k m is = (grind (arith, common_steps), grind (arith, common_steps))

@@ -67,8 +67,8 @@ LeaveKeepsOrder = (q : List Entry) (seat : ℕ) →
 
 -- where each waiter is another of 16 seats, there is room for a seat that doesn't wait yet
 abbrev pub EachSeatHasRoom : Type 0
-EachSeatHasRoom = (q : List Entry) (seat : ℕ) → Once q → ((e : Entry) → Has q e → e.seat < MAX_WAITERS) → StandsNot q seat → seat < MAX_WAITERS →
-    length q < MAX_WAITERS
+EachSeatHasRoom = (q : List Entry) (seat : ℕ) → Once q → ((e : Entry) → Has q e → e.seat < MAX_WAITERS) →
+    StandsNot q seat → seat < MAX_WAITERS → length q < MAX_WAITERS
 
 -- e is the first waiter with a context, and the seat waits behind it
 pub record IsAhead (q : List Entry) (seat : ℕ) (e : Entry) : Type 0 where
