@@ -12,5 +12,5 @@ unfoldable pub kind_in : Data → Result Kind InputFault
 kind_in d = do
   word ← text d
   if bytes_eq word (codes "wound-wait") then Ok WoundWait
-    else if bytes_eq word (codes "wait-die") then Ok WaitDie
-    else Err BadWord
+      else if bytes_eq word (codes "wait-die") then Ok WaitDie
+      else Err BadWord

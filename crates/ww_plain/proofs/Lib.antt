@@ -2,19 +2,16 @@
 pub mod Members
 pub mod Seens
 pub mod Doubles
-
 -- graphs, and walks on them
 pub mod GraphFacts
 pub mod Walks
 pub mod Fronts
-
 -- what a transaction touches, changes and keeps
 pub mod FootprintFacts
 pub mod Turns
 pub mod Kept
 pub mod Frames
 pub mod Reversals
-
 -- histories, and what two things that say the same are
 pub mod Histories
 pub mod Sames

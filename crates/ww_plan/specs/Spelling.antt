@@ -23,7 +23,7 @@ target_data (Some target) = whole target
 abbrev pub node_data : Node → Data
 node_data node =
     object (member (codes "ports") (list (map target_data node.ports))
-        (member (codes "value") (whole node.value) no_members))
+    (member (codes "value") (whole node.value) no_members))
 
 -- a node and an amount
 abbrev pub pair_data : ℕ × ℕ → Data

@@ -16,8 +16,8 @@ unfoldable pub by_in : Data → Result By InputFault
 by_in d = do
   word ← text d
   if bytes_eq word (codes "list") then Ok by.List
-    else if bytes_eq word (codes "order") then Ok by.Order
-    else Err BadWord
+      else if bytes_eq word (codes "order") then Ok by.Order
+      else Err BadWord
 
 -- what follows the word `get`
 abbrev pub get_of : ℕ → List Data → Result Transaction InputFault

@@ -1,6 +1,5 @@
 -- what a test says
 pub mod Outcomes
-
 -- a wait list, and who joins and leaves it
 pub mod Places
 pub mod Members
@@ -8,7 +7,6 @@ pub mod Joins
 pub mod Leaves
 pub mod Aheads
 pub mod Rooms
-
 -- who has to die
 pub mod Deaths
 pub mod Signs

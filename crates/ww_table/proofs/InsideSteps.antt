@@ -106,7 +106,7 @@ expecting key slots id me n o new wins seated valid hit = let v = me.0.part.core
       h.2,
       h.3,
       (λ j p told. let e : n ≡ j = (let z = told.0 in omega arith) in let same = packing_is_injective o p valid told.1 told.2 in
-      ((λ _. subst (λ (x : ℕ × Owner). wins x.0 x.1 me (h.0, carried_after me.1 h.1)) (λ i. (e i, same i)) h.4), λ no. absurd (no told.2))),
+          ((λ _. subst (λ (x : ℕ × Owner). wins x.0 x.1 me (h.0, carried_after me.1 h.1)) (λ i. (e i, same i)) h.4), λ no. absurd (no told.2))),
     ))
     (λ x ne j p told. ((λ z. absurd (ne (z ∙ sym told.2))), λ _. refl))
 
@@ -196,6 +196,7 @@ is_bare? (false ∷ owned) = go (is_bare? owned)
     each : ((n : ℕ) → get_or owned n false ≡ false) → (n : ℕ) → get_or (false ∷ owned) n false ≡ false
     each bare zero = refl
     each bare (suc n) = bare n
+
     go : Dec ((n : ℕ) → get_or owned n false ≡ false) → Dec ((n : ℕ) → get_or (false ∷ owned) n false ≡ false)
     go (yes bare) = yes (each bare)
     go (no isnt) = no (λ bare. isnt (λ n. bare (suc n)))
@@ -206,6 +207,7 @@ is_quiet? v = go (kind_is v.kind) (is_bare? v.owned) (ℕ_discrete v.inside 0)
     kind_is : (kind : Kind) → (kind ≡ WaitDie) ⊎ (kind ≢ WaitDie)
     kind_is WaitDie = inl refl
     kind_is WoundWait = inr (λ z. cc)
+
     go : (v.kind ≡ WaitDie) ⊎ (v.kind ≢ WaitDie) → Dec (IsBare v) → Dec (v.inside ≡ 0) → Dec (IsQuiet v)
     go kind (yes bare) d = yes (inl bare)
     go (inl dies) (no isnt) (no inside) = yes (inr (dies, inside))

@@ -136,8 +136,8 @@ still_out slots m z others n y far a out =
     let only : HaveOnly n y others = subst (HaveOnly n y) (sym a.rest) (only_joined a.back a.front n y split.1.1 split.0) in
     let passed : slot_of ((m, z) ∷ others) n ≡ slot_of others n = ap (λ (b : Bool). if b then Some z else slot_of others n) (ne_eqb m n far) in
     let there : (u : Cell) × (slot_of (a.back ++ a.front) n ≡ Some u) = ⊎_elim (λ e. in_back a.back a.front n y e)
-        (λ e. (y, in_front a.back a.front n y (ap (λ (b : Bool). if b then Some z else slot_of a.back n) (sym (ne_eqb m n far)) ∙ e)))
-        (slot_in a.front ((m, z) ∷ a.back) n y (ap (λ (l : List (ℕ × Cell)). slot_of l n) (sym a.parts) ∙ out.there)) in
+    (λ e. (y, in_front a.back a.front n y (ap (λ (b : Bool). if b then Some z else slot_of a.back n) (sym (ne_eqb m n far)) ∙ e)))
+    (slot_in a.front ((m, z) ∷ a.back) n y (ap (λ (l : List (ℕ × Cell)). slot_of l n) (sym a.parts) ∙ out.there)) in
     let here : slot_of others n ≡ Some there.0 = ap (λ (l : List (ℕ × Cell)). slot_of l n) a.rest ∙ there.1 in
     passed ∙ here ∙ ap (λ (u : Cell). Some u) (found_only others n y there.0 only here)
 

@@ -28,7 +28,7 @@ abbrev pub EnterIsGuard : Type 0
 EnterIsGuard = (key : Start) (s : St) (r : Ruled key s) (id : ℕ) (me : Sat) (n : ℕ) → Steps s id me →
     n < 64 → MayEnter me.0.part.core n → slice_index s.words (guard_at n) ≡ 0 → let q : List Entry = r.core.queue n in
     Makes key s r (Guard me.0.part.core.who n)
-        (stepped s (guard_at n) (suc me.0.part.core.who) id me.1 (entering me.0 n q) (takes (list_at n) (Line q)))
+    (stepped s (guard_at n) (suc me.0.part.core.who) id me.1 (entering me.0 n q) (takes (list_at n) (Line q)))
 
 -- a guard word becomes 0 only as Unguard, and the list that goes home is that of the view
 abbrev pub ExitIsUnguard : Type 0
@@ -48,8 +48,8 @@ TakeIsTake = (key : Start) (s : St) (r : Ruled key s) (id : ℕ) (me : Sat) (n :
     n < length (first_graph key) → MayTake me.0.part.core n o → IsValid o → slice_index s.words (owner_at n) ≡ packed o →
     me.1 ≡ (list_at n, y) ∷ others → let x : Node = node_at (last_graph (first_graph key) r.log) n in
     Makes key s r (Take me.0.part.core.who n)
-        (stepped s (owner_at n) (packed (taken_word me.0.part.core.who me.0.part.core.stamp (left me.0.part.core.list me.0.part.core.who))) id me.1
-            (taking_inside me.0 n x) (chain gives (chain (takes n (Content x)) (takes (list_at n) y))))
+    (stepped s (owner_at n) (packed (taken_word me.0.part.core.who me.0.part.core.stamp (left me.0.part.core.list me.0.part.core.who))) id me.1
+    (taking_inside me.0 n x) (chain gives (chain (takes n (Content x)) (takes (list_at n) y))))
 
 -- an owner word of the seat inside the guard becomes nobody's, or the first waiter's, only as Give
 abbrev pub GiveIsGive : Type 0
@@ -57,7 +57,7 @@ GiveIsGive = (key : Start) (s : St) (r : Ruled key s) (id : ℕ) (me : Sat) (n :
     MayGive me.0.part.core n → get_elem? me.0.held n ≡ some (Some x) → IsValid o → slice_index s.words (owner_at n) ≡ packed o →
     me.1 ≡ (n, Content x) ∷ rest me.1 →
     Makes key s r (Give me.0.part.core.who n)
-        (stepped s (owner_at n) (packed (given_word (o.flags == 3) me.0.part.core.list)) id me.1 (giving_inside me.0 n (o.flags == 3)) gives)
+    (stepped s (owner_at n) (packed (given_word (o.flags == 3) me.0.part.core.list)) id me.1 (giving_inside me.0 n (o.flags == 3)) gives)
 
 -- an owner word gets HANDOFF only as Ask
 abbrev pub AskIsAsk : Type 0
@@ -70,7 +70,7 @@ abbrev pub DieIsDie : Type 0
 DieIsDie = (key : Start) (s : St) (r : Ruled key s) (id : ℕ) (me : Sat) (n : ℕ) (o : Owner) (k : ℕ) → Steps s id me →
     MayDie me.0.part.core n o k → IsValid o → slice_index s.words (owner_at n) ≡ packed o →
     Makes key s r (Die me.0.part.core.who n)
-        (stepped s (owner_at n) (packed (rest_word (left me.0.part.core.list me.0.part.core.who) o)) id me.1 (dying me.0 o) keeps)
+    (stepped s (owner_at n) (packed (rest_word (left me.0.part.core.list me.0.part.core.who) o)) id me.1 (dying me.0 o) keeps)
 
 -- a sign word 0 becomes the stamp that the view owes only as Sign
 abbrev pub SignIsSign : Type 0

@@ -20,7 +20,14 @@ use ww_word::Owner;
 
 impl Seat16 {
     /// The stamp for which the seat has to die, by the owner that it saw and the wait list.
-    pub fn must_die(&mut self, board: &Board, lock: u8, kind: Kind, seen: Owner, sign: u64) -> Option<u64>
+    pub fn must_die(
+        &mut self,
+        board: &Board,
+        lock: u8,
+        kind: Kind,
+        seen: Owner,
+        sign: u64,
+    ) -> Option<u64>
         requires seat { IsSeated board.now.table.shared.table_id self.old }
         requires lock { lock < length (first_graph board.now.table.shared.key) }
         requires list { slot_of self.old.seat.me.1 (list_at lock) ≡ Some (Line self.old.seat.me.0.part.core.list) }
@@ -34,7 +41,13 @@ impl Seat16 {
     }
 
     /// Whom the seat owes a sign, by the owner that it saw and the wait list.
-    pub fn owed_signs(&mut self, board: &Board, lock: u8, kind: Kind, seen: Owner) -> ArrayVec<(u8, u64), MAX_WAITERS>
+    pub fn owed_signs(
+        &mut self,
+        board: &Board,
+        lock: u8,
+        kind: Kind,
+        seen: Owner,
+    ) -> ArrayVec<(u8, u64), MAX_WAITERS>
         requires seat { IsSeated board.now.table.shared.table_id self.old }
         requires lock { lock < length (first_graph board.now.table.shared.key) }
         requires list { slot_of self.old.seat.me.1 (list_at lock) ≡ Some (Line self.old.seat.me.0.part.core.list) }
@@ -63,7 +76,15 @@ impl Seat16 {
 }
 
 /// The stamp for which this seat has to die, by the list that was taken last.
-fn death_there(seat: &mut Place, board: &Board, slot: u8, kind: Kind, seen: Owner, who: u8, sign: u64) -> Option<u64>
+fn death_there(
+    seat: &mut Place,
+    board: &Board,
+    slot: u8,
+    kind: Kind,
+    seen: Owner,
+    who: u8,
+    sign: u64,
+) -> Option<u64>
     requires home { seat.old.table_id ≡ board.now.table.shared.table_id }
     requires top { (q : List Entry) × (seat.old.me.1 ≡ (slot, Line q) ∷ rest seat.old.me.1) }
     ensures home { (seat.new.table_id ≡ seat.old.table_id) × (seat.new.id ≡ seat.old.id) }
@@ -77,7 +98,14 @@ fn death_there(seat: &mut Place, board: &Board, slot: u8, kind: Kind, seen: Owne
 }
 
 /// Whom this seat owes a sign, by the list that was taken last.
-fn owed_there(seat: &mut Place, board: &Board, slot: u8, kind: Kind, seen: Owner, who: u8) -> ArrayVec<(u8, u64), MAX_WAITERS>
+fn owed_there(
+    seat: &mut Place,
+    board: &Board,
+    slot: u8,
+    kind: Kind,
+    seen: Owner,
+    who: u8,
+) -> ArrayVec<(u8, u64), MAX_WAITERS>
     requires home { seat.old.table_id ≡ board.now.table.shared.table_id }
     requires top { (q : List Entry) × (seat.old.me.1 ≡ (slot, Line q) ∷ rest seat.old.me.1) }
     ensures home { (seat.new.table_id ≡ seat.old.table_id) × (seat.new.id ≡ seat.old.id) }

@@ -131,7 +131,11 @@ impl Seat16 {
         bring(&mut self.seat, &mut self.order, slot);
         let is_last = flag_left(&mut self.seat, board, slot, self.who) == 0;
         let old = pack(seen);
-        let new = pack(if is_last { Owner { flags: 0, ..seen } } else { seen });
+        let new = pack(if is_last {
+            Owner { flags: 0, ..seen }
+        } else {
+            seen
+        });
         let shared = &board.table.shared;
         let found = shared.compare_exchange::<Die>(&mut self.seat, owner_word(lock), old, new);
         if found != old {
@@ -187,9 +191,17 @@ fn owner_after(queue: &Queue, is_asked: bool) -> Owner
     ensures { result ≡ given_word is_asked queue.now }
 {
     match queue.first() {
-        None => Owner { seat: None, stamp: 0, flags: 0 },
+        None => Owner {
+            seat: None,
+            stamp: 0,
+            flags: 0,
+        },
         Some(first) if is_asked => Owner::handed_to(first.seat, first.stamp),
-        Some(_) => Owner { seat: None, stamp: 0, flags: WAITERS },
+        Some(_) => Owner {
+            seat: None,
+            stamp: 0,
+            flags: WAITERS,
+        },
     }
 }
 

@@ -25,8 +25,8 @@ compare_exchange-found-requires c = let b = c.bring.ensures in let s = c.require
     let top = on_top c.bring.new.seat.me.1 b.slots.1 (64 + c.args.lock) c.list_slot-slot.result (Line v.part.core.list) l.1 c.list_slot-slot.ensures in
     let f = c.flag_left-is_last.ensures in let view = ap (λ m. m.0) f.same ∙ b.view in let slots = ap (λ m. m.1) f.same ∙ l.1 in let few = c.args.board.now.few in let small = c.requires.lock in let word = c.owner_word.ensures in let left' = left v.part.core.list c.args.self.now.who in
     let is : c.if-is_last.pack ≡ rest_word left' c.args.seen = elim c.if-is_last.branch [
-      then-is_last w ↦ w.pack-is ∙ none_rest left' c.args.seen c.flag_left-is_last.result (f.flag v.part.core.list top) w.if-is_last.true
-    | else-is_last w ↦ w.pack-is ∙ some_rest left' c.args.seen c.flag_left-is_last.result (f.flag v.part.core.list top) w.if-is_last.false
+      | then-is_last w ↦ w.pack-is ∙ none_rest left' c.args.seen c.flag_left-is_last.result (f.flag v.part.core.list top) w.if-is_last.true
+      | else-is_last w ↦ w.pack-is ∙ some_rest left' c.args.seen c.flag_left-is_last.result (f.flag v.part.core.list top) w.if-is_last.false
     ] in (
       f.home.0 ∙ b.home.0 ∙ s.home,
       (let z = c.args.board.now.sized.0 in omega arith),
@@ -65,4 +65,3 @@ returns-clause-seat c = let b = c.bring.ensures in let s = c.requires.seat in le
     let list = g.list v.part.core.list top' ∙ (λ i. (c.list_slot-slot.ensures i, Line (left v.part.core.list (who i))) ∷ others i) in
     let order = b.order ∙ ap numbers_of l.1 ∙ ap numbers_of (sym list) in
     seated_as _ c.args.self.now _ (dying v c.args.seen) s (g.home.0 ∙ c.compare_exchange-found.ensures.0 ∙ f.home.0 ∙ b.home.0) (g.view ∙ ap (λ m. m.0) won) refl refl refl refl refl refl refl refl order
-

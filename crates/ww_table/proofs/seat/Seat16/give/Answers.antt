@@ -78,4 +78,3 @@ returns-clause-seat c = let b = c.bring.ensures in let s = c.requires.seat in le
     let hit = (c.compare_exchange-found.ensures.2 c.args.lock c.args.seen (c.owner_word.ensures, c.requires.valid, c.pack-old.ensures)).0 (c.if-found-old.false ∙ c.pack-old.ensures) in let given = ap (λ m. m.0) hit ∙ ap (λ (w : Sight). giving_inside w c.args.lock (c.args.seen.flags == 3)) view in let left = ap (λ m. m.1) hit ∙ ap rest n.1 in
     let p = c.pop.ensures in let items = popped c.bring-2.new.order.items (numbers_of b2.slots.1) c.pop.new.self.items c.args.lock c.pop.result (b2.order ∙ ap numbers_of n.1) p.items p.variant.1 in
     seated_as _ c.args.self.now _ (giving_inside v c.args.lock (c.args.seen.flags == 3)) s (c.compare_exchange-found.ensures.0 ∙ b2.home.0 ∙ f.home.0 ∙ b.home.0) given refl refl refl refl refl refl refl refl (items ∙ ap numbers_of (sym left))
-

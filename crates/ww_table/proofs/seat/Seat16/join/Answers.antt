@@ -56,4 +56,3 @@ returns-clause-joined c = let won = (c.compare_exchange-found.ensures.2 c.args.l
     let entry : ◌≡◌ {A = Entry} (record { seat = c.args.self.now.who; stamp = c.args.self.now.stamp; holds = nat_lt 1 c.len.result }) (entry_of_view c.args.self.now.seat.me.0.part.core) = (λ i. record { seat = sym s.who i; stamp = sym s.stamp i; holds = holds i }) in
     let list = c.join.ensures ∙ (λ i. joined (same i) (entry i)) in let others = ap (λ (l : List (ℕ × Cell)). rest l) l.1 in
     λ _. (b.slots.1, l.0, λ i. ((b.view ∙ ap (λ m. m.0) won.0) i, ((c.from.ensures ∙ c.list_slot-slot.ensures) i, Line (list i)) ∷ others i))
-

@@ -24,4 +24,3 @@ pub returns-clause-seat : goal.returns-clause-seat
 returns-clause-seat c = let b = c.bring.ensures in let s = c.requires.seat in let l = list_brought c.args.self.now.seat.me.1 c.args.self.now.seat.me.1 c.bring.new.seat.me.1 b.slots.1 c.args.lock c.list_slot-slot.result c.args.self.now.seat.me.0.part.core.list b.slots.0 refl c.list_slot-slot.ensures c.requires.list b.slots.2 b.slots.3 b.slots.4 in let v = c.args.self.now.seat.me.0 in
     let f = c.owed_there.ensures in let view = ap (λ m. m.0) f.same ∙ b.view in let slots = ap (λ m. m.1) f.same ∙ l.1 in
     seated_as _ c.args.self.now _ v s (f.home.0 ∙ b.home.0) view refl refl refl refl refl refl refl refl (b.order ∙ ap numbers_of (sym (ap (λ m. m.1) f.same)))
-

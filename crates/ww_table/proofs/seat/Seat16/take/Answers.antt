@@ -77,4 +77,3 @@ returns-clause-took c = let b = c.bring.ensures in let s = c.requires.seat in le
     let g = c.leave_list.ensures in let others = ap (λ (l : List (ℕ × Cell)). rest l) (ap (λ m. m.1) won) in let who = sym s.who in
     let list = g.list v.part.core.list top' ∙ (λ i. (c.list_slot-slot.ensures i, Line (left v.part.core.list (who i))) ∷ others i) in
     λ _. (hit.0, b.slots.1, l.0, λ i. ((g.view ∙ ap (λ m. m.0) won) i, list i))
-
