@@ -1,6 +1,8 @@
 //! Tables of words and slots.
 
-ghost use Rattle.std.specs.Prelude.{◌≡◌, ◌≤◌, length, IfOk};
+ghost use Rattle.std.specs.Prelude.{◌<◌, ℕ, length, IfOk};
+ghost use Rattle.ww_table.specs.Rule.{first_graph};
+ghost use Rattle.ww_table.specs.Seat.{IsNew};
 ghost use Rattle.ww_table.specs.Made.{IsMade};
 ghost use Rattle.ww_table.specs.Closed.{HaveAllCome};
 
@@ -64,5 +66,42 @@ fn makes_and_closes_at_once(rt: HostRuntime) -> Result<(), Fail> {
         assert!(rt; records.is_empty() && graph.size() == 2);
         assert!(rt; graph.node(0).value == 7 && graph.node(1).value == 9);
     }
+    Ok(())
+}
+
+/// A context takes node 0 and gives it back: the owner word in between, and whether both tries won.
+fn takes_once(board: &Board, seat: &mut Seat16) -> (u64, bool)
+    requires node { 0 < length (first_graph board.now.table.shared.key) }
+    requires new { (k : ℕ) × IsNew board.now.table.shared.table_id board.now.table.shared.key k seat.old }
+{
+    seat.draw(board);
+    if !seat.take_free(board, 0) {
+        return (0, false);
+    }
+    let word = board.peek(0);
+    let gave = seat.give_free(board, 0);
+    (word, gave)
+}
+
+/// The last seat of a table of two nodes takes node 0 and gives it back.
+fn last_takes_once(alloc: Global) -> Result<(u64, bool), AllocError> {
+    let graph = pair(alloc, [0, 0])?;
+    if graph.size() == 0 {
+        return Err(AllocError);
+    }
+    let (board, mut seats) = match made(alloc, Kind::WoundWait, graph) {
+        Ok(made) => made,
+        Err((_, error)) => return Err(error),
+    };
+    let Some(mut seat) = seats.pop() else {
+        return Err(AllocError);
+    };
+    Ok(takes_once(&board, &mut seat))
+}
+
+#[test]
+fn takes_and_gives_at_once(rt: HostRuntime) -> Result<(), Fail> {
+    let (word, gave) = last_takes_once(rt.alloc())?;
+    assert!(rt; word == 8 * 16 + 256 && gave);
     Ok(())
 }
