@@ -3,10 +3,10 @@
  *
  *     pairs LOAD THREADS ROUNDS
  *
- * LOAD is `pair` (a word from 0 to one's own and back, by two compare-exchanges), `mutex` (a lock and an unlock), `commit` (a
- * fetch-add, a pair with a fetch-add inside), each on a word or mutex of one's own; or `pair-of-64` and `mutex-of-64`, where
- * each round draws one of 64 at random. Words and mutexes have a cache line each. Writes the nanoseconds from the start of the
- * threads to the end of the last, and how many rounds came to hold the word. */
+ * LOAD is `pair` (a word from 0 to one's own and back, by two compare-exchanges) or `mutex` (a lock and an unlock), on a word
+ * or mutex of one's own; or `pair-of-64` or `mutex-of-64`, where each round draws one of 64 at random. Words and mutexes have a
+ * cache line each. Writes the nanoseconds from the start of the threads to the end of the last, and how many rounds came to
+ * hold the word. */
 #include <pthread.h>
 #include <stdatomic.h>
 #include <stdint.h>
@@ -26,7 +26,7 @@ struct lock {
     _Alignas(64) pthread_mutex_t mutex;
 };
 
-static struct word words[PLACES], stamps, front;
+static struct word words[PLACES];
 static struct lock locks[PLACES];
 static const char *load;
 static uint64_t rounds;
@@ -46,12 +46,10 @@ static uint32_t next_word(uint64_t *state) {
     return shifted >> turn | shifted << (-turn & 31);
 }
 
-static int pair(struct word *word, uint64_t own, struct word *inside) {
+static int pair(struct word *word, uint64_t own) {
     uint64_t expected = 0;
     if (!atomic_compare_exchange_strong(&word->value, &expected, own))
         return 0;
-    if (inside)
-        atomic_fetch_add(&inside->value, 1);
     expected = own;
     atomic_compare_exchange_strong(&word->value, &expected, 0);
     return 1;
@@ -61,7 +59,6 @@ static void *work(void *given) {
     struct thread *me = given;
     uint64_t state = me->number + 1, own = me->number + 1, held = 0;
     int is_random = strstr(load, "-of-64") != NULL, is_mutex = strncmp(load, "mutex", 5) == 0;
-    int is_commit = strcmp(load, "commit") == 0;
     for (uint64_t round = 0; round < rounds; round++) {
         uint64_t place = is_random ? next_word(&state) % PLACES : me->number;
         if (is_mutex) {
@@ -69,9 +66,7 @@ static void *work(void *given) {
             pthread_mutex_unlock(&locks[place].mutex);
             held++;
         } else {
-            if (is_commit)
-                atomic_fetch_add(&stamps.value, 1);
-            held += pair(&words[place], own, is_commit ? &front : NULL);
+            held += pair(&words[place], own);
         }
     }
     me->held = held;
