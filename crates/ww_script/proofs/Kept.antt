@@ -9,7 +9,6 @@ use Rattle.ww_plan.specs.Scripts.{Plan, plan_in}
 use Rattle.ww_plan.proofs.Kept.{plan_kept}
 use Rattle.ww_schedule.specs.Schedules.{Timetable, timetable_in}
 use Rattle.ww_schedule.proofs.Kept.{timetable_kept}
-use Rattle.ww_script.specs.declared.input.TheConstants.{MAX_BYTES}
 use Rattle.ww_script.specs.declared.input.Input.{Input}
 use Rattle.ww_script.specs.declared.input.Input.TheVariants as input
 use Rattle.ww_script.specs.Reading.{version_in, as_scripts, as_schedule, has_events, input_in, parsed, reading, IsInput, ReadingKeepsRanges}
@@ -28,6 +27,6 @@ input_kept d i e =
 pub reading_kept : ReadingKeepsRanges
 unfolding reading
 reading_kept bytes i e =
-    either_kept IsInput (nat_lt MAX_BYTES (length bytes)) (Err TooLong) (parsed bytes >>= input_in) i
+    either_kept IsInput (nat_lt 1048576 (length bytes)) (Err TooLong) (parsed bytes >>= input_in) i
     (λ long. absurd cc)
     (λ short. let p = bind_ok (parsed bytes) input_in i short in input_kept p.0 i p.2) e

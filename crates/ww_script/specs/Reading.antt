@@ -6,7 +6,6 @@ use Rattle.serde_json.specs.Find.{get, as_number, as_u64}
 use Rattle.serde_json.specs.Read.{read}
 use Rattle.ww_parts.specs.declared.fault.InputFault.{InputFault}
 use Rattle.ww_parts.specs.declared.fault.InputFault.TheVariants.{NotJson, BadVersion, TooLong, BadType}
-use Rattle.ww_script.specs.declared.input.TheConstants.{MAX_BYTES}
 use Rattle.ww_script.specs.declared.input.Input.{Input}
 use Rattle.ww_script.specs.declared.input.Input.TheVariants as input
 use Rattle.ww_parts.specs.Parts.{◌>>=◌, size, member}
@@ -58,7 +57,7 @@ parsed bytes = value_if (is_utf8 bytes) (read bytes)
 
 -- what the bytes of an input say, of which there are at most 1,048,576
 unfoldable pub reading : List ℕ → Result Input InputFault
-reading bytes = if nat_lt MAX_BYTES (length bytes) then Err TooLong else (parsed bytes >>= input_in)
+reading bytes = if nat_lt 1048576 (length bytes) then Err TooLong else (parsed bytes >>= input_in)
 
 -- the input keeps to the ranges
 abbrev pub IsInput : Input → Type 0

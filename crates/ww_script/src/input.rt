@@ -11,7 +11,7 @@ use ww_plan::{Scripts, scripts_of};
 use ww_schedule::{Schedule, schedule_of};
 
 /// How many bytes an input has at most.
-pub const MAX_BYTES: usize = 1_048_576;
+const MAX_BYTES: usize = 1_048_576;
 
 /// What an input asks for.
 #[derive(Debug, Drop)]
@@ -67,7 +67,7 @@ fn input_of(alloc: Global, value: &Value) -> Result<Input, InputFault>
 #[tactic(auto, unfolding(crate::specs::Reading::reading))]
 pub fn read_input(alloc: Global, bytes: &[u8]) -> Result<Input, InputFault>
     ensures exact { Gives (λ input. input) result (reading bytes.now) }
-    ensures too_long { MAX_BYTES < length bytes.now → result ≡ Err InputFault.TooLong }
+    ensures too_long { 1048576 < length bytes.now → result ≡ Err InputFault.TooLong }
 {
     if bytes.len() > MAX_BYTES {
         return Err(InputFault::TooLong);

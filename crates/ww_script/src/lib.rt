@@ -4,7 +4,7 @@
 
 mod input;
 
-pub use input::{Input, MAX_BYTES, each_input_can_be_said, read_input, reading_keeps_ranges};
+pub use input::{Input, each_input_can_be_said, read_input, reading_keeps_ranges};
 pub use ww_outcome::{Outcome, ScriptAnswer, outcome_text};
 pub use ww_parts::{InputFault, refusal_line};
 pub use ww_plan::Scripts;
