@@ -42,7 +42,7 @@ use Rattle.ww_table.specs.Guards.{AreSeats, IsSeenBy, entering, exiting, looking
 use Rattle.ww_table.specs.Waiting.{tries_to, HasPlace, joining, joins, taking_inside, below, takes_inside, giving_inside, gives_inside, asking, asks, dying, dies, dies_to}
 use Rattle.ww_table.specs.Signs.{signing, reading, finding_none, clearing, signs_to, reads_to, clears_to}
 use Rattle.ww_table.proofs.Moves.{cas, looks, low, node_there}
-use Rattle.ww_table.proofs.Told.{own_entry, seen_by, death_is_older}
+use Rattle.ww_table.proofs.Told.{stands_as, seen_by, death_is_older}
 use Rattle.ww_table.proofs.InsideMoves.{enter_makes, exit_makes, join_makes, take_makes, give_makes, ask_makes, die_makes, sign_makes, clear_makes, mine, inside_low}
 
 -- ---- guards
@@ -60,7 +60,7 @@ enters_there key slots id me n new small seated may is = let v = me.0.part.core 
       takes (64 + n) (Line q),
       r.homes.lists n l (sym (r.words.guards n l) ∙ hit),
       subst (λ (y : ℕ). Ruled key (stepped s (8 * n + 1) y id me.1 (entering me.0 n q) (takes (64 + n) (Line q)))) (sym is) (enter_makes key s r id me at seated n l may hit).ruled,
-      (λ j there. let e : n ≡ j = omega arith in ((λ _. (q, are_seats r.core r.reached r.places n, (λ waits. own_entry r.core me.0.part.core (reached_is_lawful r.core r.reached) (mine key s r id me at seated).part.knows n (let z = e in omega arith)), ap (λ (i : ℕ). let w : Sat = (entering me.0 i q, (64 + i, Line q) ∷ me.1) in w) e)), λ no. absurd (no refl))),
+      (λ j there. let e : n ≡ j = omega arith in ((λ _. (q, are_seats r.core r.reached r.places n, stands_as r.core me.0.part.core (reached_is_lawful r.core r.reached) (mine key s r id me at seated).part.knows n j e, ap (λ (i : ℕ). let w : Sat = (entering me.0 i q, (64 + i, Line q) ∷ me.1) in w) e)), λ no. absurd (no refl))),
     ))
     (λ x ne j there. ((λ z. absurd (ne z)), λ _. refl))
 

@@ -25,7 +25,7 @@ use Rattle.ww_view.specs.May.{MayDie}
 use Rattle.ww_view.specs.Made.{entry_of_view}
 use Rattle.ww_view.proofs.Tells.{no_flags}
 use Rattle.ww_view.proofs.Deaths.{die_shows}
-use Rattle.ww_table.specs.Guards.{IsSeenBy}
+use Rattle.ww_table.specs.Guards.{StandsAs, IsSeenBy}
 
 module _ (c : State) (v : View) (l : IsLawful c) (k : Knows c v) where
   low : (n : ℕ) → c.owner n ≡ Taken v.who → n < 64
@@ -45,9 +45,16 @@ module _ (c : State) (v : View) (l : IsLawful c) (k : Knows c v) where
           (λ h. let o = (l.base.queues.at n).holds e has h in let own : c.owner o.0 ≡ Taken v.who = o.1 ∙ ap Taken is in found_below 64 (owns v) o.0 (low o.0 own) (k.owned.lacks o.0 own))
           (λ some. let f = below_found 64 (owns v) some in holds f.0 f.2 e.holds refl)
 
-  pub own_entry : (n : ℕ) → v.waits ≡ suc n → entry_of (c.queue n) v.who ≡ Some (entry_of_view v)
+  own_entry : (n : ℕ) → v.waits ≡ suc n → entry_of (c.queue n) v.who ≡ Some (entry_of_view v)
   own_entry n waits = let t = k.queues.waited n waits in
       ap (entry_of (c.queue n)) (sym t.2) ∙ entry_when (c.queue n) t.0 (l.base.queues.at n).once t.1 ∙ ap (λ (e : Entry). Some e) (own_is n t.0 t.1 t.2)
+
+  pub stands_as : (n j : ℕ) → n ≡ j → StandsAs v j (c.queue n)
+  stands_as n j same = record {
+    once = (l.base.queues.at n).once;
+    absent = λ out e has is. (let z = k.queues.waits n (e, has, is) in omega arith);
+    entry = λ waits. own_entry n (omega arith);
+  }
 
   pub seen_by : (n : ℕ) (o : Owner) → v.inside ≡ suc n → o ≡ word_of c n → IsSeenBy v n o
   seen_by n o inside is = record {

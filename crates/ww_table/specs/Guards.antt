@@ -4,7 +4,7 @@ use Rattle.atomic_table.specs.Table.{Step, rest}
 use Rattle.ww_word.specs.declared.owner.Owner.{Owner}
 use Rattle.ww_word.specs.Owner.{IsValid, packed, is_handed}
 use Rattle.ww_queue.specs.declared.entry.Entry.{Entry}
-use Rattle.ww_queue.specs.Queue.{Has, entry_of}
+use Rattle.ww_queue.specs.Queue.{Has, entry_of, Once, StandsNot}
 use Rattle.ww_view.specs.declared.view.View.{View}
 use Rattle.ww_view.specs.View.{owns}
 use Rattle.ww_view.specs.Made.{stepped, entered, exited, has_looked, entry_of_view}
@@ -23,9 +23,12 @@ lost v = knowing v (stepped v.part.core)
 abbrev pub AreSeats : List Entry → Type 0
 AreSeats q = (e : Entry) → Has q e → (e.seat < 16) × (e.stamp < 2 ^ 56)
 
--- who waits here stands in the list as its view has it
-abbrev pub StandsAs : View → ℕ → List Entry → Type 0
-StandsAs v n q = v.waits ≡ suc n → entry_of q v.who ≡ Some (entry_of_view v)
+-- each waiter stands in the list once: the seat itself not where it waits for no lock, and where it waits for this one as its
+-- view has it
+pub record StandsAs (v : View) (n : ℕ) (q : List Entry) : Type 0 where
+  pub once : Once q
+  pub absent : v.waits ≡ 0 → StandsNot q v.who
+  pub entry : v.waits ≡ suc n → entry_of q v.who ≡ Some (entry_of_view v)
 
 -- ---- enter: one try to go inside the guard, and the wait list comes with it
 
