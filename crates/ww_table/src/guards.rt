@@ -40,6 +40,7 @@ impl Seat16 {
         requires may { MayEnter self.old.seat.me.0.part.core lock }
         requires room { length self.old.seat.me.1 < 65 }
         ensures seat { IsSeated board.now.table.shared.table_id self.new }
+        ensures records { self.new.records ≡ self.old.records }
         ensures entered { result ≡ true → (q : List Entry) × AreSeats q × StandsAs self.old.seat.me.0.part.core lock q × (self.new.seat.me ≡ (entering self.old.seat.me.0 lock q, (list_at lock, Line q) ∷ self.old.seat.me.1)) }
         ensures lost { result ≡ false → self.new.seat.me ≡ (lost self.old.seat.me.0, self.old.seat.me.1) }
     {
@@ -60,6 +61,7 @@ impl Seat16 {
         requires may { MayLeave self.old.seat.me.0.part.core lock }
         requires list { slot_of self.old.seat.me.1 (list_at lock) ≡ Some (Line self.old.seat.me.0.part.core.list) }
         ensures seat { IsSeated board.now.table.shared.table_id self.new }
+        ensures records { self.new.records ≡ self.old.records }
         ensures view { self.new.seat.me.0 ≡ exiting self.old.seat.me.0 }
         ensures home { AreOthers self.old.seat.me.1 (list_at lock) (Line self.old.seat.me.0.part.core.list) self.new.seat.me.1 }
     {
@@ -75,6 +77,7 @@ impl Seat16 {
         requires lock { lock < length (first_graph board.now.table.shared.key) }
         requires inside { self.old.seat.me.0.part.core.inside ≡ lock + 1 }
         ensures seat { IsSeated board.now.table.shared.table_id self.new }
+        ensures records { self.new.records ≡ self.old.records }
         ensures looked { self.new.seat.me ≡ (looking self.old.seat.me.0 result, self.old.seat.me.1) }
         ensures valid { IsValid result }
         ensures own { owns self.old.seat.me.0.part.core lock ≡ false → result.seat ≡ Some self.old.seat.me.0.part.core.who → is_handed result ≡ true }
