@@ -1,3 +1,5 @@
 pub mod Slots
 pub mod Outside
 pub mod AtOnce
+pub mod Guards
+pub mod Gives

@@ -3,6 +3,9 @@
 
 mod context;
 mod fast;
+mod giving;
+mod guard;
 
 pub use context::{begin, end};
 pub use fast::try_take;
+pub use giving::give;
