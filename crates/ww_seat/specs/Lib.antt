@@ -1,3 +1,4 @@
 pub mod Orderly
 pub mod Calls
+pub mod Commits
 pub mod Guards

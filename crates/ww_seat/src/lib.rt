@@ -1,11 +1,13 @@
 //! The calls of the locks, by the steps of one seat at the table.
 #![tactic(auto)]
 
+mod committing;
 mod context;
 mod fast;
 mod giving;
 mod guard;
 
+pub use committing::commit;
 pub use context::{begin, end};
 pub use fast::try_take;
 pub use giving::give;
