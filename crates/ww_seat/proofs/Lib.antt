@@ -4,3 +4,4 @@ pub mod AtOnce
 pub mod Changes
 pub mod Guards
 pub mod Gives
+pub mod Waits
