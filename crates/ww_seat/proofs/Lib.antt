@@ -3,3 +3,4 @@ pub mod Outside
 pub mod AtOnce
 pub mod Guards
 pub mod Gives
+pub mod Waits

@@ -5,7 +5,11 @@ mod context;
 mod fast;
 mod giving;
 mod guard;
+mod look;
+mod waiting;
+mod wake;
 
 pub use context::{begin, end};
 pub use fast::try_take;
 pub use giving::give;
+pub use waiting::take;
