@@ -34,6 +34,7 @@ impl Seat16 {
         ensures seat { IsSeated board.now.table.shared.table_id self.new }
         ensures read { HasListOnTop self.old.seat.me lock self.new.seat.me }
         ensures death { result ≡ must_die kind seen self.old.seat.me.0.part.core.list self.old.who sign }
+        ensures records { self.new.records ≡ self.old.records }
     {
         let slot = list_slot(lock);
         bring(&mut self.seat, &mut self.order, slot);
@@ -54,6 +55,7 @@ impl Seat16 {
         ensures seat { IsSeated board.now.table.shared.table_id self.new }
         ensures read { HasListOnTop self.old.seat.me lock self.new.seat.me }
         ensures owed { result.items ≡ owed_signs kind seen self.old.seat.me.0.part.core.list self.old.who }
+        ensures records { self.new.records ≡ self.old.records }
     {
         let slot = list_slot(lock);
         bring(&mut self.seat, &mut self.order, slot);
@@ -68,6 +70,7 @@ impl Seat16 {
         ensures seat { IsSeated board.now.table.shared.table_id self.new }
         ensures read { HasListOnTop self.old.seat.me lock self.new.seat.me }
         ensures first { result ≡ slice_get self.old.seat.me.0.part.core.list 0 }
+        ensures records { self.new.records ≡ self.old.records }
     {
         let slot = list_slot(lock);
         bring(&mut self.seat, &mut self.order, slot);

@@ -2,6 +2,7 @@ ghost use Rattle.std.specs.Prelude.{◌≡◌, ◌≢◌, ◌<◌, ◌∷◌, le
 ghost use lib.ListN.{get_elem?};
 ghost use mathlib.Core.Option.{some};
 ghost use Rattle.ww_plain.specs.declared.node.Node.{Node};
+ghost use Rattle.ww_plain.specs.Graph.{IsNodeOf};
 ghost use Rattle.ww_view.specs.View.{owns, IsAway};
 ghost use Rattle.ww_view.specs.May.{MayFast};
 ghost use Rattle.ww_view.specs.Made.{ended, fast_missed, has_read};
@@ -9,7 +10,7 @@ ghost use Rattle.ww_table.specs.declared.cells.Cell.{Cell};
 ghost use Rattle.ww_table.specs.declared.cells.Cell.TheVariants.{Content};
 ghost use Rattle.ww_table.specs.Rule.{first_graph};
 ghost use Rattle.ww_table.specs.Seat.{IsSeated, AreOthers, slot_of, numbers_of};
-ghost use Rattle.std.specs.Prelude.{ℕ, ◌^◌, List};
+ghost use Rattle.std.specs.Prelude.{ℕ, ◌^◌, List, nat_lt};
 ghost use Rattle.ww_word.specs.Owner.{packed};
 ghost use Rattle.ww_table.specs.Steps.{knowing, drawing, taking, giving, MayDraw, MayEnd};
 
@@ -37,11 +38,35 @@ pub struct Seat16 {
 }
 
 impl Seat16 {
+    /// Its number.
+    pub fn who(&self) -> u8
+        ensures { result ≡ self.now.who }
+    {
+        self.who
+    }
+
+    /// The stamp of its context, 0 without one.
+    pub fn stamp(&self) -> u64
+        ensures { result ≡ self.now.stamp }
+    {
+        self.stamp
+    }
+
+    /// Whether it has a slot out.
+    #[tactic(auto, using(crate::proofs::Turning::numbers_long))]
+    pub fn is_holding(&self) -> bool
+        requires order { self.now.order.items ≡ numbers_of self.now.seat.me.1 }
+        ensures { result ≡ nat_lt 0 (length self.now.seat.me.1) }
+    {
+        self.order.len() > 0
+    }
+
     /// Starts a context, and gives its stamp: one more than the stamp drawn last.
     pub fn draw(&mut self, board: &Board) -> u64
         requires seat { IsSeated board.now.table.shared.table_id self.old }
         requires may { MayDraw self.old.seat.me.0.part }
         ensures seat { IsSeated board.now.table.shared.table_id self.new }
+        ensures records { self.new.records ≡ self.old.records }
         ensures drew { self.new.seat.me ≡ (drawing self.old.seat.me.0 result, self.old.seat.me.1) }
         ensures context { 0 < result }
     {
@@ -74,7 +99,8 @@ impl Seat16 {
         requires may { MayFast self.old.seat.me.0.part.core }
         requires room { length self.old.seat.me.1 < 65 }
         ensures seat { IsSeated board.now.table.shared.table_id self.new }
-        ensures took { result ≡ true → (x : Node) × (self.new.seat.me ≡ (taking self.old.seat.me.0 lock x, (lock, Content x) ∷ self.old.seat.me.1)) }
+        ensures records { self.new.records ≡ self.old.records }
+        ensures took { result ≡ true → (x : Node) × IsNodeOf (length self.old.seat.me.0.held) x × (self.new.seat.me ≡ (taking self.old.seat.me.0 lock x, (lock, Content x) ∷ self.old.seat.me.1)) }
         ensures lost { result ≡ false → self.new.seat.me ≡ (knowing self.old.seat.me.0 (fast_missed self.old.seat.me.0.part.core), self.old.seat.me.1) }
     {
         let own = self.word();
@@ -95,6 +121,7 @@ impl Seat16 {
         requires owner { owns self.old.seat.me.0.part.core lock ≡ true }
         requires out { (x : Node) × (slot_of self.old.seat.me.1 lock ≡ Some (Content x)) × (get_elem? self.old.seat.me.0.held lock ≡ some (Some x)) }
         ensures seat { IsSeated board.now.table.shared.table_id self.new }
+        ensures records { self.new.records ≡ self.old.records }
         ensures gave { result ≡ true → (x : Node) × (self.new.seat.me.0 ≡ giving self.old.seat.me.0 lock) × AreOthers self.old.seat.me.1 lock (Content x) self.new.seat.me.1 }
         ensures kept { result ≡ false → (x : Node) × (others : List (ℕ × Cell)) × AreOthers self.old.seat.me.1 lock (Content x) others × (self.new.seat.me ≡ (self.old.seat.me.0, (lock, Content x) ∷ others)) }
     {
@@ -114,8 +141,11 @@ impl Seat16 {
         requires seat { IsSeated board.now.table.shared.table_id self.old }
         requires may { MayEnd self.old.seat.me.0.part.core }
         ensures seat { IsSeated board.now.table.shared.table_id self.new }
+        ensures records { self.new.records ≡ self.old.records }
         ensures ended { result ≡ true → self.new.seat.me ≡ (knowing self.old.seat.me.0 (ended self.old.seat.me.0.part.core), self.old.seat.me.1) }
         ensures signed { result ≡ false → (k : ℕ) × (0 < k) × (self.new.seat.me ≡ (knowing self.old.seat.me.0 (has_read self.old.seat.me.0.part.core k), self.old.seat.me.1)) }
+        ensures known { (k : ℕ) → self.old.seat.me.0.part.core.sign ≡ Some k → 0 < k → result ≡ false }
+        ensures unsigned { self.old.seat.me.0.part.core.sign ≡ Some 0 → result ≡ true }
     {
         let sign = board
             .table
@@ -128,11 +158,27 @@ impl Seat16 {
         true
     }
 
+    /// A node that the seat has out. It is no step.
+    pub fn node(&mut self, board: &Board, lock: u8) -> Node
+        requires seat { IsSeated board.now.table.shared.table_id self.old }
+        requires out { (x : Node) × (slot_of self.old.seat.me.1 lock ≡ Some (Content x)) }
+        ensures seat { IsSeated board.now.table.shared.table_id self.new }
+        ensures records { self.new.records ≡ self.old.records }
+        ensures read { (others : List (ℕ × Cell)) × AreOthers self.old.seat.me.1 lock (Content result) others × (self.new.seat.me ≡ (self.old.seat.me.0, (lock, Content result) ∷ others)) }
+    {
+        bring(&mut self.seat, &mut self.order, lock);
+        match self.seat.slot_mut(&board.table.shared, usize::from(lock)) {
+            Cell::Content(node) => *node,
+            Cell::Line(_) => unreachable!(),
+        }
+    }
+
     /// Writes a node that the seat has out, and gives what was there. It is no step: nobody else sees it.
     pub fn swap_node(&mut self, board: &Board, node: u8, new: Node) -> Node
         requires seat { IsSeated board.now.table.shared.table_id self.old }
         requires out { (x : Node) × (slot_of self.old.seat.me.1 node ≡ Some (Content x)) }
         ensures seat { IsSeated board.now.table.shared.table_id self.new }
+        ensures records { self.new.records ≡ self.old.records }
         ensures swapped { (others : List (ℕ × Cell)) × AreOthers self.old.seat.me.1 node (Content result) others × (self.new.seat.me ≡ (self.old.seat.me.0, (node, Content new) ∷ others)) }
     {
         bring(&mut self.seat, &mut self.order, node);

@@ -17,6 +17,7 @@ impl Seat16 {
         requires victim { victim < 16 }
         requires may { MaySign self.old.seat.me.0.part.core lock victim stamp }
         ensures seat { IsSeated board.now.table.shared.table_id self.new }
+        ensures records { self.new.records ≡ self.old.records }
         ensures noted { self.new.seat.me ≡ (signing self.old.seat.me.0 victim, self.old.seat.me.1) }
     {
         let shared = &board.table.shared;
@@ -28,6 +29,7 @@ impl Seat16 {
     pub fn own_sign(&mut self, board: &Board) -> u64
         requires seat { IsSeated board.now.table.shared.table_id self.old }
         ensures seat { IsSeated board.now.table.shared.table_id self.new }
+        ensures records { self.new.records ≡ self.old.records }
         ensures signed { result ≢ 0 → self.new.seat.me ≡ (reading self.old.seat.me.0 result, self.old.seat.me.1) }
         ensures quiet { result ≡ 0 → IsQuiet self.old.seat.me.0.part.core → self.new.seat.me ≡ (reading self.old.seat.me.0 0, self.old.seat.me.1) }
         ensures unsigned { result ≡ 0 → ¬ IsQuiet self.old.seat.me.0.part.core → self.new.seat.me ≡ (finding_none self.old.seat.me.0, self.old.seat.me.1) }
@@ -41,6 +43,7 @@ impl Seat16 {
         requires seat { IsSeated board.now.table.shared.table_id self.old }
         requires may { MayClear self.old.seat.me.0.part.core }
         ensures seat { IsSeated board.now.table.shared.table_id self.new }
+        ensures records { self.new.records ≡ self.old.records }
         ensures cleared { self.new.seat.me ≡ (clearing self.old.seat.me.0, self.old.seat.me.1) }
     {
         let shared = &board.table.shared;

@@ -1,0 +1,154 @@
+-- A lock is given back inside its guard.
+use Rattle.std.proofs.Common.{◌≡◌, ℕ, ◌+◌, ◌<◌, Bool, true, false, List, ◌∷◌, slice_set, refl, sym, ap, ◌∙◌, subst, inl, inr, arith, Some, None}
+use mathlib.Core.Option.{some}
+use lib.ListN.{get_elem?}
+use Rattle.ww_word.specs.declared.owner.Owner.{Owner}
+use Rattle.ww_queue.specs.declared.kind.Kind.TheVariants.{WaitDie}
+use Rattle.ww_plain.specs.declared.node.Node.{Node}
+use Rattle.ww_view.specs.View.{owns, IsAway}
+use Rattle.ww_view.specs.May.{MayEnter}
+use Rattle.ww_view.specs.Made.{once_inside}
+use Rattle.ww_table.specs.declared.cells.Cell.{Cell}
+use Rattle.ww_table.specs.declared.cells.Cell.TheVariants.{Content, Line}
+use Rattle.ww_table.specs.declared.cells.Sight.{Sight}
+use Rattle.ww_table.specs.Rule.{Sat}
+use Rattle.ww_table.specs.Seat.{slot_of, AreOthers}
+use Rattle.ww_table.specs.Steps.{giving}
+use Rattle.ww_table.specs.Guards.{lost, exiting, looking}
+use Rattle.ww_table.specs.Waiting.{HasListOnTop, IsOut, giving_inside}
+use Rattle.ww_seat.specs.Orderly.{IsOrderly}
+use Rattle.ww_seat.specs.Calls.{IsSame, HoldsAsBefore, HasGiven}
+use Rattle.ww_seat.specs.Guards.{HasEntered, IsGiving, HasLet}
+use Rattle.ww_seat.proofs.Slots.{front_same, front_apart, is_out}
+use Rattle.ww_seat.proofs.Guards.{owned_here, alike_orderly, exiting_orderly, listed_orderly, without_node}
+
+-- ---- what the calls say of the seat, one after another
+
+pub holds_same : (m : Sat) → HoldsAsBefore m m
+holds_same m = record { same = record { kind = refl; who = refl; stamp = refl; own = refl; draws = refl }; owned = refl; held = refl }
+
+pub same_then : (a b c : Sat) → IsSame a b → IsSame b c → IsSame a c
+same_then a b c x y = record { kind = y.kind ∙ x.kind; who = y.who ∙ x.who; stamp = y.stamp ∙ x.stamp; own = y.own ∙ x.own; draws = y.draws ∙ x.draws }
+
+pub holds_then : (a b c : Sat) → HoldsAsBefore a b → HoldsAsBefore b c → HoldsAsBefore a c
+holds_then a b c x y = record { same = same_then a b c x.same y.same; owned = y.owned ∙ x.owned; held = y.held ∙ x.held }
+
+pub given_then : (a b c : Sat) (n : ℕ) → HoldsAsBefore a b → HasGiven b n c → HasGiven a n c
+given_then a b c n x y = record { same = same_then a b c x.same y.same; owned = y.owned ∙ ap (λ xs. slice_set xs n false) x.owned; held = y.held ∙ ap (λ xs. slice_set xs n None) x.held }
+
+pub then_given : (a b c : Sat) (n : ℕ) → HasGiven a n b → HoldsAsBefore b c → HasGiven a n c
+then_given a b c n x y = record { same = same_then a b c x.same y.same; owned = y.owned ∙ x.owned; held = y.held ∙ x.held }
+
+pub holds_looking : (m m' : Sat) (o : Owner) → m'.0 ≡ looking m.0 o → HoldsAsBefore m m'
+holds_looking m m' o e = subst (λ (w : Sight). HoldsAsBefore m (w, m'.1)) (sym e) (record { same = record { kind = refl; who = refl; stamp = refl; own = refl; draws = refl }; owned = refl; held = refl })
+
+pub holds_lost : (m m' : Sat) → m'.0 ≡ lost m.0 → HoldsAsBefore m m'
+holds_lost m m' e = subst (λ (w : Sight). HoldsAsBefore m (w, m'.1)) (sym e) (record { same = record { kind = refl; who = refl; stamp = refl; own = refl; draws = refl }; owned = refl; held = refl })
+
+pub holds_view : (m m' : Sat) → m'.0 ≡ m.0 → HoldsAsBefore m m'
+holds_view m m' e = subst (λ (w : Sight). HoldsAsBefore m (w, m'.1)) (sym e) (record { same = record { kind = refl; who = refl; stamp = refl; own = refl; draws = refl }; owned = refl; held = refl })
+
+pub holds_entered : (m m' : Sat) (n : ℕ) → HasEntered m n m' → HoldsAsBefore m m'
+holds_entered m m' n e = subst (λ (w : Sight). HoldsAsBefore m (w, m'.1)) (sym e.view) (record { same = record { kind = refl; who = refl; stamp = refl; own = refl; draws = refl }; owned = refl; held = refl })
+
+pub holds_exited : (m m' : Sat) → m'.0 ≡ exiting m.0 → HoldsAsBefore m m'
+holds_exited m m' e = subst (λ (w : Sight). HoldsAsBefore m (w, m'.1)) (sym e) (record { same = record { kind = refl; who = refl; stamp = refl; own = refl; draws = refl }; owned = refl; held = refl })
+
+-- it read the owner word, and then the wait list
+pub read_holds : (a m m' m'' : Sat) (n : ℕ) (o : Owner) → HoldsAsBefore a m → m' ≡ (looking m.0 o, m.1) → HasListOnTop m' n m'' → HoldsAsBefore a m''
+read_holds a m m' m'' n o before looked read = holds_then a m m'' before (holds_then m m' m'' (holds_looking m m' o (ap (λ (x : Sat). x.0) looked)) (holds_view m' m'' (ap (λ (x : Sat). x.0) read.now)))
+
+pub lost_holds : (a m m' : Sat) → HoldsAsBefore a m → m'.0 ≡ lost m.0 → HoldsAsBefore a m'
+lost_holds a m m' before e = holds_then a m m' before (holds_lost m m' e)
+
+pub kept_entered_holds : (a m m' : Sat) (n : ℕ) → m.0 ≡ a.0 → HasEntered m n m' → HoldsAsBefore a m'
+kept_entered_holds a m m' n same e = holds_then a m m' (holds_view a m same) (holds_entered m m' n e)
+
+-- ---- at once
+
+-- the node of a lock that it owns is out
+pub node_out : (size : ℕ) (m : Sat) (n : ℕ) → IsOrderly size m → owns m.0.part.core n ≡ true → (x : Node) × (slot_of m.1 n ≡ Some (Content x)) × (get_elem? m.0.held n ≡ some (Some x))
+node_out size m n o own = let z = o.nodes n own in (z.1.0, z.1.2, z.1.1)
+
+pub given_free : (size : ℕ) (m m' : Sat) (n : ℕ) (x : Node) → IsOrderly size m → IsAway m.0.part.core → n < size → m'.0 ≡ giving m.0 n → AreOthers m.1 n (Content x) m'.1 → IsOrderly size m' × IsAway m'.0.part.core × HasGiven m n m'
+given_free size m m' n x o away small view home = let few = o.few in (
+  subst (λ (w : Sight). IsOrderly size (w, m'.1)) (sym view) (without_node size m n x (giving m.0 n) m'.1 o (omega arith) home refl refl refl refl),
+  subst (λ (w : Sight). IsAway w.part.core) (sym view) (away.0, away.1),
+  subst (λ (w : Sight). HasGiven m n (w, m'.1)) (sym view) (record { same = record { kind = refl; who = refl; stamp = refl; own = refl; draws = refl }; owned = refl; held = refl }),
+)
+
+pub kept_free : (size : ℕ) (m m' : Sat) (n : ℕ) (x : Node) (others : List (ℕ × Cell)) → IsOrderly size m → AreOthers m.1 n (Content x) others → m' ≡ (m.0, (n, Content x) ∷ others) → IsOrderly size m'
+kept_free size m m' n x others o out is = subst (IsOrderly size) (sym is) (alike_orderly size m m.0 ((n, Content x) ∷ others) o refl refl refl refl
+    (front_apart m.1 n (Content x) others o.apart out (Content x)) (front_same m.1 n (Content x) others o.apart out))
+
+-- the owner may go inside
+pub owner_enters : (m m' : Sat) (n : ℕ) → m'.0 ≡ m.0 → IsAway m.0.part.core → owns m.0.part.core n ≡ true → MayEnter m'.0.part.core n
+owner_enters m m' n same away own = subst (λ (w : Sight). MayEnter w.part.core n) (sym same) (record { outside = away.0; why = inl (away.1, own) })
+
+pub kept_enters : (m m' : Sat) (n : ℕ) → m'.0 ≡ m.0 → IsAway m.0.part.core → owns m.0.part.core n ≡ true → (m'.0.part.core.waits ≡ 0) × (owns m'.0.part.core n ≡ true)
+kept_enters m m' n same away own = (ap (λ (w : Sight). w.part.core.waits) same ∙ away.1, ap (λ (w : Sight). owns w.part.core n) same ∙ own)
+
+-- ---- inside
+
+pub entered_giving : (size : ℕ) (m m' : Sat) (n : ℕ) → HasEntered m n m' → IsOrderly size m' → m.0.part.core.waits ≡ 0 → owns m.0.part.core n ≡ true → IsGiving size n m'
+entered_giving size m m' n e o waits own = subst (λ (w : Sight). IsOrderly size (w, m'.1) → IsGiving size n (w, m'.1)) (sym e.view)
+    (λ o'. record { orderly = o'; inside = refl; waits = waits; owner = own; seats = e.seats; unsigned = λ (is : m.0.part.core.kind ≡ WaitDie). (λ i. once_inside (is i) (waits i) m.0.part.core.sign) }) o
+
+pub looked_giving : (size : ℕ) (m m' : Sat) (n : ℕ) (o : Owner) → IsGiving size n m → m' ≡ (looking m.0 o, m.1) → IsGiving size n m'
+looked_giving size m m' n o g is = subst (IsGiving size n) (sym is) (record {
+  orderly = alike_orderly size m (looking m.0 o) m.1 g.orderly refl refl refl refl g.orderly.apart (λ k. refl);
+  inside = g.inside;
+  waits = g.waits;
+  owner = g.owner;
+  seats = g.seats;
+  unsigned = g.unsigned;
+})
+
+pub read_giving : (size : ℕ) (m m' : Sat) (n : ℕ) → IsGiving size n m → HasListOnTop m n m' → IsGiving size n m'
+read_giving size m m' n g t = subst (IsGiving size n) (sym t.now) (record {
+  orderly = listed_orderly size m n m.0 t.others g.orderly g.inside t.apart refl refl refl;
+  inside = g.inside;
+  waits = g.waits;
+  owner = g.owner;
+  seats = g.seats;
+  unsigned = g.unsigned;
+})
+
+pub giving_out : (size : ℕ) (m : Sat) (n : ℕ) → IsGiving size n m → (x : Node) × IsOut m.1 n (Content x) × (get_elem? m.0.held n ≡ some (Some x))
+giving_out size m n g = let z = node_out size m n g.orderly g.owner in (z.0, is_out m.1 n (Content z.0) g.orderly.apart z.1, z.2)
+
+pub lost_giving : (size : ℕ) (m m' : Sat) (n : ℕ) (x : Node) (others slots : List (ℕ × Cell)) → IsGiving size n m → AreOthers m.1 (64 + n) (Line m.0.part.core.list) others → AreOthers ((64 + n, Line m.0.part.core.list) ∷ others) n (Content x) slots
+    → m' ≡ (lost m.0, (n, Content x) ∷ slots) → IsGiving size n m'
+lost_giving size m m' n x others slots g top out is = let first : Sat = (m.0, (64 + n, Line m.0.part.core.list) ∷ others) in let o = listed_orderly size m n m.0 others g.orderly g.inside top refl refl refl in subst (IsGiving size n) (sym is) (record {
+  orderly = alike_orderly size first (lost m.0) ((n, Content x) ∷ slots) o refl refl refl refl (front_apart first.1 n (Content x) slots o.apart out (Content x)) (front_same first.1 n (Content x) slots o.apart out);
+  inside = g.inside;
+  waits = g.waits;
+  owner = g.owner;
+  seats = g.seats;
+  unsigned = g.unsigned;
+})
+
+pub let_go : (size : ℕ) (a m m' : Sat) (n : ℕ) (x : Node) (others : List (ℕ × Cell)) (asked : Bool) → HoldsAsBefore a m → IsGiving size n m → m'.0 ≡ giving_inside m.0 n asked → AreOthers m.1 (64 + n) (Line m.0.part.core.list) others
+    → AreOthers ((64 + n, Line m.0.part.core.list) ∷ others) n (Content x) m'.1 → HasLet size a n m'
+let_go size a m m' n x others asked before g view top home = let first : Sat = (m.0, (64 + n, Line m.0.part.core.list) ∷ others) in let o = listed_orderly size m n m.0 others g.orderly g.inside top refl refl refl in
+    let small = (g.orderly.nodes n g.owner).0 in let few = g.orderly.few in let long = g.orderly.owned in subst (λ (w : Sight). HasLet size a n (w, m'.1)) (sym view) (record {
+      orderly = without_node size first n x (giving_inside m.0 n asked) m'.1 o (omega arith) home refl refl refl refl;
+      may = record {
+        exit = record { inside = g.inside; why = inl (g.waits, owned_here m.0.part.core.owned n false (omega arith)); unsigned = λ is. inr (inl (g.unsigned is)) };
+        acted = refl;
+        again = λ _ w. absurd (let z = g.waits in omega arith);
+        looked = λ _ w _ _. absurd (let z = g.waits in omega arith);
+      };
+      inside = g.inside;
+      waits = g.waits;
+      given = given_then a m (giving_inside m.0 n asked, m'.1) n before (record { same = record { kind = refl; who = refl; stamp = refl; own = refl; draws = refl }; owned = refl; held = refl });
+    })
+
+-- ---- outside again
+
+pub has_let : (size : ℕ) (a b c m' : Sat) (n : ℕ) → HoldsAsBefore a b → HasLet size b n c → m'.0 ≡ exiting c.0 → AreOthers c.1 (64 + n) (Line c.0.part.core.list) m'.1 → IsOrderly size m' × IsAway m'.0.part.core × HasGiven a n m'
+has_let size a b c m' n before l view home = (
+  exiting_orderly size c m' n l.orderly l.inside view home,
+  subst (λ (w : Sight). IsAway w.part.core) (sym view) (refl, l.waits),
+  then_given a c m' n (given_then a b c n before l.given) (holds_exited c m' view),
+)

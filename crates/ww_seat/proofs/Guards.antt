@@ -1,0 +1,119 @@
+-- What the steps of a seat keep of what it has out.
+use Rattle.std.proofs.Common.{◌≡◌, ◌≢◌, ℕ, suc, ◌+◌, ◌-◌, ◌<◌, ◌≤◌, Bool, false, true≢false, List, ◌∷◌, length, get_or, set, slice_set, sym, ap, ◌∙◌, subst, arith, Some, None, length-set, get_or-set_same, get_or-set_other}
+use mathlib.Core.Logic.{dite}
+use native.Mathlib.Decide.{ℕ_discrete}
+use lib.ListN.{get_elem?}
+use Rattle.atomic_table.proofs.Lists.{set_else}
+use Rattle.ww_queue.specs.declared.entry.Entry.{Entry}
+use Rattle.ww_plain.specs.declared.node.Node.{Node}
+use Rattle.ww_table.specs.declared.cells.Cell.{Cell}
+use Rattle.ww_table.specs.declared.cells.Cell.TheVariants.{Content, Line}
+use Rattle.ww_table.specs.declared.cells.Sight.{Sight}
+use Rattle.ww_table.specs.Rule.{Sat}
+use Rattle.ww_table.specs.Seat.{slot_of, AreOthers}
+use Rattle.ww_view.specs.May.{MayEnter}
+use Rattle.ww_table.specs.Guards.{StandsAs, lost, entering, exiting}
+use Rattle.ww_seat.specs.Orderly.{AreApart, IsOrderly}
+use Rattle.ww_seat.proofs.Slots.{slot_here, slot_else, others_gone, others_else, others_apart, front_apart, front_else, few_slots}
+
+-- ---- the locks that it owns
+
+pub owned_here : (xs : List Bool) (n : ℕ) (b : Bool) → n < length xs → get_or (set xs n b) n false ≡ b
+owned_here xs n b within = get_or-set_same xs n b false within
+
+pub owned_else : (xs : List Bool) (n k : ℕ) (b : Bool) → k ≢ n → get_or (set xs n b) k false ≡ get_or xs k false
+owned_else xs n k b isnt = get_or-set_other xs n k b false isnt
+
+-- ---- what it knows changes, or the order of its slots
+
+pub alike_orderly : (size : ℕ) (m : Sat) (w : Sight) (slots : List (ℕ × Cell)) → IsOrderly size m → w.part.core.owned ≡ m.0.part.core.owned → w.held ≡ m.0.held → w.part.core.inside ≡ m.0.part.core.inside → w.part.core.list ≡ m.0.part.core.list
+    → AreApart slots → ((k : ℕ) → slot_of slots k ≡ slot_of m.1 k) → IsOrderly size (w, slots)
+alike_orderly size m w slots o owned held inside list apart same = record {
+  few = o.few;
+  owned = ap length owned ∙ o.owned;
+  held = ap length held ∙ o.held;
+  apart = apart;
+  nodes = λ n own. let z = o.nodes n (sym (ap (λ xs. get_or xs n false) owned) ∙ own) in (z.0, (z.1.0, ap (λ xs. get_elem? xs n) held ∙ z.1.1, same n ∙ z.1.2));
+  others = λ n small isnt. same n ∙ o.others n small (sym (ap (λ xs. get_or xs n false) owned) ∙ isnt);
+  list = λ n is. same (64 + n) ∙ o.list n (sym inside ∙ is) ∙ ap (λ (q : List Entry). Some (Line q)) (sym list);
+  lists = λ n isnt. same (64 + n) ∙ o.lists n (λ e. isnt (inside ∙ e));
+}
+
+-- ---- into the guard and out of it
+
+-- outside, a slot that is out is that of a node
+pub low_outside : (size : ℕ) (m : Sat) → IsOrderly size m → m.0.part.core.inside ≡ 0 → (n : ℕ) → 64 ≤ n → slot_of m.1 n ≡ None
+low_outside size m o outside n high = let e : 64 + (n - 64) ≡ n = omega arith in ap (slot_of m.1) (sym e) ∙ o.lists (n - 64) (λ z. let y = sym outside ∙ z in omega arith)
+
+pub room_outside : (size : ℕ) (m : Sat) → IsOrderly size m → m.0.part.core.inside ≡ 0 → length m.1 < 65
+room_outside size m o outside = let f = few_slots 64 m.1 o.apart (low_outside size m o outside) in omega arith
+
+-- a try that was lost leaves it as it was, but for what lasts no longer than a step
+pub may_enter_again : (v w : Sight) (n : ℕ) → lost w ≡ lost v → MayEnter v.part.core n → MayEnter w.part.core n
+may_enter_again v w n same may = let again = subst (λ (u : Sight). MayEnter u.part.core n) (sym same) (let z : MayEnter (lost v).part.core n = record { outside = may.outside; why = may.why } in z) in record { outside = again.outside; why = again.why }
+
+pub stands_still : (v w : Sight) (n : ℕ) (q : List Entry) → lost w ≡ lost v → StandsAs w.part.core n q → StandsAs v.part.core n q
+stands_still v w n q same stands = let now : StandsAs (lost w).part.core n q = record { once = stands.once; absent = stands.absent; entry = stands.entry } in
+    let was = subst (λ (u : Sight). StandsAs u.part.core n q) same now in record { once = was.once; absent = was.absent; entry = was.entry }
+
+pub entering_orderly : (size : ℕ) (m m' : Sat) (n : ℕ) (q : List Entry) → IsOrderly size m → m.0.part.core.inside ≡ 0 → m' ≡ (entering m.0 n q, (64 + n, Line q) ∷ m.1) → IsOrderly size m'
+entering_orderly size m m' n q o outside is = subst (IsOrderly size) (sym is) (record {
+  few = o.few;
+  owned = o.owned;
+  held = o.held;
+  apart = (low_outside size m o outside (64 + n) (omega arith), o.apart);
+  nodes = λ k own. let z = o.nodes k own in let few = o.few in let small = z.0 in (z.0, (z.1.0, z.1.1, slot_else (64 + n) (Line q) m.1 k (λ e. absurd (omega arith)) ∙ z.1.2));
+  others = λ k small isnt. slot_else (64 + n) (Line q) m.1 k (λ e. absurd (omega arith)) ∙ o.others k small isnt;
+  list = λ k e. let at : k ≡ n = omega arith in ap (λ (j : ℕ). slot_of ((64 + n, Line q) ∷ m.1) (64 + j)) at ∙ slot_here (64 + n) (Line q) m.1;
+  lists = λ k isnt. slot_else (64 + n) (Line q) m.1 (64 + k) (λ e. isnt (omega arith)) ∙ low_outside size m o outside (64 + k) (omega arith);
+})
+
+pub exiting_orderly : (size : ℕ) (m m' : Sat) (n : ℕ) → IsOrderly size m → m.0.part.core.inside ≡ suc n → m'.0 ≡ exiting m.0 → AreOthers m.1 (64 + n) (Line m.0.part.core.list) m'.1 → IsOrderly size m'
+exiting_orderly size m m' n o inside view home = let same = others_else m.1 (64 + n) (Line m.0.part.core.list) m'.1 o.apart home in subst (λ (w : Sight). IsOrderly size (w, m'.1)) (sym view) (record {
+  few = o.few;
+  owned = o.owned;
+  held = o.held;
+  apart = others_apart m.1 (64 + n) (Line m.0.part.core.list) m'.1 o.apart home;
+  nodes = λ k own. let z = o.nodes k own in let few = o.few in let small = z.0 in (z.0, (z.1.0, z.1.1, same k (λ e. absurd (omega arith)) ∙ z.1.2));
+  others = λ k small isnt. same k (λ e. absurd (omega arith)) ∙ o.others k small isnt;
+  list = λ k e. absurd (omega arith);
+  lists = λ k _. dite (ℕ_discrete k n)
+      (λ is. ap (λ (j : ℕ). slot_of m'.1 (64 + j)) is ∙ others_gone m.1 (64 + n) (Line m.0.part.core.list) m'.1 o.apart home)
+      (λ isnt. same (64 + k) (λ e. isnt (omega arith)) ∙ o.lists k (λ e. isnt (omega arith)));
+})
+
+-- ---- inside
+
+-- the wait list lies on top, as the view has it now
+pub listed_orderly : (size : ℕ) (m : Sat) (n : ℕ) (w : Sight) (others : List (ℕ × Cell)) → IsOrderly size m → m.0.part.core.inside ≡ suc n → AreOthers m.1 (64 + n) (Line m.0.part.core.list) others
+    → w.part.core.owned ≡ m.0.part.core.owned → w.held ≡ m.0.held → w.part.core.inside ≡ m.0.part.core.inside → IsOrderly size (w, (64 + n, Line w.part.core.list) ∷ others)
+listed_orderly size m n w others o in_guard out owned held inside = let same = front_else m.1 (64 + n) (Line m.0.part.core.list) others o.apart out (Line w.part.core.list) in record {
+  few = o.few;
+  owned = ap length owned ∙ o.owned;
+  held = ap length held ∙ o.held;
+  apart = front_apart m.1 (64 + n) (Line m.0.part.core.list) others o.apart out (Line w.part.core.list);
+  nodes = λ k own. let z = o.nodes k (sym (ap (λ xs. get_or xs k false) owned) ∙ own) in let few = o.few in let small = z.0 in (z.0, (z.1.0, ap (λ xs. get_elem? xs k) held ∙ z.1.1, same k (λ e. absurd (omega arith)) ∙ z.1.2));
+  others = λ k small isnt. same k (λ e. absurd (omega arith)) ∙ o.others k small (sym (ap (λ xs. get_or xs k false) owned) ∙ isnt);
+  list = λ k e. let at : k ≡ n = omega arith in ap (λ (j : ℕ). slot_of ((64 + n, Line w.part.core.list) ∷ others) (64 + j)) at ∙ slot_here (64 + n) (Line w.part.core.list) others;
+  lists = λ k isnt. same (64 + k) (λ e. isnt (omega arith)) ∙ o.lists k (λ e. isnt (inside ∙ e));
+}
+
+-- a node went home, and its lock is given back
+pub without_node : (size : ℕ) (m : Sat) (n : ℕ) (x : Node) (w : Sight) (slots : List (ℕ × Cell)) → IsOrderly size m → n < 64 → AreOthers m.1 n (Content x) slots
+    → w.part.core.owned ≡ slice_set m.0.part.core.owned n false → w.held ≡ slice_set m.0.held n None → w.part.core.inside ≡ m.0.part.core.inside → w.part.core.list ≡ m.0.part.core.list → IsOrderly size (w, slots)
+without_node size m n x w slots o small home owned held inside list = let same = others_else m.1 n (Content x) slots o.apart home in let long = o.owned in
+    let gone : get_or w.part.core.owned n false ≡ false = ap (λ xs. get_or xs n false) owned ∙ owned_here m.0.part.core.owned n false (omega arith) in
+    let kept : (k : ℕ) → k ≢ n → get_or w.part.core.owned k false ≡ get_or m.0.part.core.owned k false = λ k isnt. ap (λ xs. get_or xs k false) owned ∙ owned_else m.0.part.core.owned n k false isnt in record {
+      few = o.few;
+      owned = ap length owned ∙ length-set m.0.part.core.owned n false ∙ o.owned;
+      held = ap length held ∙ length-set m.0.held n None ∙ o.held;
+      apart = others_apart m.1 n (Content x) slots o.apart home;
+      nodes = λ k own. dite (ℕ_discrete k n)
+          (λ is. absurd (true≢false (sym own ∙ ap (λ (j : ℕ). get_or w.part.core.owned j false) is ∙ gone)))
+          (λ isnt. let z = o.nodes k (sym (kept k isnt) ∙ own) in (z.0, (z.1.0, ap (λ xs. get_elem? xs k) held ∙ set_else m.0.held n k None isnt ∙ z.1.1, same k isnt ∙ z.1.2)));
+      others = λ k low own. dite (ℕ_discrete k n)
+          (λ is. ap (slot_of slots) is ∙ others_gone m.1 n (Content x) slots o.apart home)
+          (λ isnt. same k isnt ∙ o.others k low (sym (kept k isnt) ∙ own));
+      list = λ k e. same (64 + k) (λ z. omega arith) ∙ o.list k (sym inside ∙ e) ∙ ap (λ (q : List Entry). Some (Line q)) (sym list);
+      lists = λ k isnt. same (64 + k) (λ z. omega arith) ∙ o.lists k (λ e. isnt (inside ∙ e));
+    }

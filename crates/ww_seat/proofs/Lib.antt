@@ -1,0 +1,6 @@
+pub mod Slots
+pub mod Outside
+pub mod AtOnce
+pub mod Guards
+pub mod Gives
+pub mod Waits

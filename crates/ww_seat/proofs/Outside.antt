@@ -1,0 +1,211 @@
+-- Each step outside a guard keeps that what is out fits the view.
+use Rattle.std.proofs.Common.{◌≡◌, ◌≢◌, ℕ, suc, ◌-◌, ◌<◌, ◌≤◌, ltb, ⊎_elim, Bool, true, false, true≢false, List, [], ◌∷◌, length, get_or, set, refl, sym, ap, ◌∙◌, subst, arith, Option, Some, None, length-set, get_or-set_same, get_or-set_other}
+use Rattle.std.proofs.lemmas.Bool.Decides.{leb_tells}
+use mathlib.Core.Logic.{dite}
+use mathlib.Core.Option.{some}
+use native.Mathlib.Decide.{ℕ_discrete}
+use lib.ListN.{get_elem?}
+use Rattle.atomic_table.proofs.Lists.{set_here, set_else}
+use Rattle.ww_plain.specs.declared.node.Node.{Node}
+use Rattle.ww_plain.proofs.Members.{true_or_false}
+use Rattle.ww_view.specs.declared.view.View.{View}
+use Rattle.ww_model.specs.State.{any_below}
+use Rattle.ww_view.specs.View.{owns, IsBare}
+use Rattle.ww_view.specs.Made.{ended, fast_missed, has_read, found_none, cleared}
+use Rattle.ww_table.specs.declared.cells.Cell.{Cell}
+use Rattle.ww_table.specs.declared.cells.Cell.TheVariants.{Content, Line}
+use Rattle.ww_table.specs.declared.cells.Sight.{Sight}
+use Rattle.ww_table.specs.Layout.{list_at}
+use Rattle.ww_table.specs.Rule.{Sat}
+use Rattle.ww_table.specs.Seat.{slot_of, AreOthers}
+use Rattle.ww_table.specs.Steps.{knowing, drawing, taking, giving}
+use Rattle.ww_seat.specs.Orderly.{AreApart, IsOrderly}
+use Rattle.ww_seat.proofs.Slots.{slot_here, not_both, slot_else, others_gone, others_else, others_apart, front_apart, front_else, front_same, none_out, few_slots, fewer_beside, nodes_beside}
+
+-- ---- what stays
+
+-- The seat owns the same, its view names the same nodes, it is inside as before, and the slots have the same: their order
+-- may be another.
+pub orderly_still : (size : ℕ) (m m' : Sat) → IsOrderly size m → m'.0.part.core.owned ≡ m.0.part.core.owned → m'.0.held ≡ m.0.held → m'.0.part.core.inside ≡ m.0.part.core.inside → m'.0.part.core.list ≡ m.0.part.core.list
+    → AreApart m'.1 → ((k : ℕ) → slot_of m'.1 k ≡ slot_of m.1 k) → IsOrderly size m'
+orderly_still size m m' was owned held inside list apart slots = record {
+  few = was.few;
+  owned = ap (λ (l : List Bool). length l) owned ∙ was.owned;
+  held = ap (λ (l : List (Option Node)). length l) held ∙ was.held;
+  apart = apart;
+  nodes = λ n own. let t = was.nodes n (ap (λ (l : List Bool). get_or l n false) (sym owned) ∙ own) in (t.0, (t.1.0, ap (λ (l : List (Option Node)). get_elem? l n) held ∙ t.1.1, slots n ∙ t.1.2));
+  others = λ n small own. slots n ∙ was.others n small (ap (λ (l : List Bool). get_or l n false) (sym owned) ∙ own);
+  list = λ n is. slots (list_at n) ∙ was.list n (sym inside ∙ is) ∙ ap (λ q. Some (Line q)) (sym list);
+  lists = λ n isnt. slots (list_at n) ∙ was.lists n (λ is. isnt (inside ∙ is));
+}
+
+-- a step that leaves the slots as they are
+pub orderly_knowing : (size : ℕ) (m m' : Sat) (w : View) → IsOrderly size m → m' ≡ (knowing m.0 w, m.1) → w.owned ≡ m.0.part.core.owned → w.inside ≡ m.0.part.core.inside → w.list ≡ m.0.part.core.list → IsOrderly size m'
+orderly_knowing size m m' w was is owned inside list = subst (IsOrderly size) (sym is) (orderly_still size m (knowing m.0 w, m.1) was owned refl inside list was.apart (λ k. refl))
+
+-- a slot that was only brought to the front
+pub orderly_brought : (size : ℕ) (m m' : Sat) (n : ℕ) (y : Cell) (others : List (ℕ × Cell)) → IsOrderly size m → AreOthers m.1 n y others → m' ≡ (m.0, (n, y) ∷ others) → IsOrderly size m'
+orderly_brought size m m' n y others was are is = subst (IsOrderly size) (sym is) (orderly_still size m (m.0, (n, y) ∷ others) was refl refl refl refl (front_apart m.1 n y others was.apart are y) (front_same m.1 n y others was.apart are))
+
+pub orderly_draw : (size : ℕ) (m m' : Sat) (stamp : ℕ) → IsOrderly size m → m' ≡ (drawing m.0 stamp, m.1) → IsOrderly size m'
+orderly_draw size m m' stamp was is = subst (IsOrderly size) (sym is) (orderly_still size m (drawing m.0 stamp, m.1) was refl refl refl refl was.apart (λ k. refl))
+
+pub orderly_ended : (size : ℕ) (m m' : Sat) → IsOrderly size m → m' ≡ (knowing m.0 (ended m.0.part.core), m.1) → IsOrderly size m'
+orderly_ended size m m' was is = orderly_knowing size m m' (ended m.0.part.core) was is refl refl refl
+
+pub orderly_read : (size : ℕ) (m m' : Sat) (k : ℕ) → IsOrderly size m → m' ≡ (knowing m.0 (has_read m.0.part.core k), m.1) → IsOrderly size m'
+orderly_read size m m' k was is = orderly_knowing size m m' (has_read m.0.part.core k) was is refl refl refl
+
+pub orderly_unsigned : (size : ℕ) (m m' : Sat) → IsOrderly size m → m' ≡ (knowing m.0 (found_none m.0.part.core), m.1) → IsOrderly size m'
+orderly_unsigned size m m' was is = orderly_knowing size m m' (found_none m.0.part.core) was is refl refl refl
+
+pub orderly_cleared : (size : ℕ) (m m' : Sat) → IsOrderly size m → m' ≡ (knowing m.0 (cleared m.0.part.core), m.1) → IsOrderly size m'
+orderly_cleared size m m' was is = orderly_knowing size m m' (cleared m.0.part.core) was is refl refl refl
+
+pub orderly_missed : (size : ℕ) (m m' : Sat) → IsOrderly size m → m' ≡ (knowing m.0 (fast_missed m.0.part.core), m.1) → IsOrderly size m'
+orderly_missed size m m' was is = orderly_knowing size m m' (fast_missed m.0.part.core) was is refl refl refl
+
+-- ---- which locks it owns
+
+pub owns_here : (owned : List Bool) (n : ℕ) (b : Bool) → n < length owned → get_or (set owned n b) n false ≡ b
+owns_here owned n b small = get_or-set_same owned n b false small
+
+pub owns_else : (owned : List Bool) (n : ℕ) (b : Bool) (k : ℕ) → k ≢ n → get_or (set owned n b) k false ≡ get_or owned k false
+owns_else owned n b k isnt = get_or-set_other owned n k b false isnt
+
+-- ---- a lock taken, or given back
+
+module _ (size : ℕ) (m : Sat) (n : ℕ) (x : Node) (was : IsOrderly size m) (low : n < size) where
+  small : n < length m.0.part.core.owned
+  small = let a = was.few in let b = was.owned in omega arith
+
+  taken_orderly : owns m.0.part.core n ≡ false → IsOrderly size (taking m.0 n x, (n, Content x) ∷ m.1)
+  taken_orderly lacks = let few = was.few in record {
+    few = was.few;
+    owned = length-set m.0.part.core.owned n true ∙ was.owned;
+    held = length-set m.0.held n (Some x) ∙ was.held;
+    apart = (was.others n (omega arith) lacks, was.apart);
+    nodes = λ k own. dite (ℕ_discrete k n)
+        (λ is. subst (λ (j : ℕ). (j < size) × ((z : Node) × (get_elem? (set m.0.held n (Some x)) j ≡ some (Some z)) × (slot_of ((n, Content x) ∷ m.1) j ≡ Some (Content z)))) (sym is)
+        (low, (x, set_here m.0.held n (Some x) (let h = was.held in omega arith), slot_here n (Content x) m.1)))
+        (λ isnt. let t = was.nodes k (sym (owns_else m.0.part.core.owned n true k isnt) ∙ own) in (t.0, (t.1.0, set_else m.0.held n k (Some x) isnt ∙ t.1.1, slot_else n (Content x) m.1 k isnt ∙ t.1.2)));
+    others = λ k less own. dite (ℕ_discrete k n)
+        (λ is. absurd (true≢false (sym (owns_here m.0.part.core.owned n true small) ∙ ap (λ (j : ℕ). get_or (set m.0.part.core.owned n true) j false) (sym is) ∙ own)))
+        (λ isnt. slot_else n (Content x) m.1 k isnt ∙ was.others k less (sym (owns_else m.0.part.core.owned n true k isnt) ∙ own));
+    list = λ k is. slot_else n (Content x) m.1 (list_at k) (λ e. absurd (omega arith)) ∙ was.list k is;
+    lists = λ k isnt. slot_else n (Content x) m.1 (list_at k) (λ e. absurd (omega arith)) ∙ was.lists k isnt;
+  }
+
+  given_orderly : (others : List (ℕ × Cell)) → AreOthers m.1 n (Content x) others → IsOrderly size (giving m.0 n, others)
+  given_orderly others are = let few = was.few in record {
+    few = was.few;
+    owned = length-set m.0.part.core.owned n false ∙ was.owned;
+    held = length-set m.0.held n None ∙ was.held;
+    apart = others_apart m.1 n (Content x) others was.apart are;
+    nodes = λ k own. dite (ℕ_discrete k n)
+        (λ is. absurd (true≢false (sym own ∙ ap (λ (j : ℕ). get_or (set m.0.part.core.owned n false) j false) is ∙ owns_here m.0.part.core.owned n false small)))
+        (λ isnt. let t = was.nodes k (sym (owns_else m.0.part.core.owned n false k isnt) ∙ own) in (t.0, (t.1.0, set_else m.0.held n k None isnt ∙ t.1.1, others_else m.1 n (Content x) others was.apart are k isnt ∙ t.1.2)));
+    others = λ k less own. dite (ℕ_discrete k n)
+        (λ is. ap (slot_of others) is ∙ others_gone m.1 n (Content x) others was.apart are)
+        (λ isnt. others_else m.1 n (Content x) others was.apart are k isnt ∙ was.others k less (sym (owns_else m.0.part.core.owned n false k isnt) ∙ own));
+    list = λ k is. others_else m.1 n (Content x) others was.apart are (list_at k) (λ e. absurd (omega arith)) ∙ was.list k is;
+    lists = λ k isnt. others_else m.1 n (Content x) others was.apart are (list_at k) (λ e. absurd (omega arith)) ∙ was.lists k isnt;
+  }
+
+  -- its node is written, and the view names what was written
+  swapped_orderly : (y : Node) (others : List (ℕ × Cell)) → owns m.0.part.core n ≡ true → AreOthers m.1 n (Content x) others → IsOrderly size (record (m.0) { held = set m.0.held n (Some y) }, (n, Content y) ∷ others)
+  swapped_orderly y others owner are = let few = was.few in record {
+    few = was.few;
+    owned = was.owned;
+    held = length-set m.0.held n (Some y) ∙ was.held;
+    apart = front_apart m.1 n (Content x) others was.apart are (Content y);
+    nodes = λ k own. dite (ℕ_discrete k n)
+        (λ is. subst (λ (j : ℕ). (j < size) × ((z : Node) × (get_elem? (set m.0.held n (Some y)) j ≡ some (Some z)) × (slot_of ((n, Content y) ∷ others) j ≡ Some (Content z)))) (sym is)
+        (low, (y, set_here m.0.held n (Some y) (let h = was.held in omega arith), slot_here n (Content y) others)))
+        (λ isnt. let t = was.nodes k own in (t.0, (t.1.0, set_else m.0.held n k (Some y) isnt ∙ t.1.1, front_else m.1 n (Content x) others was.apart are (Content y) k isnt ∙ t.1.2)));
+    others = λ k less own. dite (ℕ_discrete k n)
+        (λ is. absurd (true≢false (sym owner ∙ ap (λ (j : ℕ). get_or m.0.part.core.owned j false) (sym is) ∙ own)))
+        (λ isnt. front_else m.1 n (Content x) others was.apart are (Content y) k isnt ∙ was.others k less own);
+    list = λ k is. front_else m.1 n (Content x) others was.apart are (Content y) (list_at k) (λ e. absurd (omega arith)) ∙ was.list k is;
+    lists = λ k isnt. front_else m.1 n (Content x) others was.apart are (Content y) (list_at k) (λ e. absurd (omega arith)) ∙ was.lists k isnt;
+  }
+
+pub orderly_taken : (size : ℕ) (m m' : Sat) (n : ℕ) (x : Node) → IsOrderly size m → n < size → owns m.0.part.core n ≡ false → m' ≡ (taking m.0 n x, (n, Content x) ∷ m.1) → IsOrderly size m'
+orderly_taken size m m' n x was low lacks is = subst (IsOrderly size) (sym is) (taken_orderly size m n x was low lacks)
+
+pub orderly_given : (size : ℕ) (m m' : Sat) (n : ℕ) (x : Node) → IsOrderly size m → n < size → m'.0 ≡ giving m.0 n → AreOthers m.1 n (Content x) m'.1 → IsOrderly size m'
+orderly_given size m m' n x was low view are = subst (λ (v : Sight). IsOrderly size (v, m'.1)) (sym view) (given_orderly size m n x was low m'.1 are)
+
+pub orderly_swapped : (size : ℕ) (m m' : Sat) (n : ℕ) (x y : Node) (others : List (ℕ × Cell)) → IsOrderly size m → n < size → owns m.0.part.core n ≡ true → AreOthers m.1 n (Content x) others
+    → m' ≡ (record (m.0) { held = set m.0.held n (Some y) }, (n, Content y) ∷ others) → IsOrderly size m'
+orderly_swapped size m m' n x y others was low owner are is = subst (IsOrderly size) (sym is) (swapped_orderly size m n x was low y others owner are)
+
+-- the view names the same of each node whose lock the seat owns
+pub orderly_named : (size : ℕ) (m m' : Sat) → IsOrderly size m → m'.1 ≡ m.1 → m'.0.part.core.owned ≡ m.0.part.core.owned → m'.0.part.core.inside ≡ m.0.part.core.inside → m'.0.part.core.list ≡ m.0.part.core.list
+    → length m'.0.held ≡ length m.0.held → ((n : ℕ) → owns m.0.part.core n ≡ true → get_elem? m'.0.held n ≡ get_elem? m.0.held n) → IsOrderly size m'
+orderly_named size m m' was slots owned inside list long named = record {
+  few = was.few;
+  owned = ap (λ (l : List Bool). length l) owned ∙ was.owned;
+  held = long ∙ was.held;
+  apart = subst AreApart (sym slots) was.apart;
+  nodes = λ n own. let old = ap (λ (l : List Bool). get_or l n false) (sym owned) ∙ own in let t = was.nodes n old in (t.0, (t.1.0, named n old ∙ t.1.1, at n ∙ t.1.2));
+  others = λ n small own. at n ∙ was.others n small (ap (λ (l : List Bool). get_or l n false) (sym owned) ∙ own);
+  list = λ n is. at (list_at n) ∙ was.list n (sym inside ∙ is) ∙ ap (λ q. Some (Line q)) (sym list);
+  lists = λ n isnt. at (list_at n) ∙ was.lists n (λ is. isnt (inside ∙ is));
+}
+  where
+    at : (k : ℕ) → slot_of m'.1 k ≡ slot_of m.1 k
+    at k = ap (λ (l : List (ℕ × Cell)). slot_of l k) slots
+
+-- ---- what the steps ask
+
+high_list : (n : ℕ) → 64 ≤ n → (k : ℕ) × (n ≡ list_at k)
+high_list n high = (n - 64, omega arith)
+
+-- outside every guard at most all nodes are out
+pub room_outside : (size : ℕ) (m : Sat) → IsOrderly size m → m.0.part.core.inside ≡ 0 → length m.1 < 65
+room_outside size m was outside = let f = few_slots 64 m.1 was.apart (λ n high. let k = high_list n high in ap (slot_of m.1) k.1 ∙ was.lists k.0 (λ is. absurd (omega arith))) in omega arith
+
+lists_else : (size : ℕ) (m : Sat) (n : ℕ) → IsOrderly size m → m.0.part.core.inside ≡ suc n → (j : ℕ) → 64 ≤ j → j ≢ list_at n → slot_of m.1 j ≡ None
+lists_else size m n was inside j high isnt = let k = high_list j high in ap (slot_of m.1) k.1 ∙ was.lists k.0 (λ is. isnt (k.1 ∙ ap list_at (let z : k.0 ≡ n = omega arith in z)))
+
+-- inside the guard of a lock that it lacks there is room for its node
+pub room_inside : (size : ℕ) (m : Sat) (n : ℕ) → IsOrderly size m → n < size → m.0.part.core.inside ≡ suc n → owns m.0.part.core n ≡ false → length m.1 < 65
+room_inside size m n was low inside lacks = let few = was.few in
+    fewer_beside 64 m.1 (list_at n) (Line m.0.part.core.list) n was.apart (was.list n inside) (omega arith) (lists_else size m n was inside) (omega arith) (was.others n (omega arith) lacks)
+
+-- inside a guard it holds some lock just where more than the list is out
+pub holds_inside : (size : ℕ) (m : Sat) (n : ℕ) → IsOrderly size m → m.0.part.core.inside ≡ suc n → any_below 64 (owns m.0.part.core) ≡ ltb 1 (length m.1)
+holds_inside size m n was inside = nodes_beside 64 (owns m.0.part.core) m.1 (list_at n) (Line m.0.part.core.list) was.apart (was.list n inside) (omega arith)
+    (λ k less own. let t = was.nodes k own in (Content t.1.0, t.1.2)) (λ k less own. was.others k less own) (lists_else size m n was inside)
+
+-- a seat that owns nothing, outside every guard, has nothing out
+pub bare_out : (size : ℕ) (m : Sat) → IsOrderly size m → m.0.part.core.inside ≡ 0 → IsBare m.0.part.core → m.1 ≡ []
+bare_out size m was outside bare = none_out m.1 (λ n. ⊎_elim
+    (λ t. let k = high_list n t.1 in ap (slot_of m.1) k.1 ∙ was.lists k.0 (λ is. absurd (omega arith)))
+    (λ t. was.others n t.1 (bare n))
+    (leb_tells 64 n))
+
+-- ---- whether it holds a lock
+
+-- outside every guard what is out is the node of a lock that it owns
+pub owner_of_first : (size : ℕ) (m : Sat) → IsOrderly size m → m.0.part.core.inside ≡ 0 → 0 < length m.1 → (n : ℕ) × (owns m.0.part.core n ≡ true)
+owner_of_first size m was outside out = go m.1 was.others (λ n high. let k = high_list n high in ap (slot_of m.1) k.1 ∙ was.lists k.0 (λ is. absurd (omega arith))) out
+  where
+    go : (slots : List (ℕ × Cell)) → ((n : ℕ) → n < 64 → owns m.0.part.core n ≡ false → slot_of slots n ≡ None) → ((n : ℕ) → 64 ≤ n → slot_of slots n ≡ None) → 0 < length slots → (n : ℕ) × (owns m.0.part.core n ≡ true)
+    go [] low high out = absurd (omega arith)
+    go (x ∷ xs) low high out = let here : slot_of (x ∷ xs) x.0 ≡ Some x.1 = slot_here x.0 x.1 xs in ⊎_elim
+        (λ t. absurd (not_both (slot_of (x ∷ xs) x.0) x.1 (high x.0 t.1) here))
+        (λ t. ⊎_elim (λ own. (x.0, own)) (λ lacks. absurd (not_both (slot_of (x ∷ xs) x.0) x.1 (low x.0 t.1 lacks) here)) (true_or_false (owns m.0.part.core x.0)))
+        (leb_tells 64 x.0)
+
+-- and where nothing is out it owns none
+pub bare_of_none : (size : ℕ) (m : Sat) → IsOrderly size m → length m.1 ≤ 0 → IsBare m.0.part.core
+bare_of_none size m was none n = ⊎_elim
+    (λ own. let t = was.nodes n own in absurd (go m.1 none (Content t.1.0) t.1.2))
+    (λ lacks. lacks)
+    (true_or_false (owns m.0.part.core n))
+  where
+    go : (slots : List (ℕ × Cell)) → length slots ≤ 0 → (y : Cell) → slot_of slots n ≡ Some y → ⊥
+    go [] none y is = cc
+    go (x ∷ xs) none y is = omega arith

@@ -1,0 +1,115 @@
+-- A seat waits for a lock.
+use Rattle.std.proofs.Common.{◌≡◌, ℕ, zero, suc, ◌<◌, ◌==◌, not, true, false, length, get_or, slice_set, refl, sym, ap, ◌∙◌, subst, ⊎_elim, inl, inr, arith, Option, Some, Result, Ok, Err, IfOk, IfErr, ne_eqb}
+use Rattle.ww_queue.specs.declared.kind.Kind.{Kind}
+use Rattle.ww_queue.specs.declared.kind.Kind.TheVariants.{WoundWait, WaitDie}
+use Rattle.ww_plain.specs.declared.node.Node.{Node}
+use Rattle.ww_plain.specs.Graph.{IsNodeOf}
+use Rattle.ww_view.specs.View.{owns, IsAway}
+use Rattle.ww_view.specs.May.{MayEnter, WantsBase, WantsSigns}
+use Rattle.ww_view.specs.Made.{once_inside}
+use Rattle.ww_table.specs.declared.cells.Sight.{Sight}
+use Rattle.ww_table.specs.Rule.{Sat}
+use Rattle.ww_seat.specs.declared.look.Look.{Look}
+use Rattle.ww_seat.specs.declared.look.Look.TheVariants.{Locked, Deadlk, Waits}
+use Rattle.ww_seat.specs.Orderly.{IsOrderly}
+use Rattle.ww_seat.specs.Calls.{HoldsAsBefore, HasTaken, HasToDie}
+use Rattle.ww_seat.specs.Looks.{IsOutside, IsInside, IsLook}
+use Rattle.ww_seat.specs.Guards.{HasEntered}
+use Rattle.ww_seat.proofs.Gives.{same_then, holds_then}
+
+-- ---- into the guard
+
+pub wanter_enters : (size n : ℕ) (m : Sat) → IsOutside size n m → MayEnter m.0.part.core n
+wanter_enters size n m o = record {
+  outside = o.outside;
+  why = ⊎_elim (λ e. inr (inr (e, o.want.lacks, o.want.base, o.want.signs))) (λ e. inr (inl e)) o.place;
+}
+
+still_unsigned : (kind : Kind) (waits : ℕ) (sign : Option ℕ) → sign ≡ Some 0 → once_inside kind waits sign ≡ Some 0
+still_unsigned WaitDie zero sign e = refl
+still_unsigned WaitDie (suc n) sign e = e
+still_unsigned WoundWait waits sign e = e
+
+pub entered_inside : (size n : ℕ) (m m' : Sat) → IsOutside size n m → HasEntered m n m' → IsOrderly size m' → IsInside size n m'
+entered_inside size n m m' out e o = subst (λ (w : Sight). IsOrderly size (w, m'.1) → IsInside size n (w, m'.1)) (sym e.view) (λ o'. record {
+  orderly = o';
+  want = record {
+    lacks = out.want.lacks;
+    base = out.want.base;
+    signs = ⊎_elim (λ s. inl s) (λ s. inr (⊎_elim (λ t. inl (still_unsigned m.0.part.core.kind m.0.part.core.waits m.0.part.core.sign t)) (λ t. inr t) s)) out.want.signs;
+  };
+  inside = refl;
+  place = out.place;
+  seats = e.seats;
+  once = e.stands.once;
+  absent = e.stands.absent;
+  entry = e.stands.entry;
+  later = refl;
+  acted = refl;
+}) o
+
+pub entered_kind : (n : ℕ) (m m' : Sat) (kind : Kind) → kind ≡ m.0.part.core.kind → HasEntered m n m' → kind ≡ m'.0.part.core.kind
+entered_kind n m m' kind is e = is ∙ ap (λ (w : Sight). w.part.core.kind) (sym e.view)
+
+pub entered_tries : (n : ℕ) (m m' : Sat) → HasEntered m n m' → m'.0.part.core.tries ≡ m.0.part.core.tries
+entered_tries n m m' e = ap (λ (w : Sight). w.part.core.tries) e.view
+
+pub entered_later : (n : ℕ) (m m' : Sat) → HasEntered m n m' → m'.0.part.core.later ≡ not (m.0.part.core.waits == 0)
+entered_later n m m' e = ap (λ (w : Sight). w.part.core.later) e.view
+
+-- ---- what a look came to, told of where the seat began
+
+pub taken_then : (a b c : Sat) (n : ℕ) (x : Node) → HoldsAsBefore a b → HasTaken b n x c → HasTaken a n x c
+taken_then a b c n x h t = record {
+  same = same_then a b c h.same t.same;
+  owned = t.owned ∙ ap (λ xs. slice_set xs n true) h.owned;
+  held = t.held ∙ ap (λ xs. slice_set xs n (Some x)) h.held;
+  node = subst (λ (size : ℕ). IsNodeOf size x) (ap length h.held) t.node;
+}
+
+pub die_then : (a b c : Sat) (n k : ℕ) → HoldsAsBefore a b → HasToDie b n k c → HasToDie a n k c
+die_then a b c n k h d = record {
+  holds = holds_then a b c h d.holds;
+  one = (d.one.0, sym (ap (λ xs. get_or xs d.one.0 false) h.owned) ∙ d.one.1);
+  older = subst (λ (s : ℕ). k < s) h.same.stamp d.older;
+  met = d.met;
+}
+
+pub look_then : (size n : ℕ) (a b c : Sat) (look : Look) → HoldsAsBefore a b → IsLook size n b look c → IsLook size n a look c
+look_then size n a b c (Locked x) h l = (l.0, l.1, taken_then a b c n x h l.2)
+look_then size n a b c (Deadlk k) h l = (l.0, l.1, die_then a b c n k h l.2)
+look_then size n a b c Waits h l = (l.0, l.1, holds_then a b c h l.2)
+
+pub ok_then : (a b c : Sat) (n : ℕ) (r : Result Node ℕ) → HoldsAsBefore a b → IfOk r (λ x. HasTaken b n x c) → IfOk r (λ x. HasTaken a n x c)
+ok_then a b c n (Ok x) h t = taken_then a b c n x h t
+ok_then a b c n (Err k) h t = t
+
+pub err_then : (a b c : Sat) (n : ℕ) (r : Result Node ℕ) → HoldsAsBefore a b → IfErr r (λ k. HasToDie b n k c) → IfErr r (λ k. HasToDie a n k c)
+err_then a b c n (Ok x) h d = d
+err_then a b c n (Err k) h d = die_then a b c n k h d
+
+-- ---- it stands in the wait list, or in none
+
+pub first_look : (waits : ℕ) → waits ≡ 0 → false ≡ not (waits == 0)
+first_look waits e = ap (λ (w : ℕ). not (w == 0)) (sym e)
+
+pub later_look : (waits n : ℕ) → waits ≡ suc n → true ≡ not (waits == 0)
+later_look waits n e = ap not (sym (ne_eqb waits 0 (λ z. omega arith)))
+
+-- the first try failed
+wants_still : (a b : Sat) → HoldsAsBefore a b → WantsBase a.0.part.core → WantsBase b.0.part.core
+wants_still a b h base = ⊎_elim
+    (λ context. inl (subst (λ (s : ℕ). 0 < s) (sym h.same.stamp) context))
+    (λ bare. inr (λ n. ap (λ xs. get_or xs n false) h.owned ∙ bare n))
+    base
+
+pub missed : (size n : ℕ) (a b : Sat) → HoldsAsBefore a b → owns a.0.part.core n ≡ false → WantsBase a.0.part.core → WantsSigns b.0.part.core → IsOrderly size b → IsAway b.0.part.core → IsOutside size n b
+missed size n a b h lacks base signs o away = record {
+  orderly = o;
+  want = record { lacks = ap (λ xs. get_or xs n false) h.owned ∙ lacks; base = wants_still a b h base; signs = signs };
+  outside = away.0;
+  place = inl away.1;
+}
+
+pub kind_still : (a b : Sat) (kind : Kind) → HoldsAsBefore a b → kind ≡ a.0.part.core.kind → kind ≡ b.0.part.core.kind
+kind_still a b kind h is = is ∙ sym h.same.kind

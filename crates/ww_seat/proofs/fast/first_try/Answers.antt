@@ -1,0 +1,25 @@
+use Rattle.std.proofs.Common.{ap, ◌∙◌, get_or, List, Bool, false, length}
+use Rattle.ww_table.specs.Rule.{first_graph}
+use Rattle.ww_seat.proofs.Outside.{room_outside}
+use Rattle.ww_seat.proofs.AtOnce.{IsTaken, taken_at_once, taken_later}
+use Rattle.ww_seat.proofs.fast.first_try.Goals as goal
+
+pub take_free-requires-clause-room : goal.take_free-requires-clause-room
+take_free-requires-clause-room c = room_outside (length (first_graph c.args.board.now.table.shared.key)) c.unsign.new.seat.seat.me c.unsign.ensures.seat.orderly c.unsign.ensures.seat.away.0
+
+taken : (c : goal.After-node) → IsTaken (length (first_graph c.args.board.now.table.shared.key)) c.args.lock c.node.result c.unsign.new.seat.seat.me c.node.new.self.seat.me
+taken c = let won = c.take_free.ensures.took c.if-not-take_free.false in let read = c.node.ensures.read in
+    taken_at_once (length (first_graph c.args.board.now.table.shared.key)) c.args.lock c.node.result c.unsign.new.seat.seat.me c.take_free.new.self.seat.me c.node.new.self.seat.me c.unsign.ensures.seat.orderly c.requires.lock
+    (ap (λ (l : List Bool). get_or l c.args.lock false) c.unsign.ensures.same.owned ∙ c.requires.lacks)
+    (record { node = won.0; fits = won.1; now = won.2 })
+    (record { others = read.0; are = read.1; now = read.2 })
+
+pub returns-clause-seat : goal.returns-clause-seat
+returns-clause-seat c = let t = taken c in record {
+  seated = c.node.ensures.seat;
+  orderly = t.orderly;
+  away = (t.inside ∙ c.unsign.ensures.seat.away.0, t.waits ∙ c.unsign.ensures.seat.away.1);
+}
+
+pub returns-clause-some : goal.returns-clause-some
+returns-clause-some c = let t = taken c in taken_later c.args.lock c.node.result c.args.seat.now.seat.me c.unsign.new.seat.seat.me c.node.new.self.seat.me c.unsign.ensures.same t.taken

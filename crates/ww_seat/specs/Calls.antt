@@ -1,0 +1,77 @@
+-- What the calls of the locks make of a seat.
+use Rattle.std.specs.Prelude.{ℕ, ◌≡◌, ◌<◌, ◌≤◌, ◌+◌, true, false, length, slice_set, Some, None}
+use Rattle.ww_word.specs.declared.owner.Owner.{Owner}
+use Rattle.ww_plain.specs.declared.node.Node.{Node}
+use Rattle.ww_plain.specs.Graph.{IsNodeOf}
+use Rattle.ww_view.specs.declared.view.View.{View}
+use Rattle.ww_view.specs.View.{owns}
+use Rattle.ww_view.specs.May.{MayDie, MetByView}
+use Rattle.ww_view.specs.Made.{died, exited}
+use Rattle.ww_table.specs.Rule.{Sat}
+
+-- the same seat, with the same context, and as many draws and commits
+pub record IsSame (m m' : Sat) : Type 0 where
+  pub kind : m'.0.part.core.kind ≡ m.0.part.core.kind
+  pub who : m'.0.part.core.who ≡ m.0.part.core.who
+  pub stamp : m'.0.part.core.stamp ≡ m.0.part.core.stamp
+  pub own : m'.0.part.own ≡ m.0.part.own
+  pub draws : m'.0.part.draws ≡ m.0.part.draws
+
+-- it owns the same locks, and its view names the same nodes
+pub record HoldsAsBefore (m m' : Sat) : Type 0 where
+  pub same : IsSame m m'
+  pub owned : m'.0.part.core.owned ≡ m.0.part.core.owned
+  pub held : m'.0.held ≡ m.0.held
+
+-- it owns one lock more, and its view names the node: one of a graph of as many nodes
+pub record HasTaken (m : Sat) (n : ℕ) (x : Node) (m' : Sat) : Type 0 where
+  pub same : IsSame m m'
+  pub owned : m'.0.part.core.owned ≡ slice_set m.0.part.core.owned n true
+  pub held : m'.0.held ≡ slice_set m.0.held n (Some x)
+  pub node : IsNodeOf (length m.0.held) x
+
+-- it owns one lock less
+pub record HasGiven (m : Sat) (n : ℕ) (m' : Sat) : Type 0 where
+  pub same : IsSame m m'
+  pub owned : m'.0.part.core.owned ≡ slice_set m.0.part.core.owned n false
+  pub held : m'.0.held ≡ slice_set m.0.held n None
+
+-- It left the wait list of lock n inside the guard, by the step that the rules have for a context that has to die of stamp k;
+-- its view then shows the older context that it met; and it left the guard at once.
+pub record HasMet (n k : ℕ) (w : View) : Type 0 where
+  pub view : View
+  pub word : Owner
+  pub may : MayDie view n word k
+  pub met : MetByView view word k
+  pub now : w ≡ exited (died view word)
+
+-- It was told EDEADLK: it owns what it owned, one lock at least, and met an older context.
+pub record HasToDie (m : Sat) (n k : ℕ) (m' : Sat) : Type 0 where
+  pub holds : HoldsAsBefore m m'
+  pub one : (j : ℕ) × (owns m.0.part.core j ≡ true)
+  pub older : k < m.0.part.core.stamp
+  pub met : HasMet n k m'.0.part.core
+
+-- at most one try to take a lock at once
+abbrev pub TriedOnce : Sat → Sat → Type 0
+TriedOnce m m' = m'.0.part.core.tries ≤ m.0.part.core.tries + 1
+
+-- A context of stamp k started: the seat holds what it held, and has drawn once more.
+pub record HasBegun (m : Sat) (k : ℕ) (m' : Sat) : Type 0 where
+  pub kind : m'.0.part.core.kind ≡ m.0.part.core.kind
+  pub who : m'.0.part.core.who ≡ m.0.part.core.who
+  pub stamp : m'.0.part.core.stamp ≡ k
+  pub own : m'.0.part.own ≡ m.0.part.own
+  pub draws : m'.0.part.draws ≡ m.0.part.draws + 1
+  pub owned : m'.0.part.core.owned ≡ m.0.part.core.owned
+  pub held : m'.0.held ≡ m.0.held
+
+-- The context ended: the seat has no stamp, and is otherwise as it was.
+pub record HasEnded (m m' : Sat) : Type 0 where
+  pub kind : m'.0.part.core.kind ≡ m.0.part.core.kind
+  pub who : m'.0.part.core.who ≡ m.0.part.core.who
+  pub stamp : m'.0.part.core.stamp ≡ 0
+  pub own : m'.0.part.own ≡ m.0.part.own
+  pub draws : m'.0.part.draws ≡ m.0.part.draws
+  pub owned : m'.0.part.core.owned ≡ m.0.part.core.owned
+  pub held : m'.0.held ≡ m.0.held

@@ -1,0 +1,36 @@
+-- Into the guard of a lock, and the lock given back there.
+use Rattle.std.specs.Prelude.{ℕ, suc, ◌≡◌, true, List, Some}
+use Rattle.ww_queue.specs.declared.entry.Entry.{Entry}
+use Rattle.ww_queue.specs.declared.kind.Kind.TheVariants.{WaitDie}
+use Rattle.ww_view.specs.View.{owns}
+use Rattle.ww_view.specs.May.{MayLeave}
+use Rattle.ww_table.specs.Rule.{Sat}
+use Rattle.ww_table.specs.Guards.{AreSeats, StandsAs, entering}
+use Rattle.ww_seat.specs.Orderly.{IsOrderly}
+use Rattle.ww_seat.specs.Calls.{HasGiven}
+
+-- the seat went inside, and found this wait list there
+pub record HasEntered (m : Sat) (n : ℕ) (m' : Sat) : Type 0 where
+  pub list : List Entry
+  pub seats : AreSeats list
+  pub stands : StandsAs m.0.part.core n list
+  pub view : m'.0 ≡ entering m.0 n list
+
+-- ---- the lock is given back inside
+
+-- It is inside, as the owner who gives the lock back, and waits for none: its sign is then its own to tell.
+pub record IsGiving (size n : ℕ) (m : Sat) : Type 0 where
+  pub orderly : IsOrderly size m
+  pub inside : m.0.part.core.inside ≡ suc n
+  pub waits : m.0.part.core.waits ≡ 0
+  pub owner : owns m.0.part.core n ≡ true
+  pub seats : AreSeats m.0.part.core.list
+  pub unsigned : m.0.part.core.kind ≡ WaitDie → m.0.part.core.sign ≡ Some 0
+
+-- it gave the lock back, and may leave the guard
+pub record HasLet (size : ℕ) (m : Sat) (n : ℕ) (m' : Sat) : Type 0 where
+  pub orderly : IsOrderly size m'
+  pub may : MayLeave m'.0.part.core n
+  pub inside : m'.0.part.core.inside ≡ suc n
+  pub waits : m'.0.part.core.waits ≡ 0
+  pub given : HasGiven m n m'

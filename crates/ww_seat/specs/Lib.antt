@@ -1,0 +1,4 @@
+pub mod Orderly
+pub mod Calls
+pub mod Looks
+pub mod Guards

@@ -1,0 +1,100 @@
+//! One try to take a lock at once, which a free lock with an empty wait list allows.
+
+ghost use Rattle.std.specs.Prelude.{◌≡◌, ◌<◌, length, false, Some, IfSome, IfNone};
+ghost use Rattle.ww_view.specs.View.{owns, IsBare};
+ghost use Rattle.ww_view.specs.May.{WantsBase, WantsSigns};
+ghost use Rattle.ww_table.specs.Rule.{first_graph};
+ghost use Rattle.ww_seat.specs.Orderly.{IsSettled};
+ghost use Rattle.ww_seat.specs.Calls.{HoldsAsBefore, HasTaken, TriedOnce};
+
+use ww_plain::Node;
+use ww_queue::Kind;
+use ww_table::{Board, Seat16};
+
+/// Takes the sign back of a context that holds nothing.
+fn unsign_bare(seat: &mut Seat16, board: &Board)
+    requires seat { IsSettled board.now.table.shared.table_id (length (first_graph board.now.table.shared.key)) seat.old }
+    requires context { 0 < seat.old.seat.me.0.part.core.stamp }
+    requires bare { IsBare seat.old.seat.me.0.part.core }
+    ensures seat { IsSettled board.now.table.shared.table_id (length (first_graph board.now.table.shared.key)) seat.new }
+    ensures same { HoldsAsBefore seat.old.seat.me seat.new.seat.me }
+    ensures tries { seat.new.seat.me.0.part.core.tries ≡ seat.old.seat.me.0.part.core.tries }
+    ensures sign { seat.new.seat.me.0.part.core.sign ≡ Some 0 }
+    ensures records { seat.new.records ≡ seat.old.records }
+{
+    if seat.own_sign(board) == 0 {
+        return;
+    }
+    seat.clear(board);
+}
+
+/// Takes the sign back of a context that holds nothing: it met an older one with locks that it has given back since.
+fn unsign_wounded(seat: &mut Seat16, board: &Board)
+    requires seat { IsSettled board.now.table.shared.table_id (length (first_graph board.now.table.shared.key)) seat.old }
+    ensures seat { IsSettled board.now.table.shared.table_id (length (first_graph board.now.table.shared.key)) seat.new }
+    ensures same { HoldsAsBefore seat.old.seat.me seat.new.seat.me }
+    ensures tries { seat.new.seat.me.0.part.core.tries ≡ seat.old.seat.me.0.part.core.tries }
+    ensures signs { WantsSigns seat.new.seat.me.0.part.core }
+    ensures records { seat.new.records ≡ seat.old.records }
+{
+    if seat.stamp() == 0 {
+        return;
+    }
+    if seat.is_holding() {
+        return;
+    }
+    unsign_bare(seat, board);
+}
+
+/// Sees to it that the sign doesn't keep the seat from wanting a lock. In Wait-Die whoever is signed owns a lock.
+fn unsign(seat: &mut Seat16, board: &Board, kind: Kind)
+    requires seat { IsSettled board.now.table.shared.table_id (length (first_graph board.now.table.shared.key)) seat.old }
+    requires kind { kind ≡ seat.old.seat.me.0.part.core.kind }
+    ensures seat { IsSettled board.now.table.shared.table_id (length (first_graph board.now.table.shared.key)) seat.new }
+    ensures same { HoldsAsBefore seat.old.seat.me seat.new.seat.me }
+    ensures tries { seat.new.seat.me.0.part.core.tries ≡ seat.old.seat.me.0.part.core.tries }
+    ensures signs { WantsSigns seat.new.seat.me.0.part.core }
+    ensures records { seat.new.records ≡ seat.old.records }
+{
+    match kind {
+        Kind::WoundWait => unsign_wounded(seat, board),
+        Kind::WaitDie => {}
+    }
+}
+
+/// The first try of every call that takes a lock. Where it fails the seat may go on to want the lock.
+pub(crate) fn first_try(seat: &mut Seat16, board: &Board, kind: Kind, lock: u8) -> Option<Node>
+    requires seat { IsSettled board.now.table.shared.table_id (length (first_graph board.now.table.shared.key)) seat.old }
+    requires kind { kind ≡ seat.old.seat.me.0.part.core.kind }
+    requires lock { lock < length (first_graph board.now.table.shared.key) }
+    requires lacks { owns seat.old.seat.me.0.part.core lock ≡ false }
+    requires base { WantsBase seat.old.seat.me.0.part.core }
+    ensures seat { IsSettled board.now.table.shared.table_id (length (first_graph board.now.table.shared.key)) seat.new }
+    ensures some { IfSome result (λ x. HasTaken seat.old.seat.me lock x seat.new.seat.me) }
+    ensures none { IfNone result (HoldsAsBefore seat.old.seat.me seat.new.seat.me) }
+    ensures once { TriedOnce seat.old.seat.me seat.new.seat.me }
+    ensures signs { IfNone result (WantsSigns seat.new.seat.me.0.part.core) }
+    ensures records { seat.new.records ≡ seat.old.records }
+{
+    unsign(seat, board, kind);
+    if !seat.take_free(board, lock) {
+        return None;
+    }
+    Some(seat.node(board, lock))
+}
+
+/// Takes a lock if it is free and nobody waits for it, and gives its node.
+pub fn try_take(seat: &mut Seat16, board: &Board, kind: Kind, lock: u8) -> Option<Node>
+    requires seat { IsSettled board.now.table.shared.table_id (length (first_graph board.now.table.shared.key)) seat.old }
+    requires kind { kind ≡ seat.old.seat.me.0.part.core.kind }
+    requires lock { lock < length (first_graph board.now.table.shared.key) }
+    requires lacks { owns seat.old.seat.me.0.part.core lock ≡ false }
+    requires base { WantsBase seat.old.seat.me.0.part.core }
+    ensures seat { IsSettled board.now.table.shared.table_id (length (first_graph board.now.table.shared.key)) seat.new }
+    ensures some { IfSome result (λ x. HasTaken seat.old.seat.me lock x seat.new.seat.me) }
+    ensures none { IfNone result (HoldsAsBefore seat.old.seat.me seat.new.seat.me) }
+    ensures once { TriedOnce seat.old.seat.me seat.new.seat.me }
+    ensures records { seat.new.records ≡ seat.old.records }
+{
+    first_try(seat, board, kind, lock)
+}

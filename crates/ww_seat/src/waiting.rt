@@ -1,0 +1,111 @@
+ghost use Rattle.std.specs.Prelude.{◌≡◌, ◌<◌, ◌==◌, not, length, false, IfOk, IfErr};
+ghost use Rattle.ww_view.specs.View.{owns};
+ghost use Rattle.ww_view.specs.May.{WantsBase};
+ghost use Rattle.ww_table.specs.Rule.{first_graph};
+ghost use Rattle.ww_table.specs.Seat.{IsSeated};
+ghost use Rattle.ww_seat.specs.Orderly.{IsSettled};
+ghost use Rattle.ww_seat.specs.Calls.{HasTaken, HasToDie, TriedOnce};
+ghost use Rattle.ww_seat.specs.Looks.{IsOutside, IsLook};
+
+use crate::fast::first_try;
+use crate::guard::enter;
+use crate::look::{Look, look_at};
+use crate::wake::Wake;
+use crossbeam_utils::Backoff as Pause;
+use crossbeam_utils::sync::{Parker, Unparker};
+use std::sync::Wait;
+use ww_plain::Node;
+use ww_queue::Kind;
+use ww_table::{Board, Seat16};
+
+/// Takes a lock and gives its node, or tells the older stamp that was met. Where the first try fails the seat waits: it
+/// looks, and parks, until a look ends its waiting.
+pub fn take<R: Wait>(
+    rt: &R,
+    seat: &mut Seat16,
+    board: &Board,
+    kind: Kind,
+    lock: u8,
+    parker: &Parker,
+    wakers: &[Unparker],
+) -> Result<Node, u64>
+    requires settled { IsSettled board.now.table.shared.table_id (length (first_graph board.now.table.shared.key)) seat.old }
+    requires kind { kind ≡ seat.old.seat.me.0.part.core.kind }
+    requires lock { lock < length (first_graph board.now.table.shared.key) }
+    requires lacks { owns seat.old.seat.me.0.part.core lock ≡ false }
+    requires base { WantsBase seat.old.seat.me.0.part.core }
+    ensures settled { IsSettled board.now.table.shared.table_id (length (first_graph board.now.table.shared.key)) seat.new }
+    ensures ok { IfOk result (λ x. HasTaken seat.old.seat.me lock x seat.new.seat.me) }
+    ensures err { IfErr result (λ k. HasToDie seat.old.seat.me lock k seat.new.seat.me) }
+    ensures once { TriedOnce seat.old.seat.me seat.new.seat.me }
+    ensures records { seat.new.records ≡ seat.old.records }
+{
+    match first_try(seat, board, kind, lock) {
+        Some(node) => Ok(node),
+        None => wait(rt, seat, board, kind, lock, parker, wakers),
+    }
+}
+
+/// Waits for a lock. A waiter spins for a moment before it parks; whatever ends that, it looks again.
+fn wait<R: Wait>(
+    rt: &R,
+    seat: &mut Seat16,
+    board: &Board,
+    kind: Kind,
+    lock: u8,
+    parker: &Parker,
+    wakers: &[Unparker],
+) -> Result<Node, u64>
+    requires seat { IsSeated board.now.table.shared.table_id seat.old }
+    requires kind { kind ≡ seat.old.seat.me.0.part.core.kind }
+    requires lock { lock < length (first_graph board.now.table.shared.key) }
+    requires outside { IsOutside (length (first_graph board.now.table.shared.key)) lock seat.old.seat.me }
+    requires away { seat.old.seat.me.0.part.core.waits ≡ 0 }
+    ensures settled { IsSettled board.now.table.shared.table_id (length (first_graph board.now.table.shared.key)) seat.new }
+    ensures ok { IfOk result (λ x. HasTaken seat.old.seat.me lock x seat.new.seat.me) }
+    ensures err { IfErr result (λ k. HasToDie seat.old.seat.me lock k seat.new.seat.me) }
+    ensures tries { seat.new.seat.me.0.part.core.tries ≡ seat.old.seat.me.0.part.core.tries }
+    ensures records { seat.new.records ≡ seat.old.records }
+{
+    let pause = Pause::new();
+    let mut is_woken = false;
+    for _ in rt.forever() {
+        match visit(rt, seat, board, kind, lock, is_woken, wakers) {
+            Look::Locked(node) => return Ok(node),
+            Look::Deadlk(met) => return Err(met),
+            Look::Waits => {
+                pause.snooze();
+                parker.park(rt);
+                is_woken = true;
+            }
+        }
+    }
+    unreachable!()
+}
+
+/// One look at a lock. Others are woken once the seat is outside the guard again, where they may go.
+fn visit<R: Wait>(
+    rt: &R,
+    seat: &mut Seat16,
+    board: &Board,
+    kind: Kind,
+    lock: u8,
+    is_later: bool,
+    wakers: &[Unparker],
+) -> Look
+    requires seat { IsSeated board.now.table.shared.table_id seat.old }
+    requires kind { kind ≡ seat.old.seat.me.0.part.core.kind }
+    requires lock { lock < length (first_graph board.now.table.shared.key) }
+    requires outside { IsOutside (length (first_graph board.now.table.shared.key)) lock seat.old.seat.me }
+    requires later { is_later ≡ not (seat.old.seat.me.0.part.core.waits == 0) }
+    ensures seat { IsSeated board.now.table.shared.table_id seat.new }
+    ensures look { IsLook (length (first_graph board.now.table.shared.key)) lock seat.old.seat.me result seat.new.seat.me }
+    ensures tries { seat.new.seat.me.0.part.core.tries ≡ seat.old.seat.me.0.part.core.tries }
+    ensures records { seat.new.records ≡ seat.old.records }
+{
+    enter(rt, seat, board, lock);
+    let mut wake = Wake::new();
+    let look = look_at(rt, seat, board, kind, lock, is_later, &mut wake);
+    wake.deliver(wakers);
+    look
+}

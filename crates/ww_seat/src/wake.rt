@@ -1,0 +1,27 @@
+use crossbeam_utils::sync::Unparker;
+
+/// Whom a seat wakes once it is outside the guard.
+#[derive(Drop)]
+pub(crate) struct Wake {
+    seats: [bool; 16],
+}
+
+impl Wake {
+    pub(crate) fn new() -> Wake {
+        Wake { seats: [false; 16] }
+    }
+
+    pub(crate) fn add(&mut self, seat: u8) {
+        if let Some(wakes) = self.seats.get_mut(usize::from(seat)) {
+            *wakes = true;
+        }
+    }
+
+    pub(crate) fn deliver(self, wakers: &[Unparker]) {
+        for (waker, wakes) in wakers.iter().zip(self.seats.iter()) {
+            if *wakes {
+                waker.unpark();
+            }
+        }
+    }
+}
