@@ -46,7 +46,7 @@ impl Model for Graph {
 }
 
 impl Graph {
-    ghost use Rattle.ww_plain.specs.Graph.{IsGraph, IsRefused, node_at};
+    ghost use Rattle.ww_plain.specs.Graph.{IsGraph, IsRefused, IsNodeOf, node_at};
 
     /// Takes the nodes for a graph. It looks at their number first, and gives them back where they are none.
     pub fn new(nodes: Vec<Node>) -> Result<Graph, (Vec<Node>, GraphFault)>
@@ -88,6 +88,15 @@ impl Graph {
         ensures { self.new ≡ slice_set self.old n (node_at other.now n) }
     {
         self.nodes[usize::from(n)] = other.nodes[usize::from(n)];
+    }
+
+    /// Puts a node in the place of another.
+    pub fn put(&mut self, n: u8, node: Node)
+        requires there { n < length self.old }
+        requires node { IsNodeOf (length self.old) node }
+        ensures { self.new ≡ slice_set self.old n node }
+    {
+        self.nodes[usize::from(n)] = node;
     }
 
     /// A second graph with the same nodes.

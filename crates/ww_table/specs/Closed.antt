@@ -1,5 +1,5 @@
 -- What closing a table asks, and what it gives.
-use Rattle.std.specs.Prelude.{ℕ, ◌≡◌, ◌≢◌, ◌<◌, ◌≤◌, ◌⊎◌, ◌∷◌, [], Bool, true, false, List, slice_index_or, length, Option, Some, None}
+use Rattle.std.specs.Prelude.{ℕ, ◌≡◌, ◌≢◌, ◌<◌, ◌≤◌, ◌⊎◌, ◌∷◌, [], Bool, true, false, List, slice_index_or, length, Option, Some, None, vec_len, vec_capacity}
 use mathlib.Core.Option.{some}
 use lib.ListN.{get_elem?}
 use Rattle.std.specs.List.{AllByRecursion}
@@ -15,6 +15,7 @@ use Rattle.ww_table.specs.declared.cells.Part.{Part}
 use Rattle.ww_table.specs.declared.cells.Sight.{Sight}
 use Rattle.ww_table.specs.declared.cells.Start.{Start}
 use Rattle.ww_table.specs.declared.seat.Seat16.{Seat16}
+use Rattle.ww_table.specs.declared.close.Rooms.{Rooms}
 use Rattle.ww_table.specs.Rule.{first_graph, own_of}
 use Rattle.ww_table.specs.Seat.{IsSeated}
 
@@ -79,6 +80,15 @@ HasPlaces count s = AllByRecursion (λ p. p.0 < count) s.records.items
 -- no place has a record yet
 abbrev pub AreFree : List (Option Record) → Type 0
 AreFree places = (i : ℕ) (r : Record) → get_elem? places i ≢ some (Some r)
+
+-- free places for so many records, with room for these, and room for so many nodes
+pub record HasRoom (count size : ℕ) (r : Rooms) : Type 0 where
+  pub places : length r.places.items ≡ count
+  pub free : AreFree r.places.items
+  pub records : r.records.items ≡ []
+  pub records_room : (vec_len r.records ≡ 0) × (count ≤ vec_capacity r.records)
+  pub nodes : r.nodes.items ≡ []
+  pub nodes_room : (vec_len r.nodes ≡ 0) × (size ≤ vec_capacity r.nodes)
 
 -- the slots from this one on are not taken yet, and those before it are
 pub record AreTakenBelow (taken count : ℕ) (filled : List Bool) : Type 0 where

@@ -21,6 +21,13 @@ pub struct Board {
 impl Board {
     ghost use Rattle.std.specs.Prelude.{◌<◌};
 
+    /// How many nodes there are.
+    pub fn size(&self) -> u8
+        ensures { result ≡ length (first_graph self.now.table.shared.key) }
+    {
+        self.size
+    }
+
     /// Reads one word, for tests: no clause says what it has. They count as owner words, guards, signs, the stamp word and the
     /// front word.
     pub fn peek(&self, word: usize) -> u64

@@ -20,4 +20,5 @@ mod waiting;
 
 pub use board::Board;
 pub use cells::{Cell, Part, Sight, Start, Waiters};
+pub use close::Rooms;
 pub use seat::Seat16;
