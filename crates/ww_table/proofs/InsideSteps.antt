@@ -38,10 +38,11 @@ use Rattle.ww_table.specs.declared.cells.Sight.{Sight}
 use Rattle.ww_table.specs.declared.cells.Start.{Start}
 use Rattle.ww_table.specs.Rule.{St, Sat, first_graph, Ruled}
 use Rattle.ww_table.specs.Steps.{knowing}
-use Rattle.ww_table.specs.Guards.{AreSeats, entering, exiting, looking, enters_to, exits_to, looks_to}
-use Rattle.ww_table.specs.Waiting.{tries_to, HasPlace, joining, joins, taking_inside, below, takes_inside, giving_inside, gives_inside, asking, asks, dying, dies}
+use Rattle.ww_table.specs.Guards.{AreSeats, IsSeenBy, entering, exiting, looking, enters_to, exits_to, looks_to}
+use Rattle.ww_table.specs.Waiting.{tries_to, HasPlace, joining, joins, taking_inside, below, takes_inside, giving_inside, gives_inside, asking, asks, dying, dies, dies_to}
 use Rattle.ww_table.specs.Signs.{signing, reading, finding_none, clearing, signs_to, reads_to, clears_to}
-use Rattle.ww_table.proofs.Moves.{cas, looks, low}
+use Rattle.ww_table.proofs.Moves.{cas, looks, low, node_there}
+use Rattle.ww_table.proofs.Told.{own_entry, seen_by, death_is_older}
 use Rattle.ww_table.proofs.InsideMoves.{enter_makes, exit_makes, join_makes, take_makes, give_makes, ask_makes, die_makes, sign_makes, clear_makes, mine, inside_low}
 
 -- ---- guards
@@ -59,7 +60,7 @@ enters_there key slots id me n new small seated may is = let v = me.0.part.core 
       takes (64 + n) (Line q),
       r.homes.lists n l (sym (r.words.guards n l) ∙ hit),
       subst (λ (y : ℕ). Ruled key (stepped s (8 * n + 1) y id me.1 (entering me.0 n q) (takes (64 + n) (Line q)))) (sym is) (enter_makes key s r id me at seated n l may hit).ruled,
-      (λ j there. let e : n ≡ j = omega arith in ((λ _. (q, are_seats r.core r.reached r.places n, ap (λ (i : ℕ). let w : Sat = (entering me.0 i q, (64 + i, Line q) ∷ me.1) in w) e)), λ no. absurd (no refl))),
+      (λ j there. let e : n ≡ j = omega arith in ((λ _. (q, are_seats r.core r.reached r.places n, (λ waits. own_entry r.core me.0.part.core (reached_is_lawful r.core r.reached) (mine key s r id me at seated).part.knows n (let z = e in omega arith)), ap (λ (i : ℕ). let w : Sat = (entering me.0 i q, (64 + i, Line q) ∷ me.1) in w) e)), λ no. absurd (no refl))),
     ))
     (λ x ne j there. ((λ z. absurd (ne z)), λ _. refl))
 
@@ -89,7 +90,14 @@ looks_inside key slots id me n i is seated inside s r deep at small = let c : St
   keeps,
   tt,
   looks key s r id me at seated i (made.has_looked v o) refl (λ m. refl) (mine_look c v (mine key s r id me at seated).part.knows n o inside refl),
-  (o, word_is_valid c n r.reached (let z = r.places in omega arith), ap (λ (j : ℕ). get_or s.words j 0) is ∙ r.words.owners n (inside_low key s r id me at seated n inside), refl),
+  (
+    o,
+    word_is_valid c n r.reached (let z = r.places in omega arith),
+    ap (λ (j : ℕ). get_or s.words j 0) is ∙ r.words.owners n (inside_low key s r id me at seated n inside),
+    refl,
+    (λ j there.
+        let e : n ≡ j = (let z = sym is ∙ there in omega arith) in subst (λ (t : ℕ). IsSeenBy v t o) e (seen_by c v (reached_is_lawful c r.reached) (mine key s r id me at seated).part.knows n o inside refl)),
+  ),
 )
 
 -- ---- owner words
@@ -115,6 +123,11 @@ by_numbers : (key : Start) (slots id : ℕ) (me : Sat) (wins : ℕ → Owner →
     → Allows (Ruled key) slots id me j (λ x. either (eqb x old') new' x) (tries_to wins (step slots j old' new' none) me) → Allows (Ruled key) slots id me i (λ x. either (eqb x old) new x) (tries_to wins (step slots i old new none) me)
 by_numbers key slots id me wins i j old old' new new' a b c =
     subst (λ (p : ℕ × (ℕ × ℕ)). Allows (Ruled key) slots id me p.0 (λ x. either (eqb x p.1.0) p.1.1 x) (tries_to wins (step slots p.0 p.1.0 p.1.1 none) me)) (λ k. (sym a k, (sym b k, sym c k)))
+
+-- what a step tells its caller, and what follows from the rule before it
+and_tells : (key : Start) (slots id : ℕ) (me : Sat) (i : ℕ) (f : ℕ → ℕ) (then : ℕ → Sat → Type 0) (Q : Type 0) → ((s : St) (r : Ruled key s) → get_elem? s.views id ≡ some me.0 → Q)
+    → Allows (Ruled key) slots id me i f then → Allows (Ruled key) slots id me i f (λ x m'. then x m' × Q)
+and_tells key slots id me i f then Q tells step s r deep at small = let t = step s r deep at small in (t.0, t.1, t.2, t.3, (t.4, tells s r at))
 
 has_place : (c : State) → Reached c → c.seats ≡ 16 → (v : View) → Knows c v → (n : ℕ) → v.inside ≡ suc n → v.waits ≡ 0 → HasPlace v
 has_place c run places v k n inside out = let list = k.queues.list n inside in
@@ -153,7 +166,7 @@ takes_lock key slots id me n o y cs i old new at was is small seated may valid t
       act,
       takes_valid key s r n v.who y me.1 cs small (inside_low key s r id me at seated n may.inside) m.can.base.free top,
       m.ruled,
-      (x, subst (λ (l : List (ℕ × Cell)). let before : Sat = (taking_inside me.0 n x, carried_after l act) in let after : Sat = (taking_inside me.0 n x, below (n, Content x) l) in before ≡ after) (sym top) refl),
+      (x, node_there key s r id me at seated n small, subst (λ (l : List (ℕ × Cell)). let before : Sat = (taking_inside me.0 n x, carried_after l act) in let after : Sat = (taking_inside me.0 n x, below (n, Content x) l) in before ≡ after) (sym top) refl),
     )))
 
 pub gives_lock : (key : Start) (slots id : ℕ) (me : Sat) (n : ℕ) (o : Owner) (x : Node) (i old new : ℕ) → i ≡ 8 * n → old ≡ packed o → new ≡ packed (given_word (o.flags == 3) me.0.part.core.list)
@@ -169,9 +182,11 @@ asks_lock key slots id me n o i old new at was is seated may valid = by_numbers 
     (expecting key slots id me n o (packed (asked_word o)) asks seated valid (λ s r at hit. (asking me.0 o, keeps, tt, (ask_makes key s r id me at seated n o may valid hit).ruled, refl)))
 
 pub dies_waiting : (key : Start) (slots id : ℕ) (me : Sat) (n : ℕ) (o : Owner) (k : ℕ) (i old new : ℕ) → i ≡ 8 * n → old ≡ packed o → new ≡ packed (rest_word (left me.0.part.core.list me.0.part.core.who) o) → me.0.seated ≡ true → MayDie me.0.part.core n o k → IsValid o
-    → Allows (Ruled key) slots id me i (λ x. either (eqb x old) new x) (tries_to dies (step slots i old new none) me)
-dies_waiting key slots id me n o k i old new at was is seated may valid = let word = packed (rest_word (left me.0.part.core.list me.0.part.core.who) o) in by_numbers key slots id me dies i (8 * n) old (packed o) new word at was is
-    (expecting key slots id me n o word dies seated valid (λ s r at hit. (dying me.0 o, keeps, tt, (die_makes key s r id me at seated n o k may valid hit).ruled, refl)))
+    → Allows (Ruled key) slots id me i (λ x. either (eqb x old) new x) (dies_to (step slots i old new none) me)
+dies_waiting key slots id me n o k i old new at was is seated may valid = let word = packed (rest_word (left me.0.part.core.list me.0.part.core.who) o) in
+    and_tells key slots id me i (λ x. either (eqb x old) new x) (tries_to dies (step slots i old new none) me) ((m : ℕ) (p : Owner) (j : ℕ) → MayDie me.0.part.core m p j → j < me.0.part.core.stamp)
+    (λ s r at m p j dies. death_is_older r.core me.0.part.core (reached_is_lawful r.core r.reached) (mine key s r id me at seated).part.knows m p j dies)
+    (by_numbers key slots id me dies i (8 * n) old (packed o) new word at was is (expecting key slots id me n o word dies seated valid (λ s r at hit. (dying me.0 o, keeps, tt, (die_makes key s r id me at seated n o k may valid hit).ruled, refl))))
 
 -- ---- signs
 
@@ -266,9 +281,9 @@ takes_brought key slots id v me n o cs i old new who stamp flags view top at was
     (is ∙ (λ j. packed (record { seat = Some (sym is_who j); stamp = sym is_stamp j; flags = (is_flags ∙ ap (λ (t : ℕ). waiting (left v.part.core.list t)) (sym is_who)) j }))) small seated may valid top)
 
 pub dies_brought : (key : Start) (slots id : ℕ) (v : Sight) (me : Sat) (n : ℕ) (o p : Owner) (k : ℕ) (i old new who : ℕ) → me.0 ≡ v → i ≡ 8 * n → old ≡ packed o → new ≡ packed p → v.part.core.who ≡ who → p ≡ rest_word (left v.part.core.list who) o
-    → v.seated ≡ true → MayDie v.part.core n o k → IsValid o → Allows (Ruled key) slots id me i (λ x. either (eqb x old) new x) (tries_to dies (step slots i old new none) me)
+    → v.seated ≡ true → MayDie v.part.core n o k → IsValid o → Allows (Ruled key) slots id me i (λ x. either (eqb x old) new x) (dies_to (step slots i old new none) me)
 dies_brought key slots id v me n o p k i old new who view at was is is_who is_rest seated may valid =
-    subst (λ (m : Sat). Allows (Ruled key) slots id m i (λ x. either (eqb x old) new x) (tries_to dies (step slots i old new none) m)) (λ j. (sym view j, me.1))
+    subst (λ (m : Sat). Allows (Ruled key) slots id m i (λ x. either (eqb x old) new x) (dies_to (step slots i old new none) m)) (λ j. (sym view j, me.1))
     (dies_waiting key slots id (v, me.1) n o k i old new at was (is ∙ ap packed (is_rest ∙ ap (λ (t : ℕ). rest_word (left v.part.core.list t) o) (sym is_who))) seated may valid)
 
 pub gives_with_list : (key : Start) (slots id : ℕ) (v : Sight) (me : Sat) (n : ℕ) (o p : Owner) (x : Node) (others : List (ℕ × Cell)) (i old new : ℕ) → me.0 ≡ v → me.1 ≡ (n, Content x) ∷ others → i ≡ 8 * n → old ≡ packed o → new ≡ packed p

@@ -8,6 +8,7 @@ pub mod Turning
 pub mod Making
 pub mod Closing
 pub mod Ends
+pub mod Told
 pub mod InsideRegions
 pub mod InsideMoves
 pub mod InsideSteps

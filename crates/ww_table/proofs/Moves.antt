@@ -22,7 +22,8 @@ use Rattle.ww_model.proofs.Kept.{reached_is_lawful}
 use Rattle.ww_model.proofs.Meetings.{same_kind}
 use Rattle.ww_model.proofs.Outside.{signed_owns_outside}
 use Rattle.ww_plain.specs.declared.node.Node.{Node}
-use Rattle.ww_plain.specs.Graph.{node_at}
+use Rattle.ww_plain.specs.Graph.{no_node, node_at, IsNodeOf}
+use Rattle.ww_plain.proofs.GraphFacts.{all_item}
 use Rattle.ww_plain.specs.History.{Recorded, last_graph, part_of}
 use Rattle.ww_view.specs.declared.view.View.{View}
 use Rattle.ww_model.specs.State.{word_of}
@@ -70,6 +71,10 @@ module _ (key : Start) (s : St) (r : Ruled key s) (id : ℕ) (me : Sat) (here : 
   -- all locks of nodes are there
   pub low : (n : ℕ) → n < length (first_graph key) → n < 64
   low n small = let few = r.counted.graph.few in let z = r.counted.size in omega arith
+
+  -- a node of the fold is one of a graph of as many nodes as the view has room for
+  pub node_there : (n : ℕ) → n < length (first_graph key) → IsNodeOf (length me.0.held) (node_at graph n)
+  node_there n small = let z = r.counted.size in subst (λ (size : ℕ). IsNodeOf size (node_at graph n)) (r.counted.size ∙ sym mine.room) (all_item (IsNodeOf (length graph)) graph n no_node (omega arith) r.counted.graph.closed)
 
   -- the seat makes an event, and what the table has of it becomes p and the nodes held
   pub makes_all : (e : Event) (i x : ℕ) (p : Part) (held : List (Option Node)) (a : Act Cell) (log : List Recorded) (draws : ℕ → ℕ) → actor e ≡ me.0.part.core.who → p.core.who ≡ me.0.part.core.who
@@ -251,7 +256,7 @@ takes_there key slots id me n new small seated may is = cas key slots id me (8 *
       takes n (Content x),
       r.homes.nodes n (let z = r.counted.size in omega arith) (λ t own. let z = sym m.can.base.idle.free ∙ own in absurd cc),
       subst (λ (y : ℕ). Ruled key (stepped s (8 * n) y id me.1 (taking me.0 n x) (takes n (Content x)))) (sym is) m.ruled,
-      (λ j there. let e : n ≡ j = omega arith in ((λ _. (x, ap (λ (i : ℕ). let w : Sat = (taking me.0 i x, (i, Content x) ∷ me.1) in w) e)), λ no. absurd (no refl))),
+      (λ j there. let e : n ≡ j = omega arith in ((λ _. (x, node_there key s r id me at seated n small, ap (λ (i : ℕ). let w : Sat = (taking me.0 i x, (i, Content x) ∷ me.1) in w) e)), λ no. absurd (no refl))),
     ))
     (λ x ne j there. ((λ z. absurd (ne z)), λ _. refl))
 
@@ -289,20 +294,21 @@ gives_brought key slots id v me n i old who stamp x others view top at small sea
 
 pub ends : (key : Start) (slots id : ℕ) (me : Sat) (i : ℕ) → i ≡ 512 + 8 * me.0.part.core.who → me.0.seated ≡ true → MayEnd me.0.part.core → Allows (Ruled key) slots id me i (λ x. x) (ends_to (step slots i 0 0 none) me)
 ends key slots id me i is seated may s r deep at small = let c : State = r.core in let v : View = me.0.part.core in let k = (r.seats id me.0 at seated).part.knows in let x : ℕ = get_or s.words i 0 in
-    let tells : x ≡ c.sign v.who = ap (λ (j : ℕ). get_or s.words j 0) is ∙ r.words.signs v.who (let z = k.itself.seat in let y = r.places in omega arith) in dite (ℕ_discrete x 0)
+    let tells : x ≡ c.sign v.who = ap (λ (j : ℕ). get_or s.words j 0) is ∙ r.words.signs v.who (let z = k.itself.seat in let y = r.places in omega arith) in
+    let known : (j : ℕ) → v.sign ≡ Some j → x ≡ j = λ j told. tells ∙ k.sign j told in dite (ℕ_discrete x 0)
     (λ e. (
       knowing me.0 (ended v),
       keeps,
       tt,
       subst (λ (j : ℕ). Ruled key (stepped s j (get_or s.words j 0) id me.1 (knowing me.0 (ended v)) keeps)) (sym is) (end_makes key s r id me at seated may (ap (λ (j : ℕ). get_or s.words j 0) (sym is) ∙ e)).ruled,
-      ((λ _. refl), λ no. absurd (no e)),
+      ((λ _. refl), (λ no. absurd (no e)), known),
     ))
     (λ ne. (
       knowing me.0 (has_read v x),
       keeps,
       tt,
       looks key s r id me at seated i (has_read v x) refl (λ n. refl) (mine_read c v k x (sym tells) (λ z. absurd (ne z))),
-      ((λ z. absurd (ne z)), λ _. refl),
+      ((λ z. absurd (ne z)), (λ _. refl), known),
     ))
 
 pub draws_one : (key : Start) (slots id : ℕ) (me : Sat) → me.0.seated ≡ true → MayDraw me.0.part → Allows (Ruled key) slots id me 640 (λ z. (z + 1) % 2 ^ 64) (draws_to (step slots 640 1 0 none) me)

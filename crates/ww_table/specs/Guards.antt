@@ -1,15 +1,17 @@
 -- What each step at a guard makes of the seat.
-use Rattle.std.specs.Prelude.{ℕ, ◌≡◌, ◌≢◌, ◌<◌, ◌^◌, List, ◌∷◌}
+use Rattle.std.specs.Prelude.{ℕ, suc, ◌≡◌, ◌≢◌, ◌<◌, ◌^◌, true, false, List, [], ◌∷◌, Some}
 use Rattle.atomic_table.specs.Table.{Step, rest}
 use Rattle.ww_word.specs.declared.owner.Owner.{Owner}
-use Rattle.ww_word.specs.Owner.{IsValid, packed}
+use Rattle.ww_word.specs.Owner.{IsValid, packed, is_handed}
 use Rattle.ww_queue.specs.declared.entry.Entry.{Entry}
-use Rattle.ww_queue.specs.Queue.{Has}
-use Rattle.ww_view.specs.Made.{stepped, entered, exited, has_looked}
+use Rattle.ww_queue.specs.Queue.{Has, entry_of}
+use Rattle.ww_view.specs.declared.view.View.{View}
+use Rattle.ww_view.specs.View.{owns}
+use Rattle.ww_view.specs.Made.{stepped, entered, exited, has_looked, entry_of_view}
 use Rattle.ww_table.specs.declared.cells.Cell.{Cell}
 use Rattle.ww_table.specs.declared.cells.Cell.TheVariants.{Line}
 use Rattle.ww_table.specs.declared.cells.Sight.{Sight}
-use Rattle.ww_table.specs.Layout.{guard_at, list_at}
+use Rattle.ww_table.specs.Layout.{owner_at, guard_at, list_at}
 use Rattle.ww_table.specs.Rule.{Sat}
 use Rattle.ww_table.specs.Steps.{knowing}
 
@@ -21,6 +23,10 @@ lost v = knowing v (stepped v.part.core)
 abbrev pub AreSeats : List Entry → Type 0
 AreSeats q = (e : Entry) → Has q e → (e.seat < 16) × (e.stamp < 2 ^ 56)
 
+-- who waits here stands in the list as its view has it
+abbrev pub StandsAs : View → ℕ → List Entry → Type 0
+StandsAs v n q = v.waits ≡ suc n → entry_of q v.who ≡ Some (entry_of_view v)
+
 -- ---- enter: one try to go inside the guard, and the wait list comes with it
 
 abbrev pub entering : Sight → ℕ → List Entry → Sight
@@ -28,7 +34,7 @@ entering v n q = knowing v (entered v.part.core n q)
 
 abbrev pub enters_to : Step Cell → Sat → ℕ → Sat → Type 0
 enters_to st m found m' = (n : ℕ) → st.word ≡ guard_at n →
-    (found ≡ 0 → (q : List Entry) × AreSeats q × (m' ≡ (entering m.0 n q, (list_at n, Line q) ∷ m.1))) × (found ≢ 0 → m' ≡ (lost m.0, m.1))
+    (found ≡ 0 → (q : List Entry) × AreSeats q × StandsAs m.0.part.core n q × (m' ≡ (entering m.0 n q, (list_at n, Line q) ∷ m.1))) × (found ≢ 0 → m' ≡ (lost m.0, m.1))
 
 -- ---- exit: out of the guard, and the wait list goes home
 
@@ -43,5 +49,11 @@ exits_to st m stored m' = m' ≡ (exiting m.0, rest m.1)
 abbrev pub looking : Sight → Owner → Sight
 looking v o = knowing v (has_looked v.part.core o)
 
+-- what the word tells a seat that has this view: it names the seat only where the lock is the seat's, or handed to it; and
+-- a flag stands where somebody waits
+pub record IsSeenBy (v : View) (n : ℕ) (o : Owner) : Type 0 where
+  pub own : owns v n ≡ false → o.seat ≡ Some v.who → is_handed o ≡ true
+  pub flags : v.list ≢ [] → o.flags ≢ 0
+
 abbrev pub looks_to : Step Cell → Sat → ℕ → Sat → Type 0
-looks_to st m found m' = (o : Owner) × IsValid o × (found ≡ packed o) × (m' ≡ (looking m.0 o, m.1))
+looks_to st m found m' = (o : Owner) × IsValid o × (found ≡ packed o) × (m' ≡ (looking m.0 o, m.1)) × ((n : ℕ) → st.word ≡ owner_at n → IsSeenBy m.0.part.core n o)

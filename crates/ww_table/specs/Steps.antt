@@ -7,7 +7,7 @@ use Rattle.ww_queue.specs.declared.kind.Kind.TheVariants.{WoundWait}
 use Rattle.ww_plain.specs.declared.node.Node.{Node}
 use Rattle.ww_plain.specs.declared.history.Record.{Record}
 use Rattle.ww_plain.specs.Numbers.{is_among}
-use Rattle.ww_plain.specs.Graph.{no_node, node_at}
+use Rattle.ww_plain.specs.Graph.{no_node, node_at, IsNodeOf}
 use Rattle.ww_plain.specs.Footprint.{footprint_of}
 use Rattle.ww_plain.specs.Transaction.{transaction_of}
 use Rattle.ww_plain.specs.Meaning.{graph_after}
@@ -53,7 +53,7 @@ taking v n x = record v { part = record (v.part) { core = fast_taken v.part.core
 
 abbrev pub takes_to : Step Cell → Sat → ℕ → Sat → Type 0
 takes_to st m found m' = (n : ℕ) → st.word ≡ owner_at n →
-    (found ≡ 0 → (x : Node) × (m' ≡ (taking m.0 n x, (n, Content x) ∷ m.1))) × (found ≢ 0 → m' ≡ (knowing m.0 (fast_missed m.0.part.core), m.1))
+    (found ≡ 0 → (x : Node) × IsNodeOf (length m.0.held) x × (m' ≡ (taking m.0 n x, (n, Content x) ∷ m.1))) × (found ≢ 0 → m' ≡ (knowing m.0 (fast_missed m.0.part.core), m.1))
 
 -- ---- give_free: the lock is given back at once, where nobody waits
 
@@ -72,6 +72,7 @@ pub record MayEnd (v : View) : Type 0 where
 
 abbrev pub ends_to : Step Cell → Sat → ℕ → Sat → Type 0
 ends_to st m found m' = (found ≡ 0 → m' ≡ (knowing m.0 (ended m.0.part.core), m.1)) × (found ≢ 0 → m' ≡ (knowing m.0 (has_read m.0.part.core found), m.1))
+    × ((k : ℕ) → m.0.part.core.sign ≡ Some k → found ≡ k)
 
 -- ---- place: a commit
 

@@ -5,7 +5,9 @@ use Rattle.ww_word.specs.declared.owner.Owner.{Owner}
 use Rattle.ww_word.specs.Owner.{IsValid, packed}
 use Rattle.ww_queue.specs.Queue.{StandsNot, IsNewStamp}
 use Rattle.ww_plain.specs.declared.node.Node.{Node}
+use Rattle.ww_plain.specs.Graph.{IsNodeOf}
 use Rattle.ww_view.specs.declared.view.View.{View}
+use Rattle.ww_view.specs.May.{MayDie}
 use Rattle.ww_view.specs.Made.{queued, taken, given, has_asked, died}
 use Rattle.ww_table.specs.declared.cells.Cell.{Cell}
 use Rattle.ww_table.specs.declared.cells.Cell.TheVariants.{Content, Line}
@@ -55,7 +57,7 @@ below x [] = x ∷ []
 below x (y ∷ ys) = y ∷ x ∷ ys
 
 abbrev pub takes_inside : ℕ → Owner → Sat → Sat → Type 0
-takes_inside n o m m' = (x : Node) × (m' ≡ (taking_inside m.0 n x, below (n, Content x) m.1))
+takes_inside n o m m' = (x : Node) × IsNodeOf (length m.0.held) x × (m' ≡ (taking_inside m.0 n x, below (n, Content x) m.1))
 
 -- ---- give: the lock is nobody's, or the first waiter's if that was asked for, and its node goes home
 
@@ -90,3 +92,7 @@ dying v o = knowing v (died v.part.core o)
 
 abbrev pub dies : ℕ → Owner → Sat → Sat → Type 0
 dies n o m m' = m' ≡ (dying m.0 o, m.1)
+
+-- who has to die, whatever the word is now, has to for an older context
+abbrev pub dies_to : Step Cell → Sat → ℕ → Sat → Type 0
+dies_to st m found m' = tries_to dies st m found m' × ((n : ℕ) (o : Owner) (k : ℕ) → MayDie m.0.part.core n o k → k < m.0.part.core.stamp)

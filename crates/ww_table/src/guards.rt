@@ -1,13 +1,14 @@
-ghost use Rattle.std.specs.Prelude.{ℕ, ◌≡◌, ◌≢◌, ◌<◌, ◌+◌, ◌∷◌, length, true, false, Some, List};
-ghost use Rattle.ww_word.specs.Owner.{IsValid};
+ghost use Rattle.std.specs.Prelude.{ℕ, ◌≡◌, ◌≢◌, ◌<◌, ◌+◌, [], ◌∷◌, length, true, false, Some, List};
+ghost use Rattle.ww_word.specs.Owner.{IsValid, is_handed};
 ghost use Rattle.ww_queue.specs.declared.entry.Entry.{Entry};
+ghost use Rattle.ww_view.specs.View.{owns};
 ghost use Rattle.ww_view.specs.May.{MayEnter, MayLeave};
 ghost use Rattle.ww_table.specs.declared.cells.Cell.{Cell};
 ghost use Rattle.ww_table.specs.declared.cells.Cell.TheVariants.{Line};
 ghost use Rattle.ww_table.specs.Layout.{guard_at, list_at};
 ghost use Rattle.ww_table.specs.Rule.{first_graph};
 ghost use Rattle.ww_table.specs.Seat.{IsSeated, AreOthers, slot_of};
-ghost use Rattle.ww_table.specs.Guards.{AreSeats, lost, entering, exiting, looking};
+ghost use Rattle.ww_table.specs.Guards.{AreSeats, StandsAs, lost, entering, exiting, looking};
 
 use crate::board::Board;
 use crate::layout::owner_word;
@@ -39,7 +40,7 @@ impl Seat16 {
         requires may { MayEnter self.old.seat.me.0.part.core lock }
         requires room { length self.old.seat.me.1 < 65 }
         ensures seat { IsSeated board.now.table.shared.table_id self.new }
-        ensures entered { result ≡ true → (q : List Entry) × AreSeats q × (self.new.seat.me ≡ (entering self.old.seat.me.0 lock q, (list_at lock, Line q) ∷ self.old.seat.me.1)) }
+        ensures entered { result ≡ true → (q : List Entry) × AreSeats q × StandsAs self.old.seat.me.0.part.core lock q × (self.new.seat.me ≡ (entering self.old.seat.me.0 lock q, (list_at lock, Line q) ∷ self.old.seat.me.1)) }
         ensures lost { result ≡ false → self.new.seat.me ≡ (lost self.old.seat.me.0, self.old.seat.me.1) }
     {
         let own = u64::from(self.who) + 1;
@@ -76,6 +77,8 @@ impl Seat16 {
         ensures seat { IsSeated board.now.table.shared.table_id self.new }
         ensures looked { self.new.seat.me ≡ (looking self.old.seat.me.0 result, self.old.seat.me.1) }
         ensures valid { IsValid result }
+        ensures own { owns self.old.seat.me.0.part.core lock ≡ false → result.seat ≡ Some self.old.seat.me.0.part.core.who → is_handed result ≡ true }
+        ensures flags { self.old.seat.me.0.part.core.list ≢ [] → result.flags ≢ 0 }
     {
         let shared = &board.table.shared;
         let word = shared.load::<Look>(&mut self.seat, owner_word(lock));

@@ -62,9 +62,9 @@ impl Play<Cell, Sight> for Ask {
 pub struct Die;
 
 impl Play<Cell, Sight> for Die {
-    ghost use Rattle.ww_table.specs.Waiting.{tries_to, dies};
+    ghost use Rattle.ww_table.specs.Waiting.{dies_to};
 
-    ghost then = { tries_to dies };
+    ghost then = { dies_to };
 }
 
 pub struct Sign;

@@ -2,6 +2,7 @@ ghost use Rattle.std.specs.Prelude.{◌≡◌, ◌≢◌, ◌<◌, ◌∷◌, le
 ghost use lib.ListN.{get_elem?};
 ghost use mathlib.Core.Option.{some};
 ghost use Rattle.ww_plain.specs.declared.node.Node.{Node};
+ghost use Rattle.ww_plain.specs.Graph.{IsNodeOf};
 ghost use Rattle.ww_view.specs.View.{owns, IsAway};
 ghost use Rattle.ww_view.specs.May.{MayFast};
 ghost use Rattle.ww_view.specs.Made.{ended, fast_missed, has_read};
@@ -74,7 +75,7 @@ impl Seat16 {
         requires may { MayFast self.old.seat.me.0.part.core }
         requires room { length self.old.seat.me.1 < 65 }
         ensures seat { IsSeated board.now.table.shared.table_id self.new }
-        ensures took { result ≡ true → (x : Node) × (self.new.seat.me ≡ (taking self.old.seat.me.0 lock x, (lock, Content x) ∷ self.old.seat.me.1)) }
+        ensures took { result ≡ true → (x : Node) × IsNodeOf (length self.old.seat.me.0.held) x × (self.new.seat.me ≡ (taking self.old.seat.me.0 lock x, (lock, Content x) ∷ self.old.seat.me.1)) }
         ensures lost { result ≡ false → self.new.seat.me ≡ (knowing self.old.seat.me.0 (fast_missed self.old.seat.me.0.part.core), self.old.seat.me.1) }
     {
         let own = self.word();
@@ -116,6 +117,8 @@ impl Seat16 {
         ensures seat { IsSeated board.now.table.shared.table_id self.new }
         ensures ended { result ≡ true → self.new.seat.me ≡ (knowing self.old.seat.me.0 (ended self.old.seat.me.0.part.core), self.old.seat.me.1) }
         ensures signed { result ≡ false → (k : ℕ) × (0 < k) × (self.new.seat.me ≡ (knowing self.old.seat.me.0 (has_read self.old.seat.me.0.part.core k), self.old.seat.me.1)) }
+        ensures known { (k : ℕ) → self.old.seat.me.0.part.core.sign ≡ Some k → 0 < k → result ≡ false }
+        ensures unsigned { self.old.seat.me.0.part.core.sign ≡ Some 0 → result ≡ true }
     {
         let sign = board
             .table

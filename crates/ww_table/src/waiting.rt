@@ -7,6 +7,7 @@ ghost use Rattle.ww_queue.specs.declared.entry.Entry.{Entry};
 ghost use Rattle.ww_queue.specs.Queue.{left};
 ghost use Rattle.ww_model.specs.State.{any_below};
 ghost use Rattle.ww_plain.specs.declared.node.Node.{Node};
+ghost use Rattle.ww_plain.specs.Graph.{IsNodeOf};
 ghost use Rattle.ww_model.specs.State.{waiting};
 ghost use Rattle.ww_view.specs.Word.{given_word};
 ghost use Rattle.ww_view.specs.View.{owns};
@@ -92,7 +93,7 @@ impl Seat16 {
         requires list { slot_of self.old.seat.me.1 (list_at lock) ≡ Some (Line self.old.seat.me.0.part.core.list) }
         requires room { length self.old.seat.me.1 < 65 }
         ensures seat { IsSeated board.now.table.shared.table_id self.new }
-        ensures took { result ≡ true → (x : Node) × (others : List (ℕ × Cell)) × AreOthers self.old.seat.me.1 (list_at lock) (Line self.old.seat.me.0.part.core.list) others × (self.new.seat.me ≡ (taking_inside self.old.seat.me.0 lock x, (list_at lock, Line (taken self.old.seat.me.0.part.core lock).list) ∷ (lock, Content x) ∷ others)) }
+        ensures took { result ≡ true → (x : Node) × (others : List (ℕ × Cell)) × IsNodeOf (length self.old.seat.me.0.held) x × AreOthers self.old.seat.me.1 (list_at lock) (Line self.old.seat.me.0.part.core.list) others × (self.new.seat.me ≡ (taking_inside self.old.seat.me.0 lock x, (list_at lock, Line (taken self.old.seat.me.0.part.core lock).list) ∷ (lock, Content x) ∷ others)) }
         ensures lost { result ≡ false → (others : List (ℕ × Cell)) × AreOthers self.old.seat.me.1 (list_at lock) (Line self.old.seat.me.0.part.core.list) others × (self.new.seat.me ≡ (lost self.old.seat.me.0, (list_at lock, Line self.old.seat.me.0.part.core.list) ∷ others)) }
     {
         let slot = list_slot(lock);
@@ -124,6 +125,7 @@ impl Seat16 {
         requires valid { IsValid seen }
         requires list { slot_of self.old.seat.me.1 (list_at lock) ≡ Some (Line self.old.seat.me.0.part.core.list) }
         ensures seat { IsSeated board.now.table.shared.table_id self.new }
+        ensures older { (k : ℕ) → MayDie self.old.seat.me.0.part.core lock seen k → k < self.old.seat.me.0.part.core.stamp }
         ensures died { result ≡ true → (others : List (ℕ × Cell)) × AreOthers self.old.seat.me.1 (list_at lock) (Line self.old.seat.me.0.part.core.list) others × (self.new.seat.me ≡ (dying self.old.seat.me.0 seen, (list_at lock, Line (died self.old.seat.me.0.part.core seen).list) ∷ others)) }
         ensures lost { result ≡ false → (others : List (ℕ × Cell)) × AreOthers self.old.seat.me.1 (list_at lock) (Line self.old.seat.me.0.part.core.list) others × (self.new.seat.me ≡ (lost self.old.seat.me.0, (list_at lock, Line self.old.seat.me.0.part.core.list) ∷ others)) }
     {

@@ -1,9 +1,11 @@
-use Rattle.std.proofs.Common.{◌≡◌, ℕ, ◌+◌, arith, ap, sym, refl, ◌∙◌, List, ◌∷◌}
+use Rattle.std.proofs.Common.{◌≡◌, ◌<◌, ℕ, ◌+◌, arith, ap, sym, refl, ◌∙◌, subst, List, ◌∷◌}
 use Rattle.atomic_table.specs.Table.{rest}
 use Rattle.ww_queue.specs.Queue.{left}
 use Rattle.ww_view.specs.Word.{rest_word}
+use Rattle.ww_view.specs.May.{MayDie}
 use Rattle.ww_table.specs.declared.cells.Cell.{Cell}
 use Rattle.ww_table.specs.declared.cells.Cell.TheVariants.{Line}
+use Rattle.ww_table.specs.declared.cells.Sight.{Sight}
 use Rattle.ww_table.specs.Seat.{numbers_of, slot_of}
 use Rattle.ww_table.specs.Guards.{lost}
 use Rattle.ww_table.specs.Waiting.{dying}
@@ -36,23 +38,23 @@ compare_exchange-found-requires c = let b = c.bring.ensures in let s = c.require
 pub returns-then-found-old-clause-lost : goal.returns-then-found-old-clause-lost
 returns-then-found-old-clause-lost c = let b = c.bring.ensures in let s = c.requires.seat in let l = list_brought c.args.self.now.seat.me.1 c.args.self.now.seat.me.1 c.bring.new.seat.me.1 b.slots.1 c.args.lock c.list_slot-slot.result c.args.self.now.seat.me.0.part.core.list b.slots.0 refl c.list_slot-slot.ensures c.requires.list b.slots.2 b.slots.3 b.slots.4 in let v = c.args.self.now.seat.me.0 in
     let f = c.flag_left-is_last.ensures in let view = ap (λ m. m.0) f.same ∙ b.view in let slots = ap (λ m. m.1) f.same ∙ l.1 in
-    λ _. (b.slots.1, l.0, (c.compare_exchange-found.ensures.2 c.args.lock c.args.seen (c.owner_word.ensures, c.requires.valid, c.pack-old.ensures)).1 (λ z. c.if-found-old.true (z ∙ sym c.pack-old.ensures)) ∙ (λ i. (lost (view i), slots i)))
+    λ _. (b.slots.1, l.0, (c.compare_exchange-found.ensures.2.0 c.args.lock c.args.seen (c.owner_word.ensures, c.requires.valid, c.pack-old.ensures)).1 (λ z. c.if-found-old.true (z ∙ sym c.pack-old.ensures)) ∙ (λ i. (lost (view i), slots i)))
 
 pub returns-then-found-old-clause-seat : goal.returns-then-found-old-clause-seat
 returns-then-found-old-clause-seat c = let b = c.bring.ensures in let s = c.requires.seat in let l = list_brought c.args.self.now.seat.me.1 c.args.self.now.seat.me.1 c.bring.new.seat.me.1 b.slots.1 c.args.lock c.list_slot-slot.result c.args.self.now.seat.me.0.part.core.list b.slots.0 refl c.list_slot-slot.ensures c.requires.list b.slots.2 b.slots.3 b.slots.4 in let v = c.args.self.now.seat.me.0 in
     let f = c.flag_left-is_last.ensures in let view = ap (λ m. m.0) f.same ∙ b.view in let slots = ap (λ m. m.1) f.same ∙ l.1 in
-    let miss = (c.compare_exchange-found.ensures.2 c.args.lock c.args.seen (c.owner_word.ensures, c.requires.valid, c.pack-old.ensures)).1 (λ z. c.if-found-old.true (z ∙ sym c.pack-old.ensures)) in
+    let miss = (c.compare_exchange-found.ensures.2.0 c.args.lock c.args.seen (c.owner_word.ensures, c.requires.valid, c.pack-old.ensures)).1 (λ z. c.if-found-old.true (z ∙ sym c.pack-old.ensures)) in
     seated_as _ c.args.self.now _ (lost v) s (c.compare_exchange-found.ensures.0 ∙ f.home.0 ∙ b.home.0) (ap (λ m. m.0) miss ∙ ap lost view) refl refl refl refl refl refl refl refl (b.order ∙ ap numbers_of (sym (ap (λ m. m.1) f.same)) ∙ ap numbers_of (sym (ap (λ m. m.1) miss)))
 
 pub leave_list-requires-clause-top : goal.leave_list-requires-clause-top
 leave_list-requires-clause-top c = let b = c.bring.ensures in let s = c.requires.seat in let l = list_brought c.args.self.now.seat.me.1 c.args.self.now.seat.me.1 c.bring.new.seat.me.1 b.slots.1 c.args.lock c.list_slot-slot.result c.args.self.now.seat.me.0.part.core.list b.slots.0 refl c.list_slot-slot.ensures c.requires.list b.slots.2 b.slots.3 b.slots.4 in let v = c.args.self.now.seat.me.0 in
     let f = c.flag_left-is_last.ensures in let view = ap (λ m. m.0) f.same ∙ b.view in let slots = ap (λ m. m.1) f.same ∙ l.1 in
-    let won = (c.compare_exchange-found.ensures.2 c.args.lock c.args.seen (c.owner_word.ensures, c.requires.valid, c.pack-old.ensures)).0 (c.if-found-old.false ∙ c.pack-old.ensures) ∙ (λ i. (dying (view i) c.args.seen, slots i)) in let top' = on_top c.compare_exchange-found.new.seat.me.1 b.slots.1 (64 + c.args.lock) c.list_slot-slot.result (Line v.part.core.list) (ap (λ m. m.1) won) c.list_slot-slot.ensures in (v.part.core.list, top')
+    let won = (c.compare_exchange-found.ensures.2.0 c.args.lock c.args.seen (c.owner_word.ensures, c.requires.valid, c.pack-old.ensures)).0 (c.if-found-old.false ∙ c.pack-old.ensures) ∙ (λ i. (dying (view i) c.args.seen, slots i)) in let top' = on_top c.compare_exchange-found.new.seat.me.1 b.slots.1 (64 + c.args.lock) c.list_slot-slot.result (Line v.part.core.list) (ap (λ m. m.1) won) c.list_slot-slot.ensures in (v.part.core.list, top')
 
 pub returns-clause-died : goal.returns-clause-died
 returns-clause-died c = let b = c.bring.ensures in let s = c.requires.seat in let l = list_brought c.args.self.now.seat.me.1 c.args.self.now.seat.me.1 c.bring.new.seat.me.1 b.slots.1 c.args.lock c.list_slot-slot.result c.args.self.now.seat.me.0.part.core.list b.slots.0 refl c.list_slot-slot.ensures c.requires.list b.slots.2 b.slots.3 b.slots.4 in let v = c.args.self.now.seat.me.0 in
     let f = c.flag_left-is_last.ensures in let view = ap (λ m. m.0) f.same ∙ b.view in let slots = ap (λ m. m.1) f.same ∙ l.1 in
-    let won = (c.compare_exchange-found.ensures.2 c.args.lock c.args.seen (c.owner_word.ensures, c.requires.valid, c.pack-old.ensures)).0 (c.if-found-old.false ∙ c.pack-old.ensures) ∙ (λ i. (dying (view i) c.args.seen, slots i)) in let top' = on_top c.compare_exchange-found.new.seat.me.1 b.slots.1 (64 + c.args.lock) c.list_slot-slot.result (Line v.part.core.list) (ap (λ m. m.1) won) c.list_slot-slot.ensures in
+    let won = (c.compare_exchange-found.ensures.2.0 c.args.lock c.args.seen (c.owner_word.ensures, c.requires.valid, c.pack-old.ensures)).0 (c.if-found-old.false ∙ c.pack-old.ensures) ∙ (λ i. (dying (view i) c.args.seen, slots i)) in let top' = on_top c.compare_exchange-found.new.seat.me.1 b.slots.1 (64 + c.args.lock) c.list_slot-slot.result (Line v.part.core.list) (ap (λ m. m.1) won) c.list_slot-slot.ensures in
     let g = c.leave_list.ensures in let others = ap (λ (l : List (ℕ × Cell)). rest l) (ap (λ m. m.1) won) in let who = sym s.who in
     let list = g.list v.part.core.list top' ∙ (λ i. (c.list_slot-slot.ensures i, Line (left v.part.core.list (who i))) ∷ others i) in
     λ _. (b.slots.1, l.0, λ i. ((g.view ∙ ap (λ m. m.0) won) i, list i))
@@ -60,8 +62,16 @@ returns-clause-died c = let b = c.bring.ensures in let s = c.requires.seat in le
 pub returns-clause-seat : goal.returns-clause-seat
 returns-clause-seat c = let b = c.bring.ensures in let s = c.requires.seat in let l = list_brought c.args.self.now.seat.me.1 c.args.self.now.seat.me.1 c.bring.new.seat.me.1 b.slots.1 c.args.lock c.list_slot-slot.result c.args.self.now.seat.me.0.part.core.list b.slots.0 refl c.list_slot-slot.ensures c.requires.list b.slots.2 b.slots.3 b.slots.4 in let v = c.args.self.now.seat.me.0 in
     let f = c.flag_left-is_last.ensures in let view = ap (λ m. m.0) f.same ∙ b.view in let slots = ap (λ m. m.1) f.same ∙ l.1 in
-    let won = (c.compare_exchange-found.ensures.2 c.args.lock c.args.seen (c.owner_word.ensures, c.requires.valid, c.pack-old.ensures)).0 (c.if-found-old.false ∙ c.pack-old.ensures) ∙ (λ i. (dying (view i) c.args.seen, slots i)) in let top' = on_top c.compare_exchange-found.new.seat.me.1 b.slots.1 (64 + c.args.lock) c.list_slot-slot.result (Line v.part.core.list) (ap (λ m. m.1) won) c.list_slot-slot.ensures in
+    let won = (c.compare_exchange-found.ensures.2.0 c.args.lock c.args.seen (c.owner_word.ensures, c.requires.valid, c.pack-old.ensures)).0 (c.if-found-old.false ∙ c.pack-old.ensures) ∙ (λ i. (dying (view i) c.args.seen, slots i)) in let top' = on_top c.compare_exchange-found.new.seat.me.1 b.slots.1 (64 + c.args.lock) c.list_slot-slot.result (Line v.part.core.list) (ap (λ m. m.1) won) c.list_slot-slot.ensures in
     let g = c.leave_list.ensures in let others = ap (λ (l : List (ℕ × Cell)). rest l) (ap (λ m. m.1) won) in let who = sym s.who in
     let list = g.list v.part.core.list top' ∙ (λ i. (c.list_slot-slot.ensures i, Line (left v.part.core.list (who i))) ∷ others i) in
     let order = b.order ∙ ap numbers_of l.1 ∙ ap numbers_of (sym list) in
     seated_as _ c.args.self.now _ (dying v c.args.seen) s (g.home.0 ∙ c.compare_exchange-found.ensures.0 ∙ f.home.0 ∙ b.home.0) (g.view ∙ ap (λ m. m.0) won) refl refl refl refl refl refl refl refl order
+
+pub returns-then-found-old-clause-older : goal.returns-then-found-old-clause-older
+returns-then-found-old-clause-older c = let f = c.flag_left-is_last.ensures in let view = ap (λ m. m.0) f.same ∙ c.bring.ensures.view in
+    λ k may. subst (λ (v : Sight). k < v.part.core.stamp) view (c.compare_exchange-found.ensures.2.1 c.args.lock c.args.seen k (subst (λ (v : Sight). MayDie v.part.core c.args.lock c.args.seen k) (sym view) may))
+
+pub returns-clause-older : goal.returns-clause-older
+returns-clause-older c = let f = c.flag_left-is_last.ensures in let view = ap (λ m. m.0) f.same ∙ c.bring.ensures.view in
+    λ k may. subst (λ (v : Sight). k < v.part.core.stamp) view (c.compare_exchange-found.ensures.2.1 c.args.lock c.args.seen k (subst (λ (v : Sight). MayDie v.part.core c.args.lock c.args.seen k) (sym view) may))

@@ -2,8 +2,10 @@ use Rattle.std.proofs.Common.{length-append, ℕ, ◌+◌, arith, ap, sym, refl,
 use Rattle.atomic_table.specs.Table.{rest}
 use Rattle.ww_word.specs.Owner.{AreFlags}
 use Rattle.ww_queue.specs.Queue.{left}
+use Rattle.ww_plain.specs.Graph.{IsNodeOf}
 use Rattle.ww_table.specs.declared.cells.Cell.{Cell}
 use Rattle.ww_table.specs.declared.cells.Cell.TheVariants.{Content, Line}
+use Rattle.ww_table.specs.declared.cells.Sight.{Sight}
 use Rattle.ww_table.specs.Seat.{numbers_of, slot_of}
 use Rattle.ww_table.specs.Guards.{lost}
 use Rattle.ww_table.specs.Waiting.{taking_inside, below}
@@ -58,12 +60,12 @@ push-requires-2 c = let b = c.bring.ensures in let s = c.requires.seat in let l 
 pub leave_list-requires-clause-top : goal.leave_list-requires-clause-top
 leave_list-requires-clause-top c = let b = c.bring.ensures in let s = c.requires.seat in let l = list_brought c.args.self.now.seat.me.1 c.args.self.now.seat.me.1 c.bring.new.seat.me.1 b.slots.1 c.args.lock c.list_slot-slot.result c.args.self.now.seat.me.0.part.core.list b.slots.0 refl c.list_slot-slot.ensures c.requires.list b.slots.2 b.slots.3 b.slots.4 in let v = c.args.self.now.seat.me.0 in
     let f = c.flag_left-flags.ensures in let view = ap (λ m. m.0) f.same ∙ b.view in let slots = ap (λ m. m.1) f.same ∙ l.1 in
-    let hit = (c.compare_exchange-found.ensures.2 c.args.lock c.args.seen (c.owner_word.ensures, c.requires.valid, c.pack-old.ensures)).0 (c.if-found-old.false ∙ c.pack-old.ensures) in let won = hit.1 ∙ (λ i. (taking_inside (view i) c.args.lock hit.0, below (c.args.lock, Content hit.0) (slots i))) in let top' = on_top c.compare_exchange-found.new.seat.me.1 ((c.args.lock, Content hit.0) ∷ b.slots.1) (64 + c.args.lock) c.list_slot-slot.result (Line v.part.core.list) (ap (λ m. m.1) won) c.list_slot-slot.ensures in (v.part.core.list, top')
+    let hit = (c.compare_exchange-found.ensures.2 c.args.lock c.args.seen (c.owner_word.ensures, c.requires.valid, c.pack-old.ensures)).0 (c.if-found-old.false ∙ c.pack-old.ensures) in let won = hit.2 ∙ (λ i. (taking_inside (view i) c.args.lock hit.0, below (c.args.lock, Content hit.0) (slots i))) in let top' = on_top c.compare_exchange-found.new.seat.me.1 ((c.args.lock, Content hit.0) ∷ b.slots.1) (64 + c.args.lock) c.list_slot-slot.result (Line v.part.core.list) (ap (λ m. m.1) won) c.list_slot-slot.ensures in (v.part.core.list, top')
 
 pub returns-clause-seat : goal.returns-clause-seat
 returns-clause-seat c = let b = c.bring.ensures in let s = c.requires.seat in let l = list_brought c.args.self.now.seat.me.1 c.args.self.now.seat.me.1 c.bring.new.seat.me.1 b.slots.1 c.args.lock c.list_slot-slot.result c.args.self.now.seat.me.0.part.core.list b.slots.0 refl c.list_slot-slot.ensures c.requires.list b.slots.2 b.slots.3 b.slots.4 in let v = c.args.self.now.seat.me.0 in
     let f = c.flag_left-flags.ensures in let view = ap (λ m. m.0) f.same ∙ b.view in let slots = ap (λ m. m.1) f.same ∙ l.1 in
-    let hit = (c.compare_exchange-found.ensures.2 c.args.lock c.args.seen (c.owner_word.ensures, c.requires.valid, c.pack-old.ensures)).0 (c.if-found-old.false ∙ c.pack-old.ensures) in let won = hit.1 ∙ (λ i. (taking_inside (view i) c.args.lock hit.0, below (c.args.lock, Content hit.0) (slots i))) in let top' = on_top c.compare_exchange-found.new.seat.me.1 ((c.args.lock, Content hit.0) ∷ b.slots.1) (64 + c.args.lock) c.list_slot-slot.result (Line v.part.core.list) (ap (λ m. m.1) won) c.list_slot-slot.ensures in
+    let hit = (c.compare_exchange-found.ensures.2 c.args.lock c.args.seen (c.owner_word.ensures, c.requires.valid, c.pack-old.ensures)).0 (c.if-found-old.false ∙ c.pack-old.ensures) in let won = hit.2 ∙ (λ i. (taking_inside (view i) c.args.lock hit.0, below (c.args.lock, Content hit.0) (slots i))) in let top' = on_top c.compare_exchange-found.new.seat.me.1 ((c.args.lock, Content hit.0) ∷ b.slots.1) (64 + c.args.lock) c.list_slot-slot.result (Line v.part.core.list) (ap (λ m. m.1) won) c.list_slot-slot.ensures in
     let g = c.leave_list.ensures in let others = ap (λ (l : List (ℕ × Cell)). rest l) (ap (λ m. m.1) won) in let who = sym s.who in
     let list = g.list v.part.core.list top' ∙ (λ i. (c.list_slot-slot.ensures i, Line (left v.part.core.list (who i))) ∷ others i) in
     let p = c.pop.ensures in let items = popped c.bring.new.order.items (numbers_of b.slots.1) c.pop.new.self.items c.list_slot-slot.result c.pop.result (b.order ∙ ap numbers_of b.slots.4) p.items p.variant.1 in
@@ -73,7 +75,7 @@ returns-clause-seat c = let b = c.bring.ensures in let s = c.requires.seat in le
 pub returns-clause-took : goal.returns-clause-took
 returns-clause-took c = let b = c.bring.ensures in let s = c.requires.seat in let l = list_brought c.args.self.now.seat.me.1 c.args.self.now.seat.me.1 c.bring.new.seat.me.1 b.slots.1 c.args.lock c.list_slot-slot.result c.args.self.now.seat.me.0.part.core.list b.slots.0 refl c.list_slot-slot.ensures c.requires.list b.slots.2 b.slots.3 b.slots.4 in let v = c.args.self.now.seat.me.0 in
     let f = c.flag_left-flags.ensures in let view = ap (λ m. m.0) f.same ∙ b.view in let slots = ap (λ m. m.1) f.same ∙ l.1 in
-    let hit = (c.compare_exchange-found.ensures.2 c.args.lock c.args.seen (c.owner_word.ensures, c.requires.valid, c.pack-old.ensures)).0 (c.if-found-old.false ∙ c.pack-old.ensures) in let won = hit.1 ∙ (λ i. (taking_inside (view i) c.args.lock hit.0, below (c.args.lock, Content hit.0) (slots i))) in let top' = on_top c.compare_exchange-found.new.seat.me.1 ((c.args.lock, Content hit.0) ∷ b.slots.1) (64 + c.args.lock) c.list_slot-slot.result (Line v.part.core.list) (ap (λ m. m.1) won) c.list_slot-slot.ensures in
+    let hit = (c.compare_exchange-found.ensures.2 c.args.lock c.args.seen (c.owner_word.ensures, c.requires.valid, c.pack-old.ensures)).0 (c.if-found-old.false ∙ c.pack-old.ensures) in let won = hit.2 ∙ (λ i. (taking_inside (view i) c.args.lock hit.0, below (c.args.lock, Content hit.0) (slots i))) in let top' = on_top c.compare_exchange-found.new.seat.me.1 ((c.args.lock, Content hit.0) ∷ b.slots.1) (64 + c.args.lock) c.list_slot-slot.result (Line v.part.core.list) (ap (λ m. m.1) won) c.list_slot-slot.ensures in
     let g = c.leave_list.ensures in let others = ap (λ (l : List (ℕ × Cell)). rest l) (ap (λ m. m.1) won) in let who = sym s.who in
     let list = g.list v.part.core.list top' ∙ (λ i. (c.list_slot-slot.ensures i, Line (left v.part.core.list (who i))) ∷ others i) in
-    λ _. (hit.0, b.slots.1, l.0, λ i. ((g.view ∙ ap (λ m. m.0) won) i, list i))
+    λ _. (hit.0, b.slots.1, subst (λ (w : Sight). IsNodeOf (length w.held) hit.0) view hit.1, l.0, λ i. ((g.view ∙ ap (λ m. m.0) won) i, list i))

@@ -25,5 +25,5 @@ returns-clause-took c = λ _. (c.compare_exchange-found.ensures.2 c.args.lock c.
 
 pub returns-clause-seat : goal.returns-clause-seat
 returns-clause-seat c = let e = c.compare_exchange-found.ensures in let got = (e.2 c.args.lock c.owner_word.ensures).0 c.if-found-ne0.false in let s = c.requires.seat in
-    seated_as _ c.args.self.now _ (taking c.args.self.now.seat.me.0 c.args.lock got.0) s e.0 (ap (λ m. m.0) got.1) refl refl refl refl refl refl refl refl
-    (c.push.ensures.items ∙ ap (λ (l : List ℕ). l ++ c.args.lock ∷ []) s.order ∙ ap numbers_of (sym (ap (λ m. m.1) got.1)))
+    seated_as _ c.args.self.now _ (taking c.args.self.now.seat.me.0 c.args.lock got.0) s e.0 (ap (λ m. m.0) got.2) refl refl refl refl refl refl refl refl
+    (c.push.ensures.items ∙ ap (λ (l : List ℕ). l ++ c.args.lock ∷ []) s.order ∙ ap numbers_of (sym (ap (λ m. m.1) got.2)))
