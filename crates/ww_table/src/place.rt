@@ -1,4 +1,4 @@
-ghost use Rattle.std.specs.Prelude.{◌≡◌, ◌<◌, ◌^◌, true, Some, IfOk, OnErr, vec_len, vec_capacity};
+ghost use Rattle.std.specs.Prelude.{◌≡◌, ◌<◌, ◌^◌, ◌↔◌, true, length, Some, IfOk, IsTrue, OnErr, vec_len, vec_capacity};
 ghost use Rattle.std.specs.List.{AllByRecursion};
 ghost use Rattle.ww_plain.specs.History.{recorded_of};
 ghost use Rattle.ww_table.specs.Seat.{IsSeated};
@@ -14,6 +14,20 @@ use std::marker::Brand;
 use ww_plain::Record;
 
 impl Seat16 {
+    /// How many commits it made.
+    pub fn commits(&self) -> u64
+        ensures { result ≡ length self.now.records.items }
+    {
+        self.records.len() as u64
+    }
+
+    /// Whether there is room for the record of a commit.
+    pub fn is_reserved(&self) -> bool
+        ensures { IsTrue result ↔ (vec_len self.now.records < vec_capacity self.now.records) }
+    {
+        self.records.len() < self.records.capacity()
+    }
+
     /// Makes room for the record of a commit: the one growth that a commit needs.
     pub fn reserve(&mut self) -> Result<(), AllocError>
         ensures same { self.new ≡ record self.old { records = self.new.records } }

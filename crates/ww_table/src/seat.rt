@@ -38,6 +38,20 @@ pub struct Seat16 {
 }
 
 impl Seat16 {
+    /// Its number.
+    pub fn who(&self) -> u8
+        ensures { result ≡ self.now.who }
+    {
+        self.who
+    }
+
+    /// The stamp of its context, 0 without one.
+    pub fn stamp(&self) -> u64
+        ensures { result ≡ self.now.stamp }
+    {
+        self.stamp
+    }
+
     /// Starts a context, and gives its stamp: one more than the stamp drawn last.
     pub fn draw(&mut self, board: &Board) -> u64
         requires seat { IsSeated board.now.table.shared.table_id self.old }
@@ -129,6 +143,20 @@ impl Seat16 {
         }
         self.stamp = 0;
         true
+    }
+
+    /// A node that the seat has out. It is no step.
+    pub fn node(&mut self, board: &Board, lock: u8) -> Node
+        requires seat { IsSeated board.now.table.shared.table_id self.old }
+        requires out { (x : Node) × (slot_of self.old.seat.me.1 lock ≡ Some (Content x)) }
+        ensures seat { IsSeated board.now.table.shared.table_id self.new }
+        ensures read { (others : List (ℕ × Cell)) × AreOthers self.old.seat.me.1 lock (Content result) others × (self.new.seat.me ≡ (self.old.seat.me.0, (lock, Content result) ∷ others)) }
+    {
+        bring(&mut self.seat, &mut self.order, lock);
+        match self.seat.slot_mut(&board.table.shared, usize::from(lock)) {
+            Cell::Content(node) => *node,
+            Cell::Line(_) => unreachable!(),
+        }
     }
 
     /// Writes a node that the seat has out, and gives what was there. It is no step: nobody else sees it.
