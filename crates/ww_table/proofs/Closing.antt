@@ -1,5 +1,5 @@
 -- Closing a table: the records in the order of their places.
-use Rattle.std.proofs.Common.{◌≡◌, ◌≢◌, ◌⊎◌, ℕ, zero, suc, ◌+◌, ◌<◌, ◌≤◌, Bool, true, false, eqb, List, [], ◌∷◌, ◌++◌, length, set, take, get_or, sym, refl, ap, ◌∙◌, subst, ⊎_elim, inl, inr, arith, Option, Some, None, length-set, get_or-set_other}
+use Rattle.std.proofs.Common.{◌≡◌, ◌≢◌, ◌⊎◌, ℕ, zero, suc, ◌+◌, ◌<◌, ◌≤◌, Bool, true, false, eqb, List, [], ◌∷◌, ◌++◌, length, set, take, get_or, sym, refl, ap, ◌∙◌, subst, ⊎_elim, inl, inr, arith, Option, Some, None, length-set, length-append, get_or-set_other}
 use Rattle.std.specs.Bool.{if◌then◌else◌}
 use Rattle.std.specs.List.{AllByRecursion}
 use mathlib.Core.Logic.{dite}
@@ -165,6 +165,7 @@ gathered_one table s token old new come is free put = subst (λ (t : Seat Cell S
   size = put.size;
   laid = subst (λ l. AreLaid (s.seat.me.0.part ∷ l) new) (sym come.seated.alone) (laid_more [] s.seat.me.0.part old new s.records.items (laid_none old free) come.seated.records put);
   all = λ t h. ⊎_elim (λ same. inl (ap (λ (x : Seat16). x.seat.me.0.part) same)) (λ none. absurd none) h;
+  many = let l = ap (λ (ps : List Part). length ps) come.seated.alone in omega arith;
 })
 
 pub gathered_more : (table : TableId) (seats : List Seat16) (s : Seat16) (count : ℕ) (token next : Seat Cell Sight) (old new : List (Option Record)) → IsGathered table seats count token old → HasCome table s → ArePut old s.records.items new
@@ -180,6 +181,7 @@ gathered_more table seats s count token next old new g come put home view =
           (λ was. has_more (parts_of token.me.0) (s.seat.me.0.part ∷ []) t.seat.me.0.part (g.all t was))
           (λ same. subst (λ (p : Part). Has (parts_of token.me.0 ++ s.seat.me.0.part ∷ []) p) (ap (λ (x : Seat16). x.seat.me.0.part) (sym same)) (has_last (parts_of token.me.0) s.seat.me.0.part))
           (has_either seats s t h));
+      many = let l = ap (λ (ps : List Part). length ps) parts in let a = length-append (parts_of token.me.0) (s.seat.me.0.part ∷ []) in let b = length-append seats (s ∷ []) in let m = g.many in omega arith;
     }
 
 -- the seats in the order in which they came
@@ -191,6 +193,7 @@ gathered_all table seats later last count token places g is = record {
   size = g.size;
   laid = g.laid;
   all = λ s h. g.all s (⊎_elim (λ was. inr was) (λ same. inl same) (has_either later last s (subst (λ l. Has l s) is h)));
+  many = let l = ap (λ (ss : List Seat16). length ss) is in let a = length-append later (last ∷ []) in let m = g.many in omega arith;
 }
 
 -- ---- taking the slots of a closed table

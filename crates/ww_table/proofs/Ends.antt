@@ -22,6 +22,9 @@ use Rattle.ww_table.specs.Rule.{St, first_graph, own_of, PartFits, Ruled}
 use Rattle.ww_table.specs.Closed.{HasCome, HaveAllCome, IsClosed, AreFree, IsGathered, parts_of, somes}
 use Rattle.ww_table.proofs.Seats.{at_end}
 use Rattle.ww_table.proofs.Closing.{has_all, laid_is}
+use Rattle.ww_table.proofs.Numbers.{numbers_in, has_number, number_has, first_differs}
+use Rattle.std.proofs.lemmas.Map.Steps.{le-length_from_below, length-le_from_distinct_below}
+use Rattle.std.proofs.lemmas.List.{length-map}
 
 pub free_more : (places : List (Option Record)) → AreFree places → AreFree (places ++ None ∷ [])
 free_more places free i r e = ⊎_elim (λ was. free i r was) (λ now. let z = now.1 in absurd cc) (at_end places None (Some r) i e)
@@ -52,6 +55,14 @@ module _ (key : Start) (s : St) (r : Ruled key s) (table : TableId) (id : ℕ) (
       (λ small. let w = come.all t (omega arith) in let c = came w.0 w.1 in let k = (fits w.0.seat.me.0.part (g.all w.0 w.1)).knows in
       true≢false (sym (k.owned.lacks n (own ∙ ap Taken (sym (c.seated.who ∙ w.2)))) ∙ c.bare n))
 
+  -- the numbers of the seats are just those of the table, and no two are the same
+  pub seats_few : length seats ≡ key.seats
+  seats_few = let sits = r.seats id token.me.0 here g.seated in let parts = parts_of token.me.0 in let numbers = numbers_in parts in
+      let most = length-le_from_distinct_below numbers key.seats (first_differs token.me.0.part token.me.0.idle sits.apart sits.differ)
+      (λ q h. let t = number_has parts q h in let f = (fits t.0 t.1).number in let is = t.2 in omega arith) in
+      let least = le-length_from_below numbers key.seats (λ q low. let w = come.all q low in has_number parts w.0.seat.me.0.part q (g.all w.0 w.1) ((came w.0 w.1).seated.who ∙ w.2)) in
+      let long = length-map parts (λ (p : Part). p.core.who) in let many = g.many in omega arith
+
   pub records_are : history_of (somes places) ≡ r.log
   records_are = laid_is r.log (parts_of token.me.0) places g.laid (λ p h. (fits p h).own)
       (λ i x e. let w = come.all x.caller (r.counted.callers i x e) in (w.0.seat.me.0.part, g.all w.0 w.1, (came w.0 w.1).seated.who ∙ w.2))
@@ -71,6 +82,7 @@ module _ (key : Start) (s : St) (r : Ruled key s) (table : TableId) (id : ℕ) (
     fold = are ∙ ap (last_graph (first_graph key)) (sym log);
     callers = λ k x e. r.counted.callers k x (ap (λ l. get_elem? l k) (sym log) ∙ e);
     parts = λ t h. let c = came t h in ap (part_of t.who) log ∙ ap (λ (w : ℕ). part_of w r.log) (sym c.seated.who) ∙ sym (fits t.seat.me.0.part (g.all t h)).own ∙ ap own_of (sym c.seated.records);
+    few = seats_few;
   }
 
 -- a slice that was lent and came back whole

@@ -7,6 +7,7 @@ pub mod Seats
 pub mod Turning
 pub mod Making
 pub mod Closing
+pub mod Numbers
 pub mod Ends
 pub mod Told
 pub mod InsideRegions

@@ -30,12 +30,13 @@ pub record HaveAllCome (table : TableId) (key : Start) (seats : List Seat16) : T
   pub all : (k : ℕ) → k < key.seats → (s : Seat16) × Has seats s × (s.who ≡ k)
 
 -- The records are a legal history from the first graph, and lead to this graph. Each is one of a seat's, and the part of each
--- seat is exactly its own list.
+-- seat is exactly its own list. The seats were no more than the table has.
 pub record IsClosed (key : Start) (seats : List Seat16) (records : List Record) (graph : List Node) : Type 0 where
   pub legal : IsLegal (first_graph key) (history_of records)
   pub fold : graph ≡ last_graph (first_graph key) (history_of records)
   pub callers : (k : ℕ) (r : Recorded) → get_elem? (history_of records) k ≡ some r → r.caller < key.seats
   pub parts : (s : Seat16) → Has seats s → part_of s.who (history_of records) ≡ own_of s.records.items
+  pub few : length seats ≡ key.seats
 
 -- ---- on the way
 
@@ -69,6 +70,7 @@ pub record IsGathered (table : TableId) (seats : List Seat16) (count : ℕ) (tok
   pub size : length places ≡ count
   pub laid : AreLaid (parts_of token.me.0) places
   pub all : (s : Seat16) → Has seats s → Has (parts_of token.me.0) s.seat.me.0.part
+  pub many : length (parts_of token.me.0) ≡ length seats
 
 -- the places have room for the records of a seat
 abbrev pub HasPlaces : ℕ → Seat16 → Type 0
