@@ -7,7 +7,7 @@ use Rattle.ww_word.specs.Owner.{IsValid, packed}
 use Rattle.ww_model.specs.declared.event.Event.TheVariants.{Begin, Fast, FastGive, Commit, End}
 use Rattle.ww_model.specs.State.{State}
 use Rattle.ww_model.specs.Lawful.{IsLawful}
-use Rattle.ww_model.specs.Waits.{IsCycle, IsOneOf, IsCondemned}
+use Rattle.ww_model.specs.Waits.{IsCycle, AreContexts, IsOneOf, IsCondemned}
 use Rattle.ww_plain.specs.declared.node.Node.{Node}
 use Rattle.ww_plain.specs.declared.history.Record.{Record}
 use Rattle.ww_plain.specs.Graph.{node_at}
@@ -22,7 +22,7 @@ use Rattle.ww_table.specs.declared.seat.Seat16.{Seat16}
 use Rattle.ww_table.specs.Made.{AreNew}
 use Rattle.ww_table.specs.Closed.{HaveAllCome}
 use Rattle.ww_table.specs.Layout.{owner_at, sign_at, stamp_at, front_at}
-use Rattle.ww_table.specs.Rule.{St, Sat, first_graph, Shown, Ruled, Makes}
+use Rattle.ww_table.specs.Rule.{St, Sat, first_graph, Ruled, Makes}
 use Rattle.ww_table.specs.Steps.{MayDraw, MayEnd, MayPlace, taker, drawing, taking, giving, knowing, placing}
 
 -- a seat of the table that steps: where its view stands, and the seat itself
@@ -56,16 +56,15 @@ abbrev pub PlaceIsCommit : Type 0
 PlaceIsCommit = (key : Start) (s : St) (r : Ruled key s) (id : ℕ) (me : Sat) (done : Record) → Steps s id me → MayPlace me.0 (recorded_of done) →
     let place : ℕ = slice_index s.words front_at in Makes key s r (Commit me.0.part.core.who) (stepped s front_at (place + 1) id me.1 (placing me.0 place done) keeps)
 
--- what a table shows: a lawful state of the core, of which every cycle of waits has a condemned member
-pub record ShowsLawful (s : St) : Type 0 where
-  pub core : State
-  pub shown : Shown core s.words
-  pub lawful : IsLawful core
-  pub condemned : (seats : List ℕ) → IsCycle core seats → (a : ℕ) × IsOneOf a seats × IsCondemned core a
+-- a lawful state of the core; every cycle of waits there has a condemned member, and each of its members a context
+pub record IsSafe (c : State) : Type 0 where
+  pub lawful : IsLawful c
+  pub condemned : (seats : List ℕ) → IsCycle c seats → (a : ℕ) × IsOneOf a seats × IsCondemned c a
+  pub contexts : (seats : List ℕ) → IsCycle c seats → AreContexts c seats
 
--- whatever the rule allows shows a lawful state
+-- the core that the rule tells of a table is one
 abbrev pub RuledIsLawful : Type 0
-RuledIsLawful = (key : Start) (s : St) → Ruled key s → ShowsLawful s
+RuledIsLawful = (key : Start) (s : St) (r : Ruled key s) → IsSafe r.core
 
 -- seats that did nothing yet can be handed in to close the table
 abbrev pub NewSeatsCanClose : Type 0
