@@ -107,11 +107,22 @@ pub record Ruled (key : Start) (s : St) : Type 0 where
   pub counted : Counted key core.drawn core.commits log draws
   pub seats : (j : ℕ) (v : Sight) → get_elem? s.views j ≡ some v → v.seated ≡ true → Sits key core log at draws j v
 
--- the table goes from s to s' by an event of the core that it shows
-pub record Makes (key : Start) (s : St) (r : Ruled key s) (e : Event) (s' : St) : Type 0 where
+-- the table goes from s to s' by an event of the core that it shows, and these are the commits then
+pub record MakesWith (key : Start) (s : St) (r : Ruled key s) (e : Event) (log : List Recorded) (s' : St) : Type 0 where
   pub can : Possible r.core e
   pub ruled : Ruled key s'
   pub is : ruled.core ≡ after r.core e
+  pub commits : ruled.log ≡ log
+
+-- ... and the commits stay as they are
+abbrev pub Makes : (key : Start) (s : St) (r : Ruled key s) → Event → St → Type 0
+Makes key s r e s' = MakesWith key s r e r.log s'
+
+-- the table goes from s to s' without an event: the core and the commits stay as they are
+pub record Stays (key : Start) (s : St) (r : Ruled key s) (s' : St) : Type 0 where
+  pub ruled : Ruled key s'
+  pub is : ruled.core ≡ r.core
+  pub commits : ruled.log ≡ r.log
 
 -- ---- at the start
 
