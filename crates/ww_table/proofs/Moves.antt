@@ -31,7 +31,7 @@ use Rattle.ww_model.specs.Event.{actor}
 use Rattle.ww_view.specs.View.{owns, Knows, IsAway}
 use Rattle.ww_view.specs.May.{MayFast}
 use Rattle.ww_view.specs.Made.{fast_taken, fast_missed, fast_given, begun, ended, has_read}
-use Rattle.ww_model.proofs.Stays.{same_seats, same_locks, owner_stays}
+use Rattle.ww_model.proofs.Stays.{same_seats, same_locks}
 use Rattle.ww_view.proofs.Shows.{shows_fast, shows_fast_give, shows_begin, shows_end}
 use Rattle.ww_view.proofs.Mine.{mine_fast, mine_fast_give, mine_begin, mine_end}
 use Rattle.ww_view.proofs.Inside.{mine_read, mine_missed}
@@ -45,7 +45,7 @@ use Rattle.ww_table.specs.Rule.{St, Sat, first_graph, own_of, Shown, AtHome, Cou
 use Rattle.ww_table.specs.Steps.{knowing, taker, taking, giving, drawing, takes_to, gives_to, ends_to, draws_to, MayDraw, MayEnd}
 use Rattle.ww_table.proofs.Totals.{total_one, total_below}
 use Rattle.ww_table.proofs.Regions.{owner_set, drawn_set, none_set}
-use Rattle.ww_table.proofs.Fits.{seats_stay, Spares, part_on, sits_on}
+use Rattle.ww_table.proofs.Fits.{seats_stay, there_kept, strange_on, Spares, part_on, sits_on}
 
 idle_valid : IsValid idle
 idle_valid = record { seating = (refl, omega arith); stamp = omega arith; flags = inl refl }
@@ -97,7 +97,7 @@ module _ (key : Start) (s : St) (r : Ruled key s) (id : ℕ) (me : Sat) (here : 
       locks = same_locks r.core e ∙ r.locks;
       places = same_seats r.core e ∙ r.places;
       seats_there = r.seats_there;
-      strangers = λ t big n own. r.strangers t big n ((owner_stays r.core e t can.base (λ z. let small = mine.part.number in let far = acts in omega arith) n).1 own);
+      strangers = λ t big. strange_on r.core e t can.base (λ z. let small = mine.part.number in let far = acts in omega arith) (r.strangers t big);
       words = words;
       homes = homes;
       counted = counted;
@@ -111,6 +111,7 @@ module _ (key : Start) (s : St) (r : Ruled key s) (id : ℕ) (me : Sat) (here : 
             differ = mine.differ;
           })
           (λ j d far there on. sits_on key r.core e law can r.log log r.at r.draws draws me.0.part.core.who acts spares id j d mine.part.place far (r.seats j d there on));
+      there = λ t small. there_kept s.views id me.0 (record me.0 { part = p; held = held }) (r.at t) t here refl same refl (r.there t small);
     };
   }
 
@@ -231,6 +232,7 @@ module _ (key : Start) (s : St) (r : Ruled key s) (id : ℕ) (me : Sat) (here : 
             differ = mine.differ;
           })
           (λ j d _ there. r.seats j d there);
+      there = λ t small. there_kept s.views id me.0 (knowing me.0 w) (r.at t) t here refl same refl (r.there t small);
     };
   }
 
