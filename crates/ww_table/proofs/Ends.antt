@@ -51,7 +51,7 @@ module _ (key : Start) (s : St) (r : Ruled key s) (table : TableId) (id : ℕ) (
   -- nobody owns a lock
   pub nobody_owns : (n t : ℕ) → r.core.owner n ≢ Taken t
   nobody_owns n t own = dite (dec_le key.seats t)
-      (λ big. r.strangers t big n own)
+      (λ big. (r.strangers t big).bare n own)
       (λ small. let w = come.all t (omega arith) in let c = came w.0 w.1 in let k = (fits w.0.seat.me.0.part (g.all w.0 w.1)).knows in
       true≢false (sym (k.owned.lacks n (own ∙ ap Taken (sym (c.seated.who ∙ w.2)))) ∙ c.bare n))
 

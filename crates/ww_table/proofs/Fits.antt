@@ -1,28 +1,67 @@
 -- What a step of one seat leaves to the other seats, and to the numbers that lie idle.
-use Rattle.std.proofs.Common.{◌≡◌, ◌≢◌, ℕ, true, List, set, sym, ap, ◌∙◌, subst, ⊎_elim, Some}
-use mathlib.Core.Option.{some}
+use Rattle.std.proofs.Common.{◌≡◌, ◌≢◌, ℕ, zero, suc, ◌<◌, true, List, [], ◌∷◌, ◌++◌, length, set, sym, refl, ap, ◌∙◌, subst, ⊎_elim, inl, inr, arith, Some}
+use mathlib.Core.Logic.{dite}
+use mathlib.Core.Option.{some, some-injective}
+use native.Mathlib.Decide.{ℕ_discrete}
 use lib.ListN.{get_elem?}
-use Rattle.atomic_table.proofs.Lists.{at_set}
+use Rattle.atomic_table.proofs.Lists.{at_set, set_here, set_else, at_longer}
 use Rattle.ww_model.specs.declared.state.Holder.TheVariants.{Taken}
 use Rattle.ww_model.specs.declared.event.Event.{Event}
 use Rattle.ww_model.specs.State.{State}
-use Rattle.ww_model.specs.Event.{Possible, after}
+use Rattle.ww_model.specs.Event.{BasePossible, Possible, after}
 use Rattle.ww_model.specs.Lawful.{IsLawful}
 use Rattle.ww_plain.specs.declared.node.Node.{Node}
 use Rattle.ww_plain.specs.Graph.{node_at}
 use Rattle.ww_plain.specs.History.{Recorded, last_graph, part_of}
 use Rattle.ww_model.specs.Event.{actor}
+use Rattle.ww_model.proofs.Stays.{stamp_stays, owner_stays, guard_stays, entry_stays}
 use Rattle.ww_view.proofs.Others.{others_know}
 use Rattle.ww_table.specs.declared.cells.Part.{Part}
 use Rattle.ww_table.specs.declared.cells.Sight.{Sight}
 use Rattle.ww_table.specs.declared.cells.Start.{Start}
-use Rattle.ww_table.specs.Rule.{first_graph, PartFits, Sits}
+use Rattle.ww_table.specs.Rule.{first_graph, PartFits, Sits, Speaks, IsThere, IsStranger}
 
 -- the seat `me` changes its view, and the parts of all others stay
 pub seats_stay : (K : ℕ → Sight → Type 0) (vs : List Sight) (me : ℕ) (w : Sight) → (w.seated ≡ true → K me w) → ((j : ℕ) (d : Sight) → j ≢ me → get_elem? vs j ≡ some d → d.seated ≡ true → K j d)
     → (j : ℕ) (d : Sight) → get_elem? (set vs me w) j ≡ some d → d.seated ≡ true → K j d
 seats_stay K vs me w mine others j d e = ⊎_elim (λ (t : (j ≡ me) × (w ≡ d)). subst (λ (x : ℕ × Sight). x.1.seated ≡ true → K x.0 x.1) (λ i. (sym t.0 i, t.1 i)) mine)
     (λ (t : (j ≢ me) × (get_elem? vs j ≡ some d)). others j d t.0 t.1) (at_set vs me j w d e)
+
+pub place_low : {A : Type 0} (xs : List A) (k : ℕ) (x : A) → get_elem? xs k ≡ some x → k < length xs
+place_low [] k x e = absurd cc
+place_low (y ∷ ys) zero x e = omega arith
+place_low (y ∷ ys) (suc k) x e = let h = place_low ys k x e in omega arith
+
+-- another view changes
+pub there_else : (vs : List Sight) (id : ℕ) (w : Sight) (j t : ℕ) → j ≢ id → IsThere vs j t → IsThere (set vs id w) j t
+there_else vs id w j t isnt x = record { view = x.view; stands = set_else vs id j w isnt ∙ x.stands; seated = x.seated; speaks = x.speaks }
+
+-- a view changes, and speaks of the number as before
+pub there_set : (vs : List Sight) (id : ℕ) (v w : Sight) (j t : ℕ) → get_elem? vs id ≡ some v → w.seated ≡ v.seated → (Speaks v t → Speaks w t) → IsThere vs j t → IsThere (set vs id w) j t
+there_set vs id v w j t here seated speaks x = dite (ℕ_discrete j id)
+    (λ is. let same : v ≡ x.view = some-injective v x.view (sym here ∙ ap (get_elem? vs) (sym is) ∙ x.stands) in record {
+      view = w;
+      stands = ap (get_elem? (set vs id w)) is ∙ set_here vs id w (place_low vs id v here);
+      seated = seated ∙ ap (λ (y : Sight). y.seated) same ∙ x.seated;
+      speaks = speaks (subst (λ (y : Sight). Speaks y t) (sym same) x.speaks);
+    })
+    (λ isnt. there_else vs id w j t isnt x)
+
+-- a view changes that has this number and these idle ones before and after
+pub there_kept : (vs : List Sight) (id : ℕ) (v w : Sight) (j t : ℕ) → get_elem? vs id ≡ some v → w.seated ≡ v.seated → w.part.core.who ≡ v.part.core.who → w.idle ≡ v.idle → IsThere vs j t → IsThere (set vs id w) j t
+there_kept vs id v w j t here seated who idle = there_set vs id v w j t here seated (⊎_elim (λ is. inl (who ∙ is)) (λ more. inr (more.0, more.1, ap (λ l. get_elem? l more.0) idle ∙ more.2, more.3)))
+
+pub there_longer : (vs ws : List Sight) (j t : ℕ) → IsThere vs j t → IsThere (vs ++ ws) j t
+there_longer vs ws j t x = record { view = x.view; stands = at_longer vs ws j x.view x.stands; seated = x.seated; speaks = x.speaks }
+
+-- an event of another leaves a number that no seat has as it is
+pub strange_on : (c : State) (e : Event) (t : ℕ) → BasePossible c e → actor e ≢ t → IsStranger c t → IsStranger (after c e) t
+strange_on c e t can other x = record {
+  stamp = stamp_stays c e t other ∙ x.stamp;
+  bare = λ n own. x.bare n ((owner_stays c e t can other n).1 own);
+  outside = λ n inside. x.outside n ((guard_stays c e t can other n).1 inside);
+  waits = λ n y has is. x.waits n y ((entry_stays c e t other n y is).1 has) is;
+}
 
 -- what becomes of draws, commits and nodes leaves all but the number s alone
 pub record Spares (key : Start) (c : State) (log new : List Recorded) (draws drawn : ℕ → ℕ) (s : ℕ) : Type 0 where

@@ -31,7 +31,7 @@ use Rattle.ww_model.specs.Event.{actor}
 use Rattle.ww_view.specs.View.{owns, Knows, IsAway}
 use Rattle.ww_view.specs.May.{MayFast}
 use Rattle.ww_view.specs.Made.{fast_taken, fast_missed, fast_given, begun, ended, has_read}
-use Rattle.ww_model.proofs.Stays.{same_seats, same_locks, owner_stays}
+use Rattle.ww_model.proofs.Stays.{same_seats, same_locks}
 use Rattle.ww_view.proofs.Shows.{shows_fast, shows_fast_give, shows_begin, shows_end}
 use Rattle.ww_view.proofs.Mine.{mine_fast, mine_fast_give, mine_begin, mine_end}
 use Rattle.ww_view.proofs.Inside.{mine_read, mine_missed}
@@ -41,11 +41,11 @@ use Rattle.ww_table.specs.declared.cells.Cell.TheVariants.{Content}
 use Rattle.ww_table.specs.declared.cells.Part.{Part}
 use Rattle.ww_table.specs.declared.cells.Sight.{Sight}
 use Rattle.ww_table.specs.declared.cells.Start.{Start}
-use Rattle.ww_table.specs.Rule.{St, Sat, first_graph, own_of, Shown, AtHome, Counted, Sits, Ruled, Makes}
+use Rattle.ww_table.specs.Rule.{St, Sat, first_graph, own_of, Shown, AtHome, Counted, Sits, Ruled, MakesWith, Makes, Stays}
 use Rattle.ww_table.specs.Steps.{knowing, taker, taking, giving, drawing, takes_to, gives_to, ends_to, draws_to, MayDraw, MayEnd}
 use Rattle.ww_table.proofs.Totals.{total_one, total_below}
 use Rattle.ww_table.proofs.Regions.{owner_set, drawn_set, none_set}
-use Rattle.ww_table.proofs.Fits.{seats_stay, Spares, part_on, sits_on}
+use Rattle.ww_table.proofs.Fits.{seats_stay, there_kept, strange_on, Spares, part_on, sits_on}
 
 idle_valid : IsValid idle
 idle_valid = record { seating = (refl, omega arith); stamp = omega arith; flags = inl refl }
@@ -82,10 +82,11 @@ module _ (key : Start) (s : St) (r : Ruled key s) (id : ℕ) (me : Sat) (here : 
       → length held ≡ length (first_graph key) → ((n : ℕ) → owns p.core n ≡ true → get_elem? held n ≡ some (Some (node_at (last_graph (first_graph key) log) n)))
       → Counted key (after r.core e).drawn (after r.core e).commits log draws → Shown (after r.core e) (set s.words i x)
       → AtHome (last_graph (first_graph key) log) (after r.core e).owner (after r.core e).queue (after r.core e).guard (homes_after s.homes me.1 a)
-      → Makes key s r e (stepped s i x id me.1 (record me.0 { part = p; held = held }) a)
+      → MakesWith key s r e log (stepped s i x id me.1 (record me.0 { part = p; held = held }) a)
   makes_all e i x p held a log draws acts same can knows drew own spares room has counted words homes = record {
     can = can;
     is = refl;
+    commits = refl;
     ruled = record {
       core = after r.core e;
       log = log;
@@ -96,7 +97,7 @@ module _ (key : Start) (s : St) (r : Ruled key s) (id : ℕ) (me : Sat) (here : 
       locks = same_locks r.core e ∙ r.locks;
       places = same_seats r.core e ∙ r.places;
       seats_there = r.seats_there;
-      strangers = λ t big n own. r.strangers t big n ((owner_stays r.core e t can.base (λ z. let small = mine.part.number in let far = acts in omega arith) n).1 own);
+      strangers = λ t big. strange_on r.core e t can.base (λ z. let small = mine.part.number in let far = acts in omega arith) (r.strangers t big);
       words = words;
       homes = homes;
       counted = counted;
@@ -110,6 +111,7 @@ module _ (key : Start) (s : St) (r : Ruled key s) (id : ℕ) (me : Sat) (here : 
             differ = mine.differ;
           })
           (λ j d far there on. sits_on key r.core e law can r.log log r.at r.draws draws me.0.part.core.who acts spares id j d mine.part.place far (r.seats j d there on));
+      there = λ t small. there_kept s.views id me.0 (record me.0 { part = p; held = held }) (r.at t) t here refl same refl (r.there t small);
     };
   }
 
@@ -196,38 +198,46 @@ module _ (key : Start) (s : St) (r : Ruled key s) (id : ℕ) (me : Sat) (here : 
   -- ---- steps that are no event
 
   -- a load, or a compare-exchange that finds another number
-  pub looks : (i : ℕ) (w : View) → w.who ≡ me.0.part.core.who → ((n : ℕ) → owns w n ≡ owns me.0.part.core n) → Knows r.core w → Ruled key (stepped s i (get_or s.words i 0) id me.1 (knowing me.0 w) keeps)
-  looks i w same has knows = record {
-    core = r.core;
-    log = r.log;
-    at = r.at;
-    draws = r.draws;
-    reached = r.reached;
-    kind = r.kind;
-    locks = r.locks;
-    places = r.places;
-    seats_there = r.seats_there;
-    strangers = r.strangers;
-    words = subst (Shown r.core) (sym (set-get_or s.words i 0)) r.words;
-    homes = r.homes;
-    counted = r.counted;
-    seats = seats_stay (Sits key r.core r.log r.at r.draws) s.views id (knowing me.0 w)
-        (λ _. record {
-          part = record {
-            place = ap r.at same ∙ mine.part.place;
-            number = subst (λ (t : ℕ). t < key.seats) (sym same) mine.part.number;
-            knows = knows;
-            drew = mine.part.drew ∙ ap r.draws (sym same);
-            own = mine.part.own ∙ ap (λ (t : ℕ). part_of t r.log) (sym same);
-          };
-          room = mine.room;
-          held = λ n own. mine.held n (sym (has n) ∙ own);
-          idle = mine.idle;
-          apart = λ k q there z. mine.apart k q there (z ∙ same);
-          differ = mine.differ;
-        })
-        (λ j d _ there. r.seats j d there);
+  pub looks_on : (i : ℕ) (w : View) → w.who ≡ me.0.part.core.who → ((n : ℕ) → owns w n ≡ owns me.0.part.core n) → Knows r.core w → Stays key s r (stepped s i (get_or s.words i 0) id me.1 (knowing me.0 w) keeps)
+  looks_on i w same has knows = record {
+    is = refl;
+    commits = refl;
+    ruled = record {
+      core = r.core;
+      log = r.log;
+      at = r.at;
+      draws = r.draws;
+      reached = r.reached;
+      kind = r.kind;
+      locks = r.locks;
+      places = r.places;
+      seats_there = r.seats_there;
+      strangers = r.strangers;
+      words = subst (Shown r.core) (sym (set-get_or s.words i 0)) r.words;
+      homes = r.homes;
+      counted = r.counted;
+      seats = seats_stay (Sits key r.core r.log r.at r.draws) s.views id (knowing me.0 w)
+          (λ _. record {
+            part = record {
+              place = ap r.at same ∙ mine.part.place;
+              number = subst (λ (t : ℕ). t < key.seats) (sym same) mine.part.number;
+              knows = knows;
+              drew = mine.part.drew ∙ ap r.draws (sym same);
+              own = mine.part.own ∙ ap (λ (t : ℕ). part_of t r.log) (sym same);
+            };
+            room = mine.room;
+            held = λ n own. mine.held n (sym (has n) ∙ own);
+            idle = mine.idle;
+            apart = λ k q there z. mine.apart k q there (z ∙ same);
+            differ = mine.differ;
+          })
+          (λ j d _ there. r.seats j d there);
+      there = λ t small. there_kept s.views id me.0 (knowing me.0 w) (r.at t) t here refl same refl (r.there t small);
+    };
   }
+
+  pub looks : (i : ℕ) (w : View) → w.who ≡ me.0.part.core.who → ((n : ℕ) → owns w n ≡ owns me.0.part.core n) → Knows r.core w → Ruled key (stepped s i (get_or s.words i 0) id me.1 (knowing me.0 w) keeps)
+  looks i w same has knows = (looks_on i w same has knows).ruled
 
 -- ---- a step as the table asks for it
 

@@ -27,7 +27,7 @@ use Rattle.ww_view.specs.View.{owns}
 use Rattle.ww_view.proofs.Shows.{shows_commit}
 use Rattle.ww_view.proofs.Mine.{mine_commit}
 use Rattle.ww_table.specs.declared.cells.Start.{Start}
-use Rattle.ww_table.specs.Rule.{St, Sat, first_graph, own_of, Counted, Sits, Ruled, Makes}
+use Rattle.ww_table.specs.Rule.{St, Sat, first_graph, own_of, Counted, Sits, Ruled, MakesWith}
 use Rattle.ww_table.specs.Steps.{known, graph_of, renewed, MayPlace, placing, places_to}
 use Rattle.ww_table.proofs.Totals.{total_below, parts_whole}
 use Rattle.ww_table.proofs.Regions.{front_set}
@@ -130,7 +130,7 @@ module _ (key : Start) (s : St) (r : Ruled key s) (id : ℕ) (me : Sat) (here : 
     callers = λ k y e. ⊎_elim (λ was. r.counted.callers k y was) (λ is. subst (λ (z : Recorded). z.caller < key.seats) is (subst (λ (t : ℕ). t < key.seats) (sym may.caller) sits.part.number)) (at_snoc r.log (recorded_of x) y k e);
   }
 
-  pub place_makes : Makes key s r (Commit me.0.part.core.who) (stepped s 648 (get_or s.words 648 0 + 1) id me.1 (placing me.0 (get_or s.words 648 0) x) keeps)
+  pub place_makes : MakesWith key s r (Commit me.0.part.core.who) new (stepped s 648 (get_or s.words 648 0 + 1) id me.1 (placing me.0 (get_or s.words 648 0) x) keeps)
   place_makes = let c = r.core in let v = me.0.part.core in let k = sits.part.knows in let same = r.words.front in let was = r.counted.front in let few = many in let lawful = law key s r id me here seated in
       let can = shows_commit c v lawful k may.owner.0 may.away may.owner.1 (omega arith) in let g = grows (first_graph key) r.log (recorded_of x) in
       makes_all key s r id me here seated (Commit v.who) 648 (get_or s.words 648 0 + 1) (record (me.0.part) { own = me.0.part.own ++ (get_or s.words 648 0, x) ∷ [] }) (renewed 0 me.0.held (graph_after seen (transaction_of x.txn))) keeps new r.draws refl refl can

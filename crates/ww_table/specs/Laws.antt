@@ -1,5 +1,5 @@
 -- What holds of the table as a whole.
-use Rattle.std.specs.Prelude.{ℕ, ◌≡◌, ◌<◌, ◌+◌, ◌∷◌, true, List, length, slice_index, Some}
+use Rattle.std.specs.Prelude.{ℕ, ◌≡◌, ◌<◌, ◌+◌, [], ◌∷◌, ◌++◌, true, List, length, slice_index, Some}
 use mathlib.Core.Option.{some}
 use lib.ListN.{get_elem?}
 use Rattle.atomic_table.specs.Table.{stepped, keeps, takes, gives, rest}
@@ -7,7 +7,7 @@ use Rattle.ww_word.specs.Owner.{IsValid, packed}
 use Rattle.ww_model.specs.declared.event.Event.TheVariants.{Begin, Fast, FastGive, Commit, End}
 use Rattle.ww_model.specs.State.{State}
 use Rattle.ww_model.specs.Lawful.{IsLawful}
-use Rattle.ww_model.specs.Waits.{IsCycle, IsOneOf, IsCondemned}
+use Rattle.ww_model.specs.Waits.{IsCycle, AreContexts, IsOneOf, IsCondemned}
 use Rattle.ww_plain.specs.declared.node.Node.{Node}
 use Rattle.ww_plain.specs.declared.history.Record.{Record}
 use Rattle.ww_plain.specs.Graph.{node_at}
@@ -22,7 +22,7 @@ use Rattle.ww_table.specs.declared.seat.Seat16.{Seat16}
 use Rattle.ww_table.specs.Made.{AreNew}
 use Rattle.ww_table.specs.Closed.{HaveAllCome}
 use Rattle.ww_table.specs.Layout.{owner_at, sign_at, stamp_at, front_at}
-use Rattle.ww_table.specs.Rule.{St, Sat, first_graph, Shown, Ruled, Makes}
+use Rattle.ww_table.specs.Rule.{St, Sat, first_graph, Ruled, MakesWith, Makes}
 use Rattle.ww_table.specs.Steps.{MayDraw, MayEnd, MayPlace, taker, drawing, taking, giving, knowing, placing}
 
 -- a seat of the table that steps: where its view stands, and the seat itself
@@ -30,42 +30,41 @@ pub record Steps (s : St) (id : ℕ) (me : Sat) : Type 0 where
   pub here : get_elem? s.views id ≡ some me.0
   pub seated : me.0.seated ≡ true
 
--- the stamp word goes one up only as Begin
+-- the stamp word goes one up as Begin
 abbrev pub DrawIsBegin : Type 0
 DrawIsBegin = (key : Start) (s : St) (r : Ruled key s) (id : ℕ) (me : Sat) → Steps s id me → MayDraw me.0.part →
     let stamp : ℕ = slice_index s.words stamp_at + 1 in Makes key s r (Begin me.0.part.core.who) (stepped s stamp_at stamp id me.1 (drawing me.0 stamp) keeps)
 
--- an owner word 0 becomes that of the seat only as Fast, and the node that comes out has the fold's value
+-- outside a guard an owner word 0 becomes that of the seat as Fast, and the node that comes out has the fold's value
 abbrev pub TakeFreeIsFast : Type 0
 TakeFreeIsFast = (key : Start) (s : St) (r : Ruled key s) (id : ℕ) (me : Sat) (n : ℕ) → Steps s id me → n < length (first_graph key) → MayFast me.0.part.core → slice_index s.words (owner_at n) ≡ 0 →
     let x : Node = node_at (last_graph (first_graph key) r.log) n in Makes key s r (Fast me.0.part.core.who n) (stepped s (owner_at n) (packed (taker me.0.part.core)) id me.1 (taking me.0 n x) (takes n (Content x)))
 
--- the owner word of the seat without flags becomes 0 only as FastGive
+-- outside a guard the owner word of the seat without flags becomes 0 as FastGive
 abbrev pub GiveFreeIsFastGive : Type 0
 GiveFreeIsFastGive = (key : Start) (s : St) (r : Ruled key s) (id : ℕ) (me : Sat) (n : ℕ) (x : Node) → Steps s id me → n < length (first_graph key) → IsAway me.0.part.core → owns me.0.part.core n ≡ true →
     get_elem? me.0.held n ≡ some (Some x) → IsValid (taker me.0.part.core) → me.1 ≡ (n, Content x) ∷ rest me.1 → slice_index s.words (owner_at n) ≡ packed (taker me.0.part.core) →
     Makes key s r (FastGive me.0.part.core.who n) (stepped s (owner_at n) 0 id me.1 (giving me.0 n) gives)
 
--- the own sign word is found 0, and the context ends, only as End
+-- the own sign word is found 0, and the context ends, as End
 abbrev pub EndIsEnd : Type 0
 EndIsEnd = (key : Start) (s : St) (r : Ruled key s) (id : ℕ) (me : Sat) → Steps s id me → MayEnd me.0.part.core → slice_index s.words (sign_at me.0.part.core.who) ≡ 0 →
     let i : ℕ = sign_at me.0.part.core.who in Makes key s r (End me.0.part.core.who) (stepped s i (slice_index s.words i) id me.1 (knowing me.0 (ended me.0.part.core)) keeps)
 
--- the front word goes one up only as Commit
+-- the front word goes one up as Commit, and the commits are one more: this record, behind all others
 abbrev pub PlaceIsCommit : Type 0
 PlaceIsCommit = (key : Start) (s : St) (r : Ruled key s) (id : ℕ) (me : Sat) (done : Record) → Steps s id me → MayPlace me.0 (recorded_of done) →
-    let place : ℕ = slice_index s.words front_at in Makes key s r (Commit me.0.part.core.who) (stepped s front_at (place + 1) id me.1 (placing me.0 place done) keeps)
+    let place : ℕ = slice_index s.words front_at in MakesWith key s r (Commit me.0.part.core.who) (r.log ++ recorded_of done ∷ []) (stepped s front_at (place + 1) id me.1 (placing me.0 place done) keeps)
 
--- what a table shows: a lawful state of the core, of which every cycle of waits has a condemned member
-pub record ShowsLawful (s : St) : Type 0 where
-  pub core : State
-  pub shown : Shown core s.words
-  pub lawful : IsLawful core
-  pub condemned : (seats : List ℕ) → IsCycle core seats → (a : ℕ) × IsOneOf a seats × IsCondemned core a
+-- a lawful state of the core; every cycle of waits there has a condemned member, and each of its members a context
+pub record IsSafe (c : State) : Type 0 where
+  pub lawful : IsLawful c
+  pub condemned : (seats : List ℕ) → IsCycle c seats → (a : ℕ) × IsOneOf a seats × IsCondemned c a
+  pub contexts : (seats : List ℕ) → IsCycle c seats → AreContexts c seats
 
--- whatever the rule allows shows a lawful state
+-- the core that the rule tells of a table is one
 abbrev pub RuledIsLawful : Type 0
-RuledIsLawful = (key : Start) (s : St) → Ruled key s → ShowsLawful s
+RuledIsLawful = (key : Start) (s : St) (r : Ruled key s) → IsSafe r.core
 
 -- seats that did nothing yet can be handed in to close the table
 abbrev pub NewSeatsCanClose : Type 0

@@ -9,3 +9,4 @@ pub mod Guards
 pub mod Waiting
 pub mod Signs
 pub mod InsideLaws
+pub mod NoEvents

@@ -1,5 +1,5 @@
 -- The rule of the table: there is a reached state of the core that the words, the lists and nodes at home, and the views show.
-use Rattle.std.specs.Prelude.{ℕ, zero, suc, ◌≡◌, ◌≢◌, ◌+◌, ◌-◌, ◌^◌, ◌<◌, ◌≤◌, true, List, [], ◌∷◌, length, map, replicate, slice_index, Some, None}
+use Rattle.std.specs.Prelude.{ℕ, zero, suc, ◌≡◌, ◌≢◌, ◌+◌, ◌-◌, ◌^◌, ◌<◌, ◌≤◌, ◌⊎◌, true, List, [], ◌∷◌, length, map, replicate, slice_index, Some, None}
 use mathlib.Core.Option.{some}
 use mathlib.Core.Option as maybe
 use lib.ListN.{get_elem?}
@@ -7,6 +7,7 @@ use Rattle.atomic_table.specs.Table.{State as TableState, Me}
 use Rattle.ww_word.specs.Owner.{packed}
 use Rattle.ww_queue.specs.declared.kind.Kind.{Kind}
 use Rattle.ww_queue.specs.declared.entry.Entry.{Entry}
+use Rattle.ww_queue.specs.Queue.{StandsNot}
 use Rattle.ww_model.specs.declared.state.Holder.{Holder}
 use Rattle.ww_model.specs.declared.state.Holder.TheVariants.{Taken}
 use Rattle.ww_model.specs.declared.event.Event.{Event}
@@ -91,6 +92,24 @@ pub record Sits (key : Start) (c : State) (log : List Recorded) (at draws : ℕ 
   pub apart : (k : ℕ) (p : Part) → get_elem? v.idle k ≡ some p → p.core.who ≢ v.part.core.who
   pub differ : (k l : ℕ) (p q : Part) → get_elem? v.idle k ≡ some p → get_elem? v.idle l ≡ some q → p.core.who ≡ q.core.who → k ≡ l
 
+-- the view says something of this number
+abbrev pub Speaks : Sight → ℕ → Type 0
+Speaks v t = (v.part.core.who ≡ t) ⊎ ((k : ℕ) × (p : Part) × (get_elem? v.idle k ≡ some p) × (p.core.who ≡ t))
+
+-- the view j is that of a seat, and speaks of this number
+pub record IsThere (views : List Sight) (j t : ℕ) : Type 0 where
+  pub view : Sight
+  pub stands : get_elem? views j ≡ some view
+  pub seated : view.seated ≡ true
+  pub speaks : Speaks view t
+
+-- a number that no seat has: it has no context and no lock, and is in no guard and in no wait list
+pub record IsStranger (c : State) (t : ℕ) : Type 0 where
+  pub stamp : c.stamp t ≡ 0
+  pub bare : (n : ℕ) → c.owner n ≢ Taken t
+  pub outside : (n : ℕ) → c.guard n ≢ suc t
+  pub waits : (n : ℕ) → StandsNot (c.queue n) t
+
 pub record Ruled (key : Start) (s : St) : Type 0 where
   pub core : State
   pub log : List Recorded
@@ -101,17 +120,29 @@ pub record Ruled (key : Start) (s : St) : Type 0 where
   pub locks : core.locks ≡ 64
   pub places : core.seats ≡ 16
   pub seats_there : key.seats < 17
-  pub strangers : (t : ℕ) → key.seats ≤ t → (n : ℕ) → core.owner n ≢ Taken t
+  pub strangers : (t : ℕ) → key.seats ≤ t → IsStranger core t
   pub words : Shown core s.words
   pub homes : AtHome (last_graph (first_graph key) log) core.owner core.queue core.guard s.homes
   pub counted : Counted key core.drawn core.commits log draws
   pub seats : (j : ℕ) (v : Sight) → get_elem? s.views j ≡ some v → v.seated ≡ true → Sits key core log at draws j v
+  pub there : (t : ℕ) → t < key.seats → IsThere s.views (at t) t
 
--- the table goes from s to s' by an event of the core that it shows
-pub record Makes (key : Start) (s : St) (r : Ruled key s) (e : Event) (s' : St) : Type 0 where
+-- the table goes from s to s' by an event of the core that it shows, and these are the commits then
+pub record MakesWith (key : Start) (s : St) (r : Ruled key s) (e : Event) (log : List Recorded) (s' : St) : Type 0 where
   pub can : Possible r.core e
   pub ruled : Ruled key s'
   pub is : ruled.core ≡ after r.core e
+  pub commits : ruled.log ≡ log
+
+-- ... and the commits stay as they are
+abbrev pub Makes : (key : Start) (s : St) (r : Ruled key s) → Event → St → Type 0
+Makes key s r e s' = MakesWith key s r e r.log s'
+
+-- the table goes from s to s' without an event: the core and the commits stay as they are
+pub record Stays (key : Start) (s : St) (r : Ruled key s) (s' : St) : Type 0 where
+  pub ruled : Ruled key s'
+  pub is : ruled.core ≡ r.core
+  pub commits : ruled.log ≡ r.log
 
 -- ---- at the start
 

@@ -27,7 +27,8 @@ pub fn place_is_commit()
     ensures { PlaceIsCommit }
 {}
 
-/// Whatever the rule allows shows a lawful state of the core, of which every cycle of waits has a condemned member.
+/// The core that the rule tells of a table, with the stamps of its views and the wait lists wherever they lie, is lawful, and
+/// every cycle of waits there has a condemned member.
 pub fn ruled_is_lawful()
     ensures { RuledIsLawful }
 {}

@@ -8,6 +8,7 @@ mod close;
 mod guards;
 pub mod laws;
 pub mod laws_inside;
+pub mod laws_no_event;
 mod layout;
 mod make;
 mod place;
