@@ -5,3 +5,7 @@ pub mod Changes
 pub mod Guards
 pub mod Gives
 pub mod Waits
+pub mod Working
+pub mod Signing
+pub mod Took
+pub mod Stood

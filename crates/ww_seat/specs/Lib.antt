@@ -3,3 +3,4 @@ pub mod Calls
 pub mod Commits
 pub mod Looks
 pub mod Guards
+pub mod Work

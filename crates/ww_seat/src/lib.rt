@@ -6,7 +6,11 @@ mod context;
 mod fast;
 mod giving;
 mod guard;
+mod leaving;
 mod look;
+mod signs;
+mod standing;
+mod taking;
 mod waiting;
 mod wake;
 

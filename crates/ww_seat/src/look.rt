@@ -1,13 +1,19 @@
-ghost use Rattle.std.specs.Prelude.{◌≡◌, ◌<◌, length};
+//! One look at a lock: from just inside its guard to just outside.
+ghost use Rattle.std.specs.Prelude.{ℕ, ◌≡◌, ◌≢◌, ◌<◌, ◌⊎◌, Bool, true, false, length, Some, None, IfSome, IfNone};
 ghost use Rattle.ww_table.specs.Rule.{first_graph};
 ghost use Rattle.ww_table.specs.Seat.{IsSeated};
+ghost use Rattle.ww_seat.specs.Orderly.{IsOrderly};
 ghost use Rattle.ww_seat.specs.Looks.{IsInside, IsLook};
+ghost use Rattle.ww_seat.specs.Work.{IsWorking, IsAtWork};
 
+use crate::standing::{stand, wait};
+use crate::taking::take;
 use crate::wake::Wake;
 use std::sync::Wait;
 use ww_plain::Node;
 use ww_queue::Kind;
 use ww_table::{Board, Seat16};
+use ww_word::Owner;
 
 /// What one look came to.
 #[derive(Clone, Copy)]
@@ -20,6 +26,52 @@ pub(crate) enum Look {
     Waits,
 }
 
+/// Whether the lock is free, or handed to this seat, which doesn't own it.
+fn is_ours(seat: &Seat16, seen: Owner) -> bool
+    ensures free { result ≡ true → (seen.seat ≡ None) ⊎ (seen.seat ≡ Some seat.now.who) }
+    ensures other { result ≡ false → (t : ℕ) × (seen.seat ≡ Some t) × (t ≢ seat.now.who) }
+{
+    match seen.seat {
+        None => true,
+        Some(owner) => owner == seat.who(),
+    }
+}
+
+/// One look, up to the first compare-exchange that finds another word: then nothing.
+fn look_once(
+    seat: &mut Seat16,
+    board: &Board,
+    kind: Kind,
+    lock: u8,
+    is_later: bool,
+    stands: &mut bool,
+    wake: &mut Wake,
+) -> Option<Look>
+    requires seat { IsSeated board.now.table.shared.table_id seat.old }
+    requires kind { kind ≡ seat.old.seat.me.0.part.core.kind }
+    requires lock { lock < length (first_graph board.now.table.shared.key) }
+    requires orderly { IsOrderly (length (first_graph board.now.table.shared.key)) seat.old.seat.me }
+    requires work { IsWorking lock stands.old is_later seat.old.seat.me.0.part.core }
+    ensures seat { IsSeated board.now.table.shared.table_id seat.new }
+    ensures records { seat.new.records ≡ seat.old.records }
+    ensures look { IfSome result (λ look. IsLook (length (first_graph board.now.table.shared.key)) lock seat.old.seat.me look seat.new.seat.me) }
+    ensures tries { IfSome result (λ _. seat.new.seat.me.0.part.core.tries ≡ seat.old.seat.me.0.part.core.tries) }
+    ensures lost { IfNone result (IsAtWork (length (first_graph board.now.table.shared.key)) lock seat.old.seat.me stands.new is_later seat.new.seat.me) }
+{
+    let seen = seat.look(board, lock);
+    if is_ours(seat, seen) {
+        return match take(seat, board, kind, lock, seen, wake) {
+            Some(node) => Some(Look::Locked(node)),
+            None => None,
+        };
+    }
+    let word = stand(seat, board, lock, seen, *stands)?;
+    *stands = true;
+    wait(seat, board, kind, lock, word, is_later, wake)
+}
+
+/// One look at a lock whose guard the seat has just entered, until it is outside again. A compare-exchange that finds
+/// another word makes the seat look at the word again.
 pub(crate) fn look_at<R: Wait>(
     rt: &R,
     seat: &mut Seat16,
@@ -35,10 +87,16 @@ pub(crate) fn look_at<R: Wait>(
     requires inside { IsInside (length (first_graph board.now.table.shared.key)) lock seat.old.seat.me }
     requires later { is_later ≡ seat.old.seat.me.0.part.core.later }
     ensures seat { IsSeated board.now.table.shared.table_id seat.new }
+    ensures records { seat.new.records ≡ seat.old.records }
     ensures look { IsLook (length (first_graph board.now.table.shared.key)) lock seat.old.seat.me result seat.new.seat.me }
     ensures tries { seat.new.seat.me.0.part.core.tries ≡ seat.old.seat.me.0.part.core.tries }
-    ensures records { seat.new.records ≡ seat.old.records }
 {
-    for _ in rt.forever() {}
+    let mut stands = is_later;
+    for _ in rt.forever() {
+        match look_once(seat, board, kind, lock, is_later, &mut stands, wake) {
+            Some(look) => return look,
+            None => {}
+        }
+    }
     unreachable!()
 }

@@ -1,0 +1,203 @@
+-- Whom a seat inside a guard condemns, and whether it has to die.
+use Rattle.std.proofs.Common.{◌≡◌, ◌≢◌, ◌⊎◌, inl, inr, ⊎_elim, ℕ, zero, suc, ◌+◌, ◌<◌, ◌≤◌, Bool, true, false, true≢false, List, [], ◌∷◌, length, take, get_or, refl, sym, ap, ◌∙◌, subst, arith, Option, Some, None, IfSome, IfNone}
+use Rattle.std.specs.Option.{option_and_then}
+use Rattle.std.proofs.lemmas.Grind.{common_steps}
+use Rattle.ww_word.specs.declared.owner.Owner.{Owner}
+use Rattle.ww_word.specs.Owner.{IsValid, IsSeating}
+use Rattle.ww_queue.specs.declared.entry.Entry.{Entry}
+use Rattle.ww_queue.specs.declared.kind.Kind.{Kind}
+use Rattle.ww_queue.specs.declared.kind.Kind.TheVariants.{WoundWait, WaitDie}
+use Rattle.ww_queue.specs.Entry.{IsHolder}
+use Rattle.ww_queue.specs.Queue.{Has, Once, entry_of}
+use Rattle.ww_queue.specs.Rules.{must_die, death_of, owed_signs}
+use Rattle.ww_queue.proofs.Outcomes.{true_holder, both_true}
+use Rattle.ww_queue.proofs.Deaths.{death_why, must_die_why, wound_wait_condemns}
+use Rattle.ww_queue.proofs.Leaves.{entry_why}
+use Rattle.ww_queue.proofs.Signs.{signed_why, wounded_why}
+use Rattle.ww_model.proofs.Slots.{below_found, found_below}
+use Rattle.ww_view.specs.declared.view.View.{View}
+use Rattle.ww_view.specs.View.{owns, IsQuiet}
+use Rattle.ww_view.specs.May.{MaySign, MayDie}
+use Rattle.ww_view.specs.Made.{entry_of_view, has_read}
+use Rattle.ww_table.specs.declared.cells.Sight.{Sight}
+use Rattle.ww_table.specs.Rule.{Sat}
+use Rattle.ww_table.specs.Guards.{AreSeats}
+use Rattle.ww_table.specs.Signs.{signing, reading, finding_none}
+use Rattle.ww_table.specs.Waiting.{HasListOnTop}
+use Rattle.ww_seat.specs.Orderly.{IsOrderly}
+use Rattle.ww_seat.specs.Work.{IsTold, IsTouched, IsWorking, SeesOther, HasNoted, MayStay}
+use Rattle.ww_seat.proofs.Outside.{orderly_knowing}
+use Rattle.ww_seat.proofs.Working.{touched_read}
+
+-- ---- the signs that it owes
+
+pub take_has : {A : Type 0} (xs : List A) (i : ℕ) (d y : A) → i < length xs → Has (take (suc i) xs) y → Has (take i xs) y ⊎ (y ≡ get_or xs i d)
+take_has [] i d y low h = absurd (omega arith)
+take_has (x ∷ xs) zero d y low h = ⊎_elim (λ e. inr e) (λ none. absurd none) h
+take_has (x ∷ xs) (suc i) d y low h = ⊎_elim (λ e. inl (inl e)) (λ later. ⊎_elim (λ z. inl (inr z)) (λ z. inr z) (take_has xs i d y (omega arith) later)) h
+
+pub has_at : {A : Type 0} (xs : List A) (i : ℕ) (d : A) → i < length xs → Has xs (get_or xs i d)
+has_at [] i d low = absurd (omega arith)
+has_at (x ∷ xs) zero d low = inl refl
+has_at (x ∷ xs) (suc i) d low = inr (has_at xs i d (omega arith))
+
+seating_of : (o : Owner) (s : Option ℕ) (u : ℕ) → IsSeating o s → s ≡ Some u → u < 16
+seating_of o s u sits is = let z : IsSeating o (Some u) = subst (IsSeating o) is sits in z
+
+pub victim_small : (kind : Kind) (o : Owner) (q : List Entry) (me u k : ℕ) → IsValid o → AreSeats q → Has (owed_signs kind o q me) (u, k) → u < 16
+victim_small WoundWait o q me u k valid seats has = seating_of o o.seat u valid.seating (wounded_why o q me u k has).owns
+victim_small WaitDie o q me u k valid seats has = let w = must_die_why WaitDie o q u 0 k (signed_why o q me u k has).1 in let small = (seats w.0 w.1).0 in let same = w.2 in omega arith
+
+pub may_sign : (size n : ℕ) (owed : List (ℕ × ℕ)) (m m1 : Sat) (o : Owner) (u k : ℕ) → m.0.part.core.inside ≡ suc n → m.0.part.core.seen ≡ Some o
+    → HasNoted size owed m m1 → Has (owed_signs m.0.part.core.kind o m.0.part.core.list m.0.part.core.who) (u, k) → MaySign m1.0.part.core n u k
+may_sign size n owed m m1 o u k inside seen h has = subst (λ (z : Sight). MaySign z.part.core n u k) (sym h.view) (record { inside = inside; owes = (o, seen, has) })
+
+pub noted_none : (size : ℕ) (m m1 : Sat) → IsTouched size m m1 → m1.0 ≡ m.0 → HasNoted size [] m m1
+noted_none size m m1 t same = record { orderly = t.orderly; signed = m.0.part.core.signed; fresh = m.0.part.core.fresh; view = same; all = λ u k none. absurd none }
+
+pub noted_more : (size : ℕ) (xs ys : List (ℕ × ℕ)) (m m1 m2 : Sat) (u : ℕ) → HasNoted size xs m m1 → m2 ≡ (signing m1.0 u, m1.1)
+    → ((v k : ℕ) → Has ys (v, k) → Has xs (v, k) ⊎ (v ≡ u)) → HasNoted size ys m m2
+noted_more size xs ys m m1 m2 u h is more = record {
+  orderly = orderly_knowing size m1 m2 (signing m1.0 u).part.core h.orderly is refl refl refl;
+  signed = u ∷ h.signed;
+  fresh = false;
+  view = ap (λ (z : Sat). z.0) is ∙ ap (λ (z : Sight). signing z u) h.view;
+  all = λ v k has. ⊎_elim (λ old. inr (h.all v k old)) (λ e. inl e) (more v k has);
+}
+
+pub take_all : {A : Type 0} (xs : List A) → take (length xs) xs ≡ xs
+take_all [] = refl
+take_all (x ∷ xs) = ap (λ (l : List _). x ∷ l) (take_all xs)
+
+-- ---- whether it has to die
+
+death_is : (kind : Kind) (o : Owner) (q : List Entry) (me s : ℕ) (e : Entry) → entry_of q me ≡ Some e → must_die kind o q me s ≡ death_of kind o q s e
+death_is kind o q me s e is = ap (option_and_then (death_of kind o q s)) is
+
+pub dying_holds : (kind : Kind) (o : Owner) (v : View) (s k : ℕ) → entry_of v.list v.who ≡ Some (entry_of_view v) → must_die kind o v.list v.who s ≡ Some k → IsHolder (entry_of_view v)
+dying_holds kind o v s k entry is = (death_why kind o v.list s (entry_of_view v) k (sym (death_is kind o v.list v.who s (entry_of_view v) entry) ∙ is)).0
+
+pub owns_one : (v : View) → IsHolder (entry_of_view v) → (j : ℕ) × (owns v j ≡ true)
+owns_one v h = let f = below_found 64 (owns v) (both_true _ _ (true_holder (entry_of_view v) h)).1 in (f.0, f.2)
+
+pub holder_owns : (v : View) → 0 < v.stamp → (j : ℕ) → j < 64 → owns v j ≡ true → IsHolder (entry_of_view v)
+holder_owns v pos j low own = let e = found_below 64 (owns v) j low own in (pos, grind (arith, common_steps))
+
+pub wounded_dies : (kind : Kind) (o : Owner) (v : View) (k : ℕ) → kind ≡ WoundWait → Once v.list → entry_of v.list v.who ≡ Some (entry_of_view v) → IsHolder (entry_of_view v) → 0 < k → must_die kind o v.list v.who k ≡ Some k
+wounded_dies WoundWait o v k is once entry holder pos = (wound_wait_condemns o v.list (entry_of_view v) k k once (entry_why v.list v.who (entry_of_view v) entry).0).1 (holder, pos, refl)
+wounded_dies WaitDie o v k is once entry holder pos = absurd cc
+
+pub if_some : (o : Option ℕ) (P : ℕ → Type 0) → ((k : ℕ) → o ≡ Some k → P k) → IfSome o P
+if_some None P each = tt
+if_some (Some k) P each = each k refl
+
+pub if_none : {A : Type 0} (o : Option A) (P : Type 0) → (o ≡ None → P) → IfNone o P
+if_none None P it = it refl
+if_none (Some k) P it = tt
+
+some_none : {A : Type 0} (o : Option A) (x : A) → o ≡ Some x → o ≡ None → ⊥
+some_none o x a b = cc
+
+-- in Wait-Die it has to die, or doesn't, by the list alone
+pub told_read : (size n : ℕ) (m m1 : Sat) → IsOrderly size m → HasListOnTop m n m1 → IsTold size m m1
+told_read size n m m1 o top = let t = touched_read size n m m1 o top in record { orderly = t.orderly; sign = m.0.part.core.sign; fresh = m.0.part.core.fresh; wants = λ w. w; view = ap (λ (z : Sat). z.0) top.now }
+
+pub dies_waiting : (n : ℕ) (l : Bool) (m m1 : Sat) (o : Owner) (who k : ℕ) → IsWorking n true l m.0.part.core → SeesOther o m.0.part.core → HasListOnTop m n m1 → (kind : Kind) → kind ≡ m.0.part.core.kind → kind ≡ WaitDie
+    → m.0.part.core.who ≡ who → must_die kind o m.0.part.core.list who 0 ≡ Some k → MayDie m1.0.part.core n o k
+dies_waiting n l m m1 o who k w sees top kind same is at dies = subst (λ (z : Sat). MayDie z.0.part.core n o k) (sym top.now) (record {
+  inside = w.inside;
+  waits = w.place.0;
+  other = sees.other;
+  why = (0, inl (sym same ∙ is), subst (λ (x : Kind). must_die x o m.0.part.core.list m.0.part.core.who 0 ≡ Some k) same (subst (λ (x : ℕ). must_die kind o m.0.part.core.list x 0 ≡ Some k) (sym at) dies));
+})
+
+pub stays_waiting : (n : ℕ) (m m1 : Sat) (o : Owner) (who : ℕ) → HasListOnTop m n m1 → (kind : Kind) → kind ≡ m.0.part.core.kind → kind ≡ WaitDie
+    → m.0.part.core.who ≡ who → must_die kind o m.0.part.core.list who 0 ≡ None → MayStay o m1.0.part.core
+stays_waiting n m m1 o who top kind same is at lives = subst (λ (z : Sat). MayStay o z.0.part.core) (sym top.now) (record {
+  looked = λ wound. absurd (let e : WaitDie ≡ WoundWait = sym is ∙ same ∙ wound in cc);
+  lives = λ _. subst (λ (x : Kind). must_die x o m.0.part.core.list m.0.part.core.who 0 ≡ None) same (subst (λ (x : ℕ). must_die kind o m.0.part.core.list x 0 ≡ None) (sym at) lives);
+})
+
+-- in Wound-Wait a sign would make it die, or wouldn't
+pub holds_by : (size n : ℕ) (l : Bool) (m : Sat) (o : Owner) (who k : ℕ) → IsWorking n true l m.0.part.core → (kind : Kind) → m.0.part.core.who ≡ who → must_die kind o m.0.part.core.list who 1 ≡ Some k → IsHolder (entry_of_view m.0.part.core)
+holds_by size n l m o who k w kind at dies = dying_holds kind o m.0.part.core 1 k w.place.1 (subst (λ (x : ℕ). must_die kind o m.0.part.core.list x 1 ≡ Some k) (sym at) dies)
+
+pub stays_unsigned : (size n : ℕ) (l : Bool) (m m1 : Sat) (o : Owner) (who : ℕ) → IsOrderly size m → IsWorking n true l m.0.part.core → HasListOnTop m n m1 → (kind : Kind) → kind ≡ m.0.part.core.kind → kind ≡ WoundWait
+    → m.0.part.core.who ≡ who → must_die kind o m.0.part.core.list who 1 ≡ None → MayStay o m1.0.part.core
+stays_unsigned size n l m m1 o who ord w top kind same is at lives = let few = ord.few in subst (λ (z : Sat). MayStay o z.0.part.core) (sym top.now) (record {
+  looked = λ _ pos has. let low = (ord.nodes has.0 has.1).0 in absurd (some_none (must_die kind o m.0.part.core.list m.0.part.core.who 1) 1
+      (wounded_dies kind o m.0.part.core 1 is w.once w.place.1 (holder_owns m.0.part.core pos has.0 (omega arith) has.1) (omega arith))
+      (subst (λ (x : ℕ). must_die kind o m.0.part.core.list x 1 ≡ None) (sym at) lives));
+  lives = λ d. absurd (let e : WoundWait ≡ WaitDie = sym is ∙ same ∙ d in cc);
+})
+
+-- it holds locks in Wound-Wait, so others may sign it
+pub not_quiet : (v : View) → v.kind ≡ WoundWait → (j : ℕ) × (owns v j ≡ true) → ¬ IsQuiet v
+not_quiet v kind has quiet = ⊎_elim (λ bare. true≢false (sym has.1 ∙ bare has.0)) (λ d. absurd (let e : WoundWait ≡ WaitDie = sym kind ∙ d.0 in cc)) quiet
+
+-- it found no sign
+pub told_none : (size n : ℕ) (m m1 m2 : Sat) → IsOrderly size m → HasListOnTop m n m1 → IsHolder (entry_of_view m.0.part.core) → m2 ≡ (finding_none m1.0, m1.1) → IsTold size m m2
+told_none size n m m1 m2 o top holder is = record {
+  orderly = orderly_knowing size m1 m2 (finding_none m1.0).part.core (touched_read size n m m1 o top).orderly is refl refl refl;
+  sign = None;
+  fresh = true;
+  wants = λ _. inr (inr (inl (owns_one m.0.part.core holder)));
+  view = ap (λ (z : Sat). z.0) is ∙ ap (λ (z : Sat). finding_none z.0) top.now;
+}
+
+pub stays_none : (n : ℕ) (m m1 m2 : Sat) (o : Owner) → HasListOnTop m n m1 → m.0.part.core.kind ≡ WoundWait → m2 ≡ (finding_none m1.0, m1.1) → MayStay o m2.0.part.core
+stays_none n m m1 m2 o top kind is = subst (λ (z : Sight). MayStay o z.part.core) (sym (ap (λ (z : Sat). z.0) is ∙ ap (λ (z : Sat). finding_none z.0) top.now)) (record {
+  looked = λ _ _ _. refl;
+  lives = λ d. absurd (let e : WoundWait ≡ WaitDie = sym kind ∙ d in cc);
+})
+
+-- it found a sign
+pub told_signed : (size n k : ℕ) (m m1 m2 : Sat) → IsOrderly size m → HasListOnTop m n m1 → IsHolder (entry_of_view m.0.part.core) → m2 ≡ (reading m1.0 k, m1.1) → IsTold size m m2
+told_signed size n k m m1 m2 o top holder is = record {
+  orderly = orderly_knowing size m1 m2 (reading m1.0 k).part.core (touched_read size n m m1 o top).orderly is refl refl refl;
+  sign = Some k;
+  fresh = (has_read m.0.part.core k).fresh;
+  wants = λ _. inr (inr (inl (owns_one m.0.part.core holder)));
+  view = ap (λ (z : Sat). z.0) is ∙ ap (λ (z : Sat). reading z.0 k) top.now;
+}
+
+pub dies_signed : (n k : ℕ) (l : Bool) (m m1 m2 : Sat) (o : Owner) → IsWorking n true l m.0.part.core → SeesOther o m.0.part.core → HasListOnTop m n m1 → m.0.part.core.kind ≡ WoundWait → IsHolder (entry_of_view m.0.part.core) → k ≢ 0
+    → m2 ≡ (reading m1.0 k, m1.1) → MayDie m2.0.part.core n o k
+dies_signed n k l m m1 m2 o w sees top kind holder isnt is = subst (λ (z : Sight). MayDie z.part.core n o k) (sym (ap (λ (z : Sat). z.0) is ∙ ap (λ (z : Sat). reading z.0 k) top.now)) (record {
+  inside = w.inside;
+  waits = w.place.0;
+  other = sees.other;
+  why = (k, inr refl, wounded_dies m.0.part.core.kind o m.0.part.core k kind w.once w.place.1 holder (omega arith));
+})
+
+pub still_loud : (n : ℕ) (m m1 : Sat) → HasListOnTop m n m1 → m.0.part.core.kind ≡ WoundWait → (j : ℕ) × (owns m.0.part.core j ≡ true) → ¬ IsQuiet m1.0.part.core
+still_loud n m m1 top kind has = subst (λ (z : Sat). ¬ IsQuiet z.0.part.core) (sym top.now) (not_quiet m.0.part.core kind has)
+
+-- ---- the signs, one after another
+
+take_more : {A : Type 0} (xs : List A) (i : ℕ) (d y : A) → i < length xs → Has (take (i + 1) xs) y → Has (take i xs) y ⊎ (y ≡ get_or xs i d)
+take_more xs i d y low h = let e : i + 1 ≡ suc i = omega arith in take_has xs i d y low (subst (λ (j : ℕ). Has (take j xs) y) e h)
+
+pub noted_step : (size i : ℕ) (items : List (ℕ × ℕ)) (m m1 m2 : Sat) → i < length items → HasNoted size (take i items) m m1 → m2 ≡ (signing m1.0 (get_or items i (0, 0)).0, m1.1) → HasNoted size (take (i + 1) items) m m2
+noted_step size i items m m1 m2 low h is = noted_more size (take i items) (take (i + 1) items) m m1 m2 (get_or items i (0, 0)).0 h is
+    (λ v k has. ⊎_elim (λ old. inl old) (λ e. inr (ap (λ (p : ℕ × ℕ). p.0) e)) (take_more items i (0, 0) (v, k) low has))
+
+has_taken : {A : Type 0} (xs : List A) (i : ℕ) (y : A) → length xs ≤ i → Has xs y → Has (take i xs) y
+has_taken [] i y all h = absurd h
+has_taken (x ∷ xs) zero y all h = absurd (omega arith)
+has_taken (x ∷ xs) (suc i) y all h = ⊎_elim (λ e. inl e) (λ z. inr (has_taken xs i y (omega arith) z)) h
+
+pub owed_is : (items owed : List (ℕ × ℕ)) (kind kind2 : Kind) (o : Owner) (q : List Entry) (who who2 : ℕ) → items ≡ owed → owed ≡ owed_signs kind o q who → kind ≡ kind2 → who2 ≡ who → items ≡ owed_signs kind2 o q who2
+owed_is items owed kind kind2 o q who who2 a b c d = a ∙ b ∙ ap (λ (x : Kind). owed_signs x o q who) c ∙ ap (owed_signs kind2 o q) (sym d)
+
+pub noted_all : (size i : ℕ) (items owed : List (ℕ × ℕ)) (m m1 : Sat) → length items ≤ i → items ≡ owed → HasNoted size (take i items) m m1 → HasNoted size owed m m1
+noted_all size i items owed m m1 all is h = record {
+  orderly = h.orderly;
+  signed = h.signed;
+  fresh = h.fresh;
+  view = h.view;
+  all = λ u k has. h.all u k (has_taken items i (u, k) all (subst (λ (l : List (ℕ × ℕ)). Has l (u, k)) (sym is) has));
+}
+
+pub owed_at : (items owed : List (ℕ × ℕ)) (i : ℕ) → i < length items → items ≡ owed → Has owed ((get_or items i (0, 0)).0, (get_or items i (0, 0)).1)
+owed_at items owed i low is = subst (λ (l : List (ℕ × ℕ)). Has l (get_or items i (0, 0))) is (has_at items i (0, 0) low)

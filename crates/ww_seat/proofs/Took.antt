@@ -1,0 +1,194 @@
+-- A lock taken inside its guard.
+use Rattle.std.proofs.Common.{◌≡◌, ◌≢◌, ◌⊎◌, inl, inr, ℕ, suc, ◌+◌, ◌<◌, Bool, true, false, true≢false, List, [], ◌∷◌, length, set, get_or, slice_get, refl, sym, ap, ◌∙◌, subst, arith, Option, Some, None, length-set}
+use mathlib.Core.Option.{some}
+use mathlib.Core.Option as maybe
+use mathlib.Core.Logic.{dite}
+use native.Mathlib.Decide.{ℕ_discrete}
+use lib.ListN.{get_elem?}
+use Rattle.atomic_table.proofs.Lists.{set_here, set_else}
+use Rattle.ww_word.specs.declared.owner.Owner.{Owner}
+use Rattle.ww_word.specs.Owner.{is_handed}
+use Rattle.ww_queue.specs.declared.entry.Entry.{Entry}
+use Rattle.ww_queue.specs.declared.kind.Kind.TheVariants.{WaitDie}
+use Rattle.ww_queue.specs.Queue.{Has, left}
+use Rattle.ww_queue.specs.Rules.{must_die, owed_signs}
+use Rattle.ww_queue.proofs.Leaves.{left_has, left_gone}
+use Rattle.ww_queue.proofs.Deaths.{only_waiters_die}
+use Rattle.ww_model.specs.State.{waiting}
+use Rattle.ww_plain.specs.declared.node.Node.{Node}
+use Rattle.ww_plain.specs.Graph.{IsNodeOf, no_node}
+use Rattle.ww_view.specs.declared.view.View.{View}
+use Rattle.ww_view.specs.View.{owns}
+use Rattle.ww_view.specs.Word.{taken_word}
+use Rattle.ww_view.specs.May.{MayTake}
+use Rattle.ww_view.specs.Made.{taken}
+use Rattle.ww_table.specs.declared.cells.Cell.{Cell}
+use Rattle.ww_table.specs.declared.cells.Cell.TheVariants.{Content, Line}
+use Rattle.ww_table.specs.declared.cells.Sight.{Sight}
+use Rattle.ww_table.specs.Rule.{Sat}
+use Rattle.ww_table.specs.Seat.{AreOthers, slot_of}
+use Rattle.ww_table.specs.Steps.{knowing}
+use Rattle.ww_table.specs.Guards.{AreSeats, exiting}
+use Rattle.ww_table.specs.Waiting.{HasListOnTop, taking_inside}
+use Rattle.ww_seat.specs.Orderly.{IsOrderly}
+use Rattle.ww_seat.specs.Calls.{HasTaken}
+use Rattle.ww_seat.specs.Looks.{IsLook}
+use Rattle.ww_seat.specs.Work.{touched, IsWorking, MayGo, HasNoted, HasSigned}
+use Rattle.ww_seat.specs.declared.look.Look.TheVariants.{Locked}
+use Rattle.ww_seat.proofs.Slots.{slot_here, slot_else, others_had, others_gone, others_else, others_apart, same_cell}
+use Rattle.ww_seat.proofs.Outside.{orderly_brought}
+use Rattle.ww_seat.proofs.Guards.{owned_here, owned_else}
+
+pub may_take : (n : ℕ) (s l : Bool) (v : View) (o : Owner) → IsWorking n s l v → (o.seat ≡ None) ⊎ ((o.seat ≡ Some v.who) × (is_handed o ≡ true)) → MayTake v n o
+may_take n s l v o w free = record { inside = w.inside; base = w.want.base; signs = w.want.signs; free = free }
+
+-- what is out once the lock is taken
+pub taking_orderly : (size n : ℕ) (m : Sat) (x : Node) (others : List (ℕ × Cell)) → IsOrderly size m → n < size → m.0.part.core.inside ≡ suc n → owns m.0.part.core n ≡ false → AreOthers m.1 (64 + n) (Line m.0.part.core.list) others
+    → IsOrderly size (taking_inside m.0 n x, (64 + n, Line (left m.0.part.core.list m.0.part.core.who)) ∷ (n, Content x) ∷ others)
+taking_orderly size n m x others o low inside lacks out =
+    let few = o.few in let long = o.owned in let wide = o.held in
+    let q : List Entry = left m.0.part.core.list m.0.part.core.who in
+    let else_ : (k : ℕ) → k ≢ 64 + n → slot_of others k ≡ slot_of m.1 k = others_else m.1 (64 + n) (Line m.0.part.core.list) others o.apart out in
+    let gone : slot_of others (64 + n) ≡ None = others_gone m.1 (64 + n) (Line m.0.part.core.list) others o.apart out in
+    let far : n ≢ 64 + n = λ e. absurd (omega arith) in
+    let top : (k : ℕ) → k ≢ 64 + n → k ≢ n → slot_of ((64 + n, Line q) ∷ (n, Content x) ∷ others) k ≡ slot_of m.1 k =
+    λ k a b. slot_else (64 + n) (Line q) ((n, Content x) ∷ others) k a ∙ slot_else n (Content x) others k b ∙ else_ k a in
+    let node : slot_of ((64 + n, Line q) ∷ (n, Content x) ∷ others) n ≡ Some (Content x) = slot_else (64 + n) (Line q) ((n, Content x) ∷ others) n far ∙ slot_here n (Content x) others in
+    record {
+      few = o.few;
+      owned = length-set m.0.part.core.owned n true ∙ o.owned;
+      held = length-set m.0.held n (Some x) ∙ o.held;
+      apart = (slot_else n (Content x) others (64 + n) (λ e. far (sym e)) ∙ gone, (else_ n far ∙ o.others n (omega arith) lacks, others_apart m.1 (64 + n) (Line m.0.part.core.list) others o.apart out));
+      nodes = λ k own. dite (ℕ_discrete k n)
+          (λ is. (subst (λ (j : ℕ). j < size) (sym is) low, (x, ap (get_elem? (set m.0.held n (Some x))) is ∙ set_here m.0.held n (Some x) (omega arith), ap (slot_of ((64 + n, Line q) ∷ (n, Content x) ∷ others)) is ∙ node)))
+          (λ isnt. let z = o.nodes k (sym (owned_else m.0.part.core.owned n k true isnt) ∙ own) in let small = z.0 in
+          (z.0, (z.1.0, set_else m.0.held n k (Some x) isnt ∙ z.1.1, top k (λ e. absurd (omega arith)) isnt ∙ z.1.2)));
+      others = λ k small isnt. dite (ℕ_discrete k n)
+          (λ is. absurd (true≢false (sym (owned_here m.0.part.core.owned n true (omega arith)) ∙ sym (ap (λ (j : ℕ). get_or (set m.0.part.core.owned n true) j false) is) ∙ isnt)))
+          (λ other. top k (λ e. absurd (omega arith)) other ∙ o.others k small (sym (owned_else m.0.part.core.owned n k true other) ∙ isnt));
+      list = λ k e. let at : k ≡ n = omega arith in ap (λ (j : ℕ). slot_of ((64 + n, Line q) ∷ (n, Content x) ∷ others) (64 + j)) at ∙ slot_here (64 + n) (Line q) ((n, Content x) ∷ others);
+      lists = λ k isnt. top (64 + k) (λ e. isnt (omega arith)) (λ e. absurd (omega arith)) ∙ o.lists k isnt;
+    }
+
+-- the lock was taken, and nothing else was done
+pub record IsTaken (size n : ℕ) (m : Sat) (x : Node) (m' : Sat) : Type 0 where
+  pub orderly : IsOrderly size m'
+  pub view : m'.0 ≡ taking_inside m.0 n x
+  pub node : IsNodeOf (length m.0.held) x
+
+pub is_taken : (size n : ℕ) (m m1 : Sat) → IsOrderly size m → n < size → m.0.part.core.inside ≡ suc n → owns m.0.part.core n ≡ false
+    → (got : (x : Node) × (others : List (ℕ × Cell)) × IsNodeOf (length m.0.held) x × AreOthers m.1 (64 + n) (Line m.0.part.core.list) others × (m1 ≡ (taking_inside m.0 n x, (64 + n, Line (taken m.0.part.core n).list) ∷ (n, Content x) ∷ others)))
+    → IsTaken size n m got.0 m1
+is_taken size n m m1 o low inside lacks got = record {
+  orderly = subst (IsOrderly size) (sym got.4) (taking_orderly size n m got.0 got.1 o low inside lacks got.3);
+  view = ap (λ (z : Sat). z.0) got.4;
+  node = got.2;
+}
+
+pub taken_read : (size n : ℕ) (m m1 m2 : Sat) (x : Node) → IsTaken size n m x m1 → HasListOnTop m1 n m2 → IsTaken size n m x m2
+taken_read size n m m1 m2 x t top = record {
+  orderly = orderly_brought size m1 m2 (64 + n) (Line m1.0.part.core.list) top.others t.orderly top.apart top.now;
+  view = ap (λ (z : Sat). z.0) top.now ∙ t.view;
+  node = t.node;
+}
+
+pub left_seats : (q : List Entry) (s : ℕ) → AreSeats q → AreSeats (left q s)
+left_seats q s seats e h = seats e (left_has q s e h)
+
+-- what the signs ask of a seat that took the lock
+pub record OwesAfter (n : ℕ) (v : View) (o : Owner) (w : View) : Type 0 where
+  pub kind : w.kind ≡ v.kind
+  pub inside : w.inside ≡ suc n
+  pub seats : AreSeats w.list
+  pub seen : w.seen ≡ Some (taken_word w.who w.stamp w.list)
+
+pub owes_after : (size n : ℕ) (s l : Bool) (m m2 : Sat) (x : Node) (o : Owner) → IsWorking n s l m.0.part.core → IsTaken size n m x m2 → OwesAfter n m.0.part.core o m2.0.part.core
+owes_after size n s l m m2 x o w t = subst (λ (z : Sight). OwesAfter n m.0.part.core o z.part.core) (sym t.view)
+    (record { kind = refl; inside = w.inside; seats = left_seats m.0.part.core.list m.0.part.core.who w.seats; seen = refl })
+
+pub waiting_first : (q : List Entry) (e : Entry) → slice_get q 0 ≡ Some e → 1 ≡ waiting q
+waiting_first [] e is = absurd cc
+waiting_first (f ∷ fs) e is = refl
+
+pub waiting_none : (q : List Entry) → slice_get q 0 ≡ None → 0 ≡ waiting q
+waiting_none [] is = refl
+waiting_none (f ∷ fs) is = absurd cc
+
+pub word_is : (q : List Entry) (who stamp flags who2 stamp2 : ℕ) → who2 ≡ who → stamp2 ≡ stamp → flags ≡ waiting q → record { seat = Some who2; stamp = stamp2; flags = flags } ≡ taken_word who stamp q
+word_is q who stamp flags who2 stamp2 a b c = λ i. record { seat = Some (a i); stamp = b i; flags = c i }
+
+pub read_who : (n : ℕ) (m m1 : Sat) (w : ℕ) → HasListOnTop m n m1 → m1.0.part.core.who ≡ w → w ≡ m.0.part.core.who
+read_who n m m1 w top is = sym is ∙ ap (λ (z : Sat). z.0.part.core.who) top.now
+
+pub read_stamp : (n : ℕ) (m m1 : Sat) (w : ℕ) → HasListOnTop m n m1 → m1.0.part.core.stamp ≡ w → w ≡ m.0.part.core.stamp
+read_stamp n m m1 w top is = sym is ∙ ap (λ (z : Sat). z.0.part.core.stamp) top.now
+
+pub word_read : (n : ℕ) (m m1 : Sat) (o : Owner) → HasListOnTop m n m1 → o ≡ taken_word m.0.part.core.who m.0.part.core.stamp m.0.part.core.list → o ≡ taken_word m1.0.part.core.who m1.0.part.core.stamp m1.0.part.core.list
+word_read n m m1 o top is = is ∙ ap (λ (z : Sat). taken_word z.0.part.core.who z.0.part.core.stamp z.0.part.core.list) (sym top.now)
+
+-- ---- on the way out
+
+go_taken : (n : ℕ) (s l : Bool) (v : View) (signed : List ℕ) (fresh : Bool) → IsWorking n s l v
+    → ((u k : ℕ) → Has (owed_signs v.kind (taken_word v.who v.stamp (left v.list v.who)) (left v.list v.who) v.who) (u, k) → Has signed u)
+    → MayGo n (touched (taken v n) (taken v n).seen signed fresh)
+go_taken n s l v signed fresh w all =
+    let q : List Entry = left v.list v.who in let word : Owner = taken_word v.who v.stamp q in
+    let lives : v.kind ≡ WaitDie → must_die v.kind word q v.who 0 ≡ None = λ _. only_waiters_die v.kind word q v.who 0 (left_gone v.list v.who w.once) in
+    record {
+      inside = w.inside;
+      why = inr (record { word = word; seen = refl; signed = all; other = inl refl; lives = lives });
+      acted = refl;
+      again = λ _ at. absurd (omega arith);
+      looked = λ _ at. absurd (omega arith);
+      lives = λ d. (word, refl, lives d);
+    }
+
+pub taken_goes : (size n : ℕ) (s l : Bool) (m m2 m3 : Sat) (x : Node) (word : Owner) → IsWorking n s l m.0.part.core → IsTaken size n m x m2
+    → word ≡ taken_word m2.0.part.core.who m2.0.part.core.stamp m2.0.part.core.list → HasSigned size word m2 m3 → MayGo n m3.0.part.core
+taken_goes size n s l m m2 m3 x word w t is h =
+    subst (λ (z : Sight). MayGo n z.part.core) (sym (h.view ∙ ap (λ (z : Sight). knowing z (touched z.part.core z.part.core.seen h.signed h.fresh)) t.view))
+    (go_taken n s l m.0.part.core h.signed h.fresh w
+    (λ u k has. h.all u k (subst (λ (o : Owner). Has (owed_signs m2.0.part.core.kind o m2.0.part.core.list m2.0.part.core.who) (u, k)) (sym is)
+    (subst (λ (z : Sight). Has (owed_signs z.part.core.kind (taken_word z.part.core.who z.part.core.stamp z.part.core.list) z.part.core.list z.part.core.who) (u, k)) (sym t.view) has))))
+
+abbrev node_in : Cell → Node
+node_in (Content x) = x
+node_in (Line q) = no_node
+
+abbrev named : {A : Type 0} → A → maybe.Option (Option A) → A
+named d (some (Some x)) = x
+named d (some None) = d
+named d maybe.none = d
+
+out_view : (size n : ℕ) (m m2 m3 m4 : Sat) (x : Node) (owed : List (ℕ × ℕ)) → IsTaken size n m x m2 → (h : HasNoted size owed m2 m3) → m4.0 ≡ exiting m3.0
+    → m4.0 ≡ exiting (knowing (taking_inside m.0 n x) (touched (taken m.0.part.core n) (taken m.0.part.core n).seen h.signed h.fresh))
+out_view size n m m2 m3 m4 x owed t h out = out ∙ ap exiting (h.view ∙ ap (λ (z : Sight). knowing z (touched z.part.core z.part.core.seen h.signed h.fresh)) t.view)
+
+-- its node is out
+pub node_out : (size n : ℕ) (m m2 m3 m4 : Sat) (x : Node) (owed : List (ℕ × ℕ)) → IsOrderly size m → n < size → IsTaken size n m x m2 → HasNoted size owed m2 m3 → m4.0 ≡ exiting m3.0 → IsOrderly size m4 → (y : Node) × (slot_of m4.1 n ≡ Some (Content y))
+node_out size n m m2 m3 m4 x owed o low t h out o4 = let long = o.owned in let few = o.few in
+    let own : owns m4.0.part.core n ≡ true = ap (λ (z : Sight). owns z.part.core n) (out_view size n m m2 m3 m4 x owed t h out) ∙ owned_here m.0.part.core.owned n true (omega arith) in
+    let at = (o4.nodes n own).1 in (at.0, at.2)
+
+-- the node that is read then is the one that was taken
+pub look_taken : (size n : ℕ) (s l : Bool) (m m2 m3 m4 m5 : Sat) (x r : Node) (owed : List (ℕ × ℕ)) → IsOrderly size m → n < size → IsWorking n s l m.0.part.core → IsTaken size n m x m2 → HasNoted size owed m2 m3 → m4.0 ≡ exiting m3.0 → IsOrderly size m4
+    → (others : List (ℕ × Cell)) × AreOthers m4.1 n (Content r) others × (m5 ≡ (m4.0, (n, Content r) ∷ others)) → IsLook size n m (Locked r) m5 × (m5.0.part.core.tries ≡ m.0.part.core.tries)
+look_taken size n s l m m2 m3 m4 m5 x r owed o low w t h out o4 got =
+    let long = o.owned in let wide = o.held in let few = o.few in
+    let base : m4.0 ≡ exiting (knowing (taking_inside m.0 n x) (touched (taken m.0.part.core n) (taken m.0.part.core n).seen h.signed h.fresh)) =
+    out ∙ ap exiting (h.view ∙ ap (λ (z : Sight). knowing z (touched z.part.core z.part.core.seen h.signed h.fresh)) t.view) in
+    let o5 : IsOrderly size m5 = orderly_brought size m4 m5 n (Content r) got.0 o4 got.1 got.2 in
+    let own : owns m4.0.part.core n ≡ true = ap (λ (z : Sight). owns z.part.core n) base ∙ owned_here m.0.part.core.owned n true (omega arith) in
+    let at = (o4.nodes n own).1 in
+    let held_is : get_elem? m4.0.held n ≡ some (Some x) = ap (λ (z : Sight). get_elem? z.held n) base ∙ set_here m.0.held n (Some x) (omega arith) in
+    let one : at.0 ≡ x = ap (named no_node) (sym at.1 ∙ held_is) in
+    let two : Content at.0 ≡ Content r = same_cell (slot_of m4.1 n) (Content at.0) (Content r) at.2 (others_had m4.1 n (Content r) got.0 o4.apart got.1) in
+    let same : r ≡ x = sym (ap node_in two) ∙ one in
+    let view : m5.0 ≡ exiting (knowing (taking_inside m.0 n x) (touched (taken m.0.part.core n) (taken m.0.part.core n).seen h.signed h.fresh)) = ap (λ (z : Sat). z.0) got.2 ∙ base in
+    let took : HasTaken m n r m5 = subst (λ (y : Node). HasTaken m n y m5) (sym same) (subst (λ (z : Sight). HasTaken m n x (z, m5.1)) (sym view) (record {
+      same = record { kind = refl; who = refl; stamp = refl; own = refl; draws = refl };
+      owned = refl;
+      held = refl;
+      node = t.node;
+    })) in
+    ((o5, (ap (λ (z : Sight). z.part.core.inside) view, ap (λ (z : Sight). z.part.core.waits) view), took), ap (λ (z : Sight). z.part.core.tries) view)

@@ -1,0 +1,248 @@
+-- What the steps of a seat inside a guard keep of its work there.
+use Rattle.std.proofs.Common.{◌≡◌, ◌⊎◌, inl, inr, ⊎_elim, ℕ, zero, suc, ◌+◌, ◌<◌, Bool, true, false, true≢false, not, eqb, ne_eqb, List, ◌∷◌, length, set, get_or, refl, sym, ap, ◌∙◌, subst, arith, Option, Some}
+use Rattle.ww_word.specs.declared.owner.Owner.{Owner}
+use Rattle.ww_queue.specs.declared.kind.Kind.{Kind}
+use Rattle.ww_queue.specs.declared.kind.Kind.TheVariants.{WoundWait, WaitDie}
+use Rattle.ww_plain.specs.declared.node.Node.{Node}
+use Rattle.ww_plain.specs.Graph.{IsNodeOf}
+use Rattle.ww_view.specs.declared.view.View.{View}
+use Rattle.ww_view.specs.May.{WantsSigns, HasPaid, MayLeave, MayClear, LivesBySeen}
+use Rattle.ww_view.specs.Made.{once_outside, exited, has_looked}
+use Rattle.ww_table.specs.declared.cells.Cell.{Cell}
+use Rattle.ww_table.specs.declared.cells.Cell.TheVariants.{Line}
+use Rattle.ww_table.specs.declared.cells.Sight.{Sight}
+use Rattle.ww_table.specs.Rule.{Sat}
+use Rattle.ww_table.specs.Seat.{AreOthers}
+use Rattle.ww_table.specs.Steps.{knowing}
+use Rattle.ww_table.specs.Guards.{exiting, looking, lost}
+use Rattle.ww_table.specs.Signs.{reading, clearing}
+use Rattle.ww_table.specs.Waiting.{HasListOnTop}
+use Rattle.ww_seat.specs.Orderly.{IsOrderly}
+use Rattle.ww_seat.specs.Calls.{HoldsAsBefore, HasTaken, HasToDie}
+use Rattle.ww_seat.specs.Looks.{IsInside, IsLook}
+use Rattle.ww_seat.specs.Work.{touched, told, IsTouched, IsTold, IsPlaced, IsWorking, IsAtWork, IsCleared, MayGo, HasNoted}
+use Rattle.ww_seat.specs.declared.look.Look.{Look}
+use Rattle.ww_seat.specs.declared.look.Look.TheVariants.{Locked, Deadlk, Waits}
+use Rattle.ww_seat.proofs.Outside.{orderly_knowing, orderly_brought}
+use Rattle.ww_seat.proofs.Guards.{listed_orderly, exiting_orderly}
+
+-- ---- the same of what it holds
+
+pub holds_same : (m : Sat) → HoldsAsBefore m m
+holds_same m = record { same = record { kind = refl; who = refl; stamp = refl; own = refl; draws = refl }; owned = refl; held = refl }
+
+pub holds_then : (a b c : Sat) → HoldsAsBefore a b → HoldsAsBefore b c → HoldsAsBefore a c
+holds_then a b c x y = record {
+  same = record { kind = y.same.kind ∙ x.same.kind; who = y.same.who ∙ x.same.who; stamp = y.same.stamp ∙ x.same.stamp; own = y.same.own ∙ x.same.own; draws = y.same.draws ∙ x.same.draws };
+  owned = y.owned ∙ x.owned;
+  held = y.held ∙ x.held;
+}
+
+pub holds_touched : (m m' : Sat) (a : Option Owner) (b : List ℕ) (c : Bool) → m'.0 ≡ knowing m.0 (touched m.0.part.core a b c) → HoldsAsBefore m m'
+holds_touched m m' a b c e = subst (λ (z : Sight). HoldsAsBefore m (z, m'.1)) (sym e) (record { same = record { kind = refl; who = refl; stamp = refl; own = refl; draws = refl }; owned = refl; held = refl })
+
+pub holds_told : (m m' : Sat) (s : Option ℕ) (c : Bool) → m'.0 ≡ knowing m.0 (told m.0.part.core s c) → HoldsAsBefore m m'
+holds_told m m' s c e = subst (λ (z : Sight). HoldsAsBefore m (z, m'.1)) (sym e) (record { same = record { kind = refl; who = refl; stamp = refl; own = refl; draws = refl }; owned = refl; held = refl })
+
+-- ---- its work goes on
+
+place_touched : (stands : Bool) (n : ℕ) (v : View) (a : Option Owner) (b : List ℕ) (c : Bool) → IsPlaced stands n v → IsPlaced stands n (touched v a b c)
+place_touched true n v a b c p = p
+place_touched false n v a b c p = p
+
+pub working_touched : (n : ℕ) (stands again : Bool) (v : View) (a : Option Owner) (b : List ℕ) (c : Bool) → IsWorking n stands again v → IsWorking n stands again (touched v a b c)
+working_touched n stands again v a b c w = record {
+  want = record { lacks = w.want.lacks; base = w.want.base; signs = w.want.signs };
+  inside = w.inside;
+  seats = w.seats;
+  once = w.once;
+  place = place_touched stands n v a b c w.place;
+  later = w.later;
+  behind = w.behind;
+}
+
+place_told : (stands : Bool) (n : ℕ) (v : View) (s : Option ℕ) (c : Bool) → IsPlaced stands n v → IsPlaced stands n (told v s c)
+place_told true n v s c p = p
+place_told false n v s c p = p
+
+pub working_told : (n : ℕ) (stands again : Bool) (v : View) (s : Option ℕ) (c : Bool) → IsWorking n stands again v → WantsSigns (told v s c) → IsWorking n stands again (told v s c)
+working_told n stands again v s c w wants = record {
+  want = record { lacks = w.want.lacks; base = w.want.base; signs = wants };
+  inside = w.inside;
+  seats = w.seats;
+  once = w.once;
+  place = place_told stands n v s c w.place;
+  later = w.later;
+  behind = w.behind;
+}
+
+pub work_same : (size n : ℕ) (stands again : Bool) (m : Sat) → IsOrderly size m → IsWorking n stands again m.0.part.core → IsAtWork size n m stands again m
+work_same size n stands again m o w = record { orderly = o; working = w; holds = holds_same m; tries = refl }
+
+pub work_then : (size n : ℕ) (before : Sat) (s1 s2 again : Bool) (m m' : Sat) → IsAtWork size n before s1 again m → IsAtWork size n m s2 again m' → IsAtWork size n before s2 again m'
+work_then size n before s1 s2 again m m' x y = record { orderly = y.orderly; working = y.working; holds = holds_then before m m' x.holds y.holds; tries = y.tries ∙ x.tries }
+
+pub work_touched : (size n : ℕ) (before : Sat) (stands again : Bool) (m m' : Sat) → IsAtWork size n before stands again m → IsTouched size m m' → IsAtWork size n before stands again m'
+work_touched size n before stands again m m' w t = record {
+  orderly = t.orderly;
+  working = subst (λ (z : Sight). IsWorking n stands again z.part.core) (sym t.view) (working_touched n stands again m.0.part.core t.seen t.signed t.fresh w.working);
+  holds = holds_then before m m' w.holds (holds_touched m m' t.seen t.signed t.fresh t.view);
+  tries = ap (λ (z : Sight). z.part.core.tries) t.view ∙ w.tries;
+}
+
+pub work_told : (size n : ℕ) (before : Sat) (stands again : Bool) (m m' : Sat) → IsAtWork size n before stands again m → IsTold size m m' → IsAtWork size n before stands again m'
+work_told size n before stands again m m' w t = record {
+  orderly = t.orderly;
+  working = subst (λ (z : Sight). IsWorking n stands again z.part.core) (sym t.view) (working_told n stands again m.0.part.core t.sign t.fresh w.working (t.wants w.working.want.signs));
+  holds = holds_then before m m' w.holds (holds_told m m' t.sign t.fresh t.view);
+  tries = ap (λ (z : Sight). z.part.core.tries) t.view ∙ w.tries;
+}
+
+-- ---- single steps
+
+-- nothing at all
+pub touched_same : (size : ℕ) (m : Sat) → IsOrderly size m → IsTouched size m m
+touched_same size m o = record { orderly = o; seen = m.0.part.core.seen; signed = m.0.part.core.signed; fresh = m.0.part.core.fresh; view = refl }
+
+-- a look
+pub touched_looking : (size : ℕ) (m m' : Sat) (o : Owner) → IsOrderly size m → m' ≡ (looking m.0 o, m.1) → IsTouched size m m'
+touched_looking size m m' o was is = record {
+  orderly = orderly_knowing size m m' (has_looked m.0.part.core o) was is refl refl refl;
+  seen = Some o;
+  signed = m.0.part.core.signed;
+  fresh = false;
+  view = ap (λ (z : Sat). z.0) is;
+}
+
+-- a step that was lost
+pub touched_lost : (size : ℕ) (m m' : Sat) → IsOrderly size m → m' ≡ (lost m.0, m.1) → IsTouched size m m'
+touched_lost size m m' was is = record {
+  orderly = orderly_knowing size m m' (lost m.0).part.core was is refl refl refl;
+  seen = m.0.part.core.seen;
+  signed = m.0.part.core.signed;
+  fresh = false;
+  view = ap (λ (z : Sat). z.0) is;
+}
+
+-- ... with the list brought to the front before
+pub touched_lost_on_top : (size n : ℕ) (m m' : Sat) → IsOrderly size m → m.0.part.core.inside ≡ suc n
+    → (others : List (ℕ × Cell)) × AreOthers m.1 (64 + n) (Line m.0.part.core.list) others × (m' ≡ (lost m.0, (64 + n, Line m.0.part.core.list) ∷ others)) → IsTouched size m m'
+touched_lost_on_top size n m m' was inside got = record {
+  orderly = subst (IsOrderly size) (sym got.2) (listed_orderly size m n (lost m.0) got.0 was inside got.1 refl refl refl);
+  seen = m.0.part.core.seen;
+  signed = m.0.part.core.signed;
+  fresh = false;
+  view = ap (λ (z : Sat). z.0) got.2;
+}
+
+-- the list was read
+pub touched_read : (size n : ℕ) (m m' : Sat) → IsOrderly size m → HasListOnTop m n m' → IsTouched size m m'
+touched_read size n m m' was top = record {
+  orderly = orderly_brought size m m' (64 + n) (Line m.0.part.core.list) top.others was top.apart top.now;
+  seen = m.0.part.core.seen;
+  signed = m.0.part.core.signed;
+  fresh = m.0.part.core.fresh;
+  view = ap (λ (z : Sat). z.0) top.now;
+}
+
+pub touched_then : (size : ℕ) (a b c : Sat) → IsTouched size a b → IsTouched size b c → IsTouched size a c
+touched_then size a b c x y = record {
+  orderly = y.orderly;
+  seen = y.seen;
+  signed = y.signed;
+  fresh = y.fresh;
+  view = y.view ∙ ap (λ (z : Sight). knowing z (touched z.part.core y.seen y.signed y.fresh)) x.view;
+}
+
+pub noted_touched : (size : ℕ) (owed : List (ℕ × ℕ)) (m m' : Sat) → HasNoted size owed m m' → IsTouched size m m'
+noted_touched size owed m m' h = record { orderly = h.orderly; seen = m.0.part.core.seen; signed = h.signed; fresh = h.fresh; view = h.view }
+
+-- ---- out of the guard
+
+pub may_clear : (m m1 : Sat) (k : ℕ) → m1 ≡ (reading m.0 k, m.1) → 0 < m.0.part.core.stamp → m.0.part.core.kind ≡ WaitDie → (n : ℕ) × (m.0.part.core.inside ≡ suc n) → LivesBySeen m.0.part.core → MayClear m1.0.part.core
+may_clear m m1 k is pos kind at lives = subst (λ (z : Sat). MayClear z.0.part.core) (sym is) (record { context = pos; why = inr (kind, at, lives) })
+
+pub cleared_same : (m : Sat) → (m.0.part.core.kind ≡ WaitDie → m.0.part.core.stamp ≡ 0) → IsCleared m m
+cleared_same m none = record { sign = m.0.part.core.sign; fresh = m.0.part.core.fresh; now = refl; same = λ _. (refl, refl); unsigned = λ d. inl (none d) }
+
+pub cleared_zero : (m m1 : Sat) → m.0.part.core.kind ≡ WaitDie → m1 ≡ (reading m.0 0, m.1) → IsCleared m m1
+cleared_zero m m1 kind is = record { sign = Some 0; fresh = true; now = is; same = λ w. absurd (cc); unsigned = λ _. inr refl }
+
+pub cleared_now : (m m1 m2 : Sat) (k : ℕ) → m.0.part.core.kind ≡ WaitDie → m1 ≡ (reading m.0 k, m.1) → m2 ≡ (clearing m1.0, m1.1) → IsCleared m m2
+cleared_now m m1 m2 k kind is then = record { sign = Some 0; fresh = false; now = then ∙ ap (λ (z : Sat). (clearing z.0, z.1)) is; same = λ w. absurd (cc); unsigned = λ _. inr refl }
+
+paid_told : (v : View) (s : Option ℕ) (c : Bool) → HasPaid v → HasPaid (told v s c)
+paid_told v s c p = record { word = p.word; seen = p.seen; signed = p.signed; other = p.other; lives = p.lives }
+
+pub may_leave : (n : ℕ) (m m1 : Sat) → IsCleared m m1 → MayGo n m.0.part.core → MayLeave m1.0.part.core n
+may_leave n m m1 c g = subst (λ (z : Sat). MayLeave z.0.part.core n) (sym c.now) (record {
+  exit = record {
+    inside = g.inside;
+    why = ⊎_elim (λ z. inl z) (λ p. inr (paid_told m.0.part.core c.sign c.fresh p)) g.why;
+    unsigned = λ d. ⊎_elim (λ z. inl z) (λ z. inr (inl z)) (c.unsigned d);
+  };
+  acted = g.acted;
+  again = g.again;
+  looked = λ w at pos has. (c.same w).1 ∙ g.looked w at pos has;
+})
+
+outside_same : (kind : Kind) (s t : Option ℕ) → (kind ≡ WoundWait → s ≡ t) → once_outside kind s ≡ once_outside kind t
+outside_same WoundWait s t same = same refl
+outside_same WaitDie s t same = refl
+
+pub left_view : (m m1 m2 : Sat) → IsCleared m m1 → m2.0 ≡ exiting m1.0 → m2.0 ≡ exiting m.0
+left_view m m1 m2 c is = is ∙ ap (λ (z : Sat). exiting z.0) c.now
+    ∙ ap (λ (x : Option ℕ). knowing m.0 (record (exited m.0.part.core) { sign = x })) (outside_same m.0.part.core.kind c.sign m.0.part.core.sign (λ w. (c.same w).0))
+
+pub cleared_orderly : (size : ℕ) (m m1 : Sat) → IsOrderly size m → IsCleared m m1 → IsOrderly size m1
+cleared_orderly size m m1 o c = orderly_knowing size m m1 (told m.0.part.core c.sign c.fresh) o c.now refl refl refl
+
+pub cleared_inside : (n : ℕ) (m m1 : Sat) → IsCleared m m1 → m.0.part.core.inside ≡ suc n → m1.0.part.core.inside ≡ suc n
+cleared_inside n m m1 c inside = ap (λ (z : Sat). z.0.part.core.inside) c.now ∙ inside
+
+pub left_orderly : (size n : ℕ) (m m1 m2 : Sat) → IsOrderly size m → IsCleared m m1 → m.0.part.core.inside ≡ suc n → m2.0 ≡ exiting m1.0 → AreOthers m1.1 (64 + n) (Line m1.0.part.core.list) m2.1 → IsOrderly size m2
+left_orderly size n m m1 m2 o c inside view home = exiting_orderly size m1 m2 n (cleared_orderly size m m1 o c) (cleared_inside n m m1 c inside) view home
+
+-- ---- what a look came to, from before
+
+taken_from : (before m m' : Sat) (n : ℕ) (x : Node) → HoldsAsBefore before m → HasTaken m n x m' → HasTaken before n x m'
+taken_from before m m' n x h t = record {
+  same = record { kind = t.same.kind ∙ h.same.kind; who = t.same.who ∙ h.same.who; stamp = t.same.stamp ∙ h.same.stamp; own = t.same.own ∙ h.same.own; draws = t.same.draws ∙ h.same.draws };
+  owned = t.owned ∙ ap (λ (xs : List Bool). set xs n true) h.owned;
+  held = t.held ∙ ap (λ (xs : List (Option Node)). set xs n (Some x)) h.held;
+  node = subst (λ (xs : List (Option Node)). IsNodeOf (length xs) x) h.held t.node;
+}
+
+dies_from : (before m m' : Sat) (n k : ℕ) → HoldsAsBefore before m → HasToDie m n k m' → HasToDie before n k m'
+dies_from before m m' n k h d = record {
+  holds = holds_then before m m' h d.holds;
+  one = (d.one.0, subst (λ (xs : List Bool). get_or xs d.one.0 false ≡ true) h.owned d.one.1);
+  older = subst (λ (s : ℕ). k < s) h.same.stamp d.older;
+  met = d.met;
+}
+
+pub look_from : (size n : ℕ) (before m : Sat) (look : Look) (m' : Sat) → HoldsAsBefore before m → IsLook size n m look m' → IsLook size n before look m'
+look_from size n before m (Locked x) m' h l = (l.0, l.1, taken_from before m m' n x h l.2)
+look_from size n before m (Deadlk k) m' h l = (l.0, l.1, dies_from before m m' n k h l.2)
+look_from size n before m Waits m' h l = (l.0, l.1, holds_then before m m' h l.2)
+
+-- ---- just inside
+
+place_inside : (again : Bool) (n w : ℕ) → again ≡ not (eqb w 0) → (w ≡ 0) ⊎ (w ≡ suc n) → (again ≡ true → w ≡ suc n) × (again ≡ false → w ≡ 0)
+place_inside again n zero is at = (λ t. absurd (true≢false (sym t ∙ is)), λ _. refl)
+place_inside again n (suc w) is at = (λ _. ⊎_elim (λ z. absurd (omega arith)) (λ z. z) at, λ f. absurd (true≢false (sym (ap not (ne_eqb (suc w) 0 (λ e. absurd (omega arith)))) ∙ sym is ∙ f)))
+
+placed : (again : Bool) (n : ℕ) (v : View) → (again ≡ true → IsPlaced true n v) → (again ≡ false → IsPlaced false n v) → IsPlaced again n v
+placed true n v = λ yes no. yes refl
+placed false n v = λ yes no. no refl
+
+pub work_inside : (size n : ℕ) (again : Bool) (m : Sat) → IsInside size n m → again ≡ m.0.part.core.later → IsAtWork size n m again again m
+work_inside size n again m i is = let p = place_inside again n m.0.part.core.waits (is ∙ i.later) i.place in work_same size n again again m i.orderly (record {
+  want = i.want;
+  inside = i.inside;
+  seats = i.seats;
+  once = i.once;
+  place = placed again n m.0.part.core (λ t. let w = p.0 t in (w, i.entry w, i.acted ∙ sym i.later ∙ sym is ∙ t)) (λ f. let w = p.1 f in (w, i.absent w));
+  later = sym is;
+  behind = λ t. t;
+})

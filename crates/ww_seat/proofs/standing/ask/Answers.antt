@@ -1,0 +1,39 @@
+use Rattle.std.proofs.Common.{sym, ◌∙◌}
+use Rattle.ww_seat.proofs.Working.{touched_same, touched_read, touched_lost, touched_then}
+use Rattle.ww_seat.proofs.Took.{read_who}
+use Rattle.ww_seat.proofs.Stood.{later_work, nothing_by_other, sees_read, may_ask, has_asked, touched_asking}
+use Rattle.ww_seat.proofs.standing.ask.Goals as goal
+
+pub returns-then-not-is_later-clause-touched : goal.returns-then-not-is_later-clause-touched
+returns-then-not-is_later-clause-touched c = touched_same _ c.args.seat.now.seat.me c.requires.orderly
+
+pub returns-then-seen-ne-WAITERS-clause-touched : goal.returns-then-seen-ne-WAITERS-clause-touched
+returns-then-seen-ne-WAITERS-clause-touched c = touched_same _ c.args.seat.now.seat.me c.requires.orderly
+
+pub returns-in_err-first-clause-touched : goal.returns-in_err-first-clause-touched
+returns-in_err-first-clause-touched c = touched_read _ c.args.lock c.args.seat.now.seat.me _ c.requires.orderly c.first.ensures.read
+
+pub returns-then-first-who-clause-touched : goal.returns-then-first-who-clause-touched
+returns-then-first-who-clause-touched c = touched_read _ c.args.lock c.args.seat.now.seat.me _ c.requires.orderly c.first.ensures.read
+
+pub returns-then-first-who-clause-asked : goal.returns-then-first-who-clause-asked
+returns-then-first-who-clause-asked c = let m = c.args.seat.now.seat.me in record {
+  sees = sees_read c.args.lock m c.first.new.self.seat.me c.args.seen c.requires.seen c.first.ensures.read;
+  asked = λ _. nothing_by_other c.args.lock m c.first.new.self.seat.me c.args.seen c.in_ok-first.first _ c.requires.seen c.first.ensures.read (sym c.first.ensures.first ∙ c.in_ok-first.was) (sym (read_who c.args.lock m c.first.new.self.seat.me _ c.first.ensures.read c.first.ensures.seat.who)) (λ same. c.if-first-who.true (same ∙ sym c.who.ensures));
+}
+
+pub ask-requires-clause-may : goal.ask-requires-clause-may
+ask-requires-clause-may c = let m = c.args.seat.now.seat.me in
+    may_ask c.args.lock m c.first.new.self.seat.me c.args.seen c.in_ok-first.first _ (later_work c.args.lock c.args.is_later m.0.part.core c.if-not-is_later.false c.requires.work) c.requires.seen c.first.ensures.read (sym c.first.ensures.first ∙ c.in_ok-first.was)
+    (sym (read_who c.args.lock m c.first.new.self.seat.me _ c.first.ensures.read c.first.ensures.seat.who)) (c.if-first-who.false ∙ c.who.ensures) c.if-seen-ne-WAITERS.false
+
+pub returns-then-not-ask-clause-touched : goal.returns-then-not-ask-clause-touched
+returns-then-not-ask-clause-touched c = let m = c.args.seat.now.seat.me in let m1 = c.first.new.self.seat.me in
+    let t = touched_read _ c.args.lock m m1 c.requires.orderly c.first.ensures.read in touched_then _ m m1 c.ask.new.self.seat.me t (touched_lost _ m1 c.ask.new.self.seat.me t.orderly (c.ask.ensures.lost c.if-not-ask.true))
+
+pub returns-clause-touched : goal.returns-clause-touched
+returns-clause-touched c = let m = c.args.seat.now.seat.me in let m1 = c.first.new.self.seat.me in
+    let t = touched_read _ c.args.lock m m1 c.requires.orderly c.first.ensures.read in touched_then _ m m1 c.ask.new.self.seat.me t (touched_asking _ m1 c.ask.new.self.seat.me c.args.seen t.orderly (c.ask.ensures.asked c.if-not-ask.false))
+
+pub returns-clause-asked : goal.returns-clause-asked
+returns-clause-asked c = has_asked c.args.lock c.args.seat.now.seat.me c.first.new.self.seat.me c.ask.new.self.seat.me c.args.seen c.args.is_later c.requires.seen c.first.ensures.read (c.ask.ensures.asked c.if-not-ask.false)

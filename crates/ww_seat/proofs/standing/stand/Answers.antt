@@ -1,0 +1,25 @@
+use Rattle.std.proofs.Common.{sym, subst, Bool, ℕ, ◌<◌, ◌^◌}
+use Rattle.ww_seat.specs.Work.{IsWorking}
+use Rattle.ww_seat.proofs.Outside.{holds_inside}
+use Rattle.ww_seat.proofs.Working.{touched_lost}
+use Rattle.ww_seat.proofs.Stood.{may_join, has_stood, stood_already}
+use Rattle.ww_seat.proofs.standing.stand.Goals as goal
+
+pub returns-then-stands-clause-stands : goal.returns-then-stands-clause-stands
+returns-then-stands-clause-stands c = stood_already _ c.args.lock c.args.seat.now.seat.me c.args.seen c.args.stands c.requires.orderly c.if-stands.true c.requires.seen
+
+pub join-requires-clause-may : goal.join-requires-clause-may
+join-requires-clause-may c = may_join c.args.lock c.requires.work.0 c.args.seat.now.seat.me.0.part.core c.args.seen (subst (λ (b : Bool). IsWorking c.args.lock b c.requires.work.0 c.args.seat.now.seat.me.0.part.core) c.if-stands.false c.requires.work.1) c.requires.seen
+
+pub join-requires-clause-list : goal.join-requires-clause-list
+join-requires-clause-list c = c.requires.orderly.list c.args.lock c.requires.work.1.inside
+
+pub join-requires-clause-nodes : goal.join-requires-clause-nodes
+join-requires-clause-nodes c = holds_inside _ c.args.seat.now.seat.me c.args.lock c.requires.orderly c.requires.work.1.inside
+
+pub returns-then-not-join-clause-lost : goal.returns-then-not-join-clause-lost
+returns-then-not-join-clause-lost c = touched_lost _ c.args.seat.now.seat.me _ c.requires.orderly (c.join.ensures.lost c.if-not-join.true)
+
+pub returns-clause-stands : goal.returns-clause-stands
+returns-clause-stands c = has_stood _ c.args.lock c.args.seat.now.seat.me c.join.new.self.seat.me c.args.seen c.with_waiters.result c.args.stands c.requires.orderly c.if-stands.false c.requires.work.1.inside
+    (subst (λ (x : ℕ). x < 16) (sym c.requires.seat.who) c.requires.seat.few) (subst (λ (x : ℕ). x < 2 ^ 56) (sym c.requires.seat.stamp) c.requires.seat.small) c.requires.seen (c.join.ensures.joined c.if-not-join.false) c.with_waiters.ensures.same (c.with_waiters.ensures.valid c.requires.seen.valid)

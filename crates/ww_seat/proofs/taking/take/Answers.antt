@@ -1,0 +1,70 @@
+use Rattle.std.proofs.Common.{sym, ap, ◌∙◌, Some, length}
+use Rattle.ww_table.specs.Rule.{first_graph}
+use Rattle.ww_table.specs.declared.cells.Sight.{Sight}
+use Rattle.ww_seat.proofs.Outside.{room_inside}
+use Rattle.ww_seat.proofs.Working.{touched_lost_on_top}
+use Rattle.ww_seat.proofs.Took.{may_take, is_taken, taken_read, owes_after, taken_goes, look_taken, node_out, word_read}
+use Rattle.ww_seat.proofs.taking.take.Goals as goal
+
+pub take-requires-clause-may : goal.take-requires-clause-may
+take-requires-clause-may c = may_take c.args.lock c.requires.work.0 c.requires.work.1 c.args.seat.now.seat.me.0.part.core c.args.seen c.requires.work.2 c.requires.free
+
+pub take-requires-clause-list : goal.take-requires-clause-list
+take-requires-clause-list c = c.requires.orderly.list c.args.lock c.requires.work.2.inside
+
+pub take-requires-clause-room : goal.take-requires-clause-room
+take-requires-clause-room c = room_inside _ c.args.seat.now.seat.me c.args.lock c.requires.orderly c.requires.lock c.requires.work.2.inside c.requires.work.2.want.lacks
+
+pub returns-then-not-take-clause-lost : goal.returns-then-not-take-clause-lost
+returns-then-not-take-clause-lost c = touched_lost_on_top _ c.args.lock c.args.seat.now.seat.me c.take.new.self.seat.me c.requires.orderly c.requires.work.2.inside (c.take.ensures.lost c.if-not-take.true)
+
+pub own_word-word-requires-clause-list : goal.own_word-word-requires-clause-list
+own_word-word-requires-clause-list c = let w = c.requires.work.2 in let size = length (first_graph c.args.board.now.table.shared.key) in
+    let t = is_taken size c.args.lock c.args.seat.now.seat.me c.take.new.self.seat.me c.requires.orderly c.requires.lock w.inside w.want.lacks (c.take.ensures.took c.if-not-take.false) in
+    t.orderly.list c.args.lock (owes_after size c.args.lock c.requires.work.0 c.requires.work.1 c.args.seat.now.seat.me c.take.new.self.seat.me _ c.args.seen w t).inside
+
+pub sign_all-requires : goal.sign_all-requires
+sign_all-requires c = let w = c.requires.work.2 in let size = length (first_graph c.args.board.now.table.shared.key) in let m = c.args.seat.now.seat.me in let m1 = c.take.new.self.seat.me in let m2 = c.own_word-word.new.seat.seat.me in
+    let t1 = is_taken size c.args.lock m m1 c.requires.orderly c.requires.lock w.inside w.want.lacks (c.take.ensures.took c.if-not-take.false) in
+    let t2 = taken_read size c.args.lock m m1 m2 _ t1 c.own_word-word.ensures.read in
+    let owes = owes_after size c.args.lock c.requires.work.0 c.requires.work.1 m m2 _ c.args.seen w t2 in record {
+      seat = c.own_word-word.ensures.seat;
+      kind = c.requires.kind ∙ sym owes.kind;
+      lock = c.requires.lock;
+      orderly = t2.orderly;
+      inside = owes.inside;
+      seats = owes.seats;
+      valid = c.own_word-word.ensures.valid;
+      seen = owes.seen ∙ ap Some (sym (word_read c.args.lock m1 m2 _ c.own_word-word.ensures.read c.own_word-word.ensures.word));
+    }
+
+pub leave-requires : goal.leave-requires
+leave-requires c = let w = c.requires.work.2 in let size = length (first_graph c.args.board.now.table.shared.key) in let m = c.args.seat.now.seat.me in let m1 = c.take.new.self.seat.me in let m2 = c.own_word-word.new.seat.seat.me in
+    let t1 = is_taken size c.args.lock m m1 c.requires.orderly c.requires.lock w.inside w.want.lacks (c.take.ensures.took c.if-not-take.false) in
+    let t2 = taken_read size c.args.lock m m1 m2 _ t1 c.own_word-word.ensures.read in
+    let owes = owes_after size c.args.lock c.requires.work.0 c.requires.work.1 m m2 _ c.args.seen w t2 in
+    let h = c.sign_all.ensures.signed in record {
+      seat = c.sign_all.ensures.seat;
+      kind = c.requires.kind ∙ sym owes.kind ∙ sym (ap (λ (z : Sight). z.part.core.kind) h.view);
+      lock = c.requires.lock;
+      orderly = h.orderly;
+      may = taken_goes size c.args.lock c.requires.work.0 c.requires.work.1 m m2 c.sign_all.new.seat.seat.me _ c.own_word-word.result w t2 (word_read c.args.lock m1 m2 _ c.own_word-word.ensures.read c.own_word-word.ensures.word) h;
+    }
+
+pub node-requires-clause-out : goal.node-requires-clause-out
+node-requires-clause-out c = let w = c.requires.work.2 in let size = length (first_graph c.args.board.now.table.shared.key) in let m = c.args.seat.now.seat.me in let m1 = c.take.new.self.seat.me in let m2 = c.own_word-word.new.seat.seat.me in
+    let t1 = is_taken size c.args.lock m m1 c.requires.orderly c.requires.lock w.inside w.want.lacks (c.take.ensures.took c.if-not-take.false) in
+    let t2 = taken_read size c.args.lock m m1 m2 _ t1 c.own_word-word.ensures.read in
+    node_out size c.args.lock m m2 c.sign_all.new.seat.seat.me c.leave.new.seat.seat.me _ _ c.requires.orderly c.requires.lock t2 c.sign_all.ensures.signed c.leave.ensures.view c.leave.ensures.orderly
+
+pub returns-clause-took : goal.returns-clause-took
+returns-clause-took c = let w = c.requires.work.2 in let size = length (first_graph c.args.board.now.table.shared.key) in let m = c.args.seat.now.seat.me in let m1 = c.take.new.self.seat.me in let m2 = c.own_word-word.new.seat.seat.me in
+    let t1 = is_taken size c.args.lock m m1 c.requires.orderly c.requires.lock w.inside w.want.lacks (c.take.ensures.took c.if-not-take.false) in
+    let t2 = taken_read size c.args.lock m m1 m2 _ t1 c.own_word-word.ensures.read in
+    (look_taken size c.args.lock c.requires.work.0 c.requires.work.1 m m2 c.sign_all.new.seat.seat.me c.leave.new.seat.seat.me c.node.new.self.seat.me _ _ _ c.requires.orderly c.requires.lock w t2 c.sign_all.ensures.signed c.leave.ensures.view c.leave.ensures.orderly c.node.ensures.read).0
+
+pub returns-clause-tries : goal.returns-clause-tries
+returns-clause-tries c = let w = c.requires.work.2 in let size = length (first_graph c.args.board.now.table.shared.key) in let m = c.args.seat.now.seat.me in let m1 = c.take.new.self.seat.me in let m2 = c.own_word-word.new.seat.seat.me in
+    let t1 = is_taken size c.args.lock m m1 c.requires.orderly c.requires.lock w.inside w.want.lacks (c.take.ensures.took c.if-not-take.false) in
+    let t2 = taken_read size c.args.lock m m1 m2 _ t1 c.own_word-word.ensures.read in
+    (look_taken size c.args.lock c.requires.work.0 c.requires.work.1 m m2 c.sign_all.new.seat.seat.me c.leave.new.seat.seat.me c.node.new.self.seat.me _ _ _ c.requires.orderly c.requires.lock w t2 c.sign_all.ensures.signed c.leave.ensures.view c.leave.ensures.orderly c.node.ensures.read).1

@@ -1,0 +1,121 @@
+-- A seat at work inside the guard of a lock that it wants.
+use Rattle.std.specs.Prelude.{ℕ, suc, ◌≡◌, ◌<◌, ◌⊎◌, Bool, true, false, List, Option, Some, None}
+use Rattle.ww_word.specs.declared.owner.Owner.{Owner}
+use Rattle.ww_word.specs.Owner.{IsValid}
+use Rattle.ww_queue.specs.declared.kind.Kind.TheVariants.{WoundWait, WaitDie}
+use Rattle.ww_queue.specs.Queue.{Has, Once, StandsNot, entry_of}
+use Rattle.ww_queue.specs.Rules.{must_die, owed_signs}
+use Rattle.ww_view.specs.declared.view.View.{View}
+use Rattle.ww_view.specs.Word.{TellsOther}
+use Rattle.ww_view.specs.View.{owns}
+use Rattle.ww_view.specs.May.{WantsSigns, LivesBySeen, HasPaid, NothingToAsk}
+use Rattle.ww_view.specs.Made.{entry_of_view}
+use Rattle.ww_table.specs.Rule.{Sat}
+use Rattle.ww_table.specs.Steps.{knowing}
+use Rattle.ww_table.specs.Guards.{AreSeats}
+use Rattle.ww_seat.specs.Orderly.{IsOrderly}
+use Rattle.ww_seat.specs.Calls.{HoldsAsBefore}
+use Rattle.ww_seat.specs.Looks.{MayWant}
+
+-- ---- what may change on the way
+
+-- the owner word that it saw last, and whom it found or made signed
+abbrev pub touched : View → Option Owner → List ℕ → Bool → View
+touched v seen signed fresh = record v { seen = seen; signed = signed; fresh = fresh }
+
+-- what it knows of its own sign
+abbrev pub told : View → Option ℕ → Bool → View
+told v sign fresh = record v { sign = sign; fresh = fresh }
+
+pub record IsTouched (size : ℕ) (m m' : Sat) : Type 0 where
+  pub orderly : IsOrderly size m'
+  pub seen : Option Owner
+  pub signed : List ℕ
+  pub fresh : Bool
+  pub view : m'.0 ≡ knowing m.0 (touched m.0.part.core seen signed fresh)
+
+pub record IsTold (size : ℕ) (m m' : Sat) : Type 0 where
+  pub orderly : IsOrderly size m'
+  pub sign : Option ℕ
+  pub fresh : Bool
+  pub wants : WantsSigns m.0.part.core → WantsSigns (told m.0.part.core sign fresh)
+  pub view : m'.0 ≡ knowing m.0 (told m.0.part.core sign fresh)
+
+-- ---- where it stands
+
+-- in the wait list of the lock as one that holds what it holds, or not there
+abbrev pub IsPlaced : Bool → ℕ → View → Type 0
+IsPlaced true n v = (v.waits ≡ suc n) × (entry_of v.list v.who ≡ Some (entry_of_view v)) × (v.acted ≡ true)
+IsPlaced false n v = (v.waits ≡ 0) × StandsNot v.list v.who
+
+-- inside the guard, of a lock that it wants; whoever looks again stands there already
+pub record IsWorking (n : ℕ) (stands again : Bool) (v : View) : Type 0 where
+  pub want : MayWant n v
+  pub inside : v.inside ≡ suc n
+  pub seats : AreSeats v.list
+  pub once : Once v.list
+  pub place : IsPlaced stands n v
+  pub later : v.later ≡ again
+  pub behind : again ≡ true → stands ≡ true
+
+-- ... and it holds what it held before
+pub record IsAtWork (size n : ℕ) (before : Sat) (stands again : Bool) (m : Sat) : Type 0 where
+  pub orderly : IsOrderly size m
+  pub working : IsWorking n stands again m.0.part.core
+  pub holds : HoldsAsBefore before m
+  pub tries : m.0.part.core.tries ≡ before.0.part.core.tries
+
+-- ---- the word that it saw
+
+-- of a lock that another has
+pub record SeesOther (o : Owner) (v : View) : Type 0 where
+  pub seen : v.seen ≡ Some o
+  pub valid : IsValid o
+  pub other : TellsOther o v.who
+
+-- It found or made signed each of these.
+pub record HasNoted (size : ℕ) (owed : List (ℕ × ℕ)) (m m' : Sat) : Type 0 where
+  pub orderly : IsOrderly size m'
+  pub signed : List ℕ
+  pub fresh : Bool
+  pub view : m'.0 ≡ knowing m.0 (touched m.0.part.core m.0.part.core.seen signed fresh)
+  pub all : (u k : ℕ) → Has owed (u, k) → Has signed u
+
+-- ... all whom it owes a sign by this word
+abbrev pub HasSigned : ℕ → Owner → Sat → Sat → Type 0
+HasSigned size o m m' = HasNoted size (owed_signs m.0.part.core.kind o m.0.part.core.list m.0.part.core.who) m m'
+
+-- It stands in the wait list, and by the word that it saw another has the lock and somebody waits.
+pub record HasStood (size n : ℕ) (stands : Bool) (o : Owner) (m : Sat) (p : Owner) (m' : Sat) : Type 0 where
+  pub work : (again : Bool) → IsWorking n stands again m.0.part.core → IsAtWork size n m true again m'
+  pub sees : SeesOther p m'.0.part.core
+  pub flags : stands ≡ true → p ≡ o
+
+-- ... and if it looks again it leaves nothing to ask for
+pub record HasAsked (o : Owner) (again : Bool) (v : View) : Type 0 where
+  pub sees : SeesOther o v
+  pub asked : again ≡ true → NothingToAsk v
+
+-- ---- on the way out
+
+-- It may leave the guard once it took back its own sign, where it has to in Wait-Die.
+pub record MayGo (n : ℕ) (v : View) : Type 0 where
+  pub inside : v.inside ≡ suc n
+  pub why : ((v.waits ≡ 0) × (owns v n ≡ false)) ⊎ HasPaid v
+  pub acted : v.acted ≡ true
+  pub again : v.later ≡ true → v.waits ≡ suc n → NothingToAsk v
+  pub looked : v.kind ≡ WoundWait → v.waits ≡ suc n → 0 < v.stamp → ((m : ℕ) × (owns v m ≡ true)) → v.fresh ≡ true
+  pub lives : v.kind ≡ WaitDie → LivesBySeen v
+
+-- It doesn't have to die: in Wound-Wait it has just looked for its sign, where it holds locks.
+pub record MayStay (o : Owner) (v : View) : Type 0 where
+  pub looked : v.kind ≡ WoundWait → 0 < v.stamp → ((m : ℕ) × (owns v m ≡ true)) → v.fresh ≡ true
+  pub lives : v.kind ≡ WaitDie → must_die v.kind o v.list v.who 0 ≡ None
+
+-- its own sign is 0, unless it has no context
+pub record IsCleared (m m' : Sat) : Type 0 where
+  pub sign : Option ℕ
+  pub fresh : Bool
+  pub now : m' ≡ (knowing m.0 (told m.0.part.core sign fresh), m.1)
+  pub same : m.0.part.core.kind ≡ WoundWait → (sign ≡ m.0.part.core.sign) × (fresh ≡ m.0.part.core.fresh)
+  pub unsigned : m.0.part.core.kind ≡ WaitDie → (m.0.part.core.stamp ≡ 0) ⊎ (sign ≡ Some 0)

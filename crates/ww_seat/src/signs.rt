@@ -1,0 +1,80 @@
+//! Whom the seat condemns, and whether it is condemned itself.
+ghost use Rattle.std.specs.Prelude.{ℕ, suc, ◌≡◌, ◌<◌, Bool, length, Some, true, IfSome, IfNone};
+ghost use Rattle.ww_word.specs.Owner.{IsValid};
+ghost use Rattle.ww_view.specs.May.{MayDie};
+ghost use Rattle.ww_table.specs.Rule.{first_graph};
+ghost use Rattle.ww_table.specs.Seat.{IsSeated};
+ghost use Rattle.ww_table.specs.Guards.{AreSeats};
+ghost use Rattle.ww_seat.specs.Orderly.{IsOrderly};
+ghost use Rattle.ww_seat.specs.Work.{HasSigned, IsTold, IsWorking, SeesOther, MayStay};
+
+use crate::wake::Wake;
+use ww_queue::Kind;
+use ww_table::{Board, Seat16};
+use ww_word::Owner;
+
+/// Gives all signs that the seat owes by the word that it saw. Whom this call signed is to be woken: somebody else wakes
+/// those that were signed before.
+pub(crate) fn sign_all(
+    seat: &mut Seat16,
+    board: &Board,
+    kind: Kind,
+    lock: u8,
+    seen: Owner,
+    wake: &mut Wake,
+)
+    requires seat { IsSeated board.now.table.shared.table_id seat.old }
+    requires kind { kind ≡ seat.old.seat.me.0.part.core.kind }
+    requires lock { lock < length (first_graph board.now.table.shared.key) }
+    requires orderly { IsOrderly (length (first_graph board.now.table.shared.key)) seat.old.seat.me }
+    requires inside { seat.old.seat.me.0.part.core.inside ≡ suc lock }
+    requires seats { AreSeats seat.old.seat.me.0.part.core.list }
+    requires valid { IsValid seen }
+    requires seen { seat.old.seat.me.0.part.core.seen ≡ Some seen }
+    ensures seat { IsSeated board.now.table.shared.table_id seat.new }
+    ensures records { seat.new.records ≡ seat.old.records }
+    ensures signed { HasSigned (length (first_graph board.now.table.shared.key)) seen seat.old.seat.me seat.new.seat.me }
+{
+    let who = seat.who();
+    let owed = seat.owed_signs(board, lock, kind, seen);
+    for pair in owed.as_slice() {
+        let (victim, stamp) = *pair;
+        let is_signed = seat.sign(board, lock, victim, stamp);
+        if is_signed && victim != who {
+            wake.add(victim);
+        }
+    }
+}
+
+/// The stamp for which the seat has to die. In Wound-Wait it looks for its sign only where a sign would make it die.
+pub(crate) fn death(
+    seat: &mut Seat16,
+    board: &Board,
+    kind: Kind,
+    lock: u8,
+    seen: Owner,
+) -> Option<u64>
+    requires seat { IsSeated board.now.table.shared.table_id seat.old }
+    requires kind { kind ≡ seat.old.seat.me.0.part.core.kind }
+    requires lock { lock < length (first_graph board.now.table.shared.key) }
+    requires orderly { IsOrderly (length (first_graph board.now.table.shared.key)) seat.old.seat.me }
+    requires work { (l : Bool) × IsWorking lock true l seat.old.seat.me.0.part.core }
+    requires seen { SeesOther seen seat.old.seat.me.0.part.core }
+    ensures seat { IsSeated board.now.table.shared.table_id seat.new }
+    ensures records { seat.new.records ≡ seat.old.records }
+    ensures told { IsTold (length (first_graph board.now.table.shared.key)) seat.old.seat.me seat.new.seat.me }
+    ensures death { IfSome result (λ k. MayDie seat.new.seat.me.0.part.core lock seen k) }
+    ensures life { IfNone result (MayStay seen seat.new.seat.me.0.part.core) }
+{
+    match kind {
+        Kind::WaitDie => seat.must_die(board, lock, kind, seen, 0),
+        Kind::WoundWait => {
+            seat.must_die(board, lock, kind, seen, 1)?;
+            let sign = seat.own_sign(board);
+            if sign == 0 {
+                return None;
+            }
+            Some(sign)
+        }
+    }
+}

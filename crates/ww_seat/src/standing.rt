@@ -1,0 +1,140 @@
+//! The lock is another's: the seat stands in its wait list, asks for it, and stays or dies there.
+ghost use Rattle.std.specs.Prelude.{ℕ, ◌≡◌, ◌≢◌, ◌<◌, Bool, true, false, length, Some, None, IfSome, IfNone};
+ghost use Rattle.ww_word.specs.Owner.{IsValid};
+ghost use Rattle.ww_view.specs.May.{MayDie};
+ghost use Rattle.ww_table.specs.Rule.{first_graph};
+ghost use Rattle.ww_table.specs.Seat.{IsSeated};
+ghost use Rattle.ww_seat.specs.declared.look.Look.TheVariants.{Deadlk};
+ghost use Rattle.ww_seat.specs.Orderly.{IsOrderly};
+ghost use Rattle.ww_seat.specs.Looks.{IsLook};
+ghost use Rattle.ww_seat.specs.Work.{IsTouched, IsWorking, IsAtWork, SeesOther, HasStood, HasAsked};
+
+use crate::leaving::leave;
+use crate::look::Look;
+use crate::signs::{death, sign_all};
+use crate::wake::Wake;
+use ww_queue::Kind;
+use ww_table::{Board, Seat16};
+use ww_word::{HANDOFF, Owner, WAITERS};
+
+/// Stands in the wait list, where it doesn't yet, if the owner word is still the one seen, and gives the word as it is then.
+pub(crate) fn stand(
+    seat: &mut Seat16,
+    board: &Board,
+    lock: u8,
+    seen: Owner,
+    stands: bool,
+) -> Option<Owner>
+    requires seat { IsSeated board.now.table.shared.table_id seat.old }
+    requires lock { lock < length (first_graph board.now.table.shared.key) }
+    requires orderly { IsOrderly (length (first_graph board.now.table.shared.key)) seat.old.seat.me }
+    requires work { (l : Bool) × IsWorking lock stands l seat.old.seat.me.0.part.core }
+    requires seen { SeesOther seen seat.old.seat.me.0.part.core }
+    ensures seat { IsSeated board.now.table.shared.table_id seat.new }
+    ensures records { seat.new.records ≡ seat.old.records }
+    ensures stands { IfSome result (λ word. HasStood (length (first_graph board.now.table.shared.key)) lock stands seen seat.old.seat.me word seat.new.seat.me) }
+    ensures lost { IfNone result (IsTouched (length (first_graph board.now.table.shared.key)) seat.old.seat.me seat.new.seat.me) }
+{
+    if stands {
+        return Some(seen);
+    }
+    if !seat.join(board, lock, seen) {
+        return None;
+    }
+    Some(seen.with_waiters())
+}
+
+/// Asks for the lock as the first waiter that looks again, if the owner word is still the one seen and nobody asked yet,
+/// and gives the word as it is then.
+fn ask(seat: &mut Seat16, board: &Board, lock: u8, seen: Owner, is_later: bool) -> Option<Owner>
+    requires seat { IsSeated board.now.table.shared.table_id seat.old }
+    requires lock { lock < length (first_graph board.now.table.shared.key) }
+    requires orderly { IsOrderly (length (first_graph board.now.table.shared.key)) seat.old.seat.me }
+    requires work { IsWorking lock true is_later seat.old.seat.me.0.part.core }
+    requires seen { SeesOther seen seat.old.seat.me.0.part.core }
+    requires flags { is_later ≡ true → seen.flags ≢ 0 }
+    ensures seat { IsSeated board.now.table.shared.table_id seat.new }
+    ensures records { seat.new.records ≡ seat.old.records }
+    ensures touched { IsTouched (length (first_graph board.now.table.shared.key)) seat.old.seat.me seat.new.seat.me }
+    ensures asked { IfSome result (λ word. HasAsked word is_later seat.new.seat.me.0.part.core) }
+{
+    if !is_later {
+        return Some(seen);
+    }
+    if seen.flags != WAITERS {
+        return Some(seen);
+    }
+    let first = seat.first(board, lock)?;
+    if first.seat != seat.who() {
+        return Some(seen);
+    }
+    if !seat.ask(board, lock, seen) {
+        return None;
+    }
+    Some(Owner {
+        flags: WAITERS | HANDOFF,
+        ..seen
+    })
+}
+
+/// Leaves the wait list and the guard, as the context has to back off, if the owner word is still the one seen.
+fn back_off(seat: &mut Seat16, board: &Board, kind: Kind, lock: u8, seen: Owner) -> bool
+    requires seat { IsSeated board.now.table.shared.table_id seat.old }
+    requires kind { kind ≡ seat.old.seat.me.0.part.core.kind }
+    requires lock { lock < length (first_graph board.now.table.shared.key) }
+    requires orderly { IsOrderly (length (first_graph board.now.table.shared.key)) seat.old.seat.me }
+    requires work { (l : Bool) × IsWorking lock true l seat.old.seat.me.0.part.core }
+    requires valid { IsValid seen }
+    requires may { (k : ℕ) × MayDie seat.old.seat.me.0.part.core lock seen k }
+    ensures seat { IsSeated board.now.table.shared.table_id seat.new }
+    ensures records { seat.new.records ≡ seat.old.records }
+    ensures met { result ≡ true → (k : ℕ) → MayDie seat.old.seat.me.0.part.core lock seen k → IsLook (length (first_graph board.now.table.shared.key)) lock seat.old.seat.me (Deadlk k) seat.new.seat.me }
+    ensures tries { result ≡ true → seat.new.seat.me.0.part.core.tries ≡ seat.old.seat.me.0.part.core.tries }
+    ensures lost { result ≡ false → IsTouched (length (first_graph board.now.table.shared.key)) seat.old.seat.me seat.new.seat.me }
+{
+    if !seat.die(board, lock, seen) {
+        return false;
+    }
+    leave(seat, board, kind, lock);
+    true
+}
+
+/// What comes of a seat that stands in the wait list: it asks for the lock, where it looks again, condemns whom it has to,
+/// and then stays or backs off. Nothing where the owner word is another than the one seen.
+pub(crate) fn wait(
+    seat: &mut Seat16,
+    board: &Board,
+    kind: Kind,
+    lock: u8,
+    seen: Owner,
+    is_later: bool,
+    wake: &mut Wake,
+) -> Option<Look>
+    requires seat { IsSeated board.now.table.shared.table_id seat.old }
+    requires kind { kind ≡ seat.old.seat.me.0.part.core.kind }
+    requires lock { lock < length (first_graph board.now.table.shared.key) }
+    requires orderly { IsOrderly (length (first_graph board.now.table.shared.key)) seat.old.seat.me }
+    requires work { IsWorking lock true is_later seat.old.seat.me.0.part.core }
+    requires seen { SeesOther seen seat.old.seat.me.0.part.core }
+    requires flags { is_later ≡ true → seen.flags ≢ 0 }
+    ensures seat { IsSeated board.now.table.shared.table_id seat.new }
+    ensures records { seat.new.records ≡ seat.old.records }
+    ensures look { IfSome result (λ look. IsLook (length (first_graph board.now.table.shared.key)) lock seat.old.seat.me look seat.new.seat.me) }
+    ensures tries { IfSome result (λ _. seat.new.seat.me.0.part.core.tries ≡ seat.old.seat.me.0.part.core.tries) }
+    ensures lost { IfNone result (IsAtWork (length (first_graph board.now.table.shared.key)) lock seat.old.seat.me true is_later seat.new.seat.me) }
+{
+    let word = ask(seat, board, lock, seen, is_later)?;
+    sign_all(seat, board, kind, lock, word, wake);
+    match death(seat, board, kind, lock, word) {
+        None => {
+            leave(seat, board, kind, lock);
+            Some(Look::Waits)
+        }
+        Some(met) => {
+            if !back_off(seat, board, kind, lock, word) {
+                return None;
+            }
+            Some(Look::Deadlk(met))
+        }
+    }
+}
