@@ -1,8 +1,13 @@
 -- What the calls of the locks make of a seat.
-use Rattle.std.specs.Prelude.{ℕ, ◌≡◌, ◌<◌, ◌≤◌, ◌+◌, true, false, length, slice_set, Some, None}
+use Rattle.std.specs.Prelude.{ℕ, ◌≡◌, ◌<◌, ◌≤◌, ◌+◌, ◌++◌, ◌∷◌, [], List, true, false, length, slice_set, Some, None, IsTrue}
+use Rattle.std.specs.List.{AllByRecursion}
+use mathlib.Core.Option.{some}
+use lib.ListN.{get_elem?}
 use Rattle.ww_word.specs.declared.owner.Owner.{Owner}
 use Rattle.ww_plain.specs.declared.node.Node.{Node}
-use Rattle.ww_plain.specs.Graph.{IsNodeOf}
+use Rattle.ww_plain.specs.declared.history.Record.{Record}
+use Rattle.ww_plain.specs.Numbers.{is_among}
+use Rattle.ww_plain.specs.Graph.{IsNodeOf, node_at}
 use Rattle.ww_view.specs.declared.view.View.{View}
 use Rattle.ww_view.specs.View.{owns}
 use Rattle.ww_view.specs.May.{MayDie, MetByView}
@@ -75,3 +80,20 @@ pub record HasEnded (m m' : Sat) : Type 0 where
   pub draws : m'.0.part.draws ≡ m.0.part.draws
   pub owned : m'.0.part.core.owned ≡ m.0.part.core.owned
   pub held : m'.0.held ≡ m.0.held
+
+-- it owns these nodes, and its view names them as they are in this graph
+abbrev pub HoldsAll : Sat → List Node → List ℕ → Type 0
+HoldsAll m graph ns = (n : ℕ) → IsTrue (is_among n ns) → (owns m.0.part.core n ≡ true) × (get_elem? m.0.held n ≡ some (Some (node_at graph n)))
+
+-- A commit: its own list has the record besides, at a place above all others, and its view names these nodes as they are in
+-- the graph afterwards, the others as before.
+pub record HasCommitted (m : Sat) (place : ℕ) (r : Record) (after : List Node) (ns : List ℕ) (m' : Sat) : Type 0 where
+  pub kind : m'.0.part.core.kind ≡ m.0.part.core.kind
+  pub who : m'.0.part.core.who ≡ m.0.part.core.who
+  pub stamp : m'.0.part.core.stamp ≡ m.0.part.core.stamp
+  pub draws : m'.0.part.draws ≡ m.0.part.draws
+  pub owned : m'.0.part.core.owned ≡ m.0.part.core.owned
+  pub own : m'.0.part.own ≡ m.0.part.own ++ (place, r) ∷ []
+  pub above : AllByRecursion (λ p. p.0 < place) m.0.part.own
+  pub named : (n : ℕ) → IsTrue (is_among n ns) → get_elem? m'.0.held n ≡ some (Some (node_at after n))
+  pub others : (n : ℕ) → is_among n ns ≡ false → owns m.0.part.core n ≡ true → get_elem? m'.0.held n ≡ get_elem? m.0.held n

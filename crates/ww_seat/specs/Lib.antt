@@ -1,4 +1,5 @@
 pub mod Orderly
 pub mod Calls
+pub mod Commits
 pub mod Looks
 pub mod Guards
