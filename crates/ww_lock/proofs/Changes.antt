@@ -1,32 +1,37 @@
--- What is prepared, and how it joins an own list and the chain behind the mutex.
-use Rattle.std.proofs.Common.{◌≡◌, ℕ, ◌+◌, ◌-◌, ◌≤◌, List, [], ◌∷◌, ◌++◌, length, set, get_or, true, nat_lt, refl, sym, ap, subst, arith, IsTrue}
+-- What is prepared, and what its commit makes of a state.
+use Rattle.std.proofs.Common.{◌≡◌, ℕ, zero, suc, ◌+◌, ◌-◌, ◌<◌, ◌≤◌, ◌^◌, ◌||◌, ◌∙◌, Bool, List, [], ◌∷◌, ◌++◌, length, length-append, map, fold, get_or, true, false, inl, inr, Option, Some, None, slice_get, refl, sym, ap, subst, arith}
 use Rattle.std.specs.List.{AllByRecursion}
-use Rattle.std.proofs.lemmas.Bool.{ltb-true, lt-ltb}
+use Rattle.std.proofs.lemmas.List.{length-map, map-append}
+use mathlib.Core.Option.{some}
+use Rattle.ww_plain.specs.Numbers.{joined, distinct_of}
+use Rattle.ww_plain.specs.Graph.{node_at}
+use Rattle.ww_plain.specs.Walk.{BeginsWith, walk_of, stop_of}
+use Rattle.ww_plain.specs.Footprint.{with_target, walked}
+use Rattle.ww_plain.specs.Transaction.{get, add, move, link, sum, reverse, peek, transaction_of, Fits}
+use Rattle.ww_plain.specs.Meaning.{answer_of, graph_after}
+use Rattle.ww_plain.specs.History.{IsNext}
+use Rattle.ww_plain.proofs.Members.{true_or_false, is_among-append, is_among-head, is_among-tail}
+use Rattle.ww_plain.proofs.Walks.{gives_walk}
+use Rattle.ww_table.specs.declared.seat.Seat16.{Seat16}
+use Rattle.ww_view.specs.View.{owns}
+use Rattle.ww_table.specs.Seat.{IsSeated}
+use Rattle.ww_seat.specs.Orderly.{IsSettled}
+use Rattle.ww_seat.specs.Calls.{HoldsAll, HasCommitted}
+use Rattle.ww_lock.specs.declared.hand.Hand.{Hand}
+use Rattle.ww_lock.specs.declared.prepared.Receipt.{Receipt}
+use Rattle.ww_lock.specs.Carried.{holding_of, Carries, CarriesFresh}
+use Rattle.ww_lock.specs.Moves.{IsCommitted}
+use Rattle.ww_lock.proofs.Helds.{all_among}
+use Rattle.ww_lock.proofs.Carrying.{at_table, settled_as}
 use Rattle.ww_plain.specs.declared.node.Node.{Node}
 use Rattle.ww_plain.specs.declared.history.Record.{Record}
 use Rattle.ww_plain.specs.Numbers.{is_among}
 use Rattle.ww_plain.specs.Footprint.{footprint_of}
 use Rattle.ww_plain.specs.Meaning.{answer_to}
 use Rattle.ww_plain.specs.Transaction.{Transaction}
-use Rattle.ww_plain.specs.History.{Recorded, recorded_of, history_of}
-use Rattle.ww_lock.specs.Holding.{Holding, Change, Holds, AreBelow, own_of}
-use Rattle.ww_lock.specs.Behind.{SameAt, stamped_first}
+use Rattle.ww_plain.specs.History.{Recorded, recorded_of}
+use Rattle.ww_lock.specs.Holding.{Holding, Change, Place, IsAtHome, Holds, SameAt, AreBelow, own_of}
 use Rattle.ww_lock.specs.Making.{Covers, IsMade, IsMadeOf, change_of}
-
-pub stamped_set : (cell : List Record) (r : Record) (caller seq : ℕ) → r ≡ get_or cell 0 r
-    → history_of (set cell 0 (record { caller = caller; seq = seq; txn = r.txn; reply = r.reply })) ≡ stamped_first caller seq (history_of cell)
-stamped_set [] r caller seq same = refl
-stamped_set (x ∷ xs) r caller seq same = ap (λ (y : Record). recorded_of (record { caller = caller; seq = seq; txn = y.txn; reply = y.reply }) ∷ history_of xs) same
-
--- what is below a place is below each later one
-pub below_later : (least place : ℕ) (own : List (ℕ × Recorded)) → least ≤ place → AreBelow least own → AreBelow place own
-below_later least place [] late below = tt
-below_later least place (p ∷ ps) late below = (omega (arith, late, below.0), below_later least place ps late below.1)
-
--- the next place is above that of a record more, too
-pub below_next : (place : ℕ) (records : List (ℕ × Record)) (r : Record) → AreBelow place (own_of records) → AreBelow (place + 1) (own_of (records ++ (place, r) ∷ []))
-below_next place [] r below = (omega arith, tt)
-below_next place (p ∷ ps) r below = (omega (arith, below.0), below_next place ps r below.1)
 
 same_everywhere : (graph : List Node) (ns : List ℕ) → SameAt graph graph ns
 same_everywhere graph [] = tt
@@ -54,13 +59,149 @@ held_as ns ms held hs nodes is holds =
 
 -- all but the room was looked at
 pub made_with_room : (s : Holding) (p : Change) (ns : List ℕ) (len room : ℕ) → ns ≡ footprint_of p.before p.transaction → length p.before ≡ length s.seen → Holds s ns → SameAt p.before s.seen ns
-    → s.room ≡ room - len → (IsTrue (nat_lt len room) → IsMade s p) × (IsMade s p → IsTrue (nat_lt len room))
+    → s.room ≡ room - len → (len < room → IsMade s p) × (IsMade s p → len < room)
 made_with_room s p ns len room is sizes holds contents left = (
-  λ yes. let less = ltb-true len room yes in record {
+  λ less. record {
     sizes = sizes;
     holds = subst (λ (ms : List ℕ). Holds s ms) is holds;
     contents = subst (λ (ms : List ℕ). SameAt p.before s.seen ms) is contents;
     room = omega (arith, left, less);
   },
-  λ made. lt-ltb len room (omega (arith, left, made.room)),
+  λ made. omega (arith, left, made.room),
 )
+
+-- what is read at a node
+pub node_read : (graph : List Node) (n : ℕ) (x : Node) → slice_get graph n ≡ Some x → node_at graph n ≡ x
+node_read [] n x e = absurd cc
+node_read (y ∷ ys) zero x e = cc
+node_read (y ∷ ys) (suc n) x e = node_read ys n x e
+
+-- ---- a footprint has a node
+
+abbrev pub Some_among : List ℕ → Type 0
+Some_among ns = (n : ℕ) × (is_among n ns ≡ true)
+
+still_joined : (ns : List ℕ) (m n : ℕ) → is_among n ns ≡ true → is_among n (joined ns m) ≡ true
+still_joined ns m n e = elim (true_or_false (is_among m ns)) [
+  | inl here ↦ rw here e
+  | inr absent ↦ rw absent (is_among-append n ns (m ∷ []) ∙ ap (λ (b : Bool). b || is_among n (m ∷ [])) e)
+]
+
+still_all : (ns ms : List ℕ) (n : ℕ) → is_among n ns ≡ true → is_among n (fold joined ns ms) ≡ true
+still_all ns [] n e = e
+still_all ns (m ∷ ms) n e = still_all (joined ns m) ms n (still_joined ns m n e)
+
+some_distinct : (ns : List ℕ) → 1 ≤ length ns → Some_among (distinct_of ns)
+some_distinct [] one = absurd (omega (arith, one))
+some_distinct (n ∷ ns) one = (n, still_all (n ∷ []) ns n (is_among-head n []))
+
+some_target : (ns : List ℕ) (target : Option ℕ) → Some_among ns → Some_among (with_target ns target)
+some_target ns None one = one
+some_target ns (Some t) one = (one.0, still_joined ns t one.0 one.1)
+
+some_walk : (graph : List Node) (start p most : ℕ) → 1 ≤ most → Some_among (walked graph p (walk_of graph start p most))
+some_walk graph start p most one =
+    let vs = walk_of graph start p most in
+    some_target vs (stop_of graph p vs) (begun vs start (gives_walk graph start p most one).begins)
+  where
+    begun : (vs : List ℕ) (v : ℕ) → BeginsWith vs v → Some_among vs
+    begun [] v begins = absurd begins
+    begun (w ∷ ws) v begins = (w, is_among-head w ws)
+
+pub some_footprint : (graph : List Node) (t : Transaction) (size : ℕ) → Fits size t → Some_among (footprint_of graph t)
+some_footprint graph (get by nodes) size fits = some_distinct nodes fits.0.some
+some_footprint graph (add by amounts) size fits = some_distinct (map (λ pair. pair.0) amounts) (omega (arith, fits.0.some, length-map amounts (λ (pair : ℕ × ℕ). pair.0)))
+some_footprint graph (move from to amount) size fits = some_distinct (from ∷ to ∷ []) (omega arith)
+some_footprint graph (link node port target) size fits = some_target (node ∷ []) target (node, is_among-head node [])
+some_footprint graph (sum start port length) size fits = some_walk graph start port length fits.some
+some_footprint graph (reverse start port length) size fits = some_walk graph start port length fits.some
+some_footprint graph (peek node) size fits = (node, is_among-head node [])
+
+-- ---- a commit
+
+-- what a seat is asked for a commit, by what its state carries
+pub record MayCommit (h : Hand) (before : List Node) (r : Record) (ns : List ℕ) : Type 0 where
+  pub owner : (n : ℕ) × (owns h.seat.seat.me.0.part.core n ≡ true)
+  pub caller : r.caller ≡ h.seat.seat.me.0.part.core.who
+  pub seq : r.seq ≡ length h.seat.seat.me.0.part.own
+  pub held : HoldsAll h.seat.seat.me before ns
+  pub fewer : length h.seat.seat.me.0.part.own + 1 < 2 ^ 32
+
+pub may_commit : (h : Hand) (p : Change) (r : Record) (ns : List ℕ) → CarriesFresh h → IsMade (holding_of h) p → r.caller ≡ h.seat.who → r.seq ≡ length h.seat.records.items → Fits (length p.before) p.transaction
+    → ns ≡ footprint_of p.before p.transaction → MayCommit h p.before r ns
+may_commit h p r ns f made caller seq fits is =
+    let c = f.carries in
+    let held : (n : ℕ) → is_among n ns ≡ true → is_among n h.held.items ≡ true = λ n e. all_among (λ m. is_among m h.held.items ≡ true) (footprint_of p.before p.transaction) n made.holds (sym (ap (is_among n) is) ∙ e) in
+    let as_seen : (n : ℕ) → is_among n ns ≡ true → node_at p.before n ≡ node_at h.seen n = λ n e. all_among (λ m. node_at p.before m ≡ node_at h.seen m) (footprint_of p.before p.transaction) n made.contents (sym (ap (is_among n) is) ∙ e) in
+    let one = some_footprint p.before p.transaction (length p.before) fits in
+    record {
+      owner = (one.0, c.owned one.0 ∙ held one.0 (ap (is_among one.0) is ∙ one.1));
+      caller = caller ∙ sym c.settled.seated.who;
+      seq = seq ∙ ap length c.settled.seated.records;
+      held = λ n e. (c.owned n ∙ held n e, f.seen n (held n e) ∙ ap (λ (x : Node). some (Some x)) (sym (as_seen n e)));
+      fewer = omega (arith, f.commits, ap length c.settled.seated.records);
+    }
+
+pub record Commits (h g : Hand) (p : Change) (told : Receipt) : Type 0 where
+  pub carries : Carries g
+  pub is : IsCommitted (holding_of h) p (holding_of g) told
+
+below_as : (place : ℕ) (records : List (ℕ × Record)) → AllByRecursion (λ q. q.0 < place) records → AreBelow place (own_of records)
+below_as place [] all = tt
+below_as place (r ∷ rs) all = (all.0, below_as place rs all.1)
+
+pub commits : (h : Hand) (w pl : Place) (q : Seat16) (p : Change) (r : Record) (after : List Node) (ns : List ℕ) (told : Receipt) → pl ≡ w → IsAtHome (holding_of h) w → CarriesFresh h
+    → IsSettled pl.home (length pl.first) q → HasCommitted h.seat.seat.me told.place r after ns q.seat.me → recorded_of r ≡ record { caller = h.seat.who; seq = length h.seat.records.items; transaction = p.transaction; answer = p.answer }
+    → told.seq ≡ length h.seat.records.items → answer_of told.reply ≡ p.answer → Commits h (record h { seat = q }) p told
+commits h w pl q p r after ns told is home f settled b same seq reply =
+    let c = f.carries in
+    let g : Hand = record h { seat = q } in
+    let t = at_table (holding_of h) w pl is home in
+    let records : q.records.items ≡ h.seat.records.items ++ (told.place, r) ∷ [] = settled.seated.records ∙ b.own ∙ ap (λ l. l ++ (told.place, r) ∷ []) (sym c.settled.seated.records) in
+    let many : length q.records.items ≡ length h.seat.records.items + 1 = ap length records ∙ length-append h.seat.records.items ((told.place, r) ∷ []) in
+    let table : q.seat.table_id ≡ h.seat.seat.table_id = settled.seated.home ∙ sym t.0 in
+    let who : q.who ≡ h.seat.who = sym settled.seated.who ∙ b.who ∙ c.settled.seated.who in
+    let stamp : q.stamp ≡ h.seat.stamp = sym settled.seated.stamp ∙ b.stamp ∙ c.settled.seated.stamp in
+    let size : length (own_of h.seat.records.items) ≡ length h.seat.records.items = length-map h.seat.records.items (λ (x : ℕ × Record). (x.0, recorded_of x.1)) in
+    let own : own_of q.records.items ≡ own_of h.seat.records.items ++ (told.place, record { caller = h.seat.who; seq = length (own_of h.seat.records.items); transaction = p.transaction; answer = p.answer }) ∷ [] =
+    ap own_of records ∙ map-append (λ (x : ℕ × Record). (x.0, recorded_of x.1)) h.seat.records.items ((told.place, r) ∷ [])
+    ∙ ap (λ (d : Recorded). own_of h.seat.records.items ++ (told.place, d) ∷ []) (same ∙ ap (λ (k : ℕ). record { caller = h.seat.who; seq = k; transaction = p.transaction; answer = p.answer }) (sym size)) in
+    record {
+      carries = record {
+        settled = settled_as pl.home q.seat.table_id (length pl.first) (length h.seen) q (sym settled.seated.home) (sym t.1) settled;
+        kind = c.kind ∙ sym b.kind;
+        owned = λ n. ap (λ (os : List Bool). get_or os n false) b.owned ∙ c.owned n;
+        held = c.held;
+        draws = omega (arith, c.draws, b.draws);
+        commits = omega (arith, many, f.commits);
+      };
+      is = record {
+        own = rw (table, who, stamp, own) refl;
+        above = below_as told.place h.seat.records.items (subst (AllByRecursion (λ x. x.0 < told.place)) (sym c.settled.seated.records) b.above);
+        seq = seq ∙ sym size;
+        reply = reply;
+      };
+    }
+
+-- ---- room
+
+pub reserved : (h : Hand) (q : Seat16) → q ≡ record (h.seat) { records = q.records } → q.records.items ≡ h.seat.records.items → CarriesFresh h → CarriesFresh (record h { seat = q })
+reserved h q same list f = subst (λ (s : Seat16). CarriesFresh (record h { seat = s })) (sym same) (record {
+  carries = record {
+    settled = record {
+      seated = record { home = z.home; seated = z.seated; who = z.who; few = z.few; stamp = z.stamp; small = z.small; order = z.order; records = list ∙ z.records; alone = z.alone; places = subst (AllByRecursion (λ x. x.0 < 2 ^ 37)) (sym list) z.places };
+      orderly = f.carries.settled.orderly;
+      away = f.carries.settled.away;
+    };
+    kind = f.carries.kind;
+    owned = f.carries.owned;
+    held = f.carries.held;
+    draws = f.carries.draws;
+    commits = omega (arith, ap length list, f.carries.commits);
+  };
+  seen = f.seen;
+  commits = omega (arith, ap length list, f.commits);
+})
+  where
+    z : IsSeated h.seat.seat.table_id h.seat
+    z = f.carries.settled.seated

@@ -1,19 +1,146 @@
--- A world that is settled, as it is closed.
-use Rattle.std.proofs.Common.{◌<◌, List, sym, ap, subst, ◌∙◌}
+-- The seats of passes, as a world is closed.
+use Rattle.std.proofs.Common.{◌≡◌, ℕ, zero, suc, ◌+◌, ◌-◌, ◌<◌, ◌≤◌, eqb, true, false, true≢false, inl, inr, List, [], ◌∷◌, ◌++◌, length, refl, sym, ap, subst, ◌∙◌, arith, Option, None, Some}
+use mathlib.Core.Option.{some}
+use lib.ListN.{get_elem?}
 use Rattle.std.specs.List.{AllByRecursion}
+use Rattle.std.proofs.lemmas.Bool.{cases_lt}
+use Rattle.ww_queue.specs.Queue.{Has}
 use Rattle.ww_plain.specs.declared.node.Node.{Node}
-use Rattle.ww_plain.specs.History.{Recorded, IsLegal, last_graph}
+use Rattle.ww_plain.specs.declared.history.Record.{Record}
+use Rattle.ww_plain.specs.History.{Recorded, history_of, part_of, IsLegal, last_graph}
+use Rattle.ww_plain.proofs.Members.{eqb_same, true_or_false, same_from_eqb, or_cases}
+use Rattle.ww_view.specs.View.{IsBare}
+use Rattle.ww_table.specs.declared.cells.Cell.{Cell}
+use Rattle.ww_table.specs.declared.cells.Start.{Start}
+use Rattle.ww_table.specs.declared.seat.Seat16.{Seat16}
+use Rattle.ww_table.specs.Layout.{list_at}
+use Rattle.ww_table.specs.Rule.{first_graph}
+use Rattle.ww_table.specs.Seat.{slot_of}
+use Rattle.ww_table.specs.Closed.{HasCome, HaveAllCome, HasPlaces}
+use Rattle.ww_table.specs.Closed as table
+use Rattle.atomic_table.specs.Seated.{TableId}
+use Rattle.ww_lock.specs.declared.hand.Hand.{Hand}
 use Rattle.ww_lock.specs.declared.close.History.{History}
-use Rattle.ww_lock.specs.Holding.{Holding, Place}
-use Rattle.ww_lock.specs.Behind.{Kept}
-use Rattle.ww_lock.specs.Closed.{AreParts, IsClosed, IsSettled, IsWhole}
+use Rattle.ww_lock.specs.Holding.{Holding, Place, IsAtHome, AreAtHome, AreBelow, own_of}
+use Rattle.ww_lock.specs.Carried.{holding_of, Carries}
+use Rattle.ww_lock.specs.Closed.{has_pass, missing_of, IsSeatOf, AreSeatsOf, AreAllBelow, AreParts, IsClosed}
+use Rattle.ww_lock.proofs.Carrying.{bare_of}
 
-pub closed : (w : Place) (passes : List Holding) (h : History) (k : Kept) → IsSettled k w.first passes w.passes → IsWhole k h → IsClosed w passes h
-closed w passes h k settled whole = record {
-  legal = subst (λ (rs : List Recorded). IsLegal w.first rs) (sym whole.records) (subst (λ (g : List Node). IsLegal g k.history) settled.first_graph whole.kept.legal);
-  fold = whole.graph ∙ whole.kept.fold ∙ ap (λ (g : List Node). last_graph g k.history) settled.first_graph ∙ ap (last_graph w.first) (sym whole.records);
-  count = settled.there;
-  all_there = settled.all_there;
-  callers = subst (λ (rs : List Recorded). AllByRecursion (λ r. r.caller < w.passes) rs) (sym whole.records) settled.callers;
-  parts = subst (λ (rs : List Recorded). AreParts passes rs) (sym whole.records) settled.parts;
+first_here : (x : ℕ × Cell) (xs : List (ℕ × Cell)) → slot_of (x ∷ xs) x.0 ≡ None → ⊥
+first_here x xs none = let same = eqb_same x.0 in let there : slot_of (x ∷ xs) x.0 ≡ Some x.1 = rw same refl in absurd (some_none x.1 (sym there ∙ none))
+  where
+    some_none : (y : Cell) → Some y ≡ None → ⊥
+    some_none y e = cc
+
+none_out : (slots : List (ℕ × Cell)) → ((n : ℕ) → slot_of slots n ≡ None) → slots ≡ []
+none_out [] none = refl
+none_out (x ∷ xs) none = absurd (first_here x xs (none x.0))
+
+-- a seat between two calls that owns no lock has nothing out
+nothing_out : (h : Hand) → Carries h → IsBare h.seat.seat.me.0.part.core → h.seat.seat.me.1 ≡ []
+nothing_out h c bare = let o = c.settled.orderly in none_out h.seat.seat.me.1 (λ n. elim (cases_lt n 64) [
+  | inl lt ↦ o.others n lt (bare n)
+  | inr le ↦ subst (λ (k : ℕ). slot_of h.seat.seat.me.1 k ≡ None) (at_list n le) (o.lists (n - 64) (λ inside. absurd (outside (n - 64) (sym c.settled.away.0 ∙ inside))))
+])
+  where
+    at_list : (n : ℕ) → 64 ≤ n → list_at (n - 64) ≡ n
+    at_list n le = omega (arith, le)
+
+    outside : (n : ℕ) → 0 ≡ suc n → ⊥
+    outside n e = omega (arith, e)
+
+pub seat_of_pass : (h : Hand) (s : Holding) → holding_of h ≡ s → Carries h → h.held.items ≡ [] → IsSeatOf s h.seat
+seat_of_pass h s is c none = subst (λ (t : Holding). IsSeatOf t h.seat) is (record {
+  come = record { seated = c.settled.seated; bare = bare_of h c none; nothing = nothing_out h c (bare_of h c none) };
+  number = refl;
+  own = refl;
+})
+
+pub below_own : (place : ℕ) (records : List (ℕ × Record)) → AllByRecursion (λ q. q.0 < place) records → AreBelow place (own_of records)
+below_own place [] all = tt
+below_own place (r ∷ rs) all = (all.0, below_own place rs all.1)
+
+own_below : (place : ℕ) (records : List (ℕ × Record)) → AreBelow place (own_of records) → AllByRecursion (λ q. q.0 < place) records
+own_below place [] all = tt
+own_below place (r ∷ rs) all = (all.0, own_below place rs all.1)
+
+pub later : (least place : ℕ) (passes : List Holding) → least ≤ place → AreAllBelow least passes → AreAllBelow place passes
+later least place [] le all = tt
+later least place (s ∷ ss) le all = (one s.own all.0, later least place ss le all.1)
+  where
+    one : (own : List (ℕ × Recorded)) → AreBelow least own → AreBelow place own
+    one [] below = tt
+    one (p ∷ ps) below = (omega (arith, le, below.0), one ps below.1)
+
+pub fits : (place : ℕ) (passes : List Holding) (seats : List Seat16) → AreSeatsOf passes seats → AreAllBelow place passes → AllByRecursion (HasPlaces place) seats
+fits place [] [] are all = tt
+fits place [] (q ∷ qs) are all = absurd are
+fits place (s ∷ ss) [] are all = absurd are
+fits place (s ∷ ss) (q ∷ qs) are all = (own_below place q.records.items (subst (AreBelow place) (sym are.0.own) all.0), fits place ss qs are.1 all.1)
+
+come : (t : TableId) (w : Place) (passes : List Holding) (seats : List Seat16) → w.home ≡ t → AreAtHome passes w → AreSeatsOf passes seats → AllByRecursion (HasCome t) seats
+come t w [] [] is home are = tt
+come t w [] (q ∷ qs) is home are = absurd are
+come t w (s ∷ ss) [] is home are = absurd are
+come t w (s ∷ ss) (q ∷ qs) is home are = (subst (λ (z : TableId). HasCome z q) (home.0.home ∙ is) are.0.come, come t w ss qs is home.1 are.1)
+
+found : (passes : List Holding) (seats : List Seat16) (k : ℕ) → AreSeatsOf passes seats → has_pass passes k ≡ true → (q : Seat16) × Has seats q × (q.who ≡ k)
+found [] [] k are has = absurd (true≢false (sym has))
+found [] (q ∷ qs) k are has = absurd are
+found (s ∷ ss) [] k are has = absurd are
+found (s ∷ ss) (q ∷ qs) k are has = elim (or_cases (eqb s.caller k) (has_pass ss k) has) [
+  | inl here ↦ (q, inl refl, are.0.number ∙ same_from_eqb s.caller k here)
+  | inr there ↦ let f = found ss qs k are.1 there in (f.0, inr f.1, f.2)
+]
+
+pub all_there : (count : ℕ) (passes : List Holding) → missing_of count passes ≡ 0 → (k : ℕ) → k < count → has_pass passes k ≡ true
+all_there zero passes none k lt = absurd (omega (arith, lt))
+all_there (suc c) passes none k lt = elim (true_or_false (has_pass passes c)) [
+  | inl has ↦ elim (cases_lt k c) [
+    | inl less ↦ all_there c passes (rw has at none) k less
+    | inr most ↦ subst (λ (j : ℕ). has_pass passes j ≡ true) (same_number c k most lt) has
+  ]
+  | inr lacks ↦ absurd (omega (arith, rw lacks at none))
+]
+  where
+    same_number : (c k : ℕ) → c ≤ k → k < suc c → c ≡ k
+    same_number c k most lt = omega (arith, most, lt)
+
+pub all_come : (t : TableId) (key : Start) (w : Place) (passes : List Holding) (seats : List Seat16) → w.home ≡ t → key.seats ≡ w.passes → AreAtHome passes w → missing_of w.passes passes ≡ 0 → AreSeatsOf passes seats → HaveAllCome t key seats
+all_come t key w passes seats is count home none are = record {
+  each = come t w passes seats is home are;
+  all = λ k lt. found passes seats k are (all_there w.passes passes none k (omega (arith, lt, count)));
 }
+
+as_many : (passes : List Holding) (seats : List Seat16) → AreSeatsOf passes seats → length passes ≡ length seats
+as_many [] [] are = refl
+as_many [] (q ∷ qs) are = absurd are
+as_many (s ∷ ss) [] are = absurd are
+as_many (s ∷ ss) (q ∷ qs) are = ap suc (as_many ss qs are.1)
+
+all_elems : {A : Type 0} (P : A → Type 0) (xs : List A) → ((k : ℕ) (x : A) → get_elem? xs k ≡ some x → P x) → AllByRecursion P xs
+all_elems P [] each = tt
+all_elems P (x ∷ xs) each = (each 0 x refl, all_elems P xs (λ k y e. each (suc k) y e))
+
+parts : (history : List Recorded) (passes : List Holding) (seats : List Seat16) → AreSeatsOf passes seats → ((q : Seat16) → Has seats q → part_of q.who history ≡ own_of q.records.items) → AreParts passes history
+parts history [] [] are each = tt
+parts history [] (q ∷ qs) are each = absurd are
+parts history (s ∷ ss) [] are each = absurd are
+parts history (s ∷ ss) (q ∷ qs) are each = (ap (λ (k : ℕ). part_of k history) (sym are.0.number) ∙ each q (inl refl) ∙ are.0.own, parts history ss qs are.1 (λ r has. each r (inr has)))
+
+pub closed : (key : Start) (w : Place) (passes : List Holding) (seats : List Seat16) (h : History) → first_graph key ≡ w.first → key.seats ≡ w.passes → missing_of w.passes passes ≡ 0 → AreSeatsOf passes seats
+    → table.IsClosed key seats h.records.items h.graph → IsClosed w passes h
+closed key w passes seats h first count none are c = let history : List Recorded = history_of h.records.items in record {
+  legal = subst (λ (g : List Node). IsLegal g history) first c.legal;
+  fold = c.fold ∙ ap (λ (g : List Node). last_graph g history) first;
+  count = as_many passes seats are ∙ c.few ∙ count;
+  all_there = none;
+  callers = all_elems (λ r. r.caller < w.passes) history (λ k r e. omega (arith, c.callers k r e, count));
+  parts = parts history passes seats are c.parts;
+}
+
+pub seats_push : (passes : List Holding) (seats : List Seat16) (s : Holding) (q : Seat16) → AreSeatsOf passes seats → IsSeatOf s q → AreSeatsOf (passes ++ s ∷ []) (seats ++ q ∷ [])
+seats_push [] [] s q are is = (is, tt)
+seats_push [] (r ∷ rs) s q are is = absurd are
+seats_push (t ∷ ts) [] s q are is = absurd are
+seats_push (t ∷ ts) (r ∷ rs) s q are is = (are.0, seats_push ts rs s q are.1 is)

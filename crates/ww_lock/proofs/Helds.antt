@@ -1,13 +1,11 @@
 -- One node more is held.
-use Rattle.std.proofs.Common.{◌≡◌, ℕ, suc, ◌+◌, ◌<◌, ◌≤◌, true, false, eqb, inl, inr, refl, List, [], ◌∷◌, ◌++◌, length, sym, subst, arith, length-append, get_or, below_more}
+use Rattle.std.proofs.Common.{◌≡◌, ℕ, ◌<◌, ◌≤◌, true, false, eqb, inl, inr, List, [], ◌∷◌, ◌++◌, length, sym, subst, arith, length-append}
 use Rattle.std.specs.List.{AllByRecursion}
 use Rattle.ww_plain.specs.declared.node.Node.{Node}
 use Rattle.ww_plain.specs.Numbers.{is_among}
 use Rattle.ww_plain.proofs.Members.{different_push, different_none, or_cases, same_from_eqb}
 use Rattle.ww_plain.proofs.FootprintFacts.{few_different}
-use Rattle.std.proofs.lemmas.List.{get_or_append_left, get_or_push}
-use Rattle.ww_lock.specs.Holding.{AreHeld, Holding, Place, IsAtHome, AreAtHome}
-use Rattle.ww_lock.specs.Opened.{fresh, AreFresh}
+use Rattle.ww_lock.specs.Holding.{AreHeld}
 
 pub all_push : {A : Type 0} (P : A → Type 0) (xs : List A) (x : A) → AllByRecursion P xs → P x → AllByRecursion P (xs ++ x ∷ [])
 all_push P [] x all here = (here, tt)
@@ -28,15 +26,6 @@ room_held held seen n h lt absent =
 pub held_none : (seen : List Node) → length seen ≤ 64 → AreHeld [] seen
 held_none seen few = record { there = tt; once = different_none; few = few }
 
-pub fresh_more : (all new : List Holding) (s : Holding) (first : List Node) (home n budget : ℕ) → AreFresh all first home n budget → s ≡ fresh home first budget n s.room → new ≡ all ++ s ∷ [] → AreFresh new first home (n + 1) budget
-fresh_more all new s first home n budget h is grown = rw grown (record {
-  count = omega (arith, h.count, length-append all (s ∷ []));
-  each = λ i d lt. below_more (λ j. (e : Holding) → get_or (all ++ s ∷ []) j e ≡ fresh home first budget j (get_or (all ++ s ∷ []) j e).room) n
-      (λ j low e. let small : j < length all = omega (arith, h.count, low) in rw (get_or_append_left all (s ∷ []) e j small) (h.each j e small))
-      (λ e. rw (get_or_push all s e n h.count) is)
-      i (omega (arith, h.count, lt, length-append all (s ∷ []))) d;
-})
-
 -- what holds of each of a list holds of each that is among it
 pub all_among : (P : ℕ → Type 0) (ns : List ℕ) (n : ℕ) → AllByRecursion P ns → is_among n ns ≡ true → P n
 all_among P [] n all e = absurd cc
@@ -46,13 +35,3 @@ all_among P (m ∷ ms) n all e = elim (or_cases (eqb m n) (is_among n ms) e) [ i
 pub there_if_held : (size : ℕ) (ns held : List ℕ) → AllByRecursion (λ n. is_among n held ≡ true) ns → AllByRecursion (λ n. n < size) held → AllByRecursion (λ n. n < size) ns
 there_if_held size [] held holds there = tt
 there_if_held size (n ∷ ns) held holds there = (all_among (λ m. m < size) held n there holds.0, there_if_held size ns held holds.1 there)
-
--- what holds at each index holds of each
-pub all_from_index : {A : Type 0} (P : A → Type 0) (xs : List A) → ((i : ℕ) (d : A) → i < length xs → P (get_or xs i d)) → AllByRecursion P xs
-all_from_index P [] each = tt
-all_from_index P (x ∷ xs) each = (each 0 x (omega arith), all_from_index P xs (λ i d lt. each (suc i) d (omega (arith, lt))))
-
--- passes that have done nothing yet are at home where they were made
-pub fresh_home : (w : Place) (all : List Holding) (passes budget : ℕ) → AreFresh all w.first w.home passes budget → w.passes ≡ passes → AreAtHome all w
-fresh_home w all passes budget fresh count = all_from_index (λ s. IsAtHome s w) all (λ i d lt.
-    subst (λ (s : Holding). IsAtHome s w) (sym (fresh.each i d lt)) (record { home = refl; size = refl; number = omega (arith, lt, fresh.count, count) }))

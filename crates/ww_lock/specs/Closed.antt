@@ -1,14 +1,13 @@
 -- What closing a world gives.
-use Rattle.std.specs.Prelude.{ℕ, zero, suc, ◌≡◌, ◌≤◌, ◌<◌, ◌+◌, ◌==◌, ◌++◌, Bool, List, length, take, if◌then◌else◌}
+use Rattle.std.specs.Prelude.{ℕ, zero, suc, ◌≡◌, ◌≤◌, ◌<◌, ◌+◌, ◌==◌, ◌∷◌, [], Bool, List, length, if◌then◌else◌}
 use Rattle.std.specs.List.{AllByRecursion, list_any}
-use Rattle.ww_plain.specs.declared.node.Node.{Node}
-use Rattle.ww_plain.specs.declared.history.Record.{Record}
-use Rattle.ww_plain.specs.History.{Recorded, history_of, part_of, part_from, IsLegal, last_graph}
+use Rattle.ww_plain.specs.History.{Recorded, history_of, part_of, IsLegal, last_graph}
+use Rattle.ww_table.specs.declared.seat.Seat16.{Seat16}
+use Rattle.ww_table.specs.Closed.{HasCome}
 use Rattle.ww_lock.specs.declared.close.History.{History}
 use Rattle.ww_lock.specs.declared.close.CloseFault.{CloseFault}
-use Rattle.ww_lock.specs.declared.close.CloseFault.TheVariants.{Missing, NoMemory, Mismatch}
-use Rattle.ww_lock.specs.Holding.{Holding, Place, own_of}
-use Rattle.ww_lock.specs.Behind.{Kept, IsKept}
+use Rattle.ww_lock.specs.declared.close.CloseFault.TheVariants.{Missing, NoMemory}
+use Rattle.ww_lock.specs.Holding.{Holding, Place, AreBelow, own_of}
 
 -- one of the passes is that of the caller
 abbrev pub has_pass : List Holding → ℕ → Bool
@@ -36,36 +35,25 @@ pub record IsClosed (w : Place) (passes : List Holding) (h : History) : Type 0 w
 -- missing passes are told first
 abbrev pub IsCloseFault : Place → List Holding → CloseFault → Type 0
 IsCloseFault w passes (Missing k) = (1 ≤ k) × (k ≡ missing_of w.passes passes)
-IsCloseFault w passes Mismatch = missing_of w.passes passes ≡ 0
-IsCloseFault w passes NoMemory = (missing_of w.passes passes ≡ 0) × (length passes ≡ w.passes)
+IsCloseFault w passes NoMemory = missing_of w.passes passes ≡ 0
 
 abbrev pub close_number : CloseFault → ℕ
 close_number (Missing k) = 5
 close_number NoMemory = 6
-close_number Mismatch = 7
 
--- how far the part of a caller was compared: what is left of it lies in the rest of the records
-pub record IsPartSoFar (caller : ℕ) (all rest : List Record) (own : List (ℕ × Record)) (place next : ℕ) : Type 0 where
-  pub part : part_of caller (history_of all) ≡ own_of (take next own) ++ part_from place caller (history_of rest)
-  pub places : place + length rest ≡ length all
-  pub within : next ≤ length own
+-- the seat of a pass that holds nothing, with its number and its commits
+pub record IsSeatOf (s : Holding) (q : Seat16) : Type 0 where
+  pub come : HasCome s.home q
+  pub number : q.who ≡ s.caller
+  pub own : own_of q.records.items ≡ s.own
 
--- what lay behind the mutex, as a history
-pub record IsWhole (k : Kept) (h : History) : Type 0 where
-  pub records : history_of h.records.items ≡ k.history
-  pub graph : h.graph ≡ k.graph
-  pub kept : IsKept k
+-- the seats of these passes, in the same order
+abbrev pub AreSeatsOf : List Holding → List Seat16 → Type 0
+AreSeatsOf [] [] = Unit {0}
+AreSeatsOf [] (q ∷ qs) = ⊥
+AreSeatsOf (s ∷ ss) [] = ⊥
+AreSeatsOf (s ∷ ss) (q ∷ qs) = IsSeatOf s q × AreSeatsOf ss qs
 
--- what was found where nothing is against closing
-pub record IsSettled (k : Kept) (first : List Node) (passes : List Holding) (count : ℕ) : Type 0 where
-  pub first_graph : k.first ≡ first
-  pub there : length passes ≡ count
-  pub all_there : missing_of count passes ≡ 0
-  pub callers : AllByRecursion (λ r. r.caller < count) k.history
-  pub parts : AreParts passes k.history
-
--- why it can't be closed, but for want of memory
-abbrev pub IsUnsettled : List Holding → ℕ → CloseFault → Type 0
-IsUnsettled passes count (Missing k) = (1 ≤ k) × (k ≡ missing_of count passes)
-IsUnsettled passes count Mismatch = missing_of count passes ≡ 0
-IsUnsettled passes count NoMemory = ⊥
+-- all places of their own lists are below this one
+abbrev pub AreAllBelow : ℕ → List Holding → Type 0
+AreAllBelow place passes = AllByRecursion (λ s. AreBelow place s.own) passes

@@ -1,6 +1,7 @@
 -- What a contract sees of a pass, and of each state that it becomes.
 use Rattle.std.specs.Prelude.{ℕ, ◌≡◌, ◌<◌, ◌≤◌, List, length, map, Option, Some, None, IsTrue, if◌then◌else◌}
 use Rattle.std.specs.List.{AllByRecursion}
+use Rattle.atomic_table.specs.Seated.{TableId}
 use Rattle.ww_plain.specs.declared.node.Node.{Node}
 use Rattle.ww_plain.specs.declared.history.Record.{Record}
 use Rattle.ww_plain.specs.Numbers.{is_among, AreDifferent}
@@ -9,9 +10,9 @@ use Rattle.ww_plain.specs.Transaction.{Transaction}
 use Rattle.ww_plain.specs.Meaning.{Answer}
 use Rattle.ww_plain.specs.History.{Recorded, recorded_of}
 
--- which world a pass is of
+-- which world a pass is of: its table
 abbrev pub Home : Type 0
-Home = ℕ
+Home = TableId
 
 -- Its world and its number there; how many contexts and solos it may still start; its stamp, 0 without a context; its own
 -- list: all its commits with their places, oldest first, with room for so many more; the nodes that it holds, in the order
@@ -44,7 +45,7 @@ pub record Change : Type 0 where
   pub before : List Node
   pub after : List Node
 
--- a world: its number, the graph that it was opened with, and how many passes it gave
+-- a world: its table, the graph that it was opened with, and how many passes it gave
 pub record Place : Type 0 where
   pub home : Home
   pub first : List Node
@@ -66,6 +67,10 @@ own_of records = map (λ p. (p.0, recorded_of p.1)) records
 -- what it reads at a node: nothing where it doesn't hold that
 abbrev pub reads : Holding → ℕ → Option Node
 reads s n = if is_among n s.held then Some (node_at s.seen n) else None
+
+-- the graphs have the same nodes at these numbers
+abbrev pub SameAt : List Node → List Node → List ℕ → Type 0
+SameAt graph other ns = AllByRecursion (λ n. node_at graph n ≡ node_at other n) ns
 
 -- it holds all of these nodes
 abbrev pub Holds : Holding → List ℕ → Type 0

@@ -1,5 +1,5 @@
 pub mod Holding
-pub mod Behind
+pub mod Carried
 pub mod Making
 pub mod Moves
 pub mod Opened

@@ -1,16 +1,14 @@
 -- What preparing a transaction makes, and what its commit needs.
-use Rattle.std.specs.Prelude.{◌≡◌, ◌≤◌, ◌∷◌, [], length}
+use Rattle.std.specs.Prelude.{◌≡◌, ◌≤◌, length}
 use Rattle.ww_plain.specs.Footprint.{footprint_of}
 use Rattle.ww_plain.specs.Transaction.{Transaction}
 use Rattle.ww_plain.specs.Meaning.{answer_of, answer_to, graph_after}
-use Rattle.ww_plain.specs.History.{recorded_of, history_of, IsNext}
+use Rattle.ww_plain.specs.History.{recorded_of, IsNext}
 use Rattle.ww_lock.specs.declared.prepared.Prepared.TheInside.{Inside}
-use Rattle.ww_lock.specs.Holding.{Holding, Change, Holds}
-use Rattle.ww_lock.specs.Behind.{SameAt}
+use Rattle.ww_lock.specs.Holding.{Holding, Change, Holds, SameAt}
 
--- the cell has the record, the reply is its answer, and the record leads from the one graph to the other
+-- the reply is the record's answer, and the record leads from the one graph to the other
 pub record IsPrepared (p : Inside) : Type 0 where
-  pub cell : history_of p.cell ≡ recorded_of p.record ∷ []
   pub reply : answer_of p.reply ≡ (recorded_of p.record).answer
   pub next : IsNext p.before (recorded_of p.record)
   pub leads : p.after ≡ graph_after p.before (recorded_of p.record).transaction

@@ -1,5 +1,5 @@
 -- How one state becomes another.
-use Rattle.std.specs.Prelude.{ℕ, ◌≡◌, ◌<◌, ◌≤◌, ◌-◌, ◌∷◌, ◌++◌, [], length, Bool, true, false, slice_set}
+use Rattle.std.specs.Prelude.{ℕ, ◌≡◌, ◌<◌, ◌≤◌, ◌-◌, ◌∷◌, ◌++◌, [], length, true, false, slice_set}
 use Rattle.ww_plain.specs.declared.node.Node.{Node}
 use Rattle.ww_plain.specs.Numbers.{is_among}
 use Rattle.ww_plain.specs.Meaning.{answer_of}
@@ -8,8 +8,6 @@ use Rattle.ww_lock.specs.declared.acquiring.Lock.{Lock}
 use Rattle.ww_lock.specs.declared.acquiring.Lock.TheVariants.{Locked, Already, Deadlk}
 use Rattle.ww_lock.specs.declared.acquiring.Try.{Try}
 use Rattle.ww_lock.specs.declared.acquiring.Try.TheVariants as try
-use Rattle.ww_lock.specs.declared.look.Look.{Look}
-use Rattle.ww_lock.specs.declared.look.Look.TheVariants as look
 use Rattle.ww_lock.specs.Holding.{Holding, Refused, Change, AreBelow}
 
 -- one node more is held, with these contents
@@ -65,15 +63,6 @@ code_of (Deadlk b) = 35
 abbrev pub IsTryAnswer : Holding → ℕ → Try → Type 0
 IsTryAnswer s n (try.Locked a) = IsTaken s n a
 IsTryAnswer s n (try.Busy a) = a ≡ s
-
--- what one try, or one look, does to a hand: only where it got the lock it is changed
-abbrev pub IsTry : Holding → ℕ → Holding → Bool → Type 0
-IsTry s n a true = IsTaken s n a
-IsTry s n a false = a ≡ s
-
-abbrev pub IsLook : Holding → ℕ → Holding → Look → Type 0
-IsLook s n a look.Locked = IsTaken s n a
-IsLook s n a _ = a ≡ s
 
 -- One record more in the own list, of this caller and of the next number, with the transaction and the answer that were
 -- prepared. Its place, which the receipt tells, is above all before.

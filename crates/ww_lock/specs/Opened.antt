@@ -1,7 +1,9 @@
 -- What opening a world gives.
 use Rattle.std.specs.Prelude.{ℕ, ◌≡◌, ◌≤◌, ◌<◌, ◌⊎◌, List, [], length, slice_index_or}
 use Rattle.ww_plain.specs.declared.node.Node.{Node}
+use Rattle.std.specs.List.{AllByRecursion}
 use Rattle.ww_lock.specs.declared.world.OpenFault.{OpenFault}
+use Rattle.ww_lock.specs.declared.world.Rest.{Rest}
 use Rattle.ww_lock.specs.declared.world.OpenFault.TheVariants.{BadSize, NoMemory}
 use Rattle.ww_lock.specs.Holding.{Home, Holding, Place, AreAtHome}
 
@@ -14,6 +16,11 @@ fresh home first budget caller room =
 pub record AreFresh (all : List Holding) (first : List Node) (home : Home) (passes budget : ℕ) : Type 0 where
   pub count : length all ≡ passes
   pub each : (i : ℕ) (d : Holding) → i < length all → slice_index_or all i d ≡ fresh home first budget i (slice_index_or all i d).room
+
+-- so many parts of passes, each of which has seen this graph
+pub record AreRests (graph : List Node) (count : ℕ) (rests : List Rest) : Type 0 where
+  pub count_is : length rests ≡ count
+  pub seen : AllByRecursion (λ r. r.seen ≡ graph) rests
 
 -- 1 to 16 passes, each of which may do something
 pub record IsWorldSize (passes budget : ℕ) : Type 0 where

@@ -14,12 +14,13 @@ pub struct Acquiring {
 impl Model for Acquiring {
     ghost use Rattle.std.specs.Prelude.{◌<◌};
     ghost use Rattle.ww_lock.specs.Holding.{Holding};
+    ghost use Rattle.ww_lock.specs.Carried.{holding_of, CarriesFresh};
 
     ghost Value = { Holding };
 
-    ghost view = { λ s. s.hand };
+    ghost view = { λ s. holding_of s.hand };
 
-    ghost invariant = { λ s. 0 < s.hand.stamp };
+    ghost invariant = { λ s. CarriesFresh s.hand × (0 < s.hand.seat.stamp) };
 }
 
 /// What a lock call answers.
@@ -66,7 +67,7 @@ impl Acquiring {
     pub fn stamp(&self) -> u64
         ensures { result ≡ self.now.stamp }
     {
-        self.hand.stamp
+        self.hand.seat.stamp()
     }
 
     /// Whether the node is held.
@@ -85,9 +86,8 @@ impl Acquiring {
         if self.held(n) {
             return Lock::Already(self);
         }
-        let Acquiring { hand } = self;
-        let (hand, met) = world.take(rt, hand, n);
-        match met {
+        let Acquiring { mut hand } = self;
+        match hand.take(rt, world, n) {
             None => Lock::Locked(Acquiring { hand }),
             Some(met) => Lock::Deadlk(Backoff {
                 hand,
@@ -98,7 +98,7 @@ impl Acquiring {
     }
 
     /// Takes the lock of a node if nobody has it or waits for it, and waits for nobody.
-    pub fn try_lock<R: Wait>(self, rt: &R, world: &World, n: u8) -> Try
+    pub fn try_lock(self, world: &World, n: u8) -> Try
         requires home { IsAtHome self world.now }
         requires node { n < length world.now.first }
         ensures { IsTryAnswer self n result }
@@ -107,7 +107,7 @@ impl Acquiring {
             return Try::Busy(self);
         }
         let Acquiring { mut hand } = self;
-        if world.try_take(rt, &mut hand, n) {
+        if hand.try_take(world, n) {
             Try::Locked(Acquiring { hand })
         } else {
             Try::Busy(Acquiring { hand })
@@ -115,7 +115,7 @@ impl Acquiring {
     }
 
     /// The node as it was when it was locked; nothing where it isn't held. Its ports name nodes of the world, or none.
-    pub fn read<R: Wait>(&self, _rt: &R, world: &World, n: u8) -> Option<Node>
+    pub fn read(&self, world: &World, n: u8) -> Option<Node>
         requires home { IsAtHome self.now world.now }
         requires node { n < length world.now.first }
         ensures contents { result ≡ reads self.now n }
@@ -137,9 +137,8 @@ impl Acquiring {
         requires home { IsAtHome self world.now }
         ensures { result ≡ emptied self }
     {
-        let Acquiring { hand } = self;
-        Empty {
-            hand: world.give_all(rt, hand),
-        }
+        let Acquiring { mut hand } = self;
+        hand.give_all(rt, world);
+        Empty { hand }
     }
 }

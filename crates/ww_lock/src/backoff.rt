@@ -14,12 +14,13 @@ pub struct Backoff {
 impl Model for Backoff {
     ghost use Rattle.std.specs.Prelude.{◌<◌, length};
     ghost use Rattle.ww_lock.specs.Holding.{Refused};
+    ghost use Rattle.ww_lock.specs.Carried.{holding_of, CarriesFresh};
 
     ghost Value = { Refused };
 
-    ghost view = { λ s. record { holding = s.hand; contended = s.contended; met = s.met } };
+    ghost view = { λ s. record { holding = holding_of s.hand; contended = s.contended; met = s.met } };
 
-    ghost invariant = { λ s. (s.met < s.hand.stamp) × (s.contended < length s.hand.seen) };
+    ghost invariant = { λ s. CarriesFresh s.hand × (s.met < s.hand.seat.stamp) × (s.contended < length s.hand.seen) };
 }
 
 impl Backoff {
@@ -47,13 +48,11 @@ impl Backoff {
         ensures { result ≡ record { holding = emptied self.holding; contended = self.contended } }
     {
         let Backoff {
-            hand,
+            mut hand,
             contended,
             met: _,
         } = self;
-        Contended {
-            hand: world.give_all(rt, hand),
-            contended,
-        }
+        hand.give_all(rt, world);
+        Contended { hand, contended }
     }
 }

@@ -14,12 +14,13 @@ pub struct Contended {
 impl Model for Contended {
     ghost use Rattle.std.specs.Prelude.{◌≡◌, ◌<◌, [], length};
     ghost use Rattle.ww_lock.specs.Holding.{Wanting};
+    ghost use Rattle.ww_lock.specs.Carried.{holding_of, CarriesFresh};
 
     ghost Value = { Wanting };
 
-    ghost view = { λ s. record { holding = s.hand; contended = s.contended } };
+    ghost view = { λ s. record { holding = holding_of s.hand; contended = s.contended } };
 
-    ghost invariant = { λ s. (0 < s.hand.stamp) × (s.hand.held ≡ []) × (s.contended < length s.hand.seen) };
+    ghost invariant = { λ s. CarriesFresh s.hand × (0 < s.hand.seat.stamp) × (s.hand.held.items ≡ []) × (s.contended < length s.hand.seen) };
 }
 
 impl Contended {
@@ -34,19 +35,24 @@ impl Contended {
         ensures taken { IsTaken self.holding self.contended result }
         ensures alone { result.held ≡ self.contended ∷ [] }
     {
-        let Contended { hand, contended } = self;
-        let (hand, _) = world.take(rt, hand, contended);
+        let Contended {
+            mut hand,
+            contended,
+        } = self;
+        hand.take_alone(rt, world, contended);
         Acquiring { hand }
     }
 
     /// Ends the context.
-    pub fn fini<R: Wait>(self, rt: &R, world: &World) -> Pass
+    pub fn fini(self, world: &World) -> Pass
         requires home { IsAtHome self.holding world.now }
         ensures { result ≡ record self.holding { stamp = 0 } }
     {
-        let Contended { hand, contended: _ } = self;
-        Pass {
-            hand: world.end(rt, hand),
-        }
+        let Contended {
+            mut hand,
+            contended: _,
+        } = self;
+        hand.end(world);
+        Pass { hand }
     }
 }

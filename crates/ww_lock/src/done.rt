@@ -13,11 +13,15 @@ pub struct Done {
 }
 
 impl Model for Done {
+    ghost use Rattle.std.specs.Prelude.{◌<◌};
     ghost use Rattle.ww_lock.specs.Holding.{Holding};
+    ghost use Rattle.ww_lock.specs.Carried.{holding_of, CarriesFresh};
 
     ghost Value = { Holding };
 
-    ghost view = { λ s. s.hand };
+    ghost view = { λ s. holding_of s.hand };
+
+    ghost invariant = { λ s. CarriesFresh s.hand × (0 < s.hand.seat.stamp) };
 }
 
 /// A context that has committed, and still holds its locks.
@@ -26,11 +30,15 @@ pub struct Committed {
 }
 
 impl Model for Committed {
+    ghost use Rattle.std.specs.Prelude.{◌<◌};
     ghost use Rattle.ww_lock.specs.Holding.{Holding};
+    ghost use Rattle.ww_lock.specs.Carried.{holding_of, Carries};
 
     ghost Value = { Holding };
 
-    ghost view = { λ s. s.hand };
+    ghost view = { λ s. holding_of s.hand };
+
+    ghost invariant = { λ s. Carries s.hand × (0 < s.hand.seat.stamp) };
 }
 
 /// A context that has given all locks back.
@@ -39,14 +47,15 @@ pub struct Empty {
 }
 
 impl Model for Empty {
-    ghost use Rattle.std.specs.Prelude.{◌≡◌, []};
+    ghost use Rattle.std.specs.Prelude.{◌≡◌, ◌<◌, []};
     ghost use Rattle.ww_lock.specs.Holding.{Holding};
+    ghost use Rattle.ww_lock.specs.Carried.{holding_of, Carries};
 
     ghost Value = { Holding };
 
-    ghost view = { λ s. s.hand };
+    ghost view = { λ s. holding_of s.hand };
 
-    ghost invariant = { λ s. s.hand.held ≡ [] };
+    ghost invariant = { λ s. Carries s.hand × (0 < s.hand.seat.stamp) × (s.hand.held.items ≡ []) };
 }
 
 impl Done {
@@ -57,7 +66,7 @@ impl Done {
     ghost use Rattle.ww_lock.specs.Moves.{IsCommitted, emptied};
 
     /// Whether all that the transaction depends on and may change is held.
-    pub fn covers<R: Wait>(&self, _rt: &R, world: &World, txn: &Txn) -> bool
+    pub fn covers(&self, world: &World, txn: &Txn) -> bool
         requires home { IsAtHome self.now world.now }
         requires fits { Fits (length self.now.seen) (transaction_of txn.now) }
         ensures { IsTrue result ↔ Covers self.now (transaction_of txn.now) }
@@ -66,12 +75,7 @@ impl Done {
     }
 
     /// Prepares a transaction: makes every growth that its commit needs. Nothing is changed or recorded until that.
-    pub fn prepare<R: Wait>(
-        &mut self,
-        _rt: &R,
-        world: &World,
-        txn: Txn,
-    ) -> Result<Prepared, (Txn, AllocError)>
+    pub fn prepare(&mut self, world: &World, txn: Txn) -> Result<Prepared, (Txn, AllocError)>
         requires home { IsAtHome self.old world.now }
         requires fits { Fits (length self.old.seen) (transaction_of txn) }
         requires no_double { HasNoDouble (transaction_of txn) }
@@ -81,7 +85,7 @@ impl Done {
         ensures err { IfErr result (λ e. e.0 ≡ txn) }
         ensures refused { OnErr result (self.new ≡ self.old) }
     {
-        self.hand.prepare(txn)
+        self.hand.prepare(*world.wakers.allocator(), txn)
     }
 
     /// Whether what was prepared can be committed here: the nodes that it depends on and may change are held, with the contents
@@ -93,22 +97,14 @@ impl Done {
     }
 
     /// Commits what was prepared: it takes the next place of the one history, and the nodes change. It takes no memory.
-    pub fn commit<R: Wait>(
-        self,
-        rt: &R,
-        world: &World,
-        prepared: Prepared,
-    ) -> Result<(Committed, Receipt), (Done, Prepared)>
+    pub fn commit(self, world: &World, prepared: Prepared) -> (Committed, Receipt)
         requires home { IsAtHome self world.now }
         requires made { IsMade self prepared }
-        ensures ok { IfOk result (λ r. IsCommitted self prepared r.0 r.1) }
-        ensures err { IfErr result (λ e. (e.0 ≡ self) × (e.1 ≡ prepared)) }
+        ensures { IsCommitted self prepared result.0 result.1 }
     {
-        let Done { hand } = self;
-        match hand.commit(rt, world, prepared) {
-            Ok((hand, receipt)) => Ok((Committed { hand }, receipt)),
-            Err((hand, prepared)) => Err((Done { hand }, prepared)),
-        }
+        let Done { mut hand } = self;
+        let receipt = hand.commit(world, prepared);
+        (Committed { hand }, receipt)
     }
 
     /// Gives all locks back, with nothing committed.
@@ -116,10 +112,9 @@ impl Done {
         requires home { IsAtHome self world.now }
         ensures { result ≡ emptied self }
     {
-        let Done { hand } = self;
-        Empty {
-            hand: world.give_all(rt, hand),
-        }
+        let Done { mut hand } = self;
+        hand.give_all(rt, world);
+        Empty { hand }
     }
 }
 
@@ -133,10 +128,9 @@ impl Committed {
         requires home { IsAtHome self world.now }
         ensures { result ≡ emptied self }
     {
-        let Committed { hand } = self;
-        Empty {
-            hand: world.give_all(rt, hand),
-        }
+        let Committed { mut hand } = self;
+        hand.give_all(rt, world);
+        Empty { hand }
     }
 }
 
@@ -145,13 +139,12 @@ impl Empty {
     ghost use Rattle.ww_lock.specs.Holding.{IsAtHome};
 
     /// Ends the context.
-    pub fn fini<R: Wait>(self, rt: &R, world: &World) -> Pass
+    pub fn fini(self, world: &World) -> Pass
         requires home { IsAtHome self world.now }
         ensures { result ≡ record self { stamp = 0 } }
     {
-        let Empty { hand } = self;
-        Pass {
-            hand: world.end(rt, hand),
-        }
+        let Empty { mut hand } = self;
+        hand.end(world);
+        Pass { hand }
     }
 }

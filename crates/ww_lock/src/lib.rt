@@ -7,16 +7,14 @@
 
 mod acquiring;
 mod backoff;
-mod behind;
 mod close;
 mod contended;
 mod done;
 mod hand;
-mod look;
+mod locking;
 mod pass;
 mod prepared;
 mod solo;
-mod waiting;
 mod world;
 
 pub use acquiring::{Acquiring, Lock, Try};

@@ -15,24 +15,26 @@ pub struct Pass {
 impl Model for Pass {
     ghost use Rattle.std.specs.Prelude.{◌≡◌, []};
     ghost use Rattle.ww_lock.specs.Holding.{Holding};
+    ghost use Rattle.ww_lock.specs.Carried.{holding_of, Carries};
 
     ghost Value = { Holding };
 
-    ghost view = { λ s. s.hand };
+    ghost view = { λ s. holding_of s.hand };
 
-    ghost invariant = { λ s. (s.hand.stamp ≡ 0) × (s.hand.held ≡ []) };
+    ghost invariant = { λ s. Carries s.hand × (s.hand.seat.stamp ≡ 0) × (s.hand.held.items ≡ []) };
 }
 
 impl Pass {
-    ghost use Rattle.std.specs.Prelude.{◌≡◌, ◌<◌, ◌≤◌, ◌-◌, [], length, IfOk, IfErr};
+    ghost use Rattle.std.specs.Prelude.{◌≡◌, ◌<◌, ◌≤◌, ◌-◌, length, IfOk, IfErr};
     ghost use Rattle.ww_lock.specs.Holding.{IsAtHome};
+    ghost use Rattle.ww_lock.specs.Carried.{IsSpent};
     ghost use Rattle.ww_lock.specs.Moves.{IsBegun, IsSolo};
 
     /// Its number among the passes of its world, from 0.
     pub fn caller(&self) -> u8
         ensures { result ≡ self.now.caller }
     {
-        self.hand.caller
+        self.hand.seat.who()
     }
 
     /// How many contexts and solos it may still start.
@@ -46,12 +48,12 @@ impl Pass {
     pub fn commits(&self) -> u64
         ensures { result ≡ length self.now.own }
     {
-        self.hand.records.len() as u64
+        self.hand.seat.commits()
     }
 
     /// One context or solo less; a spent pass is given back.
     fn spend(self) -> Result<Hand, Pass>
-        ensures ok { IfOk result (λ h. (1 ≤ self.left) × (h ≡ record self { left = self.left - 1 }) × (h.held ≡ []) × (h.stamp ≡ 0)) }
+        ensures ok { IfOk result (IsSpent self) }
         ensures err { IfErr result (λ p. (self.left ≡ 0) × (p ≡ self)) }
     {
         if self.hand.left == 0 {
@@ -63,19 +65,13 @@ impl Pass {
     }
 
     /// Starts a context: it draws the next stamp of the world, and is younger than all before. A spent pass is given back.
-    pub fn begin<R: Wait>(self, rt: &R, world: &World) -> Result<Acquiring, Pass>
+    pub fn begin(self, world: &World) -> Result<Acquiring, Pass>
         requires home { IsAtHome self world.now }
         ensures ok { IfOk result (IsBegun self) }
         ensures err { IfErr result (λ p. (self.left ≡ 0) × (p ≡ self)) }
     {
         let mut hand = self.spend()?;
-        match world.draw(rt, &hand) {
-            Some(stamp) if stamp > 0 => hand.stamp = stamp,
-            _ => {
-                hand.stamp = 1;
-                hand.stale = true;
-            }
-        }
+        hand.begin(world);
         Ok(Acquiring { hand })
     }
 
@@ -86,8 +82,8 @@ impl Pass {
         ensures ok { IfOk result (IsSolo self n) }
         ensures err { IfErr result (λ p. (self.left ≡ 0) × (p ≡ self)) }
     {
-        let hand = self.spend()?;
-        let (hand, _) = world.take(rt, hand, n);
+        let mut hand = self.spend()?;
+        hand.take_alone(rt, world, n);
         Ok(Solo { hand })
     }
 }

@@ -1,14 +1,11 @@
-ghost use Rattle.std.specs.Prelude.{◌≡◌};
-ghost use Rattle.ww_plain.specs.History.{history_of};
-ghost use Rattle.ww_lock.specs.Behind.{stamped_first};
+ghost use Rattle.std.specs.Prelude.{◌≡◌, ◌<◌, ◌↔◌, length, IsTrue};
+ghost use Rattle.std.specs.List.{AllByRecursion};
+ghost use Rattle.ww_lock.specs.Holding.{SameAt};
 
-use crate::behind::same_at;
 use crate::hand::{Hand, are_among};
 use crate::world::World;
-use std::alloc::AllocError;
-use std::collections::LinkedList;
+use std::alloc::{AllocError, Global};
 use std::marker::Model;
-use std::sync::Wait;
 use ww_plain::{Graph, Record, Reply, Txn, apply, footprint};
 
 /// A transaction that was prepared. Nothing is changed or recorded before its commit, and it may be dropped.
@@ -16,8 +13,6 @@ use ww_plain::{Graph, Record, Reply, Txn, apply, footprint};
 pub struct Prepared {
     /// As it joins the own list.
     pub(crate) record: Record,
-    /// As it joins the chain behind the mutex: all the memory that a commit needs there.
-    pub(crate) cell: LinkedList<Record>,
     /// For the receipt.
     pub(crate) reply: Reply,
     pub(crate) before: Graph,
@@ -51,32 +46,27 @@ impl Hand {
     ghost use Rattle.std.specs.Prelude.{◌≡◌, ◌↔◌, length, IsTrue, IfOk, IfErr, OnErr};
     ghost use Rattle.ww_plain.specs.Transaction.{transaction_of, Fits, HasNoDouble};
     ghost use Rattle.ww_lock.specs.Holding.{IsAtHome};
+    ghost use Rattle.ww_lock.specs.Carried.{holding_of, Carries, CarriesFresh};
     ghost use Rattle.ww_lock.specs.Making.{Covers, IsMade, IsMadeOf, change_of};
     ghost use Rattle.ww_lock.specs.Moves.{IsCommitted};
 
     /// A transaction's change of the nodes as they were seen, in all the memory that its commit needs beside the own list.
-    fn change(&self, txn: &Txn) -> Result<Prepared, AllocError>
+    fn change(&self, alloc: Global, txn: &Txn) -> Result<Prepared, AllocError>
         requires fits { Fits (length self.now.seen) (transaction_of txn.now) }
         requires no_double { HasNoDouble (transaction_of txn.now) }
-        ensures { IfOk result (λ p. p ≡ change_of self.now (transaction_of txn.now)) }
+        ensures { IfOk result (λ p. p ≡ change_of (holding_of self.now) (transaction_of txn.now)) }
     {
-        let alloc = *self.records.allocator();
         let before = self.seen.copy(alloc)?;
         let mut after = self.seen.copy(alloc)?;
         let reply = apply(alloc, &mut after, txn)?;
         let record = Record {
-            caller: self.caller,
-            seq: self.records.len() as u64,
+            caller: self.seat.who(),
+            seq: self.seat.commits(),
             txn: txn.copy(alloc)?,
             reply: reply.copy(alloc)?,
         };
-        let mut cell = LinkedList::new(alloc);
-        let Ok(()) = cell.push_back(record.copy(alloc)?) else {
-            return Err(AllocError);
-        };
         Ok(Prepared {
             record,
-            cell,
             reply,
             before,
             after,
@@ -84,30 +74,34 @@ impl Hand {
     }
 
     /// The same, with the room in the own list that its commit needs.
-    fn change_with_room(&mut self, txn: &Txn) -> Result<Prepared, AllocError>
+    fn change_with_room(&mut self, alloc: Global, txn: &Txn) -> Result<Prepared, AllocError>
+        requires fresh { CarriesFresh self.old }
         requires fits { Fits (length self.old.seen) (transaction_of txn.now) }
         requires no_double { HasNoDouble (transaction_of txn.now) }
-        requires covers { Covers self.old (transaction_of txn.now) }
-        ensures same { self.new ≡ record self.old { room = self.new.room } }
-        ensures ok { IfOk result (λ p. IsMadeOf self.new p (transaction_of txn.now)) }
-        ensures refused { OnErr result (self.new ≡ self.old) }
+        requires covers { Covers (holding_of self.old) (transaction_of txn.now) }
+        ensures fresh { CarriesFresh self.new }
+        ensures same { holding_of self.new ≡ record (holding_of self.old) { room = (holding_of self.new).room } }
+        ensures ok { IfOk result (λ p. IsMadeOf (holding_of self.new) p (transaction_of txn.now)) }
+        ensures refused { OnErr result (holding_of self.new ≡ holding_of self.old) }
     {
-        let prepared = self.change(txn)?;
-        self.records.reserve(1)?;
+        let prepared = self.change(alloc, txn)?;
+        self.seat.reserve()?;
         Ok(prepared)
     }
 
     /// Prepares a transaction: makes every growth that its commit needs.
-    pub(crate) fn prepare(&mut self, txn: Txn) -> Result<Prepared, (Txn, AllocError)>
+    pub(crate) fn prepare(&mut self, alloc: Global, txn: Txn) -> Result<Prepared, (Txn, AllocError)>
+        requires fresh { CarriesFresh self.old }
         requires fits { Fits (length self.old.seen) (transaction_of txn) }
         requires no_double { HasNoDouble (transaction_of txn) }
-        requires covers { Covers self.old (transaction_of txn) }
-        ensures same { self.new ≡ record self.old { room = self.new.room } }
-        ensures ok { IfOk result (λ p. IsMadeOf self.new p (transaction_of txn)) }
+        requires covers { Covers (holding_of self.old) (transaction_of txn) }
+        ensures fresh { CarriesFresh self.new }
+        ensures same { holding_of self.new ≡ record (holding_of self.old) { room = (holding_of self.new).room } }
+        ensures ok { IfOk result (λ p. IsMadeOf (holding_of self.new) p (transaction_of txn)) }
         ensures err { IfErr result (λ e. e.0 ≡ txn) }
-        ensures refused { OnErr result (self.new ≡ self.old) }
+        ensures refused { OnErr result (holding_of self.new ≡ holding_of self.old) }
     {
-        match self.change_with_room(&txn) {
+        match self.change_with_room(alloc, &txn) {
             Ok(prepared) => Ok(prepared),
             Err(error) => Err((txn, error)),
         }
@@ -115,7 +109,8 @@ impl Hand {
 
     /// Whether what was prepared can be committed here.
     pub(crate) fn made(&self, prepared: &Prepared) -> bool
-        ensures { IsTrue result ↔ IsMade self.now prepared.now }
+        requires { Carries self.now }
+        ensures { IsTrue result ↔ IsMade (holding_of self.now) prepared.now }
     {
         if prepared.before.size() != self.seen.size() {
             return false;
@@ -127,55 +122,49 @@ impl Hand {
         if !same_at(&prepared.before, &self.seen, &nodes) {
             return false;
         }
-        self.records.len() < self.records.capacity()
+        self.seat.is_reserved()
     }
 
     /// Commits what was prepared: it takes the next place of the one history, and the nodes change.
-    pub(crate) fn commit<R: Wait>(
-        mut self,
-        rt: &R,
-        world: &World,
-        prepared: Prepared,
-    ) -> Result<(Hand, Receipt), (Hand, Prepared)>
-        requires home { IsAtHome self world.now }
-        requires made { IsMade self prepared }
-        ensures ok { IfOk result (λ r. IsCommitted self prepared r.0 r.1) }
-        ensures err { IfErr result (λ e. (e.0 ≡ self) × (e.1 ≡ prepared)) }
+    pub(crate) fn commit(&mut self, world: &World, prepared: Prepared) -> Receipt
+        requires home { IsAtHome (holding_of self.old) world.now }
+        requires fresh { CarriesFresh self.old }
+        requires made { IsMade (holding_of self.old) prepared }
+        ensures carries { Carries self.new }
+        ensures committed { IsCommitted (holding_of self.old) prepared (holding_of self.new) result }
     {
         let Prepared {
             mut record,
-            mut cell,
             reply,
             before,
             after,
         } = prepared;
-        record.caller = self.caller;
-        record.seq = self.records.len() as u64;
-        stamp(&mut cell, record.caller, record.seq);
+        let seq = self.seat.commits();
+        record.caller = self.seat.who();
+        record.seq = seq;
         let nodes = footprint(&before, &record.txn);
-        let Some(place) = world.commit(rt, &self, &nodes, &before, &after, &mut cell) else {
-            let prepared = Prepared {
-                record,
-                cell,
-                reply,
-                before,
-                after,
-            };
-            return Err((self, prepared));
-        };
-        let seq = record.seq;
-        self.least = place + 1;
-        self.records.push_reserved((place, record));
-        Ok((self, Receipt { place, seq, reply }))
+        let place = ww_seat::commit(
+            &mut self.seat,
+            &world.board,
+            record,
+            &before,
+            &after,
+            &nodes,
+        );
+        Receipt { place, seq, reply }
     }
 }
 
-/// Marks the first record of a chain as one of this caller and of this number.
-fn stamp(cell: &mut LinkedList<Record>, caller: u8, seq: u64)
-    ensures { history_of cell.new ≡ stamped_first caller seq (history_of cell.old) }
+/// Whether the two graphs have the same nodes at these numbers.
+fn same_at(graph: &Graph, other: &Graph, nodes: &[u8]) -> bool
+    requires there { AllByRecursion (λ n. n < length graph.now) nodes.now }
+    requires sizes { length other.now ≡ length graph.now }
+    ensures { IsTrue result ↔ SameAt graph.now other.now nodes.now }
 {
-    if let Some(record) = cell.front_mut() {
-        record.caller = caller;
-        record.seq = seq;
+    for n in nodes {
+        if !graph.node(*n).is_same(&other.node(*n)) {
+            return false;
+        }
     }
+    true
 }

@@ -15,12 +15,13 @@ pub struct Solo {
 impl Model for Solo {
     ghost use Rattle.std.specs.Prelude.{◌≡◌};
     ghost use Rattle.ww_lock.specs.Holding.{Holding};
+    ghost use Rattle.ww_lock.specs.Carried.{holding_of, CarriesFresh};
 
     ghost Value = { Holding };
 
-    ghost view = { λ s. s.hand };
+    ghost view = { λ s. holding_of s.hand };
 
-    ghost invariant = { λ s. s.hand.stamp ≡ 0 };
+    ghost invariant = { λ s. CarriesFresh s.hand × (s.hand.seat.stamp ≡ 0) };
 }
 
 /// One lock that was taken without a context, after its commit.
@@ -31,12 +32,13 @@ pub struct SoloDone {
 impl Model for SoloDone {
     ghost use Rattle.std.specs.Prelude.{◌≡◌};
     ghost use Rattle.ww_lock.specs.Holding.{Holding};
+    ghost use Rattle.ww_lock.specs.Carried.{holding_of, Carries};
 
     ghost Value = { Holding };
 
-    ghost view = { λ s. s.hand };
+    ghost view = { λ s. holding_of s.hand };
 
-    ghost invariant = { λ s. s.hand.stamp ≡ 0 };
+    ghost invariant = { λ s. Carries s.hand × (s.hand.seat.stamp ≡ 0) };
 }
 
 impl Solo {
@@ -47,7 +49,7 @@ impl Solo {
     ghost use Rattle.ww_lock.specs.Moves.{IsCommitted, emptied};
 
     /// The node as it was when it was locked; nothing where it isn't held.
-    pub fn read<R: Wait>(&self, _rt: &R, world: &World, n: u8) -> Option<Node>
+    pub fn read(&self, world: &World, n: u8) -> Option<Node>
         requires home { IsAtHome self.now world.now }
         requires node { n < length world.now.first }
         ensures { result ≡ reads self.now n }
@@ -56,7 +58,7 @@ impl Solo {
     }
 
     /// Whether all that the transaction depends on and may change is held.
-    pub fn covers<R: Wait>(&self, _rt: &R, world: &World, txn: &Txn) -> bool
+    pub fn covers(&self, world: &World, txn: &Txn) -> bool
         requires home { IsAtHome self.now world.now }
         requires fits { Fits (length self.now.seen) (transaction_of txn.now) }
         ensures { IsTrue result ↔ Covers self.now (transaction_of txn.now) }
@@ -65,12 +67,7 @@ impl Solo {
     }
 
     /// Prepares a transaction, as [`crate::Done::prepare`] does.
-    pub fn prepare<R: Wait>(
-        &mut self,
-        _rt: &R,
-        world: &World,
-        txn: Txn,
-    ) -> Result<Prepared, (Txn, AllocError)>
+    pub fn prepare(&mut self, world: &World, txn: Txn) -> Result<Prepared, (Txn, AllocError)>
         requires home { IsAtHome self.old world.now }
         requires fits { Fits (length self.old.seen) (transaction_of txn) }
         requires no_double { HasNoDouble (transaction_of txn) }
@@ -80,7 +77,7 @@ impl Solo {
         ensures err { IfErr result (λ e. e.0 ≡ txn) }
         ensures refused { OnErr result (self.new ≡ self.old) }
     {
-        self.hand.prepare(txn)
+        self.hand.prepare(*world.wakers.allocator(), txn)
     }
 
     /// Whether what was prepared can be committed here, as [`crate::Done::made`].
@@ -91,22 +88,14 @@ impl Solo {
     }
 
     /// Commits what was prepared, as [`crate::Done::commit`] does.
-    pub fn commit<R: Wait>(
-        self,
-        rt: &R,
-        world: &World,
-        prepared: Prepared,
-    ) -> Result<(SoloDone, Receipt), (Solo, Prepared)>
+    pub fn commit(self, world: &World, prepared: Prepared) -> (SoloDone, Receipt)
         requires home { IsAtHome self world.now }
         requires made { IsMade self prepared }
-        ensures ok { IfOk result (λ r. IsCommitted self prepared r.0 r.1) }
-        ensures err { IfErr result (λ e. (e.0 ≡ self) × (e.1 ≡ prepared)) }
+        ensures { IsCommitted self prepared result.0 result.1 }
     {
-        let Solo { hand } = self;
-        match hand.commit(rt, world, prepared) {
-            Ok((hand, receipt)) => Ok((SoloDone { hand }, receipt)),
-            Err((hand, prepared)) => Err((Solo { hand }, prepared)),
-        }
+        let Solo { mut hand } = self;
+        let receipt = hand.commit(world, prepared);
+        (SoloDone { hand }, receipt)
     }
 
     /// Gives the lock back, with nothing committed.
@@ -114,10 +103,9 @@ impl Solo {
         requires home { IsAtHome self world.now }
         ensures { result ≡ emptied self }
     {
-        let Solo { hand } = self;
-        Pass {
-            hand: world.give_all(rt, hand),
-        }
+        let Solo { mut hand } = self;
+        hand.give_all(rt, world);
+        Pass { hand }
     }
 }
 
@@ -131,9 +119,8 @@ impl SoloDone {
         requires home { IsAtHome self world.now }
         ensures { result ≡ emptied self }
     {
-        let SoloDone { hand } = self;
-        Pass {
-            hand: world.give_all(rt, hand),
-        }
+        let SoloDone { mut hand } = self;
+        hand.give_all(rt, world);
+        Pass { hand }
     }
 }

@@ -1,17 +1,20 @@
-ghost use Rattle.std.specs.Prelude.{◌≡◌, ◌≤◌, length, IfOk};
-ghost use Rattle.ww_lock.specs.Opened.{AreFresh};
+ghost use Rattle.std.specs.Prelude.{◌≡◌, ◌≤◌, [], length, IfOk, vec_len, vec_capacity};
+ghost use Rattle.ww_table.specs.Made.{AreNew};
+ghost use Rattle.ww_table.specs.Rule.{first_graph};
+ghost use Rattle.ww_lock.specs.Opened.{AreFresh, AreRests};
 
-use crate::behind::Behind;
 use crate::hand::Hand;
 use crate::pass::Pass;
 use arrayvec::ArrayVec;
 use crossbeam_utils::sync::{Parker, Unparker};
 use std::alloc::{AllocError, Global};
 use std::marker::Model;
-use std::sync::Mutex;
-use ww_model::MAX_SEATS;
 use ww_plain::Graph;
 use ww_queue::Kind;
+use ww_table::{Board, Seat16};
+
+/// How many passes a world has at most.
+const MAX_PASSES: u8 = 16;
 
 /// Why a world was not opened.
 #[derive(Clone, Copy, Debug, PartialEq, Eq)]
@@ -37,11 +40,9 @@ impl OpenFault {
 /// with, and how many passes it gave.
 #[derive(Drop)]
 pub struct World {
-    pub(crate) behind: Mutex<Behind>,
+    pub(crate) board: Board,
+    /// What wakes each pass, in their order.
     pub(crate) wakers: Vec<Unparker>,
-    /// What lies behind the mutex tells nothing of itself to the world that holds it: so the first graph is kept here too.
-    pub(crate) first: Graph,
-    pub(crate) home: u64,
 }
 
 impl Model for World {
@@ -49,11 +50,12 @@ impl Model for World {
 
     ghost Value = { Place };
 
-    ghost use Rattle.std.specs.Prelude.{◌≤◌, length};
+    ghost use Rattle.std.specs.Prelude.{◌≡◌, ◌≤◌, length};
+    ghost use Rattle.ww_table.specs.Rule.{first_graph};
 
-    ghost view = { λ w. record { home = w.home; first = w.first; passes = length w.wakers.items } };
+    ghost view = { λ w. record { home = w.board.table.shared.table_id; first = first_graph w.board.table.shared.key; passes = length w.wakers.items } };
 
-    ghost invariant = { λ w. length w.wakers.items ≤ 16 };
+    ghost invariant = { λ w. (length w.wakers.items ≤ 16) × (w.board.table.shared.key.seats ≡ length w.wakers.items) };
 }
 
 impl World {
@@ -72,70 +74,83 @@ impl World {
         ensures ok { IfOk result (λ r. IsOpened r.0 r.1.items graph passes budget) }
         ensures err { IfErr result (λ e. (e.0 ≡ graph) × IsOpenFault passes budget e.1) }
     {
-        if passes == 0 || usize::from(passes) > MAX_SEATS || budget == 0 {
+        if passes == 0 || passes > MAX_PASSES || budget == 0 {
             return Err((graph, OpenFault::BadSize));
         }
-        let home = some_number();
-        let Ok(behind) = Behind::new(alloc, kind, &graph, passes) else {
+        let Ok(room) = Vec::with_capacity(alloc, usize::from(passes)) else {
             return Err((graph, OpenFault::NoMemory));
         };
-        let Ok((all, wakers)) = fresh(alloc, &graph, home, passes, budget) else {
+        let Ok((rests, wakers)) = rests(alloc, &graph, passes) else {
             return Err((graph, OpenFault::NoMemory));
         };
-        let world = World {
-            behind: Mutex::new(behind),
-            wakers,
-            first: graph,
-            home,
-        };
-        Ok((world, all))
+        match Board::make(alloc, kind, graph, passes) {
+            Ok((board, seats)) => {
+                let all = fresh(&board, seats, rests, kind, budget, room);
+                Ok((World { board, wakers }, all))
+            }
+            Err((graph, _)) => Err((graph, OpenFault::NoMemory)),
+        }
     }
 
     /// How many nodes there are.
     pub fn size(&self) -> u8
         ensures { result ≡ length self.now.first }
     {
-        self.first.size()
+        self.board.size()
     }
 }
 
-/// A number of which nothing is known: so no two worlds are known to be the same, and a state of one is refused by the other
-/// where the program is checked.
-fn some_number() -> u64 {
-    0
+/// What a pass has beside its seat.
+#[derive(Drop)]
+struct Rest {
+    parker: Parker,
+    seen: Graph,
 }
 
-/// So many passes that have done nothing yet, and for each what wakes it.
-fn fresh(
-    alloc: Global,
-    graph: &Graph,
-    home: u64,
-    passes: u8,
-    budget: u32,
-) -> Result<(Vec<Pass>, Vec<Unparker>), AllocError>
-    ensures passes { IfOk result (λ r. AreFresh r.0.items graph.now home passes budget) }
+/// So many of these, and what wakes their parkers, in the opposite order: the last of them is that of the first pass.
+fn rests(alloc: Global, graph: &Graph, passes: u8) -> Result<(Vec<Rest>, Vec<Unparker>), AllocError>
+    ensures rests { IfOk result (λ r. AreRests graph.now passes r.0.items) }
     ensures wakers { IfOk result (λ r. length r.1.items ≡ passes) }
 {
-    // Its contract says how many nodes a graph has at most.
-    let _size = graph.size();
-    let mut all = Vec::new(alloc);
+    let mut rests = Vec::new(alloc);
     let mut wakers = Vec::new(alloc);
-    for caller in 0..passes {
+    for _ in 0..passes {
         let parker = Parker::new(alloc)?;
-        wakers.push(parker.unparker().clone()?)?;
+        let seen = graph.copy(alloc)?;
+        wakers.insert(0, parker.unparker().clone()?)?;
+        rests.push(Rest { parker, seen })?;
+    }
+    Ok((rests, wakers))
+}
+
+/// The passes of new seats, which have done nothing yet.
+fn fresh(
+    board: &Board,
+    seats: Vec<Seat16>,
+    mut rests: Vec<Rest>,
+    kind: Kind,
+    budget: u32,
+    mut all: Vec<Pass>,
+) -> Vec<Pass>
+    requires seats { AreNew board.now.table.shared.table_id board.now.table.shared.key (length seats.items) seats.items }
+    requires kind { board.now.table.shared.key.kind ≡ kind }
+    requires rests { AreRests (first_graph board.now.table.shared.key) (length seats.items) rests.items }
+    requires room { (all.items ≡ []) × (vec_len all ≡ 0) × (length seats.items ≤ vec_capacity all) }
+    ensures { AreFresh result.items (first_graph board.now.table.shared.key) board.now.table.shared.table_id (length seats.items) budget }
+{
+    for seat in seats {
+        let Some(Rest { parker, seen }) = rests.pop() else {
+            unreachable!()
+        };
         let hand = Hand {
-            home,
-            caller,
+            seat,
+            kind,
             left: budget,
-            stamp: 0,
-            records: Vec::new(alloc),
-            least: 0,
             held: ArrayVec::new(),
-            seen: graph.copy(alloc)?,
-            stale: false,
+            seen,
             parker,
         };
-        all.push(Pass { hand })?;
+        all.push_reserved(Pass { hand });
     }
-    Ok((all, wakers))
+    all
 }

@@ -1,19 +1,47 @@
-use Rattle.std.proofs.Common.{◌≡◌, [], refl, rules}
-use Rattle.ww_lock.proofs.Helds.{held_none, fresh_more}
+use Rattle.std.proofs.Common.{◌≡◌, [], ◌∷◌, ◌++◌, List, ℕ, ◌+◌, length, length-append, append_assoc, refl, sym, ap, subst, ◌∙◌, rules, arith}
+use mathlib.Core.Option.{some}
+use lib.ListN.{get_elem?}
+use Rattle.ww_table.specs.declared.seat.Seat16.{Seat16}
+use Rattle.ww_table.specs.Rule.{first_graph}
+use Rattle.ww_table.specs.Seat.{IsNew}
+use Rattle.ww_lock.specs.declared.hand.Hand.{Hand}
+use Rattle.ww_lock.specs.Opened.{AreFresh, AreRests}
+use Rattle.ww_lock.proofs.Openings.{elem_mid, rests_less, new_carries, new_holding, new_idle, fresh_more}
 use Rattle.ww_lock.proofs.world.fresh.Goals as goal
 
-pub invariant_of-hand : goal.invariant_of-hand
-invariant_of-hand c =
-    let own : c.new-in-loop-caller.result.items ≡ [] = search rules in
-    let none : c.new-in-loop-caller-2.result.items ≡ [] = search rules in
-    rw (own, none, c.in_ok-copy.ensures) (held_none c.args.graph.now c.loop-caller.invariant.2, tt)
+pub invariant_of-push_reserved : goal.invariant_of-push_reserved
+invariant_of-push_reserved c =
+    let i = c.loop-seat.invariant in
+    let shared = c.args.board.now.table.shared in
+    let step : c.loop-seat.seat-iterator.rest.items ≡ c.in-Some.seat ∷ c.next.new.self.rest.items = search rules in
+    let whole = ap (λ (l : List Seat16). c.loop-seat.yielded ++ l) (sym step) ∙ i.2 in
+    let there : get_elem? c.args.seats.items (length c.loop-seat.yielded) ≡ some c.in-Some.seat = subst (λ (l : List Seat16). get_elem? l (length c.loop-seat.yielded) ≡ some c.in-Some.seat) whole (elem_mid c.loop-seat.yielded c.next.new.self.rest.items c.in-Some.seat) in
+    let new = c.requires.seats.new (length c.loop-seat.yielded) c.in-Some.seat there in
+    let popped : c.loop-seat.rests.items ≡ c.pop.new.self.items ++ c.in-Some-pop.field-0 ∷ [] = search rules in
+    let less = rests_less (first_graph shared.key) (length c.next.new.self.rest.items) c.loop-seat.rests.items c.pop.new.self.items c.in-Some-pop.field-0 (subst (λ (k : ℕ). AreRests (first_graph shared.key) k c.loop-seat.rests.items) (ap length step) i.3) popped in
+    let none : c.new.result.items ≡ [] = search rules in
+    (new_carries shared.table_id shared.key (length c.loop-seat.yielded) _ new c.requires.kind none less.1 c.args.board.now.few (omega (arith, c.ranges.budget.fits)), new_idle shared.table_id shared.key _ c.in-Some.seat new, none)
 
-pub loop-caller-preserved : goal.loop-caller-preserved
-loop-caller-preserved c =
-    let i = c.loop-caller.invariant in
-    let own : c.new-in-loop-caller.result.items ≡ [] = search rules in
-    let none : c.new-in-loop-caller-2.result.items ≡ [] = search rules in (
-      fresh_more c.loop-caller.all.items c.push-in-loop-caller.new.self.items _ c.args.graph.now c.args.home c.loop-caller.caller c.args.budget i.0 (rw (own, none, c.in_ok-copy.ensures) refl) c.in_ok-push-2.ensures.items,
-      search rules,
-      i.2,
+pub loop-seat-preserved : goal.loop-seat-preserved
+loop-seat-preserved c =
+    let i = c.loop-seat.invariant in
+    let shared = c.args.board.now.table.shared in
+    let step : c.loop-seat.seat-iterator.rest.items ≡ c.in-Some.seat ∷ c.next.new.self.rest.items = search rules in
+    let whole = ap (λ (l : List Seat16). c.loop-seat.yielded ++ l) (sym step) ∙ i.2 in
+    let there : get_elem? c.args.seats.items (length c.loop-seat.yielded) ≡ some c.in-Some.seat = subst (λ (l : List Seat16). get_elem? l (length c.loop-seat.yielded) ≡ some c.in-Some.seat) whole (elem_mid c.loop-seat.yielded c.next.new.self.rest.items c.in-Some.seat) in
+    let new = c.requires.seats.new (length c.loop-seat.yielded) c.in-Some.seat there in
+    let popped : c.loop-seat.rests.items ≡ c.pop.new.self.items ++ c.in-Some-pop.field-0 ∷ [] = search rules in
+    let less = rests_less (first_graph shared.key) (length c.next.new.self.rest.items) c.loop-seat.rests.items c.pop.new.self.items c.in-Some-pop.field-0 (subst (λ (k : ℕ). AreRests (first_graph shared.key) k c.loop-seat.rests.items) (ap length step) i.3) popped in
+    let none : c.new.result.items ≡ [] = search rules in
+    let more : length (c.loop-seat.yielded ++ c.in-Some.seat ∷ []) ≡ length c.loop-seat.yielded + 1 = length-append c.loop-seat.yielded (c.in-Some.seat ∷ []) in
+    let hand : Hand = record { seat = c.in-Some.seat; kind = c.args.kind; left = c.args.budget; held = c.new.result; seen = c.in-Some-pop.field-0.seen; parker = c.in-Some-pop.field-0.parker } in
+    let holding = new_holding shared.table_id shared.key (length c.loop-seat.yielded) hand new none less.1 in (
+      tt,
+      tt,
+      append_assoc c.loop-seat.yielded (c.in-Some.seat ∷ []) c.next.new.self.rest.items ∙ whole,
+      less.0,
+      subst (λ (k : ℕ). AreFresh c.push_reserved.new.self.items (first_graph shared.key) shared.table_id k c.args.budget) (sym more)
+          (fresh_more c.loop-seat.all.items c.push_reserved.new.self.items _ (first_graph shared.key) shared.table_id (length c.loop-seat.yielded) c.args.budget i.4 holding c.push_reserved.ensures.items),
+      omega (arith, more, i.5, c.push_reserved.ensures.len),
+      omega (arith, i.6, c.push_reserved.ensures.capacity),
     )

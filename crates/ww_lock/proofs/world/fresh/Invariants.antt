@@ -1,7 +1,12 @@
-use Rattle.std.proofs.Common.{◌≡◌, ◌≤◌, length}
-use Rattle.ww_lock.specs.Opened.{AreFresh}
+use Rattle.std.proofs.Common.{◌≡◌, ◌≤◌, ◌++◌, length}
+use Rattle.std.specs.Prelude.{vec_len, vec_capacity}
+use Rattle.ww_table.specs.Rule.{first_graph}
+use Rattle.ww_lock.specs.Opened.{AreFresh, AreRests}
 use Rattle.ww_lock.proofs.world.fresh.Given as goal
 
-abbrev pub invariant-loop-caller : goal.invariant-loop-caller
-invariant-loop-caller l =
-    AreFresh l.all.items l.graph l.home l.caller l.budget × (length l.wakers.items ≡ l.caller) × (length l.graph ≤ 64)
+abbrev pub invariant-loop-seat : goal.invariant-loop-seat
+invariant-loop-seat l =
+    (goal.iterator-loop-seat).can_next l.seat-iterator × (goal.iterator-loop-seat).is_finite l.seat-iterator × (l.yielded ++ l.seat-iterator.rest.items ≡ l.fn.seats.items)
+    × AreRests (first_graph l.board.table.shared.key) (length l.seat-iterator.rest.items) l.rests.items
+    × AreFresh l.all.items (first_graph l.board.table.shared.key) l.board.table.shared.table_id (length l.yielded) l.budget
+    × (vec_len l.all ≡ length l.yielded) × (length l.fn.seats.items ≤ vec_capacity l.all)

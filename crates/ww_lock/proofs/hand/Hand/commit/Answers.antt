@@ -1,20 +1,38 @@
-use Rattle.std.proofs.Common.{ap, ◌∙◌, rules}
-use Rattle.ww_plain.specs.History.{history_of}
-use Rattle.ww_lock.specs.Behind.{stamped_first}
-use Rattle.ww_lock.specs.Holding.{AreBelow, own_of}
-use Rattle.ww_lock.proofs.Changes.{below_next}
+use Rattle.std.proofs.Common.{◌≡◌, refl, sym, subst, ◌∙◌}
+use Rattle.ww_plain.specs.declared.history.Record.{Record}
+use Rattle.ww_plain.specs.Transaction.{transaction_of}
+use Rattle.ww_plain.specs.Meaning.{answer_of}
+use Rattle.ww_lock.specs.declared.hand.Hand.{Hand}
+use Rattle.ww_lock.specs.declared.prepared.Receipt.{Receipt}
+use Rattle.ww_lock.specs.Holding.{Change}
+use Rattle.ww_lock.specs.Carried.{holding_of}
+use Rattle.ww_lock.specs.Making.{IsMade}
+use Rattle.ww_lock.specs.Moves.{IsCommitted}
+use Rattle.ww_lock.proofs.Changes.{may_commit, MayCommit, commits}
 use Rattle.ww_lock.proofs.hand.Hand.commit.Goals as goal
 
-pub invariant_of-prepared : goal.invariant_of-prepared
-invariant_of-prepared g c =
-    let p = c.prepared.invariant in record {
-      cell = ap history_of c.in_default.ensures.none ∙ c.stamp.ensures ∙ ap (stamped_first c.self.inside.caller c.len.result) p.cell;
-      reply = p.reply;
-      next = record { fits = p.next.fits; no_double = p.next.no_double; answered = p.next.answered };
-      leads = p.leads;
-    }
+pub commit-place-requires-clause-owner : goal.commit-place-requires-clause-owner
+commit-place-requires-clause-owner c =
+    let i = c.prepared.inside in
+    let p : Change = record { transaction = transaction_of i.record.txn; answer = answer_of i.record.reply; before = i.before; after = i.after } in
+    let r : Record = record (i.record) { caller = c.who.result; seq = c.commits-seq.result } in
+    (may_commit c.args.self.now p r c.deref.result.now c.requires.fresh (subst (IsMade (holding_of c.args.self.now)) (sym c.prepared.view_is) c.requires.made) c.who.ensures c.commits-seq.ensures c.prepared.invariant.next.fits (c.deref.ensures.0 ∙ c.footprint-nodes.ensures)).owner
 
-pub invariant_of-self : goal.invariant_of-self
-invariant_of-self g c =
-    let below : AreBelow c.in-Some.place (own_of c.self.inside.records.items) = search rules in
-    (c.self.invariant.0, rw c.push_reserved.ensures.items (below_next c.in-Some.place c.self.inside.records.items _ below))
+pub commit-place-requires-clause-held : goal.commit-place-requires-clause-held
+commit-place-requires-clause-held c =
+    let i = c.prepared.inside in
+    let p : Change = record { transaction = transaction_of i.record.txn; answer = answer_of i.record.reply; before = i.before; after = i.after } in
+    let r : Record = record (i.record) { caller = c.who.result; seq = c.commits-seq.result } in
+    (may_commit c.args.self.now p r c.deref.result.now c.requires.fresh (subst (IsMade (holding_of c.args.self.now)) (sym c.prepared.view_is) c.requires.made) c.who.ensures c.commits-seq.ensures c.prepared.invariant.next.fits (c.deref.ensures.0 ∙ c.footprint-nodes.ensures)).held
+
+pub returns : goal.returns
+returns c =
+    let i = c.prepared.inside in
+    let p : Change = record { transaction = transaction_of i.record.txn; answer = answer_of i.record.reply; before = i.before; after = i.after } in
+    let r : Record = record (i.record) { caller = c.who.result; seq = c.commits-seq.result } in
+    let e = c.commit-place.ensures in
+    let g : Hand = record (c.args.self.now) { seat = c.commit-place.new.seat } in
+    let told : Receipt = record { place = c.commit-place.result; seq = c.commits-seq.result; reply = i.reply } in
+    let b = commits c.args.self.now c.args.world.now _ c.commit-place.new.seat p r _ _ told c.world.view_is c.requires.home c.requires.fresh e.seat e.committed
+    (rw (c.who.ensures, c.commits-seq.ensures) refl) c.commits-seq.ensures c.prepared.invariant.reply in
+    record { carries = b.carries; committed = subst (λ (q : Change). IsCommitted (holding_of c.args.self.now) q (holding_of g) told) c.prepared.view_is b.is }

@@ -1,17 +1,42 @@
-use Rattle.std.proofs.Common.{◌<◌, ◌≡◌, false, length, sym, subst, ap, ◌∙◌, length-set, arith}
-use Rattle.ww_plain.specs.Numbers.{is_among}
-use Rattle.ww_lock.specs.Holding.{Holding}
-use Rattle.ww_lock.proofs.Helds.{held_more, room_held}
+use Rattle.std.proofs.Common.{◌≡◌, arith, inl, inr, sym, ◌∙◌, subst}
+use Rattle.ww_table.specs.declared.seat.Seat16.{Seat16}
+use Rattle.ww_seat.specs.Calls.{TriedOnce}
+use Rattle.ww_lock.proofs.Carrying.{here, at_table, bare_of, takes, keeps, holds_one}
 use Rattle.ww_lock.proofs.hand.Hand.take.Goals as goal
 
-pub push-requires : goal.push-requires
-push-requires c =
-    let there = subst (λ (s : Holding). c.args.n < length s.seen) (sym c.self.view_is) c.requires.node in
-    let new = subst (λ (s : Holding). is_among c.args.n s.held ≡ false) (sym c.self.view_is) c.requires.new in
-    (omega arith, room_held c.self.inside.held.items c.self.inside.seen c.args.n c.self.invariant.0 there new)
+pub take-taken-requires-clause-settled : goal.take-taken-requires-clause-settled
+take-taken-requires-clause-settled g c = here c.args.self.now c.args.world.now _ c.world.view_is c.requires.home c.requires.fresh.carries
 
-pub invariant_of-self : goal.invariant_of-self
-invariant_of-self c =
-    let there = subst (λ (s : Holding). c.args.n < length s.seen) (sym c.self.view_is) c.requires.node in
-    let new = subst (λ (s : Holding). is_among c.args.n s.held ≡ false) (sym c.self.view_is) c.requires.new in
-    (held_more c.self.inside.held.items c.push.new.self.items c.self.inside.seen c.take_from.new.self c.args.n c.self.invariant.0 there new c.push.ensures.items (ap length c.take_from.ensures ∙ length-set c.self.inside.seen c.args.n _), c.self.invariant.1)
+pub take-taken-requires-clause-lock : goal.take-taken-requires-clause-lock
+take-taken-requires-clause-lock g c = omega (arith, c.requires.node, (at_table _ c.args.world.now _ c.world.view_is c.requires.home).1)
+
+pub take-taken-requires-clause-lacks : goal.take-taken-requires-clause-lacks
+take-taken-requires-clause-lacks g c = c.requires.fresh.carries.owned c.args.n ∙ c.requires.new
+
+pub take-taken-requires-clause-base : goal.take-taken-requires-clause-base
+take-taken-requires-clause-base g c = elim c.requires.want [
+  | inl some ↦ inl (omega (arith, some, c.requires.fresh.carries.settled.seated.stamp))
+  | inr none ↦ inr (bare_of c.args.self.now c.requires.fresh.carries none)
+]
+
+pub returns-in-Ok : goal.returns-in-Ok
+returns-in-Ok g c =
+    let e = c.take-taken.ensures in
+    let added = c.add.ensures in
+    let t = takes c.args.self.now c.add.new.self c.args.world.now _ c.take-taken.new.seat c.args.n c.in-Ok.node c.world.view_is c.requires.home c.requires.fresh c.requires.node c.requires.new e.settled e.records c.in-Ok.ensures.ok
+    added.seat added.same.0 added.same.1 added.held added.seen in
+    record { fresh = t.fresh; taken = t.is; same = tt; older = tt; dies = tt; tries = subst (λ (s : Seat16). TriedOnce c.args.self.now.seat.seat.me s.seat.me) (sym added.seat) e.once }
+
+pub returns-in-Err : goal.returns-in-Err
+returns-in-Err g c =
+    let e = c.take-taken.ensures in
+    let d = c.in-Err.ensures.err in
+    let k = keeps c.args.self.now c.args.world.now _ c.take-taken.new.seat c.world.view_is c.requires.home c.requires.fresh e.settled e.records d.holds in
+    record {
+      fresh = k.fresh;
+      taken = tt;
+      same = k.is;
+      older = (omega (arith, d.older, c.requires.fresh.carries.settled.seated.stamp), holds_one c.args.self.now c.requires.fresh.carries d.one);
+      dies = d;
+      tries = e.once;
+    }

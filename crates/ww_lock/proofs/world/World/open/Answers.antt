@@ -1,20 +1,26 @@
-use Rattle.std.proofs.Common.{length, refl, arith}
+use Rattle.std.proofs.Common.{ℕ, List, length, sym, subst, ◌∙◌, arith}
+use Rattle.ww_plain.specs.declared.node.Node.{Node}
+use Rattle.ww_table.specs.Rule.{first_graph}
 use Rattle.ww_lock.specs.Holding.{Place}
-use Rattle.ww_lock.proofs.Helds.{fresh_home}
+use Rattle.ww_lock.specs.Opened.{AreFresh}
+use Rattle.ww_lock.proofs.Openings.{fresh_home}
 use Rattle.ww_lock.proofs.world.World.open.Goals as goal
 
-pub returns-clause-ok : goal.returns-clause-ok
-returns-clause-ok c =
-    let w : Place = record { home = c.some_number-home.result; first = c.args.graph; passes = length c.in-Ok-fresh.wakers.items } in
-    let fresh = c.in-Ok-fresh.ensures.passes in
-    let count = c.in-Ok-fresh.ensures.wakers in record {
+pub returns-in-Ok-make-clause-ok : goal.returns-in-Ok-make-clause-ok
+returns-in-Ok-make-clause-ok c =
+    let m = c.in-Ok-make.ensures.ok in
+    let shared = c.in-Ok-make.board.table.shared in
+    let w : Place = record { home = shared.table_id; first = first_graph shared.key; passes = length c.in-Ok-rests.wakers.items } in
+    let all = c.fresh-all.result.items in
+    let count = c.in-Ok-rests.ensures.wakers in
+    let fresh = subst (λ (k : ℕ). AreFresh all w.first w.home k c.args.budget) m.seats_are.many c.fresh-all.ensures in record {
       sizes = record {
         some = omega (arith, c.if-passes-eq0.false);
-        few = omega (arith, c.if-from-gt-MAX_SEATS.false, c.from.ensures);
+        few = omega (arith, c.if-passes-gt-MAX_PASSES.false);
         budgeted = omega (arith, c.if-budget-eq0.false);
       };
-      first_graph = refl;
+      first_graph = m.graph_is;
       count = count;
-      passes_fresh = fresh;
-      home = fresh_home w c.in-Ok-fresh.all.items c.args.passes c.args.budget fresh count;
+      passes_fresh = subst (λ (g : List Node). AreFresh all g w.home c.args.passes c.args.budget) m.graph_is fresh;
+      home = fresh_home w all c.args.passes c.args.budget fresh count;
     }

@@ -1,0 +1,106 @@
+-- Passes that have done nothing yet.
+use Rattle.std.proofs.Common.{◌≡◌, ℕ, suc, ◌+◌, ◌<◌, ◌≤◌, ◌^◌, false, inl, inr, List, [], ◌∷◌, ◌++◌, length, replicate, refl, sym, ap, subst, ◌∙◌, arith, length-append, get_or, below_more, true≢false, None}
+use Rattle.std.specs.List.{AllByRecursion}
+use Rattle.std.proofs.lemmas.List.{get_or_append_left, get_or_push, get_or-replicate, length-replicate}
+use Rattle.std.proofs.lemmas.List.{get_or_past}
+use Rattle.std.proofs.lemmas.Bool.{cases_lt}
+use Rattle.atomic_table.specs.Seated.{TableId}
+use Rattle.ww_plain.specs.declared.node.Node.{Node}
+use Rattle.ww_view.specs.View.{owns}
+use Rattle.ww_table.specs.declared.cells.Start.{Start}
+use Rattle.ww_table.specs.declared.seat.Seat16.{Seat16}
+use Rattle.ww_table.specs.Rule.{Sat, first_graph, first_part}
+use Rattle.ww_table.specs.Steps.{seat_of}
+use Rattle.ww_table.specs.Seat.{IsNew, IsSeated}
+use Rattle.ww_view.specs.View.{IsAway}
+use Rattle.ww_plain.specs.Numbers.{is_among}
+use Rattle.ww_seat.specs.Orderly.{IsOrderly, IsSettled}
+use Rattle.ww_lock.specs.declared.hand.Hand.{Hand}
+use Rattle.ww_lock.specs.Holding.{Home, Holding, Place, IsAtHome, AreAtHome, own_of}
+use Rattle.ww_lock.specs.Carried.{holding_of, Carries}
+use Rattle.ww_lock.specs.Opened.{fresh, AreFresh, AreRests}
+use Rattle.ww_lock.specs.declared.world.Rest.{Rest}
+use mathlib.Core.Option.{some}
+use lib.ListN.{get_elem?}
+use Rattle.ww_lock.proofs.Helds.{held_none}
+
+-- what owns nothing at any number
+none_owned : (n : ℕ) → get_or (replicate 64 false) n false ≡ false
+none_owned n = elim (cases_lt n 64) [
+  | inl lt ↦ get_or-replicate 64 n false false lt
+  | inr le ↦ get_or_past (replicate 64 false) n false (omega (arith, le, length-replicate 64 false))
+]
+
+new_orderly : (key : Start) (k : ℕ) → length (first_graph key) ≤ 64 → IsOrderly (length (first_graph key)) (seat_of (length (first_graph key)) (first_part key.kind k), [])
+new_orderly key k few = record {
+  few = few;
+  owned = length-replicate 64 false;
+  held = length-replicate (length (first_graph key)) None;
+  apart = tt;
+  nodes = λ n owner. absurd (true≢false (sym owner ∙ none_owned n));
+  others = λ n lt lacks. refl;
+  list = λ n inside. absurd cc;
+  lists = λ n outside. refl;
+}
+
+-- a seat that was made just now, in a state that has seen the graph
+pub new_carries : (t : TableId) (key : Start) (k : ℕ) (h : Hand) → IsNew t key k h.seat → key.kind ≡ h.kind → h.held.items ≡ [] → h.seen ≡ first_graph key → length (first_graph key) ≤ 64 → h.left < 2 ^ 32 → Carries h
+new_carries t key k h new kind none seen few left =
+    let me = new.me in
+    let size : length h.seen ≡ length (first_graph key) = ap length seen in
+    let list : h.seat.records.items ≡ [] = new.seated.records ∙ ap (λ (m : Sat). m.0.part.own) me in
+    record {
+      settled = record {
+        seated = subst (λ (z : TableId). IsSeated z h.seat) (sym new.seated.home) new.seated;
+        orderly = subst (λ (s : ℕ). IsOrderly s h.seat.seat.me) (sym size) (subst (IsOrderly (length (first_graph key))) (sym me) (new_orderly key k few));
+        away = subst (λ (m : Sat). IsAway m.0.part.core) (sym me) (refl, refl);
+      };
+      kind = sym kind ∙ sym (ap (λ (m : Sat). m.0.part.core.kind) me);
+      owned = λ n. ap (λ (m : Sat). owns m.0.part.core n) me ∙ none_owned n ∙ sym (ap (is_among n) none);
+      held = rw (none, seen) (held_none (first_graph key) few);
+      draws = omega (arith, left, ap (λ (m : Sat). m.0.part.draws) me);
+      commits = omega (arith, left, ap length list);
+    }
+
+pub new_holding : (t : TableId) (key : Start) (k : ℕ) (h : Hand) → IsNew t key k h.seat → h.held.items ≡ [] → h.seen ≡ first_graph key → holding_of h ≡ fresh t (first_graph key) h.left k (holding_of h).room
+new_holding t key k h new none seen =
+    let list : h.seat.records.items ≡ [] = new.seated.records ∙ ap (λ (m : Sat). m.0.part.own) new.me in
+    let stamp : h.seat.stamp ≡ 0 = sym new.seated.stamp ∙ ap (λ (m : Sat). m.0.part.core.stamp) new.me in
+    let own : own_of h.seat.records.items ≡ [] = ap own_of list in
+    rw (new.seated.home, new.number, stamp, own, none, seen) refl
+
+pub new_idle : (t : TableId) (key : Start) (k : ℕ) (q : Seat16) → IsNew t key k q → q.stamp ≡ 0
+new_idle t key k q new = sym new.seated.stamp ∙ ap (λ (m : Sat). m.0.part.core.stamp) new.me
+
+pub fresh_more : (all new : List Holding) (s : Holding) (first : List Node) (home : Home) (n budget : ℕ) → AreFresh all first home n budget → s ≡ fresh home first budget n s.room → new ≡ all ++ s ∷ [] → AreFresh new first home (n + 1) budget
+fresh_more all new s first home n budget h is grown = rw grown (record {
+  count = omega (arith, h.count, length-append all (s ∷ []));
+  each = λ i d lt. below_more (λ j. (e : Holding) → get_or (all ++ s ∷ []) j e ≡ fresh home first budget j (get_or (all ++ s ∷ []) j e).room) n
+      (λ j low e. let small : j < length all = omega (arith, h.count, low) in rw (get_or_append_left all (s ∷ []) e j small) (h.each j e small))
+      (λ e. rw (get_or_push all s e n h.count) is)
+      i (omega (arith, h.count, lt, length-append all (s ∷ []))) d;
+})
+
+-- what holds at each index holds of each
+pub all_from_index : {A : Type 0} (P : A → Type 0) (xs : List A) → ((i : ℕ) (d : A) → i < length xs → P (get_or xs i d)) → AllByRecursion P xs
+all_from_index P [] each = tt
+all_from_index P (x ∷ xs) each = (each 0 x (omega arith), all_from_index P xs (λ i d lt. each (suc i) d (omega (arith, lt))))
+
+-- passes that have done nothing yet are at home where they were made
+pub fresh_home : (w : Place) (all : List Holding) (passes budget : ℕ) → AreFresh all w.first w.home passes budget → w.passes ≡ passes → AreAtHome all w
+fresh_home w all passes budget fresh count = all_from_index (λ s. IsAtHome s w) all (λ i d lt.
+    subst (λ (s : Holding). IsAtHome s w) (sym (fresh.each i d lt)) (record { home = refl; size = refl; number = omega (arith, lt, fresh.count, count) }))
+
+pub elem_mid : {A : Type 0} (xs ys : List A) (y : A) → get_elem? (xs ++ y ∷ ys) (length xs) ≡ some y
+elem_mid [] ys y = refl
+elem_mid (x ∷ xs) ys y = elem_mid xs ys y
+
+-- one of these parts less
+pub rests_less : (graph : List Node) (count : ℕ) (rests front : List Rest) (r : Rest) → AreRests graph (suc count) rests → rests ≡ front ++ r ∷ [] → AreRests graph count front × (r.seen ≡ graph)
+rests_less graph count rests front r h is =
+    let split = last_of front r (subst (AllByRecursion (λ (x : Rest). x.seen ≡ graph)) is h.seen) in
+    (record { count_is = omega (arith, h.count_is, ap length is, length-append front (r ∷ [])); seen = split.0 }, split.1)
+  where
+    last_of : (front : List Rest) (r : Rest) → AllByRecursion (λ (x : Rest). x.seen ≡ graph) (front ++ r ∷ []) → AllByRecursion (λ (x : Rest). x.seen ≡ graph) front × (r.seen ≡ graph)
+    last_of [] r all = (tt, all.0)
+    last_of (x ∷ xs) r all = let rest = last_of xs r all.1 in ((all.0, rest.0), rest.1)

@@ -1,0 +1,10 @@
+use Rattle.std.proofs.Common.{◌≡◌, ◌+◌, length}
+use Rattle.ww_lock.specs.Carried.{holding_of, Carries}
+use Rattle.ww_lock.proofs.hand.Hand.give_all.Given as goal
+
+abbrev pub invariant-loop : goal.invariant-loop
+invariant-loop g l = record {
+  carries : Carries l.self;
+  same : holding_of l.self ≡ record (holding_of l.fn.self) { held = l.self.held.items };
+  turns : length l.self.held.items + l.counter ≡ l.end;
+}

@@ -1,0 +1,34 @@
+use Rattle.std.proofs.Common.{arith, inl, sym, ◌∙◌, true≢false, subst}
+use Rattle.ww_lock.proofs.Carrying.{here, at_table, takes, Takes, keeps, Keeps}
+use Rattle.ww_table.specs.declared.seat.Seat16.{Seat16}
+use Rattle.ww_seat.specs.Calls.{TriedOnce}
+use Rattle.ww_lock.proofs.hand.Hand.try_take.Goals as goal
+
+pub try_take-requires-clause-seat : goal.try_take-requires-clause-seat
+try_take-requires-clause-seat c = here c.args.self.now c.args.world.now _ c.world.view_is c.requires.home c.requires.fresh.carries
+
+pub try_take-requires-clause-kind : goal.try_take-requires-clause-kind
+try_take-requires-clause-kind c = c.requires.fresh.carries.kind
+
+pub try_take-requires-clause-lock : goal.try_take-requires-clause-lock
+try_take-requires-clause-lock c = omega (arith, c.requires.node, (at_table _ c.args.world.now _ c.world.view_is c.requires.home).1)
+
+pub try_take-requires-clause-lacks : goal.try_take-requires-clause-lacks
+try_take-requires-clause-lacks c = c.requires.fresh.carries.owned c.args.n ∙ c.requires.new
+
+pub try_take-requires-clause-base : goal.try_take-requires-clause-base
+try_take-requires-clause-base c = inl (omega (arith, c.requires.context, c.requires.fresh.carries.settled.seated.stamp))
+
+pub returns-in-Some : goal.returns-in-Some
+returns-in-Some c =
+    let e = c.try_take.ensures in
+    let added = c.add.ensures in
+    let t = takes c.args.self.now c.add.new.self c.args.world.now _ c.try_take.new.seat c.args.n c.in-Some.node c.world.view_is c.requires.home c.requires.fresh c.requires.node c.requires.new e.seat e.records c.in-Some.ensures.some
+    added.seat added.same.0 added.same.1 added.held added.seen in
+    record { fresh = t.fresh; taken = λ _. t.is; busy = λ f. absurd (true≢false f); tries = subst (λ (s : Seat16). TriedOnce c.args.self.now.seat.seat.me s.seat.me) (sym added.seat) e.once }
+
+pub returns-in-None : goal.returns-in-None
+returns-in-None c =
+    let e = c.try_take.ensures in
+    let k = keeps c.args.self.now c.args.world.now _ c.try_take.new.seat c.world.view_is c.requires.home c.requires.fresh e.seat e.records c.in-None.ensures.none in
+    record { fresh = k.fresh; taken = λ f. absurd (true≢false (sym f)); busy = λ _. k.is; tries = e.once }

@@ -1,0 +1,48 @@
+-- What a state carries: the seat at the table, and what it keeps beside that.
+use Rattle.std.specs.Prelude.{ℕ, ◌≡◌, ◌<◌, ◌≤◌, ◌+◌, ◌-◌, ◌^◌, [], true, length, Some, vec_len, vec_capacity}
+use mathlib.Core.Option.{some}
+use lib.ListN.{get_elem?}
+use Rattle.ww_plain.specs.Numbers.{is_among}
+use Rattle.ww_plain.specs.Graph.{node_at}
+use Rattle.ww_view.specs.View.{owns}
+use Rattle.ww_seat.specs.Orderly.{IsSettled}
+use Rattle.ww_lock.specs.declared.hand.Hand.{Hand}
+use Rattle.ww_lock.specs.Holding.{Holding, AreHeld, own_of}
+
+-- what a contract sees of it
+abbrev pub holding_of : Hand → Holding
+holding_of h = record {
+  home = h.seat.seat.table_id;
+  caller = h.seat.who;
+  left = h.left;
+  stamp = h.seat.stamp;
+  own = own_of h.seat.records.items;
+  room = vec_capacity h.seat.records - vec_len h.seat.records;
+  held = h.held.items;
+  seen = h.seen;
+}
+
+-- The seat is between two calls, and owns just the locks of the nodes that are held. With what is left it stays within what
+-- the table counts.
+pub record Carries (h : Hand) : Type 0 where
+  pub settled : IsSettled h.seat.seat.table_id (length h.seen) h.seat
+  pub kind : h.kind ≡ h.seat.seat.me.0.part.core.kind
+  pub owned : (n : ℕ) → owns h.seat.seat.me.0.part.core n ≡ is_among n h.held.items
+  pub held : AreHeld h.held.items h.seen
+  pub draws : h.seat.seat.me.0.part.draws + h.left < 2 ^ 32
+  pub commits : length h.seat.records.items + h.left < 2 ^ 32
+
+-- ... and it may still commit: each node that is held is as it was seen
+pub record CarriesFresh (h : Hand) : Type 0 where
+  pub carries : Carries h
+  pub seen : (n : ℕ) → is_among n h.held.items ≡ true → get_elem? h.seat.seat.me.0.held n ≡ some (Some (node_at h.seen n))
+  pub commits : length h.seat.records.items + h.left + 1 < 2 ^ 32
+
+-- what a pass carries once it has spent one of what was left: it holds nothing, has no context, and may draw once more
+pub record IsSpent (s : Holding) (h : Hand) : Type 0 where
+  pub some : 1 ≤ s.left
+  pub now : holding_of h ≡ record s { left = s.left - 1 }
+  pub fresh : CarriesFresh h
+  pub nothing : h.held.items ≡ []
+  pub idle : h.seat.stamp ≡ 0
+  pub draws : h.seat.seat.me.0.part.draws + h.left + 1 < 2 ^ 32

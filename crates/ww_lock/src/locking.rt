@@ -1,0 +1,122 @@
+//! What the calls of the states do at the table of the world, by the seat that each state carries.
+
+use crate::hand::Hand;
+use crate::world::World;
+use std::sync::Wait;
+
+impl Hand {
+    ghost use Rattle.std.specs.Prelude.{◌≡◌, ◌≤◌, ◌<◌, ◌+◌, ◌^◌, ◌⊎◌, [], true, false, length, IfSome, IfNone};
+    ghost use Rattle.ww_plain.specs.Numbers.{is_among};
+    ghost use Rattle.ww_seat.specs.Calls.{HasToDie, TriedOnce};
+    ghost use Rattle.ww_lock.specs.Holding.{IsAtHome};
+    ghost use Rattle.ww_lock.specs.Carried.{holding_of, Carries, CarriesFresh};
+    ghost use Rattle.ww_lock.specs.Moves.{IsTaken, emptied};
+
+    /// Starts a context: it draws a stamp.
+    pub(crate) fn begin(&mut self, world: &World)
+        requires home { IsAtHome (holding_of self.old) world.now }
+        requires fresh { CarriesFresh self.old }
+        requires draws { self.old.seat.seat.me.0.part.draws + self.old.left + 1 < 2 ^ 32 }
+        requires idle { self.old.seat.stamp ≡ 0 }
+        requires nothing { self.old.held.items ≡ [] }
+        ensures fresh { CarriesFresh self.new }
+        ensures begun { holding_of self.new ≡ record (holding_of self.old) { stamp = self.new.seat.stamp } }
+        ensures stamp { 0 < self.new.seat.stamp }
+    {
+        ww_seat::begin(&mut self.seat, &world.board);
+    }
+
+    /// Ends the context.
+    pub(crate) fn end(&mut self, world: &World)
+        requires home { IsAtHome (holding_of self.old) world.now }
+        requires carries { Carries self.old }
+        requires context { 0 < self.old.seat.stamp }
+        requires nothing { self.old.held.items ≡ [] }
+        ensures carries { Carries self.new }
+        ensures ended { holding_of self.new ≡ record (holding_of self.old) { stamp = 0 } }
+    {
+        ww_seat::end(&mut self.seat, &world.board);
+    }
+
+    /// One try to take a lock, without waiting.
+    pub(crate) fn try_take(&mut self, world: &World, n: u8) -> bool
+        requires home { IsAtHome (holding_of self.old) world.now }
+        requires fresh { CarriesFresh self.old }
+        requires context { 0 < self.old.seat.stamp }
+        requires node { n < length self.old.seen }
+        requires new { is_among n self.old.held.items ≡ false }
+        ensures fresh { CarriesFresh self.new }
+        ensures taken { result ≡ true → IsTaken (holding_of self.old) n (holding_of self.new) }
+        ensures busy { result ≡ false → holding_of self.new ≡ holding_of self.old }
+        ensures tries { TriedOnce self.old.seat.seat.me self.new.seat.seat.me }
+    {
+        match ww_seat::try_take(&mut self.seat, &world.board, self.kind, n) {
+            Some(node) => {
+                self.add(n, node);
+                true
+            }
+            None => false,
+        }
+    }
+
+    /// Takes a lock, and waits for it where the rules say so; or tells the stamp of the older context that was met.
+    pub(crate) fn take<R: Wait>(&mut self, rt: &R, world: &World, n: u8) -> Option<u64>
+        requires home { IsAtHome (holding_of self.old) world.now }
+        requires fresh { CarriesFresh self.old }
+        requires want { (0 < self.old.seat.stamp) ⊎ (self.old.held.items ≡ []) }
+        requires node { n < length self.old.seen }
+        requires new { is_among n self.old.held.items ≡ false }
+        ensures fresh { CarriesFresh self.new }
+        ensures taken { IfNone result (IsTaken (holding_of self.old) n (holding_of self.new)) }
+        ensures same { IfSome result (λ _. holding_of self.new ≡ holding_of self.old) }
+        ensures older { IfSome result (λ k. (k < self.old.seat.stamp) × (1 ≤ length self.old.held.items)) }
+        ensures dies { IfSome result (λ k. HasToDie self.old.seat.seat.me n k self.new.seat.seat.me) }
+        ensures tries { TriedOnce self.old.seat.seat.me self.new.seat.seat.me }
+    {
+        let taken = ww_seat::take(
+            rt,
+            &mut self.seat,
+            &world.board,
+            self.kind,
+            n,
+            &self.parker,
+            &world.wakers,
+        );
+        match taken {
+            Ok(node) => {
+                self.add(n, node);
+                None
+            }
+            Err(met) => Some(met),
+        }
+    }
+
+    /// Takes a lock where nothing is held: nobody is told EDEADLK there.
+    pub(crate) fn take_alone<R: Wait>(&mut self, rt: &R, world: &World, n: u8)
+        requires home { IsAtHome (holding_of self.old) world.now }
+        requires fresh { CarriesFresh self.old }
+        requires nothing { self.old.held.items ≡ [] }
+        requires node { n < length self.old.seen }
+        ensures fresh { CarriesFresh self.new }
+        ensures taken { IsTaken (holding_of self.old) n (holding_of self.new) }
+    {
+        if self.take(rt, world, n).is_some() {
+            unreachable!()
+        }
+    }
+
+    /// Gives all locks back, the one taken last first: its node lies on top of what the seat has out.
+    pub(crate) fn give_all<R: Wait>(&mut self, rt: &R, world: &World)
+        requires home { IsAtHome (holding_of self.old) world.now }
+        requires carries { Carries self.old }
+        ensures carries { Carries self.new }
+        ensures emptied { holding_of self.new ≡ emptied (holding_of self.old) }
+    {
+        for _ in 0..self.held.len() {
+            let Some(n) = self.held.pop() else {
+                unreachable!()
+            };
+            ww_seat::give(rt, &mut self.seat, &world.board, n, &world.wakers);
+        }
+    }
+}
