@@ -26,7 +26,7 @@ pub struct View {
     pub later: bool,
     /// It stands in the list, took the lock or gave it, since it went inside.
     pub acted: bool,
-    /// Its last step was to read its own sign.
+    /// Its last step inside was to read its own sign. It says nothing of a seat that is outside.
     pub fresh: bool,
     /// How often it tried to take a lock at once.
     pub tries: u64,
