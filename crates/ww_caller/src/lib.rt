@@ -17,8 +17,6 @@ pub enum Refusal {
     Spent,
     /// A growth was refused.
     NoMemory,
-    /// The locks were not as the pass had them. No run comes to this.
-    Stale,
 }
 
 /// Moves an amount from one node to another, in a context that holds both locks. The receipt tells whether the amount was
@@ -40,25 +38,18 @@ pub fn transfer<R: Wait>(
     ensures told { IfOk result.1 (HasRecord pass result.0 (move from to amount)) }
     ensures refused { IfErr result.1 (λ _. result.0.own ≡ pass.own) }
 {
-    let acquiring = match pass.begin(rt, world) {
+    let acquiring = match pass.begin(world) {
         Ok(acquiring) => acquiring,
         Err(pass) => return (pass, Err(Refusal::Spent)),
     };
     let mut done = lock_both(rt, world, acquiring, from, to).done();
-    let Ok(prepared) = done.prepare(rt, world, Txn::Move(from, to, amount)) else {
-        let pass = done.unlock_all(rt, world).fini(rt, world);
+    let Ok(prepared) = done.prepare(world, Txn::Move(from, to, amount)) else {
+        let pass = done.unlock_all(rt, world).fini(world);
         return (pass, Err(Refusal::NoMemory));
     };
-    match done.commit(rt, world, prepared) {
-        Ok((committed, receipt)) => {
-            let pass = committed.unlock_all(rt, world).fini(rt, world);
-            (pass, Ok(receipt))
-        }
-        Err((done, _)) => {
-            let pass = done.unlock_all(rt, world).fini(rt, world);
-            (pass, Err(Refusal::Stale))
-        }
-    }
+    let (committed, receipt) = done.commit(world, prepared);
+    let pass = committed.unlock_all(rt, world).fini(world);
+    (pass, Ok(receipt))
 }
 
 /// Takes two locks in the order given. Who is told EDEADLK gives all back, takes the lock that it couldn't get, and begins again.
