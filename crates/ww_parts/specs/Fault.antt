@@ -15,10 +15,9 @@ number_of NoMemory = 16
 number_of TooLong = 17
 number_of BadType = 18
 
--- the refusals from number 7 on; none has the number 9
+-- the refusals from number 10 on
 abbrev refusals : List (List ℕ)
 refusals =
-    codes "refused 7 mismatch" ∷ codes "refused 8 not held" ∷ [] ∷
     codes "refused 10 not json" ∷ codes "refused 11 bad key" ∷ codes "refused 12 number out of range" ∷
     codes "refused 13 bad graph" ∷ codes "refused 14 unknown word" ∷ codes "refused 15 unknown version" ∷
     codes "refused 16 no memory" ∷ codes "refused 17 input too long" ∷ codes "refused 18 wrong type" ∷
@@ -26,4 +25,4 @@ refusals =
 
 -- the line of the refusal of this number
 abbrev pub refusal_text : ℕ → List ℕ
-refusal_text number = slice_index_or refusals (number - 7) []
+refusal_text number = slice_index_or refusals (number - 10) []

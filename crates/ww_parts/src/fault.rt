@@ -1,4 +1,4 @@
-ghost use Rattle.std.specs.Prelude.{◌≡◌, ◌≢◌, ◌≤◌};
+ghost use Rattle.std.specs.Prelude.{◌≡◌, ◌≤◌};
 ghost use Rattle.ww_parts.specs.Fault.{refusal_text};
 ghost use Rattle.ww_parts.specs.declared.fault.InputFault.TheVariants.{NoMemory};
 
@@ -57,14 +57,11 @@ impl<T: Drop> From<AllocFailed<T>> for InputFault {
 
 /// The line that says why an input was refused or its scripts couldn't be run, without the line feed.
 pub fn refusal_line(number: u8) -> &'static str
-    requires least { 7 ≤ number }
-    requires known { number ≢ 9 }
+    requires least { 10 ≤ number }
     requires most { number ≤ 19 }
     ensures { result.now ≡ refusal_text number }
 {
     match number {
-        7 => "refused 7 mismatch",
-        8 => "refused 8 not held",
         10 => "refused 10 not json",
         11 => "refused 11 bad key",
         12 => "refused 12 number out of range",

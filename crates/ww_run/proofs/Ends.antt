@@ -42,10 +42,6 @@ due_refused left rest input (Input BadType) r h =
 due_refused left rest input (Run run.NoMemory) r h = inl ((input, r.few, r.taken), refl)
 due_refused left rest input (Run run.NoThread) r h =
     inr (input, r, record { scripts = h (λ e. absurd cc); fault = run.NoThread; text_is = refl })
-due_refused left rest input (Run run.NotHeld) r h =
-    inr (input, r, record { scripts = h (λ e. absurd cc); fault = run.NotHeld; text_is = refl })
-due_refused left rest input (Run run.Mismatch) r h =
-    inr (input, r, record { scripts = h (λ e. absurd cc); fault = run.Mismatch; text_is = refl })
 
 pub runs_refused : (left rest held holds : Option (List ℕ)) (input : List ℕ) (refusal : Refusal) (status : Status)
     → IsRead left rest input → IsRefusedFor input refusal

@@ -1,9 +1,9 @@
 -- Scripts, and what workers make of them.
-use Rattle.std.proofs.Common.{◌≡◌, ℕ, zero, suc, ◌+◌, ◌<◌, ◌≤◌, Bool, true, false, List, [], ◌∷◌, ◌++◌, length, map, get_or, Option, Some, None, if◌then◌else◌, Result, Ok, Err, IfOk, refl, sym, ap, subst, ◌∙◌, ◌||◌, arith, zero-add, add-zero, append_assoc}
+use Rattle.std.proofs.Common.{◌≡◌, ℕ, zero, suc, ◌+◌, ◌<◌, ◌≤◌, Bool, true, false, List, [], ◌∷◌, ◌++◌, length, map, get_or, Some, None, if◌then◌else◌, Result, Ok, IfOk, refl, sym, ap, subst, ◌∙◌, ◌||◌, arith, zero-add, add-zero, append_assoc}
 use Rattle.std.specs.List.{AllByRecursion}
 use Rattle.std.specs.Global.{Vec}
-use Rattle.std.specs.Prelude.{◌==◌, IsOk, IfErr, IfSome}
-use Rattle.std.proofs.lemmas.Bool.{false≢true}
+use Rattle.std.specs.declared.alloc.AllocError.{AllocError}
+use Rattle.std.specs.Prelude.{◌==◌}
 use Rattle.std.proofs.lemmas.Bool.Decides.{nat_tests}
 use Rattle.ww_plain.specs.Transaction.{Transaction, Fits, listed, FirstDouble}
 use Rattle.ww_plain.specs.Meaning.{Answer}
@@ -16,9 +16,7 @@ use Rattle.ww_script.specs.Scripts.{Plan}
 use Rattle.ww_script.specs.Outcome.{Said, answered, already, said_of, IsRecordOf, IsAnswered, AreAnswered, places_of, Told, LeadsTo, IsOutcome}
 use Rattle.ww_outcome.specs.declared.outcome.ScriptAnswer.{ScriptAnswer}
 use Rattle.ww_run.specs.declared.worker.Work.{Work}
-use Rattle.ww_run.specs.declared.workers.RunFault.{RunFault}
-use Rattle.ww_lock.proofs.Helds.{all_push}
-use Rattle.ww_run.specs.Workers.{run_number, IsAfter, IsTold, IsReady, IsWork, AreWorks, IsHighest, AreParted}
+use Rattle.ww_run.specs.Workers.{IsAfter, IsTold, IsReady, IsWork, AreWorks, AreParted}
 
 pub one_later : (m n : ℕ) → m + suc n ≡ m + 1 + n
 one_later m n = omega arith
@@ -138,7 +136,7 @@ worked w number (t ∷ scripts) (work ∷ works) (pass ∷ passes) [] count each
 worked w number (t ∷ scripts) (work ∷ works) (pass ∷ passes) (answers ∷ replies) count each h =
     let mine : IsWork w (number + 0) t work = each 0 t work (omega arith) in
     let told : IsAnswered 0 t (map said_of answers.items) work.pass.own =
-    subst (λ (r : Result (Vec ScriptAnswer) RunFault). IfOk r (λ a. IsAnswered 0 t (map said_of a.items) work.pass.own)) h.1 mine.told in
+    subst (λ (r : Result (Vec ScriptAnswer) AllocError). IfOk r (λ a. IsAnswered 0 t (map said_of a.items) work.pass.own)) h.1 mine.told in
     let later = worked w (number + 1) scripts works passes replies (omega (arith, count))
     (λ i u d lt. subst (λ (k : ℕ). IsWork w k (get_or scripts i u) (get_or works i d)) (one_later number i)
     (each (suc i) u d (omega (arith, lt)))) h.2 in (
@@ -230,38 +228,3 @@ outcome_of seen plan told w passes h is first count all closed graph places =
         graph = ap (λ g. last_graph g history) (sym first) ∙ sym closed.fold ∙ sym graph;
       }),
     )
-
-ok_has_no_fault : (r : Result (Vec ScriptAnswer) RunFault) (P : RunFault → Type 0) → IsOk r → IfErr r P
-ok_has_no_fault (Ok x) P h = tt
-ok_has_no_fault (Err e) P h = absurd (false≢true h)
-
-fault_below : (r : Result (Vec ScriptAnswer) RunFault) (m n : ℕ) → m ≤ n → IfErr r (λ fault. run_number fault ≤ m)
-    → IfErr r (λ fault. run_number fault ≤ n)
-fault_below (Ok x) m n le h = tt
-fault_below (Err e) m n le h = omega (arith, le, h)
-
-all_weaker : {X : Type 0} (P Q : X → Type 0) (xs : List X) → ((x : X) → P x → Q x) → AllByRecursion P xs
-    → AllByRecursion Q xs
-all_weaker P Q [] weaker p = tt
-all_weaker P Q (x ∷ xs) weaker p = (weaker x p.0, all_weaker P Q xs weaker p.1)
-
--- one worker more that stopped
-pub highest_stopped : (works : List Work) (work : Work) (before : Option RunFault) (fault most : RunFault)
-    → IsHighest works before → work.told ≡ Err fault → run_number fault ≤ run_number most
-    → IfSome before (λ other. run_number other ≤ run_number most) → IsHighest (works ++ work ∷ []) (Some most)
-highest_stopped works work None fault most h told this that =
-    all_push (λ x. IfErr x.told (λ f. run_number f ≤ run_number most)) works work
-    (all_weaker (λ x. IsOk x.told) (λ x. IfErr x.told (λ f. run_number f ≤ run_number most)) works
-    (λ x. ok_has_no_fault x.told (λ f. run_number f ≤ run_number most)) h) (rw told this)
-highest_stopped works work (Some other) fault most h told this that =
-    all_push (λ x. IfErr x.told (λ f. run_number f ≤ run_number most)) works work
-    (all_weaker (λ x. IfErr x.told (λ f. run_number f ≤ run_number other))
-    (λ x. IfErr x.told (λ f. run_number f ≤ run_number most)) works
-    (λ x. fault_below x.told (run_number other) (run_number most) that) h) (rw told this)
-
--- one worker more that didn't stop
-pub highest_ended : (works : List Work) (work : Work) (most : Option RunFault) (answers : Vec ScriptAnswer)
-    → IsHighest works most → work.told ≡ Ok answers → IsHighest (works ++ work ∷ []) most
-highest_ended works work None answers h told = all_push (λ x. IsOk x.told) works work h (rw told refl)
-highest_ended works work (Some most) answers h told =
-    all_push (λ x. IfErr x.told (λ f. run_number f ≤ run_number most)) works work h (rw told tt)

@@ -1,5 +1,5 @@
 -- What workers do with scripts, each with a pass of its own.
-use Rattle.std.specs.Prelude.{ℕ, ◌≡◌, ◌<◌, ◌≤◌, ◌+◌, ◌∷◌, ◌++◌, List, [], length, map, slice_index_or, Option, Some, None, Ok, IsOk, IfOk, IfErr}
+use Rattle.std.specs.Prelude.{ℕ, ◌≡◌, ◌<◌, ◌≤◌, ◌+◌, ◌∷◌, ◌++◌, List, [], length, map, slice_index_or, Some, None, Ok, IfOk}
 use Rattle.std.specs.List.{AllByRecursion}
 use Rattle.std.specs.Global.{Vec}
 use Rattle.ww_plain.specs.Transaction.{Transaction, Fits, listed, FirstDouble}
@@ -8,13 +8,11 @@ use Rattle.ww_lock.specs.Holding.{Holding, Place, IsAtHome}
 use Rattle.ww_script.specs.Outcome.{Said, answered, already, said_of, IsRecordOf, IsAnswered}
 use Rattle.ww_outcome.specs.declared.outcome.ScriptAnswer.{ScriptAnswer}
 use Rattle.ww_run.specs.declared.workers.RunFault.{RunFault}
-use Rattle.ww_run.specs.declared.workers.RunFault.TheVariants.{Mismatch, NotHeld, NoMemory, NoThread}
+use Rattle.ww_run.specs.declared.workers.RunFault.TheVariants.{NoMemory, NoThread}
 use Rattle.ww_run.specs.declared.worker.Work.{Work}
 
 -- the number of the fault's line
 abbrev pub run_number : RunFault → ℕ
-run_number Mismatch = 7
-run_number NotHeld = 8
 run_number NoMemory = 16
 run_number NoThread = 19
 
@@ -64,8 +62,3 @@ AreParted [] [] [] = Unit {0}
 AreParted (work ∷ works) (pass ∷ passes) (answers ∷ replies) =
     (work.pass ≡ pass) × (work.told ≡ Ok answers) × AreParted works passes replies
 AreParted _ _ _ = ⊥
-
--- no worker stopped, or none did for a fault with a higher number than this one
-abbrev pub IsHighest : List Work → Option RunFault → Type 0
-IsHighest works None = AllByRecursion (λ work. IsOk work.told) works
-IsHighest works (Some most) = AllByRecursion (λ work. IfErr work.told (λ fault. run_number fault ≤ run_number most)) works

@@ -1,4 +1,4 @@
-ghost use Rattle.std.specs.Prelude.{◌≡◌, ◌≢◌, ◌≤◌, OnOk, OnErr, IfOk, IfErr};
+ghost use Rattle.std.specs.Prelude.{◌≡◌, ◌≤◌, OnOk, OnErr, IfOk, IfErr};
 ghost use Rattle.std.specs.Io.KnownBytes.{Appends};
 ghost use Rattle.ww_run.specs.declared.run.Status.TheVariants.{Ended};
 ghost use Rattle.ww_run.specs.Streams.{AppendsFront};
@@ -28,7 +28,7 @@ pub enum Status {
     ReadFailed,
     /// The writer failed. It has a front of what was to be written.
     WriteFailed,
-    /// Memory or a thread was refused, or the locks broke their rules, and the line that says so was written.
+    /// Memory or a thread was refused, and the line that says so was written.
     Stopped,
 }
 
@@ -94,8 +94,7 @@ impl Refusal {
     /// The number of its line.
     fn number(self) -> u8
         ensures number { result ≡ refusal_number self }
-        ensures least { 7 ≤ result }
-        ensures known { result ≢ 9 }
+        ensures least { 10 ≤ result }
         ensures most { result ≤ 19 }
     {
         match self {
@@ -144,8 +143,7 @@ fn text_of<H: Threads + Wait + Sync>(
 
 /// Writes a refusal's line.
 fn write_line<W: Write>(writer: &mut W, number: u8) -> io::Result<()>
-    requires least { 7 ≤ number }
-    requires known { number ≢ 9 }
+    requires least { 10 ≤ number }
     requires most { number ≤ 19 }
     ensures ok { OnOk result (Appends (W.contents writer.old) (W.contents writer.new) (line_of number)) }
     ensures err { OnErr result (AppendsFront (W.contents writer.old) (W.contents writer.new) (line_of number)) }

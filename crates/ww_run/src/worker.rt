@@ -4,8 +4,7 @@ ghost use Rattle.ww_lock.specs.Holding.{IsAtHome};
 ghost use Rattle.ww_script.specs.Outcome.{said_of};
 ghost use Rattle.ww_run.specs.Workers.{IsAfter, IsTold, IsReady, IsWork};
 
-use crate::workers::RunFault;
-use std::alloc::Global;
+use std::alloc::{AllocError, Global};
 use std::snapshot::Snapshot;
 use std::sync::Wait;
 use std::thread::Promise;
@@ -14,11 +13,11 @@ use ww_plain::Txn;
 use ww_script::ScriptAnswer;
 use ww_txn::{Gate, TxnFault, transact};
 
-/// What a worker gives back: its pass, and what the transactions of its script were told, or why it stopped.
+/// What a worker gives back: its pass, and what the transactions of its script were told. It stops for want of memory alone.
 #[derive(Drop)]
 pub(crate) struct Work {
     pub(crate) pass: Pass,
-    pub(crate) told: Result<Vec<ScriptAnswer>, RunFault>,
+    pub(crate) told: Result<Vec<ScriptAnswer>, AllocError>,
 }
 
 /// That a worker gives back what a script comes to, with the pass of this caller.
@@ -40,7 +39,7 @@ fn carry_out<R: Wait, G: Gate>(
     pass: Pass,
     gate: &G,
     txn: Txn,
-) -> (Pass, Result<ScriptAnswer, RunFault>)
+) -> (Pass, Result<ScriptAnswer, AllocError>)
     requires home { IsAtHome pass world.now }
     requires fits { Fits (length world.now.first) (transaction_of txn) }
     requires budget { 1 ≤ pass.left }
@@ -52,8 +51,7 @@ fn carry_out<R: Wait, G: Gate>(
     let told = match told {
         Ok(receipt) => Ok(ScriptAnswer::Reply(receipt.reply)),
         Err(TxnFault::Already(node)) => Ok(ScriptAnswer::Already(node)),
-        Err(TxnFault::NoMemory) => Err(RunFault::NoMemory),
-        Err(TxnFault::NotHeld) => Err(RunFault::NotHeld),
+        Err(TxnFault::NoMemory) => Err(AllocError),
         Err(TxnFault::PassSpent) => unreachable!(),
     };
     (pass, told)
@@ -77,15 +75,15 @@ pub(crate) fn run_script<R: Wait, G: Gate>(
         pass = next;
         let answer = match told {
             Ok(answer) => answer,
-            Err(fault) => return Work {
+            Err(error) => return Work {
                 pass,
-                told: Err(fault),
+                told: Err(error),
             },
         };
         let Ok(()) = answers.push(answer) else {
             return Work {
                 pass,
-                told: Err(RunFault::NoMemory),
+                told: Err(AllocError),
             };
         };
     }

@@ -1,4 +1,4 @@
-ghost use Rattle.std.specs.Prelude.{◌≡◌, ◌≤◌, ◌<◌, ℕ, length, map, slice_index_or, IfOk, IfSome};
+ghost use Rattle.std.specs.Prelude.{◌≡◌, ◌≤◌, ◌<◌, ℕ, length, map, slice_index_or, IfOk};
 ghost use Rattle.ww_plain.specs.History.{history_of};
 ghost use Rattle.ww_script.specs.Scripts.{script_lists};
 ghost use Rattle.ww_script.specs.Outcome.{places_of, IsOutcome};
@@ -6,7 +6,7 @@ ghost use Rattle.ww_lock.specs.Holding.{AreAtHome};
 ghost use Rattle.ww_lock.specs.Closed.{missing_of, IsClosed};
 ghost use Rattle.ww_run.specs.declared.workers.RunFault.TheVariants.{NoMemory};
 ghost use Rattle.ww_plain.specs.Transaction.{transaction_of};
-ghost use Rattle.ww_run.specs.Workers.{run_number, IsReady, IsWork, AreReady, AreWorks, IsHighest, AreParted};
+ghost use Rattle.ww_run.specs.Workers.{IsReady, IsWork, AreReady, AreWorks, AreParted};
 
 use crate::worker::{Work, WorkOf, run_script};
 use std::alloc::{AllocError, AllocFailed, Global};
@@ -20,16 +20,10 @@ use ww_plain::{Record, Txn};
 use ww_script::{Outcome, ScriptAnswer, Scripts};
 use ww_txn::Gate;
 
-/// Why scripts, or the text of a schedule's replay, were given up. The numbers are those of the refusal lines. Of several
-/// reasons the one with the highest number is told.
+/// Why scripts, or the text of a schedule's replay, were given up. The numbers are those of the refusal lines. Of both
+/// reasons the higher number is told.
 #[derive(Clone, Copy, Debug, PartialEq, Eq, Error)]
 pub enum RunFault {
-    /// The passes' own lists were not the parts of the one history. No run comes to this while the locks keep their rules.
-    #[error("mismatch")]
-    Mismatch = 7,
-    /// The locks were not as a pass had them when it committed. No run comes to this while the locks keep their rules.
-    #[error("not held")]
-    NotHeld = 8,
     #[error("no memory")]
     NoMemory = 16,
     /// A worker couldn't be started.
@@ -129,38 +123,10 @@ fn work<R: Threads + Wait + Sync, G: Gate + Sync>(
     )
 }
 
-/// The one of two faults, the first of which may be none, that has the higher number.
-fn higher(most: Option<RunFault>, fault: RunFault) -> RunFault
-    ensures this { run_number fault ≤ run_number result }
-    ensures that { IfSome most (λ other. run_number other ≤ run_number result) }
-{
-    match most {
-        Some(other) if other.number() > fault.number() => other,
-        _ => fault,
-    }
-}
-
-/// The fault of the workers that stopped which has the highest number.
-fn highest(works: &[Work]) -> Option<RunFault>
-    ensures { IsHighest works.now result }
-{
-    let mut most = None;
-    for work in works {
-        match &work.told {
-            Ok(_) => {}
-            Err(fault) => most = Some(higher(most, *fault)),
-        }
-    }
-    most
-}
-
 /// Parts what the workers gave back.
 fn parted(alloc: Global, works: Vec<Work>) -> Result<(Vec<Pass>, Vec<Vec<ScriptAnswer>>), RunFault>
     ensures { IfOk result (λ r. AreParted works.items r.0.items r.1.items) }
 {
-    if let Some(fault) = highest(&works) {
-        return Err(fault);
-    }
     let mut passes = Vec::new(alloc);
     let mut replies = Vec::new(alloc);
     for Work { pass, told } in works {
@@ -179,7 +145,6 @@ fn close(world: World, passes: Vec<Pass>) -> Result<History, RunFault>
     match world.close(passes) {
         Ok(history) => Ok(history),
         Err((_, _, fault)) => match fault {
-            CloseFault::Mismatch => Err(RunFault::Mismatch),
             CloseFault::NoMemory => Err(RunFault::NoMemory),
             CloseFault::Missing(_) => unreachable!(),
         },

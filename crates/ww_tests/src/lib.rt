@@ -7,6 +7,8 @@ mod cores;
 #[cfg(test)]
 mod locks;
 #[cfg(test)]
+mod pairs;
+#[cfg(test)]
 mod plain;
 #[cfg(test)]
 mod queues;

@@ -50,11 +50,11 @@ fn two_passes(
 }
 
 /// Begins a context with what the pass has left.
-fn begun<R: Wait + Abort>(rt: &R, world: &World, pass: Pass) -> Acquiring
+fn begun<R: Abort>(rt: &R, world: &World, pass: Pass) -> Acquiring
     requires home { IsAtHome pass world.now }
     ensures home { IsAtHome result world.now }
 {
-    match pass.begin(rt, world) {
+    match pass.begin(world) {
         Ok(acquiring) => acquiring,
         Err(_) => panic!(rt; "the pass is spent"),
     }
@@ -106,18 +106,12 @@ fn refused<R: Wait + Abort>(rt: &R, world: &World, acquiring: Acquiring, n: u8) 
 }
 
 /// Tries for a lock that it must get, or that must be busy.
-fn tried<R: Wait + Abort>(
-    rt: &R,
-    world: &World,
-    acquiring: Acquiring,
-    n: u8,
-    is_busy: bool,
-) -> Acquiring
+fn tried<R: Abort>(rt: &R, world: &World, acquiring: Acquiring, n: u8, is_busy: bool) -> Acquiring
     requires home { IsAtHome acquiring world.now }
     requires node { n < length world.now.first }
     ensures home { IsAtHome result world.now }
 {
-    match acquiring.try_lock(rt, world, n) {
+    match acquiring.try_lock(world, n) {
         Try::Locked(acquiring) => {
             assert!(rt; !is_busy, "node {n} is locked");
             acquiring
@@ -134,7 +128,7 @@ fn ended<R: Wait>(rt: &R, world: &World, acquiring: Acquiring) -> Pass
     requires home { IsAtHome acquiring world.now }
     ensures home { IsAtHome result world.now }
 {
-    acquiring.unlock_all(rt, world).fini(rt, world)
+    acquiring.unlock_all(rt, world).fini(world)
 }
 
 /// Pass 0 holds node 0; pass 1 tries for it, and takes node 1.
@@ -146,7 +140,7 @@ fn busy_and_already<R: Wait + Abort>(rt: &R, alloc: Global, kind: Kind) -> Resul
     let one = tried(rt, &world, one, 1, false);
     let one = tried(rt, &world, one, 1, true);
     let one = already_locked(rt, &world, one, 1);
-    let reads = (one.read(rt, &world, 1), one.read(rt, &world, 0));
+    let reads = (one.read(&world, 1), one.read(&world, 0));
     ended(rt, &world, zero);
     ended(rt, &world, one);
     assert!(rt; reads == (Some(node_of(8)), None));
@@ -297,15 +291,13 @@ fn committed_alone<R: Wait + Abort>(
     };
     assert!(rt; txn.fits(world.size()));
     assert!(rt; first_double(&txn).is_none());
-    assert!(rt; solo.covers(rt, world, &txn));
-    let Ok(prepared) = solo.prepare(rt, world, txn) else {
+    assert!(rt; solo.covers(world, &txn));
+    let Ok(prepared) = solo.prepare(world, txn) else {
         panic!(rt; "no memory")
     };
     assert!(rt; solo.made(&prepared));
-    match solo.commit(rt, world, prepared) {
-        Ok((done, receipt)) => (done.unlock(rt, world), receipt),
-        Err((_solo, _)) => panic!(rt; "the state is stale"),
-    }
+    let (done, receipt) = solo.commit(world, prepared);
+    (done.unlock(rt, world), receipt)
 }
 
 #[test]
@@ -315,7 +307,7 @@ fn spent_pass_comes_back(rt: HostRuntime) -> Result<(), Fail> {
     assert_eq!(rt; (zero.left(), one.left()), (1, 1));
     let zero = ended(&rt, &world, begun(&rt, &world, zero));
     assert_eq!(rt; (zero.left(), one.left()), (0, 1));
-    let zero = match zero.begin(&rt, &world) {
+    let zero = match zero.begin(&world) {
         Ok(_acquiring) => panic!(rt; "it had nothing left"),
         Err(zero) => zero,
     };

@@ -1,7 +1,7 @@
 use std::test::Fail;
 use ww_plain::{By, Graph, Node, Reply, Txn};
 use ww_queue::Kind;
-use ww_script::{Input, Outcome, ScriptAnswer, outcome_text, read_input, refusal_line};
+use ww_script::{Input, Outcome, ScriptAnswer, outcome_text, read_input};
 
 /// That scripts are read, with what the program doesn't print: the kind, and the order in which locks are taken.
 #[test]
@@ -39,11 +39,4 @@ fn an_outcome_has_its_text(rt: HostRuntime) -> Result<(), Fail> {
     let expected = "reply 0 0 done\nreply 1 0 moved\nat 0 1 0\nat 1 0 0\nnode 0 0 - - - -\n";
     assert!(rt; text.as_slice() == expected.as_bytes());
     Ok(())
-}
-
-/// The lines that no run of the program comes to.
-#[test]
-fn broken_locks_have_their_lines(rt: HostRuntime) {
-    assert!(rt; refusal_line(7) == "refused 7 mismatch");
-    assert!(rt; refusal_line(8) == "refused 8 not held");
 }

@@ -143,7 +143,7 @@ fn take<R: Wait>(
 {
     let mut acquiring = acquiring;
     if tries {
-        acquiring = match acquiring.try_lock(rt, world, n) {
+        acquiring = match acquiring.try_lock(world, n) {
             Try::Locked(next) => return Ok(next),
             Try::Busy(next) => next,
         };
@@ -199,13 +199,13 @@ fn take_all<R: Wait>(
 }
 
 /// Whether the transaction can be prepared with these locks.
-pub(crate) fn is_possible<R: Wait>(rt: &R, world: &World, done: &Done, txn: &Txn) -> bool
+pub(crate) fn is_possible(world: &World, done: &Done, txn: &Txn) -> bool
     requires home { IsAtHome done.now world.now }
     ensures fits { IsTrue result → Fits (length done.now.seen) (transaction_of txn.now) }
     ensures no_double { IsTrue result → HasNoDouble (transaction_of txn.now) }
     ensures covers { IsTrue result → Covers done.now (transaction_of txn.now) }
 {
-    txn.fits(world.size()) && first_double(txn).is_none() && done.covers(rt, world, txn)
+    txn.fits(world.size()) && first_double(txn).is_none() && done.covers(world, txn)
 }
 
 /// Commits a transaction, if that is possible, and gives all back.
@@ -218,16 +218,14 @@ pub(crate) fn commit<R: Wait>(
     requires home { IsAtHome done world.now }
     ensures home { IsAtHome result.0 world.now }
 {
-    if !is_possible(rt, world, &done, &txn) {
-        return (done.unlock_all(rt, world).fini(rt, world), None);
+    if !is_possible(world, &done, &txn) {
+        return (done.unlock_all(rt, world).fini(world), None);
     }
-    let Ok(prepared) = done.prepare(rt, world, txn) else {
-        return (done.unlock_all(rt, world).fini(rt, world), None);
+    let Ok(prepared) = done.prepare(world, txn) else {
+        return (done.unlock_all(rt, world).fini(world), None);
     };
-    match done.commit(rt, world, prepared) {
-        Ok((done, receipt)) => (done.unlock_all(rt, world).fini(rt, world), Some(receipt)),
-        Err((done, _)) => (done.unlock_all(rt, world).fini(rt, world), None),
-    }
+    let (done, receipt) = done.commit(world, prepared);
+    (done.unlock_all(rt, world).fini(world), Some(receipt))
 }
 
 /// Adds an amount to a node without a context.
@@ -238,16 +236,14 @@ fn commit_alone<R: Wait>(rt: &R, world: &World, mut solo: Solo, add: Txn) -> (Pa
     if !add.fits(world.size()) || first_double(&add).is_some() {
         return (solo.unlock(rt, world), None);
     }
-    if !solo.covers(rt, world, &add) {
+    if !solo.covers(world, &add) {
         return (solo.unlock(rt, world), None);
     }
-    let Ok(prepared) = solo.prepare(rt, world, add) else {
+    let Ok(prepared) = solo.prepare(world, add) else {
         return (solo.unlock(rt, world), None);
     };
-    match solo.commit(rt, world, prepared) {
-        Ok((done, receipt)) => (done.unlock(rt, world), Some(receipt)),
-        Err((solo, _)) => (solo.unlock(rt, world), None),
-    }
+    let (done, receipt) = solo.commit(world, prepared);
+    (done.unlock(rt, world), Some(receipt))
 }
 
 /// A round without a context.
@@ -282,7 +278,7 @@ fn commit_one<R: Wait>(
     ensures home { IsAtHome result.0 world.now }
 {
     if let Some(change) = change {
-        if is_possible(rt, world, &done, &change) {
+        if is_possible(world, &done, &change) {
             let (pass, receipt) = commit(rt, world, done, change);
             return (pass, receipt, false);
         }
@@ -309,7 +305,7 @@ fn round_together<R: Wait>(
         is_alone: _,
         tries,
     } = plan;
-    match pass.begin(rt, world) {
+    match pass.begin(world) {
         Ok(acquiring) => {
             let done = take_all(rt, world, acquiring, &amounts, tries).done();
             let (pass, receipt, is_added) = commit_one(rt, world, done, change, add);

@@ -195,14 +195,14 @@ fn tries<R: Wait + Abort>(rt: &R, world: &World, pass: Pass) -> (Pass, bool)
     ensures home { IsAtHome result.0 world.now }
 {
     assert!(rt; world.size() > 0);
-    let Ok(acquiring) = pass.begin(rt, world) else {
+    let Ok(acquiring) = pass.begin(world) else {
         panic!(rt; "the pass is spent")
     };
-    let (acquiring, is_busy) = match acquiring.try_lock(rt, world, 0) {
+    let (acquiring, is_busy) = match acquiring.try_lock(world, 0) {
         Try::Locked(acquiring) => (acquiring, false),
         Try::Busy(acquiring) => (acquiring, true),
     };
-    (acquiring.unlock_all(rt, world).fini(rt, world), is_busy)
+    (acquiring.unlock_all(rt, world).fini(world), is_busy)
 }
 
 /// A gate that counts its calls, and sees that node 0 is locked in the first of each transaction and free in the

@@ -55,8 +55,8 @@ fn covered<R: Wait + Abort>(rt: &R, world: &World, done: Done, txn: &Txn) -> Pas
     requires home { IsAtHome done world.now }
     ensures home { IsAtHome result world.now }
 {
-    assert!(rt; is_possible(rt, world, &done, txn));
-    done.unlock_all(rt, world).fini(rt, world)
+    assert!(rt; is_possible(world, &done, txn));
+    done.unlock_all(rt, world).fini(world)
 }
 
 /// The pass that came back with this fault.

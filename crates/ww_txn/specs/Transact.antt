@@ -9,7 +9,7 @@ use Rattle.ww_users.specs.declared.fault.UserFault.{UserFault}
 use Rattle.ww_users.specs.declared.fault.UserFault.TheVariants as user
 use Rattle.ww_users.specs.Ways.{IsReturned}
 use Rattle.ww_txn.specs.declared.transacting.TxnFault.{TxnFault}
-use Rattle.ww_txn.specs.declared.transacting.TxnFault.TheVariants.{PassSpent, Already, NoMemory, NotHeld}
+use Rattle.ww_txn.specs.declared.transacting.TxnFault.TheVariants.{PassSpent, Already, NoMemory}
 
 -- Exactly one record more: that of this transaction, with the place, the number and the answer that the receipt
 -- tells. The pass holds no lock, and has one context less to start.
@@ -33,13 +33,11 @@ abbrev pub IsTxnFault : Holding → Transaction → Holding → TxnFault → Typ
 IsTxnFault s txn a PassSpent = (s.left ≡ 0) × (a ≡ s)
 IsTxnFault s txn a (Already n) = FirstDouble (listed txn) (Some n) × IsReturned s a
 IsTxnFault s txn a NoMemory = FirstDouble (listed txn) None × IsReturned s a
-IsTxnFault s txn a NotHeld = FirstDouble (listed txn) None × IsReturned s a
 
 abbrev pub txn_number : TxnFault → ℕ
 txn_number PassSpent = 4
 txn_number (Already n) = 9
 txn_number NoMemory = 6
-txn_number NotHeld = 8
 
 -- why a list wasn't locked, as why its transaction wasn't made
 abbrev pub fault_of : UserFault → TxnFault

@@ -19,8 +19,6 @@ pub enum TxnFault {
     Already(u8),
     /// A growth was refused.
     NoMemory,
-    /// The locks were not as the pass had them. No run comes to this; see `docs/DESIGN.md`.
-    NotHeld,
 }
 
 impl TxnFault {
@@ -34,7 +32,6 @@ impl TxnFault {
             TxnFault::PassSpent => 4,
             TxnFault::Already(_) => 9,
             TxnFault::NoMemory => 6,
-            TxnFault::NotHeld => 8,
         }
     }
 }
@@ -97,22 +94,15 @@ fn transact_together<R: Wait, G: Gate>(
         Ok(done) => done,
         Err((pass, fault)) => return (pass, Err(TxnFault::from(fault))),
     };
-    let Ok(prepared) = done.prepare(rt, world, txn) else {
-        let pass = done.unlock_all(rt, world).fini(rt, world);
+    let Ok(prepared) = done.prepare(world, txn) else {
+        let pass = done.unlock_all(rt, world).fini(world);
         return (pass, Err(TxnFault::NoMemory));
     };
     gate.before_commit(caller, seq);
-    match done.commit(rt, world, prepared) {
-        Ok((committed, receipt)) => {
-            let pass = committed.unlock_all(rt, world).fini(rt, world);
-            gate.answered(caller, seq);
-            (pass, Ok(receipt))
-        }
-        Err((done, _)) => {
-            let pass = done.unlock_all(rt, world).fini(rt, world);
-            (pass, Err(TxnFault::NotHeld))
-        }
-    }
+    let (committed, receipt) = done.commit(world, prepared);
+    let pass = committed.unlock_all(rt, world).fini(world);
+    gate.answered(caller, seq);
+    (pass, Ok(receipt))
 }
 
 /// Asks for the value of one node without a context.
@@ -136,20 +126,13 @@ fn transact_alone<R: Wait, G: Gate>(
         Ok(solo) => solo,
         Err(pass) => return (pass, Err(TxnFault::PassSpent)),
     };
-    let Ok(prepared) = solo.prepare(rt, world, Txn::Peek(node)) else {
+    let Ok(prepared) = solo.prepare(world, Txn::Peek(node)) else {
         let pass = solo.unlock(rt, world);
         return (pass, Err(TxnFault::NoMemory));
     };
     gate.before_commit(caller, seq);
-    match solo.commit(rt, world, prepared) {
-        Ok((committed, receipt)) => {
-            let pass = committed.unlock(rt, world);
-            gate.answered(caller, seq);
-            (pass, Ok(receipt))
-        }
-        Err((solo, _)) => {
-            let pass = solo.unlock(rt, world);
-            (pass, Err(TxnFault::NotHeld))
-        }
-    }
+    let (committed, receipt) = solo.commit(world, prepared);
+    let pass = committed.unlock(rt, world);
+    gate.answered(caller, seq);
+    (pass, Ok(receipt))
 }

@@ -29,7 +29,7 @@ pub fn lock_list<R: Wait>(
     ensures err { IfErr result (λ e. IsUserFault pass list.now e.0 e.1) }
     ensures room { IfErr result (λ e. e.0.room ≡ pass.room) }
 {
-    let mut acquiring = match pass.begin(rt, world) {
+    let mut acquiring = match pass.begin(world) {
         Ok(acquiring) => acquiring,
         Err(pass) => return Err((pass, UserFault::PassSpent)),
     };
@@ -38,7 +38,7 @@ pub fn lock_list<R: Wait>(
         acquiring = match lock_entries(world, acquiring, rt, list, kept) {
             Trip::Through(acquiring) => return Ok(acquiring.done()),
             Trip::Already(acquiring, n) => {
-                let pass = acquiring.unlock_all(rt, world).fini(rt, world);
+                let pass = acquiring.unlock_all(rt, world).fini(world);
                 return Err((pass, UserFault::Already(n)));
             }
             Trip::Deadlk(backoff, _) => {

@@ -31,7 +31,7 @@ pub fn lock_order<R: Wait>(
     ensures err { IfErr result (λ e. IsUserFault pass list.now e.0 e.1) }
     ensures room { IfErr result (λ e. e.0.room ≡ pass.room) }
 {
-    let mut acquiring = match pass.begin(rt, world) {
+    let mut acquiring = match pass.begin(world) {
         Ok(acquiring) => acquiring,
         Err(pass) => return Err((pass, UserFault::PassSpent)),
     };
@@ -43,7 +43,7 @@ pub fn lock_order<R: Wait>(
         acquiring = match lock_entries(world, acquiring, rt, &order, kept) {
             Trip::Through(acquiring) => return Ok(acquiring.done()),
             Trip::Already(acquiring, n) => {
-                let pass = acquiring.unlock_all(rt, world).fini(rt, world);
+                let pass = acquiring.unlock_all(rt, world).fini(world);
                 return Err((pass, UserFault::Already(n)));
             }
             Trip::Deadlk(backoff, place) => {

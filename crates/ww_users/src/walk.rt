@@ -32,7 +32,7 @@ pub fn lock_walk<R: Wait>(
     ensures reverse { IfOk result (λ d. Covers d (reverse start port most)) }
     ensures err { IfErr result (λ p. (pass.left ≡ 0) × (p ≡ pass)) }
 {
-    let mut acquiring = pass.begin(rt, world)?;
+    let mut acquiring = pass.begin(world)?;
     for _ in rt.forever() {
         acquiring = match lock_along(world, acquiring, rt, start, port, most) {
             Ok(acquiring) => return Ok(acquiring.done()),
@@ -62,14 +62,14 @@ fn lock_along<R: Wait>(
     let mut acquiring = lock_one(world, acquiring, rt, start)?;
     let mut walk = ArrayVec::<u8, MAX_NODES>::new();
     walk.push(start);
-    let mut stop = target_of(world, &acquiring, rt, start, port);
+    let mut stop = target_of(world, &acquiring, start, port);
     while let Some(next) = stop {
         acquiring = lock_one(world, acquiring, rt, next)?;
         if is_over(&walk, most, next) {
             return Ok(acquiring);
         }
         walk.push(next);
-        stop = target_of(world, &acquiring, rt, next, port);
+        stop = target_of(world, &acquiring, next, port);
     }
     Ok(acquiring)
 }
@@ -83,7 +83,7 @@ fn is_over(walk: &[u8], most: u8, next: u8) -> bool
 }
 
 /// Where a port of a held node leads.
-fn target_of<R: Wait>(world: &World, acquiring: &Acquiring, rt: &R, n: u8, port: u8) -> Option<u8>
+fn target_of(world: &World, acquiring: &Acquiring, n: u8, port: u8) -> Option<u8>
     requires home { IsAtHome acquiring.now world.now }
     requires node { n < length world.now.first }
     requires held { IsTrue (is_among n acquiring.now.held) }
@@ -91,5 +91,5 @@ fn target_of<R: Wait>(world: &World, acquiring: &Acquiring, rt: &R, n: u8, port:
     ensures leads { result ≡ port_of acquiring.now.seen n port }
     ensures there { IfSome result (λ target. target < length world.now.first) }
 {
-    acquiring.read(rt, world, n)?.ports[usize::from(port)]
+    acquiring.read(world, n)?.ports[usize::from(port)]
 }

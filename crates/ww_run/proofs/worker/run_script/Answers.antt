@@ -3,10 +3,14 @@ use Rattle.std.proofs.lemmas.List.{map_push}
 use Rattle.ww_plain.specs.Transaction.{transaction_of}
 use Rattle.ww_outcome.specs.declared.outcome.ScriptAnswer.{ScriptAnswer}
 use Rattle.ww_script.specs.Outcome.{said_of}
-use Rattle.ww_run.specs.declared.workers.RunFault.{RunFault}
+use Rattle.std.specs.declared.alloc.AllocError.{AllocError}
 use Rattle.ww_run.specs.Workers.{IsTold}
-use Rattle.ww_run.proofs.Scripts.{one_more}
+use Rattle.ww_run.proofs.Scripts.{under_way, one_more}
 use Rattle.ww_run.proofs.worker.run_script.Goals as goal
+
+pub loop-txn-init : goal.loop-txn-init
+loop-txn-init g c = rw (c.into_iter-txn-iterator.ensures.into_iter_gives.0, c.new-answers.ensures.items)
+    (under_way c.args.world.now c.args.pass.caller (map transaction_of c.args.txns.items) c.args.pass c.requires)
 
 pub loop-txn-preserved : goal.loop-txn-preserved
 loop-txn-preserved g c =
@@ -18,5 +22,5 @@ loop-txn-preserved g c =
     (ap (map transaction_of) c.in-Some.ensures.steps.0)
     (ap (map said_of) c.in-Ok-push.ensures.items ∙ map_push said_of answers c.in-Ok.answer)
     c.loop-txn.invariant done.ensures.home done.ensures.after
-    (subst (λ (r : Result ScriptAnswer RunFault). IfOk r (λ answer. IsTold c.loop-txn.pass t (said_of answer) done.result.0))
+    (subst (λ (r : Result ScriptAnswer AllocError). IfOk r (λ answer. IsTold c.loop-txn.pass t (said_of answer) done.result.0))
     c.in-Ok.is done.ensures.told)

@@ -1,4 +1,4 @@
-use Rattle.std.proofs.Common.{rules, ◌∙◌, ℕ, List, Some, ap, subst}
+use Rattle.std.proofs.Common.{rules, ◌∙◌, ℕ, List, None, Some, ap, subst}
 use Rattle.std.specs.List.{insert}
 use Rattle.ww_plain.specs.Numbers.{is_among}
 use Rattle.ww_plain.specs.Transaction.{FirstDouble}
@@ -14,6 +14,10 @@ lock_entries-requires-clause-nodes g c = rw c.deref.ensures.0 (order_below _ _ _
 pub returns-in-Through-clause-holds : goal.returns-in-Through-clause-holds
 returns-in-Through-clause-holds g c =
     λ n. ap (λ (s : Holding). is_among n s.held) c.done.ensures ∙ c.in-Through.ensures.1 n ∙ ap (is_among n) c.deref.ensures.0 ∙ order_among _ _ n c.loop.invariant.2
+
+pub returns-in-Through-clause-no_double : goal.returns-in-Through-clause-no_double
+returns-in-Through-clause-no_double g c =
+    c.loop.invariant.2.double None (subst (λ (ns : List ℕ). FirstDouble ns None) c.deref.ensures.0 c.in-Through.ensures.2)
 
 pub returns-in-Already-clause-err : goal.returns-in-Already-clause-err
 returns-in-Already-clause-err g c =
