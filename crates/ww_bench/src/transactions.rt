@@ -1,0 +1,161 @@
+//! One transaction of a load, by the method of the fixed list, with its back-offs counted, which no call of the library tells of
+//! itself; and one by `transact`.
+
+ghost use Rattle.std.specs.Prelude.{◌≡◌, ◌<◌, length, IsTrue, IfOk, IfErr};
+ghost use Rattle.ww_lock.specs.Holding.{IsAtHome};
+ghost use Rattle.ww_lock.specs.Making.{Covers};
+ghost use Rattle.ww_plain.specs.Transaction.{transaction_of, Fits, HasNoDouble};
+
+use std::sync::Wait;
+use ww_lock::{Acquiring, Backoff, Done, Lock, Pass, World};
+use ww_plain::{Txn, first_double};
+use ww_txn::Gate;
+
+/// A gate that keeps no transaction waiting.
+struct Open;
+
+impl Gate for Open {
+    fn before_commit(&self, _caller: u8, _seq: u64) {}
+
+    fn answered(&self, _caller: u8, _seq: u64) {}
+}
+
+/// Takes the locks of these nodes in turn, or as far as it can.
+fn take_in_turn<R: Wait>(
+    rt: &R,
+    world: &World,
+    mut acquiring: Acquiring,
+    list: &[u8],
+) -> Result<Acquiring, Backoff>
+    requires home { IsAtHome acquiring world.now }
+    ensures home { IfOk result (λ a. IsAtHome a world.now) }
+    ensures holding { IfErr result (λ b. IsAtHome b.holding world.now) }
+{
+    for n in list {
+        if *n < world.size() {
+            acquiring = match acquiring.lock(rt, world, *n) {
+                Lock::Locked(next) | Lock::Already(next) => next,
+                Lock::Deadlk(backoff) => return Err(backoff),
+            };
+        }
+    }
+    Ok(acquiring)
+}
+
+/// Takes the locks of these nodes, and counts how often it has to back off.
+fn take_all<R: Wait>(
+    rt: &R,
+    world: &World,
+    mut acquiring: Acquiring,
+    list: &[u8],
+    back_offs: &mut u64,
+) -> Acquiring
+    requires home { IsAtHome acquiring world.now }
+    ensures home { IsAtHome result world.now }
+{
+    for _ in rt.forever() {
+        acquiring = match take_in_turn(rt, world, acquiring, list) {
+            Ok(all) => return all,
+            Err(backoff) => {
+                *back_offs = back_offs.saturating_add(1);
+                backoff.unlock_all(rt, world).lock_slow(rt, world)
+            }
+        };
+    }
+    unreachable!()
+}
+
+/// Reads each of these nodes, and tells whether all are held and have the value 1.
+fn read_all<R: Wait>(rt: &R, world: &World, acquiring: &Acquiring, list: &[u8]) -> bool
+    requires home { IsAtHome acquiring.now world.now }
+{
+    let mut sum = 0u64;
+    for n in list {
+        if *n < world.size() {
+            if let Some(node) = acquiring.read(rt, world, *n) {
+                sum = sum.saturating_add(node.value);
+            }
+        }
+    }
+    sum == list.len() as u64
+}
+
+/// Takes the locks of these nodes, reads each of them where that is wanted, and gives all back. Tells whether it read what is
+/// there.
+pub(crate) fn look<R: Wait, const READS: bool>(
+    rt: &R,
+    world: &World,
+    pass: Pass,
+    list: &[u8],
+    back_offs: &mut u64,
+) -> (Pass, bool)
+    requires home { IsAtHome pass world.now }
+    ensures home { IsAtHome result.0 world.now }
+{
+    let acquiring = match pass.begin(rt, world) {
+        Ok(acquiring) => acquiring,
+        Err(pass) => return (pass, false),
+    };
+    let acquiring = take_all(rt, world, acquiring, list, back_offs);
+    let is_read = !READS || read_all(rt, world, &acquiring, list);
+    (acquiring.unlock_all(rt, world).fini(rt, world), is_read)
+}
+
+/// Whether the transaction can be prepared with these locks.
+fn is_possible<R: Wait>(rt: &R, world: &World, done: &Done, txn: &Txn) -> bool
+    requires home { IsAtHome done.now world.now }
+    ensures fits { IsTrue result → Fits (length done.now.seen) (transaction_of txn.now) }
+    ensures no_double { IsTrue result → HasNoDouble (transaction_of txn.now) }
+    ensures covers { IsTrue result → Covers done.now (transaction_of txn.now) }
+{
+    txn.fits(world.size()) && first_double(txn).is_none() && done.covers(rt, world, txn)
+}
+
+/// Commits a transaction and gives all back, and tells whether it was committed.
+fn commit<R: Wait>(rt: &R, world: &World, mut done: Done, txn: Txn) -> (Pass, bool)
+    requires home { IsAtHome done world.now }
+    ensures home { IsAtHome result.0 world.now }
+{
+    if !is_possible(rt, world, &done, &txn) {
+        return (done.unlock_all(rt, world).fini(rt, world), false);
+    }
+    let Ok(prepared) = done.prepare(rt, world, txn) else {
+        return (done.unlock_all(rt, world).fini(rt, world), false);
+    };
+    match done.commit(rt, world, prepared) {
+        Ok((done, _)) => (done.unlock_all(rt, world).fini(rt, world), true),
+        Err((done, _)) => (done.unlock_all(rt, world).fini(rt, world), false),
+    }
+}
+
+/// Takes the locks of these nodes, commits a transaction on them and gives all back. Tells whether it was committed.
+pub(crate) fn add<R: Wait>(
+    rt: &R,
+    world: &World,
+    pass: Pass,
+    list: &[u8],
+    txn: Txn,
+    back_offs: &mut u64,
+) -> (Pass, bool)
+    requires home { IsAtHome pass world.now }
+    ensures home { IsAtHome result.0 world.now }
+{
+    let acquiring = match pass.begin(rt, world) {
+        Ok(acquiring) => acquiring,
+        Err(pass) => return (pass, false),
+    };
+    let acquiring = take_all(rt, world, acquiring, list, back_offs);
+    commit(rt, world, acquiring.done(), txn)
+}
+
+/// Makes a transaction in one call, which doesn't tell of back-offs. Tells whether it was committed.
+pub(crate) fn transact<R: Wait>(rt: &R, world: &World, pass: Pass, txn: Txn) -> (Pass, bool)
+    requires home { IsAtHome pass world.now }
+    ensures home { IsAtHome result.0 world.now }
+{
+    if !txn.fits(world.size()) {
+        return (pass, false);
+    }
+    let (pass, receipt) = ww_txn::transact(world, pass, rt, &Open, txn);
+    (pass, receipt.is_ok())
+}
