@@ -66,13 +66,13 @@ fn take_all<R: Wait>(
 }
 
 /// Reads each of these nodes, and tells whether all are held and have the value 1.
-fn read_all<R: Wait>(rt: &R, world: &World, acquiring: &Acquiring, list: &[u8]) -> bool
+fn read_all(world: &World, acquiring: &Acquiring, list: &[u8]) -> bool
     requires home { IsAtHome acquiring.now world.now }
 {
     let mut sum = 0u64;
     for n in list {
         if *n < world.size() {
-            if let Some(node) = acquiring.read(rt, world, *n) {
+            if let Some(node) = acquiring.read(world, *n) {
                 sum = sum.saturating_add(node.value);
             }
         }
@@ -92,23 +92,23 @@ pub(crate) fn look<R: Wait, const READS: bool>(
     requires home { IsAtHome pass world.now }
     ensures home { IsAtHome result.0 world.now }
 {
-    let acquiring = match pass.begin(rt, world) {
+    let acquiring = match pass.begin(world) {
         Ok(acquiring) => acquiring,
         Err(pass) => return (pass, false),
     };
     let acquiring = take_all(rt, world, acquiring, list, back_offs);
-    let is_read = !READS || read_all(rt, world, &acquiring, list);
-    (acquiring.unlock_all(rt, world).fini(rt, world), is_read)
+    let is_read = !READS || read_all(world, &acquiring, list);
+    (acquiring.unlock_all(rt, world).fini(world), is_read)
 }
 
 /// Whether the transaction can be prepared with these locks.
-fn is_possible<R: Wait>(rt: &R, world: &World, done: &Done, txn: &Txn) -> bool
+fn is_possible(world: &World, done: &Done, txn: &Txn) -> bool
     requires home { IsAtHome done.now world.now }
     ensures fits { IsTrue result → Fits (length done.now.seen) (transaction_of txn.now) }
     ensures no_double { IsTrue result → HasNoDouble (transaction_of txn.now) }
     ensures covers { IsTrue result → Covers done.now (transaction_of txn.now) }
 {
-    txn.fits(world.size()) && first_double(txn).is_none() && done.covers(rt, world, txn)
+    txn.fits(world.size()) && first_double(txn).is_none() && done.covers(world, txn)
 }
 
 /// Commits a transaction and gives all back, and tells whether it was committed.
@@ -116,16 +116,14 @@ fn commit<R: Wait>(rt: &R, world: &World, mut done: Done, txn: Txn) -> (Pass, bo
     requires home { IsAtHome done world.now }
     ensures home { IsAtHome result.0 world.now }
 {
-    if !is_possible(rt, world, &done, &txn) {
-        return (done.unlock_all(rt, world).fini(rt, world), false);
+    if !is_possible(world, &done, &txn) {
+        return (done.unlock_all(rt, world).fini(world), false);
     }
-    let Ok(prepared) = done.prepare(rt, world, txn) else {
-        return (done.unlock_all(rt, world).fini(rt, world), false);
+    let Ok(prepared) = done.prepare(world, txn) else {
+        return (done.unlock_all(rt, world).fini(world), false);
     };
-    match done.commit(rt, world, prepared) {
-        Ok((done, _)) => (done.unlock_all(rt, world).fini(rt, world), true),
-        Err((done, _)) => (done.unlock_all(rt, world).fini(rt, world), false),
-    }
+    let (committed, _) = done.commit(world, prepared);
+    (committed.unlock_all(rt, world).fini(world), true)
 }
 
 /// Takes the locks of these nodes, commits a transaction on them and gives all back. Tells whether it was committed.
@@ -140,7 +138,7 @@ pub(crate) fn add<R: Wait>(
     requires home { IsAtHome pass world.now }
     ensures home { IsAtHome result.0 world.now }
 {
-    let acquiring = match pass.begin(rt, world) {
+    let acquiring = match pass.begin(world) {
         Ok(acquiring) => acquiring,
         Err(pass) => return (pass, false),
     };
