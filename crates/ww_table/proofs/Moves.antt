@@ -19,6 +19,7 @@ use Rattle.ww_model.specs.Lawful.{IsLawful}
 use Rattle.ww_model.specs.Run.{further}
 use Rattle.ww_model.proofs.Puts.{put_here, put_else, put_cases}
 use Rattle.ww_model.proofs.Kept.{reached_is_lawful}
+use Rattle.ww_model.proofs.Ranges.{few_stamps}
 use Rattle.ww_model.proofs.Meetings.{same_kind}
 use Rattle.ww_model.proofs.Outside.{signed_owns_outside}
 use Rattle.ww_plain.specs.declared.node.Node.{Node}
@@ -67,6 +68,14 @@ module _ (key : Start) (s : St) (r : Ruled key s) (id : ℕ) (me : Sat) (here : 
   -- what the found number tells
   pub found : (n : ℕ) (o : Owner) → n < 64 → IsValid o → get_or s.words (8 * n) 0 ≡ packed o → o ≡ word_of r.core n
   found n o low valid hit = found_is r.core n o r.reached (let z = r.places in omega arith) valid (sym hit ∙ r.words.owners n low)
+
+  -- the seat as the owner of a lock is one that a word can tell
+  pub taker_valid : IsValid (taker me.0.part.core)
+  taker_valid = let k = mine.part.knows in let below = law.base.stamps.below me.0.part.core.who in let few = few_stamps r.core r.reached in let stamp = k.itself.stamp in let seat = k.itself.seat in let sixteen = r.places in record {
+    seating = omega arith;
+    stamp = omega arith;
+    flags = inl refl;
+  }
 
   -- all locks of nodes are there
   pub low : (n : ℕ) → n < length (first_graph key) → n < 64

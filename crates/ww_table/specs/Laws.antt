@@ -3,7 +3,7 @@ use Rattle.std.specs.Prelude.{ℕ, ◌≡◌, ◌<◌, ◌+◌, [], ◌∷◌, �
 use mathlib.Core.Option.{some}
 use lib.ListN.{get_elem?}
 use Rattle.atomic_table.specs.Table.{stepped, keeps, takes, gives, rest}
-use Rattle.ww_word.specs.Owner.{IsValid, packed}
+use Rattle.ww_word.specs.Owner.{packed}
 use Rattle.ww_model.specs.declared.event.Event.TheVariants.{Begin, Fast, FastGive, Commit, End}
 use Rattle.ww_model.specs.State.{State}
 use Rattle.ww_model.specs.Lawful.{IsLawful}
@@ -43,7 +43,7 @@ TakeFreeIsFast = (key : Start) (s : St) (r : Ruled key s) (id : ℕ) (me : Sat) 
 -- outside a guard the owner word of the seat without flags becomes 0 as FastGive
 abbrev pub GiveFreeIsFastGive : Type 0
 GiveFreeIsFastGive = (key : Start) (s : St) (r : Ruled key s) (id : ℕ) (me : Sat) (n : ℕ) (x : Node) → Steps s id me → n < length (first_graph key) → IsAway me.0.part.core → owns me.0.part.core n ≡ true →
-    get_elem? me.0.held n ≡ some (Some x) → IsValid (taker me.0.part.core) → me.1 ≡ (n, Content x) ∷ rest me.1 → slice_index s.words (owner_at n) ≡ packed (taker me.0.part.core) →
+    get_elem? me.0.held n ≡ some (Some x) → me.1 ≡ (n, Content x) ∷ rest me.1 → slice_index s.words (owner_at n) ≡ packed (taker me.0.part.core) →
     Makes key s r (FastGive me.0.part.core.who n) (stepped s (owner_at n) 0 id me.1 (giving me.0 n) gives)
 
 -- the own sign word is found 0, and the context ends, as End

@@ -10,7 +10,7 @@ use std::alloc::Global;
 /// A table of 64 locks and 16 seats, whatever the graph's size.
 #[derive(Drop)]
 pub struct Board {
-    pub table: Table<Cell, Sight, Start, Words, Global>,
+    pub(crate) table: Table<Cell, Sight, Start, Words, Global>,
     pub(crate) size: u8,
     ghost sized: { IsSized table.shared.table_id },
     ghost size_is: { size ≡ length (first_graph table.shared.key) },

@@ -29,7 +29,7 @@ pub(crate) const MAX_OUT: usize = 65;
 /// A seat of a board. It may start one context after another, and each of its calls is one atomic step.
 #[derive(Drop)]
 pub struct Seat16 {
-    pub seat: Place,
+    pub(crate) seat: Place,
     pub(crate) who: u8,
     pub(crate) stamp: u64,
     /// The slots that it has out, the one taken last at the end.
