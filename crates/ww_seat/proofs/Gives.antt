@@ -20,7 +20,8 @@ use Rattle.ww_seat.specs.Orderly.{IsOrderly}
 use Rattle.ww_seat.specs.Calls.{IsSame, HoldsAsBefore, HasGiven}
 use Rattle.ww_seat.specs.Guards.{HasEntered, IsGiving, HasLet}
 use Rattle.ww_seat.proofs.Slots.{front_same, front_apart, is_out}
-use Rattle.ww_seat.proofs.Guards.{owned_here, alike_orderly, exiting_orderly, listed_orderly, without_node}
+use Rattle.ww_seat.proofs.Outside.{owns_here}
+use Rattle.ww_seat.proofs.Guards.{alike_orderly, exiting_orderly, listed_orderly, without_node}
 
 -- ---- what the calls say of the seat, one after another
 
@@ -134,7 +135,7 @@ let_go size a m m' n x others asked before g view top home = let first : Sat = (
     let small = (g.orderly.nodes n g.owner).0 in let few = g.orderly.few in let long = g.orderly.owned in subst (λ (w : Sight). HasLet size a n (w, m'.1)) (sym view) (record {
       orderly = without_node size first n x (giving_inside m.0 n asked) m'.1 o (omega arith) home refl refl refl refl;
       may = record {
-        exit = record { inside = g.inside; why = inl (g.waits, owned_here m.0.part.core.owned n false (omega arith)); unsigned = λ is. inr (inl (g.unsigned is)) };
+        exit = record { inside = g.inside; why = inl (g.waits, owns_here m.0.part.core.owned n false (omega arith)); unsigned = λ is. inr (inl (g.unsigned is)) };
         acted = refl;
         again = λ _ w. absurd (let z = g.waits in omega arith);
         looked = λ _ w _ _. absurd (let z = g.waits in omega arith);

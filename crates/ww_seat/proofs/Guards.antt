@@ -14,15 +14,8 @@ use Rattle.ww_table.specs.Seat.{slot_of, AreOthers}
 use Rattle.ww_view.specs.May.{MayEnter}
 use Rattle.ww_table.specs.Guards.{StandsAs, lost, entering, exiting}
 use Rattle.ww_seat.specs.Orderly.{AreApart, IsOrderly}
-use Rattle.ww_seat.proofs.Slots.{slot_here, slot_else, others_gone, others_else, others_apart, front_apart, front_else, few_slots}
-
--- ---- the locks that it owns
-
-pub owned_here : (xs : List Bool) (n : ℕ) (b : Bool) → n < length xs → get_or (set xs n b) n false ≡ b
-owned_here xs n b within = get_or-set_same xs n b false within
-
-pub owned_else : (xs : List Bool) (n k : ℕ) (b : Bool) → k ≢ n → get_or (set xs n b) k false ≡ get_or xs k false
-owned_else xs n k b isnt = get_or-set_other xs n k b false isnt
+use Rattle.ww_seat.proofs.Slots.{slot_here, slot_else, others_gone, others_else, others_apart, front_apart, front_else}
+use Rattle.ww_seat.proofs.Outside.{owns_here, owns_else}
 
 -- ---- what it knows changes, or the order of its slots
 
@@ -44,9 +37,6 @@ alike_orderly size m w slots o owned held inside list apart same = record {
 -- outside, a slot that is out is that of a node
 pub low_outside : (size : ℕ) (m : Sat) → IsOrderly size m → m.0.part.core.inside ≡ 0 → (n : ℕ) → 64 ≤ n → slot_of m.1 n ≡ None
 low_outside size m o outside n high = let e : 64 + (n - 64) ≡ n = omega arith in ap (slot_of m.1) (sym e) ∙ o.lists (n - 64) (λ z. let y = sym outside ∙ z in omega arith)
-
-pub room_outside : (size : ℕ) (m : Sat) → IsOrderly size m → m.0.part.core.inside ≡ 0 → length m.1 < 65
-room_outside size m o outside = let f = few_slots 64 m.1 o.apart (low_outside size m o outside) in omega arith
 
 -- a try that was lost leaves it as it was, but for what lasts no longer than a step
 pub may_enter_again : (v w : Sight) (n : ℕ) → lost w ≡ lost v → MayEnter v.part.core n → MayEnter w.part.core n
@@ -102,8 +92,8 @@ listed_orderly size m n w others o in_guard out owned held inside = let same = f
 pub without_node : (size : ℕ) (m : Sat) (n : ℕ) (x : Node) (w : Sight) (slots : List (ℕ × Cell)) → IsOrderly size m → n < 64 → AreOthers m.1 n (Content x) slots
     → w.part.core.owned ≡ slice_set m.0.part.core.owned n false → w.held ≡ slice_set m.0.held n None → w.part.core.inside ≡ m.0.part.core.inside → w.part.core.list ≡ m.0.part.core.list → IsOrderly size (w, slots)
 without_node size m n x w slots o small home owned held inside list = let same = others_else m.1 n (Content x) slots o.apart home in let long = o.owned in
-    let gone : get_or w.part.core.owned n false ≡ false = ap (λ xs. get_or xs n false) owned ∙ owned_here m.0.part.core.owned n false (omega arith) in
-    let kept : (k : ℕ) → k ≢ n → get_or w.part.core.owned k false ≡ get_or m.0.part.core.owned k false = λ k isnt. ap (λ xs. get_or xs k false) owned ∙ owned_else m.0.part.core.owned n k false isnt in record {
+    let gone : get_or w.part.core.owned n false ≡ false = ap (λ xs. get_or xs n false) owned ∙ owns_here m.0.part.core.owned n false (omega arith) in
+    let kept : (k : ℕ) → k ≢ n → get_or w.part.core.owned k false ≡ get_or m.0.part.core.owned k false = λ k isnt. ap (λ xs. get_or xs k false) owned ∙ owns_else m.0.part.core.owned n false k isnt in record {
       few = o.few;
       owned = ap length owned ∙ length-set m.0.part.core.owned n false ∙ o.owned;
       held = ap length held ∙ length-set m.0.held n None ∙ o.held;

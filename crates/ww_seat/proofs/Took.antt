@@ -37,7 +37,7 @@ use Rattle.ww_seat.specs.Work.{touched, IsWorking, MayGo, HasNoted, HasSigned}
 use Rattle.ww_seat.specs.declared.look.Look.TheVariants.{Locked}
 use Rattle.ww_seat.proofs.Slots.{slot_here, slot_else, others_had, others_gone, others_else, others_apart, same_cell}
 use Rattle.ww_seat.proofs.Outside.{orderly_brought}
-use Rattle.ww_seat.proofs.Guards.{owned_here, owned_else}
+use Rattle.ww_seat.proofs.Outside.{owns_here, owns_else}
 
 pub may_take : (n : ℕ) (s l : Bool) (v : View) (o : Owner) → IsWorking n s l v → (o.seat ≡ None) ⊎ ((o.seat ≡ Some v.who) × (is_handed o ≡ true)) → MayTake v n o
 may_take n s l v o w free = record { inside = w.inside; base = w.want.base; signs = w.want.signs; free = free }
@@ -61,11 +61,11 @@ taking_orderly size n m x others o low inside lacks out =
       apart = (slot_else n (Content x) others (64 + n) (λ e. far (sym e)) ∙ gone, (else_ n far ∙ o.others n (omega arith) lacks, others_apart m.1 (64 + n) (Line m.0.part.core.list) others o.apart out));
       nodes = λ k own. dite (ℕ_discrete k n)
           (λ is. (subst (λ (j : ℕ). j < size) (sym is) low, (x, ap (get_elem? (set m.0.held n (Some x))) is ∙ set_here m.0.held n (Some x) (omega arith), ap (slot_of ((64 + n, Line q) ∷ (n, Content x) ∷ others)) is ∙ node)))
-          (λ isnt. let z = o.nodes k (sym (owned_else m.0.part.core.owned n k true isnt) ∙ own) in let small = z.0 in
+          (λ isnt. let z = o.nodes k (sym (owns_else m.0.part.core.owned n true k isnt) ∙ own) in let small = z.0 in
           (z.0, (z.1.0, set_else m.0.held n k (Some x) isnt ∙ z.1.1, top k (λ e. absurd (omega arith)) isnt ∙ z.1.2)));
       others = λ k small isnt. dite (ℕ_discrete k n)
-          (λ is. absurd (true≢false (sym (owned_here m.0.part.core.owned n true (omega arith)) ∙ sym (ap (λ (j : ℕ). get_or (set m.0.part.core.owned n true) j false) is) ∙ isnt)))
-          (λ other. top k (λ e. absurd (omega arith)) other ∙ o.others k small (sym (owned_else m.0.part.core.owned n k true other) ∙ isnt));
+          (λ is. absurd (true≢false (sym (owns_here m.0.part.core.owned n true (omega arith)) ∙ sym (ap (λ (j : ℕ). get_or (set m.0.part.core.owned n true) j false) is) ∙ isnt)))
+          (λ other. top k (λ e. absurd (omega arith)) other ∙ o.others k small (sym (owns_else m.0.part.core.owned n true k other) ∙ isnt));
       list = λ k e. let at : k ≡ n = omega arith in ap (λ (j : ℕ). slot_of ((64 + n, Line q) ∷ (n, Content x) ∷ others) (64 + j)) at ∙ slot_here (64 + n) (Line q) ((n, Content x) ∷ others);
       lists = λ k isnt. top (64 + k) (λ e. isnt (omega arith)) (λ e. absurd (omega arith)) ∙ o.lists k isnt;
     }
@@ -167,7 +167,7 @@ out_view size n m m2 m3 m4 x owed t h out = out ∙ ap exiting (h.view ∙ ap (�
 -- its node is out
 pub node_out : (size n : ℕ) (m m2 m3 m4 : Sat) (x : Node) (owed : List (ℕ × ℕ)) → IsOrderly size m → n < size → IsTaken size n m x m2 → HasNoted size owed m2 m3 → m4.0 ≡ exiting m3.0 → IsOrderly size m4 → (y : Node) × (slot_of m4.1 n ≡ Some (Content y))
 node_out size n m m2 m3 m4 x owed o low t h out o4 = let long = o.owned in let few = o.few in
-    let own : owns m4.0.part.core n ≡ true = ap (λ (z : Sight). owns z.part.core n) (out_view size n m m2 m3 m4 x owed t h out) ∙ owned_here m.0.part.core.owned n true (omega arith) in
+    let own : owns m4.0.part.core n ≡ true = ap (λ (z : Sight). owns z.part.core n) (out_view size n m m2 m3 m4 x owed t h out) ∙ owns_here m.0.part.core.owned n true (omega arith) in
     let at = (o4.nodes n own).1 in (at.0, at.2)
 
 -- the node that is read then is the one that was taken
@@ -178,7 +178,7 @@ look_taken size n s l m m2 m3 m4 m5 x r owed o low w t h out o4 got =
     let base : m4.0 ≡ exiting (knowing (taking_inside m.0 n x) (touched (taken m.0.part.core n) (taken m.0.part.core n).seen h.signed h.fresh)) =
     out ∙ ap exiting (h.view ∙ ap (λ (z : Sight). knowing z (touched z.part.core z.part.core.seen h.signed h.fresh)) t.view) in
     let o5 : IsOrderly size m5 = orderly_brought size m4 m5 n (Content r) got.0 o4 got.1 got.2 in
-    let own : owns m4.0.part.core n ≡ true = ap (λ (z : Sight). owns z.part.core n) base ∙ owned_here m.0.part.core.owned n true (omega arith) in
+    let own : owns m4.0.part.core n ≡ true = ap (λ (z : Sight). owns z.part.core n) base ∙ owns_here m.0.part.core.owned n true (omega arith) in
     let at = (o4.nodes n own).1 in
     let held_is : get_elem? m4.0.held n ≡ some (Some x) = ap (λ (z : Sight). get_elem? z.held n) base ∙ set_here m.0.held n (Some x) (omega arith) in
     let one : at.0 ≡ x = ap (named no_node) (sym at.1 ∙ held_is) in
