@@ -4,6 +4,7 @@
 //! the latter alone, which on one thread is the same each time.
 #![tactic(auto)]
 
+mod calls;
 mod load;
 
 use load::{Load, What, go};
