@@ -12,7 +12,7 @@ use Rattle.ww_plain.specs.declared.node.Node.{Node}
 use Rattle.ww_plain.specs.declared.history.Record.{Record}
 use Rattle.ww_plain.specs.declared.transaction.By.{By}
 use Rattle.ww_plain.specs.Numbers.{is_among, AreDifferent}
-use Rattle.ww_plain.specs.Graph.{no_node, node_at}
+use Rattle.ww_plain.specs.Graph.{no_node, node_at, IsNodeOf}
 use Rattle.ww_plain.specs.Transaction.{add, transaction_of, HasLength}
 use Rattle.ww_plain.specs.Meaning.{raised, graph_after, done}
 use Rattle.ww_plain.proofs.Members.{is_among-head, is_among-tail, among_cons, different_cons, different_none}
@@ -334,8 +334,8 @@ module _ (size : ℕ) (d : Deeds) (m : Sat) (s : Stands size d m) where
 pub gave_again : (size : ℕ) (d : Deeds) (m m' : Sat) (s : Stands size d m) (n : ℕ) (ls : List ℕ) → (y : Node) × (m'.0 ≡ giving m.0 n) × AreOthers m.1 n (Content y) m'.1 → d.locks ≡ n ∷ ls → is_among n ls ≡ false → Stands size (gave d ls) m'
 gave_again size d m m' s n ls told top none = subst (Stands size (gave d ls)) (λ i. (sym told.1 i, m'.1)) (gave_stands size d m s n ls (Content told.0) m'.1 top none told.2)
 
-pub took_again : (size : ℕ) (d : Deeds) (m m' : Sat) (s : Stands size d m) (n : ℕ) → (x : Node) × (m' ≡ (taking m.0 n x, (n, Content x) ∷ m.1)) → CanTake d → n < size → is_among n d.locks ≡ false → Stands size (took d n) m'
-took_again size d m m' s n told can low new = subst (Stands size (took d n)) (sym told.1) (took_stands size d m s n told.0 can low new)
+pub took_again : (size : ℕ) (d : Deeds) (m m' : Sat) (s : Stands size d m) (n : ℕ) → (x : Node) × IsNodeOf (length m.0.held) x × (m' ≡ (taking m.0 n x, (n, Content x) ∷ m.1)) → CanTake d → n < size → is_among n d.locks ≡ false → Stands size (took d n) m'
+took_again size d m m' s n told can low new = subst (Stands size (took d n)) (sym told.2) (took_stands size d m s n told.0 can low new)
 
 -- ---- a node that is changed in place
 
