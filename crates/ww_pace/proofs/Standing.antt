@@ -30,8 +30,10 @@ use Rattle.ww_table.specs.declared.seat.Seat16.{Seat16}
 use Rattle.ww_table.specs.Seat.{IsSeated, AreOthers, slot_of}
 use Rattle.ww_table.specs.Steps.{MayDraw, MayEnd, MayPlace, known, graph_of, renewed, drawing, taking, giving, knowing, placing, seat_of}
 use Rattle.ww_table.proofs.Seats.{bare_first}
-use Rattle.ww_pace.specs.Resting.{size_of}
-use Rattle.ww_pace.specs.Standing.{Stage, resting, fresh, working, Deeds, IsAt, count_of, IsHeld, Stands, Did, at_first, began, took, gave, committed, ended, CanTake, raised_one, HasRaised}
+use Rattle.ww_table.specs.Made.{IsMade}
+use Rattle.ww_pace.specs.Resting.{IsResting, size_of}
+use Rattle.ww_pace.specs.Standing.{Stage, resting, fresh, working, Deeds, IsAt, count_of, IsHeld, Stands, Did, at_first, IsUnused, began, took, gave, committed, ended, CanTake, raised_one, HasRaised}
+use Rattle.ww_pace.proofs.Rounds.{all_from}
 use Rattle.ww_pace.proofs.Slots.{slot_here, slot_else, count_here, count_else, one_less, same_count, others_long, others_had, others_else}
 
 among_else : (n : ℕ) (ls : List ℕ) (k : ℕ) → k ≢ n → is_among k (n ∷ ls) ≡ is_among k ls
@@ -406,3 +408,33 @@ may_place_one size d m s by items n who seq is_who is_seq is among fewer =
     (subst (λ (q : ℕ). MayPlace m.0 (record { caller = d.who; seq = q; transaction = add by ((n, 1) ∷ []); answer = done })) is_seq
     (may_place size d m s by ((n, 1) ∷ []) n among (record { some = omega arith; few = omega arith }) (different_cons n [] refl different_none)
     (among_cons (λ k. is_among k d.locks ≡ true) n [] among (λ k e. absurd cc)) (omega arith))))
+
+-- ---- at the start
+
+-- seats of a table that was made just now
+pub new_unused : (kind : Kind) (graph : List Node) (count : ℕ) (board : Board) (seats : List Seat16) → size_of board ≤ 64 → IsMade kind graph count board seats → AllByRecursion (IsUnused board) seats
+new_unused kind graph count board seats few made = all_from (IsUnused board) seats (λ k s e. let new = made.seats_are.new k s e in (
+  k,
+  record {
+    seated = new.seated;
+    stands = subst (Stands (size_of board) (at_first k)) (sym new.me) (first_stands (size_of board) board.table.shared.key.kind k few);
+  },
+))
+
+-- such a seat rests
+pub unused_rests : (board : Board) (s : Seat16) → IsUnused board s → IsResting board s
+unused_rests board s u = let st = u.1.stands in record {
+  seated = u.1.seated;
+  rests = record {
+    away = st.away;
+    no_context = st.stage;
+    bare = bare (size_of board) (at_first u.0) s.seat.me st refl;
+    out = nothing_out (size_of board) (at_first u.0) s.seat.me st refl;
+    owned = st.owned;
+    held = st.held;
+  };
+}
+
+-- and has its own number
+pub unused_did : (board : Board) (s : Seat16) → IsUnused board s → Did board (at_first s.who) s
+unused_did board s u = subst (λ (k : ℕ). Did board (at_first k) s) (sym u.1.stands.who ∙ u.1.seated.who) u.1

@@ -71,6 +71,10 @@ pub record Did (board : Board) (d : Deeds) (s : Seat16) : Type 0 where
 abbrev pub at_first : ℕ → Deeds
 at_first k = record { who = k; draws = 0; commits = 0; stage = resting; locks = [] }
 
+-- it is a seat of this board, and did nothing yet
+abbrev pub IsUnused : Board → Seat16 → Type 0
+IsUnused board s = (k : ℕ) × Did board (at_first k) s
+
 abbrev pub began : Deeds → Deeds
 began d = record d { draws = d.draws + 1; stage = fresh }
 
