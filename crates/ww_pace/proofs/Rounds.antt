@@ -1,25 +1,20 @@
 -- A round keeps that a seat rests.
-use Rattle.std.proofs.Common.{◌≡◌, ◌≢◌, ℕ, zero, suc, ◌<◌, Bool, true, false, eq-eqb, List, [], ◌∷◌, ◌++◌, length, replicate, get_or, set, sym, refl, ap, ◌∙◌, subst, arith, Option, Some, None, length-set, length-append, get_or-set_same, get_or-set_other}
+use Rattle.std.proofs.Common.{◌≡◌, ◌≢◌, ℕ, zero, suc, ◌<◌, Bool, true, false, eq-eqb, List, [], ◌∷◌, ◌++◌, length, get_or, set, sym, refl, ap, ◌∙◌, subst, arith, Option, Some, None, length-set, length-append, get_or-set_same, get_or-set_other}
 use Rattle.std.specs.Bool.{if◌then◌else◌}
 use mathlib.Core.Logic.{dite}
 use mathlib.Core.Option.{some}
 use native.Mathlib.Decide.{ℕ_discrete}
-use lib.ListN.{get_elem?, length-replicate}
+use lib.ListN.{get_elem?}
 use Rattle.std.specs.List.{AllByRecursion}
 use Rattle.atomic_table.proofs.Lists.{set_here}
-use Rattle.ww_queue.specs.declared.kind.Kind.{Kind}
 use Rattle.ww_plain.specs.declared.node.Node.{Node}
 use Rattle.ww_view.specs.View.{IsBare}
-use Rattle.ww_table.specs.declared.board.Board.{Board}
 use Rattle.ww_table.specs.declared.cells.Cell.{Cell}
 use Rattle.ww_table.specs.declared.cells.Cell.TheVariants.{Content}
-use Rattle.ww_table.specs.declared.seat.Seat16.{Seat16}
-use Rattle.ww_table.specs.Rule.{Sat, first_part}
+use Rattle.ww_table.specs.Rule.{Sat}
 use Rattle.ww_table.specs.Seat.{AreOthers, slot_of}
-use Rattle.ww_table.specs.Steps.{taking, giving, seat_of}
-use Rattle.ww_table.specs.Made.{IsMade}
-use Rattle.ww_table.proofs.Seats.{bare_first}
-use Rattle.ww_pace.specs.Resting.{Rests, IsResting, size_of}
+use Rattle.ww_table.specs.Steps.{taking, giving}
+use Rattle.ww_pace.specs.Resting.{Rests}
 
 -- of one slot, none are left
 others_none : (a : ℕ × Cell) (n : ℕ) (y : Cell) (others : List (ℕ × Cell)) → AreOthers (a ∷ []) n y others → others ≡ []
@@ -65,23 +60,6 @@ rests_again size m m' m'' n r low got gone =
 
 -- ---- at the start
 
-rests_first : (size : ℕ) (kind : Kind) (k : ℕ) → Rests size (seat_of size (first_part kind k), [])
-rests_first size kind k = record {
-  away = (refl, refl);
-  no_context = refl;
-  bare = bare_first kind k;
-  out = refl;
-  owned = length-replicate 64 false;
-  held = length-replicate size None;
-}
-
-all_from : {A : Type 0} (P : A → Type 0) (xs : List A) → ((k : ℕ) (x : A) → get_elem? xs k ≡ some x → P x) → AllByRecursion P xs
+pub all_from : {A : Type 0} (P : A → Type 0) (xs : List A) → ((k : ℕ) (x : A) → get_elem? xs k ≡ some x → P x) → AllByRecursion P xs
 all_from P [] each = tt
 all_from P (x ∷ xs) each = (each 0 x refl, all_from P xs (λ k y e. each (suc k) y e))
-
--- seats that did nothing yet rest
-pub new_rest : (kind : Kind) (graph : List Node) (count : ℕ) (board : Board) (seats : List Seat16) → IsMade kind graph count board seats → AllByRecursion (IsResting board) seats
-new_rest kind graph count board seats made = all_from (IsResting board) seats (λ k s e. let new = made.seats_are.new k s e in record {
-  seated = new.seated;
-  rests = subst (Rests (size_of board)) (sym new.me) (rests_first (size_of board) board.table.shared.key.kind k);
-})

@@ -1,9 +1,10 @@
 //! A load: some threads at once, each with a seat of its own that makes so many rounds.
 
 ghost use Rattle.std.specs.Prelude.{◌≡◌, ◌<◌, ◌≤◌, length, IfOk, IfSome};
-ghost use Rattle.std.specs.List.{AllByRecursion};
 ghost use Rattle.ww_pace.specs.Resting.{IsResting, size_of};
+ghost use Rattle.ww_pace.specs.Standing.{IsUnused};
 
+use crate::calls::{Tally, round_of_one};
 use rand_core::utils::NextWord;
 use rand_pcg::Pcg32;
 use std::alloc::{AllocError, Global};
@@ -22,6 +23,8 @@ pub(crate) enum What {
     Pairs,
     /// The same with one of 64 locks, drawn at random.
     PairsOf64,
+    /// Starts a context, takes the thread's own lock, commits that its node has 1 more, gives the lock back, and ends.
+    Commits,
 }
 
 /// What is measured.
@@ -31,13 +34,6 @@ pub(crate) struct Load {
     pub(crate) threads: u8,
     /// How many rounds each thread makes.
     pub(crate) rounds: u32,
-}
-
-/// What a thread works with.
-#[derive(Drop)]
-struct Job {
-    seat: Seat16,
-    number: u8,
 }
 
 /// How long all threads took, and how many rounds came to hold their lock.
@@ -77,18 +73,18 @@ fn pair(board: &Board, seat: &mut Seat16, lock: u8) -> Option<bool>
 }
 
 /// All rounds of a thread, with its own lock or with locks drawn at random; how many came to hold their lock.
-fn work<const IS_DRAWN: bool>(board: &Board, job: Job, rounds: u32) -> u64
-    requires resting { IsResting board.now job.seat }
+fn work<const IS_DRAWN: bool>(board: &Board, mut seat: Seat16, rounds: u32) -> u64
+    requires unused { IsUnused board.now seat }
     requires size { size_of board.now ≡ 64 }
 {
-    let Job { mut seat, number } = job;
-    let mut random = Pcg32::new(u64::from(number), 1);
+    let who = seat.who();
+    let mut random = Pcg32::new(u64::from(who), 1);
     let mut held = 0u64;
     for _ in 0..rounds {
         let lock = if IS_DRAWN {
             (random.next_word() % 64) as u8
         } else {
-            number % 64
+            who % 64
         };
         let Some(had) = pair(board, &mut seat, lock) else {
             return held;
@@ -98,18 +94,24 @@ fn work<const IS_DRAWN: bool>(board: &Board, job: Job, rounds: u32) -> u64
     held
 }
 
-/// Numbers the seats.
-fn jobs_of(_board: &Board, alloc: Global, seats: Vec<Seat16>) -> Result<Vec<Job>, AllocError>
-    requires { AllByRecursion (IsResting _board.now) seats.items }
-    ensures { IfOk result (λ jobs. AllByRecursion (λ job. IsResting _board.now job.seat) jobs.items) }
+/// All rounds of a thread that commits, on its own lock; how many commits it made.
+fn work_of_commits(board: &Board, alloc: Global, mut seat: Seat16, rounds: u32) -> u64
+    requires unused { IsUnused board.now seat }
+    requires size { size_of board.now ≡ 64 }
 {
-    let mut jobs = Vec::new(alloc);
-    let mut number = 0u8;
-    for seat in seats {
-        jobs.push(Job { seat, number })?;
-        number = number.saturating_add(1);
+    let who = seat.who();
+    let mut tally = Tally {
+        who,
+        draws: 0,
+        commits: 0,
+    };
+    for at in 0..rounds {
+        let Some(next) = round_of_one(board, &mut seat, alloc, tally, who % 64) else {
+            return tally.commits;
+        };
+        tally = next;
     }
-    Ok(jobs)
+    tally.commits
 }
 
 /// Runs the load once, on a board of its own.
@@ -120,18 +122,18 @@ pub(crate) fn go<R: Runtime + Threads + Sync>(rt: &R, alloc: Global, load: Load)
         Ok(made) => made,
         Err((_, error)) => return Err(error.into()),
     };
-    let jobs = jobs_of(&board, alloc, seats)?;
     let shared = &board;
     let start = Instant::now(rt)?;
     let works = thread::map_vec(
         rt,
-        jobs,
-        &|job: Job| -> u64
-            requires { IsResting shared.now job.seat × (size_of shared.now ≡ 64) }
+        seats,
+        &|seat: Seat16| -> u64
+            requires { IsUnused shared.now seat × (size_of shared.now ≡ 64) }
         {
             match load.what {
-                What::Pairs => work::<false>(shared, job, load.rounds),
-                What::PairsOf64 => work::<true>(shared, job, load.rounds),
+                What::Pairs => work::<false>(shared, seat, load.rounds),
+                What::PairsOf64 => work::<true>(shared, seat, load.rounds),
+                What::Commits => work_of_commits(shared, alloc, seat, load.rounds),
             }
         },
     )?;

@@ -1,5 +1,12 @@
-use Rattle.ww_pace.proofs.Rounds.{new_rest}
+use Rattle.std.proofs.Common.{◌≡◌, length, sym, ap, ◌∙◌, subst, arith}
+use Rattle.ww_plain.proofs.GraphFacts.{all_item}
+use Rattle.ww_pace.specs.Resting.{size_of}
+use Rattle.ww_pace.specs.Standing.{IsUnused}
+use Rattle.ww_pace.proofs.Standing.{new_unused}
 use Rattle.ww_pace.proofs.load.go.Goals as goal
 
-pub jobs_of-requires : goal.jobs_of-requires
-jobs_of-requires g c = new_rest _ _ _ _ _ (c.in-Ok.ensures.ok)
+pub map_vec-requires-after_bounds : goal.map_vec-requires-after_bounds
+map_vec-requires-after_bounds g c = λ κs within i x lt is. let made = c.in-Ok.ensures.ok in let size : size_of c.in-Ok.made.0 ≡ 64 = ap length made.graph_is ∙ c.in_ok-graph.ensures in (
+  subst (IsUnused c.in-Ok.made.0) (sym is) (all_item (IsUnused c.in-Ok.made.0) c.in-Ok.made.1.items i x lt (new_unused _ _ _ c.in-Ok.made.0 c.in-Ok.made.1.items (omega arith) made)),
+  size,
+)
