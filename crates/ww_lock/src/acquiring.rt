@@ -8,7 +8,7 @@ use ww_plain::Node;
 
 /// A context that takes locks.
 pub struct Acquiring {
-    pub(crate) hand: Hand,
+    pub(crate) hand: Box<Hand>,
 }
 
 impl Model for Acquiring {
@@ -18,9 +18,9 @@ impl Model for Acquiring {
 
     ghost Value = { Holding };
 
-    ghost view = { λ s. holding_of s.hand };
+    ghost view = { λ s. holding_of s.hand.value };
 
-    ghost invariant = { λ s. CarriesFresh s.hand × (0 < s.hand.seat.stamp) };
+    ghost invariant = { λ s. CarriesFresh s.hand.value × (0 < s.hand.value.seat.stamp) };
 }
 
 /// What a lock call answers.

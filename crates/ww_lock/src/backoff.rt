@@ -6,7 +6,7 @@ use std::sync::Wait;
 
 /// A context that was told EDEADLK. It still holds its locks, and can only give them all back.
 pub struct Backoff {
-    pub(crate) hand: Hand,
+    pub(crate) hand: Box<Hand>,
     pub(crate) contended: u8,
     pub(crate) met: u64,
 }
@@ -18,9 +18,9 @@ impl Model for Backoff {
 
     ghost Value = { Refused };
 
-    ghost view = { λ s. record { holding = holding_of s.hand; contended = s.contended; met = s.met } };
+    ghost view = { λ s. record { holding = holding_of s.hand.value; contended = s.contended; met = s.met } };
 
-    ghost invariant = { λ s. CarriesFresh s.hand × (s.met < s.hand.seat.stamp) × (s.contended < length s.hand.seen) };
+    ghost invariant = { λ s. CarriesFresh s.hand.value × (s.met < s.hand.value.seat.stamp) × (s.contended < length s.hand.value.seen) };
 }
 
 impl Backoff {

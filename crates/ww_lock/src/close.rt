@@ -126,6 +126,6 @@ impl Pass {
         ensures { IsSeatOf self result }
     {
         let Pass { hand } = self;
-        hand.seat
+        Box::into_inner(hand).seat
     }
 }

@@ -7,7 +7,7 @@ use std::sync::Wait;
 
 /// A context that was told EDEADLK and has given all locks back. It may take the lock that it couldn't get, or end.
 pub struct Contended {
-    pub(crate) hand: Hand,
+    pub(crate) hand: Box<Hand>,
     pub(crate) contended: u8,
 }
 
@@ -18,9 +18,9 @@ impl Model for Contended {
 
     ghost Value = { Wanting };
 
-    ghost view = { λ s. record { holding = holding_of s.hand; contended = s.contended } };
+    ghost view = { λ s. record { holding = holding_of s.hand.value; contended = s.contended } };
 
-    ghost invariant = { λ s. CarriesFresh s.hand × (0 < s.hand.seat.stamp) × (s.hand.held.items ≡ []) × (s.contended < length s.hand.seen) };
+    ghost invariant = { λ s. CarriesFresh s.hand.value × (0 < s.hand.value.seat.stamp) × (s.hand.value.held.items ≡ []) × (s.contended < length s.hand.value.seen) };
 }
 
 impl Contended {

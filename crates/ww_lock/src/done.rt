@@ -9,7 +9,7 @@ use ww_plain::Txn;
 
 /// A context that has all its locks.
 pub struct Done {
-    pub(crate) hand: Hand,
+    pub(crate) hand: Box<Hand>,
 }
 
 impl Model for Done {
@@ -19,14 +19,14 @@ impl Model for Done {
 
     ghost Value = { Holding };
 
-    ghost view = { λ s. holding_of s.hand };
+    ghost view = { λ s. holding_of s.hand.value };
 
-    ghost invariant = { λ s. CarriesFresh s.hand × (0 < s.hand.seat.stamp) };
+    ghost invariant = { λ s. CarriesFresh s.hand.value × (0 < s.hand.value.seat.stamp) };
 }
 
 /// A context that has committed, and still holds its locks.
 pub struct Committed {
-    pub(crate) hand: Hand,
+    pub(crate) hand: Box<Hand>,
 }
 
 impl Model for Committed {
@@ -36,14 +36,14 @@ impl Model for Committed {
 
     ghost Value = { Holding };
 
-    ghost view = { λ s. holding_of s.hand };
+    ghost view = { λ s. holding_of s.hand.value };
 
-    ghost invariant = { λ s. Carries s.hand × (0 < s.hand.seat.stamp) };
+    ghost invariant = { λ s. Carries s.hand.value × (0 < s.hand.value.seat.stamp) };
 }
 
 /// A context that has given all locks back.
 pub struct Empty {
-    pub(crate) hand: Hand,
+    pub(crate) hand: Box<Hand>,
 }
 
 impl Model for Empty {
@@ -53,9 +53,9 @@ impl Model for Empty {
 
     ghost Value = { Holding };
 
-    ghost view = { λ s. holding_of s.hand };
+    ghost view = { λ s. holding_of s.hand.value };
 
-    ghost invariant = { λ s. Carries s.hand × (0 < s.hand.seat.stamp) × (s.hand.held.items ≡ []) };
+    ghost invariant = { λ s. Carries s.hand.value × (0 < s.hand.value.seat.stamp) × (s.hand.value.held.items ≡ []) };
 }
 
 impl Done {

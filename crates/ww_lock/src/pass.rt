@@ -9,7 +9,7 @@ use std::sync::Wait;
 /// its passes. Contracts see it, as each state that it becomes, as what it holds.
 #[derive(Drop)]
 pub struct Pass {
-    pub(crate) hand: Hand,
+    pub(crate) hand: Box<Hand>,
 }
 
 impl Model for Pass {
@@ -19,9 +19,9 @@ impl Model for Pass {
 
     ghost Value = { Holding };
 
-    ghost view = { λ s. holding_of s.hand };
+    ghost view = { λ s. holding_of s.hand.value };
 
-    ghost invariant = { λ s. Carries s.hand × (s.hand.seat.stamp ≡ 0) × (s.hand.held.items ≡ []) };
+    ghost invariant = { λ s. Carries s.hand.value × (s.hand.value.seat.stamp ≡ 0) × (s.hand.value.held.items ≡ []) };
 }
 
 impl Pass {
@@ -52,8 +52,8 @@ impl Pass {
     }
 
     /// One context or solo less; a spent pass is given back.
-    fn spend(self) -> Result<Hand, Pass>
-        ensures ok { IfOk result (IsSpent self) }
+    fn spend(self) -> Result<Box<Hand>, Pass>
+        ensures ok { IfOk result (λ hand. IsSpent self hand.value) }
         ensures err { IfErr result (λ p. (self.left ≡ 0) × (p ≡ self)) }
     {
         if self.hand.left == 0 {

@@ -9,7 +9,7 @@ use ww_plain::{Node, Txn};
 
 /// One lock, taken without a context.
 pub struct Solo {
-    pub(crate) hand: Hand,
+    pub(crate) hand: Box<Hand>,
 }
 
 impl Model for Solo {
@@ -19,14 +19,14 @@ impl Model for Solo {
 
     ghost Value = { Holding };
 
-    ghost view = { λ s. holding_of s.hand };
+    ghost view = { λ s. holding_of s.hand.value };
 
-    ghost invariant = { λ s. CarriesFresh s.hand × (s.hand.seat.stamp ≡ 0) };
+    ghost invariant = { λ s. CarriesFresh s.hand.value × (s.hand.value.seat.stamp ≡ 0) };
 }
 
 /// One lock that was taken without a context, after its commit.
 pub struct SoloDone {
-    pub(crate) hand: Hand,
+    pub(crate) hand: Box<Hand>,
 }
 
 impl Model for SoloDone {
@@ -36,9 +36,9 @@ impl Model for SoloDone {
 
     ghost Value = { Holding };
 
-    ghost view = { λ s. holding_of s.hand };
+    ghost view = { λ s. holding_of s.hand.value };
 
-    ghost invariant = { λ s. Carries s.hand × (s.hand.seat.stamp ≡ 0) };
+    ghost invariant = { λ s. Carries s.hand.value × (s.hand.value.seat.stamp ≡ 0) };
 }
 
 impl Solo {

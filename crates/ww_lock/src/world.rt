@@ -1,4 +1,4 @@
-ghost use Rattle.std.specs.Prelude.{◌≡◌, ◌≤◌, [], length, IfOk, vec_len, vec_capacity};
+ghost use Rattle.std.specs.Prelude.{◌≡◌, ◌≤◌, [], length, IfOk, IfErr, vec_len, vec_capacity};
 ghost use Rattle.ww_table.specs.Made.{AreNew};
 ghost use Rattle.ww_table.specs.Rule.{first_graph};
 ghost use Rattle.ww_lock.specs.Opened.{AreFresh, AreRests};
@@ -83,12 +83,13 @@ impl World {
         let Ok((rests, wakers)) = rests(alloc, &graph, passes) else {
             return Err((graph, OpenFault::NoMemory));
         };
-        match Board::make(alloc, kind, graph, passes) {
-            Ok((board, seats)) => {
-                let all = fresh(&board, seats, rests, kind, budget, room);
-                Ok((World { board, wakers }, all))
-            }
-            Err((graph, _)) => Err((graph, OpenFault::NoMemory)),
+        let (board, seats) = match Board::make(alloc, kind, graph, passes) {
+            Ok(made) => made,
+            Err((graph, _)) => return Err((graph, OpenFault::NoMemory)),
+        };
+        match fresh(alloc, &board, seats, rests, kind, budget, room) {
+            Ok(all) => Ok((World { board, wakers }, all)),
+            Err(graph) => Err((graph, OpenFault::NoMemory)),
         }
     }
 
@@ -123,20 +124,22 @@ fn rests(alloc: Global, graph: &Graph, passes: u8) -> Result<(Vec<Rest>, Vec<Unp
     Ok((rests, wakers))
 }
 
-/// The passes of new seats, which have done nothing yet.
+/// The passes of new seats, which have done nothing yet; or the graph that they have seen, where a growth was refused.
 fn fresh(
+    alloc: Global,
     board: &Board,
     seats: Vec<Seat16>,
     mut rests: Vec<Rest>,
     kind: Kind,
     budget: u32,
     mut all: Vec<Pass>,
-) -> Vec<Pass>
+) -> Result<Vec<Pass>, Graph>
     requires seats { AreNew board.now.table.shared.table_id board.now.table.shared.key (length seats.items) seats.items }
     requires kind { board.now.table.shared.key.kind ≡ kind }
     requires rests { AreRests (first_graph board.now.table.shared.key) (length seats.items) rests.items }
     requires room { (all.items ≡ []) × (vec_len all ≡ 0) × (length seats.items ≤ vec_capacity all) }
-    ensures { AreFresh result.items (first_graph board.now.table.shared.key) board.now.table.shared.table_id (length seats.items) budget }
+    ensures ok { IfOk result (λ all. AreFresh all.items (first_graph board.now.table.shared.key) board.now.table.shared.table_id (length seats.items) budget) }
+    ensures err { IfErr result (λ graph. graph ≡ first_graph board.now.table.shared.key) }
 {
     for seat in seats {
         let Some(Rest { parker, seen }) = rests.pop() else {
@@ -150,7 +153,10 @@ fn fresh(
             seen,
             parker,
         };
-        all.push_reserved(Pass { hand });
+        match Box::new(alloc, hand) {
+            Ok(hand) => all.push_reserved(Pass { hand }),
+            Err(refused) => return Err(refused.value.seen),
+        }
     }
-    all
+    Ok(all)
 }

@@ -5,7 +5,8 @@ use Rattle.ww_table.specs.declared.seat.Seat16.{Seat16}
 use Rattle.ww_table.specs.Rule.{first_graph}
 use Rattle.ww_table.specs.Seat.{IsNew}
 use Rattle.ww_lock.specs.declared.hand.Hand.{Hand}
-use Rattle.ww_lock.specs.Opened.{AreFresh, AreRests}
+use Rattle.ww_lock.specs.Carried.{holding_of, Carries}
+use Rattle.ww_lock.specs.Opened.{fresh, AreFresh, AreRests}
 use Rattle.ww_lock.proofs.Openings.{elem_mid, rests_less, new_carries, new_holding, new_idle, fresh_more}
 use Rattle.ww_lock.proofs.world.fresh.Goals as goal
 
@@ -20,7 +21,9 @@ invariant_of-push_reserved c =
     let popped : c.loop-seat.rests.items ≡ c.pop.new.self.items ++ c.in-Some-pop.field-0 ∷ [] = search rules in
     let less = rests_less (first_graph shared.key) (length c.next.new.self.rest.items) c.loop-seat.rests.items c.pop.new.self.items c.in-Some-pop.field-0 (subst (λ (k : ℕ). AreRests (first_graph shared.key) k c.loop-seat.rests.items) (ap length step) i.3) popped in
     let none : c.new.result.items ≡ [] = search rules in
-    (new_carries shared.table_id shared.key (length c.loop-seat.yielded) _ new c.requires.kind none less.1 c.args.board.now.few (omega (arith, c.ranges.budget.fits)), new_idle shared.table_id shared.key _ c.in-Some.seat new, none)
+    let hand : Hand = record { seat = c.in-Some.seat; kind = c.args.kind; left = c.args.budget; held = c.new.result; seen = c.in-Some-pop.field-0.seen; parker = c.in-Some-pop.field-0.parker } in
+    subst (λ (h : Hand). Carries h × (h.seat.stamp ≡ 0) × (h.held.items ≡ [])) (sym c.in-Ok.ensures.ok)
+    (new_carries shared.table_id shared.key (length c.loop-seat.yielded) hand new c.requires.kind none less.1 c.args.board.now.few (omega (arith, c.ranges.budget.fits)), new_idle shared.table_id shared.key _ c.in-Some.seat new, none)
 
 pub loop-seat-preserved : goal.loop-seat-preserved
 loop-seat-preserved c =
@@ -35,7 +38,7 @@ loop-seat-preserved c =
     let none : c.new.result.items ≡ [] = search rules in
     let more : length (c.loop-seat.yielded ++ c.in-Some.seat ∷ []) ≡ length c.loop-seat.yielded + 1 = length-append c.loop-seat.yielded (c.in-Some.seat ∷ []) in
     let hand : Hand = record { seat = c.in-Some.seat; kind = c.args.kind; left = c.args.budget; held = c.new.result; seen = c.in-Some-pop.field-0.seen; parker = c.in-Some-pop.field-0.parker } in
-    let holding = new_holding shared.table_id shared.key (length c.loop-seat.yielded) hand new none less.1 in (
+    let holding = subst (λ (h : Hand). holding_of h ≡ fresh shared.table_id (first_graph shared.key) c.args.budget (length c.loop-seat.yielded) (holding_of h).room) (sym c.in-Ok.ensures.ok) (new_holding shared.table_id shared.key (length c.loop-seat.yielded) hand new none less.1) in (
       tt,
       tt,
       append_assoc c.loop-seat.yielded (c.in-Some.seat ∷ []) c.next.new.self.rest.items ∙ whole,

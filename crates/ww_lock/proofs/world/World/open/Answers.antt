@@ -6,14 +6,14 @@ use Rattle.ww_lock.specs.Opened.{AreFresh}
 use Rattle.ww_lock.proofs.Openings.{fresh_home}
 use Rattle.ww_lock.proofs.world.World.open.Goals as goal
 
-pub returns-in-Ok-make-clause-ok : goal.returns-in-Ok-make-clause-ok
-returns-in-Ok-make-clause-ok c =
+pub returns-in-Ok-fresh-clause-ok : goal.returns-in-Ok-fresh-clause-ok
+returns-in-Ok-fresh-clause-ok c =
     let m = c.in-Ok-make.ensures.ok in
-    let shared = c.in-Ok-make.board.table.shared in
+    let shared = c.in-Ok-make.made.0.table.shared in
     let w : Place = record { home = shared.table_id; first = first_graph shared.key; passes = length c.in-Ok-rests.wakers.items } in
-    let all = c.fresh-all.result.items in
+    let all = c.in-Ok-fresh.all.items in
     let count = c.in-Ok-rests.ensures.wakers in
-    let fresh = subst (λ (k : ℕ). AreFresh all w.first w.home k c.args.budget) m.seats_are.many c.fresh-all.ensures in record {
+    let fresh = subst (λ (k : ℕ). AreFresh all w.first w.home k c.args.budget) m.seats_are.many c.in-Ok-fresh.ensures.ok in record {
       sizes = record {
         some = omega (arith, c.if-passes-eq0.false);
         few = omega (arith, c.if-passes-gt-MAX_PASSES.false);
