@@ -1,18 +1,15 @@
 -- What a state carries, as the calls of its seat change that.
-use Rattle.std.proofs.Common.{◌≡◌, ◌≢◌, ℕ, suc, zero, ◌+◌, ◌-◌, ◌<◌, ◌≤◌, ◌^◌, ◌||◌, eqb, true≢false, Bool, true, false, List, [], ◌∷◌, ◌++◌, length, set, get_or, slice_set, refl, sym, ap, subst, ◌∙◌, arith, inl, inr, Option, Some, None, length-set, get_or-set_same, get_or-set_other}
+use Rattle.std.proofs.Common.{◌≡◌, ◌≢◌, ℕ, suc, zero, ◌+◌, ◌<◌, ◌≤◌, ◌^◌, ◌||◌, eqb, true≢false, Bool, true, false, List, [], ◌∷◌, ◌++◌, length, set, get_or, refl, sym, ap, subst, ◌∙◌, arith, inl, inr, Some, length-set, get_or-set_same, get_or-set_other}
 use mathlib.Core.Option.{some}
 use lib.ListN.{get_elem?}
 use Rattle.atomic_table.specs.Seated.{TableId}
 use Rattle.ww_plain.specs.declared.node.Node.{Node}
-use Rattle.ww_plain.specs.declared.history.Record.{Record}
 use Rattle.ww_plain.specs.Numbers.{is_among}
 use Rattle.ww_plain.specs.Graph.{no_node, node_at}
 use Rattle.ww_plain.proofs.Members.{eqb_same, eqb_comm, true_or_false, same_from_eqb, or_false, or_right, is_among-append, different_head, different_tail, different_cons, different_none}
 use Rattle.ww_plain.specs.Numbers.{AreDifferent}
 use Rattle.std.specs.List.{AllByRecursion}
-use Rattle.ww_lock.proofs.Helds.{held_more, all_among}
-use Rattle.ww_queue.specs.declared.kind.Kind.{Kind}
-use Rattle.ww_view.specs.declared.view.View.{View}
+use Rattle.ww_lock.proofs.Helds.{held_more}
 use Rattle.ww_view.specs.View.{owns, IsBare}
 use Rattle.ww_table.specs.declared.seat.Seat16.{Seat16}
 use Rattle.ww_table.specs.Steps.{MayDraw}

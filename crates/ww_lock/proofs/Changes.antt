@@ -7,10 +7,9 @@ use Rattle.ww_plain.specs.Numbers.{joined, distinct_of}
 use Rattle.ww_plain.specs.Graph.{node_at}
 use Rattle.ww_plain.specs.Walk.{BeginsWith, walk_of, stop_of}
 use Rattle.ww_plain.specs.Footprint.{with_target, walked}
-use Rattle.ww_plain.specs.Transaction.{get, add, move, link, sum, reverse, peek, transaction_of, Fits}
-use Rattle.ww_plain.specs.Meaning.{answer_of, graph_after}
-use Rattle.ww_plain.specs.History.{IsNext}
-use Rattle.ww_plain.proofs.Members.{true_or_false, is_among-append, is_among-head, is_among-tail}
+use Rattle.ww_plain.specs.Transaction.{get, add, move, link, sum, reverse, peek, Fits}
+use Rattle.ww_plain.specs.Meaning.{answer_of}
+use Rattle.ww_plain.proofs.Members.{true_or_false, is_among-append, is_among-head}
 use Rattle.ww_plain.proofs.Walks.{gives_walk}
 use Rattle.ww_table.specs.declared.seat.Seat16.{Seat16}
 use Rattle.ww_view.specs.View.{owns}

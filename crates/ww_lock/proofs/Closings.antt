@@ -1,5 +1,5 @@
 -- The seats of passes, as a world is closed.
-use Rattle.std.proofs.Common.{◌≡◌, ℕ, zero, suc, ◌+◌, ◌-◌, ◌<◌, ◌≤◌, eqb, true, false, true≢false, inl, inr, List, [], ◌∷◌, ◌++◌, length, refl, sym, ap, subst, ◌∙◌, arith, Option, None, Some}
+use Rattle.std.proofs.Common.{◌≡◌, ℕ, zero, suc, ◌-◌, ◌<◌, ◌≤◌, eqb, true, true≢false, inl, inr, List, [], ◌∷◌, ◌++◌, length, refl, sym, ap, subst, ◌∙◌, arith, None, Some}
 use mathlib.Core.Option.{some}
 use lib.ListN.{get_elem?}
 use Rattle.std.specs.List.{AllByRecursion}
@@ -21,7 +21,7 @@ use Rattle.ww_table.specs.Closed as table
 use Rattle.atomic_table.specs.Seated.{TableId}
 use Rattle.ww_lock.specs.declared.hand.Hand.{Hand}
 use Rattle.ww_lock.specs.declared.close.History.{History}
-use Rattle.ww_lock.specs.Holding.{Holding, Place, IsAtHome, AreAtHome, AreBelow, own_of}
+use Rattle.ww_lock.specs.Holding.{Holding, Place, AreAtHome, AreBelow, own_of}
 use Rattle.ww_lock.specs.Carried.{holding_of, Carries}
 use Rattle.ww_lock.specs.Closed.{has_pass, missing_of, IsSeatOf, AreSeatsOf, AreAllBelow, AreParts, IsClosed}
 use Rattle.ww_lock.proofs.Carrying.{bare_of}

@@ -14,7 +14,7 @@ use Rattle.ww_table.specs.Steps.{seat_of}
 use Rattle.ww_table.specs.Seat.{IsNew, IsSeated}
 use Rattle.ww_view.specs.View.{IsAway}
 use Rattle.ww_plain.specs.Numbers.{is_among}
-use Rattle.ww_seat.specs.Orderly.{IsOrderly, IsSettled}
+use Rattle.ww_seat.specs.Orderly.{IsOrderly}
 use Rattle.ww_lock.specs.declared.hand.Hand.{Hand}
 use Rattle.ww_lock.specs.Holding.{Home, Holding, Place, IsAtHome, AreAtHome, own_of}
 use Rattle.ww_lock.specs.Carried.{holding_of, Carries}

@@ -1,5 +1,4 @@
-use Rattle.std.proofs.Common.{arith}
-use Rattle.ww_lock.proofs.Carrying.{here, may_draw, begins, Begins}
+use Rattle.ww_lock.proofs.Carrying.{here, may_draw, begins}
 use Rattle.ww_lock.proofs.hand.Hand.begin.Goals as goal
 
 pub begin-requires-clause-seat : goal.begin-requires-clause-seat

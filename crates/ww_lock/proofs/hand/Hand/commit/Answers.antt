@@ -1,4 +1,4 @@
-use Rattle.std.proofs.Common.{◌≡◌, refl, sym, subst, ◌∙◌}
+use Rattle.std.proofs.Common.{refl, sym, subst, ◌∙◌}
 use Rattle.ww_plain.specs.declared.history.Record.{Record}
 use Rattle.ww_plain.specs.Transaction.{transaction_of}
 use Rattle.ww_plain.specs.Meaning.{answer_of}
@@ -8,7 +8,7 @@ use Rattle.ww_lock.specs.Holding.{Change}
 use Rattle.ww_lock.specs.Carried.{holding_of}
 use Rattle.ww_lock.specs.Making.{IsMade}
 use Rattle.ww_lock.specs.Moves.{IsCommitted}
-use Rattle.ww_lock.proofs.Changes.{may_commit, MayCommit, commits}
+use Rattle.ww_lock.proofs.Changes.{may_commit, commits}
 use Rattle.ww_lock.proofs.hand.Hand.commit.Goals as goal
 
 pub commit-place-requires-clause-owner : goal.commit-place-requires-clause-owner

@@ -1,5 +1,5 @@
-use Rattle.std.proofs.Common.{◌≡◌, List, [], ◌∷◌, ◌++◌, length, length-append, ℕ, arith, refl, sym, subst, ◌∙◌, ap, rules}
-use Rattle.ww_lock.specs.Holding.{Holding, Place, IsAtHome}
+use Rattle.std.proofs.Common.{◌≡◌, List, [], ◌∷◌, ◌++◌, length, length-append, ℕ, arith, refl, ◌∙◌, ap, rules}
+use Rattle.ww_lock.specs.Holding.{Holding}
 use Rattle.ww_lock.specs.Carried.{holding_of}
 use Rattle.ww_lock.proofs.Carrying.{here, at_table, last_held, gives, home_as, none_held}
 use Rattle.ww_lock.proofs.hand.Hand.give_all.Goals as goal

@@ -1,4 +1,4 @@
-use Rattle.std.proofs.Common.{◌≡◌, ◌<◌, ◌∙◌, length, IsTrue, refl, sym, subst, rules}
+use Rattle.std.proofs.Common.{◌≡◌, ◌∙◌, length, IsTrue, refl, sym, subst, rules}
 use Rattle.std.specs.Prelude.{vec_len, vec_capacity}
 use Rattle.ww_plain.specs.Transaction.{transaction_of}
 use Rattle.ww_plain.specs.Meaning.{answer_of}

@@ -1,4 +1,4 @@
-use Rattle.std.proofs.Common.{◌≡◌, arith, inl, inr, sym, ◌∙◌, subst}
+use Rattle.std.proofs.Common.{arith, inl, inr, sym, ◌∙◌, subst}
 use Rattle.ww_table.specs.declared.seat.Seat16.{Seat16}
 use Rattle.ww_seat.specs.Calls.{TriedOnce}
 use Rattle.ww_lock.proofs.Carrying.{here, at_table, bare_of, takes, keeps, holds_one}

@@ -1,5 +1,5 @@
 use Rattle.std.proofs.Common.{arith, inl, sym, ◌∙◌, true≢false, subst}
-use Rattle.ww_lock.proofs.Carrying.{here, at_table, takes, Takes, keeps, Keeps}
+use Rattle.ww_lock.proofs.Carrying.{here, at_table, takes, keeps}
 use Rattle.ww_table.specs.declared.seat.Seat16.{Seat16}
 use Rattle.ww_seat.specs.Calls.{TriedOnce}
 use Rattle.ww_lock.proofs.hand.Hand.try_take.Goals as goal

@@ -1,6 +1,6 @@
 use Rattle.std.proofs.Common.{◌≡◌, length, sym, ap, ◌∙◌, rules}
 use Rattle.ww_lock.specs.Holding.{Place}
-use Rattle.ww_lock.specs.Closed.{missing_of, AreSeatsOf, AreAllBelow}
+use Rattle.ww_lock.specs.Closed.{missing_of, AreAllBelow}
 use Rattle.ww_lock.proofs.Closings.{all_come, fits, closed}
 use Rattle.ww_lock.proofs.world.World.close.Goals as goal
 

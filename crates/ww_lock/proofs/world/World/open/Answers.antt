@@ -1,4 +1,4 @@
-use Rattle.std.proofs.Common.{ℕ, List, length, sym, subst, ◌∙◌, arith}
+use Rattle.std.proofs.Common.{ℕ, List, length, subst, arith}
 use Rattle.ww_plain.specs.declared.node.Node.{Node}
 use Rattle.ww_table.specs.Rule.{first_graph}
 use Rattle.ww_lock.specs.Holding.{Place}
