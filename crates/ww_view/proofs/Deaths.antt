@@ -1,13 +1,14 @@
 -- What a death and a sign tell.
 use Rattle.std.proofs.Common.{◌≡◌, ◌⊎◌, inl, inr, ⊎_elim, ℕ, nat_lt, Some, refl, sym, ap, ◌∙◌, subst}
 use Rattle.std.proofs.lemmas.Option.{cond_some}
+use Rattle.std.specs.Option.{option_map, unwrap_or}
 use Rattle.ww_queue.specs.declared.kind.Kind.{Kind}
 use Rattle.ww_queue.specs.declared.kind.Kind.TheVariants.{WoundWait, WaitDie}
 use Rattle.ww_queue.specs.Queue.{Has}
 use Rattle.ww_queue.specs.Rules.{must_die}
 use Rattle.ww_queue.proofs.Deaths.{dies_why, must_die_why, death_why, death_is_of_context}
 use Rattle.ww_queue.proofs.Signs.{owed_once}
-use Rattle.ww_model.specs.declared.event.Event.TheVariants.{Sign}
+use Rattle.ww_model.specs.declared.event.Event.TheVariants.{Begin, Clear, Fast, FastGive, Guard, Join, Sign, Take, Ask, Give, Die, Unguard, Commit, End}
 use Rattle.ww_model.specs.State.{State, owner_as, owes}
 use Rattle.ww_model.specs.Event.{Possible}
 use Rattle.ww_model.specs.Lawful.{IsLawful}
@@ -19,7 +20,8 @@ use Rattle.ww_model.proofs.Ranges.{lawful_place}
 use Rattle.ww_view.specs.declared.view.View.{View}
 use Rattle.ww_view.specs.View.{Knows}
 use Rattle.ww_view.specs.May.{MaySign, MetByView}
-use Rattle.ww_view.specs.Laws.{DeathIsShown, ShownDeathWasMet, SignIsTold}
+use Rattle.ww_view.specs.Made.{met_at}
+use Rattle.ww_view.specs.Laws.{DeathIsShown, DeathIsNoted, NoOtherIsNoted, ShownDeathWasMet, SignIsTold}
 use Rattle.ww_view.proofs.Shows.{tells_die, shows_die, tells_sign, is_inside}
 
 -- the view shows the cause
@@ -44,6 +46,36 @@ die_shows v n o k may = go v.kind refl may.why.1 may.why.2
       older = λ _. ⊎_elim (λ m. inl ((m.0.seat, m.0.owns, λ x. m.0.other (x ∙ sym r.2)), sym m.1))
           (λ x. inr (x.0, r.0, x.1, r.2, sym x.3)) r.4;
     }
+
+-- the view notes it
+pub die_notes : DeathIsNoted
+die_notes v n o k may = (λ i. met_at (may.inside i) (must_die v.kind o v.list v.who (unwrap_or v.sign 0))) ∙ ap (option_map (λ j. (n, j))) (go v.kind may.why.1 may.why.2)
+  where
+    s : ℕ
+    s = may.why.0
+
+    -- in Wait-Die whatever the sign is
+    go : (kind : Kind) → (kind ≡ WaitDie) ⊎ (v.sign ≡ Some s) → must_die kind o v.list v.who s ≡ Some k →
+        must_die kind o v.list v.who (unwrap_or v.sign 0) ≡ Some k
+    go WoundWait how dies = ⊎_elim (λ x. absurd (cc)) (λ x. ap (λ z. must_die WoundWait o v.list v.who (unwrap_or z 0)) x ∙ dies) how
+    go WaitDie how dies = dies
+
+-- and no other event makes a view note one
+pub others_note_none : NoOtherIsNoted
+others_note_none c (Begin s) v other = inr refl
+others_note_none c (Clear s) v other = inl refl
+others_note_none c (Fast s n) v other = inr refl
+others_note_none c (FastGive s n) v other = inr refl
+others_note_none c (Guard s n) v other = inl refl
+others_note_none c (Join s n) v other = inl refl
+others_note_none c (Sign s u) v other = inl refl
+others_note_none c (Take s n) v other = inr refl
+others_note_none c (Ask s n) v other = inl refl
+others_note_none c (Give s n) v other = inr refl
+others_note_none c (Die s n) v other = absurd (other s n refl)
+others_note_none c (Unguard s n) v other = inl refl
+others_note_none c (Commit s) v other = inl refl
+others_note_none c (End s) v other = inr refl
 
 -- at the death of a run it is a context that the seat met
 pub die_met : ShownDeathWasMet

@@ -1,12 +1,12 @@
 -- What holds of views and cores as a whole.
-use Rattle.std.specs.Prelude.{ℕ, suc, ◌≡◌, ◌≢◌, ◌<◌, ◌≤◌, ◌⊎◌, Some}
+use Rattle.std.specs.Prelude.{ℕ, suc, ◌≡◌, ◌≢◌, ◌<◌, ◌≤◌, ◌⊎◌, Some, None}
 use Rattle.ww_word.specs.declared.owner.Owner.{Owner}
 use Rattle.ww_word.specs.Owner.{IsValid, packed}
 use Rattle.ww_queue.specs.declared.kind.Kind.{Kind}
 use Rattle.ww_queue.specs.declared.kind.Kind.TheVariants.{WaitDie}
 use Rattle.ww_queue.specs.Rules.{must_die, owed_signs}
 use Rattle.ww_model.specs.declared.event.Event.{Event}
-use Rattle.ww_model.specs.declared.event.Event.TheVariants.{Sign, Unguard}
+use Rattle.ww_model.specs.declared.event.Event.TheVariants.{Sign, Unguard, Die}
 use Rattle.ww_model.specs.State.{State, start, owes, dies, word_of}
 use Rattle.ww_model.specs.Event.{Possible, after, actor}
 use Rattle.ww_model.specs.Lawful.{IsLawful, SignedOwnsOutside}
@@ -16,7 +16,7 @@ use Rattle.ww_view.specs.declared.view.View.{View}
 use Rattle.ww_view.specs.Word.{words_after}
 use Rattle.ww_view.specs.View.{IsBare, IsAway, IsQuiet, Knows, first_view}
 use Rattle.ww_view.specs.May.{MayDie, MaySign, MayExit, MetByView, Shows}
-use Rattle.ww_view.specs.Made.{fast_missed, has_looked, noted, has_read, found_none, stepped, view_after}
+use Rattle.ww_view.specs.Made.{died, fast_missed, has_looked, noted, has_read, found_none, stepped, view_after}
 
 -- ---- what a seat knows
 
@@ -91,6 +91,15 @@ SignIsTold = (c : State) (v : View) (n u k : ℕ) → IsLawful c → Knows c v �
 -- the view of a seat that has to die shows the older context that it met
 abbrev pub DeathIsShown : Type 0
 DeathIsShown = (v : View) (n : ℕ) (o : Owner) (k : ℕ) → MayDie v n o k → MetByView v o k
+
+-- ... and has noted it, once it has died
+abbrev pub DeathIsNoted : Type 0
+DeathIsNoted = (v : View) (n : ℕ) (o : Owner) (k : ℕ) → MayDie v n o k → (died v o).met ≡ Some (n, k)
+
+-- whatever else it does, it notes none
+abbrev pub NoOtherIsNoted : Type 0
+NoOtherIsNoted = (c : State) (e : Event) (v : View) → ((s n : ℕ) → e ≢ Die s n) →
+    ((view_after c e v).met ≡ v.met) ⊎ ((view_after c e v).met ≡ None)
 
 -- and the seat did meet it
 abbrev pub ShownDeathWasMet : Type 0

@@ -1,11 +1,13 @@
 -- What each step makes of the view.
 use Rattle.std.specs.Prelude.{ℕ, zero, suc, ◌+◌, ◌==◌, not, Bool, true, false, List, [], ◌∷◌, Option, Some, None, slice_set}
+use Rattle.std.specs.Option.{option_map, unwrap_or}
 use Rattle.ww_word.specs.declared.owner.Owner.{Owner}
 use Rattle.ww_word.specs.Owner.{with_waiters}
 use Rattle.ww_queue.specs.declared.kind.Kind.{Kind}
 use Rattle.ww_queue.specs.declared.kind.Kind.TheVariants.{WoundWait, WaitDie}
 use Rattle.ww_queue.specs.declared.entry.Entry.{Entry}
 use Rattle.ww_queue.specs.Queue.{joined, left}
+use Rattle.ww_queue.specs.Rules.{must_die}
 use Rattle.ww_model.specs.declared.event.Event.{Event}
 use Rattle.ww_model.specs.declared.event.Event.TheVariants.{Begin, Clear, Fast, FastGive, Guard, Join, Sign, Take, Ask, Give, Die, Unguard, Commit, End}
 use Rattle.ww_model.specs.State.{State, any_below, word_of}
@@ -34,20 +36,20 @@ once_outside WaitDie sign = None
 -- ---- outside
 
 abbrev pub begun : View → ℕ → View
-begun v k = record v { stamp = k; sign = Some 0; fresh = false }
+begun v k = record v { stamp = k; sign = Some 0; fresh = false; met = None }
 
 abbrev pub ended : View → View
-ended v = record v { stamp = 0; sign = Some 0; fresh = false }
+ended v = record v { stamp = 0; sign = Some 0; fresh = false; met = None }
 
 abbrev pub fast_taken : View → ℕ → View
-fast_taken v n = record v { owned = slice_set v.owned n true; sign = None; fresh = false; tries = v.tries + 1 }
+fast_taken v n = record v { owned = slice_set v.owned n true; sign = None; fresh = false; tries = v.tries + 1; met = None }
 
 -- the word wasn't 0
 abbrev pub fast_missed : View → View
 fast_missed v = record v { fresh = false; tries = v.tries + 1 }
 
 abbrev pub fast_given : View → ℕ → View
-fast_given v n = record v { owned = slice_set v.owned n false; fresh = false }
+fast_given v n = record v { owned = slice_set v.owned n false; fresh = false; met = None }
 
 -- ---- into the guard and out of it
 
@@ -103,6 +105,7 @@ taken v n = let q : List Entry = left v.list v.who in record v {
   sign = once_taken v.kind v.sign;
   acted = true;
   fresh = false;
+  met = None;
 }
 
 abbrev pub has_asked : View → Owner → View
@@ -116,9 +119,15 @@ given v n asked = record v {
   signed = [];
   acted = true;
   fresh = false;
+  met = None;
 }
 
--- it left the list; o was the word before
+-- the lock that it is inside of, and the stamp for which it has to die there
+abbrev pub met_at : ℕ → Option ℕ → Option (ℕ × ℕ)
+met_at zero stamp = None
+met_at (suc n) stamp = option_map (λ k. (n, k)) stamp
+
+-- it left the list, since it had to die; o was the word before
 abbrev pub died : View → Owner → View
 died v o = let q : List Entry = left v.list v.who in record v {
   list = q;
@@ -126,6 +135,7 @@ died v o = let q : List Entry = left v.list v.who in record v {
   seen = Some (rest_word q o);
   signed = [];
   fresh = false;
+  met = met_at v.inside (must_die v.kind o v.list v.who (unwrap_or v.sign 0));
 }
 
 -- it read the word

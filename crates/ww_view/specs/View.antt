@@ -46,6 +46,7 @@ first_view kind s = record {
   acted = false;
   fresh = false;
   tries = 0;
+  met = None;
 }
 
 -- ---- what the seat knows, each part a definition over just what it reads of the core and of the view

@@ -1,6 +1,6 @@
 //! Laws of views: each function's contract is one.
 
-ghost use Rattle.ww_view.specs.Laws.{OthersKnow, QuietIsLeftAlone, ActorKnows, FoundIsKnown, KnowsAtStart, RestsAsAtStart, ShownIsPossible, ExitIsPossible, ViewDecides, SignIsTold, DeathIsShown, ShownDeathWasMet, WordsAreWritten, WordsAreTold, WordsAreValid};
+ghost use Rattle.ww_view.specs.Laws.{OthersKnow, QuietIsLeftAlone, ActorKnows, FoundIsKnown, KnowsAtStart, RestsAsAtStart, ShownIsPossible, ExitIsPossible, ViewDecides, SignIsTold, DeathIsShown, DeathIsNoted, NoOtherIsNoted, ShownDeathWasMet, WordsAreWritten, WordsAreTold, WordsAreValid};
 
 /// What a seat knows stays, whatever the others do.
 pub fn others_know()
@@ -55,6 +55,16 @@ pub fn sign_is_told()
 /// The view of a seat that has to die shows the older context that it met.
 pub fn death_is_shown()
     ensures { DeathIsShown }
+{}
+
+/// Its view names the lock and the stamp of the older context, once it has died.
+pub fn death_is_noted()
+    ensures { DeathIsNoted }
+{}
+
+/// No other event makes a view name one.
+pub fn no_other_is_noted()
+    ensures { NoOtherIsNoted }
 {}
 
 /// A seat that has to die by its view met that context in the run.
