@@ -50,20 +50,12 @@ taken_at_once size n y m won now was low lacks w r =
         owned = ap (λ v. v.part.core.owned) view;
         held = ap (λ v. v.held) view;
         node = subst (IsNodeOf (length m.0.held)) same w.fits;
+        unmet = ap (λ v. v.part.core.met) view;
       };
       inside = ap (λ v. v.part.core.inside) view;
       waits = ap (λ v. v.part.core.waits) view;
       tries = ap (λ v. v.part.core.tries) view;
     }
-
--- the same after a step that kept all that it holds
-pub taken_later : (n : ℕ) (x : Node) (m later now : Sat) → HoldsAsBefore m later → HasTaken later n x now → HasTaken m n x now
-taken_later n x m later now h t = record {
-  same = record { kind = t.same.kind ∙ h.same.kind; who = t.same.who ∙ h.same.who; stamp = t.same.stamp ∙ h.same.stamp; own = t.same.own ∙ h.same.own; draws = t.same.draws ∙ h.same.draws };
-  owned = t.owned ∙ ap (λ (l : List Bool). set l n true) h.owned;
-  held = t.held ∙ ap (λ (l : List (Option Node)). set l n (Some x)) h.held;
-  node = subst (λ (k : ℕ). IsNodeOf k x) (ap (λ (l : List (Option Node)). length l) h.held) t.node;
-}
 
 -- ---- a sign taken back
 
@@ -74,13 +66,6 @@ known_same m m' w is kind who stamp owned = subst (HoldsAsBefore m) (sym is) (re
   owned = owned;
   held = refl;
 })
-
-pub holds_later : (m later now : Sat) → HoldsAsBefore m later → HoldsAsBefore later now → HoldsAsBefore m now
-holds_later m later now h t = record {
-  same = record { kind = t.same.kind ∙ h.same.kind; who = t.same.who ∙ h.same.who; stamp = t.same.stamp ∙ h.same.stamp; own = t.same.own ∙ h.same.own; draws = t.same.draws ∙ h.same.draws };
-  owned = t.owned ∙ h.owned;
-  held = t.held ∙ h.held;
-}
 
 pub bare_later : (m m' : Sat) → HoldsAsBefore m m' → IsBare m.0.part.core → IsBare m'.0.part.core
 bare_later m m' h bare n = ap (λ (l : List Bool). get_or l n false) h.owned ∙ bare n

@@ -19,20 +19,12 @@ use Rattle.ww_table.specs.Waiting.{HasListOnTop, IsOut, giving_inside}
 use Rattle.ww_seat.specs.Orderly.{IsOrderly}
 use Rattle.ww_seat.specs.Calls.{IsSame, HoldsAsBefore, HasGiven}
 use Rattle.ww_seat.specs.Guards.{HasEntered, IsGiving, HasLet}
+use Rattle.ww_seat.proofs.Holds.{same_then, holds_then}
 use Rattle.ww_seat.proofs.Slots.{front_same, front_apart, is_out}
 use Rattle.ww_seat.proofs.Outside.{owns_here}
 use Rattle.ww_seat.proofs.Guards.{alike_orderly, exiting_orderly, listed_orderly, without_node}
 
 -- ---- what the calls say of the seat, one after another
-
-pub holds_same : (m : Sat) → HoldsAsBefore m m
-holds_same m = record { same = record { kind = refl; who = refl; stamp = refl; own = refl; draws = refl }; owned = refl; held = refl }
-
-pub same_then : (a b c : Sat) → IsSame a b → IsSame b c → IsSame a c
-same_then a b c x y = record { kind = y.kind ∙ x.kind; who = y.who ∙ x.who; stamp = y.stamp ∙ x.stamp; own = y.own ∙ x.own; draws = y.draws ∙ x.draws }
-
-pub holds_then : (a b c : Sat) → HoldsAsBefore a b → HoldsAsBefore b c → HoldsAsBefore a c
-holds_then a b c x y = record { same = same_then a b c x.same y.same; owned = y.owned ∙ x.owned; held = y.held ∙ x.held }
 
 pub given_then : (a b c : Sat) (n : ℕ) → HoldsAsBefore a b → HasGiven b n c → HasGiven a n c
 given_then a b c n x y = record { same = same_then a b c x.same y.same; owned = y.owned ∙ ap (λ xs. slice_set xs n false) x.owned; held = y.held ∙ ap (λ xs. slice_set xs n None) x.held }

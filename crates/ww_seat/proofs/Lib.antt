@@ -1,3 +1,4 @@
+pub mod Holds
 pub mod Slots
 pub mod Outside
 pub mod AtOnce

@@ -14,7 +14,7 @@ use Rattle.ww_view.specs.declared.view.View.{View}
 use Rattle.ww_view.specs.Word.{asked_word, rest_word}
 use Rattle.ww_view.specs.May.{MayJoin, MayAsk, MayDie, WantsSigns, NothingToAsk}
 use Rattle.ww_view.specs.Made.{entry_of_view, queued, died, exited, once_outside}
-use Rattle.ww_view.proofs.Deaths.{die_shows}
+use Rattle.ww_view.proofs.Deaths.{die_shows, die_notes}
 use Rattle.ww_table.specs.declared.cells.Cell.{Cell}
 use Rattle.ww_table.specs.declared.cells.Cell.TheVariants.{Line}
 use Rattle.ww_table.specs.declared.cells.Sight.{Sight}
@@ -31,7 +31,8 @@ use Rattle.ww_seat.specs.declared.look.Look.{Look}
 use Rattle.ww_seat.specs.declared.look.Look.TheVariants.{Deadlk}
 use Rattle.ww_seat.proofs.Guards.{listed_orderly}
 use Rattle.ww_seat.proofs.Outside.{orderly_knowing}
-use Rattle.ww_seat.proofs.Working.{work_same, work_then, look_from}
+use Rattle.ww_seat.proofs.Holds.{look_then}
+use Rattle.ww_seat.proofs.Working.{work_same, work_then}
 use Rattle.ww_seat.proofs.Signing.{dying_holds, owns_one}
 
 -- ---- it joins
@@ -154,6 +155,7 @@ look_died size n l m m1 m2 o k w may older is out ord =
       one = owns_one m.0.part.core (dying_holds m.0.part.core.kind o m.0.part.core may.why.0 k w.place.1 may.why.2);
       older = older;
       met = record { view = m.0.part.core; word = o; may = may; met = die_shows m.0.part.core n o k may; now = ap (λ (z : Sight). z.part.core) view };
+      noted = ap (λ (z : Sight). z.part.core.met) view ∙ die_notes m.0.part.core n o k may;
     } in (ord, (ap (λ (z : Sight). z.part.core.inside) view, ap (λ (z : Sight). z.part.core.waits) view), met)
 
 pub died_tries : (m m1 m2 : Sat) (o : Owner) → m1.0 ≡ dying m.0 o → m2.0 ≡ exiting m1.0 → m2.0.part.core.tries ≡ m.0.part.core.tries
@@ -202,7 +204,7 @@ flags_later n stands again v o p w flags same later =
 
 pub look_later : (size n : ℕ) (before m m' : Sat) (o : Option Look) → HoldsAsBefore before m → IfSome o (λ look. IsLook size n m look m') → IfSome o (λ look. IsLook size n before look m')
 look_later size n before m m' None h l = tt
-look_later size n before m m' (Some k) h l = look_from size n before m k m' h l
+look_later size n before m m' (Some k) h l = look_then size n before m m' k h l
 
 pub tries_later : (before m m' : Sat) (o : Option Look) → m.0.part.core.tries ≡ before.0.part.core.tries → IfSome o (λ _. m'.0.part.core.tries ≡ m.0.part.core.tries) → IfSome o (λ _. m'.0.part.core.tries ≡ before.0.part.core.tries)
 tries_later before m m' None same l = tt

@@ -190,5 +190,6 @@ look_taken size n s l m m2 m3 m4 m5 x r owed o low w t h out o4 got =
       owned = refl;
       held = refl;
       node = t.node;
+      unmet = refl;
     })) in
     ((o5, (ap (λ (z : Sight). z.part.core.inside) view, ap (λ (z : Sight). z.part.core.waits) view), took), ap (λ (z : Sight). z.part.core.tries) view)

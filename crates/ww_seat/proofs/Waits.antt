@@ -15,7 +15,7 @@ use Rattle.ww_seat.specs.Orderly.{IsOrderly}
 use Rattle.ww_seat.specs.Calls.{HoldsAsBefore, HasTaken, HasToDie}
 use Rattle.ww_seat.specs.Looks.{IsOutside, IsInside, IsLook}
 use Rattle.ww_seat.specs.Guards.{HasEntered}
-use Rattle.ww_seat.proofs.Gives.{same_then, holds_then}
+use Rattle.ww_seat.proofs.Holds.{taken_then, die_then}
 
 -- ---- into the guard
 
@@ -56,29 +56,6 @@ entered_tries n m m' e = ap (λ (w : Sight). w.part.core.tries) e.view
 
 pub entered_later : (n : ℕ) (m m' : Sat) → HasEntered m n m' → m'.0.part.core.later ≡ not (m.0.part.core.waits == 0)
 entered_later n m m' e = ap (λ (w : Sight). w.part.core.later) e.view
-
--- ---- what a look came to, told of where the seat began
-
-pub taken_then : (a b c : Sat) (n : ℕ) (x : Node) → HoldsAsBefore a b → HasTaken b n x c → HasTaken a n x c
-taken_then a b c n x h t = record {
-  same = same_then a b c h.same t.same;
-  owned = t.owned ∙ ap (λ xs. slice_set xs n true) h.owned;
-  held = t.held ∙ ap (λ xs. slice_set xs n (Some x)) h.held;
-  node = subst (λ (size : ℕ). IsNodeOf size x) (ap length h.held) t.node;
-}
-
-pub die_then : (a b c : Sat) (n k : ℕ) → HoldsAsBefore a b → HasToDie b n k c → HasToDie a n k c
-die_then a b c n k h d = record {
-  holds = holds_then a b c h d.holds;
-  one = (d.one.0, sym (ap (λ xs. get_or xs d.one.0 false) h.owned) ∙ d.one.1);
-  older = subst (λ (s : ℕ). k < s) h.same.stamp d.older;
-  met = d.met;
-}
-
-pub look_then : (size n : ℕ) (a b c : Sat) (look : Look) → HoldsAsBefore a b → IsLook size n b look c → IsLook size n a look c
-look_then size n a b c (Locked x) h l = (l.0, l.1, taken_then a b c n x h l.2)
-look_then size n a b c (Deadlk k) h l = (l.0, l.1, die_then a b c n k h l.2)
-look_then size n a b c Waits h l = (l.0, l.1, holds_then a b c h l.2)
 
 pub ok_then : (a b c : Sat) (n : ℕ) (r : Result Node ℕ) → HoldsAsBefore a b → IfOk r (λ x. HasTaken b n x c) → IfOk r (λ x. HasTaken a n x c)
 ok_then a b c n (Ok x) h t = taken_then a b c n x h t

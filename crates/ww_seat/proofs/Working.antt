@@ -23,20 +23,11 @@ use Rattle.ww_seat.specs.Looks.{IsInside, IsLook}
 use Rattle.ww_seat.specs.Work.{touched, told, IsTouched, IsTold, IsPlaced, IsWorking, IsAtWork, IsCleared, MayGo, HasNoted}
 use Rattle.ww_seat.specs.declared.look.Look.{Look}
 use Rattle.ww_seat.specs.declared.look.Look.TheVariants.{Locked, Deadlk, Waits}
+use Rattle.ww_seat.proofs.Holds.{holds_same, holds_then}
 use Rattle.ww_seat.proofs.Outside.{orderly_knowing, orderly_brought}
 use Rattle.ww_seat.proofs.Guards.{listed_orderly, exiting_orderly}
 
 -- ---- the same of what it holds
-
-pub holds_same : (m : Sat) → HoldsAsBefore m m
-holds_same m = record { same = record { kind = refl; who = refl; stamp = refl; own = refl; draws = refl }; owned = refl; held = refl }
-
-pub holds_then : (a b c : Sat) → HoldsAsBefore a b → HoldsAsBefore b c → HoldsAsBefore a c
-holds_then a b c x y = record {
-  same = record { kind = y.same.kind ∙ x.same.kind; who = y.same.who ∙ x.same.who; stamp = y.same.stamp ∙ x.same.stamp; own = y.same.own ∙ x.same.own; draws = y.same.draws ∙ x.same.draws };
-  owned = y.owned ∙ x.owned;
-  held = y.held ∙ x.held;
-}
 
 pub holds_touched : (m m' : Sat) (a : Option Owner) (b : List ℕ) (c : Bool) → m'.0 ≡ knowing m.0 (touched m.0.part.core a b c) → HoldsAsBefore m m'
 holds_touched m m' a b c e = subst (λ (z : Sight). HoldsAsBefore m (z, m'.1)) (sym e) (record { same = record { kind = refl; who = refl; stamp = refl; own = refl; draws = refl }; owned = refl; held = refl })
@@ -202,29 +193,6 @@ cleared_inside n m m1 c inside = ap (λ (z : Sat). z.0.part.core.inside) c.now �
 
 pub left_orderly : (size n : ℕ) (m m1 m2 : Sat) → IsOrderly size m → IsCleared m m1 → m.0.part.core.inside ≡ suc n → m2.0 ≡ exiting m1.0 → AreOthers m1.1 (64 + n) (Line m1.0.part.core.list) m2.1 → IsOrderly size m2
 left_orderly size n m m1 m2 o c inside view home = exiting_orderly size m1 m2 n (cleared_orderly size m m1 o c) (cleared_inside n m m1 c inside) view home
-
--- ---- what a look came to, from before
-
-taken_from : (before m m' : Sat) (n : ℕ) (x : Node) → HoldsAsBefore before m → HasTaken m n x m' → HasTaken before n x m'
-taken_from before m m' n x h t = record {
-  same = record { kind = t.same.kind ∙ h.same.kind; who = t.same.who ∙ h.same.who; stamp = t.same.stamp ∙ h.same.stamp; own = t.same.own ∙ h.same.own; draws = t.same.draws ∙ h.same.draws };
-  owned = t.owned ∙ ap (λ (xs : List Bool). set xs n true) h.owned;
-  held = t.held ∙ ap (λ (xs : List (Option Node)). set xs n (Some x)) h.held;
-  node = subst (λ (xs : List (Option Node)). IsNodeOf (length xs) x) h.held t.node;
-}
-
-dies_from : (before m m' : Sat) (n k : ℕ) → HoldsAsBefore before m → HasToDie m n k m' → HasToDie before n k m'
-dies_from before m m' n k h d = record {
-  holds = holds_then before m m' h d.holds;
-  one = (d.one.0, subst (λ (xs : List Bool). get_or xs d.one.0 false ≡ true) h.owned d.one.1);
-  older = subst (λ (s : ℕ). k < s) h.same.stamp d.older;
-  met = d.met;
-}
-
-pub look_from : (size n : ℕ) (before m : Sat) (look : Look) (m' : Sat) → HoldsAsBefore before m → IsLook size n m look m' → IsLook size n before look m'
-look_from size n before m (Locked x) m' h l = (l.0, l.1, taken_from before m m' n x h l.2)
-look_from size n before m (Deadlk k) m' h l = (l.0, l.1, dies_from before m m' n k h l.2)
-look_from size n before m Waits m' h l = (l.0, l.1, holds_then before m m' h l.2)
 
 -- ---- just inside
 

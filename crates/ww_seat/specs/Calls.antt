@@ -28,12 +28,14 @@ pub record HoldsAsBefore (m m' : Sat) : Type 0 where
   pub owned : m'.0.part.core.owned ≡ m.0.part.core.owned
   pub held : m'.0.held ≡ m.0.held
 
--- it owns one lock more, and its view names the node: one of a graph of as many nodes
+-- It owns one lock more, and its view names the node: one of a graph of as many nodes. An older context that it met
+-- before is forgotten.
 pub record HasTaken (m : Sat) (n : ℕ) (x : Node) (m' : Sat) : Type 0 where
   pub same : IsSame m m'
   pub owned : m'.0.part.core.owned ≡ slice_set m.0.part.core.owned n true
   pub held : m'.0.held ≡ slice_set m.0.held n (Some x)
   pub node : IsNodeOf (length m.0.held) x
+  pub unmet : m'.0.part.core.met ≡ None
 
 -- it owns one lock less
 pub record HasGiven (m : Sat) (n : ℕ) (m' : Sat) : Type 0 where
@@ -50,12 +52,14 @@ pub record HasMet (n k : ℕ) (w : View) : Type 0 where
   pub met : MetByView view word k
   pub now : w ≡ exited (died view word)
 
--- It was told EDEADLK: it owns what it owned, one lock at least, and met an older context.
+-- It was told EDEADLK: it owns what it owned, one lock at least, and met an older context, which its view notes. That is a
+-- step of its own: no other step notes one.
 pub record HasToDie (m : Sat) (n k : ℕ) (m' : Sat) : Type 0 where
   pub holds : HoldsAsBefore m m'
   pub one : (j : ℕ) × (owns m.0.part.core j ≡ true)
   pub older : k < m.0.part.core.stamp
   pub met : HasMet n k m'.0.part.core
+  pub noted : m'.0.part.core.met ≡ Some (n, k)
 
 -- at most one try to take a lock at once
 abbrev pub TriedOnce : Sat → Sat → Type 0
@@ -70,6 +74,7 @@ pub record HasBegun (m : Sat) (k : ℕ) (m' : Sat) : Type 0 where
   pub draws : m'.0.part.draws ≡ m.0.part.draws + 1
   pub owned : m'.0.part.core.owned ≡ m.0.part.core.owned
   pub held : m'.0.held ≡ m.0.held
+  pub unmet : m'.0.part.core.met ≡ None
 
 -- The context ended: the seat has no stamp, and is otherwise as it was.
 pub record HasEnded (m m' : Sat) : Type 0 where

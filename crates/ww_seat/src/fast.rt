@@ -19,6 +19,7 @@ fn unsign_bare(seat: &mut Seat16, board: &Board)
     ensures seat { IsSettled board.now.table.shared.table_id (length (first_graph board.now.table.shared.key)) seat.new }
     ensures same { HoldsAsBefore seat.old.seat.me seat.new.seat.me }
     ensures tries { seat.new.seat.me.0.part.core.tries ≡ seat.old.seat.me.0.part.core.tries }
+    ensures met { seat.new.seat.me.0.part.core.met ≡ seat.old.seat.me.0.part.core.met }
     ensures sign { seat.new.seat.me.0.part.core.sign ≡ Some 0 }
     ensures records { seat.new.records ≡ seat.old.records }
 {
@@ -34,6 +35,7 @@ fn unsign_wounded(seat: &mut Seat16, board: &Board)
     ensures seat { IsSettled board.now.table.shared.table_id (length (first_graph board.now.table.shared.key)) seat.new }
     ensures same { HoldsAsBefore seat.old.seat.me seat.new.seat.me }
     ensures tries { seat.new.seat.me.0.part.core.tries ≡ seat.old.seat.me.0.part.core.tries }
+    ensures met { seat.new.seat.me.0.part.core.met ≡ seat.old.seat.me.0.part.core.met }
     ensures signs { WantsSigns seat.new.seat.me.0.part.core }
     ensures records { seat.new.records ≡ seat.old.records }
 {
@@ -53,6 +55,7 @@ fn unsign(seat: &mut Seat16, board: &Board, kind: Kind)
     ensures seat { IsSettled board.now.table.shared.table_id (length (first_graph board.now.table.shared.key)) seat.new }
     ensures same { HoldsAsBefore seat.old.seat.me seat.new.seat.me }
     ensures tries { seat.new.seat.me.0.part.core.tries ≡ seat.old.seat.me.0.part.core.tries }
+    ensures met { seat.new.seat.me.0.part.core.met ≡ seat.old.seat.me.0.part.core.met }
     ensures signs { WantsSigns seat.new.seat.me.0.part.core }
     ensures records { seat.new.records ≡ seat.old.records }
 {
@@ -72,6 +75,7 @@ pub(crate) fn first_try(seat: &mut Seat16, board: &Board, kind: Kind, lock: u8) 
     ensures seat { IsSettled board.now.table.shared.table_id (length (first_graph board.now.table.shared.key)) seat.new }
     ensures some { IfSome result (λ x. HasTaken seat.old.seat.me lock x seat.new.seat.me) }
     ensures none { IfNone result (HoldsAsBefore seat.old.seat.me seat.new.seat.me) }
+    ensures met { IfNone result (seat.new.seat.me.0.part.core.met ≡ seat.old.seat.me.0.part.core.met) }
     ensures once { TriedOnce seat.old.seat.me seat.new.seat.me }
     ensures signs { IfNone result (WantsSigns seat.new.seat.me.0.part.core) }
     ensures records { seat.new.records ≡ seat.old.records }
@@ -93,6 +97,7 @@ pub fn try_take(seat: &mut Seat16, board: &Board, kind: Kind, lock: u8) -> Optio
     ensures seat { IsSettled board.now.table.shared.table_id (length (first_graph board.now.table.shared.key)) seat.new }
     ensures some { IfSome result (λ x. HasTaken seat.old.seat.me lock x seat.new.seat.me) }
     ensures none { IfNone result (HoldsAsBefore seat.old.seat.me seat.new.seat.me) }
+    ensures met { IfNone result (seat.new.seat.me.0.part.core.met ≡ seat.old.seat.me.0.part.core.met) }
     ensures once { TriedOnce seat.old.seat.me seat.new.seat.me }
     ensures records { seat.new.records ≡ seat.old.records }
 {

@@ -1,7 +1,8 @@
 use Rattle.std.proofs.Common.{ap, ◌∙◌, get_or, List, Bool, false, length}
 use Rattle.ww_table.specs.Rule.{first_graph}
 use Rattle.ww_seat.proofs.Outside.{room_outside}
-use Rattle.ww_seat.proofs.AtOnce.{IsTaken, taken_at_once, taken_later}
+use Rattle.ww_seat.proofs.Holds.{taken_then}
+use Rattle.ww_seat.proofs.AtOnce.{IsTaken, taken_at_once}
 use Rattle.ww_seat.proofs.fast.first_try.Goals as goal
 
 pub take_free-requires-clause-room : goal.take_free-requires-clause-room
@@ -22,4 +23,4 @@ returns-clause-seat c = let t = taken c in record {
 }
 
 pub returns-clause-some : goal.returns-clause-some
-returns-clause-some c = let t = taken c in taken_later c.args.lock c.node.result c.args.seat.now.seat.me c.unsign.new.seat.seat.me c.node.new.self.seat.me c.unsign.ensures.same t.taken
+returns-clause-some c = let t = taken c in taken_then c.args.seat.now.seat.me c.unsign.new.seat.seat.me c.node.new.self.seat.me c.args.lock c.node.result c.unsign.ensures.same t.taken

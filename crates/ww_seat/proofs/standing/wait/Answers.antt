@@ -1,7 +1,8 @@
 use Rattle.std.proofs.Common.{true, length}
 use Rattle.ww_table.specs.Rule.{first_graph}
 use Rattle.ww_seat.specs.declared.look.Look.TheVariants.{Deadlk, Waits}
-use Rattle.ww_seat.proofs.Working.{work_same, work_touched, work_told, noted_touched, look_from}
+use Rattle.ww_seat.proofs.Holds.{look_then}
+use Rattle.ww_seat.proofs.Working.{work_same, work_touched, work_told, noted_touched}
 use Rattle.ww_seat.proofs.Signing.{if_none}
 use Rattle.ww_seat.proofs.Stood.{stays_goes, stays_outside}
 use Rattle.ww_seat.proofs.standing.wait.Goals as goal
@@ -25,7 +26,7 @@ returns-in-None-clause-look c = let size = length (first_graph c.args.board.now.
     let w1 = work_touched size n m true later m m1 (work_same size n true later m c.requires.orderly c.requires.work) c.ask.ensures.touched in
     let w2 = work_touched size n m true later m1 m2 w1 (noted_touched size _ m1 m2 c.sign_all.ensures.signed) in
     let w3 = work_told size n m true later m2 m3 w2 c.death.ensures.told in
-    look_from size n m m3 Waits c.leave.new.seat.seat.me w3.holds (stays_outside size n later m3 c.leave.new.seat.seat.me w3.working c.leave.ensures.view c.leave.ensures.orderly)
+    look_then size n m m3 c.leave.new.seat.seat.me Waits w3.holds (stays_outside size n later m3 c.leave.new.seat.seat.me w3.working c.leave.ensures.view c.leave.ensures.orderly)
 
 pub back_off-requires-clause-work : goal.back_off-requires-clause-work
 back_off-requires-clause-work c = let size = length (first_graph c.args.board.now.table.shared.key) in let n = c.args.lock in let later = c.args.is_later in let m = c.args.seat.now.seat.me in let m1 = c.ask.new.seat.seat.me in let m2 = c.sign_all.new.seat.seat.me in let m3 = c.death.new.seat.seat.me in
@@ -45,4 +46,4 @@ returns-else-not-back_off-clause-look c = let size = length (first_graph c.args.
     let w1 = work_touched size n m true later m m1 (work_same size n true later m c.requires.orderly c.requires.work) c.ask.ensures.touched in
     let w2 = work_touched size n m true later m1 m2 w1 (noted_touched size _ m1 m2 c.sign_all.ensures.signed) in
     let w3 = work_told size n m true later m2 m3 w2 c.death.ensures.told in
-    look_from size n m m3 (Deadlk c.in-Some.met) c.back_off.new.seat.seat.me w3.holds (c.back_off.ensures.met c.if-not-back_off.false c.in-Some.met c.in-Some.ensures.death)
+    look_then size n m m3 c.back_off.new.seat.seat.me (Deadlk c.in-Some.met) w3.holds (c.back_off.ensures.met c.if-not-back_off.false c.in-Some.met c.in-Some.ensures.death)

@@ -1,6 +1,7 @@
 use Rattle.std.proofs.Common.{◌∙◌, sym}
 use Rattle.ww_seat.proofs.Gives.{holds_entered}
-use Rattle.ww_seat.proofs.Waits.{wanter_enters, entered_inside, entered_kind, entered_tries, entered_later, look_then}
+use Rattle.ww_seat.proofs.Waits.{wanter_enters, entered_inside, entered_kind, entered_tries, entered_later}
+use Rattle.ww_seat.proofs.Holds.{look_then}
 use Rattle.ww_seat.proofs.waiting.visit.Goals as goal
 
 pub enter-requires-clause-may : goal.enter-requires-clause-may

@@ -1,6 +1,6 @@
 use Rattle.std.proofs.Common.{refl, ◌∙◌}
-use Rattle.ww_seat.proofs.Gives.{holds_same, holds_then}
-use Rattle.ww_seat.proofs.Waits.{kind_still, first_look, later_look, taken_then, die_then}
+use Rattle.ww_seat.proofs.Holds.{holds_same, holds_then, taken_then, die_then}
+use Rattle.ww_seat.proofs.Waits.{kind_still, first_look, later_look}
 use Rattle.ww_seat.proofs.waiting.wait.Goals as goal
 
 pub loop-init : goal.loop-init

@@ -1,0 +1,43 @@
+-- What the calls say of a seat, one after another.
+use Rattle.std.proofs.Common.{◌≡◌, ℕ, ◌<◌, true, false, length, get_or, slice_set, refl, sym, ap, ◌∙◌, subst, Some}
+use Rattle.ww_plain.specs.declared.node.Node.{Node}
+use Rattle.ww_plain.specs.Graph.{IsNodeOf}
+use Rattle.ww_table.specs.Rule.{Sat}
+use Rattle.ww_seat.specs.declared.look.Look.{Look}
+use Rattle.ww_seat.specs.declared.look.Look.TheVariants.{Locked, Deadlk, Waits}
+use Rattle.ww_seat.specs.Calls.{IsSame, HoldsAsBefore, HasTaken, HasToDie}
+use Rattle.ww_seat.specs.Looks.{IsLook}
+
+pub holds_same : (m : Sat) → HoldsAsBefore m m
+holds_same m = record { same = record { kind = refl; who = refl; stamp = refl; own = refl; draws = refl }; owned = refl; held = refl }
+
+pub same_then : (a b c : Sat) → IsSame a b → IsSame b c → IsSame a c
+same_then a b c x y = record { kind = y.kind ∙ x.kind; who = y.who ∙ x.who; stamp = y.stamp ∙ x.stamp; own = y.own ∙ x.own; draws = y.draws ∙ x.draws }
+
+pub holds_then : (a b c : Sat) → HoldsAsBefore a b → HoldsAsBefore b c → HoldsAsBefore a c
+holds_then a b c x y = record { same = same_then a b c x.same y.same; owned = y.owned ∙ x.owned; held = y.held ∙ x.held }
+
+-- ---- what a look came to, told of where the seat began
+
+pub taken_then : (a b c : Sat) (n : ℕ) (x : Node) → HoldsAsBefore a b → HasTaken b n x c → HasTaken a n x c
+taken_then a b c n x h t = record {
+  same = same_then a b c h.same t.same;
+  owned = t.owned ∙ ap (λ xs. slice_set xs n true) h.owned;
+  held = t.held ∙ ap (λ xs. slice_set xs n (Some x)) h.held;
+  node = subst (λ (size : ℕ). IsNodeOf size x) (ap length h.held) t.node;
+  unmet = t.unmet;
+}
+
+pub die_then : (a b c : Sat) (n k : ℕ) → HoldsAsBefore a b → HasToDie b n k c → HasToDie a n k c
+die_then a b c n k h d = record {
+  holds = holds_then a b c h d.holds;
+  one = (d.one.0, sym (ap (λ xs. get_or xs d.one.0 false) h.owned) ∙ d.one.1);
+  older = subst (λ (s : ℕ). k < s) h.same.stamp d.older;
+  met = d.met;
+  noted = d.noted;
+}
+
+pub look_then : (size n : ℕ) (a b c : Sat) (look : Look) → HoldsAsBefore a b → IsLook size n b look c → IsLook size n a look c
+look_then size n a b c (Locked x) h l = (l.0, l.1, taken_then a b c n x h l.2)
+look_then size n a b c (Deadlk k) h l = (l.0, l.1, die_then a b c n k h l.2)
+look_then size n a b c Waits h l = (l.0, l.1, holds_then a b c h l.2)
