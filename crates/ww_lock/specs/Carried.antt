@@ -1,5 +1,5 @@
 -- What a state carries: the seat at the table, and what it keeps beside that.
-use Rattle.std.specs.Prelude.{ℕ, ◌≡◌, ◌<◌, ◌≤◌, ◌+◌, ◌-◌, ◌^◌, [], true, length, Some, vec_len, vec_capacity}
+use Rattle.std.specs.Prelude.{ℕ, ◌≡◌, ◌<◌, ◌≤◌, ◌+◌, ◌-◌, ◌^◌, [], true, length, Option, Some, vec_len, vec_capacity}
 use mathlib.Core.Option.{some}
 use lib.ListN.{get_elem?}
 use Rattle.ww_plain.specs.Numbers.{is_among}
@@ -21,6 +21,10 @@ holding_of h = record {
   held = h.held.items;
   seen = h.seen;
 }
+
+-- the lock and the older stamp for which its seat had to die, as its view notes it until it takes or gives a lock
+abbrev pub met_of : Hand → Option (ℕ × ℕ)
+met_of h = h.seat.seat.me.0.part.core.met
 
 -- The seat is between two calls, and owns just the locks of the nodes that are held. With what is left it stays within what
 -- the table counts.

@@ -6,21 +6,21 @@ use std::marker::Model;
 use std::sync::Wait;
 use ww_plain::Node;
 
-/// A context that takes locks.
+/// A context that takes locks. Its seat has not met an older context since it last took or gave a lock.
 pub struct Acquiring {
     pub(crate) hand: Box<Hand>,
 }
 
 impl Model for Acquiring {
-    ghost use Rattle.std.specs.Prelude.{◌<◌};
+    ghost use Rattle.std.specs.Prelude.{◌≡◌, ◌<◌, None};
     ghost use Rattle.ww_lock.specs.Holding.{Holding};
-    ghost use Rattle.ww_lock.specs.Carried.{holding_of, CarriesFresh};
+    ghost use Rattle.ww_lock.specs.Carried.{holding_of, met_of, CarriesFresh};
 
     ghost Value = { Holding };
 
     ghost view = { λ s. holding_of s.hand.value };
 
-    ghost invariant = { λ s. CarriesFresh s.hand.value × (0 < s.hand.value.seat.stamp) };
+    ghost invariant = { λ s. CarriesFresh s.hand.value × (0 < s.hand.value.seat.stamp) × (met_of s.hand.value ≡ None) };
 }
 
 /// What a lock call answers.

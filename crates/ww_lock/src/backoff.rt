@@ -4,7 +4,8 @@ use crate::world::World;
 use std::marker::Model;
 use std::sync::Wait;
 
-/// A context that was told EDEADLK. It still holds its locks, and can only give them all back.
+/// A context that was told EDEADLK. It still holds its locks, and can only give them all back. By its invariant the seat has met
+/// just this context at just this lock, by a step of its own, and has taken and given none since.
 pub struct Backoff {
     pub(crate) hand: Box<Hand>,
     pub(crate) contended: u8,
@@ -12,15 +13,15 @@ pub struct Backoff {
 }
 
 impl Model for Backoff {
-    ghost use Rattle.std.specs.Prelude.{◌<◌, length};
+    ghost use Rattle.std.specs.Prelude.{◌≡◌, ◌<◌, length, Some};
     ghost use Rattle.ww_lock.specs.Holding.{Refused};
-    ghost use Rattle.ww_lock.specs.Carried.{holding_of, CarriesFresh};
+    ghost use Rattle.ww_lock.specs.Carried.{holding_of, met_of, CarriesFresh};
 
     ghost Value = { Refused };
 
     ghost view = { λ s. record { holding = holding_of s.hand.value; contended = s.contended; met = s.met } };
 
-    ghost invariant = { λ s. CarriesFresh s.hand.value × (s.met < s.hand.value.seat.stamp) × (s.contended < length s.hand.value.seen) };
+    ghost invariant = { λ s. CarriesFresh s.hand.value × (met_of s.hand.value ≡ Some (s.contended, s.met)) × (s.met < s.hand.value.seat.stamp) × (s.contended < length s.hand.value.seen) };
 }
 
 impl Backoff {

@@ -5,11 +5,11 @@ use crate::world::World;
 use std::sync::Wait;
 
 impl Hand {
-    ghost use Rattle.std.specs.Prelude.{◌≡◌, ◌≤◌, ◌<◌, ◌+◌, ◌^◌, ◌⊎◌, [], true, false, length, IfSome, IfNone};
+    ghost use Rattle.std.specs.Prelude.{◌≡◌, ◌≤◌, ◌<◌, ◌+◌, ◌^◌, ◌⊎◌, [], true, false, length, None, IfSome, IfNone};
     ghost use Rattle.ww_plain.specs.Numbers.{is_among};
     ghost use Rattle.ww_seat.specs.Calls.{HasToDie, TriedOnce};
     ghost use Rattle.ww_lock.specs.Holding.{IsAtHome};
-    ghost use Rattle.ww_lock.specs.Carried.{holding_of, Carries, CarriesFresh};
+    ghost use Rattle.ww_lock.specs.Carried.{holding_of, met_of, Carries, CarriesFresh};
     ghost use Rattle.ww_lock.specs.Moves.{IsTaken, emptied};
 
     /// Starts a context: it draws a stamp.
@@ -22,6 +22,7 @@ impl Hand {
         ensures fresh { CarriesFresh self.new }
         ensures begun { holding_of self.new ≡ record (holding_of self.old) { stamp = self.new.seat.stamp } }
         ensures stamp { 0 < self.new.seat.stamp }
+        ensures unmet { met_of self.new ≡ None }
     {
         ww_seat::begin(&mut self.seat, &world.board);
     }
@@ -48,6 +49,7 @@ impl Hand {
         ensures fresh { CarriesFresh self.new }
         ensures taken { result ≡ true → IsTaken (holding_of self.old) n (holding_of self.new) }
         ensures busy { result ≡ false → holding_of self.new ≡ holding_of self.old }
+        ensures unmet { met_of self.old ≡ None → met_of self.new ≡ None }
         ensures tries { TriedOnce self.old.seat.seat.me self.new.seat.seat.me }
     {
         match ww_seat::try_take(&mut self.seat, &world.board, self.kind, n) {
@@ -71,6 +73,7 @@ impl Hand {
         ensures same { IfSome result (λ _. holding_of self.new ≡ holding_of self.old) }
         ensures older { IfSome result (λ k. (k < self.old.seat.stamp) × (1 ≤ length self.old.held.items)) }
         ensures dies { IfSome result (λ k. HasToDie self.old.seat.seat.me n k self.new.seat.seat.me) }
+        ensures unmet { IfNone result (met_of self.new ≡ None) }
         ensures tries { TriedOnce self.old.seat.seat.me self.new.seat.seat.me }
     {
         let taken = ww_seat::take(
@@ -99,6 +102,7 @@ impl Hand {
         requires node { n < length self.old.seen }
         ensures fresh { CarriesFresh self.new }
         ensures taken { IsTaken (holding_of self.old) n (holding_of self.new) }
+        ensures unmet { met_of self.new ≡ None }
     {
         if self.take(rt, world, n).is_some() {
             unreachable!()
