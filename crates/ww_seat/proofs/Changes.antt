@@ -172,6 +172,7 @@ module _ (size : ℕ) (m : Sat) (r : Record) (before after : List Node) (ns : Li
     stamp = ap (λ (w : Sight). w.part.core.stamp) v;
     draws = ap (λ (w : Sight). w.part.draws) v;
     owned = ap (λ (w : Sight). w.part.core.owned) v;
+    tries = ap (λ (w : Sight). w.part.core.tries) v;
     own = ap (λ (w : Sight). w.part.own) v;
     above = above;
     named = λ n e. ap (λ (w : Sight). get_elem? w.held n) v ∙ named_after n e;

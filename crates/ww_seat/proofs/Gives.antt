@@ -17,8 +17,8 @@ use Rattle.ww_table.specs.Steps.{giving}
 use Rattle.ww_table.specs.Guards.{lost, exiting, looking}
 use Rattle.ww_table.specs.Waiting.{HasListOnTop, IsOut, giving_inside}
 use Rattle.ww_seat.specs.Orderly.{IsOrderly}
-use Rattle.ww_seat.specs.Calls.{IsSame, HoldsAsBefore, HasGiven}
-use Rattle.ww_seat.specs.Guards.{HasEntered, IsGiving, HasLet}
+use Rattle.ww_seat.specs.Calls.{HasGiven}
+use Rattle.ww_seat.specs.Guards.{HasEntered, IsStill, IsGiving, HasLet}
 use Rattle.ww_seat.proofs.Holds.{same_then, holds_then}
 use Rattle.ww_seat.proofs.Slots.{front_same, front_apart, is_out}
 use Rattle.ww_seat.proofs.Outside.{owns_here}
@@ -26,36 +26,44 @@ use Rattle.ww_seat.proofs.Guards.{alike_orderly, exiting_orderly, listed_orderly
 
 -- ---- what the calls say of the seat, one after another
 
-pub given_then : (a b c : Sat) (n : ℕ) → HoldsAsBefore a b → HasGiven b n c → HasGiven a n c
-given_then a b c n x y = record { same = same_then a b c x.same y.same; owned = y.owned ∙ ap (λ xs. slice_set xs n false) x.owned; held = y.held ∙ ap (λ xs. slice_set xs n None) x.held }
+pub given_then : (a b c : Sat) (n : ℕ) → IsStill a b → HasGiven b n c → HasGiven a n c
+given_then a b c n x y = record {
+  same = same_then a b c x.holds.same y.same;
+  owned = y.owned ∙ ap (λ xs. slice_set xs n false) x.holds.owned;
+  held = y.held ∙ ap (λ xs. slice_set xs n None) x.holds.held;
+  tries = y.tries ∙ x.tries;
+}
 
-pub then_given : (a b c : Sat) (n : ℕ) → HasGiven a n b → HoldsAsBefore b c → HasGiven a n c
-then_given a b c n x y = record { same = same_then a b c x.same y.same; owned = y.owned ∙ x.owned; held = y.held ∙ x.held }
+pub then_given : (a b c : Sat) (n : ℕ) → HasGiven a n b → IsStill b c → HasGiven a n c
+then_given a b c n x y = record { same = same_then a b c x.same y.holds.same; owned = y.holds.owned ∙ x.owned; held = y.holds.held ∙ x.held; tries = y.tries ∙ x.tries }
 
-pub holds_looking : (m m' : Sat) (o : Owner) → m'.0 ≡ looking m.0 o → HoldsAsBefore m m'
-holds_looking m m' o e = subst (λ (w : Sight). HoldsAsBefore m (w, m'.1)) (sym e) (record { same = record { kind = refl; who = refl; stamp = refl; own = refl; draws = refl }; owned = refl; held = refl })
+pub still_then : (a b c : Sat) → IsStill a b → IsStill b c → IsStill a c
+still_then a b c x y = record { holds = holds_then a b c x.holds y.holds; tries = y.tries ∙ x.tries }
 
-pub holds_lost : (m m' : Sat) → m'.0 ≡ lost m.0 → HoldsAsBefore m m'
-holds_lost m m' e = subst (λ (w : Sight). HoldsAsBefore m (w, m'.1)) (sym e) (record { same = record { kind = refl; who = refl; stamp = refl; own = refl; draws = refl }; owned = refl; held = refl })
+pub still_looking : (m m' : Sat) (o : Owner) → m'.0 ≡ looking m.0 o → IsStill m m'
+still_looking m m' o e = subst (λ (w : Sight). IsStill m (w, m'.1)) (sym e) (record { holds = record { same = record { kind = refl; who = refl; stamp = refl; own = refl; draws = refl }; owned = refl; held = refl }; tries = refl })
 
-pub holds_view : (m m' : Sat) → m'.0 ≡ m.0 → HoldsAsBefore m m'
-holds_view m m' e = subst (λ (w : Sight). HoldsAsBefore m (w, m'.1)) (sym e) (record { same = record { kind = refl; who = refl; stamp = refl; own = refl; draws = refl }; owned = refl; held = refl })
+pub still_lost : (m m' : Sat) → m'.0 ≡ lost m.0 → IsStill m m'
+still_lost m m' e = subst (λ (w : Sight). IsStill m (w, m'.1)) (sym e) (record { holds = record { same = record { kind = refl; who = refl; stamp = refl; own = refl; draws = refl }; owned = refl; held = refl }; tries = refl })
 
-pub holds_entered : (m m' : Sat) (n : ℕ) → HasEntered m n m' → HoldsAsBefore m m'
-holds_entered m m' n e = subst (λ (w : Sight). HoldsAsBefore m (w, m'.1)) (sym e.view) (record { same = record { kind = refl; who = refl; stamp = refl; own = refl; draws = refl }; owned = refl; held = refl })
+pub still_view : (m m' : Sat) → m'.0 ≡ m.0 → IsStill m m'
+still_view m m' e = subst (λ (w : Sight). IsStill m (w, m'.1)) (sym e) (record { holds = record { same = record { kind = refl; who = refl; stamp = refl; own = refl; draws = refl }; owned = refl; held = refl }; tries = refl })
 
-pub holds_exited : (m m' : Sat) → m'.0 ≡ exiting m.0 → HoldsAsBefore m m'
-holds_exited m m' e = subst (λ (w : Sight). HoldsAsBefore m (w, m'.1)) (sym e) (record { same = record { kind = refl; who = refl; stamp = refl; own = refl; draws = refl }; owned = refl; held = refl })
+pub still_entered : (m m' : Sat) (n : ℕ) → HasEntered m n m' → IsStill m m'
+still_entered m m' n e = subst (λ (w : Sight). IsStill m (w, m'.1)) (sym e.view) (record { holds = record { same = record { kind = refl; who = refl; stamp = refl; own = refl; draws = refl }; owned = refl; held = refl }; tries = refl })
+
+pub still_exited : (m m' : Sat) → m'.0 ≡ exiting m.0 → IsStill m m'
+still_exited m m' e = subst (λ (w : Sight). IsStill m (w, m'.1)) (sym e) (record { holds = record { same = record { kind = refl; who = refl; stamp = refl; own = refl; draws = refl }; owned = refl; held = refl }; tries = refl })
 
 -- it read the owner word, and then the wait list
-pub read_holds : (a m m' m'' : Sat) (n : ℕ) (o : Owner) → HoldsAsBefore a m → m' ≡ (looking m.0 o, m.1) → HasListOnTop m' n m'' → HoldsAsBefore a m''
-read_holds a m m' m'' n o before looked read = holds_then a m m'' before (holds_then m m' m'' (holds_looking m m' o (ap (λ (x : Sat). x.0) looked)) (holds_view m' m'' (ap (λ (x : Sat). x.0) read.now)))
+pub read_still : (a m m' m'' : Sat) (n : ℕ) (o : Owner) → IsStill a m → m' ≡ (looking m.0 o, m.1) → HasListOnTop m' n m'' → IsStill a m''
+read_still a m m' m'' n o before looked read = still_then a m m'' before (still_then m m' m'' (still_looking m m' o (ap (λ (x : Sat). x.0) looked)) (still_view m' m'' (ap (λ (x : Sat). x.0) read.now)))
 
-pub lost_holds : (a m m' : Sat) → HoldsAsBefore a m → m'.0 ≡ lost m.0 → HoldsAsBefore a m'
-lost_holds a m m' before e = holds_then a m m' before (holds_lost m m' e)
+pub lost_still : (a m m' : Sat) → IsStill a m → m'.0 ≡ lost m.0 → IsStill a m'
+lost_still a m m' before e = still_then a m m' before (still_lost m m' e)
 
-pub kept_entered_holds : (a m m' : Sat) (n : ℕ) → m.0 ≡ a.0 → HasEntered m n m' → HoldsAsBefore a m'
-kept_entered_holds a m m' n same e = holds_then a m m' (holds_view a m same) (holds_entered m m' n e)
+pub kept_entered_still : (a m m' : Sat) (n : ℕ) → m.0 ≡ a.0 → HasEntered m n m' → IsStill a m'
+kept_entered_still a m m' n same e = still_then a m m' (still_view a m same) (still_entered m m' n e)
 
 -- ---- at once
 
@@ -67,7 +75,7 @@ pub given_free : (size : ℕ) (m m' : Sat) (n : ℕ) (x : Node) → IsOrderly si
 given_free size m m' n x o away small view home = let few = o.few in (
   subst (λ (w : Sight). IsOrderly size (w, m'.1)) (sym view) (without_node size m n x (giving m.0 n) m'.1 o (omega arith) home refl refl refl refl),
   subst (λ (w : Sight). IsAway w.part.core) (sym view) (away.0, away.1),
-  subst (λ (w : Sight). HasGiven m n (w, m'.1)) (sym view) (record { same = record { kind = refl; who = refl; stamp = refl; own = refl; draws = refl }; owned = refl; held = refl }),
+  subst (λ (w : Sight). HasGiven m n (w, m'.1)) (sym view) (record { same = record { kind = refl; who = refl; stamp = refl; own = refl; draws = refl }; owned = refl; held = refl; tries = refl }),
 )
 
 pub kept_free : (size : ℕ) (m m' : Sat) (n : ℕ) (x : Node) (others : List (ℕ × Cell)) → IsOrderly size m → AreOthers m.1 n (Content x) others → m' ≡ (m.0, (n, Content x) ∷ others) → IsOrderly size m'
@@ -121,7 +129,7 @@ lost_giving size m m' n x others slots g top out is = let first : Sat = (m.0, (6
   unsigned = g.unsigned;
 })
 
-pub let_go : (size : ℕ) (a m m' : Sat) (n : ℕ) (x : Node) (others : List (ℕ × Cell)) (asked : Bool) → HoldsAsBefore a m → IsGiving size n m → m'.0 ≡ giving_inside m.0 n asked → AreOthers m.1 (64 + n) (Line m.0.part.core.list) others
+pub let_go : (size : ℕ) (a m m' : Sat) (n : ℕ) (x : Node) (others : List (ℕ × Cell)) (asked : Bool) → IsStill a m → IsGiving size n m → m'.0 ≡ giving_inside m.0 n asked → AreOthers m.1 (64 + n) (Line m.0.part.core.list) others
     → AreOthers ((64 + n, Line m.0.part.core.list) ∷ others) n (Content x) m'.1 → HasLet size a n m'
 let_go size a m m' n x others asked before g view top home = let first : Sat = (m.0, (64 + n, Line m.0.part.core.list) ∷ others) in let o = listed_orderly size m n m.0 others g.orderly g.inside top refl refl refl in
     let small = (g.orderly.nodes n g.owner).0 in let few = g.orderly.few in let long = g.orderly.owned in subst (λ (w : Sight). HasLet size a n (w, m'.1)) (sym view) (record {
@@ -134,14 +142,14 @@ let_go size a m m' n x others asked before g view top home = let first : Sat = (
       };
       inside = g.inside;
       waits = g.waits;
-      given = given_then a m (giving_inside m.0 n asked, m'.1) n before (record { same = record { kind = refl; who = refl; stamp = refl; own = refl; draws = refl }; owned = refl; held = refl });
+      given = given_then a m (giving_inside m.0 n asked, m'.1) n before (record { same = record { kind = refl; who = refl; stamp = refl; own = refl; draws = refl }; owned = refl; held = refl; tries = refl });
     })
 
 -- ---- outside again
 
-pub has_let : (size : ℕ) (a b c m' : Sat) (n : ℕ) → HoldsAsBefore a b → HasLet size b n c → m'.0 ≡ exiting c.0 → AreOthers c.1 (64 + n) (Line c.0.part.core.list) m'.1 → IsOrderly size m' × IsAway m'.0.part.core × HasGiven a n m'
+pub has_let : (size : ℕ) (a b c m' : Sat) (n : ℕ) → IsStill a b → HasLet size b n c → m'.0 ≡ exiting c.0 → AreOthers c.1 (64 + n) (Line c.0.part.core.list) m'.1 → IsOrderly size m' × IsAway m'.0.part.core × HasGiven a n m'
 has_let size a b c m' n before l view home = (
   exiting_orderly size c m' n l.orderly l.inside view home,
   subst (λ (w : Sight). IsAway w.part.core) (sym view) (refl, l.waits),
-  then_given a c m' n (given_then a b c n before l.given) (holds_exited c m' view),
+  then_given a c m' n (given_then a b c n before l.given) (still_exited c m' view),
 )

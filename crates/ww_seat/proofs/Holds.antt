@@ -32,6 +32,7 @@ pub die_then : (a b c : Sat) (n k : ℕ) → HoldsAsBefore a b → HasToDie b n 
 die_then a b c n k h d = record {
   holds = holds_then a b c h d.holds;
   one = (d.one.0, sym (ap (λ xs. get_or xs d.one.0 false) h.owned) ∙ d.one.1);
+  context = d.context;
   older = subst (λ (s : ℕ). k < s) h.same.stamp d.older;
   met = d.met;
   noted = d.noted;

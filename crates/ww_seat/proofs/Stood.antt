@@ -8,7 +8,7 @@ use Rattle.ww_queue.specs.declared.kind.Kind.TheVariants.{WoundWait, WaitDie}
 use Rattle.ww_queue.specs.Queue.{entry_of, joined, left}
 use Rattle.ww_queue.proofs.Joins.{joined_has, joined_new, joined_once}
 use Rattle.ww_queue.proofs.Leaves.{left_gone, entry_when}
-use Rattle.ww_queue.proofs.Deaths.{only_waiters_die}
+use Rattle.ww_queue.proofs.Deaths.{only_waiters_die, death_is_of_context}
 use Rattle.ww_model.specs.Snapshot.{IsFirst}
 use Rattle.ww_view.specs.declared.view.View.{View}
 use Rattle.ww_view.specs.Word.{asked_word, rest_word}
@@ -153,6 +153,7 @@ look_died size n l m m1 m2 o k w may older is out ord =
     let met : HasToDie m n k m2 = record {
       holds = subst (λ (z : Sight). HoldsAsBefore m (z, m2.1)) (sym view) (record { same = record { kind = refl; who = refl; stamp = refl; own = refl; draws = refl }; owned = refl; held = refl });
       one = owns_one m.0.part.core (dying_holds m.0.part.core.kind o m.0.part.core may.why.0 k w.place.1 may.why.2);
+      context = death_is_of_context m.0.part.core.kind o m.0.part.core.list m.0.part.core.who may.why.0 k may.why.2;
       older = older;
       met = record { view = m.0.part.core; word = o; may = may; met = die_shows m.0.part.core n o k may; now = ap (λ (z : Sight). z.part.core) view };
       noted = ap (λ (z : Sight). z.part.core.met) view ∙ die_notes m.0.part.core n o k may;

@@ -51,9 +51,6 @@ entered_inside size n m m' out e o = subst (λ (w : Sight). IsOrderly size (w, m
 pub entered_kind : (n : ℕ) (m m' : Sat) (kind : Kind) → kind ≡ m.0.part.core.kind → HasEntered m n m' → kind ≡ m'.0.part.core.kind
 entered_kind n m m' kind is e = is ∙ ap (λ (w : Sight). w.part.core.kind) (sym e.view)
 
-pub entered_tries : (n : ℕ) (m m' : Sat) → HasEntered m n m' → m'.0.part.core.tries ≡ m.0.part.core.tries
-entered_tries n m m' e = ap (λ (w : Sight). w.part.core.tries) e.view
-
 pub entered_later : (n : ℕ) (m m' : Sat) → HasEntered m n m' → m'.0.part.core.later ≡ not (m.0.part.core.waits == 0)
 entered_later n m m' e = ap (λ (w : Sight). w.part.core.later) e.view
 

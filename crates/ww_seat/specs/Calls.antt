@@ -37,11 +37,12 @@ pub record HasTaken (m : Sat) (n : ℕ) (x : Node) (m' : Sat) : Type 0 where
   pub node : IsNodeOf (length m.0.held) x
   pub unmet : m'.0.part.core.met ≡ None
 
--- it owns one lock less
+-- it owns one lock less, and tried to take none at once
 pub record HasGiven (m : Sat) (n : ℕ) (m' : Sat) : Type 0 where
   pub same : IsSame m m'
   pub owned : m'.0.part.core.owned ≡ slice_set m.0.part.core.owned n false
   pub held : m'.0.held ≡ slice_set m.0.held n None
+  pub tries : m'.0.part.core.tries ≡ m.0.part.core.tries
 
 -- It left the wait list of lock n inside the guard, by the step that the rules have for a context that has to die of stamp k;
 -- its view then shows the older context that it met; and it left the guard at once.
@@ -57,6 +58,7 @@ pub record HasMet (n k : ℕ) (w : View) : Type 0 where
 pub record HasToDie (m : Sat) (n k : ℕ) (m' : Sat) : Type 0 where
   pub holds : HoldsAsBefore m m'
   pub one : (j : ℕ) × (owns m.0.part.core j ≡ true)
+  pub context : 0 < k
   pub older : k < m.0.part.core.stamp
   pub met : HasMet n k m'.0.part.core
   pub noted : m'.0.part.core.met ≡ Some (n, k)
@@ -74,6 +76,7 @@ pub record HasBegun (m : Sat) (k : ℕ) (m' : Sat) : Type 0 where
   pub draws : m'.0.part.draws ≡ m.0.part.draws + 1
   pub owned : m'.0.part.core.owned ≡ m.0.part.core.owned
   pub held : m'.0.held ≡ m.0.held
+  pub tries : m'.0.part.core.tries ≡ m.0.part.core.tries
   pub unmet : m'.0.part.core.met ≡ None
 
 -- The context ended: the seat has no stamp, and is otherwise as it was.
@@ -85,6 +88,7 @@ pub record HasEnded (m m' : Sat) : Type 0 where
   pub draws : m'.0.part.draws ≡ m.0.part.draws
   pub owned : m'.0.part.core.owned ≡ m.0.part.core.owned
   pub held : m'.0.held ≡ m.0.held
+  pub tries : m'.0.part.core.tries ≡ m.0.part.core.tries
 
 -- it owns these nodes, and its view names them as they are in this graph
 abbrev pub HoldsAll : Sat → List Node → List ℕ → Type 0
@@ -98,6 +102,7 @@ pub record HasCommitted (m : Sat) (place : ℕ) (r : Record) (after : List Node)
   pub stamp : m'.0.part.core.stamp ≡ m.0.part.core.stamp
   pub draws : m'.0.part.draws ≡ m.0.part.draws
   pub owned : m'.0.part.core.owned ≡ m.0.part.core.owned
+  pub tries : m'.0.part.core.tries ≡ m.0.part.core.tries
   pub own : m'.0.part.own ≡ m.0.part.own ++ (place, r) ∷ []
   pub above : AllByRecursion (λ p. p.0 < place) m.0.part.own
   pub named : (n : ℕ) → IsTrue (is_among n ns) → get_elem? m'.0.held n ≡ some (Some (node_at after n))

@@ -7,7 +7,7 @@ use Rattle.ww_view.specs.May.{MayLeave}
 use Rattle.ww_table.specs.Rule.{Sat}
 use Rattle.ww_table.specs.Guards.{AreSeats, StandsAs, entering}
 use Rattle.ww_seat.specs.Orderly.{IsOrderly}
-use Rattle.ww_seat.specs.Calls.{HasGiven}
+use Rattle.ww_seat.specs.Calls.{HoldsAsBefore, HasGiven}
 
 -- the seat went inside, and found this wait list there
 pub record HasEntered (m : Sat) (n : ℕ) (m' : Sat) : Type 0 where
@@ -17,6 +17,11 @@ pub record HasEntered (m : Sat) (n : ℕ) (m' : Sat) : Type 0 where
   pub view : m'.0 ≡ entering m.0 n list
 
 -- ---- the lock is given back inside
+
+-- it holds what it held, and tried to take no lock at once
+pub record IsStill (m m' : Sat) : Type 0 where
+  pub holds : HoldsAsBefore m m'
+  pub tries : m'.0.part.core.tries ≡ m.0.part.core.tries
 
 -- It is inside, as the owner who gives the lock back, and waits for none: its sign is then its own to tell.
 pub record IsGiving (size n : ℕ) (m : Sat) : Type 0 where

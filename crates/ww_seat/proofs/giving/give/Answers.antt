@@ -1,5 +1,5 @@
 use Rattle.std.proofs.Common.{◌∙◌, ap}
-use Rattle.ww_seat.proofs.Gives.{node_out, given_free, kept_free, owner_enters, kept_enters, entered_giving, kept_entered_holds, has_let}
+use Rattle.ww_seat.proofs.Gives.{node_out, given_free, kept_free, owner_enters, kept_enters, entered_giving, kept_entered_still, has_let}
 use Rattle.ww_seat.proofs.giving.give.Goals as goal
 
 pub give_free-requires-clause-out : goal.give_free-requires-clause-out
@@ -30,12 +30,12 @@ pub exit-requires-clause-list : goal.exit-requires-clause-list
 exit-requires-clause-list g c = let l = c.give_inside-first.ensures.given in l.orderly.list c.args.lock l.inside
 
 pub returns-clause-settled : goal.returns-clause-settled
-returns-clause-settled g c = let e = c.give_free.ensures.kept c.if-give_free.false in let h = kept_entered_holds c.args.seat.now.seat.me c.give_free.new.self.seat.me c.enter.new.seat.seat.me c.args.lock (ap (λ m. m.0) e.3) c.enter.ensures.entered in
+returns-clause-settled g c = let e = c.give_free.ensures.kept c.if-give_free.false in let h = kept_entered_still c.args.seat.now.seat.me c.give_free.new.self.seat.me c.enter.new.seat.seat.me c.args.lock (ap (λ m. m.0) e.3) c.enter.ensures.entered in
     let z = has_let _ c.args.seat.now.seat.me c.enter.new.seat.seat.me c.give_inside-first.new.seat.seat.me c.exit.new.self.seat.me c.args.lock h c.give_inside-first.ensures.given c.exit.ensures.view c.exit.ensures.home in
     record { seated = c.exit.ensures.seat; orderly = z.0; away = z.1 }
 
 pub returns-clause-given : goal.returns-clause-given
-returns-clause-given g c = let e = c.give_free.ensures.kept c.if-give_free.false in let h = kept_entered_holds c.args.seat.now.seat.me c.give_free.new.self.seat.me c.enter.new.seat.seat.me c.args.lock (ap (λ m. m.0) e.3) c.enter.ensures.entered in
+returns-clause-given g c = let e = c.give_free.ensures.kept c.if-give_free.false in let h = kept_entered_still c.args.seat.now.seat.me c.give_free.new.self.seat.me c.enter.new.seat.seat.me c.args.lock (ap (λ m. m.0) e.3) c.enter.ensures.entered in
     (has_let _ c.args.seat.now.seat.me c.enter.new.seat.seat.me c.give_inside-first.new.seat.seat.me c.exit.new.self.seat.me c.args.lock h c.give_inside-first.ensures.given c.exit.ensures.view c.exit.ensures.home).2
 
 pub returns-clause-records : goal.returns-clause-records

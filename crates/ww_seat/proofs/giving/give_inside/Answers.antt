@@ -1,5 +1,5 @@
 use Rattle.std.proofs.Common.{ap, ◌∙◌}
-use Rattle.ww_seat.proofs.Gives.{read_holds, lost_holds, looked_giving, read_giving, giving_out, lost_giving, let_go}
+use Rattle.ww_seat.proofs.Gives.{read_still, lost_still, looked_giving, read_giving, giving_out, lost_giving, let_go}
 use Rattle.ww_seat.proofs.giving.give_inside.Goals as goal
 
 pub give-requires-clause-out : goal.give-requires-clause-out
@@ -9,17 +9,17 @@ give-requires-clause-out g c = let i = c.loop.invariant in let a = looked_giving
 pub returns-then-give-clause-given : goal.returns-then-give-clause-given
 returns-then-give-clause-given g c = let i = c.loop.invariant in let a = looked_giving _ _ c.look-seen.new.self.seat.me c.args.lock c.look-seen.result i.3 c.look-seen.ensures.looked in
     let b = read_giving _ _ c.first-first.new.self.seat.me c.args.lock a c.first-first.ensures.read in let e = c.give.ensures.gave c.if-give.true in
-    let_go _ c.args.seat.now.seat.me c.first-first.new.self.seat.me c.give.new.self.seat.me c.args.lock e.0 e.1 _ (read_holds _ c.loop.seat.seat.me c.look-seen.new.self.seat.me c.first-first.new.self.seat.me c.args.lock c.look-seen.result i.4 c.look-seen.ensures.looked c.first-first.ensures.read) b e.2 e.3 e.4
+    let_go _ c.args.seat.now.seat.me c.first-first.new.self.seat.me c.give.new.self.seat.me c.args.lock e.0 e.1 _ (read_still _ c.loop.seat.seat.me c.look-seen.new.self.seat.me c.first-first.new.self.seat.me c.args.lock c.look-seen.result i.4 c.look-seen.ensures.looked c.first-first.ensures.read) b e.2 e.3 e.4
 
 pub loop-preserved : goal.loop-preserved
 loop-preserved g c = let i = c.loop.invariant in let a = looked_giving _ _ c.look-seen.new.self.seat.me c.args.lock c.look-seen.result i.3 c.look-seen.ensures.looked in
     let b = read_giving _ _ c.first-first.new.self.seat.me c.args.lock a c.first-first.ensures.read in let e = c.give.ensures.lost c.if-give.false in
-    let h = read_holds _ c.loop.seat.seat.me c.look-seen.new.self.seat.me c.first-first.new.self.seat.me c.args.lock c.look-seen.result i.4 c.look-seen.ensures.looked c.first-first.ensures.read in (
+    let h = read_still _ c.loop.seat.seat.me c.look-seen.new.self.seat.me c.first-first.new.self.seat.me c.args.lock c.look-seen.result i.4 c.look-seen.ensures.looked c.first-first.ensures.read in (
       tt,
       tt,
       c.give.ensures.seat,
       lost_giving _ c.first-first.new.self.seat.me c.give.new.self.seat.me c.args.lock e.0 e.1 e.2 b e.3 e.4 e.5,
-      lost_holds _ c.first-first.new.self.seat.me c.give.new.self.seat.me h (ap (λ m. m.0) e.5),
+      lost_still _ c.first-first.new.self.seat.me c.give.new.self.seat.me h (ap (λ m. m.0) e.5),
       c.give.ensures.records ∙ c.first-first.ensures.records ∙ c.look-seen.ensures.records ∙ i.5,
     )
 

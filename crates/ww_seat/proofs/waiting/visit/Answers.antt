@@ -1,6 +1,6 @@
 use Rattle.std.proofs.Common.{◌∙◌, sym}
-use Rattle.ww_seat.proofs.Gives.{holds_entered}
-use Rattle.ww_seat.proofs.Waits.{wanter_enters, entered_inside, entered_kind, entered_tries, entered_later}
+use Rattle.ww_seat.proofs.Gives.{still_entered}
+use Rattle.ww_seat.proofs.Waits.{wanter_enters, entered_inside, entered_kind, entered_later}
 use Rattle.ww_seat.proofs.Holds.{look_then}
 use Rattle.ww_seat.proofs.waiting.visit.Goals as goal
 
@@ -17,10 +17,10 @@ pub look_at-look-requires-clause-later : goal.look_at-look-requires-clause-later
 look_at-look-requires-clause-later g c = c.requires.later ∙ sym (entered_later c.args.lock c.args.seat.now.seat.me c.enter.new.seat.seat.me c.enter.ensures.entered)
 
 pub returns-clause-look : goal.returns-clause-look
-returns-clause-look g c = look_then _ c.args.lock c.args.seat.now.seat.me c.enter.new.seat.seat.me c.look_at-look.new.seat.seat.me c.look_at-look.result (holds_entered c.args.seat.now.seat.me c.enter.new.seat.seat.me c.args.lock c.enter.ensures.entered) c.look_at-look.ensures.look
+returns-clause-look g c = look_then _ c.args.lock c.args.seat.now.seat.me c.enter.new.seat.seat.me c.look_at-look.new.seat.seat.me c.look_at-look.result (still_entered c.args.seat.now.seat.me c.enter.new.seat.seat.me c.args.lock c.enter.ensures.entered).holds c.look_at-look.ensures.look
 
 pub returns-clause-tries : goal.returns-clause-tries
-returns-clause-tries g c = c.look_at-look.ensures.tries ∙ entered_tries c.args.lock c.args.seat.now.seat.me c.enter.new.seat.seat.me c.enter.ensures.entered
+returns-clause-tries g c = c.look_at-look.ensures.tries ∙ (still_entered c.args.seat.now.seat.me c.enter.new.seat.seat.me c.args.lock c.enter.ensures.entered).tries
 
 pub returns-clause-records : goal.returns-clause-records
 returns-clause-records g c = c.look_at-look.ensures.records ∙ c.enter.ensures.records
