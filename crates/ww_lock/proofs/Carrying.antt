@@ -14,12 +14,11 @@ use Rattle.ww_view.specs.View.{owns, IsBare}
 use Rattle.ww_table.specs.declared.seat.Seat16.{Seat16}
 use Rattle.ww_table.specs.Steps.{MayDraw}
 use Rattle.ww_seat.specs.Orderly.{IsSettled}
-use Rattle.ww_seat.specs.Calls.{HoldsAsBefore, HasTaken, HasGiven}
-use Rattle.ww_seat.specs.Calls.{HasBegun, HasEnded}
+use Rattle.ww_seat.specs.Calls.{HoldsAsBefore, HasTaken, HasGiven, HasBegun, HasEnded, TriedOnce}
 use Rattle.ww_lock.specs.declared.hand.Hand.{Hand}
 use Rattle.ww_lock.specs.Holding.{Holding, Place, IsAtHome, AreHeld}
 use Rattle.ww_lock.specs.Carried.{holding_of, Carries, CarriesFresh}
-use Rattle.ww_lock.specs.Moves.{IsTaken}
+use Rattle.ww_lock.specs.Moves.{IsTaken, HasTried}
 
 pub settled_as : (a b : TableId) (m n : ℕ) (q : Seat16) → a ≡ b → m ≡ n → IsSettled a m q → IsSettled b n q
 settled_as a b m n q same sizes s = subst (λ (t : TableId). IsSettled t n q) same (subst (λ (k : ℕ). IsSettled a k q) sizes s)
@@ -46,7 +45,7 @@ pub record HasMoved (h : Hand) (p : Place) (q : Seat16) : Type 0 where
 
 -- a state of these parts is seen as a holding of these
 pub holding_is : (h g : Hand) (w p : Place) (q : Seat16) → p ≡ w → IsAtHome (holding_of h) w → Carries h → HasMoved h p q → g.seat ≡ q → g.left ≡ h.left
-    → holding_of g ≡ record (holding_of h) { stamp = q.stamp; held = g.held.items; seen = g.seen }
+    → holding_of g ≡ record (holding_of h) { stamp = q.stamp; held = g.held.items; seen = g.seen; tries = q.seat.me.0.part.core.tries }
 holding_is h g w p q is home c m seat left =
     let t = at_table (holding_of h) w p is home in
     let table : q.seat.table_id ≡ h.seat.seat.table_id = m.settled.seated.home ∙ sym t.0 in
@@ -86,7 +85,7 @@ begins h w p q k is home f few settled records b pos =
         seen = λ n among. ap (λ hs. get_elem? hs n) b.held ∙ f.seen n among;
         commits = omega (arith, many, f.commits);
       };
-      is = holding_is h g w p q is home c m refl refl;
+      is = holding_is h g w p q is home c m refl refl ∙ rw b.tries refl;
       stamped = omega (arith, pos, b.stamp, settled.seated.stamp);
     }
 
@@ -101,7 +100,7 @@ ends h w p q is home c settled records e =
     let m : HasMoved h p q = record { settled = settled; records = records; who = e.who; kind = e.kind } in
     let many : length q.records.items ≡ length h.seat.records.items = ap (λ r. length r.items) records in record {
       carries = carries_as h g w p q is home c m refl refl refl c.held (λ n. ap (λ (os : List Bool). get_or os n false) e.owned ∙ c.owned n) (omega (arith, c.draws, e.draws)) (omega (arith, many, c.commits));
-      is = holding_is h g w p q is home c m refl refl ∙ ap (λ k. record (holding_of h) { stamp = k }) (sym settled.seated.stamp ∙ e.stamp);
+      is = holding_is h g w p q is home c m refl refl ∙ rw (sym settled.seated.stamp ∙ e.stamp, e.tries) refl;
     }
 
 -- ---- locks
@@ -148,9 +147,9 @@ pub record Takes (h g : Hand) (n : ℕ) : Type 0 where
   pub is : IsTaken (holding_of h) n (holding_of g)
 
 pub takes : (h g : Hand) (w p : Place) (q : Seat16) (n : ℕ) (x : Node) → p ≡ w → IsAtHome (holding_of h) w → CarriesFresh h → n < length h.seen → is_among n h.held.items ≡ false
-    → IsSettled p.home (length p.first) q → q.records ≡ h.seat.records → HasTaken h.seat.seat.me n x q.seat.me
+    → IsSettled p.home (length p.first) q → q.records ≡ h.seat.records → HasTaken h.seat.seat.me n x q.seat.me → TriedOnce h.seat.seat.me q.seat.me
     → g.seat ≡ q → g.kind ≡ h.kind → g.left ≡ h.left → g.held.items ≡ h.held.items ++ n ∷ [] → g.seen ≡ set h.seen n x → Takes h g n
-takes h g w p q n x is home f lt new settled records t seat kind left grown read =
+takes h g w p q n x is home f lt new settled records t once seat kind left grown read =
     let c = f.carries in
     let m : HasMoved h p q = record { settled = settled; records = records; who = t.same.who; kind = t.same.kind } in
     let many : length q.records.items ≡ length h.seat.records.items = ap (λ r. length r.items) records in
@@ -176,7 +175,8 @@ takes h g w p q n x is home f lt new settled records t seat kind left grown read
       is = record {
         new = new;
         contents = x;
-        added = holding_is h g w p q is home c m seat left ∙ rw (grown, read, sym settled.seated.stamp ∙ t.same.stamp ∙ c.settled.seated.stamp) refl;
+        added = holding_is h g w p q is home c m seat left ∙ rw (grown, read, seat, sym settled.seated.stamp ∙ t.same.stamp ∙ c.settled.seated.stamp) refl;
+        once = subst (λ (s : Seat16). TriedOnce h.seat.seat.me s.seat.me) (sym seat) once;
       };
     }
   where
@@ -186,14 +186,14 @@ takes h g w p q n x is home f lt new settled records t seat kind left grown read
       | inr absent ↦ absurd (true≢false (sym e ∙ among_added held n k ∙ ap (λ (b : Bool). b || (eqb n k || false)) absent ∙ ap (λ (b : Bool). b || false) other))
     ]
 
--- nothing more is held, and nothing less
+-- nothing more is held, and nothing less, after one try at most
 pub record Keeps (h g : Hand) : Type 0 where
   pub fresh : CarriesFresh g
-  pub is : holding_of g ≡ holding_of h
+  pub is : HasTried (holding_of h) (holding_of g)
 
 pub keeps : (h : Hand) (w p : Place) (q : Seat16) → p ≡ w → IsAtHome (holding_of h) w → CarriesFresh h → IsSettled p.home (length p.first) q → q.records ≡ h.seat.records
-    → HoldsAsBefore h.seat.seat.me q.seat.me → Keeps h (record h { seat = q })
-keeps h w p q is home f settled records b =
+    → HoldsAsBefore h.seat.seat.me q.seat.me → TriedOnce h.seat.seat.me q.seat.me → Keeps h (record h { seat = q })
+keeps h w p q is home f settled records b once =
     let c = f.carries in
     let g : Hand = record h { seat = q } in
     let m : HasMoved h p q = record { settled = settled; records = records; who = b.same.who; kind = b.same.kind } in
@@ -203,7 +203,7 @@ keeps h w p q is home f settled records b =
         seen = λ n among. ap (λ hs. get_elem? hs n) b.held ∙ f.seen n among;
         commits = omega (arith, many, f.commits);
       };
-      is = holding_is h g w p q is home c m refl refl ∙ ap (λ k. record (holding_of h) { stamp = k }) (sym settled.seated.stamp ∙ b.same.stamp ∙ c.settled.seated.stamp);
+      is = record { same = holding_is h g w p q is home c m refl refl ∙ rw (sym settled.seated.stamp ∙ b.same.stamp ∙ c.settled.seated.stamp) refl; once = once };
     }
 
 -- what has to die holds a node
@@ -278,7 +278,7 @@ gives h g w p q front n is home c was settled records b seat kind left now seen 
       carries = carries_as h g w p q is home c m seat kind (ap length seen) (rw (now, seen) held)
           (λ k. owns_less h.seat.seat.me.0.part.core.owned q.seat.me.0.part.core.owned front n wide b.owned (λ j. c.owned j ∙ ap (is_among j) was) apart.1 k ∙ ap (is_among k) (sym now))
           (omega (arith, c.draws, b.same.draws, left)) (omega (arith, many, c.commits, left));
-      is = holding_is h g w p q is home c m seat left ∙ rw (seen, sym settled.seated.stamp ∙ b.same.stamp ∙ c.settled.seated.stamp) refl;
+      is = holding_is h g w p q is home c m seat left ∙ rw (seen, b.tries, sym settled.seated.stamp ∙ b.same.stamp ∙ c.settled.seated.stamp) refl;
     }
 
 -- a state is at home where one that differs in the nodes that are held was

@@ -49,6 +49,7 @@ made_here s new p txn covers is held seen room =
       };
       transaction = refl;
       answer = ap (λ (g : List Node). answer_to g txn) (sym seen);
+      leads = refl;
     })
 
 -- lists by other names
@@ -175,7 +176,7 @@ commits h w pl q p r after ns told is home f settled b same seq reply =
         commits = omega (arith, many, f.commits);
       };
       is = record {
-        own = rw (table, who, stamp, own) refl;
+        own = rw (table, who, stamp, own, b.tries) refl;
         above = below_as told.place h.seat.records.items (subst (AllByRecursion (λ x. x.0 < told.place)) (sym c.settled.seated.records) b.above);
         seq = seq ∙ sym size;
         reply = reply;

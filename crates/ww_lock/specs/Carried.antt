@@ -20,6 +20,7 @@ holding_of h = record {
   room = vec_capacity h.seat.records - vec_len h.seat.records;
   held = h.held.items;
   seen = h.seen;
+  tries = h.seat.seat.me.0.part.core.tries;
 }
 
 -- the lock and the older stamp for which its seat had to die, as its view notes it until it takes or gives a lock

@@ -2,6 +2,7 @@
 use Rattle.std.specs.Prelude.{ℕ, ◌≡◌, ◌<◌, ◌≤◌, List, length, map, Option, Some, None, IsTrue, if◌then◌else◌}
 use Rattle.std.specs.List.{AllByRecursion}
 use Rattle.atomic_table.specs.Seated.{TableId}
+use Rattle.ww_queue.specs.declared.kind.Kind.{Kind}
 use Rattle.ww_plain.specs.declared.node.Node.{Node}
 use Rattle.ww_plain.specs.declared.history.Record.{Record}
 use Rattle.ww_plain.specs.Numbers.{is_among, AreDifferent}
@@ -16,7 +17,8 @@ Home = TableId
 
 -- Its world and its number there; how many contexts and solos it may still start; its stamp, 0 without a context; its own
 -- list: all its commits with their places, oldest first, with room for so many more; the nodes that it holds, in the order
--- in which it took them; and the graph as it has seen it, of which the nodes held are as they were when they were locked.
+-- in which it took them; the graph as it has seen it, of which the nodes held are as they were when they were locked; and how
+-- often it tried to take a lock at once, by one step that a free lock allows.
 pub record Holding : Type 0 where
   pub home : Home
   pub caller : ℕ
@@ -26,6 +28,7 @@ pub record Holding : Type 0 where
   pub room : ℕ
   pub held : List ℕ
   pub seen : List Node
+  pub tries : ℕ
 
 -- a context that is told EDEADLK: the lock that it couldn't get, and the stamp of the older context that it met
 pub record Refused : Type 0 where
@@ -45,9 +48,10 @@ pub record Change : Type 0 where
   pub before : List Node
   pub after : List Node
 
--- a world: its table, the graph that it was opened with, and how many passes it gave
+-- a world: its table, its kind, the graph that it was opened with, and how many passes it gave
 pub record Place : Type 0 where
   pub home : Home
+  pub kind : Kind
   pub first : List Node
   pub passes : ℕ
 

@@ -24,11 +24,12 @@ pub record IsMade (s : Holding) (p : Change) : Type 0 where
   pub contents : SameAt p.before s.seen (footprint_of p.before p.transaction)
   pub room : 1 ≤ s.room
 
--- what preparing this transaction gives: its answer is that of the nodes as they were seen
+-- what preparing this transaction gives: its answer is that of the nodes as they were seen, and they become the new nodes
 pub record IsMadeOf (s : Holding) (p : Change) (txn : Transaction) : Type 0 where
   pub made : IsMade s p
   pub transaction : p.transaction ≡ txn
   pub answer : p.answer ≡ answer_to s.seen txn
+  pub leads : p.after ≡ graph_after p.before txn
 
 -- a change that was prepared on what this state has seen
 abbrev pub change_of : Holding → Transaction → Change

@@ -1,5 +1,5 @@
 -- How one state becomes another.
-use Rattle.std.specs.Prelude.{ℕ, ◌≡◌, ◌<◌, ◌≤◌, ◌-◌, ◌∷◌, ◌++◌, [], length, true, false, slice_set}
+use Rattle.std.specs.Prelude.{ℕ, ◌≡◌, ◌<◌, ◌≤◌, ◌+◌, ◌-◌, ◌∷◌, ◌++◌, [], length, true, false, slice_set}
 use Rattle.ww_plain.specs.declared.node.Node.{Node}
 use Rattle.ww_plain.specs.Numbers.{is_among}
 use Rattle.ww_plain.specs.Meaning.{answer_of}
@@ -25,26 +25,35 @@ pub record IsBegun (s a : Holding) : Type 0 where
   pub nothing : a.held ≡ []
   pub rest : a ≡ record s { left = s.left - 1; stamp = a.stamp }
 
+-- It tried to take a lock at once, or didn't, and tried no second time: all else is as it was.
+pub record HasTried (s a : Holding) : Type 0 where
+  pub same : a ≡ record s { tries = a.tries }
+  pub once : a.tries ≤ s.tries + 1
+
 -- a lock was taken without a context, for one of what was left: it is all that is held
 pub record IsSolo (s : Holding) (n : ℕ) (a : Holding) : Type 0 where
   pub some : 1 ≤ s.left
   pub contents : Node
-  pub rest : a ≡ with_node (record s { left = s.left - 1 }) n contents
+  pub rest : a ≡ with_node (record s { left = s.left - 1; tries = a.tries }) n contents
+  pub once : a.tries ≤ s.tries + 1
   pub alone : a.held ≡ n ∷ []
   pub no_context : a.stamp ≡ 0
 
--- the node wasn't held, and now is, with some contents
+-- the node wasn't held, and now is, with some contents, after one try at most to take its lock at once
 pub record IsTaken (s : Holding) (n : ℕ) (a : Holding) : Type 0 where
   pub new : is_among n s.held ≡ false
   pub contents : Node
-  pub added : a ≡ with_node s n contents
+  pub added : a ≡ with_node (record s { tries = a.tries }) n contents
+  pub once : a.tries ≤ s.tries + 1
 
--- The node wasn't held, and for it an older context was met. The state still holds what it held, which is one node at least.
+-- The node wasn't held, and for it an older context was met, whose stamp is told. The state still holds what it held, which is
+-- one node at least.
 pub record IsRefused (s : Holding) (n : ℕ) (b : Refused) : Type 0 where
   pub new : is_among n s.held ≡ false
   pub holds : 1 ≤ length s.held
-  pub same : b.holding ≡ s
+  pub tried : HasTried s b.holding
   pub contended : b.contended ≡ n
+  pub is_stamp : 1 ≤ b.met
   pub older : b.met < s.stamp
 
 -- the answer of a lock call
@@ -62,7 +71,7 @@ code_of (Deadlk b) = 35
 -- the answer of a trylock: a held node is busy too
 abbrev pub IsTryAnswer : Holding → ℕ → Try → Type 0
 IsTryAnswer s n (try.Locked a) = IsTaken s n a
-IsTryAnswer s n (try.Busy a) = a ≡ s
+IsTryAnswer s n (try.Busy a) = HasTried s a
 
 -- One record more in the own list, of this caller and of the next number, with the transaction and the answer that were
 -- prepared. Its place, which the receipt tells, is above all before.

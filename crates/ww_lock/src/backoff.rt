@@ -21,7 +21,7 @@ impl Model for Backoff {
 
     ghost view = { λ s. record { holding = holding_of s.hand.value; contended = s.contended; met = s.met } };
 
-    ghost invariant = { λ s. CarriesFresh s.hand.value × (met_of s.hand.value ≡ Some (s.contended, s.met)) × (s.met < s.hand.value.seat.stamp) × (s.contended < length s.hand.value.seen) };
+    ghost invariant = { λ s. CarriesFresh s.hand.value × (met_of s.hand.value ≡ Some (s.contended, s.met)) × (0 < s.met) × (s.met < s.hand.value.seat.stamp) × (s.contended < length s.hand.value.seen) };
 }
 
 impl Backoff {

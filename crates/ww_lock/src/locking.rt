@@ -7,10 +7,10 @@ use std::sync::Wait;
 impl Hand {
     ghost use Rattle.std.specs.Prelude.{◌≡◌, ◌≤◌, ◌<◌, ◌+◌, ◌^◌, ◌⊎◌, [], true, false, length, None, IfSome, IfNone};
     ghost use Rattle.ww_plain.specs.Numbers.{is_among};
-    ghost use Rattle.ww_seat.specs.Calls.{HasToDie, TriedOnce};
+    ghost use Rattle.ww_seat.specs.Calls.{HasToDie};
     ghost use Rattle.ww_lock.specs.Holding.{IsAtHome};
     ghost use Rattle.ww_lock.specs.Carried.{holding_of, met_of, Carries, CarriesFresh};
-    ghost use Rattle.ww_lock.specs.Moves.{IsTaken, emptied};
+    ghost use Rattle.ww_lock.specs.Moves.{HasTried, IsTaken, emptied};
 
     /// Starts a context: it draws a stamp.
     pub(crate) fn begin(&mut self, world: &World)
@@ -48,9 +48,8 @@ impl Hand {
         requires new { is_among n self.old.held.items ≡ false }
         ensures fresh { CarriesFresh self.new }
         ensures taken { result ≡ true → IsTaken (holding_of self.old) n (holding_of self.new) }
-        ensures busy { result ≡ false → holding_of self.new ≡ holding_of self.old }
+        ensures busy { result ≡ false → HasTried (holding_of self.old) (holding_of self.new) }
         ensures unmet { met_of self.old ≡ None → met_of self.new ≡ None }
-        ensures tries { TriedOnce self.old.seat.seat.me self.new.seat.seat.me }
     {
         match ww_seat::try_take(&mut self.seat, &world.board, self.kind, n) {
             Some(node) => {
@@ -70,11 +69,10 @@ impl Hand {
         requires new { is_among n self.old.held.items ≡ false }
         ensures fresh { CarriesFresh self.new }
         ensures taken { IfNone result (IsTaken (holding_of self.old) n (holding_of self.new)) }
-        ensures same { IfSome result (λ _. holding_of self.new ≡ holding_of self.old) }
-        ensures older { IfSome result (λ k. (k < self.old.seat.stamp) × (1 ≤ length self.old.held.items)) }
+        ensures tried { IfSome result (λ _. HasTried (holding_of self.old) (holding_of self.new)) }
+        ensures older { IfSome result (λ k. (1 ≤ k) × (k < self.old.seat.stamp) × (1 ≤ length self.old.held.items)) }
         ensures dies { IfSome result (λ k. HasToDie self.old.seat.seat.me n k self.new.seat.seat.me) }
         ensures unmet { IfNone result (met_of self.new ≡ None) }
-        ensures tries { TriedOnce self.old.seat.seat.me self.new.seat.seat.me }
     {
         let taken = ww_seat::take(
             rt,

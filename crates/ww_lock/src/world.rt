@@ -36,8 +36,8 @@ impl OpenFault {
     }
 }
 
-/// A graph whose nodes are locked, one lock a node. Threads share it by reference. Contracts see the graph that it was opened
-/// with, and how many passes it gave.
+/// A graph whose nodes are locked, one lock a node. Threads share it by reference. Contracts see its kind, the graph that it was
+/// opened with, and how many passes it gave.
 #[derive(Drop)]
 pub struct World {
     pub(crate) board: Board,
@@ -53,7 +53,7 @@ impl Model for World {
     ghost use Rattle.std.specs.Prelude.{◌≡◌, ◌≤◌, length};
     ghost use Rattle.ww_table.specs.Rule.{first_graph};
 
-    ghost view = { λ w. record { home = w.board.table.shared.table_id; first = first_graph w.board.table.shared.key; passes = length w.wakers.items } };
+    ghost view = { λ w. record { home = w.board.table.shared.table_id; kind = w.board.table.shared.key.kind; first = first_graph w.board.table.shared.key; passes = length w.wakers.items } };
 
     ghost invariant = { λ w. (length w.wakers.items ≤ 16) × (w.board.table.shared.key.seats ≡ length w.wakers.items) };
 }
@@ -72,6 +72,7 @@ impl World {
         budget: u32,
     ) -> Result<(World, Vec<Pass>), (Graph, OpenFault)>
         ensures ok { IfOk result (λ r. IsOpened r.0 r.1.items graph passes budget) }
+        ensures kind { IfOk result (λ r. r.0.kind ≡ kind) }
         ensures err { IfErr result (λ e. (e.0 ≡ graph) × IsOpenFault passes budget e.1) }
     {
         if passes == 0 || passes > MAX_PASSES || budget == 0 {
