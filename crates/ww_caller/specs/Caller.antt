@@ -6,9 +6,9 @@ use Rattle.ww_plain.specs.Meaning.{answer_of}
 use Rattle.ww_lock.specs.declared.prepared.Receipt.{Receipt}
 use Rattle.ww_lock.specs.Holding.{Holding}
 
--- the same context of the same pass, which may hold other locks
+-- the same context of the same pass, which may hold other locks, after some tries more to take one
 pub record IsLocked (s a : Holding) : Type 0 where
-  pub rest : a ≡ record s { held = a.held; seen = a.seen }
+  pub rest : a ≡ record s { held = a.held; seen = a.seen; tries = a.tries }
   pub size : length a.seen ≡ length s.seen
 
 -- it holds what it held, and this node

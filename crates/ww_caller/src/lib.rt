@@ -99,7 +99,7 @@ fn lock_one<R: Wait>(
     requires home { IsAtHome acquiring world.now }
     requires node { n < length world.now.first }
     ensures locked { IfOk result (IsLockedMore acquiring n) }
-    ensures refused { IfErr result (λ b. b.holding ≡ acquiring) }
+    ensures refused { IfErr result (λ b. IsLocked acquiring b.holding) }
 {
     match acquiring.lock(rt, world, n) {
         Lock::Locked(acquiring) => Ok(acquiring),

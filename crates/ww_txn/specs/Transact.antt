@@ -23,6 +23,7 @@ pub record IsTransacted (s a : Holding) (txn : Transaction) (told : Receipt) : T
     room = a.room;
     held = [];
     seen = a.seen;
+    tries = a.tries;
   }
   pub above : AreBelow told.place s.own
   pub seq : told.seq ≡ length s.own
@@ -49,6 +50,6 @@ fault_of (user.Already n) = Already n
 pub record IsReady (s : Holding) (txn : Transaction) (a : Holding) : Type 0 where
   pub some : 1 ≤ s.left
   pub no_double : FirstDouble (listed txn) None
-  pub rest : a ≡ record s { left = s.left - 1; stamp = a.stamp; held = a.held; seen = a.seen }
+  pub rest : a ≡ record s { left = s.left - 1; stamp = a.stamp; held = a.held; seen = a.seen; tries = a.tries }
   pub size : length a.seen ≡ length s.seen
   pub covers : Covers a txn

@@ -1,7 +1,7 @@
 -- Contexts of a pass, through their tries.
-use Rattle.std.proofs.Common.{◌≡◌, ℕ, ◌-◌, length, refl, sym, ap, subst, ◌∙◌, length-set}
+use Rattle.std.proofs.Common.{◌≡◌, ℕ, ◌-◌, length, refl, sym, ap, ◌∙◌, length-set}
 use Rattle.ww_lock.specs.Holding.{Holding}
-use Rattle.ww_lock.specs.Moves.{IsTaken}
+use Rattle.ww_lock.specs.Moves.{HasTried, IsTaken}
 use Rattle.ww_users.specs.Ways.{IsContext}
 use Rattle.ww_users.specs.Trips.{IsSameContext}
 
@@ -10,14 +10,20 @@ same_at_once s = record { rest = refl; size = refl }
 
 pub same_later : (s a b : Holding) → IsSameContext s a → IsSameContext a b → IsSameContext s b
 same_later s a b h more = record {
-  rest = more.rest ∙ ap (λ (c : Holding). record c { held = b.held; seen = b.seen }) h.rest;
+  rest = more.rest ∙ ap (λ (c : Holding). record c { held = b.held; seen = b.seen; tries = b.tries }) h.rest;
   size = more.size ∙ h.size;
 }
 
 pub same_taken : (s a : Holding) (n : ℕ) → IsTaken s n a → IsSameContext s a
 same_taken s a n taken = record {
-  rest = subst (λ (b : Holding). b ≡ record s { held = b.held; seen = b.seen }) (sym taken.added) refl;
+  rest = taken.added ∙ ap (λ (b : Holding). record s { held = b.held; seen = b.seen; tries = a.tries }) (sym taken.added);
   size = ap (λ (b : Holding). length b.seen) taken.added ∙ length-set s.seen n taken.contents;
+}
+
+pub same_tried : (s a : Holding) → HasTried s a → IsSameContext s a
+same_tried s a tried = record {
+  rest = tried.same ∙ ap (λ (b : Holding). record s { held = b.held; seen = b.seen; tries = a.tries }) (sym tried.same);
+  size = ap (λ (b : Holding). length b.seen) tried.same;
 }
 
 -- whichever locks it takes, it is a context of the same pass
@@ -27,6 +33,7 @@ context_later s a b h more =
     record {
       some = h.some;
       stamped = rw stamps h.stamped;
-      rest = more.rest ∙ ap (λ (c : Holding). record c { held = b.held; seen = b.seen }) h.rest ∙ ap (λ k. record s { left = s.left - 1; stamp = k; held = b.held; seen = b.seen }) (sym stamps);
+      rest = more.rest ∙ ap (λ (c : Holding). record c { held = b.held; seen = b.seen; tries = b.tries }) h.rest
+      ∙ ap (λ k. record s { left = s.left - 1; stamp = k; held = b.held; seen = b.seen; tries = b.tries }) (sym stamps);
       size = more.size ∙ h.size;
     }

@@ -12,7 +12,7 @@ use Rattle.ww_lock.specs.Holding.{Holding, Refused}
 use Rattle.ww_lock.specs.Moves.{IsTaken, IsRefused}
 use Rattle.ww_users.specs.Ways.{HoldsExactly}
 use Rattle.ww_users.specs.Trips.{IsSameContext, HoldsKept, IsContended, kept_nodes}
-use Rattle.ww_users.proofs.Contexts.{same_at_once, same_later, same_taken}
+use Rattle.ww_users.proofs.Contexts.{same_at_once, same_later, same_taken, same_tried}
 
 -- the context a came from s on the way to this place of the list; so much is still kept for an entry to come
 pub record IsOnTheWay (s a : Holding) (list : List ℕ) (place : ℕ) (kept : Option ℕ) : Type 0 where
@@ -78,7 +78,7 @@ different_so_far ns n (Some k) once absent = different_push ns n (different_tail
 pub way_contended : (s a : Holding) (b : Refused) (list : List ℕ) (place n : ℕ) (kept : Option ℕ) → place < length list → n ≡ get_or list place 0 → IsOnTheWay s a list place kept → IsRefused a n b
     → IsSameContext s b.holding × IsContended list b place
 way_contended s a b list place n kept lt is h refused = (
-  subst (λ (c : Holding). IsSameContext s c) (sym refused.same) h.same,
+  same_later s a b.holding h.same (same_tried a b.holding refused.tried),
   record {
     there = lt;
     entry = slice_get-get_or list place 0 lt ∙ ap Some (sym is) ∙ ap Some (sym refused.contended);

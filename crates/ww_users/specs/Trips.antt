@@ -11,9 +11,9 @@ use Rattle.ww_users.specs.declared.trip.Trip.{Trip}
 use Rattle.ww_users.specs.declared.trip.Trip.TheVariants.{Through, Already, Deadlk}
 use Rattle.ww_users.specs.Ways.{HoldsExactly}
 
--- the same context, which may hold other locks
+-- the same context, which may hold other locks, after some tries more to take one
 pub record IsSameContext (s a : Holding) : Type 0 where
-  pub rest : a ≡ record s { held = a.held; seen = a.seen }
+  pub rest : a ≡ record s { held = a.held; seen = a.seen; tries = a.tries }
   pub size : length a.seen ≡ length s.seen
 
 -- the same context, which holds this node too; what it held before is as it was

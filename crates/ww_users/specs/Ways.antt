@@ -9,14 +9,14 @@ use Rattle.ww_users.specs.declared.fault.UserFault.TheVariants.{PassSpent, Alrea
 -- a pass that comes back after a refusal: one context less to start, no context, no lock, and the same own list
 pub record IsReturned (s a : Holding) : Type 0 where
   pub some : 1 ≤ s.left
-  pub rest : a ≡ record s { left = s.left - 1; stamp = 0; held = []; room = a.room; seen = a.seen }
+  pub rest : a ≡ record s { left = s.left - 1; stamp = 0; held = []; room = a.room; seen = a.seen; tries = a.tries }
   pub size : length a.seen ≡ length s.seen
 
 -- a context of this pass, that holds some nodes
 pub record IsContext (s a : Holding) : Type 0 where
   pub some : 1 ≤ s.left
   pub stamped : 1 ≤ a.stamp
-  pub rest : a ≡ record s { left = s.left - 1; stamp = a.stamp; held = a.held; seen = a.seen }
+  pub rest : a ≡ record s { left = s.left - 1; stamp = a.stamp; held = a.held; seen = a.seen; tries = a.tries }
   pub size : length a.seen ≡ length s.seen
 
 -- it holds the nodes of the list, and no others

@@ -26,7 +26,7 @@ pub(crate) fn lock_one<R: Wait>(
     requires home { IsAtHome acquiring world.now }
     requires node { n < length world.now.first }
     ensures ok { IfOk result (HasLocked acquiring n) }
-    ensures err { IfErr result (λ b. b.holding ≡ acquiring) }
+    ensures err { IfErr result (λ b. IsSameContext acquiring b.holding) }
 {
     match acquiring.lock(rt, world, n) {
         Lock::Locked(acquiring) | Lock::Already(acquiring) => Ok(acquiring),
