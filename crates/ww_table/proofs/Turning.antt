@@ -1,5 +1,6 @@
 -- Turning the slots that are out.
-use Rattle.std.proofs.Common.{◌≡◌, ◌≢◌, ℕ, ◌+◌, ◌<◌, ◌≤◌, ◌^◌, Bool, true, false, eqb, eq-eqb, ne_eqb, List, [], ◌∷◌, ◌++◌, length, refl, sym, ap, ◌∙◌, subst, arith, Option, Some, None, append-nil, append_assoc, length-append}
+use Rattle.std.proofs.Common.{◌≡◌, ◌≢◌, ℕ, ◌+◌, ◌<◌, ◌≤◌, ◌^◌, Bool, true, false, eqb, eq-eqb, ne_eqb, List, [], ◌∷◌, ◌++◌, length, refl, sym, ap, ◌∙◌, subst, arith, Option, Some, None, append-nil, append_assoc, length-append, get_or}
+use Rattle.std.proofs.lemmas.List.{get_or_push}
 use Rattle.std.specs.Bool.{if◌then◌else◌}
 use Rattle.std.specs.Prelude.{option_to_list, IsSome}
 use Rattle.ww_table.specs.declared.cells.Cell.{Cell}
@@ -35,6 +36,15 @@ ends_alike (x ∷ xs) (y ∷ ys) a b e = let more = ends_alike xs ys a b (ap (λ
 pub last_number : (slots : List (ℕ × Cell)) (ns : List ℕ) (n : ℕ) → numbers_of slots ≡ ns ++ n ∷ [] → (y : Cell) × (xs : List (ℕ × Cell)) × (slots ≡ (n, y) ∷ xs) × (ns ≡ numbers_of xs)
 last_number [] ns n e = absurd (let l = ap length e in let m = length-append ns (n ∷ []) in omega arith)
 last_number (x ∷ xs) ns n e = let both = ends_alike (numbers_of xs) ns x.0 n e in (x.1, xs, (λ i. (both.1 i, x.1) ∷ xs), sym both.0)
+
+-- what is read at the last place
+pub last_read : (items ns : List ℕ) (n d i : ℕ) → items ≡ ns ++ n ∷ [] → i + 1 ≡ length items → get_or items i d ≡ n
+last_read items ns n d i is at = rw is (get_or_push ns n d i (omega (arith, ap length is, length-append ns (n ∷ []), at)))
+
+-- the slot whose number is read at the last place was taken last
+pub last_taken : (slots : List (ℕ × Cell)) (items : List ℕ) (n d i : ℕ) → items ≡ numbers_of slots → i + 1 ≡ length items → get_or items i d ≡ n → (y : Cell) × (xs : List (ℕ × Cell)) × (slots ≡ (n, y) ∷ xs)
+last_taken [] items n d i is at read = absurd (let l = ap length is in omega arith)
+last_taken (x ∷ xs) items n d i is at read = (x.1, xs, ap (λ (j : ℕ). (j, x.1) ∷ xs) (sym (last_read items (numbers_of xs) x.0 d i is at) ∙ read))
 
 -- what a `pop` leaves
 pub popped : (items ns new : List ℕ) (n : ℕ) (last : Option ℕ) → items ≡ ns ++ n ∷ [] → items ≡ new ++ option_to_list last → (0 < length items → IsSome last) → new ≡ ns

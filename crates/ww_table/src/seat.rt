@@ -200,13 +200,12 @@ pub(crate) fn bring(seat: &mut Place, order: &mut ArrayVec<u8, MAX_OUT>, slot: u
     ensures order { order.new.items ≡ numbers_of seat.new.me.1 }
 {
     for _ in 0..order.len() {
+        if order[order.len() - 1] == slot {
+            return;
+        }
         let Some(last) = order.pop() else {
             return;
         };
-        if last == slot {
-            order.push(last);
-            return;
-        }
         order.insert(0, last);
         seat.turn();
     }
