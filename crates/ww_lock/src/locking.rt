@@ -61,6 +61,7 @@ impl Hand {
     }
 
     /// Takes a lock, and waits for it where the rules say so; or tells the stamp of the older context that was met.
+    #[inline]
     pub(crate) fn take<R: Wait>(&mut self, rt: &R, world: &World, n: u8) -> Option<u64>
         requires home { IsAtHome (holding_of self.old) world.now }
         requires fresh { CarriesFresh self.old }
@@ -108,6 +109,7 @@ impl Hand {
     }
 
     /// Gives all locks back, the one taken last first: its node lies on top of what the seat has out.
+    #[inline]
     pub(crate) fn give_all<R: Wait>(&mut self, rt: &R, world: &World)
         requires home { IsAtHome (holding_of self.old) world.now }
         requires carries { Carries self.old }

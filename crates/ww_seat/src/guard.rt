@@ -16,6 +16,7 @@ use std::sync::Wait;
 use ww_table::{Board, Seat16};
 
 /// Goes inside the guard of a lock. Who is inside it makes a few steps there and waits for nobody, so this spins.
+#[cold]
 pub(crate) fn enter<R: Wait>(rt: &R, seat: &mut Seat16, board: &Board, lock: u8)
     requires seat { IsSeated board.now.table.shared.table_id seat.old }
     requires orderly { IsOrderly (length (first_graph board.now.table.shared.key)) seat.old.seat.me }

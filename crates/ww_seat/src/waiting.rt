@@ -11,12 +11,12 @@ use crate::fast::first_try;
 use crate::guard::enter;
 use crate::look::{Look, look_at};
 use crate::wake::Wake;
-use crossbeam_utils::Backoff as Pause;
 use crossbeam_utils::sync::{Parker, Unparker};
 use std::sync::Wait;
 use ww_plain::Node;
 use ww_queue::Kind;
 use ww_table::{Board, Seat16};
+use ww_word::unpack;
 
 /// Takes a lock and gives its node, or tells the older stamp that was met. Where the first try fails the seat waits: it
 /// looks, and parks, until a look ends its waiting.
@@ -46,7 +46,45 @@ pub fn take<R: Wait>(
     }
 }
 
+/// How often a waiter reads the words before it parks.
+const READS: u32 = 1_000;
+
+/// The own signs stand behind the owner words and the guards, as a board counts its words.
+const SIGNS: usize = 128;
+
+/// Whether a look may end the waiting: the lock is free or handed to the seat, or somebody has condemned it.
+fn is_due(seat: &Seat16, board: &Board, lock: u8) -> bool
+    requires seat { IsSeated board.now.table.shared.table_id seat.now }
+    requires lock { lock < length (first_graph board.now.table.shared.key) }
+{
+    let who = seat.who();
+    if board.peek(SIGNS + usize::from(who)) != 0 {
+        return true;
+    }
+    match unpack(board.peek(usize::from(lock))) {
+        None => true,
+        Some(owner) => match owner.seat {
+            None => true,
+            Some(number) => number == who,
+        },
+    }
+}
+
+/// Spins for a moment, and tells whether a look may end the waiting.
+fn is_due_soon(seat: &Seat16, board: &Board, lock: u8) -> bool
+    requires seat { IsSeated board.now.table.shared.table_id seat.now }
+    requires lock { lock < length (first_graph board.now.table.shared.key) }
+{
+    for _ in 0..READS {
+        if is_due(seat, board, lock) {
+            return true;
+        }
+    }
+    false
+}
+
 /// Waits for a lock. A waiter spins for a moment before it parks; whatever ends that, it looks again.
+#[cold]
 fn wait<R: Wait>(
     rt: &R,
     seat: &mut Seat16,
@@ -67,15 +105,15 @@ fn wait<R: Wait>(
     ensures tries { seat.new.seat.me.0.part.core.tries ≡ seat.old.seat.me.0.part.core.tries }
     ensures records { seat.new.records ≡ seat.old.records }
 {
-    let pause = Pause::new();
     let mut is_woken = false;
     for _ in rt.forever() {
         match visit(rt, seat, board, kind, lock, is_woken, wakers) {
             Look::Locked(node) => return Ok(node),
             Look::Deadlk(met) => return Err(met),
             Look::Waits => {
-                pause.snooze();
-                parker.park(rt);
+                if !is_due_soon(seat, board, lock) {
+                    parker.park(rt);
+                }
                 is_woken = true;
             }
         }
