@@ -12,9 +12,10 @@ use std::marker::Model;
 use ww_plain::Graph;
 use ww_queue::Kind;
 use ww_table::{Board, Seat16};
+use ww_word::MAX_SEATS;
 
 /// How many passes a world has at most.
-const MAX_PASSES: u8 = 16;
+const MAX_PASSES: u8 = MAX_SEATS as u8;
 
 /// Why a world was not opened.
 #[derive(Clone, Copy, Debug, PartialEq, Eq)]

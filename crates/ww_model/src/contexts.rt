@@ -3,9 +3,7 @@
 use crate::event::{Answer, NotPossible};
 use crate::state::Core;
 use ww_queue::Kind;
-
-/// The greatest stamp that an owner word has room for.
-const MAX_STAMP: u64 = (1 << 56) - 1;
+use ww_word::MAX_STAMP;
 
 impl Core {
     ghost use Rattle.std.specs.Prelude.{◌↔◌, IsTrue};

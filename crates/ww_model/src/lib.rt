@@ -14,5 +14,5 @@ mod waits;
 
 pub use event::{Answer, Event, NotPossible};
 pub use run::{ReplayFault, replay};
-pub use state::{Core, Holder, MAX_LOCKS, MAX_SEATS};
+pub use state::{Core, Holder, MAX_LOCKS};
 pub use waits::{condemned_in, cycle_in};

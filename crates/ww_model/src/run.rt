@@ -1,5 +1,6 @@
 ghost use Rattle.std.specs.Prelude.{◌≡◌, ◌≤◌, IfOk, IfErr};
-ghost use Rattle.ww_model.specs.declared.state.TheConstants.{MAX_LOCKS, MAX_SEATS};
+ghost use Rattle.ww_word.specs.declared.owner.TheConstants.{MAX_SEATS};
+ghost use Rattle.ww_model.specs.declared.state.TheConstants.{MAX_LOCKS};
 ghost use Rattle.ww_model.specs.State.{start};
 ghost use Rattle.ww_model.specs.Run.{state_after, IsRun, Reached};
 ghost use Rattle.ww_model.specs.Snapshot.{state_of};

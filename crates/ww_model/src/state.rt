@@ -7,9 +7,6 @@ use ww_queue::{Entry, Kind, Queue};
 /// How many locks a core has at most.
 pub const MAX_LOCKS: usize = 64;
 
-/// How many seats a core has at most.
-pub const MAX_SEATS: usize = 16;
-
 /// Who owns a lock.
 #[derive(Clone, Copy, Debug, PartialEq, Eq)]
 pub enum Holder {
@@ -54,6 +51,7 @@ impl Model for Core {
 
 impl Core {
     ghost use Rattle.std.specs.Prelude.{ℕ, ◌≡◌, ◌<◌, ◌≤◌, ◌⊎◌, IfOk};
+    ghost use Rattle.ww_word.specs.declared.owner.TheConstants.{MAX_SEATS};
     ghost use Rattle.ww_model.specs.declared.state.Holder.TheVariants.{Taken, Handed};
     ghost use Rattle.ww_model.specs.State.{start};
     ghost use Rattle.ww_model.specs.Run.{Reached};

@@ -7,9 +7,10 @@ ghost use Rattle.ww_model.specs.Waits.{IsOneOf, IsRing, IsCondemned, IsLeastRing
 ghost use Rattle.ww_model.specs.Snapshot.{state_of};
 ghost use Rattle.ww_model.specs.Least.{lesser_of};
 
-use crate::state::{Core, Holder, MAX_SEATS};
+use crate::state::{Core, Holder};
 use crate::terms::is_guard_of;
 use arrayvec::ArrayVec;
+use ww_word::MAX_SEATS;
 
 /// A ring of contexts that each wait for the next, and the last for the first: the one with the least seat that is in any
 /// ring, beginning with that seat. `None` where there is no ring. The kernel keeps no such list: where a ring would close,

@@ -14,9 +14,10 @@ use ww_parts::{
 };
 use ww_plain::{Graph, MAX_NODES, Node, PORTS, Txn};
 use ww_queue::Kind;
+use ww_word::MAX_SEATS;
 
 /// How many scripts there are at most.
-const MAX_SCRIPTS: usize = 16;
+const MAX_SCRIPTS: usize = MAX_SEATS;
 
 /// How many transactions a script has at most.
 const MAX_TRANSACTIONS: usize = 10_000;

@@ -4,7 +4,8 @@ use Rattle.std.specs.List.{AllByRecursion}
 use Rattle.std.specs.Global.{Vec}
 use Rattle.serde_json.specs.Data.{Data}
 use Rattle.ww_queue.specs.declared.kind.Kind.{Kind}
-use Rattle.ww_model.specs.declared.state.TheConstants.{MAX_LOCKS, MAX_SEATS}
+use Rattle.ww_word.specs.declared.owner.TheConstants.{MAX_SEATS}
+use Rattle.ww_model.specs.declared.state.TheConstants.{MAX_LOCKS}
 use Rattle.ww_model.specs.declared.event.Event.{Event}
 use Rattle.ww_model.specs.declared.event.Event.TheVariants.{Begin, Clear, Fast, FastGive, Guard, Join, Sign, Take, Ask, Give, Die, Unguard, Commit, End}
 use Rattle.ww_parts.specs.declared.fault.InputFault.{InputFault}

@@ -8,9 +8,10 @@ use crate::events::event_of;
 use serde_json::Value;
 use std::alloc::Global;
 use std::marker::Model;
-use ww_model::{Event, MAX_LOCKS, MAX_SEATS};
+use ww_model::{Event, MAX_LOCKS};
 use ww_parts::{InputFault, counted_of, kind_of, member_of, only_of, ranged_of};
 use ww_queue::Kind;
+use ww_word::MAX_SEATS;
 
 /// How many events a schedule has at most.
 const MAX_EVENTS: usize = 10_000;

@@ -1,14 +1,15 @@
 use crossbeam_utils::sync::Unparker;
+use ww_word::MAX_SEATS;
 
 /// Whom a seat wakes once it is outside the guard.
 #[derive(Drop)]
 pub(crate) struct Wake {
-    seats: [bool; 16],
+    seats: [bool; MAX_SEATS],
 }
 
 impl Wake {
     pub(crate) fn new() -> Wake {
-        Wake { seats: [false; 16] }
+        Wake { seats: [false; MAX_SEATS] }
     }
 
     pub(crate) fn add(&mut self, seat: u8) {

@@ -1,9 +1,15 @@
 //! Laws of owner words: each function's contract is one.
 
-ghost use Rattle.std.specs.Prelude.{◌≡◌};
+ghost use Rattle.std.specs.Prelude.{◌≡◌, ◌+◌, ◌^◌};
 ghost use Rattle.ww_word.specs.Laws.{PackingFits, PackingIsInjective, UnpackingIsInverse, ReadingIsUnique, WaitersAddOne, HandingIsSeatAndStamp, HandingTellsPickup, ZeroIsIdle};
 
-use crate::owner::{HANDOFF, PICKUP, WAITERS};
+use crate::owner::{HANDOFF, MAX_SEATS, MAX_STAMP, PICKUP, WAITERS};
+
+/// There are 16 seats, and a stamp has 56 bits.
+pub fn limits()
+    ensures seats { MAX_SEATS ≡ 16 }
+    ensures stamp { MAX_STAMP + 1 ≡ 2 ^ 56 }
+{}
 
 /// The numbers of the flags.
 pub fn flag_numbers()

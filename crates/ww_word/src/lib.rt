@@ -4,4 +4,4 @@
 pub mod laws;
 mod owner;
 
-pub use owner::{HANDOFF, Owner, PICKUP, WAITERS, pack, unpack};
+pub use owner::{HANDOFF, MAX_SEATS, MAX_STAMP, Owner, PICKUP, WAITERS, pack, unpack};

@@ -10,6 +10,12 @@ pub const HANDOFF: u8 = 2;
 /// Flag of an owner word: the lock was handed to its owner, which has not picked it up yet.
 pub const PICKUP: u8 = 4;
 
+/// How many seats there are: one of them owns a lock, or none does.
+pub const MAX_SEATS: usize = 16;
+
+/// The greatest stamp that an owner word has room for.
+pub const MAX_STAMP: u64 = (1 << 56) - 1;
+
 /// Who owns a lock, and which of its flags stand. The flags are the kernel's; that the word also tells the owner's seat
 /// and stamp is ours, so that one load answers whether the owner is an older context.
 #[derive(Clone, Copy, Debug, PartialEq, Eq)]
@@ -62,8 +68,9 @@ impl Owner {
         ensures { IsTrue result ↔ IsValid self }
     {
         let is_free_lock = self.stamp == 0 && self.flags <= WAITERS;
-        self.seat.map_or(is_free_lock, |seat| seat < 16)
-            && self.stamp < 1 << 56
+        self.seat
+            .map_or(is_free_lock, |seat| usize::from(seat) < MAX_SEATS)
+            && self.stamp <= MAX_STAMP
             && are_flags(self.flags)
     }
 }
