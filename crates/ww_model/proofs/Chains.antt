@@ -1,5 +1,5 @@
 -- Chains of seats of which each waits for the next.
-use Rattle.std.proofs.Common.{ℕ, suc, ◌==◌, true, ◌≡◌, ◌≢◌, ◌<◌, ◌+◌, ◌⊎◌, ⊎_elim, inl, inr, false, List, [], ◌∷◌, ◌++◌, length, get_or, Option, Some, None, MatchOption, refl, sym, ap, ◌∙◌, subst, arith, true≢false}
+use Rattle.std.proofs.Common.{ℕ, suc, ◌==◌, true, ◌≡◌, ◌≢◌, ◌<◌, ◌+◌, ◌⊎◌, ⊎_elim, inl, inr, false, List, [], ◌∷◌, ◌++◌, length, get_or, Option, Some, None, refl, sym, ap, ◌∙◌, subst, arith, true≢false}
 use Rattle.std.proofs.lemmas.List.{get_or_past}
 use Rattle.std.specs.List.{list_any}
 use Rattle.std.proofs.lemmas.Bool.{cases_lt}
@@ -13,7 +13,7 @@ use Rattle.ww_model.specs.declared.state.Holder.TheVariants.{Nobody, Taken, Hand
 use Rattle.ww_model.specs.State.{State}
 use Rattle.ww_model.specs.Lawful.{IsLawful}
 use Rattle.ww_model.specs.Run.{Reached}
-use Rattle.ww_model.specs.Waits.{WaitsAt, WaitsFor, Leads, IsCycle, IsNoneOf, Differ, IsOneOf, IsRing, IsLeastRing}
+use Rattle.ww_model.specs.Waits.{WaitsAt, WaitsFor, Leads, IsCycle, IsNoneOf, Differ, IsOneOf, IsRing, IsLeastRing, Finds}
 use Rattle.ww_model.specs.Laws.{OfLawful, EachWaitsForOne, RingsAreApart}
 use Rattle.ww_model.specs.Least.{IsRingFrom}
 use Rattle.ww_model.proofs.Leaving.{waiters_are_seats}
@@ -275,9 +275,8 @@ waiting_within queues n s there = ⊎_elim (λ within. within)
     (λ past. absurd (subst (λ (q : List Entry). Stands q s) (get_or_past queues n [] past) there).1) (cases_lt n (length queues))
 
 pub awaited_told : (c : State) (a n : ℕ) (o : Option ℕ) → Stands (c.queue n) a → c.guard n ≢ suc a →
-    MatchOption o ((b : ℕ) → a ≢ b → ¬ ((c.owner n ≡ Taken b) ⊎ (c.owner n ≡ Handed b))) (λ b. (a ≢ b) × ((c.owner n ≡ Taken b) ⊎ (c.owner n ≡ Handed b))) →
-    MatchOption o ((b : ℕ) → ¬ WaitsAt c a b n) (λ b. WaitsAt c a b n)
-awaited_told c a n None stands outside told = λ b w. told b w.other w.owner
+    Finds (λ b. (a ≢ b) × ((c.owner n ≡ Taken b) ⊎ (c.owner n ≡ Handed b))) o → Finds (λ b. WaitsAt c a b n) o
+awaited_told c a n None stands outside told = λ b w. told b (w.other, w.owner)
 awaited_told c a n (Some b) stands outside told = record { stands = stands; outside = outside; owner = told.1; other = told.0 }
 
 pub one_tells : (s : ℕ) (r : List ℕ) → list_any (λ y. y == s) r ≡ true → IsOneOf s r
@@ -297,13 +296,13 @@ ring_members c run ring a is one = let w = reaches_waits c a a (cycle_returns c 
 
 -- the first seat from which there is a ring is the least of all rings
 pub least_ring : (c : State) → Reached c → (first : ℕ) (ring : List ℕ) → IsRingFrom c first ring →
-    ((k : ℕ) → k < first → (other : List ℕ) → IsRing c other → ¬ IsOneOf k other) → IsLeastRing c ring
+    ((k : ℕ) → k < first → (other : List ℕ) → ¬ (IsRing c other × IsOneOf k other)) → IsLeastRing c ring
 least_ring c run first ring from lesser = record {
   first = first;
   rest = from.rest;
   parts = from.parts;
   ring_is = from.ring_is;
-  least = λ other a is one. ⊎_elim (λ less. absurd (lesser a less other is one)) (λ more. more) (cases_lt a first);
+  least = λ other a is one. ⊎_elim (λ less. absurd (lesser a less other (is, one))) (λ more. more) (cases_lt a first);
 }
 
 -- one lock more has been looked at

@@ -1,20 +1,16 @@
 -- The condemned seat with the least number.
-use Rattle.std.proofs.Common.{ℕ, ◌≡◌, ◌≤◌, ◌⊎◌, ⊎_elim, inl, inr, List, [], ◌∷◌, ◌++◌, min, Option, Some, None, IsSome, MatchOption, rules, sym, subst, arith}
+use Rattle.std.proofs.Common.{ℕ, ◌≡◌, ◌≤◌, ◌⊎◌, ⊎_elim, inl, inr, List, [], ◌∷◌, ◌++◌, min, Option, Some, None, IsSome, rules, sym, subst, arith}
 use Rattle.std.proofs.lemmas.Bool.{cases_lt}
 use Rattle.ww_model.specs.State.{State}
 use Rattle.ww_model.specs.Run.{Reached}
-use Rattle.ww_model.specs.Waits.{IsOneOf, IsRing, IsCondemned, IsLeastCondemned}
+use Rattle.ww_model.specs.Waits.{IsRing, IsCondemned, IsLeastCondemned, CondemnedOf}
 use Rattle.ww_model.specs.Least.{lesser_of}
 use Rattle.ww_model.proofs.Rings.{rings_are_condemned}
 use Rattle.ww_model.proofs.Chains.{one_of_more, one_of_old, one_of_new}
 
 module _ (c : State) where
-  -- what was found among the seats
-  abbrev pub Found : List ℕ → Option ℕ → Type 0
-  Found seats o = MatchOption o ((a : ℕ) → IsOneOf a seats → ¬ IsCondemned c a) (IsLeastCondemned c seats)
-
-  pub found_same : (seats : List ℕ) (s : ℕ) (o : Option ℕ) → Found seats o → ¬ IsCondemned c s → Found (seats ++ s ∷ []) o
-  found_same seats s None found free = λ a one is. ⊎_elim (λ old. found a old is) (λ same. free (subst (IsCondemned c) same is)) (one_of_more seats s a one)
+  pub found_same : (seats : List ℕ) (s : ℕ) (o : Option ℕ) → CondemnedOf c seats o → ¬ IsCondemned c s → CondemnedOf c (seats ++ s ∷ []) o
+  found_same seats s None found free = λ a is. ⊎_elim (λ old. found a (old, is.1)) (λ same. free (subst (IsCondemned c) same is.1)) (one_of_more seats s a is.0)
   found_same seats s (Some a) found free = record {
     member = one_of_old seats s a found.member;
     condemned = found.condemned;
@@ -24,11 +20,11 @@ module _ (c : State) where
   lesser : (a s : ℕ) → ((min a s ≡ a) × (a ≤ s)) ⊎ ((min a s ≡ s) × (s ≤ a))
   lesser a s = ⊎_elim (λ less. inl (omega arith, omega arith)) (λ more. inr (omega arith, more)) (cases_lt a s)
 
-  pub found_more : (seats : List ℕ) (s : ℕ) (o : Option ℕ) → Found seats o → IsCondemned c s → Found (seats ++ s ∷ []) (Some (lesser_of o s))
+  pub found_more : (seats : List ℕ) (s : ℕ) (o : Option ℕ) → CondemnedOf c seats o → IsCondemned c s → CondemnedOf c (seats ++ s ∷ []) (Some (lesser_of o s))
   found_more seats s None found here = record {
     member = one_of_new seats s;
     condemned = here;
-    least = λ b one is. ⊎_elim (λ old. absurd (found b old is)) (λ same. omega arith) (one_of_more seats s b one);
+    least = λ b one is. ⊎_elim (λ old. absurd (found b (old, is))) (λ same. omega arith) (one_of_more seats s b one);
   }
   found_more seats s (Some a) found here = ⊎_elim
       (λ first. subst (IsLeastCondemned c (seats ++ s ∷ [])) (sym first.0) (record {
@@ -44,6 +40,6 @@ module _ (c : State) where
       (lesser a s)
 
   -- in a ring somebody is
-  pub found_some : Reached c → (ring : List ℕ) (o : Option ℕ) → Found ring o → IsRing c ring → IsSome o
-  found_some run ring None found is = let who = rings_are_condemned c run ring is in absurd (found who.0 who.1 who.2)
+  pub found_some : Reached c → (ring : List ℕ) (o : Option ℕ) → CondemnedOf c ring o → IsRing c ring → IsSome o
+  found_some run ring None found is = let who = rings_are_condemned c run ring is in absurd (found who.0 (who.1, who.2))
   found_some run ring (Some a) found is = search rules

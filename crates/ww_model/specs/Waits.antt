@@ -1,5 +1,5 @@
 -- Who waits for whom, cycles of waits, and who is condemned.
-use Rattle.std.specs.Prelude.{ℕ, suc, ◌≡◌, ◌≢◌, ◌<◌, ◌≤◌, ◌⊎◌, List, [], ◌∷◌, IsSome}
+use Rattle.std.specs.Prelude.{ℕ, suc, ◌≡◌, ◌≢◌, ◌<◌, ◌≤◌, ◌⊎◌, List, [], ◌∷◌, Option, IsSome, MatchOption}
 use Rattle.ww_queue.specs.Queue.{Stands}
 use Rattle.ww_model.specs.declared.state.Holder.TheVariants.{Taken, Handed}
 use Rattle.ww_model.specs.State.{State, OwnsSome, dies}
@@ -74,3 +74,15 @@ module _ (c : State) where
     pub member : IsOneOf a seats
     pub condemned : IsCondemned a
     pub least : (b : ℕ) → IsOneOf b seats → IsCondemned b → a ≤ b
+
+-- the chosen one of those that are such is found, or nothing where none is
+abbrev pub FindsChosen : {A B : Type 0} → (A → Type 0) → (B → Type 0) → Option B → Type 0
+FindsChosen {A} IsSuch IsChosen found = MatchOption found ((a : A) → ¬ IsSuch a) IsChosen
+
+-- one of those that are such is found, or nothing where none is
+abbrev pub Finds : {A : Type 0} → (A → Type 0) → Option A → Type 0
+Finds IsSuch found = FindsChosen IsSuch IsSuch found
+
+-- the condemned one of these seats with the least number is found, or nothing where none is condemned
+abbrev pub CondemnedOf : State → List ℕ → Option ℕ → Type 0
+CondemnedOf c seats found = FindsChosen (λ a. IsOneOf a seats × IsCondemned c a) (IsLeastCondemned c seats) found

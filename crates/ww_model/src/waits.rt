@@ -1,9 +1,9 @@
 //! Who waits for whom: the rings of contexts that wait for each other, and who of them is condemned.
 
-ghost use Rattle.std.specs.Prelude.{ℕ, ◌≡◌, ◌≢◌, ◌==◌, ◌⊎◌, List, IsSome, MatchOption};
+ghost use Rattle.std.specs.Prelude.{◌≡◌, ◌≢◌, ◌==◌, ◌⊎◌, IsSome};
 ghost use Rattle.std.specs.List.{list_any};
 ghost use Rattle.ww_model.specs.declared.state.Holder.TheVariants.{Taken, Handed};
-ghost use Rattle.ww_model.specs.Waits.{IsOneOf, IsRing, IsCondemned, IsLeastRing, IsLeastCondemned};
+ghost use Rattle.ww_model.specs.Waits.{IsRing, IsLeastRing, FindsChosen, Finds, CondemnedOf};
 ghost use Rattle.ww_model.specs.Snapshot.{state_of};
 ghost use Rattle.ww_model.specs.Least.{lesser_of};
 
@@ -16,7 +16,7 @@ use ww_word::MAX_SEATS;
 /// ring, beginning with that seat. `None` where there is no ring. The kernel keeps no such list: where a ring would close,
 /// its rules have condemned a member before.
 pub fn cycle_in(core: &Core) -> Option<ArrayVec<u8, MAX_SEATS>>
-    ensures { let c = state_of core.now in MatchOption result ((ring : List ℕ) → ¬ IsRing c ring) (λ ring. IsLeastRing c ring.items) }
+    ensures { let c = state_of core.now in FindsChosen (IsRing c) (λ ring. IsLeastRing c ring.items) result }
 {
     // Where nobody's ring is found there is none, since whoever waits is one of the seats: the core's state was reached,
     // which is known where a field is used.
@@ -32,7 +32,7 @@ pub fn cycle_in(core: &Core) -> Option<ArrayVec<u8, MAX_SEATS>>
 /// The seat of the list with the least number that is condemned: signed, and due to die where it waits. In a ring there
 /// is always one.
 pub fn condemned_in(core: &Core, ring: &[u8]) -> Option<u8>
-    ensures least { let c = state_of core.now in MatchOption result ((a : ℕ) → IsOneOf a ring.now → ¬ IsCondemned c a) (IsLeastCondemned c ring.now) }
+    ensures least { CondemnedOf (state_of core.now) ring.now result }
     ensures ring { IsRing (state_of core.now) ring.now → IsSome result }
 {
     // In a reached state each ring has a condemned member; that this one was is known where a field is used.
@@ -47,14 +47,14 @@ pub fn condemned_in(core: &Core, ring: &[u8]) -> Option<u8>
 }
 
 impl Core {
-    ghost use Rattle.std.specs.Prelude.{ℕ, ◌≡◌, ◌<◌, ◌↔◌, List, length, IsTrue, MatchOption};
-    ghost use Rattle.ww_model.specs.Waits.{WaitsAt, WaitsFor, IsOneOf, IsRing, IsCondemned};
+    ghost use Rattle.std.specs.Prelude.{◌≡◌, ◌<◌, ◌↔◌, IsTrue};
+    ghost use Rattle.ww_model.specs.Waits.{WaitsAt, WaitsFor, IsOneOf, IsRing, IsCondemned, FindsChosen, Finds};
     ghost use Rattle.ww_model.specs.Snapshot.{state_of};
     ghost use Rattle.ww_model.specs.Least.{IsRingFrom, DiesAt, DiesSome};
 
     /// The seat for which this one waits at the lock, if it waits there.
     fn awaited_at(&self, seat: u8, lock: u8) -> Option<u8>
-        ensures { let c = state_of self.now in MatchOption result ((b : ℕ) → ¬ WaitsAt c seat b lock) (λ b. WaitsAt c seat b lock) }
+        ensures { Finds (λ b. WaitsAt (state_of self.now) seat b lock) result }
     {
         if !self.waits_at(seat, lock) {
             return None;
@@ -68,7 +68,7 @@ impl Core {
 
     /// The seat for which this one waits, if it waits at some lock: it stands in one wait list at most.
     fn waits_for(&self, seat: u8) -> Option<u8>
-        ensures { let c = state_of self.now in MatchOption result ((b : ℕ) → ¬ WaitsFor c seat b) (λ b. WaitsFor c seat b) }
+        ensures { Finds (WaitsFor (state_of self.now) seat) result }
     {
         for lock in 0..self.locks() {
             if let Some(owner) = self.awaited_at(seat, lock) {
@@ -81,7 +81,7 @@ impl Core {
     /// The ring that begins with this seat, if the seat is in a ring.
     fn ring_from(&self, first: u8) -> Option<ArrayVec<u8, MAX_SEATS>>
         requires { first < (state_of self.now).seats }
-        ensures { let c = state_of self.now in MatchOption result ((ring : List ℕ) → IsRing c ring → ¬ IsOneOf first ring) (λ ring. IsRingFrom c first ring.items) }
+        ensures { let c = state_of self.now in FindsChosen (λ ring. IsRing c ring × IsOneOf first ring) (λ ring. IsRingFrom c first ring.items) result }
     {
         // In a reached state, which this one is known to be where a field is used, nobody waits for two: there is one way
         // to go. It ends, or it comes to a seat where it was.
@@ -130,7 +130,7 @@ impl Core {
 
 /// The owner of a lock, if that is another seat than this one.
 fn other_owner(holder: Holder, seat: u8) -> Option<u8>
-    ensures { MatchOption result ((b : ℕ) → seat ≢ b → ¬ ((holder ≡ Taken b) ⊎ (holder ≡ Handed b))) (λ b. (seat ≢ b) × ((holder ≡ Taken b) ⊎ (holder ≡ Handed b))) }
+    ensures { Finds (λ b. (seat ≢ b) × ((holder ≡ Taken b) ⊎ (holder ≡ Handed b))) result }
 {
     match holder {
         Holder::Nobody => None,

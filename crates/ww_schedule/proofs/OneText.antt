@@ -12,9 +12,9 @@ use Rattle.ww_model.specs.Event.{Possible, after}
 use Rattle.ww_model.specs.Run.{state_after, IsRun, RunsAreLawful}
 use Rattle.ww_model.specs.Replay.{IsFirstImpossible}
 use Rattle.ww_model.specs.Lawful.{IsBase}
-use Rattle.ww_model.specs.Waits.{WaitsFor, Leads, IsNoneOf, IsRing, IsLeastRing}
+use Rattle.ww_model.specs.Waits.{WaitsFor, Leads, IsNoneOf, IsRing, IsLeastRing, CondemnedOf}
 use Rattle.ww_schedule.specs.Schedules.{Timetable}
-use Rattle.ww_schedule.specs.Replay.{StopsAt, front, RingOf, seats_of, CondemnedOf, Replay, first_state, last_state, IsReplay, replay_lines, HasOneText}
+use Rattle.ww_schedule.specs.Replay.{StopsAt, front, RingOf, seats_of, Replay, first_state, last_state, IsReplay, replay_lines, HasOneText}
 
 -- ---- where it stops
 
@@ -95,8 +95,8 @@ module _ (c : State) (base : IsBase c) where
 
 one_condemned : (c : State) (seats : List ℕ) (a b : Option ℕ) → CondemnedOf c seats a → CondemnedOf c seats b → a ≡ b
 one_condemned c seats None None p q = refl
-one_condemned c seats None (Some b) p q = absurd (p b q.member q.condemned)
-one_condemned c seats (Some a) None p q = absurd (q a p.member p.condemned)
+one_condemned c seats None (Some b) p q = absurd (p b (q.member, q.condemned))
+one_condemned c seats (Some a) None p q = absurd (q a (p.member, p.condemned))
 one_condemned c seats (Some a) (Some b) p q = ap Some (le_antisymm (p.least b q.member q.condemned) (q.least a p.member p.condemned))
 
 -- ---- together

@@ -1,5 +1,5 @@
 -- What comes of a schedule.
-use Rattle.std.specs.Prelude.{ℕ, zero, suc, ◌≡◌, List, [], ◌∷◌, ◌++◌, take, Option, Some, None, MatchOption}
+use Rattle.std.specs.Prelude.{ℕ, zero, suc, ◌≡◌, List, [], ◌∷◌, ◌++◌, take, Option, Some, None}
 use Rattle.ww_model.specs.declared.state.Holder.{Holder}
 use Rattle.ww_model.specs.declared.state.Holder.TheVariants.{Nobody, Taken, Handed}
 use Rattle.ww_model.specs.declared.event.Event.{Event}
@@ -8,7 +8,7 @@ use Rattle.ww_model.specs.State.{State, start}
 use Rattle.ww_model.specs.Event.{after, answer}
 use Rattle.ww_model.specs.Run.{state_after, IsRun}
 use Rattle.ww_model.specs.Replay.{IsFirstImpossible}
-use Rattle.ww_model.specs.Waits.{IsOneOf, IsRing, IsLeastRing, IsCondemned, IsLeastCondemned}
+use Rattle.ww_model.specs.Waits.{IsRing, IsLeastRing, FindsChosen, CondemnedOf}
 use Rattle.ww_schedule.specs.Schedules.{Timetable}
 use Rattle.ww_parts.specs.Pieces.{numbered}
 use Rattle.ww_schedule.specs.ScheduleText.{event_line, impossible_text, ring_line, condemned_line, lock_line, seat_line}
@@ -27,17 +27,12 @@ front (Some index) events = take index events
 
 -- the ring of the state, if there is one
 abbrev pub RingOf : State → Option (List ℕ) → Type 0
-RingOf c found = MatchOption found ((ring : List ℕ) → ¬ IsRing c ring) (IsLeastRing c)
+RingOf c found = FindsChosen (IsRing c) (IsLeastRing c) found
 
 -- the seats of a ring, if there is one
 abbrev pub seats_of : Option (List ℕ) → List ℕ
 seats_of None = []
 seats_of (Some ring) = ring
-
--- the condemned one of these seats, if there is one
-abbrev pub CondemnedOf : State → List ℕ → Option ℕ → Type 0
-CondemnedOf c seats found =
-    MatchOption found ((seat : ℕ) → IsOneOf seat seats → ¬ IsCondemned c seat) (IsLeastCondemned c seats)
 
 -- ---- what is told of it
 

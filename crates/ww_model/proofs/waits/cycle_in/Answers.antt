@@ -7,4 +7,4 @@ use Rattle.ww_model.proofs.waits.cycle_in.Goals as goal
 pub returns : goal.returns
 returns c = λ ring is. let reached = subst (λ (s : Snapshot). Reached (state_of s)) c.core.view_is c.core.invariant.reached in
     let first = first_of_ring (state_of c.args.core.now) reached ring is in
-    c.loop-seat.invariant first.0 (omega (arith, first.1, c.loop-seat-test.false, c.seats-seat-end.ensures)) ring is first.2
+    c.loop-seat.invariant first.0 (omega (arith, first.1, c.loop-seat-test.false, c.seats-seat-end.ensures)) ring (is, first.2)

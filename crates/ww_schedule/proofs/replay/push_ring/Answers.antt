@@ -1,7 +1,7 @@
 use Rattle.std.proofs.Common.{◌++◌, None, Some, string_bytes, ap, ◌∙◌, subst}
+use Rattle.ww_model.specs.Waits.{CondemnedOf}
 use Rattle.ww_model.specs.Snapshot.{state_of}
 use Rattle.ww_schedule.specs.ScheduleText.{ring_line}
-use Rattle.ww_schedule.specs.Replay.{CondemnedOf}
 use Rattle.ww_schedule.proofs.Replays.{on_ok, ring_told}
 use Rattle.ww_schedule.proofs.replay.push_ring.Goals as goal
 
@@ -9,7 +9,7 @@ pub returns-in_ok-push_str-in-None : goal.returns-in_ok-push_str-in-None
 unfolding ring_line
 returns-in_ok-push_str-in-None c =
     on_ok c.push_condemned_line.result
-    (ring_told (state_of c.args.core.now) None None _ _ _ c.in-None.ensures (λ seat one. absurd one) c.in_ok-push_str-in-None.ensures.bytes)
+    (ring_told (state_of c.args.core.now) None None _ _ _ c.in-None.ensures (λ seat is. absurd is.0) c.in_ok-push_str-in-None.ensures.bytes)
     c.push_condemned_line.ensures
 
 pub returns-in_ok-push_ring_line-in-Some : goal.returns-in_ok-push_ring_line-in-Some

@@ -18,8 +18,8 @@ push-requires c = let now = state_of c.args.self.now in
     (lit< tt, omega (arith, room, seats))
 
 pub returns-in_default : goal.returns-in_default
-returns-in_default c = λ other is one. let now = state_of c.args.self.now in
-    let on = reaches_waits now c.loop-ring.here c.args.first (c.loop-ring.invariant.returns (cycle_returns now other c.args.first is.cycle one)) in
+returns-in_default c = λ other is. let now = state_of c.args.self.now in
+    let on = reaches_waits now c.loop-ring.here c.args.first (c.loop-ring.invariant.returns (cycle_returns now other c.args.first is.0.cycle is.1)) in
     c.in_default.ensures on.0 on.1
 
 pub loop-ring-smaller : goal.loop-ring-smaller
@@ -53,9 +53,9 @@ returns-then-here-first c = let now = state_of c.args.self.now in
     ring_walked now reached c.args.first ring c.loop-ring.here c.loop-ring.invariant.walked c.loop-ring.invariant.differ (one_tells c.loop-ring.here ring (sym told ∙ c.loop-ring-test.false)) c.if-here-first.true
 
 pub returns-else-here-first : goal.returns-else-here-first
-returns-else-here-first c = λ other is one. let now = state_of c.args.self.now in
+returns-else-here-first c = λ other is. let now = state_of c.args.self.now in
     let reached = subst (λ (s : Snapshot). Reached (state_of s)) c.self.view_is c.self.invariant.reached in
     let ring = c.loop-ring.ring.items in
     let told = c.is_one_of.ensures ∙ ap (λ (r : List ℕ). list_any (λ y. y == c.loop-ring.here) r) c.as_slice.ensures.value in
     no_return now reached c.args.first ring c.loop-ring.here c.loop-ring.invariant.walked c.loop-ring.invariant.differ (one_tells c.loop-ring.here ring (sym told ∙ c.loop-ring-test.false)) c.if-here-first.false
-    (c.loop-ring.invariant.returns (cycle_returns now other c.args.first is.cycle one))
+    (c.loop-ring.invariant.returns (cycle_returns now other c.args.first is.0.cycle is.1))
