@@ -1,7 +1,7 @@
 -- what a test says
 pub mod Outcomes
 -- a wait list, and who joins and leaves it
-pub mod Places
+pub mod Positions
 pub mod Members
 pub mod Joins
 pub mod Leaves

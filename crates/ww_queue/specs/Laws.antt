@@ -29,8 +29,8 @@ pub record HasJoined (q : List Entry) (x : Entry) (new : List Entry) : Type 0 wh
   pub stopped : BeginsYounger x.stamp rest
 
 -- whoever joins stands immediately before the first younger context, else last, and nobody else moves
-abbrev pub JoinTakesItsPlace : Type 0
-JoinTakesItsPlace = (q : List Entry) (x : Entry) → HasJoined q x (joined q x)
+abbrev pub JoinTakesItsPosition : Type 0
+JoinTakesItsPosition = (q : List Entry) (x : Entry) → HasJoined q x (joined q x)
 
 -- a waiter without a context goes last
 abbrev pub SoloJoinsLast : Type 0

@@ -1,7 +1,7 @@
 //! Laws of wait lists and their rules: each function's contract is one.
 
 ghost use Rattle.std.specs.Prelude.{◌≡◌};
-ghost use Rattle.ww_queue.specs.Laws.{JoinTakesItsPlace, SoloJoinsLast, JoinKeepsEach, JoinKeepsOrder, LeaveTakesOneOut, LeaveKeepsOrder, EachSeatHasRoom, AheadIsFirstContext, WaitDieCondemns, WoundWaitCondemns, OnlyWaitersDie, DeathIsOfOlder, SignsAreDeaths, SignIsWound};
+ghost use Rattle.ww_queue.specs.Laws.{JoinTakesItsPosition, SoloJoinsLast, JoinKeepsEach, JoinKeepsOrder, LeaveTakesOneOut, LeaveKeepsOrder, EachSeatHasRoom, AheadIsFirstContext, WaitDieCondemns, WoundWaitCondemns, OnlyWaitersDie, DeathIsOfOlder, SignsAreDeaths, SignIsWound};
 
 use crate::queue::MAX_WAITERS;
 
@@ -11,8 +11,8 @@ pub fn limits()
 {}
 
 /// Whoever joins stands immediately before the first younger context, else last, and nobody else moves.
-pub fn join_takes_its_place()
-    ensures { JoinTakesItsPlace }
+pub fn join_takes_its_position()
+    ensures { JoinTakesItsPosition }
 {}
 
 /// A waiter without a context goes last.

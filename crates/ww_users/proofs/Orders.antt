@@ -59,22 +59,22 @@ double_before ms ks n (Some m) different h =
 pub order_begins : (list : List ℕ) → IsReordered list list
 order_begins list = record { moved = IsPermutation-refl list; double = λ d h. h }
 
--- the entry of this place is moved to the head, and all up to it differ
-order_later : (list order : List ℕ) (place n : ℕ) → place < length order → n ≡ get_or order place n → AreDifferent (take (place + 1) order) → IsReordered list order → IsReordered list (n ∷ remove order place)
-order_later list order place n lt is different h =
-    let front : take (place + 1) order ≡ take place order ++ n ∷ [] = take_more order place n lt ∙ ap (λ m. take place order ++ m ∷ []) (sym is) in
-    let whole : order ≡ take place order ++ n ∷ drop (suc place) order = sym (take-append-drop place order) ∙ ap (λ ns. take place order ++ ns) (drop-cons order place n lt ∙ ap (λ m. m ∷ drop (suc place) order) (sym is)) in
+-- the entry of this position is moved to the head, and all up to it differ
+order_later : (list order : List ℕ) (position n : ℕ) → position < length order → n ≡ get_or order position n → AreDifferent (take (position + 1) order) → IsReordered list order → IsReordered list (n ∷ remove order position)
+order_later list order position n lt is different h =
+    let front : take (position + 1) order ≡ take position order ++ n ∷ [] = take_more order position n lt ∙ ap (λ m. take position order ++ m ∷ []) (sym is) in
+    let whole : order ≡ take position order ++ n ∷ drop (suc position) order = sym (take-append-drop position order) ∙ ap (λ ns. take position order ++ ns) (drop-cons order position n lt ∙ ap (λ m. m ∷ drop (suc position) order) (sym is)) in
     record {
-      moved = IsPermutation-trans list order (n ∷ remove order place) h.moved (IsPermutation-remove order place n lt is);
-      double = λ d first. h.double d (subst (λ (ns : List ℕ). FirstDouble ns d) (sym whole) (double_before (take place order) (drop (suc place) order) n d (subst AreDifferent front different) first));
+      moved = IsPermutation-trans list order (n ∷ remove order position) h.moved (IsPermutation-remove order position n lt is);
+      double = λ d first. h.double d (subst (λ (ns : List ℕ). FirstDouble ns d) (sym whole) (double_before (take position order) (drop (suc position) order) n d (subst AreDifferent front different) first));
     }
 
 -- so the trip goes on behind it
-pub order_goes_on : (list order new : List ℕ) (place n : ℕ) (b : Refused) (a : Holding) → IsReordered list order → IsContended order b place → n ≡ get_or order place n → new ≡ n ∷ remove order place → a.held ≡ b.contended ∷ []
+pub order_goes_on : (list order new : List ℕ) (position n : ℕ) (b : Refused) (a : Holding) → IsReordered list order → IsContended order b position → n ≡ get_or order position n → new ≡ n ∷ remove order position → a.held ≡ b.contended ∷ []
     → HoldsKept (Some n) new a × IsReordered list new
-order_goes_on list order new place n b a h met is moved alone =
-    let contended : b.contended ≡ n = sym (get_or_from_slice_get order place b.contended n met.entry) ∙ sym is in
-    rw moved (record { held = alone ∙ ap (λ m. m ∷ []) contended; listed = is_among-head n (remove order place) }, order_later list order place n met.there is met.different h)
+order_goes_on list order new position n b a h met is moved alone =
+    let contended : b.contended ≡ n = sym (get_or_from_slice_get order position b.contended n met.entry) ∙ sym is in
+    rw moved (record { held = alone ∙ ap (λ m. m ∷ []) contended; listed = is_among-head n (remove order position) }, order_later list order position n met.there is met.different h)
 
 pub order_among : (list order : List ℕ) (n : ℕ) → IsReordered list order → is_among n order ≡ is_among n list
 order_among list order n h = sym (list_any-IsPermutation (λ m. eqb m n) list order h.moved)

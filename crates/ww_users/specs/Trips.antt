@@ -33,17 +33,17 @@ pub record HoldsKept (kept : Option ℕ) (list : List ℕ) (s : Holding) : Type 
   pub held : s.held ≡ kept_nodes kept
   pub listed : IfSome kept (λ n. IsTrue (is_among n list))
 
--- it was told EDEADLK at the entry of this place, and all entries up to there differ
-pub record IsContended (list : List ℕ) (b : Refused) (place : ℕ) : Type 0 where
-  pub there : place < length list
-  pub entry : slice_get list place ≡ Some b.contended
-  pub different : AreDifferent (take (place + 1) list)
+-- it was told EDEADLK at the entry of this position, and all entries up to there differ
+pub record IsContended (list : List ℕ) (b : Refused) (position : ℕ) : Type 0 where
+  pub there : position < length list
+  pub entry : slice_get list position ≡ Some b.contended
+  pub different : AreDifferent (take (position + 1) list)
 
 -- How a trip through a list ended: with all of it locked, at its first double, or with EDEADLK.
 abbrev pub IsTrip : Holding → List ℕ → Trip → Type 0
 IsTrip s list (Through a) = IsSameContext s a × HoldsExactly list a × FirstDouble list None
 IsTrip s list (Already a n) = IsSameContext s a × FirstDouble list (Some n)
-IsTrip s list (Deadlk b place) = IsSameContext s b.holding × IsContended list b place
+IsTrip s list (Deadlk b position) = IsSameContext s b.holding × IsContended list b position
 
 -- the same entries in another order, with the same first double
 pub record IsReordered (list order : List ℕ) : Type 0 where

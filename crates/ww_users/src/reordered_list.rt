@@ -46,8 +46,8 @@ pub fn lock_order<R: Wait>(
                 let pass = acquiring.unlock_all(rt, world).fini(world);
                 return Err((pass, UserFault::Already(n)));
             }
-            Trip::Deadlk(backoff, place) => {
-                let entry = order.remove(place);
+            Trip::Deadlk(backoff, position) => {
+                let entry = order.remove(position);
                 order.insert(0, entry);
                 kept = Some(entry);
                 back_off(world, backoff, rt)

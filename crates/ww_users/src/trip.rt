@@ -14,7 +14,7 @@ pub(crate) enum Trip {
     Through(Acquiring),
     /// An entry named a node that an earlier entry had locked: the kernel's EALREADY.
     Already(Acquiring, u8),
-    /// The context was told EDEADLK at the entry of this place.
+    /// The context was told EDEADLK at the entry of this position.
     Deadlk(Backoff, usize),
 }
 
@@ -33,7 +33,7 @@ pub(crate) fn lock_entries<R: Wait>(
 {
     let mut acquiring = acquiring;
     let mut kept = kept;
-    for (place, n) in list.iter().enumerate() {
+    for (position, n) in list.iter().enumerate() {
         if kept == Some(*n) {
             kept = None;
             continue;
@@ -41,7 +41,7 @@ pub(crate) fn lock_entries<R: Wait>(
         acquiring = match acquiring.lock(rt, world, *n) {
             Lock::Locked(acquiring) => acquiring,
             Lock::Already(acquiring) => return Trip::Already(acquiring, *n),
-            Lock::Deadlk(backoff) => return Trip::Deadlk(backoff, place),
+            Lock::Deadlk(backoff) => return Trip::Deadlk(backoff, position),
         };
     }
     Trip::Through(acquiring)

@@ -26,7 +26,7 @@ returns-in-Already-clause-err g c =
 
 pub loop-preserved : goal.loop-preserved
 loop-preserved g c =
-    let met = subst (λ (ns : List ℕ). IsContended ns c.in-Deadlk.backoff c.in-Deadlk.place) c.deref.ensures.0 c.in-Deadlk.ensures.1 in
+    let met = subst (λ (ns : List ℕ). IsContended ns c.in-Deadlk.backoff c.in-Deadlk.position) c.deref.ensures.0 c.in-Deadlk.ensures.1 in
     let moved = c.insert.ensures.items ∙ ap (λ (ns : List ℕ). insert ns 0 c.remove-entry.result) c.remove-entry.ensures.items in
     let goes_on = order_goes_on _ _ _ _ _ _ _ c.loop.invariant.2 met c.remove-entry.ensures.value moved c.back_off.ensures.alone in
     (context_later _ _ _ c.loop.invariant.0 (same_later _ _ _ c.in-Deadlk.ensures.0 c.back_off.ensures.same), goes_on.0, goes_on.1)

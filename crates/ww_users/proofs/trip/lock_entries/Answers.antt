@@ -4,20 +4,20 @@ use Rattle.ww_users.specs.Trips.{IsSameContext}
 use Rattle.ww_users.proofs.Entries.{way_skips, way_locks, way_doubles, way_contended, way_ends}
 use Rattle.ww_users.proofs.trip.lock_entries.Goals as goal
 
-pub loop-place-preserved-then-eq : goal.loop-place-preserved-then-eq
-loop-place-preserved-then-eq g c = way_skips _ _ c.args.list.now c.loop-place.place _ _ c.loop-place-test.true refl c.loop-place.invariant (sym c.eq.ensures ∙ c.if-eq.true)
+pub loop-position-preserved-then-eq : goal.loop-position-preserved-then-eq
+loop-position-preserved-then-eq g c = way_skips _ _ c.args.list.now c.loop-position.position _ _ c.loop-position-test.true refl c.loop-position.invariant (sym c.eq.ensures ∙ c.if-eq.true)
 
 pub returns-in-Already : goal.returns-in-Already
 returns-in-Already g c = (
-  subst (λ (a : Holding). IsSameContext c.args.acquiring a) (sym c.in-Already.ensures.1) c.loop-place.invariant.same,
-  way_doubles _ _ c.args.list.now c.loop-place.place _ _ c.loop-place-test.true refl c.loop-place.invariant (sym c.eq.ensures ∙ c.if-eq.false) c.in-Already.ensures.0,
+  subst (λ (a : Holding). IsSameContext c.args.acquiring a) (sym c.in-Already.ensures.1) c.loop-position.invariant.same,
+  way_doubles _ _ c.args.list.now c.loop-position.position _ _ c.loop-position-test.true refl c.loop-position.invariant (sym c.eq.ensures ∙ c.if-eq.false) c.in-Already.ensures.0,
 )
 
 pub returns-in-Deadlk : goal.returns-in-Deadlk
-returns-in-Deadlk g c = way_contended _ _ _ c.args.list.now c.loop-place.place _ _ c.loop-place-test.true refl c.loop-place.invariant c.in-Deadlk.ensures
+returns-in-Deadlk g c = way_contended _ _ _ c.args.list.now c.loop-position.position _ _ c.loop-position-test.true refl c.loop-position.invariant c.in-Deadlk.ensures
 
-pub loop-place-preserved : goal.loop-place-preserved
-loop-place-preserved g c = way_locks _ _ _ c.args.list.now c.loop-place.place _ _ c.loop-place-test.true refl c.loop-place.invariant c.in-Locked.ensures
+pub loop-position-preserved : goal.loop-position-preserved
+loop-position-preserved g c = way_locks _ _ _ c.args.list.now c.loop-position.position _ _ c.loop-position-test.true refl c.loop-position.invariant c.in-Locked.ensures
 
 pub returns : goal.returns
-returns g c = way_ends _ _ c.args.list.now c.loop-place.place _ c.loop-place-test.false c.loop-place.invariant
+returns g c = way_ends _ _ c.args.list.now c.loop-position.position _ c.loop-position-test.false c.loop-position.invariant
