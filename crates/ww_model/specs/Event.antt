@@ -81,7 +81,8 @@ module _ (c : State) where
     pub lock : n < c.locks
     pub inside_none : InsideNone c s
     pub free : c.guard n ≡ 0
-    pub why : (Owns c s n × InNoQueue c s) ⊎ (Stands (c.queue n) s ⊎ (InNoQueue c s × (c.owner n ≢ holder.Taken s) × MayOwn c s))
+    pub why : (Owns c s n × InNoQueue c s) ⊎
+        (Stands (c.queue n) s ⊎ (InNoQueue c s × (c.owner n ≢ holder.Taken s) × MayOwn c s))
 
   pub record CanJoin (s n : ℕ) : Type 0 where
     pub inside : Inside c s n
@@ -191,10 +192,17 @@ module _ (c : State) where
   after (Guard s n) = record c { guard = put c.guard n (suc s) }
   after (Join s n) = record c { queue = put c.queue n (joined (c.queue n) (waiter_of c s)) }
   after (Sign s v) = record c { sign = put c.sign v (unwrap_or (owed_to v (owes c s (place_of c s))) 0) }
-  after (Take s n) = record c { owner = put c.owner n (holder.Taken s); asked = put c.asked n false; queue = put c.queue n (left (c.queue n) s) }
+  after (Take s n) = record c {
+    owner = put c.owner n (holder.Taken s);
+    asked = put c.asked n false;
+    queue = put c.queue n (left (c.queue n) s);
+  }
   after (Ask s n) = record c { asked = put c.asked n true }
   after (Give s n) = record c { owner = put c.owner n (given_to (c.asked n) (c.queue n)); asked = put c.asked n false }
-  after (Die s n) = record c { queue = put c.queue n (left (c.queue n) s); asked = put c.asked n (still_asked (left (c.queue n) s) (c.asked n)) }
+  after (Die s n) = record c {
+    queue = put c.queue n (left (c.queue n) s);
+    asked = put c.asked n (still_asked (left (c.queue n) s) (c.asked n));
+  }
   after (Unguard s n) = record c { guard = put c.guard n 0 }
   after (Commit s) = record c { commits = c.commits + 1 }
   after (End s) = record c { stamp = put c.stamp s 0 }

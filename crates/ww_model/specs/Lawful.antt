@@ -66,23 +66,26 @@ WoundsAt stamp sign owner q guard =
     e.holds ≡ true → 0 < e.stamp → e.stamp < stamp t → 0 < sign t
 
 abbrev pub Wounds : Kind → (ℕ → ℕ) → (ℕ → ℕ) → (ℕ → Holder) → (ℕ → List Entry) → (ℕ → ℕ) → Type 0
-Wounds kind stamp sign owner queue guard = kind ≡ WoundWait → (n : ℕ) → WoundsAt stamp sign (owner n) (queue n) (guard n)
+Wounds kind stamp sign owner queue guard =
+    kind ≡ WoundWait → (n : ℕ) → WoundsAt stamp sign (owner n) (queue n) (guard n)
 
--- Wait-Die, of one lock, whoever is inside the guard: of the waiters outside it that hold locks, one that is younger than
--- the owner outside it is signed, and so is one that stands behind another context outside it.
+-- Wait-Die, of one lock, whoever is inside the guard: of the waiters outside it that hold locks, one that is younger
+-- than the owner outside it is signed, and so is one that stands behind another context outside it.
 pub record DeathsAt (stamp sign : ℕ → ℕ) (owner : Holder) (q : List Entry) (guard : ℕ) : Type 0 where
-  pub younger_signed : (t : ℕ) (e : Entry) → owner ≡ Taken t → 0 < stamp t → guard ≢ suc t → Has q e → guard ≢ suc e.seat →
-      e.holds ≡ true → stamp t < e.stamp → 0 < sign e.seat
-  pub later_holders_signed : (e f : Entry) → Before q e f → 0 < e.stamp → 0 < f.stamp → guard ≢ suc e.seat → guard ≢ suc f.seat →
-      f.holds ≡ true → 0 < sign f.seat
+  pub younger_signed : (t : ℕ) (e : Entry) → owner ≡ Taken t → 0 < stamp t → guard ≢ suc t →
+      Has q e → guard ≢ suc e.seat → e.holds ≡ true → stamp t < e.stamp → 0 < sign e.seat
+  pub later_holders_signed : (e f : Entry) → Before q e f → 0 < e.stamp → 0 < f.stamp →
+      guard ≢ suc e.seat → guard ≢ suc f.seat → f.holds ≡ true → 0 < sign f.seat
 
 abbrev pub Deaths : Kind → (ℕ → ℕ) → (ℕ → ℕ) → (ℕ → Holder) → (ℕ → List Entry) → (ℕ → ℕ) → Type 0
 Deaths kind stamp sign owner queue guard = kind ≡ WaitDie → (n : ℕ) → DeathsAt stamp sign (owner n) (queue n) (guard n)
 
--- Where signs may stand. Wound-Wait: not on a waiter that owns no lock. Wait-Die: only on a seat that waits or is inside a
--- guard.
-pub record Signs (kind : Kind) (sign : ℕ → ℕ) (owner : ℕ → Holder) (queue : ℕ → List Entry) (guard : ℕ → ℕ) : Type 0 where
-  pub unowning : kind ≡ WoundWait → (n : ℕ) (e : Entry) → Has (queue n) e → ((m : ℕ) → owner m ≢ Taken e.seat) → sign e.seat ≡ 0
+-- Where signs may stand. Wound-Wait: not on a waiter that owns no lock. Wait-Die: only on a seat that waits or is
+-- inside a guard.
+pub record Signs
+    (kind : Kind) (sign : ℕ → ℕ) (owner : ℕ → Holder) (queue : ℕ → List Entry) (guard : ℕ → ℕ) : Type 0 where
+  pub unowning : kind ≡ WoundWait → (n : ℕ) (e : Entry) → Has (queue n) e →
+      ((m : ℕ) → owner m ≢ Taken e.seat) → sign e.seat ≡ 0
   pub waiting : kind ≡ WaitDie → (s : ℕ) → 0 < sign s → ((n : ℕ) × Stands (queue n) s) ⊎ ((n : ℕ) × (guard n ≡ suc s))
 
 -- ---- together
@@ -124,4 +127,5 @@ SignedOwnsOutside c = c.kind ≡ WaitDie → (s : ℕ) → 0 < c.sign s → (n :
 
 -- ... which a possible event of a lawful state keeps
 abbrev pub OutsideIsKept : Type 0
-OutsideIsKept = (c : State) (e : Event) → Possible c e → IsLawful c → SignedOwnsOutside c → SignedOwnsOutside (after c e)
+OutsideIsKept = (c : State) (e : Event) → Possible c e → IsLawful c →
+    SignedOwnsOutside c → SignedOwnsOutside (after c e)

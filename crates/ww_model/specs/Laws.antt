@@ -54,8 +54,8 @@ QueuesAscend c = (n : ℕ) → Ascends (c.queue n)
 
 -- Wait-Die: where a guard is free, only the first of the waiters with a context may hold locks without a sign
 abbrev pub OnlyFirstIsUnsigned : State → Type 0
-OnlyFirstIsUnsigned c = c.kind ≡ WaitDie → (n : ℕ) → c.guard n ≡ 0 → (e f : Entry) → Before (c.queue n) e f → 0 < e.stamp → 0 < f.stamp →
-    OwnsSome c f.seat → 0 < c.sign f.seat
+OnlyFirstIsUnsigned c = c.kind ≡ WaitDie → (n : ℕ) → c.guard n ≡ 0 → (e f : Entry) → Before (c.queue n) e f →
+    0 < e.stamp → 0 < f.stamp → OwnsSome c f.seat → 0 < c.sign f.seat
 
 -- nobody waits for two
 abbrev pub EachWaitsForOne : State → Type 0
@@ -90,5 +90,5 @@ pub record CanGoAndDie (c : State) (a n k : ℕ) : Type 0 where
 
 -- so can a condemned seat, where the guard of the lock is free
 abbrev pub CondemnedCanDie : State → Type 0
-CondemnedCanDie c = (a : ℕ) (condemned : IsCondemned c a) → c.guard condemned.lock ≡ 0 → (k : ℕ) → dies c a condemned.lock ≡ Some k →
-    CanGoAndDie c a condemned.lock k
+CondemnedCanDie c = (a : ℕ) (condemned : IsCondemned c a) → c.guard condemned.lock ≡ 0 →
+    (k : ℕ) → dies c a condemned.lock ≡ Some k → CanGoAndDie c a condemned.lock k

@@ -46,8 +46,8 @@ impl Core {
     fn lives_inside(&self, seat: u8) -> bool
         ensures { IsTrue result ↔ LivesSome (state_of self.now) seat }
     {
-        // In a reached state a seat is inside one guard at most, so no other than this one needs a look. That the state was
-        // reached is known where a field is used.
+        // In a reached state a seat is inside one guard at most, so no other than this one needs a look. That the state
+        // was reached is known where a field is used.
         let _reached = &self.kind;
         self.lives_at(seat, self.place_of(seat))
     }

@@ -66,8 +66,8 @@ pub fn rings_are_apart()
     ensures { OfLawful RingsAreApart }
 {}
 
-/// Wait-Die: that a seat with a sign owns a lock whose guard it isn't inside of is kept by each possible event of a lawful
-/// state.
+/// Wait-Die: that a seat with a sign owns a lock whose guard it isn't inside of is kept by each possible event of a
+/// lawful state.
 pub fn outside_is_kept()
     ensures { OutsideIsKept }
 {}
@@ -144,8 +144,8 @@ pub fn waiters_are_seats()
     ensures { OfReached WaitersAreSeats }
 {}
 
-/// A condemned seat can go inside the guard of the lock where it waits, if that is free, and die there, and is told the stamp
-/// for which it has to die.
+/// A condemned seat can go inside the guard of the lock where it waits, if that is free, and die there, and is told the
+/// stamp for which it has to die.
 pub fn condemned_can_die()
     ensures { OfReached CondemnedCanDie }
 {}

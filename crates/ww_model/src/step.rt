@@ -7,8 +7,8 @@ impl Core {
     ghost use Rattle.ww_model.specs.Run.{Reached};
     ghost use Rattle.ww_model.specs.Snapshot.{state_of};
 
-    /// One event, if it is possible: its effect and its answer. Whether it is, and what it does, stands in `docs/RULES.md`,
-    /// under "Events". It takes no memory.
+    /// One event, if it is possible: its effect and its answer. Whether it is, and what it does, stands in
+    /// `docs/RULES.md`, under "Events". It takes no memory.
     pub fn step(&mut self, event: Event) -> Result<Answer, NotPossible>
         ensures possible { IsOk result ↔ Possible (state_of self.old) event }
         ensures answer { IfOk result (λ a. a ≡ answer (state_of self.old) event) }

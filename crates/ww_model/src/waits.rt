@@ -12,14 +12,14 @@ use crate::terms::is_guard_of;
 use arrayvec::ArrayVec;
 use ww_word::MAX_SEATS;
 
-/// A ring of contexts that each wait for the next, and the last for the first: the one with the least seat that is in any
-/// ring, beginning with that seat. `None` where there is no ring. The kernel keeps no such list: where a ring would close,
-/// its rules have condemned a member before.
+/// A ring of contexts that each wait for the next, and the last for the first: the one with the least seat that is in
+/// any ring, beginning with that seat. `None` where there is no ring. The kernel keeps no such list: where a ring would
+/// close, its rules have condemned a member before.
 pub fn cycle_in(core: &Core) -> Option<ArrayVec<u8, MAX_SEATS>>
     ensures { let c = state_of core.now in FindsChosen (IsRing c) (λ ring. IsLeastRing c ring.items) result }
 {
-    // Where nobody's ring is found there is none, since whoever waits is one of the seats: the core's state was reached,
-    // which is known where a field is used.
+    // Where nobody's ring is found there is none, since whoever waits is one of the seats: the core's state was
+    // reached, which is known where a field is used.
     let _reached = &core.kind;
     for seat in 0..core.seats() {
         if let Some(ring) = core.ring_from(seat) {
@@ -81,10 +81,11 @@ impl Core {
     /// The ring that begins with this seat, if the seat is in a ring.
     fn ring_from(&self, first: u8) -> Option<ArrayVec<u8, MAX_SEATS>>
         requires { first < (state_of self.now).seats }
-        ensures { let c = state_of self.now in FindsChosen (λ ring. IsRing c ring × IsOneOf first ring) (λ ring. IsRingFrom c first ring.items) result }
+        ensures { let c = state_of self.now in
+            FindsChosen (λ ring. IsRing c ring × IsOneOf first ring) (λ ring. IsRingFrom c first ring.items) result }
     {
-        // In a reached state, which this one is known to be where a field is used, nobody waits for two: there is one way
-        // to go. It ends, or it comes to a seat where it was.
+        // In a reached state, which this one is known to be where a field is used, nobody waits for two: there is one
+        // way to go. It ends, or it comes to a seat where it was.
         let _reached = &self.kind;
         let mut ring = ArrayVec::new();
         let mut here = first;

@@ -33,14 +33,14 @@ pub fn only_footprint_matters()
     ensures { OnlyFootprintMatters }
 {}
 
-/// A footprint names each node that concerns its transaction once: those of the list, a link's node and its target, those of
-/// the walk and its stop, or the node of a peek.
+/// A footprint names each node that concerns its transaction once: those of the list, a link's node and its target,
+/// those of the walk and its stop, or the node of a peek.
 pub fn footprint_is_what_concerns()
     ensures { FootprintIsWhatConcerns }
 {}
 
-/// A `Reverse` turns its walk: along the port, the walk's first node leads to where its last one led, and each other one to
-/// the node before it. No other port, no value and no other node changes.
+/// A `Reverse` turns its walk: along the port, the walk's first node leads to where its last one led, and each other
+/// one to the node before it. No other port, no value and no other node changes.
 pub fn reverse_turns_the_walk()
     ensures { ReverseTurnsTheWalk }
 {}

@@ -16,8 +16,8 @@ use ww_word::MAX_SEATS;
 /// How many events a schedule has at most.
 const MAX_EVENTS: usize = 10_000;
 
-/// At most 10,000 events of 1 to 16 seats at 1 to 64 locks, in their order. The numbers in an event are below those of the
-/// seats and locks; whether it is possible is another question. Contracts see all of it as a timetable.
+/// At most 10,000 events of 1 to 16 seats at 1 to 64 locks, in their order. The numbers in an event are below those of
+/// the seats and locks; whether it is possible is another question. Contracts see all of it as a timetable.
 #[derive(Debug, Drop)]
 pub struct Schedule {
     pub kind: Kind,

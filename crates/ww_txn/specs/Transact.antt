@@ -19,7 +19,15 @@ pub record IsTransacted (s a : Holding) (txn : Transaction) (told : Receipt) : T
   pub rest : a ≡ record s {
     left = s.left - 1;
     stamp = 0;
-    own = s.own ++ (told.place, record { caller = s.caller; seq = length s.own; transaction = txn; answer = answer_of told.reply }) ∷ [];
+    own = s.own ++ (
+      told.place,
+      record {
+        caller = s.caller;
+        seq = length s.own;
+        transaction = txn;
+        answer = answer_of told.reply;
+      },
+    ) ∷ [];
     room = a.room;
     held = [];
     seen = a.seen;
