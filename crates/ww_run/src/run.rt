@@ -11,11 +11,13 @@ use std::io;
 use std::io::{Read, Write};
 use std::sync::Wait;
 use std::thread::Threads;
-use ww_script::{Input, InputFault, outcome_text, read_input, refusal_line, schedule_text};
+use ww_script::{
+    Input, InputFault, MAX_BYTES, outcome_text, read_input, refusal_line, schedule_text,
+};
 use ww_txn::Gate;
 
 /// One byte more than an input may have: of a longer one no more needs to be read.
-const MOST: usize = 1_048_577;
+const MOST: usize = MAX_BYTES + 1;
 
 /// How a run ended.
 #[derive(Clone, Copy, Debug, PartialEq, Eq)]

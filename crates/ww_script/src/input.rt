@@ -11,7 +11,7 @@ use ww_plan::{Scripts, scripts_of};
 use ww_schedule::{Schedule, schedule_of};
 
 /// How many bytes an input has at most.
-const MAX_BYTES: usize = 1_048_576;
+pub const MAX_BYTES: usize = 1_048_576;
 
 /// What an input asks for.
 #[derive(Debug, Drop)]
