@@ -1,4 +1,5 @@
-//! Scripts that run side by side. A gate holds a transaction back just before its commit, so that only threads come to an end.
+//! Scripts that run side by side. A gate holds a transaction back just before its commit, so that only threads come to
+//! an end.
 
 use crate::run::Open;
 use crate::workers::run_scripts;
@@ -171,8 +172,8 @@ fn carried_out<'a>(
 
 /// The records that an outcome tells of.
 fn records_of(alloc: Global, scripts: &Scripts, outcome: &Outcome) -> Result<Vec<Record>, Fail> {
-    let mut records = Vec::new(alloc);
     let places = outcome.places.as_ref().ok_or("places")?;
+    let mut records = Vec::with_capacity(alloc, places.len())?;
     for (caller, seq) in places {
         let script = usize::from(*caller);
         let txns = scripts.scripts.get(script).ok_or("a script")?;

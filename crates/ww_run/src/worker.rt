@@ -13,7 +13,8 @@ use ww_plain::Txn;
 use ww_script::ScriptAnswer;
 use ww_txn::{Gate, TxnFault, transact};
 
-/// What a worker gives back: its pass, and what the transactions of its script were told. It stops for want of memory alone.
+/// What a worker gives back: its pass, and what the transactions of its script were told. It stops for want of memory
+/// alone.
 #[derive(Drop)]
 pub(crate) struct Work {
     pub(crate) pass: Pass,
@@ -69,23 +70,22 @@ pub(crate) fn run_script<R: Wait, G: Gate>(
     requires { IsReady world.now pass.caller (map transaction_of txns.items) pass }
     ensures { IsWork world.now pass.caller (map transaction_of txns.items) result }
 {
-    let mut answers = Vec::new(alloc);
+    let Ok(mut answers) = Vec::with_capacity(alloc, txns.len()) else {
+        return Work {
+            pass,
+            told: Err(AllocError),
+        };
+    };
     for txn in txns {
         let (next, told) = carry_out(rt, world, pass, gate, txn);
         pass = next;
-        let answer = match told {
-            Ok(answer) => answer,
+        match told {
+            Ok(answer) => answers.push_reserved(answer),
             Err(error) => return Work {
                 pass,
                 told: Err(error),
             },
-        };
-        let Ok(()) = answers.push(answer) else {
-            return Work {
-                pass,
-                told: Err(AllocError),
-            };
-        };
+        }
     }
     Work {
         pass,

@@ -127,8 +127,8 @@ fn work<R: Threads + Wait + Sync, G: Gate + Sync>(
 fn parted(alloc: Global, works: Vec<Work>) -> Result<(Vec<Pass>, Vec<Vec<ScriptAnswer>>), RunFault>
     ensures { IfOk result (λ r. AreParted works.items r.0.items r.1.items) }
 {
-    let mut passes = Vec::new(alloc);
-    let mut replies = Vec::new(alloc);
+    let mut passes = Vec::with_capacity(alloc, works.len())?;
+    let mut replies = Vec::with_capacity(alloc, works.len())?;
     for Work { pass, told } in works {
         passes.push(pass)?;
         replies.push(told?)?;
@@ -155,7 +155,7 @@ fn close(world: World, passes: Vec<Pass>) -> Result<History, RunFault>
 fn places(alloc: Global, records: &[Record]) -> Result<Vec<(u8, u64)>, AllocError>
     ensures { IfOk result (λ places. places.items ≡ places_of (history_of records.now)) }
 {
-    let mut places = Vec::new(alloc);
+    let mut places = Vec::with_capacity(alloc, records.len())?;
     for record in records {
         places.push((record.caller, record.seq))?;
     }
