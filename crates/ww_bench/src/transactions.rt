@@ -21,6 +21,7 @@ impl Gate for Open {
 }
 
 /// Takes the locks of these nodes in turn, or as far as it can.
+#[inline]
 fn take_in_turn<R: Wait>(
     rt: &R,
     world: &World,
@@ -43,6 +44,7 @@ fn take_in_turn<R: Wait>(
 }
 
 /// Takes the locks of these nodes, and counts how often it has to back off.
+#[inline]
 fn take_all<R: Wait>(
     rt: &R,
     world: &World,

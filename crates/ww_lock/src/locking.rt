@@ -61,7 +61,7 @@ impl Hand {
     }
 
     /// Takes a lock, and waits for it where the rules say so; or tells the stamp of the older context that was met.
-    #[inline]
+    #[inline(always)]
     pub(crate) fn take<R: Wait>(&mut self, rt: &R, world: &World, n: u8) -> Option<u64>
         requires home { IsAtHome (holding_of self.old) world.now }
         requires fresh { CarriesFresh self.old }
@@ -109,7 +109,7 @@ impl Hand {
     }
 
     /// Gives all locks back, the one taken last first: its node lies on top of what the seat has out.
-    #[inline]
+    #[inline(always)]
     pub(crate) fn give_all<R: Wait>(&mut self, rt: &R, world: &World)
         requires home { IsAtHome (holding_of self.old) world.now }
         requires carries { Carries self.old }

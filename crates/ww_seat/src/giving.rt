@@ -32,6 +32,7 @@ pub fn give<R: Wait>(rt: &R, seat: &mut Seat16, board: &Board, lock: u8, wakers:
 }
 
 /// Gives the lock back inside its guard, and tells who was the first waiter then.
+#[cold]
 fn give_inside<R: Wait>(rt: &R, seat: &mut Seat16, board: &Board, lock: u8) -> Option<Entry>
     requires seat { IsSeated board.now.table.shared.table_id seat.old }
     requires lock { lock < length (first_graph board.now.table.shared.key) }
@@ -50,6 +51,7 @@ fn give_inside<R: Wait>(rt: &R, seat: &mut Seat16, board: &Board, lock: u8) -> O
     unreachable!()
 }
 
+#[cold]
 fn wake(waiter: Option<Entry>, wakers: &[Unparker]) {
     if let Some(waiter) = waiter {
         if let Some(waker) = wakers.get(usize::from(waiter.seat)) {

@@ -27,7 +27,7 @@ pub(crate) enum Look {
 }
 
 /// Whether the lock is free, or handed to this seat, which doesn't own it.
-fn is_ours(seat: &Seat16, seen: Owner) -> bool
+pub(crate) fn is_ours(seat: &Seat16, seen: Owner) -> bool
     ensures free { result ≡ true → (seen.seat ≡ None) ⊎ (seen.seat ≡ Some seat.now.who) }
     ensures other { result ≡ false → (t : ℕ) × (seen.seat ≡ Some t) × (t ≢ seat.now.who) }
 {

@@ -9,7 +9,7 @@ ghost use Rattle.ww_seat.specs.Looks.{IsOutside, IsLook};
 
 use crate::fast::first_try;
 use crate::guard::enter;
-use crate::look::{Look, look_at};
+use crate::look::{Look, is_ours, look_at};
 use crate::wake::Wake;
 use crossbeam_utils::sync::{Parker, Unparker};
 use std::sync::Wait;
@@ -57,20 +57,11 @@ fn is_due(seat: &Seat16, board: &Board, lock: u8) -> bool
     requires seat { IsSeated board.now.table.shared.table_id seat.now }
     requires lock { lock < length (first_graph board.now.table.shared.key) }
 {
-    let who = seat.who();
-    if board.peek(SIGNS + usize::from(who)) != 0 {
-        return true;
-    }
-    match unpack(board.peek(usize::from(lock))) {
-        None => true,
-        Some(owner) => match owner.seat {
-            None => true,
-            Some(number) => number == who,
-        },
-    }
+    let is_signed = board.peek(SIGNS + usize::from(seat.who())) != 0;
+    is_signed || unpack(board.peek(usize::from(lock))).is_some_and(|seen| is_ours(seat, seen))
 }
 
-/// Spins for a moment, and tells whether a look may end the waiting.
+/// Reads the words for a moment, and tells whether a look may end the waiting.
 fn is_due_soon(seat: &Seat16, board: &Board, lock: u8) -> bool
     requires seat { IsSeated board.now.table.shared.table_id seat.now }
     requires lock { lock < length (first_graph board.now.table.shared.key) }
@@ -83,7 +74,7 @@ fn is_due_soon(seat: &Seat16, board: &Board, lock: u8) -> bool
     false
 }
 
-/// Waits for a lock. A waiter spins for a moment before it parks; whatever ends that, it looks again.
+/// Waits for a lock. A waiter reads the words for a moment before it parks; whatever ends that, it looks again.
 #[cold]
 fn wait<R: Wait>(
     rt: &R,

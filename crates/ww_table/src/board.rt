@@ -28,8 +28,7 @@ impl Board {
         self.size
     }
 
-    /// Reads one word, for tests: no clause says what it has. They count as owner words, guards, signs, the stamp word and the
-    /// front word.
+    /// Reads one word: no clause says what it has. They count as owner words, guards, signs, the stamp word and the front word.
     pub fn peek(&self, word: usize) -> u64
         requires { word < 146 }
     {
