@@ -34,6 +34,6 @@ context_later s a b h more =
       some = h.some;
       stamped = rw stamps h.stamped;
       rest = more.rest ∙ ap (λ (c : Holding). record c { held = b.held; seen = b.seen; tries = b.tries }) h.rest
-      ∙ ap (λ k. record s { left = s.left - 1; stamp = k; held = b.held; seen = b.seen; tries = b.tries }) (sym stamps);
+          ∙ ap (λ k. record s { left = s.left - 1; stamp = k; held = b.held; seen = b.seen; tries = b.tries }) (sym stamps);
       size = more.size ∙ h.size;
     }

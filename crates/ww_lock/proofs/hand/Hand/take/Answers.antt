@@ -1,4 +1,4 @@
-use Rattle.std.proofs.Common.{ap, arith, inl, inr, sym, ◌∙◌}
+use Rattle.std.proofs.Common.{ap, arith, inl, inr, ◌∙◌}
 use Rattle.ww_table.specs.declared.seat.Seat16.{Seat16}
 use Rattle.ww_lock.proofs.Carrying.{here, at_table, bare_of, takes, keeps, holds_one}
 use Rattle.ww_lock.proofs.hand.Hand.take.Goals as goal
