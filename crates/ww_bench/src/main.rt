@@ -1,8 +1,8 @@
-//! Times transactions on threads. Its arguments are a load (`locks`, `reads`, `opposite`, `adds` or `transacts`), the kind of the
-//! locks (`wound-wait` or `wait-die`) and five numbers: how many threads there are, how many nodes a transaction takes, how many
-//! nodes there are, how many transactions each thread has, and how often all of them are timed. It writes a line for each time:
-//! nanoseconds, back-offs, and how many transactions did what they are to do. Where nothing is to be timed it runs each load
-//! once and writes the last number alone, which is the same each time.
+//! Times transactions on threads. Its arguments are a load (`locks`, `reads`, `opposite`, `adds` or `transacts`), the
+//! kind of the locks (`wound-wait` or `wait-die`) and five numbers: how many threads there are, how many nodes a
+//! transaction takes, how many nodes there are, how many transactions each thread has, and how often all of them are
+//! timed. It writes a line for each time: nanoseconds, back-offs, and how many transactions did what they are to do.
+//! Where nothing is to be timed it runs each load once and writes the last number alone, which is the same each time.
 #![tactic(auto)]
 
 mod load;

@@ -1,5 +1,5 @@
-//! One transaction of a load, by the method of the fixed list, with its back-offs counted, which no call of the library tells of
-//! itself; and one by `transact`.
+//! One transaction of a load, by the method of the fixed list, with its back-offs counted, which no call of the library
+//! tells of itself; and one by `transact`.
 
 ghost use Rattle.std.specs.Prelude.{◌≡◌, ◌<◌, length, IsTrue, IfOk, IfErr};
 ghost use Rattle.ww_lock.specs.Holding.{IsAtHome};
@@ -82,8 +82,8 @@ fn read_all(world: &World, acquiring: &Acquiring, list: &[u8]) -> bool
     sum == list.len() as u64
 }
 
-/// Takes the locks of these nodes, reads each of them where that is wanted, and gives all back. Tells whether it read what is
-/// there.
+/// Takes the locks of these nodes, reads each of them where that is wanted, and gives all back. Tells whether it read
+/// what is there.
 pub(crate) fn look<R: Wait, const READS: bool>(
     rt: &R,
     world: &World,

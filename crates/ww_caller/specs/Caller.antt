@@ -24,5 +24,6 @@ pub record HasBoth (n m : ℕ) (a : Holding) : Type 0 where
 
 -- exactly one record more: that of this transaction, with the place, the number and the answer that the receipt tells
 pub record HasRecord (s a : Holding) (txn : Transaction) (told : Receipt) : Type 0 where
-  pub own : a.own ≡ s.own ++ (told.place, record { caller = s.caller; seq = told.seq; transaction = txn; answer = answer_of told.reply }) ∷ []
+  pub own : a.own ≡ s.own ++
+      (told.place, record { caller = s.caller; seq = told.seq; transaction = txn; answer = answer_of told.reply }) ∷ []
   pub seq : told.seq ≡ length s.own

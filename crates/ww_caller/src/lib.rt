@@ -19,8 +19,8 @@ pub enum Refusal {
     NoMemory,
 }
 
-/// Moves an amount from one node to another, in a context that holds both locks. The receipt tells whether the amount was
-/// there, and whether there was room for it.
+/// Moves an amount from one node to another, in a context that holds both locks. The receipt tells whether the amount
+/// was there, and whether there was room for it.
 pub fn transfer<R: Wait>(
     rt: &R,
     world: &World,
@@ -52,7 +52,8 @@ pub fn transfer<R: Wait>(
     (pass, Ok(receipt))
 }
 
-/// Takes two locks in the order given. Who is told EDEADLK gives all back, takes the lock that it couldn't get, and begins again.
+/// Takes two locks in the order given. Who is told EDEADLK gives all back, takes the lock that it couldn't get, and
+/// begins again.
 fn lock_both<R: Wait>(rt: &R, world: &World, acquiring: Acquiring, from: u8, to: u8) -> Acquiring
     requires home { IsAtHome acquiring world.now }
     requires from { from < length world.now.first }

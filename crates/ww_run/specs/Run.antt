@@ -69,8 +69,8 @@ IsTextFor input text = IsOutcomeText input text ⊎ IsReplayText input text
 abbrev pub AsksForScripts : List ℕ → Type 0
 AsksForScripts input = (plan : Plan) × (reading input ≡ Ok (Scripts plan))
 
--- The input has the fault, where it is refused for one. Where it is given up for anything but want of memory, it asks for
--- scripts: nothing else starts threads.
+-- The input has the fault, where it is refused for one. Where it is given up for anything but want of memory, it asks
+-- for scripts: nothing else starts threads.
 abbrev pub IsRefusedFor : List ℕ → Refusal → Type 0
 IsRefusedFor input (Input fault) = fault ≢ NoMemory → reading input ≡ Err fault
 IsRefusedFor input (Run fault) = fault ≢ run.NoMemory → AsksForScripts input
@@ -104,8 +104,8 @@ IsDue left rest Stopped text =
 IsDue left rest ReadFailed text = ⊥
 IsDue left rest WriteFailed text = ⊥
 
--- What is written of a text that is due, given what the writer holds before and after: all of it, and the run ends as it
--- then does, or a front of it.
+-- What is written of a text that is due, given what the writer holds before and after: all of it, and the run ends as
+-- it then does, or a front of it.
 abbrev pub Writes : Option (List ℕ) → Option (List ℕ) → Status → List ℕ → Status → Type 0
 Writes held holds due text WriteFailed = AppendsFront held holds text
 Writes held holds due text status = (status ≡ due) × Appends held holds text

@@ -21,16 +21,16 @@ pub record IsAfter (s a : Holding) : Type 0 where
   pub same_caller : a.caller ≡ s.caller
   pub budget : a.left + 1 ≡ s.left
 
--- A transaction that lists a node twice was told the first such node, and left the own list as it was. Any other was told
--- the answer of its record, which is the next of the own list.
+-- A transaction that lists a node twice was told the first such node, and left the own list as it was. Any other was
+-- told the answer of its record, which is the next of the own list.
 abbrev pub IsTold : Holding → Transaction → Said → Holding → Type 0
 IsTold s txn (already n) a = FirstDouble (listed txn) (Some n) × (a.own ≡ s.own)
 IsTold s txn (answered answer) a =
     FirstDouble (listed txn) None
     × ((place : ℕ) × (r : Recorded) × (a.own ≡ s.own ++ (place, r) ∷ []) × IsRecordOf r (length s.own) txn answer)
 
--- The pass of this caller, which has done nothing yet, and a script for it: there is budget for each of its transactions,
--- and each fits the world.
+-- The pass of this caller, which has done nothing yet, and a script for it: there is budget for each of its
+-- transactions, and each fits the world.
 pub record IsReady (w : Place) (number : ℕ) (txns : List Transaction) (s : Holding) : Type 0 where
   pub home : IsAtHome s w
   pub same_caller : s.caller ≡ number

@@ -1,5 +1,5 @@
-//! The program: reads scripts or a schedule on standard input, runs the scripts or replays the schedule, and writes what came
-//! of it on standard output.
+//! The program: reads scripts or a schedule on standard input, runs the scripts or replays the schedule, and writes
+//! what came of it on standard output.
 #![tactic(auto)]
 
 mod run;

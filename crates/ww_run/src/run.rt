@@ -166,7 +166,8 @@ fn end<W: Write>(writer: &mut W, text: &[u8]) -> Status
 
 /// Ends a run with the line of a refusal.
 fn refuse<W: Write>(writer: &mut W, refusal: Refusal) -> Status
-    ensures { Writes (W.contents writer.old) (W.contents writer.new) (status_of refusal) (line_of (refusal_number refusal)) result }
+    ensures { Writes (W.contents writer.old) (W.contents writer.new)
+        (status_of refusal) (line_of (refusal_number refusal)) result }
 {
     match write_line(writer, refusal.number()) {
         Ok(()) => refusal.status(),
@@ -174,8 +175,8 @@ fn refuse<W: Write>(writer: &mut W, refusal: Refusal) -> Status
     }
 }
 
-/// Reads an input, runs its scripts or replays its schedule, and writes the text of what comes of it, or the line that says
-/// why there is none.
+/// Reads an input, runs its scripts or replays its schedule, and writes the text of what comes of it, or the line that
+/// says why there is none.
 pub fn run<H: Threads + Wait + Sync, R: Read, W: Write>(
     rt: &H,
     alloc: Global,

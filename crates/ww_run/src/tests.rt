@@ -6,7 +6,9 @@ use std::test::Fail;
 
 /// One empty script on one node of 5.
 fn input() -> &'static [u8] {
-    b"{\"version\":1,\"kind\":\"wound-wait\",\"history\":false,\"nodes\":[{\"value\":5,\"ports\":[null,null,null,null]}],\"scripts\":[[]]}".as_slice()
+    r#"{"version":1,"kind":"wound-wait","history":false,
+        "nodes":[{"value":5,"ports":[null,null,null,null]}],"scripts":[[]]}"#
+        .as_bytes()
 }
 
 fn text() -> &'static [u8] {
