@@ -1,20 +1,15 @@
 -- Passes that have done nothing yet.
-use Rattle.std.proofs.Common.{◌≡◌, ℕ, suc, ◌+◌, ◌<◌, ◌≤◌, ◌^◌, false, inl, inr, List, [], ◌∷◌, ◌++◌, length, replicate, refl, sym, ap, subst, ◌∙◌, arith, length-append, get_or, below_more, true≢false, None}
+use Rattle.std.proofs.Common.{◌≡◌, ℕ, suc, ◌+◌, ◌<◌, ◌≤◌, ◌^◌, List, [], ◌∷◌, ◌++◌, length, refl, sym, ap, subst, ◌∙◌, arith, length-append, get_or, below_more}
 use Rattle.std.specs.List.{AllByRecursion}
-use Rattle.std.proofs.lemmas.List.{get_or_append_left, get_or_push, get_or-replicate, length-replicate}
-use Rattle.std.proofs.lemmas.List.{get_or_past}
-use Rattle.std.proofs.lemmas.Bool.{cases_lt}
+use Rattle.std.proofs.lemmas.List.{get_or_append_left, get_or_push}
 use Rattle.atomic_table.specs.Seated.{TableId}
 use Rattle.ww_plain.specs.declared.node.Node.{Node}
 use Rattle.ww_view.specs.View.{owns}
 use Rattle.ww_table.specs.declared.cells.Start.{Start}
 use Rattle.ww_table.specs.declared.seat.Seat16.{Seat16}
-use Rattle.ww_table.specs.Rule.{Sat, first_graph, first_part}
-use Rattle.ww_table.specs.Steps.{seat_of}
-use Rattle.ww_table.specs.Seat.{IsNew, IsSeated}
-use Rattle.ww_view.specs.View.{IsAway}
+use Rattle.ww_table.specs.Rule.{Sat, first_graph}
+use Rattle.ww_table.specs.Seat.{IsNew}
 use Rattle.ww_plain.specs.Numbers.{is_among}
-use Rattle.ww_seat.specs.Orderly.{IsOrderly}
 use Rattle.ww_lock.specs.declared.hand.Hand.{Hand}
 use Rattle.ww_lock.specs.Holding.{Home, Holding, Place, IsAtHome, AreAtHome, own_of}
 use Rattle.ww_lock.specs.Carried.{holding_of, Carries}
@@ -22,26 +17,9 @@ use Rattle.ww_lock.specs.Opened.{fresh, AreFresh, AreRests}
 use Rattle.ww_lock.specs.declared.world.Rest.{Rest}
 use mathlib.Core.Option.{some}
 use lib.ListN.{get_elem?}
+use Rattle.ww_seat.proofs.Starts.{none_owned, new_settled}
+use Rattle.ww_lock.proofs.Carrying.{settled_as}
 use Rattle.ww_lock.proofs.Helds.{held_none}
-
--- what owns nothing at any number
-none_owned : (n : ℕ) → get_or (replicate 64 false) n false ≡ false
-none_owned n = elim (cases_lt n 64) [
-  | inl lt ↦ get_or-replicate 64 n false false lt
-  | inr le ↦ get_or_past (replicate 64 false) n false (omega (arith, le, length-replicate 64 false))
-]
-
-new_orderly : (key : Start) (k : ℕ) → length (first_graph key) ≤ 64 → IsOrderly (length (first_graph key)) (seat_of (length (first_graph key)) (first_part key.kind k), [])
-new_orderly key k few = record {
-  few = few;
-  owned = length-replicate 64 false;
-  held = length-replicate (length (first_graph key)) None;
-  apart = tt;
-  nodes = λ n owner. absurd (true≢false (sym owner ∙ none_owned n));
-  others = λ n lt lacks. refl;
-  list = λ n inside. absurd cc;
-  lists = λ n outside. refl;
-}
 
 -- a seat that was made just now, in a state that has seen the graph
 pub new_carries : (t : TableId) (key : Start) (k : ℕ) (h : Hand) → IsNew t key k h.seat → key.kind ≡ h.kind → h.held.items ≡ [] → h.seen ≡ first_graph key → length (first_graph key) ≤ 64 → h.left < 2 ^ 32 → Carries h
@@ -50,11 +28,7 @@ new_carries t key k h new kind none seen few left =
     let size : length h.seen ≡ length (first_graph key) = ap length seen in
     let list : h.seat.records.items ≡ [] = new.seated.records ∙ ap (λ (m : Sat). m.0.part.own) me in
     record {
-      settled = record {
-        seated = subst (λ (z : TableId). IsSeated z h.seat) (sym new.seated.home) new.seated;
-        orderly = subst (λ (s : ℕ). IsOrderly s h.seat.seat.me) (sym size) (subst (IsOrderly (length (first_graph key))) (sym me) (new_orderly key k few));
-        away = subst (λ (m : Sat). IsAway m.0.part.core) (sym me) (refl, refl);
-      };
+      settled = settled_as t h.seat.seat.table_id (length (first_graph key)) (length h.seen) h.seat (sym new.seated.home) (sym size) (new_settled t key k h.seat new few);
       kind = sym kind ∙ sym (ap (λ (m : Sat). m.0.part.core.kind) me);
       owned = λ n. ap (λ (m : Sat). owns m.0.part.core n) me ∙ none_owned n ∙ sym (ap (is_among n) none);
       held = rw (none, seen) (held_none (first_graph key) few);

@@ -1,10 +1,9 @@
 //! A load: some threads at once, each with a seat of its own that makes so many rounds.
 
 ghost use Rattle.std.specs.Prelude.{◌≡◌, ◌<◌, ◌≤◌, length, IfOk, IfSome};
-ghost use Rattle.ww_pace.specs.Resting.{IsResting, size_of};
-ghost use Rattle.ww_pace.specs.Standing.{IsUnused};
+ghost use Rattle.ww_rounds.specs.Resting.{IsResting, size_of};
+ghost use Rattle.ww_rounds.specs.Standing.{IsUnused};
 
-use crate::calls::{Tally, round_of_one};
 use rand_core::utils::NextWord;
 use rand_pcg::Pcg32;
 use std::alloc::{AllocError, Global};
@@ -14,6 +13,7 @@ use std::time::Instant;
 use std::{io, thread};
 use ww_plain::{Graph, Node};
 use ww_queue::Kind;
+use ww_rounds::{Tally, round_of_one};
 use ww_table::{Board, Seat16};
 
 /// What a round does.

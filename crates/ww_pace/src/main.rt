@@ -4,7 +4,6 @@
 //! each load once and writes the latter alone, which on one thread is the same each time.
 #![tactic(auto)]
 
-mod calls;
 mod load;
 
 use load::{Load, What, go};

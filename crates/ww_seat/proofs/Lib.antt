@@ -9,4 +9,5 @@ pub mod Waits
 pub mod Working
 pub mod Signing
 pub mod Took
+pub mod Starts
 pub mod Stood

@@ -18,4 +18,5 @@ pub use committing::commit;
 pub use context::{begin, end};
 pub use fast::try_take;
 pub use giving::give;
-pub use waiting::take;
+pub use look::Look;
+pub use waiting::{take, visit};

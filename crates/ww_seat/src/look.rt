@@ -17,7 +17,7 @@ use ww_word::Owner;
 
 /// What one look came to.
 #[derive(Clone, Copy)]
-pub(crate) enum Look {
+pub enum Look {
     /// The lock is the seat's, with this node.
     Locked(Node),
     /// The seat has left the wait list, for this older stamp.

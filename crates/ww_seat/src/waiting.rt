@@ -113,7 +113,7 @@ fn wait<R: Wait>(
 }
 
 /// One look at a lock. Others are woken once the seat is outside the guard again, where they may go.
-fn visit<R: Wait>(
+pub fn visit<R: Wait>(
     rt: &R,
     seat: &mut Seat16,
     board: &Board,

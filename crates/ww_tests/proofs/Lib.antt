@@ -1,1 +1,4 @@
 pub mod FirstSteps
+pub mod Gathered
+pub mod Holding
+pub mod Popped

@@ -13,6 +13,12 @@ mod plain;
 #[cfg(test)]
 mod queues;
 #[cfg(test)]
+mod rings;
+#[cfg(test)]
+mod rounds;
+#[cfg(test)]
+mod rows;
+#[cfg(test)]
 mod scripts;
 #[cfg(test)]
 mod tables;

@@ -39,7 +39,7 @@ fn made(
 }
 
 /// Closes the table. Where a growth is refused, what came back is tried once more.
-fn closed(board: Board, seats: Vec<Seat16>) -> Result<(Vec<Record>, Graph), AllocError>
+pub(crate) fn closed(board: Board, seats: Vec<Seat16>) -> Result<(Vec<Record>, Graph), AllocError>
     requires { HaveAllCome board.table.shared.table_id board.table.shared.key seats.items }
 {
     match board.close(seats) {

@@ -1,5 +1,5 @@
 use Rattle.std.proofs.Common.{arith}
-use Rattle.ww_pace.proofs.Rounds.{out_again, rests_again}
+use Rattle.ww_rounds.proofs.Rounds.{out_again, rests_again}
 use Rattle.ww_pace.proofs.load.pair.Goals as goal
 
 pub give_free-requires-clause-out : goal.give_free-requires-clause-out

@@ -1,4 +1,4 @@
-use Rattle.ww_pace.specs.Resting.{IsResting}
+use Rattle.ww_rounds.specs.Resting.{IsResting}
 use Rattle.ww_pace.proofs.load.work.Given as goal
 
 abbrev pub invariant-loop : goal.invariant-loop

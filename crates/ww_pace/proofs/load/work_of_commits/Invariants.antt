@@ -1,5 +1,5 @@
 use Rattle.std.proofs.Common.{◌≡◌, ◌≤◌}
-use Rattle.ww_pace.specs.Standing.{Did, at_rest}
+use Rattle.ww_rounds.specs.Standing.{Did, at_rest}
 use Rattle.ww_pace.proofs.load.work_of_commits.Given as goal
 
 abbrev pub invariant-loop-at : goal.invariant-loop-at

@@ -1,0 +1,36 @@
+-- A seat in a ring: what it holds, and where it stands.
+use Rattle.std.specs.Prelude.{ℕ, suc, ◌≡◌, ◌<◌, ◌==◌, Bool, List, false, length, not, replicate, slice_set, true}
+use Rattle.ww_queue.specs.declared.kind.Kind.{Kind}
+use Rattle.ww_view.specs.View.{IsAway}
+use Rattle.ww_table.specs.declared.board.Board.{Board}
+use Rattle.ww_table.specs.declared.seat.Seat16.{Seat16}
+use Rattle.ww_table.specs.Seat.{IsSeated}
+use Rattle.ww_seat.specs.Orderly.{IsOrderly}
+use Rattle.ww_seat.specs.Looks.{IsOutside}
+use Rattle.ww_rounds.specs.Resting.{size_of}
+
+-- which locks a seat owns: none, or just this one
+abbrev pub none : List Bool
+none = replicate 64 false
+
+abbrev pub just : ℕ → List Bool
+just n = slice_set none n true
+
+-- a seat of this board, outside each guard, that owns just these locks in a context
+pub record Owns (board : Board) (k : Kind) (locks : List Bool) (s : Seat16) : Type 0 where
+  pub seated : IsSeated board.table.shared.table_id s
+  pub orderly : IsOrderly (size_of board) s.seat.me
+  pub kind : s.seat.me.0.part.core.kind ≡ k
+  pub context : 0 < s.seat.me.0.part.core.stamp
+  pub owned : s.seat.me.0.part.core.owned ≡ locks
+
+-- ... and waits for no lock
+pub record Holds (board : Board) (k : Kind) (locks : List Bool) (s : Seat16) : Type 0 where
+  pub owns : Owns board k locks s
+  pub away : IsAway s.seat.me.0.part.core
+
+-- ... or may look at this lock, where it stands in the wait list, or never was
+pub record MayLook (board : Board) (k : Kind) (locks : List Bool) (n : ℕ) (again : Bool) (s : Seat16) : Type 0 where
+  pub owns : Owns board k locks s
+  pub outside : IsOutside (size_of board) n s.seat.me
+  pub later : again ≡ not (s.seat.me.0.part.core.waits == 0)

@@ -1,0 +1,107 @@
+//! One worked row of two seats on two nodes, by the steps of the table: each call alone, and all words after it.
+
+ghost use Rattle.std.specs.Prelude.{◌≡◌, ◌∷◌, [], IfOk};
+ghost use Rattle.ww_rounds.specs.Resting.{size_of};
+ghost use Rattle.ww_rounds.specs.Standing.{Did, at_first, began, took, committed, gave, ended};
+
+use crate::rings::{compare, two_seats};
+use crate::tables::closed;
+use std::alloc::{AllocError, Global};
+use std::process::Abort;
+use std::test::Fail;
+use ww_queue::Kind;
+use ww_rounds::{begin, commit_one, end, give, take};
+use ww_table::{Board, Seat16};
+
+/// Both begin a context, and each takes a node: seat 1 the second, as the first isn't free.
+fn take_one_each<R: Abort>(rt: &R, board: &Board, zero: &mut Seat16, one: &mut Seat16)
+    requires size { size_of board.now ≡ 2 }
+    requires zero { Did board.now (at_first 0) zero.old }
+    requires one { Did board.now (at_first 1) one.old }
+    ensures zero { Did board.now (took (began (at_first 0)) 0) zero.new }
+    ensures one { Did board.now (took (began (at_first 1)) 1) one.new }
+{
+    assert_eq!(rt; begin(board, zero), 1);
+    compare(rt, board, [0, 0], 0, [1, 0]);
+    assert_eq!(rt; begin(board, one), 2);
+    compare(rt, board, [0, 0], 0, [2, 0]);
+    if !take(board, zero, 0) {
+        panic!(rt; "it was free");
+    }
+    compare(rt, board, [264, 0], 0, [2, 0]);
+    if take(board, one, 0) {
+        panic!(rt; "it was taken");
+    }
+    compare(rt, board, [264, 0], 0, [2, 0]);
+    if !take(board, one, 1) {
+        panic!(rt; "it was free");
+    }
+    compare(rt, board, [264, 528], 0, [2, 0]);
+}
+
+/// Seat 0 commits that its node has 1 more, gives it back, and ends.
+fn commit_and_give<R: Abort>(rt: &R, alloc: Global, board: &Board, zero: &mut Seat16)
+    requires size { size_of board.now ≡ 2 }
+    requires zero { Did board.now (took (began (at_first 0)) 0) zero.old }
+    ensures zero { Did board.now (ended (gave (committed (took (began (at_first 0)) 0)) [])) zero.new }
+{
+    let Ok(place) = commit_one(board, zero, alloc, 0, 0, 0) else {
+        panic!(rt; "no memory")
+    };
+    assert_eq!(rt; place, 0);
+    compare(rt, board, [264, 528], 0, [2, 1]);
+    if !give(board, zero, 0) {
+        panic!(rt; "nobody waits");
+    }
+    compare(rt, board, [0, 528], 0, [2, 1]);
+    if !end(board, zero) {
+        panic!(rt; "nobody signs");
+    }
+    compare(rt, board, [0, 528], 0, [2, 1]);
+}
+
+/// Seat 1 takes the first node too, gives both back, and ends.
+fn take_both<R: Abort>(rt: &R, board: &Board, one: &mut Seat16)
+    requires size { size_of board.now ≡ 2 }
+    requires one { Did board.now (took (began (at_first 1)) 1) one.old }
+    ensures one { Did board.now (ended (gave (gave (took (took (began (at_first 1)) 1) 0) (1 ∷ [])) [])) one.new }
+{
+    if !take(board, one, 0) {
+        panic!(rt; "it was given back");
+    }
+    compare(rt, board, [528, 528], 0, [2, 1]);
+    if !give(board, one, 0) {
+        panic!(rt; "nobody waits");
+    }
+    compare(rt, board, [0, 528], 0, [2, 1]);
+    if !give(board, one, 1) {
+        panic!(rt; "nobody waits");
+    }
+    compare(rt, board, [0, 0], 0, [2, 1]);
+    if !end(board, one) {
+        panic!(rt; "nobody signs");
+    }
+    compare(rt, board, [0, 0], 0, [2, 1]);
+}
+
+/// Both seats, in the order of their numbers.
+fn both(alloc: Global, zero: Seat16, one: Seat16) -> Result<Vec<Seat16>, AllocError>
+    ensures { IfOk result (λ seats. seats.items ≡ zero ∷ one ∷ []) }
+{
+    Ok(vec![in alloc; zero, one]?)
+}
+
+#[test]
+fn two_seats_take_turns_at_two_nodes(rt: HostRuntime) -> Result<(), Fail> {
+    let alloc = rt.alloc();
+    let (board, mut zero, mut one) = two_seats(alloc, Kind::WoundWait)?;
+    compare(&rt, &board, [0, 0], 0, [0, 0]);
+    take_one_each(&rt, &board, &mut zero, &mut one);
+    commit_and_give(&rt, alloc, &board, &mut zero);
+    take_both(&rt, &board, &mut one);
+    let seats = both(alloc, zero, one)?;
+    let (records, graph) = closed(board, seats)?;
+    assert!(rt; records.len() == 1 && graph.size() == 2);
+    assert!(rt; graph.node(0).value == 1 && graph.node(1).value == 0);
+    Ok(())
+}
