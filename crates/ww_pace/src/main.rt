@@ -8,6 +8,7 @@ mod load;
 
 use load::{Load, What, go};
 use std::{env, io};
+use ww_word::MAX_SEATS;
 
 fn main(rt: HostRuntime) -> io::Result<()> {
     let mut numbers = [0u32; 3];
@@ -24,7 +25,7 @@ fn main(rt: HostRuntime) -> io::Result<()> {
         }
     }
     let [threads, rounds, times] = numbers;
-    let threads = u8::try_from(threads).unwrap_or(0).clamp(1, 16);
+    let threads = u8::try_from(threads).unwrap_or(0).clamp(1, MAX_SEATS as u8);
     if times == 0 {
         for what in [What::Pairs, What::PairsOf64, What::Commits] {
             let load = Load {
