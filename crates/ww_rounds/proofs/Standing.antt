@@ -1,5 +1,5 @@
 -- What each call makes of what is told of a seat.
-use Rattle.std.proofs.Common.{◌≡◌, ◌≢◌, ℕ, zero, suc, ◌+◌, ◌≤◌, ◌<◌, ◌^◌, ◌⊎◌, Bool, true, false, true≢false, ◌||◌, eqb, eq-eqb, ne_eqb, List, [], ◌∷◌, ◌++◌, length, map, replicate, get_or, set, fold, sym, refl, ap, ◌∙◌, subst, ⊎_elim, inl, inr, arith, Option, Some, None, length-set, length-append, get_or-set_same, get_or-set_other}
+use Rattle.std.proofs.Common.{◌≡◌, ◌≢◌, ℕ, zero, suc, ◌+◌, ◌≤◌, ◌<◌, ◌^◌, Bool, true, false, true≢false, ◌||◌, ne_eqb, List, [], ◌∷◌, length, map, get_or, set, sym, refl, ap, ◌∙◌, subst, ⊎_elim, inl, inr, arith, Option, Some, None, length-set, length-append, get_or-set_same, get_or-set_other}
 use Rattle.std.specs.Bool.{if◌then◌else◌}
 use Rattle.std.specs.List.{AllByRecursion}
 use mathlib.Core.Logic.{dite}
@@ -17,7 +17,6 @@ use Rattle.ww_plain.specs.Transaction.{add, transaction_of, HasLength}
 use Rattle.ww_plain.specs.Meaning.{raised, graph_after, done}
 use Rattle.ww_plain.proofs.Members.{is_among-head, is_among-tail, among_cons, different_cons, different_none, not_among_from_others}
 use Rattle.ww_plain.proofs.Frames.{is_among-distinct_of}
-use Rattle.ww_view.specs.declared.view.View.{View}
 use Rattle.ww_view.specs.View.{owns, IsBare}
 use Rattle.ww_view.specs.May.{MayFast}
 use Rattle.ww_view.specs.Made.{ended as view_ended, fast_missed, fast_given}

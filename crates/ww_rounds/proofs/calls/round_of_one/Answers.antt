@@ -1,6 +1,6 @@
-use Rattle.std.proofs.Common.{◌≡◌, ◌≤◌, ◌+◌, ◌∷◌, [], refl, sym, subst, inl, arith}
+use Rattle.std.proofs.Common.{◌+◌, [], refl, sym, subst, inl, arith}
 use Rattle.ww_plain.proofs.Members.{is_among-head}
-use Rattle.ww_rounds.specs.Standing.{Deeds, Did, resting, fresh, working, at_rest, began, took, committed}
+use Rattle.ww_rounds.specs.Standing.{Deeds, Did, fresh, working, at_rest, began, took, committed}
 use Rattle.ww_rounds.proofs.calls.round_of_one.Goals.{then-take+in-Ok+else-not-give, else-take}
 use Rattle.ww_rounds.proofs.calls.round_of_one.Goals as goal
 
