@@ -55,7 +55,8 @@ fn graph(alloc: Global) -> Result<Graph, AllocError>
     Graph::new(nodes).ok().ok_or(AllocError)
 }
 
-/// Takes a lock and gives it back, and tells whether it had the lock; nothing where the lock can't be given back at once.
+/// Takes a lock and gives it back, and tells whether it had the lock; nothing where the lock can't be given back at
+/// once.
 #[inline(always)]
 fn pair(board: &Board, seat: &mut Seat16, lock: u8) -> Option<bool>
     requires resting { IsResting board.now seat.old }

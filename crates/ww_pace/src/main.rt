@@ -1,7 +1,7 @@
-//! Times rounds on the table of the running locks. Its arguments are a load (`pairs`, `pairs-of-64` or `commits`) and three
-//! numbers: how many threads there are, how many rounds each makes, and how often all of them are timed. It writes a line for
-//! each time: nanoseconds, and how many rounds came to hold their lock. Where nothing is to be timed it makes the rounds of
-//! each load once and writes the latter alone, which on one thread is the same each time.
+//! Times rounds on the table of the running locks. Its arguments are a load (`pairs`, `pairs-of-64` or `commits`) and
+//! three numbers: how many threads there are, how many rounds each makes, and how often all of them are timed. It
+//! writes a line for each time: nanoseconds, and how many rounds came to hold their lock. Where nothing is to be timed
+//! it makes the rounds of each load once and writes the latter alone, which on one thread is the same each time.
 #![tactic(auto)]
 
 mod load;

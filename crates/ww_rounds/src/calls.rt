@@ -23,7 +23,8 @@ pub struct Tally {
 /// Starts a context, and gives its stamp.
 #[inline(always)]
 pub fn begin(board: &Board, seat: &mut Seat16) -> u64
-    requires did { (d : Deeds) × Did board.now d seat.old × (d.stage ≡ resting) × (d.locks ≡ []) × (d.draws + 1 < 2 ^ 32) }
+    requires did { (d : Deeds) × Did board.now d seat.old × (d.stage ≡ resting) × (d.locks ≡ [])
+        × (d.draws + 1 < 2 ^ 32) }
     ensures { (d : Deeds) → Did board.now d seat.old → Did board.now (began d) seat.new }
 {
     seat.draw(board)
@@ -32,9 +33,11 @@ pub fn begin(board: &Board, seat: &mut Seat16) -> u64
 /// One try to take a lock.
 #[inline(always)]
 pub fn take(board: &Board, seat: &mut Seat16, lock: u8) -> bool
-    requires did { (d : Deeds) × Did board.now d seat.old × CanTake d × (is_among lock d.locks ≡ false) × (length d.locks < 65) }
+    requires did { (d : Deeds) × Did board.now d seat.old × CanTake d × (is_among lock d.locks ≡ false)
+        × (length d.locks < 65) }
     requires lock { lock < size_of board.now }
-    ensures took { result ≡ true → (d : Deeds) → Did board.now d seat.old → CanTake d → is_among lock d.locks ≡ false → Did board.now (took d lock) seat.new }
+    ensures took { result ≡ true → (d : Deeds) → Did board.now d seat.old → CanTake d →
+        is_among lock d.locks ≡ false → Did board.now (took d lock) seat.new }
     ensures missed { result ≡ false → (d : Deeds) → Did board.now d seat.old → Did board.now d seat.new }
 {
     seat.take_free(board, lock)
@@ -44,7 +47,8 @@ pub fn take(board: &Board, seat: &mut Seat16, lock: u8) -> bool
 #[inline(always)]
 pub fn give(board: &Board, seat: &mut Seat16, lock: u8) -> bool
     requires did { (d : Deeds) × Did board.now d seat.old × (is_among lock d.locks ≡ true) }
-    ensures { result ≡ true → (d : Deeds) (ls : List ℕ) → Did board.now d seat.old → d.locks ≡ lock ∷ ls → is_among lock ls ≡ false → Did board.now (gave d ls) seat.new }
+    ensures { result ≡ true → (d : Deeds) (ls : List ℕ) → Did board.now d seat.old → d.locks ≡ lock ∷ ls →
+        is_among lock ls ≡ false → Did board.now (gave d ls) seat.new }
 {
     seat.give_free(board, lock)
 }
@@ -87,9 +91,11 @@ pub fn commit_one(
     seq: u64,
     node: u8,
 ) -> Result<u64, AllocError>
-    requires did { (d : Deeds) × Did board.now d seat.old × (d.who ≡ who) × (d.commits ≡ seq) × (is_among node d.locks ≡ true) }
+    requires did { (d : Deeds) × Did board.now d seat.old × (d.who ≡ who) × (d.commits ≡ seq)
+        × (is_among node d.locks ≡ true) }
     requires fewer { seq + 1 < 2 ^ 32 }
-    ensures ok { IfOk result (λ place. (d : Deeds) → Did board.now d seat.old → is_among node d.locks ≡ true → Did board.now (committed d) seat.new) }
+    ensures ok { IfOk result (λ place. (d : Deeds) → Did board.now d seat.old → is_among node d.locks ≡ true →
+        Did board.now (committed d) seat.new) }
     ensures err { OnErr result ((d : Deeds) → Did board.now d seat.old → Did board.now d seat.new) }
 {
     let amounts = Vec::from_slice(alloc, &[(node, 1u64)])?;
@@ -105,8 +111,8 @@ pub fn commit_one(
     Ok(place)
 }
 
-/// A round: a context that takes a lock, commits that its node has 1 more, and gives the lock back. What it comes to, or
-/// nothing where it can't be ended.
+/// A round: a context that takes a lock, commits that its node has 1 more, and gives the lock back. What it comes to,
+/// or nothing where it can't be ended.
 #[inline(always)]
 pub fn round_of_one(
     board: &Board,
