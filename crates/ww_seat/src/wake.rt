@@ -9,7 +9,9 @@ pub(crate) struct Wake {
 
 impl Wake {
     pub(crate) fn new() -> Wake {
-        Wake { seats: [false; MAX_SEATS] }
+        Wake {
+            seats: [false; MAX_SEATS],
+        }
     }
 
     pub(crate) fn add(&mut self, seat: u8) {
