@@ -71,14 +71,7 @@ pub(crate) fn two_seats(alloc: Global, kind: Kind) -> Result<(Board, Seat16, Sea
 }
 
 /// Begins a context, and takes a lock that is free.
-fn hold<R: Abort>(
-    rt: &R,
-    board: &Board,
-    seat: &mut Seat16,
-    kind: Kind,
-    lock: u8,
-    before: [u64; 2],
-)
+fn hold<R: Abort>(rt: &R, board: &Board, seat: &mut Seat16, kind: Kind, lock: u8, before: [u64; 2])
     requires size { size_of board.now ≡ 2 }
     requires kind { board.now.table.shared.key.kind ≡ kind }
     requires new { (k : ℕ) × IsNew board.now.table.shared.table_id board.now.table.shared.key k seat.old }

@@ -125,8 +125,7 @@ fn apart<R: Abort>(
         seat,
         tally: _,
         made,
-    } in works
-    {
+    } in works {
         come(rt, board, &mut seats, seat)?;
         all.push(made)?;
     }
