@@ -5,6 +5,10 @@
 #[cfg(test)]
 mod cores;
 #[cfg(test)]
+mod growths;
+#[cfg(test)]
+mod kinds;
+#[cfg(test)]
 mod locks;
 #[cfg(test)]
 mod pairs;

@@ -320,6 +320,22 @@ fn spent_pass_comes_back(rt: HostRuntime) -> Result<(), Fail> {
 }
 
 #[test]
+fn one_solo_spends_a_pass(rt: HostRuntime) -> Result<(), Fail> {
+    let (world, zero, _one) = two_passes(rt.alloc(), Kind::WaitDie, &[7], 1)?;
+    assert!(rt; world.size() == 1);
+    let zero = match zero.lock_solo(&rt, &world, 0) {
+        Ok(solo) => solo.unlock(&rt, &world),
+        Err(_zero) => panic!(rt; "it had one left"),
+    };
+    let zero = match zero.lock_solo(&rt, &world, 0) {
+        Ok(_solo) => panic!(rt; "it had nothing left"),
+        Err(zero) => zero,
+    };
+    assert_eq!(rt; (zero.caller(), zero.left()), (0, 0));
+    Ok(())
+}
+
+#[test]
 fn solo_peeks(rt: HostRuntime) -> Result<(), Fail> {
     let (world, zero, _one) = two_passes(rt.alloc(), Kind::WoundWait, &[0, 9], 1)?;
     assert!(rt; world.size() == 2);

@@ -19,13 +19,13 @@ const ROUNDS: u32 = 10_000;
 
 /// What one thread shows to the other: how often it has come to where they wait for one another, and the stamp of its context.
 #[derive(Drop)]
-struct Side {
+pub(crate) struct Side {
     come: AtomicU64,
-    stamp: AtomicU64,
+    pub(crate) stamp: AtomicU64,
 }
 
 impl Side {
-    fn new() -> Side {
+    pub(crate) fn new() -> Side {
         Side {
             come: AtomicU64::new(0),
             stamp: AtomicU64::new(0),
@@ -35,14 +35,14 @@ impl Side {
 
 /// A thread's own side, and the other's.
 #[derive(Clone, Copy)]
-struct Sides<'a> {
-    own: &'a Side,
-    other: &'a Side,
+pub(crate) struct Sides<'a> {
+    pub(crate) own: &'a Side,
+    pub(crate) other: &'a Side,
 }
 
 impl Sides<'_> {
     /// Waits until the other thread has come as often as this one, and tells whether it has within 2^32 - 1 turns.
-    fn meet(&self) -> bool {
+    pub(crate) fn meet(&self) -> bool {
         let times = self.own.come.load(Ordering::SeqCst).wrapping_add(1);
         self.own.come.store(times, Ordering::SeqCst);
         for turn in 0..u32::MAX {
@@ -59,7 +59,12 @@ impl Sides<'_> {
 }
 
 /// Begins a context and locks its first node.
-fn first_locked<R: Wait>(rt: &R, world: &World, pass: Pass, first: u8) -> Result<Acquiring, Pass>
+pub(crate) fn first_locked<R: Wait>(
+    rt: &R,
+    world: &World,
+    pass: Pass,
+    first: u8,
+) -> Result<Acquiring, Pass>
     requires home { IsAtHome pass world.now }
     requires node { first < length world.now.first }
     ensures ok { IfOk result (λ a. IsAtHome a world.now) }

@@ -18,7 +18,7 @@ use ww_queue::Kind;
 use ww_txn::{Gate, TxnFault, transact};
 
 /// A gate that holds nobody up.
-struct Open;
+pub(crate) struct Open;
 
 impl Gate for Open {
     fn before_commit(&self, _caller: u8, _seq: u64) {}

@@ -97,6 +97,34 @@ fn each_way_locks_what_it_names(rt: HostRuntime) -> Result<(), Fail> {
     in_turn(&rt, rt.alloc())
 }
 
+/// A list, and a walk, each locked by the only context that its pass has left. The pass is spent then.
+fn once_each<R: Wait + Abort>(rt: &R, alloc: Global) -> Result<(), Fail> {
+    let (world, pass) = one_pass(alloc, 1)?;
+    assert!(rt; world.size() == 3);
+    let Ok(done) = lock_order(&world, pass, rt, &[2, 0]) else {
+        panic!(rt; "a list is locked")
+    };
+    let pass = covered(rt, &world, done, &Txn::Move(2, 0, 1));
+    let answer = lock_order(&world, pass, rt, &[2, 0]);
+    refused(rt, answer, UserFault::PassSpent);
+    let (world, pass) = one_pass(alloc, 1)?;
+    assert!(rt; world.size() == 3);
+    let Ok(done) = lock_walk(&world, pass, rt, 0, 0, 64) else {
+        panic!(rt; "a walk is locked")
+    };
+    let pass = covered(rt, &world, done, &Txn::Reverse(0, 0, 64));
+    match lock_walk(&world, pass, rt, 0, 0, 64) {
+        Ok(_done) => panic!(rt; "it had nothing left"),
+        Err(pass) => assert!(rt; pass.left() == 0),
+    }
+    Ok(())
+}
+
+#[test]
+fn spent_pass_locks_nothing(rt: HostRuntime) -> Result<(), Fail> {
+    once_each(&rt, rt.alloc())
+}
+
 /// Which way two threads take their locks.
 #[derive(Clone, Copy)]
 enum Way {
