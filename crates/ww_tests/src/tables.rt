@@ -24,6 +24,14 @@ fn pair(alloc: Global, values: [u64; 2]) -> Result<Graph, AllocError> {
     Graph::new(nodes).map_err(|_| AllocError)
 }
 
+/// The same. Where a growth is refused, it is tried once more.
+fn pair_again(alloc: Global, values: [u64; 2]) -> Result<Graph, AllocError> {
+    match pair(alloc, values) {
+        Ok(graph) => Ok(graph),
+        Err(_) => pair(alloc, values),
+    }
+}
+
 /// A table with 16 seats. Where a growth is refused, the graph that came back is tried once more.
 fn made(
     alloc: Global,
@@ -50,7 +58,7 @@ pub(crate) fn closed(board: Board, seats: Vec<Seat16>) -> Result<(Vec<Record>, G
 
 /// What closing gives of a table of nodes of 7 and 9 whose seats did nothing.
 fn at_once(alloc: Global, kind: Kind) -> Result<(Vec<Record>, Graph), AllocError> {
-    let graph = pair(alloc, [7, 9])?;
+    let graph = pair_again(alloc, [7, 9])?;
     let (board, seats) = match made(alloc, kind, graph) {
         Ok(made) => made,
         Err((_, error)) => return Err(error),
@@ -58,7 +66,7 @@ fn at_once(alloc: Global, kind: Kind) -> Result<(Vec<Record>, Graph), AllocError
     closed(board, seats)
 }
 
-/// With `--fail-alloc` each growth of making and closing is refused in turn, and all is given back.
+/// `bench/refuse_library_growths` refuses each growth of making and closing in turn: all comes back then.
 #[test]
 fn makes_and_closes_at_once(rt: HostRuntime) -> Result<(), Fail> {
     for kind in [Kind::WoundWait, Kind::WaitDie] {
