@@ -47,7 +47,7 @@ pub fn take<R: Wait>(
 }
 
 /// How often a waiter reads the words before it parks.
-const READS: u32 = 1_000;
+const READS: u32 = 30;
 
 /// The own signs stand behind the owner words and the guards, as a board counts its words.
 const SIGNS: usize = 128;
