@@ -2,6 +2,7 @@
 
 ghost use Rattle.std.specs.Prelude.{◌≡◌, ◌<◌, ◌∷◌, [], length, IfOk, IfErr};
 ghost use Rattle.ww_lock.specs.Holding.{IsAtHome};
+ghost use Rattle.ww_lock.specs.Moves.{HasTried};
 ghost use Rattle.ww_users.specs.Trips.{IsSameContext, HasLocked};
 
 use std::sync::Wait;
@@ -26,7 +27,7 @@ pub(crate) fn lock_one<R: Wait>(
     requires home { IsAtHome acquiring world.now }
     requires node { n < length world.now.first }
     ensures ok { IfOk result (HasLocked acquiring n) }
-    ensures err { IfErr result (λ b. IsSameContext acquiring b.holding) }
+    ensures err { IfErr result (λ b. HasTried acquiring b.holding) }
 {
     match acquiring.lock(rt, world, n) {
         Lock::Locked(acquiring) | Lock::Already(acquiring) => Ok(acquiring),
