@@ -123,7 +123,7 @@ wound_from c s n v k wounding h = let o = owner_as c (c.owner n) in
     let w = wounded_why o (c.queue n) s v k (subst (λ x. Has (owed_signs x o (c.queue n) s) (v, k)) wounding h) in
     let own = taken_from c (c.owner n) v w.owns w.taken in let same = stamp_is c (c.owner n) v (inl own) in
     let younger : k < c.stamp v = (let z = w.older.1 in omega arith) in
-    let l = w.oldest in (own, w.older.0, younger, (l.holder, l.stands, l.holds.1, l.stamp))
+    let l = w.oldest in (own, w.older.0, younger, (l.waiter, l.stands, l.holds.1, l.stamp))
 
 -- whom Wait-Die signs has to die there
 pub death_from : (c : State) (s n v k : ℕ) → c.kind ≡ WaitDie → Has (owes c s n) (v, k) → DiesOf c v n k

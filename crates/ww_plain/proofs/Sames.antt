@@ -9,11 +9,11 @@ use Rattle.ww_plain.specs.declared.node.Node.{Node}
 use Rattle.ww_plain.specs.declared.transaction.By.TheVariants.{List as AlongList, Order}
 use Rattle.ww_plain.specs.declared.transaction.Txn.{Txn}
 use Rattle.ww_plain.specs.declared.transaction.Txn.TheVariants.{Get, Add, Move, Link, Sum, Reverse, Peek}
-use Rattle.ww_plain.specs.declared.history.Reply.{Reply}
+use Rattle.ww_plain.specs.declared.reply.Reply.{Reply}
 use Rattle.ww_plain.specs.declared.history.Record.{Record}
 use Rattle.ww_plain.specs.contracts.node.NodePartialEq.TheImpl as of_node
 use Rattle.ww_plain.specs.contracts.transaction.TxnPartialEq.TheImpl as of_txn
-use Rattle.ww_plain.specs.contracts.history.ReplyPartialEq.TheImpl as of_reply
+use Rattle.ww_plain.specs.contracts.reply.ReplyPartialEq.TheImpl as of_reply
 use Rattle.ww_plain.specs.contracts.history.RecordPartialEq.TheImpl as of_record
 use Rattle.ww_plain.specs.Transaction.{Transaction, add, transaction_of}
 use Rattle.ww_plain.specs.Meaning.{answer_of}

@@ -1,8 +1,8 @@
 -- What a transaction answers, and the graph after it.
 use Rattle.std.specs.Prelude.{ℕ, ◌+◌, ◌-◌, ◌%◌, ◌^◌, ◌∷◌, [], List, Option, Some, length, fold, map, sum_by, nat_lt, if◌then◌else◌}
 use Rattle.ww_plain.specs.declared.node.Node.{Node}
-use Rattle.ww_plain.specs.declared.history.Reply.{Reply}
-use Rattle.ww_plain.specs.declared.history.Reply.TheVariants.{Values, Done, Moved, Short, Full, Was, Sum, End}
+use Rattle.ww_plain.specs.declared.reply.Reply.{Reply}
+use Rattle.ww_plain.specs.declared.reply.Reply.TheVariants.{Values, Done, Moved, Short, Full, Was, Sum, End}
 use Rattle.ww_plain.specs.Graph.{value_of, port_of, with_value, with_port}
 use Rattle.ww_plain.specs.Transaction.{Transaction, get, add, move, link, sum, reverse, peek}
 use Rattle.ww_plain.specs.Walk.{walk_of, stop_of, last_of}

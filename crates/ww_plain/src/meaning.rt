@@ -6,8 +6,8 @@ ghost use Rattle.ww_plain.specs.Graph.{value_of, port_of, with_port};
 ghost use Rattle.ww_plain.specs.Meaning.{was, summing, answer_of, raised, moving, turning, meaning};
 
 use crate::graph::{Graph, MAX_NODES};
-use crate::history::Reply;
 use crate::node::{Node, PORTS};
+use crate::reply::Reply;
 use crate::transaction::Txn;
 use crate::walk::walk_from;
 use std::alloc::{AllocError, Global};

@@ -7,11 +7,11 @@ use Rattle.ww_word.specs.declared.owner.Owner.{Owner}
 use Rattle.ww_queue.specs.declared.kind.Kind.{Kind}
 use Rattle.ww_queue.specs.declared.kind.Kind.TheVariants.{WoundWait, WaitDie}
 use Rattle.ww_queue.specs.declared.entry.Entry.{Entry}
-use Rattle.ww_queue.specs.Entry.{is_older, IsOlder, is_holder, IsHolder}
+use Rattle.ww_queue.specs.Entry.{is_older, IsOlder, is_holding, IsHolding}
 use Rattle.ww_queue.specs.Queue.{Has, Before, StandsNot, Once, Ascends, entry_of, first_before}
 use Rattle.ww_queue.specs.Rules.{is_other, older_owner, cause_of, death_of, must_die}
 use Rattle.ww_queue.specs.Laws.{MeetsOlderOwner, IsCause}
-use Rattle.ww_queue.proofs.Outcomes.{by_test, both_true, true_both, true_picks, number_other, older_true, true_older, holder_true, true_holder}
+use Rattle.ww_queue.proofs.Outcomes.{by_test, both_true, true_both, true_picks, number_other, older_true, true_older, holding_true, true_holding}
 use Rattle.ww_queue.proofs.Leaves.{entry_why, entry_when, entry_none}
 use Rattle.ww_queue.proofs.Aheads.{before_older, ahead_when, ahead_why, ahead_is_first_before}
 
@@ -78,12 +78,12 @@ cause_when owner q e sign k h cause = ⊎_elim
     cause
 
 -- only a waiter that holds locks dies, and of its cause
-pub death_why : (kind : Kind) (owner : Owner) (q : List Entry) (sign : ℕ) (e : Entry) (k : ℕ) → death_of kind owner q sign e ≡ Some k → IsHolder e × (cause_of kind owner q sign e ≡ Some k)
-death_why kind owner q sign e k = by_test (is_holder e) (cause_of kind owner q sign e) None (λ o. o ≡ Some k → IsHolder e × (cause_of kind owner q sign e ≡ Some k))
-    (λ holds is. (holder_true e holds, is)) (λ _ is. absurd cc)
+pub death_why : (kind : Kind) (owner : Owner) (q : List Entry) (sign : ℕ) (e : Entry) (k : ℕ) → death_of kind owner q sign e ≡ Some k → IsHolding e × (cause_of kind owner q sign e ≡ Some k)
+death_why kind owner q sign e k = by_test (is_holding e) (cause_of kind owner q sign e) None (λ o. o ≡ Some k → IsHolding e × (cause_of kind owner q sign e ≡ Some k))
+    (λ holds is. (holding_true e holds, is)) (λ _ is. absurd cc)
 
-pub death_when : (kind : Kind) (owner : Owner) (q : List Entry) (sign : ℕ) (e : Entry) → IsHolder e → death_of kind owner q sign e ≡ cause_of kind owner q sign e
-death_when kind owner q sign e holder = true_picks {A = Option ℕ} (is_holder e) (cause_of kind owner q sign e) None (true_holder e holder)
+pub death_when : (kind : Kind) (owner : Owner) (q : List Entry) (sign : ℕ) (e : Entry) → IsHolding e → death_of kind owner q sign e ≡ cause_of kind owner q sign e
+death_when kind owner q sign e holding = true_picks {A = Option ℕ} (is_holding e) (cause_of kind owner q sign e) None (true_holding e holding)
 
 -- what a seat dies of is what its waiter dies of
 pub must_die_of_entry : (kind : Kind) (owner : Owner) (q : List Entry) (e : Entry) (sign : ℕ) → Once q → Has q e → must_die kind owner q e.seat sign ≡ death_of kind owner q sign e
@@ -98,7 +98,7 @@ must_die_why kind owner q me sign k is =
 pub only_waiters_die : (kind : Kind) (owner : Owner) (q : List Entry) (me sign : ℕ) → StandsNot q me → must_die kind owner q me sign ≡ None
 only_waiters_die kind owner q me sign out = ap (option_and_then (death_of kind owner q sign)) (entry_none q me out)
 
-pub wait_die_condemns : (owner : Owner) (q : List Entry) (e : Entry) (sign k : ℕ) → Once q → Has q e → (must_die WaitDie owner q e.seat sign ≡ Some k) ↔ (IsHolder e × IsCause owner q e k)
+pub wait_die_condemns : (owner : Owner) (q : List Entry) (e : Entry) (sign k : ℕ) → Once q → Has q e → (must_die WaitDie owner q e.seat sign ≡ Some k) ↔ (IsHolding e × IsCause owner q e k)
 wait_die_condemns owner q e sign k once h = let own = must_die_of_entry WaitDie owner q e sign once h in (
   λ is. let death = death_why WaitDie owner q sign e k (sym own ∙ is) in (death.0, cause_why owner q e sign k h death.1),
   λ why. own ∙ death_when WaitDie owner q sign e why.0 ∙ cause_when owner q e sign k h why.1,
@@ -111,30 +111,30 @@ sign_when : (sign k : ℕ) → (0 < k) × (k ≡ sign) → cond (nat_lt 0 sign) 
 sign_when sign k why = let some : nat_lt 0 sign ≡ true = let lt = why.0 in let same = why.1 in grind (arith, common_steps) in
     true_picks {A = Option ℕ} (nat_lt 0 sign) (Some sign) None some ∙ ap Some (sym why.1)
 
-pub wound_wait_condemns : (owner : Owner) (q : List Entry) (e : Entry) (sign k : ℕ) → Once q → Has q e → (must_die WoundWait owner q e.seat sign ≡ Some k) ↔ (IsHolder e × (0 < k) × (k ≡ sign))
+pub wound_wait_condemns : (owner : Owner) (q : List Entry) (e : Entry) (sign k : ℕ) → Once q → Has q e → (must_die WoundWait owner q e.seat sign ≡ Some k) ↔ (IsHolding e × (0 < k) × (k ≡ sign))
 wound_wait_condemns owner q e sign k once h = let own = must_die_of_entry WoundWait owner q e sign once h in (
   λ is. let death = death_why WoundWait owner q sign e k (sym own ∙ is) in let why = sign_why sign k death.1 in (death.0, why.0, why.1),
   λ why. own ∙ death_when WoundWait owner q sign e why.0 ∙ sign_when sign k (why.1, why.2),
 )
 
 -- a waiter that holds locks and has a cause dies
-cause_kills : (owner : Owner) (q : List Entry) (e : Entry) (sign k : ℕ) → Once q → Has q e → IsHolder e → cause_of WaitDie owner q sign e ≡ Some k → (k : ℕ) × (must_die WaitDie owner q e.seat sign ≡ Some k)
-cause_kills owner q e sign k once h holder is = (k, must_die_of_entry WaitDie owner q e sign once h ∙ death_when WaitDie owner q sign e holder ∙ is)
+cause_kills : (owner : Owner) (q : List Entry) (e : Entry) (sign k : ℕ) → Once q → Has q e → IsHolding e → cause_of WaitDie owner q sign e ≡ Some k → (k : ℕ) × (must_die WaitDie owner q e.seat sign ≡ Some k)
+cause_kills owner q e sign k once h holding is = (k, must_die_of_entry WaitDie owner q e sign once h ∙ death_when WaitDie owner q sign e holding ∙ is)
 
 -- an older owner, or a context before it, makes a waiter that holds locks die
-pub dies_when : (owner : Owner) (q : List Entry) (e : Entry) (sign : ℕ) → Once q → Has q e → IsHolder e
+pub dies_when : (owner : Owner) (q : List Entry) (e : Entry) (sign : ℕ) → Once q → Has q e → IsHolding e
     → MeetsOlderOwner owner e ⊎ ((x : Entry) × Before q x e × (0 < x.stamp)) → (k : ℕ) × (must_die WaitDie owner q e.seat sign ≡ Some k)
-dies_when owner q e sign once h holder why = go (older_owner owner e) refl
+dies_when owner q e sign once h holding why = go (older_owner owner e) refl
   where
     go : (o : Option ℕ) → older_owner owner e ≡ o → (k : ℕ) × (must_die WaitDie owner q e.seat sign ≡ Some k)
-    go (Some k) met = cause_kills owner q e sign k once h holder (ap (or_ahead q e) met)
+    go (Some k) met = cause_kills owner q e sign k once h holding (ap (or_ahead q e) met)
     go None none = ⊎_elim (λ met. absurd (none_older owner e none met))
         (λ x. let z = ahead_when q x.0 e once x.1 x.2 in
-        cause_kills owner q e sign z.0.stamp once h holder (ap (or_ahead q e) none ∙ ap (option_map (λ (x : Entry). x.stamp)) z.1)) why
+        cause_kills owner q e sign z.0.stamp once h holding (ap (or_ahead q e) none ∙ ap (option_map (λ (x : Entry). x.stamp)) z.1)) why
 
 -- a waiter that dies holds locks, and meets an older owner or has a context before it
 pub dies_why : (owner : Owner) (q : List Entry) (me sign k : ℕ) → must_die WaitDie owner q me sign ≡ Some k
-    → (e : Entry) × Has q e × (e.seat ≡ me) × IsHolder e
+    → (e : Entry) × Has q e × (e.seat ≡ me) × IsHolding e
     × ((MeetsOlderOwner owner e × (k ≡ owner.stamp)) ⊎ ((x : Entry) × Before q x e × (0 < x.stamp) × (k ≡ x.stamp)))
 dies_why owner q me sign k is =
     let own = must_die_why WaitDie owner q me sign k is in

@@ -3,7 +3,7 @@ use Rattle.std.proofs.Common.{ℕ, ◌≡◌, ◌<◌, ◌≤◌, true, false, a
 use Rattle.std.proofs.lemmas.Grind.{common_steps}
 pub use Rattle.std.proofs.lemmas.Bool.{cond_both as by_test, cond-true as true_picks, cond-false as false_picks, and_parts as both_true, and_from as true_both, eqb-true as same_number, eqb-false as other_number, ne_eqb as number_other}
 use Rattle.ww_queue.specs.declared.entry.Entry.{Entry}
-use Rattle.ww_queue.specs.Entry.{is_older, IsOlder, has_context, is_holder, IsHolder}
+use Rattle.ww_queue.specs.Entry.{is_older, IsOlder, has_context, is_holding, IsHolding}
 
 pub older_true : (k m : ℕ) → is_older k m ≡ true → IsOlder k m
 older_true k m is = (grind (arith, common_steps), grind (arith, common_steps))
@@ -27,8 +27,8 @@ context_false e isnt = grind (arith, common_steps)
 pub true_context : (e : Entry) → 0 < e.stamp → has_context e ≡ true
 true_context e some = grind (arith, common_steps)
 
-pub holder_true : (e : Entry) → is_holder e ≡ true → IsHolder e
-holder_true e is = (grind (arith, common_steps), grind (arith, common_steps))
+pub holding_true : (e : Entry) → is_holding e ≡ true → IsHolding e
+holding_true e is = (grind (arith, common_steps), grind (arith, common_steps))
 
-pub true_holder : (e : Entry) → IsHolder e → is_holder e ≡ true
-true_holder e holder = grind (arith, common_steps)
+pub true_holding : (e : Entry) → IsHolding e → is_holding e ≡ true
+true_holding e holding = grind (arith, common_steps)

@@ -8,11 +8,11 @@ use Rattle.ww_word.specs.Owner.{is_handed}
 use Rattle.ww_queue.specs.declared.kind.Kind.{Kind}
 use Rattle.ww_queue.specs.declared.kind.Kind.TheVariants.{WoundWait, WaitDie}
 use Rattle.ww_queue.specs.declared.entry.Entry.{Entry}
-use Rattle.ww_queue.specs.Entry.{is_older, IsOlder, is_holder, IsHolder}
+use Rattle.ww_queue.specs.Entry.{is_older, IsOlder, is_holding, IsHolding}
 use Rattle.ww_queue.specs.Queue.{Has, Once, Ascends}
 use Rattle.ww_queue.specs.Rules.{must_die, taker_of, least_of, holding_stamp, least_holding, owed_wound, owed_death, owed_signs}
 use Rattle.ww_queue.specs.Laws.{IsLeastHolding, IsWounded}
-use Rattle.ww_queue.proofs.Outcomes.{by_test, true_picks, false_picks, other_number, number_other, older_true, true_older, holder_true, true_holder}
+use Rattle.ww_queue.proofs.Outcomes.{by_test, true_picks, false_picks, other_number, number_other, older_true, true_older, holding_true, true_holding}
 use Rattle.ww_queue.proofs.Members.{filter_map_from, filter_map_has}
 use Rattle.ww_queue.proofs.Deaths.{must_die_why, dies_why, death_is_of_older, death_is_of_context}
 
@@ -41,11 +41,11 @@ signed_when owner q me seat k other dies =
 pub signs_are_deaths : (owner : Owner) (q : List Entry) (me seat k : ℕ) → Has (owed_signs WaitDie owner q me) (seat, k) ↔ ((seat ≢ me) × (must_die WaitDie owner q seat 0 ≡ Some k))
 signs_are_deaths owner q me seat k = (signed_why owner q me seat k, λ why. signed_when owner q me seat k why.0 why.1)
 
-holding_why : (e : Entry) (k : ℕ) → holding_stamp e ≡ Some k → IsHolder e × (e.stamp ≡ k)
-holding_why e k is = let both = cond_some (is_holder e) e.stamp k is in (holder_true e both.0, both.1)
+holding_why : (e : Entry) (k : ℕ) → holding_stamp e ≡ Some k → IsHolding e × (e.stamp ≡ k)
+holding_why e k is = let both = cond_some (is_holding e) e.stamp k is in (holding_true e both.0, both.1)
 
-holding_when : (e : Entry) → IsHolder e → holding_stamp e ≡ Some e.stamp
-holding_when e holder = true_picks {A = Option ℕ} (is_holder e) (Some e.stamp) None (true_holder e holder)
+holding_when : (e : Entry) → IsHolding e → holding_stamp e ≡ Some e.stamp
+holding_when e holding = true_picks {A = Option ℕ} (is_holding e) (Some e.stamp) None (true_holding e holding)
 
 -- the smaller of two stamps is one of them, and not above the other
 least_from : (a b : Option ℕ) (k : ℕ) → least_of a b ≡ Some k → ((a ≡ Some k) × ((m : ℕ) → b ≡ Some m → k ≤ m)) ⊎ ((b ≡ Some k) × ((m : ℕ) → a ≡ Some m → k ≤ m))
@@ -65,11 +65,11 @@ least_right None m = (m, refl, omega arith)
 least_right (Some i) m = (min i m, refl, omega arith)
 
 -- a waiter that holds locks is not older than the oldest one
-pub least_when : (q : List Entry) (e : Entry) → Has q e → IsHolder e → (k : ℕ) × (least_holding q ≡ Some k) × (k ≤ e.stamp)
-least_when [] e h holder = absurd h
-least_when (x ∷ xs) e h holder = ⊎_elim
-    (λ same. subst (λ o. (k : ℕ) × (least_of o (least_holding xs) ≡ Some k) × (k ≤ e.stamp)) (sym (ap holding_stamp (sym same) ∙ holding_when e holder)) (least_left e.stamp (least_holding xs)))
-    (λ later. let rest = least_when xs e later holder in let all = least_right (holding_stamp x) rest.0 in let le = rest.2 in let le' = all.2 in
+pub least_when : (q : List Entry) (e : Entry) → Has q e → IsHolding e → (k : ℕ) × (least_holding q ≡ Some k) × (k ≤ e.stamp)
+least_when [] e h holding = absurd h
+least_when (x ∷ xs) e h holding = ⊎_elim
+    (λ same. subst (λ o. (k : ℕ) × (least_of o (least_holding xs) ≡ Some k) × (k ≤ e.stamp)) (sym (ap holding_stamp (sym same) ∙ holding_when e holding)) (least_left e.stamp (least_holding xs)))
+    (λ later. let rest = least_when xs e later holding in let all = least_right (holding_stamp x) rest.0 in let le = rest.2 in let le' = all.2 in
     (all.0, ap (least_of (holding_stamp x)) rest.1 ∙ all.1, omega arith)) h
 
 -- the least stamp is that of a waiter that holds locks, and no such waiter has a smaller one
@@ -77,29 +77,29 @@ pub least_why : (q : List Entry) (k : ℕ) → least_holding q ≡ Some k → Is
 least_why [] k is = absurd cc
 least_why (x ∷ xs) k is = ⊎_elim
     (λ here. let own = holding_why x k here.0 in record {
-      holder = x;
+      waiter = x;
       stands = inl refl;
       holds = own.0;
       stamp = own.1;
-      least = λ e h holder. ⊎_elim (λ same. let j = ap (λ (z : Entry). z.stamp) same in let s = own.1 in omega arith)
-          (λ later. let rest = least_when xs e later holder in let le = here.1 rest.0 rest.1 in let le' = rest.2 in omega arith) h;
+      least = λ e h holding. ⊎_elim (λ same. let j = ap (λ (z : Entry). z.stamp) same in let s = own.1 in omega arith)
+          (λ later. let rest = least_when xs e later holding in let le = here.1 rest.0 rest.1 in let le' = rest.2 in omega arith) h;
     })
     (λ there. let r = least_why xs k there.0 in record {
-      holder = r.holder;
+      waiter = r.waiter;
       stands = inr r.stands;
       holds = r.holds;
       stamp = r.stamp;
-      least = λ e h holder. ⊎_elim
-          (λ same. there.1 e.stamp (ap holding_stamp (sym same) ∙ holding_when e holder))
-          (λ later. r.least e later holder) h;
+      least = λ e h holding. ⊎_elim
+          (λ same. there.1 e.stamp (ap holding_stamp (sym same) ∙ holding_when e holding))
+          (λ later. r.least e later holding) h;
     })
     (least_from (holding_stamp x) (least_holding xs) k is)
 
 pub least_is : (q : List Entry) (k : ℕ) → IsLeastHolding q k → least_holding q ≡ Some k
 least_is q k l =
-    let found = least_when q l.holder l.stands l.holds in
+    let found = least_when q l.waiter l.stands l.holds in
     let other = least_why q found.0 found.1 in
-    let le = found.2 in let le' = l.least other.holder other.stands other.holds in let s = l.stamp in let s' = other.stamp in
+    let le = found.2 in let le' = l.least other.waiter other.stands other.holds in let s = l.stamp in let s' = other.stamp in
     found.1 ∙ ap Some (omega arith)
 
 taker_why : (owner : Owner) (seat : ℕ) → taker_of owner ≡ Some seat → (owner.seat ≡ Some seat) × (is_handed owner ≡ false)
@@ -128,10 +128,10 @@ wounded_when owner q me seat k w =
     ∙ ap (owed_wound (Some seat) owner.stamp) (least_is q k w.oldest) ∙ wound_when seat owner.stamp k w.older
 
 -- an older waiter that holds locks makes the owner owed a sign
-pub wounded_some : (owner : Owner) (q : List Entry) (me seat : ℕ) (e : Entry) → owner.seat ≡ Some seat → is_handed owner ≡ false → Has q e → IsHolder e → e.stamp < owner.stamp
+pub wounded_some : (owner : Owner) (q : List Entry) (me seat : ℕ) (e : Entry) → owner.seat ≡ Some seat → is_handed owner ≡ false → Has q e → IsHolding e → e.stamp < owner.stamp
     → (k : ℕ) × (owed_signs WoundWait owner q me ≡ (seat, k) ∷ [])
-wounded_some owner q me seat e owns taken h holder older =
-    let found = least_when q e h holder in let l = least_why q found.0 found.1 in
+wounded_some owner q me seat e owns taken h holding older =
+    let found = least_when q e h holding in let l = least_why q found.0 found.1 in
     let le = found.2 in let s = l.stamp in let some = l.holds.0 in
     (found.0, wounded_when owner q me seat found.0 (record { owns = owns; taken = taken; oldest = l; older = (omega arith, omega arith) }))
 
@@ -157,7 +157,7 @@ owed_once WaitDie owner q me seat k m h h' =
 
 -- in Wait-Die who is signed is a waiter that holds locks, and the stamp is that of an older context
 pub signed_waiter : (owner : Owner) (q : List Entry) (me seat k : ℕ) → Once q → Ascends q → Has (owed_signs WaitDie owner q me) (seat, k)
-    → (e : Entry) × Has q e × (e.seat ≡ seat) × IsHolder e × IsOlder k e.stamp
+    → (e : Entry) × Has q e × (e.seat ≡ seat) × IsHolding e × IsOlder k e.stamp
 signed_waiter owner q me seat k once order h =
     let dies = (signed_why owner q me seat k h).1 in
     let own = dies_why owner q seat 0 k dies in

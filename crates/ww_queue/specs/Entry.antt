@@ -15,9 +15,9 @@ abbrev pub has_context : Entry → Bool
 has_context e = nat_lt 0 e.stamp
 
 -- the waiter has a context and holds locks
-abbrev pub is_holder : Entry → Bool
-is_holder e = has_context e && e.holds
+abbrev pub is_holding : Entry → Bool
+is_holding e = has_context e && e.holds
 
 -- the same as a fact
-abbrev pub IsHolder : Entry → Type 0
-IsHolder e = (0 < e.stamp) × IsTrue e.holds
+abbrev pub IsHolding : Entry → Type 0
+IsHolding e = (0 < e.stamp) × IsTrue e.holds

@@ -6,7 +6,7 @@ use Rattle.ww_queue.specs.declared.kind.Kind.{Kind}
 use Rattle.ww_queue.specs.declared.kind.Kind.TheVariants.{WoundWait, WaitDie}
 use Rattle.ww_queue.specs.declared.entry.Entry.{Entry}
 use Rattle.ww_queue.specs.declared.queue.TheConstants.{MAX_WAITERS}
-use Rattle.ww_queue.specs.Entry.{IsOlder, IsHolder}
+use Rattle.ww_queue.specs.Entry.{IsOlder, IsHolding}
 use Rattle.ww_queue.specs.Queue.{Has, Before, Stands, StandsNot, IsNewStamp, Once, Ascends, joined, left, entry_of, ahead_of}
 use Rattle.ww_queue.specs.Rules.{must_die, owed_signs}
 
@@ -100,12 +100,12 @@ IsCause owner q e k =
 -- in Wait-Die a waiter has to die exactly where it holds locks and an older owner or a context before it is the cause
 abbrev pub WaitDieCondemns : Type 0
 WaitDieCondemns = (owner : Owner) (q : List Entry) (e : Entry) (sign k : ℕ) → Once q → Has q e →
-    (must_die WaitDie owner q e.seat sign ≡ Some k) ↔ (IsHolder e × IsCause owner q e k)
+    (must_die WaitDie owner q e.seat sign ≡ Some k) ↔ (IsHolding e × IsCause owner q e k)
 
 -- in Wound-Wait a waiter has to die exactly where it holds locks and has a sign
 abbrev pub WoundWaitCondemns : Type 0
 WoundWaitCondemns = (owner : Owner) (q : List Entry) (e : Entry) (sign k : ℕ) → Once q → Has q e →
-    (must_die WoundWait owner q e.seat sign ≡ Some k) ↔ (IsHolder e × (0 < k) × (k ≡ sign))
+    (must_die WoundWait owner q e.seat sign ≡ Some k) ↔ (IsHolding e × (0 < k) × (k ≡ sign))
 
 -- a seat that doesn't wait doesn't have to die
 abbrev pub OnlyWaitersDie : Type 0
@@ -124,11 +124,11 @@ SignsAreDeaths = (owner : Owner) (q : List Entry) (me seat k : ℕ) →
 
 -- k is the least stamp of a waiter that has a context and holds locks
 pub record IsLeastHolding (q : List Entry) (k : ℕ) : Type 0 where
-  pub holder : Entry
-  pub stands : Has q holder
-  pub holds : IsHolder holder
-  pub stamp : holder.stamp ≡ k
-  pub least : (e : Entry) → Has q e → IsHolder e → k ≤ e.stamp
+  pub waiter : Entry
+  pub stands : Has q waiter
+  pub holds : IsHolding waiter
+  pub stamp : waiter.stamp ≡ k
+  pub least : (e : Entry) → Has q e → IsHolding e → k ≤ e.stamp
 
 -- the seat has taken the lock, and k is the oldest waiter that holds locks and older than it
 pub record IsWounded (owner : Owner) (q : List Entry) (seat k : ℕ) : Type 0 where

@@ -7,7 +7,7 @@ use Rattle.ww_word.specs.Owner.{is_handed}
 use Rattle.ww_queue.specs.declared.kind.Kind.{Kind}
 use Rattle.ww_queue.specs.declared.kind.Kind.TheVariants.{WoundWait, WaitDie}
 use Rattle.ww_queue.specs.declared.entry.Entry.{Entry}
-use Rattle.ww_queue.specs.Entry.{is_older, is_holder}
+use Rattle.ww_queue.specs.Entry.{is_older, is_holding}
 use Rattle.ww_queue.specs.Queue.{entry_of, first_before}
 
 -- there is an owner, and it is another seat
@@ -26,7 +26,7 @@ cause_of WaitDie owner q sign e = option_or (older_owner owner e) (option_map (�
 
 -- the stamp for which a waiter has to die
 abbrev pub death_of : Kind → Owner → List Entry → ℕ → Entry → Option ℕ
-death_of kind owner q sign e = if is_holder e then cause_of kind owner q sign e else None
+death_of kind owner q sign e = if is_holding e then cause_of kind owner q sign e else None
 
 -- the stamp for which a seat has to die: only a seat that waits here does
 abbrev pub must_die : Kind → Owner → List Entry → ℕ → ℕ → Option ℕ
@@ -44,7 +44,7 @@ least_of (Some stamp) (Some other) = Some (min stamp other)
 
 -- the stamp of a waiter that has a context and holds locks
 abbrev pub holding_stamp : Entry → Option ℕ
-holding_stamp e = if is_holder e then Some e.stamp else None
+holding_stamp e = if is_holding e then Some e.stamp else None
 
 -- the least stamp of a waiter that has a context and holds locks
 abbrev pub least_holding : List Entry → Option ℕ

@@ -15,7 +15,7 @@ pub fn must_die(kind: Kind, owner: Owner, queue: &Queue, me: u8, sign: u64) -> O
     ensures { result ≡ must_die kind owner queue.now me sign }
 {
     let entry = queue.entry_of(me)?;
-    if entry.is_holder() {
+    if entry.is_holding() {
         cause_of(kind, owner, queue, entry, sign)
     } else {
         None
@@ -92,7 +92,7 @@ fn least_holding(waiters: &[Entry]) -> Option<u64>
 {
     let mut least = None;
     for waiter in waiters {
-        least = least_of(least, waiter.is_holder().then_some(waiter.stamp));
+        least = least_of(least, waiter.is_holding().then_some(waiter.stamp));
     }
     least
 }

@@ -7,10 +7,10 @@ use Rattle.ww_word.specs.Owner.{IsValid, IsSeating}
 use Rattle.ww_queue.specs.declared.entry.Entry.{Entry}
 use Rattle.ww_queue.specs.declared.kind.Kind.{Kind}
 use Rattle.ww_queue.specs.declared.kind.Kind.TheVariants.{WoundWait, WaitDie}
-use Rattle.ww_queue.specs.Entry.{IsHolder}
+use Rattle.ww_queue.specs.Entry.{IsHolding}
 use Rattle.ww_queue.specs.Queue.{Has, Once, entry_of}
 use Rattle.ww_queue.specs.Rules.{must_die, death_of, owed_signs}
-use Rattle.ww_queue.proofs.Outcomes.{true_holder, both_true}
+use Rattle.ww_queue.proofs.Outcomes.{true_holding, both_true}
 use Rattle.ww_queue.proofs.Deaths.{death_why, must_die_why, wound_wait_condemns}
 use Rattle.ww_queue.proofs.Leaves.{entry_why}
 use Rattle.ww_queue.proofs.Signs.{signed_why, wounded_why}
@@ -74,18 +74,18 @@ take_all (x ∷ xs) = ap (λ (l : List _). x ∷ l) (take_all xs)
 death_is : (kind : Kind) (o : Owner) (q : List Entry) (me s : ℕ) (e : Entry) → entry_of q me ≡ Some e → must_die kind o q me s ≡ death_of kind o q s e
 death_is kind o q me s e is = ap (option_and_then (death_of kind o q s)) is
 
-pub dying_holds : (kind : Kind) (o : Owner) (v : View) (s k : ℕ) → entry_of v.list v.who ≡ Some (entry_of_view v) → must_die kind o v.list v.who s ≡ Some k → IsHolder (entry_of_view v)
+pub dying_holds : (kind : Kind) (o : Owner) (v : View) (s k : ℕ) → entry_of v.list v.who ≡ Some (entry_of_view v) → must_die kind o v.list v.who s ≡ Some k → IsHolding (entry_of_view v)
 dying_holds kind o v s k entry is = (death_why kind o v.list s (entry_of_view v) k (sym (death_is kind o v.list v.who s (entry_of_view v) entry) ∙ is)).0
 
-pub owns_one : (v : View) → IsHolder (entry_of_view v) → (j : ℕ) × (owns v j ≡ true)
-owns_one v h = let f = below_found 64 (owns v) (both_true _ _ (true_holder (entry_of_view v) h)).1 in (f.0, f.2)
+pub owns_one : (v : View) → IsHolding (entry_of_view v) → (j : ℕ) × (owns v j ≡ true)
+owns_one v h = let f = below_found 64 (owns v) (both_true _ _ (true_holding (entry_of_view v) h)).1 in (f.0, f.2)
 
-pub holder_owns : (v : View) → 0 < v.stamp → (j : ℕ) → j < 64 → owns v j ≡ true → IsHolder (entry_of_view v)
-holder_owns v pos j low own = let e = found_below 64 (owns v) j low own in (pos, grind (arith, common_steps))
+pub owner_holds : (v : View) → 0 < v.stamp → (j : ℕ) → j < 64 → owns v j ≡ true → IsHolding (entry_of_view v)
+owner_holds v pos j low own = let e = found_below 64 (owns v) j low own in (pos, grind (arith, common_steps))
 
-pub wounded_dies : (kind : Kind) (o : Owner) (v : View) (k : ℕ) → kind ≡ WoundWait → Once v.list → entry_of v.list v.who ≡ Some (entry_of_view v) → IsHolder (entry_of_view v) → 0 < k → must_die kind o v.list v.who k ≡ Some k
-wounded_dies WoundWait o v k is once entry holder pos = (wound_wait_condemns o v.list (entry_of_view v) k k once (entry_why v.list v.who (entry_of_view v) entry).0).1 (holder, pos, refl)
-wounded_dies WaitDie o v k is once entry holder pos = absurd cc
+pub wounded_dies : (kind : Kind) (o : Owner) (v : View) (k : ℕ) → kind ≡ WoundWait → Once v.list → entry_of v.list v.who ≡ Some (entry_of_view v) → IsHolding (entry_of_view v) → 0 < k → must_die kind o v.list v.who k ≡ Some k
+wounded_dies WoundWait o v k is once entry holding pos = (wound_wait_condemns o v.list (entry_of_view v) k k once (entry_why v.list v.who (entry_of_view v) entry).0).1 (holding, pos, refl)
+wounded_dies WaitDie o v k is once entry holding pos = absurd cc
 
 pub if_some : (o : Option ℕ) (P : ℕ → Type 0) → ((k : ℕ) → o ≡ Some k → P k) → IfSome o P
 if_some None P each = tt
@@ -119,14 +119,14 @@ stays_waiting n m m1 o who top kind same is at lives = subst (λ (z : Sat). MayS
 })
 
 -- in Wound-Wait a sign would make it die, or wouldn't
-pub holds_by : (size n : ℕ) (l : Bool) (m : Sat) (o : Owner) (who k : ℕ) → IsWorking n true l m.0.part.core → (kind : Kind) → m.0.part.core.who ≡ who → must_die kind o m.0.part.core.list who 1 ≡ Some k → IsHolder (entry_of_view m.0.part.core)
+pub holds_by : (size n : ℕ) (l : Bool) (m : Sat) (o : Owner) (who k : ℕ) → IsWorking n true l m.0.part.core → (kind : Kind) → m.0.part.core.who ≡ who → must_die kind o m.0.part.core.list who 1 ≡ Some k → IsHolding (entry_of_view m.0.part.core)
 holds_by size n l m o who k w kind at dies = dying_holds kind o m.0.part.core 1 k w.place.1 (subst (λ (x : ℕ). must_die kind o m.0.part.core.list x 1 ≡ Some k) (sym at) dies)
 
 pub stays_unsigned : (size n : ℕ) (l : Bool) (m m1 : Sat) (o : Owner) (who : ℕ) → IsOrderly size m → IsWorking n true l m.0.part.core → HasListOnTop m n m1 → (kind : Kind) → kind ≡ m.0.part.core.kind → kind ≡ WoundWait
     → m.0.part.core.who ≡ who → must_die kind o m.0.part.core.list who 1 ≡ None → MayStay o m1.0.part.core
 stays_unsigned size n l m m1 o who ord w top kind same is at lives = let few = ord.few in subst (λ (z : Sat). MayStay o z.0.part.core) (sym top.now) (record {
   looked = λ _ pos has. let low = (ord.nodes has.0 has.1).0 in absurd (some_none (must_die kind o m.0.part.core.list m.0.part.core.who 1) 1
-      (wounded_dies kind o m.0.part.core 1 is w.once w.place.1 (holder_owns m.0.part.core pos has.0 (omega arith) has.1) (omega arith))
+      (wounded_dies kind o m.0.part.core 1 is w.once w.place.1 (owner_holds m.0.part.core pos has.0 (omega arith) has.1) (omega arith))
       (subst (λ (x : ℕ). must_die kind o m.0.part.core.list x 1 ≡ None) (sym at) lives));
   lives = λ d. absurd (let e : WoundWait ≡ WaitDie = sym is ∙ same ∙ d in cc);
 })
@@ -136,12 +136,12 @@ pub not_quiet : (v : View) → v.kind ≡ WoundWait → (j : ℕ) × (owns v j �
 not_quiet v kind has quiet = ⊎_elim (λ bare. true≢false (sym has.1 ∙ bare has.0)) (λ d. absurd (let e : WoundWait ≡ WaitDie = sym kind ∙ d.0 in cc)) quiet
 
 -- it found no sign
-pub told_none : (size n : ℕ) (m m1 m2 : Sat) → IsOrderly size m → HasListOnTop m n m1 → IsHolder (entry_of_view m.0.part.core) → m2 ≡ (finding_none m1.0, m1.1) → IsTold size m m2
-told_none size n m m1 m2 o top holder is = record {
+pub told_none : (size n : ℕ) (m m1 m2 : Sat) → IsOrderly size m → HasListOnTop m n m1 → IsHolding (entry_of_view m.0.part.core) → m2 ≡ (finding_none m1.0, m1.1) → IsTold size m m2
+told_none size n m m1 m2 o top holding is = record {
   orderly = orderly_knowing size m1 m2 (finding_none m1.0).part.core (touched_read size n m m1 o top).orderly is refl refl refl;
   sign = None;
   fresh = true;
-  wants = λ _. inr (inr (inl (owns_one m.0.part.core holder)));
+  wants = λ _. inr (inr (inl (owns_one m.0.part.core holding)));
   view = ap (λ (z : Sat). z.0) is ∙ ap (λ (z : Sat). finding_none z.0) top.now;
 }
 
@@ -152,22 +152,22 @@ stays_none n m m1 m2 o top kind is = subst (λ (z : Sight). MayStay o z.part.cor
 })
 
 -- it found a sign
-pub told_signed : (size n k : ℕ) (m m1 m2 : Sat) → IsOrderly size m → HasListOnTop m n m1 → IsHolder (entry_of_view m.0.part.core) → m2 ≡ (reading m1.0 k, m1.1) → IsTold size m m2
-told_signed size n k m m1 m2 o top holder is = record {
+pub told_signed : (size n k : ℕ) (m m1 m2 : Sat) → IsOrderly size m → HasListOnTop m n m1 → IsHolding (entry_of_view m.0.part.core) → m2 ≡ (reading m1.0 k, m1.1) → IsTold size m m2
+told_signed size n k m m1 m2 o top holding is = record {
   orderly = orderly_knowing size m1 m2 (reading m1.0 k).part.core (touched_read size n m m1 o top).orderly is refl refl refl;
   sign = Some k;
   fresh = (has_read m.0.part.core k).fresh;
-  wants = λ _. inr (inr (inl (owns_one m.0.part.core holder)));
+  wants = λ _. inr (inr (inl (owns_one m.0.part.core holding)));
   view = ap (λ (z : Sat). z.0) is ∙ ap (λ (z : Sat). reading z.0 k) top.now;
 }
 
-pub dies_signed : (n k : ℕ) (l : Bool) (m m1 m2 : Sat) (o : Owner) → IsWorking n true l m.0.part.core → SeesOther o m.0.part.core → HasListOnTop m n m1 → m.0.part.core.kind ≡ WoundWait → IsHolder (entry_of_view m.0.part.core) → k ≢ 0
+pub dies_signed : (n k : ℕ) (l : Bool) (m m1 m2 : Sat) (o : Owner) → IsWorking n true l m.0.part.core → SeesOther o m.0.part.core → HasListOnTop m n m1 → m.0.part.core.kind ≡ WoundWait → IsHolding (entry_of_view m.0.part.core) → k ≢ 0
     → m2 ≡ (reading m1.0 k, m1.1) → MayDie m2.0.part.core n o k
-dies_signed n k l m m1 m2 o w sees top kind holder isnt is = subst (λ (z : Sight). MayDie z.part.core n o k) (sym (ap (λ (z : Sat). z.0) is ∙ ap (λ (z : Sat). reading z.0 k) top.now)) (record {
+dies_signed n k l m m1 m2 o w sees top kind holding isnt is = subst (λ (z : Sight). MayDie z.part.core n o k) (sym (ap (λ (z : Sat). z.0) is ∙ ap (λ (z : Sat). reading z.0 k) top.now)) (record {
   inside = w.inside;
   waits = w.place.0;
   other = sees.other;
-  why = (k, inr refl, wounded_dies m.0.part.core.kind o m.0.part.core k kind w.once w.place.1 holder (omega arith));
+  why = (k, inr refl, wounded_dies m.0.part.core.kind o m.0.part.core k kind w.once w.place.1 holding (omega arith));
 })
 
 pub still_loud : (n : ℕ) (m m1 : Sat) → HasListOnTop m n m1 → m.0.part.core.kind ≡ WoundWait → (j : ℕ) × (owns m.0.part.core j ≡ true) → ¬ IsQuiet m1.0.part.core
