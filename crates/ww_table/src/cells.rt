@@ -83,4 +83,4 @@ impl TableRule<Cell, Sight, Start> for Words {
 
 pub type Top = Shared<Cell, Sight, Start, Words>;
 
-pub type Place = Seat<Cell, Sight>;
+pub type TableSeat = Seat<Cell, Sight>;

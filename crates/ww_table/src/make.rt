@@ -6,7 +6,7 @@ ghost use Rattle.ww_table.specs.Rule.{first_sight};
 ghost use Rattle.ww_table.specs.Made.{AreSlots, AreNew, IsMade};
 
 use crate::board::Board;
-use crate::cells::{Cell, Place, Start, Top, Waiters};
+use crate::cells::{Cell, Start, TableSeat, Top, Waiters};
 use crate::layout::{SLOTS, WORDS};
 use crate::plays::Seats;
 use crate::seat::Seat16;
@@ -92,7 +92,7 @@ fn cell(graph: &Graph, n: u8) -> Cell
 fn cut(
     alloc: Global,
     shared: &Top,
-    mut first: Place,
+    mut first: TableSeat,
     seats: u8,
     mut made: Vec<Seat16>,
 ) -> Vec<Seat16>
@@ -112,7 +112,7 @@ fn cut(
 }
 
 /// A seat that did nothing yet.
-fn seated(alloc: Global, seat: Place, who: u8) -> Seat16
+fn seated(alloc: Global, seat: TableSeat, who: u8) -> Seat16
     ensures same { result ≡ record { seat = seat; who = who; stamp = 0; order = result.order; records = result.records } }
     ensures order { result.order.items ≡ [] }
     ensures records { result.records.items ≡ [] }

@@ -5,7 +5,7 @@ ghost use Rattle.ww_table.specs.Seat.{IsSeated};
 ghost use Rattle.ww_table.specs.Steps.{MayPlace, placing};
 
 use crate::board::Board;
-use crate::cells::Place;
+use crate::cells::TableSeat;
 use crate::layout::FRONT;
 use crate::plays::{Commit, Said};
 use crate::seat::Seat16;
@@ -55,7 +55,7 @@ impl Seat16 {
 }
 
 /// The record is named by W, since a step is told numbers alone.
-fn place_said<W: Said>(seat: &mut Place, board: &Board, done: &Record) -> u64
+fn place_said<W: Said>(seat: &mut TableSeat, board: &Board, done: &Record) -> u64
     requires said { W.about ≡ Some done.now }
     requires home { seat.old.table_id ≡ board.now.table.shared.table_id }
     requires seated { seat.old.me.0.seated ≡ true }

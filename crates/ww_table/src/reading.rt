@@ -11,7 +11,7 @@ ghost use Rattle.ww_table.specs.Seat.{IsSeated, AreOthers, slot_of};
 ghost use Rattle.ww_table.specs.Waiting.{HasListOnTop};
 
 use crate::board::Board;
-use crate::cells::{Cell, Place};
+use crate::cells::{Cell, TableSeat};
 use crate::guards::list_slot;
 use crate::seat::{Seat16, bring};
 use arrayvec::ArrayVec;
@@ -80,7 +80,7 @@ impl Seat16 {
 
 /// The stamp for which this seat has to die, by the list that was taken last.
 fn death_there(
-    seat: &mut Place,
+    seat: &mut TableSeat,
     board: &Board,
     slot: u8,
     kind: Kind,
@@ -102,7 +102,7 @@ fn death_there(
 
 /// Whom this seat owes a sign, by the list that was taken last.
 fn owed_there(
-    seat: &mut Place,
+    seat: &mut TableSeat,
     board: &Board,
     slot: u8,
     kind: Kind,
@@ -122,7 +122,7 @@ fn owed_there(
 }
 
 /// The first waiter in the list that was taken last.
-fn first_there(seat: &mut Place, board: &Board, slot: u8) -> Option<Entry>
+fn first_there(seat: &mut TableSeat, board: &Board, slot: u8) -> Option<Entry>
     requires home { seat.old.table_id ≡ board.now.table.shared.table_id }
     requires top { (q : List Entry) × (seat.old.me.1 ≡ (slot, Line q) ∷ rest seat.old.me.1) }
     ensures home { (seat.new.table_id ≡ seat.old.table_id) × (seat.new.id ≡ seat.old.id) }

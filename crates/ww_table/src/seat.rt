@@ -15,7 +15,7 @@ ghost use Rattle.ww_word.specs.Owner.{packed};
 ghost use Rattle.ww_table.specs.Steps.{knowing, drawing, taking, giving, MayDraw, MayEnd};
 
 use crate::board::Board;
-use crate::cells::{Cell, Place};
+use crate::cells::{Cell, TableSeat};
 use crate::layout::{STAMP, owner_word, sign_word};
 use crate::plays::{Draw, End, GiveFree, TakeFree};
 use arrayvec::ArrayVec;
@@ -29,7 +29,7 @@ pub(crate) const MAX_OUT: usize = 65;
 /// A seat of a board. It may start one context after another, and each of its calls is one atomic step.
 #[derive(Drop)]
 pub struct Seat16 {
-    pub(crate) seat: Place,
+    pub(crate) seat: TableSeat,
     pub(crate) who: u8,
     pub(crate) stamp: u64,
     /// The slots that it has out, the one taken last at the end.
@@ -191,7 +191,7 @@ impl Seat16 {
 
 /// Turns the slots that are out until this one is that taken last. It is no step, and costs nothing for a slot that was
 /// taken last.
-pub(crate) fn bring(seat: &mut Place, order: &mut ArrayVec<u8, MAX_OUT>, slot: u8)
+pub(crate) fn bring(seat: &mut TableSeat, order: &mut ArrayVec<u8, MAX_OUT>, slot: u8)
     requires order { order.old.items ≡ numbers_of seat.old.me.1 }
     requires out { (y : Cell) × (slot_of seat.old.me.1 slot ≡ Some y) }
     ensures home { (seat.new.table_id ≡ seat.old.table_id) × (seat.new.id ≡ seat.old.id) }

@@ -22,7 +22,7 @@ ghost use Rattle.ww_table.specs.Guards.{AreSeats, lost};
 ghost use Rattle.ww_table.specs.Waiting.{IsOut, joining, taking_inside, giving_inside, asking, dying};
 
 use crate::board::Board;
-use crate::cells::{Cell, Place};
+use crate::cells::{Cell, TableSeat};
 use crate::guards::list_slot;
 use crate::layout::owner_word;
 use crate::plays_inside::{Ask, Die, Give, Join, Take};
@@ -213,7 +213,7 @@ fn owner_after(queue: &Queue, is_asked: bool) -> Owner
 }
 
 /// The flag of the waiters that are left in the list that was taken last, once this seat has gone.
-fn flag_left(seat: &mut Place, board: &Board, slot: u8, who: u8) -> u8
+fn flag_left(seat: &mut TableSeat, board: &Board, slot: u8, who: u8) -> u8
     requires home { seat.old.table_id ≡ board.now.table.shared.table_id }
     requires top { (q : List Entry) × (seat.old.me.1 ≡ (slot, Line q) ∷ rest seat.old.me.1) }
     ensures home { (seat.new.table_id ≡ seat.old.table_id) × (seat.new.id ≡ seat.old.id) }
@@ -227,7 +227,7 @@ fn flag_left(seat: &mut Place, board: &Board, slot: u8, who: u8) -> u8
 }
 
 /// Takes the seat out of the list that was taken last.
-fn leave_list(seat: &mut Place, board: &Board, slot: u8, who: u8)
+fn leave_list(seat: &mut TableSeat, board: &Board, slot: u8, who: u8)
     requires home { seat.old.table_id ≡ board.now.table.shared.table_id }
     requires top { (q : List Entry) × (seat.old.me.1 ≡ (slot, Line q) ∷ rest seat.old.me.1) }
     ensures home { (seat.new.table_id ≡ seat.old.table_id) × (seat.new.id ≡ seat.old.id) }
@@ -243,7 +243,7 @@ fn leave_list(seat: &mut Place, board: &Board, slot: u8, who: u8)
 }
 
 /// The owner of a lock that is given back, with the list that was taken last.
-fn next_owner(seat: &mut Place, board: &Board, slot: u8, is_asked: bool) -> Owner
+fn next_owner(seat: &mut TableSeat, board: &Board, slot: u8, is_asked: bool) -> Owner
     requires home { seat.old.table_id ≡ board.now.table.shared.table_id }
     requires top { (q : List Entry) × (seat.old.me.1 ≡ (slot, Line q) ∷ rest seat.old.me.1) }
     ensures home { (seat.new.table_id ≡ seat.old.table_id) × (seat.new.id ≡ seat.old.id) }
