@@ -13,8 +13,7 @@ use Rattle.ww_queue.specs.Queue.{joined, left}
 use Rattle.ww_model.specs.declared.state.Holder.TheVariants.{Taken}
 use Rattle.ww_model.specs.declared.event.Event.{Event}
 use Rattle.ww_model.specs.declared.event.Event.TheVariants.{Clear, Guard, Join, Sign, Take, Ask, Give, Die, Unguard}
-use Rattle.ww_model.specs.State.{put, waiter_of, dies}
-use Rattle.ww_model.specs.Met.{DeadlkIsMet}
+use Rattle.ww_model.specs.State.{put, waiter_of}
 use Rattle.ww_model.specs.Event.{Possible, after, given_to}
 use Rattle.ww_model.specs.Lawful.{IsLawful}
 use Rattle.ww_model.proofs.Puts.{put_else, put_cases}
@@ -28,22 +27,20 @@ use Rattle.ww_model.specs.Event.{actor}
 use Rattle.ww_view.specs.View.{owns, Knows}
 use Rattle.ww_view.specs.Word.{taken_word, asked_word, given_word, rest_word}
 use Rattle.ww_view.specs.May.{MayEnter, MayExit, MayJoin, MayTake, MayGive, MayAsk, MayDie, MaySign, MayClear}
-use Rattle.ww_view.specs.Made.{entered, exited, queued, taken, given, has_asked, died, noted, cleared, has_looked, has_read, found_none, fast_missed}
-use Rattle.ww_view.specs.Made as made
+use Rattle.ww_view.specs.Made.{entered, exited, queued, taken, given, has_asked, died, noted, cleared}
 use Rattle.ww_view.proofs.Tells.{asked_is}
-use Rattle.ww_view.proofs.Shows.{shows_guard, shows_exit, shows_join, shows_take, shows_ask, shows_give, shows_die, tells_die, shows_sign, shows_clear}
+use Rattle.ww_view.proofs.Shows.{shows_guard, shows_exit, shows_join, shows_take, shows_ask, shows_give, shows_die, shows_sign, shows_clear}
 use Rattle.ww_view.proofs.Mine.{mine_guard, mine_unguard}
-use Rattle.ww_view.proofs.Inside.{mine_look, mine_lost_sign, mine_read, mine_read_none, mine_missed, mine_stepped, mine_join, mine_take, mine_ask, mine_give, mine_die, mine_sign, mine_clear}
+use Rattle.ww_view.proofs.Inside.{mine_join, mine_take, mine_ask, mine_give, mine_die, mine_sign, mine_clear}
 use Rattle.ww_view.proofs.Events.{clear_quiet}
-use Rattle.ww_view.proofs.Deaths.{sign_is, die_met}
+use Rattle.ww_view.proofs.Deaths.{sign_is}
 use Rattle.ww_view.proofs.Written.{word_join, word_take, word_ask, word_give, word_die}
 use Rattle.ww_table.specs.declared.cells.Cell.{Cell}
 use Rattle.ww_table.specs.declared.cells.Cell.TheVariants.{Content, Line}
 use Rattle.ww_table.specs.declared.cells.Start.{Start}
-use Rattle.ww_table.specs.Rule.{St, Sat, first_graph, Shown, AtHome, Counted, Sits, Ruled, Makes, Stays}
+use Rattle.ww_table.specs.Rule.{St, Sat, first_graph, Shown, AtHome, Counted, Sits, Ruled, Makes}
 use Rattle.ww_table.specs.Steps.{knowing}
-use Rattle.ww_table.specs.Guards.{entering, exiting, looking}
-use Rattle.ww_table.specs.NoEvents.{read, IsNotedOnly, IsLostOnly}
+use Rattle.ww_table.specs.Guards.{entering, exiting}
 use Rattle.ww_table.specs.Waiting.{joining, taking_inside, giving_inside, asking, dying}
 use Rattle.ww_table.specs.Signs.{signing, clearing}
 use Rattle.ww_table.proofs.Regions.{owner_set}
@@ -119,10 +116,6 @@ module _ (key : Start) (s : St) (r : Ruled key s) (id : ℕ) (me : Sat) (here : 
       ((λ i. packed (rest_word (left (k.queues.list n may.inside i) v.who) (is i))) ∙ ap packed (sym (word_die c v.who n law.base can.base))))
       (list_inside graph c.owner c.queue c.guard s.homes v.who n (left (c.queue n) v.who) can.base.inside.guard r.homes)
 
-  -- ... and the seat dies of what the core tells it, and met that context
-  pub die_tells : (n : ℕ) (o : Owner) (j : ℕ) → MayDie me.0.part.core n o j → IsValid o → get_or s.words (8 * n) 0 ≡ packed o → (dies r.core me.0.part.core.who n ≡ Some j) × DeadlkIsMet r.core r.reached me.0.part.core.who n j
-  die_tells n o j may valid hit = let is = found n o (inside_low n may.inside) valid hit in let k = mine.part.knows in (tells_die r.core me.0.part.core law k n o j may is, die_met r.core r.reached me.0.part.core n o j k may is)
-
   -- ask: HANDOFF stands beside WAITERS now
   pub ask_makes : (n : ℕ) (o : Owner) → MayAsk me.0.part.core n o → IsValid o → get_or s.words (8 * n) 0 ≡ packed o
       → Makes key s r (Ask me.0.part.core.who n) (stepped s (8 * n) (packed (asked_word o)) id me.1 (asking me.0 o) keeps)
@@ -196,25 +189,3 @@ module _ (key : Start) (s : St) (r : Ruled key s) (id : ℕ) (me : Sat) (here : 
       makes (Clear v.who) (512 + 8 * v.who) 0 (cleared v) keeps refl refl (λ m. refl) can (mine_clear c v law k can (clear_quiet v may)) r.counted
       (sign_set c (Clear v.who) can.base law.base s.words r.words v.who 0 (let z = k.itself.seat in let y = r.places in omega arith) (λ m. tt) refl refl refl refl)
       (record { deep = r.homes.deep; nodes = r.homes.nodes; lists = r.homes.lists })
-
-  -- ---- what is no event
-
-  pub look_stays : (n : ℕ) (o : Owner) → me.0.part.core.inside ≡ suc n → IsValid o → get_or s.words (8 * n) 0 ≡ packed o → Stays key s r (read s (8 * n) id me (looking me.0 o))
-  look_stays n o inside valid hit = moves.looks_on key s r id me here seated (8 * n) (has_looked me.0.part.core o) refl (λ m. refl) (mine_look r.core me.0.part.core mine.part.knows n o inside (found n o (inside_low n inside) valid hit))
-
-  pub own_sign_stays : IsNotedOnly key s r id me (512 + 8 * me.0.part.core.who)
-  own_sign_stays = let c = r.core in let v = me.0.part.core in let k = mine.part.knows in let i = 512 + 8 * v.who in let x = get_or s.words i 0 in
-      let tells : x ≡ c.sign v.who = r.words.signs v.who (let z = k.itself.seat in let y = r.places in omega arith) in record {
-        found = λ quiet. moves.looks_on key s r id me here seated i (has_read v x) refl (λ m. refl) (mine_read c v k x (sym tells) quiet);
-        found_none = moves.looks_on key s r id me here seated i (found_none v) refl (λ m. refl) (mine_read_none c v k);
-      }
-
-  pub lost_stays : (i : ℕ) → IsLostOnly key s r id me i
-  lost_stays i = let c = r.core in let v = me.0.part.core in let k = mine.part.knows in record {
-    taking = moves.looks_on key s r id me here seated i (fast_missed v) refl (λ m. refl) (mine_missed c v k);
-    giving = moves.looks_on key s r id me here seated i v refl (λ m. refl) k;
-    others = moves.looks_on key s r id me here seated i (made.stepped v) refl (λ m. refl) (mine_stepped c v k);
-  }
-
-  pub lost_sign_stays : (u : ℕ) → u < 16 → get_or s.words (512 + 8 * u) 0 ≢ 0 → Stays key s r (read s (512 + 8 * u) id me (signing me.0 u))
-  lost_sign_stays u low isnt = moves.looks_on key s r id me here seated (512 + 8 * u) (noted me.0.part.core u) refl (λ m. refl) (mine_lost_sign r.core me.0.part.core mine.part.knows u (λ z. isnt (r.words.signs u low ∙ z)))

@@ -3,10 +3,7 @@ pub mod Rule
 pub mod Steps
 pub mod Seat
 pub mod Made
-pub mod Laws
 pub mod Closed
 pub mod Guards
 pub mod Waiting
 pub mod Signs
-pub mod InsideLaws
-pub mod NoEvents

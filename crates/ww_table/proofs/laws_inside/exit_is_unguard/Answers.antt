@@ -1,5 +1,0 @@
-use Rattle.ww_table.proofs.InsideMoves.{exit_makes}
-use Rattle.ww_table.proofs.laws_inside.exit_is_unguard.Goals as goal
-
-pub returns : goal.returns
-returns c = λ key s r id me n t may top. exit_makes key s r id me t.here t.seated n may top

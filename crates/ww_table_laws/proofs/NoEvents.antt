@@ -1,0 +1,40 @@
+-- What is no event leaves the core and the commits as they are.
+use Rattle.std.proofs.Common.{◌≡◌, ◌≢◌, ℕ, suc, ◌+◌, ◌*◌, ◌<◌, true, get_or, sym, refl, ◌∙◌, arith}
+use mathlib.Core.Option.{some}
+use lib.ListN.{get_elem?}
+use Rattle.ww_word.specs.declared.owner.Owner.{Owner}
+use Rattle.ww_word.specs.Owner.{IsValid, packed}
+use Rattle.ww_view.specs.Made.{noted, stepped, has_looked, has_read, found_none, fast_missed}
+use Rattle.ww_view.proofs.Inside.{mine_look, mine_lost_sign, mine_read, mine_read_none, mine_missed, mine_stepped}
+use Rattle.ww_table.specs.declared.cells.Start.{Start}
+use Rattle.ww_table.specs.Rule.{St, Sat, Sits, Ruled, Stays}
+use Rattle.ww_table.specs.Guards.{looking}
+use Rattle.ww_table.specs.Signs.{signing}
+use Rattle.ww_table.proofs.Moves as moves
+use Rattle.ww_table.proofs.InsideMoves.{inside_low}
+use Rattle.ww_table_laws.specs.NoEvents.{read, IsNotedOnly, IsLostOnly}
+
+module _ (key : Start) (s : St) (r : Ruled key s) (id : ℕ) (me : Sat) (here : get_elem? s.views id ≡ some me.0) (seated : me.0.seated ≡ true) where
+  mine : Sits key r.core r.log r.at r.draws id me.0
+  mine = moves.mine key s r id me here seated
+
+  pub look_stays : (n : ℕ) (o : Owner) → me.0.part.core.inside ≡ suc n → IsValid o → get_or s.words (8 * n) 0 ≡ packed o → Stays key s r (read s (8 * n) id me (looking me.0 o))
+  look_stays n o inside valid hit = moves.looks_on key s r id me here seated (8 * n) (has_looked me.0.part.core o) refl (λ m. refl)
+      (mine_look r.core me.0.part.core mine.part.knows n o inside (moves.found key s r id me here seated n o (inside_low key s r id me here seated n inside) valid hit))
+
+  pub own_sign_stays : IsNotedOnly key s r id me (512 + 8 * me.0.part.core.who)
+  own_sign_stays = let c = r.core in let v = me.0.part.core in let k = mine.part.knows in let i = 512 + 8 * v.who in let x = get_or s.words i 0 in
+      let tells : x ≡ c.sign v.who = r.words.signs v.who (let z = k.itself.seat in let y = r.places in omega arith) in record {
+        found = λ quiet. moves.looks_on key s r id me here seated i (has_read v x) refl (λ m. refl) (mine_read c v k x (sym tells) quiet);
+        found_none = moves.looks_on key s r id me here seated i (found_none v) refl (λ m. refl) (mine_read_none c v k);
+      }
+
+  pub lost_stays : (i : ℕ) → IsLostOnly key s r id me i
+  lost_stays i = let c = r.core in let v = me.0.part.core in let k = mine.part.knows in record {
+    taking = moves.looks_on key s r id me here seated i (fast_missed v) refl (λ m. refl) (mine_missed c v k);
+    giving = moves.looks_on key s r id me here seated i v refl (λ m. refl) k;
+    others = moves.looks_on key s r id me here seated i (stepped v) refl (λ m. refl) (mine_stepped c v k);
+  }
+
+  pub lost_sign_stays : (u : ℕ) → u < 16 → get_or s.words (512 + 8 * u) 0 ≢ 0 → Stays key s r (read s (512 + 8 * u) id me (signing me.0 u))
+  lost_sign_stays u low isnt = moves.looks_on key s r id me here seated (512 + 8 * u) (noted me.0.part.core u) refl (λ m. refl) (mine_lost_sign r.core me.0.part.core mine.part.knows u (λ z. isnt (r.words.signs u low ∙ z)))

@@ -1,0 +1,5 @@
+use Rattle.ww_table.proofs.InsideMoves.{ask_makes}
+use Rattle.ww_table_laws.proofs.laws_inside.ask_is_ask.Goals as goal
+
+pub returns : goal.returns
+returns c = λ key s r id me n o t may valid hit. ask_makes key s r id me t.here t.seated n o may valid hit

@@ -1,0 +1,88 @@
+-- Of the steps at guards, inside them and on signs: from every table that the rule allows each is one event on what is shown.
+use Rattle.std.specs.Prelude.{ℕ, suc, ◌≡◌, ◌<◌, ◌==◌, ◌∷◌, List, length, slice_index, Some}
+use mathlib.Core.Option.{some}
+use lib.ListN.{get_elem?}
+use Rattle.atomic_table.specs.Table.{stepped, keeps, takes, gives, chain, rest}
+use Rattle.ww_word.specs.declared.owner.Owner.{Owner}
+use Rattle.ww_word.specs.Owner.{IsValid, packed, with_waiters}
+use Rattle.ww_queue.specs.declared.entry.Entry.{Entry}
+use Rattle.ww_queue.specs.Queue.{left}
+use Rattle.ww_model.specs.declared.event.Event.TheVariants.{Clear, Guard, Join, Sign, Take, Ask, Give, Die, Unguard}
+use Rattle.ww_model.specs.State.{dies}
+use Rattle.ww_model.specs.Met.{DeadlkIsMet}
+use Rattle.ww_plain.specs.declared.node.Node.{Node}
+use Rattle.ww_plain.specs.Graph.{node_at}
+use Rattle.ww_plain.specs.History.{last_graph}
+use Rattle.ww_view.specs.Word.{taken_word, asked_word, given_word, rest_word}
+use Rattle.ww_view.specs.May.{MayEnter, MayExit, MayJoin, MayTake, MayAsk, MayGive, MayDie, MaySign, MayClear}
+use Rattle.ww_table.specs.declared.cells.Cell.{Cell}
+use Rattle.ww_table.specs.declared.cells.Cell.TheVariants.{Content, Line}
+use Rattle.ww_table.specs.declared.cells.Start.{Start}
+use Rattle.ww_table.specs.Layout.{owner_at, guard_at, sign_at, list_at}
+use Rattle.ww_table.specs.Rule.{St, Sat, first_graph, Ruled, Makes}
+use Rattle.ww_table.specs.Guards.{entering, exiting}
+use Rattle.ww_table.specs.Waiting.{joining, taking_inside, giving_inside, asking, dying}
+use Rattle.ww_table.specs.Signs.{signing, clearing}
+use Rattle.ww_table_laws.specs.Laws.{Steps}
+
+-- a guard word 0 becomes that of the seat as Guard, and the list that comes out is that of the lock
+abbrev pub EnterIsGuard : Type 0
+EnterIsGuard = (key : Start) (s : St) (r : Ruled key s) (id : ℕ) (me : Sat) (n : ℕ) → Steps s id me →
+    n < 64 → MayEnter me.0.part.core n → slice_index s.words (guard_at n) ≡ 0 → let q : List Entry = r.core.queue n in
+    Makes key s r (Guard me.0.part.core.who n)
+    (stepped s (guard_at n) (suc me.0.part.core.who) id me.1 (entering me.0 n q) (takes (list_at n) (Line q)))
+
+-- a guard word becomes 0 as Unguard, and the list that goes home is that of the view
+abbrev pub ExitIsUnguard : Type 0
+ExitIsUnguard = (key : Start) (s : St) (r : Ruled key s) (id : ℕ) (me : Sat) (n : ℕ) → Steps s id me →
+    MayExit me.0.part.core n → me.1 ≡ (list_at n, Line me.0.part.core.list) ∷ rest me.1 →
+    Makes key s r (Unguard me.0.part.core.who n) (stepped s (guard_at n) 0 id me.1 (exiting me.0) gives)
+
+-- an owner word gets WAITERS as Join
+abbrev pub JoinIsJoin : Type 0
+JoinIsJoin = (key : Start) (s : St) (r : Ruled key s) (id : ℕ) (me : Sat) (n : ℕ) (o : Owner) → Steps s id me →
+    MayJoin me.0.part.core n o → IsValid o → slice_index s.words (owner_at n) ≡ packed o →
+    Makes key s r (Join me.0.part.core.who n) (stepped s (owner_at n) (packed (with_waiters o)) id me.1 (joining me.0 n o) keeps)
+
+-- an owner word becomes that of a seat inside the guard as Take, and the node that comes out has the fold's value
+abbrev pub TakeIsTake : Type 0
+TakeIsTake = (key : Start) (s : St) (r : Ruled key s) (id : ℕ) (me : Sat) (n : ℕ) (o : Owner) (y : Cell) (others : List (ℕ × Cell)) → Steps s id me →
+    n < length (first_graph key) → MayTake me.0.part.core n o → IsValid o → slice_index s.words (owner_at n) ≡ packed o →
+    me.1 ≡ (list_at n, y) ∷ others → let x : Node = node_at (last_graph (first_graph key) r.log) n in
+    Makes key s r (Take me.0.part.core.who n)
+    (stepped s (owner_at n) (packed (taken_word me.0.part.core.who me.0.part.core.stamp (left me.0.part.core.list me.0.part.core.who))) id me.1
+    (taking_inside me.0 n x) (chain gives (chain (takes n (Content x)) (takes (list_at n) y))))
+
+-- an owner word of the seat inside the guard becomes nobody's, or the first waiter's, as Give
+abbrev pub GiveIsGive : Type 0
+GiveIsGive = (key : Start) (s : St) (r : Ruled key s) (id : ℕ) (me : Sat) (n : ℕ) (o : Owner) (x : Node) → Steps s id me →
+    MayGive me.0.part.core n → get_elem? me.0.held n ≡ some (Some x) → IsValid o → slice_index s.words (owner_at n) ≡ packed o →
+    me.1 ≡ (n, Content x) ∷ rest me.1 →
+    Makes key s r (Give me.0.part.core.who n)
+    (stepped s (owner_at n) (packed (given_word (o.flags == 3) me.0.part.core.list)) id me.1 (giving_inside me.0 n (o.flags == 3)) gives)
+
+-- an owner word gets HANDOFF as Ask
+abbrev pub AskIsAsk : Type 0
+AskIsAsk = (key : Start) (s : St) (r : Ruled key s) (id : ℕ) (me : Sat) (n : ℕ) (o : Owner) → Steps s id me →
+    MayAsk me.0.part.core n o → IsValid o → slice_index s.words (owner_at n) ≡ packed o →
+    Makes key s r (Ask me.0.part.core.who n) (stepped s (owner_at n) (packed (asked_word o)) id me.1 (asking me.0 o) keeps)
+
+-- an owner word loses its flags as the last waiter backs off, or stays, as Die; the seat is told to die of the stamp that
+-- the core tells it, and met the context that has it
+abbrev pub DieIsDie : Type 0
+DieIsDie = (key : Start) (s : St) (r : Ruled key s) (id : ℕ) (me : Sat) (n : ℕ) (o : Owner) (k : ℕ) → Steps s id me →
+    MayDie me.0.part.core n o k → IsValid o → slice_index s.words (owner_at n) ≡ packed o →
+    (dies r.core me.0.part.core.who n ≡ Some k) × DeadlkIsMet r.core r.reached me.0.part.core.who n k ×
+    Makes key s r (Die me.0.part.core.who n)
+    (stepped s (owner_at n) (packed (rest_word (left me.0.part.core.list me.0.part.core.who) o)) id me.1 (dying me.0 o) keeps)
+
+-- a sign word 0 becomes the stamp that the view owes as Sign
+abbrev pub SignIsSign : Type 0
+SignIsSign = (key : Start) (s : St) (r : Ruled key s) (id : ℕ) (me : Sat) (n u k : ℕ) → Steps s id me →
+    MaySign me.0.part.core n u k → u < 16 → slice_index s.words (sign_at u) ≡ 0 →
+    Makes key s r (Sign me.0.part.core.who u) (stepped s (sign_at u) k id me.1 (signing me.0 u) keeps)
+
+-- the own sign word becomes 0 as Clear
+abbrev pub ClearIsClear : Type 0
+ClearIsClear = (key : Start) (s : St) (r : Ruled key s) (id : ℕ) (me : Sat) → Steps s id me → MayClear me.0.part.core →
+    Makes key s r (Clear me.0.part.core.who) (stepped s (sign_at me.0.part.core.who) 0 id me.1 (clearing me.0) keeps)

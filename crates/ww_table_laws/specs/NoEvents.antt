@@ -1,0 +1,63 @@
+-- Of what is no event: from every table that the rule allows, such a step leaves the core and the commits as they are.
+use Rattle.std.specs.Prelude.{ℕ, suc, ◌≡◌, ◌≢◌, ◌<◌, true, List, ◌∷◌, [], ◌++◌, length, slice_index, slice_set}
+use mathlib.Core.Option.{some}
+use lib.ListN.{get_elem?}
+use Rattle.atomic_table.specs.Table.{stepped, keeps}
+use Rattle.ww_word.specs.declared.owner.Owner.{Owner}
+use Rattle.ww_word.specs.Owner.{IsValid, packed}
+use Rattle.ww_view.specs.View.{IsBare, IsQuiet}
+use Rattle.ww_view.specs.Made.{fast_missed}
+use Rattle.ww_table.specs.declared.cells.Part.{Part}
+use Rattle.ww_table.specs.declared.cells.Sight.{Sight}
+use Rattle.ww_table.specs.declared.cells.Start.{Start}
+use Rattle.ww_table.specs.Layout.{owner_at, sign_at}
+use Rattle.ww_table.specs.Rule.{St, Sat, Ruled, Stays}
+use Rattle.ww_table.specs.Steps.{knowing, nobody, first_seat, without_first, with_seat}
+use Rattle.ww_table.specs.Guards.{lost, looking}
+use Rattle.ww_table.specs.Signs.{signing, reading, finding_none}
+use Rattle.ww_table_laws.specs.Laws.{Steps}
+
+-- the table once the seat read a word, or found there another than it expected, and has this view then
+abbrev pub read : St → ℕ → ℕ → Sat → Sight → St
+read s i id me w = stepped s i (slice_index s.words i) id me.1 w keeps
+
+-- a look at the owner word inside the guard
+abbrev pub LookIsNoEvent : Type 0
+LookIsNoEvent = (key : Start) (s : St) (r : Ruled key s) (id : ℕ) (me : Sat) (n : ℕ) (o : Owner) → Steps s id me →
+    me.0.part.core.inside ≡ suc n → IsValid o → slice_index s.words (owner_at n) ≡ packed o →
+    Stays key s r (read s (owner_at n) id me (looking me.0 o))
+
+-- a look at the own sign: what is found is noted, or that nothing was; so too where a context doesn't end, being signed
+pub record IsNotedOnly (key : Start) (s : St) (r : Ruled key s) (id : ℕ) (me : Sat) (i : ℕ) : Type 0 where
+  pub found : (slice_index s.words i ≡ 0 → IsQuiet me.0.part.core) → Stays key s r (read s i id me (reading me.0 (slice_index s.words i)))
+  pub found_none : Stays key s r (read s i id me (finding_none me.0))
+
+abbrev pub OwnSignIsNoEvent : Type 0
+OwnSignIsNoEvent = (key : Start) (s : St) (r : Ruled key s) (id : ℕ) (me : Sat) → Steps s id me → IsNotedOnly key s r id me (sign_at me.0.part.core.who)
+
+-- A try that finds another word than the seat expected: to take a lock at once, to give it back at once, or at a guard or
+-- inside it.
+pub record IsLostOnly (key : Start) (s : St) (r : Ruled key s) (id : ℕ) (me : Sat) (i : ℕ) : Type 0 where
+  pub taking : Stays key s r (read s i id me (knowing me.0 (fast_missed me.0.part.core)))
+  pub giving : Stays key s r (read s i id me me.0)
+  pub others : Stays key s r (read s i id me (lost me.0))
+
+abbrev pub LostIsNoEvent : Type 0
+LostIsNoEvent = (key : Start) (s : St) (r : Ruled key s) (id : ℕ) (me : Sat) (i : ℕ) → Steps s id me → IsLostOnly key s r id me i
+
+-- a sign for a seat that was signed already
+abbrev pub LostSignIsNoEvent : Type 0
+LostSignIsNoEvent = (key : Start) (s : St) (r : Ruled key s) (id : ℕ) (me : Sat) (u : ℕ) → Steps s id me →
+    u < 16 → slice_index s.words (sign_at u) ≢ 0 → Stays key s r (read s (sign_at u) id me (signing me.0 u))
+
+-- the first idle number of a seat is cut off
+abbrev pub SplitIsNoEvent : Type 0
+SplitIsNoEvent = (key : Start) (s : St) (r : Ruled key s) (id : ℕ) (v : Sight) (p : Part) (ps : List Part) →
+    get_elem? s.views id ≡ some v → v.seated ≡ true → v.idle ≡ p ∷ ps →
+    Stays key s r (record { words = s.words; homes = s.homes; views = slice_set s.views id (without_first v) ++ first_seat (length v.held) v.idle ∷ [] })
+
+-- a seat takes in another that owns nothing
+abbrev pub JoinIsNoEvent : Type 0
+JoinIsNoEvent = (key : Start) (s : St) (r : Ruled key s) (id : ℕ) (v : Sight) (other : ℕ) (w : Sight) →
+    get_elem? s.views id ≡ some v → v.seated ≡ true → other ≢ id → get_elem? (slice_set s.views id (with_seat v w)) other ≡ some w → w.seated ≡ true → IsBare w.part.core →
+    Stays key s r (record { words = s.words; homes = s.homes; views = slice_set (slice_set s.views id (with_seat v w)) other nobody })

@@ -1,0 +1,39 @@
+//! Laws of the table: each function's contract is one. A step's own call cites the lemma that its law does.
+
+ghost use Rattle.ww_table_laws.specs.Laws.{DrawIsBegin, TakeFreeIsFast, GiveFreeIsFastGive, EndIsEnd, PlaceIsCommit, RuledIsLawful, NewSeatsCanClose};
+
+/// From every table that the rule allows, a draw is the event Begin on what is shown.
+pub fn draw_is_begin()
+    ensures { DrawIsBegin }
+{}
+
+/// A try that wins is the event Fast.
+pub fn take_free_is_fast()
+    ensures { TakeFreeIsFast }
+{}
+
+/// Giving back at once is the event FastGive.
+pub fn give_free_is_fast_give()
+    ensures { GiveFreeIsFastGive }
+{}
+
+/// Finding the own sign 0 is the event End.
+pub fn end_is_end()
+    ensures { EndIsEnd }
+{}
+
+/// Taking a place is the event Commit.
+pub fn place_is_commit()
+    ensures { PlaceIsCommit }
+{}
+
+/// The core that the rule tells of a table, with the stamps of its views and the wait lists wherever they lie, is lawful,
+/// and every cycle of waits there has a condemned member.
+pub fn ruled_is_lawful()
+    ensures { RuledIsLawful }
+{}
+
+/// Seats that did nothing yet can be handed in to close the table.
+pub fn new_seats_can_close()
+    ensures { NewSeatsCanClose }
+{}

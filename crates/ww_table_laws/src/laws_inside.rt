@@ -1,0 +1,49 @@
+//! Laws of the steps at guards, inside them and on signs: each function's contract is one. A step's own call cites the
+//! lemma that its law does.
+
+ghost use Rattle.ww_table_laws.specs.InsideLaws.{EnterIsGuard, ExitIsUnguard, JoinIsJoin, TakeIsTake, GiveIsGive, AskIsAsk, DieIsDie, SignIsSign, ClearIsClear};
+
+/// Going inside a guard is the event Guard.
+pub fn enter_is_guard()
+    ensures { EnterIsGuard }
+{}
+
+/// Leaving a guard is the event Unguard.
+pub fn exit_is_unguard()
+    ensures { ExitIsUnguard }
+{}
+
+/// Standing in a wait list is the event Join.
+pub fn join_is_join()
+    ensures { JoinIsJoin }
+{}
+
+/// Taking a lock inside its guard is the event Take.
+pub fn take_is_take()
+    ensures { TakeIsTake }
+{}
+
+/// Giving a lock back inside its guard is the event Give.
+pub fn give_is_give()
+    ensures { GiveIsGive }
+{}
+
+/// Asking for a lock is the event Ask.
+pub fn ask_is_ask()
+    ensures { AskIsAsk }
+{}
+
+/// Backing off is the event Die.
+pub fn die_is_die()
+    ensures { DieIsDie }
+{}
+
+/// Condemning a seat is the event Sign.
+pub fn sign_is_sign()
+    ensures { SignIsSign }
+{}
+
+/// Taking the own sign back is the event Clear.
+pub fn clear_is_clear()
+    ensures { ClearIsClear }
+{}

@@ -1,0 +1,34 @@
+//! Laws of what is no event of the core: each function's contract is one. A step's own call rests on the lemma that its
+//! law does.
+
+ghost use Rattle.ww_table_laws.specs.NoEvents.{LookIsNoEvent, OwnSignIsNoEvent, LostIsNoEvent, LostSignIsNoEvent, SplitIsNoEvent, JoinIsNoEvent};
+
+/// A look at an owner word leaves core and commits as they are.
+pub fn look_is_no_event()
+    ensures { LookIsNoEvent }
+{}
+
+/// So does a look at the own sign.
+pub fn own_sign_is_no_event()
+    ensures { OwnSignIsNoEvent }
+{}
+
+/// So does a try that finds another word than it expected.
+pub fn lost_is_no_event()
+    ensures { LostIsNoEvent }
+{}
+
+/// So does a sign for a seat that has one.
+pub fn lost_sign_is_no_event()
+    ensures { LostSignIsNoEvent }
+{}
+
+/// So does cutting off a seat.
+pub fn split_is_no_event()
+    ensures { SplitIsNoEvent }
+{}
+
+/// So does taking a seat in.
+pub fn join_is_no_event()
+    ensures { JoinIsNoEvent }
+{}
