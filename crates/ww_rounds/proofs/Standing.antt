@@ -1,12 +1,12 @@
 -- What each call makes of what is told of a seat.
-use Rattle.std.proofs.Common.{◌≡◌, ◌≢◌, ℕ, zero, suc, ◌+◌, ◌≤◌, ◌<◌, ◌^◌, Bool, true, false, true≢false, ◌||◌, ne_eqb, List, [], ◌∷◌, length, map, get_or, set, sym, refl, ap, ◌∙◌, subst, ⊎_elim, inl, inr, arith, Option, Some, None, length-set, length-append, get_or-set_same, get_or-set_other}
+use Rattle.std.proofs.Common.{◌≡◌, ◌≢◌, ℕ, suc, ◌+◌, ◌≤◌, ◌<◌, ◌^◌, Bool, true, false, true≢false, ◌||◌, ne_eqb, List, [], ◌∷◌, length, map, get_or, set, sym, refl, ap, ◌∙◌, subst, ⊎_elim, inl, inr, arith, Option, Some, None, length-set, length-append, get_or-set_same, get_or-set_other}
 use Rattle.std.specs.Bool.{if◌then◌else◌}
 use Rattle.std.specs.List.{AllByRecursion}
 use mathlib.Core.Logic.{dite}
-use mathlib.Core.Option.{some, some-injective}
+use mathlib.Core.Option.{some}
 use native.Mathlib.Decide.{ℕ_discrete}
 use lib.ListN.{get_elem?, length-replicate, length-map}
-use Rattle.atomic_table.proofs.Lists.{set_here, set_else, at_map}
+use Rattle.atomic_table.proofs.Lists.{set_here, set_else}
 use Rattle.ww_queue.specs.declared.kind.Kind.{Kind}
 use Rattle.ww_plain.specs.declared.node.Node.{Node}
 use Rattle.ww_plain.specs.declared.history.Record.{Record}
@@ -17,9 +17,10 @@ use Rattle.ww_plain.specs.Transaction.{add, transaction_of, HasLength}
 use Rattle.ww_plain.specs.Meaning.{raised, graph_after, done}
 use Rattle.ww_plain.proofs.Members.{is_among-head, is_among-tail, among_cons, different_cons, different_none, not_among_from_others}
 use Rattle.ww_plain.proofs.Frames.{is_among-distinct_of}
-use Rattle.ww_view.specs.View.{owns, IsBare}
+use Rattle.ww_view.specs.declared.view.View.{View}
+use Rattle.ww_view.specs.View.{owns, IsAway, IsBare}
 use Rattle.ww_view.specs.May.{MayFast}
-use Rattle.ww_view.specs.Made.{ended as view_ended, fast_missed, fast_given}
+use Rattle.ww_view.specs.Made.{begun, ended as view_ended, fast_missed, fast_given}
 use Rattle.ww_table.specs.declared.cells.Cell.{Cell}
 use Rattle.ww_table.specs.declared.cells.Cell.TheVariants.{Content}
 use Rattle.ww_table.specs.Rule.{Sat, first_part}
@@ -27,7 +28,8 @@ use Rattle.atomic_table.specs.Seated.{TableId}
 use Rattle.ww_table.specs.declared.board.Board.{Board}
 use Rattle.ww_table.specs.declared.seat.Seat16.{Seat16}
 use Rattle.ww_table.specs.Seat.{IsSeated, AreOthers, slot_of}
-use Rattle.ww_table.specs.Steps.{MayDraw, MayEnd, MayPlace, known, graph_of, renewed, drawing, taking, giving, knowing, placing, seat_of}
+use Rattle.ww_table.specs.Steps.{MayDraw, MayEnd, MayPlace, known, graph_of, drawing, taking, giving, knowing, placing, seat_of}
+use Rattle.ww_table.proofs.Places.{graph_at, renewed_long, renewed_at}
 use Rattle.ww_table.proofs.Seats.{bare_first}
 use Rattle.ww_table.specs.Made.{IsMade}
 use Rattle.ww_rounds.specs.Resting.{IsResting, size_of}
@@ -80,21 +82,26 @@ module _ (size : ℕ) (d : Deeds) (m : Sat) (s : Stands size d m) where
   pub may_draw : d.stage ≡ resting → d.locks ≡ [] → d.draws + 1 < 2 ^ 32 → MayDraw m.0.part
   may_draw rest none fewer = record { away = s.away; no_context = subst (λ (t : Stage). IsAt t m.0.part.core) rest s.stage; bare = bare none; fewer = let e = s.draws in omega arith }
 
-  pub drew_stands : (stamp : ℕ) → 0 < stamp → Stands size (began d) (drawing m.0 stamp, m.1)
-  drew_stands stamp pos = record {
+  -- another view and count of draws, with the same locks
+  keeps_locks : (t : Stage) (v : View) (drawn count : ℕ) → v.owned ≡ m.0.part.core.owned → v.who ≡ m.0.part.core.who → IsAway v → IsAt t v → drawn ≡ count
+      → Stands size (record d { draws = count; stage = t }) (record (m.0) { part = record (m.0.part) { core = v; draws = drawn } }, m.1)
+  keeps_locks t v drawn count same who away stage draws = record {
     few = s.few;
-    away = s.away;
-    who = s.who;
-    draws = ap (λ (n : ℕ). n + 1) s.draws;
+    away = away;
+    who = who ∙ s.who;
+    draws = draws;
     commits = s.commits;
-    stage = (pos, refl);
-    owned = s.owned;
+    stage = stage;
+    owned = ap (λ (o : List Bool). length o) same ∙ s.owned;
     held = s.held;
-    owns = s.owns;
+    owns = λ k. ap (λ (o : List Bool). get_or o k false) same ∙ s.owns k;
     out = s.out;
     once = s.once;
     nodes = λ k e. let h = s.nodes k e in record { low = h.low; node = h.node; named = h.named; out = h.out };
   }
+
+  pub drew_stands : (stamp : ℕ) → 0 < stamp → Stands size (began d) (drawing m.0 stamp, m.1)
+  drew_stands stamp pos = keeps_locks fresh (begun m.0.part.core stamp) (m.0.part.draws + 1) (d.draws + 1) refl refl s.away (pos, refl) (ap (λ (n : ℕ). n + 1) s.draws)
 
   context_at : (t : Stage) → t ≢ resting → IsAt t m.0.part.core → 0 < m.0.part.core.stamp
   context_at resting isnt e = absurd (isnt refl)
@@ -105,20 +112,7 @@ module _ (size : ℕ) (d : Deeds) (m : Sat) (s : Stands size d m) where
   may_end isnt none = record { away = s.away; context = context_at d.stage isnt s.stage; bare = bare none }
 
   pub ended_stands : Stands size (ended d) (knowing m.0 (view_ended m.0.part.core), m.1)
-  ended_stands = record {
-    few = s.few;
-    away = s.away;
-    who = s.who;
-    draws = s.draws;
-    commits = s.commits;
-    stage = refl;
-    owned = s.owned;
-    held = s.held;
-    owns = s.owns;
-    out = s.out;
-    once = s.once;
-    nodes = λ k e. let h = s.nodes k e in record { low = h.low; node = h.node; named = h.named; out = h.out };
-  }
+  ended_stands = keeps_locks resting (view_ended m.0.part.core) m.0.part.draws d.draws refl refl s.away refl s.draws
 
   -- ---- take
 
@@ -177,20 +171,7 @@ module _ (size : ℕ) (d : Deeds) (m : Sat) (s : Stands size d m) where
   stage_missed working e = e
 
   pub missed_stands : Stands size d (knowing m.0 (fast_missed m.0.part.core), m.1)
-  missed_stands = record {
-    few = s.few;
-    away = s.away;
-    who = s.who;
-    draws = s.draws;
-    commits = s.commits;
-    stage = stage_missed d.stage s.stage;
-    owned = s.owned;
-    held = s.held;
-    owns = s.owns;
-    out = s.out;
-    once = s.once;
-    nodes = λ k e. let h = s.nodes k e in record { low = h.low; node = h.node; named = h.named; out = h.out };
-  }
+  missed_stands = keeps_locks d.stage (fast_missed m.0.part.core) m.0.part.draws d.draws refl refl s.away (stage_missed d.stage s.stage) s.draws
 
   -- ---- give
 
@@ -273,27 +254,6 @@ module _ (size : ℕ) (d : Deeds) (m : Sat) (s : Stands size d m) where
     once = λ k. counts k ∙ s.once k;
     nodes = λ k e. let h = s.nodes k e in record { low = h.low; node = node_at graph k; named = renewed_at 0 m.0.held graph k h.node h.named ∙ ap (λ (j : ℕ). some (Some (node_at graph j))) (let z : 0 + k ≡ k = omega arith in z); out = made k h.node e h.low h.named h.out };
   }
-    where
-      renewed_long : (i : ℕ) (held : List (Option Node)) (graph : List Node) → length (renewed i held graph) ≡ length held
-      renewed_long i [] graph = refl
-      renewed_long i (None ∷ os) graph = ap suc (renewed_long (i + 1) os graph)
-      renewed_long i (Some y ∷ os) graph = ap suc (renewed_long (i + 1) os graph)
-
-      renewed_at : (i : ℕ) (held : List (Option Node)) (graph : List Node) (n : ℕ) (x : Node) → get_elem? held n ≡ some (Some x) → get_elem? (renewed i held graph) n ≡ some (Some (node_at graph (i + n)))
-      renewed_at i [] graph n x e = absurd cc
-      renewed_at i (None ∷ os) graph zero x e = absurd (let z = some-injective None (Some x) e in cc)
-      renewed_at i (Some y ∷ os) graph zero x e = ap (λ (k : ℕ). some (Some (node_at graph k))) (let z : i ≡ i + 0 = omega arith in z)
-      renewed_at i (None ∷ os) graph (suc n) x e = renewed_at (i + 1) os graph n x e ∙ ap (λ (k : ℕ). some (Some (node_at graph k))) (let z : i + 1 + n ≡ i + suc n = omega arith in z)
-      renewed_at i (Some y ∷ os) graph (suc n) x e = renewed_at (i + 1) os graph n x e ∙ ap (λ (k : ℕ). some (Some (node_at graph k))) (let z : i + 1 + n ≡ i + suc n = omega arith in z)
-
-at_or : {A : Type 0} (l : List A) (i : ℕ) (a d : A) → get_elem? l i ≡ some a → get_or l i d ≡ a
-at_or [] i a d e = absurd cc
-at_or (x ∷ xs) zero a d e = some-injective x a e
-at_or (x ∷ xs) (suc i) a d e = at_or xs i a d e
-
--- a node that the view names, in the graph as far as the view names it
-sees : (held : List (Option Node)) (k : ℕ) (x : Node) → get_elem? held k ≡ some (Some x) → node_at (graph_of held) k ≡ x
-sees held k x e = at_or (graph_of held) k x no_node (at_map known held k (Some x) e)
 
 raised_here : (graph : List Node) (n : ℕ) → n < length graph → node_at (raised graph (n, 1)) n ≡ raised_one (node_at graph n)
 raised_here graph n low = get_or-set_same graph n (raised_one (node_at graph n)) no_node low
@@ -317,7 +277,7 @@ module _ (size : ℕ) (d : Deeds) (m : Sat) (s : Stands size d m) where
       (λ k. up.once k ∙ ap (λ (z : Sat). count_of z.1 k) placed)
       (λ k x among low named out. let graph : List Node = graph_of m.0.held in subst (λ t. slot_of m2.1 k ≡ Some (Content (node_at (graph_after graph t) k))) (sym is)
       (raised_slot graph n k m1.1 m2.1 (let w = wide size d m s in let l = (s.nodes n owned).low in omega arith) up.here (up.others k)
-      (ap (λ (z : Sat). slot_of z.1 k) placed ∙ out ∙ ap (λ (y : Node). Some (Content y)) (sym (sees m.0.held k x named))))))
+      (ap (λ (z : Sat). slot_of z.1 k) placed ∙ out ∙ ap (λ (y : Node). Some (Content y)) (sym (graph_at m.0.held k x named))))))
 
   -- and one that adds 1 to two
   pub two_stands : (place : ℕ) (r : Record) (by : By) (a b : ℕ) (m1 m2 m3 : Sat) → is_among a d.locks ≡ true → is_among b d.locks ≡ true → transaction_of r.txn ≡ add by ((a, 1) ∷ (b, 1) ∷ []) → m1 ≡ (placing m.0 place r, m.1)
@@ -329,7 +289,7 @@ module _ (size : ℕ) (d : Deeds) (m : Sat) (s : Stands size d m) where
       subst (λ t. slot_of m3.1 k ≡ Some (Content (node_at (graph_after graph t) k))) (sym is)
       (raised_slot (raised graph (a, 1)) b k m2.1 m3.1 (let l = length-set graph a (raised_one (node_at graph a)) in omega arith) more.here (more.others k)
       (raised_slot graph a k m1.1 m2.1 (omega arith) up.here (up.others k)
-      (ap (λ (z : Sat). slot_of z.1 k) placed ∙ out ∙ ap (λ (y : Node). Some (Content y)) (sym (sees m.0.held k x named)))))))
+      (ap (λ (z : Sat). slot_of z.1 k) placed ∙ out ∙ ap (λ (y : Node). Some (Content y)) (sym (graph_at m.0.held k x named)))))))
 
 -- what the calls tell, in these words
 pub gave_again : (size : ℕ) (d : Deeds) (m m' : Sat) (s : Stands size d m) (n : ℕ) (ls : List ℕ) → (y : Node) × (m'.0 ≡ giving m.0 n) × AreOthers m.1 n (Content y) m'.1 → d.locks ≡ n ∷ ls → is_among n ls ≡ false → Stands size (gave d ls) m'

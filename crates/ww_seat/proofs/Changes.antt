@@ -1,9 +1,9 @@
 -- A commit: what the transaction makes of the nodes held is what it makes of them in the graph that it was prepared on.
-use Rattle.std.proofs.Common.{◌≡◌, ℕ, zero, suc, ◌+◌, ◌<◌, true, false, eqb, List, [], ◌∷◌, ◌++◌, length, take, get_or, slice_get, set, ◌^◌, refl, sym, ap, ◌∙◌, subst, ⊎_elim, inl, inr, arith, Option, Some, None}
+use Rattle.std.proofs.Common.{◌≡◌, ℕ, zero, suc, ◌+◌, ◌<◌, true, false, eqb, List, [], ◌∷◌, ◌++◌, length, take, get_or, slice_get, set, ◌^◌, refl, sym, ap, ◌∙◌, subst, ⊎_elim, inl, inr, arith, Option, Some}
 use Rattle.std.proofs.lemmas.List.{length-map}
 use Rattle.std.specs.List.{AllByRecursion}
 use mathlib.Core.Logic.{dite}
-use mathlib.Core.Option.{some, some-injective}
+use mathlib.Core.Option.{some}
 use native.Mathlib.Decide.{ℕ_discrete}
 use lib.ListN.{get_elem?}
 use Rattle.ww_plain.specs.declared.node.Node.{Node}
@@ -25,30 +25,12 @@ use Rattle.ww_table.specs.declared.cells.Sight.{Sight}
 use Rattle.ww_table.specs.Rule.{Sat}
 use Rattle.ww_table.specs.Seat.{AreOthers, slot_of}
 use Rattle.ww_table.specs.Steps.{known, graph_of, renewed, MayPlace, placing}
+use Rattle.ww_table.proofs.Places.{graph_at, renewed_long, renewed_at}
 use Rattle.ww_seat.specs.Orderly.{IsOrderly}
 use Rattle.ww_seat.specs.Calls.{HoldsAll, HasCommitted}
 use Rattle.ww_seat.specs.Commits.{naming, IsChanged}
 use Rattle.ww_seat.proofs.Outside.{orderly_still, orderly_swapped, orderly_named}
 use Rattle.atomic_table.proofs.Lists.{set_here, set_else}
-
--- ---- the graph as far as the view names it
-
-graph_at : (held : List (Option Node)) (n : ℕ) (x : Node) → get_elem? held n ≡ some (Some x) → node_at (graph_of held) n ≡ x
-graph_at [] n x e = absurd cc
-graph_at (o ∷ os) zero x e = ap known (some-injective o (Some x) e)
-graph_at (o ∷ os) (suc n) x e = graph_at os n x e
-
-renewed_long : (i : ℕ) (held : List (Option Node)) (graph : List Node) → length (renewed i held graph) ≡ length held
-renewed_long i [] graph = refl
-renewed_long i (None ∷ os) graph = ap suc (renewed_long (i + 1) os graph)
-renewed_long i (Some y ∷ os) graph = ap suc (renewed_long (i + 1) os graph)
-
-renewed_at : (i : ℕ) (held : List (Option Node)) (graph : List Node) (n : ℕ) (x : Node) → get_elem? held n ≡ some (Some x) → get_elem? (renewed i held graph) n ≡ some (Some (node_at graph (i + n)))
-renewed_at i [] graph n x e = absurd cc
-renewed_at i (None ∷ os) graph zero x e = absurd (let z = some-injective None (Some x) e in cc)
-renewed_at i (Some y ∷ os) graph zero x e = ap (λ (k : ℕ). some (Some (node_at graph k))) (let z : i ≡ i + 0 = omega arith in z)
-renewed_at i (None ∷ os) graph (suc n) x e = renewed_at (i + 1) os graph n x e ∙ ap (λ (k : ℕ). some (Some (node_at graph k))) (let z : i + 1 + n ≡ i + suc n = omega arith in z)
-renewed_at i (Some y ∷ os) graph (suc n) x e = renewed_at (i + 1) os graph n x e ∙ ap (λ (k : ℕ). some (Some (node_at graph k))) (let z : i + 1 + n ≡ i + suc n = omega arith in z)
 
 -- ---- the nodes change one after another
 

@@ -1,5 +1,5 @@
 -- What a step of one seat leaves to the other seats, and to the numbers that lie idle.
-use Rattle.std.proofs.Common.{◌≡◌, ◌≢◌, ℕ, zero, suc, ◌<◌, true, List, [], ◌∷◌, ◌++◌, length, set, sym, refl, ap, ◌∙◌, subst, ⊎_elim, inl, inr, arith, Some}
+use Rattle.std.proofs.Common.{◌≡◌, ◌≢◌, ℕ, zero, suc, ◌<◌, true, List, [], ◌∷◌, ◌++◌, length, set, refl, sym, ap, ◌∙◌, subst, ⊎_elim, inl, inr, arith, Some}
 use mathlib.Core.Logic.{dite}
 use mathlib.Core.Option.{some, some-injective}
 use native.Mathlib.Decide.{ℕ_discrete}
@@ -19,7 +19,7 @@ use Rattle.ww_view.proofs.Others.{others_know}
 use Rattle.ww_table.specs.declared.cells.Part.{Part}
 use Rattle.ww_table.specs.declared.cells.Sight.{Sight}
 use Rattle.ww_table.specs.declared.cells.Start.{Start}
-use Rattle.ww_table.specs.Rule.{first_graph, PartFits, Sits, Speaks, IsThere, IsStranger}
+use Rattle.ww_table.specs.Rule.{St, first_graph, Shown, AtHome, PartFits, Sits, Speaks, IsThere, IsStranger, Ruled, Stays}
 
 -- the seat `me` changes its view, and the parts of all others stay
 pub seats_stay : (K : ℕ → Sight → Type 0) (vs : List Sight) (me : ℕ) (w : Sight) → (w.seated ≡ true → K me w) → ((j : ℕ) (d : Sight) → j ≢ me → get_elem? vs j ≡ some d → d.seated ≡ true → K j d)
@@ -88,3 +88,28 @@ module _ (key : Start) (c : State) (e : Event) (law : IsLawful c) (can : Possibl
     apart = f.apart;
     differ = f.differ;
   }
+
+-- another table with the same core: what the rule says of the core, of the commits and of the counts stays
+pub stays_as : (key : Start) (s s' : St) (r : Ruled key s) (at : ℕ → ℕ) → Shown r.core s'.words → AtHome (last_graph (first_graph key) r.log) r.core.owner r.core.queue r.core.guard s'.homes
+    → ((j : ℕ) (v : Sight) → get_elem? s'.views j ≡ some v → v.seated ≡ true → Sits key r.core r.log at r.draws j v) → ((t : ℕ) → t < key.seats → IsThere s'.views (at t) t) → Stays key s r s'
+stays_as key s s' r at words homes seats there = record {
+  is = refl;
+  commits = refl;
+  ruled = record {
+    core = r.core;
+    log = r.log;
+    at = at;
+    draws = r.draws;
+    reached = r.reached;
+    kind = r.kind;
+    locks = r.locks;
+    places = r.places;
+    seats_there = r.seats_there;
+    strangers = r.strangers;
+    words = words;
+    homes = homes;
+    counted = r.counted;
+    seats = seats;
+    there = there;
+  };
+}

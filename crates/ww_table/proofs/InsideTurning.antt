@@ -12,9 +12,10 @@ use Rattle.ww_model.specs.State.{waiting}
 use Rattle.ww_view.specs.Word.{given_word, rest_word}
 use Rattle.ww_table.specs.declared.cells.Cell.{Cell}
 use Rattle.ww_table.specs.declared.cells.Cell.TheVariants.{Content, Line}
+use Rattle.ww_table.specs.Rule.{Sat}
 use Rattle.ww_table.specs.Seat.{slot_of, AreOthers}
 use Rattle.ww_table.specs.Guards.{AreSeats}
-use Rattle.ww_table.specs.Waiting.{HaveOnly, IsOut}
+use Rattle.ww_table.specs.Waiting.{HaveOnly, IsOut, HasListOnTop}
 
 same_slot : (slots : List (ℕ × Cell)) (n : ℕ) (x y : Cell) → slot_of slots n ≡ Some y → slot_of slots n ≡ Some x → y ≡ x
 same_slot slots n x y there is = let e : Some y ≡ Some x = sym there ∙ is in cc
@@ -50,6 +51,10 @@ no_node_there now others n k q z x top read is = let e : Line q ≡ z = ap (λ (
 -- the slot that was taken last, by its number
 pub on_top : (now others : List (ℕ × Cell)) (n k : ℕ) (y : Cell) → now ≡ (n, y) ∷ others → k ≡ n → now ≡ (k, y) ∷ rest now
 on_top now others n k y top at = top ∙ (λ i. (sym at i, y) ∷ rest (sym top i))
+
+-- ... where that is the wait list
+pub list_on_top : (m m' : Sat) (n k : ℕ) → HasListOnTop m n m' → k ≡ 64 + n → m'.1 ≡ (k, Line m.0.part.core.list) ∷ rest m'.1
+list_on_top m m' n k t = on_top m'.1 t.others (64 + n) k (Line m.0.part.core.list) (ap (λ (w : Sat). w.1) t.now)
 
 -- ---- the flag of the waiters that are left
 

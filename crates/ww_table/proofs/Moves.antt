@@ -46,7 +46,7 @@ use Rattle.ww_table.specs.Rule.{St, Sat, first_graph, own_of, Shown, AtHome, Cou
 use Rattle.ww_table.specs.Steps.{knowing, taker, taking, giving, drawing, takes_to, gives_to, ends_to, draws_to, MayDraw, MayEnd}
 use Rattle.ww_table.proofs.Totals.{total_one, total_below}
 use Rattle.ww_table.proofs.Regions.{owner_set, drawn_set, none_set}
-use Rattle.ww_table.proofs.Fits.{seats_stay, there_kept, strange_on, Spares, part_on, sits_on}
+use Rattle.ww_table.proofs.Fits.{seats_stay, there_kept, strange_on, Spares, part_on, sits_on, stays_as}
 
 idle_valid : IsValid idle
 idle_valid = record { seating = (refl, omega arith); stamp = omega arith; flags = inl refl }
@@ -208,42 +208,24 @@ module _ (key : Start) (s : St) (r : Ruled key s) (id : ℕ) (me : Sat) (here : 
 
   -- a load, or a compare-exchange that finds another number
   pub looks_on : (i : ℕ) (w : View) → w.who ≡ me.0.part.core.who → ((n : ℕ) → owns w n ≡ owns me.0.part.core n) → Knows r.core w → Stays key s r (stepped s i (get_or s.words i 0) id me.1 (knowing me.0 w) keeps)
-  looks_on i w same has knows = record {
-    is = refl;
-    commits = refl;
-    ruled = record {
-      core = r.core;
-      log = r.log;
-      at = r.at;
-      draws = r.draws;
-      reached = r.reached;
-      kind = r.kind;
-      locks = r.locks;
-      places = r.places;
-      seats_there = r.seats_there;
-      strangers = r.strangers;
-      words = subst (Shown r.core) (sym (set-get_or s.words i 0)) r.words;
-      homes = r.homes;
-      counted = r.counted;
-      seats = seats_stay (Sits key r.core r.log r.at r.draws) s.views id (knowing me.0 w)
-          (λ _. record {
-            part = record {
-              place = ap r.at same ∙ mine.part.place;
-              number = subst (λ (t : ℕ). t < key.seats) (sym same) mine.part.number;
-              knows = knows;
-              drew = mine.part.drew ∙ ap r.draws (sym same);
-              own = mine.part.own ∙ ap (λ (t : ℕ). part_of t r.log) (sym same);
-            };
-            room = mine.room;
-            held = λ n own. mine.held n (sym (has n) ∙ own);
-            idle = mine.idle;
-            apart = λ k q there z. mine.apart k q there (z ∙ same);
-            differ = mine.differ;
-          })
-          (λ j d _ there. r.seats j d there);
-      there = λ t small. there_kept s.views id me.0 (knowing me.0 w) (r.at t) t here refl same refl (r.there t small);
-    };
-  }
+  looks_on i w same has knows = stays_as key s (stepped s i (get_or s.words i 0) id me.1 (knowing me.0 w) keeps) r r.at (subst (Shown r.core) (sym (set-get_or s.words i 0)) r.words) r.homes
+      (seats_stay (Sits key r.core r.log r.at r.draws) s.views id (knowing me.0 w)
+      (λ _. record {
+        part = record {
+          place = ap r.at same ∙ mine.part.place;
+          number = subst (λ (t : ℕ). t < key.seats) (sym same) mine.part.number;
+          knows = knows;
+          drew = mine.part.drew ∙ ap r.draws (sym same);
+          own = mine.part.own ∙ ap (λ (t : ℕ). part_of t r.log) (sym same);
+        };
+        room = mine.room;
+        held = λ n own. mine.held n (sym (has n) ∙ own);
+        idle = mine.idle;
+        apart = λ k q there z. mine.apart k q there (z ∙ same);
+        differ = mine.differ;
+      })
+      (λ j d _ there. r.seats j d there))
+      (λ t small. there_kept s.views id me.0 (knowing me.0 w) (r.at t) t here refl same refl (r.there t small))
 
   pub looks : (i : ℕ) (w : View) → w.who ≡ me.0.part.core.who → ((n : ℕ) → owns w n ≡ owns me.0.part.core n) → Knows r.core w → Ruled key (stepped s i (get_or s.words i 0) id me.1 (knowing me.0 w) keeps)
   looks i w same has knows = (looks_on i w same has knows).ruled

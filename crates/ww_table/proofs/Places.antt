@@ -8,12 +8,12 @@ use native.Mathlib.Decide.{ℕ_discrete}
 use lib.ListN.{get_elem?, length-map}
 use Rattle.atomic_table.specs.Table.{step, keeps, stepped, Allows}
 use Rattle.ww_table.specs.declared.cells.Cell.TheVariants.{Content}
-use Rattle.atomic_table.proofs.Lists.{at_map, at_snoc}
+use Rattle.atomic_table.proofs.Lists.{at_snoc}
 use Rattle.ww_model.specs.declared.event.Event.TheVariants.{Commit}
 use Rattle.ww_plain.specs.declared.node.Node.{Node}
 use Rattle.ww_plain.specs.declared.history.Record.{Record}
 use Rattle.ww_plain.specs.Numbers.{is_among}
-use Rattle.ww_plain.specs.Graph.{IsGraph, no_node, node_at}
+use Rattle.ww_plain.specs.Graph.{IsGraph, node_at}
 use Rattle.ww_plain.specs.Footprint.{footprint_of}
 use Rattle.ww_plain.specs.Transaction.{Fits, transaction_of}
 use Rattle.ww_plain.specs.Meaning.{graph_after}
@@ -35,17 +35,17 @@ use Rattle.ww_table.proofs.Moves.{law, mine, makes_all}
 
 -- ---- lists of nodes held
 
-at_or : {A : Type 0} (l : List A) (i : ℕ) (a d : A) → get_elem? l i ≡ some a → get_or l i d ≡ a
-at_or [] i a d e = absurd cc
-at_or (x ∷ xs) zero a d e = some-injective x a e
-at_or (x ∷ xs) (suc i) a d e = at_or xs i a d e
+pub graph_at : (held : List (Option Node)) (n : ℕ) (x : Node) → get_elem? held n ≡ some (Some x) → node_at (graph_of held) n ≡ x
+graph_at [] n x e = absurd cc
+graph_at (o ∷ os) zero x e = ap known (some-injective o (Some x) e)
+graph_at (o ∷ os) (suc n) x e = graph_at os n x e
 
-renewed_long : (i : ℕ) (held : List (Option Node)) (graph : List Node) → length (renewed i held graph) ≡ length held
+pub renewed_long : (i : ℕ) (held : List (Option Node)) (graph : List Node) → length (renewed i held graph) ≡ length held
 renewed_long i [] graph = refl
 renewed_long i (None ∷ os) graph = ap suc (renewed_long (i + 1) os graph)
 renewed_long i (Some y ∷ os) graph = ap suc (renewed_long (i + 1) os graph)
 
-renewed_at : (i : ℕ) (held : List (Option Node)) (graph : List Node) (n : ℕ) (x : Node) → get_elem? held n ≡ some (Some x) → get_elem? (renewed i held graph) n ≡ some (Some (node_at graph (i + n)))
+pub renewed_at : (i : ℕ) (held : List (Option Node)) (graph : List Node) (n : ℕ) (x : Node) → get_elem? held n ≡ some (Some x) → get_elem? (renewed i held graph) n ≡ some (Some (node_at graph (i + n)))
 renewed_at i [] graph n x e = absurd cc
 renewed_at i (None ∷ os) graph zero x e = absurd (let z = some-injective None (Some x) e in cc)
 renewed_at i (Some y ∷ os) graph zero x e = ap (λ (k : ℕ). some (Some (node_at graph k))) (let z : i ≡ i + 0 = omega arith in z)
@@ -90,7 +90,7 @@ module _ (key : Start) (s : St) (r : Ruled key s) (id : ℕ) (me : Sat) (here : 
   sizes = length-map me.0.held known ∙ sits.room ∙ sym r.counted.size
 
   sees : (n : ℕ) → owns me.0.part.core n ≡ true → node_at seen n ≡ node_at graph n
-  sees n own = at_or seen n (node_at graph n) no_node (at_map known me.0.held n (Some (node_at graph n)) (sits.held n own))
+  sees n own = graph_at me.0.held n (node_at graph n) (sits.held n own)
 
   alike : IsSameInside seen graph (transaction_of x.txn)
   alike = inside seen graph (transaction_of x.txn) may.next.fits sizes (λ n among. sees n (may.covers n among))

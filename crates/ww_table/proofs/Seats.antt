@@ -22,7 +22,7 @@ use Rattle.ww_table.specs.declared.cells.Start.{Start}
 use Rattle.ww_table.specs.Rule.{St, first_graph, PartFits, Sits, Speaks, IsThere, Ruled, Stays, first_part, first_parts, first_sight}
 use Rattle.ww_table.specs.Steps.{nobody, seat_of, rest_of, first_seat, without_first, with_seat}
 use Rattle.ww_table.proofs.Totals.{total_zero}
-use Rattle.ww_table.proofs.Fits.{seats_stay, place_low, there_set, there_else, there_longer}
+use Rattle.ww_table.proofs.Fits.{stays_as, seats_stay, place_low, there_set, there_else, there_longer}
 
 -- where an element of a longer list is
 pub at_end : {A : Type 0} (l : List A) (a b : A) (j : ℕ) → get_elem? (l ++ a ∷ []) j ≡ some b → (get_elem? l j ≡ some b) ⊎ ((j ≡ length l) × (a ≡ b))
@@ -117,53 +117,36 @@ module _ (key : Start) where
   splits_at : (id : ℕ) (v : Sight) (p : Part) (ps : List Part) → v.seated ≡ true → v.idle ≡ p ∷ ps → (s : St) (r : Ruled key s) → get_elem? s.views id ≡ some v → Stays key s r (cut s id (record v { idle = ps }) (seat_of (length v.held) p))
   splits_at id v p ps seated is s r at = let f = r.seats id v at seated in let n : ℕ = length s.views in let to : ℕ → ℕ = put r.at p.core.who n in let left : Sight = record v { idle = ps } in
       let later : (k : ℕ) (q : Part) → get_elem? ps k ≡ some q → get_elem? v.idle (suc k) ≡ some q = λ k q e. ap (λ (l : List Part). get_elem? l (suc k)) is ∙ e in
-      let at0 : get_elem? v.idle 0 ≡ some p = ap (λ (l : List Part). get_elem? l 0) is in let i0 = f.idle 0 p at0 in record {
-        is = refl;
-        commits = refl;
-        ruled = record {
-          core = r.core;
-          log = r.log;
-          at = to;
-          draws = r.draws;
-          reached = r.reached;
-          kind = r.kind;
-          locks = r.locks;
-          places = r.places;
-          seats_there = r.seats_there;
-          strangers = r.strangers;
-          words = r.words;
-          homes = r.homes;
-          counted = r.counted;
-          seats = λ j u e on. ⊎_elim
-              (λ was. seats_stay (Sits key r.core r.log to r.draws) s.views id left
-              (λ _. moves key r.core r.log r.at to r.draws id id left (put_else r.at p.core.who n v.part.core.who (λ z. f.apart 0 p at0 (sym z)) ∙ f.part.place)
-              (λ k q there. put_else r.at p.core.who n q.core.who (λ z. let y = f.differ (suc k) 0 q p (later k q there) at0 z in omega arith) ∙ (f.idle (suc k) q (later k q there)).0.place)
-              (record {
-                part = f.part;
-                room = f.room;
-                held = f.held;
-                idle = λ k q there. f.idle (suc k) q (later k q there);
-                apart = λ k q there. f.apart (suc k) q (later k q there);
-                differ = λ k l q t a b same. let y = f.differ (suc k) (suc l) q t (later k q a) (later l t b) same in omega arith;
-              }))
-              (λ i d other there on'. let g = r.seats i d there on' in moves key r.core r.log r.at to r.draws i i d
-              (put_else r.at p.core.who n d.part.core.who (λ z. other (sym g.part.place ∙ ap r.at z ∙ i0.0.place)) ∙ g.part.place)
-              (λ k q there'. let h = (g.idle k q there').0.place in put_else r.at p.core.who n q.core.who (λ z. other (sym h ∙ ap r.at z ∙ i0.0.place)) ∙ h) g)
-              j u was on)
-              (λ now. subst (λ (x : ℕ × Sight). Sits key r.core r.log to r.draws x.0 x.1) (λ i. (sym (now.0 ∙ length-set s.views id left) i, now.1 i))
-              (alone r.core r.log to r.draws n (length v.held) p f.room (moved key r.core r.log r.at to r.draws id n p (put_here r.at p.core.who n) i0.0) i0.1))
-              (at_end (set s.views id left) (seat_of (length v.held) p) u j e);
-          there = λ t small. dite (ℕ_discrete t p.core.who)
-              (λ mine. let to_n : to t ≡ n = ap to mine ∙ put_here r.at p.core.who n in record {
-                view = seat_of (length v.held) p;
-                stands = at_last (set s.views id left) (seat_of (length v.held) p) (to t) (length-set s.views id left ∙ sym to_n);
-                seated = refl;
-                speaks = inl (sym mine);
-              })
-              (λ isnt. there_longer (set s.views id left) (seat_of (length v.held) p ∷ []) (to t) t
-              (subst (λ (k : ℕ). IsThere (set s.views id left) k t) (sym (put_else r.at p.core.who n t isnt)) (there_set s.views id v left (r.at t) t at refl (speaks_later v p ps t is isnt) (r.there t small))));
-        };
-      }
+      let at0 : get_elem? v.idle 0 ≡ some p = ap (λ (l : List Part). get_elem? l 0) is in let i0 = f.idle 0 p at0 in
+      stays_as key s (cut s id left (seat_of (length v.held) p)) r to r.words r.homes
+      (λ j u e on. ⊎_elim
+      (λ was. seats_stay (Sits key r.core r.log to r.draws) s.views id left
+      (λ _. moves key r.core r.log r.at to r.draws id id left (put_else r.at p.core.who n v.part.core.who (λ z. f.apart 0 p at0 (sym z)) ∙ f.part.place)
+      (λ k q there. put_else r.at p.core.who n q.core.who (λ z. let y = f.differ (suc k) 0 q p (later k q there) at0 z in omega arith) ∙ (f.idle (suc k) q (later k q there)).0.place)
+      (record {
+        part = f.part;
+        room = f.room;
+        held = f.held;
+        idle = λ k q there. f.idle (suc k) q (later k q there);
+        apart = λ k q there. f.apart (suc k) q (later k q there);
+        differ = λ k l q t a b same. let y = f.differ (suc k) (suc l) q t (later k q a) (later l t b) same in omega arith;
+      }))
+      (λ i d other there on'. let g = r.seats i d there on' in moves key r.core r.log r.at to r.draws i i d
+      (put_else r.at p.core.who n d.part.core.who (λ z. other (sym g.part.place ∙ ap r.at z ∙ i0.0.place)) ∙ g.part.place)
+      (λ k q there'. let h = (g.idle k q there').0.place in put_else r.at p.core.who n q.core.who (λ z. other (sym h ∙ ap r.at z ∙ i0.0.place)) ∙ h) g)
+      j u was on)
+      (λ now. subst (λ (x : ℕ × Sight). Sits key r.core r.log to r.draws x.0 x.1) (λ i. (sym (now.0 ∙ length-set s.views id left) i, now.1 i))
+      (alone r.core r.log to r.draws n (length v.held) p f.room (moved key r.core r.log r.at to r.draws id n p (put_here r.at p.core.who n) i0.0) i0.1))
+      (at_end (set s.views id left) (seat_of (length v.held) p) u j e))
+      (λ t small. dite (ℕ_discrete t p.core.who)
+      (λ mine. let to_n : to t ≡ n = ap to mine ∙ put_here r.at p.core.who n in record {
+        view = seat_of (length v.held) p;
+        stands = at_last (set s.views id left) (seat_of (length v.held) p) (to t) (length-set s.views id left ∙ sym to_n);
+        seated = refl;
+        speaks = inl (sym mine);
+      })
+      (λ isnt. there_longer (set s.views id left) (seat_of (length v.held) p ∷ []) (to t) t
+      (subst (λ (k : ℕ). IsThere (set s.views id left) k t) (sym (put_else r.at p.core.who n t isnt)) (there_set s.views id v left (r.at t) t at refl (speaks_later v p ps t is isnt) (r.there t small)))))
 
   -- the first of the idle numbers gets a seat of its own
   pub splits_on : (id : ℕ) (v : Sight) (p : Part) (ps : List Part) → v.seated ≡ true → v.idle ≡ p ∷ ps → (s : St) (r : Ruled key s) → get_elem? s.views id ≡ some v → Stays key s r (cut s id (without_first v) (first_seat (length v.held) v.idle))
@@ -194,55 +177,38 @@ module _ (key : Start) where
       let stay : (t : ℕ) → r.at t ≡ id → to t ≡ id = λ t e. aimed_else other id r.at t (λ z. apart (sym z ∙ e)) ∙ e in
       let come : (t : ℕ) → r.at t ≡ other → to t ≡ id = λ t e. aimed_here other id r.at t e in
       let far : (t u : ℕ) → r.at t ≡ id → r.at u ≡ other → t ≢ u = λ t u a b e. apart (sym b ∙ ap r.at (sym e) ∙ a) in
-      let more = each_part r.core r.log r.at r.draws other w g bare in let spread = apart_parts r.core r.log r.at r.draws other w g in record {
-        is = refl;
-        commits = refl;
-        ruled = record {
-          core = r.core;
-          log = r.log;
-          at = to;
-          draws = r.draws;
-          reached = r.reached;
-          kind = r.kind;
-          locks = r.locks;
-          places = r.places;
-          seats_there = r.seats_there;
-          strangers = r.strangers;
-          words = r.words;
-          homes = r.homes;
-          counted = r.counted;
-          seats = seats_stay (Sits key r.core r.log to r.draws) (set s.views id both) other nobody (λ e. absurd (cc))
-              (λ j d ne e on'. seats_stay (λ j d. j ≢ other → Sits key r.core r.log to r.draws j d) s.views id both
-              (λ _ _. record {
-                part = moved key r.core r.log r.at to r.draws id id v.part (stay v.part.core.who f.part.place) f.part;
-                room = f.room;
-                held = f.held;
-                idle = λ k p e'. ⊎_elim
-                    (λ z. let i = f.idle k p z in (moved key r.core r.log r.at to r.draws id id p (stay p.core.who i.0.place) i.0, i.1))
-                    (λ z. let i = more z.0 p z.2 in (moved key r.core r.log r.at to r.draws other id p (come p.core.who i.0.place) i.0, i.1))
-                    (at_both v.idle (w.part ∷ w.idle) p k e');
-                apart = λ k p e'. ⊎_elim (λ z. f.apart k p z) (λ z. λ same. far v.part.core.who p.core.who f.part.place (more z.0 p z.2).0.place (sym same)) (at_both v.idle (w.part ∷ w.idle) p k e');
-                differ = λ k l p q a b same. ⊎_elim
-                    (λ y. ⊎_elim (λ z. f.differ k l p q y z same) (λ z. absurd (far p.core.who q.core.who (f.idle k p y).0.place (more z.0 q z.2).0.place same)) (at_both v.idle (w.part ∷ w.idle) q l b))
-                    (λ y. ⊎_elim (λ z. absurd (far q.core.who p.core.who (f.idle l q z).0.place (more y.0 p y.2).0.place (sym same))) (λ z. y.1 ∙ ap (λ (x : ℕ). n + x) (spread y.0 z.0 p q y.2 z.2 same) ∙ sym z.1) (at_both v.idle (w.part ∷ w.idle) q l b))
-                    (at_both v.idle (w.part ∷ w.idle) p k a);
-              })
-              (λ i d' ne' e' on'' far_off. let h = r.seats i d' e' on'' in moves key r.core r.log r.at to r.draws i i d'
-              (aimed_else other id r.at d'.part.core.who (λ z. far_off (sym h.part.place ∙ z)) ∙ h.part.place)
-              (λ k q e''. let y = (h.idle k q e'').0.place in aimed_else other id r.at q.core.who (λ z. far_off (sym y ∙ z)) ∙ y) h)
-              j d e on' ne);
-          there = λ t small. let x = r.there t small in dite (ℕ_discrete (r.at t) other)
-              (λ come_here. let same : w ≡ x.view = some-injective w x.view (sym theirs ∙ ap (get_elem? s.views) (sym come_here) ∙ x.stands) in
-              subst (λ (k : ℕ). IsThere (set (set s.views id both) other nobody) k t) (sym (come t come_here)) (there_else (set s.views id both) other nobody id t (λ z. apart (sym z)) (record {
-                view = both;
-                stands = set_here s.views id both (place_low s.views id v at);
-                seated = seated;
-                speaks = speaks_other v w t (subst (λ (y : Sight). Speaks y t) (sym same) x.speaks);
-              })))
-              (λ isnt. subst (λ (k : ℕ). IsThere (set (set s.views id both) other nobody) k t) (sym (aimed_else other id r.at t isnt))
-              (there_else (set s.views id both) other nobody (r.at t) t isnt (there_set s.views id v both (r.at t) t at refl (speaks_both v w t) x)));
-        };
-      }
+      let more = each_part r.core r.log r.at r.draws other w g bare in let spread = apart_parts r.core r.log r.at r.draws other w g in
+      stays_as key s (record { words = s.words; homes = s.homes; views = set (set s.views id both) other nobody }) r to r.words r.homes
+      (seats_stay (Sits key r.core r.log to r.draws) (set s.views id both) other nobody (λ e. absurd (cc))
+      (λ j d ne e on'. seats_stay (λ j d. j ≢ other → Sits key r.core r.log to r.draws j d) s.views id both
+      (λ _ _. record {
+        part = moved key r.core r.log r.at to r.draws id id v.part (stay v.part.core.who f.part.place) f.part;
+        room = f.room;
+        held = f.held;
+        idle = λ k p e'. ⊎_elim
+            (λ z. let i = f.idle k p z in (moved key r.core r.log r.at to r.draws id id p (stay p.core.who i.0.place) i.0, i.1))
+            (λ z. let i = more z.0 p z.2 in (moved key r.core r.log r.at to r.draws other id p (come p.core.who i.0.place) i.0, i.1))
+            (at_both v.idle (w.part ∷ w.idle) p k e');
+        apart = λ k p e'. ⊎_elim (λ z. f.apart k p z) (λ z. λ same. far v.part.core.who p.core.who f.part.place (more z.0 p z.2).0.place (sym same)) (at_both v.idle (w.part ∷ w.idle) p k e');
+        differ = λ k l p q a b same. ⊎_elim
+            (λ y. ⊎_elim (λ z. f.differ k l p q y z same) (λ z. absurd (far p.core.who q.core.who (f.idle k p y).0.place (more z.0 q z.2).0.place same)) (at_both v.idle (w.part ∷ w.idle) q l b))
+            (λ y. ⊎_elim (λ z. absurd (far q.core.who p.core.who (f.idle l q z).0.place (more y.0 p y.2).0.place (sym same))) (λ z. y.1 ∙ ap (λ (x : ℕ). n + x) (spread y.0 z.0 p q y.2 z.2 same) ∙ sym z.1) (at_both v.idle (w.part ∷ w.idle) q l b))
+            (at_both v.idle (w.part ∷ w.idle) p k a);
+      })
+      (λ i d' ne' e' on'' far_off. let h = r.seats i d' e' on'' in moves key r.core r.log r.at to r.draws i i d'
+      (aimed_else other id r.at d'.part.core.who (λ z. far_off (sym h.part.place ∙ z)) ∙ h.part.place)
+      (λ k q e''. let y = (h.idle k q e'').0.place in aimed_else other id r.at q.core.who (λ z. far_off (sym y ∙ z)) ∙ y) h)
+      j d e on' ne))
+      (λ t small. let x = r.there t small in dite (ℕ_discrete (r.at t) other)
+      (λ come_here. let same : w ≡ x.view = some-injective w x.view (sym theirs ∙ ap (get_elem? s.views) (sym come_here) ∙ x.stands) in
+      subst (λ (k : ℕ). IsThere (set (set s.views id both) other nobody) k t) (sym (come t come_here)) (there_else (set s.views id both) other nobody id t (λ z. apart (sym z)) (record {
+        view = both;
+        stands = set_here s.views id both (place_low s.views id v at);
+        seated = seated;
+        speaks = speaks_other v w t (subst (λ (y : Sight). Speaks y t) (sym same) x.speaks);
+      })))
+      (λ isnt. subst (λ (k : ℕ). IsThere (set (set s.views id both) other nobody) k t) (sym (aimed_else other id r.at t isnt))
+      (there_else (set s.views id both) other nobody (r.at t) t isnt (there_set s.views id v both (r.at t) t at refl (speaks_both v w t) x))))
 
   pub joins : (id : ℕ) (v : Sight) (other : ℕ) (w : Sight) → v.seated ≡ true → w.seated ≡ true → IsBare w.part.core → Joins (Ruled key) id v other w (with_seat v w) nobody
   joins id v other w seated on bare s r at apart there = (joins_on id v other w seated on bare s r at apart there).ruled

@@ -12,6 +12,7 @@ use Rattle.ww_plain.specs.declared.history.Record.{Record}
 use Rattle.ww_table.specs.declared.cells.Cell.TheVariants.{Content}
 use Rattle.ww_table.specs.declared.cells.Sight.{Sight}
 use Rattle.ww_table.specs.declared.seat.Seat16.{Seat16}
+use Rattle.ww_table.specs.Rule.{Sat}
 use Rattle.ww_table.specs.Seat.{IsSeated, numbers_of, slot_of, AreOthers, AreTurned}
 
 abbrev first_of : List ℕ → ℕ
@@ -126,6 +127,10 @@ seated_as table s new w was home view seated who stamp own idle same_who same_st
   alone = ap (λ (v : Sight). v.idle) view ∙ idle ∙ was.alone;
   places = subst (AllByRecursion (λ (p : ℕ × Record). p.0 < 2 ^ 37)) (sym records) was.places;
 }
+
+-- ... where these stay too
+pub seated_still : (table : TableId) (s new : Seat16) → IsSeated table s → new.seat.table_id ≡ s.seat.table_id → new.seat.me ≡ s.seat.me → new.who ≡ s.who → new.stamp ≡ s.stamp → new.records.items ≡ s.records.items → new.order.items ≡ s.order.items → IsSeated table new
+seated_still table s new was home same who stamp records order = seated_as table s new s.seat.me.0 was home (ap (λ (m : Sat). m.0) same) refl refl refl refl refl who stamp records (order ∙ was.order ∙ ap (λ (m : Sat). numbers_of m.1) (sym same))
 
 -- the content of a slot that was brought to the front
 pub brought : (slots : List (ℕ × Cell)) (n : ℕ) (x : Node) (y : Cell) → slot_of slots n ≡ Some y → slot_of slots n ≡ Some (Content x) → y ≡ Content x

@@ -1,4 +1,5 @@
 ghost use Rattle.std.specs.Prelude.{ℕ, ◌≡◌, ◌≢◌, ◌<◌, ◌+◌, [], ◌∷◌, length, true, false, Some, List};
+ghost use Rattle.atomic_table.specs.Seated.{TableId};
 ghost use Rattle.ww_word.specs.Owner.{IsValid, is_handed};
 ghost use Rattle.ww_queue.specs.declared.entry.Entry.{Entry};
 ghost use Rattle.ww_view.specs.View.{owns};
@@ -7,8 +8,9 @@ ghost use Rattle.ww_table.specs.declared.cells.Cell.{Cell};
 ghost use Rattle.ww_table.specs.declared.cells.Cell.TheVariants.{Line};
 ghost use Rattle.ww_table.specs.Layout.{guard_at, list_at};
 ghost use Rattle.ww_table.specs.Rule.{first_graph};
-ghost use Rattle.ww_table.specs.Seat.{IsSeated, AreOthers, slot_of};
+ghost use Rattle.ww_table.specs.Seat.{IsSeated, AreOthers, numbers_of, slot_of};
 ghost use Rattle.ww_table.specs.Guards.{AreSeats, StandsAs, lost, entering, exiting, looking};
+ghost use Rattle.ww_table.specs.Waiting.{HasListOnTop};
 
 use crate::board::Board;
 use crate::layout::owner_word;
@@ -33,6 +35,21 @@ pub(crate) fn list_slot(lock: u8) -> u8
 }
 
 impl Seat16 {
+    /// Turns the slots that are out until the wait list of the lock is that taken last, and gives the slot's number.
+    pub(crate) fn bring_list(&mut self, lock: u8) -> u8
+        requires lock { lock < 64 }
+        requires order { self.old.order.items ≡ numbers_of self.old.seat.me.1 }
+        requires list { slot_of self.old.seat.me.1 (list_at lock) ≡ Some (Line self.old.seat.me.0.part.core.list) }
+        ensures slot { result ≡ list_at lock }
+        ensures same { self.new ≡ record self.old { seat = self.new.seat; order = self.new.order } }
+        ensures seat { (t : TableId) → IsSeated t self.old → IsSeated t self.new }
+        ensures read { HasListOnTop self.old.seat.me lock self.new.seat.me }
+    {
+        let slot = list_slot(lock);
+        bring(&mut self.seat, &mut self.order, slot);
+        slot
+    }
+
     /// One try to go inside the guard of a lock. The wait list comes with it.
     pub fn enter(&mut self, board: &Board, lock: u8) -> bool
         requires seat { IsSeated board.now.table.shared.table_id self.old }

@@ -12,8 +12,7 @@ ghost use Rattle.ww_table.specs.Waiting.{HasListOnTop};
 
 use crate::board::Board;
 use crate::cells::{Cell, TableSeat};
-use crate::guards::list_slot;
-use crate::seat::{Seat16, bring};
+use crate::seat::Seat16;
 use arrayvec::ArrayVec;
 use ww_queue::{Entry, Kind, MAX_WAITERS, must_die, owed_signs};
 use ww_word::Owner;
@@ -36,8 +35,7 @@ impl Seat16 {
         ensures death { result ≡ must_die kind seen self.old.seat.me.0.part.core.list self.old.who sign }
         ensures records { self.new.records ≡ self.old.records }
     {
-        let slot = list_slot(lock);
-        bring(&mut self.seat, &mut self.order, slot);
+        let slot = self.bring_list(lock);
         death_there(&mut self.seat, board, slot, kind, seen, self.who, sign)
     }
 
@@ -57,8 +55,7 @@ impl Seat16 {
         ensures owed { result.items ≡ owed_signs kind seen self.old.seat.me.0.part.core.list self.old.who }
         ensures records { self.new.records ≡ self.old.records }
     {
-        let slot = list_slot(lock);
-        bring(&mut self.seat, &mut self.order, slot);
+        let slot = self.bring_list(lock);
         owed_there(&mut self.seat, board, slot, kind, seen, self.who)
     }
 
@@ -72,8 +69,7 @@ impl Seat16 {
         ensures first { result ≡ slice_get self.old.seat.me.0.part.core.list 0 }
         ensures records { self.new.records ≡ self.old.records }
     {
-        let slot = list_slot(lock);
-        bring(&mut self.seat, &mut self.order, slot);
+        let slot = self.bring_list(lock);
         first_there(&mut self.seat, board, slot)
     }
 }
