@@ -1,5 +1,5 @@
 -- What the steps of a seat keep of what it has out.
-use Rattle.std.proofs.Common.{◌≡◌, ◌≢◌, ℕ, suc, ◌+◌, ◌-◌, ◌<◌, ◌≤◌, Bool, false, true≢false, List, ◌∷◌, length, get_or, set, slice_set, sym, ap, ◌∙◌, subst, arith, Some, None, length-set, get_or-set_same, get_or-set_other}
+use Rattle.std.proofs.Common.{◌≡◌, ◌≢◌, ℕ, suc, ◌+◌, ◌-◌, ◌<◌, ◌≤◌, false, true≢false, List, ◌∷◌, length, get_or, slice_set, sym, ap, ◌∙◌, subst, arith, Some, None, length-set}
 use mathlib.Core.Logic.{dite}
 use native.Mathlib.Decide.{ℕ_discrete}
 use lib.ListN.{get_elem?}

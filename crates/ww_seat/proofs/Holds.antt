@@ -1,5 +1,5 @@
 -- What the calls say of a seat, one after another.
-use Rattle.std.proofs.Common.{◌≡◌, ℕ, ◌<◌, true, false, length, get_or, slice_set, refl, sym, ap, ◌∙◌, subst, Some}
+use Rattle.std.proofs.Common.{ℕ, ◌<◌, true, false, length, get_or, slice_set, refl, sym, ap, ◌∙◌, subst, Some}
 use Rattle.ww_plain.specs.declared.node.Node.{Node}
 use Rattle.ww_plain.specs.Graph.{IsNodeOf}
 use Rattle.ww_table.specs.Rule.{Sat}

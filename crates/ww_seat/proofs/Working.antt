@@ -1,10 +1,8 @@
 -- What the steps of a seat inside a guard keep of its work there.
-use Rattle.std.proofs.Common.{◌≡◌, ◌⊎◌, inl, inr, ⊎_elim, ℕ, zero, suc, ◌+◌, ◌<◌, Bool, true, false, true≢false, not, eqb, ne_eqb, List, ◌∷◌, length, set, get_or, refl, sym, ap, ◌∙◌, subst, arith, Option, Some}
+use Rattle.std.proofs.Common.{◌≡◌, ◌⊎◌, inl, inr, ⊎_elim, ℕ, zero, suc, ◌+◌, ◌<◌, Bool, true, false, true≢false, not, eqb, ne_eqb, List, ◌∷◌, refl, sym, ap, ◌∙◌, subst, arith, Option, Some}
 use Rattle.ww_word.specs.declared.owner.Owner.{Owner}
 use Rattle.ww_queue.specs.declared.kind.Kind.{Kind}
 use Rattle.ww_queue.specs.declared.kind.Kind.TheVariants.{WoundWait, WaitDie}
-use Rattle.ww_plain.specs.declared.node.Node.{Node}
-use Rattle.ww_plain.specs.Graph.{IsNodeOf}
 use Rattle.ww_view.specs.declared.view.View.{View}
 use Rattle.ww_view.specs.May.{WantsSigns, HasPaid, MayLeave, MayClear, LivesBySeen}
 use Rattle.ww_view.specs.Made.{once_outside, exited, has_looked}
@@ -18,11 +16,9 @@ use Rattle.ww_table.specs.Guards.{exiting, looking, lost}
 use Rattle.ww_table.specs.Signs.{reading, clearing}
 use Rattle.ww_table.specs.Waiting.{HasListOnTop}
 use Rattle.ww_seat.specs.Orderly.{IsOrderly}
-use Rattle.ww_seat.specs.Calls.{HoldsAsBefore, HasTaken, HasToDie}
-use Rattle.ww_seat.specs.Looks.{IsInside, IsLook}
+use Rattle.ww_seat.specs.Calls.{HoldsAsBefore}
+use Rattle.ww_seat.specs.Looks.{IsInside}
 use Rattle.ww_seat.specs.Work.{touched, told, IsTouched, IsTold, IsPlaced, IsWorking, IsAtWork, IsCleared, MayGo, HasNoted}
-use Rattle.ww_seat.specs.declared.look.Look.{Look}
-use Rattle.ww_seat.specs.declared.look.Look.TheVariants.{Locked, Deadlk, Waits}
 use Rattle.ww_seat.proofs.Holds.{holds_same, holds_then}
 use Rattle.ww_seat.proofs.Outside.{orderly_knowing, orderly_brought}
 use Rattle.ww_seat.proofs.Guards.{listed_orderly, exiting_orderly}
