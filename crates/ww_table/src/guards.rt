@@ -82,7 +82,7 @@ impl Seat16 {
         ensures view { self.new.seat.me.0 ≡ exiting self.old.seat.me.0 }
         ensures home { AreOthers self.old.seat.me.1 (list_at lock) (Line self.old.seat.me.0.part.core.list) self.new.seat.me.1 }
     {
-        bring(&mut self.seat, &mut self.order, list_slot(lock));
+        self.bring_list(lock);
         let shared = &board.table.shared;
         shared.store::<Exit>(&mut self.seat, guard_word(lock), 0);
         self.order.pop();

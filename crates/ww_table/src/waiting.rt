@@ -99,8 +99,7 @@ impl Seat16 {
         ensures took { result ≡ true → (x : Node) × (others : List (ℕ × Cell)) × IsNodeOf (length self.old.seat.me.0.held) x × AreOthers self.old.seat.me.1 (list_at lock) (Line self.old.seat.me.0.part.core.list) others × (self.new.seat.me ≡ (taking_inside self.old.seat.me.0 lock x, (list_at lock, Line (taken self.old.seat.me.0.part.core lock).list) ∷ (lock, Content x) ∷ others)) }
         ensures lost { result ≡ false → (others : List (ℕ × Cell)) × AreOthers self.old.seat.me.1 (list_at lock) (Line self.old.seat.me.0.part.core.list) others × (self.new.seat.me ≡ (lost self.old.seat.me.0, (list_at lock, Line self.old.seat.me.0.part.core.list) ∷ others)) }
     {
-        let slot = list_slot(lock);
-        bring(&mut self.seat, &mut self.order, slot);
+        let slot = self.bring_list(lock);
         let flags = flag_left(&mut self.seat, board, slot, self.who);
         let old = pack(seen);
         let new = pack(Owner {
@@ -133,8 +132,7 @@ impl Seat16 {
         ensures died { result ≡ true → (others : List (ℕ × Cell)) × AreOthers self.old.seat.me.1 (list_at lock) (Line self.old.seat.me.0.part.core.list) others × (self.new.seat.me ≡ (dying self.old.seat.me.0 seen, (list_at lock, Line (died self.old.seat.me.0.part.core seen).list) ∷ others)) }
         ensures lost { result ≡ false → (others : List (ℕ × Cell)) × AreOthers self.old.seat.me.1 (list_at lock) (Line self.old.seat.me.0.part.core.list) others × (self.new.seat.me ≡ (lost self.old.seat.me.0, (list_at lock, Line self.old.seat.me.0.part.core.list) ∷ others)) }
     {
-        let slot = list_slot(lock);
-        bring(&mut self.seat, &mut self.order, slot);
+        let slot = self.bring_list(lock);
         let is_last = flag_left(&mut self.seat, board, slot, self.who) == 0;
         let old = pack(seen);
         let new = pack(if is_last {
@@ -166,8 +164,7 @@ impl Seat16 {
         ensures gave { result ≡ true → (x : Node) × (others : List (ℕ × Cell)) × (self.new.seat.me.0 ≡ giving_inside self.old.seat.me.0 lock (seen.flags == 3)) × AreOthers self.old.seat.me.1 (list_at lock) (Line self.old.seat.me.0.part.core.list) others × AreOthers ((list_at lock, Line self.old.seat.me.0.part.core.list) ∷ others) lock (Content x) self.new.seat.me.1 }
         ensures lost { result ≡ false → (x : Node) × (others : List (ℕ × Cell)) × (rest : List (ℕ × Cell)) × AreOthers self.old.seat.me.1 (list_at lock) (Line self.old.seat.me.0.part.core.list) others × AreOthers ((list_at lock, Line self.old.seat.me.0.part.core.list) ∷ others) lock (Content x) rest × (self.new.seat.me ≡ (lost self.old.seat.me.0, (lock, Content x) ∷ rest)) }
     {
-        let slot = list_slot(lock);
-        bring(&mut self.seat, &mut self.order, slot);
+        let slot = self.bring_list(lock);
         let owner = next_owner(&mut self.seat, board, slot, seen.flags == WAITERS | HANDOFF);
         bring(&mut self.seat, &mut self.order, lock);
         let old = pack(seen);
