@@ -173,6 +173,20 @@ impl Seat16 {
         }
     }
 
+    /// The node of the slot that the seat took last. It is no step.
+    pub fn top_node(&mut self, board: &Board, lock: u8) -> Node
+        requires seat { IsSeated board.now.table.shared.table_id self.old }
+        requires top { (x : Node) × (others : List (ℕ × Cell)) × (self.old.seat.me.1 ≡ (lock, Content x) ∷ others) }
+        ensures seat { IsSeated board.now.table.shared.table_id self.new }
+        ensures records { self.new.records ≡ self.old.records }
+        ensures read { (others : List (ℕ × Cell)) × (self.old.seat.me.1 ≡ (lock, Content result) ∷ others) × (self.new.seat.me ≡ (self.old.seat.me.0, (lock, Content result) ∷ others)) }
+    {
+        match self.seat.slot_mut(&board.table.shared, usize::from(lock)) {
+            Cell::Content(node) => *node,
+            Cell::Line(_) => unreachable!(),
+        }
+    }
+
     /// Writes a node that the seat has out, and gives what was there. It is no step: nobody else sees it.
     pub fn swap_node(&mut self, board: &Board, node: u8, new: Node) -> Node
         requires seat { IsSeated board.now.table.shared.table_id self.old }
@@ -189,9 +203,24 @@ impl Seat16 {
     }
 }
 
-/// Turns the slots that are out until this one is that taken last. It is no step, and costs nothing for a slot that was
-/// taken last.
+/// Sees to it that this slot, which is out, is the one taken last. It is no step, and costs nothing where it is that already.
+#[inline(always)]
 pub(crate) fn bring(seat: &mut TableSeat, order: &mut ArrayVec<u8, MAX_OUT>, slot: u8)
+    requires order { order.old.items ≡ numbers_of seat.old.me.1 }
+    requires out { (y : Cell) × (slot_of seat.old.me.1 slot ≡ Some y) }
+    ensures home { (seat.new.table_id ≡ seat.old.table_id) × (seat.new.id ≡ seat.old.id) }
+    ensures view { seat.new.me.0 ≡ seat.old.me.0 }
+    ensures slots { (y : Cell) × (others : List (ℕ × Cell)) × (slot_of seat.old.me.1 slot ≡ Some y) × AreOthers seat.old.me.1 slot y others × (seat.new.me.1 ≡ (slot, y) ∷ others) }
+    ensures order { order.new.items ≡ numbers_of seat.new.me.1 }
+{
+    if order[order.len() - 1] != slot {
+        turn_to(seat, order, slot);
+    }
+}
+
+/// Turns the slots that are out until this one is the one taken last.
+#[cold]
+fn turn_to(seat: &mut TableSeat, order: &mut ArrayVec<u8, MAX_OUT>, slot: u8)
     requires order { order.old.items ≡ numbers_of seat.old.me.1 }
     requires out { (y : Cell) × (slot_of seat.old.me.1 slot ≡ Some y) }
     ensures home { (seat.new.table_id ≡ seat.old.table_id) × (seat.new.id ≡ seat.old.id) }
