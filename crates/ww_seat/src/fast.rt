@@ -65,8 +65,9 @@ fn unsign(seat: &mut Seat16, board: &Board, kind: Kind)
     }
 }
 
-/// The first try of every call that takes a lock. Where it fails the seat may go on to want the lock.
-pub(crate) fn first_try(seat: &mut Seat16, board: &Board, kind: Kind, lock: u8) -> Option<Node>
+/// Takes a lock if it is free and nobody waits for it, and gives its node. It is the first try of every call that takes a lock:
+/// where it fails the seat may go on to want the lock.
+pub fn try_take(seat: &mut Seat16, board: &Board, kind: Kind, lock: u8) -> Option<Node>
     requires seat { IsSettled board.now.table.shared.table_id (length (first_graph board.now.table.shared.key)) seat.old }
     requires kind { kind ≡ seat.old.seat.me.0.part.core.kind }
     requires lock { lock < length (first_graph board.now.table.shared.key) }
@@ -84,22 +85,5 @@ pub(crate) fn first_try(seat: &mut Seat16, board: &Board, kind: Kind, lock: u8) 
     if !seat.take_free(board, lock) {
         return None;
     }
-    Some(seat.node(board, lock))
-}
-
-/// Takes a lock if it is free and nobody waits for it, and gives its node.
-pub fn try_take(seat: &mut Seat16, board: &Board, kind: Kind, lock: u8) -> Option<Node>
-    requires seat { IsSettled board.now.table.shared.table_id (length (first_graph board.now.table.shared.key)) seat.old }
-    requires kind { kind ≡ seat.old.seat.me.0.part.core.kind }
-    requires lock { lock < length (first_graph board.now.table.shared.key) }
-    requires lacks { owns seat.old.seat.me.0.part.core lock ≡ false }
-    requires base { WantsBase seat.old.seat.me.0.part.core }
-    ensures seat { IsSettled board.now.table.shared.table_id (length (first_graph board.now.table.shared.key)) seat.new }
-    ensures some { IfSome result (λ x. HasTaken seat.old.seat.me lock x seat.new.seat.me) }
-    ensures none { IfNone result (HoldsAsBefore seat.old.seat.me seat.new.seat.me) }
-    ensures met { IfNone result (seat.new.seat.me.0.part.core.met ≡ seat.old.seat.me.0.part.core.met) }
-    ensures once { TriedOnce seat.old.seat.me seat.new.seat.me }
-    ensures records { seat.new.records ≡ seat.old.records }
-{
-    first_try(seat, board, kind, lock)
+    Some(seat.top_node(board, lock))
 }

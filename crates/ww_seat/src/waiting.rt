@@ -7,7 +7,7 @@ ghost use Rattle.ww_seat.specs.Orderly.{IsSettled};
 ghost use Rattle.ww_seat.specs.Calls.{HasTaken, HasToDie, TriedOnce};
 ghost use Rattle.ww_seat.specs.Looks.{IsOutside, IsLook};
 
-use crate::fast::first_try;
+use crate::fast::try_take;
 use crate::guard::enter;
 use crate::look::{Look, is_ours, look_at};
 use crate::wake::Wake;
@@ -40,7 +40,7 @@ pub fn take<R: Wait>(
     ensures once { TriedOnce seat.old.seat.me seat.new.seat.me }
     ensures records { seat.new.records ≡ seat.old.records }
 {
-    match first_try(seat, board, kind, lock) {
+    match try_take(seat, board, kind, lock) {
         Some(node) => Ok(node),
         None => wait(rt, seat, board, kind, lock, parker, wakers),
     }
