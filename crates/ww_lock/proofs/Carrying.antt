@@ -3,6 +3,7 @@ use Rattle.std.proofs.Common.{◌≡◌, ◌≢◌, ℕ, suc, zero, ◌+◌, ◌
 use mathlib.Core.Option.{some}
 use lib.ListN.{get_elem?}
 use Rattle.atomic_table.specs.Seated.{TableId}
+use Rattle.std.proofs.lemmas.List.{get_or_past}
 use Rattle.ww_plain.specs.declared.node.Node.{Node}
 use Rattle.ww_plain.specs.Numbers.{is_among}
 use Rattle.ww_plain.specs.Graph.{no_node, node_at}
@@ -54,13 +55,14 @@ holding_is h g w p q is home c m seat left =
 
 -- what is known of it, where its parts are these
 pub carries_as : (h g : Hand) (w p : Place) (q : Seat16) → p ≡ w → IsAtHome (holding_of h) w → Carries h → HasMoved h p q → g.seat ≡ q → g.kind ≡ h.kind → length g.seen ≡ length h.seen
-    → AreHeld g.held.items g.seen → ((n : ℕ) → owns q.seat.me.0.part.core n ≡ is_among n g.held.items) → q.seat.me.0.part.draws + g.left < 2 ^ 32 → length q.records.items + g.left < 2 ^ 32 → Carries g
-carries_as h g w p q is home c m seat kind size held owned draws commits =
+    → AreHeld g.held.items g.seen → ((n : ℕ) → owns q.seat.me.0.part.core n ≡ is_among n g.held.items) → g.marks ≡ q.seat.me.0.part.core.owned → q.seat.me.0.part.draws + g.left < 2 ^ 32 → length q.records.items + g.left < 2 ^ 32 → Carries g
+carries_as h g w p q is home c m seat kind size held owned marks draws commits =
     let t = at_table (holding_of h) w p is home in record {
       settled = subst (λ (s : Seat16). IsSettled s.seat.table_id (length g.seen) s) (sym seat)
           (settled_as p.home q.seat.table_id (length p.first) (length g.seen) q (sym m.settled.seated.home) (sym t.1 ∙ sym size) m.settled);
       kind = kind ∙ c.kind ∙ sym m.kind ∙ ap (λ (s : Seat16). s.seat.me.0.part.core.kind) (sym seat);
       owned = λ n. ap (λ (s : Seat16). owns s.seat.me.0.part.core n) seat ∙ owned n;
+      marks = marks ∙ ap (λ (s : Seat16). s.seat.me.0.part.core.owned) (sym seat);
       held = held;
       draws = subst (λ (s : Seat16). s.seat.me.0.part.draws + g.left < 2 ^ 32) (sym seat) draws;
       commits = subst (λ (s : Seat16). length s.records.items + g.left < 2 ^ 32) (sym seat) commits;
@@ -81,7 +83,7 @@ begins h w p q k is home f few settled records b pos =
     let m : HasMoved h p q = record { settled = settled; records = records; who = b.who; kind = b.kind } in
     let many : length q.records.items ≡ length h.seat.records.items = ap (λ r. length r.items) records in record {
       fresh = record {
-        carries = carries_as h g w p q is home c m refl refl refl c.held (λ n. ap (λ (os : List Bool). get_or os n false) b.owned ∙ c.owned n) (omega (arith, few, b.draws)) (omega (arith, many, c.commits));
+        carries = carries_as h g w p q is home c m refl refl refl c.held (λ n. ap (λ (os : List Bool). get_or os n false) b.owned ∙ c.owned n) (c.marks ∙ sym b.owned) (omega (arith, few, b.draws)) (omega (arith, many, c.commits));
         seen = λ n among. ap (λ hs. get_elem? hs n) b.held ∙ f.seen n among;
         commits = omega (arith, many, f.commits);
       };
@@ -99,7 +101,7 @@ ends h w p q is home c settled records e =
     let g : Hand = record h { seat = q } in
     let m : HasMoved h p q = record { settled = settled; records = records; who = e.who; kind = e.kind } in
     let many : length q.records.items ≡ length h.seat.records.items = ap (λ r. length r.items) records in record {
-      carries = carries_as h g w p q is home c m refl refl refl c.held (λ n. ap (λ (os : List Bool). get_or os n false) e.owned ∙ c.owned n) (omega (arith, c.draws, e.draws)) (omega (arith, many, c.commits));
+      carries = carries_as h g w p q is home c m refl refl refl c.held (λ n. ap (λ (os : List Bool). get_or os n false) e.owned ∙ c.owned n) (c.marks ∙ sym e.owned) (omega (arith, c.draws, e.draws)) (omega (arith, many, c.commits));
       is = holding_is h g w p q is home c m refl refl ∙ rw (sym settled.seated.stamp ∙ e.stamp, e.tries) refl;
     }
 
@@ -148,8 +150,8 @@ pub record Takes (h g : Hand) (n : ℕ) : Type 0 where
 
 pub takes : (h g : Hand) (w p : Place) (q : Seat16) (n : ℕ) (x : Node) → p ≡ w → IsAtHome (holding_of h) w → CarriesFresh h → n < length h.seen → is_among n h.held.items ≡ false
     → IsSettled p.home (length p.first) q → q.records ≡ h.seat.records → HasTaken h.seat.seat.me n x q.seat.me → TriedOnce h.seat.seat.me q.seat.me
-    → g.seat ≡ q → g.kind ≡ h.kind → g.left ≡ h.left → g.held.items ≡ h.held.items ++ n ∷ [] → g.seen ≡ set h.seen n x → Takes h g n
-takes h g w p q n x is home f lt new settled records t once seat kind left grown read =
+    → g.seat ≡ q → g.kind ≡ h.kind → g.left ≡ h.left → g.held.items ≡ h.held.items ++ n ∷ [] → g.marks ≡ set h.marks n true → g.seen ≡ set h.seen n x → Takes h g n
+takes h g w p q n x is home f lt new settled records t once seat kind left grown marked read =
     let c = f.carries in
     let m : HasMoved h p q = record { settled = settled; records = records; who = t.same.who; kind = t.same.kind } in
     let many : length q.records.items ≡ length h.seat.records.items = ap (λ r. length r.items) records in
@@ -158,6 +160,7 @@ takes h g w p q n x is home f lt new settled records t once seat kind left grown
     let deep : n < length h.seat.seat.me.0.held = omega (arith, lt, c.settled.orderly.held) in
     let carried = carries_as h g w p q is home c m seat kind long (held_more h.held.items g.held.items h.seen g.seen n c.held lt new grown long)
     (λ k. owns_more h.seat.seat.me.0.part.core.owned q.seat.me.0.part.core.owned h.held.items n wide t.owned c.owned k ∙ ap (is_among k) (sym grown))
+    (marked ∙ ap (λ (os : List Bool). set os n true) c.marks ∙ sym t.owned)
     (omega (arith, c.draws, t.same.draws, left)) (omega (arith, many, c.commits, left)) in
     let here_now : get_elem? q.seat.me.0.held n ≡ some (Some (node_at g.seen n)) =
     ap (λ hs. get_elem? hs n) t.held ∙ elem_here h.seat.seat.me.0.held n (Some x) deep ∙ ap (λ (y : Node). some (Some y)) (sym (ap (λ (ns : List Node). node_at ns n) read ∙ get_or-set_same h.seen n x no_node lt)) in
@@ -199,7 +202,7 @@ keeps h w p q is home f settled records b once =
     let m : HasMoved h p q = record { settled = settled; records = records; who = b.same.who; kind = b.same.kind } in
     let many : length q.records.items ≡ length h.seat.records.items = ap (λ r. length r.items) records in record {
       fresh = record {
-        carries = carries_as h g w p q is home c m refl refl refl c.held (λ n. ap (λ (os : List Bool). get_or os n false) b.owned ∙ c.owned n) (omega (arith, c.draws, b.same.draws)) (omega (arith, many, c.commits));
+        carries = carries_as h g w p q is home c m refl refl refl c.held (λ n. ap (λ (os : List Bool). get_or os n false) b.owned ∙ c.owned n) (c.marks ∙ sym b.owned) (omega (arith, c.draws, b.same.draws)) (omega (arith, many, c.commits));
         seen = λ n among. ap (λ hs. get_elem? hs n) b.held ∙ f.seen n among;
         commits = omega (arith, many, f.commits);
       };
@@ -213,6 +216,14 @@ holds_one h c one = some_among h.held.items one.0 (sym (c.owned one.0) ∙ one.1
     some_among : (ns : List ℕ) (n : ℕ) → is_among n ns ≡ true → 1 ≤ length ns
     some_among [] n e = absurd (true≢false (sym e))
     some_among (m ∷ ms) n e = omega arith
+
+-- the mark of a node tells whether it is held
+pub marked : (h : Hand) (n : ℕ) → Carries h → get_or h.marks n false ≡ is_among n h.held.items
+marked h n c = ap (λ (os : List Bool). get_or os n false) c.marks ∙ c.owned n
+
+-- no number above the marks is held
+pub unmarked : (h : Hand) (n : ℕ) → Carries h → 64 ≤ n → is_among n h.held.items ≡ false
+unmarked h n c far = sym (c.owned n) ∙ get_or_past h.seat.seat.me.0.part.core.owned n false (omega (arith, far, c.settled.orderly.owned))
 
 -- ---- giving back
 
@@ -263,8 +274,8 @@ pub record Gives (h g : Hand) : Type 0 where
 
 pub gives : (h g : Hand) (w p : Place) (q : Seat16) (front : List ℕ) (n : ℕ) → p ≡ w → IsAtHome (holding_of h) w → Carries h → h.held.items ≡ front ++ n ∷ []
     → IsSettled p.home (length p.first) q → q.records ≡ h.seat.records → HasGiven h.seat.seat.me n q.seat.me
-    → g.seat ≡ q → g.kind ≡ h.kind → g.left ≡ h.left → g.held.items ≡ front → g.seen ≡ h.seen → Gives h g
-gives h g w p q front n is home c was settled records b seat kind left now seen =
+    → g.seat ≡ q → g.kind ≡ h.kind → g.left ≡ h.left → g.held.items ≡ front → g.marks ≡ set h.marks n false → g.seen ≡ h.seen → Gives h g
+gives h g w p q front n is home c was settled records b seat kind left now marked seen =
     let m : HasMoved h p q = record { settled = settled; records = records; who = b.same.who; kind = b.same.kind } in
     let many : length q.records.items ≡ length h.seat.records.items = ap (λ r. length r.items) records in
     let l = last_held h front n c was in
@@ -277,6 +288,7 @@ gives h g w p q front n is home c was settled records b seat kind left now seen 
     } in record {
       carries = carries_as h g w p q is home c m seat kind (ap length seen) (rw (now, seen) held)
           (λ k. owns_less h.seat.seat.me.0.part.core.owned q.seat.me.0.part.core.owned front n wide b.owned (λ j. c.owned j ∙ ap (is_among j) was) apart.1 k ∙ ap (is_among k) (sym now))
+          (marked ∙ ap (λ (os : List Bool). set os n false) c.marks ∙ sym b.owned)
           (omega (arith, c.draws, b.same.draws, left)) (omega (arith, many, c.commits, left));
       is = holding_is h g w p q is home c m seat left ∙ rw (seen, b.tries, sym settled.seated.stamp ∙ b.same.stamp ∙ c.settled.seated.stamp) refl;
     }

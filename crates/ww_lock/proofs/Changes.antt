@@ -171,6 +171,7 @@ commits h w pl q p r after ns told is home f settled b same seq reply =
         settled = settled_as pl.home q.seat.table_id (length pl.first) (length h.seen) q (sym settled.seated.home) (sym t.1) settled;
         kind = c.kind ∙ sym b.kind;
         owned = λ n. ap (λ (os : List Bool). get_or os n false) b.owned ∙ c.owned n;
+        marks = c.marks ∙ sym b.owned;
         held = c.held;
         draws = omega (arith, c.draws, b.draws);
         commits = omega (arith, many, f.commits);
@@ -195,6 +196,7 @@ reserved h q same list f = subst (λ (s : Seat16). CarriesFresh (record h { seat
     };
     kind = f.carries.kind;
     owned = f.carries.owned;
+    marks = f.carries.marks;
     held = f.carries.held;
     draws = f.carries.draws;
     commits = omega (arith, ap length list, f.carries.commits);

@@ -1,5 +1,5 @@
 -- Passes that have done nothing yet.
-use Rattle.std.proofs.Common.{◌≡◌, ℕ, suc, ◌+◌, ◌<◌, ◌≤◌, ◌^◌, List, [], ◌∷◌, ◌++◌, length, refl, sym, ap, subst, ◌∙◌, arith, length-append, get_or, below_more}
+use Rattle.std.proofs.Common.{◌≡◌, ℕ, suc, ◌+◌, ◌<◌, ◌≤◌, ◌^◌, false, replicate, List, [], ◌∷◌, ◌++◌, length, refl, sym, ap, subst, ◌∙◌, arith, length-append, get_or, below_more}
 use Rattle.std.specs.List.{AllByRecursion}
 use Rattle.std.proofs.lemmas.List.{get_or_append_left, get_or_push}
 use Rattle.atomic_table.specs.Seated.{TableId}
@@ -22,8 +22,8 @@ use Rattle.ww_lock.proofs.Carrying.{settled_as}
 use Rattle.ww_lock.proofs.Helds.{held_none}
 
 -- a seat that was made just now, in a state that has seen the graph
-pub new_carries : (t : TableId) (key : Start) (k : ℕ) (h : Hand) → IsNew t key k h.seat → key.kind ≡ h.kind → h.held.items ≡ [] → h.seen ≡ first_graph key → length (first_graph key) ≤ 64 → h.left < 2 ^ 32 → Carries h
-new_carries t key k h new kind none seen few left =
+pub new_carries : (t : TableId) (key : Start) (k : ℕ) (h : Hand) → IsNew t key k h.seat → key.kind ≡ h.kind → h.held.items ≡ [] → h.marks ≡ replicate 64 false → h.seen ≡ first_graph key → length (first_graph key) ≤ 64 → h.left < 2 ^ 32 → Carries h
+new_carries t key k h new kind none marks seen few left =
     let me = new.me in
     let size : length h.seen ≡ length (first_graph key) = ap length seen in
     let list : h.seat.records.items ≡ [] = new.seated.records ∙ ap (λ (m : Sat). m.0.part.own) me in
@@ -31,6 +31,7 @@ new_carries t key k h new kind none seen few left =
       settled = settled_as t h.seat.seat.table_id (length (first_graph key)) (length h.seen) h.seat (sym new.seated.home) (sym size) (new_settled t key k h.seat new few);
       kind = sym kind ∙ sym (ap (λ (m : Sat). m.0.part.core.kind) me);
       owned = λ n. ap (λ (m : Sat). owns m.0.part.core n) me ∙ none_owned n ∙ sym (ap (is_among n) none);
+      marks = marks ∙ sym (ap (λ (m : Sat). m.0.part.core.owned) me);
       held = rw (none, seen) (held_none (first_graph key) few);
       draws = omega (arith, left, ap (λ (m : Sat). m.0.part.draws) me);
       commits = omega (arith, left, ap length list);

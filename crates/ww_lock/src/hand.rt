@@ -17,6 +17,8 @@ pub(crate) struct Hand {
     pub(crate) left: u32,
     /// The nodes that are held, in the order in which they were taken.
     pub(crate) held: ArrayVec<u8, MAX_NODES>,
+    /// The same as a mark for each node, which is read without a search.
+    pub(crate) marks: [bool; MAX_NODES],
     /// The graph as it was seen: a node is put there when its lock is taken.
     pub(crate) seen: Graph,
     /// Only its own thread parks on it.
@@ -24,12 +26,12 @@ pub(crate) struct Hand {
 }
 
 impl Hand {
-    ghost use Rattle.std.specs.Prelude.{◌≡◌, ◌<◌, ◌↔◌, ◌∷◌, ◌++◌, [], false, length, slice_set, IsTrue, IfSome};
+    ghost use Rattle.std.specs.Prelude.{◌≡◌, ◌<◌, ◌↔◌, ◌∷◌, ◌++◌, [], true, false, length, slice_set, IsTrue, IfSome};
     ghost use Rattle.ww_plain.specs.Graph.{IsNodeOf};
     ghost use Rattle.ww_plain.specs.Numbers.{is_among};
     ghost use Rattle.ww_plain.specs.Transaction.{transaction_of, Fits};
     ghost use Rattle.ww_lock.specs.Holding.{AreHeld, reads};
-    ghost use Rattle.ww_lock.specs.Carried.{holding_of};
+    ghost use Rattle.ww_lock.specs.Carried.{holding_of, Carries};
     ghost use Rattle.ww_lock.specs.Making.{Covers};
 
     /// One node more is held, as it was found.
@@ -41,21 +43,25 @@ impl Hand {
         ensures seat { self.new.seat ≡ self.old.seat }
         ensures same { (self.new.kind ≡ self.old.kind) × (self.new.left ≡ self.old.left) }
         ensures held { self.new.held.items ≡ self.old.held.items ++ n ∷ [] }
+        ensures marks { self.new.marks ≡ slice_set self.old.marks n true }
         ensures seen { self.new.seen ≡ slice_set self.old.seen n node }
     {
         self.seen.put(n, node);
         self.held.push(n);
+        self.marks[usize::from(n)] = true;
     }
 
     pub(crate) fn holds(&self, n: u8) -> bool
+        requires { Carries self.now }
         ensures { result ≡ is_among n self.now.held.items }
     {
-        self.held.contains(&n)
+        usize::from(n) < MAX_NODES && self.marks[usize::from(n)]
     }
 
     /// A node as it was when it was locked; nothing where it isn't held.
     pub(crate) fn read(&self, n: u8) -> Option<Node>
-        requires { n < length self.now.seen }
+        requires carries { Carries self.now }
+        requires node { n < length self.now.seen }
         ensures contents { result ≡ reads (holding_of self.now) n }
         ensures there { IfSome result (IsNodeOf (length self.now.seen)) }
     {

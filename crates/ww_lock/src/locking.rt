@@ -120,6 +120,7 @@ impl Hand {
             let Some(n) = self.held.pop() else {
                 unreachable!()
             };
+            self.marks[usize::from(n)] = false;
             ww_seat::give(rt, &mut self.seat, &world.board, n, &world.wakers);
         }
     }

@@ -9,7 +9,7 @@ use arrayvec::ArrayVec;
 use crossbeam_utils::sync::{Parker, Unparker};
 use std::alloc::{AllocError, Global};
 use std::marker::Model;
-use ww_plain::Graph;
+use ww_plain::{Graph, MAX_NODES};
 use ww_queue::Kind;
 use ww_table::{Board, Seat16};
 use ww_word::MAX_SEATS;
@@ -152,6 +152,7 @@ fn fresh(
             kind,
             left: budget,
             held: ArrayVec::new(),
+            marks: [false; MAX_NODES],
             seen,
             parker,
         };

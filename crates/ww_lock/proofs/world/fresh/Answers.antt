@@ -1,4 +1,4 @@
-use Rattle.std.proofs.Common.{◌≡◌, [], ◌∷◌, ◌++◌, List, ℕ, ◌+◌, length, length-append, append_assoc, sym, ap, subst, ◌∙◌, rules, arith}
+use Rattle.std.proofs.Common.{◌≡◌, [], ◌∷◌, ◌++◌, List, ℕ, ◌+◌, false, replicate, length, length-append, append_assoc, refl, sym, ap, subst, ◌∙◌, rules, arith}
 use mathlib.Core.Option.{some}
 use lib.ListN.{get_elem?}
 use Rattle.ww_table.specs.declared.seat.Seat16.{Seat16}
@@ -20,9 +20,9 @@ invariant_of-push_reserved c =
     let popped : c.loop-seat.rests.items ≡ c.pop.new.self.items ++ c.in-Some-pop.field-0 ∷ [] = search rules in
     let less = rests_less (first_graph shared.key) (length c.next.new.self.rest.items) c.loop-seat.rests.items c.pop.new.self.items c.in-Some-pop.field-0 (subst (λ (k : ℕ). AreRests (first_graph shared.key) k c.loop-seat.rests.items) (ap length step) i.3) popped in
     let none : c.new.result.items ≡ [] = search rules in
-    let hand : Hand = record { seat = c.in-Some.seat; kind = c.args.kind; left = c.args.budget; held = c.new.result; seen = c.in-Some-pop.field-0.seen; parker = c.in-Some-pop.field-0.parker } in
+    let hand : Hand = record { seat = c.in-Some.seat; kind = c.args.kind; left = c.args.budget; held = c.new.result; marks = replicate 64 false; seen = c.in-Some-pop.field-0.seen; parker = c.in-Some-pop.field-0.parker } in
     subst (λ (h : Hand). Carries h × (h.seat.stamp ≡ 0) × (h.held.items ≡ [])) (sym c.in-Ok.ensures.ok)
-    (new_carries shared.table_id shared.key (length c.loop-seat.yielded) hand new c.requires.kind none less.1 c.args.board.now.few (omega (arith, c.ranges.budget.fits)), new_idle shared.table_id shared.key _ c.in-Some.seat new, none)
+    (new_carries shared.table_id shared.key (length c.loop-seat.yielded) hand new c.requires.kind none refl less.1 c.args.board.now.few (omega (arith, c.ranges.budget.fits)), new_idle shared.table_id shared.key _ c.in-Some.seat new, none)
 
 pub loop-seat-preserved : goal.loop-seat-preserved
 loop-seat-preserved c =
@@ -36,7 +36,7 @@ loop-seat-preserved c =
     let less = rests_less (first_graph shared.key) (length c.next.new.self.rest.items) c.loop-seat.rests.items c.pop.new.self.items c.in-Some-pop.field-0 (subst (λ (k : ℕ). AreRests (first_graph shared.key) k c.loop-seat.rests.items) (ap length step) i.3) popped in
     let none : c.new.result.items ≡ [] = search rules in
     let more : length (c.loop-seat.yielded ++ c.in-Some.seat ∷ []) ≡ length c.loop-seat.yielded + 1 = length-append c.loop-seat.yielded (c.in-Some.seat ∷ []) in
-    let hand : Hand = record { seat = c.in-Some.seat; kind = c.args.kind; left = c.args.budget; held = c.new.result; seen = c.in-Some-pop.field-0.seen; parker = c.in-Some-pop.field-0.parker } in
+    let hand : Hand = record { seat = c.in-Some.seat; kind = c.args.kind; left = c.args.budget; held = c.new.result; marks = replicate 64 false; seen = c.in-Some-pop.field-0.seen; parker = c.in-Some-pop.field-0.parker } in
     let holding = subst (λ (h : Hand). holding_of h ≡ fresh shared.table_id (first_graph shared.key) c.args.budget (length c.loop-seat.yielded) (holding_of h).room) (sym c.in-Ok.ensures.ok) (new_holding shared.table_id shared.key (length c.loop-seat.yielded) hand new none less.1) in (
       tt,
       tt,

@@ -1,4 +1,4 @@
-use Rattle.std.proofs.Common.{◌≡◌, List, [], ◌∷◌, ◌++◌, length, length-append, ℕ, arith, refl, ◌∙◌, ap, rules}
+use Rattle.std.proofs.Common.{◌≡◌, List, [], ◌∷◌, ◌++◌, false, set, length, length-append, ℕ, arith, refl, ◌∙◌, ap, rules}
 use Rattle.ww_lock.specs.Holding.{Holding}
 use Rattle.ww_lock.specs.Carried.{holding_of}
 use Rattle.ww_lock.proofs.Carrying.{here, at_table, last_held, gives, home_as, none_held}
@@ -26,8 +26,8 @@ loop-preserved g c =
     let e = c.give.ensures in
     let h = c.loop.self in
     let whole : h.held.items ≡ c.pop.new.self.items ++ c.in-Some.n ∷ [] = search rules in
-    let now = record h { seat = c.give.new.seat; held = c.pop.new.self } in
-    let v = gives h now c.args.world.now _ c.give.new.seat c.pop.new.self.items c.in-Some.n c.world.view_is (home_as c.args.self.now h c.args.world.now i.same c.requires.home) i.carries whole e.settled e.records e.given refl refl refl refl refl in
+    let now = record h { seat = c.give.new.seat; held = c.pop.new.self; marks = set h.marks c.from.result false } in
+    let v = gives h now c.args.world.now _ c.give.new.seat c.pop.new.self.items c.in-Some.n c.world.view_is (home_as c.args.self.now h c.args.world.now i.same c.requires.home) i.carries whole e.settled e.records e.given refl refl refl refl (ap (λ (k : ℕ). set h.marks k false) c.from.ensures) refl in
     record { carries = v.carries; same = v.is ∙ ap (λ (s : Holding). record s { held = c.pop.new.self.items }) i.same; turns = omega (arith, ap length whole, length-append c.pop.new.self.items (c.in-Some.n ∷ [])) }
 
 pub returns : goal.returns

@@ -23,7 +23,7 @@ returns-in-Ok g c =
     let e = c.take-taken.ensures in
     let added = c.add.ensures in
     let t = takes c.args.self.now c.add.new.self c.args.world.now _ c.take-taken.new.seat c.args.n c.in-Ok.node c.world.view_is c.requires.home c.requires.fresh c.requires.node c.requires.new e.settled e.records c.in-Ok.ensures.ok e.once
-    added.seat added.same.0 added.same.1 added.held added.seen in
+    added.seat added.same.0 added.same.1 added.held added.marks added.seen in
     record { fresh = t.fresh; taken = t.is; tried = tt; older = tt; dies = tt; unmet = ap (λ (s : Seat16). s.seat.me.0.part.core.met) added.seat ∙ c.in-Ok.ensures.ok.unmet }
 
 pub returns-in-Err : goal.returns-in-Err

@@ -23,7 +23,7 @@ returns-in-Some c =
     let e = c.try_take.ensures in
     let added = c.add.ensures in
     let t = takes c.args.self.now c.add.new.self c.args.world.now _ c.try_take.new.seat c.args.n c.in-Some.node c.world.view_is c.requires.home c.requires.fresh c.requires.node c.requires.new e.seat e.records c.in-Some.ensures.some e.once
-    added.seat added.same.0 added.same.1 added.held added.seen in
+    added.seat added.same.0 added.same.1 added.held added.marks added.seen in
     record { fresh = t.fresh; taken = λ _. t.is; busy = λ f. absurd (true≢false f); unmet = λ _. ap (λ (s : Seat16). s.seat.me.0.part.core.met) added.seat ∙ c.in-Some.ensures.some.unmet }
 
 pub returns-in-None : goal.returns-in-None
