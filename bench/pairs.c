@@ -15,7 +15,7 @@
 #include <string.h>
 #include <time.h>
 
-#define PLACES 64
+#define LOCKS 64
 #define MOST_THREADS 16
 
 struct word {
@@ -26,8 +26,8 @@ struct lock {
     _Alignas(64) pthread_mutex_t mutex;
 };
 
-static struct word words[PLACES];
-static struct lock locks[PLACES];
+static struct word words[LOCKS];
+static struct lock locks[LOCKS];
 static const char *load;
 static uint64_t rounds;
 
@@ -60,13 +60,13 @@ static void *work(void *given) {
     uint64_t state = me->number + 1, own = me->number + 1, held = 0;
     int is_random = strstr(load, "-of-64") != NULL, is_mutex = strncmp(load, "mutex", 5) == 0;
     for (uint64_t round = 0; round < rounds; round++) {
-        uint64_t place = is_random ? next_word(&state) % PLACES : me->number;
+        uint64_t lock = is_random ? next_word(&state) % LOCKS : me->number;
         if (is_mutex) {
-            pthread_mutex_lock(&locks[place].mutex);
-            pthread_mutex_unlock(&locks[place].mutex);
+            pthread_mutex_lock(&locks[lock].mutex);
+            pthread_mutex_unlock(&locks[lock].mutex);
             held++;
         } else {
-            held += pair(&words[place], own);
+            held += pair(&words[lock], own);
         }
     }
     me->held = held;
@@ -84,8 +84,8 @@ int main(int count, char **given) {
     rounds = strtoull(given[3], NULL, 10);
     if (number < 1 || number > MOST_THREADS)
         return 2;
-    for (int place = 0; place < PLACES; place++)
-        pthread_mutex_init(&locks[place].mutex, NULL);
+    for (int lock = 0; lock < LOCKS; lock++)
+        pthread_mutex_init(&locks[lock].mutex, NULL);
     clock_gettime(CLOCK_MONOTONIC, &start);
     for (int at = 0; at < number; at++) {
         threads[at].number = at;
