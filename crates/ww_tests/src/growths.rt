@@ -2,208 +2,43 @@
 //! made once more, gives its answer. With all the memory that they want these tests show that the calls succeed;
 //! `bench/refuse_library_growths` refuses each growth of each of them in turn.
 
-ghost use Rattle.std.specs.Prelude.{◌≡◌, ◌<◌, length, IsTrue, IfOk};
+ghost use Rattle.std.specs.Prelude.{◌<◌, length};
 ghost use Rattle.ww_lock.specs.Holding.{IsAtHome, AreAtHome};
-ghost use Rattle.ww_lock.specs.Making.{Covers};
-ghost use Rattle.ww_model.specs.Snapshot.{state_of};
-ghost use Rattle.ww_plain.specs.Transaction.{transaction_of, Fits, HasNoDouble};
 
-use crate::cores::{RING, is_ring, replayed};
-use crate::locks::graph_of;
-use crate::threads::is_possible;
-use crate::transactions::Open;
+use crate::locks::{begun, graph_of, locked};
+use crate::threads::{is_possible, is_possible_alone};
+use crate::transactions::{Open, get};
 use std::alloc::{AllocError, Global};
 use std::process::Abort;
 use std::sync::Wait;
 use std::test::Fail;
-use ww_lock::{
-    Acquiring, CloseFault, Done, History, Lock, OpenFault, Pass, Prepared, Receipt, Solo, World,
-};
-use ww_model::{Answer, Core, Event, ReplayFault};
-use ww_plain::{By, Graph, Record, Reply, Txn, apply, first_double, replays};
+use ww_lock::{CloseFault, Done, History, OpenFault, Pass, Prepared, Receipt, Solo, World};
+use ww_plain::{By, Graph, Reply, Txn};
 use ww_queue::Kind;
-use ww_script::{
-    Input, InputFault, Outcome, ScriptAnswer, outcome_text, read_input, schedule_text,
-};
 use ww_txn::{TxnFault, transact};
 
-/// What a call gives, or gives the second time if memory was refused to the first.
-fn twice<T, F: Fn() -> Result<T, AllocError>>(call: F) -> Result<T, AllocError>
-    requires { F.IsAlwaysCallable call }
-{
-    match call() {
-        Ok(made) => Ok(made),
-        Err(_) => call(),
-    }
-}
-
-/// A graph of nodes of 7 and 9.
+/// A graph of nodes of 7 and 9. Where a growth is refused, it is made once more.
 fn pair(alloc: Global) -> Result<Graph, AllocError> {
-    twice(|| graph_of(alloc, &[7, 9]))
+    let nodes = [(7, None), (9, None)];
+    graph_of(alloc, &nodes).or_else(|_| graph_of(alloc, &nodes))
 }
 
 fn is_pair(graph: &Graph) -> bool {
     graph.size() == 2 && graph.node(0).value == 7 && graph.node(1).value == 9
 }
 
-/// Asks for the values of these nodes.
-fn get(alloc: Global, nodes: &[u8]) -> Result<Txn, AllocError> {
-    twice(|| Ok(Txn::Get(By::List, Vec::from_slice(alloc, nodes)?)))
+/// Asks for the values of these nodes. Where a growth is refused, it is made once more.
+fn asks(alloc: Global, nodes: &[u8]) -> Result<Txn, AllocError> {
+    get(alloc, By::List, nodes).or_else(|_| get(alloc, By::List, nodes))
 }
 
-fn is_get(txn: &Txn, nodes: &[u8]) -> bool {
+fn is_asking(txn: &Txn, nodes: &[u8]) -> bool {
     matches!(txn, Txn::Get(By::List, list) if list.as_slice() == nodes)
 }
 
 /// Whether the reply is these values.
 fn tells(reply: &Reply, values: &[u64]) -> bool {
     matches!(reply, Reply::Values(told) if told.as_slice() == values)
-}
-
-#[test]
-fn a_graph_is_copied(rt: HostRuntime) -> Result<(), Fail> {
-    let alloc = rt.alloc();
-    let graph = pair(alloc)?;
-    let copy = twice(|| graph.copy(alloc))?;
-    assert!(rt; is_pair(&copy) && is_pair(&graph));
-    Ok(())
-}
-
-/// Applies a transaction that can be made.
-fn applied(alloc: Global, graph: &mut Graph, txn: &Txn) -> Result<Reply, AllocError> {
-    if !txn.fits(graph.size()) || first_double(txn).is_some() {
-        return Err(AllocError);
-    }
-    apply(alloc, graph, txn)
-}
-
-#[test]
-fn a_transaction_is_applied(rt: HostRuntime) -> Result<(), Fail> {
-    let alloc = rt.alloc();
-    let mut graph = pair(alloc)?;
-    let txn = get(alloc, &[1, 0])?;
-    let reply = match applied(alloc, &mut graph, &txn) {
-        Ok(reply) => reply,
-        Err(_) => {
-            assert!(rt; is_pair(&graph));
-            applied(alloc, &mut graph, &txn)?
-        }
-    };
-    assert!(rt; tells(&reply, &[9, 7]) && is_pair(&graph));
-    Ok(())
-}
-
-/// The history of one transaction.
-fn history(alloc: Global) -> Result<Vec<Record>, AllocError> {
-    Ok(vec![in alloc;
-        Record {
-            caller: 0,
-            seq: 0,
-            txn: Txn::Get(By::List, Vec::from_slice(alloc, &[1, 0])?),
-            reply: Reply::Values(Vec::from_slice(alloc, &[9, 7])?),
-        },
-    ]?)
-}
-
-#[test]
-fn a_history_replays(rt: HostRuntime) -> Result<(), Fail> {
-    let alloc = rt.alloc();
-    let records = twice(|| history(alloc))?;
-    let last = twice(|| replays(alloc, pair(alloc)?, &records))?;
-    assert!(rt; last.is_some_and(|graph| is_pair(&graph)));
-    Ok(())
-}
-
-#[test]
-fn a_core_is_made(rt: HostRuntime) -> Result<(), Fail> {
-    let alloc = rt.alloc();
-    let mut core = twice(|| Core::new(alloc, Kind::WaitDie, 64, 16))?;
-    assert!(rt; core.locks() == 64 && core.seats() == 16);
-    assert!(rt; core.step(Event::Begin(15)).ok() == Some(Answer::Stamp(1)));
-    assert!(rt; core.step(Event::Fast(15, 63)).ok() == Some(Answer::Locked));
-    Ok(())
-}
-
-/// The core of a ring. Where a growth was refused, the events are replayed once more.
-fn ring(alloc: Global) -> Result<Core, ReplayFault>
-    ensures locks { IfOk result (λ core. (state_of core).locks ≡ 2) }
-    ensures seats { IfOk result (λ core. (state_of core).seats ≡ 2) }
-{
-    match replayed(alloc, &RING) {
-        Err(ReplayFault::NoMemory) => replayed(alloc, &RING),
-        told => told,
-    }
-}
-
-#[test]
-fn events_are_replayed(rt: HostRuntime) -> Result<(), Fail> {
-    let core = ring(rt.alloc()).ok().ok_or("each event is possible")?;
-    assert!(rt; is_ring(&core));
-    Ok(())
-}
-
-const SCRIPTS: &str =
-    r#"{"version":1,"kind":"wait-die","history":true,"nodes":[{"value":5,"ports":[null,null,null,null]}],
-    "scripts":[[["get","list",[0]],["add","order",[[0,3]]]],[]]}"#;
-
-const SCHEDULE: &str =
-    r#"{"version":1,"kind":"wound-wait","locks":1,"seats":1,"events":[["begin",0],["fast",0,0]]}"#;
-
-/// What a text asks for. Where a growth was refused, it is read once more.
-fn asked(alloc: Global, text: &str) -> Result<Input, InputFault> {
-    match read_input(alloc, text.as_bytes()) {
-        Err(InputFault::NoMemory) => read_input(alloc, text.as_bytes()),
-        told => told,
-    }
-}
-
-#[test]
-fn scripts_are_read(rt: HostRuntime) -> Result<(), Fail> {
-    let Some(Input::Scripts(input)) = asked(rt.alloc(), SCRIPTS).ok() else {
-        return Err(Fail::from("scripts"));
-    };
-    assert!(rt; input.kind == Kind::WaitDie && input.history && input.graph.size() == 1);
-    assert!(rt; input.scripts.len() == 2);
-    let script = input.scripts.first().ok_or("a script")?;
-    assert!(rt; script.first().is_some_and(|txn| is_get(txn, &[0])));
-    assert!(rt;
-        matches!(script.last(), Some(Txn::Add(By::Order, amounts)) if amounts.as_slice() == [(0, 3)].as_slice())
-    );
-    Ok(())
-}
-
-#[test]
-fn a_schedule_has_its_text(rt: HostRuntime) -> Result<(), Fail> {
-    let alloc = rt.alloc();
-    let Some(Input::Schedule(schedule)) = asked(alloc, SCHEDULE).ok() else {
-        return Err(Fail::from("a schedule"));
-    };
-    let text = twice(|| schedule_text(alloc, &schedule))?;
-    let expected =
-        "event 0 stamp 1\nevent 1 locked\nring -\ncondemned -\nlock 0 0/1 :\nseat 0 1 0\n";
-    assert!(rt; text.as_slice() == expected.as_bytes());
-    Ok(())
-}
-
-/// What came of one transaction.
-fn outcome(alloc: Global) -> Result<Outcome, AllocError> {
-    let values = Vec::from_slice(alloc, &[9, 7])?;
-    let first = vec![in alloc; ScriptAnswer::Reply(Reply::Values(values))]?;
-    Ok(Outcome {
-        replies: vec![in alloc; first]?,
-        places: Some(vec![in alloc; (0, 0)]?),
-        graph: graph_of(alloc, &[7, 9])?,
-    })
-}
-
-#[test]
-fn an_outcome_has_its_text(rt: HostRuntime) -> Result<(), Fail> {
-    let alloc = rt.alloc();
-    let outcome = twice(|| outcome(alloc))?;
-    let text = twice(|| outcome_text(alloc, &outcome))?;
-    let expected = "reply 0 0 values 9 7\nat 0 0 0\nnode 0 7 - - - -\nnode 1 9 - - - -\n";
-    assert!(rt; text.as_slice() == expected.as_bytes());
-    Ok(())
 }
 
 /// A world of the pair with one pass, which may start so many contexts and solos.
@@ -270,22 +105,8 @@ fn both_locked<R: Wait + Abort>(rt: &R, world: &World, pass: Pass) -> Done
     requires size { 1 < length world.now.first }
     ensures home { IsAtHome result world.now }
 {
-    match pass.begin(world) {
-        Ok(acquiring) => one_locked(rt, world, one_locked(rt, world, acquiring, 0), 1).done(),
-        Err(_) => panic!(rt; "the pass is spent"),
-    }
-}
-
-fn one_locked<R: Wait + Abort>(rt: &R, world: &World, acquiring: Acquiring, n: u8) -> Acquiring
-    requires home { IsAtHome acquiring world.now }
-    requires node { n < length world.now.first }
-    ensures home { IsAtHome result world.now }
-{
-    match acquiring.lock(rt, world, n) {
-        Lock::Locked(acquiring) => acquiring,
-        Lock::Already(_acquiring) => panic!(rt; "the lock was held"),
-        Lock::Deadlk(_backoff) => panic!(rt; "an older context was met"),
-    }
+    let acquiring = locked(rt, world, begun(rt, world, pass), 0, 0);
+    locked(rt, world, acquiring, 1, 0).done()
 }
 
 /// Prepares to ask a context for the values of these nodes. Where a growth is refused, the transaction comes back, and can be
@@ -298,7 +119,7 @@ fn prepared<R: Abort>(rt: &R, world: &World, done: &mut Done, txn: Txn, nodes: &
     match done.prepare(world, txn) {
         Ok(prepared) => prepared,
         Err((txn, _)) => {
-            assert!(rt; is_get(&txn, nodes) && is_possible(world, done, &txn));
+            assert!(rt; is_asking(&txn, nodes) && is_possible(world, done, &txn));
             match done.prepare(world, txn) {
                 Ok(prepared) => prepared,
                 Err(_) => panic!(rt; "no memory"),
@@ -310,7 +131,7 @@ fn prepared<R: Abort>(rt: &R, world: &World, done: &mut Done, txn: Txn, nodes: &
 #[test]
 fn a_context_prepares(rt: HostRuntime) -> Result<(), Fail> {
     let alloc = rt.alloc();
-    let txn = get(alloc, &[1, 0])?;
+    let txn = asks(alloc, &[1, 0])?;
     let (world, passes) = opened(&rt, alloc, Kind::WoundWait, 1);
     assert!(rt; world.size() == 2);
     let mut done = both_locked(&rt, &world, only(&rt, &world, passes));
@@ -320,16 +141,6 @@ fn a_context_prepares(rt: HostRuntime) -> Result<(), Fail> {
     committed.unlock_all(&rt, &world).fini(&world);
     assert!(rt; told.place == 0 && told.seq == 0 && tells(&told.reply, &[9, 7]));
     Ok(())
-}
-
-/// Whether the transaction can be prepared with the only lock.
-fn is_possible_alone(world: &World, solo: &Solo, txn: &Txn) -> bool
-    requires home { IsAtHome solo.now world.now }
-    ensures fits { IsTrue result → Fits (length solo.now.seen) (transaction_of txn.now) }
-    ensures no_double { IsTrue result → HasNoDouble (transaction_of txn.now) }
-    ensures covers { IsTrue result → Covers solo.now (transaction_of txn.now) }
-{
-    txn.fits(world.size()) && first_double(txn).is_none() && solo.covers(world, txn)
 }
 
 /// Prepares to ask for a value without a context, as [`prepared`].
@@ -347,7 +158,7 @@ fn prepared_alone<R: Abort>(
     match solo.prepare(world, txn) {
         Ok(prepared) => prepared,
         Err((txn, _)) => {
-            assert!(rt; is_get(&txn, nodes) && is_possible_alone(world, solo, &txn));
+            assert!(rt; is_asking(&txn, nodes) && is_possible_alone(world, solo, &txn));
             match solo.prepare(world, txn) {
                 Ok(prepared) => prepared,
                 Err(_) => panic!(rt; "no memory"),
@@ -359,7 +170,7 @@ fn prepared_alone<R: Abort>(
 #[test]
 fn a_solo_prepares(rt: HostRuntime) -> Result<(), Fail> {
     let alloc = rt.alloc();
-    let txn = get(alloc, &[1])?;
+    let txn = asks(alloc, &[1])?;
     let (world, passes) = opened(&rt, alloc, Kind::WaitDie, 1);
     assert!(rt; world.size() == 2);
     let Ok(mut solo) = only(&rt, &world, passes).lock_solo(&rt, &world, 1) else {
@@ -425,8 +236,8 @@ fn a_transaction_is_made(rt: HostRuntime) -> Result<(), Fail> {
     made_once(
         &rt,
         alloc,
-        get(alloc, &[1, 0])?,
-        get(alloc, &[1, 0])?,
+        asks(alloc, &[1, 0])?,
+        asks(alloc, &[1, 0])?,
         &[9, 7],
     )
 }

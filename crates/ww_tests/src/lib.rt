@@ -1,36 +1,19 @@
-//! Tests of the libraries below, over what each of them offers to all. They compare definitions with the rules, and see
-//! that calls succeed where there is memory. They stand in a crate of their own, so that no library is proved twice.
+//! Tests of contexts and passes, the three ways of taking many locks, and transactions, over what each of these libraries
+//! offers to all. They see that calls succeed where there is memory, and what comes of threads. They stand in a crate of their
+//! own, so that no library is proved twice.
 #![tactic(auto)]
 
 #[cfg(test)]
-mod cores;
-#[cfg(test)]
 mod growths;
-#[cfg(test)]
-mod kinds;
 #[cfg(test)]
 mod locks;
 #[cfg(test)]
 mod pairs;
 #[cfg(test)]
-mod plain;
-#[cfg(test)]
-mod queues;
-#[cfg(test)]
-mod rings;
-#[cfg(test)]
-mod rounds;
-#[cfg(test)]
-mod rows;
-#[cfg(test)]
-mod scripts;
-#[cfg(test)]
-mod tables;
+mod races;
 #[cfg(test)]
 mod threads;
 #[cfg(test)]
 mod transactions;
 #[cfg(test)]
 mod users;
-#[cfg(test)]
-mod words;

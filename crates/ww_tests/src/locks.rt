@@ -4,6 +4,7 @@
 ghost use Rattle.std.specs.Prelude.{◌≡◌, ◌<◌, ◌≤◌, length, IfOk};
 ghost use Rattle.ww_lock.specs.Holding.{IsAtHome, AreAtHome};
 
+use crate::threads::is_possible_alone;
 use std::alloc::{AllocError, Global};
 use std::process::Abort;
 use std::sync::Wait;
@@ -11,36 +12,57 @@ use std::test::Fail;
 use ww_lock::{
     Acquiring, Backoff, CloseFault, History, Lock, OpenFault, Pass, Receipt, Try, World,
 };
-use ww_plain::{By, Graph, Node, Reply, Txn, first_double};
+use ww_plain::{By, Graph, Node, Reply, Txn};
 use ww_queue::Kind;
 
-/// A graph of nodes with these values, of which no port leads anywhere.
-pub(crate) fn graph_of(alloc: Global, values: &[u64]) -> Result<Graph, AllocError> {
-    let mut nodes = Vec::new(alloc);
-    for value in values {
-        nodes.push(node_of(*value))?;
-    }
-    Graph::new(nodes).ok().ok_or(AllocError)
-}
-
-const fn node_of(value: u64) -> Node {
+/// A node of this value, whose port 0 leads to this target.
+const fn node(value: u64, target: Option<u8>) -> Node {
     Node {
         value,
-        ports: [None; 4],
+        ports: [target, None, None, None],
     }
 }
 
-/// A world of such nodes with two passes.
+/// A graph of nodes with these values, of which port 0 leads to these targets.
+pub(crate) fn graph_of(alloc: Global, nodes: &[(u64, Option<u8>)]) -> Result<Graph, AllocError> {
+    let mut all = Vec::new(alloc);
+    for (value, target) in nodes {
+        all.push(node(*value, *target))?;
+    }
+    Graph::new(all).ok().ok_or(AllocError)
+}
+
+/// Three nodes with these values. Port 0 leads from 0 to 1, and from 1 to 2.
+pub(crate) fn chain(alloc: Global, values: [u64; 3]) -> Result<Graph, AllocError> {
+    let [zero, one, two] = values;
+    graph_of(alloc, &[(zero, Some(1)), (one, Some(2)), (two, None)])
+}
+
+/// A world of such a graph, with one pass.
+pub(crate) fn one_pass(
+    alloc: Global,
+    graph: Graph,
+    budget: u32,
+) -> Result<(World, Pass), AllocError>
+    ensures { IfOk result (λ r. IsAtHome r.1 r.0) }
+{
+    let Ok((world, mut passes)) = World::open(alloc, Kind::WoundWait, graph, 1, budget) else {
+        return Err(AllocError);
+    };
+    let pass = passes.pop().ok_or(AllocError)?;
+    Ok((world, pass))
+}
+
+/// A world of these nodes, with two passes, each of which may begin once.
 fn two_passes(
     alloc: Global,
     kind: Kind,
-    values: &[u64],
-    budget: u32,
+    nodes: &[(u64, Option<u8>)],
 ) -> Result<(World, Pass, Pass), AllocError>
     ensures { IfOk result (λ r. IsAtHome r.1 r.0 × IsAtHome r.2 r.0) }
 {
-    let graph = graph_of(alloc, values)?;
-    let Ok((world, mut passes)) = World::open(alloc, kind, graph, 2, budget) else {
+    let graph = graph_of(alloc, nodes)?;
+    let Ok((world, mut passes)) = World::open(alloc, kind, graph, 2, 1) else {
         return Err(AllocError);
     };
     let (Some(one), Some(zero)) = (passes.pop(), passes.pop()) else {
@@ -50,7 +72,7 @@ fn two_passes(
 }
 
 /// Begins a context with what the pass has left.
-fn begun<R: Abort>(rt: &R, world: &World, pass: Pass) -> Acquiring
+pub(crate) fn begun<R: Abort>(rt: &R, world: &World, pass: Pass) -> Acquiring
     requires home { IsAtHome pass world.now }
     ensures home { IsAtHome result world.now }
 {
@@ -60,32 +82,22 @@ fn begun<R: Abort>(rt: &R, world: &World, pass: Pass) -> Acquiring
     }
 }
 
-/// Takes a lock.
-fn locked<R: Wait + Abort>(rt: &R, world: &World, acquiring: Acquiring, n: u8) -> Acquiring
+/// Asks for a lock, with this error number for an answer: 0 where it is taken, 114 where the context holds it.
+pub(crate) fn locked<R: Wait + Abort>(
+    rt: &R,
+    world: &World,
+    acquiring: Acquiring,
+    n: u8,
+    code: u8,
+) -> Acquiring
     requires home { IsAtHome acquiring world.now }
     requires node { n < length world.now.first }
     ensures home { IsAtHome result world.now }
 {
     let lock = acquiring.lock(rt, world, n);
-    assert_eq!(rt; lock.code(), 0);
+    assert!(rt; lock.code() == code);
     match lock {
-        Lock::Locked(acquiring) => acquiring,
-        Lock::Already(_acquiring) => panic!(rt; "the lock was held"),
-        Lock::Deadlk(_backoff) => panic!(rt; "an older context was met"),
-    }
-}
-
-/// Asks for a lock that the context holds.
-fn already_locked<R: Wait + Abort>(rt: &R, world: &World, acquiring: Acquiring, n: u8) -> Acquiring
-    requires home { IsAtHome acquiring world.now }
-    requires node { n < length world.now.first }
-    ensures home { IsAtHome result world.now }
-{
-    let lock = acquiring.lock(rt, world, n);
-    assert_eq!(rt; lock.code(), 114);
-    match lock {
-        Lock::Already(acquiring) => acquiring,
-        Lock::Locked(_acquiring) => panic!(rt; "the lock wasn't held"),
+        Lock::Locked(acquiring) | Lock::Already(acquiring) => acquiring,
         Lock::Deadlk(_backoff) => panic!(rt; "an older context was met"),
     }
 }
@@ -97,7 +109,7 @@ fn refused<R: Wait + Abort>(rt: &R, world: &World, acquiring: Acquiring, n: u8) 
     ensures home { IsAtHome result.holding world.now }
 {
     let lock = acquiring.lock(rt, world, n);
-    assert_eq!(rt; lock.code(), 35);
+    assert!(rt; lock.code() == 35);
     match lock {
         Lock::Deadlk(backoff) => backoff,
         Lock::Locked(_acquiring) => panic!(rt; "the lock was free"),
@@ -133,17 +145,17 @@ fn ended<R: Wait>(rt: &R, world: &World, acquiring: Acquiring) -> Pass
 
 /// Pass 0 holds node 0; pass 1 tries for it, and takes node 1.
 fn busy_and_already<R: Wait + Abort>(rt: &R, alloc: Global, kind: Kind) -> Result<(), Fail> {
-    let (world, zero, one) = two_passes(alloc, kind, &[7, 8], 1)?;
+    let (world, zero, one) = two_passes(alloc, kind, &[(7, None), (8, None)])?;
     assert!(rt; world.size() == 2);
-    let zero = locked(rt, &world, begun(rt, &world, zero), 0);
+    let zero = locked(rt, &world, begun(rt, &world, zero), 0, 0);
     let one = tried(rt, &world, begun(rt, &world, one), 0, true);
     let one = tried(rt, &world, one, 1, false);
     let one = tried(rt, &world, one, 1, true);
-    let one = already_locked(rt, &world, one, 1);
+    let one = locked(rt, &world, one, 1, 114);
     let reads = (one.read(&world, 1), one.read(&world, 0));
     ended(rt, &world, zero);
     ended(rt, &world, one);
-    assert!(rt; reads == (Some(node_of(8)), None));
+    assert!(rt; reads == (Some(node(8, None)), None));
     Ok(())
 }
 
@@ -259,10 +271,10 @@ fn full_world_closes_with_all_its_passes(rt: HostRuntime) -> Result<(), Fail> {
 
 #[test]
 fn younger_holder_backs_off(rt: HostRuntime) -> Result<(), Fail> {
-    let (world, zero, one) = two_passes(rt.alloc(), Kind::WaitDie, &[7, 8], 1)?;
+    let (world, zero, one) = two_passes(rt.alloc(), Kind::WaitDie, &[(7, None), (8, None)])?;
     assert!(rt; world.size() == 2);
-    let zero = locked(&rt, &world, begun(&rt, &world, zero), 0);
-    let one = locked(&rt, &world, begun(&rt, &world, one), 1);
+    let zero = locked(&rt, &world, begun(&rt, &world, zero), 0, 0);
+    let one = locked(&rt, &world, begun(&rt, &world, one), 1, 0);
     let one = refused(&rt, &world, one, 0);
     assert_eq!(rt; (one.contended(), one.met()), (0, 1));
     let one = one.unlock_all(&rt, &world);
@@ -289,9 +301,7 @@ fn committed_alone<R: Wait + Abort>(
     let Ok(mut solo) = pass.lock_solo(rt, world, n) else {
         panic!(rt; "the pass is spent")
     };
-    assert!(rt; txn.fits(world.size()));
-    assert!(rt; first_double(&txn).is_none());
-    assert!(rt; solo.covers(world, &txn));
+    assert!(rt; is_possible_alone(world, &solo, &txn));
     let Ok(prepared) = solo.prepare(world, txn) else {
         panic!(rt; "no memory")
     };
@@ -302,7 +312,7 @@ fn committed_alone<R: Wait + Abort>(
 
 #[test]
 fn spent_pass_comes_back(rt: HostRuntime) -> Result<(), Fail> {
-    let (world, zero, one) = two_passes(rt.alloc(), Kind::WoundWait, &[7], 1)?;
+    let (world, zero, one) = two_passes(rt.alloc(), Kind::WoundWait, &[(7, None)])?;
     assert!(rt; world.size() == 1);
     assert_eq!(rt; (zero.left(), one.left()), (1, 1));
     let zero = ended(&rt, &world, begun(&rt, &world, zero));
@@ -321,7 +331,7 @@ fn spent_pass_comes_back(rt: HostRuntime) -> Result<(), Fail> {
 
 #[test]
 fn one_solo_spends_a_pass(rt: HostRuntime) -> Result<(), Fail> {
-    let (world, zero, _one) = two_passes(rt.alloc(), Kind::WaitDie, &[7], 1)?;
+    let (world, zero, _one) = two_passes(rt.alloc(), Kind::WaitDie, &[(7, None)])?;
     assert!(rt; world.size() == 1);
     let zero = match zero.lock_solo(&rt, &world, 0) {
         Ok(solo) => solo.unlock(&rt, &world),
@@ -337,7 +347,7 @@ fn one_solo_spends_a_pass(rt: HostRuntime) -> Result<(), Fail> {
 
 #[test]
 fn solo_peeks(rt: HostRuntime) -> Result<(), Fail> {
-    let (world, zero, _one) = two_passes(rt.alloc(), Kind::WoundWait, &[0, 9], 1)?;
+    let (world, zero, _one) = two_passes(rt.alloc(), Kind::WoundWait, &[(0, None), (9, None)])?;
     assert!(rt; world.size() == 2);
     let (_zero, told) = committed_alone(&rt, &world, zero, 1, Txn::Peek(1));
     assert!(rt; told.place == 0 && told.seq == 0);
@@ -350,7 +360,7 @@ fn solo_peeks(rt: HostRuntime) -> Result<(), Fail> {
 #[test]
 fn later_get_reads_what_was_written(rt: HostRuntime) -> Result<(), Fail> {
     let alloc = rt.alloc();
-    let (world, zero, one) = two_passes(alloc, Kind::WoundWait, &[5], 1)?;
+    let (world, zero, one) = two_passes(alloc, Kind::WoundWait, &[(5, None)])?;
     assert!(rt; world.size() == 1);
     let add = Txn::Add(By::List, [(0, 7)].to_vec(alloc)?);
     let (zero, _) = committed_alone(&rt, &world, zero, 0, add);
@@ -362,6 +372,6 @@ fn later_get_reads_what_was_written(rt: HostRuntime) -> Result<(), Fail> {
     );
     let history = closed(&rt, world, vec![in alloc; zero, one]?);
     assert!(rt; history.records.len() == 2);
-    assert!(rt; history.graph.is_same(&graph_of(alloc, &[12])?));
+    assert!(rt; history.graph.is_same(&graph_of(alloc, &[(12, None)])?));
     Ok(())
 }

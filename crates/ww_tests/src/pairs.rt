@@ -1,5 +1,4 @@
-//! Two threads that lock the same two nodes in opposite orders, in step: in each round both hold their first node before either
-//! asks for its second. Of the two the younger alone is told EDEADLK.
+//! Two threads in step, at the same two nodes. What each is told, whatever the timing, goes by the stamps and the kind.
 
 ghost use Rattle.std.specs.Prelude.{◌<◌, length, IfOk, IfErr};
 ghost use Rattle.ww_lock.specs.Holding.{IsAtHome};
@@ -17,15 +16,38 @@ use ww_queue::Kind;
 
 const ROUNDS: u32 = 10_000;
 
+/// For how many yields the older one keeps its lock in Wound-Wait. By then the younger one mostly waits for it.
+const YIELDS: u32 = 5_000;
+
+/// What the two do in each round, of which there are so many.
+#[derive(Clone, Copy)]
+enum Play {
+    /// They lock both nodes in opposite orders: both hold their first node before either asks for its second. The younger alone
+    /// is told EDEADLK.
+    Crossed,
+    /// The older holds a node and asks for nothing more, and the younger, which holds another node, asks for that one. In
+    /// Wound-Wait it waits and gets it; in Wait-Die it is told EDEADLK, with the older one's stamp.
+    Asked(Kind),
+}
+
+impl Play {
+    const fn rounds(self) -> u32 {
+        match self {
+            Play::Crossed => ROUNDS,
+            Play::Asked(_) => 1,
+        }
+    }
+}
+
 /// What one thread shows to the other: how often it has come to where they wait for one another, and the stamp of its context.
 #[derive(Drop)]
-pub(crate) struct Side {
+struct Side {
     come: AtomicU64,
-    pub(crate) stamp: AtomicU64,
+    stamp: AtomicU64,
 }
 
 impl Side {
-    pub(crate) fn new() -> Side {
+    fn new() -> Side {
         Side {
             come: AtomicU64::new(0),
             stamp: AtomicU64::new(0),
@@ -35,14 +57,14 @@ impl Side {
 
 /// A thread's own side, and the other's.
 #[derive(Clone, Copy)]
-pub(crate) struct Sides<'a> {
-    pub(crate) own: &'a Side,
-    pub(crate) other: &'a Side,
+struct Sides<'a> {
+    own: &'a Side,
+    other: &'a Side,
 }
 
 impl Sides<'_> {
     /// Waits until the other thread has come as often as this one, and tells whether it has within 2^32 - 1 turns.
-    pub(crate) fn meet(&self) -> bool {
+    fn meet(&self) -> bool {
         let times = self.own.come.load(Ordering::SeqCst).wrapping_add(1);
         self.own.come.store(times, Ordering::SeqCst);
         for turn in 0..u32::MAX {
@@ -59,12 +81,7 @@ impl Sides<'_> {
 }
 
 /// Begins a context and locks its first node.
-pub(crate) fn first_locked<R: Wait>(
-    rt: &R,
-    world: &World,
-    pass: Pass,
-    first: u8,
-) -> Result<Acquiring, Pass>
+fn first_locked<R: Wait>(rt: &R, world: &World, pass: Pass, first: u8) -> Result<Acquiring, Pass>
     requires home { IsAtHome pass world.now }
     requires node { first < length world.now.first }
     ensures ok { IfOk result (λ a. IsAtHome a world.now) }
@@ -123,15 +140,20 @@ fn second_locked<R: Wait>(
     }
 }
 
-/// One round, and whether it came as it must. Whatever comes, the other thread is met twice.
-fn round<R: Wait>(rt: &R, world: &World, pass: Pass, sides: &Sides) -> (Pass, bool)
+/// A round in which each locks both nodes. Whatever comes, the other thread is met twice.
+fn crosses<R: Wait>(
+    rt: &R,
+    world: &World,
+    pass: Pass,
+    first: u8,
+    second: u8,
+    sides: &Sides,
+) -> (Pass, bool)
     requires home { IsAtHome pass world.now }
+    requires first { first < length world.now.first }
+    requires second { second < length world.now.first }
     ensures home { IsAtHome result.0 world.now }
 {
-    if world.size() != 2 {
-        return (pass, false);
-    }
-    let (first, second) = if pass.caller() == 0 { (0, 1) } else { (1, 0) };
     let has_begun = sides.meet();
     match first_locked(rt, world, pass, first) {
         Ok(acquiring) => {
@@ -148,6 +170,85 @@ fn round<R: Wait>(rt: &R, world: &World, pass: Pass, sides: &Sides) -> (Pass, bo
     }
 }
 
+/// Keeps what is held: in Wait-Die until the other one is told.
+fn stays(kind: Kind, sides: &Sides) -> bool {
+    match kind {
+        Kind::WoundWait => {
+            for _ in 0..YIELDS {
+                thread::yield_now();
+            }
+            true
+        }
+        Kind::WaitDie => sides.meet(),
+    }
+}
+
+/// The older one holds node 0 while the younger one asks for it.
+fn holds<R: Wait>(rt: &R, world: &World, pass: Pass, kind: Kind, sides: &Sides) -> (Pass, bool)
+    requires home { IsAtHome pass world.now }
+    requires node { 0 < length world.now.first }
+    ensures home { IsAtHome result.0 world.now }
+{
+    match first_locked(rt, world, pass, 0) {
+        Ok(acquiring) => {
+            sides.own.stamp.store(acquiring.stamp(), Ordering::SeqCst);
+            let has_begun = sides.meet();
+            let is_asked = sides.meet();
+            let has_stayed = stays(kind, sides);
+            let pass = acquiring.unlock_all(rt, world).fini(world);
+            (pass, has_begun && is_asked && has_stayed)
+        }
+        Err(pass) => (pass, false),
+    }
+}
+
+/// The younger one holds node 1 and asks for node 0. It tells whether the answer was that of the kind.
+fn asks<R: Wait>(rt: &R, world: &World, pass: Pass, kind: Kind, sides: &Sides) -> (Pass, bool)
+    requires home { IsAtHome pass world.now }
+    requires node { 1 < length world.now.first }
+    ensures home { IsAtHome result.0 world.now }
+{
+    let is_younger = sides.meet();
+    let acquiring = match first_locked(rt, world, pass, 1) {
+        Ok(acquiring) => acquiring,
+        Err(pass) => return (pass, false),
+    };
+    let is_asking = sides.meet();
+    let older = sides.other.stamp.load(Ordering::SeqCst);
+    let lock = acquiring.lock(rt, world, 0);
+    let is_told = kind == Kind::WoundWait || sides.meet();
+    let is_right = is_younger && is_asking && is_told;
+    match lock {
+        Lock::Locked(acquiring) => {
+            let has_both = acquiring.held(0) && acquiring.held(1);
+            let pass = acquiring.unlock_all(rt, world).fini(world);
+            (pass, is_right && has_both && kind == Kind::WoundWait)
+        }
+        Lock::Already(acquiring) => (acquiring.unlock_all(rt, world).fini(world), false),
+        Lock::Deadlk(backoff) => {
+            let names_older = backoff.contended() == 0 && backoff.met() == older;
+            let pass = backoff.unlock_all(rt, world).fini(world);
+            (pass, is_right && names_older && kind == Kind::WaitDie)
+        }
+    }
+}
+
+/// One round, and whether it came as it must.
+fn round<R: Wait>(rt: &R, world: &World, pass: Pass, play: Play, sides: &Sides) -> (Pass, bool)
+    requires home { IsAtHome pass world.now }
+    ensures home { IsAtHome result.0 world.now }
+{
+    if world.size() != 2 {
+        return (pass, false);
+    }
+    match (play, pass.caller()) {
+        (Play::Crossed, 0) => crosses(rt, world, pass, 0, 1, sides),
+        (Play::Crossed, _) => crosses(rt, world, pass, 1, 0, sides),
+        (Play::Asked(kind), 0) => holds(rt, world, pass, kind, sides),
+        (Play::Asked(kind), _) => asks(rt, world, pass, kind, sides),
+    }
+}
+
 /// What a thread gives back: its pass, and in how many of its rounds all came as it must.
 #[derive(Drop)]
 struct Work {
@@ -156,13 +257,13 @@ struct Work {
 }
 
 /// All rounds of a thread.
-fn rounds<R: Wait>(rt: &R, world: &World, mut pass: Pass, sides: &Sides) -> Work
+fn rounds<R: Wait>(rt: &R, world: &World, mut pass: Pass, play: Play, sides: &Sides) -> Work
     requires home { IsAtHome pass world.now }
     ensures home { IsAtHome result.pass world.now }
 {
     let mut good = 0u32;
-    for _ in 0..ROUNDS {
-        let (next, is_good) = round(rt, world, pass, sides);
+    for _ in 0..play.rounds() {
+        let (next, is_good) = round(rt, world, pass, play, sides);
         pass = next;
         good = good.saturating_add(u32::from(is_good));
     }
@@ -170,13 +271,14 @@ fn rounds<R: Wait>(rt: &R, world: &World, mut pass: Pass, sides: &Sides) -> Work
 }
 
 /// Two threads at once.
-fn in_opposite_orders<R: Threads + Wait + Abort + Sync>(
+fn in_step<R: Threads + Wait + Abort + Sync>(
     rt: &R,
     alloc: Global,
     kind: Kind,
+    play: Play,
 ) -> Result<(), Fail> {
-    let graph = graph_of(alloc, &[0, 0])?;
-    let Ok((world, passes)) = World::open(alloc, kind, graph, 2, ROUNDS) else {
+    let graph = graph_of(alloc, &[(0, None); 2])?;
+    let Ok((world, passes)) = World::open(alloc, kind, graph, 2, play.rounds()) else {
         return Err(Fail::from("it opens"));
     };
     let (zero, one) = (Side::new(), Side::new());
@@ -193,22 +295,34 @@ fn in_opposite_orders<R: Threads + Wait + Abort + Sync>(
             } else {
                 (one, zero)
             };
-            rounds(rt, shared, pass, &Sides { own, other })
+            rounds(rt, shared, pass, play, &Sides { own, other })
         },
     )?;
     assert!(rt; works.len() == 2);
     for Work { pass: _, good } in &works {
-        assert_eq!(rt; *good, ROUNDS);
+        assert_eq!(rt; *good, play.rounds());
     }
     Ok(())
 }
 
 #[test]
 fn younger_gives_way_wound_and_wait(rt: HostRuntime) -> Result<(), Fail> {
-    in_opposite_orders(&rt, rt.alloc(), Kind::WoundWait)
+    in_step(&rt, rt.alloc(), Kind::WoundWait, Play::Crossed)
 }
 
 #[test]
 fn younger_gives_way_wait_and_die(rt: HostRuntime) -> Result<(), Fail> {
-    in_opposite_orders(&rt, rt.alloc(), Kind::WaitDie)
+    in_step(&rt, rt.alloc(), Kind::WaitDie, Play::Crossed)
+}
+
+#[test]
+fn younger_waits_in_wound_and_wait(rt: HostRuntime) -> Result<(), Fail> {
+    let kind = Kind::WoundWait;
+    in_step(&rt, rt.alloc(), kind, Play::Asked(kind))
+}
+
+#[test]
+fn younger_dies_in_wait_and_die(rt: HostRuntime) -> Result<(), Fail> {
+    let kind = Kind::WaitDie;
+    in_step(&rt, rt.alloc(), kind, Play::Asked(kind))
 }

@@ -16,14 +16,17 @@ use std::test::Fail;
 use std::thread;
 use std::thread::Threads;
 use ww_lock::{Acquiring, Backoff, Done, History, Lock, Pass, Receipt, Solo, Try, World};
-use ww_plain::{By, Record, Txn, first_double, replays};
+use ww_plain::{By, Graph, Record, Txn, first_double, replays};
 use ww_queue::Kind;
 
 const ROUNDS: u32 = 2_000;
 
 const NODES: usize = 16;
 
-const FIRST_VALUES: [u64; NODES] = [5; NODES];
+/// The graph before all rounds.
+fn first_graph(alloc: Global) -> Result<Graph, AllocError> {
+    graph_of(alloc, &[(5, None); NODES])
+}
 
 /// What a thread remembers: its random numbers, the place and the number that each receipt told, what it added to each node,
 /// and how often something went wrong.
@@ -208,6 +211,16 @@ pub(crate) fn is_possible(world: &World, done: &Done, txn: &Txn) -> bool
     txn.fits(world.size()) && first_double(txn).is_none() && done.covers(world, txn)
 }
 
+/// Whether the transaction can be prepared with the only lock.
+pub(crate) fn is_possible_alone(world: &World, solo: &Solo, txn: &Txn) -> bool
+    requires home { IsAtHome solo.now world.now }
+    ensures fits { IsTrue result → Fits (length solo.now.seen) (transaction_of txn.now) }
+    ensures no_double { IsTrue result → HasNoDouble (transaction_of txn.now) }
+    ensures covers { IsTrue result → Covers solo.now (transaction_of txn.now) }
+{
+    txn.fits(world.size()) && first_double(txn).is_none() && solo.covers(world, txn)
+}
+
 /// Commits a transaction, if that is possible, and gives all back.
 pub(crate) fn commit<R: Wait>(
     rt: &R,
@@ -233,10 +246,7 @@ fn commit_alone<R: Wait>(rt: &R, world: &World, mut solo: Solo, add: Txn) -> (Pa
     requires home { IsAtHome solo world.now }
     ensures home { IsAtHome result.0 world.now }
 {
-    if !add.fits(world.size()) || first_double(&add).is_some() {
-        return (solo.unlock(rt, world), None);
-    }
-    if !solo.covers(world, &add) {
+    if !is_possible_alone(world, &solo, &add) {
         return (solo.unlock(rt, world), None);
     }
     let Ok(prepared) = solo.prepare(world, add) else {
@@ -427,7 +437,7 @@ fn check<R: Abort>(
             "node {n}"
         );
     }
-    match replays(alloc, graph_of(alloc, &FIRST_VALUES)?, &history.records)? {
+    match replays(alloc, first_graph(alloc)?, &history.records)? {
         Some(last) => assert!(rt; last.is_same(&history.graph)),
         None => panic!(rt; "the history isn't legal"),
     }
@@ -442,7 +452,7 @@ fn storm<R: Threads + Wait + Abort + Sync>(
     threads: u8,
     rounds: u32,
 ) -> Result<(), Fail> {
-    let graph = graph_of(alloc, &FIRST_VALUES)?;
+    let graph = first_graph(alloc)?;
     let Ok((world, passes)) = World::open(alloc, kind, graph, threads, rounds) else {
         return Err(Fail::from("it opens"));
     };

@@ -1,0 +1,12 @@
+use Rattle.std.proofs.Common.{arith, sym, subst}
+use Rattle.ww_table.specs.Rule.{Sat}
+use Rattle.ww_table.specs.Steps.{MayDraw}
+use Rattle.ww_seat.proofs.Starts.{new_settled}
+use Rattle.ww_low_tests.proofs.FirstSteps.{may_draw}
+use Rattle.ww_low_tests.proofs.rings.hold.Goals as goal
+
+pub begin-stamp-requires-clause-seat : goal.begin-stamp-requires-clause-seat
+begin-stamp-requires-clause-seat g c = new_settled _ _ c.requires.new.0 c.args.seat.now c.requires.new.1 (omega (arith, c.requires.size))
+
+pub begin-stamp-requires-clause-may : goal.begin-stamp-requires-clause-may
+begin-stamp-requires-clause-may g c = subst (λ (m : Sat). MayDraw m.0.part) (sym c.requires.new.1.me) (may_draw _ c.requires.new.0)

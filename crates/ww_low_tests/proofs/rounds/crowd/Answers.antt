@@ -1,0 +1,21 @@
+use Rattle.std.proofs.Common.{rules, ◌≡◌, ◌<◌, length, sym, subst, ◌∙◌, arith}
+use Rattle.std.proofs.lemmas.List.Elements.{recursion_from_All}
+use Rattle.ww_plain.proofs.GraphFacts.{all_item}
+use Rattle.ww_rounds.specs.Standing.{IsUnused}
+use Rattle.ww_rounds.proofs.Standing.{new_unused}
+use Rattle.ww_low_tests.proofs.Gathered.{all_come}
+use Rattle.ww_low_tests.proofs.rounds.crowd.Goals as goal
+
+pub map_vec-requires-after_bounds : goal.map_vec-requires-after_bounds
+map_vec-requires-after_bounds g c = λ κs live i x lt is. let board = c.in-Ok.board in
+    subst (IsUnused board) (sym is) (all_item (IsUnused board) c.in-Ok.seats.items i x lt (new_unused _ _ _ board c.in-Ok.seats.items board.few c.in-Ok.ensures.ok))
+
+pub apart-requires : goal.apart-requires
+apart-requires g c = recursion_from_All _ c.in_ok-works.works.items (λ i d lt.
+    let count : i < length c.in-Ok.seats.items = omega (arith, lt, c.in_ok-works.ensures.len) in
+    let job = (c.in_ok-works.ensures.each i d count).1 in
+    job.call.met)
+
+pub closed-requires : goal.closed-requires
+closed-requires g c = let count : length c.in_ok-seats.seats.items ≡ c.args.threads = search rules in
+    all_come c.in-Ok.board c.in_ok-seats.seats.items c.in_ok-seats.ensures (count ∙ sym c.in-Ok.ensures.ok.count_is)

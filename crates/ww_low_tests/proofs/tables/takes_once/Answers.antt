@@ -1,0 +1,21 @@
+use Rattle.std.proofs.Common.{arith, ◌≡◌, ℕ, [], ◌∷◌, length, replicate, refl, sym, ap, ◌∙◌, subst, Some, None}
+use lib.ListN.{get_elem?, length-replicate}
+use Rattle.atomic_table.proofs.Lists.{set_here}
+use Rattle.ww_view.specs.View.{owns, IsAway}
+use Rattle.ww_view.specs.May.{MayFast}
+use Rattle.ww_table.specs.declared.cells.Sight.{Sight}
+use Rattle.ww_table.specs.Rule.{Sat, first_graph, first_part}
+use Rattle.ww_table.specs.Steps.{MayDraw, seat_of, drawing, taking}
+use Rattle.ww_table.specs.Seat.{slot_of}
+use Rattle.ww_low_tests.proofs.FirstSteps.{may_draw, may_fast}
+use Rattle.ww_low_tests.proofs.tables.takes_once.Goals as goal
+
+pub draw-requires-clause-may : goal.draw-requires-clause-may
+draw-requires-clause-may c = subst (λ (m : Sat). MayDraw m.0.part) (sym c.requires.new.1.me) (may_draw _ c.requires.new.0)
+
+pub take_free-requires-clause-may : goal.take_free-requires-clause-may
+take_free-requires-clause-may c = let d = c.draw.ensures in let view = ap (λ (m : Sat). m.0) d.drew ∙ ap (λ (m : Sat). drawing m.0 c.draw.result) c.requires.new.1.me in
+    subst (λ (v : Sight). MayFast v.part.core) (sym view) (may_fast _ c.requires.new.0 c.draw.result d.context)
+
+pub take_free-requires-clause-room : goal.take_free-requires-clause-room
+take_free-requires-clause-room c = let long = ap (λ (m : Sat). length m.1) c.draw.ensures.drew ∙ ap (λ (m : Sat). length m.1) c.requires.new.1.me in omega arith

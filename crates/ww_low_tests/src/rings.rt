@@ -1,0 +1,207 @@
+//! The ring of two contexts, by one thread with both seats of a board: each holds a lock and looks at the other's. After each
+//! call all words of the board are compared.
+
+ghost use Rattle.std.specs.Prelude.{ℕ, ◌≡◌, ◌<◌, Bool, List, false, true, slice_index_or, slice_set, IfOk};
+ghost use Rattle.ww_queue.specs.declared.kind.Kind.{Kind};
+ghost use Rattle.ww_table.specs.Seat.{IsNew};
+ghost use Rattle.ww_rounds.specs.Resting.{size_of};
+ghost use Rattle.ww_low_tests.specs.Looking.{Owns, Holds, MayLook, just};
+
+use crate::plain::{graph_of, node};
+use std::alloc::{AllocError, Global};
+use std::process::Abort;
+use std::sync::Wait;
+use std::test::Fail;
+use ww_queue::Kind;
+use ww_seat::{Look, begin, end, give, try_take, visit};
+use ww_table::{Board, Seat16};
+
+/// The words that two locks and two seats use: owners, guards, signs, the stamp word and the front word.
+fn words(board: &Board) -> [u64; 8] {
+    [
+        board.peek(0),
+        board.peek(1),
+        board.peek(64),
+        board.peek(65),
+        board.peek(128),
+        board.peek(129),
+        board.peek(144),
+        board.peek(145),
+    ]
+}
+
+/// Stops the test where a word of the board is another than these: the first owners, the sign of seat 1, the stamp word and
+/// the front word. All others are 0.
+pub(crate) fn compare<R: Abort>(
+    rt: &R,
+    board: &Board,
+    owners: [u64; 2],
+    sign: u64,
+    counts: [u64; 2],
+) {
+    let [zero, one] = owners;
+    let [stamp, front] = counts;
+    assert_eq!(rt; words(board), [zero, one, 0, 0, 0, sign, stamp, front]);
+    for word in 0..146 {
+        let is_used = matches!(word, 0 | 1 | 64 | 65 | 128 | 129 | 144 | 145);
+        assert!(rt; is_used || board.peek(word) == 0);
+    }
+}
+
+/// A board of two nodes, with its two seats.
+pub(crate) fn two_seats(alloc: Global, kind: Kind) -> Result<(Board, Seat16, Seat16), AllocError>
+    ensures size { IfOk result (λ r. size_of r.0 ≡ 2) }
+    ensures count { IfOk result (λ r. r.0.table.shared.key.seats ≡ 2) }
+    ensures kind { IfOk result (λ r. r.0.table.shared.key.kind ≡ kind) }
+    ensures zero { IfOk result (λ r. (k : ℕ) × IsNew r.0.table.shared.table_id r.0.table.shared.key k r.1) }
+    ensures one { IfOk result (λ r. (k : ℕ) × IsNew r.0.table.shared.table_id r.0.table.shared.key k r.2) }
+    ensures numbers { IfOk result (λ r. (r.1.who ≡ 0) × (r.2.who ≡ 1)) }
+{
+    let graph = graph_of(alloc, &[node(0, None); 2])?;
+    let Ok((board, mut seats)) = Board::make(alloc, kind, graph, 2) else {
+        return Err(AllocError);
+    };
+    let (Some(one), Some(zero)) = (seats.pop(), seats.pop()) else {
+        return Err(AllocError);
+    };
+    if board.size() != 2 {
+        return Err(AllocError);
+    }
+    Ok((board, zero, one))
+}
+
+/// Begins a context, and takes a lock that is free.
+fn hold<R: Abort>(rt: &R, board: &Board, seat: &mut Seat16, kind: Kind, lock: u8, before: [u64; 2])
+    requires size { size_of board.now ≡ 2 }
+    requires kind { board.now.table.shared.key.kind ≡ kind }
+    requires new { (k : ℕ) × IsNew board.now.table.shared.table_id board.now.table.shared.key k seat.old }
+    requires lock { lock < 2 }
+    ensures { Holds board.now kind (just lock) seat.new }
+{
+    let stamp = begin(seat, board);
+    compare(rt, board, before, 0, [stamp, 0]);
+    let Some(_) = try_take(seat, board, kind, lock) else {
+        panic!(rt; "the lock was free")
+    };
+}
+
+/// Looks at a lock for the first time, and comes to stand in its wait list.
+fn wait<R: Wait + Abort>(rt: &R, board: &Board, seat: &mut Seat16, kind: Kind, lock: u8)
+    requires may { (o : List Bool) × MayLook board.now kind o lock false seat.old }
+    requires lock { lock < size_of board.now }
+    ensures { (o : List Bool) → Owns board.now kind o seat.old → MayLook board.now kind o lock true seat.new }
+{
+    match visit(rt, seat, board, kind, lock, false, &[]) {
+        Look::Waits => {}
+        Look::Locked(_) | Look::Deadlk(_) => panic!(rt; "it has to wait"),
+    }
+}
+
+/// Looks at a lock, and is told the older stamp for which it has to die.
+fn back_off<R: Wait + Abort>(
+    rt: &R,
+    board: &Board,
+    seat: &mut Seat16,
+    kind: Kind,
+    lock: u8,
+    is_later: bool,
+) -> u64
+    requires may { (o : List Bool) × MayLook board.now kind o lock is_later seat.old }
+    requires lock { lock < size_of board.now }
+    ensures { (o : List Bool) → Owns board.now kind o seat.old → Holds board.now kind o seat.new }
+{
+    match visit(rt, seat, board, kind, lock, is_later, &[]) {
+        Look::Deadlk(met) => met,
+        Look::Locked(_) | Look::Waits => panic!(rt; "it has to die"),
+    }
+}
+
+/// Looks again at a lock, and takes it.
+fn take<R: Wait + Abort>(rt: &R, board: &Board, seat: &mut Seat16, kind: Kind, lock: u8)
+    requires may { (o : List Bool) × MayLook board.now kind o lock true seat.old }
+    requires lock { lock < size_of board.now }
+{
+    match visit(rt, seat, board, kind, lock, true, &[]) {
+        Look::Locked(_) => {}
+        Look::Deadlk(_) | Look::Waits => panic!(rt; "the lock is free"),
+    }
+}
+
+/// Both contexts, each with its lock: the older has node 0, the younger node 1.
+fn tied<R: Abort>(rt: &R, alloc: Global, kind: Kind) -> Result<(Board, Seat16, Seat16), AllocError>
+    ensures size { IfOk result (λ r. size_of r.0 ≡ 2) }
+    ensures older { IfOk result (λ r. Holds r.0 kind (just 0) r.1) }
+    ensures younger { IfOk result (λ r. Holds r.0 kind (just 1) r.2) }
+{
+    let (board, mut older, mut younger) = two_seats(alloc, kind)?;
+    compare(rt, &board, [0, 0], 0, [0, 0]);
+    hold(rt, &board, &mut older, kind, 0, [0, 0]);
+    compare(rt, &board, [264, 0], 0, [1, 0]);
+    hold(rt, &board, &mut younger, kind, 1, [264, 0]);
+    compare(rt, &board, [264, 528], 0, [2, 0]);
+    Ok((board, older, younger))
+}
+
+/// The younger, which has backed off, gives its lock back; the older takes it; and the younger ends, with its sign or none.
+fn untie<R: Wait + Abort>(
+    rt: &R,
+    board: &Board,
+    kind: Kind,
+    older: &mut Seat16,
+    younger: &mut Seat16,
+    sign: u64,
+)
+    requires size { size_of board.now ≡ 2 }
+    requires older { MayLook board.now kind (just 0) 1 true older.old }
+    requires younger { Holds board.now kind (just 1) younger.old }
+{
+    compare(rt, board, [264, 529], sign, [2, 0]);
+    give(rt, younger, board, 1, &[]);
+    compare(rt, board, [264, 1], sign, [2, 0]);
+    take(rt, board, older, kind, 1);
+    compare(rt, board, [264, 264], sign, [2, 0]);
+    end(younger, board);
+    compare(rt, board, [264, 264], 0, [2, 0]);
+}
+
+/// The older looks first, and waits. The younger has to die at its first look.
+fn older_first<R: Wait + Abort>(
+    rt: &R,
+    alloc: Global,
+    kind: Kind,
+    sign: u64,
+) -> Result<(), AllocError> {
+    let (board, mut older, mut younger) = tied(rt, alloc, kind)?;
+    wait(rt, &board, &mut older, kind, 1);
+    compare(rt, &board, [264, 529], sign, [2, 0]);
+    assert_eq!(rt; back_off(rt, &board, &mut younger, kind, 0, false), 1);
+    untie(rt, &board, kind, &mut older, &mut younger, sign);
+    Ok(())
+}
+
+/// Both come to wait, and the older, which comes last, signs the younger: it has to die at its second look.
+#[test]
+fn a_ring_is_undone_by_a_sign(rt: HostRuntime) -> Result<(), Fail> {
+    let kind = Kind::WoundWait;
+    let (board, mut older, mut younger) = tied(&rt, rt.alloc(), kind)?;
+    wait(&rt, &board, &mut younger, kind, 0);
+    compare(&rt, &board, [265, 528], 0, [2, 0]);
+    wait(&rt, &board, &mut older, kind, 1);
+    compare(&rt, &board, [265, 529], 1, [2, 0]);
+    let met = back_off(&rt, &board, &mut younger, kind, 0, true);
+    assert_eq!(rt; met, 1);
+    untie(&rt, &board, kind, &mut older, &mut younger, 1);
+    Ok(())
+}
+
+#[test]
+fn a_wounded_context_never_waits(rt: HostRuntime) -> Result<(), Fail> {
+    older_first(&rt, rt.alloc(), Kind::WoundWait, 1)?;
+    Ok(())
+}
+
+#[test]
+fn a_younger_context_never_waits(rt: HostRuntime) -> Result<(), Fail> {
+    older_first(&rt, rt.alloc(), Kind::WaitDie, 0)?;
+    Ok(())
+}

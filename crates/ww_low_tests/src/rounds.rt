@@ -1,0 +1,214 @@
+//! Threads that try for two nodes of one table at once. What is asked at the end is the same whatever the schedule.
+
+ghost use Rattle.std.specs.Prelude.{◌≡◌, ◌≤◌, IfOk, IfSome};
+ghost use Rattle.std.specs.List.{AllByRecursion};
+ghost use Rattle.ww_rounds.specs.Standing.{Did, IsUnused, at_rest};
+ghost use Rattle.ww_table.specs.Closed.{HasCome};
+ghost use Rattle.ww_low_tests.specs.Gathered.{HaveCome};
+
+use crate::plain::{graph_of, node};
+use crate::rings::compare;
+use crate::tables::closed;
+use std::alloc::{AllocError, Global};
+use std::process::Abort;
+use std::test::Fail;
+use std::thread;
+use std::thread::Threads;
+use ww_plain::{Graph, Node};
+use ww_queue::Kind;
+use ww_rounds::{Tally, round_of_two};
+use ww_table::{Board, Seat16};
+
+const TRIES: u32 = 1_000;
+
+/// What a thread made: the place of each of its commits, and how much each node has more by them.
+#[derive(Drop)]
+struct Made {
+    places: Vec<u64>,
+    added: [u64; 8],
+}
+
+impl Made {
+    fn new(alloc: Global) -> Made {
+        Made {
+            places: Vec::new(alloc),
+            added: [0; 8],
+        }
+    }
+
+    /// Notes a commit of two nodes.
+    fn note(&mut self, place: u64, first: u8, second: u8) -> Result<(), AllocError> {
+        self.places.push(place)?;
+        for node in [first, second] {
+            if let Some(more) = self.added.get_mut(usize::from(node)) {
+                *more = more.saturating_add(1);
+            }
+        }
+        Ok(())
+    }
+}
+
+/// What a thread gives back.
+#[derive(Drop)]
+struct Work {
+    seat: Seat16,
+    tally: Tally,
+    made: Made,
+}
+
+/// All tries of a thread, each for two nodes that follow one another; nothing where one couldn't be ended.
+fn tries(board: &Board, alloc: Global, mut seat: Seat16) -> Option<Work>
+    requires unused { IsUnused board.now seat }
+    ensures { IfSome result (λ w. Did board.now (at_rest w.tally) w.seat) }
+{
+    let pairs = board.size().checked_sub(1)?;
+    let mut made = Made::new(alloc);
+    let mut tally = Tally {
+        who: seat.who(),
+        draws: 0,
+        commits: 0,
+    };
+    for at in 0..TRIES {
+        let first = at.checked_rem(u32::from(pairs))? as u8;
+        let second = first + 1;
+        let tried = round_of_two(board, &mut seat, alloc, tally, first, second)?;
+        tally = tried.0;
+        if let Some(place) = tried.1 {
+            made.note(place, first, second).ok()?;
+        }
+    }
+    Some(Work { seat, tally, made })
+}
+
+/// The same, where each try has to be ended.
+fn all_tries<R: Abort>(rt: &R, board: &Board, alloc: Global, seat: Seat16) -> Work
+    requires unused { IsUnused board.now seat }
+    ensures { HasCome board.now.table.shared.table_id result.seat }
+{
+    match tries(board, alloc, seat) {
+        Some(work) => work,
+        None => panic!(rt; "a try wasn't ended"),
+    }
+}
+
+/// The next seat comes back.
+fn come<R: Abort>(
+    rt: &R,
+    _board: &Board,
+    seats: &mut Vec<Seat16>,
+    seat: Seat16,
+) -> Result<(), AllocError>
+    requires come { HaveCome _board.now seats.old.items }
+    requires next { HasCome _board.now.table.shared.table_id seat }
+    ensures { IfOk result (λ _. HaveCome _board.now seats.new.items) }
+{
+    if usize::from(seat.who()) != seats.len() {
+        panic!(rt; "the seats are out of order");
+    }
+    seats.push(seat)?;
+    Ok(())
+}
+
+/// Takes what the threads gave back apart, where the seats come in the order of their numbers.
+fn apart<R: Abort>(
+    rt: &R,
+    board: &Board,
+    alloc: Global,
+    works: Vec<Work>,
+) -> Result<(Vec<Seat16>, Vec<Made>), AllocError>
+    requires { AllByRecursion (λ w. HasCome board.now.table.shared.table_id w.seat) works.items }
+    ensures { IfOk result (λ r. HaveCome board.now r.0.items) }
+{
+    let mut seats = Vec::new(alloc);
+    let mut all = Vec::new(alloc);
+    for Work {
+        seat,
+        tally: _,
+        made,
+    } in works {
+        come(rt, board, &mut seats, seat)?;
+        all.push(made)?;
+    }
+    Ok((seats, all))
+}
+
+/// How many commits the threads made; each place below that number has one.
+fn count<R: Abort>(rt: &R, alloc: Global, all: &[Made]) -> Result<usize, AllocError> {
+    let mut count = 0usize;
+    for made in all {
+        count = count.saturating_add(made.places.len());
+    }
+    let mut seen = Vec::new(alloc);
+    for _ in 0..count {
+        seen.push(false)?;
+    }
+    for made in all {
+        for place in &made.places {
+            match seen.get_mut(*place as usize) {
+                Some(is_seen) => {
+                    assert!(rt; !*is_seen);
+                    *is_seen = true;
+                }
+                None => panic!(rt; "a place was left out"),
+            }
+        }
+    }
+    Ok(count)
+}
+
+/// Whether each node has what the threads added to it.
+fn has_sums(graph: &Graph, all: &[Made]) -> bool {
+    for n in 0..graph.size() {
+        let mut sum = 0u64;
+        for made in all {
+            sum = sum.saturating_add(made.added.get(usize::from(n)).copied().unwrap_or(0));
+        }
+        if graph.node(n).value != sum {
+            return false;
+        }
+    }
+    true
+}
+
+/// So many threads at once, with a seat each, on these nodes.
+fn crowd<R: Threads + Abort + Sync>(
+    rt: &R,
+    alloc: Global,
+    threads: u8,
+    nodes: &[Node],
+) -> Result<(), Fail>
+    requires { (1 ≤ threads) × (threads ≤ 16) }
+{
+    let graph = graph_of(alloc, nodes)?;
+    let Ok((board, seats)) = Board::make(alloc, Kind::WoundWait, graph, threads) else {
+        return Err(Fail::from("it is made"));
+    };
+    let shared = &board;
+    let works = thread::map_vec(
+        rt,
+        seats,
+        &|seat: Seat16| -> Work
+            requires { IsUnused shared.now seat }
+            ensures { HasCome shared.entry.now.table.shared.table_id result.seat }
+        { all_tries(rt, shared, alloc, seat) },
+    )?;
+    let (seats, all) = apart(rt, &board, alloc, works)?;
+    assert!(rt; seats.len() == usize::from(threads));
+    let count = count(rt, alloc, &all)?;
+    let draws = u64::from(threads) * u64::from(TRIES);
+    compare(rt, &board, [0, 0], 0, [draws, count as u64]);
+    let (records, graph) = closed(board, seats)?;
+    assert!(rt; records.len() == count && count > 0);
+    assert!(rt; has_sums(&graph, &all));
+    Ok(())
+}
+
+#[test]
+fn two_threads_on_two_nodes(rt: HostRuntime) -> Result<(), Fail> {
+    crowd(&rt, rt.alloc(), 2, &[node(0, None); 2])
+}
+
+#[test]
+fn four_threads_on_eight_nodes(rt: HostRuntime) -> Result<(), Fail> {
+    crowd(&rt, rt.alloc(), 4, &[node(0, None); 8])
+}

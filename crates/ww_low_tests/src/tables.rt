@@ -1,0 +1,96 @@
+//! Tables of words and slots.
+
+ghost use Rattle.std.specs.Prelude.{◌<◌, ℕ, length, IfOk};
+ghost use Rattle.ww_table.specs.Rule.{first_graph};
+ghost use Rattle.ww_table.specs.Seat.{IsNew};
+ghost use Rattle.ww_table.specs.Made.{IsMade};
+ghost use Rattle.ww_table.specs.Closed.{HaveAllCome};
+
+use crate::growths::{is_pair, pair};
+use crate::plain::{graph_of, node};
+use std::alloc::{AllocError, Global};
+use std::test::Fail;
+use ww_plain::{Graph, Record};
+use ww_queue::Kind;
+use ww_table::{Board, Seat16};
+
+/// A table with 16 seats. Where a growth is refused, the graph that came back is tried once more.
+fn made(
+    alloc: Global,
+    kind: Kind,
+    graph: Graph,
+) -> Result<(Board, Vec<Seat16>), (Graph, AllocError)>
+    ensures { IfOk result (λ r. IsMade kind graph 16 r.0 r.1.items) }
+{
+    match Board::make(alloc, kind, graph, 16) {
+        Ok(made) => Ok(made),
+        Err((graph, _)) => Board::make(alloc, kind, graph, 16),
+    }
+}
+
+/// Closes the table. Where a growth is refused, what came back is tried once more.
+pub(crate) fn closed(board: Board, seats: Vec<Seat16>) -> Result<(Vec<Record>, Graph), AllocError>
+    requires { HaveAllCome board.table.shared.table_id board.table.shared.key seats.items }
+{
+    match board.close(seats) {
+        Ok(closed) => Ok(closed),
+        Err((board, seats, _)) => board.close(seats).map_err(|_| AllocError),
+    }
+}
+
+/// What closing gives of a table of nodes of 7 and 9 whose seats did nothing.
+fn at_once(alloc: Global, kind: Kind) -> Result<(Vec<Record>, Graph), AllocError> {
+    let graph = pair(alloc)?;
+    let (board, seats) = match made(alloc, kind, graph) {
+        Ok(made) => made,
+        Err((_, error)) => return Err(error),
+    };
+    closed(board, seats)
+}
+
+/// `bench/refuse_library_growths` refuses each growth of making and closing in turn: all comes back then.
+#[test]
+fn makes_and_closes_at_once(rt: HostRuntime) -> Result<(), Fail> {
+    for kind in [Kind::WoundWait, Kind::WaitDie] {
+        let (records, graph) = at_once(rt.alloc(), kind)?;
+        assert!(rt; records.is_empty() && is_pair(&graph));
+    }
+    Ok(())
+}
+
+/// A context takes node 0 and gives it back: the owner word in between, and whether both tries won.
+fn takes_once(board: &Board, seat: &mut Seat16) -> (u64, bool)
+    requires node { 0 < length (first_graph board.now.table.shared.key) }
+    requires new { (k : ℕ) × IsNew board.now.table.shared.table_id board.now.table.shared.key k seat.old }
+{
+    seat.draw(board);
+    if !seat.take_free(board, 0) {
+        return (0, false);
+    }
+    let word = board.peek(0);
+    let gave = seat.give_free(board, 0);
+    (word, gave)
+}
+
+/// The last seat of a table of two nodes takes node 0 and gives it back.
+fn last_takes_once(alloc: Global) -> Result<(u64, bool), AllocError> {
+    let graph = graph_of(alloc, &[node(0, None); 2])?;
+    if graph.size() == 0 {
+        return Err(AllocError);
+    }
+    let (board, mut seats) = match made(alloc, Kind::WoundWait, graph) {
+        Ok(made) => made,
+        Err((_, error)) => return Err(error),
+    };
+    let Some(mut seat) = seats.pop() else {
+        return Err(AllocError);
+    };
+    Ok(takes_once(&board, &mut seat))
+}
+
+#[test]
+fn takes_and_gives_at_once(rt: HostRuntime) -> Result<(), Fail> {
+    let (word, gave) = last_takes_once(rt.alloc())?;
+    assert!(rt; word == 8 * 16 + 256 && gave);
+    Ok(())
+}
