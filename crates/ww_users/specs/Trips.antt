@@ -9,7 +9,7 @@ use Rattle.ww_plain.specs.Walk.{walk_of}
 use Rattle.ww_lock.specs.Holding.{Holding, Refused, Holds}
 use Rattle.ww_users.specs.declared.trip.Trip.{Trip}
 use Rattle.ww_users.specs.declared.trip.Trip.TheVariants.{Through, Already, Deadlk}
-use Rattle.ww_users.specs.Ways.{HoldsExactly}
+use Rattle.ww_users.specs.Ways.{HoldsExactly, in_order}
 
 -- the same context, which may hold other locks, after some tries more to take one
 pub record IsSameContext (s a : Holding) : Type 0 where
@@ -39,11 +39,11 @@ pub record IsContended (list : List ℕ) (b : Refused) (position : ℕ) : Type 0
   pub entry : slice_get list position ≡ Some b.contended
   pub different : AreDifferent (take (position + 1) list)
 
--- How a trip through a list ended: with all of it locked, at its first double, or with EDEADLK.
-abbrev pub IsTrip : Holding → List ℕ → Trip → Type 0
-IsTrip s list (Through a) = IsSameContext s a × HoldsExactly list a × FirstDouble list None
-IsTrip s list (Already a n) = IsSameContext s a × FirstDouble list (Some n)
-IsTrip s list (Deadlk b position) = IsSameContext s b.holding × IsContended list b position
+-- How a trip through a list ended: with all of it locked in its order, at its first double, or with EDEADLK.
+abbrev pub IsTrip : Holding → List ℕ → Option ℕ → Trip → Type 0
+IsTrip s list kept (Through a) = IsSameContext s a × HoldsExactly list a × FirstDouble list None × (a.held ≡ in_order kept list)
+IsTrip s list kept (Already a n) = IsSameContext s a × FirstDouble list (Some n)
+IsTrip s list kept (Deadlk b position) = IsSameContext s b.holding × IsContended list b position
 
 -- the same entries in another order, with the same first double
 pub record IsReordered (list order : List ℕ) : Type 0 where

@@ -1,5 +1,6 @@
 -- What the three ways of taking many locks give.
-use Rattle.std.specs.Prelude.{ℕ, ◌≡◌, ◌≤◌, ◌-◌, [], List, length, Some}
+use Rattle.std.specs.Prelude.{ℕ, ◌≡◌, ◌≤◌, ◌-◌, ◌==◌, ◌∷◌, [], not, List, length, Option, None, Some}
+use Rattle.std.specs.List.{filter}
 use Rattle.ww_plain.specs.Numbers.{is_among}
 use Rattle.ww_plain.specs.Transaction.{FirstDouble}
 use Rattle.ww_lock.specs.Holding.{Holding}
@@ -22,6 +23,15 @@ pub record IsContext (s a : Holding) : Type 0 where
 -- it holds the nodes of the list, and no others
 abbrev pub HoldsExactly : List ℕ → Holding → Type 0
 HoldsExactly list a = (n : ℕ) → is_among n a.held ≡ is_among n list
+
+-- the list's entries in its order; where a node was kept from a slow lock, that one first, and its entry skipped
+abbrev pub in_order : Option ℕ → List ℕ → List ℕ
+in_order None list = list
+in_order (Some kept) list = kept ∷ filter (λ n. not (n == kept)) list
+
+-- it took the nodes in the order of the list, but for the one that was contended last, if any was
+abbrev pub TookInOrder : List ℕ → Holding → Type 0
+TookInOrder list a = (kept : Option ℕ) × (a.held ≡ in_order kept list)
 
 -- why the nodes of the list were not locked: the budget is looked at first
 abbrev pub IsUserFault : Holding → List ℕ → Holding → UserFault → Type 0

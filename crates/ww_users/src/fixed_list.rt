@@ -2,7 +2,7 @@ ghost use Rattle.std.specs.Prelude.{◌≡◌, ◌≤◌, ◌<◌, None, length,
 ghost use Rattle.std.specs.List.{AllByRecursion};
 ghost use Rattle.ww_plain.specs.Transaction.{FirstDouble};
 ghost use Rattle.ww_lock.specs.Holding.{IsAtHome};
-ghost use Rattle.ww_users.specs.Ways.{IsContext, HoldsExactly, IsUserFault};
+ghost use Rattle.ww_users.specs.Ways.{IsContext, HoldsExactly, TookInOrder, IsUserFault};
 
 use crate::context::back_off;
 use crate::fault::UserFault;
@@ -25,6 +25,7 @@ pub fn lock_list<R: Wait>(
     requires nodes { AllByRecursion (λ n. n < length world.now.first) list.now }
     ensures context { IfOk result (IsContext pass) }
     ensures holds { IfOk result (HoldsExactly list.now) }
+    ensures order { IfOk result (TookInOrder list.now) }
     ensures no_double { IfOk result (λ _. FirstDouble list.now None) }
     ensures err { IfErr result (λ e. IsUserFault pass list.now e.0 e.1) }
     ensures room { IfErr result (λ e. e.0.room ≡ pass.room) }

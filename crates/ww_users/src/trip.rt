@@ -29,7 +29,7 @@ pub(crate) fn lock_entries<R: Wait>(
     requires home { IsAtHome acquiring world.now }
     requires nodes { AllByRecursion (λ n. n < length world.now.first) list.now }
     requires kept { HoldsKept kept list.now acquiring }
-    ensures { IsTrip acquiring list.now result }
+    ensures { IsTrip acquiring list.now kept result }
 {
     let mut acquiring = acquiring;
     let mut kept = kept;
