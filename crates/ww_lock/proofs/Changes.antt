@@ -1,5 +1,6 @@
 -- What is prepared, and what its commit makes of a state.
 use Rattle.std.proofs.Common.{◌≡◌, ℕ, zero, suc, ◌+◌, ◌-◌, ◌<◌, ◌≤◌, ◌^◌, ◌||◌, ◌∙◌, Bool, List, [], ◌∷◌, ◌++◌, length, length-append, map, fold, get_or, true, false, inl, inr, Option, Some, None, slice_get, refl, sym, ap, subst, arith}
+use Rattle.std.specs.Prelude.{vec_len, vec_capacity}
 use Rattle.std.specs.List.{AllByRecursion}
 use Rattle.std.proofs.lemmas.List.{length-map, map-append}
 use mathlib.Core.Option.{some}
@@ -152,13 +153,14 @@ below_as place (r ∷ rs) all = (all.0, below_as place rs all.1)
 
 pub commits : (h : Hand) (w pl : Place) (q : Seat16) (p : Change) (r : Record) (after : List Node) (ns : List ℕ) (told : Receipt) → pl ≡ w → IsAtHome (holding_of h) w → CarriesFresh h
     → IsSettled pl.home (length pl.first) q → HasCommitted h.seat.seat.me told.place r after ns q.seat.me → recorded_of r ≡ record { caller = h.seat.who; seq = length h.seat.records.items; transaction = p.transaction; answer = p.answer }
-    → told.seq ≡ length h.seat.records.items → answer_of told.reply ≡ p.answer → Commits h (record h { seat = q }) p told
-commits h w pl q p r after ns told is home f settled b same seq reply =
+    → told.seq ≡ length h.seat.records.items → answer_of told.reply ≡ p.answer → vec_capacity q.records ≡ vec_capacity h.seat.records → Commits h (record h { seat = q }) p told
+commits h w pl q p r after ns told is home f settled b same seq reply capacity =
     let c = f.carries in
     let g : Hand = record h { seat = q } in
     let t = at_table (holding_of h) w pl is home in
     let records : q.records.items ≡ h.seat.records.items ++ (told.place, r) ∷ [] = settled.seated.records ∙ b.own ∙ ap (λ l. l ++ (told.place, r) ∷ []) (sym c.settled.seated.records) in
     let many : length q.records.items ≡ length h.seat.records.items + 1 = ap length records ∙ length-append h.seat.records.items ((told.place, r) ∷ []) in
+    let room : vec_capacity q.records - vec_len q.records ≡ vec_capacity h.seat.records - vec_len h.seat.records - 1 = omega (arith, many, capacity) in
     let table : q.seat.table_id ≡ h.seat.seat.table_id = settled.seated.home ∙ sym t.0 in
     let who : q.who ≡ h.seat.who = sym settled.seated.who ∙ b.who ∙ c.settled.seated.who in
     let stamp : q.stamp ≡ h.seat.stamp = sym settled.seated.stamp ∙ b.stamp ∙ c.settled.seated.stamp in
@@ -177,7 +179,7 @@ commits h w pl q p r after ns told is home f settled b same seq reply =
         commits = omega (arith, many, f.commits);
       };
       is = record {
-        own = rw (table, who, stamp, own, b.tries) refl;
+        own = rw (table, who, stamp, own, room, b.tries) refl;
         above = below_as told.place h.seat.records.items (subst (AllByRecursion (λ x. x.0 < told.place)) (sym c.settled.seated.records) b.above);
         seq = seq ∙ sym size;
         reply = reply;

@@ -74,11 +74,11 @@ IsTryAnswer s n (try.Locked a) = IsTaken s n a
 IsTryAnswer s n (try.Busy a) = HasTried s a
 
 -- One record more in the own list, of this caller and of the next number, with the transaction and the answer that were
--- prepared. Its place, which the receipt tells, is above all before.
+-- prepared, in the room that was made for it. Its place, which the receipt tells, is above all before.
 pub record IsCommitted (s : Holding) (p : Change) (a : Holding) (told : Receipt) : Type 0 where
   pub own : a ≡ record s {
     own = s.own ++ (told.place, record { caller = s.caller; seq = length s.own; transaction = p.transaction; answer = p.answer }) ∷ [];
-    room = a.room;
+    room = s.room - 1;
   }
   pub above : AreBelow told.place s.own
   pub seq : told.seq ≡ length s.own

@@ -25,6 +25,7 @@ fn change(seat: &mut Seat16, board: &Board, after: &Graph, nodes: &[u8])
     requires owned { (n : ℕ) → IsTrue (is_among n nodes.now) → owns seat.old.seat.me.0.part.core n ≡ true }
     ensures seat { IsSeated board.now.table.shared.table_id seat.new }
     ensures view { seat.new.seat.me.0 ≡ seat.old.seat.me.0 }
+    ensures records { seat.new.records ≡ seat.old.records }
     ensures changed { (held : List (Option Node)) → IsOrderly (length after.now) (naming seat.old.seat.me held) → IsChanged (length after.now) held after.now nodes.now seat.new.seat.me }
 {
     for node in nodes {
@@ -62,6 +63,7 @@ pub fn commit(
     requires reserved { vec_len seat.old.records < vec_capacity seat.old.records }
     ensures seat { IsSettled board.now.table.shared.table_id (length (first_graph board.now.table.shared.key)) seat.new }
     ensures committed { HasCommitted seat.old.seat.me result done after.now nodes.now seat.new.seat.me }
+    ensures capacity { vec_capacity seat.new.records ≡ vec_capacity seat.old.records }
 {
     see(before);
     let place = seat.place(board, done);

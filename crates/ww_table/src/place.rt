@@ -47,6 +47,7 @@ impl Seat16 {
         ensures seat { IsSeated board.now.table.shared.table_id self.new }
         ensures placed { self.new.seat.me ≡ (placing self.old.seat.me.0 result done, self.old.seat.me.1) }
         ensures above { AllByRecursion (λ p. p.0 < result) self.old.seat.me.0.part.own }
+        ensures capacity { vec_capacity self.new.records ≡ vec_capacity self.old.records }
     {
         let place = place_said::<Brand>(&mut self.seat, board, &done);
         self.records.push_reserved((place, done));

@@ -22,6 +22,7 @@ pub loop-node-preserved : goal.loop-node-preserved
 loop-node-preserved c = let t = c.swap_node.ensures.swapped in record {
   seated = c.swap_node.ensures.seat;
   view = ap (λ (z : Sat). z.0) t.2 ∙ c.loop-node.invariant.view;
+  records = c.swap_node.ensures.records ∙ c.loop-node.invariant.records;
   changed = λ held was. changed_next (length c.args.after.now) held c.args.after.now c.args.nodes.now c.loop-node.node-index c.loop-node.seat.seat.me c.swap_node.new.self.seat.me c.swap_node.result c.node.result c.loop-node-test.true
       (c.loop-node.invariant.changed held was)
       (own_next c.loop-node.seat.seat.me.0 c.args.seat.now.seat.me.0 c.args.nodes.now c.loop-node.node-index c.loop-node-test.true c.loop-node.invariant.view c.requires.owned)

@@ -34,5 +34,5 @@ returns c =
     let g : Hand = record (c.args.self.now) { seat = c.commit-place.new.seat } in
     let told : Receipt = record { place = c.commit-place.result; seq = c.commits-seq.result; reply = i.reply } in
     let b = commits c.args.self.now c.args.world.now _ c.commit-place.new.seat p r _ _ told c.world.view_is c.requires.home c.requires.fresh e.seat e.committed
-    (rw (c.who.ensures, c.commits-seq.ensures) refl) c.commits-seq.ensures c.prepared.invariant.reply in
+    (rw (c.who.ensures, c.commits-seq.ensures) refl) c.commits-seq.ensures c.prepared.invariant.reply e.capacity in
     record { carries = b.carries; committed = subst (λ (q : Change). IsCommitted (holding_of c.args.self.now) q (holding_of g) told) c.prepared.view_is b.is }
