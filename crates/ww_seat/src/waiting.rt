@@ -9,14 +9,14 @@ ghost use Rattle.ww_seat.specs.Looks.{IsOutside, IsLook};
 
 use crate::fast::try_take;
 use crate::guard::enter;
-use crate::look::{Look, is_ours, look_at};
+use crate::look::{Look, look_at};
 use crate::wake::Wake;
+use crossbeam_utils::Backoff as Pause;
 use crossbeam_utils::sync::{Parker, Unparker};
 use std::sync::Wait;
 use ww_plain::Node;
 use ww_queue::Kind;
 use ww_table::{Board, Seat16};
-use ww_word::unpack;
 
 /// Takes a lock and gives its node, or tells the older stamp that was met. Where the first try fails the seat waits: it
 /// looks, and parks, until a look ends its waiting.
@@ -46,35 +46,19 @@ pub fn take<R: Wait>(
     }
 }
 
-/// How often a waiter reads the words before it parks.
-const READS: u32 = 30;
+/// How many rounds a waiter gives the owner before it sleeps.
+const ROUNDS: u32 = 11;
 
-/// The own signs stand behind the owner words and the guards, as a board counts its words.
-const SIGNS: usize = 128;
-
-/// Whether a look may end the waiting: the lock is free or handed to the seat, or somebody has condemned it.
-fn is_due(seat: &Seat16, board: &Board, lock: u8) -> bool
-    requires seat { IsSeated board.now.table.shared.table_id seat.now }
-    requires lock { lock < length (first_graph board.now.table.shared.key) }
-{
-    let is_signed = board.peek(SIGNS + usize::from(seat.who())) != 0;
-    is_signed || unpack(board.peek(usize::from(lock))).is_some_and(|seen| is_ours(seat, seen))
-}
-
-/// Reads the words for a moment, and tells whether a look may end the waiting.
-fn is_due_soon(seat: &Seat16, board: &Board, lock: u8) -> bool
-    requires seat { IsSeated board.now.table.shared.table_id seat.now }
-    requires lock { lock < length (first_graph board.now.table.shared.key) }
-{
-    for _ in 0..READS {
-        if is_due(seat, board, lock) {
-            return true;
-        }
+/// Sleeps until somebody wakes the seat. Whoever does it in the rounds before needs no call of the system.
+fn sleep<R: Wait>(rt: &R, parker: &Parker) {
+    let pause = Pause::new();
+    for _ in 0..ROUNDS {
+        pause.snooze();
     }
-    false
+    parker.park(rt);
 }
 
-/// Waits for a lock. A waiter reads the words for a moment before it parks; whatever ends that, it looks again.
+/// Waits for a lock: it looks, and sleeps, until a look ends its waiting. It reads no word outside the guard.
 #[cold]
 fn wait<R: Wait>(
     rt: &R,
@@ -96,16 +80,14 @@ fn wait<R: Wait>(
     ensures tries { seat.new.seat.me.0.part.core.tries ≡ seat.old.seat.me.0.part.core.tries }
     ensures records { seat.new.records ≡ seat.old.records }
 {
-    let mut is_woken = false;
+    let mut is_later = false;
     for _ in rt.forever() {
-        match visit(rt, seat, board, kind, lock, is_woken, wakers) {
+        match visit(rt, seat, board, kind, lock, is_later, wakers) {
             Look::Locked(node) => return Ok(node),
             Look::Deadlk(met) => return Err(met),
             Look::Waits => {
-                if !is_due_soon(seat, board, lock) {
-                    parker.park(rt);
-                }
-                is_woken = true;
+                sleep(rt, parker);
+                is_later = true;
             }
         }
     }

@@ -3,7 +3,7 @@ ghost use Rattle.ww_table.specs.Layout.{IsSized};
 ghost use Rattle.ww_table.specs.Rule.{first_graph};
 
 use crate::cells::{Cell, Sight, Start, Words};
-use crate::layout::{FRONT, STAMP};
+use crate::layout::{FRONT, STAMP, guard_word, owner_word, sign_word};
 use atomic_table::Table;
 use std::alloc::Global;
 
@@ -28,14 +28,15 @@ impl Board {
         self.size
     }
 
-    /// Reads one word: no clause says what it has. They count as owner words, guards, signs, the stamp word and the front word.
-    pub fn peek(&self, word: usize) -> u64
+    /// Reads one word, for tests: a seat at work reads by its steps alone. No clause says what it has.
+    /// The words are numbered: owner words from 0, guards from 64, signs from 128, the stamp word 144, the front word 145.
+    pub fn peek(&self, word: u8) -> u64
         requires { word < 146 }
     {
         self.table.shared.peek(match word {
-            0..=63 => 8 * word,
-            64..=127 => 8 * (word - 64) + 1,
-            128..=143 => 512 + 8 * (word - 128),
+            0..=63 => owner_word(word),
+            64..=127 => guard_word(word - 64),
+            128..=143 => sign_word(word - 128),
             144 => STAMP,
             _ => FRONT,
         })

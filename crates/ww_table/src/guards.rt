@@ -6,33 +6,17 @@ ghost use Rattle.ww_view.specs.View.{owns};
 ghost use Rattle.ww_view.specs.May.{MayEnter, MayLeave};
 ghost use Rattle.ww_table.specs.declared.cells.Cell.{Cell};
 ghost use Rattle.ww_table.specs.declared.cells.Cell.TheVariants.{Line};
-ghost use Rattle.ww_table.specs.Layout.{guard_at, list_at};
+ghost use Rattle.ww_table.specs.Layout.{list_at};
 ghost use Rattle.ww_table.specs.Rule.{first_graph};
 ghost use Rattle.ww_table.specs.Seat.{IsSeated, AreOthers, numbers_of, slot_of};
 ghost use Rattle.ww_table.specs.Guards.{AreSeats, StandsAs, lost, entering, exiting, looking};
 ghost use Rattle.ww_table.specs.Waiting.{HasListOnTop};
 
 use crate::board::Board;
-use crate::layout::owner_word;
+use crate::layout::{guard_word, list_slot, owner_word};
 use crate::plays_inside::{Enter, Exit, Look};
 use crate::seat::{Seat16, bring};
 use ww_word::{Owner, unpack};
-
-/// The guard word of a lock.
-fn guard_word(lock: u8) -> usize
-    requires { lock < 64 }
-    ensures { result ≡ guard_at lock }
-{
-    8 * usize::from(lock) + 1
-}
-
-/// The slot of the wait list of a lock.
-pub(crate) fn list_slot(lock: u8) -> u8
-    requires { lock < 64 }
-    ensures { result ≡ list_at lock }
-{
-    64 + lock
-}
 
 impl Seat16 {
     /// Turns the slots that are out until the wait list of the lock is that taken last, and gives the slot's number.

@@ -1,6 +1,6 @@
 //! Which word is which: see `specs/Layout.antt`.
 ghost use Rattle.std.specs.Prelude.{◌≡◌, ◌<◌};
-ghost use Rattle.ww_table.specs.Layout.{owner_at, sign_at, stamp_at, front_at};
+ghost use Rattle.ww_table.specs.Layout.{owner_at, guard_at, sign_at, stamp_at, front_at, list_at};
 
 /// How many words there are, most of them unused: they keep the others on cache lines of their own.
 pub(crate) const WORDS: usize = 656;
@@ -22,10 +22,26 @@ pub(crate) fn owner_word(lock: u8) -> usize
     8 * usize::from(lock)
 }
 
+/// The guard word of a lock.
+pub(crate) fn guard_word(lock: u8) -> usize
+    requires { lock < 64 }
+    ensures { result ≡ guard_at lock }
+{
+    8 * usize::from(lock) + 1
+}
+
 /// The sign word of a seat.
 pub(crate) fn sign_word(seat: u8) -> usize
     requires { seat < 16 }
     ensures { result ≡ sign_at seat }
 {
     512 + 8 * usize::from(seat)
+}
+
+/// The slot of the wait list of a lock.
+pub(crate) fn list_slot(lock: u8) -> u8
+    requires { lock < 64 }
+    ensures { result ≡ list_at lock }
+{
+    64 + lock
 }

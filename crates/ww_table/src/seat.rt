@@ -26,7 +26,8 @@ use ww_word::{Owner, pack};
 /// How many slots a seat can have out: all nodes, and the wait list of one lock.
 pub(crate) const MAX_OUT: usize = 65;
 
-/// A seat of a board. It may start one context after another, and each of its calls is one atomic step.
+/// A seat of a board. It may start one context after another. Each of its steps is one atomic operation on one word; its
+/// other calls look at what it has out.
 #[derive(Drop)]
 pub struct Seat16 {
     pub(crate) seat: TableSeat,

@@ -23,8 +23,7 @@ ghost use Rattle.ww_table.specs.Waiting.{IsOut, joining, taking_inside, giving_i
 
 use crate::board::Board;
 use crate::cells::{Cell, TableSeat};
-use crate::guards::list_slot;
-use crate::layout::owner_word;
+use crate::layout::{list_slot, owner_word};
 use crate::plays_inside::{Ask, Die, Give, Join, Take};
 use crate::seat::{Seat16, bring};
 use ww_queue::{Entry, Queue};

@@ -8,4 +8,4 @@ use Rattle.ww_seat.proofs.waiting.wait.Given as goal
 abbrev pub invariant-loop : goal.invariant-loop
 invariant-loop g l =
     (goal.iterator-loop g).can_next l.iterator' × (goal.iterator-loop g).is_finite l.iterator' × IsSeated l.board.table.shared.table_id l.seat × IsOutside (length (first_graph l.board.table.shared.key)) l.lock l.seat.seat.me
-    × (l.is_woken ≡ not (l.seat.seat.me.0.part.core.waits == 0)) × HoldsAsBefore l.initial.seat.seat.me l.seat.seat.me × (l.seat.seat.me.0.part.core.tries ≡ l.initial.seat.seat.me.0.part.core.tries) × (l.seat.records ≡ l.initial.seat.records)
+    × (l.is_later ≡ not (l.seat.seat.me.0.part.core.waits == 0)) × HoldsAsBefore l.initial.seat.seat.me l.seat.seat.me × (l.seat.seat.me.0.part.core.tries ≡ l.initial.seat.seat.me.0.part.core.tries) × (l.seat.records ≡ l.initial.seat.records)
