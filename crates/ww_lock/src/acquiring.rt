@@ -6,7 +6,7 @@ use std::marker::Model;
 use std::sync::Wait;
 use ww_plain::Node;
 
-/// A context that takes locks. Its seat has not met an older context since it last took or gave a lock.
+/// A context that takes locks. Its seat has noted no older context for which it had to die.
 pub struct Acquiring {
     pub(crate) hand: Box<Hand>,
 }

@@ -19,6 +19,7 @@ impl CloseFault {
     ghost use Rattle.std.specs.Prelude.{◌≡◌};
     ghost use Rattle.ww_lock.specs.Closed.{close_number};
 
+    /// The number of the fault.
     pub fn number(self) -> u8
         ensures { result ≡ close_number self }
     {

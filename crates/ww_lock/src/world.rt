@@ -30,6 +30,7 @@ impl OpenFault {
     ghost use Rattle.std.specs.Prelude.{◌≡◌};
     ghost use Rattle.ww_lock.specs.Opened.{open_number};
 
+    /// The number of the fault.
     pub fn number(self) -> u8
         ensures { result ≡ open_number self }
     {

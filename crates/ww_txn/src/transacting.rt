@@ -25,6 +25,7 @@ impl TxnFault {
     ghost use Rattle.std.specs.Prelude.{◌≡◌};
     ghost use Rattle.ww_txn.specs.Transact.{txn_number};
 
+    /// The number of the fault.
     pub fn number(self) -> u8
         ensures { result ≡ txn_number self }
     {
