@@ -8,6 +8,7 @@ ghost use Rattle.ww_rounds.specs.Resting.{size_of};
 ghost use Rattle.ww_low_tests.specs.Looking.{Owns, Holds, MayLook, just};
 
 use crate::plain::{graph_of, node};
+use crossbeam_utils::sync::{Parker, Unparker};
 use std::alloc::{AllocError, Global};
 use std::process::Abort;
 use std::sync::Wait;
@@ -85,13 +86,20 @@ fn hold<R: Abort>(rt: &R, board: &Board, seat: &mut Seat16, kind: Kind, lock: u8
     };
 }
 
-/// Looks at a lock for the first time, and comes to stand in its wait list.
-fn wait<R: Wait + Abort>(rt: &R, board: &Board, seat: &mut Seat16, kind: Kind, lock: u8)
-    requires may { (o : List Bool) × MayLook board.now kind o lock false seat.old }
+/// Looks at a lock, and comes to stand in its wait list, or still stands there.
+fn wait<R: Wait + Abort>(
+    rt: &R,
+    board: &Board,
+    seat: &mut Seat16,
+    kind: Kind,
+    lock: u8,
+    is_later: bool,
+)
+    requires may { (o : List Bool) × MayLook board.now kind o lock is_later seat.old }
     requires lock { lock < size_of board.now }
     ensures { (o : List Bool) → Owns board.now kind o seat.old → MayLook board.now kind o lock true seat.new }
 {
-    match visit(rt, seat, board, kind, lock, false, &[]) {
+    match visit(rt, seat, board, kind, lock, is_later, &[]) {
         Look::Waits => {}
         Look::Locked(_) | Look::Deadlk(_) => panic!(rt; "it has to wait"),
     }
@@ -172,7 +180,7 @@ fn older_first<R: Wait + Abort>(
     sign: u64,
 ) -> Result<(), AllocError> {
     let (board, mut older, mut younger) = tied(rt, alloc, kind)?;
-    wait(rt, &board, &mut older, kind, 1);
+    wait(rt, &board, &mut older, kind, 1, false);
     compare(rt, &board, [264, 529], sign, [2, 0]);
     assert_eq!(rt; back_off(rt, &board, &mut younger, kind, 0, false), 1);
     untie(rt, &board, kind, &mut older, &mut younger, sign);
@@ -184,9 +192,9 @@ fn older_first<R: Wait + Abort>(
 fn a_ring_is_undone_by_a_sign(rt: HostRuntime) -> Result<(), Fail> {
     let kind = Kind::WoundWait;
     let (board, mut older, mut younger) = tied(&rt, rt.alloc(), kind)?;
-    wait(&rt, &board, &mut younger, kind, 0);
+    wait(&rt, &board, &mut younger, kind, 0, false);
     compare(&rt, &board, [265, 528], 0, [2, 0]);
-    wait(&rt, &board, &mut older, kind, 1);
+    wait(&rt, &board, &mut older, kind, 1, false);
     compare(&rt, &board, [265, 529], 1, [2, 0]);
     let met = back_off(&rt, &board, &mut younger, kind, 0, true);
     assert_eq!(rt; met, 1);
@@ -203,5 +211,36 @@ fn a_wounded_context_never_waits(rt: HostRuntime) -> Result<(), Fail> {
 #[test]
 fn a_younger_context_never_waits(rt: HostRuntime) -> Result<(), Fail> {
     older_first(&rt, rt.alloc(), Kind::WaitDie, 0)?;
+    Ok(())
+}
+
+/// Gives a lock back that is handed over.
+fn hand_over<R: Wait>(rt: &R, board: &Board, kind: Kind, owner: &mut Seat16, wakers: &[Unparker])
+    requires size { size_of board.now ≡ 2 }
+    requires owner { Holds board.now kind (just 0) owner.old }
+{
+    give(rt, owner, board, 0, wakers);
+}
+
+/// A waiter asks for the lock at its second look. So the lock is handed to it, and it is woken: else this would never end.
+#[test]
+fn a_lock_is_handed_over(rt: HostRuntime) -> Result<(), Fail> {
+    let kind = Kind::WoundWait;
+    let alloc = rt.alloc();
+    let (board, mut older, mut younger) = tied(&rt, alloc, kind)?;
+    let parker = Parker::new(alloc)?;
+    let wakers = [
+        Parker::new(alloc)?.unparker().clone()?,
+        parker.unparker().clone()?,
+    ];
+    wait(&rt, &board, &mut younger, kind, 0, false);
+    compare(&rt, &board, [265, 528], 0, [2, 0]);
+    wait(&rt, &board, &mut younger, kind, 0, true);
+    compare(&rt, &board, [267, 528], 0, [2, 0]);
+    hand_over(&rt, &board, kind, &mut older, &wakers);
+    compare(&rt, &board, [533, 528], 0, [2, 0]);
+    parker.park(&rt);
+    take(&rt, &board, &mut younger, kind, 0);
+    compare(&rt, &board, [528, 528], 0, [2, 0]);
     Ok(())
 }
