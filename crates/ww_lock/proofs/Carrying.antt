@@ -3,7 +3,6 @@ use Rattle.std.proofs.Common.{◌≡◌, ◌≢◌, ℕ, suc, zero, ◌+◌, ◌
 use mathlib.Core.Option.{some}
 use lib.ListN.{get_elem?}
 use Rattle.atomic_table.specs.Seated.{TableId}
-use Rattle.std.proofs.lemmas.List.{get_or_past}
 use Rattle.ww_plain.specs.declared.node.Node.{Node}
 use Rattle.ww_plain.specs.Numbers.{is_among}
 use Rattle.ww_plain.specs.Graph.{no_node, node_at}
@@ -217,14 +216,6 @@ holds_one h c one = some_among h.held.items one.0 (sym (c.owned one.0) ∙ one.1
     some_among [] n e = absurd (true≢false (sym e))
     some_among (m ∷ ms) n e = omega arith
 
--- the mark of a node tells whether it is held
-pub marked : (h : Hand) (n : ℕ) → Carries h → get_or h.marks n false ≡ is_among n h.held.items
-marked h n c = ap (λ (os : List Bool). get_or os n false) c.marks ∙ c.owned n
-
--- no number above the marks is held
-pub unmarked : (h : Hand) (n : ℕ) → Carries h → 64 ≤ n → is_among n h.held.items ≡ false
-unmarked h n c far = sym (c.owned n) ∙ get_or_past h.seat.seat.me.0.part.core.owned n false (omega (arith, far, c.settled.orderly.owned))
-
 -- ---- giving back
 
 different_last : (ns : List ℕ) (n : ℕ) → AreDifferent (ns ++ n ∷ []) → AreDifferent ns × (is_among n ns ≡ false)
@@ -296,7 +287,3 @@ gives h g w p q front n is home c was settled records b seat kind left now marke
 -- a state is at home where one that differs in the nodes that are held was
 pub home_as : (h g : Hand) (w : Place) → holding_of g ≡ record (holding_of h) { held = g.held.items } → IsAtHome (holding_of h) w → IsAtHome (holding_of g) w
 home_as h g w same home = subst (λ (s : Holding). IsAtHome s w) (sym same) (record { home = home.home; size = home.size; number = home.number })
-
-pub none_held : (ns : List ℕ) → length ns ≡ 0 → ns ≡ []
-none_held [] none = refl
-none_held (n ∷ ns) none = absurd (omega (arith, none))

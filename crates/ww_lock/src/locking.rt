@@ -116,10 +116,7 @@ impl Hand {
         ensures carries { Carries self.new }
         ensures emptied { holding_of self.new ≡ emptied (holding_of self.old) }
     {
-        for _ in 0..self.held.len() {
-            let Some(n) = self.held.pop() else {
-                unreachable!()
-            };
+        while let Some(n) = self.held.pop() {
             self.marks[usize::from(n)] = false;
             ww_seat::give(rt, &mut self.seat, &world.board, n, &world.wakers);
         }

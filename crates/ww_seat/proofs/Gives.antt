@@ -62,9 +62,6 @@ read_still a m m' m'' n o before looked read = still_then a m m'' before (still_
 pub lost_still : (a m m' : Sat) → IsStill a m → m'.0 ≡ lost m.0 → IsStill a m'
 lost_still a m m' before e = still_then a m m' before (still_lost m m' e)
 
-pub kept_entered_still : (a m m' : Sat) (n : ℕ) → m.0 ≡ a.0 → HasEntered m n m' → IsStill a m'
-kept_entered_still a m m' n same e = still_then a m m' (still_view a m same) (still_entered m m' n e)
-
 -- ---- at once
 
 -- the node of a lock that it owns is out

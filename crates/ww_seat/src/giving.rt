@@ -25,6 +25,25 @@ pub fn give<R: Wait>(rt: &R, seat: &mut Seat16, board: &Board, lock: u8, wakers:
     if seat.give_free(board, lock) {
         return;
     }
+    give_waited(rt, seat, board, lock, wakers);
+}
+
+/// Gives back a lock that somebody may wait for.
+#[cold]
+fn give_waited<R: Wait>(
+    rt: &R,
+    seat: &mut Seat16,
+    board: &Board,
+    lock: u8,
+    wakers: &[Unparker],
+)
+    requires settled { IsSettled board.now.table.shared.table_id (length (first_graph board.now.table.shared.key)) seat.old }
+    requires lock { lock < length (first_graph board.now.table.shared.key) }
+    requires owner { owns seat.old.seat.me.0.part.core lock ≡ true }
+    ensures settled { IsSettled board.now.table.shared.table_id (length (first_graph board.now.table.shared.key)) seat.new }
+    ensures given { HasGiven seat.old.seat.me lock seat.new.seat.me }
+    ensures records { seat.new.records ≡ seat.old.records }
+{
     enter(rt, seat, board, lock);
     let first = give_inside(rt, seat, board, lock);
     seat.exit(board, lock);

@@ -1,5 +1,7 @@
-use Rattle.std.proofs.Common.{◌∙◌, ap}
-use Rattle.ww_seat.proofs.Gives.{node_out, given_free, kept_free, owner_enters, kept_enters, entered_giving, kept_entered_still, has_let}
+use Rattle.std.proofs.Common.{◌∙◌, ap, sym, subst}
+use Rattle.ww_view.specs.View.{IsAway}
+use Rattle.ww_table.specs.declared.cells.Sight.{Sight}
+use Rattle.ww_seat.proofs.Gives.{node_out, given_free, kept_free, kept_enters, still_view, given_then}
 use Rattle.ww_seat.proofs.giving.give.Goals as goal
 
 pub give_free-requires-clause-out : goal.give_free-requires-clause-out
@@ -13,30 +15,19 @@ pub returns-then-give_free-clause-given : goal.returns-then-give_free-clause-giv
 returns-then-give_free-clause-given g c = let e = c.give_free.ensures.gave c.if-give_free.true in let s = c.requires.settled in
     (given_free _ c.args.seat.now.seat.me c.give_free.new.self.seat.me c.args.lock e.0 s.orderly s.away c.requires.lock e.1 e.2).2
 
-pub enter-requires-clause-orderly : goal.enter-requires-clause-orderly
-enter-requires-clause-orderly g c = let e = c.give_free.ensures.kept c.if-give_free.false in kept_free _ c.args.seat.now.seat.me c.give_free.new.self.seat.me c.args.lock e.0 e.1 c.requires.settled.orderly e.2 e.3
+pub give_waited-requires-clause-settled : goal.give_waited-requires-clause-settled
+give_waited-requires-clause-settled g c = let e = c.give_free.ensures.kept c.if-give_free.false in record {
+  seated = c.give_free.ensures.seat;
+  orderly = kept_free _ c.args.seat.now.seat.me c.give_free.new.self.seat.me c.args.lock e.0 e.1 c.requires.settled.orderly e.2 e.3;
+  away = subst (λ (w : Sight). IsAway w.part.core) (sym (ap (λ m. m.0) e.3)) c.requires.settled.away;
+}
 
-pub enter-requires-clause-may : goal.enter-requires-clause-may
-enter-requires-clause-may g c = let e = c.give_free.ensures.kept c.if-give_free.false in owner_enters c.args.seat.now.seat.me c.give_free.new.self.seat.me c.args.lock (ap (λ m. m.0) e.3) c.requires.settled.away c.requires.owner
-
-pub give_inside-first-requires-clause-giving : goal.give_inside-first-requires-clause-giving
-give_inside-first-requires-clause-giving g c = let e = c.give_free.ensures.kept c.if-give_free.false in let k = kept_enters c.args.seat.now.seat.me c.give_free.new.self.seat.me c.args.lock (ap (λ m. m.0) e.3) c.requires.settled.away c.requires.owner in
-    entered_giving _ c.give_free.new.self.seat.me c.enter.new.seat.seat.me c.args.lock c.enter.ensures.entered c.enter.ensures.orderly k.0 k.1
-
-pub exit-requires-clause-may : goal.exit-requires-clause-may
-exit-requires-clause-may g c = c.give_inside-first.ensures.given.may
-
-pub exit-requires-clause-list : goal.exit-requires-clause-list
-exit-requires-clause-list g c = let l = c.give_inside-first.ensures.given in l.orderly.list c.args.lock l.inside
-
-pub returns-clause-settled : goal.returns-clause-settled
-returns-clause-settled g c = let e = c.give_free.ensures.kept c.if-give_free.false in let h = kept_entered_still c.args.seat.now.seat.me c.give_free.new.self.seat.me c.enter.new.seat.seat.me c.args.lock (ap (λ m. m.0) e.3) c.enter.ensures.entered in
-    let z = has_let _ c.args.seat.now.seat.me c.enter.new.seat.seat.me c.give_inside-first.new.seat.seat.me c.exit.new.self.seat.me c.args.lock h c.give_inside-first.ensures.given c.exit.ensures.view c.exit.ensures.home in
-    record { seated = c.exit.ensures.seat; orderly = z.0; away = z.1 }
+pub give_waited-requires-clause-owner : goal.give_waited-requires-clause-owner
+give_waited-requires-clause-owner g c = let e = c.give_free.ensures.kept c.if-give_free.false in (kept_enters c.args.seat.now.seat.me c.give_free.new.self.seat.me c.args.lock (ap (λ m. m.0) e.3) c.requires.settled.away c.requires.owner).1
 
 pub returns-clause-given : goal.returns-clause-given
-returns-clause-given g c = let e = c.give_free.ensures.kept c.if-give_free.false in let h = kept_entered_still c.args.seat.now.seat.me c.give_free.new.self.seat.me c.enter.new.seat.seat.me c.args.lock (ap (λ m. m.0) e.3) c.enter.ensures.entered in
-    (has_let _ c.args.seat.now.seat.me c.enter.new.seat.seat.me c.give_inside-first.new.seat.seat.me c.exit.new.self.seat.me c.args.lock h c.give_inside-first.ensures.given c.exit.ensures.view c.exit.ensures.home).2
+returns-clause-given g c = let e = c.give_free.ensures.kept c.if-give_free.false in
+    given_then c.args.seat.now.seat.me c.give_free.new.self.seat.me c.give_waited.new.seat.seat.me c.args.lock (still_view c.args.seat.now.seat.me c.give_free.new.self.seat.me (ap (λ m. m.0) e.3)) c.give_waited.ensures.given
 
 pub returns-clause-records : goal.returns-clause-records
-returns-clause-records g c = c.exit.ensures.records ∙ c.give_inside-first.ensures.records ∙ c.enter.ensures.records ∙ c.give_free.ensures.records
+returns-clause-records g c = c.give_waited.ensures.records ∙ c.give_free.ensures.records
