@@ -44,7 +44,7 @@ fn take_in_turn<R: Wait>(
 }
 
 /// Takes the locks of these nodes, and counts how often it has to back off.
-#[inline]
+#[inline(always)]
 fn take_all<R: Wait>(
     rt: &R,
     world: &World,

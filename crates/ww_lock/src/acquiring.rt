@@ -133,6 +133,7 @@ impl Acquiring {
     }
 
     /// Gives all locks back.
+    #[inline(always)]
     pub fn unlock_all<R: Wait>(self, rt: &R, world: &World) -> Empty
         requires home { IsAtHome self world.now }
         ensures { result ≡ emptied self }

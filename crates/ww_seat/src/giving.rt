@@ -30,13 +30,7 @@ pub fn give<R: Wait>(rt: &R, seat: &mut Seat16, board: &Board, lock: u8, wakers:
 
 /// Gives back a lock that somebody may wait for.
 #[cold]
-fn give_waited<R: Wait>(
-    rt: &R,
-    seat: &mut Seat16,
-    board: &Board,
-    lock: u8,
-    wakers: &[Unparker],
-)
+fn give_waited<R: Wait>(rt: &R, seat: &mut Seat16, board: &Board, lock: u8, wakers: &[Unparker])
     requires settled { IsSettled board.now.table.shared.table_id (length (first_graph board.now.table.shared.key)) seat.old }
     requires lock { lock < length (first_graph board.now.table.shared.key) }
     requires owner { owns seat.old.seat.me.0.part.core lock ≡ true }
