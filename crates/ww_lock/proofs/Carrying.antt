@@ -16,7 +16,7 @@ use Rattle.ww_table.specs.Steps.{MayDraw}
 use Rattle.ww_seat.specs.Orderly.{IsSettled}
 use Rattle.ww_seat.specs.Calls.{HoldsAsBefore, HasTaken, HasGiven, HasBegun, HasEnded, TriedOnce}
 use Rattle.ww_lock.specs.declared.hand.Hand.{Hand}
-use Rattle.ww_lock.specs.Holding.{Holding, Place, IsAtHome, AreHeld}
+use Rattle.ww_lock.specs.Holding.{Holding, Setting, IsAtHome, AreHeld}
 use Rattle.ww_lock.specs.Carried.{holding_of, Carries, CarriesFresh}
 use Rattle.ww_lock.specs.Moves.{IsTaken, HasTried}
 
@@ -24,10 +24,10 @@ pub settled_as : (a b : TableId) (m n : ℕ) (q : Seat16) → a ≡ b → m ≡ 
 settled_as a b m n q same sizes s = subst (λ (t : TableId). IsSettled t n q) same (subst (λ (k : ℕ). IsSettled a k q) sizes s)
 
 -- the table and the size that a state at home has are those of the world
-pub at_table : (s : Holding) (w p : Place) → p ≡ w → IsAtHome s w → (s.home ≡ p.home) × (length s.seen ≡ length p.first)
-at_table s w p is home = (home.home ∙ sym (ap (λ (x : Place). x.home) is), home.size ∙ sym (ap (λ (x : Place). length x.first) is))
+pub at_table : (s : Holding) (w p : Setting) → p ≡ w → IsAtHome s w → (s.home ≡ p.home) × (length s.seen ≡ length p.first)
+at_table s w p is home = (home.home ∙ sym (ap (λ (x : Setting). x.home) is), home.size ∙ sym (ap (λ (x : Setting). length x.first) is))
 
-pub here : (h : Hand) (w p : Place) → p ≡ w → IsAtHome (holding_of h) w → Carries h → IsSettled p.home (length p.first) h.seat
+pub here : (h : Hand) (w p : Setting) → p ≡ w → IsAtHome (holding_of h) w → Carries h → IsSettled p.home (length p.first) h.seat
 here h w p is home c = let t = at_table (holding_of h) w p is home in settled_as h.seat.seat.table_id p.home (length h.seen) (length p.first) h.seat t.0 t.1 c.settled
 
 pub bare_of : (h : Hand) → Carries h → h.held.items ≡ [] → IsBare h.seat.seat.me.0.part.core
@@ -37,14 +37,14 @@ pub may_draw : (h : Hand) → Carries h → h.held.items ≡ [] → h.seat.stamp
 may_draw h c none idle few = record { away = c.settled.away; no_context = c.settled.seated.stamp ∙ idle; bare = bare_of h c none; fewer = omega (arith, few) }
 
 -- the seat that a state carries once a call of it has ended
-pub record HasMoved (h : Hand) (p : Place) (q : Seat16) : Type 0 where
+pub record HasMoved (h : Hand) (p : Setting) (q : Seat16) : Type 0 where
   pub settled : IsSettled p.home (length p.first) q
   pub records : q.records ≡ h.seat.records
   pub who : q.seat.me.0.part.core.who ≡ h.seat.seat.me.0.part.core.who
   pub kind : q.seat.me.0.part.core.kind ≡ h.seat.seat.me.0.part.core.kind
 
 -- a state of these parts is seen as a holding of these
-pub holding_is : (h g : Hand) (w p : Place) (q : Seat16) → p ≡ w → IsAtHome (holding_of h) w → Carries h → HasMoved h p q → g.seat ≡ q → g.left ≡ h.left
+pub holding_is : (h g : Hand) (w p : Setting) (q : Seat16) → p ≡ w → IsAtHome (holding_of h) w → Carries h → HasMoved h p q → g.seat ≡ q → g.left ≡ h.left
     → holding_of g ≡ record (holding_of h) { stamp = q.stamp; held = g.held.items; seen = g.seen; tries = q.seat.me.0.part.core.tries }
 holding_is h g w p q is home c m seat left =
     let t = at_table (holding_of h) w p is home in
@@ -53,7 +53,7 @@ holding_is h g w p q is home c m seat left =
     rw (seat, left, table, who, m.records) refl
 
 -- what is known of it, where its parts are these
-pub carries_as : (h g : Hand) (w p : Place) (q : Seat16) → p ≡ w → IsAtHome (holding_of h) w → Carries h → HasMoved h p q → g.seat ≡ q → g.kind ≡ h.kind → length g.seen ≡ length h.seen
+pub carries_as : (h g : Hand) (w p : Setting) (q : Seat16) → p ≡ w → IsAtHome (holding_of h) w → Carries h → HasMoved h p q → g.seat ≡ q → g.kind ≡ h.kind → length g.seen ≡ length h.seen
     → AreHeld g.held.items g.seen → ((n : ℕ) → owns q.seat.me.0.part.core n ≡ is_among n g.held.items) → g.marks ≡ q.seat.me.0.part.core.owned → q.seat.me.0.part.draws + g.left < 2 ^ 32 → length q.records.items + g.left < 2 ^ 32 → Carries g
 carries_as h g w p q is home c m seat kind size held owned marks draws commits =
     let t = at_table (holding_of h) w p is home in record {
@@ -74,7 +74,7 @@ pub record Begins (h g : Hand) : Type 0 where
   pub is : holding_of g ≡ record (holding_of h) { stamp = g.seat.stamp }
   pub stamped : 0 < g.seat.stamp
 
-pub begins : (h : Hand) (w p : Place) (q : Seat16) (k : ℕ) → p ≡ w → IsAtHome (holding_of h) w → CarriesFresh h → h.seat.seat.me.0.part.draws + h.left + 1 < 2 ^ 32
+pub begins : (h : Hand) (w p : Setting) (q : Seat16) (k : ℕ) → p ≡ w → IsAtHome (holding_of h) w → CarriesFresh h → h.seat.seat.me.0.part.draws + h.left + 1 < 2 ^ 32
     → IsSettled p.home (length p.first) q → q.records ≡ h.seat.records → HasBegun h.seat.seat.me k q.seat.me → 0 < k → Begins h (record h { seat = q })
 begins h w p q k is home f few settled records b pos =
     let c = f.carries in
@@ -94,7 +94,7 @@ pub record Ends (h g : Hand) : Type 0 where
   pub carries : Carries g
   pub is : holding_of g ≡ record (holding_of h) { stamp = 0 }
 
-pub ends : (h : Hand) (w p : Place) (q : Seat16) → p ≡ w → IsAtHome (holding_of h) w → Carries h
+pub ends : (h : Hand) (w p : Setting) (q : Seat16) → p ≡ w → IsAtHome (holding_of h) w → Carries h
     → IsSettled p.home (length p.first) q → q.records ≡ h.seat.records → HasEnded h.seat.seat.me q.seat.me → Ends h (record h { seat = q })
 ends h w p q is home c settled records e =
     let g : Hand = record h { seat = q } in
@@ -147,7 +147,7 @@ pub record Takes (h g : Hand) (n : ℕ) : Type 0 where
   pub fresh : CarriesFresh g
   pub is : IsTaken (holding_of h) n (holding_of g)
 
-pub takes : (h g : Hand) (w p : Place) (q : Seat16) (n : ℕ) (x : Node) → p ≡ w → IsAtHome (holding_of h) w → CarriesFresh h → n < length h.seen → is_among n h.held.items ≡ false
+pub takes : (h g : Hand) (w p : Setting) (q : Seat16) (n : ℕ) (x : Node) → p ≡ w → IsAtHome (holding_of h) w → CarriesFresh h → n < length h.seen → is_among n h.held.items ≡ false
     → IsSettled p.home (length p.first) q → q.records ≡ h.seat.records → HasTaken h.seat.seat.me n x q.seat.me → TriedOnce h.seat.seat.me q.seat.me
     → g.seat ≡ q → g.kind ≡ h.kind → g.left ≡ h.left → g.held.items ≡ h.held.items ++ n ∷ [] → g.marks ≡ set h.marks n true → g.seen ≡ set h.seen n x → Takes h g n
 takes h g w p q n x is home f lt new settled records t once seat kind left grown marked read =
@@ -193,7 +193,7 @@ pub record Keeps (h g : Hand) : Type 0 where
   pub fresh : CarriesFresh g
   pub is : HasTried (holding_of h) (holding_of g)
 
-pub keeps : (h : Hand) (w p : Place) (q : Seat16) → p ≡ w → IsAtHome (holding_of h) w → CarriesFresh h → IsSettled p.home (length p.first) q → q.records ≡ h.seat.records
+pub keeps : (h : Hand) (w p : Setting) (q : Seat16) → p ≡ w → IsAtHome (holding_of h) w → CarriesFresh h → IsSettled p.home (length p.first) q → q.records ≡ h.seat.records
     → HoldsAsBefore h.seat.seat.me q.seat.me → TriedOnce h.seat.seat.me q.seat.me → Keeps h (record h { seat = q })
 keeps h w p q is home f settled records b once =
     let c = f.carries in
@@ -263,7 +263,7 @@ pub record Gives (h g : Hand) : Type 0 where
   pub carries : Carries g
   pub is : holding_of g ≡ record (holding_of h) { held = g.held.items }
 
-pub gives : (h g : Hand) (w p : Place) (q : Seat16) (front : List ℕ) (n : ℕ) → p ≡ w → IsAtHome (holding_of h) w → Carries h → h.held.items ≡ front ++ n ∷ []
+pub gives : (h g : Hand) (w p : Setting) (q : Seat16) (front : List ℕ) (n : ℕ) → p ≡ w → IsAtHome (holding_of h) w → Carries h → h.held.items ≡ front ++ n ∷ []
     → IsSettled p.home (length p.first) q → q.records ≡ h.seat.records → HasGiven h.seat.seat.me n q.seat.me
     → g.seat ≡ q → g.kind ≡ h.kind → g.left ≡ h.left → g.held.items ≡ front → g.marks ≡ set h.marks n false → g.seen ≡ h.seen → Gives h g
 gives h g w p q front n is home c was settled records b seat kind left now marked seen =
@@ -285,5 +285,5 @@ gives h g w p q front n is home c was settled records b seat kind left now marke
     }
 
 -- a state is at home where one that differs in the nodes that are held was
-pub home_as : (h g : Hand) (w : Place) → holding_of g ≡ record (holding_of h) { held = g.held.items } → IsAtHome (holding_of h) w → IsAtHome (holding_of g) w
+pub home_as : (h g : Hand) (w : Setting) → holding_of g ≡ record (holding_of h) { held = g.held.items } → IsAtHome (holding_of h) w → IsAtHome (holding_of g) w
 home_as h g w same home = subst (λ (s : Holding). IsAtHome s w) (sym same) (record { home = home.home; size = home.size; number = home.number })

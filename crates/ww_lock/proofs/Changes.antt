@@ -30,7 +30,7 @@ use Rattle.ww_plain.specs.Footprint.{footprint_of}
 use Rattle.ww_plain.specs.Meaning.{answer_to}
 use Rattle.ww_plain.specs.Transaction.{Transaction}
 use Rattle.ww_plain.specs.History.{Recorded, recorded_of}
-use Rattle.ww_lock.specs.Holding.{Holding, Change, Place, IsAtHome, Holds, SameAt, AreBelow, own_of}
+use Rattle.ww_lock.specs.Holding.{Holding, Change, Setting, IsAtHome, Holds, SameAt, AreBelow, own_of}
 use Rattle.ww_lock.specs.Making.{Covers, IsMade, IsMadeOf, change_of}
 
 same_everywhere : (graph : List Node) (ns : List ℕ) → SameAt graph graph ns
@@ -151,7 +151,7 @@ below_as : (place : ℕ) (records : List (ℕ × Record)) → AllByRecursion (λ
 below_as place [] all = tt
 below_as place (r ∷ rs) all = (all.0, below_as place rs all.1)
 
-pub commits : (h : Hand) (w pl : Place) (q : Seat16) (p : Change) (r : Record) (after : List Node) (ns : List ℕ) (told : Receipt) → pl ≡ w → IsAtHome (holding_of h) w → CarriesFresh h
+pub commits : (h : Hand) (w pl : Setting) (q : Seat16) (p : Change) (r : Record) (after : List Node) (ns : List ℕ) (told : Receipt) → pl ≡ w → IsAtHome (holding_of h) w → CarriesFresh h
     → IsSettled pl.home (length pl.first) q → HasCommitted h.seat.seat.me told.place r after ns q.seat.me → recorded_of r ≡ record { caller = h.seat.who; seq = length h.seat.records.items; transaction = p.transaction; answer = p.answer }
     → told.seq ≡ length h.seat.records.items → answer_of told.reply ≡ p.answer → vec_capacity q.records ≡ vec_capacity h.seat.records → Commits h (record h { seat = q }) p told
 commits h w pl q p r after ns told is home f settled b same seq reply capacity =

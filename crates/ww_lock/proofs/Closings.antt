@@ -21,7 +21,7 @@ use Rattle.ww_table.specs.Closed as table
 use Rattle.atomic_table.specs.Seated.{TableId}
 use Rattle.ww_lock.specs.declared.hand.Hand.{Hand}
 use Rattle.ww_lock.specs.declared.close.History.{History}
-use Rattle.ww_lock.specs.Holding.{Holding, Place, AreAtHome, AreBelow, own_of}
+use Rattle.ww_lock.specs.Holding.{Holding, Setting, AreAtHome, AreBelow, own_of}
 use Rattle.ww_lock.specs.Carried.{holding_of, Carries}
 use Rattle.ww_lock.specs.Closed.{has_pass, missing_of, IsSeatOf, AreSeatsOf, AreAllBelow, AreParts, IsClosed}
 use Rattle.ww_lock.proofs.Carrying.{bare_of}
@@ -78,7 +78,7 @@ fits place [] (q ∷ qs) are all = absurd are
 fits place (s ∷ ss) [] are all = absurd are
 fits place (s ∷ ss) (q ∷ qs) are all = (own_below place q.records.items (subst (AreBelow place) (sym are.0.own) all.0), fits place ss qs are.1 all.1)
 
-come : (t : TableId) (w : Place) (passes : List Holding) (seats : List Seat16) → w.home ≡ t → AreAtHome passes w → AreSeatsOf passes seats → AllByRecursion (HasCome t) seats
+come : (t : TableId) (w : Setting) (passes : List Holding) (seats : List Seat16) → w.home ≡ t → AreAtHome passes w → AreSeatsOf passes seats → AllByRecursion (HasCome t) seats
 come t w [] [] is home are = tt
 come t w [] (q ∷ qs) is home are = absurd are
 come t w (s ∷ ss) [] is home are = absurd are
@@ -106,7 +106,7 @@ all_there (suc c) passes none k lt = elim (true_or_false (has_pass passes c)) [
     same_number : (c k : ℕ) → c ≤ k → k < suc c → c ≡ k
     same_number c k most lt = omega (arith, most, lt)
 
-pub all_come : (t : TableId) (key : Start) (w : Place) (passes : List Holding) (seats : List Seat16) → w.home ≡ t → key.seats ≡ w.passes → AreAtHome passes w → missing_of w.passes passes ≡ 0 → AreSeatsOf passes seats → HaveAllCome t key seats
+pub all_come : (t : TableId) (key : Start) (w : Setting) (passes : List Holding) (seats : List Seat16) → w.home ≡ t → key.seats ≡ w.passes → AreAtHome passes w → missing_of w.passes passes ≡ 0 → AreSeatsOf passes seats → HaveAllCome t key seats
 all_come t key w passes seats is count home none are = record {
   each = come t w passes seats is home are;
   all = λ k lt. found passes seats k are (all_there w.passes passes none k (omega (arith, lt, count)));
@@ -128,7 +128,7 @@ parts history [] (q ∷ qs) are each = absurd are
 parts history (s ∷ ss) [] are each = absurd are
 parts history (s ∷ ss) (q ∷ qs) are each = (ap (λ (k : ℕ). part_of k history) (sym are.0.number) ∙ each q (inl refl) ∙ are.0.own, parts history ss qs are.1 (λ r has. each r (inr has)))
 
-pub closed : (key : Start) (w : Place) (passes : List Holding) (seats : List Seat16) (h : History) → first_graph key ≡ w.first → key.seats ≡ w.passes → missing_of w.passes passes ≡ 0 → AreSeatsOf passes seats
+pub closed : (key : Start) (w : Setting) (passes : List Holding) (seats : List Seat16) (h : History) → first_graph key ≡ w.first → key.seats ≡ w.passes → missing_of w.passes passes ≡ 0 → AreSeatsOf passes seats
     → table.IsClosed key seats h.records.items h.graph → IsClosed w passes h
 closed key w passes seats h first count none are c = let history : List Recorded = history_of h.records.items in record {
   legal = subst (λ (g : List Node). IsLegal g history) first c.legal;

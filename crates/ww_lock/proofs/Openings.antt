@@ -11,7 +11,7 @@ use Rattle.ww_table.specs.Rule.{Sat, first_graph}
 use Rattle.ww_table.specs.Seat.{IsNew}
 use Rattle.ww_plain.specs.Numbers.{is_among}
 use Rattle.ww_lock.specs.declared.hand.Hand.{Hand}
-use Rattle.ww_lock.specs.Holding.{Home, Holding, Place, IsAtHome, AreAtHome, own_of}
+use Rattle.ww_lock.specs.Holding.{Home, Holding, Setting, IsAtHome, AreAtHome, own_of}
 use Rattle.ww_lock.specs.Carried.{holding_of, Carries}
 use Rattle.ww_lock.specs.Opened.{fresh, AreFresh, AreRests}
 use Rattle.ww_lock.specs.declared.world.Rest.{Rest}
@@ -63,7 +63,7 @@ all_from_index P [] each = tt
 all_from_index P (x ∷ xs) each = (each 0 x (omega arith), all_from_index P xs (λ i d lt. each (suc i) d (omega (arith, lt))))
 
 -- passes that have done nothing yet are at home where they were made
-pub fresh_home : (w : Place) (all : List Holding) (passes budget : ℕ) → AreFresh all w.first w.home passes budget → w.passes ≡ passes → AreAtHome all w
+pub fresh_home : (w : Setting) (all : List Holding) (passes budget : ℕ) → AreFresh all w.first w.home passes budget → w.passes ≡ passes → AreAtHome all w
 fresh_home w all passes budget fresh count = all_from_index (λ s. IsAtHome s w) all (λ i d lt.
     subst (λ (s : Holding). IsAtHome s w) (sym (fresh.each i d lt)) (record { home = refl; size = refl; number = omega (arith, lt, fresh.count, count) }))
 

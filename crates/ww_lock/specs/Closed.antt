@@ -7,7 +7,7 @@ use Rattle.ww_table.specs.Closed.{HasCome}
 use Rattle.ww_lock.specs.declared.close.History.{History}
 use Rattle.ww_lock.specs.declared.close.CloseFault.{CloseFault}
 use Rattle.ww_lock.specs.declared.close.CloseFault.TheVariants.{Missing, NoMemory}
-use Rattle.ww_lock.specs.Holding.{Holding, Place, AreBelow, own_of}
+use Rattle.ww_lock.specs.Holding.{Holding, Setting, AreBelow, own_of}
 
 -- one of the passes is that of the caller
 abbrev pub has_pass : List Holding → ℕ → Bool
@@ -24,7 +24,7 @@ AreParts passes history = AllByRecursion (λ s. part_of s.caller history ≡ s.o
 
 -- The history is legal from the graph that the world was opened with, and leads to the graph that is told. There is one pass
 -- for each caller, each record is one of theirs, and the part of each is exactly the own list of its pass.
-pub record IsClosed (w : Place) (passes : List Holding) (h : History) : Type 0 where
+pub record IsClosed (w : Setting) (passes : List Holding) (h : History) : Type 0 where
   pub legal : IsLegal w.first (history_of h.records.items)
   pub fold : h.graph ≡ last_graph w.first (history_of h.records.items)
   pub count : length passes ≡ w.passes
@@ -33,7 +33,7 @@ pub record IsClosed (w : Place) (passes : List Holding) (h : History) : Type 0 w
   pub parts : AreParts passes (history_of h.records.items)
 
 -- missing passes are told first
-abbrev pub IsCloseFault : Place → List Holding → CloseFault → Type 0
+abbrev pub IsCloseFault : Setting → List Holding → CloseFault → Type 0
 IsCloseFault w passes (Missing k) = (1 ≤ k) × (k ≡ missing_of w.passes passes)
 IsCloseFault w passes NoMemory = missing_of w.passes passes ≡ 0
 

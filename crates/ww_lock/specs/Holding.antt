@@ -49,20 +49,20 @@ pub record Change : Type 0 where
   pub after : List Node
 
 -- a world: its table, its kind, the graph that it was opened with, and how many passes it gave
-pub record Place : Type 0 where
+pub record Setting : Type 0 where
   pub home : Home
   pub kind : Kind
   pub first : List Node
   pub passes : ℕ
 
 -- the state came from a pass of this world
-pub record IsAtHome (s : Holding) (w : Place) : Type 0 where
+pub record IsAtHome (s : Holding) (w : Setting) : Type 0 where
   pub home : s.home ≡ w.home
   pub size : length s.seen ≡ length w.first
   pub number : s.caller < w.passes
 
 -- each of these passes came from this world
-abbrev pub AreAtHome : List Holding → Place → Type 0
+abbrev pub AreAtHome : List Holding → Setting → Type 0
 AreAtHome passes w = AllByRecursion (λ s. IsAtHome s w) passes
 
 abbrev pub own_of : List (ℕ × Record) → List (ℕ × Recorded)

@@ -5,7 +5,7 @@ use Rattle.std.specs.List.{AllByRecursion}
 use Rattle.ww_lock.specs.declared.world.OpenFault.{OpenFault}
 use Rattle.ww_lock.specs.declared.world.Rest.{Rest}
 use Rattle.ww_lock.specs.declared.world.OpenFault.TheVariants.{BadSize, NoMemory}
-use Rattle.ww_lock.specs.Holding.{Home, Holding, Place, AreAtHome}
+use Rattle.ww_lock.specs.Holding.{Home, Holding, Setting, AreAtHome}
 
 -- the pass of this number, which has done nothing yet
 abbrev pub fresh : Home → List Node → ℕ → ℕ → ℕ → Holding
@@ -29,7 +29,7 @@ pub record IsWorldSize (passes budget : ℕ) : Type 0 where
   pub budgeted : 1 ≤ budget
 
 -- a world over this graph, and its passes, which are at home there
-pub record IsOpened (w : Place) (all : List Holding) (first : List Node) (passes budget : ℕ) : Type 0 where
+pub record IsOpened (w : Setting) (all : List Holding) (first : List Node) (passes budget : ℕ) : Type 0 where
   pub sizes : IsWorldSize passes budget
   pub first_graph : w.first ≡ first
   pub count : w.passes ≡ passes

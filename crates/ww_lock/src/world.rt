@@ -48,9 +48,9 @@ pub struct World {
 }
 
 impl Model for World {
-    ghost use Rattle.ww_lock.specs.Holding.{Place};
+    ghost use Rattle.ww_lock.specs.Holding.{Setting};
 
-    ghost Value = { Place };
+    ghost Value = { Setting };
 
     ghost use Rattle.std.specs.Prelude.{◌≡◌, ◌≤◌, length};
     ghost use Rattle.ww_table.specs.Rule.{first_graph};

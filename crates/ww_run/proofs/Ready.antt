@@ -7,7 +7,7 @@ use Rattle.ww_plain.specs.declared.node.Node.{Node}
 use Rattle.ww_plain.specs.declared.transaction.Txn.{Txn}
 use Rattle.ww_plain.specs.Transaction.{Transaction, transaction_of, Fits}
 use Rattle.ww_plain.proofs.GraphFacts.{all_item}
-use Rattle.ww_lock.specs.Holding.{Holding, Place, IsAtHome}
+use Rattle.ww_lock.specs.Holding.{Holding, Setting, IsAtHome}
 use Rattle.ww_lock.specs.Opened.{IsOpened}
 use Rattle.ww_script.specs.Scripts.{IsScript}
 use Rattle.ww_run.specs.Workers.{AreReady}
@@ -33,12 +33,12 @@ short_each budget (txns ∷ scripts) each (suc i) t lt =
     short_each budget scripts (λ j d low. each (suc j) d (omega (arith, low))) i t (omega (arith, lt))
 
 -- a world has as many passes as there are scripts
-pub same_count : (w : Place) (scripts : List (Vec Txn)) (passes : List Holding) (first : List Node) (count budget : ℕ)
+pub same_count : (w : Setting) (scripts : List (Vec Txn)) (passes : List Holding) (first : List Node) (count budget : ℕ)
     → IsOpened w passes first count budget → count ≡ length scripts → w.passes ≡ length (lists scripts)
 same_count w scripts passes first count budget opened many = opened.count ∙ many
     ∙ sym (length-map scripts (λ (txns : Vec Txn). map transaction_of txns.items))
 
-pub are_ready : (w : Place) (scripts : List (Vec Txn)) (passes : List Holding) (first : List Node) (count budget : ℕ)
+pub are_ready : (w : Setting) (scripts : List (Vec Txn)) (passes : List Holding) (first : List Node) (count budget : ℕ)
     → IsOpened w passes first count budget → count ≡ length scripts
     → AllByRecursion (IsScript (length first)) (lists scripts)
     → ((i : ℕ) (d : Vec Txn) → i < length scripts → length (get_or scripts i d).items ≤ budget)

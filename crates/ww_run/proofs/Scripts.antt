@@ -9,7 +9,7 @@ use Rattle.ww_plain.specs.Transaction.{Transaction, Fits, listed, FirstDouble}
 use Rattle.ww_plain.specs.Meaning.{Answer}
 use Rattle.ww_plain.specs.History.{Recorded, history_of, IsLegal, last_graph, part_of}
 use Rattle.ww_plain.specs.declared.node.Node.{Node}
-use Rattle.ww_lock.specs.Holding.{Holding, Place, IsAtHome, AreAtHome}
+use Rattle.ww_lock.specs.Holding.{Holding, Setting, IsAtHome, AreAtHome}
 use Rattle.ww_lock.specs.Closed.{has_pass, missing_of, AreParts, IsClosed}
 use Rattle.ww_lock.specs.declared.close.History.{History}
 use Rattle.ww_script.specs.Scripts.{Plan}
@@ -62,7 +62,7 @@ told_more ts saids t (answered answer) s a h told = rw told.1.2
     (subst (λ (k : ℕ). IsRecordOf told.1.1 k t answer) (sym (zero-add (length s.own))) told.1.3))
 
 -- How far a script has come: the transactions done, and those to come, for which there is budget.
-pub record IsUnderWay (w : Place) (number : ℕ) (txns rest : List Transaction) (saids : List Said) (s : Holding) : Type 0 where
+pub record IsUnderWay (w : Setting) (number : ℕ) (txns rest : List Transaction) (saids : List Said) (s : Holding) : Type 0 where
   pub done : List Transaction
   pub parts : txns ≡ done ++ rest
   pub answered : IsAnswered 0 done saids s.own
@@ -71,7 +71,7 @@ pub record IsUnderWay (w : Place) (number : ℕ) (txns rest : List Transaction) 
   pub budget : length rest ≤ s.left
   pub fit : AllByRecursion (Fits (length w.first)) rest
 
-pub under_way : (w : Place) (number : ℕ) (txns : List Transaction) (s : Holding) → IsReady w number txns s
+pub under_way : (w : Setting) (number : ℕ) (txns : List Transaction) (s : Holding) → IsReady w number txns s
     → IsUnderWay w number txns txns [] s
 under_way w number txns s h = record {
   done = [];
@@ -84,7 +84,7 @@ under_way w number txns s h = record {
 }
 
 -- one transaction more
-pub one_more : (w : Place) (number : ℕ) (txns now rest : List Transaction) (saids more : List Said) (t : Transaction)
+pub one_more : (w : Setting) (number : ℕ) (txns now rest : List Transaction) (saids more : List Said) (t : Transaction)
     (said : Said) (s a : Holding)
     → now ≡ t ∷ rest → more ≡ saids ++ said ∷ []
     → IsUnderWay w number txns now saids s → IsAtHome a w → IsAfter s a → IsTold s t said a
@@ -120,7 +120,7 @@ parted_more (x ∷ works) (y ∷ passes) [] work pass answers h p q = absurd h
 parted_more (x ∷ works) (y ∷ passes) (z ∷ replies) work pass answers h p q =
     (h.0, h.1, parted_more works passes replies work pass answers h.2 p q)
 
-worked : (w : Place) (number : ℕ) (scripts : List (List Transaction)) (works : List Work) (passes : List Holding)
+worked : (w : Setting) (number : ℕ) (scripts : List (List Transaction)) (works : List Work) (passes : List Holding)
     (replies : List (Vec ScriptAnswer))
     → length works ≡ length scripts
     → ((i : ℕ) (t : List Transaction) (d : Work) → i < length scripts → IsWork w (number + i) (get_or scripts i t) (get_or works i d))
@@ -148,7 +148,7 @@ worked w number (t ∷ scripts) (work ∷ works) (pass ∷ passes) (answers ∷ 
       (subst (λ (s : Holding). IsAtHome s w) h.0 mine.home, later.1),
     )
 
-pub all_worked : (w : Place) (scripts : List (List Transaction)) (works : List Work) (passes : List Holding)
+pub all_worked : (w : Setting) (scripts : List (List Transaction)) (works : List Work) (passes : List Holding)
     (replies : List (Vec ScriptAnswer))
     → AreWorks w scripts works → AreParted works passes replies
     → AreWorked 0 scripts (map (λ answers. map said_of answers.items) replies) passes × AreAtHome passes w
@@ -211,7 +211,7 @@ are_answered number (t ∷ scripts) (x ∷ replies) (s ∷ passes) history h par
 )
 
 -- what a closed world tells of scripts is an outcome
-pub outcome_of : (seen plan : Plan) (told : Told) (w : Place) (passes : List Holding) (h : History)
+pub outcome_of : (seen plan : Plan) (told : Told) (w : Setting) (passes : List Holding) (h : History)
     → seen ≡ plan → w.first ≡ seen.graph → w.passes ≡ length seen.scripts
     → AreWorked 0 seen.scripts told.replies passes → IsClosed w passes h → told.graph ≡ h.graph
     → told.places ≡ if◌then◌else◌ seen.history (Some (places_of (history_of h.records.items))) None

@@ -6,32 +6,32 @@ use Rattle.std.specs.Global.{Vec}
 use Rattle.std.specs.declared.thread.PromisedHandle.{PromisedHandle}
 use Rattle.ww_plain.specs.declared.transaction.Txn.{Txn}
 use Rattle.ww_plain.specs.Transaction.{Transaction, transaction_of}
-use Rattle.ww_lock.specs.Holding.{Holding, Place}
+use Rattle.ww_lock.specs.Holding.{Holding, Setting}
 use Rattle.ww_run.specs.declared.worker.Work.{Work}
 use Rattle.ww_run.specs.declared.worker.WorkOf.{WorkOf}
 use Rattle.ww_run.specs.Workers.{IsReady, IsWork, AreWorks}
 use Rattle.ww_run.proofs.Scripts.{one_later}
 
 -- each script has its pass, of which the first is this caller's
-abbrev pub AreReadyFrom : Place → ℕ → List (Vec Txn) → List Holding → Type 0
+abbrev pub AreReadyFrom : Setting → ℕ → List (Vec Txn) → List Holding → Type 0
 AreReadyFrom w number [] [] = Unit {0}
 AreReadyFrom w number (t ∷ ts) (s ∷ ss) = IsReady w number (map transaction_of t.items) s × AreReadyFrom w (number + 1) ts ss
 AreReadyFrom w number _ _ = ⊥
 
 -- what a worker gives back was promised of this script and this caller
-pub record IsPromised (w : Place) (number : ℕ) (txns : Vec Txn) (p : WorkOf) : Type 0 where
+pub record IsPromised (w : Setting) (number : ℕ) (txns : Vec Txn) (p : WorkOf) : Type 0 where
   pub world_is : p.world.now ≡ w
   pub caller_is : p.caller ≡ number
   pub txns_are : p.txns.value ≡ txns
 
 -- of each script, of which the first is this caller's
-abbrev pub ArePromised : Place → ℕ → List (Vec Txn) → List (PromisedHandle Work WorkOf) → Type 0
+abbrev pub ArePromised : Setting → ℕ → List (Vec Txn) → List (PromisedHandle Work WorkOf) → Type 0
 ArePromised w number [] [] = Unit {0}
 ArePromised w number (t ∷ ts) (h ∷ hs) = IsPromised w number t h.promise × ArePromised w (number + 1) ts hs
 ArePromised w number _ _ = ⊥
 
 -- How far the starting has come: the scripts that are done, a worker for each if none was refused, and the rest.
-pub record IsStarting (w : Place) (all rest : List (Vec Txn)) (passes : List Holding)
+pub record IsStarting (w : Setting) (all rest : List (Vec Txn)) (passes : List Holding)
     (workers : List (PromisedHandle Work WorkOf)) (room : ℕ) (is_short : Bool) : Type 0 where
   pub done : List (Vec Txn)
   pub parts : all ≡ done ++ rest
@@ -39,7 +39,7 @@ pub record IsStarting (w : Place) (all rest : List (Vec Txn)) (passes : List Hol
   pub fits : length workers + length passes ≤ room
   pub promised : is_short ≡ false → ArePromised w 0 done workers
 
-pub ready_from : (w : Place) (number : ℕ) (scripts : List (Vec Txn)) (passes : List Holding)
+pub ready_from : (w : Setting) (number : ℕ) (scripts : List (Vec Txn)) (passes : List Holding)
     → length passes ≡ length (map (λ (t : Vec Txn). map transaction_of t.items) scripts)
     → ((i : ℕ) (t : List Transaction) (d : Holding) → i < length (map (λ (s : Vec Txn). map transaction_of s.items) scripts)
     → IsReady w (number + i) (get_or (map (λ (s : Vec Txn). map transaction_of s.items) scripts) i t) (get_or passes i d))
@@ -54,7 +54,7 @@ ready_from w number (t ∷ scripts) (s ∷ passes) count each = (
       (one_later number i) (each (suc i) u d (omega (arith, lt)))),
 )
 
-pub starting : (w : Place) (all rest : List (Vec Txn)) (passes : List Holding) (workers : List (PromisedHandle Work WorkOf)) (room : ℕ)
+pub starting : (w : Setting) (all rest : List (Vec Txn)) (passes : List Holding) (workers : List (PromisedHandle Work WorkOf)) (room : ℕ)
     → rest ≡ all → workers ≡ [] → AreReadyFrom w 0 rest passes → length passes ≤ room
     → IsStarting w all rest passes workers room false
 starting w all rest passes workers room is none ready le = rw none (record {
@@ -66,7 +66,7 @@ starting w all rest passes workers room is none ready le = rw none (record {
 })
 
 -- there are as many scripts to come as passes
-same_rest : (w : Place) (number : ℕ) (rest : List (Vec Txn)) (passes : List Holding) → AreReadyFrom w number rest passes
+same_rest : (w : Setting) (number : ℕ) (rest : List (Vec Txn)) (passes : List Holding) → AreReadyFrom w number rest passes
     → length rest ≡ length passes
 same_rest w number [] [] h = refl
 same_rest w number [] (s ∷ passes) h = absurd h
@@ -74,14 +74,14 @@ same_rest w number (t ∷ rest) [] h = absurd h
 same_rest w number (t ∷ rest) (s ∷ passes) h = ap suc (same_rest w (number + 1) rest passes h.1)
 
 -- the next pass and the next script are ready for one another
-ready_next : (w : Place) (number : ℕ) (rest now : List (Vec Txn)) (passes later : List Holding) (pass : Holding) (txns : Vec Txn)
+ready_next : (w : Setting) (number : ℕ) (rest now : List (Vec Txn)) (passes later : List Holding) (pass : Holding) (txns : Vec Txn)
     → AreReadyFrom w number rest passes → passes ≡ pass ∷ later → rest ≡ txns ∷ now
     → IsReady w number (map transaction_of txns.items) pass × AreReadyFrom w (number + 1) now later
 ready_next w number rest now passes later pass txns h first next =
     subst (λ (ss : List Holding). AreReadyFrom w number (txns ∷ now) ss) first
     (subst (λ (ts : List (Vec Txn)). AreReadyFrom w number ts passes) next h)
 
-promised_more : (w : Place) (number : ℕ) (done : List (Vec Txn)) (workers : List (PromisedHandle Work WorkOf)) (txns : Vec Txn)
+promised_more : (w : Setting) (number : ℕ) (done : List (Vec Txn)) (workers : List (PromisedHandle Work WorkOf)) (txns : Vec Txn)
     (worker : PromisedHandle Work WorkOf)
     → ArePromised w number done workers → IsPromised w (number + length done) txns worker.promise
     → ArePromised w number (done ++ txns ∷ []) (workers ++ worker ∷ [])
@@ -95,7 +95,7 @@ promised_more w number (t ∷ done) (x ∷ workers) txns worker h p = (
 )
 
 -- one worker more
-pub started : (w : Place) (all rest now : List (Vec Txn)) (passes later : List Holding) (pass : Holding) (txns : Vec Txn)
+pub started : (w : Setting) (all rest now : List (Vec Txn)) (passes later : List Holding) (pass : Holding) (txns : Vec Txn)
     (workers more : List (PromisedHandle Work WorkOf)) (worker : PromisedHandle Work WorkOf) (room : ℕ) (is_short : Bool)
     → IsStarting w all rest passes workers room is_short → passes ≡ pass ∷ later → rest ≡ txns ∷ now
     → more ≡ workers ++ worker ∷ [] → IsPromised w pass.caller txns worker.promise
@@ -113,7 +113,7 @@ started w all rest now passes later pass txns workers more worker room is_short 
     }
 
 -- a worker that couldn't be started
-pub not_started : (w : Place) (all rest now : List (Vec Txn)) (passes later : List Holding) (pass : Holding) (txns : Vec Txn)
+pub not_started : (w : Setting) (all rest now : List (Vec Txn)) (passes later : List Holding) (pass : Holding) (txns : Vec Txn)
     (workers : List (PromisedHandle Work WorkOf)) (room : ℕ) (is_short : Bool)
     → IsStarting w all rest passes workers room is_short → passes ≡ pass ∷ later → rest ≡ txns ∷ now
     → IsStarting w all now later workers room true
@@ -127,7 +127,7 @@ not_started w all rest now passes later pass txns workers room is_short h first 
       promised = λ e. absurd (false≢true (sym e));
     }
 
-promised_at : (w : Place) (number : ℕ) (scripts : List (Vec Txn)) (workers : List (PromisedHandle Work WorkOf)) (i : ℕ)
+promised_at : (w : Setting) (number : ℕ) (scripts : List (Vec Txn)) (workers : List (PromisedHandle Work WorkOf)) (i : ℕ)
     (t : List Transaction) (d : PromisedHandle Work WorkOf) (work : Work)
     → ArePromised w number scripts workers → i < length scripts
     → IsWork d.promise.world.now d.promise.caller (map transaction_of d.promise.txns.value.items) work
@@ -138,7 +138,7 @@ promised_at w number (s ∷ scripts) [] i t d work h lt kept is = absurd h
 promised_at w number (s ∷ scripts) (x ∷ workers) zero t d work h lt kept is =
     let p : IsPromised w number s d.promise = subst (λ (y : PromisedHandle Work WorkOf). IsPromised w number s y.promise) (sym is) h.0 in
     subst (λ (k : ℕ). IsWork w k (map transaction_of s.items) work) (p.caller_is ∙ sym (add-zero number))
-    (subst (λ (v : Place). IsWork v d.promise.caller (map transaction_of s.items) work) p.world_is
+    (subst (λ (v : Setting). IsWork v d.promise.caller (map transaction_of s.items) work) p.world_is
     (subst (λ (v : Vec Txn). IsWork d.promise.world.now d.promise.caller (map transaction_of v.items) work) p.txns_are kept))
 promised_at w number (s ∷ scripts) (x ∷ workers) (suc i) t d work h lt kept is =
     subst (λ (k : ℕ). IsWork w k (get_or (map (λ (y : Vec Txn). map transaction_of y.items) scripts) i t) work)
@@ -148,7 +148,7 @@ pub no_length : {A : Type 0} (xs : List A) → length xs ≡ 0 → xs ≡ []
 no_length [] h = refl
 no_length (x ∷ xs) h = absurd (omega (arith, h))
 
-same_workers : (w : Place) (number : ℕ) (scripts : List (Vec Txn)) (workers : List (PromisedHandle Work WorkOf))
+same_workers : (w : Setting) (number : ℕ) (scripts : List (Vec Txn)) (workers : List (PromisedHandle Work WorkOf))
     → ArePromised w number scripts workers → length workers ≡ length scripts
 same_workers w number [] [] h = refl
 same_workers w number [] (x ∷ workers) h = absurd h
@@ -156,7 +156,7 @@ same_workers w number (s ∷ scripts) [] h = absurd h
 same_workers w number (s ∷ scripts) (x ∷ workers) h = ap suc (same_workers w (number + 1) scripts workers h.1)
 
 -- where none was refused, each script has its worker in the end
-pub all_started : (w : Place) (all rest : List (Vec Txn)) (passes : List Holding) (workers : List (PromisedHandle Work WorkOf))
+pub all_started : (w : Setting) (all rest : List (Vec Txn)) (passes : List Holding) (workers : List (PromisedHandle Work WorkOf))
     (room : ℕ) (is_short : Bool)
     → IsStarting w all rest passes workers room is_short → is_short ≡ false → passes ≡ [] → ArePromised w 0 all workers
 all_started w all rest passes workers room is_short h short none =
@@ -165,7 +165,7 @@ all_started w all rest passes workers room is_short h short none =
     (sym (h.parts ∙ ap (λ ts. h.done ++ ts) nothing ∙ append-nil h.done)) (h.promised short)
 
 -- what the workers of all scripts promised, they gave back
-pub all_kept : (w : Place) (scripts : List (Vec Txn)) (workers : List (PromisedHandle Work WorkOf)) (works : List Work)
+pub all_kept : (w : Setting) (scripts : List (Vec Txn)) (workers : List (PromisedHandle Work WorkOf)) (works : List Work)
     → ArePromised w 0 scripts workers → length works ≡ length workers
     → ((i : ℕ) (work : Work) → i < length workers → (d : PromisedHandle Work WorkOf) × (d ≡ get_or workers i d)
     × IsWork d.promise.world.now d.promise.caller (map transaction_of d.promise.txns.value.items) (get_or works i work))

@@ -4,7 +4,7 @@ use Rattle.std.specs.List.{AllByRecursion}
 use Rattle.std.specs.Global.{Vec}
 use Rattle.ww_plain.specs.Transaction.{Transaction, Fits, listed, FirstDouble}
 use Rattle.ww_plain.specs.History.{Recorded}
-use Rattle.ww_lock.specs.Holding.{Holding, Place, IsAtHome}
+use Rattle.ww_lock.specs.Holding.{Holding, Setting, IsAtHome}
 use Rattle.ww_script.specs.Outcome.{Said, answered, already, said_of, IsRecordOf, IsAnswered}
 use Rattle.ww_outcome.specs.declared.outcome.ScriptAnswer.{ScriptAnswer}
 use Rattle.ww_run.specs.declared.workers.RunFault.{RunFault}
@@ -31,7 +31,7 @@ IsTold s txn (answered answer) a =
 
 -- The pass of this caller, which has done nothing yet, and a script for it: there is budget for each of its
 -- transactions, and each fits the world.
-pub record IsReady (w : Place) (number : ℕ) (txns : List Transaction) (s : Holding) : Type 0 where
+pub record IsReady (w : Setting) (number : ℕ) (txns : List Transaction) (s : Holding) : Type 0 where
   pub home : IsAtHome s w
   pub same_caller : s.caller ≡ number
   pub nothing : s.own ≡ []
@@ -39,19 +39,19 @@ pub record IsReady (w : Place) (number : ℕ) (txns : List Transaction) (s : Hol
   pub fit : AllByRecursion (Fits (length w.first)) txns
 
 -- What the worker of this caller gives back. If it didn't stop, its pass's own list is exactly what its script came to.
-pub record IsWork (w : Place) (number : ℕ) (txns : List Transaction) (work : Work) : Type 0 where
+pub record IsWork (w : Setting) (number : ℕ) (txns : List Transaction) (work : Work) : Type 0 where
   pub home : IsAtHome work.pass w
   pub same_caller : work.pass.caller ≡ number
   pub told : IfOk work.told (λ answers. IsAnswered 0 txns (map said_of answers.items) work.pass.own)
 
 -- there is a pass for each script, and both are ready for one another
-pub record AreReady (w : Place) (scripts : List (List Transaction)) (passes : List Holding) : Type 0 where
+pub record AreReady (w : Setting) (scripts : List (List Transaction)) (passes : List Holding) : Type 0 where
   pub count : length passes ≡ length scripts
   pub each : (i : ℕ) (t : List Transaction) (d : Holding) → i < length scripts
       → IsReady w i (slice_index_or scripts i t) (slice_index_or passes i d)
 
 -- a worker for each script gave back what it came to
-pub record AreWorks (w : Place) (scripts : List (List Transaction)) (works : List Work) : Type 0 where
+pub record AreWorks (w : Setting) (scripts : List (List Transaction)) (works : List Work) : Type 0 where
   pub count : length works ≡ length scripts
   pub each : (i : ℕ) (t : List Transaction) (d : Work) → i < length scripts
       → IsWork w i (slice_index_or scripts i t) (slice_index_or works i d)

@@ -1,7 +1,7 @@
 use Rattle.std.proofs.Common.{ℕ, List, length, subst, arith}
 use Rattle.ww_plain.specs.declared.node.Node.{Node}
 use Rattle.ww_table.specs.Rule.{first_graph}
-use Rattle.ww_lock.specs.Holding.{Place}
+use Rattle.ww_lock.specs.Holding.{Setting}
 use Rattle.ww_lock.specs.Opened.{AreFresh}
 use Rattle.ww_lock.proofs.Openings.{fresh_home}
 use Rattle.ww_lock.proofs.world.World.open.Goals as goal
@@ -10,7 +10,7 @@ pub returns-in-Ok-fresh-clause-ok : goal.returns-in-Ok-fresh-clause-ok
 returns-in-Ok-fresh-clause-ok c =
     let m = c.in-Ok-make.ensures.ok in
     let shared = c.in-Ok-make.made.0.table.shared in
-    let w : Place = record { home = shared.table_id; kind = shared.key.kind; first = first_graph shared.key; passes = length c.in-Ok-rests.wakers.items } in
+    let w : Setting = record { home = shared.table_id; kind = shared.key.kind; first = first_graph shared.key; passes = length c.in-Ok-rests.wakers.items } in
     let all = c.in-Ok-fresh.all.items in
     let count = c.in-Ok-rests.ensures.wakers in
     let fresh = subst (λ (k : ℕ). AreFresh all w.first w.home k c.args.budget) m.seats_are.many c.in-Ok-fresh.ensures.ok in record {
