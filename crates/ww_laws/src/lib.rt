@@ -1,9 +1,11 @@
-//! Laws of the core that say what can always be done, or never happens, from a state on: each function's contract is one.
+//! Laws of the core that say what can always be done, or never happens, from a state on: each function's contract is
+//! one.
 #![tactic(auto)]
 
 ghost use Rattle.ww_model.specs.Theorem.{OldestNeverDies, OldestCanTake, OldestCanJoinAndTake, CanBeEmptied, RingsAreReached, EventsHappen};
 
-/// The oldest context of all, if in Wound-Wait it has no sign, is never signed and never told to back off, until it ends.
+/// The oldest context of all, if in Wound-Wait it has no sign, is never signed and never told to back off, until it
+/// ends.
 pub fn oldest_never_dies()
     ensures { OldestNeverDies }
 {}
@@ -19,8 +21,8 @@ pub fn oldest_can_join_and_take()
     ensures { OldestCanJoinAndTake }
 {}
 
-/// From every reached state some run in which nobody begins anything new leads to one in which everything is free: a way
-/// out exists.
+/// From every reached state some run in which nobody begins anything new leads to one in which everything is free: a
+/// way out exists.
 pub fn can_be_emptied()
     ensures { CanBeEmptied }
 {}

@@ -27,8 +27,8 @@ holding_of h = record {
 abbrev pub met_of : Hand → Option (ℕ × ℕ)
 met_of h = h.seat.seat.me.0.part.core.met
 
--- The seat is between two calls, and owns just the locks of the nodes that are held, which have their marks. With what is left
--- it stays within what the table counts.
+-- The seat is between two calls, and owns just the locks of the nodes that are held, which have their marks. With what
+-- is left it stays within what the table counts.
 pub record Carries (h : Hand) : Type 0 where
   pub settled : IsSettled h.seat.seat.table_id (length h.seen) h.seat
   pub kind : h.kind ≡ h.seat.seat.me.0.part.core.kind

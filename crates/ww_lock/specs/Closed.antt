@@ -22,8 +22,8 @@ missing_of (suc k) passes = if has_pass passes k then missing_of k passes else m
 abbrev pub AreParts : List Holding → List Recorded → Type 0
 AreParts passes history = AllByRecursion (λ s. part_of s.caller history ≡ s.own) passes
 
--- The history is legal from the graph that the world was opened with, and leads to the graph that is told. There is one pass
--- for each caller, each record is one of theirs, and the part of each is exactly the own list of its pass.
+-- The history is legal from the graph that the world was opened with, and leads to the graph that is told. There is one
+-- pass for each caller, each record is one of theirs, and the part of each is exactly the own list of its pass.
 pub record IsClosed (w : Setting) (passes : List Holding) (h : History) : Type 0 where
   pub legal : IsLegal w.first (history_of h.records.items)
   pub fold : h.graph ≡ last_graph w.first (history_of h.records.items)

@@ -17,14 +17,16 @@ pub record IsPrepared (p : Inside) : Type 0 where
 abbrev pub Covers : Holding → Transaction → Type 0
 Covers s txn = Holds s (footprint_of s.seen txn)
 
--- the state holds the transaction's footprint with the contents that the change was made from, and has room for its record
+-- the state holds the transaction's footprint with the contents that the change was made from, and has room for its
+-- record
 pub record IsMade (s : Holding) (p : Change) : Type 0 where
   pub sizes : length p.before ≡ length s.seen
   pub holds : Holds s (footprint_of p.before p.transaction)
   pub contents : SameAt p.before s.seen (footprint_of p.before p.transaction)
   pub room : 1 ≤ s.room
 
--- what preparing this transaction gives: its answer is that of the nodes as they were seen, and they become the new nodes
+-- what preparing this transaction gives: its answer is that of the nodes as they were seen, and they become the new
+-- nodes
 pub record IsMadeOf (s : Holding) (p : Change) (txn : Transaction) : Type 0 where
   pub made : IsMade s p
   pub transaction : p.transaction ≡ txn

@@ -46,8 +46,8 @@ pub record IsTaken (s : Holding) (n : ℕ) (a : Holding) : Type 0 where
   pub added : a ≡ with_node (record s { tries = a.tries }) n contents
   pub once : a.tries ≤ s.tries + 1
 
--- The node wasn't held, and for it an older context was met, whose stamp is told. The state still holds what it held, which is
--- one node at least.
+-- The node wasn't held, and for it an older context was met, whose stamp is told. The state still holds what it held,
+-- which is one node at least.
 pub record IsRefused (s : Holding) (n : ℕ) (b : Refused) : Type 0 where
   pub new : is_among n s.held ≡ false
   pub holds : 1 ≤ length s.held

@@ -4,9 +4,9 @@ use crate::world::World;
 use std::marker::Model;
 use std::sync::Wait;
 
-/// A context that was told EDEADLK. It still holds its locks, and can only give them all back. By its invariant the seat
-/// notes just this lock and this older stamp, for which it had to die by a step of its own, and has taken and given no
-/// lock since.
+/// A context that was told EDEADLK. It still holds its locks, and can only give them all back. By its invariant the
+/// seat notes just this lock and this older stamp, for which it had to die by a step of its own, and has taken and
+/// given no lock since.
 pub struct Backoff {
     pub(crate) hand: Box<Hand>,
     pub(crate) contended: u8,

@@ -28,8 +28,8 @@ impl Contended {
     ghost use Rattle.ww_lock.specs.Holding.{IsAtHome};
     ghost use Rattle.ww_lock.specs.Moves.{IsTaken};
 
-    /// Takes the contended lock, however long that takes: the kernel's slow path. It holds no other lock, so nobody tells it
-    /// EDEADLK.
+    /// Takes the contended lock, however long that takes: the kernel's slow path. It holds no other lock, so nobody
+    /// tells it EDEADLK.
     pub fn lock_slow<R: Wait>(self, rt: &R, world: &World) -> Acquiring
         requires home { IsAtHome self.holding world.now }
         ensures taken { IsTaken self.holding self.contended result }

@@ -88,8 +88,8 @@ impl Done {
         self.hand.prepare(*world.wakers.allocator(), txn)
     }
 
-    /// Whether what was prepared can be committed here: the nodes that it depends on and may change are held, with the contents
-    /// that it was made from, and there is room for its record.
+    /// Whether what was prepared can be committed here: the nodes that it depends on and may change are held, with the
+    /// contents that it was made from, and there is room for its record.
     pub fn made(&self, prepared: &Prepared) -> bool
         ensures { IsTrue result ↔ IsMade self.now prepared.now }
     {

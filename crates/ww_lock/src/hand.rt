@@ -8,8 +8,8 @@ use ww_plain::{Graph, MAX_NODES, Node, Txn, footprint};
 use ww_queue::Kind;
 use ww_table::Seat16;
 
-/// What a pass carries through all its states: its seat at the table, and what it keeps beside that. Contracts see it as a
-/// holding.
+/// What a pass carries through all its states: its seat at the table, and what it keeps beside that. Contracts see it
+/// as a holding.
 #[derive(Drop)]
 pub(crate) struct Hand {
     pub(crate) seat: Seat16,

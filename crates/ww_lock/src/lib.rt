@@ -1,8 +1,10 @@
-//! Contexts for threads: a graph whose nodes are locked by wound/wait mutexes, and the states of a thread that takes them.
+//! Contexts for threads: a graph whose nodes are locked by wound/wait mutexes, and the states of a thread that takes
+//! them.
 //!
-//! A [`World`] is opened on a graph, with a [`Pass`] for each thread. A pass begins a context, which takes locks, commits a
-//! transaction and gives the locks back, and becomes the pass again. Each state on that way is a type of its own, and the
-//! call that leaves a state spends it: so what the kernel's document of these locks warns of can't be written.
+//! A [`World`] is opened on a graph, with a [`Pass`] for each thread. A pass begins a context, which takes locks,
+//! commits a transaction and gives the locks back, and becomes the pass again. Each state on that way is a type of its
+//! own, and the call that leaves a state spends it: so what the kernel's document of these locks warns of can't be
+//! written.
 #![tactic(auto)]
 
 mod acquiring;

@@ -5,8 +5,8 @@ use crate::world::World;
 use std::marker::Model;
 use std::sync::Wait;
 
-/// A pass that does nothing now: it holds no lock and has no context. It may be dropped, but a world is closed only with all of
-/// its passes. Contracts see it, as each state that it becomes, as what it holds.
+/// A pass that does nothing now: it holds no lock and has no context. It may be dropped, but a world is closed only
+/// with all of its passes. Contracts see it, as each state that it becomes, as what it holds.
 #[derive(Drop)]
 pub struct Pass {
     pub(crate) hand: Box<Hand>,
@@ -64,7 +64,8 @@ impl Pass {
         Ok(hand)
     }
 
-    /// Starts a context: it draws the next stamp of the world, and is younger than all before. A spent pass is given back.
+    /// Starts a context: it draws the next stamp of the world, and is younger than all before. A spent pass is given
+    /// back.
     pub fn begin(self, world: &World) -> Result<Acquiring, Pass>
         requires home { IsAtHome self world.now }
         ensures ok { IfOk result (IsBegun self) }

@@ -33,8 +33,8 @@ impl Model for Prepared {
     ghost invariant = { λ p. IsPrepared p };
 }
 
-/// What a caller is told of its commit: its place in the one history, which of the caller's commits it is, from 0, and the
-/// transaction's answer.
+/// What a caller is told of its commit: its place in the one history, which of the caller's commits it is, from 0, and
+/// the transaction's answer.
 #[derive(Debug, Drop)]
 pub struct Receipt {
     pub place: u64,
@@ -50,7 +50,8 @@ impl Hand {
     ghost use Rattle.ww_lock.specs.Making.{Covers, IsMade, IsMadeOf, change_of};
     ghost use Rattle.ww_lock.specs.Moves.{IsCommitted};
 
-    /// A transaction's change of the nodes as they were seen, in all the memory that its commit needs beside the own list.
+    /// A transaction's change of the nodes as they were seen, in all the memory that its commit needs beside the own
+    /// list.
     fn change(&self, alloc: Global, txn: &Txn) -> Result<Prepared, AllocError>
         requires fits { Fits (length self.now.seen) (transaction_of txn.now) }
         requires no_double { HasNoDouble (transaction_of txn.now) }

@@ -38,8 +38,8 @@ impl OpenFault {
     }
 }
 
-/// A graph whose nodes are locked, one lock a node. Threads share it by reference. Contracts see its kind, the graph that it was
-/// opened with, and how many passes it gave.
+/// A graph whose nodes are locked, one lock a node. Threads share it by reference. Contracts see its kind, the graph
+/// that it was opened with, and how many passes it gave.
 #[derive(Drop)]
 pub struct World {
     pub(crate) board: Board,
@@ -64,8 +64,8 @@ impl World {
     ghost use Rattle.std.specs.Prelude.{◌≡◌, IfOk, IfErr, length};
     ghost use Rattle.ww_lock.specs.Opened.{IsOpened, IsOpenFault};
 
-    /// Opens a world on a graph, with so many passes, from 1 to 16, each of which may start so many contexts and solos. A pass
-    /// is a caller of its own, and has the number of its place in the list.
+    /// Opens a world on a graph, with so many passes, from 1 to 16, each of which may start so many contexts and solos.
+    /// A pass is a caller of its own, and has the number of its place in the list.
     pub fn open(
         alloc: Global,
         kind: Kind,

@@ -1,5 +1,5 @@
-//! The ring of two contexts, by one thread with both seats of a board: each holds a lock and looks at the other's. After each
-//! call all words of the board are compared.
+//! The ring of two contexts, by one thread with both seats of a board: each holds a lock and looks at the other's.
+//! After each call all words of the board are compared.
 
 ghost use Rattle.std.specs.Prelude.{ℕ, ◌≡◌, ◌<◌, Bool, List, false, true, slice_index_or, slice_set, IfOk};
 ghost use Rattle.ww_queue.specs.declared.kind.Kind.{Kind};
@@ -31,8 +31,8 @@ fn words(board: &Board) -> [u64; 8] {
     ]
 }
 
-/// Stops the test where a word of the board is another than these: the first owners, the sign of seat 1, the stamp word and
-/// the front word. All others are 0.
+/// Stops the test where a word of the board is another than these: the first owners, the sign of seat 1, the stamp word
+/// and the front word. All others are 0.
 pub(crate) fn compare<R: Abort>(
     rt: &R,
     board: &Board,
@@ -150,7 +150,8 @@ fn tied<R: Abort>(rt: &R, alloc: Global, kind: Kind) -> Result<(Board, Seat16, S
     Ok((board, older, younger))
 }
 
-/// The younger, which has backed off, gives its lock back; the older takes it; and the younger ends, with its sign or none.
+/// The younger, which has backed off, gives its lock back; the older takes it; and the younger ends, with its sign or
+/// none.
 fn untie<R: Wait + Abort>(
     rt: &R,
     board: &Board,
@@ -222,7 +223,8 @@ fn hand_over<R: Wait>(rt: &R, board: &Board, kind: Kind, owner: &mut Seat16, wak
     give(rt, owner, board, 0, wakers);
 }
 
-/// A waiter asks for the lock at its second look. So the lock is handed to it, and it is woken: else this would never end.
+/// A waiter asks for the lock at its second look. So the lock is handed to it, and it is woken: else this would never
+/// end.
 #[test]
 fn a_lock_is_handed_over(rt: HostRuntime) -> Result<(), Fail> {
     let kind = Kind::WoundWait;

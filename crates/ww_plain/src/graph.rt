@@ -78,16 +78,7 @@ impl Graph {
         requires { n < length self.now }
         ensures { slice_get self.now n ≡ Some result }
     {
-        self.nodes[n as usize]
-    }
-
-    /// Takes one node over from another graph of the same size.
-    pub fn take_from(&mut self, other: &Graph, n: u8)
-        requires there { n < length self.old }
-        requires sizes { length other.now ≡ length self.old }
-        ensures { self.new ≡ slice_set self.old n (node_at other.now n) }
-    {
-        self.nodes[usize::from(n)] = other.nodes[usize::from(n)];
+        self.nodes[usize::from(n)]
     }
 
     /// Puts a node in the place of another.
@@ -106,6 +97,7 @@ impl Graph {
         let nodes = Vec::from_slice(alloc, &self.nodes)?;
         Ok(Graph { nodes })
     }
+
     /// Whether it is the same graph.
     #[tactic(auto, using(crate::proofs::Sames::nodes_same))]
     pub fn is_same(&self, other: &Graph) -> bool

@@ -39,8 +39,8 @@ pub fn commit_two(
     Ok(place)
 }
 
-/// With the first lock held: one try to take the second, and a commit. What it comes to, with the place of the commit if
-/// there was one; nothing where it can't be ended.
+/// With the first lock held: one try to take the second, and a commit. What it comes to, with the place of the commit
+/// if there was one; nothing where it can't be ended.
 fn try_second(
     board: &Board,
     seat: &mut Seat16,
@@ -93,8 +93,8 @@ fn try_both(
     Some(made)
 }
 
-/// A round: a context that tries to take two locks, commits that their nodes have 1 more each, and gives back what it took.
-/// What it comes to, with the place of the commit if there was one; nothing where it can't be ended.
+/// A round: a context that tries to take two locks, commits that their nodes have 1 more each, and gives back what it
+/// took. What it comes to, with the place of the commit if there was one; nothing where it can't be ended.
 pub fn round_of_two(
     board: &Board,
     seat: &mut Seat16,

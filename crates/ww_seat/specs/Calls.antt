@@ -44,8 +44,8 @@ pub record HasGiven (m : Sat) (n : ℕ) (m' : Sat) : Type 0 where
   pub held : m'.0.held ≡ slice_set m.0.held n None
   pub tries : m'.0.part.core.tries ≡ m.0.part.core.tries
 
--- It left the wait list of lock n inside the guard, by the step that the rules have for a context that has to die of stamp k;
--- its view then shows the older context that it met; and it left the guard at once.
+-- It left the wait list of lock n inside the guard, by the step that the rules have for a context that has to die of
+-- stamp k; its view then shows the older context that it met; and it left the guard at once.
 pub record HasMet (n k : ℕ) (w : View) : Type 0 where
   pub view : View
   pub word : Owner
@@ -53,8 +53,8 @@ pub record HasMet (n k : ℕ) (w : View) : Type 0 where
   pub met : MetByView view word k
   pub now : w ≡ exited (died view word)
 
--- It was told EDEADLK: it owns what it owned, one lock at least, and met an older context, which its view notes. That is a
--- step of its own: no other step notes one.
+-- It was told EDEADLK: it owns what it owned, one lock at least, and met an older context, which its view notes. That
+-- is a step of its own: no other step notes one.
 pub record HasToDie (m : Sat) (n k : ℕ) (m' : Sat) : Type 0 where
   pub holds : HoldsAsBefore m m'
   pub one : (j : ℕ) × (owns m.0.part.core j ≡ true)
@@ -94,8 +94,8 @@ pub record HasEnded (m m' : Sat) : Type 0 where
 abbrev pub HoldsAll : Sat → List Node → List ℕ → Type 0
 HoldsAll m graph ns = (n : ℕ) → IsTrue (is_among n ns) → (owns m.0.part.core n ≡ true) × (get_elem? m.0.held n ≡ some (Some (node_at graph n)))
 
--- A commit: its own list has the record besides, at a place above all others, and its view names these nodes as they are in
--- the graph afterwards, the others as before.
+-- A commit: its own list has the record besides, at a place above all others, and its view names these nodes as they
+-- are in the graph afterwards, the others as before.
 pub record HasCommitted (m : Sat) (place : ℕ) (r : Record) (after : List Node) (ns : List ℕ) (m' : Sat) : Type 0 where
   pub kind : m'.0.part.core.kind ≡ m.0.part.core.kind
   pub who : m'.0.part.core.who ≡ m.0.part.core.who

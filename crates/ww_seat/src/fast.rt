@@ -29,8 +29,8 @@ fn unsign_bare(seat: &mut Seat16, board: &Board)
     seat.clear(board);
 }
 
-/// Takes the sign back of a context that holds nothing: it met an older one with locks that it has given back since.
-fn unsign_wounded(seat: &mut Seat16, board: &Board)
+/// Takes the sign back where the context holds nothing: nobody waits for it then.
+fn unsign_if_bare(seat: &mut Seat16, board: &Board)
     requires seat { IsSettled board.now.table.shared.table_id (length (first_graph board.now.table.shared.key)) seat.old }
     ensures seat { IsSettled board.now.table.shared.table_id (length (first_graph board.now.table.shared.key)) seat.new }
     ensures same { HoldsAsBefore seat.old.seat.me seat.new.seat.me }
@@ -42,7 +42,7 @@ fn unsign_wounded(seat: &mut Seat16, board: &Board)
     if seat.stamp() == 0 {
         return;
     }
-    if seat.is_holding() {
+    if seat.has_out() {
         return;
     }
     unsign_bare(seat, board);
@@ -60,13 +60,13 @@ fn unsign(seat: &mut Seat16, board: &Board, kind: Kind)
     ensures records { seat.new.records ≡ seat.old.records }
 {
     match kind {
-        Kind::WoundWait => unsign_wounded(seat, board),
+        Kind::WoundWait => unsign_if_bare(seat, board),
         Kind::WaitDie => {}
     }
 }
 
-/// Takes a lock if it is free and nobody waits for it, and gives its node. It is the first try of every call that takes a lock:
-/// where it fails the seat may go on to want the lock.
+/// Takes a lock if it is free and nobody waits for it, and gives its node. It is the first try of every call that takes
+/// a lock: where it fails the seat may go on to want the lock.
 pub fn try_take(seat: &mut Seat16, board: &Board, kind: Kind, lock: u8) -> Option<Node>
     requires seat { IsSettled board.now.table.shared.table_id (length (first_graph board.now.table.shared.key)) seat.old }
     requires kind { kind ≡ seat.old.seat.me.0.part.core.kind }

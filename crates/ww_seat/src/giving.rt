@@ -12,8 +12,8 @@ use std::sync::Wait;
 use ww_queue::Entry;
 use ww_table::{Board, Seat16};
 
-/// Gives a lock back. Where somebody waits for it, the first waiter is woken, whether the lock was handed to it or is free:
-/// a waiter that parks looks only when it is woken.
+/// Gives a lock back. Where somebody waits for it, the first waiter is woken, whether the lock was handed to it or is
+/// free: a waiter that parks looks only when it is woken.
 pub fn give<R: Wait>(rt: &R, seat: &mut Seat16, board: &Board, lock: u8, wakers: &[Unparker])
     requires settled { IsSettled board.now.table.shared.table_id (length (first_graph board.now.table.shared.key)) seat.old }
     requires lock { lock < length (first_graph board.now.table.shared.key) }

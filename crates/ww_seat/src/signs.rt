@@ -13,8 +13,8 @@ use ww_queue::Kind;
 use ww_table::{Board, Seat16};
 use ww_word::Owner;
 
-/// Gives all signs that the seat owes by the word that it saw. Whom this call signed is to be woken: somebody else wakes
-/// those that were signed before.
+/// Gives all signs that the seat owes by the word that it saw. Whom this call signed is to be woken: somebody else
+/// wakes those that were signed before.
 pub(crate) fn sign_all(
     seat: &mut Seat16,
     board: &Board,

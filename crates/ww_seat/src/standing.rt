@@ -17,7 +17,8 @@ use ww_queue::Kind;
 use ww_table::{Board, Seat16};
 use ww_word::{HANDOFF, Owner, WAITERS};
 
-/// Stands in the wait list, where it doesn't yet, if the owner word is still the one seen, and gives the word as it is then.
+/// Stands in the wait list, where it doesn't yet, if the owner word is still the one seen, and gives the word as it is
+/// then.
 pub(crate) fn stand(
     seat: &mut Seat16,
     board: &Board,
@@ -44,8 +45,8 @@ pub(crate) fn stand(
     Some(seen.with_waiters())
 }
 
-/// Asks for the lock as the first waiter that looks again, if the owner word is still the one seen and nobody asked yet,
-/// and gives the word as it is then.
+/// Asks for the lock as the first waiter that looks again, if the owner word is still the one seen and nobody asked
+/// yet, and gives the word as it is then.
 fn ask(seat: &mut Seat16, board: &Board, lock: u8, seen: Owner, is_later: bool) -> Option<Owner>
     requires seat { IsSeated board.now.table.shared.table_id seat.old }
     requires lock { lock < length (first_graph board.now.table.shared.key) }
@@ -99,8 +100,8 @@ fn back_off(seat: &mut Seat16, board: &Board, kind: Kind, lock: u8, seen: Owner)
     true
 }
 
-/// What comes of a seat that stands in the wait list: it asks for the lock, where it looks again, condemns whom it has to,
-/// and then stays or backs off. Nothing where the owner word is another than the one seen.
+/// What comes of a seat that stands in the wait list: it asks for the lock, where it looks again, condemns whom it has
+/// to, and then stays or backs off. Nothing where the owner word is another than the one seen.
 pub(crate) fn wait(
     seat: &mut Seat16,
     board: &Board,

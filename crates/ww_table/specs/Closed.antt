@@ -30,8 +30,8 @@ pub record HaveAllCome (table : TableId) (key : Start) (seats : List Seat16) : T
   pub each : AllByRecursion (HasCome table) seats
   pub all : (k : ℕ) → k < key.seats → (s : Seat16) × Has seats s × (s.who ≡ k)
 
--- The records are a legal history from the first graph, and lead to this graph. Each is one of a seat's, and the part of each
--- seat is exactly its own list. The seats were no more than the table has.
+-- The records are a legal history from the first graph, and lead to this graph. Each is one of a seat's, and the part
+-- of each seat is exactly its own list. The seats were no more than the table has.
 pub record IsClosed (key : Start) (seats : List Seat16) (records : List Record) (graph : List Node) : Type 0 where
   pub legal : IsLegal (first_graph key) (history_of records)
   pub fold : graph ≡ last_graph (first_graph key) (history_of records)

@@ -23,8 +23,8 @@ lost v = knowing v (stepped v.part.core)
 abbrev pub AreSeats : List Entry → Type 0
 AreSeats q = (e : Entry) → Has q e → (e.seat < 16) × (e.stamp < 2 ^ 56)
 
--- each waiter stands in the list once: the seat itself not where it waits for no lock, and where it waits for this one as its
--- view has it
+-- each waiter stands in the list once: the seat itself not where it waits for no lock, and where it waits for this one
+-- as its view has it
 pub record StandsAs (v : View) (n : ℕ) (q : List Entry) : Type 0 where
   pub once : Once q
   pub absent : v.waits ≡ 0 → StandsNot q v.who
@@ -52,8 +52,8 @@ exits_to st m stored m' = m' ≡ (exiting m.0, rest m.1)
 abbrev pub looking : Sight → Owner → Sight
 looking v o = knowing v (has_looked v.part.core o)
 
--- what the word tells a seat that has this view: it names the seat only where the lock is the seat's, or handed to it; and
--- a flag stands where somebody waits
+-- what the word tells a seat that has this view: it names the seat only where the lock is the seat's, or handed to it;
+-- and a flag stands where somebody waits
 pub record IsSeenBy (v : View) (n : ℕ) (o : Owner) : Type 0 where
   pub own : owns v n ≡ false → o.seat ≡ Some v.who → is_handed o ≡ true
   pub flags : v.list ≢ [] → o.flags ≢ 0

@@ -1,5 +1,5 @@
--- Which word is which. The words of two locks, and of two seats, are eight apart, so that they share no cache line; the guard
--- of a lock lies beside its owner word, since who enters the guard goes on to write that.
+-- Which word is which. The words of two locks, and of two seats, are eight apart, so that they share no cache line; the
+-- guard of a lock lies beside its owner word, since who enters the guard goes on to write that.
 use Rattle.std.specs.Prelude.{ℕ, ◌≡◌, ◌+◌, ◌*◌}
 use Rattle.atomic_table.specs.Seated.{TableId}
 

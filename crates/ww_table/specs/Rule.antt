@@ -1,4 +1,5 @@
--- The rule of the table: there is a reached state of the core that the words, the lists and nodes at home, and the views show.
+-- The rule of the table: there is a reached state of the core that the words, the lists and nodes at home, and the
+-- views show.
 use Rattle.std.specs.Prelude.{ℕ, zero, suc, ◌≡◌, ◌≢◌, ◌+◌, ◌-◌, ◌^◌, ◌<◌, ◌≤◌, ◌⊎◌, true, List, [], ◌∷◌, length, map, replicate, slice_index, Some, None}
 use mathlib.Core.Option.{some}
 use mathlib.Core.Option as maybe
@@ -63,8 +64,8 @@ pub record AtHome (graph : List Node) (owner : ℕ → Holder) (queue : ℕ → 
   pub nodes : (n : ℕ) → n < length graph → ((s : ℕ) → owner n ≢ Taken s) → get_elem? homes n ≡ some (some (Content (node_at graph n)))
   pub lists : (n : ℕ) → n < 64 → guard n ≡ 0 → get_elem? homes (list_at n) ≡ some (some (Line (queue n)))
 
--- The commits so far are a legal history, as many as the front word says. Each seat drew and committed fewer than 2^32 times,
--- and the draws make up the stamp word.
+-- The commits so far are a legal history, as many as the front word says. Each seat drew and committed fewer than 2^32
+-- times, and the draws make up the stamp word.
 pub record Counted (key : Start) (drawn commits : ℕ) (log : List Recorded) (draws : ℕ → ℕ) : Type 0 where
   pub legal : IsLegal (first_graph key) log
   pub graph : IsGraph (last_graph (first_graph key) log)

@@ -22,7 +22,8 @@ use Rattle.ww_table.specs.Guards.{lost}
 abbrev pub Expects : Step Cell → ℕ → Owner → Type 0
 Expects st n o = (st.word ≡ owner_at n) × IsValid o × (st.first ≡ packed o)
 
--- what such a step makes of the seat where the word is the one expected; where it is another, nothing but that it made a step
+-- what such a step makes of the seat where the word is the one expected; where it is another, nothing but that it made
+-- a step
 abbrev pub tries_to : (ℕ → Owner → Sat → Sat → Type 0) → Step Cell → Sat → ℕ → Sat → Type 0
 tries_to wins st m found m' = (n : ℕ) (o : Owner) → Expects st n o → (found ≡ packed o → wins n o m m') × (found ≢ packed o → m' ≡ (lost m.0, m.1))
 

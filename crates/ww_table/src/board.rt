@@ -28,8 +28,8 @@ impl Board {
         self.size
     }
 
-    /// Reads one word, for tests: a seat at work reads by its steps alone. No clause says what it has.
-    /// The words are numbered: owner words from 0, guards from 64, signs from 128, the stamp word 144, the front word 145.
+    /// Reads one word, for tests: a seat at work reads by its steps alone. No clause says what it has. The words are
+    /// numbered: owner words from 0, guards from 64, signs from 128, the stamp word 144, the front word 145.
     pub fn peek(&self, word: u8) -> u64
         requires { word < 146 }
     {

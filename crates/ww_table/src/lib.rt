@@ -1,5 +1,6 @@
-//! The table of the running locks: owner words, guards, signs and counts in single atomic words, nodes and wait lists in
-//! slots, and one rule above them: what the words, the slots and the views of the seats show is a reached state of the core.
+//! The table of the running locks: owner words, guards, signs and counts in single atomic words, nodes and wait lists
+//! in slots, and one rule above them: what the words, the slots and the views of the seats show is a reached state of
+//! the core.
 #![tactic(auto)]
 
 mod board;

@@ -18,8 +18,8 @@ use ww_plain::Graph;
 use ww_queue::Kind;
 
 impl Board {
-    /// A table of locks of this kind for the nodes of a graph, and so many seats; seat k has the number k. Where a growth is
-    /// refused the graph comes back.
+    /// A table of locks of this kind for the nodes of a graph, and so many seats; seat k has the number k. Where a
+    /// growth is refused the graph comes back.
     pub fn make(
         alloc: Global,
         kind: Kind,

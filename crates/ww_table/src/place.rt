@@ -38,8 +38,8 @@ impl Seat16 {
         self.records.reserve(1)
     }
 
-    /// Commits: the record takes the next place of the one history, which this gives, and the view names the nodes held as
-    /// the transaction leaves them. The slots are changed by `swap_node`.
+    /// Commits: the record takes the next place of the one history, which this gives, and the view names the nodes held
+    /// as the transaction leaves them. The slots are changed by `swap_node`.
     pub fn place(&mut self, board: &Board, done: Record) -> u64
         requires seat { IsSeated board.now.table.shared.table_id self.old }
         requires may { MayPlace self.old.seat.me.0 (recorded_of done) }

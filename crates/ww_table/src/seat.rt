@@ -26,8 +26,8 @@ use ww_word::{Owner, pack};
 /// How many slots a seat can have out: all nodes, and the wait list of one lock.
 pub(crate) const MAX_OUT: usize = 65;
 
-/// A seat of a board. It may start one context after another. Each of its steps is one atomic operation on one word; its
-/// other calls look at what it has out.
+/// A seat of a board. It may start one context after another. Each of its steps is one atomic operation on one word;
+/// its other calls look at what it has out.
 #[derive(Drop)]
 pub struct Seat16 {
     pub(crate) seat: TableSeat,
@@ -55,7 +55,7 @@ impl Seat16 {
 
     /// Whether it has a slot out.
     #[tactic(auto, using(crate::proofs::Turning::numbers_long))]
-    pub fn is_holding(&self) -> bool
+    pub fn has_out(&self) -> bool
         requires order { self.now.order.items ≡ numbers_of self.now.seat.me.1 }
         ensures { result ≡ nat_lt 0 (length self.now.seat.me.1) }
     {
@@ -204,7 +204,8 @@ impl Seat16 {
     }
 }
 
-/// Sees to it that this slot, which is out, is the one taken last. It is no step, and costs nothing where it is that already.
+/// Sees to it that this slot, which is out, is the one taken last. It is no step, and costs nothing where it is that
+/// already.
 #[inline(always)]
 pub(crate) fn bring(seat: &mut TableSeat, order: &mut ArrayVec<u8, MAX_OUT>, slot: u8)
     requires order { order.old.items ≡ numbers_of seat.old.me.1 }

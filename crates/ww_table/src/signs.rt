@@ -10,8 +10,8 @@ use crate::plays_inside::{Clear, OwnSign, Sign};
 use crate::seat::Seat16;
 
 impl Seat16 {
-    /// Condemns another seat by the stamp of the older context that it meets here, and answers whether this call did so:
-    /// a seat that has a sign keeps it. Either way the victim has one.
+    /// Condemns another seat by the stamp of the older context that it meets here, and answers whether this call did
+    /// so: a seat that has a sign keeps it. Either way the victim has one.
     pub fn sign(&mut self, board: &Board, lock: u8, victim: u8, stamp: u64) -> bool
         requires seat { IsSeated board.now.table.shared.table_id self.old }
         requires victim { victim < 16 }

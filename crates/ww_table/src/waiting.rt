@@ -84,8 +84,8 @@ impl Seat16 {
         shared.compare_exchange::<Ask>(&mut self.seat, owner_word(lock), old, new) == old
     }
 
-    /// Takes the lock, if its owner word is still the one seen: that of a free lock, or of one handed to the seat. The node
-    /// comes with it, and the seat leaves the wait list.
+    /// Takes the lock, if its owner word is still the one seen: that of a free lock, or of one handed to the seat. The
+    /// node comes with it, and the seat leaves the wait list.
     pub fn take(&mut self, board: &Board, lock: u8, seen: Owner) -> bool
         requires seat { IsSeated board.now.table.shared.table_id self.old }
         requires lock { lock < length (first_graph board.now.table.shared.key) }
@@ -148,8 +148,8 @@ impl Seat16 {
         true
     }
 
-    /// Gives the lock back, if its owner word is still the one seen: to the first waiter, if that was asked for. The node
-    /// goes home.
+    /// Gives the lock back, if its owner word is still the one seen: to the first waiter, if that was asked for. The
+    /// node goes home.
     pub fn give(&mut self, board: &Board, lock: u8, seen: Owner) -> bool
         requires seat { IsSeated board.now.table.shared.table_id self.old }
         requires lock { lock < length (first_graph board.now.table.shared.key) }

@@ -1,4 +1,5 @@
--- Of the steps at guards, inside them and on signs: from every table that the rule allows each is one event on what is shown.
+-- Of the steps at guards, inside them and on signs: from every table that the rule allows each is one event on what is
+-- shown.
 use Rattle.std.specs.Prelude.{ℕ, suc, ◌≡◌, ◌<◌, ◌==◌, ◌∷◌, List, length, slice_index, Some}
 use mathlib.Core.Option.{some}
 use lib.ListN.{get_elem?}
@@ -67,8 +68,8 @@ AskIsAsk = (key : Start) (s : St) (r : Ruled key s) (id : ℕ) (me : Sat) (n : �
     MayAsk me.0.part.core n o → IsValid o → slice_index s.words (owner_at n) ≡ packed o →
     Makes key s r (Ask me.0.part.core.who n) (stepped s (owner_at n) (packed (asked_word o)) id me.1 (asking me.0 o) keeps)
 
--- an owner word loses its flags as the last waiter backs off, or stays, as Die; the seat is told to die of the stamp that
--- the core tells it, and met the context that has it
+-- an owner word loses its flags as the last waiter backs off, or stays, as Die; the seat is told to die of the stamp
+-- that the core tells it, and met the context that has it
 abbrev pub DieIsDie : Type 0
 DieIsDie = (key : Start) (s : St) (r : Ruled key s) (id : ℕ) (me : Sat) (n : ℕ) (o : Owner) (k : ℕ) → Steps s id me →
     MayDie me.0.part.core n o k → IsValid o → slice_index s.words (owner_at n) ≡ packed o →

@@ -27,8 +27,8 @@ pub fn place_is_commit()
     ensures { PlaceIsCommit }
 {}
 
-/// The core that the rule tells of a table, with the stamps of its views and the wait lists wherever they lie, is lawful,
-/// and every cycle of waits there has a condemned member.
+/// The core that the rule tells of a table, with the stamps of its views and the wait lists wherever they lie, is
+/// lawful, and every cycle of waits there has a condemned member.
 pub fn ruled_is_lawful()
     ensures { RuledIsLawful }
 {}

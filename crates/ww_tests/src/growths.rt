@@ -1,5 +1,5 @@
-//! The calls that may want memory, each of them where a growth is refused: what came back is looked at, and the same call,
-//! made once more, gives its answer. With all the memory that they want these tests show that the calls succeed;
+//! The calls that may want memory, each of them where a growth is refused: what came back is looked at, and the same
+//! call, made once more, gives its answer. With all the memory that they want these tests show that the calls succeed;
 //! `bench/refuse_library_growths` refuses each growth of each of them in turn.
 
 ghost use Rattle.std.specs.Prelude.{◌<◌, length};
@@ -109,8 +109,8 @@ fn both_locked<R: Wait + Abort>(rt: &R, world: &World, pass: Pass) -> Done
     locked(rt, world, acquiring, 1, 0).done()
 }
 
-/// Prepares to ask a context for the values of these nodes. Where a growth is refused, the transaction comes back, and can be
-/// prepared.
+/// Prepares to ask a context for the values of these nodes. Where a growth is refused, the transaction comes back, and
+/// can be prepared.
 fn prepared<R: Abort>(rt: &R, world: &World, done: &mut Done, txn: Txn, nodes: &[u8]) -> Prepared
     requires home { IsAtHome done.old world.now }
     ensures home { IsAtHome done.new world.now }

@@ -1,6 +1,6 @@
-//! Tests of contexts and passes, the three ways of taking many locks, and transactions, over what each of these libraries
-//! offers to all. They see that calls succeed where there is memory, and what comes of threads. They stand in a crate of their
-//! own, so that no library is proved twice.
+//! Tests of contexts and passes, the three ways of taking many locks, and transactions, over what each of these
+//! libraries offers to all. They see that calls succeed where there is memory, and what comes of threads. They stand in
+//! a crate of their own, so that no library is proved twice.
 #![tactic(auto)]
 
 #[cfg(test)]

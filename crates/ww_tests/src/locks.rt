@@ -1,5 +1,5 @@
-//! What one thread sees that takes several passes of a world. A state isn't dropped: a helper that meets another answer than
-//! it must meet stops the test.
+//! What one thread sees that takes several passes of a world. A state isn't dropped: a helper that meets another answer
+//! than it must meet stops the test.
 
 ghost use Rattle.std.specs.Prelude.{◌≡◌, ◌<◌, ◌≤◌, length, IfOk};
 ghost use Rattle.ww_lock.specs.Holding.{IsAtHome, AreAtHome};

@@ -22,11 +22,11 @@ const YIELDS: u32 = 5_000;
 /// What the two do in each round, of which there are so many.
 #[derive(Clone, Copy)]
 enum Play {
-    /// They lock both nodes in opposite orders: both hold their first node before either asks for its second. The younger alone
-    /// is told EDEADLK.
+    /// They lock both nodes in opposite orders: both hold their first node before either asks for its second. The
+    /// younger alone is told EDEADLK.
     Crossed,
-    /// The older holds a node and asks for nothing more, and the younger, which holds another node, asks for that one. In
-    /// Wound-Wait it waits and gets it; in Wait-Die it is told EDEADLK, with the older one's stamp.
+    /// The older holds a node and asks for nothing more, and the younger, which holds another node, asks for that one.
+    /// In Wound-Wait it waits and gets it; in Wait-Die it is told EDEADLK, with the older one's stamp.
     Asked(Kind),
 }
 
@@ -39,7 +39,8 @@ impl Play {
     }
 }
 
-/// What one thread shows to the other: how often it has come to where they wait for one another, and the stamp of its context.
+/// What one thread shows to the other: how often it has come to where they wait for one another, and the stamp of its
+/// context.
 #[derive(Drop)]
 struct Side {
     come: AtomicU64,
@@ -94,7 +95,8 @@ fn first_locked<R: Wait>(rt: &R, world: &World, pass: Pass, first: u8) -> Result
     }
 }
 
-/// Gives all back, takes the lock that it couldn't get, and ends. It tells whether it then held that lock and not its first.
+/// Gives all back, takes the lock that it couldn't get, and ends. It tells whether it then held that lock and not its
+/// first.
 fn gives_way<R: Wait>(
     rt: &R,
     world: &World,
@@ -110,8 +112,8 @@ fn gives_way<R: Wait>(
     (acquiring.unlock_all(rt, world).fini(world), is_moved)
 }
 
-/// Locks its second node, and ends. It tells whether that came as the stamps have it: the older one gets it, and the younger is
-/// told EDEADLK, with the older one's stamp.
+/// Locks its second node, and ends. It tells whether that came as the stamps have it: the older one gets it, and the
+/// younger is told EDEADLK, with the older one's stamp.
 fn second_locked<R: Wait>(
     rt: &R,
     world: &World,

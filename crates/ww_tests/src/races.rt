@@ -1,5 +1,5 @@
-//! Two threads whose lists, walks or transactions begin at opposite ends of a chain. Each of their rounds commits, so what comes
-//! of all of them is the same whatever the schedule.
+//! Two threads whose lists, walks or transactions begin at opposite ends of a chain. Each of their rounds commits, so
+//! what comes of all of them is the same whatever the schedule.
 
 ghost use Rattle.std.specs.Prelude.{◌≡◌, length, IfOk, IfErr};
 ghost use Rattle.ww_lock.specs.Holding.{IsAtHome};
@@ -19,7 +19,8 @@ use ww_queue::Kind;
 use ww_txn::transact;
 use ww_users::{lock_list, lock_order, lock_walk};
 
-/// For how many rounds the threads lock and commit by themselves, and for how many each makes its transaction in one call.
+/// For how many rounds the threads lock and commit by themselves, and for how many each makes its transaction in one
+/// call.
 const WAY_ROUNDS: u32 = 200;
 
 const CALL_ROUNDS: u32 = 2_000;
@@ -117,7 +118,8 @@ const fn count(way: Option<Way>) -> u32 {
     }
 }
 
-/// Whether that is what all rounds come to: the moves and the additions add up, and the chain leads one way or the other.
+/// Whether that is what all rounds come to: the moves and the additions add up, and the chain leads one way or the
+/// other.
 fn is_last(alloc: Global, graph: &Graph, way: Option<Way>) -> Result<bool, AllocError> {
     let values = match way {
         Some(Way::List | Way::Order) => [1400, 1000, 600],

@@ -28,8 +28,8 @@ fn first_graph(alloc: Global) -> Result<Graph, AllocError> {
     graph_of(alloc, &[(5, None); NODES])
 }
 
-/// What a thread remembers: its random numbers, the place and the number that each receipt told, what it added to each node,
-/// and how often something went wrong.
+/// What a thread remembers: its random numbers, the place and the number that each receipt told, what it added to each
+/// node, and how often something went wrong.
 #[derive(Drop)]
 struct Memory {
     random: Pcg32,
@@ -38,8 +38,8 @@ struct Memory {
     faults: u32,
 }
 
-/// What a round does: the locks that it takes, each with what is added to its node; that addition; and what is done instead, if
-/// the locks serve for it.
+/// What a round does: the locks that it takes, each with what is added to its node; that addition; and what is done
+/// instead, if the locks serve for it.
 #[derive(Drop)]
 struct Plan {
     amounts: Vec<(u8, u64)>,
@@ -66,7 +66,8 @@ impl Memory {
             .unwrap_or(0) as u8
     }
 
-    /// Some nodes in a random order, each with what to add to it: 8 draws at most, of which those drawn before fall away.
+    /// Some nodes in a random order, each with what to add to it: 8 draws at most, of which those drawn before fall
+    /// away.
     fn draw(&mut self, alloc: Global) -> Result<Vec<(u8, u64)>, AllocError> {
         let mut amounts: Vec<(u8, u64)> = Vec::new(alloc);
         for _ in 0..self.below(8).saturating_add(1) {
@@ -95,8 +96,8 @@ impl Memory {
         })
     }
 
-    /// A transaction that names nodes of this list alone, as far as that can be seen without the graph; nothing in half of all
-    /// cases.
+    /// A transaction that names nodes of this list alone, as far as that can be seen without the graph; nothing in half
+    /// of all cases.
     fn change(&mut self, alloc: Global, amounts: &[(u8, u64)]) -> Result<Option<Txn>, AllocError> {
         let (Some((from, _)), Some((to, _))) = (amounts.first(), amounts.last()) else {
             return Ok(None);

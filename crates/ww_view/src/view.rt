@@ -30,7 +30,7 @@ pub struct View {
     pub fresh: bool,
     /// How often it tried to take a lock at once.
     pub tries: u64,
-    /// Once it has backed off: from which lock, and the stamp that it met there; until it takes a lock or gives one back, or its
-    /// context begins or ends. No other step sets it.
+    /// Once it has backed off: from which lock, and the stamp that it met there; until it takes a lock or gives one
+    /// back, or its context begins or ends. No other step sets it.
     pub met: Option<(u8, u64)>,
 }
