@@ -3,12 +3,14 @@
 //! transaction takes, how many nodes there are, how many transactions each thread has, and how often all of them are
 //! timed. It writes a line for each time: nanoseconds, back-offs, and how many transactions did what they are to do.
 //! Where nothing is to be timed it runs each load once and writes the last number alone, which is the same each time.
+//! Its status is 2 where it doesn't know a word, or has too few or too many.
 #![tactic(auto)]
 
 mod load;
 mod transactions;
 
 use load::{Load, What, go};
+use std::process::ExitCode;
 use std::{env, io};
 use ww_queue::Kind;
 
@@ -21,42 +23,44 @@ const LOADS: [(&str, What); 5] = [
     ("transacts", What::Transacts),
 ];
 
-fn main(rt: HostRuntime) -> io::Result<()> {
-    let mut numbers = [0u32; 5];
-    let mut kind = Kind::WoundWait;
-    let mut what = What::Locks;
-    for (at, word) in env::args(&rt)?.enumerate() {
-        if word.as_str() == "wait-die" {
-            kind = Kind::WaitDie;
-        }
-        for (name, load) in LOADS {
-            if word.as_str() == name {
-                what = load;
-            }
-        }
-        if let Some(number) = at.checked_sub(3).and_then(|at| numbers.get_mut(at)) {
-            *number = word.parse().unwrap_or(0);
-        }
-    }
-    let [threads, list, nodes, transactions, times] = numbers;
+/// What is to be timed, and how often, by the words behind the program's name.
+fn read_words(words: &[String]) -> Option<(Load, u32)> {
+    let [_, load, kind, threads, list, nodes, transactions, times] = words else {
+        return None;
+    };
+    let (_, what) = LOADS.into_iter().find(|(name, _)| *name == load.as_str())?;
+    let kind = match kind.as_str() {
+        "wound-wait" => Kind::WoundWait,
+        "wait-die" => Kind::WaitDie,
+        _ => return None,
+    };
     let load = Load {
         what,
         kind,
-        threads: u8::try_from(threads).unwrap_or(0),
-        list: u8::try_from(list).unwrap_or(0),
-        nodes: u8::try_from(nodes).unwrap_or(0),
-        transactions,
+        threads: threads.parse().ok()?,
+        list: list.parse().ok()?,
+        nodes: nodes.parse().ok()?,
+        transactions: transactions.parse().ok()?,
+    };
+    Some((load, times.parse().ok()?))
+}
+
+fn main(rt: HostRuntime) -> io::Result<ExitCode> {
+    let words: Vec<String> = env::args(&rt)?.collect(rt.alloc())?;
+    let Some((load, times)) = read_words(&words) else {
+        eprintln!(rt; "usage: ww_bench LOAD KIND THREADS LIST NODES TRANSACTIONS TIMES")?;
+        return Ok(ExitCode::from(2));
     };
     if times == 0 {
         for (name, what) in LOADS {
             let told = go(&rt, rt.alloc(), &Load { what, ..load })?;
             println!(rt; "{}: {}", name, told.done)?;
         }
-        return Ok(());
+        return Ok(ExitCode::SUCCESS);
     }
     for _ in 0..times {
         let told = go(&rt, rt.alloc(), &load)?;
         println!(rt; "{} {} {}", told.nanoseconds, told.back_offs, told.done)?;
     }
-    Ok(())
+    Ok(ExitCode::SUCCESS)
 }
