@@ -1,5 +1,5 @@
 # What the checks share. To be sourced, at the top of the repository.
-# shellcheck shell=bash disable=SC2034
+# shellcheck shell=bash disable=SC2034,SC2154
 
 name=$(basename "$0")
 
@@ -10,6 +10,13 @@ say() {
 fail() {
     echo "$name: $*" >&2
     exit 1
+}
+
+# The program that a check is given, as its only word, into `program`. The check was called in the folder before this.
+find_program() {
+    [ $# = 1 ] || fail "usage: bench/$name PROGRAM"
+    program=$(cd "$OLDPWD" && readlink -m -- "$1")
+    { [ -f "$program" ] && [ -x "$program" ]; } || fail "$1 is no program"
 }
 
 # Short inputs that are refused, one a row.
@@ -76,6 +83,25 @@ status_for() {
 observe() {
     status=0
     timeout 20 "$@" || status=$?
+}
+
+# The same, with its output into the file `output` of the folder `work`, and its errors into `errors`.
+observe_apart() {
+    observe "$@" >"$work/output" 2>"$work/errors"
+}
+
+# What must have come of it: the status, the standard output, and words that stand on standard error, or nothing.
+checks=0
+must_end() {
+    local wanted=$1 text=$2 words=$3
+    checks=$((checks + 1))
+    [ "$status" = "$wanted" ] || fail "the status is $status and not $wanted: $(cat "$work/errors")"
+    cmp "$work/output" "$text" >&2 || fail "standard output is another"
+    if [ -n "$words" ]; then
+        grep -q -F -e "$words" "$work/errors" || fail "'$words' isn't told: $(cat "$work/errors")"
+    else
+        cmp "$work/errors" /dev/null >&2 || fail "standard error isn't empty"
+    fi
 }
 
 # Starts a command in the background, once fewer run than there are processors. How it ended it has to leave in a file.
