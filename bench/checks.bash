@@ -22,8 +22,8 @@ find_program() {
 # Short inputs that are refused, one a row.
 rows=cases/refused.rows
 
-# The inputs of cases/ and examples/, into the array `inputs`. Each has a file beside it with what it prints, so a file that
-# belongs to no input, or an input to which none belongs, is a slip that would leave something untried.
+# The inputs of cases/ and examples/, into the array `inputs`. Each has a file beside it with what it prints, so a file
+# that belongs to no input, or an input to which none belongs, is a slip that would leave something untried.
 find_inputs() {
     local file
     inputs=()
@@ -42,8 +42,8 @@ find_inputs() {
     [ "${#inputs[@]}" -ge 50 ] || fail "only ${#inputs[@]} inputs were found"
 }
 
-# The inputs in the rows, each into a file of this folder that is named by its line, with what it prints and its status beside
-# it as in cases/; and into the array `inputs`.
+# The inputs in the rows, each into a file of this folder that is named by its line, with what it prints and its status
+# beside it as in cases/; and into the array `inputs`.
 spread_rows() {
     local folder=$1 row frame='' line text input number=0 count=0
     while IFS= read -r row || [ -n "$row" ]; do
@@ -115,8 +115,8 @@ start() {
     running=$((running + 1))
 }
 
-# Compiles bench/refuser.c into this file. The kit's compiler comes without headers and start-up code, and the refuser needs
-# neither.
+# Compiles bench/refuser.c into this file. The kit's compiler comes without headers and start-up code, and the refuser
+# needs neither.
 make_refuser() {
     local kit how=(-shared -fPIC -nostdlib -O1 -o "$1" bench/refuser.c)
     if command -v cc >/dev/null; then

@@ -1,12 +1,12 @@
-/* The baseline of bench/table: the same rounds with bare atomic words and with mutexes, so that what a table costs can be told as
- * a ratio in one run.
+/* The baseline of bench/table: the same rounds with bare atomic words and with mutexes, so that what a table costs can
+ * be told as a ratio in one run.
  *
  *     pairs LOAD THREADS ROUNDS
  *
- * LOAD is `pair` (a word from 0 to one's own and back, by two compare-exchanges) or `mutex` (a lock and an unlock), on a word
- * or mutex of one's own; or `pair-of-64` or `mutex-of-64`, where each round draws one of 64 at random. Words and mutexes have a
- * cache line each. Writes the nanoseconds from the start of the threads to the end of the last, and how many rounds came to
- * hold the word. */
+ * LOAD is `pair` (a word from 0 to one's own and back, by two compare-exchanges) or `mutex` (a lock and an unlock), on
+ * a word or mutex of one's own; or `pair-of-64` or `mutex-of-64`, where each round draws one of 64 at random. Words and
+ * mutexes have a cache line each. Writes the nanoseconds from the start of the threads to the end of the last, and how
+ * many rounds came to hold the word. */
 #include <pthread.h>
 #include <stdatomic.h>
 #include <stdint.h>

@@ -1,6 +1,6 @@
-/* Preloaded before a program, this refuses some of its allocations: those from number REFUSE_FIRST to number REFUSE_LAST,
- * counted from 1 since the program began, those of all its threads together. For each it writes one byte to descriptor 9,
- * so that whoever started the program can tell that something was refused, and how often.
+/* Preloaded before a program, this refuses some of its allocations: those from number REFUSE_FIRST to number
+ * REFUSE_LAST, counted from 1 since the program began, those of all its threads together. For each it writes one byte
+ * to descriptor 9, so that whoever started the program can tell that something was refused, and how often.
  *
  * It includes no header and wants no start-up code, so that a compiler that stands alone can make it too. */
 
