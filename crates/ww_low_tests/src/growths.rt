@@ -189,13 +189,21 @@ fn outcome(alloc: Global) -> Result<Outcome, AllocError> {
     })
 }
 
+const OUTCOME: &str = r"reply 0 0 values 9 7
+reply 1 0 moved
+reply 1 1 done
+at 0 1 0
+at 1 0 0
+at 2 1 1
+node 0 7 - - - -
+node 1 9 - - - -
+";
+
 #[test]
 fn an_outcome_has_its_text(rt: HostRuntime) -> Result<(), Fail> {
     let alloc = rt.alloc();
     let outcome = twice(|| outcome(alloc))?;
     let text = twice(|| outcome_text(alloc, &outcome))?;
-    let expected =
-        "reply 0 0 values 9 7\nreply 1 0 moved\nreply 1 1 done\nat 0 1 0\nat 1 0 0\nat 2 1 1\nnode 0 7 - - - -\nnode 1 9 - - - -\n";
-    assert!(rt; text.as_slice() == expected.as_bytes());
+    assert!(rt; text.as_slice() == OUTCOME.as_bytes());
     Ok(())
 }
