@@ -12,7 +12,7 @@ use Rattle.std.specs.List.{AllByRecursion}
 use Rattle.ww_lock.proofs.Helds.{held_more}
 use Rattle.ww_view.specs.View.{owns, IsBare}
 use Rattle.ww_table.specs.declared.seat.Seat16.{Seat16}
-use Rattle.ww_table.specs.Steps.{MayDraw}
+use Rattle.ww_rule.specs.Steps.{MayDraw}
 use Rattle.ww_seat.specs.Orderly.{IsSettled}
 use Rattle.ww_seat.specs.Calls.{HoldsAsBefore, HasTaken, HasGiven, HasBegun, HasEnded, TriedOnce}
 use Rattle.ww_lock.specs.declared.hand.Hand.{Hand}

@@ -10,12 +10,12 @@ use Rattle.ww_plain.specs.declared.history.Record.{Record}
 use Rattle.ww_plain.specs.History.{Recorded, history_of, part_of, IsLegal, last_graph}
 use Rattle.ww_plain.proofs.Members.{eqb_same, true_or_false, same_from_eqb, or_cases}
 use Rattle.ww_view.specs.View.{IsBare}
-use Rattle.ww_table.specs.declared.cells.Cell.{Cell}
-use Rattle.ww_table.specs.declared.cells.Start.{Start}
+use Rattle.ww_rule.specs.declared.cells.Cell.{Cell}
+use Rattle.ww_rule.specs.declared.cells.Start.{Start}
 use Rattle.ww_table.specs.declared.seat.Seat16.{Seat16}
-use Rattle.ww_table.specs.Layout.{list_at}
-use Rattle.ww_table.specs.Rule.{first_graph}
-use Rattle.ww_table.specs.Seat.{slot_of}
+use Rattle.ww_rule.specs.Layout.{list_at}
+use Rattle.ww_rule.specs.Rule.{first_graph}
+use Rattle.ww_rule.specs.Out.{slot_of}
 use Rattle.ww_table.specs.Closed.{HasCome, HaveAllCome, HasPlaces}
 use Rattle.ww_table.specs.Closed as table
 use Rattle.atomic_table.specs.Seated.{TableId}

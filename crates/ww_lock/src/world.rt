@@ -1,6 +1,6 @@
 ghost use Rattle.std.specs.Prelude.{◌≡◌, ◌≤◌, [], length, IfOk, IfErr, vec_len, vec_capacity};
 ghost use Rattle.ww_table.specs.Made.{AreNew};
-ghost use Rattle.ww_table.specs.Rule.{first_graph};
+ghost use Rattle.ww_rule.specs.Rule.{first_graph};
 ghost use Rattle.ww_lock.specs.Opened.{AreFresh, AreRests};
 
 use crate::hand::Hand;
@@ -53,7 +53,7 @@ impl Model for World {
     ghost Value = { Setting };
 
     ghost use Rattle.std.specs.Prelude.{◌≡◌, ◌≤◌, length};
-    ghost use Rattle.ww_table.specs.Rule.{first_graph};
+    ghost use Rattle.ww_rule.specs.Rule.{first_graph};
 
     ghost view = { λ w. record { home = w.board.table.shared.table_id; kind = w.board.table.shared.key.kind; first = first_graph w.board.table.shared.key; passes = length w.wakers.items } };
 

@@ -3,9 +3,9 @@ use Rattle.std.proofs.Common.{ℕ, ◌<◌, refl, inl, inr, arith}
 use Rattle.ww_queue.specs.declared.kind.Kind.{Kind}
 use Rattle.ww_view.specs.May.{MayFast}
 use Rattle.ww_view.specs.Made.{begun}
-use Rattle.ww_table.specs.Rule.{first_part}
-use Rattle.ww_table.specs.Steps.{MayDraw}
-use Rattle.ww_table.proofs.Seats.{bare_first}
+use Rattle.ww_rule.specs.Rule.{first_part}
+use Rattle.ww_rule.specs.Steps.{MayDraw}
+use Rattle.ww_rule.proofs.Seats.{bare_first}
 
 pub may_draw : (kind : Kind) (k : ℕ) → MayDraw (first_part kind k)
 may_draw kind k = record { away = (refl, refl); no_context = refl; bare = bare_first kind k; fewer = omega arith }

@@ -1,7 +1,7 @@
 //! Tables of words and slots.
 
 ghost use Rattle.std.specs.Prelude.{◌<◌, ℕ, length, IfOk};
-ghost use Rattle.ww_table.specs.Rule.{first_graph};
+ghost use Rattle.ww_rule.specs.Rule.{first_graph};
 ghost use Rattle.ww_table.specs.Seat.{IsNew};
 ghost use Rattle.ww_table.specs.Made.{IsMade};
 ghost use Rattle.ww_table.specs.Closed.{HaveAllCome};

@@ -9,11 +9,11 @@ use Rattle.std.specs.List.{AllByRecursion}
 use Rattle.atomic_table.proofs.Lists.{set_here}
 use Rattle.ww_plain.specs.declared.node.Node.{Node}
 use Rattle.ww_view.specs.View.{IsBare}
-use Rattle.ww_table.specs.declared.cells.Cell.{Cell}
-use Rattle.ww_table.specs.declared.cells.Cell.TheVariants.{Content}
-use Rattle.ww_table.specs.Rule.{Sat}
-use Rattle.ww_table.specs.Seat.{AreOthers, slot_of}
-use Rattle.ww_table.specs.Steps.{taking, giving}
+use Rattle.ww_rule.specs.declared.cells.Cell.{Cell}
+use Rattle.ww_rule.specs.declared.cells.Cell.TheVariants.{Content}
+use Rattle.ww_rule.specs.Rule.{Sat}
+use Rattle.ww_rule.specs.Out.{AreOthers, slot_of}
+use Rattle.ww_rule.specs.Steps.{taking, giving}
 use Rattle.ww_rounds.specs.Resting.{Rests}
 
 -- of one slot, none are left

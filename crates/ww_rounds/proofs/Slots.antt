@@ -1,8 +1,8 @@
 -- The slots that are out, in whatever order.
 use Rattle.std.proofs.Common.{◌≡◌, ◌≢◌, ℕ, zero, suc, ◌+◌, ◌≤◌, Bool, true, false, eqb, eq-eqb, ne_eqb, List, [], ◌∷◌, ◌++◌, length, refl, sym, ap, ◌∙◌, arith, Option, Some, None, length-append}
 use Rattle.std.specs.Bool.{if◌then◌else◌}
-use Rattle.ww_table.specs.declared.cells.Cell.{Cell}
-use Rattle.ww_table.specs.Seat.{slot_of, AreOthers}
+use Rattle.ww_rule.specs.declared.cells.Cell.{Cell}
+use Rattle.ww_rule.specs.Out.{slot_of, AreOthers}
 use Rattle.ww_rounds.specs.Standing.{count_of}
 
 pub slot_here : (n : ℕ) (y : Cell) (slots : List (ℕ × Cell)) → slot_of ((n, y) ∷ slots) n ≡ Some y

@@ -21,16 +21,17 @@ use Rattle.ww_view.specs.declared.view.View.{View}
 use Rattle.ww_view.specs.View.{owns, IsAway, IsBare}
 use Rattle.ww_view.specs.May.{MayFast}
 use Rattle.ww_view.specs.Made.{begun, ended as view_ended, fast_missed, fast_given}
-use Rattle.ww_table.specs.declared.cells.Cell.{Cell}
-use Rattle.ww_table.specs.declared.cells.Cell.TheVariants.{Content}
-use Rattle.ww_table.specs.Rule.{Sat, first_part}
+use Rattle.ww_rule.specs.declared.cells.Cell.{Cell}
+use Rattle.ww_rule.specs.declared.cells.Cell.TheVariants.{Content}
+use Rattle.ww_rule.specs.Rule.{Sat, first_part}
 use Rattle.atomic_table.specs.Seated.{TableId}
 use Rattle.ww_table.specs.declared.board.Board.{Board}
 use Rattle.ww_table.specs.declared.seat.Seat16.{Seat16}
-use Rattle.ww_table.specs.Seat.{IsSeated, AreOthers, slot_of}
-use Rattle.ww_table.specs.Steps.{MayDraw, MayEnd, MayPlace, known, graph_of, drawing, taking, giving, knowing, placing, seat_of}
-use Rattle.ww_table.proofs.Places.{graph_at, renewed_long, renewed_at}
-use Rattle.ww_table.proofs.Seats.{bare_first}
+use Rattle.ww_table.specs.Seat.{IsSeated}
+use Rattle.ww_rule.specs.Out.{AreOthers, slot_of}
+use Rattle.ww_rule.specs.Steps.{MayDraw, MayEnd, MayPlace, known, graph_of, drawing, taking, giving, knowing, placing, seat_of}
+use Rattle.ww_rule.proofs.Places.{graph_at, renewed_long, renewed_at}
+use Rattle.ww_rule.proofs.Seats.{bare_first}
 use Rattle.ww_table.specs.Made.{IsMade}
 use Rattle.ww_rounds.specs.Resting.{IsResting, size_of}
 use Rattle.ww_rounds.specs.Standing.{Stage, resting, fresh, working, Deeds, IsAt, count_of, IsHeld, Stands, Did, at_first, IsUnused, began, took, gave, committed, ended, CanTake, raised_one, HasRaised}

@@ -3,7 +3,7 @@ use Rattle.std.specs.Prelude.{ℕ, ◌≡◌, [], length}
 use Rattle.ww_view.specs.View.{IsAway, IsBare}
 use Rattle.ww_table.specs.declared.board.Board.{Board}
 use Rattle.ww_table.specs.declared.seat.Seat16.{Seat16}
-use Rattle.ww_table.specs.Rule.{Sat, first_graph}
+use Rattle.ww_rule.specs.Rule.{Sat, first_graph}
 use Rattle.ww_table.specs.Seat.{IsSeated}
 
 -- how many nodes the board has

@@ -7,11 +7,12 @@ use Rattle.ww_plain.specs.Numbers.{is_among}
 use Rattle.ww_view.specs.declared.view.View.{View}
 use Rattle.ww_view.specs.View.{owns, IsAway}
 use Rattle.ww_table.specs.declared.board.Board.{Board}
-use Rattle.ww_table.specs.declared.cells.Cell.{Cell}
-use Rattle.ww_table.specs.declared.cells.Cell.TheVariants.{Content}
+use Rattle.ww_rule.specs.declared.cells.Cell.{Cell}
+use Rattle.ww_rule.specs.declared.cells.Cell.TheVariants.{Content}
 use Rattle.ww_table.specs.declared.seat.Seat16.{Seat16}
-use Rattle.ww_table.specs.Rule.{Sat}
-use Rattle.ww_table.specs.Seat.{IsSeated, slot_of}
+use Rattle.ww_rule.specs.Rule.{Sat}
+use Rattle.ww_table.specs.Seat.{IsSeated}
+use Rattle.ww_rule.specs.Out.{slot_of}
 use Rattle.ww_rounds.specs.Resting.{size_of}
 use Rattle.ww_rounds.specs.declared.calls.Tally.{Tally}
 

@@ -3,8 +3,9 @@
 ghost use Rattle.std.specs.Prelude.{ℕ, ◌≡◌, ◌≢◌, ◌<◌, ◌≤◌, ◌+◌, ◌^◌, ◌∷◌, [], List, length, true, false, IfOk, IfSome, OnErr};
 ghost use Rattle.ww_plain.specs.declared.node.Node.{Node};
 ghost use Rattle.ww_plain.specs.Numbers.{is_among};
-ghost use Rattle.ww_table.specs.declared.cells.Cell.TheVariants.{Content};
-ghost use Rattle.ww_table.specs.Seat.{IsSeated, slot_of};
+ghost use Rattle.ww_rule.specs.declared.cells.Cell.TheVariants.{Content};
+ghost use Rattle.ww_table.specs.Seat.{IsSeated};
+ghost use Rattle.ww_rule.specs.Out.{slot_of};
 ghost use Rattle.ww_rounds.specs.Resting.{size_of};
 ghost use Rattle.ww_rounds.specs.Standing.{Deeds, Did, resting, count_of, began, took, gave, committed, ended, at_rest, CanTake, HasRaised, HasRounded};
 

@@ -7,11 +7,11 @@ use Rattle.ww_plain.specs.Graph.{IsNodeOf}
 use Rattle.ww_view.specs.declared.view.View.{View}
 use Rattle.ww_view.specs.View.{owns, IsBare}
 use Rattle.ww_view.specs.May.{WantsSigns}
-use Rattle.ww_table.specs.declared.cells.Cell.{Cell}
-use Rattle.ww_table.specs.declared.cells.Cell.TheVariants.{Content}
-use Rattle.ww_table.specs.Rule.{Sat}
-use Rattle.ww_table.specs.Seat.{AreOthers, slot_of}
-use Rattle.ww_table.specs.Steps.{knowing, taking}
+use Rattle.ww_rule.specs.declared.cells.Cell.{Cell}
+use Rattle.ww_rule.specs.declared.cells.Cell.TheVariants.{Content}
+use Rattle.ww_rule.specs.Rule.{Sat}
+use Rattle.ww_rule.specs.Out.{AreOthers, slot_of}
+use Rattle.ww_rule.specs.Steps.{knowing, taking}
 use Rattle.ww_seat.specs.Orderly.{IsOrderly}
 use Rattle.ww_seat.specs.Calls.{HoldsAsBefore, HasTaken}
 use Rattle.ww_seat.proofs.Slots.{slot_here, same_cell, others_had}

@@ -8,14 +8,14 @@ use Rattle.ww_plain.specs.declared.node.Node.{Node}
 use Rattle.ww_view.specs.View.{owns, IsAway}
 use Rattle.ww_view.specs.May.{MayEnter}
 use Rattle.ww_view.specs.Made.{once_inside}
-use Rattle.ww_table.specs.declared.cells.Cell.{Cell}
-use Rattle.ww_table.specs.declared.cells.Cell.TheVariants.{Content, Line}
-use Rattle.ww_table.specs.declared.cells.Sight.{Sight}
-use Rattle.ww_table.specs.Rule.{Sat}
-use Rattle.ww_table.specs.Seat.{slot_of, AreOthers}
-use Rattle.ww_table.specs.Steps.{giving}
-use Rattle.ww_table.specs.Guards.{lost, exiting, looking}
-use Rattle.ww_table.specs.Waiting.{HasListOnTop, IsOut, giving_inside}
+use Rattle.ww_rule.specs.declared.cells.Cell.{Cell}
+use Rattle.ww_rule.specs.declared.cells.Cell.TheVariants.{Content, Line}
+use Rattle.ww_rule.specs.declared.cells.Sight.{Sight}
+use Rattle.ww_rule.specs.Rule.{Sat}
+use Rattle.ww_rule.specs.Out.{slot_of, AreOthers}
+use Rattle.ww_rule.specs.Steps.{giving}
+use Rattle.ww_rule.specs.Guards.{lost, exiting, looking}
+use Rattle.ww_rule.specs.Waiting.{HasListOnTop, IsOut, giving_inside}
 use Rattle.ww_seat.specs.Orderly.{IsOrderly}
 use Rattle.ww_seat.specs.Calls.{HasGiven}
 use Rattle.ww_seat.specs.Guards.{HasEntered, IsStill, IsGiving, HasLet}

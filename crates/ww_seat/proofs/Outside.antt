@@ -12,13 +12,13 @@ use Rattle.ww_view.specs.declared.view.View.{View}
 use Rattle.ww_model.specs.State.{any_below}
 use Rattle.ww_view.specs.View.{owns, IsBare}
 use Rattle.ww_view.specs.Made.{ended, fast_missed, has_read, found_none, cleared}
-use Rattle.ww_table.specs.declared.cells.Cell.{Cell}
-use Rattle.ww_table.specs.declared.cells.Cell.TheVariants.{Content, Line}
-use Rattle.ww_table.specs.declared.cells.Sight.{Sight}
-use Rattle.ww_table.specs.Layout.{list_at}
-use Rattle.ww_table.specs.Rule.{Sat}
-use Rattle.ww_table.specs.Seat.{slot_of, AreOthers}
-use Rattle.ww_table.specs.Steps.{knowing, drawing, taking, giving}
+use Rattle.ww_rule.specs.declared.cells.Cell.{Cell}
+use Rattle.ww_rule.specs.declared.cells.Cell.TheVariants.{Content, Line}
+use Rattle.ww_rule.specs.declared.cells.Sight.{Sight}
+use Rattle.ww_rule.specs.Layout.{list_at}
+use Rattle.ww_rule.specs.Rule.{Sat}
+use Rattle.ww_rule.specs.Out.{slot_of, AreOthers}
+use Rattle.ww_rule.specs.Steps.{knowing, drawing, taking, giving}
 use Rattle.ww_seat.specs.Orderly.{AreApart, IsOrderly}
 use Rattle.ww_seat.proofs.Slots.{slot_here, not_both, slot_else, others_gone, others_else, others_apart, front_apart, front_else, front_same, none_out, few_slots, fewer_beside, nodes_beside}
 

@@ -19,11 +19,11 @@ use Rattle.ww_view.specs.declared.view.View.{View}
 use Rattle.ww_view.specs.View.{owns, IsQuiet}
 use Rattle.ww_view.specs.May.{MaySign, MayDie}
 use Rattle.ww_view.specs.Made.{entry_of_view, has_read}
-use Rattle.ww_table.specs.declared.cells.Sight.{Sight}
-use Rattle.ww_table.specs.Rule.{Sat}
-use Rattle.ww_table.specs.Guards.{AreSeats}
-use Rattle.ww_table.specs.Signs.{signing, reading, finding_none}
-use Rattle.ww_table.specs.Waiting.{HasListOnTop}
+use Rattle.ww_rule.specs.declared.cells.Sight.{Sight}
+use Rattle.ww_rule.specs.Rule.{Sat}
+use Rattle.ww_rule.specs.Guards.{AreSeats}
+use Rattle.ww_rule.specs.Signs.{signing, reading, finding_none}
+use Rattle.ww_rule.specs.Waiting.{HasListOnTop}
 use Rattle.ww_seat.specs.Orderly.{IsOrderly}
 use Rattle.ww_seat.specs.Work.{IsTold, IsTouched, IsWorking, SeesOther, HasNoted, MayStay}
 use Rattle.ww_seat.proofs.Outside.{orderly_knowing}

@@ -12,10 +12,10 @@ use Rattle.ww_model.proofs.Slots.{below_found, found_below}
 use Rattle.ww_plain.specs.Numbers.{AreDifferent}
 use Rattle.ww_plain.proofs.Members.{true_or_false, different_none, different_cons}
 use Rattle.ww_plain.proofs.FootprintFacts.{few_different}
-use Rattle.ww_table.specs.declared.cells.Cell.{Cell}
-use Rattle.ww_table.specs.declared.cells.Cell.TheVariants.{Line}
-use Rattle.ww_table.specs.Seat.{slot_of, AreOthers}
-use Rattle.ww_table.specs.Waiting.{HaveOnly, IsOut}
+use Rattle.ww_rule.specs.declared.cells.Cell.{Cell}
+use Rattle.ww_rule.specs.declared.cells.Cell.TheVariants.{Line}
+use Rattle.ww_rule.specs.Out.{slot_of, AreOthers}
+use Rattle.ww_rule.specs.Waiting.{HaveOnly, IsOut}
 use Rattle.ww_seat.specs.Orderly.{AreApart}
 
 -- ---- a slot is out, or not

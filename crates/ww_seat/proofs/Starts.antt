@@ -4,10 +4,10 @@ use Rattle.std.proofs.lemmas.List.{get_or-replicate, get_or_past, length-replica
 use Rattle.std.proofs.lemmas.Bool.{cases_lt}
 use Rattle.atomic_table.specs.Seated.{TableId}
 use Rattle.ww_view.specs.View.{IsAway}
-use Rattle.ww_table.specs.declared.cells.Start.{Start}
+use Rattle.ww_rule.specs.declared.cells.Start.{Start}
 use Rattle.ww_table.specs.declared.seat.Seat16.{Seat16}
-use Rattle.ww_table.specs.Rule.{Sat, first_graph, first_part}
-use Rattle.ww_table.specs.Steps.{seat_of}
+use Rattle.ww_rule.specs.Rule.{Sat, first_graph, first_part}
+use Rattle.ww_rule.specs.Steps.{seat_of}
 use Rattle.ww_table.specs.Seat.{IsNew}
 use Rattle.ww_seat.specs.Orderly.{IsOrderly, IsSettled}
 

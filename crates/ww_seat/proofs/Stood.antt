@@ -15,14 +15,14 @@ use Rattle.ww_view.specs.Word.{asked_word, rest_word}
 use Rattle.ww_view.specs.May.{MayJoin, MayAsk, MayDie, WantsSigns, NothingToAsk}
 use Rattle.ww_view.specs.Made.{entry_of_view, queued, died, exited, once_outside}
 use Rattle.ww_view.proofs.Deaths.{die_shows, die_notes}
-use Rattle.ww_table.specs.declared.cells.Cell.{Cell}
-use Rattle.ww_table.specs.declared.cells.Cell.TheVariants.{Line}
-use Rattle.ww_table.specs.declared.cells.Sight.{Sight}
-use Rattle.ww_table.specs.Rule.{Sat}
-use Rattle.ww_table.specs.Seat.{AreOthers}
-use Rattle.ww_table.specs.Steps.{knowing}
-use Rattle.ww_table.specs.Guards.{AreSeats, exiting}
-use Rattle.ww_table.specs.Waiting.{HasListOnTop, joining, asking, dying}
+use Rattle.ww_rule.specs.declared.cells.Cell.{Cell}
+use Rattle.ww_rule.specs.declared.cells.Cell.TheVariants.{Line}
+use Rattle.ww_rule.specs.declared.cells.Sight.{Sight}
+use Rattle.ww_rule.specs.Rule.{Sat}
+use Rattle.ww_rule.specs.Out.{AreOthers}
+use Rattle.ww_rule.specs.Steps.{knowing}
+use Rattle.ww_rule.specs.Guards.{AreSeats, exiting}
+use Rattle.ww_rule.specs.Waiting.{HasListOnTop, joining, asking, dying}
 use Rattle.ww_seat.specs.Orderly.{IsOrderly}
 use Rattle.ww_seat.specs.Calls.{HoldsAsBefore, HasToDie}
 use Rattle.ww_seat.specs.Looks.{MayWant, IsOutside, IsLook}

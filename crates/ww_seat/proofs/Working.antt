@@ -6,15 +6,15 @@ use Rattle.ww_queue.specs.declared.kind.Kind.TheVariants.{WoundWait, WaitDie}
 use Rattle.ww_view.specs.declared.view.View.{View}
 use Rattle.ww_view.specs.May.{WantsSigns, HasPaid, MayLeave, MayClear, LivesBySeen}
 use Rattle.ww_view.specs.Made.{once_outside, exited, has_looked}
-use Rattle.ww_table.specs.declared.cells.Cell.{Cell}
-use Rattle.ww_table.specs.declared.cells.Cell.TheVariants.{Line}
-use Rattle.ww_table.specs.declared.cells.Sight.{Sight}
-use Rattle.ww_table.specs.Rule.{Sat}
-use Rattle.ww_table.specs.Seat.{AreOthers}
-use Rattle.ww_table.specs.Steps.{knowing}
-use Rattle.ww_table.specs.Guards.{exiting, looking, lost}
-use Rattle.ww_table.specs.Signs.{reading, clearing}
-use Rattle.ww_table.specs.Waiting.{HasListOnTop}
+use Rattle.ww_rule.specs.declared.cells.Cell.{Cell}
+use Rattle.ww_rule.specs.declared.cells.Cell.TheVariants.{Line}
+use Rattle.ww_rule.specs.declared.cells.Sight.{Sight}
+use Rattle.ww_rule.specs.Rule.{Sat}
+use Rattle.ww_rule.specs.Out.{AreOthers}
+use Rattle.ww_rule.specs.Steps.{knowing}
+use Rattle.ww_rule.specs.Guards.{exiting, looking, lost}
+use Rattle.ww_rule.specs.Signs.{reading, clearing}
+use Rattle.ww_rule.specs.Waiting.{HasListOnTop}
 use Rattle.ww_seat.specs.Orderly.{IsOrderly}
 use Rattle.ww_seat.specs.Calls.{HoldsAsBefore}
 use Rattle.ww_seat.specs.Looks.{IsInside}

@@ -12,7 +12,7 @@ use Rattle.ww_view.specs.declared.view.View.{View}
 use Rattle.ww_view.specs.View.{owns}
 use Rattle.ww_view.specs.May.{MayDie, MetByView}
 use Rattle.ww_view.specs.Made.{died, exited}
-use Rattle.ww_table.specs.Rule.{Sat}
+use Rattle.ww_rule.specs.Rule.{Sat}
 
 -- the same seat, with the same context, and as many draws and commits
 pub record IsSame (m m' : Sat) : Type 0 where

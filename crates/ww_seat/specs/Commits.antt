@@ -5,7 +5,7 @@ use lib.ListN.{get_elem?}
 use Rattle.ww_plain.specs.declared.node.Node.{Node}
 use Rattle.ww_plain.specs.Numbers.{is_among}
 use Rattle.ww_plain.specs.Graph.{node_at}
-use Rattle.ww_table.specs.Rule.{Sat}
+use Rattle.ww_rule.specs.Rule.{Sat}
 use Rattle.ww_seat.specs.Orderly.{IsOrderly}
 
 -- the seat, if its view named these values

@@ -4,8 +4,8 @@ use Rattle.ww_queue.specs.declared.entry.Entry.{Entry}
 use Rattle.ww_queue.specs.declared.kind.Kind.TheVariants.{WaitDie}
 use Rattle.ww_view.specs.View.{owns}
 use Rattle.ww_view.specs.May.{MayLeave}
-use Rattle.ww_table.specs.Rule.{Sat}
-use Rattle.ww_table.specs.Guards.{AreSeats, StandsAs, entering}
+use Rattle.ww_rule.specs.Rule.{Sat}
+use Rattle.ww_rule.specs.Guards.{AreSeats, StandsAs, entering}
 use Rattle.ww_seat.specs.Orderly.{IsOrderly}
 use Rattle.ww_seat.specs.Calls.{HoldsAsBefore, HasGiven}
 

@@ -5,8 +5,8 @@ use Rattle.ww_view.specs.declared.view.View.{View}
 use Rattle.ww_view.specs.View.{owns, IsAway}
 use Rattle.ww_view.specs.May.{WantsBase, WantsSigns}
 use Rattle.ww_view.specs.Made.{entry_of_view}
-use Rattle.ww_table.specs.Rule.{Sat}
-use Rattle.ww_table.specs.Guards.{AreSeats}
+use Rattle.ww_rule.specs.Rule.{Sat}
+use Rattle.ww_rule.specs.Guards.{AreSeats}
 use Rattle.ww_seat.specs.Orderly.{IsOrderly}
 use Rattle.ww_seat.specs.Calls.{HoldsAsBefore, HasTaken, HasToDie}
 use Rattle.ww_seat.specs.declared.look.Look.{Look}

@@ -5,12 +5,13 @@ use lib.ListN.{get_elem?}
 use Rattle.atomic_table.specs.Seated.{TableId}
 use Rattle.ww_plain.specs.declared.node.Node.{Node}
 use Rattle.ww_view.specs.View.{owns, IsAway}
-use Rattle.ww_table.specs.declared.cells.Cell.{Cell}
-use Rattle.ww_table.specs.declared.cells.Cell.TheVariants.{Content, Line}
+use Rattle.ww_rule.specs.declared.cells.Cell.{Cell}
+use Rattle.ww_rule.specs.declared.cells.Cell.TheVariants.{Content, Line}
 use Rattle.ww_table.specs.declared.seat.Seat16.{Seat16}
-use Rattle.ww_table.specs.Layout.{list_at}
-use Rattle.ww_table.specs.Rule.{Sat}
-use Rattle.ww_table.specs.Seat.{IsSeated, slot_of}
+use Rattle.ww_rule.specs.Layout.{list_at}
+use Rattle.ww_rule.specs.Rule.{Sat}
+use Rattle.ww_table.specs.Seat.{IsSeated}
+use Rattle.ww_rule.specs.Out.{slot_of}
 
 -- no slot is out twice
 abbrev pub AreApart : List (ℕ × Cell) → Type 0

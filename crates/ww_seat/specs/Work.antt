@@ -10,9 +10,9 @@ use Rattle.ww_view.specs.Word.{TellsOther}
 use Rattle.ww_view.specs.View.{owns}
 use Rattle.ww_view.specs.May.{WantsSigns, LivesBySeen, HasPaid, NothingToAsk}
 use Rattle.ww_view.specs.Made.{entry_of_view}
-use Rattle.ww_table.specs.Rule.{Sat}
-use Rattle.ww_table.specs.Steps.{knowing}
-use Rattle.ww_table.specs.Guards.{AreSeats}
+use Rattle.ww_rule.specs.Rule.{Sat}
+use Rattle.ww_rule.specs.Steps.{knowing}
+use Rattle.ww_rule.specs.Guards.{AreSeats}
 use Rattle.ww_seat.specs.Orderly.{IsOrderly}
 use Rattle.ww_seat.specs.Calls.{HoldsAsBefore}
 use Rattle.ww_seat.specs.Looks.{MayWant}

@@ -9,7 +9,7 @@ ghost use Rattle.ww_plain.specs.Transaction.{transaction_of};
 ghost use Rattle.ww_plain.specs.Meaning.{graph_after};
 ghost use Rattle.ww_plain.specs.History.{IsNext, recorded_of};
 ghost use Rattle.ww_view.specs.View.{owns};
-ghost use Rattle.ww_table.specs.Rule.{first_graph};
+ghost use Rattle.ww_rule.specs.Rule.{first_graph};
 ghost use Rattle.ww_table.specs.Seat.{IsSeated};
 ghost use Rattle.ww_seat.specs.Orderly.{IsOrderly, IsSettled};
 ghost use Rattle.ww_seat.specs.Calls.{HoldsAll, HasCommitted};

@@ -2,8 +2,8 @@
 
 ghost use Rattle.std.specs.Prelude.{◌≡◌, ◌<◌, length};
 ghost use Rattle.ww_view.specs.View.{IsBare};
-ghost use Rattle.ww_table.specs.Rule.{first_graph};
-ghost use Rattle.ww_table.specs.Steps.{MayDraw};
+ghost use Rattle.ww_rule.specs.Rule.{first_graph};
+ghost use Rattle.ww_rule.specs.Steps.{MayDraw};
 ghost use Rattle.ww_seat.specs.Orderly.{IsSettled};
 ghost use Rattle.ww_seat.specs.Calls.{HasBegun, HasEnded};
 

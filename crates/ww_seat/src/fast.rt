@@ -3,7 +3,7 @@
 ghost use Rattle.std.specs.Prelude.{◌≡◌, ◌<◌, length, false, Some, IfSome, IfNone};
 ghost use Rattle.ww_view.specs.View.{owns, IsBare};
 ghost use Rattle.ww_view.specs.May.{WantsBase, WantsSigns};
-ghost use Rattle.ww_table.specs.Rule.{first_graph};
+ghost use Rattle.ww_rule.specs.Rule.{first_graph};
 ghost use Rattle.ww_seat.specs.Orderly.{IsSettled};
 ghost use Rattle.ww_seat.specs.Calls.{HoldsAsBefore, HasTaken, TriedOnce};
 

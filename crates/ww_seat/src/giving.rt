@@ -1,6 +1,6 @@
 ghost use Rattle.std.specs.Prelude.{◌≡◌, ◌<◌, length, true};
 ghost use Rattle.ww_view.specs.View.{owns};
-ghost use Rattle.ww_table.specs.Rule.{first_graph};
+ghost use Rattle.ww_rule.specs.Rule.{first_graph};
 ghost use Rattle.ww_table.specs.Seat.{IsSeated};
 ghost use Rattle.ww_seat.specs.Orderly.{IsSettled};
 ghost use Rattle.ww_seat.specs.Calls.{HasGiven};

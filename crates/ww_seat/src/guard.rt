@@ -3,11 +3,11 @@ ghost use Rattle.ww_queue.specs.declared.entry.Entry.{Entry};
 ghost use Rattle.ww_queue.specs.Queue.{entry_of};
 ghost use Rattle.ww_view.specs.May.{MayEnter};
 ghost use Rattle.ww_view.specs.Made.{entry_of_view};
-ghost use Rattle.ww_table.specs.declared.cells.Cell.TheVariants.{Line};
-ghost use Rattle.ww_table.specs.Layout.{list_at};
-ghost use Rattle.ww_table.specs.Rule.{first_graph};
+ghost use Rattle.ww_rule.specs.declared.cells.Cell.TheVariants.{Line};
+ghost use Rattle.ww_rule.specs.Layout.{list_at};
+ghost use Rattle.ww_rule.specs.Rule.{first_graph};
 ghost use Rattle.ww_table.specs.Seat.{IsSeated};
-ghost use Rattle.ww_table.specs.Guards.{AreSeats, entering};
+ghost use Rattle.ww_rule.specs.Guards.{AreSeats, entering};
 ghost use Rattle.ww_seat.specs.Orderly.{IsOrderly};
 ghost use Rattle.ww_seat.specs.Guards.{HasEntered};
 

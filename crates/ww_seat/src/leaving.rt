@@ -2,9 +2,9 @@
 ghost use Rattle.std.specs.Prelude.{ℕ, suc, ◌≡◌, ◌<◌, length};
 ghost use Rattle.ww_queue.specs.declared.kind.Kind.TheVariants.{WaitDie};
 ghost use Rattle.ww_view.specs.May.{LivesBySeen};
-ghost use Rattle.ww_table.specs.Rule.{first_graph};
+ghost use Rattle.ww_rule.specs.Rule.{first_graph};
 ghost use Rattle.ww_table.specs.Seat.{IsSeated};
-ghost use Rattle.ww_table.specs.Guards.{exiting};
+ghost use Rattle.ww_rule.specs.Guards.{exiting};
 ghost use Rattle.ww_seat.specs.Orderly.{IsOrderly};
 ghost use Rattle.ww_seat.specs.Work.{MayGo, IsCleared};
 

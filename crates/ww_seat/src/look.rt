@@ -1,6 +1,6 @@
 //! One look at a lock: from just inside its guard to just outside.
 ghost use Rattle.std.specs.Prelude.{ℕ, ◌≡◌, ◌≢◌, ◌<◌, ◌⊎◌, Bool, true, false, length, Some, None, IfSome, IfNone};
-ghost use Rattle.ww_table.specs.Rule.{first_graph};
+ghost use Rattle.ww_rule.specs.Rule.{first_graph};
 ghost use Rattle.ww_table.specs.Seat.{IsSeated};
 ghost use Rattle.ww_seat.specs.Orderly.{IsOrderly};
 ghost use Rattle.ww_seat.specs.Looks.{IsInside, IsLook};

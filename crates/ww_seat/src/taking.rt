@@ -2,12 +2,12 @@
 ghost use Rattle.std.specs.Prelude.{ℕ, ◌≡◌, ◌<◌, ◌⊎◌, Bool, true, length, Some, None, IfSome, IfNone};
 ghost use Rattle.ww_word.specs.Owner.{IsValid, is_handed};
 ghost use Rattle.ww_view.specs.Word.{taken_word};
-ghost use Rattle.ww_table.specs.Rule.{first_graph};
+ghost use Rattle.ww_rule.specs.Rule.{first_graph};
 ghost use Rattle.ww_table.specs.Seat.{IsSeated};
-ghost use Rattle.ww_table.specs.Waiting.{HasListOnTop};
-ghost use Rattle.ww_table.specs.Layout.{list_at};
-ghost use Rattle.ww_table.specs.Seat.{slot_of};
-ghost use Rattle.ww_table.specs.declared.cells.Cell.TheVariants.{Line};
+ghost use Rattle.ww_rule.specs.Waiting.{HasListOnTop};
+ghost use Rattle.ww_rule.specs.Layout.{list_at};
+ghost use Rattle.ww_rule.specs.Out.{slot_of};
+ghost use Rattle.ww_rule.specs.declared.cells.Cell.TheVariants.{Line};
 ghost use Rattle.ww_seat.specs.declared.look.Look.TheVariants.{Locked};
 ghost use Rattle.ww_seat.specs.Orderly.{IsOrderly};
 ghost use Rattle.ww_seat.specs.Looks.{IsLook};

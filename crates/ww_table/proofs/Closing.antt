@@ -15,14 +15,16 @@ use Rattle.atomic_table.specs.declared.shared.Seat.{Seat}
 use Rattle.atomic_table.specs.Seated.{TableId}
 use Rattle.ww_view.specs.View.{IsBare}
 use Rattle.ww_plain.specs.declared.node.Node.{Node}
-use Rattle.ww_table.specs.declared.cells.Cell.{Cell}
-use Rattle.ww_table.specs.declared.cells.Cell.TheVariants.{Content}
-use Rattle.ww_table.specs.declared.cells.Part.{Part}
-use Rattle.ww_table.specs.declared.cells.Sight.{Sight}
+use Rattle.ww_rule.specs.declared.cells.Cell.{Cell}
+use Rattle.ww_rule.specs.declared.cells.Cell.TheVariants.{Content}
+use Rattle.ww_rule.specs.declared.cells.Part.{Part}
+use Rattle.ww_rule.specs.declared.cells.Sight.{Sight}
 use Rattle.ww_table.specs.declared.seat.Seat16.{Seat16}
-use Rattle.ww_table.specs.Steps.{with_seat}
-use Rattle.ww_table.specs.Rule.{own_of}
-use Rattle.ww_table.specs.Closed.{AreTakenBelow, HasCome, ArePut, AreLaid, AreFree, IsGathered, parts_of, somes}
+use Rattle.ww_rule.specs.Steps.{with_seat}
+use Rattle.ww_rule.specs.Rule.{own_of}
+use Rattle.ww_rule.specs.Records.{ArePut, AreFree, somes}
+use Rattle.ww_rule.specs.Homes.{AreTakenBelow}
+use Rattle.ww_table.specs.Closed.{HasCome, AreLaid, IsGathered, parts_of}
 
 pub has_all : {A : Type 0} (P : A → Type 0) (xs : List A) (x : A) → AllByRecursion P xs → Has xs x → P x
 has_all P [] x all h = absurd h

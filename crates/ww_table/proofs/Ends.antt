@@ -1,5 +1,5 @@
 -- What a closed table was: all seats hold nothing, so all nodes are at home, and the records are the history.
-use Rattle.std.proofs.Common.{◌≡◌, ◌≢◌, ℕ, zero, suc, ◌<◌, true≢false, List, [], ◌∷◌, ◌++◌, length, take, sym, refl, ap, ◌∙◌, subst, ⊎_elim, arith, Option, Some, None}
+use Rattle.std.proofs.Common.{◌≡◌, ◌≢◌, ℕ, zero, suc, ◌<◌, true≢false, List, [], ◌∷◌, ◌++◌, length, take, sym, refl, ap, ◌∙◌, subst, ⊎_elim, arith, Option}
 use mathlib.Core.Logic.{dite}
 use mathlib.Core.Option.{some, some-injective}
 use native.Mathlib.Decide.{dec_le}
@@ -12,22 +12,19 @@ use Rattle.ww_plain.specs.declared.node.Node.{Node}
 use Rattle.ww_plain.specs.declared.history.Record.{Record}
 use Rattle.ww_plain.specs.Graph.{node_at}
 use Rattle.ww_plain.specs.History.{history_of, IsLegal, last_graph, part_of}
-use Rattle.ww_table.specs.declared.cells.Cell.{Cell}
-use Rattle.ww_table.specs.declared.cells.Cell.TheVariants.{Content}
-use Rattle.ww_table.specs.declared.cells.Part.{Part}
-use Rattle.ww_table.specs.declared.cells.Sight.{Sight}
-use Rattle.ww_table.specs.declared.cells.Start.{Start}
+use Rattle.ww_rule.specs.declared.cells.Cell.{Cell}
+use Rattle.ww_rule.specs.declared.cells.Cell.TheVariants.{Content}
+use Rattle.ww_rule.specs.declared.cells.Part.{Part}
+use Rattle.ww_rule.specs.declared.cells.Sight.{Sight}
+use Rattle.ww_rule.specs.declared.cells.Start.{Start}
 use Rattle.ww_table.specs.declared.seat.Seat16.{Seat16}
-use Rattle.ww_table.specs.Rule.{St, first_graph, own_of, PartFits, Ruled}
-use Rattle.ww_table.specs.Closed.{HasCome, HaveAllCome, IsClosed, AreFree, IsGathered, parts_of, somes}
-use Rattle.ww_table.proofs.Seats.{at_end}
+use Rattle.ww_rule.specs.Rule.{St, first_graph, own_of, PartFits, Ruled}
+use Rattle.ww_rule.specs.Records.{somes}
+use Rattle.ww_table.specs.Closed.{HasCome, HaveAllCome, IsClosed, IsGathered, parts_of}
 use Rattle.ww_table.proofs.Closing.{has_all, laid_is}
 use Rattle.ww_table.proofs.Numbers.{numbers_in, has_number, number_has, first_differs}
 use Rattle.std.proofs.lemmas.Map.Steps.{le-length_from_below, length-le_from_distinct_below}
 use Rattle.std.proofs.lemmas.List.{length-map}
-
-pub free_more : (places : List (Option Record)) → AreFree places → AreFree (places ++ None ∷ [])
-free_more places free i r e = ⊎_elim (λ was. free i r was) (λ now. let z = now.1 in absurd cc) (at_end places None (Some r) i e)
 
 has_at : {A : Type 0} (xs : List A) (x : A) → Has xs x → (k : ℕ) × (get_elem? xs k ≡ some x)
 has_at [] x h = absurd h

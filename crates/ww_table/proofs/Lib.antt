@@ -1,16 +1,5 @@
-pub mod Totals
-pub mod Regions
-pub mod Fits
-pub mod Moves
-pub mod Places
-pub mod Seats
-pub mod Turning
+pub mod Seated
 pub mod Making
 pub mod Closing
 pub mod Numbers
 pub mod Ends
-pub mod Told
-pub mod InsideRegions
-pub mod InsideMoves
-pub mod InsideSteps
-pub mod InsideTurning

@@ -1,42 +1,30 @@
 -- Making a table: its slots, and its seats one after another.
 use Rattle.std.proofs.Common.{refl, ◌≡◌, ℕ, suc, ◌+◌, ◌-◌, ◌<◌, ◌≤◌, ◌^◌, List, [], ◌∷◌, ◌++◌, length, sym, ap, ◌∙◌, subst, ⊎_elim, arith, None, replicate, length-append, zero, inl, inr}
-use mathlib.Core.Logic.{dite}
 use mathlib.Core.Option.{some}
 use mathlib.Core.Option as maybe
-use native.Mathlib.Decide.{ℕ_discrete}
 use lib.ListN.{get_elem?, length-replicate}
 use Rattle.atomic_table.specs.Seated.{TableId}
 use Rattle.atomic_table.specs.Table.{Splits, opening}
-use Rattle.atomic_table.proofs.Lists.{at_longer, at_last}
 use Rattle.std.specs.List.{AllByRecursion}
 use Rattle.ww_plain.specs.declared.node.Node.{Node}
 use Rattle.ww_plain.specs.declared.history.Record.{Record}
 use Rattle.ww_plain.specs.Graph.{IsGraph, node_at}
-use Rattle.ww_table.specs.declared.cells.Cell.{Cell}
-use Rattle.ww_table.specs.declared.cells.Cell.TheVariants.{Content, Line}
-use Rattle.ww_table.specs.declared.cells.Part.{Part}
-use Rattle.ww_table.specs.declared.cells.Sight.{Sight}
-use Rattle.ww_table.specs.declared.cells.Start.{Start}
+use Rattle.ww_rule.specs.declared.cells.Cell.{Cell}
+use Rattle.ww_rule.specs.declared.cells.Cell.TheVariants.{Content}
+use Rattle.ww_rule.specs.declared.cells.Part.{Part}
+use Rattle.ww_rule.specs.declared.cells.Sight.{Sight}
+use Rattle.ww_rule.specs.declared.cells.Start.{Start}
 use Rattle.ww_table.specs.declared.seat.Seat16.{Seat16}
-use Rattle.ww_table.specs.Rule.{Sat, first_graph, first_part, first_parts, first_sight, Ruled}
-use Rattle.ww_table.specs.Steps.{seat_of, first_seat, rest_of, without_first}
-use Rattle.ww_table.specs.Seat.{IsNew, numbers_of}
-use Rattle.ww_table.specs.Made.{AreSlots, AreNew, less}
+use Rattle.ww_rule.specs.Rule.{Sat, first_graph, first_part, first_parts, first_sight, Ruled}
+use Rattle.ww_rule.specs.Steps.{seat_of, first_seat, rest_of, without_first}
+use Rattle.ww_table.specs.Seat.{IsNew}
+use Rattle.ww_rule.specs.Out.{numbers_of}
+use Rattle.ww_rule.specs.Homes.{AreSlots}
+use Rattle.ww_table.specs.Made.{AreNew, less}
 use Rattle.ww_table.specs.Closed.{HasCome, HaveAllCome}
 use Rattle.ww_queue.specs.Queue.{Has}
 use Rattle.ww_view.specs.View.{IsBare}
-use Rattle.ww_table.proofs.Seats.{opens, splits, at_end, bare_first}
-
-pub slots_more : (graph : List Node) (n : ℕ) (slots : List Cell) (x : Cell) → AreSlots graph n slots → (n < length graph → x ≡ Content (node_at graph n)) → (length graph ≤ n → x ≡ Line []) → AreSlots graph (n + 1) (slots ++ x ∷ [])
-slots_more graph n slots x are node list = record {
-  many = let l = length-append slots (x ∷ []) in let m = are.many in omega arith;
-  nodes = λ k low small. dite (ℕ_discrete k n)
-      (λ e. ap (get_elem? (slots ++ x ∷ [])) e ∙ at_last slots x n are.many ∙ ap some (node (let s = small in omega arith)) ∙ ap (λ (j : ℕ). some (Content (node_at graph j))) (sym e))
-      (λ ne. at_longer slots (x ∷ []) k (Content (node_at graph k)) (are.nodes k (omega arith) small));
-  lists = λ k low big. dite (ℕ_discrete k n)
-      (λ e. ap (get_elem? (slots ++ x ∷ [])) e ∙ at_last slots x n are.many ∙ ap some (list (let s = big in omega arith)))
-      (λ ne. at_longer slots (x ∷ []) k (Line []) (are.lists k (omega arith) big));
-}
+use Rattle.ww_rule.proofs.Seats.{opens, splits, at_end, bare_first}
 
 pub new_seat : (table : TableId) (key : Start) (k : ℕ) (s : Seat16) → s.seat.table_id ≡ table → s.seat.me ≡ (seat_of (length (first_graph key)) (first_part key.kind k), []) → s.who ≡ k → k < 16 → s.stamp ≡ 0 → s.order.items ≡ [] → s.records.items ≡ [] → IsNew table key k s
 new_seat table key k s home me who few stamp order records = record {

@@ -1,5 +1,5 @@
 -- What closing a table asks, and what it gives.
-use Rattle.std.specs.Prelude.{ℕ, ◌≡◌, ◌≢◌, ◌<◌, ◌≤◌, ◌⊎◌, ◌∷◌, [], Bool, true, false, List, slice_index_or, length, Option, Some, None, vec_len, vec_capacity}
+use Rattle.std.specs.Prelude.{ℕ, ◌≡◌, ◌<◌, ◌≤◌, ◌∷◌, [], true, List, length, Option, Some, vec_len, vec_capacity}
 use mathlib.Core.Option.{some}
 use lib.ListN.{get_elem?}
 use Rattle.std.specs.List.{AllByRecursion}
@@ -10,13 +10,14 @@ use Rattle.ww_plain.specs.declared.node.Node.{Node}
 use Rattle.ww_plain.specs.declared.history.Record.{Record}
 use Rattle.ww_plain.specs.History.{Recorded, history_of, IsLegal, last_graph, part_of}
 use Rattle.ww_view.specs.View.{IsBare}
-use Rattle.ww_table.specs.declared.cells.Cell.{Cell}
-use Rattle.ww_table.specs.declared.cells.Part.{Part}
-use Rattle.ww_table.specs.declared.cells.Sight.{Sight}
-use Rattle.ww_table.specs.declared.cells.Start.{Start}
+use Rattle.ww_rule.specs.declared.cells.Cell.{Cell}
+use Rattle.ww_rule.specs.declared.cells.Part.{Part}
+use Rattle.ww_rule.specs.declared.cells.Sight.{Sight}
+use Rattle.ww_rule.specs.declared.cells.Start.{Start}
 use Rattle.ww_table.specs.declared.seat.Seat16.{Seat16}
 use Rattle.ww_table.specs.declared.close.Rooms.{Rooms}
-use Rattle.ww_table.specs.Rule.{first_graph, own_of}
+use Rattle.ww_rule.specs.Rule.{first_graph, own_of}
+use Rattle.ww_rule.specs.Records.{AreFree}
 use Rattle.ww_table.specs.Seat.{IsSeated}
 
 -- a seat of the table that holds nothing
@@ -41,13 +42,6 @@ pub record IsClosed (key : Start) (seats : List Seat16) (records : List Record) 
 
 -- ---- on the way
 
--- the records of an own list are put in their places
-pub record ArePut (old : List (Option Record)) (own : List (ℕ × Record)) (new : List (Option Record)) : Type 0 where
-  pub size : length new ≡ length old
-  pub sound : (i : ℕ) (r : Record) → get_elem? new i ≡ some (Some r) → (get_elem? old i ≡ some (Some r)) ⊎ Has own (i, r)
-  pub kept : (i : ℕ) (r : Record) → get_elem? old i ≡ some (Some r) → (t : Record) × (get_elem? new i ≡ some (Some t))
-  pub filled : (i : ℕ) (r : Record) → Has own (i, r) → (t : Record) × (get_elem? new i ≡ some (Some t))
-
 -- the numbers that a view says something of
 abbrev pub parts_of : Sight → List Part
 parts_of v = v.part ∷ v.idle
@@ -56,12 +50,6 @@ parts_of v = v.part ∷ v.idle
 pub record AreLaid (parts : List Part) (places : List (Option Record)) : Type 0 where
   pub sound : (i : ℕ) (r : Record) → get_elem? places i ≡ some (Some r) → (p : Part) × Has parts p × Has p.own (i, r)
   pub filled : (p : Part) (i : ℕ) (r : Record) → Has parts p → Has p.own (i, r) → (t : Record) × (get_elem? places i ≡ some (Some t))
-
--- the records of the places, in order
-abbrev pub somes : List (Option Record) → List Record
-somes [] = []
-somes (None ∷ os) = somes os
-somes (Some r ∷ os) = r ∷ somes os
 
 -- These seats are one, which holds nothing and has all their numbers, and the places have their records.
 pub record IsGathered (table : TableId) (seats : List Seat16) (count : ℕ) (token : Seat Cell Sight) (places : List (Option Record)) : Type 0 where
@@ -77,10 +65,6 @@ pub record IsGathered (table : TableId) (seats : List Seat16) (count : ℕ) (tok
 abbrev pub HasPlaces : ℕ → Seat16 → Type 0
 HasPlaces count s = AllByRecursion (λ p. p.0 < count) s.records.items
 
--- no place has a record yet
-abbrev pub AreFree : List (Option Record) → Type 0
-AreFree places = (i : ℕ) (r : Record) → get_elem? places i ≢ some (Some r)
-
 -- free places for so many records, with room for these, and room for so many nodes
 pub record HasRoom (count size : ℕ) (r : Rooms) : Type 0 where
   pub places : length r.places.items ≡ count
@@ -89,8 +73,3 @@ pub record HasRoom (count size : ℕ) (r : Rooms) : Type 0 where
   pub records_room : (vec_len r.records ≡ 0) × (count ≤ vec_capacity r.records)
   pub nodes : r.nodes.items ≡ []
   pub nodes_room : (vec_len r.nodes ≡ 0) × (size ≤ vec_capacity r.nodes)
-
--- the slots from this one on are not taken yet, and those before it are
-pub record AreTakenBelow (taken count : ℕ) (filled : List Bool) : Type 0 where
-  pub there : (k : ℕ) → taken ≤ k → k < count → slice_index_or filled k false ≡ true
-  pub gone : (k : ℕ) → k < taken → slice_index_or filled k false ≡ false

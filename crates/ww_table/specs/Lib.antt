@@ -1,9 +1,3 @@
-pub mod Layout
-pub mod Rule
-pub mod Steps
 pub mod Seat
 pub mod Made
 pub mod Closed
-pub mod Guards
-pub mod Waiting
-pub mod Signs

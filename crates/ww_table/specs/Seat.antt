@@ -1,29 +1,12 @@
 -- A seat as its caller has it.
-use Rattle.std.specs.Prelude.{ℕ, ◌≡◌, ◌<◌, ◌^◌, ◌==◌, ◌++◌, ◌∷◌, [], List, true, length, Option, Some, None, if◌then◌else◌}
+use Rattle.std.specs.Prelude.{ℕ, ◌≡◌, ◌<◌, ◌^◌, [], true, length}
 use Rattle.std.specs.List.{AllByRecursion}
 use Rattle.atomic_table.specs.Seated.{TableId}
-use Rattle.ww_table.specs.declared.cells.Cell.{Cell}
-use Rattle.ww_table.specs.declared.cells.Start.{Start}
+use Rattle.ww_rule.specs.declared.cells.Start.{Start}
+use Rattle.ww_rule.specs.Rule.{first_graph, first_part}
+use Rattle.ww_rule.specs.Steps.{seat_of}
+use Rattle.ww_rule.specs.Out.{numbers_of}
 use Rattle.ww_table.specs.declared.seat.Seat16.{Seat16}
-use Rattle.ww_table.specs.Rule.{first_graph, first_part}
-use Rattle.ww_table.specs.Steps.{seat_of}
-
--- the numbers of the slots that are out, the one taken last at the end
-abbrev pub numbers_of : List (ℕ × Cell) → List ℕ
-numbers_of [] = []
-numbers_of (x ∷ xs) = numbers_of xs ++ x.0 ∷ []
-
--- what lies in a slot that is out
-abbrev pub slot_of : List (ℕ × Cell) → ℕ → Option Cell
-slot_of [] n = None
-slot_of (x ∷ xs) n = if x.0 == n then Some x.1 else slot_of xs n
-
--- of the slots that are out, all but slot n with y
-pub record AreOthers (slots : List (ℕ × Cell)) (n : ℕ) (y : Cell) (others : List (ℕ × Cell)) : Type 0 where
-  pub front : List (ℕ × Cell)
-  pub back : List (ℕ × Cell)
-  pub parts : slots ≡ front ++ (n, y) ∷ back
-  pub rest : others ≡ back ++ front
 
 -- the seat is one of this table, and what it keeps beside its view is what the view says
 pub record IsSeated (table : TableId) (s : Seat16) : Type 0 where
@@ -43,12 +26,3 @@ pub record IsNew (table : TableId) (key : Start) (k : ℕ) (s : Seat16) : Type 0
   pub seated : IsSeated table s
   pub number : s.who ≡ k
   pub me : s.seat.me ≡ (seat_of (length (first_graph key)) (first_part key.kind k), [])
-
--- how far the slots were turned: those in front, none of them slot n, went behind the others
-pub record AreTurned (slots now : List (ℕ × Cell)) (turns n : ℕ) : Type 0 where
-  pub front : List (ℕ × Cell)
-  pub back : List (ℕ × Cell)
-  pub parts : slots ≡ front ++ back
-  pub turned : now ≡ back ++ front
-  pub count : length front ≡ turns
-  pub passed : slot_of front n ≡ None

@@ -1,11 +1,11 @@
 ghost use Rattle.std.specs.Prelude.{◌≡◌, ◌≤◌, length};
-ghost use Rattle.ww_table.specs.Layout.{IsSized};
-ghost use Rattle.ww_table.specs.Rule.{first_graph};
+ghost use Rattle.ww_rule.specs.Layout.{IsSized};
+ghost use Rattle.ww_rule.specs.Rule.{first_graph};
 
-use crate::cells::{Cell, Sight, Start, Words};
-use crate::layout::{FRONT, STAMP, guard_word, owner_word, sign_word};
 use atomic_table::Table;
 use std::alloc::Global;
+use ww_rule::layout::{FRONT, STAMP, guard_word, owner_word, sign_word};
+use ww_rule::{Cell, Sight, Start, Words};
 
 /// A table of 64 locks and 16 seats, whatever the graph's size.
 #[derive(Drop)]

@@ -1,21 +1,22 @@
-ghost use Rattle.std.specs.Prelude.{ℕ, ◌≡◌, ◌≢◌, ◌<◌, ◌+◌, [], ◌∷◌, length, true, false, Some, List};
+ghost use Rattle.std.specs.Prelude.{◌≡◌, ◌≢◌, ◌<◌, ◌+◌, [], ◌∷◌, length, true, false, Some, List};
 ghost use Rattle.atomic_table.specs.Seated.{TableId};
 ghost use Rattle.ww_word.specs.Owner.{IsValid, is_handed};
 ghost use Rattle.ww_queue.specs.declared.entry.Entry.{Entry};
 ghost use Rattle.ww_view.specs.View.{owns};
 ghost use Rattle.ww_view.specs.May.{MayEnter, MayLeave};
-ghost use Rattle.ww_table.specs.declared.cells.Cell.{Cell};
-ghost use Rattle.ww_table.specs.declared.cells.Cell.TheVariants.{Line};
-ghost use Rattle.ww_table.specs.Layout.{list_at};
-ghost use Rattle.ww_table.specs.Rule.{first_graph};
-ghost use Rattle.ww_table.specs.Seat.{IsSeated, AreOthers, numbers_of, slot_of};
-ghost use Rattle.ww_table.specs.Guards.{AreSeats, StandsAs, lost, entering, exiting, looking};
-ghost use Rattle.ww_table.specs.Waiting.{HasListOnTop};
+ghost use Rattle.ww_rule.specs.declared.cells.Cell.TheVariants.{Line};
+ghost use Rattle.ww_rule.specs.Layout.{list_at};
+ghost use Rattle.ww_rule.specs.Rule.{first_graph};
+ghost use Rattle.ww_table.specs.Seat.{IsSeated};
+ghost use Rattle.ww_rule.specs.Out.{AreOthers, numbers_of, slot_of};
+ghost use Rattle.ww_rule.specs.Guards.{AreSeats, StandsAs, lost, entering, exiting, looking};
+ghost use Rattle.ww_rule.specs.Waiting.{HasListOnTop};
 
 use crate::board::Board;
-use crate::layout::{guard_word, list_slot, owner_word};
-use crate::plays_inside::{Enter, Exit, Look};
-use crate::seat::{Seat16, bring};
+use crate::seat::Seat16;
+use ww_rule::bring;
+use ww_rule::layout::{guard_word, list_slot, owner_word};
+use ww_rule::plays_inside::{Enter, Exit, Look};
 use ww_word::{Owner, unpack};
 
 impl Seat16 {

@@ -1,14 +1,9 @@
-ghost use Rattle.std.specs.Prelude.{◌≡◌, ◌<◌, ◌≤◌, [], length, IfOk, IfErr, vec_len, vec_capacity};
-ghost use Rattle.ww_plain.specs.Graph.{node_at};
-ghost use Rattle.ww_table.specs.declared.cells.Cell.TheVariants.{Content, Line};
-ghost use Rattle.ww_table.specs.Layout.{IsSized};
-ghost use Rattle.ww_table.specs.Rule.{first_sight};
-ghost use Rattle.ww_table.specs.Made.{AreSlots, AreNew, IsMade};
+ghost use Rattle.std.specs.Prelude.{◌≡◌, ◌<◌, ◌≤◌, [], IfOk, IfErr, vec_len, vec_capacity};
+ghost use Rattle.ww_rule.specs.Layout.{IsSized};
+ghost use Rattle.ww_rule.specs.Rule.{first_sight};
+ghost use Rattle.ww_table.specs.Made.{AreNew, IsMade};
 
 use crate::board::Board;
-use crate::cells::{Cell, Start, TableSeat, Top, Waiters};
-use crate::layout::{SLOTS, WORDS};
-use crate::plays::Seats;
 use crate::seat::Seat16;
 use arrayvec::ArrayVec;
 use atomic_table::Table;
@@ -16,6 +11,10 @@ use std::alloc::{AllocError, Global};
 use std::snapshot::Snapshot;
 use ww_plain::Graph;
 use ww_queue::Kind;
+use ww_rule::homes::slots;
+use ww_rule::layout::WORDS;
+use ww_rule::plays::Seats;
+use ww_rule::{Start, TableSeat, Top};
 
 impl Board {
     /// A table of locks of this kind for the nodes of a graph, and so many seats; seat k has the number k. Where a
@@ -62,29 +61,6 @@ fn lay(
             Ok((board, made))
         }
         Err(_) => Err(AllocError),
-    }
-}
-
-/// What the slots have at the start.
-fn slots(alloc: Global, graph: &Graph) -> Result<Vec<Cell>, AllocError>
-    ensures { IfOk result (λ slots. AreSlots graph.now 128 slots.items) }
-{
-    let mut slots = Vec::with_capacity(alloc, SLOTS)?;
-    for n in 0..SLOTS as u8 {
-        slots.push_reserved(cell(graph, n));
-    }
-    Ok(slots)
-}
-
-/// What a slot has at the start.
-fn cell(graph: &Graph, n: u8) -> Cell
-    ensures node { n < length graph.now → result ≡ Content (node_at graph.now n) }
-    ensures list { length graph.now ≤ n → result ≡ Line [] }
-{
-    if n < graph.size() {
-        Cell::Content(graph.node(n))
-    } else {
-        Cell::Line(Waiters::new())
     }
 }
 

@@ -2,16 +2,16 @@ ghost use Rattle.std.specs.Prelude.{◌≡◌, ◌<◌, ◌^◌, ◌↔◌, true
 ghost use Rattle.std.specs.List.{AllByRecursion};
 ghost use Rattle.ww_plain.specs.History.{recorded_of};
 ghost use Rattle.ww_table.specs.Seat.{IsSeated};
-ghost use Rattle.ww_table.specs.Steps.{MayPlace, placing};
+ghost use Rattle.ww_rule.specs.Steps.{MayPlace, placing};
 
 use crate::board::Board;
-use crate::cells::TableSeat;
-use crate::layout::FRONT;
-use crate::plays::{Commit, Said};
 use crate::seat::Seat16;
 use std::alloc::AllocError;
 use std::marker::Brand;
 use ww_plain::Record;
+use ww_rule::TableSeat;
+use ww_rule::layout::FRONT;
+use ww_rule::plays::{Commit, Said};
 
 impl Seat16 {
     /// How many commits it made.

@@ -1,20 +1,19 @@
 //! What a seat inside a guard reads in the wait list. None of this is a step: nobody else sees it.
-ghost use Rattle.std.specs.Prelude.{ℕ, ◌≡◌, ◌<◌, ◌∷◌, length, slice_get, List, Option, Some};
-ghost use Rattle.atomic_table.specs.Table.{rest};
+ghost use Rattle.std.specs.Prelude.{◌≡◌, ◌<◌, length, slice_get, Option, Some};
 ghost use Rattle.ww_queue.specs.declared.entry.Entry.{Entry};
 ghost use Rattle.ww_queue.specs.Rules.{must_die, owed_signs};
-ghost use Rattle.ww_table.specs.declared.cells.Cell.{Cell};
-ghost use Rattle.ww_table.specs.declared.cells.Cell.TheVariants.{Line};
-ghost use Rattle.ww_table.specs.Layout.{list_at};
-ghost use Rattle.ww_table.specs.Rule.{first_graph};
-ghost use Rattle.ww_table.specs.Seat.{IsSeated, AreOthers, slot_of};
-ghost use Rattle.ww_table.specs.Waiting.{HasListOnTop};
+ghost use Rattle.ww_rule.specs.declared.cells.Cell.TheVariants.{Line};
+ghost use Rattle.ww_rule.specs.Layout.{list_at};
+ghost use Rattle.ww_rule.specs.Rule.{first_graph};
+ghost use Rattle.ww_table.specs.Seat.{IsSeated};
+ghost use Rattle.ww_rule.specs.Out.{slot_of};
+ghost use Rattle.ww_rule.specs.Waiting.{HasListOnTop};
 
 use crate::board::Board;
-use crate::cells::{Cell, TableSeat};
 use crate::seat::Seat16;
 use arrayvec::ArrayVec;
-use ww_queue::{Entry, Kind, MAX_WAITERS, must_die, owed_signs};
+use ww_queue::{Entry, Kind, MAX_WAITERS};
+use ww_rule::lists::{death_there, first_there, owed_there};
 use ww_word::Owner;
 
 impl Seat16 {
@@ -36,7 +35,15 @@ impl Seat16 {
         ensures records { self.new.records ≡ self.old.records }
     {
         let slot = self.bring_list(lock);
-        death_there(&mut self.seat, board, slot, kind, seen, self.who, sign)
+        death_there(
+            &mut self.seat,
+            &board.table.shared,
+            slot,
+            kind,
+            seen,
+            self.who,
+            sign,
+        )
     }
 
     /// Whom the seat owes a sign, by the owner that it saw and the wait list.
@@ -56,7 +63,14 @@ impl Seat16 {
         ensures records { self.new.records ≡ self.old.records }
     {
         let slot = self.bring_list(lock);
-        owed_there(&mut self.seat, board, slot, kind, seen, self.who)
+        owed_there(
+            &mut self.seat,
+            &board.table.shared,
+            slot,
+            kind,
+            seen,
+            self.who,
+        )
     }
 
     /// The first waiter.
@@ -70,63 +84,6 @@ impl Seat16 {
         ensures records { self.new.records ≡ self.old.records }
     {
         let slot = self.bring_list(lock);
-        first_there(&mut self.seat, board, slot)
-    }
-}
-
-/// The stamp for which this seat has to die, by the list that was taken last.
-fn death_there(
-    seat: &mut TableSeat,
-    board: &Board,
-    slot: u8,
-    kind: Kind,
-    seen: Owner,
-    who: u8,
-    sign: u64,
-) -> Option<u64>
-    requires home { seat.old.table_id ≡ board.now.table.shared.table_id }
-    requires top { (q : List Entry) × (seat.old.me.1 ≡ (slot, Line q) ∷ rest seat.old.me.1) }
-    ensures home { (seat.new.table_id ≡ seat.old.table_id) × (seat.new.id ≡ seat.old.id) }
-    ensures same { seat.new.me ≡ seat.old.me }
-    ensures death { (q : List Entry) → seat.old.me.1 ≡ (slot, Line q) ∷ rest seat.old.me.1 → result ≡ must_die kind seen q who sign }
-{
-    match seat.slot_mut(&board.table.shared, usize::from(slot)) {
-        Cell::Line(waiters) => must_die(kind, seen, &waiters.queue, who, sign),
-        Cell::Content(_) => unreachable!(),
-    }
-}
-
-/// Whom this seat owes a sign, by the list that was taken last.
-fn owed_there(
-    seat: &mut TableSeat,
-    board: &Board,
-    slot: u8,
-    kind: Kind,
-    seen: Owner,
-    who: u8,
-) -> ArrayVec<(u8, u64), MAX_WAITERS>
-    requires home { seat.old.table_id ≡ board.now.table.shared.table_id }
-    requires top { (q : List Entry) × (seat.old.me.1 ≡ (slot, Line q) ∷ rest seat.old.me.1) }
-    ensures home { (seat.new.table_id ≡ seat.old.table_id) × (seat.new.id ≡ seat.old.id) }
-    ensures same { seat.new.me ≡ seat.old.me }
-    ensures owed { (q : List Entry) → seat.old.me.1 ≡ (slot, Line q) ∷ rest seat.old.me.1 → result.items ≡ owed_signs kind seen q who }
-{
-    match seat.slot_mut(&board.table.shared, usize::from(slot)) {
-        Cell::Line(waiters) => owed_signs(kind, seen, &waiters.queue, who),
-        Cell::Content(_) => unreachable!(),
-    }
-}
-
-/// The first waiter in the list that was taken last.
-fn first_there(seat: &mut TableSeat, board: &Board, slot: u8) -> Option<Entry>
-    requires home { seat.old.table_id ≡ board.now.table.shared.table_id }
-    requires top { (q : List Entry) × (seat.old.me.1 ≡ (slot, Line q) ∷ rest seat.old.me.1) }
-    ensures home { (seat.new.table_id ≡ seat.old.table_id) × (seat.new.id ≡ seat.old.id) }
-    ensures same { seat.new.me ≡ seat.old.me }
-    ensures first { (q : List Entry) → seat.old.me.1 ≡ (slot, Line q) ∷ rest seat.old.me.1 → result ≡ slice_get q 0 }
-{
-    match seat.slot_mut(&board.table.shared, usize::from(slot)) {
-        Cell::Line(waiters) => waiters.queue.first(),
-        Cell::Content(_) => unreachable!(),
+        first_there(&mut self.seat, &board.table.shared, slot)
     }
 }

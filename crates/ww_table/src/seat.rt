@@ -1,4 +1,4 @@
-ghost use Rattle.std.specs.Prelude.{◌≡◌, ◌≢◌, ◌<◌, ◌∷◌, length, true, false, Some};
+ghost use Rattle.std.specs.Prelude.{◌≡◌, ◌<◌, ◌∷◌, length, true, false, Some};
 ghost use lib.ListN.{get_elem?};
 ghost use mathlib.Core.Option.{some};
 ghost use Rattle.ww_plain.specs.declared.node.Node.{Node};
@@ -6,25 +6,23 @@ ghost use Rattle.ww_plain.specs.Graph.{IsNodeOf};
 ghost use Rattle.ww_view.specs.View.{owns, IsAway};
 ghost use Rattle.ww_view.specs.May.{MayFast};
 ghost use Rattle.ww_view.specs.Made.{ended, fast_missed, has_read};
-ghost use Rattle.ww_table.specs.declared.cells.Cell.{Cell};
-ghost use Rattle.ww_table.specs.declared.cells.Cell.TheVariants.{Content};
-ghost use Rattle.ww_table.specs.Rule.{first_graph};
-ghost use Rattle.ww_table.specs.Seat.{IsSeated, AreOthers, slot_of, numbers_of};
+ghost use Rattle.ww_rule.specs.declared.cells.Cell.{Cell};
+ghost use Rattle.ww_rule.specs.declared.cells.Cell.TheVariants.{Content};
+ghost use Rattle.ww_rule.specs.Rule.{first_graph};
+ghost use Rattle.ww_table.specs.Seat.{IsSeated};
+ghost use Rattle.ww_rule.specs.Out.{AreOthers, slot_of, numbers_of};
 ghost use Rattle.std.specs.Prelude.{ℕ, ◌^◌, List, nat_lt};
 ghost use Rattle.ww_word.specs.Owner.{packed};
-ghost use Rattle.ww_table.specs.Steps.{knowing, drawing, taking, giving, MayDraw, MayEnd};
+ghost use Rattle.ww_rule.specs.Steps.{knowing, drawing, taking, giving, MayDraw, MayEnd};
 
 use crate::board::Board;
-use crate::cells::{Cell, TableSeat};
-use crate::layout::{STAMP, owner_word, sign_word};
-use crate::plays::{Draw, End, GiveFree, TakeFree};
 use arrayvec::ArrayVec;
 use std::mem;
 use ww_plain::{Node, Record};
+use ww_rule::layout::{STAMP, owner_word, sign_word};
+use ww_rule::plays::{Draw, End, GiveFree, TakeFree};
+use ww_rule::{Cell, MAX_OUT, TableSeat, bring};
 use ww_word::{Owner, pack};
-
-/// How many slots a seat can have out: all nodes, and the wait list of one lock.
-pub(crate) const MAX_OUT: usize = 65;
 
 /// A seat of a board. It may start one context after another. Each of its steps is one atomic operation on one word;
 /// its other calls look at what it has out.
@@ -54,7 +52,7 @@ impl Seat16 {
     }
 
     /// Whether it has a slot out.
-    #[tactic(auto, using(crate::proofs::Turning::numbers_long))]
+    #[tactic(auto, using(ww_rule::proofs::Turning::numbers_long))]
     pub fn has_out(&self) -> bool
         requires order { self.now.order.items ≡ numbers_of self.now.seat.me.1 }
         ensures { result ≡ nat_lt 0 (length self.now.seat.me.1) }
@@ -201,43 +199,5 @@ impl Seat16 {
             Cell::Content(old) => mem::replace(old, new),
             Cell::Line(_) => unreachable!(),
         }
-    }
-}
-
-/// Sees to it that this slot, which is out, is the one taken last. It is no step, and costs nothing where it is that
-/// already.
-#[inline(always)]
-pub(crate) fn bring(seat: &mut TableSeat, order: &mut ArrayVec<u8, MAX_OUT>, slot: u8)
-    requires order { order.old.items ≡ numbers_of seat.old.me.1 }
-    requires out { (y : Cell) × (slot_of seat.old.me.1 slot ≡ Some y) }
-    ensures home { (seat.new.table_id ≡ seat.old.table_id) × (seat.new.id ≡ seat.old.id) }
-    ensures view { seat.new.me.0 ≡ seat.old.me.0 }
-    ensures slots { (y : Cell) × (others : List (ℕ × Cell)) × (slot_of seat.old.me.1 slot ≡ Some y) × AreOthers seat.old.me.1 slot y others × (seat.new.me.1 ≡ (slot, y) ∷ others) }
-    ensures order { order.new.items ≡ numbers_of seat.new.me.1 }
-{
-    if order[order.len() - 1] != slot {
-        turn_to(seat, order, slot);
-    }
-}
-
-/// Turns the slots that are out until this one is the one taken last.
-#[cold]
-fn turn_to(seat: &mut TableSeat, order: &mut ArrayVec<u8, MAX_OUT>, slot: u8)
-    requires order { order.old.items ≡ numbers_of seat.old.me.1 }
-    requires out { (y : Cell) × (slot_of seat.old.me.1 slot ≡ Some y) }
-    ensures home { (seat.new.table_id ≡ seat.old.table_id) × (seat.new.id ≡ seat.old.id) }
-    ensures view { seat.new.me.0 ≡ seat.old.me.0 }
-    ensures slots { (y : Cell) × (others : List (ℕ × Cell)) × (slot_of seat.old.me.1 slot ≡ Some y) × AreOthers seat.old.me.1 slot y others × (seat.new.me.1 ≡ (slot, y) ∷ others) }
-    ensures order { order.new.items ≡ numbers_of seat.new.me.1 }
-{
-    for _ in 0..order.len() {
-        if order[order.len() - 1] == slot {
-            return;
-        }
-        let Some(last) = order.pop() else {
-            return;
-        };
-        order.insert(0, last);
-        seat.turn();
     }
 }

@@ -2,12 +2,12 @@ ghost use Rattle.std.specs.Prelude.{◌≡◌, ◌≢◌, ◌<◌};
 ghost use Rattle.ww_view.specs.View.{IsQuiet};
 ghost use Rattle.ww_view.specs.May.{MayClear, MaySign};
 ghost use Rattle.ww_table.specs.Seat.{IsSeated};
-ghost use Rattle.ww_table.specs.Signs.{signing, reading, finding_none, clearing};
+ghost use Rattle.ww_rule.specs.Signs.{signing, reading, finding_none, clearing};
 
 use crate::board::Board;
-use crate::layout::sign_word;
-use crate::plays_inside::{Clear, OwnSign, Sign};
 use crate::seat::Seat16;
+use ww_rule::layout::sign_word;
+use ww_rule::plays_inside::{Clear, OwnSign, Sign};
 
 impl Seat16 {
     /// Condemns another seat by the stamp of the older context that it meets here, and answers whether this call did

@@ -4,29 +4,28 @@ ghost use mathlib.Core.Option.{some};
 ghost use Rattle.atomic_table.specs.Table.{rest};
 ghost use Rattle.ww_word.specs.Owner.{IsValid};
 ghost use Rattle.ww_queue.specs.declared.entry.Entry.{Entry};
-ghost use Rattle.ww_queue.specs.Queue.{left};
 ghost use Rattle.ww_model.specs.State.{any_below};
 ghost use Rattle.ww_plain.specs.declared.node.Node.{Node};
 ghost use Rattle.ww_plain.specs.Graph.{IsNodeOf};
-ghost use Rattle.ww_model.specs.State.{waiting};
-ghost use Rattle.ww_view.specs.Word.{given_word};
 ghost use Rattle.ww_view.specs.View.{owns};
 ghost use Rattle.ww_view.specs.May.{MayAsk, MayDie, MayGive, MayJoin, MayTake};
 ghost use Rattle.ww_view.specs.Made.{died, queued, taken};
-ghost use Rattle.ww_table.specs.declared.cells.Cell.{Cell};
-ghost use Rattle.ww_table.specs.declared.cells.Cell.TheVariants.{Content, Line};
-ghost use Rattle.ww_table.specs.Layout.{list_at};
-ghost use Rattle.ww_table.specs.Rule.{first_graph};
-ghost use Rattle.ww_table.specs.Seat.{IsSeated, AreOthers, slot_of};
-ghost use Rattle.ww_table.specs.Guards.{AreSeats, lost};
-ghost use Rattle.ww_table.specs.Waiting.{IsOut, joining, taking_inside, giving_inside, asking, dying};
+ghost use Rattle.ww_rule.specs.declared.cells.Cell.{Cell};
+ghost use Rattle.ww_rule.specs.declared.cells.Cell.TheVariants.{Content, Line};
+ghost use Rattle.ww_rule.specs.Layout.{list_at};
+ghost use Rattle.ww_rule.specs.Rule.{first_graph};
+ghost use Rattle.ww_table.specs.Seat.{IsSeated};
+ghost use Rattle.ww_rule.specs.Out.{AreOthers, slot_of};
+ghost use Rattle.ww_rule.specs.Guards.{AreSeats, lost};
+ghost use Rattle.ww_rule.specs.Waiting.{IsOut, joining, taking_inside, giving_inside, asking, dying};
 
 use crate::board::Board;
-use crate::cells::{Cell, TableSeat};
-use crate::layout::{list_slot, owner_word};
-use crate::plays_inside::{Ask, Die, Give, Join, Take};
-use crate::seat::{Seat16, bring};
-use ww_queue::{Entry, Queue};
+use crate::seat::Seat16;
+use ww_queue::Entry;
+use ww_rule::layout::{list_slot, owner_word};
+use ww_rule::lists::{flag_left, leave_list, next_owner};
+use ww_rule::plays_inside::{Ask, Die, Give, Join, Take};
+use ww_rule::{Cell, bring};
 use ww_word::{HANDOFF, Owner, WAITERS, pack};
 
 impl Seat16 {
@@ -99,7 +98,7 @@ impl Seat16 {
         ensures lost { result ≡ false → (others : List (ℕ × Cell)) × AreOthers self.old.seat.me.1 (list_at lock) (Line self.old.seat.me.0.part.core.list) others × (self.new.seat.me ≡ (lost self.old.seat.me.0, (list_at lock, Line self.old.seat.me.0.part.core.list) ∷ others)) }
     {
         let slot = self.bring_list(lock);
-        let flags = flag_left(&mut self.seat, board, slot, self.who);
+        let flags = flag_left(&mut self.seat, &board.table.shared, slot, self.who);
         let old = pack(seen);
         let new = pack(Owner {
             seat: Some(self.who),
@@ -114,7 +113,7 @@ impl Seat16 {
         self.order.pop();
         self.order.push(lock);
         self.order.push(slot);
-        leave_list(&mut self.seat, board, slot, self.who);
+        leave_list(&mut self.seat, &board.table.shared, slot, self.who);
         true
     }
 
@@ -132,7 +131,7 @@ impl Seat16 {
         ensures lost { result ≡ false → (others : List (ℕ × Cell)) × AreOthers self.old.seat.me.1 (list_at lock) (Line self.old.seat.me.0.part.core.list) others × (self.new.seat.me ≡ (lost self.old.seat.me.0, (list_at lock, Line self.old.seat.me.0.part.core.list) ∷ others)) }
     {
         let slot = self.bring_list(lock);
-        let is_last = flag_left(&mut self.seat, board, slot, self.who) == 0;
+        let is_last = flag_left(&mut self.seat, &board.table.shared, slot, self.who) == 0;
         let old = pack(seen);
         let new = pack(if is_last {
             Owner { flags: 0, ..seen }
@@ -144,7 +143,7 @@ impl Seat16 {
         if found != old {
             return false;
         }
-        leave_list(&mut self.seat, board, slot, self.who);
+        leave_list(&mut self.seat, &board.table.shared, slot, self.who);
         true
     }
 
@@ -164,7 +163,12 @@ impl Seat16 {
         ensures lost { result ≡ false → (x : Node) × (others : List (ℕ × Cell)) × (rest : List (ℕ × Cell)) × AreOthers self.old.seat.me.1 (list_at lock) (Line self.old.seat.me.0.part.core.list) others × AreOthers ((list_at lock, Line self.old.seat.me.0.part.core.list) ∷ others) lock (Content x) rest × (self.new.seat.me ≡ (lost self.old.seat.me.0, (lock, Content x) ∷ rest)) }
     {
         let slot = self.bring_list(lock);
-        let owner = next_owner(&mut self.seat, board, slot, seen.flags == WAITERS | HANDOFF);
+        let owner = next_owner(
+            &mut self.seat,
+            &board.table.shared,
+            slot,
+            seen.flags == WAITERS | HANDOFF,
+        );
         bring(&mut self.seat, &mut self.order, lock);
         let old = pack(seen);
         let new = pack(owner);
@@ -175,79 +179,5 @@ impl Seat16 {
         }
         self.order.pop();
         true
-    }
-}
-
-/// The flag of the waiters that are left in a list once this seat has gone.
-fn flag_without(queue: &Queue, who: u8) -> u8
-    ensures { result ≡ waiting (left queue.now who) }
-{
-    match queue.first() {
-        None => 0,
-        Some(first) if queue.entries().len() == 1 && first.seat == who => 0,
-        Some(_) => WAITERS,
-    }
-}
-
-/// The owner of a lock that is given back, with this wait list.
-fn owner_after(queue: &Queue, is_asked: bool) -> Owner
-    ensures { result ≡ given_word is_asked queue.now }
-{
-    match queue.first() {
-        None => Owner {
-            seat: None,
-            stamp: 0,
-            flags: 0,
-        },
-        Some(first) if is_asked => Owner::handed_to(first.seat, first.stamp),
-        Some(_) => Owner {
-            seat: None,
-            stamp: 0,
-            flags: WAITERS,
-        },
-    }
-}
-
-/// The flag of the waiters that are left in the list that was taken last, once this seat has gone.
-fn flag_left(seat: &mut TableSeat, board: &Board, slot: u8, who: u8) -> u8
-    requires home { seat.old.table_id ≡ board.now.table.shared.table_id }
-    requires top { (q : List Entry) × (seat.old.me.1 ≡ (slot, Line q) ∷ rest seat.old.me.1) }
-    ensures home { (seat.new.table_id ≡ seat.old.table_id) × (seat.new.id ≡ seat.old.id) }
-    ensures same { seat.new.me ≡ seat.old.me }
-    ensures flag { (q : List Entry) → seat.old.me.1 ≡ (slot, Line q) ∷ rest seat.old.me.1 → result ≡ waiting (left q who) }
-{
-    match seat.slot_mut(&board.table.shared, usize::from(slot)) {
-        Cell::Line(waiters) => flag_without(&waiters.queue, who),
-        Cell::Content(_) => unreachable!(),
-    }
-}
-
-/// Takes the seat out of the list that was taken last.
-fn leave_list(seat: &mut TableSeat, board: &Board, slot: u8, who: u8)
-    requires home { seat.old.table_id ≡ board.now.table.shared.table_id }
-    requires top { (q : List Entry) × (seat.old.me.1 ≡ (slot, Line q) ∷ rest seat.old.me.1) }
-    ensures home { (seat.new.table_id ≡ seat.old.table_id) × (seat.new.id ≡ seat.old.id) }
-    ensures view { seat.new.me.0 ≡ seat.old.me.0 }
-    ensures list { (q : List Entry) → seat.old.me.1 ≡ (slot, Line q) ∷ rest seat.old.me.1 → seat.new.me.1 ≡ (slot, Line (left q who)) ∷ rest seat.old.me.1 }
-{
-    match seat.slot_mut(&board.table.shared, usize::from(slot)) {
-        Cell::Line(waiters) => {
-            waiters.queue.leave(who);
-        }
-        Cell::Content(_) => unreachable!(),
-    }
-}
-
-/// The owner of a lock that is given back, with the list that was taken last.
-fn next_owner(seat: &mut TableSeat, board: &Board, slot: u8, is_asked: bool) -> Owner
-    requires home { seat.old.table_id ≡ board.now.table.shared.table_id }
-    requires top { (q : List Entry) × (seat.old.me.1 ≡ (slot, Line q) ∷ rest seat.old.me.1) }
-    ensures home { (seat.new.table_id ≡ seat.old.table_id) × (seat.new.id ≡ seat.old.id) }
-    ensures same { seat.new.me ≡ seat.old.me }
-    ensures owner { (q : List Entry) → seat.old.me.1 ≡ (slot, Line q) ∷ rest seat.old.me.1 → result ≡ given_word is_asked q }
-{
-    match seat.slot_mut(&board.table.shared, usize::from(slot)) {
-        Cell::Line(waiters) => owner_after(&waiters.queue, is_asked),
-        Cell::Content(_) => unreachable!(),
     }
 }

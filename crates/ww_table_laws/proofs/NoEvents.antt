@@ -6,12 +6,12 @@ use Rattle.ww_word.specs.declared.owner.Owner.{Owner}
 use Rattle.ww_word.specs.Owner.{IsValid, packed}
 use Rattle.ww_view.specs.Made.{noted, stepped, has_looked, has_read, found_none, fast_missed}
 use Rattle.ww_view.proofs.Inside.{mine_look, mine_lost_sign, mine_read, mine_read_none, mine_missed, mine_stepped}
-use Rattle.ww_table.specs.declared.cells.Start.{Start}
-use Rattle.ww_table.specs.Rule.{St, Sat, Sits, Ruled, Stays}
-use Rattle.ww_table.specs.Guards.{looking}
-use Rattle.ww_table.specs.Signs.{signing}
-use Rattle.ww_table.proofs.Moves as moves
-use Rattle.ww_table.proofs.InsideMoves.{inside_low}
+use Rattle.ww_rule.specs.declared.cells.Start.{Start}
+use Rattle.ww_rule.specs.Rule.{St, Sat, Sits, Ruled, Stays}
+use Rattle.ww_rule.specs.Guards.{looking}
+use Rattle.ww_rule.specs.Signs.{signing}
+use Rattle.ww_rule.proofs.Moves as moves
+use Rattle.ww_rule.proofs.InsideMoves.{inside_low}
 use Rattle.ww_table_laws.specs.NoEvents.{read, IsNotedOnly, IsLostOnly}
 
 module _ (key : Start) (s : St) (r : Ruled key s) (id : ℕ) (me : Sat) (here : get_elem? s.views id ≡ some me.0) (seated : me.0.seated ≡ true) where

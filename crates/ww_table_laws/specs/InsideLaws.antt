@@ -16,14 +16,14 @@ use Rattle.ww_plain.specs.Graph.{node_at}
 use Rattle.ww_plain.specs.History.{last_graph}
 use Rattle.ww_view.specs.Word.{taken_word, asked_word, given_word, rest_word}
 use Rattle.ww_view.specs.May.{MayEnter, MayExit, MayJoin, MayTake, MayAsk, MayGive, MayDie, MaySign, MayClear}
-use Rattle.ww_table.specs.declared.cells.Cell.{Cell}
-use Rattle.ww_table.specs.declared.cells.Cell.TheVariants.{Content, Line}
-use Rattle.ww_table.specs.declared.cells.Start.{Start}
-use Rattle.ww_table.specs.Layout.{owner_at, guard_at, sign_at, list_at}
-use Rattle.ww_table.specs.Rule.{St, Sat, first_graph, Ruled, Makes}
-use Rattle.ww_table.specs.Guards.{entering, exiting}
-use Rattle.ww_table.specs.Waiting.{joining, taking_inside, giving_inside, asking, dying}
-use Rattle.ww_table.specs.Signs.{signing, clearing}
+use Rattle.ww_rule.specs.declared.cells.Cell.{Cell}
+use Rattle.ww_rule.specs.declared.cells.Cell.TheVariants.{Content, Line}
+use Rattle.ww_rule.specs.declared.cells.Start.{Start}
+use Rattle.ww_rule.specs.Layout.{owner_at, guard_at, sign_at, list_at}
+use Rattle.ww_rule.specs.Rule.{St, Sat, first_graph, Ruled, Makes}
+use Rattle.ww_rule.specs.Guards.{entering, exiting}
+use Rattle.ww_rule.specs.Waiting.{joining, taking_inside, giving_inside, asking, dying}
+use Rattle.ww_rule.specs.Signs.{signing, clearing}
 use Rattle.ww_table_laws.specs.Laws.{Steps}
 
 -- a guard word 0 becomes that of the seat as Guard, and the list that comes out is that of the lock

@@ -15,15 +15,15 @@ use Rattle.ww_plain.specs.History.{recorded_of, last_graph}
 use Rattle.ww_view.specs.View.{owns, IsAway}
 use Rattle.ww_view.specs.May.{MayFast}
 use Rattle.ww_view.specs.Made.{ended}
-use Rattle.ww_table.specs.declared.cells.Cell.TheVariants.{Content}
-use Rattle.ww_table.specs.declared.cells.Start.{Start}
+use Rattle.ww_rule.specs.declared.cells.Cell.TheVariants.{Content}
+use Rattle.ww_rule.specs.declared.cells.Start.{Start}
 use Rattle.atomic_table.specs.Seated.{TableId}
 use Rattle.ww_table.specs.declared.seat.Seat16.{Seat16}
 use Rattle.ww_table.specs.Made.{AreNew}
 use Rattle.ww_table.specs.Closed.{HaveAllCome}
-use Rattle.ww_table.specs.Layout.{owner_at, sign_at, stamp_at, front_at}
-use Rattle.ww_table.specs.Rule.{St, Sat, first_graph, Ruled, MakesWith, Makes}
-use Rattle.ww_table.specs.Steps.{MayDraw, MayEnd, MayPlace, taker, drawing, taking, giving, knowing, placing}
+use Rattle.ww_rule.specs.Layout.{owner_at, sign_at, stamp_at, front_at}
+use Rattle.ww_rule.specs.Rule.{St, Sat, first_graph, Ruled, MakesWith, Makes}
+use Rattle.ww_rule.specs.Steps.{MayDraw, MayEnd, MayPlace, taker, drawing, taking, giving, knowing, placing}
 
 -- a seat of the table that steps: where its view stands, and the seat itself
 pub record Steps (s : St) (id : ℕ) (me : Sat) : Type 0 where

@@ -7,14 +7,14 @@ use Rattle.ww_word.specs.declared.owner.Owner.{Owner}
 use Rattle.ww_word.specs.Owner.{IsValid, packed}
 use Rattle.ww_view.specs.View.{IsBare, IsQuiet}
 use Rattle.ww_view.specs.Made.{fast_missed}
-use Rattle.ww_table.specs.declared.cells.Part.{Part}
-use Rattle.ww_table.specs.declared.cells.Sight.{Sight}
-use Rattle.ww_table.specs.declared.cells.Start.{Start}
-use Rattle.ww_table.specs.Layout.{owner_at, sign_at}
-use Rattle.ww_table.specs.Rule.{St, Sat, Ruled, Stays}
-use Rattle.ww_table.specs.Steps.{knowing, nobody, first_seat, without_first, with_seat}
-use Rattle.ww_table.specs.Guards.{lost, looking}
-use Rattle.ww_table.specs.Signs.{signing, reading, finding_none}
+use Rattle.ww_rule.specs.declared.cells.Part.{Part}
+use Rattle.ww_rule.specs.declared.cells.Sight.{Sight}
+use Rattle.ww_rule.specs.declared.cells.Start.{Start}
+use Rattle.ww_rule.specs.Layout.{owner_at, sign_at}
+use Rattle.ww_rule.specs.Rule.{St, Sat, Ruled, Stays}
+use Rattle.ww_rule.specs.Steps.{knowing, nobody, first_seat, without_first, with_seat}
+use Rattle.ww_rule.specs.Guards.{lost, looking}
+use Rattle.ww_rule.specs.Signs.{signing, reading, finding_none}
 use Rattle.ww_table_laws.specs.Laws.{Steps}
 
 -- the table once the seat read a word, or found there another than it expected, and has this view then

@@ -1,6 +1,6 @@
 use Rattle.std.proofs.Common.{◌≡◌, ◌≤◌, ◌++◌, length}
 use Rattle.std.specs.Prelude.{vec_len, vec_capacity}
-use Rattle.ww_table.specs.Rule.{first_graph}
+use Rattle.ww_rule.specs.Rule.{first_graph}
 use Rattle.ww_lock.specs.Opened.{AreFresh, AreRests}
 use Rattle.ww_lock.proofs.world.fresh.Given as goal
 

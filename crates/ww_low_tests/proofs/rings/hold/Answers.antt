@@ -1,6 +1,6 @@
 use Rattle.std.proofs.Common.{arith, sym, subst}
-use Rattle.ww_table.specs.Rule.{Sat}
-use Rattle.ww_table.specs.Steps.{MayDraw}
+use Rattle.ww_rule.specs.Rule.{Sat}
+use Rattle.ww_rule.specs.Steps.{MayDraw}
 use Rattle.ww_seat.proofs.Starts.{new_settled}
 use Rattle.ww_low_tests.proofs.FirstSteps.{may_draw}
 use Rattle.ww_low_tests.proofs.rings.hold.Goals as goal

@@ -3,10 +3,10 @@ use lib.ListN.{get_elem?, length-replicate}
 use Rattle.atomic_table.proofs.Lists.{set_here}
 use Rattle.ww_view.specs.View.{owns, IsAway}
 use Rattle.ww_view.specs.May.{MayFast}
-use Rattle.ww_table.specs.declared.cells.Sight.{Sight}
-use Rattle.ww_table.specs.Rule.{Sat, first_graph, first_part}
-use Rattle.ww_table.specs.Steps.{MayDraw, seat_of, drawing, taking}
-use Rattle.ww_table.specs.Seat.{slot_of}
+use Rattle.ww_rule.specs.declared.cells.Sight.{Sight}
+use Rattle.ww_rule.specs.Rule.{Sat, first_graph, first_part}
+use Rattle.ww_rule.specs.Steps.{MayDraw, seat_of, drawing, taking}
+use Rattle.ww_rule.specs.Out.{slot_of}
 use Rattle.ww_low_tests.proofs.FirstSteps.{may_draw, may_fast}
 use Rattle.ww_low_tests.proofs.tables.takes_once.Goals as goal
 

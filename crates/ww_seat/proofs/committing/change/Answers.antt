@@ -1,8 +1,8 @@
 use Rattle.std.proofs.Common.{◌≡◌, ℕ, ◌<◌, true, List, get_or, length, ap, ◌∙◌}
 use Rattle.ww_plain.specs.Numbers.{is_among}
 use Rattle.ww_view.specs.View.{owns}
-use Rattle.ww_table.specs.declared.cells.Sight.{Sight}
-use Rattle.ww_table.specs.Rule.{Sat}
+use Rattle.ww_rule.specs.declared.cells.Sight.{Sight}
+use Rattle.ww_rule.specs.Rule.{Sat}
 use Rattle.ww_seat.proofs.Changes.{at_among, out_there, changed_next}
 use Rattle.ww_seat.proofs.committing.change.Goals as goal
 

@@ -1,6 +1,6 @@
 use Rattle.std.proofs.Common.{length, ap, ◌∙◌}
 use Rattle.ww_view.specs.View.{owns}
-use Rattle.ww_table.specs.Rule.{Sat, first_graph}
+use Rattle.ww_rule.specs.Rule.{Sat, first_graph}
 use Rattle.ww_seat.proofs.Changes.{may_place, start_after, end_after, has_committed, still_away}
 use Rattle.ww_seat.proofs.committing.commit.Goals as goal
 

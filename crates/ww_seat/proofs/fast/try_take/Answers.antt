@@ -1,5 +1,5 @@
 use Rattle.std.proofs.Common.{ap, sym, ◌∙◌, get_or, List, [], Bool, false, length, append-nil}
-use Rattle.ww_table.specs.Rule.{first_graph}
+use Rattle.ww_rule.specs.Rule.{first_graph}
 use Rattle.ww_seat.proofs.Outside.{room_outside}
 use Rattle.ww_seat.proofs.Holds.{taken_then}
 use Rattle.ww_seat.proofs.AtOnce.{IsTaken, taken_at_once}

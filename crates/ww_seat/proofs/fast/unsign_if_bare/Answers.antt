@@ -1,5 +1,5 @@
 use Rattle.std.proofs.Common.{length}
-use Rattle.ww_table.specs.Rule.{first_graph}
+use Rattle.ww_rule.specs.Rule.{first_graph}
 use Rattle.ww_seat.proofs.AtOnce.{holding_signs, holding_none}
 use Rattle.ww_seat.proofs.fast.unsign_if_bare.Goals as goal
 

@@ -1,6 +1,6 @@
 use Rattle.std.proofs.Common.{◌∙◌, ap, sym, subst}
 use Rattle.ww_view.specs.View.{IsAway}
-use Rattle.ww_table.specs.declared.cells.Sight.{Sight}
+use Rattle.ww_rule.specs.declared.cells.Sight.{Sight}
 use Rattle.ww_seat.proofs.Gives.{node_out, given_free, kept_free, kept_enters, still_view, given_then}
 use Rattle.ww_seat.proofs.giving.give.Goals as goal
 

@@ -1,6 +1,6 @@
 use Rattle.std.proofs.Common.{length, subst, sym, ap, ◌∙◌, ◌<◌, ◌+◌, ◌∷◌}
-use Rattle.ww_table.specs.declared.cells.Cell.TheVariants.{Line}
-use Rattle.ww_table.specs.Guards.{entering}
+use Rattle.ww_rule.specs.declared.cells.Cell.TheVariants.{Line}
+use Rattle.ww_rule.specs.Guards.{entering}
 use Rattle.ww_seat.proofs.Outside.{room_outside}
 use Rattle.ww_seat.proofs.Guards.{entering_orderly, may_enter_again, stands_still}
 use Rattle.ww_seat.proofs.guard.enter.Goals as goal

@@ -1,6 +1,6 @@
 use Rattle.std.proofs.Common.{◌≡◌}
 use Rattle.ww_table.specs.Seat.{IsSeated}
-use Rattle.ww_table.specs.Guards.{lost}
+use Rattle.ww_rule.specs.Guards.{lost}
 use Rattle.ww_seat.proofs.guard.enter.Given as goal
 
 abbrev pub invariant-loop : goal.invariant-loop

@@ -1,5 +1,5 @@
 use Rattle.std.proofs.Common.{◌≡◌, length}
-use Rattle.ww_table.specs.Rule.{first_graph}
+use Rattle.ww_rule.specs.Rule.{first_graph}
 use Rattle.ww_table.specs.Seat.{IsSeated}
 use Rattle.ww_seat.specs.Work.{IsAtWork}
 use Rattle.ww_seat.proofs.look.look_at.Given as goal

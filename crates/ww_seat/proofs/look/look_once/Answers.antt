@@ -1,5 +1,5 @@
 use Rattle.std.proofs.Common.{true, length, sym, ◌∙◌}
-use Rattle.ww_table.specs.Rule.{first_graph}
+use Rattle.ww_rule.specs.Rule.{first_graph}
 use Rattle.ww_seat.proofs.Working.{work_same, work_touched, work_then, touched_looking}
 use Rattle.ww_seat.proofs.Signing.{if_none}
 use Rattle.ww_seat.proofs.Stood.{flags_later, look_later, tries_later, work_later}

@@ -1,5 +1,5 @@
 use Rattle.std.proofs.Common.{sym, ◌∙◌, length}
-use Rattle.ww_table.specs.Rule.{first_graph}
+use Rattle.ww_rule.specs.Rule.{first_graph}
 use Rattle.ww_seat.proofs.Signing.{told_read, dies_waiting, stays_waiting, holds_by, stays_unsigned, told_none, stays_none, told_signed, dies_signed, owns_one, if_some, if_none, still_loud}
 use Rattle.ww_seat.proofs.signs.death.Goals as goal
 

@@ -1,5 +1,5 @@
 use Rattle.std.proofs.Common.{ap, ◌∙◌}
-use Rattle.ww_table.specs.Rule.{Sat}
+use Rattle.ww_rule.specs.Rule.{Sat}
 use Rattle.ww_seat.proofs.Working.{touched_read}
 use Rattle.ww_seat.proofs.Signing.{noted_none, noted_step, noted_all, owed_is, owed_at, victim_small, may_sign}
 use Rattle.ww_seat.proofs.signs.sign_all.Goals as goal

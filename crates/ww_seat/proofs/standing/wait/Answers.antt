@@ -1,5 +1,5 @@
 use Rattle.std.proofs.Common.{true, length}
-use Rattle.ww_table.specs.Rule.{first_graph}
+use Rattle.ww_rule.specs.Rule.{first_graph}
 use Rattle.ww_seat.specs.declared.look.Look.TheVariants.{Deadlk, Waits}
 use Rattle.ww_seat.proofs.Holds.{look_then}
 use Rattle.ww_seat.proofs.Working.{work_same, work_touched, work_told, noted_touched}

@@ -1,6 +1,6 @@
 use Rattle.std.proofs.Common.{sym, ap, ◌∙◌, Some, length}
-use Rattle.ww_table.specs.Rule.{first_graph}
-use Rattle.ww_table.specs.declared.cells.Sight.{Sight}
+use Rattle.ww_rule.specs.Rule.{first_graph}
+use Rattle.ww_rule.specs.declared.cells.Sight.{Sight}
 use Rattle.ww_seat.proofs.Outside.{room_inside}
 use Rattle.ww_seat.proofs.Working.{touched_lost_on_top}
 use Rattle.ww_seat.proofs.Took.{may_take, is_taken, taken_read, owes_after, taken_goes, look_taken, node_out, word_read}

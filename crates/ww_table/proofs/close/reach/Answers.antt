@@ -2,7 +2,8 @@ use Rattle.std.proofs.Common.{rules, ◌≡◌, ◌<◌, ℕ, length, get_or}
 use Rattle.std.specs.List.{AllByRecursion}
 use Rattle.ww_plain.specs.declared.history.Record.{Record}
 use Rattle.ww_table.specs.declared.seat.Seat16.{Seat16}
-use Rattle.ww_table.proofs.Closing.{take_all, all_more, below_more}
+use Rattle.ww_rule.proofs.Filling.{below_more}
+use Rattle.ww_table.proofs.Closing.{take_all, all_more}
 use Rattle.ww_table.proofs.close.reach.Goals as goal
 
 pub loop-seat-preserved : goal.loop-seat-preserved

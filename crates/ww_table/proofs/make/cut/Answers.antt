@@ -1,6 +1,6 @@
 use Rattle.std.proofs.Common.{arith, ◌≡◌, ◌<◌, ◌+◌, ◌-◌, [], ap, subst, sym, ◌∙◌}
 use Rattle.ww_table.specs.declared.seat.Seat16.{Seat16}
-use Rattle.ww_table.specs.Rule.{Sat}
+use Rattle.ww_rule.specs.Rule.{Sat}
 use Rattle.ww_table.specs.Made.{AreNew}
 use Rattle.ww_table.proofs.Making.{new_seat, news_more, next_splits, next_left, next_cut, last_left}
 use Rattle.ww_table.proofs.make.cut.Goals as goal

@@ -1,4 +1,4 @@
-use Rattle.ww_table.proofs.Seats.{joins_on}
+use Rattle.ww_rule.proofs.Seats.{joins_on}
 use Rattle.ww_table_laws.proofs.laws_no_event.join_is_no_event.Goals as goal
 
 pub returns : goal.returns

@@ -1,4 +1,4 @@
-use Rattle.ww_table.proofs.Seats.{splits_on}
+use Rattle.ww_rule.proofs.Seats.{splits_on}
 use Rattle.ww_table_laws.proofs.laws_no_event.split_is_no_event.Goals as goal
 
 pub returns : goal.returns

@@ -1,6 +1,6 @@
 use Rattle.std.proofs.Common.{ℕ, List, length, subst, arith}
 use Rattle.ww_plain.specs.declared.node.Node.{Node}
-use Rattle.ww_table.specs.Rule.{first_graph}
+use Rattle.ww_rule.specs.Rule.{first_graph}
 use Rattle.ww_lock.specs.Holding.{Setting}
 use Rattle.ww_lock.specs.Opened.{AreFresh}
 use Rattle.ww_lock.proofs.Openings.{fresh_home}

@@ -2,9 +2,9 @@ use Rattle.std.proofs.Common.{arith, ap, sym, refl, ◌∙◌, eqb-true, eq-eqb,
 use mathlib.Core.Logic.{dite}
 use native.Mathlib.Decide.{ℕ_discrete}
 use Rattle.ww_word.specs.Owner.{packed}
-use Rattle.ww_table.specs.Seat.{numbers_of}
-use Rattle.ww_table.proofs.InsideSteps.{asks_lock}
-use Rattle.ww_table.proofs.Turning.{seated_as}
+use Rattle.ww_rule.specs.Out.{numbers_of}
+use Rattle.ww_rule.proofs.InsideSteps.{asks_lock}
+use Rattle.ww_table.proofs.Seated.{seated_as}
 use Rattle.ww_table.proofs.seat.Seat16.ask.Goals as goal
 
 pub compare_exchange-requires : goal.compare_exchange-requires

@@ -1,8 +1,8 @@
 use Rattle.std.proofs.Common.{ap, refl, ◌∙◌}
-use Rattle.ww_table.specs.declared.cells.Cell.TheVariants.{Line}
-use Rattle.ww_table.specs.Seat.{slot_of}
-use Rattle.ww_table.proofs.InsideTurning.{list_brought}
-use Rattle.ww_table.proofs.Turning.{seated_as}
+use Rattle.ww_rule.specs.declared.cells.Cell.TheVariants.{Line}
+use Rattle.ww_rule.specs.Out.{slot_of}
+use Rattle.ww_rule.proofs.InsideTurning.{list_brought}
+use Rattle.ww_table.proofs.Seated.{seated_as}
 use Rattle.ww_table.proofs.seat.Seat16.bring_list.Goals as goal
 
 pub bring-requires-clause-out : goal.bring-requires-clause-out

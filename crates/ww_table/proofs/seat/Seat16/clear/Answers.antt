@@ -1,5 +1,5 @@
 use Rattle.std.proofs.Common.{arith, ℕ, ◌+◌, ◌*◌, sym, ap, ◌∙◌}
-use Rattle.ww_table.proofs.InsideSteps.{clears}
+use Rattle.ww_rule.proofs.InsideSteps.{clears}
 use Rattle.ww_table.proofs.seat.Seat16.clear.Goals as goal
 
 pub store-requires : goal.store-requires

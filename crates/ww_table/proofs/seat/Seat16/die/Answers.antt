@@ -3,16 +3,16 @@ use Rattle.atomic_table.specs.Table.{rest}
 use Rattle.ww_queue.specs.Queue.{left}
 use Rattle.ww_view.specs.Word.{rest_word}
 use Rattle.ww_view.specs.May.{MayDie}
-use Rattle.ww_table.specs.declared.cells.Cell.{Cell}
-use Rattle.ww_table.specs.declared.cells.Cell.TheVariants.{Line}
-use Rattle.ww_table.specs.declared.cells.Sight.{Sight}
+use Rattle.ww_rule.specs.declared.cells.Cell.{Cell}
+use Rattle.ww_rule.specs.declared.cells.Cell.TheVariants.{Line}
+use Rattle.ww_rule.specs.declared.cells.Sight.{Sight}
 use Rattle.ww_table.specs.declared.seat.Seat16.{Seat16}
-use Rattle.ww_table.specs.Seat.{numbers_of}
-use Rattle.ww_table.specs.Guards.{lost}
-use Rattle.ww_table.specs.Waiting.{dying}
-use Rattle.ww_table.proofs.InsideSteps.{dies_brought}
-use Rattle.ww_table.proofs.InsideTurning.{list_on_top, on_top, none_rest, some_rest}
-use Rattle.ww_table.proofs.Turning.{seated_as}
+use Rattle.ww_rule.specs.Out.{numbers_of}
+use Rattle.ww_rule.specs.Guards.{lost}
+use Rattle.ww_rule.specs.Waiting.{dying}
+use Rattle.ww_rule.proofs.InsideSteps.{dies_brought}
+use Rattle.ww_rule.proofs.InsideTurning.{list_on_top, on_top, none_rest, some_rest}
+use Rattle.ww_table.proofs.Seated.{seated_as}
 use Rattle.ww_table.proofs.seat.Seat16.die.Goals as goal
 use Rattle.ww_table.proofs.seat.Seat16.die.Goals.{then-is_last, else-is_last}
 

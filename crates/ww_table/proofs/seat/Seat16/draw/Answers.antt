@@ -1,5 +1,5 @@
 use Rattle.std.proofs.Common.{arith}
-use Rattle.ww_table.proofs.Moves.{draws_one}
+use Rattle.ww_rule.proofs.Moves.{draws_one}
 use Rattle.ww_table.proofs.seat.Seat16.draw.Goals as goal
 
 pub fetch_add-stamp-requires : goal.fetch_add-stamp-requires

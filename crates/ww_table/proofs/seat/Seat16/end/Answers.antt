@@ -1,5 +1,5 @@
 use Rattle.std.proofs.Common.{arith, ℕ, ◌+◌, ◌*◌, sym, ap, ◌∙◌}
-use Rattle.ww_table.proofs.Moves.{ends}
+use Rattle.ww_rule.proofs.Moves.{ends}
 use Rattle.ww_table.proofs.seat.Seat16.end.Goals as goal
 
 pub load-sign-requires : goal.load-sign-requires

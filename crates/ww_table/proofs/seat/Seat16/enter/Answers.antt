@@ -1,8 +1,9 @@
 use Rattle.std.proofs.Common.{arith, ℕ, List, [], ◌∷◌, ◌++◌, length, ap, sym, refl, ◌∙◌}
-use Rattle.ww_table.specs.Seat.{numbers_of}
-use Rattle.ww_table.specs.Guards.{entering}
-use Rattle.ww_table.proofs.InsideSteps.{enters}
-use Rattle.ww_table.proofs.Turning.{numbers_long, seated_as}
+use Rattle.ww_rule.specs.Out.{numbers_of}
+use Rattle.ww_rule.specs.Guards.{entering}
+use Rattle.ww_rule.proofs.InsideSteps.{enters}
+use Rattle.ww_rule.proofs.Turning.{numbers_long}
+use Rattle.ww_table.proofs.Seated.{seated_as}
 use Rattle.ww_table.proofs.seat.Seat16.enter.Goals as goal
 
 pub compare_exchange-found-requires : goal.compare_exchange-found-requires

@@ -1,5 +1,5 @@
 use Rattle.std.proofs.Common.{arith, ap}
-use Rattle.ww_table.proofs.InsideSteps.{exits_brought}
+use Rattle.ww_rule.proofs.InsideSteps.{exits_brought}
 use Rattle.ww_table.proofs.seat.Seat16.exit.Goals as goal
 
 pub store-requires : goal.store-requires

@@ -1,6 +1,6 @@
 use Rattle.std.proofs.Common.{◌∙◌, refl}
-use Rattle.ww_table.proofs.InsideTurning.{list_on_top}
-use Rattle.ww_table.proofs.Turning.{seated_still}
+use Rattle.ww_rule.proofs.InsideTurning.{list_on_top}
+use Rattle.ww_table.proofs.Seated.{seated_still}
 use Rattle.ww_table.proofs.seat.Seat16.first.Goals as goal
 
 pub first_there-requires-clause-top : goal.first_there-requires-clause-top

@@ -1,16 +1,17 @@
 use Rattle.std.proofs.Common.{ℕ, ◌==◌, ◌+◌, arith, ap, sym, refl, ◌∙◌, subst, List, ◌∷◌}
 use Rattle.atomic_table.specs.Table.{rest}
 use Rattle.ww_word.specs.Owner.{IsValid}
-use Rattle.ww_table.specs.declared.cells.Cell.{Cell}
-use Rattle.ww_table.specs.declared.cells.Cell.TheVariants.{Content, Line}
-use Rattle.ww_table.specs.declared.cells.Sight.{Sight}
+use Rattle.ww_rule.specs.declared.cells.Cell.{Cell}
+use Rattle.ww_rule.specs.declared.cells.Cell.TheVariants.{Content, Line}
+use Rattle.ww_rule.specs.declared.cells.Sight.{Sight}
 use Rattle.ww_table.specs.declared.seat.Seat16.{Seat16}
-use Rattle.ww_table.specs.Seat.{numbers_of, slot_of, AreOthers}
-use Rattle.ww_table.specs.Guards.{lost}
-use Rattle.ww_table.specs.Waiting.{giving_inside}
-use Rattle.ww_table.proofs.InsideSteps.{gives_with_list}
-use Rattle.ww_table.proofs.InsideTurning.{list_on_top, slot_brought, still_out, given_valid}
-use Rattle.ww_table.proofs.Turning.{popped, seated_as}
+use Rattle.ww_rule.specs.Out.{numbers_of, slot_of, AreOthers}
+use Rattle.ww_rule.specs.Guards.{lost}
+use Rattle.ww_rule.specs.Waiting.{giving_inside}
+use Rattle.ww_rule.proofs.InsideSteps.{gives_with_list}
+use Rattle.ww_rule.proofs.InsideTurning.{list_on_top, slot_brought, still_out, given_valid}
+use Rattle.ww_rule.proofs.Turning.{popped}
+use Rattle.ww_table.proofs.Seated.{seated_as}
 use Rattle.ww_table.proofs.seat.Seat16.give.Goals as goal
 
 pub next_owner-owner-requires-clause-top : goal.next_owner-owner-requires-clause-top

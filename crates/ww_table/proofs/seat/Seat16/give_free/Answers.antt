@@ -1,12 +1,13 @@
 use Rattle.std.proofs.Common.{arith, ◌∷◌, ap, sym, refl, ◌∙◌, subst}
 use Rattle.atomic_table.specs.Table.{rest}
-use Rattle.ww_table.specs.declared.cells.Cell.{Cell}
-use Rattle.ww_table.specs.declared.cells.Cell.TheVariants.{Content}
-use Rattle.ww_table.specs.declared.cells.Sight.{Sight}
-use Rattle.ww_table.specs.Seat.{numbers_of, AreOthers}
-use Rattle.ww_table.specs.Steps.{giving}
-use Rattle.ww_table.proofs.Moves.{gives_brought}
-use Rattle.ww_table.proofs.Turning.{brought, popped, seated_as}
+use Rattle.ww_rule.specs.declared.cells.Cell.{Cell}
+use Rattle.ww_rule.specs.declared.cells.Cell.TheVariants.{Content}
+use Rattle.ww_rule.specs.declared.cells.Sight.{Sight}
+use Rattle.ww_rule.specs.Out.{numbers_of, AreOthers}
+use Rattle.ww_rule.specs.Steps.{giving}
+use Rattle.ww_rule.proofs.Moves.{gives_brought}
+use Rattle.ww_rule.proofs.Turning.{brought, popped}
+use Rattle.ww_table.proofs.Seated.{seated_as}
 use Rattle.ww_table.proofs.seat.Seat16.give_free.Goals as goal
 
 pub compare_exchange-found-requires : goal.compare_exchange-found-requires

@@ -4,12 +4,13 @@ use Rattle.ww_word.specs.Owner.{packed}
 use Rattle.ww_queue.specs.declared.entry.Entry.{Entry}
 use Rattle.ww_queue.specs.Queue.{StandsNot, IsNewStamp, joined}
 use Rattle.ww_view.specs.Made.{entry_of_view}
-use Rattle.ww_table.specs.declared.cells.Cell.{Cell}
-use Rattle.ww_table.specs.declared.cells.Cell.TheVariants.{Line}
-use Rattle.ww_table.specs.Seat.{numbers_of, slot_of}
-use Rattle.ww_table.proofs.InsideSteps.{joins_list}
-use Rattle.ww_table.proofs.InsideTurning.{list_brought, line_there, no_node_there}
-use Rattle.ww_table.proofs.Turning.{numbers_long, seated_as}
+use Rattle.ww_rule.specs.declared.cells.Cell.{Cell}
+use Rattle.ww_rule.specs.declared.cells.Cell.TheVariants.{Line}
+use Rattle.ww_rule.specs.Out.{numbers_of, slot_of}
+use Rattle.ww_rule.proofs.InsideSteps.{joins_list}
+use Rattle.ww_rule.proofs.InsideTurning.{list_brought, line_there, no_node_there}
+use Rattle.ww_rule.proofs.Turning.{numbers_long}
+use Rattle.ww_table.proofs.Seated.{seated_as}
 use Rattle.ww_table.proofs.seat.Seat16.join.Goals as goal
 
 pub compare_exchange-found-requires : goal.compare_exchange-found-requires

@@ -1,7 +1,7 @@
 use Rattle.std.proofs.Common.{arith, sym, ◌∙◌, subst}
 use Rattle.ww_word.proofs.Words.{packing_is_injective}
-use Rattle.ww_table.specs.Guards.{IsSeenBy}
-use Rattle.ww_table.proofs.InsideSteps.{looks_inside}
+use Rattle.ww_rule.specs.Guards.{IsSeenBy}
+use Rattle.ww_rule.proofs.InsideSteps.{looks_inside}
 use Rattle.ww_table.proofs.seat.Seat16.look.Goals as goal
 
 pub load-word-requires : goal.load-word-requires

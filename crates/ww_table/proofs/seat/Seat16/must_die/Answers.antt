@@ -1,8 +1,8 @@
 use Rattle.std.proofs.Common.{ap, ◌∙◌, refl}
 use Rattle.ww_queue.specs.Rules.{must_die}
 use Rattle.ww_table.specs.declared.seat.Seat16.{Seat16}
-use Rattle.ww_table.proofs.InsideTurning.{list_on_top}
-use Rattle.ww_table.proofs.Turning.{seated_still}
+use Rattle.ww_rule.proofs.InsideTurning.{list_on_top}
+use Rattle.ww_table.proofs.Seated.{seated_still}
 use Rattle.ww_table.proofs.seat.Seat16.must_die.Goals as goal
 
 pub death_there-requires-clause-top : goal.death_there-requires-clause-top

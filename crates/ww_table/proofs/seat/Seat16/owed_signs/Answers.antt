@@ -1,8 +1,8 @@
 use Rattle.std.proofs.Common.{ap, ◌∙◌, refl}
 use Rattle.ww_queue.specs.Rules.{owed_signs}
 use Rattle.ww_table.specs.declared.seat.Seat16.{Seat16}
-use Rattle.ww_table.proofs.InsideTurning.{list_on_top}
-use Rattle.ww_table.proofs.Turning.{seated_still}
+use Rattle.ww_rule.proofs.InsideTurning.{list_on_top}
+use Rattle.ww_table.proofs.Seated.{seated_still}
 use Rattle.ww_table.proofs.seat.Seat16.owed_signs.Goals as goal
 
 pub owed_there-requires-clause-top : goal.owed_there-requires-clause-top

@@ -1,7 +1,7 @@
 use Rattle.std.proofs.Common.{arith, ℕ, ◌+◌, ◌*◌, sym, refl, ap, ◌∙◌}
-use Rattle.ww_table.specs.Seat.{numbers_of}
-use Rattle.ww_table.proofs.InsideSteps.{reads, read_is}
-use Rattle.ww_table.proofs.Turning.{seated_as}
+use Rattle.ww_rule.specs.Out.{numbers_of}
+use Rattle.ww_rule.proofs.InsideSteps.{reads, read_is}
+use Rattle.ww_table.proofs.Seated.{seated_as}
 use Rattle.ww_table.proofs.seat.Seat16.own_sign.Goals as goal
 
 pub load-requires : goal.load-requires

@@ -1,7 +1,7 @@
 use Rattle.std.proofs.Common.{arith, ap, sym, refl, ◌∙◌}
-use Rattle.ww_table.specs.Seat.{numbers_of}
-use Rattle.ww_table.proofs.InsideSteps.{signs}
-use Rattle.ww_table.proofs.Turning.{seated_as}
+use Rattle.ww_rule.specs.Out.{numbers_of}
+use Rattle.ww_rule.proofs.InsideSteps.{signs}
+use Rattle.ww_table.proofs.Seated.{seated_as}
 use Rattle.ww_table.proofs.seat.Seat16.sign.Goals as goal
 
 pub compare_exchange-requires : goal.compare_exchange-requires

@@ -3,16 +3,17 @@ use Rattle.atomic_table.specs.Table.{rest}
 use Rattle.ww_word.specs.Owner.{AreFlags}
 use Rattle.ww_queue.specs.Queue.{left}
 use Rattle.ww_plain.specs.Graph.{IsNodeOf}
-use Rattle.ww_table.specs.declared.cells.Cell.{Cell}
-use Rattle.ww_table.specs.declared.cells.Cell.TheVariants.{Content, Line}
-use Rattle.ww_table.specs.declared.cells.Sight.{Sight}
+use Rattle.ww_rule.specs.declared.cells.Cell.{Cell}
+use Rattle.ww_rule.specs.declared.cells.Cell.TheVariants.{Content, Line}
+use Rattle.ww_rule.specs.declared.cells.Sight.{Sight}
 use Rattle.ww_table.specs.declared.seat.Seat16.{Seat16}
-use Rattle.ww_table.specs.Seat.{numbers_of}
-use Rattle.ww_table.specs.Guards.{lost}
-use Rattle.ww_table.specs.Waiting.{taking_inside, below}
-use Rattle.ww_table.proofs.InsideSteps.{takes_brought}
-use Rattle.ww_table.proofs.InsideTurning.{list_on_top, others_long, on_top, waiting_flags}
-use Rattle.ww_table.proofs.Turning.{numbers_long, popped, seated_as}
+use Rattle.ww_rule.specs.Out.{numbers_of}
+use Rattle.ww_rule.specs.Guards.{lost}
+use Rattle.ww_rule.specs.Waiting.{taking_inside, below}
+use Rattle.ww_rule.proofs.InsideSteps.{takes_brought}
+use Rattle.ww_rule.proofs.InsideTurning.{list_on_top, others_long, on_top, waiting_flags}
+use Rattle.ww_rule.proofs.Turning.{numbers_long, popped}
+use Rattle.ww_table.proofs.Seated.{seated_as}
 use Rattle.ww_table.proofs.seat.Seat16.take.Goals as goal
 
 pub flag_left-flags-requires-clause-top : goal.flag_left-flags-requires-clause-top

@@ -1,9 +1,10 @@
 use Rattle.std.proofs.Common.{arith, ℕ, List, [], ◌∷◌, ◌++◌, length, Some, ap, sym, refl, ◌∙◌}
 use Rattle.ww_word.specs.Owner.{packed}
-use Rattle.ww_table.proofs.Moves.{takes_free}
-use Rattle.ww_table.specs.Seat.{numbers_of}
-use Rattle.ww_table.specs.Steps.{taking}
-use Rattle.ww_table.proofs.Turning.{numbers_long, seated_as}
+use Rattle.ww_rule.proofs.Moves.{takes_free}
+use Rattle.ww_rule.specs.Out.{numbers_of}
+use Rattle.ww_rule.specs.Steps.{taking}
+use Rattle.ww_rule.proofs.Turning.{numbers_long}
+use Rattle.ww_table.proofs.Seated.{seated_as}
 use Rattle.ww_table.proofs.seat.Seat16.take_free.Goals as goal
 
 pub compare_exchange-found-requires : goal.compare_exchange-found-requires

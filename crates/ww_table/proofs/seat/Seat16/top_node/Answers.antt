@@ -1,6 +1,6 @@
 use Rattle.std.proofs.Common.{◌∷◌, sym, ◌∙◌}
 use Rattle.atomic_table.specs.Table.{rest}
-use Rattle.ww_table.specs.declared.cells.Cell.TheVariants.{Content}
+use Rattle.ww_rule.specs.declared.cells.Cell.TheVariants.{Content}
 use Rattle.ww_table.proofs.seat.Seat16.top_node.Goals as goal
 
 pub slot_mut-requires : goal.slot_mut-requires

@@ -1,0 +1,293 @@
+-- Each step at a guard, inside it or on a sign, as the table asks for it.
+use Rattle.std.proofs.Common.{◌≡◌, ◌≢◌, ℕ, zero, suc, ◌+◌, ◌*◌, ◌<◌, ◌==◌, ◌⊎◌, eqb, true, false, true≢false, List, [], ◌∷◌, length, get_or, set, sym, refl, ap, ◌∙◌, subst, inl, inr, ⊎_elim, arith, Bool, Some}
+use mathlib.Core.Logic.{dite}
+use mathlib.Core.Option.{none, some}
+use native.Mathlib.Decide.{ℕ_discrete}
+use lib.ListN.{get_elem?}
+use prog.Atomic.{either}
+use Rattle.atomic_table.specs.Table.{step, Act, keeps, takes, gives, chain, stepped, carried_after, Valid, Allows, rest}
+use Rattle.atomic_table.proofs.Lists.{set_here, set_else, exchanged}
+use Rattle.ww_word.specs.declared.owner.Owner.{Owner}
+use Rattle.ww_word.specs.Owner.{IsValid, packed, with_waiters}
+use Rattle.ww_word.proofs.Words.{packing_is_injective}
+use Rattle.ww_queue.specs.declared.kind.Kind.{Kind}
+use Rattle.ww_queue.specs.declared.kind.Kind.TheVariants.{WoundWait, WaitDie}
+use Rattle.ww_queue.specs.declared.entry.Entry.{Entry}
+use Rattle.ww_queue.specs.Queue.{StandsNot, IsNewStamp, left}
+use Rattle.ww_model.specs.declared.state.Holder.TheVariants.{Nobody, Taken, Handed}
+use Rattle.ww_model.specs.State.{State}
+use Rattle.ww_model.specs.Run.{Reached}
+use Rattle.ww_model.proofs.Kept.{reached_is_lawful}
+use Rattle.ww_model.proofs.Leaving.{waiters_are_seats}
+use Rattle.ww_model.proofs.Ranges.{has_room, new_stamp}
+use Rattle.ww_plain.specs.declared.node.Node.{Node}
+use Rattle.ww_plain.specs.Graph.{node_at}
+use Rattle.ww_plain.specs.History.{last_graph}
+use Rattle.ww_view.specs.declared.view.View.{View}
+use Rattle.ww_model.specs.State.{waiting, word_of}
+use Rattle.ww_view.specs.Word.{taken_word, asked_word, given_word, rest_word}
+use Rattle.ww_view.specs.View.{Knows, IsBare, IsQuiet}
+use Rattle.ww_view.specs.May.{MayEnter, MayExit, MayJoin, MayTake, MayGive, MayAsk, MayDie, MaySign, MayClear}
+use Rattle.ww_view.specs.Made as made
+use Rattle.ww_model.proofs.Ranges.{few_stamps}
+use Rattle.ww_view.proofs.Inside.{mine_look, mine_lost_sign, mine_read, mine_read_none, mine_stepped}
+use Rattle.ww_view.proofs.Written.{word_is_valid}
+use Rattle.ww_rule.specs.declared.cells.Cell.{Cell}
+use Rattle.ww_rule.specs.declared.cells.Cell.TheVariants.{Content, Line}
+use Rattle.ww_rule.specs.declared.cells.Sight.{Sight}
+use Rattle.ww_rule.specs.declared.cells.Start.{Start}
+use Rattle.ww_rule.specs.Rule.{St, Sat, first_graph, Ruled}
+use Rattle.ww_rule.specs.Steps.{knowing}
+use Rattle.ww_rule.specs.Guards.{AreSeats, IsSeenBy, entering, exiting, looking, enters_to, exits_to, looks_to}
+use Rattle.ww_rule.specs.Waiting.{tries_to, HasPlace, joining, joins, taking_inside, below, takes_inside, giving_inside, gives_inside, asking, asks, dying, dies, dies_to}
+use Rattle.ww_rule.specs.Signs.{signing, reading, finding_none, clearing, signs_to, reads_to, clears_to}
+use Rattle.ww_rule.proofs.Moves.{cas, looks, low, node_there}
+use Rattle.ww_rule.proofs.Told.{stands_as, seen_by, death_is_older}
+use Rattle.ww_rule.proofs.InsideMoves.{enter_makes, exit_makes, join_makes, take_makes, give_makes, ask_makes, die_makes, sign_makes, clear_makes, mine, inside_low}
+
+-- ---- guards
+
+are_seats : (c : State) → Reached c → c.seats ≡ 16 → (n : ℕ) → AreSeats (c.queue n)
+are_seats c run places n e has = let base = (reached_is_lawful c run).base in let small = waiters_are_seats c run n e has in let same = (base.queues.at n).stamps e has in let below = base.stamps.below e.seat in let few = few_stamps c run in
+    (omega arith, omega arith)
+
+enters_there : (key : Start) (slots id : ℕ) (me : Sat) (n new : ℕ) → n < length (first_graph key) → me.0.seated ≡ true → MayEnter me.0.part.core n → new ≡ suc me.0.part.core.who
+    → Allows (Ruled key) slots id me (8 * n + 1) (λ x. either (eqb x 0) new x) (enters_to (step slots (8 * n + 1) 0 new none) me)
+enters_there key slots id me n new small seated may is = let v = me.0.part.core in
+    cas key slots id me (8 * n + 1) 0 new (made.stepped v) (enters_to (step slots (8 * n + 1) 0 new none) me) seated refl (λ m. refl) (λ c k. mine_stepped c v k)
+    (λ s r at hit. let q : List Entry = r.core.queue n in let l = low key s r id me at seated n small in (
+      entering me.0 n q,
+      takes (64 + n) (Line q),
+      r.homes.lists n l (sym (r.words.guards n l) ∙ hit),
+      subst (λ (y : ℕ). Ruled key (stepped s (8 * n + 1) y id me.1 (entering me.0 n q) (takes (64 + n) (Line q)))) (sym is) (enter_makes key s r id me at seated n l may hit).ruled,
+      (λ j there. let e : n ≡ j = omega arith in ((λ _. (q, are_seats r.core r.reached r.places n, stands_as r.core me.0.part.core (reached_is_lawful r.core r.reached) (mine key s r id me at seated).part.knows n j e, ap (λ (i : ℕ). let w : Sat = (entering me.0 i q, (64 + i, Line q) ∷ me.1) in w) e)), λ no. absurd (no refl))),
+    ))
+    (λ x ne j there. ((λ z. absurd (ne z)), λ _. refl))
+
+pub enters : (key : Start) (slots id : ℕ) (me : Sat) (n i new : ℕ) → i ≡ 8 * n + 1 → n < length (first_graph key) → me.0.seated ≡ true → MayEnter me.0.part.core n → new ≡ suc me.0.part.core.who
+    → Allows (Ruled key) slots id me i (λ x. either (eqb x 0) new x) (enters_to (step slots i 0 new none) me)
+enters key slots id me n i new at small seated may is = subst (λ (j : ℕ). Allows (Ruled key) slots id me j (λ x. either (eqb x 0) new x) (enters_to (step slots j 0 new none) me)) (sym at) (enters_there key slots id me n new small seated may is)
+
+pub exits : (key : Start) (slots id : ℕ) (me : Sat) (n i : ℕ) → i ≡ 8 * n + 1 → me.0.seated ≡ true → MayExit me.0.part.core n → me.1 ≡ (64 + n, Line me.0.part.core.list) ∷ rest me.1
+    → Allows (Ruled key) slots id me i (λ _. 0) (λ _. exits_to (step slots i 0 0 none) me 0)
+exits key slots id me n i is seated may top s r deep at small = (
+  exiting me.0,
+  gives,
+  tt,
+  subst (λ (j : ℕ). Ruled key (stepped s j 0 id me.1 (exiting me.0) gives)) (sym is) (exit_makes key s r id me at seated n may top).ruled,
+  refl,
+)
+
+-- ... of a list slot that was brought to the front
+pub exits_brought : (key : Start) (slots id : ℕ) (v : Sight) (me : Sat) (n i : ℕ) (others : List (ℕ × Cell)) → me.0 ≡ v → me.1 ≡ (64 + n, Line v.part.core.list) ∷ others → i ≡ 8 * n + 1 → v.seated ≡ true → MayExit v.part.core n
+    → Allows (Ruled key) slots id me i (λ _. 0) (λ _. exits_to (step slots i 0 0 none) me 0)
+exits_brought key slots id v me n i others view top is seated may = exits key slots id me n i is (ap (λ (w : Sight). w.seated) view ∙ seated) (subst (λ (w : Sight). MayExit w.part.core n) (sym view) may)
+    (top ∙ (λ j. (64 + n, Line (sym view j).part.core.list) ∷ rest (sym top j)))
+
+pub looks_inside : (key : Start) (slots id : ℕ) (me : Sat) (n i : ℕ) → i ≡ 8 * n → me.0.seated ≡ true → me.0.part.core.inside ≡ suc n → Allows (Ruled key) slots id me i (λ x. x) (looks_to (step slots i 0 0 none) me)
+looks_inside key slots id me n i is seated inside s r deep at small = let c : State = r.core in let v : View = me.0.part.core in let o : Owner = word_of c n in (
+  looking me.0 o,
+  keeps,
+  tt,
+  looks key s r id me at seated i (made.has_looked v o) refl (λ m. refl) (mine_look c v (mine key s r id me at seated).part.knows n o inside refl),
+  (
+    o,
+    word_is_valid c n r.reached (let z = r.places in omega arith),
+    ap (λ (j : ℕ). get_or s.words j 0) is ∙ r.words.owners n (inside_low key s r id me at seated n inside),
+    refl,
+    (λ j there.
+        let e : n ≡ j = (let z = sym is ∙ there in omega arith) in subst (λ (t : ℕ). IsSeenBy v t o) e (seen_by c v (reached_is_lawful c r.reached) (mine key s r id me at seated).part.knows n o inside refl)),
+  ),
+)
+
+-- ---- owner words
+
+-- what a compare-exchange makes of an owner word that the seat expects to be this owner's
+expecting : (key : Start) (slots id : ℕ) (me : Sat) (n : ℕ) (o : Owner) (new : ℕ) (wins : ℕ → Owner → Sat → Sat → Type 0) → me.0.seated ≡ true → IsValid o
+    → ((s : St) (r : Ruled key s) → get_elem? s.views id ≡ some me.0 → get_or s.words (8 * n) 0 ≡ packed o → (w : Sight) × (a : Act Cell) × Valid s.homes me.1 a × Ruled key (stepped s (8 * n) new id me.1 w a) × wins n o me (w, carried_after me.1 a))
+    → Allows (Ruled key) slots id me (8 * n) (λ x. either (eqb x (packed o)) new x) (tries_to wins (step slots (8 * n) (packed o) new none) me)
+expecting key slots id me n o new wins seated valid hit = let v = me.0.part.core in
+    cas key slots id me (8 * n) (packed o) new (made.stepped v) (tries_to wins (step slots (8 * n) (packed o) new none) me) seated refl (λ m. refl) (λ c k. mine_stepped c v k)
+    (λ s r at found. let h = hit s r at found in (
+      h.0,
+      h.1,
+      h.2,
+      h.3,
+      (λ j p told. let e : n ≡ j = (let z = told.0 in omega arith) in let same = packing_is_injective o p valid told.1 told.2 in
+          ((λ _. subst (λ (x : ℕ × Owner). wins x.0 x.1 me (h.0, carried_after me.1 h.1)) (λ i. (e i, same i)) h.4), λ no. absurd (no told.2))),
+    ))
+    (λ x ne j p told. ((λ z. absurd (ne (z ∙ sym told.2))), λ _. refl))
+
+-- ... by the numbers that the step is made with
+by_numbers : (key : Start) (slots id : ℕ) (me : Sat) (wins : ℕ → Owner → Sat → Sat → Type 0) (i j old old' new new' : ℕ) → i ≡ j → old ≡ old' → new ≡ new'
+    → Allows (Ruled key) slots id me j (λ x. either (eqb x old') new' x) (tries_to wins (step slots j old' new' none) me) → Allows (Ruled key) slots id me i (λ x. either (eqb x old) new x) (tries_to wins (step slots i old new none) me)
+by_numbers key slots id me wins i j old old' new new' a b c =
+    subst (λ (p : ℕ × (ℕ × ℕ)). Allows (Ruled key) slots id me p.0 (λ x. either (eqb x p.1.0) p.1.1 x) (tries_to wins (step slots p.0 p.1.0 p.1.1 none) me)) (λ k. (sym a k, (sym b k, sym c k)))
+
+-- what a step tells its caller, and what follows from the rule before it
+and_tells : (key : Start) (slots id : ℕ) (me : Sat) (i : ℕ) (f : ℕ → ℕ) (then : ℕ → Sat → Type 0) (Q : Type 0) → ((s : St) (r : Ruled key s) → get_elem? s.views id ≡ some me.0 → Q)
+    → Allows (Ruled key) slots id me i f then → Allows (Ruled key) slots id me i f (λ x m'. then x m' × Q)
+and_tells key slots id me i f then Q tells step s r deep at small = let t = step s r deep at small in (t.0, t.1, t.2, t.3, (t.4, tells s r at))
+
+has_place : (c : State) → Reached c → c.seats ≡ 16 → (v : View) → Knows c v → (n : ℕ) → v.inside ≡ suc n → v.waits ≡ 0 → HasPlace v
+has_place c run places v k n inside out = let list = k.queues.list n inside in
+    let alone : StandsNot (c.queue n) v.who = λ e has is. (let z = k.queues.waits n (e, has, is) in omega arith) in record {
+      room = let z = has_room c run (omega arith) n v.who k.itself.seat alone in subst (λ (q : List Entry). length q < 16) (sym list) z;
+      seat = subst (λ (q : List Entry). StandsNot q v.who) (sym list) alone;
+      stamp = subst (λ (x : List Entry × ℕ). IsNewStamp x.0 x.1) (λ i. (sym list i, sym k.itself.stamp i)) (new_stamp c run n v.who alone);
+    }
+
+pub joins_list : (key : Start) (slots id : ℕ) (me : Sat) (n : ℕ) (o : Owner) (i old new : ℕ) → i ≡ 8 * n → old ≡ packed o → new ≡ packed (with_waiters o) → me.0.seated ≡ true → MayJoin me.0.part.core n o → IsValid o
+    → Allows (Ruled key) slots id me i (λ x. either (eqb x old) new x) (tries_to joins (step slots i old new none) me)
+joins_list key slots id me n o i old new at was is seated may valid = by_numbers key slots id me joins i (8 * n) old (packed o) new (packed (with_waiters o)) at was is
+    (expecting key slots id me n o (packed (with_waiters o)) joins seated valid
+    (λ s r at hit. (joining me.0 n o, keeps, tt, (join_makes key s r id me at seated n o may valid hit).ruled, (refl, has_place r.core r.reached r.places me.0.part.core (mine key s r id me at seated).part.knows n may.inside may.not_waiting))))
+
+-- the node of a lock that no seat has taken comes from home, below the list
+takes_valid : (key : Start) (s : St) (r : Ruled key s) (n t : ℕ) (y : Cell) (slots cs : List (ℕ × Cell)) → n < length (first_graph key) → n < 64 → (r.core.owner n ≡ Nobody) ⊎ (r.core.owner n ≡ Handed t) → slots ≡ (64 + n, y) ∷ cs
+    → Valid s.homes slots (chain gives (chain (takes n (Content (node_at (last_graph (first_graph key) r.log) n))) (takes (64 + n) y)))
+takes_valid key s r n t y slots cs small few free top = let x : Node = node_at (last_graph (first_graph key) r.log) n in let deep = r.homes.deep in let act : Act Cell = chain gives (chain (takes n (Content x)) (takes (64 + n) y)) in
+    let clear : (u : ℕ) → r.core.owner n ≢ Taken u = λ u own. ⊎_elim (λ z. let w = sym z ∙ own in cc) (λ z. let w = sym z ∙ own in cc) free in
+    subst (λ (l : List (ℕ × Cell)). Valid s.homes l act) (sym top) (
+      tt,
+      (
+        set_else s.homes (64 + n) n (some y) (λ z. omega arith) ∙ r.homes.nodes n (let z = r.counted.size in omega arith) clear,
+        set_else (set s.homes (64 + n) (some y)) n (64 + n) none (λ z. omega arith) ∙ set_here s.homes (64 + n) (some y) (omega arith),
+      ),
+    )
+
+pub takes_lock : (key : Start) (slots id : ℕ) (me : Sat) (n : ℕ) (o : Owner) (y : Cell) (cs : List (ℕ × Cell)) (i old new : ℕ) → i ≡ 8 * n → old ≡ packed o
+    → new ≡ packed (taken_word me.0.part.core.who me.0.part.core.stamp (left me.0.part.core.list me.0.part.core.who)) → n < length (first_graph key) → me.0.seated ≡ true → MayTake me.0.part.core n o → IsValid o → me.1 ≡ (64 + n, y) ∷ cs
+    → Allows (Ruled key) slots id me i (λ x. either (eqb x old) new x) (tries_to takes_inside (step slots i old new none) me)
+takes_lock key slots id me n o y cs i old new at was is small seated may valid top = let v = me.0.part.core in let word = packed (taken_word v.who v.stamp (left v.list v.who)) in
+    by_numbers key slots id me takes_inside i (8 * n) old (packed o) new word at was is (expecting key slots id me n o word takes_inside seated valid
+    (λ s r at hit. let x : Node = node_at (last_graph (first_graph key) r.log) n in let m = take_makes key s r id me at seated n o y cs small may valid hit top in let act : Act Cell = chain gives (chain (takes n (Content x)) (takes (64 + n) y)) in (
+      taking_inside me.0 n x,
+      act,
+      takes_valid key s r n v.who y me.1 cs small (inside_low key s r id me at seated n may.inside) m.can.base.free top,
+      m.ruled,
+      (x, node_there key s r id me at seated n small, subst (λ (l : List (ℕ × Cell)). let before : Sat = (taking_inside me.0 n x, carried_after l act) in let after : Sat = (taking_inside me.0 n x, below (n, Content x) l) in before ≡ after) (sym top) refl),
+    )))
+
+pub gives_lock : (key : Start) (slots id : ℕ) (me : Sat) (n : ℕ) (o : Owner) (x : Node) (i old new : ℕ) → i ≡ 8 * n → old ≡ packed o → new ≡ packed (given_word (o.flags == 3) me.0.part.core.list)
+    → me.0.seated ≡ true → MayGive me.0.part.core n → get_elem? me.0.held n ≡ some (Some x) → IsValid o → me.1 ≡ (n, Content x) ∷ rest me.1
+    → Allows (Ruled key) slots id me i (λ x. either (eqb x old) new x) (tries_to gives_inside (step slots i old new none) me)
+gives_lock key slots id me n o x i old new at was is seated may has valid top = let word = packed (given_word (o.flags == 3) me.0.part.core.list) in
+    by_numbers key slots id me gives_inside i (8 * n) old (packed o) new word at was is (expecting key slots id me n o word gives_inside seated valid
+    (λ s r at hit. (giving_inside me.0 n (o.flags == 3), gives, tt, (give_makes key s r id me at seated n o x may has valid hit top).ruled, refl)))
+
+pub asks_lock : (key : Start) (slots id : ℕ) (me : Sat) (n : ℕ) (o : Owner) (i old new : ℕ) → i ≡ 8 * n → old ≡ packed o → new ≡ packed (asked_word o) → me.0.seated ≡ true → MayAsk me.0.part.core n o → IsValid o
+    → Allows (Ruled key) slots id me i (λ x. either (eqb x old) new x) (tries_to asks (step slots i old new none) me)
+asks_lock key slots id me n o i old new at was is seated may valid = by_numbers key slots id me asks i (8 * n) old (packed o) new (packed (asked_word o)) at was is
+    (expecting key slots id me n o (packed (asked_word o)) asks seated valid (λ s r at hit. (asking me.0 o, keeps, tt, (ask_makes key s r id me at seated n o may valid hit).ruled, refl)))
+
+pub dies_waiting : (key : Start) (slots id : ℕ) (me : Sat) (n : ℕ) (o : Owner) (k : ℕ) (i old new : ℕ) → i ≡ 8 * n → old ≡ packed o → new ≡ packed (rest_word (left me.0.part.core.list me.0.part.core.who) o) → me.0.seated ≡ true → MayDie me.0.part.core n o k → IsValid o
+    → Allows (Ruled key) slots id me i (λ x. either (eqb x old) new x) (dies_to (step slots i old new none) me)
+dies_waiting key slots id me n o k i old new at was is seated may valid = let word = packed (rest_word (left me.0.part.core.list me.0.part.core.who) o) in
+    and_tells key slots id me i (λ x. either (eqb x old) new x) (tries_to dies (step slots i old new none) me) ((m : ℕ) (p : Owner) (j : ℕ) → MayDie me.0.part.core m p j → j < me.0.part.core.stamp)
+    (λ s r at m p j dies. death_is_older r.core me.0.part.core (reached_is_lawful r.core r.reached) (mine key s r id me at seated).part.knows m p j dies)
+    (by_numbers key slots id me dies i (8 * n) old (packed o) new word at was is (expecting key slots id me n o word dies seated valid (λ s r at hit. (dying me.0 o, keeps, tt, (die_makes key s r id me at seated n o k may valid hit).ruled, refl))))
+
+-- ---- signs
+
+pub signs : (key : Start) (slots id : ℕ) (me : Sat) (n u k i : ℕ) → i ≡ 512 + 8 * u → u < 16 → me.0.seated ≡ true → MaySign me.0.part.core n u k
+    → Allows (Ruled key) slots id me i (λ x. either (eqb x 0) k x) (signs_to (step slots i 0 k none) me)
+signs key slots id me n u k i is low seated may s r deep at small = let x : ℕ = get_or s.words i 0 in let v : View = me.0.part.core in
+    let tells : x ≡ r.core.sign u = ap (λ (j : ℕ). get_or s.words j 0) is ∙ r.words.signs u low in (
+      signing me.0 u,
+      keeps,
+      tt,
+      exchanged x 0 k (λ y. Ruled key (stepped s i y id me.1 (signing me.0 u) keeps))
+          (λ e. subst (λ (j : ℕ). Ruled key (stepped s j k id me.1 (signing me.0 u) keeps)) (sym is) (sign_makes key s r id me at seated n u k may low (ap (λ (j : ℕ). get_or s.words j 0) (sym is) ∙ e)).ruled)
+          (λ ne. looks key s r id me at seated i (made.noted v u) refl (λ m. refl) (mine_lost_sign r.core v (mine key s r id me at seated).part.knows u (λ z. ne (tells ∙ z)))),
+      (λ w there. let e : u ≡ w = (let z = sym is ∙ there in omega arith) in ap (λ (t : ℕ). let m : Sat = (signing me.0 t, me.1) in m) e),
+    )
+
+is_bare? : (owned : List Bool) → Dec ((n : ℕ) → get_or owned n false ≡ false)
+is_bare? [] = yes (λ n. refl)
+is_bare? (true ∷ owned) = no (λ bare. true≢false (bare 0))
+is_bare? (false ∷ owned) = go (is_bare? owned)
+  where
+    each : ((n : ℕ) → get_or owned n false ≡ false) → (n : ℕ) → get_or (false ∷ owned) n false ≡ false
+    each bare zero = refl
+    each bare (suc n) = bare n
+
+    go : Dec ((n : ℕ) → get_or owned n false ≡ false) → Dec ((n : ℕ) → get_or (false ∷ owned) n false ≡ false)
+    go (yes bare) = yes (each bare)
+    go (no isnt) = no (λ bare. isnt (λ n. bare (suc n)))
+
+is_quiet? : (v : View) → Dec (IsQuiet v)
+is_quiet? v = go (kind_is v.kind) (is_bare? v.owned) (ℕ_discrete v.inside 0)
+  where
+    kind_is : (kind : Kind) → (kind ≡ WaitDie) ⊎ (kind ≢ WaitDie)
+    kind_is WaitDie = inl refl
+    kind_is WoundWait = inr (λ z. cc)
+
+    go : (v.kind ≡ WaitDie) ⊎ (v.kind ≢ WaitDie) → Dec (IsBare v) → Dec (v.inside ≡ 0) → Dec (IsQuiet v)
+    go kind (yes bare) d = yes (inl bare)
+    go (inl dies) (no isnt) (no inside) = yes (inr (dies, inside))
+    go (inl dies) (no isnt) (yes out) = no (⊎_elim (λ bare. isnt bare) (λ z. z.1 out))
+    go (inr wounds) (no isnt) d = no (⊎_elim (λ bare. isnt bare) (λ z. wounds z.0))
+
+pub reads : (key : Start) (slots id : ℕ) (me : Sat) (i : ℕ) → i ≡ 512 + 8 * me.0.part.core.who → me.0.seated ≡ true → Allows (Ruled key) slots id me i (λ x. x) (reads_to (step slots i 0 0 none) me)
+reads key slots id me i is seated s r deep at small = let x : ℕ = get_or s.words i 0 in let v : View = me.0.part.core in let k = (mine key s r id me at seated).part.knows in
+    let tells : x ≡ r.core.sign v.who = ap (λ (j : ℕ). get_or s.words j 0) is ∙ r.words.signs v.who (let z = k.itself.seat in let y = r.places in omega arith) in dite (ℕ_discrete x 0)
+    (λ e. dite (is_quiet? v)
+    (λ quiet. (
+      reading me.0 0,
+      keeps,
+      tt,
+      looks key s r id me at seated i (made.has_read v 0) refl (λ n. refl) (mine_read r.core v k 0 (sym tells ∙ e) (λ _. quiet)),
+      ((λ ne. absurd (ne e)), (λ _ _. refl), λ _ loud. absurd (loud quiet)),
+    ))
+    (λ loud. (
+      finding_none me.0,
+      keeps,
+      tt,
+      looks key s r id me at seated i (made.found_none v) refl (λ n. refl) (mine_read_none r.core v k),
+      ((λ ne. absurd (ne e)), (λ _ quiet. absurd (loud quiet)), λ _ _. refl),
+    )))
+    (λ ne. (
+      reading me.0 x,
+      keeps,
+      tt,
+      looks key s r id me at seated i (made.has_read v x) refl (λ n. refl) (mine_read r.core v k x (sym tells) (λ z. absurd (ne z))),
+      ((λ _. refl), (λ e _. absurd (ne e)), λ e _. absurd (ne e)),
+    ))
+
+pub clears : (key : Start) (slots id : ℕ) (me : Sat) (i : ℕ) → i ≡ 512 + 8 * me.0.part.core.who → me.0.seated ≡ true → MayClear me.0.part.core → Allows (Ruled key) slots id me i (λ _. 0) (λ _. clears_to (step slots i 0 0 none) me 0)
+clears key slots id me i is seated may s r deep at small = (
+  clearing me.0,
+  keeps,
+  tt,
+  subst (λ (j : ℕ). Ruled key (stepped s j 0 id me.1 (clearing me.0) keeps)) (sym is) (clear_makes key s r id me at seated may).ruled,
+  refl,
+)
+
+-- whatever the own sign says, the seat keeps its number, its context and its slots
+pub read_is : (slots i : ℕ) (me me' : Sat) (x : ℕ) → reads_to (step slots i 0 0 none) me x me' → (w : View) × (w.who ≡ me.0.part.core.who) × (w.stamp ≡ me.0.part.core.stamp) × (me' ≡ (knowing me.0 w, me.1))
+read_is slots i me me' x told = let v : View = me.0.part.core in dite (ℕ_discrete x 0)
+    (λ e. dite (is_quiet? v) (λ quiet. (made.has_read v 0, refl, refl, told.1 e quiet)) (λ loud. (made.found_none v, refl, refl, told.2 e loud)))
+    (λ ne. (made.has_read v x, refl, refl, told.0 ne))
+
+-- ---- the same of a list slot that was brought to the front, by the number and stamp that the seat keeps
+
+pub takes_brought : (key : Start) (slots id : ℕ) (v : Sight) (me : Sat) (n : ℕ) (o : Owner) (cs : List (ℕ × Cell)) (i old new who stamp flags : ℕ) → me.0 ≡ v → me.1 ≡ (64 + n, Line v.part.core.list) ∷ cs → i ≡ 8 * n → old ≡ packed o
+    → new ≡ packed (record { seat = Some who; stamp = stamp; flags = flags }) → v.part.core.who ≡ who → v.part.core.stamp ≡ stamp → flags ≡ waiting (left v.part.core.list who)
+    → n < length (first_graph key) → v.seated ≡ true → MayTake v.part.core n o → IsValid o → Allows (Ruled key) slots id me i (λ x. either (eqb x old) new x) (tries_to takes_inside (step slots i old new none) me)
+takes_brought key slots id v me n o cs i old new who stamp flags view top at was is is_who is_stamp is_flags small seated may valid =
+    subst (λ (m : Sat). Allows (Ruled key) slots id m i (λ x. either (eqb x old) new x) (tries_to takes_inside (step slots i old new none) m)) (λ j. (sym view j, me.1))
+    (takes_lock key slots id (v, me.1) n o (Line v.part.core.list) cs i old new at was
+    (is ∙ (λ j. packed (record { seat = Some (sym is_who j); stamp = sym is_stamp j; flags = (is_flags ∙ ap (λ (t : ℕ). waiting (left v.part.core.list t)) (sym is_who)) j }))) small seated may valid top)
+
+pub dies_brought : (key : Start) (slots id : ℕ) (v : Sight) (me : Sat) (n : ℕ) (o p : Owner) (k : ℕ) (i old new who : ℕ) → me.0 ≡ v → i ≡ 8 * n → old ≡ packed o → new ≡ packed p → v.part.core.who ≡ who → p ≡ rest_word (left v.part.core.list who) o
+    → v.seated ≡ true → MayDie v.part.core n o k → IsValid o → Allows (Ruled key) slots id me i (λ x. either (eqb x old) new x) (dies_to (step slots i old new none) me)
+dies_brought key slots id v me n o p k i old new who view at was is is_who is_rest seated may valid =
+    subst (λ (m : Sat). Allows (Ruled key) slots id m i (λ x. either (eqb x old) new x) (dies_to (step slots i old new none) m)) (λ j. (sym view j, me.1))
+    (dies_waiting key slots id (v, me.1) n o k i old new at was (is ∙ ap packed (is_rest ∙ ap (λ (t : ℕ). rest_word (left v.part.core.list t) o) (sym is_who))) seated may valid)
+
+pub gives_with_list : (key : Start) (slots id : ℕ) (v : Sight) (me : Sat) (n : ℕ) (o p : Owner) (x : Node) (others : List (ℕ × Cell)) (i old new : ℕ) → me.0 ≡ v → me.1 ≡ (n, Content x) ∷ others → i ≡ 8 * n → old ≡ packed o → new ≡ packed p
+    → p ≡ given_word (o.flags == 3) v.part.core.list → v.seated ≡ true → MayGive v.part.core n → get_elem? v.held n ≡ some (Some x) → IsValid o → Allows (Ruled key) slots id me i (λ x. either (eqb x old) new x) (tries_to gives_inside (step slots i old new none) me)
+gives_with_list key slots id v me n o p x others i old new view top at was is is_given seated may has valid =
+    subst (λ (m : Sat). Allows (Ruled key) slots id m i (λ x. either (eqb x old) new x) (tries_to gives_inside (step slots i old new none) m)) (λ j. (sym view j, me.1))
+    (gives_lock key slots id (v, me.1) n o x i old new at was (is ∙ ap packed is_given) seated may has valid (top ∙ (λ j. (n, Content x) ∷ rest (sym top j))))

@@ -1,0 +1,14 @@
+pub mod Totals
+pub mod Regions
+pub mod Fits
+pub mod Moves
+pub mod Places
+pub mod Seats
+pub mod Turning
+pub mod Told
+pub mod InsideRegions
+pub mod InsideMoves
+pub mod InsideSteps
+pub mod InsideTurning
+pub mod Slots
+pub mod Filling

@@ -1,0 +1,79 @@
+-- What the words and lists that a seat finds tell it, by what its view knows.
+use Rattle.std.proofs.Common.{◌≡◌, ⊎_elim, ℕ, suc, ◌<◌, Bool, true, false, true≢false, Some, refl, sym, ap, ◌∙◌, subst, arith}
+use mathlib.Core.Logic.{dite}
+use native.Mathlib.Decide.{dec_le}
+use Rattle.ww_word.specs.declared.owner.Owner.{Owner}
+use Rattle.ww_word.specs.Owner.{is_handed}
+use Rattle.ww_queue.specs.declared.kind.Kind.{Kind}
+use Rattle.ww_queue.specs.declared.kind.Kind.TheVariants.{WoundWait, WaitDie}
+use Rattle.ww_queue.specs.declared.entry.Entry.{Entry}
+use Rattle.ww_queue.specs.Queue.{Has, Before, entry_of}
+use Rattle.ww_queue.specs.Rules.{must_die}
+use Rattle.ww_queue.proofs.Leaves.{entry_when}
+use Rattle.ww_queue.proofs.Aheads.{before_older}
+use Rattle.ww_queue.proofs.Deaths.{dies_why}
+use Rattle.ww_model.specs.declared.state.Holder.TheVariants.{Taken}
+use Rattle.ww_model.specs.State.{State, any_below, owner_as, word_of}
+use Rattle.ww_model.specs.Lawful.{IsLawful}
+use Rattle.ww_model.proofs.Outcomes.{same_test}
+use Rattle.ww_model.proofs.Slots.{below_found, found_below}
+use Rattle.ww_model.proofs.Dues.{seat_from}
+use Rattle.ww_model.proofs.Words.{handed_same}
+use Rattle.ww_view.specs.declared.view.View.{View}
+use Rattle.ww_view.specs.View.{owns, Knows}
+use Rattle.ww_view.specs.May.{MayDie}
+use Rattle.ww_view.specs.Made.{entry_of_view}
+use Rattle.ww_view.proofs.Tells.{no_flags}
+use Rattle.ww_view.proofs.Deaths.{die_shows}
+use Rattle.ww_rule.specs.Guards.{StandsAs, IsSeenBy}
+
+module _ (c : State) (v : View) (l : IsLawful c) (k : Knows c v) where
+  low : (n : ℕ) → c.owner n ≡ Taken v.who → n < 64
+  low n own = dite (dec_le c.locks n)
+      (λ beyond. absurd (let o = l.base.owners.beyond n beyond in cc)) (λ below. let y = k.itself.locks in omega arith)
+
+  -- an entry of the seat is the one that its view makes
+  own_is : (n : ℕ) (e : Entry) → Has (c.queue n) e → e.seat ≡ v.who → e ≡ entry_of_view v
+  own_is n e has is = λ i. record { seat = is i; stamp = ((l.base.queues.at n).stamps e has ∙ ap c.stamp is ∙ sym k.itself.stamp) i; holds = holds_is i }
+    where
+      holds : (m : ℕ) → owns v m ≡ true → (b : Bool) → e.holds ≡ b → e.holds ≡ true
+      holds m own true h = h
+      holds m own false h = absurd ((l.base.queues.at n).holds_not e has h m (k.owned.has m own ∙ ap Taken (sym is)))
+
+      holds_is : e.holds ≡ any_below 64 (owns v)
+      holds_is = same_test e.holds (any_below 64 (owns v))
+          (λ h. let o = (l.base.queues.at n).holds e has h in let own : c.owner o.0 ≡ Taken v.who = o.1 ∙ ap Taken is in found_below 64 (owns v) o.0 (low o.0 own) (k.owned.lacks o.0 own))
+          (λ some. let f = below_found 64 (owns v) some in holds f.0 f.2 e.holds refl)
+
+  own_entry : (n : ℕ) → v.waits ≡ suc n → entry_of (c.queue n) v.who ≡ Some (entry_of_view v)
+  own_entry n waits = let t = k.queues.waited n waits in
+      ap (entry_of (c.queue n)) (sym t.2) ∙ entry_when (c.queue n) t.0 (l.base.queues.at n).once t.1 ∙ ap (λ (e : Entry). Some e) (own_is n t.0 t.1 t.2)
+
+  pub stands_as : (n j : ℕ) → n ≡ j → StandsAs v j (c.queue n)
+  stands_as n j same = record {
+    once = (l.base.queues.at n).once;
+    absent = λ out e has is. (let z = k.queues.waits n (e, has, is) in omega arith);
+    entry = λ waits. own_entry n (omega arith);
+  }
+
+  pub seen_by : (n : ℕ) (o : Owner) → v.inside ≡ suc n → o ≡ word_of c n → IsSeenBy v n o
+  seen_by n o inside is = record {
+    own = λ lacks names. ⊎_elim
+        (λ taken. absurd (true≢false (sym (k.owned.lacks n taken) ∙ lacks)))
+        (λ handed. ap is_handed is ∙ handed_same c (c.owner n) (c.asked n) (c.queue n) ∙ ap (λ h. is_handed (owner_as c h)) handed)
+        (seat_from c (c.owner n) v.who (sym (ap (λ (x : Owner). x.seat) is) ∙ names));
+    flags = λ some none. some (k.queues.list n inside ∙ (no_flags c n o is none).0);
+  }
+
+  -- whoever has to die has to for an older context
+  pub death_is_older : (n : ℕ) (o : Owner) (j : ℕ) → MayDie v n o j → j < v.stamp
+  death_is_older n o j may = go v.kind refl
+    where
+      go : (kind : Kind) → v.kind ≡ kind → j < v.stamp
+      go WoundWait is = let m = (die_shows v n o j may).wounded is in let s = k.sign j m.0 in let some = m.1 in let older = l.signs.older_signs v.who (omega arith) in let same = k.itself.stamp in omega arith
+      go WaitDie is = let d = dies_why o v.list v.who may.why.0 j (subst (λ (x : Kind). must_die x o v.list v.who may.why.0 ≡ Some j) is may.why.2) in
+          let list = k.queues.list n may.inside in let at = l.base.queues.at n in
+          let stamp : d.0.stamp ≡ v.stamp = at.stamps d.0 (subst (λ q. Has q d.0) list d.1) ∙ ap c.stamp d.2 ∙ sym k.itself.stamp in ⊎_elim
+          (λ m. let older = m.0.older.1 in let same = m.1 in omega arith)
+          (λ x. let older = before_older (c.queue n) x.0 d.0 at.ascends (subst (λ q. Before q x.0 d.0) list x.1) x.2 d.3.0 in let same = x.3 in omega arith)
+          d.4

@@ -1,0 +1,62 @@
+-- What each step at a guard makes of the seat.
+use Rattle.std.specs.Prelude.{ℕ, suc, ◌≡◌, ◌≢◌, ◌<◌, ◌^◌, true, false, List, [], ◌∷◌, Some}
+use Rattle.atomic_table.specs.Table.{Step, rest}
+use Rattle.ww_word.specs.declared.owner.Owner.{Owner}
+use Rattle.ww_word.specs.Owner.{IsValid, packed, is_handed}
+use Rattle.ww_queue.specs.declared.entry.Entry.{Entry}
+use Rattle.ww_queue.specs.Queue.{Has, entry_of, Once, StandsNot}
+use Rattle.ww_view.specs.declared.view.View.{View}
+use Rattle.ww_view.specs.View.{owns}
+use Rattle.ww_view.specs.Made.{stepped, entered, exited, has_looked, entry_of_view}
+use Rattle.ww_rule.specs.declared.cells.Cell.{Cell}
+use Rattle.ww_rule.specs.declared.cells.Cell.TheVariants.{Line}
+use Rattle.ww_rule.specs.declared.cells.Sight.{Sight}
+use Rattle.ww_rule.specs.Layout.{owner_at, guard_at, list_at}
+use Rattle.ww_rule.specs.Rule.{Sat}
+use Rattle.ww_rule.specs.Steps.{knowing}
+
+-- the word was another than the seat expected
+abbrev pub lost : Sight → Sight
+lost v = knowing v (stepped v.part.core)
+
+-- each waiter is one of the seats, and an owner word has room for its stamp
+abbrev pub AreSeats : List Entry → Type 0
+AreSeats q = (e : Entry) → Has q e → (e.seat < 16) × (e.stamp < 2 ^ 56)
+
+-- each waiter stands in the list once: the seat itself not where it waits for no lock, and where it waits for this one
+-- as its view has it
+pub record StandsAs (v : View) (n : ℕ) (q : List Entry) : Type 0 where
+  pub once : Once q
+  pub absent : v.waits ≡ 0 → StandsNot q v.who
+  pub entry : v.waits ≡ suc n → entry_of q v.who ≡ Some (entry_of_view v)
+
+-- ---- enter: one try to go inside the guard, and the wait list comes with it
+
+abbrev pub entering : Sight → ℕ → List Entry → Sight
+entering v n q = knowing v (entered v.part.core n q)
+
+abbrev pub enters_to : Step Cell → Sat → ℕ → Sat → Type 0
+enters_to st m found m' = (n : ℕ) → st.word ≡ guard_at n →
+    (found ≡ 0 → (q : List Entry) × AreSeats q × StandsAs m.0.part.core n q × (m' ≡ (entering m.0 n q, (list_at n, Line q) ∷ m.1))) × (found ≢ 0 → m' ≡ (lost m.0, m.1))
+
+-- ---- exit: out of the guard, and the wait list goes home
+
+abbrev pub exiting : Sight → Sight
+exiting v = knowing v (exited v.part.core)
+
+abbrev pub exits_to : Step Cell → Sat → ℕ → Sat → Type 0
+exits_to st m stored m' = m' ≡ (exiting m.0, rest m.1)
+
+-- ---- look: the owner word, read inside the guard
+
+abbrev pub looking : Sight → Owner → Sight
+looking v o = knowing v (has_looked v.part.core o)
+
+-- what the word tells a seat that has this view: it names the seat only where the lock is the seat's, or handed to it;
+-- and a flag stands where somebody waits
+pub record IsSeenBy (v : View) (n : ℕ) (o : Owner) : Type 0 where
+  pub own : owns v n ≡ false → o.seat ≡ Some v.who → is_handed o ≡ true
+  pub flags : v.list ≢ [] → o.flags ≢ 0
+
+abbrev pub looks_to : Step Cell → Sat → ℕ → Sat → Type 0
+looks_to st m found m' = (o : Owner) × IsValid o × (found ≡ packed o) × (m' ≡ (looking m.0 o, m.1)) × ((n : ℕ) → st.word ≡ owner_at n → IsSeenBy m.0.part.core n o)

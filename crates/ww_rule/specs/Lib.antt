@@ -1,0 +1,9 @@
+pub mod Layout
+pub mod Rule
+pub mod Steps
+pub mod Out
+pub mod Guards
+pub mod Waiting
+pub mod Signs
+pub mod Homes
+pub mod Records

@@ -1,0 +1,161 @@
+-- The rule of the table: there is a reached state of the core that the words, the lists and nodes at home, and the
+-- views show.
+use Rattle.std.specs.Prelude.{ℕ, zero, suc, ◌≡◌, ◌≢◌, ◌+◌, ◌-◌, ◌^◌, ◌<◌, ◌≤◌, ◌⊎◌, true, List, [], ◌∷◌, length, map, replicate, slice_index, Some, None}
+use mathlib.Core.Option.{some}
+use mathlib.Core.Option as maybe
+use lib.ListN.{get_elem?}
+use Rattle.atomic_table.specs.Table.{State as TableState, Me}
+use Rattle.ww_word.specs.Owner.{packed}
+use Rattle.ww_queue.specs.declared.kind.Kind.{Kind}
+use Rattle.ww_queue.specs.declared.entry.Entry.{Entry}
+use Rattle.ww_queue.specs.Queue.{StandsNot}
+use Rattle.ww_model.specs.declared.state.Holder.{Holder}
+use Rattle.ww_model.specs.declared.state.Holder.TheVariants.{Taken}
+use Rattle.ww_model.specs.declared.event.Event.{Event}
+use Rattle.ww_model.specs.State.{State}
+use Rattle.ww_model.specs.Event.{Possible, after}
+use Rattle.ww_model.specs.Run.{Reached}
+use Rattle.ww_plain.specs.declared.node.Node.{Node}
+use Rattle.ww_plain.specs.declared.history.Record.{Record}
+use Rattle.ww_plain.specs.Graph.{IsGraph, node_at}
+use Rattle.ww_plain.specs.History.{Recorded, recorded_of, IsLegal, last_graph, part_of}
+use Rattle.ww_model.specs.State.{word_of}
+use Rattle.ww_view.specs.View.{Knows, IsBare, owns, first_view}
+use Rattle.ww_rule.specs.declared.cells.Cell.{Cell}
+use Rattle.ww_rule.specs.declared.cells.Cell.TheVariants.{Content, Line}
+use Rattle.ww_rule.specs.declared.cells.Part.{Part}
+use Rattle.ww_rule.specs.declared.cells.Sight.{Sight}
+use Rattle.ww_rule.specs.declared.cells.Start.{Start}
+use Rattle.ww_rule.specs.Layout.{owner_at, guard_at, sign_at, stamp_at, front_at, words_in_all, list_at, slots_in_all}
+
+-- the table as plain data
+abbrev pub St : Type 0
+St = TableState Cell Sight
+
+-- a seat's view, and the slots that it has out
+abbrev pub Sat : Type 0
+Sat = Me Cell Sight
+
+-- the graph that the table was made with
+abbrev pub first_graph : Start → List Node
+first_graph key = key.nodes.value
+
+-- an own list, as the plain graph tells records
+abbrev pub own_of : List (ℕ × Record) → List (ℕ × Recorded)
+own_of records = map (λ p. (p.0, recorded_of p.1)) records
+
+-- the sum of f below n
+abbrev pub total : ℕ → (ℕ → ℕ) → ℕ
+total zero f = 0
+total (suc n) f = f n + total n f
+
+-- the words show the core
+pub record Shown (c : State) (words : List ℕ) : Type 0 where
+  pub wide : length words ≡ words_in_all
+  pub owners : (n : ℕ) → n < 64 → slice_index words (owner_at n) ≡ packed (word_of c n)
+  pub guards : (n : ℕ) → n < 64 → slice_index words (guard_at n) ≡ c.guard n
+  pub signs : (s : ℕ) → s < 16 → slice_index words (sign_at s) ≡ c.sign s
+  pub drawn : slice_index words stamp_at ≡ c.drawn
+  pub front : slice_index words front_at ≡ c.commits
+
+-- a node whose lock no seat has taken, and a list whose guard is free, is at home
+pub record AtHome (graph : List Node) (owner : ℕ → Holder) (queue : ℕ → List Entry) (guard : ℕ → ℕ) (homes : List (maybe.Option Cell)) : Type 0 where
+  pub deep : length homes ≡ slots_in_all
+  pub nodes : (n : ℕ) → n < length graph → ((s : ℕ) → owner n ≢ Taken s) → get_elem? homes n ≡ some (some (Content (node_at graph n)))
+  pub lists : (n : ℕ) → n < 64 → guard n ≡ 0 → get_elem? homes (list_at n) ≡ some (some (Line (queue n)))
+
+-- The commits so far are a legal history, as many as the front word says. Each seat drew and committed fewer than 2^32
+-- times, and the draws make up the stamp word.
+pub record Counted (key : Start) (drawn commits : ℕ) (log : List Recorded) (draws : ℕ → ℕ) : Type 0 where
+  pub legal : IsLegal (first_graph key) log
+  pub graph : IsGraph (last_graph (first_graph key) log)
+  pub size : length (last_graph (first_graph key) log) ≡ length (first_graph key)
+  pub front : commits ≡ length log
+  pub stamps : drawn ≡ total 16 draws
+  pub few : (t : ℕ) → draws t < 2 ^ 32
+  pub brief : (t : ℕ) → length (part_of t log) < 2 ^ 32
+  pub callers : (k : ℕ) (x : Recorded) → get_elem? log k ≡ some x → x.caller < key.seats
+
+-- what the view j says of a seat's number
+pub record PartFits (key : Start) (c : State) (log : List Recorded) (at draws : ℕ → ℕ) (j : ℕ) (p : Part) : Type 0 where
+  pub place : at p.core.who ≡ j
+  pub number : p.core.who < key.seats
+  pub knows : Knows c p.core
+  pub drew : p.draws ≡ draws p.core.who
+  pub own : own_of p.own ≡ part_of p.core.who log
+
+-- What the view j says: of its own number, of the nodes that it holds, and of the numbers that lie idle in it.
+pub record Sits (key : Start) (c : State) (log : List Recorded) (at draws : ℕ → ℕ) (j : ℕ) (v : Sight) : Type 0 where
+  pub part : PartFits key c log at draws j v.part
+  pub room : length v.held ≡ length (first_graph key)
+  pub held : (n : ℕ) → owns v.part.core n ≡ true → get_elem? v.held n ≡ some (Some (node_at (last_graph (first_graph key) log) n))
+  pub idle : (k : ℕ) (p : Part) → get_elem? v.idle k ≡ some p → PartFits key c log at draws j p × IsBare p.core
+  pub apart : (k : ℕ) (p : Part) → get_elem? v.idle k ≡ some p → p.core.who ≢ v.part.core.who
+  pub differ : (k l : ℕ) (p q : Part) → get_elem? v.idle k ≡ some p → get_elem? v.idle l ≡ some q → p.core.who ≡ q.core.who → k ≡ l
+
+-- the view says something of this number
+abbrev pub Speaks : Sight → ℕ → Type 0
+Speaks v t = (v.part.core.who ≡ t) ⊎ ((k : ℕ) × (p : Part) × (get_elem? v.idle k ≡ some p) × (p.core.who ≡ t))
+
+-- the view j is that of a seat, and speaks of this number
+pub record IsThere (views : List Sight) (j t : ℕ) : Type 0 where
+  pub view : Sight
+  pub stands : get_elem? views j ≡ some view
+  pub seated : view.seated ≡ true
+  pub speaks : Speaks view t
+
+-- a number that no seat has: it has no context and no lock, and is in no guard and in no wait list
+pub record IsStranger (c : State) (t : ℕ) : Type 0 where
+  pub stamp : c.stamp t ≡ 0
+  pub bare : (n : ℕ) → c.owner n ≢ Taken t
+  pub outside : (n : ℕ) → c.guard n ≢ suc t
+  pub waits : (n : ℕ) → StandsNot (c.queue n) t
+
+pub record Ruled (key : Start) (s : St) : Type 0 where
+  pub core : State
+  pub log : List Recorded
+  pub at : ℕ → ℕ
+  pub draws : ℕ → ℕ
+  pub reached : Reached core
+  pub kind : core.kind ≡ key.kind
+  pub locks : core.locks ≡ 64
+  pub places : core.seats ≡ 16
+  pub seats_there : key.seats < 17
+  pub strangers : (t : ℕ) → key.seats ≤ t → IsStranger core t
+  pub words : Shown core s.words
+  pub homes : AtHome (last_graph (first_graph key) log) core.owner core.queue core.guard s.homes
+  pub counted : Counted key core.drawn core.commits log draws
+  pub seats : (j : ℕ) (v : Sight) → get_elem? s.views j ≡ some v → v.seated ≡ true → Sits key core log at draws j v
+  pub there : (t : ℕ) → t < key.seats → IsThere s.views (at t) t
+
+-- the table goes from s to s' by an event of the core that it shows, and these are the commits then
+pub record MakesWith (key : Start) (s : St) (r : Ruled key s) (e : Event) (log : List Recorded) (s' : St) : Type 0 where
+  pub can : Possible r.core e
+  pub ruled : Ruled key s'
+  pub is : ruled.core ≡ after r.core e
+  pub commits : ruled.log ≡ log
+
+-- ... and the commits stay as they are
+abbrev pub Makes : (key : Start) (s : St) (r : Ruled key s) → Event → St → Type 0
+Makes key s r e s' = MakesWith key s r e r.log s'
+
+-- the table goes from s to s' without an event: the core and the commits stay as they are
+pub record Stays (key : Start) (s : St) (r : Ruled key s) (s' : St) : Type 0 where
+  pub ruled : Ruled key s'
+  pub is : ruled.core ≡ r.core
+  pub commits : ruled.log ≡ r.log
+
+-- ---- at the start
+
+-- a number that did nothing yet
+abbrev pub first_part : Kind → ℕ → Part
+first_part kind s = record { core = first_view kind s; draws = 0; own = [] }
+
+-- the numbers s, s + 1 and so on, n of them
+abbrev pub first_parts : Kind → ℕ → ℕ → List Part
+first_parts kind s zero = []
+first_parts kind s (suc n) = first_part kind s ∷ first_parts kind (s + 1) n
+
+-- the seat from which the others are cut off: it has the last number
+abbrev pub first_sight : Start → Sight
+first_sight key = record { seated = true; part = first_part key.kind (key.seats - 1); held = replicate (length (first_graph key)) None; idle = first_parts key.kind 0 (key.seats - 1) }

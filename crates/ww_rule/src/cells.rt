@@ -1,0 +1,86 @@
+use atomic_table::{Seat, Shared, TableRule};
+use std::collections::LinkedList;
+use std::marker::Model;
+use std::snapshot::Snapshot;
+use ww_plain::{Graph, Node, Record};
+use ww_queue::{Kind, Queue};
+use ww_view::view::View;
+
+/// A wait list in its slot. The unused bytes behind it keep its length off the cache line of the next slot's first
+/// entries, wherever the slots begin.
+#[derive(Drop)]
+pub struct Waiters {
+    pub queue: Queue,
+    apart: [u64; 8],
+}
+
+impl Model for Waiters {
+    ghost use Rattle.std.specs.Prelude.{List};
+    ghost use Rattle.ww_queue.specs.declared.entry.Entry.{Entry};
+
+    ghost Value = { List Entry };
+
+    ghost view = { λ waiters. waiters.queue };
+}
+
+impl Waiters {
+    ghost use Rattle.std.specs.Prelude.{◌≡◌, []};
+
+    /// An empty list.
+    pub fn new() -> Waiters
+        ensures { result ≡ [] }
+    {
+        Waiters {
+            queue: Queue::new(),
+            apart: [0; 8],
+        }
+    }
+}
+
+/// What a slot has. A node's slot is as large as a list's, so that no two nodes that are changed share a cache line.
+#[derive(Drop)]
+pub enum Cell {
+    Content(Node),
+    Line(Waiters),
+}
+
+/// What is kept of a seat's number for ever: what it knows of the core, how often it drew a stamp, and all its commits
+/// with their places. No value of it is made.
+pub struct Part {
+    pub core: View,
+    pub draws: u64,
+    pub own: LinkedList<(u64, Record)>,
+}
+
+/// What the table has of a seat. No value of it is made.
+pub struct Sight {
+    /// False of the view that is left where a seat was joined to another.
+    pub seated: bool,
+    pub part: Part,
+    /// The values of the nodes whose locks it has taken.
+    pub held: LinkedList<Option<Node>>,
+    /// The seats that are not cut off yet, or were joined to this one.
+    pub idle: LinkedList<Part>,
+}
+
+/// What a table is made with, of which its rule speaks.
+#[derive(Drop)]
+pub struct Start {
+    pub kind: Kind,
+    pub seats: u8,
+    pub nodes: Snapshot<Graph>,
+}
+
+pub struct Words;
+
+impl TableRule<Cell, Sight, Start> for Words {
+    ghost use Rattle.ww_rule.specs.Rule.{Ruled, first_sight};
+
+    ghost holds = { Ruled };
+
+    ghost first = { first_sight };
+}
+
+pub type Top = Shared<Cell, Sight, Start, Words>;
+
+pub type TableSeat = Seat<Cell, Sight>;

@@ -1,0 +1,68 @@
+//! What lies in the slots of a table before its first step and after its last.
+ghost use Rattle.std.specs.Prelude.{ℕ, ◌≡◌, ◌<◌, ◌≤◌, [], length, IfOk, vec_len, vec_capacity};
+ghost use mathlib.Core.Option.{some};
+ghost use lib.ListN.{get_elem?};
+ghost use Rattle.std.specs.Slots.{slots_items, slots_filled, slots_len, IsFull};
+ghost use Rattle.ww_plain.specs.declared.node.Node.{Node};
+ghost use Rattle.ww_plain.specs.Graph.{node_at};
+ghost use Rattle.ww_rule.specs.declared.cells.Cell.TheVariants.{Content, Line};
+ghost use Rattle.ww_rule.specs.Homes.{AreSlots, AreTakenBelow};
+
+use crate::cells::{Cell, Waiters};
+use crate::layout::SLOTS;
+use atomic_table::Closed;
+use std::alloc::{AllocError, Global};
+use ww_plain::{Graph, Node};
+
+/// What the slots have at the start.
+pub fn slots(alloc: Global, graph: &Graph) -> Result<Vec<Cell>, AllocError>
+    ensures { IfOk result (λ slots. AreSlots graph.now 128 slots.items) }
+{
+    let mut slots = Vec::with_capacity(alloc, SLOTS)?;
+    for n in 0..SLOTS as u8 {
+        slots.push_reserved(cell(graph, n));
+    }
+    Ok(slots)
+}
+
+/// What a slot has at the start.
+fn cell(graph: &Graph, n: u8) -> Cell
+    ensures node { n < length graph.now → result ≡ Content (node_at graph.now n) }
+    ensures list { length graph.now ≤ n → result ≡ Line [] }
+{
+    if n < graph.size() {
+        Cell::Content(graph.node(n))
+    } else {
+        Cell::Line(Waiters::new())
+    }
+}
+
+/// The nodes that a closed table has at home, of so many.
+pub fn nodes_of(mut closed: Closed<Cell, Global>, size: u8, mut nodes: Vec<Node>) -> Vec<Node>
+    requires full { IsFull closed.slots × (slots_len closed.slots ≡ 128) }
+    requires few { size ≤ 64 }
+    requires nodes { (n : ℕ) → n < size → (x : Node) × (get_elem? (slots_items closed.slots) n ≡ some (Content x)) }
+    requires room { (nodes.items ≡ []) × (vec_len nodes ≡ 0) × (size ≤ vec_capacity nodes) }
+    ensures many { length result.items ≡ size }
+    ensures same { (n : ℕ) (x : Node) → n < size → get_elem? (slots_items closed.slots) n ≡ some (Content x) → get_elem? result.items n ≡ some x }
+{
+    for n in 0..size {
+        match closed.take(usize::from(n)) {
+            Cell::Content(node) => nodes.push_reserved(node),
+            Cell::Line(_) => unreachable!(),
+        }
+    }
+    discard(closed, usize::from(size));
+    nodes
+}
+
+/// Frees a closed table of which so many slots are taken.
+fn discard(mut closed: Closed<Cell, Global>, taken: usize)
+    requires taken { AreTakenBelow taken 128 (slots_filled closed.slots) }
+    requires few { (taken ≤ 128) × (slots_len closed.slots ≡ 128) }
+{
+    for i in taken..128 {
+        drop(closed.take(i));
+    }
+    closed.free();
+}

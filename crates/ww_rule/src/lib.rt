@@ -1,0 +1,15 @@
+//! The rule of the table of the running locks: what its words, its slots and the views of its seats have, what each step
+//! makes of a seat, and what a seat does with the slots that it has out. The table and its seats are in `ww_table`.
+#![tactic(auto)]
+
+mod cells;
+pub mod homes;
+pub mod layout;
+pub mod lists;
+mod out;
+pub mod plays;
+pub mod plays_inside;
+pub mod records;
+
+pub use cells::{Cell, Part, Sight, Start, TableSeat, Top, Waiters, Words};
+pub use out::{MAX_OUT, bring};

@@ -1,0 +1,145 @@
+//! The wait list that a seat took last, read and changed in its slot. None of this is a step: nobody else sees it.
+ghost use Rattle.std.specs.Prelude.{◌≡◌, ◌∷◌, List, slice_get};
+ghost use Rattle.atomic_table.specs.Table.{rest};
+ghost use Rattle.ww_queue.specs.declared.entry.Entry.{Entry};
+ghost use Rattle.ww_queue.specs.Queue.{left};
+ghost use Rattle.ww_queue.specs.Rules.{must_die, owed_signs};
+ghost use Rattle.ww_model.specs.State.{waiting};
+ghost use Rattle.ww_view.specs.Word.{given_word};
+ghost use Rattle.ww_rule.specs.declared.cells.Cell.TheVariants.{Line};
+
+use crate::cells::{Cell, TableSeat, Top};
+use arrayvec::ArrayVec;
+use ww_queue::{Entry, Kind, MAX_WAITERS, Queue, must_die, owed_signs};
+use ww_word::{Owner, WAITERS};
+
+/// The flag of the waiters that are left in a list once this seat has gone.
+fn flag_without(queue: &Queue, who: u8) -> u8
+    ensures { result ≡ waiting (left queue.now who) }
+{
+    match queue.first() {
+        None => 0,
+        Some(first) if queue.entries().len() == 1 && first.seat == who => 0,
+        Some(_) => WAITERS,
+    }
+}
+
+/// The owner of a lock that is given back, with this wait list.
+fn owner_after(queue: &Queue, is_asked: bool) -> Owner
+    ensures { result ≡ given_word is_asked queue.now }
+{
+    match queue.first() {
+        None => Owner {
+            seat: None,
+            stamp: 0,
+            flags: 0,
+        },
+        Some(first) if is_asked => Owner::handed_to(first.seat, first.stamp),
+        Some(_) => Owner {
+            seat: None,
+            stamp: 0,
+            flags: WAITERS,
+        },
+    }
+}
+
+/// The flag of the waiters that are left in the list that was taken last, once this seat has gone.
+pub fn flag_left(seat: &mut TableSeat, shared: &Top, slot: u8, who: u8) -> u8
+    requires home { seat.old.table_id ≡ shared.now.table_id }
+    requires top { (q : List Entry) × (seat.old.me.1 ≡ (slot, Line q) ∷ rest seat.old.me.1) }
+    ensures home { (seat.new.table_id ≡ seat.old.table_id) × (seat.new.id ≡ seat.old.id) }
+    ensures same { seat.new.me ≡ seat.old.me }
+    ensures flag { (q : List Entry) → seat.old.me.1 ≡ (slot, Line q) ∷ rest seat.old.me.1 → result ≡ waiting (left q who) }
+{
+    match seat.slot_mut(shared, usize::from(slot)) {
+        Cell::Line(waiters) => flag_without(&waiters.queue, who),
+        Cell::Content(_) => unreachable!(),
+    }
+}
+
+/// Takes the seat out of the list that was taken last.
+pub fn leave_list(seat: &mut TableSeat, shared: &Top, slot: u8, who: u8)
+    requires home { seat.old.table_id ≡ shared.now.table_id }
+    requires top { (q : List Entry) × (seat.old.me.1 ≡ (slot, Line q) ∷ rest seat.old.me.1) }
+    ensures home { (seat.new.table_id ≡ seat.old.table_id) × (seat.new.id ≡ seat.old.id) }
+    ensures view { seat.new.me.0 ≡ seat.old.me.0 }
+    ensures list { (q : List Entry) → seat.old.me.1 ≡ (slot, Line q) ∷ rest seat.old.me.1 → seat.new.me.1 ≡ (slot, Line (left q who)) ∷ rest seat.old.me.1 }
+{
+    match seat.slot_mut(shared, usize::from(slot)) {
+        Cell::Line(waiters) => {
+            waiters.queue.leave(who);
+        }
+        Cell::Content(_) => unreachable!(),
+    }
+}
+
+/// The owner of a lock that is given back, with the list that was taken last.
+pub fn next_owner(seat: &mut TableSeat, shared: &Top, slot: u8, is_asked: bool) -> Owner
+    requires home { seat.old.table_id ≡ shared.now.table_id }
+    requires top { (q : List Entry) × (seat.old.me.1 ≡ (slot, Line q) ∷ rest seat.old.me.1) }
+    ensures home { (seat.new.table_id ≡ seat.old.table_id) × (seat.new.id ≡ seat.old.id) }
+    ensures same { seat.new.me ≡ seat.old.me }
+    ensures owner { (q : List Entry) → seat.old.me.1 ≡ (slot, Line q) ∷ rest seat.old.me.1 → result ≡ given_word is_asked q }
+{
+    match seat.slot_mut(shared, usize::from(slot)) {
+        Cell::Line(waiters) => owner_after(&waiters.queue, is_asked),
+        Cell::Content(_) => unreachable!(),
+    }
+}
+
+/// The stamp for which this seat has to die, by the list that was taken last.
+pub fn death_there(
+    seat: &mut TableSeat,
+    shared: &Top,
+    slot: u8,
+    kind: Kind,
+    seen: Owner,
+    who: u8,
+    sign: u64,
+) -> Option<u64>
+    requires home { seat.old.table_id ≡ shared.now.table_id }
+    requires top { (q : List Entry) × (seat.old.me.1 ≡ (slot, Line q) ∷ rest seat.old.me.1) }
+    ensures home { (seat.new.table_id ≡ seat.old.table_id) × (seat.new.id ≡ seat.old.id) }
+    ensures same { seat.new.me ≡ seat.old.me }
+    ensures death { (q : List Entry) → seat.old.me.1 ≡ (slot, Line q) ∷ rest seat.old.me.1 → result ≡ must_die kind seen q who sign }
+{
+    match seat.slot_mut(shared, usize::from(slot)) {
+        Cell::Line(waiters) => must_die(kind, seen, &waiters.queue, who, sign),
+        Cell::Content(_) => unreachable!(),
+    }
+}
+
+/// Whom this seat owes a sign, by the list that was taken last.
+pub fn owed_there(
+    seat: &mut TableSeat,
+    shared: &Top,
+    slot: u8,
+    kind: Kind,
+    seen: Owner,
+    who: u8,
+) -> ArrayVec<(u8, u64), MAX_WAITERS>
+    requires home { seat.old.table_id ≡ shared.now.table_id }
+    requires top { (q : List Entry) × (seat.old.me.1 ≡ (slot, Line q) ∷ rest seat.old.me.1) }
+    ensures home { (seat.new.table_id ≡ seat.old.table_id) × (seat.new.id ≡ seat.old.id) }
+    ensures same { seat.new.me ≡ seat.old.me }
+    ensures owed { (q : List Entry) → seat.old.me.1 ≡ (slot, Line q) ∷ rest seat.old.me.1 → result.items ≡ owed_signs kind seen q who }
+{
+    match seat.slot_mut(shared, usize::from(slot)) {
+        Cell::Line(waiters) => owed_signs(kind, seen, &waiters.queue, who),
+        Cell::Content(_) => unreachable!(),
+    }
+}
+
+/// The first waiter in the list that was taken last.
+pub fn first_there(seat: &mut TableSeat, shared: &Top, slot: u8) -> Option<Entry>
+    requires home { seat.old.table_id ≡ shared.now.table_id }
+    requires top { (q : List Entry) × (seat.old.me.1 ≡ (slot, Line q) ∷ rest seat.old.me.1) }
+    ensures home { (seat.new.table_id ≡ seat.old.table_id) × (seat.new.id ≡ seat.old.id) }
+    ensures same { seat.new.me ≡ seat.old.me }
+    ensures first { (q : List Entry) → seat.old.me.1 ≡ (slot, Line q) ∷ rest seat.old.me.1 → result ≡ slice_get q 0 }
+{
+    match seat.slot_mut(shared, usize::from(slot)) {
+        Cell::Line(waiters) => waiters.queue.first(),
+        Cell::Content(_) => unreachable!(),
+    }
+}

@@ -1,0 +1,48 @@
+//! The slots that a seat has out. Bringing one to the front is no step: nobody else sees it.
+ghost use Rattle.std.specs.Prelude.{ℕ, ◌≡◌, ◌∷◌, List, Some};
+ghost use Rattle.ww_rule.specs.declared.cells.Cell.{Cell};
+ghost use Rattle.ww_rule.specs.Out.{AreOthers, numbers_of, slot_of};
+
+use crate::cells::TableSeat;
+use arrayvec::ArrayVec;
+
+/// How many slots a seat can have out: all nodes, and the wait list of one lock.
+pub const MAX_OUT: usize = 65;
+
+/// Sees to it that this slot, which is out, is the one taken last. It is no step, and costs nothing where it is that
+/// already.
+#[inline(always)]
+pub fn bring(seat: &mut TableSeat, order: &mut ArrayVec<u8, MAX_OUT>, slot: u8)
+    requires order { order.old.items ≡ numbers_of seat.old.me.1 }
+    requires out { (y : Cell) × (slot_of seat.old.me.1 slot ≡ Some y) }
+    ensures home { (seat.new.table_id ≡ seat.old.table_id) × (seat.new.id ≡ seat.old.id) }
+    ensures view { seat.new.me.0 ≡ seat.old.me.0 }
+    ensures slots { (y : Cell) × (others : List (ℕ × Cell)) × (slot_of seat.old.me.1 slot ≡ Some y) × AreOthers seat.old.me.1 slot y others × (seat.new.me.1 ≡ (slot, y) ∷ others) }
+    ensures order { order.new.items ≡ numbers_of seat.new.me.1 }
+{
+    if order[order.len() - 1] != slot {
+        turn_to(seat, order, slot);
+    }
+}
+
+/// Turns the slots that are out until this one is the one taken last.
+#[cold]
+fn turn_to(seat: &mut TableSeat, order: &mut ArrayVec<u8, MAX_OUT>, slot: u8)
+    requires order { order.old.items ≡ numbers_of seat.old.me.1 }
+    requires out { (y : Cell) × (slot_of seat.old.me.1 slot ≡ Some y) }
+    ensures home { (seat.new.table_id ≡ seat.old.table_id) × (seat.new.id ≡ seat.old.id) }
+    ensures view { seat.new.me.0 ≡ seat.old.me.0 }
+    ensures slots { (y : Cell) × (others : List (ℕ × Cell)) × (slot_of seat.old.me.1 slot ≡ Some y) × AreOthers seat.old.me.1 slot y others × (seat.new.me.1 ≡ (slot, y) ∷ others) }
+    ensures order { order.new.items ≡ numbers_of seat.new.me.1 }
+{
+    for _ in 0..order.len() {
+        if order[order.len() - 1] == slot {
+            return;
+        }
+        let Some(last) = order.pop() else {
+            return;
+        };
+        order.insert(0, last);
+        seat.turn();
+    }
+}

@@ -1,0 +1,92 @@
+//! What the steps at guards, inside them and on signs tell their caller: the definitions are in `specs/Guards.antt`,
+//! `specs/Waiting.antt` and `specs/Signs.antt`.
+use crate::cells::{Cell, Sight};
+use atomic_table::Play;
+
+pub struct Enter;
+
+impl Play<Cell, Sight> for Enter {
+    ghost use Rattle.ww_rule.specs.Guards.{enters_to};
+
+    ghost then = { enters_to };
+}
+
+pub struct Exit;
+
+impl Play<Cell, Sight> for Exit {
+    ghost use Rattle.ww_rule.specs.Guards.{exits_to};
+
+    ghost then = { exits_to };
+}
+
+pub struct Look;
+
+impl Play<Cell, Sight> for Look {
+    ghost use Rattle.ww_rule.specs.Guards.{looks_to};
+
+    ghost then = { looks_to };
+}
+
+pub struct Join;
+
+impl Play<Cell, Sight> for Join {
+    ghost use Rattle.ww_rule.specs.Waiting.{tries_to, joins};
+
+    ghost then = { tries_to joins };
+}
+
+pub struct Take;
+
+impl Play<Cell, Sight> for Take {
+    ghost use Rattle.ww_rule.specs.Waiting.{tries_to, takes_inside};
+
+    ghost then = { tries_to takes_inside };
+}
+
+pub struct Give;
+
+impl Play<Cell, Sight> for Give {
+    ghost use Rattle.ww_rule.specs.Waiting.{tries_to, gives_inside};
+
+    ghost then = { tries_to gives_inside };
+}
+
+pub struct Ask;
+
+impl Play<Cell, Sight> for Ask {
+    ghost use Rattle.ww_rule.specs.Waiting.{tries_to, asks};
+
+    ghost then = { tries_to asks };
+}
+
+pub struct Die;
+
+impl Play<Cell, Sight> for Die {
+    ghost use Rattle.ww_rule.specs.Waiting.{dies_to};
+
+    ghost then = { dies_to };
+}
+
+pub struct Sign;
+
+impl Play<Cell, Sight> for Sign {
+    ghost use Rattle.ww_rule.specs.Signs.{signs_to};
+
+    ghost then = { signs_to };
+}
+
+pub struct OwnSign;
+
+impl Play<Cell, Sight> for OwnSign {
+    ghost use Rattle.ww_rule.specs.Signs.{reads_to};
+
+    ghost then = { reads_to };
+}
+
+pub struct Clear;
+
+impl Play<Cell, Sight> for Clear {
+    ghost use Rattle.ww_rule.specs.Signs.{clears_to};
+
+    ghost then = { clears_to };
+}

@@ -1,0 +1,30 @@
+-- What a seat is after a step that leaves the rest of it alone.
+use Rattle.std.proofs.Common.{◌≡◌, ℕ, ◌<◌, ◌^◌, refl, sym, ap, ◌∙◌, subst}
+use Rattle.std.specs.List.{AllByRecursion}
+use Rattle.atomic_table.specs.Seated.{TableId}
+use Rattle.ww_plain.specs.declared.history.Record.{Record}
+use Rattle.ww_rule.specs.declared.cells.Sight.{Sight}
+use Rattle.ww_rule.specs.Rule.{Sat}
+use Rattle.ww_rule.specs.Out.{numbers_of}
+use Rattle.ww_table.specs.declared.seat.Seat16.{Seat16}
+use Rattle.ww_table.specs.Seat.{IsSeated}
+
+-- the seat is as it was, but for its view and the slots that it has out
+pub seated_as : (table : TableId) (s new : Seat16) (w : Sight) → IsSeated table s → new.seat.table_id ≡ s.seat.table_id → new.seat.me.0 ≡ w → w.seated ≡ s.seat.me.0.seated → w.part.core.who ≡ s.seat.me.0.part.core.who
+    → w.part.core.stamp ≡ s.seat.me.0.part.core.stamp → w.part.own ≡ s.seat.me.0.part.own → w.idle ≡ s.seat.me.0.idle → new.who ≡ s.who → new.stamp ≡ s.stamp → new.records.items ≡ s.records.items → new.order.items ≡ numbers_of new.seat.me.1 → IsSeated table new
+seated_as table s new w was home view seated who stamp own idle same_who same_stamp records order = record {
+  home = home ∙ was.home;
+  seated = ap (λ (v : Sight). v.seated) view ∙ seated ∙ was.seated;
+  who = ap (λ (v : Sight). v.part.core.who) view ∙ who ∙ was.who ∙ sym same_who;
+  few = subst (λ (t : ℕ). t < 16) (sym same_who) was.few;
+  stamp = ap (λ (v : Sight). v.part.core.stamp) view ∙ stamp ∙ was.stamp ∙ sym same_stamp;
+  small = subst (λ (t : ℕ). t < 2 ^ 56) (sym same_stamp) was.small;
+  order = order;
+  records = records ∙ was.records ∙ sym own ∙ ap (λ (v : Sight). v.part.own) (sym view);
+  alone = ap (λ (v : Sight). v.idle) view ∙ idle ∙ was.alone;
+  places = subst (AllByRecursion (λ (p : ℕ × Record). p.0 < 2 ^ 37)) (sym records) was.places;
+}
+
+-- ... where these stay too
+pub seated_still : (table : TableId) (s new : Seat16) → IsSeated table s → new.seat.table_id ≡ s.seat.table_id → new.seat.me ≡ s.seat.me → new.who ≡ s.who → new.stamp ≡ s.stamp → new.records.items ≡ s.records.items → new.order.items ≡ s.order.items → IsSeated table new
+seated_still table s new was home same who stamp records order = seated_as table s new s.seat.me.0 was home (ap (λ (m : Sat). m.0) same) refl refl refl refl refl who stamp records (order ∙ was.order ∙ ap (λ (m : Sat). numbers_of m.1) (sym same))

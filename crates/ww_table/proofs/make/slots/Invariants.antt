@@ -1,7 +1,0 @@
-use Rattle.std.proofs.Common.{◌≡◌, ◌≤◌}
-use Rattle.std.specs.Prelude.{vec_len, vec_capacity}
-use Rattle.ww_table.specs.Made.{AreSlots}
-use Rattle.ww_table.proofs.make.slots.Given as goal
-
-abbrev pub invariant-loop-n : goal.invariant-loop-n
-invariant-loop-n l = AreSlots l.graph l.n l.slots.items × (vec_len l.slots ≡ l.n) × (128 ≤ vec_capacity l.slots)
