@@ -9,10 +9,11 @@ use Rattle.ww_model.specs.declared.state.Holder.TheVariants.{Taken, Handed}
 use Rattle.ww_model.specs.declared.event.Event.{Event}
 use Rattle.ww_model.specs.State.{State}
 use Rattle.ww_model.specs.Event.{Possible, after}
-use Rattle.ww_model.specs.Run.{state_after, IsRun, RunsAreLawful}
+use Rattle.ww_model.specs.Run.{state_after, IsRun}
 use Rattle.ww_model.specs.Replay.{IsFirstImpossible}
 use Rattle.ww_model.specs.Lawful.{IsBase}
 use Rattle.ww_model.specs.Waits.{WaitsFor, Leads, IsNoneOf, IsRing, IsLeastRing, CondemnedOf}
+use Rattle.ww_model.proofs.Kept.{runs_are_lawful}
 use Rattle.ww_schedule.specs.Schedules.{Timetable}
 use Rattle.ww_schedule.specs.Replay.{StopsAt, front, RingOf, seats_of, Replay, first_state, last_state, IsReplay, replay_lines, HasOneText}
 
@@ -101,17 +102,18 @@ one_condemned c seats (Some a) (Some b) p q = ap Some (le_antisymm (p.least b q.
 
 -- ---- together
 
-last_is_base : RunsAreLawful → (t : Timetable) (r : Replay) → IsReplay t r → IsBase (last_state t r)
-last_is_base lawful t r is = (lawful t.kind t.locks t.seats (front r.stop t.events) (front_runs (first_state t) t.events r.stop is.stop)).base
+-- In a lawful state nobody waits for two, so that a seat begins one ring at most.
+last_is_base : (t : Timetable) (r : Replay) → IsReplay t r → IsBase (last_state t r)
+last_is_base t r is = (runs_are_lawful t.kind t.locks t.seats (front r.stop t.events) (front_runs (first_state t) t.events r.stop is.stop)).base
 
-one_replay : RunsAreLawful → (t : Timetable) (r s : Replay) → IsReplay t r → IsReplay t s → r ≡ s
-one_replay lawful t r s p q =
+one_replay : (t : Timetable) (r s : Replay) → IsReplay t r → IsReplay t s → r ≡ s
+one_replay t r s p q =
     let stop = one_stop (first_state t) t.events r.stop s.stop p.stop q.stop in
     let last = ap (λ i. state_after (first_state t) (front i t.events)) stop in
-    let ring = one_ring (last_state t s) (last_is_base lawful t s q) r.ring s.ring (subst (λ c. RingOf c r.ring) last p.ring) q.ring in
+    let ring = one_ring (last_state t s) (last_is_base t s q) r.ring s.ring (subst (λ c. RingOf c r.ring) last p.ring) q.ring in
     let condemned = one_condemned (last_state t s) (seats_of s.ring) r.condemned s.condemned
     (subst (λ x. CondemnedOf (last_state t s) (seats_of x) r.condemned) ring (subst (λ c. CondemnedOf c (seats_of r.ring) r.condemned) last p.condemned)) q.condemned in
     ap (λ i. record r { stop = i }) stop ∙ ap (λ x. record s { ring = x; condemned = r.condemned }) ring ∙ ap (λ x. record s { condemned = x }) condemned
 
-pub one_text : RunsAreLawful → HasOneText
-one_text lawful t a b told again = told.2 ∙ ap (replay_lines t) (one_replay lawful t told.0 again.0 told.1 again.1) ∙ sym again.2
+pub one_text : HasOneText
+one_text t a b told again = told.2 ∙ ap (replay_lines t) (one_replay t told.0 again.0 told.1 again.1) ∙ sym again.2

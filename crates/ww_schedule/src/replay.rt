@@ -7,7 +7,6 @@ ghost use Rattle.ww_schedule.specs.Replay.{first_state, owner_stamp, line_of_loc
 
 use crate::schedules::Schedule;
 use std::alloc::{AllocError, Global};
-use ww_model::laws::runs_are_lawful;
 use ww_model::{Answer, Core, Event, Holder, condemned_in, cycle_in};
 use ww_parts::{push_number, push_option};
 use ww_queue::Entry;
@@ -233,7 +232,4 @@ pub fn schedule_text(alloc: Global, schedule: &Schedule) -> Result<Vec<u8>, Allo
 /// A law of the definition by which [`schedule_text`] answers: no schedule has two texts.
 pub fn a_schedule_has_one_text()
     ensures { HasOneText }
-{
-    // In a lawful state nobody waits for two, so that a seat begins one ring at most.
-    runs_are_lawful();
-}
+{}
