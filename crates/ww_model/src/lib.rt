@@ -5,7 +5,6 @@ mod contexts;
 mod event;
 mod fast;
 mod guarded;
-pub mod laws;
 mod run;
 mod state;
 mod step;

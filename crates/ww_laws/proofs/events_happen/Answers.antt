@@ -1,5 +1,0 @@
-use Rattle.ww_laws.proofs.Reaching as kept
-use Rattle.ww_laws.proofs.events_happen.Goals as goal
-
-pub returns : goal.returns
-returns c = kept.events_happen

@@ -1,0 +1,78 @@
+//! Laws of one state, lawful or reached: what waits, guards, lists, signs and stamps are like in it.
+
+ghost use Rattle.ww_model.specs.Lawful.{FreeGuardsOweNothing, SignedOwnsOutside};
+ghost use Rattle.ww_model.specs.Run.{RunsAreLawful};
+ghost use Rattle.ww_model.specs.Alone.{OutsidersOweNothing, StampsAreFew};
+ghost use Rattle.ww_model.specs.Laws.{StartIsLawful, OfLawful, PlaceIsTheGuard, QueuesAscend, OnlyFirstIsUnsigned, EachWaitsForOne, RingsAreApart, OfReached, SignWasMet, WaitersAreSeats, CondemnedCanDie};
+
+/// The start state is lawful.
+pub fn start_is_lawful()
+    ensures { StartIsLawful }
+{}
+
+/// Every state of a run is lawful.
+pub fn runs_are_lawful()
+    ensures { RunsAreLawful }
+{}
+
+/// Nobody waits for two, in every lawful state.
+pub fn each_waits_for_one()
+    ensures { OfLawful EachWaitsForOne }
+{}
+
+/// In every lawful state at most one ring goes through a seat.
+pub fn rings_are_apart()
+    ensures { OfLawful RingsAreApart }
+{}
+
+/// A condemned seat can go inside the guard of the lock where it waits, if that is free, and die there, and is told the
+/// stamp for which it has to die.
+pub fn condemned_can_die()
+    ensures { OfReached CondemnedCanDie }
+{}
+
+/// Wound-Wait: the sign of a seat that owns a lock is the stamp of a context that it met.
+pub fn sign_was_met()
+    ensures { SignWasMet }
+{}
+
+/// Wait-Die: a seat with a sign owns a lock whose guard it isn't inside of, in every reached state.
+pub fn signed_owns_outside()
+    ensures { OfReached SignedOwnsOutside }
+{}
+
+/// Wait-Die, in every lawful state: where a guard is free, whoever must die there has a sign.
+pub fn free_guards_owe_nothing()
+    ensures { OfLawful FreeGuardsOweNothing }
+{}
+
+/// Wait-Die, in every lawful state: where a guard is free, only the first of the waiting contexts may hold locks
+/// unsigned.
+pub fn only_first_is_unsigned()
+    ensures { OfLawful OnlyFirstIsUnsigned }
+{}
+
+/// In every lawful state a seat inside a guard that neither waits there nor has taken the lock owes no unsigned seat.
+pub fn outsiders_owe_nothing()
+    ensures { OfLawful OutsidersOweNothing }
+{}
+
+/// In every lawful state the guard in which a seat is found is the one that it is inside of.
+pub fn place_is_the_guard()
+    ensures { OfLawful PlaceIsTheGuard }
+{}
+
+/// The stamps of the contexts ascend in each wait list of a lawful state.
+pub fn queues_ascend()
+    ensures { OfLawful QueuesAscend }
+{}
+
+/// Whoever waits in a reached state is one of the seats.
+pub fn waiters_are_seats()
+    ensures { OfReached WaitersAreSeats }
+{}
+
+/// The stamps drawn in a reached state fit an owner word.
+pub fn stamps_are_few()
+    ensures { OfReached StampsAreFew }
+{}

@@ -1,0 +1,62 @@
+//! The theorem, sentence by sentence of `specs/Theorem.antt` of `ww_model`: every ring of waits has a condemned member,
+//! who is told EDEADLK had to be, the oldest never backs off, and nobody is stuck for good.
+
+ghost use Rattle.ww_model.specs.Theorem.{RingsAreCondemned, CyclesAreCondemned, CyclesAreOfContexts, ReachedIsLawful, DeadlkWasMet, OldestNeverDies, OldestCanTake, OldestCanJoinAndTake, CanBeEmptied, RingsAreReached, EventsHappen};
+
+/// Every ring of a reached state has a condemned member, whichever the kind.
+pub fn rings_are_condemned()
+    ensures { RingsAreCondemned }
+{}
+
+/// Every cycle of waits of a lawful state, in which a seat may come more than once, has a condemned member.
+pub fn cycles_are_condemned()
+    ensures { CyclesAreCondemned }
+{}
+
+/// No seat without a context stands in a cycle of waits of a lawful state.
+pub fn cycles_are_of_contexts()
+    ensures { CyclesAreOfContexts }
+{}
+
+/// Every reached state is lawful.
+pub fn reached_is_lawful()
+    ensures { ReachedIsLawful }
+{}
+
+/// Whoever is answered EDEADLK dies, owns a lock, and met the older context whose stamp it is told.
+pub fn deadlk_was_met()
+    ensures { DeadlkWasMet }
+{}
+
+/// The oldest context of all, if in Wound-Wait it has no sign, is never signed and never told to back off, until it
+/// ends.
+pub fn oldest_never_dies()
+    ensures { OldestNeverDies }
+{}
+
+/// Wherever the oldest context waits, some run leads to it owning the lock in which nobody begins anything new, and in
+/// which it neither dies nor gives anything back: whoever is in its way can be made to give way, and it never has to.
+pub fn oldest_can_take()
+    ensures { OldestCanTake }
+{}
+
+/// The same where the oldest context waits nowhere and wants a lock of another, with one Join, its own.
+pub fn oldest_can_join_and_take()
+    ensures { OldestCanJoinAndTake }
+{}
+
+/// From every reached state some run in which nobody begins anything new leads to one in which everything is free: a
+/// way out exists.
+pub fn can_be_emptied()
+    ensures { CanBeEmptied }
+{}
+
+/// In each kind a state with a ring is reached.
+pub fn rings_are_reached()
+    ensures { RingsAreReached }
+{}
+
+/// In each kind each of the fourteen events is possible in some reached state.
+pub fn events_happen()
+    ensures { EventsHappen }
+{}

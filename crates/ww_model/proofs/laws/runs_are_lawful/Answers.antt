@@ -1,5 +1,0 @@
-use Rattle.ww_model.proofs.Kept as kept
-use Rattle.ww_model.proofs.laws.runs_are_lawful.Goals as goal
-
-pub returns : goal.returns
-returns c = kept.runs_are_lawful
