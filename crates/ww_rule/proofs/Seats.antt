@@ -298,3 +298,9 @@ module _ (key : Start) (some_seat : 1 ≤ key.seats) (few : key.seats < 17) (gra
     seats = λ j v e _. first_seats j v e;
     there = first_there;
   }
+
+  -- what it tells then is the start of the core, and no commits
+  pub opens_start : (xs : List Cell) (long : length xs ≡ 128) (nodes : (n : ℕ) → n < length (first_graph key) → get_elem? xs n ≡ some (Content (node_at (first_graph key) n))) (lists : (n : ℕ) → n < 64 → get_elem? xs (64 + n) ≡ some (Line []))
+      → ((opens xs long nodes lists).core ≡ first_core) × ((opens xs long nodes lists).log ≡ [])
+  unfolding opens
+  opens_start xs long nodes lists = (refl, refl)

@@ -92,7 +92,7 @@ laid_none places none = record { sound = λ i r e. absurd (none i r e); filled =
 -- ---- the history that they are
 
 -- a part has the records of its caller at their places
-part_has : (place caller i : ℕ) (log : List Recorded) (x : Recorded) → get_elem? log i ≡ some x → x.caller ≡ caller → Has (part_from place caller log) (place + i, x)
+pub part_has : (place caller i : ℕ) (log : List Recorded) (x : Recorded) → get_elem? log i ≡ some x → x.caller ≡ caller → Has (part_from place caller log) (place + i, x)
 part_has place caller i [] x e by = absurd cc
 part_has place caller zero (y ∷ log) x e by = let same : y ≡ x = some-injective y x e in
     subst (λ (b : Bool). Has (if b then (place, y) ∷ part_from (place + 1) caller log else part_from (place + 1) caller log) (place + 0, x)) (sym (ap (λ (k : ℕ). eqb k caller) (ap (λ (z : Recorded). z.caller) same ∙ by) ∙ eqb_same caller))
@@ -104,7 +104,7 @@ part_has place caller (suc i) (y ∷ log) x e by = go (eqb y.caller caller) (sub
     go false h = h
 
 -- and no others
-has_part : (place caller : ℕ) (log : List Recorded) (j : ℕ) (x : Recorded) → Has (part_from place caller log) (j, x) → (i : ℕ) × (j ≡ place + i) × (get_elem? log i ≡ some x)
+pub has_part : (place caller : ℕ) (log : List Recorded) (j : ℕ) (x : Recorded) → Has (part_from place caller log) (j, x) → (i : ℕ) × (j ≡ place + i) × (get_elem? log i ≡ some x)
 has_part place caller [] j x h = absurd h
 has_part place caller (y ∷ log) j x h = go (eqb y.caller caller) h (λ more. has_part (place + 1) caller log j x more)
   where

@@ -23,8 +23,9 @@ use Rattle.ww_rule.specs.Homes.{AreSlots}
 use Rattle.ww_table.specs.Made.{AreNew, less}
 use Rattle.ww_table.specs.Closed.{HasCome, HaveAllCome}
 use Rattle.ww_queue.specs.Queue.{Has}
+use Rattle.ww_model.specs.State.{start}
 use Rattle.ww_view.specs.View.{IsBare}
-use Rattle.ww_rule.proofs.Seats.{opens, splits, at_end, bare_first}
+use Rattle.ww_rule.proofs.Seats.{opens, opens_start, splits, at_end, bare_first}
 
 pub new_seat : (table : TableId) (key : Start) (k : ℕ) (s : Seat16) → s.seat.table_id ≡ table → s.seat.me ≡ (seat_of (length (first_graph key)) (first_part key.kind k), []) → s.who ≡ k → k < 16 → s.stamp ≡ 0 → s.order.items ≡ [] → s.records.items ≡ [] → IsNew table key k s
 new_seat table key k s home me who few stamp order records = record {
@@ -72,6 +73,11 @@ pub opens_made : (key : Start) (graph : List Node) (slots : List Cell) → first
 opens_made key graph slots same one few is are = opens key one (omega arith) (subst IsGraph (sym same) is) slots are.many
     (λ n low. are.nodes n (let m = is.few in let l = ap length same in omega arith) (let l = ap length same in omega arith) ∙ ap (λ (g : List Node). maybe.some (Content (node_at g n))) (sym same))
     (λ n low. are.lists (64 + n) (omega arith) (let m = is.few in omega arith))
+
+pub opens_made_start : (key : Start) (graph : List Node) (slots : List Cell) (same : first_graph key ≡ graph) (one : 1 ≤ key.seats) (few : key.seats ≤ 16) (is : IsGraph graph) (are : AreSlots graph 128 slots)
+    → ((opens_made key graph slots same one few is are).core ≡ start key.kind 64 16) × ((opens_made key graph slots same one few is are).log ≡ [])
+unfolding opens_made
+opens_made_start key graph slots same one few is are = opens_start key _ _ _ slots _ _ _
 
 all_from : {A : Type 0} (P : A → Type 0) (xs : List A) → ((k : ℕ) (x : A) → get_elem? xs k ≡ some x → P x) → AllByRecursion P xs
 all_from P [] each = tt

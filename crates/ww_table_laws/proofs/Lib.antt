@@ -1,1 +1,2 @@
 mod NoEvents
+mod One

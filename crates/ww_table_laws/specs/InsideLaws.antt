@@ -10,6 +10,7 @@ use Rattle.ww_queue.specs.declared.entry.Entry.{Entry}
 use Rattle.ww_queue.specs.Queue.{left}
 use Rattle.ww_model.specs.declared.event.Event.TheVariants.{Clear, Guard, Join, Sign, Take, Ask, Give, Die, Unguard}
 use Rattle.ww_model.specs.State.{dies}
+use Rattle.ww_model.specs.Run.{Reached}
 use Rattle.ww_model.specs.Met.{DeadlkIsMet}
 use Rattle.ww_plain.specs.declared.node.Node.{Node}
 use Rattle.ww_plain.specs.Graph.{node_at}
@@ -69,11 +70,11 @@ AskIsAsk = (key : Start) (s : St) (r : Ruled key s) (id : ℕ) (me : Sat) (n : �
     Makes key s r (Ask me.0.part.core.who n) (stepped s (owner_at n) (packed (asked_word o)) id me.1 (asking me.0 o) keeps)
 
 -- an owner word loses its flags as the last waiter backs off, or stays, as Die; the seat is told to die of the stamp
--- that the core tells it, and met the context that has it
+-- that the core tells it, and met the context that has it, whatever run led to that core
 abbrev pub DieIsDie : Type 0
 DieIsDie = (key : Start) (s : St) (r : Ruled key s) (id : ℕ) (me : Sat) (n : ℕ) (o : Owner) (k : ℕ) → Steps s id me →
     MayDie me.0.part.core n o k → IsValid o → slice_index s.words (owner_at n) ≡ packed o →
-    (dies r.core me.0.part.core.who n ≡ Some k) × DeadlkIsMet r.core r.reached me.0.part.core.who n k ×
+    (dies r.core me.0.part.core.who n ≡ Some k) × ((run : Reached r.core) → DeadlkIsMet r.core run me.0.part.core.who n k) ×
     Makes key s r (Die me.0.part.core.who n)
     (stepped s (owner_at n) (packed (rest_word (left me.0.part.core.list me.0.part.core.who) o)) id me.1 (dying me.0 o) keeps)
 

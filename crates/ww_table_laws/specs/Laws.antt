@@ -1,28 +1,30 @@
 -- What holds of the table as a whole.
-use Rattle.std.specs.Prelude.{ℕ, ◌≡◌, ◌<◌, ◌+◌, [], ◌∷◌, ◌++◌, true, List, length, slice_index, Some}
+use Rattle.std.specs.Prelude.{ℕ, ◌≡◌, ◌<◌, ◌≤◌, ◌+◌, [], ◌∷◌, ◌++◌, true, List, length, replicate, slice_index, Some}
 use mathlib.Core.Option.{some}
 use lib.ListN.{get_elem?}
-use Rattle.atomic_table.specs.Table.{stepped, keeps, takes, gives, rest}
+use Rattle.atomic_table.specs.Table.{stepped, keeps, takes, gives, rest, opening}
 use Rattle.ww_word.specs.Owner.{packed}
 use Rattle.ww_model.specs.declared.event.Event.TheVariants.{Begin, Fast, FastGive, Commit, End}
-use Rattle.ww_model.specs.State.{State}
+use Rattle.ww_model.specs.State.{State, start}
 use Rattle.ww_model.specs.Lawful.{IsLawful}
 use Rattle.ww_model.specs.Waits.{IsCycle, AreContexts, IsOneOf, IsCondemned}
 use Rattle.ww_plain.specs.declared.node.Node.{Node}
 use Rattle.ww_plain.specs.declared.history.Record.{Record}
-use Rattle.ww_plain.specs.Graph.{node_at}
+use Rattle.ww_plain.specs.Graph.{IsGraph, node_at}
 use Rattle.ww_plain.specs.History.{recorded_of, last_graph}
 use Rattle.ww_view.specs.View.{owns, IsAway}
 use Rattle.ww_view.specs.May.{MayFast}
 use Rattle.ww_view.specs.Made.{ended}
+use Rattle.ww_rule.specs.declared.cells.Cell.{Cell}
 use Rattle.ww_rule.specs.declared.cells.Cell.TheVariants.{Content}
 use Rattle.ww_rule.specs.declared.cells.Start.{Start}
 use Rattle.atomic_table.specs.Seated.{TableId}
 use Rattle.ww_table.specs.declared.seat.Seat16.{Seat16}
 use Rattle.ww_table.specs.Made.{AreNew}
 use Rattle.ww_table.specs.Closed.{HaveAllCome}
-use Rattle.ww_rule.specs.Layout.{owner_at, sign_at, stamp_at, front_at}
-use Rattle.ww_rule.specs.Rule.{St, Sat, first_graph, Ruled, MakesWith, Makes}
+use Rattle.ww_rule.specs.Layout.{owner_at, sign_at, stamp_at, front_at, words_in_all, slots_in_all}
+use Rattle.ww_rule.specs.Homes.{AreSlots}
+use Rattle.ww_rule.specs.Rule.{St, Sat, first_graph, first_sight, Ruled, MakesWith, Makes}
 use Rattle.ww_rule.specs.Steps.{MayDraw, MayEnd, MayPlace, taker, drawing, taking, giving, knowing, placing}
 
 -- a seat of the table that steps: where its view stands, and the seat itself
@@ -65,6 +67,16 @@ pub record IsSafe (c : State) : Type 0 where
 -- the core that the rule tells of a table is one
 abbrev pub RuledIsLawful : Type 0
 RuledIsLawful = (key : Start) (s : St) (r : Ruled key s) → IsSafe r.core
+
+-- Whatever reached states the rule finds in a table, they are one: in each lock, seat and count. So are the commits.
+abbrev pub ShownIsOne : Type 0
+ShownIsOne = (key : Start) (s : St) (r r' : Ruled key s) → (r.core ≡ r'.core) × (r.log ≡ r'.log)
+
+-- the rule holds of a table made just now, and tells the start of the core and no commits
+abbrev pub NewTableShowsStart : Type 0
+NewTableShowsStart = (key : Start) (slots : List Cell) → 1 ≤ key.seats → key.seats ≤ 16 → IsGraph (first_graph key) → AreSlots (first_graph key) slots_in_all slots →
+    let s : St = opening (replicate words_in_all 0) slots (first_sight key) in
+    Ruled key s × ((r : Ruled key s) → (r.core ≡ start key.kind 64 16) × (r.log ≡ []))
 
 -- seats that did nothing yet can be handed in to close the table
 abbrev pub NewSeatsCanClose : Type 0

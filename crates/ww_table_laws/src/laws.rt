@@ -1,6 +1,6 @@
 //! Laws of the table: each function's contract is one. A step's own call cites the lemma that its law does.
 
-ghost use Rattle.ww_table_laws.specs.Laws.{DrawIsBegin, TakeFreeIsFast, GiveFreeIsFastGive, EndIsEnd, PlaceIsCommit, RuledIsLawful, NewSeatsCanClose};
+ghost use Rattle.ww_table_laws.specs.Laws.{DrawIsBegin, TakeFreeIsFast, GiveFreeIsFastGive, EndIsEnd, PlaceIsCommit, RuledIsLawful, ShownIsOne, NewTableShowsStart, NewSeatsCanClose};
 
 /// From every table that the rule allows, a draw is the event Begin on what is shown.
 pub fn draw_is_begin()
@@ -31,6 +31,16 @@ pub fn place_is_commit()
 /// lawful, and every cycle of waits there has a condemned member.
 pub fn ruled_is_lawful()
     ensures { RuledIsLawful }
+{}
+
+/// A table tells one core, and one history: the words, the lists and nodes at home and the views determine them.
+pub fn shown_is_one()
+    ensures { ShownIsOne }
+{}
+
+/// Of a table made just now that core is the start, and nothing was committed.
+pub fn new_table_shows_start()
+    ensures { NewTableShowsStart }
 {}
 
 /// Seats that did nothing yet can be handed in to close the table.
