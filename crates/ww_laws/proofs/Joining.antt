@@ -22,7 +22,7 @@ use Rattle.ww_model.proofs.Holders.{other_has}
 use Rattle.ww_model.proofs.Owning.{owns_found, owns_none}
 use Rattle.ww_model.proofs.Kept.{reached_is_lawful}
 use Rattle.ww_model.proofs.Leaving.{owned_below}
-use Rattle.ww_laws.proofs.Beyond.{guards_are, stamps_beyond}
+use Rattle.ww_model.proofs.Beyond.{guards_are, stamps_beyond}
 use Rattle.ww_laws.proofs.Moves.{stay, first, and_then, Sparing, ButSigns}
 use Rattle.ww_laws.proofs.InsideMoves.{stands_or_not, waiter_may_own, waiter_is_calm, free_or_other, leave}
 use Rattle.ww_laws.proofs.OutsideMoves.{search, guard_is}

@@ -1,4 +1,3 @@
-pub mod Beyond
 pub mod Moves
 pub mod Oldest
 pub mod Burden

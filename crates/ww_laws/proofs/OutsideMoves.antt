@@ -23,7 +23,7 @@ use Rattle.ww_model.proofs.Kept.{reached_is_lawful}
 use Rattle.ww_model.proofs.Rings.{YieldsTo, Onward, waiting_owner, edge}
 use Rattle.ww_model.proofs.Leaving.{waiters_are_seats, condemned_can_die}
 use Rattle.ww_model.proofs.Ranges.{takers_are_seats}
-use Rattle.ww_laws.proofs.Beyond.{queues_beyond, guards_are, stamps_beyond}
+use Rattle.ww_model.proofs.Beyond.{queues_beyond, guards_are, stamps_beyond}
 use Rattle.ww_laws.proofs.Moves.{stay, first, Sparing, ButSigns}
 use Rattle.ww_laws.proofs.Burden.{GetsLighter, goes_and_takes, goes_and_gives, goes_and_dies, ends}
 use Rattle.ww_laws.proofs.InsideMoves.{with_signs, stands_or_not, waiter_may_own, waiter_is_calm, inside_move}

@@ -22,7 +22,7 @@ use Rattle.ww_model.proofs.Owning.{owns_found, owns_none}
 use Rattle.ww_model.proofs.Slots.{found_below}
 use Rattle.ww_model.proofs.Waiters.{has_waiter, waiter_stands, stands_waiter}
 use Rattle.ww_model.proofs.Kept.{reached_is_lawful}
-use Rattle.ww_laws.proofs.Beyond.{queues_beyond, guards_are}
+use Rattle.ww_model.proofs.Beyond.{queues_beyond, guards_are}
 
 -- ---- parts of the test
 

@@ -27,6 +27,7 @@ pub mod Cores
 pub mod Starts
 pub mod Runs
 pub mod Ranges
+pub mod Beyond
 pub mod Effects
 pub mod Chains
 pub mod Condemned

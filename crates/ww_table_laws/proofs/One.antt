@@ -15,7 +15,7 @@ use Rattle.ww_model.specs.State.{State, owner_as, waiting, one_if, pickup, word_
 use Rattle.ww_model.specs.Lawful.{IsLawful}
 use Rattle.ww_model.proofs.Kept.{reached_is_lawful}
 use Rattle.ww_model.proofs.Words.{handed_same}
-use Rattle.ww_laws.proofs.Beyond.{queues_beyond, guards_are}
+use Rattle.ww_model.proofs.Beyond.{queues_beyond, guards_are}
 use Rattle.ww_plain.specs.History.{Recorded, part_of}
 use Rattle.ww_view.proofs.Written.{word_is_valid}
 use Rattle.ww_rule.specs.declared.cells.Cell.{Cell}
