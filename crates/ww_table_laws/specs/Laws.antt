@@ -4,14 +4,16 @@ use mathlib.Core.Option.{some}
 use lib.ListN.{get_elem?}
 use Rattle.atomic_table.specs.Table.{stepped, keeps, takes, gives, rest, opening}
 use Rattle.ww_word.specs.Owner.{packed}
+use Rattle.ww_model.specs.declared.event.Event.{Event}
 use Rattle.ww_model.specs.declared.event.Event.TheVariants.{Begin, Fast, FastGive, Commit, End}
 use Rattle.ww_model.specs.State.{State, start}
+use Rattle.ww_model.specs.Event.{after}
 use Rattle.ww_model.specs.Lawful.{IsLawful}
 use Rattle.ww_model.specs.Waits.{IsCycle, AreContexts, IsOneOf, IsCondemned}
 use Rattle.ww_plain.specs.declared.node.Node.{Node}
 use Rattle.ww_plain.specs.declared.history.Record.{Record}
 use Rattle.ww_plain.specs.Graph.{IsGraph, node_at}
-use Rattle.ww_plain.specs.History.{recorded_of, last_graph}
+use Rattle.ww_plain.specs.History.{Recorded, recorded_of, last_graph}
 use Rattle.ww_view.specs.View.{owns, IsAway}
 use Rattle.ww_view.specs.May.{MayFast}
 use Rattle.ww_view.specs.Made.{ended}
@@ -71,6 +73,10 @@ RuledIsLawful = (key : Start) (s : St) (r : Ruled key s) → IsSafe r.core
 -- Whatever reached states the rule finds in a table, they are one: in each lock, seat and count. So are the commits.
 abbrev pub ShownIsOne : Type 0
 ShownIsOne = (key : Start) (s : St) (r r' : Ruled key s) → (r.core ≡ r'.core) × (r.log ≡ r'.log)
+
+-- so after a step that is an event that one state is the state after the event, and a run to the state before goes on
+abbrev pub StepsExtendTheRun : Type 0
+StepsExtendTheRun = (key : Start) (s : St) (r : Ruled key s) (e : Event) (log : List Recorded) (s' : St) → MakesWith key s r e log s' → (r' : Ruled key s') → (r'.core ≡ after r.core e) × (r'.log ≡ log)
 
 -- the rule holds of a table made just now, and tells the start of the core and no commits
 abbrev pub NewTableShowsStart : Type 0

@@ -1,6 +1,6 @@
 //! Laws of the table: each function's contract is one. A step's own call cites the lemma that its law does.
 
-ghost use Rattle.ww_table_laws.specs.Laws.{DrawIsBegin, TakeFreeIsFast, GiveFreeIsFastGive, EndIsEnd, PlaceIsCommit, RuledIsLawful, ShownIsOne, NewTableShowsStart, NewSeatsCanClose};
+ghost use Rattle.ww_table_laws.specs.Laws.{DrawIsBegin, TakeFreeIsFast, GiveFreeIsFastGive, EndIsEnd, PlaceIsCommit, RuledIsLawful, ShownIsOne, StepsExtendTheRun, NewTableShowsStart, NewSeatsCanClose};
 
 /// From every table that the rule allows, a draw is the event Begin on what is shown.
 pub fn draw_is_begin()
@@ -36,6 +36,11 @@ pub fn ruled_is_lawful()
 /// A table tells one core, and one history: the words, the lists and nodes at home and the views determine them.
 pub fn shown_is_one()
     ensures { ShownIsOne }
+{}
+
+/// A step that is an event leads from that core to the core after the event, whatever state the rule finds there.
+pub fn steps_extend_the_run()
+    ensures { StepsExtendTheRun }
 {}
 
 /// Of a table made just now that core is the start, and nothing was committed.
