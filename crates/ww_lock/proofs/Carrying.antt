@@ -45,7 +45,7 @@ pub record HasMoved (h : Hand) (p : Setting) (q : Seat16) : Type 0 where
 
 -- a state of these parts is seen as a holding of these
 pub holding_is : (h g : Hand) (w p : Setting) (q : Seat16) → p ≡ w → IsAtHome (holding_of h) w → Carries h → HasMoved h p q → g.seat ≡ q → g.left ≡ h.left
-    → holding_of g ≡ record (holding_of h) { stamp = q.stamp; held = g.held.items; seen = g.seen; tries = q.seat.me.0.part.core.tries }
+    → holding_of g ≡ record (holding_of h) { draws = q.seat.me.0.part.draws; stamp = q.stamp; held = g.held.items; seen = g.seen; tries = q.seat.me.0.part.core.tries }
 holding_is h g w p q is home c m seat left =
     let t = at_table (holding_of h) w p is home in
     let table : q.seat.table_id ≡ h.seat.seat.table_id = m.settled.seated.home ∙ sym t.0 in
@@ -71,7 +71,7 @@ carries_as h g w p q is home c m seat kind size held owned marks draws commits =
 
 pub record Begins (h g : Hand) : Type 0 where
   pub fresh : CarriesFresh g
-  pub is : holding_of g ≡ record (holding_of h) { stamp = g.seat.stamp }
+  pub is : holding_of g ≡ record (holding_of h) { draws = (holding_of h).draws + 1; stamp = g.seat.stamp }
   pub stamped : 0 < g.seat.stamp
 
 pub begins : (h : Hand) (w p : Setting) (q : Seat16) (k : ℕ) → p ≡ w → IsAtHome (holding_of h) w → CarriesFresh h → h.seat.seat.me.0.part.draws + h.left + 1 < 2 ^ 32
@@ -86,7 +86,7 @@ begins h w p q k is home f few settled records b pos =
         seen = λ n among. ap (λ hs. get_elem? hs n) b.held ∙ f.seen n among;
         commits = omega (arith, many, f.commits);
       };
-      is = holding_is h g w p q is home c m refl refl ∙ rw b.tries refl;
+      is = holding_is h g w p q is home c m refl refl ∙ rw (b.draws, b.tries) refl;
       stamped = omega (arith, pos, b.stamp, settled.seated.stamp);
     }
 
@@ -101,7 +101,7 @@ ends h w p q is home c settled records e =
     let m : HasMoved h p q = record { settled = settled; records = records; who = e.who; kind = e.kind } in
     let many : length q.records.items ≡ length h.seat.records.items = ap (λ r. length r.items) records in record {
       carries = carries_as h g w p q is home c m refl refl refl c.held (λ n. ap (λ (os : List Bool). get_or os n false) e.owned ∙ c.owned n) (c.marks ∙ sym e.owned) (omega (arith, c.draws, e.draws)) (omega (arith, many, c.commits));
-      is = holding_is h g w p q is home c m refl refl ∙ rw (sym settled.seated.stamp ∙ e.stamp, e.tries) refl;
+      is = holding_is h g w p q is home c m refl refl ∙ rw (e.draws, sym settled.seated.stamp ∙ e.stamp, e.tries) refl;
     }
 
 -- ---- locks
@@ -177,7 +177,7 @@ takes h g w p q n x is home f lt new settled records t once seat kind left grown
       is = record {
         new = new;
         contents = x;
-        added = holding_is h g w p q is home c m seat left ∙ rw (grown, read, seat, sym settled.seated.stamp ∙ t.same.stamp ∙ c.settled.seated.stamp) refl;
+        added = holding_is h g w p q is home c m seat left ∙ rw (grown, read, seat, t.same.draws, sym settled.seated.stamp ∙ t.same.stamp ∙ c.settled.seated.stamp) refl;
         once = subst (λ (s : Seat16). TriedOnce h.seat.seat.me s.seat.me) (sym seat) once;
       };
     }
@@ -205,7 +205,7 @@ keeps h w p q is home f settled records b once =
         seen = λ n among. ap (λ hs. get_elem? hs n) b.held ∙ f.seen n among;
         commits = omega (arith, many, f.commits);
       };
-      is = record { same = holding_is h g w p q is home c m refl refl ∙ rw (sym settled.seated.stamp ∙ b.same.stamp ∙ c.settled.seated.stamp) refl; once = once };
+      is = record { same = holding_is h g w p q is home c m refl refl ∙ rw (b.same.draws, sym settled.seated.stamp ∙ b.same.stamp ∙ c.settled.seated.stamp) refl; once = once };
     }
 
 -- what has to die holds a node
@@ -281,7 +281,7 @@ gives h g w p q front n is home c was settled records b seat kind left now marke
           (λ k. owns_less h.seat.seat.me.0.part.core.owned q.seat.me.0.part.core.owned front n wide b.owned (λ j. c.owned j ∙ ap (is_among j) was) apart.1 k ∙ ap (is_among k) (sym now))
           (marked ∙ ap (λ (os : List Bool). set os n false) c.marks ∙ sym b.owned)
           (omega (arith, c.draws, b.same.draws, left)) (omega (arith, many, c.commits, left));
-      is = holding_is h g w p q is home c m seat left ∙ rw (seen, b.tries, sym settled.seated.stamp ∙ b.same.stamp ∙ c.settled.seated.stamp) refl;
+      is = holding_is h g w p q is home c m seat left ∙ rw (seen, b.same.draws, b.tries, sym settled.seated.stamp ∙ b.same.stamp ∙ c.settled.seated.stamp) refl;
     }
 
 -- a state is at home where one that differs in the nodes that are held was

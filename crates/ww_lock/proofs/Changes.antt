@@ -179,7 +179,7 @@ commits h w pl q p r after ns told is home f settled b same seq reply capacity =
         commits = omega (arith, many, f.commits);
       };
       is = record {
-        own = rw (table, who, stamp, own, room, b.tries) refl;
+        own = rw (table, who, b.draws, stamp, own, room, b.tries) refl;
         above = below_as told.place h.seat.records.items (subst (AllByRecursion (λ x. x.0 < told.place)) (sym c.settled.seated.records) b.above);
         seq = seq ∙ sym size;
         reply = reply;

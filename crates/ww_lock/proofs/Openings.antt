@@ -42,8 +42,9 @@ new_holding t key k h new none seen =
     let list : h.seat.records.items ≡ [] = new.seated.records ∙ ap (λ (m : Sat). m.0.part.own) new.me in
     let stamp : h.seat.stamp ≡ 0 = sym new.seated.stamp ∙ ap (λ (m : Sat). m.0.part.core.stamp) new.me in
     let own : own_of h.seat.records.items ≡ [] = ap own_of list in
+    let draws : h.seat.seat.me.0.part.draws ≡ 0 = ap (λ (m : Sat). m.0.part.draws) new.me in
     let tries : h.seat.seat.me.0.part.core.tries ≡ 0 = ap (λ (m : Sat). m.0.part.core.tries) new.me in
-    rw (new.seated.home, new.number, stamp, own, none, seen, tries) refl
+    rw (new.seated.home, new.number, draws, stamp, own, none, seen, tries) refl
 
 pub new_idle : (t : TableId) (key : Start) (k : ℕ) (q : Seat16) → IsNew t key k q → q.stamp ≡ 0
 new_idle t key k q new = sym new.seated.stamp ∙ ap (λ (m : Sat). m.0.part.core.stamp) new.me

@@ -15,6 +15,7 @@ holding_of h = record {
   home = h.seat.seat.table_id;
   caller = h.seat.who;
   left = h.left;
+  draws = h.seat.seat.me.0.part.draws;
   stamp = h.seat.stamp;
   own = own_of h.seat.records.items;
   room = vec_capacity h.seat.records - vec_len h.seat.records;

@@ -15,14 +15,16 @@ use Rattle.ww_plain.specs.History.{Recorded, recorded_of}
 abbrev pub Home : Type 0
 Home = TableId
 
--- Its world and its number there; how many contexts and solos it may still start; its stamp, 0 without a context; its
--- own list: all its commits with their places, oldest first, with room for so many more; the nodes that it holds, in
--- the order in which it took them; the graph as it has seen it, of which the nodes held are as they were when they were
--- locked; and how often it tried to take a lock at once, by one step that a free lock allows.
+-- Its world and its number there; how many contexts and solos it may still start; how many contexts it has begun, for
+-- each of which it drew a stamp; its stamp, 0 without a context; its own list: all its commits with their places,
+-- oldest first, with room for so many more; the nodes that it holds, in the order in which it took them; the graph as
+-- it has seen it, of which the nodes held are as they were when they were locked; and how often it tried to take a lock
+-- at once, by one step that a free lock allows.
 pub record Holding : Type 0 where
   pub home : Home
   pub caller : ℕ
   pub left : ℕ
+  pub draws : ℕ
   pub stamp : ℕ
   pub own : List (ℕ × Recorded)
   pub room : ℕ

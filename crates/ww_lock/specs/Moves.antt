@@ -18,12 +18,12 @@ with_node s n x = record s { held = s.held ++ n ∷ []; seen = slice_set s.seen 
 abbrev pub emptied : Holding → Holding
 emptied s = record s { held = [] }
 
--- a context was started, with a stamp, for one of what was left; it holds nothing
+-- one context was started, with a stamp, for one of what was left; it holds nothing
 pub record IsBegun (s a : Holding) : Type 0 where
   pub some : 1 ≤ s.left
   pub is_stamped : 1 ≤ a.stamp
   pub nothing : a.held ≡ []
-  pub rest : a ≡ record s { left = s.left - 1; stamp = a.stamp }
+  pub rest : a ≡ record s { left = s.left - 1; draws = s.draws + 1; stamp = a.stamp }
 
 -- It tried to take a lock at once, or didn't, and tried no second time: all else is as it was.
 pub record HasTried (s a : Holding) : Type 0 where

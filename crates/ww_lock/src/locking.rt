@@ -20,7 +20,7 @@ impl Hand {
         requires idle { self.old.seat.stamp ≡ 0 }
         requires nothing { self.old.held.items ≡ [] }
         ensures fresh { CarriesFresh self.new }
-        ensures begun { holding_of self.new ≡ record (holding_of self.old) { stamp = self.new.seat.stamp } }
+        ensures begun { holding_of self.new ≡ record (holding_of self.old) { draws = (holding_of self.old).draws + 1; stamp = self.new.seat.stamp } }
         ensures stamp { 0 < self.new.seat.stamp }
         ensures unmet { met_of self.new ≡ None }
     {

@@ -1,6 +1,6 @@
 -- What becomes of a transaction, and of the pass that it is given.
-use Rattle.std.specs.Prelude.{ℕ, ◌≡◌, ◌≤◌, ◌-◌, ◌∷◌, ◌++◌, [], length, Some, None}
-use Rattle.ww_plain.specs.Transaction.{Transaction, listed, FirstDouble}
+use Rattle.std.specs.Prelude.{ℕ, ◌≡◌, ◌≤◌, ◌+◌, ◌-◌, ◌∷◌, ◌++◌, [], length, Some, None}
+use Rattle.ww_plain.specs.Transaction.{Transaction, peek, listed, FirstDouble}
 use Rattle.ww_plain.specs.Meaning.{answer_of}
 use Rattle.ww_lock.specs.declared.prepared.Receipt.{Receipt}
 use Rattle.ww_lock.specs.Holding.{Holding, AreBelow}
@@ -11,13 +11,19 @@ use Rattle.ww_users.specs.Ways.{IsReturned}
 use Rattle.ww_txn.specs.declared.transacting.TxnFault.{TxnFault}
 use Rattle.ww_txn.specs.declared.transacting.TxnFault.TheVariants.{PassSpent, Already, NoMemory}
 
+-- how many contexts making it begins: none for a peek, else one
+abbrev pub contexts_of : Transaction → ℕ
+contexts_of (peek node) = 0
+contexts_of _ = 1
+
 -- Exactly one record more: that of this transaction, with the place, the number and the answer that the receipt
--- tells. The pass holds no lock, and has one context less to start.
+-- tells. The pass holds no lock, and has one context less to start; it has begun as many as such a transaction begins.
 pub record IsTransacted (s a : Holding) (txn : Transaction) (told : Receipt) : Type 0 where
   pub some : 1 ≤ s.left
   pub no_double : FirstDouble (listed txn) None
   pub rest : a ≡ record s {
     left = s.left - 1;
+    draws = s.draws + contexts_of txn;
     stamp = 0;
     own = s.own ++ (
       told.place,
@@ -40,8 +46,8 @@ pub record IsTransacted (s a : Holding) (txn : Transaction) (told : Receipt) : T
 -- why nothing was recorded: first it is looked whether the pass has a context left, then for a double
 abbrev pub IsTxnFault : Holding → Transaction → Holding → TxnFault → Type 0
 IsTxnFault s txn a PassSpent = (s.left ≡ 0) × (a ≡ s)
-IsTxnFault s txn a (Already n) = FirstDouble (listed txn) (Some n) × IsReturned s a
-IsTxnFault s txn a NoMemory = FirstDouble (listed txn) None × IsReturned s a
+IsTxnFault s txn a (Already n) = FirstDouble (listed txn) (Some n) × IsReturned s (contexts_of txn) a
+IsTxnFault s txn a NoMemory = FirstDouble (listed txn) None × IsReturned s (contexts_of txn) a
 
 abbrev pub txn_number : TxnFault → ℕ
 txn_number PassSpent = 4
@@ -53,11 +59,17 @@ abbrev pub fault_of : UserFault → TxnFault
 fault_of user.PassSpent = PassSpent
 fault_of (user.Already n) = Already n
 
--- A state of this pass, for one of the contexts and solos that it had left, that holds all that the transaction
--- depends on and may change.
+-- The one context more that this pass has begun, which holds all that the transaction depends on and may change.
 pub record IsReady (s : Holding) (txn : Transaction) (a : Holding) : Type 0 where
   pub some : 1 ≤ s.left
   pub no_double : FirstDouble (listed txn) None
-  pub rest : a ≡ record s { left = s.left - 1; stamp = a.stamp; held = a.held; seen = a.seen; tries = a.tries }
+  pub rest : a ≡ record s {
+    left = s.left - 1;
+    draws = s.draws + 1;
+    stamp = a.stamp;
+    held = a.held;
+    seen = a.seen;
+    tries = a.tries;
+  }
   pub size : length a.seen ≡ length s.seen
   pub covers : Covers a txn

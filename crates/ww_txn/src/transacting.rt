@@ -1,7 +1,7 @@
 ghost use Rattle.std.specs.Prelude.{◌≡◌, ◌<◌, length, IfOk, IfErr, OnOk};
 ghost use Rattle.ww_plain.specs.Transaction.{transaction_of, peek, Fits};
 ghost use Rattle.ww_lock.specs.Holding.{IsAtHome};
-ghost use Rattle.ww_txn.specs.Transact.{IsTransacted, IsTxnFault};
+ghost use Rattle.ww_txn.specs.Transact.{IsTransacted, IsTxnFault, contexts_of};
 
 use crate::gate::Gate;
 use crate::ways::lock_all;
@@ -84,6 +84,7 @@ fn transact_together<R: Wait, G: Gate>(
 ) -> (Pass, Result<Receipt, TxnFault>)
     requires home { IsAtHome pass world.now }
     requires fits { Fits (length world.now.first) (transaction_of txn) }
+    requires one { contexts_of (transaction_of txn) ≡ 1 }
     ensures home { IsAtHome result.0 world.now }
     ensures ok { IfOk result.1 (IsTransacted pass result.0 (transaction_of txn)) }
     ensures err { IfErr result.1 (IsTxnFault pass (transaction_of txn) result.0) }

@@ -1,5 +1,5 @@
 -- Contexts of a pass, through their tries.
-use Rattle.std.proofs.Common.{◌≡◌, ℕ, ◌-◌, length, refl, sym, ap, ◌∙◌, length-set}
+use Rattle.std.proofs.Common.{◌≡◌, ℕ, ◌+◌, ◌-◌, length, refl, sym, ap, ◌∙◌, length-set}
 use Rattle.ww_lock.specs.Holding.{Holding}
 use Rattle.ww_lock.specs.Moves.{HasTried, IsTaken}
 use Rattle.ww_users.specs.Ways.{IsContext}
@@ -34,6 +34,6 @@ context_later s a b h more =
       some = h.some;
       stamped = rw stamps h.stamped;
       rest = more.rest ∙ ap (λ (c : Holding). record c { held = b.held; seen = b.seen; tries = b.tries }) h.rest
-          ∙ ap (λ k. record s { left = s.left - 1; stamp = k; held = b.held; seen = b.seen; tries = b.tries }) (sym stamps);
+          ∙ ap (λ k. record s { left = s.left - 1; draws = s.draws + 1; stamp = k; held = b.held; seen = b.seen; tries = b.tries }) (sym stamps);
       size = more.size ∙ h.size;
     }

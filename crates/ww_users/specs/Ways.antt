@@ -1,5 +1,5 @@
 -- What the three ways of taking many locks give.
-use Rattle.std.specs.Prelude.{ℕ, ◌≡◌, ◌≤◌, ◌-◌, ◌==◌, ◌∷◌, [], not, List, length, Option, None, Some}
+use Rattle.std.specs.Prelude.{ℕ, ◌≡◌, ◌≤◌, ◌+◌, ◌-◌, ◌==◌, ◌∷◌, [], not, List, length, Option, None, Some}
 use Rattle.std.specs.List.{filter}
 use Rattle.ww_plain.specs.Numbers.{is_among}
 use Rattle.ww_plain.specs.Transaction.{FirstDouble}
@@ -7,17 +7,33 @@ use Rattle.ww_lock.specs.Holding.{Holding}
 use Rattle.ww_users.specs.declared.fault.UserFault.{UserFault}
 use Rattle.ww_users.specs.declared.fault.UserFault.TheVariants.{PassSpent, Already}
 
--- a pass that comes back after a refusal: one context less to start, no context, no lock, and the same own list
-pub record IsReturned (s a : Holding) : Type 0 where
+-- A pass that comes back after a refusal: one context less to start, so many more begun, no context, no lock, and the
+-- same own list.
+pub record IsReturned (s : Holding) (begun : ℕ) (a : Holding) : Type 0 where
   pub some : 1 ≤ s.left
-  pub rest : a ≡ record s { left = s.left - 1; stamp = 0; held = []; room = a.room; seen = a.seen; tries = a.tries }
+  pub rest : a ≡ record s {
+    left = s.left - 1;
+    draws = s.draws + begun;
+    stamp = 0;
+    held = [];
+    room = a.room;
+    seen = a.seen;
+    tries = a.tries;
+  }
   pub size : length a.seen ≡ length s.seen
 
--- a context of this pass, that holds some nodes
+-- the one context more that this pass has begun, which holds some nodes
 pub record IsContext (s a : Holding) : Type 0 where
   pub some : 1 ≤ s.left
   pub stamped : 1 ≤ a.stamp
-  pub rest : a ≡ record s { left = s.left - 1; stamp = a.stamp; held = a.held; seen = a.seen; tries = a.tries }
+  pub rest : a ≡ record s {
+    left = s.left - 1;
+    draws = s.draws + 1;
+    stamp = a.stamp;
+    held = a.held;
+    seen = a.seen;
+    tries = a.tries;
+  }
   pub size : length a.seen ≡ length s.seen
 
 -- it holds the nodes of the list, and no others
@@ -36,7 +52,7 @@ TookInOrder list a = (kept : Option ℕ) × (a.held ≡ in_order kept list)
 -- why the nodes of the list were not locked: the budget is looked at first
 abbrev pub IsUserFault : Holding → List ℕ → Holding → UserFault → Type 0
 IsUserFault s list a PassSpent = (s.left ≡ 0) × (a ≡ s)
-IsUserFault s list a (Already n) = FirstDouble list (Some n) × IsReturned s a
+IsUserFault s list a (Already n) = FirstDouble list (Some n) × IsReturned s 1 a
 
 abbrev pub user_number : UserFault → ℕ
 user_number PassSpent = 4
