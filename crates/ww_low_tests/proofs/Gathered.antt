@@ -5,9 +5,8 @@ use Rattle.std.proofs.lemmas.Bool.{cases_lt}
 use Rattle.ww_queue.specs.Queue.{Has}
 use Rattle.ww_table.specs.declared.board.Board.{Board}
 use Rattle.ww_table.specs.declared.seat.Seat16.{Seat16}
-use Rattle.ww_table.specs.Seat.{IsNew}
+use Rattle.ww_table.specs.Seat.{IsNew, size_of}
 use Rattle.ww_table.specs.Closed.{HasCome, HaveAllCome}
-use Rattle.ww_rounds.specs.Resting.{size_of}
 use Rattle.ww_rounds.specs.Standing.{Deeds, Did, Stands, at_first}
 use Rattle.ww_rounds.proofs.Standing.{bare, first_stands, nothing_out}
 use Rattle.ww_low_tests.specs.Gathered.{HaveCome}

@@ -4,10 +4,9 @@ use Rattle.ww_queue.specs.declared.kind.Kind.{Kind}
 use Rattle.ww_view.specs.View.{IsAway}
 use Rattle.ww_table.specs.declared.board.Board.{Board}
 use Rattle.ww_table.specs.declared.seat.Seat16.{Seat16}
-use Rattle.ww_table.specs.Seat.{IsSeated}
+use Rattle.ww_table.specs.Seat.{IsSeatOf, size_of}
 use Rattle.ww_seat.specs.Orderly.{IsOrderly}
 use Rattle.ww_seat.specs.Looks.{IsOutside}
-use Rattle.ww_rounds.specs.Resting.{size_of}
 
 -- which locks a seat owns: none, or just this one
 abbrev pub none : List Bool
@@ -18,7 +17,7 @@ just n = slice_set none n true
 
 -- a seat of this board, outside each guard, that owns just these locks in a context
 pub record Owns (board : Board) (k : Kind) (locks : List Bool) (s : Seat16) : Type 0 where
-  pub seated : IsSeated board.table.shared.table_id s
+  pub seated : IsSeatOf board s
   pub orderly : IsOrderly (size_of board) s.seat.me
   pub kind : s.seat.me.0.part.core.kind ≡ k
   pub context : 0 < s.seat.me.0.part.core.stamp

@@ -3,8 +3,7 @@
 
 ghost use Rattle.std.specs.Prelude.{ℕ, ◌≡◌, ◌<◌, Bool, List, false, true, slice_index_or, slice_set, IfOk};
 ghost use Rattle.ww_queue.specs.declared.kind.Kind.{Kind};
-ghost use Rattle.ww_table.specs.Seat.{IsNew};
-ghost use Rattle.ww_rounds.specs.Resting.{size_of};
+ghost use Rattle.ww_table.specs.Seat.{IsNew, size_of};
 ghost use Rattle.ww_low_tests.specs.Looking.{Owns, Holds, MayLook, just};
 
 use crate::plain::{graph_of, node};

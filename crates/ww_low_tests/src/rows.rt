@@ -1,7 +1,7 @@
 //! One worked row of two seats on two nodes, by the steps of the table: each call alone, and all words after it.
 
 ghost use Rattle.std.specs.Prelude.{◌≡◌, ◌∷◌, [], IfOk};
-ghost use Rattle.ww_rounds.specs.Resting.{size_of};
+ghost use Rattle.ww_table.specs.Seat.{size_of};
 ghost use Rattle.ww_rounds.specs.Standing.{Did, at_first, began, took, committed, gave, ended};
 
 use crate::rings::{compare, two_seats};

@@ -1,7 +1,8 @@
 //! A load: some threads at once, each with a seat of its own that makes so many rounds.
 
 ghost use Rattle.std.specs.Prelude.{◌≡◌, ◌<◌, ◌≤◌, length, IfOk, IfSome};
-ghost use Rattle.ww_rounds.specs.Resting.{IsResting, size_of};
+ghost use Rattle.ww_rounds.specs.Resting.{IsResting};
+ghost use Rattle.ww_table.specs.Seat.{size_of};
 ghost use Rattle.ww_rounds.specs.Standing.{IsUnused};
 
 use rand_core::utils::NextWord;

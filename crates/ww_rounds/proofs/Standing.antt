@@ -27,13 +27,13 @@ use Rattle.ww_rule.specs.Rule.{Sat, first_part}
 use Rattle.atomic_table.specs.Seated.{TableId}
 use Rattle.ww_table.specs.declared.board.Board.{Board}
 use Rattle.ww_table.specs.declared.seat.Seat16.{Seat16}
-use Rattle.ww_table.specs.Seat.{IsSeated}
+use Rattle.ww_table.specs.Seat.{IsSeated, size_of}
 use Rattle.ww_rule.specs.Out.{AreOthers, slot_of}
 use Rattle.ww_rule.specs.Steps.{MayDraw, MayEnd, MayPlace, known, graph_of, drawing, taking, giving, knowing, placing, seat_of}
 use Rattle.ww_rule.proofs.Places.{graph_at, renewed_long, renewed_at}
 use Rattle.ww_rule.proofs.Seats.{bare_first}
 use Rattle.ww_table.specs.Made.{IsMade}
-use Rattle.ww_rounds.specs.Resting.{IsResting, size_of}
+use Rattle.ww_rounds.specs.Resting.{IsResting}
 use Rattle.ww_rounds.specs.Standing.{Stage, resting, fresh, working, Deeds, IsAt, count_of, IsHeld, Stands, Did, at_first, IsUnused, began, took, gave, committed, ended, CanTake, raised_one, HasRaised}
 use Rattle.ww_rounds.proofs.Rounds.{all_from}
 use Rattle.ww_rounds.proofs.Slots.{slot_here, slot_else, count_here, count_else, one_less, same_count, others_long, others_had, others_else}

@@ -3,12 +3,8 @@ use Rattle.std.specs.Prelude.{ℕ, ◌≡◌, [], length}
 use Rattle.ww_view.specs.View.{IsAway, IsBare}
 use Rattle.ww_table.specs.declared.board.Board.{Board}
 use Rattle.ww_table.specs.declared.seat.Seat16.{Seat16}
-use Rattle.ww_rule.specs.Rule.{Sat, first_graph}
-use Rattle.ww_table.specs.Seat.{IsSeated}
-
--- how many nodes the board has
-abbrev pub size_of : Board → ℕ
-size_of board = length (first_graph board.table.shared.key)
+use Rattle.ww_rule.specs.Rule.{Sat}
+use Rattle.ww_table.specs.Seat.{IsSeatOf, size_of}
 
 -- it has no context, no lock and no slot, and is inside no guard and in no wait list
 pub record Rests (size : ℕ) (m : Sat) : Type 0 where
@@ -21,5 +17,5 @@ pub record Rests (size : ℕ) (m : Sat) : Type 0 where
 
 -- it rests, and is a seat of this board
 pub record IsResting (board : Board) (s : Seat16) : Type 0 where
-  pub seated : IsSeated board.table.shared.table_id s
+  pub seated : IsSeatOf board s
   pub rests : Rests (size_of board) s.seat.me

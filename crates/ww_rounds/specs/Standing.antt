@@ -11,9 +11,8 @@ use Rattle.ww_rule.specs.declared.cells.Cell.{Cell}
 use Rattle.ww_rule.specs.declared.cells.Cell.TheVariants.{Content}
 use Rattle.ww_table.specs.declared.seat.Seat16.{Seat16}
 use Rattle.ww_rule.specs.Rule.{Sat}
-use Rattle.ww_table.specs.Seat.{IsSeated}
+use Rattle.ww_table.specs.Seat.{IsSeatOf, size_of}
 use Rattle.ww_rule.specs.Out.{slot_of}
-use Rattle.ww_rounds.specs.Resting.{size_of}
 use Rattle.ww_rounds.specs.declared.calls.Tally.{Tally}
 
 -- how far its context is: it has none, one that took no lock yet, or one that did
@@ -64,7 +63,7 @@ pub record Stands (size : ℕ) (d : Deeds) (m : Sat) : Type 0 where
 
 -- it did this, and is a seat of this board
 pub record Did (board : Board) (d : Deeds) (s : Seat16) : Type 0 where
-  pub seated : IsSeated board.table.shared.table_id s
+  pub seated : IsSeatOf board s
   pub stands : Stands (size_of board) d s.seat.me
 
 -- ---- what each call makes of it

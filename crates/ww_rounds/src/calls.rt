@@ -4,9 +4,8 @@ ghost use Rattle.std.specs.Prelude.{ℕ, ◌≡◌, ◌≢◌, ◌<◌, ◌≤�
 ghost use Rattle.ww_plain.specs.declared.node.Node.{Node};
 ghost use Rattle.ww_plain.specs.Numbers.{is_among};
 ghost use Rattle.ww_rule.specs.declared.cells.Cell.TheVariants.{Content};
-ghost use Rattle.ww_table.specs.Seat.{IsSeated};
+ghost use Rattle.ww_table.specs.Seat.{IsSeatOf, size_of};
 ghost use Rattle.ww_rule.specs.Out.{slot_of};
-ghost use Rattle.ww_rounds.specs.Resting.{size_of};
 ghost use Rattle.ww_rounds.specs.Standing.{Deeds, Did, resting, count_of, began, took, gave, committed, ended, at_rest, CanTake, HasRaised, HasRounded};
 
 use std::alloc::{AllocError, Global};
@@ -66,10 +65,10 @@ pub fn end(board: &Board, seat: &mut Seat16) -> bool
 /// Adds 1 to a node that the seat has out.
 #[inline(always)]
 pub(crate) fn raise(board: &Board, seat: &mut Seat16, node: u8)
-    requires seat { IsSeated board.now.table.shared.table_id seat.old }
+    requires seat { IsSeatOf board.now seat.old }
     requires out { (x : Node) × (slot_of seat.old.seat.me.1 node ≡ Some (Content x)) }
     requires apart { (k : ℕ) → count_of seat.old.seat.me.1 k ≤ 1 }
-    ensures seat { IsSeated board.now.table.shared.table_id seat.new }
+    ensures seat { IsSeatOf board.now seat.new }
     ensures raised { HasRaised node seat.old.seat.me seat.new.seat.me }
 {
     let none = Node {

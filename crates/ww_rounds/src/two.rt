@@ -2,7 +2,7 @@
 
 ghost use Rattle.std.specs.Prelude.{ℕ, ◌≡◌, ◌≢◌, ◌<◌, ◌+◌, ◌^◌, ◌∷◌, [], true, IfOk, IfSome, OnErr};
 ghost use Rattle.ww_plain.specs.Numbers.{is_among};
-ghost use Rattle.ww_rounds.specs.Resting.{size_of};
+ghost use Rattle.ww_table.specs.Seat.{size_of};
 ghost use Rattle.ww_rounds.specs.Standing.{Deeds, Did, Stage, resting, fresh, working, committed, at_rest, at_work, HasRounded, HasTried};
 
 use crate::calls::{Tally, begin, end, give, raise, take};

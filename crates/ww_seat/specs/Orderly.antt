@@ -7,10 +7,11 @@ use Rattle.ww_plain.specs.declared.node.Node.{Node}
 use Rattle.ww_view.specs.View.{owns, IsAway}
 use Rattle.ww_rule.specs.declared.cells.Cell.{Cell}
 use Rattle.ww_rule.specs.declared.cells.Cell.TheVariants.{Content, Line}
+use Rattle.ww_table.specs.declared.board.Board.{Board}
 use Rattle.ww_table.specs.declared.seat.Seat16.{Seat16}
 use Rattle.ww_rule.specs.Layout.{list_at}
 use Rattle.ww_rule.specs.Rule.{Sat}
-use Rattle.ww_table.specs.Seat.{IsSeated}
+use Rattle.ww_table.specs.Seat.{IsSeated, size_of}
 use Rattle.ww_rule.specs.Out.{slot_of}
 
 -- no slot is out twice
@@ -35,3 +36,7 @@ pub record IsSettled (table : TableId) (size : ℕ) (s : Seat16) : Type 0 where
   pub seated : IsSeated table s
   pub orderly : IsOrderly size s.seat.me
   pub away : IsAway s.seat.me.0.part.core
+
+-- ... of this board
+abbrev pub IsSettledAt : Board → Seat16 → Type 0
+IsSettledAt board s = IsSettled board.table.shared.table_id (size_of board) s

@@ -1,19 +1,18 @@
 //! Contexts: one is begun with the next stamp, and ends where it holds nothing.
 
-ghost use Rattle.std.specs.Prelude.{◌≡◌, ◌<◌, length};
+ghost use Rattle.std.specs.Prelude.{◌≡◌, ◌<◌};
 ghost use Rattle.ww_view.specs.View.{IsBare};
-ghost use Rattle.ww_rule.specs.Rule.{first_graph};
 ghost use Rattle.ww_rule.specs.Steps.{MayDraw};
-ghost use Rattle.ww_seat.specs.Orderly.{IsSettled};
+ghost use Rattle.ww_seat.specs.Orderly.{IsSettledAt};
 ghost use Rattle.ww_seat.specs.Calls.{HasBegun, HasEnded};
 
 use ww_table::{Board, Seat16};
 
 /// Starts a context, and gives its stamp: one more than the stamp drawn last.
 pub fn begin(seat: &mut Seat16, board: &Board) -> u64
-    requires seat { IsSettled board.now.table.shared.table_id (length (first_graph board.now.table.shared.key)) seat.old }
+    requires seat { IsSettledAt board.now seat.old }
     requires may { MayDraw seat.old.seat.me.0.part }
-    ensures seat { IsSettled board.now.table.shared.table_id (length (first_graph board.now.table.shared.key)) seat.new }
+    ensures seat { IsSettledAt board.now seat.new }
     ensures begun { HasBegun seat.old.seat.me result seat.new.seat.me }
     ensures context { 0 < result }
     ensures records { seat.new.records ≡ seat.old.records }
@@ -23,10 +22,10 @@ pub fn begin(seat: &mut Seat16, board: &Board) -> u64
 
 /// Ends the context. A sign that it still has is taken back first: nobody signs a seat that holds nothing.
 pub fn end(seat: &mut Seat16, board: &Board)
-    requires seat { IsSettled board.now.table.shared.table_id (length (first_graph board.now.table.shared.key)) seat.old }
+    requires seat { IsSettledAt board.now seat.old }
     requires context { 0 < seat.old.seat.me.0.part.core.stamp }
     requires bare { IsBare seat.old.seat.me.0.part.core }
-    ensures seat { IsSettled board.now.table.shared.table_id (length (first_graph board.now.table.shared.key)) seat.new }
+    ensures seat { IsSettledAt board.now seat.new }
     ensures ended { HasEnded seat.old.seat.me seat.new.seat.me }
     ensures records { seat.new.records ≡ seat.old.records }
 {

@@ -1,11 +1,11 @@
 //! One try to take a lock at once, which a free lock with an empty wait list allows.
 
-ghost use Rattle.std.specs.Prelude.{◌≡◌, ◌<◌, length, false, Some, IfSome, IfNone};
+ghost use Rattle.std.specs.Prelude.{◌≡◌, ◌<◌, false, Some, IfSome, IfNone};
 ghost use Rattle.ww_view.specs.View.{owns, IsBare};
 ghost use Rattle.ww_view.specs.May.{WantsBase, WantsSigns};
-ghost use Rattle.ww_rule.specs.Rule.{first_graph};
-ghost use Rattle.ww_seat.specs.Orderly.{IsSettled};
+ghost use Rattle.ww_seat.specs.Orderly.{IsSettledAt};
 ghost use Rattle.ww_seat.specs.Calls.{HoldsAsBefore, HasTaken, TriedOnce};
+ghost use Rattle.ww_table.specs.Seat.{size_of};
 
 use ww_plain::Node;
 use ww_queue::Kind;
@@ -13,10 +13,10 @@ use ww_table::{Board, Seat16};
 
 /// Takes the sign back of a context that holds nothing.
 fn unsign_bare(seat: &mut Seat16, board: &Board)
-    requires seat { IsSettled board.now.table.shared.table_id (length (first_graph board.now.table.shared.key)) seat.old }
+    requires seat { IsSettledAt board.now seat.old }
     requires context { 0 < seat.old.seat.me.0.part.core.stamp }
     requires bare { IsBare seat.old.seat.me.0.part.core }
-    ensures seat { IsSettled board.now.table.shared.table_id (length (first_graph board.now.table.shared.key)) seat.new }
+    ensures seat { IsSettledAt board.now seat.new }
     ensures same { HoldsAsBefore seat.old.seat.me seat.new.seat.me }
     ensures tries { seat.new.seat.me.0.part.core.tries ≡ seat.old.seat.me.0.part.core.tries }
     ensures met { seat.new.seat.me.0.part.core.met ≡ seat.old.seat.me.0.part.core.met }
@@ -31,8 +31,8 @@ fn unsign_bare(seat: &mut Seat16, board: &Board)
 
 /// Takes the sign back where the context holds nothing: nobody waits for it then.
 fn unsign_if_bare(seat: &mut Seat16, board: &Board)
-    requires seat { IsSettled board.now.table.shared.table_id (length (first_graph board.now.table.shared.key)) seat.old }
-    ensures seat { IsSettled board.now.table.shared.table_id (length (first_graph board.now.table.shared.key)) seat.new }
+    requires seat { IsSettledAt board.now seat.old }
+    ensures seat { IsSettledAt board.now seat.new }
     ensures same { HoldsAsBefore seat.old.seat.me seat.new.seat.me }
     ensures tries { seat.new.seat.me.0.part.core.tries ≡ seat.old.seat.me.0.part.core.tries }
     ensures met { seat.new.seat.me.0.part.core.met ≡ seat.old.seat.me.0.part.core.met }
@@ -50,9 +50,9 @@ fn unsign_if_bare(seat: &mut Seat16, board: &Board)
 
 /// Sees to it that the sign doesn't keep the seat from wanting a lock. In Wait-Die whoever is signed owns a lock.
 fn unsign(seat: &mut Seat16, board: &Board, kind: Kind)
-    requires seat { IsSettled board.now.table.shared.table_id (length (first_graph board.now.table.shared.key)) seat.old }
+    requires seat { IsSettledAt board.now seat.old }
     requires kind { kind ≡ seat.old.seat.me.0.part.core.kind }
-    ensures seat { IsSettled board.now.table.shared.table_id (length (first_graph board.now.table.shared.key)) seat.new }
+    ensures seat { IsSettledAt board.now seat.new }
     ensures same { HoldsAsBefore seat.old.seat.me seat.new.seat.me }
     ensures tries { seat.new.seat.me.0.part.core.tries ≡ seat.old.seat.me.0.part.core.tries }
     ensures met { seat.new.seat.me.0.part.core.met ≡ seat.old.seat.me.0.part.core.met }
@@ -68,12 +68,12 @@ fn unsign(seat: &mut Seat16, board: &Board, kind: Kind)
 /// Takes a lock if it is free and nobody waits for it, and gives its node. It is the first try of every call that takes
 /// a lock: where it fails the seat may go on to want the lock.
 pub fn try_take(seat: &mut Seat16, board: &Board, kind: Kind, lock: u8) -> Option<Node>
-    requires seat { IsSettled board.now.table.shared.table_id (length (first_graph board.now.table.shared.key)) seat.old }
+    requires seat { IsSettledAt board.now seat.old }
     requires kind { kind ≡ seat.old.seat.me.0.part.core.kind }
-    requires lock { lock < length (first_graph board.now.table.shared.key) }
+    requires lock { lock < size_of board.now }
     requires lacks { owns seat.old.seat.me.0.part.core lock ≡ false }
     requires base { WantsBase seat.old.seat.me.0.part.core }
-    ensures seat { IsSettled board.now.table.shared.table_id (length (first_graph board.now.table.shared.key)) seat.new }
+    ensures seat { IsSettledAt board.now seat.new }
     ensures some { IfSome result (λ x. HasTaken seat.old.seat.me lock x seat.new.seat.me) }
     ensures none { IfNone result (HoldsAsBefore seat.old.seat.me seat.new.seat.me) }
     ensures met { IfNone result (seat.new.seat.me.0.part.core.met ≡ seat.old.seat.me.0.part.core.met) }

@@ -1,8 +1,7 @@
-ghost use Rattle.std.specs.Prelude.{◌≡◌, ◌<◌, length, true};
+ghost use Rattle.std.specs.Prelude.{◌≡◌, ◌<◌, true};
 ghost use Rattle.ww_view.specs.View.{owns};
-ghost use Rattle.ww_rule.specs.Rule.{first_graph};
-ghost use Rattle.ww_table.specs.Seat.{IsSeated};
-ghost use Rattle.ww_seat.specs.Orderly.{IsSettled};
+ghost use Rattle.ww_table.specs.Seat.{IsSeatOf, size_of};
+ghost use Rattle.ww_seat.specs.Orderly.{IsSettledAt};
 ghost use Rattle.ww_seat.specs.Calls.{HasGiven};
 ghost use Rattle.ww_seat.specs.Guards.{IsGiving, HasLet};
 
@@ -15,10 +14,10 @@ use ww_table::{Board, Seat16};
 /// Gives a lock back. Where somebody waits for it, the first waiter is woken, whether the lock was handed to it or is
 /// free: a waiter that parks looks only when it is woken.
 pub fn give<R: Wait>(rt: &R, seat: &mut Seat16, board: &Board, lock: u8, wakers: &[Unparker])
-    requires settled { IsSettled board.now.table.shared.table_id (length (first_graph board.now.table.shared.key)) seat.old }
-    requires lock { lock < length (first_graph board.now.table.shared.key) }
+    requires settled { IsSettledAt board.now seat.old }
+    requires lock { lock < size_of board.now }
     requires owner { owns seat.old.seat.me.0.part.core lock ≡ true }
-    ensures settled { IsSettled board.now.table.shared.table_id (length (first_graph board.now.table.shared.key)) seat.new }
+    ensures settled { IsSettledAt board.now seat.new }
     ensures given { HasGiven seat.old.seat.me lock seat.new.seat.me }
     ensures records { seat.new.records ≡ seat.old.records }
 {
@@ -31,10 +30,10 @@ pub fn give<R: Wait>(rt: &R, seat: &mut Seat16, board: &Board, lock: u8, wakers:
 /// Gives back a lock that somebody may wait for.
 #[cold]
 fn give_waited<R: Wait>(rt: &R, seat: &mut Seat16, board: &Board, lock: u8, wakers: &[Unparker])
-    requires settled { IsSettled board.now.table.shared.table_id (length (first_graph board.now.table.shared.key)) seat.old }
-    requires lock { lock < length (first_graph board.now.table.shared.key) }
+    requires settled { IsSettledAt board.now seat.old }
+    requires lock { lock < size_of board.now }
     requires owner { owns seat.old.seat.me.0.part.core lock ≡ true }
-    ensures settled { IsSettled board.now.table.shared.table_id (length (first_graph board.now.table.shared.key)) seat.new }
+    ensures settled { IsSettledAt board.now seat.new }
     ensures given { HasGiven seat.old.seat.me lock seat.new.seat.me }
     ensures records { seat.new.records ≡ seat.old.records }
 {
@@ -47,11 +46,11 @@ fn give_waited<R: Wait>(rt: &R, seat: &mut Seat16, board: &Board, lock: u8, wake
 /// Gives the lock back inside its guard, and tells who was the first waiter then.
 #[cold]
 fn give_inside<R: Wait>(rt: &R, seat: &mut Seat16, board: &Board, lock: u8) -> Option<Entry>
-    requires seat { IsSeated board.now.table.shared.table_id seat.old }
-    requires lock { lock < length (first_graph board.now.table.shared.key) }
-    requires giving { IsGiving (length (first_graph board.now.table.shared.key)) lock seat.old.seat.me }
-    ensures seat { IsSeated board.now.table.shared.table_id seat.new }
-    ensures given { HasLet (length (first_graph board.now.table.shared.key)) seat.old.seat.me lock seat.new.seat.me }
+    requires seat { IsSeatOf board.now seat.old }
+    requires lock { lock < size_of board.now }
+    requires giving { IsGiving (size_of board.now) lock seat.old.seat.me }
+    ensures seat { IsSeatOf board.now seat.new }
+    ensures given { HasLet (size_of board.now) seat.old.seat.me lock seat.new.seat.me }
     ensures records { seat.new.records ≡ seat.old.records }
 {
     for _ in rt.forever() {

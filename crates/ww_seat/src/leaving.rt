@@ -1,9 +1,8 @@
 //! Out of the guard.
-ghost use Rattle.std.specs.Prelude.{ℕ, suc, ◌≡◌, ◌<◌, length};
+ghost use Rattle.std.specs.Prelude.{ℕ, suc, ◌≡◌, ◌<◌};
 ghost use Rattle.ww_queue.specs.declared.kind.Kind.TheVariants.{WaitDie};
 ghost use Rattle.ww_view.specs.May.{LivesBySeen};
-ghost use Rattle.ww_rule.specs.Rule.{first_graph};
-ghost use Rattle.ww_table.specs.Seat.{IsSeated};
+ghost use Rattle.ww_table.specs.Seat.{IsSeatOf, size_of};
 ghost use Rattle.ww_rule.specs.Guards.{exiting};
 ghost use Rattle.ww_seat.specs.Orderly.{IsOrderly};
 ghost use Rattle.ww_seat.specs.Work.{MayGo, IsCleared};
@@ -13,11 +12,11 @@ use ww_table::{Board, Seat16};
 
 /// In Wait-Die a context takes its own sign back, where it has one. Inside a guard nobody can sign it again.
 fn take_sign_back(seat: &mut Seat16, board: &Board, kind: Kind)
-    requires seat { IsSeated board.now.table.shared.table_id seat.old }
+    requires seat { IsSeatOf board.now seat.old }
     requires kind { kind ≡ seat.old.seat.me.0.part.core.kind }
     requires inside { (n : ℕ) × (seat.old.seat.me.0.part.core.inside ≡ suc n) }
     requires lives { seat.old.seat.me.0.part.core.kind ≡ WaitDie → LivesBySeen seat.old.seat.me.0.part.core }
-    ensures seat { IsSeated board.now.table.shared.table_id seat.new }
+    ensures seat { IsSeatOf board.now seat.new }
     ensures records { seat.new.records ≡ seat.old.records }
     ensures cleared { IsCleared seat.old.seat.me seat.new.seat.me }
 {
@@ -29,11 +28,11 @@ fn take_sign_back(seat: &mut Seat16, board: &Board, kind: Kind)
 
 /// Takes the own sign back, where it isn't 0.
 fn clear_if_signed(seat: &mut Seat16, board: &Board)
-    requires seat { IsSeated board.now.table.shared.table_id seat.old }
+    requires seat { IsSeatOf board.now seat.old }
     requires kind { seat.old.seat.me.0.part.core.kind ≡ WaitDie }
     requires inside { (n : ℕ) × (seat.old.seat.me.0.part.core.inside ≡ suc n) }
     requires lives { LivesBySeen seat.old.seat.me.0.part.core }
-    ensures seat { IsSeated board.now.table.shared.table_id seat.new }
+    ensures seat { IsSeatOf board.now seat.new }
     ensures records { seat.new.records ≡ seat.old.records }
     ensures cleared { IsCleared seat.old.seat.me seat.new.seat.me }
 {
@@ -48,14 +47,14 @@ fn clear_if_signed(seat: &mut Seat16, board: &Board)
 
 /// Leaves the guard. In Wait-Die the seat takes back its own sign first: whoever condemned it was met.
 pub(crate) fn leave(seat: &mut Seat16, board: &Board, kind: Kind, lock: u8)
-    requires seat { IsSeated board.now.table.shared.table_id seat.old }
+    requires seat { IsSeatOf board.now seat.old }
     requires kind { kind ≡ seat.old.seat.me.0.part.core.kind }
-    requires lock { lock < length (first_graph board.now.table.shared.key) }
-    requires orderly { IsOrderly (length (first_graph board.now.table.shared.key)) seat.old.seat.me }
+    requires lock { lock < size_of board.now }
+    requires orderly { IsOrderly (size_of board.now) seat.old.seat.me }
     requires may { MayGo lock seat.old.seat.me.0.part.core }
-    ensures seat { IsSeated board.now.table.shared.table_id seat.new }
+    ensures seat { IsSeatOf board.now seat.new }
     ensures records { seat.new.records ≡ seat.old.records }
-    ensures orderly { IsOrderly (length (first_graph board.now.table.shared.key)) seat.new.seat.me }
+    ensures orderly { IsOrderly (size_of board.now) seat.new.seat.me }
     ensures view { seat.new.seat.me.0 ≡ exiting seat.old.seat.me.0 }
 {
     take_sign_back(seat, board, kind);

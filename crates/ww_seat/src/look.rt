@@ -1,7 +1,6 @@
 //! One look at a lock: from just inside its guard to just outside.
-ghost use Rattle.std.specs.Prelude.{ℕ, ◌≡◌, ◌≢◌, ◌<◌, ◌⊎◌, Bool, true, false, length, Some, None, IfSome, IfNone};
-ghost use Rattle.ww_rule.specs.Rule.{first_graph};
-ghost use Rattle.ww_table.specs.Seat.{IsSeated};
+ghost use Rattle.std.specs.Prelude.{ℕ, ◌≡◌, ◌≢◌, ◌<◌, ◌⊎◌, true, false, Some, None, IfSome, IfNone};
+ghost use Rattle.ww_table.specs.Seat.{IsSeatOf, size_of};
 ghost use Rattle.ww_seat.specs.Orderly.{IsOrderly};
 ghost use Rattle.ww_seat.specs.Looks.{IsInside, IsLook};
 ghost use Rattle.ww_seat.specs.Work.{IsWorking, IsAtWork};
@@ -47,16 +46,16 @@ fn look_once(
     stands: &mut bool,
     wake: &mut Wake,
 ) -> Option<Look>
-    requires seat { IsSeated board.now.table.shared.table_id seat.old }
+    requires seat { IsSeatOf board.now seat.old }
     requires kind { kind ≡ seat.old.seat.me.0.part.core.kind }
-    requires lock { lock < length (first_graph board.now.table.shared.key) }
-    requires orderly { IsOrderly (length (first_graph board.now.table.shared.key)) seat.old.seat.me }
+    requires lock { lock < size_of board.now }
+    requires orderly { IsOrderly (size_of board.now) seat.old.seat.me }
     requires work { IsWorking lock stands.old is_later seat.old.seat.me.0.part.core }
-    ensures seat { IsSeated board.now.table.shared.table_id seat.new }
+    ensures seat { IsSeatOf board.now seat.new }
     ensures records { seat.new.records ≡ seat.old.records }
-    ensures look { IfSome result (λ look. IsLook (length (first_graph board.now.table.shared.key)) lock seat.old.seat.me look seat.new.seat.me) }
+    ensures look { IfSome result (λ look. IsLook (size_of board.now) lock seat.old.seat.me look seat.new.seat.me) }
     ensures tries { IfSome result (λ _. seat.new.seat.me.0.part.core.tries ≡ seat.old.seat.me.0.part.core.tries) }
-    ensures lost { IfNone result (IsAtWork (length (first_graph board.now.table.shared.key)) lock seat.old.seat.me stands.new is_later seat.new.seat.me) }
+    ensures lost { IfNone result (IsAtWork (size_of board.now) lock seat.old.seat.me stands.new is_later seat.new.seat.me) }
 {
     let seen = seat.look(board, lock);
     if is_ours(seat, seen) {
@@ -81,14 +80,14 @@ pub(crate) fn look_at<R: Wait>(
     is_later: bool,
     wake: &mut Wake,
 ) -> Look
-    requires seat { IsSeated board.now.table.shared.table_id seat.old }
+    requires seat { IsSeatOf board.now seat.old }
     requires kind { kind ≡ seat.old.seat.me.0.part.core.kind }
-    requires lock { lock < length (first_graph board.now.table.shared.key) }
-    requires inside { IsInside (length (first_graph board.now.table.shared.key)) lock seat.old.seat.me }
+    requires lock { lock < size_of board.now }
+    requires inside { IsInside (size_of board.now) lock seat.old.seat.me }
     requires later { is_later ≡ seat.old.seat.me.0.part.core.later }
-    ensures seat { IsSeated board.now.table.shared.table_id seat.new }
+    ensures seat { IsSeatOf board.now seat.new }
     ensures records { seat.new.records ≡ seat.old.records }
-    ensures look { IsLook (length (first_graph board.now.table.shared.key)) lock seat.old.seat.me result seat.new.seat.me }
+    ensures look { IsLook (size_of board.now) lock seat.old.seat.me result seat.new.seat.me }
     ensures tries { seat.new.seat.me.0.part.core.tries ≡ seat.old.seat.me.0.part.core.tries }
 {
     let mut stands = is_later;

@@ -1,9 +1,8 @@
 //! Whom the seat condemns, and whether it is condemned itself.
-ghost use Rattle.std.specs.Prelude.{ℕ, suc, ◌≡◌, ◌<◌, Bool, length, Some, true, IfSome, IfNone};
+ghost use Rattle.std.specs.Prelude.{suc, ◌≡◌, ◌<◌, Bool, Some, true, IfSome, IfNone};
 ghost use Rattle.ww_word.specs.Owner.{IsValid};
 ghost use Rattle.ww_view.specs.May.{MayDie};
-ghost use Rattle.ww_rule.specs.Rule.{first_graph};
-ghost use Rattle.ww_table.specs.Seat.{IsSeated};
+ghost use Rattle.ww_table.specs.Seat.{IsSeatOf, size_of};
 ghost use Rattle.ww_rule.specs.Guards.{AreSeats};
 ghost use Rattle.ww_seat.specs.Orderly.{IsOrderly};
 ghost use Rattle.ww_seat.specs.Work.{HasSigned, IsTold, IsWorking, SeesOther, MayStay};
@@ -23,17 +22,17 @@ pub(crate) fn sign_all(
     seen: Owner,
     wake: &mut Wake,
 )
-    requires seat { IsSeated board.now.table.shared.table_id seat.old }
+    requires seat { IsSeatOf board.now seat.old }
     requires kind { kind ≡ seat.old.seat.me.0.part.core.kind }
-    requires lock { lock < length (first_graph board.now.table.shared.key) }
-    requires orderly { IsOrderly (length (first_graph board.now.table.shared.key)) seat.old.seat.me }
+    requires lock { lock < size_of board.now }
+    requires orderly { IsOrderly (size_of board.now) seat.old.seat.me }
     requires inside { seat.old.seat.me.0.part.core.inside ≡ suc lock }
     requires seats { AreSeats seat.old.seat.me.0.part.core.list }
     requires valid { IsValid seen }
     requires seen { seat.old.seat.me.0.part.core.seen ≡ Some seen }
-    ensures seat { IsSeated board.now.table.shared.table_id seat.new }
+    ensures seat { IsSeatOf board.now seat.new }
     ensures records { seat.new.records ≡ seat.old.records }
-    ensures signed { HasSigned (length (first_graph board.now.table.shared.key)) seen seat.old.seat.me seat.new.seat.me }
+    ensures signed { HasSigned (size_of board.now) seen seat.old.seat.me seat.new.seat.me }
 {
     let who = seat.who();
     let owed = seat.owed_signs(board, lock, kind, seen);
@@ -54,15 +53,15 @@ pub(crate) fn death(
     lock: u8,
     seen: Owner,
 ) -> Option<u64>
-    requires seat { IsSeated board.now.table.shared.table_id seat.old }
+    requires seat { IsSeatOf board.now seat.old }
     requires kind { kind ≡ seat.old.seat.me.0.part.core.kind }
-    requires lock { lock < length (first_graph board.now.table.shared.key) }
-    requires orderly { IsOrderly (length (first_graph board.now.table.shared.key)) seat.old.seat.me }
+    requires lock { lock < size_of board.now }
+    requires orderly { IsOrderly (size_of board.now) seat.old.seat.me }
     requires work { (l : Bool) × IsWorking lock true l seat.old.seat.me.0.part.core }
     requires seen { SeesOther seen seat.old.seat.me.0.part.core }
-    ensures seat { IsSeated board.now.table.shared.table_id seat.new }
+    ensures seat { IsSeatOf board.now seat.new }
     ensures records { seat.new.records ≡ seat.old.records }
-    ensures told { IsTold (length (first_graph board.now.table.shared.key)) seat.old.seat.me seat.new.seat.me }
+    ensures told { IsTold (size_of board.now) seat.old.seat.me seat.new.seat.me }
     ensures death { IfSome result (λ k. MayDie seat.new.seat.me.0.part.core lock seen k) }
     ensures life { IfNone result (MayStay seen seat.new.seat.me.0.part.core) }
 {

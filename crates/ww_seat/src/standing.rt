@@ -1,9 +1,8 @@
 //! The lock is another's: the seat stands in its wait list, asks for it, and stays or dies there.
-ghost use Rattle.std.specs.Prelude.{ℕ, ◌≡◌, ◌≢◌, ◌<◌, Bool, true, false, length, Some, None, IfSome, IfNone};
+ghost use Rattle.std.specs.Prelude.{ℕ, ◌≡◌, ◌≢◌, ◌<◌, Bool, true, false, Some, None, IfSome, IfNone};
 ghost use Rattle.ww_word.specs.Owner.{IsValid};
 ghost use Rattle.ww_view.specs.May.{MayDie};
-ghost use Rattle.ww_rule.specs.Rule.{first_graph};
-ghost use Rattle.ww_table.specs.Seat.{IsSeated};
+ghost use Rattle.ww_table.specs.Seat.{IsSeatOf, size_of};
 ghost use Rattle.ww_seat.specs.declared.look.Look.TheVariants.{Deadlk};
 ghost use Rattle.ww_seat.specs.Orderly.{IsOrderly};
 ghost use Rattle.ww_seat.specs.Looks.{IsLook};
@@ -26,15 +25,15 @@ pub(crate) fn stand(
     seen: Owner,
     stands: bool,
 ) -> Option<Owner>
-    requires seat { IsSeated board.now.table.shared.table_id seat.old }
-    requires lock { lock < length (first_graph board.now.table.shared.key) }
-    requires orderly { IsOrderly (length (first_graph board.now.table.shared.key)) seat.old.seat.me }
+    requires seat { IsSeatOf board.now seat.old }
+    requires lock { lock < size_of board.now }
+    requires orderly { IsOrderly (size_of board.now) seat.old.seat.me }
     requires work { (l : Bool) × IsWorking lock stands l seat.old.seat.me.0.part.core }
     requires seen { SeesOther seen seat.old.seat.me.0.part.core }
-    ensures seat { IsSeated board.now.table.shared.table_id seat.new }
+    ensures seat { IsSeatOf board.now seat.new }
     ensures records { seat.new.records ≡ seat.old.records }
-    ensures stands { IfSome result (λ word. HasStood (length (first_graph board.now.table.shared.key)) lock stands seen seat.old.seat.me word seat.new.seat.me) }
-    ensures lost { IfNone result (IsTouched (length (first_graph board.now.table.shared.key)) seat.old.seat.me seat.new.seat.me) }
+    ensures stands { IfSome result (λ word. HasStood (size_of board.now) lock stands seen seat.old.seat.me word seat.new.seat.me) }
+    ensures lost { IfNone result (IsTouched (size_of board.now) seat.old.seat.me seat.new.seat.me) }
 {
     if stands {
         return Some(seen);
@@ -48,15 +47,15 @@ pub(crate) fn stand(
 /// Asks for the lock as the first waiter that looks again, if the owner word is still the one seen and nobody asked
 /// yet, and gives the word as it is then.
 fn ask(seat: &mut Seat16, board: &Board, lock: u8, seen: Owner, is_later: bool) -> Option<Owner>
-    requires seat { IsSeated board.now.table.shared.table_id seat.old }
-    requires lock { lock < length (first_graph board.now.table.shared.key) }
-    requires orderly { IsOrderly (length (first_graph board.now.table.shared.key)) seat.old.seat.me }
+    requires seat { IsSeatOf board.now seat.old }
+    requires lock { lock < size_of board.now }
+    requires orderly { IsOrderly (size_of board.now) seat.old.seat.me }
     requires work { IsWorking lock true is_later seat.old.seat.me.0.part.core }
     requires seen { SeesOther seen seat.old.seat.me.0.part.core }
     requires flags { is_later ≡ true → seen.flags ≢ 0 }
-    ensures seat { IsSeated board.now.table.shared.table_id seat.new }
+    ensures seat { IsSeatOf board.now seat.new }
     ensures records { seat.new.records ≡ seat.old.records }
-    ensures touched { IsTouched (length (first_graph board.now.table.shared.key)) seat.old.seat.me seat.new.seat.me }
+    ensures touched { IsTouched (size_of board.now) seat.old.seat.me seat.new.seat.me }
     ensures asked { IfSome result (λ word. HasAsked word is_later seat.new.seat.me.0.part.core) }
 {
     if !is_later {
@@ -80,18 +79,18 @@ fn ask(seat: &mut Seat16, board: &Board, lock: u8, seen: Owner, is_later: bool) 
 
 /// Leaves the wait list and the guard, as the context has to back off, if the owner word is still the one seen.
 fn back_off(seat: &mut Seat16, board: &Board, kind: Kind, lock: u8, seen: Owner) -> bool
-    requires seat { IsSeated board.now.table.shared.table_id seat.old }
+    requires seat { IsSeatOf board.now seat.old }
     requires kind { kind ≡ seat.old.seat.me.0.part.core.kind }
-    requires lock { lock < length (first_graph board.now.table.shared.key) }
-    requires orderly { IsOrderly (length (first_graph board.now.table.shared.key)) seat.old.seat.me }
+    requires lock { lock < size_of board.now }
+    requires orderly { IsOrderly (size_of board.now) seat.old.seat.me }
     requires work { (l : Bool) × IsWorking lock true l seat.old.seat.me.0.part.core }
     requires valid { IsValid seen }
     requires may { (k : ℕ) × MayDie seat.old.seat.me.0.part.core lock seen k }
-    ensures seat { IsSeated board.now.table.shared.table_id seat.new }
+    ensures seat { IsSeatOf board.now seat.new }
     ensures records { seat.new.records ≡ seat.old.records }
-    ensures met { result ≡ true → (k : ℕ) → MayDie seat.old.seat.me.0.part.core lock seen k → IsLook (length (first_graph board.now.table.shared.key)) lock seat.old.seat.me (Deadlk k) seat.new.seat.me }
+    ensures met { result ≡ true → (k : ℕ) → MayDie seat.old.seat.me.0.part.core lock seen k → IsLook (size_of board.now) lock seat.old.seat.me (Deadlk k) seat.new.seat.me }
     ensures tries { result ≡ true → seat.new.seat.me.0.part.core.tries ≡ seat.old.seat.me.0.part.core.tries }
-    ensures lost { result ≡ false → IsTouched (length (first_graph board.now.table.shared.key)) seat.old.seat.me seat.new.seat.me }
+    ensures lost { result ≡ false → IsTouched (size_of board.now) seat.old.seat.me seat.new.seat.me }
 {
     if !seat.die(board, lock, seen) {
         return false;
@@ -111,18 +110,18 @@ pub(crate) fn wait(
     is_later: bool,
     wake: &mut Wake,
 ) -> Option<Look>
-    requires seat { IsSeated board.now.table.shared.table_id seat.old }
+    requires seat { IsSeatOf board.now seat.old }
     requires kind { kind ≡ seat.old.seat.me.0.part.core.kind }
-    requires lock { lock < length (first_graph board.now.table.shared.key) }
-    requires orderly { IsOrderly (length (first_graph board.now.table.shared.key)) seat.old.seat.me }
+    requires lock { lock < size_of board.now }
+    requires orderly { IsOrderly (size_of board.now) seat.old.seat.me }
     requires work { IsWorking lock true is_later seat.old.seat.me.0.part.core }
     requires seen { SeesOther seen seat.old.seat.me.0.part.core }
     requires flags { is_later ≡ true → seen.flags ≢ 0 }
-    ensures seat { IsSeated board.now.table.shared.table_id seat.new }
+    ensures seat { IsSeatOf board.now seat.new }
     ensures records { seat.new.records ≡ seat.old.records }
-    ensures look { IfSome result (λ look. IsLook (length (first_graph board.now.table.shared.key)) lock seat.old.seat.me look seat.new.seat.me) }
+    ensures look { IfSome result (λ look. IsLook (size_of board.now) lock seat.old.seat.me look seat.new.seat.me) }
     ensures tries { IfSome result (λ _. seat.new.seat.me.0.part.core.tries ≡ seat.old.seat.me.0.part.core.tries) }
-    ensures lost { IfNone result (IsAtWork (length (first_graph board.now.table.shared.key)) lock seat.old.seat.me true is_later seat.new.seat.me) }
+    ensures lost { IfNone result (IsAtWork (size_of board.now) lock seat.old.seat.me true is_later seat.new.seat.me) }
 {
     let word = ask(seat, board, lock, seen, is_later)?;
     sign_all(seat, board, kind, lock, word, wake);

@@ -1,9 +1,8 @@
 //! The lock is free, or the seat's to take.
-ghost use Rattle.std.specs.Prelude.{ℕ, ◌≡◌, ◌<◌, ◌⊎◌, Bool, true, length, Some, None, IfSome, IfNone};
+ghost use Rattle.std.specs.Prelude.{◌≡◌, ◌<◌, ◌⊎◌, Bool, true, Some, None, IfSome, IfNone};
 ghost use Rattle.ww_word.specs.Owner.{IsValid, is_handed};
 ghost use Rattle.ww_view.specs.Word.{taken_word};
-ghost use Rattle.ww_rule.specs.Rule.{first_graph};
-ghost use Rattle.ww_table.specs.Seat.{IsSeated};
+ghost use Rattle.ww_table.specs.Seat.{IsSeatOf, size_of};
 ghost use Rattle.ww_rule.specs.Waiting.{HasListOnTop};
 ghost use Rattle.ww_rule.specs.Layout.{list_at};
 ghost use Rattle.ww_rule.specs.Out.{slot_of};
@@ -23,10 +22,10 @@ use ww_word::{Owner, WAITERS};
 
 /// The owner word of a lock that this seat took, with the wait list as it is.
 fn own_word(seat: &mut Seat16, board: &Board, lock: u8) -> Owner
-    requires seat { IsSeated board.now.table.shared.table_id seat.old }
-    requires lock { lock < length (first_graph board.now.table.shared.key) }
+    requires seat { IsSeatOf board.now seat.old }
+    requires lock { lock < size_of board.now }
     requires list { slot_of seat.old.seat.me.1 (list_at lock) ≡ Some (Line seat.old.seat.me.0.part.core.list) }
-    ensures seat { IsSeated board.now.table.shared.table_id seat.new }
+    ensures seat { IsSeatOf board.now seat.new }
     ensures records { seat.new.records ≡ seat.old.records }
     ensures read { HasListOnTop seat.old.seat.me lock seat.new.seat.me }
     ensures word { result ≡ taken_word seat.old.seat.me.0.part.core.who seat.old.seat.me.0.part.core.stamp seat.old.seat.me.0.part.core.list }
@@ -52,18 +51,18 @@ pub(crate) fn take(
     seen: Owner,
     wake: &mut Wake,
 ) -> Option<Node>
-    requires seat { IsSeated board.now.table.shared.table_id seat.old }
+    requires seat { IsSeatOf board.now seat.old }
     requires kind { kind ≡ seat.old.seat.me.0.part.core.kind }
-    requires lock { lock < length (first_graph board.now.table.shared.key) }
-    requires orderly { IsOrderly (length (first_graph board.now.table.shared.key)) seat.old.seat.me }
+    requires lock { lock < size_of board.now }
+    requires orderly { IsOrderly (size_of board.now) seat.old.seat.me }
     requires work { (s l : Bool) × IsWorking lock s l seat.old.seat.me.0.part.core }
     requires valid { IsValid seen }
     requires free { (seen.seat ≡ None) ⊎ ((seen.seat ≡ Some seat.old.seat.me.0.part.core.who) × (is_handed seen ≡ true)) }
-    ensures seat { IsSeated board.now.table.shared.table_id seat.new }
+    ensures seat { IsSeatOf board.now seat.new }
     ensures records { seat.new.records ≡ seat.old.records }
-    ensures took { IfSome result (λ x. IsLook (length (first_graph board.now.table.shared.key)) lock seat.old.seat.me (Locked x) seat.new.seat.me) }
+    ensures took { IfSome result (λ x. IsLook (size_of board.now) lock seat.old.seat.me (Locked x) seat.new.seat.me) }
     ensures tries { IfSome result (λ _. seat.new.seat.me.0.part.core.tries ≡ seat.old.seat.me.0.part.core.tries) }
-    ensures lost { IfNone result (IsTouched (length (first_graph board.now.table.shared.key)) seat.old.seat.me seat.new.seat.me) }
+    ensures lost { IfNone result (IsTouched (size_of board.now) seat.old.seat.me seat.new.seat.me) }
 {
     if !seat.take(board, lock, seen) {
         return None;

@@ -1,9 +1,8 @@
-ghost use Rattle.std.specs.Prelude.{◌≡◌, ◌<◌, ◌==◌, not, length, false, IfOk, IfErr};
+ghost use Rattle.std.specs.Prelude.{◌≡◌, ◌<◌, ◌==◌, not, false, IfOk, IfErr};
 ghost use Rattle.ww_view.specs.View.{owns};
 ghost use Rattle.ww_view.specs.May.{WantsBase};
-ghost use Rattle.ww_rule.specs.Rule.{first_graph};
-ghost use Rattle.ww_table.specs.Seat.{IsSeated};
-ghost use Rattle.ww_seat.specs.Orderly.{IsSettled};
+ghost use Rattle.ww_table.specs.Seat.{IsSeatOf, size_of};
+ghost use Rattle.ww_seat.specs.Orderly.{IsSettledAt};
 ghost use Rattle.ww_seat.specs.Calls.{HasTaken, HasToDie, TriedOnce};
 ghost use Rattle.ww_seat.specs.Looks.{IsOutside, IsLook};
 
@@ -29,12 +28,12 @@ pub fn take<R: Wait>(
     parker: &Parker,
     wakers: &[Unparker],
 ) -> Result<Node, u64>
-    requires settled { IsSettled board.now.table.shared.table_id (length (first_graph board.now.table.shared.key)) seat.old }
+    requires settled { IsSettledAt board.now seat.old }
     requires kind { kind ≡ seat.old.seat.me.0.part.core.kind }
-    requires lock { lock < length (first_graph board.now.table.shared.key) }
+    requires lock { lock < size_of board.now }
     requires lacks { owns seat.old.seat.me.0.part.core lock ≡ false }
     requires base { WantsBase seat.old.seat.me.0.part.core }
-    ensures settled { IsSettled board.now.table.shared.table_id (length (first_graph board.now.table.shared.key)) seat.new }
+    ensures settled { IsSettledAt board.now seat.new }
     ensures ok { IfOk result (λ x. HasTaken seat.old.seat.me lock x seat.new.seat.me) }
     ensures err { IfErr result (λ k. HasToDie seat.old.seat.me lock k seat.new.seat.me) }
     ensures once { TriedOnce seat.old.seat.me seat.new.seat.me }
@@ -72,12 +71,12 @@ fn wait<R: Wait>(
     parker: &Parker,
     wakers: &[Unparker],
 ) -> Result<Node, u64>
-    requires seat { IsSeated board.now.table.shared.table_id seat.old }
+    requires seat { IsSeatOf board.now seat.old }
     requires kind { kind ≡ seat.old.seat.me.0.part.core.kind }
-    requires lock { lock < length (first_graph board.now.table.shared.key) }
-    requires outside { IsOutside (length (first_graph board.now.table.shared.key)) lock seat.old.seat.me }
+    requires lock { lock < size_of board.now }
+    requires outside { IsOutside (size_of board.now) lock seat.old.seat.me }
     requires away { seat.old.seat.me.0.part.core.waits ≡ 0 }
-    ensures settled { IsSettled board.now.table.shared.table_id (length (first_graph board.now.table.shared.key)) seat.new }
+    ensures settled { IsSettledAt board.now seat.new }
     ensures ok { IfOk result (λ x. HasTaken seat.old.seat.me lock x seat.new.seat.me) }
     ensures err { IfErr result (λ k. HasToDie seat.old.seat.me lock k seat.new.seat.me) }
     ensures tries { seat.new.seat.me.0.part.core.tries ≡ seat.old.seat.me.0.part.core.tries }
@@ -107,13 +106,13 @@ pub fn visit<R: Wait>(
     is_later: bool,
     wakers: &[Unparker],
 ) -> Look
-    requires seat { IsSeated board.now.table.shared.table_id seat.old }
+    requires seat { IsSeatOf board.now seat.old }
     requires kind { kind ≡ seat.old.seat.me.0.part.core.kind }
-    requires lock { lock < length (first_graph board.now.table.shared.key) }
-    requires outside { IsOutside (length (first_graph board.now.table.shared.key)) lock seat.old.seat.me }
+    requires lock { lock < size_of board.now }
+    requires outside { IsOutside (size_of board.now) lock seat.old.seat.me }
     requires later { is_later ≡ not (seat.old.seat.me.0.part.core.waits == 0) }
-    ensures seat { IsSeated board.now.table.shared.table_id seat.new }
-    ensures look { IsLook (length (first_graph board.now.table.shared.key)) lock seat.old.seat.me result seat.new.seat.me }
+    ensures seat { IsSeatOf board.now seat.new }
+    ensures look { IsLook (size_of board.now) lock seat.old.seat.me result seat.new.seat.me }
     ensures tries { seat.new.seat.me.0.part.core.tries ≡ seat.old.seat.me.0.part.core.tries }
     ensures records { seat.new.records ≡ seat.old.records }
 {

@@ -6,6 +6,7 @@ use Rattle.ww_rule.specs.declared.cells.Start.{Start}
 use Rattle.ww_rule.specs.Rule.{first_graph, first_part}
 use Rattle.ww_rule.specs.Steps.{seat_of}
 use Rattle.ww_rule.specs.Out.{numbers_of}
+use Rattle.ww_table.specs.declared.board.Board.{Board}
 use Rattle.ww_table.specs.declared.seat.Seat16.{Seat16}
 
 -- the seat is one of this table, and what it keeps beside its view is what the view says
@@ -20,6 +21,14 @@ pub record IsSeated (table : TableId) (s : Seat16) : Type 0 where
   pub records : s.records.items ≡ s.seat.me.0.part.own
   pub alone : s.seat.me.0.idle ≡ []
   pub places : AllByRecursion (λ p. p.0 < 2 ^ 37) s.records.items
+
+-- how many nodes a board has
+abbrev pub size_of : Board → ℕ
+size_of board = length (first_graph board.table.shared.key)
+
+-- the seat is one of this board
+abbrev pub IsSeatOf : Board → Seat16 → Type 0
+IsSeatOf board s = IsSeated board.table.shared.table_id s
 
 -- the seat k of a table that was made just now
 pub record IsNew (table : TableId) (key : Start) (k : ℕ) (s : Seat16) : Type 0 where

@@ -6,8 +6,7 @@ ghost use Rattle.ww_view.specs.View.{owns};
 ghost use Rattle.ww_view.specs.May.{MayEnter, MayLeave};
 ghost use Rattle.ww_rule.specs.declared.cells.Cell.TheVariants.{Line};
 ghost use Rattle.ww_rule.specs.Layout.{list_at};
-ghost use Rattle.ww_rule.specs.Rule.{first_graph};
-ghost use Rattle.ww_table.specs.Seat.{IsSeated};
+ghost use Rattle.ww_table.specs.Seat.{IsSeated, IsSeatOf, size_of};
 ghost use Rattle.ww_rule.specs.Out.{AreOthers, numbers_of, slot_of};
 ghost use Rattle.ww_rule.specs.Guards.{AreSeats, StandsAs, lost, entering, exiting, looking};
 ghost use Rattle.ww_rule.specs.Waiting.{HasListOnTop};
@@ -37,11 +36,11 @@ impl Seat16 {
 
     /// One try to go inside the guard of a lock. The wait list comes with it.
     pub fn enter(&mut self, board: &Board, lock: u8) -> bool
-        requires seat { IsSeated board.now.table.shared.table_id self.old }
-        requires lock { lock < length (first_graph board.now.table.shared.key) }
+        requires seat { IsSeatOf board.now self.old }
+        requires lock { lock < size_of board.now }
         requires may { MayEnter self.old.seat.me.0.part.core lock }
         requires room { length self.old.seat.me.1 < 65 }
-        ensures seat { IsSeated board.now.table.shared.table_id self.new }
+        ensures seat { IsSeatOf board.now self.new }
         ensures records { self.new.records ≡ self.old.records }
         ensures entered { result ≡ true → (q : List Entry) × AreSeats q × StandsAs self.old.seat.me.0.part.core lock q × (self.new.seat.me ≡ (entering self.old.seat.me.0 lock q, (list_at lock, Line q) ∷ self.old.seat.me.1)) }
         ensures lost { result ≡ false → self.new.seat.me ≡ (lost self.old.seat.me.0, self.old.seat.me.1) }
@@ -58,11 +57,11 @@ impl Seat16 {
 
     /// Leaves the guard, and the wait list goes home as the view has it.
     pub fn exit(&mut self, board: &Board, lock: u8)
-        requires seat { IsSeated board.now.table.shared.table_id self.old }
-        requires lock { lock < length (first_graph board.now.table.shared.key) }
+        requires seat { IsSeatOf board.now self.old }
+        requires lock { lock < size_of board.now }
         requires may { MayLeave self.old.seat.me.0.part.core lock }
         requires list { slot_of self.old.seat.me.1 (list_at lock) ≡ Some (Line self.old.seat.me.0.part.core.list) }
-        ensures seat { IsSeated board.now.table.shared.table_id self.new }
+        ensures seat { IsSeatOf board.now self.new }
         ensures records { self.new.records ≡ self.old.records }
         ensures view { self.new.seat.me.0 ≡ exiting self.old.seat.me.0 }
         ensures home { AreOthers self.old.seat.me.1 (list_at lock) (Line self.old.seat.me.0.part.core.list) self.new.seat.me.1 }
@@ -75,10 +74,10 @@ impl Seat16 {
 
     /// The owner word of the lock whose guard the seat is inside of.
     pub fn look(&mut self, board: &Board, lock: u8) -> Owner
-        requires seat { IsSeated board.now.table.shared.table_id self.old }
-        requires lock { lock < length (first_graph board.now.table.shared.key) }
+        requires seat { IsSeatOf board.now self.old }
+        requires lock { lock < size_of board.now }
         requires inside { self.old.seat.me.0.part.core.inside ≡ lock + 1 }
-        ensures seat { IsSeated board.now.table.shared.table_id self.new }
+        ensures seat { IsSeatOf board.now self.new }
         ensures records { self.new.records ≡ self.old.records }
         ensures looked { self.new.seat.me ≡ (looking self.old.seat.me.0 result, self.old.seat.me.1) }
         ensures valid { IsValid result }

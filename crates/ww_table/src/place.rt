@@ -1,7 +1,7 @@
 ghost use Rattle.std.specs.Prelude.{◌≡◌, ◌<◌, ◌^◌, ◌↔◌, true, length, Some, IfOk, IsTrue, OnErr, vec_len, vec_capacity};
 ghost use Rattle.std.specs.List.{AllByRecursion};
 ghost use Rattle.ww_plain.specs.History.{recorded_of};
-ghost use Rattle.ww_table.specs.Seat.{IsSeated};
+ghost use Rattle.ww_table.specs.Seat.{IsSeatOf};
 ghost use Rattle.ww_rule.specs.Steps.{MayPlace, placing};
 
 use crate::board::Board;
@@ -41,10 +41,10 @@ impl Seat16 {
     /// Commits: the record takes the next place of the one history, which this gives, and the view names the nodes held
     /// as the transaction leaves them. The slots are changed by `swap_node`.
     pub fn place(&mut self, board: &Board, done: Record) -> u64
-        requires seat { IsSeated board.now.table.shared.table_id self.old }
+        requires seat { IsSeatOf board.now self.old }
         requires may { MayPlace self.old.seat.me.0 (recorded_of done) }
         requires reserved { vec_len self.old.records < vec_capacity self.old.records }
-        ensures seat { IsSeated board.now.table.shared.table_id self.new }
+        ensures seat { IsSeatOf board.now self.new }
         ensures placed { self.new.seat.me ≡ (placing self.old.seat.me.0 result done, self.old.seat.me.1) }
         ensures above { AllByRecursion (λ p. p.0 < result) self.old.seat.me.0.part.own }
         ensures capacity { vec_capacity self.new.records ≡ vec_capacity self.old.records }

@@ -1,11 +1,10 @@
 //! What a seat inside a guard reads in the wait list. None of this is a step: nobody else sees it.
-ghost use Rattle.std.specs.Prelude.{◌≡◌, ◌<◌, length, slice_get, Option, Some};
+ghost use Rattle.std.specs.Prelude.{◌≡◌, ◌<◌, slice_get, Option, Some};
 ghost use Rattle.ww_queue.specs.declared.entry.Entry.{Entry};
 ghost use Rattle.ww_queue.specs.Rules.{must_die, owed_signs};
 ghost use Rattle.ww_rule.specs.declared.cells.Cell.TheVariants.{Line};
 ghost use Rattle.ww_rule.specs.Layout.{list_at};
-ghost use Rattle.ww_rule.specs.Rule.{first_graph};
-ghost use Rattle.ww_table.specs.Seat.{IsSeated};
+ghost use Rattle.ww_table.specs.Seat.{IsSeatOf, size_of};
 ghost use Rattle.ww_rule.specs.Out.{slot_of};
 ghost use Rattle.ww_rule.specs.Waiting.{HasListOnTop};
 
@@ -26,10 +25,10 @@ impl Seat16 {
         seen: Owner,
         sign: u64,
     ) -> Option<u64>
-        requires seat { IsSeated board.now.table.shared.table_id self.old }
-        requires lock { lock < length (first_graph board.now.table.shared.key) }
+        requires seat { IsSeatOf board.now self.old }
+        requires lock { lock < size_of board.now }
         requires list { slot_of self.old.seat.me.1 (list_at lock) ≡ Some (Line self.old.seat.me.0.part.core.list) }
-        ensures seat { IsSeated board.now.table.shared.table_id self.new }
+        ensures seat { IsSeatOf board.now self.new }
         ensures read { HasListOnTop self.old.seat.me lock self.new.seat.me }
         ensures death { result ≡ must_die kind seen self.old.seat.me.0.part.core.list self.old.who sign }
         ensures records { self.new.records ≡ self.old.records }
@@ -54,10 +53,10 @@ impl Seat16 {
         kind: Kind,
         seen: Owner,
     ) -> ArrayVec<(u8, u64), MAX_WAITERS>
-        requires seat { IsSeated board.now.table.shared.table_id self.old }
-        requires lock { lock < length (first_graph board.now.table.shared.key) }
+        requires seat { IsSeatOf board.now self.old }
+        requires lock { lock < size_of board.now }
         requires list { slot_of self.old.seat.me.1 (list_at lock) ≡ Some (Line self.old.seat.me.0.part.core.list) }
-        ensures seat { IsSeated board.now.table.shared.table_id self.new }
+        ensures seat { IsSeatOf board.now self.new }
         ensures read { HasListOnTop self.old.seat.me lock self.new.seat.me }
         ensures owed { result.items ≡ owed_signs kind seen self.old.seat.me.0.part.core.list self.old.who }
         ensures records { self.new.records ≡ self.old.records }
@@ -75,10 +74,10 @@ impl Seat16 {
 
     /// The first waiter.
     pub fn first(&mut self, board: &Board, lock: u8) -> Option<Entry>
-        requires seat { IsSeated board.now.table.shared.table_id self.old }
-        requires lock { lock < length (first_graph board.now.table.shared.key) }
+        requires seat { IsSeatOf board.now self.old }
+        requires lock { lock < size_of board.now }
         requires list { slot_of self.old.seat.me.1 (list_at lock) ≡ Some (Line self.old.seat.me.0.part.core.list) }
-        ensures seat { IsSeated board.now.table.shared.table_id self.new }
+        ensures seat { IsSeatOf board.now self.new }
         ensures read { HasListOnTop self.old.seat.me lock self.new.seat.me }
         ensures first { result ≡ slice_get self.old.seat.me.0.part.core.list 0 }
         ensures records { self.new.records ≡ self.old.records }

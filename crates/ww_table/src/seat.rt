@@ -8,8 +8,7 @@ ghost use Rattle.ww_view.specs.May.{MayFast};
 ghost use Rattle.ww_view.specs.Made.{ended, fast_missed, has_read};
 ghost use Rattle.ww_rule.specs.declared.cells.Cell.{Cell};
 ghost use Rattle.ww_rule.specs.declared.cells.Cell.TheVariants.{Content};
-ghost use Rattle.ww_rule.specs.Rule.{first_graph};
-ghost use Rattle.ww_table.specs.Seat.{IsSeated};
+ghost use Rattle.ww_table.specs.Seat.{IsSeatOf, size_of};
 ghost use Rattle.ww_rule.specs.Out.{AreOthers, slot_of, numbers_of};
 ghost use Rattle.std.specs.Prelude.{ℕ, ◌^◌, List, nat_lt};
 ghost use Rattle.ww_word.specs.Owner.{packed};
@@ -62,9 +61,9 @@ impl Seat16 {
 
     /// Starts a context, and gives its stamp: one more than the stamp drawn last.
     pub fn draw(&mut self, board: &Board) -> u64
-        requires seat { IsSeated board.now.table.shared.table_id self.old }
+        requires seat { IsSeatOf board.now self.old }
         requires may { MayDraw self.old.seat.me.0.part }
-        ensures seat { IsSeated board.now.table.shared.table_id self.new }
+        ensures seat { IsSeatOf board.now self.new }
         ensures records { self.new.records ≡ self.old.records }
         ensures drew { self.new.seat.me ≡ (drawing self.old.seat.me.0 result, self.old.seat.me.1) }
         ensures context { 0 < result }
@@ -93,11 +92,11 @@ impl Seat16 {
 
     /// One try to take a lock at once, which only a free one with an empty wait list allows.
     pub fn take_free(&mut self, board: &Board, lock: u8) -> bool
-        requires seat { IsSeated board.now.table.shared.table_id self.old }
-        requires lock { lock < length (first_graph board.now.table.shared.key) }
+        requires seat { IsSeatOf board.now self.old }
+        requires lock { lock < size_of board.now }
         requires may { MayFast self.old.seat.me.0.part.core }
         requires room { length self.old.seat.me.1 < 65 }
-        ensures seat { IsSeated board.now.table.shared.table_id self.new }
+        ensures seat { IsSeatOf board.now self.new }
         ensures records { self.new.records ≡ self.old.records }
         ensures took { result ≡ true → (x : Node) × IsNodeOf (length self.old.seat.me.0.held) x × (self.new.seat.me ≡ (taking self.old.seat.me.0 lock x, (lock, Content x) ∷ self.old.seat.me.1)) }
         ensures lost { result ≡ false → self.new.seat.me ≡ (knowing self.old.seat.me.0 (fast_missed self.old.seat.me.0.part.core), self.old.seat.me.1) }
@@ -114,12 +113,12 @@ impl Seat16 {
 
     /// One try to give a lock back at once, which only an empty wait list allows.
     pub fn give_free(&mut self, board: &Board, lock: u8) -> bool
-        requires seat { IsSeated board.now.table.shared.table_id self.old }
-        requires lock { lock < length (first_graph board.now.table.shared.key) }
+        requires seat { IsSeatOf board.now self.old }
+        requires lock { lock < size_of board.now }
         requires away { IsAway self.old.seat.me.0.part.core }
         requires owner { owns self.old.seat.me.0.part.core lock ≡ true }
         requires out { (x : Node) × (slot_of self.old.seat.me.1 lock ≡ Some (Content x)) × (get_elem? self.old.seat.me.0.held lock ≡ some (Some x)) }
-        ensures seat { IsSeated board.now.table.shared.table_id self.new }
+        ensures seat { IsSeatOf board.now self.new }
         ensures records { self.new.records ≡ self.old.records }
         ensures gave { result ≡ true → (x : Node) × (self.new.seat.me.0 ≡ giving self.old.seat.me.0 lock) × AreOthers self.old.seat.me.1 lock (Content x) self.new.seat.me.1 }
         ensures kept { result ≡ false → (x : Node) × (others : List (ℕ × Cell)) × AreOthers self.old.seat.me.1 lock (Content x) others × (self.new.seat.me ≡ (self.old.seat.me.0, (lock, Content x) ∷ others)) }
@@ -137,9 +136,9 @@ impl Seat16 {
 
     /// Ends the context, if its own sign word is 0.
     pub fn end(&mut self, board: &Board) -> bool
-        requires seat { IsSeated board.now.table.shared.table_id self.old }
+        requires seat { IsSeatOf board.now self.old }
         requires may { MayEnd self.old.seat.me.0.part.core }
-        ensures seat { IsSeated board.now.table.shared.table_id self.new }
+        ensures seat { IsSeatOf board.now self.new }
         ensures records { self.new.records ≡ self.old.records }
         ensures ended { result ≡ true → self.new.seat.me ≡ (knowing self.old.seat.me.0 (ended self.old.seat.me.0.part.core), self.old.seat.me.1) }
         ensures signed { result ≡ false → (k : ℕ) × (0 < k) × (self.new.seat.me ≡ (knowing self.old.seat.me.0 (has_read self.old.seat.me.0.part.core k), self.old.seat.me.1)) }
@@ -159,9 +158,9 @@ impl Seat16 {
 
     /// A node that the seat has out. It is no step.
     pub fn node(&mut self, board: &Board, lock: u8) -> Node
-        requires seat { IsSeated board.now.table.shared.table_id self.old }
+        requires seat { IsSeatOf board.now self.old }
         requires out { (x : Node) × (slot_of self.old.seat.me.1 lock ≡ Some (Content x)) }
-        ensures seat { IsSeated board.now.table.shared.table_id self.new }
+        ensures seat { IsSeatOf board.now self.new }
         ensures records { self.new.records ≡ self.old.records }
         ensures read { (others : List (ℕ × Cell)) × AreOthers self.old.seat.me.1 lock (Content result) others × (self.new.seat.me ≡ (self.old.seat.me.0, (lock, Content result) ∷ others)) }
     {
@@ -174,9 +173,9 @@ impl Seat16 {
 
     /// The node of the slot that the seat took last. It is no step.
     pub fn top_node(&mut self, board: &Board, lock: u8) -> Node
-        requires seat { IsSeated board.now.table.shared.table_id self.old }
+        requires seat { IsSeatOf board.now self.old }
         requires top { (x : Node) × (others : List (ℕ × Cell)) × (self.old.seat.me.1 ≡ (lock, Content x) ∷ others) }
-        ensures seat { IsSeated board.now.table.shared.table_id self.new }
+        ensures seat { IsSeatOf board.now self.new }
         ensures records { self.new.records ≡ self.old.records }
         ensures read { (others : List (ℕ × Cell)) × (self.old.seat.me.1 ≡ (lock, Content result) ∷ others) × (self.new.seat.me ≡ (self.old.seat.me.0, (lock, Content result) ∷ others)) }
     {
@@ -188,9 +187,9 @@ impl Seat16 {
 
     /// Writes a node that the seat has out, and gives what was there. It is no step: nobody else sees it.
     pub fn swap_node(&mut self, board: &Board, node: u8, new: Node) -> Node
-        requires seat { IsSeated board.now.table.shared.table_id self.old }
+        requires seat { IsSeatOf board.now self.old }
         requires out { (x : Node) × (slot_of self.old.seat.me.1 node ≡ Some (Content x)) }
-        ensures seat { IsSeated board.now.table.shared.table_id self.new }
+        ensures seat { IsSeatOf board.now self.new }
         ensures records { self.new.records ≡ self.old.records }
         ensures swapped { (others : List (ℕ × Cell)) × AreOthers self.old.seat.me.1 node (Content result) others × (self.new.seat.me ≡ (self.old.seat.me.0, (node, Content new) ∷ others)) }
     {

@@ -1,7 +1,7 @@
 ghost use Rattle.std.specs.Prelude.{◌≡◌, ◌≢◌, ◌<◌};
 ghost use Rattle.ww_view.specs.View.{IsQuiet};
 ghost use Rattle.ww_view.specs.May.{MayClear, MaySign};
-ghost use Rattle.ww_table.specs.Seat.{IsSeated};
+ghost use Rattle.ww_table.specs.Seat.{IsSeatOf};
 ghost use Rattle.ww_rule.specs.Signs.{signing, reading, finding_none, clearing};
 
 use crate::board::Board;
@@ -13,10 +13,10 @@ impl Seat16 {
     /// Condemns another seat by the stamp of the older context that it meets here, and answers whether this call did
     /// so: a seat that has a sign keeps it. Either way the victim has one.
     pub fn sign(&mut self, board: &Board, lock: u8, victim: u8, stamp: u64) -> bool
-        requires seat { IsSeated board.now.table.shared.table_id self.old }
+        requires seat { IsSeatOf board.now self.old }
         requires victim { victim < 16 }
         requires may { MaySign self.old.seat.me.0.part.core lock victim stamp }
-        ensures seat { IsSeated board.now.table.shared.table_id self.new }
+        ensures seat { IsSeatOf board.now self.new }
         ensures records { self.new.records ≡ self.old.records }
         ensures noted { self.new.seat.me ≡ (signing self.old.seat.me.0 victim, self.old.seat.me.1) }
     {
@@ -27,8 +27,8 @@ impl Seat16 {
     /// What the own sign says: 0, or the stamp of the older context that condemned the seat. Any sign but 0 stays; so
     /// does 0 while nobody may sign the seat.
     pub fn own_sign(&mut self, board: &Board) -> u64
-        requires seat { IsSeated board.now.table.shared.table_id self.old }
-        ensures seat { IsSeated board.now.table.shared.table_id self.new }
+        requires seat { IsSeatOf board.now self.old }
+        ensures seat { IsSeatOf board.now self.new }
         ensures records { self.new.records ≡ self.old.records }
         ensures signed { result ≢ 0 → self.new.seat.me ≡ (reading self.old.seat.me.0 result, self.old.seat.me.1) }
         ensures quiet { result ≡ 0 → IsQuiet self.old.seat.me.0.part.core → self.new.seat.me ≡ (reading self.old.seat.me.0 0, self.old.seat.me.1) }
@@ -40,9 +40,9 @@ impl Seat16 {
 
     /// Takes the own sign back. A store costs as much as any other locked step, so it is for a seat that found a sign.
     pub fn clear(&mut self, board: &Board)
-        requires seat { IsSeated board.now.table.shared.table_id self.old }
+        requires seat { IsSeatOf board.now self.old }
         requires may { MayClear self.old.seat.me.0.part.core }
-        ensures seat { IsSeated board.now.table.shared.table_id self.new }
+        ensures seat { IsSeatOf board.now self.new }
         ensures records { self.new.records ≡ self.old.records }
         ensures cleared { self.new.seat.me ≡ (clearing self.old.seat.me.0, self.old.seat.me.1) }
     {

@@ -13,8 +13,7 @@ ghost use Rattle.ww_view.specs.Made.{died, queued, taken};
 ghost use Rattle.ww_rule.specs.declared.cells.Cell.{Cell};
 ghost use Rattle.ww_rule.specs.declared.cells.Cell.TheVariants.{Content, Line};
 ghost use Rattle.ww_rule.specs.Layout.{list_at};
-ghost use Rattle.ww_rule.specs.Rule.{first_graph};
-ghost use Rattle.ww_table.specs.Seat.{IsSeated};
+ghost use Rattle.ww_table.specs.Seat.{IsSeatOf, size_of};
 ghost use Rattle.ww_rule.specs.Out.{AreOthers, slot_of};
 ghost use Rattle.ww_rule.specs.Guards.{AreSeats, lost};
 ghost use Rattle.ww_rule.specs.Waiting.{IsOut, joining, taking_inside, giving_inside, asking, dying};
@@ -31,13 +30,13 @@ use ww_word::{HANDOFF, Owner, WAITERS, pack};
 impl Seat16 {
     /// Stands in the wait list of the lock, if its owner word is still the one seen.
     pub fn join(&mut self, board: &Board, lock: u8, seen: Owner) -> bool
-        requires seat { IsSeated board.now.table.shared.table_id self.old }
-        requires lock { lock < length (first_graph board.now.table.shared.key) }
+        requires seat { IsSeatOf board.now self.old }
+        requires lock { lock < size_of board.now }
         requires may { MayJoin self.old.seat.me.0.part.core lock seen }
         requires valid { IsValid seen }
         requires list { slot_of self.old.seat.me.1 (list_at lock) ≡ Some (Line self.old.seat.me.0.part.core.list) }
         requires nodes { any_below 64 (owns self.old.seat.me.0.part.core) ≡ nat_lt 1 (length self.old.seat.me.1) }
-        ensures seat { IsSeated board.now.table.shared.table_id self.new }
+        ensures seat { IsSeatOf board.now self.new }
         ensures records { self.new.records ≡ self.old.records }
         ensures joined { result ≡ true → (others : List (ℕ × Cell)) × AreOthers self.old.seat.me.1 (list_at lock) (Line self.old.seat.me.0.part.core.list) others × (self.new.seat.me ≡ (joining self.old.seat.me.0 lock seen, (list_at lock, Line (queued self.old.seat.me.0.part.core lock seen).list) ∷ others)) }
         ensures lost { result ≡ false → self.new.seat.me ≡ (lost self.old.seat.me.0, self.old.seat.me.1) }
@@ -65,11 +64,11 @@ impl Seat16 {
 
     /// Asks whoever owns the lock to hand it over, if its owner word is still the one seen.
     pub fn ask(&mut self, board: &Board, lock: u8, seen: Owner) -> bool
-        requires seat { IsSeated board.now.table.shared.table_id self.old }
-        requires lock { lock < length (first_graph board.now.table.shared.key) }
+        requires seat { IsSeatOf board.now self.old }
+        requires lock { lock < size_of board.now }
         requires may { MayAsk self.old.seat.me.0.part.core lock seen }
         requires valid { IsValid seen }
-        ensures seat { IsSeated board.now.table.shared.table_id self.new }
+        ensures seat { IsSeatOf board.now self.new }
         ensures records { self.new.records ≡ self.old.records }
         ensures asked { result ≡ true → self.new.seat.me ≡ (asking self.old.seat.me.0 seen, self.old.seat.me.1) }
         ensures lost { result ≡ false → self.new.seat.me ≡ (lost self.old.seat.me.0, self.old.seat.me.1) }
@@ -86,13 +85,13 @@ impl Seat16 {
     /// Takes the lock, if its owner word is still the one seen: that of a free lock, or of one handed to the seat. The
     /// node comes with it, and the seat leaves the wait list.
     pub fn take(&mut self, board: &Board, lock: u8, seen: Owner) -> bool
-        requires seat { IsSeated board.now.table.shared.table_id self.old }
-        requires lock { lock < length (first_graph board.now.table.shared.key) }
+        requires seat { IsSeatOf board.now self.old }
+        requires lock { lock < size_of board.now }
         requires may { MayTake self.old.seat.me.0.part.core lock seen }
         requires valid { IsValid seen }
         requires list { slot_of self.old.seat.me.1 (list_at lock) ≡ Some (Line self.old.seat.me.0.part.core.list) }
         requires room { length self.old.seat.me.1 < 65 }
-        ensures seat { IsSeated board.now.table.shared.table_id self.new }
+        ensures seat { IsSeatOf board.now self.new }
         ensures records { self.new.records ≡ self.old.records }
         ensures took { result ≡ true → (x : Node) × (others : List (ℕ × Cell)) × IsNodeOf (length self.old.seat.me.0.held) x × AreOthers self.old.seat.me.1 (list_at lock) (Line self.old.seat.me.0.part.core.list) others × (self.new.seat.me ≡ (taking_inside self.old.seat.me.0 lock x, (list_at lock, Line (taken self.old.seat.me.0.part.core lock).list) ∷ (lock, Content x) ∷ others)) }
         ensures lost { result ≡ false → (others : List (ℕ × Cell)) × AreOthers self.old.seat.me.1 (list_at lock) (Line self.old.seat.me.0.part.core.list) others × (self.new.seat.me ≡ (lost self.old.seat.me.0, (list_at lock, Line self.old.seat.me.0.part.core.list) ∷ others)) }
@@ -119,12 +118,12 @@ impl Seat16 {
 
     /// Leaves the wait list, as the context has to back off, if the owner word is still the one seen.
     pub fn die(&mut self, board: &Board, lock: u8, seen: Owner) -> bool
-        requires seat { IsSeated board.now.table.shared.table_id self.old }
-        requires lock { lock < length (first_graph board.now.table.shared.key) }
+        requires seat { IsSeatOf board.now self.old }
+        requires lock { lock < size_of board.now }
         requires may { (k : ℕ) × MayDie self.old.seat.me.0.part.core lock seen k }
         requires valid { IsValid seen }
         requires list { slot_of self.old.seat.me.1 (list_at lock) ≡ Some (Line self.old.seat.me.0.part.core.list) }
-        ensures seat { IsSeated board.now.table.shared.table_id self.new }
+        ensures seat { IsSeatOf board.now self.new }
         ensures records { self.new.records ≡ self.old.records }
         ensures older { (k : ℕ) → MayDie self.old.seat.me.0.part.core lock seen k → k < self.old.seat.me.0.part.core.stamp }
         ensures died { result ≡ true → (others : List (ℕ × Cell)) × AreOthers self.old.seat.me.1 (list_at lock) (Line self.old.seat.me.0.part.core.list) others × (self.new.seat.me ≡ (dying self.old.seat.me.0 seen, (list_at lock, Line (died self.old.seat.me.0.part.core seen).list) ∷ others)) }
@@ -150,14 +149,14 @@ impl Seat16 {
     /// Gives the lock back, if its owner word is still the one seen: to the first waiter, if that was asked for. The
     /// node goes home.
     pub fn give(&mut self, board: &Board, lock: u8, seen: Owner) -> bool
-        requires seat { IsSeated board.now.table.shared.table_id self.old }
-        requires lock { lock < length (first_graph board.now.table.shared.key) }
+        requires seat { IsSeatOf board.now self.old }
+        requires lock { lock < size_of board.now }
         requires may { MayGive self.old.seat.me.0.part.core lock }
         requires valid { IsValid seen }
         requires list { slot_of self.old.seat.me.1 (list_at lock) ≡ Some (Line self.old.seat.me.0.part.core.list) }
         requires waiters { AreSeats self.old.seat.me.0.part.core.list }
         requires out { (x : Node) × IsOut self.old.seat.me.1 lock (Content x) × (get_elem? self.old.seat.me.0.held lock ≡ some (Some x)) }
-        ensures seat { IsSeated board.now.table.shared.table_id self.new }
+        ensures seat { IsSeatOf board.now self.new }
         ensures records { self.new.records ≡ self.old.records }
         ensures gave { result ≡ true → (x : Node) × (others : List (ℕ × Cell)) × (self.new.seat.me.0 ≡ giving_inside self.old.seat.me.0 lock (seen.flags == 3)) × AreOthers self.old.seat.me.1 (list_at lock) (Line self.old.seat.me.0.part.core.list) others × AreOthers ((list_at lock, Line self.old.seat.me.0.part.core.list) ∷ others) lock (Content x) self.new.seat.me.1 }
         ensures lost { result ≡ false → (x : Node) × (others : List (ℕ × Cell)) × (rest : List (ℕ × Cell)) × AreOthers self.old.seat.me.1 (list_at lock) (Line self.old.seat.me.0.part.core.list) others × AreOthers ((list_at lock, Line self.old.seat.me.0.part.core.list) ∷ others) lock (Content x) rest × (self.new.seat.me ≡ (lost self.old.seat.me.0, (lock, Content x) ∷ rest)) }

@@ -1,6 +1,6 @@
 use Rattle.std.proofs.Common.{◌≡◌, length, sym, ap, ◌∙◌, subst, arith}
 use Rattle.ww_plain.proofs.GraphFacts.{all_item}
-use Rattle.ww_rounds.specs.Resting.{size_of}
+use Rattle.ww_table.specs.Seat.{size_of}
 use Rattle.ww_rounds.specs.Standing.{IsUnused}
 use Rattle.ww_rounds.proofs.Standing.{new_unused}
 use Rattle.ww_pace.proofs.load.go.Goals as goal
