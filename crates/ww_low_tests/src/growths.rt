@@ -17,7 +17,7 @@ use ww_script::{
 };
 
 /// What a call gives, or gives the second time if memory was refused to the first.
-fn twice<T, F: Fn() -> Result<T, AllocError>>(call: F) -> Result<T, AllocError>
+pub(crate) fn twice<T, F: Fn() -> Result<T, AllocError>>(call: F) -> Result<T, AllocError>
     requires { F.IsAlwaysCallable call }
 {
     match call() {

@@ -6,7 +6,9 @@ ghost use Rattle.ww_queue.specs.declared.kind.Kind.{Kind};
 ghost use Rattle.ww_table.specs.Seat.{IsNew, size_of};
 ghost use Rattle.ww_low_tests.specs.Looking.{Owns, Holds, MayLook, just};
 
+use crate::growths::twice;
 use crate::plain::{graph_of, node};
+use crate::tables::made;
 use crossbeam_utils::sync::{Parker, Unparker};
 use std::alloc::{AllocError, Global};
 use std::process::Abort;
@@ -49,7 +51,11 @@ pub(crate) fn compare<R: Abort>(
 }
 
 /// A board of two nodes, with its two seats.
-pub(crate) fn two_seats(alloc: Global, kind: Kind) -> Result<(Board, Seat16, Seat16), AllocError>
+pub(crate) fn two_seats<R: Abort>(
+    rt: &R,
+    alloc: Global,
+    kind: Kind,
+) -> Result<(Board, Seat16, Seat16), AllocError>
     ensures size { IfOk result (λ r. size_of r.0 ≡ 2) }
     ensures count { IfOk result (λ r. r.0.table.shared.key.seats ≡ 2) }
     ensures kind { IfOk result (λ r. r.0.table.shared.key.kind ≡ kind) }
@@ -57,10 +63,8 @@ pub(crate) fn two_seats(alloc: Global, kind: Kind) -> Result<(Board, Seat16, Sea
     ensures one { IfOk result (λ r. (k : ℕ) × IsNew r.0.table.shared.table_id r.0.table.shared.key k r.2) }
     ensures numbers { IfOk result (λ r. (r.1.who ≡ 0) × (r.2.who ≡ 1)) }
 {
-    let graph = graph_of(alloc, &[node(0, None); 2])?;
-    let Ok((board, mut seats)) = Board::make(alloc, kind, graph, 2) else {
-        return Err(AllocError);
-    };
+    let graph = twice(|| graph_of(alloc, &[node(0, None); 2]))?;
+    let (board, mut seats) = made(rt, alloc, kind, graph, 2)?;
     let (Some(one), Some(zero)) = (seats.pop(), seats.pop()) else {
         return Err(AllocError);
     };
@@ -140,7 +144,7 @@ fn tied<R: Abort>(rt: &R, alloc: Global, kind: Kind) -> Result<(Board, Seat16, S
     ensures older { IfOk result (λ r. Holds r.0 kind (just 0) r.1) }
     ensures younger { IfOk result (λ r. Holds r.0 kind (just 1) r.2) }
 {
-    let (board, mut older, mut younger) = two_seats(alloc, kind)?;
+    let (board, mut older, mut younger) = two_seats(rt, alloc, kind)?;
     compare(rt, &board, [0, 0], 0, [0, 0]);
     hold(rt, &board, &mut older, kind, 0, [0, 0]);
     compare(rt, &board, [264, 0], 0, [1, 0]);

@@ -197,7 +197,7 @@ fn crowd<R: Threads + Abort + Sync>(
     let count = count(rt, alloc, &all)?;
     let draws = u64::from(threads) * u64::from(TRIES);
     compare(rt, &board, [0, 0], 0, [draws, count as u64]);
-    let (records, graph) = closed(board, seats)?;
+    let (records, graph) = closed(rt, board, seats)?;
     assert!(rt; records.len() == count && count > 0);
     assert!(rt; has_sums(&graph, &all));
     Ok(())

@@ -2,13 +2,16 @@
 
 ghost use Rattle.std.specs.Prelude.{◌≡◌, ◌∷◌, [], IfOk};
 ghost use Rattle.ww_table.specs.Seat.{size_of};
-ghost use Rattle.ww_rounds.specs.Standing.{Did, at_first, began, took, committed, gave, ended};
+ghost use Rattle.ww_rounds.specs.Standing.{Deeds, Did, at_first, began, took, committed, gave, ended};
 
+use crate::growths::twice;
+use crate::plain::node;
 use crate::rings::{compare, two_seats};
 use crate::tables::closed;
 use std::alloc::{AllocError, Global};
 use std::process::Abort;
 use std::test::Fail;
+use ww_plain::{By, Record, Reply, Txn};
 use ww_queue::Kind;
 use ww_rounds::{begin, commit_one, end, give, take};
 use ww_table::{Board, Seat16};
@@ -39,15 +42,52 @@ fn take_one_each<R: Abort>(rt: &R, board: &Board, zero: &mut Seat16, one: &mut S
     compare(rt, board, [264, 528], 0, [2, 0]);
 }
 
-/// Seat 0 commits that its node has 1 more, gives it back, and ends.
-fn commit_and_give<R: Abort>(rt: &R, alloc: Global, board: &Board, zero: &mut Seat16)
+/// Makes room for the record of a first commit. Where the growth is refused, the seat has neither a record nor room,
+/// and is asked once more.
+fn reserve<R: Abort>(rt: &R, board: &Board, seat: &mut Seat16) -> Result<(), AllocError>
+    ensures { (d : Deeds) → Did board.now d seat.old → Did board.now d seat.new }
+{
+    if seat.reserve().is_err() {
+        assert!(rt; seat.commits() == 0 && !seat.is_reserved());
+        compare(rt, board, [264, 528], 0, [2, 0]);
+        seat.reserve()?;
+    }
+    assert!(rt; seat.commits() == 0 && seat.is_reserved());
+    Ok(())
+}
+
+/// Seat 0 commits that its node has 1 more. Where memory for the amounts is refused, nothing came of it, and it commits
+/// then.
+fn commit<R: Abort>(
+    rt: &R,
+    alloc: Global,
+    board: &Board,
+    zero: &mut Seat16,
+) -> Result<u64, AllocError>
+    requires { Did board.now (took (began (at_first 0)) 0) zero.old }
+    ensures { IfOk result (λ _. Did board.now (committed (took (began (at_first 0)) 0)) zero.new) }
+{
+    if let Ok(place) = commit_one(board, zero, alloc, 0, 0, 0) {
+        return Ok(place);
+    }
+    compare(rt, board, [264, 528], 0, [2, 0]);
+    let place = commit_one(board, zero, alloc, 0, 0, 0)?;
+    Ok(place)
+}
+
+/// Seat 0 makes room, commits that its node has 1 more, gives it back, and ends.
+fn commit_and_give<R: Abort>(
+    rt: &R,
+    alloc: Global,
+    board: &Board,
+    zero: &mut Seat16,
+) -> Result<(), AllocError>
     requires size { size_of board.now ≡ 2 }
     requires zero { Did board.now (took (began (at_first 0)) 0) zero.old }
-    ensures zero { Did board.now (ended (gave (committed (took (began (at_first 0)) 0)) [])) zero.new }
+    ensures zero { IfOk result (λ _. Did board.now (ended (gave (committed (took (began (at_first 0)) 0)) [])) zero.new) }
 {
-    let Ok(place) = commit_one(board, zero, alloc, 0, 0, 0) else {
-        panic!(rt; "no memory")
-    };
+    reserve(rt, board, zero)?;
+    let place = commit(rt, alloc, board, zero)?;
     assert_eq!(rt; place, 0);
     compare(rt, board, [264, 528], 0, [2, 1]);
     if !give(board, zero, 0) {
@@ -58,6 +98,7 @@ fn commit_and_give<R: Abort>(rt: &R, alloc: Global, board: &Board, zero: &mut Se
         panic!(rt; "nobody signs");
     }
     compare(rt, board, [0, 528], 0, [2, 1]);
+    Ok(())
 }
 
 /// Seat 1 takes the first node too, gives both back, and ends.
@@ -88,20 +129,39 @@ fn take_both<R: Abort>(rt: &R, board: &Board, one: &mut Seat16)
 fn both(alloc: Global, zero: Seat16, one: Seat16) -> Result<Vec<Seat16>, AllocError>
     ensures { IfOk result (λ seats. seats.items ≡ zero ∷ one ∷ []) }
 {
-    Ok(vec![in alloc; zero, one]?)
+    let mut seats = Vec::new(alloc);
+    if seats.reserve(2).is_err() {
+        seats.reserve(2)?;
+    }
+    seats.push_reserved(zero);
+    seats.push_reserved(one);
+    Ok(seats)
 }
 
+/// The record of seat 0's commit.
+fn record(alloc: Global) -> Result<Record, AllocError> {
+    Ok(Record {
+        caller: 0,
+        seq: 0,
+        txn: Txn::Add(By::List, Vec::from_slice(alloc, &[(0, 1)])?),
+        reply: Reply::Done,
+    })
+}
+
+/// `bench/refuse_library_growths` refuses each growth of it in turn: of making, of reserving and of closing too.
 #[test]
 fn two_seats_take_turns_at_two_nodes(rt: HostRuntime) -> Result<(), Fail> {
     let alloc = rt.alloc();
-    let (board, mut zero, mut one) = two_seats(alloc, Kind::WoundWait)?;
+    let (board, mut zero, mut one) = two_seats(&rt, alloc, Kind::WoundWait)?;
     compare(&rt, &board, [0, 0], 0, [0, 0]);
     take_one_each(&rt, &board, &mut zero, &mut one);
-    commit_and_give(&rt, alloc, &board, &mut zero);
+    commit_and_give(&rt, alloc, &board, &mut zero)?;
     take_both(&rt, &board, &mut one);
     let seats = both(alloc, zero, one)?;
-    let (records, graph) = closed(board, seats)?;
-    assert!(rt; records.len() == 1 && graph.size() == 2);
-    assert!(rt; graph.node(0).value == 1 && graph.node(1).value == 0);
+    let (records, graph) = closed(&rt, board, seats)?;
+    let record = twice(|| record(alloc))?;
+    assert!(rt; records.as_slice() == [record].as_slice());
+    assert!(rt; graph.size() == 2);
+    assert!(rt; graph.node(0) == node(1, None) && graph.node(1) == node(0, None));
     Ok(())
 }

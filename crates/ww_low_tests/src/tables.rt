@@ -1,58 +1,83 @@
 //! Tables of words and slots.
 
-ghost use Rattle.std.specs.Prelude.{◌<◌, ℕ, length, IfOk};
+ghost use Rattle.std.specs.Prelude.{◌<◌, ◌≤◌, ℕ, length, IfOk};
 ghost use Rattle.ww_rule.specs.Rule.{first_graph};
 ghost use Rattle.ww_table.specs.Seat.{IsNew};
 ghost use Rattle.ww_table.specs.Made.{IsMade};
 ghost use Rattle.ww_table.specs.Closed.{HaveAllCome};
 
-use crate::growths::{is_pair, pair};
+use crate::growths::{is_pair, pair, twice};
 use crate::plain::{graph_of, node};
 use std::alloc::{AllocError, Global};
+use std::process::Abort;
 use std::test::Fail;
 use ww_plain::{Graph, Record};
 use ww_queue::Kind;
 use ww_table::{Board, Seat16};
 
-/// A table with 16 seats. Where a growth is refused, the graph that came back is tried once more.
-fn made(
+/// A table of a graph. Where a growth is refused, the graph that came back is the one given, and is tried once more.
+pub(crate) fn made<R: Abort>(
+    rt: &R,
     alloc: Global,
     kind: Kind,
     graph: Graph,
-) -> Result<(Board, Vec<Seat16>), (Graph, AllocError)>
-    ensures { IfOk result (λ r. IsMade kind graph 16 r.0 r.1.items) }
+    seats: u8,
+) -> Result<(Board, Vec<Seat16>), AllocError>
+    requires { (1 ≤ seats) × (seats ≤ 16) }
+    ensures { IfOk result (λ r. IsMade kind graph seats r.0 r.1.items) }
 {
-    match Board::make(alloc, kind, graph, 16) {
+    let copy = twice(|| graph.copy(alloc))?;
+    match Board::make(alloc, kind, graph, seats) {
         Ok(made) => Ok(made),
-        Err((graph, _)) => Board::make(alloc, kind, graph, 16),
+        Err((graph, _)) => {
+            assert!(rt; graph.is_same(&copy));
+            Board::make(alloc, kind, graph, seats).map_err(|_| AllocError)
+        }
     }
 }
 
-/// Closes the table. Where a growth is refused, what came back is tried once more.
-pub(crate) fn closed(board: Board, seats: Vec<Seat16>) -> Result<(Vec<Record>, Graph), AllocError>
+/// How many nodes and seats there are, and how many commits the seats made.
+fn counts(board: &Board, seats: &[Seat16]) -> (u8, usize, u64) {
+    let mut commits = 0u64;
+    for seat in seats {
+        commits = commits.saturating_add(seat.commits());
+    }
+    (board.size(), seats.len(), commits)
+}
+
+/// Closes the table. Where a growth is refused, the board and the seats came back, and are closed once more.
+pub(crate) fn closed<R: Abort>(
+    rt: &R,
+    board: Board,
+    seats: Vec<Seat16>,
+) -> Result<(Vec<Record>, Graph), AllocError>
     requires { HaveAllCome board.table.shared.table_id board.table.shared.key seats.items }
 {
+    let before = counts(&board, &seats);
     match board.close(seats) {
         Ok(closed) => Ok(closed),
-        Err((board, seats, _)) => board.close(seats).map_err(|_| AllocError),
+        Err((board, seats, _)) => {
+            assert!(rt; counts(&board, &seats) == before);
+            board.close(seats).map_err(|_| AllocError)
+        }
     }
 }
 
 /// What closing gives of a table of nodes of 7 and 9 whose seats did nothing.
-fn at_once(alloc: Global, kind: Kind) -> Result<(Vec<Record>, Graph), AllocError> {
-    let graph = pair(alloc)?;
-    let (board, seats) = match made(alloc, kind, graph) {
-        Ok(made) => made,
-        Err((_, error)) => return Err(error),
-    };
-    closed(board, seats)
+fn at_once<R: Abort>(
+    rt: &R,
+    alloc: Global,
+    kind: Kind,
+) -> Result<(Vec<Record>, Graph), AllocError> {
+    let (board, seats) = made(rt, alloc, kind, pair(alloc)?, 16)?;
+    closed(rt, board, seats)
 }
 
 /// `bench/refuse_library_growths` refuses each growth of making and closing in turn: all comes back then.
 #[test]
 fn makes_and_closes_at_once(rt: HostRuntime) -> Result<(), Fail> {
     for kind in [Kind::WoundWait, Kind::WaitDie] {
-        let (records, graph) = at_once(rt.alloc(), kind)?;
+        let (records, graph) = at_once(&rt, rt.alloc(), kind)?;
         assert!(rt; records.is_empty() && is_pair(&graph));
     }
     Ok(())
@@ -73,15 +98,12 @@ fn takes_once(board: &Board, seat: &mut Seat16) -> (u64, bool)
 }
 
 /// The last seat of a table of two nodes takes node 0 and gives it back.
-fn last_takes_once(alloc: Global) -> Result<(u64, bool), AllocError> {
+fn last_takes_once<R: Abort>(rt: &R, alloc: Global) -> Result<(u64, bool), AllocError> {
     let graph = graph_of(alloc, &[node(0, None); 2])?;
     if graph.size() == 0 {
         return Err(AllocError);
     }
-    let (board, mut seats) = match made(alloc, Kind::WoundWait, graph) {
-        Ok(made) => made,
-        Err((_, error)) => return Err(error),
-    };
+    let (board, mut seats) = made(rt, alloc, Kind::WoundWait, graph, 16)?;
     let Some(mut seat) = seats.pop() else {
         return Err(AllocError);
     };
@@ -90,7 +112,7 @@ fn last_takes_once(alloc: Global) -> Result<(u64, bool), AllocError> {
 
 #[test]
 fn takes_and_gives_at_once(rt: HostRuntime) -> Result<(), Fail> {
-    let (word, gave) = last_takes_once(rt.alloc())?;
+    let (word, gave) = last_takes_once(&rt, rt.alloc())?;
     assert!(rt; word == 8 * 16 + 256 && gave);
     Ok(())
 }

@@ -5,8 +5,8 @@ use Rattle.ww_low_tests.proofs.Popped.{before_last}
 use Rattle.ww_low_tests.proofs.rings.two_seats.Goals as goal
 
 pub returns-clause-zero : goal.returns-clause-zero
-returns-clause-zero c = let m = c.in-Ok.ensures.ok in
-    let whole : c.in-Ok.seats.items ≡ c.pop.new.self.items ++ c.in-Some-Some.one ∷ [] = search rules in
+returns-clause-zero g c = let m = c.in_ok-board.ensures in
+    let whole : c.in_ok-board.seats.items ≡ c.pop.new.self.items ++ c.in-Some-Some.one ∷ [] = search rules in
     let front : c.pop.new.self.items ≡ c.pop-2.new.self.items ++ c.in-Some-Some.zero ∷ [] = search rules in (
       length c.pop-2.new.self.items,
       m.seats_are.new (length c.pop-2.new.self.items) c.in-Some-Some.zero
@@ -14,16 +14,16 @@ returns-clause-zero c = let m = c.in-Ok.ensures.ok in
     )
 
 pub returns-clause-one : goal.returns-clause-one
-returns-clause-one c = let m = c.in-Ok.ensures.ok in
-    let whole : c.in-Ok.seats.items ≡ c.pop.new.self.items ++ c.in-Some-Some.one ∷ [] = search rules in (
+returns-clause-one g c = let m = c.in_ok-board.ensures in
+    let whole : c.in_ok-board.seats.items ≡ c.pop.new.self.items ++ c.in-Some-Some.one ∷ [] = search rules in (
       length c.pop.new.self.items,
       m.seats_are.new (length c.pop.new.self.items) c.in-Some-Some.one
           (ap (λ l. get_elem? l (length c.pop.new.self.items)) whole ∙ at_last c.pop.new.self.items c.in-Some-Some.one (length c.pop.new.self.items) refl),
     )
 
 pub returns-clause-numbers : goal.returns-clause-numbers
-returns-clause-numbers c = let m = c.in-Ok.ensures.ok in
-    let whole : c.in-Ok.seats.items ≡ c.pop.new.self.items ++ c.in-Some-Some.one ∷ [] = search rules in
+returns-clause-numbers g c = let m = c.in_ok-board.ensures in
+    let whole : c.in_ok-board.seats.items ≡ c.pop.new.self.items ++ c.in-Some-Some.one ∷ [] = search rules in
     let front : c.pop.new.self.items ≡ c.pop-2.new.self.items ++ c.in-Some-Some.zero ∷ [] = search rules in
     let zero = m.seats_are.new (length c.pop-2.new.self.items) c.in-Some-Some.zero
     (ap (λ l. get_elem? l (length c.pop-2.new.self.items)) (whole ∙ ap (λ l. l ++ c.in-Some-Some.one ∷ []) front) ∙ before_last c.pop-2.new.self.items c.in-Some-Some.zero c.in-Some-Some.one) in

@@ -15,4 +15,4 @@ closed-requires g c = let board = c.in_ok-board.board in
     let zero : Deeds = ended (gave (committed (took (began (at_first 0)) 0)) []) in
     let one : Deeds = ended (gave (gave (took (took (began (at_first 1)) 1) 0) (1 ∷ [])) []) in
     subst (HaveAllCome board.table.shared.table_id board.table.shared.key) (sym c.in_ok-seats.ensures) (all_come board (c.commit_and_give.new.zero ∷ c.take_both.new.one ∷ [])
-    (two_come board zero one c.commit_and_give.new.zero c.take_both.new.one c.commit_and_give.ensures.zero c.take_both.ensures.one refl refl refl refl) (sym c.in_ok-board.ensures.count))
+    (two_come board zero one c.commit_and_give.new.zero c.take_both.new.one c.in_ok-commit_and_give.ensures.zero c.take_both.ensures.one refl refl refl refl) (sym c.in_ok-board.ensures.count))
