@@ -1,51 +1,75 @@
-//! Times rounds on the table of the running locks. Its arguments are a load (`pairs`, `pairs-of-64` or `commits`) and
+//! Times rounds on the table of the running locks. It reads a line: a load (`pairs`, `pairs-of-64` or `commits`) and
 //! three numbers: how many threads there are, how many rounds each makes, and how often all of them are timed. It
 //! writes a line for each time: nanoseconds, and how many rounds came to hold their lock. Where nothing is to be timed
-//! it makes the rounds of each load once and writes the latter alone, which on one thread is the same each time.
+//! it makes the rounds of each load once and writes the latter alone, which on one thread is the same each time; so it
+//! does on one thread where the line is empty. Its status is 2 where it doesn't know a word, or has too few or too
+//! many.
 #![tactic(auto)]
+
+ghost use Rattle.std.specs.Prelude.{◌≤◌, IfSome};
 
 mod load;
 
 use load::{Load, What, go};
-use std::{env, io};
+use std::io;
+use std::process::ExitCode;
 use ww_word::MAX_SEATS;
 
-fn main(rt: HostRuntime) -> io::Result<()> {
-    let mut numbers = [0u32; 3];
-    let mut what = What::Pairs;
-    for (at, word) in env::args(&rt)?.enumerate() {
-        if word.as_str() == "pairs-of-64" {
-            what = What::PairsOf64;
-        }
-        if word.as_str() == "commits" {
-            what = What::Commits;
-        }
-        if let Some(number) = at.checked_sub(2).and_then(|at| numbers.get_mut(at)) {
-            *number = word.parse().unwrap_or(0);
-        }
+/// The loads, each with its word.
+const LOADS: [(&str, What); 3] = [
+    ("pairs", What::Pairs),
+    ("pairs-of-64", What::PairsOf64),
+    ("commits", What::Commits),
+];
+
+/// What an empty line stands for.
+const UNTIMED: Load = Load {
+    what: What::Pairs,
+    threads: 1,
+    rounds: 1_000,
+};
+
+/// What is to be timed, and how often, by the words of the line.
+fn read_words(words: &[&str]) -> Option<(Load, u32)>
+    ensures { IfSome result (λ r. (1 ≤ r.0.threads) × (r.0.threads ≤ 16)) }
+{
+    if words.is_empty() {
+        return Some((UNTIMED, 0));
     }
-    let [threads, rounds, times] = numbers;
-    let threads = u8::try_from(threads).unwrap_or(0).clamp(1, MAX_SEATS as u8);
-    if times == 0 {
-        for what in [What::Pairs, What::PairsOf64, What::Commits] {
-            let load = Load {
-                what,
-                threads,
-                rounds,
-            };
-            let told = go(&rt, rt.alloc(), load)?;
-            println!(rt; "{} held", told.held)?;
-        }
-        return Ok(());
+    let [load, threads, rounds, times] = words else {
+        return None;
+    };
+    let (_, what) = LOADS.into_iter().find(|(name, _)| *name == *load)?;
+    let threads: u8 = threads.parse().ok()?;
+    if threads < 1 || MAX_SEATS < usize::from(threads) {
+        return None;
     }
     let load = Load {
         what,
         threads,
-        rounds,
+        rounds: rounds.parse().ok()?,
     };
+    Some((load, times.parse().ok()?))
+}
+
+fn main(rt: HostRuntime) -> io::Result<ExitCode> {
+    let mut line = String::new(rt.alloc());
+    rt.read_line(&mut line)?;
+    let words: Vec<&str> = line.split_ascii_whitespace().collect(rt.alloc())?;
+    let Some((load, times)) = read_words(&words) else {
+        eprintln!(rt; "usage: a line of standard input has LOAD THREADS ROUNDS TIMES, or nothing")?;
+        return Ok(ExitCode::from(2));
+    };
+    if times == 0 {
+        for (_, what) in LOADS {
+            let told = go(&rt, rt.alloc(), Load { what, ..load })?;
+            println!(rt; "{} held", told.held)?;
+        }
+        return Ok(ExitCode::SUCCESS);
+    }
     for _ in 0..times {
         let told = go(&rt, rt.alloc(), load)?;
         println!(rt; "{} {}", told.nanoseconds, told.held)?;
     }
-    Ok(())
+    Ok(ExitCode::SUCCESS)
 }
