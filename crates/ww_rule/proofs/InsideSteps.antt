@@ -273,18 +273,17 @@ read_is slots i me me' x told = let v : View = me.0.part.core in dite (ℕ_discr
 -- ---- the same of a list slot that was brought to the front, by the number and stamp that the seat keeps
 
 pub takes_brought : (key : Start) (slots id : ℕ) (v : Sight) (me : Sat) (n : ℕ) (o : Owner) (cs : List (ℕ × Cell)) (i old new who stamp flags : ℕ) → me.0 ≡ v → me.1 ≡ (64 + n, Line v.part.core.list) ∷ cs → i ≡ 8 * n → old ≡ packed o
-    → new ≡ packed (record { seat = Some who; stamp = stamp; flags = flags }) → v.part.core.who ≡ who → v.part.core.stamp ≡ stamp → flags ≡ waiting (left v.part.core.list who)
+    → new ≡ packed (record { seat = Some who; stamp = stamp; flags = flags }) → v.part.core.who ≡ who → v.part.core.stamp ≡ stamp → flags ≡ waiting (left v.part.core.list v.part.core.who)
     → n < length (first_graph key) → v.seated ≡ true → MayTake v.part.core n o → IsValid o → Allows (Ruled key) slots id me i (λ x. either (eqb x old) new x) (tries_to takes_inside (step slots i old new none) me)
 takes_brought key slots id v me n o cs i old new who stamp flags view top at was is is_who is_stamp is_flags small seated may valid =
     subst (λ (m : Sat). Allows (Ruled key) slots id m i (λ x. either (eqb x old) new x) (tries_to takes_inside (step slots i old new none) m)) (λ j. (sym view j, me.1))
-    (takes_lock key slots id (v, me.1) n o (Line v.part.core.list) cs i old new at was
-    (is ∙ (λ j. packed (record { seat = Some (sym is_who j); stamp = sym is_stamp j; flags = (is_flags ∙ ap (λ (t : ℕ). waiting (left v.part.core.list t)) (sym is_who)) j }))) small seated may valid top)
+    (takes_lock key slots id (v, me.1) n o (Line v.part.core.list) cs i old new at was (is ∙ (λ j. packed (record { seat = Some (sym is_who j); stamp = sym is_stamp j; flags = is_flags j }))) small seated may valid top)
 
-pub dies_brought : (key : Start) (slots id : ℕ) (v : Sight) (me : Sat) (n : ℕ) (o p : Owner) (k : ℕ) (i old new who : ℕ) → me.0 ≡ v → i ≡ 8 * n → old ≡ packed o → new ≡ packed p → v.part.core.who ≡ who → p ≡ rest_word (left v.part.core.list who) o
+pub dies_brought : (key : Start) (slots id : ℕ) (v : Sight) (me : Sat) (n : ℕ) (o p : Owner) (k : ℕ) (i old new : ℕ) → me.0 ≡ v → i ≡ 8 * n → old ≡ packed o → new ≡ packed p → p ≡ rest_word (left v.part.core.list v.part.core.who) o
     → v.seated ≡ true → MayDie v.part.core n o k → IsValid o → Allows (Ruled key) slots id me i (λ x. either (eqb x old) new x) (dies_to (step slots i old new none) me)
-dies_brought key slots id v me n o p k i old new who view at was is is_who is_rest seated may valid =
+dies_brought key slots id v me n o p k i old new view at was is is_rest seated may valid =
     subst (λ (m : Sat). Allows (Ruled key) slots id m i (λ x. either (eqb x old) new x) (dies_to (step slots i old new none) m)) (λ j. (sym view j, me.1))
-    (dies_waiting key slots id (v, me.1) n o k i old new at was (is ∙ ap packed (is_rest ∙ ap (λ (t : ℕ). rest_word (left v.part.core.list t) o) (sym is_who))) seated may valid)
+    (dies_waiting key slots id (v, me.1) n o k i old new at was (is ∙ ap packed is_rest) seated may valid)
 
 pub gives_with_list : (key : Start) (slots id : ℕ) (v : Sight) (me : Sat) (n : ℕ) (o p : Owner) (x : Node) (others : List (ℕ × Cell)) (i old new : ℕ) → me.0 ≡ v → me.1 ≡ (n, Content x) ∷ others → i ≡ 8 * n → old ≡ packed o → new ≡ packed p
     → p ≡ given_word (o.flags == 3) v.part.core.list → v.seated ≡ true → MayGive v.part.core n → get_elem? v.held n ≡ some (Some x) → IsValid o → Allows (Ruled key) slots id me i (λ x. either (eqb x old) new x) (tries_to gives_inside (step slots i old new none) me)

@@ -7,11 +7,10 @@ use Rattle.ww_word.specs.Owner.{IsValid, AreFlags}
 use Rattle.atomic_table.specs.Table.{rest}
 use Rattle.ww_queue.specs.declared.entry.Entry.{Entry}
 use Rattle.ww_queue.specs.Queue.{left}
-use Rattle.ww_plain.specs.declared.node.Node.{Node}
 use Rattle.ww_model.specs.State.{waiting}
 use Rattle.ww_view.specs.Word.{given_word, rest_word}
 use Rattle.ww_rule.specs.declared.cells.Cell.{Cell}
-use Rattle.ww_rule.specs.declared.cells.Cell.TheVariants.{Content, Line}
+use Rattle.ww_rule.specs.declared.cells.Cell.TheVariants.{Line}
 use Rattle.ww_rule.specs.Rule.{Sat}
 use Rattle.ww_rule.specs.Out.{slot_of, AreOthers}
 use Rattle.ww_rule.specs.Guards.{AreSeats}
@@ -32,21 +31,6 @@ slot_brought slots same now others n m x y as_was at is there others_are top =
 pub list_brought : (slots same now others : List (ℕ × Cell)) (n m : ℕ) (q : List Entry) (y : Cell) → same ≡ slots → m ≡ 64 + n → slot_of slots (64 + n) ≡ Some (Line q) → slot_of same m ≡ Some y → AreOthers same m y others
     → now ≡ (m, y) ∷ others → AreOthers slots (64 + n) (Line q) others × (now ≡ (64 + n, Line q) ∷ others)
 list_brought slots same now others n m q = slot_brought slots same now others (64 + n) m (Line q)
-
-abbrev line_of : Cell → List Entry
-line_of (Line q) = q
-line_of (Content x) = []
-
-abbrev top_of : List (ℕ × Cell) → Cell
-top_of [] = Line []
-top_of (x ∷ xs) = x.1
-
--- what lies in the slot taken last, read there
-pub line_there : (now others : List (ℕ × Cell)) (n k : ℕ) (q w : List Entry) (z : Cell) → now ≡ (n, Line q) ∷ others → now ≡ (k, z) ∷ rest now → z ≡ Line w → w ≡ q
-line_there now others n k q w z top read is = sym (ap (λ (l : List (ℕ × Cell)). line_of (top_of l)) (sym top ∙ read) ∙ ap line_of is)
-
-pub no_node_there : (now others : List (ℕ × Cell)) (n k : ℕ) (q : List Entry) (z : Cell) (x : Node) → now ≡ (n, Line q) ∷ others → now ≡ (k, z) ∷ rest now → z ≡ Content x → ⊥
-no_node_there now others n k q z x top read is = let e : Line q ≡ z = ap (λ (l : List (ℕ × Cell)). top_of l) (sym top ∙ read) in let f = e ∙ is in cc
 
 -- the slot that was taken last, by its number
 pub on_top : (now others : List (ℕ × Cell)) (n k : ℕ) (y : Cell) → now ≡ (n, y) ∷ others → k ≡ n → now ≡ (k, y) ∷ rest now

@@ -6,10 +6,11 @@ mod cells;
 pub mod homes;
 pub mod layout;
 pub mod lists;
-mod out;
+pub mod nodes;
 pub mod plays;
 pub mod plays_inside;
 pub mod records;
+mod slots_out;
 
 pub use cells::{Cell, Part, Sight, Start, TableSeat, Top, Waiters, Words};
-pub use out::{MAX_OUT, bring};
+pub use slots_out::{MAX_OUT, bring};

@@ -1,8 +1,8 @@
 //! The wait list that a seat took last, read and changed in its slot. None of this is a step: nobody else sees it.
-ghost use Rattle.std.specs.Prelude.{◌≡◌, ◌∷◌, List, slice_get};
+ghost use Rattle.std.specs.Prelude.{◌≡◌, ◌<◌, ◌∷◌, List, length, slice_get};
 ghost use Rattle.atomic_table.specs.Table.{rest};
 ghost use Rattle.ww_queue.specs.declared.entry.Entry.{Entry};
-ghost use Rattle.ww_queue.specs.Queue.{left};
+ghost use Rattle.ww_queue.specs.Queue.{StandsNot, IsNewStamp, joined, left};
 ghost use Rattle.ww_queue.specs.Rules.{must_die, owed_signs};
 ghost use Rattle.ww_model.specs.State.{waiting};
 ghost use Rattle.ww_view.specs.Word.{given_word};
@@ -44,7 +44,7 @@ fn owner_after(queue: &Queue, is_asked: bool) -> Owner
 }
 
 /// The flag of the waiters that are left in the list that was taken last, once this seat has gone.
-pub fn flag_left(seat: &mut TableSeat, shared: &Top, slot: u8, who: u8) -> u8
+pub fn flag_there(seat: &mut TableSeat, shared: &Top, slot: u8, who: u8) -> u8
     requires home { seat.old.table_id ≡ shared.now.table_id }
     requires top { (q : List Entry) × (seat.old.me.1 ≡ (slot, Line q) ∷ rest seat.old.me.1) }
     ensures home { (seat.new.table_id ≡ seat.old.table_id) × (seat.new.id ≡ seat.old.id) }
@@ -53,6 +53,20 @@ pub fn flag_left(seat: &mut TableSeat, shared: &Top, slot: u8, who: u8) -> u8
 {
     match seat.slot_mut(shared, usize::from(slot)) {
         Cell::Line(waiters) => flag_without(&waiters.queue, who),
+        Cell::Content(_) => unreachable!(),
+    }
+}
+
+/// Puts a waiter into the list that was taken last: one that doesn't stand there, and has a stamp of its own or none.
+pub fn join_list(seat: &mut TableSeat, shared: &Top, slot: u8, entry: Entry)
+    requires home { seat.old.table_id ≡ shared.now.table_id }
+    requires top { (q : List Entry) × (seat.old.me.1 ≡ (slot, Line q) ∷ rest seat.old.me.1) × (length q < 16) × StandsNot q entry.seat × IsNewStamp q entry.stamp }
+    ensures home { (seat.new.table_id ≡ seat.old.table_id) × (seat.new.id ≡ seat.old.id) }
+    ensures view { seat.new.me.0 ≡ seat.old.me.0 }
+    ensures list { (q : List Entry) → seat.old.me.1 ≡ (slot, Line q) ∷ rest seat.old.me.1 → seat.new.me.1 ≡ (slot, Line (joined q entry)) ∷ rest seat.old.me.1 }
+{
+    match seat.slot_mut(shared, usize::from(slot)) {
+        Cell::Line(waiters) => waiters.queue.join(entry),
         Cell::Content(_) => unreachable!(),
     }
 }
@@ -74,7 +88,7 @@ pub fn leave_list(seat: &mut TableSeat, shared: &Top, slot: u8, who: u8)
 }
 
 /// The owner of a lock that is given back, with the list that was taken last.
-pub fn next_owner(seat: &mut TableSeat, shared: &Top, slot: u8, is_asked: bool) -> Owner
+pub fn owner_there(seat: &mut TableSeat, shared: &Top, slot: u8, is_asked: bool) -> Owner
     requires home { seat.old.table_id ≡ shared.now.table_id }
     requires top { (q : List Entry) × (seat.old.me.1 ≡ (slot, Line q) ∷ rest seat.old.me.1) }
     ensures home { (seat.new.table_id ≡ seat.old.table_id) × (seat.new.id ≡ seat.old.id) }

@@ -1,12 +1,9 @@
 -- Closing a table: the records in the order of their places.
-use Rattle.std.proofs.Common.{◌≡◌, ◌≢◌, ◌⊎◌, ℕ, zero, suc, ◌+◌, ◌<◌, ◌≤◌, Bool, true, false, eqb, List, [], ◌∷◌, ◌++◌, length, set, take, get_or, sym, refl, ap, ◌∙◌, subst, ⊎_elim, inl, inr, arith, Option, Some, None, length-set, length-append, get_or-set_other}
+use Rattle.std.proofs.Common.{◌≡◌, ◌≢◌, ℕ, zero, suc, ◌+◌, ◌<◌, Bool, true, false, eqb, List, [], ◌∷◌, ◌++◌, length, take, get_or, sym, refl, ap, ◌∙◌, subst, ⊎_elim, inl, inr, arith, Option, Some, None, length-append}
 use Rattle.std.specs.Bool.{if◌then◌else◌}
 use Rattle.std.specs.List.{AllByRecursion}
-use mathlib.Core.Logic.{dite}
 use mathlib.Core.Option.{some, some-injective}
-use native.Mathlib.Decide.{ℕ_discrete}
 use lib.ListN.{get_elem?}
-use Rattle.atomic_table.proofs.Lists.{set_here, set_else, at_last, at_longer}
 use Rattle.ww_queue.specs.Queue.{Has}
 use Rattle.ww_plain.specs.declared.history.Record.{Record}
 use Rattle.ww_plain.specs.History.{Recorded, recorded_of, history_of, part_from, part_of}
@@ -14,64 +11,21 @@ use Rattle.ww_plain.proofs.Members.{eqb_same}
 use Rattle.atomic_table.specs.declared.shared.Seat.{Seat}
 use Rattle.atomic_table.specs.Seated.{TableId}
 use Rattle.ww_view.specs.View.{IsBare}
-use Rattle.ww_plain.specs.declared.node.Node.{Node}
 use Rattle.ww_rule.specs.declared.cells.Cell.{Cell}
-use Rattle.ww_rule.specs.declared.cells.Cell.TheVariants.{Content}
 use Rattle.ww_rule.specs.declared.cells.Part.{Part}
 use Rattle.ww_rule.specs.declared.cells.Sight.{Sight}
 use Rattle.ww_table.specs.declared.seat.Seat16.{Seat16}
 use Rattle.ww_rule.specs.Steps.{with_seat}
 use Rattle.ww_rule.specs.Rule.{own_of}
+use Rattle.ww_rule.proofs.Filling.{has_more, has_last, has_either}
 use Rattle.ww_rule.specs.Records.{ArePut, AreFree, somes}
-use Rattle.ww_rule.specs.Homes.{AreTakenBelow}
 use Rattle.ww_table.specs.Closed.{HasCome, AreLaid, IsGathered, parts_of}
 
 pub has_all : {A : Type 0} (P : A → Type 0) (xs : List A) (x : A) → AllByRecursion P xs → Has xs x → P x
 has_all P [] x all h = absurd h
 has_all P (y ∷ ys) x all h = ⊎_elim (λ is. subst P (sym is) all.0) (λ more. has_all P ys x all.1 more) h
 
-pub all_at : {A : Type 0} (P : A → Type 0) (xs ys : List A) (y : A) → AllByRecursion P (xs ++ y ∷ ys) → P y
-all_at P [] ys y all = all.0
-all_at P (x ∷ xs) ys y all = all_at P xs ys y all.1
-
-pub has_more : {A : Type 0} (xs ys : List A) (x : A) → Has xs x → Has (xs ++ ys) x
-has_more [] ys x h = absurd h
-has_more (y ∷ xs) ys x h = ⊎_elim (λ is. inl is) (λ more. inr (has_more xs ys x more)) h
-
-pub has_last : {A : Type 0} (xs : List A) (x : A) → Has (xs ++ x ∷ []) x
-has_last [] x = inl refl
-has_last (y ∷ xs) x = inr (has_last xs x)
-
-pub has_either : {A : Type 0} (xs : List A) (y x : A) → Has (xs ++ y ∷ []) x → Has xs x ⊎ (x ≡ y)
-has_either [] y x h = ⊎_elim (λ is. inr is) (λ none. absurd none) h
-has_either (z ∷ xs) y x h = ⊎_elim (λ is. inl (inl is)) (λ more. ⊎_elim (λ a. inl (inr a)) (λ b. inr b) (has_either xs y x more)) h
-
-pub below_more : (m n : ℕ) (own : List (ℕ × Record)) → m ≤ n → AllByRecursion (λ (p : ℕ × Record). p.0 < m) own → AllByRecursion (λ (p : ℕ × Record). p.0 < n) own
-below_more m n [] le all = tt
-below_more m n (p ∷ ps) le all = (let h = all.0 in omega arith, below_more m n ps le all.1)
-
 -- ---- records in their places
-
-pub put_none : (places : List (Option Record)) → ArePut places [] places
-put_none places = record { size = refl; sound = λ i r e. inl e; kept = λ i r e. (r, e); filled = λ i r h. absurd h }
-
-pub put_one : (old places : List (Option Record)) (own : List (ℕ × Record)) (i : ℕ) (r : Record) → ArePut old own places → i < length places → ArePut old (own ++ (i, r) ∷ []) (set places i (Some r))
-put_one old places own i r are small = record {
-  size = length-set places i (Some r) ∙ are.size;
-  sound = λ j t e. dite (ℕ_discrete j i)
-      (λ is. let same : Some r ≡ Some t = some-injective (Some r) (Some t) (sym (set_here places i (Some r) small) ∙ ap (get_elem? (set places i (Some r))) (sym is) ∙ e) in
-      inr (subst (λ (p : ℕ × Record). Has (own ++ (i, r) ∷ []) p) (λ k. (sym is k, (let z : r ≡ t = cc in z) k)) (has_last own (i, r))))
-      (λ isnt. ⊎_elim (λ was. inl was) (λ h. inr (has_more own ((i, r) ∷ []) (j, t) h)) (are.sound j t (sym (set_else places i j (Some r) isnt) ∙ e)));
-  kept = λ j t e. dite (ℕ_discrete j i)
-      (λ is. (r, ap (get_elem? (set places i (Some r))) is ∙ set_here places i (Some r) small))
-      (λ isnt. let k = are.kept j t e in (k.0, set_else places i j (Some r) isnt ∙ k.1));
-  filled = λ j t h. ⊎_elim
-      (λ was. dite (ℕ_discrete j i)
-      (λ is. (r, ap (get_elem? (set places i (Some r))) is ∙ set_here places i (Some r) small))
-      (λ isnt. let k = are.filled j t was in (k.0, set_else places i j (Some r) isnt ∙ k.1)))
-      (λ is. (r, ap (λ (p : ℕ × Record). get_elem? (set places i (Some r)) p.0) is ∙ set_here places i (Some r) small))
-      (has_either own (i, r) (j, t) h);
-}
 
 -- the records of one more number
 pub laid_more : (parts : List Part) (p : Part) (old new : List (Option Record)) (own : List (ℕ × Record)) → AreLaid parts old → own ≡ p.own → ArePut old own new → AreLaid (parts ++ p ∷ []) new
@@ -197,30 +151,6 @@ gathered_all table seats later last count token places g is = record {
   all = λ s h. g.all s (⊎_elim (λ was. inr was) (λ same. inl same) (has_either later last s (subst (λ l. Has l s) is h)));
   many = let l = ap (λ (ss : List Seat16). length ss) is in let a = length-append later (last ∷ []) in let m = g.many in omega arith;
 }
-
--- ---- taking the slots of a closed table
-
-pub none_taken : (count : ℕ) (filled : List Bool) → ((k : ℕ) → 0 ≤ k → k < count → get_or filled k false ≡ true) → AreTakenBelow 0 count filled
-none_taken count filled full = record { there = full; gone = λ k low. absurd (omega arith) }
-
-pub take_on : (taken count : ℕ) (filled : List Bool) → AreTakenBelow taken count filled → AreTakenBelow (taken + 1) count (set filled taken false)
-take_on taken count filled are = record {
-  there = λ k low small. get_or-set_other filled taken k false false (λ e. omega arith) ∙ are.there k (omega arith) small;
-  gone = λ k low. dite (ℕ_discrete k taken)
-      (λ e. ap (λ (i : ℕ). get_or (set filled taken false) i false) e ∙ set_false filled taken)
-      (λ ne. get_or-set_other filled taken k false false ne ∙ are.gone k (omega arith));
-}
-  where
-    set_false : (fs : List Bool) (i : ℕ) → get_or (set fs i false) i false ≡ false
-    set_false [] i = refl
-    set_false (f ∷ fs) zero = refl
-    set_false (f ∷ fs) (suc i) = set_false fs i
-
-pub node_more : (nodes : List Node) (slots : List Cell) (n : ℕ) (node : Node) → length nodes ≡ n → get_elem? slots n ≡ some (Content node) → ((k : ℕ) (x : Node) → k < n → get_elem? slots k ≡ some (Content x) → get_elem? nodes k ≡ some x)
-    → (k : ℕ) (x : Node) → k < n + 1 → get_elem? slots k ≡ some (Content x) → get_elem? (nodes ++ node ∷ []) k ≡ some x
-node_more nodes slots n node long here are k x low e = dite (ℕ_discrete k n)
-    (λ is. ap (get_elem? (nodes ++ node ∷ [])) is ∙ at_last nodes node n long ∙ ap some (let z : some (Content node) ≡ some (Content x) = sym here ∙ sym (ap (get_elem? slots) is) ∙ e in let y : Content node ≡ Content x = some-injective _ _ z in let w : node ≡ x = cc in w))
-    (λ isnt. at_longer nodes (node ∷ []) k x (are k x (omega arith) e))
 
 pub none_left : {A : Type 0} (xs : List A) → length xs ≡ 0 → xs ≡ []
 none_left [] e = refl

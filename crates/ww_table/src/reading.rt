@@ -1,7 +1,10 @@
 //! What a seat inside a guard reads in the wait list. None of this is a step: nobody else sees it.
 ghost use Rattle.std.specs.Prelude.{◌≡◌, ◌<◌, slice_get, Option, Some};
 ghost use Rattle.ww_queue.specs.declared.entry.Entry.{Entry};
+ghost use Rattle.ww_queue.specs.Queue.{left};
 ghost use Rattle.ww_queue.specs.Rules.{must_die, owed_signs};
+ghost use Rattle.ww_model.specs.State.{waiting};
+ghost use Rattle.ww_view.specs.Word.{given_word};
 ghost use Rattle.ww_rule.specs.declared.cells.Cell.TheVariants.{Line};
 ghost use Rattle.ww_rule.specs.Layout.{list_at};
 ghost use Rattle.ww_table.specs.Seat.{IsSeatOf, size_of};
@@ -12,7 +15,7 @@ use crate::board::Board;
 use crate::seat::Seat16;
 use arrayvec::ArrayVec;
 use ww_queue::{Entry, Kind, MAX_WAITERS};
-use ww_rule::lists::{death_there, first_there, owed_there};
+use ww_rule::lists::{death_there, first_there, flag_there, owed_there, owner_there};
 use ww_word::Owner;
 
 impl Seat16 {
@@ -84,5 +87,33 @@ impl Seat16 {
     {
         let slot = self.bring_list(lock);
         first_there(&mut self.seat, &board.table.shared, slot)
+    }
+
+    /// The flag of the waiters that are left once the seat has gone.
+    pub(crate) fn flag_left(&mut self, board: &Board, lock: u8) -> u8
+        requires seat { IsSeatOf board.now self.old }
+        requires lock { lock < size_of board.now }
+        requires list { slot_of self.old.seat.me.1 (list_at lock) ≡ Some (Line self.old.seat.me.0.part.core.list) }
+        ensures seat { IsSeatOf board.now self.new }
+        ensures read { HasListOnTop self.old.seat.me lock self.new.seat.me }
+        ensures flag { result ≡ waiting (left self.old.seat.me.0.part.core.list self.old.seat.me.0.part.core.who) }
+        ensures same { self.new ≡ record self.old { seat = self.new.seat; order = self.new.order } }
+    {
+        let slot = self.bring_list(lock);
+        flag_there(&mut self.seat, &board.table.shared, slot, self.who)
+    }
+
+    /// Whose the lock is once it is given back: the first waiter's if that was asked for, else nobody's.
+    pub(crate) fn next_owner(&mut self, board: &Board, lock: u8, is_asked: bool) -> Owner
+        requires seat { IsSeatOf board.now self.old }
+        requires lock { lock < size_of board.now }
+        requires list { slot_of self.old.seat.me.1 (list_at lock) ≡ Some (Line self.old.seat.me.0.part.core.list) }
+        ensures seat { IsSeatOf board.now self.new }
+        ensures read { HasListOnTop self.old.seat.me lock self.new.seat.me }
+        ensures owner { result ≡ given_word is_asked self.old.seat.me.0.part.core.list }
+        ensures same { self.new ≡ record self.old { seat = self.new.seat; order = self.new.order } }
+    {
+        let slot = self.bring_list(lock);
+        owner_there(&mut self.seat, &board.table.shared, slot, is_asked)
     }
 }

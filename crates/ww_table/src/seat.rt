@@ -16,11 +16,11 @@ ghost use Rattle.ww_rule.specs.Steps.{knowing, drawing, taking, giving, MayDraw,
 
 use crate::board::Board;
 use arrayvec::ArrayVec;
-use std::mem;
 use ww_plain::{Node, Record};
 use ww_rule::layout::{STAMP, owner_word, sign_word};
+use ww_rule::nodes::{node_there, swap_there};
 use ww_rule::plays::{Draw, End, GiveFree, TakeFree};
-use ww_rule::{Cell, MAX_OUT, TableSeat, bring};
+use ww_rule::{MAX_OUT, TableSeat, bring};
 use ww_word::{Owner, pack};
 
 /// A seat of a board. It may start one context after another. Each of its steps is one atomic operation on one word;
@@ -165,10 +165,7 @@ impl Seat16 {
         ensures read { (others : List (ℕ × Cell)) × AreOthers self.old.seat.me.1 lock (Content result) others × (self.new.seat.me ≡ (self.old.seat.me.0, (lock, Content result) ∷ others)) }
     {
         bring(&mut self.seat, &mut self.order, lock);
-        match self.seat.slot_mut(&board.table.shared, usize::from(lock)) {
-            Cell::Content(node) => *node,
-            Cell::Line(_) => unreachable!(),
-        }
+        node_there(&mut self.seat, &board.table.shared, lock)
     }
 
     /// The node of the slot that the seat took last. It is no step.
@@ -179,24 +176,18 @@ impl Seat16 {
         ensures records { self.new.records ≡ self.old.records }
         ensures read { (others : List (ℕ × Cell)) × (self.old.seat.me.1 ≡ (lock, Content result) ∷ others) × (self.new.seat.me ≡ (self.old.seat.me.0, (lock, Content result) ∷ others)) }
     {
-        match self.seat.slot_mut(&board.table.shared, usize::from(lock)) {
-            Cell::Content(node) => *node,
-            Cell::Line(_) => unreachable!(),
-        }
+        node_there(&mut self.seat, &board.table.shared, lock)
     }
 
     /// Writes a node that the seat has out, and gives what was there. It is no step: nobody else sees it.
-    pub fn swap_node(&mut self, board: &Board, node: u8, new: Node) -> Node
+    pub fn swap_node(&mut self, board: &Board, lock: u8, new: Node) -> Node
         requires seat { IsSeatOf board.now self.old }
-        requires out { (x : Node) × (slot_of self.old.seat.me.1 node ≡ Some (Content x)) }
+        requires out { (x : Node) × (slot_of self.old.seat.me.1 lock ≡ Some (Content x)) }
         ensures seat { IsSeatOf board.now self.new }
         ensures records { self.new.records ≡ self.old.records }
-        ensures swapped { (others : List (ℕ × Cell)) × AreOthers self.old.seat.me.1 node (Content result) others × (self.new.seat.me ≡ (self.old.seat.me.0, (node, Content new) ∷ others)) }
+        ensures swapped { (others : List (ℕ × Cell)) × AreOthers self.old.seat.me.1 lock (Content result) others × (self.new.seat.me ≡ (self.old.seat.me.0, (lock, Content new) ∷ others)) }
     {
-        bring(&mut self.seat, &mut self.order, node);
-        match self.seat.slot_mut(&board.table.shared, usize::from(node)) {
-            Cell::Content(old) => mem::replace(old, new),
-            Cell::Line(_) => unreachable!(),
-        }
+        bring(&mut self.seat, &mut self.order, lock);
+        swap_there(&mut self.seat, &board.table.shared, lock, new)
     }
 }

@@ -21,10 +21,10 @@ ghost use Rattle.ww_rule.specs.Waiting.{IsOut, joining, taking_inside, giving_in
 use crate::board::Board;
 use crate::seat::Seat16;
 use ww_queue::Entry;
+use ww_rule::bring;
 use ww_rule::layout::{list_slot, owner_word};
-use ww_rule::lists::{flag_left, leave_list, next_owner};
+use ww_rule::lists::{join_list, leave_list};
 use ww_rule::plays_inside::{Ask, Die, Give, Join, Take};
-use ww_rule::{Cell, bring};
 use ww_word::{HANDOFF, Owner, WAITERS, pack};
 
 impl Seat16 {
@@ -55,10 +55,7 @@ impl Seat16 {
         };
         let slot = list_slot(lock);
         bring(&mut self.seat, &mut self.order, slot);
-        match self.seat.slot_mut(shared, usize::from(slot)) {
-            Cell::Line(waiters) => waiters.queue.join(entry),
-            Cell::Content(_) => unreachable!(),
-        }
+        join_list(&mut self.seat, shared, slot, entry);
         true
     }
 
@@ -96,8 +93,7 @@ impl Seat16 {
         ensures took { result ≡ true → (x : Node) × (others : List (ℕ × Cell)) × IsNodeOf (length self.old.seat.me.0.held) x × AreOthers self.old.seat.me.1 (list_at lock) (Line self.old.seat.me.0.part.core.list) others × (self.new.seat.me ≡ (taking_inside self.old.seat.me.0 lock x, (list_at lock, Line (taken self.old.seat.me.0.part.core lock).list) ∷ (lock, Content x) ∷ others)) }
         ensures lost { result ≡ false → (others : List (ℕ × Cell)) × AreOthers self.old.seat.me.1 (list_at lock) (Line self.old.seat.me.0.part.core.list) others × (self.new.seat.me ≡ (lost self.old.seat.me.0, (list_at lock, Line self.old.seat.me.0.part.core.list) ∷ others)) }
     {
-        let slot = self.bring_list(lock);
-        let flags = flag_left(&mut self.seat, &board.table.shared, slot, self.who);
+        let flags = self.flag_left(board, lock);
         let old = pack(seen);
         let new = pack(Owner {
             seat: Some(self.who),
@@ -109,10 +105,11 @@ impl Seat16 {
         if found != old {
             return false;
         }
+        let slot = list_slot(lock);
         self.order.pop();
         self.order.push(lock);
         self.order.push(slot);
-        leave_list(&mut self.seat, &board.table.shared, slot, self.who);
+        leave_list(&mut self.seat, shared, slot, self.who);
         true
     }
 
@@ -129,8 +126,7 @@ impl Seat16 {
         ensures died { result ≡ true → (others : List (ℕ × Cell)) × AreOthers self.old.seat.me.1 (list_at lock) (Line self.old.seat.me.0.part.core.list) others × (self.new.seat.me ≡ (dying self.old.seat.me.0 seen, (list_at lock, Line (died self.old.seat.me.0.part.core seen).list) ∷ others)) }
         ensures lost { result ≡ false → (others : List (ℕ × Cell)) × AreOthers self.old.seat.me.1 (list_at lock) (Line self.old.seat.me.0.part.core.list) others × (self.new.seat.me ≡ (lost self.old.seat.me.0, (list_at lock, Line self.old.seat.me.0.part.core.list) ∷ others)) }
     {
-        let slot = self.bring_list(lock);
-        let is_last = flag_left(&mut self.seat, &board.table.shared, slot, self.who) == 0;
+        let is_last = self.flag_left(board, lock) == 0;
         let old = pack(seen);
         let new = pack(if is_last {
             Owner { flags: 0, ..seen }
@@ -142,7 +138,7 @@ impl Seat16 {
         if found != old {
             return false;
         }
-        leave_list(&mut self.seat, &board.table.shared, slot, self.who);
+        leave_list(&mut self.seat, shared, list_slot(lock), self.who);
         true
     }
 
@@ -161,13 +157,7 @@ impl Seat16 {
         ensures gave { result ≡ true → (x : Node) × (others : List (ℕ × Cell)) × (self.new.seat.me.0 ≡ giving_inside self.old.seat.me.0 lock (seen.flags == 3)) × AreOthers self.old.seat.me.1 (list_at lock) (Line self.old.seat.me.0.part.core.list) others × AreOthers ((list_at lock, Line self.old.seat.me.0.part.core.list) ∷ others) lock (Content x) self.new.seat.me.1 }
         ensures lost { result ≡ false → (x : Node) × (others : List (ℕ × Cell)) × (rest : List (ℕ × Cell)) × AreOthers self.old.seat.me.1 (list_at lock) (Line self.old.seat.me.0.part.core.list) others × AreOthers ((list_at lock, Line self.old.seat.me.0.part.core.list) ∷ others) lock (Content x) rest × (self.new.seat.me ≡ (lost self.old.seat.me.0, (lock, Content x) ∷ rest)) }
     {
-        let slot = self.bring_list(lock);
-        let owner = next_owner(
-            &mut self.seat,
-            &board.table.shared,
-            slot,
-            seen.flags == WAITERS | HANDOFF,
-        );
+        let owner = self.next_owner(board, lock, seen.flags == WAITERS | HANDOFF);
         bring(&mut self.seat, &mut self.order, lock);
         let old = pack(seen);
         let new = pack(owner);

@@ -2,6 +2,7 @@ use Rattle.std.proofs.Common.{ap, ◌∙◌, refl}
 use Rattle.ww_queue.specs.Rules.{must_die}
 use Rattle.ww_table.specs.declared.seat.Seat16.{Seat16}
 use Rattle.ww_rule.proofs.InsideTurning.{list_on_top}
+use Rattle.ww_table.proofs.OnTop.{still_on_top}
 use Rattle.ww_table.proofs.Seated.{seated_still}
 use Rattle.ww_table.proofs.seat.Seat16.must_die.Goals as goal
 
@@ -9,7 +10,7 @@ pub death_there-requires-clause-top : goal.death_there-requires-clause-top
 death_there-requires-clause-top c = let b = c.bring_list-slot.ensures in (_, list_on_top _ _ _ _ b.read b.slot)
 
 pub returns-clause-read : goal.returns-clause-read
-returns-clause-read c = let t = c.bring_list-slot.ensures.read in record { others = t.others; apart = t.apart; now = c.death_there.ensures.same ∙ t.now }
+returns-clause-read c = still_on_top _ _ _ _ c.bring_list-slot.ensures.read c.death_there.ensures.same
 
 pub returns-clause-death : goal.returns-clause-death
 returns-clause-death c = let b = c.bring_list-slot.ensures in c.death_there.ensures.death _ (list_on_top _ _ _ _ b.read b.slot) ∙ ap (λ (s : Seat16). must_die c.args.kind c.args.seen c.args.self.now.seat.me.0.part.core.list s.who c.args.sign) b.same

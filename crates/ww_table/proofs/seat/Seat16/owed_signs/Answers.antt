@@ -2,6 +2,7 @@ use Rattle.std.proofs.Common.{ap, ◌∙◌, refl}
 use Rattle.ww_queue.specs.Rules.{owed_signs}
 use Rattle.ww_table.specs.declared.seat.Seat16.{Seat16}
 use Rattle.ww_rule.proofs.InsideTurning.{list_on_top}
+use Rattle.ww_table.proofs.OnTop.{still_on_top}
 use Rattle.ww_table.proofs.Seated.{seated_still}
 use Rattle.ww_table.proofs.seat.Seat16.owed_signs.Goals as goal
 
@@ -9,7 +10,7 @@ pub owed_there-requires-clause-top : goal.owed_there-requires-clause-top
 owed_there-requires-clause-top c = let b = c.bring_list-slot.ensures in (_, list_on_top _ _ _ _ b.read b.slot)
 
 pub returns-clause-read : goal.returns-clause-read
-returns-clause-read c = let t = c.bring_list-slot.ensures.read in record { others = t.others; apart = t.apart; now = c.owed_there.ensures.same ∙ t.now }
+returns-clause-read c = still_on_top _ _ _ _ c.bring_list-slot.ensures.read c.owed_there.ensures.same
 
 pub returns-clause-owed : goal.returns-clause-owed
 returns-clause-owed c = let b = c.bring_list-slot.ensures in c.owed_there.ensures.owed _ (list_on_top _ _ _ _ b.read b.slot) ∙ ap (λ (s : Seat16). owed_signs c.args.kind c.args.seen c.args.self.now.seat.me.0.part.core.list s.who) b.same

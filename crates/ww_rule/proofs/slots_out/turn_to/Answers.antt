@@ -3,7 +3,7 @@ use Rattle.atomic_table.specs.Table.{turned}
 use Rattle.ww_rule.specs.declared.cells.Cell.{Cell}
 use Rattle.ww_rule.specs.Out.{numbers_of, AreTurned}
 use Rattle.ww_rule.proofs.Turning.{last_number, last_read, last_taken, numbers_long, numbers_turned, unturned, turn_on, turned_to, exhausted}
-use Rattle.ww_rule.proofs.out.turn_to.Goals as goal
+use Rattle.ww_rule.proofs.slots_out.turn_to.Goals as goal
 
 pub loop-init : goal.loop-init
 loop-init c = let f = c.len-end.ensures.fits in let v = c.len-end.ensures.value in (search rules, search rules, search rules, unturned _ _, search rules, omega arith, omega arith)

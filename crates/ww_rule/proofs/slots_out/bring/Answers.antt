@@ -2,7 +2,7 @@ use Rattle.std.proofs.Common.{◌≡◌, ℕ, ◌<◌, arith, refl, [], ◌∷�
 use Rattle.ww_rule.specs.declared.cells.Cell.{Cell}
 use Rattle.ww_rule.specs.Out.{slot_of, AreTurned}
 use Rattle.ww_rule.proofs.Turning.{last_taken, numbers_long, unturned, turned_to}
-use Rattle.ww_rule.proofs.out.bring.Goals as goal
+use Rattle.ww_rule.proofs.slots_out.bring.Goals as goal
 
 some_out : (slots : List (ℕ × Cell)) (n : ℕ) (y : Cell) → slot_of slots n ≡ Some y → 0 < length slots
 some_out [] n y e = absurd cc
