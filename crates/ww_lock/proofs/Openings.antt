@@ -81,3 +81,11 @@ rests_less graph count rests front r h is =
     last_of : (front : List Rest) (r : Rest) → AllByRecursion (λ (x : Rest). x.seen ≡ graph) (front ++ r ∷ []) → AllByRecursion (λ (x : Rest). x.seen ≡ graph) front × (r.seen ≡ graph)
     last_of [] r all = (tt, all.0)
     last_of (x ∷ xs) r all = let rest = last_of xs r all.1 in ((all.0, rest.0), rest.1)
+
+-- the next of new seats has the number of those before it, and sees the first graph
+pub next_is : (t : TableId) (key : Start) (seats yielded rest more : List Seat16) (s : Seat16) (rests front : List Rest) (r : Rest) → ((k : ℕ) (x : Seat16) → get_elem? seats k ≡ some x → IsNew t key k x) → yielded ++ rest ≡ seats → rest ≡ s ∷ more
+    → AreRests (first_graph key) (length rest) rests → rests ≡ front ++ r ∷ [] → IsNew t key (length yielded) s × (yielded ++ s ∷ more ≡ seats) × AreRests (first_graph key) (length more) front × (r.seen ≡ first_graph key)
+next_is t key seats yielded rest more s rests front r each whole step are popped =
+    let here = ap (λ (l : List Seat16). yielded ++ l) (sym step) ∙ whole in
+    let less = rests_less (first_graph key) (length more) rests front r (subst (λ (l : List Seat16). AreRests (first_graph key) (length l) rests) step are) popped in
+    (each (length yielded) s (subst (λ (l : List Seat16). get_elem? l (length yielded) ≡ some s) here (elem_mid yielded more s)), here, less.0, less.1)

@@ -88,8 +88,8 @@ impl Acquiring {
         }
         let Acquiring { mut hand } = self;
         match hand.take(rt, world, n) {
-            None => Lock::Locked(Acquiring { hand }),
-            Some(met) => Lock::Deadlk(Backoff {
+            Ok(()) => Lock::Locked(Acquiring { hand }),
+            Err(met) => Lock::Deadlk(Backoff {
                 hand,
                 contended: n,
                 met,

@@ -5,7 +5,7 @@ use crate::world::World;
 use std::sync::Wait;
 
 impl Hand {
-    ghost use Rattle.std.specs.Prelude.{◌≡◌, ◌≤◌, ◌<◌, ◌+◌, ◌^◌, ◌⊎◌, [], true, false, length, None, IfSome, IfNone};
+    ghost use Rattle.std.specs.Prelude.{◌≡◌, ◌≤◌, ◌<◌, ◌+◌, ◌^◌, ◌⊎◌, [], true, false, length, None, IfOk, IfErr};
     ghost use Rattle.ww_plain.specs.Numbers.{is_among};
     ghost use Rattle.ww_seat.specs.Calls.{HasToDie};
     ghost use Rattle.ww_lock.specs.Holding.{IsAtHome};
@@ -62,20 +62,20 @@ impl Hand {
 
     /// Takes a lock, and waits for it where the rules say so; or tells the stamp of the older context that was met.
     #[inline(always)]
-    pub(crate) fn take<R: Wait>(&mut self, rt: &R, world: &World, n: u8) -> Option<u64>
+    pub(crate) fn take<R: Wait>(&mut self, rt: &R, world: &World, n: u8) -> Result<(), u64>
         requires home { IsAtHome (holding_of self.old) world.now }
         requires fresh { CarriesFresh self.old }
         requires want { (0 < self.old.seat.stamp) ⊎ (self.old.held.items ≡ []) }
         requires node { n < length self.old.seen }
         requires new { is_among n self.old.held.items ≡ false }
         ensures fresh { CarriesFresh self.new }
-        ensures taken { IfNone result (IsTaken (holding_of self.old) n (holding_of self.new)) }
-        ensures tried { IfSome result (λ _. HasTried (holding_of self.old) (holding_of self.new)) }
-        ensures older { IfSome result (λ k. (1 ≤ k) × (k < self.old.seat.stamp) × (1 ≤ length self.old.held.items)) }
-        ensures dies { IfSome result (λ k. HasToDie self.old.seat.seat.me n k self.new.seat.seat.me) }
-        ensures unmet { IfNone result (met_of self.new ≡ None) }
+        ensures taken { IfOk result (λ _. IsTaken (holding_of self.old) n (holding_of self.new)) }
+        ensures tried { IfErr result (λ _. HasTried (holding_of self.old) (holding_of self.new)) }
+        ensures older { IfErr result (λ k. (1 ≤ k) × (k < self.old.seat.stamp) × (1 ≤ length self.old.held.items)) }
+        ensures dies { IfErr result (λ k. HasToDie self.old.seat.seat.me n k self.new.seat.seat.me) }
+        ensures unmet { IfOk result (λ _. met_of self.new ≡ None) }
     {
-        let taken = ww_seat::take(
+        let node = ww_seat::take(
             rt,
             &mut self.seat,
             &world.board,
@@ -83,14 +83,9 @@ impl Hand {
             n,
             &self.parker,
             &world.wakers,
-        );
-        match taken {
-            Ok(node) => {
-                self.add(n, node);
-                None
-            }
-            Err(met) => Some(met),
-        }
+        )?;
+        self.add(n, node);
+        Ok(())
     }
 
     /// Takes a lock where nothing is held: nobody is told EDEADLK there.
@@ -103,7 +98,7 @@ impl Hand {
         ensures taken { IsTaken (holding_of self.old) n (holding_of self.new) }
         ensures unmet { met_of self.new ≡ None }
     {
-        if self.take(rt, world, n).is_some() {
+        if self.take(rt, world, n).is_err() {
             unreachable!()
         }
     }

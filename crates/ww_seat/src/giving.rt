@@ -6,6 +6,7 @@ ghost use Rattle.ww_seat.specs.Calls.{HasGiven};
 ghost use Rattle.ww_seat.specs.Guards.{IsGiving, HasLet};
 
 use crate::guard::enter;
+use crate::wake::wake_first;
 use crossbeam_utils::sync::Unparker;
 use std::sync::Wait;
 use ww_queue::Entry;
@@ -40,7 +41,7 @@ fn give_waited<R: Wait>(rt: &R, seat: &mut Seat16, board: &Board, lock: u8, wake
     enter(rt, seat, board, lock);
     let first = give_inside(rt, seat, board, lock);
     seat.exit(board, lock);
-    wake(first, wakers);
+    wake_first(first, wakers);
 }
 
 /// Gives the lock back inside its guard, and tells who was the first waiter then.
@@ -61,13 +62,4 @@ fn give_inside<R: Wait>(rt: &R, seat: &mut Seat16, board: &Board, lock: u8) -> O
         }
     }
     unreachable!()
-}
-
-#[cold]
-fn wake(waiter: Option<Entry>, wakers: &[Unparker]) {
-    if let Some(waiter) = waiter {
-        if let Some(waker) = wakers.get(usize::from(waiter.seat)) {
-            waker.unpark();
-        }
-    }
 }

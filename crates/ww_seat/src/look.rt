@@ -5,8 +5,8 @@ ghost use Rattle.ww_seat.specs.Orderly.{IsOrderly};
 ghost use Rattle.ww_seat.specs.Looks.{IsInside, IsLook};
 ghost use Rattle.ww_seat.specs.Work.{IsWorking, IsAtWork};
 
-use crate::standing::{stand, wait};
-use crate::taking::take;
+use crate::standing::{stand, stay_or_back_off};
+use crate::taking::take_inside;
 use crate::wake::Wake;
 use std::sync::Wait;
 use ww_plain::Node;
@@ -26,7 +26,7 @@ pub enum Look {
 }
 
 /// Whether the lock is free, or handed to this seat, which doesn't own it.
-pub(crate) fn is_ours(seat: &Seat16, seen: Owner) -> bool
+fn is_ours(seat: &Seat16, seen: Owner) -> bool
     ensures free { result ≡ true → (seen.seat ≡ None) ⊎ (seen.seat ≡ Some seat.now.who) }
     ensures other { result ≡ false → (t : ℕ) × (seen.seat ≡ Some t) × (t ≢ seat.now.who) }
 {
@@ -59,14 +59,14 @@ fn look_once(
 {
     let seen = seat.look(board, lock);
     if is_ours(seat, seen) {
-        return match take(seat, board, kind, lock, seen, wake) {
+        return match take_inside(seat, board, kind, lock, seen, wake) {
             Some(node) => Some(Look::Locked(node)),
             None => None,
         };
     }
     let word = stand(seat, board, lock, seen, *stands)?;
     *stands = true;
-    wait(seat, board, kind, lock, word, is_later, wake)
+    stay_or_back_off(seat, board, kind, lock, word, is_later, wake)
 }
 
 /// One look at a lock whose guard the seat has just entered, until it is outside again. A compare-exchange that finds

@@ -46,7 +46,13 @@ pub(crate) fn stand(
 
 /// Asks for the lock as the first waiter that looks again, if the owner word is still the one seen and nobody asked
 /// yet, and gives the word as it is then.
-fn ask(seat: &mut Seat16, board: &Board, lock: u8, seen: Owner, is_later: bool) -> Option<Owner>
+fn ask_if_first(
+    seat: &mut Seat16,
+    board: &Board,
+    lock: u8,
+    seen: Owner,
+    is_later: bool,
+) -> Option<Owner>
     requires seat { IsSeatOf board.now seat.old }
     requires lock { lock < size_of board.now }
     requires orderly { IsOrderly (size_of board.now) seat.old.seat.me }
@@ -101,7 +107,7 @@ fn back_off(seat: &mut Seat16, board: &Board, kind: Kind, lock: u8, seen: Owner)
 
 /// What comes of a seat that stands in the wait list: it asks for the lock, where it looks again, condemns whom it has
 /// to, and then stays or backs off. Nothing where the owner word is another than the one seen.
-pub(crate) fn wait(
+pub(crate) fn stay_or_back_off(
     seat: &mut Seat16,
     board: &Board,
     kind: Kind,
@@ -123,7 +129,7 @@ pub(crate) fn wait(
     ensures tries { IfSome result (λ _. seat.new.seat.me.0.part.core.tries ≡ seat.old.seat.me.0.part.core.tries) }
     ensures lost { IfNone result (IsAtWork (size_of board.now) lock seat.old.seat.me true is_later seat.new.seat.me) }
 {
-    let word = ask(seat, board, lock, seen, is_later)?;
+    let word = ask_if_first(seat, board, lock, seen, is_later)?;
     sign_all(seat, board, kind, lock, word, wake);
     match death(seat, board, kind, lock, word) {
         None => {

@@ -43,7 +43,7 @@ fn own_word(seat: &mut Seat16, board: &Board, lock: u8) -> Owner
 }
 
 /// Takes the lock, if its owner word is still the one seen, gives the signs that its owner owes, and leaves the guard.
-pub(crate) fn take(
+pub(crate) fn take_inside(
     seat: &mut Seat16,
     board: &Board,
     kind: Kind,

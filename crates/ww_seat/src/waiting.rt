@@ -41,10 +41,7 @@ pub fn take<R: Wait>(
 {
     match try_take(seat, board, kind, lock) {
         Some(node) => Ok(node),
-        None => match wait(rt, seat, board, kind, lock, parker, wakers) {
-            Ok(node) => Ok(node),
-            Err(met) => Err(met),
-        },
+        None => wait(rt, seat, board, kind, lock, parker, wakers),
     }
 }
 

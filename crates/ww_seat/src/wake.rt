@@ -1,4 +1,5 @@
 use crossbeam_utils::sync::Unparker;
+use ww_queue::Entry;
 use ww_word::MAX_SEATS;
 
 /// Whom a seat wakes once it is outside the guard.
@@ -25,6 +26,16 @@ impl Wake {
             if *wakes {
                 waker.unpark();
             }
+        }
+    }
+}
+
+/// Wakes the first waiter, if there is one.
+#[cold]
+pub(crate) fn wake_first(first: Option<Entry>, wakers: &[Unparker]) {
+    if let Some(first) = first {
+        if let Some(waker) = wakers.get(usize::from(first.seat)) {
+            waker.unpark();
         }
     }
 }

@@ -1,47 +1,36 @@
-use Rattle.std.proofs.Common.{◌≡◌, [], ◌∷◌, ◌++◌, List, ℕ, ◌+◌, false, replicate, length, length-append, append_assoc, refl, sym, ap, subst, ◌∙◌, rules, arith}
-use mathlib.Core.Option.{some}
-use lib.ListN.{get_elem?}
-use Rattle.ww_table.specs.declared.seat.Seat16.{Seat16}
+use Rattle.std.proofs.Common.{◌≡◌, [], ◌∷◌, ◌++◌, ℕ, ◌+◌, false, replicate, length, length-append, append_assoc, refl, sym, subst, ◌∙◌, rules, arith}
 use Rattle.ww_rule.specs.Rule.{first_graph}
 use Rattle.ww_lock.specs.declared.hand.Hand.{Hand}
 use Rattle.ww_lock.specs.Carried.{holding_of, Carries}
-use Rattle.ww_lock.specs.Opened.{fresh, AreFresh, AreRests}
-use Rattle.ww_lock.proofs.Openings.{elem_mid, rests_less, new_carries, new_holding, new_idle, fresh_more}
+use Rattle.ww_lock.specs.Opened.{fresh, AreFresh}
+use Rattle.ww_lock.proofs.Openings.{next_is, new_carries, new_holding, new_idle, fresh_more}
 use Rattle.ww_lock.proofs.world.fresh.Goals as goal
 
 pub invariant_of-push_reserved : goal.invariant_of-push_reserved
 invariant_of-push_reserved c =
     let i = c.loop-seat.invariant in
     let shared = c.args.board.now.table.shared in
-    let step : c.loop-seat.seat-iterator.rest.items ≡ c.in-Some.seat ∷ c.next.new.self.rest.items = search rules in
-    let whole = ap (λ (l : List Seat16). c.loop-seat.yielded ++ l) (sym step) ∙ i.2 in
-    let there : get_elem? c.args.seats.items (length c.loop-seat.yielded) ≡ some c.in-Some.seat = subst (λ (l : List Seat16). get_elem? l (length c.loop-seat.yielded) ≡ some c.in-Some.seat) whole (elem_mid c.loop-seat.yielded c.next.new.self.rest.items c.in-Some.seat) in
-    let new = c.requires.seats.new (length c.loop-seat.yielded) c.in-Some.seat there in
-    let popped : c.loop-seat.rests.items ≡ c.pop.new.self.items ++ c.in-Some-pop.field-0 ∷ [] = search rules in
-    let less = rests_less (first_graph shared.key) (length c.next.new.self.rest.items) c.loop-seat.rests.items c.pop.new.self.items c.in-Some-pop.field-0 (subst (λ (k : ℕ). AreRests (first_graph shared.key) k c.loop-seat.rests.items) (ap length step) i.3) popped in
+    let next = next_is shared.table_id shared.key c.args.seats.items c.loop-seat.yielded c.loop-seat.seat-iterator.rest.items c.next.new.self.rest.items c.in-Some.seat c.loop-seat.rests.items c.pop.new.self.items c.in-Some-pop.field-0
+    c.requires.seats.new i.2 (search rules) i.3 (search rules) in
     let none : c.new.result.items ≡ [] = search rules in
     let hand : Hand = record { seat = c.in-Some.seat; kind = c.args.kind; left = c.args.budget; held = c.new.result; marks = replicate 64 false; seen = c.in-Some-pop.field-0.seen; parker = c.in-Some-pop.field-0.parker } in
     subst (λ (h : Hand). Carries h × (h.seat.stamp ≡ 0) × (h.held.items ≡ [])) (sym c.in-Ok.ensures.ok)
-    (new_carries shared.table_id shared.key (length c.loop-seat.yielded) hand new c.requires.kind none refl less.1 c.args.board.now.few (omega (arith, c.ranges.budget.fits)), new_idle shared.table_id shared.key _ c.in-Some.seat new, none)
+    (new_carries shared.table_id shared.key (length c.loop-seat.yielded) hand next.0 c.requires.kind none refl next.3 c.args.board.now.few (omega (arith, c.ranges.budget.fits)), new_idle shared.table_id shared.key _ c.in-Some.seat next.0, none)
 
 pub loop-seat-preserved : goal.loop-seat-preserved
 loop-seat-preserved c =
     let i = c.loop-seat.invariant in
     let shared = c.args.board.now.table.shared in
-    let step : c.loop-seat.seat-iterator.rest.items ≡ c.in-Some.seat ∷ c.next.new.self.rest.items = search rules in
-    let whole = ap (λ (l : List Seat16). c.loop-seat.yielded ++ l) (sym step) ∙ i.2 in
-    let there : get_elem? c.args.seats.items (length c.loop-seat.yielded) ≡ some c.in-Some.seat = subst (λ (l : List Seat16). get_elem? l (length c.loop-seat.yielded) ≡ some c.in-Some.seat) whole (elem_mid c.loop-seat.yielded c.next.new.self.rest.items c.in-Some.seat) in
-    let new = c.requires.seats.new (length c.loop-seat.yielded) c.in-Some.seat there in
-    let popped : c.loop-seat.rests.items ≡ c.pop.new.self.items ++ c.in-Some-pop.field-0 ∷ [] = search rules in
-    let less = rests_less (first_graph shared.key) (length c.next.new.self.rest.items) c.loop-seat.rests.items c.pop.new.self.items c.in-Some-pop.field-0 (subst (λ (k : ℕ). AreRests (first_graph shared.key) k c.loop-seat.rests.items) (ap length step) i.3) popped in
+    let next = next_is shared.table_id shared.key c.args.seats.items c.loop-seat.yielded c.loop-seat.seat-iterator.rest.items c.next.new.self.rest.items c.in-Some.seat c.loop-seat.rests.items c.pop.new.self.items c.in-Some-pop.field-0
+    c.requires.seats.new i.2 (search rules) i.3 (search rules) in
     let none : c.new.result.items ≡ [] = search rules in
     let more : length (c.loop-seat.yielded ++ c.in-Some.seat ∷ []) ≡ length c.loop-seat.yielded + 1 = length-append c.loop-seat.yielded (c.in-Some.seat ∷ []) in
     let hand : Hand = record { seat = c.in-Some.seat; kind = c.args.kind; left = c.args.budget; held = c.new.result; marks = replicate 64 false; seen = c.in-Some-pop.field-0.seen; parker = c.in-Some-pop.field-0.parker } in
-    let holding = subst (λ (h : Hand). holding_of h ≡ fresh shared.table_id (first_graph shared.key) c.args.budget (length c.loop-seat.yielded) (holding_of h).room) (sym c.in-Ok.ensures.ok) (new_holding shared.table_id shared.key (length c.loop-seat.yielded) hand new none less.1) in (
+    let holding = subst (λ (h : Hand). holding_of h ≡ fresh shared.table_id (first_graph shared.key) c.args.budget (length c.loop-seat.yielded) (holding_of h).room) (sym c.in-Ok.ensures.ok) (new_holding shared.table_id shared.key (length c.loop-seat.yielded) hand next.0 none next.3) in (
       tt,
       tt,
-      append_assoc c.loop-seat.yielded (c.in-Some.seat ∷ []) c.next.new.self.rest.items ∙ whole,
-      less.0,
+      append_assoc c.loop-seat.yielded (c.in-Some.seat ∷ []) c.next.new.self.rest.items ∙ next.1,
+      next.2,
       subst (λ (k : ℕ). AreFresh c.push_reserved.new.self.items (first_graph shared.key) shared.table_id k c.args.budget) (sym more)
           (fresh_more c.loop-seat.all.items c.push_reserved.new.self.items _ (first_graph shared.key) shared.table_id (length c.loop-seat.yielded) c.args.budget i.4 holding c.push_reserved.ensures.items),
       omega (arith, more, i.5, c.push_reserved.ensures.len),

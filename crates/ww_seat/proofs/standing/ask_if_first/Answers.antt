@@ -2,7 +2,7 @@ use Rattle.std.proofs.Common.{sym, ◌∙◌}
 use Rattle.ww_seat.proofs.Working.{touched_same, touched_read, touched_lost, touched_then}
 use Rattle.ww_seat.proofs.Took.{read_who}
 use Rattle.ww_seat.proofs.Stood.{later_work, nothing_by_other, sees_read, may_ask, has_asked, touched_asking}
-use Rattle.ww_seat.proofs.standing.ask.Goals as goal
+use Rattle.ww_seat.proofs.standing.ask_if_first.Goals as goal
 
 pub returns-then-not-is_later-clause-touched : goal.returns-then-not-is_later-clause-touched
 returns-then-not-is_later-clause-touched c = touched_same _ c.args.seat.now.seat.me c.requires.orderly

@@ -4,7 +4,7 @@ use Rattle.ww_rule.specs.declared.cells.Sight.{Sight}
 use Rattle.ww_seat.proofs.Outside.{room_inside}
 use Rattle.ww_seat.proofs.Working.{touched_lost_on_top}
 use Rattle.ww_seat.proofs.Took.{may_take, is_taken, taken_read, owes_after, taken_goes, look_taken, node_out, word_read}
-use Rattle.ww_seat.proofs.taking.take.Goals as goal
+use Rattle.ww_seat.proofs.taking.take_inside.Goals as goal
 
 pub take-requires-clause-may : goal.take-requires-clause-may
 take-requires-clause-may c = may_take c.args.lock c.requires.work.0 c.requires.work.1 c.args.seat.now.seat.me.0.part.core c.args.seen c.requires.work.2 c.requires.free
