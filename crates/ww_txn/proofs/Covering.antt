@@ -43,9 +43,7 @@ pub ready : {E : Type 0} (s : Holding) (txn : Transaction) (ns : List ℕ) (r : 
     → IfOk r (IsContext s) → IfOk r (HoldsExactly ns) → IfOk r (λ _. FirstDouble ns None) → IfOk r (IsReady s txn)
 ready s txn ns (Err e) same names context holds no_double = tt
 ready s txn ns (Ok d) same names context holds no_double = record {
-  some = context.some;
   no_double = subst (λ (ms : List ℕ). FirstDouble ms None) same no_double;
-  rest = context.rest;
-  size = context.size;
+  context = context;
   covers = rw (names d.seen, ← same) (holds_distinct ns d holds);
 }

@@ -7,7 +7,7 @@ use Rattle.ww_lock.specs.Holding.{Holding, AreBelow}
 use Rattle.ww_lock.specs.Making.{Covers}
 use Rattle.ww_users.specs.declared.fault.UserFault.{UserFault}
 use Rattle.ww_users.specs.declared.fault.UserFault.TheVariants as user
-use Rattle.ww_users.specs.Ways.{IsReturned}
+use Rattle.ww_users.specs.Ways.{IsContext, IsReturned}
 use Rattle.ww_txn.specs.declared.transacting.TxnFault.{TxnFault}
 use Rattle.ww_txn.specs.declared.transacting.TxnFault.TheVariants.{PassSpent, Already, NoMemory}
 
@@ -59,17 +59,8 @@ abbrev pub fault_of : UserFault → TxnFault
 fault_of user.PassSpent = PassSpent
 fault_of (user.Already n) = Already n
 
--- The one context more that this pass has begun, which holds all that the transaction depends on and may change.
+-- The context that was begun for this transaction, which holds all that the transaction depends on and may change.
 pub record IsReady (s : Holding) (txn : Transaction) (a : Holding) : Type 0 where
-  pub some : 1 ≤ s.left
   pub no_double : FirstDouble (listed txn) None
-  pub rest : a ≡ record s {
-    left = s.left - 1;
-    draws = s.draws + 1;
-    stamp = a.stamp;
-    held = a.held;
-    seen = a.seen;
-    tries = a.tries;
-  }
-  pub size : length a.seen ≡ length s.seen
+  pub context : IsContext s a
   pub covers : Covers a txn
