@@ -41,7 +41,11 @@ pub fn take<R: Wait>(
 {
     match try_take(seat, board, kind, lock) {
         Some(node) => Ok(node),
-        None => wait(rt, seat, board, kind, lock, parker, wakers),
+        // Put together anew: an answer passed on as it is lies in memory, and that of the first try with it.
+        None => match wait(rt, seat, board, kind, lock, parker, wakers) {
+            Ok(node) => Ok(node),
+            Err(met) => Err(met),
+        },
     }
 }
 
