@@ -1,5 +1,5 @@
 -- The slots of a table as it is made, and as they are taken once it is closed.
-use Rattle.std.proofs.Common.{◌≡◌, ℕ, zero, suc, ◌+◌, ◌<◌, ◌≤◌, Bool, true, false, List, [], ◌∷◌, ◌++◌, length, set, get_or, sym, refl, ap, ◌∙◌, arith, length-append, get_or-set_other}
+use Rattle.std.proofs.Common.{◌≡◌, ℕ, zero, suc, ◌+◌, ◌<◌, ◌≤◌, Bool, false, List, [], ◌∷◌, ◌++◌, length, set, get_or, sym, refl, ap, ◌∙◌, arith, length-append, get_or-set_other}
 use mathlib.Core.Logic.{dite}
 use mathlib.Core.Option.{some, some-injective}
 use native.Mathlib.Decide.{ℕ_discrete}
@@ -21,9 +21,6 @@ slots_more graph n slots x are node list = record {
       (λ e. ap (get_elem? (slots ++ x ∷ [])) e ∙ at_last slots x n are.many ∙ ap some (list (let s = big in omega arith)))
       (λ ne. at_longer slots (x ∷ []) k (Line []) (are.lists k (omega arith) big));
 }
-
-pub none_taken : (count : ℕ) (filled : List Bool) → ((k : ℕ) → 0 ≤ k → k < count → get_or filled k false ≡ true) → AreTakenBelow 0 count filled
-none_taken count filled full = record { there = full; gone = λ k low. absurd (omega arith) }
 
 pub take_on : (taken count : ℕ) (filled : List Bool) → AreTakenBelow taken count filled → AreTakenBelow (taken + 1) count (set filled taken false)
 take_on taken count filled are = record {
