@@ -8,9 +8,9 @@ use Rattle.ww_queue.proofs.Outcomes.{by_test, other_number}
 use Rattle.ww_model.specs.declared.state.Holder.{Holder}
 use Rattle.ww_model.specs.declared.state.Holder.TheVariants.{Nobody, Taken, Handed}
 use Rattle.ww_model.specs.declared.event.Event.{Event}
-use Rattle.ww_model.specs.declared.event.Event.TheVariants.{Guard, Take, Give, Die, Unguard, End}
+use Rattle.ww_model.specs.declared.event.Event.TheVariants.{Guard, Take, Give, Die, Unguard, End, Leave}
 use Rattle.ww_model.specs.State.{State}
-use Rattle.ww_model.specs.Event.{CanGuard, CanTake, CanGive, CanDie, CanUnguard, CanEnd, Possible, after, given_to}
+use Rattle.ww_model.specs.Event.{CanGuard, CanTake, CanGive, CanDie, CanUnguard, CanEnd, CanLeave, Possible, after, given_to}
 use Rattle.ww_model.specs.Run.{Reached}
 use Rattle.ww_model.specs.Emptied.{LeadsBy}
 use Rattle.ww_model.proofs.Puts.{put_here, put_else}
@@ -36,8 +36,9 @@ total_at (suc k) i a b f g below here other = dite (ℕ_discrete k i)
 
 -- ---- the burden
 
--- Whoever waits weighs 6, who has taken a lock 4, and to whom one was handed 2; who is inside a guard weighs 1, and so does
--- each context. So a take, a death and a give make the burden smaller by 2 at least, and to go inside before adds 1.
+-- Whoever waits weighs 6, who has taken a lock 4, and to whom one was handed 2; who is inside a guard weighs 1, and so
+-- does each context. So a take, a death, an interruption and a give make the burden smaller by 2 at least, and to go
+-- inside before adds 1.
 
 abbrev weight : Holder → ℕ
 weight Nobody = 0
@@ -95,6 +96,12 @@ die_lowers c s n can = let locks = total_at c.locks n 2 0 (of_lock (after c (Die
     (λ m other. let q = ap length (put_else c.queue n (left (c.queue n) s) m other) in omega arith)
     in omega arith
 
+leave_lowers : (c : State) (s n : ℕ) → CanLeave c s n → burden (after c (Leave s n)) + 2 ≤ burden c
+leave_lowers c s n can = let locks = total_at c.locks n 2 0 (of_lock (after c (Leave s n))) (of_lock c) can.inside.lock
+    (let q = ap length (put_here c.queue n (left (c.queue n) s)) in let shorter = left_shorter (c.queue n) s can.waits in omega arith)
+    (λ m other. let q = ap length (put_else c.queue n (left (c.queue n) s) m other) in omega arith)
+    in omega arith
+
 give_lowers : (c : State) (s n : ℕ) → CanGive c s n → burden (after c (Give s n)) + 2 ≤ burden c
 give_lowers c s n can = let given = given_to (c.asked n) (c.queue n) in let locks = total_at c.locks n 2 0 (of_lock (after c (Give s n))) (of_lock c) can.inside.lock
     (let o = ap weight (put_here c.owner n given) in let own = ap weight can.owns in let light = given_weighs (c.asked n) (c.queue n) in omega arith)
@@ -144,6 +151,10 @@ module _ (spared : ℕ → Type 0) where
   -- who is inside can die
   pub dies : (c : State) (s n : ℕ) → ¬ spared s → Possible c (Die s n) → GetsLighter c
   dies c s n free can = to_lower c c (Die s n) (tt, other_than spared s free) can (let down = die_lowers c s n can.base in omega arith)
+
+  -- who has heeded a cancel can leave the list
+  pub interrupted : (c : State) (s n : ℕ) → ¬ spared s → Possible c (Leave s n) → GetsLighter c
+  interrupted c s n free can = to_lower c c (Leave s n) (tt, other_than spared s free) can (let down = leave_lowers c s n can.base in omega arith)
 
   -- who is inside can leave the guard, after some signs
   pub leaves : (c : State) → Reached c → (s n : ℕ) → LeadsBy (Sparing spared) c (λ d. ButSigns c d × Possible d (Unguard s n)) → GetsLighter c

@@ -25,7 +25,7 @@ use Rattle.ww_model.proofs.Outside.{signed_owns_outside}
 use Rattle.ww_model.proofs.Ranges.{place_is}
 use Rattle.ww_laws.proofs.Oldest.{oldest_lives}
 use Rattle.ww_laws.proofs.Moves.{stay, first, and_then, Sparing, ButSigns}
-use Rattle.ww_laws.proofs.Burden.{GetsLighter, takes, dies as dies_now, leaves}
+use Rattle.ww_laws.proofs.Burden.{GetsLighter, takes, dies as dies_now, leaves, interrupted}
 
 -- the state with these signs
 abbrev pub with_signs : State → (ℕ → ℕ) → State
@@ -126,8 +126,8 @@ module _ (spared : ℕ → Type 0) (c : State) (s n : ℕ) (inside : Inside c s 
       (λ d' reached' paid'. pay_one ps p.0 p.1 (owed p.0 p.1 (inl refl)) d' reached' paid')
 
   -- whoever is not kept inside leaves, after it has cleared its sign, in Wait-Die, and paid what it owes
-  pub leave : Reached c → (Stands (c.queue n) s → HasOther c s n) → (c.kind ≡ WaitDie → dies c s n ≡ None) → LeadsBy (Sparing spared) c (λ d. ButSigns c d × Possible d (Unguard s n))
-  leave reached contended lives = and_then (Sparing spared) c (ArePaid []) (λ d. ButSigns c d × Possible d (Unguard s n)) reached cleared
+  pub leave : Reached c → c.heeded s ≡ 0 → (Stands (c.queue n) s → HasOther c s n) → (c.kind ≡ WaitDie → dies c s n ≡ None) → LeadsBy (Sparing spared) c (λ d. ButSigns c d × Possible d (Unguard s n))
+  leave reached unheeded contended lives = and_then (Sparing spared) c (ArePaid []) (λ d. ButSigns c d × Possible d (Unguard s n)) reached cleared
       (λ d reached' paid. and_then (Sparing spared) d (ArePaid (owes c s n)) (λ d. ButSigns c d × Possible d (Unguard s n)) reached'
       (pay (owes c s n) (λ v k h. h) d reached' paid)
       (λ d' _ paid'. stay (Sparing spared) d' (λ d. ButSigns c d × Possible d (Unguard s n)) ((paid'.signs, paid'.state), subst (λ x. Possible x (Unguard s n)) (sym paid'.state) (can_leave paid'.signs paid'.signed paid'.unsigned))))
@@ -155,7 +155,7 @@ module _ (spared : ℕ → Type 0) (c : State) (s n : ℕ) (inside : Inside c s 
 
       can_leave : (signs : ℕ → ℕ) → ((v k : ℕ) → Has (owes c s n) (v, k) → signs v ≢ 0) → (c.kind ≡ WaitDie → signs s ≡ 0) → Possible (with_signs c signs) (Unguard s n)
       can_leave signs signed unsigned = record {
-        base = record { inside = record { guard = inside.guard; lock = inside.lock; seat = inside.seat }; contended = contended };
+        base = record { inside = record { guard = inside.guard; lock = inside.lock; seat = inside.seat }; contended = contended; unheeded = unheeded };
         signs = record {
           signed = signed;
           safe = λ dying. record { lives = dies_unsigned c.kind dying (owner_as c (c.owner n)) (c.queue n) s (signs s) (c.sign s) ∙ lives dying; unsigned = unsigned dying };
@@ -164,14 +164,14 @@ module _ (spared : ℕ → Type 0) (c : State) (s n : ℕ) (inside : Inside c s 
 
 -- ---- what is possible inside
 
-module _ (spared : ℕ → Type 0) (c : State) (reached : Reached c) (s n : ℕ) (inside : Inside c s n) (oldest : spared s → IsOldest c s) where
+module _ (spared : ℕ → Type 0) (c : State) (reached : Reached c) (s n : ℕ) (inside : Inside c s n) (unheeded : c.heeded s ≡ 0) (oldest : spared s → IsOldest c s) where
   -- a waiter that another keeps from the lock leaves, or dies in Wait-Die if it must, which the oldest need not
   meets_other : Stands (c.queue n) s → HasOther c s n → (cause : Option ℕ) → dies c s n ≡ cause → GetsLighter spared c
-  meets_other waits other None is = leaves spared c reached s n (leave spared c s n inside reached (λ _. other) (λ _. is))
+  meets_other waits other None is = leaves spared c reached s n (leave spared c s n inside reached unheeded (λ _. other) (λ _. is))
   meets_other waits other (Some k) is = by_kind c.kind (GetsLighter spared c)
-      (λ wounding. leaves spared c reached s n (leave spared c s n inside reached (λ _. other) (λ dying. absurd (let clash = sym wounding ∙ dying in cc))))
+      (λ wounding. leaves spared c reached s n (leave spared c s n inside reached unheeded (λ _. other) (λ dying. absurd (let clash = sym wounding ∙ dying in cc))))
       (λ dying. dies_now spared c s n (λ is_spared. oldest_lives c (reached_is_lawful c reached).base s (oldest is_spared) dying n k (dies_why c s n k is)) (record {
-        base = record { inside = inside; waits = waits; other = other };
+        base = record { inside = inside; waits = waits; other = other; unheeded = unheeded };
         signs = subst IsSome (sym is) refl;
       }))
 
@@ -182,9 +182,20 @@ module _ (spared : ℕ → Type 0) (c : State) (reached : Reached c) (s n : ℕ)
     signs = waiter_is_calm c reached s n waits;
   })
 
-  pub inside_move : GetsLighter spared c
-  inside_move = ⊎_elim
+  goes_on : GetsLighter spared c
+  goes_on = ⊎_elim
       (λ waits. ⊎_elim (finds_free waits) (λ other. meets_other waits other (dies c s n) refl) (free_or_other c reached s n waits))
-      (λ none. leaves spared c reached s n (leave spared c s n inside reached (λ waits. absurd (none waits.0 waits.1 waits.2))
+      (λ none. leaves spared c reached s n (leave spared c s n inside reached unheeded (λ waits. absurd (none waits.0 waits.1 waits.2))
       (λ _. only_waiters_die c.kind (owner_as c (c.owner n)) (c.queue n) s (c.sign s) none)))
       (stands_or_not (c.queue n) s)
+
+-- ... also one that has heeded a cancel, which is interrupted
+pub inside_move : (spared : ℕ → Type 0) (c : State) → Reached c → (s n : ℕ) → Inside c s n → (spared s → IsOldest c s × (c.heeded s ≡ 0)) → GetsLighter spared c
+inside_move spared c reached s n inside oldest = dite (ℕ_discrete (c.heeded s) 0)
+    (λ none. goes_on spared c reached s n inside none (λ is. (oldest is).0))
+    (λ some. let k = (reached_is_lawful c reached).base.cancels.heeding s (omega arith) in
+    let at : k.0 ≡ n = (reached_is_lawful c reached).base.guards.one_guard s k.0 n k.1.inside inside.guard in
+    interrupted spared c s n (λ is. some (oldest is).1) (record {
+      base = record { inside = inside; waits = subst (λ m. Stands (c.queue m) s) at k.1.waits; heeded = some };
+      signs = tt;
+    }))

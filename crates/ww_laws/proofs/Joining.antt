@@ -10,7 +10,7 @@ use Rattle.ww_queue.proofs.Joins.{joined_new}
 use Rattle.ww_queue.proofs.Leaves.{left_has, left_gone}
 use Rattle.ww_queue.proofs.Deaths.{only_waiters_die}
 use Rattle.ww_model.specs.declared.state.Holder.TheVariants.{Nobody, Taken, Handed}
-use Rattle.ww_model.specs.declared.event.Event.TheVariants.{Clear, Guard, Join, Take, Die, Unguard}
+use Rattle.ww_model.specs.declared.event.Event.TheVariants.{Clear, Guard, Join, Take, Die, Unguard, Leave}
 use Rattle.ww_model.specs.State.{State, HasOther, Inside, InsideNone, InNoQueue, IsCalm, owns_some, waiter_of, owner_as, dies}
 use Rattle.ww_model.specs.Event.{Possible, after}
 use Rattle.ww_model.specs.Run.{Reached, further}
@@ -18,6 +18,7 @@ use Rattle.ww_model.specs.Emptied.{LeadsBy}
 use Rattle.ww_model.specs.Oldest.{ComesToOwn}
 use Rattle.ww_model.specs.Theorem.{OldestCanJoinAndTake}
 use Rattle.ww_model.proofs.Puts.{put_here, put_cases}
+use Rattle.ww_model.proofs.Cancels.{away_unheeded, inside_unheeded}
 use Rattle.ww_model.proofs.Holders.{other_has}
 use Rattle.ww_model.proofs.Owning.{owns_found, owns_none}
 use Rattle.ww_model.proofs.Kept.{reached_is_lawful}
@@ -42,10 +43,10 @@ module _ (s n : ℕ) where
   FindsFree c = WantsOutside c × (c.guard n ≡ 0)
 
   -- who is not kept inside leaves the guard
-  goes_out : (c : State) → Reached c → (u m : ℕ) → Inside c u m → (Stands (c.queue m) u → HasOther c u m) → (c.kind ≡ WaitDie → dies c u m ≡ None) →
+  goes_out : (c : State) → Reached c → (u m : ℕ) → Inside c u m → c.heeded u ≡ 0 → (Stands (c.queue m) u → HasOther c u m) → (c.kind ≡ WaitDie → dies c u m ≡ None) →
       (P : State → Type 0) → ((d : State) → Reached d → ButSigns c d → Possible d (Unguard u m) → P (after d (Unguard u m))) → LeadsBy (Sparing (Only s)) c P
-  goes_out c reached u m inside contended lives P there = let E = Sparing (Only s) in and_then E c (λ d. ButSigns c d × Possible d (Unguard u m)) P reached
-      (leave (Only s) c u m inside reached contended lives)
+  goes_out c reached u m inside unheeded contended lives P there = let E = Sparing (Only s) in and_then E c (λ d. ButSigns c d × Possible d (Unguard u m)) P reached
+      (leave (Only s) c u m inside reached unheeded contended lives)
       (λ d reached' way. first E d (Unguard u m) P (tt, λ v _. tt) way.1 (stay E (after d (Unguard u m)) P (there d reached' way.0 way.1)))
 
   -- ---- the oldest leaves the guard that it is inside of
@@ -53,7 +54,7 @@ module _ (s n : ℕ) where
   comes_out : (c : State) → Reached c → Wants c → LeadsBy (Sparing (Only s)) c WantsOutside
   comes_out c reached w = ⊎_elim
       (λ none. stay (Sparing (Only s)) c WantsOutside (w, λ m is. let inside = guards_are c reached s m is in none m inside.lock is))
-      (λ one. let m = one.0 in goes_out c reached s m (guards_are c reached s m one.2) (λ waits. absurd (w.2 m waits.0 waits.1 waits.2))
+      (λ one. let m = one.0 in goes_out c reached s m (guards_are c reached s m one.2) (away_unheeded c (reached_is_lawful c reached).base s w.2) (λ waits. absurd (w.2 m waits.0 waits.1 waits.2))
       (λ _. only_waiters_die c.kind (owner_as c (c.owner m)) (c.queue m) s (c.sign s) (w.2 m)) WantsOutside
       (λ d reached' same can. (
         subst Wants (sym same.1) w,
@@ -64,15 +65,15 @@ module _ (s n : ℕ) where
 
   -- ---- another leaves that of the lock
 
-  other_out : (c : State) → Reached c → WantsOutside c → (u : ℕ) → Inside c u n → (Stands (c.queue n) u → HasOther c u n) → (c.kind ≡ WaitDie → dies c u n ≡ None) →
+  other_out : (c : State) → Reached c → WantsOutside c → (u : ℕ) → Inside c u n → c.heeded u ≡ 0 → (Stands (c.queue n) u → HasOther c u n) → (c.kind ≡ WaitDie → dies c u n ≡ None) →
       LeadsBy (Sparing (Only s)) c FindsFree
-  other_out c reached w u inside contended lives = goes_out c reached u n inside contended lives FindsFree
+  other_out c reached w u inside unheeded contended lives = goes_out c reached u n inside unheeded contended lives FindsFree
       (λ d _ same can. let out = subst (λ x. InsideNone x s) (sym same.1) w.1 in
       ((subst Wants (sym same.1) w.0, λ k. put_cases d.guard n 0 k (λ g. g ≢ suc s) (λ _ z. omega arith) (λ _. out k)), put_here d.guard n 0))
 
   -- ... when it has left the list
   left_out : (c : State) → Reached c → WantsOutside c → (u : ℕ) → Inside c u n → StandsNot (c.queue n) u → LeadsBy (Sparing (Only s)) c FindsFree
-  left_out c reached w u inside gone = other_out c reached w u inside (λ waits. absurd (gone waits.0 waits.1 waits.2))
+  left_out c reached w u inside gone = other_out c reached w u inside (inside_unheeded c (reached_is_lawful c reached).base u n inside.guard gone) (λ waits. absurd (gone waits.0 waits.1 waits.2))
       (λ _. only_waiters_die c.kind (owner_as c (c.owner n)) (c.queue n) u (c.sign u) gone)
 
   no_queue : (c : State) (u : ℕ) → InNoQueue c s → InNoQueue (after c (Take u n)) s
@@ -95,21 +96,33 @@ module _ (s n : ℕ) where
           signs = waiter_is_calm c reached u n waits;
         }
 
-    it_dies_or_waits : HasOther c u n → (cause : Option ℕ) → dies c u n ≡ cause → LeadsBy (Sparing (Only s)) c FindsFree
-    it_dies_or_waits has None is = other_out c reached w u inside (λ _. has) (λ _. is)
-    it_dies_or_waits has (Some k) is = first (Sparing (Only s)) c (Die u n) FindsFree (tt, λ v mine same. other (same ∙ mine)) can
+    it_dies_or_waits : c.heeded u ≡ 0 → HasOther c u n → (cause : Option ℕ) → dies c u n ≡ cause → LeadsBy (Sparing (Only s)) c FindsFree
+    it_dies_or_waits unheeded has None is = other_out c reached w u inside unheeded (λ _. has) (λ _. is)
+    it_dies_or_waits unheeded has (Some k) is = first (Sparing (Only s)) c (Die u n) FindsFree (tt, λ v mine same. other (same ∙ mine)) can
         (left_out (after c (Die u n)) (further c (Die u n) reached can) ((w.0.0, w.0.1, no_queue c u w.0.2, w.0.3), w.1) u
         (record { guard = inside.guard; lock = inside.lock; seat = inside.seat }) (gone_from c reached u))
       where
         can : Possible c (Die u n)
-        can = record { base = record { inside = inside; waits = waits; other = has }; signs = subst IsSome (sym is) refl }
+        can = record { base = record { inside = inside; waits = waits; other = has; unheeded = unheeded }; signs = subst IsSome (sym is) refl }
+
+    it_is_interrupted : c.heeded u ≢ 0 → LeadsBy (Sparing (Only s)) c FindsFree
+    it_is_interrupted heeded = first (Sparing (Only s)) c (Leave u n) FindsFree (tt, λ v mine same. other (same ∙ mine)) can
+        (left_out (after c (Leave u n)) (further c (Leave u n) reached can) ((w.0.0, w.0.1, no_queue c u w.0.2, w.0.3), w.1) u
+        (record { guard = inside.guard; lock = inside.lock; seat = inside.seat }) (gone_from c reached u))
+      where
+        can : Possible c (Leave u n)
+        can = record { base = record { inside = inside; waits = waits; heeded = heeded }; signs = tt }
+
+    it_goes : LeadsBy (Sparing (Only s)) c FindsFree
+    it_goes = dite (ℕ_discrete (c.heeded u) 0)
+        (λ none. ⊎_elim it_takes (λ has. it_dies_or_waits none has (dies c u n) refl) (free_or_other c reached u n waits))
+        it_is_interrupted
 
   guard_frees : (c : State) → Reached c → WantsOutside c → LeadsBy (Sparing (Only s)) c FindsFree
   guard_frees c reached w = ⊎_elim
       (λ free. stay (Sparing (Only s)) c FindsFree (w, free))
       (λ one. let u = one.0 in let inside = guards_are c reached u n one.1 in let other : u ≢ s = λ is. w.1 n (one.1 ∙ ap suc is) in ⊎_elim
-      (λ waits. ⊎_elim (it_takes c reached w u inside other waits) (λ has. it_dies_or_waits c reached w u inside other waits has (dies c u n) refl)
-      (free_or_other c reached u n waits))
+      (it_goes c reached w u inside other)
       (λ none. left_out c reached w u inside none) (stands_or_not (c.queue n) u))
       (guard_is (c.guard n))
 
@@ -142,7 +155,8 @@ module _ (s n : ℕ) where
   goes_in c reached found = first (Sparing (Only s)) c (Guard s n) CanJoinIt (tt, λ v _. tt) go (stay (Sparing (Only s)) inside CanJoinIt (
     join,
     oldest_can_take (after inside (Join s n)) (further inside (Join s n) (further c (Guard s n) reached go) join) s n (record { context = w.0; oldest = w.1 })
-        (x, subst (λ q. Has q x) (sym (put_here c.queue n (joined (c.queue n) x))) (joined_new (c.queue n) x), refl),
+        (x, subst (λ q. Has q x) (sym (put_here c.queue n (joined (c.queue n) x))) (joined_new (c.queue n) x), refl)
+        (away_unheeded c (reached_is_lawful c reached).base s w.2),
   ))
     where
       w : Wants c

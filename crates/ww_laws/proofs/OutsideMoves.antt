@@ -18,6 +18,7 @@ use Rattle.ww_model.specs.Waits.{WaitsAt}
 use Rattle.ww_model.specs.Emptied.{IsEmptied}
 use Rattle.ww_model.specs.Oldest.{IsOldest}
 use Rattle.ww_model.proofs.Puts.{put_here}
+use Rattle.ww_model.proofs.Cancels.{away_unheeded}
 use Rattle.ww_model.proofs.Options.{some_of}
 use Rattle.ww_model.proofs.Kept.{reached_is_lawful}
 use Rattle.ww_model.proofs.Rings.{YieldsTo, Onward, waiting_owner, edge}
@@ -64,7 +65,7 @@ holder_is Nobody = inl refl
 holder_is (Taken t) = inr (inl (t, refl))
 holder_is (Handed t) = inr (inr (t, refl))
 
-module _ (spared : ℕ → Type 0) (c : State) (reached : Reached c) (spared_waits : (s : ℕ) → spared s → IsOldest c s × ((n : ℕ) × Stands (c.queue n) s)) (quiet : (n : ℕ) → c.guard n ≡ 0) where
+module _ (spared : ℕ → Type 0) (c : State) (reached : Reached c) (spared_waits : (s : ℕ) → spared s → IsOldest c s × ((n : ℕ) × Stands (c.queue n) s) × (c.heeded s ≡ 0)) (quiet : (n : ℕ) → c.guard n ≡ 0) where
   lawful : IsLawful c
   lawful = reached_is_lawful c reached
 
@@ -268,6 +269,7 @@ module _ (spared : ℕ → Type 0) (c : State) (reached : Reached c) (spared_wai
     guard = quiet;
     stamp = none;
     sign = λ s. dite (ℕ_discrete (c.sign s) 0) (λ is. is) (λ some. absurd (let older = lawful.signs.older_signs s (omega arith) in let z = none s in omega arith));
+    heeded = λ s. away_unheeded c lawful.base s (λ n e h. absurd (subst (λ q. Has q e) (free n).1 h));
   }
 
   ends_or_empty : ((n : ℕ) → (c.owner n ≡ Nobody) × (c.queue n ≡ [])) → IsEmptied c ⊎ GetsLighter spared c
@@ -295,10 +297,10 @@ guard_is zero = inl refl
 guard_is (suc s) = inr (s, refl)
 
 -- everything is free, or some run makes the burden smaller, if who is spared is the oldest and waits
-pub empty_or_lighter : (spared : ℕ → Type 0) (c : State) → Reached c → ((s : ℕ) → spared s → IsOldest c s × ((n : ℕ) × Stands (c.queue n) s)) →
+pub empty_or_lighter : (spared : ℕ → Type 0) (c : State) → Reached c → ((s : ℕ) → spared s → IsOldest c s × ((n : ℕ) × Stands (c.queue n) s) × (c.heeded s ≡ 0)) →
     IsEmptied c ⊎ GetsLighter spared c
 empty_or_lighter spared c reached spared_waits = ⊎_elim
     (λ quiet. outside_move spared c reached spared_waits (λ n. ⊎_elim (λ none. none)
     (λ one. let inside = guards_are c reached one.0 n one.1 in quiet n inside.lock) (guard_is (c.guard n))))
-    (λ one. inr (inside_move spared c reached one.2.0 one.0 (guards_are c reached one.2.0 one.0 one.2.1) (λ is. (spared_waits one.2.0 is).0)))
+    (λ one. inr (inside_move spared c reached one.2.0 one.0 (guards_are c reached one.2.0 one.0 one.2.1) (λ is. let w = spared_waits one.2.0 is in (w.0, w.2))))
     (search (λ n. c.guard n ≡ 0) (λ n. (s : ℕ) × (c.guard n ≡ suc s)) (λ n. guard_is (c.guard n)) c.locks)

@@ -1,4 +1,5 @@
--- In each kind a run with all fourteen events, which comes by a ring.
+-- In each kind a run that comes by a ring, and one that leads from there to an interruption: together they have all
+-- seventeen events.
 use Rattle.std.proofs.Common.{ℕ, suc, zero, ◌≡◌, ◌≢◌, inl, true, List, [], ◌∷◌, Option, Some, None, refl, ◌∙◌, subst, arith}
 use native.Mathlib.Decide.{ℕ_discrete}
 use Rattle.ww_queue.specs.declared.kind.Kind.{Kind}
@@ -6,7 +7,7 @@ use Rattle.ww_queue.specs.declared.kind.Kind.TheVariants.{WoundWait, WaitDie}
 use Rattle.ww_queue.specs.Queue.{Has}
 use Rattle.ww_model.specs.declared.state.Holder.TheVariants.{Taken}
 use Rattle.ww_model.specs.declared.event.Event.{Event}
-use Rattle.ww_model.specs.declared.event.Event.TheVariants.{Begin, Clear, Fast, FastGive, Guard, Join, Sign, Take, Ask, Give, Die, Unguard, Commit, End}
+use Rattle.ww_model.specs.declared.event.Event.TheVariants.{Begin, Clear, Fast, FastGive, Guard, Join, Sign, Take, Ask, Give, Die, Unguard, Commit, End, Cancel, Heed, Leave}
 use Rattle.ww_model.specs.State.{State, start, put}
 use Rattle.ww_model.specs.Event.{Possible, after}
 use Rattle.ww_model.specs.Run.{state_after, IsRun, Reached, at_start, further}
@@ -31,6 +32,11 @@ out_of_it WoundWait = Guard 1 0 ∷ Die 1 0 ∷ Unguard 1 0 ∷ Guard 0 1 ∷ As
 out_of_it WaitDie = Guard 0 0 ∷ Ask 0 0 ∷ Unguard 0 0 ∷ Guard 1 1 ∷ Die 1 1 ∷ Clear 1 ∷ Unguard 1 1 ∷ Guard 1 0 ∷ Give 1 0 ∷ Unguard 1 0 ∷
     Guard 0 0 ∷ Take 0 0 ∷ Unguard 0 0 ∷ Commit 0 ∷ FastGive 0 1 ∷ End 1 ∷ []
 
+-- A third seat cancels a waiter of the ring, which is interrupted.
+abbrev cancelled_there : Kind → List Event
+cancelled_there WoundWait = Cancel 2 1 ∷ Guard 1 0 ∷ Heed 1 0 ∷ Leave 1 0 ∷ []
+cancelled_there WaitDie = Cancel 2 0 ∷ Guard 0 0 ∷ Heed 0 0 ∷ Leave 0 0 ∷ []
+
 abbrev ring_in : Kind → State
 ring_in kind = state_after (start kind 2 3) (to_a_ring kind)
 
@@ -43,6 +49,11 @@ from_it : (kind : Kind) → all_pass (ring_in kind) (out_of_it kind) ≡ true
 unfolding put ℕ_discrete
 from_it WoundWait = refl
 from_it WaitDie = refl
+
+cancels_it : (kind : Kind) → all_pass (ring_in kind) (cancelled_there kind) ≡ true
+unfolding put ℕ_discrete
+cancels_it WoundWait = refl
+cancels_it WaitDie = refl
 
 reached_ring : (kind : Kind) → Reached (ring_in kind)
 reached_ring kind = let from = start kind 2 3 in let there = at_start kind 2 3 in
@@ -102,6 +113,10 @@ behind_ring : (kind : Kind) (i : ℕ) (e : Event) → event_at (out_of_it kind) 
 behind_ring kind = happens_in kind (ring_in kind) (of_its_kind kind (start kind 2 3) (to_a_ring kind) refl) (reached_ring kind) (out_of_it kind)
     (a_run (ring_in kind) (reached_ring kind) (out_of_it kind) (from_it kind))
 
+where_cancelled : (kind : Kind) (i : ℕ) (e : Event) → event_at (cancelled_there kind) i ≡ Some e → Happens kind e
+where_cancelled kind = happens_in kind (ring_in kind) (of_its_kind kind (start kind 2 3) (to_a_ring kind) refl) (reached_ring kind) (cancelled_there kind)
+    (a_run (ring_in kind) (reached_ring kind) (cancelled_there kind) (cancels_it kind))
+
 pub events_happen : EventsHappen
 events_happen WoundWait = record {
   begins = (0, before_ring WoundWait 0 (Begin 0) refl);
@@ -118,6 +133,9 @@ events_happen WoundWait = record {
   leaves = (0, 1, before_ring WoundWait 7 (Unguard 0 1) refl);
   commits = (0, behind_ring WoundWait 13 (Commit 0) refl);
   ends = (1, behind_ring WoundWait 15 (End 1) refl);
+  cancels = (2, 1, where_cancelled WoundWait 0 (Cancel 2 1) refl);
+  heeds = (1, 0, where_cancelled WoundWait 2 (Heed 1 0) refl);
+  is_interrupted = (1, 0, where_cancelled WoundWait 3 (Leave 1 0) refl);
 }
 events_happen WaitDie = record {
   begins = (0, before_ring WaitDie 0 (Begin 0) refl);
@@ -134,4 +152,7 @@ events_happen WaitDie = record {
   leaves = (1, 1, before_ring WaitDie 7 (Unguard 1 1) refl);
   commits = (0, behind_ring WaitDie 13 (Commit 0) refl);
   ends = (1, behind_ring WaitDie 15 (End 1) refl);
+  cancels = (2, 0, where_cancelled WaitDie 0 (Cancel 2 0) refl);
+  heeds = (0, 0, where_cancelled WaitDie 2 (Heed 0 0) refl);
+  is_interrupted = (0, 0, where_cancelled WaitDie 3 (Leave 0 0) refl);
 }

@@ -12,7 +12,7 @@ use Rattle.ww_queue.proofs.Outcomes.{both_true, same_number, other_number}
 use Rattle.ww_model.specs.declared.state.Holder.{Holder}
 use Rattle.ww_model.specs.declared.state.Holder.TheVariants.{Nobody, Taken, Handed}
 use Rattle.ww_model.specs.declared.event.Event.{Event}
-use Rattle.ww_model.specs.declared.event.Event.TheVariants.{Begin, Clear, Fast, FastGive, Guard, Join, Sign, Take, Ask, Give, Die, Unguard, Commit, End}
+use Rattle.ww_model.specs.declared.event.Event.TheVariants.{Begin, Clear, Fast, FastGive, Guard, Join, Sign, Take, Ask, Give, Die, Unguard, Commit, End, Cancel, Heed, Leave}
 use Rattle.ww_model.specs.State.{State, any_below, is_taken_by, OwnsNone, Inside, InsideNone, InNoQueue, Away, IsCalm, owns_some, dies, owes, place_of}
 use Rattle.ww_model.specs.Event.{Possible, SignsPossible, IsSafe, owed_to, after}
 use Rattle.ww_model.specs.Run.{IsRun, Reached, further}
@@ -96,10 +96,13 @@ passes c (Sign s v) = is_in c s (place_of c s) && ((c.sign v == 0) && is_some (o
 passes c (Take s n) = is_in c s n && (wants c s && is_free_for s (c.owner n))
 passes c (Ask s n) = is_in c s n && (is_first s (c.queue n) && (is_other_taken s (c.owner n) && not (c.asked n)))
 passes c (Give s n) = is_in c s n && is_taken_by s (c.owner n)
-passes c (Die s n) = is_in c s n && (has_waiter s (c.queue n) && (is_other s (c.owner n) && is_some (dies c s n)))
-passes c (Unguard s n) = is_in c s n && ((not (has_waiter s (c.queue n)) || is_other s (c.owner n)) && (all_signed c (owes c s n) && is_safe c.kind c s n))
+passes c (Die s n) = is_in c s n && (has_waiter s (c.queue n) && (is_other s (c.owner n) && ((c.heeded s == 0) && is_some (dies c s n))))
+passes c (Unguard s n) = is_in c s n && ((not (has_waiter s (c.queue n)) || is_other s (c.owner n)) && ((c.heeded s == 0) && (all_signed c (owes c s n) && is_safe c.kind c s n)))
 passes c (Commit s) = is_away c s && (owns_some c s && nat_lt c.commits 18446744073709551615)
 passes c (End s) = is_away c s && (nat_lt 0 (c.stamp s) && (not (owns_some c s) && (c.sign s == 0)))
+passes c (Cancel s v) = is_away c s && (nat_lt v c.seats && (c.cancel v == 0))
+passes c (Heed s n) = is_in c s n && (has_waiter s (c.queue n) && (is_other s (c.owner n) && (nat_lt 0 (c.cancel s) && (c.heeded s == 0))))
+passes c (Leave s n) = is_in c s n && (has_waiter s (c.queue n) && nat_lt 0 (c.heeded s))
 
 abbrev pub all_pass : State → List Event → Bool
 all_pass c [] = true
@@ -318,21 +321,29 @@ may c reached (Give s n) is = let p = both_true (is_in c s n) (is_taken_by s (c.
   signs = tt;
 }
 may c reached (Die s n) is =
-    let p = both_true (is_in c s n) (has_waiter s (c.queue n) && (is_other s (c.owner n) && is_some (dies c s n))) is in
-    let q = both_true (has_waiter s (c.queue n)) (is_other s (c.owner n) && is_some (dies c s n)) p.1 in
-    let r = both_true (is_other s (c.owner n)) (is_some (dies c s n)) q.1 in record {
-      base = record { inside = is_inside c s n p.0; waits = waiter_stands s (c.queue n) q.0; other = other_from s (c.owner n) r.0 };
-      signs = r.1;
+    let p = both_true (is_in c s n) (has_waiter s (c.queue n) && (is_other s (c.owner n) && ((c.heeded s == 0) && is_some (dies c s n)))) is in
+    let q = both_true (has_waiter s (c.queue n)) (is_other s (c.owner n) && ((c.heeded s == 0) && is_some (dies c s n))) p.1 in
+    let r = both_true (is_other s (c.owner n)) ((c.heeded s == 0) && is_some (dies c s n)) q.1 in
+    let t = both_true (c.heeded s == 0) (is_some (dies c s n)) r.1 in record {
+      base = record {
+        inside = is_inside c s n p.0;
+        waits = waiter_stands s (c.queue n) q.0;
+        other = other_from s (c.owner n) r.0;
+        unheeded = same_number (c.heeded s) 0 t.0;
+      };
+      signs = t.1;
     }
 may c reached (Unguard s n) is = let wait = not (has_waiter s (c.queue n)) in
-    let p = both_true (is_in c s n) ((wait || is_other s (c.owner n)) && (all_signed c (owes c s n) && is_safe c.kind c s n)) is in
-    let q = both_true (wait || is_other s (c.owner n)) (all_signed c (owes c s n) && is_safe c.kind c s n) p.1 in
-    let r = both_true (all_signed c (owes c s n)) (is_safe c.kind c s n) q.1 in record {
+    let p = both_true (is_in c s n) ((wait || is_other s (c.owner n)) && ((c.heeded s == 0) && (all_signed c (owes c s n) && is_safe c.kind c s n))) is in
+    let q = both_true (wait || is_other s (c.owner n)) ((c.heeded s == 0) && (all_signed c (owes c s n) && is_safe c.kind c s n)) p.1 in
+    let t = both_true (c.heeded s == 0) (all_signed c (owes c s n) && is_safe c.kind c s n) q.1 in
+    let r = both_true (all_signed c (owes c s n)) (is_safe c.kind c s n) t.1 in record {
       base = record {
         inside = is_inside c s n p.0;
         contended = λ waits. ⊎_elim
             (λ none. absurd (stands_not s (c.queue n) (not_true (has_waiter s (c.queue n)) none) waits.0 waits.1 waits.2))
             (other_from s (c.owner n)) (or_true wait (is_other s (c.owner n)) q.0);
+        unheeded = same_number (c.heeded s) 0 t.0;
       };
       signs = record { signed = signed_from c (owes c s n) r.0; safe = may_leave c.kind c s n refl r.1 };
     }
@@ -352,6 +363,36 @@ may c reached (End s) is =
     let r = both_true (not (owns_some c s)) (c.sign s == 0) q.1 in record {
       base = record { away = away c s reached p.0; context = less 0 (c.stamp s) q.0; owns_none = owns_nothing c s reached r.0 };
       signs = same_number (c.sign s) 0 r.1;
+    }
+may c reached (Cancel s v) is =
+    let p = both_true (is_away c s) (nat_lt v c.seats && (c.cancel v == 0)) is in
+    let q = both_true (nat_lt v c.seats) (c.cancel v == 0) p.1 in record {
+      base = record { away = away c s reached p.0; seat = less v c.seats q.0; none = same_number (c.cancel v) 0 q.1 };
+      signs = tt;
+    }
+may c reached (Heed s n) is =
+    let p = both_true (is_in c s n) (has_waiter s (c.queue n) && (is_other s (c.owner n) && (nat_lt 0 (c.cancel s) && (c.heeded s == 0)))) is in
+    let q = both_true (has_waiter s (c.queue n)) (is_other s (c.owner n) && (nat_lt 0 (c.cancel s) && (c.heeded s == 0))) p.1 in
+    let r = both_true (is_other s (c.owner n)) (nat_lt 0 (c.cancel s) && (c.heeded s == 0)) q.1 in
+    let t = both_true (nat_lt 0 (c.cancel s)) (c.heeded s == 0) r.1 in record {
+      base = record {
+        inside = is_inside c s n p.0;
+        waits = waiter_stands s (c.queue n) q.0;
+        other = other_from s (c.owner n) r.0;
+        cancelled = λ none. let some = less 0 (c.cancel s) t.0 in omega arith;
+        unheeded = same_number (c.heeded s) 0 t.1;
+      };
+      signs = tt;
+    }
+may c reached (Leave s n) is =
+    let p = both_true (is_in c s n) (has_waiter s (c.queue n) && nat_lt 0 (c.heeded s)) is in
+    let q = both_true (has_waiter s (c.queue n)) (nat_lt 0 (c.heeded s)) p.1 in record {
+      base = record {
+        inside = is_inside c s n p.0;
+        waits = waiter_stands s (c.queue n) q.0;
+        heeded = λ none. let some = less 0 (c.heeded s) q.1 in omega arith;
+      };
+      signs = tt;
     }
 
 -- events that pass in turn are a run

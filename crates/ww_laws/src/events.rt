@@ -2,7 +2,7 @@
 //! leaves it.
 
 ghost use Rattle.ww_model.specs.Lawful.{OutsideIsKept};
-ghost use Rattle.ww_model.specs.Alone.{OthersAreLeftAlone, OthersAreSignedOnce, TakenLeavesByGiving, HandedLeavesByTaking};
+ghost use Rattle.ww_model.specs.Alone.{OthersAreLeftAlone, OthersAreSignedOnce, OthersAreCancelledOnce, TakenLeavesByGiving, HandedLeavesByTaking};
 ghost use Rattle.ww_model.specs.Laws.{BaseIsKept, LawfulIsKept, OnlyTheFirstAsks, HandedToTheFirst};
 
 /// Each event that is possible as far as stamps, owners, wait lists and guards go keeps these in order.
@@ -30,6 +30,11 @@ pub fn others_are_left_alone()
 /// The sign of another seat changes only from 0, and by Sign.
 pub fn others_are_signed_once()
     ensures { OthersAreSignedOnce }
+{}
+
+/// The cancel of another seat changes only where none is pending, and by Cancel.
+pub fn others_are_cancelled_once()
+    ensures { OthersAreCancelledOnce }
 {}
 
 /// An owner that has taken a lock leaves it only by its own FastGive or Give there.

@@ -1,7 +1,8 @@
 //! The theorem, sentence by sentence of `specs/Theorem.antt` of `ww_model`: every ring of waits has a condemned member,
-//! who is told EDEADLK had to be, the oldest never backs off, and nobody is stuck for good.
+//! who is told EDEADLK had to be, the oldest never backs off, nobody is stuck for good, and nobody is interrupted but
+//! by a cancel.
 
-ghost use Rattle.ww_model.specs.Theorem.{RingsAreCondemned, CyclesAreCondemned, CyclesAreOfContexts, ReachedIsLawful, DeadlkWasMet, OldestNeverDies, OldestCanTake, OldestCanJoinAndTake, CanBeEmptied, RingsAreReached, EventsHappen};
+ghost use Rattle.ww_model.specs.Theorem.{RingsAreCondemned, CyclesAreCondemned, CyclesAreOfContexts, ReachedIsLawful, DeadlkWasMet, OldestNeverDies, OldestCanTake, OldestCanJoinAndTake, CanBeEmptied, CancelsAreCounted, RingsAreReached, EventsHappen};
 
 /// Every ring of a reached state has a condemned member, whichever the kind.
 pub fn rings_are_condemned()
@@ -29,13 +30,14 @@ pub fn deadlk_was_met()
 {}
 
 /// The oldest context of all, if in Wound-Wait it has no sign, is never signed and never told to back off, until it
-/// ends.
+/// ends. It may be interrupted.
 pub fn oldest_never_dies()
     ensures { OldestNeverDies }
 {}
 
-/// Wherever the oldest context waits, some run leads to it owning the lock in which nobody begins anything new, and in
-/// which it neither dies nor gives anything back: whoever is in its way can be made to give way, and it never has to.
+/// Wherever the oldest context waits and has heeded no cancel, some run leads to it owning the lock in which nobody
+/// begins anything new, and in which it neither dies nor is interrupted nor gives anything back: whoever is in its way
+/// can be made to give way, and it never has to.
 pub fn oldest_can_take()
     ensures { OldestCanTake }
 {}
@@ -51,12 +53,18 @@ pub fn can_be_emptied()
     ensures { CanBeEmptied }
 {}
 
+/// In each run, each cancel that one seat set for another, or for itself, was answered by one interruption that names
+/// it, is pending, or is heeded and not yet answered.
+pub fn cancels_are_counted()
+    ensures { CancelsAreCounted }
+{}
+
 /// In each kind a state with a ring is reached.
 pub fn rings_are_reached()
     ensures { RingsAreReached }
 {}
 
-/// In each kind each of the fourteen events is possible in some reached state.
+/// In each kind each of the seventeen events is possible in some reached state.
 pub fn events_happen()
     ensures { EventsHappen }
 {}

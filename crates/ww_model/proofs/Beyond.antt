@@ -1,12 +1,13 @@
 -- Of a reached state: nothing is where no lock and no seat is.
 use Rattle.std.proofs.Common.{ℕ, suc, ◌≡◌, ◌<◌, ◌≤◌, ◌+◌, [], refl, arith}
-use Rattle.ww_queue.specs.Queue.{joined, left}
+use Rattle.ww_queue.specs.Queue.{joined}
 use Rattle.ww_model.specs.declared.event.Event.{Event}
-use Rattle.ww_model.specs.declared.event.Event.TheVariants.{Begin, Guard, Join, Take, Die, Unguard, End}
+use Rattle.ww_model.specs.declared.event.Event.TheVariants.{Begin, Guard, Join, Take, Die, Unguard, End, Cancel, Heed, Leave}
 use Rattle.ww_model.specs.State.{State, Inside, waiter_of}
 use Rattle.ww_model.specs.Event.{BasePossible, after}
 use Rattle.ww_model.specs.Run.{Reached, at_start, further}
 use Rattle.ww_model.proofs.Puts.{put_cases}
+use Rattle.ww_model.proofs.Departures.{none_stood}
 
 -- ---- wait lists
 
@@ -17,10 +18,9 @@ keeps_queues_beyond : (c : State) (e : Event) → BasePossible c e → QueuesBey
 unfolding QueuesBeyond
 keeps_queues_beyond c (Join s n) can old m range = put_cases c.queue n (joined (c.queue n) (waiter_of c s)) m (λ q. q ≡ [])
     (λ is. let lock = can.inside.lock in absurd (omega arith)) (λ _. old m range)
-keeps_queues_beyond c (Take s n) can old m range = put_cases c.queue n (left (c.queue n) s) m (λ q. q ≡ [])
-    (λ is. let lock = can.inside.lock in absurd (omega arith)) (λ _. old m range)
-keeps_queues_beyond c (Die s n) can old m range = put_cases c.queue n (left (c.queue n) s) m (λ q. q ≡ [])
-    (λ is. let lock = can.inside.lock in absurd (omega arith)) (λ _. old m range)
+keeps_queues_beyond c (Take s n) can old m range = none_stood c.queue n s m (old m range)
+keeps_queues_beyond c (Die s n) can old m range = none_stood c.queue n s m (old m range)
+keeps_queues_beyond c (Leave s n) can old m range = none_stood c.queue n s m (old m range)
 keeps_queues_beyond c _ can old m range = old m range
 
 queues_of : (c : State) → Reached c → QueuesBeyond c
@@ -77,3 +77,25 @@ stamps_of _ (further c e run can) s range = keeps_stamps_beyond c e can.base (st
 pub stamps_beyond : (c : State) → Reached c → (s : ℕ) → c.seats ≤ s → c.stamp s ≡ 0
 unfolding StampsBeyond
 stamps_beyond c run = stamps_of c run
+
+-- ---- cancels
+
+CancelsBeyond : State → Type 0
+CancelsBeyond c = (s : ℕ) → c.seats ≤ s → c.cancel s ≡ 0
+
+keeps_cancels_beyond : (c : State) (e : Event) → BasePossible c e → CancelsBeyond c → CancelsBeyond (after c e)
+unfolding CancelsBeyond
+keeps_cancels_beyond c (Cancel s v) can old t range = put_cases c.cancel v (s + 1) t (λ k. k ≡ 0)
+    (λ is. let seat = can.seat in absurd (omega arith)) (λ _. old t range)
+keeps_cancels_beyond c (Heed s n) can old t range = put_cases c.cancel s 0 t (λ k. k ≡ 0) (λ _. refl) (λ _. old t range)
+keeps_cancels_beyond c _ can old t range = old t range
+
+cancels_of : (c : State) → Reached c → CancelsBeyond c
+unfolding CancelsBeyond
+cancels_of _ (at_start kind locks seats) s range = refl
+cancels_of _ (further c e run can) s range = keeps_cancels_beyond c e can.base (cancels_of c run) s range
+
+-- where no seat is no cancel is pending
+pub cancels_beyond : (c : State) → Reached c → (s : ℕ) → c.seats ≤ s → c.cancel s ≡ 0
+unfolding CancelsBeyond
+cancels_beyond c run = cancels_of c run

@@ -34,6 +34,14 @@ module _ (s : Snapshot) where
   pub guard_set : (i : ℕ) (a : Option ℕ) → i < length s.guards → state_of (record s { guards = set s.guards i a }) ≡ record (state_of s) { guard = put (state_of s).guard i (guard_number a) }
   guard_set i a within = ap (λ (f : ℕ → ℕ). record (state_of s) { guard = f }) (seen guard_number s.guards i a None within)
 
+-- (of the list of cancels, and of those that were heeded)
+module _ (s : Snapshot) where
+  pub cancel_set : (i a : ℕ) → i < length s.cancels → state_of (record s { cancels = set s.cancels i a }) ≡ record (state_of s) { cancel = put (state_of s).cancel i a }
+  cancel_set i a within = ap (λ (f : ℕ → ℕ). record (state_of s) { cancel = f }) (stored s.cancels i a 0 within)
+
+  pub heeded_set : (i a : ℕ) → i < length s.heeded → state_of (record s { heeded = set s.heeded i a }) ≡ record (state_of s) { heeded = put (state_of s).heeded i a }
+  heeded_set i a within = ap (λ (f : ℕ → ℕ). record (state_of s) { heeded = f }) (stored s.heeded i a 0 within)
+
 -- the lists after writes that keep their lengths
 pub record HasLengths (s t : Snapshot) : Type 0 where
   pub stamps : length t.stamps ≡ length s.stamps
@@ -42,6 +50,8 @@ pub record HasLengths (s t : Snapshot) : Type 0 where
   pub asked : length t.asked ≡ length s.asked
   pub queues : length t.queues ≡ length s.queues
   pub guards : length t.guards ≡ length s.guards
+  pub cancels : length t.cancels ≡ length s.cancels
+  pub heeded : length t.heeded ≡ length s.heeded
 
 pub resized : (s t : Snapshot) → HasSizes s → HasLengths s t → HasSizes t
 resized s t h l = record {
@@ -53,6 +63,8 @@ resized s t h l = record {
   some_seat = omega (arith, h.some_seat, l.stamps);
   seats = omega (arith, h.seats, l.stamps);
   signs = l.signs ∙ h.signs ∙ sym l.stamps;
+  cancels = l.cancels ∙ h.cancels ∙ sym l.stamps;
+  heeded = l.heeded ∙ h.heeded ∙ sym l.stamps;
 }
 
 -- the lists t show what the event makes of the lists s

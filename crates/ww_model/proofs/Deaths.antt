@@ -7,16 +7,17 @@ use Rattle.ww_queue.specs.declared.kind.Kind.TheVariants.{WaitDie}
 use Rattle.ww_queue.specs.declared.entry.Entry.{Entry}
 use Rattle.ww_queue.specs.Queue.{Has, Before, joined, left}
 use Rattle.ww_queue.proofs.Joins.{joined_has, joined_before}
-use Rattle.ww_queue.proofs.Leaves.{left_has, left_before}
+use Rattle.ww_queue.proofs.Leaves.{left_before}
 use Rattle.ww_queue.proofs.Aheads.{before_second}
 use Rattle.ww_model.specs.declared.state.Holder.{Holder}
 use Rattle.ww_model.specs.declared.state.Holder.TheVariants.{Nobody, Taken}
-use Rattle.ww_model.specs.declared.event.Event.TheVariants.{Begin, Clear, Fast, FastGive, Guard, Join, Sign, Take, Give, Die, Unguard, End}
+use Rattle.ww_model.specs.declared.event.Event.TheVariants.{Begin, Clear, Fast, FastGive, Guard, Join, Sign, Take, Give, Die, Unguard, End, Leave}
 use Rattle.ww_model.specs.State.{State, put, waiter_of, dies, owes}
 use Rattle.ww_model.specs.Event.{given_to}
 use Rattle.ww_model.specs.Lawful.{QueueAt, DeathsAt, Deaths, Keeps}
 use Rattle.ww_model.proofs.Options.{some_of}
 use Rattle.ww_model.proofs.Puts.{put_cases, puts_cases}
+use Rattle.ww_model.proofs.Departures.{stood, stood_before}
 use Rattle.ww_model.proofs.Holders.{not_given}
 use Rattle.ww_model.proofs.Dues.{dies_younger, dies_behind, owes_death, sign_for, sign_some}
 
@@ -60,6 +61,13 @@ unguarded c s n dying l paid lives = record {
       all_signed c s n dying paid lives f.seat (dies_behind c n f dying l.once k p' b e h p);
 }
 
+departed : (c : State) (s n m : ℕ) → DeathsAt c.stamp c.sign (c.owner m) (c.queue m) (c.guard m) →
+    DeathsAt c.stamp c.sign (c.owner m) (put c.queue n (left (c.queue n) s) m) (c.guard m)
+departed c s n m l = record {
+  younger_signed = λ t e own p out h. l.younger_signed t e own p out (stood c.queue n s m e h);
+  later_holders_signed = λ e f h. l.later_holders_signed e f (stood_before c.queue n s m e f h);
+}
+
 pub keeps_deaths : Keeps (λ c. Deaths c.kind c.stamp c.sign c.owner c.queue c.guard)
 keeps_deaths c (Begin s) can l = λ dying m. stamp_moves c.stamp c.sign (c.owner m) (c.queue m) (c.guard m) s (c.drawn + 1) (can.base.owns_none m) (l.signs.deaths dying m)
 keeps_deaths c (End s) can l = λ dying m. stamp_moves c.stamp c.sign (c.owner m) (c.queue m) (c.guard m) s 0 (can.base.owns_none m) (l.signs.deaths dying m)
@@ -92,11 +100,8 @@ keeps_deaths c (Join s n) can l = λ dying m. put_cases c.queue n (joined (c.que
           (⊎_elim (λ i. absurd (out (mine e i))) (⊎_elim (λ i. absurd (out' (mine f i))) (λ i. subst (λ x. Before (c.queue x) e f) (sym is) i))
           (joined_before (c.queue n) (waiter_of c s) e f h)) p p' out out';
     }) (λ _. l.signs.deaths dying m)
-keeps_deaths c (Die s n) can l = λ dying m. put_cases c.queue n (left (c.queue n) s) m (λ q. DeathsAt c.stamp c.sign (c.owner m) q (c.guard m))
-    (λ is. record {
-      younger_signed = λ t e own p out h. (l.signs.deaths dying m).younger_signed t e own p out (subst (λ x. Has (c.queue x) e) (sym is) (left_has (c.queue n) s e h));
-      later_holders_signed = λ e f h. (l.signs.deaths dying m).later_holders_signed e f (subst (λ x. Before (c.queue x) e f) (sym is) (left_before (c.queue n) s e f h));
-    }) (λ _. l.signs.deaths dying m)
+keeps_deaths c (Die s n) can l = λ dying m. departed c s n m (l.signs.deaths dying m)
+keeps_deaths c (Leave s n) can l = λ dying m. departed c s n m (l.signs.deaths dying m)
 keeps_deaths c (Unguard s n) can l = λ dying m. put_cases c.guard n 0 m (λ g. DeathsAt c.stamp c.sign (c.owner m) (c.queue m) g)
     (λ is. subst (λ x. DeathsAt c.stamp c.sign (c.owner x) (c.queue x) 0) (sym is)
     (unguarded c s n dying (l.base.queues.at n) can.signs.signed (can.signs.safe dying).lives)) (λ _. l.signs.deaths dying m)

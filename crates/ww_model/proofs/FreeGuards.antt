@@ -1,4 +1,5 @@
--- Wait-Die: whoever must die at a lock has a sign, where a seat inside its guard has nothing to do with that lock, or nobody is.
+-- Wait-Die: whoever must die at a lock has a sign, where a seat inside its guard has nothing to do with that lock, or
+-- nobody is.
 use Rattle.std.proofs.Common.{◌≡◌, ◌≢◌, inl, inr, ⊎_elim, ℕ, suc, ◌<◌, List, [], ◌∷◌, ap, ◌∙◌, subst, arith}
 use Rattle.std.proofs.lemmas.Bool.{true_from_ne_false}
 use Rattle.ww_queue.specs.declared.kind.Kind.TheVariants.{WaitDie}

@@ -3,11 +3,14 @@ use Rattle.std.proofs.Common.{◌≡◌, ⊎_elim, ℕ, suc, sym, ap, ◌∙◌,
 use Rattle.ww_queue.specs.declared.entry.Entry.{Entry}
 use Rattle.ww_queue.specs.Queue.{Has, joined, left}
 use Rattle.ww_queue.proofs.Joins.{joined_has}
-use Rattle.ww_queue.proofs.Leaves.{left_has}
-use Rattle.ww_model.specs.declared.event.Event.TheVariants.{Guard, Join, Take, Die, Unguard}
-use Rattle.ww_model.specs.State.{waiter_of}
+use Rattle.ww_model.specs.declared.event.Event.TheVariants.{Guard, Join, Take, Die, Unguard, Leave}
+use Rattle.ww_model.specs.State.{State, put, waiter_of}
 use Rattle.ww_model.specs.Lawful.{Guards, KeepsBase}
 use Rattle.ww_model.proofs.Puts.{put_cases, put_was, put_kept}
+use Rattle.ww_model.proofs.Departures.{stood}
+
+departed : (c : State) (s n : ℕ) → Guards c.queue c.guard → Guards (put c.queue n (left (c.queue n) s)) c.guard
+departed c s n l = record { one_guard = l.one_guard; own_guard = λ i j e h. l.own_guard i j e (stood c.queue n s i e h) }
 
 pub keeps_guards : KeepsBase (λ c. Guards c.queue c.guard)
 keeps_guards c (Guard s n) can l = record {
@@ -31,14 +34,7 @@ keeps_guards c (Join s n) can l = record {
       (λ x. is ∙ l.guards.own_guard n j e x b) (joined_has (c.queue n) (waiter_of c s) e k))
       (λ _ k. l.guards.own_guard i j e k b) h;
 }
-keeps_guards c (Take s n) can l = record {
-  one_guard = l.guards.one_guard;
-  own_guard = λ i j e h b. put_cases c.queue n (left (c.queue n) s) i (λ q. Has q e → i ≡ j)
-      (λ is k. is ∙ l.guards.own_guard n j e (left_has (c.queue n) s e k) b) (λ _ k. l.guards.own_guard i j e k b) h;
-}
-keeps_guards c (Die s n) can l = record {
-  one_guard = l.guards.one_guard;
-  own_guard = λ i j e h b. put_cases c.queue n (left (c.queue n) s) i (λ q. Has q e → i ≡ j)
-      (λ is k. is ∙ l.guards.own_guard n j e (left_has (c.queue n) s e k) b) (λ _ k. l.guards.own_guard i j e k b) h;
-}
+keeps_guards c (Take s n) can l = departed c s n l.guards
+keeps_guards c (Die s n) can l = departed c s n l.guards
+keeps_guards c (Leave s n) can l = departed c s n l.guards
 keeps_guards c _ can l = l.guards

@@ -12,6 +12,7 @@ use Rattle.ww_model.proofs.Owners.{keeps_owners}
 use Rattle.ww_model.proofs.Queues.{keeps_queues}
 use Rattle.ww_model.proofs.Guards.{keeps_guards}
 use Rattle.ww_model.proofs.Solos.{keeps_solos}
+use Rattle.ww_model.proofs.Cancels.{keeps_cancels}
 use Rattle.ww_model.proofs.OlderSigns.{keeps_older_signs}
 use Rattle.ww_model.proofs.Wounds.{keeps_wounds}
 use Rattle.ww_model.proofs.Deaths.{keeps_deaths}
@@ -24,6 +25,7 @@ keeps_base c e can l = record {
   queues = keeps_queues c e can l;
   guards = keeps_guards c e can l;
   solos = keeps_solos c e can l;
+  cancels = keeps_cancels c e can l;
 }
 
 pub keeps_lawful : Keeps IsLawful
@@ -48,6 +50,7 @@ start_is_lawful kind locks seats = record {
     queues = record { at = λ n. record { once = tt; stamps = λ e h. absurd h; holds = λ e h. absurd h; holds_not = λ e h. absurd h; ascends = tt }; one_queue = λ m n e f h. absurd h };
     guards = record { one_guard = λ s m n a. absurd (omega arith); own_guard = λ m n e h. absurd h };
     solos = record { one_lock = λ s m n z a. absurd (cc); none_queued = λ n m e h. absurd h };
+    cancels = record { set = λ s. omega arith; heeded = λ s. omega arith; heeding = λ s p. absurd (omega arith) };
   };
   signs = record {
     older_signs = λ s h. absurd (omega arith);

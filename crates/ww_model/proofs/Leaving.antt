@@ -4,13 +4,12 @@ use Rattle.std.specs.Prelude.{unwrap_or}
 use mathlib.Core.Logic.{dite}
 use native.Mathlib.Decide.{ℕ_discrete, dec_le}
 use Rattle.ww_queue.specs.declared.entry.Entry.{Entry}
-use Rattle.ww_queue.specs.Queue.{Has, joined, left}
+use Rattle.ww_queue.specs.Queue.{Has, Stands, joined}
 use Rattle.ww_queue.proofs.Joins.{joined_has}
-use Rattle.ww_queue.proofs.Leaves.{left_has}
 use Rattle.ww_model.specs.declared.state.Holder.{Holder}
 use Rattle.ww_model.specs.declared.state.Holder.TheVariants.{Nobody, Taken, Handed}
 use Rattle.ww_model.specs.declared.event.Event.{Event}
-use Rattle.ww_model.specs.declared.event.Event.TheVariants.{Fast, FastGive, Join, Take, Give, Die}
+use Rattle.ww_model.specs.declared.event.Event.TheVariants.{Fast, FastGive, Join, Take, Give, Die, Leave}
 use Rattle.ww_model.specs.declared.event.Answer.TheVariants as told
 use Rattle.ww_model.specs.State.{State, put, HasOther, waiter_of}
 use Rattle.ww_model.specs.Event.{given_to, giving, BasePossible, after}
@@ -20,6 +19,7 @@ use Rattle.ww_model.specs.Alone.{TakenLeavesByGiving, HandedLeavesByTaking}
 use Rattle.ww_model.specs.Laws.{OnlyTheFirstAsks, HandedToTheFirst, OfLawful, OfReached, QueuesAscend, WaitersAreSeats, CondemnedCanDie}
 use Rattle.ww_model.specs.Snapshot.{IsFirst}
 use Rattle.ww_model.proofs.Puts.{put_here, put_else, put_cases}
+use Rattle.ww_model.proofs.Departures.{stood}
 use Rattle.ww_model.proofs.Kept.{reached_is_lawful}
 
 -- an owner that has taken one lock stays where another changes, or the same one by no such event
@@ -74,10 +74,9 @@ pub keeps_seats : (c : State) (e : Event) → BasePossible c e → WaitersAreSea
 keeps_seats c (Join s n) can l = λ m e. put_cases c.queue n (joined (c.queue n) (waiter_of c s)) m (λ q. Has q e → e.seat < c.seats)
     (λ _ h. ⊎_elim (λ i. let z = ap (λ (y : Entry). y.seat) i in let k = can.inside.seat in omega arith) (λ i. l n e i) (joined_has (c.queue n) (waiter_of c s) e h))
     (λ _. l m e)
-keeps_seats c (Take s n) can l = λ m e. put_cases c.queue n (left (c.queue n) s) m (λ q. Has q e → e.seat < c.seats)
-    (λ _ h. l n e (left_has (c.queue n) s e h)) (λ _. l m e)
-keeps_seats c (Die s n) can l = λ m e. put_cases c.queue n (left (c.queue n) s) m (λ q. Has q e → e.seat < c.seats)
-    (λ _ h. l n e (left_has (c.queue n) s e h)) (λ _. l m e)
+keeps_seats c (Take s n) can l = λ m e h. l m e (stood c.queue n s m e h)
+keeps_seats c (Die s n) can l = λ m e h. l m e (stood c.queue n s m e h)
+keeps_seats c (Leave s n) can l = λ m e h. l m e (stood c.queue n s m e h)
 keeps_seats c _ can l = l
 
 pub waiters_are_seats : OfReached WaitersAreSeats
@@ -89,6 +88,12 @@ pub owned_below : (c : State) → IsBase c → (a n : ℕ) → HasOther c a n �
 owned_below c l a n other = dite (dec_le c.locks n)
     (λ beyond. let z = l.owners.beyond n beyond in absurd (⊎_elim (λ y. let w : ⊥ = cc in w) (λ y. let w : ⊥ = cc in w) other.2))
     (λ within. omega arith)
+
+-- a waiter outside the guard has heeded no cancel
+pub waiting_unheeded : (c : State) → IsBase c → (a n : ℕ) → Stands (c.queue n) a → c.guard n ≢ suc a → c.heeded a ≡ 0
+waiting_unheeded c l a n h outside = dite (ℕ_discrete (c.heeded a) 0) (λ none. none)
+    (λ some. let k = l.cancels.heeding a (omega arith) in
+    let at : n ≡ k.0 = l.guards.own_guard n k.0 h.0 h.1 (k.1.inside ∙ ap suc (sym h.2)) in absurd (outside (ap c.guard at ∙ k.1.inside)))
 
 pub condemned_can_die : OfReached CondemnedCanDie
 condemned_can_die c run a condemned free k d = let l = reached_is_lawful c run in let n = condemned.lock in let h = condemned.waits.stands in
@@ -106,7 +111,12 @@ condemned_can_die c run a condemned free k d = let l = reached_is_lawful c run i
         signs = inr (inl h);
       };
       die = record {
-        base = record { inside = record { guard = put_here c.guard n (suc a); lock = lock; seat = seat }; waits = h; other = other };
+        base = record {
+          inside = record { guard = put_here c.guard n (suc a); lock = lock; seat = seat };
+          waits = h;
+          other = other;
+          unheeded = waiting_unheeded c l.base a n h condemned.waits.outside;
+        };
         signs = condemned.dies_there;
       };
       answers = ap (λ o. told.Deadlk (unwrap_or o 0)) d;

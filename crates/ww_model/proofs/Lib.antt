@@ -1,7 +1,9 @@
 pub mod Options
 pub mod Puts
+pub mod Departures
 pub mod Holders
 pub mod Owning
+pub mod Cancels
 pub mod Stamps
 pub mod Owners
 pub mod Queues
@@ -17,6 +19,7 @@ pub mod Rings
 pub mod FreeGuards
 pub mod Outside
 pub mod Meetings
+pub mod Counts
 pub mod Leaving
 pub mod Words
 pub mod Stays

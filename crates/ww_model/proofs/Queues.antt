@@ -6,11 +6,12 @@ use Rattle.ww_queue.proofs.Joins.{joined_has, joined_once, joined_ascends}
 use Rattle.ww_queue.proofs.Leaves.{left_has, left_ascends, left_once, left_gone}
 use Rattle.ww_model.specs.declared.state.Holder.{Holder}
 use Rattle.ww_model.specs.declared.state.Holder.TheVariants.{Nobody, Taken}
-use Rattle.ww_model.specs.declared.event.Event.TheVariants.{Begin, Fast, FastGive, Join, Take, Give, Die, End}
-use Rattle.ww_model.specs.State.{put, waiter_of}
+use Rattle.ww_model.specs.declared.event.Event.TheVariants.{Begin, Fast, FastGive, Join, Take, Give, Die, End, Leave}
+use Rattle.ww_model.specs.State.{State, put, waiter_of}
 use Rattle.ww_model.specs.Event.{given_to}
 use Rattle.ww_model.specs.Lawful.{Stamps, QueueAt, Queues, KeepsBase}
 use Rattle.ww_model.proofs.Puts.{put_else, put_cases}
+use Rattle.ww_model.proofs.Departures.{stood}
 use Rattle.ww_model.proofs.Holders.{not_given, other_seat}
 use Rattle.ww_model.proofs.Owning.{owns_found, owns_none}
 
@@ -70,6 +71,12 @@ one_queue_put stamp owner queue n q s from others l i j e f = put_cases queue n 
     (λ is k same. ⊎_elim (λ a. l.one_queue i n e f h a same ∙ sym is) (λ a. absurd (others i isnt e h (same ∙ a))) (from f k))
     (λ _ k same. l.one_queue i j e f h k same))
 
+departed : (c : State) (s n : ℕ) → Queues c.stamp c.owner c.queue → Queues c.stamp c.owner (put c.queue n (left (c.queue n) s))
+departed c s n l = record {
+  at = λ m. put_cases c.queue n (left (c.queue n) s) m (QueueAt c.stamp c.owner) (λ _. shrunk c.stamp c.owner (c.queue n) s (l.at n)) (λ _. l.at m);
+  one_queue = λ i j e f h k. l.one_queue i j e f (stood c.queue n s i e h) (stood c.queue n s j f k);
+}
+
 pub keeps_queues : KeepsBase (λ c. Queues c.stamp c.owner c.queue)
 keeps_queues c (Begin s) can l = record {
   at = λ m. restamped c.stamp c.owner (c.queue m) s (c.drawn + 1) (can.away.queue m) (l.queues.at m);
@@ -95,19 +102,15 @@ keeps_queues c (Join s n) can l = record {
       (λ e h. ⊎_elim (λ i. inr (ap (λ (y : Entry). y.seat) i)) inl (joined_has (c.queue n) (waiter_of c s) e h))
       (λ m isnt e h i. isnt (l.guards.own_guard m n e h (can.inside.guard ∙ ap suc (sym i)))) l.queues;
 }
-keeps_queues c (Die s n) can l = record {
-  at = λ m. put_cases c.queue n (left (c.queue n) s) m (QueueAt c.stamp c.owner) (λ _. shrunk c.stamp c.owner (c.queue n) s (l.queues.at n)) (λ _. l.queues.at m);
-  one_queue = one_queue_put c.stamp c.owner c.queue n (left (c.queue n) s) s (λ e h. inl (left_has (c.queue n) s e h))
-      (λ m isnt e h i. isnt (l.guards.own_guard m n e h (can.inside.guard ∙ ap suc (sym i)))) l.queues;
-}
+keeps_queues c (Die s n) can l = departed c s n l.queues
+keeps_queues c (Leave s n) can l = departed c s n l.queues
 keeps_queues c (Take s n) can l = let was = λ (t : ℕ) (d : t ≢ s). let w : c.owner n ≢ Taken t = ⊎_elim (λ o i. cc) (λ o i. cc) can.free in w in record {
   at = λ m. put_cases c.queue n (left (c.queue n) s) m (QueueAt c.stamp (put c.owner n (Taken s)))
       (λ _. reowned c.stamp c.owner (left (c.queue n) s) n (Taken s)
       (λ e h. let d = left_gone (c.queue n) s (l.queues.at n).once e h in (was e.seat d, λ i. d (cc))) (shrunk c.stamp c.owner (c.queue n) s (l.queues.at n)))
       (λ isnt. reowned c.stamp c.owner (c.queue m) n (Taken s)
       (λ e h. let d = λ (i : e.seat ≡ s). isnt (l.guards.own_guard m n e h (can.inside.guard ∙ ap suc (sym i))) in (was e.seat d, λ i. d (cc))) (l.queues.at m));
-  one_queue = one_queue_put c.stamp c.owner c.queue n (left (c.queue n) s) s (λ e h. inl (left_has (c.queue n) s e h))
-      (λ m isnt e h i. isnt (l.guards.own_guard m n e h (can.inside.guard ∙ ap suc (sym i)))) l.queues;
+  one_queue = (departed c s n l.queues).one_queue;
 }
 keeps_queues c (Give s n) can l = record {
   at = λ m. reowned c.stamp c.owner (c.queue m) n (given_to (c.asked n) (c.queue n))

@@ -1,4 +1,5 @@
--- Of a reached state: who stands in a wait list, owns a lock or is owed a sign is one of the seats, and there is room for each.
+-- Of a reached state: who stands in a wait list, owns a lock or is owed a sign is one of the seats, and there is room
+-- for each.
 use Rattle.std.proofs.Common.{ℕ, suc, zero, ◌≡◌, ◌≢◌, ◌<◌, ◌≤◌, ◌==◌, ◌⊎◌, ⊎_elim, Bool, true, length, IsSome, sym, ap, ◌∙◌, subst, arith, true≢false}
 use Rattle.ww_queue.specs.Queue.{StandsNot, IsNewStamp}
 use Rattle.ww_queue.proofs.Outcomes.{by_test, same_number}

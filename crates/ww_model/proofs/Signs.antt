@@ -9,7 +9,7 @@ use Rattle.ww_queue.proofs.Joins.{joined_has, joined_old}
 use Rattle.ww_queue.proofs.Leaves.{left_has, left_others}
 use Rattle.ww_model.specs.declared.state.Holder.{Holder}
 use Rattle.ww_model.specs.declared.state.Holder.TheVariants.{Nobody, Taken}
-use Rattle.ww_model.specs.declared.event.Event.TheVariants.{Clear, Fast, FastGive, Guard, Join, Sign, Take, Give, Die, Unguard}
+use Rattle.ww_model.specs.declared.event.Event.TheVariants.{Clear, Fast, FastGive, Guard, Join, Sign, Take, Give, Die, Unguard, Leave}
 use Rattle.ww_model.specs.State.{put, waiter_of, place_of}
 use Rattle.ww_model.specs.Event.{given_to}
 use Rattle.ww_model.specs.Lawful.{Signs, Keeps}
@@ -60,6 +60,7 @@ keeps_signs c (Take s n) can l = shrunk c.kind c.sign (put c.owner n (Taken s)) 
     (reowned c.kind c.sign c.owner c.queue c.guard n (Taken s)
     (λ m e h i. ⊎_elim (λ o. let w : ⊥ = cc in w) (λ o. let w : ⊥ = cc in w) can.base.free) l.signs.signs)
 keeps_signs c (Die s n) can l = shrunk c.kind c.sign c.owner c.queue c.guard s n can.base.inside.guard l.signs.signs
+keeps_signs c (Leave s n) can l = shrunk c.kind c.sign c.owner c.queue c.guard s n can.base.inside.guard l.signs.signs
 keeps_signs c (Join s n) can l = record {
   unowning = λ wounding m e. put_cases c.queue n (joined (c.queue n) (waiter_of c s)) m (λ q. Has q e → ((i : ℕ) → c.owner i ≢ Taken e.seat) → c.sign e.seat ≡ 0)
       (λ _ h none. ⊎_elim (λ x. let same = ap (λ (y : Entry). y.seat) x in ⊎_elim (λ p. ap c.sign same ∙ p) (λ p. absurd (none p.0 (p.1 ∙ ap Taken (sym same)))) can.signs)

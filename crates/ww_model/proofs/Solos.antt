@@ -6,11 +6,12 @@ use Rattle.ww_queue.proofs.Joins.{joined_has}
 use Rattle.ww_queue.proofs.Leaves.{left_has, left_gone}
 use Rattle.ww_model.specs.declared.state.Holder.{Holder}
 use Rattle.ww_model.specs.declared.state.Holder.TheVariants.{Nobody, Taken}
-use Rattle.ww_model.specs.declared.event.Event.TheVariants.{Begin, Fast, FastGive, Join, Take, Give, Die, End}
-use Rattle.ww_model.specs.State.{put, waiter_of}
+use Rattle.ww_model.specs.declared.event.Event.TheVariants.{Begin, Fast, FastGive, Join, Take, Give, Die, End, Leave}
+use Rattle.ww_model.specs.State.{State, put, waiter_of}
 use Rattle.ww_model.specs.Event.{given_to}
 use Rattle.ww_model.specs.Lawful.{Solos, KeepsBase}
 use Rattle.ww_model.proofs.Puts.{put_cases, put_was, put_kept}
+use Rattle.ww_model.proofs.Departures.{stood}
 use Rattle.ww_model.proofs.Holders.{not_given}
 
 -- a seat takes one lock more
@@ -31,6 +32,9 @@ gives stamp owner queue n o isnt l = let was = λ (t i : ℕ). put_kept owner n 
   one_lock = λ t i j solo a b. l.one_lock t i j solo (was t i a) (was t j b);
   none_queued = λ i j e h solo a. l.none_queued i j e h solo (was e.seat j a);
 }
+
+departed : (c : State) (s n : ℕ) → Solos c.stamp c.owner c.queue → Solos c.stamp c.owner (put c.queue n (left (c.queue n) s))
+departed c s n l = record { one_lock = l.one_lock; none_queued = λ i j e h. l.none_queued i j e (stood c.queue n s i e h) }
 
 pub keeps_solos : KeepsBase (λ c. Solos c.stamp c.owner c.queue)
 keeps_solos c (Begin s) can l = record {
@@ -64,9 +68,6 @@ keeps_solos c (Join s n) can l = record {
       (λ x. l.solos.none_queued n j e x solo a) (joined_has (c.queue n) (waiter_of c s) e h))
       (λ _ h. l.solos.none_queued i j e h);
 }
-keeps_solos c (Die s n) can l = record {
-  one_lock = l.solos.one_lock;
-  none_queued = λ i j e. put_cases c.queue n (left (c.queue n) s) i (λ q. Has q e → c.stamp e.seat ≡ 0 → c.owner j ≢ Taken e.seat)
-      (λ _ h. l.solos.none_queued n j e (left_has (c.queue n) s e h)) (λ _ h. l.solos.none_queued i j e h);
-}
+keeps_solos c (Die s n) can l = departed c s n l.solos
+keeps_solos c (Leave s n) can l = departed c s n l.solos
 keeps_solos c _ can l = l.solos

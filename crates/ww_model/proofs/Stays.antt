@@ -1,5 +1,5 @@
 -- What a possible event of another seat leaves alone.
-use Rattle.std.proofs.Common.{◌≡◌, ◌≢◌, ◌↔◌, ◌+◌, ⊎_elim, ℕ, suc, true, false, [], refl, sym, ap, ◌∙◌, subst, arith}
+use Rattle.std.proofs.Common.{◌≡◌, ◌≢◌, ◌↔◌, ◌+◌, ◌<◌, ⊎_elim, ℕ, suc, true, false, [], refl, sym, ap, ◌∙◌, subst, arith}
 use mathlib.Core.Logic.{dite}
 use native.Mathlib.Decide.{ℕ_discrete}
 use Rattle.ww_queue.specs.declared.entry.Entry.{Entry}
@@ -9,11 +9,11 @@ use Rattle.ww_queue.proofs.Joins.{joined_has, joined_old}
 use Rattle.ww_queue.proofs.Leaves.{left_has, left_others}
 use Rattle.ww_model.specs.declared.state.Holder.TheVariants.{Nobody, Taken, Handed}
 use Rattle.ww_model.specs.declared.event.Event.{Event}
-use Rattle.ww_model.specs.declared.event.Event.TheVariants.{Begin, Clear, Fast, FastGive, Guard, Join, Sign, Take, Ask, Give, Die, Unguard, Commit, End}
+use Rattle.ww_model.specs.declared.event.Event.TheVariants.{Begin, Clear, Fast, FastGive, Guard, Join, Sign, Take, Ask, Give, Die, Unguard, Commit, End, Leave, Cancel, Heed}
 use Rattle.ww_model.specs.State.{State, waiter_of, word_of, owes, place_of}
 use Rattle.ww_model.specs.Event.{BasePossible, Possible, after, actor, given_to, still_asked}
 use Rattle.ww_model.specs.Lawful.{IsBase, IsLawful}
-use Rattle.ww_model.specs.Alone.{NobodySigns, OthersAreLeftAlone, OthersAreSignedOnce}
+use Rattle.ww_model.specs.Alone.{NobodySigns, OthersAreLeftAlone, OthersAreSignedOnce, OthersAreCancelledOnce}
 use Rattle.ww_model.proofs.Puts.{put_else, put_cases, put_like}
 use Rattle.ww_model.proofs.Holders.{not_given}
 use Rattle.ww_model.proofs.Leaving.{handed_or_taken}
@@ -68,6 +68,7 @@ entry_stays c (Join s n) t other m x is = let w = waiter_of c s in put_like c.qu
     (λ h. ⊎_elim (λ i. absurd (other (sym (ap (λ (y : Entry). y.seat) i) ∙ is))) (λ i. i) (joined_has (c.queue n) w x h)) m
 entry_stays c (Take s n) t other m x is = left_like c s n t x other is m
 entry_stays c (Die s n) t other m x is = left_like c s n t x other is m
+entry_stays c (Leave s n) t other m x is = left_like c s n t x other is m
 entry_stays c _ t other m x is = (λ h. h, λ h. h)
 
 pub stands_stays : (c : State) (e : Event) (t : ℕ) → actor e ≢ t → (m : ℕ) → Stands (c.queue m) t ↔ Stands ((after c e).queue m) t
@@ -82,6 +83,7 @@ pub queue_stays : (c : State) (e : Event) (t m : ℕ) → BasePossible c e → a
 queue_stays c (Join s n) t m can other in_m = put_else c.queue n (joined (c.queue n) (waiter_of c s)) m (apart c.guard s t n m other can.inside.guard in_m)
 queue_stays c (Take s n) t m can other in_m = put_else c.queue n (left (c.queue n) s) m (apart c.guard s t n m other can.inside.guard in_m)
 queue_stays c (Die s n) t m can other in_m = put_else c.queue n (left (c.queue n) s) m (apart c.guard s t n m other can.inside.guard in_m)
+queue_stays c (Leave s n) t m can other in_m = put_else c.queue n (left (c.queue n) s) m (apart c.guard s t n m other can.inside.guard in_m)
 queue_stays c _ t m can other in_m = refl
 
 -- where somebody waits, the owner word stays
@@ -107,11 +109,16 @@ word_stays c (Give s n) t m can l other in_m some = let d = after c (Give s n) i
 word_stays c (Die s n) t m can l other in_m some = let d = after c (Die s n) in let far = apart c.guard s t n m other can.inside.guard in_m in
     same_word c d (c.owner m) (c.owner m) (d.asked m) (c.asked m) (d.queue m) (c.queue m)
     refl refl (put_else c.asked n (still_asked (left (c.queue n) s) (c.asked n)) m far) (put_else c.queue n (left (c.queue n) s) m far)
+word_stays c (Leave s n) t m can l other in_m some = let d = after c (Leave s n) in let far = apart c.guard s t n m other can.inside.guard in_m in
+    same_word c d (c.owner m) (c.owner m) (d.asked m) (c.asked m) (d.queue m) (c.queue m)
+    refl refl (put_else c.asked n (still_asked (left (c.queue n) s) (c.asked n)) m far) (put_else c.queue n (left (c.queue n) s) m far)
 word_stays c (Clear s) t m can l other in_m some = refl
 word_stays c (Guard s n) t m can l other in_m some = refl
 word_stays c (Sign s u) t m can l other in_m some = refl
 word_stays c (Unguard s n) t m can l other in_m some = refl
 word_stays c (Commit s) t m can l other in_m some = refl
+word_stays c (Cancel s v) t m can l other in_m some = refl
+word_stays c (Heed s n) t m can l other in_m some = refl
 
 -- who is owed a sign after the event was owed one before
 pub owes_stays : (c : State) (e : Event) (t m u k : ℕ) → Possible c e → IsLawful c → actor e ≢ t → c.guard m ≡ suc t → Has (owes (after c e) t m) (u, k) → Has (owes c t m) (u, k)
@@ -160,6 +167,24 @@ others_are_signed_once c (Sign s v) t can other changed = let is : t ≡ v = dit
     (ap c.sign is ∙ can.signs.unsigned, ap (Sign s) (sym is))
 others_are_signed_once c _ t can other changed = absurd (changed refl)
 
+-- what a seat has heeded stays
+pub heeded_stays : (c : State) (e : Event) (t : ℕ) → actor e ≢ t → (after c e).heeded t ≡ c.heeded t
+heeded_stays c (Heed s n) t other = put_else c.heeded s (c.cancel s) t (λ i. other (sym i))
+heeded_stays c (Leave s n) t other = put_else c.heeded s 0 t (λ i. other (sym i))
+heeded_stays c _ t other = refl
+
+-- a cancel that was set stays
+pub cancel_stays : (c : State) (e : Event) (t : ℕ) → Possible c e → actor e ≢ t → 0 < c.cancel t → (after c e).cancel t ≡ c.cancel t
+cancel_stays c (Cancel s v) t can other some = put_else c.cancel v (s + 1) t (λ is. let z = ap c.cancel is in let y = can.base.none in omega arith)
+cancel_stays c (Heed s n) t can other some = put_else c.cancel s 0 t (λ i. other (sym i))
+cancel_stays c _ t can other some = refl
+
+pub others_are_cancelled_once : OthersAreCancelledOnce
+others_are_cancelled_once c (Heed s n) t can other changed = absurd (changed (put_else c.cancel s 0 t (λ i. other (sym i))))
+others_are_cancelled_once c (Cancel s v) t can other changed = let is : t ≡ v = dite (ℕ_discrete t v) (λ is. is) (λ isnt. absurd (changed (put_else c.cancel v (s + 1) t isnt))) in
+    (ap c.cancel is ∙ can.base.none, ap (Cancel s) (sym is))
+others_are_cancelled_once c _ t can other changed = absurd (changed refl)
+
 pub others_are_left_alone : OthersAreLeftAlone
 others_are_left_alone c e t l can other = record {
   stamp = stamp_stays c e t other;
@@ -175,4 +200,6 @@ others_are_left_alone c e t l can other = record {
   };
   signed = λ some. sign_stays c e t (c.sign t) can l other (λ none. absurd (omega arith)) refl;
   unsigned = λ safe. sign_stays c e t (c.sign t) can l other (λ _. safe) refl;
+  cancelled = cancel_stays c e t can other;
+  heeded = heeded_stays c e t other;
 }

@@ -3,14 +3,14 @@ use Rattle.std.proofs.Common.{◌≡◌, ◌≢◌, ◌⊎◌, inl, inr, ⊎_eli
 use Rattle.ww_queue.specs.declared.entry.Entry.{Entry}
 use Rattle.ww_queue.specs.Queue.{Has, joined, left}
 use Rattle.ww_queue.proofs.Joins.{joined_has}
-use Rattle.ww_queue.proofs.Leaves.{left_has}
 use Rattle.ww_model.specs.declared.state.Holder.{Holder}
 use Rattle.ww_model.specs.declared.state.Holder.TheVariants.{Nobody, Taken}
-use Rattle.ww_model.specs.declared.event.Event.TheVariants.{Begin, Clear, Fast, FastGive, Guard, Join, Sign, Take, Give, Die, Unguard, End}
+use Rattle.ww_model.specs.declared.event.Event.TheVariants.{Begin, Clear, Fast, FastGive, Guard, Join, Sign, Take, Give, Die, Unguard, End, Leave}
 use Rattle.ww_model.specs.State.{put, waiter_of}
 use Rattle.ww_model.specs.Event.{given_to}
 use Rattle.ww_model.specs.Lawful.{WoundsAt, Wounds, Keeps}
 use Rattle.ww_model.proofs.Puts.{put_else, put_cases, puts_cases}
+use Rattle.ww_model.proofs.Departures.{stood}
 use Rattle.ww_model.proofs.Holders.{not_given}
 use Rattle.ww_model.proofs.Dues.{owes_wound, sign_for, sign_some}
 
@@ -42,8 +42,8 @@ keeps_wounds c (Join s n) can l = λ wounding m. put_cases c.queue n (joined (c.
     (λ is t e own out h out'. l.signs.wounds wounding m t e own out
     (⊎_elim (λ i. absurd (out' (ap c.guard is ∙ can.base.inside.guard ∙ sym (ap (λ (z : Entry). suc z.seat) i))))
     (λ i. subst (λ x. Has (c.queue x) e) (sym is) i) (joined_has (c.queue n) (waiter_of c s) e h)) out') (λ _. l.signs.wounds wounding m)
-keeps_wounds c (Die s n) can l = λ wounding m. put_cases c.queue n (left (c.queue n) s) m (λ q. WoundsAt c.stamp c.sign (c.owner m) q (c.guard m))
-    (λ is t e own out h. l.signs.wounds wounding m t e own out (subst (λ x. Has (c.queue x) e) (sym is) (left_has (c.queue n) s e h))) (λ _. l.signs.wounds wounding m)
+keeps_wounds c (Die s n) can l = λ wounding m t e own out h. l.signs.wounds wounding m t e own out (stood c.queue n s m e h)
+keeps_wounds c (Leave s n) can l = λ wounding m t e own out h. l.signs.wounds wounding m t e own out (stood c.queue n s m e h)
 keeps_wounds c (Take s n) can l = λ wounding m. puts_cases c.owner c.queue n (Taken s) (left (c.queue n) s) m (λ o q. WoundsAt c.stamp c.sign o q (c.guard m))
     (λ is t e own out. absurd (out (ap c.guard is ∙ can.base.inside.guard ∙ ap suc (let z : s ≡ t = cc in z)))) (λ _. l.signs.wounds wounding m)
 keeps_wounds c (Unguard s n) can l = λ wounding m. put_cases c.guard n 0 m (λ g. WoundsAt c.stamp c.sign (c.owner m) (c.queue m) g)

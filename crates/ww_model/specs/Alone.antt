@@ -5,7 +5,7 @@ use Rattle.ww_queue.specs.declared.entry.Entry.{Entry}
 use Rattle.ww_queue.specs.Queue.{Has, StandsNot}
 use Rattle.ww_model.specs.declared.state.Holder.TheVariants.{Taken, Handed}
 use Rattle.ww_model.specs.declared.event.Event.{Event}
-use Rattle.ww_model.specs.declared.event.Event.TheVariants.{FastGive, Sign, Take, Give}
+use Rattle.ww_model.specs.declared.event.Event.TheVariants.{FastGive, Sign, Take, Give, Cancel}
 use Rattle.ww_model.specs.State.{State, OwnsNone, word_of, owes}
 use Rattle.ww_model.specs.Event.{BasePossible, Possible, after, actor}
 use Rattle.ww_model.specs.Lawful.{IsLawful}
@@ -36,6 +36,8 @@ module _ (c d : State) (t : ℕ) where
     pub inside : (n : ℕ) → c.guard n ≡ suc t → LeavesInside n
     pub signed : 0 < c.sign t → d.sign t ≡ c.sign t
     pub unsigned : NobodySigns c t → d.sign t ≡ c.sign t
+    pub cancelled : 0 < c.cancel t → d.cancel t ≡ c.cancel t
+    pub heeded : d.heeded t ≡ c.heeded t
 
 -- a possible event of a lawful state leaves the others alone
 abbrev pub OthersAreLeftAlone : Type 0
@@ -46,6 +48,11 @@ OthersAreLeftAlone = (c : State) (e : Event) (t : ℕ) → IsLawful c → Possib
 abbrev pub OthersAreSignedOnce : Type 0
 OthersAreSignedOnce = (c : State) (e : Event) (t : ℕ) → Possible c e → actor e ≢ t → (after c e).sign t ≢ c.sign t →
     (c.sign t ≡ 0) × (e ≡ Sign (actor e) t)
+
+-- the cancel of another changes only where none is pending, and by Cancel
+abbrev pub OthersAreCancelledOnce : Type 0
+OthersAreCancelledOnce = (c : State) (e : Event) (t : ℕ) → Possible c e → actor e ≢ t →
+    (after c e).cancel t ≢ c.cancel t → (c.cancel t ≡ 0) × (e ≡ Cancel (actor e) t)
 
 -- ---- owners
 

@@ -14,4 +14,6 @@ snapshot_of c = record {
   asked = c.asked.items;
   queues = c.queues.items;
   guards = c.guards.items;
+  cancels = c.cancels.items;
+  heeded = c.heeded.items;
 }

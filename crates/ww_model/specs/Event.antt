@@ -6,9 +6,9 @@ use Rattle.ww_queue.specs.Queue.{Has, Stands, StandsNot, joined, left}
 use Rattle.ww_model.specs.declared.state.Holder.{Holder}
 use Rattle.ww_model.specs.declared.state.Holder.TheVariants as holder
 use Rattle.ww_model.specs.declared.event.Event.{Event}
-use Rattle.ww_model.specs.declared.event.Event.TheVariants.{Begin, Clear, Fast, FastGive, Guard, Join, Sign, Take, Ask, Give, Die, Unguard, Commit, End}
+use Rattle.ww_model.specs.declared.event.Event.TheVariants.{Begin, Clear, Fast, FastGive, Guard, Join, Sign, Take, Ask, Give, Die, Unguard, Commit, End, Cancel, Heed, Leave}
 use Rattle.ww_model.specs.declared.event.Answer.{Answer}
-use Rattle.ww_model.specs.declared.event.Answer.TheVariants.{Stamp, Done, Locked, Met, Handed, Free, Deadlk, Place}
+use Rattle.ww_model.specs.declared.event.Answer.TheVariants.{Stamp, Done, Locked, Met, Handed, Free, Deadlk, Place, Interrupted}
 use Rattle.ww_model.specs.State.{State, put, Owns, OwnsNone, OwnsSome, HasOther, Inside, InsideNone, InNoQueue, Away, MayOwn, IsCalm, waiter_of, dies, owes, place_of}
 
 -- the seat whose event it is
@@ -27,6 +27,9 @@ actor (Die s n) = s
 actor (Unguard s n) = s
 actor (Commit s) = s
 actor (End s) = s
+actor (Cancel s v) = s
+actor (Heed s n) = s
+actor (Leave s n) = s
 
 -- the stamp that is owed to a seat
 abbrev pub owed_to : ℕ → List (ℕ × ℕ) → Option ℕ
@@ -111,10 +114,12 @@ module _ (c : State) where
     pub inside : Inside c s n
     pub waits : Stands (c.queue n) s
     pub other : HasOther c s n
+    pub unheeded : c.heeded s ≡ 0
 
   pub record CanUnguard (s n : ℕ) : Type 0 where
     pub inside : Inside c s n
     pub contended : Stands (c.queue n) s → HasOther c s n
+    pub unheeded : c.heeded s ≡ 0
 
   pub record CanCommit (s : ℕ) : Type 0 where
     pub away : Away c s
@@ -125,6 +130,24 @@ module _ (c : State) where
     pub away : Away c s
     pub context : 0 < c.stamp s
     pub owns_none : OwnsNone c s
+
+  -- no cancel of v is pending, which may be anywhere, and s itself
+  pub record CanCancel (s v : ℕ) : Type 0 where
+    pub away : Away c s
+    pub seat : v < c.seats
+    pub none : c.cancel v ≡ 0
+
+  pub record CanHeed (s n : ℕ) : Type 0 where
+    pub inside : Inside c s n
+    pub waits : Stands (c.queue n) s
+    pub other : HasOther c s n
+    pub cancelled : c.cancel s ≢ 0
+    pub unheeded : c.heeded s ≡ 0
+
+  pub record CanLeave (s n : ℕ) : Type 0 where
+    pub inside : Inside c s n
+    pub waits : Stands (c.queue n) s
+    pub heeded : c.heeded s ≢ 0
 
   abbrev pub BasePossible : Event → Type 0
   BasePossible (Begin s) = CanBegin s
@@ -141,6 +164,9 @@ module _ (c : State) where
   BasePossible (Unguard s n) = CanUnguard s n
   BasePossible (Commit s) = CanCommit s
   BasePossible (End s) = CanEnd s
+  BasePossible (Cancel s v) = CanCancel s v
+  BasePossible (Heed s n) = CanHeed s n
+  BasePossible (Leave s n) = CanLeave s n
 
   -- ---- what it asks of signs
 
@@ -206,6 +232,13 @@ module _ (c : State) where
   after (Unguard s n) = record c { guard = put c.guard n 0 }
   after (Commit s) = record c { commits = c.commits + 1 }
   after (End s) = record c { stamp = put c.stamp s 0 }
+  after (Cancel s v) = record c { cancel = put c.cancel v (s + 1) }
+  after (Heed s n) = record c { cancel = put c.cancel s 0; heeded = put c.heeded s (c.cancel s) }
+  after (Leave s n) = record c {
+    queue = put c.queue n (left (c.queue n) s);
+    asked = put c.asked n (still_asked (left (c.queue n) s) (c.asked n));
+    heeded = put c.heeded s 0;
+  }
 
   -- ---- its answer
 
@@ -217,4 +250,5 @@ module _ (c : State) where
   answer (Give s n) = giving (given_to (c.asked n) (c.queue n))
   answer (Die s n) = Deadlk (unwrap_or (dies c s n) 0)
   answer (Commit s) = Place c.commits
+  answer (Leave s n) = Interrupted (c.heeded s - 1)
   answer _ = Done

@@ -53,6 +53,23 @@ pub record Solos (stamp : ℕ → ℕ) (owner : ℕ → Holder) (queue : ℕ →
   pub one_lock : (s m n : ℕ) → stamp s ≡ 0 → owner m ≡ Taken s → owner n ≡ Taken s → m ≡ n
   pub none_queued : (n m : ℕ) (e : Entry) → Has (queue n) e → stamp e.seat ≡ 0 → owner m ≢ Taken e.seat
 
+-- ---- the cancels
+
+-- the seat is inside the guard of the lock and waits there, and another has the lock
+pub record IsKept (owner : ℕ → Holder) (queue : ℕ → List Entry) (guard : ℕ → ℕ) (s n : ℕ) : Type 0 where
+  pub inside : guard n ≡ suc s
+  pub waits : Stands (queue n) s
+  pub other : (t : ℕ) × (t ≢ s) × ((owner n ≡ Taken t) ⊎ (owner n ≡ Handed t))
+
+-- A cancel that is pending, and one that was heeded, is 0 or a seat plus 1; and whoever has heeded one is inside the
+-- guard where it waits, kept from the lock by another. This is no matter of signs: that a handed owner goes on waiting
+-- in the list holds after Leave only since the seat that leaves isn't that owner.
+pub record Cancels (seats : ℕ) (cancel mark : ℕ → ℕ) (owner : ℕ → Holder) (queue : ℕ → List Entry) (guard : ℕ → ℕ)
+    : Type 0 where
+  pub set : (s : ℕ) → cancel s ≤ seats
+  pub heeded : (s : ℕ) → mark s ≤ seats
+  pub heeding : (s : ℕ) → 0 < mark s → (n : ℕ) × IsKept owner queue guard s n
+
 -- ---- the signs
 
 -- a sign is that of an older context, so a seat without a context has none
@@ -96,6 +113,7 @@ pub record IsBase (c : State) : Type 0 where
   pub queues : Queues c.stamp c.owner c.queue
   pub guards : Guards c.queue c.guard
   pub solos : Solos c.stamp c.owner c.queue
+  pub cancels : Cancels c.seats c.cancel c.heeded c.owner c.queue c.guard
 
 pub record AreSigns (c : State) : Type 0 where
   pub older_signs : OlderSigns c.stamp c.sign

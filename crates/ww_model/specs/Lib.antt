@@ -4,6 +4,7 @@ pub mod Lawful
 pub mod Run
 pub mod Waits
 pub mod Met
+pub mod Interrupts
 pub mod Emptied
 pub mod Oldest
 pub mod Theorem

@@ -2,7 +2,7 @@
 use Rattle.std.specs.Prelude.{ℕ, ◌≡◌, ◌≢◌, ◌<◌, ◌≤◌}
 use Rattle.ww_queue.specs.declared.kind.Kind.TheVariants.{WoundWait}
 use Rattle.ww_model.specs.declared.event.Event.{Event}
-use Rattle.ww_model.specs.declared.event.Event.TheVariants.{FastGive, Join, Sign, Give, Die, End}
+use Rattle.ww_model.specs.declared.event.Event.TheVariants.{FastGive, Join, Sign, Give, Die, End, Leave}
 use Rattle.ww_model.specs.State.{State, Owns}
 use Rattle.ww_model.specs.Event.{Possible, after}
 use Rattle.ww_model.specs.Emptied.{WindsUp, LeadsBy}
@@ -24,11 +24,12 @@ pub record GoesOn (before c : State) (s : ℕ) : Type 0 where
   pub never_dies : (n : ℕ) → ¬ Possible c (Die s n)
   pub never_signed : (u : ℕ) → ¬ Possible c (Sign u s)
 
--- in the event the seat neither dies nor gives back anything that it has
+-- in the event the seat neither dies nor is interrupted nor gives back anything that it has
 abbrev pub Spares : ℕ → Event → Type 0
 Spares s (FastGive u n) = u ≢ s
 Spares s (Give u n) = u ≢ s
 Spares s (Die u n) = u ≢ s
+Spares s (Leave u n) = u ≢ s
 Spares s (End u) = u ≢ s
 Spares s _ = Unit {0}
 

@@ -21,6 +21,8 @@ pub record Snapshot : Type 0 where
   pub asked : List Bool
   pub queues : List (List Entry)
   pub guards : List (Option ℕ)
+  pub cancels : List ℕ
+  pub heeded : List ℕ
 
 -- a guard as a number: 0 with nobody inside, else the seat inside plus 1
 abbrev pub guard_number : Option ℕ → ℕ
@@ -41,6 +43,8 @@ state_of c = record {
   asked = λ n. slice_index_or c.asked n false;
   queue = λ n. slice_index_or c.queues n [];
   guard = λ n. guard_number (slice_index_or c.guards n None);
+  cancel = λ s. slice_index_or c.cancels s 0;
+  heeded = λ s. slice_index_or c.heeded s 0;
 }
 
 -- each list has an item for each of 1 to 64 locks, or of 1 to 16 seats
@@ -53,6 +57,8 @@ pub record HasSizes (c : Snapshot) : Type 0 where
   pub some_seat : 1 ≤ length c.stamps
   pub seats : length c.stamps ≤ 16
   pub signs : length c.signs ≡ length c.stamps
+  pub cancels : length c.cancels ≡ length c.stamps
+  pub heeded : length c.heeded ≡ length c.stamps
 
 -- what every core keeps: its state was reached from a start
 pub record IsCore (c : Snapshot) : Type 0 where

@@ -11,7 +11,8 @@ use Rattle.ww_model.specs.declared.state.Holder.{Holder}
 use Rattle.ww_model.specs.declared.state.Holder.TheVariants.{Nobody, Taken, Handed}
 
 -- Seats and locks are numbers, and each component is a function of them. A stamp is 0 without a context, a sign 0 where
--- there is none, and a guard 0 with nobody inside, else the seat inside plus 1.
+-- there is none, and a guard 0 with nobody inside, else the seat inside plus 1. A cancel that was set and one that was
+-- heeded are 0 where there is none, else the seat that set it plus 1.
 pub record State : Type 0 where
   pub kind : Kind
   pub locks : ℕ
@@ -24,6 +25,8 @@ pub record State : Type 0 where
   pub asked : ℕ → Bool
   pub queue : ℕ → List Entry
   pub guard : ℕ → ℕ
+  pub cancel : ℕ → ℕ
+  pub heeded : ℕ → ℕ
 
 -- no context was begun and no lock taken yet
 abbrev pub start : Kind → ℕ → ℕ → State
@@ -39,6 +42,8 @@ start kind locks seats = record {
   asked = λ _. false;
   queue = λ _. [];
   guard = λ _. 0;
+  cancel = λ _. 0;
+  heeded = λ _. 0;
 }
 
 -- ---- a function changed at one place

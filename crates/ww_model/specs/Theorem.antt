@@ -1,16 +1,17 @@
 -- The theorem: what holds in every interleaving of the events, of both kinds.
-use Rattle.std.specs.Prelude.{ℕ, ◌≡◌, List}
+use Rattle.std.specs.Prelude.{ℕ, ◌≡◌, ◌+◌, List}
 use Rattle.ww_queue.specs.declared.kind.Kind.{Kind}
 use Rattle.ww_queue.specs.Queue.{Has, Stands}
 use Rattle.ww_model.specs.declared.event.Event.{Event}
-use Rattle.ww_model.specs.declared.event.Event.TheVariants.{Begin, Clear, Fast, FastGive, Guard, Join, Sign, Take, Ask, Give, Die, Unguard, Commit, End}
+use Rattle.ww_model.specs.declared.event.Event.TheVariants.{Begin, Clear, Fast, FastGive, Guard, Join, Sign, Take, Ask, Give, Die, Unguard, Commit, End, Cancel, Heed, Leave}
 use Rattle.ww_model.specs.declared.event.Answer.TheVariants.{Deadlk}
-use Rattle.ww_model.specs.State.{State, HasOther, InNoQueue}
+use Rattle.ww_model.specs.State.{State, start, HasOther, InNoQueue}
 use Rattle.ww_model.specs.Event.{Possible, answer}
 use Rattle.ww_model.specs.Lawful.{IsLawful}
 use Rattle.ww_model.specs.Run.{state_after, IsRun, Reached}
 use Rattle.ww_model.specs.Waits.{IsCycle, AreContexts, IsOneOf, IsRing, IsCondemned}
 use Rattle.ww_model.specs.Met.{DeadlkIsMet}
+use Rattle.ww_model.specs.Interrupts.{cancels_in, interrupts_in, one_of}
 use Rattle.ww_model.specs.Emptied.{WindsUp, LeadsBy, IsEmptied}
 use Rattle.ww_model.specs.Oldest.{IsOldest, IsOldestUnsigned, GoesOn, ComesToOwn, JoinsAndComesToOwn}
 
@@ -51,15 +52,17 @@ DeadlkWasMet = (c : State) (run : Reached c) (e : Event) (k : ℕ) → Possible 
 -- ---- the oldest never backs off
 
 -- The oldest context of all, if in Wound-Wait it has no sign, goes on as the oldest whatever happens, until it ends: it
--- is never signed and never told to back off.
+-- is never signed and never told to back off. It may be interrupted.
 abbrev pub OldestNeverDies : Type 0
 OldestNeverDies = (c : State) → IsLawful c → (s : ℕ) → IsOldestUnsigned c s →
     (events : List Event) → IsRun c events → ¬ Has events (End s) → GoesOn c (state_after c events) s
 
--- Wherever the oldest context waits, whoever is in its way can be made to give way: some run leads to it owning the
--- lock, in which it neither dies nor gives anything back, and nobody begins anything new.
+-- Wherever the oldest context waits and has heeded no cancel, whoever is in its way can be made to give way: some run
+-- leads to it owning the lock, in which it neither dies nor is interrupted nor gives anything back, and nobody begins
+-- anything new.
 abbrev pub OldestCanTake : Type 0
-OldestCanTake = (c : State) → Reached c → (s n : ℕ) → IsOldest c s → Stands (c.queue n) s → ComesToOwn c s n
+OldestCanTake = (c : State) → Reached c → (s n : ℕ) → IsOldest c s → Stands (c.queue n) s → c.heeded s ≡ 0 →
+    ComesToOwn c s n
 
 -- the same where it waits nowhere and wants a lock of another, with one Join, its own
 abbrev pub OldestCanJoinAndTake : Type 0
@@ -71,6 +74,16 @@ OldestCanJoinAndTake = (c : State) → Reached c → (s n : ℕ) → IsOldest c 
 -- from every reached state some run that winds up leads to one in which everything is free: a way out exists
 abbrev pub CanBeEmptied : Type 0
 CanBeEmptied = (c : State) → Reached c → LeadsBy WindsUp c IsEmptied
+
+-- ---- nobody is interrupted but by a cancel
+
+-- Each cancel that a seat set for another was answered by one interruption that names it, is pending, or is heeded and
+-- not yet answered.
+abbrev pub CancelsAreCounted : Type 0
+CancelsAreCounted = (kind : Kind) (locks seats : ℕ) (events : List Event) → IsRun (start kind locks seats) events →
+    (from v : ℕ) → let c = state_after (start kind locks seats) events in
+    cancels_in from v events
+    ≡ interrupts_in from v (start kind locks seats) events + (one_of from v (c.cancel v) + one_of from v (c.heeded v))
 
 -- ---- none of this speaks of nothing
 
@@ -88,7 +101,7 @@ RingsAreReached = (kind : Kind) → IsReachedSomewhere kind (λ c. (ring : List 
 abbrev pub Happens : Kind → Event → Type 0
 Happens kind e = IsReachedSomewhere kind (λ c. Possible c e)
 
--- each of the fourteen events, of some seat and lock, is possible in some reached state of the kind
+-- each of the seventeen events, of some seat and lock, is possible in some reached state of the kind
 pub record AllHappen (kind : Kind) : Type 0 where
   pub begins : (s : ℕ) × Happens kind (Begin s)
   pub clears : (s : ℕ) × Happens kind (Clear s)
@@ -104,6 +117,9 @@ pub record AllHappen (kind : Kind) : Type 0 where
   pub leaves : (s : ℕ) × (n : ℕ) × Happens kind (Unguard s n)
   pub commits : (s : ℕ) × Happens kind (Commit s)
   pub ends : (s : ℕ) × Happens kind (End s)
+  pub cancels : (s : ℕ) × (v : ℕ) × Happens kind (Cancel s v)
+  pub heeds : (s : ℕ) × (n : ℕ) × Happens kind (Heed s n)
+  pub is_interrupted : (s : ℕ) × (n : ℕ) × Happens kind (Leave s n)
 
 abbrev pub EventsHappen : Type 0
 EventsHappen = (kind : Kind) → AllHappen kind

@@ -1,13 +1,14 @@
 //! The events inside the guard of a wait list, its entrance and exit.
 
-ghost use Rattle.std.specs.Prelude.{◌≡◌, ◌≢◌, ◌⊎◌, ◌↔◌, ℕ, IsTrue};
-ghost use Rattle.ww_queue.specs.Queue.{Has};
+ghost use Rattle.std.specs.Prelude.{◌≡◌, ◌≢◌, ◌⊎◌, ◌↔◌, ◌<◌, ℕ, false, [], length, slice_set, IsTrue};
+ghost use Rattle.std.specs.List.{slice_index_or};
+ghost use Rattle.ww_queue.specs.Queue.{Has, left};
 ghost use Rattle.ww_model.specs.declared.state.Holder.TheVariants.{Nobody, Taken, Handed};
-ghost use Rattle.ww_model.specs.Event.{given_to, giving};
+ghost use Rattle.ww_model.specs.Event.{given_to, giving, still_asked};
 
 use crate::event::{Answer, NotPossible};
 use crate::state::{Core, Holder};
-use ww_queue::{Entry, Kind};
+use ww_queue::{Entry, Kind, Queue};
 
 impl Core {
     ghost use Rattle.std.specs.Prelude.{◌≡◌, ◌≢◌, ◌↔◌, ℕ, IsTrue};
@@ -167,6 +168,7 @@ impl Core {
         self.is_inside(seat, lock)
             && self.waits_at(seat, lock)
             && self.has_other(seat, lock)
+            && self.heeded_at(seat) == 0
             && self.dies(seat, lock).is_some()
     }
 
@@ -177,11 +179,7 @@ impl Core {
             return Err(NotPossible);
         }
         let stamp = self.dies(seat, lock).unwrap_or(0);
-        let queue = &mut self.queues[lock as usize];
-        queue.leave(seat);
-        if queue.entries().is_empty() {
-            self.asked[lock as usize] = false;
-        }
+        depart(&mut self.queues, &mut self.asked, seat, lock);
         Ok(Answer::Deadlk(stamp))
     }
 
@@ -220,6 +218,7 @@ impl Core {
     {
         self.is_inside(seat, lock)
             && (!self.waits_at(seat, lock) || self.has_other(seat, lock))
+            && self.heeded_at(seat) == 0
             && self.is_paid(seat, lock)
     }
 
@@ -271,5 +270,19 @@ fn giving(next: Holder) -> Answer
     match next {
         Holder::Nobody | Holder::Taken(_) => Answer::Free,
         Holder::Handed(seat) => Answer::Handed(seat),
+    }
+}
+
+/// A waiter leaves the wait list of a lock. Once the list is empty nobody asks for the lock any more.
+pub(crate) fn depart(queues: &mut Vec<Queue>, asked: &mut Vec<bool>, seat: u8, lock: u8)
+    requires list { lock < length queues.old.items }
+    requires flag { lock < length asked.old.items }
+    ensures list { let q = left (slice_index_or queues.old.items lock []) seat in queues.new.items ≡ slice_set queues.old.items lock q }
+    ensures flag { let q = left (slice_index_or queues.old.items lock []) seat in asked.new.items ≡ slice_set asked.old.items lock (still_asked q (slice_index_or asked.old.items lock false)) }
+{
+    let queue = &mut queues[lock as usize];
+    queue.leave(seat);
+    if queue.entries().is_empty() {
+        asked[lock as usize] = false;
     }
 }

@@ -5,6 +5,7 @@ mod contexts;
 mod event;
 mod fast;
 mod guarded;
+mod interrupts;
 mod run;
 mod state;
 mod step;

@@ -34,6 +34,10 @@ pub struct Core {
     pub(crate) asked: Vec<bool>,
     pub(crate) queues: Vec<Queue>,
     pub(crate) guards: Vec<Option<u8>>,
+    // Whose cancel of each seat is pending, and whose it has heeded and not answered yet: that seat plus 1, 0 if
+    // nobody's.
+    pub(crate) cancels: Vec<u8>,
+    pub(crate) heeded: Vec<u8>,
 }
 
 impl Model for Core {
@@ -77,6 +81,8 @@ impl Core {
             asked: vec![in alloc; false; locks]?,
             queues: empty_queues(alloc, locks)?,
             guards: vec![in alloc; None; locks]?,
+            cancels: vec![in alloc; 0; seats]?,
+            heeded: vec![in alloc; 0; seats]?,
         })
     }
 
@@ -134,6 +140,15 @@ impl Core {
         ensures { result ≡ (state_of self.now).sign seat }
     {
         self.signs[seat as usize]
+    }
+
+    /// Whose cancel of the seat is pending: that seat plus 1, 0 if none is. One at most is pending for a seat; the
+    /// cancel that it has heeded is pending no longer.
+    pub fn cancel_of(&self, seat: u8) -> u8
+        requires { seat < (state_of self.now).seats }
+        ensures { result ≡ (state_of self.now).cancel seat }
+    {
+        self.cancels[seat as usize]
     }
 }
 

@@ -33,6 +33,9 @@ impl Core {
             Event::Unguard(seat, lock) => self.unguard(seat, lock),
             Event::Commit(seat) => self.commit(seat),
             Event::End(seat) => self.end(seat),
+            Event::Cancel(seat, victim) => self.cancel(seat, victim),
+            Event::Heed(seat, lock) => self.heed(seat, lock),
+            Event::Leave(seat, lock) => self.leave(seat, lock),
         }
     }
 }

@@ -44,6 +44,18 @@ impl Core {
         self.signs.get(seat as usize).copied().unwrap_or(0)
     }
 
+    pub(crate) fn cancel_at(&self, seat: u8) -> u8
+        ensures { result ≡ (state_of self.now).cancel seat }
+    {
+        self.cancels.get(seat as usize).copied().unwrap_or(0)
+    }
+
+    pub(crate) fn heeded_at(&self, seat: u8) -> u8
+        ensures { result ≡ (state_of self.now).heeded seat }
+    {
+        self.heeded.get(seat as usize).copied().unwrap_or(0)
+    }
+
     pub(crate) fn owner_at(&self, lock: u8) -> Holder
         ensures { result ≡ (state_of self.now).owner lock }
     {

@@ -85,7 +85,7 @@ module _ (size : ℕ) (d : Deeds) (m : Sat) (s : Stands size d m) where
 
   -- another view and count of draws, with the same locks
   keeps_locks : (t : Stage) (v : View) (drawn count : ℕ) → v.owned ≡ m.0.part.core.owned → v.who ≡ m.0.part.core.who → IsAway v → IsAt t v → drawn ≡ count
-      → Stands size (record d { draws = count; stage = t }) (record (m.0) { part = record (m.0.part) { core = v; draws = drawn } }, m.1)
+      → Stands size (record d { draws = count; stage = t }) (record (m.0) { part = record (m.0.part) { core = v; counts = record (m.0.part.counts) { draws = drawn } } }, m.1)
   keeps_locks t v drawn count same who away stage draws = record {
     few = s.few;
     away = away;
@@ -102,7 +102,7 @@ module _ (size : ℕ) (d : Deeds) (m : Sat) (s : Stands size d m) where
   }
 
   pub drew_stands : (stamp : ℕ) → 0 < stamp → Stands size (began d) (drawing m.0 stamp, m.1)
-  drew_stands stamp pos = keeps_locks fresh (begun m.0.part.core stamp) (m.0.part.draws + 1) (d.draws + 1) refl refl s.away (pos, refl) (ap (λ (n : ℕ). n + 1) s.draws)
+  drew_stands stamp pos = keeps_locks fresh (begun m.0.part.core stamp) (m.0.part.counts.draws + 1) (d.draws + 1) refl refl s.away (pos, refl) (ap (λ (n : ℕ). n + 1) s.draws)
 
   context_at : (t : Stage) → t ≢ resting → IsAt t m.0.part.core → 0 < m.0.part.core.stamp
   context_at resting isnt e = absurd (isnt refl)
@@ -113,7 +113,7 @@ module _ (size : ℕ) (d : Deeds) (m : Sat) (s : Stands size d m) where
   may_end isnt none = record { away = s.away; context = context_at d.stage isnt s.stage; bare = bare none }
 
   pub ended_stands : Stands size (ended d) (knowing m.0 (view_ended m.0.part.core), m.1)
-  ended_stands = keeps_locks resting (view_ended m.0.part.core) m.0.part.draws d.draws refl refl s.away refl s.draws
+  ended_stands = keeps_locks resting (view_ended m.0.part.core) m.0.part.counts.draws d.draws refl refl s.away refl s.draws
 
   -- ---- take
 
@@ -172,7 +172,7 @@ module _ (size : ℕ) (d : Deeds) (m : Sat) (s : Stands size d m) where
   stage_missed working e = e
 
   pub missed_stands : Stands size d (knowing m.0 (fast_missed m.0.part.core), m.1)
-  missed_stands = keeps_locks d.stage (fast_missed m.0.part.core) m.0.part.draws d.draws refl refl s.away (stage_missed d.stage s.stage) s.draws
+  missed_stands = keeps_locks d.stage (fast_missed m.0.part.core) m.0.part.counts.draws d.draws refl refl s.away (stage_missed d.stage s.stage) s.draws
 
   -- ---- give
 

@@ -51,7 +51,7 @@ pub record Stands (size : ℕ) (d : Deeds) (m : Sat) : Type 0 where
   pub few : size ≤ 64
   pub away : IsAway m.0.part.core
   pub who : m.0.part.core.who ≡ d.who
-  pub draws : m.0.part.draws ≡ d.draws
+  pub draws : m.0.part.counts.draws ≡ d.draws
   pub commits : length m.0.part.own ≡ d.commits
   pub stage : IsAt d.stage m.0.part.core
   pub owned : length m.0.part.core.owned ≡ 64

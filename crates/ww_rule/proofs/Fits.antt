@@ -16,6 +16,7 @@ use Rattle.ww_plain.specs.History.{Recorded, last_graph, part_of}
 use Rattle.ww_model.specs.Event.{actor}
 use Rattle.ww_model.proofs.Stays.{stamp_stays, owner_stays, guard_stays, entry_stays}
 use Rattle.ww_view.proofs.Others.{others_know}
+use Rattle.ww_rule.specs.declared.cells.Counts.{Counts}
 use Rattle.ww_rule.specs.declared.cells.Part.{Part}
 use Rattle.ww_rule.specs.declared.cells.Sight.{Sight}
 use Rattle.ww_rule.specs.declared.cells.Start.{Start}
@@ -63,24 +64,24 @@ strange_on c e t can other x = record {
   waits = λ n y has is. x.waits n y ((entry_stays c e t other n y is).1 has) is;
 }
 
--- what becomes of draws, commits and nodes leaves all but the number s alone
-pub record Spares (key : Start) (c : State) (log new : List Recorded) (draws drawn : ℕ → ℕ) (s : ℕ) : Type 0 where
-  pub draws_stay : (t : ℕ) → t ≢ s → drawn t ≡ draws t
+-- what becomes of counts, commits and nodes leaves all but the number s alone
+pub record Spares (key : Start) (c : State) (log new : List Recorded) (counts counts' : ℕ → Counts) (s : ℕ) : Type 0 where
+  pub counts_stay : (t : ℕ) → t ≢ s → counts' t ≡ counts t
   pub parts_stay : (t : ℕ) → t ≢ s → part_of t new ≡ part_of t log
   pub nodes_stay : (t n : ℕ) → t ≢ s → c.owner n ≡ Taken t → node_at (last_graph (first_graph key) new) n ≡ node_at (last_graph (first_graph key) log) n
 
-module _ (key : Start) (c : State) (e : Event) (law : IsLawful c) (can : Possible c e) (log new : List Recorded) (at draws drawn : ℕ → ℕ) (s : ℕ) (acts : actor e ≡ s) (spares : Spares key c log new draws drawn s) where
-  pub part_on : (j : ℕ) (p : Part) → p.core.who ≢ s → PartFits key c log at draws j p → PartFits key (after c e) new at drawn j p
+module _ (key : Start) (c : State) (e : Event) (law : IsLawful c) (can : Possible c e) (log new : List Recorded) (at : ℕ → ℕ) (counts counts' : ℕ → Counts) (s : ℕ) (acts : actor e ≡ s) (spares : Spares key c log new counts counts' s) where
+  pub part_on : (j : ℕ) (p : Part) → p.core.who ≢ s → PartFits key c log at counts j p → PartFits key (after c e) new at counts' j p
   part_on j p other f = record {
     place = f.place;
     number = f.number;
     knows = others_know c e p.core law can (λ z. other (sym z ∙ acts)) f.knows;
-    drew = f.drew ∙ sym (spares.draws_stay p.core.who other);
+    counted = f.counted ∙ sym (spares.counts_stay p.core.who other);
     own = f.own ∙ sym (spares.parts_stay p.core.who other);
   }
 
-  pub sits_on : (id j : ℕ) (v : Sight) → at s ≡ id → j ≢ id → Sits key c log at draws j v → Sits key (after c e) new at drawn j v
-  sits_on id j v mine far f = let apart : (p : Part) → PartFits key c log at draws j p → p.core.who ≢ s = λ p g is. far (sym g.place ∙ ap at is ∙ mine) in record {
+  pub sits_on : (id j : ℕ) (v : Sight) → at s ≡ id → j ≢ id → Sits key c log at counts j v → Sits key (after c e) new at counts' j v
+  sits_on id j v mine far f = let apart : (p : Part) → PartFits key c log at counts j p → p.core.who ≢ s = λ p g is. far (sym g.place ∙ ap at is ∙ mine) in record {
     part = part_on j v.part (apart v.part f.part) f.part;
     room = f.room;
     held = λ n own. f.held n own ∙ ap (λ (x : Node). some (Some x)) (sym (spares.nodes_stay v.part.core.who n (apart v.part f.part) (f.part.knows.owned.has n own)));
@@ -91,7 +92,7 @@ module _ (key : Start) (c : State) (e : Event) (law : IsLawful c) (can : Possibl
 
 -- another table with the same core: what the rule says of the core, of the commits and of the counts stays
 pub stays_as : (key : Start) (s s' : St) (r : Ruled key s) (at : ℕ → ℕ) → Shown r.core s'.words → AtHome (last_graph (first_graph key) r.log) r.core.owner r.core.queue r.core.guard s'.homes
-    → ((j : ℕ) (v : Sight) → get_elem? s'.views j ≡ some v → v.seated ≡ true → Sits key r.core r.log at r.draws j v) → ((t : ℕ) → t < key.seats → IsThere s'.views (at t) t) → Stays key s r s'
+    → ((j : ℕ) (v : Sight) → get_elem? s'.views j ≡ some v → v.seated ≡ true → Sits key r.core r.log at r.counts j v) → ((t : ℕ) → t < key.seats → IsThere s'.views (at t) t) → Stays key s r s'
 stays_as key s s' r at words homes seats there = record {
   is = refl;
   commits = refl;
@@ -99,7 +100,7 @@ stays_as key s s' r at words homes seats there = record {
     core = r.core;
     log = r.log;
     at = at;
-    draws = r.draws;
+    counts = r.counts;
     reached = r.reached;
     kind = r.kind;
     locks = r.locks;

@@ -1,4 +1,5 @@
--- What a change of a guard word or of a sign word leaves of the words, and a change of a list inside its guard of the homes.
+-- What a change of a guard word, a sign word or a cancel word leaves of the words, and a change of a list inside its
+-- guard of the homes.
 use Rattle.std.proofs.Common.{◌≡◌, ℕ, suc, ◌+◌, ◌*◌, ◌<◌, List, get_or, set, sym, ap, ◌∙◌, arith, length-set, get_or-set_other, get_or-set_same}
 use mathlib.Core.Logic.{dite}
 use mathlib.Core.Option.{some}
@@ -19,30 +20,46 @@ use Rattle.ww_rule.specs.declared.cells.Cell.TheVariants.{Line}
 use Rattle.ww_rule.specs.Rule.{Shown, AtHome}
 
 module _ (c : State) (e : Event) (can : BasePossible c e) (l : IsBase c) (words : List ℕ) (sh : Shown c words) where
-  pub guard_set : (n x : ℕ) → n < 64 → ((m : ℕ) → Leaves e m) → (after c e).guard ≡ put c.guard n x → (after c e).sign ≡ c.sign → (after c e).drawn ≡ c.drawn → (after c e).commits ≡ c.commits
+  pub guard_set : (n x : ℕ) → n < 64 → ((m : ℕ) → Leaves e m) → (after c e).cancel ≡ c.cancel → (after c e).guard ≡ put c.guard n x → (after c e).sign ≡ c.sign → (after c e).drawn ≡ c.drawn → (after c e).commits ≡ c.commits
       → Shown (after c e) (set words (8 * n + 1) x)
-  guard_set n x small far guards signs drawn commits = let wide = sh.wide in record {
+  guard_set n x small far cancels guards signs drawn commits = let wide = sh.wide in record {
     wide = length-set words (8 * n + 1) x ∙ sh.wide;
     owners = λ m low. get_or-set_other words (8 * n + 1) (8 * m) x 0 (λ z. omega arith) ∙ sh.owners m low ∙ ap packed (sym (word_else c e m can l (far m)));
     guards = λ m low. dite (ℕ_discrete m n)
         (λ is. ap (λ (k : ℕ). get_or (set words (8 * n + 1) x) (8 * k + 1) 0) is ∙ get_or-set_same words (8 * n + 1) x 0 (omega arith) ∙ sym (put_here c.guard n x) ∙ ap (put c.guard n x) (sym is) ∙ ap (λ (f : ℕ → ℕ). f m) (sym guards))
         (λ isnt. get_or-set_other words (8 * n + 1) (8 * m + 1) x 0 (λ z. isnt (omega arith)) ∙ sh.guards m low ∙ sym (put_else c.guard n x m isnt) ∙ ap (λ (f : ℕ → ℕ). f m) (sym guards));
     signs = λ s low. get_or-set_other words (8 * n + 1) (512 + 8 * s) x 0 (λ z. omega arith) ∙ sh.signs s low ∙ ap (λ (f : ℕ → ℕ). f s) (sym signs);
+    cancels = λ s low. get_or-set_other words (8 * n + 1) (512 + 8 * s + 1) x 0 (λ z. omega arith) ∙ sh.cancels s low ∙ ap (λ (f : ℕ → ℕ). f s) (sym cancels);
     drawn = get_or-set_other words (8 * n + 1) 640 x 0 (λ z. omega arith) ∙ sh.drawn ∙ sym drawn;
     front = get_or-set_other words (8 * n + 1) 648 x 0 (λ z. omega arith) ∙ sh.front ∙ sym commits;
   }
 
-  pub sign_set : (u x : ℕ) → u < 16 → ((m : ℕ) → Leaves e m) → (after c e).guard ≡ c.guard → (after c e).sign ≡ put c.sign u x → (after c e).drawn ≡ c.drawn → (after c e).commits ≡ c.commits
+  pub sign_set : (u x : ℕ) → u < 16 → ((m : ℕ) → Leaves e m) → (after c e).cancel ≡ c.cancel → (after c e).guard ≡ c.guard → (after c e).sign ≡ put c.sign u x → (after c e).drawn ≡ c.drawn → (after c e).commits ≡ c.commits
       → Shown (after c e) (set words (512 + 8 * u) x)
-  sign_set u x small far guards signs drawn commits = let wide = sh.wide in record {
+  sign_set u x small far cancels guards signs drawn commits = let wide = sh.wide in record {
     wide = length-set words (512 + 8 * u) x ∙ sh.wide;
     owners = λ m low. get_or-set_other words (512 + 8 * u) (8 * m) x 0 (λ z. omega arith) ∙ sh.owners m low ∙ ap packed (sym (word_else c e m can l (far m)));
     guards = λ m low. get_or-set_other words (512 + 8 * u) (8 * m + 1) x 0 (λ z. omega arith) ∙ sh.guards m low ∙ ap (λ (f : ℕ → ℕ). f m) (sym guards);
     signs = λ s low. dite (ℕ_discrete s u)
         (λ is. ap (λ (k : ℕ). get_or (set words (512 + 8 * u) x) (512 + 8 * k) 0) is ∙ get_or-set_same words (512 + 8 * u) x 0 (omega arith) ∙ sym (put_here c.sign u x) ∙ ap (put c.sign u x) (sym is) ∙ ap (λ (f : ℕ → ℕ). f s) (sym signs))
         (λ isnt. get_or-set_other words (512 + 8 * u) (512 + 8 * s) x 0 (λ z. isnt (omega arith)) ∙ sh.signs s low ∙ sym (put_else c.sign u x s isnt) ∙ ap (λ (f : ℕ → ℕ). f s) (sym signs));
+    cancels = λ s low. get_or-set_other words (512 + 8 * u) (512 + 8 * s + 1) x 0 (λ z. omega arith) ∙ sh.cancels s low ∙ ap (λ (f : ℕ → ℕ). f s) (sym cancels);
     drawn = get_or-set_other words (512 + 8 * u) 640 x 0 (λ z. omega arith) ∙ sh.drawn ∙ sym drawn;
     front = get_or-set_other words (512 + 8 * u) 648 x 0 (λ z. omega arith) ∙ sh.front ∙ sym commits;
+  }
+
+  pub cancel_set : (u x : ℕ) → u < 16 → ((m : ℕ) → Leaves e m) → (after c e).cancel ≡ put c.cancel u x → (after c e).guard ≡ c.guard → (after c e).sign ≡ c.sign → (after c e).drawn ≡ c.drawn → (after c e).commits ≡ c.commits
+      → Shown (after c e) (set words (512 + 8 * u + 1) x)
+  cancel_set u x small far cancels guards signs drawn commits = let wide = sh.wide in record {
+    wide = length-set words (512 + 8 * u + 1) x ∙ sh.wide;
+    owners = λ m low. get_or-set_other words (512 + 8 * u + 1) (8 * m) x 0 (λ z. omega arith) ∙ sh.owners m low ∙ ap packed (sym (word_else c e m can l (far m)));
+    guards = λ m low. get_or-set_other words (512 + 8 * u + 1) (8 * m + 1) x 0 (λ z. omega arith) ∙ sh.guards m low ∙ ap (λ (f : ℕ → ℕ). f m) (sym guards);
+    signs = λ s low. get_or-set_other words (512 + 8 * u + 1) (512 + 8 * s) x 0 (λ z. omega arith) ∙ sh.signs s low ∙ ap (λ (f : ℕ → ℕ). f s) (sym signs);
+    cancels = λ s low. dite (ℕ_discrete s u)
+        (λ is. ap (λ (k : ℕ). get_or (set words (512 + 8 * u + 1) x) (512 + 8 * k + 1) 0) is ∙ get_or-set_same words (512 + 8 * u + 1) x 0 (omega arith) ∙ sym (put_here c.cancel u x) ∙ ap (put c.cancel u x) (sym is) ∙ ap (λ (f : ℕ → ℕ). f s) (sym cancels))
+        (λ isnt. get_or-set_other words (512 + 8 * u + 1) (512 + 8 * s + 1) x 0 (λ z. isnt (omega arith)) ∙ sh.cancels s low ∙ sym (put_else c.cancel u x s isnt) ∙ ap (λ (f : ℕ → ℕ). f s) (sym cancels));
+    drawn = get_or-set_other words (512 + 8 * u + 1) 640 x 0 (λ z. omega arith) ∙ sh.drawn ∙ sym drawn;
+    front = get_or-set_other words (512 + 8 * u + 1) 648 x 0 (λ z. omega arith) ∙ sh.front ∙ sym commits;
   }
 
 -- the list of a guarded lock changes

@@ -1,5 +1,5 @@
--- Each step at a guard, inside it or on a sign, as the table asks for it.
-use Rattle.std.proofs.Common.{◌≡◌, ◌≢◌, ℕ, zero, suc, ◌+◌, ◌*◌, ◌<◌, ◌==◌, ◌⊎◌, eqb, true, false, true≢false, List, [], ◌∷◌, length, get_or, set, sym, refl, ap, ◌∙◌, subst, inl, inr, ⊎_elim, arith, Bool, Some}
+-- Each step at a guard, inside it, on a sign or on a cancel, as the table asks for it.
+use Rattle.std.proofs.Common.{◌≡◌, ◌≢◌, ℕ, zero, suc, ◌+◌, ◌*◌, ◌<◌, ◌≤◌, ◌==◌, ◌⊎◌, eqb, true, false, true≢false, List, [], ◌∷◌, length, get_or, set, sym, refl, ap, ◌∙◌, subst, inl, inr, ⊎_elim, arith, Bool, Some}
 use mathlib.Core.Logic.{dite}
 use mathlib.Core.Option.{none, some}
 use native.Mathlib.Decide.{ℕ_discrete}
@@ -18,6 +18,7 @@ use Rattle.ww_model.specs.declared.state.Holder.TheVariants.{Nobody, Taken, Hand
 use Rattle.ww_model.specs.State.{State}
 use Rattle.ww_model.specs.Run.{Reached}
 use Rattle.ww_model.proofs.Kept.{reached_is_lawful}
+use Rattle.ww_model.proofs.Holders.{not_empty}
 use Rattle.ww_model.proofs.Leaving.{waiters_are_seats}
 use Rattle.ww_model.proofs.Ranges.{has_room, new_stamp}
 use Rattle.ww_plain.specs.declared.node.Node.{Node}
@@ -26,8 +27,8 @@ use Rattle.ww_plain.specs.History.{last_graph}
 use Rattle.ww_view.specs.declared.view.View.{View}
 use Rattle.ww_model.specs.State.{waiting, word_of}
 use Rattle.ww_view.specs.Word.{taken_word, asked_word, given_word, rest_word}
-use Rattle.ww_view.specs.View.{Knows, IsBare, IsQuiet}
-use Rattle.ww_view.specs.May.{MayEnter, MayExit, MayJoin, MayTake, MayGive, MayAsk, MayDie, MaySign, MayClear}
+use Rattle.ww_view.specs.View.{Knows, IsBare, IsQuiet, IsAway}
+use Rattle.ww_view.specs.May.{MayEnter, MayExit, MayJoin, MayTake, MayGive, MayAsk, MayDie, MaySign, MayClear, MayHeed, MayStop}
 use Rattle.ww_view.specs.Made as made
 use Rattle.ww_model.proofs.Ranges.{few_stamps}
 use Rattle.ww_view.proofs.Inside.{mine_look, mine_lost_sign, mine_read, mine_read_none, mine_stepped}
@@ -41,9 +42,10 @@ use Rattle.ww_rule.specs.Steps.{knowing}
 use Rattle.ww_rule.specs.Guards.{AreSeats, IsSeenBy, entering, exiting, looking, enters_to, exits_to, looks_to}
 use Rattle.ww_rule.specs.Waiting.{tries_to, HasPlace, joining, joins, taking_inside, below, takes_inside, giving_inside, gives_inside, asking, asks, dying, dies, dies_to}
 use Rattle.ww_rule.specs.Signs.{signing, reading, finding_none, clearing, signs_to, reads_to, clears_to}
+use Rattle.ww_rule.specs.Cancels.{cancelling, heeding, stopping, stops, leaves_to, cancels_to, heeds_to}
 use Rattle.ww_rule.proofs.Moves.{cas, looks, low, node_there}
 use Rattle.ww_rule.proofs.Told.{stands_as, seen_by, death_is_older}
-use Rattle.ww_rule.proofs.InsideMoves.{enter_makes, exit_makes, join_makes, take_makes, give_makes, ask_makes, die_makes, sign_makes, clear_makes, mine, inside_low}
+use Rattle.ww_rule.proofs.InsideMoves.{enter_makes, exit_makes, join_makes, take_makes, give_makes, ask_makes, die_makes, sign_makes, clear_makes, leave_makes, cancel_makes, heed_makes, mine, inside_low}
 
 -- ---- guards
 
@@ -129,6 +131,11 @@ and_tells : (key : Start) (slots id : ℕ) (me : Sat) (i : ℕ) (f : ℕ → ℕ
     → Allows (Ruled key) slots id me i f then → Allows (Ruled key) slots id me i f (λ x m'. then x m' × Q)
 and_tells key slots id me i f then Q tells step s r deep at small = let t = step s r deep at small in (t.0, t.1, t.2, t.3, (t.4, tells s r at))
 
+-- ... of the number that it finds
+and_finds : (key : Start) (slots id : ℕ) (me : Sat) (i : ℕ) (f : ℕ → ℕ) (then : ℕ → Sat → Type 0) (Q : ℕ → Type 0) → ((s : St) (r : Ruled key s) → get_elem? s.views id ≡ some me.0 → Q (get_or s.words i 0))
+    → Allows (Ruled key) slots id me i f then → Allows (Ruled key) slots id me i f (λ x m'. then x m' × Q x)
+and_finds key slots id me i f then Q tells step s r deep at small = let t = step s r deep at small in (t.0, t.1, t.2, t.3, (t.4, tells s r at))
+
 has_place : (c : State) → Reached c → c.seats ≡ 16 → (v : View) → Knows c v → (n : ℕ) → v.inside ≡ suc n → v.waits ≡ 0 → HasPlace v
 has_place c run places v k n inside out = let list = k.queues.list n inside in
     let alone : StandsNot (c.queue n) v.who = λ e has is. (let z = k.queues.waits n (e, has, is) in omega arith) in record {
@@ -187,6 +194,52 @@ dies_waiting key slots id me n o k i old new at was is seated may valid = let wo
     and_tells key slots id me i (λ x. either (eqb x old) new x) (tries_to dies (step slots i old new none) me) ((m : ℕ) (p : Owner) (j : ℕ) → MayDie me.0.part.core m p j → j < me.0.part.core.stamp)
     (λ s r at m p j dies. death_is_older r.core me.0.part.core (reached_is_lawful r.core r.reached) (mine key s r id me at seated).part.knows m p j dies)
     (by_numbers key slots id me dies i (8 * n) old (packed o) new word at was is (expecting key slots id me n o word dies seated valid (λ s r at hit. (dying me.0 o, keeps, tt, (die_makes key s r id me at seated n o k may valid hit).ruled, refl))))
+
+-- ---- cancels
+
+pub stops_waiting : (key : Start) (slots id : ℕ) (me : Sat) (n : ℕ) (o : Owner) (i old new : ℕ) → i ≡ 8 * n → old ≡ packed o → new ≡ packed (rest_word (left me.0.part.core.list me.0.part.core.who) o) → me.0.seated ≡ true → MayStop me.0.part.core n → IsValid o
+    → Allows (Ruled key) slots id me i (λ x. either (eqb x old) new x) (leaves_to (step slots i old new none) me)
+stops_waiting key slots id me n o i old new at was is seated may valid = let word = packed (rest_word (left me.0.part.core.list me.0.part.core.who) o) in
+    and_finds key slots id me i (λ x. either (eqb x old) new x) (tries_to stops (step slots i old new none) me)
+    (λ x. (m : ℕ) (p : Owner) → MayStop me.0.part.core m → me.0.part.core.seen ≡ Some p → i ≡ 8 * m → x ≡ packed p)
+    (λ s r here m p stop saw word_at. let k = (mine key s r id me here seated).part.knows in let h = k.queues.waited m stop.waits in
+    ap (λ (j : ℕ). get_or s.words j 0) word_at ∙ r.words.owners m (inside_low key s r id me here seated m stop.inside) ∙ ap packed (sym (k.seen m p stop.inside saw (not_empty (r.core.queue m) h.0 h.1))))
+    (by_numbers key slots id me stops i (8 * n) old (packed o) new word at was is (expecting key slots id me n o word stops seated valid (λ s r at hit. (stopping me.0 o, keeps, tt, (leave_makes key s r id me at seated n o may valid hit).ruled, refl))))
+
+cancels_there : (key : Start) (slots id : ℕ) (me : Sat) (u new : ℕ) → u < 16 → me.0.seated ≡ true → IsAway me.0.part.core → new ≡ me.0.part.core.who + 1
+    → Allows (Ruled key) slots id me (512 + 8 * u + 1) (λ x. either (eqb x 0) new x) (cancels_to (step slots (512 + 8 * u + 1) 0 new none) me)
+cancels_there key slots id me u new low seated away is = cas key slots id me (512 + 8 * u + 1) 0 new me.0.part.core (cancels_to (step slots (512 + 8 * u + 1) 0 new none) me) seated refl (λ m. refl) (λ c k. k)
+    (λ s r at hit. (
+      cancelling me.0 u,
+      keeps,
+      tt,
+      subst (λ (y : ℕ). Ruled key (stepped s (512 + 8 * u + 1) y id me.1 (cancelling me.0 u) keeps)) (sym is) (cancel_makes key s r id me at seated u away low hit).ruled,
+      (λ j there. let e : u ≡ j = omega arith in ((λ _. ap (λ (t : ℕ). let w : Sat = (cancelling me.0 t, me.1) in w) e), λ no. absurd (no refl))),
+    ))
+    (λ x ne j there. ((λ z. absurd (ne z)), λ _. refl))
+
+pub cancels : (key : Start) (slots id : ℕ) (me : Sat) (u i new : ℕ) → i ≡ 512 + 8 * u + 1 → u < 16 → me.0.seated ≡ true → IsAway me.0.part.core → new ≡ me.0.part.core.who + 1
+    → Allows (Ruled key) slots id me i (λ x. either (eqb x 0) new x) (cancels_to (step slots i 0 new none) me)
+cancels key slots id me u i new at low seated away is = subst (λ (j : ℕ). Allows (Ruled key) slots id me j (λ x. either (eqb x 0) new x) (cancels_to (step slots j 0 new none) me)) (sym at) (cancels_there key slots id me u new low seated away is)
+
+pub heeds : (key : Start) (slots id : ℕ) (me : Sat) (n i : ℕ) → i ≡ 512 + 8 * me.0.part.core.who + 1 → me.0.seated ≡ true → MayHeed me.0.part.core n → Allows (Ruled key) slots id me i (λ _. 0) (heeds_to (step slots i 0 0 none) me)
+heeds key slots id me n i is seated may s r deep at small = let x : ℕ = get_or s.words i 0 in let v : View = me.0.part.core in let k = (mine key s r id me at seated).part.knows in
+    let tells : x ≡ r.core.cancel v.who = ap (λ (j : ℕ). get_or s.words j 0) is ∙ r.words.cancels v.who (let z = k.itself.seat in let y = r.places in omega arith) in
+    let few : x ≤ 16 = (let z = (reached_is_lawful r.core r.reached).base.cancels.set v.who in let y = r.places in omega arith) in dite (ℕ_discrete x 0)
+    (λ e. (
+      knowing me.0 (made.stepped v),
+      keeps,
+      tt,
+      subst (λ (y : ℕ). Ruled key (stepped s i y id me.1 (knowing me.0 (made.stepped v)) keeps)) e (looks key s r id me at seated i (made.stepped v) refl (λ m. refl) (mine_stepped r.core v k)),
+      ((λ _. refl), (λ no. absurd (no e)), few),
+    ))
+    (λ ne. (
+      heeding me.0 x,
+      keeps,
+      tt,
+      subst (λ (j : ℕ). Ruled key (stepped s j 0 id me.1 (heeding me.0 x) keeps)) (sym is) (heed_makes key s r id me at seated n x may tells ne).ruled,
+      ((λ e. absurd (ne e)), (λ _. refl), few),
+    ))
 
 -- ---- signs
 
@@ -284,6 +337,12 @@ pub dies_brought : (key : Start) (slots id : ℕ) (v : Sight) (me : Sat) (n : �
 dies_brought key slots id v me n o p k i old new view at was is is_rest seated may valid =
     subst (λ (m : Sat). Allows (Ruled key) slots id m i (λ x. either (eqb x old) new x) (dies_to (step slots i old new none) m)) (λ j. (sym view j, me.1))
     (dies_waiting key slots id (v, me.1) n o k i old new at was (is ∙ ap packed is_rest) seated may valid)
+
+pub stops_brought : (key : Start) (slots id : ℕ) (v : Sight) (me : Sat) (n : ℕ) (o p : Owner) (i old new : ℕ) → me.0 ≡ v → i ≡ 8 * n → old ≡ packed o → new ≡ packed p → p ≡ rest_word (left v.part.core.list v.part.core.who) o
+    → v.seated ≡ true → MayStop v.part.core n → IsValid o → Allows (Ruled key) slots id me i (λ x. either (eqb x old) new x) (leaves_to (step slots i old new none) me)
+stops_brought key slots id v me n o p i old new view at was is is_rest seated may valid =
+    subst (λ (m : Sat). Allows (Ruled key) slots id m i (λ x. either (eqb x old) new x) (leaves_to (step slots i old new none) m)) (λ j. (sym view j, me.1))
+    (stops_waiting key slots id (v, me.1) n o i old new at was (is ∙ ap packed is_rest) seated may valid)
 
 pub gives_with_list : (key : Start) (slots id : ℕ) (v : Sight) (me : Sat) (n : ℕ) (o p : Owner) (x : Node) (others : List (ℕ × Cell)) (i old new : ℕ) → me.0 ≡ v → me.1 ≡ (n, Content x) ∷ others → i ≡ 8 * n → old ≡ packed o → new ≡ packed p
     → p ≡ given_word (o.flags == 3) v.part.core.list → v.seated ≡ true → MayGive v.part.core n → get_elem? v.held n ≡ some (Some x) → IsValid o → Allows (Ruled key) slots id me i (λ x. either (eqb x old) new x) (tries_to gives_inside (step slots i old new none) me)

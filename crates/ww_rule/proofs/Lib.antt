@@ -2,6 +2,7 @@ pub mod Totals
 pub mod Regions
 pub mod Fits
 pub mod Moves
+pub mod Balance
 pub mod Places
 pub mod Seats
 pub mod Turning

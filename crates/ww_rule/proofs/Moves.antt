@@ -14,6 +14,7 @@ use Rattle.ww_model.specs.declared.state.Holder.TheVariants.{Nobody, Taken}
 use Rattle.ww_model.specs.declared.event.Event.{Event}
 use Rattle.ww_model.specs.declared.event.Event.TheVariants.{Begin, Fast, FastGive, End}
 use Rattle.ww_model.specs.State.{State, put}
+use Rattle.ww_model.specs.Interrupts.{one_of}
 use Rattle.ww_model.specs.Event.{Possible, after}
 use Rattle.ww_model.specs.Lawful.{IsLawful}
 use Rattle.ww_model.specs.Run.{further}
@@ -39,10 +40,11 @@ use Rattle.ww_view.proofs.Inside.{mine_read, mine_missed}
 use Rattle.ww_view.proofs.Written.{word_fast, word_fast_give, found_is}
 use Rattle.ww_rule.specs.declared.cells.Cell.{Cell}
 use Rattle.ww_rule.specs.declared.cells.Cell.TheVariants.{Content}
+use Rattle.ww_rule.specs.declared.cells.Counts.{Counts}
 use Rattle.ww_rule.specs.declared.cells.Part.{Part}
 use Rattle.ww_rule.specs.declared.cells.Sight.{Sight}
 use Rattle.ww_rule.specs.declared.cells.Start.{Start}
-use Rattle.ww_rule.specs.Rule.{St, Sat, first_graph, own_of, Shown, AtHome, Counted, Sits, Ruled, MakesWith, Makes, Stays}
+use Rattle.ww_rule.specs.Rule.{St, Sat, first_graph, own_of, times, Shown, AtHome, Counted, Sits, Ruled, MakesWith, Makes, Stays}
 use Rattle.ww_rule.specs.Steps.{knowing, taker, taking, giving, drawing, takes_to, gives_to, ends_to, draws_to, MayDraw, MayEnd}
 use Rattle.ww_rule.proofs.Totals.{total_one, total_below}
 use Rattle.ww_rule.proofs.Regions.{owner_set, drawn_set, none_set}
@@ -53,7 +55,7 @@ idle_valid = record { seating = (refl, omega arith); stamp = omega arith; flags 
 
 -- the stamps never end
 pub draw_room : (key : Start) (s : St) (r : Ruled key s) → get_or s.words 640 0 < 2 ^ 56 - 1
-draw_room key s r = let same = r.words.drawn in let sum = r.counted.stamps in let most = total_below 16 (2 ^ 32) r.draws r.counted.few in omega arith
+draw_room key s r = let same = r.words.drawn in let sum = r.counted.stamps in let most = total_below 16 (2 ^ 32) (λ t. (r.counts t).draws) r.counted.few in omega arith
 
 module _ (key : Start) (s : St) (r : Ruled key s) (id : ℕ) (me : Sat) (here : get_elem? s.views id ≡ some me.0) (seated : me.0.seated ≡ true) where
   abbrev graph : List Node
@@ -62,7 +64,7 @@ module _ (key : Start) (s : St) (r : Ruled key s) (id : ℕ) (me : Sat) (here : 
   pub law : IsLawful r.core
   law = reached_is_lawful r.core r.reached
 
-  pub mine : Sits key r.core r.log r.at r.draws id me.0
+  pub mine : Sits key r.core r.log r.at r.counts id me.0
   mine = r.seats id me.0 here seated
 
   -- what the found number tells
@@ -86,13 +88,13 @@ module _ (key : Start) (s : St) (r : Ruled key s) (id : ℕ) (me : Sat) (here : 
   node_there n small = let z = r.counted.size in subst (λ (size : ℕ). IsNodeOf size (node_at graph n)) (r.counted.size ∙ sym mine.room) (all_item (IsNodeOf (length graph)) graph n no_node (omega arith) r.counted.graph.closed)
 
   -- the seat makes an event, and what the table has of it becomes p and the nodes held
-  pub makes_all : (e : Event) (i x : ℕ) (p : Part) (held : List (Option Node)) (a : Act Cell) (log : List Recorded) (draws : ℕ → ℕ) → actor e ≡ me.0.part.core.who → p.core.who ≡ me.0.part.core.who
-      → Possible r.core e → Knows (after r.core e) p.core → p.draws ≡ draws p.core.who → own_of p.own ≡ part_of p.core.who log → Spares key r.core r.log log r.draws draws me.0.part.core.who
+  pub makes_all : (e : Event) (i x : ℕ) (p : Part) (held : List (Option Node)) (a : Act Cell) (log : List Recorded) (counts : ℕ → Counts) → actor e ≡ me.0.part.core.who → p.core.who ≡ me.0.part.core.who
+      → Possible r.core e → Knows (after r.core e) p.core → p.counts ≡ counts p.core.who → own_of p.own ≡ part_of p.core.who log → Spares key r.core r.log log r.counts counts me.0.part.core.who
       → length held ≡ length (first_graph key) → ((n : ℕ) → owns p.core n ≡ true → get_elem? held n ≡ some (Some (node_at (last_graph (first_graph key) log) n)))
-      → Counted key (after r.core e).drawn (after r.core e).commits log draws → Shown (after r.core e) (set s.words i x)
+      → Counted key (after r.core e).drawn (after r.core e).commits (after r.core e).cancel log counts → Shown (after r.core e) (set s.words i x)
       → AtHome (last_graph (first_graph key) log) (after r.core e).owner (after r.core e).queue (after r.core e).guard (homes_after s.homes me.1 a)
       → MakesWith key s r e log (stepped s i x id me.1 (record me.0 { part = p; held = held }) a)
-  makes_all e i x p held a log draws acts same can knows drew own spares room has counted words homes = record {
+  makes_all e i x p held a log counts acts same can knows tallied own spares room has counted words homes = record {
     can = can;
     is = refl;
     commits = refl;
@@ -100,7 +102,7 @@ module _ (key : Start) (s : St) (r : Ruled key s) (id : ℕ) (me : Sat) (here : 
       core = after r.core e;
       log = log;
       at = r.at;
-      draws = draws;
+      counts = counts;
       reached = further r.core e r.reached can;
       kind = same_kind r.core e ∙ r.kind;
       locks = same_locks r.core e ∙ r.locks;
@@ -110,16 +112,16 @@ module _ (key : Start) (s : St) (r : Ruled key s) (id : ℕ) (me : Sat) (here : 
       words = words;
       homes = homes;
       counted = counted;
-      seats = seats_stay (Sits key (after r.core e) log r.at draws) s.views id (record me.0 { part = p; held = held })
+      seats = seats_stay (Sits key (after r.core e) log r.at counts) s.views id (record me.0 { part = p; held = held })
           (λ _. record {
-            part = record { place = ap r.at same ∙ mine.part.place; number = subst (λ (t : ℕ). t < key.seats) (sym same) mine.part.number; knows = knows; drew = drew; own = own };
+            part = record { place = ap r.at same ∙ mine.part.place; number = subst (λ (t : ℕ). t < key.seats) (sym same) mine.part.number; knows = knows; counted = tallied; own = own };
             room = room;
             held = has;
-            idle = λ k q there. let i = mine.idle k q there in (part_on key r.core e law can r.log log r.at r.draws draws me.0.part.core.who acts spares id q (mine.apart k q there) i.0, i.1);
+            idle = λ k q there. let i = mine.idle k q there in (part_on key r.core e law can r.log log r.at r.counts counts me.0.part.core.who acts spares id q (mine.apart k q there) i.0, i.1);
             apart = λ k q there z. mine.apart k q there (z ∙ same);
             differ = mine.differ;
           })
-          (λ j d far there on. sits_on key r.core e law can r.log log r.at r.draws draws me.0.part.core.who acts spares id j d mine.part.place far (r.seats j d there on));
+          (λ j d far there on. sits_on key r.core e law can r.log log r.at r.counts counts me.0.part.core.who acts spares id j d mine.part.place far (r.seats j d there on));
       there = λ t small. there_kept s.views id me.0 (record me.0 { part = p; held = held }) (r.at t) t here refl same refl (r.there t small);
     };
   }
@@ -127,10 +129,10 @@ module _ (key : Start) (s : St) (r : Ruled key s) (id : ℕ) (me : Sat) (here : 
   -- ... where nobody drew or committed
   pub makes : (e : Event) (i x : ℕ) (w : View) (held : List (Option Node)) (a : Act Cell) → actor e ≡ me.0.part.core.who → w.who ≡ me.0.part.core.who → Possible r.core e → Knows (after r.core e) w
       → length held ≡ length (first_graph key) → ((n : ℕ) → owns w n ≡ true → get_elem? held n ≡ some (Some (node_at graph n)))
-      → Counted key (after r.core e).drawn (after r.core e).commits r.log r.draws → Shown (after r.core e) (set s.words i x) → AtHome graph (after r.core e).owner (after r.core e).queue (after r.core e).guard (homes_after s.homes me.1 a)
+      → Counted key (after r.core e).drawn (after r.core e).commits (after r.core e).cancel r.log r.counts → Shown (after r.core e) (set s.words i x) → AtHome graph (after r.core e).owner (after r.core e).queue (after r.core e).guard (homes_after s.homes me.1 a)
       → Makes key s r e (stepped s i x id me.1 (record me.0 { part = record (me.0.part) { core = w }; held = held }) a)
-  makes e i x w held a acts same can knows room has counted words homes = makes_all e i x (record (me.0.part) { core = w }) held a r.log r.draws acts same can knows
-      (mine.part.drew ∙ ap r.draws (sym same)) (mine.part.own ∙ ap (λ (t : ℕ). part_of t r.log) (sym same)) (record { draws_stay = λ t _. refl; parts_stay = λ t _. refl; nodes_stay = λ t n _ _. refl }) room has counted words homes
+  makes e i x w held a acts same can knows room has counted words homes = makes_all e i x (record (me.0.part) { core = w }) held a r.log r.counts acts same can knows
+      (mine.part.counted ∙ ap r.counts (sym same)) (mine.part.own ∙ ap (λ (t : ℕ). part_of t r.log) (sym same)) (record { counts_stay = λ t _. refl; parts_stay = λ t _. refl; nodes_stay = λ t n _ _. refl }) room has counted words homes
 
   -- take_free: the owner word was 0
   pub fast_makes : (n : ℕ) → n < length (first_graph key) → MayFast me.0.part.core → get_or s.words (8 * n) 0 ≡ 0
@@ -143,7 +145,7 @@ module _ (key : Start) (s : St) (r : Ruled key s) (id : ℕ) (me : Sat) (here : 
       (λ e. ap (get_elem? (set me.0.held n (Some x))) e ∙ set_here me.0.held n (Some x) (omega arith) ∙ ap (λ (j : ℕ). some (Some (node_at graph j))) (sym e))
       (λ isnt. set_else me.0.held n m (Some x) isnt ∙ mine.held m (sym (get_or-set_other v.owned n m true false isnt) ∙ own)))
       r.counted
-      (owner_set c (Fast v.who n) can.base law.base s.words r.words n (packed (taker v)) l (λ m far. far) refl refl refl refl
+      (owner_set c (Fast v.who n) can.base law.base s.words r.words n (packed (taker v)) l (λ m far. far) refl refl refl refl refl
       ((λ i. packed (record { seat = Some v.who; stamp = k.itself.stamp i; flags = 0 })) ∙ ap packed (sym (word_fast c v.who n can.base.idle.empty can.base.idle.not_asked))))
       (record {
         deep = length-set s.homes n none ∙ r.homes.deep;
@@ -165,7 +167,7 @@ module _ (key : Start) (s : St) (r : Ruled key s) (id : ℕ) (me : Sat) (here : 
       (λ e. absurd (true≢false (sym own' ∙ ap (λ i. get_or (set v.owned n false) i false) e ∙ get_or-set_same v.owned n false false (let z = k.owned.room in omega arith))))
       (λ isnt. set_else me.0.held n m None isnt ∙ mine.held m (sym (get_or-set_other v.owned n m false false isnt) ∙ own')))
       r.counted
-      (owner_set c (FastGive v.who n) can.base law.base s.words r.words n 0 l (λ m far. far) refl refl refl refl (ap packed (sym (word_fast_give c v.who n can.base.empty can.base.not_asked))))
+      (owner_set c (FastGive v.who n) can.base law.base s.words r.words n 0 l (λ m far. far) refl refl refl refl refl (ap packed (sym (word_fast_give c v.who n can.base.empty can.base.not_asked))))
       (subst (λ (z : List (ℕ × Cell)). AtHome graph (put c.owner n Nobody) c.queue c.guard (homes_after s.homes z gives)) (sym top) (record {
         deep = length-set s.homes n (some (Content x)) ∙ r.homes.deep;
         nodes = λ m low' clear. dite (ℕ_discrete m n)
@@ -180,28 +182,31 @@ module _ (key : Start) (s : St) (r : Ruled key s) (id : ℕ) (me : Sat) (here : 
   end_makes may hit = let c = r.core in let v = me.0.part.core in let k = mine.part.knows in let i = 512 + 8 * v.who in
       let can = shows_end c v law k may.away may.context may.bare (sym (r.words.signs v.who (let z = k.itself.seat in let y = r.places in omega arith)) ∙ hit) in
       makes (End v.who) i (get_or s.words i 0) (ended v) me.0.held keeps refl refl can (mine_end c v law k can may.bare) mine.room mine.held r.counted
-      (subst (Shown (after c (End v.who))) (sym (set-get_or s.words i 0)) (none_set c (End v.who) can.base law.base s.words r.words (λ m. tt) refl refl refl refl))
+      (subst (Shown (after c (End v.who))) (sym (set-get_or s.words i 0)) (none_set c (End v.who) can.base law.base s.words r.words (λ m. tt) refl refl refl refl refl))
       (record { deep = r.homes.deep; nodes = r.homes.nodes; lists = r.homes.lists })
 
   -- draw: the stamp word goes one up
   pub draw_makes : MayDraw me.0.part → get_or s.words 640 0 < 2 ^ 56 - 1 → Makes key s r (Begin me.0.part.core.who) (stepped s 640 (get_or s.words 640 0 + 1) id me.1 (drawing me.0 (get_or s.words 640 0 + 1)) keeps)
   draw_makes may room = let c = r.core in let v = me.0.part.core in let k = mine.part.knows in let same = r.words.drawn in let x = get_or s.words 640 0 in
-      let can = shows_begin c v law k may.away may.no_context may.bare (subst (λ (y : ℕ). y < 2 ^ 56 - 1) same room) in let count = r.draws v.who in let draws = put r.draws v.who (count + 1) in
-      makes_all (Begin v.who) 640 (x + 1) (record (me.0.part) { core = begun v (x + 1); draws = me.0.part.draws + 1 }) me.0.held keeps r.log draws refl refl can
+      let can = shows_begin c v law k may.away may.no_context may.bare (subst (λ (y : ℕ). y < 2 ^ 56 - 1) same room) in let count = r.counts v.who in let more : Counts = record count { draws = count.draws + 1 } in let counts = put r.counts v.who more in
+      makes_all (Begin v.who) 640 (x + 1) (record (me.0.part) { core = begun v (x + 1); counts = record (me.0.part.counts) { draws = me.0.part.counts.draws + 1 } }) me.0.held keeps r.log counts refl refl can
       (subst (λ (y : ℕ). Knows (after c (Begin v.who)) (begun v (y + 1))) (sym same) (mine_begin c v law k can may.bare))
-      (ap (λ (y : ℕ). y + 1) mine.part.drew ∙ sym (put_here r.draws v.who (count + 1))) mine.part.own
-      (record { draws_stay = λ t ne. put_else r.draws v.who (count + 1) t ne; parts_stay = λ t _. refl; nodes_stay = λ t n _ _. refl }) mine.room mine.held
+      (ap (λ (y : Counts). record y { draws = y.draws + 1 }) mine.part.counted ∙ sym (put_here r.counts v.who more)) mine.part.own
+      (record { counts_stay = λ t ne. put_else r.counts v.who more t ne; parts_stay = λ t _. refl; nodes_stay = λ t n _ _. refl }) mine.room mine.held
       (record {
         legal = r.counted.legal;
         graph = r.counted.graph;
         size = r.counted.size;
         front = r.counted.front;
-        stamps = ap (λ (y : ℕ). y + 1) r.counted.stamps ∙ sym (total_one 16 draws r.draws v.who (let z = k.itself.seat in let y = r.places in omega arith) (λ t ne. put_else r.draws v.who (count + 1) t ne) (put_here r.draws v.who (count + 1)));
-        few = λ t. put_cases r.draws v.who (count + 1) t (λ y. y < 2 ^ 32) (λ _. let d = mine.part.drew in let f = may.fewer in omega arith) (λ _. r.counted.few t);
+        stamps = ap (λ (y : ℕ). y + 1) r.counted.stamps ∙ sym (total_one 16 (λ t. (counts t).draws) (λ t. (r.counts t).draws) v.who (let z = k.itself.seat in let y = r.places in omega arith) (λ t ne. ap (λ (y : Counts). y.draws) (put_else r.counts v.who more t ne)) (ap (λ (y : Counts). y.draws) (put_here r.counts v.who more)));
+        balanced = λ t u. ap (times u) (put_cases r.counts v.who more t (λ y. y.cancelled ≡ (r.counts t).cancelled) (λ is. ap (λ (y : ℕ). (r.counts y).cancelled) (sym is)) (λ _. refl)) ∙ r.counted.balanced t u
+            ∙ ap (λ (y : List ℕ). times t y + one_of t u (c.cancel u)) (sym (put_cases r.counts v.who more u (λ y. y.heeded ≡ (r.counts u).heeded) (λ is. ap (λ (y : ℕ). (r.counts y).heeded) (sym is)) (λ _. refl)));
+        strangers = λ t big. put_else r.counts v.who more t (λ e. let own = mine.part.number in omega arith) ∙ r.counted.strangers t big;
+        few = λ t. put_cases r.counts v.who more t (λ y. y.draws < 2 ^ 32) (λ _. let d = ap (λ (y : Counts). y.draws) mine.part.counted in let f = may.fewer in omega arith) (λ _. r.counted.few t);
         brief = r.counted.brief;
         callers = r.counted.callers;
       })
-      (drawn_set c (Begin v.who) can.base law.base s.words r.words (x + 1) (λ m. tt) refl refl (ap (λ (y : ℕ). y + 1) (sym same)) refl)
+      (drawn_set c (Begin v.who) can.base law.base s.words r.words (x + 1) (λ m. tt) refl refl refl (ap (λ (y : ℕ). y + 1) (sym same)) refl)
       (record { deep = r.homes.deep; nodes = r.homes.nodes; lists = r.homes.lists })
 
   -- ---- steps that are no event
@@ -209,13 +214,13 @@ module _ (key : Start) (s : St) (r : Ruled key s) (id : ℕ) (me : Sat) (here : 
   -- a load, or a compare-exchange that finds another number
   pub looks_on : (i : ℕ) (w : View) → w.who ≡ me.0.part.core.who → ((n : ℕ) → owns w n ≡ owns me.0.part.core n) → Knows r.core w → Stays key s r (stepped s i (get_or s.words i 0) id me.1 (knowing me.0 w) keeps)
   looks_on i w same has knows = stays_as key s (stepped s i (get_or s.words i 0) id me.1 (knowing me.0 w) keeps) r r.at (subst (Shown r.core) (sym (set-get_or s.words i 0)) r.words) r.homes
-      (seats_stay (Sits key r.core r.log r.at r.draws) s.views id (knowing me.0 w)
+      (seats_stay (Sits key r.core r.log r.at r.counts) s.views id (knowing me.0 w)
       (λ _. record {
         part = record {
           place = ap r.at same ∙ mine.part.place;
           number = subst (λ (t : ℕ). t < key.seats) (sym same) mine.part.number;
           knows = knows;
-          drew = mine.part.drew ∙ ap r.draws (sym same);
+          counted = mine.part.counted ∙ ap r.counts (sym same);
           own = mine.part.own ∙ ap (λ (t : ℕ). part_of t r.log) (sym same);
         };
         room = mine.room;

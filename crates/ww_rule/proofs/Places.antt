@@ -83,7 +83,7 @@ module _ (key : Start) (s : St) (r : Ruled key s) (id : ℕ) (me : Sat) (here : 
   abbrev new : List Recorded
   new = r.log ++ recorded_of x ∷ []
 
-  sits : Sits key r.core r.log r.at r.draws id me.0
+  sits : Sits key r.core r.log r.at r.counts id me.0
   sits = mine key s r id me here seated
 
   sizes : length seen ≡ length graph
@@ -114,13 +114,15 @@ module _ (key : Start) (s : St) (r : Ruled key s) (id : ℕ) (me : Sat) (here : 
   many : length r.log < 2 ^ 37
   many = let whole = parts_whole 0 r.log (λ k y e. let a = r.counted.callers k y e in let b = r.seats_there in omega arith) in let most = total_below 16 (2 ^ 32) (λ t. length (part_of t r.log)) r.counted.brief in omega arith
 
-  counted : Counted key r.core.drawn (r.core.commits + 1) new r.draws
+  counted : Counted key r.core.drawn (r.core.commits + 1) r.core.cancel new r.counts
   counted = let g = grows (first_graph key) r.log (recorded_of x) in let more = length-append r.log (recorded_of x ∷ []) in record {
     legal = g.legal.1 (r.counted.legal, next);
     graph = subst IsGraph (sym leads) (keeps_graph graph (transaction_of x.txn) r.counted.graph next.fits);
     size = ap length leads ∙ (sized_after graph (transaction_of x.txn) r.counted.graph next.fits).length_is ∙ r.counted.size;
     front = let f = r.counted.front in omega arith;
     stamps = r.counted.stamps;
+    balanced = r.counted.balanced;
+    strangers = r.counted.strangers;
     few = r.counted.few;
     brief = λ t. dite (ℕ_discrete t x.caller)
         (λ e. let own = ap length sits.part.own in let by = may.caller in let f = may.fewer in let long : length (own_of me.0.part.own) ≡ length me.0.part.own = length-map me.0.part.own (λ (p : ℕ × Record). (p.0, recorded_of p.1)) in
@@ -133,18 +135,18 @@ module _ (key : Start) (s : St) (r : Ruled key s) (id : ℕ) (me : Sat) (here : 
   pub place_makes : MakesWith key s r (Commit me.0.part.core.who) new (stepped s 648 (get_or s.words 648 0 + 1) id me.1 (placing me.0 (get_or s.words 648 0) x) keeps)
   place_makes = let c = r.core in let v = me.0.part.core in let k = sits.part.knows in let same = r.words.front in let was = r.counted.front in let few = many in let lawful = law key s r id me here seated in
       let can = shows_commit c v lawful k may.owner.0 may.away may.owner.1 (omega arith) in let g = grows (first_graph key) r.log (recorded_of x) in
-      makes_all key s r id me here seated (Commit v.who) 648 (get_or s.words 648 0 + 1) (record (me.0.part) { own = me.0.part.own ++ (get_or s.words 648 0, x) ∷ [] }) (renewed 0 me.0.held (graph_after seen (transaction_of x.txn))) keeps new r.draws refl refl can
-      (mine_commit c v lawful k can) sits.part.drew
+      makes_all key s r id me here seated (Commit v.who) 648 (get_or s.words 648 0 + 1) (record (me.0.part) { own = me.0.part.own ++ (get_or s.words 648 0, x) ∷ [] }) (renewed 0 me.0.held (graph_after seen (transaction_of x.txn))) keeps new r.counts refl refl can
+      (mine_commit c v lawful k can) sits.part.counted
       (own_more me.0.part.own (get_or s.words 648 0) x ∙ (λ i. sits.part.own i ++ ((same ∙ was) i, recorded_of x) ∷ []) ∙ sym (ap (λ (t : ℕ). part_of t new) (sym may.caller) ∙ g.own_part ∙ ap (λ (t : ℕ). part_of t r.log ++ (length r.log, recorded_of x) ∷ []) may.caller))
       (record {
-        draws_stay = λ t _. refl;
+        counts_stay = λ t _. refl;
         parts_stay = λ t ne. g.other_parts t (λ z. ne (z ∙ may.caller));
         nodes_stay = λ t n ne own. stays n (λ mine. ne (let z = sym own ∙ k.owned.has n mine in cc));
       })
       (renewed_long 0 me.0.held _ ∙ sits.room)
       (λ n own. renewed_at 0 me.0.held (graph_after seen (transaction_of x.txn)) n (node_at graph n) (sits.held n own) ∙ ap (λ (j : ℕ). some (Some (node_at (graph_after seen (transaction_of x.txn)) j))) (let z : 0 + n ≡ n = omega arith in z) ∙ ap (λ (y : Node). some (Some y)) (becomes n own))
       counted
-      (front_set c (Commit v.who) can.base lawful.base s.words r.words (get_or s.words 648 0 + 1) (λ m. tt) refl refl refl (ap (λ (y : ℕ). y + 1) (sym same)))
+      (front_set c (Commit v.who) can.base lawful.base s.words r.words (get_or s.words 648 0 + 1) (λ m. tt) refl refl refl refl (ap (λ (y : ℕ). y + 1) (sym same)))
       (record {
         deep = r.homes.deep;
         nodes = λ n low clear. r.homes.nodes n (let a = counted.size in let b = r.counted.size in omega arith) clear ∙ ap (λ (y : Node). some (some (Content y))) (sym (stays n (λ own. clear v.who (k.owned.has n own))));

@@ -10,16 +10,18 @@ use Rattle.ww_queue.specs.declared.kind.Kind.{Kind}
 use Rattle.ww_model.specs.State.{State, put, pick, start}
 use Rattle.ww_model.specs.Run.{at_start}
 use Rattle.ww_model.proofs.Puts.{put_here, put_else}
+use Rattle.ww_model.proofs.Counts.{one_of_nobody}
 use Rattle.ww_plain.specs.Graph.{IsGraph, node_at}
 use Rattle.ww_plain.specs.History.{Recorded}
 use Rattle.ww_view.specs.View.{IsBare}
 use Rattle.ww_view.proofs.Starts.{knows_start}
 use Rattle.ww_rule.specs.declared.cells.Cell.{Cell}
 use Rattle.ww_rule.specs.declared.cells.Cell.TheVariants.{Content, Line}
+use Rattle.ww_rule.specs.declared.cells.Counts.{Counts}
 use Rattle.ww_rule.specs.declared.cells.Part.{Part}
 use Rattle.ww_rule.specs.declared.cells.Sight.{Sight}
 use Rattle.ww_rule.specs.declared.cells.Start.{Start}
-use Rattle.ww_rule.specs.Rule.{St, first_graph, PartFits, Sits, Speaks, IsThere, Ruled, Stays, first_part, first_parts, first_sight}
+use Rattle.ww_rule.specs.Rule.{St, first_graph, PartFits, Sits, Speaks, IsThere, Ruled, Stays, no_counts, first_part, first_parts, first_sight}
 use Rattle.ww_rule.specs.Steps.{nobody, seat_of, rest_of, first_seat, without_first, with_seat}
 use Rattle.ww_rule.proofs.Totals.{total_zero}
 use Rattle.ww_rule.proofs.Fits.{stays_as, seats_stay, place_low, there_set, there_else, there_longer}
@@ -64,12 +66,12 @@ bare_first kind s n = none 64 n
     none (suc many) zero = refl
     none (suc many) (suc i) = none many i
 
-module _ (key : Start) (c : State) (log : List Recorded) (at to draws : ℕ → ℕ) (j k : ℕ) where
+module _ (key : Start) (c : State) (log : List Recorded) (at to : ℕ → ℕ) (counts : ℕ → Counts) (j k : ℕ) where
   -- the same facts of a number, where its view stands elsewhere
-  moved : (p : Part) → to p.core.who ≡ k → PartFits key c log at draws j p → PartFits key c log to draws k p
-  moved p here f = record { place = here; number = f.number; knows = f.knows; drew = f.drew; own = f.own }
+  moved : (p : Part) → to p.core.who ≡ k → PartFits key c log at counts j p → PartFits key c log to counts k p
+  moved p here f = record { place = here; number = f.number; knows = f.knows; counted = f.counted; own = f.own }
 
-  moves : (v : Sight) → to v.part.core.who ≡ k → ((i : ℕ) (p : Part) → get_elem? v.idle i ≡ some p → to p.core.who ≡ k) → Sits key c log at draws j v → Sits key c log to draws k v
+  moves : (v : Sight) → to v.part.core.who ≡ k → ((i : ℕ) (p : Part) → get_elem? v.idle i ≡ some p → to p.core.who ≡ k) → Sits key c log at counts j v → Sits key c log to counts k v
   moves v here idle f = record {
     part = moved v.part here f.part;
     room = f.room;
@@ -101,8 +103,8 @@ speaks_other v w t = ⊎_elim (λ own. inr (length v.idle + 0, w.part, at_behind
 
 module _ (key : Start) where
   -- a part that lay idle sits alone
-  alone : (c : State) (log : List Recorded) (at draws : ℕ → ℕ) (j size : ℕ) (p : Part) → size ≡ length (first_graph key) → PartFits key c log at draws j p → IsBare p.core → Sits key c log at draws j (seat_of size p)
-  alone c log at draws j size p same fits bare = record {
+  alone : (c : State) (log : List Recorded) (at : ℕ → ℕ) (counts : ℕ → Counts) (j size : ℕ) (p : Part) → size ≡ length (first_graph key) → PartFits key c log at counts j p → IsBare p.core → Sits key c log at counts j (seat_of size p)
+  alone c log at counts j size p same fits bare = record {
     part = fits;
     room = length-replicate {A = Option _} size None ∙ same;
     held = λ n own. absurd (true≢false (sym own ∙ bare n));
@@ -120,8 +122,8 @@ module _ (key : Start) where
       let at0 : get_elem? v.idle 0 ≡ some p = ap (λ (l : List Part). get_elem? l 0) is in let i0 = f.idle 0 p at0 in
       stays_as key s (cut s id left (seat_of (length v.held) p)) r to r.words r.homes
       (λ j u e on. ⊎_elim
-      (λ was. seats_stay (Sits key r.core r.log to r.draws) s.views id left
-      (λ _. moves key r.core r.log r.at to r.draws id id left (put_else r.at p.core.who n v.part.core.who (λ z. f.apart 0 p at0 (sym z)) ∙ f.part.place)
+      (λ was. seats_stay (Sits key r.core r.log to r.counts) s.views id left
+      (λ _. moves key r.core r.log r.at to r.counts id id left (put_else r.at p.core.who n v.part.core.who (λ z. f.apart 0 p at0 (sym z)) ∙ f.part.place)
       (λ k q there. put_else r.at p.core.who n q.core.who (λ z. let y = f.differ (suc k) 0 q p (later k q there) at0 z in omega arith) ∙ (f.idle (suc k) q (later k q there)).0.place)
       (record {
         part = f.part;
@@ -131,12 +133,12 @@ module _ (key : Start) where
         apart = λ k q there. f.apart (suc k) q (later k q there);
         differ = λ k l q t a b same. let y = f.differ (suc k) (suc l) q t (later k q a) (later l t b) same in omega arith;
       }))
-      (λ i d other there on'. let g = r.seats i d there on' in moves key r.core r.log r.at to r.draws i i d
+      (λ i d other there on'. let g = r.seats i d there on' in moves key r.core r.log r.at to r.counts i i d
       (put_else r.at p.core.who n d.part.core.who (λ z. other (sym g.part.place ∙ ap r.at z ∙ i0.0.place)) ∙ g.part.place)
       (λ k q there'. let h = (g.idle k q there').0.place in put_else r.at p.core.who n q.core.who (λ z. other (sym h ∙ ap r.at z ∙ i0.0.place)) ∙ h) g)
       j u was on)
-      (λ now. subst (λ (x : ℕ × Sight). Sits key r.core r.log to r.draws x.0 x.1) (λ i. (sym (now.0 ∙ length-set s.views id left) i, now.1 i))
-      (alone r.core r.log to r.draws n (length v.held) p f.room (moved key r.core r.log r.at to r.draws id n p (put_here r.at p.core.who n) i0.0) i0.1))
+      (λ now. subst (λ (x : ℕ × Sight). Sits key r.core r.log to r.counts x.0 x.1) (λ i. (sym (now.0 ∙ length-set s.views id left) i, now.1 i))
+      (alone r.core r.log to r.counts n (length v.held) p f.room (moved key r.core r.log r.at to r.counts id n p (put_here r.at p.core.who n) i0.0) i0.1))
       (at_end (set s.views id left) (seat_of (length v.held) p) u j e))
       (λ t small. dite (ℕ_discrete t p.core.who)
       (λ mine. let to_n : to t ≡ n = ap to mine ∙ put_here r.at p.core.who n in record {
@@ -156,17 +158,17 @@ module _ (key : Start) where
   splits id v p ps seated is s r at = (splits_on id v p ps seated is s r at).ruled
 
   -- the numbers of a seat that holds nothing
-  each_part : (c : State) (log : List Recorded) (at draws : ℕ → ℕ) (j : ℕ) (w : Sight) → Sits key c log at draws j w → IsBare w.part.core
-      → (i : ℕ) (p : Part) → get_elem? (w.part ∷ w.idle) i ≡ some p → PartFits key c log at draws j p × IsBare p.core
-  each_part c log at draws j w g bare zero p e = subst (λ (x : Part). PartFits key c log at draws j x × IsBare x.core) (some-injective w.part p e) (g.part, bare)
-  each_part c log at draws j w g bare (suc i) p e = g.idle i p e
+  each_part : (c : State) (log : List Recorded) (at : ℕ → ℕ) (counts : ℕ → Counts) (j : ℕ) (w : Sight) → Sits key c log at counts j w → IsBare w.part.core
+      → (i : ℕ) (p : Part) → get_elem? (w.part ∷ w.idle) i ≡ some p → PartFits key c log at counts j p × IsBare p.core
+  each_part c log at counts j w g bare zero p e = subst (λ (x : Part). PartFits key c log at counts j x × IsBare x.core) (some-injective w.part p e) (g.part, bare)
+  each_part c log at counts j w g bare (suc i) p e = g.idle i p e
 
-  apart_parts : (c : State) (log : List Recorded) (at draws : ℕ → ℕ) (j : ℕ) (w : Sight) → Sits key c log at draws j w
+  apart_parts : (c : State) (log : List Recorded) (at : ℕ → ℕ) (counts : ℕ → Counts) (j : ℕ) (w : Sight) → Sits key c log at counts j w
       → (i l : ℕ) (p q : Part) → get_elem? (w.part ∷ w.idle) i ≡ some p → get_elem? (w.part ∷ w.idle) l ≡ some q → p.core.who ≡ q.core.who → i ≡ l
-  apart_parts c log at draws j w g zero zero p q a b same = refl
-  apart_parts c log at draws j w g zero (suc l) p q a b same = absurd (g.apart l q b (sym same ∙ ap (λ (x : Part). x.core.who) (sym (some-injective w.part p a))))
-  apart_parts c log at draws j w g (suc i) zero p q a b same = absurd (g.apart i p a (same ∙ ap (λ (x : Part). x.core.who) (sym (some-injective w.part q b))))
-  apart_parts c log at draws j w g (suc i) (suc l) p q a b same = ap (λ (x : ℕ). suc x) (g.differ i l p q a b same)
+  apart_parts c log at counts j w g zero zero p q a b same = refl
+  apart_parts c log at counts j w g zero (suc l) p q a b same = absurd (g.apart l q b (sym same ∙ ap (λ (x : Part). x.core.who) (sym (some-injective w.part p a))))
+  apart_parts c log at counts j w g (suc i) zero p q a b same = absurd (g.apart i p a (same ∙ ap (λ (x : Part). x.core.who) (sym (some-injective w.part q b))))
+  apart_parts c log at counts j w g (suc i) (suc l) p q a b same = ap (λ (x : ℕ). suc x) (g.differ i l p q a b same)
 
   -- a seat that holds nothing lies idle in another
   pub joins_on : (id : ℕ) (v : Sight) (other : ℕ) (w : Sight) → v.seated ≡ true → w.seated ≡ true → IsBare w.part.core → (s : St) (r : Ruled key s) → get_elem? s.views id ≡ some v → other ≢ id → get_elem? (set s.views id (with_seat v w)) other ≡ some w
@@ -177,17 +179,17 @@ module _ (key : Start) where
       let stay : (t : ℕ) → r.at t ≡ id → to t ≡ id = λ t e. aimed_else other id r.at t (λ z. apart (sym z ∙ e)) ∙ e in
       let come : (t : ℕ) → r.at t ≡ other → to t ≡ id = λ t e. aimed_here other id r.at t e in
       let far : (t u : ℕ) → r.at t ≡ id → r.at u ≡ other → t ≢ u = λ t u a b e. apart (sym b ∙ ap r.at (sym e) ∙ a) in
-      let more = each_part r.core r.log r.at r.draws other w g bare in let spread = apart_parts r.core r.log r.at r.draws other w g in
+      let more = each_part r.core r.log r.at r.counts other w g bare in let spread = apart_parts r.core r.log r.at r.counts other w g in
       stays_as key s (record { words = s.words; homes = s.homes; views = set (set s.views id both) other nobody }) r to r.words r.homes
-      (seats_stay (Sits key r.core r.log to r.draws) (set s.views id both) other nobody (λ e. absurd (cc))
-      (λ j d ne e on'. seats_stay (λ j d. j ≢ other → Sits key r.core r.log to r.draws j d) s.views id both
+      (seats_stay (Sits key r.core r.log to r.counts) (set s.views id both) other nobody (λ e. absurd (cc))
+      (λ j d ne e on'. seats_stay (λ j d. j ≢ other → Sits key r.core r.log to r.counts j d) s.views id both
       (λ _ _. record {
-        part = moved key r.core r.log r.at to r.draws id id v.part (stay v.part.core.who f.part.place) f.part;
+        part = moved key r.core r.log r.at to r.counts id id v.part (stay v.part.core.who f.part.place) f.part;
         room = f.room;
         held = f.held;
         idle = λ k p e'. ⊎_elim
-            (λ z. let i = f.idle k p z in (moved key r.core r.log r.at to r.draws id id p (stay p.core.who i.0.place) i.0, i.1))
-            (λ z. let i = more z.0 p z.2 in (moved key r.core r.log r.at to r.draws other id p (come p.core.who i.0.place) i.0, i.1))
+            (λ z. let i = f.idle k p z in (moved key r.core r.log r.at to r.counts id id p (stay p.core.who i.0.place) i.0, i.1))
+            (λ z. let i = more z.0 p z.2 in (moved key r.core r.log r.at to r.counts other id p (come p.core.who i.0.place) i.0, i.1))
             (at_both v.idle (w.part ∷ w.idle) p k e');
         apart = λ k p e'. ⊎_elim (λ z. f.apart k p z) (λ z. λ same. far v.part.core.who p.core.who f.part.place (more z.0 p z.2).0.place (sym same)) (at_both v.idle (w.part ∷ w.idle) p k e');
         differ = λ k l p q a b same. ⊎_elim
@@ -195,7 +197,7 @@ module _ (key : Start) where
             (λ y. ⊎_elim (λ z. absurd (far q.core.who p.core.who (f.idle l q z).0.place (more y.0 p y.2).0.place (sym same))) (λ z. y.1 ∙ ap (λ (x : ℕ). n + x) (spread y.0 z.0 p q y.2 z.2 same) ∙ sym z.1) (at_both v.idle (w.part ∷ w.idle) q l b))
             (at_both v.idle (w.part ∷ w.idle) p k a);
       })
-      (λ i d' ne' e' on'' far_off. let h = r.seats i d' e' on'' in moves key r.core r.log r.at to r.draws i i d'
+      (λ i d' ne' e' on'' far_off. let h = r.seats i d' e' on'' in moves key r.core r.log r.at to r.counts i i d'
       (aimed_else other id r.at d'.part.core.who (λ z. far_off (sym h.part.place ∙ z)) ∙ h.part.place)
       (λ k q e''. let y = (h.idle k q e'').0.place in aimed_else other id r.at q.core.who (λ z. far_off (sym y ∙ z)) ∙ y) h)
       j d e on' ne))
@@ -234,21 +236,21 @@ module _ (key : Start) (some_seat : 1 ≤ key.seats) (few : key.seats < 17) (gra
   abbrev first_core : State
   first_core = start key.kind 64 16
 
-  first_fits : (t : ℕ) → t < key.seats → PartFits key first_core [] (λ _. 0) (λ _. 0) 0 (first_part key.kind t)
-  first_fits t small = record { place = refl; number = small; knows = knows_start key.kind 64 16 t (omega arith) (omega arith); drew = refl; own = refl }
+  first_fits : (t : ℕ) → t < key.seats → PartFits key first_core [] (λ _. 0) (λ _. no_counts) 0 (first_part key.kind t)
+  first_fits t small = record { place = refl; number = small; knows = knows_start key.kind 64 16 t (omega arith) (omega arith); counted = refl; own = refl }
 
-  first_sits : Sits key first_core [] (λ _. 0) (λ _. 0) 0 (first_sight key)
+  first_sits : Sits key first_core [] (λ _. 0) (λ _. no_counts) 0 (first_sight key)
   first_sits = record {
     part = first_fits (key.seats - 1) (omega arith);
     room = length-replicate {A = Option _} (length (first_graph key)) None;
     held = λ n own. absurd (true≢false (sym own ∙ bare_first key.kind (key.seats - 1) n));
-    idle = λ k p e. let t = first_at key.kind 0 (key.seats - 1) k p e in subst (λ (q : Part). PartFits key first_core [] (λ _. 0) (λ _. 0) 0 q × IsBare q.core) (sym t.0) (first_fits (0 + k) (let h = t.1 in omega arith), bare_first key.kind (0 + k));
+    idle = λ k p e. let t = first_at key.kind 0 (key.seats - 1) k p e in subst (λ (q : Part). PartFits key first_core [] (λ _. 0) (λ _. no_counts) 0 q × IsBare q.core) (sym t.0) (first_fits (0 + k) (let h = t.1 in omega arith), bare_first key.kind (0 + k));
     apart = λ k p e is. let t = first_at key.kind 0 (key.seats - 1) k p e in let h = t.1 in let w = ap (λ (q : Part). q.core.who) t.0 in omega arith;
     differ = λ k l p q a b is. let w = ap (λ (x : Part). x.core.who) (first_at key.kind 0 (key.seats - 1) k p a).0 in let y = ap (λ (x : Part). x.core.who) (first_at key.kind 0 (key.seats - 1) l q b).0 in omega arith;
   }
 
-  first_seats : (j : ℕ) (v : Sight) → get_elem? (first_sight key ∷ []) j ≡ some v → Sits key first_core [] (λ _. 0) (λ _. 0) j v
-  first_seats zero v e = subst (Sits key first_core [] (λ _. 0) (λ _. 0) 0) (some-injective (first_sight key) v e) first_sits
+  first_seats : (j : ℕ) (v : Sight) → get_elem? (first_sight key ∷ []) j ≡ some v → Sits key first_core [] (λ _. 0) (λ _. no_counts) j v
+  first_seats zero v e = subst (Sits key first_core [] (λ _. 0) (λ _. no_counts) 0) (some-injective (first_sight key) v e) first_sits
   first_seats (suc j) v e = absurd (cc)
 
   first_there : (t : ℕ) → t < key.seats → IsThere (first_sight key ∷ []) 0 t
@@ -265,7 +267,7 @@ module _ (key : Start) (some_seat : 1 ≤ key.seats) (few : key.seats < 17) (gra
     core = first_core;
     log = [];
     at = λ _. 0;
-    draws = λ _. 0;
+    counts = λ _. no_counts;
     reached = at_start key.kind 64 16;
     kind = refl;
     locks = refl;
@@ -277,6 +279,7 @@ module _ (key : Start) (some_seat : 1 ≤ key.seats) (few : key.seats < 17) (gra
       owners = λ n l. all_zero 656 (8 * n);
       guards = λ n l. all_zero 656 (8 * n + 1);
       signs = λ t l. all_zero 656 (512 + 8 * t);
+      cancels = λ t l. all_zero 656 (512 + 8 * t + 1);
       drawn = all_zero 656 640;
       front = all_zero 656 648;
     };
@@ -291,6 +294,8 @@ module _ (key : Start) (some_seat : 1 ≤ key.seats) (few : key.seats < 17) (gra
       size = refl;
       front = refl;
       stamps = sym (total_zero 16);
+      balanced = λ t u. let z = one_of_nobody t u in omega arith;
+      strangers = λ t big. refl;
       few = λ t. omega arith;
       brief = λ t. omega arith;
       callers = λ k x e. absurd (cc);

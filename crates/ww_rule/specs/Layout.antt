@@ -12,6 +12,10 @@ guard_at n = 8 * n + 1
 abbrev pub sign_at : ℕ → ℕ
 sign_at s = 512 + 8 * s
 
+-- beside the sign, since a waiter looks for both
+abbrev pub cancel_at : ℕ → ℕ
+cancel_at s = 512 + 8 * s + 1
+
 abbrev pub stamp_at : ℕ
 stamp_at = 640
 

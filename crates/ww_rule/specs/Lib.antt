@@ -5,5 +5,6 @@ pub mod Out
 pub mod Guards
 pub mod Waiting
 pub mod Signs
+pub mod Cancels
 pub mod Homes
 pub mod Records

@@ -1,6 +1,6 @@
 -- The rule of the table: there is a reached state of the core that the words, the lists and nodes at home, and the
 -- views show.
-use Rattle.std.specs.Prelude.{ℕ, zero, suc, ◌≡◌, ◌≢◌, ◌+◌, ◌-◌, ◌^◌, ◌<◌, ◌≤◌, ◌⊎◌, true, List, [], ◌∷◌, length, map, replicate, slice_index, Some, None}
+use Rattle.std.specs.Prelude.{ℕ, zero, suc, ◌≡◌, ◌≢◌, ◌+◌, ◌-◌, ◌^◌, ◌<◌, ◌≤◌, ◌⊎◌, ◌==◌, true, List, [], ◌∷◌, length, map, replicate, slice_index, Some, None}
 use mathlib.Core.Option.{some}
 use mathlib.Core.Option as maybe
 use lib.ListN.{get_elem?}
@@ -12,7 +12,8 @@ use Rattle.ww_queue.specs.Queue.{StandsNot}
 use Rattle.ww_model.specs.declared.state.Holder.{Holder}
 use Rattle.ww_model.specs.declared.state.Holder.TheVariants.{Taken}
 use Rattle.ww_model.specs.declared.event.Event.{Event}
-use Rattle.ww_model.specs.State.{State}
+use Rattle.ww_model.specs.State.{State, one_if}
+use Rattle.ww_model.specs.Interrupts.{one_of}
 use Rattle.ww_model.specs.Event.{Possible, after}
 use Rattle.ww_model.specs.Run.{Reached}
 use Rattle.ww_plain.specs.declared.node.Node.{Node}
@@ -23,10 +24,11 @@ use Rattle.ww_model.specs.State.{word_of}
 use Rattle.ww_view.specs.View.{Knows, IsBare, owns, first_view}
 use Rattle.ww_rule.specs.declared.cells.Cell.{Cell}
 use Rattle.ww_rule.specs.declared.cells.Cell.TheVariants.{Content, Line}
+use Rattle.ww_rule.specs.declared.cells.Counts.{Counts}
 use Rattle.ww_rule.specs.declared.cells.Part.{Part}
 use Rattle.ww_rule.specs.declared.cells.Sight.{Sight}
 use Rattle.ww_rule.specs.declared.cells.Start.{Start}
-use Rattle.ww_rule.specs.Layout.{owner_at, guard_at, sign_at, stamp_at, front_at, words_in_all, list_at, slots_in_all}
+use Rattle.ww_rule.specs.Layout.{owner_at, guard_at, sign_at, cancel_at, stamp_at, front_at, words_in_all, list_at, slots_in_all}
 
 -- the table as plain data
 abbrev pub St : Type 0
@@ -55,6 +57,7 @@ pub record Shown (c : State) (words : List ℕ) : Type 0 where
   pub owners : (n : ℕ) → n < 64 → slice_index words (owner_at n) ≡ packed (word_of c n)
   pub guards : (n : ℕ) → n < 64 → slice_index words (guard_at n) ≡ c.guard n
   pub signs : (s : ℕ) → s < 16 → slice_index words (sign_at s) ≡ c.sign s
+  pub cancels : (s : ℕ) → s < 16 → slice_index words (cancel_at s) ≡ c.cancel s
   pub drawn : slice_index words stamp_at ≡ c.drawn
   pub front : slice_index words front_at ≡ c.commits
 
@@ -64,32 +67,48 @@ pub record AtHome (graph : List Node) (owner : ℕ → Holder) (queue : ℕ → 
   pub nodes : (n : ℕ) → n < length graph → ((s : ℕ) → owner n ≢ Taken s) → get_elem? homes n ≡ some (some (Content (node_at graph n)))
   pub lists : (n : ℕ) → n < 64 → guard n ≡ 0 → get_elem? homes (list_at n) ≡ some (some (Line (queue n)))
 
+-- how often a seat is in the list
+abbrev pub times : ℕ → List ℕ → ℕ
+times s [] = 0
+times s (t ∷ ts) = one_if (t == s) + times s ts
+
+-- each cancel that one seat set for another was heeded by it, or is pending
+abbrev pub Balanced : (ℕ → ℕ) → (ℕ → Counts) → Type 0
+Balanced cancel counts = (s v : ℕ) →
+    times v (counts s).cancelled ≡ times s (counts v).heeded + one_of s v (cancel v)
+
+-- what is counted of a number that did nothing yet
+abbrev pub no_counts : Counts
+no_counts = record { draws = 0; cancelled = []; heeded = [] }
+
 -- The commits so far are a legal history, as many as the front word says. Each seat drew and committed fewer than 2^32
--- times, and the draws make up the stamp word.
-pub record Counted (key : Start) (drawn commits : ℕ) (log : List Recorded) (draws : ℕ → ℕ) : Type 0 where
+-- times, and the draws make up the stamp word. Nothing is counted of a number that no seat has.
+pub record Counted (key : Start) (drawn commits : ℕ) (cancel : ℕ → ℕ) (log : List Recorded) (counts : ℕ → Counts) : Type 0 where
   pub legal : IsLegal (first_graph key) log
   pub graph : IsGraph (last_graph (first_graph key) log)
   pub size : length (last_graph (first_graph key) log) ≡ length (first_graph key)
   pub front : commits ≡ length log
-  pub stamps : drawn ≡ total 16 draws
-  pub few : (t : ℕ) → draws t < 2 ^ 32
+  pub stamps : drawn ≡ total 16 (λ t. (counts t).draws)
+  pub balanced : Balanced cancel counts
+  pub strangers : (t : ℕ) → key.seats ≤ t → counts t ≡ no_counts
+  pub few : (t : ℕ) → (counts t).draws < 2 ^ 32
   pub brief : (t : ℕ) → length (part_of t log) < 2 ^ 32
   pub callers : (k : ℕ) (x : Recorded) → get_elem? log k ≡ some x → x.caller < key.seats
 
 -- what the view j says of a seat's number
-pub record PartFits (key : Start) (c : State) (log : List Recorded) (at draws : ℕ → ℕ) (j : ℕ) (p : Part) : Type 0 where
+pub record PartFits (key : Start) (c : State) (log : List Recorded) (at : ℕ → ℕ) (counts : ℕ → Counts) (j : ℕ) (p : Part) : Type 0 where
   pub place : at p.core.who ≡ j
   pub number : p.core.who < key.seats
   pub knows : Knows c p.core
-  pub drew : p.draws ≡ draws p.core.who
+  pub counted : p.counts ≡ counts p.core.who
   pub own : own_of p.own ≡ part_of p.core.who log
 
 -- What the view j says: of its own number, of the nodes that it holds, and of the numbers that lie idle in it.
-pub record Sits (key : Start) (c : State) (log : List Recorded) (at draws : ℕ → ℕ) (j : ℕ) (v : Sight) : Type 0 where
-  pub part : PartFits key c log at draws j v.part
+pub record Sits (key : Start) (c : State) (log : List Recorded) (at : ℕ → ℕ) (counts : ℕ → Counts) (j : ℕ) (v : Sight) : Type 0 where
+  pub part : PartFits key c log at counts j v.part
   pub room : length v.held ≡ length (first_graph key)
   pub held : (n : ℕ) → owns v.part.core n ≡ true → get_elem? v.held n ≡ some (Some (node_at (last_graph (first_graph key) log) n))
-  pub idle : (k : ℕ) (p : Part) → get_elem? v.idle k ≡ some p → PartFits key c log at draws j p × IsBare p.core
+  pub idle : (k : ℕ) (p : Part) → get_elem? v.idle k ≡ some p → PartFits key c log at counts j p × IsBare p.core
   pub apart : (k : ℕ) (p : Part) → get_elem? v.idle k ≡ some p → p.core.who ≢ v.part.core.who
   pub differ : (k l : ℕ) (p q : Part) → get_elem? v.idle k ≡ some p → get_elem? v.idle l ≡ some q → p.core.who ≡ q.core.who → k ≡ l
 
@@ -115,7 +134,7 @@ pub record Ruled (key : Start) (s : St) : Type 0 where
   pub core : State
   pub log : List Recorded
   pub at : ℕ → ℕ
-  pub draws : ℕ → ℕ
+  pub counts : ℕ → Counts
   pub reached : Reached core
   pub kind : core.kind ≡ key.kind
   pub locks : core.locks ≡ 64
@@ -124,8 +143,8 @@ pub record Ruled (key : Start) (s : St) : Type 0 where
   pub strangers : (t : ℕ) → key.seats ≤ t → IsStranger core t
   pub words : Shown core s.words
   pub homes : AtHome (last_graph (first_graph key) log) core.owner core.queue core.guard s.homes
-  pub counted : Counted key core.drawn core.commits log draws
-  pub seats : (j : ℕ) (v : Sight) → get_elem? s.views j ≡ some v → v.seated ≡ true → Sits key core log at draws j v
+  pub counted : Counted key core.drawn core.commits core.cancel log counts
+  pub seats : (j : ℕ) (v : Sight) → get_elem? s.views j ≡ some v → v.seated ≡ true → Sits key core log at counts j v
   pub there : (t : ℕ) → t < key.seats → IsThere s.views (at t) t
 
 -- the table goes from s to s' by an event of the core that it shows, and these are the commits then
@@ -149,7 +168,7 @@ pub record Stays (key : Start) (s : St) (r : Ruled key s) (s' : St) : Type 0 whe
 
 -- a number that did nothing yet
 abbrev pub first_part : Kind → ℕ → Part
-first_part kind s = record { core = first_view kind s; draws = 0; own = [] }
+first_part kind s = record { core = first_view kind s; counts = no_counts; own = [] }
 
 -- the numbers s, s + 1 and so on, n of them
 abbrev pub first_parts : Kind → ℕ → ℕ → List Part

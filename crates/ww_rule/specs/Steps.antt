@@ -37,10 +37,10 @@ pub record MayDraw (p : Part) : Type 0 where
   pub away : IsAway p.core
   pub no_context : p.core.stamp ≡ 0
   pub bare : IsBare p.core
-  pub fewer : p.draws + 1 < 2 ^ 32
+  pub fewer : p.counts.draws + 1 < 2 ^ 32
 
 abbrev pub drawing : Sight → ℕ → Sight
-drawing v stamp = record v { part = record (v.part) { core = begun v.part.core stamp; draws = v.part.draws + 1 } }
+drawing v stamp = record v { part = record (v.part) { core = begun v.part.core stamp; counts = record (v.part.counts) { draws = v.part.counts.draws + 1 } } }
 
 abbrev pub draws_to : Step Cell → Sat → ℕ → Sat → Type 0
 draws_to st m found m' = (found < 2 ^ 56 - 1) × (m' ≡ (drawing m.0 (found + 1), m.1))

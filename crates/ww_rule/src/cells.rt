@@ -44,12 +44,23 @@ pub enum Cell {
     Line(Waiters),
 }
 
-/// What is kept of a seat's number for ever: what it knows of the core, how often it drew a stamp, and all its commits
+/// What is kept of a seat's number for ever: what it knows of the core, what is counted of it, and all its commits
 /// with their places. No value of it is made.
 pub struct Part {
     pub core: View,
-    pub draws: u64,
+    pub counts: Counts,
     pub own: LinkedList<(u64, Record)>,
+}
+
+/// What is counted of a seat's number for ever. The lists say of each other seat how often, and have no bound to keep,
+/// since no value of this is made.
+pub struct Counts {
+    /// How often it drew a stamp.
+    pub draws: u64,
+    /// The seats whose cancel it set, the last one first.
+    pub cancelled: LinkedList<u8>,
+    /// The seats whose cancel it heeded, the last one first.
+    pub heeded: LinkedList<u8>,
 }
 
 /// What the table has of a seat. No value of it is made.

@@ -1,6 +1,6 @@
 //! Which word is which: see `specs/Layout.antt`.
 ghost use Rattle.std.specs.Prelude.{◌≡◌, ◌<◌};
-ghost use Rattle.ww_rule.specs.Layout.{owner_at, guard_at, sign_at, list_at};
+ghost use Rattle.ww_rule.specs.Layout.{owner_at, guard_at, sign_at, cancel_at, list_at};
 
 /// How many words there are, most of them unused: they keep the others on cache lines of their own.
 pub const WORDS: usize = 656;
@@ -36,6 +36,14 @@ pub fn sign_word(seat: u8) -> usize
     ensures { result ≡ sign_at seat }
 {
     512 + 8 * usize::from(seat)
+}
+
+/// The cancel word of a seat, on the cache line of its sign word: a waiter looks for both.
+pub fn cancel_word(seat: u8) -> usize
+    requires { seat < 16 }
+    ensures { result ≡ cancel_at seat }
+{
+    512 + 8 * usize::from(seat) + 1
 }
 
 /// The slot of the wait list of a lock.

@@ -1,5 +1,5 @@
-//! What the steps at guards, inside them and on signs tell their caller: the definitions are in `specs/Guards.antt`,
-//! `specs/Waiting.antt` and `specs/Signs.antt`.
+//! What the steps at guards, inside them, on signs and on cancels tell their caller: the definitions are in
+//! `specs/Guards.antt`, `specs/Waiting.antt`, `specs/Signs.antt` and `specs/Cancels.antt`.
 use crate::cells::{Cell, Sight};
 use atomic_table::Play;
 
@@ -89,4 +89,28 @@ impl Play<Cell, Sight> for Clear {
     ghost use Rattle.ww_rule.specs.Signs.{clears_to};
 
     ghost then = { clears_to };
+}
+
+pub struct SetCancel;
+
+impl Play<Cell, Sight> for SetCancel {
+    ghost use Rattle.ww_rule.specs.Cancels.{cancels_to};
+
+    ghost then = { cancels_to };
+}
+
+pub struct Heed;
+
+impl Play<Cell, Sight> for Heed {
+    ghost use Rattle.ww_rule.specs.Cancels.{heeds_to};
+
+    ghost then = { heeds_to };
+}
+
+pub struct Leave;
+
+impl Play<Cell, Sight> for Leave {
+    ghost use Rattle.ww_rule.specs.Cancels.{leaves_to};
+
+    ghost then = { leaves_to };
 }

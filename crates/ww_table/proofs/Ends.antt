@@ -1,5 +1,5 @@
 -- What a closed table was: all seats hold nothing, so all nodes are at home, and the records are the history.
-use Rattle.std.proofs.Common.{◌≡◌, ◌≢◌, ℕ, zero, suc, ◌<◌, true≢false, List, [], ◌∷◌, ◌++◌, length, take, sym, refl, ap, ◌∙◌, subst, ⊎_elim, arith, Option}
+use Rattle.std.proofs.Common.{◌≡◌, ◌≢◌, ℕ, zero, suc, ◌+◌, ◌<◌, ◌≤◌, true≢false, List, [], ◌∷◌, ◌++◌, length, take, sym, refl, ap, ◌∙◌, subst, ⊎_elim, arith, Option}
 use mathlib.Core.Logic.{dite}
 use mathlib.Core.Option.{some, some-injective}
 use native.Mathlib.Decide.{dec_le}
@@ -8,6 +8,7 @@ use Rattle.atomic_table.specs.declared.shared.Seat.{Seat}
 use Rattle.atomic_table.specs.Seated.{TableId}
 use Rattle.ww_queue.specs.Queue.{Has}
 use Rattle.ww_model.specs.declared.state.Holder.TheVariants.{Taken}
+use Rattle.ww_model.specs.Interrupts.{one_of}
 use Rattle.ww_plain.specs.declared.node.Node.{Node}
 use Rattle.ww_plain.specs.declared.history.Record.{Record}
 use Rattle.ww_plain.specs.Graph.{node_at}
@@ -18,7 +19,8 @@ use Rattle.ww_rule.specs.declared.cells.Part.{Part}
 use Rattle.ww_rule.specs.declared.cells.Sight.{Sight}
 use Rattle.ww_rule.specs.declared.cells.Start.{Start}
 use Rattle.ww_table.specs.declared.seat.Seat16.{Seat16}
-use Rattle.ww_rule.specs.Rule.{St, first_graph, own_of, PartFits, Ruled}
+use Rattle.ww_rule.specs.declared.cells.Counts.{Counts}
+use Rattle.ww_rule.specs.Rule.{St, first_graph, own_of, times, PartFits, Ruled}
 use Rattle.ww_rule.specs.Records.{somes}
 use Rattle.ww_table.specs.Closed.{HasCome, HaveAllCome, IsClosed, IsGathered, parts_of}
 use Rattle.ww_table.proofs.Closing.{has_all, laid_is}
@@ -39,8 +41,8 @@ list_same (x ∷ xs) (y ∷ ys) long same = λ i. some-injective x y (same 0 (om
 
 module _ (key : Start) (s : St) (r : Ruled key s) (table : TableId) (id : ℕ) (token : Seat Cell Sight) (seats : List Seat16) (count : ℕ) (places : List (Option Record)) (here : get_elem? s.views id ≡ some token.me.0)
     (come : HaveAllCome table key seats) (g : IsGathered table seats count token places) where
-  fits : (p : Part) → Has (parts_of token.me.0) p → PartFits key r.core r.log r.at r.draws id p
-  fits p h = let sits = r.seats id token.me.0 here g.seated in ⊎_elim (λ is. subst (PartFits key r.core r.log r.at r.draws id) (sym is) sits.part) (λ more. let t = has_at token.me.0.idle p more in (sits.idle t.0 p t.1).0) h
+  fits : (p : Part) → Has (parts_of token.me.0) p → PartFits key r.core r.log r.at r.counts id p
+  fits p h = let sits = r.seats id token.me.0 here g.seated in ⊎_elim (λ is. subst (PartFits key r.core r.log r.at r.counts id) (sym is) sits.part) (λ more. let t = has_at token.me.0.idle p more in (sits.idle t.0 p t.1).0) h
 
   came : (t : Seat16) → Has seats t → HasCome table t
   came t h = has_all (HasCome table) seats t come.each h
@@ -73,6 +75,18 @@ module _ (key : Start) (s : St) (r : Ruled key s) (table : TableId) (id : ℕ) (
   pub content_there : (slots : List Cell) → ((k : ℕ) (y : Cell) → get_elem? s.homes k ≡ some (some y) → get_elem? slots k ≡ some y) → (n : ℕ) → n < length (first_graph key) → (x : Node) × (get_elem? slots n ≡ some (Content x))
   content_there slots final n low = let size = r.counted.size in let x = node_at (last_graph (first_graph key) r.log) n in (x, final n (Content x) (r.homes.nodes n (omega arith) (nobody_owns n)))
 
+  counts_are : (s : Seat16) → Has seats s → s.seat.me.0.part.counts ≡ r.counts s.who
+  counts_are s has = (fits s.seat.me.0.part (g.all s has)).counted ∙ ap r.counts (came s has).seated.who
+
+  balanced : (s t : Seat16) → Has seats s → Has seats t → times t.who s.seat.me.0.part.counts.cancelled ≡ times s.who t.seat.me.0.part.counts.heeded + one_of s.who t.who (r.core.cancel t.who)
+  balanced s t hs ht = ap (λ (k : Counts). times t.who k.cancelled) (counts_are s hs) ∙ r.counted.balanced s.who t.who
+      ∙ ap (λ (k : Counts). times s.who k.heeded + one_of s.who t.who (r.core.cancel t.who)) (sym (counts_are t ht))
+
+  -- a number that no seat has set no cancel, so none of its was heeded
+  strangers : (k : ℕ) (t : Seat16) → key.seats ≤ k → Has seats t → times k t.seat.me.0.part.counts.heeded ≡ 0
+  strangers k t big has = let b = r.counted.balanced k t.who in let none = ap (λ (c : Counts). times t.who c.cancelled) (r.counted.strangers k big) in
+      let same = ap (λ (c : Counts). times k c.heeded) (counts_are t has) in omega arith
+
   pub closes : (records : List Record) (nodes : List Node) → records ≡ somes places → nodes ≡ last_graph (first_graph key) r.log → IsClosed key seats records nodes
   closes records nodes same are = let log : history_of records ≡ r.log = ap history_of same ∙ records_are in record {
     legal = subst (IsLegal (first_graph key)) (sym log) r.counted.legal;
@@ -80,6 +94,9 @@ module _ (key : Start) (s : St) (r : Ruled key s) (table : TableId) (id : ℕ) (
     callers = λ k x e. r.counted.callers k x (ap (λ l. get_elem? l k) (sym log) ∙ e);
     parts = λ t h. let c = came t h in ap (part_of t.who) log ∙ ap (λ (w : ℕ). part_of w r.log) (sym c.seated.who) ∙ sym (fits t.seat.me.0.part (g.all t h)).own ∙ ap own_of (sym c.seated.records);
     few = seats_few;
+    pending = r.core.cancel;
+    balanced = balanced;
+    strangers = strangers;
   }
 
 -- a slice that was lent and came back whole

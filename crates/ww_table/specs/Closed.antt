@@ -1,5 +1,5 @@
 -- What closing a table asks, and what it gives.
-use Rattle.std.specs.Prelude.{ℕ, ◌≡◌, ◌<◌, ◌≤◌, ◌∷◌, [], true, List, length, Option, Some, vec_len, vec_capacity}
+use Rattle.std.specs.Prelude.{ℕ, ◌≡◌, ◌<◌, ◌≤◌, ◌+◌, ◌∷◌, [], true, List, length, Option, Some, vec_len, vec_capacity}
 use mathlib.Core.Option.{some}
 use lib.ListN.{get_elem?}
 use Rattle.std.specs.List.{AllByRecursion}
@@ -16,7 +16,8 @@ use Rattle.ww_rule.specs.declared.cells.Sight.{Sight}
 use Rattle.ww_rule.specs.declared.cells.Start.{Start}
 use Rattle.ww_table.specs.declared.seat.Seat16.{Seat16}
 use Rattle.ww_table.specs.declared.close.Rooms.{Rooms}
-use Rattle.ww_rule.specs.Rule.{first_graph, own_of}
+use Rattle.ww_model.specs.Interrupts.{one_of}
+use Rattle.ww_rule.specs.Rule.{first_graph, own_of, times}
 use Rattle.ww_rule.specs.Records.{AreFree}
 use Rattle.ww_table.specs.Seat.{IsSeated}
 
@@ -39,6 +40,11 @@ pub record IsClosed (key : Start) (seats : List Seat16) (records : List Record) 
   pub callers : (k : ℕ) (r : Recorded) → get_elem? (history_of records) k ≡ some r → r.caller < key.seats
   pub parts : (s : Seat16) → Has seats s → part_of s.who (history_of records) ≡ own_of s.records.items
   pub few : length seats ≡ key.seats
+  -- each cancel that one seat set for another was heeded, or is pending: of each seat one at most
+  pub pending : ℕ → ℕ
+  pub balanced : (s t : Seat16) → Has seats s → Has seats t → times t.who s.seat.me.0.part.counts.cancelled ≡ times s.who t.seat.me.0.part.counts.heeded + one_of s.who t.who (pending t.who)
+  -- and nobody heeded a cancel of a number that no seat has
+  pub strangers : (k : ℕ) (t : Seat16) → key.seats ≤ k → Has seats t → times k t.seat.me.0.part.counts.heeded ≡ 0
 
 -- ---- on the way
 

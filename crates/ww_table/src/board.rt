@@ -4,7 +4,7 @@ ghost use Rattle.ww_rule.specs.Rule.{first_graph};
 
 use atomic_table::Table;
 use std::alloc::Global;
-use ww_rule::layout::{FRONT, STAMP, guard_word, owner_word, sign_word};
+use ww_rule::layout::{FRONT, STAMP, cancel_word, guard_word, owner_word, sign_word};
 use ww_rule::{Cell, Sight, Start, Words};
 
 /// A table of 64 locks and 16 seats, whatever the graph's size.
@@ -29,16 +29,18 @@ impl Board {
     }
 
     /// Reads one word, for tests: a seat at work reads by its steps alone. No clause says what it has. The words are
-    /// numbered: owner words from 0, guards from 64, signs from 128, the stamp word 144, the front word 145.
+    /// numbered: owner words from 0, guards from 64, signs from 128, the stamp word 144, the front word 145, cancels
+    /// from 146.
     pub fn peek(&self, word: u8) -> u64
-        requires { word < 146 }
+        requires { word < 162 }
     {
         self.table.shared.peek(match word {
             0..=63 => owner_word(word),
             64..=127 => guard_word(word - 64),
             128..=143 => sign_word(word - 128),
             144 => STAMP,
-            _ => FRONT,
+            145 => FRONT,
+            _ => cancel_word(word - 146),
         })
     }
 }

@@ -4,6 +4,7 @@
 #![tactic(auto)]
 
 mod board;
+mod cancels;
 mod close;
 mod guards;
 mod make;

@@ -4,7 +4,8 @@ ghost use Rattle.ww_queue.specs.declared.entry.Entry.{Entry};
 ghost use Rattle.ww_queue.specs.Queue.{left};
 ghost use Rattle.ww_queue.specs.Rules.{must_die, owed_signs};
 ghost use Rattle.ww_model.specs.State.{waiting};
-ghost use Rattle.ww_view.specs.Word.{given_word};
+ghost use Rattle.ww_word.specs.Owner.{IsValid};
+ghost use Rattle.ww_view.specs.Word.{given_word, rest_word};
 ghost use Rattle.ww_rule.specs.declared.cells.Cell.TheVariants.{Line};
 ghost use Rattle.ww_rule.specs.Layout.{list_at};
 ghost use Rattle.ww_table.specs.Seat.{IsSeatOf, size_of};
@@ -101,6 +102,24 @@ impl Seat16 {
     {
         let slot = self.bring_list(lock);
         flag_there(&mut self.seat, &board.table.shared, slot, self.who)
+    }
+
+    /// The owner word once the seat has gone, by the one that it saw: without flags if nobody waits then.
+    pub(crate) fn owner_left(&mut self, board: &Board, lock: u8, seen: Owner) -> Owner
+        requires seat { IsSeatOf board.now self.old }
+        requires lock { lock < size_of board.now }
+        requires valid { IsValid seen }
+        requires list { slot_of self.old.seat.me.1 (list_at lock) ≡ Some (Line self.old.seat.me.0.part.core.list) }
+        ensures seat { IsSeatOf board.now self.new }
+        ensures read { HasListOnTop self.old.seat.me lock self.new.seat.me }
+        ensures owner { result ≡ rest_word (left self.old.seat.me.0.part.core.list self.old.seat.me.0.part.core.who) seen }
+        ensures valid { IsValid result }
+        ensures same { self.new ≡ record self.old { seat = self.new.seat; order = self.new.order } }
+    {
+        if self.flag_left(board, lock) == 0 {
+            return Owner { flags: 0, ..seen };
+        }
+        seen
     }
 
     /// Whose the lock is once it is given back: the first waiter's if that was asked for, else nobody's.

@@ -8,8 +8,8 @@ ghost use Rattle.ww_model.specs.State.{any_below};
 ghost use Rattle.ww_plain.specs.declared.node.Node.{Node};
 ghost use Rattle.ww_plain.specs.Graph.{IsNodeOf};
 ghost use Rattle.ww_view.specs.View.{owns};
-ghost use Rattle.ww_view.specs.May.{MayAsk, MayDie, MayGive, MayJoin, MayTake};
-ghost use Rattle.ww_view.specs.Made.{died, queued, taken};
+ghost use Rattle.ww_view.specs.May.{MayAsk, MayDie, MayGive, MayJoin, MayStop, MayTake};
+ghost use Rattle.ww_view.specs.Made.{died, interrupted, queued, taken};
 ghost use Rattle.ww_rule.specs.declared.cells.Cell.{Cell};
 ghost use Rattle.ww_rule.specs.declared.cells.Cell.TheVariants.{Content, Line};
 ghost use Rattle.ww_rule.specs.Layout.{list_at};
@@ -17,6 +17,7 @@ ghost use Rattle.ww_table.specs.Seat.{IsSeatOf, size_of};
 ghost use Rattle.ww_rule.specs.Out.{AreOthers, slot_of};
 ghost use Rattle.ww_rule.specs.Guards.{AreSeats, lost};
 ghost use Rattle.ww_rule.specs.Waiting.{IsOut, joining, taking_inside, giving_inside, asking, dying};
+ghost use Rattle.ww_rule.specs.Cancels.{stopping};
 
 use crate::board::Board;
 use crate::seat::Seat16;
@@ -24,7 +25,7 @@ use ww_queue::Entry;
 use ww_rule::bring;
 use ww_rule::layout::{list_slot, owner_word};
 use ww_rule::lists::{join_list, leave_list};
-use ww_rule::plays_inside::{Ask, Die, Give, Join, Take};
+use ww_rule::plays_inside::{Ask, Die, Give, Join, Leave, Take};
 use ww_word::{HANDOFF, Owner, WAITERS, pack};
 
 impl Seat16 {
@@ -126,15 +127,38 @@ impl Seat16 {
         ensures died { result ≡ true → (others : List (ℕ × Cell)) × AreOthers self.old.seat.me.1 (list_at lock) (Line self.old.seat.me.0.part.core.list) others × (self.new.seat.me ≡ (dying self.old.seat.me.0 seen, (list_at lock, Line (died self.old.seat.me.0.part.core seen).list) ∷ others)) }
         ensures lost { result ≡ false → (others : List (ℕ × Cell)) × AreOthers self.old.seat.me.1 (list_at lock) (Line self.old.seat.me.0.part.core.list) others × (self.new.seat.me ≡ (lost self.old.seat.me.0, (list_at lock, Line self.old.seat.me.0.part.core.list) ∷ others)) }
     {
-        let is_last = self.flag_left(board, lock) == 0;
+        let rest = self.owner_left(board, lock, seen);
         let old = pack(seen);
-        let new = pack(if is_last {
-            Owner { flags: 0, ..seen }
-        } else {
-            seen
-        });
+        let new = pack(rest);
         let shared = &board.table.shared;
         let found = shared.compare_exchange::<Die>(&mut self.seat, owner_word(lock), old, new);
+        if found != old {
+            return false;
+        }
+        leave_list(&mut self.seat, shared, list_slot(lock), self.who);
+        true
+    }
+
+    /// Leaves the wait list for the cancel that the seat has heeded, if the owner word is still the one seen. It is,
+    /// where that is the word that the seat saw last (`sure`): while a waiter is inside the guard, nobody else writes
+    /// it. So who has heeded a cancel needs no way back.
+    pub fn leave(&mut self, board: &Board, lock: u8, seen: Owner) -> bool
+        requires seat { IsSeatOf board.now self.old }
+        requires lock { lock < size_of board.now }
+        requires may { MayStop self.old.seat.me.0.part.core lock }
+        requires valid { IsValid seen }
+        requires list { slot_of self.old.seat.me.1 (list_at lock) ≡ Some (Line self.old.seat.me.0.part.core.list) }
+        ensures seat { IsSeatOf board.now self.new }
+        ensures records { self.new.records ≡ self.old.records }
+        ensures sure { self.old.seat.me.0.part.core.seen ≡ Some seen → result ≡ true }
+        ensures left { result ≡ true → (others : List (ℕ × Cell)) × AreOthers self.old.seat.me.1 (list_at lock) (Line self.old.seat.me.0.part.core.list) others × (self.new.seat.me ≡ (stopping self.old.seat.me.0 seen, (list_at lock, Line (interrupted self.old.seat.me.0.part.core seen).list) ∷ others)) }
+        ensures lost { result ≡ false → (others : List (ℕ × Cell)) × AreOthers self.old.seat.me.1 (list_at lock) (Line self.old.seat.me.0.part.core.list) others × (self.new.seat.me ≡ (lost self.old.seat.me.0, (list_at lock, Line self.old.seat.me.0.part.core.list) ∷ others)) }
+    {
+        let rest = self.owner_left(board, lock, seen);
+        let old = pack(seen);
+        let new = pack(rest);
+        let shared = &board.table.shared;
+        let found = shared.compare_exchange::<Leave>(&mut self.seat, owner_word(lock), old, new);
         if found != old {
             return false;
         }

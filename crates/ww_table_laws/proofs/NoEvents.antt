@@ -15,7 +15,7 @@ use Rattle.ww_rule.proofs.InsideMoves.{inside_low}
 use Rattle.ww_table_laws.specs.NoEvents.{read, IsNotedOnly, IsLostOnly}
 
 module _ (key : Start) (s : St) (r : Ruled key s) (id : ℕ) (me : Sat) (here : get_elem? s.views id ≡ some me.0) (seated : me.0.seated ≡ true) where
-  mine : Sits key r.core r.log r.at r.draws id me.0
+  mine : Sits key r.core r.log r.at r.counts id me.0
   mine = moves.mine key s r id me here seated
 
   pub look_stays : (n : ℕ) (o : Owner) → me.0.part.core.inside ≡ suc n → IsValid o → get_or s.words (8 * n) 0 ≡ packed o → Stays key s r (read s (8 * n) id me (looking me.0 o))

@@ -15,7 +15,8 @@ use Rattle.ww_model.specs.State.{State, owner_as, waiting, one_if, pickup, word_
 use Rattle.ww_model.specs.Lawful.{IsLawful}
 use Rattle.ww_model.proofs.Kept.{reached_is_lawful}
 use Rattle.ww_model.proofs.Words.{handed_same}
-use Rattle.ww_model.proofs.Beyond.{queues_beyond, guards_are}
+use Rattle.ww_model.proofs.Beyond.{queues_beyond, guards_are, cancels_beyond}
+use Rattle.ww_model.proofs.Cancels.{away_unheeded}
 use Rattle.ww_plain.specs.History.{Recorded, part_of}
 use Rattle.ww_view.proofs.Written.{word_is_valid}
 use Rattle.ww_rule.specs.declared.cells.Cell.TheVariants.{Line}
@@ -97,8 +98,8 @@ module _ (key : Start) (s : St) (r : Ruled key s) where
 record IsTold (key : Start) (s : St) (r r' : Ruled key s) (t : ℕ) : Type 0 where
   part : Part
   who : part.core.who ≡ t
-  here : (j : ℕ) × PartFits key r.core r.log r.at r.draws j part
-  there : (j : ℕ) × PartFits key r'.core r'.log r'.at r'.draws j part
+  here : (j : ℕ) × PartFits key r.core r.log r.at r.counts j part
+  there : (j : ℕ) × PartFits key r'.core r'.log r'.at r'.counts j part
 
 module _ (key : Start) (s : St) (r r' : Ruled key s) where
   told : (t : ℕ) → t < key.seats → IsTold key s r r' t
@@ -159,6 +160,16 @@ module _ (key : Start) (s : St) (r r' : Ruled key s) where
       (λ beyond. let few = r.seats_there in unsigned r.core (law key s r) t (r.strangers t (omega arith)).stamp ∙ sym (unsigned r'.core (law key s r') t (r'.strangers t (omega arith)).stamp))
       (λ below. sym (r.words.signs t (omega arith)) ∙ r'.words.signs t (omega arith))
 
+  same_cancel : (t : ℕ) → r.core.cancel t ≡ r'.core.cancel t
+  same_cancel t = dite (dec_le 16 t)
+      (λ beyond. cancels_beyond r.core r.reached t (let places = r.places in omega arith) ∙ sym (cancels_beyond r'.core r'.reached t (let places = r'.places in omega arith)))
+      (λ below. sym (r.words.cancels t (omega arith)) ∙ r'.words.cancels t (omega arith))
+
+  same_heeded : (t : ℕ) → r.core.heeded t ≡ r'.core.heeded t
+  same_heeded t = dite (dec_le key.seats t)
+      (λ beyond. away_unheeded r.core (law key s r).base t (r.strangers t beyond).waits ∙ sym (away_unheeded r'.core (law key s r').base t (r'.strangers t beyond).waits))
+      (λ below. let x = told t (omega arith) in ap r.core.heeded (sym x.who) ∙ sym x.here.1.knows.heeded ∙ x.there.1.knows.heeded ∙ ap r'.core.heeded x.who)
+
   pub core_is_one : r.core ≡ r'.core
   core_is_one = λ i. record {
     kind = (r.kind ∙ sym r'.kind) i;
@@ -172,6 +183,8 @@ module _ (key : Start) (s : St) (r r' : Ruled key s) where
     asked = λ n. same_asked n i;
     queue = λ n. same_queue n i;
     guard = λ n. same_guard n i;
+    cancel = λ t. same_cancel t i;
+    heeded = λ t. same_heeded t i;
   }
 
   -- ---- the history

@@ -1,6 +1,6 @@
--- Of the steps at guards, inside them and on signs: from every table that the rule allows each is one event on what is
--- shown.
-use Rattle.std.specs.Prelude.{ℕ, suc, ◌≡◌, ◌<◌, ◌==◌, ◌∷◌, List, length, slice_index, Some}
+-- Of the steps at guards, inside them, on signs and on cancels: from every table that the rule allows each is one event
+-- on what is shown.
+use Rattle.std.specs.Prelude.{ℕ, suc, ◌≡◌, ◌≢◌, ◌<◌, ◌+◌, ◌-◌, ◌==◌, ◌∷◌, List, length, slice_index, Some}
 use mathlib.Core.Option.{some}
 use lib.ListN.{get_elem?}
 use Rattle.atomic_table.specs.Table.{stepped, keeps, takes, gives, chain, rest}
@@ -8,7 +8,9 @@ use Rattle.ww_word.specs.declared.owner.Owner.{Owner}
 use Rattle.ww_word.specs.Owner.{IsValid, packed, with_waiters}
 use Rattle.ww_queue.specs.declared.entry.Entry.{Entry}
 use Rattle.ww_queue.specs.Queue.{left}
-use Rattle.ww_model.specs.declared.event.Event.TheVariants.{Clear, Guard, Join, Sign, Take, Ask, Give, Die, Unguard}
+use Rattle.ww_model.specs.declared.event.Event.TheVariants.{Clear, Guard, Join, Sign, Take, Ask, Give, Die, Unguard, Cancel, Heed, Leave}
+use Rattle.ww_model.specs.declared.event.Answer.TheVariants.{Interrupted}
+use Rattle.ww_model.specs.Event.{answer}
 use Rattle.ww_model.specs.State.{dies}
 use Rattle.ww_model.specs.Run.{Reached}
 use Rattle.ww_model.specs.Met.{DeadlkIsMet}
@@ -16,15 +18,17 @@ use Rattle.ww_plain.specs.declared.node.Node.{Node}
 use Rattle.ww_plain.specs.Graph.{node_at}
 use Rattle.ww_plain.specs.History.{last_graph}
 use Rattle.ww_view.specs.Word.{taken_word, asked_word, given_word, rest_word}
-use Rattle.ww_view.specs.May.{MayEnter, MayExit, MayJoin, MayTake, MayAsk, MayGive, MayDie, MaySign, MayClear}
+use Rattle.ww_view.specs.May.{MayEnter, MayExit, MayJoin, MayTake, MayAsk, MayGive, MayDie, MaySign, MayClear, MayHeed, MayStop}
 use Rattle.ww_rule.specs.declared.cells.Cell.{Cell}
 use Rattle.ww_rule.specs.declared.cells.Cell.TheVariants.{Content, Line}
 use Rattle.ww_rule.specs.declared.cells.Start.{Start}
-use Rattle.ww_rule.specs.Layout.{owner_at, guard_at, sign_at, list_at}
+use Rattle.ww_rule.specs.Layout.{owner_at, guard_at, sign_at, cancel_at, list_at}
 use Rattle.ww_rule.specs.Rule.{St, Sat, first_graph, Ruled, Makes}
 use Rattle.ww_rule.specs.Guards.{entering, exiting}
 use Rattle.ww_rule.specs.Waiting.{joining, taking_inside, giving_inside, asking, dying}
 use Rattle.ww_rule.specs.Signs.{signing, clearing}
+use Rattle.ww_rule.specs.Cancels.{cancelling, heeding, stopping}
+use Rattle.ww_view.specs.View.{IsAway}
 use Rattle.ww_table_laws.specs.Laws.{Steps}
 
 -- a guard word 0 becomes that of the seat as Guard, and the list that comes out is that of the lock
@@ -88,3 +92,26 @@ SignIsSign = (key : Start) (s : St) (r : Ruled key s) (id : ℕ) (me : Sat) (n u
 abbrev pub ClearIsClear : Type 0
 ClearIsClear = (key : Start) (s : St) (r : Ruled key s) (id : ℕ) (me : Sat) → Steps s id me → MayClear me.0.part.core →
     Makes key s r (Clear me.0.part.core.who) (stepped s (sign_at me.0.part.core.who) 0 id me.1 (clearing me.0) keeps)
+
+-- a cancel word 0 becomes that of the seat as Cancel
+abbrev pub CancelIsCancel : Type 0
+CancelIsCancel = (key : Start) (s : St) (r : Ruled key s) (id : ℕ) (me : Sat) (u : ℕ) → Steps s id me →
+    IsAway me.0.part.core → u < 16 → slice_index s.words (cancel_at u) ≡ 0 →
+    Makes key s r (Cancel me.0.part.core.who u)
+    (stepped s (cancel_at u) (me.0.part.core.who + 1) id me.1 (cancelling me.0 u) keeps)
+
+-- the own cancel word, if it isn't 0, becomes 0 as Heed
+abbrev pub HeedIsHeed : Type 0
+HeedIsHeed = (key : Start) (s : St) (r : Ruled key s) (id : ℕ) (me : Sat) (n : ℕ) → Steps s id me →
+    MayHeed me.0.part.core n → let mark : ℕ = slice_index s.words (cancel_at me.0.part.core.who) in mark ≢ 0 →
+    Makes key s r (Heed me.0.part.core.who n)
+    (stepped s (cancel_at me.0.part.core.who) 0 id me.1 (heeding me.0 mark) keeps)
+
+-- An owner word loses its flags as the last waiter leaves for a cancel, or stays, as Leave; and the core answers that
+-- it was interrupted by the seat that the view names.
+abbrev pub LeaveIsLeave : Type 0
+LeaveIsLeave = (key : Start) (s : St) (r : Ruled key s) (id : ℕ) (me : Sat) (n : ℕ) (o : Owner) → Steps s id me →
+    MayStop me.0.part.core n → IsValid o → slice_index s.words (owner_at n) ≡ packed o →
+    (answer r.core (Leave me.0.part.core.who n) ≡ Interrupted (me.0.part.core.heeded - 1)) ×
+    Makes key s r (Leave me.0.part.core.who n)
+    (stepped s (owner_at n) (packed (rest_word (left me.0.part.core.list me.0.part.core.who) o)) id me.1 (stopping me.0 o) keeps)

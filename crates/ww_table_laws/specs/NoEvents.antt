@@ -35,8 +35,8 @@ pub record IsNotedOnly (key : Start) (s : St) (r : Ruled key s) (id : ℕ) (me :
 abbrev pub OwnSignIsNoEvent : Type 0
 OwnSignIsNoEvent = (key : Start) (s : St) (r : Ruled key s) (id : ℕ) (me : Sat) → Steps s id me → IsNotedOnly key s r id me (sign_at me.0.part.core.who)
 
--- A try that finds another word than the seat expected: to take a lock at once, to give it back at once, or at a guard
--- or inside it.
+-- A try that finds another word than the seat expected: to take a lock at once; to give it back at once, or to set a
+-- cancel where one is pending; or at a guard or inside it, or to heed a cancel where none is pending.
 pub record IsLostOnly (key : Start) (s : St) (r : Ruled key s) (id : ℕ) (me : Sat) (i : ℕ) : Type 0 where
   pub taking : Stays key s r (read s i id me (knowing me.0 (fast_missed me.0.part.core)))
   pub giving : Stays key s r (read s i id me me.0)

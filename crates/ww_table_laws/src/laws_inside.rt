@@ -1,7 +1,7 @@
-//! Laws of the steps at guards, inside them and on signs: each function's contract is one. A step's own call cites the
-//! lemma that its law does.
+//! Laws of the steps at guards, inside them, on signs and on cancels: each function's contract is one. A step's own
+//! call cites the lemma that its law does.
 
-ghost use Rattle.ww_table_laws.specs.InsideLaws.{EnterIsGuard, ExitIsUnguard, JoinIsJoin, TakeIsTake, GiveIsGive, AskIsAsk, DieIsDie, SignIsSign, ClearIsClear};
+ghost use Rattle.ww_table_laws.specs.InsideLaws.{EnterIsGuard, ExitIsUnguard, JoinIsJoin, TakeIsTake, GiveIsGive, AskIsAsk, DieIsDie, SignIsSign, ClearIsClear, CancelIsCancel, HeedIsHeed, LeaveIsLeave};
 
 /// Going inside a guard is the event Guard.
 pub fn enter_is_guard()
@@ -46,4 +46,19 @@ pub fn sign_is_sign()
 /// Taking the own sign back is the event Clear.
 pub fn clear_is_clear()
     ensures { ClearIsClear }
+{}
+
+/// Setting the cancel of a seat is the event Cancel.
+pub fn cancel_is_cancel()
+    ensures { CancelIsCancel }
+{}
+
+/// Finding the own cancel, where one is pending, is the event Heed.
+pub fn heed_is_heed()
+    ensures { HeedIsHeed }
+{}
+
+/// Leaving the wait list for a cancel that was heeded is the event Leave, whose answer is the seat that the view names.
+pub fn leave_is_leave()
+    ensures { LeaveIsLeave }
 {}

@@ -13,7 +13,7 @@ pub fn own_sign_is_no_event()
     ensures { OwnSignIsNoEvent }
 {}
 
-/// So does a try that finds another word than it expected.
+/// So does a try that finds another word than it expected, and a look for the own cancel that finds none.
 pub fn lost_is_no_event()
     ensures { LostIsNoEvent }
 {}

@@ -8,7 +8,7 @@ use Rattle.ww_queue.specs.Queue.{Has}
 use Rattle.ww_queue.specs.Rules.{must_die}
 use Rattle.ww_queue.proofs.Deaths.{dies_why, must_die_why, death_why, death_is_of_context}
 use Rattle.ww_queue.proofs.Signs.{owed_once}
-use Rattle.ww_model.specs.declared.event.Event.TheVariants.{Begin, Clear, Fast, FastGive, Guard, Join, Sign, Take, Ask, Give, Die, Unguard, Commit, End}
+use Rattle.ww_model.specs.declared.event.Event.TheVariants.{Begin, Clear, Fast, FastGive, Guard, Join, Sign, Take, Ask, Give, Die, Unguard, Commit, End, Cancel, Heed, Leave}
 use Rattle.ww_model.specs.State.{State, owner_as, owes}
 use Rattle.ww_model.specs.Event.{Possible}
 use Rattle.ww_model.specs.Lawful.{IsLawful}
@@ -76,6 +76,9 @@ others_note_none c (Die s n) v other = absurd (other s n refl)
 others_note_none c (Unguard s n) v other = inl refl
 others_note_none c (Commit s) v other = inl refl
 others_note_none c (End s) v other = inr refl
+others_note_none c (Cancel s u) v other = inl refl
+others_note_none c (Heed s n) v other = inl refl
+others_note_none c (Leave s n) v other = inr refl
 
 -- at the death of a run it is a context that the seat met
 pub die_met : ShownDeathWasMet

@@ -12,7 +12,7 @@ use Rattle.ww_queue.proofs.Joins.{joined_new}
 use Rattle.ww_queue.proofs.Leaves.{left_gone}
 use Rattle.ww_queue.proofs.Signs.{signed_why}
 use Rattle.ww_model.specs.declared.state.Holder.TheVariants.{Taken}
-use Rattle.ww_model.specs.declared.event.Event.TheVariants.{Clear, Join, Sign, Take, Ask, Give, Die}
+use Rattle.ww_model.specs.declared.event.Event.TheVariants.{Clear, Join, Sign, Take, Ask, Give, Die, Heed, Leave}
 use Rattle.ww_model.specs.State.{State, put, any_below, is_taken_by, waiter_of, owner_as, owes, place_of, word_of}
 use Rattle.ww_model.specs.Event.{Possible, after, given_to}
 use Rattle.ww_model.specs.Lawful.{IsLawful}
@@ -24,8 +24,8 @@ use Rattle.ww_model.proofs.Dues.{by_kind, wound_from, sign_for, sign_owed, sign_
 use Rattle.ww_view.specs.declared.view.View.{View}
 use Rattle.ww_view.specs.Word.{taken_word, asked_word, given_word, rest_word}
 use Rattle.ww_view.specs.View.{owns, KnowsQueues, Knows, IsQuiet}
-use Rattle.ww_view.specs.Made.{entry_of_view, queued, taken, has_asked, given, died, has_looked, noted, has_read, found_none, cleared, fast_missed, stepped}
-use Rattle.ww_view.proofs.Written.{word_join, word_take, word_ask, word_give, word_die}
+use Rattle.ww_view.specs.Made.{entry_of_view, queued, taken, has_asked, given, died, has_heeded, interrupted, has_looked, noted, has_read, found_none, cleared, fast_missed, stepped}
+use Rattle.ww_view.proofs.Written.{word_join, word_take, word_ask, word_give, word_die, word_leave}
 use Rattle.ww_view.proofs.Mine.{taken_from, gets, gives, bare_still}
 
 -- a changed function, at a number that is the changed one
@@ -114,6 +114,17 @@ module _ (c : State) (v : View) (l : IsLawful c) (k : Knows c v) where
       let word = (λ i. rest_word (left (k.queues.list n at i) v.who) (found i)) ∙ back in
       search (rules, gone n at, seen_is (after c (Die v.who n)) n (rest_word (left v.list v.who) o) at word)
 
+  pub mine_heed : (n : ℕ) → Possible c (Heed v.who n) → Knows (after c (Heed v.who n)) (has_heeded v (c.cancel v.who))
+  mine_heed n can = let mark = sym (put_here c.heeded v.who (c.cancel v.who)) in search (rules, mark)
+
+  pub mine_leave : (n : ℕ) (o : Owner) → v.inside ≡ suc n → o ≡ word_of c n → Possible c (Leave v.who n) →
+      Knows (after c (Leave v.who n)) (interrupted v o)
+  mine_leave n o at found can =
+      let back = sym (word_leave c v.who n l.base can.base) in
+      let word = (λ i. rest_word (left (k.queues.list n at i) v.who) (found i)) ∙ back in
+      let mark = sym (put_here c.heeded v.who 0) in
+      search (rules, gone n at, seen_is (after c (Leave v.who n)) n (rest_word (left v.list v.who) o) at word, mark)
+
   -- ---- signs
 
   -- in Wait-Die nobody owes itself a sign
@@ -155,6 +166,7 @@ module _ (c : State) (v : View) (l : IsLawful c) (k : Knows c v) where
         (λ _. k.signed m t i is mark h);
     sign = λ i is. put_here c.sign v.who 0 ∙ (let z : 0 ≡ i = cc in z);
     quiet = λ _. quiet;
+    heeded = k.heeded;
   }
 
 -- ---- what is no event

@@ -7,3 +7,4 @@ pub mod Inside
 pub mod Events
 pub mod Starts
 pub mod Deaths
+pub mod Interruptions

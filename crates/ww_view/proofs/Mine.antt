@@ -8,7 +8,7 @@ use Rattle.ww_queue.specs.declared.kind.Kind.{Kind}
 use Rattle.ww_queue.specs.declared.kind.Kind.TheVariants.{WoundWait, WaitDie}
 use Rattle.ww_model.specs.declared.state.Holder.{Holder}
 use Rattle.ww_model.specs.declared.state.Holder.TheVariants.{Nobody, Taken}
-use Rattle.ww_model.specs.declared.event.Event.TheVariants.{Begin, Fast, FastGive, Guard, Unguard, Commit, End}
+use Rattle.ww_model.specs.declared.event.Event.TheVariants.{Begin, Fast, FastGive, Guard, Unguard, Commit, End, Cancel}
 use Rattle.ww_model.specs.State.{State, put, Away}
 use Rattle.ww_model.specs.Event.{Possible, after}
 use Rattle.ww_model.specs.Lawful.{IsLawful}
@@ -93,6 +93,9 @@ module _ (c : State) (v : View) (l : IsLawful c) (k : Knows c v) where
 
   pub mine_commit : Possible c (Commit v.who) → Knows (after c (Commit v.who)) v
   mine_commit can = assumption
+
+  pub mine_cancel : (u : ℕ) → Possible c (Cancel v.who u) → Knows (after c (Cancel v.who u)) v
+  mine_cancel u can = assumption
 
   pub mine_fast : (n : ℕ) → Possible c (Fast v.who n) → Knows (after c (Fast v.who n)) (fast_taken v n)
   mine_fast n can = search (rules, gets n can.base.idle.lock, not_inside can.base.away)

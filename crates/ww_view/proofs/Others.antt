@@ -48,6 +48,7 @@ others_know c e v l can other k = let t = v.who in let alone = others_are_left_a
       at.signed u j h' (k.signed n u j is mark h');
   sign = λ j is. sign_stays c e t j can l other (λ none. quiet_safe c v k (k.quiet (is ∙ ap Some none))) (k.sign j is);
   quiet = k.quiet;
+  heeded = k.heeded ∙ sym alone.heeded;
 }
 
 pub quiet_is_left_alone : QuietIsLeftAlone

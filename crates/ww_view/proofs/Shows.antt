@@ -10,7 +10,7 @@ use Rattle.ww_queue.specs.Queue.{Has, StandsNot}
 use Rattle.ww_queue.specs.Rules.{must_die, owed_signs}
 use Rattle.ww_queue.proofs.Deaths.{only_waiters_die}
 use Rattle.ww_queue.proofs.Leaves.{stands_or_not}
-use Rattle.ww_model.specs.declared.event.Event.TheVariants.{Begin, Clear, Fast, FastGive, Guard, Join, Sign, Take, Ask, Give, Die, Unguard, Commit, End}
+use Rattle.ww_model.specs.declared.event.Event.TheVariants.{Begin, Clear, Fast, FastGive, Guard, Join, Sign, Take, Ask, Give, Die, Unguard, Commit, End, Cancel, Heed, Leave}
 use Rattle.ww_model.specs.State.{State, OwnsNone, InNoQueue, Away, Inside, MayOwn, IsCalm, owes, dies, owner_as, word_of}
 use Rattle.ww_model.specs.Event.{Possible, owed_to}
 use Rattle.ww_model.specs.Lawful.{IsLawful, SignedOwnsOutside}
@@ -22,7 +22,7 @@ use Rattle.ww_model.proofs.FreeGuards.{owes_nothing}
 use Rattle.ww_model.proofs.Ranges.{lawful_place}
 use Rattle.ww_view.specs.declared.view.View.{View}
 use Rattle.ww_view.specs.View.{owns, Knows, IsBare, IsAway}
-use Rattle.ww_view.specs.May.{WantsBase, WantsSigns, MayFast, MayEnter, MayJoin, MayTake, MayAsk, MayGive, MayDie, MaySign, MayClear, MayExit}
+use Rattle.ww_view.specs.May.{WantsBase, WantsSigns, MayFast, MayEnter, MayJoin, MayTake, MayAsk, MayGive, MayDie, MaySign, MayClear, MayExit, MayHeed, MayStop}
 use Rattle.ww_view.proofs.Tells.{no_seat, handed_seat, other_seat, no_flags, waiters_alone}
 
 module _ (c : State) (v : View) (l : IsLawful c) (k : Knows c v) where
@@ -130,7 +130,22 @@ module _ (c : State) (v : View) (l : IsLawful c) (k : Knows c v) where
 
   pub shows_die : (n : ℕ) (o : Owner) (j : ℕ) → MayDie v n o j → o ≡ word_of c n → Possible c (Die v.who n)
   shows_die n o j may found = let dead = is_some_of (dies c v.who n) j (tells_die n o j may found) in
-      search (rules, is_inside n, k.queues.waited, other_seat c n o found v.who may.other, dead)
+      let unheeded = sym k.heeded ∙ may.unheeded in
+      search (rules, is_inside n, k.queues.waited, other_seat c n o found v.who may.other, dead, unheeded)
+
+  pub shows_cancel : (u : ℕ) → IsAway v → u < c.seats → c.cancel u ≡ 0 → Possible c (Cancel v.who u)
+  shows_cancel u away seat none = search (rules, is_away away)
+
+  pub shows_heed : (n : ℕ) → MayHeed v n → c.cancel v.who ≢ 0 → Possible c (Heed v.who n)
+  shows_heed n may some = let here = k.queues.waited n may.waits in
+      let found = k.seen n may.other.0 may.inside may.other.1 (not_empty (c.queue n) here.0 here.1) in
+      let other = other_seat c n may.other.0 found v.who may.other.2 in
+      let unheeded = sym k.heeded ∙ may.unheeded in
+      search (rules, is_inside n may.inside, here, other, unheeded)
+
+  pub shows_leave : (n : ℕ) → MayStop v n → Possible c (Leave v.who n)
+  shows_leave n may = let marked : c.heeded v.who ≢ 0 = λ none. may.heeded (k.heeded ∙ none) in
+      search (rules, is_inside n may.inside, k.queues.waited n may.waits, marked)
 
   -- where a sign is owed by the view, it is owed
   pub tells_sign : (n u j : ℕ) → MaySign v n u j → Has (owes c v.who n) (u, j)
@@ -182,6 +197,7 @@ module _ (c : State) (v : View) (l : IsLawful c) (k : Knows c v) where
           (λ p. ⊎_elim (λ none. absurd (in_no_queue none n here.0 here.1 here.2))
           (λ o. let found = k.seen n p.word may.inside p.seen (not_empty (c.queue n) here.0 here.1) in
           other_seat c n p.word found v.who o) p.other) may.why;
+      unheeded = sym k.heeded ∙ may.unheeded;
     };
     signs = record {
       signed = λ u j h. ⊎_elim

@@ -12,11 +12,12 @@ use Rattle.ww_queue.proofs.Leaves.{left_others}
 use Rattle.ww_model.specs.declared.state.Holder.{Holder}
 use Rattle.ww_model.specs.declared.state.Holder.TheVariants.{Nobody, Taken, Handed}
 use Rattle.ww_model.specs.declared.event.Event.{Event}
-use Rattle.ww_model.specs.declared.event.Event.TheVariants.{Begin, Fast, FastGive, Join, Take, Ask, Give, Die, End}
-use Rattle.ww_model.specs.State.{State, put, waiter_of, owner_as, waiting, one_if, pickup, word_from, word_of}
-use Rattle.ww_model.specs.Event.{BasePossible, after, given_to, still_asked, CanAsk, CanDie}
+use Rattle.ww_model.specs.declared.event.Event.TheVariants.{Begin, Fast, FastGive, Join, Take, Ask, Give, Die, End, Leave}
+use Rattle.ww_model.specs.State.{State, put, HasOther, waiter_of, owner_as, waiting, one_if, pickup, word_from, word_of}
+use Rattle.ww_model.specs.Event.{BasePossible, after, given_to, still_asked, CanAsk, CanDie, CanLeave}
 use Rattle.ww_model.specs.Lawful.{OwnerAt, IsBase}
 use Rattle.ww_model.proofs.Puts.{put_here, put_else, put_cases}
+use Rattle.ww_model.proofs.Cancels.{kept_there}
 use Rattle.ww_model.proofs.Holders.{not_empty, other_has}
 use Rattle.ww_model.proofs.Kept.{reached_is_lawful}
 use Rattle.ww_model.proofs.Ranges.{owners_are_seats, few_stamps}
@@ -110,14 +111,24 @@ word_give c s n l = let o = given_to (c.asked n) (c.queue n) in let d = after c 
     refl (put_here c.owner n o) (put_here c.asked n false) refl
     ∙ given_is c (c.asked n) (c.queue n) (l.queues.at n).stamps
 
-pub word_die : (c : State) (s n : ℕ) → IsBase c → CanDie c s n →
-    word_of (after c (Die s n)) n ≡ rest_word (left (c.queue n) s) (word_of c n)
-word_die c s n l can = let q = left (c.queue n) s in let b = still_asked q (c.asked n) in let d = after c (Die s n) in
-    let one = some_wait (c.queue n) (not_empty (c.queue n) can.waits.0 can.waits.1) in
+-- where a seat leaves the list of a lock that another has
+word_departed : (c : State) (s n : ℕ) → IsBase c → Stands (c.queue n) s → HasOther c s n → let q = left (c.queue n) s in
+    word_of (record c { queue = put c.queue n q; asked = put c.asked n (still_asked q (c.asked n)) }) n ≡ rest_word q (word_of c n)
+word_departed c s n l waits other = let q = left (c.queue n) s in let b = still_asked q (c.asked n) in
+    let d : State = record c { queue = put c.queue n q; asked = put c.asked n b } in
+    let one = some_wait (c.queue n) (not_empty (c.queue n) waits.0 waits.1) in
     same_word c d (c.owner n) (c.owner n) (d.asked n) b (d.queue n) q
     refl refl (put_here c.asked n b) (put_here c.queue n q) ∙ rest_is c (c.owner n) (c.asked n) (c.queue n) q one
     (λ t own. let h = (l.owners.at n).handed_stands t own in
-    (h.0, left_others (c.queue n) s h.0 (λ i. other_has (c.owner n) s t can.other (inr own) (sym h.2 ∙ i)) h.1, h.2))
+    (h.0, left_others (c.queue n) s h.0 (λ i. other_has (c.owner n) s t other (inr own) (sym h.2 ∙ i)) h.1, h.2))
+
+pub word_die : (c : State) (s n : ℕ) → IsBase c → CanDie c s n →
+    word_of (after c (Die s n)) n ≡ rest_word (left (c.queue n) s) (word_of c n)
+word_die c s n l can = word_departed c s n l can.waits can.other
+
+pub word_leave : (c : State) (s n : ℕ) → IsBase c → CanLeave c s n →
+    word_of (after c (Leave s n)) n ≡ rest_word (left (c.queue n) s) (word_of c n)
+word_leave c s n l can = word_departed c s n l can.waits (kept_there c l s n can)
 
 -- ---- the words of all other locks stay
 
@@ -130,6 +141,7 @@ Leaves (Take s n) m = m ≢ n
 Leaves (Ask s n) m = m ≢ n
 Leaves (Give s n) m = m ≢ n
 Leaves (Die s n) m = m ≢ n
+Leaves (Leave s n) m = m ≢ n
 Leaves _ m = Unit {0}
 
 -- the word of a lock whose parts are the same
@@ -156,6 +168,9 @@ word_else c (Give s n) m can l far = still c (after c (Give s n)) m refl
     (put_else c.owner n (given_to (c.asked n) (c.queue n)) m far) (put_else c.asked n false m far) refl
 word_else c (Die s n) m can l far = let q = left (c.queue n) s in
     still c (after c (Die s n)) m refl refl
+    (put_else c.asked n (still_asked q (c.asked n)) m far) (put_else c.queue n q m far)
+word_else c (Leave s n) m can l far = let q = left (c.queue n) s in
+    still c (after c (Leave s n)) m refl refl
     (put_else c.asked n (still_asked q (c.asked n)) m far) (put_else c.queue n q m far)
 word_else c e m can l far = refl
 
@@ -184,6 +199,8 @@ words_are_written c (Give s n) m can l = written_at c (Give s n) n (given_word (
     (word_give c s n l) (λ i. word_else c (Give s n) i can l) m
 words_are_written c (Die s n) m can l = written_at c (Die s n) n (rest_word (left (c.queue n) s) (word_of c n))
     (word_die c s n l can) (λ i. word_else c (Die s n) i can l) m
+words_are_written c (Leave s n) m can l = written_at c (Leave s n) n (rest_word (left (c.queue n) s) (word_of c n))
+    (word_leave c s n l can) (λ i. word_else c (Leave s n) i can l) m
 words_are_written c e m can l = word_else c e m can l tt
 
 -- ---- a number found in an owner word

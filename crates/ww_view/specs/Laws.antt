@@ -1,12 +1,12 @@
 -- What holds of views and cores as a whole.
-use Rattle.std.specs.Prelude.{ℕ, suc, ◌≡◌, ◌≢◌, ◌<◌, ◌≤◌, ◌⊎◌, Some, None}
+use Rattle.std.specs.Prelude.{ℕ, suc, ◌≡◌, ◌≢◌, ◌<◌, ◌≤◌, ◌+◌, ◌⊎◌, ◌∷◌, Some, None}
 use Rattle.ww_word.specs.declared.owner.Owner.{Owner}
 use Rattle.ww_word.specs.Owner.{IsValid, packed}
 use Rattle.ww_queue.specs.declared.kind.Kind.{Kind}
 use Rattle.ww_queue.specs.declared.kind.Kind.TheVariants.{WaitDie}
 use Rattle.ww_queue.specs.Rules.{must_die, owed_signs}
 use Rattle.ww_model.specs.declared.event.Event.{Event}
-use Rattle.ww_model.specs.declared.event.Event.TheVariants.{Sign, Unguard, Die}
+use Rattle.ww_model.specs.declared.event.Event.TheVariants.{Sign, Unguard, Die, Leave}
 use Rattle.ww_model.specs.State.{State, start, owes, dies, word_of}
 use Rattle.ww_model.specs.Event.{Possible, after, actor}
 use Rattle.ww_model.specs.Lawful.{IsLawful, SignedOwnsOutside}
@@ -15,8 +15,8 @@ use Rattle.ww_model.specs.Met.{DeadlkIsMet}
 use Rattle.ww_view.specs.declared.view.View.{View}
 use Rattle.ww_view.specs.Word.{words_after}
 use Rattle.ww_view.specs.View.{IsBare, IsAway, IsQuiet, Knows, first_view}
-use Rattle.ww_view.specs.May.{MayDie, MaySign, MayExit, MetByView, Shows}
-use Rattle.ww_view.specs.Made.{died, fast_missed, has_looked, noted, has_read, found_none, stepped, view_after}
+use Rattle.ww_view.specs.May.{MayDie, MaySign, MayExit, MayStop, MetByView, Shows}
+use Rattle.ww_view.specs.Made.{died, interrupted, fast_missed, has_looked, noted, has_read, found_none, stepped, view_after}
 
 -- ---- what a seat knows
 
@@ -100,6 +100,17 @@ DeathIsNoted = (v : View) (n : ℕ) (o : Owner) (k : ℕ) → MayDie v n o k →
 abbrev pub NoOtherIsNoted : Type 0
 NoOtherIsNoted = (c : State) (e : Event) (v : View) → ((s n : ℕ) → e ≢ Die s n) →
     ((view_after c e v).met ≡ v.met) ⊎ ((view_after c e v).met ≡ None)
+
+-- The view of a seat that was interrupted names the lock, and the seat whose cancel it had heeded, before those that it
+-- named.
+abbrev pub InterruptionIsNoted : Type 0
+InterruptionIsNoted = (v : View) (n s : ℕ) (o : Owner) → MayStop v n → v.heeded ≡ s + 1 →
+    (interrupted v o).stopped ≡ (n, s) ∷ v.stopped
+
+-- and no other event changes what a view names
+abbrev pub NoOtherIsStopped : Type 0
+NoOtherIsStopped = (c : State) (e : Event) (v : View) → ((s n : ℕ) → e ≢ Leave s n) →
+    (view_after c e v).stopped ≡ v.stopped
 
 -- and the seat did meet it
 abbrev pub ShownDeathWasMet : Type 0

@@ -9,7 +9,7 @@ use Rattle.ww_queue.specs.declared.entry.Entry.{Entry}
 use Rattle.ww_queue.specs.Queue.{joined, left}
 use Rattle.ww_queue.specs.Rules.{must_die}
 use Rattle.ww_model.specs.declared.event.Event.{Event}
-use Rattle.ww_model.specs.declared.event.Event.TheVariants.{Begin, Clear, Fast, FastGive, Guard, Join, Sign, Take, Ask, Give, Die, Unguard, Commit, End}
+use Rattle.ww_model.specs.declared.event.Event.TheVariants.{Begin, Clear, Fast, FastGive, Guard, Join, Sign, Take, Ask, Give, Die, Unguard, Commit, End, Cancel, Heed, Leave}
 use Rattle.ww_model.specs.State.{State, any_below, word_of}
 use Rattle.ww_view.specs.declared.view.View.{View}
 use Rattle.ww_view.specs.Word.{taken_word, asked_word, given_word, rest_word}
@@ -127,15 +127,35 @@ abbrev pub met_at : ℕ → Option ℕ → Option (ℕ × ℕ)
 met_at zero stamp = None
 met_at (suc n) stamp = option_map (λ k. (n, k)) stamp
 
--- it left the list, since it had to die; o was the word before
-abbrev pub died : View → Owner → View
-died v o = let q : List Entry = left v.list v.who in record v {
+-- it left the list; o was the word before
+abbrev pub departed : View → Owner → View
+departed v o = let q : List Entry = left v.list v.who in record v {
   list = q;
   waits = 0;
   seen = Some (rest_word q o);
   signed = [];
   fresh = false;
-  met = met_at v.inside (must_die v.kind o v.list v.who (unwrap_or v.sign 0));
+}
+
+-- ... since it had to die
+abbrev pub died : View → Owner → View
+died v o = record (departed v o) { met = met_at v.inside (must_die v.kind o v.list v.who (unwrap_or v.sign 0)) }
+
+-- it heeded a cancel, of the seat before this number
+abbrev pub has_heeded : View → ℕ → View
+has_heeded v mark = record v { heeded = mark; fresh = false }
+
+-- the lock that it is inside of, and the seat whose cancel it had heeded, before those of earlier times
+abbrev pub stopped_at : ℕ → ℕ → List (ℕ × ℕ) → List (ℕ × ℕ)
+stopped_at (suc n) (suc s) before = (n, s) ∷ before
+stopped_at _ _ before = before
+
+-- it left the list for the cancel that it had heeded; o was the word before
+abbrev pub interrupted : View → Owner → View
+interrupted v o = record (departed v o) {
+  heeded = 0;
+  met = None;
+  stopped = stopped_at v.inside v.heeded v.stopped;
 }
 
 -- it read the word
@@ -181,3 +201,6 @@ view_after c (Die s n) v = died v (word_of c n)
 view_after c (Unguard s n) v = exited v
 view_after c (Commit s) v = v
 view_after c (End s) v = ended v
+view_after c (Cancel s u) v = v
+view_after c (Heed s n) v = has_heeded v (c.cancel s)
+view_after c (Leave s n) v = interrupted v (word_of c n)

@@ -1,5 +1,5 @@
 -- What the view has to show before a step, with the owner word found where one is named.
-use Rattle.std.specs.Prelude.{ℕ, suc, ◌≡◌, ◌<◌, ◌-◌, ◌^◌, ◌⊎◌, true, false, [], Some, None}
+use Rattle.std.specs.Prelude.{ℕ, suc, ◌≡◌, ◌≢◌, ◌<◌, ◌-◌, ◌^◌, ◌⊎◌, true, false, [], Some, None}
 use Rattle.ww_word.specs.declared.owner.Owner.{Owner}
 use Rattle.ww_word.specs.Owner.{is_handed, idle}
 use Rattle.ww_queue.specs.declared.kind.Kind.TheVariants.{WoundWait, WaitDie}
@@ -7,7 +7,7 @@ use Rattle.ww_queue.specs.declared.entry.Entry.{Entry}
 use Rattle.ww_queue.specs.Queue.{Has, Before}
 use Rattle.ww_queue.specs.Rules.{must_die, owed_signs}
 use Rattle.ww_model.specs.declared.event.Event.{Event}
-use Rattle.ww_model.specs.declared.event.Event.TheVariants.{Begin, Clear, Fast, FastGive, Guard, Join, Sign, Take, Ask, Give, Die, Unguard, Commit, End}
+use Rattle.ww_model.specs.declared.event.Event.TheVariants.{Begin, Clear, Fast, FastGive, Guard, Join, Sign, Take, Ask, Give, Die, Unguard, Commit, End, Cancel, Heed, Leave}
 use Rattle.ww_model.specs.State.{State, word_of}
 use Rattle.ww_model.specs.Snapshot.{IsFirst}
 use Rattle.ww_view.specs.declared.view.View.{View}
@@ -66,6 +66,21 @@ pub record MayDie (v : View) (n : ℕ) (o : Owner) (k : ℕ) : Type 0 where
   pub waits : v.waits ≡ suc n
   pub other : TellsOther o v.who
   pub why : (s : ℕ) × ((v.kind ≡ WaitDie) ⊎ (v.sign ≡ Some s)) × (must_die v.kind o v.list v.who s ≡ Some k)
+  pub unheeded : v.heeded ≡ 0
+
+-- To heed a cancel: another has the lock, by the word that it saw last. The step itself finds the cancel and no owner,
+-- so the view tells the owner, whose word nobody else changes meanwhile.
+pub record MayHeed (v : View) (n : ℕ) : Type 0 where
+  pub inside : v.inside ≡ suc n
+  pub waits : v.waits ≡ suc n
+  pub other : (o : Owner) × (v.seen ≡ Some o) × TellsOther o v.who
+  pub unheeded : v.heeded ≡ 0
+
+-- to leave the list for the cancel that it has heeded; that another has the lock follows
+pub record MayStop (v : View) (n : ℕ) : Type 0 where
+  pub inside : v.inside ≡ suc n
+  pub waits : v.waits ≡ suc n
+  pub heeded : v.heeded ≢ 0
 
 -- to sign seat u with stamp k, which it owes there
 pub record MaySign (v : View) (n u k : ℕ) : Type 0 where
@@ -94,6 +109,7 @@ pub record MayExit (v : View) (n : ℕ) : Type 0 where
   pub inside : v.inside ≡ suc n
   pub why : ((v.waits ≡ 0) × (owns v n ≡ false)) ⊎ HasPaid v
   pub unsigned : v.kind ≡ WaitDie → (v.stamp ≡ 0) ⊎ ((v.sign ≡ Some 0) ⊎ IsBare v)
+  pub unheeded : v.heeded ≡ 0
 
 -- the lock was asked for or handed over, or another is first: so who looks again may go on waiting
 abbrev pub NothingToAsk : View → Type 0
@@ -132,3 +148,6 @@ Shows c v (Die s n) = (k : ℕ) × MayDie v n (word_of c n) k
 Shows c v (Unguard s n) = MayExit v n
 Shows c v (Commit s) = IsAway v × ((n : ℕ) × (owns v n ≡ true)) × (c.commits < 2 ^ 64 - 1)
 Shows c v (End s) = IsAway v × (0 < v.stamp) × IsBare v × (c.sign v.who ≡ 0)
+Shows c v (Cancel s u) = IsAway v × (u < c.seats) × (c.cancel u ≡ 0)
+Shows c v (Heed s n) = MayHeed v n × (c.cancel v.who ≢ 0)
+Shows c v (Leave s n) = MayStop v n

@@ -47,6 +47,8 @@ first_view kind s = record {
   fresh = false;
   tries = 0;
   met = None;
+  heeded = 0;
+  stopped = [];
 }
 
 -- ---- what the seat knows, each part a definition over just what it reads of the core and of the view
@@ -89,3 +91,4 @@ pub record Knows (c : State) (v : View) : Type 0 where
   pub signed : (n u k : ℕ) → v.inside ≡ suc n → Has v.signed u → Has (owes c v.who n) (u, k) → c.sign u ≢ 0
   pub sign : (k : ℕ) → v.sign ≡ Some k → c.sign v.who ≡ k
   pub quiet : v.sign ≡ Some 0 → IsQuiet v
+  pub heeded : v.heeded ≡ c.heeded v.who

@@ -5,7 +5,7 @@ use Rattle.ww_word.specs.Owner.{idle, with_waiters, handed_to}
 use Rattle.ww_queue.specs.declared.entry.Entry.{Entry}
 use Rattle.ww_queue.specs.Queue.{left}
 use Rattle.ww_model.specs.declared.event.Event.{Event}
-use Rattle.ww_model.specs.declared.event.Event.TheVariants.{Fast, FastGive, Join, Take, Ask, Give, Die}
+use Rattle.ww_model.specs.declared.event.Event.TheVariants.{Fast, FastGive, Join, Take, Ask, Give, Die, Leave}
 use Rattle.ww_model.specs.State.{State, put, waiting, word_of}
 
 -- another seat has the lock, by the word
@@ -39,4 +39,5 @@ words_after c (Take s n) = put (word_of c) n (taken_word s (c.stamp s) (left (c.
 words_after c (Ask s n) = put (word_of c) n (asked_word (word_of c n))
 words_after c (Give s n) = put (word_of c) n (given_word (c.asked n) (c.queue n))
 words_after c (Die s n) = put (word_of c) n (rest_word (left (c.queue n) s) (word_of c n))
+words_after c (Leave s n) = put (word_of c) n (rest_word (left (c.queue n) s) (word_of c n))
 words_after c _ = word_of c

@@ -1,6 +1,6 @@
 //! Laws of views: each function's contract is one.
 
-ghost use Rattle.ww_view.specs.Laws.{OthersKnow, QuietIsLeftAlone, ActorKnows, FoundIsKnown, KnowsAtStart, RestsAsAtStart, ShownIsPossible, ExitIsPossible, ViewDecides, SignIsTold, DeathIsShown, DeathIsNoted, NoOtherIsNoted, ShownDeathWasMet, WordsAreWritten, WordsAreTold, WordsAreValid};
+ghost use Rattle.ww_view.specs.Laws.{OthersKnow, QuietIsLeftAlone, ActorKnows, FoundIsKnown, KnowsAtStart, RestsAsAtStart, ShownIsPossible, ExitIsPossible, ViewDecides, SignIsTold, DeathIsShown, DeathIsNoted, NoOtherIsNoted, InterruptionIsNoted, NoOtherIsStopped, ShownDeathWasMet, WordsAreWritten, WordsAreTold, WordsAreValid};
 
 /// What a seat knows stays, whatever the others do.
 pub fn others_know()
@@ -65,6 +65,17 @@ pub fn death_is_noted()
 /// No other event makes a view name one.
 pub fn no_other_is_noted()
     ensures { NoOtherIsNoted }
+{}
+
+/// The view of a seat that was interrupted names the lock, and the seat whose cancel it had heeded, beside all that it
+/// named.
+pub fn interruption_is_noted()
+    ensures { InterruptionIsNoted }
+{}
+
+/// No other event changes which interruptions a view names.
+pub fn no_other_is_stopped()
+    ensures { NoOtherIsStopped }
 {}
 
 /// A seat that has to die by its view met that context in the run.

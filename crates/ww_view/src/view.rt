@@ -30,7 +30,13 @@ pub struct View {
     pub fresh: bool,
     /// How often it tried to take a lock at once.
     pub tries: u64,
-    /// Once it has backed off: from which lock, and the stamp that it met there; until it takes a lock or gives one
-    /// back, or its context begins or ends. No other step sets it.
+    /// Once it has backed off: from which lock, and the stamp that it met there; until it takes a lock, gives one back
+    /// or is interrupted, or its context begins or ends. No other step sets it.
     pub met: Option<(u8, u64)>,
+    /// 0, or 1 more than the seat whose cancel it has heeded: a waiter inside the guard, which has not left the list
+    /// for it yet.
+    pub heeded: u8,
+    /// How often it was interrupted, the last time first: the lock whose wait list it left, and the seat whose cancel
+    /// it had heeded. No other step changes it.
+    pub stopped: LinkedList<(u8, u8)>,
 }

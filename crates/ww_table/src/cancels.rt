@@ -1,0 +1,44 @@
+ghost use Rattle.std.specs.Prelude.{◌≡◌, ◌≢◌, ◌<◌, ◌≤◌, true, false};
+ghost use Rattle.ww_view.specs.View.{IsAway};
+ghost use Rattle.ww_view.specs.May.{MayHeed};
+ghost use Rattle.ww_table.specs.Seat.{IsSeatOf};
+ghost use Rattle.ww_rule.specs.Guards.{lost};
+ghost use Rattle.ww_rule.specs.Cancels.{cancelling, heeding};
+
+use crate::board::Board;
+use crate::seat::Seat16;
+use ww_rule::layout::cancel_word;
+use ww_rule::plays_inside::{Heed, SetCancel};
+
+impl Seat16 {
+    /// Sets the cancel of a seat, which may be the own one, and answers whether this call did so: one that is pending
+    /// stays whose it is.
+    pub fn set_cancel(&mut self, board: &Board, victim: u8) -> bool
+        requires seat { IsSeatOf board.now self.old }
+        requires victim { victim < 16 }
+        requires away { IsAway self.old.seat.me.0.part.core }
+        ensures seat { IsSeatOf board.now self.new }
+        ensures records { self.new.records ≡ self.old.records }
+        ensures set { result ≡ true → self.new.seat.me ≡ (cancelling self.old.seat.me.0 victim, self.old.seat.me.1) }
+        ensures pending { result ≡ false → self.new.seat.me ≡ self.old.seat.me }
+    {
+        let own = u64::from(self.who) + 1;
+        let shared = &board.table.shared;
+        shared.compare_exchange::<SetCancel>(&mut self.seat, cancel_word(victim), 0, own) == 0
+    }
+
+    /// Takes the own cancel, as a waiter inside the guard whose lock another has: the seat that set it plus 1, or 0
+    /// where none is pending. Whoever found one gets out of that guard by `leave` alone.
+    pub fn heed(&mut self, board: &Board, lock: u8) -> u64
+        requires seat { IsSeatOf board.now self.old }
+        requires may { MayHeed self.old.seat.me.0.part.core lock }
+        ensures seat { IsSeatOf board.now self.new }
+        ensures records { self.new.records ≡ self.old.records }
+        ensures few { result ≤ 16 }
+        ensures none { result ≡ 0 → self.new.seat.me ≡ (lost self.old.seat.me.0, self.old.seat.me.1) }
+        ensures heeded { result ≢ 0 → self.new.seat.me ≡ (heeding self.old.seat.me.0 result, self.old.seat.me.1) }
+    {
+        let shared = &board.table.shared;
+        shared.swap::<Heed>(&mut self.seat, cancel_word(self.who), 0)
+    }
+}
