@@ -12,13 +12,17 @@ use Rattle.std.specs.List.{AllByRecursion}
 use Rattle.ww_lock.proofs.Helds.{held_more}
 use Rattle.ww_view.specs.View.{owns, IsBare}
 use Rattle.ww_table.specs.declared.seat.Seat16.{Seat16}
+use Rattle.ww_rule.specs.declared.cells.Counts.{Counts}
 use Rattle.ww_rule.specs.Steps.{MayDraw}
+use Rattle.ww_rule.specs.Cancels.{cancelling}
 use Rattle.ww_seat.specs.Orderly.{IsSettled}
-use Rattle.ww_seat.specs.Calls.{HoldsAsBefore, HasTaken, HasGiven, HasBegun, HasEnded, TriedOnce}
+use Rattle.ww_seat.specs.declared.waiting.Stop.{Stop}
+use Rattle.ww_seat.specs.declared.waiting.Stop.TheVariants.{Deadlk, Interrupted}
+use Rattle.ww_seat.specs.Calls.{HoldsAsBefore, HasTaken, HasStopped, HasGiven, HasBegun, HasEnded, IsTurnedAway, TriedOnce}
 use Rattle.ww_lock.specs.declared.hand.Hand.{Hand}
-use Rattle.ww_lock.specs.Holding.{Holding, Setting, IsAtHome, AreHeld}
+use Rattle.ww_lock.specs.Holding.{Holding, Setting, IsAtHome, AreHeld, by_of}
 use Rattle.ww_lock.specs.Carried.{holding_of, Carries, CarriesFresh}
-use Rattle.ww_lock.specs.Moves.{IsTaken, HasTried}
+use Rattle.ww_lock.specs.Moves.{IsTaken, IsInterrupted, IsCancelling, IsStop, HasTried}
 
 pub settled_as : (a b : TableId) (m n : ℕ) (q : Seat16) → a ≡ b → m ≡ n → IsSettled a m q → IsSettled b n q
 settled_as a b m n q same sizes s = subst (λ (t : TableId). IsSettled t n q) same (subst (λ (k : ℕ). IsSettled a k q) sizes s)
@@ -33,7 +37,7 @@ here h w p is home c = let t = at_table (holding_of h) w p is home in settled_as
 pub bare_of : (h : Hand) → Carries h → h.held.items ≡ [] → IsBare h.seat.seat.me.0.part.core
 bare_of h c none = λ n. c.owned n ∙ ap (is_among n) none
 
-pub may_draw : (h : Hand) → Carries h → h.held.items ≡ [] → h.seat.stamp ≡ 0 → h.seat.seat.me.0.part.draws + h.left + 1 < 2 ^ 32 → MayDraw h.seat.seat.me.0.part
+pub may_draw : (h : Hand) → Carries h → h.held.items ≡ [] → h.seat.stamp ≡ 0 → h.seat.seat.me.0.part.counts.draws + h.left + 1 < 2 ^ 32 → MayDraw h.seat.seat.me.0.part
 may_draw h c none idle few = record { away = c.settled.away; no_context = c.settled.seated.stamp ∙ idle; bare = bare_of h c none; fewer = omega (arith, few) }
 
 -- the seat that a state carries once a call of it has ended
@@ -42,10 +46,11 @@ pub record HasMoved (h : Hand) (p : Setting) (q : Seat16) : Type 0 where
   pub records : q.records ≡ h.seat.records
   pub who : q.seat.me.0.part.core.who ≡ h.seat.seat.me.0.part.core.who
   pub kind : q.seat.me.0.part.core.kind ≡ h.seat.seat.me.0.part.core.kind
+  pub answered : by_of q.seat.me.0.part.core.stopped ≡ q.seat.me.0.part.counts.heeded
 
 -- a state of these parts is seen as a holding of these
 pub holding_is : (h g : Hand) (w p : Setting) (q : Seat16) → p ≡ w → IsAtHome (holding_of h) w → Carries h → HasMoved h p q → g.seat ≡ q → g.left ≡ h.left
-    → holding_of g ≡ record (holding_of h) { draws = q.seat.me.0.part.draws; stamp = q.stamp; held = g.held.items; seen = g.seen; tries = q.seat.me.0.part.core.tries }
+    → holding_of g ≡ record (holding_of h) { draws = q.seat.me.0.part.counts.draws; stamp = q.stamp; held = g.held.items; seen = g.seen; tries = q.seat.me.0.part.core.tries; cancelled = q.seat.me.0.part.counts.cancelled; interrupted = q.seat.me.0.part.core.stopped }
 holding_is h g w p q is home c m seat left =
     let t = at_table (holding_of h) w p is home in
     let table : q.seat.table_id ≡ h.seat.seat.table_id = m.settled.seated.home ∙ sym t.0 in
@@ -54,7 +59,7 @@ holding_is h g w p q is home c m seat left =
 
 -- what is known of it, where its parts are these
 pub carries_as : (h g : Hand) (w p : Setting) (q : Seat16) → p ≡ w → IsAtHome (holding_of h) w → Carries h → HasMoved h p q → g.seat ≡ q → g.kind ≡ h.kind → length g.seen ≡ length h.seen
-    → AreHeld g.held.items g.seen → ((n : ℕ) → owns q.seat.me.0.part.core n ≡ is_among n g.held.items) → g.marks ≡ q.seat.me.0.part.core.owned → q.seat.me.0.part.draws + g.left < 2 ^ 32 → length q.records.items + g.left < 2 ^ 32 → Carries g
+    → AreHeld g.held.items g.seen → ((n : ℕ) → owns q.seat.me.0.part.core n ≡ is_among n g.held.items) → g.marks ≡ q.seat.me.0.part.core.owned → q.seat.me.0.part.counts.draws + g.left < 2 ^ 32 → length q.records.items + g.left < 2 ^ 32 → Carries g
 carries_as h g w p q is home c m seat kind size held owned marks draws commits =
     let t = at_table (holding_of h) w p is home in record {
       settled = subst (λ (s : Seat16). IsSettled s.seat.table_id (length g.seen) s) (sym seat)
@@ -63,9 +68,14 @@ carries_as h g w p q is home c m seat kind size held owned marks draws commits =
       owned = λ n. ap (λ (s : Seat16). owns s.seat.me.0.part.core n) seat ∙ owned n;
       marks = marks ∙ ap (λ (s : Seat16). s.seat.me.0.part.core.owned) (sym seat);
       held = held;
-      draws = subst (λ (s : Seat16). s.seat.me.0.part.draws + g.left < 2 ^ 32) (sym seat) draws;
+      answered = subst (λ (s : Seat16). by_of s.seat.me.0.part.core.stopped ≡ s.seat.me.0.part.counts.heeded) (sym seat) m.answered;
+      draws = subst (λ (s : Seat16). s.seat.me.0.part.counts.draws + g.left < 2 ^ 32) (sym seat) draws;
       commits = subst (λ (s : Seat16). length s.records.items + g.left < 2 ^ 32) (sym seat) commits;
     }
+
+-- each cancel that was heeded is still answered, where both are as they were
+still_answered : (h : Hand) (q : Seat16) → Carries h → q.seat.me.0.part.core.stopped ≡ h.seat.seat.me.0.part.core.stopped → q.seat.me.0.part.counts.heeded ≡ h.seat.seat.me.0.part.counts.heeded → by_of q.seat.me.0.part.core.stopped ≡ q.seat.me.0.part.counts.heeded
+still_answered h q c stopped heeded = ap by_of stopped ∙ c.answered ∙ sym heeded
 
 -- ---- contexts
 
@@ -74,19 +84,20 @@ pub record Begins (h g : Hand) : Type 0 where
   pub is : holding_of g ≡ record (holding_of h) { draws = (holding_of h).draws + 1; stamp = g.seat.stamp }
   pub stamped : 0 < g.seat.stamp
 
-pub begins : (h : Hand) (w p : Setting) (q : Seat16) (k : ℕ) → p ≡ w → IsAtHome (holding_of h) w → CarriesFresh h → h.seat.seat.me.0.part.draws + h.left + 1 < 2 ^ 32
+pub begins : (h : Hand) (w p : Setting) (q : Seat16) (k : ℕ) → p ≡ w → IsAtHome (holding_of h) w → CarriesFresh h → h.seat.seat.me.0.part.counts.draws + h.left + 1 < 2 ^ 32
     → IsSettled p.home (length p.first) q → q.records ≡ h.seat.records → HasBegun h.seat.seat.me k q.seat.me → 0 < k → Begins h (record h { seat = q })
 begins h w p q k is home f few settled records b pos =
     let c = f.carries in
     let g : Hand = record h { seat = q } in
-    let m : HasMoved h p q = record { settled = settled; records = records; who = b.who; kind = b.kind } in
+    let m : HasMoved h p q = record { settled = settled; records = records; who = b.who; kind = b.kind; answered = still_answered h q c b.stopped (ap (λ (k : Counts). k.heeded) b.counts) } in
+    let drew = ap (λ (k : Counts). k.draws) b.counts in
     let many : length q.records.items ≡ length h.seat.records.items = ap (λ r. length r.items) records in record {
       fresh = record {
-        carries = carries_as h g w p q is home c m refl refl refl c.held (λ n. ap (λ (os : List Bool). get_or os n false) b.owned ∙ c.owned n) (c.marks ∙ sym b.owned) (omega (arith, few, b.draws)) (omega (arith, many, c.commits));
+        carries = carries_as h g w p q is home c m refl refl refl c.held (λ n. ap (λ (os : List Bool). get_or os n false) b.owned ∙ c.owned n) (c.marks ∙ sym b.owned) (omega (arith, few, drew)) (omega (arith, many, c.commits));
         seen = λ n among. ap (λ hs. get_elem? hs n) b.held ∙ f.seen n among;
         commits = omega (arith, many, f.commits);
       };
-      is = holding_is h g w p q is home c m refl refl ∙ rw (b.draws, b.tries) refl;
+      is = holding_is h g w p q is home c m refl refl ∙ rw (b.counts, b.stopped, b.tries) refl;
       stamped = omega (arith, pos, b.stamp, settled.seated.stamp);
     }
 
@@ -98,10 +109,11 @@ pub ends : (h : Hand) (w p : Setting) (q : Seat16) → p ≡ w → IsAtHome (hol
     → IsSettled p.home (length p.first) q → q.records ≡ h.seat.records → HasEnded h.seat.seat.me q.seat.me → Ends h (record h { seat = q })
 ends h w p q is home c settled records e =
     let g : Hand = record h { seat = q } in
-    let m : HasMoved h p q = record { settled = settled; records = records; who = e.who; kind = e.kind } in
+    let m : HasMoved h p q = record { settled = settled; records = records; who = e.who; kind = e.kind; answered = still_answered h q c e.stopped (ap (λ (k : Counts). k.heeded) e.counts) } in
+    let drew = ap (λ (k : Counts). k.draws) e.counts in
     let many : length q.records.items ≡ length h.seat.records.items = ap (λ r. length r.items) records in record {
-      carries = carries_as h g w p q is home c m refl refl refl c.held (λ n. ap (λ (os : List Bool). get_or os n false) e.owned ∙ c.owned n) (c.marks ∙ sym e.owned) (omega (arith, c.draws, e.draws)) (omega (arith, many, c.commits));
-      is = holding_is h g w p q is home c m refl refl ∙ rw (e.draws, sym settled.seated.stamp ∙ e.stamp, e.tries) refl;
+      carries = carries_as h g w p q is home c m refl refl refl c.held (λ n. ap (λ (os : List Bool). get_or os n false) e.owned ∙ c.owned n) (c.marks ∙ sym e.owned) (omega (arith, c.draws, drew)) (omega (arith, many, c.commits));
+      is = holding_is h g w p q is home c m refl refl ∙ rw (e.counts, e.stopped, sym settled.seated.stamp ∙ e.stamp, e.tries) refl;
     }
 
 -- ---- locks
@@ -152,7 +164,8 @@ pub takes : (h g : Hand) (w p : Setting) (q : Seat16) (n : ℕ) (x : Node) → p
     → g.seat ≡ q → g.kind ≡ h.kind → g.left ≡ h.left → g.held.items ≡ h.held.items ++ n ∷ [] → g.marks ≡ set h.marks n true → g.seen ≡ set h.seen n x → Takes h g n
 takes h g w p q n x is home f lt new settled records t once seat kind left grown marked read =
     let c = f.carries in
-    let m : HasMoved h p q = record { settled = settled; records = records; who = t.same.who; kind = t.same.kind } in
+    let m : HasMoved h p q = record { settled = settled; records = records; who = t.same.who; kind = t.same.kind; answered = still_answered h q c t.same.stopped (ap (λ (k : Counts). k.heeded) t.same.counts) } in
+    let drew = ap (λ (k : Counts). k.draws) t.same.counts in
     let many : length q.records.items ≡ length h.seat.records.items = ap (λ r. length r.items) records in
     let long : length g.seen ≡ length h.seen = ap length read ∙ length-set h.seen n x in
     let wide : n < length h.seat.seat.me.0.part.core.owned = omega (arith, lt, c.held.few, c.settled.orderly.owned) in
@@ -160,7 +173,7 @@ takes h g w p q n x is home f lt new settled records t once seat kind left grown
     let carried = carries_as h g w p q is home c m seat kind long (held_more h.held.items g.held.items h.seen g.seen n c.held lt new grown long)
     (λ k. owns_more h.seat.seat.me.0.part.core.owned q.seat.me.0.part.core.owned h.held.items n wide t.owned c.owned k ∙ ap (is_among k) (sym grown))
     (marked ∙ ap (λ (os : List Bool). set os n true) c.marks ∙ sym t.owned)
-    (omega (arith, c.draws, t.same.draws, left)) (omega (arith, many, c.commits, left)) in
+    (omega (arith, c.draws, drew, left)) (omega (arith, many, c.commits, left)) in
     let here_now : get_elem? q.seat.me.0.held n ≡ some (Some (node_at g.seen n)) =
     ap (λ hs. get_elem? hs n) t.held ∙ elem_here h.seat.seat.me.0.held n (Some x) deep ∙ ap (λ (y : Node). some (Some y)) (sym (ap (λ (ns : List Node). node_at ns n) read ∙ get_or-set_same h.seen n x no_node lt)) in
     let still : (k : ℕ) → k ≢ n → is_among k h.held.items ≡ true → get_elem? q.seat.me.0.held k ≡ some (Some (node_at g.seen k)) = λ k isnt among.
@@ -177,7 +190,7 @@ takes h g w p q n x is home f lt new settled records t once seat kind left grown
       is = record {
         new = new;
         contents = x;
-        added = holding_is h g w p q is home c m seat left ∙ rw (grown, read, seat, t.same.draws, sym settled.seated.stamp ∙ t.same.stamp ∙ c.settled.seated.stamp) refl;
+        added = holding_is h g w p q is home c m seat left ∙ rw (grown, read, seat, t.same.counts, t.same.stopped, sym settled.seated.stamp ∙ t.same.stamp ∙ c.settled.seated.stamp) refl;
         once = subst (λ (s : Seat16). TriedOnce h.seat.seat.me s.seat.me) (sym seat) once;
       };
     }
@@ -198,14 +211,56 @@ pub keeps : (h : Hand) (w p : Setting) (q : Seat16) → p ≡ w → IsAtHome (ho
 keeps h w p q is home f settled records b once =
     let c = f.carries in
     let g : Hand = record h { seat = q } in
-    let m : HasMoved h p q = record { settled = settled; records = records; who = b.same.who; kind = b.same.kind } in
+    let m : HasMoved h p q = record { settled = settled; records = records; who = b.same.who; kind = b.same.kind; answered = still_answered h q c b.same.stopped (ap (λ (k : Counts). k.heeded) b.same.counts) } in
+    let drew = ap (λ (k : Counts). k.draws) b.same.counts in
     let many : length q.records.items ≡ length h.seat.records.items = ap (λ r. length r.items) records in record {
       fresh = record {
-        carries = carries_as h g w p q is home c m refl refl refl c.held (λ n. ap (λ (os : List Bool). get_or os n false) b.owned ∙ c.owned n) (c.marks ∙ sym b.owned) (omega (arith, c.draws, b.same.draws)) (omega (arith, many, c.commits));
+        carries = carries_as h g w p q is home c m refl refl refl c.held (λ n. ap (λ (os : List Bool). get_or os n false) b.owned ∙ c.owned n) (c.marks ∙ sym b.owned) (omega (arith, c.draws, drew)) (omega (arith, many, c.commits));
         seen = λ n among. ap (λ hs. get_elem? hs n) b.held ∙ f.seen n among;
         commits = omega (arith, many, f.commits);
       };
-      is = record { same = holding_is h g w p q is home c m refl refl ∙ rw (b.same.draws, sym settled.seated.stamp ∙ b.same.stamp ∙ c.settled.seated.stamp) refl; once = once };
+      is = record { same = holding_is h g w p q is home c m refl refl ∙ rw (b.same.counts, b.same.stopped, sym settled.seated.stamp ∙ b.same.stamp ∙ c.settled.seated.stamp) refl; once = once };
+    }
+
+-- its wait was called off, and it holds what it held
+pub record Stops (h g : Hand) (n by : ℕ) : Type 0 where
+  pub fresh : CarriesFresh g
+  pub is : IsInterrupted (holding_of h) n by (holding_of g)
+
+pub stops : (h : Hand) (w p : Setting) (q : Seat16) (n by : ℕ) → p ≡ w → IsAtHome (holding_of h) w → CarriesFresh h → is_among n h.held.items ≡ false → IsSettled p.home (length p.first) q → q.records ≡ h.seat.records
+    → HasStopped h.seat.seat.me n by q.seat.me → TriedOnce h.seat.seat.me q.seat.me → Stops h (record h { seat = q }) n by
+stops h w p q n by is home f new settled records b once =
+    let c = f.carries in
+    let g : Hand = record h { seat = q } in
+    let heeded = ap (λ (k : Counts). k.heeded) b.counts in
+    let m : HasMoved h p q = record { settled = settled; records = records; who = b.who; kind = b.kind; answered = ap by_of b.stopped ∙ ap (λ (bs : List ℕ). by ∷ bs) c.answered ∙ sym heeded } in
+    let drew = ap (λ (k : Counts). k.draws) b.counts in
+    let many : length q.records.items ≡ length h.seat.records.items = ap (λ r. length r.items) records in record {
+      fresh = record {
+        carries = carries_as h g w p q is home c m refl refl refl c.held (λ k. ap (λ (os : List Bool). get_or os k false) b.owned ∙ c.owned k) (c.marks ∙ sym b.owned) (omega (arith, c.draws, drew)) (omega (arith, many, c.commits));
+        seen = λ k among. ap (λ hs. get_elem? hs k) b.held ∙ f.seen k among;
+        commits = omega (arith, many, f.commits);
+      };
+      is = record {
+        new = new;
+        told = holding_is h g w p q is home c m refl refl ∙ rw (b.counts, b.stopped, sym settled.seated.stamp ∙ b.stamp ∙ c.settled.seated.stamp) refl;
+        once = once;
+      };
+    }
+
+-- it called off the wait of another
+pub record Cancels (h g : Hand) (who : ℕ) : Type 0 where
+  pub carries : Carries g
+  pub is : IsCancelling (holding_of h) who (holding_of g)
+
+pub cancels : (h : Hand) (w p : Setting) (q : Seat16) (who : ℕ) → p ≡ w → IsAtHome (holding_of h) w → Carries h → IsSettled p.home (length p.first) q → q.records ≡ h.seat.records
+    → q.seat.me ≡ (cancelling h.seat.seat.me.0 who, h.seat.seat.me.1) → Cancels h (record h { seat = q }) who
+cancels h w p q who is home c settled records me =
+    let g : Hand = record h { seat = q } in
+    let m : HasMoved h p q = record { settled = settled; records = records; who = rw me refl; kind = rw me refl; answered = rw me c.answered } in
+    let many : length q.records.items ≡ length h.seat.records.items = ap (λ r. length r.items) records in record {
+      carries = carries_as h g w p q is home c m refl refl refl c.held (λ n. rw me (c.owned n)) (rw me c.marks) (rw me c.draws) (omega (arith, many, c.commits));
+      is = holding_is h g w p q is home c m refl refl ∙ rw (sym settled.seated.stamp, me, c.settled.seated.stamp) refl;
     }
 
 -- what has to die holds a node
@@ -215,6 +270,13 @@ holds_one h c one = some_among h.held.items one.0 (sym (c.owned one.0) ∙ one.1
     some_among : (ns : List ℕ) (n : ℕ) → is_among n ns ≡ true → 1 ≤ length ns
     some_among [] n e = absurd (true≢false (sym e))
     some_among (m ∷ ms) n e = omega arith
+
+-- it came without the lock
+pub turned_away : (h : Hand) (w p : Setting) (q : Seat16) (n : ℕ) (why : Stop) → p ≡ w → IsAtHome (holding_of h) w → CarriesFresh h → is_among n h.held.items ≡ false → IsSettled p.home (length p.first) q → q.records ≡ h.seat.records
+    → IsTurnedAway h.seat.seat.me n why q.seat.me → TriedOnce h.seat.seat.me q.seat.me → CarriesFresh (record h { seat = q }) × IsStop (holding_of h) n why (holding_of (record h { seat = q }))
+turned_away h w p q n (Deadlk k) is home f new settled records d once = let kept = keeps h w p q is home f settled records d.holds once in
+    (kept.fresh, (kept.is, d.context, omega (arith, d.older, f.carries.settled.seated.stamp), holds_one h f.carries d.one))
+turned_away h w p q n (Interrupted by) is home f new settled records d once = let s = stops h w p q n by is home f new settled records d once in (s.fresh, s.is)
 
 -- ---- giving back
 
@@ -267,7 +329,8 @@ pub gives : (h g : Hand) (w p : Setting) (q : Seat16) (front : List ℕ) (n : �
     → IsSettled p.home (length p.first) q → q.records ≡ h.seat.records → HasGiven h.seat.seat.me n q.seat.me
     → g.seat ≡ q → g.kind ≡ h.kind → g.left ≡ h.left → g.held.items ≡ front → g.marks ≡ set h.marks n false → g.seen ≡ h.seen → Gives h g
 gives h g w p q front n is home c was settled records b seat kind left now marked seen =
-    let m : HasMoved h p q = record { settled = settled; records = records; who = b.same.who; kind = b.same.kind } in
+    let m : HasMoved h p q = record { settled = settled; records = records; who = b.same.who; kind = b.same.kind; answered = still_answered h q c b.same.stopped (ap (λ (k : Counts). k.heeded) b.same.counts) } in
+    let drew = ap (λ (k : Counts). k.draws) b.same.counts in
     let many : length q.records.items ≡ length h.seat.records.items = ap (λ r. length r.items) records in
     let l = last_held h front n c was in
     let wide : n < length h.seat.seat.me.0.part.core.owned = omega (arith, l.there, c.held.few, c.settled.orderly.owned) in
@@ -280,8 +343,8 @@ gives h g w p q front n is home c was settled records b seat kind left now marke
       carries = carries_as h g w p q is home c m seat kind (ap length seen) (rw (now, seen) held)
           (λ k. owns_less h.seat.seat.me.0.part.core.owned q.seat.me.0.part.core.owned front n wide b.owned (λ j. c.owned j ∙ ap (is_among j) was) apart.1 k ∙ ap (is_among k) (sym now))
           (marked ∙ ap (λ (os : List Bool). set os n false) c.marks ∙ sym b.owned)
-          (omega (arith, c.draws, b.same.draws, left)) (omega (arith, many, c.commits, left));
-      is = holding_is h g w p q is home c m seat left ∙ rw (seen, b.same.draws, b.tries, sym settled.seated.stamp ∙ b.same.stamp ∙ c.settled.seated.stamp) refl;
+          (omega (arith, c.draws, drew, left)) (omega (arith, many, c.commits, left));
+      is = holding_is h g w p q is home c m seat left ∙ rw (seen, b.same.counts, b.same.stopped, b.tries, sym settled.seated.stamp ∙ b.same.stamp ∙ c.settled.seated.stamp) refl;
     }
 
 -- a state is at home where one that differs in the nodes that are held was

@@ -12,6 +12,7 @@ use Rattle.ww_plain.specs.Transaction.{get, add, move, link, sum, reverse, peek,
 use Rattle.ww_plain.specs.Meaning.{answer_of}
 use Rattle.ww_plain.proofs.Members.{true_or_false, is_among-append, is_among-head}
 use Rattle.ww_plain.proofs.Walks.{gives_walk}
+use Rattle.ww_rule.specs.declared.cells.Counts.{Counts}
 use Rattle.ww_table.specs.declared.seat.Seat16.{Seat16}
 use Rattle.ww_view.specs.View.{owns}
 use Rattle.ww_table.specs.Seat.{IsSeated}
@@ -30,7 +31,7 @@ use Rattle.ww_plain.specs.Footprint.{footprint_of}
 use Rattle.ww_plain.specs.Meaning.{answer_to}
 use Rattle.ww_plain.specs.Transaction.{Transaction}
 use Rattle.ww_plain.specs.History.{Recorded, recorded_of}
-use Rattle.ww_lock.specs.Holding.{Holding, Change, Setting, IsAtHome, Holds, SameAt, AreBelow, own_of}
+use Rattle.ww_lock.specs.Holding.{Holding, Change, Setting, IsAtHome, Holds, SameAt, AreBelow, by_of, own_of}
 use Rattle.ww_lock.specs.Making.{Covers, IsMade, IsMadeOf, change_of}
 
 same_everywhere : (graph : List Node) (ns : List ℕ) → SameAt graph graph ns
@@ -175,11 +176,12 @@ commits h w pl q p r after ns told is home f settled b same seq reply capacity =
         owned = λ n. ap (λ (os : List Bool). get_or os n false) b.owned ∙ c.owned n;
         marks = c.marks ∙ sym b.owned;
         held = c.held;
-        draws = omega (arith, c.draws, b.draws);
+        answered = ap by_of b.stopped ∙ c.answered ∙ sym (ap (λ (k : Counts). k.heeded) b.counts);
+        draws = omega (arith, c.draws, ap (λ (k : Counts). k.draws) b.counts);
         commits = omega (arith, many, f.commits);
       };
       is = record {
-        own = rw (table, who, b.draws, stamp, own, room, b.tries) refl;
+        own = rw (table, who, b.counts, b.stopped, stamp, own, room, b.tries) refl;
         above = below_as told.place h.seat.records.items (subst (AllByRecursion (λ x. x.0 < told.place)) (sym c.settled.seated.records) b.above);
         seq = seq ∙ sym size;
         reply = reply;
@@ -200,6 +202,7 @@ reserved h q same list f = subst (λ (s : Seat16). CarriesFresh (record h { seat
     owned = f.carries.owned;
     marks = f.carries.marks;
     held = f.carries.held;
+    answered = f.carries.answered;
     draws = f.carries.draws;
     commits = omega (arith, ap length list, f.carries.commits);
   };

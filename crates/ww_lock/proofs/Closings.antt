@@ -14,16 +14,17 @@ use Rattle.ww_rule.specs.declared.cells.Cell.{Cell}
 use Rattle.ww_rule.specs.declared.cells.Start.{Start}
 use Rattle.ww_table.specs.declared.seat.Seat16.{Seat16}
 use Rattle.ww_rule.specs.Layout.{list_at}
-use Rattle.ww_rule.specs.Rule.{first_graph}
+use Rattle.ww_model.specs.State.{one_if}
+use Rattle.ww_rule.specs.Rule.{first_graph, times}
 use Rattle.ww_rule.specs.Out.{slot_of}
 use Rattle.ww_table.specs.Closed.{HasCome, HaveAllCome, HasPlaces}
 use Rattle.ww_table.specs.Closed as table
 use Rattle.atomic_table.specs.Seated.{TableId}
 use Rattle.ww_lock.specs.declared.hand.Hand.{Hand}
 use Rattle.ww_lock.specs.declared.close.History.{History}
-use Rattle.ww_lock.specs.Holding.{Holding, Setting, AreAtHome, AreBelow, own_of}
+use Rattle.ww_lock.specs.Holding.{Holding, Setting, AreAtHome, AreBelow, by_of, own_of}
 use Rattle.ww_lock.specs.Carried.{holding_of, Carries}
-use Rattle.ww_lock.specs.Closed.{has_pass, missing_of, IsSeatOf, AreSeatsOf, AreAllBelow, AreParts, IsClosed}
+use Rattle.ww_lock.specs.Closed.{has_pass, missing_of, IsSeatOf, AreSeatsOf, AreAllBelow, AreParts, IsBalanced, AreBalanced, IsClosed}
 use Rattle.ww_lock.proofs.Carrying.{bare_of}
 
 first_here : (x : ℕ × Cell) (xs : List (ℕ × Cell)) → slot_of (x ∷ xs) x.0 ≡ None → ⊥
@@ -54,6 +55,8 @@ seat_of_pass h s is c none = subst (λ (t : Holding). IsSeatOf t h.seat) is (rec
   come = record { seated = c.settled.seated; bare = bare_of h c none; nothing = nothing_out h c (bare_of h c none) };
   number = refl;
   own = refl;
+  cancelled = refl;
+  heeded = sym c.answered;
 })
 
 pub below_own : (place : ℕ) (records : List (ℕ × Record)) → AllByRecursion (λ q. q.0 < place) records → AreBelow place (own_of records)
@@ -128,6 +131,30 @@ parts history [] (q ∷ qs) are each = absurd are
 parts history (s ∷ ss) [] are each = absurd are
 parts history (s ∷ ss) (q ∷ qs) are each = (ap (λ (k : ℕ). part_of k history) (sym are.0.number) ∙ each q (inl refl) ∙ are.0.own, parts history ss qs are.1 (λ r has. each r (inr has)))
 
+-- what holds of each seat, told of its pass
+of_each : (passes : List Holding) (seats : List Seat16) (P : Holding → Type 0) → AreSeatsOf passes seats → ((s : Holding) (q : Seat16) → IsSeatOf s q → Has seats q → P s) → AllByRecursion P passes
+of_each [] [] P are each = tt
+of_each [] (q ∷ qs) P are each = absurd are
+of_each (s ∷ ss) [] P are each = absurd are
+of_each (s ∷ ss) (q ∷ qs) P are each = (each s q are.0 (inl refl), of_each ss qs P are.1 (λ t r is has. each t r is (inr has)))
+
+-- numbers that stand there no time if they are this great are all less
+all_less : (most : ℕ) (ks : List ℕ) → ((k : ℕ) → most ≤ k → times k ks ≡ 0) → AllByRecursion (λ k. k < most) ks
+all_less most [] none = tt
+all_less most (k ∷ ks) none = (
+  elim (cases_lt k most) [ inl lt ↦ lt | inr le ↦ absurd (let z = none k le in let e = ap one_if (eqb_same k) in omega (arith, z, e)) ],
+  all_less most ks (λ j le. let z = none j le in omega (arith, z)),
+)
+
+balances : (key : Start) (w : Setting) (passes : List Holding) (seats : List Seat16) (records : List Record) (nodes : List Node) → key.seats ≡ w.passes → AreSeatsOf passes seats → table.IsClosed key seats records nodes → AreBalanced w passes
+balances key w passes seats records nodes count are c = record {
+  pending = c.pending;
+  each = of_each passes seats (λ s. AllByRecursion (λ t. IsBalanced s t (c.pending t.caller)) passes) are (λ s q is has.
+      of_each passes seats (λ t. IsBalanced s t (c.pending t.caller)) are (λ t r at there. rw (sym is.number, sym at.number, sym is.cancelled, sym at.heeded) (c.balanced q r has there)));
+  callers = of_each passes seats (λ t. AllByRecursion (λ k. k < w.passes) (by_of t.interrupted)) are (λ t r at there.
+      all_less w.passes (by_of t.interrupted) (λ k big. ap (times k) (sym at.heeded) ∙ c.strangers k r (omega (arith, big, count)) there));
+}
+
 pub closed : (key : Start) (w : Setting) (passes : List Holding) (seats : List Seat16) (h : History) → first_graph key ≡ w.first → key.seats ≡ w.passes → missing_of w.passes passes ≡ 0 → AreSeatsOf passes seats
     → table.IsClosed key seats h.records.items h.graph → IsClosed w passes h
 closed key w passes seats h first count none are c = let history : List Recorded = history_of h.records.items in record {
@@ -137,6 +164,7 @@ closed key w passes seats h first count none are c = let history : List Recorded
   all_there = none;
   callers = all_elems (λ r. r.caller < w.passes) history (λ k r e. omega (arith, c.callers k r e, count));
   parts = parts history passes seats are c.parts;
+  balanced = balances key w passes seats h.records.items h.graph count are c;
 }
 
 pub seats_push : (passes : List Holding) (seats : List Seat16) (s : Holding) (q : Seat16) → AreSeatsOf passes seats → IsSeatOf s q → AreSeatsOf (passes ++ s ∷ []) (seats ++ q ∷ [])

@@ -7,11 +7,11 @@ use Rattle.ww_plain.specs.declared.node.Node.{Node}
 use Rattle.ww_view.specs.View.{owns}
 use Rattle.ww_rule.specs.declared.cells.Start.{Start}
 use Rattle.ww_table.specs.declared.seat.Seat16.{Seat16}
-use Rattle.ww_rule.specs.Rule.{Sat, first_graph}
+use Rattle.ww_rule.specs.Rule.{Sat, first_graph, no_counts}
 use Rattle.ww_table.specs.Seat.{IsNew}
 use Rattle.ww_plain.specs.Numbers.{is_among}
 use Rattle.ww_lock.specs.declared.hand.Hand.{Hand}
-use Rattle.ww_lock.specs.Holding.{Home, Holding, Setting, IsAtHome, AreAtHome, own_of}
+use Rattle.ww_lock.specs.Holding.{Home, Holding, Setting, IsAtHome, AreAtHome, by_of, own_of}
 use Rattle.ww_lock.specs.Carried.{holding_of, Carries}
 use Rattle.ww_lock.specs.Opened.{fresh, AreFresh, AreRests}
 use Rattle.ww_lock.specs.declared.world.Rest.{Rest}
@@ -33,7 +33,8 @@ new_carries t key k h new kind none marks seen few left =
       owned = λ n. ap (λ (m : Sat). owns m.0.part.core n) me ∙ none_owned n ∙ sym (ap (is_among n) none);
       marks = marks ∙ sym (ap (λ (m : Sat). m.0.part.core.owned) me);
       held = rw (none, seen) (held_none (first_graph key) few);
-      draws = omega (arith, left, ap (λ (m : Sat). m.0.part.draws) me);
+      answered = ap (λ (m : Sat). by_of m.0.part.core.stopped) me ∙ sym (ap (λ (m : Sat). m.0.part.counts.heeded) me);
+      draws = omega (arith, left, ap (λ (m : Sat). m.0.part.counts.draws) me);
       commits = omega (arith, left, ap length list);
     }
 
@@ -42,9 +43,10 @@ new_holding t key k h new none seen =
     let list : h.seat.records.items ≡ [] = new.seated.records ∙ ap (λ (m : Sat). m.0.part.own) new.me in
     let stamp : h.seat.stamp ≡ 0 = sym new.seated.stamp ∙ ap (λ (m : Sat). m.0.part.core.stamp) new.me in
     let own : own_of h.seat.records.items ≡ [] = ap own_of list in
-    let draws : h.seat.seat.me.0.part.draws ≡ 0 = ap (λ (m : Sat). m.0.part.draws) new.me in
+    let counts : h.seat.seat.me.0.part.counts ≡ no_counts = ap (λ (m : Sat). m.0.part.counts) new.me in
+    let stopped : h.seat.seat.me.0.part.core.stopped ≡ [] = ap (λ (m : Sat). m.0.part.core.stopped) new.me in
     let tries : h.seat.seat.me.0.part.core.tries ≡ 0 = ap (λ (m : Sat). m.0.part.core.tries) new.me in
-    rw (new.seated.home, new.number, draws, stamp, own, none, seen, tries) refl
+    rw (new.seated.home, new.number, counts, stopped, stamp, own, none, seen, tries) refl
 
 pub new_idle : (t : TableId) (key : Start) (k : ℕ) (q : Seat16) → IsNew t key k q → q.stamp ≡ 0
 new_idle t key k q new = sym new.seated.stamp ∙ ap (λ (m : Sat). m.0.part.core.stamp) new.me

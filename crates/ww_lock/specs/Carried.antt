@@ -7,7 +7,7 @@ use Rattle.ww_plain.specs.Graph.{node_at}
 use Rattle.ww_view.specs.View.{owns}
 use Rattle.ww_seat.specs.Orderly.{IsSettled}
 use Rattle.ww_lock.specs.declared.hand.Hand.{Hand}
-use Rattle.ww_lock.specs.Holding.{Holding, AreHeld, own_of}
+use Rattle.ww_lock.specs.Holding.{Holding, AreHeld, by_of, own_of}
 
 -- what a contract sees of it
 abbrev pub holding_of : Hand → Holding
@@ -15,28 +15,31 @@ holding_of h = record {
   home = h.seat.seat.table_id;
   caller = h.seat.who;
   left = h.left;
-  draws = h.seat.seat.me.0.part.draws;
+  draws = h.seat.seat.me.0.part.counts.draws;
   stamp = h.seat.stamp;
   own = own_of h.seat.records.items;
   room = vec_capacity h.seat.records - vec_len h.seat.records;
   held = h.held.items;
   seen = h.seen;
   tries = h.seat.seat.me.0.part.core.tries;
+  cancelled = h.seat.seat.me.0.part.counts.cancelled;
+  interrupted = h.seat.seat.me.0.part.core.stopped;
 }
 
 -- the lock and the older stamp for which its seat had to die, as its view notes it until it takes or gives a lock
 abbrev pub met_of : Hand → Option (ℕ × ℕ)
 met_of h = h.seat.seat.me.0.part.core.met
 
--- The seat is between two calls, and owns just the locks of the nodes that are held, which have their marks. With what
--- is left it stays within what the table counts.
+-- The seat is between two calls, and owns just the locks of the nodes that are held, which have their marks. Each cancel
+-- that it heeded was answered by an interruption. With what is left it stays within what the table counts.
 pub record Carries (h : Hand) : Type 0 where
   pub settled : IsSettled h.seat.seat.table_id (length h.seen) h.seat
   pub kind : h.kind ≡ h.seat.seat.me.0.part.core.kind
   pub owned : (n : ℕ) → owns h.seat.seat.me.0.part.core n ≡ is_among n h.held.items
   pub marks : h.marks ≡ h.seat.seat.me.0.part.core.owned
   pub held : AreHeld h.held.items h.seen
-  pub draws : h.seat.seat.me.0.part.draws + h.left < 2 ^ 32
+  pub answered : by_of h.seat.seat.me.0.part.core.stopped ≡ h.seat.seat.me.0.part.counts.heeded
+  pub draws : h.seat.seat.me.0.part.counts.draws + h.left < 2 ^ 32
   pub commits : length h.seat.records.items + h.left < 2 ^ 32
 
 -- ... and it may still commit: each node that is held is as it was seen
@@ -52,4 +55,4 @@ pub record IsSpent (s : Holding) (h : Hand) : Type 0 where
   pub fresh : CarriesFresh h
   pub nothing : h.held.items ≡ []
   pub idle : h.seat.stamp ≡ 0
-  pub draws : h.seat.seat.me.0.part.draws + h.left + 1 < 2 ^ 32
+  pub draws : h.seat.seat.me.0.part.counts.draws + h.left + 1 < 2 ^ 32

@@ -18,8 +18,9 @@ Home = TableId
 -- Its world and its number there; how many contexts and solos it may still start; how many contexts it has begun, for
 -- each of which it drew a stamp; its stamp, 0 without a context; its own list: all its commits with their places,
 -- oldest first, with room for so many more; the nodes that it holds, in the order in which it took them; the graph as
--- it has seen it, of which the nodes held are as they were when they were locked; and how often it tried to take a lock
--- at once, by one step that a free lock allows.
+-- it has seen it, of which the nodes held are as they were when they were locked; how often it tried to take a lock at
+-- once, by one step that a free lock allows; the callers whose wait it called off, the last one first; and each time that
+-- its own wait was called off, the last one first: for which node, and by which caller.
 pub record Holding : Type 0 where
   pub home : Home
   pub caller : ℕ
@@ -31,6 +32,8 @@ pub record Holding : Type 0 where
   pub held : List ℕ
   pub seen : List Node
   pub tries : ℕ
+  pub cancelled : List ℕ
+  pub interrupted : List (ℕ × ℕ)
 
 -- a context that is told EDEADLK: the lock that it couldn't get, and the stamp of the older context that it met
 pub record Refused : Type 0 where
@@ -66,6 +69,10 @@ pub record IsAtHome (s : Holding) (w : Setting) : Type 0 where
 -- each of these passes came from this world
 abbrev pub AreAtHome : List Holding → Setting → Type 0
 AreAtHome passes w = AllByRecursion (λ s. IsAtHome s w) passes
+
+-- the callers by whom it was interrupted
+abbrev pub by_of : List (ℕ × ℕ) → List ℕ
+by_of interruptions = map (λ p. p.1) interruptions
 
 abbrev pub own_of : List (ℕ × Record) → List (ℕ × Recorded)
 own_of records = map (λ p. (p.0, recorded_of p.1)) records

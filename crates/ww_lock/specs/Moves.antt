@@ -6,8 +6,12 @@ use Rattle.ww_plain.specs.Meaning.{answer_of}
 use Rattle.ww_lock.specs.declared.prepared.Receipt.{Receipt}
 use Rattle.ww_lock.specs.declared.acquiring.Lock.{Lock}
 use Rattle.ww_lock.specs.declared.acquiring.Lock.TheVariants.{Locked, Already, Deadlk}
+use Rattle.ww_lock.specs.declared.interruptible.Interruptible.{Interruptible}
+use Rattle.ww_lock.specs.declared.interruptible.Interruptible.TheVariants as stop
 use Rattle.ww_lock.specs.declared.acquiring.Try.{Try}
 use Rattle.ww_lock.specs.declared.acquiring.Try.TheVariants as try
+use Rattle.ww_seat.specs.declared.waiting.Stop.{Stop}
+use Rattle.ww_seat.specs.declared.waiting.Stop.TheVariants as seat
 use Rattle.ww_lock.specs.Holding.{Holding, Refused, Change, AreBelow}
 
 -- one node more is held, with these contents
@@ -56,6 +60,26 @@ pub record IsRefused (s : Holding) (n : ℕ) (b : Refused) : Type 0 where
   pub is_stamp : 1 ≤ b.met
   pub older : b.met < s.stamp
 
+-- once more its wait was called off, for this node and by this caller
+abbrev pub interrupted_by : Holding → ℕ → ℕ → Holding
+interrupted_by s n by = record s { interrupted = (n, by) ∷ s.interrupted }
+
+-- The node wasn't held, and the wait for it was called off by this caller: the seat left the wait list of its lock, for
+-- the cancel of that caller, which it had heeded there. The state still holds what it held.
+pub record IsInterrupted (s : Holding) (n by : ℕ) (a : Holding) : Type 0 where
+  pub new : is_among n s.held ≡ false
+  pub told : a ≡ record (interrupted_by s n by) { tries = a.tries }
+  pub once : a.tries ≤ s.tries + 1
+
+-- why a lock wasn't taken, told of a node that wasn't held
+abbrev pub IsStop : Holding → ℕ → Stop → Holding → Type 0
+IsStop s n (seat.Deadlk k) a = HasTried s a × (1 ≤ k) × (k < s.stamp) × (1 ≤ length s.held)
+IsStop s n (seat.Interrupted by) a = IsInterrupted s n by a
+
+-- the wait of this caller was called off
+abbrev pub IsCancelling : Holding → ℕ → Holding → Type 0
+IsCancelling s who a = a ≡ record s { cancelled = who ∷ s.cancelled }
+
 -- the answer of a lock call
 abbrev pub IsLockAnswer : Holding → ℕ → Lock → Type 0
 IsLockAnswer s n (Locked a) = IsTaken s n a
@@ -67,6 +91,20 @@ abbrev pub code_of : Lock → ℕ
 code_of (Locked a) = 0
 code_of (Already a) = 114
 code_of (Deadlk b) = 35
+
+-- the answer of a lock call that may be called off
+abbrev pub IsInterruptibleAnswer : Holding → ℕ → Interruptible → Type 0
+IsInterruptibleAnswer s n (stop.Locked a) = IsTaken s n a
+IsInterruptibleAnswer s n (stop.Already a) = (is_among n s.held ≡ true) × (a ≡ s)
+IsInterruptibleAnswer s n (stop.Deadlk b) = IsRefused s n b
+IsInterruptibleAnswer s n (stop.Interrupted a by) = IsInterrupted s n by a
+
+-- its error number, 0 without one
+abbrev pub interruptible_code_of : Interruptible → ℕ
+interruptible_code_of (stop.Locked a) = 0
+interruptible_code_of (stop.Already a) = 114
+interruptible_code_of (stop.Deadlk b) = 35
+interruptible_code_of (stop.Interrupted a by) = 4
 
 -- the answer of a trylock: a held node is busy too
 abbrev pub IsTryAnswer : Holding → ℕ → Try → Type 0

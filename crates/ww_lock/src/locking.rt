@@ -3,20 +3,21 @@
 use crate::hand::Hand;
 use crate::world::World;
 use std::sync::Wait;
+use ww_seat::Stop;
 
 impl Hand {
     ghost use Rattle.std.specs.Prelude.{◌≡◌, ◌≤◌, ◌<◌, ◌+◌, ◌^◌, ◌⊎◌, [], true, false, length, None, IfOk, IfErr};
     ghost use Rattle.ww_plain.specs.Numbers.{is_among};
-    ghost use Rattle.ww_seat.specs.Calls.{HasToDie};
+    ghost use Rattle.ww_seat.specs.Calls.{HasToDie, IsTurnedAway};
     ghost use Rattle.ww_lock.specs.Holding.{IsAtHome};
     ghost use Rattle.ww_lock.specs.Carried.{holding_of, met_of, Carries, CarriesFresh};
-    ghost use Rattle.ww_lock.specs.Moves.{HasTried, IsTaken, emptied};
+    ghost use Rattle.ww_lock.specs.Moves.{HasTried, IsTaken, IsStop, IsCancelling, emptied};
 
     /// Starts a context: it draws a stamp.
     pub(crate) fn begin(&mut self, world: &World)
         requires home { IsAtHome (holding_of self.old) world.now }
         requires fresh { CarriesFresh self.old }
-        requires draws { self.old.seat.seat.me.0.part.draws + self.old.left + 1 < 2 ^ 32 }
+        requires draws { self.old.seat.seat.me.0.part.counts.draws + self.old.left + 1 < 2 ^ 32 }
         requires idle { self.old.seat.stamp ≡ 0 }
         requires nothing { self.old.held.items ≡ [] }
         ensures fresh { CarriesFresh self.new }
@@ -86,6 +87,49 @@ impl Hand {
         )?;
         self.add(n, node);
         Ok(())
+    }
+
+    /// Takes a lock as `take` does; or tells the stamp of the older context that was met, or who called the wait off.
+    pub(crate) fn take_interruptible<R: Wait>(
+        &mut self,
+        rt: &R,
+        world: &World,
+        n: u8,
+    ) -> Result<(), Stop>
+        requires home { IsAtHome (holding_of self.old) world.now }
+        requires fresh { CarriesFresh self.old }
+        requires want { (0 < self.old.seat.stamp) ⊎ (self.old.held.items ≡ []) }
+        requires node { n < length self.old.seen }
+        requires new { is_among n self.old.held.items ≡ false }
+        ensures fresh { CarriesFresh self.new }
+        ensures taken { IfOk result (λ _. IsTaken (holding_of self.old) n (holding_of self.new)) }
+        ensures stopped { IfErr result (λ why. IsStop (holding_of self.old) n why (holding_of self.new)) }
+        ensures turned_away { IfErr result (λ why. IsTurnedAway self.old.seat.seat.me n why self.new.seat.seat.me) }
+        ensures unmet { IfOk result (λ _. met_of self.new ≡ None) }
+    {
+        let node = ww_seat::take_interruptible(
+            rt,
+            &mut self.seat,
+            &world.board,
+            self.kind,
+            n,
+            &self.parker,
+            &world.wakers,
+        )?;
+        self.add(n, node);
+        Ok(())
+    }
+
+    /// Calls off the wait of a caller.
+    pub(crate) fn cancel(&mut self, world: &World, who: u8) -> bool
+        requires home { IsAtHome (holding_of self.old) world.now }
+        requires carries { Carries self.old }
+        requires caller { who < world.now.passes }
+        ensures carries { Carries self.new }
+        ensures set { result ≡ true → IsCancelling (holding_of self.old) who (holding_of self.new) }
+        ensures pending { result ≡ false → holding_of self.new ≡ holding_of self.old }
+    {
+        ww_seat::cancel(&mut self.seat, &world.board, who, &world.wakers)
     }
 
     /// Takes a lock where nothing is held: nobody is told EDEADLK there.

@@ -25,10 +25,10 @@ impl Model for Pass {
 }
 
 impl Pass {
-    ghost use Rattle.std.specs.Prelude.{◌≡◌, ◌<◌, ◌≤◌, ◌-◌, length, IfOk, IfErr};
+    ghost use Rattle.std.specs.Prelude.{◌≡◌, ◌<◌, ◌≤◌, ◌-◌, true, false, length, IfOk, IfErr};
     ghost use Rattle.ww_lock.specs.Holding.{IsAtHome};
     ghost use Rattle.ww_lock.specs.Carried.{IsSpent};
-    ghost use Rattle.ww_lock.specs.Moves.{IsBegun, IsSolo};
+    ghost use Rattle.ww_lock.specs.Moves.{IsBegun, IsCancelling, IsSolo};
 
     /// Its number among the passes of its world, from 0.
     pub fn caller(&self) -> u8
@@ -74,6 +74,18 @@ impl Pass {
         let mut hand = self.spend()?;
         hand.begin(world);
         Ok(Acquiring { hand })
+    }
+
+    /// Calls off the wait of a caller of this world: the next interruptible lock call of it that would have to wait is
+    /// answered so, or the one that waits now, which is woken. False where a cancel of it is pending, which stays. It
+    /// takes nothing from the budget. It stands for the kernel's signal.
+    pub fn cancel(&mut self, world: &World, who: u8) -> bool
+        requires home { IsAtHome self.old world.now }
+        requires caller { who < world.now.passes }
+        ensures set { result ≡ true → IsCancelling self.old who self.new }
+        ensures pending { result ≡ false → self.new ≡ self.old }
+    {
+        self.hand.cancel(world, who)
     }
 
     /// Takes one lock without a context, as a plain mutex, however long that takes. A spent pass is given back.

@@ -96,6 +96,13 @@ impl World {
         }
     }
 
+    /// How many passes it gave.
+    pub fn passes(&self) -> u8
+        ensures { result ≡ self.now.passes }
+    {
+        self.wakers.len() as u8
+    }
+
     /// How many nodes there are.
     pub fn size(&self) -> u8
         ensures { result ≡ length self.now.first }

@@ -46,7 +46,7 @@ taken_at_once size n y m won now was low lacks w r =
     let view : now.0 ≡ taking m.0 n y = ap (λ (z : Sat). z.0) r.now ∙ ap (λ (z : Sat). z.0) w.now ∙ ap (taking m.0 n) same in record {
       orderly = orderly_brought size won now n (Content y) r.others orderly r.are r.now;
       taken = record {
-        same = record { kind = ap (λ v. v.part.core.kind) view; who = ap (λ v. v.part.core.who) view; stamp = ap (λ v. v.part.core.stamp) view; own = ap (λ v. v.part.own) view; draws = ap (λ v. v.part.draws) view };
+        same = record { kind = ap (λ v. v.part.core.kind) view; who = ap (λ v. v.part.core.who) view; stamp = ap (λ v. v.part.core.stamp) view; own = ap (λ v. v.part.own) view; counts = ap (λ v. v.part.counts) view; stopped = ap (λ v. v.part.core.stopped) view };
         owned = ap (λ v. v.part.core.owned) view;
         held = ap (λ v. v.held) view;
         node = subst (IsNodeOf (length m.0.held)) same w.fits;
@@ -58,14 +58,6 @@ taken_at_once size n y m won now was low lacks w r =
     }
 
 -- ---- a sign taken back
-
--- a step that changed nothing but what the seat knows of signs
-pub known_same : (m m' : Sat) (w : View) → m' ≡ (knowing m.0 w, m.1) → w.kind ≡ m.0.part.core.kind → w.who ≡ m.0.part.core.who → w.stamp ≡ m.0.part.core.stamp → w.owned ≡ m.0.part.core.owned → HoldsAsBefore m m'
-known_same m m' w is kind who stamp owned = subst (HoldsAsBefore m) (sym is) (record {
-  same = record { kind = kind; who = who; stamp = stamp; own = refl; draws = refl };
-  owned = owned;
-  held = refl;
-})
 
 pub bare_later : (m m' : Sat) → HoldsAsBefore m m' → IsBare m.0.part.core → IsBare m'.0.part.core
 bare_later m m' h bare n = ap (λ (l : List Bool). get_or l n false) h.owned ∙ bare n

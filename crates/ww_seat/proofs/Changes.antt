@@ -130,14 +130,14 @@ module _ (size : ℕ) (m : Sat) (r : Record) (before after : List Node) (ns : Li
   placed place = (placing m.0 place r, m.1)
 
   start_orderly : (place : ℕ) (m1 : Sat) → m1 ≡ placed place → IsOrderly size (naming m1 m.0.held)
-  start_orderly place m1 is = subst (λ (z : Sat). IsOrderly size (naming z m.0.held)) (sym is) (orderly_still size m (naming (placed place) m.0.held) was refl refl refl refl was.apart (λ k. refl))
+  start_orderly place m1 is = subst (λ (z : Sat). IsOrderly size (naming z m.0.held)) (sym is) (orderly_still size m (naming (placed place) m.0.held) was refl refl refl refl refl was.apart (λ k. refl))
 
   -- ... as large as the graph afterwards
   pub start_after : (place : ℕ) (m1 : Sat) → m1 ≡ placed place → IsGraph before → IsOrderly (length after) (naming m1 m.0.held)
   start_after place m1 is graph = subst (λ (k : ℕ). IsOrderly k (naming m1 m.0.held)) (sym (long_after graph)) (start_orderly place m1 is)
 
   end_placed : (place : ℕ) (slots : List (ℕ × Cell)) → IsChanged size m.0.held after ns (placing m.0 place r, slots) → IsOrderly size (placing m.0 place r, slots)
-  end_placed place slots is = orderly_named size (naming (placing m.0 place r, slots) is.now) (placing m.0 place r, slots) is.orderly refl refl refl refl (renewed_long 0 m.0.held (graph_after (graph_of m.0.held) t) ∙ was.held ∙ sym is.orderly.held)
+  end_placed place slots is = orderly_named size (naming (placing m.0 place r, slots) is.now) (placing m.0 place r, slots) is.orderly refl refl refl refl refl (renewed_long 0 m.0.held (graph_after (graph_of m.0.held) t) ∙ was.held ∙ sym is.orderly.held)
       (λ n own. ⊎_elim (λ e. named_after n e ∙ sym (is.named n e)) (λ e. named_else n e own ∙ sym (is.others n e)) (true_or_false (is_among n ns)))
 
   end_orderly : (place : ℕ) (m1 m2 : Sat) → m1 ≡ placed place → m2.0 ≡ m1.0 → IsChanged size m.0.held after ns m2 → IsOrderly size m2
@@ -152,7 +152,8 @@ module _ (size : ℕ) (m : Sat) (r : Record) (before after : List Node) (ns : Li
     kind = ap (λ (w : Sight). w.part.core.kind) v;
     who = ap (λ (w : Sight). w.part.core.who) v;
     stamp = ap (λ (w : Sight). w.part.core.stamp) v;
-    draws = ap (λ (w : Sight). w.part.draws) v;
+    counts = ap (λ (w : Sight). w.part.counts) v;
+    stopped = ap (λ (w : Sight). w.part.core.stopped) v;
     owned = ap (λ (w : Sight). w.part.core.owned) v;
     tries = ap (λ (w : Sight). w.part.core.tries) v;
     own = ap (λ (w : Sight). w.part.own) v;

@@ -21,8 +21,8 @@ use Rattle.ww_seat.specs.Calls.{HasGiven}
 use Rattle.ww_seat.specs.Guards.{HasEntered, IsStill, IsGiving, HasLet}
 use Rattle.ww_seat.proofs.Holds.{same_then, holds_then}
 use Rattle.ww_seat.proofs.Slots.{front_same, front_apart, is_out}
-use Rattle.ww_seat.proofs.Outside.{owns_here}
-use Rattle.ww_seat.proofs.Guards.{alike_orderly, exiting_orderly, listed_orderly, without_node}
+use Rattle.ww_seat.proofs.Outside.{orderly_still, owns_here}
+use Rattle.ww_seat.proofs.Guards.{exiting_orderly, listed_orderly, without_node}
 
 -- ---- what the calls say of the seat, one after another
 
@@ -41,19 +41,19 @@ pub still_then : (a b c : Sat) → IsStill a b → IsStill b c → IsStill a c
 still_then a b c x y = record { holds = holds_then a b c x.holds y.holds; tries = y.tries ∙ x.tries }
 
 pub still_looking : (m m' : Sat) (o : Owner) → m'.0 ≡ looking m.0 o → IsStill m m'
-still_looking m m' o e = subst (λ (w : Sight). IsStill m (w, m'.1)) (sym e) (record { holds = record { same = record { kind = refl; who = refl; stamp = refl; own = refl; draws = refl }; owned = refl; held = refl }; tries = refl })
+still_looking m m' o e = subst (λ (w : Sight). IsStill m (w, m'.1)) (sym e) (record { holds = record { same = record { kind = refl; who = refl; stamp = refl; own = refl; counts = refl; stopped = refl }; owned = refl; held = refl }; tries = refl })
 
 pub still_lost : (m m' : Sat) → m'.0 ≡ lost m.0 → IsStill m m'
-still_lost m m' e = subst (λ (w : Sight). IsStill m (w, m'.1)) (sym e) (record { holds = record { same = record { kind = refl; who = refl; stamp = refl; own = refl; draws = refl }; owned = refl; held = refl }; tries = refl })
+still_lost m m' e = subst (λ (w : Sight). IsStill m (w, m'.1)) (sym e) (record { holds = record { same = record { kind = refl; who = refl; stamp = refl; own = refl; counts = refl; stopped = refl }; owned = refl; held = refl }; tries = refl })
 
 pub still_view : (m m' : Sat) → m'.0 ≡ m.0 → IsStill m m'
-still_view m m' e = subst (λ (w : Sight). IsStill m (w, m'.1)) (sym e) (record { holds = record { same = record { kind = refl; who = refl; stamp = refl; own = refl; draws = refl }; owned = refl; held = refl }; tries = refl })
+still_view m m' e = subst (λ (w : Sight). IsStill m (w, m'.1)) (sym e) (record { holds = record { same = record { kind = refl; who = refl; stamp = refl; own = refl; counts = refl; stopped = refl }; owned = refl; held = refl }; tries = refl })
 
 pub still_entered : (m m' : Sat) (n : ℕ) → HasEntered m n m' → IsStill m m'
-still_entered m m' n e = subst (λ (w : Sight). IsStill m (w, m'.1)) (sym e.view) (record { holds = record { same = record { kind = refl; who = refl; stamp = refl; own = refl; draws = refl }; owned = refl; held = refl }; tries = refl })
+still_entered m m' n e = subst (λ (w : Sight). IsStill m (w, m'.1)) (sym e.view) (record { holds = record { same = record { kind = refl; who = refl; stamp = refl; own = refl; counts = refl; stopped = refl }; owned = refl; held = refl }; tries = refl })
 
 pub still_exited : (m m' : Sat) → m'.0 ≡ exiting m.0 → IsStill m m'
-still_exited m m' e = subst (λ (w : Sight). IsStill m (w, m'.1)) (sym e) (record { holds = record { same = record { kind = refl; who = refl; stamp = refl; own = refl; draws = refl }; owned = refl; held = refl }; tries = refl })
+still_exited m m' e = subst (λ (w : Sight). IsStill m (w, m'.1)) (sym e) (record { holds = record { same = record { kind = refl; who = refl; stamp = refl; own = refl; counts = refl; stopped = refl }; owned = refl; held = refl }; tries = refl })
 
 -- it read the owner word, and then the wait list
 pub read_still : (a m m' m'' : Sat) (n : ℕ) (o : Owner) → IsStill a m → m' ≡ (looking m.0 o, m.1) → HasListOnTop m' n m'' → IsStill a m''
@@ -70,13 +70,13 @@ node_out size m n o own = let z = o.nodes n own in (z.1.0, z.1.2, z.1.1)
 
 pub given_free : (size : ℕ) (m m' : Sat) (n : ℕ) (x : Node) → IsOrderly size m → IsAway m.0.part.core → n < size → m'.0 ≡ giving m.0 n → AreOthers m.1 n (Content x) m'.1 → IsOrderly size m' × IsAway m'.0.part.core × HasGiven m n m'
 given_free size m m' n x o away small view home = let few = o.few in (
-  subst (λ (w : Sight). IsOrderly size (w, m'.1)) (sym view) (without_node size m n x (giving m.0 n) m'.1 o (omega arith) home refl refl refl refl),
+  subst (λ (w : Sight). IsOrderly size (w, m'.1)) (sym view) (without_node size m n x (giving m.0 n) m'.1 o (omega arith) home refl refl refl refl refl),
   subst (λ (w : Sight). IsAway w.part.core) (sym view) (away.0, away.1),
-  subst (λ (w : Sight). HasGiven m n (w, m'.1)) (sym view) (record { same = record { kind = refl; who = refl; stamp = refl; own = refl; draws = refl }; owned = refl; held = refl; tries = refl }),
+  subst (λ (w : Sight). HasGiven m n (w, m'.1)) (sym view) (record { same = record { kind = refl; who = refl; stamp = refl; own = refl; counts = refl; stopped = refl }; owned = refl; held = refl; tries = refl }),
 )
 
 pub kept_free : (size : ℕ) (m m' : Sat) (n : ℕ) (x : Node) (others : List (ℕ × Cell)) → IsOrderly size m → AreOthers m.1 n (Content x) others → m' ≡ (m.0, (n, Content x) ∷ others) → IsOrderly size m'
-kept_free size m m' n x others o out is = subst (IsOrderly size) (sym is) (alike_orderly size m m.0 ((n, Content x) ∷ others) o refl refl refl refl
+kept_free size m m' n x others o out is = subst (IsOrderly size) (sym is) (orderly_still size m (m.0, (n, Content x) ∷ others) o refl refl refl refl refl
     (front_apart m.1 n (Content x) others o.apart out (Content x)) (front_same m.1 n (Content x) others o.apart out))
 
 -- the owner may go inside
@@ -94,7 +94,7 @@ entered_giving size m m' n e o waits own = subst (λ (w : Sight). IsOrderly size
 
 pub looked_giving : (size : ℕ) (m m' : Sat) (n : ℕ) (o : Owner) → IsGiving size n m → m' ≡ (looking m.0 o, m.1) → IsGiving size n m'
 looked_giving size m m' n o g is = subst (IsGiving size n) (sym is) (record {
-  orderly = alike_orderly size m (looking m.0 o) m.1 g.orderly refl refl refl refl g.orderly.apart (λ k. refl);
+  orderly = orderly_still size m (looking m.0 o, m.1) g.orderly refl refl refl refl refl g.orderly.apart (λ k. refl);
   inside = g.inside;
   waits = g.waits;
   owner = g.owner;
@@ -104,7 +104,7 @@ looked_giving size m m' n o g is = subst (IsGiving size n) (sym is) (record {
 
 pub read_giving : (size : ℕ) (m m' : Sat) (n : ℕ) → IsGiving size n m → HasListOnTop m n m' → IsGiving size n m'
 read_giving size m m' n g t = subst (IsGiving size n) (sym t.now) (record {
-  orderly = listed_orderly size m n m.0 t.others g.orderly g.inside t.apart refl refl refl;
+  orderly = listed_orderly size m n m.0 t.others g.orderly g.inside t.apart refl refl refl refl;
   inside = g.inside;
   waits = g.waits;
   owner = g.owner;
@@ -117,8 +117,8 @@ giving_out size m n g = let z = node_out size m n g.orderly g.owner in (z.0, is_
 
 pub lost_giving : (size : ℕ) (m m' : Sat) (n : ℕ) (x : Node) (others slots : List (ℕ × Cell)) → IsGiving size n m → AreOthers m.1 (64 + n) (Line m.0.part.core.list) others → AreOthers ((64 + n, Line m.0.part.core.list) ∷ others) n (Content x) slots
     → m' ≡ (lost m.0, (n, Content x) ∷ slots) → IsGiving size n m'
-lost_giving size m m' n x others slots g top out is = let first : Sat = (m.0, (64 + n, Line m.0.part.core.list) ∷ others) in let o = listed_orderly size m n m.0 others g.orderly g.inside top refl refl refl in subst (IsGiving size n) (sym is) (record {
-  orderly = alike_orderly size first (lost m.0) ((n, Content x) ∷ slots) o refl refl refl refl (front_apart first.1 n (Content x) slots o.apart out (Content x)) (front_same first.1 n (Content x) slots o.apart out);
+lost_giving size m m' n x others slots g top out is = let first : Sat = (m.0, (64 + n, Line m.0.part.core.list) ∷ others) in let o = listed_orderly size m n m.0 others g.orderly g.inside top refl refl refl refl in subst (IsGiving size n) (sym is) (record {
+  orderly = orderly_still size first (lost m.0, (n, Content x) ∷ slots) o refl refl refl refl refl (front_apart first.1 n (Content x) slots o.apart out (Content x)) (front_same first.1 n (Content x) slots o.apart out);
   inside = g.inside;
   waits = g.waits;
   owner = g.owner;
@@ -128,18 +128,18 @@ lost_giving size m m' n x others slots g top out is = let first : Sat = (m.0, (6
 
 pub let_go : (size : ℕ) (a m m' : Sat) (n : ℕ) (x : Node) (others : List (ℕ × Cell)) (asked : Bool) → IsStill a m → IsGiving size n m → m'.0 ≡ giving_inside m.0 n asked → AreOthers m.1 (64 + n) (Line m.0.part.core.list) others
     → AreOthers ((64 + n, Line m.0.part.core.list) ∷ others) n (Content x) m'.1 → HasLet size a n m'
-let_go size a m m' n x others asked before g view top home = let first : Sat = (m.0, (64 + n, Line m.0.part.core.list) ∷ others) in let o = listed_orderly size m n m.0 others g.orderly g.inside top refl refl refl in
+let_go size a m m' n x others asked before g view top home = let first : Sat = (m.0, (64 + n, Line m.0.part.core.list) ∷ others) in let o = listed_orderly size m n m.0 others g.orderly g.inside top refl refl refl refl in
     let small = (g.orderly.nodes n g.owner).0 in let few = g.orderly.few in let long = g.orderly.owned in subst (λ (w : Sight). HasLet size a n (w, m'.1)) (sym view) (record {
-      orderly = without_node size first n x (giving_inside m.0 n asked) m'.1 o (omega arith) home refl refl refl refl;
+      orderly = without_node size first n x (giving_inside m.0 n asked) m'.1 o (omega arith) home refl refl refl refl refl;
       may = record {
-        exit = record { inside = g.inside; why = inl (g.waits, owns_here m.0.part.core.owned n false (omega arith)); unsigned = λ is. inr (inl (g.unsigned is)) };
+        exit = record { inside = g.inside; why = inl (g.waits, owns_here m.0.part.core.owned n false (omega arith)); unsigned = λ is. inr (inl (g.unsigned is)); unheeded = g.orderly.unheeded };
         acted = refl;
         again = λ _ w. absurd (let z = g.waits in omega arith);
         looked = λ _ w _ _. absurd (let z = g.waits in omega arith);
       };
       inside = g.inside;
       waits = g.waits;
-      given = given_then a m (giving_inside m.0 n asked, m'.1) n before (record { same = record { kind = refl; who = refl; stamp = refl; own = refl; draws = refl }; owned = refl; held = refl; tries = refl });
+      given = given_then a m (giving_inside m.0 n asked, m'.1) n before (record { same = record { kind = refl; who = refl; stamp = refl; own = refl; counts = refl; stopped = refl }; owned = refl; held = refl; tries = refl });
     })
 
 -- ---- outside again

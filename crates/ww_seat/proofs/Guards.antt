@@ -17,21 +17,6 @@ use Rattle.ww_seat.specs.Orderly.{AreApart, IsOrderly}
 use Rattle.ww_seat.proofs.Slots.{slot_here, slot_else, others_gone, others_else, others_apart, front_apart, front_else}
 use Rattle.ww_seat.proofs.Outside.{owns_here, owns_else}
 
--- ---- what it knows changes, or the order of its slots
-
-pub alike_orderly : (size : ℕ) (m : Sat) (w : Sight) (slots : List (ℕ × Cell)) → IsOrderly size m → w.part.core.owned ≡ m.0.part.core.owned → w.held ≡ m.0.held → w.part.core.inside ≡ m.0.part.core.inside → w.part.core.list ≡ m.0.part.core.list
-    → AreApart slots → ((k : ℕ) → slot_of slots k ≡ slot_of m.1 k) → IsOrderly size (w, slots)
-alike_orderly size m w slots o owned held inside list apart same = record {
-  few = o.few;
-  owned = ap length owned ∙ o.owned;
-  held = ap length held ∙ o.held;
-  apart = apart;
-  nodes = λ n own. let z = o.nodes n (sym (ap (λ xs. get_or xs n false) owned) ∙ own) in (z.0, (z.1.0, ap (λ xs. get_elem? xs n) held ∙ z.1.1, same n ∙ z.1.2));
-  others = λ n small isnt. same n ∙ o.others n small (sym (ap (λ xs. get_or xs n false) owned) ∙ isnt);
-  list = λ n is. same (64 + n) ∙ o.list n (sym inside ∙ is) ∙ ap (λ (q : List Entry). Some (Line q)) (sym list);
-  lists = λ n isnt. same (64 + n) ∙ o.lists n (λ e. isnt (inside ∙ e));
-}
-
 -- ---- into the guard and out of it
 
 -- outside, a slot that is out is that of a node
@@ -56,6 +41,7 @@ entering_orderly size m m' n q o outside is = subst (IsOrderly size) (sym is) (r
   others = λ k small isnt. slot_else (64 + n) (Line q) m.1 k (λ e. absurd (omega arith)) ∙ o.others k small isnt;
   list = λ k e. let at : k ≡ n = omega arith in ap (λ (j : ℕ). slot_of ((64 + n, Line q) ∷ m.1) (64 + j)) at ∙ slot_here (64 + n) (Line q) m.1;
   lists = λ k isnt. slot_else (64 + n) (Line q) m.1 (64 + k) (λ e. isnt (omega arith)) ∙ low_outside size m o outside (64 + k) (omega arith);
+  unheeded = o.unheeded;
 })
 
 pub exiting_orderly : (size : ℕ) (m m' : Sat) (n : ℕ) → IsOrderly size m → m.0.part.core.inside ≡ suc n → m'.0 ≡ exiting m.0 → AreOthers m.1 (64 + n) (Line m.0.part.core.list) m'.1 → IsOrderly size m'
@@ -70,14 +56,15 @@ exiting_orderly size m m' n o inside view home = let same = others_else m.1 (64 
   lists = λ k _. dite (ℕ_discrete k n)
       (λ is. ap (λ (j : ℕ). slot_of m'.1 (64 + j)) is ∙ others_gone m.1 (64 + n) (Line m.0.part.core.list) m'.1 o.apart home)
       (λ isnt. same (64 + k) (λ e. isnt (omega arith)) ∙ o.lists k (λ e. isnt (omega arith)));
+  unheeded = o.unheeded;
 })
 
 -- ---- inside
 
 -- the wait list lies on top, as the view has it now
 pub listed_orderly : (size : ℕ) (m : Sat) (n : ℕ) (w : Sight) (others : List (ℕ × Cell)) → IsOrderly size m → m.0.part.core.inside ≡ suc n → AreOthers m.1 (64 + n) (Line m.0.part.core.list) others
-    → w.part.core.owned ≡ m.0.part.core.owned → w.held ≡ m.0.held → w.part.core.inside ≡ m.0.part.core.inside → IsOrderly size (w, (64 + n, Line w.part.core.list) ∷ others)
-listed_orderly size m n w others o in_guard out owned held inside = let same = front_else m.1 (64 + n) (Line m.0.part.core.list) others o.apart out (Line w.part.core.list) in record {
+    → w.part.core.owned ≡ m.0.part.core.owned → w.held ≡ m.0.held → w.part.core.inside ≡ m.0.part.core.inside → w.part.core.heeded ≡ m.0.part.core.heeded → IsOrderly size (w, (64 + n, Line w.part.core.list) ∷ others)
+listed_orderly size m n w others o in_guard out owned held inside heeded = let same = front_else m.1 (64 + n) (Line m.0.part.core.list) others o.apart out (Line w.part.core.list) in record {
   few = o.few;
   owned = ap length owned ∙ o.owned;
   held = ap length held ∙ o.held;
@@ -86,12 +73,13 @@ listed_orderly size m n w others o in_guard out owned held inside = let same = f
   others = λ k small isnt. same k (λ e. absurd (omega arith)) ∙ o.others k small (sym (ap (λ xs. get_or xs k false) owned) ∙ isnt);
   list = λ k e. let at : k ≡ n = omega arith in ap (λ (j : ℕ). slot_of ((64 + n, Line w.part.core.list) ∷ others) (64 + j)) at ∙ slot_here (64 + n) (Line w.part.core.list) others;
   lists = λ k isnt. same (64 + k) (λ e. isnt (omega arith)) ∙ o.lists k (λ e. isnt (inside ∙ e));
+  unheeded = heeded ∙ o.unheeded;
 }
 
 -- a node went home, and its lock is given back
 pub without_node : (size : ℕ) (m : Sat) (n : ℕ) (x : Node) (w : Sight) (slots : List (ℕ × Cell)) → IsOrderly size m → n < 64 → AreOthers m.1 n (Content x) slots
-    → w.part.core.owned ≡ slice_set m.0.part.core.owned n false → w.held ≡ slice_set m.0.held n None → w.part.core.inside ≡ m.0.part.core.inside → w.part.core.list ≡ m.0.part.core.list → IsOrderly size (w, slots)
-without_node size m n x w slots o small home owned held inside list = let same = others_else m.1 n (Content x) slots o.apart home in let long = o.owned in
+    → w.part.core.owned ≡ slice_set m.0.part.core.owned n false → w.held ≡ slice_set m.0.held n None → w.part.core.inside ≡ m.0.part.core.inside → w.part.core.list ≡ m.0.part.core.list → w.part.core.heeded ≡ m.0.part.core.heeded → IsOrderly size (w, slots)
+without_node size m n x w slots o small home owned held inside list heeded = let same = others_else m.1 n (Content x) slots o.apart home in let long = o.owned in
     let gone : get_or w.part.core.owned n false ≡ false = ap (λ xs. get_or xs n false) owned ∙ owns_here m.0.part.core.owned n false (omega arith) in
     let kept : (k : ℕ) → k ≢ n → get_or w.part.core.owned k false ≡ get_or m.0.part.core.owned k false = λ k isnt. ap (λ xs. get_or xs k false) owned ∙ owns_else m.0.part.core.owned n false k isnt in record {
       few = o.few;
@@ -106,4 +94,5 @@ without_node size m n x w slots o small home owned held inside list = let same =
           (λ isnt. same k isnt ∙ o.others k low (sym (kept k isnt) ∙ own));
       list = λ k e. same (64 + k) (λ z. omega arith) ∙ o.list k (sym inside ∙ e) ∙ ap (λ (q : List Entry). Some (Line q)) (sym list);
       lists = λ k isnt. same (64 + k) (λ z. omega arith) ∙ o.lists k (λ e. isnt (inside ∙ e));
+      unheeded = heeded ∙ o.unheeded;
     }

@@ -1,18 +1,19 @@
 -- What the calls say of a seat, one after another.
-use Rattle.std.proofs.Common.{ℕ, ◌<◌, true, false, length, get_or, slice_set, refl, sym, ap, ◌∙◌, subst, Some}
+use Rattle.std.proofs.Common.{ℕ, ◌<◌, ◌∷◌, true, false, length, get_or, slice_set, refl, sym, ap, ◌∙◌, subst, Some}
 use Rattle.ww_plain.specs.declared.node.Node.{Node}
 use Rattle.ww_plain.specs.Graph.{IsNodeOf}
+use Rattle.ww_rule.specs.declared.cells.Counts.{Counts}
 use Rattle.ww_rule.specs.Rule.{Sat}
 use Rattle.ww_seat.specs.declared.look.Look.{Look}
-use Rattle.ww_seat.specs.declared.look.Look.TheVariants.{Locked, Deadlk, Waits}
-use Rattle.ww_seat.specs.Calls.{IsSame, HoldsAsBefore, HasTaken, HasToDie}
+use Rattle.ww_seat.specs.declared.look.Look.TheVariants.{Locked, Deadlk, Interrupted, Waits}
+use Rattle.ww_seat.specs.Calls.{IsSame, HoldsAsBefore, HasTaken, HasToDie, HasStopped}
 use Rattle.ww_seat.specs.Looks.{IsLook}
 
 pub holds_same : (m : Sat) → HoldsAsBefore m m
-holds_same m = record { same = record { kind = refl; who = refl; stamp = refl; own = refl; draws = refl }; owned = refl; held = refl }
+holds_same m = record { same = record { kind = refl; who = refl; stamp = refl; own = refl; counts = refl; stopped = refl }; owned = refl; held = refl }
 
 pub same_then : (a b c : Sat) → IsSame a b → IsSame b c → IsSame a c
-same_then a b c x y = record { kind = y.kind ∙ x.kind; who = y.who ∙ x.who; stamp = y.stamp ∙ x.stamp; own = y.own ∙ x.own; draws = y.draws ∙ x.draws }
+same_then a b c x y = record { kind = y.kind ∙ x.kind; who = y.who ∙ x.who; stamp = y.stamp ∙ x.stamp; own = y.own ∙ x.own; counts = y.counts ∙ x.counts; stopped = y.stopped ∙ x.stopped }
 
 pub holds_then : (a b c : Sat) → HoldsAsBefore a b → HoldsAsBefore b c → HoldsAsBefore a c
 holds_then a b c x y = record { same = same_then a b c x.same y.same; owned = y.owned ∙ x.owned; held = y.held ∙ x.held }
@@ -38,7 +39,21 @@ die_then a b c n k h d = record {
   noted = d.noted;
 }
 
+pub stopped_then : (a b c : Sat) (n by : ℕ) → HoldsAsBefore a b → HasStopped b n by c → HasStopped a n by c
+stopped_then a b c n by h s = record {
+  kind = s.kind ∙ h.same.kind;
+  who = s.who ∙ h.same.who;
+  stamp = s.stamp ∙ h.same.stamp;
+  own = s.own ∙ h.same.own;
+  counts = s.counts ∙ ap (λ (x : Counts). record x { heeded = by ∷ x.heeded }) h.same.counts;
+  stopped = s.stopped ∙ ap (λ xs. (n, by) ∷ xs) h.same.stopped;
+  owned = s.owned ∙ h.owned;
+  held = s.held ∙ h.held;
+  unmet = s.unmet;
+}
+
 pub look_then : (size n : ℕ) (a b c : Sat) (look : Look) → HoldsAsBefore a b → IsLook size n b look c → IsLook size n a look c
 look_then size n a b c (Locked x) h l = (l.0, l.1, taken_then a b c n x h l.2)
 look_then size n a b c (Deadlk k) h l = (l.0, l.1, die_then a b c n k h l.2)
+look_then size n a b c (Interrupted by) h l = (l.0, l.1, stopped_then a b c n by h l.2)
 look_then size n a b c Waits h l = (l.0, l.1, holds_then a b c h l.2)

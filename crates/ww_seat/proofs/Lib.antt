@@ -11,3 +11,4 @@ pub mod Signing
 pub mod Took
 pub mod Starts
 pub mod Stood
+pub mod Stopped

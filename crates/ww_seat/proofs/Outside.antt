@@ -26,9 +26,9 @@ use Rattle.ww_seat.proofs.Slots.{slot_here, not_both, slot_else, others_gone, ot
 
 -- The seat owns the same, its view names the same nodes, it is inside as before, and the slots have the same: their order
 -- may be another.
-pub orderly_still : (size : ℕ) (m m' : Sat) → IsOrderly size m → m'.0.part.core.owned ≡ m.0.part.core.owned → m'.0.held ≡ m.0.held → m'.0.part.core.inside ≡ m.0.part.core.inside → m'.0.part.core.list ≡ m.0.part.core.list
+pub orderly_still : (size : ℕ) (m m' : Sat) → IsOrderly size m → m'.0.part.core.owned ≡ m.0.part.core.owned → m'.0.held ≡ m.0.held → m'.0.part.core.inside ≡ m.0.part.core.inside → m'.0.part.core.list ≡ m.0.part.core.list → m'.0.part.core.heeded ≡ m.0.part.core.heeded
     → AreApart m'.1 → ((k : ℕ) → slot_of m'.1 k ≡ slot_of m.1 k) → IsOrderly size m'
-orderly_still size m m' was owned held inside list apart slots = record {
+orderly_still size m m' was owned held inside list heeded apart slots = record {
   few = was.few;
   owned = ap (λ (l : List Bool). length l) owned ∙ was.owned;
   held = ap (λ (l : List (Option Node)). length l) held ∙ was.held;
@@ -37,33 +37,34 @@ orderly_still size m m' was owned held inside list apart slots = record {
   others = λ n small own. slots n ∙ was.others n small (ap (λ (l : List Bool). get_or l n false) (sym owned) ∙ own);
   list = λ n is. slots (list_at n) ∙ was.list n (sym inside ∙ is) ∙ ap (λ q. Some (Line q)) (sym list);
   lists = λ n isnt. slots (list_at n) ∙ was.lists n (λ is. isnt (inside ∙ is));
+  unheeded = heeded ∙ was.unheeded;
 }
 
 -- a step that leaves the slots as they are
-pub orderly_knowing : (size : ℕ) (m m' : Sat) (w : View) → IsOrderly size m → m' ≡ (knowing m.0 w, m.1) → w.owned ≡ m.0.part.core.owned → w.inside ≡ m.0.part.core.inside → w.list ≡ m.0.part.core.list → IsOrderly size m'
-orderly_knowing size m m' w was is owned inside list = subst (IsOrderly size) (sym is) (orderly_still size m (knowing m.0 w, m.1) was owned refl inside list was.apart (λ k. refl))
+pub orderly_knowing : (size : ℕ) (m m' : Sat) (w : View) → IsOrderly size m → m' ≡ (knowing m.0 w, m.1) → w.owned ≡ m.0.part.core.owned → w.inside ≡ m.0.part.core.inside → w.list ≡ m.0.part.core.list → w.heeded ≡ m.0.part.core.heeded → IsOrderly size m'
+orderly_knowing size m m' w was is owned inside list heeded = subst (IsOrderly size) (sym is) (orderly_still size m (knowing m.0 w, m.1) was owned refl inside list heeded was.apart (λ k. refl))
 
 -- a slot that was only brought to the front
 pub orderly_brought : (size : ℕ) (m m' : Sat) (n : ℕ) (y : Cell) (others : List (ℕ × Cell)) → IsOrderly size m → AreOthers m.1 n y others → m' ≡ (m.0, (n, y) ∷ others) → IsOrderly size m'
-orderly_brought size m m' n y others was are is = subst (IsOrderly size) (sym is) (orderly_still size m (m.0, (n, y) ∷ others) was refl refl refl refl (front_apart m.1 n y others was.apart are y) (front_same m.1 n y others was.apart are))
+orderly_brought size m m' n y others was are is = subst (IsOrderly size) (sym is) (orderly_still size m (m.0, (n, y) ∷ others) was refl refl refl refl refl (front_apart m.1 n y others was.apart are y) (front_same m.1 n y others was.apart are))
 
 pub orderly_draw : (size : ℕ) (m m' : Sat) (stamp : ℕ) → IsOrderly size m → m' ≡ (drawing m.0 stamp, m.1) → IsOrderly size m'
-orderly_draw size m m' stamp was is = subst (IsOrderly size) (sym is) (orderly_still size m (drawing m.0 stamp, m.1) was refl refl refl refl was.apart (λ k. refl))
+orderly_draw size m m' stamp was is = subst (IsOrderly size) (sym is) (orderly_still size m (drawing m.0 stamp, m.1) was refl refl refl refl refl was.apart (λ k. refl))
 
 pub orderly_ended : (size : ℕ) (m m' : Sat) → IsOrderly size m → m' ≡ (knowing m.0 (ended m.0.part.core), m.1) → IsOrderly size m'
-orderly_ended size m m' was is = orderly_knowing size m m' (ended m.0.part.core) was is refl refl refl
+orderly_ended size m m' was is = orderly_knowing size m m' (ended m.0.part.core) was is refl refl refl refl
 
 pub orderly_read : (size : ℕ) (m m' : Sat) (k : ℕ) → IsOrderly size m → m' ≡ (knowing m.0 (has_read m.0.part.core k), m.1) → IsOrderly size m'
-orderly_read size m m' k was is = orderly_knowing size m m' (has_read m.0.part.core k) was is refl refl refl
+orderly_read size m m' k was is = orderly_knowing size m m' (has_read m.0.part.core k) was is refl refl refl refl
 
 pub orderly_unsigned : (size : ℕ) (m m' : Sat) → IsOrderly size m → m' ≡ (knowing m.0 (found_none m.0.part.core), m.1) → IsOrderly size m'
-orderly_unsigned size m m' was is = orderly_knowing size m m' (found_none m.0.part.core) was is refl refl refl
+orderly_unsigned size m m' was is = orderly_knowing size m m' (found_none m.0.part.core) was is refl refl refl refl
 
 pub orderly_cleared : (size : ℕ) (m m' : Sat) → IsOrderly size m → m' ≡ (knowing m.0 (cleared m.0.part.core), m.1) → IsOrderly size m'
-orderly_cleared size m m' was is = orderly_knowing size m m' (cleared m.0.part.core) was is refl refl refl
+orderly_cleared size m m' was is = orderly_knowing size m m' (cleared m.0.part.core) was is refl refl refl refl
 
 pub orderly_missed : (size : ℕ) (m m' : Sat) → IsOrderly size m → m' ≡ (knowing m.0 (fast_missed m.0.part.core), m.1) → IsOrderly size m'
-orderly_missed size m m' was is = orderly_knowing size m m' (fast_missed m.0.part.core) was is refl refl refl
+orderly_missed size m m' was is = orderly_knowing size m m' (fast_missed m.0.part.core) was is refl refl refl refl
 
 -- ---- which locks it owns
 
@@ -94,6 +95,7 @@ module _ (size : ℕ) (m : Sat) (n : ℕ) (x : Node) (was : IsOrderly size m) (l
         (λ isnt. slot_else n (Content x) m.1 k isnt ∙ was.others k less (sym (owns_else m.0.part.core.owned n true k isnt) ∙ own));
     list = λ k is. slot_else n (Content x) m.1 (list_at k) (λ e. absurd (omega arith)) ∙ was.list k is;
     lists = λ k isnt. slot_else n (Content x) m.1 (list_at k) (λ e. absurd (omega arith)) ∙ was.lists k isnt;
+    unheeded = was.unheeded;
   }
 
   given_orderly : (others : List (ℕ × Cell)) → AreOthers m.1 n (Content x) others → IsOrderly size (giving m.0 n, others)
@@ -110,6 +112,7 @@ module _ (size : ℕ) (m : Sat) (n : ℕ) (x : Node) (was : IsOrderly size m) (l
         (λ isnt. others_else m.1 n (Content x) others was.apart are k isnt ∙ was.others k less (sym (owns_else m.0.part.core.owned n false k isnt) ∙ own));
     list = λ k is. others_else m.1 n (Content x) others was.apart are (list_at k) (λ e. absurd (omega arith)) ∙ was.list k is;
     lists = λ k isnt. others_else m.1 n (Content x) others was.apart are (list_at k) (λ e. absurd (omega arith)) ∙ was.lists k isnt;
+    unheeded = was.unheeded;
   }
 
   -- its node is written, and the view names what was written
@@ -128,6 +131,7 @@ module _ (size : ℕ) (m : Sat) (n : ℕ) (x : Node) (was : IsOrderly size m) (l
         (λ isnt. front_else m.1 n (Content x) others was.apart are (Content y) k isnt ∙ was.others k less own);
     list = λ k is. front_else m.1 n (Content x) others was.apart are (Content y) (list_at k) (λ e. absurd (omega arith)) ∙ was.list k is;
     lists = λ k isnt. front_else m.1 n (Content x) others was.apart are (Content y) (list_at k) (λ e. absurd (omega arith)) ∙ was.lists k isnt;
+    unheeded = was.unheeded;
   }
 
 pub orderly_taken : (size : ℕ) (m m' : Sat) (n : ℕ) (x : Node) → IsOrderly size m → n < size → owns m.0.part.core n ≡ false → m' ≡ (taking m.0 n x, (n, Content x) ∷ m.1) → IsOrderly size m'
@@ -141,9 +145,9 @@ pub orderly_swapped : (size : ℕ) (m m' : Sat) (n : ℕ) (x y : Node) (others :
 orderly_swapped size m m' n x y others was low owner are is = subst (IsOrderly size) (sym is) (swapped_orderly size m n x was low y others owner are)
 
 -- the view names the same of each node whose lock the seat owns
-pub orderly_named : (size : ℕ) (m m' : Sat) → IsOrderly size m → m'.1 ≡ m.1 → m'.0.part.core.owned ≡ m.0.part.core.owned → m'.0.part.core.inside ≡ m.0.part.core.inside → m'.0.part.core.list ≡ m.0.part.core.list
+pub orderly_named : (size : ℕ) (m m' : Sat) → IsOrderly size m → m'.1 ≡ m.1 → m'.0.part.core.owned ≡ m.0.part.core.owned → m'.0.part.core.inside ≡ m.0.part.core.inside → m'.0.part.core.list ≡ m.0.part.core.list → m'.0.part.core.heeded ≡ m.0.part.core.heeded
     → length m'.0.held ≡ length m.0.held → ((n : ℕ) → owns m.0.part.core n ≡ true → get_elem? m'.0.held n ≡ get_elem? m.0.held n) → IsOrderly size m'
-orderly_named size m m' was slots owned inside list long named = record {
+orderly_named size m m' was slots owned inside list heeded long named = record {
   few = was.few;
   owned = ap (λ (l : List Bool). length l) owned ∙ was.owned;
   held = long ∙ was.held;
@@ -152,6 +156,7 @@ orderly_named size m m' was slots owned inside list long named = record {
   others = λ n small own. at n ∙ was.others n small (ap (λ (l : List Bool). get_or l n false) (sym owned) ∙ own);
   list = λ n is. at (list_at n) ∙ was.list n (sym inside ∙ is) ∙ ap (λ q. Some (Line q)) (sym list);
   lists = λ n isnt. at (list_at n) ∙ was.lists n (λ is. isnt (inside ∙ is));
+  unheeded = heeded ∙ was.unheeded;
 }
   where
     at : (k : ℕ) → slot_of m'.1 k ≡ slot_of m.1 k

@@ -58,7 +58,7 @@ noted_none size m m1 t same = record { orderly = t.orderly; signed = m.0.part.co
 pub noted_more : (size : ℕ) (xs ys : List (ℕ × ℕ)) (m m1 m2 : Sat) (u : ℕ) → HasNoted size xs m m1 → m2 ≡ (signing m1.0 u, m1.1)
     → ((v k : ℕ) → Has ys (v, k) → Has xs (v, k) ⊎ (v ≡ u)) → HasNoted size ys m m2
 noted_more size xs ys m m1 m2 u h is more = record {
-  orderly = orderly_knowing size m1 m2 (signing m1.0 u).part.core h.orderly is refl refl refl;
+  orderly = orderly_knowing size m1 m2 (signing m1.0 u).part.core h.orderly is refl refl refl refl;
   signed = u ∷ h.signed;
   fresh = false;
   view = ap (λ (z : Sat). z.0) is ∙ ap (λ (z : Sight). signing z u) h.view;
@@ -103,12 +103,13 @@ pub told_read : (size n : ℕ) (m m1 : Sat) → IsOrderly size m → HasListOnTo
 told_read size n m m1 o top = let t = touched_read size n m m1 o top in record { orderly = t.orderly; sign = m.0.part.core.sign; fresh = m.0.part.core.fresh; wants = λ w. w; view = ap (λ (z : Sat). z.0) top.now }
 
 pub dies_waiting : (n : ℕ) (l : Bool) (m m1 : Sat) (o : Owner) (who k : ℕ) → IsWorking n true l m.0.part.core → SeesOther o m.0.part.core → HasListOnTop m n m1 → (kind : Kind) → kind ≡ m.0.part.core.kind → kind ≡ WaitDie
-    → m.0.part.core.who ≡ who → must_die kind o m.0.part.core.list who 0 ≡ Some k → MayDie m1.0.part.core n o k
-dies_waiting n l m m1 o who k w sees top kind same is at dies = subst (λ (z : Sat). MayDie z.0.part.core n o k) (sym top.now) (record {
+    → m.0.part.core.who ≡ who → must_die kind o m.0.part.core.list who 0 ≡ Some k → m.0.part.core.heeded ≡ 0 → MayDie m1.0.part.core n o k
+dies_waiting n l m m1 o who k w sees top kind same is at dies unheeded = subst (λ (z : Sat). MayDie z.0.part.core n o k) (sym top.now) (record {
   inside = w.inside;
   waits = w.place.0;
   other = sees.other;
   why = (0, inl (sym same ∙ is), subst (λ (x : Kind). must_die x o m.0.part.core.list m.0.part.core.who 0 ≡ Some k) same (subst (λ (x : ℕ). must_die kind o m.0.part.core.list x 0 ≡ Some k) (sym at) dies));
+  unheeded = unheeded;
 })
 
 pub stays_waiting : (n : ℕ) (m m1 : Sat) (o : Owner) (who : ℕ) → HasListOnTop m n m1 → (kind : Kind) → kind ≡ m.0.part.core.kind → kind ≡ WaitDie
@@ -138,7 +139,7 @@ not_quiet v kind has quiet = ⊎_elim (λ bare. true≢false (sym has.1 ∙ bare
 -- it found no sign
 pub told_none : (size n : ℕ) (m m1 m2 : Sat) → IsOrderly size m → HasListOnTop m n m1 → IsHolding (entry_of_view m.0.part.core) → m2 ≡ (finding_none m1.0, m1.1) → IsTold size m m2
 told_none size n m m1 m2 o top holding is = record {
-  orderly = orderly_knowing size m1 m2 (finding_none m1.0).part.core (touched_read size n m m1 o top).orderly is refl refl refl;
+  orderly = orderly_knowing size m1 m2 (finding_none m1.0).part.core (touched_read size n m m1 o top).orderly is refl refl refl refl;
   sign = None;
   fresh = true;
   wants = λ _. inr (inr (inl (owns_one m.0.part.core holding)));
@@ -154,7 +155,7 @@ stays_none n m m1 m2 o top kind is = subst (λ (z : Sight). MayStay o z.part.cor
 -- it found a sign
 pub told_signed : (size n k : ℕ) (m m1 m2 : Sat) → IsOrderly size m → HasListOnTop m n m1 → IsHolding (entry_of_view m.0.part.core) → m2 ≡ (reading m1.0 k, m1.1) → IsTold size m m2
 told_signed size n k m m1 m2 o top holding is = record {
-  orderly = orderly_knowing size m1 m2 (reading m1.0 k).part.core (touched_read size n m m1 o top).orderly is refl refl refl;
+  orderly = orderly_knowing size m1 m2 (reading m1.0 k).part.core (touched_read size n m m1 o top).orderly is refl refl refl refl;
   sign = Some k;
   fresh = (has_read m.0.part.core k).fresh;
   wants = λ _. inr (inr (inl (owns_one m.0.part.core holding)));
@@ -162,12 +163,13 @@ told_signed size n k m m1 m2 o top holding is = record {
 }
 
 pub dies_signed : (n k : ℕ) (l : Bool) (m m1 m2 : Sat) (o : Owner) → IsWorking n true l m.0.part.core → SeesOther o m.0.part.core → HasListOnTop m n m1 → m.0.part.core.kind ≡ WoundWait → IsHolding (entry_of_view m.0.part.core) → k ≢ 0
-    → m2 ≡ (reading m1.0 k, m1.1) → MayDie m2.0.part.core n o k
-dies_signed n k l m m1 m2 o w sees top kind holding isnt is = subst (λ (z : Sight). MayDie z.part.core n o k) (sym (ap (λ (z : Sat). z.0) is ∙ ap (λ (z : Sat). reading z.0 k) top.now)) (record {
+    → m2 ≡ (reading m1.0 k, m1.1) → m.0.part.core.heeded ≡ 0 → MayDie m2.0.part.core n o k
+dies_signed n k l m m1 m2 o w sees top kind holding isnt is unheeded = subst (λ (z : Sight). MayDie z.part.core n o k) (sym (ap (λ (z : Sat). z.0) is ∙ ap (λ (z : Sat). reading z.0 k) top.now)) (record {
   inside = w.inside;
   waits = w.place.0;
   other = sees.other;
   why = (k, inr refl, wounded_dies m.0.part.core.kind o m.0.part.core k kind w.once w.place.1 holding (omega arith));
+  unheeded = unheeded;
 })
 
 pub still_loud : (n : ℕ) (m m1 : Sat) → HasListOnTop m n m1 → m.0.part.core.kind ≡ WoundWait → (j : ℕ) × (owns m.0.part.core j ≡ true) → ¬ IsQuiet m1.0.part.core

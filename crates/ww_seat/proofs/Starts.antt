@@ -28,6 +28,7 @@ new_orderly key k few = record {
   others = λ n lt lacks. refl;
   list = λ n inside. absurd cc;
   lists = λ n outside. refl;
+  unheeded = refl;
 }
 
 -- a seat that was made just now is settled

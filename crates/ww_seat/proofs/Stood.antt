@@ -59,9 +59,9 @@ pub has_stood : (size n : ℕ) (m m1 : Sat) (o p : Owner) (stands : Bool) → Is
     → p ≡ with_waiters o → IsValid p → HasStood size n stands o m p m1
 has_stood size n m m1 o p stands ord off inside few small sees got is valid = record {
   work = λ l w. subst (λ (z : Sat). IsAtWork size n m true l z) (sym got.2) (record {
-    orderly = listed_orderly size m n (joining m.0 n o) got.0 ord inside got.1 refl refl refl;
+    orderly = listed_orderly size m n (joining m.0 n o) got.0 ord inside got.1 refl refl refl refl;
     working = working_queued n l m.0.part.core o (subst (λ (b : Bool). IsWorking n b l m.0.part.core) off w) few small;
-    holds = record { same = record { kind = refl; who = refl; stamp = refl; own = refl; draws = refl }; owned = refl; held = refl };
+    holds = record { same = record { kind = refl; who = refl; stamp = refl; own = refl; counts = refl; stopped = refl }; owned = refl; held = refl };
     tries = refl;
   });
   sees = subst (λ (x : Owner). SeesOther x m1.0.part.core) (sym is) (subst (λ (z : Sat). SeesOther (with_waiters o) z.0.part.core) (sym got.2) (record { seen = refl; valid = subst IsValid is valid; other = sees.other }));
@@ -74,6 +74,9 @@ stood_already size n m o stands ord on sees = record {
   sees = sees;
   flags = λ _. refl;
 }
+
+pub work_stood : (size n : ℕ) (before : Sat) (stands again : Bool) (m m' : Sat) (o p : Owner) → IsAtWork size n before stands again m → HasStood size n stands o m p m' → IsAtWork size n before true again m'
+work_stood size n before stands again m m' o p w h = work_then size n before stands true again m m' w (h.work again w.working)
 
 -- ---- it asks
 
@@ -123,7 +126,7 @@ has_asked n m m1 m2 o again sees top is = subst (λ (z : Sight). HasAsked (asked
 
 pub touched_asking : (size : ℕ) (m m1 : Sat) (o : Owner) → IsOrderly size m → m1 ≡ (asking m.0 o, m.1) → IsTouched size m m1
 touched_asking size m m1 o ord is = record {
-  orderly = orderly_knowing size m m1 (asking m.0 o).part.core ord is refl refl refl;
+  orderly = orderly_knowing size m m1 (asking m.0 o).part.core ord is refl refl refl refl;
   seen = Some (asked_word o);
   signed = m.0.part.core.signed;
   fresh = false;
@@ -134,24 +137,28 @@ touched_asking size m m1 o ord is = record {
 
 pub dying_orderly : (size n : ℕ) (m m1 : Sat) (o : Owner) → IsOrderly size m → m.0.part.core.inside ≡ suc n
     → (others : List (ℕ × Cell)) × AreOthers m.1 (64 + n) (Line m.0.part.core.list) others × (m1 ≡ (dying m.0 o, (64 + n, Line (died m.0.part.core o).list) ∷ others)) → IsOrderly size m1 × (m1.0 ≡ dying m.0 o)
-dying_orderly size n m m1 o ord inside got = (subst (IsOrderly size) (sym got.2) (listed_orderly size m n (dying m.0 o) got.0 ord inside got.1 refl refl refl), ap (λ (z : Sat). z.0) got.2)
+dying_orderly size n m m1 o ord inside got = (subst (IsOrderly size) (sym got.2) (listed_orderly size m n (dying m.0 o) got.0 ord inside got.1 refl refl refl refl), ap (λ (z : Sat). z.0) got.2)
 
-pub died_goes : (n : ℕ) (l : Bool) (m m1 : Sat) (o : Owner) → IsWorking n true l m.0.part.core → m1.0 ≡ dying m.0 o → MayGo n m1.0.part.core
-died_goes n l m m1 o w is = let v : View = m.0.part.core in let q : List Entry = left v.list v.who in subst (λ (z : Sight). MayGo n z.part.core) (sym is) (record {
+-- whoever left the wait list may go, whatever it notes of that
+pub gone_goes : (n : ℕ) (l : Bool) (v : View) (o : Owner) (met : Option (ℕ × ℕ)) (heeded : ℕ) (stopped : List (ℕ × ℕ)) → IsWorking n true l v → MayGo n (record (died v o) { met = met; heeded = heeded; stopped = stopped })
+gone_goes n l v o met heeded stopped w = let q : List Entry = left v.list v.who in record {
   inside = w.inside;
   why = inl (refl, w.want.lacks);
   acted = w.place.2;
   again = λ _ at. absurd (omega arith);
   looked = λ _ at. absurd (omega arith);
   lives = λ _. (rest_word q o, refl, only_waiters_die v.kind (rest_word q o) q v.who 0 (left_gone v.list v.who w.once));
-})
+}
+
+pub died_goes : (n : ℕ) (l : Bool) (m m1 : Sat) (o : Owner) → IsWorking n true l m.0.part.core → m1.0 ≡ dying m.0 o → MayGo n m1.0.part.core
+died_goes n l m m1 o w is = let v : View = m.0.part.core in subst (λ (z : Sight). MayGo n z.part.core) (sym is) (gone_goes n l v o (died v o).met v.heeded v.stopped w)
 
 pub look_died : (size n : ℕ) (l : Bool) (m m1 m2 : Sat) (o : Owner) (k : ℕ) → IsWorking n true l m.0.part.core → MayDie m.0.part.core n o k → k < m.0.part.core.stamp → m1.0 ≡ dying m.0 o → m2.0 ≡ exiting m1.0 → IsOrderly size m2
     → IsLook size n m (Deadlk k) m2
 look_died size n l m m1 m2 o k w may older is out ord =
     let view : m2.0 ≡ exiting (dying m.0 o) = out ∙ ap exiting is in
     let met : HasToDie m n k m2 = record {
-      holds = subst (λ (z : Sight). HoldsAsBefore m (z, m2.1)) (sym view) (record { same = record { kind = refl; who = refl; stamp = refl; own = refl; draws = refl }; owned = refl; held = refl });
+      holds = subst (λ (z : Sight). HoldsAsBefore m (z, m2.1)) (sym view) (record { same = record { kind = refl; who = refl; stamp = refl; own = refl; counts = refl; stopped = refl }; owned = refl; held = refl });
       one = owns_one m.0.part.core (dying_holds m.0.part.core.kind o m.0.part.core may.why.0 k w.place.1 may.why.2);
       context = death_is_of_context m.0.part.core.kind o m.0.part.core.list m.0.part.core.who may.why.0 k may.why.2;
       older = older;
@@ -177,7 +184,7 @@ stays_outside size n l m m' w out ord = let v : View = m.0.part.core in (
     place = inr (ap (λ (z : Sight). z.part.core.waits) out ∙ w.place.0);
   },
   ap (λ (z : Sight). z.part.core.waits) out ∙ w.place.0,
-  subst (λ (z : Sight). HoldsAsBefore m (z, m'.1)) (sym out) (record { same = record { kind = refl; who = refl; stamp = refl; own = refl; draws = refl }; owned = refl; held = refl }),
+  subst (λ (z : Sight). HoldsAsBefore m (z, m'.1)) (sym out) (record { same = record { kind = refl; who = refl; stamp = refl; own = refl; counts = refl; stopped = refl }; owned = refl; held = refl }),
 )
 
 -- who found nothing to ask for, signed all that it owes and doesn't have to die may go: m1 once it asked, m2 once it signed

@@ -68,6 +68,7 @@ taking_orderly size n m x others o low inside lacks out =
           (λ other. top k (λ e. absurd (omega arith)) other ∙ o.others k small (sym (owns_else m.0.part.core.owned n true k other) ∙ isnt));
       list = λ k e. let at : k ≡ n = omega arith in ap (λ (j : ℕ). slot_of ((64 + n, Line q) ∷ (n, Content x) ∷ others) (64 + j)) at ∙ slot_here (64 + n) (Line q) ((n, Content x) ∷ others);
       lists = λ k isnt. top (64 + k) (λ e. isnt (omega arith)) (λ e. absurd (omega arith)) ∙ o.lists k isnt;
+      unheeded = o.unheeded;
     }
 
 -- the lock was taken, and nothing else was done
@@ -186,7 +187,7 @@ look_taken size n s l m m2 m3 m4 m5 x r owed o low w t h out o4 got =
     let same : r ≡ x = sym (ap node_in two) ∙ one in
     let view : m5.0 ≡ exiting (knowing (taking_inside m.0 n x) (touched (taken m.0.part.core n) (taken m.0.part.core n).seen h.signed h.fresh)) = ap (λ (z : Sat). z.0) got.2 ∙ base in
     let took : HasTaken m n r m5 = subst (λ (y : Node). HasTaken m n y m5) (sym same) (subst (λ (z : Sight). HasTaken m n x (z, m5.1)) (sym view) (record {
-      same = record { kind = refl; who = refl; stamp = refl; own = refl; draws = refl };
+      same = record { kind = refl; who = refl; stamp = refl; own = refl; counts = refl; stopped = refl };
       owned = refl;
       held = refl;
       node = t.node;

@@ -26,10 +26,10 @@ use Rattle.ww_seat.proofs.Guards.{listed_orderly, exiting_orderly}
 -- ---- the same of what it holds
 
 pub holds_touched : (m m' : Sat) (a : Option Owner) (b : List ℕ) (c : Bool) → m'.0 ≡ knowing m.0 (touched m.0.part.core a b c) → HoldsAsBefore m m'
-holds_touched m m' a b c e = subst (λ (z : Sight). HoldsAsBefore m (z, m'.1)) (sym e) (record { same = record { kind = refl; who = refl; stamp = refl; own = refl; draws = refl }; owned = refl; held = refl })
+holds_touched m m' a b c e = subst (λ (z : Sight). HoldsAsBefore m (z, m'.1)) (sym e) (record { same = record { kind = refl; who = refl; stamp = refl; own = refl; counts = refl; stopped = refl }; owned = refl; held = refl })
 
 pub holds_told : (m m' : Sat) (s : Option ℕ) (c : Bool) → m'.0 ≡ knowing m.0 (told m.0.part.core s c) → HoldsAsBefore m m'
-holds_told m m' s c e = subst (λ (z : Sight). HoldsAsBefore m (z, m'.1)) (sym e) (record { same = record { kind = refl; who = refl; stamp = refl; own = refl; draws = refl }; owned = refl; held = refl })
+holds_told m m' s c e = subst (λ (z : Sight). HoldsAsBefore m (z, m'.1)) (sym e) (record { same = record { kind = refl; who = refl; stamp = refl; own = refl; counts = refl; stopped = refl }; owned = refl; held = refl })
 
 -- ---- its work goes on
 
@@ -94,17 +94,20 @@ touched_same size m o = record { orderly = o; seen = m.0.part.core.seen; signed 
 -- a look
 pub touched_looking : (size : ℕ) (m m' : Sat) (o : Owner) → IsOrderly size m → m' ≡ (looking m.0 o, m.1) → IsTouched size m m'
 touched_looking size m m' o was is = record {
-  orderly = orderly_knowing size m m' (has_looked m.0.part.core o) was is refl refl refl;
+  orderly = orderly_knowing size m m' (has_looked m.0.part.core o) was is refl refl refl refl;
   seen = Some o;
   signed = m.0.part.core.signed;
   fresh = false;
   view = ap (λ (z : Sat). z.0) is;
 }
 
+pub work_looked : (size n : ℕ) (stands again : Bool) (m m' : Sat) (o : Owner) → IsOrderly size m → IsWorking n stands again m.0.part.core → m' ≡ (looking m.0 o, m.1) → IsAtWork size n m stands again m'
+work_looked size n stands again m m' o was w is = work_touched size n m stands again m m' (work_same size n stands again m was w) (touched_looking size m m' o was is)
+
 -- a step that was lost
 pub touched_lost : (size : ℕ) (m m' : Sat) → IsOrderly size m → m' ≡ (lost m.0, m.1) → IsTouched size m m'
 touched_lost size m m' was is = record {
-  orderly = orderly_knowing size m m' (lost m.0).part.core was is refl refl refl;
+  orderly = orderly_knowing size m m' (lost m.0).part.core was is refl refl refl refl;
   seen = m.0.part.core.seen;
   signed = m.0.part.core.signed;
   fresh = false;
@@ -115,7 +118,7 @@ touched_lost size m m' was is = record {
 pub touched_lost_on_top : (size n : ℕ) (m m' : Sat) → IsOrderly size m → m.0.part.core.inside ≡ suc n
     → (others : List (ℕ × Cell)) × AreOthers m.1 (64 + n) (Line m.0.part.core.list) others × (m' ≡ (lost m.0, (64 + n, Line m.0.part.core.list) ∷ others)) → IsTouched size m m'
 touched_lost_on_top size n m m' was inside got = record {
-  orderly = subst (IsOrderly size) (sym got.2) (listed_orderly size m n (lost m.0) got.0 was inside got.1 refl refl refl);
+  orderly = subst (IsOrderly size) (sym got.2) (listed_orderly size m n (lost m.0) got.0 was inside got.1 refl refl refl refl);
   seen = m.0.part.core.seen;
   signed = m.0.part.core.signed;
   fresh = false;
@@ -161,12 +164,13 @@ cleared_now m m1 m2 k kind is then = record { sign = Some 0; fresh = false; now 
 paid_told : (v : View) (s : Option ℕ) (c : Bool) → HasPaid v → HasPaid (told v s c)
 paid_told v s c p = record { word = p.word; seen = p.seen; signed = p.signed; other = p.other; lives = p.lives }
 
-pub may_leave : (n : ℕ) (m m1 : Sat) → IsCleared m m1 → MayGo n m.0.part.core → MayLeave m1.0.part.core n
-may_leave n m m1 c g = subst (λ (z : Sat). MayLeave z.0.part.core n) (sym c.now) (record {
+pub may_leave : (n : ℕ) (m m1 : Sat) → IsCleared m m1 → MayGo n m.0.part.core → m.0.part.core.heeded ≡ 0 → MayLeave m1.0.part.core n
+may_leave n m m1 c g unheeded = subst (λ (z : Sat). MayLeave z.0.part.core n) (sym c.now) (record {
   exit = record {
     inside = g.inside;
     why = ⊎_elim (λ z. inl z) (λ p. inr (paid_told m.0.part.core c.sign c.fresh p)) g.why;
     unsigned = λ d. ⊎_elim (λ z. inl z) (λ z. inr (inl z)) (c.unsigned d);
+    unheeded = unheeded;
   };
   acted = g.acted;
   again = g.again;
@@ -182,7 +186,7 @@ left_view m m1 m2 c is = is ∙ ap (λ (z : Sat). exiting z.0) c.now
     ∙ ap (λ (x : Option ℕ). knowing m.0 (record (exited m.0.part.core) { sign = x })) (outside_same m.0.part.core.kind c.sign m.0.part.core.sign (λ w. (c.same w).0))
 
 pub cleared_orderly : (size : ℕ) (m m1 : Sat) → IsOrderly size m → IsCleared m m1 → IsOrderly size m1
-cleared_orderly size m m1 o c = orderly_knowing size m m1 (told m.0.part.core c.sign c.fresh) o c.now refl refl refl
+cleared_orderly size m m1 o c = orderly_knowing size m m1 (told m.0.part.core c.sign c.fresh) o c.now refl refl refl refl
 
 pub cleared_inside : (n : ℕ) (m m1 : Sat) → IsCleared m m1 → m.0.part.core.inside ≡ suc n → m1.0.part.core.inside ≡ suc n
 cleared_inside n m m1 c inside = ap (λ (z : Sat). z.0.part.core.inside) c.now ∙ inside

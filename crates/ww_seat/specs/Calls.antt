@@ -1,5 +1,5 @@
 -- What the calls of the locks make of a seat.
-use Rattle.std.specs.Prelude.{ℕ, ◌≡◌, ◌<◌, ◌≤◌, ◌+◌, ◌++◌, ◌∷◌, [], List, true, false, length, slice_set, Some, None, IsTrue}
+use Rattle.std.specs.Prelude.{ℕ, ◌≡◌, ◌<◌, ◌≤◌, ◌+◌, ◌++◌, ◌∷◌, [], List, Bool, true, false, length, slice_set, Some, None, IsTrue}
 use Rattle.std.specs.List.{AllByRecursion}
 use mathlib.Core.Option.{some}
 use lib.ListN.{get_elem?}
@@ -13,14 +13,17 @@ use Rattle.ww_view.specs.View.{owns}
 use Rattle.ww_view.specs.May.{MayDie, MetByView}
 use Rattle.ww_view.specs.Made.{died, exited}
 use Rattle.ww_rule.specs.Rule.{Sat}
+use Rattle.ww_seat.specs.declared.waiting.Stop.{Stop}
+use Rattle.ww_seat.specs.declared.waiting.Stop.TheVariants.{Deadlk, Interrupted}
 
--- the same seat, with the same context, and as many draws and commits
+-- the same seat, with the same context, the same commits and the same interruptions, of which as much is counted
 pub record IsSame (m m' : Sat) : Type 0 where
   pub kind : m'.0.part.core.kind ≡ m.0.part.core.kind
   pub who : m'.0.part.core.who ≡ m.0.part.core.who
   pub stamp : m'.0.part.core.stamp ≡ m.0.part.core.stamp
   pub own : m'.0.part.own ≡ m.0.part.own
-  pub draws : m'.0.part.draws ≡ m.0.part.draws
+  pub counts : m'.0.part.counts ≡ m.0.part.counts
+  pub stopped : m'.0.part.core.stopped ≡ m.0.part.core.stopped
 
 -- it owns the same locks, and its view names the same nodes
 pub record HoldsAsBefore (m m' : Sat) : Type 0 where
@@ -63,6 +66,30 @@ pub record HasToDie (m : Sat) (n k : ℕ) (m' : Sat) : Type 0 where
   pub met : HasMet n k m'.0.part.core
   pub noted : m'.0.part.core.met ≡ Some (n, k)
 
+-- It was interrupted: it owns what it owned, left the wait list of lock n for the cancel of this seat, which it had heeded
+-- there, and its view names both. Each is a step of its own: no other step adds to the cancels heeded, and none to the
+-- interruptions.
+pub record HasStopped (m : Sat) (n by : ℕ) (m' : Sat) : Type 0 where
+  pub kind : m'.0.part.core.kind ≡ m.0.part.core.kind
+  pub who : m'.0.part.core.who ≡ m.0.part.core.who
+  pub stamp : m'.0.part.core.stamp ≡ m.0.part.core.stamp
+  pub own : m'.0.part.own ≡ m.0.part.own
+  pub counts : m'.0.part.counts ≡ record (m.0.part.counts) { heeded = by ∷ m.0.part.counts.heeded }
+  pub stopped : m'.0.part.core.stopped ≡ (n, by) ∷ m.0.part.core.stopped
+  pub owned : m'.0.part.core.owned ≡ m.0.part.core.owned
+  pub held : m'.0.held ≡ m.0.held
+  pub unmet : m'.0.part.core.met ≡ None
+
+-- why it came without the lock
+abbrev pub IsTurnedAway : Sat → ℕ → Stop → Sat → Type 0
+IsTurnedAway m n (Deadlk k) m' = HasToDie m n k m'
+IsTurnedAway m n (Interrupted by) m' = HasStopped m n by m'
+
+-- only a call that looks at its cancel is interrupted
+abbrev pub MayStop : Bool → Stop → Type 0
+MayStop heeds (Deadlk k) = Unit {0}
+MayStop heeds (Interrupted by) = heeds ≡ true
+
 -- at most one try to take a lock at once
 abbrev pub TriedOnce : Sat → Sat → Type 0
 TriedOnce m m' = m'.0.part.core.tries ≤ m.0.part.core.tries + 1
@@ -73,7 +100,8 @@ pub record HasBegun (m : Sat) (k : ℕ) (m' : Sat) : Type 0 where
   pub who : m'.0.part.core.who ≡ m.0.part.core.who
   pub stamp : m'.0.part.core.stamp ≡ k
   pub own : m'.0.part.own ≡ m.0.part.own
-  pub draws : m'.0.part.draws ≡ m.0.part.draws + 1
+  pub counts : m'.0.part.counts ≡ record (m.0.part.counts) { draws = m.0.part.counts.draws + 1 }
+  pub stopped : m'.0.part.core.stopped ≡ m.0.part.core.stopped
   pub owned : m'.0.part.core.owned ≡ m.0.part.core.owned
   pub held : m'.0.held ≡ m.0.held
   pub tries : m'.0.part.core.tries ≡ m.0.part.core.tries
@@ -85,7 +113,8 @@ pub record HasEnded (m m' : Sat) : Type 0 where
   pub who : m'.0.part.core.who ≡ m.0.part.core.who
   pub stamp : m'.0.part.core.stamp ≡ 0
   pub own : m'.0.part.own ≡ m.0.part.own
-  pub draws : m'.0.part.draws ≡ m.0.part.draws
+  pub counts : m'.0.part.counts ≡ m.0.part.counts
+  pub stopped : m'.0.part.core.stopped ≡ m.0.part.core.stopped
   pub owned : m'.0.part.core.owned ≡ m.0.part.core.owned
   pub held : m'.0.held ≡ m.0.held
   pub tries : m'.0.part.core.tries ≡ m.0.part.core.tries
@@ -100,7 +129,8 @@ pub record HasCommitted (m : Sat) (place : ℕ) (r : Record) (after : List Node)
   pub kind : m'.0.part.core.kind ≡ m.0.part.core.kind
   pub who : m'.0.part.core.who ≡ m.0.part.core.who
   pub stamp : m'.0.part.core.stamp ≡ m.0.part.core.stamp
-  pub draws : m'.0.part.draws ≡ m.0.part.draws
+  pub counts : m'.0.part.counts ≡ m.0.part.counts
+  pub stopped : m'.0.part.core.stopped ≡ m.0.part.core.stopped
   pub owned : m'.0.part.core.owned ≡ m.0.part.core.owned
   pub tries : m'.0.part.core.tries ≡ m.0.part.core.tries
   pub own : m'.0.part.own ≡ m.0.part.own ++ (place, r) ∷ []

@@ -1,5 +1,5 @@
 -- A seat that wants a lock, on its way there.
-use Rattle.std.specs.Prelude.{ℕ, suc, ◌≡◌, ◌==◌, ◌⊎◌, not, false, Some}
+use Rattle.std.specs.Prelude.{ℕ, suc, ◌≡◌, ◌==◌, ◌⊎◌, Bool, not, true, false, Some}
 use Rattle.ww_queue.specs.Queue.{Once, StandsNot, entry_of}
 use Rattle.ww_view.specs.declared.view.View.{View}
 use Rattle.ww_view.specs.View.{owns, IsAway}
@@ -8,9 +8,9 @@ use Rattle.ww_view.specs.Made.{entry_of_view}
 use Rattle.ww_rule.specs.Rule.{Sat}
 use Rattle.ww_rule.specs.Guards.{AreSeats}
 use Rattle.ww_seat.specs.Orderly.{IsOrderly}
-use Rattle.ww_seat.specs.Calls.{HoldsAsBefore, HasTaken, HasToDie}
+use Rattle.ww_seat.specs.Calls.{HoldsAsBefore, HasTaken, HasToDie, HasStopped}
 use Rattle.ww_seat.specs.declared.look.Look.{Look}
-use Rattle.ww_seat.specs.declared.look.Look.TheVariants.{Locked, Deadlk, Waits}
+use Rattle.ww_seat.specs.declared.look.Look.TheVariants.{Locked, Deadlk, Interrupted, Waits}
 
 -- what it may want a lock by
 pub record MayWant (n : ℕ) (v : View) : Type 0 where
@@ -42,4 +42,10 @@ pub record IsInside (size n : ℕ) (m : Sat) : Type 0 where
 abbrev pub IsLook : ℕ → ℕ → Sat → Look → Sat → Type 0
 IsLook size n m (Locked x) m' = IsOrderly size m' × IsAway m'.0.part.core × HasTaken m n x m'
 IsLook size n m (Deadlk k) m' = IsOrderly size m' × IsAway m'.0.part.core × HasToDie m n k m'
+IsLook size n m (Interrupted by) m' = IsOrderly size m' × IsAway m'.0.part.core × HasStopped m n by m'
 IsLook size n m Waits m' = IsOutside size n m' × (m'.0.part.core.waits ≡ suc n) × HoldsAsBefore m m'
+
+-- only a look at the cancel comes to an interruption
+abbrev pub MayLookSo : Bool → Look → Type 0
+MayLookSo heeds (Interrupted by) = heeds ≡ true
+MayLookSo heeds _ = Unit {0}

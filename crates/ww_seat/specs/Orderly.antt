@@ -20,7 +20,7 @@ AreApart [] = Unit {0}
 AreApart (x ∷ xs) = (slot_of xs x.0 ≡ None) × AreApart xs
 
 -- Out are the nodes of just the locks that the seat owns, with the values that its view names, and the wait list of the
--- lock that it is inside of.
+-- lock that it is inside of. It has heeded no cancel that it has yet to answer.
 pub record IsOrderly (size : ℕ) (m : Sat) : Type 0 where
   pub few : size ≤ 64
   pub owned : length m.0.part.core.owned ≡ 64
@@ -30,6 +30,7 @@ pub record IsOrderly (size : ℕ) (m : Sat) : Type 0 where
   pub others : (n : ℕ) → n < 64 → owns m.0.part.core n ≡ false → slot_of m.1 n ≡ None
   pub list : (n : ℕ) → m.0.part.core.inside ≡ suc n → slot_of m.1 (list_at n) ≡ Some (Line m.0.part.core.list)
   pub lists : (n : ℕ) → m.0.part.core.inside ≢ suc n → slot_of m.1 (list_at n) ≡ None
+  pub unheeded : m.0.part.core.heeded ≡ 0
 
 -- A seat of this table between two calls: inside no guard and in no wait list, with just its nodes out.
 pub record IsSettled (table : TableId) (size : ℕ) (s : Seat16) : Type 0 where

@@ -73,6 +73,12 @@ pub record SeesOther (o : Owner) (v : View) : Type 0 where
   pub valid : IsValid o
   pub other : TellsOther o v.who
 
+-- Nothing is changed, but that it may not have just looked for its own sign any more.
+pub record GoesOn (size : ℕ) (m m' : Sat) : Type 0 where
+  pub orderly : IsOrderly size m'
+  pub fresh : Bool
+  pub view : m'.0 ≡ knowing m.0 (touched m.0.part.core m.0.part.core.seen m.0.part.core.signed fresh)
+
 -- It found or made signed each of these.
 pub record HasNoted (size : ℕ) (owed : List (ℕ × ℕ)) (m m' : Sat) : Type 0 where
   pub orderly : IsOrderly size m'

@@ -2,9 +2,10 @@
 ghost use Rattle.std.specs.Prelude.{ℕ, ◌≡◌, ◌≢◌, ◌<◌, ◌⊎◌, true, false, Some, None, IfSome, IfNone};
 ghost use Rattle.ww_table.specs.Seat.{IsSeatOf, size_of};
 ghost use Rattle.ww_seat.specs.Orderly.{IsOrderly};
-ghost use Rattle.ww_seat.specs.Looks.{IsInside, IsLook};
+ghost use Rattle.ww_seat.specs.Looks.{IsInside, IsLook, MayLookSo};
 ghost use Rattle.ww_seat.specs.Work.{IsWorking, IsAtWork};
 
+use crate::interrupting::stop_if_cancelled;
 use crate::standing::{stand, stay_or_back_off};
 use crate::taking::take_inside;
 use crate::wake::Wake;
@@ -21,6 +22,8 @@ pub enum Look {
     Locked(Node),
     /// The seat has left the wait list, for this older stamp.
     Deadlk(u64),
+    /// The seat has left the wait list, since this seat called it off.
+    Interrupted(u8),
     /// The seat stands in the wait list, and may park.
     Waits,
 }
@@ -36,13 +39,15 @@ fn is_ours(seat: &Seat16, seen: Owner) -> bool
     }
 }
 
-/// One look, up to the first compare-exchange that finds another word: then nothing.
+/// One look, up to the first compare-exchange that finds another word: then nothing. The own cancel is looked at, where
+/// it is to be heeded, as soon as the seat stands in the wait list: so it asks for nothing and condemns nobody in vain.
 fn look_once(
     seat: &mut Seat16,
     board: &Board,
     kind: Kind,
     lock: u8,
     is_later: bool,
+    heeds: bool,
     stands: &mut bool,
     wake: &mut Wake,
 ) -> Option<Look>
@@ -54,6 +59,7 @@ fn look_once(
     ensures seat { IsSeatOf board.now seat.new }
     ensures records { seat.new.records ≡ seat.old.records }
     ensures look { IfSome result (λ look. IsLook (size_of board.now) lock seat.old.seat.me look seat.new.seat.me) }
+    ensures heeds { IfSome result (MayLookSo heeds) }
     ensures tries { IfSome result (λ _. seat.new.seat.me.0.part.core.tries ≡ seat.old.seat.me.0.part.core.tries) }
     ensures lost { IfNone result (IsAtWork (size_of board.now) lock seat.old.seat.me stands.new is_later seat.new.seat.me) }
 {
@@ -66,6 +72,9 @@ fn look_once(
     }
     let word = stand(seat, board, lock, seen, *stands)?;
     *stands = true;
+    if let Some(by) = stop_if_cancelled(seat, board, kind, lock, word, heeds) {
+        return Some(Look::Interrupted(by));
+    }
     stay_or_back_off(seat, board, kind, lock, word, is_later, wake)
 }
 
@@ -78,6 +87,7 @@ pub(crate) fn look_at<R: Wait>(
     kind: Kind,
     lock: u8,
     is_later: bool,
+    heeds: bool,
     wake: &mut Wake,
 ) -> Look
     requires seat { IsSeatOf board.now seat.old }
@@ -88,11 +98,12 @@ pub(crate) fn look_at<R: Wait>(
     ensures seat { IsSeatOf board.now seat.new }
     ensures records { seat.new.records ≡ seat.old.records }
     ensures look { IsLook (size_of board.now) lock seat.old.seat.me result seat.new.seat.me }
+    ensures heeds { MayLookSo heeds result }
     ensures tries { seat.new.seat.me.0.part.core.tries ≡ seat.old.seat.me.0.part.core.tries }
 {
     let mut stands = is_later;
     for _ in rt.forever() {
-        match look_once(seat, board, kind, lock, is_later, &mut stands, wake) {
+        match look_once(seat, board, kind, lock, is_later, heeds, &mut stands, wake) {
             Some(look) => return look,
             None => {}
         }

@@ -34,8 +34,14 @@ impl Wake {
 #[cold]
 pub(crate) fn wake_first(first: Option<Entry>, wakers: &[Unparker]) {
     if let Some(first) = first {
-        if let Some(waker) = wakers.get(usize::from(first.seat)) {
-            waker.unpark();
-        }
+        wake_seat(first.seat, wakers);
+    }
+}
+
+/// Wakes a seat.
+#[cold]
+pub(crate) fn wake_seat(seat: u8, wakers: &[Unparker]) {
+    if let Some(waker) = wakers.get(usize::from(seat)) {
+        waker.unpark();
     }
 }

@@ -1,5 +1,5 @@
 -- A state that holds the nodes of a list holds all that is named by it.
-use Rattle.std.proofs.Common.{◌≡◌, ℕ, true, false, List, [], ◌∷◌, Some, None, Result, Ok, Err, IfOk, IfErr, map, refl, sym, subst, ◌∙◌}
+use Rattle.std.proofs.Common.{◌≡◌, ℕ, Bool, true, false, List, [], ◌∷◌, Some, None, Result, Ok, Err, IfOk, IfErr, map, refl, sym, subst, ◌∙◌}
 use Rattle.std.specs.List.{AllByRecursion}
 use Rattle.ww_plain.specs.declared.node.Node.{Node}
 use Rattle.ww_plain.specs.Transaction.{Transaction, listed, FirstDouble}
@@ -10,8 +10,8 @@ use Rattle.ww_plain.proofs.Frames.{is_among-distinct_of}
 use Rattle.ww_plain.proofs.Doubles.{no_double_is_none}
 use Rattle.ww_lock.specs.Holding.{Holding, Holds}
 use Rattle.ww_users.specs.declared.fault.UserFault.{UserFault}
-use Rattle.ww_users.specs.declared.fault.UserFault.TheVariants.{PassSpent, Already}
-use Rattle.ww_users.specs.Ways.{IsContext, HoldsExactly, IsUserFault}
+use Rattle.ww_users.specs.declared.fault.UserFault.TheVariants.{PassSpent, Already, Interrupted}
+use Rattle.ww_users.specs.Ways.{IsContext, HoldsExactly, IsUserFault, IsWalkFault}
 use Rattle.ww_txn.specs.Transact.{IsReady}
 
 all_from_among : (P : ℕ → Type 0) (ns : List ℕ) → ((n : ℕ) → is_among n ns ≡ true → P n) → AllByRecursion P ns
@@ -22,11 +22,19 @@ all_from_among P (n ∷ ns) each = (each n (is_among-head n ns), all_from_among 
 pub holds_distinct : (ns : List ℕ) (d : Holding) → HoldsExactly ns d → Holds d (distinct_of ns)
 holds_distinct ns d exactly = all_from_among (λ n. is_among n d.held ≡ true) (distinct_of ns) (λ n e. exactly n ∙ sym (is_among-distinct_of n ns) ∙ e)
 
--- a list without a double is refused only where the pass is spent
-pub only_spent : {A : Type 0} (s : Holding) (ns : List ℕ) (r : Result A (Holding × UserFault)) → AreDifferent ns → IfErr r (λ e. IsUserFault s ns e.0 e.1) → IfErr r (λ e. IsUserFault s [] e.0 e.1)
-only_spent s ns (Ok done) different told = tt
-only_spent s ns (Err (pass, PassSpent)) different told = told
-only_spent s ns (Err (pass, Already n)) different told = absurd (no_double_is_none ns (Some n) told.0 refl different)
+-- a list without a double is refused only where the pass is spent, or a wait was called off
+pub only_spent : {A : Type 0} (heeds : Bool) (s : Holding) (ns : List ℕ) (r : Result A (Holding × UserFault)) → AreDifferent ns → IfErr r (λ e. IsUserFault heeds s ns e.0 e.1) → IfErr r (λ e. IsUserFault heeds s [] e.0 e.1)
+only_spent heeds s ns (Ok done) different told = tt
+only_spent heeds s ns (Err (pass, PassSpent)) different told = told
+only_spent heeds s ns (Err (pass, Interrupted by)) different told = told
+only_spent heeds s ns (Err (pass, Already n)) different told = absurd (no_double_is_none ns (Some n) told.0 refl different)
+
+-- so is a walk
+pub walk_fault : {A : Type 0} (heeds : Bool) (s : Holding) (r : Result A (Holding × UserFault)) → heeds ≡ true → IfErr r (λ e. IsWalkFault true s e.0 e.1) → IfErr r (λ e. IsUserFault heeds s [] e.0 e.1)
+walk_fault heeds s (Ok done) on told = tt
+walk_fault heeds s (Err (pass, PassSpent)) on told = told
+walk_fault heeds s (Err (pass, Interrupted by)) on told = (on, told.1)
+walk_fault heeds s (Err (pass, Already n)) on told = absurd told
 
 pub different_one : (n : ℕ) → AreDifferent (n ∷ [])
 different_one n = different_cons n [] refl different_none

@@ -1,5 +1,5 @@
 -- What becomes of a transaction, and of the pass that it is given.
-use Rattle.std.specs.Prelude.{ℕ, ◌≡◌, ◌≤◌, ◌+◌, ◌-◌, ◌∷◌, ◌++◌, [], length, Some, None}
+use Rattle.std.specs.Prelude.{ℕ, ◌≡◌, ◌≤◌, ◌+◌, ◌-◌, ◌∷◌, ◌++◌, [], length, Bool, true, Some, None}
 use Rattle.ww_plain.specs.Transaction.{Transaction, peek, listed, FirstDouble}
 use Rattle.ww_plain.specs.Meaning.{answer_of}
 use Rattle.ww_lock.specs.declared.prepared.Receipt.{Receipt}
@@ -7,9 +7,9 @@ use Rattle.ww_lock.specs.Holding.{Holding, AreBelow}
 use Rattle.ww_lock.specs.Making.{Covers}
 use Rattle.ww_users.specs.declared.fault.UserFault.{UserFault}
 use Rattle.ww_users.specs.declared.fault.UserFault.TheVariants as user
-use Rattle.ww_users.specs.Ways.{IsContext, IsReturned}
+use Rattle.ww_users.specs.Ways.{IsContext, IsReturned, IsCalledOff}
 use Rattle.ww_txn.specs.declared.transacting.TxnFault.{TxnFault}
-use Rattle.ww_txn.specs.declared.transacting.TxnFault.TheVariants.{PassSpent, Already, NoMemory}
+use Rattle.ww_txn.specs.declared.transacting.TxnFault.TheVariants.{PassSpent, Already, Interrupted, NoMemory}
 
 -- how many contexts making it begins: none for a peek, else one
 abbrev pub contexts_of : Transaction → ℕ
@@ -43,21 +43,25 @@ pub record IsTransacted (s a : Holding) (txn : Transaction) (told : Receipt) : T
   pub seq : told.seq ≡ length s.own
   pub size : length a.seen ≡ length s.seen
 
--- why nothing was recorded: first it is looked whether the pass has a context left, then for a double
-abbrev pub IsTxnFault : Holding → Transaction → Holding → TxnFault → Type 0
-IsTxnFault s txn a PassSpent = (s.left ≡ 0) × (a ≡ s)
-IsTxnFault s txn a (Already n) = FirstDouble (listed txn) (Some n) × IsReturned s (contexts_of txn) a
-IsTxnFault s txn a NoMemory = FirstDouble (listed txn) None × IsReturned s (contexts_of txn) a
+-- Why nothing was recorded: first it is looked whether the pass has a context left. Then a double is told, or that a wait
+-- was called off, whichever is met first; the latter only of a transaction that heeds cancels.
+abbrev pub IsTxnFault : Bool → Holding → Transaction → Holding → TxnFault → Type 0
+IsTxnFault heeds s txn a PassSpent = (s.left ≡ 0) × (a ≡ s)
+IsTxnFault heeds s txn a (Already n) = FirstDouble (listed txn) (Some n) × IsReturned s (contexts_of txn) a
+IsTxnFault heeds s txn a (Interrupted by) = (heeds ≡ true) × IsCalledOff s by a
+IsTxnFault heeds s txn a NoMemory = FirstDouble (listed txn) None × IsReturned s (contexts_of txn) a
 
 abbrev pub txn_number : TxnFault → ℕ
 txn_number PassSpent = 4
 txn_number (Already n) = 9
+txn_number (Interrupted by) = 20
 txn_number NoMemory = 6
 
 -- why a list wasn't locked, as why its transaction wasn't made
 abbrev pub fault_of : UserFault → TxnFault
 fault_of user.PassSpent = PassSpent
 fault_of (user.Already n) = Already n
+fault_of (user.Interrupted by) = Interrupted by
 
 -- The context that was begun for this transaction, which holds all that the transaction depends on and may change.
 pub record IsReady (s : Holding) (txn : Transaction) (a : Holding) : Type 0 where

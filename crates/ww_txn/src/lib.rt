@@ -7,4 +7,4 @@ mod transacting;
 mod ways;
 
 pub use gate::Gate;
-pub use transacting::{TxnFault, transact};
+pub use transacting::{TxnFault, transact, transact_interruptible};

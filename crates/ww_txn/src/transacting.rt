@@ -1,4 +1,4 @@
-ghost use Rattle.std.specs.Prelude.{◌≡◌, ◌<◌, length, IfOk, IfErr, OnOk};
+ghost use Rattle.std.specs.Prelude.{◌≡◌, ◌<◌, Bool, true, false, length, IfOk, IfErr, OnOk};
 ghost use Rattle.ww_plain.specs.Transaction.{transaction_of, peek, Fits};
 ghost use Rattle.ww_lock.specs.Holding.{IsAtHome};
 ghost use Rattle.ww_txn.specs.Transact.{IsTransacted, IsTxnFault, contexts_of};
@@ -17,6 +17,8 @@ pub enum TxnFault {
     PassSpent,
     /// The list names this node twice; it is the first one that does.
     Already(u8),
+    /// A wait for one of its locks was called off by this caller.
+    Interrupted(u8),
     /// A growth was refused.
     NoMemory,
 }
@@ -32,6 +34,7 @@ impl TxnFault {
         match self {
             TxnFault::PassSpent => 4,
             TxnFault::Already(_) => 9,
+            TxnFault::Interrupted(_) => 20,
             TxnFault::NoMemory => 6,
         }
     }
@@ -47,6 +50,7 @@ impl From<UserFault> for TxnFault {
         match fault {
             UserFault::PassSpent => TxnFault::PassSpent,
             UserFault::Already(n) => TxnFault::Already(n),
+            UserFault::Interrupted(by) => TxnFault::Interrupted(by),
         }
     }
 }
@@ -65,17 +69,18 @@ pub fn transact<R: Wait, G: Gate>(
     requires fits { Fits (length world.now.first) (transaction_of txn) }
     ensures home { IsAtHome result.0 world.now }
     ensures ok { IfOk result.1 (IsTransacted pass result.0 (transaction_of txn)) }
-    ensures err { IfErr result.1 (IsTxnFault pass (transaction_of txn) result.0) }
+    ensures err { IfErr result.1 (IsTxnFault false pass (transaction_of txn) result.0) }
     ensures gate { OnOk result.1 (G.is_answered gate.now pass.caller (length pass.own)) }
 {
     match txn {
         Txn::Peek(node) => transact_alone(world, pass, rt, gate, node),
-        txn => transact_together(world, pass, rt, gate, txn),
+        txn => transact_together(world, pass, rt, gate, txn, false),
     }
 }
 
-/// Makes a transaction in a context.
-fn transact_together<R: Wait, G: Gate>(
+/// Makes a transaction as `transact` does, but its waits may be called off: nothing is recorded then, and the pass holds
+/// no lock. A `Peek` takes one lock without a context, as a plain mutex, and can't be called off.
+pub fn transact_interruptible<R: Wait, G: Gate>(
     world: &World,
     pass: Pass,
     rt: &R,
@@ -84,15 +89,35 @@ fn transact_together<R: Wait, G: Gate>(
 ) -> (Pass, Result<Receipt, TxnFault>)
     requires home { IsAtHome pass world.now }
     requires fits { Fits (length world.now.first) (transaction_of txn) }
+    requires context { contexts_of (transaction_of txn) ≡ 1 }
+    ensures home { IsAtHome result.0 world.now }
+    ensures ok { IfOk result.1 (IsTransacted pass result.0 (transaction_of txn)) }
+    ensures err { IfErr result.1 (IsTxnFault true pass (transaction_of txn) result.0) }
+    ensures gate { OnOk result.1 (G.is_answered gate.now pass.caller (length pass.own)) }
+{
+    transact_together(world, pass, rt, gate, txn, true)
+}
+
+/// Makes a transaction in a context, whose waits may be called off where it heeds cancels.
+fn transact_together<R: Wait, G: Gate>(
+    world: &World,
+    pass: Pass,
+    rt: &R,
+    gate: &G,
+    txn: Txn,
+    heeds: bool,
+) -> (Pass, Result<Receipt, TxnFault>)
+    requires home { IsAtHome pass world.now }
+    requires fits { Fits (length world.now.first) (transaction_of txn) }
     requires one { contexts_of (transaction_of txn) ≡ 1 }
     ensures home { IsAtHome result.0 world.now }
     ensures ok { IfOk result.1 (IsTransacted pass result.0 (transaction_of txn)) }
-    ensures err { IfErr result.1 (IsTxnFault pass (transaction_of txn) result.0) }
+    ensures err { IfErr result.1 (IsTxnFault heeds pass (transaction_of txn) result.0) }
     ensures gate { OnOk result.1 (G.is_answered gate.now pass.caller (length pass.own)) }
 {
     let caller = pass.caller();
     let seq = pass.commits();
-    let mut done = match lock_all(world, pass, rt, &txn) {
+    let mut done = match lock_all(world, pass, rt, &txn, heeds) {
         Ok(done) => done,
         Err((pass, fault)) => return (pass, Err(TxnFault::from(fault))),
     };
@@ -119,7 +144,7 @@ fn transact_alone<R: Wait, G: Gate>(
     requires node { node < length world.now.first }
     ensures home { IsAtHome result.0 world.now }
     ensures ok { IfOk result.1 (IsTransacted pass result.0 (peek node)) }
-    ensures err { IfErr result.1 (IsTxnFault pass (peek node) result.0) }
+    ensures err { IfErr result.1 (IsTxnFault false pass (peek node) result.0) }
     ensures gate { OnOk result.1 (G.is_answered gate.now pass.caller (length pass.own)) }
 {
     let caller = pass.caller();

@@ -1,9 +1,11 @@
 -- Contexts of a pass, through their tries.
-use Rattle.std.proofs.Common.{◌≡◌, ℕ, ◌+◌, ◌-◌, length, refl, sym, ap, ◌∙◌, length-set}
-use Rattle.ww_lock.specs.Holding.{Holding}
-use Rattle.ww_lock.specs.Moves.{HasTried, IsTaken}
-use Rattle.ww_users.specs.Ways.{IsContext}
-use Rattle.ww_users.specs.Trips.{IsSameContext}
+use Rattle.std.proofs.Common.{◌≡◌, ℕ, ◌+◌, ◌-◌, Bool, true, [], length, refl, sym, ap, subst, ◌∙◌, length-set, Result, Ok, Err, IfErr}
+use Rattle.ww_lock.specs.Holding.{Holding, Wanting}
+use Rattle.ww_lock.specs.Moves.{interrupted_by, emptied, HasTried, IsTaken, IsInterrupted}
+use Rattle.ww_users.specs.declared.context.Halt.{Halt}
+use Rattle.ww_users.specs.declared.context.Halt.TheVariants.{Deadlk, Interrupted}
+use Rattle.ww_users.specs.Ways.{IsContext, IsReturned, IsCalledOff}
+use Rattle.ww_users.specs.Trips.{IsSameContext, IsHalted, IsHalt}
 
 pub same_at_once : (s : Holding) → IsSameContext s s
 same_at_once s = record { rest = refl; size = refl }
@@ -26,6 +28,29 @@ same_tried s a tried = record {
   size = ap (λ (b : Holding). length b.seen) tried.same;
 }
 
+-- its wait was called off, before or after it took and gave locks
+pub same_interrupted : (s a : Holding) (n by : ℕ) → IsSameContext s a → IsSameContext (interrupted_by s n by) (interrupted_by a n by)
+same_interrupted s a n by h = record { rest = ap (λ (c : Holding). interrupted_by c n by) h.rest; size = h.size }
+
+pub same_told : (s a : Holding) (n by : ℕ) → IsInterrupted s n by a → IsSameContext (interrupted_by s n by) a
+same_told s a n by told = record {
+  rest = told.told ∙ ap (λ (b : Holding). record (interrupted_by s n by) { held = b.held; seen = b.seen; tries = a.tries }) (sym told.told);
+  size = ap (λ (b : Holding). length b.seen) told.told;
+}
+
+pub halted_later : (heeds : Bool) (s a b : Holding) (by : ℕ) → IsSameContext s a → IsHalted heeds a by b → IsHalted heeds s by b
+halted_later heeds s a b by h halted = (halted.0, (halted.1.0, same_later _ _ _ (same_interrupted s a halted.1.0 by h) halted.1.1))
+
+pub halt_later : (heeds : Bool) (s a : Holding) (h : Halt) → IsSameContext s a → IsHalt heeds a h → IsHalt heeds s h
+halt_later heeds s a (Deadlk b) h more = same_later s a b.holding h more
+halt_later heeds s a (Interrupted b by) h halted = halted_later heeds s a b by h halted
+
+-- the slow lock was called off, once all locks were given back
+pub slow_halted : (heeds : Bool) (s a : Holding) (n : ℕ) (r : Result Holding (Wanting × ℕ)) → heeds ≡ true → a ≡ emptied s → IfErr r (λ e. IsInterrupted a n e.1 e.0.holding) → IfErr r (λ e. IsHalted heeds s e.1 e.0.holding)
+slow_halted heeds s a n (Ok b) on is told = tt
+slow_halted heeds s a n (Err e) on is told = let emptied_same : IsSameContext s (emptied s) = record { rest = refl; size = refl } in
+    (on, (n, same_later _ _ _ (same_interrupted s (emptied s) n e.1 emptied_same) (same_told (emptied s) e.0.holding n e.1 (subst (λ (b : Holding). IsInterrupted b n e.1 e.0.holding) is told))))
+
 -- whichever locks it takes, it is a context of the same pass
 pub context_later : (s a b : Holding) → IsContext s a → IsSameContext a b → IsContext s b
 context_later s a b h more =
@@ -37,3 +62,18 @@ context_later s a b h more =
           ∙ ap (λ k. record s { left = s.left - 1; draws = s.draws + 1; stamp = k; held = b.held; seen = b.seen; tries = b.tries }) (sym stamps);
       size = more.size ∙ h.size;
     }
+
+-- a context whose wait was called off, and that holds nothing, comes back as a pass
+pub called_off : (heeds : Bool) (s a b c : Holding) (by : ℕ) → IsContext s a → IsHalted heeds a by b → c ≡ record b { held = []; stamp = 0 } → IsCalledOff s by c
+called_off heeds s a b c by h halted is =
+    let n = halted.1.0 in let more = halted.1.1 in
+    let rest : b ≡ record (interrupted_by s n by) { left = s.left - 1; draws = s.draws + 1; stamp = a.stamp; held = b.held; seen = b.seen; tries = b.tries } =
+    more.rest ∙ ap (λ (d : Holding). record (interrupted_by d n by) { held = b.held; seen = b.seen; tries = b.tries }) h.rest in
+    let room : c.room ≡ s.room = ap (λ (d : Holding). d.room) (is ∙ ap (λ (d : Holding). record d { held = []; stamp = 0 }) rest) in (
+      n,
+      record {
+        some = h.some;
+        rest = is ∙ ap (λ (d : Holding). record d { held = []; stamp = 0 }) rest ∙ rw (room, is) refl;
+        size = ap (λ (d : Holding). length d.seen) is ∙ more.size ∙ h.size;
+      },
+    )

@@ -1,14 +1,19 @@
 -- What one trip through a list, or along a walk, does to the context that makes it.
-use Rattle.std.specs.Prelude.{ℕ, ◌≡◌, ◌<◌, ◌+◌, ◌∷◌, [], List, length, take, slice_get, Option, Some, None, IfSome, IsTrue}
+use Rattle.std.specs.Prelude.{ℕ, ◌≡◌, ◌<◌, ◌+◌, ◌∷◌, [], Bool, true, List, length, take, slice_get, Option, Some, None, IfSome, IsTrue}
 use Rattle.std.specs.List.Sorted.{IsPermutation}
 use Rattle.ww_plain.specs.Numbers.{is_among, AreDifferent}
 use Rattle.ww_plain.specs.Graph.{Agree}
 use Rattle.ww_plain.specs.Footprint.{walked}
 use Rattle.ww_plain.specs.Transaction.{FirstDouble}
 use Rattle.ww_plain.specs.Walk.{walk_of}
+use Rattle.ww_lock.specs.declared.interruptible.Interruptible.{Interruptible}
+use Rattle.ww_lock.specs.declared.interruptible.Interruptible.TheVariants as lock
 use Rattle.ww_lock.specs.Holding.{Holding, Refused, Holds}
+use Rattle.ww_lock.specs.Moves.{interrupted_by, IsInterrupted, IsInterruptibleAnswer}
+use Rattle.ww_users.specs.declared.context.Halt.{Halt}
+use Rattle.ww_users.specs.declared.context.Halt.TheVariants as halt
 use Rattle.ww_users.specs.declared.trip.Trip.{Trip}
-use Rattle.ww_users.specs.declared.trip.Trip.TheVariants.{Through, Already, Deadlk}
+use Rattle.ww_users.specs.declared.trip.Trip.TheVariants.{Through, Already, Deadlk, Interrupted}
 use Rattle.ww_users.specs.Ways.{HoldsExactly, in_order}
 
 -- the same context, which may hold other locks, after some tries more to take one
@@ -39,11 +44,26 @@ pub record IsContended (list : List ℕ) (b : Refused) (position : ℕ) : Type 0
   pub entry : slice_get list position ≡ Some b.contended
   pub different : AreDifferent (take (position + 1) list)
 
--- How a trip through a list ended: with all of it locked in its order, at its first double, or with EDEADLK.
-abbrev pub IsTrip : Holding → List ℕ → Option ℕ → Trip → Type 0
-IsTrip s list kept (Through a) = IsSameContext s a × HoldsExactly list a × FirstDouble list None × (a.held ≡ in_order kept list)
-IsTrip s list kept (Already a n) = IsSameContext s a × FirstDouble list (Some n)
-IsTrip s list kept (Deadlk b position) = IsSameContext s b.holding × IsContended list b position
+-- the answer of a lock call, which may be called off only where it heeds cancels
+abbrev pub IsAnswer : Bool → Holding → ℕ → Interruptible → Type 0
+IsAnswer heeds s n (lock.Interrupted a by) = (heeds ≡ true) × IsInterrupted s n by a
+IsAnswer heeds s n answer = IsInterruptibleAnswer s n answer
+
+-- its wait for some node was called off by this caller; it is the same context otherwise
+abbrev pub IsHalted : Bool → Holding → ℕ → Holding → Type 0
+IsHalted heeds s by a = (heeds ≡ true) × ((n : ℕ) × IsSameContext (interrupted_by s n by) a)
+
+-- why a context didn't get a lock
+abbrev pub IsHalt : Bool → Holding → Halt → Type 0
+IsHalt heeds s (halt.Deadlk b) = IsSameContext s b.holding
+IsHalt heeds s (halt.Interrupted a by) = IsHalted heeds s by a
+
+-- How a trip through a list ended: with all of it locked in its order, at its first double, with EDEADLK, or called off.
+abbrev pub IsTrip : Bool → Holding → List ℕ → Option ℕ → Trip → Type 0
+IsTrip heeds s list kept (Through a) = IsSameContext s a × HoldsExactly list a × FirstDouble list None × (a.held ≡ in_order kept list)
+IsTrip heeds s list kept (Already a n) = IsSameContext s a × FirstDouble list (Some n)
+IsTrip heeds s list kept (Deadlk b position) = IsSameContext s b.holding × IsContended list b position
+IsTrip heeds s list kept (Interrupted a by) = IsHalted heeds s by a
 
 -- the same entries in another order, with the same first double
 pub record IsReordered (list order : List ℕ) : Type 0 where

@@ -1,11 +1,12 @@
 -- What the three ways of taking many locks give.
-use Rattle.std.specs.Prelude.{ℕ, ◌≡◌, ◌≤◌, ◌+◌, ◌-◌, ◌==◌, ◌∷◌, [], not, List, length, Option, None, Some}
+use Rattle.std.specs.Prelude.{ℕ, ◌≡◌, ◌≤◌, ◌+◌, ◌-◌, ◌==◌, ◌∷◌, [], not, Bool, true, List, length, Option, None, Some}
 use Rattle.std.specs.List.{filter}
 use Rattle.ww_plain.specs.Numbers.{is_among}
 use Rattle.ww_plain.specs.Transaction.{FirstDouble}
 use Rattle.ww_lock.specs.Holding.{Holding}
+use Rattle.ww_lock.specs.Moves.{interrupted_by}
 use Rattle.ww_users.specs.declared.fault.UserFault.{UserFault}
-use Rattle.ww_users.specs.declared.fault.UserFault.TheVariants.{PassSpent, Already}
+use Rattle.ww_users.specs.declared.fault.UserFault.TheVariants.{PassSpent, Already, Interrupted}
 
 -- A pass that comes back after a refusal: one context less to start, so many more begun, no context, no lock, and the
 -- same own list.
@@ -21,6 +22,10 @@ pub record IsReturned (s : Holding) (begun : ℕ) (a : Holding) : Type 0 where
     tries = a.tries;
   }
   pub size : length a.seen ≡ length s.seen
+
+-- a pass that comes back since its wait for one of the nodes was called off, by this caller
+abbrev pub IsCalledOff : Holding → ℕ → Holding → Type 0
+IsCalledOff s by a = (n : ℕ) × IsReturned (interrupted_by s n by) 1 a
 
 -- the one context more that this pass has begun, which holds some nodes
 pub record IsContext (s a : Holding) : Type 0 where
@@ -49,11 +54,18 @@ in_order (Some kept) list = kept ∷ filter (λ n. not (n == kept)) list
 abbrev pub TookInOrder : List ℕ → Holding → Type 0
 TookInOrder list a = (kept : Option ℕ) × (a.held ≡ in_order kept list)
 
--- why the nodes of the list were not locked: the budget is looked at first
-abbrev pub IsUserFault : Holding → List ℕ → Holding → UserFault → Type 0
-IsUserFault s list a PassSpent = (s.left ≡ 0) × (a ≡ s)
-IsUserFault s list a (Already n) = FirstDouble list (Some n) × IsReturned s 1 a
+-- Why the nodes of the list were not locked: the budget is looked at first. Only a call that heeds cancels is called off.
+abbrev pub IsUserFault : Bool → Holding → List ℕ → Holding → UserFault → Type 0
+IsUserFault heeds s list a PassSpent = (s.left ≡ 0) × (a ≡ s)
+IsUserFault heeds s list a (Already n) = FirstDouble list (Some n) × IsReturned s 1 a
+IsUserFault heeds s list a (Interrupted by) = (heeds ≡ true) × IsCalledOff s by a
+
+-- why a walk was not locked: nothing of it is named twice
+abbrev pub IsWalkFault : Bool → Holding → Holding → UserFault → Type 0
+IsWalkFault heeds s a (Already n) = ⊥
+IsWalkFault heeds s a fault = IsUserFault heeds s [] a fault
 
 abbrev pub user_number : UserFault → ℕ
 user_number PassSpent = 4
 user_number (Already n) = 9
+user_number (Interrupted by) = 20

@@ -1,20 +1,62 @@
-//! What a context does in each of the three ways.
+//! What a context does in each of the three ways, whether its waits may be called off or not.
 
 ghost use Rattle.std.specs.Prelude.{◌≡◌, ◌<◌, ◌∷◌, [], length, IfOk, IfErr};
 ghost use Rattle.ww_lock.specs.Holding.{IsAtHome};
-ghost use Rattle.ww_lock.specs.Moves.{HasTried};
-ghost use Rattle.ww_users.specs.Trips.{IsSameContext, HasLocked};
+ghost use Rattle.ww_users.specs.Trips.{IsSameContext, HasLocked, IsAnswer, IsHalted, IsHalt};
 
 use std::sync::Wait;
-use ww_lock::{Acquiring, Backoff, Lock, World};
+use ww_lock::{Acquiring, Backoff, Contended, Interruptible, Lock, World};
 
-/// After EDEADLK: gives all locks back, and takes the contended one, however long that takes.
-pub(crate) fn back_off<R: Wait>(world: &World, backoff: Backoff, rt: &R) -> Acquiring
-    requires home { IsAtHome backoff.holding world.now }
-    ensures same { IsSameContext backoff.holding result }
-    ensures alone { result.held ≡ backoff.contended ∷ [] }
+/// Why a context didn't get a lock.
+pub(crate) enum Halt {
+    /// It was told EDEADLK.
+    Deadlk(Backoff),
+    /// Its wait was called off by this caller.
+    Interrupted(Acquiring, u8),
+}
+
+/// Takes a lock; the wait for it may be called off where it heeds cancels.
+#[inline(always)]
+pub(crate) fn lock<R: Wait>(
+    world: &World,
+    acquiring: Acquiring,
+    rt: &R,
+    n: u8,
+    heeds: bool,
+) -> Interruptible
+    requires home { IsAtHome acquiring world.now }
+    requires node { n < length world.now.first }
+    ensures { IsAnswer heeds acquiring n result }
 {
-    backoff.unlock_all(rt, world).lock_slow(rt, world)
+    if heeds {
+        return acquiring.lock_interruptible(rt, world, n);
+    }
+    match acquiring.lock(rt, world, n) {
+        Lock::Locked(acquiring) => Interruptible::Locked(acquiring),
+        Lock::Already(acquiring) => Interruptible::Already(acquiring),
+        Lock::Deadlk(backoff) => Interruptible::Deadlk(backoff),
+    }
+}
+
+/// After EDEADLK: gives all locks back, and takes the contended one, however long that takes; or tells who called the
+/// wait for it off.
+pub(crate) fn back_off<R: Wait>(
+    world: &World,
+    backoff: Backoff,
+    rt: &R,
+    heeds: bool,
+) -> Result<Acquiring, (Contended, u8)>
+    requires home { IsAtHome backoff.holding world.now }
+    ensures same { IfOk result (IsSameContext backoff.holding) }
+    ensures alone { IfOk result (λ a. a.held ≡ backoff.contended ∷ []) }
+    ensures halted { IfErr result (λ e. IsHalted heeds backoff.holding e.1 e.0.holding) }
+    ensures nothing { IfErr result (λ e. e.0.holding.held ≡ []) }
+{
+    let contended = backoff.unlock_all(rt, world);
+    if heeds {
+        return contended.lock_slow_interruptible(rt, world);
+    }
+    Ok(contended.lock_slow(rt, world))
 }
 
 /// Takes a lock. EALREADY means that the context goes on.
@@ -23,14 +65,16 @@ pub(crate) fn lock_one<R: Wait>(
     acquiring: Acquiring,
     rt: &R,
     n: u8,
-) -> Result<Acquiring, Backoff>
+    heeds: bool,
+) -> Result<Acquiring, Halt>
     requires home { IsAtHome acquiring world.now }
     requires node { n < length world.now.first }
     ensures ok { IfOk result (HasLocked acquiring n) }
-    ensures err { IfErr result (λ b. HasTried acquiring b.holding) }
+    ensures err { IfErr result (IsHalt heeds acquiring) }
 {
-    match acquiring.lock(rt, world, n) {
-        Lock::Locked(acquiring) | Lock::Already(acquiring) => Ok(acquiring),
-        Lock::Deadlk(backoff) => Err(backoff),
+    match lock(world, acquiring, rt, n, heeds) {
+        Interruptible::Locked(acquiring) | Interruptible::Already(acquiring) => Ok(acquiring),
+        Interruptible::Deadlk(backoff) => Err(Halt::Deadlk(backoff)),
+        Interruptible::Interrupted(acquiring, by) => Err(Halt::Interrupted(acquiring, by)),
     }
 }

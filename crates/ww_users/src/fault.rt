@@ -1,10 +1,12 @@
-/// Why the nodes of a list were not locked.
+/// Why the nodes of a list, or of a walk, were not locked. The pass holds no lock then.
 #[derive(Clone, Copy, Debug, PartialEq, Eq)]
 pub enum UserFault {
     /// The pass has no context left to start.
     PassSpent,
     /// The list names this node a second time: the kernel's EALREADY.
     Already(u8),
+    /// The wait for one of the nodes was called off by this caller: the kernel's EINTR.
+    Interrupted(u8),
 }
 
 impl UserFault {
@@ -18,6 +20,7 @@ impl UserFault {
         match self {
             UserFault::PassSpent => 4,
             UserFault::Already(_) => 9,
+            UserFault::Interrupted(_) => 20,
         }
     }
 }

@@ -1,4 +1,4 @@
-ghost use Rattle.std.specs.Prelude.{◌≡◌, ◌≤◌, ◌<◌, None, length, IfOk, IfErr};
+ghost use Rattle.std.specs.Prelude.{◌≡◌, ◌≤◌, ◌<◌, true, false, None, length, IfOk, IfErr};
 ghost use Rattle.std.specs.List.{AllByRecursion};
 ghost use Rattle.ww_plain.specs.Transaction.{FirstDouble};
 ghost use Rattle.ww_lock.specs.Holding.{IsAtHome};
@@ -27,7 +27,49 @@ pub fn lock_list<R: Wait>(
     ensures holds { IfOk result (HoldsExactly list.now) }
     ensures order { IfOk result (TookInOrder list.now) }
     ensures no_double { IfOk result (λ _. FirstDouble list.now None) }
-    ensures err { IfErr result (λ e. IsUserFault pass list.now e.0 e.1) }
+    ensures err { IfErr result (λ e. IsUserFault false pass list.now e.0 e.1) }
+    ensures room { IfErr result (λ e. e.0.room ≡ pass.room) }
+{
+    lock_in_order(world, pass, rt, list, false)
+}
+
+/// Method 1, but each wait may be called off. All is given back then, too.
+pub fn lock_list_interruptible<R: Wait>(
+    world: &World,
+    pass: Pass,
+    rt: &R,
+    list: &[u8],
+) -> Result<Done, (Pass, UserFault)>
+    requires home { IsAtHome pass world.now }
+    requires some { 1 ≤ length list.now }
+    requires few { length list.now ≤ 64 }
+    requires nodes { AllByRecursion (λ n. n < length world.now.first) list.now }
+    ensures context { IfOk result (IsContext pass) }
+    ensures holds { IfOk result (HoldsExactly list.now) }
+    ensures order { IfOk result (TookInOrder list.now) }
+    ensures no_double { IfOk result (λ _. FirstDouble list.now None) }
+    ensures err { IfErr result (λ e. IsUserFault true pass list.now e.0 e.1) }
+    ensures room { IfErr result (λ e. e.0.room ≡ pass.room) }
+{
+    lock_in_order(world, pass, rt, list, true)
+}
+
+/// Locks the nodes in the order of the list, whether the waits may be called off or not.
+#[inline(always)]
+fn lock_in_order<R: Wait>(
+    world: &World,
+    pass: Pass,
+    rt: &R,
+    list: &[u8],
+    heeds: bool,
+) -> Result<Done, (Pass, UserFault)>
+    requires home { IsAtHome pass world.now }
+    requires nodes { AllByRecursion (λ n. n < length world.now.first) list.now }
+    ensures context { IfOk result (IsContext pass) }
+    ensures holds { IfOk result (HoldsExactly list.now) }
+    ensures order { IfOk result (TookInOrder list.now) }
+    ensures no_double { IfOk result (λ _. FirstDouble list.now None) }
+    ensures err { IfErr result (λ e. IsUserFault heeds pass list.now e.0 e.1) }
     ensures room { IfErr result (λ e. e.0.room ≡ pass.room) }
 {
     let mut acquiring = match pass.begin(world) {
@@ -36,7 +78,7 @@ pub fn lock_list<R: Wait>(
     };
     let mut kept = None;
     for _ in rt.forever() {
-        acquiring = match lock_entries(world, acquiring, rt, list, kept) {
+        acquiring = match lock_entries(world, acquiring, rt, list, kept, heeds) {
             Trip::Through(acquiring) => return Ok(acquiring.done()),
             Trip::Already(acquiring, n) => {
                 let pass = acquiring.unlock_all(rt, world).fini(world);
@@ -44,7 +86,16 @@ pub fn lock_list<R: Wait>(
             }
             Trip::Deadlk(backoff, _) => {
                 kept = Some(backoff.contended());
-                back_off(world, backoff, rt)
+                match back_off(world, backoff, rt, heeds) {
+                    Ok(acquiring) => acquiring,
+                    Err((contended, by)) => {
+                        return Err((contended.fini(world), UserFault::Interrupted(by)));
+                    }
+                }
+            }
+            Trip::Interrupted(acquiring, by) => {
+                let pass = acquiring.unlock_all(rt, world).fini(world);
+                return Err((pass, UserFault::Interrupted(by)));
             }
         };
     }

@@ -10,6 +10,6 @@ mod trip;
 mod walk;
 
 pub use fault::UserFault;
-pub use fixed_list::lock_list;
-pub use reordered_list::lock_order;
-pub use walk::lock_walk;
+pub use fixed_list::{lock_list, lock_list_interruptible};
+pub use reordered_list::{lock_order, lock_order_interruptible};
+pub use walk::{lock_walk, lock_walk_interruptible};

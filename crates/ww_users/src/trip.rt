@@ -5,8 +5,9 @@ ghost use Rattle.std.specs.List.{AllByRecursion};
 ghost use Rattle.ww_lock.specs.Holding.{IsAtHome};
 ghost use Rattle.ww_users.specs.Trips.{HoldsKept, IsTrip};
 
+use crate::context::lock;
 use std::sync::Wait;
-use ww_lock::{Acquiring, Backoff, Lock, World};
+use ww_lock::{Acquiring, Backoff, Interruptible, World};
 
 /// How a trip through a list ended.
 pub(crate) enum Trip {
@@ -16,6 +17,8 @@ pub(crate) enum Trip {
     Already(Acquiring, u8),
     /// The context was told EDEADLK at the entry of this position.
     Deadlk(Backoff, usize),
+    /// The wait for an entry was called off by this caller.
+    Interrupted(Acquiring, u8),
 }
 
 /// Locks the entries in the order of the list. The node that was kept from a slow lock is skipped once.
@@ -25,11 +28,12 @@ pub(crate) fn lock_entries<R: Wait>(
     rt: &R,
     list: &[u8],
     kept: Option<u8>,
+    heeds: bool,
 ) -> Trip
     requires home { IsAtHome acquiring world.now }
     requires nodes { AllByRecursion (λ n. n < length world.now.first) list.now }
     requires kept { HoldsKept kept list.now acquiring }
-    ensures { IsTrip acquiring list.now kept result }
+    ensures { IsTrip heeds acquiring list.now kept result }
 {
     let mut acquiring = acquiring;
     let mut kept = kept;
@@ -38,10 +42,11 @@ pub(crate) fn lock_entries<R: Wait>(
             kept = None;
             continue;
         }
-        acquiring = match acquiring.lock(rt, world, *n) {
-            Lock::Locked(acquiring) => acquiring,
-            Lock::Already(acquiring) => return Trip::Already(acquiring, *n),
-            Lock::Deadlk(backoff) => return Trip::Deadlk(backoff, position),
+        acquiring = match lock(world, acquiring, rt, *n, heeds) {
+            Interruptible::Locked(acquiring) => acquiring,
+            Interruptible::Already(acquiring) => return Trip::Already(acquiring, *n),
+            Interruptible::Deadlk(backoff) => return Trip::Deadlk(backoff, position),
+            Interruptible::Interrupted(acquiring, by) => return Trip::Interrupted(acquiring, by),
         };
     }
     Trip::Through(acquiring)

@@ -1,17 +1,18 @@
-ghost use Rattle.std.specs.Prelude.{◌≡◌, ◌<◌, false, length, Some, IfOk, IfErr, IfSome, IsTrue};
+ghost use Rattle.std.specs.Prelude.{◌≡◌, ◌<◌, true, false, length, Some, IfOk, IfErr, IfSome, IsTrue};
 ghost use Rattle.ww_plain.specs.Graph.{port_of};
 ghost use Rattle.ww_plain.specs.Numbers.{is_among};
 ghost use Rattle.ww_plain.specs.Transaction.{IsCourse, sum, reverse};
 ghost use Rattle.ww_plain.specs.Walk.{IsEnd, GoesOnTo};
 ghost use Rattle.ww_lock.specs.Holding.{IsAtHome};
 ghost use Rattle.ww_lock.specs.Making.{Covers};
-ghost use Rattle.ww_users.specs.Ways.{IsContext};
-ghost use Rattle.ww_users.specs.Trips.{IsSameContext, HoldsWalk};
+ghost use Rattle.ww_users.specs.Ways.{IsContext, IsWalkFault};
+ghost use Rattle.ww_users.specs.Trips.{IsSameContext, HoldsWalk, IsHalt};
 
-use crate::context::{back_off, lock_one};
+use crate::context::{Halt, back_off, lock_one};
+use crate::fault::UserFault;
 use arrayvec::ArrayVec;
 use std::sync::Wait;
-use ww_lock::{Acquiring, Backoff, Done, Pass, World};
+use ww_lock::{Acquiring, Done, Pass, World};
 use ww_plain::{MAX_NODES, PORTS};
 
 /// Method 3: locks the walk from a node along a port, of at most so many nodes, and its stop, as it finds them. On
@@ -32,11 +33,67 @@ pub fn lock_walk<R: Wait>(
     ensures reverse { IfOk result (λ d. Covers d (reverse start port most)) }
     ensures err { IfErr result (λ p. (pass.left ≡ 0) × (p ≡ pass)) }
 {
-    let mut acquiring = pass.begin(world)?;
+    match lock_found(world, pass, rt, start, port, most, false) {
+        Ok(done) => Ok(done),
+        Err((pass, UserFault::PassSpent)) => Err(pass),
+        Err(_) => unreachable!(),
+    }
+}
+
+/// Method 3, but each wait may be called off. All is given back then.
+pub fn lock_walk_interruptible<R: Wait>(
+    world: &World,
+    pass: Pass,
+    rt: &R,
+    start: u8,
+    port: u8,
+    most: u8,
+) -> Result<Done, (Pass, UserFault)>
+    requires home { IsAtHome pass world.now }
+    requires course { IsCourse (length world.now.first) start port most }
+    ensures context { IfOk result (IsContext pass) }
+    ensures sum { IfOk result (λ d. Covers d (sum start port most)) }
+    ensures reverse { IfOk result (λ d. Covers d (reverse start port most)) }
+    ensures err { IfErr result (λ e. IsWalkFault true pass e.0 e.1) }
+{
+    lock_found(world, pass, rt, start, port, most, true)
+}
+
+/// Locks the walk and its stop as it finds them, whether the waits may be called off or not.
+#[inline(always)]
+fn lock_found<R: Wait>(
+    world: &World,
+    pass: Pass,
+    rt: &R,
+    start: u8,
+    port: u8,
+    most: u8,
+    heeds: bool,
+) -> Result<Done, (Pass, UserFault)>
+    requires home { IsAtHome pass world.now }
+    requires course { IsCourse (length world.now.first) start port most }
+    ensures context { IfOk result (IsContext pass) }
+    ensures sum { IfOk result (λ d. Covers d (sum start port most)) }
+    ensures reverse { IfOk result (λ d. Covers d (reverse start port most)) }
+    ensures err { IfErr result (λ e. IsWalkFault heeds pass e.0 e.1) }
+{
+    let mut acquiring = match pass.begin(world) {
+        Ok(acquiring) => acquiring,
+        Err(pass) => return Err((pass, UserFault::PassSpent)),
+    };
     for _ in rt.forever() {
-        acquiring = match lock_along(world, acquiring, rt, start, port, most) {
+        acquiring = match lock_along(world, acquiring, rt, start, port, most, heeds) {
             Ok(acquiring) => return Ok(acquiring.done()),
-            Err(backoff) => back_off(world, backoff, rt),
+            Err(Halt::Deadlk(backoff)) => match back_off(world, backoff, rt, heeds) {
+                Ok(acquiring) => acquiring,
+                Err((contended, by)) => {
+                    return Err((contended.fini(world), UserFault::Interrupted(by)));
+                }
+            },
+            Err(Halt::Interrupted(acquiring, by)) => {
+                let pass = acquiring.unlock_all(rt, world).fini(world);
+                return Err((pass, UserFault::Interrupted(by)));
+            }
         };
     }
     unreachable!()
@@ -52,19 +109,20 @@ fn lock_along<R: Wait>(
     start: u8,
     port: u8,
     most: u8,
-) -> Result<Acquiring, Backoff>
+    heeds: bool,
+) -> Result<Acquiring, Halt>
     requires home { IsAtHome acquiring world.now }
     requires course { IsCourse (length world.now.first) start port most }
     ensures ok { IfOk result (IsSameContext acquiring) }
     ensures holds { IfOk result (HoldsWalk start port most) }
-    ensures err { IfErr result (λ b. IsSameContext acquiring b.holding) }
+    ensures err { IfErr result (IsHalt heeds acquiring) }
 {
-    let mut acquiring = lock_one(world, acquiring, rt, start)?;
+    let mut acquiring = lock_one(world, acquiring, rt, start, heeds)?;
     let mut walk = ArrayVec::<u8, MAX_NODES>::new();
     walk.push(start);
     let mut stop = target_of(world, &acquiring, start, port);
     while let Some(next) = stop {
-        acquiring = lock_one(world, acquiring, rt, next)?;
+        acquiring = lock_one(world, acquiring, rt, next, heeds)?;
         if is_over(&walk, most, next) {
             return Ok(acquiring);
         }

@@ -5,7 +5,7 @@ pub take_sign_back-requires-clause-inside : goal.take_sign_back-requires-clause-
 take_sign_back-requires-clause-inside c = (c.args.lock, c.requires.may.inside)
 
 pub exit-requires-clause-may : goal.exit-requires-clause-may
-exit-requires-clause-may c = may_leave c.args.lock c.args.seat.now.seat.me _ c.take_sign_back.ensures.cleared c.requires.may
+exit-requires-clause-may c = may_leave c.args.lock c.args.seat.now.seat.me _ c.take_sign_back.ensures.cleared c.requires.may c.requires.orderly.unheeded
 
 pub exit-requires-clause-list : goal.exit-requires-clause-list
 exit-requires-clause-list c = (cleared_orderly _ c.args.seat.now.seat.me _ c.requires.orderly c.take_sign_back.ensures.cleared).list c.args.lock (cleared_inside c.args.lock c.args.seat.now.seat.me _ c.take_sign_back.ensures.cleared c.requires.may.inside)

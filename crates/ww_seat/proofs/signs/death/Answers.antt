@@ -27,7 +27,7 @@ pub returns-in-WaitDie-clause-told : goal.returns-in-WaitDie-clause-told
 returns-in-WaitDie-clause-told c = told_read _ c.args.lock c.args.seat.now.seat.me _ c.requires.orderly c.must_die.ensures.read
 
 pub returns-in-WaitDie-clause-death : goal.returns-in-WaitDie-clause-death
-returns-in-WaitDie-clause-death c = if_some c.must_die.result _ (λ k is. dies_waiting c.args.lock c.requires.work.0 c.args.seat.now.seat.me _ c.args.seen c.args.seat.now.who k c.requires.work.1 c.requires.seen c.must_die.ensures.read c.args.kind c.requires.kind c.in-WaitDie.is c.requires.seat.who (sym c.must_die.ensures.death ∙ is))
+returns-in-WaitDie-clause-death c = if_some c.must_die.result _ (λ k is. dies_waiting c.args.lock c.requires.work.0 c.args.seat.now.seat.me _ c.args.seen c.args.seat.now.who k c.requires.work.1 c.requires.seen c.must_die.ensures.read c.args.kind c.requires.kind c.in-WaitDie.is c.requires.seat.who (sym c.must_die.ensures.death ∙ is) c.requires.orderly.unheeded)
 
 pub returns-in-WaitDie-clause-life : goal.returns-in-WaitDie-clause-life
 returns-in-WaitDie-clause-life c = if_none c.must_die.result _ (λ is. stays_waiting c.args.lock c.args.seat.now.seat.me _ c.args.seen c.args.seat.now.who c.must_die.ensures.read c.args.kind c.requires.kind c.in-WaitDie.is c.requires.seat.who (sym c.must_die.ensures.death ∙ is))
@@ -42,4 +42,4 @@ pub returns-else-sign-eq0-clause-death : goal.returns-else-sign-eq0-clause-death
 returns-else-sign-eq0-clause-death c = let m = c.args.seat.now.seat.me in
     dies_signed c.args.lock c.own_sign-sign.result c.requires.work.0 m c.must_die-in-WoundWait.new.self.seat.me _ c.args.seen c.requires.work.1 c.requires.seen c.must_die-in-WoundWait.ensures.read (sym c.requires.kind ∙ c.in-WoundWait.is)
     (holds_by (length (first_graph c.args.board.now.table.shared.key)) c.args.lock c.requires.work.0 m c.args.seen c.args.seat.now.who _ c.requires.work.1 c.args.kind c.requires.seat.who (sym c.must_die-in-WoundWait.ensures.death ∙ c.in_ok-must_die-in-WoundWait.was))
-    c.if-sign-eq0.false (c.own_sign-sign.ensures.signed c.if-sign-eq0.false)
+    c.if-sign-eq0.false (c.own_sign-sign.ensures.signed c.if-sign-eq0.false) c.requires.orderly.unheeded

@@ -21,4 +21,4 @@ returns-in-Add-clause-ok g c =
 
 pub returns-in-Peek-clause-err : goal.returns-in-Peek-clause-err
 returns-in-Peek-clause-err g c =
-    rw c.in-Peek.is (only_spent c.args.pass (c.in-Peek.node ∷ []) c.lock_list-in-Peek.result (different_one c.in-Peek.node) c.lock_list-in-Peek.ensures.err)
+    rw c.in-Peek.is (only_spent c.args.heeds c.args.pass (c.in-Peek.node ∷ []) c.lock_fixed-in-Peek.result (different_one c.in-Peek.node) c.lock_fixed-in-Peek.ensures.err)

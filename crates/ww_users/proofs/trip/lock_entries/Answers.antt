@@ -1,6 +1,7 @@
 use Rattle.std.proofs.Common.{◌∙◌, refl, sym, subst}
 use Rattle.ww_lock.specs.Holding.{Holding}
 use Rattle.ww_users.specs.Trips.{IsSameContext}
+use Rattle.ww_users.proofs.Contexts.{same_told, halted_later}
 use Rattle.ww_users.proofs.Entries.{way_skips, way_locks, way_doubles, way_contended, way_ends}
 use Rattle.ww_users.proofs.trip.lock_entries.Goals as goal
 
@@ -15,6 +16,9 @@ returns-in-Already g c = (
 
 pub returns-in-Deadlk : goal.returns-in-Deadlk
 returns-in-Deadlk g c = way_contended _ _ _ _ c.args.list.now c.loop-position.position _ _ c.loop-position-test.true refl c.loop-position.invariant c.in-Deadlk.ensures
+
+pub returns-in-Interrupted : goal.returns-in-Interrupted
+returns-in-Interrupted g c = let e = c.in-Interrupted.ensures in halted_later _ _ _ _ _ c.loop-position.invariant.same (e.0, (_, same_told _ _ _ _ e.1))
 
 pub loop-position-preserved : goal.loop-position-preserved
 loop-position-preserved g c = way_locks _ _ _ _ c.args.list.now c.loop-position.position _ _ c.loop-position-test.true refl c.loop-position.invariant c.in-Locked.ensures

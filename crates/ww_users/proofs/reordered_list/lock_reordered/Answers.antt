@@ -6,7 +6,7 @@ use Rattle.ww_lock.specs.Holding.{Holding}
 use Rattle.ww_users.specs.Trips.{IsContended}
 use Rattle.ww_users.proofs.Contexts.{same_later, context_later}
 use Rattle.ww_users.proofs.Orders.{order_goes_on, order_among, order_below}
-use Rattle.ww_users.proofs.reordered_list.lock_order.Goals as goal
+use Rattle.ww_users.proofs.reordered_list.lock_reordered.Goals as goal
 
 pub lock_entries-requires-clause-nodes : goal.lock_entries-requires-clause-nodes
 lock_entries-requires-clause-nodes g c = rw c.deref.ensures.0 (order_below _ _ _ c.loop.invariant.2 c.requires.nodes)
@@ -28,5 +28,5 @@ pub loop-preserved : goal.loop-preserved
 loop-preserved g c =
     let met = subst (λ (ns : List ℕ). IsContended ns c.in-Deadlk.backoff c.in-Deadlk.position) c.deref.ensures.0 c.in-Deadlk.ensures.1 in
     let moved = c.insert.ensures.items ∙ ap (λ (ns : List ℕ). insert ns 0 c.remove-entry.result) c.remove-entry.ensures.items in
-    let goes_on = order_goes_on _ _ _ _ _ _ _ c.loop.invariant.2 met c.remove-entry.ensures.value moved c.back_off.ensures.alone in
-    (context_later _ _ _ c.loop.invariant.0 (same_later _ _ _ c.in-Deadlk.ensures.0 c.back_off.ensures.same), goes_on.0, goes_on.1)
+    let goes_on = order_goes_on _ _ _ _ _ _ _ c.loop.invariant.2 met c.remove-entry.ensures.value moved c.in-Ok-back_off.ensures.alone in
+    (context_later _ _ _ c.loop.invariant.0 (same_later _ _ _ c.in-Deadlk.ensures.0 c.in-Ok-back_off.ensures.same), goes_on.0, goes_on.1)

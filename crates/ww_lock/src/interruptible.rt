@@ -1,0 +1,96 @@
+//! Lock calls that may be called off while they wait.
+
+use crate::acquiring::Acquiring;
+use crate::backoff::Backoff;
+use crate::contended::Contended;
+use crate::world::World;
+use std::sync::Wait;
+use ww_seat::Stop;
+
+/// What an interruptible lock call answers.
+pub enum Interruptible {
+    Locked(Acquiring),
+    /// The context holds the node: the kernel's EALREADY.
+    Already(Acquiring),
+    /// An older context was met, and all locks have to be given back: the kernel's EDEADLK. Only a context that holds a
+    /// lock is told so.
+    Deadlk(Backoff),
+    /// The wait was called off by this caller: the kernel's EINTR. The context holds what it held, and may go on.
+    Interrupted(Acquiring, u8),
+}
+
+impl Interruptible {
+    ghost use Rattle.std.specs.Prelude.{◌≡◌};
+    ghost use Rattle.ww_lock.specs.Moves.{interruptible_code_of};
+
+    /// The kernel's error number of the answer, without its sign; 0 where the lock was taken.
+    pub fn code(&self) -> u8
+        ensures { result ≡ interruptible_code_of self.now }
+    {
+        match self {
+            Interruptible::Locked(_) => 0,
+            Interruptible::Already(_) => 114,
+            Interruptible::Deadlk(_) => 35,
+            Interruptible::Interrupted(_, _) => 4,
+        }
+    }
+}
+
+impl Acquiring {
+    ghost use Rattle.std.specs.Prelude.{◌<◌, length};
+    ghost use Rattle.ww_lock.specs.Holding.{IsAtHome};
+    ghost use Rattle.ww_lock.specs.Moves.{IsInterruptibleAnswer};
+
+    /// Takes the lock of a node as `lock` does, but a wait for it may be called off: the kernel's
+    /// `ww_mutex_lock_interruptible`. A cancel of this caller, whenever it was set, is answered where the call would
+    /// have to wait, and before EDEADLK; a call that meets no contention leaves it set.
+    pub fn lock_interruptible<R: Wait>(self, rt: &R, world: &World, n: u8) -> Interruptible
+        requires home { IsAtHome self world.now }
+        requires node { n < length world.now.first }
+        ensures { IsInterruptibleAnswer self n result }
+    {
+        if self.held(n) {
+            return Interruptible::Already(self);
+        }
+        let Acquiring { mut hand } = self;
+        match hand.take_interruptible(rt, world, n) {
+            Ok(()) => Interruptible::Locked(Acquiring { hand }),
+            Err(Stop::Deadlk(met)) => Interruptible::Deadlk(Backoff {
+                hand,
+                contended: n,
+                met,
+            }),
+            Err(Stop::Interrupted(by)) => Interruptible::Interrupted(Acquiring { hand }, by),
+        }
+    }
+}
+
+impl Contended {
+    ghost use Rattle.std.specs.Prelude.{◌≡◌, ◌∷◌, [], IfOk, IfErr};
+    ghost use Rattle.ww_lock.specs.Holding.{IsAtHome};
+    ghost use Rattle.ww_lock.specs.Moves.{IsTaken, IsInterrupted};
+
+    /// Takes the contended lock as `lock_slow` does, but the wait may be called off: the kernel's
+    /// `ww_mutex_lock_slow_interruptible`. It may then be tried again, or the context ends.
+    pub fn lock_slow_interruptible<R: Wait>(
+        self,
+        rt: &R,
+        world: &World,
+    ) -> Result<Acquiring, (Contended, u8)>
+        requires home { IsAtHome self.holding world.now }
+        ensures taken { IfOk result (IsTaken self.holding self.contended) }
+        ensures alone { IfOk result (λ a. a.held ≡ self.contended ∷ []) }
+        ensures same { IfErr result (λ e. e.0.contended ≡ self.contended) }
+        ensures interrupted { IfErr result (λ e. IsInterrupted self.holding self.contended e.1 e.0.holding) }
+    {
+        let Contended {
+            mut hand,
+            contended,
+        } = self;
+        match hand.take_interruptible(rt, world, contended) {
+            Ok(()) => Ok(Acquiring { hand }),
+            Err(Stop::Interrupted(by)) => Err((Contended { hand, contended }, by)),
+            Err(Stop::Deadlk(_)) => unreachable!(),
+        }
+    }
+}

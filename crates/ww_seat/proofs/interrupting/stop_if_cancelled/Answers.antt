@@ -1,0 +1,22 @@
+use Rattle.std.proofs.Common.{length}
+use Rattle.ww_rule.specs.Rule.{first_graph}
+use Rattle.ww_seat.proofs.Stopped.{goes_on_same, goes_on_lost, list_there, has_left, stopped_goes, look_stopped, stopped_tries}
+use Rattle.ww_seat.proofs.interrupting.stop_if_cancelled.Goals as goal
+
+pub returns-then-not-heeds-clause-goes_on : goal.returns-then-not-heeds-clause-goes_on
+returns-then-not-heeds-clause-goes_on c = goes_on_same _ c.args.seat.now.seat.me c.requires.orderly
+
+pub returns-then-mark-eq0-clause-goes_on : goal.returns-then-mark-eq0-clause-goes_on
+returns-then-mark-eq0-clause-goes_on c = goes_on_lost _ c.args.seat.now.seat.me c.heed-mark.new.self.seat.me c.requires.orderly (c.heed-mark.ensures.none c.if-mark-eq0.true)
+
+pub leave-requires-clause-list : goal.leave-requires-clause-list
+leave-requires-clause-list c = list_there _ c.args.lock c.heed-mark.result c.requires.work.0 c.args.seat.now.seat.me c.heed-mark.new.self.seat.me c.requires.orderly c.requires.work.1 (c.heed-mark.ensures.heeded c.if-mark-eq0.false) c.if-mark-eq0.false
+
+pub leave-requires-2-clause-orderly : goal.leave-requires-2-clause-orderly
+leave-requires-2-clause-orderly c = (has_left _ c.args.lock c.heed-mark.result c.requires.work.0 c.args.seat.now.seat.me c.heed-mark.new.self.seat.me c.requires.orderly c.requires.work.1 (c.heed-mark.ensures.heeded c.if-mark-eq0.false) c.if-mark-eq0.false
+    c.args.seen c.leave.new.self.seat.me (c.leave.ensures.left c.if-not-leave.false)).orderly
+
+pub leave-requires-2-clause-may : goal.leave-requires-2-clause-may
+leave-requires-2-clause-may c = let size = length (first_graph c.args.board.now.table.shared.key) in let m = c.args.seat.now.seat.me in let m1 = c.heed-mark.new.self.seat.me in let is = c.heed-mark.ensures.heeded c.if-mark-eq0.false in
+    let left = has_left size c.args.lock c.heed-mark.result c.requires.work.0 m m1 c.requires.orderly c.requires.work.1 is c.if-mark-eq0.false c.args.seen c.leave.new.self.seat.me (c.leave.ensures.left c.if-not-leave.false) in
+    stopped_goes size c.args.lock c.heed-mark.result c.requires.work.0 m m1 c.requires.orderly c.requires.work.1 is c.if-mark-eq0.false c.args.seen c.leave.new.self.seat.me left

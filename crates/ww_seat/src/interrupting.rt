@@ -1,0 +1,69 @@
+//! A wait is called off.
+ghost use Rattle.std.specs.Prelude.{◌≡◌, ◌<◌, Bool, true, false, IfSome, IfNone};
+ghost use Rattle.ww_rule.specs.Cancels.{cancelling};
+ghost use Rattle.ww_table.specs.Seat.{IsSeatOf, size_of};
+ghost use Rattle.ww_seat.specs.declared.look.Look.TheVariants.{Interrupted};
+ghost use Rattle.ww_seat.specs.Orderly.{IsOrderly, IsSettledAt};
+ghost use Rattle.ww_seat.specs.Looks.{IsLook};
+ghost use Rattle.ww_seat.specs.Work.{IsWorking, SeesOther, GoesOn};
+
+use crate::leaving::leave;
+use crate::wake::wake_seat;
+use crossbeam_utils::sync::Unparker;
+use ww_queue::Kind;
+use ww_table::{Board, Seat16};
+use ww_word::Owner;
+
+/// Sets the cancel of a seat and wakes it, so that it looks; false where one is pending, which stays. Whoever parks looks
+/// at its cancel first: what is set before that look is heeded by it, and what is set after it wakes the seat.
+pub fn cancel(seat: &mut Seat16, board: &Board, victim: u8, wakers: &[Unparker]) -> bool
+    requires settled { IsSettledAt board.now seat.old }
+    requires victim { victim < 16 }
+    ensures settled { IsSettledAt board.now seat.new }
+    ensures set { result ≡ true → seat.new.seat.me ≡ (cancelling seat.old.seat.me.0 victim, seat.old.seat.me.1) }
+    ensures pending { result ≡ false → seat.new.seat.me ≡ seat.old.seat.me }
+    ensures records { seat.new.records ≡ seat.old.records }
+{
+    if !seat.set_cancel(board, victim) {
+        return false;
+    }
+    wake_seat(victim, wakers);
+    true
+}
+
+/// Leaves the wait list and the guard where a cancel of the seat is pending and is to be heeded, and tells whose it was.
+/// While the seat stands in the list inside the guard nobody else writes the owner word, so it is still the one seen.
+pub(crate) fn stop_if_cancelled(
+    seat: &mut Seat16,
+    board: &Board,
+    kind: Kind,
+    lock: u8,
+    seen: Owner,
+    heeds: bool,
+) -> Option<u8>
+    requires seat { IsSeatOf board.now seat.old }
+    requires kind { kind ≡ seat.old.seat.me.0.part.core.kind }
+    requires lock { lock < size_of board.now }
+    requires orderly { IsOrderly (size_of board.now) seat.old.seat.me }
+    requires work { (l : Bool) × IsWorking lock true l seat.old.seat.me.0.part.core }
+    requires seen { SeesOther seen seat.old.seat.me.0.part.core }
+    ensures seat { IsSeatOf board.now seat.new }
+    ensures records { seat.new.records ≡ seat.old.records }
+    ensures stopped { IfSome result (λ by. IsLook (size_of board.now) lock seat.old.seat.me (Interrupted by) seat.new.seat.me) }
+    ensures heeds { IfSome result (λ _. heeds ≡ true) }
+    ensures tries { IfSome result (λ _. seat.new.seat.me.0.part.core.tries ≡ seat.old.seat.me.0.part.core.tries) }
+    ensures goes_on { IfNone result (GoesOn (size_of board.now) seat.old.seat.me seat.new.seat.me) }
+{
+    if !heeds {
+        return None;
+    }
+    let mark = seat.heed(board, lock);
+    if mark == 0 {
+        return None;
+    }
+    if !seat.leave(board, lock, seen) {
+        unreachable!();
+    }
+    leave(seat, board, kind, lock);
+    Some(mark as u8 - 1)
+}
