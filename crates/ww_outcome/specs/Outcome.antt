@@ -4,21 +4,13 @@ use Rattle.std.specs.List.{AllByRecursion}
 use Rattle.std.specs.Global.{Vec}
 use Rattle.ww_plain.specs.declared.node.Node.{Node}
 use Rattle.ww_plain.specs.Transaction.{Transaction, listed, FirstDouble}
-use Rattle.ww_plain.specs.Meaning.{Answer, answer_of}
+use Rattle.ww_plain.specs.Meaning.{Answer}
 use Rattle.ww_plain.specs.History.{Recorded, IsLegal, last_graph, part_of}
 use Rattle.ww_outcome.specs.declared.outcome.ScriptAnswer.{ScriptAnswer}
-use Rattle.ww_outcome.specs.declared.outcome.ScriptAnswer.TheVariants.{Reply, Already}
+use Rattle.ww_plan.specs.Acts.{Deed, does, interruptible, cancels}
 use Rattle.ww_plan.specs.Scripts.{Plan}
-
--- a `ScriptAnswer`, with a list where that has a vector
-pub data Said : Type 0 where
-  answered : Answer → Said
-  already : ℕ → Said
-
--- what an answer says
-abbrev pub said_of : ScriptAnswer → Said
-said_of (Reply reply) = answered (answer_of reply)
-said_of (Already node) = already node
+use Rattle.ww_outcome.specs.Said.{Said, answered, already, interrupted, cancelling, said_of}
+use Rattle.ww_outcome.specs.Cancels.{AreBalanced}
 
 -- what the answers of each script say
 abbrev pub said_lists : Vec (Vec ScriptAnswer) → List (List Said)
@@ -45,18 +37,32 @@ pub record IsRecordOf (r : Recorded) (number : ℕ) (txn : Transaction) (said : 
   pub transaction : r.transaction ≡ txn
   pub answer : r.answer ≡ said
 
--- A script's transactions, what each was told, and the part of the script in the history: a transaction that lists a
--- node twice is told the first such node, and the others are, in order, the part, whose next number is given.
-abbrev pub IsAnswered : ℕ → List Transaction → List Said → List (ℕ × Recorded) → Type 0
+-- The act may be told this without a record: of a transaction that lists a node twice the first such node; of one that
+-- may be called off, who did so; of a cancel, whether it was set.
+abbrev pub IsUnrecorded : Said → Deed → Type 0
+IsUnrecorded (already n) (does txn) = FirstDouble (listed txn) (Some n)
+IsUnrecorded (already n) (interruptible txn) = FirstDouble (listed txn) (Some n)
+IsUnrecorded (interrupted script) (interruptible txn) = Unit {0}
+IsUnrecorded (cancelling is_set) (cancels script) = Unit {0}
+IsUnrecorded _ _ = ⊥
+
+-- the act is a transaction that lists no node twice, and the record is of it and this answer, and has this number
+abbrev pub IsRecorded : Deed → ℕ → Answer → Recorded → Type 0
+IsRecorded (does txn) number said r = FirstDouble (listed txn) None × IsRecordOf r number txn said
+IsRecorded (interruptible txn) number said r = FirstDouble (listed txn) None × IsRecordOf r number txn said
+IsRecorded (cancels script) number said r = ⊥
+
+-- A script's acts, what each was told, and the part of the script in the history: the acts with an answer of the plain
+-- graph are, in order, the part, whose next number is given, and the others have no record.
+abbrev pub IsAnswered : ℕ → List Deed → List Said → List (ℕ × Recorded) → Type 0
 IsAnswered seq [] [] [] = Unit {0}
-IsAnswered seq (t ∷ ts) (already n ∷ saids) part =
-    FirstDouble (listed t) (Some n) × IsAnswered seq ts saids part
-IsAnswered seq (t ∷ ts) (answered a ∷ saids) (r ∷ part) =
-    FirstDouble (listed t) None × IsRecordOf r.1 seq t a × IsAnswered (seq + 1) ts saids part
+IsAnswered seq (deed ∷ deeds) (answered a ∷ saids) (r ∷ part) =
+    IsRecorded deed seq a r.1 × IsAnswered (seq + 1) deeds saids part
+IsAnswered seq (deed ∷ deeds) (said ∷ saids) part = IsUnrecorded said deed × IsAnswered seq deeds saids part
 IsAnswered seq _ _ _ = ⊥
 
 -- each script is answered, of which the first is this caller
-abbrev pub AreAnswered : ℕ → List (List Transaction) → List (List Said) → List Recorded → Type 0
+abbrev pub AreAnswered : ℕ → List (List Deed) → List (List Said) → List Recorded → Type 0
 AreAnswered caller [] [] history = Unit {0}
 AreAnswered caller (script ∷ scripts) (saids ∷ rest) history =
     IsAnswered 0 script saids (part_of caller history) × AreAnswered (caller + 1) scripts rest history
@@ -74,6 +80,9 @@ pub record LeadsTo (plan : Plan) (history : List Recorded) (told : Told) : Type 
   pub places : told.places ≡ (if plan.history then Some (places_of history) else None)
   pub graph : last_graph plan.graph history ≡ told.graph
 
--- what is told is an outcome of the plan: one legal history explains all of it
-abbrev pub IsOutcome : Plan → Told → Type 0
-IsOutcome plan told = (history : List Recorded) × LeadsTo plan history told
+-- what is told is an outcome of the plan: one legal history explains all of it, and its cancels are balanced
+pub record IsOutcome (plan : Plan) (told : Told) : Type 0 where
+  pub history : List Recorded
+  pub explained : LeadsTo plan history told
+  pub pending : ℕ → ℕ
+  pub balanced : AreBalanced plan.scripts told.replies pending

@@ -1,10 +1,11 @@
 -- The lines of an outcome.
-use Rattle.std.specs.Prelude.{ℕ, List, [], ◌++◌, codes, decimal, Option, Some, None}
+use Rattle.std.specs.Prelude.{ℕ, List, [], ◌++◌, codes, decimal, true, false, Option, Some, None}
 use Rattle.std.specs.List.{flat_map}
 use Rattle.ww_plain.specs.declared.node.Node.{Node}
 use Rattle.ww_plain.specs.Meaning.{Answer, values, done, moved, short, full, was, summed, ended}
 use Rattle.ww_parts.specs.Pieces.{spaced, spaced_or_dash, numbered}
-use Rattle.ww_outcome.specs.Outcome.{Said, answered, already, Told}
+use Rattle.ww_outcome.specs.Said.{Said, answered, already, interrupted, cancelling}
+use Rattle.ww_outcome.specs.Outcome.{Told}
 
 -- what a reply says
 abbrev pub answer_text : Answer → List ℕ
@@ -17,12 +18,15 @@ answer_text (was target) = codes "was" ++ spaced_or_dash target
 answer_text (summed count total) = codes "sum " ++ decimal count ++ codes " " ++ decimal total
 answer_text (ended last) = codes "end " ++ decimal last
 
--- what an answer to a transaction of a script says
+-- what an answer to an act of a script says
 abbrev pub said_text : Said → List ℕ
 said_text (answered answer) = answer_text answer
 said_text (already node) = codes "already " ++ decimal node
+said_text (interrupted script) = codes "interrupted " ++ decimal script
+said_text (cancelling true) = codes "cancelled"
+said_text (cancelling false) = codes "pending"
 
--- what a transaction of a script was told
+-- what an act of a script was told
 unfoldable pub reply_line : ℕ → ℕ → Said → List ℕ
 reply_line script index said =
     codes "reply " ++ decimal script ++ codes " " ++ decimal index ++ codes " " ++ said_text said ++ codes "\n"

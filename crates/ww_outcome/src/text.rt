@@ -1,7 +1,7 @@
 ghost use Rattle.std.specs.Prelude.{◌≡◌, ◌++◌, map, string_bytes, OnOk, IfOk};
 ghost use Rattle.std.specs.List.{flat_map};
 ghost use Rattle.ww_plain.specs.Meaning.{answer_of};
-ghost use Rattle.ww_outcome.specs.Outcome.{said_of};
+ghost use Rattle.ww_outcome.specs.Said.{said_of};
 ghost use Rattle.ww_parts.specs.Pieces.{spaced, spaced_or_dash, numbered};
 ghost use Rattle.ww_outcome.specs.Text.{answer_text, said_text, reply_line, script_lines, place_line, node_line, outcome_lines};
 
@@ -50,6 +50,9 @@ fn push_answer(out: &mut String, answer: &ScriptAnswer) -> Result<(), AllocError
     match answer {
         ScriptAnswer::Reply(reply) => push_reply(out, reply),
         ScriptAnswer::Already(node) => push_number(out, "already ", *node),
+        ScriptAnswer::Interrupted(script) => push_number(out, "interrupted ", *script),
+        ScriptAnswer::Cancel(true) => out.push_str("cancelled"),
+        ScriptAnswer::Cancel(false) => out.push_str("pending"),
     }
 }
 

@@ -13,12 +13,17 @@ use Rattle.ww_parts.specs.declared.fault.InputFault.TheVariants.{BadGraph}
 use Rattle.ww_parts.specs.Parts.{◌>>=◌, each, counted, ranged, array, below, boolean, number, size, member, only, text}
 use Rattle.ww_parts.specs.Kinds.{kind_in}
 use Rattle.ww_parts.proofs.Kept.{bind_ok, guard_ok, ok_is, either_kept, each_kept, below_kept, ranged_kept, counted_kept}
-use Rattle.ww_plan.specs.Transactions.{by_in, get_of, pair_of, pair_in, add_of, move_of, target_in, link_of, course_of, sum_of, reverse_of, peek_of, worded, transaction_from, transaction_in}
+use Rattle.ww_plan.specs.Transactions.{by_in, get_of, pair_of, pair_in, add_of, move_of, target_in, link_of, course_of, sum_of, reverse_of, peek_of, locking_worded, transaction_worded, locking_from, locking_in}
+use Rattle.ww_plan.specs.Acts.{Deed, does, interruptible, cancels, TakesLocks, Suits, cancel_of, interruptible_of, worded, act_from, act_in}
 use Rattle.ww_plan.specs.Scripts.{Plan, IsPlan, IsScript, port_in, ports_in, node_in, graph_in, script_in, scripts_in, plan_in}
 
 -- ---- transactions
 
-get_kept : (count : ℕ) (ds : List Data) (t : Transaction) → get_of count ds ≡ Ok t → Fits count t
+-- the transaction's numbers are those of a graph of this size, and it takes locks
+abbrev FitsLocking : ℕ → Transaction → Type 0
+FitsLocking count t = Fits count t × TakesLocks t
+
+get_kept : (count : ℕ) (ds : List Data) (t : Transaction) → get_of count ds ≡ Ok t → FitsLocking count t
 get_kept count [] t e = absurd cc
 get_kept count (a ∷ []) t e = absurd cc
 get_kept count (a ∷ b ∷ []) t e =
@@ -27,7 +32,7 @@ get_kept count (a ∷ b ∷ []) t e =
     let ns = bind_ok (each (below count) xs.0) (λ ns. let r : Result Transaction InputFault = Ok (get w.0 ns) in r) t xs.2 in
     let c = counted_kept 1 64 b xs.0 xs.1 in
     let p = each_kept (λ n. n < count) (below count) xs.0 ns.0 (below_kept count) ns.1 in
-    subst (Fits count) (ok_is (get w.0 ns.0) t ns.2) (record { some = omega (arith, c.0, p.1); few = omega (arith, c.1, p.1) }, p.0)
+    subst (FitsLocking count) (ok_is (get w.0 ns.0) t ns.2) ((record { some = omega (arith, c.0, p.1); few = omega (arith, c.1, p.1) }, p.0), tt)
 get_kept count (a ∷ b ∷ c ∷ ds) t e = absurd cc
 
 pair_of_kept : (count : ℕ) (ds : List Data) (p : ℕ × ℕ) → pair_of count ds ≡ Ok p → p.0 < count
@@ -44,7 +49,7 @@ pair_kept : (count : ℕ) (d : Data) (p : ℕ × ℕ) → pair_in count d ≡ Ok
 unfolding pair_in
 pair_kept count d p e = let a = bind_ok (array d) (pair_of count) p e in pair_of_kept count a.0 p a.2
 
-add_kept : (count : ℕ) (ds : List Data) (t : Transaction) → add_of count ds ≡ Ok t → Fits count t
+add_kept : (count : ℕ) (ds : List Data) (t : Transaction) → add_of count ds ≡ Ok t → FitsLocking count t
 add_kept count [] t e = absurd cc
 add_kept count (a ∷ []) t e = absurd cc
 add_kept count (a ∷ b ∷ []) t e =
@@ -53,10 +58,10 @@ add_kept count (a ∷ b ∷ []) t e =
     let ps = bind_ok (each (pair_in count) xs.0) (λ ps. let r : Result Transaction InputFault = Ok (add w.0 ps) in r) t xs.2 in
     let c = counted_kept 1 64 b xs.0 xs.1 in
     let p = each_kept (λ (q : ℕ × ℕ). q.0 < count) (pair_in count) xs.0 ps.0 (pair_kept count) ps.1 in
-    subst (Fits count) (ok_is (add w.0 ps.0) t ps.2) (record { some = omega (arith, c.0, p.1); few = omega (arith, c.1, p.1) }, p.0)
+    subst (FitsLocking count) (ok_is (add w.0 ps.0) t ps.2) ((record { some = omega (arith, c.0, p.1); few = omega (arith, c.1, p.1) }, p.0), tt)
 add_kept count (a ∷ b ∷ c ∷ ds) t e = absurd cc
 
-move_kept : (count : ℕ) (ds : List Data) (t : Transaction) → move_of count ds ≡ Ok t → Fits count t
+move_kept : (count : ℕ) (ds : List Data) (t : Transaction) → move_of count ds ≡ Ok t → FitsLocking count t
 move_kept count [] t e = absurd cc
 move_kept count (a ∷ []) t e = absurd cc
 move_kept count (a ∷ b ∷ []) t e = absurd cc
@@ -64,7 +69,7 @@ move_kept count (a ∷ b ∷ c ∷ []) t e =
     let m = bind_ok (below count a) _ t e in
     let n = bind_ok (below count b) _ t m.2 in
     let k = bind_ok (number c) (λ k. let r : Result Transaction InputFault = Ok (move m.0 n.0 k) in r) t n.2 in
-    subst (Fits count) (ok_is (move m.0 n.0 k.0) t k.2) (below_kept count a m.0 m.1, below_kept count b n.0 n.1)
+    subst (FitsLocking count) (ok_is (move m.0 n.0 k.0) t k.2) ((below_kept count a m.0 m.1, below_kept count b n.0 n.1), tt)
 move_kept count (a ∷ b ∷ c ∷ d ∷ ds) t e = absurd cc
 
 -- the port is empty, or one of so many nodes
@@ -80,7 +85,7 @@ target_kept count d p e =
     let a = bind_ok (below count d) (λ n. let r : Result (Option ℕ) InputFault = Ok (Some n) in r) p some in
     subst (IsPort count) (ok_is (Some a.0) p a.2) (below_kept count d a.0 a.1)) e
 
-link_kept : (count : ℕ) (ds : List Data) (t : Transaction) → link_of count ds ≡ Ok t → Fits count t
+link_kept : (count : ℕ) (ds : List Data) (t : Transaction) → link_of count ds ≡ Ok t → FitsLocking count t
 link_kept count [] t e = absurd cc
 link_kept count (a ∷ []) t e = absurd cc
 link_kept count (a ∷ b ∷ []) t e = absurd cc
@@ -88,7 +93,7 @@ link_kept count (a ∷ b ∷ c ∷ []) t e =
     let n = bind_ok (below count a) _ t e in
     let p = bind_ok (below 4 b) _ t n.2 in
     let k = bind_ok (target_in count c) (λ k. let r : Result Transaction InputFault = Ok (link n.0 p.0 k) in r) t p.2 in
-    subst (Fits count) (ok_is (link n.0 p.0 k.0) t k.2) (below_kept count a n.0 n.1, below_kept 4 b p.0 p.1, target_kept count c k.0 k.1)
+    subst (FitsLocking count) (ok_is (link n.0 p.0 k.0) t k.2) ((below_kept count a n.0 n.1, below_kept 4 b p.0 p.1, target_kept count c k.0 k.1), tt)
 link_kept count (a ∷ b ∷ c ∷ d ∷ ds) t e = absurd cc
 
 -- a walk's start, port and length are those of a course
@@ -109,17 +114,17 @@ course_kept count (a ∷ b ∷ c ∷ []) k e =
     (record { starts = below_kept count a s.0 s.1; port = below_kept 4 b p.0 p.1; some = w.0; few = w.1 })
 course_kept count (a ∷ b ∷ c ∷ d ∷ ds) k e = absurd cc
 
-sum_kept : (count : ℕ) (ds : List Data) (t : Transaction) → sum_of count ds ≡ Ok t → Fits count t
+sum_kept : (count : ℕ) (ds : List Data) (t : Transaction) → sum_of count ds ≡ Ok t → FitsLocking count t
 unfolding sum_of
 sum_kept count ds t e =
     let k = bind_ok (course_of count ds) (λ (c : ℕ × ℕ × ℕ). let r : Result Transaction InputFault = Ok (sum c.0 c.1 c.2) in r) t e in
-    subst (Fits count) (ok_is (sum k.0.0 k.0.1 k.0.2) t k.2) (course_kept count ds k.0 k.1)
+    subst (FitsLocking count) (ok_is (sum k.0.0 k.0.1 k.0.2) t k.2) (course_kept count ds k.0 k.1, tt)
 
-reverse_kept : (count : ℕ) (ds : List Data) (t : Transaction) → reverse_of count ds ≡ Ok t → Fits count t
+reverse_kept : (count : ℕ) (ds : List Data) (t : Transaction) → reverse_of count ds ≡ Ok t → FitsLocking count t
 unfolding reverse_of
 reverse_kept count ds t e =
     let k = bind_ok (course_of count ds) (λ (c : ℕ × ℕ × ℕ). let r : Result Transaction InputFault = Ok (reverse c.0 c.1 c.2) in r) t e in
-    subst (Fits count) (ok_is (reverse k.0.0 k.0.1 k.0.2) t k.2) (course_kept count ds k.0 k.1)
+    subst (FitsLocking count) (ok_is (reverse k.0.0 k.0.1 k.0.2) t k.2) (course_kept count ds k.0 k.1, tt)
 
 peek_kept : (count : ℕ) (ds : List Data) (t : Transaction) → peek_of count ds ≡ Ok t → Fits count t
 peek_kept count [] t e = absurd cc
@@ -128,27 +133,70 @@ peek_kept count (a ∷ []) t e =
     subst (Fits count) (ok_is (peek n.0) t n.2) (below_kept count a n.0 n.1)
 peek_kept count (a ∷ b ∷ ds) t e = absurd cc
 
-worded_kept : (count : ℕ) (word : List ℕ) (ds : List Data) (t : Transaction) → worded count word ds ≡ Ok t → Fits count t
-worded_kept count word ds t e =
-    either_kept (Fits count) (bytes_eq word (codes "get")) _ _ t (get_kept count ds t)
-    (either_kept (Fits count) (bytes_eq word (codes "add")) _ _ t (add_kept count ds t)
-    (either_kept (Fits count) (bytes_eq word (codes "move")) _ _ t (move_kept count ds t)
-    (either_kept (Fits count) (bytes_eq word (codes "link")) _ _ t (link_kept count ds t)
-    (either_kept (Fits count) (bytes_eq word (codes "sum")) _ _ t (sum_kept count ds t)
-    (either_kept (Fits count) (bytes_eq word (codes "reverse")) _ _ t (reverse_kept count ds t)
-    (either_kept (Fits count) (bytes_eq word (codes "peek")) _ _ t (peek_kept count ds t) (λ none. absurd cc))))))) e
+locking_worded_kept : (count : ℕ) (word : List ℕ) (ds : List Data) (t : Transaction) → locking_worded count word ds ≡ Ok t → FitsLocking count t
+locking_worded_kept count word ds t e =
+    either_kept (FitsLocking count) (bytes_eq word (codes "get")) _ _ t (get_kept count ds t)
+    (either_kept (FitsLocking count) (bytes_eq word (codes "add")) _ _ t (add_kept count ds t)
+    (either_kept (FitsLocking count) (bytes_eq word (codes "move")) _ _ t (move_kept count ds t)
+    (either_kept (FitsLocking count) (bytes_eq word (codes "link")) _ _ t (link_kept count ds t)
+    (either_kept (FitsLocking count) (bytes_eq word (codes "sum")) _ _ t (sum_kept count ds t)
+    (either_kept (FitsLocking count) (bytes_eq word (codes "reverse")) _ _ t (reverse_kept count ds t) (λ none. absurd cc)))))) e
 
-transaction_from_kept : (count : ℕ) (ds : List Data) (t : Transaction) → transaction_from count ds ≡ Ok t → Fits count t
-transaction_from_kept count [] t e = absurd cc
-transaction_from_kept count (d ∷ ds) t e =
-    let w = bind_ok (text d) (λ word. worded count word ds) t e in
-    worded_kept count w.0 ds t w.2
+transaction_worded_kept : (count : ℕ) (word : List ℕ) (ds : List Data) (t : Transaction) → transaction_worded count word ds ≡ Ok t → Fits count t
+transaction_worded_kept count word ds t e =
+    either_kept (Fits count) (bytes_eq word (codes "peek")) _ _ t (peek_kept count ds t) (λ locking. (locking_worded_kept count word ds t locking).0) e
 
-transaction_kept : (count : ℕ) (d : Data) (t : Transaction) → transaction_in count d ≡ Ok t → Fits count t
-unfolding transaction_in
-transaction_kept count d t e =
-    let a = bind_ok (array d) (transaction_from count) t e in
-    transaction_from_kept count a.0 t a.2
+locking_from_kept : (count : ℕ) (ds : List Data) (t : Transaction) → locking_from count ds ≡ Ok t → FitsLocking count t
+locking_from_kept count [] t e = absurd cc
+locking_from_kept count (d ∷ ds) t e =
+    let w = bind_ok (text d) (λ word. locking_worded count word ds) t e in
+    locking_worded_kept count w.0 ds t w.2
+
+locking_kept : (count : ℕ) (d : Data) (t : Transaction) → locking_in count d ≡ Ok t → FitsLocking count t
+unfolding locking_in
+locking_kept count d t e =
+    let a = bind_ok (array d) (locking_from count) t e in
+    locking_from_kept count a.0 t a.2
+
+-- ---- acts
+
+cancel_kept : (size count : ℕ) (ds : List Data) (x : Deed) → cancel_of count ds ≡ Ok x → Suits size count x
+cancel_kept size count [] x e = absurd cc
+cancel_kept size count (a ∷ []) x e =
+    let n = bind_ok (below count a) (λ n. let r : Result Deed InputFault = Ok (cancels n) in r) x e in
+    subst (Suits size count) (ok_is (cancels n.0) x n.2) (below_kept count a n.0 n.1)
+cancel_kept size count (a ∷ b ∷ ds) x e = absurd cc
+
+interruptible_kept : (size count : ℕ) (ds : List Data) (x : Deed) → interruptible_of size ds ≡ Ok x → Suits size count x
+interruptible_kept size count [] x e = absurd cc
+interruptible_kept size count (a ∷ []) x e =
+    let t = bind_ok (locking_in size a) (λ t. let r : Result Deed InputFault = Ok (interruptible t) in r) x e in
+    subst (Suits size count) (ok_is (interruptible t.0) x t.2) (locking_kept size a t.0 t.1)
+interruptible_kept size count (a ∷ b ∷ ds) x e = absurd cc
+
+does_kept : (size count : ℕ) (word : List ℕ) (ds : List Data) (x : Deed)
+    → (transaction_worded size word ds >>= λ t. Ok (does t)) ≡ Ok x → Suits size count x
+does_kept size count word ds x e =
+    let t = bind_ok (transaction_worded size word ds) (λ t. let r : Result Deed InputFault = Ok (does t) in r) x e in
+    subst (Suits size count) (ok_is (does t.0) x t.2) (transaction_worded_kept size word ds t.0 t.1)
+
+worded_kept : (size count : ℕ) (word : List ℕ) (ds : List Data) (x : Deed) → worded size count word ds ≡ Ok x → Suits size count x
+worded_kept size count word ds x e =
+    either_kept (Suits size count) (bytes_eq word (codes "cancel")) _ _ x (cancel_kept size count ds x)
+    (either_kept (Suits size count) (bytes_eq word (codes "interruptible")) _ _ x (interruptible_kept size count ds x)
+    (does_kept size count word ds x)) e
+
+act_from_kept : (size count : ℕ) (ds : List Data) (x : Deed) → act_from size count ds ≡ Ok x → Suits size count x
+act_from_kept size count [] x e = absurd cc
+act_from_kept size count (d ∷ ds) x e =
+    let w = bind_ok (text d) (λ word. worded size count word ds) x e in
+    worded_kept size count w.0 ds x w.2
+
+act_kept : (size count : ℕ) (d : Data) (x : Deed) → act_in size count d ≡ Ok x → Suits size count x
+unfolding act_in
+act_kept size count d x e =
+    let a = bind_ok (array d) (act_from size count) x e in
+    act_from_kept size count a.0 x a.2
 
 -- ---- the graph
 
@@ -194,27 +242,31 @@ graph_kept d ns e =
 
 -- ---- scripts
 
-script_kept : (count : ℕ) (d : Data) (ts : List Transaction) → script_in count d ≡ Ok ts → IsScript count ts
+script_kept : (size count : ℕ) (d : Data) (xs : List Deed) → script_in size count d ≡ Ok xs → IsScript size count xs
 unfolding script_in
-script_kept count d ts e =
-    let a = bind_ok (counted 0 10000 d) (λ ds. each (transaction_in count) ds) ts e in
+script_kept size count d xs e =
+    let a = bind_ok (counted 0 10000 d) (λ ds. each (act_in size count) ds) xs e in
     let c = counted_kept 0 10000 d a.0 a.1 in
-    let p = each_kept (Fits count) (transaction_in count) a.0 ts (transaction_kept count) a.2 in
-    record { few = omega (arith, c.1, p.1); fit = p.0 }
+    let p = each_kept (Suits size count) (act_in size count) a.0 xs (act_kept size count) a.2 in
+    record { few = omega (arith, c.1, p.1); suit = p.0 }
 
 -- as many scripts as there may be, each of them one
-pub record AreScripts (count : ℕ) (scripts : List (List Transaction)) : Type 0 where
+pub record AreScripts (size : ℕ) (scripts : List (List Deed)) : Type 0 where
   pub some : 1 ≤ length scripts
   pub few : length scripts ≤ 16
-  pub each : AllByRecursion (IsScript count) scripts
+  pub each : AllByRecursion (IsScript size (length scripts)) scripts
 
-pub scripts_kept : (count : ℕ) (d : Data) (ss : List (List Transaction)) → scripts_in count d ≡ Ok ss → AreScripts count ss
+pub scripts_kept : (size : ℕ) (d : Data) (ss : List (List Deed)) → scripts_in size d ≡ Ok ss → AreScripts size ss
 unfolding scripts_in
-scripts_kept count d ss e =
-    let a = bind_ok (counted 1 16 d) (λ ds. each (script_in count) ds) ss e in
+scripts_kept size d ss e =
+    let a = bind_ok (counted 1 16 d) (λ ds. each (script_in size (length ds)) ds) ss e in
     let c = counted_kept 1 16 d a.0 a.1 in
-    let p = each_kept (IsScript count) (script_in count) a.0 ss (script_kept count) a.2 in
-    record { some = omega (arith, c.0, p.1); few = omega (arith, c.1, p.1); each = p.0 }
+    let p = each_kept (IsScript size (length a.0)) (script_in size (length a.0)) a.0 ss (script_kept size (length a.0)) a.2 in
+    record {
+      some = omega (arith, c.0, p.1);
+      few = omega (arith, c.1, p.1);
+      each = subst (λ k. AllByRecursion (IsScript size k) ss) (sym p.1) p.0;
+    }
 
 pub plan_kept : (members : ℕ) (d : Data) (plan : Plan) → plan_in members d ≡ Ok plan → IsPlan plan
 unfolding plan_in
@@ -227,7 +279,7 @@ plan_kept members d plan e =
     let kind = bind_ok (kind_in k.0) _ plan o.2 in
     let history = bind_ok (boolean h.0) _ plan kind.2 in
     let graph = bind_ok (graph_in n.0) _ plan history.2 in
-    let ss = bind_ok (scripts_in (length graph.0) s.0) (λ (ss : List (List Transaction)). let r : Result Plan InputFault = Ok (record { kind = kind.0; history = history.0; graph = graph.0; scripts = ss }) in r) plan graph.2 in
+    let ss = bind_ok (scripts_in (length graph.0) s.0) (λ (ss : List (List Deed)). let r : Result Plan InputFault = Ok (record { kind = kind.0; history = history.0; graph = graph.0; scripts = ss }) in r) plan graph.2 in
     let made : Plan = record { kind = kind.0; history = history.0; graph = graph.0; scripts = ss.0 } in
     let all = scripts_kept (length graph.0) s.0 ss.0 ss.1 in
     subst IsPlan (ok_is made plan ss.2) (record { graph = graph_kept n.0 graph.0 graph.1; some = all.some; few = all.few; each = all.each })

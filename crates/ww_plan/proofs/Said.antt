@@ -1,5 +1,5 @@
 -- What an input says of scripts is read as them.
-use Rattle.std.proofs.Common.{◌≡◌, ℕ, ◌<◌, ◌≤◌, List, [], ◌∷◌, length, map, Option, Some, None, Ok, refl, ap, arith}
+use Rattle.std.proofs.Common.{◌≡◌, ℕ, ◌<◌, ◌≤◌, List, [], ◌∷◌, length, map, Option, Some, None, Result, Ok, refl, ap, arith}
 use Rattle.std.specs.Prelude.{IfSome}
 use Rattle.std.specs.List.{AllByRecursion}
 use Rattle.std.proofs.lemmas.Bool.{lt-ltb}
@@ -10,12 +10,14 @@ use Rattle.ww_plain.specs.declared.transaction.By.{By}
 use Rattle.ww_plain.specs.declared.transaction.By.TheVariants as by
 use Rattle.ww_plain.specs.Graph.{IsNodeOf, IsGraph}
 use Rattle.ww_plain.specs.Transaction.{Transaction, get, add, move, link, sum, reverse, peek, IsCourse, Fits}
+use Rattle.ww_parts.specs.declared.fault.InputFault.{InputFault}
 use Rattle.ww_parts.specs.Parts.{◌>>=◌, below}
 use Rattle.ww_parts.specs.Spelling.{list, whole}
 use Rattle.ww_parts.proofs.Said.{below_said, ranged_said, counted_said, each_said, kind_said}
-use Rattle.ww_plan.specs.Transactions.{by_in, get_of, pair_in, add_of, move_of, target_in, link_of, course_of, sum_of, reverse_of, peek_of, transaction_in}
+use Rattle.ww_plan.specs.Transactions.{by_in, get_of, pair_in, add_of, move_of, target_in, link_of, course_of, sum_of, reverse_of, peek_of, locking_in}
+use Rattle.ww_plan.specs.Acts.{Deed, does, interruptible, cancels, TakesLocks, Suits, act_in}
 use Rattle.ww_plan.specs.Scripts.{Plan, IsPlan, IsScript, port_in, ports_in, node_in, graph_in, script_in, scripts_in, plan_in}
-use Rattle.ww_plan.specs.Spelling.{by_word, target_data, node_data, pair_data, transaction_data, script_data, plan_data, HasPorts}
+use Rattle.ww_plan.specs.Spelling.{by_word, target_data, node_data, pair_data, transaction_data, act_data, script_data, plan_data, HasPorts}
 
 -- ---- transactions
 
@@ -67,15 +69,37 @@ reverse_said count start port length fits = rw (course_said count start port len
 peek_said : (count node : ℕ) → node < count → peek_of count (whole node ∷ []) ≡ Ok (peek node)
 peek_said count node lt = rw (below_said count node lt) refl
 
-transaction_said : (count : ℕ) (t : Transaction) → Fits count t → transaction_in count (transaction_data t) ≡ Ok t
-unfolding transaction_in
-transaction_said count (get b nodes) fits = get_said count b nodes fits
-transaction_said count (add b pairs) fits = add_said count b pairs fits
-transaction_said count (move from to amount) fits = move_said count from to amount fits
-transaction_said count (link node port target) fits = link_said count node port target fits
-transaction_said count (sum start port length) fits = sum_said count start port length fits
-transaction_said count (reverse start port length) fits = reverse_said count start port length fits
-transaction_said count (peek node) fits = peek_said count node fits
+locking_said : (count : ℕ) (t : Transaction) → Fits count t → TakesLocks t → locking_in count (transaction_data t) ≡ Ok t
+unfolding locking_in
+locking_said count (get b nodes) fits locks = get_said count b nodes fits
+locking_said count (add b pairs) fits locks = add_said count b pairs fits
+locking_said count (move from to amount) fits locks = move_said count from to amount fits
+locking_said count (link node port target) fits locks = link_said count node port target fits
+locking_said count (sum start port length) fits locks = sum_said count start port length fits
+locking_said count (reverse start port length) fits locks = reverse_said count start port length fits
+locking_said count (peek node) fits locks = absurd locks
+
+-- ---- acts
+
+-- what an act is that does the transaction which was read, or the fault
+abbrev doing : Result Transaction InputFault → Result Deed InputFault
+doing r = r >>= λ t. Ok (does t)
+
+does_said : (size count : ℕ) (t : Transaction) → Fits size t → act_in size count (transaction_data t) ≡ Ok (does t)
+unfolding act_in
+does_said size count (get b nodes) fits = ap doing (get_said size b nodes fits)
+does_said size count (add b pairs) fits = ap doing (add_said size b pairs fits)
+does_said size count (move from to amount) fits = ap doing (move_said size from to amount fits)
+does_said size count (link node port target) fits = ap doing (link_said size node port target fits)
+does_said size count (sum start port length) fits = ap doing (sum_said size start port length fits)
+does_said size count (reverse start port length) fits = ap doing (reverse_said size start port length fits)
+does_said size count (peek node) fits = ap doing (peek_said size node fits)
+
+act_said : (size count : ℕ) (x : Deed) → Suits size count x → act_in size count (act_data x) ≡ Ok x
+unfolding act_in
+act_said size count (does t) suits = does_said size count t suits
+act_said size count (interruptible t) suits = ap (λ r. r >>= λ t. Ok (interruptible t)) (locking_said size t suits.0 suits.1)
+act_said size count (cancels script) suits = rw (below_said count script suits) refl
 
 -- ---- the graph
 
@@ -115,20 +139,20 @@ graph_said graph is four =
 
 -- ---- scripts
 
-script_said : (count : ℕ) (ts : List Transaction) → IsScript count ts → script_in count (script_data ts) ≡ Ok ts
+script_said : (size count : ℕ) (xs : List Deed) → IsScript size count xs → script_in size count (script_data xs) ≡ Ok xs
 unfolding script_in
-script_said count ts is =
-    let n = length-map ts transaction_data in
-    let most : length (map transaction_data ts) ≤ 10000 = omega (arith, is.few) in
-    rw (counted_said 0 10000 (map transaction_data ts) (omega arith) most, each_said (Fits count) transaction_data (transaction_in count) ts (transaction_said count) is.fit) refl
+script_said size count xs is =
+    let n = length-map xs act_data in
+    let most : length (map act_data xs) ≤ 10000 = omega (arith, is.few) in
+    rw (counted_said 0 10000 (map act_data xs) (omega arith) most, each_said (Suits size count) act_data (act_in size count) xs (act_said size count) is.suit) refl
 
-scripts_said : (count : ℕ) (ss : List (List Transaction)) → 1 ≤ length ss → length ss ≤ 16 → AllByRecursion (IsScript count) ss → scripts_in count (list (map script_data ss)) ≡ Ok ss
+scripts_said : (size : ℕ) (ss : List (List Deed)) → 1 ≤ length ss → length ss ≤ 16 → AllByRecursion (IsScript size (length ss)) ss → scripts_in size (list (map script_data ss)) ≡ Ok ss
 unfolding scripts_in
-scripts_said count ss some few all =
+scripts_said size ss some few all =
     let n = length-map ss script_data in
     let least : 1 ≤ length (map script_data ss) = omega arith in
     let most : length (map script_data ss) ≤ 16 = omega arith in
-    rw (counted_said 1 16 (map script_data ss) least most, each_said (IsScript count) script_data (script_in count) ss (script_said count) all) refl
+    rw (counted_said 1 16 (map script_data ss) least most, n, each_said (IsScript size (length ss)) script_data (script_in size (length ss)) ss (script_said size (length ss)) all) refl
 
 -- the fields of an object of five keys
 pub plan_said : (plan : Plan) → IsPlan plan → AllByRecursion HasPorts plan.graph → plan_in 5 (plan_data plan) ≡ Ok plan

@@ -1,3 +1,4 @@
 pub mod Transactions
+pub mod Acts
 pub mod Scripts
 pub mod Spelling

@@ -7,43 +7,42 @@ use Rattle.serde_json.specs.Find.{as_null}
 use Rattle.ww_plain.specs.declared.node.Node.{Node}
 use Rattle.ww_plain.specs.declared.node.TheConstants.{PORTS}
 use Rattle.ww_plain.specs.declared.graph.TheConstants.{MAX_NODES}
-use Rattle.ww_plain.specs.declared.transaction.Txn.{Txn}
 use Rattle.ww_plain.specs.Graph.{IsGraph}
-use Rattle.ww_plain.specs.Transaction.{Transaction, transaction_of, Fits}
 use Rattle.ww_queue.specs.declared.kind.Kind.{Kind}
 use Rattle.ww_parts.specs.declared.fault.InputFault.{InputFault}
 use Rattle.ww_parts.specs.declared.fault.InputFault.TheVariants.{BadGraph}
 use Rattle.ww_parts.specs.Parts.{◌>>=◌, size, member, only, boolean, number, below, counted, each}
 use Rattle.ww_parts.specs.Kinds.{kind_in}
-use Rattle.ww_plan.specs.Transactions.{transaction_in}
+use Rattle.ww_plan.specs.declared.acts.Act.{Act}
+use Rattle.ww_plan.specs.Acts.{Deed, deed_of, Suits, act_in}
 
 -- `Scripts`, with lists where they have vectors
 pub record Plan : Type 0 where
   pub kind : Kind
   pub history : Bool
   pub graph : List Node
-  pub scripts : List (List Transaction)
+  pub scripts : List (List Deed)
 
 -- the scripts as lists
-abbrev pub script_lists : Vec (Vec Txn) → List (List Transaction)
-script_lists scripts = map (λ script. map transaction_of script.items) scripts.items
+abbrev pub script_lists : Vec (Vec Act) → List (List Deed)
+script_lists scripts = map (λ script. map deed_of script.items) scripts.items
 
 -- the plan of these fields of `Scripts`
-abbrev pub plan_of : Kind → Bool → List Node → Vec (Vec Txn) → Plan
+abbrev pub plan_of : Kind → Bool → List Node → Vec (Vec Act) → Plan
 plan_of kind history graph scripts =
     record { kind = kind; history = history; graph = graph; scripts = script_lists scripts }
 
--- a script of at most 10,000 transactions, whose numbers are those of a graph of this size
-pub record IsScript (size : ℕ) (script : List Transaction) : Type 0 where
+-- a script of at most 10,000 acts, whose numbers are those of a graph of this size and of so many scripts
+pub record IsScript (size count : ℕ) (script : List Deed) : Type 0 where
   pub few : length script ≤ 10000
-  pub fit : AllByRecursion (Fits size) script
+  pub suit : AllByRecursion (Suits size count) script
 
 -- 1 to 16 scripts on a graph
 pub record IsPlan (plan : Plan) : Type 0 where
   pub graph : IsGraph plan.graph
   pub some : 1 ≤ length plan.scripts
   pub few : length plan.scripts ≤ 16
-  pub each : AllByRecursion (IsScript (length plan.graph)) plan.scripts
+  pub each : AllByRecursion (IsScript (length plan.graph) (length plan.scripts)) plan.scripts
 
 -- null, or one of so many nodes
 unfoldable pub port_in : ℕ → Data → Result (Option ℕ) InputFault
@@ -74,17 +73,17 @@ graph_in d = do
   ds ← counted 1 MAX_NODES d
   each (node_in (length ds)) ds
 
--- an array of at most 10,000 transactions
-unfoldable pub script_in : ℕ → Data → Result (List Transaction) InputFault
-script_in size d = do
+-- an array of at most 10,000 acts
+unfoldable pub script_in : ℕ → ℕ → Data → Result (List Deed) InputFault
+script_in size count d = do
   ds ← counted 0 10000 d
-  each (transaction_in size) ds
+  each (act_in size count) ds
 
--- an array of 1 to 16 scripts
-unfoldable pub scripts_in : ℕ → Data → Result (List (List Transaction)) InputFault
+-- an array of 1 to 16 scripts, each of which may name any of them
+unfoldable pub scripts_in : ℕ → Data → Result (List (List Deed)) InputFault
 scripts_in size d = do
   ds ← counted 1 16 d
-  each (script_in size) ds
+  each (script_in size (length ds)) ds
 
 -- All of an input but its version: with it there are five keys. They are looked at first, and then the fields in turn.
 unfoldable pub plan_in : ℕ → Data → Result Plan InputFault

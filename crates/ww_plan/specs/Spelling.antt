@@ -7,6 +7,7 @@ use Rattle.ww_plain.specs.declared.transaction.By.{By}
 use Rattle.ww_plain.specs.declared.transaction.By.TheVariants as by
 use Rattle.ww_plain.specs.Transaction.{Transaction, get, add, move, link, sum, reverse, peek}
 use Rattle.ww_parts.specs.Spelling.{list, whole, kind_word}
+use Rattle.ww_plan.specs.Acts.{Deed, does, interruptible, cancels}
 use Rattle.ww_plan.specs.Scripts.{Plan}
 
 -- the word for a way of taking many locks
@@ -44,9 +45,15 @@ transaction_data (sum start port length) = course_data (codes "sum") start port 
 transaction_data (reverse start port length) = course_data (codes "reverse") start port length
 transaction_data (peek node) = list (string (codes "peek") ∷ whole node ∷ [])
 
+-- an act, with its word first
+abbrev pub act_data : Deed → Data
+act_data (does txn) = transaction_data txn
+act_data (interruptible txn) = list (string (codes "interruptible") ∷ transaction_data txn ∷ [])
+act_data (cancels script) = list (string (codes "cancel") ∷ whole script ∷ [])
+
 -- a script
-abbrev pub script_data : List Transaction → Data
-script_data script = list (map transaction_data script)
+abbrev pub script_data : List Deed → Data
+script_data script = list (map act_data script)
 
 -- the value of an input of scripts, with the keys in the order in which an object holds them
 abbrev pub plan_data : Plan → Data

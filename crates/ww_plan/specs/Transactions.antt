@@ -99,25 +99,29 @@ peek_of size (node ∷ []) = do
   Ok (peek n)
 peek_of size _ = Err BadWord
 
--- what follows this word
-abbrev pub worded : ℕ → List ℕ → List Data → Result Transaction InputFault
-worded size word members =
+-- what follows this word, of a transaction that takes locks
+abbrev pub locking_worded : ℕ → List ℕ → List Data → Result Transaction InputFault
+locking_worded size word members =
     if bytes_eq word (codes "get") then get_of size members
     else if bytes_eq word (codes "add") then add_of size members
     else if bytes_eq word (codes "move") then move_of size members
     else if bytes_eq word (codes "link") then link_of size members
     else if bytes_eq word (codes "sum") then sum_of size members
     else if bytes_eq word (codes "reverse") then reverse_of size members
-    else if bytes_eq word (codes "peek") then peek_of size members
     else Err BadWord
 
--- a word, and then the members that it asks for
-abbrev pub transaction_from : ℕ → List Data → Result Transaction InputFault
-transaction_from size [] = Err BadWord
-transaction_from size (first ∷ members) = do
-  word ← text first
-  worded size word members
+-- what follows this word, of any transaction
+abbrev pub transaction_worded : ℕ → List ℕ → List Data → Result Transaction InputFault
+transaction_worded size word members =
+    if bytes_eq word (codes "peek") then peek_of size members else locking_worded size word members
 
--- an array that begins with a word
-unfoldable pub transaction_in : ℕ → Data → Result Transaction InputFault
-transaction_in size d = array d >>= transaction_from size
+-- a word, and then the members that it asks for
+abbrev pub locking_from : ℕ → List Data → Result Transaction InputFault
+locking_from size [] = Err BadWord
+locking_from size (first ∷ members) = do
+  word ← text first
+  locking_worded size word members
+
+-- an array that begins with a word: a transaction that takes locks
+unfoldable pub locking_in : ℕ → Data → Result Transaction InputFault
+locking_in size d = array d >>= locking_from size

@@ -1,35 +1,34 @@
 ghost use Rattle.std.specs.Prelude.{map};
 ghost use Rattle.serde_json.specs.View.{view};
-ghost use Rattle.ww_plain.specs.Transaction.{transaction_of};
 ghost use Rattle.ww_parts.specs.Parts.{Gives, Says, each};
-ghost use Rattle.ww_plan.specs.Transactions.{transaction_in};
+ghost use Rattle.ww_plan.specs.Acts.{deed_of, act_in};
 ghost use Rattle.ww_plan.specs.Scripts.{script_lists, port_in, ports_in, node_in, graph_in, script_in, scripts_in, plan_in};
 
-use crate::transactions::transaction_of;
+use crate::acts::{Act, act_of};
 use serde_json::Value;
 use std::alloc::Global;
 use std::marker::Model;
 use ww_parts::{
     InputFault, below_of, bool_of, counted_of, kind_of, member_of, number_of, only_of, size_of,
 };
-use ww_plain::{Graph, MAX_NODES, Node, PORTS, Txn};
+use ww_plain::{Graph, MAX_NODES, Node, PORTS};
 use ww_queue::Kind;
 use ww_word::MAX_SEATS;
 
 /// How many scripts there are at most.
 const MAX_SCRIPTS: usize = MAX_SEATS;
 
-/// How many transactions a script has at most.
-const MAX_TRANSACTIONS: usize = 10_000;
+/// How many acts a script has at most.
+const MAX_ACTS: usize = 10_000;
 
-/// 1 to 16 scripts of transactions on one graph, and whether the places of the transactions are to be told. Each
-/// transaction's numbers are those of the graph. Contracts see all of it as a plan.
+/// 1 to 16 scripts of acts on one graph, and whether the places of the transactions are to be told. Each transaction's
+/// numbers are those of the graph, and each cancel is of one of the scripts. Contracts see all of it as a plan.
 #[derive(Debug, Drop)]
 pub struct Scripts {
     pub kind: Kind,
     pub history: bool,
     pub graph: Graph,
-    pub scripts: Vec<Vec<Txn>>,
+    pub scripts: Vec<Vec<Act>>,
 }
 
 impl Model for Scripts {
@@ -114,43 +113,49 @@ fn graph_of(alloc: Global, value: &Value) -> Result<Graph, InputFault>
     }
 }
 
-fn each_transaction(alloc: Global, size: u8, items: &[Value]) -> Result<Vec<Txn>, InputFault>
-    ensures { Gives (λ script. map transaction_of script.items) result
-        (each (transaction_in size) (map view items.now)) }
+fn each_act(alloc: Global, size: u8, count: u8, items: &[Value]) -> Result<Vec<Act>, InputFault>
+    ensures { Gives (λ script. map deed_of script.items) result
+        (each (act_in size count) (map view items.now)) }
 {
-    let mut transactions = Vec::with_capacity(alloc, items.len())?;
+    let mut acts = Vec::with_capacity(alloc, items.len())?;
     for item in items {
-        let transaction = transaction_of(alloc, size, item)?;
-        transactions.push(transaction)?;
+        let act = act_of(alloc, size, count, item)?;
+        acts.push(act)?;
     }
-    Ok(transactions)
+    Ok(acts)
 }
 
 #[tactic(auto, unfolding(crate::specs::Scripts::script_in))]
-fn script_of(alloc: Global, size: u8, value: &Value) -> Result<Vec<Txn>, InputFault>
-    ensures { Gives (λ script. map transaction_of script.items) result (script_in size (view value.now)) }
+fn script_of(alloc: Global, size: u8, count: u8, value: &Value) -> Result<Vec<Act>, InputFault>
+    ensures { Gives (λ script. map deed_of script.items) result (script_in size count (view value.now)) }
 {
-    let items = counted_of(0, MAX_TRANSACTIONS, value)?;
-    each_transaction(alloc, size, items)
+    let items = counted_of(0, MAX_ACTS, value)?;
+    each_act(alloc, size, count, items)
 }
 
-fn each_script(alloc: Global, size: u8, items: &[Value]) -> Result<Vec<Vec<Txn>>, InputFault>
-    ensures { Gives script_lists result (each (script_in size) (map view items.now)) }
+fn each_script(
+    alloc: Global,
+    size: u8,
+    count: u8,
+    items: &[Value],
+) -> Result<Vec<Vec<Act>>, InputFault>
+    ensures { Gives script_lists result (each (script_in size count) (map view items.now)) }
 {
     let mut scripts = Vec::with_capacity(alloc, items.len())?;
     for item in items {
-        let script = script_of(alloc, size, item)?;
+        let script = script_of(alloc, size, count, item)?;
         scripts.push(script)?;
     }
     Ok(scripts)
 }
 
-#[tactic(auto, unfolding(crate::specs::Scripts::scripts_in))]
-fn all_scripts_of(alloc: Global, size: u8, value: &Value) -> Result<Vec<Vec<Txn>>, InputFault>
+/// The scripts, which may name one another by their numbers.
+#[tactic(auto, unfolding(crate::specs::Scripts::scripts_in), using(ww_parts::proofs::Each::length_map_view))]
+fn all_scripts_of(alloc: Global, size: u8, value: &Value) -> Result<Vec<Vec<Act>>, InputFault>
     ensures { Gives script_lists result (scripts_in size (view value.now)) }
 {
     let items = counted_of(1, MAX_SCRIPTS, value)?;
-    each_script(alloc, size, items)
+    each_script(alloc, size, items.len() as u8, items)
 }
 
 /// All of an input but its version. First the keys are looked at, `members` of them, and then the fields in turn.

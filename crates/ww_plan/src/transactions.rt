@@ -4,7 +4,7 @@ ghost use Rattle.std.specs.Prelude.{map};
 ghost use Rattle.serde_json.specs.View.{view};
 ghost use Rattle.ww_plain.specs.Transaction.{transaction_of};
 ghost use Rattle.ww_parts.specs.Parts.{Gives, Says, below, each};
-ghost use Rattle.ww_plan.specs.Transactions.{by_in, get_of as get_members, pair_in, add_of as add_members, move_of as move_members, target_in, link_of as link_members, course_of as course_members, sum_of as sum_members, reverse_of as reverse_members, peek_of as peek_members, transaction_in};
+ghost use Rattle.ww_plan.specs.Transactions.{by_in, get_of as get_members, pair_in, add_of as add_members, move_of as move_members, target_in, link_of as link_members, course_of as course_members, sum_of as sum_members, reverse_of as reverse_members, peek_of as peek_members, locking_worded, transaction_worded, locking_in};
 
 use serde_json::Value;
 use std::alloc::Global;
@@ -170,22 +170,43 @@ fn peek_of(size: u8, members: &[Value]) -> Result<Txn, InputFault>
     }
 }
 
-/// A word, and then the members that it asks for.
-#[tactic(auto, unfolding(crate::specs::Transactions::transaction_in))]
-pub(crate) fn transaction_of(alloc: Global, size: u8, value: &Value) -> Result<Txn, InputFault>
-    ensures { Gives transaction_of result (transaction_in size (view value.now)) }
+/// What follows this word, of a transaction that takes locks.
+fn locking_worded(alloc: Global, size: u8, word: &str, members: &[Value]) -> Result<Txn, InputFault>
+    ensures { Gives transaction_of result (locking_worded size word.now (map view members.now)) }
+{
+    match word {
+        "get" => get_of(alloc, size, members),
+        "add" => add_of(alloc, size, members),
+        "move" => move_of(size, members),
+        "link" => link_of(size, members),
+        "sum" => sum_of(size, members),
+        "reverse" => reverse_of(size, members),
+        _ => Err(InputFault::BadWord),
+    }
+}
+
+/// What follows this word, of any transaction.
+pub(crate) fn transaction_worded(
+    alloc: Global,
+    size: u8,
+    word: &str,
+    members: &[Value],
+) -> Result<Txn, InputFault>
+    ensures { Gives transaction_of result (transaction_worded size word.now (map view members.now)) }
+{
+    match word {
+        "peek" => peek_of(size, members),
+        _ => locking_worded(alloc, size, word, members),
+    }
+}
+
+/// A transaction that takes locks: a word, and then the members that it asks for.
+#[tactic(auto, unfolding(crate::specs::Transactions::locking_in))]
+pub(crate) fn locking_of(alloc: Global, size: u8, value: &Value) -> Result<Txn, InputFault>
+    ensures { Gives transaction_of result (locking_in size (view value.now)) }
 {
     match array_of(value)?.as_slice() {
-        [word, members @ ..] => match text_of(word)? {
-            "get" => get_of(alloc, size, members),
-            "add" => add_of(alloc, size, members),
-            "move" => move_of(size, members),
-            "link" => link_of(size, members),
-            "sum" => sum_of(size, members),
-            "reverse" => reverse_of(size, members),
-            "peek" => peek_of(size, members),
-            _ => Err(InputFault::BadWord),
-        },
+        [word, members @ ..] => locking_worded(alloc, size, text_of(word)?, members),
         [] => Err(InputFault::BadWord),
     }
 }

@@ -1,5 +1,8 @@
 pub mod Bytes
+pub mod Acts
 pub mod Scripts
+pub mod Balance
+pub mod Outcomes
 pub mod Starts
 pub mod Ready
 pub mod Ends

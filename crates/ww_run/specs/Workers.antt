@@ -1,12 +1,20 @@
 -- What workers do with scripts, each with a pass of its own.
-use Rattle.std.specs.Prelude.{ℕ, ◌≡◌, ◌<◌, ◌≤◌, ◌+◌, ◌∷◌, ◌++◌, List, [], length, map, slice_index_or, Some, None, Ok, IfOk}
+use Rattle.std.specs.Prelude.{ℕ, ◌≡◌, ◌<◌, ◌≤◌, ◌+◌, ◌∷◌, ◌++◌, List, [], length, map, slice_index_or, alloc_error, Result, Ok, Err, IfOk}
 use Rattle.std.specs.List.{AllByRecursion}
 use Rattle.std.specs.Global.{Vec}
-use Rattle.ww_plain.specs.Transaction.{Transaction, Fits, listed, FirstDouble}
 use Rattle.ww_plain.specs.History.{Recorded}
-use Rattle.ww_lock.specs.Holding.{Holding, Setting, IsAtHome}
-use Rattle.ww_script.specs.Outcome.{Said, answered, already, said_of, IsRecordOf, IsAnswered}
+use Rattle.ww_lock.specs.Holding.{Holding, Setting, IsAtHome, by_of}
+use Rattle.ww_lock.specs.declared.prepared.Receipt.{Receipt}
+use Rattle.ww_txn.specs.declared.transacting.TxnFault.{TxnFault}
+use Rattle.ww_txn.specs.declared.transacting.TxnFault.TheVariants.{PassSpent, Already, Interrupted}
+use Rattle.ww_txn.specs.declared.transacting.TxnFault.TheVariants as txn
+use Rattle.ww_script.specs.Acts.{Deed, Suits}
+use Rattle.ww_script.specs.Said.{Said, answered, said_of}
+use Rattle.ww_script.specs.Cancels.{cancelled_in, interrupters_in, times}
+use Rattle.ww_script.specs.Outcome.{IsUnrecorded, IsRecorded, IsAnswered}
 use Rattle.ww_outcome.specs.declared.outcome.ScriptAnswer.{ScriptAnswer}
+use Rattle.ww_outcome.specs.declared.outcome.ScriptAnswer.TheVariants as answer
+use Rattle.std.specs.declared.alloc.AllocError.{AllocError}
 use Rattle.ww_run.specs.declared.workers.RunFault.{RunFault}
 use Rattle.ww_run.specs.declared.workers.RunFault.TheVariants.{NoMemory, NoThread}
 use Rattle.ww_run.specs.declared.worker.Work.{Work}
@@ -16,44 +24,66 @@ abbrev pub run_number : RunFault → ℕ
 run_number NoMemory = 16
 run_number NoThread = 19
 
--- the same pass, with a budget of one less
+-- what is answered where a transaction came to this
+abbrev pub IsAnswerTo : Result Receipt TxnFault → Result ScriptAnswer AllocError → Type 0
+IsAnswerTo (Ok receipt) told = told ≡ Ok (answer.Reply receipt.reply)
+IsAnswerTo (Err (Already n)) told = told ≡ Ok (answer.Already n)
+IsAnswerTo (Err (Interrupted script)) told = told ≡ Ok (answer.Interrupted script)
+IsAnswerTo (Err txn.NoMemory) told = told ≡ Err alloc_error
+IsAnswerTo (Err PassSpent) told = ⊥
+
+-- the same pass, with a budget of one less at most
 pub record IsAfter (s a : Holding) : Type 0 where
   pub same_caller : a.caller ≡ s.caller
-  pub budget : a.left + 1 ≡ s.left
+  pub budget : s.left ≤ a.left + 1
 
--- A transaction that lists a node twice was told the first such node, and left the own list as it was. Any other was
--- told the answer of its record, which is the next of the own list.
-abbrev pub IsTold : Holding → Transaction → Said → Holding → Type 0
-IsTold s txn (already n) a = FirstDouble (listed txn) (Some n) × (a.own ≡ s.own)
-IsTold s txn (answered answer) a =
-    FirstDouble (listed txn) None
-    × ((place : ℕ) × (r : Recorded) × (a.own ≡ s.own ++ (place, r) ∷ []) × IsRecordOf r (length s.own) txn answer)
+-- An act with an answer of the plain graph added its record to the own list, as the next. Any other left it as it was.
+abbrev pub Adds : Holding → Deed → Said → Holding → Type 0
+Adds s deed (answered answer) a =
+    (place : ℕ) × (r : Recorded) × (a.own ≡ s.own ++ (place, r) ∷ []) × IsRecorded deed (length s.own) answer r
+Adds s deed said a = (a.own ≡ s.own) × IsUnrecorded said deed
 
--- The pass of this caller, which has done nothing yet, and a script for it: there is budget for each of its
--- transactions, and each fits the world.
-pub record IsReady (w : Setting) (number : ℕ) (txns : List Transaction) (s : Holding) : Type 0 where
+-- What the act was told is what the pass says of it: its record, the script that it cancelled, and the script that
+-- called it off.
+pub record IsTold (s : Holding) (deed : Deed) (said : Said) (a : Holding) : Type 0 where
+  pub own : Adds s deed said a
+  pub cancelled : a.cancelled ≡ cancelled_in (deed ∷ []) (said ∷ []) ++ s.cancelled
+  pub interrupted : by_of a.interrupted ≡ interrupters_in (said ∷ []) ++ by_of s.interrupted
+
+-- The pass of this caller, which has done nothing yet, and a script for it: there is budget for each of its acts, and
+-- each suits the world.
+pub record IsReady (w : Setting) (number : ℕ) (deeds : List Deed) (s : Holding) : Type 0 where
   pub home : IsAtHome s w
   pub same_caller : s.caller ≡ number
   pub nothing : s.own ≡ []
-  pub budget : length txns ≤ s.left
-  pub fit : AllByRecursion (Fits (length w.first)) txns
+  pub none_cancelled : s.cancelled ≡ []
+  pub uninterrupted : s.interrupted ≡ []
+  pub budget : length deeds ≤ s.left
+  pub suit : AllByRecursion (Suits (length w.first) w.passes) deeds
 
--- What the worker of this caller gives back. If it didn't stop, its pass's own list is exactly what its script came to.
-pub record IsWork (w : Setting) (number : ℕ) (txns : List Transaction) (work : Work) : Type 0 where
+-- The pass's own list is exactly what the acts came to that were told this, and it counts what they cancelled, and by
+-- whom they were called off.
+pub record HasRun (deeds : List Deed) (saids : List Said) (s : Holding) : Type 0 where
+  pub answered : IsAnswered 0 deeds saids s.own
+  pub cancelled : (victim : ℕ) → times victim s.cancelled ≡ times victim (cancelled_in deeds saids)
+  pub interrupted : (script : ℕ) → times script (by_of s.interrupted) ≡ times script (interrupters_in saids)
+
+-- What the worker of this caller gives back. If it didn't stop, its pass says of the script what that was told.
+pub record IsWork (w : Setting) (number : ℕ) (deeds : List Deed) (work : Work) : Type 0 where
   pub home : IsAtHome work.pass w
   pub same_caller : work.pass.caller ≡ number
-  pub told : IfOk work.told (λ answers. IsAnswered 0 txns (map said_of answers.items) work.pass.own)
+  pub told : IfOk work.told (λ answers. HasRun deeds (map said_of answers.items) work.pass)
 
 -- there is a pass for each script, and both are ready for one another
-pub record AreReady (w : Setting) (scripts : List (List Transaction)) (passes : List Holding) : Type 0 where
+pub record AreReady (w : Setting) (scripts : List (List Deed)) (passes : List Holding) : Type 0 where
   pub count : length passes ≡ length scripts
-  pub each : (i : ℕ) (t : List Transaction) (d : Holding) → i < length scripts
+  pub each : (i : ℕ) (t : List Deed) (d : Holding) → i < length scripts
       → IsReady w i (slice_index_or scripts i t) (slice_index_or passes i d)
 
 -- a worker for each script gave back what it came to
-pub record AreWorks (w : Setting) (scripts : List (List Transaction)) (works : List Work) : Type 0 where
+pub record AreWorks (w : Setting) (scripts : List (List Deed)) (works : List Work) : Type 0 where
   pub count : length works ≡ length scripts
-  pub each : (i : ℕ) (t : List Transaction) (d : Work) → i < length scripts
+  pub each : (i : ℕ) (t : List Deed) (d : Work) → i < length scripts
       → IsWork w i (slice_index_or scripts i t) (slice_index_or works i d)
 
 -- each worker's pass, and what its script was told: none of them stopped

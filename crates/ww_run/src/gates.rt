@@ -10,7 +10,7 @@ use std::test::Fail;
 use std::thread;
 use std::thread::Threads;
 use ww_plain::{Record, Reply, Txn, replays};
-use ww_script::{Input, Outcome, ScriptAnswer, Scripts, read_input};
+use ww_script::{Act, Input, Outcome, ScriptAnswer, Scripts, read_input};
 use ww_txn::Gate;
 
 /// Two scripts of one add, each on a node of its own.
@@ -154,13 +154,13 @@ fn two_scripts_hold_their_locks_at_once(rt: HostRuntime) -> Result<(), Fail> {
 
 /// The transaction of this number among those of a script that were carried out, with its reply.
 fn carried_out<'a>(
-    txns: &'a [Txn],
+    acts: &'a [Act],
     answers: &'a [ScriptAnswer],
     seq: u64,
 ) -> Option<(&'a Txn, &'a Reply)> {
     let mut before = 0;
-    for (txn, answer) in txns.iter().zip(answers) {
-        if let ScriptAnswer::Reply(reply) = answer {
+    for pair in acts.iter().zip(answers) {
+        if let (Act::Do(txn) | Act::Interruptible(txn), ScriptAnswer::Reply(reply)) = pair {
             if before == seq {
                 return Some((txn, reply));
             }
@@ -176,9 +176,9 @@ fn records_of(alloc: Global, scripts: &Scripts, outcome: &Outcome) -> Result<Vec
     let mut records = Vec::with_capacity(alloc, places.len())?;
     for (caller, seq) in places {
         let script = usize::from(*caller);
-        let txns = scripts.scripts.get(script).ok_or("a script")?;
+        let acts = scripts.scripts.get(script).ok_or("a script")?;
         let answers = outcome.replies.get(script).ok_or("answers")?;
-        let (txn, reply) = carried_out(txns, answers, *seq).ok_or("a transaction")?;
+        let (txn, reply) = carried_out(acts, answers, *seq).ok_or("a transaction")?;
         records.push(Record {
             caller: *caller,
             seq: *seq,

@@ -1,19 +1,18 @@
-ghost use Rattle.std.specs.Prelude.{◌≡◌, ◌≤◌, ◌-◌, length, map, IfOk};
-ghost use Rattle.ww_plain.specs.Transaction.{transaction_of, Fits};
+ghost use Rattle.std.specs.Prelude.{◌≢◌, ◌≤◌, length, map, IfOk};
+ghost use Rattle.ww_script.specs.Acts.{deed_of, Suits};
 ghost use Rattle.ww_lock.specs.Holding.{IsAtHome};
-ghost use Rattle.ww_script.specs.Outcome.{said_of};
-ghost use Rattle.ww_run.specs.Workers.{IsAfter, IsTold, IsReady, IsWork};
+ghost use Rattle.ww_script.specs.Said.{said_of};
+ghost use Rattle.ww_run.specs.Workers.{IsAnswerTo, IsAfter, IsTold, IsReady, IsWork};
 
 use std::alloc::{AllocError, Global};
 use std::snapshot::Snapshot;
 use std::sync::Wait;
 use std::thread::Promise;
-use ww_lock::{Pass, World};
-use ww_plain::Txn;
-use ww_script::ScriptAnswer;
-use ww_txn::{Gate, TxnFault, transact};
+use ww_lock::{Pass, Receipt, World};
+use ww_script::{Act, ScriptAnswer};
+use ww_txn::{Gate, TxnFault, transact, transact_interruptible};
 
-/// What a worker gives back: its pass, and what the transactions of its script were told. It stops for want of memory
+/// What a worker gives back: its pass, and what the acts of its script were told. It stops for want of memory
 /// alone.
 #[derive(Drop)]
 pub(crate) struct Work {
@@ -26,58 +25,78 @@ pub(crate) struct Work {
 pub(crate) struct WorkOf<'a> {
     pub(crate) world: &'a World,
     pub(crate) caller: u8,
-    pub(crate) txns: Snapshot<Vec<Txn>>,
+    pub(crate) acts: Snapshot<Vec<Act>>,
 }
 
 impl<'a> Promise<Work> for WorkOf<'a> {
-    ghost kept_by = { λ p r. IsWork p.world.now p.caller (map transaction_of p.txns.value.items) r };
+    ghost kept_by = { λ p r. IsWork p.world.now p.caller (map deed_of p.acts.value.items) r };
 }
 
-/// Carries one transaction out. One that lists a node twice is told so.
+/// What is answered where a transaction came to this. No worker's pass is spent.
+fn answer_to(told: Result<Receipt, TxnFault>) -> Result<ScriptAnswer, AllocError>
+    requires { told ≢ Err TxnFault.PassSpent }
+    ensures { IsAnswerTo told result }
+{
+    match told {
+        Ok(receipt) => Ok(ScriptAnswer::Reply(receipt.reply)),
+        Err(TxnFault::Already(node)) => Ok(ScriptAnswer::Already(node)),
+        Err(TxnFault::Interrupted(script)) => Ok(ScriptAnswer::Interrupted(script)),
+        Err(TxnFault::NoMemory) => Err(AllocError),
+        Err(TxnFault::PassSpent) => unreachable!(),
+    }
+}
+
+/// Carries one act out. A cancel is made between transactions, by the worker's own pass.
 fn carry_out<R: Wait, G: Gate>(
     rt: &R,
     world: &World,
-    pass: Pass,
+    mut pass: Pass,
     gate: &G,
-    txn: Txn,
+    act: Act,
 ) -> (Pass, Result<ScriptAnswer, AllocError>)
     requires home { IsAtHome pass world.now }
-    requires fits { Fits (length world.now.first) (transaction_of txn) }
+    requires suits { Suits (length world.now.first) world.now.passes (deed_of act) }
     requires budget { 1 ≤ pass.left }
     ensures home { IsAtHome result.0 world.now }
     ensures after { IsAfter pass result.0 }
-    ensures told { IfOk result.1 (λ answer. IsTold pass (transaction_of txn) (said_of answer) result.0) }
+    ensures told { IfOk result.1 (λ answer. IsTold pass (deed_of act) (said_of answer) result.0) }
 {
-    let (pass, told) = transact(world, pass, rt, gate, txn);
-    let told = match told {
-        Ok(receipt) => Ok(ScriptAnswer::Reply(receipt.reply)),
-        Err(TxnFault::Already(node)) => Ok(ScriptAnswer::Already(node)),
-        Err(TxnFault::NoMemory) => Err(AllocError),
-        Err(TxnFault::PassSpent) => unreachable!(),
-    };
-    (pass, told)
+    match act {
+        Act::Do(txn) => {
+            let (pass, told) = transact(world, pass, rt, gate, txn);
+            (pass, answer_to(told))
+        }
+        Act::Interruptible(txn) => {
+            let (pass, told) = transact_interruptible(world, pass, rt, gate, txn);
+            (pass, answer_to(told))
+        }
+        Act::Cancel(script) => {
+            let is_set = pass.cancel(world, script);
+            (pass, Ok(ScriptAnswer::Cancel(is_set)))
+        }
+    }
 }
 
-/// Runs a script to its end, or until one of its transactions stops it.
+/// Runs a script to its end, or until one of its acts stops it.
 pub(crate) fn run_script<R: Wait, G: Gate>(
     rt: &R,
     alloc: Global,
     world: &World,
     mut pass: Pass,
     gate: &G,
-    txns: Vec<Txn>,
+    acts: Vec<Act>,
 ) -> Work
-    requires { IsReady world.now pass.caller (map transaction_of txns.items) pass }
-    ensures { IsWork world.now pass.caller (map transaction_of txns.items) result }
+    requires { IsReady world.now pass.caller (map deed_of acts.items) pass }
+    ensures { IsWork world.now pass.caller (map deed_of acts.items) result }
 {
-    let Ok(mut answers) = Vec::with_capacity(alloc, txns.len()) else {
+    let Ok(mut answers) = Vec::with_capacity(alloc, acts.len()) else {
         return Work {
             pass,
             told: Err(AllocError),
         };
     };
-    for txn in txns {
-        let (next, told) = carry_out(rt, world, pass, gate, txn);
+    for act in acts {
+        let (next, told) = carry_out(rt, world, pass, gate, act);
         pass = next;
         match told {
             Ok(answer) => answers.push_reserved(answer),

@@ -5,7 +5,7 @@ ghost use Rattle.ww_script.specs.Outcome.{places_of, IsOutcome};
 ghost use Rattle.ww_lock.specs.Holding.{AreAtHome};
 ghost use Rattle.ww_lock.specs.Closed.{missing_of, IsClosed};
 ghost use Rattle.ww_run.specs.declared.workers.RunFault.TheVariants.{NoMemory};
-ghost use Rattle.ww_plain.specs.Transaction.{transaction_of};
+ghost use Rattle.ww_script.specs.Acts.{deed_of};
 ghost use Rattle.ww_run.specs.Workers.{IsReady, IsWork, AreReady, AreWorks, AreParted};
 
 use crate::worker::{Work, WorkOf, run_script};
@@ -16,8 +16,8 @@ use std::thread;
 use std::thread::Threads;
 use thiserror::Error;
 use ww_lock::{CloseFault, History, Pass, World};
-use ww_plain::{Record, Txn};
-use ww_script::{Outcome, ScriptAnswer, Scripts};
+use ww_plain::Record;
+use ww_script::{Act, Outcome, ScriptAnswer, Scripts};
 use ww_txn::Gate;
 
 /// Why scripts, or the text of a schedule's replay, were given up. The numbers are those of the refusal lines. Of both
@@ -58,15 +58,15 @@ impl<T: Drop> From<AllocFailed<T>> for RunFault {
     }
 }
 
-/// How many transactions the longest script has, and 1 if none has any.
-fn budget(scripts: &[Vec<Txn>]) -> u32
+/// How many acts the longest script has, and 1 if none has any. A cancel needs no budget.
+fn budget(scripts: &[Vec<Act>]) -> u32
     requires { (i : ℕ) (d : _) → i < length scripts.now → length (slice_index_or scripts.now i d).items ≤ 10000 }
     ensures some { 1 ≤ result }
     ensures each { (i : ℕ) (d : _) → i < length scripts.now → length (slice_index_or scripts.now i d).items ≤ result }
 {
     let mut most = 1;
-    for txns in scripts {
-        most = most.max(txns.len());
+    for acts in scripts {
+        most = most.max(acts.len());
     }
     most as u32
 }
@@ -77,7 +77,7 @@ fn work<R: Threads + Wait + Sync, G: Gate + Sync>(
     alloc: Global,
     world: &World,
     passes: Vec<Pass>,
-    scripts: Vec<Vec<Txn>>,
+    scripts: Vec<Vec<Act>>,
     gate: &G,
 ) -> Result<Vec<Work>, RunFault>
     requires { AreReady world.now (script_lists scripts) passes.items }
@@ -94,20 +94,20 @@ fn work<R: Threads + Wait + Sync, G: Gate + Sync>(
             let mut is_short = false;
             let mut rest = scripts.into_iter();
             for pass in passes {
-                let Some(txns) = rest.next() else {
+                let Some(acts) = rest.next() else {
                     unreachable!()
                 };
                 let promise = WorkOf {
                     world,
                     caller: pass.caller(),
-                    txns: Snapshot::of(&txns),
+                    acts: Snapshot::of(&acts),
                 };
                 let started = scope.spawn_with(
                     promise,
                     move || -> Work
-                        requires { IsReady world.now pass.caller (map transaction_of txns.items) pass }
-                        ensures { IsWork world.entry.now pass.caller (map transaction_of txns.items) result }
-                    { run_script(rt, alloc, world, pass, gate, txns) },
+                        requires { IsReady world.now pass.caller (map deed_of acts.items) pass }
+                        ensures { IsWork world.entry.now pass.caller (map deed_of acts.items) result }
+                    { run_script(rt, alloc, world, pass, gate, acts) },
                 );
                 match started {
                     Ok(worker) => workers.push_reserved(worker),

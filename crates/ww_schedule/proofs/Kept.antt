@@ -3,7 +3,7 @@ use Rattle.std.proofs.Common.{◌≡◌, ℕ, ◌<◌, List, [], ◌∷◌, Resu
 use Rattle.std.specs.Prelude.{codes, bytes_eq}
 use Rattle.serde_json.specs.Data.{Data}
 use Rattle.ww_model.specs.declared.event.Event.{Event}
-use Rattle.ww_model.specs.declared.event.Event.TheVariants.{Begin, Clear, Fast, FastGive, Guard, Join, Sign, Take, Ask, Give, Die, Unguard, Commit, End}
+use Rattle.ww_model.specs.declared.event.Event.TheVariants.{Begin, Clear, Fast, FastGive, Guard, Join, Sign, Take, Ask, Give, Die, Unguard, Commit, End, Cancel, Heed, Leave}
 use Rattle.ww_parts.specs.declared.fault.InputFault.{InputFault}
 use Rattle.ww_parts.specs.Parts.{each, counted, ranged, array, below, member, only, text}
 use Rattle.ww_parts.specs.Kinds.{kind_in}
@@ -62,7 +62,10 @@ event_with_kept seats locks word ds x e =
     (either_kept P (bytes_eq word (codes "die")) _ _ x (pair_event_kept P Die seats locks ds x (λ s n a b. (a, b)))
     (either_kept P (bytes_eq word (codes "unguard")) _ _ x (pair_event_kept P Unguard seats locks ds x (λ s n a b. (a, b)))
     (either_kept P (bytes_eq word (codes "commit")) _ _ x (alone_kept P Commit seats ds x (λ s a. a))
-    (either_kept P (bytes_eq word (codes "end")) _ _ x (alone_kept P End seats ds x (λ s a. a)) (λ none. absurd cc)))))))))))))) e
+    (either_kept P (bytes_eq word (codes "end")) _ _ x (alone_kept P End seats ds x (λ s a. a))
+    (either_kept P (bytes_eq word (codes "cancel")) _ _ x (pair_event_kept P Cancel seats seats ds x (λ s v a b. (a, b)))
+    (either_kept P (bytes_eq word (codes "heed")) _ _ x (pair_event_kept P Heed seats locks ds x (λ s n a b. (a, b)))
+    (either_kept P (bytes_eq word (codes "leave")) _ _ x (pair_event_kept P Leave seats locks ds x (λ s n a b. (a, b))) (λ none. absurd cc))))))))))))))))) e
 
 event_from_kept : (seats locks : ℕ) (ds : List Data) (x : Event) → event_from seats locks ds ≡ Ok x → IsThere seats locks x
 event_from_kept seats locks [] x e = absurd cc

@@ -4,7 +4,7 @@ use Rattle.std.proofs.lemmas.List.{take_more, take_all, append-nil}
 use Rattle.std.proofs.lemmas.Option.{slice_get-get_or}
 use Rattle.std.specs.Result.{OnOk}
 use Rattle.ww_model.specs.declared.event.Event.{Event}
-use Rattle.ww_model.specs.declared.event.Event.TheVariants.{Begin, Clear, Fast, FastGive, Guard, Join, Sign, Take, Ask, Give, Die, Unguard, Commit, End}
+use Rattle.ww_model.specs.declared.event.Event.TheVariants.{Begin, Clear, Fast, FastGive, Guard, Join, Sign, Take, Ask, Give, Die, Unguard, Commit, End, Cancel, Heed, Leave}
 use Rattle.ww_model.specs.declared.event.Answer.{Answer}
 use Rattle.ww_model.specs.State.{State}
 use Rattle.ww_model.specs.Event.{Possible, after, answer}
@@ -42,6 +42,9 @@ same_sizes c (Die s n) = (refl, refl)
 same_sizes c (Unguard s n) = (refl, refl)
 same_sizes c (Commit s) = (refl, refl)
 same_sizes c (End s) = (refl, refl)
+same_sizes c (Cancel s v) = (refl, refl)
+same_sizes c (Heed s n) = (refl, refl)
+same_sizes c (Leave s n) = (refl, refl)
 
 -- events change neither the number of the locks nor that of the seats
 pub run_sizes : (c : State) (es : List Event) → ((state_after c es).locks ≡ c.locks) × ((state_after c es).seats ≡ c.seats)

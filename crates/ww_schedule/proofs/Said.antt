@@ -2,7 +2,7 @@
 use Rattle.std.proofs.Common.{◌≡◌, ℕ, ◌<◌, ◌≤◌, List, [], ◌∷◌, length, map, Ok, refl, arith}
 use Rattle.std.proofs.lemmas.List.{length-map}
 use Rattle.ww_model.specs.declared.event.Event.{Event}
-use Rattle.ww_model.specs.declared.event.Event.TheVariants.{Begin, Clear, Fast, FastGive, Guard, Join, Sign, Take, Ask, Give, Die, Unguard, Commit, End}
+use Rattle.ww_model.specs.declared.event.Event.TheVariants.{Begin, Clear, Fast, FastGive, Guard, Join, Sign, Take, Ask, Give, Die, Unguard, Commit, End, Cancel, Heed, Leave}
 use Rattle.ww_parts.specs.Spelling.{list, whole}
 use Rattle.ww_parts.proofs.Said.{below_said, ranged_said, counted_said, each_said, kind_said}
 use Rattle.ww_schedule.specs.Events.{alone, both, event_with, event_in}
@@ -31,6 +31,9 @@ event_said seats locks (Die s n) there = both_said Die seats locks s n there
 event_said seats locks (Unguard s n) there = both_said Unguard seats locks s n there
 event_said seats locks (Commit s) there = alone_said Commit seats s there
 event_said seats locks (End s) there = alone_said End seats s there
+event_said seats locks (Cancel s v) there = both_said Cancel seats seats s v there
+event_said seats locks (Heed s n) there = both_said Heed seats locks s n there
+event_said seats locks (Leave s n) there = both_said Leave seats locks s n there
 
 events_said : (seats locks : ℕ) (es : List Event) → AreEvents seats locks es → events_in seats locks (list (map event_data es)) ≡ Ok es
 unfolding events_in

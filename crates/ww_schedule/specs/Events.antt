@@ -2,7 +2,7 @@
 use Rattle.std.specs.Prelude.{ℕ, List, [], ◌∷◌, codes, bytes_eq, Result, Ok, Err, if◌then◌else◌}
 use Rattle.serde_json.specs.Data.{Data}
 use Rattle.ww_model.specs.declared.event.Event.{Event}
-use Rattle.ww_model.specs.declared.event.Event.TheVariants.{Begin, Clear, Fast, FastGive, Guard, Join, Sign, Take, Ask, Give, Die, Unguard, Commit, End}
+use Rattle.ww_model.specs.declared.event.Event.TheVariants.{Begin, Clear, Fast, FastGive, Guard, Join, Sign, Take, Ask, Give, Die, Unguard, Commit, End, Cancel, Heed, Leave}
 use Rattle.ww_parts.specs.declared.fault.InputFault.{InputFault}
 use Rattle.ww_parts.specs.declared.fault.InputFault.TheVariants.{BadWord}
 use Rattle.ww_parts.specs.Parts.{◌>>=◌, array, text, below}
@@ -49,6 +49,9 @@ event_with seats locks word members =
     else if bytes_eq word (codes "unguard") then both Unguard seats locks members
     else if bytes_eq word (codes "commit") then alone Commit seats members
     else if bytes_eq word (codes "end") then alone End seats members
+    else if bytes_eq word (codes "cancel") then both Cancel seats seats members
+    else if bytes_eq word (codes "heed") then both Heed seats locks members
+    else if bytes_eq word (codes "leave") then both Leave seats locks members
     else Err BadWord
 
 -- a word, and then the members that it asks for

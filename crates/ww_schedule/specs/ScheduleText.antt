@@ -6,7 +6,7 @@ use Rattle.ww_model.specs.declared.state.Holder.{Holder}
 use Rattle.ww_model.specs.declared.state.Holder.TheVariants.{Nobody, Taken, Handed}
 use Rattle.ww_model.specs.declared.event.Answer.{Answer}
 use Rattle.ww_model.specs.declared.event.Answer.TheVariants as told
-use Rattle.ww_model.specs.declared.event.Answer.TheVariants.{Stamp, Done, Locked, Met, Free, Deadlk, Place}
+use Rattle.ww_model.specs.declared.event.Answer.TheVariants.{Stamp, Done, Locked, Met, Free, Deadlk, Place, Interrupted}
 use Rattle.ww_parts.specs.Pieces.{spaced, spaced_or_dash}
 
 -- what an event answers
@@ -19,6 +19,7 @@ answer_text (told.Handed seat) = codes "handed " ++ decimal seat
 answer_text Free = codes "free"
 answer_text (Deadlk stamp) = codes "deadlk " ++ decimal stamp
 answer_text (Place place) = codes "place " ++ decimal place
+answer_text (Interrupted seat) = codes "interrupted " ++ decimal seat
 
 -- what an event answered
 unfoldable pub event_line : ℕ → Answer → List ℕ

@@ -7,7 +7,7 @@ use Rattle.ww_queue.specs.declared.kind.Kind.{Kind}
 use Rattle.ww_word.specs.declared.owner.TheConstants.{MAX_SEATS}
 use Rattle.ww_model.specs.declared.state.TheConstants.{MAX_LOCKS}
 use Rattle.ww_model.specs.declared.event.Event.{Event}
-use Rattle.ww_model.specs.declared.event.Event.TheVariants.{Begin, Clear, Fast, FastGive, Guard, Join, Sign, Take, Ask, Give, Die, Unguard, Commit, End}
+use Rattle.ww_model.specs.declared.event.Event.TheVariants.{Begin, Clear, Fast, FastGive, Guard, Join, Sign, Take, Ask, Give, Die, Unguard, Commit, End, Cancel, Heed, Leave}
 use Rattle.ww_parts.specs.declared.fault.InputFault.{InputFault}
 use Rattle.ww_parts.specs.Parts.{◌>>=◌, member, only, ranged, counted, each}
 use Rattle.ww_parts.specs.Kinds.{kind_in}
@@ -40,6 +40,9 @@ IsThere seats locks (Die s n) = (s < seats) × (n < locks)
 IsThere seats locks (Unguard s n) = (s < seats) × (n < locks)
 IsThere seats locks (Commit s) = s < seats
 IsThere seats locks (End s) = s < seats
+IsThere seats locks (Cancel s v) = (s < seats) × (v < seats)
+IsThere seats locks (Heed s n) = (s < seats) × (n < locks)
+IsThere seats locks (Leave s n) = (s < seats) × (n < locks)
 
 -- at most 10,000 events, whose numbers are those of the seats and locks
 pub record AreEvents (seats locks : ℕ) (events : List Event) : Type 0 where

@@ -2,7 +2,7 @@
 use Rattle.std.specs.Prelude.{ℕ, List, [], ◌∷◌, map, codes}
 use Rattle.serde_json.specs.Data.{Data, string, object, no_members, member}
 use Rattle.ww_model.specs.declared.event.Event.{Event}
-use Rattle.ww_model.specs.declared.event.Event.TheVariants.{Begin, Clear, Fast, FastGive, Guard, Join, Sign, Take, Ask, Give, Die, Unguard, Commit, End}
+use Rattle.ww_model.specs.declared.event.Event.TheVariants.{Begin, Clear, Fast, FastGive, Guard, Join, Sign, Take, Ask, Give, Die, Unguard, Commit, End, Cancel, Heed, Leave}
 use Rattle.ww_parts.specs.Spelling.{list, whole, kind_word}
 use Rattle.ww_schedule.specs.Schedules.{Timetable}
 
@@ -26,6 +26,9 @@ event_data (Die s n) = said_with (codes "die") (s ∷ n ∷ [])
 event_data (Unguard s n) = said_with (codes "unguard") (s ∷ n ∷ [])
 event_data (Commit s) = said_with (codes "commit") (s ∷ [])
 event_data (End s) = said_with (codes "end") (s ∷ [])
+event_data (Cancel s v) = said_with (codes "cancel") (s ∷ v ∷ [])
+event_data (Heed s n) = said_with (codes "heed") (s ∷ n ∷ [])
+event_data (Leave s n) = said_with (codes "leave") (s ∷ n ∷ [])
 
 -- the value of a schedule's input, with the keys in the order in which an object holds them
 abbrev pub timetable_data : Timetable → Data

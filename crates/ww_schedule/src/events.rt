@@ -55,6 +55,11 @@ fn worded_of(seats: u8, locks: u8, word: &str, members: &[Value]) -> Result<Even
         "unguard" => both_of(seats, locks, members).map(|(seat, lock)| Event::Unguard(seat, lock)),
         "commit" => seat_of(seats, members).map(Event::Commit),
         "end" => seat_of(seats, members).map(Event::End),
+        "cancel" => both_of(seats, seats, members).map(|(seat, victim)| Event::Cancel(
+            seat, victim,
+        )),
+        "heed" => both_of(seats, locks, members).map(|(seat, lock)| Event::Heed(seat, lock)),
+        "leave" => both_of(seats, locks, members).map(|(seat, lock)| Event::Leave(seat, lock)),
         _ => Err(InputFault::BadWord),
     }
 }

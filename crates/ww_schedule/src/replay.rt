@@ -23,6 +23,7 @@ fn push_answer(out: &mut String, answer: Answer) -> Result<(), AllocError>
         Answer::Free => out.push_str("free"),
         Answer::Deadlk(stamp) => push_number(out, "deadlk ", stamp),
         Answer::Place(place) => push_number(out, "place ", place),
+        Answer::Interrupted(seat) => push_number(out, "interrupted ", seat),
     }
 }
 

@@ -16,7 +16,7 @@ pub const MAX_BYTES: usize = 1_048_576;
 /// What an input asks for.
 #[derive(Debug, Drop)]
 pub enum Input {
-    /// Scripts of transactions, to be run.
+    /// Scripts of transactions and cancels, to be run.
     Scripts(Scripts),
     /// Events of the core, to be replayed.
     Schedule(Schedule),

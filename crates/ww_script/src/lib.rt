@@ -1,11 +1,11 @@
-//! What an input says: scripts of transactions or a schedule of lock events, or its first fault. Beside it stand, by
-//! their names, what reads and writes both.
+//! What an input says: scripts of transactions and cancels or a schedule of lock events, or its first fault. Beside it
+//! stand, by their names, what reads and writes both.
 #![tactic(auto)]
 
 mod input;
 
 pub use input::{Input, MAX_BYTES, each_input_can_be_said, read_input, reading_keeps_ranges};
-pub use ww_outcome::{Outcome, ScriptAnswer, outcome_text};
+pub use ww_outcome::{Outcome, ScriptAnswer, cancels_are_answered_once, outcome_text};
 pub use ww_parts::{InputFault, refusal_line};
-pub use ww_plan::Scripts;
+pub use ww_plan::{Act, Scripts};
 pub use ww_schedule::{Schedule, a_schedule_has_one_text, schedule_text};

@@ -1,7 +1,7 @@
 use Rattle.std.proofs.Common.{◌≡◌, map, get_or, ap, ◌∙◌}
 use Rattle.std.specs.Global.{Vec}
 use Rattle.ww_outcome.specs.declared.outcome.ScriptAnswer.{ScriptAnswer}
-use Rattle.ww_outcome.specs.Outcome.{said_of}
+use Rattle.ww_outcome.specs.Said.{said_of}
 use Rattle.ww_outcome.specs.Text.{script_lines}
 use Rattle.ww_parts.proofs.Numbered.{numbered_by}
 use Rattle.ww_outcome.proofs.text.push_scripts.Goals as goal

@@ -1,7 +1,7 @@
 use Rattle.std.proofs.Common.{ℕ, ◌≤◌, ◌<◌, length, get_or}
 use Rattle.ww_run.proofs.workers.budget.Given as goal
 
-abbrev pub invariant-loop-txns : goal.invariant-loop-txns
-invariant-loop-txns l =
+abbrev pub invariant-loop-acts : goal.invariant-loop-acts
+invariant-loop-acts l =
     (1 ≤ l.most) × (l.most ≤ 10000)
-    × ((k : ℕ) (d : _) → k < l.txns-index → length (get_or l.scripts k d).items ≤ l.most)
+    × ((k : ℕ) (d : _) → k < l.acts-index → length (get_or l.scripts k d).items ≤ l.most)

@@ -1,24 +1,25 @@
 use Rattle.std.proofs.Common.{◌≡◌, ℕ, ◌<◌, ◌≤◌, List, length, get_or, Some, None, if◌then◌else◌, refl, ap, subst, ◌∙◌, rules}
 use Rattle.std.specs.Global.{Vec}
-use Rattle.ww_plain.specs.declared.transaction.Txn.{Txn}
+use Rattle.ww_plan.specs.declared.acts.Act.{Act}
 use Rattle.ww_plain.specs.History.{history_of}
 use Rattle.ww_script.specs.Scripts.{script_lists}
 use Rattle.ww_script.specs.Outcome.{place_list, places_of}
-use Rattle.ww_run.proofs.Scripts.{all_worked, all_there, outcome_of}
+use Rattle.ww_run.proofs.Scripts.{all_worked, all_there}
+use Rattle.ww_run.proofs.Outcomes.{outcome_of}
 use Rattle.ww_run.proofs.Ready.{few_each, same_count, are_ready}
 use Rattle.ww_run.proofs.workers.run_scripts.Goals as goal
 use Rattle.ww_run.proofs.workers.run_scripts.Goals.{then-history+in_ok-places, else-history}
 
 pub budget-budget-requires : goal.budget-budget-requires
 budget-budget-requires g c = rw c.deref.ensures.value
-    (few_each (length c.scripts.inside.graph) c.scripts.inside.scripts.items c.scripts.invariant.each)
+    (few_each (length c.scripts.inside.graph) (length (script_lists c.scripts.inside.scripts)) c.scripts.inside.scripts.items c.scripts.invariant.each)
 
 pub work-requires-after_bounds : goal.work-requires-after_bounds
 work-requires-after_bounds g c = λ κs within.
     let scripts = c.scripts.inside.scripts.items in
     are_ready c.in-Ok.world scripts c.in-Ok.passes.items c.scripts.inside.graph _ c.budget-budget.result c.in-Ok.ensures.ok
     (grind rules) c.scripts.invariant.each
-    (subst (λ (xs : List (Vec Txn)). (i : ℕ) (d : Vec Txn) → i < length xs → length (get_or xs i d).items ≤ c.budget-budget.result)
+    (subst (λ (xs : List (Vec Act)). (i : ℕ) (d : Vec Act) → i < length xs → length (get_or xs i d).items ≤ c.budget-budget.result)
     c.deref.ensures.value c.budget-budget.ensures.each)
 
 pub close-requires-clause-home : goal.close-requires-clause-home
