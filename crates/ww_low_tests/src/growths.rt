@@ -13,7 +13,7 @@ use ww_model::{Answer, Core, Event, ReplayFault};
 use ww_plain::{By, Graph, Record, Reply, Txn, apply, first_double, replays};
 use ww_queue::Kind;
 use ww_script::{
-    Input, InputFault, Outcome, ScriptAnswer, outcome_text, read_input, schedule_text,
+    Act, Input, InputFault, Outcome, ScriptAnswer, outcome_text, read_input, schedule_text,
 };
 
 /// What a call gives, or gives the second time if memory was refused to the first.
@@ -151,13 +151,13 @@ fn scripts_are_read(rt: HostRuntime) -> Result<(), Fail> {
     assert!(rt; input.scripts.len() == 2);
     let script = input.scripts.first().ok_or("a script")?;
     assert!(rt;
-        matches!(script.first(), Some(Txn::Get(By::Order, nodes)) if nodes.as_slice() == [0].as_slice())
+        matches!(script.first(), Some(Act::Do(Txn::Get(By::Order, nodes))) if nodes.as_slice() == [0].as_slice())
     );
     assert!(rt;
-        matches!(script.get(1), Some(Txn::Get(By::List, nodes)) if nodes.as_slice() == [0].as_slice())
+        matches!(script.get(1), Some(Act::Do(Txn::Get(By::List, nodes))) if nodes.as_slice() == [0].as_slice())
     );
     assert!(rt;
-        matches!(script.last(), Some(Txn::Add(By::Order, amounts)) if amounts.as_slice() == [(0, 3)].as_slice())
+        matches!(script.last(), Some(Act::Do(Txn::Add(By::Order, amounts))) if amounts.as_slice() == [(0, 3)].as_slice())
     );
     Ok(())
 }

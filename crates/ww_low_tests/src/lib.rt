@@ -4,6 +4,8 @@
 #![tactic(auto)]
 
 #[cfg(test)]
+mod called_off;
+#[cfg(test)]
 mod cores;
 #[cfg(test)]
 mod growths;

@@ -4,7 +4,7 @@
 ghost use Rattle.std.specs.Prelude.{ℕ, ◌≡◌, ◌<◌, Bool, List, false, true, slice_index_or, slice_set, IfOk};
 ghost use Rattle.ww_queue.specs.declared.kind.Kind.{Kind};
 ghost use Rattle.ww_table.specs.Seat.{IsNew, size_of};
-ghost use Rattle.ww_low_tests.specs.Looking.{Owns, Holds, MayLook, just};
+ghost use Rattle.ww_low_tests.specs.Looking.{Owns, Holds, MayLook, just, none};
 
 use crate::growths::twice;
 use crate::plain::{graph_of, node};
@@ -41,11 +41,24 @@ pub(crate) fn compare<R: Abort>(
     sign: u64,
     counts: [u64; 2],
 ) {
+    compare_cancelled(rt, board, owners, sign, counts, 0);
+}
+
+/// The same where the cancel of seat 1 may be set.
+pub(crate) fn compare_cancelled<R: Abort>(
+    rt: &R,
+    board: &Board,
+    owners: [u64; 2],
+    sign: u64,
+    counts: [u64; 2],
+    cancel: u64,
+) {
     let [zero, one] = owners;
     let [stamp, front] = counts;
     assert_eq!(rt; words(board), [zero, one, 0, 0, 0, sign, stamp, front]);
-    for word in 0..146 {
-        let is_used = matches!(word, 0 | 1 | 64 | 65 | 128 | 129 | 144 | 145);
+    assert_eq!(rt; board.peek(147), cancel);
+    for word in 0..162 {
+        let is_used = matches!(word, 0 | 1 | 64 | 65 | 128 | 129 | 144 | 145 | 147);
         assert!(rt; is_used || board.peek(word) == 0);
     }
 }
@@ -74,42 +87,67 @@ pub(crate) fn two_seats<R: Abort>(
     Ok((board, zero, one))
 }
 
+/// Begins a context.
+pub(crate) fn start<R: Abort>(
+    rt: &R,
+    board: &Board,
+    seat: &mut Seat16,
+    kind: Kind,
+    before: [u64; 2],
+)
+    requires size { size_of board.now ≡ 2 }
+    requires kind { board.now.table.shared.key.kind ≡ kind }
+    requires new { (k : ℕ) × IsNew board.now.table.shared.table_id board.now.table.shared.key k seat.old }
+    ensures { Holds board.now kind none seat.new }
+{
+    let stamp = begin(seat, board);
+    compare(rt, board, before, 0, [stamp, 0]);
+}
+
 /// Begins a context, and takes a lock that is free.
-fn hold<R: Abort>(rt: &R, board: &Board, seat: &mut Seat16, kind: Kind, lock: u8, before: [u64; 2])
+pub(crate) fn hold<R: Abort>(
+    rt: &R,
+    board: &Board,
+    seat: &mut Seat16,
+    kind: Kind,
+    lock: u8,
+    before: [u64; 2],
+)
     requires size { size_of board.now ≡ 2 }
     requires kind { board.now.table.shared.key.kind ≡ kind }
     requires new { (k : ℕ) × IsNew board.now.table.shared.table_id board.now.table.shared.key k seat.old }
     requires lock { lock < 2 }
     ensures { Holds board.now kind (just lock) seat.new }
 {
-    let stamp = begin(seat, board);
-    compare(rt, board, before, 0, [stamp, 0]);
+    start(rt, board, seat, kind, before);
     let Some(_) = try_take(seat, board, kind, lock) else {
         panic!(rt; "the lock was free")
     };
 }
 
-/// Looks at a lock, and comes to stand in its wait list, or still stands there.
-fn wait<R: Wait + Abort>(
+/// Looks at a lock, and comes to stand in its wait list, or still stands there. A pending cancel is looked for where it
+/// is to be heeded.
+pub(crate) fn wait<R: Wait + Abort>(
     rt: &R,
     board: &Board,
     seat: &mut Seat16,
     kind: Kind,
     lock: u8,
     is_later: bool,
+    heeds: bool,
 )
     requires may { (o : List Bool) × MayLook board.now kind o lock is_later seat.old }
     requires lock { lock < size_of board.now }
     ensures { (o : List Bool) → Owns board.now kind o seat.old → MayLook board.now kind o lock true seat.new }
 {
-    match visit(rt, seat, board, kind, lock, is_later, &[]) {
+    match visit(rt, seat, board, kind, lock, is_later, heeds, &[]) {
         Look::Waits => {}
-        Look::Locked(_) | Look::Deadlk(_) => panic!(rt; "it has to wait"),
+        Look::Locked(_) | Look::Deadlk(_) | Look::Interrupted(_) => panic!(rt; "it has to wait"),
     }
 }
 
 /// Looks at a lock, and is told the older stamp for which it has to die.
-fn back_off<R: Wait + Abort>(
+pub(crate) fn back_off<R: Wait + Abort>(
     rt: &R,
     board: &Board,
     seat: &mut Seat16,
@@ -121,9 +159,9 @@ fn back_off<R: Wait + Abort>(
     requires lock { lock < size_of board.now }
     ensures { (o : List Bool) → Owns board.now kind o seat.old → Holds board.now kind o seat.new }
 {
-    match visit(rt, seat, board, kind, lock, is_later, &[]) {
+    match visit(rt, seat, board, kind, lock, is_later, false, &[]) {
         Look::Deadlk(met) => met,
-        Look::Locked(_) | Look::Waits => panic!(rt; "it has to die"),
+        Look::Locked(_) | Look::Interrupted(_) | Look::Waits => panic!(rt; "it has to die"),
     }
 }
 
@@ -132,14 +170,18 @@ fn take<R: Wait + Abort>(rt: &R, board: &Board, seat: &mut Seat16, kind: Kind, l
     requires may { (o : List Bool) × MayLook board.now kind o lock true seat.old }
     requires lock { lock < size_of board.now }
 {
-    match visit(rt, seat, board, kind, lock, true, &[]) {
+    match visit(rt, seat, board, kind, lock, true, false, &[]) {
         Look::Locked(_) => {}
-        Look::Deadlk(_) | Look::Waits => panic!(rt; "the lock is free"),
+        Look::Deadlk(_) | Look::Interrupted(_) | Look::Waits => panic!(rt; "the lock is free"),
     }
 }
 
 /// Both contexts, each with its lock: the older has node 0, the younger node 1.
-fn tied<R: Abort>(rt: &R, alloc: Global, kind: Kind) -> Result<(Board, Seat16, Seat16), AllocError>
+pub(crate) fn tied<R: Abort>(
+    rt: &R,
+    alloc: Global,
+    kind: Kind,
+) -> Result<(Board, Seat16, Seat16), AllocError>
     ensures size { IfOk result (λ r. size_of r.0 ≡ 2) }
     ensures older { IfOk result (λ r. Holds r.0 kind (just 0) r.1) }
     ensures younger { IfOk result (λ r. Holds r.0 kind (just 1) r.2) }
@@ -155,7 +197,7 @@ fn tied<R: Abort>(rt: &R, alloc: Global, kind: Kind) -> Result<(Board, Seat16, S
 
 /// The younger, which has backed off, gives its lock back; the older takes it; and the younger ends, with its sign or
 /// none.
-fn untie<R: Wait + Abort>(
+pub(crate) fn untie<R: Wait + Abort>(
     rt: &R,
     board: &Board,
     kind: Kind,
@@ -184,7 +226,7 @@ fn older_first<R: Wait + Abort>(
     sign: u64,
 ) -> Result<(), AllocError> {
     let (board, mut older, mut younger) = tied(rt, alloc, kind)?;
-    wait(rt, &board, &mut older, kind, 1, false);
+    wait(rt, &board, &mut older, kind, 1, false, false);
     compare(rt, &board, [264, 529], sign, [2, 0]);
     assert_eq!(rt; back_off(rt, &board, &mut younger, kind, 0, false), 1);
     untie(rt, &board, kind, &mut older, &mut younger, sign);
@@ -196,9 +238,9 @@ fn older_first<R: Wait + Abort>(
 fn a_ring_is_undone_by_a_sign(rt: HostRuntime) -> Result<(), Fail> {
     let kind = Kind::WoundWait;
     let (board, mut older, mut younger) = tied(&rt, rt.alloc(), kind)?;
-    wait(&rt, &board, &mut younger, kind, 0, false);
+    wait(&rt, &board, &mut younger, kind, 0, false, false);
     compare(&rt, &board, [265, 528], 0, [2, 0]);
-    wait(&rt, &board, &mut older, kind, 1, false);
+    wait(&rt, &board, &mut older, kind, 1, false, false);
     compare(&rt, &board, [265, 529], 1, [2, 0]);
     let met = back_off(&rt, &board, &mut younger, kind, 0, true);
     assert_eq!(rt; met, 1);
@@ -218,6 +260,14 @@ fn a_younger_context_never_waits(rt: HostRuntime) -> Result<(), Fail> {
     Ok(())
 }
 
+/// What seat 1 sleeps on, and what wakes both seats.
+pub(crate) fn bell(alloc: Global) -> Result<(Parker, [Unparker; 2]), AllocError> {
+    let zero = Parker::new(alloc)?.unparker().clone()?;
+    let parker = Parker::new(alloc)?;
+    let one = parker.unparker().clone()?;
+    Ok((parker, [zero, one]))
+}
+
 /// Gives a lock back that is handed over.
 fn hand_over<R: Wait>(rt: &R, board: &Board, kind: Kind, owner: &mut Seat16, wakers: &[Unparker])
     requires size { size_of board.now ≡ 2 }
@@ -233,14 +283,10 @@ fn a_lock_is_handed_over(rt: HostRuntime) -> Result<(), Fail> {
     let kind = Kind::WoundWait;
     let alloc = rt.alloc();
     let (board, mut older, mut younger) = tied(&rt, alloc, kind)?;
-    let parker = Parker::new(alloc)?;
-    let wakers = [
-        Parker::new(alloc)?.unparker().clone()?,
-        parker.unparker().clone()?,
-    ];
-    wait(&rt, &board, &mut younger, kind, 0, false);
+    let (parker, wakers) = bell(alloc)?;
+    wait(&rt, &board, &mut younger, kind, 0, false, false);
     compare(&rt, &board, [265, 528], 0, [2, 0]);
-    wait(&rt, &board, &mut younger, kind, 0, true);
+    wait(&rt, &board, &mut younger, kind, 0, true, false);
     compare(&rt, &board, [267, 528], 0, [2, 0]);
     hand_over(&rt, &board, kind, &mut older, &wakers);
     compare(&rt, &board, [533, 528], 0, [2, 0]);

@@ -7,7 +7,7 @@ ghost use Rattle.ww_lock.specs.Holding.{IsAtHome, AreAtHome};
 
 use crate::locks::{begun, graph_of, locked};
 use crate::threads::{is_possible, is_possible_alone};
-use crate::transactions::{Open, get};
+use crate::transactions::{Open, asked, asked_interruptible, get};
 use std::alloc::{AllocError, Global};
 use std::process::Abort;
 use std::sync::Wait;
@@ -15,7 +15,7 @@ use std::test::Fail;
 use ww_lock::{CloseFault, Done, History, OpenFault, Pass, Prepared, Receipt, Solo, World};
 use ww_plain::{By, Graph, Reply, Txn};
 use ww_queue::Kind;
-use ww_txn::{TxnFault, transact};
+use ww_txn::TxnFault;
 
 /// A graph of nodes of 7 and 9. Where a growth is refused, it is made once more.
 fn pair(alloc: Global) -> Result<Graph, AllocError> {
@@ -184,20 +184,44 @@ fn a_solo_prepares(rt: HostRuntime) -> Result<(), Fail> {
     Ok(())
 }
 
-/// Makes a transaction. Where a growth is refused, one context or solo is spent, and nothing is committed.
-fn made<R: Wait + Abort>(rt: &R, world: &World, pass: Pass, txn: Txn, again: Txn) -> (Pass, Receipt)
+/// Asks for a transaction, whose waits may be called off or not.
+fn told<R: Wait + Abort>(
+    rt: &R,
+    world: &World,
+    pass: Pass,
+    txn: Txn,
+    heeds: bool,
+) -> (Pass, Result<Receipt, TxnFault>)
     requires home { IsAtHome pass world.now }
     ensures home { IsAtHome result.0 world.now }
 {
-    assert!(rt; txn.fits(world.size()) && again.fits(world.size()));
-    let (pass, told) = transact(world, pass, rt, &Open, txn);
-    let fault = match told {
+    if heeds {
+        asked_interruptible(rt, world, pass, txn)
+    } else {
+        asked(rt, world, pass, &Open, txn)
+    }
+}
+
+/// Makes a transaction. Where a growth is refused, one context or solo is spent, and nothing is committed.
+fn made<R: Wait + Abort>(
+    rt: &R,
+    world: &World,
+    pass: Pass,
+    txn: Txn,
+    again: Txn,
+    heeds: bool,
+) -> (Pass, Receipt)
+    requires home { IsAtHome pass world.now }
+    ensures home { IsAtHome result.0 world.now }
+{
+    let (pass, told_first) = told(rt, world, pass, txn, heeds);
+    let fault = match told_first {
         Ok(receipt) => return (pass, receipt),
         Err(fault) => fault,
     };
     assert!(rt; fault == TxnFault::NoMemory && fault.number() == 6);
     assert!(rt; pass.left() == 1 && pass.commits() == 0);
-    match transact(world, pass, rt, &Open, again) {
+    match told(rt, world, pass, again, heeds) {
         (pass, Ok(receipt)) => (pass, receipt),
         (_, Err(fault)) => panic!(rt; "{fault:?}"),
     }
@@ -209,13 +233,14 @@ fn made_once<R: Wait + Abort>(
     alloc: Global,
     txn: Txn,
     again: Txn,
+    heeds: bool,
     values: &[u64],
 ) -> Result<(), Fail> {
     let (world, mut passes) = opened(rt, alloc, Kind::WoundWait, 2);
     let Some(pass) = passes.pop() else {
         return Err(Fail::from("there is a pass"));
     };
-    let (pass, told) = made(rt, &world, pass, txn, again);
+    let (pass, told) = made(rt, &world, pass, txn, again, heeds);
     assert!(rt; told.place == 0 && told.seq == 0 && tells(&told.reply, values));
     assert!(rt; pass.commits() == 1);
     passes.push(pass)?;
@@ -230,19 +255,29 @@ fn made_once<R: Wait + Abort>(
     Ok(())
 }
 
-#[test]
-fn a_transaction_is_made(rt: HostRuntime) -> Result<(), Fail> {
-    let alloc = rt.alloc();
+/// Asks for the values of both nodes.
+fn asks_once<R: Wait + Abort>(rt: &R, alloc: Global, heeds: bool) -> Result<(), Fail> {
     made_once(
-        &rt,
+        rt,
         alloc,
         asks(alloc, &[1, 0])?,
         asks(alloc, &[1, 0])?,
+        heeds,
         &[9, 7],
     )
 }
 
 #[test]
+fn a_transaction_is_made(rt: HostRuntime) -> Result<(), Fail> {
+    asks_once(&rt, rt.alloc(), false)
+}
+
+#[test]
+fn an_interruptible_transaction_is_made(rt: HostRuntime) -> Result<(), Fail> {
+    asks_once(&rt, rt.alloc(), true)
+}
+
+#[test]
 fn a_peek_is_made(rt: HostRuntime) -> Result<(), Fail> {
-    made_once(&rt, rt.alloc(), Txn::Peek(1), Txn::Peek(1), &[9])
+    made_once(&rt, rt.alloc(), Txn::Peek(1), Txn::Peek(1), false, &[9])
 }

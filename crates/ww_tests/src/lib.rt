@@ -4,6 +4,10 @@
 #![tactic(auto)]
 
 #[cfg(test)]
+mod called_off;
+#[cfg(test)]
+mod cancels;
+#[cfg(test)]
 mod growths;
 #[cfg(test)]
 mod locks;

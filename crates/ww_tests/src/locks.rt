@@ -136,7 +136,7 @@ fn tried<R: Abort>(rt: &R, world: &World, acquiring: Acquiring, n: u8, is_busy: 
 }
 
 /// Gives all locks back and ends the context.
-fn ended<R: Wait>(rt: &R, world: &World, acquiring: Acquiring) -> Pass
+pub(crate) fn ended<R: Wait>(rt: &R, world: &World, acquiring: Acquiring) -> Pass
     requires home { IsAtHome acquiring world.now }
     ensures home { IsAtHome result world.now }
 {

@@ -42,13 +42,13 @@ impl Play {
 /// What one thread shows to the other: how often it has come to where they wait for one another, and the stamp of its
 /// context.
 #[derive(Drop)]
-struct Side {
+pub(crate) struct Side {
     come: AtomicU64,
     stamp: AtomicU64,
 }
 
 impl Side {
-    fn new() -> Side {
+    pub(crate) fn new() -> Side {
         Side {
             come: AtomicU64::new(0),
             stamp: AtomicU64::new(0),
@@ -58,14 +58,18 @@ impl Side {
 
 /// A thread's own side, and the other's.
 #[derive(Clone, Copy)]
-struct Sides<'a> {
+pub(crate) struct Sides<'a> {
     own: &'a Side,
     other: &'a Side,
 }
 
-impl Sides<'_> {
+impl<'a> Sides<'a> {
+    pub(crate) const fn new(own: &'a Side, other: &'a Side) -> Sides<'a> {
+        Sides { own, other }
+    }
+
     /// Waits until the other thread has come as often as this one, and tells whether it has within 2^32 - 1 turns.
-    fn meet(&self) -> bool {
+    pub(crate) fn meet(&self) -> bool {
         let times = self.own.come.load(Ordering::SeqCst).wrapping_add(1);
         self.own.come.store(times, Ordering::SeqCst);
         for turn in 0..u32::MAX {
@@ -82,7 +86,12 @@ impl Sides<'_> {
 }
 
 /// Begins a context and locks its first node.
-fn first_locked<R: Wait>(rt: &R, world: &World, pass: Pass, first: u8) -> Result<Acquiring, Pass>
+pub(crate) fn first_locked<R: Wait>(
+    rt: &R,
+    world: &World,
+    pass: Pass,
+    first: u8,
+) -> Result<Acquiring, Pass>
     requires home { IsAtHome pass world.now }
     requires node { first < length world.now.first }
     ensures ok { IfOk result (λ a. IsAtHome a world.now) }
@@ -297,7 +306,7 @@ fn in_step<R: Threads + Wait + Abort + Sync>(
             } else {
                 (one, zero)
             };
-            rounds(rt, shared, pass, play, &Sides { own, other })
+            rounds(rt, shared, pass, play, &Sides::new(own, other))
         },
     )?;
     assert!(rt; works.len() == 2);

@@ -15,7 +15,9 @@ use std::sync::Wait;
 use std::test::Fail;
 use std::thread;
 use std::thread::Threads;
-use ww_lock::{Acquiring, Backoff, Done, History, Lock, Pass, Receipt, Solo, Try, World};
+use ww_lock::{
+    Acquiring, Backoff, Done, History, Interruptible, Lock, Pass, Receipt, Solo, Try, World,
+};
 use ww_plain::{By, Graph, Record, Txn, first_double, replays};
 use ww_queue::Kind;
 
@@ -23,30 +25,42 @@ const ROUNDS: u32 = 2_000;
 
 const NODES: usize = 16;
 
+const MAX_THREADS: usize = 16;
+
 /// The graph before all rounds.
 fn first_graph(alloc: Global) -> Result<Graph, AllocError> {
     graph_of(alloc, &[(5, None); NODES])
 }
 
 /// What a thread remembers: its random numbers, the place and the number that each receipt told, what it added to each
-/// node, and how often something went wrong.
+/// node, how often it called each thread off and was called off by each, and how often something went wrong.
 #[derive(Drop)]
 struct Memory {
     random: Pcg32,
     receipts: Vec<(u64, u64)>,
     added: [u64; NODES],
+    cancelled: [u64; MAX_THREADS],
+    interrupted: [u64; MAX_THREADS],
     faults: u32,
 }
 
-/// What a round does: the locks that it takes, each with what is added to its node; that addition; and what is done
-/// instead, if the locks serve for it.
+/// How a round asks for its locks: whether it tries for each first, and whether its calls may be called off.
+#[derive(Clone, Copy)]
+struct Asks {
+    tries: bool,
+    heeds: bool,
+}
+
+/// What a round does: the locks that it takes, each with what is added to its node; that addition; what is done instead,
+/// if the locks serve for it; and whom it calls off before.
 #[derive(Drop)]
 struct Plan {
     amounts: Vec<(u8, u64)>,
     add: Txn,
     change: Option<Txn>,
     is_alone: bool,
-    tries: bool,
+    asks: Asks,
+    victim: Option<u8>,
 }
 
 impl Memory {
@@ -55,6 +69,8 @@ impl Memory {
             random: Pcg32::new(u64::from(seed), 1),
             receipts: Vec::new(alloc),
             added: [0; NODES],
+            cancelled: [0; MAX_THREADS],
+            interrupted: [0; MAX_THREADS],
             faults: 0,
         }
     }
@@ -80,8 +96,8 @@ impl Memory {
         Ok(amounts)
     }
 
-    /// What to do next.
-    fn plan(&mut self, alloc: Global) -> Result<Plan, AllocError> {
+    /// What to do next. A third of the rounds may be called off, where any is.
+    fn plan(&mut self, alloc: Global, cancels: bool) -> Result<Plan, AllocError> {
         let mut amounts = self.draw(alloc)?;
         let is_alone = self.below(8) == 0;
         if is_alone {
@@ -92,7 +108,11 @@ impl Memory {
             change: self.change(alloc, &amounts)?,
             amounts,
             is_alone,
-            tries: self.below(4) == 0,
+            asks: Asks {
+                tries: self.below(4) == 0,
+                heeds: cancels && self.below(3) == 0,
+            },
+            victim: cancels.then(|| self.below(MAX_THREADS as u8)),
         })
     }
 
@@ -132,71 +152,116 @@ impl Memory {
     }
 }
 
-/// Takes a lock, or tries for it first. Who is told EDEADLK has to back off.
+/// Waits for a lock, and tells who called that off. Who is told EDEADLK has to back off.
+fn wait<R: Wait>(
+    rt: &R,
+    world: &World,
+    acquiring: Acquiring,
+    n: u8,
+    heeds: bool,
+) -> Result<(Acquiring, Option<u8>), Backoff>
+    requires home { IsAtHome acquiring world.now }
+    requires node { n < length world.now.first }
+    ensures home { IfOk result (λ a. IsAtHome a.0 world.now) }
+    ensures holding { IfErr result (λ b. IsAtHome b.holding world.now) }
+{
+    if !heeds {
+        return match acquiring.lock(rt, world, n) {
+            Lock::Locked(next) | Lock::Already(next) => Ok((next, None)),
+            Lock::Deadlk(backoff) => Err(backoff),
+        };
+    }
+    match acquiring.lock_interruptible(rt, world, n) {
+        Interruptible::Locked(next) | Interruptible::Already(next) => Ok((next, None)),
+        Interruptible::Interrupted(next, by) => Ok((next, Some(by))),
+        Interruptible::Deadlk(backoff) => Err(backoff),
+    }
+}
+
+/// Takes a lock, or tries for it first.
 fn take<R: Wait>(
     rt: &R,
     world: &World,
     acquiring: Acquiring,
     n: u8,
-    tries: bool,
-) -> Result<Acquiring, Backoff>
+    asks: Asks,
+) -> Result<(Acquiring, Option<u8>), Backoff>
     requires home { IsAtHome acquiring world.now }
     requires node { n < length world.now.first }
-    ensures home { IfOk result (λ a. IsAtHome a world.now) }
+    ensures home { IfOk result (λ a. IsAtHome a.0 world.now) }
     ensures holding { IfErr result (λ b. IsAtHome b.holding world.now) }
 {
     let mut acquiring = acquiring;
-    if tries {
+    if asks.tries {
         acquiring = match acquiring.try_lock(world, n) {
-            Try::Locked(next) => return Ok(next),
+            Try::Locked(next) => return Ok((next, None)),
             Try::Busy(next) => next,
         };
     }
-    match acquiring.lock(rt, world, n) {
-        Lock::Locked(next) => Ok(next),
-        Lock::Already(next) => Ok(next),
-        Lock::Deadlk(backoff) => Err(backoff),
-    }
+    wait(rt, world, acquiring, n, asks.heeds)
 }
 
-/// Takes the locks of these nodes in turn.
+/// Takes the locks of these nodes in turn, up to a call that is called off.
 fn take_in_turn<R: Wait>(
     rt: &R,
     world: &World,
     mut acquiring: Acquiring,
     amounts: &[(u8, u64)],
-    tries: bool,
-) -> Result<Acquiring, Backoff>
+    asks: Asks,
+) -> Result<(Acquiring, Option<u8>), Backoff>
     requires home { IsAtHome acquiring world.now }
-    ensures home { IfOk result (λ a. IsAtHome a world.now) }
+    ensures home { IfOk result (λ a. IsAtHome a.0 world.now) }
     ensures holding { IfErr result (λ b. IsAtHome b.holding world.now) }
 {
     for (n, _) in amounts {
         if *n < world.size() {
-            acquiring = match take(rt, world, acquiring, *n, tries) {
-                Ok(next) => next,
-                Err(backoff) => return Err(backoff),
+            acquiring = match take(rt, world, acquiring, *n, asks)? {
+                (next, None) => next,
+                (next, by) => return Ok((next, by)),
             };
         }
     }
-    Ok(acquiring)
+    Ok((acquiring, None))
 }
 
-/// Takes the locks of these nodes, by backing off and beginning again.
+/// Gives all back, and takes the lock that it couldn't get; or ends the context where that is called off.
+fn back_off<R: Wait>(
+    rt: &R,
+    world: &World,
+    backoff: Backoff,
+    heeds: bool,
+) -> Result<Acquiring, (Pass, u8)>
+    requires home { IsAtHome backoff.holding world.now }
+    ensures home { IfOk result (λ a. IsAtHome a world.now) }
+    ensures pass { IfErr result (λ e. IsAtHome e.0 world.now) }
+{
+    let contended = backoff.unlock_all(rt, world);
+    if !heeds {
+        return Ok(contended.lock_slow(rt, world));
+    }
+    match contended.lock_slow_interruptible(rt, world) {
+        Ok(acquiring) => Ok(acquiring),
+        Err((contended, by)) => Err((contended.fini(world), by)),
+    }
+}
+
+/// Takes the locks of these nodes, by backing off and beginning again; or ends the context, and tells who called it off.
 fn take_all<R: Wait>(
     rt: &R,
     world: &World,
     mut acquiring: Acquiring,
     amounts: &[(u8, u64)],
-    tries: bool,
-) -> Acquiring
+    asks: Asks,
+) -> Result<Acquiring, (Pass, u8)>
     requires home { IsAtHome acquiring world.now }
-    ensures home { IsAtHome result world.now }
+    ensures home { IfOk result (λ a. IsAtHome a world.now) }
+    ensures pass { IfErr result (λ e. IsAtHome e.0 world.now) }
 {
     for _ in rt.forever() {
-        acquiring = match take_in_turn(rt, world, acquiring, amounts, tries) {
-            Ok(all) => return all,
-            Err(backoff) => backoff.unlock_all(rt, world).lock_slow(rt, world),
+        acquiring = match take_in_turn(rt, world, acquiring, amounts, asks) {
+            Ok((all, None)) => return Ok(all),
+            Ok((some, Some(by))) => return Err((some.unlock_all(rt, world).fini(world), by)),
+            Err(backoff) => back_off(rt, world, backoff, asks.heeds)?,
         };
     }
     unreachable!()
@@ -314,31 +379,55 @@ fn round_together<R: Wait>(
         add,
         change,
         is_alone: _,
-        tries,
+        asks,
+        victim: _,
     } = plan;
-    match pass.begin(world) {
-        Ok(acquiring) => {
-            let done = take_all(rt, world, acquiring, &amounts, tries).done();
-            let (pass, receipt, is_added) = commit_one(rt, world, done, change, add);
-            if is_added {
-                memory.note(receipt, &amounts);
-            } else {
-                memory.note(receipt, &[]);
-            }
-            pass
-        }
+    let acquiring = match pass.begin(world) {
+        Ok(acquiring) => acquiring,
         Err(pass) => {
             memory.note(None, &[]);
+            return pass;
+        }
+    };
+    match take_all(rt, world, acquiring, &amounts, asks) {
+        Ok(acquiring) => {
+            let (pass, receipt, is_added) = commit_one(rt, world, acquiring.done(), change, add);
+            memory.note(receipt, if is_added { &amounts } else { &[] });
+            pass
+        }
+        Err((pass, by)) => {
+            count(&mut memory.interrupted, by);
             pass
         }
     }
 }
 
-/// One round, which is to commit once.
-fn round<R: Wait>(rt: &R, world: &World, pass: Pass, plan: Plan, memory: &mut Memory) -> Pass
+/// One more of this number.
+fn count(counts: &mut [u64; MAX_THREADS], who: u8) {
+    if let Some(times) = counts.get_mut(usize::from(who)) {
+        *times = times.saturating_add(1);
+    }
+}
+
+/// Calls somebody off, if anybody is to be.
+fn cancel(world: &World, pass: &mut Pass, victim: Option<u8>, memory: &mut Memory)
+    requires home { IsAtHome pass.old world.now }
+    ensures home { IsAtHome pass.new world.now }
+{
+    let Some(victim) = victim else {
+        return;
+    };
+    if victim < world.passes() && pass.cancel(world, victim) {
+        count(&mut memory.cancelled, victim);
+    }
+}
+
+/// One round, which is to commit once, unless it is called off.
+fn round<R: Wait>(rt: &R, world: &World, mut pass: Pass, plan: Plan, memory: &mut Memory) -> Pass
     requires home { IsAtHome pass world.now }
     ensures home { IsAtHome result world.now }
 {
+    cancel(world, &mut pass, plan.victim, memory);
     let Some((n, _)) = plan.amounts.first().copied() else {
         memory.note(None, &[]);
         return pass;
@@ -359,13 +448,13 @@ struct Work {
 }
 
 /// All rounds of a thread.
-fn all_rounds<R: Wait>(rt: &R, alloc: Global, world: &World, mut pass: Pass, rounds: u32) -> Work
+fn all_rounds<R: Wait>(rt: &R, alloc: Global, world: &World, mut pass: Pass, cancels: bool) -> Work
     requires home { IsAtHome pass world.now }
     ensures home { IsAtHome result.pass world.now }
 {
     let mut memory = Memory::new(alloc, pass.caller());
-    for _ in 0..rounds {
-        match memory.plan(alloc) {
+    for _ in 0..ROUNDS {
+        match memory.plan(alloc, cancels) {
             Ok(plan) => pass = round(rt, world, pass, plan, &mut memory),
             Err(_) => memory.note(None, &[]),
         }
@@ -411,6 +500,30 @@ fn is_part(records: &[Record], caller: u8, receipts: &[(u64, u64)]) -> bool {
     rest.next().is_none()
 }
 
+/// How often a thread was called off by another, and how often that one had set its cancel.
+fn times(memories: &[Memory], victim: usize, by: usize) -> (u64, u64) {
+    let answered = memories
+        .get(victim)
+        .and_then(|it| it.interrupted.get(by).copied());
+    let set = memories
+        .get(by)
+        .and_then(|it| it.cancelled.get(victim).copied());
+    (answered.unwrap_or(0), set.unwrap_or(0))
+}
+
+/// Whether each interruption of a thread had its cancel, and all its cancels but at most one were answered.
+fn is_balanced(memories: &[Memory], victim: usize) -> bool {
+    let mut left = 0u64;
+    for by in 0..MAX_THREADS {
+        let (answered, set) = times(memories, victim, by);
+        let Some(rest) = set.checked_sub(answered) else {
+            return false;
+        };
+        left = left.saturating_add(rest);
+    }
+    left <= 1
+}
+
 /// Asks all that is the same whatever the schedule.
 fn check<R: Abort>(
     rt: &R,
@@ -418,7 +531,7 @@ fn check<R: Abort>(
     history: &History,
     memories: &[Memory],
 ) -> Result<(), AllocError> {
-    let mut count = 0;
+    let mut commits = 0;
     let mut caller = 0u8;
     for memory in memories {
         assert_eq!(rt; memory.faults, 0, "thread {caller}");
@@ -426,10 +539,14 @@ fn check<R: Abort>(
             is_part(&history.records, caller, &memory.receipts),
             "thread {caller}"
         );
-        count = memory.receipts.len().saturating_add(count);
+        assert!(rt;
+            is_balanced(memories, usize::from(caller)),
+            "thread {caller}"
+        );
+        commits = memory.receipts.len().saturating_add(commits);
         caller = caller.wrapping_add(1);
     }
-    assert_eq!(rt; history.records.len(), count);
+    assert_eq!(rt; history.records.len(), commits);
     assert!(rt; usize::from(history.graph.size()) == NODES);
     for n in 0..NODES {
         assert_eq!(rt;
@@ -445,16 +562,16 @@ fn check<R: Abort>(
     Ok(())
 }
 
-/// So many threads at once, a pass each.
+/// So many threads at once, a pass each. They call one another off, or nobody does.
 fn storm<R: Threads + Wait + Abort + Sync>(
     rt: &R,
     alloc: Global,
     kind: Kind,
     threads: u8,
-    rounds: u32,
+    cancels: bool,
 ) -> Result<(), Fail> {
     let graph = first_graph(alloc)?;
-    let Ok((world, passes)) = World::open(alloc, kind, graph, threads, rounds) else {
+    let Ok((world, passes)) = World::open(alloc, kind, graph, threads, ROUNDS) else {
         return Err(Fail::from("it opens"));
     };
     let shared = &world;
@@ -464,7 +581,7 @@ fn storm<R: Threads + Wait + Abort + Sync>(
         &|pass: Pass| -> Work
             requires { IsAtHome pass shared.now }
             ensures { IsAtHome result.pass shared.entry.now }
-        { all_rounds(rt, alloc, shared, pass, rounds) },
+        { all_rounds(rt, alloc, shared, pass, cancels) },
     )?;
     let (passes, memories) = passes_of(&world, alloc, works)?;
     assert_eq!(rt; passes.len(), usize::from(threads));
@@ -474,30 +591,40 @@ fn storm<R: Threads + Wait + Abort + Sync>(
 
 #[test]
 fn two_threads_wound_and_wait(rt: HostRuntime) -> Result<(), Fail> {
-    storm(&rt, rt.alloc(), Kind::WoundWait, 2, ROUNDS)
+    storm(&rt, rt.alloc(), Kind::WoundWait, 2, false)
 }
 
 #[test]
 fn two_threads_wait_and_die(rt: HostRuntime) -> Result<(), Fail> {
-    storm(&rt, rt.alloc(), Kind::WaitDie, 2, ROUNDS)
+    storm(&rt, rt.alloc(), Kind::WaitDie, 2, false)
 }
 
 #[test]
 fn four_threads_wound_and_wait(rt: HostRuntime) -> Result<(), Fail> {
-    storm(&rt, rt.alloc(), Kind::WoundWait, 4, ROUNDS)
+    storm(&rt, rt.alloc(), Kind::WoundWait, 4, false)
 }
 
 #[test]
 fn four_threads_wait_and_die(rt: HostRuntime) -> Result<(), Fail> {
-    storm(&rt, rt.alloc(), Kind::WaitDie, 4, ROUNDS)
+    storm(&rt, rt.alloc(), Kind::WaitDie, 4, false)
 }
 
 #[test]
 fn sixteen_threads_wound_and_wait(rt: HostRuntime) -> Result<(), Fail> {
-    storm(&rt, rt.alloc(), Kind::WoundWait, 16, ROUNDS)
+    storm(&rt, rt.alloc(), Kind::WoundWait, 16, false)
 }
 
 #[test]
 fn sixteen_threads_wait_and_die(rt: HostRuntime) -> Result<(), Fail> {
-    storm(&rt, rt.alloc(), Kind::WaitDie, 16, ROUNDS)
+    storm(&rt, rt.alloc(), Kind::WaitDie, 16, false)
+}
+
+#[test]
+fn sixteen_threads_call_off_wound_and_wait(rt: HostRuntime) -> Result<(), Fail> {
+    storm(&rt, rt.alloc(), Kind::WoundWait, 16, true)
+}
+
+#[test]
+fn sixteen_threads_call_off_wait_and_die(rt: HostRuntime) -> Result<(), Fail> {
+    storm(&rt, rt.alloc(), Kind::WaitDie, 16, true)
 }

@@ -13,7 +13,7 @@ use std::test::Fail;
 use ww_lock::{Pass, Receipt, Try, World};
 use ww_plain::{By, Reply, Txn};
 use ww_queue::Kind;
-use ww_txn::{Gate, TxnFault, transact};
+use ww_txn::{Gate, TxnFault, transact, transact_interruptible};
 
 /// A gate that holds nobody up.
 pub(crate) struct Open;
@@ -25,7 +25,7 @@ impl Gate for Open {
 }
 
 /// Asks for a transaction.
-fn asked<R: Wait + Abort, G: Gate>(
+pub(crate) fn asked<R: Wait + Abort, G: Gate>(
     rt: &R,
     world: &World,
     pass: Pass,
@@ -37,6 +37,23 @@ fn asked<R: Wait + Abort, G: Gate>(
 {
     assert!(rt; txn.fits(world.size()));
     transact(world, pass, rt, gate, txn)
+}
+
+/// Asks for a transaction whose waits may be called off.
+pub(crate) fn asked_interruptible<R: Wait + Abort>(
+    rt: &R,
+    world: &World,
+    pass: Pass,
+    txn: Txn,
+) -> (Pass, Result<Receipt, TxnFault>)
+    requires home { IsAtHome pass world.now }
+    ensures home { IsAtHome result.0 world.now }
+{
+    assert!(rt; txn.fits(world.size()));
+    match txn {
+        Txn::Peek(_) => panic!(rt; "a peek can't be called off"),
+        txn => transact_interruptible(world, pass, rt, &Open, txn),
+    }
 }
 
 pub(crate) fn get(alloc: Global, by: By, nodes: &[u8]) -> Result<Txn, AllocError> {

@@ -14,7 +14,7 @@ use ww_plain::Txn;
 use ww_users::{UserFault, lock_list, lock_order, lock_walk};
 
 /// Gives all back, where the transaction can be made with what is held.
-fn covered<R: Wait + Abort>(rt: &R, world: &World, done: Done, txn: &Txn) -> Pass
+pub(crate) fn covered<R: Wait + Abort>(rt: &R, world: &World, done: Done, txn: &Txn) -> Pass
     requires home { IsAtHome done world.now }
     ensures home { IsAtHome result world.now }
 {
@@ -23,7 +23,11 @@ fn covered<R: Wait + Abort>(rt: &R, world: &World, done: Done, txn: &Txn) -> Pas
 }
 
 /// The pass that came back with this fault.
-fn refused<R: Abort>(rt: &R, answer: Result<Done, (Pass, UserFault)>, fault: UserFault) -> Pass
+pub(crate) fn refused<R: Abort>(
+    rt: &R,
+    answer: Result<Done, (Pass, UserFault)>,
+    fault: UserFault,
+) -> Pass
     ensures { answer ≡ Err (result, fault) }
 {
     match answer {

@@ -3,7 +3,7 @@ use Rattle.ww_rule.specs.Rule.{Sat}
 use Rattle.ww_rule.specs.Steps.{MayDraw}
 use Rattle.ww_seat.proofs.Starts.{new_settled}
 use Rattle.ww_low_tests.proofs.FirstSteps.{may_draw}
-use Rattle.ww_low_tests.proofs.rings.hold.Goals as goal
+use Rattle.ww_low_tests.proofs.rings.start.Goals as goal
 
 pub begin-stamp-requires-clause-seat : goal.begin-stamp-requires-clause-seat
 begin-stamp-requires-clause-seat g c = new_settled _ _ c.requires.new.0 c.args.seat.now c.requires.new.1 (omega (arith, c.requires.size))

@@ -1,0 +1,19 @@
+use Rattle.std.proofs.Common.{refl}
+use Rattle.ww_low_tests.specs.Looking.{just}
+use Rattle.ww_low_tests.proofs.Holding.{looks_first}
+use Rattle.ww_low_tests.proofs.called_off.called_off_then_dies.Goals as goal
+
+pub wait-requires-clause-may : goal.wait-requires-clause-may
+wait-requires-clause-may g c = (just 0, looks_first _ c.args.kind (just 0) 1 0 c.call_off.new.by (c.call_off.ensures c.args.kind (just 0) c.in_ok-board.ensures.older) refl refl)
+
+pub stop-requires-clause-may : goal.stop-requires-clause-may
+stop-requires-clause-may g c = (just 1, looks_first _ c.args.kind (just 1) 0 1 c.in_ok-board.younger c.in_ok-board.ensures.younger refl refl)
+
+pub back_off-requires-clause-may : goal.back_off-requires-clause-may
+back_off-requires-clause-may g c = (just 1, looks_first _ c.args.kind (just 1) 0 1 c.stop.new.seat (c.stop.ensures (just 1) c.in_ok-board.ensures.younger.owns) refl refl)
+
+pub untie-requires-clause-older : goal.untie-requires-clause-older
+untie-requires-clause-older g c = c.wait.ensures (just 0) (c.call_off.ensures c.args.kind (just 0) c.in_ok-board.ensures.older).owns
+
+pub untie-requires-clause-younger : goal.untie-requires-clause-younger
+untie-requires-clause-younger g c = c.back_off.ensures (just 1) (c.stop.ensures (just 1) c.in_ok-board.ensures.younger.owns).owns

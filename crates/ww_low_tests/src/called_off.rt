@@ -1,0 +1,205 @@
+//! A waiter is called off, by one thread with both seats of a board. After each call all words of the board are
+//! compared, its cancel among them.
+
+ghost use Rattle.std.specs.Prelude.{ℕ, ◌≡◌, ◌<◌, List, Bool, false, IfOk};
+ghost use Rattle.ww_queue.specs.declared.kind.Kind.{Kind};
+ghost use Rattle.ww_table.specs.Seat.{IsNew, size_of};
+ghost use Rattle.ww_low_tests.specs.Looking.{Owns, Holds, MayLook, just, none};
+
+use crate::rings::{
+    back_off, bell, compare, compare_cancelled, hold, start, tied, two_seats, untie, wait,
+};
+use crossbeam_utils::sync::Unparker;
+use std::alloc::{AllocError, Global};
+use std::process::Abort;
+use std::sync::Wait;
+use std::test::Fail;
+use ww_queue::Kind;
+use ww_seat::{Look, cancel, give, try_take, visit};
+use ww_table::{Board, Seat16};
+
+const KINDS: [Kind; 2] = [Kind::WoundWait, Kind::WaitDie];
+
+/// Begins a context that tries for lock 0, which isn't free.
+fn ask<R: Abort>(rt: &R, board: &Board, seat: &mut Seat16, kind: Kind)
+    requires size { size_of board.now ≡ 2 }
+    requires kind { board.now.table.shared.key.kind ≡ kind }
+    requires new { (k : ℕ) × IsNew board.now.table.shared.table_id board.now.table.shared.key k seat.old }
+    ensures { MayLook board.now kind none 0 false seat.new }
+{
+    start(rt, board, seat, kind, [264, 0]);
+    if try_take(seat, board, kind, 0).is_some() {
+        panic!(rt; "the lock was taken");
+    }
+}
+
+/// Seat 0 has lock 0, and seat 1 wants it and has none.
+fn asked<R: Abort>(rt: &R, alloc: Global, kind: Kind) -> Result<(Board, Seat16, Seat16), AllocError>
+    ensures size { IfOk result (λ r. size_of r.0 ≡ 2) }
+    ensures owner { IfOk result (λ r. Holds r.0 kind (just 0) r.1) }
+    ensures asking { IfOk result (λ r. MayLook r.0 kind none 0 false r.2) }
+{
+    let (board, mut owner, mut asking) = two_seats(rt, alloc, kind)?;
+    hold(rt, &board, &mut owner, kind, 0, [0, 0]);
+    ask(rt, &board, &mut asking, kind);
+    compare(rt, &board, [264, 0], 0, [2, 0]);
+    Ok((board, owner, asking))
+}
+
+/// Sets the cancel of seat 1, or finds it set.
+fn call_off<R: Abort>(rt: &R, board: &Board, by: &mut Seat16, is_pending: bool, wakers: &[Unparker])
+    requires { (k : Kind) × (o : List Bool) × Holds board.now k o by.old }
+    ensures { (k : Kind) (o : List Bool) → Holds board.now k o by.old → Holds board.now k o by.new }
+{
+    if cancel(by, board, 1, wakers) == is_pending {
+        panic!(rt; "the cancel was pending, or it wasn't");
+    }
+    assert_eq!(rt; board.peek(147), 1);
+}
+
+/// Looks at a lock, and is told who called it off.
+fn stop<R: Wait + Abort>(
+    rt: &R,
+    board: &Board,
+    seat: &mut Seat16,
+    kind: Kind,
+    lock: u8,
+    is_later: bool,
+) -> u8
+    requires may { (o : List Bool) × MayLook board.now kind o lock is_later seat.old }
+    requires lock { lock < size_of board.now }
+    ensures { (o : List Bool) → Owns board.now kind o seat.old → Holds board.now kind o seat.new }
+{
+    match visit(rt, seat, board, kind, lock, is_later, true, &[]) {
+        Look::Interrupted(by) => by,
+        Look::Locked(_) | Look::Deadlk(_) | Look::Waits => panic!(rt; "it is called off"),
+    }
+}
+
+/// Seat 1 was called off, and nobody waits: the lock is given back, and a try takes it.
+fn taken_at_once<R: Wait + Abort>(
+    rt: &R,
+    board: &Board,
+    kind: Kind,
+    owner: &mut Seat16,
+    stopped: &mut Seat16,
+)
+    requires size { size_of board.now ≡ 2 }
+    requires owner { Holds board.now kind (just 0) owner.old }
+    requires stopped { Holds board.now kind none stopped.old }
+{
+    compare(rt, board, [264, 0], 0, [2, 0]);
+    give(rt, owner, board, 0, &[]);
+    compare(rt, board, [0, 0], 0, [2, 0]);
+    if try_take(stopped, board, kind, 0).is_none() {
+        panic!(rt; "the lock was free");
+    }
+    compare(rt, board, [528, 0], 0, [2, 0]);
+}
+
+/// The cancel is set while seat 1 waits, and found pending; its next look heeds it.
+fn while_it_waits<R: Wait + Abort>(rt: &R, alloc: Global, kind: Kind) -> Result<(), AllocError> {
+    let (board, mut owner, mut asking) = asked(rt, alloc, kind)?;
+    wait(rt, &board, &mut asking, kind, 0, false, true);
+    compare(rt, &board, [265, 0], 0, [2, 0]);
+    call_off(rt, &board, &mut owner, false, &[]);
+    compare_cancelled(rt, &board, [265, 0], 0, [2, 0], 1);
+    call_off(rt, &board, &mut owner, true, &[]);
+    compare_cancelled(rt, &board, [265, 0], 0, [2, 0], 1);
+    assert_eq!(rt; stop(rt, &board, &mut asking, kind, 0, true), 0);
+    taken_at_once(rt, &board, kind, &mut owner, &mut asking);
+    Ok(())
+}
+
+#[test]
+fn a_waiter_is_called_off(rt: HostRuntime) -> Result<(), Fail> {
+    for kind in KINDS {
+        while_it_waits(&rt, rt.alloc(), kind)?;
+    }
+    Ok(())
+}
+
+/// The cancel is set before seat 1 looks.
+fn before_it_waits<R: Wait + Abort>(rt: &R, alloc: Global, kind: Kind) -> Result<(), AllocError> {
+    let (board, mut owner, mut asking) = asked(rt, alloc, kind)?;
+    call_off(rt, &board, &mut owner, false, &[]);
+    compare_cancelled(rt, &board, [264, 0], 0, [2, 0], 1);
+    assert_eq!(rt; stop(rt, &board, &mut asking, kind, 0, false), 0);
+    taken_at_once(rt, &board, kind, &mut owner, &mut asking);
+    Ok(())
+}
+
+#[test]
+fn a_cancel_is_heeded_before_the_seat_waits(rt: HostRuntime) -> Result<(), Fail> {
+    for kind in KINDS {
+        before_it_waits(&rt, rt.alloc(), kind)?;
+    }
+    Ok(())
+}
+
+/// Looks that don't heed the cancel leave it set: the second of them asks for the lock, which is taken back when the seat
+/// leaves.
+fn after_plain_looks<R: Wait + Abort>(rt: &R, alloc: Global, kind: Kind) -> Result<(), AllocError> {
+    let (board, mut owner, mut asking) = asked(rt, alloc, kind)?;
+    call_off(rt, &board, &mut owner, false, &[]);
+    wait(rt, &board, &mut asking, kind, 0, false, false);
+    compare_cancelled(rt, &board, [265, 0], 0, [2, 0], 1);
+    wait(rt, &board, &mut asking, kind, 0, true, false);
+    compare_cancelled(rt, &board, [267, 0], 0, [2, 0], 1);
+    assert_eq!(rt; stop(rt, &board, &mut asking, kind, 0, true), 0);
+    taken_at_once(rt, &board, kind, &mut owner, &mut asking);
+    Ok(())
+}
+
+#[test]
+fn a_plain_look_leaves_the_cancel(rt: HostRuntime) -> Result<(), Fail> {
+    for kind in KINDS {
+        after_plain_looks(&rt, rt.alloc(), kind)?;
+    }
+    Ok(())
+}
+
+/// The younger would have to die, and is called off: it is told so first, and keeps its sign; at its next look it dies.
+fn called_off_then_dies<R: Wait + Abort>(
+    rt: &R,
+    alloc: Global,
+    kind: Kind,
+    sign: u64,
+) -> Result<(), AllocError> {
+    let (board, mut older, mut younger) = tied(rt, alloc, kind)?;
+    call_off(rt, &board, &mut older, false, &[]);
+    wait(rt, &board, &mut older, kind, 1, false, false);
+    compare_cancelled(rt, &board, [264, 529], sign, [2, 0], 1);
+    assert_eq!(rt; stop(rt, &board, &mut younger, kind, 0, false), 0);
+    compare(rt, &board, [264, 529], sign, [2, 0]);
+    assert_eq!(rt; back_off(rt, &board, &mut younger, kind, 0, false), 1);
+    untie(rt, &board, kind, &mut older, &mut younger, sign);
+    Ok(())
+}
+
+#[test]
+fn a_wounded_context_is_called_off_first(rt: HostRuntime) -> Result<(), Fail> {
+    called_off_then_dies(&rt, rt.alloc(), Kind::WoundWait, 1)?;
+    Ok(())
+}
+
+#[test]
+fn a_younger_context_is_called_off_first(rt: HostRuntime) -> Result<(), Fail> {
+    called_off_then_dies(&rt, rt.alloc(), Kind::WaitDie, 0)?;
+    Ok(())
+}
+
+/// Whoever is called off is woken: else this would never end.
+#[test]
+fn a_cancel_wakes_the_waiter(rt: HostRuntime) -> Result<(), Fail> {
+    let kind = Kind::WoundWait;
+    let alloc = rt.alloc();
+    let (board, mut owner, mut asking) = asked(&rt, alloc, kind)?;
+    let (parker, wakers) = bell(alloc)?;
+    wait(&rt, &board, &mut asking, kind, 0, false, true);
+    call_off(&rt, &board, &mut owner, false, &wakers);
+    parker.park(&rt);
+    assert_eq!(rt; stop(&rt, &board, &mut asking, kind, 0, true), 0);
+    taken_at_once(&rt, &board, kind, &mut owner, &mut asking);
+    Ok(())
+}

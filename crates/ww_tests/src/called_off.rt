@@ -1,0 +1,295 @@
+//! Waits that are called off, by one thread: what would wait for a lock finds a cancel that was set before.
+
+ghost use Rattle.std.specs.Prelude.{◌≡◌, ◌<◌, length, Err, IfOk};
+ghost use Rattle.ww_lock.specs.Holding.{IsAtHome};
+
+use crate::locks::{begun, chain, closed, ended, locked};
+use crate::transactions::{add, asked_interruptible};
+use crate::users::{covered, refused};
+use std::alloc::{AllocError, Global};
+use std::process::Abort;
+use std::sync::Wait;
+use std::test::Fail;
+use ww_lock::{Acquiring, Backoff, Contended, Interruptible, Pass, World};
+use ww_plain::{By, Reply, Txn};
+use ww_queue::Kind;
+use ww_txn::TxnFault;
+use ww_users::{
+    UserFault, lock_list_interruptible, lock_order_interruptible, lock_walk_interruptible,
+};
+
+const KINDS: [Kind; 2] = [Kind::WoundWait, Kind::WaitDie];
+
+/// A world of three nodes in a chain, with three passes.
+pub(crate) fn three_passes(
+    alloc: Global,
+    kind: Kind,
+    budget: u32,
+) -> Result<(World, Pass, Pass, Pass), AllocError>
+    ensures { IfOk result (λ r. IsAtHome r.1 r.0 × IsAtHome r.2 r.0 × IsAtHome r.3 r.0) }
+{
+    let graph = chain(alloc, [1, 2, 3])?;
+    let Ok((world, mut passes)) = World::open(alloc, kind, graph, 3, budget) else {
+        return Err(AllocError);
+    };
+    let (Some(two), Some(one), Some(zero)) = (passes.pop(), passes.pop(), passes.pop()) else {
+        return Err(AllocError);
+    };
+    Ok((world, zero, one, two))
+}
+
+/// Sets the cancel of a caller, or finds it set.
+pub(crate) fn cancelled<R: Abort>(
+    rt: &R,
+    world: &World,
+    mut by: Pass,
+    who: u8,
+    is_pending: bool,
+) -> Pass
+    requires home { IsAtHome by world.now }
+    ensures home { IsAtHome result world.now }
+{
+    assert!(rt; who < world.passes());
+    assert!(rt; by.cancel(world, who) != is_pending);
+    by
+}
+
+/// Asks for a lock, with this error number for an answer: 0 where it is taken, 114 where the context holds it.
+fn taken<R: Wait + Abort>(rt: &R, world: &World, acquiring: Acquiring, n: u8, code: u8) -> Acquiring
+    requires home { IsAtHome acquiring world.now }
+    requires node { n < length world.now.first }
+    ensures home { IsAtHome result world.now }
+{
+    let lock = acquiring.lock_interruptible(rt, world, n);
+    assert!(rt; lock.code() == code);
+    match lock {
+        Interruptible::Locked(acquiring) | Interruptible::Already(acquiring) => acquiring,
+        Interruptible::Deadlk(_backoff) => panic!(rt; "an older context was met"),
+        Interruptible::Interrupted(_acquiring, by) => panic!(rt; "{by} called it off"),
+    }
+}
+
+/// Asks for a lock, and is called off by this caller.
+fn called_off<R: Wait + Abort>(
+    rt: &R,
+    world: &World,
+    acquiring: Acquiring,
+    n: u8,
+    by: u8,
+) -> Acquiring
+    requires home { IsAtHome acquiring world.now }
+    requires node { n < length world.now.first }
+    ensures home { IsAtHome result world.now }
+{
+    let lock = acquiring.lock_interruptible(rt, world, n);
+    assert!(rt; lock.code() == 4);
+    match lock {
+        Interruptible::Interrupted(acquiring, told) => {
+            assert!(rt; told == by && !acquiring.held(n));
+            acquiring
+        }
+        Interruptible::Deadlk(_backoff) => panic!(rt; "an older context was met"),
+        Interruptible::Locked(_acquiring) => panic!(rt; "the lock was free"),
+        Interruptible::Already(_acquiring) => panic!(rt; "the lock was held"),
+    }
+}
+
+/// Asks for a lock for which it has to back off.
+fn sent_back<R: Wait + Abort>(rt: &R, world: &World, acquiring: Acquiring, n: u8) -> Backoff
+    requires home { IsAtHome acquiring world.now }
+    requires node { n < length world.now.first }
+    ensures home { IsAtHome result.holding world.now }
+{
+    let lock = acquiring.lock_interruptible(rt, world, n);
+    assert!(rt; lock.code() == 35);
+    match lock {
+        Interruptible::Deadlk(backoff) => backoff,
+        Interruptible::Interrupted(_acquiring, by) => panic!(rt; "{by} called it off"),
+        Interruptible::Locked(_acquiring) => panic!(rt; "the lock was free"),
+        Interruptible::Already(_acquiring) => panic!(rt; "the lock was held"),
+    }
+}
+
+/// Pass 0 holds node 0, for which pass 1 would have to wait, and pass 2 calls it off. A call that meets no contention
+/// leaves the cancel set.
+fn in_a_row<R: Wait + Abort>(rt: &R, alloc: Global, kind: Kind) -> Result<(), Fail> {
+    let (world, zero, one, two) = three_passes(alloc, kind, 1)?;
+    assert!(rt; world.size() == 3 && world.passes() == 3);
+    let zero = locked(rt, &world, begun(rt, &world, zero), 0, 0);
+    let two = cancelled(rt, &world, two, 1, false);
+    let two = cancelled(rt, &world, two, 1, true);
+    let one = called_off(rt, &world, begun(rt, &world, one), 0, 2);
+    let two = cancelled(rt, &world, two, 1, false);
+    let zero = ended(rt, &world, zero);
+    let one = taken(rt, &world, one, 0, 0);
+    let one = taken(rt, &world, one, 0, 114);
+    let two = cancelled(rt, &world, two, 1, true);
+    let one = ended(rt, &world, one);
+    let history = closed(rt, world, vec![in alloc; zero, one, two]?);
+    assert!(rt; history.records.is_empty());
+    Ok(())
+}
+
+#[test]
+fn a_call_is_called_off(rt: HostRuntime) -> Result<(), Fail> {
+    for kind in KINDS {
+        in_a_row(&rt, rt.alloc(), kind)?;
+    }
+    Ok(())
+}
+
+/// Tries again for the lock that it couldn't get, and is called off by this caller.
+fn called_off_again<R: Wait + Abort>(
+    rt: &R,
+    world: &World,
+    contended: Contended,
+    by: u8,
+) -> Contended
+    requires home { IsAtHome contended.holding world.now }
+    ensures home { IsAtHome result.holding world.now }
+{
+    match contended.lock_slow_interruptible(rt, world) {
+        Ok(_acquiring) => panic!(rt; "the lock was free"),
+        Err((contended, told)) => {
+            assert!(rt; told == by);
+            contended
+        }
+    }
+}
+
+/// The younger backs off, and its slow call is called off, and made again.
+#[test]
+fn a_slow_call_is_called_off(rt: HostRuntime) -> Result<(), Fail> {
+    let (world, zero, one, two) = three_passes(rt.alloc(), Kind::WaitDie, 1)?;
+    assert!(rt; world.size() == 3);
+    let zero = locked(&rt, &world, begun(&rt, &world, zero), 0, 0);
+    let one = taken(&rt, &world, begun(&rt, &world, one), 1, 0);
+    let one = sent_back(&rt, &world, one, 0).unlock_all(&rt, &world);
+    cancelled(&rt, &world, two, 1, false);
+    let one = called_off_again(&rt, &world, one, 2);
+    ended(&rt, &world, zero);
+    let one = match one.lock_slow_interruptible(&rt, &world) {
+        Ok(one) => one,
+        Err((_contended, by)) => panic!(rt; "{by} called it off"),
+    };
+    assert!(rt; one.held(0) && !one.held(1));
+    ended(&rt, &world, one);
+    Ok(())
+}
+
+/// Each way while another holds node 1, and somebody has called it off before: it holds nothing then.
+fn ways_called_off<R: Wait + Abort>(rt: &R, world: &World, pass: Pass, two: Pass) -> (Pass, Pass)
+    requires size { length world.now.first ≡ 3 }
+    requires pass { IsAtHome pass world.now }
+    requires two { IsAtHome two world.now }
+    ensures pass { IsAtHome result.0 world.now }
+    ensures two { IsAtHome result.1 world.now }
+{
+    let fault = UserFault::Interrupted(2);
+    assert!(rt; fault.number() == 20);
+    let two = cancelled(rt, world, two, 1, false);
+    let pass = refused(
+        rt,
+        lock_list_interruptible(world, pass, rt, &[2, 1, 2]),
+        fault,
+    );
+    let two = cancelled(rt, world, two, 1, false);
+    let pass = refused(
+        rt,
+        lock_order_interruptible(world, pass, rt, &[2, 1, 2]),
+        fault,
+    );
+    let two = cancelled(rt, world, two, 1, false);
+    let pass = refused(
+        rt,
+        lock_walk_interruptible(world, pass, rt, 0, 0, 64),
+        fault,
+    );
+    (pass, two)
+}
+
+/// Each way where nobody calls it off.
+fn ways_taken<R: Wait + Abort>(rt: &R, world: &World, pass: Pass) -> Pass
+    requires size { length world.now.first ≡ 3 }
+    requires home { IsAtHome pass world.now }
+    ensures home { IsAtHome result world.now }
+{
+    let Ok(done) = lock_list_interruptible(world, pass, rt, &[2, 0]) else {
+        panic!(rt; "a list is locked")
+    };
+    let pass = covered(rt, world, done, &Txn::Move(2, 0, 1));
+    let Ok(done) = lock_order_interruptible(world, pass, rt, &[2, 0]) else {
+        panic!(rt; "a list is locked")
+    };
+    let pass = covered(rt, world, done, &Txn::Move(2, 0, 1));
+    let Ok(done) = lock_walk_interruptible(world, pass, rt, 0, 0, 64) else {
+        panic!(rt; "a walk is locked")
+    };
+    covered(rt, world, done, &Txn::Reverse(0, 0, 64))
+}
+
+/// Each way is called off, and then locks what it names, with a budget of one context for each.
+fn in_turn<R: Wait + Abort>(rt: &R, alloc: Global, kind: Kind) -> Result<(), Fail> {
+    let (world, zero, one, two) = three_passes(alloc, kind, 6)?;
+    assert!(rt; world.size() == 3);
+    let zero = locked(rt, &world, begun(rt, &world, zero), 1, 0);
+    let (one, _two) = ways_called_off(rt, &world, one, two);
+    assert!(rt; one.left() == 3);
+    let zero = ended(rt, &world, zero);
+    assert!(rt; zero.left() == 5);
+    let one = ways_taken(rt, &world, one);
+    assert!(rt; one.left() == 0 && one.commits() == 0);
+    Ok(())
+}
+
+#[test]
+fn each_way_is_called_off(rt: HostRuntime) -> Result<(), Fail> {
+    for kind in KINDS {
+        in_turn(&rt, rt.alloc(), kind)?;
+    }
+    Ok(())
+}
+
+/// A transaction that is answered this fault.
+fn faulted<R: Wait + Abort>(rt: &R, world: &World, pass: Pass, txn: Txn, fault: TxnFault) -> Pass
+    requires home { IsAtHome pass world.now }
+    ensures home { IsAtHome result world.now }
+{
+    let (pass, told) = asked_interruptible(rt, world, pass, txn);
+    assert!(rt; told.err() == Some(fault));
+    pass
+}
+
+/// A transaction while another holds node 1: of an interruption and a double, what comes first in its list is told. Then
+/// one that nobody holds up is made, and leaves the cancel set.
+fn transacted<R: Wait + Abort>(rt: &R, alloc: Global, kind: Kind) -> Result<(), Fail> {
+    let (world, zero, one, two) = three_passes(alloc, kind, 3)?;
+    assert!(rt; world.size() == 3 && TxnFault::Interrupted(2).number() == 20);
+    let double_first = add(alloc, By::List, &[(0, 1), (0, 1), (1, 1)])?;
+    let double_last = add(alloc, By::List, &[(0, 1), (1, 1), (0, 1)])?;
+    let zero = locked(rt, &world, begun(rt, &world, zero), 1, 0);
+    let two = cancelled(rt, &world, two, 1, false);
+    let one = faulted(rt, &world, one, double_first, TxnFault::Already(0));
+    let two = cancelled(rt, &world, two, 1, true);
+    let one = faulted(rt, &world, one, double_last, TxnFault::Interrupted(2));
+    let two = cancelled(rt, &world, two, 1, false);
+    let zero = ended(rt, &world, zero);
+    assert!(rt; one.left() == 1 && one.commits() == 0);
+    let txn = add(alloc, By::List, &[(0, 1), (1, 1)])?;
+    let (one, told) = asked_interruptible(rt, &world, one, txn);
+    let told = told.ok().ok_or("it is made")?;
+    assert!(rt; told.place == 0 && told.seq == 0 && told.reply == Reply::Done);
+    let two = cancelled(rt, &world, two, 1, true);
+    let history = closed(rt, world, vec![in alloc; zero, one, two]?);
+    assert!(rt; history.records.len() == 1);
+    assert!(rt; history.graph.is_same(&chain(alloc, [2, 3, 3])?));
+    Ok(())
+}
+
+#[test]
+fn a_transaction_is_called_off(rt: HostRuntime) -> Result<(), Fail> {
+    for kind in KINDS {
+        transacted(&rt, rt.alloc(), kind)?;
+    }
+    Ok(())
+}
