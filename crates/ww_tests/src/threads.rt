@@ -259,8 +259,13 @@ fn take_all<R: Wait>(
 {
     for _ in rt.forever() {
         acquiring = match take_in_turn(rt, world, acquiring, amounts, asks) {
-            Ok((all, None)) => return Ok(all),
-            Ok((some, Some(by))) => return Err((some.unlock_all(rt, world).fini(world), by)),
+            Ok(taken) => {
+                let (acquiring, by) = taken;
+                return match by {
+                    None => Ok(acquiring),
+                    Some(by) => Err((acquiring.unlock_all(rt, world).fini(world), by)),
+                };
+            }
             Err(backoff) => back_off(rt, world, backoff, asks.heeds)?,
         };
     }
