@@ -6,7 +6,6 @@
 #[cfg(test)]
 mod called_off;
 #[cfg(test)]
-mod cancels;
 #[cfg(test)]
 mod growths;
 #[cfg(test)]
