@@ -2,4 +2,5 @@ pub mod Said
 pub mod Cancels
 pub mod Outcome
 pub mod Text
+pub mod CutOff
 pub use Rattle.ww_plan.specs.Scripts

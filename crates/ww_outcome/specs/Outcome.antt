@@ -25,11 +25,13 @@ place_list (Some places) = Some places.items
 pub record Told : Type 0 where
   pub replies : List (List Said)
   pub places : Option (List (ℕ × ℕ))
+  pub ports : ℕ
   pub graph : List Node
 
 -- what these fields of an `Outcome` tell
-abbrev pub told_of : Vec (Vec ScriptAnswer) → Option (Vec (ℕ × ℕ)) → List Node → Told
-told_of replies places graph = record { replies = said_lists replies; places = place_list places; graph = graph }
+abbrev pub told_of : Vec (Vec ScriptAnswer) → Option (Vec (ℕ × ℕ)) → ℕ → List Node → Told
+told_of replies places ports graph =
+    record { replies = said_lists replies; places = place_list places; ports = ports; graph = graph }
 
 -- the record is of this transaction and this answer, and has this number
 pub record IsRecordOf (r : Recorded) (number : ℕ) (txn : Transaction) (said : Answer) : Type 0 where
@@ -78,6 +80,7 @@ pub record LeadsTo (plan : Plan) (history : List Recorded) (told : Told) : Type 
   pub callers : AllByRecursion (λ r. r.caller < length plan.scripts) history
   pub answered : AreAnswered 0 plan.scripts told.replies history
   pub places : told.places ≡ (if plan.history then Some (places_of history) else None)
+  pub ports : told.ports ≡ plan.ports
   pub graph : last_graph plan.graph history ≡ told.graph
 
 -- what is told is an outcome of the plan: one legal history explains all of it, and its cancels are balanced

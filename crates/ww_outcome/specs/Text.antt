@@ -1,5 +1,5 @@
 -- The lines of an outcome.
-use Rattle.std.specs.Prelude.{ℕ, List, [], ◌++◌, codes, decimal, true, false, Option, Some, None}
+use Rattle.std.specs.Prelude.{ℕ, List, [], ◌++◌, take, codes, decimal, true, false, Option, Some, None}
 use Rattle.std.specs.List.{flat_map}
 use Rattle.ww_plain.specs.declared.node.Node.{Node}
 use Rattle.ww_plain.specs.Meaning.{Answer, values, done, moved, short, full, was, summed, ended}
@@ -44,12 +44,17 @@ abbrev pub place_lines : Option (List (ℕ × ℕ)) → List ℕ
 place_lines None = []
 place_lines (Some places) = numbered place_line 0 places
 
--- a node with its value and its ports
-unfoldable pub node_line : ℕ → Node → List ℕ
-node_line index node =
+-- a node with its value and so many of its ports
+abbrev pub node_text : ℕ → ℕ → Node → List ℕ
+node_text ports index node =
     codes "node " ++ decimal index ++ codes " " ++ decimal node.value ++
-    flat_map spaced_or_dash node.ports ++ codes "\n"
+    flat_map spaced_or_dash (take ports node.ports)
+
+-- the line of a node
+unfoldable pub node_line : ℕ → ℕ → Node → List ℕ
+node_line ports index node = node_text ports index node ++ codes "\n"
 
 -- the answers, the places if they are told, and the graph
 unfoldable pub outcome_lines : Told → List ℕ
-outcome_lines told = numbered script_lines 0 told.replies ++ place_lines told.places ++ numbered node_line 0 told.graph
+outcome_lines told =
+    numbered script_lines 0 told.replies ++ place_lines told.places ++ numbered (node_line told.ports) 0 told.graph

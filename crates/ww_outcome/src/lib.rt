@@ -4,5 +4,5 @@
 mod outcome;
 mod text;
 
-pub use outcome::{Outcome, ScriptAnswer, cancels_are_answered_once};
+pub use outcome::{Outcome, ScriptAnswer, cancels_are_answered_once, versions_agree};
 pub use text::outcome_text;

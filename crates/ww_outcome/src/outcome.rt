@@ -1,4 +1,5 @@
 ghost use Rattle.ww_outcome.specs.Cancels.{CancelsAreAnsweredOnce};
+ghost use Rattle.ww_outcome.specs.CutOff.{VersionsAgree};
 
 use std::marker::Model;
 use ww_plain::{Graph, Reply};
@@ -17,24 +18,34 @@ pub enum ScriptAnswer {
 }
 
 /// What came of scripts: the answers of each, the (script, seq) of each place if they were asked for, and the last
-/// graph.
+/// graph, with how many ports of each of its nodes are told, as many as the version of the input has.
 #[derive(Debug, Drop)]
 pub struct Outcome {
     pub replies: Vec<Vec<ScriptAnswer>>,
     pub places: Option<Vec<(u8, u64)>>,
+    pub ports: u8,
     pub graph: Graph,
 }
 
 impl Model for Outcome {
+    ghost use Rattle.ww_plan.specs.Versions.{ArePorts};
     ghost use Rattle.ww_outcome.specs.Outcome.{Told, told_of};
 
     ghost Value = { Told };
 
-    ghost view = { λ o. told_of o.replies o.places o.graph };
+    ghost view = { λ o. told_of o.replies o.places o.ports o.graph };
+
+    ghost invariant = { λ o. ArePorts o.ports };
 }
 
 /// A law of what an outcome says of cancels: a script interrupts another at most as often as it cancelled it, and of
 /// all cancels of a script each was answered by one interruption, but for one at most, which is pending.
 pub fn cancels_are_answered_once()
     ensures { CancelsAreAnsweredOnce }
+{}
+
+/// A law over all scripts of version 1: as scripts of version 2 they have the same outcomes, and the text of each is that
+/// of version 2 with the ports cut off that version 1 lacks, which are empty.
+pub fn versions_agree()
+    ensures { VersionsAgree }
 {}

@@ -1,4 +1,4 @@
-ghost use Rattle.std.specs.Prelude.{◌≡◌, ◌++◌, map, string_bytes, OnOk, IfOk};
+ghost use Rattle.std.specs.Prelude.{◌≡◌, ◌≤◌, ◌++◌, map, string_bytes, OnOk, IfOk};
 ghost use Rattle.std.specs.List.{flat_map};
 ghost use Rattle.ww_plain.specs.Meaning.{answer_of};
 ghost use Rattle.ww_outcome.specs.Said.{said_of};
@@ -8,7 +8,7 @@ ghost use Rattle.ww_outcome.specs.Text.{answer_text, said_text, reply_line, scri
 use crate::outcome::{Outcome, ScriptAnswer};
 use std::alloc::{AllocError, Global};
 use ww_parts::{push_number, push_option};
-use ww_plain::{Graph, Node, Reply};
+use ww_plain::{Graph, Node, PORTS, Reply};
 
 fn push_values(out: &mut String, values: &[u64]) -> Result<(), AllocError>
     ensures { OnOk result (string_bytes out.new ≡ string_bytes out.old ++ flat_map spaced values.now) }
@@ -125,21 +125,24 @@ fn push_ports(out: &mut String, ports: &[Option<u8>]) -> Result<(), AllocError>
 }
 
 #[tactic(auto, unfolding(crate::specs::Text::node_line))]
-fn push_node_line(out: &mut String, index: u8, node: &Node) -> Result<(), AllocError>
-    ensures { OnOk result (string_bytes out.new ≡ string_bytes out.old ++ node_line index node.now) }
+fn push_node_line(out: &mut String, ports: u8, index: u8, node: &Node) -> Result<(), AllocError>
+    requires few { ports ≤ PORTS }
+    ensures { OnOk result (string_bytes out.new ≡ string_bytes out.old ++ node_line ports index node.now) }
 {
     push_number(out, "node ", index)?;
     push_number(out, " ", node.value)?;
-    push_ports(out, &node.ports)?;
+    push_ports(out, &node.ports[..usize::from(ports)])?;
     out.push_str("\n")
 }
 
-fn push_graph(out: &mut String, graph: &Graph) -> Result<(), AllocError>
-    ensures { OnOk result (string_bytes out.new ≡ string_bytes out.old ++ numbered node_line 0 graph.now) }
+fn push_graph(out: &mut String, ports: u8, graph: &Graph) -> Result<(), AllocError>
+    requires few { ports ≤ PORTS }
+    ensures { OnOk result (string_bytes out.new ≡ string_bytes out.old
+        ++ numbered (node_line ports) 0 graph.now) }
 {
     for index in 0..graph.size() {
         let node = graph.node(index);
-        push_node_line(out, index, &node)?;
+        push_node_line(out, ports, index, &node)?;
     }
     Ok(())
 }
@@ -154,6 +157,6 @@ pub fn outcome_text(alloc: Global, outcome: &Outcome) -> Result<Vec<u8>, AllocEr
     if let Some(places) = &outcome.places {
         push_places(&mut out, places)?;
     }
-    push_graph(&mut out, &outcome.graph)?;
+    push_graph(&mut out, outcome.ports, &outcome.graph)?;
     Ok(out.into_bytes())
 }

@@ -12,7 +12,7 @@ use std::rt::Runtime;
 use std::thread::Threads;
 use std::time::Instant;
 use std::{io, thread};
-use ww_plain::{Graph, Node};
+use ww_plain::{Graph, Node, PORTS};
 use ww_queue::Kind;
 use ww_rounds::{Tally, round_of_one};
 use ww_table::{Board, Seat16};
@@ -50,7 +50,7 @@ fn graph(alloc: Global) -> Result<Graph, AllocError>
 {
     let node = Node {
         value: 0,
-        ports: [None; 4],
+        ports: [None; PORTS],
     };
     let nodes = [node; 64].to_vec(alloc)?;
     Graph::new(nodes).ok().ok_or(AllocError)

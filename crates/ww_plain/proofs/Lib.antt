@@ -10,6 +10,7 @@ pub mod Fronts
 pub mod FootprintFacts
 pub mod Turns
 pub mod Kept
+pub mod Unused
 pub mod Frames
 pub mod Reversals
 -- histories, and what two things that say the same are

@@ -5,11 +5,11 @@ use Rattle.std.proofs.lemmas.List.{get_or-set_same}
 use Rattle.ww_plain.specs.declared.node.Node.{Node}
 use Rattle.ww_plain.specs.declared.node.TheConstants.{PORTS}
 use Rattle.ww_plain.specs.Numbers.{is_among, AreDifferent}
-use Rattle.ww_plain.specs.Graph.{IsGraph, no_node, node_at, port_of, with_port}
+use Rattle.ww_plain.specs.Graph.{HasAllPorts, IsGraph, no_node, node_at, port_of, with_port}
 use Rattle.ww_plain.specs.Transaction.{reverse, IsCourse}
 use Rattle.ww_plain.specs.Walk.{BeginsWith, stop_of, walk_of}
 use Rattle.ww_plain.specs.Meaning.{turned, graph_after}
-use Rattle.ww_plain.specs.Laws.{HaveAllPorts, IsTurned}
+use Rattle.ww_plain.specs.Laws.{IsTurned}
 use Rattle.ww_plain.proofs.Members.{different_head, different_tail}
 use Rattle.ww_plain.proofs.GraphFacts.{all_item}
 use Rattle.ww_plain.proofs.Walks.{gives_walk}
@@ -84,13 +84,13 @@ is_turned graph start p vs begins different h = record {
   other_ports = λ n q other. kept_turned (λ node. get_or node.ports q None) p (λ node target. get_or-set_other node.ports p q target None other) graph (stop_of graph p vs) vs n;
 }
 
-have_ports : (graph : List Node) (p : ℕ) (ns : List ℕ) → HaveAllPorts graph → p < PORTS → AreBelow (length graph) ns → AllByRecursion (HasPort graph p) ns
+have_ports : (graph : List Node) (p : ℕ) (ns : List ℕ) → AllByRecursion HasAllPorts graph → p < PORTS → AreBelow (length graph) ns → AllByRecursion (HasPort graph p) ns
 have_ports graph p [] ports few below = tt
 have_ports graph p (n ∷ ns) ports few below =
-    let all = all_item (λ node. length node.ports ≡ PORTS) graph n no_node below.0 ports in
+    let all = all_item HasAllPorts graph n no_node below.0 ports in
     (record { there = below.0; port = omega (arith, all, few) }, have_ports graph p ns ports few below.1)
 
-pub reverses : (graph : List Node) (start p most : ℕ) → IsGraph graph → HaveAllPorts graph → IsCourse (length graph) start p most
+pub reverses : (graph : List Node) (start p most : ℕ) → IsGraph graph → AllByRecursion HasAllPorts graph → IsCourse (length graph) start p most
     → IsTurned graph (graph_after graph (reverse start p most)) start p (walk_of graph start p most)
 reverses graph start p most is ports course =
     let walk = gives_walk graph start p most course.some in

@@ -1,7 +1,8 @@
 -- A plain graph is a list of nodes, each known by its position.
-use Rattle.std.specs.Prelude.{ℕ, ◌≡◌, ◌≤◌, ◌<◌, ◌⊎◌, List, [], length, Option, None, IfSome, IsTrue, slice_set, slice_index_or}
+use Rattle.std.specs.Prelude.{ℕ, ◌≡◌, ◌≤◌, ◌<◌, ◌⊎◌, List, [], length, drop, Option, None, IfSome, IsTrue, slice_set, slice_index_or}
 use Rattle.std.specs.List.{AllByRecursion}
 use Rattle.ww_plain.specs.declared.node.Node.{Node}
+use Rattle.ww_plain.specs.declared.node.TheConstants.{PORTS}
 use Rattle.ww_plain.specs.declared.graph.TheConstants.{MAX_NODES}
 use Rattle.ww_plain.specs.declared.graph.GraphFault.{GraphFault}
 use Rattle.ww_plain.specs.declared.graph.GraphFault.TheVariants.{BadSize, BadGraph}
@@ -33,6 +34,18 @@ with_port graph n p target =
 -- each port of the node names one of so many nodes, or none
 abbrev pub IsNodeOf : ℕ → Node → Type 0
 IsNodeOf size node = AllByRecursion (λ port. IfSome port (λ target. target < size)) node.ports
+
+-- the node has all its ports, as the type of a `Node` says
+abbrev pub HasAllPorts : Node → Type 0
+HasAllPorts node = length node.ports ≡ PORTS
+
+-- the node has all its ports, of which those from this number on are empty
+abbrev pub IsEmptyFrom : ℕ → Node → Type 0
+IsEmptyFrom used node = HasAllPorts node × AllByRecursion (λ port. port ≡ None) (drop used node.ports)
+
+-- each node is so
+abbrev pub AreEmptyFrom : ℕ → List Node → Type 0
+AreEmptyFrom used graph = AllByRecursion (IsEmptyFrom used) graph
 
 -- 1 to 64 nodes, of which each port names one that is there
 pub record IsGraph (graph : List Node) : Type 0 where

@@ -2,11 +2,10 @@
 use Rattle.std.specs.Prelude.{ℕ, ◌≡◌, ◌≢◌, ◌≤◌, ◌↔◌, ◌∷◌, ◌++◌, [], false, List, length, Some, IsTrue}
 use Rattle.std.specs.List.{AllByRecursion}
 use Rattle.ww_plain.specs.declared.node.Node.{Node}
-use Rattle.ww_plain.specs.declared.node.TheConstants.{PORTS}
 use Rattle.ww_plain.specs.Numbers.{is_among, AreDifferent}
-use Rattle.ww_plain.specs.Graph.{IsGraph, node_at, value_of, port_of, Agree}
+use Rattle.ww_plain.specs.Graph.{IsGraph, node_at, value_of, port_of, HasAllPorts, AreEmptyFrom, Agree}
 use Rattle.ww_plain.specs.Footprint.{footprint_of, Concerns}
-use Rattle.ww_plain.specs.Transaction.{Transaction, reverse, Fits}
+use Rattle.ww_plain.specs.Transaction.{Transaction, reverse, Fits, NamesBelow}
 use Rattle.ww_plain.specs.Walk.{IsWalk, walk_of, stop_of}
 use Rattle.ww_plain.specs.Meaning.{answer_to, graph_after}
 use Rattle.ww_plain.specs.History.{Recorded, IsNext, IsLegal, last_graph, part_of}
@@ -44,10 +43,6 @@ FootprintIsWhatConcerns = (graph : List Node) (txn : Transaction) → Fits (leng
     AreDifferent (footprint_of graph txn) ×
     ((n : ℕ) → IsTrue (is_among n (footprint_of graph txn)) ↔ Concerns graph txn n)
 
--- each node has its four ports, as the type of a `Node` says
-abbrev pub HaveAllPorts : List Node → Type 0
-HaveAllPorts graph = AllByRecursion (λ node. length node.ports ≡ PORTS) graph
-
 -- Port p of the walk's first node leads to where that of its last one led, port p of each other one to the node before
 -- it, and all else is as it was.
 pub record IsTurned (graph after : List Node) (start p : ℕ) (walk : List ℕ) : Type 0 where
@@ -59,9 +54,14 @@ pub record IsTurned (graph after : List Node) (start p : ℕ) (walk : List ℕ) 
 
 -- a `Reverse` turns its walk, and changes nothing else
 abbrev pub ReverseTurnsTheWalk : Type 0
-ReverseTurnsTheWalk = (graph : List Node) (start p most : ℕ) → IsGraph graph → HaveAllPorts graph →
+ReverseTurnsTheWalk = (graph : List Node) (start p most : ℕ) → IsGraph graph → AllByRecursion HasAllPorts graph →
     Fits (length graph) (reverse start p most) →
     IsTurned graph (graph_after graph (reverse start p most)) start p (walk_of graph start p most)
+
+-- where the ports from some number on are empty, a transaction that names none of them leaves them so
+abbrev pub UnusedPortsStayEmpty : Type 0
+UnusedPortsStayEmpty = (graph : List Node) (txn : Transaction) (used : ℕ) → NamesBelow used txn →
+    AreEmptyFrom used graph → AreEmptyFrom used (graph_after graph txn)
 
 -- a history in two parts is legal where the first is, and the second from where the first ends
 abbrev pub HistoryGoesOn : Type 0

@@ -49,6 +49,13 @@ Fits size (sum start port length) = IsCourse size start port length
 Fits size (reverse start port length) = IsCourse size start port length
 Fits size (peek node) = node < size
 
+-- the port that the transaction names, if it names one, is below this number
+abbrev pub NamesBelow : ℕ → Transaction → Type 0
+NamesBelow used (link node port target) = port < used
+NamesBelow used (sum start port length) = port < used
+NamesBelow used (reverse start port length) = port < used
+NamesBelow used _ = Unit {0}
+
 -- the nodes that the transaction lists, in its order
 abbrev pub listed : Transaction → List ℕ
 listed (get by nodes) = nodes

@@ -1,15 +1,15 @@
 //! Laws of the plain graph: each function's contract is one.
 
 ghost use Rattle.std.specs.Prelude.{◌≡◌};
-ghost use Rattle.ww_plain.specs.Laws.{WalkIsTheOne, TransactionKeepsGraph, OnlyFootprintChanges, OnlyFootprintMatters, FootprintIsWhatConcerns, ReverseTurnsTheWalk, HistoryGoesOn, HistoryGrows};
+ghost use Rattle.ww_plain.specs.Laws.{WalkIsTheOne, TransactionKeepsGraph, OnlyFootprintChanges, OnlyFootprintMatters, FootprintIsWhatConcerns, ReverseTurnsTheWalk, UnusedPortsStayEmpty, HistoryGoesOn, HistoryGrows};
 
 use crate::graph::MAX_NODES;
 use crate::node::PORTS;
 
-/// A graph has at most 64 nodes, and a node has 4 ports.
+/// A graph has at most 64 nodes, and a node has 8 ports.
 pub fn limits()
     ensures nodes { MAX_NODES ≡ 64 }
-    ensures ports { PORTS ≡ 4 }
+    ensures ports { PORTS ≡ 8 }
 {}
 
 /// The walk is the one list with a walk's five properties.
@@ -43,6 +43,11 @@ pub fn footprint_is_what_concerns()
 /// one to the node before it. No other port, no value and no other node changes.
 pub fn reverse_turns_the_walk()
     ensures { ReverseTurnsTheWalk }
+{}
+
+/// Where all ports from some number on are empty, a transaction that names none of them leaves them empty.
+pub fn unused_ports_stay_empty()
+    ensures { UnusedPortsStayEmpty }
 {}
 
 /// A history's every front is legal, and what comes behind it is legal from where the front ends.

@@ -1,5 +1,5 @@
 /// How many ports a node has.
-pub const PORTS: usize = 4;
+pub const PORTS: usize = 8;
 
 /// A node of a graph: a number, and for each port the node that it names, if any.
 #[derive(Clone, Copy, Debug, PartialEq, Eq)]

@@ -1,2 +1,4 @@
 pub mod Kept
+pub mod FirstPorts
+pub mod More
 pub mod Said

@@ -1,3 +1,4 @@
+pub mod Versions
 pub mod Transactions
 pub mod Acts
 pub mod Scripts

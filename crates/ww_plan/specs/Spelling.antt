@@ -1,13 +1,14 @@
 -- How an input says scripts.
-use Rattle.std.specs.Prelude.{◌≡◌, ℕ, List, [], ◌∷◌, length, map, codes, Option, Some, None}
+use Rattle.std.specs.Prelude.{ℕ, ◌==◌, List, [], ◌∷◌, map, take, codes, Option, Some, None, if◌then◌else◌}
 use Rattle.serde_json.specs.Data.{Data, null, boolean, string, object, no_members, member}
 use Rattle.ww_plain.specs.declared.node.Node.{Node}
-use Rattle.ww_plain.specs.declared.node.TheConstants.{PORTS}
 use Rattle.ww_plain.specs.declared.transaction.By.{By}
 use Rattle.ww_plain.specs.declared.transaction.By.TheVariants as by
 use Rattle.ww_plain.specs.Transaction.{Transaction, get, add, move, link, sum, reverse, peek}
 use Rattle.ww_parts.specs.Spelling.{list, whole, kind_word}
 use Rattle.ww_plan.specs.Acts.{Deed, does, interruptible, cancels}
+use Rattle.ww_plan.specs.declared.version.Version.TheVariants.{One, Two}
+use Rattle.ww_plan.specs.Versions.{ports_of, number_of}
 use Rattle.ww_plan.specs.Scripts.{Plan}
 
 -- the word for a way of taking many locks
@@ -20,10 +21,10 @@ abbrev pub target_data : Option ℕ → Data
 target_data None = null
 target_data (Some target) = whole target
 
--- a node, with its keys in order
-abbrev pub node_data : Node → Data
-node_data node =
-    object (member (codes "ports") (list (map target_data node.ports))
+-- a node of so many ports, with its keys in order
+abbrev pub node_data : ℕ → Node → Data
+node_data ports node =
+    object (member (codes "ports") (list (map target_data (take ports node.ports)))
     (member (codes "value") (whole node.value) no_members))
 
 -- a node and an amount
@@ -55,15 +56,15 @@ act_data (cancels script) = list (string (codes "cancel") ∷ whole script ∷ [
 abbrev pub script_data : List Deed → Data
 script_data script = list (map act_data script)
 
+-- the number of the version whose nodes have so many ports
+abbrev pub version_number : ℕ → ℕ
+version_number ports = number_of (if ports == ports_of One then One else Two)
+
 -- the value of an input of scripts, with the keys in the order in which an object holds them
 abbrev pub plan_data : Plan → Data
 plan_data plan =
     object (member (codes "history") (boolean plan.history)
     (member (codes "kind") (string (kind_word plan.kind))
-    (member (codes "nodes") (list (map node_data plan.graph))
+    (member (codes "nodes") (list (map (node_data plan.ports) plan.graph))
     (member (codes "scripts") (list (map script_data plan.scripts))
-    (member (codes "version") (whole 1) no_members)))))
-
--- the node has four ports
-abbrev pub HasPorts : Node → Type 0
-HasPorts node = length node.ports ≡ PORTS
+    (member (codes "version") (whole (version_number plan.ports)) no_members)))))

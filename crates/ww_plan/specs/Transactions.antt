@@ -2,11 +2,11 @@
 use Rattle.std.specs.Prelude.{ℕ, List, [], ◌∷◌, codes, bytes_eq, Option, Some, None, is_some, Result, Ok, Err, if◌then◌else◌}
 use Rattle.serde_json.specs.Data.{Data}
 use Rattle.serde_json.specs.Find.{as_null}
-use Rattle.ww_plain.specs.declared.node.TheConstants.{PORTS}
 use Rattle.ww_plain.specs.declared.graph.TheConstants.{MAX_NODES}
 use Rattle.ww_plain.specs.declared.transaction.By.{By}
 use Rattle.ww_plain.specs.declared.transaction.By.TheVariants as by
 use Rattle.ww_plain.specs.Transaction.{Transaction, get, add, move, link, sum, reverse, peek}
+use Rattle.ww_plan.specs.declared.ranges.Ranges.{Ranges}
 use Rattle.ww_parts.specs.declared.fault.InputFault.{InputFault}
 use Rattle.ww_parts.specs.declared.fault.InputFault.TheVariants.{BadWord}
 use Rattle.ww_parts.specs.Parts.{◌>>=◌, array, text, number, below, ranged, counted, each}
@@ -63,33 +63,33 @@ unfoldable pub target_in : ℕ → Data → Result (Option ℕ) InputFault
 target_in size d = if is_some (as_null d) then Ok None else (below size d >>= λ n. Ok (Some n))
 
 -- what follows the word `link`
-abbrev pub link_of : ℕ → List Data → Result Transaction InputFault
-link_of size (node ∷ port ∷ target ∷ []) = do
-  n ← below size node
-  p ← below PORTS port
-  t ← target_in size target
+abbrev pub link_of : Ranges → List Data → Result Transaction InputFault
+link_of ranges (node ∷ port ∷ target ∷ []) = do
+  n ← below ranges.nodes node
+  p ← below ranges.ports port
+  t ← target_in ranges.nodes target
   Ok (link n p t)
-link_of size _ = Err BadWord
+link_of ranges _ = Err BadWord
 
 -- where a walk starts, along which port it leads, and its greatest length
-abbrev pub course_of : ℕ → List Data → Result (ℕ × ℕ × ℕ) InputFault
-course_of size (start ∷ port ∷ length ∷ []) = do
-  s ← below size start
-  p ← below PORTS port
+abbrev pub course_of : Ranges → List Data → Result (ℕ × ℕ × ℕ) InputFault
+course_of ranges (start ∷ port ∷ length ∷ []) = do
+  s ← below ranges.nodes start
+  p ← below ranges.ports port
   n ← ranged 1 MAX_NODES length
   Ok (s, p, n)
-course_of size _ = Err BadWord
+course_of ranges _ = Err BadWord
 
 -- what follows the word `sum`
-unfoldable pub sum_of : ℕ → List Data → Result Transaction InputFault
-sum_of size members = do
-  c ← course_of size members
+unfoldable pub sum_of : Ranges → List Data → Result Transaction InputFault
+sum_of ranges members = do
+  c ← course_of ranges members
   Ok (sum c.0 c.1 c.2)
 
 -- what follows the word `reverse`
-unfoldable pub reverse_of : ℕ → List Data → Result Transaction InputFault
-reverse_of size members = do
-  c ← course_of size members
+unfoldable pub reverse_of : Ranges → List Data → Result Transaction InputFault
+reverse_of ranges members = do
+  c ← course_of ranges members
   Ok (reverse c.0 c.1 c.2)
 
 -- what follows the word `peek`
@@ -100,28 +100,28 @@ peek_of size (node ∷ []) = do
 peek_of size _ = Err BadWord
 
 -- what follows this word, of a transaction that takes locks
-abbrev pub locking_worded : ℕ → List ℕ → List Data → Result Transaction InputFault
-locking_worded size word members =
-    if bytes_eq word (codes "get") then get_of size members
-    else if bytes_eq word (codes "add") then add_of size members
-    else if bytes_eq word (codes "move") then move_of size members
-    else if bytes_eq word (codes "link") then link_of size members
-    else if bytes_eq word (codes "sum") then sum_of size members
-    else if bytes_eq word (codes "reverse") then reverse_of size members
+abbrev pub locking_worded : Ranges → List ℕ → List Data → Result Transaction InputFault
+locking_worded ranges word members =
+    if bytes_eq word (codes "get") then get_of ranges.nodes members
+    else if bytes_eq word (codes "add") then add_of ranges.nodes members
+    else if bytes_eq word (codes "move") then move_of ranges.nodes members
+    else if bytes_eq word (codes "link") then link_of ranges members
+    else if bytes_eq word (codes "sum") then sum_of ranges members
+    else if bytes_eq word (codes "reverse") then reverse_of ranges members
     else Err BadWord
 
 -- what follows this word, of any transaction
-abbrev pub transaction_worded : ℕ → List ℕ → List Data → Result Transaction InputFault
-transaction_worded size word members =
-    if bytes_eq word (codes "peek") then peek_of size members else locking_worded size word members
+abbrev pub transaction_worded : Ranges → List ℕ → List Data → Result Transaction InputFault
+transaction_worded ranges word members =
+    if bytes_eq word (codes "peek") then peek_of ranges.nodes members else locking_worded ranges word members
 
 -- a word, and then the members that it asks for
-abbrev pub locking_from : ℕ → List Data → Result Transaction InputFault
-locking_from size [] = Err BadWord
-locking_from size (first ∷ members) = do
+abbrev pub locking_from : Ranges → List Data → Result Transaction InputFault
+locking_from ranges [] = Err BadWord
+locking_from ranges (first ∷ members) = do
   word ← text first
-  locking_worded size word members
+  locking_worded ranges word members
 
 -- an array that begins with a word: a transaction that takes locks
-unfoldable pub locking_in : ℕ → Data → Result Transaction InputFault
-locking_in size d = array d >>= locking_from size
+unfoldable pub locking_in : Ranges → Data → Result Transaction InputFault
+locking_in ranges d = array d >>= locking_from ranges

@@ -5,6 +5,7 @@ ghost use Rattle.serde_json.specs.View.{view};
 ghost use Rattle.ww_parts.specs.Parts.{Gives, Says};
 ghost use Rattle.ww_plan.specs.Acts.{deed_of, cancel_of as cancel_members, interruptible_of as interruptible_members, worded, act_in};
 
+use crate::ranges::Ranges;
 use crate::transactions::{locking_of, transaction_worded};
 use serde_json::Value;
 use std::alloc::Global;
@@ -34,12 +35,12 @@ fn cancel_of(count: u8, members: &[Value]) -> Result<Act, InputFault>
     }
 }
 
-fn interruptible_of(alloc: Global, size: u8, members: &[Value]) -> Result<Act, InputFault>
-    ensures { Gives deed_of result (interruptible_members size (map view members.now)) }
+fn interruptible_of(alloc: Global, ranges: Ranges, members: &[Value]) -> Result<Act, InputFault>
+    ensures { Gives deed_of result (interruptible_members ranges (map view members.now)) }
 {
     match members {
         [transaction] => {
-            let transaction = locking_of(alloc, size, transaction)?;
+            let transaction = locking_of(alloc, ranges, transaction)?;
             Ok(Act::Interruptible(transaction))
         }
         _ => Err(InputFault::BadWord),
@@ -49,30 +50,29 @@ fn interruptible_of(alloc: Global, size: u8, members: &[Value]) -> Result<Act, I
 /// What follows this word.
 fn worded_of(
     alloc: Global,
-    size: u8,
-    count: u8,
+    ranges: Ranges,
     word: &str,
     members: &[Value],
 ) -> Result<Act, InputFault>
-    ensures { Gives deed_of result (worded size count word.now (map view members.now)) }
+    ensures { Gives deed_of result (worded ranges word.now (map view members.now)) }
 {
     match word {
-        "cancel" => cancel_of(count, members),
-        "interruptible" => interruptible_of(alloc, size, members),
+        "cancel" => cancel_of(ranges.scripts, members),
+        "interruptible" => interruptible_of(alloc, ranges, members),
         _ => {
-            let transaction = transaction_worded(alloc, size, word, members)?;
+            let transaction = transaction_worded(alloc, ranges, word, members)?;
             Ok(Act::Do(transaction))
         }
     }
 }
 
-/// An act of one of `count` scripts, on a graph of `size` nodes: a word, and then the members that it asks for.
+/// An act: a word, and then the members that it asks for.
 #[tactic(auto, unfolding(crate::specs::Acts::act_in))]
-pub(crate) fn act_of(alloc: Global, size: u8, count: u8, value: &Value) -> Result<Act, InputFault>
-    ensures { Gives deed_of result (act_in size count (view value.now)) }
+pub(crate) fn act_of(alloc: Global, ranges: Ranges, value: &Value) -> Result<Act, InputFault>
+    ensures { Gives deed_of result (act_in ranges (view value.now)) }
 {
     match array_of(value)?.as_slice() {
-        [word, members @ ..] => worded_of(alloc, size, count, text_of(word)?, members),
+        [word, members @ ..] => worded_of(alloc, ranges, text_of(word)?, members),
         [] => Err(InputFault::BadWord),
     }
 }

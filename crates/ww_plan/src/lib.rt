@@ -2,8 +2,12 @@
 #![tactic(auto)]
 
 mod acts;
+mod ranges;
 mod scripts;
 mod transactions;
+mod version;
 
 pub use acts::Act;
+pub use ranges::Ranges;
 pub use scripts::{Scripts, scripts_of};
+pub use version::Version;

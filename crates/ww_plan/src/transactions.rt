@@ -6,10 +6,11 @@ ghost use Rattle.ww_plain.specs.Transaction.{transaction_of};
 ghost use Rattle.ww_parts.specs.Parts.{Gives, Says, below, each};
 ghost use Rattle.ww_plan.specs.Transactions.{by_in, get_of as get_members, pair_in, add_of as add_members, move_of as move_members, target_in, link_of as link_members, course_of as course_members, sum_of as sum_members, reverse_of as reverse_members, peek_of as peek_members, locking_worded, transaction_worded, locking_in};
 
+use crate::ranges::Ranges;
 use serde_json::Value;
 use std::alloc::Global;
 use ww_parts::{InputFault, array_of, below_of, counted_of, number_of, ranged_of, text_of};
-use ww_plain::{By, MAX_NODES, PORTS, Txn};
+use ww_plain::{By, MAX_NODES, Txn};
 
 #[tactic(auto, unfolding(crate::specs::Transactions::by_in))]
 fn by_of(value: &Value) -> Result<By, InputFault>
@@ -113,14 +114,14 @@ fn target_of(size: u8, value: &Value) -> Result<Option<u8>, InputFault>
     Ok(Some(target))
 }
 
-fn link_of(size: u8, members: &[Value]) -> Result<Txn, InputFault>
-    ensures { Says transaction_of result (link_members size (map view members.now)) }
+fn link_of(ranges: Ranges, members: &[Value]) -> Result<Txn, InputFault>
+    ensures { Says transaction_of result (link_members ranges (map view members.now)) }
 {
     match members {
         [node, port, target] => {
-            let node = below_of(size, node)?;
-            let port = below_of(PORTS as u8, port)?;
-            let target = target_of(size, target)?;
+            let node = below_of(ranges.nodes, node)?;
+            let port = below_of(ranges.ports, port)?;
+            let target = target_of(ranges.nodes, target)?;
             Ok(Txn::Link(node, port, target))
         }
         _ => Err(InputFault::BadWord),
@@ -128,13 +129,13 @@ fn link_of(size: u8, members: &[Value]) -> Result<Txn, InputFault>
 }
 
 /// Where a walk starts, along which port it leads, and its greatest length.
-fn course_of(size: u8, members: &[Value]) -> Result<(u8, u8, u8), InputFault>
-    ensures { Says (λ course. course) result (course_members size (map view members.now)) }
+fn course_of(ranges: Ranges, members: &[Value]) -> Result<(u8, u8, u8), InputFault>
+    ensures { Says (λ course. course) result (course_members ranges (map view members.now)) }
 {
     match members {
         [start, port, length] => {
-            let start = below_of(size, start)?;
-            let port = below_of(PORTS as u8, port)?;
+            let start = below_of(ranges.nodes, start)?;
+            let port = below_of(ranges.ports, port)?;
             let length = ranged_of(1, MAX_NODES as u8, length)?;
             Ok((start, port, length))
         }
@@ -143,18 +144,18 @@ fn course_of(size: u8, members: &[Value]) -> Result<(u8, u8, u8), InputFault>
 }
 
 #[tactic(auto, unfolding(crate::specs::Transactions::sum_of))]
-fn sum_of(size: u8, members: &[Value]) -> Result<Txn, InputFault>
-    ensures { Says transaction_of result (sum_members size (map view members.now)) }
+fn sum_of(ranges: Ranges, members: &[Value]) -> Result<Txn, InputFault>
+    ensures { Says transaction_of result (sum_members ranges (map view members.now)) }
 {
-    let (start, port, length) = course_of(size, members)?;
+    let (start, port, length) = course_of(ranges, members)?;
     Ok(Txn::Sum(start, port, length))
 }
 
 #[tactic(auto, unfolding(crate::specs::Transactions::reverse_of))]
-fn reverse_of(size: u8, members: &[Value]) -> Result<Txn, InputFault>
-    ensures { Says transaction_of result (reverse_members size (map view members.now)) }
+fn reverse_of(ranges: Ranges, members: &[Value]) -> Result<Txn, InputFault>
+    ensures { Says transaction_of result (reverse_members ranges (map view members.now)) }
 {
-    let (start, port, length) = course_of(size, members)?;
+    let (start, port, length) = course_of(ranges, members)?;
     Ok(Txn::Reverse(start, port, length))
 }
 
@@ -171,16 +172,21 @@ fn peek_of(size: u8, members: &[Value]) -> Result<Txn, InputFault>
 }
 
 /// What follows this word, of a transaction that takes locks.
-fn locking_worded(alloc: Global, size: u8, word: &str, members: &[Value]) -> Result<Txn, InputFault>
-    ensures { Gives transaction_of result (locking_worded size word.now (map view members.now)) }
+fn locking_worded(
+    alloc: Global,
+    ranges: Ranges,
+    word: &str,
+    members: &[Value],
+) -> Result<Txn, InputFault>
+    ensures { Gives transaction_of result (locking_worded ranges word.now (map view members.now)) }
 {
     match word {
-        "get" => get_of(alloc, size, members),
-        "add" => add_of(alloc, size, members),
-        "move" => move_of(size, members),
-        "link" => link_of(size, members),
-        "sum" => sum_of(size, members),
-        "reverse" => reverse_of(size, members),
+        "get" => get_of(alloc, ranges.nodes, members),
+        "add" => add_of(alloc, ranges.nodes, members),
+        "move" => move_of(ranges.nodes, members),
+        "link" => link_of(ranges, members),
+        "sum" => sum_of(ranges, members),
+        "reverse" => reverse_of(ranges, members),
         _ => Err(InputFault::BadWord),
     }
 }
@@ -188,25 +194,25 @@ fn locking_worded(alloc: Global, size: u8, word: &str, members: &[Value]) -> Res
 /// What follows this word, of any transaction.
 pub(crate) fn transaction_worded(
     alloc: Global,
-    size: u8,
+    ranges: Ranges,
     word: &str,
     members: &[Value],
 ) -> Result<Txn, InputFault>
-    ensures { Gives transaction_of result (transaction_worded size word.now (map view members.now)) }
+    ensures { Gives transaction_of result (transaction_worded ranges word.now (map view members.now)) }
 {
     match word {
-        "peek" => peek_of(size, members),
-        _ => locking_worded(alloc, size, word, members),
+        "peek" => peek_of(ranges.nodes, members),
+        _ => locking_worded(alloc, ranges, word, members),
     }
 }
 
 /// A transaction that takes locks: a word, and then the members that it asks for.
 #[tactic(auto, unfolding(crate::specs::Transactions::locking_in))]
-pub(crate) fn locking_of(alloc: Global, size: u8, value: &Value) -> Result<Txn, InputFault>
-    ensures { Gives transaction_of result (locking_in size (view value.now)) }
+pub(crate) fn locking_of(alloc: Global, ranges: Ranges, value: &Value) -> Result<Txn, InputFault>
+    ensures { Gives transaction_of result (locking_in ranges (view value.now)) }
 {
     match array_of(value)?.as_slice() {
-        [word, members @ ..] => locking_worded(alloc, size, text_of(word)?, members),
+        [word, members @ ..] => locking_worded(alloc, ranges, text_of(word)?, members),
         [] => Err(InputFault::BadWord),
     }
 }

@@ -1,12 +1,14 @@
 -- A script's acts, one after another, and what its pass says of them.
-use Rattle.std.proofs.Common.{◌≡◌, ℕ, suc, ◌+◌, ◌≤◌, Bool, true, false, cond, List, [], ◌∷◌, ◌++◌, length, refl, sym, ap, subst, ◌∙◌, arith, zero-add, add-zero, append_assoc}
+use Rattle.std.proofs.Common.{◌≡◌, ℕ, suc, ◌+◌, ◌≤◌, true, false, cond, List, [], ◌∷◌, ◌++◌, length, refl, sym, ap, subst, ◌∙◌, arith, zero-add, add-zero, append_assoc}
 use Rattle.std.specs.List.{AllByRecursion}
 use Rattle.std.specs.Prelude.{◌==◌}
 use Rattle.std.proofs.lemmas.List.Sums.{sum_by-append}
 use Rattle.ww_plain.specs.Meaning.{Answer}
 use Rattle.ww_plain.specs.History.{Recorded}
 use Rattle.ww_lock.specs.Holding.{Holding, Setting, IsAtHome, by_of}
+use Rattle.ww_plain.specs.declared.node.TheConstants.{PORTS}
 use Rattle.ww_script.specs.Acts.{Deed, does, interruptible, cancels, Suits}
+use Rattle.ww_script.specs.Scripts.{ranges_of}
 use Rattle.ww_script.specs.Said.{Said, answered, already, interrupted, cancelling}
 use Rattle.ww_script.specs.Cancels.{cancelled_in, interrupters_in, times}
 use Rattle.ww_script.specs.Outcome.{IsUnrecorded, IsRecorded, IsAnswered}
@@ -147,7 +149,7 @@ pub record IsUnderWay (w : Setting) (number : ℕ) (deeds rest : List Deed) (sai
   pub home : IsAtHome s w
   pub same_caller : s.caller ≡ number
   pub budget : length rest ≤ s.left
-  pub suit : AllByRecursion (Suits (length w.first) w.passes) rest
+  pub suit : AllByRecursion (Suits (ranges_of (length w.first) PORTS w.passes)) rest
 
 pub under_way : (w : Setting) (number : ℕ) (deeds : List Deed) (s : Holding) → IsReady w number deeds s
     → IsUnderWay w number deeds deeds [] s

@@ -13,7 +13,7 @@ use Rattle.ww_lock.specs.Holding.{Holding, Setting, by_of}
 use Rattle.ww_lock.specs.Closed as lock
 use Rattle.ww_script.specs.Acts.{Deed}
 use Rattle.ww_script.specs.Said.{Said}
-use Rattle.ww_script.specs.Cancels.{cancelled_in, interrupters_in, times, cancels_of, interrupters_of, AreBalanced}
+use Rattle.ww_script.specs.Cancels.{cancelled_in, times, cancels_of, interrupters_of, AreBalanced}
 use Rattle.ww_run.specs.Workers.{HasRun}
 use Rattle.ww_run.proofs.Acts.{one_later}
 use Rattle.ww_run.proofs.Scripts.{AreWorked, length_worked}

@@ -16,8 +16,9 @@ pub outcome_of : (seen plan : Plan) (told : Told) (w : Setting) (passes : List H
     → seen ≡ plan → w.first ≡ seen.graph → w.passes ≡ length seen.scripts
     → AreWorked 0 seen.scripts told.replies passes → IsClosed w passes h → told.graph ≡ h.graph
     → told.places ≡ if◌then◌else◌ seen.history (Some (places_of (history_of h.records.items))) None
+    → told.ports ≡ seen.ports
     → IsOutcome plan told
-outcome_of seen plan told w passes h is first count all closed graph places =
+outcome_of seen plan told w passes h is first count all closed graph places ports =
     let history = history_of h.records.items in
     let cancels = are_balanced seen.scripts told.replies w passes count all closed.balanced in
     let IsOutcomeOf : Plan → Type 0 = λ p. IsOutcome p told in
@@ -28,6 +29,7 @@ outcome_of seen plan told w passes h is first count all closed graph places =
         callers = subst (λ (n : ℕ). AllByRecursion (λ r. r.caller < n) history) count closed.callers;
         answered = are_answered 0 seen.scripts told.replies passes history all closed.parts;
         places = places;
+        ports = ports;
         graph = ap (λ g. last_graph g history) (sym first) ∙ sym closed.fold ∙ sym graph;
       };
       pending = cancels.0;

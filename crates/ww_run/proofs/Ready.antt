@@ -9,18 +9,20 @@ use Rattle.ww_script.specs.Acts.{Deed, deed_of, Suits}
 use Rattle.ww_plain.proofs.GraphFacts.{all_item}
 use Rattle.ww_lock.specs.Holding.{Holding, Setting, IsAtHome}
 use Rattle.ww_lock.specs.Opened.{IsOpened}
-use Rattle.ww_script.specs.Scripts.{IsScript}
+use Rattle.ww_plan.specs.declared.ranges.Ranges.{Ranges}
+use Rattle.ww_plain.specs.declared.node.TheConstants.{PORTS}
+use Rattle.ww_script.specs.Scripts.{IsScript, ranges_of}
 use Rattle.ww_run.specs.Workers.{AreReady}
 
 abbrev lists : List (Vec Act) → List (List Deed)
 lists scripts = map (λ (acts : Vec Act). map deed_of acts.items) scripts
 
 -- no script of a plan has more than 10,000 transactions
-pub few_each : (size count : ℕ) (scripts : List (Vec Act)) → AllByRecursion (IsScript size count) (lists scripts)
+pub few_each : (ranges : Ranges) (scripts : List (Vec Act)) → AllByRecursion (IsScript ranges) (lists scripts)
     → (i : ℕ) (d : Vec Act) → i < length scripts → length (get_or scripts i d).items ≤ 10000
-few_each size count [] all i d lt = absurd (omega (arith, lt))
-few_each size count (acts ∷ scripts) all zero d lt = omega (arith, all.0.few, length-map acts.items deed_of)
-few_each size count (acts ∷ scripts) all (suc i) d lt = few_each size count scripts all.1 i d (omega (arith, lt))
+few_each ranges [] all i d lt = absurd (omega (arith, lt))
+few_each ranges (acts ∷ scripts) all zero d lt = omega (arith, all.0.few, length-map acts.items deed_of)
+few_each ranges (acts ∷ scripts) all (suc i) d lt = few_each ranges scripts all.1 i d (omega (arith, lt))
 
 -- what bounds each script bounds it as a list
 short_each : (budget : ℕ) (scripts : List (Vec Act))
@@ -40,7 +42,7 @@ same_count w scripts passes first count budget opened many = opened.count ∙ ma
 
 pub are_ready : (w : Setting) (scripts : List (Vec Act)) (passes : List Holding) (first : List Node) (count budget : ℕ)
     → IsOpened w passes first count budget → count ≡ length scripts
-    → AllByRecursion (IsScript (length first) (length (lists scripts))) (lists scripts)
+    → AllByRecursion (IsScript (ranges_of (length first) PORTS (length (lists scripts)))) (lists scripts)
     → ((i : ℕ) (d : Vec Act) → i < length scripts → length (get_or scripts i d).items ≤ budget)
     → AreReady w (lists scripts) passes
 are_ready w scripts passes first count budget opened many all each =
@@ -50,8 +52,9 @@ are_ready w scripts passes first count budget opened many all each =
       each = λ i t d lt.
           let there : i < length passes = omega (arith, lt, same, many, opened.passes_fresh.count) in
           let is = opened.passes_fresh.each i d there in
+          let ranges : ℕ → ℕ → Ranges = λ nodes count. ranges_of nodes PORTS count in
           let number = length (lists scripts) in
-          let script : IsScript (length first) number (get_or (lists scripts) i t) = all_item (IsScript (length first) number) (lists scripts) i t lt all in
+          let script : IsScript (ranges (length first) number) (get_or (lists scripts) i t) = all_item (IsScript (ranges (length first) number)) (lists scripts) i t lt all in
           record {
             home = all_item (λ s. IsAtHome s w) passes i d there opened.home;
             same_caller = ap (λ s. s.caller) is;
@@ -59,8 +62,8 @@ are_ready w scripts passes first count budget opened many all each =
             none_cancelled = ap (λ s. s.cancelled) is;
             uninterrupted = ap (λ s. s.interrupted) is;
             budget = omega (arith, short_each budget scripts each i t lt, ap (λ s. s.left) is);
-            suit = subst (λ (n : ℕ). AllByRecursion (Suits (length w.first) n) (get_or (lists scripts) i t))
+            suit = subst (λ (n : ℕ). AllByRecursion (Suits (ranges (length w.first) n)) (get_or (lists scripts) i t))
                 (sym (same_count w scripts passes first count budget opened many))
-                (subst (λ (g : List Node). AllByRecursion (Suits (length g) number) (get_or (lists scripts) i t)) (sym opened.first_graph) script.suit);
+                (subst (λ (g : List Node). AllByRecursion (Suits (ranges (length g) number)) (get_or (lists scripts) i t)) (sym opened.first_graph) script.suit);
           };
     }

@@ -8,7 +8,9 @@ use Rattle.ww_lock.specs.declared.prepared.Receipt.{Receipt}
 use Rattle.ww_txn.specs.declared.transacting.TxnFault.{TxnFault}
 use Rattle.ww_txn.specs.declared.transacting.TxnFault.TheVariants.{PassSpent, Already, Interrupted}
 use Rattle.ww_txn.specs.declared.transacting.TxnFault.TheVariants as txn
+use Rattle.ww_plain.specs.declared.node.TheConstants.{PORTS}
 use Rattle.ww_script.specs.Acts.{Deed, Suits}
+use Rattle.ww_script.specs.Scripts.{ranges_of}
 use Rattle.ww_script.specs.Said.{Said, answered, said_of}
 use Rattle.ww_script.specs.Cancels.{cancelled_in, interrupters_in, times}
 use Rattle.ww_script.specs.Outcome.{IsUnrecorded, IsRecorded, IsAnswered}
@@ -59,7 +61,7 @@ pub record IsReady (w : Setting) (number : ℕ) (deeds : List Deed) (s : Holding
   pub none_cancelled : s.cancelled ≡ []
   pub uninterrupted : s.interrupted ≡ []
   pub budget : length deeds ≤ s.left
-  pub suit : AllByRecursion (Suits (length w.first) w.passes) deeds
+  pub suit : AllByRecursion (Suits (ranges_of (length w.first) PORTS w.passes)) deeds
 
 -- The pass's own list is exactly what the acts came to that were told this, and it counts what they cancelled, and by
 -- whom they were called off.

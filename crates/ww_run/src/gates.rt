@@ -3,12 +3,13 @@
 
 use crate::run::Open;
 use crate::workers::run_scripts;
-use std::alloc::Global;
+use std::alloc::{AllocError, Global};
 use std::sync::Wait;
-use std::sync::atomic::{AtomicBool, Ordering};
+use std::sync::atomic::{AtomicBool, AtomicU64, Ordering};
 use std::test::Fail;
 use std::thread;
 use std::thread::Threads;
+use ww_parts::push_number;
 use ww_plain::{Record, Reply, Txn, replays};
 use ww_script::{Act, Input, Outcome, ScriptAnswer, Scripts, read_input};
 use ww_txn::Gate;
@@ -149,6 +150,65 @@ fn both_are_about_to_commit<R: Threads + Wait + Sync>(
 fn two_scripts_hold_their_locks_at_once(rt: HostRuntime) -> Result<(), Fail> {
     assert!(rt; both_are_about_to_commit(&rt, rt.alloc(), WOUND_WAIT)?);
     assert!(rt; both_are_about_to_commit(&rt, rt.alloc(), WAIT_DIE)?);
+    Ok(())
+}
+
+/// How many scripts there are at most.
+const SCRIPTS: u8 = 16;
+
+/// So many scripts of one add, each on a node of its own.
+fn adds_apart(alloc: Global, kind: &str) -> Result<String, AllocError> {
+    let mut text = String::new(alloc);
+    text.push_str(r#"{"version":1,"history":false,"kind":""#)?;
+    text.push_str(kind)?;
+    text.push_str(r#"","nodes":[{"value":0,"ports":[null,null,null,null]}"#)?;
+    for _ in 1..SCRIPTS {
+        text.push_str(r#",{"value":0,"ports":[null,null,null,null]}"#)?;
+    }
+    text.push_str(r#"],"scripts":[[["add","list",[[0,1]]]]"#)?;
+    for n in 1..SCRIPTS {
+        push_number(&mut text, r#",[["add","list",[["#, n)?;
+        text.push_str(",1]]]]")?;
+    }
+    text.push_str("]}")?;
+    Ok(text)
+}
+
+/// Each script commits once all are about to.
+#[derive(Drop)]
+struct Crowd {
+    come: AtomicU64,
+    is_late: AtomicBool,
+}
+
+impl Gate for Crowd {
+    fn before_commit(&self, _caller: u8, _seq: u64) {
+        self.come.fetch_add(1, Ordering::SeqCst);
+        for _ in 0..u32::MAX {
+            if self.come.load(Ordering::SeqCst) >= u64::from(SCRIPTS) {
+                return;
+            }
+            thread::yield_now();
+        }
+        self.is_late.store(true, Ordering::SeqCst);
+    }
+
+    fn answered(&self, _caller: u8, _seq: u64) {}
+}
+
+fn all_are_met<R: Threads + Wait + Sync>(rt: &R, alloc: Global, kind: &str) -> Result<bool, Fail> {
+    let gate = Crowd {
+        come: AtomicU64::new(0),
+        is_late: AtomicBool::new(false),
+    };
+    let outcome = outcome_of(rt, alloc, &adds_apart(alloc, kind)?, &gate)?;
+    Ok(!gate.is_late.load(Ordering::SeqCst) && outcome.replies.len() == usize::from(SCRIPTS))
+}
+
+#[test]
+fn sixteen_scripts_hold_their_locks_at_once(rt: HostRuntime) -> Result<(), Fail> {
+    assert!(rt; all_are_met(&rt, rt.alloc(), "wound-wait")?);
+    assert!(rt; all_are_met(&rt, rt.alloc(), "wait-die")?);
     Ok(())
 }
 

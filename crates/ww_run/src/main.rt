@@ -24,4 +24,6 @@ fn main(rt: HostRuntime) -> ExitCode {
 #[cfg(test)]
 mod gates;
 #[cfg(test)]
+mod growths;
+#[cfg(test)]
 mod tests;

@@ -1,5 +1,7 @@
 ghost use Rattle.std.specs.Prelude.{◌≢◌, ◌≤◌, length, map, IfOk};
+ghost use Rattle.ww_plain.specs.declared.node.TheConstants.{PORTS};
 ghost use Rattle.ww_script.specs.Acts.{deed_of, Suits};
+ghost use Rattle.ww_script.specs.Scripts.{ranges_of};
 ghost use Rattle.ww_lock.specs.Holding.{IsAtHome};
 ghost use Rattle.ww_script.specs.Said.{said_of};
 ghost use Rattle.ww_run.specs.Workers.{IsAnswerTo, IsAfter, IsTold, IsReady, IsWork};
@@ -55,7 +57,7 @@ fn carry_out<R: Wait, G: Gate>(
     act: Act,
 ) -> (Pass, Result<ScriptAnswer, AllocError>)
     requires home { IsAtHome pass world.now }
-    requires suits { Suits (length world.now.first) world.now.passes (deed_of act) }
+    requires suits { Suits (ranges_of (length world.now.first) PORTS world.now.passes) (deed_of act) }
     requires budget { 1 ≤ pass.left }
     ensures home { IsAtHome result.0 world.now }
     ensures after { IsAfter pass result.0 }

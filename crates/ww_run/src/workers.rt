@@ -174,6 +174,7 @@ pub fn run_scripts<R: Threads + Wait + Sync, G: Gate + Sync>(
     let Scripts {
         kind,
         history,
+        ports,
         graph,
         scripts,
     } = scripts;
@@ -192,6 +193,7 @@ pub fn run_scripts<R: Threads + Wait + Sync, G: Gate + Sync>(
     Ok(Outcome {
         replies,
         places,
+        ports,
         graph: closed.graph,
     })
 }

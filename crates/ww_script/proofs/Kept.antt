@@ -18,11 +18,11 @@ unfolding input_in
 input_kept d i e =
     let m = bind_ok (size d) _ i e in
     let v = bind_ok (version_in d) _ i m.2 in
-    either_kept IsInput (has_events d) (as_schedule m.0 d) (as_scripts m.0 d) i
+    either_kept IsInput (has_events d) (as_schedule m.0 d) (as_scripts v.0 m.0 d) i
     (λ is. let t = bind_ok (timetable_in m.0 d) (λ (t : Timetable). done (input.Schedule t)) i is in
     subst IsInput (ok_is (input.Schedule t.0) i t.2) (timetable_kept m.0 d t.0 t.1))
-    (λ is. let p = bind_ok (plan_in m.0 d) (λ (p : Plan). done (input.Scripts p)) i is in
-    subst IsInput (ok_is (input.Scripts p.0) i p.2) (plan_kept m.0 d p.0 p.1)) v.2
+    (λ is. let p = bind_ok (plan_in v.0 m.0 d) (λ (p : Plan). done (input.Scripts p)) i is in
+    subst IsInput (ok_is (input.Scripts p.0) i p.2) (plan_kept v.0 m.0 d p.0 p.1)) v.2
 
 pub reading_kept : ReadingKeepsRanges
 unfolding reading

@@ -1,6 +1,7 @@
 pub use Rattle.ww_parts.specs.Fault
 pub use Rattle.ww_parts.specs.Parts
 pub use Rattle.ww_parts.specs.Kinds
+pub use Rattle.ww_plan.specs.Versions
 pub use Rattle.ww_plan.specs.Transactions
 pub use Rattle.ww_plan.specs.Acts
 pub use Rattle.ww_plan.specs.Scripts
@@ -8,6 +9,7 @@ pub use Rattle.ww_outcome.specs.Said
 pub use Rattle.ww_outcome.specs.Cancels
 pub use Rattle.ww_outcome.specs.Outcome
 pub use Rattle.ww_outcome.specs.Text
+pub use Rattle.ww_outcome.specs.CutOff
 pub use Rattle.ww_schedule.specs.Events
 pub use Rattle.ww_schedule.specs.Schedules
 pub use Rattle.ww_schedule.specs.ScheduleText

@@ -1,5 +1,5 @@
 -- What an input says, or its first fault.
-use Rattle.std.specs.Prelude.{◌≡◌, ℕ, List, length, codes, Bool, false, nat_lt, ◌==◌, Option, Some, None, is_some, Result, Ok, Err, ok_or, if◌then◌else◌}
+use Rattle.std.specs.Prelude.{◌≡◌, ℕ, List, length, codes, Bool, nat_lt, ◌==◌, Option, Some, None, is_some, Result, Ok, Err, ok_or, if◌then◌else◌}
 use Rattle.std.specs.Str.{is_utf8}
 use Rattle.serde_json.specs.Data.{Data}
 use Rattle.serde_json.specs.Find.{get, as_number, as_u64}
@@ -9,25 +9,29 @@ use Rattle.ww_parts.specs.declared.fault.InputFault.TheVariants.{NotJson, BadVer
 use Rattle.ww_script.specs.declared.input.Input.{Input}
 use Rattle.ww_script.specs.declared.input.Input.TheVariants as input
 use Rattle.ww_parts.specs.Parts.{◌>>=◌, size, member}
+use Rattle.ww_plan.specs.declared.version.Version.{Version}
+use Rattle.ww_plan.specs.declared.version.Version.TheVariants.{One, Two}
+use Rattle.ww_plan.specs.Versions.{number_of}
 use Rattle.ww_plan.specs.Scripts.{IsPlan, plan_in}
 use Rattle.ww_schedule.specs.Schedules.{IsTimetable, timetable_in}
 
--- the number is there, and is 1
-abbrev pub is_one : Option ℕ → Bool
-is_one None = false
-is_one (Some n) = n == 1
+-- the version of this number, where there is one
+abbrev pub numbered : Option ℕ → Result Version InputFault
+numbered None = Err BadVersion
+numbered (Some n) =
+    if n == number_of One then Ok One else if n == number_of Two then Ok Two else Err BadVersion
 
--- the version is 1
-unfoldable pub version_in : Data → Result (Unit {0}) InputFault
+-- the version, which is given by its number
+unfoldable pub version_in : Data → Result Version InputFault
 version_in d = do
   version ← member (codes "version") d
   n ← ok_or (as_number version) BadType
-  if is_one (as_u64 n) then Ok tt else Err BadVersion
+  numbered (as_u64 n)
 
 -- what an object says as scripts
-abbrev pub as_scripts : ℕ → Data → Result Input InputFault
-as_scripts members d = do
-  plan ← plan_in members d
+abbrev pub as_scripts : Version → ℕ → Data → Result Input InputFault
+as_scripts version members d = do
+  plan ← plan_in version members d
   Ok (input.Scripts plan)
 
 -- what an object says as a schedule
@@ -40,12 +44,13 @@ as_schedule members d = do
 abbrev pub has_events : Data → Bool
 has_events d = is_some (get (codes "events") d)
 
--- an object: its version first, and then the rest, which is a schedule where there are events
+-- An object: its version first, and then the rest, which is a schedule where there are events. Schedules mean the same
+-- in each version.
 unfoldable pub input_in : Data → Result Input InputFault
 input_in d = do
   members ← size d
   version ← version_in d
-  if has_events d then as_schedule members d else as_scripts members d
+  if has_events d then as_schedule members d else as_scripts version members d
 
 -- the value, if the text is UTF-8 and one was found
 abbrev pub value_if : Bool → Option Data → Result Data InputFault

@@ -2,12 +2,12 @@ ghost use Rattle.std.specs.Prelude.{◌≡◌, ◌<◌, length};
 ghost use Rattle.serde_json.specs.View.{view};
 ghost use Rattle.ww_parts.specs.Parts.{Gives, Says};
 ghost use Rattle.ww_script.specs.Reading.{version_in, input_in, parsed, reading, ReadingKeepsRanges};
-ghost use Rattle.ww_script.specs.Spelling.{EachInputCanBeSaid};
+ghost use Rattle.ww_script.specs.Spelling.{EachInputCanBeSaid, EachVersion1IsCutOff};
 
 use serde_json::{Category, Value};
 use std::alloc::Global;
 use ww_parts::{InputFault, member_of, size_of};
-use ww_plan::{Scripts, scripts_of};
+use ww_plan::{Scripts, Version, scripts_of};
 use ww_schedule::{Schedule, schedule_of};
 
 /// How many bytes an input has at most.
@@ -34,17 +34,16 @@ fn value_of(alloc: Global, bytes: &[u8]) -> Result<Value, InputFault>
     }
 }
 
-/// The version is 1.
 #[tactic(auto, unfolding(crate::specs::Reading::version_in))]
-fn version_of(value: &Value) -> Result<(), InputFault>
-    ensures { Says (λ done. done) result (version_in (view value.now)) }
+fn version_of(value: &Value) -> Result<Version, InputFault>
+    ensures { Says (λ version. version) result (version_in (view value.now)) }
 {
     let version = member_of("version", value)?;
     let number = version.as_number().ok_or(InputFault::BadType)?;
-    if number.as_u64() == Some(1) {
-        Ok(())
-    } else {
-        Err(InputFault::BadVersion)
+    match number.as_u64() {
+        Some(1) => Ok(Version::One),
+        Some(2) => Ok(Version::Two),
+        _ => Err(InputFault::BadVersion),
     }
 }
 
@@ -53,12 +52,12 @@ fn input_of(alloc: Global, value: &Value) -> Result<Input, InputFault>
     ensures { Gives (λ input. input) result (input_in (view value.now)) }
 {
     let members = size_of(value)?;
-    version_of(value)?;
+    let version = version_of(value)?;
     if value.get("events").is_some() {
         let schedule = schedule_of(alloc, members, value)?;
         Ok(Input::Schedule(schedule))
     } else {
-        let scripts = scripts_of(alloc, members, value)?;
+        let scripts = scripts_of(alloc, version, members, value)?;
         Ok(Input::Scripts(scripts))
     }
 }
@@ -85,4 +84,10 @@ pub fn reading_keeps_ranges()
 /// value that is read as it. Whether its text is too long for an input is another question.
 pub fn each_input_can_be_said()
     ensures { EachInputCanBeSaid }
+{}
+
+/// A law over all inputs of scripts in version 1: the same scripts can be said in version 2, have the same outcomes there,
+/// and the text of each is that of version 2 with the ports cut off that version 1 lacks, which are empty.
+pub fn each_version_1_is_cut_off()
+    ensures { EachVersion1IsCutOff }
 {}

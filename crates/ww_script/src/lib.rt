@@ -4,8 +4,13 @@
 
 mod input;
 
-pub use input::{Input, MAX_BYTES, each_input_can_be_said, read_input, reading_keeps_ranges};
-pub use ww_outcome::{Outcome, ScriptAnswer, cancels_are_answered_once, outcome_text};
+pub use input::{
+    Input, MAX_BYTES, each_input_can_be_said, each_version_1_is_cut_off, read_input,
+    reading_keeps_ranges,
+};
+pub use ww_outcome::{
+    Outcome, ScriptAnswer, cancels_are_answered_once, outcome_text, versions_agree,
+};
 pub use ww_parts::{InputFault, refusal_line};
-pub use ww_plan::{Act, Scripts};
+pub use ww_plan::{Act, Ranges, Scripts, Version};
 pub use ww_schedule::{Schedule, a_schedule_has_one_text, schedule_text};

@@ -11,5 +11,5 @@ loop-index-preserved c =
     let node = c.node-node.result in
     let in_range : i < length graph = omega arith in
     let at = get_or_from_slice_get graph i node node c.node-node.ensures in
-    numbered_at node_line graph i node _ _ _ in_range c.loop-index.invariant
-    (c.in_ok-push_node_line.ensures ∙ ap (λ n. string_bytes c.loop-index.out ++ node_line i n) (sym at))
+    numbered_at (node_line c.args.ports) graph i node _ _ _ in_range c.loop-index.invariant
+    (c.in_ok-push_node_line.ensures ∙ ap (λ n. string_bytes c.loop-index.out ++ node_line c.args.ports i n) (sym at))

@@ -12,11 +12,11 @@ loop-item-init c = search rules
 
 pub loop-item-preserved : goal.loop-item-preserved
 loop-item-preserved c =
-    each_more_by deed_of view (act_in c.args.size c.args.count) c.args.items.now c.loop-item.item-index c.item-item.result c.loop-item.acts.items _
+    each_more_by deed_of view (act_in c.args.ranges) c.args.items.now c.loop-item.item-index c.item-item.result c.loop-item.acts.items _
     c.in_ok-act.act c.loop-item-test.true c.item-item.is c.loop-item.invariant c.in_ok-act.ensures c.in_ok-push.ensures.items
 
 pub returns-in_err-act : goal.returns-in_err-act
 returns-in_err-act c =
     let p = err_from_is_err_and c.from_residual-in_err-act.result c.from_residual-in_err-act.ensures.1 in
-    rw (p.1, p.2) (λ ne. each_stops view (act_in c.args.size c.args.count) c.args.items.now c.loop-item.item-index c.item-item.result _ _
+    rw (p.1, p.2) (λ ne. each_stops view (act_in c.args.ranges) c.args.items.now c.loop-item.item-index c.item-item.result _ _
     c.loop-item-test.true c.item-item.is c.loop-item.invariant (c.in_err-act.ensures ne))

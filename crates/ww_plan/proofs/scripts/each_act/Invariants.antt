@@ -5,4 +5,4 @@ use Rattle.ww_plan.specs.Acts.{deed_of, act_in}
 use Rattle.ww_plan.proofs.scripts.each_act.Given as goal
 
 abbrev pub invariant-loop-item : goal.invariant-loop-item
-invariant-loop-item l = each (act_in l.size l.count) (map view (take l.item-index l.items)) ≡ Ok (map deed_of l.acts.items)
+invariant-loop-item l = each (act_in l.ranges) (map view (take l.item-index l.items)) ≡ Ok (map deed_of l.acts.items)

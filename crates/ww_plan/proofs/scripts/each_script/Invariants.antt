@@ -6,4 +6,4 @@ use Rattle.ww_plan.specs.Scripts.{script_in}
 use Rattle.ww_plan.proofs.scripts.each_script.Given as goal
 
 abbrev pub invariant-loop-item : goal.invariant-loop-item
-invariant-loop-item l = each (script_in l.size l.count) (map view (take l.item-index l.items)) ≡ Ok (map (λ s. map deed_of s.items) l.scripts.items)
+invariant-loop-item l = each (script_in l.ranges) (map view (take l.item-index l.items)) ≡ Ok (map (λ s. map deed_of s.items) l.scripts.items)

@@ -2,7 +2,9 @@ use Rattle.std.proofs.Common.{◌≡◌, ℕ, ◌<◌, ◌≤◌, List, length, 
 use Rattle.std.specs.Global.{Vec}
 use Rattle.ww_plan.specs.declared.acts.Act.{Act}
 use Rattle.ww_plain.specs.History.{history_of}
-use Rattle.ww_script.specs.Scripts.{script_lists}
+use Rattle.ww_plain.specs.declared.node.TheConstants.{PORTS}
+use Rattle.ww_plan.proofs.More.{ports_few, scripts_more}
+use Rattle.ww_script.specs.Scripts.{script_lists, ranges_of}
 use Rattle.ww_script.specs.Outcome.{place_list, places_of}
 use Rattle.ww_run.proofs.Scripts.{all_worked, all_there}
 use Rattle.ww_run.proofs.Outcomes.{outcome_of}
@@ -12,13 +14,15 @@ use Rattle.ww_run.proofs.workers.run_scripts.Goals.{then-history+in_ok-places, e
 
 pub budget-budget-requires : goal.budget-budget-requires
 budget-budget-requires g c = rw c.deref.ensures.value
-    (few_each (length c.scripts.inside.graph) (length (script_lists c.scripts.inside.scripts)) c.scripts.inside.scripts.items c.scripts.invariant.each)
+    (few_each (ranges_of (length c.scripts.inside.graph) c.scripts.inside.ports (length (script_lists c.scripts.inside.scripts))) c.scripts.inside.scripts.items c.scripts.invariant.each)
 
 pub work-requires-after_bounds : goal.work-requires-after_bounds
 work-requires-after_bounds g c = λ κs within.
     let scripts = c.scripts.inside.scripts.items in
+    let each = scripts_more c.scripts.inside.ports PORTS (ports_few c.scripts.inside.ports c.scripts.invariant.version)
+    (length c.scripts.inside.graph) (length (script_lists c.scripts.inside.scripts)) (script_lists c.scripts.inside.scripts) c.scripts.invariant.each in
     are_ready c.in-Ok.world scripts c.in-Ok.passes.items c.scripts.inside.graph _ c.budget-budget.result c.in-Ok.ensures.ok
-    (grind rules) c.scripts.invariant.each
+    (grind rules) each
     (subst (λ (xs : List (Vec Act)). (i : ℕ) (d : Vec Act) → i < length xs → length (get_or xs i d).items ≤ c.budget-budget.result)
     c.deref.ensures.value c.budget-budget.ensures.each)
 
@@ -48,4 +52,4 @@ returns g c =
     outcome_of _ c.args.scripts _ c.in-Ok.world c.in_ok-passes.passes.items c.in_ok-closed.closed c.scripts.view_is
     c.in-Ok.ensures.ok.first_graph
     (same_count c.in-Ok.world c.scripts.inside.scripts.items c.in-Ok.passes.items c.scripts.inside.graph _ _ c.in-Ok.ensures.ok
-    (grind rules)) worked.0 c.in_ok-closed.ensures refl places
+    (grind rules)) worked.0 c.in_ok-closed.ensures refl places refl
