@@ -106,10 +106,10 @@ interruptible_code_of (stop.Already a) = 114
 interruptible_code_of (stop.Deadlk b) = 35
 interruptible_code_of (stop.Interrupted a by) = 4
 
--- the answer of a trylock: a held node is busy too
+-- the answer of a trylock: a held node is busy too, and of another that is the answer of one try
 abbrev pub IsTryAnswer : Holding → ℕ → Try → Type 0
 IsTryAnswer s n (try.Locked a) = IsTaken s n a
-IsTryAnswer s n (try.Busy a) = HasTried s a
+IsTryAnswer s n (try.Busy a) = HasTried s a × (is_among n s.held ≡ false → a.tries ≡ s.tries + 1)
 
 -- One record more in the own list, of this caller and of the next number, with the transaction and the answer that were
 -- prepared, in the room that was made for it. Its place, which the receipt tells, is above all before.

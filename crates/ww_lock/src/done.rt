@@ -5,7 +5,7 @@ use crate::world::World;
 use std::alloc::AllocError;
 use std::marker::Model;
 use std::sync::Wait;
-use ww_plain::Txn;
+use ww_plain::{Node, Txn};
 
 /// A context that has all its locks.
 pub struct Done {
@@ -59,11 +59,22 @@ impl Model for Empty {
 }
 
 impl Done {
-    ghost use Rattle.std.specs.Prelude.{◌≡◌, ◌↔◌, length, IsTrue, IfOk, IfErr, OnErr};
+    ghost use Rattle.std.specs.Prelude.{◌≡◌, ◌<◌, ◌↔◌, length, IsTrue, IfSome, IfOk, IfErr, OnErr};
+    ghost use Rattle.ww_plain.specs.Graph.{IsNodeOf};
     ghost use Rattle.ww_plain.specs.Transaction.{transaction_of, Fits, HasNoDouble};
-    ghost use Rattle.ww_lock.specs.Holding.{IsAtHome};
+    ghost use Rattle.ww_lock.specs.Holding.{IsAtHome, reads};
     ghost use Rattle.ww_lock.specs.Making.{Covers, IsMade, IsMadeOf};
     ghost use Rattle.ww_lock.specs.Moves.{IsCommitted, emptied};
+
+    /// The node as it was when it was locked; nothing where it isn't held. Its ports name nodes of the world, or none.
+    pub fn read(&self, world: &World, n: u8) -> Option<Node>
+        requires home { IsAtHome self.now world.now }
+        requires node { n < length world.now.first }
+        ensures contents { result ≡ reads self.now n }
+        ensures there { IfSome result (IsNodeOf (length world.now.first)) }
+    {
+        self.hand.read(n)
+    }
 
     /// Whether all that the transaction depends on and may change is held.
     pub fn covers(&self, world: &World, txn: &Txn) -> bool

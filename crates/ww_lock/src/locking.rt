@@ -50,6 +50,7 @@ impl Hand {
         ensures fresh { CarriesFresh self.new }
         ensures taken { result ≡ true → IsTaken (holding_of self.old) n (holding_of self.new) }
         ensures busy { result ≡ false → HasTried (holding_of self.old) (holding_of self.new) }
+        ensures tried { result ≡ false → (holding_of self.new).tries ≡ (holding_of self.old).tries + 1 }
         ensures unmet { met_of self.old ≡ None → met_of self.new ≡ None }
     {
         match ww_seat::try_take(&mut self.seat, &world.board, self.kind, n) {

@@ -31,6 +31,21 @@ pub(crate) const RING: [Event; 11] = [
     Event::Unguard(0, 1),
 ];
 
+/// What they are answered.
+pub(crate) const RING_ANSWERS: [Answer; 11] = [
+    Answer::Stamp(1),
+    Answer::Stamp(2),
+    Answer::Locked,
+    Answer::Locked,
+    Answer::Done,
+    Answer::Done,
+    Answer::Done,
+    Answer::Done,
+    Answer::Done,
+    Answer::Met(1),
+    Answer::Done,
+];
+
 /// The core after these events of two seats at two locks.
 pub(crate) fn replayed(alloc: Global, events: &[Event]) -> Result<Core, ReplayFault>
     ensures locks { IfOk result (λ core. (state_of core).locks ≡ 2) }
@@ -76,5 +91,24 @@ fn a_replay_ends_at_the_first_event_that_is_impossible(rt: HostRuntime) -> Resul
     assert!(rt; replayed(rt.alloc(), &events[..3]).err() == Some(ReplayFault::Impossible(2)));
     assert!(rt; replayed(rt.alloc(), &events).err() == Some(ReplayFault::Impossible(2)));
     assert!(rt; replayed(rt.alloc(), &events[..2]).is_ok());
+    Ok(())
+}
+
+/// An event that is refused leaves the core as it was: what is possible after each is possible still.
+#[test]
+fn a_core_goes_on_past_what_it_refuses(rt: HostRuntime) -> Result<(), Fail> {
+    let mut core = Core::new(rt.alloc(), Kind::WoundWait, 1, 2)?;
+    for (event, answer) in [
+        (Event::Begin(0), Some(Answer::Stamp(1))),
+        (Event::Fast(0, 0), Some(Answer::Locked)),
+        (Event::Fast(1, 0), None),
+        (Event::Commit(0), Some(Answer::Place(0))),
+        (Event::End(0), None),
+        (Event::FastGive(0, 0), Some(Answer::Done)),
+        (Event::End(0), Some(Answer::Done)),
+        (Event::Commit(0), None),
+    ] {
+        assert!(rt; core.step(event).ok() == answer);
+    }
     Ok(())
 }

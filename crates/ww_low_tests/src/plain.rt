@@ -1,13 +1,12 @@
 use std::alloc::{AllocError, Global};
 use std::test::Fail;
-use ww_plain::{By, Graph, Node, Record, Reply, Txn, footprint, replays};
+use ww_plain::{By, Graph, Node, PORTS, Record, Reply, Txn, footprint, replays};
 
 /// A node of this value, whose port 0 leads to this target.
-pub(crate) const fn node(value: u64, target: Option<u8>) -> Node {
-    Node {
-        value,
-        ports: [target, None, None, None],
-    }
+pub(crate) fn node(value: u64, target: Option<u8>) -> Node {
+    let mut ports = [None; PORTS];
+    ports[0] = target;
+    Node { value, ports }
 }
 
 /// The graph of these nodes.
@@ -59,7 +58,7 @@ fn footprints_have_the_stop_and_no_node_twice(rt: HostRuntime) -> Result<(), Fai
 #[test]
 fn what_names_nothing_does_not_fit(rt: HostRuntime) -> Result<(), Fail> {
     assert!(rt; !Txn::Sum(0, 0, 1).fits(0));
-    assert!(rt; !Txn::Reverse(0, 4, 1).fits(3));
+    assert!(rt; !Txn::Reverse(0, PORTS as u8, 1).fits(3));
     assert!(rt; !Txn::Reverse(0, 0, 65).fits(3));
     assert!(rt; !adds(rt.alloc(), &[])?.fits(3));
     Ok(())

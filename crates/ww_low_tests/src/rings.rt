@@ -195,8 +195,28 @@ pub(crate) fn tied<R: Abort>(
     Ok((board, older, younger))
 }
 
-/// The younger, which has backed off, gives its lock back; the older takes it; and the younger ends, with its sign or
-/// none.
+/// The younger, which has backed off, gives its lock back, and the older takes it.
+fn hand_back<R: Wait + Abort>(
+    rt: &R,
+    board: &Board,
+    kind: Kind,
+    older: &mut Seat16,
+    younger: &mut Seat16,
+    sign: u64,
+)
+    requires size { size_of board.now ≡ 2 }
+    requires older { MayLook board.now kind (just 0) 1 true older.old }
+    requires younger { Holds board.now kind (just 1) younger.old }
+    ensures { Holds board.now kind none younger.new }
+{
+    compare(rt, board, [264, 529], sign, [2, 0]);
+    give(rt, younger, board, 1, &[]);
+    compare(rt, board, [264, 1], sign, [2, 0]);
+    take(rt, board, older, kind, 1);
+    compare(rt, board, [264, 264], sign, [2, 0]);
+}
+
+/// ... and the younger ends, with its sign or none.
 pub(crate) fn untie<R: Wait + Abort>(
     rt: &R,
     board: &Board,
@@ -209,12 +229,20 @@ pub(crate) fn untie<R: Wait + Abort>(
     requires older { MayLook board.now kind (just 0) 1 true older.old }
     requires younger { Holds board.now kind (just 1) younger.old }
 {
-    compare(rt, board, [264, 529], sign, [2, 0]);
-    give(rt, younger, board, 1, &[]);
-    compare(rt, board, [264, 1], sign, [2, 0]);
-    take(rt, board, older, kind, 1);
-    compare(rt, board, [264, 264], sign, [2, 0]);
+    hand_back(rt, board, kind, older, younger, sign);
     end(younger, board);
+    compare(rt, board, [264, 264], 0, [2, 0]);
+}
+
+/// A seat that holds nothing takes its sign back, and ends with none.
+fn clear_and_end<R: Abort>(rt: &R, board: &Board, seat: &mut Seat16, kind: Kind)
+    requires holds { Holds board.now kind none seat.old }
+{
+    seat.clear(board);
+    compare(rt, board, [264, 264], 0, [2, 0]);
+    if !seat.end(board) {
+        panic!(rt; "its sign was taken back");
+    }
     compare(rt, board, [264, 264], 0, [2, 0]);
 }
 
@@ -244,7 +272,8 @@ fn a_ring_is_undone_by_a_sign(rt: HostRuntime) -> Result<(), Fail> {
     compare(&rt, &board, [265, 529], 1, [2, 0]);
     let met = back_off(&rt, &board, &mut younger, kind, 0, true);
     assert_eq!(rt; met, 1);
-    untie(&rt, &board, kind, &mut older, &mut younger, 1);
+    hand_back(&rt, &board, kind, &mut older, &mut younger, 1);
+    clear_and_end(&rt, &board, &mut younger, kind);
     Ok(())
 }
 

@@ -20,7 +20,8 @@ pub record LeadsBy (Allowed : State → Event → Type 0) (c : State) (P : State
   pub run : IsRun c events
   pub there : P (state_after c events)
 
--- every lock is free, nobody waits or is inside a guard, and no seat has a context or a sign; a cancel may be pending
+-- every lock is free, nobody waits or is inside a guard, and no seat has a context, a sign or a cancel that it has
+-- heeded; a cancel may be pending
 pub record IsEmptied (c : State) : Type 0 where
   pub owner : (n : ℕ) → c.owner n ≡ Nobody
   pub queue : (n : ℕ) → c.queue n ≡ []

@@ -9,7 +9,7 @@ ghost use Rattle.ww_rule.specs.Out.{slot_of};
 ghost use Rattle.ww_rounds.specs.Standing.{Deeds, Did, resting, count_of, began, took, gave, committed, ended, at_rest, CanTake, HasRaised, HasRounded};
 
 use std::alloc::{AllocError, Global};
-use ww_plain::{By, Node, Record, Reply, Txn};
+use ww_plain::{By, Node, PORTS, Record, Reply, Txn};
 use ww_table::{Board, Seat16};
 
 /// How far a seat is: its number, how often it started a context, and how many commits it made.
@@ -73,7 +73,7 @@ pub(crate) fn raise(board: &Board, seat: &mut Seat16, node: u8)
 {
     let none = Node {
         value: 0,
-        ports: [None; 4],
+        ports: [None; PORTS],
     };
     let old = seat.swap_node(board, node, none);
     let value = old.value.wrapping_add(1);

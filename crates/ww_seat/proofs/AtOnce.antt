@@ -1,17 +1,16 @@
 -- A lock taken at once, by a seat that may have taken its sign back just before.
-use Rattle.std.proofs.Common.{◌≡◌, ℕ, ◌+◌, ◌<◌, Bool, true, false, List, ◌∷◌, length, get_or, refl, sym, ap, ◌∙◌, subst, arith, ltb, ⊎_elim, inl, inr, true≢false}
+use Rattle.std.proofs.Common.{◌≡◌, ℕ, ◌+◌, ◌<◌, Bool, true, false, List, ◌∷◌, length, get_or, sym, ap, ◌∙◌, subst, arith, ltb, ⊎_elim, inl, inr, true≢false}
 use Rattle.std.proofs.lemmas.Bool.{ltb-true}
 use Rattle.std.proofs.lemmas.Bool.Decides.{leb_tells}
 use Rattle.ww_plain.specs.declared.node.Node.{Node}
 use Rattle.ww_plain.specs.Graph.{IsNodeOf}
-use Rattle.ww_view.specs.declared.view.View.{View}
 use Rattle.ww_view.specs.View.{owns, IsBare}
 use Rattle.ww_view.specs.May.{WantsSigns}
 use Rattle.ww_rule.specs.declared.cells.Cell.{Cell}
 use Rattle.ww_rule.specs.declared.cells.Cell.TheVariants.{Content}
 use Rattle.ww_rule.specs.Rule.{Sat}
 use Rattle.ww_rule.specs.Out.{AreOthers, slot_of}
-use Rattle.ww_rule.specs.Steps.{knowing, taking}
+use Rattle.ww_rule.specs.Steps.{taking}
 use Rattle.ww_seat.specs.Orderly.{IsOrderly}
 use Rattle.ww_seat.specs.Calls.{HoldsAsBefore, HasTaken}
 use Rattle.ww_seat.proofs.Slots.{slot_here, same_cell, others_had}

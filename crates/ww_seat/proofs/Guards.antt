@@ -13,7 +13,7 @@ use Rattle.ww_rule.specs.Rule.{Sat}
 use Rattle.ww_rule.specs.Out.{slot_of, AreOthers}
 use Rattle.ww_view.specs.May.{MayEnter}
 use Rattle.ww_rule.specs.Guards.{StandsAs, lost, entering, exiting}
-use Rattle.ww_seat.specs.Orderly.{AreApart, IsOrderly}
+use Rattle.ww_seat.specs.Orderly.{IsOrderly}
 use Rattle.ww_seat.proofs.Slots.{slot_here, slot_else, others_gone, others_else, others_apart, front_apart, front_else}
 use Rattle.ww_seat.proofs.Outside.{owns_here, owns_else}
 

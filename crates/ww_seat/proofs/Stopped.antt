@@ -1,5 +1,5 @@
 -- A seat that heeds its cancel, and leaves the wait list for it.
-use Rattle.std.proofs.Common.{◌≡◌, ◌≢◌, ℕ, suc, ◌+◌, ◌-◌, Bool, true, false, List, ◌∷◌, refl, sym, ap, ◌∙◌, subst, arith, Option, Some, None, IfSome, IfNone}
+use Rattle.std.proofs.Common.{◌≡◌, ◌≢◌, ℕ, ◌+◌, ◌-◌, Bool, true, false, List, ◌∷◌, refl, sym, ap, ◌∙◌, subst, arith, Some, None}
 use Rattle.ww_word.specs.declared.owner.Owner.{Owner}
 use Rattle.ww_view.specs.May.{MayHeed, MayStop}
 use Rattle.ww_view.specs.Made.{interrupted, has_heeded}
@@ -16,7 +16,7 @@ use Rattle.ww_seat.specs.declared.look.Look.TheVariants.{Interrupted}
 use Rattle.ww_seat.specs.Orderly.{IsOrderly}
 use Rattle.ww_seat.specs.Calls.{HasStopped}
 use Rattle.ww_seat.specs.Looks.{IsLook}
-use Rattle.ww_seat.specs.Work.{touched, IsTouched, IsWorking, IsAtWork, SeesOther, MayGo, GoesOn}
+use Rattle.ww_seat.specs.Work.{IsTouched, IsWorking, IsAtWork, SeesOther, MayGo, GoesOn}
 use Rattle.ww_seat.proofs.Guards.{listed_orderly}
 use Rattle.ww_seat.proofs.Outside.{orderly_still, orderly_knowing}
 use Rattle.ww_seat.proofs.Stood.{gone_goes}

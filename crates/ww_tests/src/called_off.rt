@@ -3,7 +3,7 @@
 ghost use Rattle.std.specs.Prelude.{◌≡◌, ◌<◌, length, Err, IfOk};
 ghost use Rattle.ww_lock.specs.Holding.{IsAtHome};
 
-use crate::locks::{begun, chain, closed, ended, locked};
+use crate::locks::{KINDS, begun, chain, closed, ended, locked};
 use crate::transactions::{add, asked_interruptible};
 use crate::users::{covered, refused};
 use std::alloc::{AllocError, Global};
@@ -17,8 +17,6 @@ use ww_txn::TxnFault;
 use ww_users::{
     UserFault, lock_list_interruptible, lock_order_interruptible, lock_walk_interruptible,
 };
-
-const KINDS: [Kind; 2] = [Kind::WoundWait, Kind::WaitDie];
 
 /// A world of three nodes in a chain, with three passes.
 pub(crate) fn three_passes(

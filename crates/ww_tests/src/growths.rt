@@ -2,57 +2,68 @@
 //! call, made once more, gives its answer. With all the memory that they want these tests show that the calls succeed;
 //! `bench/refuse_library_growths` refuses each growth of each of them in turn.
 
-ghost use Rattle.std.specs.Prelude.{◌<◌, length};
+ghost use Rattle.std.specs.Prelude.{IfOk};
 ghost use Rattle.ww_lock.specs.Holding.{IsAtHome, AreAtHome};
 
-use crate::locks::{begun, graph_of, locked};
+use crate::locks::{KINDS, begun, full_graph, graph_of, locked};
 use crate::threads::{is_possible, is_possible_alone};
-use crate::transactions::{Open, asked, asked_interruptible, get};
+use crate::transactions::{Open, add, asked, asked_interruptible, get, values};
 use std::alloc::{AllocError, Global};
 use std::process::Abort;
 use std::sync::Wait;
 use std::test::Fail;
 use ww_lock::{CloseFault, Done, History, OpenFault, Pass, Prepared, Receipt, Solo, World};
-use ww_plain::{By, Graph, Reply, Txn};
+use ww_plain::{By, Graph, Reply, Txn, replays};
 use ww_queue::Kind;
 use ww_txn::TxnFault;
 
-/// A graph of nodes of 7 and 9. Where a growth is refused, it is made once more.
-fn pair(alloc: Global) -> Result<Graph, AllocError> {
-    let nodes = [(7, None), (9, None)];
-    graph_of(alloc, &nodes).or_else(|_| graph_of(alloc, &nodes))
+/// A graph of nodes with these values. Where a growth is refused, it is made once more.
+fn nodes_of(alloc: Global, nodes: &[(u64, Option<u8>)]) -> Result<Graph, AllocError> {
+    graph_of(alloc, nodes).or_else(|_| graph_of(alloc, nodes))
 }
 
-fn is_pair(graph: &Graph) -> bool {
-    graph.size() == 2 && graph.node(0).value == 7 && graph.node(1).value == 9
+/// The same graph, in the same way.
+fn copied(alloc: Global, graph: &Graph) -> Result<Graph, AllocError> {
+    graph.copy(alloc).or_else(|_| graph.copy(alloc))
 }
 
-/// Asks for the values of these nodes. Where a growth is refused, it is made once more.
+/// Asks for the values of these nodes, in the same way.
 fn asks(alloc: Global, nodes: &[u8]) -> Result<Txn, AllocError> {
     get(alloc, By::List, nodes).or_else(|_| get(alloc, By::List, nodes))
 }
 
-fn is_asking(txn: &Txn, nodes: &[u8]) -> bool {
-    matches!(txn, Txn::Get(By::List, list) if list.as_slice() == nodes)
+/// Adds these amounts, in the same way.
+fn adds(alloc: Global, amounts: &[(u8, u64)]) -> Result<Txn, AllocError> {
+    add(alloc, By::List, amounts).or_else(|_| add(alloc, By::List, amounts))
 }
 
-/// Whether the reply is these values.
-fn tells(reply: &Reply, values: &[u64]) -> bool {
-    matches!(reply, Reply::Values(told) if told.as_slice() == values)
+/// A reply of these values, in the same way.
+fn tells(alloc: Global, told: &[u64]) -> Result<Reply, AllocError> {
+    values(alloc, told).or_else(|_| values(alloc, told))
 }
 
-/// A world of the pair with one pass, which may start so many contexts and solos.
-fn opened<R: Abort>(rt: &R, alloc: Global, kind: Kind, budget: u32) -> (World, Vec<Pass>)
+/// A world of this graph with so many passes, each of which may start so many contexts and solos. Where a growth is
+/// refused, the graph comes back.
+fn opened<R: Abort>(
+    rt: &R,
+    alloc: Global,
+    kind: Kind,
+    graph: Graph,
+    count: u8,
+    budget: u32,
+) -> (World, Vec<Pass>)
     ensures { AreAtHome result.1.items result.0 }
 {
-    let Ok(graph) = pair(alloc) else {
-        panic!(rt; "no graph")
+    let Ok(copy) = copied(alloc, &graph) else {
+        panic!(rt; "no memory")
     };
-    match World::open(alloc, kind, graph, 1, budget) {
+    match World::open(alloc, kind, graph, count, budget) {
         Ok(opened) => opened,
         Err((graph, fault)) => {
-            assert!(rt; fault == OpenFault::NoMemory && fault.number() == 3 && is_pair(&graph));
-            match World::open(alloc, kind, graph, 1, budget) {
+            assert!(rt;
+                fault == OpenFault::NoMemory && fault.number() == 3 && graph.is_same(&copy)
+            );
+            match World::open(alloc, kind, graph, count, budget) {
                 Ok(opened) => opened,
                 Err((_, fault)) => panic!(rt; "{fault:?}"),
             }
@@ -60,15 +71,16 @@ fn opened<R: Abort>(rt: &R, alloc: Global, kind: Kind, budget: u32) -> (World, V
     }
 }
 
-/// Closes a world with its pass.
+/// Closes a world with its passes. Where a growth is refused, all comes back.
 fn closed<R: Abort>(rt: &R, world: World, passes: Vec<Pass>) -> History
     requires { AreAtHome passes.items world }
 {
+    let before = (world.size(), passes.len());
     match world.close(passes) {
         Ok(history) => history,
         Err((world, passes, fault)) => {
             assert!(rt; fault == CloseFault::NoMemory && fault.number() == 6);
-            assert!(rt; world.size() == 2 && passes.len() == 1);
+            assert!(rt; (world.size(), passes.len()) == before);
             match world.close(passes) {
                 Ok(history) => history,
                 Err((_, _, fault)) => panic!(rt; "{fault:?}"),
@@ -78,12 +90,15 @@ fn closed<R: Abort>(rt: &R, world: World, passes: Vec<Pass>) -> History
 }
 
 #[test]
-fn a_world_is_opened_and_closed(rt: HostRuntime) -> Result<(), Fail> {
-    for kind in [Kind::WoundWait, Kind::WaitDie] {
-        let (world, passes) = opened(&rt, rt.alloc(), kind, 1);
-        assert!(rt; world.size() == 2 && passes.len() == 1);
+fn a_full_world_is_opened_and_closed(rt: HostRuntime) -> Result<(), Fail> {
+    let alloc = rt.alloc();
+    for kind in KINDS {
+        let graph = full_graph(alloc).or_else(|_| full_graph(alloc))?;
+        let copy = copied(alloc, &graph)?;
+        let (world, passes) = opened(&rt, alloc, kind, graph, 16, 1);
+        assert!(rt; world.size() == 64 && passes.len() == 16);
         let history = closed(&rt, world, passes);
-        assert!(rt; history.records.is_empty() && is_pair(&history.graph));
+        assert!(rt; history.records.is_empty() && history.graph.is_same(&copy));
     }
     Ok(())
 }
@@ -99,19 +114,8 @@ fn only<R: Abort>(rt: &R, _world: &World, mut passes: Vec<Pass>) -> Pass
     }
 }
 
-/// Begins a context that locks both nodes.
-fn both_locked<R: Wait + Abort>(rt: &R, world: &World, pass: Pass) -> Done
-    requires home { IsAtHome pass world.now }
-    requires size { 1 < length world.now.first }
-    ensures home { IsAtHome result world.now }
-{
-    let acquiring = locked(rt, world, begun(rt, world, pass), 0, 0);
-    locked(rt, world, acquiring, 1, 0).done()
-}
-
-/// Prepares to ask a context for the values of these nodes. Where a growth is refused, the transaction comes back, and
-/// can be prepared.
-fn prepared<R: Abort>(rt: &R, world: &World, done: &mut Done, txn: Txn, nodes: &[u8]) -> Prepared
+/// Prepares a transaction in a context. Where a growth is refused, the transaction comes back, and can be prepared.
+fn prepared<R: Abort>(rt: &R, world: &World, done: &mut Done, txn: Txn, same: &Txn) -> Prepared
     requires home { IsAtHome done.old world.now }
     ensures home { IsAtHome done.new world.now }
 {
@@ -119,7 +123,7 @@ fn prepared<R: Abort>(rt: &R, world: &World, done: &mut Done, txn: Txn, nodes: &
     match done.prepare(world, txn) {
         Ok(prepared) => prepared,
         Err((txn, _)) => {
-            assert!(rt; is_asking(&txn, nodes) && is_possible(world, done, &txn));
+            assert!(rt; txn == *same && is_possible(world, done, &txn));
             match done.prepare(world, txn) {
                 Ok(prepared) => prepared,
                 Err(_) => panic!(rt; "no memory"),
@@ -129,27 +133,36 @@ fn prepared<R: Abort>(rt: &R, world: &World, done: &mut Done, txn: Txn, nodes: &
 }
 
 #[test]
-fn a_context_prepares(rt: HostRuntime) -> Result<(), Fail> {
+fn a_context_prepares_an_add(rt: HostRuntime) -> Result<(), Fail> {
     let alloc = rt.alloc();
-    let txn = asks(alloc, &[1, 0])?;
-    let (world, passes) = opened(&rt, alloc, Kind::WoundWait, 1);
-    assert!(rt; world.size() == 2);
-    let mut done = both_locked(&rt, &world, only(&rt, &world, passes));
-    let prepared = prepared(&rt, &world, &mut done, txn, &[1, 0]);
+    let txn = adds(alloc, &[(0, 1)])?;
+    let same = adds(alloc, &[(0, 1)])?;
+    let (world, passes) = opened(
+        &rt,
+        alloc,
+        Kind::WoundWait,
+        nodes_of(alloc, &[(0, None)])?,
+        1,
+        1,
+    );
+    assert!(rt; world.size() == 1);
+    let acquiring = begun(&rt, &world, only(&rt, &world, passes));
+    let mut done = locked(&rt, &world, acquiring, 0, 0).done();
+    let prepared = prepared(&rt, &world, &mut done, txn, &same);
     assert!(rt; done.made(&prepared));
     let (committed, told) = done.commit(&world, prepared);
     committed.unlock_all(&rt, &world).fini(&world);
-    assert!(rt; told.place == 0 && told.seq == 0 && tells(&told.reply, &[9, 7]));
+    assert!(rt; told.place == 0 && told.seq == 0 && told.reply == Reply::Done);
     Ok(())
 }
 
-/// Prepares to ask for a value without a context, as [`prepared`].
+/// Prepares a transaction without a context, as [`prepared`].
 fn prepared_alone<R: Abort>(
     rt: &R,
     world: &World,
     solo: &mut Solo,
     txn: Txn,
-    nodes: &[u8],
+    same: &Txn,
 ) -> Prepared
     requires home { IsAtHome solo.old world.now }
     ensures home { IsAtHome solo.new world.now }
@@ -158,7 +171,7 @@ fn prepared_alone<R: Abort>(
     match solo.prepare(world, txn) {
         Ok(prepared) => prepared,
         Err((txn, _)) => {
-            assert!(rt; is_asking(&txn, nodes) && is_possible_alone(world, solo, &txn));
+            assert!(rt; txn == *same && is_possible_alone(world, solo, &txn));
             match solo.prepare(world, txn) {
                 Ok(prepared) => prepared,
                 Err(_) => panic!(rt; "no memory"),
@@ -168,19 +181,19 @@ fn prepared_alone<R: Abort>(
 }
 
 #[test]
-fn a_solo_prepares(rt: HostRuntime) -> Result<(), Fail> {
+fn a_solo_prepares_a_peek(rt: HostRuntime) -> Result<(), Fail> {
     let alloc = rt.alloc();
-    let txn = asks(alloc, &[1])?;
-    let (world, passes) = opened(&rt, alloc, Kind::WaitDie, 1);
+    let graph = nodes_of(alloc, &[(0, None), (9, None)])?;
+    let (world, passes) = opened(&rt, alloc, Kind::WaitDie, graph, 1, 1);
     assert!(rt; world.size() == 2);
     let Ok(mut solo) = only(&rt, &world, passes).lock_solo(&rt, &world, 1) else {
         panic!(rt; "the pass is spent")
     };
-    let prepared = prepared_alone(&rt, &world, &mut solo, txn, &[1]);
+    let prepared = prepared_alone(&rt, &world, &mut solo, Txn::Peek(1), &Txn::Peek(1));
     assert!(rt; solo.made(&prepared));
     let (committed, told) = solo.commit(&world, prepared);
     committed.unlock(&rt, &world);
-    assert!(rt; told.place == 0 && told.seq == 0 && tells(&told.reply, &[9]));
+    assert!(rt; told.place == 0 && told.seq == 0 && told.reply == tells(alloc, &[9])?);
     Ok(())
 }
 
@@ -207,20 +220,21 @@ fn made<R: Wait + Abort>(
     rt: &R,
     world: &World,
     pass: Pass,
-    txn: Txn,
-    again: Txn,
+    txns: [Txn; 2],
     heeds: bool,
 ) -> (Pass, Receipt)
     requires home { IsAtHome pass world.now }
     ensures home { IsAtHome result.0 world.now }
 {
+    let [txn, again] = txns;
+    let before = (pass.left(), pass.commits());
     let (pass, told_first) = told(rt, world, pass, txn, heeds);
     let fault = match told_first {
         Ok(receipt) => return (pass, receipt),
         Err(fault) => fault,
     };
     assert!(rt; fault == TxnFault::NoMemory && fault.number() == 6);
-    assert!(rt; pass.left() == 1 && pass.commits() == 0);
+    assert!(rt; (pass.left().saturating_add(1), pass.commits()) == before);
     match told(rt, world, pass, again, heeds) {
         (pass, Ok(receipt)) => (pass, receipt),
         (_, Err(fault)) => panic!(rt; "{fault:?}"),
@@ -231,53 +245,150 @@ fn made<R: Wait + Abort>(
 fn made_once<R: Wait + Abort>(
     rt: &R,
     alloc: Global,
-    txn: Txn,
-    again: Txn,
+    graph: Graph,
+    txns: [Txn; 2],
     heeds: bool,
-    values: &[u64],
-) -> Result<(), Fail> {
-    let (world, mut passes) = opened(rt, alloc, Kind::WoundWait, 2);
+    reply: &Reply,
+) -> Result<Graph, Fail> {
+    let (world, mut passes) = opened(rt, alloc, Kind::WoundWait, graph, 1, 2);
     let Some(pass) = passes.pop() else {
         return Err(Fail::from("there is a pass"));
     };
-    let (pass, told) = made(rt, &world, pass, txn, again, heeds);
-    assert!(rt; told.place == 0 && told.seq == 0 && tells(&told.reply, values));
+    let (pass, told) = made(rt, &world, pass, txns, heeds);
+    assert!(rt; told.place == 0 && told.seq == 0 && told.reply == *reply);
     assert!(rt; pass.commits() == 1);
     passes.push(pass)?;
     let history = closed(rt, world, passes);
-    assert!(rt; history.records.len() == 1 && is_pair(&history.graph));
+    assert!(rt; history.records.len() == 1);
     assert!(rt;
         history
             .records
             .first()
-            .is_some_and(|record| tells(&record.reply, values))
+            .is_some_and(|record| record.reply == *reply)
     );
-    Ok(())
+    Ok(history.graph)
 }
 
 /// Asks for the values of both nodes.
 fn asks_once<R: Wait + Abort>(rt: &R, alloc: Global, heeds: bool) -> Result<(), Fail> {
-    made_once(
-        rt,
-        alloc,
-        asks(alloc, &[1, 0])?,
-        asks(alloc, &[1, 0])?,
-        heeds,
-        &[9, 7],
-    )
+    let graph = nodes_of(alloc, &[(7, None), (9, None)])?;
+    let copy = copied(alloc, &graph)?;
+    let txns = [asks(alloc, &[1, 0])?, asks(alloc, &[1, 0])?];
+    let reply = tells(alloc, &[9, 7])?;
+    let last = made_once(rt, alloc, graph, txns, heeds, &reply)?;
+    assert!(rt; last.is_same(&copy));
+    Ok(())
 }
 
 #[test]
-fn a_transaction_is_made(rt: HostRuntime) -> Result<(), Fail> {
+fn a_get_is_made(rt: HostRuntime) -> Result<(), Fail> {
     asks_once(&rt, rt.alloc(), false)
 }
 
 #[test]
-fn an_interruptible_transaction_is_made(rt: HostRuntime) -> Result<(), Fail> {
+fn an_interruptible_get_is_made(rt: HostRuntime) -> Result<(), Fail> {
     asks_once(&rt, rt.alloc(), true)
+}
+
+/// Adds 1 to the only node.
+fn adds_once<R: Wait + Abort>(rt: &R, alloc: Global, heeds: bool) -> Result<(), Fail> {
+    let graph = nodes_of(alloc, &[(0, None)])?;
+    let txns = [adds(alloc, &[(0, 1)])?, adds(alloc, &[(0, 1)])?];
+    let last = made_once(rt, alloc, graph, txns, heeds, &Reply::Done)?;
+    assert!(rt; last.is_same(&nodes_of(alloc, &[(1, None)])?));
+    Ok(())
+}
+
+#[test]
+fn an_add_is_made(rt: HostRuntime) -> Result<(), Fail> {
+    adds_once(&rt, rt.alloc(), false)
+}
+
+#[test]
+fn an_interruptible_add_is_made(rt: HostRuntime) -> Result<(), Fail> {
+    adds_once(&rt, rt.alloc(), true)
 }
 
 #[test]
 fn a_peek_is_made(rt: HostRuntime) -> Result<(), Fail> {
-    made_once(&rt, rt.alloc(), Txn::Peek(1), Txn::Peek(1), false, &[9])
+    let alloc = rt.alloc();
+    let graph = nodes_of(alloc, &[(0, None), (9, None)])?;
+    let copy = copied(alloc, &graph)?;
+    let reply = tells(alloc, &[9])?;
+    let last = made_once(
+        &rt,
+        alloc,
+        graph,
+        [Txn::Peek(1), Txn::Peek(1)],
+        false,
+        &reply,
+    )?;
+    assert!(rt; last.is_same(&copy));
+    Ok(())
+}
+
+/// Two passes take turns, four times: each adds 1 to both nodes, in an order of its own.
+fn take_turns<R: Wait + Abort>(
+    rt: &R,
+    alloc: Global,
+    world: &World,
+    mut zero: Pass,
+    mut one: Pass,
+) -> Result<(Pass, Pass), AllocError>
+    requires zero { IsAtHome zero world.now }
+    requires one { IsAtHome one world.now }
+    ensures zero { IfOk result (λ r. IsAtHome r.0 world.now) }
+    ensures one { IfOk result (λ r. IsAtHome r.1 world.now) }
+{
+    let (up, down) = ([(0, 1), (1, 1)], [(1, 1), (0, 1)]);
+    for _ in 0..4 {
+        zero = made(
+            rt,
+            world,
+            zero,
+            [adds(alloc, &up)?, adds(alloc, &up)?],
+            false,
+        )
+        .0;
+        one = made(
+            rt,
+            world,
+            one,
+            [adds(alloc, &down)?, adds(alloc, &down)?],
+            false,
+        )
+        .0;
+    }
+    Ok((zero, one))
+}
+
+/// What two passes made of this graph of two nodes.
+fn made_in_turns<R: Wait + Abort>(rt: &R, alloc: Global, graph: Graph) -> Result<History, Fail> {
+    let (world, mut passes) = opened(rt, alloc, Kind::WaitDie, graph, 2, 5);
+    let (Some(one), Some(zero)) = (passes.pop(), passes.pop()) else {
+        return Err(Fail::from("there are two passes"));
+    };
+    let (zero, one) = take_turns(rt, alloc, &world, zero, one)?;
+    passes.push(zero)?;
+    passes.push(one)?;
+    Ok(closed(rt, world, passes))
+}
+
+#[test]
+fn what_two_made_in_turns_replays(rt: HostRuntime) -> Result<(), Fail> {
+    let alloc = rt.alloc();
+    let graph = nodes_of(alloc, &[(0, None), (0, None)])?;
+    let history = made_in_turns(&rt, alloc, copied(alloc, &graph)?)?;
+    assert!(rt; history.records.len() == 8);
+    assert!(rt;
+        history
+            .graph
+            .is_same(&nodes_of(alloc, &[(8, None), (8, None)])?)
+    );
+    let last = match replays(alloc, copied(alloc, &graph)?, &history.records) {
+        Ok(last) => last,
+        Err(_) => replays(alloc, graph, &history.records)?,
+    };
+    assert!(rt; last.is_some_and(|last| last.is_same(&history.graph)));
+    Ok(())
 }

@@ -6,8 +6,11 @@
 #[cfg(test)]
 mod called_off;
 #[cfg(test)]
+mod cancels;
 #[cfg(test)]
 mod growths;
+#[cfg(test)]
+mod kept;
 #[cfg(test)]
 mod locks;
 #[cfg(test)]

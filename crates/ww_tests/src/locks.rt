@@ -12,15 +12,16 @@ use std::test::Fail;
 use ww_lock::{
     Acquiring, Backoff, CloseFault, History, Lock, OpenFault, Pass, Receipt, Try, World,
 };
-use ww_plain::{By, Graph, Node, Reply, Txn};
+use ww_plain::{By, Graph, Node, PORTS, Reply, Txn};
 use ww_queue::Kind;
 
+pub(crate) const KINDS: [Kind; 2] = [Kind::WoundWait, Kind::WaitDie];
+
 /// A node of this value, whose port 0 leads to this target.
-const fn node(value: u64, target: Option<u8>) -> Node {
-    Node {
-        value,
-        ports: [target, None, None, None],
-    }
+fn node(value: u64, target: Option<u8>) -> Node {
+    let mut ports = [None; PORTS];
+    ports[0] = target;
+    Node { value, ports }
 }
 
 /// A graph of nodes with these values, of which port 0 leads to these targets.
@@ -38,15 +39,16 @@ pub(crate) fn chain(alloc: Global, values: [u64; 3]) -> Result<Graph, AllocError
     graph_of(alloc, &[(zero, Some(1)), (one, Some(2)), (two, None)])
 }
 
-/// A world of such a graph, with one pass.
+/// A world of this graph, with one pass.
 pub(crate) fn one_pass(
     alloc: Global,
+    kind: Kind,
     graph: Graph,
     budget: u32,
 ) -> Result<(World, Pass), AllocError>
     ensures { IfOk result (λ r. IsAtHome r.1 r.0) }
 {
-    let Ok((world, mut passes)) = World::open(alloc, Kind::WoundWait, graph, 1, budget) else {
+    let Ok((world, mut passes)) = World::open(alloc, kind, graph, 1, budget) else {
         return Err(AllocError);
     };
     let pass = passes.pop().ok_or(AllocError)?;
@@ -161,8 +163,10 @@ fn busy_and_already<R: Wait + Abort>(rt: &R, alloc: Global, kind: Kind) -> Resul
 
 #[test]
 fn held_locks_are_busy(rt: HostRuntime) -> Result<(), Fail> {
-    busy_and_already(&rt, rt.alloc(), Kind::WoundWait)?;
-    busy_and_already(&rt, rt.alloc(), Kind::WaitDie)
+    for kind in KINDS {
+        busy_and_already(&rt, rt.alloc(), kind)?;
+    }
+    Ok(())
 }
 
 /// Closes a world with all its passes.
@@ -176,12 +180,15 @@ pub(crate) fn closed<R: Abort>(rt: &R, world: World, passes: Vec<Pass>) -> Histo
 }
 
 /// A graph of 64 nodes, each of which differs from all others.
-fn full_graph(alloc: Global) -> Result<Graph, AllocError> {
+pub(crate) fn full_graph(alloc: Global) -> Result<Graph, AllocError> {
     let mut nodes = Vec::new(alloc);
     for n in 0..64 {
+        let mut ports = [None; PORTS];
+        ports[1] = Some(63 - n);
+        ports[PORTS - 1] = Some(n);
         nodes.push(Node {
             value: u64::from(n) * 3,
-            ports: [None, Some(63 - n), None, Some(n)],
+            ports,
         })?;
     }
     Graph::new(nodes).ok().ok_or(AllocError)
@@ -252,20 +259,35 @@ fn close_with_some<R: Abort>(
     Ok((world, passes))
 }
 
-#[test]
-fn full_world_closes_with_all_its_passes(rt: HostRuntime) -> Result<(), Fail> {
-    let alloc = rt.alloc();
-    let opened = World::open(alloc, Kind::WoundWait, full_graph(alloc)?, 16, 1);
+/// A world with so many passes closes with all of them, and not before.
+fn closes_with_all<R: Abort>(rt: &R, alloc: Global, kind: Kind, count: u8) -> Result<(), Fail> {
+    let opened = World::open(alloc, kind, full_graph(alloc)?, count, 1);
     let (mut world, mut passes) = opened.ok().ok_or("it opens")?;
-    for count in 0..16 {
-        let (open, all) = close_with_some(&rt, world, passes, count)?;
+    for some in 0..usize::from(count) {
+        let (open, all) = close_with_some(rt, world, passes, some)?;
         world = open;
         passes = all;
     }
-    assert!(rt; passes.len() == 16);
-    let history = closed(&rt, world, passes);
+    assert!(rt; passes.len() == usize::from(count));
+    let history = closed(rt, world, passes);
     assert!(rt; history.records.is_empty());
     assert!(rt; history.graph.is_same(&full_graph(alloc)?));
+    Ok(())
+}
+
+#[test]
+fn full_world_closes_with_all_its_passes(rt: HostRuntime) -> Result<(), Fail> {
+    for kind in KINDS {
+        closes_with_all(&rt, rt.alloc(), kind, 16)?;
+    }
+    Ok(())
+}
+
+#[test]
+fn world_of_two_closes_with_both(rt: HostRuntime) -> Result<(), Fail> {
+    for kind in KINDS {
+        closes_with_all(&rt, rt.alloc(), kind, 2)?;
+    }
     Ok(())
 }
 
@@ -345,11 +367,10 @@ fn one_solo_spends_a_pass(rt: HostRuntime) -> Result<(), Fail> {
     Ok(())
 }
 
-#[test]
-fn solo_peeks(rt: HostRuntime) -> Result<(), Fail> {
-    let (world, zero, _one) = two_passes(rt.alloc(), Kind::WoundWait, &[(0, None), (9, None)])?;
+fn peeked<R: Wait + Abort>(rt: &R, alloc: Global, kind: Kind) -> Result<(), Fail> {
+    let (world, zero, _one) = two_passes(alloc, kind, &[(0, None), (9, None)])?;
     assert!(rt; world.size() == 2);
-    let (_zero, told) = committed_alone(&rt, &world, zero, 1, Txn::Peek(1));
+    let (_zero, told) = committed_alone(rt, &world, zero, 1, Txn::Peek(1));
     assert!(rt; told.place == 0 && told.seq == 0);
     assert!(rt;
         matches!(&told.reply, Reply::Values(values) if values.as_slice() == [9].as_slice())
@@ -358,20 +379,34 @@ fn solo_peeks(rt: HostRuntime) -> Result<(), Fail> {
 }
 
 #[test]
-fn later_get_reads_what_was_written(rt: HostRuntime) -> Result<(), Fail> {
-    let alloc = rt.alloc();
-    let (world, zero, one) = two_passes(alloc, Kind::WoundWait, &[(5, None)])?;
+fn solo_peeks(rt: HostRuntime) -> Result<(), Fail> {
+    for kind in KINDS {
+        peeked(&rt, rt.alloc(), kind)?;
+    }
+    Ok(())
+}
+
+fn written_and_read<R: Wait + Abort>(rt: &R, alloc: Global, kind: Kind) -> Result<(), Fail> {
+    let (world, zero, one) = two_passes(alloc, kind, &[(5, None)])?;
     assert!(rt; world.size() == 1);
     let add = Txn::Add(By::List, [(0, 7)].to_vec(alloc)?);
-    let (zero, _) = committed_alone(&rt, &world, zero, 0, add);
+    let (zero, _) = committed_alone(rt, &world, zero, 0, add);
     let get = Txn::Get(By::Order, [0].to_vec(alloc)?);
-    let (one, told) = committed_alone(&rt, &world, one, 0, get);
+    let (one, told) = committed_alone(rt, &world, one, 0, get);
     assert!(rt; told.place == 1 && told.seq == 0);
     assert!(rt;
         matches!(&told.reply, Reply::Values(values) if values.as_slice() == [12].as_slice())
     );
-    let history = closed(&rt, world, vec![in alloc; zero, one]?);
+    let history = closed(rt, world, vec![in alloc; zero, one]?);
     assert!(rt; history.records.len() == 2);
     assert!(rt; history.graph.is_same(&graph_of(alloc, &[(12, None)])?));
+    Ok(())
+}
+
+#[test]
+fn later_get_reads_what_was_written(rt: HostRuntime) -> Result<(), Fail> {
+    for kind in KINDS {
+        written_and_read(&rt, rt.alloc(), kind)?;
+    }
     Ok(())
 }

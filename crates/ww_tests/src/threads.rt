@@ -18,7 +18,7 @@ use std::thread::Threads;
 use ww_lock::{
     Acquiring, Backoff, Done, History, Interruptible, Lock, Pass, Receipt, Solo, Try, World,
 };
-use ww_plain::{By, Graph, Record, Txn, first_double, replays};
+use ww_plain::{By, Graph, PORTS, Record, Txn, first_double, replays};
 use ww_queue::Kind;
 
 const ROUNDS: u32 = 2_000;
@@ -122,7 +122,7 @@ impl Memory {
         let (Some((from, _)), Some((to, _))) = (amounts.first(), amounts.last()) else {
             return Ok(None);
         };
-        let port = self.below(4);
+        let port = self.below(PORTS as u8);
         let most = self.below(3).saturating_add(1);
         Ok(match self.below(10) {
             0 => Some(Txn::Link(*from, port, Some(*to))),

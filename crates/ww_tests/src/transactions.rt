@@ -4,7 +4,7 @@
 ghost use Rattle.std.specs.Prelude.{◌≡◌};
 ghost use Rattle.ww_lock.specs.Holding.{IsAtHome};
 
-use crate::locks::{chain, closed, graph_of, one_pass};
+use crate::locks::{KINDS, chain, closed, graph_of, one_pass};
 use std::alloc::{AllocError, Global};
 use std::cell::{Cell, RefCell};
 use std::process::Abort;
@@ -64,22 +64,28 @@ pub(crate) fn add(alloc: Global, by: By, amounts: &[(u8, u64)]) -> Result<Txn, A
     Ok(Txn::Add(by, Vec::from_slice(alloc, amounts)?))
 }
 
-fn values(alloc: Global, values: &[u64]) -> Result<Reply, AllocError> {
+pub(crate) fn values(alloc: Global, values: &[u64]) -> Result<Reply, AllocError> {
     Ok(Reply::Values(Vec::from_slice(alloc, values)?))
+}
+
+fn spent<R: Wait + Abort>(rt: &R, alloc: Global, kind: Kind) -> Result<(), Fail> {
+    let (world, pass) = one_pass(alloc, kind, graph_of(alloc, &[(0, None)])?, 1)?;
+    let (pass, told) = asked(rt, &world, pass, &Open, add(alloc, By::List, &[(0, 1)])?);
+    let told = told.ok().ok_or("it is made")?;
+    assert!(rt; told.place == 0 && told.seq == 0 && told.reply == Reply::Done);
+    let (pass, told) = asked(rt, &world, pass, &Open, add(alloc, By::List, &[(0, 1)])?);
+    assert!(rt; told.err() == Some(TxnFault::PassSpent) && TxnFault::PassSpent.number() == 4);
+    let history = closed(rt, world, vec![in alloc; pass]?);
+    assert!(rt; history.records.len() == 1);
+    assert!(rt; history.graph.is_same(&graph_of(alloc, &[(1, None)])?));
+    Ok(())
 }
 
 #[test]
 fn a_spent_pass_makes_nothing_more(rt: HostRuntime) -> Result<(), Fail> {
-    let alloc = rt.alloc();
-    let (world, pass) = one_pass(alloc, graph_of(alloc, &[(0, None)])?, 1)?;
-    let (pass, told) = asked(&rt, &world, pass, &Open, add(alloc, By::List, &[(0, 1)])?);
-    let told = told.ok().ok_or("it is made")?;
-    assert!(rt; told.place == 0 && told.seq == 0 && told.reply == Reply::Done);
-    let (pass, told) = asked(&rt, &world, pass, &Open, add(alloc, By::List, &[(0, 1)])?);
-    assert!(rt; told.err() == Some(TxnFault::PassSpent) && TxnFault::PassSpent.number() == 4);
-    let history = closed(&rt, world, vec![in alloc; pass]?);
-    assert!(rt; history.records.len() == 1);
-    assert!(rt; history.graph.is_same(&graph_of(alloc, &[(1, None)])?));
+    for kind in KINDS {
+        spent(&rt, rt.alloc(), kind)?;
+    }
     Ok(())
 }
 
@@ -125,7 +131,7 @@ fn made_in_turn<R: Wait + Abort>(
 #[test]
 fn each_kind_is_made(rt: HostRuntime) -> Result<(), Fail> {
     let alloc = rt.alloc();
-    let (world, pass) = one_pass(alloc, chain(alloc, [1, 2, 3])?, 11)?;
+    let (world, pass) = one_pass(alloc, Kind::WoundWait, chain(alloc, [1, 2, 3])?, 11)?;
     let pass = made_in_turn(&rt, &world, pass, all_kinds(alloc)?);
     assert!(rt; pass.left() == 0 && pass.commits() == 11);
     let history = closed(&rt, world, vec![in alloc; pass]?);
@@ -135,21 +141,27 @@ fn each_kind_is_made(rt: HostRuntime) -> Result<(), Fail> {
     Ok(())
 }
 
-#[test]
-fn a_double_is_refused(rt: HostRuntime) -> Result<(), Fail> {
-    let alloc = rt.alloc();
+fn doubled<R: Wait + Abort>(rt: &R, alloc: Global, kind: Kind) -> Result<(), Fail> {
     let nodes = [(5, None), (6, None)];
-    let (world, pass) = one_pass(alloc, graph_of(alloc, &nodes)?, 3)?;
-    let (pass, of_get) = asked(&rt, &world, pass, &Open, get(alloc, By::List, &[0, 1, 0])?);
+    let (world, pass) = one_pass(alloc, kind, graph_of(alloc, &nodes)?, 3)?;
+    let (pass, of_get) = asked(rt, &world, pass, &Open, get(alloc, By::List, &[0, 1, 0])?);
     let amounts = [(0, 1), (1, 1), (1, 2), (0, 3)];
-    let (pass, of_add) = asked(&rt, &world, pass, &Open, add(alloc, By::Order, &amounts)?);
-    let (pass, of_move) = asked(&rt, &world, pass, &Open, Txn::Move(1, 1, 4));
+    let (pass, of_add) = asked(rt, &world, pass, &Open, add(alloc, By::Order, &amounts)?);
+    let (pass, of_move) = asked(rt, &world, pass, &Open, Txn::Move(1, 1, 4));
     assert!(rt; of_get.err() == Some(TxnFault::Already(0)) && TxnFault::Already(0).number() == 9);
     assert!(rt; of_add.err() == Some(TxnFault::Already(1)));
     assert!(rt; of_move.err() == Some(TxnFault::Already(1)));
-    let history = closed(&rt, world, vec![in alloc; pass]?);
+    let history = closed(rt, world, vec![in alloc; pass]?);
     assert!(rt; history.records.is_empty());
     assert!(rt; history.graph.is_same(&graph_of(alloc, &nodes)?));
+    Ok(())
+}
+
+#[test]
+fn a_double_is_refused(rt: HostRuntime) -> Result<(), Fail> {
+    for kind in KINDS {
+        doubled(&rt, rt.alloc(), kind)?;
+    }
     Ok(())
 }
 
@@ -161,16 +173,16 @@ struct Probe<'a> {
     ghost at_home: { IsAtHome pass world.now },
 }
 
-/// Whether somebody else finds node 0 busy.
-fn tries<R: Wait + Abort>(rt: &R, world: &World, pass: Pass) -> (Pass, bool)
+/// Whether somebody else finds a node busy.
+pub(crate) fn tries<R: Wait + Abort>(rt: &R, world: &World, pass: Pass, n: u8) -> (Pass, bool)
     requires home { IsAtHome pass world.now }
     ensures home { IsAtHome result.0 world.now }
 {
-    assert!(rt; world.size() > 0);
+    assert!(rt; n < world.size());
     let Ok(acquiring) = pass.begin(world) else {
         panic!(rt; "the pass is spent")
     };
-    let (acquiring, is_busy) = match acquiring.try_lock(world, 0) {
+    let (acquiring, is_busy) = match acquiring.try_lock(world, n) {
         Try::Locked(acquiring) => (acquiring, false),
         Try::Busy(acquiring) => (acquiring, true),
     };
@@ -192,7 +204,7 @@ impl<'a, R: Wait + Abort> Watch<'a, R> {
         let Ok(Some(Probe { world, pass })) = self.probe.try_replace(None) else {
             panic!(self.rt; "the probe is in use")
         };
-        let (pass, is_busy) = tries(self.rt, world, pass);
+        let (pass, is_busy) = tries(self.rt, world, pass, 0);
         assert!(self.rt; self.probe.try_replace(Some(Probe { world, pass })).is_ok());
         is_busy
     }

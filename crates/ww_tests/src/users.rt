@@ -3,7 +3,7 @@
 ghost use Rattle.std.specs.Prelude.{◌≡◌, Err};
 ghost use Rattle.ww_lock.specs.Holding.{IsAtHome};
 
-use crate::locks::{chain, one_pass};
+use crate::locks::{KINDS, chain, one_pass};
 use crate::threads::is_possible;
 use std::alloc::Global;
 use std::process::Abort;
@@ -11,6 +11,7 @@ use std::sync::Wait;
 use std::test::Fail;
 use ww_lock::{Done, Pass, World};
 use ww_plain::Txn;
+use ww_queue::Kind;
 use ww_users::{UserFault, lock_list, lock_order, lock_walk};
 
 /// Gives all back, where the transaction can be made with what is held.
@@ -40,8 +41,8 @@ pub(crate) fn refused<R: Abort>(
 }
 
 /// Each way in turn, with a budget of one context for each.
-fn in_turn<R: Wait + Abort>(rt: &R, alloc: Global) -> Result<(), Fail> {
-    let (world, pass) = one_pass(alloc, chain(alloc, [1, 2, 3])?, 3)?;
+fn in_turn<R: Wait + Abort>(rt: &R, alloc: Global, kind: Kind) -> Result<(), Fail> {
+    let (world, pass) = one_pass(alloc, kind, chain(alloc, [1, 2, 3])?, 3)?;
     assert!(rt; world.size() == 3);
     let Ok(done) = lock_list(&world, pass, rt, &[2, 0]) else {
         panic!(rt; "a list is locked")
@@ -61,12 +62,27 @@ fn in_turn<R: Wait + Abort>(rt: &R, alloc: Global) -> Result<(), Fail> {
 
 #[test]
 fn each_way_locks_what_it_names(rt: HostRuntime) -> Result<(), Fail> {
-    in_turn(&rt, rt.alloc())
+    for kind in KINDS {
+        in_turn(&rt, rt.alloc(), kind)?;
+    }
+    Ok(())
 }
 
-/// A list, and a walk, each locked by the only context that its pass has left. The pass is spent then.
-fn once_each<R: Wait + Abort>(rt: &R, alloc: Global) -> Result<(), Fail> {
-    let (world, pass) = one_pass(alloc, chain(alloc, [1, 2, 3])?, 1)?;
+/// A list, by both ways, and a walk, each locked by the only context that its pass has left. The pass is spent then.
+fn once_each<R: Wait + Abort>(rt: &R, alloc: Global, kind: Kind) -> Result<(), Fail> {
+    let (world, pass) = one_pass(alloc, kind, chain(alloc, [1, 2, 3])?, 1)?;
+    assert!(rt; world.size() == 3);
+    let Ok(done) = lock_list(&world, pass, rt, &[2, 0]) else {
+        panic!(rt; "a list is locked")
+    };
+    let pass = covered(rt, &world, done, &Txn::Move(2, 0, 1));
+    let pass = refused(
+        rt,
+        lock_list(&world, pass, rt, &[2, 0]),
+        UserFault::PassSpent,
+    );
+    assert!(rt; pass.left() == 0);
+    let (world, pass) = one_pass(alloc, kind, chain(alloc, [1, 2, 3])?, 1)?;
     assert!(rt; world.size() == 3);
     let Ok(done) = lock_order(&world, pass, rt, &[2, 0]) else {
         panic!(rt; "a list is locked")
@@ -74,7 +90,7 @@ fn once_each<R: Wait + Abort>(rt: &R, alloc: Global) -> Result<(), Fail> {
     let pass = covered(rt, &world, done, &Txn::Move(2, 0, 1));
     let answer = lock_order(&world, pass, rt, &[2, 0]);
     refused(rt, answer, UserFault::PassSpent);
-    let (world, pass) = one_pass(alloc, chain(alloc, [1, 2, 3])?, 1)?;
+    let (world, pass) = one_pass(alloc, kind, chain(alloc, [1, 2, 3])?, 1)?;
     assert!(rt; world.size() == 3);
     let Ok(done) = lock_walk(&world, pass, rt, 0, 0, 64) else {
         panic!(rt; "a walk is locked")
@@ -89,5 +105,8 @@ fn once_each<R: Wait + Abort>(rt: &R, alloc: Global) -> Result<(), Fail> {
 
 #[test]
 fn spent_pass_locks_nothing(rt: HostRuntime) -> Result<(), Fail> {
-    once_each(&rt, rt.alloc())
+    for kind in KINDS {
+        once_each(&rt, rt.alloc(), kind)?;
+    }
+    Ok(())
 }

@@ -4,7 +4,7 @@ use Rattle.ww_lock.specs.Holding.{Holding, Wanting}
 use Rattle.ww_lock.specs.Moves.{interrupted_by, emptied, HasTried, IsTaken, IsInterrupted}
 use Rattle.ww_users.specs.declared.context.Halt.{Halt}
 use Rattle.ww_users.specs.declared.context.Halt.TheVariants.{Deadlk, Interrupted}
-use Rattle.ww_users.specs.Ways.{IsContext, IsReturned, IsCalledOff}
+use Rattle.ww_users.specs.Ways.{IsContext, IsCalledOff}
 use Rattle.ww_users.specs.Trips.{IsSameContext, IsHalted, IsHalt}
 
 pub same_at_once : (s : Holding) → IsSameContext s s

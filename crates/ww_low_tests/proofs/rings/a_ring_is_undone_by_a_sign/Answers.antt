@@ -13,8 +13,8 @@ wait-requires-2-clause-may g c = (just 0, looks_first _ WoundWait (just 0) 1 0 c
 pub back_off-met-requires-clause-may : goal.back_off-met-requires-clause-may
 back_off-met-requires-clause-may g c = (just 1, c.wait.ensures (just 1) c.in_ok-board.ensures.younger.owns)
 
-pub untie-requires-clause-older : goal.untie-requires-clause-older
-untie-requires-clause-older g c = c.wait-2.ensures (just 0) c.in_ok-board.ensures.older.owns
+pub hand_back-requires-clause-older : goal.hand_back-requires-clause-older
+hand_back-requires-clause-older g c = c.wait-2.ensures (just 0) c.in_ok-board.ensures.older.owns
 
-pub untie-requires-clause-younger : goal.untie-requires-clause-younger
-untie-requires-clause-younger g c = c.back_off-met.ensures (just 1) (c.wait.ensures (just 1) c.in_ok-board.ensures.younger.owns).owns
+pub hand_back-requires-clause-younger : goal.hand_back-requires-clause-younger
+hand_back-requires-clause-younger g c = c.back_off-met.ensures (just 1) (c.wait.ensures (just 1) c.in_ok-board.ensures.younger.owns).owns

@@ -1,12 +1,8 @@
-use Rattle.std.proofs.Common.{arith, ◌≡◌, ℕ, [], ◌∷◌, length, replicate, refl, sym, ap, ◌∙◌, subst, Some, None}
-use lib.ListN.{get_elem?, length-replicate}
-use Rattle.atomic_table.proofs.Lists.{set_here}
-use Rattle.ww_view.specs.View.{owns, IsAway}
+use Rattle.std.proofs.Common.{arith, length, sym, ap, ◌∙◌, subst}
 use Rattle.ww_view.specs.May.{MayFast}
 use Rattle.ww_rule.specs.declared.cells.Sight.{Sight}
-use Rattle.ww_rule.specs.Rule.{Sat, first_graph, first_part}
-use Rattle.ww_rule.specs.Steps.{MayDraw, seat_of, drawing, taking}
-use Rattle.ww_rule.specs.Out.{slot_of}
+use Rattle.ww_rule.specs.Rule.{Sat}
+use Rattle.ww_rule.specs.Steps.{MayDraw, drawing}
 use Rattle.ww_low_tests.proofs.FirstSteps.{may_draw, may_fast}
 use Rattle.ww_low_tests.proofs.tables.takes_once.Goals as goal
 

@@ -1,6 +1,6 @@
 use Rattle.std.proofs.Common.{length}
 use Rattle.ww_rule.specs.Rule.{first_graph}
-use Rattle.ww_seat.proofs.Stopped.{goes_on_same, goes_on_lost, list_there, has_left, stopped_goes, look_stopped, stopped_tries}
+use Rattle.ww_seat.proofs.Stopped.{goes_on_same, goes_on_lost, list_there, has_left, stopped_goes}
 use Rattle.ww_seat.proofs.interrupting.stop_if_cancelled.Goals as goal
 
 pub returns-then-not-heeds-clause-goes_on : goal.returns-then-not-heeds-clause-goes_on
