@@ -8,7 +8,7 @@ use Rattle.ww_lock.specs.Holding.{Holding}
 
 -- the same context of the same pass, which may hold other locks, after some tries more to take one
 pub record IsLocked (s a : Holding) : Type 0 where
-  pub rest : a ≡ record s { held = a.held; seen = a.seen; tries = a.tries }
+  pub rest : a ≡ record s { held = a.held; seen = a.seen; tries = a.tries; takes = a.takes; deaths = a.deaths }
   pub size : length a.seen ≡ length s.seen
 
 -- it holds what it held, and this node

@@ -4,7 +4,7 @@
 ghost use Rattle.std.specs.Prelude.{◌≡◌, ◌≢◌, ◌<◌, length, IfOk, IfErr};
 ghost use Rattle.ww_plain.specs.Transaction.{move};
 ghost use Rattle.ww_lock.specs.Holding.{IsAtHome};
-ghost use Rattle.ww_lock.specs.Moves.{HasTried};
+ghost use Rattle.ww_lock.specs.Moves.{backed_off};
 ghost use Rattle.ww_caller.specs.Caller.{IsLocked, IsLockedMore, HasBoth, HasRecord};
 
 use std::sync::Wait;
@@ -101,7 +101,7 @@ fn lock_one<R: Wait>(
     requires home { IsAtHome acquiring world.now }
     requires node { n < length world.now.first }
     ensures locked { IfOk result (IsLockedMore acquiring n) }
-    ensures refused { IfErr result (λ b. HasTried acquiring b.holding) }
+    ensures refused { IfErr result (λ b. b.holding ≡ backed_off acquiring) }
 {
     match acquiring.lock(rt, world, n) {
         Lock::Locked(acquiring) => Ok(acquiring),

@@ -18,11 +18,11 @@ use Rattle.ww_rule.specs.Cancels.{cancelling}
 use Rattle.ww_seat.specs.Orderly.{IsSettled}
 use Rattle.ww_seat.specs.declared.waiting.Stop.{Stop}
 use Rattle.ww_seat.specs.declared.waiting.Stop.TheVariants.{Deadlk, Interrupted}
-use Rattle.ww_seat.specs.Calls.{HoldsAsBefore, HasTaken, HasStopped, HasGiven, HasBegun, HasEnded, IsTurnedAway, TriedOnce}
+use Rattle.ww_seat.specs.Calls.{IsSame, HoldsAsBefore, HasTaken, HasToDie, HasStopped, HasGiven, HasBegun, HasEnded, IsTurnedAway, TriedOnce}
 use Rattle.ww_lock.specs.declared.hand.Hand.{Hand}
 use Rattle.ww_lock.specs.Holding.{Holding, Setting, IsAtHome, AreHeld, by_of}
 use Rattle.ww_lock.specs.Carried.{holding_of, Carries, CarriesFresh}
-use Rattle.ww_lock.specs.Moves.{IsTaken, IsInterrupted, IsCancelling, IsStop, HasTried}
+use Rattle.ww_lock.specs.Moves.{tried, backed_off, IsTaken, IsInterrupted, IsCancelling, IsStop}
 
 pub settled_as : (a b : TableId) (m n : ℕ) (q : Seat16) → a ≡ b → m ≡ n → IsSettled a m q → IsSettled b n q
 settled_as a b m n q same sizes s = subst (λ (t : TableId). IsSettled t n q) same (subst (λ (k : ℕ). IsSettled a k q) sizes s)
@@ -50,7 +50,7 @@ pub record HasMoved (h : Hand) (p : Setting) (q : Seat16) : Type 0 where
 
 -- a state of these parts is seen as a holding of these
 pub holding_is : (h g : Hand) (w p : Setting) (q : Seat16) → p ≡ w → IsAtHome (holding_of h) w → Carries h → HasMoved h p q → g.seat ≡ q → g.left ≡ h.left
-    → holding_of g ≡ record (holding_of h) { draws = q.seat.me.0.part.counts.draws; stamp = q.stamp; held = g.held.items; seen = g.seen; tries = q.seat.me.0.part.core.tries; cancelled = q.seat.me.0.part.counts.cancelled; interrupted = q.seat.me.0.part.core.stopped }
+    → holding_of g ≡ record (holding_of h) { draws = q.seat.me.0.part.counts.draws; stamp = q.stamp; held = g.held.items; seen = g.seen; tries = q.seat.me.0.part.core.tries; takes = q.seat.me.0.part.core.takes; deaths = q.seat.me.0.part.core.deaths; cancelled = q.seat.me.0.part.counts.cancelled; interrupted = q.seat.me.0.part.core.stopped }
 holding_is h g w p q is home c m seat left =
     let t = at_table (holding_of h) w p is home in
     let table : q.seat.table_id ≡ h.seat.seat.table_id = m.settled.seated.home ∙ sym t.0 in
@@ -97,7 +97,7 @@ begins h w p q k is home f few settled records b pos =
         seen = λ n among. ap (λ hs. get_elem? hs n) b.held ∙ f.seen n among;
         commits = omega (arith, many, f.commits);
       };
-      is = holding_is h g w p q is home c m refl refl ∙ rw (b.counts, b.stopped, b.tries) refl;
+      is = holding_is h g w p q is home c m refl refl ∙ rw (b.counts, b.stopped, b.tries, b.takes, b.deaths) refl;
       stamped = omega (arith, pos, b.stamp, settled.seated.stamp);
     }
 
@@ -113,7 +113,7 @@ ends h w p q is home c settled records e =
     let drew = ap (λ (k : Counts). k.draws) e.counts in
     let many : length q.records.items ≡ length h.seat.records.items = ap (λ r. length r.items) records in record {
       carries = carries_as h g w p q is home c m refl refl refl c.held (λ n. ap (λ (os : List Bool). get_or os n false) e.owned ∙ c.owned n) (c.marks ∙ sym e.owned) (omega (arith, c.draws, drew)) (omega (arith, many, c.commits));
-      is = holding_is h g w p q is home c m refl refl ∙ rw (e.counts, e.stopped, sym settled.seated.stamp ∙ e.stamp, e.tries) refl;
+      is = holding_is h g w p q is home c m refl refl ∙ rw (e.counts, e.stopped, sym settled.seated.stamp ∙ e.stamp, e.tries, e.takes, e.deaths) refl;
     }
 
 -- ---- locks
@@ -190,8 +190,7 @@ takes h g w p q n x is home f lt new settled records t once seat kind left grown
       is = record {
         new = new;
         contents = x;
-        added = holding_is h g w p q is home c m seat left ∙ rw (grown, read, seat, t.same.counts, t.same.stopped, sym settled.seated.stamp ∙ t.same.stamp ∙ c.settled.seated.stamp) refl;
-        once = subst (λ (s : Seat16). TriedOnce h.seat.seat.me s.seat.me) (sym seat) once;
+        added = holding_is h g w p q is home c m seat left ∙ rw (grown, read, t.same.counts, t.same.stopped, once, t.takes, t.deaths, sym settled.seated.stamp ∙ t.same.stamp ∙ c.settled.seated.stamp) refl;
       };
     }
   where
@@ -201,26 +200,36 @@ takes h g w p q n x is home f lt new settled records t once seat kind left grown
       | inr absent ↦ absurd (true≢false (sym e ∙ among_added held n k ∙ ap (λ (b : Bool). b || (eqb n k || false)) absent ∙ ap (λ (b : Bool). b || false) other))
     ]
 
--- nothing more is held, and nothing less, after one try at most
-pub record Keeps (h g : Hand) : Type 0 where
-  pub fresh : CarriesFresh g
-  pub is : HasTried (holding_of h) (holding_of g)
+-- nothing more is held, and nothing less
+record Keeps (h g : Hand) : Type 0 where
+  fresh : CarriesFresh g
+  is : holding_of g ≡ record (holding_of h) { tries = g.seat.seat.me.0.part.core.tries; takes = g.seat.seat.me.0.part.core.takes; deaths = g.seat.seat.me.0.part.core.deaths }
 
-pub keeps : (h : Hand) (w p : Setting) (q : Seat16) → p ≡ w → IsAtHome (holding_of h) w → CarriesFresh h → IsSettled p.home (length p.first) q → q.records ≡ h.seat.records
-    → HoldsAsBefore h.seat.seat.me q.seat.me → TriedOnce h.seat.seat.me q.seat.me → Keeps h (record h { seat = q })
-keeps h w p q is home f settled records b once =
+keeps : (h : Hand) (w p : Setting) (q : Seat16) → p ≡ w → IsAtHome (holding_of h) w → CarriesFresh h → IsSettled p.home (length p.first) q → q.records ≡ h.seat.records
+    → IsSame h.seat.seat.me q.seat.me → q.seat.me.0.part.core.owned ≡ h.seat.seat.me.0.part.core.owned → q.seat.me.0.held ≡ h.seat.seat.me.0.held → Keeps h (record h { seat = q })
+keeps h w p q is home f settled records same owned held =
     let c = f.carries in
     let g : Hand = record h { seat = q } in
-    let m : HasMoved h p q = record { settled = settled; records = records; who = b.same.who; kind = b.same.kind; answered = still_answered h q c b.same.stopped (ap (λ (k : Counts). k.heeded) b.same.counts) } in
-    let drew = ap (λ (k : Counts). k.draws) b.same.counts in
+    let m : HasMoved h p q = record { settled = settled; records = records; who = same.who; kind = same.kind; answered = still_answered h q c same.stopped (ap (λ (k : Counts). k.heeded) same.counts) } in
+    let drew = ap (λ (k : Counts). k.draws) same.counts in
     let many : length q.records.items ≡ length h.seat.records.items = ap (λ r. length r.items) records in record {
       fresh = record {
-        carries = carries_as h g w p q is home c m refl refl refl c.held (λ n. ap (λ (os : List Bool). get_or os n false) b.owned ∙ c.owned n) (c.marks ∙ sym b.owned) (omega (arith, c.draws, drew)) (omega (arith, many, c.commits));
-        seen = λ n among. ap (λ hs. get_elem? hs n) b.held ∙ f.seen n among;
+        carries = carries_as h g w p q is home c m refl refl refl c.held (λ n. ap (λ (os : List Bool). get_or os n false) owned ∙ c.owned n) (c.marks ∙ sym owned) (omega (arith, c.draws, drew)) (omega (arith, many, c.commits));
+        seen = λ n among. ap (λ hs. get_elem? hs n) held ∙ f.seen n among;
         commits = omega (arith, many, f.commits);
       };
-      is = record { same = holding_is h g w p q is home c m refl refl ∙ rw (b.same.counts, b.same.stopped, sym settled.seated.stamp ∙ b.same.stamp ∙ c.settled.seated.stamp) refl; once = once };
+      is = holding_is h g w p q is home c m refl refl ∙ rw (same.counts, same.stopped, sym settled.seated.stamp ∙ same.stamp ∙ c.settled.seated.stamp) refl;
     }
+
+-- ... after one try in vain
+pub missed : (h : Hand) (w p : Setting) (q : Seat16) → p ≡ w → IsAtHome (holding_of h) w → CarriesFresh h → IsSettled p.home (length p.first) q → q.records ≡ h.seat.records
+    → HoldsAsBefore h.seat.seat.me q.seat.me → TriedOnce h.seat.seat.me q.seat.me → CarriesFresh (record h { seat = q }) × (holding_of (record h { seat = q }) ≡ tried (holding_of h))
+missed h w p q is home f settled records b once = let k = keeps h w p q is home f settled records b.same b.owned b.held in (k.fresh, k.is ∙ rw (once, b.takes, b.deaths) refl)
+
+-- ... and it had to back off
+pub died : (h : Hand) (w p : Setting) (q : Seat16) (n k : ℕ) → p ≡ w → IsAtHome (holding_of h) w → CarriesFresh h → IsSettled p.home (length p.first) q → q.records ≡ h.seat.records
+    → HasToDie h.seat.seat.me n k q.seat.me → TriedOnce h.seat.seat.me q.seat.me → CarriesFresh (record h { seat = q }) × (holding_of (record h { seat = q }) ≡ backed_off (holding_of h))
+died h w p q n k is home f settled records d once = let kept = keeps h w p q is home f settled records d.same d.owned d.held in (kept.fresh, kept.is ∙ rw (once, d.takes, d.deaths) refl)
 
 -- its wait was called off, and it holds what it held
 pub record Stops (h g : Hand) (n by : ℕ) : Type 0 where
@@ -243,8 +252,7 @@ stops h w p q n by is home f new settled records b once =
       };
       is = record {
         new = new;
-        told = holding_is h g w p q is home c m refl refl ∙ rw (b.counts, b.stopped, sym settled.seated.stamp ∙ b.stamp ∙ c.settled.seated.stamp) refl;
-        once = once;
+        told = holding_is h g w p q is home c m refl refl ∙ rw (b.counts, b.stopped, once, b.takes, b.deaths, sym settled.seated.stamp ∙ b.stamp ∙ c.settled.seated.stamp) refl;
       };
     }
 
@@ -274,8 +282,8 @@ holds_one h c one = some_among h.held.items one.0 (sym (c.owned one.0) ∙ one.1
 -- it came without the lock
 pub turned_away : (h : Hand) (w p : Setting) (q : Seat16) (n : ℕ) (why : Stop) → p ≡ w → IsAtHome (holding_of h) w → CarriesFresh h → is_among n h.held.items ≡ false → IsSettled p.home (length p.first) q → q.records ≡ h.seat.records
     → IsTurnedAway h.seat.seat.me n why q.seat.me → TriedOnce h.seat.seat.me q.seat.me → CarriesFresh (record h { seat = q }) × IsStop (holding_of h) n why (holding_of (record h { seat = q }))
-turned_away h w p q n (Deadlk k) is home f new settled records d once = let kept = keeps h w p q is home f settled records d.holds once in
-    (kept.fresh, (kept.is, d.context, omega (arith, d.older, f.carries.settled.seated.stamp), holds_one h f.carries d.one))
+turned_away h w p q n (Deadlk k) is home f new settled records d once = let told = died h w p q n k is home f settled records d once in
+    (told.0, (told.1, d.context, omega (arith, d.older, f.carries.settled.seated.stamp), holds_one h f.carries d.one))
 turned_away h w p q n (Interrupted by) is home f new settled records d once = let s = stops h w p q n by is home f new settled records d once in (s.fresh, s.is)
 
 -- ---- giving back
@@ -344,7 +352,7 @@ gives h g w p q front n is home c was settled records b seat kind left now marke
           (λ k. owns_less h.seat.seat.me.0.part.core.owned q.seat.me.0.part.core.owned front n wide b.owned (λ j. c.owned j ∙ ap (is_among j) was) apart.1 k ∙ ap (is_among k) (sym now))
           (marked ∙ ap (λ (os : List Bool). set os n false) c.marks ∙ sym b.owned)
           (omega (arith, c.draws, drew, left)) (omega (arith, many, c.commits, left));
-      is = holding_is h g w p q is home c m seat left ∙ rw (seen, b.same.counts, b.same.stopped, b.tries, sym settled.seated.stamp ∙ b.same.stamp ∙ c.settled.seated.stamp) refl;
+      is = holding_is h g w p q is home c m seat left ∙ rw (seen, b.same.counts, b.same.stopped, b.tries, b.takes, b.deaths, sym settled.seated.stamp ∙ b.same.stamp ∙ c.settled.seated.stamp) refl;
     }
 
 -- a state is at home where one that differs in the nodes that are held was

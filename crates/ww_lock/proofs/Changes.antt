@@ -181,7 +181,7 @@ commits h w pl q p r after ns told is home f settled b same seq reply capacity =
         commits = omega (arith, many, f.commits);
       };
       is = record {
-        own = rw (table, who, b.counts, b.stopped, stamp, own, room, b.tries) refl;
+        own = rw (table, who, b.counts, b.stopped, stamp, own, room, b.tries, b.takes, b.deaths) refl;
         above = below_as told.place h.seat.records.items (subst (AllByRecursion (λ x. x.0 < told.place)) (sym c.settled.seated.records) b.above);
         seq = seq ∙ sym size;
         reply = reply;

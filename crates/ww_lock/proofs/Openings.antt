@@ -46,7 +46,9 @@ new_holding t key k h new none seen =
     let counts : h.seat.seat.me.0.part.counts ≡ no_counts = ap (λ (m : Sat). m.0.part.counts) new.me in
     let stopped : h.seat.seat.me.0.part.core.stopped ≡ [] = ap (λ (m : Sat). m.0.part.core.stopped) new.me in
     let tries : h.seat.seat.me.0.part.core.tries ≡ 0 = ap (λ (m : Sat). m.0.part.core.tries) new.me in
-    rw (new.seated.home, new.number, counts, stopped, stamp, own, none, seen, tries) refl
+    let takes : h.seat.seat.me.0.part.core.takes ≡ 0 = ap (λ (m : Sat). m.0.part.core.takes) new.me in
+    let deaths : h.seat.seat.me.0.part.core.deaths ≡ 0 = ap (λ (m : Sat). m.0.part.core.deaths) new.me in
+    rw (new.seated.home, new.number, counts, stopped, stamp, own, none, seen, tries, takes, deaths) refl
 
 pub new_idle : (t : TableId) (key : Start) (k : ℕ) (q : Seat16) → IsNew t key k q → q.stamp ≡ 0
 new_idle t key k q new = sym new.seated.stamp ∙ ap (λ (m : Sat). m.0.part.core.stamp) new.me

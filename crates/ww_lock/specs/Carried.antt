@@ -4,6 +4,7 @@ use mathlib.Core.Option.{some}
 use lib.ListN.{get_elem?}
 use Rattle.ww_plain.specs.Numbers.{is_among}
 use Rattle.ww_plain.specs.Graph.{node_at}
+use Rattle.ww_view.specs.declared.view.Met.{Met}
 use Rattle.ww_view.specs.View.{owns}
 use Rattle.ww_seat.specs.Orderly.{IsSettled}
 use Rattle.ww_lock.specs.declared.hand.Hand.{Hand}
@@ -22,12 +23,14 @@ holding_of h = record {
   held = h.held.items;
   seen = h.seen;
   tries = h.seat.seat.me.0.part.core.tries;
+  takes = h.seat.seat.me.0.part.core.takes;
+  deaths = h.seat.seat.me.0.part.core.deaths;
   cancelled = h.seat.seat.me.0.part.counts.cancelled;
   interrupted = h.seat.seat.me.0.part.core.stopped;
 }
 
--- the lock and the older stamp for which its seat had to die, as its view notes it until it takes or gives a lock
-abbrev pub met_of : Hand → Option (ℕ × ℕ)
+-- what its seat met as it had to back off, as its view keeps it until it takes or gives a lock
+abbrev pub met_of : Hand → Option Met
 met_of h = h.seat.seat.me.0.part.core.met
 
 -- The seat is between two calls, and owns just the locks of the nodes that are held, which have their marks. Each cancel

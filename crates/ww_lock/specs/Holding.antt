@@ -19,8 +19,9 @@ Home = TableId
 -- each of which it drew a stamp; its stamp, 0 without a context; its own list: all its commits with their places,
 -- oldest first, with room for so many more; the nodes that it holds, in the order in which it took them; the graph as
 -- it has seen it, of which the nodes held are as they were when they were locked; how often it tried to take a lock at
--- once, by one step that a free lock allows; the callers whose wait it called off, the last one first; and each time that
--- its own wait was called off, the last one first: for which node, and by which caller.
+-- once, by one step that a free lock allows, how often it took a lock, and how often it had to back off; the callers
+-- whose wait it called off, the last one first; and each time that its own wait was called off, the last one first: for
+-- which node, and by which caller.
 pub record Holding : Type 0 where
   pub home : Home
   pub caller : ℕ
@@ -32,6 +33,8 @@ pub record Holding : Type 0 where
   pub held : List ℕ
   pub seen : List Node
   pub tries : ℕ
+  pub takes : ℕ
+  pub deaths : ℕ
   pub cancelled : List ℕ
   pub interrupted : List (ℕ × ℕ)
 

@@ -1,5 +1,5 @@
 -- How one state becomes another.
-use Rattle.std.specs.Prelude.{ℕ, ◌≡◌, ◌<◌, ◌≤◌, ◌+◌, ◌-◌, ◌∷◌, ◌++◌, [], length, true, false, slice_set}
+use Rattle.std.specs.Prelude.{ℕ, ◌≡◌, ◌<◌, ◌≤◌, ◌+◌, ◌-◌, ◌∷◌, ◌++◌, [], length, true, false, slice_set, Result, Ok, Err}
 use Rattle.ww_plain.specs.declared.node.Node.{Node}
 use Rattle.ww_plain.specs.Numbers.{is_among}
 use Rattle.ww_plain.specs.Meaning.{answer_of}
@@ -29,51 +29,56 @@ pub record IsBegun (s a : Holding) : Type 0 where
   pub nothing : a.held ≡ []
   pub rest : a ≡ record s { left = s.left - 1; draws = s.draws + 1; stamp = a.stamp }
 
--- It tried to take a lock at once, or didn't, and tried no second time: all else is as it was.
-pub record HasTried (s a : Holding) : Type 0 where
-  pub same : a ≡ record s { tries = a.tries }
-  pub once : a.tries ≤ s.tries + 1
+-- it tried once to take a lock at once, in vain
+abbrev pub tried : Holding → Holding
+tried s = record s { tries = s.tries + 1 }
+
+-- ... and took it, then or after waiting for it
+abbrev pub taken : Holding → Holding
+taken s = record s { tries = s.tries + 1; takes = s.takes + 1 }
+
+-- ... and had to back off, once
+abbrev pub backed_off : Holding → Holding
+backed_off s = record s { tries = s.tries + 1; deaths = s.deaths + 1 }
 
 -- a lock was taken without a context, for one of what was left: it is all that is held
 pub record IsSolo (s : Holding) (n : ℕ) (a : Holding) : Type 0 where
   pub some : 1 ≤ s.left
   pub contents : Node
-  pub rest : a ≡ with_node (record s { left = s.left - 1; tries = a.tries }) n contents
-  pub once : a.tries ≤ s.tries + 1
+  pub rest : a ≡ with_node (taken (record s { left = s.left - 1 })) n contents
   pub alone : a.held ≡ n ∷ []
   pub no_context : a.stamp ≡ 0
 
--- the node wasn't held, and now is, with some contents, after one try at most to take its lock at once
+-- The node wasn't held, and now is, with some contents, after one try to take its lock at once. It is the one lock that
+-- was taken, and the context didn't back off on the way.
 pub record IsTaken (s : Holding) (n : ℕ) (a : Holding) : Type 0 where
   pub new : is_among n s.held ≡ false
   pub contents : Node
-  pub added : a ≡ with_node (record s { tries = a.tries }) n contents
-  pub once : a.tries ≤ s.tries + 1
+  pub added : a ≡ with_node (taken s) n contents
 
 -- The node wasn't held, and for it an older context was met, whose stamp is told. The state still holds what it held,
--- which is one node at least.
+-- which is one node at least, took no lock on the way, and backed off once.
 pub record IsRefused (s : Holding) (n : ℕ) (b : Refused) : Type 0 where
   pub new : is_among n s.held ≡ false
   pub holds : 1 ≤ length s.held
-  pub tried : HasTried s b.holding
+  pub told : b.holding ≡ backed_off s
   pub contended : b.contended ≡ n
   pub is_stamp : 1 ≤ b.met
   pub older : b.met < s.stamp
 
--- once more its wait was called off, for this node and by this caller
+-- once more its wait was called off, for this node and by this caller, after one try to take the lock at once
 abbrev pub interrupted_by : Holding → ℕ → ℕ → Holding
-interrupted_by s n by = record s { interrupted = (n, by) ∷ s.interrupted }
+interrupted_by s n by = record s { tries = s.tries + 1; interrupted = (n, by) ∷ s.interrupted }
 
 -- The node wasn't held, and the wait for it was called off by this caller: the seat left the wait list of its lock, for
 -- the cancel of that caller, which it had heeded there. The state still holds what it held.
 pub record IsInterrupted (s : Holding) (n by : ℕ) (a : Holding) : Type 0 where
   pub new : is_among n s.held ≡ false
-  pub told : a ≡ record (interrupted_by s n by) { tries = a.tries }
-  pub once : a.tries ≤ s.tries + 1
+  pub told : a ≡ interrupted_by s n by
 
 -- why a lock wasn't taken, told of a node that wasn't held
 abbrev pub IsStop : Holding → ℕ → Stop → Holding → Type 0
-IsStop s n (seat.Deadlk k) a = HasTried s a × (1 ≤ k) × (k < s.stamp) × (1 ≤ length s.held)
+IsStop s n (seat.Deadlk k) a = (a ≡ backed_off s) × (1 ≤ k) × (k < s.stamp) × (1 ≤ length s.held)
 IsStop s n (seat.Interrupted by) a = IsInterrupted s n by a
 
 -- the wait of this caller was called off
@@ -92,6 +97,12 @@ code_of (Locked a) = 0
 code_of (Already a) = 114
 code_of (Deadlk b) = 35
 
+-- the state that goes on, where the node is held now; or the one that has to back off
+abbrev pub going_on : Lock → Result Holding Refused
+going_on (Locked a) = Ok a
+going_on (Already a) = Ok a
+going_on (Deadlk b) = Err b
+
 -- the answer of a lock call that may be called off
 abbrev pub IsInterruptibleAnswer : Holding → ℕ → Interruptible → Type 0
 IsInterruptibleAnswer s n (stop.Locked a) = IsTaken s n a
@@ -109,7 +120,7 @@ interruptible_code_of (stop.Interrupted a by) = 4
 -- the answer of a trylock: a held node is busy too, and of another that is the answer of one try
 abbrev pub IsTryAnswer : Holding → ℕ → Try → Type 0
 IsTryAnswer s n (try.Locked a) = IsTaken s n a
-IsTryAnswer s n (try.Busy a) = HasTried s a × (is_among n s.held ≡ false → a.tries ≡ s.tries + 1)
+IsTryAnswer s n (try.Busy a) = (is_among n s.held ≡ true → a ≡ s) × (is_among n s.held ≡ false → a ≡ tried s)
 
 -- One record more in the own list, of this caller and of the next number, with the transaction and the answer that were
 -- prepared, in the room that was made for it. Its place, which the receipt tells, is above all before.

@@ -35,7 +35,7 @@ pub enum Lock {
 
 impl Lock {
     ghost use Rattle.std.specs.Prelude.{◌≡◌};
-    ghost use Rattle.ww_lock.specs.Moves.{code_of};
+    ghost use Rattle.ww_lock.specs.Moves.{code_of, going_on};
 
     /// The kernel's error number of the answer, without its sign; 0 where the lock was taken.
     pub fn code(&self) -> u8
@@ -45,6 +45,17 @@ impl Lock {
             Lock::Locked(_) => 0,
             Lock::Already(_) => 114,
             Lock::Deadlk(_) => 35,
+        }
+    }
+
+    /// The context where it holds the node now, whether it did before or not; or what has to back off.
+    pub fn going_on(self) -> Result<Acquiring, Backoff>
+        ensures { result ≡ going_on self }
+    {
+        match self {
+            Lock::Locked(acquiring) => Ok(acquiring),
+            Lock::Already(acquiring) => Ok(acquiring),
+            Lock::Deadlk(backoff) => Err(backoff),
         }
     }
 }

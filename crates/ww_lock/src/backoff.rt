@@ -1,12 +1,13 @@
+use crate::acquiring::Acquiring;
 use crate::contended::Contended;
 use crate::hand::Hand;
 use crate::world::World;
 use std::marker::Model;
 use std::sync::Wait;
 
-/// A context that was told EDEADLK. It still holds its locks, and can only give them all back. By its invariant the
-/// seat notes just this lock and this older stamp, for which it had to die by a step of its own, and has taken and
-/// given no lock since.
+/// A context that was told EDEADLK. It still holds its locks, and can only give them all back. By its invariant its seat
+/// keeps what it met for just this lock as it backed off, by a step of its own: what it saw there shows the older context
+/// of just this stamp. It has taken and given no lock since.
 pub struct Backoff {
     pub(crate) hand: Box<Hand>,
     pub(crate) contended: u8,
@@ -14,21 +15,22 @@ pub struct Backoff {
 }
 
 impl Model for Backoff {
-    ghost use Rattle.std.specs.Prelude.{◌≡◌, ◌<◌, length, Some};
+    ghost use Rattle.std.specs.Prelude.{◌<◌, length};
+    ghost use Rattle.ww_seat.specs.Calls.{HasMet};
     ghost use Rattle.ww_lock.specs.Holding.{Refused};
-    ghost use Rattle.ww_lock.specs.Carried.{holding_of, met_of, CarriesFresh};
+    ghost use Rattle.ww_lock.specs.Carried.{holding_of, CarriesFresh};
 
     ghost Value = { Refused };
 
     ghost view = { λ s. record { holding = holding_of s.hand.value; contended = s.contended; met = s.met } };
 
-    ghost invariant = { λ s. CarriesFresh s.hand.value × (met_of s.hand.value ≡ Some (s.contended, s.met)) × (0 < s.met) × (s.met < s.hand.value.seat.stamp) × (s.contended < length s.hand.value.seen) };
+    ghost invariant = { λ s. CarriesFresh s.hand.value × HasMet s.contended s.met s.hand.value.seat.seat.me.0.part.core × (0 < s.met) × (s.met < s.hand.value.seat.stamp) × (s.contended < length s.hand.value.seen) };
 }
 
 impl Backoff {
-    ghost use Rattle.std.specs.Prelude.{◌≡◌};
+    ghost use Rattle.std.specs.Prelude.{◌≡◌, ◌∷◌, []};
     ghost use Rattle.ww_lock.specs.Holding.{IsAtHome};
-    ghost use Rattle.ww_lock.specs.Moves.{emptied};
+    ghost use Rattle.ww_lock.specs.Moves.{IsTaken, emptied};
 
     /// The node whose lock it couldn't get.
     pub fn contended(&self) -> u8
@@ -56,5 +58,14 @@ impl Backoff {
         } = self;
         hand.give_all(rt, world);
         Contended { hand, contended }
+    }
+
+    /// Gives all locks back, and takes the one that it couldn't get, however long that takes.
+    pub fn back_off<R: Wait>(self, rt: &R, world: &World) -> Acquiring
+        requires home { IsAtHome self.holding world.now }
+        ensures taken { IsTaken (emptied self.holding) self.contended result }
+        ensures alone { result.held ≡ self.contended ∷ [] }
+    {
+        self.unlock_all(rt, world).lock_slow(rt, world)
     }
 }

@@ -5,7 +5,7 @@ use crate::world::World;
 use std::alloc::AllocError;
 use std::marker::Model;
 use std::sync::Wait;
-use ww_plain::{Node, Txn};
+use ww_plain::{Node, Txn, first_double};
 
 /// A context that has all its locks.
 pub struct Done {
@@ -83,6 +83,18 @@ impl Done {
         ensures { IsTrue result ↔ Covers self.now (transaction_of txn.now) }
     {
         self.hand.covers(txn)
+    }
+
+    /// Whether the transaction can be prepared here: it fits the world, names no node twice, and all that it depends on
+    /// and may change is held.
+    pub fn serves(&self, world: &World, txn: &Txn) -> bool
+        requires home { IsAtHome self.now world.now }
+        ensures fits { IsTrue result → Fits (length self.now.seen) (transaction_of txn.now) }
+        ensures no_double { IsTrue result → HasNoDouble (transaction_of txn.now) }
+        ensures covers { IsTrue result → Covers self.now (transaction_of txn.now) }
+        ensures told { Fits (length self.now.seen) (transaction_of txn.now) → HasNoDouble (transaction_of txn.now) → Covers self.now (transaction_of txn.now) → IsTrue result }
+    {
+        txn.fits(world.size()) && first_double(txn).is_none() && self.covers(world, txn)
     }
 
     /// Prepares a transaction: makes every growth that its commit needs. Nothing is changed or recorded until that.

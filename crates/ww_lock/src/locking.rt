@@ -11,7 +11,7 @@ impl Hand {
     ghost use Rattle.ww_seat.specs.Calls.{HasToDie, IsTurnedAway};
     ghost use Rattle.ww_lock.specs.Holding.{IsAtHome};
     ghost use Rattle.ww_lock.specs.Carried.{holding_of, met_of, Carries, CarriesFresh};
-    ghost use Rattle.ww_lock.specs.Moves.{HasTried, IsTaken, IsStop, IsCancelling, emptied};
+    ghost use Rattle.ww_lock.specs.Moves.{tried, backed_off, IsTaken, IsStop, IsCancelling, emptied};
 
     /// Starts a context: it draws a stamp.
     pub(crate) fn begin(&mut self, world: &World)
@@ -49,8 +49,7 @@ impl Hand {
         requires new { is_among n self.old.held.items ≡ false }
         ensures fresh { CarriesFresh self.new }
         ensures taken { result ≡ true → IsTaken (holding_of self.old) n (holding_of self.new) }
-        ensures busy { result ≡ false → HasTried (holding_of self.old) (holding_of self.new) }
-        ensures tried { result ≡ false → (holding_of self.new).tries ≡ (holding_of self.old).tries + 1 }
+        ensures busy { result ≡ false → holding_of self.new ≡ tried (holding_of self.old) }
         ensures unmet { met_of self.old ≡ None → met_of self.new ≡ None }
     {
         match ww_seat::try_take(&mut self.seat, &world.board, self.kind, n) {
@@ -72,7 +71,7 @@ impl Hand {
         requires new { is_among n self.old.held.items ≡ false }
         ensures fresh { CarriesFresh self.new }
         ensures taken { IfOk result (λ _. IsTaken (holding_of self.old) n (holding_of self.new)) }
-        ensures tried { IfErr result (λ _. HasTried (holding_of self.old) (holding_of self.new)) }
+        ensures backed_off { IfErr result (λ _. holding_of self.new ≡ backed_off (holding_of self.old)) }
         ensures older { IfErr result (λ k. (1 ≤ k) × (k < self.old.seat.stamp) × (1 ≤ length self.old.held.items)) }
         ensures dies { IfErr result (λ k. HasToDie self.old.seat.seat.me n k self.new.seat.seat.me) }
         ensures unmet { IfOk result (λ _. met_of self.new ≡ None) }

@@ -27,7 +27,7 @@ use Rattle.ww_model.specs.Event.{actor}
 use Rattle.ww_view.specs.View.{owns, Knows, IsAway}
 use Rattle.ww_view.specs.Word.{taken_word, asked_word, given_word, rest_word}
 use Rattle.ww_view.specs.May.{MayEnter, MayExit, MayJoin, MayTake, MayGive, MayAsk, MayDie, MaySign, MayClear, MayHeed, MayStop}
-use Rattle.ww_view.specs.Made.{entered, exited, queued, taken, given, has_asked, died, noted, cleared, has_heeded, interrupted}
+use Rattle.ww_view.specs.Made.{entered, exited, queued, taken, given, has_asked, died, has_condemned, cleared, has_heeded, interrupted}
 use Rattle.ww_view.proofs.Tells.{asked_is}
 use Rattle.ww_view.proofs.Shows.{shows_guard, shows_exit, shows_join, shows_take, shows_ask, shows_give, shows_die, shows_sign, shows_clear, shows_cancel, shows_heed, shows_leave}
 use Rattle.ww_view.proofs.Mine.{mine_guard, mine_unguard, mine_cancel}
@@ -43,7 +43,7 @@ use Rattle.ww_rule.specs.Rule.{St, Sat, first_graph, Balanced, Shown, AtHome, Co
 use Rattle.ww_rule.specs.Steps.{knowing}
 use Rattle.ww_rule.specs.Guards.{entering, exiting}
 use Rattle.ww_rule.specs.Waiting.{joining, taking_inside, giving_inside, asking, dying}
-use Rattle.ww_rule.specs.Signs.{signing, clearing}
+use Rattle.ww_rule.specs.Signs.{condemning, clearing}
 use Rattle.ww_rule.specs.Cancels.{cancelling, heeding, stopping}
 use Rattle.ww_rule.proofs.Regions.{owner_set}
 use Rattle.ww_rule.proofs.InsideRegions.{guard_set, sign_set, cancel_set, list_inside}
@@ -235,10 +235,10 @@ module _ (key : Start) (s : St) (r : Ruled key s) (id : ℕ) (me : Sat) (here : 
 
   -- sign: the sign word was 0
   pub sign_makes : (n u j : ℕ) → MaySign me.0.part.core n u j → u < 16 → get_or s.words (512 + 8 * u) 0 ≡ 0
-      → Makes key s r (Sign me.0.part.core.who u) (stepped s (512 + 8 * u) j id me.1 (signing me.0 u) keeps)
+      → Makes key s r (Sign me.0.part.core.who u) (stepped s (512 + 8 * u) j id me.1 (condemning me.0 u) keeps)
   sign_makes n u j may low hit = let c = r.core in let v = me.0.part.core in let k = mine.part.knows in
       let can = shows_sign c v law k n u j may (sym (r.words.signs u low) ∙ hit) in
-      makes (Sign v.who u) (512 + 8 * u) j (noted v u) keeps refl refl (λ m. refl) can (mine_sign c v law k u can) r.counted
+      makes (Sign v.who u) (512 + 8 * u) j (has_condemned v u) keeps refl refl (λ m. refl) can (mine_sign c v law k u can) r.counted
       (sign_set c (Sign v.who u) can.base law.base s.words r.words u j low (λ m. tt) refl refl (ap (put c.sign u) (sign_is c v law k n u j may can)) refl refl)
       (record { deep = r.homes.deep; nodes = r.homes.nodes; lists = r.homes.lists })
 

@@ -5,7 +5,7 @@ use mathlib.Core.Option.{none, some}
 use native.Mathlib.Decide.{ℕ_discrete}
 use lib.ListN.{get_elem?}
 use prog.Atomic.{either}
-use Rattle.atomic_table.specs.Table.{step, Act, keeps, takes, gives, chain, stepped, carried_after, Valid, Allows, rest}
+use Rattle.atomic_table.specs.Table.{Step, step, Act, keeps, takes, gives, chain, stepped, carried_after, Valid, Allows, rest}
 use Rattle.atomic_table.proofs.Lists.{set_here, set_else, exchanged}
 use Rattle.ww_word.specs.declared.owner.Owner.{Owner}
 use Rattle.ww_word.specs.Owner.{IsValid, packed, with_waiters}
@@ -39,9 +39,9 @@ use Rattle.ww_rule.specs.declared.cells.Sight.{Sight}
 use Rattle.ww_rule.specs.declared.cells.Start.{Start}
 use Rattle.ww_rule.specs.Rule.{St, Sat, first_graph, Ruled}
 use Rattle.ww_rule.specs.Steps.{knowing}
-use Rattle.ww_rule.specs.Guards.{AreSeats, IsSeenBy, entering, exiting, looking, enters_to, exits_to, looks_to}
-use Rattle.ww_rule.specs.Waiting.{tries_to, HasPlace, joining, joins, taking_inside, below, takes_inside, giving_inside, gives_inside, asking, asks, dying, dies, dies_to}
-use Rattle.ww_rule.specs.Signs.{signing, reading, finding_none, clearing, signs_to, reads_to, clears_to}
+use Rattle.ww_rule.specs.Guards.{lost, AreSeats, IsSeenBy, entering, exiting, looking, enters_to, exits_to, looks_to}
+use Rattle.ww_rule.specs.Waiting.{Expects, SeesWaiters, tries_to, HasPlace, joining, joins, taking_inside, below, takes_inside, giving_inside, gives_inside, asking, asks, dying, dies, dies_to}
+use Rattle.ww_rule.specs.Signs.{condemning, noting, reading, finding_none, clearing, signs_to, reads_to, clears_to}
 use Rattle.ww_rule.specs.Cancels.{cancelling, heeding, stopping, stops, leaves_to, cancels_to, heeds_to}
 use Rattle.ww_rule.proofs.Moves.{cas, looks, low, node_there}
 use Rattle.ww_rule.proofs.Told.{stands_as, seen_by, death_is_older}
@@ -104,21 +104,39 @@ looks_inside key slots id me n i is seated inside s r deep at small = let c : St
 
 -- ---- owner words
 
+-- inside, where somebody waits, the word that the seat saw last is still there
+word_is_seen : (key : Start) (s : St) (r : Ruled key s) (id : ℕ) (me : Sat) → get_elem? s.views id ≡ some me.0 → me.0.seated ≡ true → (n : ℕ) (o : Owner) → SeesWaiters me.0.part.core n o → get_or s.words (8 * n) 0 ≡ packed o
+word_is_seen key s r id me at seated n o sees = let k = (mine key s r id me at seated).part.knows in
+    r.words.owners n (inside_low key s r id me at seated n sees.inside) ∙ ap packed (sym (k.seen n o sees.inside sees.seen (λ e. sees.waits (k.queues.list n sees.inside ∙ e))))
+
+-- what is told of a compare-exchange but for that the word is the one seen
+abbrev ends_as : (ℕ → Owner → Sat → Sat → Type 0) → Step Cell → Sat → ℕ → Sat → Type 0
+ends_as wins st m found m' = (n : ℕ) (o : Owner) → Expects st n o → (found ≡ packed o → wins n o m m') × (found ≢ packed o → m' ≡ (lost m.0, m.1))
+
 -- what a compare-exchange makes of an owner word that the seat expects to be this owner's
 expecting : (key : Start) (slots id : ℕ) (me : Sat) (n : ℕ) (o : Owner) (new : ℕ) (wins : ℕ → Owner → Sat → Sat → Type 0) → me.0.seated ≡ true → IsValid o
     → ((s : St) (r : Ruled key s) → get_elem? s.views id ≡ some me.0 → get_or s.words (8 * n) 0 ≡ packed o → (w : Sight) × (a : Act Cell) × Valid s.homes me.1 a × Ruled key (stepped s (8 * n) new id me.1 w a) × wins n o me (w, carried_after me.1 a))
     → Allows (Ruled key) slots id me (8 * n) (λ x. either (eqb x (packed o)) new x) (tries_to wins (step slots (8 * n) (packed o) new none) me)
-expecting key slots id me n o new wins seated valid hit = let v = me.0.part.core in
-    cas key slots id me (8 * n) (packed o) new (made.stepped v) (tries_to wins (step slots (8 * n) (packed o) new none) me) seated refl (λ m. refl) (λ c k. mine_stepped c v k)
-    (λ s r at found. let h = hit s r at found in (
-      h.0,
-      h.1,
-      h.2,
-      h.3,
-      (λ j p told. let e : n ≡ j = (let z = told.0 in omega arith) in let same = packing_is_injective o p valid told.1 told.2 in
-          ((λ _. subst (λ (x : ℕ × Owner). wins x.0 x.1 me (h.0, carried_after me.1 h.1)) (λ i. (e i, same i)) h.4), λ no. absurd (no told.2))),
-    ))
-    (λ x ne j p told. ((λ z. absurd (ne (z ∙ sym told.2))), λ _. refl))
+expecting key slots id me n o new wins seated valid hit s r deep at small = (ended.0, ended.1, ended.2, ended.3, λ j p told. (
+  (ended.4 j p told).0,
+  (ended.4 j p told).1,
+  λ sees. ap (λ (i : ℕ). get_or s.words i 0) told.0 ∙ word_is_seen key s r id me at seated j p sees,
+))
+  where
+    st : Step Cell
+    st = step slots (8 * n) (packed o) new none
+
+    ended : (w : Sight) × (a : Act Cell) × Valid s.homes me.1 a × Ruled key (stepped s (8 * n) (either (eqb (get_or s.words (8 * n) 0) (packed o)) new (get_or s.words (8 * n) 0)) id me.1 w a) × ends_as wins st me (get_or s.words (8 * n) 0) (w, carried_after me.1 a)
+    ended = cas key slots id me (8 * n) (packed o) new (made.stepped me.0.part.core) (ends_as wins st me) seated refl (λ m. refl) (λ c k. mine_stepped c me.0.part.core k)
+        (λ s r at found. let h = hit s r at found in (
+          h.0,
+          h.1,
+          h.2,
+          h.3,
+          (λ j p told. let e : n ≡ j = (let z = told.0 in omega arith) in let same = packing_is_injective o p valid told.1 told.2 in
+              ((λ _. subst (λ (x : ℕ × Owner). wins x.0 x.1 me (h.0, carried_after me.1 h.1)) (λ i. (e i, same i)) h.4), λ no. absurd (no told.2))),
+        ))
+        (λ x ne j p told. ((λ z. absurd (ne (z ∙ sym told.2))), λ _. refl)) s r deep at small
 
 -- ... by the numbers that the step is made with
 by_numbers : (key : Start) (slots id : ℕ) (me : Sat) (wins : ℕ → Owner → Sat → Sat → Type 0) (i j old old' new new' : ℕ) → i ≡ j → old ≡ old' → new ≡ new'
@@ -203,7 +221,8 @@ stops_waiting key slots id me n o i old new at was is seated may valid = let wor
     and_finds key slots id me i (λ x. either (eqb x old) new x) (tries_to stops (step slots i old new none) me)
     (λ x. (m : ℕ) (p : Owner) → MayStop me.0.part.core m → me.0.part.core.seen ≡ Some p → i ≡ 8 * m → x ≡ packed p)
     (λ s r here m p stop saw word_at. let k = (mine key s r id me here seated).part.knows in let h = k.queues.waited m stop.waits in
-    ap (λ (j : ℕ). get_or s.words j 0) word_at ∙ r.words.owners m (inside_low key s r id me here seated m stop.inside) ∙ ap packed (sym (k.seen m p stop.inside saw (not_empty (r.core.queue m) h.0 h.1))))
+    ap (λ (j : ℕ). get_or s.words j 0) word_at ∙ word_is_seen key s r id me here seated m p
+    (record { inside = stop.inside; waits = λ e. not_empty (r.core.queue m) h.0 h.1 (sym (k.queues.list m stop.inside) ∙ e); seen = saw }))
     (by_numbers key slots id me stops i (8 * n) old (packed o) new word at was is (expecting key slots id me n o word stops seated valid (λ s r at hit. (stopping me.0 o, keeps, tt, (leave_makes key s r id me at seated n o may valid hit).ruled, refl))))
 
 cancels_there : (key : Start) (slots id : ℕ) (me : Sat) (u new : ℕ) → u < 16 → me.0.seated ≡ true → IsAway me.0.part.core → new ≡ me.0.part.core.who + 1
@@ -246,15 +265,25 @@ heeds key slots id me n i is seated may s r deep at small = let x : ℕ = get_or
 pub signs : (key : Start) (slots id : ℕ) (me : Sat) (n u k i : ℕ) → i ≡ 512 + 8 * u → u < 16 → me.0.seated ≡ true → MaySign me.0.part.core n u k
     → Allows (Ruled key) slots id me i (λ x. either (eqb x 0) k x) (signs_to (step slots i 0 k none) me)
 signs key slots id me n u k i is low seated may s r deep at small = let x : ℕ = get_or s.words i 0 in let v : View = me.0.part.core in
-    let tells : x ≡ r.core.sign u = ap (λ (j : ℕ). get_or s.words j 0) is ∙ r.words.signs u low in (
-      signing me.0 u,
+    let tells : x ≡ r.core.sign u = ap (λ (j : ℕ). get_or s.words j 0) is ∙ r.words.signs u low in
+    let same : (w : ℕ) → i ≡ 512 + 8 * w → u ≡ w = λ w there. (let z = sym is ∙ there in omega arith) in dite (ℕ_discrete x 0)
+    (λ e. (
+      condemning me.0 u,
       keeps,
       tt,
-      exchanged x 0 k (λ y. Ruled key (stepped s i y id me.1 (signing me.0 u) keeps))
-          (λ e. subst (λ (j : ℕ). Ruled key (stepped s j k id me.1 (signing me.0 u) keeps)) (sym is) (sign_makes key s r id me at seated n u k may low (ap (λ (j : ℕ). get_or s.words j 0) (sym is) ∙ e)).ruled)
-          (λ ne. looks key s r id me at seated i (made.noted v u) refl (λ m. refl) (mine_lost_sign r.core v (mine key s r id me at seated).part.knows u (λ z. ne (tells ∙ z)))),
-      (λ w there. let e : u ≡ w = (let z = sym is ∙ there in omega arith) in ap (λ (t : ℕ). let m : Sat = (signing me.0 t, me.1) in m) e),
-    )
+      exchanged x 0 k (λ y. Ruled key (stepped s i y id me.1 (condemning me.0 u) keeps))
+          (λ _. subst (λ (j : ℕ). Ruled key (stepped s j k id me.1 (condemning me.0 u) keeps)) (sym is) (sign_makes key s r id me at seated n u k may low (ap (λ (j : ℕ). get_or s.words j 0) (sym is) ∙ e)).ruled)
+          (λ ne. absurd (ne e)),
+      (λ w there. ((λ _. ap (λ (t : ℕ). let m : Sat = (condemning me.0 t, me.1) in m) (same w there)), λ ne. absurd (ne e))),
+    ))
+    (λ ne. (
+      noting me.0 u,
+      keeps,
+      tt,
+      exchanged x 0 k (λ y. Ruled key (stepped s i y id me.1 (noting me.0 u) keeps)) (λ e. absurd (ne e))
+          (λ _. looks key s r id me at seated i (made.noted v u) refl (λ m. refl) (mine_lost_sign r.core v (mine key s r id me at seated).part.knows u (λ z. ne (tells ∙ z)))),
+      (λ w there. ((λ e. absurd (ne e)), λ _. ap (λ (t : ℕ). let m : Sat = (noting me.0 t, me.1) in m) (same w there))),
+    ))
 
 is_bare? : (owned : List Bool) → Dec ((n : ℕ) → get_or owned n false ≡ false)
 is_bare? [] = yes (λ n. refl)

@@ -32,11 +32,11 @@ use Rattle.ww_model.specs.State.{word_of}
 use Rattle.ww_model.specs.Event.{actor}
 use Rattle.ww_view.specs.View.{owns, Knows, IsAway}
 use Rattle.ww_view.specs.May.{MayFast}
-use Rattle.ww_view.specs.Made.{fast_taken, fast_missed, fast_given, begun, ended, has_read}
+use Rattle.ww_view.specs.Made.{fast_taken, fast_missed, fast_given, fast_kept, begun, ended, has_read}
 use Rattle.ww_model.proofs.Stays.{same_seats, same_locks}
 use Rattle.ww_view.proofs.Shows.{shows_fast, shows_fast_give, shows_begin, shows_end}
 use Rattle.ww_view.proofs.Mine.{mine_fast, mine_fast_give, mine_begin, mine_end}
-use Rattle.ww_view.proofs.Inside.{mine_read, mine_missed}
+use Rattle.ww_view.proofs.Inside.{mine_read, mine_missed, mine_kept}
 use Rattle.ww_view.proofs.Written.{word_fast, word_fast_give, found_is}
 use Rattle.ww_rule.specs.declared.cells.Cell.{Cell}
 use Rattle.ww_rule.specs.declared.cells.Cell.TheVariants.{Content}
@@ -273,7 +273,7 @@ takes_free key slots id me n i new at small seated may is = subst (λ (j : ℕ).
 gives_there : (key : Start) (slots id : ℕ) (me : Sat) (n old : ℕ) (x : Node) → n < length (first_graph key) → me.0.seated ≡ true → IsAway me.0.part.core → owns me.0.part.core n ≡ true → get_elem? me.0.held n ≡ some (Some x)
     → IsValid (taker me.0.part.core) → me.1 ≡ (n, Content x) ∷ rest me.1 → old ≡ packed (taker me.0.part.core)
     → Allows (Ruled key) slots id me (8 * n) (λ y. either (eqb y old) 0 y) (gives_to (step slots (8 * n) old 0 none) me)
-gives_there key slots id me n old x small seated away own has valid top is = cas key slots id me (8 * n) old 0 me.0.part.core (gives_to (step slots (8 * n) old 0 none) me) seated refl (λ m. refl) (λ c k. k)
+gives_there key slots id me n old x small seated away own has valid top is = cas key slots id me (8 * n) old 0 (fast_kept me.0.part.core) (gives_to (step slots (8 * n) old 0 none) me) seated refl (λ m. refl) (λ c k. mine_kept c me.0.part.core k)
     (λ s r at hit. (
       giving me.0 n,
       gives,

@@ -2,7 +2,7 @@
 use Rattle.std.specs.Prelude.{ℕ, ◌≡◌, ◌≢◌}
 use Rattle.atomic_table.specs.Table.{Step}
 use Rattle.ww_view.specs.View.{IsQuiet}
-use Rattle.ww_view.specs.Made.{noted, has_read, found_none, cleared}
+use Rattle.ww_view.specs.Made.{noted, has_condemned, has_read, found_none, cleared}
 use Rattle.ww_rule.specs.declared.cells.Cell.{Cell}
 use Rattle.ww_rule.specs.declared.cells.Sight.{Sight}
 use Rattle.ww_rule.specs.Layout.{sign_at}
@@ -11,11 +11,17 @@ use Rattle.ww_rule.specs.Steps.{knowing}
 
 -- ---- sign: another seat is condemned, if it has no sign yet: either way it has one
 
-abbrev pub signing : Sight → ℕ → Sight
-signing v u = knowing v (noted v.part.core u)
+-- this step condemned it
+abbrev pub condemning : Sight → ℕ → Sight
+condemning v u = knowing v (has_condemned v.part.core u)
+
+-- it had a sign before
+abbrev pub noting : Sight → ℕ → Sight
+noting v u = knowing v (noted v.part.core u)
 
 abbrev pub signs_to : Step Cell → Sat → ℕ → Sat → Type 0
-signs_to st m found m' = (u : ℕ) → st.word ≡ sign_at u → m' ≡ (signing m.0 u, m.1)
+signs_to st m found m' = (u : ℕ) → st.word ≡ sign_at u →
+    (found ≡ 0 → m' ≡ (condemning m.0 u, m.1)) × (found ≢ 0 → m' ≡ (noting m.0 u, m.1))
 
 -- ---- own_sign: what the seat finds in its own sign stays so, unless it is 0 and others may sign the seat
 

@@ -14,7 +14,7 @@ use Rattle.ww_plain.specs.Meaning.{graph_after}
 use Rattle.ww_plain.specs.History.{Recorded, IsNext}
 use Rattle.ww_view.specs.declared.view.View.{View}
 use Rattle.ww_view.specs.View.{owns, IsAway, IsBare}
-use Rattle.ww_view.specs.Made.{begun, ended, fast_taken, fast_missed, fast_given, has_read}
+use Rattle.ww_view.specs.Made.{begun, ended, fast_taken, fast_missed, fast_given, fast_kept, has_read}
 use Rattle.ww_rule.specs.declared.cells.Cell.{Cell}
 use Rattle.ww_rule.specs.declared.cells.Cell.TheVariants.{Content}
 use Rattle.ww_rule.specs.declared.cells.Part.{Part}
@@ -60,8 +60,13 @@ takes_to st m found m' = (n : ℕ) → st.word ≡ owner_at n →
 abbrev pub giving : Sight → ℕ → Sight
 giving v n = record v { part = record (v.part) { core = fast_given v.part.core n }; held = slice_set v.held n None }
 
+-- ... and where somebody does, it is kept
+abbrev pub keeping : Sight → Sight
+keeping v = knowing v (fast_kept v.part.core)
+
 abbrev pub gives_to : Step Cell → Sat → ℕ → Sat → Type 0
-gives_to st m found m' = (n : ℕ) → st.word ≡ owner_at n → (found ≡ st.first → m' ≡ (giving m.0 n, rest m.1)) × (found ≢ st.first → m' ≡ m)
+gives_to st m found m' = (n : ℕ) → st.word ≡ owner_at n →
+    (found ≡ st.first → m' ≡ (giving m.0 n, rest m.1)) × (found ≢ st.first → m' ≡ (keeping m.0, m.1))
 
 -- ---- end: the context ends, where the own sign is 0
 

@@ -1,5 +1,5 @@
 -- What each step inside a guard asks of the seat beside its view, and what it makes of the seat.
-use Rattle.std.specs.Prelude.{ℕ, ◌≡◌, ◌≢◌, ◌<◌, ◌==◌, Bool, List, [], ◌∷◌, length, slice_set, Some, None}
+use Rattle.std.specs.Prelude.{ℕ, suc, ◌≡◌, ◌≢◌, ◌<◌, ◌==◌, Bool, List, [], ◌∷◌, length, slice_set, Some, None}
 use Rattle.atomic_table.specs.Table.{Step, rest}
 use Rattle.ww_word.specs.declared.owner.Owner.{Owner}
 use Rattle.ww_word.specs.Owner.{IsValid, packed}
@@ -22,10 +22,18 @@ use Rattle.ww_rule.specs.Guards.{lost}
 abbrev pub Expects : Step Cell → ℕ → Owner → Type 0
 Expects st n o = (st.word ≡ owner_at n) × IsValid o × (st.first ≡ packed o)
 
--- what such a step makes of the seat where the word is the one expected; where it is another, nothing but that it made
--- a step
+-- the seat is inside the guard, somebody waits there, and this is the owner that it saw last
+pub record SeesWaiters (v : View) (n : ℕ) (o : Owner) : Type 0 where
+  pub inside : v.inside ≡ suc n
+  pub waits : v.list ≢ []
+  pub seen : v.seen ≡ Some o
+
+-- What such a step makes of the seat where the word is the one expected; where it is another, nothing but that it made
+-- a step. It is the one expected where the seat saw it and somebody waits: nobody else writes it then.
 abbrev pub tries_to : (ℕ → Owner → Sat → Sat → Type 0) → Step Cell → Sat → ℕ → Sat → Type 0
-tries_to wins st m found m' = (n : ℕ) (o : Owner) → Expects st n o → (found ≡ packed o → wins n o m m') × (found ≢ packed o → m' ≡ (lost m.0, m.1))
+tries_to wins st m found m' = (n : ℕ) (o : Owner) → Expects st n o →
+    (found ≡ packed o → wins n o m m') × (found ≢ packed o → m' ≡ (lost m.0, m.1))
+    × (SeesWaiters m.0.part.core n o → found ≡ packed o)
 
 -- the wait list is the slot taken last, and the seat is as it was but for the order of its slots
 pub record HasListOnTop (m : Sat) (n : ℕ) (m' : Sat) : Type 0 where

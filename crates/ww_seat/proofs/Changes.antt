@@ -156,6 +156,8 @@ module _ (size : ℕ) (m : Sat) (r : Record) (before after : List Node) (ns : Li
     stopped = ap (λ (w : Sight). w.part.core.stopped) v;
     owned = ap (λ (w : Sight). w.part.core.owned) v;
     tries = ap (λ (w : Sight). w.part.core.tries) v;
+    takes = ap (λ (w : Sight). w.part.core.takes) v;
+    deaths = ap (λ (w : Sight). w.part.core.deaths) v;
     own = ap (λ (w : Sight). w.part.own) v;
     above = above;
     named = λ n e. ap (λ (w : Sight). get_elem? w.held n) v ∙ named_after n e;

@@ -22,10 +22,10 @@ use Rattle.ww_view.specs.Made.{entry_of_view, has_read}
 use Rattle.ww_rule.specs.declared.cells.Sight.{Sight}
 use Rattle.ww_rule.specs.Rule.{Sat}
 use Rattle.ww_rule.specs.Guards.{AreSeats}
-use Rattle.ww_rule.specs.Signs.{signing, reading, finding_none}
+use Rattle.ww_rule.specs.Signs.{condemning, noting, reading, finding_none}
 use Rattle.ww_rule.specs.Waiting.{HasListOnTop}
 use Rattle.ww_seat.specs.Orderly.{IsOrderly}
-use Rattle.ww_seat.specs.Work.{IsTold, IsTouched, IsWorking, SeesOther, HasNoted, MayStay}
+use Rattle.ww_seat.specs.Work.{AreWoken, IsTold, IsTouched, IsWorking, SeesOther, HasNoted, MayStay}
 use Rattle.ww_seat.proofs.Outside.{orderly_knowing}
 use Rattle.ww_seat.proofs.Working.{touched_read}
 
@@ -53,17 +53,44 @@ pub may_sign : (size n : ℕ) (owed : List (ℕ × ℕ)) (m m1 : Sat) (o : Owner
 may_sign size n owed m m1 o u k inside seen h has = subst (λ (z : Sight). MaySign z.part.core n u k) (sym h.view) (record { inside = inside; owes = (o, seen, has) })
 
 pub noted_none : (size : ℕ) (m m1 : Sat) → IsTouched size m m1 → m1.0 ≡ m.0 → HasNoted size [] m m1
-noted_none size m m1 t same = record { orderly = t.orderly; signed = m.0.part.core.signed; fresh = m.0.part.core.fresh; view = same; all = λ u k none. absurd none }
+noted_none size m m1 t same = record { orderly = t.orderly; signed = m.0.part.core.signed; condemned = m.0.part.core.condemned; fresh = m.0.part.core.fresh; view = same; all = λ u k none. absurd none }
 
-pub noted_more : (size : ℕ) (xs ys : List (ℕ × ℕ)) (m m1 m2 : Sat) (u : ℕ) → HasNoted size xs m m1 → m2 ≡ (signing m1.0 u, m1.1)
+-- another seat was found or made signed, as the step told
+abbrev noted_by : Bool → Sight → ℕ → Sight
+noted_by true v u = condemning v u
+noted_by false v u = noting v u
+
+pub noted_more : (size : ℕ) (xs ys : List (ℕ × ℕ)) (m m1 m2 : Sat) (won : Bool) (u : ℕ) → HasNoted size xs m m1 → m2 ≡ (noted_by won m1.0 u, m1.1)
     → ((v k : ℕ) → Has ys (v, k) → Has xs (v, k) ⊎ (v ≡ u)) → HasNoted size ys m m2
-noted_more size xs ys m m1 m2 u h is more = record {
-  orderly = orderly_knowing size m1 m2 (signing m1.0 u).part.core h.orderly is refl refl refl refl;
+noted_more size xs ys m m1 m2 true u h is more = record {
+  orderly = orderly_knowing size m1 m2 (condemning m1.0 u).part.core h.orderly is refl refl refl refl;
   signed = u ∷ h.signed;
+  condemned = u ∷ h.condemned;
   fresh = false;
-  view = ap (λ (z : Sat). z.0) is ∙ ap (λ (z : Sight). signing z u) h.view;
+  view = ap (λ (z : Sat). z.0) is ∙ ap (λ (z : Sight). condemning z u) h.view;
   all = λ v k has. ⊎_elim (λ old. inr (h.all v k old)) (λ e. inl e) (more v k has);
 }
+noted_more size xs ys m m1 m2 false u h is more = record {
+  orderly = orderly_knowing size m1 m2 (noting m1.0 u).part.core h.orderly is refl refl refl refl;
+  signed = u ∷ h.signed;
+  condemned = h.condemned;
+  fresh = false;
+  view = ap (λ (z : Sat). z.0) is ∙ ap (λ (z : Sight). noting z u) h.view;
+  all = λ v k has. ⊎_elim (λ old. inr (h.all v k old)) (λ e. inl e) (more v k has);
+}
+
+pub noted_is : (won : Bool) (m1 m2 : Sat) (u : ℕ) → (won ≡ true → m2 ≡ (condemning m1.0 u, m1.1)) → (won ≡ false → m2 ≡ (noting m1.0 u, m1.1)) → m2 ≡ (noted_by won m1.0 u, m1.1)
+noted_is true m1 m2 u on off = on refl
+noted_is false m1 m2 u on off = off refl
+
+-- those condemned before are still to be woken, and another where the step condemned it
+pub woken_noted : (m1 m2 : Sat) (was wakes : List Bool) (won : Bool) (who u : ℕ) → who ≡ m1.0.part.core.who → m2 ≡ (noted_by won m1.0 u, m1.1) → AreWoken m1.0.part.core was
+    → ((t : ℕ) → get_or was t false ≡ true → get_or wakes t false ≡ true) → (won ≡ true → u ≢ who → get_or wakes u false ≡ true) → AreWoken m2.0.part.core wakes
+woken_noted m1 m2 was wakes won who u own is woken before added = subst (λ (z : Sat). AreWoken z.0.part.core wakes) (sym is) (go won added)
+  where
+    go : (b : Bool) → (b ≡ true → u ≢ who → get_or wakes u false ≡ true) → AreWoken (noted_by b m1.0 u).part.core wakes
+    go true adds t has other = ⊎_elim (λ e. subst (λ (x : ℕ). get_or wakes x false ≡ true) (sym e) (adds refl (λ z. other (e ∙ z ∙ own)))) (λ old. before t (woken t old other)) has
+    go false adds t has other = before t (woken t has other)
 
 pub take_all : {A : Type 0} (xs : List A) → take (length xs) xs ≡ xs
 take_all [] = refl
@@ -180,8 +207,8 @@ still_loud n m m1 top kind has = subst (λ (z : Sat). ¬ IsQuiet z.0.part.core) 
 take_more : {A : Type 0} (xs : List A) (i : ℕ) (d y : A) → i < length xs → Has (take (i + 1) xs) y → Has (take i xs) y ⊎ (y ≡ get_or xs i d)
 take_more xs i d y low h = let e : i + 1 ≡ suc i = omega arith in take_has xs i d y low (subst (λ (j : ℕ). Has (take j xs) y) e h)
 
-pub noted_step : (size i : ℕ) (items : List (ℕ × ℕ)) (m m1 m2 : Sat) → i < length items → HasNoted size (take i items) m m1 → m2 ≡ (signing m1.0 (get_or items i (0, 0)).0, m1.1) → HasNoted size (take (i + 1) items) m m2
-noted_step size i items m m1 m2 low h is = noted_more size (take i items) (take (i + 1) items) m m1 m2 (get_or items i (0, 0)).0 h is
+pub noted_step : (size i : ℕ) (items : List (ℕ × ℕ)) (m m1 m2 : Sat) (won : Bool) → i < length items → HasNoted size (take i items) m m1 → m2 ≡ (noted_by won m1.0 (get_or items i (0, 0)).0, m1.1) → HasNoted size (take (i + 1) items) m m2
+noted_step size i items m m1 m2 won low h is = noted_more size (take i items) (take (i + 1) items) m m1 m2 won (get_or items i (0, 0)).0 h is
     (λ v k has. ⊎_elim (λ old. inl old) (λ e. inr (ap (λ (p : ℕ × ℕ). p.0) e)) (take_more items i (0, 0) (v, k) low has))
 
 has_taken : {A : Type 0} (xs : List A) (i : ℕ) (y : A) → length xs ≤ i → Has xs y → Has (take i xs) y
@@ -196,6 +223,7 @@ pub noted_all : (size i : ℕ) (items owed : List (ℕ × ℕ)) (m m1 : Sat) →
 noted_all size i items owed m m1 all is h = record {
   orderly = h.orderly;
   signed = h.signed;
+  condemned = h.condemned;
   fresh = h.fresh;
   view = h.view;
   all = λ u k has. h.all u k (has_taken items i (u, k) all (subst (λ (l : List (ℕ × ℕ)). Has l (u, k)) (sym is) has));

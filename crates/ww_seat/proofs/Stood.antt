@@ -10,9 +10,10 @@ use Rattle.ww_queue.proofs.Joins.{joined_has, joined_new, joined_once}
 use Rattle.ww_queue.proofs.Leaves.{left_gone, entry_when}
 use Rattle.ww_queue.proofs.Deaths.{only_waiters_die, death_is_of_context}
 use Rattle.ww_model.specs.Snapshot.{IsFirst}
+use Rattle.ww_view.specs.declared.view.Met.{Met}
 use Rattle.ww_view.specs.declared.view.View.{View}
 use Rattle.ww_view.specs.Word.{asked_word, rest_word}
-use Rattle.ww_view.specs.May.{MayJoin, MayAsk, MayDie, WantsSigns, NothingToAsk}
+use Rattle.ww_view.specs.May.{MayJoin, MayAsk, MayDie, WantsSigns, NothingToAsk, IsShownBy}
 use Rattle.ww_view.specs.Made.{entry_of_view, queued, died, exited, once_outside}
 use Rattle.ww_view.proofs.Deaths.{die_shows, die_notes}
 use Rattle.ww_rule.specs.declared.cells.Cell.{Cell}
@@ -61,7 +62,7 @@ has_stood size n m m1 o p stands ord off inside few small sees got is valid = re
   work = λ l w. subst (λ (z : Sat). IsAtWork size n m true l z) (sym got.2) (record {
     orderly = listed_orderly size m n (joining m.0 n o) got.0 ord inside got.1 refl refl refl refl;
     working = working_queued n l m.0.part.core o (subst (λ (b : Bool). IsWorking n b l m.0.part.core) off w) few small;
-    holds = record { same = record { kind = refl; who = refl; stamp = refl; own = refl; counts = refl; stopped = refl }; owned = refl; held = refl };
+    holds = record { same = record { kind = refl; who = refl; stamp = refl; own = refl; counts = refl; stopped = refl }; owned = refl; held = refl; takes = refl; deaths = refl };
     tries = refl;
   });
   sees = subst (λ (x : Owner). SeesOther x m1.0.part.core) (sym is) (subst (λ (z : Sat). SeesOther (with_waiters o) z.0.part.core) (sym got.2) (record { seen = refl; valid = subst IsValid is valid; other = sees.other }));
@@ -140,8 +141,8 @@ pub dying_orderly : (size n : ℕ) (m m1 : Sat) (o : Owner) → IsOrderly size m
 dying_orderly size n m m1 o ord inside got = (subst (IsOrderly size) (sym got.2) (listed_orderly size m n (dying m.0 o) got.0 ord inside got.1 refl refl refl refl), ap (λ (z : Sat). z.0) got.2)
 
 -- whoever left the wait list may go, whatever it notes of that
-pub gone_goes : (n : ℕ) (l : Bool) (v : View) (o : Owner) (met : Option (ℕ × ℕ)) (heeded : ℕ) (stopped : List (ℕ × ℕ)) → IsWorking n true l v → MayGo n (record (died v o) { met = met; heeded = heeded; stopped = stopped })
-gone_goes n l v o met heeded stopped w = let q : List Entry = left v.list v.who in record {
+pub gone_goes : (n : ℕ) (l : Bool) (v : View) (o : Owner) (deaths : ℕ) (met : Option Met) (heeded : ℕ) (stopped : List (ℕ × ℕ)) → IsWorking n true l v → MayGo n (record (died v o) { deaths = deaths; met = met; heeded = heeded; stopped = stopped })
+gone_goes n l v o deaths met heeded stopped w = let q : List Entry = left v.list v.who in record {
   inside = w.inside;
   why = inl (refl, w.want.lacks);
   acted = w.place.2;
@@ -151,19 +152,40 @@ gone_goes n l v o met heeded stopped w = let q : List Entry = left v.list v.who 
 }
 
 pub died_goes : (n : ℕ) (l : Bool) (m m1 : Sat) (o : Owner) → IsWorking n true l m.0.part.core → m1.0 ≡ dying m.0 o → MayGo n m1.0.part.core
-died_goes n l m m1 o w is = let v : View = m.0.part.core in subst (λ (z : Sight). MayGo n z.part.core) (sym is) (gone_goes n l v o (died v o).met v.heeded v.stopped w)
+died_goes n l m m1 o w is = let v : View = m.0.part.core in subst (λ (z : Sight). MayGo n z.part.core) (sym is) (gone_goes n l v o (v.deaths + 1) (died v o).met v.heeded v.stopped w)
+
+-- in Wound-Wait the own sign stays known outside
+shown_outside : (kind : Kind) (sign : Option ℕ) (q : List Entry) (who : ℕ) (o : Owner) (k : ℕ) → IsShownBy kind sign q who o k → IsShownBy kind (once_outside kind sign) q who o k
+shown_outside WoundWait sign q who o k s = s
+shown_outside WaitDie sign q who o k s = record { wounded = λ w. absurd (cc); older = s.older }
 
 pub look_died : (size n : ℕ) (l : Bool) (m m1 m2 : Sat) (o : Owner) (k : ℕ) → IsWorking n true l m.0.part.core → MayDie m.0.part.core n o k → k < m.0.part.core.stamp → m1.0 ≡ dying m.0 o → m2.0 ≡ exiting m1.0 → IsOrderly size m2
     → IsLook size n m (Deadlk k) m2
 look_died size n l m m1 m2 o k w may older is out ord =
     let view : m2.0 ≡ exiting (dying m.0 o) = out ∙ ap exiting is in
     let met : HasToDie m n k m2 = record {
-      holds = subst (λ (z : Sight). HoldsAsBefore m (z, m2.1)) (sym view) (record { same = record { kind = refl; who = refl; stamp = refl; own = refl; counts = refl; stopped = refl }; owned = refl; held = refl });
+      same = record {
+        kind = ap (λ (z : Sight). z.part.core.kind) view;
+        who = ap (λ (z : Sight). z.part.core.who) view;
+        stamp = ap (λ (z : Sight). z.part.core.stamp) view;
+        own = ap (λ (z : Sight). z.part.own) view;
+        counts = ap (λ (z : Sight). z.part.counts) view;
+        stopped = ap (λ (z : Sight). z.part.core.stopped) view;
+      };
+      owned = ap (λ (z : Sight). z.part.core.owned) view;
+      held = ap (λ (z : Sight). z.held) view;
+      takes = ap (λ (z : Sight). z.part.core.takes) view;
+      deaths = ap (λ (z : Sight). z.part.core.deaths) view;
       one = owns_one m.0.part.core (dying_holds m.0.part.core.kind o m.0.part.core may.why.0 k w.place.1 may.why.2);
       context = death_is_of_context m.0.part.core.kind o m.0.part.core.list m.0.part.core.who may.why.0 k may.why.2;
       older = older;
-      met = record { view = m.0.part.core; word = o; may = may; met = die_shows m.0.part.core n o k may; now = ap (λ (z : Sight). z.part.core) view };
-      noted = ap (λ (z : Sight). z.part.core.met) view ∙ die_notes m.0.part.core n o k may;
+      met = record {
+        owner = o;
+        list = m.0.part.core.list;
+        noted = ap (λ (z : Sight). z.part.core.met) view ∙ die_notes m.0.part.core n o k may;
+        shown = subst (λ (z : Sight). IsShownBy z.part.core.kind z.part.core.sign m.0.part.core.list z.part.core.who o k) (sym view)
+            (shown_outside m.0.part.core.kind m.0.part.core.sign m.0.part.core.list m.0.part.core.who o k (die_shows m.0.part.core n o k may));
+      };
     } in (ord, (ap (λ (z : Sight). z.part.core.inside) view, ap (λ (z : Sight). z.part.core.waits) view), met)
 
 pub died_tries : (m m1 m2 : Sat) (o : Owner) → m1.0 ≡ dying m.0 o → m2.0 ≡ exiting m1.0 → m2.0.part.core.tries ≡ m.0.part.core.tries
@@ -184,14 +206,14 @@ stays_outside size n l m m' w out ord = let v : View = m.0.part.core in (
     place = inr (ap (λ (z : Sight). z.part.core.waits) out ∙ w.place.0);
   },
   ap (λ (z : Sight). z.part.core.waits) out ∙ w.place.0,
-  subst (λ (z : Sight). HoldsAsBefore m (z, m'.1)) (sym out) (record { same = record { kind = refl; who = refl; stamp = refl; own = refl; counts = refl; stopped = refl }; owned = refl; held = refl }),
+  subst (λ (z : Sight). HoldsAsBefore m (z, m'.1)) (sym out) (record { same = record { kind = refl; who = refl; stamp = refl; own = refl; counts = refl; stopped = refl }; owned = refl; held = refl; takes = refl; deaths = refl }),
 )
 
 -- who found nothing to ask for, signed all that it owes and doesn't have to die may go: m1 once it asked, m2 once it signed
 pub stays_goes : (size n : ℕ) (l : Bool) (m1 m2 m3 : Sat) (o : Owner) → IsWorking n true l m1.0.part.core → HasAsked o l m1.0.part.core → HasSigned size o m1 m2 → (t : IsTold size m2 m3) → MayStay o m3.0.part.core → MayGo n m3.0.part.core
 stays_goes size n l m1 m2 m3 o w asked h t stay =
-    let view : m3.0 ≡ knowing m1.0 (told (touched m1.0.part.core m1.0.part.core.seen h.signed h.fresh) t.sign t.fresh) = t.view ∙ ap (λ (z : Sight). knowing z (told z.part.core t.sign t.fresh)) h.view in
-    let stay2 : MayStay o (told (touched m1.0.part.core m1.0.part.core.seen h.signed h.fresh) t.sign t.fresh) = subst (λ (z : Sight). MayStay o z.part.core) view stay in
+    let view : m3.0 ≡ knowing m1.0 (told (touched m1.0.part.core m1.0.part.core.seen h.signed h.condemned h.fresh) t.sign t.fresh) = t.view ∙ ap (λ (z : Sight). knowing z (told z.part.core t.sign t.fresh)) h.view in
+    let stay2 : MayStay o (told (touched m1.0.part.core m1.0.part.core.seen h.signed h.condemned h.fresh) t.sign t.fresh) = subst (λ (z : Sight). MayStay o z.part.core) view stay in
     subst (λ (z : Sight). MayGo n z.part.core) (sym view) (record {
       inside = w.inside;
       why = inr (record { word = o; seen = asked.sees.seen; signed = h.all; other = inr asked.sees.other; lives = stay2.lives });

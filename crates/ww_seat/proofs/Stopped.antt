@@ -76,7 +76,7 @@ module _ (size n mark : ℕ) (l : Bool) (m m1 : Sat) (ord : IsOrderly size m) (w
 
   pub stopped_goes : (o : Owner) (m2 : Sat) → HasLeft o m2 → MayGo n m2.0.part.core
   stopped_goes o m2 left = subst (λ (z : Sight). MayGo n z.part.core) (sym left.view)
-      (gone_goes n l m.0.part.core o None 0 (stopping (heeding m.0 mark) o).part.core.stopped w)
+      (gone_goes n l m.0.part.core o m.0.part.core.deaths None 0 (stopping (heeding m.0 mark) o).part.core.stopped w)
 
   abbrev by : ℕ
   by = mark - 1
@@ -87,7 +87,7 @@ module _ (size n mark : ℕ) (l : Bool) (m m1 : Sat) (ord : IsOrderly size m) (w
   pub look_stopped : (o : Owner) (m2 m3 : Sat) → HasLeft o m2 → m3.0 ≡ exiting m2.0 → IsOrderly size m3 → IsLook size n m (Interrupted by) m3
   look_stopped o m2 m3 left out ord3 = let view : m3.0 ≡ exiting (stopping (heeding m.0 mark) o) = out ∙ ap exiting left.view in
       let stopped : HasStopped m n by m3 = subst (λ (z : Sight). HasStopped m n by (z, m3.1)) (sym view)
-      (record { kind = refl; who = refl; stamp = refl; own = refl; counts = refl; stopped = named o; owned = refl; held = refl; unmet = refl }) in
+      (record { kind = refl; who = refl; stamp = refl; own = refl; counts = refl; stopped = named o; owned = refl; held = refl; takes = refl; deaths = refl; unmet = refl }) in
       (ord3, (ap (λ (z : Sight). z.part.core.inside) view, ap (λ (z : Sight). z.part.core.waits) view), stopped)
 
   pub stopped_tries : (o : Owner) (m2 m3 : Sat) → HasLeft o m2 → m3.0 ≡ exiting m2.0 → m3.0.part.core.tries ≡ m.0.part.core.tries

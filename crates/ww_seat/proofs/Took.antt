@@ -129,10 +129,10 @@ word_read n m m1 o top is = is ∙ ap (λ (z : Sat). taken_word z.0.part.core.wh
 
 -- ---- on the way out
 
-go_taken : (n : ℕ) (s l : Bool) (v : View) (signed : List ℕ) (fresh : Bool) → IsWorking n s l v
+go_taken : (n : ℕ) (s l : Bool) (v : View) (signed condemned : List ℕ) (fresh : Bool) → IsWorking n s l v
     → ((u k : ℕ) → Has (owed_signs v.kind (taken_word v.who v.stamp (left v.list v.who)) (left v.list v.who) v.who) (u, k) → Has signed u)
-    → MayGo n (touched (taken v n) (taken v n).seen signed fresh)
-go_taken n s l v signed fresh w all =
+    → MayGo n (touched (taken v n) (taken v n).seen signed condemned fresh)
+go_taken n s l v signed condemned fresh w all =
     let q : List Entry = left v.list v.who in let word : Owner = taken_word v.who v.stamp q in
     let lives : v.kind ≡ WaitDie → must_die v.kind word q v.who 0 ≡ None = λ _. only_waiters_die v.kind word q v.who 0 (left_gone v.list v.who w.once) in
     record {
@@ -147,8 +147,8 @@ go_taken n s l v signed fresh w all =
 pub taken_goes : (size n : ℕ) (s l : Bool) (m m2 m3 : Sat) (x : Node) (word : Owner) → IsWorking n s l m.0.part.core → IsTaken size n m x m2
     → word ≡ taken_word m2.0.part.core.who m2.0.part.core.stamp m2.0.part.core.list → HasSigned size word m2 m3 → MayGo n m3.0.part.core
 taken_goes size n s l m m2 m3 x word w t is h =
-    subst (λ (z : Sight). MayGo n z.part.core) (sym (h.view ∙ ap (λ (z : Sight). knowing z (touched z.part.core z.part.core.seen h.signed h.fresh)) t.view))
-    (go_taken n s l m.0.part.core h.signed h.fresh w
+    subst (λ (z : Sight). MayGo n z.part.core) (sym (h.view ∙ ap (λ (z : Sight). knowing z (touched z.part.core z.part.core.seen h.signed h.condemned h.fresh)) t.view))
+    (go_taken n s l m.0.part.core h.signed h.condemned h.fresh w
     (λ u k has. h.all u k (subst (λ (o : Owner). Has (owed_signs m2.0.part.core.kind o m2.0.part.core.list m2.0.part.core.who) (u, k)) (sym is)
     (subst (λ (z : Sight). Has (owed_signs z.part.core.kind (taken_word z.part.core.who z.part.core.stamp z.part.core.list) z.part.core.list z.part.core.who) (u, k)) (sym t.view) has))))
 
@@ -162,8 +162,8 @@ named d (some None) = d
 named d maybe.none = d
 
 out_view : (size n : ℕ) (m m2 m3 m4 : Sat) (x : Node) (owed : List (ℕ × ℕ)) → IsTaken size n m x m2 → (h : HasNoted size owed m2 m3) → m4.0 ≡ exiting m3.0
-    → m4.0 ≡ exiting (knowing (taking_inside m.0 n x) (touched (taken m.0.part.core n) (taken m.0.part.core n).seen h.signed h.fresh))
-out_view size n m m2 m3 m4 x owed t h out = out ∙ ap exiting (h.view ∙ ap (λ (z : Sight). knowing z (touched z.part.core z.part.core.seen h.signed h.fresh)) t.view)
+    → m4.0 ≡ exiting (knowing (taking_inside m.0 n x) (touched (taken m.0.part.core n) (taken m.0.part.core n).seen h.signed h.condemned h.fresh))
+out_view size n m m2 m3 m4 x owed t h out = out ∙ ap exiting (h.view ∙ ap (λ (z : Sight). knowing z (touched z.part.core z.part.core.seen h.signed h.condemned h.fresh)) t.view)
 
 -- its node is out
 pub node_out : (size n : ℕ) (m m2 m3 m4 : Sat) (x : Node) (owed : List (ℕ × ℕ)) → IsOrderly size m → n < size → IsTaken size n m x m2 → HasNoted size owed m2 m3 → m4.0 ≡ exiting m3.0 → IsOrderly size m4 → (y : Node) × (slot_of m4.1 n ≡ Some (Content y))
@@ -176,8 +176,8 @@ pub look_taken : (size n : ℕ) (s l : Bool) (m m2 m3 m4 m5 : Sat) (x r : Node) 
     → (others : List (ℕ × Cell)) × AreOthers m4.1 n (Content r) others × (m5 ≡ (m4.0, (n, Content r) ∷ others)) → IsLook size n m (Locked r) m5 × (m5.0.part.core.tries ≡ m.0.part.core.tries)
 look_taken size n s l m m2 m3 m4 m5 x r owed o low w t h out o4 got =
     let long = o.owned in let wide = o.held in let few = o.few in
-    let base : m4.0 ≡ exiting (knowing (taking_inside m.0 n x) (touched (taken m.0.part.core n) (taken m.0.part.core n).seen h.signed h.fresh)) =
-    out ∙ ap exiting (h.view ∙ ap (λ (z : Sight). knowing z (touched z.part.core z.part.core.seen h.signed h.fresh)) t.view) in
+    let base : m4.0 ≡ exiting (knowing (taking_inside m.0 n x) (touched (taken m.0.part.core n) (taken m.0.part.core n).seen h.signed h.condemned h.fresh)) =
+    out ∙ ap exiting (h.view ∙ ap (λ (z : Sight). knowing z (touched z.part.core z.part.core.seen h.signed h.condemned h.fresh)) t.view) in
     let o5 : IsOrderly size m5 = orderly_brought size m4 m5 n (Content r) got.0 o4 got.1 got.2 in
     let own : owns m4.0.part.core n ≡ true = ap (λ (z : Sight). owns z.part.core n) base ∙ owns_here m.0.part.core.owned n true (omega arith) in
     let at = (o4.nodes n own).1 in
@@ -185,11 +185,13 @@ look_taken size n s l m m2 m3 m4 m5 x r owed o low w t h out o4 got =
     let one : at.0 ≡ x = ap (named no_node) (sym at.1 ∙ held_is) in
     let two : Content at.0 ≡ Content r = same_cell (slot_of m4.1 n) (Content at.0) (Content r) at.2 (others_had m4.1 n (Content r) got.0 o4.apart got.1) in
     let same : r ≡ x = sym (ap node_in two) ∙ one in
-    let view : m5.0 ≡ exiting (knowing (taking_inside m.0 n x) (touched (taken m.0.part.core n) (taken m.0.part.core n).seen h.signed h.fresh)) = ap (λ (z : Sat). z.0) got.2 ∙ base in
+    let view : m5.0 ≡ exiting (knowing (taking_inside m.0 n x) (touched (taken m.0.part.core n) (taken m.0.part.core n).seen h.signed h.condemned h.fresh)) = ap (λ (z : Sat). z.0) got.2 ∙ base in
     let took : HasTaken m n r m5 = subst (λ (y : Node). HasTaken m n y m5) (sym same) (subst (λ (z : Sight). HasTaken m n x (z, m5.1)) (sym view) (record {
       same = record { kind = refl; who = refl; stamp = refl; own = refl; counts = refl; stopped = refl };
       owned = refl;
       held = refl;
+      takes = refl;
+      deaths = refl;
       node = t.node;
       unmet = refl;
     })) in

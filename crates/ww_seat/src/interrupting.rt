@@ -5,7 +5,7 @@ ghost use Rattle.ww_table.specs.Seat.{IsSeatOf, size_of};
 ghost use Rattle.ww_seat.specs.declared.look.Look.TheVariants.{Interrupted};
 ghost use Rattle.ww_seat.specs.Orderly.{IsOrderly, IsSettledAt};
 ghost use Rattle.ww_seat.specs.Looks.{IsLook};
-ghost use Rattle.ww_seat.specs.Work.{IsWorking, SeesOther, GoesOn};
+ghost use Rattle.ww_seat.specs.Work.{HasCondemnedNone, IsWorking, SeesOther, GoesOn};
 
 use crate::leaving::leave;
 use crate::wake::wake_seat;
@@ -53,6 +53,7 @@ pub(crate) fn stop_if_cancelled(
     ensures heeds { IfSome result (λ _. heeds ≡ true) }
     ensures tries { IfSome result (λ _. seat.new.seat.me.0.part.core.tries ≡ seat.old.seat.me.0.part.core.tries) }
     ensures goes_on { IfNone result (GoesOn (size_of board.now) seat.old.seat.me seat.new.seat.me) }
+    ensures condemned { HasCondemnedNone seat.old.seat.me seat.new.seat.me }
 {
     if !heeds {
         return None;

@@ -3,7 +3,7 @@ ghost use Rattle.std.specs.Prelude.{ℕ, ◌≡◌, ◌≢◌, ◌<◌, ◌⊎�
 ghost use Rattle.ww_table.specs.Seat.{IsSeatOf, size_of};
 ghost use Rattle.ww_seat.specs.Orderly.{IsOrderly};
 ghost use Rattle.ww_seat.specs.Looks.{IsInside, IsLook, MayLookSo};
-ghost use Rattle.ww_seat.specs.Work.{IsWorking, IsAtWork};
+ghost use Rattle.ww_seat.specs.Work.{AreWoken, IsWorking, IsAtWork};
 
 use crate::interrupting::stop_if_cancelled;
 use crate::standing::{stand, stay_or_back_off};
@@ -56,12 +56,14 @@ fn look_once(
     requires lock { lock < size_of board.now }
     requires orderly { IsOrderly (size_of board.now) seat.old.seat.me }
     requires work { IsWorking lock stands.old is_later seat.old.seat.me.0.part.core }
+    requires woken { AreWoken seat.old.seat.me.0.part.core wake.old.seats }
     ensures seat { IsSeatOf board.now seat.new }
     ensures records { seat.new.records ≡ seat.old.records }
     ensures look { IfSome result (λ look. IsLook (size_of board.now) lock seat.old.seat.me look seat.new.seat.me) }
     ensures heeds { IfSome result (MayLookSo heeds) }
     ensures tries { IfSome result (λ _. seat.new.seat.me.0.part.core.tries ≡ seat.old.seat.me.0.part.core.tries) }
     ensures lost { IfNone result (IsAtWork (size_of board.now) lock seat.old.seat.me stands.new is_later seat.new.seat.me) }
+    ensures woken { AreWoken seat.new.seat.me.0.part.core wake.new.seats }
 {
     let seen = seat.look(board, lock);
     if is_ours(seat, seen) {
@@ -95,11 +97,13 @@ pub(crate) fn look_at<R: Wait>(
     requires lock { lock < size_of board.now }
     requires inside { IsInside (size_of board.now) lock seat.old.seat.me }
     requires later { is_later ≡ seat.old.seat.me.0.part.core.later }
+    requires woken { AreWoken seat.old.seat.me.0.part.core wake.old.seats }
     ensures seat { IsSeatOf board.now seat.new }
     ensures records { seat.new.records ≡ seat.old.records }
     ensures look { IsLook (size_of board.now) lock seat.old.seat.me result seat.new.seat.me }
     ensures heeds { MayLookSo heeds result }
     ensures tries { seat.new.seat.me.0.part.core.tries ≡ seat.old.seat.me.0.part.core.tries }
+    ensures woken { AreWoken seat.new.seat.me.0.part.core wake.new.seats }
 {
     let mut stands = is_later;
     for _ in rt.forever() {

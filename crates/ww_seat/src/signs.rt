@@ -5,7 +5,7 @@ ghost use Rattle.ww_view.specs.May.{MayDie};
 ghost use Rattle.ww_table.specs.Seat.{IsSeatOf, size_of};
 ghost use Rattle.ww_rule.specs.Guards.{AreSeats};
 ghost use Rattle.ww_seat.specs.Orderly.{IsOrderly};
-ghost use Rattle.ww_seat.specs.Work.{HasSigned, IsTold, IsWorking, SeesOther, MayStay};
+ghost use Rattle.ww_seat.specs.Work.{AreWoken, HasSigned, IsTold, IsWorking, SeesOther, MayStay};
 
 use crate::wake::Wake;
 use ww_queue::Kind;
@@ -30,18 +30,18 @@ pub(crate) fn sign_all(
     requires seats { AreSeats seat.old.seat.me.0.part.core.list }
     requires valid { IsValid seen }
     requires seen { seat.old.seat.me.0.part.core.seen ≡ Some seen }
+    requires woken { AreWoken seat.old.seat.me.0.part.core wake.old.seats }
     ensures seat { IsSeatOf board.now seat.new }
     ensures records { seat.new.records ≡ seat.old.records }
     ensures signed { HasSigned (size_of board.now) seen seat.old.seat.me seat.new.seat.me }
+    ensures woken { AreWoken seat.new.seat.me.0.part.core wake.new.seats }
 {
     let who = seat.who();
     let owed = seat.owed_signs(board, lock, kind, seen);
     for pair in owed.as_slice() {
         let (victim, stamp) = *pair;
-        let is_signed = seat.sign(board, lock, victim, stamp);
-        if is_signed && victim != who {
-            wake.add(victim);
-        }
+        let is_condemned = seat.sign(board, lock, victim, stamp);
+        wake.add(who, victim, is_condemned);
     }
 }
 

@@ -6,7 +6,7 @@ ghost use Rattle.ww_table.specs.Seat.{IsSeatOf, size_of};
 ghost use Rattle.ww_seat.specs.declared.look.Look.TheVariants.{Deadlk};
 ghost use Rattle.ww_seat.specs.Orderly.{IsOrderly};
 ghost use Rattle.ww_seat.specs.Looks.{IsLook, MayLookSo};
-ghost use Rattle.ww_seat.specs.Work.{IsTouched, IsWorking, IsAtWork, SeesOther, HasStood, HasAsked};
+ghost use Rattle.ww_seat.specs.Work.{AreWoken, HasCondemnedNone, IsTouched, IsWorking, IsAtWork, SeesOther, HasStood, HasAsked};
 
 use crate::leaving::leave;
 use crate::look::Look;
@@ -34,6 +34,7 @@ pub(crate) fn stand(
     ensures records { seat.new.records ≡ seat.old.records }
     ensures stands { IfSome result (λ word. HasStood (size_of board.now) lock stands seen seat.old.seat.me word seat.new.seat.me) }
     ensures lost { IfNone result (IsTouched (size_of board.now) seat.old.seat.me seat.new.seat.me) }
+    ensures condemned { HasCondemnedNone seat.old.seat.me seat.new.seat.me }
 {
     if stands {
         return Some(seen);
@@ -97,6 +98,7 @@ fn back_off(seat: &mut Seat16, board: &Board, kind: Kind, lock: u8, seen: Owner)
     ensures met { result ≡ true → (k : ℕ) → MayDie seat.old.seat.me.0.part.core lock seen k → IsLook (size_of board.now) lock seat.old.seat.me (Deadlk k) seat.new.seat.me }
     ensures tries { result ≡ true → seat.new.seat.me.0.part.core.tries ≡ seat.old.seat.me.0.part.core.tries }
     ensures lost { result ≡ false → IsTouched (size_of board.now) seat.old.seat.me seat.new.seat.me }
+    ensures condemned { HasCondemnedNone seat.old.seat.me seat.new.seat.me }
 {
     if !seat.die(board, lock, seen) {
         return false;
@@ -123,12 +125,14 @@ pub(crate) fn stay_or_back_off(
     requires work { IsWorking lock true is_later seat.old.seat.me.0.part.core }
     requires seen { SeesOther seen seat.old.seat.me.0.part.core }
     requires flags { is_later ≡ true → seen.flags ≢ 0 }
+    requires woken { AreWoken seat.old.seat.me.0.part.core wake.old.seats }
     ensures seat { IsSeatOf board.now seat.new }
     ensures records { seat.new.records ≡ seat.old.records }
     ensures look { IfSome result (λ look. IsLook (size_of board.now) lock seat.old.seat.me look seat.new.seat.me) }
     ensures heeds { IfSome result (MayLookSo false) }
     ensures tries { IfSome result (λ _. seat.new.seat.me.0.part.core.tries ≡ seat.old.seat.me.0.part.core.tries) }
     ensures lost { IfNone result (IsAtWork (size_of board.now) lock seat.old.seat.me true is_later seat.new.seat.me) }
+    ensures woken { AreWoken seat.new.seat.me.0.part.core wake.new.seats }
 {
     let word = ask_if_first(seat, board, lock, seen, is_later)?;
     sign_all(seat, board, kind, lock, word, wake);

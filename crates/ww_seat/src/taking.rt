@@ -10,7 +10,7 @@ ghost use Rattle.ww_rule.specs.declared.cells.Cell.TheVariants.{Line};
 ghost use Rattle.ww_seat.specs.declared.look.Look.TheVariants.{Locked};
 ghost use Rattle.ww_seat.specs.Orderly.{IsOrderly};
 ghost use Rattle.ww_seat.specs.Looks.{IsLook};
-ghost use Rattle.ww_seat.specs.Work.{IsTouched, IsWorking};
+ghost use Rattle.ww_seat.specs.Work.{AreWoken, IsTouched, IsWorking};
 
 use crate::leaving::leave;
 use crate::signs::sign_all;
@@ -58,11 +58,13 @@ pub(crate) fn take_inside(
     requires work { (s l : Bool) × IsWorking lock s l seat.old.seat.me.0.part.core }
     requires valid { IsValid seen }
     requires free { (seen.seat ≡ None) ⊎ ((seen.seat ≡ Some seat.old.seat.me.0.part.core.who) × (is_handed seen ≡ true)) }
+    requires woken { AreWoken seat.old.seat.me.0.part.core wake.old.seats }
     ensures seat { IsSeatOf board.now seat.new }
     ensures records { seat.new.records ≡ seat.old.records }
     ensures took { IfSome result (λ x. IsLook (size_of board.now) lock seat.old.seat.me (Locked x) seat.new.seat.me) }
     ensures tries { IfSome result (λ _. seat.new.seat.me.0.part.core.tries ≡ seat.old.seat.me.0.part.core.tries) }
     ensures lost { IfNone result (IsTouched (size_of board.now) seat.old.seat.me seat.new.seat.me) }
+    ensures woken { AreWoken seat.new.seat.me.0.part.core wake.new.seats }
 {
     if !seat.take(board, lock, seen) {
         return None;

@@ -1,3 +1,6 @@
+ghost use Rattle.std.specs.Prelude.{ℕ, ◌≡◌, ◌≢◌, ◌<◌, true, false};
+ghost use Rattle.std.specs.List.{slice_index_or};
+
 use crossbeam_utils::sync::Unparker;
 use ww_queue::Entry;
 use ww_word::MAX_SEATS;
@@ -15,9 +18,14 @@ impl Wake {
         }
     }
 
-    pub(crate) fn add(&mut self, seat: u8) {
-        if let Some(wakes) = self.seats.get_mut(usize::from(seat)) {
-            *wakes = true;
+    /// Also wakes a seat that was condemned, but for the one that did so.
+    pub(crate) fn add(&mut self, who: u8, victim: u8, is_condemned: bool)
+        requires victim { victim < 16 }
+        ensures before { (u : ℕ) → slice_index_or self.old.seats u false ≡ true → slice_index_or self.new.seats u false ≡ true }
+        ensures added { is_condemned ≡ true → victim ≢ who → slice_index_or self.new.seats victim false ≡ true }
+    {
+        if is_condemned && victim != who {
+            self.seats[usize::from(victim)] = true;
         }
     }
 

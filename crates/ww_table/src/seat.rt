@@ -12,7 +12,7 @@ ghost use Rattle.ww_table.specs.Seat.{IsSeatOf, size_of};
 ghost use Rattle.ww_rule.specs.Out.{AreOthers, slot_of, numbers_of};
 ghost use Rattle.std.specs.Prelude.{ℕ, ◌^◌, List, nat_lt};
 ghost use Rattle.ww_word.specs.Owner.{packed};
-ghost use Rattle.ww_rule.specs.Steps.{knowing, drawing, taking, giving, MayDraw, MayEnd};
+ghost use Rattle.ww_rule.specs.Steps.{knowing, drawing, taking, giving, keeping, MayDraw, MayEnd};
 
 use crate::board::Board;
 use arrayvec::ArrayVec;
@@ -121,7 +121,7 @@ impl Seat16 {
         ensures seat { IsSeatOf board.now self.new }
         ensures records { self.new.records ≡ self.old.records }
         ensures gave { result ≡ true → (x : Node) × (self.new.seat.me.0 ≡ giving self.old.seat.me.0 lock) × AreOthers self.old.seat.me.1 lock (Content x) self.new.seat.me.1 }
-        ensures kept { result ≡ false → (x : Node) × (others : List (ℕ × Cell)) × AreOthers self.old.seat.me.1 lock (Content x) others × (self.new.seat.me ≡ (self.old.seat.me.0, (lock, Content x) ∷ others)) }
+        ensures kept { result ≡ false → (x : Node) × (others : List (ℕ × Cell)) × AreOthers self.old.seat.me.1 lock (Content x) others × (self.new.seat.me ≡ (keeping self.old.seat.me.0, (lock, Content x) ∷ others)) }
     {
         bring(&mut self.seat, &mut self.order, lock);
         let own = self.word();

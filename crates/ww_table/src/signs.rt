@@ -1,8 +1,8 @@
-ghost use Rattle.std.specs.Prelude.{◌≡◌, ◌≢◌, ◌<◌};
+ghost use Rattle.std.specs.Prelude.{◌≡◌, ◌≢◌, ◌<◌, true, false};
 ghost use Rattle.ww_view.specs.View.{IsQuiet};
 ghost use Rattle.ww_view.specs.May.{MayClear, MaySign};
 ghost use Rattle.ww_table.specs.Seat.{IsSeatOf};
-ghost use Rattle.ww_rule.specs.Signs.{signing, reading, finding_none, clearing};
+ghost use Rattle.ww_rule.specs.Signs.{condemning, noting, reading, finding_none, clearing};
 
 use crate::board::Board;
 use crate::seat::Seat16;
@@ -18,7 +18,8 @@ impl Seat16 {
         requires may { MaySign self.old.seat.me.0.part.core lock victim stamp }
         ensures seat { IsSeatOf board.now self.new }
         ensures records { self.new.records ≡ self.old.records }
-        ensures noted { self.new.seat.me ≡ (signing self.old.seat.me.0 victim, self.old.seat.me.1) }
+        ensures condemned { result ≡ true → self.new.seat.me ≡ (condemning self.old.seat.me.0 victim, self.old.seat.me.1) }
+        ensures noted { result ≡ false → self.new.seat.me ≡ (noting self.old.seat.me.0 victim, self.old.seat.me.1) }
     {
         let shared = &board.table.shared;
         shared.compare_exchange::<Sign>(&mut self.seat, sign_word(victim), 0, stamp) == 0

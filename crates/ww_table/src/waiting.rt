@@ -1,4 +1,4 @@
-ghost use Rattle.std.specs.Prelude.{ℕ, ◌≡◌, ◌<◌, ◌==◌, ◌∷◌, length, nat_lt, true, false, List, Some};
+ghost use Rattle.std.specs.Prelude.{ℕ, ◌≡◌, ◌≢◌, ◌<◌, ◌==◌, [], ◌∷◌, length, nat_lt, true, false, List, Some};
 ghost use lib.ListN.{get_elem?};
 ghost use mathlib.Core.Option.{some};
 ghost use Rattle.atomic_table.specs.Table.{rest};
@@ -28,6 +28,8 @@ use ww_rule::lists::{join_list, leave_list};
 use ww_rule::plays_inside::{Ask, Die, Give, Join, Leave, Take};
 use ww_word::{HANDOFF, Owner, WAITERS, pack};
 
+/// The steps on an owner word inside its guard. Each is made if the word is still the one expected. It is, where that is
+/// the word that the seat saw last and somebody waits (`sure`): nobody else writes it then.
 impl Seat16 {
     /// Stands in the wait list of the lock, if its owner word is still the one seen.
     pub fn join(&mut self, board: &Board, lock: u8, seen: Owner) -> bool
@@ -39,6 +41,7 @@ impl Seat16 {
         requires nodes { any_below 64 (owns self.old.seat.me.0.part.core) ≡ nat_lt 1 (length self.old.seat.me.1) }
         ensures seat { IsSeatOf board.now self.new }
         ensures records { self.new.records ≡ self.old.records }
+        ensures sure { self.old.seat.me.0.part.core.list ≢ [] → self.old.seat.me.0.part.core.seen ≡ Some seen → result ≡ true }
         ensures joined { result ≡ true → (others : List (ℕ × Cell)) × AreOthers self.old.seat.me.1 (list_at lock) (Line self.old.seat.me.0.part.core.list) others × (self.new.seat.me ≡ (joining self.old.seat.me.0 lock seen, (list_at lock, Line (queued self.old.seat.me.0.part.core lock seen).list) ∷ others)) }
         ensures lost { result ≡ false → self.new.seat.me ≡ (lost self.old.seat.me.0, self.old.seat.me.1) }
     {
@@ -68,6 +71,7 @@ impl Seat16 {
         requires valid { IsValid seen }
         ensures seat { IsSeatOf board.now self.new }
         ensures records { self.new.records ≡ self.old.records }
+        ensures sure { self.old.seat.me.0.part.core.list ≢ [] → self.old.seat.me.0.part.core.seen ≡ Some seen → result ≡ true }
         ensures asked { result ≡ true → self.new.seat.me ≡ (asking self.old.seat.me.0 seen, self.old.seat.me.1) }
         ensures lost { result ≡ false → self.new.seat.me ≡ (lost self.old.seat.me.0, self.old.seat.me.1) }
     {
@@ -91,6 +95,7 @@ impl Seat16 {
         requires room { length self.old.seat.me.1 < 65 }
         ensures seat { IsSeatOf board.now self.new }
         ensures records { self.new.records ≡ self.old.records }
+        ensures sure { self.old.seat.me.0.part.core.list ≢ [] → self.old.seat.me.0.part.core.seen ≡ Some seen → result ≡ true }
         ensures took { result ≡ true → (x : Node) × (others : List (ℕ × Cell)) × IsNodeOf (length self.old.seat.me.0.held) x × AreOthers self.old.seat.me.1 (list_at lock) (Line self.old.seat.me.0.part.core.list) others × (self.new.seat.me ≡ (taking_inside self.old.seat.me.0 lock x, (list_at lock, Line (taken self.old.seat.me.0.part.core lock).list) ∷ (lock, Content x) ∷ others)) }
         ensures lost { result ≡ false → (others : List (ℕ × Cell)) × AreOthers self.old.seat.me.1 (list_at lock) (Line self.old.seat.me.0.part.core.list) others × (self.new.seat.me ≡ (lost self.old.seat.me.0, (list_at lock, Line self.old.seat.me.0.part.core.list) ∷ others)) }
     {
@@ -124,6 +129,7 @@ impl Seat16 {
         ensures seat { IsSeatOf board.now self.new }
         ensures records { self.new.records ≡ self.old.records }
         ensures older { (k : ℕ) → MayDie self.old.seat.me.0.part.core lock seen k → k < self.old.seat.me.0.part.core.stamp }
+        ensures sure { self.old.seat.me.0.part.core.list ≢ [] → self.old.seat.me.0.part.core.seen ≡ Some seen → result ≡ true }
         ensures died { result ≡ true → (others : List (ℕ × Cell)) × AreOthers self.old.seat.me.1 (list_at lock) (Line self.old.seat.me.0.part.core.list) others × (self.new.seat.me ≡ (dying self.old.seat.me.0 seen, (list_at lock, Line (died self.old.seat.me.0.part.core seen).list) ∷ others)) }
         ensures lost { result ≡ false → (others : List (ℕ × Cell)) × AreOthers self.old.seat.me.1 (list_at lock) (Line self.old.seat.me.0.part.core.list) others × (self.new.seat.me ≡ (lost self.old.seat.me.0, (list_at lock, Line self.old.seat.me.0.part.core.list) ∷ others)) }
     {
@@ -178,6 +184,7 @@ impl Seat16 {
         requires out { (x : Node) × IsOut self.old.seat.me.1 lock (Content x) × (get_elem? self.old.seat.me.0.held lock ≡ some (Some x)) }
         ensures seat { IsSeatOf board.now self.new }
         ensures records { self.new.records ≡ self.old.records }
+        ensures sure { self.old.seat.me.0.part.core.list ≢ [] → self.old.seat.me.0.part.core.seen ≡ Some seen → result ≡ true }
         ensures gave { result ≡ true → (x : Node) × (others : List (ℕ × Cell)) × (self.new.seat.me.0 ≡ giving_inside self.old.seat.me.0 lock (seen.flags == 3)) × AreOthers self.old.seat.me.1 (list_at lock) (Line self.old.seat.me.0.part.core.list) others × AreOthers ((list_at lock, Line self.old.seat.me.0.part.core.list) ∷ others) lock (Content x) self.new.seat.me.1 }
         ensures lost { result ≡ false → (x : Node) × (others : List (ℕ × Cell)) × (rest : List (ℕ × Cell)) × AreOthers self.old.seat.me.1 (list_at lock) (Line self.old.seat.me.0.part.core.list) others × AreOthers ((list_at lock, Line self.old.seat.me.0.part.core.list) ∷ others) lock (Content x) rest × (self.new.seat.me ≡ (lost self.old.seat.me.0, (lock, Content x) ∷ rest)) }
     {

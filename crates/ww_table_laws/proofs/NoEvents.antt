@@ -4,12 +4,12 @@ use mathlib.Core.Option.{some}
 use lib.ListN.{get_elem?}
 use Rattle.ww_word.specs.declared.owner.Owner.{Owner}
 use Rattle.ww_word.specs.Owner.{IsValid, packed}
-use Rattle.ww_view.specs.Made.{noted, stepped, has_looked, has_read, found_none, fast_missed}
-use Rattle.ww_view.proofs.Inside.{mine_look, mine_lost_sign, mine_read, mine_read_none, mine_missed, mine_stepped}
+use Rattle.ww_view.specs.Made.{noted, stepped, has_looked, has_read, found_none, fast_missed, fast_kept}
+use Rattle.ww_view.proofs.Inside.{mine_look, mine_lost_sign, mine_read, mine_read_none, mine_missed, mine_kept, mine_stepped}
 use Rattle.ww_rule.specs.declared.cells.Start.{Start}
 use Rattle.ww_rule.specs.Rule.{St, Sat, Sits, Ruled, Stays}
 use Rattle.ww_rule.specs.Guards.{looking}
-use Rattle.ww_rule.specs.Signs.{signing}
+use Rattle.ww_rule.specs.Signs.{noting}
 use Rattle.ww_rule.proofs.Moves as moves
 use Rattle.ww_rule.proofs.InsideMoves.{inside_low}
 use Rattle.ww_table_laws.specs.NoEvents.{read, IsNotedOnly, IsLostOnly}
@@ -32,9 +32,10 @@ module _ (key : Start) (s : St) (r : Ruled key s) (id : ℕ) (me : Sat) (here : 
   pub lost_stays : (i : ℕ) → IsLostOnly key s r id me i
   lost_stays i = let c = r.core in let v = me.0.part.core in let k = mine.part.knows in record {
     taking = moves.looks_on key s r id me here seated i (fast_missed v) refl (λ m. refl) (mine_missed c v k);
-    giving = moves.looks_on key s r id me here seated i v refl (λ m. refl) k;
+    giving = moves.looks_on key s r id me here seated i (fast_kept v) refl (λ m. refl) (mine_kept c v k);
+    cancelling = moves.looks_on key s r id me here seated i v refl (λ m. refl) k;
     others = moves.looks_on key s r id me here seated i (stepped v) refl (λ m. refl) (mine_stepped c v k);
   }
 
-  pub lost_sign_stays : (u : ℕ) → u < 16 → get_or s.words (512 + 8 * u) 0 ≢ 0 → Stays key s r (read s (512 + 8 * u) id me (signing me.0 u))
+  pub lost_sign_stays : (u : ℕ) → u < 16 → get_or s.words (512 + 8 * u) 0 ≢ 0 → Stays key s r (read s (512 + 8 * u) id me (noting me.0 u))
   lost_sign_stays u low isnt = moves.looks_on key s r id me here seated (512 + 8 * u) (noted me.0.part.core u) refl (λ m. refl) (mine_lost_sign r.core me.0.part.core mine.part.knows u (λ z. isnt (r.words.signs u low ∙ z)))

@@ -26,7 +26,7 @@ use Rattle.ww_rule.specs.Layout.{owner_at, guard_at, sign_at, cancel_at, list_at
 use Rattle.ww_rule.specs.Rule.{St, Sat, first_graph, Ruled, Makes}
 use Rattle.ww_rule.specs.Guards.{entering, exiting}
 use Rattle.ww_rule.specs.Waiting.{joining, taking_inside, giving_inside, asking, dying}
-use Rattle.ww_rule.specs.Signs.{signing, clearing}
+use Rattle.ww_rule.specs.Signs.{condemning, clearing}
 use Rattle.ww_rule.specs.Cancels.{cancelling, heeding, stopping}
 use Rattle.ww_view.specs.View.{IsAway}
 use Rattle.ww_table_laws.specs.Laws.{Steps}
@@ -86,7 +86,7 @@ DieIsDie = (key : Start) (s : St) (r : Ruled key s) (id : ℕ) (me : Sat) (n : �
 abbrev pub SignIsSign : Type 0
 SignIsSign = (key : Start) (s : St) (r : Ruled key s) (id : ℕ) (me : Sat) (n u k : ℕ) → Steps s id me →
     MaySign me.0.part.core n u k → u < 16 → slice_index s.words (sign_at u) ≡ 0 →
-    Makes key s r (Sign me.0.part.core.who u) (stepped s (sign_at u) k id me.1 (signing me.0 u) keeps)
+    Makes key s r (Sign me.0.part.core.who u) (stepped s (sign_at u) k id me.1 (condemning me.0 u) keeps)
 
 -- the own sign word becomes 0 as Clear
 abbrev pub ClearIsClear : Type 0

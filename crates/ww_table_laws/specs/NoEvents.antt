@@ -12,9 +12,9 @@ use Rattle.ww_rule.specs.declared.cells.Sight.{Sight}
 use Rattle.ww_rule.specs.declared.cells.Start.{Start}
 use Rattle.ww_rule.specs.Layout.{owner_at, sign_at}
 use Rattle.ww_rule.specs.Rule.{St, Sat, Ruled, Stays}
-use Rattle.ww_rule.specs.Steps.{knowing, nobody, first_seat, without_first, with_seat}
+use Rattle.ww_rule.specs.Steps.{knowing, keeping, nobody, first_seat, without_first, with_seat}
 use Rattle.ww_rule.specs.Guards.{lost, looking}
-use Rattle.ww_rule.specs.Signs.{signing, reading, finding_none}
+use Rattle.ww_rule.specs.Signs.{noting, reading, finding_none}
 use Rattle.ww_table_laws.specs.Laws.{Steps}
 
 -- the table once the seat read a word, or found there another than it expected, and has this view then
@@ -39,7 +39,8 @@ OwnSignIsNoEvent = (key : Start) (s : St) (r : Ruled key s) (id : ℕ) (me : Sat
 -- cancel where one is pending; or at a guard or inside it, or to heed a cancel where none is pending.
 pub record IsLostOnly (key : Start) (s : St) (r : Ruled key s) (id : ℕ) (me : Sat) (i : ℕ) : Type 0 where
   pub taking : Stays key s r (read s i id me (knowing me.0 (fast_missed me.0.part.core)))
-  pub giving : Stays key s r (read s i id me me.0)
+  pub giving : Stays key s r (read s i id me (keeping me.0))
+  pub cancelling : Stays key s r (read s i id me me.0)
   pub others : Stays key s r (read s i id me (lost me.0))
 
 abbrev pub LostIsNoEvent : Type 0
@@ -48,7 +49,7 @@ LostIsNoEvent = (key : Start) (s : St) (r : Ruled key s) (id : ℕ) (me : Sat) (
 -- a sign for a seat that was signed already
 abbrev pub LostSignIsNoEvent : Type 0
 LostSignIsNoEvent = (key : Start) (s : St) (r : Ruled key s) (id : ℕ) (me : Sat) (u : ℕ) → Steps s id me →
-    u < 16 → slice_index s.words (sign_at u) ≢ 0 → Stays key s r (read s (sign_at u) id me (signing me.0 u))
+    u < 16 → slice_index s.words (sign_at u) ≢ 0 → Stays key s r (read s (sign_at u) id me (noting me.0 u))
 
 -- the first idle number of a seat is cut off
 abbrev pub SplitIsNoEvent : Type 0

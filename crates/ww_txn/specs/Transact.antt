@@ -7,7 +7,7 @@ use Rattle.ww_lock.specs.Holding.{Holding, AreBelow}
 use Rattle.ww_lock.specs.Making.{Covers}
 use Rattle.ww_users.specs.declared.fault.UserFault.{UserFault}
 use Rattle.ww_users.specs.declared.fault.UserFault.TheVariants as user
-use Rattle.ww_users.specs.Ways.{IsContext, IsReturned, IsCalledOff}
+use Rattle.ww_users.specs.Ways.{IsToldOfEach, IsContext, IsReturned, IsCalledOff}
 use Rattle.ww_txn.specs.declared.transacting.TxnFault.{TxnFault}
 use Rattle.ww_txn.specs.declared.transacting.TxnFault.TheVariants.{PassSpent, Already, Interrupted, NoMemory}
 
@@ -38,7 +38,10 @@ pub record IsTransacted (s a : Holding) (txn : Transaction) (told : Receipt) : T
     held = [];
     seen = a.seen;
     tries = a.tries;
+    takes = a.takes;
+    deaths = a.deaths;
   }
+  pub told : IsToldOfEach s a
   pub above : AreBelow told.place s.own
   pub seq : told.seq ≡ length s.own
   pub size : length a.seen ≡ length s.seen

@@ -15,7 +15,7 @@ use Rattle.ww_lock.specs.Holding.{Holding, Refused}
 use Rattle.ww_lock.specs.Moves.{IsTaken, IsRefused}
 use Rattle.ww_users.specs.Ways.{HoldsExactly, in_order}
 use Rattle.ww_users.specs.Trips.{IsSameContext, HoldsKept, IsContended, kept_nodes}
-use Rattle.ww_users.proofs.Contexts.{same_at_once, same_later, same_taken, same_tried}
+use Rattle.ww_users.proofs.Contexts.{same_at_once, same_later, same_taken, same_backed_off}
 
 -- what was kept at first is still kept, or its entry was skipped
 abbrev pub IsLeft : Option ℕ → Option ℕ → Type 0
@@ -107,7 +107,7 @@ different_so_far ns n (Some k) once absent = different_push ns n (different_tail
 pub way_contended : (first : Option ℕ) (s a : Holding) (b : Refused) (list : List ℕ) (position n : ℕ) (kept : Option ℕ) → position < length list → n ≡ get_or list position 0 → IsOnTheWay first s a list position kept → IsRefused a n b
     → IsSameContext s b.holding × IsContended list b position
 way_contended first s a b list position n kept lt is h refused = (
-  same_later s a b.holding h.same (same_tried a b.holding refused.tried),
+  same_later s a b.holding h.same (same_backed_off a b.holding refused.told),
   record {
     there = lt;
     entry = slice_get-get_or list position 0 lt ∙ ap Some (sym is) ∙ ap Some (sym refused.contended);

@@ -14,11 +14,12 @@ use Rattle.ww_users.specs.declared.context.Halt.{Halt}
 use Rattle.ww_users.specs.declared.context.Halt.TheVariants as halt
 use Rattle.ww_users.specs.declared.trip.Trip.{Trip}
 use Rattle.ww_users.specs.declared.trip.Trip.TheVariants.{Through, Already, Deadlk, Interrupted}
-use Rattle.ww_users.specs.Ways.{HoldsExactly, in_order}
+use Rattle.ww_users.specs.Ways.{IsToldOfEach, HoldsExactly, in_order}
 
--- the same context, which may hold other locks, after some tries more to take one
+-- the same context, which may hold other locks; each try more to take one ended with the lock, or with EDEADLK
 pub record IsSameContext (s a : Holding) : Type 0 where
-  pub rest : a ≡ record s { held = a.held; seen = a.seen; tries = a.tries }
+  pub rest : a ≡ record s { held = a.held; seen = a.seen; tries = a.tries; takes = a.takes; deaths = a.deaths }
+  pub told : IsToldOfEach s a
   pub size : length a.seen ≡ length s.seen
 
 -- the same context, which holds this node too; what it held before is as it was

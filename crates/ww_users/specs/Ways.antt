@@ -8,6 +8,10 @@ use Rattle.ww_lock.specs.Moves.{interrupted_by}
 use Rattle.ww_users.specs.declared.fault.UserFault.{UserFault}
 use Rattle.ww_users.specs.declared.fault.UserFault.TheVariants.{PassSpent, Already, Interrupted}
 
+-- each further try to take a lock at once was followed by a lock taken, or by backing off
+abbrev pub IsToldOfEach : Holding → Holding → Type 0
+IsToldOfEach s a = a.tries + s.takes + s.deaths ≡ s.tries + a.takes + a.deaths
+
 -- A pass that comes back after a refusal: one context less to start, so many more begun, no context, no lock, and the
 -- same own list.
 pub record IsReturned (s : Holding) (begun : ℕ) (a : Holding) : Type 0 where
@@ -20,7 +24,10 @@ pub record IsReturned (s : Holding) (begun : ℕ) (a : Holding) : Type 0 where
     room = a.room;
     seen = a.seen;
     tries = a.tries;
+    takes = a.takes;
+    deaths = a.deaths;
   }
+  pub told : IsToldOfEach s a
   pub size : length a.seen ≡ length s.seen
 
 -- a pass that comes back since its wait for one of the nodes was called off, by this caller
@@ -38,7 +45,10 @@ pub record IsContext (s a : Holding) : Type 0 where
     held = a.held;
     seen = a.seen;
     tries = a.tries;
+    takes = a.takes;
+    deaths = a.deaths;
   }
+  pub told : IsToldOfEach s a
   pub size : length a.seen ≡ length s.seen
 
 -- it holds the nodes of the list, and no others

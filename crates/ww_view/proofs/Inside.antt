@@ -24,7 +24,7 @@ use Rattle.ww_model.proofs.Dues.{by_kind, wound_from, sign_for, sign_owed, sign_
 use Rattle.ww_view.specs.declared.view.View.{View}
 use Rattle.ww_view.specs.Word.{taken_word, asked_word, given_word, rest_word}
 use Rattle.ww_view.specs.View.{owns, KnowsQueues, Knows, IsQuiet}
-use Rattle.ww_view.specs.Made.{entry_of_view, queued, taken, has_asked, given, died, has_heeded, interrupted, has_looked, noted, has_read, found_none, cleared, fast_missed, stepped}
+use Rattle.ww_view.specs.Made.{entry_of_view, queued, taken, has_asked, given, died, has_heeded, interrupted, has_looked, noted, has_condemned, has_read, found_none, cleared, fast_missed, fast_kept, stepped}
 use Rattle.ww_view.proofs.Written.{word_join, word_take, word_ask, word_give, word_die, word_leave}
 use Rattle.ww_view.proofs.Mine.{taken_from, gets, gives, bare_still}
 
@@ -141,7 +141,7 @@ module _ (c : State) (v : View) (l : IsLawful c) (k : Knows c v) where
       (λ x. let y = x.0 in let z = k.itself.kind in absurd (cc)) (k.quiet is))
       (λ dying. not_itself n (sign_for c v.who v.who) dying owed)
 
-  pub mine_sign : (u : ℕ) → Possible c (Sign v.who u) → Knows (after c (Sign v.who u)) (noted v u)
+  pub mine_sign : (u : ℕ) → Possible c (Sign v.who u) → Knows (after c (Sign v.who u)) (has_condemned v u)
   mine_sign u can = let j = sign_for c v.who u in
       let signs : (m t i : ℕ) → v.inside ≡ suc m → Has (u ∷ v.signed) t → Has (owes c v.who m) (t, i) →
       put c.sign u j t ≢ 0 = λ m t i is mark h.
@@ -187,6 +187,9 @@ module _ (c : State) (v : View) (k : Knows c v) where
 
   pub mine_missed : Knows c (fast_missed v)
   mine_missed = assumption
+
+  pub mine_kept : Knows c (fast_kept v)
+  mine_kept = assumption
 
   pub mine_stepped : Knows c (stepped v)
   mine_stepped = assumption

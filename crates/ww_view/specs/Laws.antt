@@ -16,7 +16,7 @@ use Rattle.ww_view.specs.declared.view.View.{View}
 use Rattle.ww_view.specs.Word.{words_after}
 use Rattle.ww_view.specs.View.{IsBare, IsAway, IsQuiet, Knows, first_view}
 use Rattle.ww_view.specs.May.{MayDie, MaySign, MayExit, MayStop, MetByView, Shows}
-use Rattle.ww_view.specs.Made.{died, interrupted, fast_missed, has_looked, noted, has_read, found_none, stepped, view_after}
+use Rattle.ww_view.specs.Made.{died, interrupted, fast_missed, fast_kept, has_looked, noted, has_read, found_none, stepped, view_after}
 
 -- ---- what a seat knows
 
@@ -40,6 +40,7 @@ ActorKnows = (c : State) (e : Event) (v : View) → IsLawful c → SignedOwnsOut
 pub record FindsMore (c : State) (v : View) : Type 0 where
   pub looked : (n : ℕ) → v.inside ≡ suc n → Knows c (has_looked v (word_of c n))
   pub noted : (u : ℕ) → c.sign u ≢ 0 → Knows c (noted v u)
+  pub kept : Knows c (fast_kept v)
   pub read : (c.sign v.who ≡ 0 → IsQuiet v) → Knows c (has_read v (c.sign v.who))
   pub found_none : Knows c (found_none v)
   pub missed : Knows c (fast_missed v)
@@ -92,9 +93,10 @@ SignIsTold = (c : State) (v : View) (n u k : ℕ) → IsLawful c → Knows c v �
 abbrev pub DeathIsShown : Type 0
 DeathIsShown = (v : View) (n : ℕ) (o : Owner) (k : ℕ) → MayDie v n o k → MetByView v o k
 
--- ... and has noted it, once it has died
+-- ... and keeps what showed it, once it has died
 abbrev pub DeathIsNoted : Type 0
-DeathIsNoted = (v : View) (n : ℕ) (o : Owner) (k : ℕ) → MayDie v n o k → (died v o).met ≡ Some (n, k)
+DeathIsNoted = (v : View) (n : ℕ) (o : Owner) (k : ℕ) → MayDie v n o k →
+    (died v o).met ≡ Some (record { lock = n; stamp = k; owner = o; list = v.list })
 
 -- whatever else it does, it notes none
 abbrev pub NoOtherIsNoted : Type 0

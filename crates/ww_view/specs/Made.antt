@@ -11,6 +11,7 @@ use Rattle.ww_queue.specs.Rules.{must_die}
 use Rattle.ww_model.specs.declared.event.Event.{Event}
 use Rattle.ww_model.specs.declared.event.Event.TheVariants.{Begin, Clear, Fast, FastGive, Guard, Join, Sign, Take, Ask, Give, Die, Unguard, Commit, End, Cancel, Heed, Leave}
 use Rattle.ww_model.specs.State.{State, any_below, word_of}
+use Rattle.ww_view.specs.declared.view.Met.{Met}
 use Rattle.ww_view.specs.declared.view.View.{View}
 use Rattle.ww_view.specs.Word.{taken_word, asked_word, given_word, rest_word}
 use Rattle.ww_view.specs.View.{owns}
@@ -42,7 +43,14 @@ abbrev pub ended : View → View
 ended v = record v { stamp = 0; sign = Some 0; fresh = false; met = None }
 
 abbrev pub fast_taken : View → ℕ → View
-fast_taken v n = record v { owned = slice_set v.owned n true; sign = None; fresh = false; tries = v.tries + 1; met = None }
+fast_taken v n = record v {
+  owned = slice_set v.owned n true;
+  sign = None;
+  fresh = false;
+  tries = v.tries + 1;
+  takes = v.takes + 1;
+  met = None;
+}
 
 -- the word wasn't 0
 abbrev pub fast_missed : View → View
@@ -50,6 +58,10 @@ fast_missed v = record v { fresh = false; tries = v.tries + 1 }
 
 abbrev pub fast_given : View → ℕ → View
 fast_given v n = record v { owned = slice_set v.owned n false; fresh = false; met = None }
+
+-- the word told more than its owner, so the lock stays its
+abbrev pub fast_kept : View → View
+fast_kept v = record v { fresh = false; kept = v.kept + 1 }
 
 -- ---- into the guard and out of it
 
@@ -60,6 +72,7 @@ entered v n q = record v {
   list = q;
   seen = None;
   signed = [];
+  condemned = [];
   sign = once_inside v.kind v.waits v.sign;
   later = not (v.waits == 0);
   acted = not (v.waits == 0);
@@ -105,6 +118,7 @@ taken v n = let q : List Entry = left v.list v.who in record v {
   sign = once_taken v.kind v.sign;
   acted = true;
   fresh = false;
+  takes = v.takes + 1;
   met = None;
 }
 
@@ -122,10 +136,10 @@ given v n asked = record v {
   met = None;
 }
 
--- the lock that it is inside of, and the stamp for which it has to die there
-abbrev pub met_at : ℕ → Option ℕ → Option (ℕ × ℕ)
-met_at zero stamp = None
-met_at (suc n) stamp = option_map (λ k. (n, k)) stamp
+-- what it meets at the lock that it is inside of, if it has to die there for a stamp
+abbrev pub met_at : ℕ → Option ℕ → Owner → List Entry → Option Met
+met_at zero stamp o q = None
+met_at (suc n) stamp o q = option_map (λ k. record { lock = n; stamp = k; owner = o; list = q }) stamp
 
 -- it left the list; o was the word before
 abbrev pub departed : View → Owner → View
@@ -139,7 +153,10 @@ departed v o = let q : List Entry = left v.list v.who in record v {
 
 -- ... since it had to die
 abbrev pub died : View → Owner → View
-died v o = record (departed v o) { met = met_at v.inside (must_die v.kind o v.list v.who (unwrap_or v.sign 0)) }
+died v o = record (departed v o) {
+  deaths = v.deaths + 1;
+  met = met_at v.inside (must_die v.kind o v.list v.who (unwrap_or v.sign 0)) o v.list;
+}
 
 -- it heeded a cancel, of the seat before this number
 abbrev pub has_heeded : View → ℕ → View
@@ -165,6 +182,10 @@ has_looked v o = record v { seen = Some o; fresh = false }
 -- that seat is signed
 abbrev pub noted : View → ℕ → View
 noted v u = record v { signed = u ∷ v.signed; fresh = false }
+
+-- ... by its own sign
+abbrev pub has_condemned : View → ℕ → View
+has_condemned v u = record (noted v u) { condemned = u ∷ v.condemned }
 
 -- ---- the own sign
 
@@ -193,7 +214,7 @@ view_after c (Fast s n) v = fast_taken v n
 view_after c (FastGive s n) v = fast_given v n
 view_after c (Guard s n) v = entered v n (c.queue n)
 view_after c (Join s n) v = queued v n (word_of c n)
-view_after c (Sign s u) v = noted v u
+view_after c (Sign s u) v = has_condemned v u
 view_after c (Take s n) v = taken v n
 view_after c (Ask s n) v = has_asked v (word_of c n)
 view_after c (Give s n) v = given v n (c.asked n)

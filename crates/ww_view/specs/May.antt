@@ -1,7 +1,8 @@
 -- What the view has to show before a step, with the owner word found where one is named.
-use Rattle.std.specs.Prelude.{ℕ, suc, ◌≡◌, ◌≢◌, ◌<◌, ◌-◌, ◌^◌, ◌⊎◌, true, false, [], Some, None}
+use Rattle.std.specs.Prelude.{ℕ, suc, ◌≡◌, ◌≢◌, ◌<◌, ◌-◌, ◌^◌, ◌⊎◌, true, false, List, [], Option, Some, None}
 use Rattle.ww_word.specs.declared.owner.Owner.{Owner}
 use Rattle.ww_word.specs.Owner.{is_handed, idle}
+use Rattle.ww_queue.specs.declared.kind.Kind.{Kind}
 use Rattle.ww_queue.specs.declared.kind.Kind.TheVariants.{WoundWait, WaitDie}
 use Rattle.ww_queue.specs.declared.entry.Entry.{Entry}
 use Rattle.ww_queue.specs.Queue.{Has, Before}
@@ -123,12 +124,16 @@ pub record MayLeave (v : View) (n : ℕ) : Type 0 where
   pub again : v.later ≡ true → v.waits ≡ suc n → NothingToAsk v
   pub looked : v.kind ≡ WoundWait → v.waits ≡ suc n → 0 < v.stamp → ((m : ℕ) × (owns v m ≡ true)) → v.fresh ≡ true
 
--- what showed the seat, at its death of k, that it met an older context: its sign is k; or k is the stamp of the owner,
--- or of a waiter before it
-pub record MetByView (v : View) (o : Owner) (k : ℕ) : Type 0 where
-  pub wounded : v.kind ≡ WoundWait → (v.sign ≡ Some k) × (0 < k)
-  pub older : v.kind ≡ WaitDie → (TellsOther o v.who × (o.stamp ≡ k))
-      ⊎ ((e : Entry) × (f : Entry) × Before v.list e f × (f.seat ≡ v.who) × (e.stamp ≡ k))
+-- What shows that a seat met an older context, of stamp k, as it saw this owner and this list: its sign is k; or k is
+-- the stamp of the owner, or of a waiter before it.
+pub record IsShownBy (kind : Kind) (sign : Option ℕ) (list : List Entry) (who : ℕ) (o : Owner) (k : ℕ) : Type 0 where
+  pub wounded : kind ≡ WoundWait → (sign ≡ Some k) × (0 < k)
+  pub older : kind ≡ WaitDie → (TellsOther o who × (o.stamp ≡ k))
+      ⊎ ((e : Entry) × (f : Entry) × Before list e f × (f.seat ≡ who) × (e.stamp ≡ k))
+
+-- ... by what its view tells of it
+abbrev pub MetByView : View → Owner → ℕ → Type 0
+MetByView v o k = IsShownBy v.kind v.sign v.list v.who o k
 
 -- ---- all events
 

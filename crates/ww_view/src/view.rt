@@ -3,6 +3,17 @@ use std::collections::LinkedList;
 use ww_queue::{Kind, Queue};
 use ww_word::Owner;
 
+/// What a seat met at its death: for which older context it backed off from which lock, and what it saw there.
+pub struct Met {
+    pub lock: u8,
+    /// The stamp of the older context.
+    pub stamp: u64,
+    /// The owner word of the lock.
+    pub owner: Owner,
+    /// Its wait list, before the seat left it.
+    pub list: Queue,
+}
+
 /// What a seat at the table knows.
 pub struct View {
     pub kind: Kind,
@@ -30,9 +41,17 @@ pub struct View {
     pub fresh: bool,
     /// How often it tried to take a lock at once.
     pub tries: u64,
-    /// Once it has backed off: from which lock, and the stamp that it met there; until it takes a lock, gives one back
-    /// or is interrupted, or its context begins or ends. No other step sets it.
-    pub met: Option<(u8, u64)>,
+    /// How often it took a lock, at once or inside its guard.
+    pub takes: u64,
+    /// How often it backed off.
+    pub deaths: u64,
+    /// How often it tried to give a lock back at once, and kept it.
+    pub kept: u64,
+    /// The seats that its own signs condemned since it last went inside a guard.
+    pub condemned: LinkedList<u8>,
+    /// Once it has backed off: what it met, and where; until it takes a lock, gives one back or is interrupted, or its
+    /// context begins or ends. No other step sets it.
+    pub met: Option<Met>,
     /// 0, or 1 more than the seat whose cancel it has heeded: a waiter inside the guard, which has not left the list
     /// for it yet.
     pub heeded: u8,

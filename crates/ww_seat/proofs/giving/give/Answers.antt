@@ -1,7 +1,5 @@
-use Rattle.std.proofs.Common.{◌∙◌, ap, sym, subst}
-use Rattle.ww_view.specs.View.{IsAway}
-use Rattle.ww_rule.specs.declared.cells.Sight.{Sight}
-use Rattle.ww_seat.proofs.Gives.{node_out, given_free, kept_free, kept_enters, still_view, given_then}
+use Rattle.std.proofs.Common.{◌∙◌, ap}
+use Rattle.ww_seat.proofs.Gives.{node_out, given_free, kept_free, kept_enters, still_kept, given_then}
 use Rattle.ww_seat.proofs.giving.give.Goals as goal
 
 pub give_free-requires-clause-out : goal.give_free-requires-clause-out
@@ -19,7 +17,7 @@ pub give_waited-requires-clause-settled : goal.give_waited-requires-clause-settl
 give_waited-requires-clause-settled g c = let e = c.give_free.ensures.kept c.if-give_free.false in record {
   seated = c.give_free.ensures.seat;
   orderly = kept_free _ c.args.seat.now.seat.me c.give_free.new.self.seat.me c.args.lock e.0 e.1 c.requires.settled.orderly e.2 e.3;
-  away = subst (λ (w : Sight). IsAway w.part.core) (sym (ap (λ m. m.0) e.3)) c.requires.settled.away;
+  away = (kept_enters c.args.seat.now.seat.me c.give_free.new.self.seat.me c.args.lock (ap (λ m. m.0) e.3) c.requires.settled.away c.requires.owner).0;
 }
 
 pub give_waited-requires-clause-owner : goal.give_waited-requires-clause-owner
@@ -27,7 +25,7 @@ give_waited-requires-clause-owner g c = let e = c.give_free.ensures.kept c.if-gi
 
 pub returns-clause-given : goal.returns-clause-given
 returns-clause-given g c = let e = c.give_free.ensures.kept c.if-give_free.false in
-    given_then c.args.seat.now.seat.me c.give_free.new.self.seat.me c.give_waited.new.seat.seat.me c.args.lock (still_view c.args.seat.now.seat.me c.give_free.new.self.seat.me (ap (λ m. m.0) e.3)) c.give_waited.ensures.given
+    given_then c.args.seat.now.seat.me c.give_free.new.self.seat.me c.give_waited.new.seat.seat.me c.args.lock (still_kept c.args.seat.now.seat.me c.give_free.new.self.seat.me (ap (λ m. m.0) e.3)) c.give_waited.ensures.given
 
 pub returns-clause-records : goal.returns-clause-records
 returns-clause-records g c = c.give_waited.ensures.records ∙ c.give_free.ensures.records

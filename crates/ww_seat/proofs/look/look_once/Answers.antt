@@ -1,6 +1,9 @@
-use Rattle.std.proofs.Common.{true, length, sym, ◌∙◌}
-use Rattle.ww_rule.specs.Rule.{first_graph}
-use Rattle.ww_seat.proofs.Working.{work_touched, work_looked}
+use Rattle.std.proofs.Common.{◌≡◌, true, length, refl, ap, sym, ◌∙◌}
+use Rattle.ww_word.specs.declared.owner.Owner.{Owner}
+use Rattle.ww_rule.specs.Rule.{Sat, first_graph}
+use Rattle.ww_rule.specs.Guards.{looking}
+use Rattle.ww_seat.specs.Work.{HasCondemnedNone}
+use Rattle.ww_seat.proofs.Working.{none_condemned, woken_still, work_touched, work_looked}
 use Rattle.ww_seat.proofs.Signing.{if_none}
 use Rattle.ww_seat.proofs.Holds.{stopped_then}
 use Rattle.ww_seat.proofs.Stood.{work_stood, flags_later, look_later, tries_later, work_later}
@@ -103,3 +106,23 @@ returns-clause-lost c = let size = length (first_graph c.args.board.now.table.sh
     let m2 = c.stand.new.seat.seat.me in let w2 = work_stood size n m stands later m1 m2 c.look-seen.result c.in_ok-word.word w1 c.in_ok-word.ensures.stands in
     let m3 = c.stop_if_cancelled.new.seat.seat.me in let w3 = work_goes_on size n m later m2 m3 w2 c.in_default.ensures.goes_on in
     work_later size n m true later m3 c.stay_or_back_off.new.seat.seat.me c.stay_or_back_off.result w3 c.stay_or_back_off.ensures.lost
+
+looked : (m m1 : Sat) (o : Owner) → m1 ≡ (looking m.0 o, m.1) → HasCondemnedNone m m1
+looked m m1 o is = none_condemned m m1 (looking m.0 o) (ap (λ (z : Sat). z.0) is) refl refl
+
+pub take_inside-requires-clause-woken : goal.take_inside-requires-clause-woken
+take_inside-requires-clause-woken c = woken_still c.args.seat.now.seat.me c.look-seen.new.self.seat.me _ (looked c.args.seat.now.seat.me c.look-seen.new.self.seat.me c.look-seen.result c.look-seen.ensures.looked) c.requires.woken
+
+pub returns-in_err-word-clause-woken : goal.returns-in_err-word-clause-woken
+returns-in_err-word-clause-woken c = let m1 = c.look-seen.new.self.seat.me in woken_still m1 c.stand.new.seat.seat.me _ c.stand.ensures.condemned
+    (woken_still c.args.seat.now.seat.me m1 _ (looked c.args.seat.now.seat.me m1 c.look-seen.result c.look-seen.ensures.looked) c.requires.woken)
+
+pub returns-in-Some-stop_if_cancelled-clause-woken : goal.returns-in-Some-stop_if_cancelled-clause-woken
+returns-in-Some-stop_if_cancelled-clause-woken c = let m1 = c.look-seen.new.self.seat.me in let m2 = c.stand.new.seat.seat.me in
+    woken_still m2 c.stop_if_cancelled.new.seat.seat.me _ c.stop_if_cancelled.ensures.condemned (woken_still m1 m2 _ c.stand.ensures.condemned
+    (woken_still c.args.seat.now.seat.me m1 _ (looked c.args.seat.now.seat.me m1 c.look-seen.result c.look-seen.ensures.looked) c.requires.woken))
+
+pub stay_or_back_off-requires-clause-woken : goal.stay_or_back_off-requires-clause-woken
+stay_or_back_off-requires-clause-woken c = let m1 = c.look-seen.new.self.seat.me in let m2 = c.stand.new.seat.seat.me in
+    woken_still m2 c.stop_if_cancelled.new.seat.seat.me _ c.stop_if_cancelled.ensures.condemned (woken_still m1 m2 _ c.stand.ensures.condemned
+    (woken_still c.args.seat.now.seat.me m1 _ (looked c.args.seat.now.seat.me m1 c.look-seen.result c.look-seen.ensures.looked) c.requires.woken))

@@ -1,7 +1,10 @@
-use Rattle.std.proofs.Common.{sym, subst, Bool, ℕ, ◌<◌, ◌^◌}
+use Rattle.std.proofs.Common.{sym, ap, refl, subst, Bool, ℕ, ◌<◌, ◌^◌}
+use Rattle.ww_rule.specs.Rule.{Sat}
+use Rattle.ww_rule.specs.Guards.{lost}
+use Rattle.ww_rule.specs.Waiting.{joining}
 use Rattle.ww_seat.specs.Work.{IsWorking}
 use Rattle.ww_seat.proofs.Outside.{holds_inside}
-use Rattle.ww_seat.proofs.Working.{touched_lost}
+use Rattle.ww_seat.proofs.Working.{touched_lost, none_condemned}
 use Rattle.ww_seat.proofs.Stood.{may_join, has_stood, stood_already}
 use Rattle.ww_seat.proofs.standing.stand.Goals as goal
 
@@ -23,3 +26,9 @@ returns-then-not-join-clause-lost c = touched_lost _ c.args.seat.now.seat.me _ c
 pub returns-clause-stands : goal.returns-clause-stands
 returns-clause-stands c = has_stood _ c.args.lock c.args.seat.now.seat.me c.join.new.self.seat.me c.args.seen c.with_waiters.result c.args.stands c.requires.orderly c.if-stands.false c.requires.work.1.inside
     (subst (λ (x : ℕ). x < 16) (sym c.requires.seat.who) c.requires.seat.few) (subst (λ (x : ℕ). x < 2 ^ 56) (sym c.requires.seat.stamp) c.requires.seat.small) c.requires.seen (c.join.ensures.joined c.if-not-join.false) c.with_waiters.ensures.same (c.with_waiters.ensures.valid c.requires.seen.valid)
+
+pub returns-then-not-join-clause-condemned : goal.returns-then-not-join-clause-condemned
+returns-then-not-join-clause-condemned c = none_condemned c.args.seat.now.seat.me c.join.new.self.seat.me (lost c.args.seat.now.seat.me.0) (ap (λ (z : Sat). z.0) (c.join.ensures.lost c.if-not-join.true)) refl refl
+
+pub returns-clause-condemned : goal.returns-clause-condemned
+returns-clause-condemned c = none_condemned c.args.seat.now.seat.me c.join.new.self.seat.me (joining c.args.seat.now.seat.me.0 c.args.lock c.args.seen) (ap (λ (z : Sat). z.0) (c.join.ensures.joined c.if-not-join.false).2) refl refl

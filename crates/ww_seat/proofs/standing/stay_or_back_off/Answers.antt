@@ -1,8 +1,12 @@
-use Rattle.std.proofs.Common.{true, length}
+use Rattle.std.proofs.Common.{true, length, refl, ap, ◌∙◌}
+use Rattle.ww_rule.specs.declared.cells.Sight.{Sight}
 use Rattle.ww_rule.specs.Rule.{first_graph}
+use Rattle.ww_rule.specs.Steps.{knowing}
+use Rattle.ww_rule.specs.Guards.{exiting}
+use Rattle.ww_seat.specs.Work.{told}
 use Rattle.ww_seat.specs.declared.look.Look.TheVariants.{Deadlk, Waits}
 use Rattle.ww_seat.proofs.Holds.{look_then}
-use Rattle.ww_seat.proofs.Working.{work_same, work_touched, work_told, noted_touched}
+use Rattle.ww_seat.proofs.Working.{none_condemned, woken_still, woken_touched, work_same, work_touched, work_told, work_noted}
 use Rattle.ww_seat.proofs.Signing.{if_none}
 use Rattle.ww_seat.proofs.Stood.{stays_goes, stays_outside}
 use Rattle.ww_seat.proofs.standing.stay_or_back_off.Goals as goal
@@ -14,7 +18,7 @@ returns-in_err-word-clause-lost c = let size = length (first_graph c.args.board.
 pub death-requires-clause-work : goal.death-requires-clause-work
 death-requires-clause-work c = let size = length (first_graph c.args.board.now.table.shared.key) in let n = c.args.lock in let later = c.args.is_later in let m = c.args.seat.now.seat.me in let m1 = c.ask_if_first.new.seat.seat.me in let m2 = c.sign_all.new.seat.seat.me in
     let w1 = work_touched size n m true later m m1 (work_same size n true later m c.requires.orderly c.requires.work) c.ask_if_first.ensures.touched in
-    let w2 = work_touched size n m true later m1 m2 w1 (noted_touched size _ m1 m2 c.sign_all.ensures.signed) in (later, w2.working)
+    let w2 = work_noted size n m true later _ m1 m2 w1 c.sign_all.ensures.signed in (later, w2.working)
 
 pub leave-requires-clause-may : goal.leave-requires-clause-may
 leave-requires-clause-may c = let size = length (first_graph c.args.board.now.table.shared.key) in let n = c.args.lock in let later = c.args.is_later in let m = c.args.seat.now.seat.me in let m1 = c.ask_if_first.new.seat.seat.me in
@@ -24,26 +28,44 @@ leave-requires-clause-may c = let size = length (first_graph c.args.board.now.ta
 pub returns-in-None-clause-look : goal.returns-in-None-clause-look
 returns-in-None-clause-look c = let size = length (first_graph c.args.board.now.table.shared.key) in let n = c.args.lock in let later = c.args.is_later in let m = c.args.seat.now.seat.me in let m1 = c.ask_if_first.new.seat.seat.me in let m2 = c.sign_all.new.seat.seat.me in let m3 = c.death.new.seat.seat.me in
     let w1 = work_touched size n m true later m m1 (work_same size n true later m c.requires.orderly c.requires.work) c.ask_if_first.ensures.touched in
-    let w2 = work_touched size n m true later m1 m2 w1 (noted_touched size _ m1 m2 c.sign_all.ensures.signed) in
+    let w2 = work_noted size n m true later _ m1 m2 w1 c.sign_all.ensures.signed in
     let w3 = work_told size n m true later m2 m3 w2 c.death.ensures.told in
     look_then size n m m3 c.leave.new.seat.seat.me Waits w3.holds (stays_outside size n later m3 c.leave.new.seat.seat.me w3.working c.leave.ensures.view c.leave.ensures.orderly)
 
 pub back_off-requires-clause-work : goal.back_off-requires-clause-work
 back_off-requires-clause-work c = let size = length (first_graph c.args.board.now.table.shared.key) in let n = c.args.lock in let later = c.args.is_later in let m = c.args.seat.now.seat.me in let m1 = c.ask_if_first.new.seat.seat.me in let m2 = c.sign_all.new.seat.seat.me in let m3 = c.death.new.seat.seat.me in
     let w1 = work_touched size n m true later m m1 (work_same size n true later m c.requires.orderly c.requires.work) c.ask_if_first.ensures.touched in
-    let w2 = work_touched size n m true later m1 m2 w1 (noted_touched size _ m1 m2 c.sign_all.ensures.signed) in
+    let w2 = work_noted size n m true later _ m1 m2 w1 c.sign_all.ensures.signed in
     let w3 = work_told size n m true later m2 m3 w2 c.death.ensures.told in (later, w3.working)
 
 pub returns-then-not-back_off-clause-lost : goal.returns-then-not-back_off-clause-lost
 returns-then-not-back_off-clause-lost c = let size = length (first_graph c.args.board.now.table.shared.key) in let n = c.args.lock in let later = c.args.is_later in let m = c.args.seat.now.seat.me in let m1 = c.ask_if_first.new.seat.seat.me in let m2 = c.sign_all.new.seat.seat.me in let m3 = c.death.new.seat.seat.me in
     let w1 = work_touched size n m true later m m1 (work_same size n true later m c.requires.orderly c.requires.work) c.ask_if_first.ensures.touched in
-    let w2 = work_touched size n m true later m1 m2 w1 (noted_touched size _ m1 m2 c.sign_all.ensures.signed) in
+    let w2 = work_noted size n m true later _ m1 m2 w1 c.sign_all.ensures.signed in
     let w3 = work_told size n m true later m2 m3 w2 c.death.ensures.told in
     work_touched size n m true later m3 c.back_off.new.seat.seat.me w3 (c.back_off.ensures.lost c.if-not-back_off.true)
 
 pub returns-else-not-back_off-clause-look : goal.returns-else-not-back_off-clause-look
 returns-else-not-back_off-clause-look c = let size = length (first_graph c.args.board.now.table.shared.key) in let n = c.args.lock in let later = c.args.is_later in let m = c.args.seat.now.seat.me in let m1 = c.ask_if_first.new.seat.seat.me in let m2 = c.sign_all.new.seat.seat.me in let m3 = c.death.new.seat.seat.me in
     let w1 = work_touched size n m true later m m1 (work_same size n true later m c.requires.orderly c.requires.work) c.ask_if_first.ensures.touched in
-    let w2 = work_touched size n m true later m1 m2 w1 (noted_touched size _ m1 m2 c.sign_all.ensures.signed) in
+    let w2 = work_noted size n m true later _ m1 m2 w1 c.sign_all.ensures.signed in
     let w3 = work_told size n m true later m2 m3 w2 c.death.ensures.told in
     look_then size n m m3 c.back_off.new.seat.seat.me (Deadlk c.in-Some.met) w3.holds (c.back_off.ensures.met c.if-not-back_off.false c.in-Some.met c.in-Some.ensures.death)
+
+pub returns-in_err-word-clause-woken : goal.returns-in_err-word-clause-woken
+returns-in_err-word-clause-woken c = woken_touched (length (first_graph c.args.board.now.table.shared.key)) c.args.seat.now.seat.me c.ask_if_first.new.seat.seat.me _ c.ask_if_first.ensures.touched c.requires.woken
+
+pub sign_all-requires-clause-woken : goal.sign_all-requires-clause-woken
+sign_all-requires-clause-woken c = woken_touched (length (first_graph c.args.board.now.table.shared.key)) c.args.seat.now.seat.me c.ask_if_first.new.seat.seat.me _ c.ask_if_first.ensures.touched c.requires.woken
+
+pub returns-in-None-clause-woken : goal.returns-in-None-clause-woken
+returns-in-None-clause-woken c = let m2 = c.sign_all.new.seat.seat.me in let m4 = c.leave.new.seat.seat.me in let t = c.death.ensures.told in
+    woken_still m2 m4 _ (none_condemned m2 m4 (exiting (knowing m2.0 (told m2.0.part.core t.sign t.fresh))) (c.leave.ensures.view ∙ ap exiting t.view) refl refl) c.sign_all.ensures.woken
+
+pub returns-then-not-back_off-clause-woken : goal.returns-then-not-back_off-clause-woken
+returns-then-not-back_off-clause-woken c = let m2 = c.sign_all.new.seat.seat.me in let m3 = c.death.new.seat.seat.me in let t = c.death.ensures.told in
+    woken_still m3 c.back_off.new.seat.seat.me _ c.back_off.ensures.condemned (woken_still m2 m3 _ (none_condemned m2 m3 (knowing m2.0 (told m2.0.part.core t.sign t.fresh)) t.view refl refl) c.sign_all.ensures.woken)
+
+pub returns-else-not-back_off-clause-woken : goal.returns-else-not-back_off-clause-woken
+returns-else-not-back_off-clause-woken c = let m2 = c.sign_all.new.seat.seat.me in let m3 = c.death.new.seat.seat.me in let t = c.death.ensures.told in
+    woken_still m3 c.back_off.new.seat.seat.me _ c.back_off.ensures.condemned (woken_still m2 m3 _ (none_condemned m2 m3 (knowing m2.0 (told m2.0.part.core t.sign t.fresh)) t.view refl refl) c.sign_all.ensures.woken)

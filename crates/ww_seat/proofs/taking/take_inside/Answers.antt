@@ -1,8 +1,10 @@
-use Rattle.std.proofs.Common.{sym, ap, ◌∙◌, Some, length}
-use Rattle.ww_rule.specs.Rule.{first_graph}
+use Rattle.std.proofs.Common.{sym, ap, refl, ◌∙◌, Some, length}
+use Rattle.ww_rule.specs.Rule.{Sat, first_graph}
+use Rattle.ww_rule.specs.Guards.{exiting}
+use Rattle.ww_rule.specs.Waiting.{taking_inside}
 use Rattle.ww_rule.specs.declared.cells.Sight.{Sight}
 use Rattle.ww_seat.proofs.Outside.{room_inside}
-use Rattle.ww_seat.proofs.Working.{touched_lost_on_top}
+use Rattle.ww_seat.proofs.Working.{touched_lost_on_top, none_condemned, woken_still, woken_touched}
 use Rattle.ww_seat.proofs.Took.{may_take, is_taken, taken_read, owes_after, taken_goes, look_taken, node_out, word_read}
 use Rattle.ww_seat.proofs.taking.take_inside.Goals as goal
 
@@ -35,6 +37,7 @@ sign_all-requires c = let w = c.requires.work.2 in let size = length (first_grap
       inside = owes.inside;
       seats = owes.seats;
       valid = c.own_word-word.ensures.valid;
+      woken = woken_still m m2 _ (none_condemned m m2 (taking_inside m.0 c.args.lock (c.take.ensures.took c.if-not-take.false).0) t2.view refl refl) c.requires.woken;
       seen = owes.seen ∙ ap Some (sym (word_read c.args.lock m1 m2 _ c.own_word-word.ensures.read c.own_word-word.ensures.word));
     }
 
@@ -68,3 +71,11 @@ returns-clause-tries c = let w = c.requires.work.2 in let size = length (first_g
     let t1 = is_taken size c.args.lock m m1 c.requires.orderly c.requires.lock w.inside w.want.lacks (c.take.ensures.took c.if-not-take.false) in
     let t2 = taken_read size c.args.lock m m1 m2 _ t1 c.own_word-word.ensures.read in
     (look_taken size c.args.lock c.requires.work.0 c.requires.work.1 m m2 c.sign_all.new.seat.seat.me c.leave.new.seat.seat.me c.node.new.self.seat.me _ _ _ c.requires.orderly c.requires.lock w t2 c.sign_all.ensures.signed c.leave.ensures.view c.leave.ensures.orderly c.node.ensures.read).1
+
+pub returns-then-not-take-clause-woken : goal.returns-then-not-take-clause-woken
+returns-then-not-take-clause-woken c = let size = length (first_graph c.args.board.now.table.shared.key) in woken_touched size c.args.seat.now.seat.me c.take.new.self.seat.me _
+    (touched_lost_on_top size c.args.lock c.args.seat.now.seat.me c.take.new.self.seat.me c.requires.orderly c.requires.work.2.inside (c.take.ensures.lost c.if-not-take.true)) c.requires.woken
+
+pub returns-clause-woken : goal.returns-clause-woken
+returns-clause-woken c = let m3 = c.sign_all.new.seat.seat.me in
+    woken_still m3 c.node.new.self.seat.me _ (none_condemned m3 c.node.new.self.seat.me (exiting m3.0) (ap (λ (z : Sat). z.0) c.node.ensures.read.2 ∙ c.leave.ensures.view) refl refl) c.sign_all.ensures.woken

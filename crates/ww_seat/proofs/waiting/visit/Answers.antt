@@ -1,4 +1,6 @@
-use Rattle.std.proofs.Common.{◌∙◌, sym}
+use Rattle.std.proofs.Common.{◌∙◌, sym, ap, subst, ℕ, List}
+use Rattle.ww_queue.specs.Queue.{Has}
+use Rattle.ww_rule.specs.declared.cells.Sight.{Sight}
 use Rattle.ww_seat.proofs.Gives.{still_entered}
 use Rattle.ww_seat.proofs.Waits.{wanter_enters, entered_inside, entered_kind, entered_later}
 use Rattle.ww_seat.proofs.Holds.{look_then}
@@ -24,3 +26,6 @@ returns-clause-tries g c = c.look_at-look.ensures.tries ∙ (still_entered c.arg
 
 pub returns-clause-records : goal.returns-clause-records
 returns-clause-records g c = c.look_at-look.ensures.records ∙ c.enter.ensures.records
+
+pub look_at-look-requires-clause-woken : goal.look_at-look-requires-clause-woken
+look_at-look-requires-clause-woken g c = λ u has _. absurd (subst (λ (l : List ℕ). Has l u) (ap (λ (w : Sight). w.part.core.condemned) c.enter.ensures.entered.view) has)

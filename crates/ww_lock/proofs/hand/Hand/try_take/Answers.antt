@@ -1,5 +1,5 @@
 use Rattle.std.proofs.Common.{ap, arith, inl, sym, ◌∙◌, true≢false}
-use Rattle.ww_lock.proofs.Carrying.{here, at_table, takes, keeps}
+use Rattle.ww_lock.proofs.Carrying.{here, at_table, takes, missed}
 use Rattle.ww_table.specs.declared.seat.Seat16.{Seat16}
 use Rattle.ww_lock.proofs.hand.Hand.try_take.Goals as goal
 
@@ -24,10 +24,10 @@ returns-in-Some c =
     let added = c.add.ensures in
     let t = takes c.args.self.now c.add.new.self c.args.world.now _ c.try_take.new.seat c.args.n c.in-Some.node c.world.view_is c.requires.home c.requires.fresh c.requires.node c.requires.new e.seat e.records c.in-Some.ensures.some e.once
     added.seat added.same.0 added.same.1 added.held added.marks added.seen in
-    record { fresh = t.fresh; taken = λ _. t.is; busy = λ f. absurd (true≢false f); tried = λ f. absurd (true≢false f); unmet = λ _. ap (λ (s : Seat16). s.seat.me.0.part.core.met) added.seat ∙ c.in-Some.ensures.some.unmet }
+    record { fresh = t.fresh; taken = λ _. t.is; busy = λ f. absurd (true≢false f); unmet = λ _. ap (λ (s : Seat16). s.seat.me.0.part.core.met) added.seat ∙ c.in-Some.ensures.some.unmet }
 
 pub returns-in-None : goal.returns-in-None
 returns-in-None c =
     let e = c.try_take.ensures in
-    let k = keeps c.args.self.now c.args.world.now _ c.try_take.new.seat c.world.view_is c.requires.home c.requires.fresh e.seat e.records c.in-None.ensures.none e.once in
-    record { fresh = k.fresh; taken = λ f. absurd (true≢false (sym f)); busy = λ _. k.is; tried = λ _. c.in-None.ensures.tried; unmet = λ none. c.in-None.ensures.met ∙ none }
+    let k = missed c.args.self.now c.args.world.now _ c.try_take.new.seat c.world.view_is c.requires.home c.requires.fresh e.seat e.records c.in-None.ensures.none e.once in
+    record { fresh = k.0; taken = λ f. absurd (true≢false (sym f)); busy = λ _. k.1; unmet = λ none. c.in-None.ensures.met ∙ none }

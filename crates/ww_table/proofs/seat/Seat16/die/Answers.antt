@@ -1,10 +1,11 @@
 use Rattle.std.proofs.Common.{◌<◌, ◌+◌, arith, ap, sym, refl, ◌∙◌, subst}
 use Rattle.ww_view.specs.May.{MayDie}
 use Rattle.ww_rule.specs.declared.cells.Cell.TheVariants.{Line}
+use Rattle.ww_rule.specs.declared.cells.Sight.{Sight}
 use Rattle.ww_rule.specs.Rule.{Sat}
 use Rattle.ww_rule.specs.Out.{numbers_of}
 use Rattle.ww_rule.specs.Guards.{lost}
-use Rattle.ww_rule.specs.Waiting.{dying}
+use Rattle.ww_rule.specs.Waiting.{SeesWaiters, dying}
 use Rattle.ww_rule.proofs.InsideSteps.{dies_brought}
 use Rattle.ww_rule.proofs.InsideTurning.{on_top}
 use Rattle.ww_table.proofs.OnTop.{number_before, has_left}
@@ -54,3 +55,8 @@ returns-then-found-old-clause-older c = let t = c.owner_left-rest.ensures.read i
 pub returns-clause-older : goal.returns-clause-older
 returns-clause-older c = let t = c.owner_left-rest.ensures.read in
     λ k may. subst (λ (m : Sat). k < m.0.part.core.stamp) t.now (c.compare_exchange-found.ensures.2.1 c.args.lock c.args.seen k (subst (λ (m : Sat). MayDie m.0.part.core c.args.lock c.args.seen k) (sym t.now) may))
+
+pub returns-then-found-old-clause-sure : goal.returns-then-found-old-clause-sure
+returns-then-found-old-clause-sure c = let view = ap (λ (m : Sat). m.0) c.owner_left-rest.ensures.read.now in
+    λ waits saw. absurd (c.if-found-old.true ((c.compare_exchange-found.ensures.2.0 c.args.lock c.args.seen (c.owner_word.ensures, c.requires.valid, c.pack-old.ensures)).2
+    (subst (λ (w : Sight). SeesWaiters w.part.core c.args.lock c.args.seen) (sym view) (record { inside = c.requires.may.1.inside; waits = waits; seen = saw })) ∙ sym c.pack-old.ensures))

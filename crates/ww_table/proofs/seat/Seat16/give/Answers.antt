@@ -6,7 +6,7 @@ use Rattle.ww_rule.specs.declared.cells.Sight.{Sight}
 use Rattle.ww_rule.specs.Rule.{Sat}
 use Rattle.ww_rule.specs.Out.{numbers_of, AreOthers}
 use Rattle.ww_rule.specs.Guards.{lost}
-use Rattle.ww_rule.specs.Waiting.{giving_inside}
+use Rattle.ww_rule.specs.Waiting.{SeesWaiters, giving_inside}
 use Rattle.ww_rule.proofs.InsideSteps.{gives_with_list}
 use Rattle.ww_rule.proofs.InsideTurning.{given_valid}
 use Rattle.ww_rule.proofs.Turning.{popped}
@@ -59,3 +59,8 @@ returns-clause-seat c = let r = c.next_owner-owner.ensures in let b = c.bring.en
     seated_as _ _ _ (giving_inside c.next_owner-owner.new.self.seat.me.0 c.args.lock (c.args.seen.flags == 3)) r.seat (c.compare_exchange-found.ensures.0 ∙ b.home.0)
     (ap (λ (m : Sat). m.0) hit ∙ ap (λ (w : Sight). giving_inside w c.args.lock (c.args.seen.flags == 3)) b.view) refl refl refl refl refl refl refl refl
     (items ∙ ap numbers_of (sym (ap (λ (m : Sat). m.1) hit ∙ ap rest n.1)))
+
+pub returns-then-found-old-clause-sure : goal.returns-then-found-old-clause-sure
+returns-then-found-old-clause-sure c = let view = c.bring.ensures.view ∙ ap (λ (m : Sat). m.0) c.next_owner-owner.ensures.read.now in
+    λ waits saw. absurd (c.if-found-old.true ((c.compare_exchange-found.ensures.2 c.args.lock c.args.seen (c.owner_word.ensures, c.requires.valid, c.pack-old.ensures)).2
+    (subst (λ (w : Sight). SeesWaiters w.part.core c.args.lock c.args.seen) (sym view) (record { inside = c.requires.may.inside; waits = waits; seen = saw })) ∙ sym c.pack-old.ensures))

@@ -4,7 +4,7 @@ use Rattle.ww_rule.specs.declared.cells.Cell.{Cell}
 use Rattle.ww_rule.specs.declared.cells.Cell.TheVariants.{Content}
 use Rattle.ww_rule.specs.declared.cells.Sight.{Sight}
 use Rattle.ww_rule.specs.Out.{numbers_of, AreOthers}
-use Rattle.ww_rule.specs.Steps.{giving}
+use Rattle.ww_rule.specs.Steps.{giving, keeping}
 use Rattle.ww_rule.proofs.Moves.{gives_brought}
 use Rattle.ww_rule.proofs.Turning.{brought, popped}
 use Rattle.ww_table.proofs.Seated.{seated_as}
@@ -20,12 +20,12 @@ compare_exchange-found-requires c = let s = c.requires.seat in let b = c.bring.e
 
 pub returns-then-found-own-clause-seat : goal.returns-then-found-own-clause-seat
 returns-then-found-own-clause-seat c = let b = c.bring.ensures in let e = c.compare_exchange-found.ensures in let lost = (e.2 c.args.lock c.owner_word.ensures).1 c.if-found-own.true in
-    seated_as _ c.args.self.now _ _ c.requires.seat (e.0 ∙ b.home.0) (ap (λ m. m.0) lost ∙ b.view) refl refl refl refl refl refl refl refl (b.order ∙ ap numbers_of (sym (ap (λ m. m.1) lost)))
+    seated_as _ c.args.self.now _ (keeping c.args.self.now.seat.me.0) c.requires.seat (e.0 ∙ b.home.0) (ap (λ m. m.0) lost ∙ ap keeping b.view) refl refl refl refl refl refl refl refl (b.order ∙ ap numbers_of (sym (ap (λ m. m.1) lost)))
 
 pub returns-then-found-own-clause-kept : goal.returns-then-found-own-clause-kept
 returns-then-found-own-clause-kept c = let b = c.bring.ensures in let e = c.compare_exchange-found.ensures in let lost = (e.2 c.args.lock c.owner_word.ensures).1 c.if-found-own.true in let out = c.requires.out in
     let y = brought c.args.self.now.seat.me.1 c.args.lock out.0 b.slots.0 b.slots.2 out.1 in let top = b.slots.4 ∙ ap (λ (z : Cell). (c.args.lock, z) ∷ b.slots.1) y in
-    λ _. (out.0, b.slots.1, subst (λ (z : Cell). AreOthers c.args.self.now.seat.me.1 c.args.lock z b.slots.1) y b.slots.3, lost ∙ (λ i. (b.view i, top i)))
+    λ _. (out.0, b.slots.1, subst (λ (z : Cell). AreOthers c.args.self.now.seat.me.1 c.args.lock z b.slots.1) y b.slots.3, lost ∙ (λ i. (keeping (b.view i), top i)))
 
 pub returns-clause-seat : goal.returns-clause-seat
 returns-clause-seat c = let b = c.bring.ensures in let e = c.compare_exchange-found.ensures in let got = (e.2 c.args.lock c.owner_word.ensures).0 c.if-found-own.false in

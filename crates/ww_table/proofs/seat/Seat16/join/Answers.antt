@@ -50,3 +50,7 @@ returns-clause-joined c = let v = c.args.self.now.seat.me.0 in let b = c.bring.e
     let entry : ◌≡◌ {A = Entry} (record { seat = c.args.self.now.who; stamp = c.args.self.now.stamp; holds = nat_lt 1 c.len.result }) (entry_of_view v.part.core) = (λ i. record { seat = sym s.who i; stamp = sym s.stamp i; holds = holds i }) in
     let others = ap (λ (k : List (ℕ × Cell)). rest k) l.1 in let list = g.list v.part.core.list top ∙ (λ i. (c.list_slot-slot.ensures i, Line (joined v.part.core.list (entry i))) ∷ others i) in
     λ _. (b.slots.1, l.0, λ i. ((g.view ∙ b.view ∙ ap (λ (m : Sat). m.0) won.0) i, list i))
+
+pub returns-then-found-old-clause-sure : goal.returns-then-found-old-clause-sure
+returns-then-found-old-clause-sure c = λ waits saw. absurd (c.if-found-old.true ((c.compare_exchange-found.ensures.2 c.args.lock c.args.seen (c.owner_word.ensures, c.requires.valid, c.pack-old.ensures)).2
+    (record { inside = c.requires.may.inside; waits = waits; seen = saw }) ∙ sym c.pack-old.ensures))

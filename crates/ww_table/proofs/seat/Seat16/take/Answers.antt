@@ -4,10 +4,11 @@ use Rattle.ww_queue.specs.Queue.{left}
 use Rattle.ww_plain.specs.Graph.{IsNodeOf}
 use Rattle.ww_rule.specs.declared.cells.Cell.{Cell}
 use Rattle.ww_rule.specs.declared.cells.Cell.TheVariants.{Content, Line}
+use Rattle.ww_rule.specs.declared.cells.Sight.{Sight}
 use Rattle.ww_rule.specs.Rule.{Sat}
 use Rattle.ww_rule.specs.Out.{numbers_of}
 use Rattle.ww_rule.specs.Guards.{lost}
-use Rattle.ww_rule.specs.Waiting.{taking_inside, below}
+use Rattle.ww_rule.specs.Waiting.{SeesWaiters, taking_inside, below}
 use Rattle.ww_rule.proofs.InsideSteps.{takes_brought}
 use Rattle.ww_rule.proofs.InsideTurning.{others_long, on_top, waiting_flags}
 use Rattle.ww_rule.proofs.Turning.{numbers_long, popped}
@@ -69,3 +70,8 @@ returns-clause-seat c = let r = c.flag_left-flags.ensures in let t = r.read in l
     let order = c.push-2.ensures.items ∙ (λ i. (c.push.ensures.items ∙ ap (λ (k : List ℕ). k ++ c.args.lock ∷ []) items) i ++ c.list_slot-slot.ensures i ∷ []) in
     seated_as _ _ _ (taking_inside c.flag_left-flags.new.self.seat.me.0 c.args.lock hit.0) r.seat (g.home.0 ∙ c.compare_exchange-found.ensures.0) (g.view ∙ ap (λ (m : Sat). m.0) hit.2) refl refl refl refl refl refl refl refl
     (order ∙ ap numbers_of (sym list))
+
+pub returns-then-found-old-clause-sure : goal.returns-then-found-old-clause-sure
+returns-then-found-old-clause-sure c = let view = ap (λ (m : Sat). m.0) c.flag_left-flags.ensures.read.now in
+    λ waits saw. absurd (c.if-found-old.true ((c.compare_exchange-found.ensures.2 c.args.lock c.args.seen (c.owner_word.ensures, c.requires.valid, c.pack-old.ensures)).2
+    (subst (λ (w : Sight). SeesWaiters w.part.core c.args.lock c.args.seen) (sym view) (record { inside = c.requires.may.inside; waits = waits; seen = saw })) ∙ sym c.pack-old.ensures))
