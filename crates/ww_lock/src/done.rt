@@ -87,6 +87,7 @@ impl Done {
 
     /// Whether the transaction can be prepared here: it fits the world, names no node twice, and all that it depends on
     /// and may change is held.
+    #[tactic(auto, using(ww_plain::proofs::Doubles::no_double_is_none))]
     pub fn serves(&self, world: &World, txn: &Txn) -> bool
         requires home { IsAtHome self.now world.now }
         ensures fits { IsTrue result → Fits (length self.now.seen) (transaction_of txn.now) }
