@@ -1,4 +1,4 @@
-"""How the tools are called. A word that a tool doesn't take is told in one line on standard error, and the status is 2."""
+"""How the tools are called. A word that one doesn't take is told in one line on standard error, and the status is 2."""
 import argparse
 
 from streams import refuse, write_lines
