@@ -7,6 +7,12 @@ def say(what):
     print(f"{os.path.basename(sys.argv[0])}: {what}", file=sys.stderr)
 
 
+def refuse(why, status=1):
+    """Says why there is nothing to write, and ends."""
+    say(why)
+    sys.exit(status)
+
+
 def read_bytes(path, most=-1):
     """What a file has, at most so many bytes; or standard input, where the path is -. None where it can't be read."""
     try:
