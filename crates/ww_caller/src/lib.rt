@@ -8,7 +8,7 @@ ghost use Rattle.ww_lock.specs.Moves.{backed_off};
 ghost use Rattle.ww_caller.specs.Caller.{IsLocked, IsLockedMore, HasBoth, HasRecord};
 
 use std::sync::Wait;
-use ww_lock::{Acquiring, Backoff, Lock, Pass, Receipt, World};
+use ww_lock::{Acquiring, Backoff, Pass, Receipt, World};
 use ww_plain::Txn;
 
 /// Why nothing was moved, and nothing recorded.
@@ -66,7 +66,7 @@ fn lock_both<R: Wait>(rt: &R, world: &World, acquiring: Acquiring, from: u8, to:
     for _ in rt.forever() {
         acquiring = match lock_in_turn(rt, world, acquiring, from, to) {
             Ok(acquiring) => return acquiring,
-            Err(backoff) => backoff.unlock_all(rt, world).lock_slow(rt, world),
+            Err(backoff) => backoff.back_off(rt, world),
         };
     }
     unreachable!()
@@ -103,9 +103,5 @@ fn lock_one<R: Wait>(
     ensures locked { IfOk result (IsLockedMore acquiring n) }
     ensures refused { IfErr result (λ b. b.holding ≡ backed_off acquiring) }
 {
-    match acquiring.lock(rt, world, n) {
-        Lock::Locked(acquiring) => Ok(acquiring),
-        Lock::Already(acquiring) => Ok(acquiring),
-        Lock::Deadlk(backoff) => Err(backoff),
-    }
+    acquiring.lock(rt, world, n).going_on()
 }

@@ -41,7 +41,7 @@ pub record IsTransacted (s a : Holding) (txn : Transaction) (told : Receipt) : T
     takes = a.takes;
     deaths = a.deaths;
   }
-  pub told : IsToldOfEach s a
+  pub counted : IsToldOfEach s a
   pub above : AreBelow told.place s.own
   pub seq : told.seq ≡ length s.own
   pub size : length a.seen ≡ length s.seen
