@@ -115,7 +115,7 @@ impl Pass {
     ghost use Rattle.ww_lock.specs.Holding.{AreBelow};
     ghost use Rattle.ww_lock.specs.Closed.{IsSeatOf};
 
-    /// One more than the greatest place of its commits, if it is more than this.
+    /// The larger of `least` and one more than the greatest place of its commits.
     fn reach(&self, least: usize) -> usize
         ensures least { least ≤ result }
         ensures all { AreBelow result self.now.own }

@@ -3,8 +3,8 @@
 //!
 //! A [`World`] is opened on a graph, with a [`Pass`] for each thread. A pass begins a context, which takes locks,
 //! commits a transaction and gives the locks back, and becomes the pass again. Each state on that way is a type of its
-//! own, and the call that leaves a state spends it: so what the kernel's document of these locks warns of can't be
-//! written.
+//! own, and the call that leaves a state spends it: so the misuses that the kernel's documentation lists don't
+//! compile.
 #![tactic(auto)]
 
 mod acquiring;

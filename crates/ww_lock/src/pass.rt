@@ -76,9 +76,9 @@ impl Pass {
         Ok(Acquiring { hand })
     }
 
-    /// Calls off the wait of a caller of this world: the next interruptible lock call of it that would have to wait is
-    /// answered so, or the one that waits now, which is woken. False where a cancel of it is pending, which stays. It
-    /// takes nothing from the budget. It stands for the kernel's signal.
+    /// Sets the cancel of a pass of this world and wakes it: its current interruptible wait, or its next interruptible
+    /// call that would wait, is interrupted. False, with nothing changed, if one is pending. It takes nothing from the
+    /// budget. It stands for the kernel's signal.
     pub fn cancel(&mut self, world: &World, who: u8) -> bool
         requires home { IsAtHome self.old world.now }
         requires caller { who < world.now.passes }

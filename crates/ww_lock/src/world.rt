@@ -118,7 +118,8 @@ struct Rest {
     seen: Graph,
 }
 
-/// So many of these, and what wakes their parkers, in the opposite order: the last of them is that of the first pass.
+/// Parkers and graphs for `passes` passes, last first, since `fresh` pops them. What wakes the parkers comes in the
+/// order of the passes.
 fn rests(alloc: Global, graph: &Graph, passes: u8) -> Result<(Vec<Rest>, Vec<Unparker>), AllocError>
     ensures rests { IfOk result (λ r. AreRests graph.now passes r.0.items) }
     ensures wakers { IfOk result (λ r. length r.1.items ≡ passes) }

@@ -1,4 +1,4 @@
--- The core state: what all seats and locks are at, at one moment.
+-- The core: the state of all seats and locks at one moment.
 use Rattle.std.specs.Prelude.{ℕ, suc, zero, ◌≡◌, ◌≢◌, ◌<◌, ◌⊎◌, ◌==◌, ◌||◌, ◌+◌, ◌*◌, Bool, true, false, List, [], ◌∷◌, Option, Some, if◌then◌else◌}
 use native.Mathlib.Decide.{ℕ_discrete}
 use Rattle.ww_word.specs.declared.owner.Owner.{Owner}
@@ -141,7 +141,8 @@ module _ (c : State) where
   abbrev pub waiter_of : ℕ → Entry
   waiter_of s = record { seat = s; stamp = c.stamp s; holds = owns_some s }
 
-  -- the owner of a lock, as its owner word would tell it to who looks at the seat, the stamp and the pickup alone
+  -- the owner of a lock, as decoded from its owner word, ignoring WAITERS and HANDOFF: only the seat, the stamp
+  -- and PICKUP count
   abbrev pub owner_as : Holder → Owner
   owner_as Nobody = idle
   owner_as (Taken s) = record { seat = Some s; stamp = c.stamp s; flags = 0 }

@@ -18,7 +18,7 @@ pub enum Holder {
     Handed(u8),
 }
 
-/// The core: what all seats and locks are at, at one moment. It is made at its start, and only steps change it: so its
+/// The core: the state of all seats and locks at one moment. It is made at its start, and only steps change it: so its
 /// state is always a reached one. Contracts see it as plain lists, and name the state that they show.
 #[derive(Debug, Drop)]
 pub struct Core {

@@ -1,4 +1,4 @@
-//! The terms in which it is said when an event is possible.
+//! Predicates and values in which the conditions of events are stated.
 
 ghost use Rattle.std.specs.Prelude.{suc, ◌≡◌, ◌==◌, ◌≤◌, ◌↔◌, IsTrue, length, None};
 ghost use Rattle.std.specs.List.{list_any, slice_index_or};
@@ -168,7 +168,8 @@ impl Core {
             && !self.is_asked(lock)
     }
 
-    /// The owner of the lock, as its owner word would tell it to who looks at the seat, the stamp and the pickup alone.
+    /// The owner of the lock, as decoded from its owner word, ignoring WAITERS and HANDOFF: only the seat, the stamp
+    /// and PICKUP count.
     fn owner_word(&self, lock: u8) -> Owner
         ensures { result ≡ owner_as (state_of self.now) ((state_of self.now).owner lock) }
     {

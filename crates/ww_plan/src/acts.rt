@@ -1,4 +1,4 @@
-//! The acts of scripts. Of an act's own faults each comes before any fault of its members.
+//! The acts of scripts. All of an act's own faults are reported before any fault of its members.
 
 ghost use Rattle.std.specs.Prelude.{map};
 ghost use Rattle.serde_json.specs.View.{view};
@@ -17,7 +17,8 @@ use ww_plain::Txn;
 pub enum Act {
     /// A transaction, which waits for its locks as long as it takes.
     Do(Txn),
-    /// A transaction that a cancel may call off where it waits. It isn't a peek, which takes no lock.
+    /// A transaction that a cancel may call off where it waits. It isn't a peek, which takes one lock without a context
+    /// and can't be called off.
     Interruptible(Txn),
     /// A cancel of the script of this number, which may be the script itself.
     Cancel(u8),

@@ -1,4 +1,5 @@
-/// How many nodes, ports of each node and scripts an input has. What its acts name is below: the contracts say so.
+/// How many nodes, ports of each node and scripts an input has. The numbers of nodes, ports and scripts that its acts
+/// name are below these: the contracts say so.
 #[derive(Clone, Copy)]
 pub struct Ranges {
     pub nodes: u8,

@@ -46,7 +46,7 @@ impl Model for Scripts {
     ghost invariant = { λ s. IsPlan (plan_of s.kind s.history s.ports s.graph s.scripts) };
 }
 
-/// A node's port: null, or a node's number below 64, which is a bad graph where none of the `size` nodes has it.
+/// A port: null, or a number below 64; one that names none of the `size` nodes makes a bad graph.
 #[tactic(auto, unfolding(crate::specs::Scripts::port_in))]
 fn port_of(size: usize, value: &Value) -> Result<Option<u8>, InputFault>
     ensures { Says (λ port. port) result (port_in size (view value.now)) }

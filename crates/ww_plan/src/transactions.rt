@@ -1,4 +1,4 @@
-//! The forms of transactions. Of a transaction's own faults each comes before any fault of its members.
+//! The forms of transactions. All of a transaction's own faults are reported before any fault of its members.
 
 ghost use Rattle.std.specs.Prelude.{map};
 ghost use Rattle.serde_json.specs.View.{view};

@@ -19,7 +19,7 @@ pub record AreOthers (slots : List (ℕ × Cell)) (n : ℕ) (y : Cell) (others :
   pub parts : slots ≡ front ++ (n, y) ∷ back
   pub rest : others ≡ back ++ front
 
--- how far the slots were turned: those in front, none of them slot n, went behind the others
+-- a rotation: so many slots from the front, none of them slot n, went behind the others
 pub record AreTurned (slots now : List (ℕ × Cell)) (turns n : ℕ) : Type 0 where
   pub front : List (ℕ × Cell)
   pub back : List (ℕ × Cell)

@@ -44,16 +44,15 @@ pub enum Cell {
     Line(Waiters),
 }
 
-/// What is kept of a seat's number for ever: what it knows of the core, what is counted of it, and all its commits
-/// with their places. No value of it is made.
+/// Proof-only state of a seat number, kept after its seat is gone: what it knows of the core, its counts, and all its
+/// commits with their places. No value of it is made.
 pub struct Part {
     pub core: View,
     pub counts: Counts,
     pub own: LinkedList<(u64, Record)>,
 }
 
-/// What is counted of a seat's number for ever. The lists say of each other seat how often, and have no bound to keep,
-/// since no value of this is made.
+/// Proof-only counts for a seat number, kept after its seat is gone. Those of cancels are lists, so without a bound.
 pub struct Counts {
     /// How often it drew a stamp.
     pub draws: u64,
@@ -65,7 +64,7 @@ pub struct Counts {
 
 /// What the table has of a seat. No value of it is made.
 pub struct Sight {
-    /// False of the view that is left where a seat was joined to another.
+    /// False once this seat was joined to another.
     pub seated: bool,
     pub part: Part,
     /// The values of the nodes whose locks it has taken.

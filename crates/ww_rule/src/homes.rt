@@ -56,7 +56,7 @@ pub fn nodes_of(mut closed: Closed<Cell, Global>, size: u8, mut nodes: Vec<Node>
     nodes
 }
 
-/// Frees a closed table of which so many slots are taken.
+/// Frees what is left of a closed table after this many slots were taken.
 fn discard(mut closed: Closed<Cell, Global>, taken: usize)
     requires taken { AreTakenBelow taken 128 (slots_filled closed.slots) }
     requires few { (taken ≤ 128) × (slots_len closed.slots ≡ 128) }

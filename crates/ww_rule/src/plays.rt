@@ -36,7 +36,7 @@ impl Play<Cell, Sight> for End {
     ghost then = { ends_to };
 }
 
-/// Names the record of a commit: a step is told numbers alone.
+/// The type parameter W of a commit, which names its record, since a step is given only numbers.
 pub trait Said {
     ghost use Rattle.std.specs.Prelude.{Option};
     ghost use Rattle.ww_plain.specs.declared.history.Record.{Record};

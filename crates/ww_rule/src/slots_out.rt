@@ -9,7 +9,7 @@ use arrayvec::ArrayVec;
 /// How many slots a seat can have out: all nodes, and the wait list of one lock.
 pub const MAX_OUT: usize = 65;
 
-/// Sees to it that this slot, which is out, is the one taken last. It is no step, and costs nothing where it is that
+/// Rotates the slots that are out until this one is the last taken. It is no step, and costs nothing where it is that
 /// already.
 #[inline(always)]
 pub fn bring(seat: &mut TableSeat, order: &mut ArrayVec<u8, MAX_OUT>, slot: u8)
@@ -25,7 +25,7 @@ pub fn bring(seat: &mut TableSeat, order: &mut ArrayVec<u8, MAX_OUT>, slot: u8)
     }
 }
 
-/// Turns the slots that are out until this one is the one taken last.
+/// Rotates the slots that are out until this one is the last taken.
 #[cold]
 fn turn_to(seat: &mut TableSeat, order: &mut ArrayVec<u8, MAX_OUT>, slot: u8)
     requires order { order.old.items ≡ numbers_of seat.old.me.1 }

@@ -12,7 +12,7 @@ use ww_script::{Input, Outcome, ScriptAnswer, Scripts, read_input};
 const ADD_AND_GET: &str = r#"{"version":1,"kind":"wound-wait","history":true,
     "nodes":[{"value":0,"ports":[null,null,null,null]}],"scripts":[[["add","list",[[0,7]]],["get","list",[0]]]]}"#;
 
-/// It, read once more where a growth is refused.
+/// The script, read again if an allocation was refused the first time.
 fn scripts(alloc: Global) -> Result<Scripts, Fail> {
     for _ in 0..2 {
         if let Ok(Input::Scripts(scripts)) = read_input(alloc, ADD_AND_GET.as_bytes()) {

@@ -105,7 +105,7 @@ impl Refusal {
         }
     }
 
-    /// How a run ends that writes its line.
+    /// How the run ends after writing this refusal's line.
     fn status(self) -> Status
         ensures { result ≡ status_of self }
     {

@@ -28,7 +28,7 @@ impl From<AllocError> for ReadFault {
     }
 }
 
-/// The first bytes of a reader, at most so many, and all where there are fewer. Any error of the reader ends it.
+/// Reads up to `most` bytes, or to the end of the input. Any error of the reader ends it.
 pub fn read_front<R: Read>(alloc: Global, reader: &mut R, most: usize) -> Result<Vec<u8>, ReadFault>
     ensures bound { IfOk result (λ found. length found.items ≤ most) }
     ensures bytes { IfOk result (λ found. Consumes (R.remaining reader.old) (R.remaining reader.new) found.items) }

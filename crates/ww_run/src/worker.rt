@@ -22,7 +22,7 @@ pub(crate) struct Work {
     pub(crate) told: Result<Vec<ScriptAnswer>, AllocError>,
 }
 
-/// That a worker gives back what a script comes to, with the pass of this caller.
+/// The promise that a worker returns its caller's pass and what its script came to.
 #[derive(Drop)]
 pub(crate) struct WorkOf<'a> {
     pub(crate) world: &'a World,
@@ -34,7 +34,7 @@ impl<'a> Promise<Work> for WorkOf<'a> {
     ghost kept_by = { λ p r. IsWork p.world.now p.caller (map deed_of p.acts.value.items) r };
 }
 
-/// What is answered where a transaction came to this. No worker's pass is spent.
+/// The script's answer to a transaction's result. No worker's pass is spent.
 fn answer_to(told: Result<Receipt, TxnFault>) -> Result<ScriptAnswer, AllocError>
     requires { told ≢ Err TxnFault.PassSpent }
     ensures { IsAnswerTo told result }

@@ -1,4 +1,4 @@
-//! The forms of events. Of an event's own faults each comes before any fault of its members.
+//! The forms of events. All of an event's own faults are reported before any fault of its members.
 
 ghost use Rattle.std.specs.Prelude.{map};
 ghost use Rattle.serde_json.specs.View.{view};

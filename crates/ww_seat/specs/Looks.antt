@@ -12,7 +12,7 @@ use Rattle.ww_seat.specs.Calls.{HoldsAsBefore, HasTaken, HasToDie, HasStopped}
 use Rattle.ww_seat.specs.declared.look.Look.{Look}
 use Rattle.ww_seat.specs.declared.look.Look.TheVariants.{Locked, Deadlk, Interrupted, Waits}
 
--- what it may want a lock by
+-- why the seat may want a lock
 pub record MayWant (n : ℕ) (v : View) : Type 0 where
   pub lacks : owns v n ≡ false
   pub base : WantsBase v

@@ -32,7 +32,7 @@ fn change(seat: &mut Seat16, board: &Board, after: &Graph, nodes: &[u8])
     }
 }
 
-/// Tells of a graph that it is one.
+/// States that a `Graph` is well-formed, as a fact.
 fn see(graph: &Graph)
     ensures { IsGraph graph.now }
 {

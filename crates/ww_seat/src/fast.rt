@@ -48,7 +48,8 @@ fn unsign_if_bare(seat: &mut Seat16, board: &Board)
     unsign_bare(seat, board);
 }
 
-/// Sees to it that the sign doesn't keep the seat from wanting a lock. In Wait-Die whoever is signed owns a lock.
+/// Clears a sign that would forbid the seat to want a lock. In Wait-Die a signed seat owns a lock, so nothing is to be
+/// done.
 fn unsign(seat: &mut Seat16, board: &Board, kind: Kind)
     requires seat { IsSettledAt board.now seat.old }
     requires kind { kind ≡ seat.old.seat.me.0.part.core.kind }

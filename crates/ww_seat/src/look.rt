@@ -39,8 +39,9 @@ fn is_ours(seat: &Seat16, seen: Owner) -> bool
     }
 }
 
-/// One look, up to the first compare-exchange that finds another word: then nothing. The own cancel is looked at, where
-/// it is to be heeded, as soon as the seat stands in the wait list: so it asks for nothing and condemns nobody in vain.
+/// One attempt at a look; `None` if a compare-exchange found another word than was seen. The own cancel is looked at,
+/// where it is to be heeded, as soon as the seat stands in the wait list: so it asks for nothing and condemns nobody in
+/// vain.
 fn look_once(
     seat: &mut Seat16,
     board: &Board,

@@ -12,8 +12,8 @@ use ww_queue::Kind;
 use ww_table::{Board, Seat16};
 use ww_word::Owner;
 
-/// Gives all signs that the seat owes by the word that it saw. Whom this call signed is to be woken: somebody else
-/// wakes those that were signed before.
+/// Sets all signs that the seat owes by the word it saw. Those that this call condemned have to be woken; whoever set
+/// the others wakes them.
 pub(crate) fn sign_all(
     seat: &mut Seat16,
     board: &Board,

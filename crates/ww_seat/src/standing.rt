@@ -16,8 +16,8 @@ use ww_queue::Kind;
 use ww_table::{Board, Seat16};
 use ww_word::{HANDOFF, Owner, WAITERS};
 
-/// Stands in the wait list, where it doesn't yet, if the owner word is still the one seen, and gives the word as it is
-/// then.
+/// Joins the wait list unless the seat stands in it, and gives the owner word afterwards; `None` if the word has
+/// changed.
 pub(crate) fn stand(
     seat: &mut Seat16,
     board: &Board,

@@ -1,4 +1,4 @@
-//! The lock is free, or the seat's to take.
+//! Taking a lock that is free or was handed to the seat.
 ghost use Rattle.std.specs.Prelude.{◌≡◌, ◌<◌, ◌⊎◌, Bool, true, Some, None, IfSome, IfNone};
 ghost use Rattle.ww_word.specs.Owner.{IsValid, is_handed};
 ghost use Rattle.ww_view.specs.Word.{taken_word};

@@ -50,7 +50,7 @@ pub fn take<R: Wait>(
 {
     match try_take(seat, board, kind, lock) {
         Some(node) => Ok(node),
-        // Put together anew: an answer passed on as it is lies in memory, and that of the first try with it.
+        // Rebuild the Result: returning that of `wait` directly would force the fast path's result through memory too.
         None => match wait(rt, seat, board, kind, lock, false, parker, wakers) {
             Ok(node) => Ok(node),
             Err(Stop::Deadlk(met)) => Err(met),
@@ -90,7 +90,7 @@ pub fn take_interruptible<R: Wait>(
 /// How many rounds a waiter gives the owner before it sleeps.
 const ROUNDS: u32 = 11;
 
-/// Sleeps until somebody wakes the seat. Whoever does it in the rounds before needs no call of the system.
+/// Sleeps until somebody wakes the seat. If the wake-up comes during the spin rounds, it costs no system call.
 fn sleep<R: Wait>(rt: &R, parker: &Parker) {
     let pause = Pause::new();
     for _ in 0..ROUNDS {

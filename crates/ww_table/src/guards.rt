@@ -19,7 +19,7 @@ use ww_rule::plays_inside::{Enter, Exit, Look};
 use ww_word::{Owner, unpack};
 
 impl Seat16 {
-    /// Turns the slots that are out until the wait list of the lock is that taken last, and gives the slot's number.
+    /// Rotates the slots that are out until the wait list of the lock is the last taken, and gives the slot's number.
     pub(crate) fn bring_list(&mut self, lock: u8) -> u8
         requires lock { lock < 64 }
         requires order { self.old.order.items ≡ numbers_of self.old.seat.me.1 }

@@ -64,7 +64,7 @@ fn lay(
     }
 }
 
-/// Cuts off a seat for each number but the last, which the first seat keeps.
+/// Splits off a seat for each number except the last, which the first seat keeps.
 fn cut(
     alloc: Global,
     shared: &Top,

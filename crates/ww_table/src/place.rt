@@ -55,7 +55,7 @@ impl Seat16 {
     }
 }
 
-/// The record is named by W, since a step is told numbers alone.
+/// The type parameter W names the record, since a step is given only numbers.
 fn place_said<W: Said>(seat: &mut TableSeat, board: &Board, done: &Record) -> u64
     requires said { W.about ≡ Some done.now }
     requires home { seat.old.table_id ≡ board.now.table.shared.table_id }

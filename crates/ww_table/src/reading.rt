@@ -122,7 +122,7 @@ impl Seat16 {
         seen
     }
 
-    /// Whose the lock is once it is given back: the first waiter's if that was asked for, else nobody's.
+    /// Who owns the lock after it is given back: the first waiter if HANDOFF is set, else nobody.
     pub(crate) fn next_owner(&mut self, board: &Board, lock: u8, is_asked: bool) -> Owner
         requires seat { IsSeatOf board.now self.old }
         requires lock { lock < size_of board.now }

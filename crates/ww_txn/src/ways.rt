@@ -18,8 +18,8 @@ use ww_users::{
     lock_walk_interruptible,
 };
 
-/// Takes the locks of a transaction in a context, whose waits may be called off where it heeds cancels: by the way that a Get or an Add names, by the walk for a Sum and a
-/// Reverse, and by the fixed list for all others.
+/// Takes a transaction's locks in a context; if `heeds`, its waits may be called off. Get and Add name their way, Sum
+/// and Reverse use the walk, all others the fixed list.
 pub(crate) fn lock_all<R: Wait>(
     world: &World,
     pass: Pass,
