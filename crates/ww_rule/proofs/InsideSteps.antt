@@ -117,11 +117,17 @@ ends_as wins st m found m' = (n : ℕ) (o : Owner) → Expects st n o → (found
 expecting : (key : Start) (slots id : ℕ) (me : Sat) (n : ℕ) (o : Owner) (new : ℕ) (wins : ℕ → Owner → Sat → Sat → Type 0) → me.0.seated ≡ true → IsValid o
     → ((s : St) (r : Ruled key s) → get_elem? s.views id ≡ some me.0 → get_or s.words (8 * n) 0 ≡ packed o → (w : Sight) × (a : Act Cell) × Valid s.homes me.1 a × Ruled key (stepped s (8 * n) new id me.1 w a) × wins n o me (w, carried_after me.1 a))
     → Allows (Ruled key) slots id me (8 * n) (λ x. either (eqb x (packed o)) new x) (tries_to wins (step slots (8 * n) (packed o) new none) me)
-expecting key slots id me n o new wins seated valid hit s r deep at small = (ended.0, ended.1, ended.2, ended.3, λ j p told. (
-  (ended.4 j p told).0,
-  (ended.4 j p told).1,
-  λ sees. ap (λ (i : ℕ). get_or s.words i 0) told.0 ∙ word_is_seen key s r id me at seated j p sees,
-))
+expecting key slots id me n o new wins seated valid hit s r deep at small = (
+  ended.0,
+  ended.1,
+  ended.2,
+  ended.3,
+  λ j p told. (
+    (ended.4 j p told).0,
+    (ended.4 j p told).1,
+    λ sees. ap (λ (i : ℕ). get_or s.words i 0) told.0 ∙ word_is_seen key s r id me at seated j p sees,
+  ),
+)
   where
     st : Step Cell
     st = step slots (8 * n) (packed o) new none
