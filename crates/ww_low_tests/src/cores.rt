@@ -2,6 +2,7 @@ ghost use Rattle.std.specs.Prelude.{◌≡◌, IfOk};
 ghost use Rattle.ww_model.specs.Snapshot.{state_of};
 
 use std::alloc::Global;
+use std::process::Abort;
 use std::test::Fail;
 use ww_model::{Answer, Core, Event, Holder, ReplayFault, condemned_in, cycle_in, replay};
 use ww_queue::{Entry, Kind};
@@ -78,6 +79,106 @@ const fn waiter(seat: u8, stamp: u64) -> Entry {
         stamp,
         holds: true,
     }
+}
+
+/// What a core shows of the two seats: who owns the locks, whether seat 1 stands in the list of lock 0 and seat 0 in that
+/// of lock 1, and the sign of seat 1.
+type Shown = ([Holder; 2], [bool; 2], u64);
+
+const NOBODY: [Holder; 2] = [Holder::Nobody; 2];
+
+const ZERO: [Holder; 2] = [Holder::Taken(0), Holder::Nobody];
+
+const EACH: [Holder; 2] = [Holder::Taken(0), Holder::Taken(1)];
+
+const BOTH: [Holder; 2] = [Holder::Taken(0); 2];
+
+/// What it shows after each event of the ring.
+const CLOSING: [Shown; 11] = [
+    (NOBODY, [false, false], 0),
+    (NOBODY, [false, false], 0),
+    (ZERO, [false, false], 0),
+    (EACH, [false, false], 0),
+    (EACH, [false, false], 0),
+    (EACH, [true, false], 0),
+    (EACH, [true, false], 0),
+    (EACH, [true, false], 0),
+    (EACH, [true, true], 0),
+    (EACH, [true, true], 1),
+    (EACH, [true, true], 1),
+];
+
+/// How the ring is broken, with the answers and what the core shows then: seat 1 has to die of its sign, and gives its
+/// lock back, which seat 0 takes.
+const BREAKING: [(Event, Answer, Shown); 9] = [
+    (Event::Guard(1, 0), Answer::Done, (EACH, [true, true], 1)),
+    (
+        Event::Die(1, 0),
+        Answer::Deadlk(1),
+        (EACH, [false, true], 1),
+    ),
+    (Event::Unguard(1, 0), Answer::Done, (EACH, [false, true], 1)),
+    (Event::Guard(1, 1), Answer::Done, (EACH, [false, true], 1)),
+    (Event::Give(1, 1), Answer::Free, (ZERO, [false, true], 1)),
+    (Event::Unguard(1, 1), Answer::Done, (ZERO, [false, true], 1)),
+    (Event::Guard(0, 1), Answer::Done, (ZERO, [false, true], 1)),
+    (Event::Take(0, 1), Answer::Locked, (BOTH, [false, false], 1)),
+    (
+        Event::Unguard(0, 1),
+        Answer::Done,
+        (BOTH, [false, false], 1),
+    ),
+];
+
+/// Whether just this one waiter stands in the list, or nobody.
+fn has_only(queue: &[Entry], entry: Entry, stands: bool) -> bool {
+    if stands {
+        queue == [entry].as_slice()
+    } else {
+        queue.is_empty()
+    }
+}
+
+/// Stops the test where the event is answered otherwise, or where the core shows something else after it.
+fn step<R: Abort>(rt: &R, core: &mut Core, event: Event, told: Answer, shown: Shown)
+    requires locks { (state_of core.old).locks ≡ 2 }
+    requires seats { (state_of core.old).seats ≡ 2 }
+    ensures locks { (state_of core.new).locks ≡ 2 }
+    ensures seats { (state_of core.new).seats ≡ 2 }
+{
+    let (owners, stand, sign) = shown;
+    assert!(rt; core.step(event).ok() == Some(told));
+    assert!(rt; [core.owner_of(0), core.owner_of(1)] == owners);
+    assert!(rt; has_only(core.queue_of(0), waiter(1, 2), stand[0]));
+    assert!(rt; has_only(core.queue_of(1), waiter(0, 1), stand[1]));
+    assert!(rt; (core.sign_of(0), core.sign_of(1)) == (0, sign));
+}
+
+/// Each event by itself. No ring is there before the last event of `RING`, nor after the first that breaks it. In the last
+/// event of all seat 1, which owns nothing any more, clears its sign, and nothing else changes.
+#[test]
+fn a_ring_closes_and_is_broken_step_by_step(rt: HostRuntime) -> Result<(), Fail> {
+    let none = replayed(rt.alloc(), &[]);
+    let mut core = none.ok().ok_or("no event is impossible")?;
+    for ((event, told), shown) in RING.into_iter().zip(RING_ANSWERS).zip(CLOSING) {
+        assert!(rt; cycle_in(&core).is_none());
+        step(&rt, &mut core, event, told, shown);
+    }
+    assert!(rt; is_ring(&core));
+    for (event, told, shown) in BREAKING {
+        step(&rt, &mut core, event, told, shown);
+        assert!(rt; cycle_in(&core).is_none());
+    }
+    step(
+        &rt,
+        &mut core,
+        Event::Clear(1),
+        Answer::Done,
+        (BOTH, [false, false], 0),
+    );
+    assert!(rt; cycle_in(&core).is_none());
+    assert!(rt; (core.stamp_of(0), core.stamp_of(1)) == (1, 2));
+    Ok(())
 }
 
 #[test]

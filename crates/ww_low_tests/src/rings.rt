@@ -19,7 +19,9 @@ use ww_seat::{Look, begin, end, give, try_take, visit};
 use ww_table::{Board, Seat16};
 
 /// The words that two locks and two seats use: owners, guards, signs, the stamp word and the front word.
-fn words(board: &Board) -> [u64; 8] {
+fn words(board: &mut Board) -> [u64; 8]
+    ensures { board.new ≡ board.old }
+{
     [
         board.peek(0),
         board.peek(1),
@@ -36,23 +38,27 @@ fn words(board: &Board) -> [u64; 8] {
 /// and the front word. All others are 0.
 pub(crate) fn compare<R: Abort>(
     rt: &R,
-    board: &Board,
+    board: &mut Board,
     owners: [u64; 2],
     sign: u64,
     counts: [u64; 2],
-) {
+)
+    ensures { board.new ≡ board.old }
+{
     compare_cancelled(rt, board, owners, sign, counts, 0);
 }
 
 /// The same where the cancel of seat 1 may be set.
 pub(crate) fn compare_cancelled<R: Abort>(
     rt: &R,
-    board: &Board,
+    board: &mut Board,
     owners: [u64; 2],
     sign: u64,
     counts: [u64; 2],
     cancel: u64,
-) {
+)
+    ensures { board.new ≡ board.old }
+{
     let [zero, one] = owners;
     let [stamp, front] = counts;
     assert_eq!(rt; words(board), [zero, one, 0, 0, 0, sign, stamp, front]);
@@ -90,15 +96,16 @@ pub(crate) fn two_seats<R: Abort>(
 /// Begins a context.
 pub(crate) fn start<R: Abort>(
     rt: &R,
-    board: &Board,
+    board: &mut Board,
     seat: &mut Seat16,
     kind: Kind,
     before: [u64; 2],
 )
-    requires size { size_of board.now ≡ 2 }
-    requires kind { board.now.table.shared.key.kind ≡ kind }
-    requires new { (k : ℕ) × IsNew board.now.table.shared.table_id board.now.table.shared.key k seat.old }
-    ensures { Holds board.now kind none seat.new }
+    requires size { size_of board.old ≡ 2 }
+    requires kind { board.old.table.shared.key.kind ≡ kind }
+    requires new { (k : ℕ) × IsNew board.old.table.shared.table_id board.old.table.shared.key k seat.old }
+    ensures same { board.new ≡ board.old }
+    ensures holds { Holds board.new kind none seat.new }
 {
     let stamp = begin(seat, board);
     compare(rt, board, before, 0, [stamp, 0]);
@@ -107,17 +114,18 @@ pub(crate) fn start<R: Abort>(
 /// Begins a context, and takes a lock that is free.
 pub(crate) fn hold<R: Abort>(
     rt: &R,
-    board: &Board,
+    board: &mut Board,
     seat: &mut Seat16,
     kind: Kind,
     lock: u8,
     before: [u64; 2],
 )
-    requires size { size_of board.now ≡ 2 }
-    requires kind { board.now.table.shared.key.kind ≡ kind }
-    requires new { (k : ℕ) × IsNew board.now.table.shared.table_id board.now.table.shared.key k seat.old }
+    requires size { size_of board.old ≡ 2 }
+    requires kind { board.old.table.shared.key.kind ≡ kind }
+    requires new { (k : ℕ) × IsNew board.old.table.shared.table_id board.old.table.shared.key k seat.old }
     requires lock { lock < 2 }
-    ensures { Holds board.now kind (just lock) seat.new }
+    ensures same { board.new ≡ board.old }
+    ensures holds { Holds board.new kind (just lock) seat.new }
 {
     start(rt, board, seat, kind, before);
     let Some(_) = try_take(seat, board, kind, lock) else {
@@ -186,28 +194,29 @@ pub(crate) fn tied<R: Abort>(
     ensures older { IfOk result (λ r. Holds r.0 kind (just 0) r.1) }
     ensures younger { IfOk result (λ r. Holds r.0 kind (just 1) r.2) }
 {
-    let (board, mut older, mut younger) = two_seats(rt, alloc, kind)?;
-    compare(rt, &board, [0, 0], 0, [0, 0]);
-    hold(rt, &board, &mut older, kind, 0, [0, 0]);
-    compare(rt, &board, [264, 0], 0, [1, 0]);
-    hold(rt, &board, &mut younger, kind, 1, [264, 0]);
-    compare(rt, &board, [264, 528], 0, [2, 0]);
+    let (mut board, mut older, mut younger) = two_seats(rt, alloc, kind)?;
+    compare(rt, &mut board, [0, 0], 0, [0, 0]);
+    hold(rt, &mut board, &mut older, kind, 0, [0, 0]);
+    compare(rt, &mut board, [264, 0], 0, [1, 0]);
+    hold(rt, &mut board, &mut younger, kind, 1, [264, 0]);
+    compare(rt, &mut board, [264, 528], 0, [2, 0]);
     Ok((board, older, younger))
 }
 
 /// The younger, which has backed off, gives its lock back, and the older takes it.
 fn hand_back<R: Wait + Abort>(
     rt: &R,
-    board: &Board,
+    board: &mut Board,
     kind: Kind,
     older: &mut Seat16,
     younger: &mut Seat16,
     sign: u64,
 )
-    requires size { size_of board.now ≡ 2 }
-    requires older { MayLook board.now kind (just 0) 1 true older.old }
-    requires younger { Holds board.now kind (just 1) younger.old }
-    ensures { Holds board.now kind none younger.new }
+    requires size { size_of board.old ≡ 2 }
+    requires older { MayLook board.old kind (just 0) 1 true older.old }
+    requires younger { Holds board.old kind (just 1) younger.old }
+    ensures same { board.new ≡ board.old }
+    ensures holds { Holds board.new kind none younger.new }
 {
     compare(rt, board, [264, 529], sign, [2, 0]);
     give(rt, younger, board, 1, &[]);
@@ -219,15 +228,15 @@ fn hand_back<R: Wait + Abort>(
 /// ... and the younger ends, with its sign or none.
 pub(crate) fn untie<R: Wait + Abort>(
     rt: &R,
-    board: &Board,
+    board: &mut Board,
     kind: Kind,
     older: &mut Seat16,
     younger: &mut Seat16,
     sign: u64,
 )
-    requires size { size_of board.now ≡ 2 }
-    requires older { MayLook board.now kind (just 0) 1 true older.old }
-    requires younger { Holds board.now kind (just 1) younger.old }
+    requires size { size_of board.old ≡ 2 }
+    requires older { MayLook board.old kind (just 0) 1 true older.old }
+    requires younger { Holds board.old kind (just 1) younger.old }
 {
     hand_back(rt, board, kind, older, younger, sign);
     end(younger, board);
@@ -235,8 +244,8 @@ pub(crate) fn untie<R: Wait + Abort>(
 }
 
 /// A seat that holds nothing takes its sign back, and ends with none.
-fn clear_and_end<R: Abort>(rt: &R, board: &Board, seat: &mut Seat16, kind: Kind)
-    requires holds { Holds board.now kind none seat.old }
+fn clear_and_end<R: Abort>(rt: &R, board: &mut Board, seat: &mut Seat16, kind: Kind)
+    requires holds { Holds board.old kind none seat.old }
 {
     seat.clear(board);
     compare(rt, board, [264, 264], 0, [2, 0]);
@@ -253,11 +262,11 @@ fn older_first<R: Wait + Abort>(
     kind: Kind,
     sign: u64,
 ) -> Result<(), AllocError> {
-    let (board, mut older, mut younger) = tied(rt, alloc, kind)?;
+    let (mut board, mut older, mut younger) = tied(rt, alloc, kind)?;
     wait(rt, &board, &mut older, kind, 1, false, false);
-    compare(rt, &board, [264, 529], sign, [2, 0]);
+    compare(rt, &mut board, [264, 529], sign, [2, 0]);
     assert_eq!(rt; back_off(rt, &board, &mut younger, kind, 0, false), 1);
-    untie(rt, &board, kind, &mut older, &mut younger, sign);
+    untie(rt, &mut board, kind, &mut older, &mut younger, sign);
     Ok(())
 }
 
@@ -265,15 +274,15 @@ fn older_first<R: Wait + Abort>(
 #[test]
 fn a_ring_is_undone_by_a_sign(rt: HostRuntime) -> Result<(), Fail> {
     let kind = Kind::WoundWait;
-    let (board, mut older, mut younger) = tied(&rt, rt.alloc(), kind)?;
+    let (mut board, mut older, mut younger) = tied(&rt, rt.alloc(), kind)?;
     wait(&rt, &board, &mut younger, kind, 0, false, false);
-    compare(&rt, &board, [265, 528], 0, [2, 0]);
+    compare(&rt, &mut board, [265, 528], 0, [2, 0]);
     wait(&rt, &board, &mut older, kind, 1, false, false);
-    compare(&rt, &board, [265, 529], 1, [2, 0]);
+    compare(&rt, &mut board, [265, 529], 1, [2, 0]);
     let met = back_off(&rt, &board, &mut younger, kind, 0, true);
     assert_eq!(rt; met, 1);
-    hand_back(&rt, &board, kind, &mut older, &mut younger, 1);
-    clear_and_end(&rt, &board, &mut younger, kind);
+    hand_back(&rt, &mut board, kind, &mut older, &mut younger, 1);
+    clear_and_end(&rt, &mut board, &mut younger, kind);
     Ok(())
 }
 
@@ -311,16 +320,16 @@ fn hand_over<R: Wait>(rt: &R, board: &Board, kind: Kind, owner: &mut Seat16, wak
 fn a_lock_is_handed_over(rt: HostRuntime) -> Result<(), Fail> {
     let kind = Kind::WoundWait;
     let alloc = rt.alloc();
-    let (board, mut older, mut younger) = tied(&rt, alloc, kind)?;
+    let (mut board, mut older, mut younger) = tied(&rt, alloc, kind)?;
     let (parker, wakers) = bell(alloc)?;
     wait(&rt, &board, &mut younger, kind, 0, false, false);
-    compare(&rt, &board, [265, 528], 0, [2, 0]);
+    compare(&rt, &mut board, [265, 528], 0, [2, 0]);
     wait(&rt, &board, &mut younger, kind, 0, true, false);
-    compare(&rt, &board, [267, 528], 0, [2, 0]);
+    compare(&rt, &mut board, [267, 528], 0, [2, 0]);
     hand_over(&rt, &board, kind, &mut older, &wakers);
-    compare(&rt, &board, [533, 528], 0, [2, 0]);
+    compare(&rt, &mut board, [533, 528], 0, [2, 0]);
     parker.park(&rt);
     take(&rt, &board, &mut younger, kind, 0);
-    compare(&rt, &board, [528, 528], 0, [2, 0]);
+    compare(&rt, &mut board, [528, 528], 0, [2, 0]);
     Ok(())
 }

@@ -180,7 +180,7 @@ fn crowd<R: Threads + Abort + Sync>(
     requires { (1 ≤ threads) × (threads ≤ 16) }
 {
     let graph = graph_of(alloc, nodes)?;
-    let Ok((board, seats)) = Board::make(alloc, Kind::WoundWait, graph, threads) else {
+    let Ok((mut board, seats)) = Board::make(alloc, Kind::WoundWait, graph, threads) else {
         return Err(Fail::from("it is made"));
     };
     let shared = &board;
@@ -196,7 +196,7 @@ fn crowd<R: Threads + Abort + Sync>(
     assert!(rt; seats.len() == usize::from(threads));
     let count = count(rt, alloc, &all)?;
     let draws = u64::from(threads) * u64::from(TRIES);
-    compare(rt, &board, [0, 0], 0, [draws, count as u64]);
+    compare(rt, &mut board, [0, 0], 0, [draws, count as u64]);
     let (records, graph) = closed(rt, board, seats)?;
     assert!(rt; records.len() == count && count > 0);
     assert!(rt; has_sums(&graph, &all));

@@ -17,12 +17,13 @@ use ww_rounds::{begin, commit_one, end, give, take};
 use ww_table::{Board, Seat16};
 
 /// Both begin a context, and each takes a node: seat 1 the second, as the first isn't free.
-fn take_one_each<R: Abort>(rt: &R, board: &Board, zero: &mut Seat16, one: &mut Seat16)
-    requires size { size_of board.now ≡ 2 }
-    requires zero { Did board.now (at_first 0) zero.old }
-    requires one { Did board.now (at_first 1) one.old }
-    ensures zero { Did board.now (took (began (at_first 0)) 0) zero.new }
-    ensures one { Did board.now (took (began (at_first 1)) 1) one.new }
+fn take_one_each<R: Abort>(rt: &R, board: &mut Board, zero: &mut Seat16, one: &mut Seat16)
+    requires size { size_of board.old ≡ 2 }
+    requires zero { Did board.old (at_first 0) zero.old }
+    requires one { Did board.old (at_first 1) one.old }
+    ensures same { board.new ≡ board.old }
+    ensures zero { Did board.new (took (began (at_first 0)) 0) zero.new }
+    ensures one { Did board.new (took (began (at_first 1)) 1) one.new }
 {
     assert_eq!(rt; begin(board, zero), 1);
     compare(rt, board, [0, 0], 0, [1, 0]);
@@ -44,8 +45,9 @@ fn take_one_each<R: Abort>(rt: &R, board: &Board, zero: &mut Seat16, one: &mut S
 
 /// Makes room for the record of a first commit. Where the growth is refused, the seat has neither a record nor room,
 /// and is asked once more.
-fn reserve<R: Abort>(rt: &R, board: &Board, seat: &mut Seat16) -> Result<(), AllocError>
-    ensures { (d : Deeds) → Did board.now d seat.old → Did board.now d seat.new }
+fn reserve<R: Abort>(rt: &R, board: &mut Board, seat: &mut Seat16) -> Result<(), AllocError>
+    ensures same { board.new ≡ board.old }
+    ensures did { (d : Deeds) → Did board.new d seat.old → Did board.new d seat.new }
 {
     if seat.reserve().is_err() {
         assert!(rt; seat.commits() == 0 && !seat.is_reserved());
@@ -61,11 +63,12 @@ fn reserve<R: Abort>(rt: &R, board: &Board, seat: &mut Seat16) -> Result<(), All
 fn commit<R: Abort>(
     rt: &R,
     alloc: Global,
-    board: &Board,
+    board: &mut Board,
     zero: &mut Seat16,
 ) -> Result<u64, AllocError>
-    requires { Did board.now (took (began (at_first 0)) 0) zero.old }
-    ensures { IfOk result (λ _. Did board.now (committed (took (began (at_first 0)) 0)) zero.new) }
+    requires { Did board.old (took (began (at_first 0)) 0) zero.old }
+    ensures same { board.new ≡ board.old }
+    ensures did { IfOk result (λ _. Did board.new (committed (took (began (at_first 0)) 0)) zero.new) }
 {
     if let Ok(place) = commit_one(board, zero, alloc, 0, 0, 0) {
         return Ok(place);
@@ -79,12 +82,13 @@ fn commit<R: Abort>(
 fn commit_and_give<R: Abort>(
     rt: &R,
     alloc: Global,
-    board: &Board,
+    board: &mut Board,
     zero: &mut Seat16,
 ) -> Result<(), AllocError>
-    requires size { size_of board.now ≡ 2 }
-    requires zero { Did board.now (took (began (at_first 0)) 0) zero.old }
-    ensures zero { IfOk result (λ _. Did board.now (ended (gave (committed (took (began (at_first 0)) 0)) [])) zero.new) }
+    requires size { size_of board.old ≡ 2 }
+    requires zero { Did board.old (took (began (at_first 0)) 0) zero.old }
+    ensures same { board.new ≡ board.old }
+    ensures zero { IfOk result (λ _. Did board.new (ended (gave (committed (took (began (at_first 0)) 0)) [])) zero.new) }
 {
     reserve(rt, board, zero)?;
     let place = commit(rt, alloc, board, zero)?;
@@ -102,10 +106,11 @@ fn commit_and_give<R: Abort>(
 }
 
 /// Seat 1 takes the first node too, gives both back, and ends.
-fn take_both<R: Abort>(rt: &R, board: &Board, one: &mut Seat16)
-    requires size { size_of board.now ≡ 2 }
-    requires one { Did board.now (took (began (at_first 1)) 1) one.old }
-    ensures one { Did board.now (ended (gave (gave (took (took (began (at_first 1)) 1) 0) (1 ∷ [])) [])) one.new }
+fn take_both<R: Abort>(rt: &R, board: &mut Board, one: &mut Seat16)
+    requires size { size_of board.old ≡ 2 }
+    requires one { Did board.old (took (began (at_first 1)) 1) one.old }
+    ensures same { board.new ≡ board.old }
+    ensures one { Did board.new (ended (gave (gave (took (took (began (at_first 1)) 1) 0) (1 ∷ [])) [])) one.new }
 {
     if !take(board, one, 0) {
         panic!(rt; "it was given back");
@@ -152,11 +157,11 @@ fn record(alloc: Global) -> Result<Record, AllocError> {
 #[test]
 fn two_seats_take_turns_at_two_nodes(rt: HostRuntime) -> Result<(), Fail> {
     let alloc = rt.alloc();
-    let (board, mut zero, mut one) = two_seats(&rt, alloc, Kind::WoundWait)?;
-    compare(&rt, &board, [0, 0], 0, [0, 0]);
-    take_one_each(&rt, &board, &mut zero, &mut one);
-    commit_and_give(&rt, alloc, &board, &mut zero)?;
-    take_both(&rt, &board, &mut one);
+    let (mut board, mut zero, mut one) = two_seats(&rt, alloc, Kind::WoundWait)?;
+    compare(&rt, &mut board, [0, 0], 0, [0, 0]);
+    take_one_each(&rt, &mut board, &mut zero, &mut one);
+    commit_and_give(&rt, alloc, &mut board, &mut zero)?;
+    take_both(&rt, &mut board, &mut one);
     let seats = both(alloc, zero, one)?;
     let (records, graph) = closed(&rt, board, seats)?;
     let record = twice(|| record(alloc))?;

@@ -84,9 +84,9 @@ fn makes_and_closes_at_once(rt: HostRuntime) -> Result<(), Fail> {
 }
 
 /// A context takes node 0 and gives it back: the owner word in between, and whether both tries won.
-fn takes_once(board: &Board, seat: &mut Seat16) -> (u64, bool)
-    requires node { 0 < length (first_graph board.now.table.shared.key) }
-    requires new { (k : ℕ) × IsNew board.now.table.shared.table_id board.now.table.shared.key k seat.old }
+fn takes_once(board: &mut Board, seat: &mut Seat16) -> (u64, bool)
+    requires node { 0 < length (first_graph board.old.table.shared.key) }
+    requires new { (k : ℕ) × IsNew board.old.table.shared.table_id board.old.table.shared.key k seat.old }
 {
     seat.draw(board);
     if !seat.take_free(board, 0) {
@@ -103,11 +103,11 @@ fn last_takes_once<R: Abort>(rt: &R, alloc: Global) -> Result<(u64, bool), Alloc
     if graph.size() == 0 {
         return Err(AllocError);
     }
-    let (board, mut seats) = made(rt, alloc, Kind::WoundWait, graph, 16)?;
+    let (mut board, mut seats) = made(rt, alloc, Kind::WoundWait, graph, 16)?;
     let Some(mut seat) = seats.pop() else {
         return Err(AllocError);
     };
-    Ok(takes_once(&board, &mut seat))
+    Ok(takes_once(&mut board, &mut seat))
 }
 
 #[test]

@@ -1,14 +1,23 @@
+use Rattle.std.proofs.Common.{◌∙◌}
 use Rattle.ww_low_tests.specs.Looking.{none, just}
+use Rattle.ww_low_tests.proofs.Still.{owns_still, holds_still, looks_still}
 use Rattle.ww_low_tests.proofs.called_off.while_it_waits.Goals as goal
 
+pub call_off-requires : goal.call_off-requires
+call_off-requires g c = (c.args.kind, just 0, holds_still c.compare.ensures c.in_ok-board.ensures.owner)
+
 pub call_off-requires-2 : goal.call_off-requires-2
-call_off-requires-2 g c = (c.args.kind, just 0, c.call_off.ensures c.args.kind (just 0) c.in_ok-board.ensures.owner)
+call_off-requires-2 g c = let set = c.call_off.ensures c.args.kind (just 0) (holds_still c.compare.ensures c.in_ok-board.ensures.owner) in
+    (c.args.kind, just 0, holds_still c.compare_cancelled.ensures set)
 
 pub stop-requires-clause-may : goal.stop-requires-clause-may
-stop-requires-clause-may g c = (none, c.wait.ensures none c.in_ok-board.ensures.asking.owns)
+stop-requires-clause-may g c = let same = c.compare_cancelled-2.ensures ∙ c.compare_cancelled.ensures ∙ c.compare.ensures in
+    (none, looks_still same (c.wait.ensures none c.in_ok-board.ensures.asking.owns))
 
 pub taken_at_once-requires-clause-owner : goal.taken_at_once-requires-clause-owner
-taken_at_once-requires-clause-owner g c = c.call_off-2.ensures c.args.kind (just 0) (c.call_off.ensures c.args.kind (just 0) c.in_ok-board.ensures.owner)
+taken_at_once-requires-clause-owner g c = let set = c.call_off.ensures c.args.kind (just 0) (holds_still c.compare.ensures c.in_ok-board.ensures.owner) in
+    holds_still c.compare_cancelled-2.ensures (c.call_off-2.ensures c.args.kind (just 0) (holds_still c.compare_cancelled.ensures set))
 
 pub taken_at_once-requires-clause-stopped : goal.taken_at_once-requires-clause-stopped
-taken_at_once-requires-clause-stopped g c = c.stop.ensures none (c.wait.ensures none c.in_ok-board.ensures.asking.owns).owns
+taken_at_once-requires-clause-stopped g c = let same = c.compare_cancelled-2.ensures ∙ c.compare_cancelled.ensures ∙ c.compare.ensures in
+    let waited = c.wait.ensures none c.in_ok-board.ensures.asking.owns in c.stop.ensures none (owns_still same waited.owns)

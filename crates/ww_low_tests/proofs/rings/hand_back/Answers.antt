@@ -1,9 +1,17 @@
 use Rattle.std.proofs.Common.{ℕ, ◌<◌, false, sym, ap, ◌∙◌, subst}
 use Rattle.std.specs.Prelude.{slice_set}
+use Rattle.ww_low_tests.specs.Looking.{just}
+use Rattle.ww_low_tests.proofs.Still.{owns_still, holds_still, looks_still, settled}
 use Rattle.ww_low_tests.proofs.rings.hand_back.Goals as goal
 
-pub returns : goal.returns
-returns g c = let h = c.requires.younger.owns in let e = c.give.ensures in record {
+pub give-requires-clause-settled : goal.give-requires-clause-settled
+give-requires-clause-settled g c = settled _ _ _ _ (holds_still c.compare.ensures c.requires.younger)
+
+pub take-requires-clause-may : goal.take-requires-clause-may
+take-requires-clause-may g c = (just 0, looks_still (c.compare-2.ensures ∙ c.compare.ensures) c.requires.older)
+
+pub returns-clause-holds : goal.returns-clause-holds
+returns-clause-holds g c = let h = c.requires.younger.owns in let e = c.give.ensures in holds_still (c.compare-3.ensures ∙ c.compare-2.ensures) (record {
   owns = record {
     seated = e.settled.seated;
     orderly = e.settled.orderly;
@@ -12,4 +20,4 @@ returns g c = let h = c.requires.younger.owns in let e = c.give.ensures in recor
     owned = e.given.owned ∙ ap (λ l. slice_set l 1 false) h.owned;
   };
   away = e.settled.away;
-}
+})

@@ -1,6 +1,8 @@
 use Rattle.std.proofs.Common.{rules, ◌≡◌, ◌<◌, length, sym, subst, ◌∙◌, arith}
 use Rattle.std.proofs.lemmas.List.Elements.{recursion_from_All}
 use Rattle.ww_plain.proofs.GraphFacts.{all_item}
+use Rattle.ww_table.specs.declared.board.Board.{Board}
+use Rattle.ww_table.specs.Closed.{HaveAllCome}
 use Rattle.ww_rounds.specs.Standing.{IsUnused}
 use Rattle.ww_rounds.proofs.Standing.{new_unused}
 use Rattle.ww_low_tests.proofs.Gathered.{all_come}
@@ -18,4 +20,5 @@ apart-requires g c = recursion_from_All _ c.in_ok-works.works.items (λ i d lt.
 
 pub closed-requires : goal.closed-requires
 closed-requires g c = let count : length c.in_ok-seats.seats.items ≡ c.args.threads = search rules in
-    all_come c.in-Ok.board c.in_ok-seats.seats.items c.in_ok-seats.ensures (count ∙ sym c.in-Ok.ensures.ok.count_is)
+    let come = all_come c.in-Ok.board c.in_ok-seats.seats.items c.in_ok-seats.ensures (count ∙ sym c.in-Ok.ensures.ok.count_is) in
+    subst (λ (v : Board). HaveAllCome v.table.shared.table_id v.table.shared.key c.in_ok-seats.seats.items) (sym c.compare.ensures) come
