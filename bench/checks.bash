@@ -115,14 +115,14 @@ start() {
     running=$((running + 1))
 }
 
-# Compiles bench/refuser.c into this file. The kit's compiler comes without headers and start-up code, and the refuser
-# needs neither.
-make_refuser() {
-    local kit how=(-shared -fPIC -nostdlib -O1 -o "$1" bench/refuser.c)
+# Compiles a source of bench/ that is to be preloaded into a file. The kit's compiler comes without headers and start-up
+# code, and these sources need neither.
+make_library() {
+    local kit how=(-shared -fPIC -nostdlib -O1 -o "$2" "$1")
     if command -v cc >/dev/null; then
         cc "${how[@]}"
     else
         kit=$(dirname "$(rt doc)")/toolchain/bin
         "$kit/clang" --ld-path="$kit/ld.lld" "${how[@]}"
-    fi || fail "bench/refuser.c can't be compiled"
+    fi || fail "$1 can't be compiled"
 }

@@ -7,3 +7,8 @@ use lib.ListN.{get_elem?}
 pub before_last : {A : Type 0} (xs : List A) (y z : A) → get_elem? ((xs ++ y ∷ []) ++ z ∷ []) (length xs) ≡ some y
 before_last [] y z = refl
 before_last (x ∷ xs) y z = before_last xs y z
+
+-- ... but two
+pub before_two : {A : Type 0} (xs : List A) (w y z : A) → get_elem? (((xs ++ w ∷ []) ++ y ∷ []) ++ z ∷ []) (length xs) ≡ some w
+before_two [] w y z = refl
+before_two (x ∷ xs) w y z = before_two xs w y z

@@ -22,4 +22,6 @@ mod rows;
 #[cfg(test)]
 mod tables;
 #[cfg(test)]
+mod wakes;
+#[cfg(test)]
 mod words;

@@ -306,8 +306,14 @@ pub(crate) fn bell(alloc: Global) -> Result<(Parker, [Unparker; 2]), AllocError>
     Ok((parker, [zero, one]))
 }
 
-/// Gives a lock back that is handed over.
-fn hand_over<R: Wait>(rt: &R, board: &Board, kind: Kind, owner: &mut Seat16, wakers: &[Unparker])
+/// Gives lock 0 back, where somebody waits for it.
+pub(crate) fn hand_over<R: Wait>(
+    rt: &R,
+    board: &Board,
+    kind: Kind,
+    owner: &mut Seat16,
+    wakers: &[Unparker],
+)
     requires size { size_of board.now ≡ 2 }
     requires owner { Holds board.now kind (just 0) owner.old }
 {

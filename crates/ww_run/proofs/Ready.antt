@@ -12,7 +12,7 @@ use Rattle.ww_lock.specs.Opened.{IsOpened}
 use Rattle.ww_plan.specs.declared.ranges.Ranges.{Ranges}
 use Rattle.ww_plain.specs.declared.node.TheConstants.{PORTS}
 use Rattle.ww_script.specs.Scripts.{IsScript, ranges_of}
-use Rattle.ww_run.specs.Workers.{AreReady}
+use Rattle.ww_run.specs.Workers.{AreShort, AreNoLonger, IsBudget, AreReady}
 
 abbrev lists : List (Vec Act) → List (List Deed)
 lists scripts = map (λ (acts : Vec Act). map deed_of acts.items) scripts
@@ -34,6 +34,23 @@ short_each budget (acts ∷ scripts) each zero t lt =
 short_each budget (acts ∷ scripts) each (suc i) t lt =
     short_each budget scripts (λ j d low. each (suc j) d (omega (arith, low))) i t (omega (arith, lt))
 
+-- what bounds each script as a list bounds it
+long_each : (other : ℕ) (scripts : List (Vec Act)) → AreNoLonger other (lists scripts) → AreShort other scripts
+long_each other [] each i d lt = absurd (omega (arith, lt))
+long_each other (acts ∷ scripts) each zero d lt =
+    omega (arith, each 0 (map deed_of acts.items) (omega arith), length-map acts.items deed_of)
+long_each other (acts ∷ scripts) each (suc i) d lt =
+    long_each other scripts (λ j t low. each (suc j) t (omega (arith, low))) i d (omega (arith, lt))
+
+-- the least number that bounds the scripts bounds them as lists
+pub is_budget : (budget : ℕ) (scripts : List (Vec Act)) → 1 ≤ budget → AreShort budget scripts
+    → ((other : ℕ) → 1 ≤ other → AreShort other scripts → budget ≤ other) → IsBudget (lists scripts) budget
+is_budget budget scripts some each least = record {
+  some = some;
+  enough = short_each budget scripts each;
+  least = λ other one all. least other one (long_each other scripts all);
+}
+
 -- a world has as many passes as there are scripts
 pub same_count : (w : Setting) (scripts : List (Vec Act)) (passes : List Holding) (first : List Node) (count budget : ℕ)
     → IsOpened w passes first count budget → count ≡ length scripts → w.passes ≡ length (lists scripts)
@@ -43,12 +60,12 @@ same_count w scripts passes first count budget opened many = opened.count ∙ ma
 pub are_ready : (w : Setting) (scripts : List (Vec Act)) (passes : List Holding) (first : List Node) (count budget : ℕ)
     → IsOpened w passes first count budget → count ≡ length scripts
     → AllByRecursion (IsScript (ranges_of (length first) PORTS (length (lists scripts)))) (lists scripts)
-    → ((i : ℕ) (d : Vec Act) → i < length scripts → length (get_or scripts i d).items ≤ budget)
-    → AreReady w (lists scripts) passes
-are_ready w scripts passes first count budget opened many all each =
+    → IsBudget (lists scripts) budget → AreReady w (lists scripts) passes
+are_ready w scripts passes first count budget opened many all is_budget =
     let same : length (lists scripts) ≡ length scripts = length-map scripts (λ (acts : Vec Act). map deed_of acts.items) in
     record {
       count = opened.passes_fresh.count ∙ many ∙ sym same;
+      budget = λ i d there. subst (IsBudget (lists scripts)) (sym (ap (λ s. s.left) (opened.passes_fresh.each i d there))) is_budget;
       each = λ i t d lt.
           let there : i < length passes = omega (arith, lt, same, many, opened.passes_fresh.count) in
           let is = opened.passes_fresh.each i d there in
@@ -61,7 +78,7 @@ are_ready w scripts passes first count budget opened many all each =
             nothing = ap (λ s. s.own) is;
             none_cancelled = ap (λ s. s.cancelled) is;
             uninterrupted = ap (λ s. s.interrupted) is;
-            budget = omega (arith, short_each budget scripts each i t lt, ap (λ s. s.left) is);
+            budget = omega (arith, is_budget.enough i t lt, ap (λ s. s.left) is);
             suit = subst (λ (n : ℕ). AllByRecursion (Suits (ranges (length w.first) n)) (get_or (lists scripts) i t))
                 (sym (same_count w scripts passes first count budget opened many))
                 (subst (λ (g : List Node). AllByRecursion (Suits (ranges (length g) number)) (get_or (lists scripts) i t)) (sym opened.first_graph) script.suit);

@@ -9,6 +9,7 @@ use Rattle.ww_txn.specs.declared.transacting.TxnFault.{TxnFault}
 use Rattle.ww_txn.specs.declared.transacting.TxnFault.TheVariants.{PassSpent, Already, Interrupted}
 use Rattle.ww_txn.specs.declared.transacting.TxnFault.TheVariants as txn
 use Rattle.ww_plain.specs.declared.node.TheConstants.{PORTS}
+use Rattle.ww_plan.specs.declared.acts.Act.{Act}
 use Rattle.ww_script.specs.Acts.{Deed, Suits}
 use Rattle.ww_script.specs.Scripts.{ranges_of}
 use Rattle.ww_script.specs.Said.{Said, answered, said_of}
@@ -76,9 +77,24 @@ pub record IsWork (w : Setting) (number : ℕ) (deeds : List Deed) (work : Work)
   pub same_caller : work.pass.caller ≡ number
   pub told : IfOk work.told (λ answers. HasRun deeds (map said_of answers.items) work.pass)
 
--- there is a pass for each script, and both are ready for one another
+-- none of the scripts has more acts than this
+abbrev pub AreShort : ℕ → List (Vec Act) → Type 0
+AreShort most scripts = (i : ℕ) (d : Vec Act) → i < length scripts → length (slice_index_or scripts i d).items ≤ most
+
+-- the same, of scripts as lists
+abbrev pub AreNoLonger : ℕ → List (List Deed) → Type 0
+AreNoLonger most scripts = (i : ℕ) (t : List Deed) → i < length scripts → length (slice_index_or scripts i t) ≤ most
+
+-- how many acts the longest script has, and 1 if none has any: nothing less would do
+pub record IsBudget (scripts : List (List Deed)) (budget : ℕ) : Type 0 where
+  pub some : 1 ≤ budget
+  pub enough : AreNoLonger budget scripts
+  pub least : (other : ℕ) → 1 ≤ other → AreNoLonger other scripts → budget ≤ other
+
+-- there is a pass for each script, of that budget, and both are ready for one another
 pub record AreReady (w : Setting) (scripts : List (List Deed)) (passes : List Holding) : Type 0 where
   pub count : length passes ≡ length scripts
+  pub budget : (i : ℕ) (d : Holding) → i < length passes → IsBudget scripts (slice_index_or passes i d).left
   pub each : (i : ℕ) (t : List Deed) (d : Holding) → i < length scripts
       → IsReady w i (slice_index_or scripts i t) (slice_index_or passes i d)
 

@@ -174,10 +174,11 @@ fn adds_apart(alloc: Global, kind: &str) -> Result<String, AllocError> {
     Ok(text)
 }
 
-/// Each script commits once all are about to.
+/// Each script commits once all are about to. The gate counts what it is told.
 #[derive(Drop)]
 struct Crowd {
     come: AtomicU64,
+    answered: AtomicU64,
     is_late: AtomicBool,
 }
 
@@ -193,16 +194,25 @@ impl Gate for Crowd {
         self.is_late.store(true, Ordering::SeqCst);
     }
 
-    fn answered(&self, _caller: u8, _seq: u64) {}
+    fn answered(&self, _caller: u8, _seq: u64) {
+        self.answered.fetch_add(1, Ordering::SeqCst);
+    }
 }
 
 fn all_are_met<R: Threads + Wait + Sync>(rt: &R, alloc: Global, kind: &str) -> Result<bool, Fail> {
     let gate = Crowd {
         come: AtomicU64::new(0),
+        answered: AtomicU64::new(0),
         is_late: AtomicBool::new(false),
     };
     let outcome = outcome_of(rt, alloc, &adds_apart(alloc, kind)?, &gate)?;
-    Ok(!gate.is_late.load(Ordering::SeqCst) && outcome.replies.len() == usize::from(SCRIPTS))
+    let all = u64::from(SCRIPTS);
+    Ok(
+        !gate.is_late.load(Ordering::SeqCst)
+            && gate.come.load(Ordering::SeqCst) == all
+            && gate.answered.load(Ordering::SeqCst) == all
+            && outcome.replies.len() == usize::from(SCRIPTS),
+    )
 }
 
 #[test]

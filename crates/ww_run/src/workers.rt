@@ -1,4 +1,4 @@
-ghost use Rattle.std.specs.Prelude.{◌≡◌, ◌≤◌, ◌<◌, ℕ, length, map, slice_index_or, IfOk};
+ghost use Rattle.std.specs.Prelude.{◌≡◌, ◌≤◌, ℕ, map, IfOk};
 ghost use Rattle.ww_plain.specs.History.{history_of};
 ghost use Rattle.ww_script.specs.Scripts.{script_lists};
 ghost use Rattle.ww_script.specs.Outcome.{places_of, IsOutcome};
@@ -6,7 +6,7 @@ ghost use Rattle.ww_lock.specs.Holding.{AreAtHome};
 ghost use Rattle.ww_lock.specs.Closed.{missing_of, IsClosed};
 ghost use Rattle.ww_run.specs.declared.workers.RunFault.TheVariants.{NoMemory};
 ghost use Rattle.ww_script.specs.Acts.{deed_of};
-ghost use Rattle.ww_run.specs.Workers.{IsReady, IsWork, AreReady, AreWorks, AreParted};
+ghost use Rattle.ww_run.specs.Workers.{IsReady, IsWork, AreShort, AreReady, AreWorks, AreParted};
 
 use crate::worker::{Work, WorkOf, run_script};
 use std::alloc::{AllocError, AllocFailed, Global};
@@ -60,9 +60,10 @@ impl<T: Drop> From<AllocFailed<T>> for RunFault {
 
 /// How many acts the longest script has, and 1 if none has any. A cancel needs no budget.
 fn budget(scripts: &[Vec<Act>]) -> u32
-    requires { (i : ℕ) (d : _) → i < length scripts.now → length (slice_index_or scripts.now i d).items ≤ 10000 }
+    requires { AreShort 10000 scripts.now }
     ensures some { 1 ≤ result }
-    ensures each { (i : ℕ) (d : _) → i < length scripts.now → length (slice_index_or scripts.now i d).items ≤ result }
+    ensures each { AreShort result scripts.now }
+    ensures least { (other : ℕ) → 1 ≤ other → AreShort other scripts.now → result ≤ other }
 {
     let mut most = 1;
     for acts in scripts {

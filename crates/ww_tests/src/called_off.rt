@@ -4,7 +4,7 @@ ghost use Rattle.std.specs.Prelude.{◌≡◌, ◌<◌, length, Err, IfOk};
 ghost use Rattle.ww_lock.specs.Holding.{IsAtHome};
 
 use crate::locks::{KINDS, begun, chain, closed, ended, locked};
-use crate::transactions::{add, asked_interruptible};
+use crate::transactions::{Open, add, asked_interruptible};
 use crate::users::{covered, refused};
 use std::alloc::{AllocError, Global};
 use std::process::Abort;
@@ -253,7 +253,7 @@ fn faulted<R: Wait + Abort>(rt: &R, world: &World, pass: Pass, txn: Txn, fault: 
     requires home { IsAtHome pass world.now }
     ensures home { IsAtHome result world.now }
 {
-    let (pass, told) = asked_interruptible(rt, world, pass, txn);
+    let (pass, told) = asked_interruptible(rt, world, pass, &Open, txn);
     assert!(rt; told.err() == Some(fault));
     pass
 }
@@ -274,7 +274,7 @@ fn transacted<R: Wait + Abort>(rt: &R, alloc: Global, kind: Kind) -> Result<(), 
     let zero = ended(rt, &world, zero);
     assert!(rt; one.left() == 1 && one.commits() == 0);
     let txn = add(alloc, By::List, &[(0, 1), (1, 1)])?;
-    let (one, told) = asked_interruptible(rt, &world, one, txn);
+    let (one, told) = asked_interruptible(rt, &world, one, &Open, txn);
     let told = told.ok().ok_or("it is made")?;
     assert!(rt; told.place == 0 && told.seq == 0 && told.reply == Reply::Done);
     let two = cancelled(rt, &world, two, 1, true);

@@ -7,15 +7,16 @@ ghost use Rattle.ww_lock.specs.Holding.{IsAtHome, AreAtHome};
 
 use crate::locks::{KINDS, begun, full_graph, graph_of, locked};
 use crate::threads::{is_possible, is_possible_alone};
-use crate::transactions::{Open, add, asked, asked_interruptible, get, values};
+use crate::transactions::{add, asked, asked_interruptible, get, values};
 use std::alloc::{AllocError, Global};
+use std::cell::Cell;
 use std::process::Abort;
 use std::sync::Wait;
 use std::test::Fail;
 use ww_lock::{CloseFault, Done, History, OpenFault, Pass, Prepared, Receipt, Solo, World};
 use ww_plain::{By, Graph, Reply, Txn, replays};
 use ww_queue::Kind;
-use ww_txn::TxnFault;
+use ww_txn::{Gate, TxnFault};
 
 /// A graph of nodes with these values. Where a growth is refused, it is made once more.
 fn nodes_of(alloc: Global, nodes: &[(u64, Option<u8>)]) -> Result<Graph, AllocError> {
@@ -197,7 +198,25 @@ fn a_solo_prepares_a_peek(rt: HostRuntime) -> Result<(), Fail> {
     Ok(())
 }
 
-/// Asks for a transaction, whose waits may be called off or not.
+/// A gate that counts how often it is told of a commit, before and behind.
+#[derive(Drop)]
+struct Counts {
+    asked: Cell<u64>,
+    answered: Cell<u64>,
+}
+
+impl Gate for Counts {
+    fn before_commit(&self, _caller: u8, _seq: u64) {
+        self.asked.set(self.asked.get().wrapping_add(1));
+    }
+
+    fn answered(&self, _caller: u8, _seq: u64) {
+        self.answered.set(self.answered.get().wrapping_add(1));
+    }
+}
+
+/// Asks for a transaction, whose waits may be called off or not. The gate is told of it, once before its commit and once
+/// behind, where it is made, and isn't where it is refused.
 fn told<R: Wait + Abort>(
     rt: &R,
     world: &World,
@@ -208,11 +227,18 @@ fn told<R: Wait + Abort>(
     requires home { IsAtHome pass world.now }
     ensures home { IsAtHome result.0 world.now }
 {
-    if heeds {
-        asked_interruptible(rt, world, pass, txn)
+    let counts = Counts {
+        asked: Cell::new(0),
+        answered: Cell::new(0),
+    };
+    let (pass, told) = if heeds {
+        asked_interruptible(rt, world, pass, &counts, txn)
     } else {
-        asked(rt, world, pass, &Open, txn)
-    }
+        asked(rt, world, pass, &counts, txn)
+    };
+    let times = u64::from(told.is_ok());
+    assert!(rt; counts.asked.get() == times && counts.answered.get() == times);
+    (pass, told)
 }
 
 /// Makes a transaction. Where a growth is refused, one context or solo is spent, and nothing is committed.

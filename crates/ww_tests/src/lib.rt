@@ -18,6 +18,8 @@ mod pairs;
 #[cfg(test)]
 mod races;
 #[cfg(test)]
+mod reordered;
+#[cfg(test)]
 mod threads;
 #[cfg(test)]
 mod transactions;

@@ -40,10 +40,11 @@ pub(crate) fn asked<R: Wait + Abort, G: Gate>(
 }
 
 /// Asks for a transaction whose waits may be called off.
-pub(crate) fn asked_interruptible<R: Wait + Abort>(
+pub(crate) fn asked_interruptible<R: Wait + Abort, G: Gate>(
     rt: &R,
     world: &World,
     pass: Pass,
+    gate: &G,
     txn: Txn,
 ) -> (Pass, Result<Receipt, TxnFault>)
     requires home { IsAtHome pass world.now }
@@ -52,7 +53,7 @@ pub(crate) fn asked_interruptible<R: Wait + Abort>(
     assert!(rt; txn.fits(world.size()));
     match txn {
         Txn::Peek(_) => panic!(rt; "a peek can't be called off"),
-        txn => transact_interruptible(world, pass, rt, &Open, txn),
+        txn => transact_interruptible(world, pass, rt, gate, txn),
     }
 }
 

@@ -3,6 +3,7 @@
 #![tactic(auto)]
 
 mod gate;
+mod telling;
 mod transacting;
 mod ways;
 

@@ -1,9 +1,11 @@
-ghost use Rattle.std.specs.Prelude.{◌≡◌, ◌<◌, Bool, true, false, length, IfOk, IfErr, OnOk};
+ghost use Rattle.std.specs.Prelude.{◌≡◌, ◌<◌, Bool, true, false, length, IfOk, IfErr, OnOk, OnErr};
 ghost use Rattle.ww_plain.specs.Transaction.{transaction_of, peek, Fits};
 ghost use Rattle.ww_lock.specs.Holding.{IsAtHome};
+ghost use Rattle.ww_txn.specs.declared.telling.Stage.TheVariants.{Untold, Answered};
 ghost use Rattle.ww_txn.specs.Transact.{IsTransacted, IsTxnFault, contexts_of};
 
 use crate::gate::Gate;
+use crate::telling::Telling;
 use crate::ways::lock_all;
 use std::sync::Wait;
 use ww_lock::{Pass, Receipt, World};
@@ -72,9 +74,10 @@ pub fn transact<R: Wait, G: Gate>(
     ensures err { IfErr result.1 (IsTxnFault false pass (transaction_of txn) result.0) }
     ensures gate { OnOk result.1 (G.is_answered gate.now pass.caller (length pass.own)) }
 {
+    let mut telling = Telling::new(gate, pass.caller(), pass.commits());
     match txn {
-        Txn::Peek(node) => transact_alone(world, pass, rt, gate, node),
-        txn => transact_together(world, pass, rt, gate, txn, false),
+        Txn::Peek(node) => transact_alone(world, pass, rt, &mut telling, node),
+        txn => transact_together(world, pass, rt, &mut telling, txn, false),
     }
 }
 
@@ -95,7 +98,8 @@ pub fn transact_interruptible<R: Wait, G: Gate>(
     ensures err { IfErr result.1 (IsTxnFault true pass (transaction_of txn) result.0) }
     ensures gate { OnOk result.1 (G.is_answered gate.now pass.caller (length pass.own)) }
 {
-    transact_together(world, pass, rt, gate, txn, true)
+    let mut telling = Telling::new(gate, pass.caller(), pass.commits());
+    transact_together(world, pass, rt, &mut telling, txn, true)
 }
 
 /// Makes a transaction in a context, whose waits may be called off where it heeds cancels.
@@ -103,20 +107,21 @@ fn transact_together<R: Wait, G: Gate>(
     world: &World,
     pass: Pass,
     rt: &R,
-    gate: &G,
+    telling: &mut Telling<G>,
     txn: Txn,
     heeds: bool,
 ) -> (Pass, Result<Receipt, TxnFault>)
     requires home { IsAtHome pass world.now }
+    requires untold { telling.old.stage ≡ Untold }
     requires fits { Fits (length world.now.first) (transaction_of txn) }
     requires one { contexts_of (transaction_of txn) ≡ 1 }
     ensures home { IsAtHome result.0 world.now }
     ensures ok { IfOk result.1 (IsTransacted pass result.0 (transaction_of txn)) }
     ensures err { IfErr result.1 (IsTxnFault heeds pass (transaction_of txn) result.0) }
-    ensures gate { OnOk result.1 (G.is_answered gate.now pass.caller (length pass.own)) }
+    ensures told { OnOk result.1 (G.is_answered telling.old.gate.now telling.old.caller telling.old.seq) }
+    ensures once { OnOk result.1 (telling.new ≡ record telling.old { stage = Answered }) }
+    ensures untold { OnErr result.1 (telling.new ≡ telling.old) }
 {
-    let caller = pass.caller();
-    let seq = pass.commits();
     let mut done = match lock_all(world, pass, rt, &txn, heeds) {
         Ok(done) => done,
         Err((pass, fault)) => return (pass, Err(TxnFault::from(fault))),
@@ -125,10 +130,10 @@ fn transact_together<R: Wait, G: Gate>(
         let pass = done.unlock_all(rt, world).fini(world);
         return (pass, Err(TxnFault::NoMemory));
     };
-    gate.before_commit(caller, seq);
+    telling.before_commit();
     let (committed, receipt) = done.commit(world, prepared);
     let pass = committed.unlock_all(rt, world).fini(world);
-    gate.answered(caller, seq);
+    telling.answered();
     (pass, Ok(receipt))
 }
 
@@ -137,18 +142,19 @@ fn transact_alone<R: Wait, G: Gate>(
     world: &World,
     pass: Pass,
     rt: &R,
-    gate: &G,
+    telling: &mut Telling<G>,
     node: u8,
 ) -> (Pass, Result<Receipt, TxnFault>)
     requires home { IsAtHome pass world.now }
+    requires untold { telling.old.stage ≡ Untold }
     requires node { node < length world.now.first }
     ensures home { IsAtHome result.0 world.now }
     ensures ok { IfOk result.1 (IsTransacted pass result.0 (peek node)) }
     ensures err { IfErr result.1 (IsTxnFault false pass (peek node) result.0) }
-    ensures gate { OnOk result.1 (G.is_answered gate.now pass.caller (length pass.own)) }
+    ensures told { OnOk result.1 (G.is_answered telling.old.gate.now telling.old.caller telling.old.seq) }
+    ensures once { OnOk result.1 (telling.new ≡ record telling.old { stage = Answered }) }
+    ensures untold { OnErr result.1 (telling.new ≡ telling.old) }
 {
-    let caller = pass.caller();
-    let seq = pass.commits();
     let mut solo = match pass.lock_solo(rt, world, node) {
         Ok(solo) => solo,
         Err(pass) => return (pass, Err(TxnFault::PassSpent)),
@@ -157,9 +163,9 @@ fn transact_alone<R: Wait, G: Gate>(
         let pass = solo.unlock(rt, world);
         return (pass, Err(TxnFault::NoMemory));
     };
-    gate.before_commit(caller, seq);
+    telling.before_commit();
     let (committed, receipt) = solo.commit(world, prepared);
     let pass = committed.unlock(rt, world);
-    gate.answered(caller, seq);
+    telling.answered();
     (pass, Ok(receipt))
 }

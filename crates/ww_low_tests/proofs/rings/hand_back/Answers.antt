@@ -1,7 +1,7 @@
 use Rattle.std.proofs.Common.{ℕ, ◌<◌, false, sym, ap, ◌∙◌, subst}
 use Rattle.std.specs.Prelude.{slice_set}
 use Rattle.ww_low_tests.specs.Looking.{just}
-use Rattle.ww_low_tests.proofs.Still.{owns_still, holds_still, looks_still, settled}
+use Rattle.ww_low_tests.proofs.Still.{holds_still, looks_still, settled}
 use Rattle.ww_low_tests.proofs.rings.hand_back.Goals as goal
 
 pub give-requires-clause-settled : goal.give-requires-clause-settled

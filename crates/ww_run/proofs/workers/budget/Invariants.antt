@@ -5,3 +5,4 @@ abbrev pub invariant-loop-acts : goal.invariant-loop-acts
 invariant-loop-acts l =
     (1 ≤ l.most) × (l.most ≤ 10000)
     × ((k : ℕ) (d : _) → k < l.acts-index → length (get_or l.scripts k d).items ≤ l.most)
+    × ((other : ℕ) → 1 ≤ other → ((k : ℕ) (d : _) → k < l.acts-index → length (get_or l.scripts k d).items ≤ other) → l.most ≤ other)

@@ -8,7 +8,8 @@ use Rattle.ww_script.specs.Scripts.{script_lists, ranges_of}
 use Rattle.ww_script.specs.Outcome.{place_list, places_of}
 use Rattle.ww_run.proofs.Scripts.{all_worked, all_there}
 use Rattle.ww_run.proofs.Outcomes.{outcome_of}
-use Rattle.ww_run.proofs.Ready.{few_each, same_count, are_ready}
+use Rattle.ww_run.specs.Workers.{AreShort}
+use Rattle.ww_run.proofs.Ready.{few_each, same_count, is_budget, are_ready}
 use Rattle.ww_run.proofs.workers.run_scripts.Goals as goal
 use Rattle.ww_run.proofs.workers.run_scripts.Goals.{then-history+in_ok-places, else-history}
 
@@ -23,8 +24,10 @@ work-requires-after_bounds g c = λ κs within.
     (length c.scripts.inside.graph) (length (script_lists c.scripts.inside.scripts)) (script_lists c.scripts.inside.scripts) c.scripts.invariant.each in
     are_ready c.in-Ok.world scripts c.in-Ok.passes.items c.scripts.inside.graph _ c.budget-budget.result c.in-Ok.ensures.ok
     (grind rules) each
-    (subst (λ (xs : List (Vec Act)). (i : ℕ) (d : Vec Act) → i < length xs → length (get_or xs i d).items ≤ c.budget-budget.result)
-    c.deref.ensures.value c.budget-budget.ensures.each)
+    (is_budget c.budget-budget.result scripts c.budget-budget.ensures.some
+    (subst (AreShort c.budget-budget.result) c.deref.ensures.value c.budget-budget.ensures.each)
+    (subst (λ (xs : List (Vec Act)). (other : ℕ) → 1 ≤ other → AreShort other xs → c.budget-budget.result ≤ other)
+    c.deref.ensures.value c.budget-budget.ensures.least))
 
 pub close-requires-clause-home : goal.close-requires-clause-home
 close-requires-clause-home g c = (all_worked c.in-Ok.world (script_lists c.scripts.inside.scripts) c.in_ok-works.works.items

@@ -1,0 +1,148 @@
+//! A look that condemns a waiter wakes it: by one thread with the seats of a board. Nothing else wakes that one, so each
+//! of these tests would never end if its look didn't.
+
+ghost use Rattle.std.specs.Prelude.{ℕ, ◌≡◌, ◌<◌, Bool, List, false, true, IfOk};
+ghost use Rattle.ww_queue.specs.declared.kind.Kind.TheVariants.{WaitDie};
+ghost use Rattle.ww_table.specs.Seat.{IsNew, size_of};
+ghost use Rattle.ww_low_tests.specs.Looking.{Holds, MayLook, just, none};
+
+use crate::growths::twice;
+use crate::plain::{graph_of, node};
+use crate::rings::{back_off, bell, compare, hand_over, hold, start, tied, wait};
+use crate::tables::made;
+use crossbeam_utils::sync::Unparker;
+use std::alloc::{AllocError, Global};
+use std::process::Abort;
+use std::sync::Wait;
+use std::test::Fail;
+use ww_queue::Kind;
+use ww_seat::{Look, try_take, visit};
+use ww_table::{Board, Seat16};
+
+/// A board of two nodes, with its three seats.
+fn three_seats<R: Abort>(
+    rt: &R,
+    alloc: Global,
+    kind: Kind,
+) -> Result<(Board, Seat16, Seat16, Seat16), AllocError>
+    ensures size { IfOk result (λ r. size_of r.0 ≡ 2) }
+    ensures kind { IfOk result (λ r. r.0.table.shared.key.kind ≡ kind) }
+    ensures zero { IfOk result (λ r. (k : ℕ) × IsNew r.0.table.shared.table_id r.0.table.shared.key k r.1) }
+    ensures one { IfOk result (λ r. (k : ℕ) × IsNew r.0.table.shared.table_id r.0.table.shared.key k r.2) }
+    ensures two { IfOk result (λ r. (k : ℕ) × IsNew r.0.table.shared.table_id r.0.table.shared.key k r.3) }
+{
+    let graph = twice(|| graph_of(alloc, &[node(0, None); 2]))?;
+    let (board, mut seats) = made(rt, alloc, kind, graph, 3)?;
+    let (Some(two), Some(one), Some(zero)) = (seats.pop(), seats.pop(), seats.pop()) else {
+        return Err(AllocError);
+    };
+    if board.size() != 2 {
+        return Err(AllocError);
+    }
+    Ok((board, zero, one, two))
+}
+
+/// Tries for lock 0, which isn't free.
+fn miss<R: Abort>(rt: &R, board: &Board, seat: &mut Seat16, kind: Kind)
+    requires size { size_of board.now ≡ 2 }
+    requires holds { Holds board.now kind none seat.old }
+    ensures { MayLook board.now kind none 0 false seat.new }
+{
+    if try_take(seat, board, kind, 0).is_some() {
+        panic!(rt; "the lock was taken");
+    }
+}
+
+/// In Wait-Die the oldest context wants lock 0, which the youngest has, and for which the one between, with lock 1,
+/// waits already.
+fn asleep<R: Wait + Abort>(
+    rt: &R,
+    alloc: Global,
+) -> Result<(Board, Seat16, Seat16, Seat16), AllocError>
+    ensures size { IfOk result (λ r. size_of r.0 ≡ 2) }
+    ensures oldest { IfOk result (λ r. MayLook r.0 WaitDie none 0 false r.1) }
+    ensures sleeper { IfOk result (λ r. MayLook r.0 WaitDie (just 1) 0 true r.2) }
+    ensures owner { IfOk result (λ r. Holds r.0 WaitDie (just 0) r.3) }
+{
+    let kind = Kind::WaitDie;
+    let (mut board, mut oldest, mut sleeper, mut owner) = three_seats(rt, alloc, kind)?;
+    start(rt, &mut board, &mut oldest, kind, [0, 0]);
+    hold(rt, &mut board, &mut sleeper, kind, 1, [0, 0]);
+    hold(rt, &mut board, &mut owner, kind, 0, [0, 528]);
+    miss(rt, &board, &mut oldest, kind);
+    wait(rt, &board, &mut sleeper, kind, 0, false, false);
+    compare(rt, &mut board, [793, 528], 0, [3, 0]);
+    Ok((board, oldest, sleeper, owner))
+}
+
+/// Looks at a lock for the first time, and wakes whom it condemns.
+fn look<R: Wait>(
+    rt: &R,
+    board: &Board,
+    seat: &mut Seat16,
+    kind: Kind,
+    lock: u8,
+    wakers: &[Unparker],
+) -> Look
+    requires may { (o : List Bool) × MayLook board.now kind o lock false seat.old }
+    requires lock { lock < size_of board.now }
+{
+    visit(rt, seat, board, kind, lock, false, false, wakers)
+}
+
+/// The owner waits for another lock, and has to give way to an older context that comes to wait for it.
+#[test]
+fn who_joins_wakes_the_owner(rt: HostRuntime) -> Result<(), Fail> {
+    let kind = Kind::WoundWait;
+    let alloc = rt.alloc();
+    let (mut board, mut older, mut younger) = tied(&rt, alloc, kind)?;
+    let (parker, wakers) = bell(alloc)?;
+    wait(&rt, &board, &mut younger, kind, 0, false, false);
+    assert!(rt; matches!(look(&rt, &board, &mut older, kind, 1, &wakers), Look::Waits));
+    compare(&rt, &mut board, [265, 529], 1, [2, 0]);
+    parker.park(&rt);
+    assert_eq!(rt; back_off(&rt, &board, &mut younger, kind, 0, true), 1);
+    Ok(())
+}
+
+/// An older context comes to wait for the same lock.
+#[test]
+fn who_joins_wakes_a_waiter(rt: HostRuntime) -> Result<(), Fail> {
+    let kind = Kind::WaitDie;
+    let alloc = rt.alloc();
+    let (mut board, mut oldest, mut sleeper, _owner) = asleep(&rt, alloc)?;
+    let (parker, wakers) = bell(alloc)?;
+    assert!(rt;
+        matches!(
+            look(&rt, &board, &mut oldest, kind, 0, &wakers),
+            Look::Waits
+        )
+    );
+    compare(&rt, &mut board, [793, 528], 1, [3, 0]);
+    parker.park(&rt);
+    assert_eq!(rt; back_off(&rt, &board, &mut sleeper, kind, 0, true), 1);
+    compare(&rt, &mut board, [793, 528], 0, [3, 0]);
+    Ok(())
+}
+
+/// The owner gives the lock back and wakes nobody, and an older context takes it past the list.
+#[test]
+fn who_takes_past_the_list_wakes_a_waiter(rt: HostRuntime) -> Result<(), Fail> {
+    let kind = Kind::WaitDie;
+    let alloc = rt.alloc();
+    let (mut board, mut oldest, mut sleeper, mut owner) = asleep(&rt, alloc)?;
+    let (parker, wakers) = bell(alloc)?;
+    hand_over(&rt, &board, kind, &mut owner, &[]);
+    compare(&rt, &mut board, [1, 528], 0, [3, 0]);
+    assert!(rt;
+        matches!(
+            look(&rt, &board, &mut oldest, kind, 0, &wakers),
+            Look::Locked(_)
+        )
+    );
+    compare(&rt, &mut board, [265, 528], 1, [3, 0]);
+    parker.park(&rt);
+    assert_eq!(rt; back_off(&rt, &board, &mut sleeper, kind, 0, true), 1);
+    compare(&rt, &mut board, [264, 528], 0, [3, 0]);
+    Ok(())
+}
