@@ -19,6 +19,7 @@ use Rattle.ww_seat.specs.Orderly.{IsSettled}
 use Rattle.ww_seat.specs.declared.waiting.Stop.{Stop}
 use Rattle.ww_seat.specs.declared.waiting.Stop.TheVariants.{Deadlk, Interrupted}
 use Rattle.ww_seat.specs.Calls.{IsSame, HoldsAsBefore, HasTaken, HasToDie, HasStopped, HasGiven, HasBegun, HasEnded, IsTurnedAway, TriedOnce}
+use Rattle.ww_seat.specs.declared.patience.Patience.{Patience}
 use Rattle.ww_lock.specs.declared.hand.Hand.{Hand}
 use Rattle.ww_lock.specs.Holding.{Holding, Setting, IsAtHome, AreHeld, by_of}
 use Rattle.ww_lock.specs.Carried.{holding_of, Carries, CarriesFresh}
@@ -205,11 +206,11 @@ record Keeps (h g : Hand) : Type 0 where
   fresh : CarriesFresh g
   is : holding_of g ≡ record (holding_of h) { tries = g.seat.seat.me.0.part.core.tries; takes = g.seat.seat.me.0.part.core.takes; deaths = g.seat.seat.me.0.part.core.deaths }
 
-keeps : (h : Hand) (w p : Setting) (q : Seat16) → p ≡ w → IsAtHome (holding_of h) w → CarriesFresh h → IsSettled p.home (length p.first) q → q.records ≡ h.seat.records
-    → IsSame h.seat.seat.me q.seat.me → q.seat.me.0.part.core.owned ≡ h.seat.seat.me.0.part.core.owned → q.seat.me.0.held ≡ h.seat.seat.me.0.held → Keeps h (record h { seat = q })
-keeps h w p q is home f settled records same owned held =
+keeps : (h : Hand) (w p : Setting) (q : Seat16) (z : Patience) → p ≡ w → IsAtHome (holding_of h) w → CarriesFresh h → IsSettled p.home (length p.first) q → q.records ≡ h.seat.records
+    → IsSame h.seat.seat.me q.seat.me → q.seat.me.0.part.core.owned ≡ h.seat.seat.me.0.part.core.owned → q.seat.me.0.held ≡ h.seat.seat.me.0.held → Keeps h (record h { seat = q; patience = z })
+keeps h w p q z is home f settled records same owned held =
     let c = f.carries in
-    let g : Hand = record h { seat = q } in
+    let g : Hand = record h { seat = q; patience = z } in
     let m : HasMoved h p q = record { settled = settled; records = records; who = same.who; kind = same.kind; answered = still_answered h q c same.stopped (ap (λ (k : Counts). k.heeded) same.counts) } in
     let drew = ap (λ (k : Counts). k.draws) same.counts in
     let many : length q.records.items ≡ length h.seat.records.items = ap (λ r. length r.items) records in record {
@@ -222,25 +223,25 @@ keeps h w p q is home f settled records same owned held =
     }
 
 -- ... after one try in vain
-pub missed : (h : Hand) (w p : Setting) (q : Seat16) → p ≡ w → IsAtHome (holding_of h) w → CarriesFresh h → IsSettled p.home (length p.first) q → q.records ≡ h.seat.records
-    → HoldsAsBefore h.seat.seat.me q.seat.me → TriedOnce h.seat.seat.me q.seat.me → CarriesFresh (record h { seat = q }) × (holding_of (record h { seat = q }) ≡ tried (holding_of h))
-missed h w p q is home f settled records b once = let k = keeps h w p q is home f settled records b.same b.owned b.held in (k.fresh, k.is ∙ rw (once, b.takes, b.deaths) refl)
+pub missed : (h : Hand) (w p : Setting) (q : Seat16) (z : Patience) → p ≡ w → IsAtHome (holding_of h) w → CarriesFresh h → IsSettled p.home (length p.first) q → q.records ≡ h.seat.records
+    → HoldsAsBefore h.seat.seat.me q.seat.me → TriedOnce h.seat.seat.me q.seat.me → CarriesFresh (record h { seat = q; patience = z }) × (holding_of (record h { seat = q; patience = z }) ≡ tried (holding_of h))
+missed h w p q z is home f settled records b once = let k = keeps h w p q z is home f settled records b.same b.owned b.held in (k.fresh, k.is ∙ rw (once, b.takes, b.deaths) refl)
 
 -- ... and it had to back off
-pub died : (h : Hand) (w p : Setting) (q : Seat16) (n k : ℕ) → p ≡ w → IsAtHome (holding_of h) w → CarriesFresh h → IsSettled p.home (length p.first) q → q.records ≡ h.seat.records
-    → HasToDie h.seat.seat.me n k q.seat.me → TriedOnce h.seat.seat.me q.seat.me → CarriesFresh (record h { seat = q }) × (holding_of (record h { seat = q }) ≡ backed_off (holding_of h))
-died h w p q n k is home f settled records d once = let kept = keeps h w p q is home f settled records d.same d.owned d.held in (kept.fresh, kept.is ∙ rw (once, d.takes, d.deaths) refl)
+pub died : (h : Hand) (w p : Setting) (q : Seat16) (z : Patience) (n k : ℕ) → p ≡ w → IsAtHome (holding_of h) w → CarriesFresh h → IsSettled p.home (length p.first) q → q.records ≡ h.seat.records
+    → HasToDie h.seat.seat.me n k q.seat.me → TriedOnce h.seat.seat.me q.seat.me → CarriesFresh (record h { seat = q; patience = z }) × (holding_of (record h { seat = q; patience = z }) ≡ backed_off (holding_of h))
+died h w p q z n k is home f settled records d once = let kept = keeps h w p q z is home f settled records d.same d.owned d.held in (kept.fresh, kept.is ∙ rw (once, d.takes, d.deaths) refl)
 
 -- its wait was called off, and it holds what it held
 pub record Stops (h g : Hand) (n by : ℕ) : Type 0 where
   pub fresh : CarriesFresh g
   pub is : IsInterrupted (holding_of h) n by (holding_of g)
 
-pub stops : (h : Hand) (w p : Setting) (q : Seat16) (n by : ℕ) → p ≡ w → IsAtHome (holding_of h) w → CarriesFresh h → is_among n h.held.items ≡ false → IsSettled p.home (length p.first) q → q.records ≡ h.seat.records
-    → HasStopped h.seat.seat.me n by q.seat.me → TriedOnce h.seat.seat.me q.seat.me → Stops h (record h { seat = q }) n by
-stops h w p q n by is home f new settled records b once =
+pub stops : (h : Hand) (w p : Setting) (q : Seat16) (z : Patience) (n by : ℕ) → p ≡ w → IsAtHome (holding_of h) w → CarriesFresh h → is_among n h.held.items ≡ false → IsSettled p.home (length p.first) q → q.records ≡ h.seat.records
+    → HasStopped h.seat.seat.me n by q.seat.me → TriedOnce h.seat.seat.me q.seat.me → Stops h (record h { seat = q; patience = z }) n by
+stops h w p q z n by is home f new settled records b once =
     let c = f.carries in
-    let g : Hand = record h { seat = q } in
+    let g : Hand = record h { seat = q; patience = z } in
     let heeded = ap (λ (k : Counts). k.heeded) b.counts in
     let m : HasMoved h p q = record { settled = settled; records = records; who = b.who; kind = b.kind; answered = ap by_of b.stopped ∙ ap (λ (bs : List ℕ). by ∷ bs) c.answered ∙ sym heeded } in
     let drew = ap (λ (k : Counts). k.draws) b.counts in
@@ -280,11 +281,11 @@ holds_one h c one = some_among h.held.items one.0 (sym (c.owned one.0) ∙ one.1
     some_among (m ∷ ms) n e = omega arith
 
 -- it came without the lock
-pub turned_away : (h : Hand) (w p : Setting) (q : Seat16) (n : ℕ) (why : Stop) → p ≡ w → IsAtHome (holding_of h) w → CarriesFresh h → is_among n h.held.items ≡ false → IsSettled p.home (length p.first) q → q.records ≡ h.seat.records
-    → IsTurnedAway h.seat.seat.me n why q.seat.me → TriedOnce h.seat.seat.me q.seat.me → CarriesFresh (record h { seat = q }) × IsStop (holding_of h) n why (holding_of (record h { seat = q }))
-turned_away h w p q n (Deadlk k) is home f new settled records d once = let told = died h w p q n k is home f settled records d once in
+pub turned_away : (h : Hand) (w p : Setting) (q : Seat16) (z : Patience) (n : ℕ) (why : Stop) → p ≡ w → IsAtHome (holding_of h) w → CarriesFresh h → is_among n h.held.items ≡ false → IsSettled p.home (length p.first) q → q.records ≡ h.seat.records
+    → IsTurnedAway h.seat.seat.me n why q.seat.me → TriedOnce h.seat.seat.me q.seat.me → CarriesFresh (record h { seat = q; patience = z }) × IsStop (holding_of h) n why (holding_of (record h { seat = q; patience = z }))
+turned_away h w p q z n (Deadlk k) is home f new settled records d once = let told = died h w p q z n k is home f settled records d once in
     (told.0, (told.1, d.context, omega (arith, d.older, f.carries.settled.seated.stamp), holds_one h f.carries d.one))
-turned_away h w p q n (Interrupted by) is home f new settled records d once = let s = stops h w p q n by is home f new settled records d once in (s.fresh, s.is)
+turned_away h w p q z n (Interrupted by) is home f new settled records d once = let s = stops h w p q z n by is home f new settled records d once in (s.fresh, s.is)
 
 -- ---- giving back
 

@@ -3,9 +3,9 @@ ghost use Rattle.std.specs.List.{AllByRecursion};
 ghost use Rattle.ww_plain.specs.Numbers.{is_among};
 
 use arrayvec::ArrayVec;
-use crossbeam_utils::sync::Parker;
 use ww_plain::{Graph, MAX_NODES, Node, Txn, footprint};
 use ww_queue::Kind;
+use ww_seat::Patience;
 use ww_table::Seat16;
 
 /// What a pass carries through all its states: its seat at the table, and what it keeps beside that. Contracts see it
@@ -21,8 +21,7 @@ pub(crate) struct Hand {
     pub(crate) marks: [bool; MAX_NODES],
     /// The graph as it was seen: a node is put there when its lock is taken.
     pub(crate) seen: Graph,
-    /// Only its own thread parks on it.
-    pub(crate) parker: Parker,
+    pub(crate) patience: Patience,
 }
 
 impl Hand {

@@ -82,7 +82,7 @@ impl Hand {
             &world.board,
             self.kind,
             n,
-            &self.parker,
+            &mut self.patience,
             &world.wakers,
         )?;
         self.add(n, node);
@@ -113,7 +113,7 @@ impl Hand {
             &world.board,
             self.kind,
             n,
-            &self.parker,
+            &mut self.patience,
             &world.wakers,
         )?;
         self.add(n, node);

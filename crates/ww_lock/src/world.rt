@@ -11,6 +11,7 @@ use std::alloc::{AllocError, Global};
 use std::marker::Model;
 use ww_plain::{Graph, MAX_NODES};
 use ww_queue::Kind;
+use ww_seat::Patience;
 use ww_table::{Board, Seat16};
 use ww_word::MAX_SEATS;
 
@@ -114,11 +115,11 @@ impl World {
 /// What a pass has beside its seat.
 #[derive(Drop)]
 struct Rest {
-    parker: Parker,
+    patience: Patience,
     seen: Graph,
 }
 
-/// Parkers and graphs for `passes` passes, last first, since `fresh` pops them. What wakes the parkers comes in the
+/// What `passes` passes wait with, and their graphs, last first, since `fresh` pops them. What wakes the parkers comes in the
 /// order of the passes.
 fn rests(alloc: Global, graph: &Graph, passes: u8) -> Result<(Vec<Rest>, Vec<Unparker>), AllocError>
     ensures rests { IfOk result (λ r. AreRests graph.now passes r.0.items) }
@@ -130,7 +131,8 @@ fn rests(alloc: Global, graph: &Graph, passes: u8) -> Result<(Vec<Rest>, Vec<Unp
         let parker = Parker::new(alloc)?;
         let seen = graph.copy(alloc)?;
         wakers.insert(0, parker.unparker().clone()?)?;
-        rests.push(Rest { parker, seen })?;
+        let patience = Patience::new(parker);
+        rests.push(Rest { patience, seen })?;
     }
     Ok((rests, wakers))
 }
@@ -153,7 +155,7 @@ fn fresh(
     ensures err { IfErr result (λ graph. graph ≡ first_graph board.now.table.shared.key) }
 {
     for seat in seats {
-        let Some(Rest { parker, seen }) = rests.pop() else {
+        let Some(Rest { patience, seen }) = rests.pop() else {
             unreachable!()
         };
         let hand = Hand {
@@ -163,7 +165,7 @@ fn fresh(
             held: ArrayVec::new(),
             marks: [false; MAX_NODES],
             seen,
-            parker,
+            patience,
         };
         match Box::new(alloc, hand) {
             Ok(hand) => all.push_reserved(Pass { hand }),

@@ -31,7 +31,7 @@ use Rattle.ww_view.specs.View.{Knows, IsBare, IsQuiet, IsAway}
 use Rattle.ww_view.specs.May.{MayEnter, MayExit, MayJoin, MayTake, MayGive, MayAsk, MayDie, MaySign, MayClear, MayHeed, MayStop}
 use Rattle.ww_view.specs.Made as made
 use Rattle.ww_model.proofs.Ranges.{few_stamps}
-use Rattle.ww_view.proofs.Inside.{mine_look, mine_lost_sign, mine_read, mine_read_none, mine_stepped}
+use Rattle.ww_view.proofs.Inside.{mine_look, mine_lost_sign, mine_read, mine_read_none, mine_glanced, mine_stepped}
 use Rattle.ww_view.proofs.Written.{word_is_valid}
 use Rattle.ww_rule.specs.declared.cells.Cell.{Cell}
 use Rattle.ww_rule.specs.declared.cells.Cell.TheVariants.{Content, Line}
@@ -39,7 +39,7 @@ use Rattle.ww_rule.specs.declared.cells.Sight.{Sight}
 use Rattle.ww_rule.specs.declared.cells.Start.{Start}
 use Rattle.ww_rule.specs.Rule.{St, Sat, first_graph, Ruled}
 use Rattle.ww_rule.specs.Steps.{knowing}
-use Rattle.ww_rule.specs.Guards.{lost, AreSeats, IsSeenBy, entering, exiting, looking, enters_to, exits_to, looks_to}
+use Rattle.ww_rule.specs.Guards.{lost, AreSeats, IsSeenBy, entering, exiting, looking, glancing, enters_to, exits_to, looks_to, glances_to}
 use Rattle.ww_rule.specs.Waiting.{Expects, SeesWaiters, tries_to, HasPlace, joining, joins, taking_inside, below, takes_inside, giving_inside, gives_inside, asking, asks, dying, dies, dies_to}
 use Rattle.ww_rule.specs.Signs.{condemning, noting, reading, finding_none, clearing, signs_to, reads_to, clears_to}
 use Rattle.ww_rule.specs.Cancels.{cancelling, heeding, stopping, stops, leaves_to, cancels_to, heeds_to}
@@ -100,6 +100,15 @@ looks_inside key slots id me n i is seated inside s r deep at small = let c : St
     (λ j there.
         let e : n ≡ j = (let z = sym is ∙ there in omega arith) in subst (λ (t : ℕ). IsSeenBy v t o) e (seen_by c v (reached_is_lawful c r.reached) (mine key s r id me at seated).part.knows n o inside refl)),
   ),
+)
+
+pub glances_outside : (key : Start) (slots id : ℕ) (me : Sat) (n i : ℕ) → i ≡ 8 * n → n < 64 → me.0.seated ≡ true → Allows (Ruled key) slots id me i (λ x. x) (glances_to (step slots i 0 0 none) me)
+glances_outside key slots id me n i is low seated s r deep at small = let c : State = r.core in let v : View = me.0.part.core in (
+  glancing me.0,
+  keeps,
+  tt,
+  looks key s r id me at seated i (made.glanced v) refl (λ m. refl) (mine_glanced c v (mine key s r id me at seated).part.knows),
+  ((word_of c n, word_is_valid c n r.reached (let z = r.places in omega arith), ap (λ (j : ℕ). get_or s.words j 0) is ∙ r.words.owners n low), refl),
 )
 
 -- ---- owner words

@@ -7,7 +7,7 @@ use Rattle.ww_queue.specs.declared.entry.Entry.{Entry}
 use Rattle.ww_queue.specs.Queue.{Has, entry_of, Once, StandsNot}
 use Rattle.ww_view.specs.declared.view.View.{View}
 use Rattle.ww_view.specs.View.{owns}
-use Rattle.ww_view.specs.Made.{stepped, entered, exited, has_looked, entry_of_view}
+use Rattle.ww_view.specs.Made.{stepped, glanced, entered, exited, has_looked, entry_of_view}
 use Rattle.ww_rule.specs.declared.cells.Cell.{Cell}
 use Rattle.ww_rule.specs.declared.cells.Cell.TheVariants.{Line}
 use Rattle.ww_rule.specs.declared.cells.Sight.{Sight}
@@ -60,3 +60,11 @@ pub record IsSeenBy (v : View) (n : ℕ) (o : Owner) : Type 0 where
 
 abbrev pub looks_to : Step Cell → Sat → ℕ → Sat → Type 0
 looks_to st m found m' = (o : Owner) × IsValid o × (found ≡ packed o) × (m' ≡ (looking m.0 o, m.1)) × ((n : ℕ) → st.word ≡ owner_at n → IsSeenBy m.0.part.core n o)
+
+-- ---- glance: the owner word, read from outside the guard: others may have changed it since
+
+abbrev pub glancing : Sight → Sight
+glancing v = knowing v (glanced v.part.core)
+
+abbrev pub glances_to : Step Cell → Sat → ℕ → Sat → Type 0
+glances_to st m found m' = ((o : Owner) × IsValid o × (found ≡ packed o)) × (m' ≡ (glancing m.0, m.1))

@@ -27,6 +27,15 @@ impl Play<Cell, Sight> for Look {
     ghost then = { looks_to };
 }
 
+/// It is made outside.
+pub struct Glance;
+
+impl Play<Cell, Sight> for Glance {
+    ghost use Rattle.ww_rule.specs.Guards.{glances_to};
+
+    ghost then = { glances_to };
+}
+
 pub struct Join;
 
 impl Play<Cell, Sight> for Join {

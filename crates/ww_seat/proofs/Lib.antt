@@ -6,6 +6,7 @@ pub mod Changes
 pub mod Guards
 pub mod Gives
 pub mod Waits
+pub mod Glances
 pub mod Working
 pub mod Signing
 pub mod Took

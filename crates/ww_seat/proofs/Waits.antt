@@ -9,10 +9,12 @@ use Rattle.ww_view.specs.Made.{once_inside}
 use Rattle.ww_rule.specs.declared.cells.Sight.{Sight}
 use Rattle.ww_rule.specs.Rule.{Sat}
 use Rattle.ww_seat.specs.Orderly.{IsOrderly}
-use Rattle.ww_seat.specs.Calls.{HoldsAsBefore, HasTaken, HasToDie}
+use Rattle.ww_seat.specs.declared.waiting.Stop.{Stop}
+use Rattle.ww_seat.specs.declared.waiting.Stop.TheVariants.{Deadlk, Interrupted}
+use Rattle.ww_seat.specs.Calls.{HoldsAsBefore, HasTaken, IsTurnedAway}
 use Rattle.ww_seat.specs.Looks.{IsOutside, IsInside}
 use Rattle.ww_seat.specs.Guards.{HasEntered}
-use Rattle.ww_seat.proofs.Holds.{taken_then, die_then}
+use Rattle.ww_seat.proofs.Holds.{taken_then, die_then, stopped_then}
 
 -- ---- into the guard
 
@@ -51,13 +53,17 @@ entered_kind n m m' kind is e = is ∙ ap (λ (w : Sight). w.part.core.kind) (sy
 pub entered_later : (n : ℕ) (m m' : Sat) → HasEntered m n m' → m'.0.part.core.later ≡ not (m.0.part.core.waits == 0)
 entered_later n m m' e = ap (λ (w : Sight). w.part.core.later) e.view
 
-pub ok_then : (a b c : Sat) (n : ℕ) (r : Result Node ℕ) → HoldsAsBefore a b → IfOk r (λ x. HasTaken b n x c) → IfOk r (λ x. HasTaken a n x c)
+pub ok_then : (a b c : Sat) (n : ℕ) (r : Result Node Stop) → HoldsAsBefore a b → IfOk r (λ x. HasTaken b n x c) → IfOk r (λ x. HasTaken a n x c)
 ok_then a b c n (Ok x) h t = taken_then a b c n x h t
-ok_then a b c n (Err k) h t = t
+ok_then a b c n (Err why) h t = t
 
-pub err_then : (a b c : Sat) (n : ℕ) (r : Result Node ℕ) → HoldsAsBefore a b → IfErr r (λ k. HasToDie b n k c) → IfErr r (λ k. HasToDie a n k c)
-err_then a b c n (Ok x) h d = d
-err_then a b c n (Err k) h d = die_then a b c n k h d
+turned_then : (a b c : Sat) (n : ℕ) (why : Stop) → HoldsAsBefore a b → IsTurnedAway b n why c → IsTurnedAway a n why c
+turned_then a b c n (Deadlk k) h d = die_then a b c n k h d
+turned_then a b c n (Interrupted by) h s = stopped_then a b c n by h s
+
+pub err_then : (a b c : Sat) (n : ℕ) (r : Result Node Stop) → HoldsAsBefore a b → IfErr r (λ why. IsTurnedAway b n why c) → IfErr r (λ why. IsTurnedAway a n why c)
+err_then a b c n (Ok x) h t = t
+err_then a b c n (Err why) h t = turned_then a b c n why h t
 
 -- ---- it stands in the wait list, or in none
 

@@ -1,11 +1,12 @@
 -- A seat that wants a lock, on its way there.
-use Rattle.std.specs.Prelude.{ℕ, suc, ◌≡◌, ◌==◌, ◌⊎◌, Bool, not, true, false, Some}
+use Rattle.std.specs.Prelude.{ℕ, suc, ◌≡◌, ◌≤◌, ◌==◌, ◌⊎◌, Bool, not, true, false, Some}
 use Rattle.ww_queue.specs.Queue.{Once, StandsNot, entry_of}
 use Rattle.ww_view.specs.declared.view.View.{View}
 use Rattle.ww_view.specs.View.{owns, IsAway}
 use Rattle.ww_view.specs.May.{WantsBase, WantsSigns}
 use Rattle.ww_view.specs.Made.{entry_of_view}
 use Rattle.ww_rule.specs.Rule.{Sat}
+use Rattle.ww_rule.specs.Steps.{knowing}
 use Rattle.ww_rule.specs.Guards.{AreSeats}
 use Rattle.ww_seat.specs.Orderly.{IsOrderly}
 use Rattle.ww_seat.specs.Calls.{HoldsAsBefore, HasTaken, HasToDie, HasStopped}
@@ -24,6 +25,15 @@ pub record IsOutside (size n : ℕ) (m : Sat) : Type 0 where
   pub want : MayWant n m.0.part.core
   pub outside : m.0.part.core.inside ≡ 0
   pub place : (m.0.part.core.waits ≡ 0) ⊎ (m.0.part.core.waits ≡ suc n)
+
+-- it has glanced so many times since its last try, and is otherwise as it was
+abbrev pub having_glanced : Sat → ℕ → Sat
+having_glanced m k = (knowing m.0 (record (m.0.part.core) { glances = k }), m.1)
+
+pub record HasGlanced (m m' : Sat) : Type 0 where
+  pub times : ℕ
+  pub few : times ≤ 16
+  pub now : m' ≡ having_glanced m times
 
 -- just inside the guard: it did nothing there yet
 pub record IsInside (size n : ℕ) (m : Sat) : Type 0 where

@@ -79,6 +79,7 @@ pub fn try_take(seat: &mut Seat16, board: &Board, kind: Kind, lock: u8) -> Optio
     ensures none { IfNone result (HoldsAsBefore seat.old.seat.me seat.new.seat.me) }
     ensures met { IfNone result (seat.new.seat.me.0.part.core.met ≡ seat.old.seat.me.0.part.core.met) }
     ensures once { TriedOnce seat.old.seat.me seat.new.seat.me }
+    ensures tried { IfNone result (seat.new.seat.me.0.part.core.glances ≡ 0) }
     ensures signs { IfNone result (WantsSigns seat.new.seat.me.0.part.core) }
     ensures records { seat.new.records ≡ seat.old.records }
 {

@@ -9,9 +9,10 @@ ghost use Rattle.ww_seat.specs.Looks.{IsOutside, IsLook, MayLookSo};
 use crate::fast::try_take;
 use crate::guard::enter;
 use crate::look::{Look, look_at};
+use crate::patience::Patience;
+use crate::staying_away::stay_away;
 use crate::wake::Wake;
-use crossbeam_utils::Backoff as Pause;
-use crossbeam_utils::sync::{Parker, Unparker};
+use crossbeam_utils::sync::Unparker;
 use std::sync::Wait;
 use ww_plain::Node;
 use ww_queue::Kind;
@@ -27,14 +28,14 @@ pub enum Stop {
 }
 
 /// Takes a lock and gives its node, or tells the older stamp that was met. Where the first try fails the seat waits: it
-/// looks, and parks, until a look ends its waiting.
+/// stays away for a while, and then looks, and parks, until a look ends its waiting.
 pub fn take<R: Wait>(
     rt: &R,
     seat: &mut Seat16,
     board: &Board,
     kind: Kind,
     lock: u8,
-    parker: &Parker,
+    patience: &mut Patience,
     wakers: &[Unparker],
 ) -> Result<Node, u64>
     requires settled { IsSettledAt board.now seat.old }
@@ -49,9 +50,12 @@ pub fn take<R: Wait>(
     ensures records { seat.new.records ≡ seat.old.records }
 {
     match try_take(seat, board, kind, lock) {
-        Some(node) => Ok(node),
-        // Rebuild the Result: returning that of `wait` directly would force the fast path's result through memory too.
-        None => match wait(rt, seat, board, kind, lock, false, parker, wakers) {
+        Some(node) => {
+            patience.win();
+            Ok(node)
+        }
+        // Rebuild the Result: returning that of `take_late` directly would force the fast path's result through memory too.
+        None => match take_late(rt, seat, board, kind, lock, false, patience, wakers) {
             Ok(node) => Ok(node),
             Err(Stop::Deadlk(met)) => Err(met),
             Err(Stop::Interrupted(_)) => unreachable!(),
@@ -67,7 +71,7 @@ pub fn take_interruptible<R: Wait>(
     board: &Board,
     kind: Kind,
     lock: u8,
-    parker: &Parker,
+    patience: &mut Patience,
     wakers: &[Unparker],
 ) -> Result<Node, Stop>
     requires settled { IsSettledAt board.now seat.old }
@@ -82,26 +86,46 @@ pub fn take_interruptible<R: Wait>(
     ensures records { seat.new.records ≡ seat.old.records }
 {
     match try_take(seat, board, kind, lock) {
-        Some(node) => Ok(node),
-        None => wait(rt, seat, board, kind, lock, true, parker, wakers),
+        Some(node) => {
+            patience.win();
+            Ok(node)
+        }
+        None => take_late(rt, seat, board, kind, lock, true, patience, wakers),
     }
 }
 
-/// How many rounds a waiter gives the owner before it sleeps.
-const ROUNDS: u32 = 11;
-
-/// Sleeps until somebody wakes the seat. If the wake-up comes during the spin rounds, it costs no system call.
-fn sleep<R: Wait>(rt: &R, parker: &Parker) {
-    let pause = Pause::new();
-    for _ in 0..ROUNDS {
-        pause.snooze();
-    }
-    parker.park(rt);
+/// Takes a lock that the seat has just tried in vain: it stays away from it for a while, and then waits.
+#[cold]
+fn take_late<R: Wait>(
+    rt: &R,
+    seat: &mut Seat16,
+    board: &Board,
+    kind: Kind,
+    lock: u8,
+    heeds: bool,
+    patience: &mut Patience,
+    wakers: &[Unparker],
+) -> Result<Node, Stop>
+    requires seat { IsSeatOf board.now seat.old }
+    requires kind { kind ≡ seat.old.seat.me.0.part.core.kind }
+    requires lock { lock < size_of board.now }
+    requires outside { IsOutside (size_of board.now) lock seat.old.seat.me }
+    requires away { seat.old.seat.me.0.part.core.waits ≡ 0 }
+    requires tried { seat.old.seat.me.0.part.core.glances ≡ 0 }
+    ensures settled { IsSettledAt board.now seat.new }
+    ensures ok { IfOk result (λ x. HasTaken seat.old.seat.me lock x seat.new.seat.me) }
+    ensures err { IfErr result (λ why. IsTurnedAway seat.old.seat.me lock why seat.new.seat.me) }
+    ensures heeds { IfErr result (MayStop heeds) }
+    ensures tries { seat.new.seat.me.0.part.core.tries ≡ seat.old.seat.me.0.part.core.tries }
+    ensures records { seat.new.records ≡ seat.old.records }
+{
+    stay_away(seat, board, lock, patience);
+    patience.lose();
+    wait(rt, seat, board, kind, lock, heeds, patience, wakers)
 }
 
 /// Waits for a lock: it looks, and sleeps, until a look ends its waiting. It reads no word outside the guard, and its
 /// cancel only where it is to be heeded.
-#[cold]
 fn wait<R: Wait>(
     rt: &R,
     seat: &mut Seat16,
@@ -109,7 +133,7 @@ fn wait<R: Wait>(
     kind: Kind,
     lock: u8,
     heeds: bool,
-    parker: &Parker,
+    patience: &Patience,
     wakers: &[Unparker],
 ) -> Result<Node, Stop>
     requires seat { IsSeatOf board.now seat.old }
@@ -131,7 +155,7 @@ fn wait<R: Wait>(
             Look::Deadlk(met) => return Err(Stop::Deadlk(met)),
             Look::Interrupted(by) => return Err(Stop::Interrupted(by)),
             Look::Waits => {
-                sleep(rt, parker);
+                patience.sleep(rt);
                 is_later = true;
             }
         }

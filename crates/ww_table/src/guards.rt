@@ -3,19 +3,19 @@ ghost use Rattle.atomic_table.specs.Seated.{TableId};
 ghost use Rattle.ww_word.specs.Owner.{IsValid, is_handed};
 ghost use Rattle.ww_queue.specs.declared.entry.Entry.{Entry};
 ghost use Rattle.ww_view.specs.View.{owns};
-ghost use Rattle.ww_view.specs.May.{MayEnter, MayLeave};
+ghost use Rattle.ww_view.specs.May.{MayEnter, MayGlance, MayLeave};
 ghost use Rattle.ww_rule.specs.declared.cells.Cell.TheVariants.{Line};
 ghost use Rattle.ww_rule.specs.Layout.{list_at};
 ghost use Rattle.ww_table.specs.Seat.{IsSeated, IsSeatOf, size_of};
 ghost use Rattle.ww_rule.specs.Out.{AreOthers, numbers_of, slot_of};
-ghost use Rattle.ww_rule.specs.Guards.{AreSeats, StandsAs, lost, entering, exiting, looking};
+ghost use Rattle.ww_rule.specs.Guards.{AreSeats, StandsAs, lost, entering, exiting, looking, glancing};
 ghost use Rattle.ww_rule.specs.Waiting.{HasListOnTop};
 
 use crate::board::Board;
 use crate::seat::Seat16;
 use ww_rule::bring;
 use ww_rule::layout::{guard_word, list_slot, owner_word};
-use ww_rule::plays_inside::{Enter, Exit, Look};
+use ww_rule::plays_inside::{Enter, Exit, Glance, Look};
 use ww_word::{Owner, unpack};
 
 impl Seat16 {
@@ -86,6 +86,25 @@ impl Seat16 {
     {
         let shared = &board.table.shared;
         let word = shared.load::<Look>(&mut self.seat, owner_word(lock));
+        match unpack(word) {
+            Some(owner) => owner,
+            None => unreachable!(),
+        }
+    }
+
+    /// The owner word of a lock, read from outside its guard. It is a guess: others may change the word at once, and no
+    /// clause says what it was.
+    pub fn glance(&mut self, board: &Board, lock: u8) -> Owner
+        requires seat { IsSeatOf board.now self.old }
+        requires lock { lock < size_of board.now }
+        requires may { MayGlance self.old.seat.me.0.part.core }
+        ensures seat { IsSeatOf board.now self.new }
+        ensures records { self.new.records ≡ self.old.records }
+        ensures glanced { self.new.seat.me ≡ (glancing self.old.seat.me.0, self.old.seat.me.1) }
+        ensures valid { IsValid result }
+    {
+        let shared = &board.table.shared;
+        let word = shared.load::<Glance>(&mut self.seat, owner_word(lock));
         match unpack(word) {
             Some(owner) => owner,
             None => unreachable!(),

@@ -4,11 +4,11 @@ use mathlib.Core.Option.{some}
 use lib.ListN.{get_elem?}
 use Rattle.ww_word.specs.declared.owner.Owner.{Owner}
 use Rattle.ww_word.specs.Owner.{IsValid, packed}
-use Rattle.ww_view.specs.Made.{noted, stepped, has_looked, has_read, found_none, fast_missed, fast_kept}
-use Rattle.ww_view.proofs.Inside.{mine_look, mine_lost_sign, mine_read, mine_read_none, mine_missed, mine_kept, mine_stepped}
+use Rattle.ww_view.specs.Made.{noted, stepped, glanced, has_looked, has_read, found_none, fast_missed, fast_kept}
+use Rattle.ww_view.proofs.Inside.{mine_look, mine_lost_sign, mine_read, mine_read_none, mine_missed, mine_kept, mine_glanced, mine_stepped}
 use Rattle.ww_rule.specs.declared.cells.Start.{Start}
 use Rattle.ww_rule.specs.Rule.{St, Sat, Sits, Ruled, Stays}
-use Rattle.ww_rule.specs.Guards.{looking}
+use Rattle.ww_rule.specs.Guards.{looking, glancing}
 use Rattle.ww_rule.specs.Signs.{noting}
 use Rattle.ww_rule.proofs.Moves as moves
 use Rattle.ww_rule.proofs.InsideMoves.{inside_low}
@@ -21,6 +21,9 @@ module _ (key : Start) (s : St) (r : Ruled key s) (id : ℕ) (me : Sat) (here : 
   pub look_stays : (n : ℕ) (o : Owner) → me.0.part.core.inside ≡ suc n → IsValid o → get_or s.words (8 * n) 0 ≡ packed o → Stays key s r (read s (8 * n) id me (looking me.0 o))
   look_stays n o inside valid hit = moves.looks_on key s r id me here seated (8 * n) (has_looked me.0.part.core o) refl (λ m. refl)
       (mine_look r.core me.0.part.core mine.part.knows n o inside (moves.found key s r id me here seated n o (inside_low key s r id me here seated n inside) valid hit))
+
+  pub glance_stays : (n : ℕ) → Stays key s r (read s (8 * n) id me (glancing me.0))
+  glance_stays n = moves.looks_on key s r id me here seated (8 * n) (glanced me.0.part.core) refl (λ m. refl) (mine_glanced r.core me.0.part.core mine.part.knows)
 
   pub own_sign_stays : IsNotedOnly key s r id me (512 + 8 * me.0.part.core.who)
   own_sign_stays = let c = r.core in let v = me.0.part.core in let k = mine.part.knows in let i = 512 + 8 * v.who in let x = get_or s.words i 0 in

@@ -13,7 +13,7 @@ use Rattle.ww_rule.specs.declared.cells.Start.{Start}
 use Rattle.ww_rule.specs.Layout.{owner_at, sign_at}
 use Rattle.ww_rule.specs.Rule.{St, Sat, Ruled, Stays}
 use Rattle.ww_rule.specs.Steps.{knowing, keeping, nobody, first_seat, without_first, with_seat}
-use Rattle.ww_rule.specs.Guards.{lost, looking}
+use Rattle.ww_rule.specs.Guards.{lost, looking, glancing}
 use Rattle.ww_rule.specs.Signs.{noting, reading, finding_none}
 use Rattle.ww_table_laws.specs.Laws.{Steps}
 
@@ -26,6 +26,11 @@ abbrev pub LookIsNoEvent : Type 0
 LookIsNoEvent = (key : Start) (s : St) (r : Ruled key s) (id : ℕ) (me : Sat) (n : ℕ) (o : Owner) → Steps s id me →
     me.0.part.core.inside ≡ suc n → IsValid o → slice_index s.words (owner_at n) ≡ packed o →
     Stays key s r (read s (owner_at n) id me (looking me.0 o))
+
+-- a glance at an owner word from outside the guard
+abbrev pub GlanceIsNoEvent : Type 0
+GlanceIsNoEvent = (key : Start) (s : St) (r : Ruled key s) (id : ℕ) (me : Sat) (n : ℕ) → Steps s id me →
+    Stays key s r (read s (owner_at n) id me (glancing me.0))
 
 -- a look at the own sign: what is found is noted, or that nothing was; so too where a context doesn't end, being signed
 pub record IsNotedOnly (key : Start) (s : St) (r : Ruled key s) (id : ℕ) (me : Sat) (i : ℕ) : Type 0 where

@@ -1,11 +1,16 @@
 //! Laws of what is no event of the core: each function's contract is one. A step's own call rests on the lemma that its
 //! law does.
 
-ghost use Rattle.ww_table_laws.specs.NoEvents.{LookIsNoEvent, OwnSignIsNoEvent, LostIsNoEvent, LostSignIsNoEvent, SplitIsNoEvent, JoinIsNoEvent};
+ghost use Rattle.ww_table_laws.specs.NoEvents.{LookIsNoEvent, GlanceIsNoEvent, OwnSignIsNoEvent, LostIsNoEvent, LostSignIsNoEvent, SplitIsNoEvent, JoinIsNoEvent};
 
 /// A look at an owner word leaves core and commits as they are.
 pub fn look_is_no_event()
     ensures { LookIsNoEvent }
+{}
+
+/// So does a glance at one.
+pub fn glance_is_no_event()
+    ensures { GlanceIsNoEvent }
 {}
 
 /// So does a look at the own sign.

@@ -24,7 +24,7 @@ use Rattle.ww_model.proofs.Dues.{by_kind, wound_from, sign_for, sign_owed, sign_
 use Rattle.ww_view.specs.declared.view.View.{View}
 use Rattle.ww_view.specs.Word.{taken_word, asked_word, given_word, rest_word}
 use Rattle.ww_view.specs.View.{owns, KnowsQueues, Knows, IsQuiet}
-use Rattle.ww_view.specs.Made.{entry_of_view, queued, taken, has_asked, given, died, has_heeded, interrupted, has_looked, noted, has_condemned, has_read, found_none, cleared, fast_missed, fast_kept, stepped}
+use Rattle.ww_view.specs.Made.{entry_of_view, queued, taken, has_asked, given, died, has_heeded, interrupted, has_looked, noted, has_condemned, has_read, found_none, cleared, fast_missed, fast_kept, glanced, stepped}
 use Rattle.ww_view.proofs.Written.{word_join, word_take, word_ask, word_give, word_die, word_leave}
 use Rattle.ww_view.proofs.Mine.{taken_from, gets, gives, bare_still}
 
@@ -190,6 +190,9 @@ module _ (c : State) (v : View) (k : Knows c v) where
 
   pub mine_kept : Knows c (fast_kept v)
   mine_kept = assumption
+
+  pub mine_glanced : Knows c (glanced v)
+  mine_glanced = assumption
 
   pub mine_stepped : Knows c (stepped v)
   mine_stepped = assumption

@@ -16,7 +16,7 @@ use Rattle.ww_view.specs.declared.view.View.{View}
 use Rattle.ww_view.specs.Word.{words_after}
 use Rattle.ww_view.specs.View.{IsBare, IsAway, IsQuiet, Knows, first_view}
 use Rattle.ww_view.specs.May.{MayDie, MaySign, MayExit, MayStop, MetByView, Shows}
-use Rattle.ww_view.specs.Made.{died, interrupted, fast_missed, fast_kept, has_looked, noted, has_read, found_none, stepped, view_after}
+use Rattle.ww_view.specs.Made.{died, interrupted, fast_missed, fast_kept, glanced, has_looked, noted, has_read, found_none, stepped, view_after}
 
 -- ---- what a seat knows
 
@@ -44,6 +44,7 @@ pub record FindsMore (c : State) (v : View) : Type 0 where
   pub read : (c.sign v.who ≡ 0 → IsQuiet v) → Knows c (has_read v (c.sign v.who))
   pub found_none : Knows c (found_none v)
   pub missed : Knows c (fast_missed v)
+  pub glanced : Knows c (glanced v)
   pub stepped : Knows c (stepped v)
 
 -- ... it knows

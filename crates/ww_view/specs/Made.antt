@@ -48,13 +48,14 @@ fast_taken v n = record v {
   sign = None;
   fresh = false;
   tries = v.tries + 1;
+  glances = 0;
   takes = v.takes + 1;
   met = None;
 }
 
 -- the word wasn't 0
 abbrev pub fast_missed : View → View
-fast_missed v = record v { fresh = false; tries = v.tries + 1 }
+fast_missed v = record v { fresh = false; tries = v.tries + 1; glances = 0 }
 
 abbrev pub fast_given : View → ℕ → View
 fast_given v n = record v { owned = slice_set v.owned n false; fresh = false; met = None }
@@ -62,6 +63,10 @@ fast_given v n = record v { owned = slice_set v.owned n false; fresh = false; me
 -- the word told more than its owner, so the lock stays its
 abbrev pub fast_kept : View → View
 fast_kept v = record v { fresh = false; kept = v.kept + 1 }
+
+-- it read an owner word, which tells nothing that lasts
+abbrev pub glanced : View → View
+glanced v = record v { glances = v.glances + 1 }
 
 -- ---- into the guard and out of it
 

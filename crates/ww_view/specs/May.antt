@@ -29,6 +29,11 @@ pub record MayFast (v : View) : Type 0 where
   pub base : WantsBase v
   pub signs : WantsSigns v
 
+-- to glance at an owner word: no waiter may, and others sixteen times at most between one try and the next
+pub record MayGlance (v : View) : Type 0 where
+  pub away : IsAway v
+  pub few : v.glances < 16
+
 -- to go inside the guard: to give the lock back, to look again, or to want it
 pub record MayEnter (v : View) (n : ℕ) : Type 0 where
   pub outside : v.inside ≡ 0

@@ -46,6 +46,7 @@ first_view kind s = record {
   acted = false;
   fresh = false;
   tries = 0;
+  glances = 0;
   takes = 0;
   deaths = 0;
   kept = 0;

@@ -41,6 +41,8 @@ pub struct View {
     pub fresh: bool,
     /// How often it tried to take a lock at once.
     pub tries: u64,
+    /// How often it glanced at an owner word from outside its guard, since it last tried to take a lock at once.
+    pub glances: u64,
     /// How often it took a lock, at once or inside its guard.
     pub takes: u64,
     /// How often it backed off.

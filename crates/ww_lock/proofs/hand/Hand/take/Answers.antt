@@ -31,7 +31,7 @@ pub returns-in_err-node : goal.returns-in_err-node
 returns-in_err-node g c =
     let e = c.take.ensures in
     let d = c.in_err-node.ensures.err in
-    let k = died c.args.self.now c.args.world.now _ c.take.new.seat c.args.n _ c.world.view_is c.requires.home c.requires.fresh e.settled e.records d e.once in
+    let k = died c.args.self.now c.args.world.now _ c.take.new.seat c.take.new.patience c.args.n _ c.world.view_is c.requires.home c.requires.fresh e.settled e.records d e.once in
     let p = err_from_is_err_and c.from_residual.result c.from_residual.ensures.1 in
     rw (p.1, p.2) (record {
       fresh = k.0;

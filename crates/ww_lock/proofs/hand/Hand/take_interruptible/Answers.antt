@@ -32,5 +32,5 @@ returns-in_err-node g c =
     let e = c.take_interruptible.ensures in
     let d = c.in_err-node.ensures.err in
     let p = err_from_is_err_and c.from_residual.result c.from_residual.ensures.1 in
-    let t = turned_away c.args.self.now c.args.world.now _ c.take_interruptible.new.seat c.args.n _ c.world.view_is c.requires.home c.requires.fresh c.requires.new e.settled e.records d e.once in
+    let t = turned_away c.args.self.now c.args.world.now _ c.take_interruptible.new.seat c.take_interruptible.new.patience c.args.n _ c.world.view_is c.requires.home c.requires.fresh c.requires.new e.settled e.records d e.once in
     rw (p.1, p.2) (record { fresh = t.0; taken = tt; stopped = t.1; turned_away = d; unmet = tt })

@@ -29,5 +29,5 @@ returns-in-Some c =
 pub returns-in-None : goal.returns-in-None
 returns-in-None c =
     let e = c.try_take.ensures in
-    let k = missed c.args.self.now c.args.world.now _ c.try_take.new.seat c.world.view_is c.requires.home c.requires.fresh e.seat e.records c.in-None.ensures.none e.once in
+    let k = missed c.args.self.now c.args.world.now _ c.try_take.new.seat c.args.self.now.patience c.world.view_is c.requires.home c.requires.fresh e.seat e.records c.in-None.ensures.none e.once in
     record { fresh = k.0; taken = λ f. absurd (true≢false (sym f)); busy = λ _. k.1; unmet = λ none. c.in-None.ensures.met ∙ none }

@@ -1,0 +1,33 @@
+-- A seat that glances at a lock is otherwise as it was.
+use Rattle.std.proofs.Common.{◌≡◌, ℕ, ◌+◌, ◌<◌, refl, sym, ap, ◌∙◌, subst}
+use Rattle.ww_view.specs.View.{IsAway}
+use Rattle.ww_view.specs.May.{MayGlance}
+use Rattle.ww_rule.specs.Rule.{Sat}
+use Rattle.ww_rule.specs.Guards.{glancing}
+use Rattle.ww_seat.specs.Calls.{HoldsAsBefore}
+use Rattle.ww_seat.specs.Looks.{IsOutside, HasGlanced, having_glanced}
+use Rattle.ww_seat.proofs.Outside.{orderly_knowing}
+
+pub may_glance : (m a : Sat) (k : ℕ) → IsAway m.0.part.core → a ≡ having_glanced m k → k < 16 → MayGlance a.0.part.core
+may_glance m a k away is few = subst (λ (w : Sat). MayGlance w.0.part.core) (sym is) (record { away = away; few = few })
+
+pub once_more : (m a b : Sat) (k : ℕ) → a ≡ having_glanced m k → b ≡ (glancing a.0, a.1) → b ≡ having_glanced m (k + 1)
+once_more m a b k is then = then ∙ ap (λ (w : Sat). let v : Sat = (glancing w.0, w.1) in v) is
+
+pub outside_still : (size n : ℕ) (m m' : Sat) → IsOutside size n m → HasGlanced m m' → IsOutside size n m'
+outside_still size n m m' o g = subst (IsOutside size n) (sym g.now) (record {
+  orderly = orderly_knowing size m (having_glanced m g.times) _ o.orderly refl refl refl refl refl;
+  want = record { lacks = o.want.lacks; base = o.want.base; signs = o.want.signs };
+  outside = o.outside;
+  place = o.place;
+})
+
+pub holds_glanced : (m m' : Sat) → HasGlanced m m' → HoldsAsBefore m m'
+holds_glanced m m' g = subst (HoldsAsBefore m) (sym g.now)
+    (record { same = record { kind = refl; who = refl; stamp = refl; own = refl; counts = refl; stopped = refl }; owned = refl; held = refl; takes = refl; deaths = refl })
+
+pub waits_still : (m m' : Sat) → HasGlanced m m' → m.0.part.core.waits ≡ 0 → m'.0.part.core.waits ≡ 0
+waits_still m m' g e = ap (λ (w : Sat). w.0.part.core.waits) g.now ∙ e
+
+pub tries_still : (m m' : Sat) → HasGlanced m m' → m'.0.part.core.tries ≡ m.0.part.core.tries
+tries_still m m' g = ap (λ (w : Sat). w.0.part.core.tries) g.now

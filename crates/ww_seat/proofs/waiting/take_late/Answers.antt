@@ -1,0 +1,25 @@
+use Rattle.std.proofs.Common.{◌∙◌}
+use Rattle.ww_seat.proofs.Waits.{kind_still, ok_then, err_then}
+use Rattle.ww_seat.proofs.Glances.{outside_still, holds_glanced, waits_still, tries_still}
+use Rattle.ww_seat.proofs.waiting.take_late.Goals as goal
+
+pub wait-requires-clause-kind : goal.wait-requires-clause-kind
+wait-requires-clause-kind g c = kind_still c.args.seat.now.seat.me c.stay_away.new.seat.seat.me c.args.kind (holds_glanced _ _ c.stay_away.ensures.glanced) c.requires.kind
+
+pub wait-requires-clause-outside : goal.wait-requires-clause-outside
+wait-requires-clause-outside g c = outside_still _ c.args.lock _ _ c.requires.outside c.stay_away.ensures.glanced
+
+pub wait-requires-clause-away : goal.wait-requires-clause-away
+wait-requires-clause-away g c = waits_still _ _ c.stay_away.ensures.glanced c.requires.away
+
+pub returns-clause-ok : goal.returns-clause-ok
+returns-clause-ok g c = ok_then _ _ _ c.args.lock c.wait.result (holds_glanced _ _ c.stay_away.ensures.glanced) c.wait.ensures.ok
+
+pub returns-clause-err : goal.returns-clause-err
+returns-clause-err g c = err_then _ _ _ c.args.lock c.wait.result (holds_glanced _ _ c.stay_away.ensures.glanced) c.wait.ensures.err
+
+pub returns-clause-tries : goal.returns-clause-tries
+returns-clause-tries g c = c.wait.ensures.tries ∙ tries_still _ _ c.stay_away.ensures.glanced
+
+pub returns-clause-records : goal.returns-clause-records
+returns-clause-records g c = c.wait.ensures.records ∙ c.stay_away.ensures.records
