@@ -1,8 +1,10 @@
-//! Times transactions on threads. Its arguments are a load (`locks`, `reads`, `opposite`, `adds` or `transacts`), the
-//! kind of the locks (`wound-wait` or `wait-die`) and five numbers: how many threads there are, how many nodes a
-//! transaction takes, how many nodes there are, how many transactions each thread has, and how often all of them are
-//! timed. It writes a line for each time: nanoseconds, back-offs, and how many transactions did what they are to do.
-//! Where nothing is to be timed it runs each load once and writes the last number alone, which is the same each time.
+//! Times transactions on threads. Its arguments are a load (`locks`, `reads`, `opposite`, `works`, `adds` or
+//! `transacts`), the kind of the locks (`wound-wait` or `wait-die`) and six numbers: how many threads there are, how many
+//! nodes a transaction takes, how many nodes there are, how many transactions each thread has, for how many pauses of the
+//! processor each of `works` holds its locks, and how often all of them are timed. It writes a line for each time:
+//! nanoseconds, back-offs, and how many transactions did what they are to do; and of `works` the nanoseconds of a thread
+//! in the mean, and those of the longest transaction, for others 0 twice.
+//! Where nothing is to be timed it runs each load once and writes the third number alone, which is the same each time.
 //! Its status is 2 where it doesn't know a word, or has too few or too many.
 #![tactic(auto)]
 
@@ -15,17 +17,29 @@ use std::{env, io};
 use ww_queue::Kind;
 
 /// The loads, each with its word.
-const LOADS: [(&str, What); 5] = [
+const LOADS: [(&str, What); 6] = [
     ("locks", What::Locks),
     ("reads", What::Reads),
     ("opposite", What::Opposite),
+    ("works", What::Works),
     ("adds", What::Adds),
     ("transacts", What::Transacts),
 ];
 
 /// What is to be timed, and how often, by the words behind the program's name.
 fn read_words(words: &[String]) -> Option<(Load, u32)> {
-    let [_, load, kind, threads, list, nodes, transactions, times] = words else {
+    let [
+        _,
+        load,
+        kind,
+        threads,
+        list,
+        nodes,
+        transactions,
+        pauses,
+        times,
+    ] = words
+    else {
         return None;
     };
     let (_, what) = LOADS.into_iter().find(|(name, _)| *name == load.as_str())?;
@@ -41,6 +55,7 @@ fn read_words(words: &[String]) -> Option<(Load, u32)> {
         list: list.parse().ok()?,
         nodes: nodes.parse().ok()?,
         transactions: transactions.parse().ok()?,
+        pauses: pauses.parse().ok()?,
     };
     Some((load, times.parse().ok()?))
 }
@@ -48,7 +63,7 @@ fn read_words(words: &[String]) -> Option<(Load, u32)> {
 fn main(rt: HostRuntime) -> io::Result<ExitCode> {
     let words: Vec<String> = env::args(&rt)?.collect(rt.alloc())?;
     let Some((load, times)) = read_words(&words) else {
-        eprintln!(rt; "usage: ww_bench LOAD KIND THREADS LIST NODES TRANSACTIONS TIMES")?;
+        eprintln!(rt; "usage: ww_bench LOAD KIND THREADS LIST NODES TRANSACTIONS PAUSES TIMES")?;
         return Ok(ExitCode::from(2));
     };
     if times == 0 {
@@ -60,7 +75,10 @@ fn main(rt: HostRuntime) -> io::Result<ExitCode> {
     }
     for _ in 0..times {
         let told = go(&rt, rt.alloc(), &load)?;
-        println!(rt; "{} {} {}", told.nanoseconds, told.back_offs, told.done)?;
+        println!(rt;
+            "{} {} {} {} {}",
+            told.nanoseconds, told.back_offs, told.done, told.mean, told.longest
+        )?;
     }
     Ok(ExitCode::SUCCESS)
 }

@@ -6,6 +6,7 @@ ghost use Rattle.ww_lock.specs.Holding.{IsAtHome};
 ghost use Rattle.ww_lock.specs.Making.{Covers};
 ghost use Rattle.ww_plain.specs.Transaction.{transaction_of, Fits, HasNoDouble};
 
+use std::hint;
 use std::sync::Wait;
 use ww_lock::{Acquiring, Backoff, Done, Lock, Pass, World};
 use ww_plain::{Txn, first_double};
@@ -100,6 +101,31 @@ pub(crate) fn look<R: Wait, const READS: bool>(
     };
     let acquiring = take_all(rt, world, acquiring, list, back_offs);
     let is_read = !READS || read_all(world, &acquiring, list);
+    (acquiring.unlock_all(rt, world).fini(world), is_read)
+}
+
+/// Takes the locks of these nodes, reads each of them, works for so many pauses of the processor, and gives all back. Tells
+/// whether it read what is there.
+pub(crate) fn work<R: Wait>(
+    rt: &R,
+    world: &World,
+    pass: Pass,
+    list: &[u8],
+    pauses: u32,
+    back_offs: &mut u64,
+) -> (Pass, bool)
+    requires home { IsAtHome pass world.now }
+    ensures home { IsAtHome result.0 world.now }
+{
+    let acquiring = match pass.begin(world) {
+        Ok(acquiring) => acquiring,
+        Err(pass) => return (pass, false),
+    };
+    let acquiring = take_all(rt, world, acquiring, list, back_offs);
+    let is_read = read_all(world, &acquiring, list);
+    for _ in 0..pauses {
+        hint::spin_loop();
+    }
     (acquiring.unlock_all(rt, world).fini(world), is_read)
 }
 
