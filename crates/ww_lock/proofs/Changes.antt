@@ -28,48 +28,18 @@ use Rattle.ww_plain.specs.declared.node.Node.{Node}
 use Rattle.ww_plain.specs.declared.history.Record.{Record}
 use Rattle.ww_plain.specs.Numbers.{is_among}
 use Rattle.ww_plain.specs.Footprint.{footprint_of}
-use Rattle.ww_plain.specs.Meaning.{answer_to}
 use Rattle.ww_plain.specs.Transaction.{Transaction}
 use Rattle.ww_plain.specs.History.{Recorded, recorded_of}
 use Rattle.ww_lock.specs.Holding.{Holding, Change, Setting, IsAtHome, Holds, SameAt, AreBelow, by_of, own_of}
-use Rattle.ww_lock.specs.Making.{Covers, IsMade, IsMadeOf, change_of}
+use Rattle.ww_lock.specs.Making.{IsMade, Finds}
+use Rattle.ww_seat.specs.Commits.{change_at}
 
-same_everywhere : (graph : List Node) (ns : List ℕ) → SameAt graph graph ns
-same_everywhere graph [] = tt
-same_everywhere graph (n ∷ ns) = (refl, same_everywhere graph ns)
-
--- a change that was made on what a state has seen can be committed where that is held and seen as before, and there is room
-pub made_here : (s new : Holding) (p : Change) (txn : Transaction) → Covers s txn → p ≡ change_of s txn → new.held ≡ s.held → new.seen ≡ s.seen → 1 ≤ new.room → IsMadeOf new p txn
-made_here s new p txn covers is held seen room =
-    let nodes = footprint_of s.seen txn in
-    subst (λ (q : Change). IsMadeOf new q txn) (sym is) (record {
-      made = record {
-        sizes = ap length (sym seen);
-        holds = subst (λ (ns : List ℕ). AllByRecursion (λ n. is_among n ns ≡ true) nodes) (sym held) covers;
-        contents = subst (λ (g : List Node). SameAt s.seen g nodes) (sym seen) (same_everywhere s.seen nodes);
-        room = room;
-      };
-      transaction = refl;
-      answer = ap (λ (g : List Node). answer_to g txn) (sym seen);
-      leads = refl;
-    })
-
--- lists by other names
-pub held_as : (ns ms held hs : List ℕ) → ms ≡ ns → hs ≡ held → AllByRecursion (λ n. is_among n hs ≡ true) ms → AllByRecursion (λ n. is_among n held ≡ true) ns
-held_as ns ms held hs nodes is holds =
-    subst (λ (xs : List ℕ). AllByRecursion (λ n. is_among n held ≡ true) xs) nodes (subst (λ (xs : List ℕ). AllByRecursion (λ n. is_among n xs ≡ true) ms) is holds)
-
--- all but the room was looked at
-pub made_with_room : (s : Holding) (p : Change) (ns : List ℕ) (len room : ℕ) → ns ≡ footprint_of p.before p.transaction → length p.before ≡ length s.seen → Holds s ns → SameAt p.before s.seen ns
-    → s.room ≡ room - len → (len < room → IsMade s p) × (IsMade s p → len < room)
-made_with_room s p ns len room is sizes holds contents left = (
-  λ less. record {
-    sizes = sizes;
-    holds = subst (λ (ms : List ℕ). Holds s ms) is holds;
-    contents = subst (λ (ms : List ℕ). SameAt p.before s.seen ms) is contents;
-    room = omega (arith, left, less);
-  },
-  λ made. omega (arith, left, made.room),
+-- the nodes are held as they were before
+pub found : (s : Holding) (before after : List Node) (ns : List ℕ) → (AllByRecursion (Finds s) (map (change_at before after) ns) → Holds s ns × SameAt before s.seen ns) × (Holds s ns × SameAt before s.seen ns → AllByRecursion (Finds s) (map (change_at before after) ns))
+found s before after [] = (λ _. (tt, tt), λ _. tt)
+found s before after (n ∷ ns) = let rest = found s before after ns in (
+  λ all. let more = rest.0 all.1 in ((all.0.0, more.0), (sym all.0.1, more.1)),
+  λ both. ((both.0.0, sym both.1.0), rest.1 (both.0.1, both.1.1)),
 )
 
 -- what is read at a node
@@ -122,22 +92,22 @@ some_footprint graph (peek node) size fits = (node, is_among-head node [])
 -- ---- a commit
 
 -- what a seat is asked for a commit, by what its state carries
-pub record MayCommit (h : Hand) (before : List Node) (r : Record) (ns : List ℕ) : Type 0 where
+pub record MayCommit (h : Hand) (p : Change) (r : Record) : Type 0 where
   pub owner : (n : ℕ) × (owns h.seat.seat.me.0.part.core n ≡ true)
   pub caller : r.caller ≡ h.seat.seat.me.0.part.core.who
   pub seq : r.seq ≡ length h.seat.seat.me.0.part.own
-  pub held : HoldsAll h.seat.seat.me before ns
+  pub held : HoldsAll h.seat.seat.me p.before (footprint_of p.before p.transaction)
   pub fewer : length h.seat.seat.me.0.part.own + 1 < 2 ^ 32
 
-pub may_commit : (h : Hand) (p : Change) (r : Record) (ns : List ℕ) → CarriesFresh h → IsMade (holding_of h) p → r.caller ≡ h.seat.who → r.seq ≡ length h.seat.records.items → Fits (length p.before) p.transaction
-    → ns ≡ footprint_of p.before p.transaction → MayCommit h p.before r ns
-may_commit h p r ns f made caller seq fits is =
+pub may_commit : (h : Hand) (p : Change) (r : Record) → CarriesFresh h → IsMade (holding_of h) p → r.caller ≡ h.seat.who → r.seq ≡ length h.seat.records.items → Fits (length p.before) p.transaction → MayCommit h p r
+may_commit h p r f made caller seq fits =
     let c = f.carries in
-    let held : (n : ℕ) → is_among n ns ≡ true → is_among n h.held.items ≡ true = λ n e. all_among (λ m. is_among m h.held.items ≡ true) (footprint_of p.before p.transaction) n made.holds (sym (ap (is_among n) is) ∙ e) in
-    let as_seen : (n : ℕ) → is_among n ns ≡ true → node_at p.before n ≡ node_at h.seen n = λ n e. all_among (λ m. node_at p.before m ≡ node_at h.seen m) (footprint_of p.before p.transaction) n made.contents (sym (ap (is_among n) is) ∙ e) in
+    let ns : List ℕ = footprint_of p.before p.transaction in
+    let held : (n : ℕ) → is_among n ns ≡ true → is_among n h.held.items ≡ true = λ n e. all_among (λ m. is_among m h.held.items ≡ true) ns n made.holds e in
+    let as_seen : (n : ℕ) → is_among n ns ≡ true → node_at p.before n ≡ node_at h.seen n = λ n e. all_among (λ m. node_at p.before m ≡ node_at h.seen m) ns n made.contents e in
     let one = some_footprint p.before p.transaction (length p.before) fits in
     record {
-      owner = (one.0, c.owned one.0 ∙ held one.0 (ap (is_among one.0) is ∙ one.1));
+      owner = (one.0, c.owned one.0 ∙ held one.0 one.1);
       caller = caller ∙ sym c.settled.seated.who;
       seq = seq ∙ ap length c.settled.seated.records;
       held = λ n e. (c.owned n ∙ held n e, f.seen n (held n e) ∙ ap (λ (x : Node). some (Some x)) (sym (as_seen n e)));

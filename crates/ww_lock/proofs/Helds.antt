@@ -30,8 +30,3 @@ held_none seen few = record { there = tt; once = different_none; few = few }
 pub all_among : (P : ℕ → Type 0) (ns : List ℕ) (n : ℕ) → AllByRecursion P ns → is_among n ns ≡ true → P n
 all_among P [] n all e = absurd cc
 all_among P (m ∷ ms) n all e = elim (or_cases (eqb m n) (is_among n ms) e) [ inl same ↦ subst P (same_from_eqb m n same) all.0 | inr later ↦ all_among P ms n all.1 later ]
-
--- nodes that are all held are there
-pub there_if_held : (size : ℕ) (ns held : List ℕ) → AllByRecursion (λ n. is_among n held ≡ true) ns → AllByRecursion (λ n. n < size) held → AllByRecursion (λ n. n < size) ns
-there_if_held size [] held holds there = tt
-there_if_held size (n ∷ ns) held holds there = (all_among (λ m. m < size) held n there holds.0, there_if_held size ns held holds.1 there)

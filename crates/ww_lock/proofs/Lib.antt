@@ -1,4 +1,5 @@
 pub mod Helds
+pub mod Footprints
 pub mod Carrying
 pub mod Changes
 pub mod Openings

@@ -1,17 +1,23 @@
 -- What preparing a transaction makes, and what its commit needs.
-use Rattle.std.specs.Prelude.{◌≡◌, ◌≤◌, length}
+use Rattle.std.specs.Prelude.{◌≡◌, ◌≤◌, length, IsTrue}
+use Rattle.ww_plain.specs.Numbers.{is_among}
+use Rattle.ww_plain.specs.Graph.{node_at}
 use Rattle.ww_plain.specs.Footprint.{footprint_of}
 use Rattle.ww_plain.specs.Transaction.{Transaction}
 use Rattle.ww_plain.specs.Meaning.{answer_of, answer_to, graph_after}
 use Rattle.ww_plain.specs.History.{recorded_of, IsNext}
+use Rattle.ww_seat.specs.declared.committing.NodeChange.{NodeChange}
+use Rattle.ww_seat.specs.Commits.{changes_of}
 use Rattle.ww_lock.specs.declared.prepared.Prepared.TheInside.{Inside}
 use Rattle.ww_lock.specs.Holding.{Holding, Change, Holds, SameAt}
 
--- the reply is the record's answer, and the record leads from the one graph to the other
+-- the reply is the record's answer, the record may come next at the graph that it was prepared on, which has so many
+-- nodes, and the changes are those of its footprint there
 pub record IsPrepared (p : Inside) : Type 0 where
   pub reply : answer_of p.reply ≡ (recorded_of p.record).answer
-  pub next : IsNext p.before (recorded_of p.record)
-  pub leads : p.after ≡ graph_after p.before (recorded_of p.record).transaction
+  pub next : IsNext p.before.value (recorded_of p.record)
+  pub size : p.size ≡ length p.before.value
+  pub changes : p.changes.items ≡ changes_of p.before.value (recorded_of p.record).transaction
 
 -- the state holds all that the transaction depends on and may change: its footprint in the nodes as they were seen
 abbrev pub Covers : Holding → Transaction → Type 0
@@ -25,6 +31,10 @@ pub record IsMade (s : Holding) (p : Change) : Type 0 where
   pub contents : SameAt p.before s.seen (footprint_of p.before p.transaction)
   pub room : 1 ≤ s.room
 
+-- it holds this node, as it was before the change
+abbrev pub Finds : Holding → NodeChange → Type 0
+Finds s c = IsTrue (is_among c.number s.held) × (node_at s.seen c.number ≡ c.before)
+
 -- what preparing this transaction gives: its answer is that of the nodes as they were seen, and they become the new
 -- nodes
 pub record IsMadeOf (s : Holding) (p : Change) (txn : Transaction) : Type 0 where
@@ -32,7 +42,3 @@ pub record IsMadeOf (s : Holding) (p : Change) (txn : Transaction) : Type 0 wher
   pub transaction : p.transaction ≡ txn
   pub answer : p.answer ≡ answer_to s.seen txn
   pub leads : p.after ≡ graph_after p.before txn
-
--- a change that was prepared on what this state has seen
-abbrev pub change_of : Holding → Transaction → Change
-change_of s txn = record { transaction = txn; answer = answer_to s.seen txn; before = s.seen; after = graph_after s.seen txn }

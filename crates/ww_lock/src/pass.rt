@@ -4,6 +4,7 @@ use crate::solo::Solo;
 use crate::world::World;
 use std::marker::Model;
 use std::sync::Wait;
+use ww_seat::Waited;
 
 /// A pass that does nothing now: it holds no lock and has no context. It may be dropped, but a world is closed only
 /// with all of its passes. Contracts see it, as each state that it becomes, as what it holds.
@@ -49,6 +50,11 @@ impl Pass {
         ensures { result ≡ length self.now.own }
     {
         self.hand.seat.commits()
+    }
+
+    /// How it waited since its world was opened, in plain numbers that no clause speaks of.
+    pub fn waited(&self) -> Waited {
+        self.hand.patience.waited()
     }
 
     /// One context or solo less; a spent pass is given back.

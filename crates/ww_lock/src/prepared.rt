@@ -1,12 +1,11 @@
-ghost use Rattle.std.specs.Prelude.{◌≡◌, ◌<◌, ◌↔◌, length, IsTrue};
-ghost use Rattle.std.specs.List.{AllByRecursion};
-ghost use Rattle.ww_lock.specs.Holding.{SameAt};
-
-use crate::hand::{Hand, are_among};
+use crate::effects::changes;
+use crate::hand::Hand;
 use crate::world::World;
 use std::alloc::{AllocError, Global};
 use std::marker::Model;
-use ww_plain::{Graph, Record, Reply, Txn, apply, footprint};
+use std::snapshot::Snapshot;
+use ww_plain::{Graph, Record, Reply, Txn};
+use ww_seat::NodeChange;
 
 /// A transaction that was prepared. Nothing is changed or recorded before its commit, and it may be dropped.
 #[derive(Drop)]
@@ -15,8 +14,12 @@ pub struct Prepared {
     pub(crate) record: Record,
     /// For the receipt.
     pub(crate) reply: Reply,
-    pub(crate) before: Graph,
-    pub(crate) after: Graph,
+    /// How many nodes the graph has.
+    pub(crate) size: u8,
+    /// Of the transaction's footprint.
+    pub(crate) changes: Vec<NodeChange>,
+    /// The graph that it was prepared on, for the clauses alone.
+    pub(crate) before: Snapshot<Graph>,
 }
 
 impl Model for Prepared {
@@ -25,10 +28,10 @@ impl Model for Prepared {
     ghost Value = { Change };
 
     ghost use Rattle.ww_plain.specs.Transaction.{transaction_of};
-    ghost use Rattle.ww_plain.specs.Meaning.{answer_of};
+    ghost use Rattle.ww_plain.specs.Meaning.{answer_of, graph_after};
     ghost use Rattle.ww_lock.specs.Making.{IsPrepared};
 
-    ghost view = { λ p. record { transaction = transaction_of p.record.txn; answer = answer_of p.record.reply; before = p.before; after = p.after } };
+    ghost view = { λ p. let txn = transaction_of p.record.txn in record { transaction = txn; answer = answer_of p.record.reply; before = p.before.value; after = graph_after p.before.value txn } };
 
     ghost invariant = { λ p. IsPrepared p };
 }
@@ -43,51 +46,39 @@ pub struct Receipt {
 }
 
 impl Hand {
-    ghost use Rattle.std.specs.Prelude.{◌≡◌, ◌↔◌, length, IsTrue, IfOk, IfErr, OnErr};
+    ghost use Rattle.std.specs.Prelude.{◌≡◌, ◌≤◌, ◌↔◌, length, IsTrue, IfOk, IfErr, OnErr};
+    ghost use Rattle.std.specs.List.{AllByRecursion};
     ghost use Rattle.ww_plain.specs.Transaction.{transaction_of, Fits, HasNoDouble};
+    ghost use Rattle.ww_plain.specs.Meaning.{answer_of, answer_to};
+    ghost use Rattle.ww_seat.specs.Commits.{changes_of};
     ghost use Rattle.ww_lock.specs.Holding.{IsAtHome};
     ghost use Rattle.ww_lock.specs.Carried.{holding_of, Carries, CarriesFresh};
-    ghost use Rattle.ww_lock.specs.Making.{Covers, IsMade, IsMadeOf, change_of};
+    ghost use Rattle.ww_lock.specs.Making.{Covers, IsMade, IsMadeOf, Finds};
     ghost use Rattle.ww_lock.specs.Moves.{IsCommitted};
 
-    /// A transaction's change of the nodes as they were seen, in all the memory that its commit needs beside the own
-    /// list.
-    fn change(&self, alloc: Global, txn: &Txn) -> Result<Prepared, AllocError>
-        requires fits { Fits (length self.now.seen) (transaction_of txn.now) }
-        requires no_double { HasNoDouble (transaction_of txn.now) }
-        ensures { IfOk result (λ p. p ≡ change_of (holding_of self.now) (transaction_of txn.now)) }
-    {
-        let before = self.seen.copy(alloc)?;
-        let mut after = self.seen.copy(alloc)?;
-        let reply = apply(alloc, &mut after, txn)?;
-        let record = Record {
-            caller: self.seat.who(),
-            seq: self.seat.commits(),
-            txn: txn.copy(alloc)?,
-            reply: reply.copy(alloc)?,
-        };
-        Ok(Prepared {
-            record,
-            reply,
-            before,
-            after,
-        })
-    }
-
-    /// The same, with the room in the own list that its commit needs.
-    fn change_with_room(&mut self, alloc: Global, txn: &Txn) -> Result<Prepared, AllocError>
+    /// The transaction's answer, twice, and its changes of the nodes as they were seen, with the room in the own list
+    /// that its commit needs.
+    fn change(
+        &mut self,
+        alloc: Global,
+        txn: &Txn,
+    ) -> Result<(Reply, Reply, Vec<NodeChange>), AllocError>
         requires fresh { CarriesFresh self.old }
         requires fits { Fits (length self.old.seen) (transaction_of txn.now) }
         requires no_double { HasNoDouble (transaction_of txn.now) }
         requires covers { Covers (holding_of self.old) (transaction_of txn.now) }
         ensures fresh { CarriesFresh self.new }
         ensures same { holding_of self.new ≡ record (holding_of self.old) { room = (holding_of self.new).room } }
-        ensures ok { IfOk result (λ p. IsMadeOf (holding_of self.new) p (transaction_of txn.now)) }
+        ensures reply { IfOk result (λ r. answer_of r.0 ≡ answer_to self.old.seen (transaction_of txn.now)) }
+        ensures copy { IfOk result (λ r. answer_of r.1 ≡ answer_to self.old.seen (transaction_of txn.now)) }
+        ensures changes { IfOk result (λ r. r.2.items ≡ changes_of self.old.seen (transaction_of txn.now)) }
+        ensures room { IfOk result (λ _. 1 ≤ (holding_of self.new).room) }
         ensures refused { OnErr result (holding_of self.new ≡ holding_of self.old) }
     {
-        let prepared = self.change(alloc, txn)?;
+        let (reply, changes) = changes(alloc, &mut self.seen, txn)?;
+        let copy = reply.copy(alloc)?;
         self.seat.reserve()?;
-        Ok(prepared)
+        Ok((reply, copy, changes))
     }
 
     /// Prepares a transaction: makes every growth that its commit needs.
@@ -102,10 +93,42 @@ impl Hand {
         ensures err { IfErr result (λ e. e.0 ≡ txn) }
         ensures refused { OnErr result (holding_of self.new ≡ holding_of self.old) }
     {
-        match self.change_with_room(alloc, &txn) {
-            Ok(prepared) => Ok(prepared),
+        match self.change(alloc, &txn) {
+            Ok((reply, copy, changes)) => Ok(Prepared {
+                record: Record {
+                    caller: self.seat.who(),
+                    seq: self.seat.commits(),
+                    txn,
+                    reply: copy,
+                },
+                reply,
+                size: self.seen.size(),
+                changes,
+                before: Snapshot::of(&self.seen),
+            }),
             Err(error) => Err((txn, error)),
         }
+    }
+
+    /// Whether this node is held, as it was before.
+    fn finds(&self, change: &NodeChange) -> bool
+        requires { Carries self.now }
+        ensures { IsTrue result ↔ Finds (holding_of self.now) change.now }
+    {
+        self.holds(change.number) && self.seen.node(change.number).is_same(&change.before)
+    }
+
+    /// Whether all these nodes are held, as they were before.
+    fn finds_all(&self, changes: &[NodeChange]) -> bool
+        requires { Carries self.now }
+        ensures { IsTrue result ↔ AllByRecursion (Finds (holding_of self.now)) changes.now }
+    {
+        for change in changes {
+            if !self.finds(change) {
+                return false;
+            }
+        }
+        true
     }
 
     /// Whether what was prepared can be committed here.
@@ -113,14 +136,10 @@ impl Hand {
         requires { Carries self.now }
         ensures { IsTrue result ↔ IsMade (holding_of self.now) prepared.now }
     {
-        if prepared.before.size() != self.seen.size() {
+        if prepared.size != self.seen.size() {
             return false;
         }
-        let nodes = footprint(&prepared.before, &prepared.record.txn);
-        if !are_among(&nodes, &self.held) {
-            return false;
-        }
-        if !same_at(&prepared.before, &self.seen, &nodes) {
+        if !self.finds_all(&prepared.changes) {
             return false;
         }
         self.seat.is_reserved()
@@ -137,35 +156,14 @@ impl Hand {
         let Prepared {
             mut record,
             reply,
+            size: _,
+            changes,
             before,
-            after,
         } = prepared;
         let seq = self.seat.commits();
         record.caller = self.seat.who();
         record.seq = seq;
-        let nodes = footprint(&before, &record.txn);
-        let place = ww_seat::commit(
-            &mut self.seat,
-            &world.board,
-            record,
-            &before,
-            &after,
-            &nodes,
-        );
+        let place = ww_seat::commit(&mut self.seat, &world.board, record, &before, &changes);
         Receipt { place, seq, reply }
     }
-}
-
-/// Whether the two graphs have the same nodes at these numbers.
-fn same_at(graph: &Graph, other: &Graph, nodes: &[u8]) -> bool
-    requires there { AllByRecursion (λ n. n < length graph.now) nodes.now }
-    requires sizes { length other.now ≡ length graph.now }
-    ensures { IsTrue result ↔ SameAt graph.now other.now nodes.now }
-{
-    for n in nodes {
-        if !graph.node(*n).is_same(&other.node(*n)) {
-            return false;
-        }
-    }
-    true
 }

@@ -201,7 +201,7 @@ module _ (key : Start) (s : St) (r : Ruled key s) (id : ℕ) (me : Sat) (here : 
         stamps = r.counted.stamps ∙ sym (total_alike 16 (λ t. (put r.counts w more t).draws) (λ t. (r.counts t).draws) same_draws);
         balanced = balanced;
         strangers = λ t big. put_else r.counts w more t (λ e. let own = mine.part.number in omega arith) ∙ r.counted.strangers t big;
-        few = λ t. subst (λ (y : ℕ). y < 2 ^ 32) (sym (same_draws t)) (r.counted.few t);
+        few = λ t. subst (λ (y : ℕ). y < 2 ^ 52) (sym (same_draws t)) (r.counted.few t);
         brief = r.counted.brief;
         callers = r.counted.callers;
       }

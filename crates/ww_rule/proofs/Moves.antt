@@ -55,7 +55,7 @@ idle_valid = record { seating = (refl, omega arith); stamp = omega arith; flags 
 
 -- the stamps never end
 pub draw_room : (key : Start) (s : St) (r : Ruled key s) → get_or s.words 640 0 < 2 ^ 56 - 1
-draw_room key s r = let same = r.words.drawn in let sum = r.counted.stamps in let most = total_below 16 (2 ^ 32) (λ t. (r.counts t).draws) r.counted.few in omega arith
+draw_room key s r = let same = r.words.drawn in let sum = r.counted.stamps in let most = total_below 16 (2 ^ 52) (λ t. (r.counts t).draws) r.counted.few in omega arith
 
 module _ (key : Start) (s : St) (r : Ruled key s) (id : ℕ) (me : Sat) (here : get_elem? s.views id ≡ some me.0) (seated : me.0.seated ≡ true) where
   abbrev graph : List Node
@@ -202,7 +202,7 @@ module _ (key : Start) (s : St) (r : Ruled key s) (id : ℕ) (me : Sat) (here : 
         balanced = λ t u. ap (times u) (put_cases r.counts v.who more t (λ y. y.cancelled ≡ (r.counts t).cancelled) (λ is. ap (λ (y : ℕ). (r.counts y).cancelled) (sym is)) (λ _. refl)) ∙ r.counted.balanced t u
             ∙ ap (λ (y : List ℕ). times t y + one_of t u (c.cancel u)) (sym (put_cases r.counts v.who more u (λ y. y.heeded ≡ (r.counts u).heeded) (λ is. ap (λ (y : ℕ). (r.counts y).heeded) (sym is)) (λ _. refl)));
         strangers = λ t big. put_else r.counts v.who more t (λ e. let own = mine.part.number in omega arith) ∙ r.counted.strangers t big;
-        few = λ t. put_cases r.counts v.who more t (λ y. y.draws < 2 ^ 32) (λ _. let d = ap (λ (y : Counts). y.draws) mine.part.counted in let f = may.fewer in omega arith) (λ _. r.counted.few t);
+        few = λ t. put_cases r.counts v.who more t (λ y. y.draws < 2 ^ 52) (λ _. let d = ap (λ (y : Counts). y.draws) mine.part.counted in let f = may.fewer in omega arith) (λ _. r.counted.few t);
         brief = r.counted.brief;
         callers = r.counted.callers;
       })

@@ -91,7 +91,7 @@ pub record Counted (key : Start) (drawn commits : ℕ) (cancel : ℕ → ℕ) (l
   pub stamps : drawn ≡ total 16 (λ t. (counts t).draws)
   pub balanced : Balanced cancel counts
   pub strangers : (t : ℕ) → key.seats ≤ t → counts t ≡ no_counts
-  pub few : (t : ℕ) → (counts t).draws < 2 ^ 32
+  pub few : (t : ℕ) → (counts t).draws < 2 ^ 52
   pub brief : (t : ℕ) → length (part_of t log) < 2 ^ 32
   pub callers : (k : ℕ) (x : Recorded) → get_elem? log k ≡ some x → x.caller < key.seats
 

@@ -37,7 +37,7 @@ pub record MayDraw (p : Part) : Type 0 where
   pub away : IsAway p.core
   pub no_context : p.core.stamp ≡ 0
   pub bare : IsBare p.core
-  pub fewer : p.counts.draws + 1 < 2 ^ 32
+  pub fewer : p.counts.draws + 1 < 2 ^ 52
 
 abbrev pub drawing : Sight → ℕ → Sight
 drawing v stamp = record v { part = record (v.part) { core = begun v.part.core stamp; counts = record (v.part.counts) { draws = v.part.counts.draws + 1 } } }

@@ -11,8 +11,11 @@ use Rattle.ww_seat.proofs.Outside.{orderly_knowing}
 pub may_glance : (m a : Sat) (k : ℕ) → IsAway m.0.part.core → a ≡ having_glanced m k → k < 16 → MayGlance a.0.part.core
 may_glance m a k away is few = subst (λ (w : Sat). MayGlance w.0.part.core) (sym is) (record { away = away; few = few })
 
-pub once_more : (m a b : Sat) (k : ℕ) → a ≡ having_glanced m k → b ≡ (glancing a.0, a.1) → b ≡ having_glanced m (k + 1)
-once_more m a b k is then = then ∙ ap (λ (w : Sat). let v : Sat = (glancing w.0, w.1) in v) is
+pub once_more : (m a b : Sat) (k l : ℕ) → l ≡ k + 1 → a ≡ having_glanced m k → b ≡ (glancing a.0, a.1) → b ≡ having_glanced m l
+once_more m a b k l more is then = then ∙ ap (λ (w : Sat). let v : Sat = (glancing w.0, w.1) in v) is ∙ ap (having_glanced m) (sym more)
+
+pub glanced_then : (a b c : Sat) → HasGlanced a b → HasGlanced b c → HasGlanced a c
+glanced_then a b c g h = record { times = h.times; few = h.few; now = h.now ∙ ap (λ (w : Sat). having_glanced w h.times) g.now }
 
 pub outside_still : (size n : ℕ) (m m' : Sat) → IsOutside size n m → HasGlanced m m' → IsOutside size n m'
 outside_still size n m m' o g = subst (IsOutside size n) (sym g.now) (record {

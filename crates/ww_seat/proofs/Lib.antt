@@ -13,3 +13,4 @@ pub mod Took
 pub mod Starts
 pub mod Stood
 pub mod Stopped
+pub mod Stepwise

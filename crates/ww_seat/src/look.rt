@@ -42,7 +42,7 @@ fn is_ours(seat: &Seat16, seen: Owner) -> bool
 /// One attempt at a look; `None` if a compare-exchange found another word than was seen. The own cancel is looked at,
 /// where it is to be heeded, as soon as the seat stands in the wait list: so it asks for nothing and condemns nobody in
 /// vain.
-fn look_once(
+pub fn look_once(
     seat: &mut Seat16,
     board: &Board,
     kind: Kind,

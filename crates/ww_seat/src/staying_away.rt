@@ -1,7 +1,7 @@
 //! Whoever has just lost its first try for a lock stays away from it for a while, before it joins the wait list: one
 //! waiter there makes everybody else go through the guard.
 
-ghost use Rattle.std.specs.Prelude.{◌≡◌, ◌<◌};
+ghost use Rattle.std.specs.Prelude.{◌≡◌, ◌<◌, ◌≤◌, ◌+◌};
 ghost use Rattle.ww_view.specs.View.{IsAway};
 ghost use Rattle.ww_table.specs.Seat.{IsSeatOf, size_of};
 ghost use Rattle.ww_seat.specs.Looks.{HasGlanced};
@@ -9,15 +9,25 @@ ghost use Rattle.ww_seat.specs.Looks.{HasGlanced};
 use crate::patience::Patience;
 use std::{hint, thread};
 use ww_table::{Board, Seat16};
+use ww_word::Owner;
 
-/// How often a seat glances at most.
-const GLANCES: u32 = 8;
+/// How often a seat that holds locks glances, and the most pauses before each time: others may wait for what it holds.
+const GLANCES_HOLDING: u32 = 8;
 
-/// The most pauses between two glances of a seat that holds nothing.
-const MOST_PAUSES: u32 = 2048;
-
-/// The most pauses between two glances of a seat that holds locks: others may wait for them.
 const MOST_PAUSES_HOLDING: u32 = 8;
+
+/// The same of a seat that holds nothing, where the owner is done in a moment.
+const GLANCES: u32 = 2;
+
+const MOST_PAUSES: u32 = 8192;
+
+/// And where the owner works longer.
+const GLANCES_LONGER: u32 = 8;
+
+const MOST_PAUSES_LONGER: u32 = 512;
+
+/// Whoever owns a lock for so many pauses has work of some length to do.
+const MOMENT: u32 = 32;
 
 /// After so many pauses another thread may have the processor.
 const BREATH: u32 = 64;
@@ -37,29 +47,34 @@ fn rest_for(count: u32) {
     pause_for(count % BREATH);
 }
 
-/// Glances until nobody owns the lock, or it was often enough. The pauses between two glances double, up to `most`.
-fn watch(seat: &mut Seat16, board: &Board, lock: u8, first: u32, most: u32)
+/// Whether it is still the same context that owns the lock.
+fn is_same(before: Owner, now: Owner) -> bool {
+    before.seat == now.seat && before.stamp == now.stamp
+}
+
+/// Glances so often, or until nobody owns the lock. The pauses before a glance double, from `first` up to `most`.
+fn watch(seat: &mut Seat16, board: &Board, lock: u8, glances: u32, first: u32, most: u32)
     requires seat { IsSeatOf board.now seat.old }
     requires lock { lock < size_of board.now }
     requires away { IsAway seat.old.seat.me.0.part.core }
-    requires tried { seat.old.seat.me.0.part.core.glances ≡ 0 }
+    requires few { seat.old.seat.me.0.part.core.glances + glances ≤ 16 }
     ensures seat { IsSeatOf board.now seat.new }
     ensures glanced { HasGlanced seat.old.seat.me seat.new.seat.me }
     ensures records { seat.new.records ≡ seat.old.records }
 {
     let mut pauses = first;
-    for _ in 0..GLANCES {
+    for _ in 0..glances {
+        rest_for(pauses);
         if seat.glance(board, lock).seat.is_none() {
             return;
         }
-        rest_for(pauses);
         pauses = most.min(pauses.saturating_mul(2));
     }
 }
 
 /// Stays away from a lock that it has just tried in vain, until nobody owns it, for a bounded time: a seat that holds
-/// nothing as long as its patience says, one that holds locks for a moment.
-pub(crate) fn stay_away(seat: &mut Seat16, board: &Board, lock: u8, patience: &Patience)
+/// locks for a moment, one that holds nothing as long as its patience says.
+pub(crate) fn stay_away(seat: &mut Seat16, board: &Board, lock: u8, patience: &mut Patience)
     requires seat { IsSeatOf board.now seat.old }
     requires lock { lock < size_of board.now }
     requires away { IsAway seat.old.seat.me.0.part.core }
@@ -68,9 +83,30 @@ pub(crate) fn stay_away(seat: &mut Seat16, board: &Board, lock: u8, patience: &P
     ensures glanced { HasGlanced seat.old.seat.me seat.new.seat.me }
     ensures records { seat.new.records ≡ seat.old.records }
 {
+    let owner = seat.glance(board, lock);
+    if owner.seat.is_none() {
+        patience.lose();
+        return;
+    }
     if seat.has_out() {
-        watch(seat, board, lock, 1, MOST_PAUSES_HOLDING);
+        patience.lose();
+        watch(seat, board, lock, GLANCES_HOLDING, 1, MOST_PAUSES_HOLDING);
+        return;
+    }
+    rest_for(MOMENT);
+    if is_same(owner, seat.glance(board, lock)) {
+        patience.lose_to_work();
+        let pauses = patience.pauses();
+        watch(
+            seat,
+            board,
+            lock,
+            GLANCES_LONGER,
+            pauses,
+            MOST_PAUSES_LONGER,
+        );
     } else {
-        watch(seat, board, lock, patience.pauses(), MOST_PAUSES);
+        patience.lose();
+        watch(seat, board, lock, GLANCES, patience.pauses(), MOST_PAUSES);
     }
 }

@@ -120,7 +120,6 @@ fn take_late<R: Wait>(
     ensures records { seat.new.records ≡ seat.old.records }
 {
     stay_away(seat, board, lock, patience);
-    patience.lose();
     wait(rt, seat, board, kind, lock, heeds, patience, wakers)
 }
 
@@ -133,7 +132,7 @@ fn wait<R: Wait>(
     kind: Kind,
     lock: u8,
     heeds: bool,
-    patience: &Patience,
+    patience: &mut Patience,
     wakers: &[Unparker],
 ) -> Result<Node, Stop>
     requires seat { IsSeatOf board.now seat.old }
@@ -150,9 +149,13 @@ fn wait<R: Wait>(
 {
     let mut is_later = false;
     for _ in rt.forever() {
+        patience.look();
         match visit(rt, seat, board, kind, lock, is_later, heeds, wakers) {
             Look::Locked(node) => return Ok(node),
-            Look::Deadlk(met) => return Err(Stop::Deadlk(met)),
+            Look::Deadlk(met) => {
+                patience.back_off();
+                return Err(Stop::Deadlk(met));
+            }
             Look::Interrupted(by) => return Err(Stop::Interrupted(by)),
             Look::Waits => {
                 patience.sleep(rt);

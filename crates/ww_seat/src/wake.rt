@@ -1,25 +1,29 @@
-ghost use Rattle.std.specs.Prelude.{ℕ, ◌≡◌, ◌≢◌, ◌<◌, true, false};
+ghost use Rattle.std.specs.Prelude.{ℕ, ◌≡◌, ◌≢◌, ◌<◌, true, false, replicate};
 ghost use Rattle.std.specs.List.{slice_index_or};
 
 use crossbeam_utils::sync::Unparker;
+use std::mem;
 use ww_queue::Entry;
 use ww_word::MAX_SEATS;
 
 /// Whom a seat wakes once it is outside the guard.
 #[derive(Drop)]
-pub(crate) struct Wake {
+pub struct Wake {
     seats: [bool; MAX_SEATS],
 }
 
 impl Wake {
-    pub(crate) fn new() -> Wake {
+    /// Nobody.
+    pub fn new() -> Wake
+        ensures { result.seats ≡ replicate 16 false }
+    {
         Wake {
             seats: [false; MAX_SEATS],
         }
     }
 
     /// Also wakes a seat that was condemned, but for the one that did so.
-    pub(crate) fn add(&mut self, who: u8, victim: u8, is_condemned: bool)
+    pub fn add(&mut self, who: u8, victim: u8, is_condemned: bool)
         requires victim { victim < 16 }
         ensures before { (u : ℕ) → slice_index_or self.old.seats u false ≡ true → slice_index_or self.new.seats u false ≡ true }
         ensures added { is_condemned ≡ true → victim ≢ who → slice_index_or self.new.seats victim false ≡ true }
@@ -27,6 +31,14 @@ impl Wake {
         if is_condemned && victim != who {
             self.seats[usize::from(victim)] = true;
         }
+    }
+
+    /// A mark for each seat that is to be woken; then none is any more.
+    pub fn take(&mut self) -> [bool; MAX_SEATS]
+        ensures told { result ≡ self.old.seats }
+        ensures none { self.new.seats ≡ replicate 16 false }
+    {
+        mem::replace(&mut self.seats, [false; MAX_SEATS])
     }
 
     pub(crate) fn deliver(self, wakers: &[Unparker]) {

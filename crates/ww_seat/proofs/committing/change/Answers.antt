@@ -1,31 +1,48 @@
-use Rattle.std.proofs.Common.{◌≡◌, ℕ, ◌<◌, true, List, get_or, length, ap, ◌∙◌}
-use Rattle.ww_plain.specs.Numbers.{is_among}
+use Rattle.std.proofs.Common.{◌≡◌, ℕ, suc, ◌<◌, ◌-◌, true, List, get_or, drop, length, ap, subst, ◌∙◌, arith}
+use Rattle.std.proofs.lemmas.List.{length-map}
+use Rattle.std.specs.List.{AllByRecursion}
+use Rattle.ww_plain.specs.Graph.{no_node}
+use Rattle.ww_plain.proofs.GraphFacts.{all_item}
 use Rattle.ww_view.specs.View.{owns}
 use Rattle.ww_rule.specs.declared.cells.Sight.{Sight}
 use Rattle.ww_rule.specs.Rule.{Sat}
-use Rattle.ww_seat.proofs.Changes.{at_among, out_there, changed_next}
+use Rattle.ww_seat.specs.declared.committing.NodeChange.{NodeChange}
+use Rattle.ww_table.specs.Seat.{size_of}
+use Rattle.ww_seat.specs.Commits.{change_at, IsChanged}
+use Rattle.ww_seat.proofs.Changes.{out_there, changed_next}
 use Rattle.ww_seat.proofs.committing.change.Goals as goal
 
--- the next node of the list is the seat's
-own_next : (v w : Sight) (ns : List ℕ) (i : ℕ) → i < length ns → v ≡ w → ((n : ℕ) → is_among n ns ≡ true → owns w.part.core n ≡ true) → owns v.part.core (get_or ns i 0) ≡ true
-own_next v w ns i lt same owned = ap (λ (u : Sight). owns u.part.core (get_or ns i 0)) same ∙ owned (get_or ns i 0) (at_among ns i lt)
+abbrev none : NodeChange
+none = record { number = 0; before = no_node; after = no_node }
 
-pub node-requires : goal.node-requires
-node-requires c = let is = c.loop-node.invariant.changed c.requires.out.0 c.requires.out.1 in
-    (out_there _ _ _ _ c.loop-node.seat.seat.me (get_or c.args.nodes.now c.loop-node.node-index 0) is (own_next c.loop-node.seat.seat.me.0 c.args.seat.now.seat.me.0 c.args.nodes.now c.loop-node.node-index c.loop-node-test.true c.loop-node.invariant.view c.requires.owned)).0
+-- the next node of the list is the seat's
+own_next : (v w : Sight) (changes : List NodeChange) (i : ℕ) → i < length changes → v ≡ w → AllByRecursion (λ c. owns w.part.core c.number ≡ true) changes → owns v.part.core (get_or changes i none).number ≡ true
+own_next v w changes i lt same owned = ap (λ (u : Sight). owns u.part.core (get_or changes i none).number) same ∙ all_item (λ (c : NodeChange). owns w.part.core c.number ≡ true) changes i none lt owned
 
 pub swap_node-requires-clause-out : goal.swap_node-requires-clause-out
-swap_node-requires-clause-out c = let is = c.loop-node.invariant.changed c.requires.out.0 c.requires.out.1 in
-    (out_there _ _ _ _ c.loop-node.seat.seat.me (get_or c.args.nodes.now c.loop-node.node-index 0) is (own_next c.loop-node.seat.seat.me.0 c.args.seat.now.seat.me.0 c.args.nodes.now c.loop-node.node-index c.loop-node-test.true c.loop-node.invariant.view c.requires.owned)).1
+swap_node-requires-clause-out c =
+    let g = c.requires.changes in
+    let is = c.loop-at.invariant.changed c.requires.out.0 g.0 g.1 g.2 g.3 c.requires.out.1 in
+    (out_there _ _ _ _ c.loop-at.seat.seat.me (get_or c.args.changes.now (c.loop-at.at - 1) none).number is (own_next c.loop-at.seat.seat.me.0 c.args.seat.now.seat.me.0 c.args.changes.now (c.loop-at.at - 1) (omega arith) c.loop-at.invariant.view c.requires.owned)).1
 
-pub loop-node-preserved : goal.loop-node-preserved
-loop-node-preserved c = let t = c.swap_node.ensures.swapped in record {
-  seated = c.swap_node.ensures.seat;
-  view = ap (λ (z : Sat). z.0) t.2 ∙ c.loop-node.invariant.view;
-  records = c.swap_node.ensures.records ∙ c.loop-node.invariant.records;
-  changed = λ held was. changed_next (length c.args.after.now) held c.args.after.now c.args.nodes.now c.loop-node.node-index c.loop-node.seat.seat.me c.swap_node.new.self.seat.me c.swap_node.result c.node.result c.loop-node-test.true
-      (c.loop-node.invariant.changed held was)
-      (own_next c.loop-node.seat.seat.me.0 c.args.seat.now.seat.me.0 c.args.nodes.now c.loop-node.node-index c.loop-node-test.true c.loop-node.invariant.view c.requires.owned)
-      c.node.ensures
-      t;
-}
+pub loop-at-preserved : goal.loop-at-preserved
+loop-at-preserved c =
+    let i : ℕ = c.loop-at.at - 1 in
+    let t = c.swap_node.ensures.swapped in
+    let up : c.loop-at.at ≡ suc i = omega arith in
+    record {
+      seated = c.swap_node.ensures.seat;
+      view = ap (λ (z : Sat). z.0) t.2 ∙ c.loop-at.invariant.view;
+      records = c.swap_node.ensures.records ∙ c.loop-at.invariant.records;
+      changed = λ held before after ns are was.
+          let many : length c.args.changes.now ≡ length ns = ap length are ∙ length-map ns (change_at before after) in
+          changed_next (size_of c.args.board.now) held before after ns c.args.changes.now i none c.loop-at.seat.seat.me c.swap_node.new.self.seat.me c.swap_node.result are (omega arith)
+          (subst (λ (k : ℕ). IsChanged (size_of c.args.board.now) held after (drop k ns) c.loop-at.seat.seat.me) up (c.loop-at.invariant.changed held before after ns are was))
+          (own_next c.loop-at.seat.seat.me.0 c.args.seat.now.seat.me.0 c.args.changes.now i (omega arith) c.loop-at.invariant.view c.requires.owned)
+          t;
+    }
+
+pub returns-clause-changed : goal.returns-clause-changed
+returns-clause-changed c = λ held before after ns are was.
+    let all : c.loop-at.at ≡ 0 = omega arith in
+    subst (λ (k : ℕ). IsChanged (size_of c.args.board.now) held after (drop k ns) c.loop-at.seat.seat.me) all (c.loop-at.invariant.changed held before after ns are was)

@@ -1,7 +1,7 @@
-use Rattle.std.proofs.Common.{refl, sym, subst, ◌∙◌}
+use Rattle.std.proofs.Common.{refl, sym, subst}
 use Rattle.ww_plain.specs.declared.history.Record.{Record}
 use Rattle.ww_plain.specs.Transaction.{transaction_of}
-use Rattle.ww_plain.specs.Meaning.{answer_of}
+use Rattle.ww_plain.specs.Meaning.{answer_of, graph_after}
 use Rattle.ww_lock.specs.declared.hand.Hand.{Hand}
 use Rattle.ww_lock.specs.declared.prepared.Receipt.{Receipt}
 use Rattle.ww_lock.specs.Holding.{Change}
@@ -14,21 +14,24 @@ use Rattle.ww_lock.proofs.hand.Hand.commit.Goals as goal
 pub commit-place-requires-clause-owner : goal.commit-place-requires-clause-owner
 commit-place-requires-clause-owner c =
     let i = c.prepared.inside in
-    let p : Change = record { transaction = transaction_of i.record.txn; answer = answer_of i.record.reply; before = i.before; after = i.after } in
+    let t = transaction_of i.record.txn in
+    let p : Change = record { transaction = t; answer = answer_of i.record.reply; before = i.before.value; after = graph_after i.before.value t } in
     let r : Record = record (i.record) { caller = c.who.result; seq = c.commits-seq.result } in
-    (may_commit c.args.self.now p r c.deref.result.now c.requires.fresh (subst (IsMade (holding_of c.args.self.now)) (sym c.prepared.view_is) c.requires.made) c.who.ensures c.commits-seq.ensures c.prepared.invariant.next.fits (c.deref.ensures.0 ∙ c.footprint-nodes.ensures)).owner
+    (may_commit c.args.self.now p r c.requires.fresh (subst (IsMade (holding_of c.args.self.now)) (sym c.prepared.view_is) c.requires.made) c.who.ensures c.commits-seq.ensures c.prepared.invariant.next.fits).owner
 
 pub commit-place-requires-clause-held : goal.commit-place-requires-clause-held
 commit-place-requires-clause-held c =
     let i = c.prepared.inside in
-    let p : Change = record { transaction = transaction_of i.record.txn; answer = answer_of i.record.reply; before = i.before; after = i.after } in
+    let t = transaction_of i.record.txn in
+    let p : Change = record { transaction = t; answer = answer_of i.record.reply; before = i.before.value; after = graph_after i.before.value t } in
     let r : Record = record (i.record) { caller = c.who.result; seq = c.commits-seq.result } in
-    (may_commit c.args.self.now p r c.deref.result.now c.requires.fresh (subst (IsMade (holding_of c.args.self.now)) (sym c.prepared.view_is) c.requires.made) c.who.ensures c.commits-seq.ensures c.prepared.invariant.next.fits (c.deref.ensures.0 ∙ c.footprint-nodes.ensures)).held
+    (may_commit c.args.self.now p r c.requires.fresh (subst (IsMade (holding_of c.args.self.now)) (sym c.prepared.view_is) c.requires.made) c.who.ensures c.commits-seq.ensures c.prepared.invariant.next.fits).held
 
 pub returns : goal.returns
 returns c =
     let i = c.prepared.inside in
-    let p : Change = record { transaction = transaction_of i.record.txn; answer = answer_of i.record.reply; before = i.before; after = i.after } in
+    let t = transaction_of i.record.txn in
+    let p : Change = record { transaction = t; answer = answer_of i.record.reply; before = i.before.value; after = graph_after i.before.value t } in
     let r : Record = record (i.record) { caller = c.who.result; seq = c.commits-seq.result } in
     let e = c.commit-place.ensures in
     let g : Hand = record (c.args.self.now) { seat = c.commit-place.new.seat } in

@@ -1,0 +1,28 @@
+use Rattle.std.proofs.Common.{ap, List, ℕ}
+use Rattle.ww_rule.specs.Rule.{Sat}
+use Rattle.ww_seat.proofs.Outside.{room_outside}
+use Rattle.ww_seat.proofs.Waits.{wanter_enters}
+use Rattle.ww_seat.proofs.Gives.{still_lost}
+use Rattle.ww_seat.proofs.Stepwise.{outside_lost, waits_lost, now_at_work}
+use Rattle.ww_seat.proofs.turns.enter_wanted.Goals as goal
+
+pub enter-requires-clause-may : goal.enter-requires-clause-may
+enter-requires-clause-may c = wanter_enters _ c.args.lock c.args.seat.now.seat.me c.requires.outside
+
+pub enter-requires-clause-room : goal.enter-requires-clause-room
+enter-requires-clause-room c = room_outside _ _ c.requires.outside.orderly c.requires.outside.outside
+
+pub returns-clause-inside : goal.returns-clause-inside
+returns-clause-inside c = λ t. let e = c.enter.ensures.entered t in now_at_work _ c.args.lock c.args.seat.now.seat.me c.enter.new.self.seat.me e.0 c.requires.outside e.1 e.2 e.3
+
+pub returns-clause-condemned : goal.returns-clause-condemned
+returns-clause-condemned c = λ t. ap (λ (m : Sat). m.0.part.core.condemned) (c.enter.ensures.entered t).3
+
+pub returns-clause-outside : goal.returns-clause-outside
+returns-clause-outside c = λ f. outside_lost _ c.args.lock c.args.seat.now.seat.me c.enter.new.self.seat.me c.requires.outside (c.enter.ensures.lost f)
+
+pub returns-clause-waits : goal.returns-clause-waits
+returns-clause-waits c = λ f. waits_lost c.args.seat.now.seat.me c.enter.new.self.seat.me (c.enter.ensures.lost f)
+
+pub returns-clause-still : goal.returns-clause-still
+returns-clause-still c = λ f. still_lost c.args.seat.now.seat.me c.enter.new.self.seat.me (ap (λ m. m.0) (c.enter.ensures.lost f))
