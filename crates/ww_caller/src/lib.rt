@@ -8,15 +8,18 @@ ghost use Rattle.ww_lock.specs.Moves.{backed_off};
 ghost use Rattle.ww_caller.specs.Caller.{IsLocked, IsLockedMore, HasBoth, HasRecord};
 
 use std::sync::Wait;
+use thiserror::Error;
 use ww_lock::{Acquiring, Backoff, Pass, Receipt, World};
 use ww_plain::Txn;
 
 /// Why nothing was moved, and nothing recorded.
-#[derive(Clone, Copy, Debug, PartialEq, Eq)]
+#[derive(Clone, Copy, Debug, PartialEq, Eq, Drop, Error)]
 pub enum Refusal {
     /// The pass has no context left to start.
+    #[error("the pass has no context left to start")]
     Spent,
     /// A growth was refused.
+    #[error("no memory")]
     NoMemory,
 }
 

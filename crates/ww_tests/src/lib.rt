@@ -8,6 +8,8 @@ mod called_off;
 #[cfg(test)]
 mod cancels;
 #[cfg(test)]
+mod changes;
+#[cfg(test)]
 mod growths;
 #[cfg(test)]
 mod kept;

@@ -1,8 +1,10 @@
 //! Two threads whose lists, walks or transactions begin at opposite ends of a chain. Each of their rounds commits, so
 //! what comes of all of them is the same whatever the schedule.
 
-ghost use Rattle.std.specs.Prelude.{◌≡◌, length, IfOk, IfErr};
+ghost use Rattle.std.specs.Prelude.{◌≡◌, ◌<◌, length, IsTrue, IfOk, IfErr};
+ghost use Rattle.ww_plain.specs.Numbers.{is_among};
 ghost use Rattle.ww_lock.specs.Holding.{IsAtHome};
+ghost use Rattle.ww_users.specs.Turns.{IsTurn};
 
 use crate::locks::{chain, closed, graph_of};
 use crate::threads::commit;
@@ -13,11 +15,11 @@ use std::sync::Wait;
 use std::test::Fail;
 use std::thread;
 use std::thread::Threads;
-use ww_lock::{Done, Pass, World};
+use ww_lock::{Acquiring, Done, Pass, World};
 use ww_plain::{By, Graph, Txn, replays};
 use ww_queue::Kind;
 use ww_txn::transact;
-use ww_users::{lock_list, lock_order, lock_walk};
+use ww_users::{lock_list, lock_order, lock_until, lock_walk};
 
 /// For how many rounds the threads lock and commit by themselves, and for how many each makes its transaction in one
 /// call.
@@ -31,6 +33,28 @@ enum Way {
     List,
     Order,
     Walk,
+    Until,
+}
+
+/// Takes the locks of both nodes, in this order at first.
+fn both<R: Wait>(rt: &R, world: &World, acquiring: Acquiring, one: u8, other: u8) -> Acquiring
+    requires home { IsAtHome acquiring world.now }
+    requires one { one < length world.now.first }
+    requires other { other < length world.now.first }
+    ensures home { IsAtHome result world.now }
+    ensures held { IsTrue (is_among other result.held) }
+{
+    let body = |acquiring: Acquiring|
+        requires home { IsAtHome acquiring world.now }
+        requires one { one < length world.now.first }
+        requires other { other < length world.now.first }
+        ensures turn { IsTurn acquiring result }
+        ensures held { IfOk result (λ a. IsTrue (is_among other a.held)) }
+    {
+        let acquiring = acquiring.lock(rt, world, one).going_on()?;
+        acquiring.lock(rt, world, other).going_on()
+    };
+    lock_until(rt, world, acquiring, body)
 }
 
 /// The locks of a round. The other thread's list is this one's turned round, and its walk begins at the other end.
@@ -49,6 +73,10 @@ fn taken<R: Wait>(rt: &R, world: &World, pass: Pass, way: Way) -> Result<Done, P
         Way::List => lock_list(world, pass, rt, &list),
         Way::Order => lock_order(world, pass, rt, &list),
         Way::Walk => return lock_walk(world, pass, rt, list[0], 0, 64),
+        Way::Until => {
+            let acquiring = pass.begin(world)?;
+            return Ok(both(rt, world, acquiring, list[0], list[2]).done());
+        }
     };
     match answer {
         Ok(done) => Ok(done),
@@ -122,7 +150,7 @@ const fn count(way: Option<Way>) -> u32 {
 /// other.
 fn is_last(alloc: Global, graph: &Graph, way: Option<Way>) -> Result<bool, AllocError> {
     let values = match way {
-        Some(Way::List | Way::Order) => [1400, 1000, 600],
+        Some(Way::List | Way::Order | Way::Until) => [1400, 1000, 600],
         Some(Way::Walk) => [1000; 3],
         None => [5000, 1000, 5000],
     };
@@ -179,6 +207,12 @@ fn reordered_lists_commit(rt: HostRuntime) -> Result<(), Fail> {
 fn walks_that_turn_each_other_commit(rt: HostRuntime) -> Result<(), Fail> {
     race(&rt, rt.alloc(), Kind::WoundWait, Some(Way::Walk))?;
     race(&rt, rt.alloc(), Kind::WaitDie, Some(Way::Walk))
+}
+
+#[test]
+fn bodies_in_opposite_orders_commit(rt: HostRuntime) -> Result<(), Fail> {
+    race(&rt, rt.alloc(), Kind::WoundWait, Some(Way::Until))?;
+    race(&rt, rt.alloc(), Kind::WaitDie, Some(Way::Until))
 }
 
 #[test]

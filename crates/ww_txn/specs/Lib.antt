@@ -1,1 +1,2 @@
 pub mod Transact
+pub mod Change

@@ -2,10 +2,12 @@
 //! the locks back, in one call.
 #![tactic(auto)]
 
+mod changing;
 mod gate;
 mod telling;
 mod transacting;
 mod ways;
 
+pub use changing::{ChangeFault, change};
 pub use gate::Gate;
 pub use transacting::{TxnFault, transact, transact_interruptible};

@@ -8,20 +8,25 @@ use crate::gate::Gate;
 use crate::telling::Telling;
 use crate::ways::lock_all;
 use std::sync::Wait;
+use thiserror::Error;
 use ww_lock::{Pass, Receipt, World};
 use ww_plain::Txn;
 use ww_users::UserFault;
 
 /// Why a transaction wasn't made. Nothing is recorded then, nothing has changed, and the pass holds no lock.
-#[derive(Clone, Copy, Debug, PartialEq, Eq)]
+#[derive(Clone, Copy, Debug, PartialEq, Eq, Drop, Error)]
 pub enum TxnFault {
     /// The pass has no context left to start.
+    #[error("the pass has no context left to start")]
     PassSpent,
     /// The list names this node twice; it is the first one that does.
+    #[error("the list names node {0} twice")]
     Already(u8),
     /// A wait for one of its locks was called off by this caller.
+    #[error("caller {0} called the wait off")]
     Interrupted(u8),
     /// A growth was refused.
+    #[error("no memory")]
     NoMemory,
 }
 

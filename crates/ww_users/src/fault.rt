@@ -1,11 +1,16 @@
+use thiserror::Error;
+
 /// Why the nodes of a list, or of a walk, were not locked. The pass holds no lock then.
-#[derive(Clone, Copy, Debug, PartialEq, Eq)]
+#[derive(Clone, Copy, Debug, PartialEq, Eq, Drop, Error)]
 pub enum UserFault {
     /// The pass has no context left to start.
+    #[error("the pass has no context left to start")]
     PassSpent,
     /// The list names this node a second time: the kernel's EALREADY.
+    #[error("the list names node {0} twice")]
     Already(u8),
     /// The wait for one of the nodes was called off by this caller: the kernel's EINTR.
+    #[error("caller {0} called the wait off")]
     Interrupted(u8),
 }
 

@@ -7,9 +7,11 @@ mod fault;
 mod fixed_list;
 mod reordered_list;
 mod trip;
+mod until;
 mod walk;
 
 pub use fault::UserFault;
 pub use fixed_list::{lock_list, lock_list_interruptible};
 pub use reordered_list::{lock_order, lock_order_interruptible};
+pub use until::lock_until;
 pub use walk::{lock_walk, lock_walk_interruptible};

@@ -1,0 +1,123 @@
+//! Transactions that are decided on under their locks, by one pass, and the texts of what refuses a caller.
+
+ghost use Rattle.std.specs.Prelude.{◌≡◌, ◌<◌, length};
+ghost use Rattle.ww_lock.specs.Holding.{IsAtHome};
+
+use crate::locks::{chain, closed, one_pass};
+use crate::transactions::add;
+use std::alloc::{AllocError, Global};
+use std::error::Error;
+use std::process::Abort;
+use std::sync::Wait;
+use std::test::Fail;
+use ww_caller::Refusal;
+use ww_lock::{Pass, Receipt, World};
+use ww_plain::{By, Reply, Txn};
+use ww_queue::Kind;
+use ww_txn::{ChangeFault, TxnFault, change};
+use ww_users::UserFault;
+
+/// Moves from the one node to the other what it has more, or nothing where it hasn't more.
+fn levelled<R: Wait>(
+    rt: &R,
+    world: &World,
+    pass: Pass,
+    from: u8,
+    to: u8,
+) -> (Pass, Result<Receipt, ChangeFault>)
+    requires home { IsAtHome pass world.now }
+    requires from { from < length world.now.first }
+    requires to { to < length world.now.first }
+    ensures home { IsAtHome result.0 world.now }
+{
+    change(rt, world, pass, &[from, to], |values| {
+        let more = values[0].checked_sub(values[1])?;
+        (more > 0).then_some(Txn::Move(from, to, more))
+    })
+}
+
+/// The fault of a change that was refused, and the pass that came back.
+fn refused<R: Abort>(rt: &R, answer: (Pass, Result<Receipt, ChangeFault>)) -> (Pass, ChangeFault)
+    ensures { answer.0 ≡ result.0 }
+{
+    match answer {
+        (pass, Err(fault)) => (pass, fault),
+        (_, Ok(_)) => panic!(rt; "it was changed"),
+    }
+}
+
+#[test]
+fn what_is_decided_is_committed(rt: HostRuntime) -> Result<(), Fail> {
+    let alloc = rt.alloc();
+    let (world, pass) = one_pass(alloc, Kind::WoundWait, chain(alloc, [5, 2, 3])?, 3)?;
+    assert!(rt; world.size() == 3);
+    let (pass, told) = levelled(&rt, &world, pass, 0, 1);
+    assert!(rt; told.is_ok_and(|receipt| receipt.seq == 0 && receipt.reply == Reply::Moved));
+    let (pass, fault) = refused(&rt, levelled(&rt, &world, pass, 0, 1));
+    assert!(rt; fault == ChangeFault::Declined && pass.left() == 1);
+    let answer = change(&rt, &world, pass, &[2, 1, 0], |values| {
+        let amount = values[1].wrapping_add(values[2]).wrapping_sub(values[0]);
+        add(alloc, By::List, &[(2, amount)]).ok()
+    });
+    assert!(rt; answer.1.is_ok());
+    let history = closed(&rt, world, vec![in alloc; answer.0]?);
+    assert!(rt; history.records.len() == 2);
+    assert!(rt; history.graph.is_same(&chain(alloc, [2, 5, 7])?));
+    Ok(())
+}
+
+#[test]
+fn a_change_is_refused(rt: HostRuntime) -> Result<(), Fail> {
+    let alloc = rt.alloc();
+    let (world, pass) = one_pass(alloc, Kind::WaitDie, chain(alloc, [1, 2, 3])?, 3)?;
+    assert!(rt; world.size() == 3);
+    let (pass, fault) = refused(&rt, levelled(&rt, &world, pass, 1, 1));
+    assert!(rt; fault == ChangeFault::Already(1));
+    let answer = change(&rt, &world, pass, &[0], |_| Some(Txn::Peek(1)));
+    let (pass, fault) = refused(&rt, answer);
+    assert!(rt; fault == ChangeFault::NotServed(Txn::Peek(1)));
+    let answer = change(&rt, &world, pass, &[0], |_| Some(Txn::Peek(200)));
+    let (pass, fault) = refused(&rt, answer);
+    assert!(rt; fault == ChangeFault::NotServed(Txn::Peek(200)));
+    let (pass, fault) = refused(&rt, levelled(&rt, &world, pass, 0, 1));
+    assert!(rt; fault == ChangeFault::PassSpent);
+    let history = closed(&rt, world, vec![in alloc; pass]?);
+    assert!(rt; history.records.is_empty());
+    Ok(())
+}
+
+/// Whether an error has this text.
+fn reads<E: Error>(alloc: Global, error: &E, text: &str) -> Result<bool, AllocError> {
+    Ok(error.to_string(alloc)?.as_str() == text)
+}
+
+#[test]
+fn each_fault_has_its_text(rt: HostRuntime) -> Result<(), Fail> {
+    let alloc = rt.alloc();
+    let spent = "the pass has no context left to start";
+    assert!(rt; reads(alloc, &UserFault::PassSpent, spent)?);
+    assert!(rt; reads(alloc, &TxnFault::PassSpent, spent)?);
+    assert!(rt; reads(alloc, &ChangeFault::PassSpent, spent)?);
+    assert!(rt; reads(alloc, &Refusal::Spent, spent)?);
+    let doubled = "the list names node 7 twice";
+    assert!(rt; reads(alloc, &UserFault::Already(7), doubled)?);
+    assert!(rt; reads(alloc, &TxnFault::Already(7), doubled)?);
+    assert!(rt; reads(alloc, &ChangeFault::Already(7), doubled)?);
+    let called_off = "caller 3 called the wait off";
+    assert!(rt; reads(alloc, &UserFault::Interrupted(3), called_off)?);
+    assert!(rt; reads(alloc, &TxnFault::Interrupted(3), called_off)?);
+    assert!(rt; reads(alloc, &TxnFault::NoMemory, "no memory")?);
+    assert!(rt; reads(alloc, &ChangeFault::NoMemory, "no memory")?);
+    assert!(rt; reads(alloc, &Refusal::NoMemory, "no memory")?);
+    assert!(rt;
+        reads(
+            alloc,
+            &ChangeFault::Declined,
+            "no transaction was decided on"
+        )?
+    );
+    let not_served = ChangeFault::NotServed(Txn::Peek(1));
+    let needs_more = "the transaction can't be made with the nodes of the list";
+    assert!(rt; reads(alloc, &not_served, needs_more)?);
+    Ok(())
+}
