@@ -1,0 +1,162 @@
+/*
+ * Four threads make any turn in any state, with any number: every answer is a
+ * code, and every lock exclusive.  Then handles that were never opened, or were
+ * closed.
+ */
+#include "test.h"
+
+enum { THREADS = 4, LOCKS = 8 };
+
+static ww_handle handles[THREADS];
+static volatile unsigned long counters[LOCKS];
+static unsigned long added[THREADS][LOCKS], times = 2000000;
+
+static int turned(unsigned me, int r)
+{
+	while (r > 0) {
+		bool wakes[WW_MAX_SEATS];
+
+		r = ww_go_on_(&handles[me], wakes); /* never sleeps: who looks again needs no waking */
+		if (r > 0)
+			sched_yield();
+	}
+	return r;
+}
+
+static bool is_code(int r)
+{
+	return (r >= 0 && r <= WW_SLEEPS) || r == -EINTR || r == -EBUSY || r == -EINVAL || r == -ENOSPC || r == -EDEADLK || r == -EALREADY;
+}
+
+/* What one thread knows of its seat by the answers alone. */
+struct mine {
+	unsigned me, wants;
+	bool own[LOCKS], pending, giving;
+};
+
+static void gives_all(struct mine *m)
+{
+	int r;
+
+	while ((r = ww_unlock_all_(&handles[m->me])) > 0)
+		MUST(!turned(m->me, r));
+	MUST(!r);
+	for (unsigned n = 0; n < LOCKS; n++)
+		m->own[n] = false;
+}
+
+static void ends(struct mine *m, int r)
+{
+	if (m->pending && r <= 0 && r != -EBUSY) {
+		m->pending = false;
+		if (!r && !m->giving)
+			m->own[m->wants] = true;
+		m->giving = false;
+		if (r == -EDEADLK)
+			gives_all(m);
+	}
+}
+
+static void any(struct mine *m, unsigned op, unsigned n, bool heeds)
+{
+	ww_handle *h = &handles[m->me];
+	bool wakes[WW_MAX_SEATS];
+	int r;
+
+	switch (op) {
+	case 0: r = ww_begin_(h); break;
+	case 1: r = ww_end_(h); break;
+	case 2: r = ww_done_(h); break;
+	case 3: r = ww_cancel_(h, (uint8_t)(n % 20), wakes); break;
+	case 4: r = ww_try_(h, (uint8_t)n);
+		if (!r)
+			m->own[n] = true;
+		break;
+	case 5: case 6: case 7:
+		r = op == 7 ? ww_lock_slow_(h, (uint8_t)n, heeds) : ww_lock_(h, (uint8_t)n, heeds);
+		if (!r)
+			m->own[n] = true;
+		if (r > 0)
+			m->pending = true, m->wants = n;
+		break;
+	case 8:
+		r = ww_unlock_(h, (uint8_t)n);
+		if (r >= 0)
+			m->own[n] = false;
+		if (r > 0)
+			m->pending = m->giving = true;
+		break;
+	default:
+		r = ww_go_on_(h, wakes);
+		ends(m, r);
+	}
+	MUST(is_code(r));
+}
+
+static void *work(void *arg)
+{
+	struct mine m = { .me = (unsigned)(size_t)arg };
+	unsigned x = 12345 + m.me;
+
+	for (unsigned long i = 0; i < times; i++) {
+		unsigned drawn = next(&x), n = (drawn >> 8) % 10;
+
+		any(&m, drawn % 14, n == 9 ? 255 : n, drawn >> 12 & 1);
+		for (n = 0; n < LOCKS; n++)
+			if (m.own[n]) {
+				counters[n]++;
+				added[m.me][n]++;
+			}
+		if (!m.pending && (drawn >> 13) % 16 == 0)
+			gives_all(&m);
+	}
+	if (m.pending)
+		ends(&m, turned(m.me, 1));
+	gives_all(&m);
+	return NULL;
+}
+
+static void empty_handles(ww_handle *h)
+{
+	bool wakes[WW_MAX_SEATS];
+
+	MUST(ww_begin_(h) == -EINVAL && ww_end_(h) == -EINVAL && ww_done_(h) == -EINVAL && ww_lock_(h, 0, true) == -EINVAL);
+	MUST(ww_try_(h, 0) == -EINVAL && ww_unlock_(h, 0) == -EINVAL && ww_unlock_all_(h) == -EINVAL && ww_go_on_(h, wakes) == -EINVAL);
+	MUST(ww_lock_slow_(h, 0, false) == -EINVAL && ww_cancel_(h, 0, wakes) == -EINVAL && !ww_idle_(h) && !ww_close_(h));
+}
+
+int main(int count, char **words)
+{
+	if (count > 1)
+		times = strtoul(words[1], NULL, 10);
+	for (uint32_t kind = 0; kind < 2; kind++) {
+		ww_handle one = { 0 };
+
+		empty_handles(&one);
+		MUST(ww_open_(2, 8, 9, handles, 4) == -EINVAL && ww_open_(kind, 0, 9, handles, 4) == -EINVAL);
+		MUST(ww_open_(kind, 65, 9, handles, 4) == -EINVAL && ww_open_(kind, 8, 9, handles, 0) == -EINVAL && ww_open_(kind, 8, 9, handles, 17) == -EINVAL);
+		MUST(ww_open_(kind, 8, (uint64_t)1 << 52, handles, 4) == -EINVAL);
+		MUST(!ww_open_(kind, 1, 1, &one, 1) && !ww_begin_(&one) && ww_close_(&one) == -EBUSY && !ww_end_(&one));
+		MUST(ww_begin_(&one) == -ENOSPC && !ww_lock_(&one, 0, false) && ww_idle_(&one) == -EBUSY && ww_close_(&one) == -EBUSY);
+		MUST(!ww_unlock_(&one, 0) && !ww_idle_(&one) && !ww_close_(&one) && !ww_close_(&one));
+		empty_handles(&one);
+		MUST(!ww_open_(kind, LOCKS, UINT32_MAX, handles, THREADS));
+		in_threads(THREADS, work);
+		for (unsigned n = 0; n < LOCKS; n++) {
+			unsigned long all = 0;
+
+			for (unsigned k = 0; k < THREADS; k++) {
+				all += added[k][n];
+				added[k][n] = 0;
+			}
+			MUST(counters[n] == all);
+			counters[n] = 0;
+		}
+		for (unsigned k = 0; k < THREADS; k++) {
+			ww_end_(&handles[k]);
+			MUST(!ww_close_(&handles[k]));
+		}
+	}
+	printf("abuse: %lu turns in any state, every lock exclusive\n", 2 * THREADS * times);
+	return 0;
+}

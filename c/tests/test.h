@@ -1,0 +1,55 @@
+/* What the tests share. */
+#ifndef TEST_H
+#define TEST_H
+#define _GNU_SOURCE
+#include "../ww.h"
+#include <errno.h>
+#include <pthread.h>
+#include <sched.h>
+#include <stdio.h>
+#include <stdlib.h>
+
+#define MUST(fact)                                                                                     \
+	do {                                                                                           \
+		if (!(fact)) {                                                                         \
+			fprintf(stderr, "%s:%d: not so: %s\n", __FILE__, __LINE__, #fact);             \
+			exit(1);                                                                       \
+		}                                                                                      \
+	} while (0)
+
+static inline unsigned next(unsigned *x) { return (*x = *x * 1664525u + 1013904223u) >> 8; }
+
+/* Takes these locks, in this order but for the one that was told, and backs off until it has them all. */
+static inline unsigned long lock_all(ww_seat *s, const unsigned *list, unsigned count)
+{
+	unsigned long backs = 0;
+	unsigned slow = WW_MAX_LOCKS;
+
+	for (;;) {
+		int r = slow < WW_MAX_LOCKS ? ww_lock_slow(s, slow) : 0;
+		unsigned k;
+
+		MUST(!r);
+		for (k = 0; k < count && !r; k++)
+			if (list[k] != slow)
+				r = ww_lock(s, list[k]);
+		if (!r)
+			return backs;
+		MUST(r == -EDEADLK && s->held > 0);
+		slow = list[k - 1];
+		MUST(!ww_unlock_all(s));
+		backs++;
+	}
+}
+
+/* Runs this in so many threads, each with its number. */
+static inline void in_threads(unsigned count, void *(*work)(void *))
+{
+	pthread_t threads[WW_MAX_SEATS];
+
+	for (size_t k = 0; k < count; k++)
+		MUST(!pthread_create(&threads[k], NULL, work, (void *)k));
+	for (size_t k = 0; k < count; k++)
+		MUST(!pthread_join(threads[k], NULL));
+}
+#endif

@@ -1,0 +1,69 @@
+"""The wound/wait locks of ww.h, by ctypes over libww.so."""
+import contextlib
+import ctypes
+import errno
+
+WOUND_WAIT, WAIT_DIE = 0, 1
+_SEAT, _SEATS = 64, 16
+
+
+class Deadlock(Exception):
+    """An older context was met: all locks are to be given back."""
+
+
+class World:
+    """A world of locks. Open it with the path of libww.so; each thread takes a seat of it."""
+
+    def __init__(self, path, kind, locks, seats):
+        self.lib = ctypes.CDLL(path)
+        self.lib.ww_seat_get.restype = ctypes.c_void_p
+        self.memory = ctypes.create_string_buffer((_SEATS + 2) * _SEAT)
+        self.at = ctypes.c_void_p((ctypes.addressof(self.memory) + _SEAT - 1) // _SEAT * _SEAT)
+        told(self.lib.ww_open(self.at, kind, locks, seats))
+
+    def close(self):
+        told(self.lib.ww_close(self.at))
+
+    @contextlib.contextmanager
+    def seat(self):
+        at = ctypes.c_void_p(self.lib.ww_seat_get(self.at))
+        if not at:
+            raise OSError(errno.EBUSY, "no seat is free")
+        try:
+            yield Seat(self.lib, at)
+        finally:
+            told(self.lib.ww_seat_put(at))
+
+
+class Seat:
+    def __init__(self, lib, at):
+        self.lib, self.at = lib, at
+
+    @contextlib.contextmanager
+    def holding(self, locks):
+        """A context that holds these locks, taken in this order but for the one for which it had to back off."""
+        told(self.lib.ww_acquire_init(self.at))
+        try:
+            slow = None
+            while True:
+                try:
+                    if slow is not None:
+                        told(self.lib.ww_lock_slow(self.at, slow))
+                    for lock in locks:
+                        if lock != slow:
+                            told(self.lib.ww_lock(self.at, lock))
+                    break
+                except Deadlock:
+                    told(self.lib.ww_unlock_all(self.at))
+                    slow = lock
+            yield
+        finally:
+            told(self.lib.ww_unlock_all(self.at))
+            told(self.lib.ww_acquire_fini(self.at))
+
+
+def told(code):
+    if code == -errno.EDEADLK:
+        raise Deadlock
+    if code:
+        raise OSError(-code, errno.errorcode.get(-code, "?"))

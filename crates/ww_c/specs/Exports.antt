@@ -1,0 +1,60 @@
+-- What a call by a handle of C's comes to.
+use Rattle.std.specs.Prelude.{ℕ, zero, suc, ◌≡◌, ◌≤◌, ◌⊎◌, ℤ, pos, negsuc, Bool, false, List, map, replicate, Option, Some, None}
+use Rattle.ww_desk.specs.declared.turn.Answer.{Answer}
+use Rattle.ww_desk.specs.Situations.{Situation}
+use Rattle.ww_desk.specs.Answers.{IsNextAnswer, IsCancelAnswer, IsWakesAnswer, IsIdle}
+use Rattle.ww_desk.specs.Opened.{IsWorldSize, IsOpened}
+use Rattle.ww_queue.specs.declared.kind.Kind.{Kind}
+use Rattle.ww_queue.specs.declared.kind.Kind.TheVariants.{WoundWait, WaitDie}
+use Rattle.ww_c.specs.declared.slot.Handle.{Handle}
+use Rattle.ww_c.specs.Codes.{code_of}
+
+-- The desk behind the handle answers by this relation, and the code is that of its answer; an empty handle is told EINVAL.
+abbrev pub IsCall : (Situation → Answer → Situation → Type 0) → Option Situation → ℤ → Option Situation → Type 0
+IsCall answers None code after = (code ≡ negsuc 21) × (after ≡ None)
+IsCall answers (Some s) code after = (a : Answer) × (s' : Situation) × (after ≡ Some s') × answers s a s' × (code ≡ code_of a)
+
+-- ... and then it is told whom to wake
+abbrev pub IsWakingCall : (Situation → Answer → Situation → Type 0) → Option Situation → ℤ → List Bool → Option Situation → Type 0
+IsWakingCall answers None code wakes after = (code ≡ negsuc 21) × (wakes ≡ replicate 16 false) × (after ≡ None)
+IsWakingCall answers (Some s) code wakes after = (a : Answer) × (t s' : Situation) × (after ≡ Some s') × answers s a t × IsWakesAnswer t wakes s' × (code ≡ code_of a)
+
+abbrev pub goes_on : Situation → Answer → Situation → Type 0
+goes_on s a s' = IsNextAnswer s.turn s a s'
+
+abbrev pub cancels : ℕ → Situation → Answer → Situation → Type 0
+cancels u s a s' = IsCancelAnswer s u a s'
+
+-- whether the desk is idle, which an empty handle counts as
+abbrev pub IsIdleCall : Option Situation → ℤ → Option Situation → Type 0
+IsIdleCall None code after = (code ≡ pos 0) × (after ≡ None)
+IsIdleCall (Some s) code after = (after ≡ Some s) × ((IsIdle s × (code ≡ pos 0)) ⊎ ((¬ IsIdle s) × (code ≡ negsuc 15)))
+
+-- an idle desk is closed, and any other is left as it is
+abbrev pub IsCloseCall : Option Situation → ℤ → Option Situation → Type 0
+IsCloseCall None code after = (code ≡ pos 0) × (after ≡ None)
+IsCloseCall (Some s) code after = (IsIdle s × (code ≡ pos 0) × (after ≡ None)) ⊎ ((¬ IsIdle s) × (code ≡ negsuc 15) × (after ≡ Some s))
+
+-- 1 to 64 locks and 1 to 16 seats, each of which may begin fewer than 2 ^ 52 contexts, of one of two kinds
+pub record IsWorld (kind locks left seats : ℕ) : Type 0 where
+  pub kinds : kind ≤ 1
+  pub sizes : IsWorldSize locks seats left
+
+abbrev pub kind_of : ℕ → Kind
+kind_of zero = WoundWait
+kind_of (suc k) = WaitDie
+
+-- which desks these handles have
+abbrev pub desks_in : List Handle → List (Option Situation)
+desks_in handles = map (λ h. h.slot.desk) handles
+
+-- each handle has the desk of its number, of one new world
+pub record IsOpen (kind locks left seats : ℕ) (after : List (Option Situation)) : Type 0 where
+  pub kinds : kind ≤ 1
+  pub all : List Situation
+  pub opened : IsOpened (kind_of kind) locks seats left all
+  pub filled : after ≡ map Some all
+
+-- a world; ENOMEM; or EINVAL for any other sizes
+abbrev pub IsOpenCall : ℕ → ℕ → ℕ → ℕ → ℤ → List (Option Situation) → Type 0
+IsOpenCall kind locks left seats code after = ((code ≡ pos 0) × IsOpen kind locks left seats after) ⊎ (((code ≡ negsuc 11) × IsWorld kind locks left seats) ⊎ ((code ≡ negsuc 21) × (¬ IsWorld kind locks left seats)))

@@ -1,0 +1,28 @@
+ghost use Rattle.std.specs.Prelude.{◌≡◌};
+ghost use Rattle.ww_c.specs.Codes.{code_of};
+
+use ww_desk::Answer;
+
+pub(crate) const EBUSY: i32 = -16;
+
+pub(crate) const EINVAL: i32 = -22;
+
+pub(crate) const ENOMEM: i32 = -12;
+
+/// The number of an answer for C.
+pub(crate) fn code(answer: Answer) -> i32
+    ensures { result ≡ code_of answer }
+{
+    match answer {
+        Answer::Done => 0,
+        Answer::Again => 1,
+        Answer::Stays => 2,
+        Answer::Sleeps => 3,
+        Answer::Busy => EBUSY,
+        Answer::Invalid => EINVAL,
+        Answer::Already => -114,
+        Answer::NoSpace => -28,
+        Answer::Deadlk(_) => -35,
+        Answer::Interrupted(_) => -4,
+    }
+}

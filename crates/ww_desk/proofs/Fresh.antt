@@ -1,0 +1,74 @@
+-- Desks that have done nothing yet.
+use Rattle.std.proofs.Common.{◌≡◌, ℕ, ◌+◌, ◌<◌, ◌≤◌, ◌^◌, false, replicate, List, [], ◌∷◌, ◌++◌, length, refl, sym, ap, subst, ◌∙◌, arith, length-append, get_or, below_more, None}
+use Rattle.std.proofs.lemmas.List.{get_or_append_left, get_or_push, length-replicate}
+use Rattle.std.specs.Arc.{arc_value}
+use mathlib.Core.Option.{some}
+use lib.ListN.{get_elem?}
+use Rattle.atomic_table.specs.Seated.{TableId}
+use Rattle.ww_queue.specs.declared.kind.Kind.{Kind}
+use Rattle.ww_plain.specs.Numbers.{is_among}
+use Rattle.ww_plain.proofs.Members.{different_none}
+use Rattle.ww_view.specs.View.{owns, first_view}
+use Rattle.ww_rule.specs.declared.cells.Start.{Start}
+use Rattle.ww_rule.specs.Rule.{Sat, first_graph, no_counts}
+use Rattle.ww_table.specs.declared.board.Board.{Board}
+use Rattle.ww_table.specs.declared.seat.Seat16.{Seat16}
+use Rattle.ww_table.specs.Seat.{IsNew}
+use Rattle.ww_seat.proofs.Starts.{none_owned, new_settled}
+use Rattle.ww_desk.specs.declared.turn.Turn.TheVariants.{Rests}
+use Rattle.ww_desk.specs.declared.station.Station.{Station}
+use Rattle.ww_desk.specs.Situations.{Situation}
+use Rattle.ww_desk.specs.Stations.{situation_of, Keeps}
+use Rattle.ww_desk.specs.Opened.{fresh, AreFresh}
+
+-- the desk of a seat that was made just now
+pub record IsFirst (b : Board) (k : ℕ) (h : Station) : Type 0 where
+  pub board : arc_value h.board ≡ b
+  pub new : IsNew b.table.shared.table_id b.table.shared.key k h.seat
+  pub kind : b.table.shared.key.kind ≡ h.kind
+  pub few : length (first_graph b.table.shared.key) ≤ 64
+  pub left : h.left < 2 ^ 52
+  pub held : h.held.items ≡ []
+  pub marks : h.marks ≡ replicate 64 false
+  pub is_done : h.is_done ≡ false
+  pub told : h.told ≡ None
+  pub turn : h.turn ≡ Rests
+  pub wakes : h.wake.seats ≡ replicate 16 false
+
+pub first_keeps : (b : Board) (k : ℕ) (h : Station) → IsFirst b k h → Keeps h
+first_keeps b k h f = let me = f.new.me in record {
+  at = rw (f.board, f.turn) (new_settled b.table.shared.table_id b.table.shared.key k h.seat f.new f.few);
+  kind = sym f.kind ∙ sym (ap (λ (m : Sat). m.0.part.core.kind) me);
+  stamp = f.new.seated.stamp;
+  held = rw (f.board, f.held) (record { few = f.few; there = tt; once = different_none });
+  owned = λ n. ap (λ (m : Sat). owns m.0.part.core n) me ∙ none_owned n ∙ sym (ap (is_among n) f.held);
+  marks = f.marks ∙ sym (ap (λ (m : Sat). m.0.part.core.owned) me);
+  room = ap (λ (m : Sat). length m.0.part.core.owned) me ∙ length-replicate 64 false;
+  draws = omega (arith, f.left, ap (λ (m : Sat). m.0.part.counts.draws) me);
+}
+
+pub first_seen : (b : Board) (k : ℕ) (h : Station) → IsFirst b k h → situation_of h ≡ fresh b.table.shared.table_id (length (first_graph b.table.shared.key)) h.kind h.left k
+first_seen b k h f =
+    let core : h.seat.seat.me.0.part.core ≡ first_view h.kind k = ap (λ (m : Sat). m.0.part.core) f.new.me ∙ ap (λ (x : Kind). first_view x k) f.kind in
+    let counts : h.seat.seat.me.0.part.counts ≡ no_counts = ap (λ (m : Sat). m.0.part.counts) f.new.me in
+    rw (f.board, core, counts, f.held, f.is_done, f.told, f.turn, f.wakes) refl
+
+pub fresh_more : (all new : List Situation) (s : Situation) (home : TableId) (size : ℕ) (kind : Kind) (left n : ℕ) → AreFresh all home size kind left n → s ≡ fresh home size kind left n → new ≡ all ++ s ∷ [] → AreFresh new home size kind left (n + 1)
+fresh_more all new s home size kind left n h is grown = rw grown (record {
+  count = omega (arith, h.count, length-append all (s ∷ []));
+  each = λ i d lt. below_more (λ j. (e : Situation) → get_or (all ++ s ∷ []) j e ≡ fresh home size kind left j) n
+      (λ j low e. let small : j < length all = omega (arith, h.count, low) in rw (get_or_append_left all (s ∷ []) e j small) (h.each j e small))
+      (λ e. rw (get_or_push all s e n h.count) is)
+      i (omega (arith, h.count, lt, length-append all (s ∷ []))) d;
+})
+
+elem_mid : {A : Type 0} (xs ys : List A) (y : A) → get_elem? (xs ++ y ∷ ys) (length xs) ≡ some y
+elem_mid [] ys y = refl
+elem_mid (x ∷ xs) ys y = elem_mid xs ys y
+
+-- the next of new seats has the number of those before it
+pub next_is : (t : TableId) (key : Start) (seats yielded rest more : List Seat16) (s : Seat16) → ((k : ℕ) (x : Seat16) → get_elem? seats k ≡ some x → IsNew t key k x) → yielded ++ rest ≡ seats → rest ≡ s ∷ more
+    → IsNew t key (length yielded) s × (yielded ++ s ∷ more ≡ seats)
+next_is t key seats yielded rest more s each whole step =
+    let here = ap (λ (l : List Seat16). yielded ++ l) (sym step) ∙ whole in
+    (each (length yielded) s (subst (λ (l : List Seat16). get_elem? l (length yielded) ≡ some s) here (elem_mid yielded more s)), here)

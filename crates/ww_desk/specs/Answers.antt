@@ -1,0 +1,185 @@
+-- What became of a call of a desk, by its answer. A call may learn something of the locks, which its view tells then.
+use Rattle.std.specs.Prelude.{ℕ, ◌≡◌, ◌≢◌, ◌<◌, ◌≤◌, ◌+◌, ◌-◌, ◌⊎◌, ◌∷◌, ◌++◌, [], Bool, true, false, List, Some, None, length, replicate}
+use Rattle.std.specs.List.{slice_index_or}
+use Rattle.ww_plain.specs.Numbers.{is_among}
+use Rattle.ww_seat.specs.Calls.{HasMet}
+use Rattle.ww_seat.specs.Work.{AreWoken}
+use Rattle.ww_desk.specs.declared.turn.Turn.{Turn}
+use Rattle.ww_desk.specs.declared.turn.Turn.TheVariants as at
+use Rattle.ww_desk.specs.declared.turn.Answer.{Answer}
+use Rattle.ww_desk.specs.declared.turn.Answer.TheVariants.{Done, Again, Stays, Sleeps, Busy, Invalid, Already, NoSpace, Deadlk, Interrupted}
+use Rattle.ww_desk.specs.Situations.{Situation, is_at_rest, is_inside, can_want, without}
+
+-- ---- what a call makes of a desk
+
+-- one lock more is held, the only one that it took
+abbrev pub HasLock : Situation → ℕ → Situation → Type 0
+HasLock s n s' = s' ≡ record s { held = s.held ++ n ∷ []; told = None; tries = s.tries + 1; takes = s.takes + 1; view = s'.view }
+
+-- it tried once to take the lock at once, in vain
+abbrev pub HasTried : Situation → Situation → Type 0
+HasTried s s' = s' ≡ record s { tries = s.tries + 1; view = s'.view }
+
+-- this lock is held no more
+abbrev pub HasGivenBack : Situation → ℕ → Situation → Type 0
+HasGivenBack s n s' = s' ≡ record s { held = without n s.held; view = s'.view }
+
+-- its call stands there now
+abbrev pub HasTurned : Situation → Turn → Situation → Type 0
+HasTurned s turn s' = s' ≡ record s { turn = turn; view = s'.view }
+
+-- ---- where a call may go on
+
+-- between two calls, with a lock that it may want
+pub record IsTryable (s : Situation) (n : ℕ) : Type 0 where
+  pub rests : is_at_rest s.turn ≡ true
+  pub lacks : is_among n s.held ≡ false
+  pub there : n < s.size
+  pub wants : can_want s ≡ true
+
+-- ... with one that it doesn't hold, and may not want, or that isn't there
+pub record IsBarred (s : Situation) (n : ℕ) : Type 0 where
+  pub rests : is_at_rest s.turn ≡ true
+  pub lacks : is_among n s.held ≡ false
+  pub why : (s.size ≤ n) ⊎ (can_want s ≡ false)
+
+-- ... with one that it holds
+pub record IsHeldAtRest (s : Situation) (n : ℕ) : Type 0 where
+  pub rests : is_at_rest s.turn ≡ true
+  pub holds : is_among n s.held ≡ true
+
+-- it is told to back off: by its own step, for an older context of stamp k, which its view shows; and it holds a lock
+pub record HasToBackOff (s : Situation) (n k : ℕ) (s' : Situation) : Type 0 where
+  pub context : 0 < k
+  pub older : k < s.stamp
+  pub holds : 1 ≤ length s.held
+  pub met : HasMet n k s'.view
+  pub now : s' ≡ record s { turn = at.Rests; told = Some n; deaths = s.deaths + 1; wakes = s'.wakes; view = s'.view }
+
+-- ---- contexts
+
+abbrev pub IsBeginAnswer : Situation → Answer → Situation → Type 0
+IsBeginAnswer s Done s' = (is_at_rest s.turn ≡ true) × (s.stamp ≡ 0) × (s.held ≡ []) × (1 ≤ s.left) × (1 ≤ s'.stamp)
+    × (s' ≡ record s { left = s.left - 1; draws = s.draws + 1; stamp = s'.stamp; is_done = false; told = None; view = s'.view })
+IsBeginAnswer s Busy s' = (is_at_rest s.turn ≡ false) × (s' ≡ s)
+IsBeginAnswer s Invalid s' = (is_at_rest s.turn ≡ true) × ((s.stamp ≢ 0) ⊎ (s.held ≢ [])) × (s' ≡ s)
+IsBeginAnswer s NoSpace s' = (is_at_rest s.turn ≡ true) × (s.stamp ≡ 0) × (s.held ≡ []) × (s.left ≡ 0) × (s' ≡ s)
+IsBeginAnswer s _ s' = ⊥
+
+abbrev pub IsDoneAnswer : Situation → Answer → Situation → Type 0
+IsDoneAnswer s Done s' = (is_at_rest s.turn ≡ true) × (s.stamp ≢ 0) × (s.is_done ≡ false) × (s' ≡ record s { is_done = true })
+IsDoneAnswer s Busy s' = (is_at_rest s.turn ≡ false) × (s' ≡ s)
+IsDoneAnswer s Invalid s' = (is_at_rest s.turn ≡ true) × ((s.stamp ≡ 0) ⊎ (s.is_done ≡ true)) × (s' ≡ s)
+IsDoneAnswer s _ s' = ⊥
+
+abbrev pub IsEndAnswer : Situation → Answer → Situation → Type 0
+IsEndAnswer s Done s' = (is_at_rest s.turn ≡ true) × (s.stamp ≢ 0) × (s.held ≡ []) × (s' ≡ record s { stamp = 0; is_done = false; told = None; view = s'.view })
+IsEndAnswer s Busy s' = (is_at_rest s.turn ≡ false) × (s' ≡ s)
+IsEndAnswer s Invalid s' = (is_at_rest s.turn ≡ true) × ((s.stamp ≡ 0) ⊎ (s.held ≢ [])) × (s' ≡ s)
+IsEndAnswer s _ s' = ⊥
+
+-- ---- taking a lock
+
+-- the first turn: it has the lock, or stays away from it
+abbrev pub IsLockAnswer : Situation → ℕ → Bool → Answer → Situation → Type 0
+IsLockAnswer s n heeds Done s' = IsTryable s n × HasLock s n s'
+IsLockAnswer s n heeds Again s' = IsTryable s n × (s' ≡ record s { turn = at.Stays n 8 heeds; tries = s.tries + 1; view = s'.view })
+IsLockAnswer s n heeds Busy s' = (is_at_rest s.turn ≡ false) × (s' ≡ s)
+IsLockAnswer s n heeds Already s' = IsHeldAtRest s n × (s' ≡ s)
+IsLockAnswer s n heeds Invalid s' = IsBarred s n × (s' ≡ s)
+IsLockAnswer s n heeds _ s' = ⊥
+
+-- one try
+abbrev pub IsTryAnswer : Situation → ℕ → Answer → Situation → Type 0
+IsTryAnswer s n Done s' = IsTryable s n × HasLock s n s'
+IsTryAnswer s n Busy s' = ((is_at_rest s.turn ≡ false) × (s' ≡ s)) ⊎ (IsTryable s n × HasTried s s')
+IsTryAnswer s n Already s' = IsHeldAtRest s n × (s' ≡ s)
+IsTryAnswer s n Invalid s' = IsBarred s n × (s' ≡ s)
+IsTryAnswer s n _ s' = ⊥
+
+-- the lock for which it was told to back off, with nothing held
+abbrev pub IsSlowAnswer : Situation → ℕ → Bool → Answer → Situation → Type 0
+IsSlowAnswer s n heeds Done s' = (s.told ≡ Some n) × (s.held ≡ []) × IsTryable s n × HasLock s n s'
+IsSlowAnswer s n heeds Again s' = (s.told ≡ Some n) × (s.held ≡ []) × IsLockAnswer s n heeds Again s'
+IsSlowAnswer s n heeds Busy s' = (is_at_rest s.turn ≡ false) × (s' ≡ s)
+IsSlowAnswer s n heeds Invalid s' = (is_at_rest s.turn ≡ true) × ((s.told ≢ Some n) ⊎ ((s.held ≢ []) ⊎ IsBarred s n)) × (s' ≡ s)
+IsSlowAnswer s n heeds _ s' = ⊥
+
+-- ---- waiting for it, in further turns
+
+-- it is still on its way to the lock, and has signed whom it has to wake
+abbrev pub IsOnItsWay : ℕ → Bool → Turn → Type 0
+IsOnItsWay n heeds (at.Wants m stands h) = (m ≡ n) × (h ≡ heeds)
+IsOnItsWay n heeds (at.Looks m stands again h) = (m ≡ n) × (h ≡ heeds)
+IsOnItsWay n heeds _ = ⊥
+
+-- a glance
+abbrev pub IsStayAnswer : Situation → ℕ → ℕ → Bool → Answer → Situation → Type 0
+IsStayAnswer s n k heeds Stays s' = (1 ≤ k) × HasTurned s (at.Stays n (k - 1) heeds) s'
+IsStayAnswer s n k heeds Again s' = HasTurned s (at.Wants n false heeds) s'
+IsStayAnswer s n k heeds _ s' = ⊥
+
+-- a look, or a try to go inside the guard
+abbrev pub IsWaitAnswer : Situation → ℕ → Bool → Answer → Situation → Type 0
+IsWaitAnswer s n heeds Again s' = IsOnItsWay n heeds s'.turn × (s' ≡ record s { turn = s'.turn; wakes = s'.wakes; view = s'.view })
+IsWaitAnswer s n heeds Sleeps s' = AreWoken s'.view s'.wakes × (s' ≡ record s { turn = at.Wants n true heeds; wakes = s'.wakes; view = s'.view })
+IsWaitAnswer s n heeds Done s' = AreWoken s'.view s'.wakes × (s' ≡ record s { turn = at.Rests; held = s.held ++ n ∷ []; told = None; takes = s.takes + 1; wakes = s'.wakes; view = s'.view })
+IsWaitAnswer s n heeds (Deadlk k) s' = AreWoken s'.view s'.wakes × HasToBackOff s n k s'
+IsWaitAnswer s n heeds (Interrupted by) s' = AreWoken s'.view s'.wakes × (heeds ≡ true) × (s' ≡ record s { turn = at.Rests; interrupted = (n, by) ∷ s.interrupted; wakes = s'.wakes; view = s'.view })
+IsWaitAnswer s n heeds _ s' = ⊥
+
+-- ---- giving a lock back
+
+abbrev pub IsUnlockAnswer : Situation → ℕ → Answer → Situation → Type 0
+IsUnlockAnswer s n Done s' = IsHeldAtRest s n × HasGivenBack s n s'
+IsUnlockAnswer s n Again s' = IsHeldAtRest s n × HasTurned s (at.Gives n) s'
+IsUnlockAnswer s n Busy s' = (is_at_rest s.turn ≡ false) × (s' ≡ s)
+IsUnlockAnswer s n Invalid s' = (is_at_rest s.turn ≡ true) × (is_among n s.held ≡ false) × (s' ≡ s)
+IsUnlockAnswer s n _ s' = ⊥
+
+-- the last one first: it gave back all, or those behind a lock that it still gives
+abbrev pub IsUnlockAllAnswer : Situation → Answer → Situation → Type 0
+IsUnlockAllAnswer s Done s' = (is_at_rest s.turn ≡ true) × (s' ≡ record s { held = []; view = s'.view })
+IsUnlockAllAnswer s Again s' = (is_at_rest s.turn ≡ true) × ((front rest : List ℕ) × (n : ℕ) × (s.held ≡ front ++ n ∷ rest) × (s' ≡ record s { held = front ++ n ∷ []; turn = at.Gives n; view = s'.view }))
+IsUnlockAllAnswer s Busy s' = (is_at_rest s.turn ≡ false) × (s' ≡ s)
+IsUnlockAllAnswer s _ s' = ⊥
+
+-- a further turn of it: it is inside the guard or still outside, or the lock is given back
+abbrev pub IsGiveTurn : ℕ → Turn → Type 0
+IsGiveTurn n (at.Gives m) = m ≡ n
+IsGiveTurn n (at.Lets m) = m ≡ n
+IsGiveTurn n _ = ⊥
+
+abbrev pub IsGiveAnswer : Situation → ℕ → Answer → Situation → Type 0
+IsGiveAnswer s n Again s' = IsGiveTurn n s'.turn × (s' ≡ record s { turn = s'.turn; view = s'.view })
+IsGiveAnswer s n Done s' = s' ≡ record s { turn = at.Rests; held = without n s.held; wakes = s'.wakes; view = s'.view }
+IsGiveAnswer s n _ s' = ⊥
+
+-- ---- the next turn, whatever call is on its way
+
+abbrev pub IsNextAnswer : Turn → Situation → Answer → Situation → Type 0
+IsNextAnswer at.Rests s a s' = (a ≡ Invalid) × (s' ≡ s)
+IsNextAnswer (at.Stays n k heeds) s a s' = IsStayAnswer s n k heeds a s'
+IsNextAnswer (at.Wants n stands heeds) s a s' = IsWaitAnswer s n heeds a s'
+IsNextAnswer (at.Looks n stands again heeds) s a s' = IsWaitAnswer s n heeds a s'
+IsNextAnswer (at.Gives n) s a s' = IsGiveAnswer s n a s'
+IsNextAnswer (at.Lets n) s a s' = IsGiveAnswer s n a s'
+
+-- ---- whom to wake, and calling off
+
+-- Each seat is told once, and none while this one is inside a guard.
+abbrev pub IsWakesAnswer : Situation → List Bool → Situation → Type 0
+IsWakesAnswer s wakes s' = (is_inside s.turn ≡ true → (wakes ≡ replicate 16 false) × (s' ≡ s))
+    × (is_inside s.turn ≡ false → (wakes ≡ s.wakes) × (s' ≡ record s { wakes = replicate 16 false }))
+
+-- the wait of seat u is called off, or that was pending already
+abbrev pub IsCancelAnswer : Situation → ℕ → Answer → Situation → Type 0
+IsCancelAnswer s u Done s' = (is_at_rest s.turn ≡ true) × (u < 16) × (u ≢ s.caller → slice_index_or s'.wakes u false ≡ true) × (s' ≡ record s { cancelled = u ∷ s.cancelled; wakes = s'.wakes })
+IsCancelAnswer s u Already s' = (is_at_rest s.turn ≡ true) × (u < 16) × (s' ≡ s)
+IsCancelAnswer s u Busy s' = (is_at_rest s.turn ≡ false) × (s' ≡ s)
+IsCancelAnswer s u Invalid s' = (is_at_rest s.turn ≡ true) × (16 ≤ u) × (s' ≡ s)
+IsCancelAnswer s u _ s' = ⊥
+
+-- nothing is on its way, it has no context and holds nothing
+abbrev pub IsIdle : Situation → Type 0
+IsIdle s = (is_at_rest s.turn ≡ true) × (s.stamp ≡ 0) × (s.held ≡ [])

@@ -1,0 +1,4 @@
+pub mod Situations
+pub mod Stations
+pub mod Answers
+pub mod Opened

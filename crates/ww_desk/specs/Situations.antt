@@ -1,0 +1,63 @@
+-- What a contract sees of a desk.
+use Rattle.std.specs.Prelude.{ℕ, ◌==◌, ◌∷◌, [], Bool, not, true, false, List, Option, is_none, filter, if◌then◌else◌}
+use Rattle.atomic_table.specs.Seated.{TableId}
+use Rattle.ww_queue.specs.declared.kind.Kind.{Kind}
+use Rattle.ww_view.specs.declared.view.View.{View}
+use Rattle.ww_desk.specs.declared.turn.Turn.{Turn}
+use Rattle.ww_desk.specs.declared.turn.Turn.TheVariants.{Rests, Stays, Wants, Looks, Gives, Lets}
+
+-- Its world: the table; how many locks that has, and of which kind; its number there; how many contexts it may still
+-- begin, and how many it has begun; its stamp, 0 without a context; whether its context is done; the locks that it holds,
+-- in the order in which they were taken; the lock for which it was told to back off; where its call stands; whom it has
+-- to wake, a mark for each seat; how often it tried to take a lock at once, took one, and had to back off; the seats whose
+-- wait it called off, the last one first; each time that its own wait was called off, the last one first: for which lock,
+-- and by which seat; and what its seat knows of the locks.
+pub record Situation : Type 0 where
+  pub home : TableId
+  pub size : ℕ
+  pub kind : Kind
+  pub caller : ℕ
+  pub left : ℕ
+  pub draws : ℕ
+  pub stamp : ℕ
+  pub is_done : Bool
+  pub held : List ℕ
+  pub told : Option ℕ
+  pub turn : Turn
+  pub wakes : List Bool
+  pub tries : ℕ
+  pub takes : ℕ
+  pub deaths : ℕ
+  pub cancelled : List ℕ
+  pub interrupted : List (ℕ × ℕ)
+  pub view : View
+
+-- between two calls
+abbrev pub is_at_rest : Turn → Bool
+is_at_rest Rests = true
+is_at_rest (Stays n k heeds) = false
+is_at_rest (Wants n stands heeds) = false
+is_at_rest (Looks n stands again heeds) = false
+is_at_rest (Gives n) = false
+is_at_rest (Lets n) = false
+
+-- inside a guard
+abbrev pub is_inside : Turn → Bool
+is_inside Rests = false
+is_inside (Stays n k heeds) = false
+is_inside (Wants n stands heeds) = false
+is_inside (Looks n stands again heeds) = true
+is_inside (Gives n) = false
+is_inside (Lets n) = true
+
+abbrev pub is_empty : List ℕ → Bool
+is_empty [] = true
+is_empty (n ∷ ns) = false
+
+-- It may want a lock: its context isn't done; and where it holds locks it has a context, which wasn't told to back off.
+abbrev pub can_want : Situation → Bool
+can_want s = if s.is_done then false else (if is_empty s.held then true else (if s.stamp == 0 then false else is_none s.told))
+
+-- the numbers but this one, in their order
+abbrev pub without : ℕ → List ℕ → List ℕ
+without n ns = filter (λ m. not (m == n)) ns

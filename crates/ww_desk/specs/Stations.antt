@@ -1,0 +1,76 @@
+-- What is true of a desk, whatever was called before.
+use Rattle.std.specs.Prelude.{ℕ, ◌≡◌, ◌<◌, ◌≤◌, ◌+◌, ◌^◌, ◌==◌, Bool, not, true, List, length}
+use Rattle.std.specs.Arc.{arc_value}
+use Rattle.std.specs.List.{AllByRecursion}
+use Rattle.atomic_table.specs.Seated.{TableId}
+use Rattle.ww_plain.specs.Numbers.{is_among, AreDifferent}
+use Rattle.ww_view.specs.View.{owns}
+use Rattle.ww_table.specs.declared.board.Board.{Board}
+use Rattle.ww_table.specs.declared.seat.Seat16.{Seat16}
+use Rattle.ww_table.specs.Seat.{IsSeated, size_of}
+use Rattle.ww_seat.specs.Orderly.{IsOrderly, IsSettled}
+use Rattle.ww_seat.specs.Guards.{IsGiving}
+use Rattle.ww_seat.specs.Looks.{IsOutside}
+use Rattle.ww_seat.specs.Work.{AreWoken, IsWorking}
+use Rattle.ww_desk.specs.declared.turn.Turn.{Turn}
+use Rattle.ww_desk.specs.declared.turn.Turn.TheVariants.{Rests, Stays, Wants, Looks, Gives, Lets}
+use Rattle.ww_desk.specs.declared.station.Station.{Station}
+use Rattle.ww_desk.specs.Situations.{Situation}
+
+-- the table that it is at
+abbrev pub table_of : Board → TableId
+table_of board = board.table.shared.table_id
+
+-- what a contract sees of it
+abbrev pub situation_of : Station → Situation
+situation_of d = record {
+  home = table_of (arc_value d.board);
+  size = size_of (arc_value d.board);
+  kind = d.kind;
+  caller = d.seat.seat.me.0.part.core.who;
+  left = d.left;
+  draws = d.seat.seat.me.0.part.counts.draws;
+  stamp = d.seat.seat.me.0.part.core.stamp;
+  is_done = d.is_done;
+  held = d.held.items;
+  told = d.told;
+  turn = d.turn;
+  wakes = d.wake.seats;
+  tries = d.seat.seat.me.0.part.core.tries;
+  takes = d.seat.seat.me.0.part.core.takes;
+  deaths = d.seat.seat.me.0.part.core.deaths;
+  cancelled = d.seat.seat.me.0.part.counts.cancelled;
+  interrupted = d.seat.seat.me.0.part.core.stopped;
+  view = d.seat.seat.me.0.part.core;
+}
+
+-- Where the seat is at each turn of a call, and whom it has to wake then.
+abbrev pub IsAt : TableId → ℕ → List Bool → Turn → Seat16 → Type 0
+IsAt table size wakes Rests s = IsSettled table size s
+IsAt table size wakes (Stays n k heeds) s = IsSeated table s × (n < size) × IsOutside size n s.seat.me × (s.seat.me.0.part.core.waits ≡ 0) × (s.seat.me.0.part.core.glances + k ≤ 16)
+IsAt table size wakes (Wants n stands heeds) s = IsSeated table s × (n < size) × IsOutside size n s.seat.me × (stands ≡ not (s.seat.me.0.part.core.waits == 0))
+IsAt table size wakes (Looks n stands again heeds) s = IsSeated table s × (n < size) × IsOrderly size s.seat.me × IsWorking n stands again s.seat.me.0.part.core × AreWoken s.seat.me.0.part.core wakes
+IsAt table size wakes (Gives n) s = IsSettled table size s × (n < size) × (owns s.seat.me.0.part.core n ≡ true)
+IsAt table size wakes (Lets n) s = IsSeated table s × (n < size) × IsGiving size n s.seat.me
+
+-- each lock that is held is one of the world, and is held once
+pub record AreHeld (size : ℕ) (held : List ℕ) : Type 0 where
+  pub few : size ≤ 64
+  pub there : AllByRecursion (λ n. n < size) held
+  pub once : AreDifferent held
+
+-- The seat is where the turn says, and owns just the locks that are held, which have their marks. With what is left it
+-- stays within what the table counts.
+pub record Keeps (d : Station) : Type 0 where
+  pub at : IsAt (table_of (arc_value d.board)) (size_of (arc_value d.board)) d.wake.seats d.turn d.seat
+  pub kind : d.kind ≡ d.seat.seat.me.0.part.core.kind
+  pub stamp : d.seat.seat.me.0.part.core.stamp ≡ d.seat.stamp
+  pub held : AreHeld (size_of (arc_value d.board)) d.held.items
+  pub owned : (n : ℕ) → owns d.seat.seat.me.0.part.core n ≡ is_among n d.held.items
+  pub marks : d.marks ≡ d.seat.seat.me.0.part.core.owned
+  pub room : length d.seat.seat.me.0.part.core.owned ≡ 64
+  pub draws : d.seat.seat.me.0.part.counts.draws + d.left < 2 ^ 52
+
+-- it has just tried this lock in vain, and may stay away from it
+abbrev pub MayStay : ℕ → Station → Type 0
+MayStay n d = IsOutside (size_of (arc_value d.board)) n d.seat.seat.me × (d.seat.seat.me.0.part.core.glances ≡ 0)

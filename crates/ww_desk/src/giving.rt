@@ -1,0 +1,67 @@
+//! The first turn of giving a lock back.
+use crate::station::Station;
+use crate::turn::{Answer, Turn};
+use ww_seat::give_at_once;
+
+impl Station {
+    ghost use Rattle.std.specs.Prelude.{◌≡◌, true, false};
+    ghost use Rattle.ww_desk.specs.declared.turn.Turn.TheVariants.{Gives};
+    ghost use Rattle.ww_desk.specs.Stations.{situation_of, Keeps};
+    ghost use Rattle.ww_desk.specs.Answers.{IsHeldAtRest, HasGivenBack, HasTurned, IsUnlockAnswer, IsUnlockAllAnswer};
+
+    /// One try to give back a lock that it holds; where somebody may wait for it, the call goes on.
+    fn give_or_go_on(&mut self, lock: u8) -> bool
+        requires keeps { Keeps self.old }
+        requires held { IsHeldAtRest (situation_of self.old) lock }
+        ensures keeps { Keeps self.new }
+        ensures given { result ≡ true → HasGivenBack (situation_of self.old) lock (situation_of self.new) }
+        ensures going { result ≡ false → HasTurned (situation_of self.old) (Gives lock) (situation_of self.new) }
+    {
+        if give_at_once(&mut self.seat, &self.board, lock) {
+            self.remove(lock);
+            return true;
+        }
+        self.turn = Turn::Gives(lock);
+        false
+    }
+
+    /// Gives a lock back.
+    pub(crate) fn unlock(&mut self, lock: u8) -> Answer
+        requires keeps { Keeps self.old }
+        ensures keeps { Keeps self.new }
+        ensures answer { IsUnlockAnswer (situation_of self.old) lock result (situation_of self.new) }
+    {
+        if !self.rests() {
+            return Answer::Busy;
+        }
+        if !self.holds(lock) {
+            return Answer::Invalid;
+        }
+        if self.give_or_go_on(lock) {
+            Answer::Done
+        } else {
+            Answer::Again
+        }
+    }
+
+    /// Gives locks back, the one taken last first, up to the first for which somebody may wait: that one is given back by
+    /// further turns, and the others by another call.
+    pub(crate) fn unlock_all(&mut self) -> Answer
+        requires keeps { Keeps self.old }
+        ensures keeps { Keeps self.new }
+        ensures answer { IsUnlockAllAnswer (situation_of self.old) result (situation_of self.new) }
+    {
+        if !self.rests() {
+            return Answer::Busy;
+        }
+        while let Some(lock) = self.held.pop() {
+            if !give_at_once(&mut self.seat, &self.board, lock) {
+                self.held.push(lock);
+                self.turn = Turn::Gives(lock);
+                return Answer::Again;
+            }
+            self.marks[usize::from(lock)] = false;
+        }
+        Answer::Done
+    }
+}

@@ -1,0 +1,166 @@
+//! The further turns of a call.
+ghost use Rattle.std.specs.Prelude.{◌≡◌, ◌≢◌, ◌<◌, true, false, IfSome};
+ghost use Rattle.std.specs.List.{slice_index_or};
+ghost use Rattle.ww_desk.specs.declared.turn.Turn.TheVariants.{Stays, Looks, Lets};
+
+use crate::station::Station;
+use crate::turn::{Answer, Turn};
+use ww_queue::Entry;
+use ww_seat::{
+    Look, Wake, cancel_once, enter_owned, enter_wanted, give_on, glance_once, look_once,
+};
+use ww_word::MAX_SEATS;
+
+impl Station {
+    ghost use Rattle.ww_desk.specs.Stations.{situation_of, Keeps};
+    ghost use Rattle.ww_desk.specs.Answers.{IsNextAnswer, IsStayAnswer, IsWaitAnswer, IsGiveAnswer, IsCancelAnswer, IsWakesAnswer};
+
+    /// The next turn of the call that is on its way.
+    pub(crate) fn go_on(&mut self) -> Answer
+        requires keeps { Keeps self.old }
+        ensures keeps { Keeps self.new }
+        ensures answer { IsNextAnswer self.old.turn (situation_of self.old) result (situation_of self.new) }
+    {
+        match self.turn {
+            Turn::Rests => Answer::Invalid,
+            Turn::Stays(lock, glances, heeds) => self.stay(lock, glances, heeds),
+            Turn::Wants(lock, stands, heeds) => {
+                if !enter_wanted(&mut self.seat, &self.board, lock) {
+                    return Answer::Again;
+                }
+                self.look(lock, stands, stands, heeds)
+            }
+            Turn::Looks(lock, stands, is_later, heeds) => self.look(lock, stands, is_later, heeds),
+            Turn::Gives(lock) => {
+                if !enter_owned(&mut self.seat, &self.board, lock) {
+                    return Answer::Again;
+                }
+                self.let_go(lock)
+            }
+            Turn::Lets(lock) => self.let_go(lock),
+        }
+    }
+
+    /// One glance at a lock that it tried in vain, where one is left; then it wants the lock.
+    fn stay(&mut self, lock: u8, glances: u8, heeds: bool) -> Answer
+        requires keeps { Keeps self.old }
+        requires turn { self.old.turn ≡ Stays lock glances heeds }
+        ensures keeps { Keeps self.new }
+        ensures answer { IsStayAnswer (situation_of self.old) lock glances heeds result (situation_of self.new) }
+    {
+        if glances == 0 {
+            self.turn = Turn::Wants(lock, false, heeds);
+            return Answer::Again;
+        }
+        if glance_once(&mut self.seat, &self.board, lock) {
+            self.turn = Turn::Wants(lock, false, heeds);
+            return Answer::Again;
+        }
+        self.turn = Turn::Stays(lock, glances - 1, heeds);
+        Answer::Stays
+    }
+
+    /// One look at a lock, inside its guard.
+    fn look(&mut self, lock: u8, stands: bool, is_later: bool, heeds: bool) -> Answer
+        requires keeps { Keeps (record self.old { turn = Looks lock stands is_later heeds }) }
+        ensures keeps { Keeps self.new }
+        ensures answer { IsWaitAnswer (situation_of self.old) lock heeds result (situation_of self.new) }
+    {
+        let mut stood = stands;
+        let look = look_once(
+            &mut self.seat,
+            &self.board,
+            self.kind,
+            lock,
+            is_later,
+            heeds,
+            &mut stood,
+            &mut self.wake,
+        );
+        match look {
+            None => {
+                self.turn = Turn::Looks(lock, stood, is_later, heeds);
+                Answer::Again
+            }
+            Some(Look::Waits) => {
+                self.turn = Turn::Wants(lock, true, heeds);
+                Answer::Sleeps
+            }
+            Some(Look::Locked(_)) => {
+                self.add(lock);
+                self.turn = Turn::Rests;
+                Answer::Done
+            }
+            Some(Look::Deadlk(met)) => {
+                self.told = Some(lock);
+                self.turn = Turn::Rests;
+                Answer::Deadlk(met)
+            }
+            Some(Look::Interrupted(by)) => {
+                self.turn = Turn::Rests;
+                Answer::Interrupted(by)
+            }
+        }
+    }
+
+    /// One try to give the lock back inside its guard.
+    fn let_go(&mut self, lock: u8) -> Answer
+        requires keeps { Keeps (record self.old { turn = Lets lock }) }
+        ensures keeps { Keeps self.new }
+        ensures answer { IsGiveAnswer (situation_of self.old) lock result (situation_of self.new) }
+    {
+        match give_on(&mut self.seat, &self.board, lock) {
+            None => {
+                self.turn = Turn::Lets(lock);
+                Answer::Again
+            }
+            Some(first) => {
+                add_first(&mut self.wake, self.seat.who(), first);
+                self.remove(lock);
+                self.turn = Turn::Rests;
+                Answer::Done
+            }
+        }
+    }
+
+    /// Calls off the wait of a seat, which is to be woken then.
+    pub(crate) fn cancel(&mut self, victim: u8) -> Answer
+        requires keeps { Keeps self.old }
+        ensures keeps { Keeps self.new }
+        ensures answer { IsCancelAnswer (situation_of self.old) victim result (situation_of self.new) }
+    {
+        if !self.rests() {
+            return Answer::Busy;
+        }
+        if usize::from(victim) >= MAX_SEATS {
+            return Answer::Invalid;
+        }
+        if !cancel_once(&mut self.seat, &self.board, victim) {
+            return Answer::Already;
+        }
+        self.wake.add(self.seat.who(), victim, true);
+        Answer::Done
+    }
+
+    /// Whom to wake, a mark for each seat, while this one is outside every guard; then nobody any more.
+    pub(crate) fn take_wakes(&mut self) -> [bool; MAX_SEATS]
+        requires keeps { Keeps self.old }
+        ensures keeps { Keeps self.new }
+        ensures answer { IsWakesAnswer (situation_of self.old) result (situation_of self.new) }
+    {
+        match self.turn {
+            Turn::Looks(..) | Turn::Lets(..) => [false; MAX_SEATS],
+            _ => self.wake.take(),
+        }
+    }
+}
+
+/// Also wakes the first waiter, if there is one.
+fn add_first(wake: &mut Wake, who: u8, first: Option<Entry>)
+    requires seat { IfSome first (λ entry. entry.seat < 16) }
+    ensures woken { IfSome first (λ entry. entry.seat ≢ who → slice_index_or wake.new.seats entry.seat false ≡ true) }
+{
+    if let Some(first) = first {
+        wake.add(who, first.seat, true);
+    }
+}

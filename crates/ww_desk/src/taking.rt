@@ -1,0 +1,90 @@
+//! The first turn of taking a lock.
+use crate::station::Station;
+use crate::turn::{Answer, Turn};
+
+/// How often a call that lost its first try glances at the lock before it joins the wait list.
+const GLANCES: u8 = 8;
+
+impl Station {
+    ghost use Rattle.std.specs.Prelude.{◌≡◌, ◌<◌, true, false};
+    ghost use Rattle.ww_desk.specs.Stations.{situation_of, Keeps, MayStay};
+    ghost use Rattle.ww_desk.specs.Answers.{IsTryable, IsTryAnswer, IsLockAnswer, IsSlowAnswer, HasLock, HasTried};
+
+    /// One try to take a lock that it may want.
+    fn try_at_once(&mut self, lock: u8) -> bool
+        requires keeps { Keeps self.old }
+        requires tryable { IsTryable (situation_of self.old) lock }
+        ensures keeps { Keeps self.new }
+        ensures taken { result ≡ true → HasLock (situation_of self.old) lock (situation_of self.new) }
+        ensures lost { result ≡ false → HasTried (situation_of self.old) (situation_of self.new) }
+        ensures stays { result ≡ false → MayStay lock self.new }
+    {
+        match ww_seat::try_take(&mut self.seat, &self.board, self.kind, lock) {
+            Some(_) => {
+                self.add(lock);
+                true
+            }
+            None => false,
+        }
+    }
+
+    /// One try to take a lock, and no waiting.
+    pub(crate) fn try_lock(&mut self, lock: u8) -> Answer
+        requires keeps { Keeps self.old }
+        ensures keeps { Keeps self.new }
+        ensures answer { IsTryAnswer (situation_of self.old) lock result (situation_of self.new) }
+    {
+        if !self.rests() {
+            return Answer::Busy;
+        }
+        if self.holds(lock) {
+            return Answer::Already;
+        }
+        if lock >= self.board.size() || !self.can_want() {
+            return Answer::Invalid;
+        }
+        if self.try_at_once(lock) {
+            Answer::Done
+        } else {
+            Answer::Busy
+        }
+    }
+
+    /// Takes a lock: one try, after which it stays away for a while and then waits. Where `heeds` the wait may be called
+    /// off.
+    pub(crate) fn lock(&mut self, lock: u8, heeds: bool) -> Answer
+        requires keeps { Keeps self.old }
+        ensures keeps { Keeps self.new }
+        ensures answer { IsLockAnswer (situation_of self.old) lock heeds result (situation_of self.new) }
+    {
+        if !self.rests() {
+            return Answer::Busy;
+        }
+        if self.holds(lock) {
+            return Answer::Already;
+        }
+        if lock >= self.board.size() || !self.can_want() {
+            return Answer::Invalid;
+        }
+        if self.try_at_once(lock) {
+            return Answer::Done;
+        }
+        self.turn = Turn::Stays(lock, GLANCES, heeds);
+        Answer::Again
+    }
+
+    /// Takes the lock for which it was told to back off, once it has.
+    pub(crate) fn lock_slow(&mut self, lock: u8, heeds: bool) -> Answer
+        requires keeps { Keeps self.old }
+        ensures keeps { Keeps self.new }
+        ensures answer { IsSlowAnswer (situation_of self.old) lock heeds result (situation_of self.new) }
+    {
+        if !self.rests() {
+            return Answer::Busy;
+        }
+        if self.told != Some(lock) || !self.held.is_empty() {
+            return Answer::Invalid;
+        }
+        self.lock(lock, heeds)
+    }
+}

@@ -1,0 +1,95 @@
+//! What no clause says: that calls come to their ends, and who is told what where two desks meet. One thread has both.
+use crate::desk::Desk;
+use crate::opening::{OpenFault, open};
+use crate::turn::Answer;
+use std::alloc::{AllocError, Global};
+use std::process::Abort;
+use std::test::Fail;
+use ww_queue::Kind;
+
+/// Two desks of a world of two locks, each of which may begin two contexts.
+fn two(alloc: Global, kind: Kind) -> Result<(Desk, Desk), AllocError> {
+    let Ok(mut desks) = open(alloc, kind, 2, 2, 2) else {
+        return Err(AllocError);
+    };
+    let one = desks.pop().ok_or(AllocError)?;
+    let zero = desks.pop().ok_or(AllocError)?;
+    Ok((zero, one))
+}
+
+/// The turns of a call until it ends, or sleeps, or has made many.
+fn turned(desk: &mut Desk, first: Answer) -> Answer {
+    let mut answer = first;
+    for _ in 0..100u32 {
+        match answer {
+            Answer::Again | Answer::Stays => answer = desk.go_on(),
+            _ => break,
+        }
+    }
+    answer
+}
+
+/// Each holds a lock and wants the other's: the younger one backs off, and takes that lock in the slow way.
+fn meets<R: Abort>(rt: &R, zero: &mut Desk, one: &mut Desk) {
+    assert!(rt; zero.begin() == Answer::Done && one.begin() == Answer::Done);
+    assert!(rt; zero.lock(0, false) == Answer::Done && one.lock(1, false) == Answer::Done);
+    let answer = zero.lock(1, false);
+    assert!(rt; turned(zero, answer) == Answer::Sleeps);
+    assert!(rt; zero.unlock_all() == Answer::Busy && zero.end() == Answer::Busy);
+    let answer = one.lock(0, false);
+    assert!(rt; turned(one, answer) == Answer::Deadlk(1));
+    assert!(rt;
+        one.lock(0, false) == Answer::Invalid && one.lock_slow(0, false) == Answer::Invalid
+    );
+    assert!(rt; one.unlock(0) == Answer::Invalid && one.lock(1, false) == Answer::Already);
+    let answer = one.unlock_all();
+    assert!(rt; turned(one, answer) == Answer::Done);
+    assert!(rt; one.take_wakes()[0] && !one.take_wakes()[0]);
+    assert!(rt; one.lock_slow(1, false) == Answer::Invalid);
+    assert!(rt; zero.go_on() == Answer::Done && zero.done() == Answer::Done);
+    assert!(rt; zero.done() == Answer::Invalid && zero.end() == Answer::Invalid);
+    let answer = one.lock_slow(0, true);
+    assert!(rt; turned(one, answer) == Answer::Sleeps);
+}
+
+/// The wait is called off, and nobody waits any more.
+fn is_called_off<R: Abort>(rt: &R, zero: &mut Desk, one: &mut Desk) {
+    assert!(rt; zero.cancel(1) == Answer::Done && zero.cancel(1) == Answer::Already);
+    assert!(rt; zero.cancel(16) == Answer::Invalid && zero.take_wakes()[1]);
+    let answer = one.go_on();
+    assert!(rt; turned(one, answer) == Answer::Interrupted(0));
+    assert!(rt; one.go_on() == Answer::Invalid && one.try_lock(0) == Answer::Busy);
+    assert!(rt; one.end() == Answer::Done && one.is_idle());
+    assert!(rt; zero.unlock_all() == Answer::Done && zero.end() == Answer::Done && zero.is_idle());
+    assert!(rt; zero.try_lock(0) == Answer::Done && zero.lock(1, false) == Answer::Invalid);
+    assert!(rt;
+        !zero.is_idle() && zero.begin() == Answer::Invalid && zero.unlock(0) == Answer::Done
+    );
+    assert!(rt; zero.begin() == Answer::Done && zero.end() == Answer::Done);
+    assert!(rt; zero.begin() == Answer::NoSpace);
+}
+
+#[test]
+fn two_desks_meet(rt: HostRuntime) -> Result<(), Fail> {
+    for kind in [Kind::WoundWait, Kind::WaitDie] {
+        let (mut zero, mut one) = two(rt.alloc(), kind)?;
+        meets(&rt, &mut zero, &mut one);
+        is_called_off(&rt, &mut zero, &mut one);
+    }
+    Ok(())
+}
+
+#[test]
+fn a_world_has_its_size(rt: HostRuntime) -> Result<(), Fail> {
+    let alloc = rt.alloc();
+    for (locks, seats) in [(0, 1), (65, 1), (1, 0), (1, 17)] {
+        assert!(rt;
+            matches!(
+                open(alloc, Kind::WaitDie, locks, seats, 1),
+                Err(OpenFault::BadSize)
+            )
+        );
+    }
+    assert!(rt; matches!(open(alloc, Kind::WaitDie, 64, 16, 1), Ok(desks) if desks.len() == 16));
+    Ok(())
+}

@@ -1,0 +1,46 @@
+//! Where a call stands that is made in turns, and what a turn answers.
+
+/// Where a call of a desk stands.
+#[derive(Clone, Copy, Debug, PartialEq, Eq)]
+pub enum Turn {
+    /// Between two calls.
+    Rests,
+    /// It has just tried this lock in vain, and stays away from it for so many glances at most; whether its wait may be
+    /// called off.
+    Stays(u8, u8, bool),
+    /// Outside the guard of a lock that it wants: whether it stands in its wait list, and whether its wait may be called
+    /// off.
+    Wants(u8, bool, bool),
+    /// Inside that guard: whether it stands in the list, whether it stood there as it went inside, and whether its wait may
+    /// be called off.
+    Looks(u8, bool, bool, bool),
+    /// It gives this lock back, and is outside its guard.
+    Gives(u8),
+    /// It gives this lock back, and is inside its guard.
+    Lets(u8),
+}
+
+/// What a call of a desk, or a further turn of it, came to.
+#[derive(Clone, Copy, Debug, PartialEq, Eq)]
+pub enum Answer {
+    /// The call is at its end, and did what it is for.
+    Done,
+    /// It wants another turn, at once.
+    Again,
+    /// It wants another turn after some pauses: the lock that it wants has an owner.
+    Stays,
+    /// It wants another turn once somebody has woken the seat.
+    Sleeps,
+    /// Another call is on its way; of a trylock also that somebody has the lock or waits for it.
+    Busy,
+    /// The call doesn't fit what the desk is at, or there is no such lock.
+    Invalid,
+    /// The lock is held already; of a cancel, that one is pending already.
+    Already,
+    /// All contexts that the desk might begin were begun.
+    NoSpace,
+    /// All locks are to be given back, for an older context of this stamp.
+    Deadlk(u64),
+    /// This seat called the wait off.
+    Interrupted(u8),
+}
