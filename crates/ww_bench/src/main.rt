@@ -2,8 +2,9 @@
 //! `transacts`), the kind of the locks (`wound-wait` or `wait-die`) and six numbers: how many threads there are, how many
 //! nodes a transaction takes, how many nodes there are, how many transactions each thread has, for how many pauses of the
 //! processor each of `works` holds its locks, and how often all of them are timed. It writes a line for each time:
-//! nanoseconds, back-offs, and how many transactions did what they are to do; and of `works` the nanoseconds of a thread
-//! in the mean, and those of the longest transaction, for others 0 twice.
+//! nanoseconds, back-offs, and how many transactions did what they are to do; of `works` the nanoseconds of a thread
+//! in the mean, and those of the longest transaction, for others 0 twice; and how the threads waited: first tries that
+//! were lost, looks at a lock, and sleeps.
 //! Where nothing is to be timed it runs each load once and writes the third number alone, which is the same each time.
 //! Its status is 2 where it doesn't know a word, or has too few or too many.
 #![tactic(auto)]
@@ -75,10 +76,10 @@ fn main(rt: HostRuntime) -> io::Result<ExitCode> {
     }
     for _ in 0..times {
         let told = go(&rt, rt.alloc(), &load)?;
-        println!(rt;
-            "{} {} {} {} {}",
-            told.nanoseconds, told.back_offs, told.done, told.mean, told.longest
-        )?;
+        let waited = told.waited;
+        print!(rt; "{} {} {} ", told.nanoseconds, waited.back_offs, told.done)?;
+        print!(rt; "{} {} ", told.mean, told.longest)?;
+        println!(rt; "{} {} {}", waited.lost, waited.looks, waited.sleeps)?;
     }
     Ok(ExitCode::SUCCESS)
 }

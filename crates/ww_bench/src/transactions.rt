@@ -1,5 +1,4 @@
-//! One transaction of a load, by the method of the fixed list, with its back-offs counted, which no call of the library
-//! tells of itself; and one by `transact`.
+//! One transaction of a load, by the method of the fixed list; and one by `transact`.
 
 ghost use Rattle.std.specs.Prelude.{◌≡◌, ◌<◌, length, IsTrue, IfOk, IfErr};
 ghost use Rattle.ww_lock.specs.Holding.{IsAtHome};
@@ -44,25 +43,16 @@ fn take_in_turn<R: Wait>(
     Ok(acquiring)
 }
 
-/// Takes the locks of these nodes, and counts how often it has to back off.
+/// Takes the locks of these nodes.
 #[inline(always)]
-fn take_all<R: Wait>(
-    rt: &R,
-    world: &World,
-    mut acquiring: Acquiring,
-    list: &[u8],
-    back_offs: &mut u64,
-) -> Acquiring
+fn take_all<R: Wait>(rt: &R, world: &World, mut acquiring: Acquiring, list: &[u8]) -> Acquiring
     requires home { IsAtHome acquiring world.now }
     ensures home { IsAtHome result world.now }
 {
     for _ in rt.forever() {
         acquiring = match take_in_turn(rt, world, acquiring, list) {
             Ok(all) => return all,
-            Err(backoff) => {
-                *back_offs = back_offs.saturating_add(1);
-                backoff.unlock_all(rt, world).lock_slow(rt, world)
-            }
+            Err(backoff) => backoff.back_off(rt, world),
         };
     }
     unreachable!()
@@ -90,7 +80,6 @@ pub(crate) fn look<R: Wait, const READS: bool>(
     world: &World,
     pass: Pass,
     list: &[u8],
-    back_offs: &mut u64,
 ) -> (Pass, bool)
     requires home { IsAtHome pass world.now }
     ensures home { IsAtHome result.0 world.now }
@@ -99,7 +88,7 @@ pub(crate) fn look<R: Wait, const READS: bool>(
         Ok(acquiring) => acquiring,
         Err(pass) => return (pass, false),
     };
-    let acquiring = take_all(rt, world, acquiring, list, back_offs);
+    let acquiring = take_all(rt, world, acquiring, list);
     let is_read = !READS || read_all(world, &acquiring, list);
     (acquiring.unlock_all(rt, world).fini(world), is_read)
 }
@@ -112,7 +101,6 @@ pub(crate) fn work<R: Wait>(
     pass: Pass,
     list: &[u8],
     pauses: u32,
-    back_offs: &mut u64,
 ) -> (Pass, bool)
     requires home { IsAtHome pass world.now }
     ensures home { IsAtHome result.0 world.now }
@@ -121,7 +109,7 @@ pub(crate) fn work<R: Wait>(
         Ok(acquiring) => acquiring,
         Err(pass) => return (pass, false),
     };
-    let acquiring = take_all(rt, world, acquiring, list, back_offs);
+    let acquiring = take_all(rt, world, acquiring, list);
     let is_read = read_all(world, &acquiring, list);
     for _ in 0..pauses {
         hint::spin_loop();
@@ -155,14 +143,7 @@ fn commit<R: Wait>(rt: &R, world: &World, mut done: Done, txn: Txn) -> (Pass, bo
 }
 
 /// Takes the locks of these nodes, commits a transaction on them and gives all back. Tells whether it was committed.
-pub(crate) fn add<R: Wait>(
-    rt: &R,
-    world: &World,
-    pass: Pass,
-    list: &[u8],
-    txn: Txn,
-    back_offs: &mut u64,
-) -> (Pass, bool)
+pub(crate) fn add<R: Wait>(rt: &R, world: &World, pass: Pass, list: &[u8], txn: Txn) -> (Pass, bool)
     requires home { IsAtHome pass world.now }
     ensures home { IsAtHome result.0 world.now }
 {
@@ -170,11 +151,11 @@ pub(crate) fn add<R: Wait>(
         Ok(acquiring) => acquiring,
         Err(pass) => return (pass, false),
     };
-    let acquiring = take_all(rt, world, acquiring, list, back_offs);
+    let acquiring = take_all(rt, world, acquiring, list);
     commit(rt, world, acquiring.done(), txn)
 }
 
-/// Makes a transaction in one call, which doesn't tell of back-offs. Tells whether it was committed.
+/// Makes a transaction in one call. Tells whether it was committed.
 pub(crate) fn transact<R: Wait>(rt: &R, world: &World, pass: Pass, txn: Txn) -> (Pass, bool)
     requires home { IsAtHome pass world.now }
     ensures home { IsAtHome result.0 world.now }
