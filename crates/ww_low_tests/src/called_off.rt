@@ -15,7 +15,7 @@ use std::process::Abort;
 use std::sync::Wait;
 use std::test::Fail;
 use ww_queue::Kind;
-use ww_seat::{Look, cancel, give, try_take, visit};
+use ww_seat::{Look, cancel, give_at_once, try_take, visit};
 use ww_table::{Board, Seat16};
 
 const KINDS: [Kind; 2] = [Kind::WoundWait, Kind::WaitDie];
@@ -29,7 +29,7 @@ fn ask<R: Abort>(rt: &R, board: &mut Board, seat: &mut Seat16, kind: Kind)
     ensures may { MayLook board.new kind none 0 false seat.new }
 {
     start(rt, board, seat, kind, [264, 0]);
-    if try_take(seat, board, kind, 0).is_some() {
+    if try_take(seat, board, 0).is_some() {
         panic!(rt; "the lock was taken");
     }
 }
@@ -70,7 +70,7 @@ fn stop<R: Wait + Abort>(
     requires lock { lock < size_of board.now }
     ensures { (o : List Bool) → Owns board.now kind o seat.old → Holds board.now kind o seat.new }
 {
-    match visit(rt, seat, board, kind, lock, is_later, true, &[]) {
+    match visit(rt, seat, board, lock, is_later, true, &[]) {
         Look::Interrupted(by) => by,
         Look::Locked(_) | Look::Deadlk(_) | Look::Waits => panic!(rt; "it is called off"),
     }
@@ -89,9 +89,11 @@ fn taken_at_once<R: Wait + Abort>(
     requires stopped { Holds board.old kind none stopped.old }
 {
     compare(rt, board, [264, 0], 0, [2, 0]);
-    give(rt, owner, board, 0, &[]);
+    if !give_at_once(owner, board, 0) {
+        panic!(rt; "nobody waits for the lock");
+    }
     compare(rt, board, [0, 0], 0, [2, 0]);
-    if try_take(stopped, board, kind, 0).is_none() {
+    if try_take(stopped, board, 0).is_none() {
         panic!(rt; "the lock was free");
     }
     compare(rt, board, [528, 0], 0, [2, 0]);

@@ -15,7 +15,7 @@ use std::process::Abort;
 use std::sync::Wait;
 use std::test::Fail;
 use ww_queue::Kind;
-use ww_seat::{Look, begin, end, give, try_take, visit};
+use ww_seat::{Look, begin, end, give_waited, try_take, visit};
 use ww_table::{Board, Seat16};
 
 /// The words that two locks and two seats use: owners, guards, signs, the stamp word and the front word.
@@ -128,7 +128,7 @@ pub(crate) fn hold<R: Abort>(
     ensures holds { Holds board.new kind (just lock) seat.new }
 {
     start(rt, board, seat, kind, before);
-    let Some(_) = try_take(seat, board, kind, lock) else {
+    let Some(_) = try_take(seat, board, lock) else {
         panic!(rt; "the lock was free")
     };
 }
@@ -148,7 +148,7 @@ pub(crate) fn wait<R: Wait + Abort>(
     requires lock { lock < size_of board.now }
     ensures { (o : List Bool) → Owns board.now kind o seat.old → MayLook board.now kind o lock true seat.new }
 {
-    match visit(rt, seat, board, kind, lock, is_later, heeds, &[]) {
+    match visit(rt, seat, board, lock, is_later, heeds, &[]) {
         Look::Waits => {}
         Look::Locked(_) | Look::Deadlk(_) | Look::Interrupted(_) => panic!(rt; "it has to wait"),
     }
@@ -167,7 +167,7 @@ pub(crate) fn back_off<R: Wait + Abort>(
     requires lock { lock < size_of board.now }
     ensures { (o : List Bool) → Owns board.now kind o seat.old → Holds board.now kind o seat.new }
 {
-    match visit(rt, seat, board, kind, lock, is_later, false, &[]) {
+    match visit(rt, seat, board, lock, is_later, false, &[]) {
         Look::Deadlk(met) => met,
         Look::Locked(_) | Look::Interrupted(_) | Look::Waits => panic!(rt; "it has to die"),
     }
@@ -178,7 +178,7 @@ fn take<R: Wait + Abort>(rt: &R, board: &Board, seat: &mut Seat16, kind: Kind, l
     requires may { (o : List Bool) × MayLook board.now kind o lock true seat.old }
     requires lock { lock < size_of board.now }
 {
-    match visit(rt, seat, board, kind, lock, true, false, &[]) {
+    match visit(rt, seat, board, lock, true, false, &[]) {
         Look::Locked(_) => {}
         Look::Deadlk(_) | Look::Interrupted(_) | Look::Waits => panic!(rt; "the lock is free"),
     }
@@ -219,7 +219,7 @@ fn hand_back<R: Wait + Abort>(
     ensures holds { Holds board.new kind none younger.new }
 {
     compare(rt, board, [264, 529], sign, [2, 0]);
-    give(rt, younger, board, 1, &[]);
+    give_waited(rt, younger, board, 1, &[]);
     compare(rt, board, [264, 1], sign, [2, 0]);
     take(rt, board, older, kind, 1);
     compare(rt, board, [264, 264], sign, [2, 0]);
@@ -317,7 +317,7 @@ pub(crate) fn hand_over<R: Wait>(
     requires size { size_of board.now ≡ 2 }
     requires owner { Holds board.now kind (just 0) owner.old }
 {
-    give(rt, owner, board, 0, wakers);
+    give_waited(rt, owner, board, 0, wakers);
 }
 
 /// A waiter asks for the lock at its second look. So the lock is handed to it, and it is woken: else this would never

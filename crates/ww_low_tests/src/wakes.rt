@@ -48,7 +48,7 @@ fn miss<R: Abort>(rt: &R, board: &Board, seat: &mut Seat16, kind: Kind)
     requires holds { Holds board.now kind none seat.old }
     ensures { MayLook board.now kind none 0 false seat.new }
 {
-    if try_take(seat, board, kind, 0).is_some() {
+    if try_take(seat, board, 0).is_some() {
         panic!(rt; "the lock was taken");
     }
 }
@@ -87,7 +87,7 @@ fn look<R: Wait>(
     requires may { (o : List Bool) × MayLook board.now kind o lock false seat.old }
     requires lock { lock < size_of board.now }
 {
-    visit(rt, seat, board, kind, lock, false, false, wakers)
+    visit(rt, seat, board, lock, false, false, wakers)
 }
 
 /// The owner waits for another lock, and has to give way to an older context that comes to wait for it.

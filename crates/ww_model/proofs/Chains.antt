@@ -13,7 +13,7 @@ use Rattle.ww_model.specs.declared.state.Holder.TheVariants.{Nobody, Taken, Hand
 use Rattle.ww_model.specs.State.{State}
 use Rattle.ww_model.specs.Lawful.{IsLawful}
 use Rattle.ww_model.specs.Run.{Reached}
-use Rattle.ww_model.specs.Waits.{WaitsAt, WaitsFor, Leads, IsCycle, IsNoneOf, Differ, IsOneOf, IsRing, IsLeastRing, Finds}
+use Rattle.ww_model.specs.Waits.{WaitsAt, WaitsFor, Leads, IsCycle, IsNoneOf, Differ, IsOneOf, IsRing, Finds}
 use Rattle.ww_model.specs.Laws.{OfLawful, EachWaitsForOne, RingsAreApart}
 use Rattle.ww_model.specs.Least.{IsRingFrom}
 use Rattle.ww_model.proofs.Leaving.{waiters_are_seats}
@@ -26,10 +26,6 @@ use Rattle.ww_model.proofs.Ranges.{owners_are_seats}
 pub one_of_more : (r : List ℕ) (h x : ℕ) → IsOneOf x (r ++ h ∷ []) → IsOneOf x r ⊎ (x ≡ h)
 one_of_more [] h x one = ⊎_elim inr (λ a. absurd a) one
 one_of_more (y ∷ ys) h x one = ⊎_elim (λ is. inl (inl is)) (λ later. ⊎_elim (λ old. inl (inr old)) inr (one_of_more ys h x later)) one
-
-pub none_of : (a : ℕ) (r : List ℕ) → ¬ IsOneOf a r → IsNoneOf a r
-none_of a [] new = tt
-none_of a (b ∷ bs) new = (λ is. new (inl is), none_of a bs (λ later. new (inr later)))
 
 pub not_one_of : (a : ℕ) (r : List ℕ) → IsNoneOf a r → IsOneOf a r → ⊥
 not_one_of a [] none one = one
@@ -270,10 +266,6 @@ pub owned_within : (owners : List Holder) (n b : ℕ) → (get_or owners n Nobod
 owned_within owners n b owned = ⊎_elim (λ within. within) (λ past. let free = get_or_past owners n Nobody past in
     absurd (⊎_elim (λ is. nobody_owns b (inl (sym free ∙ is))) (λ is. nobody_owns b (inr (sym free ∙ is))) owned)) (cases_lt n (length owners))
 
-pub waiting_within : (queues : List (List Entry)) (n s : ℕ) → Stands (get_or queues n []) s → n < length queues
-waiting_within queues n s there = ⊎_elim (λ within. within)
-    (λ past. absurd (subst (λ (q : List Entry). Stands q s) (get_or_past queues n [] past) there).1) (cases_lt n (length queues))
-
 pub awaited_told : (c : State) (a n : ℕ) (o : Option ℕ) → Stands (c.queue n) a → c.guard n ≢ suc a →
     Finds (λ b. (a ≢ b) × ((c.owner n ≡ Taken b) ⊎ (c.owner n ≡ Handed b))) o → Finds (λ b. WaitsAt c a b n) o
 awaited_told c a n None stands outside told = λ b w. told b (w.other, w.owner)
@@ -290,20 +282,6 @@ tells_one s (y ∷ ys) one = true_or (y == s) (list_any (λ x. x == s) ys) (⊎_
 pub first_of_ring : (c : State) → Reached c → (ring : List ℕ) → IsRing c ring → (a : ℕ) × (a < c.seats) × IsOneOf a ring
 first_of_ring c run [] ring = absurd ring.cycle
 first_of_ring c run (a ∷ bs) ring = (a, (let w = reaches_waits c a a (bs, ring.cycle) in waiter_is_seat c run a w.0 w.1), inl refl)
-
-pub ring_members : (c : State) → Reached c → (ring : List ℕ) (a : ℕ) → IsRing c ring → IsOneOf a ring → a < c.seats
-ring_members c run ring a is one = let w = reaches_waits c a a (cycle_returns c ring a is.cycle one) in waiter_is_seat c run a w.0 w.1
-
--- the first seat from which there is a ring is the least of all rings
-pub least_ring : (c : State) → Reached c → (first : ℕ) (ring : List ℕ) → IsRingFrom c first ring →
-    ((k : ℕ) → k < first → (other : List ℕ) → ¬ (IsRing c other × IsOneOf k other)) → IsLeastRing c ring
-least_ring c run first ring from lesser = record {
-  first = first;
-  rest = from.rest;
-  parts = from.parts;
-  ring_is = from.ring_is;
-  least = λ other a is one. ⊎_elim (λ less. absurd (lesser a less other (is, one))) (λ more. more) (cases_lt a first);
-}
 
 -- one lock more has been looked at
 pub not_there : (c : State) (a n : ℕ) → ((m b : ℕ) → m < n → ¬ WaitsAt c a b m) → ((b : ℕ) → ¬ WaitsAt c a b n) → (m b : ℕ) → m < n + 1 → ¬ WaitsAt c a b m

@@ -9,12 +9,12 @@ use Rattle.ww_queue.specs.declared.kind.Kind.{Kind}
 use Rattle.ww_queue.specs.declared.kind.Kind.TheVariants.{WoundWait, WaitDie}
 use Rattle.ww_queue.specs.declared.entry.Entry.{Entry}
 use Rattle.ww_queue.specs.Entry.{is_older, IsOlder, is_holding, IsHolding}
-use Rattle.ww_queue.specs.Queue.{Has, Once, Ascends}
+use Rattle.ww_queue.specs.Queue.{Has}
 use Rattle.ww_queue.specs.Rules.{must_die, taker_of, least_of, holding_stamp, least_holding, owed_wound, owed_death, owed_signs}
 use Rattle.ww_queue.specs.Laws.{IsLeastHolding, IsWounded}
 use Rattle.ww_queue.proofs.Outcomes.{by_test, true_picks, false_picks, other_number, number_other, older_true, true_older, holding_true, true_holding}
 use Rattle.ww_queue.proofs.Members.{filter_map_from, filter_map_has}
-use Rattle.ww_queue.proofs.Deaths.{must_die_why, dies_why, death_is_of_older, death_is_of_context}
+use Rattle.ww_queue.proofs.Deaths.{must_die_why}
 
 pair_why : (o : Option ℕ) (s seat k : ℕ) → option_map {U = ℕ × ℕ} (λ n. (s, n)) o ≡ Some (seat, k) → (s ≡ seat) × (o ≡ Some k)
 pair_why None s seat k is = absurd cc
@@ -154,17 +154,3 @@ owed_once WoundWait owner q me seat k m h h' =
     let one = least_is q k (wounded_why owner q me seat k h).oldest in let other = least_is q m (wounded_why owner q me seat m h').oldest in cc
 owed_once WaitDie owner q me seat k m h h' =
     let one = (signed_why owner q me seat k h).1 in let other = (signed_why owner q me seat m h').1 in cc
-
--- in Wait-Die who is signed is a waiter that holds locks, and the stamp is that of an older context
-pub signed_waiter : (owner : Owner) (q : List Entry) (me seat k : ℕ) → Once q → Ascends q → Has (owed_signs WaitDie owner q me) (seat, k)
-    → (e : Entry) × Has q e × (e.seat ≡ seat) × IsHolding e × IsOlder k e.stamp
-signed_waiter owner q me seat k once order h =
-    let dies = (signed_why owner q me seat k h).1 in
-    let own = dies_why owner q seat 0 k dies in
-    let e = own.0 in
-    (e, own.1, own.2, own.3, death_is_of_older owner q e 0 k once order own.1 (subst (λ s. must_die WaitDie owner q s 0 ≡ Some k) (sym own.2) dies))
-
--- the stamp of a sign is that of a context
-pub owed_some : (kind : Kind) (owner : Owner) (q : List Entry) (me seat k : ℕ) → Has (owed_signs kind owner q me) (seat, k) → 0 < k
-owed_some WoundWait owner q me seat k h = (wounded_why owner q me seat k h).older.0
-owed_some WaitDie owner q me seat k h = death_is_of_context WaitDie owner q seat 0 k (signed_why owner q me seat k h).1

@@ -17,10 +17,9 @@ use Rattle.ww_plain.specs.Transaction.{add, transaction_of, HasLength}
 use Rattle.ww_plain.specs.Meaning.{raised, graph_after, done}
 use Rattle.ww_plain.proofs.Members.{is_among-head, is_among-tail, among_cons, different_cons, different_none, not_among_from_others}
 use Rattle.ww_plain.proofs.Frames.{is_among-distinct_of}
-use Rattle.ww_view.specs.declared.view.View.{View}
-use Rattle.ww_view.specs.View.{owns, IsAway, IsBare}
+use Rattle.ww_view.specs.View.{owns, IsBare}
 use Rattle.ww_view.specs.May.{MayFast}
-use Rattle.ww_view.specs.Made.{begun, ended as view_ended, fast_missed, fast_given}
+use Rattle.ww_view.specs.Made.{fast_given}
 use Rattle.ww_rule.specs.declared.cells.Cell.{Cell}
 use Rattle.ww_rule.specs.declared.cells.Cell.TheVariants.{Content}
 use Rattle.ww_rule.specs.Rule.{Sat, first_part}
@@ -29,12 +28,11 @@ use Rattle.ww_table.specs.declared.board.Board.{Board}
 use Rattle.ww_table.specs.declared.seat.Seat16.{Seat16}
 use Rattle.ww_table.specs.Seat.{IsSeated, size_of}
 use Rattle.ww_rule.specs.Out.{AreOthers, slot_of}
-use Rattle.ww_rule.specs.Steps.{MayDraw, MayEnd, MayPlace, known, graph_of, drawing, taking, giving, knowing, placing, seat_of}
+use Rattle.ww_rule.specs.Steps.{MayPlace, known, graph_of, taking, giving, placing, seat_of}
 use Rattle.ww_rule.proofs.Places.{graph_at, renewed_long, renewed_at}
 use Rattle.ww_rule.proofs.Seats.{bare_first}
 use Rattle.ww_table.specs.Made.{IsMade}
-use Rattle.ww_rounds.specs.Resting.{IsResting}
-use Rattle.ww_rounds.specs.Standing.{Stage, resting, fresh, working, Deeds, IsAt, count_of, IsHeld, Stands, Did, at_first, IsUnused, began, took, gave, committed, ended, CanTake, raised_one, HasRaised}
+use Rattle.ww_rounds.specs.Standing.{Stage, resting, fresh, working, Deeds, IsAt, count_of, IsHeld, Stands, Did, at_first, IsUnused, took, gave, committed, CanTake, raised_one, HasRaised}
 use Rattle.ww_rounds.proofs.Rounds.{all_from}
 use Rattle.ww_rounds.proofs.Slots.{slot_here, slot_else, count_here, count_else, one_less, same_count, others_long, others_had, others_else}
 
@@ -77,43 +75,6 @@ module _ (size : ℕ) (d : Deeds) (m : Sat) (s : Stands size d m) where
 
   pub nothing_out : d.locks ≡ [] → m.1 ≡ []
   nothing_out none = none_of m.1 (s.out ∙ ap length none)
-
-  -- ---- draw and end
-
-  pub may_draw : d.stage ≡ resting → d.locks ≡ [] → d.draws + 1 < 2 ^ 32 → MayDraw m.0.part
-  may_draw rest none fewer = record { away = s.away; no_context = subst (λ (t : Stage). IsAt t m.0.part.core) rest s.stage; bare = bare none; fewer = let e = s.draws in omega arith }
-
-  -- another view and count of draws, with the same locks
-  keeps_locks : (t : Stage) (v : View) (drawn count : ℕ) → v.owned ≡ m.0.part.core.owned → v.who ≡ m.0.part.core.who → IsAway v → IsAt t v → drawn ≡ count
-      → Stands size (record d { draws = count; stage = t }) (record (m.0) { part = record (m.0.part) { core = v; counts = record (m.0.part.counts) { draws = drawn } } }, m.1)
-  keeps_locks t v drawn count same who away stage draws = record {
-    few = s.few;
-    away = away;
-    who = who ∙ s.who;
-    draws = draws;
-    commits = s.commits;
-    stage = stage;
-    owned = ap (λ (o : List Bool). length o) same ∙ s.owned;
-    held = s.held;
-    owns = λ k. ap (λ (o : List Bool). get_or o k false) same ∙ s.owns k;
-    out = s.out;
-    once = s.once;
-    nodes = λ k e. let h = s.nodes k e in record { low = h.low; node = h.node; named = h.named; out = h.out };
-  }
-
-  pub drew_stands : (stamp : ℕ) → 0 < stamp → Stands size (began d) (drawing m.0 stamp, m.1)
-  drew_stands stamp pos = keeps_locks fresh (begun m.0.part.core stamp) (m.0.part.counts.draws + 1) (d.draws + 1) refl refl s.away (pos, refl) (ap (λ (n : ℕ). n + 1) s.draws)
-
-  context_at : (t : Stage) → t ≢ resting → IsAt t m.0.part.core → 0 < m.0.part.core.stamp
-  context_at resting isnt e = absurd (isnt refl)
-  context_at fresh isnt e = e.0
-  context_at working isnt e = e
-
-  pub may_end : d.stage ≢ resting → d.locks ≡ [] → MayEnd m.0.part.core
-  may_end isnt none = record { away = s.away; context = context_at d.stage isnt s.stage; bare = bare none }
-
-  pub ended_stands : Stands size (ended d) (knowing m.0 (view_ended m.0.part.core), m.1)
-  ended_stands = keeps_locks resting (view_ended m.0.part.core) m.0.part.counts.draws d.draws refl refl s.away refl s.draws
 
   -- ---- take
 
@@ -165,14 +126,6 @@ module _ (size : ℕ) (d : Deeds) (m : Sat) (s : Stands size d m) where
           out = slot_else n (Content x) m.1 k ne ∙ h.out;
         });
   }
-
-  stage_missed : (t : Stage) → IsAt t m.0.part.core → IsAt t (fast_missed m.0.part.core)
-  stage_missed resting e = e
-  stage_missed fresh e = e
-  stage_missed working e = e
-
-  pub missed_stands : Stands size d (knowing m.0 (fast_missed m.0.part.core), m.1)
-  missed_stands = keeps_locks d.stage (fast_missed m.0.part.core) m.0.part.counts.draws d.draws refl refl s.away (stage_missed d.stage s.stage) s.draws
 
   -- ---- give
 
@@ -343,6 +296,7 @@ pub reserved_seated : (table : TableId) (s s' : Seat16) → IsSeated table s →
 reserved_seated table s s' was is same = subst (IsSeated table) (sym is) (record {
   home = was.home;
   seated = was.seated;
+  kind = was.kind;
   who = was.who;
   few = was.few;
   stamp = was.stamp;
@@ -390,20 +344,6 @@ new_unused kind graph count board seats few made = all_from (IsUnused board) sea
     stands = subst (Stands (size_of board) (at_first k)) (sym new.me) (first_stands (size_of board) board.table.shared.key.kind k few);
   },
 ))
-
--- such a seat rests
-pub unused_rests : (board : Board) (s : Seat16) → IsUnused board s → IsResting board s
-unused_rests board s u = let st = u.1.stands in record {
-  seated = u.1.seated;
-  rests = record {
-    away = st.away;
-    no_context = st.stage;
-    bare = bare (size_of board) (at_first u.0) s.seat.me st refl;
-    out = nothing_out (size_of board) (at_first u.0) s.seat.me st refl;
-    owned = st.owned;
-    held = st.held;
-  };
-}
 
 -- and has its own number
 pub unused_did : (board : Board) (s : Seat16) → IsUnused board s → Did board (at_first s.who) s

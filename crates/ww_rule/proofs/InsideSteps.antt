@@ -31,7 +31,7 @@ use Rattle.ww_view.specs.View.{Knows, IsBare, IsQuiet, IsAway}
 use Rattle.ww_view.specs.May.{MayEnter, MayExit, MayJoin, MayTake, MayGive, MayAsk, MayDie, MaySign, MayClear, MayHeed, MayStop}
 use Rattle.ww_view.specs.Made as made
 use Rattle.ww_model.proofs.Ranges.{few_stamps}
-use Rattle.ww_view.proofs.Inside.{mine_look, mine_lost_sign, mine_read, mine_read_none, mine_glanced, mine_stepped}
+use Rattle.ww_view.proofs.Inside.{mine_look, mine_lost_sign, mine_read, mine_read_none, mine_glanced, mine_found_pending, mine_shut_out, mine_stepped}
 use Rattle.ww_view.proofs.Written.{word_is_valid}
 use Rattle.ww_rule.specs.declared.cells.Cell.{Cell}
 use Rattle.ww_rule.specs.declared.cells.Cell.TheVariants.{Content, Line}
@@ -56,7 +56,7 @@ are_seats c run places n e has = let base = (reached_is_lawful c run).base in le
 enters_there : (key : Start) (slots id : ℕ) (me : Sat) (n new : ℕ) → n < length (first_graph key) → me.0.seated ≡ true → MayEnter me.0.part.core n → new ≡ suc me.0.part.core.who
     → Allows (Ruled key) slots id me (8 * n + 1) (λ x. either (eqb x 0) new x) (enters_to (step slots (8 * n + 1) 0 new none) me)
 enters_there key slots id me n new small seated may is = let v = me.0.part.core in
-    cas key slots id me (8 * n + 1) 0 new (made.stepped v) (enters_to (step slots (8 * n + 1) 0 new none) me) seated refl (λ m. refl) (λ c k. mine_stepped c v k)
+    cas key slots id me (8 * n + 1) 0 new (made.shut_out v) (enters_to (step slots (8 * n + 1) 0 new none) me) seated refl (λ m. refl) (λ c k. mine_shut_out c v k)
     (λ s r at hit. let q : List Entry = r.core.queue n in let l = low key s r id me at seated n small in (
       entering me.0 n q,
       takes (64 + n) (Line q),
@@ -242,7 +242,7 @@ stops_waiting key slots id me n o i old new at was is seated may valid = let wor
 
 cancels_there : (key : Start) (slots id : ℕ) (me : Sat) (u new : ℕ) → u < 16 → me.0.seated ≡ true → IsAway me.0.part.core → new ≡ me.0.part.core.who + 1
     → Allows (Ruled key) slots id me (512 + 8 * u + 1) (λ x. either (eqb x 0) new x) (cancels_to (step slots (512 + 8 * u + 1) 0 new none) me)
-cancels_there key slots id me u new low seated away is = cas key slots id me (512 + 8 * u + 1) 0 new me.0.part.core (cancels_to (step slots (512 + 8 * u + 1) 0 new none) me) seated refl (λ m. refl) (λ c k. k)
+cancels_there key slots id me u new low seated away is = cas key slots id me (512 + 8 * u + 1) 0 new (made.found_pending me.0.part.core) (cancels_to (step slots (512 + 8 * u + 1) 0 new none) me) seated refl (λ m. refl) (λ c k. mine_found_pending c me.0.part.core k)
     (λ s r at hit. (
       cancelling me.0 u,
       keeps,
@@ -361,11 +361,11 @@ clears key slots id me i is seated may s r deep at small = (
   refl,
 )
 
--- whatever the own sign says, the seat keeps its number, its context and its slots
-pub read_is : (slots i : ℕ) (me me' : Sat) (x : ℕ) → reads_to (step slots i 0 0 none) me x me' → (w : View) × (w.who ≡ me.0.part.core.who) × (w.stamp ≡ me.0.part.core.stamp) × (me' ≡ (knowing me.0 w, me.1))
+-- whatever the own sign says, the seat keeps its kind, its number, its context and its slots
+pub read_is : (slots i : ℕ) (me me' : Sat) (x : ℕ) → reads_to (step slots i 0 0 none) me x me' → (w : View) × (w.kind ≡ me.0.part.core.kind) × (w.who ≡ me.0.part.core.who) × (w.stamp ≡ me.0.part.core.stamp) × (me' ≡ (knowing me.0 w, me.1))
 read_is slots i me me' x told = let v : View = me.0.part.core in dite (ℕ_discrete x 0)
-    (λ e. dite (is_quiet? v) (λ quiet. (made.has_read v 0, refl, refl, told.1 e quiet)) (λ loud. (made.found_none v, refl, refl, told.2 e loud)))
-    (λ ne. (made.has_read v x, refl, refl, told.0 ne))
+    (λ e. dite (is_quiet? v) (λ quiet. (made.has_read v 0, refl, refl, refl, told.1 e quiet)) (λ loud. (made.found_none v, refl, refl, refl, told.2 e loud)))
+    (λ ne. (made.has_read v x, refl, refl, refl, told.0 ne))
 
 -- ---- the same of a list slot that was brought to the front, by the number and stamp that the seat keeps
 

@@ -2,13 +2,12 @@
 use Rattle.std.proofs.Common.{◌≡◌, ℕ, ◌+◌, eqb, true, false, Bool, List, [], ◌∷◌, ◌++◌, length, sym, refl, ap, ◌∙◌, subst, arith, Some, None, slice_get, length-append, ◌≢◌, eq-eqb, ne_eqb, ⊎_elim, ◌⊎◌, inl, inr}
 use Rattle.std.proofs.lemmas.Bool.Decides.{eqb_tells}
 use Rattle.std.specs.Bool.{if◌then◌else◌}
-use Rattle.ww_word.specs.declared.owner.Owner.{Owner}
 use Rattle.ww_word.specs.Owner.{IsValid, AreFlags}
 use Rattle.atomic_table.specs.Table.{rest}
 use Rattle.ww_queue.specs.declared.entry.Entry.{Entry}
 use Rattle.ww_queue.specs.Queue.{left}
 use Rattle.ww_model.specs.State.{waiting}
-use Rattle.ww_view.specs.Word.{given_word, rest_word}
+use Rattle.ww_view.specs.Word.{given_word}
 use Rattle.ww_rule.specs.declared.cells.Cell.{Cell}
 use Rattle.ww_rule.specs.declared.cells.Cell.TheVariants.{Line}
 use Rattle.ww_rule.specs.Rule.{Sat}
@@ -66,16 +65,6 @@ waiting_flags (e ∷ es) = inr (inl refl)
 
 pub others_long : (slots : List (ℕ × Cell)) (n : ℕ) (y : Cell) (others : List (ℕ × Cell)) → AreOthers slots n y others → length slots ≡ length others + 1
 others_long slots n y others a = let p = ap (λ (l : List (ℕ × Cell)). length l) a.parts in let q = ap (λ (l : List (ℕ × Cell)). length l) a.rest in let f = length-append a.front ((n, y) ∷ a.back) in let g = length-append a.back a.front in omega arith
-
--- ---- the owner word once a waiter has gone
-
-pub none_rest : (q : List Entry) (o : Owner) (flag : ℕ) → flag ≡ waiting q → flag ≡ 0 → record o { flags = 0 } ≡ rest_word q o
-none_rest [] o flag is none = refl
-none_rest (e ∷ es) o flag is none = absurd (omega arith)
-
-pub some_rest : (q : List Entry) (o : Owner) (flag : ℕ) → flag ≡ waiting q → flag ≢ 0 → o ≡ rest_word q o
-some_rest [] o flag is some = absurd (some is)
-some_rest (e ∷ es) o flag is some = refl
 
 -- ---- a slot that is out, where another was brought to the front
 

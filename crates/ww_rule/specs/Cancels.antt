@@ -4,7 +4,7 @@ use Rattle.atomic_table.specs.Table.{Step}
 use Rattle.ww_word.specs.declared.owner.Owner.{Owner}
 use Rattle.ww_word.specs.Owner.{packed}
 use Rattle.ww_view.specs.May.{MayStop}
-use Rattle.ww_view.specs.Made.{has_heeded, interrupted}
+use Rattle.ww_view.specs.Made.{found_pending, has_heeded, interrupted}
 use Rattle.ww_rule.specs.declared.cells.Cell.{Cell}
 use Rattle.ww_rule.specs.declared.cells.Sight.{Sight}
 use Rattle.ww_rule.specs.Layout.{owner_at, cancel_at}
@@ -13,16 +13,19 @@ use Rattle.ww_rule.specs.Steps.{knowing}
 use Rattle.ww_rule.specs.Guards.{lost}
 use Rattle.ww_rule.specs.Waiting.{tries_to}
 
--- ---- set_cancel: the cancel of a seat is set, if none of it is pending; else the seat is as it was
+-- ---- set_cancel: the cancel of a seat is set, if none of it is pending; else the seat counts that one was
 
 abbrev pub cancelling : Sight → ℕ → Sight
 cancelling v u = record v {
   part = record (v.part) { counts = record (v.part.counts) { cancelled = u ∷ v.part.counts.cancelled } };
 }
 
+abbrev pub finding_pending : Sight → Sight
+finding_pending v = knowing v (found_pending v.part.core)
+
 abbrev pub cancels_to : Step Cell → Sat → ℕ → Sat → Type 0
 cancels_to st m found m' = (u : ℕ) → st.word ≡ cancel_at u →
-    (found ≡ 0 → m' ≡ (cancelling m.0 u, m.1)) × (found ≢ 0 → m' ≡ m)
+    (found ≡ 0 → m' ≡ (cancelling m.0 u, m.1)) × (found ≢ 0 → m' ≡ (finding_pending m.0, m.1))
 
 -- ---- heed: the own cancel becomes 0, and if one was pending the seat has heeded it
 

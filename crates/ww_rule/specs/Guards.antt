@@ -7,7 +7,7 @@ use Rattle.ww_queue.specs.declared.entry.Entry.{Entry}
 use Rattle.ww_queue.specs.Queue.{Has, entry_of, Once, StandsNot}
 use Rattle.ww_view.specs.declared.view.View.{View}
 use Rattle.ww_view.specs.View.{owns}
-use Rattle.ww_view.specs.Made.{stepped, glanced, entered, exited, has_looked, entry_of_view}
+use Rattle.ww_view.specs.Made.{stepped, glanced, shut_out, entered, exited, has_looked, entry_of_view}
 use Rattle.ww_rule.specs.declared.cells.Cell.{Cell}
 use Rattle.ww_rule.specs.declared.cells.Cell.TheVariants.{Line}
 use Rattle.ww_rule.specs.declared.cells.Sight.{Sight}
@@ -35,9 +35,13 @@ pub record StandsAs (v : View) (n : ℕ) (q : List Entry) : Type 0 where
 abbrev pub entering : Sight → ℕ → List Entry → Sight
 entering v n q = knowing v (entered v.part.core n q)
 
+-- another seat is inside
+abbrev pub shutting_out : Sight → Sight
+shutting_out v = knowing v (shut_out v.part.core)
+
 abbrev pub enters_to : Step Cell → Sat → ℕ → Sat → Type 0
 enters_to st m found m' = (n : ℕ) → st.word ≡ guard_at n →
-    (found ≡ 0 → (q : List Entry) × AreSeats q × StandsAs m.0.part.core n q × (m' ≡ (entering m.0 n q, (list_at n, Line q) ∷ m.1))) × (found ≢ 0 → m' ≡ (lost m.0, m.1))
+    (found ≡ 0 → (q : List Entry) × AreSeats q × StandsAs m.0.part.core n q × (m' ≡ (entering m.0 n q, (list_at n, Line q) ∷ m.1))) × (found ≢ 0 → m' ≡ (shutting_out m.0, m.1))
 
 -- ---- exit: out of the guard, and the wait list goes home
 

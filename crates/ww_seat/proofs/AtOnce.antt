@@ -1,5 +1,5 @@
 -- A lock taken at once, by a seat that may have taken its sign back just before.
-use Rattle.std.proofs.Common.{◌≡◌, ℕ, ◌+◌, ◌<◌, Bool, true, false, List, ◌∷◌, length, get_or, sym, ap, ◌∙◌, subst, arith, ltb, ⊎_elim, inl, inr, true≢false}
+use Rattle.std.proofs.Common.{◌≡◌, ℕ, ◌+◌, ◌<◌, Bool, true, false, List, ◌∷◌, length, sym, ap, ◌∙◌, subst, arith, ltb, ⊎_elim, inl, inr, true≢false}
 use Rattle.std.proofs.lemmas.Bool.{ltb-true}
 use Rattle.std.proofs.lemmas.Bool.Decides.{leb_tells}
 use Rattle.ww_plain.specs.declared.node.Node.{Node}
@@ -12,7 +12,7 @@ use Rattle.ww_rule.specs.Rule.{Sat}
 use Rattle.ww_rule.specs.Out.{AreOthers, slot_of}
 use Rattle.ww_rule.specs.Steps.{taking}
 use Rattle.ww_seat.specs.Orderly.{IsOrderly}
-use Rattle.ww_seat.specs.Calls.{HoldsAsBefore, HasTaken}
+use Rattle.ww_seat.specs.Calls.{HasTaken}
 use Rattle.ww_seat.proofs.Slots.{slot_here, same_cell, others_had}
 use Rattle.ww_seat.proofs.Outside.{orderly_taken, orderly_brought, owner_of_first, bare_of_none}
 
@@ -45,7 +45,7 @@ taken_at_once size n y m won now was low lacks w r =
     let view : now.0 ≡ taking m.0 n y = ap (λ (z : Sat). z.0) r.now ∙ ap (λ (z : Sat). z.0) w.now ∙ ap (taking m.0 n) same in record {
       orderly = orderly_brought size won now n (Content y) r.others orderly r.are r.now;
       taken = record {
-        same = record { kind = ap (λ v. v.part.core.kind) view; who = ap (λ v. v.part.core.who) view; stamp = ap (λ v. v.part.core.stamp) view; own = ap (λ v. v.part.own) view; counts = ap (λ v. v.part.counts) view; stopped = ap (λ v. v.part.core.stopped) view };
+        same = record { kind = ap (λ v. v.part.core.kind) view; who = ap (λ v. v.part.core.who) view; stamp = ap (λ v. v.part.core.stamp) view; own = ap (λ v. v.part.own) view; counts = ap (λ v. v.part.counts) view; stopped = ap (λ v. v.part.core.stopped) view; pendings = ap (λ v. v.part.core.pendings) view };
         owned = ap (λ v. v.part.core.owned) view;
         held = ap (λ v. v.held) view;
         takes = ap (λ v. v.part.core.takes) view;
@@ -59,9 +59,6 @@ taken_at_once size n y m won now was low lacks w r =
     }
 
 -- ---- a sign taken back
-
-pub bare_later : (m m' : Sat) → HoldsAsBefore m m' → IsBare m.0.part.core → IsBare m'.0.part.core
-bare_later m m' h bare n = ap (λ (l : List Bool). get_or l n false) h.owned ∙ bare n
 
 -- what a settled seat says of whether it holds a lock
 pub holding_signs : (size : ℕ) (m : Sat) (b : Bool) → IsOrderly size m → m.0.part.core.inside ≡ 0 → b ≡ ltb 0 (length m.1) → b ≡ true → WantsSigns m.0.part.core

@@ -150,6 +150,7 @@ module _ (size : ℕ) (m : Sat) (r : Record) (before : List Node) (was : IsOrder
     stamp = ap (λ (w : Sight). w.part.core.stamp) v;
     counts = ap (λ (w : Sight). w.part.counts) v;
     stopped = ap (λ (w : Sight). w.part.core.stopped) v;
+    pendings = ap (λ (w : Sight). w.part.core.pendings) v;
     owned = ap (λ (w : Sight). w.part.core.owned) v;
     tries = ap (λ (w : Sight). w.part.core.tries) v;
     takes = ap (λ (w : Sight). w.part.core.takes) v;

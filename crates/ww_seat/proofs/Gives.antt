@@ -43,23 +43,23 @@ pub still_then : (a b c : Sat) → IsStill a b → IsStill b c → IsStill a c
 still_then a b c x y = record { holds = holds_then a b c x.holds y.holds; tries = y.tries ∙ x.tries }
 
 pub still_looking : (m m' : Sat) (o : Owner) → m'.0 ≡ looking m.0 o → IsStill m m'
-still_looking m m' o e = subst (λ (w : Sight). IsStill m (w, m'.1)) (sym e) (record { holds = record { same = record { kind = refl; who = refl; stamp = refl; own = refl; counts = refl; stopped = refl }; owned = refl; held = refl; takes = refl; deaths = refl }; tries = refl })
+still_looking m m' o e = subst (λ (w : Sight). IsStill m (w, m'.1)) (sym e) (record { holds = record { same = record { kind = refl; who = refl; stamp = refl; own = refl; counts = refl; stopped = refl; pendings = refl }; owned = refl; held = refl; takes = refl; deaths = refl }; tries = refl })
 
 pub still_lost : (m m' : Sat) → m'.0 ≡ lost m.0 → IsStill m m'
-still_lost m m' e = subst (λ (w : Sight). IsStill m (w, m'.1)) (sym e) (record { holds = record { same = record { kind = refl; who = refl; stamp = refl; own = refl; counts = refl; stopped = refl }; owned = refl; held = refl; takes = refl; deaths = refl }; tries = refl })
+still_lost m m' e = subst (λ (w : Sight). IsStill m (w, m'.1)) (sym e) (record { holds = record { same = record { kind = refl; who = refl; stamp = refl; own = refl; counts = refl; stopped = refl; pendings = refl }; owned = refl; held = refl; takes = refl; deaths = refl }; tries = refl })
 
 pub still_view : (m m' : Sat) → m'.0 ≡ m.0 → IsStill m m'
-still_view m m' e = subst (λ (w : Sight). IsStill m (w, m'.1)) (sym e) (record { holds = record { same = record { kind = refl; who = refl; stamp = refl; own = refl; counts = refl; stopped = refl }; owned = refl; held = refl; takes = refl; deaths = refl }; tries = refl })
+still_view m m' e = subst (λ (w : Sight). IsStill m (w, m'.1)) (sym e) (record { holds = record { same = record { kind = refl; who = refl; stamp = refl; own = refl; counts = refl; stopped = refl; pendings = refl }; owned = refl; held = refl; takes = refl; deaths = refl }; tries = refl })
 
 -- it tried to give the lock back at once, and kept it
 pub still_kept : (m m' : Sat) → m'.0 ≡ keeping m.0 → IsStill m m'
-still_kept m m' e = subst (λ (w : Sight). IsStill m (w, m'.1)) (sym e) (record { holds = record { same = record { kind = refl; who = refl; stamp = refl; own = refl; counts = refl; stopped = refl }; owned = refl; held = refl; takes = refl; deaths = refl }; tries = refl })
+still_kept m m' e = subst (λ (w : Sight). IsStill m (w, m'.1)) (sym e) (record { holds = record { same = record { kind = refl; who = refl; stamp = refl; own = refl; counts = refl; stopped = refl; pendings = refl }; owned = refl; held = refl; takes = refl; deaths = refl }; tries = refl })
 
 pub still_entered : (m m' : Sat) (n : ℕ) → HasEntered m n m' → IsStill m m'
-still_entered m m' n e = subst (λ (w : Sight). IsStill m (w, m'.1)) (sym e.view) (record { holds = record { same = record { kind = refl; who = refl; stamp = refl; own = refl; counts = refl; stopped = refl }; owned = refl; held = refl; takes = refl; deaths = refl }; tries = refl })
+still_entered m m' n e = subst (λ (w : Sight). IsStill m (w, m'.1)) (sym e.view) (record { holds = record { same = record { kind = refl; who = refl; stamp = refl; own = refl; counts = refl; stopped = refl; pendings = refl }; owned = refl; held = refl; takes = refl; deaths = refl }; tries = refl })
 
 pub still_exited : (m m' : Sat) → m'.0 ≡ exiting m.0 → IsStill m m'
-still_exited m m' e = subst (λ (w : Sight). IsStill m (w, m'.1)) (sym e) (record { holds = record { same = record { kind = refl; who = refl; stamp = refl; own = refl; counts = refl; stopped = refl }; owned = refl; held = refl; takes = refl; deaths = refl }; tries = refl })
+still_exited m m' e = subst (λ (w : Sight). IsStill m (w, m'.1)) (sym e) (record { holds = record { same = record { kind = refl; who = refl; stamp = refl; own = refl; counts = refl; stopped = refl; pendings = refl }; owned = refl; held = refl; takes = refl; deaths = refl }; tries = refl })
 
 -- it read the owner word, and then the wait list
 pub read_still : (a m m' m'' : Sat) (n : ℕ) (o : Owner) → IsStill a m → m' ≡ (looking m.0 o, m.1) → HasListOnTop m' n m'' → IsStill a m''
@@ -78,7 +78,7 @@ pub given_free : (size : ℕ) (m m' : Sat) (n : ℕ) (x : Node) → IsOrderly si
 given_free size m m' n x o away small view home = let few = o.few in (
   subst (λ (w : Sight). IsOrderly size (w, m'.1)) (sym view) (without_node size m n x (giving m.0 n) m'.1 o (omega arith) home refl refl refl refl refl),
   subst (λ (w : Sight). IsAway w.part.core) (sym view) (away.0, away.1),
-  subst (λ (w : Sight). HasGiven m n (w, m'.1)) (sym view) (record { same = record { kind = refl; who = refl; stamp = refl; own = refl; counts = refl; stopped = refl }; owned = refl; held = refl; takes = refl; deaths = refl; tries = refl }),
+  subst (λ (w : Sight). HasGiven m n (w, m'.1)) (sym view) (record { same = record { kind = refl; who = refl; stamp = refl; own = refl; counts = refl; stopped = refl; pendings = refl }; owned = refl; held = refl; takes = refl; deaths = refl; tries = refl }),
 )
 
 pub kept_free : (size : ℕ) (m m' : Sat) (n : ℕ) (x : Node) (others : List (ℕ × Cell)) → IsOrderly size m → AreOthers m.1 n (Content x) others → m' ≡ (keeping m.0, (n, Content x) ∷ others) → IsOrderly size m'
@@ -88,9 +88,6 @@ kept_free size m m' n x others o out is = subst (IsOrderly size) (sym is) (order
 -- the owner may go inside
 pub owner_enters : (m m' : Sat) (n : ℕ) → m'.0 ≡ m.0 → IsAway m.0.part.core → owns m.0.part.core n ≡ true → MayEnter m'.0.part.core n
 owner_enters m m' n same away own = subst (λ (w : Sight). MayEnter w.part.core n) (sym same) (record { outside = away.0; why = inl (away.1, own) })
-
-pub kept_enters : (m m' : Sat) (n : ℕ) → m'.0 ≡ keeping m.0 → IsAway m.0.part.core → owns m.0.part.core n ≡ true → IsAway m'.0.part.core × (owns m'.0.part.core n ≡ true)
-kept_enters m m' n kept away own = (subst (λ (w : Sight). IsAway w.part.core) (sym kept) away, ap (λ (w : Sight). owns w.part.core n) kept ∙ own)
 
 -- ---- inside
 
@@ -145,7 +142,7 @@ let_go size a m m' n x others asked before g view top home = let first : Sat = (
       };
       inside = g.inside;
       waits = g.waits;
-      given = given_then a m (giving_inside m.0 n asked, m'.1) n before (record { same = record { kind = refl; who = refl; stamp = refl; own = refl; counts = refl; stopped = refl }; owned = refl; held = refl; takes = refl; deaths = refl; tries = refl });
+      given = given_then a m (giving_inside m.0 n asked, m'.1) n before (record { same = record { kind = refl; who = refl; stamp = refl; own = refl; counts = refl; stopped = refl; pendings = refl }; owned = refl; held = refl; takes = refl; deaths = refl; tries = refl });
     })
 
 -- ---- outside again

@@ -14,9 +14,6 @@ may_glance m a k away is few = subst (λ (w : Sat). MayGlance w.0.part.core) (sy
 pub once_more : (m a b : Sat) (k l : ℕ) → l ≡ k + 1 → a ≡ having_glanced m k → b ≡ (glancing a.0, a.1) → b ≡ having_glanced m l
 once_more m a b k l more is then = then ∙ ap (λ (w : Sat). let v : Sat = (glancing w.0, w.1) in v) is ∙ ap (having_glanced m) (sym more)
 
-pub glanced_then : (a b c : Sat) → HasGlanced a b → HasGlanced b c → HasGlanced a c
-glanced_then a b c g h = record { times = h.times; few = h.few; now = h.now ∙ ap (λ (w : Sat). having_glanced w h.times) g.now }
-
 pub outside_still : (size n : ℕ) (m m' : Sat) → IsOutside size n m → HasGlanced m m' → IsOutside size n m'
 outside_still size n m m' o g = subst (IsOutside size n) (sym g.now) (record {
   orderly = orderly_knowing size m (having_glanced m g.times) _ o.orderly refl refl refl refl refl;
@@ -27,7 +24,7 @@ outside_still size n m m' o g = subst (IsOutside size n) (sym g.now) (record {
 
 pub holds_glanced : (m m' : Sat) → HasGlanced m m' → HoldsAsBefore m m'
 holds_glanced m m' g = subst (HoldsAsBefore m) (sym g.now)
-    (record { same = record { kind = refl; who = refl; stamp = refl; own = refl; counts = refl; stopped = refl }; owned = refl; held = refl; takes = refl; deaths = refl })
+    (record { same = record { kind = refl; who = refl; stamp = refl; own = refl; counts = refl; stopped = refl; pendings = refl }; owned = refl; held = refl; takes = refl; deaths = refl })
 
 pub waits_still : (m m' : Sat) → HasGlanced m m' → m.0.part.core.waits ≡ 0 → m'.0.part.core.waits ≡ 0
 waits_still m m' g e = ap (λ (w : Sat). w.0.part.core.waits) g.now ∙ e

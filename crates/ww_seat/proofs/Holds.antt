@@ -10,10 +10,10 @@ use Rattle.ww_seat.specs.Calls.{IsSame, HoldsAsBefore, HasTaken, HasToDie, HasSt
 use Rattle.ww_seat.specs.Looks.{IsLook}
 
 pub holds_same : (m : Sat) → HoldsAsBefore m m
-holds_same m = record { same = record { kind = refl; who = refl; stamp = refl; own = refl; counts = refl; stopped = refl }; owned = refl; held = refl; takes = refl; deaths = refl }
+holds_same m = record { same = record { kind = refl; who = refl; stamp = refl; own = refl; counts = refl; stopped = refl; pendings = refl }; owned = refl; held = refl; takes = refl; deaths = refl }
 
 pub same_then : (a b c : Sat) → IsSame a b → IsSame b c → IsSame a c
-same_then a b c x y = record { kind = y.kind ∙ x.kind; who = y.who ∙ x.who; stamp = y.stamp ∙ x.stamp; own = y.own ∙ x.own; counts = y.counts ∙ x.counts; stopped = y.stopped ∙ x.stopped }
+same_then a b c x y = record { kind = y.kind ∙ x.kind; who = y.who ∙ x.who; stamp = y.stamp ∙ x.stamp; own = y.own ∙ x.own; counts = y.counts ∙ x.counts; stopped = y.stopped ∙ x.stopped; pendings = y.pendings ∙ x.pendings }
 
 pub holds_then : (a b c : Sat) → HoldsAsBefore a b → HoldsAsBefore b c → HoldsAsBefore a c
 holds_then a b c x y = record { same = same_then a b c x.same y.same; owned = y.owned ∙ x.owned; held = y.held ∙ x.held; takes = y.takes ∙ x.takes; deaths = y.deaths ∙ x.deaths }
@@ -52,6 +52,7 @@ stopped_then a b c n by h s = record {
   own = s.own ∙ h.same.own;
   counts = s.counts ∙ ap (λ (x : Counts). record x { heeded = by ∷ x.heeded }) h.same.counts;
   stopped = s.stopped ∙ ap (λ xs. (n, by) ∷ xs) h.same.stopped;
+  pendings = s.pendings ∙ h.same.pendings;
   owned = s.owned ∙ h.owned;
   held = s.held ∙ h.held;
   takes = s.takes ∙ h.takes;

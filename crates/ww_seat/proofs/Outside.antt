@@ -11,16 +11,14 @@ use Rattle.ww_plain.proofs.Members.{true_or_false}
 use Rattle.ww_view.specs.declared.view.View.{View}
 use Rattle.ww_model.specs.State.{any_below}
 use Rattle.ww_view.specs.View.{owns, IsBare}
-use Rattle.ww_view.specs.Made.{ended, fast_missed, has_read, found_none, cleared}
 use Rattle.ww_rule.specs.declared.cells.Cell.{Cell}
 use Rattle.ww_rule.specs.declared.cells.Cell.TheVariants.{Content, Line}
-use Rattle.ww_rule.specs.declared.cells.Sight.{Sight}
 use Rattle.ww_rule.specs.Layout.{list_at}
 use Rattle.ww_rule.specs.Rule.{Sat}
 use Rattle.ww_rule.specs.Out.{slot_of, AreOthers}
-use Rattle.ww_rule.specs.Steps.{knowing, drawing, taking, giving}
+use Rattle.ww_rule.specs.Steps.{knowing, taking}
 use Rattle.ww_seat.specs.Orderly.{AreApart, IsOrderly}
-use Rattle.ww_seat.proofs.Slots.{slot_here, not_both, slot_else, others_gone, others_else, others_apart, front_apart, front_else, front_same, none_out, few_slots, fewer_beside, nodes_beside}
+use Rattle.ww_seat.proofs.Slots.{slot_here, not_both, slot_else, front_apart, front_else, front_same, few_slots, fewer_beside, nodes_beside}
 
 -- ---- what stays
 
@@ -47,24 +45,6 @@ orderly_knowing size m m' w was is owned inside list heeded = subst (IsOrderly s
 -- a slot that was only brought to the front
 pub orderly_brought : (size : ℕ) (m m' : Sat) (n : ℕ) (y : Cell) (others : List (ℕ × Cell)) → IsOrderly size m → AreOthers m.1 n y others → m' ≡ (m.0, (n, y) ∷ others) → IsOrderly size m'
 orderly_brought size m m' n y others was are is = subst (IsOrderly size) (sym is) (orderly_still size m (m.0, (n, y) ∷ others) was refl refl refl refl refl (front_apart m.1 n y others was.apart are y) (front_same m.1 n y others was.apart are))
-
-pub orderly_draw : (size : ℕ) (m m' : Sat) (stamp : ℕ) → IsOrderly size m → m' ≡ (drawing m.0 stamp, m.1) → IsOrderly size m'
-orderly_draw size m m' stamp was is = subst (IsOrderly size) (sym is) (orderly_still size m (drawing m.0 stamp, m.1) was refl refl refl refl refl was.apart (λ k. refl))
-
-pub orderly_ended : (size : ℕ) (m m' : Sat) → IsOrderly size m → m' ≡ (knowing m.0 (ended m.0.part.core), m.1) → IsOrderly size m'
-orderly_ended size m m' was is = orderly_knowing size m m' (ended m.0.part.core) was is refl refl refl refl
-
-pub orderly_read : (size : ℕ) (m m' : Sat) (k : ℕ) → IsOrderly size m → m' ≡ (knowing m.0 (has_read m.0.part.core k), m.1) → IsOrderly size m'
-orderly_read size m m' k was is = orderly_knowing size m m' (has_read m.0.part.core k) was is refl refl refl refl
-
-pub orderly_unsigned : (size : ℕ) (m m' : Sat) → IsOrderly size m → m' ≡ (knowing m.0 (found_none m.0.part.core), m.1) → IsOrderly size m'
-orderly_unsigned size m m' was is = orderly_knowing size m m' (found_none m.0.part.core) was is refl refl refl refl
-
-pub orderly_cleared : (size : ℕ) (m m' : Sat) → IsOrderly size m → m' ≡ (knowing m.0 (cleared m.0.part.core), m.1) → IsOrderly size m'
-orderly_cleared size m m' was is = orderly_knowing size m m' (cleared m.0.part.core) was is refl refl refl refl
-
-pub orderly_missed : (size : ℕ) (m m' : Sat) → IsOrderly size m → m' ≡ (knowing m.0 (fast_missed m.0.part.core), m.1) → IsOrderly size m'
-orderly_missed size m m' was is = orderly_knowing size m m' (fast_missed m.0.part.core) was is refl refl refl refl
 
 -- ---- which locks it owns
 
@@ -98,23 +78,6 @@ module _ (size : ℕ) (m : Sat) (n : ℕ) (x : Node) (was : IsOrderly size m) (l
     unheeded = was.unheeded;
   }
 
-  given_orderly : (others : List (ℕ × Cell)) → AreOthers m.1 n (Content x) others → IsOrderly size (giving m.0 n, others)
-  given_orderly others are = let few = was.few in record {
-    few = was.few;
-    owned = length-set m.0.part.core.owned n false ∙ was.owned;
-    held = length-set m.0.held n None ∙ was.held;
-    apart = others_apart m.1 n (Content x) others was.apart are;
-    nodes = λ k own. dite (ℕ_discrete k n)
-        (λ is. absurd (true≢false (sym own ∙ ap (λ (j : ℕ). get_or (set m.0.part.core.owned n false) j false) is ∙ owns_here m.0.part.core.owned n false small)))
-        (λ isnt. let t = was.nodes k (sym (owns_else m.0.part.core.owned n false k isnt) ∙ own) in (t.0, (t.1.0, set_else m.0.held n k None isnt ∙ t.1.1, others_else m.1 n (Content x) others was.apart are k isnt ∙ t.1.2)));
-    others = λ k less own. dite (ℕ_discrete k n)
-        (λ is. ap (slot_of others) is ∙ others_gone m.1 n (Content x) others was.apart are)
-        (λ isnt. others_else m.1 n (Content x) others was.apart are k isnt ∙ was.others k less (sym (owns_else m.0.part.core.owned n false k isnt) ∙ own));
-    list = λ k is. others_else m.1 n (Content x) others was.apart are (list_at k) (λ e. absurd (omega arith)) ∙ was.list k is;
-    lists = λ k isnt. others_else m.1 n (Content x) others was.apart are (list_at k) (λ e. absurd (omega arith)) ∙ was.lists k isnt;
-    unheeded = was.unheeded;
-  }
-
   -- its node is written, and the view names what was written
   swapped_orderly : (y : Node) (others : List (ℕ × Cell)) → owns m.0.part.core n ≡ true → AreOthers m.1 n (Content x) others → IsOrderly size (record (m.0) { held = set m.0.held n (Some y) }, (n, Content y) ∷ others)
   swapped_orderly y others owner are = let few = was.few in record {
@@ -136,9 +99,6 @@ module _ (size : ℕ) (m : Sat) (n : ℕ) (x : Node) (was : IsOrderly size m) (l
 
 pub orderly_taken : (size : ℕ) (m m' : Sat) (n : ℕ) (x : Node) → IsOrderly size m → n < size → owns m.0.part.core n ≡ false → m' ≡ (taking m.0 n x, (n, Content x) ∷ m.1) → IsOrderly size m'
 orderly_taken size m m' n x was low lacks is = subst (IsOrderly size) (sym is) (taken_orderly size m n x was low lacks)
-
-pub orderly_given : (size : ℕ) (m m' : Sat) (n : ℕ) (x : Node) → IsOrderly size m → n < size → m'.0 ≡ giving m.0 n → AreOthers m.1 n (Content x) m'.1 → IsOrderly size m'
-orderly_given size m m' n x was low view are = subst (λ (v : Sight). IsOrderly size (v, m'.1)) (sym view) (given_orderly size m n x was low m'.1 are)
 
 pub orderly_swapped : (size : ℕ) (m m' : Sat) (n : ℕ) (x y : Node) (others : List (ℕ × Cell)) → IsOrderly size m → n < size → owns m.0.part.core n ≡ true → AreOthers m.1 n (Content x) others
     → m' ≡ (record (m.0) { held = set m.0.held n (Some y) }, (n, Content y) ∷ others) → IsOrderly size m'
@@ -183,13 +143,6 @@ room_inside size m n was low inside lacks = let few = was.few in
 pub holds_inside : (size : ℕ) (m : Sat) (n : ℕ) → IsOrderly size m → m.0.part.core.inside ≡ suc n → any_below 64 (owns m.0.part.core) ≡ ltb 1 (length m.1)
 holds_inside size m n was inside = nodes_beside 64 (owns m.0.part.core) m.1 (list_at n) (Line m.0.part.core.list) was.apart (was.list n inside) (omega arith)
     (λ k less own. let t = was.nodes k own in (Content t.1.0, t.1.2)) (λ k less own. was.others k less own) (lists_else size m n was inside)
-
--- a seat that owns nothing, outside every guard, has nothing out
-pub bare_out : (size : ℕ) (m : Sat) → IsOrderly size m → m.0.part.core.inside ≡ 0 → IsBare m.0.part.core → m.1 ≡ []
-bare_out size m was outside bare = none_out m.1 (λ n. ⊎_elim
-    (λ t. let k = high_list n t.1 in ap (slot_of m.1) k.1 ∙ was.lists k.0 (λ is. absurd (omega arith)))
-    (λ t. was.others n t.1 (bare n))
-    (leb_tells 64 n))
 
 -- ---- whether it holds a lock
 

@@ -92,10 +92,6 @@ woken_noted m1 m2 was wakes won who u own is woken before added = subst (λ (z :
     go true adds t has other = ⊎_elim (λ e. subst (λ (x : ℕ). get_or wakes x false ≡ true) (sym e) (adds refl (λ z. other (e ∙ z ∙ own)))) (λ old. before t (woken t old other)) has
     go false adds t has other = before t (woken t has other)
 
-pub take_all : {A : Type 0} (xs : List A) → take (length xs) xs ≡ xs
-take_all [] = refl
-take_all (x ∷ xs) = ap (λ (l : List _). x ∷ l) (take_all xs)
-
 -- ---- whether it has to die
 
 death_is : (kind : Kind) (o : Owner) (q : List Entry) (me s : ℕ) (e : Entry) → entry_of q me ≡ Some e → must_die kind o q me s ≡ death_of kind o q s e

@@ -218,11 +218,6 @@ low_without bound slots l y others apart are low n high = dite (ℕ_discrete n l
     (λ is. ap (slot_of others) is ∙ others_gone slots l y others apart are)
     (λ isnt. others_else slots l y others apart are n isnt ∙ low n high isnt)
 
--- one more where the slot l is out beside those below the bound
-pub few_beside : (bound : ℕ) (slots : List (ℕ × Cell)) (l : ℕ) (y : Cell) → AreApart slots → slot_of slots l ≡ Some y → bound ≤ l → ((n : ℕ) → bound ≤ n → n ≢ l → slot_of slots n ≡ None) → length slots ≤ bound + 1
-few_beside bound slots l y apart out high low = let t = take_out slots l y out in
-    let f = few_slots bound t.0 (others_apart slots l y t.0 apart t.1) (low_without bound slots l y t.0 apart t.1 low) in let g = others_long slots l y t.0 apart t.1 in omega arith
-
 pub fewer_beside : (bound : ℕ) (slots : List (ℕ × Cell)) (l : ℕ) (y : Cell) (k : ℕ) → AreApart slots → slot_of slots l ≡ Some y → bound ≤ l → ((n : ℕ) → bound ≤ n → n ≢ l → slot_of slots n ≡ None) → k < bound → slot_of slots k ≡ None → length slots < bound + 1
 fewer_beside bound slots l y k apart out high low small none = let t = take_out slots l y out in
     let f = fewer_slots bound t.0 k (others_apart slots l y t.0 apart t.1) (low_without bound slots l y t.0 apart t.1 low) small (others_else slots l y t.0 apart t.1 k (λ e. absurd (omega arith)) ∙ none) in

@@ -1,7 +1,7 @@
 -- A seat in the wait list: it joins, asks, stays or backs off.
 use Rattle.std.proofs.Common.{◌≡◌, ◌≢◌, ◌⊎◌, inl, inr, ⊎_elim, ℕ, suc, ◌+◌, ◌<◌, ◌^◌, Bool, true, false, true≢false, List, [], ◌∷◌, slice_get, refl, sym, ap, ◌∙◌, subst, arith, Option, Some, None, IfSome, IfNone}
 use Rattle.ww_word.specs.declared.owner.Owner.{Owner}
-use Rattle.ww_word.specs.Owner.{IsValid, IsSeating, AreFlags, with_waiters, is_handed}
+use Rattle.ww_word.specs.Owner.{IsValid, IsSeating, with_waiters}
 use Rattle.ww_queue.specs.declared.entry.Entry.{Entry}
 use Rattle.ww_queue.specs.declared.kind.Kind.{Kind}
 use Rattle.ww_queue.specs.declared.kind.Kind.TheVariants.{WoundWait, WaitDie}
@@ -62,7 +62,7 @@ has_stood size n m m1 o p stands ord off inside few small sees got is valid = re
   work = λ l w. subst (λ (z : Sat). IsAtWork size n m true l z) (sym got.2) (record {
     orderly = listed_orderly size m n (joining m.0 n o) got.0 ord inside got.1 refl refl refl refl;
     working = working_queued n l m.0.part.core o (subst (λ (b : Bool). IsWorking n b l m.0.part.core) off w) few small;
-    holds = record { same = record { kind = refl; who = refl; stamp = refl; own = refl; counts = refl; stopped = refl }; owned = refl; held = refl; takes = refl; deaths = refl };
+    holds = record { same = record { kind = refl; who = refl; stamp = refl; own = refl; counts = refl; stopped = refl; pendings = refl }; owned = refl; held = refl; takes = refl; deaths = refl };
     tries = refl;
   });
   sees = subst (λ (x : Owner). SeesOther x m1.0.part.core) (sym is) (subst (λ (z : Sat). SeesOther (with_waiters o) z.0.part.core) (sym got.2) (record { seen = refl; valid = subst IsValid is valid; other = sees.other }));
@@ -80,15 +80,6 @@ pub work_stood : (size n : ℕ) (before : Sat) (stands again : Bool) (m m' : Sat
 work_stood size n before stands again m m' o p w h = work_then size n before stands true again m m' w (h.work again w.working)
 
 -- ---- it asks
-
-pub flags_known : (o : Owner) → AreFlags o.flags → o.flags ≢ 0 → o.flags ≢ 1 → (o.flags ≡ 3) ⊎ (is_handed o ≡ true)
-flags_known o are some more = ⊎_elim (λ z. absurd (some z)) (λ r. ⊎_elim (λ z. absurd (more z)) (λ r2. ⊎_elim (λ z. inl z) (λ z. inr (handed o z)) r2) r) are
-  where
-    handed : (p : Owner) → p.flags ≡ 5 → is_handed p ≡ true
-    handed p is = ap (λ (f : ℕ). is_handed (record { seat = None; stamp = 0; flags = f })) is
-
-pub nothing_by_flags : (v : View) (o : Owner) → SeesOther o v → o.flags ≢ 0 → o.flags ≢ 1 → NothingToAsk v
-nothing_by_flags v o sees some more = (o, sees.seen, ⊎_elim (λ z. inl z) (λ z. inr (inl z)) (flags_known o sees.valid.flags some more))
 
 first_is : (q : List Entry) (e : Entry) (s : ℕ) → slice_get q 0 ≡ Some e → IsFirst q s → e.seat ≡ s
 first_is [] e s is first = absurd cc
@@ -171,6 +162,7 @@ look_died size n l m m1 m2 o k w may older is out ord =
         own = ap (λ (z : Sight). z.part.own) view;
         counts = ap (λ (z : Sight). z.part.counts) view;
         stopped = ap (λ (z : Sight). z.part.core.stopped) view;
+        pendings = ap (λ (z : Sight). z.part.core.pendings) view;
       };
       owned = ap (λ (z : Sight). z.part.core.owned) view;
       held = ap (λ (z : Sight). z.held) view;
@@ -206,7 +198,7 @@ stays_outside size n l m m' w out ord = let v : View = m.0.part.core in (
     place = inr (ap (λ (z : Sight). z.part.core.waits) out ∙ w.place.0);
   },
   ap (λ (z : Sight). z.part.core.waits) out ∙ w.place.0,
-  subst (λ (z : Sight). HoldsAsBefore m (z, m'.1)) (sym out) (record { same = record { kind = refl; who = refl; stamp = refl; own = refl; counts = refl; stopped = refl }; owned = refl; held = refl; takes = refl; deaths = refl }),
+  subst (λ (z : Sight). HoldsAsBefore m (z, m'.1)) (sym out) (record { same = record { kind = refl; who = refl; stamp = refl; own = refl; counts = refl; stopped = refl; pendings = refl }; owned = refl; held = refl; takes = refl; deaths = refl }),
 )
 
 -- who found nothing to ask for, signed all that it owes and doesn't have to die may go: m1 once it asked, m2 once it signed

@@ -1,34 +1,20 @@
 -- A seat that heeds its cancel, and leaves the wait list for it.
-use Rattle.std.proofs.Common.{◌≡◌, ◌≢◌, ℕ, ◌+◌, ◌-◌, Bool, true, false, List, ◌∷◌, refl, sym, ap, ◌∙◌, subst, arith, Some, None}
+use Rattle.std.proofs.Common.{◌≡◌, ◌≢◌, ℕ, ◌+◌, Bool, true, false, List, ◌∷◌, refl, sym, ap, subst, Some, None}
 use Rattle.ww_word.specs.declared.owner.Owner.{Owner}
-use Rattle.ww_view.specs.May.{MayHeed, MayStop}
-use Rattle.ww_view.specs.Made.{interrupted, has_heeded}
-use Rattle.ww_view.proofs.Interruptions.{stop_notes}
+use Rattle.ww_view.specs.Made.{interrupted}
 use Rattle.ww_rule.specs.declared.cells.Cell.{Cell}
 use Rattle.ww_rule.specs.declared.cells.Cell.TheVariants.{Line}
 use Rattle.ww_rule.specs.declared.cells.Sight.{Sight}
 use Rattle.ww_rule.specs.Rule.{Sat}
 use Rattle.ww_rule.specs.Out.{AreOthers, slot_of}
-use Rattle.ww_rule.specs.Cancels.{cancelling, heeding, stopping}
-use Rattle.ww_rule.specs.Guards.{exiting, lost}
-use Rattle.ww_view.specs.View.{IsAway}
-use Rattle.ww_seat.specs.declared.look.Look.TheVariants.{Interrupted}
+use Rattle.ww_rule.specs.Cancels.{heeding, stopping}
+use Rattle.ww_rule.specs.Guards.{lost}
 use Rattle.ww_seat.specs.Orderly.{IsOrderly}
-use Rattle.ww_seat.specs.Calls.{HasStopped}
-use Rattle.ww_seat.specs.Looks.{IsLook}
 use Rattle.ww_seat.specs.Work.{IsTouched, IsWorking, IsAtWork, SeesOther, MayGo, GoesOn}
 use Rattle.ww_seat.proofs.Guards.{listed_orderly}
-use Rattle.ww_seat.proofs.Outside.{orderly_still, orderly_knowing}
+use Rattle.ww_seat.proofs.Outside.{orderly_knowing}
 use Rattle.ww_seat.proofs.Stood.{gone_goes}
 use Rattle.ww_seat.proofs.Working.{work_touched}
-
--- ---- the cancel of another is set
-
-pub cancelled_orderly : (size : ℕ) (m m' : Sat) (u : ℕ) → IsOrderly size m → m' ≡ (cancelling m.0 u, m.1) → IsOrderly size m'
-cancelled_orderly size m m' u was is = subst (IsOrderly size) (sym is) (orderly_still size m (cancelling m.0 u, m.1) was refl refl refl refl refl was.apart (λ k. refl))
-
-pub cancelled_away : (m m' : Sat) (u : ℕ) → IsAway m.0.part.core → m' ≡ (cancelling m.0 u, m.1) → IsAway m'.0.part.core
-cancelled_away m m' u away is = subst (λ (z : Sat). IsAway z.0.part.core) (sym is) away
 
 -- ---- no cancel was pending
 
@@ -46,21 +32,9 @@ goes_on_sees size m m' o g sees = subst (λ (z : Sight). SeesOther o z.part.core
 
 -- ---- one was
 
-pub may_heed : (size n : ℕ) (l : Bool) (m : Sat) (o : Owner) → IsOrderly size m → IsWorking n true l m.0.part.core → SeesOther o m.0.part.core → MayHeed m.0.part.core n
-may_heed size n l m o ord w sees = record { inside = w.inside; waits = w.place.0; other = (o, sees.seen, sees.other); unheeded = ord.unheeded }
-
 module _ (size n mark : ℕ) (l : Bool) (m m1 : Sat) (ord : IsOrderly size m) (w : IsWorking n true l m.0.part.core) (is : m1 ≡ (heeding m.0 mark, m.1)) (some : mark ≢ 0) where
-  heeded : MayStop (has_heeded m.0.part.core mark) n
-  heeded = record { inside = w.inside; waits = w.place.0; heeded = some }
-
-  pub may_stop : MayStop m1.0.part.core n
-  may_stop = subst (λ (z : Sat). MayStop z.0.part.core n) (sym is) heeded
-
   pub list_there : slot_of m1.1 (64 + n) ≡ Some (Line m1.0.part.core.list)
   list_there = subst (λ (z : Sat). slot_of z.1 (64 + n) ≡ Some (Line z.0.part.core.list)) (sym is) (ord.list n w.inside)
-
-  pub still_sees : (o : Owner) → SeesOther o m.0.part.core → m1.0.part.core.seen ≡ Some o
-  still_sees o sees = ap (λ (z : Sat). z.0.part.core.seen) is ∙ sees.seen
 
   -- what is out once it left the list
   pub record HasLeft (o : Owner) (m2 : Sat) : Type 0 where
@@ -77,21 +51,6 @@ module _ (size n mark : ℕ) (l : Bool) (m m1 : Sat) (ord : IsOrderly size m) (w
   pub stopped_goes : (o : Owner) (m2 : Sat) → HasLeft o m2 → MayGo n m2.0.part.core
   stopped_goes o m2 left = subst (λ (z : Sight). MayGo n z.part.core) (sym left.view)
       (gone_goes n l m.0.part.core o m.0.part.core.deaths None 0 (stopping (heeding m.0 mark) o).part.core.stopped w)
-
-  abbrev by : ℕ
-  by = mark - 1
-
-  named : (o : Owner) → (interrupted (has_heeded m.0.part.core mark) o).stopped ≡ (n, by) ∷ m.0.part.core.stopped
-  named o = stop_notes (has_heeded m.0.part.core mark) n by o heeded (omega arith)
-
-  pub look_stopped : (o : Owner) (m2 m3 : Sat) → HasLeft o m2 → m3.0 ≡ exiting m2.0 → IsOrderly size m3 → IsLook size n m (Interrupted by) m3
-  look_stopped o m2 m3 left out ord3 = let view : m3.0 ≡ exiting (stopping (heeding m.0 mark) o) = out ∙ ap exiting left.view in
-      let stopped : HasStopped m n by m3 = subst (λ (z : Sight). HasStopped m n by (z, m3.1)) (sym view)
-      (record { kind = refl; who = refl; stamp = refl; own = refl; counts = refl; stopped = named o; owned = refl; held = refl; takes = refl; deaths = refl; unmet = refl }) in
-      (ord3, (ap (λ (z : Sight). z.part.core.inside) view, ap (λ (z : Sight). z.part.core.waits) view), stopped)
-
-  pub stopped_tries : (o : Owner) (m2 m3 : Sat) → HasLeft o m2 → m3.0 ≡ exiting m2.0 → m3.0.part.core.tries ≡ m.0.part.core.tries
-  stopped_tries o m2 m3 left out = ap (λ (z : Sight). z.part.core.tries) (out ∙ ap exiting left.view)
 
 -- ---- a look goes on
 

@@ -97,15 +97,14 @@ pub left_seats : (q : List Entry) (s : ℕ) → AreSeats q → AreSeats (left q 
 left_seats q s seats e h = seats e (left_has q s e h)
 
 -- what the signs ask of a seat that took the lock
-pub record OwesAfter (n : ℕ) (v : View) (o : Owner) (w : View) : Type 0 where
-  pub kind : w.kind ≡ v.kind
+pub record OwesAfter (n : ℕ) (w : View) : Type 0 where
   pub inside : w.inside ≡ suc n
   pub seats : AreSeats w.list
   pub seen : w.seen ≡ Some (taken_word w.who w.stamp w.list)
 
-pub owes_after : (size n : ℕ) (s l : Bool) (m m2 : Sat) (x : Node) (o : Owner) → IsWorking n s l m.0.part.core → IsTaken size n m x m2 → OwesAfter n m.0.part.core o m2.0.part.core
-owes_after size n s l m m2 x o w t = subst (λ (z : Sight). OwesAfter n m.0.part.core o z.part.core) (sym t.view)
-    (record { kind = refl; inside = w.inside; seats = left_seats m.0.part.core.list m.0.part.core.who w.seats; seen = refl })
+pub owes_after : (size n : ℕ) (s l : Bool) (m m2 : Sat) (x : Node) (o : Owner) → IsWorking n s l m.0.part.core → IsTaken size n m x m2 → OwesAfter n m2.0.part.core
+owes_after size n s l m m2 x o w t = subst (λ (z : Sight). OwesAfter n z.part.core) (sym t.view)
+    (record { inside = w.inside; seats = left_seats m.0.part.core.list m.0.part.core.who w.seats; seen = refl })
 
 pub waiting_first : (q : List Entry) (e : Entry) → slice_get q 0 ≡ Some e → 1 ≡ waiting q
 waiting_first [] e is = absurd cc
@@ -173,7 +172,7 @@ node_out size n m m2 m3 m4 x owed o low t h out o4 = let long = o.owned in let f
 
 -- the node that is read then is the one that was taken
 pub look_taken : (size n : ℕ) (s l : Bool) (m m2 m3 m4 m5 : Sat) (x r : Node) (owed : List (ℕ × ℕ)) → IsOrderly size m → n < size → IsWorking n s l m.0.part.core → IsTaken size n m x m2 → HasNoted size owed m2 m3 → m4.0 ≡ exiting m3.0 → IsOrderly size m4
-    → (others : List (ℕ × Cell)) × AreOthers m4.1 n (Content r) others × (m5 ≡ (m4.0, (n, Content r) ∷ others)) → IsLook size n m (Locked r) m5 × (m5.0.part.core.tries ≡ m.0.part.core.tries)
+    → (others : List (ℕ × Cell)) × AreOthers m4.1 n (Content r) others × (m5 ≡ (m4.0, (n, Content r) ∷ others)) → IsLook size n m (Locked r) m5 × (m5.0.part.core.tries ≡ m.0.part.core.tries) × (m5.0.part.core.attempts ≡ m.0.part.core.attempts)
 look_taken size n s l m m2 m3 m4 m5 x r owed o low w t h out o4 got =
     let long = o.owned in let wide = o.held in let few = o.few in
     let base : m4.0 ≡ exiting (knowing (taking_inside m.0 n x) (touched (taken m.0.part.core n) (taken m.0.part.core n).seen h.signed h.condemned h.fresh)) =
@@ -187,7 +186,7 @@ look_taken size n s l m m2 m3 m4 m5 x r owed o low w t h out o4 got =
     let same : r ≡ x = sym (ap node_in two) ∙ one in
     let view : m5.0 ≡ exiting (knowing (taking_inside m.0 n x) (touched (taken m.0.part.core n) (taken m.0.part.core n).seen h.signed h.condemned h.fresh)) = ap (λ (z : Sat). z.0) got.2 ∙ base in
     let took : HasTaken m n r m5 = subst (λ (y : Node). HasTaken m n y m5) (sym same) (subst (λ (z : Sight). HasTaken m n x (z, m5.1)) (sym view) (record {
-      same = record { kind = refl; who = refl; stamp = refl; own = refl; counts = refl; stopped = refl };
+      same = record { kind = refl; who = refl; stamp = refl; own = refl; counts = refl; stopped = refl; pendings = refl };
       owned = refl;
       held = refl;
       takes = refl;
@@ -195,4 +194,4 @@ look_taken size n s l m m2 m3 m4 m5 x r owed o low w t h out o4 got =
       node = t.node;
       unmet = refl;
     })) in
-    ((o5, (ap (λ (z : Sight). z.part.core.inside) view, ap (λ (z : Sight). z.part.core.waits) view), took), ap (λ (z : Sight). z.part.core.tries) view)
+    ((o5, (ap (λ (z : Sight). z.part.core.inside) view, ap (λ (z : Sight). z.part.core.waits) view), took), ap (λ (z : Sight). z.part.core.tries) view, ap (λ (z : Sight). z.part.core.attempts) view)

@@ -1,5 +1,5 @@
 -- A seat waits for a lock.
-use Rattle.std.proofs.Common.{◌≡◌, ℕ, zero, suc, ◌<◌, ◌==◌, not, true, false, get_or, refl, sym, ap, ◌∙◌, subst, ⊎_elim, inl, inr, arith, Option, Some, Result, Ok, Err, IfOk, IfErr, ne_eqb}
+use Rattle.std.proofs.Common.{◌≡◌, ℕ, zero, suc, ◌==◌, not, true, false, refl, sym, ap, ◌∙◌, subst, ⊎_elim, inl, inr, arith, Option, Some, Result, Ok, Err, IfOk, IfErr, ne_eqb}
 use Rattle.ww_queue.specs.declared.kind.Kind.{Kind}
 use Rattle.ww_queue.specs.declared.kind.Kind.TheVariants.{WoundWait, WaitDie}
 use Rattle.ww_plain.specs.declared.node.Node.{Node}
@@ -47,9 +47,6 @@ entered_inside size n m m' out e o = subst (λ (w : Sight). IsOrderly size (w, m
   acted = refl;
 }) o
 
-pub entered_kind : (n : ℕ) (m m' : Sat) (kind : Kind) → kind ≡ m.0.part.core.kind → HasEntered m n m' → kind ≡ m'.0.part.core.kind
-entered_kind n m m' kind is e = is ∙ ap (λ (w : Sight). w.part.core.kind) (sym e.view)
-
 pub entered_later : (n : ℕ) (m m' : Sat) → HasEntered m n m' → m'.0.part.core.later ≡ not (m.0.part.core.waits == 0)
 entered_later n m m' e = ap (λ (w : Sight). w.part.core.later) e.view
 
@@ -74,19 +71,10 @@ pub later_look : (waits n : ℕ) → waits ≡ suc n → true ≡ not (waits == 
 later_look waits n e = ap not (sym (ne_eqb waits 0 (λ z. omega arith)))
 
 -- the first try failed
-wants_still : (a b : Sat) → HoldsAsBefore a b → WantsBase a.0.part.core → WantsBase b.0.part.core
-wants_still a b h base = ⊎_elim
-    (λ context. inl (subst (λ (s : ℕ). 0 < s) (sym h.same.stamp) context))
-    (λ bare. inr (λ n. ap (λ xs. get_or xs n false) h.owned ∙ bare n))
-    base
-
-pub missed : (size n : ℕ) (a b : Sat) → HoldsAsBefore a b → owns a.0.part.core n ≡ false → WantsBase a.0.part.core → WantsSigns b.0.part.core → IsOrderly size b → IsAway b.0.part.core → IsOutside size n b
-missed size n a b h lacks base signs o away = record {
+pub wanting : (size n : ℕ) (m : Sat) → owns m.0.part.core n ≡ false → WantsBase m.0.part.core → WantsSigns m.0.part.core → IsOrderly size m → IsAway m.0.part.core → IsOutside size n m
+wanting size n m lacks base signs o away = record {
   orderly = o;
-  want = record { lacks = ap (λ xs. get_or xs n false) h.owned ∙ lacks; base = wants_still a b h base; signs = signs };
+  want = record { lacks = lacks; base = base; signs = signs };
   outside = away.0;
   place = inl away.1;
 }
-
-pub kind_still : (a b : Sat) (kind : Kind) → HoldsAsBefore a b → kind ≡ a.0.part.core.kind → kind ≡ b.0.part.core.kind
-kind_still a b kind h is = is ∙ sym h.same.kind

@@ -27,22 +27,22 @@ use Rattle.ww_seat.proofs.Guards.{listed_orderly, exiting_orderly}
 -- ---- the same of what it holds
 
 pub holds_touched : (m m' : Sat) (a : Option Owner) (b d : List ℕ) (c : Bool) → m'.0 ≡ knowing m.0 (touched m.0.part.core a b d c) → HoldsAsBefore m m'
-holds_touched m m' a b d c e = subst (λ (z : Sight). HoldsAsBefore m (z, m'.1)) (sym e) (record { same = record { kind = refl; who = refl; stamp = refl; own = refl; counts = refl; stopped = refl }; owned = refl; held = refl; takes = refl; deaths = refl })
+holds_touched m m' a b d c e = subst (λ (z : Sight). HoldsAsBefore m (z, m'.1)) (sym e) (record { same = record { kind = refl; who = refl; stamp = refl; own = refl; counts = refl; stopped = refl; pendings = refl }; owned = refl; held = refl; takes = refl; deaths = refl })
 
 pub holds_told : (m m' : Sat) (s : Option ℕ) (c : Bool) → m'.0 ≡ knowing m.0 (told m.0.part.core s c) → HoldsAsBefore m m'
-holds_told m m' s c e = subst (λ (z : Sight). HoldsAsBefore m (z, m'.1)) (sym e) (record { same = record { kind = refl; who = refl; stamp = refl; own = refl; counts = refl; stopped = refl }; owned = refl; held = refl; takes = refl; deaths = refl })
+holds_told m m' s c e = subst (λ (z : Sight). HoldsAsBefore m (z, m'.1)) (sym e) (record { same = record { kind = refl; who = refl; stamp = refl; own = refl; counts = refl; stopped = refl; pendings = refl }; owned = refl; held = refl; takes = refl; deaths = refl })
 
 -- ---- whom it has to wake
 
 -- it condemned nobody, by what its view is then
-pub none_condemned : (m m' : Sat) (w : Sight) → m'.0 ≡ w → w.part.core.who ≡ m.0.part.core.who → w.part.core.condemned ≡ m.0.part.core.condemned → HasCondemnedNone m m'
-none_condemned m m' w view who condemned = record { who = ap (λ (z : Sight). z.part.core.who) view ∙ who; condemned = ap (λ (z : Sight). z.part.core.condemned) view ∙ condemned }
+pub none_condemned : (m m' : Sat) (w : Sight) → m'.0 ≡ w → w.part.core.who ≡ m.0.part.core.who → w.part.core.attempts ≡ m.0.part.core.attempts → w.part.core.condemned ≡ m.0.part.core.condemned → HasCondemnedNone m m'
+none_condemned m m' w view who attempts condemned = record { who = ap (λ (z : Sight). z.part.core.who) view ∙ who; attempts = ap (λ (z : Sight). z.part.core.attempts) view ∙ attempts; condemned = ap (λ (z : Sight). z.part.core.condemned) view ∙ condemned }
 
 pub woken_still : (m m' : Sat) (wakes : List Bool) → HasCondemnedNone m m' → AreWoken m.0.part.core wakes → AreWoken m'.0.part.core wakes
 woken_still m m' wakes none woken u has other = woken u (subst (λ (l : List ℕ). Has l u) none.condemned has) (λ e. other (e ∙ sym none.who))
 
 pub woken_touched : (size : ℕ) (m m' : Sat) (wakes : List Bool) → IsTouched size m m' → AreWoken m.0.part.core wakes → AreWoken m'.0.part.core wakes
-woken_touched size m m' wakes t = woken_still m m' wakes (none_condemned m m' (knowing m.0 (touched m.0.part.core t.seen t.signed m.0.part.core.condemned t.fresh)) t.view refl refl)
+woken_touched size m m' wakes t = woken_still m m' wakes (none_condemned m m' (knowing m.0 (touched m.0.part.core t.seen t.signed m.0.part.core.condemned t.fresh)) t.view refl refl refl)
 
 -- ---- its work goes on
 
@@ -104,18 +104,32 @@ work_told size n before stands again m m' w t = record {
 pub touched_same : (size : ℕ) (m : Sat) → IsOrderly size m → IsTouched size m m
 touched_same size m o = record { orderly = o; seen = m.0.part.core.seen; signed = m.0.part.core.signed; fresh = m.0.part.core.fresh; view = refl }
 
--- a look
-pub touched_looking : (size : ℕ) (m m' : Sat) (o : Owner) → IsOrderly size m → m' ≡ (looking m.0 o, m.1) → IsTouched size m m'
-touched_looking size m m' o was is = record {
-  orderly = orderly_knowing size m m' (has_looked m.0.part.core o) was is refl refl refl refl;
-  seen = Some o;
-  signed = m.0.part.core.signed;
-  fresh = false;
-  view = ap (λ (z : Sat). z.0) is;
-}
+-- a look: it counts
+place_looked : (stands : Bool) (n : ℕ) (v : View) (o : Owner) → IsPlaced stands n v → IsPlaced stands n (has_looked v o)
+place_looked true n v o p = p
+place_looked false n v o p = p
 
 pub work_looked : (size n : ℕ) (stands again : Bool) (m m' : Sat) (o : Owner) → IsOrderly size m → IsWorking n stands again m.0.part.core → m' ≡ (looking m.0 o, m.1) → IsAtWork size n m stands again m'
-work_looked size n stands again m m' o was w is = work_touched size n m stands again m m' (work_same size n stands again m was w) (touched_looking size m m' o was is)
+work_looked size n stands again m m' o was w is = subst (IsAtWork size n m stands again) (sym is) (record {
+  orderly = orderly_knowing size m (looking m.0 o, m.1) (has_looked m.0.part.core o) was refl refl refl refl refl;
+  working = record {
+    want = record { lacks = w.want.lacks; base = w.want.base; signs = w.want.signs };
+    inside = w.inside;
+    seats = w.seats;
+    once = w.once;
+    place = place_looked stands n m.0.part.core o w.place;
+    later = w.later;
+    behind = w.behind;
+  };
+  holds = record { same = record { kind = refl; who = refl; stamp = refl; own = refl; counts = refl; stopped = refl; pendings = refl }; owned = refl; held = refl; takes = refl; deaths = refl };
+  tries = refl;
+})
+
+pub look_counts : (m m' : Sat) (o : Owner) → m' ≡ (looking m.0 o, m.1) → m'.0.part.core.attempts ≡ m.0.part.core.attempts + 1
+look_counts m m' o is = ap (λ (z : Sat). z.0.part.core.attempts) is
+
+pub woken_looked : (m m' : Sat) (o : Owner) (wakes : List Bool) → m' ≡ (looking m.0 o, m.1) → AreWoken m.0.part.core wakes → AreWoken m'.0.part.core wakes
+woken_looked m m' o wakes is woken = subst (λ (z : Sat). AreWoken z.0.part.core wakes) (sym is) woken
 
 -- a step that was lost
 pub touched_lost : (size : ℕ) (m m' : Sat) → IsOrderly size m → m' ≡ (lost m.0, m.1) → IsTouched size m m'

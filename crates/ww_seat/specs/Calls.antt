@@ -16,7 +16,8 @@ use Rattle.ww_rule.specs.Rule.{Sat}
 use Rattle.ww_seat.specs.declared.waiting.Stop.{Stop}
 use Rattle.ww_seat.specs.declared.waiting.Stop.TheVariants.{Deadlk, Interrupted}
 
--- the same seat, with the same context, the same commits and the same interruptions, of which as much is counted
+-- the same seat, with the same context, the same commits and the same interruptions, of which as much is counted; it
+-- found no cancel pending that it would have set
 pub record IsSame (m m' : Sat) : Type 0 where
   pub kind : m'.0.part.core.kind ≡ m.0.part.core.kind
   pub who : m'.0.part.core.who ≡ m.0.part.core.who
@@ -24,6 +25,7 @@ pub record IsSame (m m' : Sat) : Type 0 where
   pub own : m'.0.part.own ≡ m.0.part.own
   pub counts : m'.0.part.counts ≡ m.0.part.counts
   pub stopped : m'.0.part.core.stopped ≡ m.0.part.core.stopped
+  pub pendings : m'.0.part.core.pendings ≡ m.0.part.core.pendings
 
 -- it owns the same locks, and its view names the same nodes; it took none on the way, and didn't back off
 pub record HoldsAsBefore (m m' : Sat) : Type 0 where
@@ -84,6 +86,7 @@ pub record HasStopped (m : Sat) (n by : ℕ) (m' : Sat) : Type 0 where
   pub own : m'.0.part.own ≡ m.0.part.own
   pub counts : m'.0.part.counts ≡ record (m.0.part.counts) { heeded = by ∷ m.0.part.counts.heeded }
   pub stopped : m'.0.part.core.stopped ≡ (n, by) ∷ m.0.part.core.stopped
+  pub pendings : m'.0.part.core.pendings ≡ m.0.part.core.pendings
   pub owned : m'.0.part.core.owned ≡ m.0.part.core.owned
   pub held : m'.0.held ≡ m.0.held
   pub takes : m'.0.part.core.takes ≡ m.0.part.core.takes
@@ -112,6 +115,7 @@ pub record HasBegun (m : Sat) (k : ℕ) (m' : Sat) : Type 0 where
   pub own : m'.0.part.own ≡ m.0.part.own
   pub counts : m'.0.part.counts ≡ record (m.0.part.counts) { draws = m.0.part.counts.draws + 1 }
   pub stopped : m'.0.part.core.stopped ≡ m.0.part.core.stopped
+  pub pendings : m'.0.part.core.pendings ≡ m.0.part.core.pendings
   pub owned : m'.0.part.core.owned ≡ m.0.part.core.owned
   pub held : m'.0.held ≡ m.0.held
   pub tries : m'.0.part.core.tries ≡ m.0.part.core.tries
@@ -127,6 +131,7 @@ pub record HasEnded (m m' : Sat) : Type 0 where
   pub own : m'.0.part.own ≡ m.0.part.own
   pub counts : m'.0.part.counts ≡ m.0.part.counts
   pub stopped : m'.0.part.core.stopped ≡ m.0.part.core.stopped
+  pub pendings : m'.0.part.core.pendings ≡ m.0.part.core.pendings
   pub owned : m'.0.part.core.owned ≡ m.0.part.core.owned
   pub held : m'.0.held ≡ m.0.held
   pub tries : m'.0.part.core.tries ≡ m.0.part.core.tries
@@ -145,6 +150,7 @@ pub record HasCommitted (m : Sat) (place : ℕ) (r : Record) (after : List Node)
   pub stamp : m'.0.part.core.stamp ≡ m.0.part.core.stamp
   pub counts : m'.0.part.counts ≡ m.0.part.counts
   pub stopped : m'.0.part.core.stopped ≡ m.0.part.core.stopped
+  pub pendings : m'.0.part.core.pendings ≡ m.0.part.core.pendings
   pub owned : m'.0.part.core.owned ≡ m.0.part.core.owned
   pub tries : m'.0.part.core.tries ≡ m.0.part.core.tries
   pub takes : m'.0.part.core.takes ≡ m.0.part.core.takes

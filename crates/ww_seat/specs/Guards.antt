@@ -4,17 +4,24 @@ use Rattle.ww_queue.specs.declared.entry.Entry.{Entry}
 use Rattle.ww_queue.specs.declared.kind.Kind.TheVariants.{WaitDie}
 use Rattle.ww_view.specs.View.{owns}
 use Rattle.ww_view.specs.May.{MayLeave}
+use Rattle.ww_rule.specs.declared.cells.Sight.{Sight}
 use Rattle.ww_rule.specs.Rule.{Sat}
+use Rattle.ww_rule.specs.Steps.{knowing}
 use Rattle.ww_rule.specs.Guards.{AreSeats, StandsAs, entering}
 use Rattle.ww_seat.specs.Orderly.{IsOrderly}
 use Rattle.ww_seat.specs.Calls.{HoldsAsBefore, HasGiven}
 
--- the seat went inside, and found this wait list there
+-- it tried so often to go inside a guard, or looked there, and is otherwise as it was
+abbrev pub attempting : Sight → ℕ → Sight
+attempting v k = knowing v (record (v.part.core) { attempts = k })
+
+-- the seat went inside, after as many tries as that took, and found this wait list there
 pub record HasEntered (m : Sat) (n : ℕ) (m' : Sat) : Type 0 where
   pub list : List Entry
+  pub attempts : ℕ
   pub seats : AreSeats list
   pub stands : StandsAs m.0.part.core n list
-  pub view : m'.0 ≡ entering m.0 n list
+  pub view : m'.0 ≡ attempting (entering m.0 n list) attempts
 
 -- ---- the lock is given back inside
 

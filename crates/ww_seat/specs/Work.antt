@@ -49,9 +49,14 @@ pub record IsTold (size : ℕ) (m m' : Sat) : Type 0 where
 abbrev pub AreWoken : View → List Bool → Type 0
 AreWoken v wakes = (u : ℕ) → Has v.condemned u → u ≢ v.who → slice_index_or wakes u false ≡ true
 
--- the same seat, and it condemned nobody
+-- those that had to be woken still have to be
+abbrev pub KeepsMarks : List Bool → List Bool → Type 0
+KeepsMarks was now = (u : ℕ) → slice_index_or was u false ≡ true → slice_index_or now u false ≡ true
+
+-- the same seat, and it condemned nobody, nor did it look at an owner word
 pub record HasCondemnedNone (m m' : Sat) : Type 0 where
   pub who : m'.0.part.core.who ≡ m.0.part.core.who
+  pub attempts : m'.0.part.core.attempts ≡ m.0.part.core.attempts
   pub condemned : m'.0.part.core.condemned ≡ m.0.part.core.condemned
 
 -- ---- where it stands

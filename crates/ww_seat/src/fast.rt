@@ -50,9 +50,8 @@ fn unsign_if_bare(seat: &mut Seat16, board: &Board)
 
 /// Clears a sign that would forbid the seat to want a lock. In Wait-Die a signed seat owns a lock, so nothing is to be
 /// done.
-fn unsign(seat: &mut Seat16, board: &Board, kind: Kind)
+fn unsign(seat: &mut Seat16, board: &Board)
     requires seat { IsSettledAt board.now seat.old }
-    requires kind { kind ≡ seat.old.seat.me.0.part.core.kind }
     ensures seat { IsSettledAt board.now seat.new }
     ensures same { HoldsAsBefore seat.old.seat.me seat.new.seat.me }
     ensures tries { seat.new.seat.me.0.part.core.tries ≡ seat.old.seat.me.0.part.core.tries }
@@ -60,7 +59,7 @@ fn unsign(seat: &mut Seat16, board: &Board, kind: Kind)
     ensures signs { WantsSigns seat.new.seat.me.0.part.core }
     ensures records { seat.new.records ≡ seat.old.records }
 {
-    match kind {
+    match seat.kind() {
         Kind::WoundWait => unsign_if_bare(seat, board),
         Kind::WaitDie => {}
     }
@@ -68,9 +67,8 @@ fn unsign(seat: &mut Seat16, board: &Board, kind: Kind)
 
 /// Takes a lock if it is free and nobody waits for it, and gives its node. It is the first try of every call that takes
 /// a lock: where it fails the seat may go on to want the lock.
-pub fn try_take(seat: &mut Seat16, board: &Board, kind: Kind, lock: u8) -> Option<Node>
+pub fn try_take(seat: &mut Seat16, board: &Board, lock: u8) -> Option<Node>
     requires seat { IsSettledAt board.now seat.old }
-    requires kind { kind ≡ seat.old.seat.me.0.part.core.kind }
     requires lock { lock < size_of board.now }
     requires lacks { owns seat.old.seat.me.0.part.core lock ≡ false }
     requires base { WantsBase seat.old.seat.me.0.part.core }
@@ -83,7 +81,7 @@ pub fn try_take(seat: &mut Seat16, board: &Board, kind: Kind, lock: u8) -> Optio
     ensures signs { IfNone result (WantsSigns seat.new.seat.me.0.part.core) }
     ensures records { seat.new.records ≡ seat.old.records }
 {
-    unsign(seat, board, kind);
+    unsign(seat, board);
     if !seat.take_free(board, lock) {
         return None;
     }

@@ -12,25 +12,10 @@ use std::sync::Wait;
 use ww_queue::Entry;
 use ww_table::{Board, Seat16};
 
-/// Gives a lock back. Where somebody waits for it, the first waiter is woken, whether the lock was handed to it or is
-/// free: a waiter that parks looks only when it is woken.
-pub fn give<R: Wait>(rt: &R, seat: &mut Seat16, board: &Board, lock: u8, wakers: &[Unparker])
-    requires settled { IsSettledAt board.now seat.old }
-    requires lock { lock < size_of board.now }
-    requires owner { owns seat.old.seat.me.0.part.core lock ≡ true }
-    ensures settled { IsSettledAt board.now seat.new }
-    ensures given { HasGiven seat.old.seat.me lock seat.new.seat.me }
-    ensures records { seat.new.records ≡ seat.old.records }
-{
-    if seat.give_free(board, lock) {
-        return;
-    }
-    give_waited(rt, seat, board, lock, wakers);
-}
-
-/// Gives back a lock that somebody may wait for.
+/// Gives a lock back that somebody may wait for. The first waiter is woken, whether the lock was handed to it or is free:
+/// a waiter that parks looks only when it is woken.
 #[cold]
-fn give_waited<R: Wait>(rt: &R, seat: &mut Seat16, board: &Board, lock: u8, wakers: &[Unparker])
+pub fn give_waited<R: Wait>(rt: &R, seat: &mut Seat16, board: &Board, lock: u8, wakers: &[Unparker])
     requires settled { IsSettledAt board.now seat.old }
     requires lock { lock < size_of board.now }
     requires owner { owns seat.old.seat.me.0.part.core lock ≡ true }

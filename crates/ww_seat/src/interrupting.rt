@@ -1,6 +1,6 @@
 //! A wait is called off.
 ghost use Rattle.std.specs.Prelude.{◌≡◌, ◌<◌, Bool, true, false, IfSome, IfNone};
-ghost use Rattle.ww_rule.specs.Cancels.{cancelling};
+ghost use Rattle.ww_rule.specs.Cancels.{cancelling, finding_pending};
 ghost use Rattle.ww_table.specs.Seat.{IsSeatOf, size_of};
 ghost use Rattle.ww_seat.specs.declared.look.Look.TheVariants.{Interrupted};
 ghost use Rattle.ww_seat.specs.Orderly.{IsOrderly, IsSettledAt};
@@ -10,7 +10,6 @@ ghost use Rattle.ww_seat.specs.Work.{HasCondemnedNone, IsWorking, SeesOther, Goe
 use crate::leaving::leave;
 use crate::wake::wake_seat;
 use crossbeam_utils::sync::Unparker;
-use ww_queue::Kind;
 use ww_table::{Board, Seat16};
 use ww_word::Owner;
 
@@ -21,7 +20,7 @@ pub fn cancel(seat: &mut Seat16, board: &Board, victim: u8, wakers: &[Unparker])
     requires victim { victim < 16 }
     ensures settled { IsSettledAt board.now seat.new }
     ensures set { result ≡ true → seat.new.seat.me ≡ (cancelling seat.old.seat.me.0 victim, seat.old.seat.me.1) }
-    ensures pending { result ≡ false → seat.new.seat.me ≡ seat.old.seat.me }
+    ensures pending { result ≡ false → seat.new.seat.me ≡ (finding_pending seat.old.seat.me.0, seat.old.seat.me.1) }
     ensures records { seat.new.records ≡ seat.old.records }
 {
     if !seat.set_cancel(board, victim) {
@@ -36,13 +35,11 @@ pub fn cancel(seat: &mut Seat16, board: &Board, victim: u8, wakers: &[Unparker])
 pub(crate) fn stop_if_cancelled(
     seat: &mut Seat16,
     board: &Board,
-    kind: Kind,
     lock: u8,
     seen: Owner,
     heeds: bool,
 ) -> Option<u8>
     requires seat { IsSeatOf board.now seat.old }
-    requires kind { kind ≡ seat.old.seat.me.0.part.core.kind }
     requires lock { lock < size_of board.now }
     requires orderly { IsOrderly (size_of board.now) seat.old.seat.me }
     requires work { (l : Bool) × IsWorking lock true l seat.old.seat.me.0.part.core }
@@ -65,6 +62,6 @@ pub(crate) fn stop_if_cancelled(
     if !seat.leave(board, lock, seen) {
         unreachable!();
     }
-    leave(seat, board, kind, lock);
+    leave(seat, board, lock);
     Some(mark as u8 - 1)
 }

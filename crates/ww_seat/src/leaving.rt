@@ -11,16 +11,15 @@ use ww_queue::Kind;
 use ww_table::{Board, Seat16};
 
 /// In Wait-Die a context takes its own sign back, where it has one. Inside a guard nobody can sign it again.
-fn take_sign_back(seat: &mut Seat16, board: &Board, kind: Kind)
+fn take_sign_back(seat: &mut Seat16, board: &Board)
     requires seat { IsSeatOf board.now seat.old }
-    requires kind { kind ≡ seat.old.seat.me.0.part.core.kind }
     requires inside { (n : ℕ) × (seat.old.seat.me.0.part.core.inside ≡ suc n) }
     requires lives { seat.old.seat.me.0.part.core.kind ≡ WaitDie → LivesBySeen seat.old.seat.me.0.part.core }
     ensures seat { IsSeatOf board.now seat.new }
     ensures records { seat.new.records ≡ seat.old.records }
     ensures cleared { IsCleared seat.old.seat.me seat.new.seat.me }
 {
-    match kind {
+    match seat.kind() {
         Kind::WoundWait => {}
         Kind::WaitDie => clear_if_signed(seat, board),
     }
@@ -46,9 +45,8 @@ fn clear_if_signed(seat: &mut Seat16, board: &Board)
 }
 
 /// Leaves the guard. In Wait-Die the seat takes back its own sign first: whoever condemned it was met.
-pub(crate) fn leave(seat: &mut Seat16, board: &Board, kind: Kind, lock: u8)
+pub(crate) fn leave(seat: &mut Seat16, board: &Board, lock: u8)
     requires seat { IsSeatOf board.now seat.old }
-    requires kind { kind ≡ seat.old.seat.me.0.part.core.kind }
     requires lock { lock < size_of board.now }
     requires orderly { IsOrderly (size_of board.now) seat.old.seat.me }
     requires may { MayGo lock seat.old.seat.me.0.part.core }
@@ -57,6 +55,6 @@ pub(crate) fn leave(seat: &mut Seat16, board: &Board, kind: Kind, lock: u8)
     ensures orderly { IsOrderly (size_of board.now) seat.new.seat.me }
     ensures view { seat.new.seat.me.0 ≡ exiting seat.old.seat.me.0 }
 {
-    take_sign_back(seat, board, kind);
+    take_sign_back(seat, board);
     seat.exit(board, lock);
 }

@@ -1,9 +1,9 @@
 //! One look at a lock: from just inside its guard to just outside.
-ghost use Rattle.std.specs.Prelude.{ℕ, ◌≡◌, ◌≢◌, ◌<◌, ◌⊎◌, true, false, Some, None, IfSome, IfNone};
+ghost use Rattle.std.specs.Prelude.{ℕ, ◌≡◌, ◌≢◌, ◌<◌, ◌+◌, ◌⊎◌, true, false, Some, None, IfSome, IfNone};
 ghost use Rattle.ww_table.specs.Seat.{IsSeatOf, size_of};
 ghost use Rattle.ww_seat.specs.Orderly.{IsOrderly};
 ghost use Rattle.ww_seat.specs.Looks.{IsInside, IsLook, MayLookSo};
-ghost use Rattle.ww_seat.specs.Work.{AreWoken, IsWorking, IsAtWork};
+ghost use Rattle.ww_seat.specs.Work.{AreWoken, KeepsMarks, IsWorking, IsAtWork};
 
 use crate::interrupting::stop_if_cancelled;
 use crate::standing::{stand, stay_or_back_off};
@@ -11,7 +11,6 @@ use crate::taking::take_inside;
 use crate::wake::Wake;
 use std::sync::Wait;
 use ww_plain::Node;
-use ww_queue::Kind;
 use ww_table::{Board, Seat16};
 use ww_word::Owner;
 
@@ -45,7 +44,6 @@ fn is_ours(seat: &Seat16, seen: Owner) -> bool
 pub fn look_once(
     seat: &mut Seat16,
     board: &Board,
-    kind: Kind,
     lock: u8,
     is_later: bool,
     heeds: bool,
@@ -53,7 +51,6 @@ pub fn look_once(
     wake: &mut Wake,
 ) -> Option<Look>
     requires seat { IsSeatOf board.now seat.old }
-    requires kind { kind ≡ seat.old.seat.me.0.part.core.kind }
     requires lock { lock < size_of board.now }
     requires orderly { IsOrderly (size_of board.now) seat.old.seat.me }
     requires work { IsWorking lock stands.old is_later seat.old.seat.me.0.part.core }
@@ -64,21 +61,23 @@ pub fn look_once(
     ensures heeds { IfSome result (MayLookSo heeds) }
     ensures tries { IfSome result (λ _. seat.new.seat.me.0.part.core.tries ≡ seat.old.seat.me.0.part.core.tries) }
     ensures lost { IfNone result (IsAtWork (size_of board.now) lock seat.old.seat.me stands.new is_later seat.new.seat.me) }
+    ensures attempted { seat.new.seat.me.0.part.core.attempts ≡ seat.old.seat.me.0.part.core.attempts + 1 }
     ensures woken { AreWoken seat.new.seat.me.0.part.core wake.new.seats }
+    ensures kept { KeepsMarks wake.old.seats wake.new.seats }
 {
     let seen = seat.look(board, lock);
     if is_ours(seat, seen) {
-        return match take_inside(seat, board, kind, lock, seen, wake) {
+        return match take_inside(seat, board, lock, seen, wake) {
             Some(node) => Some(Look::Locked(node)),
             None => None,
         };
     }
     let word = stand(seat, board, lock, seen, *stands)?;
     *stands = true;
-    if let Some(by) = stop_if_cancelled(seat, board, kind, lock, word, heeds) {
+    if let Some(by) = stop_if_cancelled(seat, board, lock, word, heeds) {
         return Some(Look::Interrupted(by));
     }
-    stay_or_back_off(seat, board, kind, lock, word, is_later, wake)
+    stay_or_back_off(seat, board, lock, word, is_later, wake)
 }
 
 /// One look at a lock whose guard the seat has just entered, until it is outside again. A compare-exchange that finds
@@ -87,14 +86,12 @@ pub(crate) fn look_at<R: Wait>(
     rt: &R,
     seat: &mut Seat16,
     board: &Board,
-    kind: Kind,
     lock: u8,
     is_later: bool,
     heeds: bool,
     wake: &mut Wake,
 ) -> Look
     requires seat { IsSeatOf board.now seat.old }
-    requires kind { kind ≡ seat.old.seat.me.0.part.core.kind }
     requires lock { lock < size_of board.now }
     requires inside { IsInside (size_of board.now) lock seat.old.seat.me }
     requires later { is_later ≡ seat.old.seat.me.0.part.core.later }
@@ -108,7 +105,7 @@ pub(crate) fn look_at<R: Wait>(
 {
     let mut stands = is_later;
     for _ in rt.forever() {
-        match look_once(seat, board, kind, lock, is_later, heeds, &mut stands, wake) {
+        match look_once(seat, board, lock, is_later, heeds, &mut stands, wake) {
             Some(look) => return look,
             None => {}
         }

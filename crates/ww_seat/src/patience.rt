@@ -64,7 +64,7 @@ impl Patience {
 
     /// A first try has won.
     #[inline]
-    pub(crate) fn win(&mut self) {
+    pub fn win(&mut self) {
         if self.losses > 0 {
             self.calm_down();
         }

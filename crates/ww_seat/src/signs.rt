@@ -5,7 +5,7 @@ ghost use Rattle.ww_view.specs.May.{MayDie};
 ghost use Rattle.ww_table.specs.Seat.{IsSeatOf, size_of};
 ghost use Rattle.ww_rule.specs.Guards.{AreSeats};
 ghost use Rattle.ww_seat.specs.Orderly.{IsOrderly};
-ghost use Rattle.ww_seat.specs.Work.{AreWoken, HasSigned, IsTold, IsWorking, SeesOther, MayStay};
+ghost use Rattle.ww_seat.specs.Work.{AreWoken, KeepsMarks, HasSigned, IsTold, IsWorking, SeesOther, MayStay};
 
 use crate::wake::Wake;
 use ww_queue::Kind;
@@ -14,16 +14,8 @@ use ww_word::Owner;
 
 /// Sets all signs that the seat owes by the word it saw. Those that this call condemned have to be woken; whoever set
 /// the others wakes them.
-pub(crate) fn sign_all(
-    seat: &mut Seat16,
-    board: &Board,
-    kind: Kind,
-    lock: u8,
-    seen: Owner,
-    wake: &mut Wake,
-)
+pub(crate) fn sign_all(seat: &mut Seat16, board: &Board, lock: u8, seen: Owner, wake: &mut Wake)
     requires seat { IsSeatOf board.now seat.old }
-    requires kind { kind ≡ seat.old.seat.me.0.part.core.kind }
     requires lock { lock < size_of board.now }
     requires orderly { IsOrderly (size_of board.now) seat.old.seat.me }
     requires inside { seat.old.seat.me.0.part.core.inside ≡ suc lock }
@@ -35,9 +27,10 @@ pub(crate) fn sign_all(
     ensures records { seat.new.records ≡ seat.old.records }
     ensures signed { HasSigned (size_of board.now) seen seat.old.seat.me seat.new.seat.me }
     ensures woken { AreWoken seat.new.seat.me.0.part.core wake.new.seats }
+    ensures kept { KeepsMarks wake.old.seats wake.new.seats }
 {
     let who = seat.who();
-    let owed = seat.owed_signs(board, lock, kind, seen);
+    let owed = seat.owed_signs(board, lock, seen);
     for pair in owed.as_slice() {
         let (victim, stamp) = *pair;
         let is_condemned = seat.sign(board, lock, victim, stamp);
@@ -46,15 +39,8 @@ pub(crate) fn sign_all(
 }
 
 /// The stamp for which the seat has to die. In Wound-Wait it looks for its sign only where a sign would make it die.
-pub(crate) fn death(
-    seat: &mut Seat16,
-    board: &Board,
-    kind: Kind,
-    lock: u8,
-    seen: Owner,
-) -> Option<u64>
+pub(crate) fn death(seat: &mut Seat16, board: &Board, lock: u8, seen: Owner) -> Option<u64>
     requires seat { IsSeatOf board.now seat.old }
-    requires kind { kind ≡ seat.old.seat.me.0.part.core.kind }
     requires lock { lock < size_of board.now }
     requires orderly { IsOrderly (size_of board.now) seat.old.seat.me }
     requires work { (l : Bool) × IsWorking lock true l seat.old.seat.me.0.part.core }
@@ -65,10 +51,10 @@ pub(crate) fn death(
     ensures death { IfSome result (λ k. MayDie seat.new.seat.me.0.part.core lock seen k) }
     ensures life { IfNone result (MayStay seen seat.new.seat.me.0.part.core) }
 {
-    match kind {
-        Kind::WaitDie => seat.must_die(board, lock, kind, seen, 0),
+    match seat.kind() {
+        Kind::WaitDie => seat.must_die(board, lock, seen, 0),
         Kind::WoundWait => {
-            seat.must_die(board, lock, kind, seen, 1)?;
+            seat.must_die(board, lock, seen, 1)?;
             let sign = seat.own_sign(board);
             if sign == 0 {
                 return None;

@@ -6,13 +6,12 @@ ghost use Rattle.ww_table.specs.Seat.{IsSeatOf, size_of};
 ghost use Rattle.ww_seat.specs.declared.look.Look.TheVariants.{Deadlk};
 ghost use Rattle.ww_seat.specs.Orderly.{IsOrderly};
 ghost use Rattle.ww_seat.specs.Looks.{IsLook, MayLookSo};
-ghost use Rattle.ww_seat.specs.Work.{AreWoken, HasCondemnedNone, IsTouched, IsWorking, IsAtWork, SeesOther, HasStood, HasAsked};
+ghost use Rattle.ww_seat.specs.Work.{AreWoken, KeepsMarks, HasCondemnedNone, IsTouched, IsWorking, IsAtWork, SeesOther, HasStood, HasAsked};
 
 use crate::leaving::leave;
 use crate::look::Look;
 use crate::signs::{death, sign_all};
 use crate::wake::Wake;
-use ww_queue::Kind;
 use ww_table::{Board, Seat16};
 use ww_word::{HANDOFF, Owner, WAITERS};
 
@@ -85,9 +84,8 @@ fn ask_if_first(
 }
 
 /// Leaves the wait list and the guard, as the context has to back off, if the owner word is still the one seen.
-fn back_off(seat: &mut Seat16, board: &Board, kind: Kind, lock: u8, seen: Owner) -> bool
+fn back_off(seat: &mut Seat16, board: &Board, lock: u8, seen: Owner) -> bool
     requires seat { IsSeatOf board.now seat.old }
-    requires kind { kind ≡ seat.old.seat.me.0.part.core.kind }
     requires lock { lock < size_of board.now }
     requires orderly { IsOrderly (size_of board.now) seat.old.seat.me }
     requires work { (l : Bool) × IsWorking lock true l seat.old.seat.me.0.part.core }
@@ -103,7 +101,7 @@ fn back_off(seat: &mut Seat16, board: &Board, kind: Kind, lock: u8, seen: Owner)
     if !seat.die(board, lock, seen) {
         return false;
     }
-    leave(seat, board, kind, lock);
+    leave(seat, board, lock);
     true
 }
 
@@ -112,14 +110,12 @@ fn back_off(seat: &mut Seat16, board: &Board, kind: Kind, lock: u8, seen: Owner)
 pub(crate) fn stay_or_back_off(
     seat: &mut Seat16,
     board: &Board,
-    kind: Kind,
     lock: u8,
     seen: Owner,
     is_later: bool,
     wake: &mut Wake,
 ) -> Option<Look>
     requires seat { IsSeatOf board.now seat.old }
-    requires kind { kind ≡ seat.old.seat.me.0.part.core.kind }
     requires lock { lock < size_of board.now }
     requires orderly { IsOrderly (size_of board.now) seat.old.seat.me }
     requires work { IsWorking lock true is_later seat.old.seat.me.0.part.core }
@@ -132,17 +128,19 @@ pub(crate) fn stay_or_back_off(
     ensures heeds { IfSome result (MayLookSo false) }
     ensures tries { IfSome result (λ _. seat.new.seat.me.0.part.core.tries ≡ seat.old.seat.me.0.part.core.tries) }
     ensures lost { IfNone result (IsAtWork (size_of board.now) lock seat.old.seat.me true is_later seat.new.seat.me) }
+    ensures attempts { seat.new.seat.me.0.part.core.attempts ≡ seat.old.seat.me.0.part.core.attempts }
     ensures woken { AreWoken seat.new.seat.me.0.part.core wake.new.seats }
+    ensures kept { KeepsMarks wake.old.seats wake.new.seats }
 {
     let word = ask_if_first(seat, board, lock, seen, is_later)?;
-    sign_all(seat, board, kind, lock, word, wake);
-    match death(seat, board, kind, lock, word) {
+    sign_all(seat, board, lock, word, wake);
+    match death(seat, board, lock, word) {
         None => {
-            leave(seat, board, kind, lock);
+            leave(seat, board, lock);
             Some(Look::Waits)
         }
         Some(met) => {
-            if !back_off(seat, board, kind, lock, word) {
+            if !back_off(seat, board, lock, word) {
                 return None;
             }
             Some(Look::Deadlk(met))

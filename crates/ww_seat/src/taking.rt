@@ -10,13 +10,12 @@ ghost use Rattle.ww_rule.specs.declared.cells.Cell.TheVariants.{Line};
 ghost use Rattle.ww_seat.specs.declared.look.Look.TheVariants.{Locked};
 ghost use Rattle.ww_seat.specs.Orderly.{IsOrderly};
 ghost use Rattle.ww_seat.specs.Looks.{IsLook};
-ghost use Rattle.ww_seat.specs.Work.{AreWoken, IsTouched, IsWorking};
+ghost use Rattle.ww_seat.specs.Work.{AreWoken, KeepsMarks, IsTouched, IsWorking};
 
 use crate::leaving::leave;
 use crate::signs::sign_all;
 use crate::wake::Wake;
 use ww_plain::Node;
-use ww_queue::Kind;
 use ww_table::{Board, Seat16};
 use ww_word::{Owner, WAITERS};
 
@@ -46,13 +45,11 @@ fn own_word(seat: &mut Seat16, board: &Board, lock: u8) -> Owner
 pub(crate) fn take_inside(
     seat: &mut Seat16,
     board: &Board,
-    kind: Kind,
     lock: u8,
     seen: Owner,
     wake: &mut Wake,
 ) -> Option<Node>
     requires seat { IsSeatOf board.now seat.old }
-    requires kind { kind ≡ seat.old.seat.me.0.part.core.kind }
     requires lock { lock < size_of board.now }
     requires orderly { IsOrderly (size_of board.now) seat.old.seat.me }
     requires work { (s l : Bool) × IsWorking lock s l seat.old.seat.me.0.part.core }
@@ -64,13 +61,15 @@ pub(crate) fn take_inside(
     ensures took { IfSome result (λ x. IsLook (size_of board.now) lock seat.old.seat.me (Locked x) seat.new.seat.me) }
     ensures tries { IfSome result (λ _. seat.new.seat.me.0.part.core.tries ≡ seat.old.seat.me.0.part.core.tries) }
     ensures lost { IfNone result (IsTouched (size_of board.now) seat.old.seat.me seat.new.seat.me) }
+    ensures attempts { seat.new.seat.me.0.part.core.attempts ≡ seat.old.seat.me.0.part.core.attempts }
     ensures woken { AreWoken seat.new.seat.me.0.part.core wake.new.seats }
+    ensures kept { KeepsMarks wake.old.seats wake.new.seats }
 {
     if !seat.take(board, lock, seen) {
         return None;
     }
     let word = own_word(seat, board, lock);
-    sign_all(seat, board, kind, lock, word, wake);
-    leave(seat, board, kind, lock);
+    sign_all(seat, board, lock, word, wake);
+    leave(seat, board, lock);
     Some(seat.node(board, lock))
 }

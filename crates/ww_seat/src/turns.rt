@@ -1,9 +1,9 @@
 //! The calls in turns: each makes a few steps and waits for nobody. Whoever calls waits between them as it likes.
-ghost use Rattle.std.specs.Prelude.{◌≡◌, ◌<◌, ◌==◌, [], not, true, false, slice_get, IfSome, IfNone};
+ghost use Rattle.std.specs.Prelude.{◌≡◌, ◌<◌, ◌+◌, ◌==◌, [], not, true, false, slice_get, IfSome, IfNone};
+ghost use Rattle.std.specs.Option.{option_map};
+ghost use Rattle.ww_queue.specs.declared.entry.Entry.{Entry};
 ghost use Rattle.ww_view.specs.View.{owns};
-ghost use Rattle.ww_view.specs.May.{MayGlance};
-ghost use Rattle.ww_rule.specs.Cancels.{cancelling};
-ghost use Rattle.ww_rule.specs.Guards.{glancing};
+ghost use Rattle.ww_rule.specs.Cancels.{cancelling, finding_pending};
 ghost use Rattle.ww_table.specs.Seat.{IsSeatOf, size_of};
 ghost use Rattle.ww_seat.specs.Orderly.{IsSettledAt};
 ghost use Rattle.ww_seat.specs.Calls.{HasGiven};
@@ -14,18 +14,6 @@ ghost use Rattle.ww_seat.specs.Work.{IsAtWork};
 use ww_queue::Entry;
 use ww_table::{Board, Seat16};
 
-/// One glance at a lock that the seat has just tried in vain: whether nobody owned it. It decides nothing.
-pub fn glance_once(seat: &mut Seat16, board: &Board, lock: u8) -> bool
-    requires seat { IsSeatOf board.now seat.old }
-    requires lock { lock < size_of board.now }
-    requires may { MayGlance seat.old.seat.me.0.part.core }
-    ensures seat { IsSeatOf board.now seat.new }
-    ensures glanced { seat.new.seat.me ≡ (glancing seat.old.seat.me.0, seat.old.seat.me.1) }
-    ensures records { seat.new.records ≡ seat.old.records }
-{
-    seat.glance(board, lock).seat.is_none()
-}
-
 /// One try to go inside the guard of a lock that the seat wants.
 pub fn enter_wanted(seat: &mut Seat16, board: &Board, lock: u8) -> bool
     requires seat { IsSeatOf board.now seat.old }
@@ -35,6 +23,7 @@ pub fn enter_wanted(seat: &mut Seat16, board: &Board, lock: u8) -> bool
     ensures inside { result ≡ true → IsAtWork (size_of board.now) lock seat.old.seat.me (not (seat.old.seat.me.0.part.core.waits == 0)) (not (seat.old.seat.me.0.part.core.waits == 0)) seat.new.seat.me }
     ensures condemned { result ≡ true → seat.new.seat.me.0.part.core.condemned ≡ [] }
     ensures outside { result ≡ false → IsOutside (size_of board.now) lock seat.new.seat.me }
+    ensures attempted { seat.new.seat.me.0.part.core.attempts ≡ seat.old.seat.me.0.part.core.attempts + 1 }
     ensures waits { result ≡ false → seat.new.seat.me.0.part.core.waits ≡ seat.old.seat.me.0.part.core.waits }
     ensures still { result ≡ false → IsStill seat.old.seat.me seat.new.seat.me }
     ensures records { seat.new.records ≡ seat.old.records }
@@ -64,6 +53,7 @@ pub fn enter_owned(seat: &mut Seat16, board: &Board, lock: u8) -> bool
     ensures giving { result ≡ true → IsGiving (size_of board.now) lock seat.new.seat.me }
     ensures settled { result ≡ false → IsSettledAt board.now seat.new }
     ensures still { IsStill seat.old.seat.me seat.new.seat.me }
+    ensures attempted { seat.new.seat.me.0.part.core.attempts ≡ seat.old.seat.me.0.part.core.attempts + 1 }
     ensures records { seat.new.records ≡ seat.old.records }
 {
     seat.enter(board, lock)
@@ -78,6 +68,8 @@ pub fn give_on(seat: &mut Seat16, board: &Board, lock: u8) -> Option<Option<Entr
     ensures settled { IfSome result (λ _. IsSettledAt board.now seat.new) }
     ensures given { IfSome result (λ _. HasGiven seat.old.seat.me lock seat.new.seat.me) }
     ensures first { IfSome result (λ first. first ≡ slice_get seat.old.seat.me.0.part.core.list 0) }
+    ensures heir { IfSome result (λ first. seat.new.seat.me.0.part.core.heir ≡ option_map (λ (e : Entry). e.seat) first) }
+    ensures attempted { seat.new.seat.me.0.part.core.attempts ≡ seat.old.seat.me.0.part.core.attempts + 1 }
     ensures giving { IfNone result (IsGiving (size_of board.now) lock seat.new.seat.me) }
     ensures still { IfNone result (IsStill seat.old.seat.me seat.new.seat.me) }
     ensures records { seat.new.records ≡ seat.old.records }
@@ -97,7 +89,7 @@ pub fn cancel_once(seat: &mut Seat16, board: &Board, victim: u8) -> bool
     requires victim { victim < 16 }
     ensures settled { IsSettledAt board.now seat.new }
     ensures set { result ≡ true → seat.new.seat.me ≡ (cancelling seat.old.seat.me.0 victim, seat.old.seat.me.1) }
-    ensures pending { result ≡ false → seat.new.seat.me ≡ seat.old.seat.me }
+    ensures pending { result ≡ false → seat.new.seat.me ≡ (finding_pending seat.old.seat.me.0, seat.old.seat.me.1) }
     ensures records { seat.new.records ≡ seat.old.records }
 {
     seat.set_cancel(board, victim)

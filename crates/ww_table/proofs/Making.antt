@@ -27,11 +27,12 @@ use Rattle.ww_model.specs.State.{start}
 use Rattle.ww_view.specs.View.{IsBare}
 use Rattle.ww_rule.proofs.Seats.{opens, opens_start, splits, at_end, bare_first}
 
-pub new_seat : (table : TableId) (key : Start) (k : ℕ) (s : Seat16) → s.seat.table_id ≡ table → s.seat.me ≡ (seat_of (length (first_graph key)) (first_part key.kind k), []) → s.who ≡ k → k < 16 → s.stamp ≡ 0 → s.order.items ≡ [] → s.records.items ≡ [] → IsNew table key k s
-new_seat table key k s home me who few stamp order records = record {
+pub new_seat : (table : TableId) (key : Start) (k : ℕ) (s : Seat16) → s.seat.table_id ≡ table → s.seat.me ≡ (seat_of (length (first_graph key)) (first_part key.kind k), []) → s.kind ≡ key.kind → s.who ≡ k → k < 16 → s.stamp ≡ 0 → s.order.items ≡ [] → s.records.items ≡ [] → IsNew table key k s
+new_seat table key k s home me kind who few stamp order records = record {
   seated = record {
     home = home;
     seated = ap (λ (m : Sat). m.0.seated) me;
+    kind = kind ∙ sym (ap (λ (m : Sat). m.0.part.core.kind) me);
     who = ap (λ (m : Sat). m.0.part.core.who) me ∙ sym who;
     few = subst (λ (t : ℕ). t < 16) (sym who) few;
     stamp = ap (λ (m : Sat). m.0.part.core.stamp) me ∙ sym stamp;

@@ -10,11 +10,12 @@ use Rattle.ww_table.specs.declared.seat.Seat16.{Seat16}
 use Rattle.ww_table.specs.Seat.{IsSeated}
 
 -- the seat is as it was, but for its view and the slots that it has out
-pub seated_as : (table : TableId) (s new : Seat16) (w : Sight) → IsSeated table s → new.seat.table_id ≡ s.seat.table_id → new.seat.me.0 ≡ w → w.seated ≡ s.seat.me.0.seated → w.part.core.who ≡ s.seat.me.0.part.core.who
-    → w.part.core.stamp ≡ s.seat.me.0.part.core.stamp → w.part.own ≡ s.seat.me.0.part.own → w.idle ≡ s.seat.me.0.idle → new.who ≡ s.who → new.stamp ≡ s.stamp → new.records.items ≡ s.records.items → new.order.items ≡ numbers_of new.seat.me.1 → IsSeated table new
-seated_as table s new w was home view seated who stamp own idle same_who same_stamp records order = record {
+pub seated_as : (table : TableId) (s new : Seat16) (w : Sight) → IsSeated table s → new.seat.table_id ≡ s.seat.table_id → new.seat.me.0 ≡ w → w.seated ≡ s.seat.me.0.seated → w.part.core.kind ≡ s.seat.me.0.part.core.kind → w.part.core.who ≡ s.seat.me.0.part.core.who
+    → w.part.core.stamp ≡ s.seat.me.0.part.core.stamp → w.part.own ≡ s.seat.me.0.part.own → w.idle ≡ s.seat.me.0.idle → new.kind ≡ s.kind → new.who ≡ s.who → new.stamp ≡ s.stamp → new.records.items ≡ s.records.items → new.order.items ≡ numbers_of new.seat.me.1 → IsSeated table new
+seated_as table s new w was home view seated kind who stamp own idle same_kind same_who same_stamp records order = record {
   home = home ∙ was.home;
   seated = ap (λ (v : Sight). v.seated) view ∙ seated ∙ was.seated;
+  kind = same_kind ∙ was.kind ∙ sym kind ∙ ap (λ (v : Sight). v.part.core.kind) (sym view);
   who = ap (λ (v : Sight). v.part.core.who) view ∙ who ∙ was.who ∙ sym same_who;
   few = subst (λ (t : ℕ). t < 16) (sym same_who) was.few;
   stamp = ap (λ (v : Sight). v.part.core.stamp) view ∙ stamp ∙ was.stamp ∙ sym same_stamp;
@@ -26,5 +27,5 @@ seated_as table s new w was home view seated who stamp own idle same_who same_st
 }
 
 -- ... where these stay too
-pub seated_still : (table : TableId) (s new : Seat16) → IsSeated table s → new.seat.table_id ≡ s.seat.table_id → new.seat.me ≡ s.seat.me → new.who ≡ s.who → new.stamp ≡ s.stamp → new.records.items ≡ s.records.items → new.order.items ≡ s.order.items → IsSeated table new
-seated_still table s new was home same who stamp records order = seated_as table s new s.seat.me.0 was home (ap (λ (m : Sat). m.0) same) refl refl refl refl refl who stamp records (order ∙ was.order ∙ ap (λ (m : Sat). numbers_of m.1) (sym same))
+pub seated_still : (table : TableId) (s new : Seat16) → IsSeated table s → new.seat.table_id ≡ s.seat.table_id → new.seat.me ≡ s.seat.me → new.kind ≡ s.kind → new.who ≡ s.who → new.stamp ≡ s.stamp → new.records.items ≡ s.records.items → new.order.items ≡ s.order.items → IsSeated table new
+seated_still table s new was home same kind who stamp records order = seated_as table s new s.seat.me.0 was home (ap (λ (m : Sat). m.0) same) refl refl refl refl refl refl kind who stamp records (order ∙ was.order ∙ ap (λ (m : Sat). numbers_of m.1) (sym same))

@@ -13,6 +13,7 @@ use Rattle.ww_table.specs.declared.seat.Seat16.{Seat16}
 pub record IsSeated (table : TableId) (s : Seat16) : Type 0 where
   pub home : s.seat.table_id ≡ table
   pub seated : s.seat.me.0.seated ≡ true
+  pub kind : s.kind ≡ s.seat.me.0.part.core.kind
   pub who : s.seat.me.0.part.core.who ≡ s.who
   pub few : s.who < 16
   pub stamp : s.seat.me.0.part.core.stamp ≡ s.stamp

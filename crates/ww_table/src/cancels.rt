@@ -3,7 +3,7 @@ ghost use Rattle.ww_view.specs.View.{IsAway};
 ghost use Rattle.ww_view.specs.May.{MayHeed};
 ghost use Rattle.ww_table.specs.Seat.{IsSeatOf};
 ghost use Rattle.ww_rule.specs.Guards.{lost};
-ghost use Rattle.ww_rule.specs.Cancels.{cancelling, heeding};
+ghost use Rattle.ww_rule.specs.Cancels.{cancelling, finding_pending, heeding};
 
 use crate::board::Board;
 use crate::seat::Seat16;
@@ -20,7 +20,7 @@ impl Seat16 {
         ensures seat { IsSeatOf board.now self.new }
         ensures records { self.new.records ≡ self.old.records }
         ensures set { result ≡ true → self.new.seat.me ≡ (cancelling self.old.seat.me.0 victim, self.old.seat.me.1) }
-        ensures pending { result ≡ false → self.new.seat.me ≡ self.old.seat.me }
+        ensures pending { result ≡ false → self.new.seat.me ≡ (finding_pending self.old.seat.me.0, self.old.seat.me.1) }
     {
         let own = u64::from(self.who) + 1;
         let shared = &board.table.shared;

@@ -8,7 +8,7 @@ ghost use Rattle.ww_rule.specs.declared.cells.Cell.TheVariants.{Line};
 ghost use Rattle.ww_rule.specs.Layout.{list_at};
 ghost use Rattle.ww_table.specs.Seat.{IsSeated, IsSeatOf, size_of};
 ghost use Rattle.ww_rule.specs.Out.{AreOthers, numbers_of, slot_of};
-ghost use Rattle.ww_rule.specs.Guards.{AreSeats, StandsAs, lost, entering, exiting, looking, glancing};
+ghost use Rattle.ww_rule.specs.Guards.{AreSeats, StandsAs, shutting_out, entering, exiting, looking, glancing};
 ghost use Rattle.ww_rule.specs.Waiting.{HasListOnTop};
 
 use crate::board::Board;
@@ -43,7 +43,7 @@ impl Seat16 {
         ensures seat { IsSeatOf board.now self.new }
         ensures records { self.new.records ≡ self.old.records }
         ensures entered { result ≡ true → (q : List Entry) × AreSeats q × StandsAs self.old.seat.me.0.part.core lock q × (self.new.seat.me ≡ (entering self.old.seat.me.0 lock q, (list_at lock, Line q) ∷ self.old.seat.me.1)) }
-        ensures lost { result ≡ false → self.new.seat.me ≡ (lost self.old.seat.me.0, self.old.seat.me.1) }
+        ensures lost { result ≡ false → self.new.seat.me ≡ (shutting_out self.old.seat.me.0, self.old.seat.me.1) }
     {
         let own = u64::from(self.who) + 1;
         let shared = &board.table.shared;

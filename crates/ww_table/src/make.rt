@@ -57,7 +57,7 @@ fn lay(
     match Table::new(alloc, &[0; WORDS], slots, &about) {
         Ok((table, first)) => {
             let board = Board { table, size };
-            let made = cut(alloc, &board.table.shared, first, seats, room);
+            let made = cut(alloc, kind, &board.table.shared, first, seats, room);
             Ok((board, made))
         }
         Err(_) => Err(AllocError),
@@ -67,6 +67,7 @@ fn lay(
 /// Splits off a seat for each number except the last, which the first seat keeps.
 fn cut(
     alloc: Global,
+    kind: Kind,
     shared: &Top,
     mut first: TableSeat,
     seats: u8,
@@ -75,26 +76,28 @@ fn cut(
     requires sized { IsSized shared.now.table_id }
     requires home { first.table_id ≡ shared.now.table_id }
     requires view { first.me ≡ (first_sight shared.now.key, []) }
+    requires kind { kind ≡ shared.now.key.kind }
     requires seats { (seats ≡ shared.now.key.seats) × (1 ≤ seats) × (seats ≤ 16) }
     requires room { (made.items ≡ []) × (vec_len made ≡ 0) × (seats ≤ vec_capacity made) }
     ensures { AreNew shared.now.table_id shared.now.key seats result.items }
 {
     for who in 0..seats - 1 {
         let seat = shared.split_seat::<Seats>(&mut first);
-        made.push_reserved(seated(alloc, seat, who));
+        made.push_reserved(seated(alloc, kind, seat, who));
     }
-    made.push_reserved(seated(alloc, first, seats - 1));
+    made.push_reserved(seated(alloc, kind, first, seats - 1));
     made
 }
 
 /// A seat that did nothing yet.
-fn seated(alloc: Global, seat: TableSeat, who: u8) -> Seat16
-    ensures same { result ≡ record { seat = seat; who = who; stamp = 0; order = result.order; records = result.records } }
+fn seated(alloc: Global, kind: Kind, seat: TableSeat, who: u8) -> Seat16
+    ensures same { result ≡ record { seat = seat; kind = kind; who = who; stamp = 0; order = result.order; records = result.records } }
     ensures order { result.order.items ≡ [] }
     ensures records { result.records.items ≡ [] }
 {
     Seat16 {
         seat,
+        kind,
         who,
         stamp: 0,
         order: ArrayVec::new(),

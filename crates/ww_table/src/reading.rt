@@ -15,26 +15,19 @@ ghost use Rattle.ww_rule.specs.Waiting.{HasListOnTop};
 use crate::board::Board;
 use crate::seat::Seat16;
 use arrayvec::ArrayVec;
-use ww_queue::{Entry, Kind, MAX_WAITERS};
+use ww_queue::{Entry, MAX_WAITERS};
 use ww_rule::lists::{death_there, first_there, flag_there, owed_there, owner_there};
 use ww_word::Owner;
 
 impl Seat16 {
     /// The stamp for which the seat has to die, by the owner that it saw and the wait list.
-    pub fn must_die(
-        &mut self,
-        board: &Board,
-        lock: u8,
-        kind: Kind,
-        seen: Owner,
-        sign: u64,
-    ) -> Option<u64>
+    pub fn must_die(&mut self, board: &Board, lock: u8, seen: Owner, sign: u64) -> Option<u64>
         requires seat { IsSeatOf board.now self.old }
         requires lock { lock < size_of board.now }
         requires list { slot_of self.old.seat.me.1 (list_at lock) ≡ Some (Line self.old.seat.me.0.part.core.list) }
         ensures seat { IsSeatOf board.now self.new }
         ensures read { HasListOnTop self.old.seat.me lock self.new.seat.me }
-        ensures death { result ≡ must_die kind seen self.old.seat.me.0.part.core.list self.old.who sign }
+        ensures death { result ≡ must_die self.old.kind seen self.old.seat.me.0.part.core.list self.old.who sign }
         ensures records { self.new.records ≡ self.old.records }
     {
         let slot = self.bring_list(lock);
@@ -42,7 +35,7 @@ impl Seat16 {
             &mut self.seat,
             &board.table.shared,
             slot,
-            kind,
+            self.kind,
             seen,
             self.who,
             sign,
@@ -54,7 +47,6 @@ impl Seat16 {
         &mut self,
         board: &Board,
         lock: u8,
-        kind: Kind,
         seen: Owner,
     ) -> ArrayVec<(u8, u64), MAX_WAITERS>
         requires seat { IsSeatOf board.now self.old }
@@ -62,7 +54,7 @@ impl Seat16 {
         requires list { slot_of self.old.seat.me.1 (list_at lock) ≡ Some (Line self.old.seat.me.0.part.core.list) }
         ensures seat { IsSeatOf board.now self.new }
         ensures read { HasListOnTop self.old.seat.me lock self.new.seat.me }
-        ensures owed { result.items ≡ owed_signs kind seen self.old.seat.me.0.part.core.list self.old.who }
+        ensures owed { result.items ≡ owed_signs self.old.kind seen self.old.seat.me.0.part.core.list self.old.who }
         ensures records { self.new.records ≡ self.old.records }
     {
         let slot = self.bring_list(lock);
@@ -70,7 +62,7 @@ impl Seat16 {
             &mut self.seat,
             &board.table.shared,
             slot,
-            kind,
+            self.kind,
             seen,
             self.who,
         )

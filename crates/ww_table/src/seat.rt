@@ -17,6 +17,7 @@ ghost use Rattle.ww_rule.specs.Steps.{knowing, drawing, taking, giving, keeping,
 use crate::board::Board;
 use arrayvec::ArrayVec;
 use ww_plain::{Node, Record};
+use ww_queue::Kind;
 use ww_rule::layout::{STAMP, owner_word, sign_word};
 use ww_rule::nodes::{node_there, swap_there};
 use ww_rule::plays::{Draw, End, GiveFree, TakeFree};
@@ -28,6 +29,7 @@ use ww_word::{Owner, pack};
 #[derive(Drop)]
 pub struct Seat16 {
     pub(crate) seat: TableSeat,
+    pub(crate) kind: Kind,
     pub(crate) who: u8,
     pub(crate) stamp: u64,
     /// The slots that it has out, the one taken last at the end.
@@ -36,6 +38,13 @@ pub struct Seat16 {
 }
 
 impl Seat16 {
+    /// The kind of the board's locks.
+    pub fn kind(&self) -> Kind
+        ensures { result ≡ self.now.kind }
+    {
+        self.kind
+    }
+
     /// Its number.
     pub fn who(&self) -> u8
         ensures { result ≡ self.now.who }

@@ -4,8 +4,8 @@ use mathlib.Core.Option.{some}
 use lib.ListN.{get_elem?}
 use Rattle.ww_word.specs.declared.owner.Owner.{Owner}
 use Rattle.ww_word.specs.Owner.{IsValid, packed}
-use Rattle.ww_view.specs.Made.{noted, stepped, glanced, has_looked, has_read, found_none, fast_missed, fast_kept}
-use Rattle.ww_view.proofs.Inside.{mine_look, mine_lost_sign, mine_read, mine_read_none, mine_missed, mine_kept, mine_glanced, mine_stepped}
+use Rattle.ww_view.specs.Made.{noted, stepped, glanced, found_pending, shut_out, has_looked, has_read, found_none, fast_missed, fast_kept}
+use Rattle.ww_view.proofs.Inside.{mine_look, mine_lost_sign, mine_read, mine_read_none, mine_missed, mine_kept, mine_glanced, mine_found_pending, mine_shut_out, mine_stepped}
 use Rattle.ww_rule.specs.declared.cells.Start.{Start}
 use Rattle.ww_rule.specs.Rule.{St, Sat, Sits, Ruled, Stays}
 use Rattle.ww_rule.specs.Guards.{looking, glancing}
@@ -36,7 +36,8 @@ module _ (key : Start) (s : St) (r : Ruled key s) (id : ℕ) (me : Sat) (here : 
   lost_stays i = let c = r.core in let v = me.0.part.core in let k = mine.part.knows in record {
     taking = moves.looks_on key s r id me here seated i (fast_missed v) refl (λ m. refl) (mine_missed c v k);
     giving = moves.looks_on key s r id me here seated i (fast_kept v) refl (λ m. refl) (mine_kept c v k);
-    cancelling = moves.looks_on key s r id me here seated i v refl (λ m. refl) k;
+    cancelling = moves.looks_on key s r id me here seated i (found_pending v) refl (λ m. refl) (mine_found_pending c v k);
+    entering = moves.looks_on key s r id me here seated i (shut_out v) refl (λ m. refl) (mine_shut_out c v k);
     others = moves.looks_on key s r id me here seated i (stepped v) refl (λ m. refl) (mine_stepped c v k);
   }
 

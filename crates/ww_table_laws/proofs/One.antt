@@ -91,9 +91,6 @@ module _ (key : Start) (s : St) (r : Ruled key s) where
   nobody_owns : (n : ℕ) → 64 ≤ n → c.owner n ≡ Nobody
   nobody_owns n beyond = law.base.owners.beyond n (let locks = r.locks in omega arith)
 
-  no_caller : (t : ℕ) → key.seats ≤ t → (i : ℕ) (x : Recorded) → get_elem? r.log i ≡ some x → x.caller ≢ t
-  no_caller t beyond i x here is = let small = r.counted.callers i x here in omega arith
-
 -- what one view says of a number, by both
 record IsTold (key : Start) (s : St) (r r' : Ruled key s) (t : ℕ) : Type 0 where
   part : Part

@@ -13,8 +13,9 @@ use Rattle.ww_rule.specs.declared.cells.Start.{Start}
 use Rattle.ww_rule.specs.Layout.{owner_at, sign_at}
 use Rattle.ww_rule.specs.Rule.{St, Sat, Ruled, Stays}
 use Rattle.ww_rule.specs.Steps.{knowing, keeping, nobody, first_seat, without_first, with_seat}
-use Rattle.ww_rule.specs.Guards.{lost, looking, glancing}
+use Rattle.ww_rule.specs.Guards.{lost, shutting_out, looking, glancing}
 use Rattle.ww_rule.specs.Signs.{noting, reading, finding_none}
+use Rattle.ww_rule.specs.Cancels.{finding_pending}
 use Rattle.ww_table_laws.specs.Laws.{Steps}
 
 -- the table once the seat read a word, or found there another than it expected, and has this view then
@@ -40,12 +41,13 @@ pub record IsNotedOnly (key : Start) (s : St) (r : Ruled key s) (id : ℕ) (me :
 abbrev pub OwnSignIsNoEvent : Type 0
 OwnSignIsNoEvent = (key : Start) (s : St) (r : Ruled key s) (id : ℕ) (me : Sat) → Steps s id me → IsNotedOnly key s r id me (sign_at me.0.part.core.who)
 
--- A try that finds another word than the seat expected: to take a lock at once; to give it back at once, or to set a
--- cancel where one is pending; or at a guard or inside it, or to heed a cancel where none is pending.
+-- A try that finds another word than the seat expected: to take a lock at once; to give it back at once; to set a cancel
+-- where one is pending; to go inside a guard; or inside it, or to heed a cancel where none is pending.
 pub record IsLostOnly (key : Start) (s : St) (r : Ruled key s) (id : ℕ) (me : Sat) (i : ℕ) : Type 0 where
   pub taking : Stays key s r (read s i id me (knowing me.0 (fast_missed me.0.part.core)))
   pub giving : Stays key s r (read s i id me (keeping me.0))
-  pub cancelling : Stays key s r (read s i id me me.0)
+  pub cancelling : Stays key s r (read s i id me (finding_pending me.0))
+  pub entering : Stays key s r (read s i id me (shutting_out me.0))
   pub others : Stays key s r (read s i id me (lost me.0))
 
 abbrev pub LostIsNoEvent : Type 0

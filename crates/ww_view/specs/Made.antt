@@ -1,5 +1,5 @@
 -- What each step makes of the view.
-use Rattle.std.specs.Prelude.{ℕ, zero, suc, ◌+◌, ◌==◌, not, Bool, true, false, List, [], ◌∷◌, Option, Some, None, slice_set}
+use Rattle.std.specs.Prelude.{ℕ, zero, suc, ◌+◌, ◌==◌, not, Bool, true, false, List, [], ◌∷◌, Option, Some, None, slice_get, slice_set}
 use Rattle.std.specs.Option.{option_map, unwrap_or}
 use Rattle.ww_word.specs.declared.owner.Owner.{Owner}
 use Rattle.ww_word.specs.Owner.{with_waiters}
@@ -68,7 +68,15 @@ fast_kept v = record v { fresh = false; kept = v.kept + 1 }
 abbrev pub glanced : View → View
 glanced v = record v { glances = v.glances + 1 }
 
+-- it would set the cancel of a seat, and one was pending
+abbrev pub found_pending : View → View
+found_pending v = record v { pendings = v.pendings + 1 }
+
 -- ---- into the guard and out of it
+
+-- another seat was inside
+abbrev pub shut_out : View → View
+shut_out v = record v { fresh = false; attempts = v.attempts + 1 }
 
 -- with this wait list
 abbrev pub entered : View → ℕ → List Entry → View
@@ -82,6 +90,7 @@ entered v n q = record v {
   later = not (v.waits == 0);
   acted = not (v.waits == 0);
   fresh = false;
+  attempts = v.attempts + 1;
 }
 
 abbrev pub exited : View → View
@@ -130,7 +139,7 @@ taken v n = let q : List Entry = left v.list v.who in record v {
 abbrev pub has_asked : View → Owner → View
 has_asked v o = record v { seen = Some (asked_word o); fresh = false }
 
--- whether HANDOFF stood in the word before
+-- whether HANDOFF stood in the word before; who is to look now is the first waiter
 abbrev pub given : View → ℕ → Bool → View
 given v n asked = record v {
   owned = slice_set v.owned n false;
@@ -139,6 +148,7 @@ given v n asked = record v {
   acted = true;
   fresh = false;
   met = None;
+  heir = option_map (λ (e : Entry). e.seat) (slice_get v.list 0);
 }
 
 -- what it meets at the lock that it is inside of, if it has to die there for a stamp
@@ -182,7 +192,7 @@ interrupted v o = record (departed v o) {
 
 -- it read the word
 abbrev pub has_looked : View → Owner → View
-has_looked v o = record v { seen = Some o; fresh = false }
+has_looked v o = record v { seen = Some o; fresh = false; attempts = v.attempts + 1 }
 
 -- that seat is signed
 abbrev pub noted : View → ℕ → View

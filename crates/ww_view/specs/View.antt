@@ -54,6 +54,9 @@ first_view kind s = record {
   met = None;
   heeded = 0;
   stopped = [];
+  pendings = 0;
+  attempts = 0;
+  heir = None;
 }
 
 -- ---- what the seat knows, each part a definition over just what it reads of the core and of the view

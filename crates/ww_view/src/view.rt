@@ -60,4 +60,10 @@ pub struct View {
     /// How often it was interrupted, the last time first: the lock whose wait list it left, and the seat whose cancel
     /// it had heeded. No other step changes it.
     pub stopped: LinkedList<(u8, u8)>,
+    /// How often it tried to set the cancel of a seat, and found one pending.
+    pub pendings: u64,
+    /// How often it tried to go inside a guard, or read an owner word inside of one.
+    pub attempts: u64,
+    /// The seat that was the first waiter, if somebody waited, as it last gave a lock back inside its guard.
+    pub heir: Option<u8>,
 }

@@ -4,14 +4,14 @@ use Rattle.ww_low_tests.specs.Looking.{just}
 use Rattle.ww_low_tests.proofs.Still.{holds_still, looks_still, settled}
 use Rattle.ww_low_tests.proofs.rings.hand_back.Goals as goal
 
-pub give-requires-clause-settled : goal.give-requires-clause-settled
-give-requires-clause-settled g c = settled _ _ _ _ (holds_still c.compare.ensures c.requires.younger)
+pub give_waited-requires-clause-settled : goal.give_waited-requires-clause-settled
+give_waited-requires-clause-settled g c = settled _ _ _ _ (holds_still c.compare.ensures c.requires.younger)
 
 pub take-requires-clause-may : goal.take-requires-clause-may
 take-requires-clause-may g c = (just 0, looks_still (c.compare-2.ensures ∙ c.compare.ensures) c.requires.older)
 
 pub returns-clause-holds : goal.returns-clause-holds
-returns-clause-holds g c = let h = c.requires.younger.owns in let e = c.give.ensures in holds_still (c.compare-3.ensures ∙ c.compare-2.ensures) (record {
+returns-clause-holds g c = let h = c.requires.younger.owns in let e = c.give_waited.ensures in holds_still (c.compare-3.ensures ∙ c.compare-2.ensures) (record {
   owns = record {
     seated = e.settled.seated;
     orderly = e.settled.orderly;

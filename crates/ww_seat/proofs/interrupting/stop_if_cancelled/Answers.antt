@@ -25,9 +25,9 @@ leave-requires-2-clause-may c = let size = length (first_graph c.args.board.now.
     stopped_goes size c.args.lock c.heed-mark.result c.requires.work.0 m m1 c.requires.orderly c.requires.work.1 is c.if-mark-eq0.false c.args.seen c.leave.new.self.seat.me left
 
 pub returns-then-mark-eq0-clause-condemned : goal.returns-then-mark-eq0-clause-condemned
-returns-then-mark-eq0-clause-condemned c = none_condemned c.args.seat.now.seat.me c.heed-mark.new.self.seat.me (lost c.args.seat.now.seat.me.0) (ap (λ (z : Sat). z.0) (c.heed-mark.ensures.none c.if-mark-eq0.true)) refl refl
+returns-then-mark-eq0-clause-condemned c = none_condemned c.args.seat.now.seat.me c.heed-mark.new.self.seat.me (lost c.args.seat.now.seat.me.0) (ap (λ (z : Sat). z.0) (c.heed-mark.ensures.none c.if-mark-eq0.true)) refl refl refl
 
 pub returns-clause-condemned : goal.returns-clause-condemned
 returns-clause-condemned c = let size = length (first_graph c.args.board.now.table.shared.key) in let m = c.args.seat.now.seat.me in let m1 = c.heed-mark.new.self.seat.me in let is = c.heed-mark.ensures.heeded c.if-mark-eq0.false in
     let left = has_left size c.args.lock c.heed-mark.result c.requires.work.0 m m1 c.requires.orderly c.requires.work.1 is c.if-mark-eq0.false c.args.seen c.leave.new.self.seat.me (c.leave.ensures.left c.if-not-leave.false) in
-    none_condemned m c.leave-2.new.seat.seat.me (exiting (stopping (heeding m.0 c.heed-mark.result) c.args.seen)) (c.leave-2.ensures.view ∙ ap exiting left.view) refl refl
+    none_condemned m c.leave-2.new.seat.seat.me (exiting (stopping (heeding m.0 c.heed-mark.result) c.args.seen)) (c.leave-2.ensures.view ∙ ap exiting left.view) refl refl refl

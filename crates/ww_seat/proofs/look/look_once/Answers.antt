@@ -1,9 +1,6 @@
-use Rattle.std.proofs.Common.{◌≡◌, true, length, refl, ap, sym, ◌∙◌}
-use Rattle.ww_word.specs.declared.owner.Owner.{Owner}
-use Rattle.ww_rule.specs.Rule.{Sat, first_graph}
-use Rattle.ww_rule.specs.Guards.{looking}
-use Rattle.ww_seat.specs.Work.{HasCondemnedNone}
-use Rattle.ww_seat.proofs.Working.{none_condemned, woken_still, work_touched, work_looked}
+use Rattle.std.proofs.Common.{true, length, sym, ◌∙◌}
+use Rattle.ww_rule.specs.Rule.{first_graph}
+use Rattle.ww_seat.proofs.Working.{woken_still, woken_looked, look_counts, work_touched, work_looked}
 use Rattle.ww_seat.proofs.Signing.{if_none}
 use Rattle.ww_seat.proofs.Holds.{stopped_then}
 use Rattle.ww_seat.proofs.Stood.{work_stood, flags_later, look_later, tries_later, work_later}
@@ -24,12 +21,6 @@ pub returns-in_err-word-clause-lost : goal.returns-in_err-word-clause-lost
 returns-in_err-word-clause-lost c = let size = length (first_graph c.args.board.now.table.shared.key) in let n = c.args.lock in let later = c.args.is_later in let stands = c.args.stands.now in let m = c.args.seat.now.seat.me in let m1 = c.look-seen.new.self.seat.me in
     let w1 = work_looked size n stands later m m1 c.look-seen.result c.requires.orderly c.requires.work c.look-seen.ensures.looked in
     if_none c.from_residual.result _ (λ _. work_touched size n m stands later m1 c.stand.new.seat.seat.me w1 c.in_err-word.ensures.lost)
-
-pub stop_if_cancelled-requires-clause-kind : goal.stop_if_cancelled-requires-clause-kind
-stop_if_cancelled-requires-clause-kind c = let size = length (first_graph c.args.board.now.table.shared.key) in let n = c.args.lock in let later = c.args.is_later in let stands = c.args.stands.now in let m = c.args.seat.now.seat.me in let m1 = c.look-seen.new.self.seat.me in
-    let w1 = work_looked size n stands later m m1 c.look-seen.result c.requires.orderly c.requires.work c.look-seen.ensures.looked in
-    let m2 = c.stand.new.seat.seat.me in let w2 = work_stood size n m stands later m1 m2 c.look-seen.result c.in_ok-word.word w1 c.in_ok-word.ensures.stands in
-    c.requires.kind ∙ sym w2.holds.same.kind
 
 pub stop_if_cancelled-requires-clause-orderly : goal.stop_if_cancelled-requires-clause-orderly
 stop_if_cancelled-requires-clause-orderly c = let size = length (first_graph c.args.board.now.table.shared.key) in let n = c.args.lock in let later = c.args.is_later in let stands = c.args.stands.now in let m = c.args.seat.now.seat.me in let m1 = c.look-seen.new.self.seat.me in
@@ -54,13 +45,6 @@ returns-in-Some-stop_if_cancelled-clause-tries c = let size = length (first_grap
     let w1 = work_looked size n stands later m m1 c.look-seen.result c.requires.orderly c.requires.work c.look-seen.ensures.looked in
     let m2 = c.stand.new.seat.seat.me in let w2 = work_stood size n m stands later m1 m2 c.look-seen.result c.in_ok-word.word w1 c.in_ok-word.ensures.stands in
     c.in-Some-stop_if_cancelled.ensures.tries ∙ w2.tries
-
-pub stay_or_back_off-requires-clause-kind : goal.stay_or_back_off-requires-clause-kind
-stay_or_back_off-requires-clause-kind c = let size = length (first_graph c.args.board.now.table.shared.key) in let n = c.args.lock in let later = c.args.is_later in let stands = c.args.stands.now in let m = c.args.seat.now.seat.me in let m1 = c.look-seen.new.self.seat.me in
-    let w1 = work_looked size n stands later m m1 c.look-seen.result c.requires.orderly c.requires.work c.look-seen.ensures.looked in
-    let m2 = c.stand.new.seat.seat.me in let w2 = work_stood size n m stands later m1 m2 c.look-seen.result c.in_ok-word.word w1 c.in_ok-word.ensures.stands in
-    let m3 = c.stop_if_cancelled.new.seat.seat.me in let w3 = work_goes_on size n m later m2 m3 w2 c.in_default.ensures.goes_on in
-    c.requires.kind ∙ sym w3.holds.same.kind
 
 pub stay_or_back_off-requires-clause-orderly : goal.stay_or_back_off-requires-clause-orderly
 stay_or_back_off-requires-clause-orderly c = let size = length (first_graph c.args.board.now.table.shared.key) in let n = c.args.lock in let later = c.args.is_later in let stands = c.args.stands.now in let m = c.args.seat.now.seat.me in let m1 = c.look-seen.new.self.seat.me in
@@ -107,22 +91,34 @@ returns-clause-lost c = let size = length (first_graph c.args.board.now.table.sh
     let m3 = c.stop_if_cancelled.new.seat.seat.me in let w3 = work_goes_on size n m later m2 m3 w2 c.in_default.ensures.goes_on in
     work_later size n m true later m3 c.stay_or_back_off.new.seat.seat.me c.stay_or_back_off.result w3 c.stay_or_back_off.ensures.lost
 
-looked : (m m1 : Sat) (o : Owner) → m1 ≡ (looking m.0 o, m.1) → HasCondemnedNone m m1
-looked m m1 o is = none_condemned m m1 (looking m.0 o) (ap (λ (z : Sat). z.0) is) refl refl
-
 pub take_inside-requires-clause-woken : goal.take_inside-requires-clause-woken
-take_inside-requires-clause-woken c = woken_still c.args.seat.now.seat.me c.look-seen.new.self.seat.me _ (looked c.args.seat.now.seat.me c.look-seen.new.self.seat.me c.look-seen.result c.look-seen.ensures.looked) c.requires.woken
+take_inside-requires-clause-woken c = woken_looked c.args.seat.now.seat.me c.look-seen.new.self.seat.me c.look-seen.result _ c.look-seen.ensures.looked c.requires.woken
 
 pub returns-in_err-word-clause-woken : goal.returns-in_err-word-clause-woken
 returns-in_err-word-clause-woken c = let m1 = c.look-seen.new.self.seat.me in woken_still m1 c.stand.new.seat.seat.me _ c.stand.ensures.condemned
-    (woken_still c.args.seat.now.seat.me m1 _ (looked c.args.seat.now.seat.me m1 c.look-seen.result c.look-seen.ensures.looked) c.requires.woken)
+    (woken_looked c.args.seat.now.seat.me m1 c.look-seen.result _ c.look-seen.ensures.looked c.requires.woken)
 
 pub returns-in-Some-stop_if_cancelled-clause-woken : goal.returns-in-Some-stop_if_cancelled-clause-woken
 returns-in-Some-stop_if_cancelled-clause-woken c = let m1 = c.look-seen.new.self.seat.me in let m2 = c.stand.new.seat.seat.me in
     woken_still m2 c.stop_if_cancelled.new.seat.seat.me _ c.stop_if_cancelled.ensures.condemned (woken_still m1 m2 _ c.stand.ensures.condemned
-    (woken_still c.args.seat.now.seat.me m1 _ (looked c.args.seat.now.seat.me m1 c.look-seen.result c.look-seen.ensures.looked) c.requires.woken))
+    (woken_looked c.args.seat.now.seat.me m1 c.look-seen.result _ c.look-seen.ensures.looked c.requires.woken))
 
 pub stay_or_back_off-requires-clause-woken : goal.stay_or_back_off-requires-clause-woken
 stay_or_back_off-requires-clause-woken c = let m1 = c.look-seen.new.self.seat.me in let m2 = c.stand.new.seat.seat.me in
     woken_still m2 c.stop_if_cancelled.new.seat.seat.me _ c.stop_if_cancelled.ensures.condemned (woken_still m1 m2 _ c.stand.ensures.condemned
-    (woken_still c.args.seat.now.seat.me m1 _ (looked c.args.seat.now.seat.me m1 c.look-seen.result c.look-seen.ensures.looked) c.requires.woken))
+    (woken_looked c.args.seat.now.seat.me m1 c.look-seen.result _ c.look-seen.ensures.looked c.requires.woken))
+
+pub returns-in-Some-clause-attempted : goal.returns-in-Some-clause-attempted
+returns-in-Some-clause-attempted c = c.take_inside.ensures.attempts ∙ look_counts c.args.seat.now.seat.me c.look-seen.new.self.seat.me c.look-seen.result c.look-seen.ensures.looked
+
+pub returns-in-None-clause-attempted : goal.returns-in-None-clause-attempted
+returns-in-None-clause-attempted c = c.take_inside.ensures.attempts ∙ look_counts c.args.seat.now.seat.me c.look-seen.new.self.seat.me c.look-seen.result c.look-seen.ensures.looked
+
+pub returns-in_err-word-clause-attempted : goal.returns-in_err-word-clause-attempted
+returns-in_err-word-clause-attempted c = c.stand.ensures.condemned.attempts ∙ look_counts c.args.seat.now.seat.me c.look-seen.new.self.seat.me c.look-seen.result c.look-seen.ensures.looked
+
+pub returns-in-Some-stop_if_cancelled-clause-attempted : goal.returns-in-Some-stop_if_cancelled-clause-attempted
+returns-in-Some-stop_if_cancelled-clause-attempted c = c.stop_if_cancelled.ensures.condemned.attempts ∙ c.stand.ensures.condemned.attempts ∙ look_counts c.args.seat.now.seat.me c.look-seen.new.self.seat.me c.look-seen.result c.look-seen.ensures.looked
+
+pub returns-clause-attempted : goal.returns-clause-attempted
+returns-clause-attempted c = c.stay_or_back_off.ensures.attempts ∙ c.stop_if_cancelled.ensures.condemned.attempts ∙ c.stand.ensures.condemned.attempts ∙ look_counts c.args.seat.now.seat.me c.look-seen.new.self.seat.me c.look-seen.result c.look-seen.ensures.looked

@@ -26,8 +26,8 @@ pub returns-clause-tries : goal.returns-clause-tries
 returns-clause-tries c = λ _. died_tries c.args.seat.now.seat.me c.die.new.self.seat.me c.leave.new.seat.seat.me c.args.seen (dying_orderly _ c.args.lock c.args.seat.now.seat.me c.die.new.self.seat.me c.args.seen c.requires.orderly c.requires.work.1.inside (c.die.ensures.died c.if-not-die.false)).1 c.leave.ensures.view
 
 pub returns-then-not-die-clause-condemned : goal.returns-then-not-die-clause-condemned
-returns-then-not-die-clause-condemned c = none_condemned c.args.seat.now.seat.me c.die.new.self.seat.me (lost c.args.seat.now.seat.me.0) (ap (λ (z : Sat). z.0) (c.die.ensures.lost c.if-not-die.true).2) refl refl
+returns-then-not-die-clause-condemned c = none_condemned c.args.seat.now.seat.me c.die.new.self.seat.me (lost c.args.seat.now.seat.me.0) (ap (λ (z : Sat). z.0) (c.die.ensures.lost c.if-not-die.true).2) refl refl refl
 
 pub returns-clause-condemned : goal.returns-clause-condemned
 returns-clause-condemned c = let m = c.args.seat.now.seat.me in none_condemned m c.leave.new.seat.seat.me (exiting (dying m.0 c.args.seen))
-    (c.leave.ensures.view ∙ ap exiting (dying_orderly _ c.args.lock m c.die.new.self.seat.me c.args.seen c.requires.orderly c.requires.work.1.inside (c.die.ensures.died c.if-not-die.false)).1) refl refl
+    (c.leave.ensures.view ∙ ap exiting (dying_orderly _ c.args.lock m c.die.new.self.seat.me c.args.seen c.requires.orderly c.requires.work.1.inside (c.die.ensures.died c.if-not-die.false)).1) refl refl refl

@@ -28,7 +28,7 @@ returns-clause-stands c = has_stood _ c.args.lock c.args.seat.now.seat.me c.join
     (subst (λ (x : ℕ). x < 16) (sym c.requires.seat.who) c.requires.seat.few) (subst (λ (x : ℕ). x < 2 ^ 56) (sym c.requires.seat.stamp) c.requires.seat.small) c.requires.seen (c.join.ensures.joined c.if-not-join.false) c.with_waiters.ensures.same (c.with_waiters.ensures.valid c.requires.seen.valid)
 
 pub returns-then-not-join-clause-condemned : goal.returns-then-not-join-clause-condemned
-returns-then-not-join-clause-condemned c = none_condemned c.args.seat.now.seat.me c.join.new.self.seat.me (lost c.args.seat.now.seat.me.0) (ap (λ (z : Sat). z.0) (c.join.ensures.lost c.if-not-join.true)) refl refl
+returns-then-not-join-clause-condemned c = none_condemned c.args.seat.now.seat.me c.join.new.self.seat.me (lost c.args.seat.now.seat.me.0) (ap (λ (z : Sat). z.0) (c.join.ensures.lost c.if-not-join.true)) refl refl refl
 
 pub returns-clause-condemned : goal.returns-clause-condemned
-returns-clause-condemned c = none_condemned c.args.seat.now.seat.me c.join.new.self.seat.me (joining c.args.seat.now.seat.me.0 c.args.lock c.args.seen) (ap (λ (z : Sat). z.0) (c.join.ensures.joined c.if-not-join.false).2) refl refl
+returns-clause-condemned c = none_condemned c.args.seat.now.seat.me c.join.new.self.seat.me (joining c.args.seat.now.seat.me.0 c.args.lock c.args.seen) (ap (λ (z : Sat). z.0) (c.join.ensures.joined c.if-not-join.false).2) refl refl refl

@@ -60,12 +60,27 @@ sign_all-requires-clause-woken c = woken_touched (length (first_graph c.args.boa
 
 pub returns-in-None-clause-woken : goal.returns-in-None-clause-woken
 returns-in-None-clause-woken c = let m2 = c.sign_all.new.seat.seat.me in let m4 = c.leave.new.seat.seat.me in let t = c.death.ensures.told in
-    woken_still m2 m4 _ (none_condemned m2 m4 (exiting (knowing m2.0 (told m2.0.part.core t.sign t.fresh))) (c.leave.ensures.view ∙ ap exiting t.view) refl refl) c.sign_all.ensures.woken
+    woken_still m2 m4 _ (none_condemned m2 m4 (exiting (knowing m2.0 (told m2.0.part.core t.sign t.fresh))) (c.leave.ensures.view ∙ ap exiting t.view) refl refl refl) c.sign_all.ensures.woken
 
 pub returns-then-not-back_off-clause-woken : goal.returns-then-not-back_off-clause-woken
 returns-then-not-back_off-clause-woken c = let m2 = c.sign_all.new.seat.seat.me in let m3 = c.death.new.seat.seat.me in let t = c.death.ensures.told in
-    woken_still m3 c.back_off.new.seat.seat.me _ c.back_off.ensures.condemned (woken_still m2 m3 _ (none_condemned m2 m3 (knowing m2.0 (told m2.0.part.core t.sign t.fresh)) t.view refl refl) c.sign_all.ensures.woken)
+    woken_still m3 c.back_off.new.seat.seat.me _ c.back_off.ensures.condemned (woken_still m2 m3 _ (none_condemned m2 m3 (knowing m2.0 (told m2.0.part.core t.sign t.fresh)) t.view refl refl refl) c.sign_all.ensures.woken)
 
 pub returns-else-not-back_off-clause-woken : goal.returns-else-not-back_off-clause-woken
 returns-else-not-back_off-clause-woken c = let m2 = c.sign_all.new.seat.seat.me in let m3 = c.death.new.seat.seat.me in let t = c.death.ensures.told in
-    woken_still m3 c.back_off.new.seat.seat.me _ c.back_off.ensures.condemned (woken_still m2 m3 _ (none_condemned m2 m3 (knowing m2.0 (told m2.0.part.core t.sign t.fresh)) t.view refl refl) c.sign_all.ensures.woken)
+    woken_still m3 c.back_off.new.seat.seat.me _ c.back_off.ensures.condemned (woken_still m2 m3 _ (none_condemned m2 m3 (knowing m2.0 (told m2.0.part.core t.sign t.fresh)) t.view refl refl refl) c.sign_all.ensures.woken)
+
+pub returns-in_err-word-clause-attempts : goal.returns-in_err-word-clause-attempts
+returns-in_err-word-clause-attempts c = ap (λ (z : Sight). z.part.core.attempts) c.ask_if_first.ensures.touched.view
+
+pub returns-in-None-clause-attempts : goal.returns-in-None-clause-attempts
+returns-in-None-clause-attempts c = ap (λ (z : Sight). z.part.core.attempts) (c.leave.ensures.view ∙ ap exiting c.death.ensures.told.view) ∙ ap (λ (z : Sight). z.part.core.attempts) c.sign_all.ensures.signed.view
+    ∙ ap (λ (z : Sight). z.part.core.attempts) c.ask_if_first.ensures.touched.view
+
+pub returns-then-not-back_off-clause-attempts : goal.returns-then-not-back_off-clause-attempts
+returns-then-not-back_off-clause-attempts c = c.back_off.ensures.condemned.attempts ∙ ap (λ (z : Sight). z.part.core.attempts) c.death.ensures.told.view ∙ ap (λ (z : Sight). z.part.core.attempts) c.sign_all.ensures.signed.view
+    ∙ ap (λ (z : Sight). z.part.core.attempts) c.ask_if_first.ensures.touched.view
+
+pub returns-else-not-back_off-clause-attempts : goal.returns-else-not-back_off-clause-attempts
+returns-else-not-back_off-clause-attempts c = c.back_off.ensures.condemned.attempts ∙ ap (λ (z : Sight). z.part.core.attempts) c.death.ensures.told.view ∙ ap (λ (z : Sight). z.part.core.attempts) c.sign_all.ensures.signed.view
+    ∙ ap (λ (z : Sight). z.part.core.attempts) c.ask_if_first.ensures.touched.view

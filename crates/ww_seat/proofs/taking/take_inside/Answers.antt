@@ -31,13 +31,12 @@ sign_all-requires c = let w = c.requires.work.2 in let size = length (first_grap
     let t2 = taken_read size c.args.lock m m1 m2 _ t1 c.own_word-word.ensures.read in
     let owes = owes_after size c.args.lock c.requires.work.0 c.requires.work.1 m m2 _ c.args.seen w t2 in record {
       seat = c.own_word-word.ensures.seat;
-      kind = c.requires.kind ∙ sym owes.kind;
       lock = c.requires.lock;
       orderly = t2.orderly;
       inside = owes.inside;
       seats = owes.seats;
       valid = c.own_word-word.ensures.valid;
-      woken = woken_still m m2 _ (none_condemned m m2 (taking_inside m.0 c.args.lock (c.take.ensures.took c.if-not-take.false).0) t2.view refl refl) c.requires.woken;
+      woken = woken_still m m2 _ (none_condemned m m2 (taking_inside m.0 c.args.lock (c.take.ensures.took c.if-not-take.false).0) t2.view refl refl refl) c.requires.woken;
       seen = owes.seen ∙ ap Some (sym (word_read c.args.lock m1 m2 _ c.own_word-word.ensures.read c.own_word-word.ensures.word));
     }
 
@@ -48,7 +47,6 @@ leave-requires c = let w = c.requires.work.2 in let size = length (first_graph c
     let owes = owes_after size c.args.lock c.requires.work.0 c.requires.work.1 m m2 _ c.args.seen w t2 in
     let h = c.sign_all.ensures.signed in record {
       seat = c.sign_all.ensures.seat;
-      kind = c.requires.kind ∙ sym owes.kind ∙ sym (ap (λ (z : Sight). z.part.core.kind) h.view);
       lock = c.requires.lock;
       orderly = h.orderly;
       may = taken_goes size c.args.lock c.requires.work.0 c.requires.work.1 m m2 c.sign_all.new.seat.seat.me _ c.own_word-word.result w t2 (word_read c.args.lock m1 m2 _ c.own_word-word.ensures.read c.own_word-word.ensures.word) h;
@@ -78,4 +76,13 @@ returns-then-not-take-clause-woken c = let size = length (first_graph c.args.boa
 
 pub returns-clause-woken : goal.returns-clause-woken
 returns-clause-woken c = let m3 = c.sign_all.new.seat.seat.me in
-    woken_still m3 c.node.new.self.seat.me _ (none_condemned m3 c.node.new.self.seat.me (exiting m3.0) (ap (λ (z : Sat). z.0) c.node.ensures.read.2 ∙ c.leave.ensures.view) refl refl) c.sign_all.ensures.woken
+    woken_still m3 c.node.new.self.seat.me _ (none_condemned m3 c.node.new.self.seat.me (exiting m3.0) (ap (λ (z : Sat). z.0) c.node.ensures.read.2 ∙ c.leave.ensures.view) refl refl refl) c.sign_all.ensures.woken
+
+pub returns-then-not-take-clause-attempts : goal.returns-then-not-take-clause-attempts
+returns-then-not-take-clause-attempts c = ap (λ (z : Sat). z.0.part.core.attempts) (c.take.ensures.lost c.if-not-take.true).2
+
+pub returns-clause-attempts : goal.returns-clause-attempts
+returns-clause-attempts c = let w = c.requires.work.2 in let size = length (first_graph c.args.board.now.table.shared.key) in let m = c.args.seat.now.seat.me in let m1 = c.take.new.self.seat.me in let m2 = c.own_word-word.new.seat.seat.me in
+    let t1 = is_taken size c.args.lock m m1 c.requires.orderly c.requires.lock w.inside w.want.lacks (c.take.ensures.took c.if-not-take.false) in
+    let t2 = taken_read size c.args.lock m m1 m2 _ t1 c.own_word-word.ensures.read in
+    (look_taken size c.args.lock c.requires.work.0 c.requires.work.1 m m2 c.sign_all.new.seat.seat.me c.leave.new.seat.seat.me c.node.new.self.seat.me _ _ _ c.requires.orderly c.requires.lock w t2 c.sign_all.ensures.signed c.leave.ensures.view c.leave.ensures.orderly c.node.ensures.read).2

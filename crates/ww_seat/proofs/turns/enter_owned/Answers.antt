@@ -1,9 +1,10 @@
-use Rattle.std.proofs.Common.{refl, ap, ⊎_elim}
+use Rattle.std.proofs.Common.{refl, ap, ⊎_elim, ◌+◌}
 use Rattle.ww_plain.proofs.Members.{true_or_false}
+use Rattle.ww_rule.specs.Rule.{Sat}
 use Rattle.ww_seat.proofs.Outside.{room_outside}
 use Rattle.ww_seat.proofs.Guards.{entering_orderly}
-use Rattle.ww_seat.proofs.Gives.{owner_enters, entered_giving, still_entered, still_lost}
-use Rattle.ww_seat.proofs.Stepwise.{orderly_lost, away_lost, has_entered}
+use Rattle.ww_seat.proofs.Gives.{owner_enters, entered_giving, still_entered}
+use Rattle.ww_seat.proofs.Stepwise.{orderly_shut, away_shut, still_shut, has_entered}
 use Rattle.ww_seat.proofs.turns.enter_owned.Goals as goal
 
 pub enter-requires-clause-may : goal.enter-requires-clause-may
@@ -14,17 +15,23 @@ enter-requires-clause-room c = room_outside _ _ c.requires.settled.orderly c.req
 
 pub returns-clause-giving : goal.returns-clause-giving
 returns-clause-giving c = λ t. let e = c.enter.ensures.entered t in let m = c.args.seat.now.seat.me in let m1 = c.enter.new.self.seat.me in
-    entered_giving _ m m1 c.args.lock (has_entered m m1 c.args.lock e.0 e.1 e.2 e.3) (entering_orderly _ m m1 c.args.lock e.0 c.requires.settled.orderly c.requires.settled.away.0 e.3) c.requires.settled.away.1 c.requires.owner
+    entered_giving _ m m1 c.args.lock (has_entered m m1 c.args.lock e.0 e.1 e.2 e.3) (entering_orderly _ m m1 c.args.lock e.0 (m.0.part.core.attempts + 1) c.requires.settled.orderly c.requires.settled.away.0 e.3) c.requires.settled.away.1 c.requires.owner
 
 pub returns-clause-settled : goal.returns-clause-settled
 returns-clause-settled c = λ f. let l = c.enter.ensures.lost f in record {
   seated = c.enter.ensures.seat;
-  orderly = orderly_lost _ c.args.seat.now.seat.me c.enter.new.self.seat.me c.requires.settled.orderly l;
-  away = away_lost c.args.seat.now.seat.me c.enter.new.self.seat.me c.requires.settled.away l;
+  orderly = orderly_shut _ c.args.seat.now.seat.me c.enter.new.self.seat.me c.requires.settled.orderly l;
+  away = away_shut c.args.seat.now.seat.me c.enter.new.self.seat.me c.requires.settled.away l;
 }
 
 pub returns-clause-still : goal.returns-clause-still
 returns-clause-still c = ⊎_elim
     (λ t. let e = c.enter.ensures.entered t in still_entered c.args.seat.now.seat.me c.enter.new.self.seat.me c.args.lock (has_entered c.args.seat.now.seat.me c.enter.new.self.seat.me c.args.lock e.0 e.1 e.2 e.3))
-    (λ f. still_lost c.args.seat.now.seat.me c.enter.new.self.seat.me (ap (λ m. m.0) (c.enter.ensures.lost f)))
+    (λ f. still_shut c.args.seat.now.seat.me c.enter.new.self.seat.me (c.enter.ensures.lost f))
+    (true_or_false c.enter.result)
+
+pub returns-clause-attempted : goal.returns-clause-attempted
+returns-clause-attempted c = ⊎_elim
+    (λ t. ap (λ (m : Sat). m.0.part.core.attempts) (c.enter.ensures.entered t).3)
+    (λ f. ap (λ (m : Sat). m.0.part.core.attempts) (c.enter.ensures.lost f))
     (true_or_false c.enter.result)

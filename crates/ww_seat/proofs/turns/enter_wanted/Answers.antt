@@ -1,9 +1,9 @@
-use Rattle.std.proofs.Common.{ap, List, ℕ}
+use Rattle.std.proofs.Common.{ap, ⊎_elim}
+use Rattle.ww_plain.proofs.Members.{true_or_false}
 use Rattle.ww_rule.specs.Rule.{Sat}
 use Rattle.ww_seat.proofs.Outside.{room_outside}
 use Rattle.ww_seat.proofs.Waits.{wanter_enters}
-use Rattle.ww_seat.proofs.Gives.{still_lost}
-use Rattle.ww_seat.proofs.Stepwise.{outside_lost, waits_lost, now_at_work}
+use Rattle.ww_seat.proofs.Stepwise.{outside_shut, waits_shut, still_shut, now_at_work}
 use Rattle.ww_seat.proofs.turns.enter_wanted.Goals as goal
 
 pub enter-requires-clause-may : goal.enter-requires-clause-may
@@ -19,10 +19,16 @@ pub returns-clause-condemned : goal.returns-clause-condemned
 returns-clause-condemned c = λ t. ap (λ (m : Sat). m.0.part.core.condemned) (c.enter.ensures.entered t).3
 
 pub returns-clause-outside : goal.returns-clause-outside
-returns-clause-outside c = λ f. outside_lost _ c.args.lock c.args.seat.now.seat.me c.enter.new.self.seat.me c.requires.outside (c.enter.ensures.lost f)
+returns-clause-outside c = λ f. outside_shut _ c.args.lock c.args.seat.now.seat.me c.enter.new.self.seat.me c.requires.outside (c.enter.ensures.lost f)
 
 pub returns-clause-waits : goal.returns-clause-waits
-returns-clause-waits c = λ f. waits_lost c.args.seat.now.seat.me c.enter.new.self.seat.me (c.enter.ensures.lost f)
+returns-clause-waits c = λ f. waits_shut c.args.seat.now.seat.me c.enter.new.self.seat.me (c.enter.ensures.lost f)
 
 pub returns-clause-still : goal.returns-clause-still
-returns-clause-still c = λ f. still_lost c.args.seat.now.seat.me c.enter.new.self.seat.me (ap (λ m. m.0) (c.enter.ensures.lost f))
+returns-clause-still c = λ f. still_shut c.args.seat.now.seat.me c.enter.new.self.seat.me (c.enter.ensures.lost f)
+
+pub returns-clause-attempted : goal.returns-clause-attempted
+returns-clause-attempted c = ⊎_elim
+    (λ t. ap (λ (m : Sat). m.0.part.core.attempts) (c.enter.ensures.entered t).3)
+    (λ f. ap (λ (m : Sat). m.0.part.core.attempts) (c.enter.ensures.lost f))
+    (true_or_false c.enter.result)

@@ -1,4 +1,9 @@
-use Rattle.std.proofs.Common.{ap, refl, ◌∙◌}
+use Rattle.std.proofs.Common.{ap, refl, sym, ◌∙◌, slice_get}
+use Rattle.std.specs.Option.{option_map}
+use Rattle.ww_queue.specs.declared.entry.Entry.{Entry}
+use Rattle.ww_rule.specs.declared.cells.Sight.{Sight}
+use Rattle.ww_rule.specs.Rule.{Sat}
+use Rattle.ww_rule.specs.Guards.{exiting}
 use Rattle.ww_seat.proofs.Holds.{holds_same}
 use Rattle.ww_seat.proofs.Gives.{read_still, lost_still, still_view, looked_giving, read_giving, giving_out, lost_giving, let_go, has_let}
 use Rattle.ww_seat.proofs.turns.give_on.Goals as goal
@@ -39,3 +44,13 @@ returns-clause-given c = let m = c.args.seat.now.seat.me in let a = looked_givin
     let b = read_giving _ _ c.first-first.new.self.seat.me c.args.lock a c.first-first.ensures.read in let e = c.give.ensures.gave c.if-not-give.false in
     let l = let_go _ m c.first-first.new.self.seat.me c.give.new.self.seat.me c.args.lock e.0 e.1 _ (read_still _ m c.look-seen.new.self.seat.me c.first-first.new.self.seat.me c.args.lock c.look-seen.result (still_view m m refl) c.look-seen.ensures.looked c.first-first.ensures.read) b e.2 e.3 e.4 in
     (has_let _ m m c.give.new.self.seat.me c.exit.new.self.seat.me c.args.lock (still_view m m refl) l c.exit.ensures.view c.exit.ensures.home).2
+
+pub returns-clause-heir : goal.returns-clause-heir
+returns-clause-heir c = ap (λ (v : Sight). v.part.core.heir) (c.exit.ensures.view ∙ ap exiting (c.give.ensures.gave c.if-not-give.false).2) ∙ ap (λ (m : Sat). option_map (λ (e : Entry). e.seat) (slice_get m.0.part.core.list 0)) c.first-first.ensures.read.now
+    ∙ ap (option_map (λ (e : Entry). e.seat)) (sym c.first-first.ensures.first)
+
+pub returns-then-not-give-clause-attempted : goal.returns-then-not-give-clause-attempted
+returns-then-not-give-clause-attempted c = ap (λ (m : Sat). m.0.part.core.attempts) (c.give.ensures.lost c.if-not-give.true).5 ∙ ap (λ (m : Sat). m.0.part.core.attempts) c.first-first.ensures.read.now ∙ ap (λ (m : Sat). m.0.part.core.attempts) c.look-seen.ensures.looked
+
+pub returns-clause-attempted : goal.returns-clause-attempted
+returns-clause-attempted c = ap (λ (v : Sight). v.part.core.attempts) (c.exit.ensures.view ∙ ap exiting (c.give.ensures.gave c.if-not-give.false).2) ∙ ap (λ (m : Sat). m.0.part.core.attempts) c.first-first.ensures.read.now ∙ ap (λ (m : Sat). m.0.part.core.attempts) c.look-seen.ensures.looked

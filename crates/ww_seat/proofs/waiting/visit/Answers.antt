@@ -2,15 +2,12 @@ use Rattle.std.proofs.Common.{◌∙◌, sym, ap, subst, ℕ, List}
 use Rattle.ww_queue.specs.Queue.{Has}
 use Rattle.ww_rule.specs.declared.cells.Sight.{Sight}
 use Rattle.ww_seat.proofs.Gives.{still_entered}
-use Rattle.ww_seat.proofs.Waits.{wanter_enters, entered_inside, entered_kind, entered_later}
+use Rattle.ww_seat.proofs.Waits.{wanter_enters, entered_inside, entered_later}
 use Rattle.ww_seat.proofs.Holds.{look_then}
 use Rattle.ww_seat.proofs.waiting.visit.Goals as goal
 
 pub enter-requires-clause-may : goal.enter-requires-clause-may
 enter-requires-clause-may g c = wanter_enters _ c.args.lock c.args.seat.now.seat.me c.requires.outside
-
-pub look_at-look-requires-clause-kind : goal.look_at-look-requires-clause-kind
-look_at-look-requires-clause-kind g c = entered_kind c.args.lock c.args.seat.now.seat.me c.enter.new.seat.seat.me c.args.kind c.requires.kind c.enter.ensures.entered
 
 pub look_at-look-requires-clause-inside : goal.look_at-look-requires-clause-inside
 look_at-look-requires-clause-inside g c = entered_inside _ c.args.lock c.args.seat.now.seat.me c.enter.new.seat.seat.me c.requires.outside c.enter.ensures.entered c.enter.ensures.orderly

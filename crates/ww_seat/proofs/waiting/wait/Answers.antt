@@ -1,13 +1,10 @@
 use Rattle.std.proofs.Common.{refl, ◌∙◌}
 use Rattle.ww_seat.proofs.Holds.{holds_same, holds_then, taken_then, die_then}
-use Rattle.ww_seat.proofs.Waits.{kind_still, first_look, later_look}
+use Rattle.ww_seat.proofs.Waits.{first_look, later_look}
 use Rattle.ww_seat.proofs.waiting.wait.Goals as goal
 
 pub loop-init : goal.loop-init
 loop-init g c = (tt, tt, c.requires.seat, c.requires.outside, first_look _ c.requires.away, holds_same c.args.seat.now.seat.me, refl, refl)
-
-pub visit-requires-clause-kind : goal.visit-requires-clause-kind
-visit-requires-clause-kind g c = kind_still c.args.seat.now.seat.me c.loop.seat.seat.me c.args.kind c.loop.invariant.5 c.requires.kind
 
 pub visit-requires-clause-outside : goal.visit-requires-clause-outside
 visit-requires-clause-outside g c = c.loop.invariant.3

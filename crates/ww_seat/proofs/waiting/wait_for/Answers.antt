@@ -1,16 +1,14 @@
 use Rattle.std.proofs.Common.{◌∙◌}
-use Rattle.ww_seat.proofs.Waits.{kind_still, ok_then, err_then}
+use Rattle.ww_seat.proofs.Waits.{wanting, ok_then, err_then}
 use Rattle.ww_seat.proofs.Glances.{outside_still, holds_glanced, waits_still, tries_still}
-use Rattle.ww_seat.proofs.waiting.take_late.Goals as goal
-
-pub wait-requires-clause-kind : goal.wait-requires-clause-kind
-wait-requires-clause-kind g c = kind_still c.args.seat.now.seat.me c.stay_away.new.seat.seat.me c.args.kind (holds_glanced _ _ c.stay_away.ensures.glanced) c.requires.kind
+use Rattle.ww_seat.proofs.waiting.wait_for.Goals as goal
 
 pub wait-requires-clause-outside : goal.wait-requires-clause-outside
-wait-requires-clause-outside g c = outside_still _ c.args.lock _ _ c.requires.outside c.stay_away.ensures.glanced
+wait-requires-clause-outside g c = let s = c.requires.settled in
+    outside_still _ c.args.lock _ _ (wanting _ c.args.lock c.args.seat.now.seat.me c.requires.lacks c.requires.base c.requires.signs s.orderly s.away) c.stay_away.ensures.glanced
 
 pub wait-requires-clause-away : goal.wait-requires-clause-away
-wait-requires-clause-away g c = waits_still _ _ c.stay_away.ensures.glanced c.requires.away
+wait-requires-clause-away g c = waits_still _ _ c.stay_away.ensures.glanced c.requires.settled.away.1
 
 pub returns-clause-ok : goal.returns-clause-ok
 returns-clause-ok g c = ok_then _ _ _ c.args.lock c.wait.result (holds_glanced _ _ c.stay_away.ensures.glanced) c.wait.ensures.ok
