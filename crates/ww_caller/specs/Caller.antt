@@ -5,15 +5,11 @@ use Rattle.ww_plain.specs.Transaction.{Transaction}
 use Rattle.ww_plain.specs.Meaning.{answer_of}
 use Rattle.ww_lock.specs.declared.prepared.Receipt.{Receipt}
 use Rattle.ww_lock.specs.Holding.{Holding}
+use Rattle.ww_users.specs.Turns.{KeepsContext}
 
--- the same context of the same pass, which may hold other locks, after some tries more to take one
-pub record IsLocked (s a : Holding) : Type 0 where
-  pub rest : a ≡ record s { held = a.held; seen = a.seen; tries = a.tries; takes = a.takes; deaths = a.deaths }
-  pub size : length a.seen ≡ length s.seen
-
--- it holds what it held, and this node
+-- it is the same context, and holds what it held, and this node
 pub record IsLockedMore (s : Holding) (n : ℕ) (a : Holding) : Type 0 where
-  pub same : IsLocked s a
+  pub same : KeepsContext s a
   pub holds : IsTrue (is_among n a.held)
   pub keeps : (m : ℕ) → IsTrue (is_among m s.held) → IsTrue (is_among m a.held)
 

@@ -5,12 +5,14 @@ ghost use Rattle.std.specs.Prelude.{◌≡◌, ◌≢◌, ◌<◌, length, IfOk,
 ghost use Rattle.ww_plain.specs.Transaction.{move};
 ghost use Rattle.ww_lock.specs.Holding.{IsAtHome};
 ghost use Rattle.ww_lock.specs.Moves.{backed_off};
-ghost use Rattle.ww_caller.specs.Caller.{IsLocked, IsLockedMore, HasBoth, HasRecord};
+ghost use Rattle.ww_users.specs.Turns.{KeepsContext, IsTurn};
+ghost use Rattle.ww_caller.specs.Caller.{IsLockedMore, HasBoth, HasRecord};
 
 use std::sync::Wait;
 use thiserror::Error;
 use ww_lock::{Acquiring, Backoff, Pass, Receipt, World};
 use ww_plain::Txn;
+use ww_users::lock_until;
 
 /// Why nothing was moved, and nothing recorded.
 #[derive(Clone, Copy, Debug, PartialEq, Eq, Drop, Error)]
@@ -62,17 +64,17 @@ fn lock_both<R: Wait>(rt: &R, world: &World, acquiring: Acquiring, from: u8, to:
     requires home { IsAtHome acquiring world.now }
     requires from { from < length world.now.first }
     requires to { to < length world.now.first }
-    ensures locked { IsLocked acquiring result }
+    ensures same { KeepsContext acquiring result }
     ensures both { HasBoth from to result }
 {
-    let mut acquiring = acquiring;
-    for _ in rt.forever() {
-        acquiring = match lock_in_turn(rt, world, acquiring, from, to) {
-            Ok(acquiring) => return acquiring,
-            Err(backoff) => backoff.back_off(rt, world),
-        };
-    }
-    unreachable!()
+    let body = |acquiring: Acquiring|
+        requires home { IsAtHome acquiring world.now }
+        requires from { from < length world.now.first }
+        requires to { to < length world.now.first }
+        ensures turn { IsTurn acquiring result }
+        ensures both { IfOk result (HasBoth from to) }
+    { lock_in_turn(rt, world, acquiring, from, to) };
+    lock_until(rt, world, acquiring, body)
 }
 
 /// Takes two locks in the order given, or as far as it can.
@@ -86,9 +88,8 @@ fn lock_in_turn<R: Wait>(
     requires home { IsAtHome acquiring world.now }
     requires from { from < length world.now.first }
     requires to { to < length world.now.first }
-    ensures locked { IfOk result (IsLocked acquiring) }
+    ensures turn { IsTurn acquiring result }
     ensures both { IfOk result (HasBoth from to) }
-    ensures refused { IfErr result (λ b. IsLocked acquiring b.holding) }
 {
     let acquiring = lock_one(rt, world, acquiring, from)?;
     lock_one(rt, world, acquiring, to)

@@ -14,7 +14,6 @@ use Rattle.ww_view.specs.View.{owns, IsBare}
 use Rattle.ww_table.specs.declared.seat.Seat16.{Seat16}
 use Rattle.ww_rule.specs.declared.cells.Counts.{Counts}
 use Rattle.ww_rule.specs.Steps.{MayDraw}
-use Rattle.ww_rule.specs.Cancels.{cancelling}
 use Rattle.ww_seat.specs.Orderly.{IsSettled}
 use Rattle.ww_seat.specs.declared.waiting.Stop.{Stop}
 use Rattle.ww_seat.specs.declared.waiting.Stop.TheVariants.{Deadlk, Interrupted}
@@ -23,7 +22,7 @@ use Rattle.ww_seat.specs.declared.patience.Patience.{Patience}
 use Rattle.ww_lock.specs.declared.hand.Hand.{Hand}
 use Rattle.ww_lock.specs.Holding.{Holding, Setting, IsAtHome, AreHeld, by_of}
 use Rattle.ww_lock.specs.Carried.{holding_of, Carries, CarriesFresh}
-use Rattle.ww_lock.specs.Moves.{tried, backed_off, IsTaken, IsInterrupted, IsCancelling, IsStop}
+use Rattle.ww_lock.specs.Moves.{tried, with_node, backed_off, IsTaken, IsStop}
 
 pub settled_as : (a b : TableId) (m n : ℕ) (q : Seat16) → a ≡ b → m ≡ n → IsSettled a m q → IsSettled b n q
 settled_as a b m n q same sizes s = subst (λ (t : TableId). IsSettled t n q) same (subst (λ (k : ℕ). IsSettled a k q) sizes s)
@@ -46,12 +45,11 @@ pub record HasMoved (h : Hand) (p : Setting) (q : Seat16) : Type 0 where
   pub settled : IsSettled p.home (length p.first) q
   pub records : q.records ≡ h.seat.records
   pub who : q.seat.me.0.part.core.who ≡ h.seat.seat.me.0.part.core.who
-  pub kind : q.seat.me.0.part.core.kind ≡ h.seat.seat.me.0.part.core.kind
   pub answered : by_of q.seat.me.0.part.core.stopped ≡ q.seat.me.0.part.counts.heeded
 
 -- a state of these parts is seen as a holding of these
 pub holding_is : (h g : Hand) (w p : Setting) (q : Seat16) → p ≡ w → IsAtHome (holding_of h) w → Carries h → HasMoved h p q → g.seat ≡ q → g.left ≡ h.left
-    → holding_of g ≡ record (holding_of h) { draws = q.seat.me.0.part.counts.draws; stamp = q.stamp; held = g.held.items; seen = g.seen; tries = q.seat.me.0.part.core.tries; takes = q.seat.me.0.part.core.takes; deaths = q.seat.me.0.part.core.deaths; cancelled = q.seat.me.0.part.counts.cancelled; interrupted = q.seat.me.0.part.core.stopped }
+    → holding_of g ≡ record (holding_of h) { draws = q.seat.me.0.part.counts.draws; stamp = q.stamp; held = g.held.items; seen = g.seen; tries = q.seat.me.0.part.core.tries; takes = q.seat.me.0.part.core.takes; deaths = q.seat.me.0.part.core.deaths; cancelled = q.seat.me.0.part.counts.cancelled; pendings = q.seat.me.0.part.core.pendings; interrupted = q.seat.me.0.part.core.stopped }
 holding_is h g w p q is home c m seat left =
     let t = at_table (holding_of h) w p is home in
     let table : q.seat.table_id ≡ h.seat.seat.table_id = m.settled.seated.home ∙ sym t.0 in
@@ -59,13 +57,12 @@ holding_is h g w p q is home c m seat left =
     rw (seat, left, table, who, m.records) refl
 
 -- what is known of it, where its parts are these
-pub carries_as : (h g : Hand) (w p : Setting) (q : Seat16) → p ≡ w → IsAtHome (holding_of h) w → Carries h → HasMoved h p q → g.seat ≡ q → g.kind ≡ h.kind → length g.seen ≡ length h.seen
+pub carries_as : (h g : Hand) (w p : Setting) (q : Seat16) → p ≡ w → IsAtHome (holding_of h) w → Carries h → HasMoved h p q → g.seat ≡ q → length g.seen ≡ length h.seen
     → AreHeld g.held.items g.seen → ((n : ℕ) → owns q.seat.me.0.part.core n ≡ is_among n g.held.items) → g.marks ≡ q.seat.me.0.part.core.owned → q.seat.me.0.part.counts.draws + g.left < 2 ^ 32 → length q.records.items + g.left < 2 ^ 32 → Carries g
-carries_as h g w p q is home c m seat kind size held owned marks draws commits =
+carries_as h g w p q is home c m seat size held owned marks draws commits =
     let t = at_table (holding_of h) w p is home in record {
       settled = subst (λ (s : Seat16). IsSettled s.seat.table_id (length g.seen) s) (sym seat)
           (settled_as p.home q.seat.table_id (length p.first) (length g.seen) q (sym m.settled.seated.home) (sym t.1 ∙ sym size) m.settled);
-      kind = kind ∙ c.kind ∙ sym m.kind ∙ ap (λ (s : Seat16). s.seat.me.0.part.core.kind) (sym seat);
       owned = λ n. ap (λ (s : Seat16). owns s.seat.me.0.part.core n) seat ∙ owned n;
       marks = marks ∙ ap (λ (s : Seat16). s.seat.me.0.part.core.owned) (sym seat);
       held = held;
@@ -90,15 +87,15 @@ pub begins : (h : Hand) (w p : Setting) (q : Seat16) (k : ℕ) → p ≡ w → I
 begins h w p q k is home f few settled records b pos =
     let c = f.carries in
     let g : Hand = record h { seat = q } in
-    let m : HasMoved h p q = record { settled = settled; records = records; who = b.who; kind = b.kind; answered = still_answered h q c b.stopped (ap (λ (k : Counts). k.heeded) b.counts) } in
+    let m : HasMoved h p q = record { settled = settled; records = records; who = b.who; answered = still_answered h q c b.stopped (ap (λ (k : Counts). k.heeded) b.counts) } in
     let drew = ap (λ (k : Counts). k.draws) b.counts in
     let many : length q.records.items ≡ length h.seat.records.items = ap (λ r. length r.items) records in record {
       fresh = record {
-        carries = carries_as h g w p q is home c m refl refl refl c.held (λ n. ap (λ (os : List Bool). get_or os n false) b.owned ∙ c.owned n) (c.marks ∙ sym b.owned) (omega (arith, few, drew)) (omega (arith, many, c.commits));
+        carries = carries_as h g w p q is home c m refl refl c.held (λ n. ap (λ (os : List Bool). get_or os n false) b.owned ∙ c.owned n) (c.marks ∙ sym b.owned) (omega (arith, few, drew)) (omega (arith, many, c.commits));
         seen = λ n among. ap (λ hs. get_elem? hs n) b.held ∙ f.seen n among;
         commits = omega (arith, many, f.commits);
       };
-      is = holding_is h g w p q is home c m refl refl ∙ rw (b.counts, b.stopped, b.tries, b.takes, b.deaths) refl;
+      is = holding_is h g w p q is home c m refl refl ∙ rw (b.counts, b.stopped, b.pendings, b.tries, b.takes, b.deaths) refl;
       stamped = omega (arith, pos, b.stamp, settled.seated.stamp);
     }
 
@@ -110,11 +107,11 @@ pub ends : (h : Hand) (w p : Setting) (q : Seat16) → p ≡ w → IsAtHome (hol
     → IsSettled p.home (length p.first) q → q.records ≡ h.seat.records → HasEnded h.seat.seat.me q.seat.me → Ends h (record h { seat = q })
 ends h w p q is home c settled records e =
     let g : Hand = record h { seat = q } in
-    let m : HasMoved h p q = record { settled = settled; records = records; who = e.who; kind = e.kind; answered = still_answered h q c e.stopped (ap (λ (k : Counts). k.heeded) e.counts) } in
+    let m : HasMoved h p q = record { settled = settled; records = records; who = e.who; answered = still_answered h q c e.stopped (ap (λ (k : Counts). k.heeded) e.counts) } in
     let drew = ap (λ (k : Counts). k.draws) e.counts in
     let many : length q.records.items ≡ length h.seat.records.items = ap (λ r. length r.items) records in record {
-      carries = carries_as h g w p q is home c m refl refl refl c.held (λ n. ap (λ (os : List Bool). get_or os n false) e.owned ∙ c.owned n) (c.marks ∙ sym e.owned) (omega (arith, c.draws, drew)) (omega (arith, many, c.commits));
-      is = holding_is h g w p q is home c m refl refl ∙ rw (e.counts, e.stopped, sym settled.seated.stamp ∙ e.stamp, e.tries, e.takes, e.deaths) refl;
+      carries = carries_as h g w p q is home c m refl refl c.held (λ n. ap (λ (os : List Bool). get_or os n false) e.owned ∙ c.owned n) (c.marks ∙ sym e.owned) (omega (arith, c.draws, drew)) (omega (arith, many, c.commits));
+      is = holding_is h g w p q is home c m refl refl ∙ rw (e.counts, e.stopped, e.pendings, sym settled.seated.stamp ∙ e.stamp, e.tries, e.takes, e.deaths) refl;
     }
 
 -- ---- locks
@@ -156,22 +153,22 @@ owns_more owned new held n lt is owns m = elim (true_or_false (eqb n m)) [
     or_nothing false = refl
 
 -- one node more is held
-pub record Takes (h g : Hand) (n : ℕ) : Type 0 where
+pub record Takes (h g : Hand) (n : ℕ) (x : Node) : Type 0 where
   pub fresh : CarriesFresh g
-  pub is : IsTaken (holding_of h) n (holding_of g)
+  pub is : holding_of g ≡ with_node (record (holding_of h) { tries = g.seat.seat.me.0.part.core.tries; takes = (holding_of h).takes + 1 }) n x
 
 pub takes : (h g : Hand) (w p : Setting) (q : Seat16) (n : ℕ) (x : Node) → p ≡ w → IsAtHome (holding_of h) w → CarriesFresh h → n < length h.seen → is_among n h.held.items ≡ false
-    → IsSettled p.home (length p.first) q → q.records ≡ h.seat.records → HasTaken h.seat.seat.me n x q.seat.me → TriedOnce h.seat.seat.me q.seat.me
-    → g.seat ≡ q → g.kind ≡ h.kind → g.left ≡ h.left → g.held.items ≡ h.held.items ++ n ∷ [] → g.marks ≡ set h.marks n true → g.seen ≡ set h.seen n x → Takes h g n
-takes h g w p q n x is home f lt new settled records t once seat kind left grown marked read =
+    → IsSettled p.home (length p.first) q → q.records ≡ h.seat.records → HasTaken h.seat.seat.me n x q.seat.me
+    → g.seat ≡ q → g.left ≡ h.left → g.held.items ≡ h.held.items ++ n ∷ [] → g.marks ≡ set h.marks n true → g.seen ≡ set h.seen n x → Takes h g n x
+takes h g w p q n x is home f lt new settled records t seat left grown marked read =
     let c = f.carries in
-    let m : HasMoved h p q = record { settled = settled; records = records; who = t.same.who; kind = t.same.kind; answered = still_answered h q c t.same.stopped (ap (λ (k : Counts). k.heeded) t.same.counts) } in
+    let m : HasMoved h p q = record { settled = settled; records = records; who = t.same.who; answered = still_answered h q c t.same.stopped (ap (λ (k : Counts). k.heeded) t.same.counts) } in
     let drew = ap (λ (k : Counts). k.draws) t.same.counts in
     let many : length q.records.items ≡ length h.seat.records.items = ap (λ r. length r.items) records in
     let long : length g.seen ≡ length h.seen = ap length read ∙ length-set h.seen n x in
     let wide : n < length h.seat.seat.me.0.part.core.owned = omega (arith, lt, c.held.few, c.settled.orderly.owned) in
     let deep : n < length h.seat.seat.me.0.held = omega (arith, lt, c.settled.orderly.held) in
-    let carried = carries_as h g w p q is home c m seat kind long (held_more h.held.items g.held.items h.seen g.seen n c.held lt new grown long)
+    let carried = carries_as h g w p q is home c m seat long (held_more h.held.items g.held.items h.seen g.seen n c.held lt new grown long)
     (λ k. owns_more h.seat.seat.me.0.part.core.owned q.seat.me.0.part.core.owned h.held.items n wide t.owned c.owned k ∙ ap (is_among k) (sym grown))
     (marked ∙ ap (λ (os : List Bool). set os n true) c.marks ∙ sym t.owned)
     (omega (arith, c.draws, drew, left)) (omega (arith, many, c.commits, left)) in
@@ -188,11 +185,7 @@ takes h g w p q n x is home f lt new settled records t once seat kind left grown
         ];
         commits = subst (λ (s : Seat16). length s.records.items + g.left + 1 < 2 ^ 32) (sym seat) (omega (arith, many, f.commits, left));
       };
-      is = record {
-        new = new;
-        contents = x;
-        added = holding_is h g w p q is home c m seat left ∙ rw (grown, read, t.same.counts, t.same.stopped, once, t.takes, t.deaths, sym settled.seated.stamp ∙ t.same.stamp ∙ c.settled.seated.stamp) refl;
-      };
+      is = holding_is h g w p q is home c m seat left ∙ rw (seat, grown, read, t.same.counts, t.same.stopped, t.same.pendings, t.takes, t.deaths, sym settled.seated.stamp ∙ t.same.stamp ∙ c.settled.seated.stamp) refl;
     }
   where
     rest_among : (held : List ℕ) (n k : ℕ) → eqb n k ≡ false → is_among k (held ++ n ∷ []) ≡ true → is_among k held ≡ true
@@ -200,6 +193,23 @@ takes h g w p q n x is home f lt new settled records t once seat kind left grown
       | inl there ↦ there
       | inr absent ↦ absurd (true≢false (sym e ∙ among_added held n k ∙ ap (λ (b : Bool). b || (eqb n k || false)) absent ∙ ap (λ (b : Bool). b || false) other))
     ]
+
+-- ... by one try
+pub taken_at_once : (h g : Hand) (q : Seat16) (n : ℕ) (x : Node) → is_among n h.held.items ≡ false → g.seat ≡ q → TriedOnce h.seat.seat.me q.seat.me → Takes h g n x → IsTaken (holding_of h) n (holding_of g)
+taken_at_once h g q n x new seat once t = record {
+  new = new;
+  contents = x;
+  added = t.is ∙ ap (λ (k : ℕ). with_node (record (holding_of h) { tries = k; takes = (holding_of h).takes + 1 }) n x) (ap (λ (s : Seat16). s.seat.me.0.part.core.tries) seat ∙ once);
+}
+
+-- ... after one try in vain, by waiting
+pub taken_late : (h g : Hand) (q : Seat16) (n : ℕ) (x : Node) (s : Holding) → is_among n h.held.items ≡ false → g.seat ≡ q → q.seat.me.0.part.core.tries ≡ h.seat.seat.me.0.part.core.tries → Takes h g n x → holding_of h ≡ tried s → IsTaken s n (holding_of g)
+taken_late h g q n x s new seat none t was = record {
+  new = sym (ap (λ (z : Holding). is_among n z.held) was) ∙ new;
+  contents = x;
+  added = t.is ∙ ap (λ (k : ℕ). with_node (record (holding_of h) { tries = k; takes = (holding_of h).takes + 1 }) n x) (ap (λ (s : Seat16). s.seat.me.0.part.core.tries) seat ∙ none)
+      ∙ ap (λ (z : Holding). with_node (record z { takes = z.takes + 1 }) n x) was;
+}
 
 -- nothing more is held, and nothing less
 record Keeps (h g : Hand) : Type 0 where
@@ -211,15 +221,15 @@ keeps : (h : Hand) (w p : Setting) (q : Seat16) (z : Patience) → p ≡ w → I
 keeps h w p q z is home f settled records same owned held =
     let c = f.carries in
     let g : Hand = record h { seat = q; patience = z } in
-    let m : HasMoved h p q = record { settled = settled; records = records; who = same.who; kind = same.kind; answered = still_answered h q c same.stopped (ap (λ (k : Counts). k.heeded) same.counts) } in
+    let m : HasMoved h p q = record { settled = settled; records = records; who = same.who; answered = still_answered h q c same.stopped (ap (λ (k : Counts). k.heeded) same.counts) } in
     let drew = ap (λ (k : Counts). k.draws) same.counts in
     let many : length q.records.items ≡ length h.seat.records.items = ap (λ r. length r.items) records in record {
       fresh = record {
-        carries = carries_as h g w p q is home c m refl refl refl c.held (λ n. ap (λ (os : List Bool). get_or os n false) owned ∙ c.owned n) (c.marks ∙ sym owned) (omega (arith, c.draws, drew)) (omega (arith, many, c.commits));
+        carries = carries_as h g w p q is home c m refl refl c.held (λ n. ap (λ (os : List Bool). get_or os n false) owned ∙ c.owned n) (c.marks ∙ sym owned) (omega (arith, c.draws, drew)) (omega (arith, many, c.commits));
         seen = λ n among. ap (λ hs. get_elem? hs n) held ∙ f.seen n among;
         commits = omega (arith, many, f.commits);
       };
-      is = holding_is h g w p q is home c m refl refl ∙ rw (same.counts, same.stopped, sym settled.seated.stamp ∙ same.stamp ∙ c.settled.seated.stamp) refl;
+      is = holding_is h g w p q is home c m refl refl ∙ rw (same.counts, same.stopped, same.pendings, sym settled.seated.stamp ∙ same.stamp ∙ c.settled.seated.stamp) refl;
     }
 
 -- ... after one try in vain
@@ -227,65 +237,70 @@ pub missed : (h : Hand) (w p : Setting) (q : Seat16) (z : Patience) → p ≡ w 
     → HoldsAsBefore h.seat.seat.me q.seat.me → TriedOnce h.seat.seat.me q.seat.me → CarriesFresh (record h { seat = q; patience = z }) × (holding_of (record h { seat = q; patience = z }) ≡ tried (holding_of h))
 missed h w p q z is home f settled records b once = let k = keeps h w p q z is home f settled records b.same b.owned b.held in (k.fresh, k.is ∙ rw (once, b.takes, b.deaths) refl)
 
--- ... and it had to back off
-pub died : (h : Hand) (w p : Setting) (q : Seat16) (z : Patience) (n k : ℕ) → p ≡ w → IsAtHome (holding_of h) w → CarriesFresh h → IsSettled p.home (length p.first) q → q.records ≡ h.seat.records
-    → HasToDie h.seat.seat.me n k q.seat.me → TriedOnce h.seat.seat.me q.seat.me → CarriesFresh (record h { seat = q; patience = z }) × (holding_of (record h { seat = q; patience = z }) ≡ backed_off (holding_of h))
-died h w p q z n k is home f settled records d once = let kept = keeps h w p q z is home f settled records d.same d.owned d.held in (kept.fresh, kept.is ∙ rw (once, d.takes, d.deaths) refl)
+-- ... and it had to back off, after one try in vain
+died : (h : Hand) (w p : Setting) (q : Seat16) (z : Patience) (n k : ℕ) (s : Holding) → p ≡ w → IsAtHome (holding_of h) w → CarriesFresh h → IsSettled p.home (length p.first) q → q.records ≡ h.seat.records
+    → HasToDie h.seat.seat.me n k q.seat.me → q.seat.me.0.part.core.tries ≡ h.seat.seat.me.0.part.core.tries → holding_of h ≡ tried s → holding_of (record h { seat = q; patience = z }) ≡ backed_off s
+died h w p q z n k s is home f settled records d none was =
+    let kept = keeps h w p q z is home f settled records d.same d.owned d.held in
+    let now : holding_of (record h { seat = q; patience = z }) ≡ record (holding_of h) { deaths = (holding_of h).deaths + 1 } = kept.is ∙ rw (none, d.takes, d.deaths) refl in
+    now ∙ ap (λ (x : Holding). record x { deaths = x.deaths + 1 }) was
+
+-- it lost its first try, as a state sees it that has it in a box
+pub lost_from : {s : Holding} {a b c d : Hand} → holding_of a ≡ s → b ≡ a → holding_of c ≡ tried (holding_of b) → d ≡ c → holding_of d ≡ tried s
+lost_from seen first busy second = ap holding_of second ∙ busy ∙ ap (λ (h : Hand). tried (holding_of h)) first ∙ ap tried seen
+
+-- why it came without the lock, once that is looked at
+pub stop_as : (s a : Holding) (n : ℕ) {why known : Stop} → why ≡ known → IsStop s n why a → IsStop s n known a
+stop_as s a n is stop = subst (λ (w : Stop). IsStop s n w a) is stop
 
 -- its wait was called off, and it holds what it held
-pub record Stops (h g : Hand) (n by : ℕ) : Type 0 where
-  pub fresh : CarriesFresh g
-  pub is : IsInterrupted (holding_of h) n by (holding_of g)
+record Stops (h g : Hand) (n by : ℕ) : Type 0 where
+  fresh : CarriesFresh g
+  is : holding_of g ≡ record (holding_of h) { interrupted = (n, by) ∷ (holding_of h).interrupted }
 
-pub stops : (h : Hand) (w p : Setting) (q : Seat16) (z : Patience) (n by : ℕ) → p ≡ w → IsAtHome (holding_of h) w → CarriesFresh h → is_among n h.held.items ≡ false → IsSettled p.home (length p.first) q → q.records ≡ h.seat.records
-    → HasStopped h.seat.seat.me n by q.seat.me → TriedOnce h.seat.seat.me q.seat.me → Stops h (record h { seat = q; patience = z }) n by
-stops h w p q z n by is home f new settled records b once =
+stops : (h : Hand) (w p : Setting) (q : Seat16) (z : Patience) (n by : ℕ) → p ≡ w → IsAtHome (holding_of h) w → CarriesFresh h → IsSettled p.home (length p.first) q → q.records ≡ h.seat.records
+    → HasStopped h.seat.seat.me n by q.seat.me → q.seat.me.0.part.core.tries ≡ h.seat.seat.me.0.part.core.tries → Stops h (record h { seat = q; patience = z }) n by
+stops h w p q z n by is home f settled records b none =
     let c = f.carries in
     let g : Hand = record h { seat = q; patience = z } in
     let heeded = ap (λ (k : Counts). k.heeded) b.counts in
-    let m : HasMoved h p q = record { settled = settled; records = records; who = b.who; kind = b.kind; answered = ap by_of b.stopped ∙ ap (λ (bs : List ℕ). by ∷ bs) c.answered ∙ sym heeded } in
+    let m : HasMoved h p q = record { settled = settled; records = records; who = b.who; answered = ap by_of b.stopped ∙ ap (λ (bs : List ℕ). by ∷ bs) c.answered ∙ sym heeded } in
     let drew = ap (λ (k : Counts). k.draws) b.counts in
     let many : length q.records.items ≡ length h.seat.records.items = ap (λ r. length r.items) records in record {
       fresh = record {
-        carries = carries_as h g w p q is home c m refl refl refl c.held (λ k. ap (λ (os : List Bool). get_or os k false) b.owned ∙ c.owned k) (c.marks ∙ sym b.owned) (omega (arith, c.draws, drew)) (omega (arith, many, c.commits));
+        carries = carries_as h g w p q is home c m refl refl c.held (λ k. ap (λ (os : List Bool). get_or os k false) b.owned ∙ c.owned k) (c.marks ∙ sym b.owned) (omega (arith, c.draws, drew)) (omega (arith, many, c.commits));
         seen = λ k among. ap (λ hs. get_elem? hs k) b.held ∙ f.seen k among;
         commits = omega (arith, many, f.commits);
       };
-      is = record {
-        new = new;
-        told = holding_is h g w p q is home c m refl refl ∙ rw (b.counts, b.stopped, once, b.takes, b.deaths, sym settled.seated.stamp ∙ b.stamp ∙ c.settled.seated.stamp) refl;
-      };
-    }
-
--- it called off the wait of another
-pub record Cancels (h g : Hand) (who : ℕ) : Type 0 where
-  pub carries : Carries g
-  pub is : IsCancelling (holding_of h) who (holding_of g)
-
-pub cancels : (h : Hand) (w p : Setting) (q : Seat16) (who : ℕ) → p ≡ w → IsAtHome (holding_of h) w → Carries h → IsSettled p.home (length p.first) q → q.records ≡ h.seat.records
-    → q.seat.me ≡ (cancelling h.seat.seat.me.0 who, h.seat.seat.me.1) → Cancels h (record h { seat = q }) who
-cancels h w p q who is home c settled records me =
-    let g : Hand = record h { seat = q } in
-    let m : HasMoved h p q = record { settled = settled; records = records; who = rw me refl; kind = rw me refl; answered = rw me c.answered } in
-    let many : length q.records.items ≡ length h.seat.records.items = ap (λ r. length r.items) records in record {
-      carries = carries_as h g w p q is home c m refl refl refl c.held (λ n. rw me (c.owned n)) (rw me c.marks) (rw me c.draws) (omega (arith, many, c.commits));
-      is = holding_is h g w p q is home c m refl refl ∙ rw (sym settled.seated.stamp, me, c.settled.seated.stamp) refl;
+      is = holding_is h g w p q is home c m refl refl ∙ rw (b.counts, b.stopped, b.pendings, none, b.takes, b.deaths, sym settled.seated.stamp ∙ b.stamp ∙ c.settled.seated.stamp) refl;
     }
 
 -- what has to die holds a node
-pub holds_one : (h : Hand) → Carries h → (j : ℕ) × (owns h.seat.seat.me.0.part.core j ≡ true) → 1 ≤ length h.held.items
+holds_one : (h : Hand) → Carries h → (j : ℕ) × (owns h.seat.seat.me.0.part.core j ≡ true) → 1 ≤ length h.held.items
 holds_one h c one = some_among h.held.items one.0 (sym (c.owned one.0) ∙ one.1)
   where
     some_among : (ns : List ℕ) (n : ℕ) → is_among n ns ≡ true → 1 ≤ length ns
     some_among [] n e = absurd (true≢false (sym e))
     some_among (m ∷ ms) n e = omega arith
 
--- it came without the lock
-pub turned_away : (h : Hand) (w p : Setting) (q : Seat16) (z : Patience) (n : ℕ) (why : Stop) → p ≡ w → IsAtHome (holding_of h) w → CarriesFresh h → is_among n h.held.items ≡ false → IsSettled p.home (length p.first) q → q.records ≡ h.seat.records
-    → IsTurnedAway h.seat.seat.me n why q.seat.me → TriedOnce h.seat.seat.me q.seat.me → CarriesFresh (record h { seat = q; patience = z }) × IsStop (holding_of h) n why (holding_of (record h { seat = q; patience = z }))
-turned_away h w p q z n (Deadlk k) is home f new settled records d once = let told = died h w p q z n k is home f settled records d once in
-    (told.0, (told.1, d.context, omega (arith, d.older, f.carries.settled.seated.stamp), holds_one h f.carries d.one))
-turned_away h w p q z n (Interrupted by) is home f new settled records d once = let s = stops h w p q z n by is home f new settled records d once in (s.fresh, s.is)
+-- it came without the lock, after one try in vain
+pub turned_away : (h : Hand) (w p : Setting) (q : Seat16) (z : Patience) (n : ℕ) (why : Stop) (s : Holding) → p ≡ w → IsAtHome (holding_of h) w → CarriesFresh h → is_among n h.held.items ≡ false → IsSettled p.home (length p.first) q → q.records ≡ h.seat.records
+    → IsTurnedAway h.seat.seat.me n why q.seat.me → q.seat.me.0.part.core.tries ≡ h.seat.seat.me.0.part.core.tries → holding_of h ≡ tried s → IsStop s n why (holding_of (record h { seat = q; patience = z }))
+turned_away h w p q z n (Deadlk k) s is home f new settled records d none was =
+    let stamp = ap (λ (x : Holding). x.stamp) was in
+    let held = ap (λ (x : Holding). length x.held) was in
+    let some = holds_one h f.carries d.one in
+    (died h w p q z n k s is home f settled records d none was, d.context, omega (arith, d.older, f.carries.settled.seated.stamp, stamp), omega (arith, some, held))
+turned_away h w p q z n (Interrupted by) s is home f new settled records d none was = record {
+  new = sym (ap (λ (x : Holding). is_among n x.held) was) ∙ new;
+  told = (stops h w p q z n by is home f settled records d none).is ∙ ap (λ (x : Holding). record x { interrupted = (n, by) ∷ x.interrupted }) was;
+}
+
+-- ... and may still commit what it holds
+pub turned_fresh : (h : Hand) (w p : Setting) (q : Seat16) (z : Patience) (n : ℕ) (why : Stop) → p ≡ w → IsAtHome (holding_of h) w → CarriesFresh h → IsSettled p.home (length p.first) q → q.records ≡ h.seat.records
+    → IsTurnedAway h.seat.seat.me n why q.seat.me → q.seat.me.0.part.core.tries ≡ h.seat.seat.me.0.part.core.tries → CarriesFresh (record h { seat = q; patience = z })
+turned_fresh h w p q z n (Deadlk k) is home f settled records d none = (keeps h w p q z is home f settled records d.same d.owned d.held).fresh
+turned_fresh h w p q z n (Interrupted by) is home f settled records d none = (stops h w p q z n by is home f settled records d none).fresh
 
 -- ---- giving back
 
@@ -336,9 +351,9 @@ pub record Gives (h g : Hand) : Type 0 where
 
 pub gives : (h g : Hand) (w p : Setting) (q : Seat16) (front : List ℕ) (n : ℕ) → p ≡ w → IsAtHome (holding_of h) w → Carries h → h.held.items ≡ front ++ n ∷ []
     → IsSettled p.home (length p.first) q → q.records ≡ h.seat.records → HasGiven h.seat.seat.me n q.seat.me
-    → g.seat ≡ q → g.kind ≡ h.kind → g.left ≡ h.left → g.held.items ≡ front → g.marks ≡ set h.marks n false → g.seen ≡ h.seen → Gives h g
-gives h g w p q front n is home c was settled records b seat kind left now marked seen =
-    let m : HasMoved h p q = record { settled = settled; records = records; who = b.same.who; kind = b.same.kind; answered = still_answered h q c b.same.stopped (ap (λ (k : Counts). k.heeded) b.same.counts) } in
+    → g.seat ≡ q → g.left ≡ h.left → g.held.items ≡ front → g.marks ≡ set h.marks n false → g.seen ≡ h.seen → Gives h g
+gives h g w p q front n is home c was settled records b seat left now marked seen =
+    let m : HasMoved h p q = record { settled = settled; records = records; who = b.same.who; answered = still_answered h q c b.same.stopped (ap (λ (k : Counts). k.heeded) b.same.counts) } in
     let drew = ap (λ (k : Counts). k.draws) b.same.counts in
     let many : length q.records.items ≡ length h.seat.records.items = ap (λ r. length r.items) records in
     let l = last_held h front n c was in
@@ -349,11 +364,11 @@ gives h g w p q front n is home c was settled records b seat kind left now marke
       once = apart.0;
       few = c.held.few;
     } in record {
-      carries = carries_as h g w p q is home c m seat kind (ap length seen) (rw (now, seen) held)
+      carries = carries_as h g w p q is home c m seat (ap length seen) (rw (now, seen) held)
           (λ k. owns_less h.seat.seat.me.0.part.core.owned q.seat.me.0.part.core.owned front n wide b.owned (λ j. c.owned j ∙ ap (is_among j) was) apart.1 k ∙ ap (is_among k) (sym now))
           (marked ∙ ap (λ (os : List Bool). set os n false) c.marks ∙ sym b.owned)
           (omega (arith, c.draws, drew, left)) (omega (arith, many, c.commits, left));
-      is = holding_is h g w p q is home c m seat left ∙ rw (seen, b.same.counts, b.same.stopped, b.tries, b.takes, b.deaths, sym settled.seated.stamp ∙ b.same.stamp ∙ c.settled.seated.stamp) refl;
+      is = holding_is h g w p q is home c m seat left ∙ rw (seen, b.same.counts, b.same.stopped, b.same.pendings, b.tries, b.takes, b.deaths, sym settled.seated.stamp ∙ b.same.stamp ∙ c.settled.seated.stamp) refl;
     }
 
 -- a state is at home where one that differs in the nodes that are held was

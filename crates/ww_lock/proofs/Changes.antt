@@ -15,7 +15,6 @@ use Rattle.ww_plain.proofs.Walks.{gives_walk}
 use Rattle.ww_rule.specs.declared.cells.Counts.{Counts}
 use Rattle.ww_table.specs.declared.seat.Seat16.{Seat16}
 use Rattle.ww_view.specs.View.{owns}
-use Rattle.ww_table.specs.Seat.{IsSeated}
 use Rattle.ww_seat.specs.Orderly.{IsSettled}
 use Rattle.ww_seat.specs.Calls.{HoldsAll, HasCommitted}
 use Rattle.ww_lock.specs.declared.hand.Hand.{Hand}
@@ -142,7 +141,6 @@ commits h w pl q p r after ns told is home f settled b same seq reply capacity =
     record {
       carries = record {
         settled = settled_as pl.home q.seat.table_id (length pl.first) (length h.seen) q (sym settled.seated.home) (sym t.1) settled;
-        kind = c.kind ∙ sym b.kind;
         owned = λ n. ap (λ (os : List Bool). get_or os n false) b.owned ∙ c.owned n;
         marks = c.marks ∙ sym b.owned;
         held = c.held;
@@ -151,34 +149,9 @@ commits h w pl q p r after ns told is home f settled b same seq reply capacity =
         commits = omega (arith, many, f.commits);
       };
       is = record {
-        own = rw (table, who, b.counts, b.stopped, stamp, own, room, b.tries, b.takes, b.deaths) refl;
+        own = rw (table, who, b.counts, b.stopped, b.pendings, stamp, own, room, b.tries, b.takes, b.deaths) refl;
         above = below_as told.place h.seat.records.items (subst (AllByRecursion (λ x. x.0 < told.place)) (sym c.settled.seated.records) b.above);
         seq = seq ∙ sym size;
         reply = reply;
       };
     }
-
--- ---- room
-
-pub reserved : (h : Hand) (q : Seat16) → q ≡ record (h.seat) { records = q.records } → q.records.items ≡ h.seat.records.items → CarriesFresh h → CarriesFresh (record h { seat = q })
-reserved h q same list f = subst (λ (s : Seat16). CarriesFresh (record h { seat = s })) (sym same) (record {
-  carries = record {
-    settled = record {
-      seated = record { home = z.home; seated = z.seated; who = z.who; few = z.few; stamp = z.stamp; small = z.small; order = z.order; records = list ∙ z.records; alone = z.alone; places = subst (AllByRecursion (λ x. x.0 < 2 ^ 37)) (sym list) z.places };
-      orderly = f.carries.settled.orderly;
-      away = f.carries.settled.away;
-    };
-    kind = f.carries.kind;
-    owned = f.carries.owned;
-    marks = f.carries.marks;
-    held = f.carries.held;
-    answered = f.carries.answered;
-    draws = f.carries.draws;
-    commits = omega (arith, ap length list, f.carries.commits);
-  };
-  seen = f.seen;
-  commits = omega (arith, ap length list, f.commits);
-})
-  where
-    z : IsSeated h.seat.seat.table_id h.seat
-    z = f.carries.settled.seated

@@ -67,14 +67,6 @@ own_below : (place : ℕ) (records : List (ℕ × Record)) → AreBelow place (o
 own_below place [] all = tt
 own_below place (r ∷ rs) all = (all.0, own_below place rs all.1)
 
-pub later : (least place : ℕ) (passes : List Holding) → least ≤ place → AreAllBelow least passes → AreAllBelow place passes
-later least place [] le all = tt
-later least place (s ∷ ss) le all = (one s.own all.0, later least place ss le all.1)
-  where
-    one : (own : List (ℕ × Recorded)) → AreBelow least own → AreBelow place own
-    one [] below = tt
-    one (p ∷ ps) below = (omega (arith, le, below.0), one ps below.1)
-
 pub fits : (place : ℕ) (passes : List Holding) (seats : List Seat16) → AreSeatsOf passes seats → AreAllBelow place passes → AllByRecursion (HasPlaces place) seats
 fits place [] [] are all = tt
 fits place [] (q ∷ qs) are all = absurd are

@@ -22,14 +22,13 @@ use Rattle.ww_lock.proofs.Carrying.{settled_as}
 use Rattle.ww_lock.proofs.Helds.{held_none}
 
 -- a seat that was made just now, in a state that has seen the graph
-pub new_carries : (t : TableId) (key : Start) (k : ℕ) (h : Hand) → IsNew t key k h.seat → key.kind ≡ h.kind → h.held.items ≡ [] → h.marks ≡ replicate 64 false → h.seen ≡ first_graph key → length (first_graph key) ≤ 64 → h.left < 2 ^ 32 → Carries h
-new_carries t key k h new kind none marks seen few left =
+pub new_carries : (t : TableId) (key : Start) (k : ℕ) (h : Hand) → IsNew t key k h.seat → h.held.items ≡ [] → h.marks ≡ replicate 64 false → h.seen ≡ first_graph key → length (first_graph key) ≤ 64 → h.left < 2 ^ 32 → Carries h
+new_carries t key k h new none marks seen few left =
     let me = new.me in
     let size : length h.seen ≡ length (first_graph key) = ap length seen in
     let list : h.seat.records.items ≡ [] = new.seated.records ∙ ap (λ (m : Sat). m.0.part.own) me in
     record {
       settled = settled_as t h.seat.seat.table_id (length (first_graph key)) (length h.seen) h.seat (sym new.seated.home) (sym size) (new_settled t key k h.seat new few);
-      kind = sym kind ∙ sym (ap (λ (m : Sat). m.0.part.core.kind) me);
       owned = λ n. ap (λ (m : Sat). owns m.0.part.core n) me ∙ none_owned n ∙ sym (ap (is_among n) none);
       marks = marks ∙ sym (ap (λ (m : Sat). m.0.part.core.owned) me);
       held = rw (none, seen) (held_none (first_graph key) few);
@@ -45,10 +44,11 @@ new_holding t key k h new none seen =
     let own : own_of h.seat.records.items ≡ [] = ap own_of list in
     let counts : h.seat.seat.me.0.part.counts ≡ no_counts = ap (λ (m : Sat). m.0.part.counts) new.me in
     let stopped : h.seat.seat.me.0.part.core.stopped ≡ [] = ap (λ (m : Sat). m.0.part.core.stopped) new.me in
+    let pendings : h.seat.seat.me.0.part.core.pendings ≡ 0 = ap (λ (m : Sat). m.0.part.core.pendings) new.me in
     let tries : h.seat.seat.me.0.part.core.tries ≡ 0 = ap (λ (m : Sat). m.0.part.core.tries) new.me in
     let takes : h.seat.seat.me.0.part.core.takes ≡ 0 = ap (λ (m : Sat). m.0.part.core.takes) new.me in
     let deaths : h.seat.seat.me.0.part.core.deaths ≡ 0 = ap (λ (m : Sat). m.0.part.core.deaths) new.me in
-    rw (new.seated.home, new.number, counts, stopped, stamp, own, none, seen, tries, takes, deaths) refl
+    rw (new.seated.home, new.number, counts, stopped, pendings, stamp, own, none, seen, tries, takes, deaths) refl
 
 pub new_idle : (t : TableId) (key : Start) (k : ℕ) (q : Seat16) → IsNew t key k q → q.stamp ≡ 0
 new_idle t key k q new = sym new.seated.stamp ∙ ap (λ (m : Sat). m.0.part.core.stamp) new.me

@@ -6,6 +6,7 @@ use Rattle.ww_plain.specs.Numbers.{is_among}
 use Rattle.ww_plain.specs.Graph.{node_at}
 use Rattle.ww_view.specs.declared.view.Met.{Met}
 use Rattle.ww_view.specs.View.{owns}
+use Rattle.ww_view.specs.May.{WantsSigns}
 use Rattle.ww_seat.specs.Orderly.{IsSettled}
 use Rattle.ww_lock.specs.declared.hand.Hand.{Hand}
 use Rattle.ww_lock.specs.Holding.{Holding, AreHeld, by_of, own_of}
@@ -26,6 +27,7 @@ holding_of h = record {
   takes = h.seat.seat.me.0.part.core.takes;
   deaths = h.seat.seat.me.0.part.core.deaths;
   cancelled = h.seat.seat.me.0.part.counts.cancelled;
+  pendings = h.seat.seat.me.0.part.core.pendings;
   interrupted = h.seat.seat.me.0.part.core.stopped;
 }
 
@@ -37,7 +39,6 @@ met_of h = h.seat.seat.me.0.part.core.met
 -- that it heeded was answered by an interruption. With what is left it stays within what the table counts.
 pub record Carries (h : Hand) : Type 0 where
   pub settled : IsSettled h.seat.seat.table_id (length h.seen) h.seat
-  pub kind : h.kind ≡ h.seat.seat.me.0.part.core.kind
   pub owned : (n : ℕ) → owns h.seat.seat.me.0.part.core n ≡ is_among n h.held.items
   pub marks : h.marks ≡ h.seat.seat.me.0.part.core.owned
   pub held : AreHeld h.held.items h.seen
@@ -50,6 +51,11 @@ pub record CarriesFresh (h : Hand) : Type 0 where
   pub carries : Carries h
   pub seen : (n : ℕ) → is_among n h.held.items ≡ true → get_elem? h.seat.seat.me.0.held n ≡ some (Some (node_at h.seen n))
   pub commits : length h.seat.records.items + h.left + 1 < 2 ^ 32
+
+-- it has just lost its first try for a lock, hasn't glanced at the lock yet, and may go on to wait for it
+pub record HasLost (h : Hand) : Type 0 where
+  pub tried : h.seat.seat.me.0.part.core.glances ≡ 0
+  pub signs : WantsSigns h.seat.seat.me.0.part.core
 
 -- what a pass carries once it has spent one of what was left: it holds nothing, has no context, and may draw once more
 pub record IsSpent (s : Holding) (h : Hand) : Type 0 where

@@ -8,6 +8,8 @@ use Rattle.ww_lock.specs.declared.acquiring.Lock.{Lock}
 use Rattle.ww_lock.specs.declared.acquiring.Lock.TheVariants.{Locked, Already, Deadlk}
 use Rattle.ww_lock.specs.declared.interruptible.Interruptible.{Interruptible}
 use Rattle.ww_lock.specs.declared.interruptible.Interruptible.TheVariants as stop
+use Rattle.ww_lock.specs.declared.interruptible.Halt.{Halt}
+use Rattle.ww_lock.specs.declared.interruptible.Halt.TheVariants as halt
 use Rattle.ww_lock.specs.declared.acquiring.Try.{Try}
 use Rattle.ww_lock.specs.declared.acquiring.Try.TheVariants as try
 use Rattle.ww_seat.specs.declared.waiting.Stop.{Stop}
@@ -85,6 +87,10 @@ IsStop s n (seat.Interrupted by) a = IsInterrupted s n by a
 abbrev pub IsCancelling : Holding → ℕ → Holding → Type 0
 IsCancelling s who a = a ≡ record s { cancelled = who ∷ s.cancelled }
 
+-- it tried to call off the wait of a caller, by one step, and found a cancel of it pending
+abbrev pub found_pending : Holding → Holding
+found_pending s = record s { pendings = s.pendings + 1 }
+
 -- the answer of a lock call
 abbrev pub IsLockAnswer : Holding → ℕ → Lock → Type 0
 IsLockAnswer s n (Locked a) = IsTaken s n a
@@ -116,6 +122,13 @@ interruptible_code_of (stop.Locked a) = 0
 interruptible_code_of (stop.Already a) = 114
 interruptible_code_of (stop.Deadlk b) = 35
 interruptible_code_of (stop.Interrupted a by) = 4
+
+-- the state that goes on, where the node is held now; or why none does
+abbrev pub going_on_or_halted : Interruptible → Result Holding Halt
+going_on_or_halted (stop.Locked a) = Ok a
+going_on_or_halted (stop.Already a) = Ok a
+going_on_or_halted (stop.Deadlk b) = Err (halt.Deadlk b)
+going_on_or_halted (stop.Interrupted a by) = Err (halt.Interrupted a by)
 
 -- the answer of a trylock: a held node is busy too, and of another that is the answer of one try
 abbrev pub IsTryAnswer : Holding → ℕ → Try → Type 0

@@ -10,7 +10,7 @@ use Rattle.ww_lock.specs.Holding.{Home, Holding, Setting, AreAtHome}
 -- the pass of this number, which has done nothing yet
 abbrev pub fresh : Home → List Node → ℕ → ℕ → ℕ → Holding
 fresh home first budget caller room =
-    record { home = home; caller = caller; left = budget; draws = 0; stamp = 0; own = []; room = room; held = []; seen = first; tries = 0; takes = 0; deaths = 0; cancelled = []; interrupted = [] }
+    record { home = home; caller = caller; left = budget; draws = 0; stamp = 0; own = []; room = room; held = []; seen = first; tries = 0; takes = 0; deaths = 0; cancelled = []; pendings = 0; interrupted = [] }
 
 -- so many passes, each with its number, that have done nothing yet
 pub record AreFresh (all : List Holding) (first : List Node) (home : Home) (passes budget : ℕ) : Type 0 where

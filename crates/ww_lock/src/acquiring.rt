@@ -5,6 +5,7 @@ use crate::world::World;
 use std::marker::Model;
 use std::sync::Wait;
 use ww_plain::Node;
+use ww_seat::Stop;
 
 /// A context that takes locks. Its seat has noted no older context for which it had to die.
 pub struct Acquiring {
@@ -68,11 +69,11 @@ pub enum Try {
 }
 
 impl Acquiring {
-    ghost use Rattle.std.specs.Prelude.{◌≡◌, ◌<◌, length, IfSome};
+    ghost use Rattle.std.specs.Prelude.{◌≡◌, ◌<◌, ◌∷◌, [], length, IfSome};
     ghost use Rattle.ww_plain.specs.Graph.{IsNodeOf};
     ghost use Rattle.ww_plain.specs.Numbers.{is_among};
     ghost use Rattle.ww_lock.specs.Holding.{IsAtHome, reads};
-    ghost use Rattle.ww_lock.specs.Moves.{IsLockAnswer, IsTryAnswer, emptied};
+    ghost use Rattle.ww_lock.specs.Moves.{IsLockAnswer, IsTaken, IsTryAnswer, emptied};
 
     /// The context's stamp: the smaller of two is that of the older context.
     pub fn stamp(&self) -> u64
@@ -98,13 +99,17 @@ impl Acquiring {
             return Lock::Already(self);
         }
         let Acquiring { mut hand } = self;
-        match hand.take(rt, world, n) {
+        if hand.try_take(world, n) {
+            return Lock::Locked(Acquiring { hand });
+        }
+        match hand.wait_for(rt, world, n, false) {
             Ok(()) => Lock::Locked(Acquiring { hand }),
-            Err(met) => Lock::Deadlk(Backoff {
+            Err(Stop::Deadlk(met)) => Lock::Deadlk(Backoff {
                 hand,
                 contended: n,
                 met,
             }),
+            Err(Stop::Interrupted(_)) => unreachable!(),
         }
     }
 
@@ -133,6 +138,20 @@ impl Acquiring {
         ensures there { IfSome result (IsNodeOf (length world.now.first)) }
     {
         self.hand.read(n)
+    }
+
+    /// Gives all locks back of its own accord, and takes this one first, however long that takes. The context keeps its
+    /// stamp, and with it its age among the others. It holds no other lock, so nobody tells it EDEADLK.
+    pub fn start_over<R: Wait>(self, rt: &R, world: &World, n: u8) -> Acquiring
+        requires home { IsAtHome self world.now }
+        requires node { n < length world.now.first }
+        ensures taken { IsTaken (emptied self) n result }
+        ensures alone { result.held ≡ n ∷ [] }
+    {
+        let Acquiring { mut hand } = self;
+        hand.give_all(rt, world);
+        hand.take_alone(rt, world, n);
+        Acquiring { hand }
     }
 
     /// The context has all its locks.

@@ -3,15 +3,18 @@ ghost use Rattle.ww_lock.specs.Closed.{has_pass, missing_of, IsSeatOf, AreSeatsO
 
 use crate::pass::Pass;
 use crate::world::World;
+use thiserror::Error;
 use ww_plain::{Graph, Record};
 use ww_table::Seat16;
 
 /// Why a world was not closed. All is handed back then, and it can be tried again.
-#[derive(Clone, Copy, Debug, PartialEq, Eq)]
+#[derive(Clone, Copy, Debug, PartialEq, Eq, Drop, Error)]
 pub enum CloseFault {
     /// So many passes are missing.
+    #[error("passes that are missing: {0}")]
     Missing(u8),
     /// A growth was refused.
+    #[error("no memory")]
     NoMemory,
 }
 

@@ -4,7 +4,6 @@ ghost use Rattle.ww_plain.specs.Numbers.{is_among};
 
 use arrayvec::ArrayVec;
 use ww_plain::{Graph, MAX_NODES, Node, Txn, footprint};
-use ww_queue::Kind;
 use ww_seat::Patience;
 use ww_table::Seat16;
 
@@ -13,7 +12,6 @@ use ww_table::Seat16;
 #[derive(Drop)]
 pub(crate) struct Hand {
     pub(crate) seat: Seat16,
-    pub(crate) kind: Kind,
     pub(crate) left: u32,
     /// The nodes that are held, in the order in which they were taken.
     pub(crate) held: ArrayVec<u8, MAX_NODES>,
@@ -40,7 +38,7 @@ impl Hand {
         requires held { AreHeld self.old.held.items self.old.seen }
         requires new { is_among n self.old.held.items ≡ false }
         ensures seat { self.new.seat ≡ self.old.seat }
-        ensures same { (self.new.kind ≡ self.old.kind) × (self.new.left ≡ self.old.left) }
+        ensures same { self.new.left ≡ self.old.left }
         ensures held { self.new.held.items ≡ self.old.held.items ++ n ∷ [] }
         ensures marks { self.new.marks ≡ slice_set self.old.marks n true }
         ensures seen { self.new.seen ≡ slice_set self.old.seen n node }

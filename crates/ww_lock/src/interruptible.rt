@@ -19,9 +19,17 @@ pub enum Interruptible {
     Interrupted(Acquiring, u8),
 }
 
+/// Why a context that may be called off didn't get a lock.
+pub enum Halt {
+    /// It was told EDEADLK, and has to back off.
+    Deadlk(Backoff),
+    /// Its wait was called off by this caller. It holds what it held.
+    Interrupted(Acquiring, u8),
+}
+
 impl Interruptible {
     ghost use Rattle.std.specs.Prelude.{◌≡◌};
-    ghost use Rattle.ww_lock.specs.Moves.{interruptible_code_of};
+    ghost use Rattle.ww_lock.specs.Moves.{interruptible_code_of, going_on_or_halted};
 
     /// The kernel's error number of the answer, without its sign; 0 where the lock was taken.
     pub fn code(&self) -> u8
@@ -32,6 +40,18 @@ impl Interruptible {
             Interruptible::Already(_) => 114,
             Interruptible::Deadlk(_) => 35,
             Interruptible::Interrupted(_, _) => 4,
+        }
+    }
+
+    /// The context where it holds the node now, whether it did before or not; or why it doesn't go on.
+    pub fn going_on(self) -> Result<Acquiring, Halt>
+        ensures { result ≡ going_on_or_halted self }
+    {
+        match self {
+            Interruptible::Locked(acquiring) => Ok(acquiring),
+            Interruptible::Already(acquiring) => Ok(acquiring),
+            Interruptible::Deadlk(backoff) => Err(Halt::Deadlk(backoff)),
+            Interruptible::Interrupted(acquiring, by) => Err(Halt::Interrupted(acquiring, by)),
         }
     }
 }
@@ -53,7 +73,10 @@ impl Acquiring {
             return Interruptible::Already(self);
         }
         let Acquiring { mut hand } = self;
-        match hand.take_interruptible(rt, world, n) {
+        if hand.try_take(world, n) {
+            return Interruptible::Locked(Acquiring { hand });
+        }
+        match hand.wait_for(rt, world, n, true) {
             Ok(()) => Interruptible::Locked(Acquiring { hand }),
             Err(Stop::Deadlk(met)) => Interruptible::Deadlk(Backoff {
                 hand,
@@ -87,7 +110,10 @@ impl Contended {
             mut hand,
             contended,
         } = self;
-        match hand.take_interruptible(rt, world, contended) {
+        if hand.try_take(world, contended) {
+            return Ok(Acquiring { hand });
+        }
+        match hand.wait_for(rt, world, contended, true) {
             Ok(()) => Ok(Acquiring { hand }),
             Err(Stop::Interrupted(by)) => Err((Contended { hand, contended }, by)),
             Err(Stop::Deadlk(_)) => unreachable!(),

@@ -26,7 +26,7 @@ pub use backoff::Backoff;
 pub use close::{CloseFault, History};
 pub use contended::Contended;
 pub use done::{Committed, Done, Empty};
-pub use interruptible::Interruptible;
+pub use interruptible::{Halt, Interruptible};
 pub use pass::Pass;
 pub use prepared::{Prepared, Receipt};
 pub use solo::{Solo, SoloDone};

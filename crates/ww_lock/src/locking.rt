@@ -8,10 +8,10 @@ use ww_seat::Stop;
 impl Hand {
     ghost use Rattle.std.specs.Prelude.{◌≡◌, ◌≤◌, ◌<◌, ◌+◌, ◌^◌, ◌⊎◌, [], true, false, length, None, IfOk, IfErr};
     ghost use Rattle.ww_plain.specs.Numbers.{is_among};
-    ghost use Rattle.ww_seat.specs.Calls.{HasToDie, IsTurnedAway};
-    ghost use Rattle.ww_lock.specs.Holding.{IsAtHome};
-    ghost use Rattle.ww_lock.specs.Carried.{holding_of, met_of, Carries, CarriesFresh};
-    ghost use Rattle.ww_lock.specs.Moves.{tried, backed_off, IsTaken, IsStop, IsCancelling, emptied};
+    ghost use Rattle.ww_seat.specs.Calls.{IsTurnedAway, MayStop};
+    ghost use Rattle.ww_lock.specs.Holding.{Holding, IsAtHome};
+    ghost use Rattle.ww_lock.specs.Carried.{holding_of, met_of, Carries, CarriesFresh, HasLost};
+    ghost use Rattle.ww_lock.specs.Moves.{tried, found_pending, IsTaken, IsStop, IsCancelling, emptied};
 
     /// Starts a context: it draws a stamp.
     pub(crate) fn begin(&mut self, world: &World)
@@ -40,20 +40,24 @@ impl Hand {
         ww_seat::end(&mut self.seat, &world.board);
     }
 
-    /// One try to take a lock, without waiting.
+    /// One try to take a lock, without waiting. Where it fails the seat may go on to wait for the lock.
+    #[inline(always)]
     pub(crate) fn try_take(&mut self, world: &World, n: u8) -> bool
         requires home { IsAtHome (holding_of self.old) world.now }
         requires fresh { CarriesFresh self.old }
-        requires context { 0 < self.old.seat.stamp }
+        requires want { (0 < self.old.seat.stamp) ⊎ (self.old.held.items ≡ []) }
         requires node { n < length self.old.seen }
         requires new { is_among n self.old.held.items ≡ false }
         ensures fresh { CarriesFresh self.new }
         ensures taken { result ≡ true → IsTaken (holding_of self.old) n (holding_of self.new) }
         ensures busy { result ≡ false → holding_of self.new ≡ tried (holding_of self.old) }
-        ensures unmet { met_of self.old ≡ None → met_of self.new ≡ None }
+        ensures lost { result ≡ false → HasLost self.new }
+        ensures unmet { result ≡ true → met_of self.new ≡ None }
+        ensures met { result ≡ false → met_of self.new ≡ met_of self.old }
     {
-        match ww_seat::try_take(&mut self.seat, &world.board, self.kind, n) {
+        match ww_seat::try_take(&mut self.seat, &world.board, n) {
             Some(node) => {
+                self.patience.win();
                 self.add(n, node);
                 true
             }
@@ -61,58 +65,36 @@ impl Hand {
         }
     }
 
-    /// Takes a lock, and waits for it where the rules say so; or tells the stamp of the older context that was met.
-    #[inline(always)]
-    pub(crate) fn take<R: Wait>(&mut self, rt: &R, world: &World, n: u8) -> Result<(), u64>
-        requires home { IsAtHome (holding_of self.old) world.now }
-        requires fresh { CarriesFresh self.old }
-        requires want { (0 < self.old.seat.stamp) ⊎ (self.old.held.items ≡ []) }
-        requires node { n < length self.old.seen }
-        requires new { is_among n self.old.held.items ≡ false }
-        ensures fresh { CarriesFresh self.new }
-        ensures taken { IfOk result (λ _. IsTaken (holding_of self.old) n (holding_of self.new)) }
-        ensures backed_off { IfErr result (λ _. holding_of self.new ≡ backed_off (holding_of self.old)) }
-        ensures older { IfErr result (λ k. (1 ≤ k) × (k < self.old.seat.stamp) × (1 ≤ length self.old.held.items)) }
-        ensures dies { IfErr result (λ k. HasToDie self.old.seat.seat.me n k self.new.seat.seat.me) }
-        ensures unmet { IfOk result (λ _. met_of self.new ≡ None) }
-    {
-        let node = ww_seat::take(
-            rt,
-            &mut self.seat,
-            &world.board,
-            self.kind,
-            n,
-            &mut self.patience,
-            &world.wakers,
-        )?;
-        self.add(n, node);
-        Ok(())
-    }
-
-    /// Takes a lock as `take` does; or tells the stamp of the older context that was met, or who called the wait off.
-    pub(crate) fn take_interruptible<R: Wait>(
+    /// Takes a lock that it has just tried in vain: it waits for it, as long as that takes where the rules say so; or
+    /// tells the stamp of the older context that was met, or who called the wait off. What it comes to is told of what
+    /// was held before that try.
+    #[cold]
+    pub(crate) fn wait_for<R: Wait>(
         &mut self,
         rt: &R,
         world: &World,
         n: u8,
+        heeds: bool,
     ) -> Result<(), Stop>
         requires home { IsAtHome (holding_of self.old) world.now }
         requires fresh { CarriesFresh self.old }
         requires want { (0 < self.old.seat.stamp) ⊎ (self.old.held.items ≡ []) }
         requires node { n < length self.old.seen }
         requires new { is_among n self.old.held.items ≡ false }
+        requires lost { HasLost self.old }
         ensures fresh { CarriesFresh self.new }
-        ensures taken { IfOk result (λ _. IsTaken (holding_of self.old) n (holding_of self.new)) }
-        ensures stopped { IfErr result (λ why. IsStop (holding_of self.old) n why (holding_of self.new)) }
+        ensures taken { IfOk result (λ _. (s : Holding) → holding_of self.old ≡ tried s → IsTaken s n (holding_of self.new)) }
+        ensures stopped { IfErr result (λ why. (s : Holding) → holding_of self.old ≡ tried s → IsStop s n why (holding_of self.new)) }
+        ensures heeds { IfErr result (MayStop heeds) }
         ensures turned_away { IfErr result (λ why. IsTurnedAway self.old.seat.seat.me n why self.new.seat.seat.me) }
         ensures unmet { IfOk result (λ _. met_of self.new ≡ None) }
     {
-        let node = ww_seat::take_interruptible(
+        let node = ww_seat::wait_for(
             rt,
             &mut self.seat,
             &world.board,
-            self.kind,
             n,
+            heeds,
             &mut self.patience,
             &world.wakers,
         )?;
@@ -127,7 +109,7 @@ impl Hand {
         requires caller { who < world.now.passes }
         ensures carries { Carries self.new }
         ensures set { result ≡ true → IsCancelling (holding_of self.old) who (holding_of self.new) }
-        ensures pending { result ≡ false → holding_of self.new ≡ holding_of self.old }
+        ensures pending { result ≡ false → holding_of self.new ≡ found_pending (holding_of self.old) }
     {
         ww_seat::cancel(&mut self.seat, &world.board, who, &world.wakers)
     }
@@ -142,7 +124,10 @@ impl Hand {
         ensures taken { IsTaken (holding_of self.old) n (holding_of self.new) }
         ensures unmet { met_of self.new ≡ None }
     {
-        if self.take(rt, world, n).is_err() {
+        if self.try_take(world, n) {
+            return;
+        }
+        if self.wait_for(rt, world, n, false).is_err() {
             unreachable!()
         }
     }
@@ -157,7 +142,9 @@ impl Hand {
     {
         while let Some(n) = self.held.pop() {
             self.marks[usize::from(n)] = false;
-            ww_seat::give(rt, &mut self.seat, &world.board, n, &world.wakers);
+            if !ww_seat::give_at_once(&mut self.seat, &world.board, n) {
+                ww_seat::give_waited(rt, &mut self.seat, &world.board, n, &world.wakers);
+            }
         }
     }
 }

@@ -29,7 +29,7 @@ impl Pass {
     ghost use Rattle.std.specs.Prelude.{◌≡◌, ◌<◌, ◌≤◌, ◌-◌, true, false, length, IfOk, IfErr};
     ghost use Rattle.ww_lock.specs.Holding.{IsAtHome};
     ghost use Rattle.ww_lock.specs.Carried.{IsSpent};
-    ghost use Rattle.ww_lock.specs.Moves.{IsBegun, IsCancelling, IsSolo};
+    ghost use Rattle.ww_lock.specs.Moves.{found_pending, IsBegun, IsCancelling, IsSolo};
 
     /// Its number among the passes of its world, from 0.
     pub fn caller(&self) -> u8
@@ -83,13 +83,13 @@ impl Pass {
     }
 
     /// Sets the cancel of a pass of this world and wakes it: its current interruptible wait, or its next interruptible
-    /// call that would wait, is interrupted. False, with nothing changed, if one is pending. It takes nothing from the
+    /// call that would wait, is interrupted. False if one is pending, which stays; that is counted, and nothing else changes. It takes nothing from the
     /// budget. It stands for the kernel's signal.
     pub fn cancel(&mut self, world: &World, who: u8) -> bool
         requires home { IsAtHome self.old world.now }
         requires caller { who < world.now.passes }
         ensures set { result ≡ true → IsCancelling self.old who self.new }
-        ensures pending { result ≡ false → self.new ≡ self.old }
+        ensures pending { result ≡ false → self.new ≡ found_pending self.old }
     {
         self.hand.cancel(world, who)
     }

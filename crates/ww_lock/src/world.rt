@@ -9,6 +9,7 @@ use arrayvec::ArrayVec;
 use crossbeam_utils::sync::{Parker, Unparker};
 use std::alloc::{AllocError, Global};
 use std::marker::Model;
+use thiserror::Error;
 use ww_plain::{Graph, MAX_NODES};
 use ww_queue::Kind;
 use ww_seat::Patience;
@@ -19,11 +20,13 @@ use ww_word::MAX_SEATS;
 const MAX_PASSES: u8 = MAX_SEATS as u8;
 
 /// Why a world was not opened.
-#[derive(Clone, Copy, Debug, PartialEq, Eq)]
+#[derive(Clone, Copy, Debug, PartialEq, Eq, Drop, Error)]
 pub enum OpenFault {
     /// There would be no pass, or more than 16, or none could do anything.
+    #[error("a world has 1 to 16 passes, and each may start something")]
     BadSize = 1,
     /// A growth was refused.
+    #[error("no memory")]
     NoMemory = 3,
 }
 
@@ -91,7 +94,7 @@ impl World {
             Ok(made) => made,
             Err((graph, _)) => return Err((graph, OpenFault::NoMemory)),
         };
-        match fresh(alloc, &board, seats, rests, kind, budget, room) {
+        match fresh(alloc, &board, seats, rests, budget, room) {
             Ok(all) => Ok((World { board, wakers }, all)),
             Err(graph) => Err((graph, OpenFault::NoMemory)),
         }
@@ -143,12 +146,10 @@ fn fresh(
     board: &Board,
     seats: Vec<Seat16>,
     mut rests: Vec<Rest>,
-    kind: Kind,
     budget: u32,
     mut all: Vec<Pass>,
 ) -> Result<Vec<Pass>, Graph>
     requires seats { AreNew board.now.table.shared.table_id board.now.table.shared.key (length seats.items) seats.items }
-    requires kind { board.now.table.shared.key.kind ≡ kind }
     requires rests { AreRests (first_graph board.now.table.shared.key) (length seats.items) rests.items }
     requires room { (all.items ≡ []) × (vec_len all ≡ 0) × (length seats.items ≤ vec_capacity all) }
     ensures ok { IfOk result (λ all. AreFresh all.items (first_graph board.now.table.shared.key) board.now.table.shared.table_id (length seats.items) budget) }
@@ -160,7 +161,6 @@ fn fresh(
         };
         let hand = Hand {
             seat,
-            kind,
             left: budget,
             held: ArrayVec::new(),
             marks: [false; MAX_NODES],

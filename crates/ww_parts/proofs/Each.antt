@@ -1,6 +1,6 @@
 -- Reading the items of a list one after the other, as a loop does.
-use Rattle.std.proofs.Common.{◌≡◌, ℕ, zero, suc, ◌+◌, ◌<◌, ◌≤◌, List, [], ◌∷◌, ◌++◌, length, map, take, get_or, Result, Ok, Err, refl, sym, ap, ◌∙◌, arith, add-one}
-use Rattle.std.proofs.lemmas.List.{length-map, map_push, take_all}
+use Rattle.std.proofs.Common.{◌≡◌, ℕ, zero, suc, ◌+◌, ◌<◌, List, [], ◌∷◌, ◌++◌, length, map, take, get_or, Result, Ok, Err, refl, sym, ap, ◌∙◌, arith, add-one}
+use Rattle.std.proofs.lemmas.List.{length-map, map_push}
 use Rattle.serde_json.specs.Data.{Data}
 use Rattle.ww_parts.specs.declared.fault.InputFault.{InputFault}
 use Rattle.ww_parts.specs.Parts.{◌>>=◌, each}
@@ -58,7 +58,3 @@ pub each_stops : {V A : Type 0} (view : V → Data) (f : Data → Result A Input
 each_stops view f vs i v xs fault lt is e h =
     let here : f (view (get_or vs i v)) ≡ Err fault = ap (λ w. f (view w)) (sym is) ∙ h in
     at_stops view f vs i v xs fault lt e here
-
--- all of them
-pub each_done : {V A : Type 0} (view : V → Data) (f : Data → Result A InputFault) (vs : List V) (i : ℕ) (xs : List A) → length vs ≤ i → each f (map view (take i vs)) ≡ Ok xs → each f (map view vs) ≡ Ok xs
-each_done view f vs i xs le e = ap (λ ws. each f (map view ws)) (sym (take_all i vs le)) ∙ e

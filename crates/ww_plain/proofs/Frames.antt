@@ -272,9 +272,6 @@ inside graph other (peek node) fits sizes agree = record {
 
 -- ---- what a footprint names
 
-eqb_yes : (m n : ℕ) → m ≡ n → eqb m n ≡ true
-eqb_yes m n e = rw e (eqb_same n)
-
 among_target_cases : (n : ℕ) (ns : List ℕ) (target : Option ℕ) → is_among n (with_target ns target) ≡ true → (is_among n ns ≡ true) ⊎ (target ≡ Some n)
 among_target_cases n ns None e = inl e
 among_target_cases n ns (Some t) e = elim (or_cases (is_among n ns) (eqb t n) (sym (is_among-joined n ns t) ∙ e)) [

@@ -1,12 +1,11 @@
 -- Replaying a history record by record.
-use Rattle.std.proofs.Common.{◌≡◌, ℕ, suc, ◌+◌, ◌<◌, ◌↔◌, ◌≢◌, Bool, true, false, eqb, List, [], ◌∷◌, ◌++◌, length, drop, get_or, refl, ap, ◌∙◌, arith, add-one, drop-cons}
+use Rattle.std.proofs.Common.{◌≡◌, ℕ, suc, ◌+◌, ◌↔◌, ◌≢◌, Bool, true, false, eqb, List, [], ◌∷◌, ◌++◌, length, refl, ap, ◌∙◌, arith}
 use Rattle.ww_plain.specs.declared.node.Node.{Node}
-use Rattle.ww_plain.specs.declared.history.Record.{Record}
 use Rattle.ww_plain.specs.Meaning.{graph_after}
 use Rattle.std.specs.Bool.{if◌then◌else◌}
 use Rattle.std.proofs.lemmas.Bool.Decides.{nat_tests}
 use Rattle.std.proofs.lemmas.List.{append-nil}
-use Rattle.ww_plain.specs.History.{Recorded, recorded_of, history_of, IsNext, IsLegal, last_graph, part_from, part_of}
+use Rattle.ww_plain.specs.History.{Recorded, IsLegal, last_graph, part_from, part_of}
 use Rattle.ww_plain.specs.Laws.{GrowsBy}
 use Rattle.ww_plain.proofs.Members.{eqb_same}
 
@@ -14,16 +13,6 @@ use Rattle.ww_plain.proofs.Members.{eqb_same}
 pub record IsReplayed (first : List Node) (all : List Recorded) (graph : List Node) (rest : List Recorded) : Type 0 where
   pub legal : IsLegal first all ↔ IsLegal graph rest
   pub ends : last_graph first all ≡ last_graph graph rest
-
-pub replayed_more : (first : List Node) (all : List Recorded) (graph new : List Node) (r : Recorded) (rest : List Recorded) → IsReplayed first all graph (r ∷ rest) → IsNext graph r
-    → new ≡ graph_after graph r.transaction → IsReplayed first all new rest
-replayed_more first all graph new r rest h next e = rw e (record {
-  legal = (λ legal. (h.legal.0 legal).1, λ later. h.legal.1 (next, later));
-  ends = h.ends;
-})
-
-pub history_at : (records : List Record) (i : ℕ) (d : Record) → i < length records → history_of (drop i records) ≡ recorded_of (get_or records i d) ∷ history_of (drop (i + 1) records)
-history_at records i d lt = rw (add-one, drop-cons records i d) refl
 
 -- ---- longer histories
 

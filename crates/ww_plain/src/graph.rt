@@ -3,16 +3,19 @@ ghost use Rattle.std.specs.Prelude.{◌≡◌, ◌≤◌, ◌<◌, ◌↔◌, le
 use crate::node::Node;
 use std::alloc::{AllocError, Global};
 use std::marker::Model;
+use thiserror::Error;
 
 /// How many nodes a graph has at most.
 pub const MAX_NODES: usize = 64;
 
 /// Why some nodes are no graph.
-#[derive(Clone, Copy, Debug, PartialEq, Eq)]
+#[derive(Clone, Copy, Debug, PartialEq, Eq, Drop, Error)]
 pub enum GraphFault {
     /// There is no node, or there are more than [`MAX_NODES`].
+    #[error("a graph has 1 to 64 nodes")]
     BadSize = 1,
     /// A port names a node that isn't there.
+    #[error("a port names a node that isn't there")]
     BadGraph = 2,
 }
 

@@ -12,7 +12,7 @@ use Rattle.ww_script.specs.Scripts.{ranges_of}
 use Rattle.ww_script.specs.Said.{Said, answered, already, interrupted, cancelling}
 use Rattle.ww_script.specs.Cancels.{cancelled_in, interrupters_in, times}
 use Rattle.ww_script.specs.Outcome.{IsUnrecorded, IsRecorded, IsAnswered}
-use Rattle.ww_run.specs.Workers.{IsAfter, Adds, IsTold, HasRun, IsReady}
+use Rattle.ww_run.specs.Workers.{IsAfter, Adds, pendings_in, IsTold, HasRun, IsReady}
 
 pub one_later : (m n : ℕ) → m + suc n ≡ m + 1 + n
 one_later m n = omega arith
@@ -119,6 +119,14 @@ interrupters_more (already n ∷ saids) said = interrupters_more saids said
 interrupters_more (interrupted n ∷ saids) said = ap (λ rest. n ∷ rest) (interrupters_more saids said)
 interrupters_more (cancelling set ∷ saids) said = interrupters_more saids said
 
+pendings_more : (saids : List Said) (said : Said) → pendings_in (saids ++ said ∷ []) ≡ pendings_in saids + pendings_in (said ∷ [])
+pendings_more [] said = omega arith
+pendings_more (answered a ∷ saids) said = pendings_more saids said
+pendings_more (already n ∷ saids) said = pendings_more saids said
+pendings_more (interrupted n ∷ saids) said = pendings_more saids said
+pendings_more (cancelling true ∷ saids) said = pendings_more saids said
+pendings_more (cancelling false ∷ saids) said = let rest = pendings_more saids said in omega (arith, rest)
+
 pub times_both : (n : ℕ) (ks ls : List ℕ) → times n (ks ++ ls) ≡ times n ks + times n ls
 times_both n ks ls = sum_by-append (λ k. cond (k == n) 1 0) ks ls
 
@@ -135,6 +143,7 @@ ran_more deeds saids deed said s a h told = record {
   answered = answered_more deeds saids deed said s a h.answered told.own;
   cancelled = λ victim. counted_more victim a.cancelled s.cancelled (cancelled_in deeds saids) _ _ told.cancelled
       (cancelled_more deeds saids deed said (same_number 0 deeds saids s.own h.answered)) (h.cancelled victim);
+  pendings = told.pendings ∙ ap (λ (k : ℕ). k + pendings_in (said ∷ [])) h.pendings ∙ sym (pendings_more saids said);
   interrupted = λ script. counted_more script (by_of a.interrupted) (by_of s.interrupted) (interrupters_in saids) _ _ told.interrupted
       (interrupters_more saids said) (h.interrupted script);
 }
@@ -159,6 +168,7 @@ under_way w number deeds s h = record {
   ran = record {
     answered = rw h.nothing tt;
     cancelled = λ victim. ap (times victim) h.none_cancelled;
+    pendings = h.none_pending;
     interrupted = λ script. ap (λ all. times script (by_of all)) h.uninterrupted;
   };
   home = h.home;

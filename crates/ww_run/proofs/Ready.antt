@@ -77,6 +77,7 @@ are_ready w scripts passes first count budget opened many all is_budget =
             same_caller = ap (λ s. s.caller) is;
             nothing = ap (λ s. s.own) is;
             none_cancelled = ap (λ s. s.cancelled) is;
+            none_pending = ap (λ s. s.pendings) is;
             uninterrupted = ap (λ s. s.interrupted) is;
             budget = omega (arith, is_budget.enough i t lt, ap (λ s. s.left) is);
             suit = subst (λ (n : ℕ). AllByRecursion (Suits (ranges (length w.first) n)) (get_or (lists scripts) i t))

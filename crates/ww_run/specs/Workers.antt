@@ -1,5 +1,5 @@
 -- What workers do with scripts, each with a pass of its own.
-use Rattle.std.specs.Prelude.{ℕ, ◌≡◌, ◌<◌, ◌≤◌, ◌+◌, ◌∷◌, ◌++◌, List, [], length, map, slice_index_or, alloc_error, Result, Ok, Err, IfOk}
+use Rattle.std.specs.Prelude.{ℕ, suc, ◌≡◌, ◌<◌, ◌≤◌, ◌+◌, ◌∷◌, ◌++◌, List, [], length, map, slice_index_or, false, alloc_error, Result, Ok, Err, IfOk}
 use Rattle.std.specs.List.{AllByRecursion}
 use Rattle.std.specs.Global.{Vec}
 use Rattle.ww_plain.specs.History.{Recorded}
@@ -12,7 +12,7 @@ use Rattle.ww_plain.specs.declared.node.TheConstants.{PORTS}
 use Rattle.ww_plan.specs.declared.acts.Act.{Act}
 use Rattle.ww_script.specs.Acts.{Deed, Suits}
 use Rattle.ww_script.specs.Scripts.{ranges_of}
-use Rattle.ww_script.specs.Said.{Said, answered, said_of}
+use Rattle.ww_script.specs.Said.{Said, answered, cancelling, said_of}
 use Rattle.ww_script.specs.Cancels.{cancelled_in, interrupters_in, times}
 use Rattle.ww_script.specs.Outcome.{IsUnrecorded, IsRecorded, IsAnswered}
 use Rattle.ww_outcome.specs.declared.outcome.ScriptAnswer.{ScriptAnswer}
@@ -46,11 +46,18 @@ Adds s deed (answered answer) a =
     (place : ℕ) × (r : Recorded) × (a.own ≡ s.own ++ (place, r) ∷ []) × IsRecorded deed (length s.own) answer r
 Adds s deed said a = (a.own ≡ s.own) × IsUnrecorded said deed
 
--- What the act was told is what the pass says of it: its record, the script that it cancelled, and the script that
--- called it off.
+-- how many acts found a cancel pending where they would set one
+abbrev pub pendings_in : List Said → ℕ
+pendings_in (cancelling false ∷ saids) = suc (pendings_in saids)
+pendings_in (_ ∷ saids) = pendings_in saids
+pendings_in [] = 0
+
+-- What the act was told is what the pass says of it: its record, the script that it cancelled, or that it found a cancel
+-- of it pending, and the script that called it off.
 pub record IsTold (s : Holding) (deed : Deed) (said : Said) (a : Holding) : Type 0 where
   pub own : Adds s deed said a
   pub cancelled : a.cancelled ≡ cancelled_in (deed ∷ []) (said ∷ []) ++ s.cancelled
+  pub pendings : a.pendings ≡ s.pendings + pendings_in (said ∷ [])
   pub interrupted : by_of a.interrupted ≡ interrupters_in (said ∷ []) ++ by_of s.interrupted
 
 -- The pass of this caller, which has done nothing yet, and a script for it: there is budget for each of its acts, and
@@ -60,15 +67,17 @@ pub record IsReady (w : Setting) (number : ℕ) (deeds : List Deed) (s : Holding
   pub same_caller : s.caller ≡ number
   pub nothing : s.own ≡ []
   pub none_cancelled : s.cancelled ≡ []
+  pub none_pending : s.pendings ≡ 0
   pub uninterrupted : s.interrupted ≡ []
   pub budget : length deeds ≤ s.left
   pub suit : AllByRecursion (Suits (ranges_of (length w.first) PORTS w.passes)) deeds
 
--- The pass's own list is exactly what the acts came to that were told this, and it counts what they cancelled, and by
--- whom they were called off.
+-- The pass's own list is exactly what the acts came to that were told this, and it counts what they cancelled or found
+-- pending, and by whom they were called off.
 pub record HasRun (deeds : List Deed) (saids : List Said) (s : Holding) : Type 0 where
   pub answered : IsAnswered 0 deeds saids s.own
   pub cancelled : (victim : ℕ) → times victim s.cancelled ≡ times victim (cancelled_in deeds saids)
+  pub pendings : s.pendings ≡ pendings_in saids
   pub interrupted : (script : ℕ) → times script (by_of s.interrupted) ≡ times script (interrupters_in saids)
 
 -- What the worker of this caller gives back. If it didn't stop, its pass says of the script what that was told.

@@ -11,8 +11,8 @@ use std::process::Abort;
 use std::sync::Wait;
 use std::test::Fail;
 use ww_caller::Refusal;
-use ww_lock::{Pass, Receipt, World};
-use ww_plain::{By, Reply, Txn};
+use ww_lock::{CloseFault, OpenFault, Pass, Receipt, World};
+use ww_plain::{By, GraphFault, Reply, Txn};
 use ww_queue::Kind;
 use ww_txn::{ChangeFault, TxnFault, change};
 use ww_users::UserFault;
@@ -119,5 +119,21 @@ fn each_fault_has_its_text(rt: HostRuntime) -> Result<(), Fail> {
     let not_served = ChangeFault::NotServed(Txn::Peek(1));
     let needs_more = "the transaction can't be made with the nodes of the list";
     assert!(rt; reads(alloc, &not_served, needs_more)?);
+    Ok(())
+}
+
+#[test]
+fn each_fault_of_a_world_has_its_text(rt: HostRuntime) -> Result<(), Fail> {
+    let alloc = rt.alloc();
+    let sizes = "a world has 1 to 16 passes, and each may start something";
+    assert!(rt; reads(alloc, &OpenFault::BadSize, sizes)?);
+    assert!(rt; reads(alloc, &OpenFault::NoMemory, "no memory")?);
+    let missing = "passes that are missing: 3";
+    assert!(rt; reads(alloc, &CloseFault::Missing(3), missing)?);
+    assert!(rt; reads(alloc, &CloseFault::NoMemory, "no memory")?);
+    let graphs = "a graph has 1 to 64 nodes";
+    assert!(rt; reads(alloc, &GraphFault::BadSize, graphs)?);
+    let targets = "a port names a node that isn't there";
+    assert!(rt; reads(alloc, &GraphFault::BadGraph, targets)?);
     Ok(())
 }

@@ -308,6 +308,30 @@ fn younger_holder_backs_off(rt: HostRuntime) -> Result<(), Fail> {
     Ok(())
 }
 
+/// Pass 1 takes node 1, and then begins anew with node 0: its stamp is what it was, and node 1 is free again.
+fn started_over<R: Wait + Abort>(rt: &R, alloc: Global, kind: Kind) -> Result<(), Fail> {
+    let (world, zero, one) = two_passes(alloc, kind, &[(7, None), (8, None)])?;
+    assert!(rt; world.size() == 2);
+    let zero = begun(rt, &world, zero);
+    let one = locked(rt, &world, begun(rt, &world, one), 1, 0);
+    let one = one.start_over(rt, &world, 0);
+    assert_eq!(rt; one.stamp(), 2);
+    assert_eq!(rt; (one.held(0), one.held(1)), (true, false));
+    let zero = tried(rt, &world, zero, 1, false);
+    ended(rt, &world, zero);
+    let one = locked(rt, &world, one, 1, 0);
+    ended(rt, &world, one);
+    Ok(())
+}
+
+#[test]
+fn starting_over_keeps_the_stamp(rt: HostRuntime) -> Result<(), Fail> {
+    for kind in KINDS {
+        started_over(&rt, rt.alloc(), kind)?;
+    }
+    Ok(())
+}
+
 /// Commits a transaction on one node without a context.
 fn committed_alone<R: Wait + Abort>(
     rt: &R,

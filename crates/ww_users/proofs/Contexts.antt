@@ -1,11 +1,13 @@
 -- Contexts of a pass, through their tries.
 use Rattle.std.proofs.Common.{◌≡◌, ℕ, ◌+◌, ◌-◌, Bool, true, [], length, refl, sym, ap, subst, ◌∙◌, arith, length-set, Result, Ok, Err, IfErr}
 use Rattle.ww_lock.specs.Holding.{Holding, Wanting}
-use Rattle.ww_lock.specs.Moves.{with_node, taken, backed_off, interrupted_by, emptied, IsTaken, IsInterrupted}
-use Rattle.ww_users.specs.declared.context.Halt.{Halt}
-use Rattle.ww_users.specs.declared.context.Halt.TheVariants.{Deadlk, Interrupted}
-use Rattle.ww_users.specs.Ways.{IsToldOfEach, IsContext, IsCalledOff}
-use Rattle.ww_users.specs.Trips.{IsSameContext, IsHalted, IsHalt}
+use Rattle.ww_lock.specs.Moves.{with_node, taken, backed_off, interrupted_by, emptied, going_on_or_halted, IsTaken, IsInterrupted}
+use Rattle.ww_lock.specs.declared.interruptible.Interruptible.{Interruptible}
+use Rattle.ww_lock.specs.declared.interruptible.Interruptible.TheVariants as answer
+use Rattle.ww_lock.specs.declared.interruptible.Halt.{Halt}
+use Rattle.ww_lock.specs.declared.interruptible.Halt.TheVariants.{Deadlk, Interrupted}
+use Rattle.ww_users.specs.Ways.{IsToldOfEach, IsReturned, IsContext, IsCalledOff}
+use Rattle.ww_users.specs.Trips.{IsSameContext, IsAnswer, IsHalted, IsHalt}
 
 -- ---- each try is told of
 
@@ -23,9 +25,6 @@ one_more : (tries takes deaths tries' takes' deaths' : ℕ) → tries' + takes +
 one_more tries takes deaths tries' takes' deaths' h = omega (arith, h)
 
 -- ---- the same context
-
-pub same_at_once : (s : Holding) → IsSameContext s s
-same_at_once s = record { rest = refl; told = refl; size = refl }
 
 pub same_later : (s a b : Holding) → IsSameContext s a → IsSameContext a b → IsSameContext s b
 same_later s a b h more = record {
@@ -54,9 +53,12 @@ same_told s a n by told = same_as (interrupted_by s n by) (interrupted_by s n by
 pub halted_later : (heeds : Bool) (s a b : Holding) (by : ℕ) → IsSameContext s a → IsHalted heeds a by b → IsHalted heeds s by b
 halted_later heeds s a b by h halted = (halted.0, (halted.1.0, same_later _ _ _ (same_interrupted s a halted.1.0 by h) halted.1.1))
 
-pub halt_later : (heeds : Bool) (s a : Holding) (h : Halt) → IsSameContext s a → IsHalt heeds a h → IsHalt heeds s h
-halt_later heeds s a (Deadlk b) h more = same_later s a b.holding h more
-halt_later heeds s a (Interrupted b by) h halted = halted_later heeds s a b by h halted
+-- the answer of a lock call tells why the context doesn't go on
+pub one_halted : (heeds : Bool) (s : Holding) (n : ℕ) (told : Interruptible) → IsAnswer heeds s n told → IfErr (going_on_or_halted told) (IsHalt heeds s)
+one_halted heeds s n (answer.Locked a) h = tt
+one_halted heeds s n (answer.Already a) h = tt
+one_halted heeds s n (answer.Deadlk b) h = same_backed_off s b.holding h.told
+one_halted heeds s n (answer.Interrupted a by) h = (h.0, (n, same_told s a n by h.1))
 
 -- the slow lock was called off, once all locks were given back
 pub slow_halted : (heeds : Bool) (s a : Holding) (n : ℕ) (r : Result Holding (Wanting × ℕ)) → heeds ≡ true → a ≡ emptied s → IfErr r (λ e. IsInterrupted a n e.1 e.0.holding) → IfErr r (λ e. IsHalted heeds s e.1 e.0.holding)
@@ -77,6 +79,13 @@ context_later s a b h more =
       size = more.size ∙ h.size;
     }
 
+-- it gave all back, and comes back as a pass
+pub comes_back : (s a p : Holding) → IsContext s a → p ≡ record a { held = []; stamp = 0 } → IsReturned s 1 p × (p.room ≡ s.room)
+comes_back s a p h is =
+    let room : a.room ≡ s.room = ap (λ (d : Holding). d.room) h.rest in
+    let rest = ap (λ (d : Holding). record d { held = []; stamp = 0 }) h.rest in
+    subst (λ (d : Holding). IsReturned s 1 d × (d.room ≡ s.room)) (sym is) (record { some = h.some; rest = rest ∙ rw room refl; told = h.told; size = h.size }, room)
+
 told_off : (tries takes deaths tries' takes' deaths' tries'' takes'' deaths'' : ℕ) → tries' + takes + deaths ≡ tries + takes' + deaths' → tries'' + takes' + deaths' ≡ tries' + 1 + takes'' + deaths''
     → tries'' + takes + deaths ≡ tries + 1 + takes'' + deaths''
 told_off tries takes deaths tries' takes' deaths' tries'' takes'' deaths'' h more = omega (arith, h, more)
@@ -96,3 +105,6 @@ called_off heeds s a b c by h halted is =
         size = ap (λ (d : Holding). length d.seen) is ∙ more.size ∙ h.size;
       },
     )
+
+pub called_off_room : (heeds : Bool) (s a b p : Holding) (by : ℕ) → IsContext s a → IsHalted heeds a by b → p ≡ record b { held = []; stamp = 0 } → p.room ≡ s.room
+called_off_room heeds s a b p by h halted is = ap (λ (d : Holding). d.room) is ∙ ap (λ (d : Holding). d.room) halted.1.1.rest ∙ ap (λ (d : Holding). d.room) h.rest

@@ -10,12 +10,12 @@ use Rattle.std.proofs.lemmas.List.Sorted.{IsPermutation-to_front, list_any-IsPer
 use Rattle.std.proofs.lemmas.Map.Keys.{any_passes_from_place}
 use Rattle.ww_plain.specs.Numbers.{is_among, AreDifferent}
 use Rattle.ww_plain.specs.Transaction.{IsFirstDouble, FirstDouble}
-use Rattle.ww_plain.proofs.Members.{or_cases, or_false, same_from_eqb, eqb_same, eqb_comm, is_among-append, different_cons, different_none, different_push, different_head, different_tail}
+use Rattle.ww_plain.proofs.Members.{or_cases, or_false, same_from_eqb, eqb_same, eqb_comm, is_among-append, different_push, different_head, different_tail}
 use Rattle.ww_lock.specs.Holding.{Holding, Refused}
 use Rattle.ww_lock.specs.Moves.{IsTaken, IsRefused}
 use Rattle.ww_users.specs.Ways.{HoldsExactly, in_order}
 use Rattle.ww_users.specs.Trips.{IsSameContext, HoldsKept, IsContended, kept_nodes}
-use Rattle.ww_users.proofs.Contexts.{same_at_once, same_later, same_taken, same_backed_off}
+use Rattle.ww_users.proofs.Contexts.{same_later, same_taken, same_backed_off}
 
 -- what was kept at first is still kept, or its entry was skipped
 abbrev pub IsLeft : Option ℕ → Option ℕ → Type 0
@@ -44,10 +44,6 @@ pub record IsOnTheWay (first : Option ℕ) (s a : Holding) (list : List ℕ) (po
   pub held : (n : ℕ) → is_among n a.held ≡ is_among n (kept_nodes kept ++ take position list)
   pub once : AreDifferent (kept_nodes kept ++ take position list)
   pub listed : IfSome kept (λ n. is_among n list ≡ true)
-
-pub way_begins : (s : Holding) (list : List ℕ) (kept : Option ℕ) → HoldsKept kept list s → IsOnTheWay kept s s list 0 kept
-way_begins s list None h = record { same = same_at_once s; order = h.held; left = inl refl; held = λ n. ap (is_among n) h.held; once = different_none; listed = tt }
-way_begins s list (Some k) h = record { same = same_at_once s; order = h.held; left = inl refl; held = λ n. ap (is_among n) h.held; once = different_cons k [] refl different_none; listed = h.listed }
 
 -- the entry is the node that was kept
 pub way_skips : (first : Option ℕ) (s a : Holding) (list : List ℕ) (position n : ℕ) (kept : Option ℕ) → position < length list → n ≡ get_or list position 0 → IsOnTheWay first s a list position kept → option_eq eqb kept (Some n) ≡ true → IsOnTheWay first s a list (position + 1) None

@@ -1,5 +1,5 @@
 -- What one trip through a list, or along a walk, does to the context that makes it.
-use Rattle.std.specs.Prelude.{ℕ, ◌≡◌, ◌<◌, ◌+◌, ◌∷◌, [], Bool, true, List, length, take, slice_get, Option, Some, None, IfSome, IsTrue}
+use Rattle.std.specs.Prelude.{ℕ, ◌≡◌, ◌<◌, ◌+◌, ◌∷◌, [], Bool, true, List, length, take, slice_get, remove, Option, Some, None, IfSome, IsTrue, Result, Ok, Err}
 use Rattle.std.specs.List.Sorted.{IsPermutation}
 use Rattle.ww_plain.specs.Numbers.{is_among, AreDifferent}
 use Rattle.ww_plain.specs.Graph.{Agree}
@@ -10,10 +10,11 @@ use Rattle.ww_lock.specs.declared.interruptible.Interruptible.{Interruptible}
 use Rattle.ww_lock.specs.declared.interruptible.Interruptible.TheVariants as lock
 use Rattle.ww_lock.specs.Holding.{Holding, Refused, Holds}
 use Rattle.ww_lock.specs.Moves.{interrupted_by, IsInterrupted, IsInterruptibleAnswer}
-use Rattle.ww_users.specs.declared.context.Halt.{Halt}
-use Rattle.ww_users.specs.declared.context.Halt.TheVariants as halt
+use Rattle.ww_lock.specs.declared.interruptible.Halt.{Halt}
+use Rattle.ww_lock.specs.declared.interruptible.Halt.TheVariants as halt
 use Rattle.ww_users.specs.declared.trip.Trip.{Trip}
-use Rattle.ww_users.specs.declared.trip.Trip.TheVariants.{Through, Already, Deadlk, Interrupted}
+use Rattle.ww_users.specs.declared.trip.Trip.TheVariants.{Through, Already, Interrupted}
+use Rattle.ww_users.specs.declared.reordered_list.Ordered.{Ordered}
 use Rattle.ww_users.specs.Ways.{IsToldOfEach, HoldsExactly, in_order}
 
 -- the same context, which may hold other locks; each try more to take one ended with the lock, or with EDEADLK
@@ -59,12 +60,12 @@ abbrev pub IsHalt : Bool → Holding → Halt → Type 0
 IsHalt heeds s (halt.Deadlk b) = IsSameContext s b.holding
 IsHalt heeds s (halt.Interrupted a by) = IsHalted heeds s by a
 
--- How a trip through a list ended: with all of it locked in its order, at its first double, with EDEADLK, or called off.
-abbrev pub IsTrip : Bool → Holding → List ℕ → Option ℕ → Trip → Type 0
-IsTrip heeds s list kept (Through a) = IsSameContext s a × HoldsExactly list a × FirstDouble list None × (a.held ≡ in_order kept list)
-IsTrip heeds s list kept (Already a n) = IsSameContext s a × FirstDouble list (Some n)
-IsTrip heeds s list kept (Deadlk b position) = IsSameContext s b.holding × IsContended list b position
-IsTrip heeds s list kept (Interrupted a by) = IsHalted heeds s by a
+-- How a trip through a list ended: with all of it locked in its order, at its first double, called off, or with EDEADLK.
+abbrev pub IsTrip : Bool → Holding → List ℕ → Option ℕ → Result Trip (Refused × ℕ) → Type 0
+IsTrip heeds s list kept (Ok (Through a)) = IsSameContext s a × HoldsExactly list a × FirstDouble list None × (a.held ≡ in_order kept list)
+IsTrip heeds s list kept (Ok (Already a n)) = IsSameContext s a × FirstDouble list (Some n)
+IsTrip heeds s list kept (Ok (Interrupted a by)) = IsHalted heeds s by a
+IsTrip heeds s list kept (Err e) = IsSameContext s e.0.holding × IsContended list e.0 e.1
 
 -- the same entries in another order, with the same first double
 pub record IsReordered (list order : List ℕ) : Type 0 where
@@ -74,3 +75,30 @@ pub record IsReordered (list order : List ℕ) : Type 0 where
 -- it holds the walk and its stop, in the graph as it has seen it
 abbrev pub HoldsWalk : ℕ → ℕ → ℕ → Holding → Type 0
 HoldsWalk start port most a = Holds a (walked a.seen port (walk_of a.seen start port most))
+
+-- ---- turns of the three ways
+
+-- a turn of any way keeps the context, or was called off
+abbrev pub IsWayTurn : {S : Type 0} → Bool → Holding → Result Trip (Refused × S) → Type 0
+IsWayTurn heeds s (Ok (Through a)) = IsSameContext s a
+IsWayTurn heeds s (Ok (Already a n)) = IsSameContext s a
+IsWayTurn heeds s (Ok (Interrupted a by)) = IsHalted heeds s by a
+IsWayTurn heeds s (Err e) = IsSameContext s e.0.holding
+
+-- the fixed list: the next turn is told which node was contended
+abbrev pub IsListTurn : Bool → Holding → List ℕ → Option ℕ → Result Trip (Refused × Option ℕ) → Type 0
+IsListTurn heeds s list kept (Ok trip) = IsTrip heeds s list kept (Ok trip)
+IsListTurn heeds s list kept (Err e) = IsSameContext s e.0.holding × ((position : ℕ) × IsContended list e.0 position) × (e.1 ≡ Some e.0.contended)
+
+-- the reordered list: the next turn also has the contended entry at the head
+abbrev pub IsOrderTurn : Bool → Holding → Ordered → Result Trip (Refused × Ordered) → Type 0
+IsOrderTurn heeds s o (Ok trip) = IsTrip heeds s o.order.items o.kept (Ok trip)
+IsOrderTurn heeds s o (Err e) = IsSameContext s e.0.holding × (e.1.kept ≡ Some e.0.contended)
+    × ((position : ℕ) × IsContended o.order.items e.0 position × (e.1.order.items ≡ e.0.contended ∷ remove o.order.items position))
+
+-- the walk
+abbrev pub IsWalkTurn : Bool → Holding → ℕ → ℕ → ℕ → Result Trip (Refused × Unit {0}) → Type 0
+IsWalkTurn heeds s start port most (Ok (Through a)) = IsSameContext s a × HoldsWalk start port most a
+IsWalkTurn heeds s start port most (Ok (Already a n)) = ⊥
+IsWalkTurn heeds s start port most (Ok (Interrupted a by)) = IsHalted heeds s by a
+IsWalkTurn heeds s start port most (Err e) = IsSameContext s e.0.holding

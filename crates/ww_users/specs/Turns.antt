@@ -1,6 +1,13 @@
--- What a body that takes locks does in one of its turns, of which each but the last one ends with EDEADLK.
-use Rattle.std.specs.Prelude.{ℕ, ◌≡◌, ◌∷◌, ◌⊎◌, [], length, Result, IfOk, IfErr}
-use Rattle.ww_lock.specs.Holding.{Holding, Refused, Setting, IsAtHome}
+-- What a body that takes locks does in its turns, of which each but the last one ends with EDEADLK.
+use Rattle.std.specs.Prelude.{ℕ, ◌≡◌, ◌∷◌, ◌⊎◌, [], Bool, true, length, Result, Ok, Err, IfOk, IfErr}
+use Rattle.ww_lock.specs.Holding.{Holding, Refused, Wanting, Setting, IsAtHome}
+use Rattle.ww_lock.specs.Moves.{IsBegun}
+use Rattle.ww_users.specs.declared.fault.UserFault.{UserFault}
+use Rattle.ww_users.specs.declared.fault.UserFault.TheVariants.{PassSpent, Already, Interrupted}
+use Rattle.ww_users.specs.declared.trip.Trip.{Trip}
+use Rattle.ww_users.specs.declared.trip.Trip.TheVariants as trip
+use Rattle.ww_users.specs.Ways.{IsReturned, IsCalledOff}
+use Rattle.ww_users.specs.Trips.{IsSameContext, IsHalted}
 
 -- the same context of the same pass, with the same stamp, budget and own list, which may hold other locks
 pub record KeepsContext (s a : Holding) : Type 0 where
@@ -17,3 +24,36 @@ pub record StartsTurn (s : Holding) (w : Setting) (a : Holding) : Type 0 where
 pub record IsTurn (s : Holding) (r : Result Holding Refused) : Type 0 where
   pub ok : IfOk r (KeepsContext s)
   pub err : IfErr r (λ b. KeepsContext s b.holding)
+
+-- after a back-off: the same context, with the contended lock alone
+pub record IsBackedOff (b : Refused) (a : Holding) : Type 0 where
+  pub same : IsSameContext b.holding a
+  pub alone : a.held ≡ b.contended ∷ []
+
+-- Of a body that hands something on from turn to turn: what it does in a turn, the contexts that the first turn may start
+-- with, and what the first turn is handed.
+module _ {S T : Type 0} (Turns : Holding → S → Result T (Refused × S) → Type 0) (Begins : Holding → Type 0) (first : S) where
+  -- a turn starts with this context, and is handed this: the first one, or one after a back-off
+  pub data Comes : Holding → S → Type 0 where
+    at_first : (a : Holding) → Begins a → Comes a first
+    further : (a : Holding) (s : S) (b : Refused) (next : S) (c : Holding) → Comes a s → Turns a s (Err (b, next)) → IsBackedOff b c → Comes c next
+
+  -- some turn is the last one, with this outcome
+  abbrev pub EndsWith : T → Type 0
+  EndsWith t = (a : Holding) × (s : S) × Comes a s × Turns a s (Ok t)
+
+  -- after some turn the wait for the contended lock was called off by this caller, and nothing is held
+  abbrev pub IsCutShort : Bool → Wanting → ℕ → Type 0
+  IsCutShort heeds w by = (a : Holding) × (s : S) × (b : Refused) × (next : S) × Comes a s × Turns a s (Err (b, next)) × IsHalted heeds b.holding by w.holding × (w.holding.held ≡ [])
+
+-- ... of one of the three ways, in the one context that it begins
+module _ {S : Type 0} (Turns : Holding → S → Result Trip (Refused × S) → Type 0) (first : S) (s : Holding) where
+  -- its last turn locked all of it
+  abbrev pub GoesThrough : Holding → Type 0
+  GoesThrough a = EndsWith Turns (IsBegun s) first (trip.Through a)
+
+  -- why it came back as a pass
+  abbrev pub IsWayFault : Bool → Holding → UserFault → Type 0
+  IsWayFault heeds p PassSpent = (s.left ≡ 0) × (p ≡ s)
+  IsWayFault heeds p (Already n) = IsReturned s 1 p × ((a : Holding) × EndsWith Turns (IsBegun s) first (trip.Already a n))
+  IsWayFault heeds p (Interrupted by) = (heeds ≡ true) × IsCalledOff s by p

@@ -5,15 +5,7 @@ ghost use Rattle.ww_lock.specs.Holding.{IsAtHome};
 ghost use Rattle.ww_users.specs.Trips.{IsSameContext, HasLocked, IsAnswer, IsHalted, IsHalt};
 
 use std::sync::Wait;
-use ww_lock::{Acquiring, Backoff, Contended, Interruptible, Lock, World};
-
-/// Why a context didn't get a lock.
-pub(crate) enum Halt {
-    /// It was told EDEADLK.
-    Deadlk(Backoff),
-    /// Its wait was called off by this caller.
-    Interrupted(Acquiring, u8),
-}
+use ww_lock::{Acquiring, Backoff, Contended, Halt, Interruptible, Lock, Pass, World};
 
 /// Takes a lock; the wait for it may be called off where it heeds cancels.
 #[inline(always)]
@@ -59,6 +51,14 @@ pub(crate) fn back_off<R: Wait>(
     Ok(contended.lock_slow(rt, world))
 }
 
+/// Gives all locks back, and ends the context.
+pub(crate) fn give_up<R: Wait>(world: &World, acquiring: Acquiring, rt: &R) -> Pass
+    requires home { IsAtHome acquiring world.now }
+    ensures { result ≡ record acquiring { held = []; stamp = 0 } }
+{
+    acquiring.unlock_all(rt, world).fini(world)
+}
+
 /// Takes a lock. EALREADY means that the context goes on.
 pub(crate) fn lock_one<R: Wait>(
     world: &World,
@@ -72,9 +72,5 @@ pub(crate) fn lock_one<R: Wait>(
     ensures ok { IfOk result (HasLocked acquiring n) }
     ensures err { IfErr result (IsHalt heeds acquiring) }
 {
-    match lock(world, acquiring, rt, n, heeds) {
-        Interruptible::Locked(acquiring) | Interruptible::Already(acquiring) => Ok(acquiring),
-        Interruptible::Deadlk(backoff) => Err(Halt::Deadlk(backoff)),
-        Interruptible::Interrupted(acquiring, by) => Err(Halt::Interrupted(acquiring, by)),
-    }
+    lock(world, acquiring, rt, n, heeds).going_on()
 }

@@ -3,12 +3,13 @@ ghost use Rattle.std.specs.List.{AllByRecursion};
 ghost use Rattle.ww_plain.specs.Transaction.{FirstDouble};
 ghost use Rattle.ww_lock.specs.Holding.{IsAtHome};
 ghost use Rattle.ww_users.specs.Ways.{IsContext, HoldsExactly, TookInOrder, IsUserFault};
+ghost use Rattle.ww_users.specs.Trips.{HoldsKept, IsListTurn};
 
-use crate::context::back_off;
 use crate::fault::UserFault;
 use crate::trip::{Trip, lock_entries};
+use crate::turns::take_turns;
 use std::sync::Wait;
-use ww_lock::{Done, Pass, World};
+use ww_lock::{Acquiring, Backoff, Done, Pass, World};
 
 /// Method 1: locks the nodes in the order of the list. On EDEADLK it gives all back, takes the contended lock by
 /// the slow path, and starts again with that entry skipped once. A list that names a node twice is refused with the
@@ -72,32 +73,25 @@ fn lock_in_order<R: Wait>(
     ensures err { IfErr result (λ e. IsUserFault heeds pass list.now e.0 e.1) }
     ensures room { IfErr result (λ e. e.0.room ≡ pass.room) }
 {
-    let mut acquiring = match pass.begin(world) {
-        Ok(acquiring) => acquiring,
-        Err(pass) => return Err((pass, UserFault::PassSpent)),
-    };
-    let mut kept = None;
-    for _ in rt.forever() {
-        acquiring = match lock_entries(world, acquiring, rt, list, kept, heeds) {
-            Trip::Through(acquiring) => return Ok(acquiring.done()),
-            Trip::Already(acquiring, n) => {
-                let pass = acquiring.unlock_all(rt, world).fini(world);
-                return Err((pass, UserFault::Already(n)));
-            }
-            Trip::Deadlk(backoff, _) => {
-                kept = Some(backoff.contended());
-                match back_off(world, backoff, rt, heeds) {
-                    Ok(acquiring) => acquiring,
-                    Err((contended, by)) => {
-                        return Err((contended.fini(world), UserFault::Interrupted(by)));
-                    }
+    take_turns(
+        world,
+        pass,
+        rt,
+        None,
+        heeds,
+        |acquiring: Acquiring, kept: Option<u8>| -> Result<Trip, (Backoff, Option<u8>)>
+            requires home { IsAtHome acquiring world.now }
+            requires nodes { AllByRecursion (λ n. n < length world.now.first) list.now }
+            requires kept { HoldsKept kept list.now acquiring }
+            ensures { IsListTurn heeds acquiring list.entry.now kept result }
+        {
+            match lock_entries(world, acquiring, rt, list, kept, heeds) {
+                Ok(trip) => Ok(trip),
+                Err((backoff, _)) => {
+                    let contended = backoff.contended();
+                    Err((backoff, Some(contended)))
                 }
             }
-            Trip::Interrupted(acquiring, by) => {
-                let pass = acquiring.unlock_all(rt, world).fini(world);
-                return Err((pass, UserFault::Interrupted(by)));
-            }
-        };
-    }
-    unreachable!()
+        },
+    )
 }

@@ -7,6 +7,7 @@ mod fault;
 mod fixed_list;
 mod reordered_list;
 mod trip;
+mod turns;
 mod until;
 mod walk;
 

@@ -3,14 +3,22 @@ ghost use Rattle.std.specs.List.{AllByRecursion};
 ghost use Rattle.ww_plain.specs.Transaction.{FirstDouble};
 ghost use Rattle.ww_lock.specs.Holding.{IsAtHome};
 ghost use Rattle.ww_users.specs.Ways.{IsContext, HoldsExactly, IsUserFault};
+ghost use Rattle.ww_users.specs.Trips.{HoldsKept, IsOrderTurn};
 
-use crate::context::back_off;
 use crate::fault::UserFault;
 use crate::trip::{Trip, lock_entries};
+use crate::turns::take_turns;
 use arrayvec::ArrayVec;
 use std::sync::Wait;
-use ww_lock::{Done, Pass, World};
+use ww_lock::{Acquiring, Backoff, Done, Pass, World};
 use ww_plain::MAX_NODES;
+
+/// What a turn hands on to the next one: the node that it kept, and the list as it stands now.
+#[derive(Drop)]
+pub(crate) struct Ordered {
+    pub(crate) kept: Option<u8>,
+    pub(crate) order: ArrayVec<u8, MAX_NODES>,
+}
 
 /// Method 2: as method 1, but after the slow lock the contended entry is moved to the head of the list, and the
 /// trip goes on behind it. So an entry that was contended is locked first from then on. The double that a refusal
@@ -72,37 +80,32 @@ fn lock_reordered<R: Wait>(
     ensures err { IfErr result (λ e. IsUserFault heeds pass list.now e.0 e.1) }
     ensures room { IfErr result (λ e. e.0.room ≡ pass.room) }
 {
-    let mut acquiring = match pass.begin(world) {
-        Ok(acquiring) => acquiring,
-        Err(pass) => return Err((pass, UserFault::PassSpent)),
-    };
-    let Ok(mut order) = ArrayVec::<u8, MAX_NODES>::try_from(list) else {
+    let Ok(order) = ArrayVec::try_from(list) else {
         unreachable!()
     };
-    let mut kept = None;
-    for _ in rt.forever() {
-        acquiring = match lock_entries(world, acquiring, rt, &order, kept, heeds) {
-            Trip::Through(acquiring) => return Ok(acquiring.done()),
-            Trip::Already(acquiring, n) => {
-                let pass = acquiring.unlock_all(rt, world).fini(world);
-                return Err((pass, UserFault::Already(n)));
-            }
-            Trip::Deadlk(backoff, position) => {
-                let entry = order.remove(position);
-                order.insert(0, entry);
-                kept = Some(entry);
-                match back_off(world, backoff, rt, heeds) {
-                    Ok(acquiring) => acquiring,
-                    Err((contended, by)) => {
-                        return Err((contended.fini(world), UserFault::Interrupted(by)));
-                    }
+    take_turns(
+        world,
+        pass,
+        rt,
+        Ordered { kept: None, order },
+        heeds,
+        |acquiring: Acquiring, handed: Ordered| -> Result<Trip, (Backoff, Ordered)>
+            requires home { IsAtHome acquiring world.now }
+            requires nodes { AllByRecursion (λ n. n < length world.now.first) handed.order.items }
+            requires kept { HoldsKept handed.kept handed.order.items acquiring }
+            ensures { IsOrderTurn heeds acquiring handed result }
+        {
+            let Ordered { kept, mut order } = handed;
+            match lock_entries(world, acquiring, rt, &order, kept, heeds) {
+                Ok(trip) => Ok(trip),
+                Err((backoff, position)) => {
+                    let contended = backoff.contended();
+                    order.remove(position);
+                    order.insert(0, contended);
+                    let kept = Some(contended);
+                    Err((backoff, Ordered { kept, order }))
                 }
             }
-            Trip::Interrupted(acquiring, by) => {
-                let pass = acquiring.unlock_all(rt, world).fini(world);
-                return Err((pass, UserFault::Interrupted(by)));
-            }
-        };
-    }
-    unreachable!()
+        },
+    )
 }

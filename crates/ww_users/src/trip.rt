@@ -1,4 +1,4 @@
-//! One trip through a list, as the fixed list and the reordered one make it until none is told EDEADLK.
+//! One trip through a list, as the fixed list and the reordered one make it in each turn.
 
 ghost use Rattle.std.specs.Prelude.{◌<◌, length};
 ghost use Rattle.std.specs.List.{AllByRecursion};
@@ -9,19 +9,18 @@ use crate::context::lock;
 use std::sync::Wait;
 use ww_lock::{Acquiring, Backoff, Interruptible, World};
 
-/// How a trip through a list ended.
+/// How a trip ended that isn't made again.
 pub(crate) enum Trip {
-    /// Each entry is locked.
+    /// All of it is locked.
     Through(Acquiring),
     /// An entry named a node that an earlier entry had locked: the kernel's EALREADY.
     Already(Acquiring, u8),
-    /// The context was told EDEADLK at the entry of this position.
-    Deadlk(Backoff, usize),
-    /// The wait for an entry was called off by this caller.
+    /// The wait for a lock was called off by this caller.
     Interrupted(Acquiring, u8),
 }
 
-/// Locks the entries in the order of the list. The node that was kept from a slow lock is skipped once.
+/// Locks the entries in the order of the list. The node that was kept from a slow lock is skipped once. An `Err` has the
+/// position of the entry at which the context was told EDEADLK.
 pub(crate) fn lock_entries<R: Wait>(
     world: &World,
     acquiring: Acquiring,
@@ -29,7 +28,7 @@ pub(crate) fn lock_entries<R: Wait>(
     list: &[u8],
     kept: Option<u8>,
     heeds: bool,
-) -> Trip
+) -> Result<Trip, (Backoff, usize)>
     requires home { IsAtHome acquiring world.now }
     requires nodes { AllByRecursion (λ n. n < length world.now.first) list.now }
     requires kept { HoldsKept kept list.now acquiring }
@@ -44,10 +43,12 @@ pub(crate) fn lock_entries<R: Wait>(
         }
         acquiring = match lock(world, acquiring, rt, *n, heeds) {
             Interruptible::Locked(acquiring) => acquiring,
-            Interruptible::Already(acquiring) => return Trip::Already(acquiring, *n),
-            Interruptible::Deadlk(backoff) => return Trip::Deadlk(backoff, position),
-            Interruptible::Interrupted(acquiring, by) => return Trip::Interrupted(acquiring, by),
+            Interruptible::Already(acquiring) => return Ok(Trip::Already(acquiring, *n)),
+            Interruptible::Deadlk(backoff) => return Err((backoff, position)),
+            Interruptible::Interrupted(acquiring, by) => {
+                return Ok(Trip::Interrupted(acquiring, by));
+            }
         };
     }
-    Trip::Through(acquiring)
+    Ok(Trip::Through(acquiring))
 }

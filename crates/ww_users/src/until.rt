@@ -1,7 +1,8 @@
-ghost use Rattle.std.specs.Prelude.{Ok};
+ghost use Rattle.std.specs.Prelude.{Ok, Err, IfOk, IfErr};
 ghost use Rattle.ww_lock.specs.Holding.{IsAtHome};
 ghost use Rattle.ww_users.specs.Turns.{KeepsContext, StartsTurn, IsTurn};
 
+use crate::turns::run_turns;
 use std::sync::Wait;
 use ww_lock::{Acquiring, Backoff, World};
 
@@ -21,12 +22,25 @@ pub fn lock_until<R: Wait, F: Fn(Acquiring) -> Result<Acquiring, Backoff>>(
     ensures same { KeepsContext acquiring result }
     ensures taken { (a : _) × StartsTurn acquiring world.now a × F.post body a (Ok result) }
 {
-    let mut acquiring = acquiring;
-    for _ in rt.forever() {
-        acquiring = match body(acquiring) {
-            Ok(acquiring) => return acquiring,
-            Err(backoff) => backoff.back_off(rt, world),
-        };
+    let ended = run_turns(
+        rt,
+        world,
+        acquiring,
+        (),
+        false,
+        |acquiring: Acquiring, _: ()| -> Result<Acquiring, (Backoff, ())>
+            requires { F.pre body acquiring }
+            ensures ok { IfOk result (λ a. F.post body acquiring (Ok a)) }
+            ensures err { IfErr result (λ e. F.post body acquiring (Err e.0)) }
+        {
+            match body(acquiring) {
+                Ok(acquiring) => Ok(acquiring),
+                Err(backoff) => Err((backoff, ())),
+            }
+        },
+    );
+    match ended {
+        Ok(acquiring) => acquiring,
+        Err(_) => unreachable!(),
     }
-    unreachable!()
 }

@@ -6,13 +6,15 @@ ghost use Rattle.ww_plain.specs.Walk.{IsEnd, GoesOnTo};
 ghost use Rattle.ww_lock.specs.Holding.{IsAtHome};
 ghost use Rattle.ww_lock.specs.Making.{Covers};
 ghost use Rattle.ww_users.specs.Ways.{IsContext, IsWalkFault};
-ghost use Rattle.ww_users.specs.Trips.{IsSameContext, HoldsWalk, IsHalt};
+ghost use Rattle.ww_users.specs.Trips.{IsSameContext, HoldsWalk, IsHalt, IsWalkTurn};
 
-use crate::context::{Halt, back_off, lock_one};
+use crate::context::lock_one;
 use crate::fault::UserFault;
+use crate::trip::Trip;
+use crate::turns::take_turns;
 use arrayvec::ArrayVec;
 use std::sync::Wait;
-use ww_lock::{Acquiring, Done, Pass, World};
+use ww_lock::{Acquiring, Backoff, Done, Halt, Pass, World};
 use ww_plain::{MAX_NODES, PORTS};
 
 /// Method 3: locks the walk from a node along a port, of at most so many nodes, and its stop, as it finds them. On
@@ -77,26 +79,24 @@ fn lock_found<R: Wait>(
     ensures reverse { IfOk result (λ d. Covers d (reverse start port most)) }
     ensures err { IfErr result (λ e. IsWalkFault heeds pass e.0 e.1) }
 {
-    let mut acquiring = match pass.begin(world) {
-        Ok(acquiring) => acquiring,
-        Err(pass) => return Err((pass, UserFault::PassSpent)),
-    };
-    for _ in rt.forever() {
-        acquiring = match lock_along(world, acquiring, rt, start, port, most, heeds) {
-            Ok(acquiring) => return Ok(acquiring.done()),
-            Err(Halt::Deadlk(backoff)) => match back_off(world, backoff, rt, heeds) {
-                Ok(acquiring) => acquiring,
-                Err((contended, by)) => {
-                    return Err((contended.fini(world), UserFault::Interrupted(by)));
-                }
-            },
-            Err(Halt::Interrupted(acquiring, by)) => {
-                let pass = acquiring.unlock_all(rt, world).fini(world);
-                return Err((pass, UserFault::Interrupted(by)));
+    take_turns(
+        world,
+        pass,
+        rt,
+        (),
+        heeds,
+        |acquiring: Acquiring, _: ()| -> Result<Trip, (Backoff, ())>
+            requires home { IsAtHome acquiring world.now }
+            requires course { IsCourse (length world.now.first) start port most }
+            ensures { IsWalkTurn heeds acquiring start port most result }
+        {
+            match lock_along(world, acquiring, rt, start, port, most, heeds) {
+                Ok(acquiring) => Ok(Trip::Through(acquiring)),
+                Err(Halt::Deadlk(backoff)) => Err((backoff, ())),
+                Err(Halt::Interrupted(acquiring, by)) => Ok(Trip::Interrupted(acquiring, by)),
             }
-        };
-    }
-    unreachable!()
+        },
+    )
 }
 
 /// One walk, with the stop, or as far as it gets. A node that is held already ends it where that is one of the

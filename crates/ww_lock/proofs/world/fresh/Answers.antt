@@ -13,9 +13,9 @@ invariant_of-push_reserved c =
     let next = next_is shared.table_id shared.key c.args.seats.items c.loop-seat.yielded c.loop-seat.seat-iterator.rest.items c.next.new.self.rest.items c.in-Some.seat c.loop-seat.rests.items c.pop.new.self.items c.in-Some-pop.field-0
     c.requires.seats.new i.2 (search rules) i.3 (search rules) in
     let none : c.new.result.items ≡ [] = search rules in
-    let hand : Hand = record { seat = c.in-Some.seat; kind = c.args.kind; left = c.args.budget; held = c.new.result; marks = replicate 64 false; seen = c.in-Some-pop.field-0.seen; patience = c.in-Some-pop.field-0.patience } in
+    let hand : Hand = record { seat = c.in-Some.seat; left = c.args.budget; held = c.new.result; marks = replicate 64 false; seen = c.in-Some-pop.field-0.seen; patience = c.in-Some-pop.field-0.patience } in
     subst (λ (h : Hand). Carries h × (h.seat.stamp ≡ 0) × (h.held.items ≡ [])) (sym c.in-Ok.ensures.ok)
-    (new_carries shared.table_id shared.key (length c.loop-seat.yielded) hand next.0 c.requires.kind none refl next.3 c.args.board.now.few (omega (arith, c.ranges.budget.fits)), new_idle shared.table_id shared.key _ c.in-Some.seat next.0, none)
+    (new_carries shared.table_id shared.key (length c.loop-seat.yielded) hand next.0 none refl next.3 c.args.board.now.few (omega (arith, c.ranges.budget.fits)), new_idle shared.table_id shared.key _ c.in-Some.seat next.0, none)
 
 pub loop-seat-preserved : goal.loop-seat-preserved
 loop-seat-preserved c =
@@ -25,7 +25,7 @@ loop-seat-preserved c =
     c.requires.seats.new i.2 (search rules) i.3 (search rules) in
     let none : c.new.result.items ≡ [] = search rules in
     let more : length (c.loop-seat.yielded ++ c.in-Some.seat ∷ []) ≡ length c.loop-seat.yielded + 1 = length-append c.loop-seat.yielded (c.in-Some.seat ∷ []) in
-    let hand : Hand = record { seat = c.in-Some.seat; kind = c.args.kind; left = c.args.budget; held = c.new.result; marks = replicate 64 false; seen = c.in-Some-pop.field-0.seen; patience = c.in-Some-pop.field-0.patience } in
+    let hand : Hand = record { seat = c.in-Some.seat; left = c.args.budget; held = c.new.result; marks = replicate 64 false; seen = c.in-Some-pop.field-0.seen; patience = c.in-Some-pop.field-0.patience } in
     let holding = subst (λ (h : Hand). holding_of h ≡ fresh shared.table_id (first_graph shared.key) c.args.budget (length c.loop-seat.yielded) (holding_of h).room) (sym c.in-Ok.ensures.ok) (new_holding shared.table_id shared.key (length c.loop-seat.yielded) hand next.0 none next.3) in (
       tt,
       tt,

@@ -1,5 +1,9 @@
-use Rattle.ww_users.proofs.Contexts.{same_told}
+use Rattle.std.proofs.Common.{Result, IfErr, subst, sym}
+use Rattle.ww_lock.specs.declared.interruptible.Halt.{Halt}
+use Rattle.ww_lock.specs.Holding.{Holding}
+use Rattle.ww_users.specs.Trips.{IsHalt}
+use Rattle.ww_users.proofs.Contexts.{one_halted}
 use Rattle.ww_users.proofs.context.lock_one.Goals as goal
 
-pub returns-in-Interrupted-clause-err : goal.returns-in-Interrupted-clause-err
-returns-in-Interrupted-clause-err g c = let e = c.in-Interrupted.ensures in (e.0, (c.args.n, same_told _ _ _ _ e.1))
+pub returns-clause-err : goal.returns-clause-err
+returns-clause-err g c = subst (λ (r : Result Holding Halt). IfErr r (IsHalt c.args.heeds c.args.acquiring)) (sym c.going_on.ensures) (one_halted c.args.heeds c.args.acquiring c.args.n _ c.lock.ensures)

@@ -1,7 +1,5 @@
-use Rattle.ww_users.proofs.Contexts.{same_later, context_later}
-use Rattle.ww_users.proofs.Entries.{way_again}
+use Rattle.ww_users.proofs.Turning.{list_keeps}
 use Rattle.ww_users.proofs.fixed_list.lock_in_order.Goals as goal
 
-pub loop-preserved : goal.loop-preserved
-loop-preserved g c =
-    (context_later _ _ _ c.loop.invariant.0 (same_later _ _ _ c.in-Deadlk.ensures.0 c.in-Ok-back_off.ensures.same), way_again _ _ _ _ _ c.in-Deadlk.ensures.1 c.contended.ensures c.in-Ok-back_off.ensures.alone)
+pub take_turns-requires-clause-callable : goal.take_turns-requires-clause-callable
+take_turns-requires-clause-callable g c = λ a k home comes. (home, (c.requires.nodes, list_keeps _ c.args.pass c.args.list.now c.args.heeds a k comes (λ b m r turn. turn.1)))

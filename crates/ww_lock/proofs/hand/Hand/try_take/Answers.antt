@@ -1,13 +1,10 @@
-use Rattle.std.proofs.Common.{ap, arith, inl, sym, ◌∙◌, true≢false}
-use Rattle.ww_lock.proofs.Carrying.{here, at_table, takes, missed}
+use Rattle.std.proofs.Common.{ap, arith, inl, inr, sym, ◌∙◌, true≢false}
+use Rattle.ww_lock.proofs.Carrying.{here, at_table, bare_of, takes, taken_at_once, missed}
 use Rattle.ww_table.specs.declared.seat.Seat16.{Seat16}
 use Rattle.ww_lock.proofs.hand.Hand.try_take.Goals as goal
 
 pub try_take-requires-clause-seat : goal.try_take-requires-clause-seat
 try_take-requires-clause-seat c = here c.args.self.now c.args.world.now _ c.world.view_is c.requires.home c.requires.fresh.carries
-
-pub try_take-requires-clause-kind : goal.try_take-requires-clause-kind
-try_take-requires-clause-kind c = c.requires.fresh.carries.kind
 
 pub try_take-requires-clause-lock : goal.try_take-requires-clause-lock
 try_take-requires-clause-lock c = omega (arith, c.requires.node, (at_table _ c.args.world.now _ c.world.view_is c.requires.home).1)
@@ -16,18 +13,28 @@ pub try_take-requires-clause-lacks : goal.try_take-requires-clause-lacks
 try_take-requires-clause-lacks c = c.requires.fresh.carries.owned c.args.n ∙ c.requires.new
 
 pub try_take-requires-clause-base : goal.try_take-requires-clause-base
-try_take-requires-clause-base c = inl (omega (arith, c.requires.context, c.requires.fresh.carries.settled.seated.stamp))
+try_take-requires-clause-base c = elim c.requires.want [
+  | inl some ↦ inl (omega (arith, some, c.requires.fresh.carries.settled.seated.stamp))
+  | inr none ↦ inr (bare_of c.args.self.now c.requires.fresh.carries none)
+]
 
 pub returns-in-Some : goal.returns-in-Some
 returns-in-Some c =
     let e = c.try_take.ensures in
     let added = c.add.ensures in
-    let t = takes c.args.self.now c.add.new.self c.args.world.now _ c.try_take.new.seat c.args.n c.in-Some.node c.world.view_is c.requires.home c.requires.fresh c.requires.node c.requires.new e.seat e.records c.in-Some.ensures.some e.once
-    added.seat added.same.0 added.same.1 added.held added.marks added.seen in
-    record { fresh = t.fresh; taken = λ _. t.is; busy = λ f. absurd (true≢false f); unmet = λ _. ap (λ (s : Seat16). s.seat.me.0.part.core.met) added.seat ∙ c.in-Some.ensures.some.unmet }
+    let t = takes c.args.self.now c.add.new.self c.args.world.now _ c.try_take.new.seat c.args.n c.in-Some.node c.world.view_is c.requires.home c.requires.fresh c.requires.node c.requires.new e.seat e.records c.in-Some.ensures.some
+    added.seat added.same added.held added.marks added.seen in
+    record {
+      fresh = t.fresh;
+      taken = λ _. taken_at_once c.args.self.now c.add.new.self c.try_take.new.seat c.args.n c.in-Some.node c.requires.new added.seat e.once t;
+      busy = λ f. absurd (true≢false f);
+      lost = λ f. absurd (true≢false f);
+      unmet = λ _. ap (λ (s : Seat16). s.seat.me.0.part.core.met) added.seat ∙ c.in-Some.ensures.some.unmet;
+      met = λ f. absurd (true≢false f);
+    }
 
 pub returns-in-None : goal.returns-in-None
 returns-in-None c =
     let e = c.try_take.ensures in
     let k = missed c.args.self.now c.args.world.now _ c.try_take.new.seat c.args.self.now.patience c.world.view_is c.requires.home c.requires.fresh e.seat e.records c.in-None.ensures.none e.once in
-    record { fresh = k.0; taken = λ f. absurd (true≢false (sym f)); busy = λ _. k.1; unmet = λ none. c.in-None.ensures.met ∙ none }
+    record { fresh = k.0; taken = λ f. absurd (true≢false (sym f)); busy = λ _. k.1; lost = λ _. record { tried = c.in-None.ensures.tried; signs = c.in-None.ensures.signs }; unmet = λ f. absurd (true≢false (sym f)); met = λ _. c.in-None.ensures.met }

@@ -1,0 +1,50 @@
+use Rattle.std.proofs.Common.{ap, arith, inl, inr, ◌∙◌}
+use Rattle.std.proofs.lemmas.Result.{err_from_is_err_and}
+use Rattle.ww_table.specs.declared.seat.Seat16.{Seat16}
+use Rattle.ww_lock.proofs.Carrying.{here, at_table, bare_of, takes, taken_late, turned_away, turned_fresh}
+use Rattle.ww_lock.proofs.hand.Hand.wait_for.Goals as goal
+
+pub wait_for-requires-clause-settled : goal.wait_for-requires-clause-settled
+wait_for-requires-clause-settled g c = here c.args.self.now c.args.world.now _ c.world.view_is c.requires.home c.requires.fresh.carries
+
+pub wait_for-requires-clause-lock : goal.wait_for-requires-clause-lock
+wait_for-requires-clause-lock g c = omega (arith, c.requires.node, (at_table _ c.args.world.now _ c.world.view_is c.requires.home).1)
+
+pub wait_for-requires-clause-lacks : goal.wait_for-requires-clause-lacks
+wait_for-requires-clause-lacks g c = c.requires.fresh.carries.owned c.args.n ∙ c.requires.new
+
+pub wait_for-requires-clause-base : goal.wait_for-requires-clause-base
+wait_for-requires-clause-base g c = elim c.requires.want [
+  | inl some ↦ inl (omega (arith, some, c.requires.fresh.carries.settled.seated.stamp))
+  | inr none ↦ inr (bare_of c.args.self.now c.requires.fresh.carries none)
+]
+
+pub returns : goal.returns
+returns g c =
+    let e = c.wait_for.ensures in
+    let added = c.add.ensures in
+    let t = takes c.args.self.now c.add.new.self c.args.world.now _ c.wait_for.new.seat c.args.n c.in_ok-node.node c.world.view_is c.requires.home c.requires.fresh c.requires.node c.requires.new e.settled e.records c.in_ok-node.ensures.ok
+    added.seat added.same added.held added.marks added.seen in
+    record {
+      fresh = t.fresh;
+      taken = λ s was. taken_late c.args.self.now c.add.new.self c.wait_for.new.seat c.args.n c.in_ok-node.node s c.requires.new added.seat e.tries t was;
+      stopped = tt;
+      heeds = tt;
+      turned_away = tt;
+      unmet = ap (λ (s : Seat16). s.seat.me.0.part.core.met) added.seat ∙ c.in_ok-node.ensures.ok.unmet;
+    }
+
+pub returns-in_err-node : goal.returns-in_err-node
+returns-in_err-node g c =
+    let e = c.wait_for.ensures in
+    let h = c.args.self.now in
+    let d = c.in_err-node.ensures.err in
+    let p = err_from_is_err_and c.from_residual.result c.from_residual.ensures.1 in
+    rw (p.1, p.2) (record {
+      fresh = turned_fresh h c.args.world.now _ c.wait_for.new.seat c.wait_for.new.patience c.args.n _ c.world.view_is c.requires.home c.requires.fresh e.settled e.records d e.tries;
+      taken = tt;
+      stopped = λ s was. turned_away h c.args.world.now _ c.wait_for.new.seat c.wait_for.new.patience c.args.n _ s c.world.view_is c.requires.home c.requires.fresh c.requires.new e.settled e.records d e.tries was;
+      heeds = c.in_err-node.ensures.heeds;
+      turned_away = d;
+      unmet = tt;
+    })
