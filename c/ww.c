@@ -8,13 +8,41 @@
 #include <sys/syscall.h>
 #include <unistd.h>
 
+/* The proved library isn't built for the thread sanitizer, so that is told what orders the accesses under a lock. */
+#ifdef __has_feature
+#define SANITIZES_THREADS __has_feature(thread_sanitizer)
+#elif defined(__SANITIZE_THREAD__)
+#define SANITIZES_THREADS 1
+#else
+#define SANITIZES_THREADS 0
+#endif
+#if SANITIZES_THREADS
+#include <sanitizer/tsan_interface.h>
+#else
+static inline void __tsan_acquire(void *at) { (void)at; }
+static inline void __tsan_release(void *at) { (void)at; }
+#endif
+
+/* ww.py keeps so much room for a world. */
+_Static_assert(sizeof(ww_world) <= 2048, "a world fits");
+
 enum { NOTHING, TOKEN, ASLEEP };
 
 /* How many pauses come between two looks: they double, and after so many doublings another thread is let run. */
 enum { SPINS = 6, ROUNDS = 11 };
 
-/* A seat that holds nothing stays away for so many pauses, doubled for each first try that it lost of late. */
-enum { FEWEST = 8, MOST_LOSSES = 8, MOST_PAUSES = 2048, MOST_PAUSES_HOLDING = 8, BREATH = 64 };
+/* A seat that holds locks stays away from one that it has just lost for a moment: others may wait for what it holds. */
+enum { MOST_PAUSES_HOLDING = 8 };
+
+/*
+ * One that holds nothing glances twice, so many pauses apart.  Where the same context still owns the lock, that has work of
+ * some length: the seat rests for a while before each glance that is left.  Where another does, all are quick: it rests the
+ * longer the more first tries it lost of late, before so many glances in all.  So many that win make it forget one.
+ */
+enum { MOMENT = 32, FEWEST = 8, MOST_PAUSES = 8192, GLANCES = 4, MOST_PAUSES_LONGER = 512, MOST_LOSSES = 10, CALM = 128 };
+
+/* After so many pauses another thread may have the processor. */
+enum { BREATH = 64 };
 
 static inline void pause_for(unsigned count)
 {
@@ -72,11 +100,38 @@ static void wake(const ww_seat *s, const bool *wakes)
 			unpark(&s->world->seats[k]);
 }
 
+/* How a call that lost its first try stays away from the lock: how often it glanced, and what it saw. */
+struct watch {
+	unsigned glances;
+	bool works; /* the owner has work of some length */
+};
+
+/* How many pauses come before the next glance; is_same: the owner is that of the glance before. */
+static unsigned pauses_before(ww_seat *s, struct watch *w, bool is_same)
+{
+	unsigned pauses, most;
+
+	w->glances++;
+	if (s->held)
+		return w->glances < 4 ? 1u << (w->glances - 1) : MOST_PAUSES_HOLDING;
+	if (w->glances == 1)
+		return MOMENT;
+	if (w->glances == 2 && is_same) {
+		w->works = true;
+		s->losses -= s->losses < 2 ? s->losses : 2; /* this one, and one more */
+	}
+	if (w->glances > GLANCES && !w->works)
+		return 0;
+	pauses = FEWEST << s->losses << (w->glances - 2);
+	most = w->works ? MOST_PAUSES_LONGER : MOST_PAUSES;
+	return pauses < most ? pauses : most;
+}
+
 /* All turns of a call but the first. */
 static __attribute__((noinline, cold)) int go_on(ww_seat *s)
 {
-	unsigned most = s->held ? MOST_PAUSES_HOLDING : MOST_PAUSES;
-	unsigned pauses = s->held ? 1 : FEWEST << s->losses, step = 0;
+	struct watch watch = { 0 };
+	unsigned step = 0;
 
 	for (;;) {
 		bool wakes[WW_MAX_SEATS];
@@ -89,8 +144,8 @@ static __attribute__((noinline, cold)) int go_on(ww_seat *s)
 			step += step < ROUNDS;
 			break;
 		case WW_STAYS:
-			rest_for(pauses);
-			pauses = 2 * pauses < most ? 2 * pauses : most;
+		case WW_STAYS_LONGER:
+			rest_for(pauses_before(s, &watch, r == WW_STAYS_LONGER));
 			break;
 		case WW_SLEEPS:
 			park(s);
@@ -111,11 +166,8 @@ int ww_open(ww_world *w, int kind, unsigned locks, unsigned seats)
 	if (locks > WW_MAX_LOCKS || seats > WW_MAX_SEATS)
 		return -EINVAL;
 	r = ww_open_((uint32_t)kind, (uint8_t)locks, ((uint64_t)1 << 52) - 1, handles, seats);
-	if (r) {
-		for (unsigned k = 0; k < seats; k++)
-			ww_close_(&handles[k]);
+	if (r)
 		return r;
-	}
 	w->count = seats;
 	for (unsigned k = 0; k < seats; k++) {
 		w->seats[k].handle = handles[k];
@@ -156,48 +208,70 @@ int ww_acquire_init(ww_seat *s) { return ww_begin_(&s->handle); }
 int ww_acquire_done(ww_seat *s) { return ww_done_(&s->handle); }
 int ww_acquire_fini(ww_seat *s) { return ww_end_(&s->handle); }
 
-static int locked(ww_seat *s, int r)
+/* What the first try for a lock came to: how long the seat stays away the next time. */
+static inline void remember(ww_seat *s, bool won)
 {
-	if (r == 0) {
-		s->losses -= s->losses > 0;
-	} else if (r > 0) {
-		r = go_on(s);
+	if (!won) {
 		s->losses += s->losses < MOST_LOSSES;
+	} else if (s->losses && ++s->wins >= CALM) {
+		s->wins = 0;
+		s->losses--;
 	}
-	s->held += r == 0;
+}
+
+static inline void take(ww_seat *s, unsigned n)
+{
+	s->held |= (uint64_t)1 << n;
+	__tsan_acquire(&s->world->orders[n]);
+}
+
+/* All of these are about to be given back. */
+static inline void release(ww_seat *s, uint64_t locks)
+{
+	for (unsigned n = 0; SANITIZES_THREADS && n < WW_MAX_LOCKS; n++)
+		if (locks >> n & 1)
+			__tsan_release(&s->world->orders[n]);
+}
+
+static inline int locked(ww_seat *s, unsigned n, int r)
+{
+	if (r >= 0)
+		remember(s, r == 0);
+	if (r > 0)
+		r = go_on(s);
+	if (r == 0)
+		take(s, n);
 	return r;
 }
 
-static int lock(ww_seat *s, unsigned n, bool heeds)
-{
-	return n < WW_MAX_LOCKS ? locked(s, ww_lock_(&s->handle, (uint8_t)n, heeds)) : -EINVAL;
-}
+/* No world has a lock of the number that a greater one becomes. */
+static inline uint8_t number(unsigned n) { return n < WW_MAX_LOCKS ? (uint8_t)n : WW_MAX_LOCKS; }
 
-static int lock_slow(ww_seat *s, unsigned n, bool heeds)
-{
-	return n < WW_MAX_LOCKS ? locked(s, ww_lock_slow_(&s->handle, (uint8_t)n, heeds)) : -EINVAL;
-}
-
-int ww_lock(ww_seat *s, unsigned n) { return lock(s, n, false); }
-int ww_lock_interruptible(ww_seat *s, unsigned n) { return lock(s, n, true); }
-int ww_lock_slow(ww_seat *s, unsigned n) { return lock_slow(s, n, false); }
-int ww_lock_slow_interruptible(ww_seat *s, unsigned n) { return lock_slow(s, n, true); }
+int ww_lock(ww_seat *s, unsigned n) { return locked(s, n, ww_lock_(&s->handle, number(n), false)); }
+int ww_lock_interruptible(ww_seat *s, unsigned n) { return locked(s, n, ww_lock_(&s->handle, number(n), true)); }
+int ww_lock_slow(ww_seat *s, unsigned n) { return locked(s, n, ww_lock_slow_(&s->handle, number(n), false)); }
+int ww_lock_slow_interruptible(ww_seat *s, unsigned n) { return locked(s, n, ww_lock_slow_(&s->handle, number(n), true)); }
 
 int ww_trylock(ww_seat *s, unsigned n)
 {
-	int r = n < WW_MAX_LOCKS ? ww_try_(&s->handle, (uint8_t)n) : -EINVAL;
+	int r = ww_try_(&s->handle, number(n));
 
-	s->held += r == 0;
+	if (r == 0)
+		take(s, n);
 	return r;
 }
 
 int ww_unlock(ww_seat *s, unsigned n)
 {
-	int r = n < WW_MAX_LOCKS ? ww_unlock_(&s->handle, (uint8_t)n) : -EINVAL;
+	uint64_t lock = n < WW_MAX_LOCKS ? (uint64_t)1 << n : 0;
+	int r;
 
+	release(s, s->held & lock);
+	r = ww_unlock_(&s->handle, number(n));
 	if (r > 0)
 		r = go_on(s);
-	s->held -= r == 0;
+	if (r == 0)
+		s->held &= ~lock;
 	return r;
 }
 
@@ -205,9 +279,10 @@ int ww_unlock_all(ww_seat *s)
 {
 	int r;
 
+	release(s, s->held);
 	while ((r = ww_unlock_all_(&s->handle)) > 0)
 		go_on(s);
-	if (!r)
+	if (r == 0)
 		s->held = 0;
 	return r;
 }

@@ -32,13 +32,15 @@ typedef struct ww_seat {
 	struct ww_world *world;
 	uint32_t token;		/* one futex word: nothing, a token, or its thread sleeps */
 	uint32_t losses;	/* how often it lost the first try of late */
-	uint32_t held;		/* how many locks it holds */
+	uint32_t wins;		/* how often it won one since it last forgot a loss */
+	uint64_t held;		/* a bit for each lock that it holds */
 	bool taken;		/* by ww_seat_get */
 } __attribute__((aligned(64))) ww_seat;
 
 typedef struct ww_world {
 	ww_seat seats[WW_MAX_SEATS];
 	unsigned count;
+	char orders[WW_MAX_LOCKS]; /* an address for each lock, by which the thread sanitizer knows it */
 } ww_world;
 
 /* -EINVAL: another kind, no lock or no seat, or too many; -ENOMEM. */
@@ -82,9 +84,11 @@ int ww_cancel(ww_seat *seat, ww_seat *victim);
  * The proved library: each call is one turn, and waits for nobody, for callers
  * with a scheduler of their own.  It answers 0, a negative errno, or that it
  * wants another turn by ww_go_on_: at once, after some pauses, or once somebody
- * has woken the seat.  Whoever is named in wakes has to be woken.
+ * has woken the seat.  WW_STAYS_LONGER says besides that the context which owns
+ * the lock is the one that was seen at the glance before.  Whoever is marked in
+ * wakes has to be woken.
  */
-enum { WW_AGAIN = 1, WW_STAYS = 2, WW_SLEEPS = 3 };
+enum { WW_AGAIN = 1, WW_STAYS = 2, WW_SLEEPS = 3, WW_STAYS_LONGER = 4 };
 int32_t ww_open_(uint32_t kind, uint8_t locks, uint64_t left, ww_handle *seats, size_t count);
 int32_t ww_idle_(ww_handle *seat);
 int32_t ww_close_(ww_handle *seat);

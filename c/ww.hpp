@@ -2,11 +2,11 @@
 #ifndef WW_HPP
 #define WW_HPP
 #include "ww.h"
+#include <algorithm>
 #include <cerrno>
-#include <cstddef>
-#include <initializer_list>
+#include <iterator>
+#include <optional>
 #include <utility>
-#include <vector>
 
 namespace ww {
 
@@ -49,8 +49,24 @@ public:
 
 // A context: it is begun, and at its end gives all locks back and ends.
 class context {
+	static constexpr unsigned none = WW_MAX_LOCKS;
 	ww_seat *s_;
 	int error_;
+	unsigned told_ = none; // the lock for which it was told to back off last
+
+	// Takes locks until none of them makes it back off, calls fn, and gives all back.
+	template <class Takes, class Fn> int holding(Takes &&takes, Fn &&fn)
+	{
+		int r;
+
+		told_ = none;
+		while ((r = takes()) == -EDEADLK && !(r = back_off()))
+			;
+		if (!r)
+			std::forward<Fn>(fn)();
+		ww_unlock_all(s_);
+		return r;
+	}
 
 public:
 	explicit context(seat &s) noexcept : s_(s.get()), error_(ww_acquire_init(s_)) {}
@@ -64,38 +80,81 @@ public:
 	context(const context &) = delete;
 	context &operator=(const context &) = delete;
 	int error() const noexcept { return error_; }
-	int lock(unsigned n) noexcept { return ww_lock(s_, n); }
+	int lock(unsigned n) noexcept
+	{
+		int r = ww_lock(s_, n);
+
+		if (r == -EDEADLK)
+			told_ = n;
+		return r;
+	}
+	// After -EDEADLK: gives all back, and takes the lock that it was told of, waiting for it.
+	int back_off() noexcept
+	{
+		ww_unlock_all(s_);
+		return ww_lock_slow(s_, told_);
+	}
 	int try_lock(unsigned n) noexcept { return ww_trylock(s_, n); }
 	int unlock(unsigned n) noexcept { return ww_unlock(s_, n); }
 	int done() noexcept { return ww_acquire_done(s_); }
 
-	// Takes all locks of a list, backs off by itself, and then calls fn. 0, or the error of a lock call: -EALREADY for
-	// a lock that the list has twice, -EINVAL for one that isn't there. All are given back where it answers an error.
+	/*
+	 * Three ways to take many locks.  Each backs off by itself, calls fn while all are held, and gives all back.  They
+	 * answer 0, or the error of a lock call without calling fn: -EALREADY for a lock that a list has twice, -EINVAL for
+	 * one that isn't there.
+	 */
+
+	// A list that stays as it is: the lock that was waited for is skipped once.
 	template <class List, class Fn> int lock_all(const List &list, Fn &&fn)
 	{
-		unsigned slow = WW_MAX_LOCKS;
-		for (;;) {
-			int r = slow < WW_MAX_LOCKS ? ww_lock_slow(s_, slow) : 0;
-			bool had_slow = false;
-			unsigned at = slow;
-			for (auto n : list) {
-				if (r)
-					break;
-				at = static_cast<unsigned>(n);
-				if (at == slow && !had_slow)
-					had_slow = true;
-				else
-					r = ww_lock(s_, at);
-			}
-			if (!r) {
-				std::forward<Fn>(fn)();
-				return ww_unlock_all(s_);
-			}
-			ww_unlock_all(s_);
-			if (r != -EDEADLK)
-				return r;
-			slow = at;
-		}
+		return holding(
+			[&] {
+				unsigned skips = told_;
+
+				for (unsigned n : list) {
+					if (n == skips)
+						skips = none;
+					else if (int r = lock(n))
+						return r;
+				}
+				return 0;
+			},
+			std::forward<Fn>(fn));
+	}
+
+	// A list that may be reordered: the lock that was waited for moves to its head.
+	template <class List, class Fn> int lock_all_moving(List &list, Fn &&fn)
+	{
+		return holding(
+			[&] {
+				auto at = std::begin(list);
+
+				for (at = told_ == none ? at : std::next(at); at != std::end(list); ++at)
+					if (int r = lock(*at)) {
+						if (r == -EDEADLK)
+							std::rotate(std::begin(list), at, std::next(at));
+						return r;
+					}
+				return 0;
+			},
+			std::forward<Fn>(fn));
+	}
+
+	// Locks that are found on the way: next(starts) tells the next one, or nothing. It may read what the locks guard that
+	// it told since it was last asked with starts, and may tell one that is held. After a back-off it starts again.
+	template <class Next, class Fn> int lock_walk(Next &&next, Fn &&fn)
+	{
+		return holding(
+			[&] {
+				for (std::optional<unsigned> n = next(true); n; n = next(false)) {
+					int r = lock(*n);
+
+					if (r && r != -EALREADY)
+						return r;
+				}
+				return 0;
+			},
+			std::forward<Fn>(fn));
 	}
 };
 

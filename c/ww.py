@@ -4,7 +4,7 @@ import ctypes
 import errno
 
 WOUND_WAIT, WAIT_DIE = 0, 1
-_SEAT, _SEATS = 64, 16
+_WORLD, _ALIGNED = 2048, 64
 
 
 class Deadlock(Exception):
@@ -17,8 +17,8 @@ class World:
     def __init__(self, path, kind, locks, seats):
         self.lib = ctypes.CDLL(path)
         self.lib.ww_seat_get.restype = ctypes.c_void_p
-        self.memory = ctypes.create_string_buffer((_SEATS + 2) * _SEAT)
-        self.at = ctypes.c_void_p((ctypes.addressof(self.memory) + _SEAT - 1) // _SEAT * _SEAT)
+        self.memory = ctypes.create_string_buffer(_WORLD + _ALIGNED)
+        self.at = ctypes.c_void_p((ctypes.addressof(self.memory) + _ALIGNED - 1) // _ALIGNED * _ALIGNED)
         told(self.lib.ww_open(self.at, kind, locks, seats))
 
     def close(self):

@@ -1,7 +1,9 @@
 // Four threads move money between accounts, of which each has a lock.
 #include "../ww.hpp"
 #include <cstdio>
+#include <initializer_list>
 #include <thread>
+#include <vector>
 
 int main()
 {

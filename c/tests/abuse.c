@@ -25,7 +25,7 @@ static int turned(unsigned me, int r)
 
 static bool is_code(int r)
 {
-	return (r >= 0 && r <= WW_SLEEPS) || r == -EINTR || r == -EBUSY || r == -EINVAL || r == -ENOSPC || r == -EDEADLK || r == -EALREADY;
+	return (r >= 0 && r <= WW_STAYS_LONGER) || r == -EINTR || r == -EBUSY || r == -EINVAL || r == -ENOSPC || r == -EDEADLK || r == -EALREADY;
 }
 
 /* What one thread knows of its seat by the answers alone. */

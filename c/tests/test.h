@@ -35,7 +35,7 @@ static inline unsigned long lock_all(ww_seat *s, const unsigned *list, unsigned 
 				r = ww_lock(s, list[k]);
 		if (!r)
 			return backs;
-		MUST(r == -EDEADLK && s->held > 0);
+		MUST(r == -EDEADLK && s->held);
 		slow = list[k - 1];
 		MUST(!ww_unlock_all(s));
 		backs++;

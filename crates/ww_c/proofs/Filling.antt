@@ -53,12 +53,3 @@ one_filled desks old front s handles new h f popped is put =
       count = c.count;
       now = ap desks_in is ∙ set_in handles (length front) h ∙ ap (λ (l : List (Option Situation)). set l (length front) h.slot.desk) f.now ∙ c.now ∙ ap (λ (x : Option Situation). c.front ++ x ∷ map Some f.rest) put;
     }
-
-pub all_filled : (desks front : List Situation) (handles : List Handle) → IsFilled desks front handles → front ≡ [] → desks_in handles ≡ map Some desks
-all_filled desks front handles f none =
-    let same : f.rest ≡ desks = ap (λ (l : List Situation). l ++ f.rest) (sym none) ∙ sym f.whole in
-    f.now ∙ ap (λ (l : List (Option Situation)). l ++ map Some f.rest) (empty f.before (f.count ∙ ap length none)) ∙ ap (map Some) same
-  where
-    empty : (l : List (Option Situation)) → length l ≡ 0 → l ≡ []
-    empty [] e = refl
-    empty (x ∷ xs) e = absurd (omega (arith, e))

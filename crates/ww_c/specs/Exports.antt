@@ -1,5 +1,6 @@
 -- What a call by a handle of C's comes to.
-use Rattle.std.specs.Prelude.{ℕ, zero, suc, ◌≡◌, ◌≤◌, ◌⊎◌, ℤ, pos, negsuc, Bool, false, List, map, replicate, Option, Some, None}
+use Rattle.std.specs.Prelude.{ℕ, zero, suc, ◌≡◌, ◌≤◌, ◌⊎◌, ℤ, pos, negsuc, Bool, false, List, map, replicate, Option, Some, None, Box}
+use Rattle.std.specs.Global.{Global}
 use Rattle.ww_desk.specs.declared.turn.Answer.{Answer}
 use Rattle.ww_desk.specs.Situations.{Situation}
 use Rattle.ww_desk.specs.Answers.{IsNextAnswer, IsCancelAnswer, IsWakesAnswer, IsIdle}
@@ -48,6 +49,10 @@ kind_of (suc k) = WaitDie
 abbrev pub desks_in : List Handle → List (Option Situation)
 desks_in handles = map (λ h. h.slot.desk) handles
 
+-- which desks these boxes have
+abbrev pub desks_of : List (Box Situation Global) → List Situation
+desks_of boxes = map (λ b. b.value) boxes
+
 -- each handle has the desk of its number, of one new world
 pub record IsOpen (kind locks left seats : ℕ) (after : List (Option Situation)) : Type 0 where
   pub kinds : kind ≤ 1
@@ -55,6 +60,7 @@ pub record IsOpen (kind locks left seats : ℕ) (after : List (Option Situation)
   pub opened : IsOpened (kind_of kind) locks seats left all
   pub filled : after ≡ map Some all
 
--- a world; ENOMEM; or EINVAL for any other sizes
-abbrev pub IsOpenCall : ℕ → ℕ → ℕ → ℕ → ℤ → List (Option Situation) → Type 0
-IsOpenCall kind locks left seats code after = ((code ≡ pos 0) × IsOpen kind locks left seats after) ⊎ (((code ≡ negsuc 11) × IsWorld kind locks left seats) ⊎ ((code ≡ negsuc 21) × (¬ IsWorld kind locks left seats)))
+-- a world; ENOMEM, or EINVAL for any other sizes, and then the handles have what they had
+abbrev pub IsOpenCall : ℕ → ℕ → ℕ → ℕ → List (Option Situation) → ℤ → List (Option Situation) → Type 0
+IsOpenCall kind locks left seats before code after = ((code ≡ pos 0) × IsOpen kind locks left seats after)
+    ⊎ (((code ≡ negsuc 11) × IsWorld kind locks left seats × (after ≡ before)) ⊎ ((code ≡ negsuc 21) × (¬ IsWorld kind locks left seats) × (after ≡ before)))

@@ -16,8 +16,9 @@ pub(crate) fn code(answer: Answer) -> i32
     match answer {
         Answer::Done => 0,
         Answer::Again => 1,
-        Answer::Stays => 2,
+        Answer::Stays(false) => 2,
         Answer::Sleeps => 3,
+        Answer::Stays(true) => 4,
         Answer::Busy => EBUSY,
         Answer::Invalid => EINVAL,
         Answer::Already => -114,

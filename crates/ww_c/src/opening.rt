@@ -1,5 +1,5 @@
 ghost use Rattle.std.specs.Prelude.{◌≡◌, length, map, Some, IfOk};
-ghost use Rattle.ww_c.specs.Exports.{desks_in, IsOpenCall};
+ghost use Rattle.ww_c.specs.Exports.{desks_in, desks_of, IsOpenCall};
 
 use crate::codes::{EINVAL, ENOMEM};
 use crate::slot::Handle;
@@ -9,7 +9,7 @@ use ww_queue::Kind;
 use ww_word::MAX_SEATS;
 
 /// Opens a world of so many locks of a kind (0 Wound-Wait, 1 Wait-Die), with a seat for each of the handles, which are
-/// empty before. Where memory is refused some of them may be full.
+/// empty before.
 #[unsafe(no_mangle)]
 pub extern "C" fn ww_open_(
     alloc: Global,
@@ -18,7 +18,7 @@ pub extern "C" fn ww_open_(
     left: u64,
     seats: &mut [Handle],
 ) -> i32
-    ensures { IsOpenCall kind locks left (length seats.old) result (desks_in seats.new) }
+    ensures { IsOpenCall kind locks left (length seats.old) (desks_in seats.old) result (desks_in seats.new) }
 {
     let kind = match kind {
         0 => Kind::WoundWait,
@@ -29,8 +29,11 @@ pub extern "C" fn ww_open_(
         return EINVAL;
     }
     match open(alloc, kind, locks, seats.len() as u8, left) {
-        Ok(desks) => match fill(alloc, desks, seats) {
-            Ok(()) => 0,
+        Ok(desks) => match boxed(alloc, desks) {
+            Ok(boxes) => {
+                fill(boxes, seats);
+                0
+            }
             Err(_) => ENOMEM,
         },
         Err(OpenFault::BadSize) => EINVAL,
@@ -38,15 +41,25 @@ pub extern "C" fn ww_open_(
     }
 }
 
-/// Puts each desk into the handle of its number, the last one first.
-fn fill(alloc: Global, mut desks: Vec<Desk>, seats: &mut [Handle]) -> Result<(), AllocError>
-    requires count { length desks.items ≡ length seats.old }
-    ensures { IfOk result (λ _. desks_in seats.new ≡ map Some desks.items) }
+/// Each desk in a box of its own: so no handle is written before all memory is there.
+fn boxed(alloc: Global, desks: Vec<Desk>) -> Result<Vec<Box<Desk, Global>>, AllocError>
+    ensures { IfOk result (λ boxes. desks_of boxes.items ≡ desks.items) }
 {
-    while let Some(desk) = desks.pop() {
-        let at = desks.len();
+    let mut boxes = Vec::with_capacity(alloc, desks.len())?;
+    for desk in desks {
         let desk = Box::new(alloc, desk)?;
+        boxes.push(desk)?;
+    }
+    Ok(boxes)
+}
+
+/// Puts each desk into the handle of its number, the last one first.
+fn fill(mut boxes: Vec<Box<Desk, Global>>, seats: &mut [Handle])
+    requires count { length boxes.items ≡ length seats.old }
+    ensures { desks_in seats.new ≡ map Some (desks_of boxes.items) }
+{
+    while let Some(desk) = boxes.pop() {
+        let at = boxes.len();
         seats[at].put(desk);
     }
-    Ok(())
 }

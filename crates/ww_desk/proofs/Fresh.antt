@@ -25,7 +25,6 @@ use Rattle.ww_desk.specs.Opened.{fresh, AreFresh}
 pub record IsFirst (b : Board) (k : ℕ) (h : Station) : Type 0 where
   pub board : arc_value h.board ≡ b
   pub new : IsNew b.table.shared.table_id b.table.shared.key k h.seat
-  pub kind : b.table.shared.key.kind ≡ h.kind
   pub few : length (first_graph b.table.shared.key) ≤ 64
   pub left : h.left < 2 ^ 52
   pub held : h.held.items ≡ []
@@ -38,7 +37,6 @@ pub record IsFirst (b : Board) (k : ℕ) (h : Station) : Type 0 where
 pub first_keeps : (b : Board) (k : ℕ) (h : Station) → IsFirst b k h → Keeps h
 first_keeps b k h f = let me = f.new.me in record {
   at = rw (f.board, f.turn) (new_settled b.table.shared.table_id b.table.shared.key k h.seat f.new f.few);
-  kind = sym f.kind ∙ sym (ap (λ (m : Sat). m.0.part.core.kind) me);
   stamp = f.new.seated.stamp;
   held = rw (f.board, f.held) (record { few = f.few; there = tt; once = different_none });
   owned = λ n. ap (λ (m : Sat). owns m.0.part.core n) me ∙ none_owned n ∙ sym (ap (is_among n) f.held);
@@ -47,9 +45,9 @@ first_keeps b k h f = let me = f.new.me in record {
   draws = omega (arith, f.left, ap (λ (m : Sat). m.0.part.counts.draws) me);
 }
 
-pub first_seen : (b : Board) (k : ℕ) (h : Station) → IsFirst b k h → situation_of h ≡ fresh b.table.shared.table_id (length (first_graph b.table.shared.key)) h.kind h.left k
+pub first_seen : (b : Board) (k : ℕ) (h : Station) → IsFirst b k h → situation_of h ≡ fresh b.table.shared.table_id (length (first_graph b.table.shared.key)) b.table.shared.key.kind h.left k
 first_seen b k h f =
-    let core : h.seat.seat.me.0.part.core ≡ first_view h.kind k = ap (λ (m : Sat). m.0.part.core) f.new.me ∙ ap (λ (x : Kind). first_view x k) f.kind in
+    let core : h.seat.seat.me.0.part.core ≡ first_view b.table.shared.key.kind k = ap (λ (m : Sat). m.0.part.core) f.new.me in
     let counts : h.seat.seat.me.0.part.counts ≡ no_counts = ap (λ (m : Sat). m.0.part.counts) f.new.me in
     rw (f.board, core, counts, f.held, f.is_done, f.told, f.turn, f.wakes) refl
 

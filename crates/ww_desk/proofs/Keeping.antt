@@ -2,6 +2,7 @@
 use Rattle.std.proofs.Common.{◌≡◌, ℕ, ◌+◌, ◌-◌, ◌<◌, ◌≤◌, ◌==◌, Bool, not, true, false, true≢false, List, [], ◌∷◌, ◌++◌, length, set, get_or, refl, sym, ap, subst, ◌∙◌, arith, inl, length-set, Some, None, slice_get, Option}
 use Rattle.std.specs.Prelude.{unwrap_or, IfSome}
 use Rattle.std.specs.Arc.{arc_value}
+use Rattle.ww_word.specs.declared.owner.Owner.{Owner}
 use Rattle.ww_queue.specs.declared.entry.Entry.{Entry}
 use Rattle.ww_plain.specs.declared.node.Node.{Node}
 use Rattle.ww_plain.specs.Numbers.{is_among, AreDifferent}
@@ -28,7 +29,6 @@ use Rattle.ww_desk.proofs.Locks.{owns_more, held_more, owns_less, held_less, the
 -- the same desk, with the same seat of the same table
 pub record IsOf (h g : Station) : Type 0 where
   pub board : g.board ≡ h.board
-  pub kind : g.kind ≡ h.kind
   pub left : g.left ≡ h.left
   pub same : IsSame h.seat.seat.me g.seat.seat.me
 
@@ -44,14 +44,13 @@ pub seen_as : (h g : Station) → IsOf h g → situation_of g ≡ record (situat
   deaths = g.seat.seat.me.0.part.core.deaths;
   view = g.seat.seat.me.0.part.core;
 }
-seen_as h g is = rw (is.board, is.kind, is.left, is.same.who, is.same.stamp, is.same.counts, is.same.stopped) refl
+seen_as h g is = rw (is.board, is.same.kind, is.left, is.same.who, is.same.stamp, is.same.counts, is.same.stopped) refl
 
 -- it holds what it held
 pub kept : (h g : Station) → Keeps h → IsOf h g → g.seat.seat.me.0.part.core.owned ≡ h.seat.seat.me.0.part.core.owned → g.held.items ≡ h.held.items → g.marks ≡ h.marks → g.seat.seat.me.0.part.core.stamp ≡ g.seat.stamp
     → IsAt (table_of (arc_value g.board)) (size_of (arc_value g.board)) g.wake.seats g.turn g.seat → Keeps g
 kept h g k is owned held marks stamp at = record {
   at = at;
-  kind = is.kind ∙ k.kind ∙ sym is.same.kind;
   stamp = stamp;
   held = rw (is.board, held) k.held;
   owned = λ n. ap (λ (os : List Bool). get_or os n false) owned ∙ k.owned n ∙ sym (ap (is_among n) held);
@@ -66,7 +65,6 @@ pub kept_more : (h g : Station) (n : ℕ) → Keeps h → IsOf h g → n < size_
 kept_more h g n k is there new owned held marks stamp at =
     let wide : n < length h.seat.seat.me.0.part.core.owned = omega (arith, there, k.held.few, k.room) in record {
       at = at;
-      kind = is.kind ∙ k.kind ∙ sym is.same.kind;
       stamp = stamp;
       held = rw (is.board, held) (held_more (size_of (arc_value h.board)) h.held.items n k.held there new);
       owned = λ m. owns_more h.seat.seat.me.0.part.core.owned g.seat.seat.me.0.part.core.owned h.held.items n wide owned k.owned m ∙ sym (ap (is_among m) held);
@@ -81,7 +79,6 @@ pub kept_less : (h g : Station) (n : ℕ) → Keeps h → IsOf h g → n < size_
 kept_less h g n k is there owned held marks stamp at =
     let wide : n < length h.seat.seat.me.0.part.core.owned = omega (arith, there, k.held.few, k.room) in record {
       at = at;
-      kind = is.kind ∙ k.kind ∙ sym is.same.kind;
       stamp = stamp;
       held = rw (is.board, held) (held_less (size_of (arc_value h.board)) h.held.items n k.held);
       owned = λ m. owns_less h.seat.seat.me.0.part.core.owned g.seat.seat.me.0.part.core.owned h.held.items n wide owned k.owned m ∙ sym (ap (is_among m) held);
@@ -109,14 +106,14 @@ pub took : (h g : Station) (b : Board) (n : ℕ) (x : Node) (q : Seat16) (w : Wa
     → HasTaken h.seat.seat.me n x q.seat.me → g ≡ record h { seat = q; held = g.held; marks = set h.marks n true; told = g.told; turn = Rests; wake = w } → g.held.items ≡ h.held.items ++ n ∷ [] → Keeps g
 took h g b n x q w k e there lacks settled t is grown =
     let now : Station = record h { seat = q; held = g.held; marks = set h.marks n true; told = g.told; turn = Rests; wake = w } in
-    subst Keeps (sym is) (kept_more h now n k (record { board = refl; kind = refl; left = refl; same = t.same }) there lacks t.owned grown refl settled.seated.stamp (settled_here (arc_value h.board) b q e settled))
+    subst Keeps (sym is) (kept_more h now n k (record { board = refl; left = refl; same = t.same }) there lacks t.owned grown refl settled.seated.stamp (settled_here (arc_value h.board) b q e settled))
 
 -- it gave a lock back
 pub gave : (h g : Station) (b : Board) (n : ℕ) (q : Seat16) (w : Wake) → Keeps h → b ≡ arc_value h.board → n < size_of (arc_value h.board) → IsSettledAt b q
     → HasGiven h.seat.seat.me n q.seat.me → g ≡ record h { seat = q; held = g.held; marks = set h.marks n false; turn = Rests; wake = w } → g.held.items ≡ without n h.held.items → Keeps g
 gave h g b n q w k e there settled t is less =
     let now : Station = record h { seat = q; held = g.held; marks = set h.marks n false; turn = Rests; wake = w } in
-    subst Keeps (sym is) (kept_less h now n k (record { board = refl; kind = refl; left = refl; same = t.same }) there t.owned less refl settled.seated.stamp (settled_here (arc_value h.board) b q e settled))
+    subst Keeps (sym is) (kept_less h now n k (record { board = refl; left = refl; same = t.same }) there t.owned less refl settled.seated.stamp (settled_here (arc_value h.board) b q e settled))
 
 -- ---- glances
 
@@ -129,15 +126,15 @@ glanced_outside size n m m' o is = subst (IsOutside size n) (sym is) (record {
 })
 
 glanced_same : (m m' : Sat) → m' ≡ (glancing m.0, m.1) → IsSame m m'
-glanced_same m m' is = subst (IsSame m) (sym is) (record { kind = refl; who = refl; stamp = refl; own = refl; counts = refl; stopped = refl })
+glanced_same m m' is = subst (IsSame m) (sym is) (record { kind = refl; who = refl; stamp = refl; own = refl; counts = refl; stopped = refl; pendings = refl })
 
 -- it glanced, and stays away
-pub glanced_stays : (h : Station) (b : Board) (q : Seat16) (n k : ℕ) (heeds : Bool) → Keeps h → h.turn ≡ Stays n k heeds → 1 ≤ k → b ≡ arc_value h.board → IsSeatOf b q → q.seat.me ≡ (glancing h.seat.seat.me.0, h.seat.seat.me.1)
-    → Keeps (record h { seat = q; turn = Stays n (k - 1) heeds })
-glanced_stays h b q n k heeds keeps turn some e seated is =
+pub glanced_stays : (h : Station) (b : Board) (q : Seat16) (seen : Option Owner) (n k : ℕ) (heeds : Bool) → Keeps h → h.turn ≡ Stays n k heeds → 1 ≤ k → b ≡ arc_value h.board → IsSeatOf b q → q.seat.me ≡ (glancing h.seat.seat.me.0, h.seat.seat.me.1)
+    → Keeps (record h { seat = q; turn = Stays n (k - 1) heeds; seen = seen })
+glanced_stays h b q seen n k heeds keeps turn some e seated is =
     let at = subst (λ (t : Turn). IsAt (table_of (arc_value h.board)) (size_of (arc_value h.board)) h.wake.seats t h.seat) turn keeps.at in
     let more : q.seat.me.0.part.core.glances ≡ h.seat.seat.me.0.part.core.glances + 1 = ap (λ (m : Sat). m.0.part.core.glances) is in
-    kept h (record h { seat = q; turn = Stays n (k - 1) heeds }) keeps (record { board = refl; kind = refl; left = refl; same = glanced_same h.seat.seat.me q.seat.me is })
+    kept h (record h { seat = q; turn = Stays n (k - 1) heeds; seen = seen }) keeps (record { board = refl; left = refl; same = glanced_same h.seat.seat.me q.seat.me is })
     (ap (λ (m : Sat). m.0.part.core.owned) is) refl refl seated.stamp
     (subst (λ (x : Board). IsSeatOf x q) e seated, at.1, glanced_outside _ n h.seat.seat.me q.seat.me at.2 is, ap (λ (m : Sat). m.0.part.core.waits) is ∙ at.3, omega (arith, at.4, more, some))
 
@@ -146,7 +143,7 @@ pub glanced_wants : (h : Station) (b : Board) (q : Seat16) (n k : ℕ) (heeds : 
     → Keeps (record h { seat = q; turn = Wants n false heeds })
 glanced_wants h b q n k heeds keeps turn e seated is =
     let at = subst (λ (t : Turn). IsAt (table_of (arc_value h.board)) (size_of (arc_value h.board)) h.wake.seats t h.seat) turn keeps.at in
-    kept h (record h { seat = q; turn = Wants n false heeds }) keeps (record { board = refl; kind = refl; left = refl; same = glanced_same h.seat.seat.me q.seat.me is })
+    kept h (record h { seat = q; turn = Wants n false heeds }) keeps (record { board = refl; left = refl; same = glanced_same h.seat.seat.me q.seat.me is })
     (ap (λ (m : Sat). m.0.part.core.owned) is) refl refl seated.stamp
     (subst (λ (x : Board). IsSeatOf x q) e seated, at.1, glanced_outside _ n h.seat.seat.me q.seat.me at.2 is, sym (ap (λ (w : ℕ). not (w == 0)) (ap (λ (m : Sat). m.0.part.core.waits) is ∙ at.3)))
 
@@ -154,7 +151,7 @@ glanced_wants h b q n k heeds keeps turn e seated is =
 pub wants_now : (h : Station) (n k : ℕ) (heeds : Bool) → Keeps h → h.turn ≡ Stays n k heeds → Keeps (record h { turn = Wants n false heeds })
 wants_now h n k heeds keeps turn =
     let at = subst (λ (t : Turn). IsAt (table_of (arc_value h.board)) (size_of (arc_value h.board)) h.wake.seats t h.seat) turn keeps.at in
-    kept h (record h { turn = Wants n false heeds }) keeps (record { board = refl; kind = refl; left = refl; same = record { kind = refl; who = refl; stamp = refl; own = refl; counts = refl; stopped = refl } }) refl refl refl keeps.stamp
+    kept h (record h { turn = Wants n false heeds }) keeps (record { board = refl; left = refl; same = record { kind = refl; who = refl; stamp = refl; own = refl; counts = refl; stopped = refl; pendings = refl } }) refl refl refl keeps.stamp
     (at.0, at.1, at.2, sym (ap (λ (w : ℕ). not (w == 0)) at.3))
 
 -- ---- the first waiter
@@ -184,7 +181,7 @@ pub last_stays : (h g : Station) (b : Board) (front : List ℕ) (n : ℕ) (q : S
 last_stays h g b front n q k e was settled still is held =
     let now : Station = record h { seat = q; held = g.held; turn = Gives n } in
     let l = last_held h front n k was in
-    subst Keeps (sym is) (kept h now k (record { board = refl; kind = refl; left = refl; same = still.holds.same }) still.holds.owned (held ∙ sym was) refl settled.seated.stamp
+    subst Keeps (sym is) (kept h now k (record { board = refl; left = refl; same = still.holds.same }) still.holds.owned (held ∙ sym was) refl settled.seated.stamp
     (settled_here (arc_value h.board) b q e settled, l.there, ap (λ (os : List Bool). get_or os n false) still.holds.owned ∙ l.owns))
 
 -- it gave that one back
@@ -200,5 +197,5 @@ pub last_seen : (h g : Station) (n : ℕ) (q : Seat16) → HasGiven h.seat.seat.
 last_seen h g n q t is =
     let now : Station = record h { seat = q; held = g.held; marks = set h.marks n false } in
     let s : situation_of now ≡ record (situation_of h) { held = now.held.items; view = now.seat.seat.me.0.part.core } =
-    seen_as h now (record { board = refl; kind = refl; left = refl; same = t.same }) ∙ rw (t.tries, t.takes, t.deaths) refl in
+    seen_as h now (record { board = refl; left = refl; same = t.same }) ∙ rw (t.tries, t.takes, t.deaths) refl in
     ap situation_of is ∙ s ∙ ap (λ (x : Seat16). let v : Situation = record (situation_of h) { held = g.held.items; view = x.seat.me.0.part.core } in v) (sym (ap (λ (d : Station). d.seat) is))

@@ -1,5 +1,5 @@
 -- Lists of locks: one more, and one less.
-use Rattle.std.proofs.Common.{◌≡◌, ◌≢◌, ℕ, ◌<◌, ◌≤◌, ◌||◌, eqb, not, cond, true≢false, Bool, true, false, List, [], ◌∷◌, ◌++◌, length, set, get_or, refl, sym, ap, subst, ◌∙◌, arith, inl, inr, length-append, get_or-set_same, get_or-set_other}
+use Rattle.std.proofs.Common.{◌≡◌, ◌≢◌, ℕ, ◌<◌, ◌||◌, eqb, not, cond, true≢false, Bool, true, false, List, [], ◌∷◌, ◌++◌, length, set, get_or, refl, sym, ap, subst, ◌∙◌, arith, inl, inr, length-append, get_or-set_same, get_or-set_other}
 use Rattle.std.specs.List.{AllByRecursion}
 use Rattle.ww_plain.specs.Numbers.{is_among, AreDifferent}
 use Rattle.ww_plain.proofs.Members.{eqb_same, eqb_comm, true_or_false, same_from_eqb, or_cases, or_false, or_right, is_among-append, different_head, different_tail, different_cons, different_none, different_push}
@@ -102,18 +102,10 @@ pub there_among : (size : ℕ) (held : List ℕ) (n : ℕ) → AllByRecursion (�
 there_among size [] n all e = absurd (true≢false (sym e))
 there_among size (m ∷ ms) n all e = elim (or_cases (eqb m n) (is_among n ms) e) [ inl same ↦ subst (λ (k : ℕ). k < size) (same_from_eqb m n same) all.0 | inr later ↦ there_among size ms n all.1 later ]
 
-pub some_among : (ns : List ℕ) (n : ℕ) → is_among n ns ≡ true → 1 ≤ length ns
-some_among [] n e = absurd (true≢false (sym e))
-some_among (m ∷ ms) n e = omega arith
-
 -- ---- the last one
 
 pub last_among : (front : List ℕ) (n : ℕ) → is_among n (front ++ n ∷ []) ≡ true
 last_among front n = among_added front n n ∙ ap (λ (b : Bool). is_among n front || b) (eqb_same n) ∙ or_right (is_among n front) true refl
-
-without_absent : (n : ℕ) (ns : List ℕ) → is_among n ns ≡ false → without n ns ≡ ns
-without_absent n [] e = refl
-without_absent n (m ∷ ms) e = let both = or_false (eqb m n) (is_among n ms) e in without_else n m ms both.0 ∙ ap (λ (xs : List ℕ). m ∷ xs) (without_absent n ms both.1)
 
 -- the one that was taken last goes, and the others stay as they are
 pub without_last : (front : List ℕ) (n : ℕ) → AreDifferent (front ++ n ∷ []) → without n (front ++ n ∷ []) ≡ front

@@ -2,8 +2,9 @@
 use Rattle.std.specs.Prelude.{ℕ, ◌≡◌, ◌≢◌, ◌<◌, ◌≤◌, ◌+◌, ◌-◌, ◌⊎◌, ◌∷◌, ◌++◌, [], Bool, true, false, List, Some, None, length, replicate}
 use Rattle.std.specs.List.{slice_index_or}
 use Rattle.ww_plain.specs.Numbers.{is_among}
+use Rattle.ww_view.specs.Made.{found_pending}
 use Rattle.ww_seat.specs.Calls.{HasMet}
-use Rattle.ww_seat.specs.Work.{AreWoken}
+use Rattle.ww_seat.specs.Work.{AreWoken, KeepsMarks}
 use Rattle.ww_desk.specs.declared.turn.Turn.{Turn}
 use Rattle.ww_desk.specs.declared.turn.Turn.TheVariants as at
 use Rattle.ww_desk.specs.declared.turn.Answer.{Answer}
@@ -28,6 +29,18 @@ HasGivenBack s n s' = s' ≡ record s { held = without n s.held; view = s'.view 
 abbrev pub HasTurned : Situation → Turn → Situation → Type 0
 HasTurned s turn s' = s' ≡ record s { turn = turn; view = s'.view }
 
+-- it tried to go inside a guard, or looked at an owner word there
+abbrev pub HasWorked : Situation → Situation → Type 0
+HasWorked s s' = s.view.attempts < s'.view.attempts
+
+-- it glanced at an owner word
+abbrev pub HasGlanced : Situation → Situation → Type 0
+HasGlanced s s' = s'.view.glances ≡ s.view.glances + 1
+
+-- the first waiter of the lock that it gave back inside the guard has to be woken
+abbrev pub IsHeirWoken : Situation → Type 0
+IsHeirWoken s = (u : ℕ) → s.view.heir ≡ Some u → u ≢ s.caller → slice_index_or s.wakes u false ≡ true
+
 -- ---- where a call may go on
 
 -- between two calls, with a lock that it may want
@@ -47,6 +60,13 @@ pub record IsBarred (s : Situation) (n : ℕ) : Type 0 where
 pub record IsHeldAtRest (s : Situation) (n : ℕ) : Type 0 where
   pub rests : is_at_rest s.turn ≡ true
   pub holds : is_among n s.held ≡ true
+
+-- why it can't try to take this lock
+abbrev pub IsRefusal : Situation → ℕ → Answer → Type 0
+IsRefusal s n Busy = is_at_rest s.turn ≡ false
+IsRefusal s n Already = IsHeldAtRest s n
+IsRefusal s n Invalid = IsBarred s n
+IsRefusal s n _ = ⊥
 
 -- it is told to back off: by its own step, for an older context of stamp k, which its view shows; and it holds a lock
 pub record HasToBackOff (s : Situation) (n k : ℕ) (s' : Situation) : Type 0 where
@@ -113,19 +133,19 @@ IsOnItsWay n heeds (at.Wants m stands h) = (m ≡ n) × (h ≡ heeds)
 IsOnItsWay n heeds (at.Looks m stands again h) = (m ≡ n) × (h ≡ heeds)
 IsOnItsWay n heeds _ = ⊥
 
--- a glance
+-- a glance, where one is left
 abbrev pub IsStayAnswer : Situation → ℕ → ℕ → Bool → Answer → Situation → Type 0
-IsStayAnswer s n k heeds Stays s' = (1 ≤ k) × HasTurned s (at.Stays n (k - 1) heeds) s'
-IsStayAnswer s n k heeds Again s' = HasTurned s (at.Wants n false heeds) s'
+IsStayAnswer s n k heeds (Stays same) s' = (1 ≤ k) × HasGlanced s s' × HasTurned s (at.Stays n (k - 1) heeds) s'
+IsStayAnswer s n k heeds Again s' = ((k ≡ 0) ⊎ HasGlanced s s') × HasTurned s (at.Wants n false heeds) s'
 IsStayAnswer s n k heeds _ s' = ⊥
 
--- a look, or a try to go inside the guard
+-- a look, or a try to go inside the guard: whom the seat had to wake it still has
 abbrev pub IsWaitAnswer : Situation → ℕ → Bool → Answer → Situation → Type 0
-IsWaitAnswer s n heeds Again s' = IsOnItsWay n heeds s'.turn × (s' ≡ record s { turn = s'.turn; wakes = s'.wakes; view = s'.view })
-IsWaitAnswer s n heeds Sleeps s' = AreWoken s'.view s'.wakes × (s' ≡ record s { turn = at.Wants n true heeds; wakes = s'.wakes; view = s'.view })
-IsWaitAnswer s n heeds Done s' = AreWoken s'.view s'.wakes × (s' ≡ record s { turn = at.Rests; held = s.held ++ n ∷ []; told = None; takes = s.takes + 1; wakes = s'.wakes; view = s'.view })
-IsWaitAnswer s n heeds (Deadlk k) s' = AreWoken s'.view s'.wakes × HasToBackOff s n k s'
-IsWaitAnswer s n heeds (Interrupted by) s' = AreWoken s'.view s'.wakes × (heeds ≡ true) × (s' ≡ record s { turn = at.Rests; interrupted = (n, by) ∷ s.interrupted; wakes = s'.wakes; view = s'.view })
+IsWaitAnswer s n heeds Again s' = IsOnItsWay n heeds s'.turn × HasWorked s s' × KeepsMarks s.wakes s'.wakes × (s' ≡ record s { turn = s'.turn; wakes = s'.wakes; view = s'.view })
+IsWaitAnswer s n heeds Sleeps s' = AreWoken s'.view s'.wakes × HasWorked s s' × KeepsMarks s.wakes s'.wakes × (s' ≡ record s { turn = at.Wants n true heeds; wakes = s'.wakes; view = s'.view })
+IsWaitAnswer s n heeds Done s' = AreWoken s'.view s'.wakes × KeepsMarks s.wakes s'.wakes × (s' ≡ record s { turn = at.Rests; held = s.held ++ n ∷ []; told = None; takes = s.takes + 1; wakes = s'.wakes; view = s'.view })
+IsWaitAnswer s n heeds (Deadlk k) s' = AreWoken s'.view s'.wakes × KeepsMarks s.wakes s'.wakes × HasToBackOff s n k s'
+IsWaitAnswer s n heeds (Interrupted by) s' = AreWoken s'.view s'.wakes × KeepsMarks s.wakes s'.wakes × (heeds ≡ true) × (s' ≡ record s { turn = at.Rests; interrupted = (n, by) ∷ s.interrupted; wakes = s'.wakes; view = s'.view })
 IsWaitAnswer s n heeds _ s' = ⊥
 
 -- ---- giving a lock back
@@ -151,8 +171,8 @@ IsGiveTurn n (at.Lets m) = m ≡ n
 IsGiveTurn n _ = ⊥
 
 abbrev pub IsGiveAnswer : Situation → ℕ → Answer → Situation → Type 0
-IsGiveAnswer s n Again s' = IsGiveTurn n s'.turn × (s' ≡ record s { turn = s'.turn; view = s'.view })
-IsGiveAnswer s n Done s' = s' ≡ record s { turn = at.Rests; held = without n s.held; wakes = s'.wakes; view = s'.view }
+IsGiveAnswer s n Again s' = IsGiveTurn n s'.turn × HasWorked s s' × (s' ≡ record s { turn = s'.turn; view = s'.view })
+IsGiveAnswer s n Done s' = IsHeirWoken s' × KeepsMarks s.wakes s'.wakes × (s' ≡ record s { turn = at.Rests; held = without n s.held; wakes = s'.wakes; view = s'.view })
 IsGiveAnswer s n _ s' = ⊥
 
 -- ---- the next turn, whatever call is on its way
@@ -172,10 +192,10 @@ abbrev pub IsWakesAnswer : Situation → List Bool → Situation → Type 0
 IsWakesAnswer s wakes s' = (is_inside s.turn ≡ true → (wakes ≡ replicate 16 false) × (s' ≡ s))
     × (is_inside s.turn ≡ false → (wakes ≡ s.wakes) × (s' ≡ record s { wakes = replicate 16 false }))
 
--- the wait of seat u is called off, or that was pending already
+-- the wait of seat u is called off; or its one step found that pending already, which its view counts
 abbrev pub IsCancelAnswer : Situation → ℕ → Answer → Situation → Type 0
-IsCancelAnswer s u Done s' = (is_at_rest s.turn ≡ true) × (u < 16) × (u ≢ s.caller → slice_index_or s'.wakes u false ≡ true) × (s' ≡ record s { cancelled = u ∷ s.cancelled; wakes = s'.wakes })
-IsCancelAnswer s u Already s' = (is_at_rest s.turn ≡ true) × (u < 16) × (s' ≡ s)
+IsCancelAnswer s u Done s' = (is_at_rest s.turn ≡ true) × (u < 16) × (u ≢ s.caller → slice_index_or s'.wakes u false ≡ true) × KeepsMarks s.wakes s'.wakes × (s' ≡ record s { cancelled = u ∷ s.cancelled; wakes = s'.wakes })
+IsCancelAnswer s u Already s' = (is_at_rest s.turn ≡ true) × (u < 16) × (s' ≡ record s { view = found_pending s.view })
 IsCancelAnswer s u Busy s' = (is_at_rest s.turn ≡ false) × (s' ≡ s)
 IsCancelAnswer s u Invalid s' = (is_at_rest s.turn ≡ true) × (16 ≤ u) × (s' ≡ s)
 IsCancelAnswer s u _ s' = ⊥

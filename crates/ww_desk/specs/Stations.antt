@@ -26,7 +26,7 @@ abbrev pub situation_of : Station → Situation
 situation_of d = record {
   home = table_of (arc_value d.board);
   size = size_of (arc_value d.board);
-  kind = d.kind;
+  kind = d.seat.seat.me.0.part.core.kind;
   caller = d.seat.seat.me.0.part.core.who;
   left = d.left;
   draws = d.seat.seat.me.0.part.counts.draws;
@@ -63,7 +63,6 @@ pub record AreHeld (size : ℕ) (held : List ℕ) : Type 0 where
 -- stays within what the table counts.
 pub record Keeps (d : Station) : Type 0 where
   pub at : IsAt (table_of (arc_value d.board)) (size_of (arc_value d.board)) d.wake.seats d.turn d.seat
-  pub kind : d.kind ≡ d.seat.seat.me.0.part.core.kind
   pub stamp : d.seat.seat.me.0.part.core.stamp ≡ d.seat.stamp
   pub held : AreHeld (size_of (arc_value d.board)) d.held.items
   pub owned : (n : ℕ) → owns d.seat.seat.me.0.part.core n ≡ is_among n d.held.items

@@ -1,15 +1,14 @@
 //! The further turns of a call.
 ghost use Rattle.std.specs.Prelude.{◌≡◌, ◌≢◌, ◌<◌, true, false, IfSome};
 ghost use Rattle.std.specs.List.{slice_index_or};
+ghost use Rattle.ww_seat.specs.Work.{KeepsMarks};
 ghost use Rattle.ww_desk.specs.declared.turn.Turn.TheVariants.{Stays, Looks, Lets};
 
 use crate::station::Station;
 use crate::turn::{Answer, Turn};
 use ww_queue::Entry;
-use ww_seat::{
-    Look, Wake, cancel_once, enter_owned, enter_wanted, give_on, glance_once, look_once,
-};
-use ww_word::MAX_SEATS;
+use ww_seat::{Look, Wake, cancel_once, enter_owned, enter_wanted, give_on, look_once};
+use ww_word::{MAX_SEATS, Owner};
 
 impl Station {
     ghost use Rattle.ww_desk.specs.Stations.{situation_of, Keeps};
@@ -52,12 +51,15 @@ impl Station {
             self.turn = Turn::Wants(lock, false, heeds);
             return Answer::Again;
         }
-        if glance_once(&mut self.seat, &self.board, lock) {
+        let owner = self.seat.glance(&self.board, lock);
+        if owner.seat.is_none() {
             self.turn = Turn::Wants(lock, false, heeds);
             return Answer::Again;
         }
+        let is_same = is_same(self.seen, owner);
+        self.seen = Some(owner);
         self.turn = Turn::Stays(lock, glances - 1, heeds);
-        Answer::Stays
+        Answer::Stays(is_same)
     }
 
     /// One look at a lock, inside its guard.
@@ -70,7 +72,6 @@ impl Station {
         let look = look_once(
             &mut self.seat,
             &self.board,
-            self.kind,
             lock,
             is_later,
             heeds,
@@ -155,10 +156,19 @@ impl Station {
     }
 }
 
+/// Whether it is still the context that was seen before.
+fn is_same(seen: Option<Owner>, owner: Owner) -> bool {
+    match seen {
+        Some(seen) => seen.seat == owner.seat && seen.stamp == owner.stamp,
+        None => false,
+    }
+}
+
 /// Also wakes the first waiter, if there is one.
 fn add_first(wake: &mut Wake, who: u8, first: Option<Entry>)
     requires seat { IfSome first (λ entry. entry.seat < 16) }
     ensures woken { IfSome first (λ entry. entry.seat ≢ who → slice_index_or wake.new.seats entry.seat false ≡ true) }
+    ensures kept { KeepsMarks wake.old.seats wake.new.seats }
 {
     if let Some(first) = first {
         wake.add(who, first.seat, true);

@@ -76,36 +76,34 @@ fn lay(alloc: Global, kind: Kind, locks: u8, seats: u8, left: u64) -> Result<Vec
         return Err(AllocError);
     };
     let board = Arc::new(alloc, board)?;
-    fresh(&board, made, kind, left, room)
+    fresh(&board, made, left, room)
 }
 
 /// The desks of new seats.
 fn fresh(
     board: &Arc<Board, Global>,
     seats: Vec<Seat16>,
-    kind: Kind,
     left: u64,
     mut all: Vec<Desk>,
 ) -> Result<Vec<Desk>, AllocError>
     requires seats { AreNew (arc_value board.now).table.shared.table_id (arc_value board.now).table.shared.key (length seats.items) seats.items }
-    requires kind { (arc_value board.now).table.shared.key.kind ≡ kind }
     requires few { length (first_graph (arc_value board.now).table.shared.key) ≤ 64 }
     requires left { left < 2 ^ 52 }
     requires room { (all.items ≡ []) × (vec_len all ≡ 0) × (length seats.items ≤ vec_capacity all) }
-    ensures { IfOk result (λ all. AreFresh all.items (arc_value board.now).table.shared.table_id (length (first_graph (arc_value board.now).table.shared.key)) kind left (length seats.items)) }
+    ensures { IfOk result (λ all. AreFresh all.items (arc_value board.now).table.shared.table_id (length (first_graph (arc_value board.now).table.shared.key)) (arc_value board.now).table.shared.key.kind left (length seats.items)) }
 {
     for seat in seats {
         let board = Arc::try_clone(board)?;
         let station = Station {
             board,
             seat,
-            kind,
             left,
             held: ArrayVec::new(),
             marks: [false; MAX_LOCKS],
             is_done: false,
             told: None,
             turn: Turn::Rests,
+            seen: None,
             wake: Wake::new(),
         };
         all.push_reserved(Desk { station });

@@ -6,9 +6,9 @@ use crate::turn::Turn;
 use arrayvec::ArrayVec;
 use std::alloc::Global;
 use std::sync::Arc;
-use ww_queue::Kind;
 use ww_seat::Wake;
 use ww_table::{Board, Seat16};
+use ww_word::Owner;
 
 /// How many locks a world has at most.
 pub(crate) const MAX_LOCKS: usize = 64;
@@ -19,7 +19,6 @@ pub(crate) const MAX_LOCKS: usize = 64;
 pub(crate) struct Station {
     pub(crate) board: Arc<Board, Global>,
     pub(crate) seat: Seat16,
-    pub(crate) kind: Kind,
     /// How many contexts it may still begin.
     pub(crate) left: u64,
     /// The locks that it holds, in the order in which they were taken.
@@ -31,6 +30,8 @@ pub(crate) struct Station {
     /// The lock for which it was told to back off.
     pub(crate) told: Option<u8>,
     pub(crate) turn: Turn,
+    /// The owner that it saw at its last glance. No contract speaks of it.
+    pub(crate) seen: Option<Owner>,
     /// Whom to wake once it is outside the guard.
     pub(crate) wake: Wake,
 }

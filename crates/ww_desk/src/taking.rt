@@ -6,9 +6,28 @@ use crate::turn::{Answer, Turn};
 const GLANCES: u8 = 8;
 
 impl Station {
-    ghost use Rattle.std.specs.Prelude.{◌≡◌, ◌<◌, true, false};
+    ghost use Rattle.std.specs.Prelude.{◌≡◌, ◌<◌, true, false, IfSome, IfNone};
     ghost use Rattle.ww_desk.specs.Stations.{situation_of, Keeps, MayStay};
-    ghost use Rattle.ww_desk.specs.Answers.{IsTryable, IsTryAnswer, IsLockAnswer, IsSlowAnswer, HasLock, HasTried};
+    ghost use Rattle.ww_desk.specs.Answers.{IsTryable, IsRefusal, IsTryAnswer, IsLockAnswer, IsSlowAnswer, HasLock, HasTried};
+
+    /// Why it can't try to take this lock now, if it can't.
+    #[inline]
+    fn refuses(&self, lock: u8) -> Option<Answer>
+        requires { Keeps self.now }
+        ensures why { IfSome result (IsRefusal (situation_of self.now) lock) }
+        ensures tryable { IfNone result (IsTryable (situation_of self.now) lock) }
+    {
+        if !self.rests() {
+            return Some(Answer::Busy);
+        }
+        if self.holds(lock) {
+            return Some(Answer::Already);
+        }
+        if lock >= self.board.size() || !self.can_want() {
+            return Some(Answer::Invalid);
+        }
+        None
+    }
 
     /// One try to take a lock that it may want.
     fn try_at_once(&mut self, lock: u8) -> bool
@@ -19,7 +38,7 @@ impl Station {
         ensures lost { result ≡ false → HasTried (situation_of self.old) (situation_of self.new) }
         ensures stays { result ≡ false → MayStay lock self.new }
     {
-        match ww_seat::try_take(&mut self.seat, &self.board, self.kind, lock) {
+        match ww_seat::try_take(&mut self.seat, &self.board, lock) {
             Some(_) => {
                 self.add(lock);
                 true
@@ -34,14 +53,8 @@ impl Station {
         ensures keeps { Keeps self.new }
         ensures answer { IsTryAnswer (situation_of self.old) lock result (situation_of self.new) }
     {
-        if !self.rests() {
-            return Answer::Busy;
-        }
-        if self.holds(lock) {
-            return Answer::Already;
-        }
-        if lock >= self.board.size() || !self.can_want() {
-            return Answer::Invalid;
+        if let Some(why) = self.refuses(lock) {
+            return why;
         }
         if self.try_at_once(lock) {
             Answer::Done
@@ -57,14 +70,8 @@ impl Station {
         ensures keeps { Keeps self.new }
         ensures answer { IsLockAnswer (situation_of self.old) lock heeds result (situation_of self.new) }
     {
-        if !self.rests() {
-            return Answer::Busy;
-        }
-        if self.holds(lock) {
-            return Answer::Already;
-        }
-        if lock >= self.board.size() || !self.can_want() {
-            return Answer::Invalid;
+        if let Some(why) = self.refuses(lock) {
+            return why;
         }
         if self.try_at_once(lock) {
             return Answer::Done;
@@ -79,10 +86,7 @@ impl Station {
         ensures keeps { Keeps self.new }
         ensures answer { IsSlowAnswer (situation_of self.old) lock heeds result (situation_of self.new) }
     {
-        if !self.rests() {
-            return Answer::Busy;
-        }
-        if self.told != Some(lock) || !self.held.is_empty() {
+        if self.rests() && (self.told != Some(lock) || !self.held.is_empty()) {
             return Answer::Invalid;
         }
         self.lock(lock, heeds)

@@ -22,7 +22,7 @@ fn turned(desk: &mut Desk, first: Answer) -> Answer {
     let mut answer = first;
     for _ in 0..100u32 {
         match answer {
-            Answer::Again | Answer::Stays => answer = desk.go_on(),
+            Answer::Again | Answer::Stays(_) => answer = desk.go_on(),
             _ => break,
         }
     }
@@ -76,6 +76,19 @@ fn two_desks_meet(rt: HostRuntime) -> Result<(), Fail> {
         meets(&rt, &mut zero, &mut one);
         is_called_off(&rt, &mut zero, &mut one);
     }
+    Ok(())
+}
+
+/// Glances that come to no end tell whether the owner stayed.
+#[test]
+fn owners_stay(rt: HostRuntime) -> Result<(), Fail> {
+    let (mut zero, mut one) = two(rt.alloc(), Kind::WoundWait)?;
+    assert!(rt; zero.lock(0, false) == Answer::Done && one.lock(0, false) == Answer::Again);
+    assert!(rt; one.go_on() == Answer::Stays(false) && one.go_on() == Answer::Stays(true));
+    assert!(rt; zero.unlock(0) == Answer::Done && zero.begin() == Answer::Done);
+    assert!(rt; zero.lock(0, false) == Answer::Done && one.go_on() == Answer::Stays(false));
+    assert!(rt; zero.unlock(0) == Answer::Done && one.go_on() == Answer::Again);
+    assert!(rt; one.go_on() == Answer::Done && one.unlock_all() == Answer::Done);
     Ok(())
 }
 

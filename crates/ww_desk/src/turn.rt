@@ -27,8 +27,9 @@ pub enum Answer {
     Done,
     /// It wants another turn, at once.
     Again,
-    /// It wants another turn after some pauses: the lock that it wants has an owner.
-    Stays,
+    /// It wants another turn after some pauses: the lock that it wants has an owner; whether that is the context that was
+    /// seen at the glance before, which has work of some length then.
+    Stays(bool),
     /// It wants another turn once somebody has woken the seat.
     Sleeps,
     /// Another call is on its way; of a trylock also that somebody has the lock or waits for it.

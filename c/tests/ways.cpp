@@ -1,0 +1,142 @@
+// The three ways to take many locks: a fixed list, a list that is reordered, and locks that are found on the way.
+#include "../ww.hpp"
+#include <array>
+#include <cstdio>
+#include <cstdlib>
+#include <initializer_list>
+#include <list>
+#include <thread>
+#include <vector>
+
+namespace {
+
+constexpr unsigned count = 8, threads = 4;
+constexpr int times = 20000;
+
+// Each node has a lock, and names the next one: together they are a ring, in an order that changes.
+struct node {
+	unsigned next;
+	long visits;
+};
+std::array<node, count> nodes;
+
+unsigned drawn(unsigned &x) { return (x = x * 1664525u + 1013904223u) >> 8; }
+
+// Three of the locks, in any order.
+template <class List> List three(unsigned &x)
+{
+	const unsigned first = drawn(x) % count, step = 1 + 2 * (drawn(x) % 4);
+
+	return List{ first, (first + step) % count, (first + 2 * step) % count };
+}
+
+template <class List> long visit(const List &list)
+{
+	for (unsigned n : list)
+		nodes[n].visits++;
+	return static_cast<long>(list.size());
+}
+
+// Takes the second of the three nodes behind this one out of the ring, and puts it back one place later.
+long turn(unsigned at)
+{
+	const unsigned one = nodes[at].next, two = nodes[one].next, three = nodes[two].next;
+
+	nodes[one].next = three;
+	nodes[two].next = nodes[three].next;
+	nodes[three].next = two;
+	return visit(std::initializer_list<unsigned>{ at, one, two, three });
+}
+
+long walk(ww::context &context, unsigned first, int &fault)
+{
+	unsigned at = first, left = 0;
+	long done = 0;
+
+	fault |= context.lock_walk(
+		[&](bool starts) -> std::optional<unsigned> {
+			left = starts ? 3 : left - 1;
+			at = starts ? first : nodes[at].next;
+			return left + 1 ? std::optional<unsigned>(at) : std::nullopt;
+		},
+		[&] { done = turn(first); });
+	return done;
+}
+
+void work(ww::world &world, unsigned me, long &visits, int &fault)
+{
+	ww::seat seat(world);
+	unsigned x = me + 1;
+
+	for (int i = 0; i < times; i++) {
+		ww::context context(seat);
+		const auto fixed = three<std::array<unsigned, 3>>(x);
+		auto moving = three<std::list<unsigned>>(x);
+
+		fault |= context.error() | context.lock_all(fixed, [&] { visits += visit(fixed); });
+		fault |= context.lock_all_moving(moving, [&] { visits += visit(moving); });
+		visits += walk(context, drawn(x) % count, fault);
+	}
+}
+
+// What each way answers for a lock that is named twice, and for one that isn't there.
+bool refuses(ww::world &world)
+{
+	ww::seat seat(world);
+	ww::context context(seat);
+	std::vector<unsigned> twice{ 1, 2, 1 }, beyond{ 1, count };
+	const auto never = [] { std::abort(); };
+	int calls = 0;
+	const auto same = [&](bool starts) { return calls = starts ? 1 : calls + 1, calls < 4 ? std::optional<unsigned>(1) : std::nullopt; };
+	const auto out = [](bool) { return std::optional<unsigned>(count); };
+
+	return context.lock_all(twice, never) == -EALREADY && context.lock_all_moving(twice, never) == -EALREADY &&
+	       context.lock_all(beyond, never) == -EINVAL && context.lock_all_moving(beyond, never) == -EINVAL &&
+	       context.lock_walk(out, never) == -EINVAL && context.lock_walk(same, [] {}) == 0 && context.unlock(1) == -EINVAL;
+}
+
+bool is_ring()
+{
+	unsigned at = 0, steps = 0;
+
+	do
+		at = nodes[at].next;
+	while (++steps < count && at);
+	return steps == count && !at;
+}
+
+int run(ww::kind kind)
+{
+	ww::world world(kind, count, threads);
+	std::vector<std::thread> all;
+	std::vector<long> visits(threads);
+	std::vector<int> faults(threads);
+	long sum = 0;
+
+	for (unsigned n = 0; n < count; n++)
+		nodes[n] = node{ (n + 1) % count, 0 };
+	if (world.error() || !refuses(world))
+		return 1;
+	for (unsigned me = 0; me < threads; me++)
+		all.emplace_back([&, me] { work(world, me, visits[me], faults[me]); });
+	for (unsigned me = 0; me < threads; me++) {
+		all[me].join();
+		sum += visits[me];
+		if (faults[me])
+			return 2;
+	}
+	for (const node &it : nodes)
+		sum -= it.visits;
+	return sum || !is_ring() ? 3 : 0;
+}
+
+} // namespace
+
+int main()
+{
+	for (auto kind : { ww::kind::wound_wait, ww::kind::wait_die })
+		if (int fault = run(kind))
+			return fault;
+	std::puts("three ways to take many locks: each visit counted, and the ring whole");
+	return 0;
+}
