@@ -1,9 +1,8 @@
-//! Times rounds on the table of the running locks. It reads a line: a load (`pairs`, `pairs-of-64` or `commits`) and
+//! Times rounds on the table of the running locks. Its arguments are a load (`pairs`, `pairs-of-64` or `commits`) and
 //! three numbers: how many threads there are, how many rounds each makes, and how often all of them are timed. It
 //! writes a line for each time: nanoseconds, and how many rounds came to hold their lock. Where nothing is to be timed
-//! it makes the rounds of each load once and writes the latter alone, which on one thread is the same each time; so it
-//! does on one thread where the line is empty. Its status is 2 where it doesn't know a word, or has too few or too
-//! many.
+//! it makes the rounds of each load once and writes the latter alone, which on one thread is the same each time. Its
+//! status is 2 where it doesn't know a word, or has too few or too many.
 #![tactic(auto)]
 
 ghost use Rattle.std.specs.Prelude.{◌≤◌, IfSome};
@@ -11,8 +10,8 @@ ghost use Rattle.std.specs.Prelude.{◌≤◌, IfSome};
 mod load;
 
 use load::{Load, What, go};
-use std::io;
 use std::process::ExitCode;
+use std::{env, io};
 use ww_word::MAX_SEATS;
 
 /// The loads, each with its word.
@@ -22,24 +21,14 @@ const LOADS: [(&str, What); 3] = [
     ("commits", What::Commits),
 ];
 
-/// What an empty line stands for.
-const UNTIMED: Load = Load {
-    what: What::Pairs,
-    threads: 1,
-    rounds: 1_000,
-};
-
-/// What is to be timed, and how often, by the words of the line.
-fn read_words(words: &[&str]) -> Option<(Load, u32)>
+/// What is to be timed, and how often, by the words behind the program's name.
+fn read_words(words: &[String]) -> Option<(Load, u32)>
     ensures { IfSome result (λ r. (1 ≤ r.0.threads) × (r.0.threads ≤ 16)) }
 {
-    if words.is_empty() {
-        return Some((UNTIMED, 0));
-    }
-    let [load, threads, rounds, times] = words else {
+    let [_, load, threads, rounds, times] = words else {
         return None;
     };
-    let (_, what) = LOADS.into_iter().find(|(name, _)| *name == *load)?;
+    let (_, what) = LOADS.into_iter().find(|(name, _)| *name == load.as_str())?;
     let threads: u8 = threads.parse().ok()?;
     if threads < 1 || MAX_SEATS < usize::from(threads) {
         return None;
@@ -53,11 +42,9 @@ fn read_words(words: &[&str]) -> Option<(Load, u32)>
 }
 
 fn main(rt: HostRuntime) -> io::Result<ExitCode> {
-    let mut line = String::new(rt.alloc());
-    rt.read_line(&mut line)?;
-    let words: Vec<&str> = line.split_ascii_whitespace().collect(rt.alloc())?;
+    let words: Vec<String> = env::args(&rt)?.collect(rt.alloc())?;
     let Some((load, times)) = read_words(&words) else {
-        eprintln!(rt; "usage: a line of standard input has LOAD THREADS ROUNDS TIMES, or nothing")?;
+        eprintln!(rt; "usage: ww_pace LOAD THREADS ROUNDS TIMES")?;
         return Ok(ExitCode::from(2));
     };
     if times == 0 {
