@@ -9,18 +9,31 @@ enum { THREADS = 4, ACCOUNTS = 16, TIMES = 50000 };
 static ww_world world;
 static long accounts[ACCOUNTS];
 
-/* Holds one, and takes the other; where it has to back off it starts with that one. */
-static void lock_both(ww_seat *s, unsigned one, unsigned other)
+static void swap(unsigned *one, unsigned *other)
 {
-	ww_lock(s, one);
-	while (ww_lock(s, other) == -EDEADLK) {
-		unsigned told = other;
+	unsigned was = *one;
 
+	*one = *other;
+	*other = was;
+}
+
+/* Moves 1, with both locks held. Where it has to back off it starts with the lock that it was told. */
+static void transfer(ww_seat *s, unsigned from, unsigned to)
+{
+	unsigned one = from, other = to;
+
+	ww_acquire_init(s);
+	ww_lock(s, one);                                /* the first lock of a context is never refused */
+	while (ww_lock(s, other) == -EDEADLK) {         /* an older context has to go first */
 		ww_unlock_all(s);
-		ww_lock_slow(s, told);
-		other = one;
-		one = told;
+		ww_lock_slow(s, other);                 /* waits until that one is done */
+		swap(&one, &other);
 	}
+	ww_acquire_done(s);
+	accounts[from] -= 1;
+	accounts[to] += 1;
+	ww_unlock_all(s);
+	ww_acquire_fini(s);
 }
 
 static void *work(void *arg)
@@ -32,15 +45,8 @@ static void *work(void *arg)
 		x = x * 1664525u + 1013904223u;
 		unsigned from = x >> 8 & 15, to = x >> 16 & 15;
 
-		if (from == to)
-			continue;
-		ww_acquire_init(s);
-		lock_both(s, from, to);
-		ww_acquire_done(s);
-		accounts[from] -= 1;
-		accounts[to] += 1;
-		ww_unlock_all(s);
-		ww_acquire_fini(s);
+		if (from != to)
+			transfer(s, from, to);
 	}
 	ww_seat_put(s);
 	return NULL;
