@@ -1,12 +1,12 @@
 -- A lock is given back inside its guard.
-use Rattle.std.proofs.Common.{◌≡◌, ℕ, ◌+◌, ◌<◌, Bool, true, false, List, ◌∷◌, slice_set, refl, sym, ap, ◌∙◌, subst, inl, inr, arith, Some, None}
+use Rattle.std.proofs.Common.{◌≡◌, ℕ, suc, ◌+◌, ◌<◌, Bool, true, false, List, ◌∷◌, slice_set, refl, sym, ap, ◌∙◌, subst, inl, inr, arith, Some, None}
 use mathlib.Core.Option.{some}
 use lib.ListN.{get_elem?}
 use Rattle.ww_word.specs.declared.owner.Owner.{Owner}
 use Rattle.ww_queue.specs.declared.kind.Kind.TheVariants.{WaitDie}
 use Rattle.ww_plain.specs.declared.node.Node.{Node}
 use Rattle.ww_view.specs.View.{owns, IsAway}
-use Rattle.ww_view.specs.May.{MayEnter}
+use Rattle.ww_view.specs.May.{MayEnter, MayLeave}
 use Rattle.ww_view.specs.Made.{once_inside}
 use Rattle.ww_rule.specs.declared.cells.Cell.{Cell}
 use Rattle.ww_rule.specs.declared.cells.Cell.TheVariants.{Content, Line}
@@ -18,11 +18,19 @@ use Rattle.ww_rule.specs.Guards.{lost, exiting, looking}
 use Rattle.ww_rule.specs.Waiting.{HasListOnTop, IsOut, giving_inside}
 use Rattle.ww_seat.specs.Orderly.{IsOrderly}
 use Rattle.ww_seat.specs.Calls.{HasGiven}
-use Rattle.ww_seat.specs.Guards.{HasEntered, IsStill, IsGiving, HasLet}
+use Rattle.ww_seat.specs.Guards.{IsStill, IsGiving}
 use Rattle.ww_seat.proofs.Holds.{same_then, holds_then}
 use Rattle.ww_seat.proofs.Slots.{front_same, front_apart, is_out}
 use Rattle.ww_seat.proofs.Outside.{orderly_still, owns_here}
-use Rattle.ww_seat.proofs.Guards.{exiting_orderly, listed_orderly, without_node}
+use Rattle.ww_seat.proofs.Guards.{HasEntered, exiting_orderly, listed_orderly, without_node}
+
+-- it gave the lock back, and may leave the guard
+pub record HasLet (size : ℕ) (m : Sat) (n : ℕ) (m' : Sat) : Type 0 where
+  pub orderly : IsOrderly size m'
+  pub may : MayLeave m'.0.part.core n
+  pub inside : m'.0.part.core.inside ≡ suc n
+  pub waits : m'.0.part.core.waits ≡ 0
+  pub given : HasGiven m n m'
 
 -- ---- what the calls say of the seat, one after another
 

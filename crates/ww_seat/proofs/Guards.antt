@@ -11,11 +11,8 @@ use Rattle.ww_rule.specs.declared.cells.Cell.TheVariants.{Content, Line}
 use Rattle.ww_rule.specs.declared.cells.Sight.{Sight}
 use Rattle.ww_rule.specs.Rule.{Sat}
 use Rattle.ww_rule.specs.Out.{slot_of, AreOthers}
-use Rattle.ww_view.specs.May.{MayEnter}
-use Rattle.ww_rule.specs.Steps.{knowing}
-use Rattle.ww_rule.specs.Guards.{StandsAs, entering, exiting}
+use Rattle.ww_rule.specs.Guards.{AreSeats, StandsAs, entering, exiting}
 use Rattle.ww_seat.specs.Orderly.{IsOrderly}
-use Rattle.ww_seat.specs.Guards.{attempting}
 use Rattle.ww_seat.proofs.Slots.{slot_here, slot_else, others_gone, others_else, others_apart, front_apart, front_else}
 use Rattle.ww_seat.proofs.Outside.{owns_here, owns_else}
 
@@ -25,19 +22,15 @@ use Rattle.ww_seat.proofs.Outside.{owns_here, owns_else}
 pub low_outside : (size : ℕ) (m : Sat) → IsOrderly size m → m.0.part.core.inside ≡ 0 → (n : ℕ) → 64 ≤ n → slot_of m.1 n ≡ None
 low_outside size m o outside n high = let e : 64 + (n - 64) ≡ n = omega arith in ap (slot_of m.1) (sym e) ∙ o.lists (n - 64) (λ z. let y = sym outside ∙ z in omega arith)
 
--- a try that was lost leaves it as it was, but for what lasts no longer than a step and the count of such tries
-abbrev pub besides_tries : Sight → Sight
-besides_tries v = knowing v (record (v.part.core) { fresh = false; attempts = 0 })
+-- the seat went inside, and found this wait list there
+pub record HasEntered (m : Sat) (n : ℕ) (m' : Sat) : Type 0 where
+  pub list : List Entry
+  pub seats : AreSeats list
+  pub stands : StandsAs m.0.part.core n list
+  pub view : m'.0 ≡ entering m.0 n list
 
-pub may_enter_again : (v w : Sight) (n : ℕ) → besides_tries w ≡ besides_tries v → MayEnter v.part.core n → MayEnter w.part.core n
-may_enter_again v w n same may = let again = subst (λ (u : Sight). MayEnter u.part.core n) (sym same) (let z : MayEnter (besides_tries v).part.core n = record { outside = may.outside; why = may.why } in z) in record { outside = again.outside; why = again.why }
-
-pub stands_still : (v w : Sight) (n : ℕ) (q : List Entry) → besides_tries w ≡ besides_tries v → StandsAs w.part.core n q → StandsAs v.part.core n q
-stands_still v w n q same stands = let now : StandsAs (besides_tries w).part.core n q = record { once = stands.once; absent = stands.absent; entry = stands.entry } in
-    let was = subst (λ (u : Sight). StandsAs u.part.core n q) same now in record { once = was.once; absent = was.absent; entry = was.entry }
-
-pub entering_orderly : (size : ℕ) (m m' : Sat) (n : ℕ) (q : List Entry) (tries : ℕ) → IsOrderly size m → m.0.part.core.inside ≡ 0 → m' ≡ (attempting (entering m.0 n q) tries, (64 + n, Line q) ∷ m.1) → IsOrderly size m'
-entering_orderly size m m' n q tries o outside is = subst (IsOrderly size) (sym is) (record {
+pub entering_orderly : (size : ℕ) (m m' : Sat) (n : ℕ) (q : List Entry) → IsOrderly size m → m.0.part.core.inside ≡ 0 → m' ≡ (entering m.0 n q, (64 + n, Line q) ∷ m.1) → IsOrderly size m'
+entering_orderly size m m' n q o outside is = subst (IsOrderly size) (sym is) (record {
   few = o.few;
   owned = o.owned;
   held = o.held;

@@ -1,5 +1,5 @@
 -- A seat waits for a lock.
-use Rattle.std.proofs.Common.{◌≡◌, ℕ, zero, suc, ◌==◌, not, true, false, refl, sym, ap, ◌∙◌, subst, ⊎_elim, inl, inr, arith, Option, Some, Result, Ok, Err, IfOk, IfErr, ne_eqb}
+use Rattle.std.proofs.Common.{◌≡◌, ℕ, zero, suc, ◌==◌, not, true, false, refl, sym, ap, subst, ⊎_elim, inl, inr, arith, Option, Some, Result, Ok, Err, IfOk, IfErr, ne_eqb}
 use Rattle.ww_queue.specs.declared.kind.Kind.{Kind}
 use Rattle.ww_queue.specs.declared.kind.Kind.TheVariants.{WoundWait, WaitDie}
 use Rattle.ww_plain.specs.declared.node.Node.{Node}
@@ -12,9 +12,10 @@ use Rattle.ww_seat.specs.Orderly.{IsOrderly}
 use Rattle.ww_seat.specs.declared.waiting.Stop.{Stop}
 use Rattle.ww_seat.specs.declared.waiting.Stop.TheVariants.{Deadlk, Interrupted}
 use Rattle.ww_seat.specs.Calls.{HoldsAsBefore, HasTaken, IsTurnedAway}
-use Rattle.ww_seat.specs.Looks.{IsOutside, IsInside}
-use Rattle.ww_seat.specs.Guards.{HasEntered}
+use Rattle.ww_seat.specs.Looks.{IsOutside}
 use Rattle.ww_seat.proofs.Holds.{taken_then, die_then, stopped_then}
+use Rattle.ww_seat.proofs.Guards.{HasEntered}
+use Rattle.ww_seat.proofs.Working.{IsInside}
 
 -- ---- into the guard
 

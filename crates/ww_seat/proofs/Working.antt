@@ -1,24 +1,24 @@
 -- What the steps of a seat inside a guard keep of its work there.
-use Rattle.std.proofs.Common.{◌≡◌, ◌⊎◌, inl, inr, ⊎_elim, ℕ, zero, suc, ◌+◌, ◌<◌, Bool, true, false, true≢false, not, eqb, ne_eqb, List, ◌∷◌, refl, sym, ap, ◌∙◌, subst, arith, Option, Some}
+use Rattle.std.proofs.Common.{◌≡◌, ◌⊎◌, inl, inr, ⊎_elim, ℕ, zero, suc, ◌+◌, ◌<◌, ◌==◌, Bool, true, false, true≢false, not, eqb, ne_eqb, List, ◌∷◌, refl, sym, ap, ◌∙◌, subst, arith, Option, Some}
 use Rattle.ww_word.specs.declared.owner.Owner.{Owner}
 use Rattle.ww_queue.specs.declared.kind.Kind.{Kind}
 use Rattle.ww_queue.specs.declared.kind.Kind.TheVariants.{WoundWait, WaitDie}
-use Rattle.ww_queue.specs.Queue.{Has}
+use Rattle.ww_queue.specs.Queue.{Has, Once, StandsNot, entry_of}
 use Rattle.ww_view.specs.declared.view.View.{View}
 use Rattle.ww_view.specs.May.{WantsSigns, HasPaid, MayLeave, MayClear, LivesBySeen}
-use Rattle.ww_view.specs.Made.{once_outside, exited, has_looked}
+use Rattle.ww_view.specs.Made.{once_outside, exited, entry_of_view, has_looked}
 use Rattle.ww_rule.specs.declared.cells.Cell.{Cell}
 use Rattle.ww_rule.specs.declared.cells.Cell.TheVariants.{Line}
 use Rattle.ww_rule.specs.declared.cells.Sight.{Sight}
 use Rattle.ww_rule.specs.Rule.{Sat}
 use Rattle.ww_rule.specs.Out.{AreOthers}
 use Rattle.ww_rule.specs.Steps.{knowing}
-use Rattle.ww_rule.specs.Guards.{exiting, looking, lost}
+use Rattle.ww_rule.specs.Guards.{AreSeats, exiting, looking, lost}
 use Rattle.ww_rule.specs.Signs.{reading, clearing}
 use Rattle.ww_rule.specs.Waiting.{HasListOnTop}
 use Rattle.ww_seat.specs.Orderly.{IsOrderly}
 use Rattle.ww_seat.specs.Calls.{HoldsAsBefore}
-use Rattle.ww_seat.specs.Looks.{IsInside}
+use Rattle.ww_seat.specs.Looks.{MayWant}
 use Rattle.ww_seat.specs.Work.{AreWoken, HasCondemnedNone, touched, told, IsTouched, IsTold, IsPlaced, IsWorking, IsAtWork, IsCleared, MayGo, HasNoted}
 use Rattle.ww_seat.proofs.Holds.{holds_same, holds_then}
 use Rattle.ww_seat.proofs.Outside.{orderly_knowing, orderly_brought}
@@ -228,6 +228,19 @@ pub left_orderly : (size n : ℕ) (m m1 m2 : Sat) → IsOrderly size m → IsCle
 left_orderly size n m m1 m2 o c inside view home = exiting_orderly size m1 m2 n (cleared_orderly size m m1 o c) (cleared_inside n m m1 c inside) view home
 
 -- ---- just inside
+
+-- just inside the guard: it did nothing there yet
+pub record IsInside (size n : ℕ) (m : Sat) : Type 0 where
+  pub orderly : IsOrderly size m
+  pub want : MayWant n m.0.part.core
+  pub inside : m.0.part.core.inside ≡ suc n
+  pub place : (m.0.part.core.waits ≡ 0) ⊎ (m.0.part.core.waits ≡ suc n)
+  pub seats : AreSeats m.0.part.core.list
+  pub once : Once m.0.part.core.list
+  pub absent : m.0.part.core.waits ≡ 0 → StandsNot m.0.part.core.list m.0.part.core.who
+  pub entry : m.0.part.core.waits ≡ suc n → entry_of m.0.part.core.list m.0.part.core.who ≡ Some (entry_of_view m.0.part.core)
+  pub later : m.0.part.core.later ≡ not (m.0.part.core.waits == 0)
+  pub acted : m.0.part.core.acted ≡ not (m.0.part.core.waits == 0)
 
 place_inside : (again : Bool) (n w : ℕ) → again ≡ not (eqb w 0) → (w ≡ 0) ⊎ (w ≡ suc n) → (again ≡ true → w ≡ suc n) × (again ≡ false → w ≡ 0)
 place_inside again n zero is at = (λ t. absurd (true≢false (sym t ∙ is)), λ _. refl)

@@ -1,13 +1,10 @@
 -- A seat that wants a lock, on its way there.
-use Rattle.std.specs.Prelude.{ℕ, suc, ◌≡◌, ◌≤◌, ◌==◌, ◌⊎◌, Bool, not, true, false, Some}
-use Rattle.ww_queue.specs.Queue.{Once, StandsNot, entry_of}
+use Rattle.std.specs.Prelude.{ℕ, suc, ◌≡◌, ◌≤◌, ◌⊎◌, Bool, true, false}
 use Rattle.ww_view.specs.declared.view.View.{View}
 use Rattle.ww_view.specs.View.{owns, IsAway}
 use Rattle.ww_view.specs.May.{WantsBase, WantsSigns}
-use Rattle.ww_view.specs.Made.{entry_of_view}
 use Rattle.ww_rule.specs.Rule.{Sat}
 use Rattle.ww_rule.specs.Steps.{knowing}
-use Rattle.ww_rule.specs.Guards.{AreSeats}
 use Rattle.ww_seat.specs.Orderly.{IsOrderly}
 use Rattle.ww_seat.specs.Calls.{HoldsAsBefore, HasTaken, HasToDie, HasStopped}
 use Rattle.ww_seat.specs.declared.look.Look.{Look}
@@ -34,19 +31,6 @@ pub record HasGlanced (m m' : Sat) : Type 0 where
   pub times : ℕ
   pub few : times ≤ 16
   pub now : m' ≡ having_glanced m times
-
--- just inside the guard: it did nothing there yet
-pub record IsInside (size n : ℕ) (m : Sat) : Type 0 where
-  pub orderly : IsOrderly size m
-  pub want : MayWant n m.0.part.core
-  pub inside : m.0.part.core.inside ≡ suc n
-  pub place : (m.0.part.core.waits ≡ 0) ⊎ (m.0.part.core.waits ≡ suc n)
-  pub seats : AreSeats m.0.part.core.list
-  pub once : Once m.0.part.core.list
-  pub absent : m.0.part.core.waits ≡ 0 → StandsNot m.0.part.core.list m.0.part.core.who
-  pub entry : m.0.part.core.waits ≡ suc n → entry_of m.0.part.core.list m.0.part.core.who ≡ Some (entry_of_view m.0.part.core)
-  pub later : m.0.part.core.later ≡ not (m.0.part.core.waits == 0)
-  pub acted : m.0.part.core.acted ≡ not (m.0.part.core.waits == 0)
 
 -- what a look came to, once the seat is outside again
 abbrev pub IsLook : ℕ → ℕ → Sat → Look → Sat → Type 0

@@ -3,9 +3,10 @@ ghost use Rattle.ww_view.specs.View.{owns};
 ghost use Rattle.ww_table.specs.Seat.{IsSeatOf, size_of};
 ghost use Rattle.ww_seat.specs.Orderly.{IsSettledAt};
 ghost use Rattle.ww_seat.specs.Calls.{HasGiven};
-ghost use Rattle.ww_seat.specs.Guards.{IsGiving, HasLet};
+ghost use Rattle.ww_seat.specs.Guards.{IsGiving};
 
-use crate::guard::enter;
+use crate::guard::spin_into_owned;
+use crate::turns::give_on;
 use crate::wake::wake_first;
 use crossbeam_utils::sync::Unparker;
 use std::sync::Wait;
@@ -23,27 +24,24 @@ pub fn give_waited<R: Wait>(rt: &R, seat: &mut Seat16, board: &Board, lock: u8, 
     ensures given { HasGiven seat.old.seat.me lock seat.new.seat.me }
     ensures records { seat.new.records ≡ seat.old.records }
 {
-    enter(rt, seat, board, lock);
+    spin_into_owned(rt, seat, board, lock);
     let first = give_inside(rt, seat, board, lock);
-    seat.exit(board, lock);
     wake_first(first, wakers);
 }
 
-/// Gives the lock back inside its guard, and tells who was the first waiter then.
+/// Gives the lock back inside its guard, turn by turn, and tells who was the first waiter then.
 #[cold]
 fn give_inside<R: Wait>(rt: &R, seat: &mut Seat16, board: &Board, lock: u8) -> Option<Entry>
     requires seat { IsSeatOf board.now seat.old }
     requires lock { lock < size_of board.now }
     requires giving { IsGiving (size_of board.now) lock seat.old.seat.me }
-    ensures seat { IsSeatOf board.now seat.new }
-    ensures given { HasLet (size_of board.now) seat.old.seat.me lock seat.new.seat.me }
+    ensures settled { IsSettledAt board.now seat.new }
+    ensures given { HasGiven seat.old.seat.me lock seat.new.seat.me }
     ensures first { result ≡ slice_get seat.old.seat.me.0.part.core.list 0 }
     ensures records { seat.new.records ≡ seat.old.records }
 {
     for _ in rt.forever() {
-        let seen = seat.look(board, lock);
-        let first = seat.first(board, lock);
-        if seat.give(board, lock, seen) {
+        if let Some(first) = give_on(seat, board, lock) {
             return first;
         }
     }

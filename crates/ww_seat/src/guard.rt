@@ -1,28 +1,52 @@
-ghost use Rattle.std.specs.Prelude.{◌≡◌, ◌<◌};
-ghost use Rattle.ww_view.specs.May.{MayEnter};
+//! Into the guard of a lock. Who is inside it makes a few steps there and waits for nobody, so these spin.
+ghost use Rattle.std.specs.Prelude.{◌≡◌, ◌<◌, ◌==◌, [], not, true};
+ghost use Rattle.ww_view.specs.View.{owns};
 ghost use Rattle.ww_table.specs.Seat.{IsSeatOf, size_of};
-ghost use Rattle.ww_seat.specs.Orderly.{IsOrderly};
-ghost use Rattle.ww_seat.specs.Guards.{HasEntered};
+ghost use Rattle.ww_seat.specs.Orderly.{IsSettledAt};
+ghost use Rattle.ww_seat.specs.Guards.{IsGiving, IsStill};
+ghost use Rattle.ww_seat.specs.Looks.{IsOutside};
+ghost use Rattle.ww_seat.specs.Work.{IsAtWork};
 
+use crate::turns::{enter_owned, enter_wanted};
 use crossbeam_utils::Backoff as Pause;
 use std::sync::Wait;
 use ww_table::{Board, Seat16};
 
-/// Goes inside the guard of a lock. Who is inside it makes a few steps there and waits for nobody, so this spins.
+/// Tries to go inside the guard of a lock that the seat wants, until it is there.
 #[cold]
-pub(crate) fn enter<R: Wait>(rt: &R, seat: &mut Seat16, board: &Board, lock: u8)
+pub(crate) fn spin_into_wanted<R: Wait>(rt: &R, seat: &mut Seat16, board: &Board, lock: u8)
     requires seat { IsSeatOf board.now seat.old }
-    requires orderly { IsOrderly (size_of board.now) seat.old.seat.me }
     requires lock { lock < size_of board.now }
-    requires may { MayEnter seat.old.seat.me.0.part.core lock }
+    requires outside { IsOutside (size_of board.now) lock seat.old.seat.me }
     ensures seat { IsSeatOf board.now seat.new }
-    ensures orderly { IsOrderly (size_of board.now) seat.new.seat.me }
-    ensures entered { HasEntered seat.old.seat.me lock seat.new.seat.me }
+    ensures inside { IsAtWork (size_of board.now) lock seat.old.seat.me (not (seat.old.seat.me.0.part.core.waits == 0)) (not (seat.old.seat.me.0.part.core.waits == 0)) seat.new.seat.me }
+    ensures condemned { seat.new.seat.me.0.part.core.condemned ≡ [] }
     ensures records { seat.new.records ≡ seat.old.records }
 {
     let pause = Pause::new();
     for _ in rt.forever() {
-        if seat.enter(board, lock) {
+        if enter_wanted(seat, board, lock) {
+            return;
+        }
+        pause.snooze();
+    }
+    unreachable!()
+}
+
+/// The same of a lock that it owns.
+#[cold]
+pub(crate) fn spin_into_owned<R: Wait>(rt: &R, seat: &mut Seat16, board: &Board, lock: u8)
+    requires settled { IsSettledAt board.now seat.old }
+    requires lock { lock < size_of board.now }
+    requires owner { owns seat.old.seat.me.0.part.core lock ≡ true }
+    ensures seat { IsSeatOf board.now seat.new }
+    ensures giving { IsGiving (size_of board.now) lock seat.new.seat.me }
+    ensures still { IsStill seat.old.seat.me seat.new.seat.me }
+    ensures records { seat.new.records ≡ seat.old.records }
+{
+    let pause = Pause::new();
+    for _ in rt.forever() {
+        if enter_owned(seat, board, lock) {
             return;
         }
         pause.snooze();

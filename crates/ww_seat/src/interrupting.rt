@@ -8,6 +8,7 @@ ghost use Rattle.ww_seat.specs.Looks.{IsLook};
 ghost use Rattle.ww_seat.specs.Work.{HasCondemnedNone, IsWorking, SeesOther, GoesOn};
 
 use crate::leaving::leave;
+use crate::turns::cancel_once;
 use crate::wake::wake_seat;
 use crossbeam_utils::sync::Unparker;
 use ww_table::{Board, Seat16};
@@ -23,7 +24,7 @@ pub fn cancel(seat: &mut Seat16, board: &Board, victim: u8, wakers: &[Unparker])
     ensures pending { result ≡ false → seat.new.seat.me ≡ (finding_pending seat.old.seat.me.0, seat.old.seat.me.1) }
     ensures records { seat.new.records ≡ seat.old.records }
 {
-    if !seat.set_cancel(board, victim) {
+    if !cancel_once(seat, board, victim) {
         return false;
     }
     wake_seat(victim, wakers);

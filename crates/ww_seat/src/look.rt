@@ -2,7 +2,7 @@
 ghost use Rattle.std.specs.Prelude.{ℕ, ◌≡◌, ◌≢◌, ◌<◌, ◌+◌, ◌⊎◌, true, false, Some, None, IfSome, IfNone};
 ghost use Rattle.ww_table.specs.Seat.{IsSeatOf, size_of};
 ghost use Rattle.ww_seat.specs.Orderly.{IsOrderly};
-ghost use Rattle.ww_seat.specs.Looks.{IsInside, IsLook, MayLookSo};
+ghost use Rattle.ww_seat.specs.Looks.{IsLook, MayLookSo};
 ghost use Rattle.ww_seat.specs.Work.{AreWoken, KeepsMarks, IsWorking, IsAtWork};
 
 use crate::interrupting::stop_if_cancelled;
@@ -93,8 +93,8 @@ pub(crate) fn look_at<R: Wait>(
 ) -> Look
     requires seat { IsSeatOf board.now seat.old }
     requires lock { lock < size_of board.now }
-    requires inside { IsInside (size_of board.now) lock seat.old.seat.me }
-    requires later { is_later ≡ seat.old.seat.me.0.part.core.later }
+    requires orderly { IsOrderly (size_of board.now) seat.old.seat.me }
+    requires work { IsWorking lock is_later is_later seat.old.seat.me.0.part.core }
     requires woken { AreWoken seat.old.seat.me.0.part.core wake.old.seats }
     ensures seat { IsSeatOf board.now seat.new }
     ensures records { seat.new.records ≡ seat.old.records }

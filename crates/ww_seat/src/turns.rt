@@ -1,4 +1,5 @@
-//! The calls in turns: each makes a few steps and waits for nobody. Whoever calls waits between them as it likes.
+//! What one round of each loop of a call does: a few steps, and it waits for nobody. The calls that wait are loops over
+//! these turns; others make the turns themselves, and wait between them as they like.
 ghost use Rattle.std.specs.Prelude.{◌≡◌, ◌<◌, ◌+◌, ◌==◌, [], not, true, false, slice_get, IfSome, IfNone};
 ghost use Rattle.std.specs.Option.{option_map};
 ghost use Rattle.ww_queue.specs.declared.entry.Entry.{Entry};
@@ -72,6 +73,7 @@ pub fn give_on(seat: &mut Seat16, board: &Board, lock: u8) -> Option<Option<Entr
     ensures attempted { seat.new.seat.me.0.part.core.attempts ≡ seat.old.seat.me.0.part.core.attempts + 1 }
     ensures giving { IfNone result (IsGiving (size_of board.now) lock seat.new.seat.me) }
     ensures still { IfNone result (IsStill seat.old.seat.me seat.new.seat.me) }
+    ensures list { IfNone result (seat.new.seat.me.0.part.core.list ≡ seat.old.seat.me.0.part.core.list) }
     ensures records { seat.new.records ≡ seat.old.records }
 {
     let seen = seat.look(board, lock);

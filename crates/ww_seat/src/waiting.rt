@@ -6,7 +6,7 @@ ghost use Rattle.ww_seat.specs.Orderly.{IsSettledAt};
 ghost use Rattle.ww_seat.specs.Calls.{HasTaken, IsTurnedAway, MayStop};
 ghost use Rattle.ww_seat.specs.Looks.{IsOutside, IsLook, MayLookSo};
 
-use crate::guard::enter;
+use crate::guard::spin_into_wanted;
 use crate::look::{Look, look_at};
 use crate::patience::Patience;
 use crate::staying_away::stay_away;
@@ -116,7 +116,7 @@ pub fn visit<R: Wait>(
     ensures tries { seat.new.seat.me.0.part.core.tries ≡ seat.old.seat.me.0.part.core.tries }
     ensures records { seat.new.records ≡ seat.old.records }
 {
-    enter(rt, seat, board, lock);
+    spin_into_wanted(rt, seat, board, lock);
     let mut wake = Wake::new();
     let look = look_at(rt, seat, board, lock, is_later, heeds, &mut wake);
     wake.deliver(wakers);

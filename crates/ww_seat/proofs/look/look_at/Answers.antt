@@ -1,10 +1,10 @@
-use Rattle.std.proofs.Common.{refl, sym, ◌∙◌}
+use Rattle.std.proofs.Common.{refl, ◌∙◌}
 use Rattle.ww_seat.proofs.Holds.{look_then}
-use Rattle.ww_seat.proofs.Working.{work_inside, work_then}
+use Rattle.ww_seat.proofs.Working.{work_same, work_then}
 use Rattle.ww_seat.proofs.look.look_at.Goals as goal
 
 pub loop-init : goal.loop-init
-loop-init g c = (c.requires.seat, work_inside _ c.args.lock c.args.is_later c.args.seat.now.seat.me c.requires.inside c.requires.later, refl, c.requires.woken)
+loop-init g c = (c.requires.seat, work_same _ c.args.lock c.args.is_later c.args.is_later c.args.seat.now.seat.me c.requires.orderly c.requires.work, refl, c.requires.woken)
 
 pub loop-preserved : goal.loop-preserved
 loop-preserved g c = (c.look_once.ensures.seat, work_then _ c.args.lock c.args.seat.now.seat.me c.loop.stands c.look_once.new.stands c.args.is_later c.loop.seat.seat.me c.look_once.new.seat.seat.me c.loop.invariant.1 c.in-None-look_once.ensures.lost, c.look_once.ensures.records ∙ c.loop.invariant.2, c.look_once.ensures.woken)

@@ -1,4 +1,4 @@
-use Rattle.std.proofs.Common.{true, length, sym, ◌∙◌}
+use Rattle.std.proofs.Common.{true, length, ◌∙◌}
 use Rattle.ww_rule.specs.Rule.{first_graph}
 use Rattle.ww_seat.proofs.Working.{woken_still, woken_looked, look_counts, work_touched, work_looked}
 use Rattle.ww_seat.proofs.Signing.{if_none}

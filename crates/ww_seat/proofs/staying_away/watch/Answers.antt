@@ -1,4 +1,4 @@
-use Rattle.std.proofs.Common.{arith, refl, sym, ap, ◌∙◌, ℕ, ◌+◌}
+use Rattle.std.proofs.Common.{arith, refl, ap, ◌∙◌, ◌+◌}
 use Rattle.ww_seat.specs.Looks.{having_glanced}
 use Rattle.ww_seat.proofs.Glances.{may_glance, once_more}
 use Rattle.ww_seat.proofs.staying_away.watch.Goals as goal

@@ -2,7 +2,6 @@ use Rattle.std.proofs.Common.{sym, ap, refl, ◌∙◌, Some, length}
 use Rattle.ww_rule.specs.Rule.{Sat, first_graph}
 use Rattle.ww_rule.specs.Guards.{exiting}
 use Rattle.ww_rule.specs.Waiting.{taking_inside}
-use Rattle.ww_rule.specs.declared.cells.Sight.{Sight}
 use Rattle.ww_seat.proofs.Outside.{room_inside}
 use Rattle.ww_seat.proofs.Working.{touched_lost_on_top, none_condemned, woken_still, woken_touched}
 use Rattle.ww_seat.proofs.Took.{may_take, is_taken, taken_read, owes_after, taken_goes, look_taken, node_out, word_read}

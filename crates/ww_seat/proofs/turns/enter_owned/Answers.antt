@@ -1,4 +1,4 @@
-use Rattle.std.proofs.Common.{refl, ap, ⊎_elim, ◌+◌}
+use Rattle.std.proofs.Common.{refl, ap, ⊎_elim}
 use Rattle.ww_plain.proofs.Members.{true_or_false}
 use Rattle.ww_rule.specs.Rule.{Sat}
 use Rattle.ww_seat.proofs.Outside.{room_outside}
@@ -15,7 +15,7 @@ enter-requires-clause-room c = room_outside _ _ c.requires.settled.orderly c.req
 
 pub returns-clause-giving : goal.returns-clause-giving
 returns-clause-giving c = λ t. let e = c.enter.ensures.entered t in let m = c.args.seat.now.seat.me in let m1 = c.enter.new.self.seat.me in
-    entered_giving _ m m1 c.args.lock (has_entered m m1 c.args.lock e.0 e.1 e.2 e.3) (entering_orderly _ m m1 c.args.lock e.0 (m.0.part.core.attempts + 1) c.requires.settled.orderly c.requires.settled.away.0 e.3) c.requires.settled.away.1 c.requires.owner
+    entered_giving _ m m1 c.args.lock (has_entered m m1 c.args.lock e.0 e.1 e.2 e.3) (entering_orderly _ m m1 c.args.lock e.0 c.requires.settled.orderly c.requires.settled.away.0 e.3) c.requires.settled.away.1 c.requires.owner
 
 pub returns-clause-settled : goal.returns-clause-settled
 returns-clause-settled c = λ f. let l = c.enter.ensures.lost f in record {

@@ -4,7 +4,6 @@ use Rattle.ww_queue.specs.declared.entry.Entry.{Entry}
 use Rattle.ww_rule.specs.declared.cells.Sight.{Sight}
 use Rattle.ww_rule.specs.Rule.{Sat}
 use Rattle.ww_rule.specs.Guards.{exiting}
-use Rattle.ww_seat.proofs.Holds.{holds_same}
 use Rattle.ww_seat.proofs.Gives.{read_still, lost_still, still_view, looked_giving, read_giving, giving_out, lost_giving, let_go, has_let}
 use Rattle.ww_seat.proofs.turns.give_on.Goals as goal
 
