@@ -7,7 +7,7 @@ use Rattle.ww_plain.specs.Numbers.{is_among, AreDifferent}
 use Rattle.ww_view.specs.View.{owns}
 use Rattle.ww_table.specs.declared.board.Board.{Board}
 use Rattle.ww_table.specs.declared.seat.Seat16.{Seat16}
-use Rattle.ww_table.specs.Seat.{IsSeated, size_of}
+use Rattle.ww_table.specs.Seat.{IsSeated, size_of, view_of}
 use Rattle.ww_seat.specs.Orderly.{IsOrderly, IsSettled}
 use Rattle.ww_seat.specs.Guards.{IsGiving}
 use Rattle.ww_seat.specs.Looks.{IsOutside}
@@ -26,31 +26,31 @@ abbrev pub situation_of : Station → Situation
 situation_of d = record {
   home = table_of (arc_value d.board);
   size = size_of (arc_value d.board);
-  kind = d.seat.seat.me.0.part.core.kind;
-  caller = d.seat.seat.me.0.part.core.who;
+  kind = (view_of d.seat).kind;
+  caller = (view_of d.seat).who;
   left = d.left;
   draws = d.seat.seat.me.0.part.counts.draws;
-  stamp = d.seat.seat.me.0.part.core.stamp;
+  stamp = (view_of d.seat).stamp;
   is_done = d.is_done;
   held = d.held.items;
   told = d.told;
   turn = d.turn;
   wakes = d.wake.seats;
-  tries = d.seat.seat.me.0.part.core.tries;
-  takes = d.seat.seat.me.0.part.core.takes;
-  deaths = d.seat.seat.me.0.part.core.deaths;
+  tries = (view_of d.seat).tries;
+  takes = (view_of d.seat).takes;
+  deaths = (view_of d.seat).deaths;
   cancelled = d.seat.seat.me.0.part.counts.cancelled;
-  interrupted = d.seat.seat.me.0.part.core.stopped;
-  view = d.seat.seat.me.0.part.core;
+  interrupted = (view_of d.seat).stopped;
+  view = view_of d.seat;
 }
 
 -- Where the seat is at each turn of a call, and whom it has to wake then.
 abbrev pub IsAt : TableId → ℕ → List Bool → Turn → Seat16 → Type 0
 IsAt table size wakes Rests s = IsSettled table size s
-IsAt table size wakes (Stays n k heeds) s = IsSeated table s × (n < size) × IsOutside size n s.seat.me × (s.seat.me.0.part.core.waits ≡ 0) × (s.seat.me.0.part.core.glances + k ≤ 16)
-IsAt table size wakes (Wants n stands heeds) s = IsSeated table s × (n < size) × IsOutside size n s.seat.me × (stands ≡ not (s.seat.me.0.part.core.waits == 0))
-IsAt table size wakes (Looks n stands again heeds) s = IsSeated table s × (n < size) × IsOrderly size s.seat.me × IsWorking n stands again s.seat.me.0.part.core × AreWoken s.seat.me.0.part.core wakes
-IsAt table size wakes (Gives n) s = IsSettled table size s × (n < size) × (owns s.seat.me.0.part.core n ≡ true)
+IsAt table size wakes (Stays n k heeds) s = IsSeated table s × (n < size) × IsOutside size n s.seat.me × ((view_of s).waits ≡ 0) × ((view_of s).glances + k ≤ 16)
+IsAt table size wakes (Wants n stands heeds) s = IsSeated table s × (n < size) × IsOutside size n s.seat.me × (stands ≡ not ((view_of s).waits == 0))
+IsAt table size wakes (Looks n stands again heeds) s = IsSeated table s × (n < size) × IsOrderly size s.seat.me × IsWorking n stands again (view_of s) × AreWoken (view_of s) wakes
+IsAt table size wakes (Gives n) s = IsSettled table size s × (n < size) × (owns (view_of s) n ≡ true)
 IsAt table size wakes (Lets n) s = IsSeated table s × (n < size) × IsGiving size n s.seat.me
 
 -- each lock that is held is one of the world, and is held once
@@ -63,13 +63,13 @@ pub record AreHeld (size : ℕ) (held : List ℕ) : Type 0 where
 -- stays within what the table counts.
 pub record Keeps (d : Station) : Type 0 where
   pub at : IsAt (table_of (arc_value d.board)) (size_of (arc_value d.board)) d.wake.seats d.turn d.seat
-  pub stamp : d.seat.seat.me.0.part.core.stamp ≡ d.seat.stamp
+  pub stamp : (view_of d.seat).stamp ≡ d.seat.stamp
   pub held : AreHeld (size_of (arc_value d.board)) d.held.items
-  pub owned : (n : ℕ) → owns d.seat.seat.me.0.part.core n ≡ is_among n d.held.items
-  pub marks : d.marks ≡ d.seat.seat.me.0.part.core.owned
-  pub room : length d.seat.seat.me.0.part.core.owned ≡ 64
+  pub owned : (n : ℕ) → owns (view_of d.seat) n ≡ is_among n d.held.items
+  pub marks : d.marks ≡ (view_of d.seat).owned
+  pub room : length (view_of d.seat).owned ≡ 64
   pub draws : d.seat.seat.me.0.part.counts.draws + d.left < 2 ^ 52
 
 -- it has just tried this lock in vain, and may stay away from it
 abbrev pub MayStay : ℕ → Station → Type 0
-MayStay n d = IsOutside (size_of (arc_value d.board)) n d.seat.seat.me × (d.seat.seat.me.0.part.core.glances ≡ 0)
+MayStay n d = IsOutside (size_of (arc_value d.board)) n d.seat.seat.me × ((view_of d.seat).glances ≡ 0)

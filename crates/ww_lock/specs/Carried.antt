@@ -10,6 +10,7 @@ use Rattle.ww_view.specs.May.{WantsSigns}
 use Rattle.ww_seat.specs.Orderly.{IsSettled}
 use Rattle.ww_lock.specs.declared.hand.Hand.{Hand}
 use Rattle.ww_lock.specs.Holding.{Holding, AreHeld, by_of, own_of}
+use Rattle.ww_table.specs.Seat.{view_of}
 
 -- what a contract sees of it
 abbrev pub holding_of : Hand → Holding
@@ -23,26 +24,26 @@ holding_of h = record {
   room = vec_capacity h.seat.records - vec_len h.seat.records;
   held = h.held.items;
   seen = h.seen;
-  tries = h.seat.seat.me.0.part.core.tries;
-  takes = h.seat.seat.me.0.part.core.takes;
-  deaths = h.seat.seat.me.0.part.core.deaths;
+  tries = (view_of h.seat).tries;
+  takes = (view_of h.seat).takes;
+  deaths = (view_of h.seat).deaths;
   cancelled = h.seat.seat.me.0.part.counts.cancelled;
-  pendings = h.seat.seat.me.0.part.core.pendings;
-  interrupted = h.seat.seat.me.0.part.core.stopped;
+  pendings = (view_of h.seat).pendings;
+  interrupted = (view_of h.seat).stopped;
 }
 
 -- what its seat met as it had to back off, as its view keeps it until it takes or gives a lock
 abbrev pub met_of : Hand → Option Met
-met_of h = h.seat.seat.me.0.part.core.met
+met_of h = (view_of h.seat).met
 
 -- The seat is between two calls, and owns just the locks of the nodes that are held, which have their marks. Each cancel
 -- that it heeded was answered by an interruption. With what is left it stays within what the table counts.
 pub record Carries (h : Hand) : Type 0 where
   pub settled : IsSettled h.seat.seat.table_id (length h.seen) h.seat
-  pub owned : (n : ℕ) → owns h.seat.seat.me.0.part.core n ≡ is_among n h.held.items
-  pub marks : h.marks ≡ h.seat.seat.me.0.part.core.owned
+  pub owned : (n : ℕ) → owns (view_of h.seat) n ≡ is_among n h.held.items
+  pub marks : h.marks ≡ (view_of h.seat).owned
   pub held : AreHeld h.held.items h.seen
-  pub answered : by_of h.seat.seat.me.0.part.core.stopped ≡ h.seat.seat.me.0.part.counts.heeded
+  pub answered : by_of (view_of h.seat).stopped ≡ h.seat.seat.me.0.part.counts.heeded
   pub draws : h.seat.seat.me.0.part.counts.draws + h.left < 2 ^ 32
   pub commits : length h.seat.records.items + h.left < 2 ^ 32
 
@@ -54,8 +55,8 @@ pub record CarriesFresh (h : Hand) : Type 0 where
 
 -- it has just lost its first try for a lock, hasn't glanced at the lock yet, and may go on to wait for it
 pub record HasLost (h : Hand) : Type 0 where
-  pub tried : h.seat.seat.me.0.part.core.glances ≡ 0
-  pub signs : WantsSigns h.seat.seat.me.0.part.core
+  pub tried : (view_of h.seat).glances ≡ 0
+  pub signs : WantsSigns (view_of h.seat)
 
 -- what a pass carries once it has spent one of what was left: it holds nothing, has no context, and may draw once more
 pub record IsSpent (s : Holding) (h : Hand) : Type 0 where

@@ -11,7 +11,7 @@ use Rattle.ww_table.specs.declared.board.Board.{Board}
 use Rattle.ww_table.specs.declared.seat.Seat16.{Seat16}
 use Rattle.ww_rule.specs.Layout.{list_at}
 use Rattle.ww_rule.specs.Rule.{Sat}
-use Rattle.ww_table.specs.Seat.{IsSeated, size_of}
+use Rattle.ww_table.specs.Seat.{IsSeated, size_of, view_of}
 use Rattle.ww_rule.specs.Out.{slot_of}
 
 -- no slot is out twice
@@ -36,7 +36,7 @@ pub record IsOrderly (size : ℕ) (m : Sat) : Type 0 where
 pub record IsSettled (table : TableId) (size : ℕ) (s : Seat16) : Type 0 where
   pub seated : IsSeated table s
   pub orderly : IsOrderly size s.seat.me
-  pub away : IsAway s.seat.me.0.part.core
+  pub away : IsAway (view_of s)
 
 -- ... of this board
 abbrev pub IsSettledAt : Board → Seat16 → Type 0

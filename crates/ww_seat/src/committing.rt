@@ -8,7 +8,7 @@ ghost use Rattle.ww_plain.specs.Transaction.{transaction_of};
 ghost use Rattle.ww_plain.specs.Meaning.{graph_after};
 ghost use Rattle.ww_plain.specs.History.{IsNext, recorded_of};
 ghost use Rattle.ww_view.specs.View.{owns};
-ghost use Rattle.ww_table.specs.Seat.{IsSeatOf, size_of};
+ghost use Rattle.ww_table.specs.Seat.{IsSeatOf, size_of, view_of};
 ghost use Rattle.ww_seat.specs.Orderly.{IsOrderly, IsSettledAt};
 ghost use Rattle.ww_seat.specs.Calls.{HoldsAll, HasCommitted};
 ghost use Rattle.ww_seat.specs.Commits.{naming, change_at, changes_of, IsChanged};
@@ -30,7 +30,7 @@ fn change(seat: &mut Seat16, board: &Board, changes: &[NodeChange])
     requires seat { IsSeatOf board.now seat.old }
     requires changes { (before : List Node) × (after : List Node) × (ns : List ℕ) × (changes.now ≡ map (change_at before after) ns) }
     requires out { (held : List (Option Node)) × IsOrderly (size_of board.now) (naming seat.old.seat.me held) }
-    requires owned { AllByRecursion (λ c. owns seat.old.seat.me.0.part.core c.number ≡ true) changes.now }
+    requires owned { AllByRecursion (λ c. owns (view_of seat.old) c.number ≡ true) changes.now }
     ensures seat { IsSeatOf board.now seat.new }
     ensures view { seat.new.seat.me.0 ≡ seat.old.seat.me.0 }
     ensures records { seat.new.records ≡ seat.old.records }
@@ -52,8 +52,8 @@ pub fn commit(
     changes: &[NodeChange],
 ) -> u64
     requires seat { IsSettledAt board.now seat.old }
-    requires owner { (n : ℕ) × (owns seat.old.seat.me.0.part.core n ≡ true) }
-    requires caller { done.caller ≡ seat.old.seat.me.0.part.core.who }
+    requires owner { (n : ℕ) × (owns (view_of seat.old) n ≡ true) }
+    requires caller { done.caller ≡ (view_of seat.old).who }
     requires seq { done.seq ≡ length seat.old.seat.me.0.part.own }
     requires next { IsNext before.now.value (recorded_of done) }
     requires changes { changes.now ≡ changes_of before.now.value (transaction_of done.txn) }

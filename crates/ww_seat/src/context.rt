@@ -5,6 +5,7 @@ ghost use Rattle.ww_view.specs.View.{IsBare};
 ghost use Rattle.ww_rule.specs.Steps.{MayDraw};
 ghost use Rattle.ww_seat.specs.Orderly.{IsSettledAt};
 ghost use Rattle.ww_seat.specs.Calls.{HasBegun, HasEnded};
+ghost use Rattle.ww_table.specs.Seat.{view_of};
 
 use ww_table::{Board, Seat16};
 
@@ -23,8 +24,8 @@ pub fn begin(seat: &mut Seat16, board: &Board) -> u64
 /// Ends the context. A sign that it still has is taken back first: nobody signs a seat that holds nothing.
 pub fn end(seat: &mut Seat16, board: &Board)
     requires seat { IsSettledAt board.now seat.old }
-    requires context { 0 < seat.old.seat.me.0.part.core.stamp }
-    requires bare { IsBare seat.old.seat.me.0.part.core }
+    requires context { 0 < (view_of seat.old).stamp }
+    requires bare { IsBare (view_of seat.old) }
     ensures seat { IsSettledAt board.now seat.new }
     ensures ended { HasEnded seat.old.seat.me seat.new.seat.me }
     ensures records { seat.new.records ≡ seat.old.records }

@@ -5,7 +5,7 @@ ghost use Rattle.ww_view.specs.View.{owns, IsBare};
 ghost use Rattle.ww_view.specs.May.{WantsBase, WantsSigns};
 ghost use Rattle.ww_seat.specs.Orderly.{IsSettledAt};
 ghost use Rattle.ww_seat.specs.Calls.{HoldsAsBefore, HasTaken, TriedOnce};
-ghost use Rattle.ww_table.specs.Seat.{size_of};
+ghost use Rattle.ww_table.specs.Seat.{size_of, view_of};
 
 use ww_plain::Node;
 use ww_queue::Kind;
@@ -14,13 +14,13 @@ use ww_table::{Board, Seat16};
 /// Takes the sign back of a context that holds nothing.
 fn unsign_bare(seat: &mut Seat16, board: &Board)
     requires seat { IsSettledAt board.now seat.old }
-    requires context { 0 < seat.old.seat.me.0.part.core.stamp }
-    requires bare { IsBare seat.old.seat.me.0.part.core }
+    requires context { 0 < (view_of seat.old).stamp }
+    requires bare { IsBare (view_of seat.old) }
     ensures seat { IsSettledAt board.now seat.new }
     ensures same { HoldsAsBefore seat.old.seat.me seat.new.seat.me }
-    ensures tries { seat.new.seat.me.0.part.core.tries ≡ seat.old.seat.me.0.part.core.tries }
-    ensures met { seat.new.seat.me.0.part.core.met ≡ seat.old.seat.me.0.part.core.met }
-    ensures sign { seat.new.seat.me.0.part.core.sign ≡ Some 0 }
+    ensures tries { (view_of seat.new).tries ≡ (view_of seat.old).tries }
+    ensures met { (view_of seat.new).met ≡ (view_of seat.old).met }
+    ensures sign { (view_of seat.new).sign ≡ Some 0 }
     ensures records { seat.new.records ≡ seat.old.records }
 {
     if seat.own_sign(board) == 0 {
@@ -34,9 +34,9 @@ fn unsign_if_bare(seat: &mut Seat16, board: &Board)
     requires seat { IsSettledAt board.now seat.old }
     ensures seat { IsSettledAt board.now seat.new }
     ensures same { HoldsAsBefore seat.old.seat.me seat.new.seat.me }
-    ensures tries { seat.new.seat.me.0.part.core.tries ≡ seat.old.seat.me.0.part.core.tries }
-    ensures met { seat.new.seat.me.0.part.core.met ≡ seat.old.seat.me.0.part.core.met }
-    ensures signs { WantsSigns seat.new.seat.me.0.part.core }
+    ensures tries { (view_of seat.new).tries ≡ (view_of seat.old).tries }
+    ensures met { (view_of seat.new).met ≡ (view_of seat.old).met }
+    ensures signs { WantsSigns (view_of seat.new) }
     ensures records { seat.new.records ≡ seat.old.records }
 {
     if seat.stamp() == 0 {
@@ -54,9 +54,9 @@ fn unsign(seat: &mut Seat16, board: &Board)
     requires seat { IsSettledAt board.now seat.old }
     ensures seat { IsSettledAt board.now seat.new }
     ensures same { HoldsAsBefore seat.old.seat.me seat.new.seat.me }
-    ensures tries { seat.new.seat.me.0.part.core.tries ≡ seat.old.seat.me.0.part.core.tries }
-    ensures met { seat.new.seat.me.0.part.core.met ≡ seat.old.seat.me.0.part.core.met }
-    ensures signs { WantsSigns seat.new.seat.me.0.part.core }
+    ensures tries { (view_of seat.new).tries ≡ (view_of seat.old).tries }
+    ensures met { (view_of seat.new).met ≡ (view_of seat.old).met }
+    ensures signs { WantsSigns (view_of seat.new) }
     ensures records { seat.new.records ≡ seat.old.records }
 {
     match seat.kind() {
@@ -70,15 +70,15 @@ fn unsign(seat: &mut Seat16, board: &Board)
 pub fn try_take(seat: &mut Seat16, board: &Board, lock: u8) -> Option<Node>
     requires seat { IsSettledAt board.now seat.old }
     requires lock { lock < size_of board.now }
-    requires lacks { owns seat.old.seat.me.0.part.core lock ≡ false }
-    requires base { WantsBase seat.old.seat.me.0.part.core }
+    requires lacks { owns (view_of seat.old) lock ≡ false }
+    requires base { WantsBase (view_of seat.old) }
     ensures seat { IsSettledAt board.now seat.new }
     ensures some { IfSome result (λ x. HasTaken seat.old.seat.me lock x seat.new.seat.me) }
     ensures none { IfNone result (HoldsAsBefore seat.old.seat.me seat.new.seat.me) }
-    ensures met { IfNone result (seat.new.seat.me.0.part.core.met ≡ seat.old.seat.me.0.part.core.met) }
+    ensures met { IfNone result ((view_of seat.new).met ≡ (view_of seat.old).met) }
     ensures once { TriedOnce seat.old.seat.me seat.new.seat.me }
-    ensures tried { IfNone result (seat.new.seat.me.0.part.core.glances ≡ 0) }
-    ensures signs { IfNone result (WantsSigns seat.new.seat.me.0.part.core) }
+    ensures tried { IfNone result ((view_of seat.new).glances ≡ 0) }
+    ensures signs { IfNone result (WantsSigns (view_of seat.new)) }
     ensures records { seat.new.records ≡ seat.old.records }
 {
     unsign(seat, board);

@@ -1,6 +1,6 @@
 ghost use Rattle.std.specs.Prelude.{◌≡◌, ◌<◌, true, slice_get};
 ghost use Rattle.ww_view.specs.View.{owns};
-ghost use Rattle.ww_table.specs.Seat.{IsSeatOf, size_of};
+ghost use Rattle.ww_table.specs.Seat.{IsSeatOf, size_of, view_of};
 ghost use Rattle.ww_seat.specs.Orderly.{IsSettledAt};
 ghost use Rattle.ww_seat.specs.Calls.{HasGiven};
 ghost use Rattle.ww_seat.specs.Guards.{IsGiving};
@@ -19,7 +19,7 @@ use ww_table::{Board, Seat16};
 pub fn give_waited<R: Wait>(rt: &R, seat: &mut Seat16, board: &Board, lock: u8, wakers: &[Unparker])
     requires settled { IsSettledAt board.now seat.old }
     requires lock { lock < size_of board.now }
-    requires owner { owns seat.old.seat.me.0.part.core lock ≡ true }
+    requires owner { owns (view_of seat.old) lock ≡ true }
     ensures settled { IsSettledAt board.now seat.new }
     ensures given { HasGiven seat.old.seat.me lock seat.new.seat.me }
     ensures records { seat.new.records ≡ seat.old.records }
@@ -37,7 +37,7 @@ fn give_inside<R: Wait>(rt: &R, seat: &mut Seat16, board: &Board, lock: u8) -> O
     requires giving { IsGiving (size_of board.now) lock seat.old.seat.me }
     ensures settled { IsSettledAt board.now seat.new }
     ensures given { HasGiven seat.old.seat.me lock seat.new.seat.me }
-    ensures first { result ≡ slice_get seat.old.seat.me.0.part.core.list 0 }
+    ensures first { result ≡ slice_get (view_of seat.old).list 0 }
     ensures records { seat.new.records ≡ seat.old.records }
 {
     for _ in rt.forever() {

@@ -1,7 +1,7 @@
 //! Into the guard of a lock. Who is inside it makes a few steps there and waits for nobody, so these spin.
 ghost use Rattle.std.specs.Prelude.{◌≡◌, ◌<◌, ◌==◌, [], not, true};
 ghost use Rattle.ww_view.specs.View.{owns};
-ghost use Rattle.ww_table.specs.Seat.{IsSeatOf, size_of};
+ghost use Rattle.ww_table.specs.Seat.{IsSeatOf, size_of, view_of};
 ghost use Rattle.ww_seat.specs.Orderly.{IsSettledAt};
 ghost use Rattle.ww_seat.specs.Guards.{IsGiving, IsStill};
 ghost use Rattle.ww_seat.specs.Looks.{IsOutside};
@@ -19,8 +19,8 @@ pub(crate) fn spin_into_wanted<R: Wait>(rt: &R, seat: &mut Seat16, board: &Board
     requires lock { lock < size_of board.now }
     requires outside { IsOutside (size_of board.now) lock seat.old.seat.me }
     ensures seat { IsSeatOf board.now seat.new }
-    ensures inside { IsAtWork (size_of board.now) lock seat.old.seat.me (not (seat.old.seat.me.0.part.core.waits == 0)) (not (seat.old.seat.me.0.part.core.waits == 0)) seat.new.seat.me }
-    ensures condemned { seat.new.seat.me.0.part.core.condemned ≡ [] }
+    ensures inside { IsAtWork (size_of board.now) lock seat.old.seat.me (not ((view_of seat.old).waits == 0)) (not ((view_of seat.old).waits == 0)) seat.new.seat.me }
+    ensures condemned { (view_of seat.new).condemned ≡ [] }
     ensures records { seat.new.records ≡ seat.old.records }
 {
     let pause = Pause::new();
@@ -38,7 +38,7 @@ pub(crate) fn spin_into_wanted<R: Wait>(rt: &R, seat: &mut Seat16, board: &Board
 pub(crate) fn spin_into_owned<R: Wait>(rt: &R, seat: &mut Seat16, board: &Board, lock: u8)
     requires settled { IsSettledAt board.now seat.old }
     requires lock { lock < size_of board.now }
-    requires owner { owns seat.old.seat.me.0.part.core lock ≡ true }
+    requires owner { owns (view_of seat.old) lock ≡ true }
     ensures seat { IsSeatOf board.now seat.new }
     ensures giving { IsGiving (size_of board.now) lock seat.new.seat.me }
     ensures still { IsStill seat.old.seat.me seat.new.seat.me }

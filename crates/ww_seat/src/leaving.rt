@@ -2,7 +2,7 @@
 ghost use Rattle.std.specs.Prelude.{ℕ, suc, ◌≡◌, ◌<◌};
 ghost use Rattle.ww_queue.specs.declared.kind.Kind.TheVariants.{WaitDie};
 ghost use Rattle.ww_view.specs.May.{LivesBySeen};
-ghost use Rattle.ww_table.specs.Seat.{IsSeatOf, size_of};
+ghost use Rattle.ww_table.specs.Seat.{IsSeatOf, size_of, view_of};
 ghost use Rattle.ww_rule.specs.Guards.{exiting};
 ghost use Rattle.ww_seat.specs.Orderly.{IsOrderly};
 ghost use Rattle.ww_seat.specs.Work.{MayGo, IsCleared};
@@ -13,8 +13,8 @@ use ww_table::{Board, Seat16};
 /// In Wait-Die a context takes its own sign back, where it has one. Inside a guard nobody can sign it again.
 fn take_sign_back(seat: &mut Seat16, board: &Board)
     requires seat { IsSeatOf board.now seat.old }
-    requires inside { (n : ℕ) × (seat.old.seat.me.0.part.core.inside ≡ suc n) }
-    requires lives { seat.old.seat.me.0.part.core.kind ≡ WaitDie → LivesBySeen seat.old.seat.me.0.part.core }
+    requires inside { (n : ℕ) × ((view_of seat.old).inside ≡ suc n) }
+    requires lives { (view_of seat.old).kind ≡ WaitDie → LivesBySeen (view_of seat.old) }
     ensures seat { IsSeatOf board.now seat.new }
     ensures records { seat.new.records ≡ seat.old.records }
     ensures cleared { IsCleared seat.old.seat.me seat.new.seat.me }
@@ -28,9 +28,9 @@ fn take_sign_back(seat: &mut Seat16, board: &Board)
 /// Takes the own sign back, where it isn't 0.
 fn clear_if_signed(seat: &mut Seat16, board: &Board)
     requires seat { IsSeatOf board.now seat.old }
-    requires kind { seat.old.seat.me.0.part.core.kind ≡ WaitDie }
-    requires inside { (n : ℕ) × (seat.old.seat.me.0.part.core.inside ≡ suc n) }
-    requires lives { LivesBySeen seat.old.seat.me.0.part.core }
+    requires kind { (view_of seat.old).kind ≡ WaitDie }
+    requires inside { (n : ℕ) × ((view_of seat.old).inside ≡ suc n) }
+    requires lives { LivesBySeen (view_of seat.old) }
     ensures seat { IsSeatOf board.now seat.new }
     ensures records { seat.new.records ≡ seat.old.records }
     ensures cleared { IsCleared seat.old.seat.me seat.new.seat.me }
@@ -49,7 +49,7 @@ pub(crate) fn leave(seat: &mut Seat16, board: &Board, lock: u8)
     requires seat { IsSeatOf board.now seat.old }
     requires lock { lock < size_of board.now }
     requires orderly { IsOrderly (size_of board.now) seat.old.seat.me }
-    requires may { MayGo lock seat.old.seat.me.0.part.core }
+    requires may { MayGo lock (view_of seat.old) }
     ensures seat { IsSeatOf board.now seat.new }
     ensures records { seat.new.records ≡ seat.old.records }
     ensures orderly { IsOrderly (size_of board.now) seat.new.seat.me }

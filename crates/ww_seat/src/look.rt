@@ -1,6 +1,6 @@
 //! One look at a lock: from just inside its guard to just outside.
 ghost use Rattle.std.specs.Prelude.{ℕ, ◌≡◌, ◌≢◌, ◌<◌, ◌+◌, ◌⊎◌, true, false, Some, None, IfSome, IfNone};
-ghost use Rattle.ww_table.specs.Seat.{IsSeatOf, size_of};
+ghost use Rattle.ww_table.specs.Seat.{IsSeatOf, size_of, view_of};
 ghost use Rattle.ww_seat.specs.Orderly.{IsOrderly};
 ghost use Rattle.ww_seat.specs.Looks.{IsLook, MayLookSo};
 ghost use Rattle.ww_seat.specs.Work.{AreWoken, KeepsMarks, IsWorking, IsAtWork};
@@ -53,16 +53,16 @@ pub fn look_once(
     requires seat { IsSeatOf board.now seat.old }
     requires lock { lock < size_of board.now }
     requires orderly { IsOrderly (size_of board.now) seat.old.seat.me }
-    requires work { IsWorking lock stands.old is_later seat.old.seat.me.0.part.core }
-    requires woken { AreWoken seat.old.seat.me.0.part.core wake.old.seats }
+    requires work { IsWorking lock stands.old is_later (view_of seat.old) }
+    requires woken { AreWoken (view_of seat.old) wake.old.seats }
     ensures seat { IsSeatOf board.now seat.new }
     ensures records { seat.new.records ≡ seat.old.records }
     ensures look { IfSome result (λ look. IsLook (size_of board.now) lock seat.old.seat.me look seat.new.seat.me) }
     ensures heeds { IfSome result (MayLookSo heeds) }
-    ensures tries { IfSome result (λ _. seat.new.seat.me.0.part.core.tries ≡ seat.old.seat.me.0.part.core.tries) }
+    ensures tries { IfSome result (λ _. (view_of seat.new).tries ≡ (view_of seat.old).tries) }
     ensures lost { IfNone result (IsAtWork (size_of board.now) lock seat.old.seat.me stands.new is_later seat.new.seat.me) }
-    ensures attempted { seat.new.seat.me.0.part.core.attempts ≡ seat.old.seat.me.0.part.core.attempts + 1 }
-    ensures woken { AreWoken seat.new.seat.me.0.part.core wake.new.seats }
+    ensures attempted { (view_of seat.new).attempts ≡ (view_of seat.old).attempts + 1 }
+    ensures woken { AreWoken (view_of seat.new) wake.new.seats }
     ensures kept { KeepsMarks wake.old.seats wake.new.seats }
 {
     let seen = seat.look(board, lock);
@@ -94,14 +94,14 @@ pub(crate) fn look_at<R: Wait>(
     requires seat { IsSeatOf board.now seat.old }
     requires lock { lock < size_of board.now }
     requires orderly { IsOrderly (size_of board.now) seat.old.seat.me }
-    requires work { IsWorking lock is_later is_later seat.old.seat.me.0.part.core }
-    requires woken { AreWoken seat.old.seat.me.0.part.core wake.old.seats }
+    requires work { IsWorking lock is_later is_later (view_of seat.old) }
+    requires woken { AreWoken (view_of seat.old) wake.old.seats }
     ensures seat { IsSeatOf board.now seat.new }
     ensures records { seat.new.records ≡ seat.old.records }
     ensures look { IsLook (size_of board.now) lock seat.old.seat.me result seat.new.seat.me }
     ensures heeds { MayLookSo heeds result }
-    ensures tries { seat.new.seat.me.0.part.core.tries ≡ seat.old.seat.me.0.part.core.tries }
-    ensures woken { AreWoken seat.new.seat.me.0.part.core wake.new.seats }
+    ensures tries { (view_of seat.new).tries ≡ (view_of seat.old).tries }
+    ensures woken { AreWoken (view_of seat.new) wake.new.seats }
 {
     let mut stands = is_later;
     for _ in rt.forever() {

@@ -2,7 +2,7 @@
 ghost use Rattle.std.specs.Prelude.{suc, ◌≡◌, ◌<◌, Bool, Some, true, IfSome, IfNone};
 ghost use Rattle.ww_word.specs.Owner.{IsValid};
 ghost use Rattle.ww_view.specs.May.{MayDie};
-ghost use Rattle.ww_table.specs.Seat.{IsSeatOf, size_of};
+ghost use Rattle.ww_table.specs.Seat.{IsSeatOf, size_of, view_of};
 ghost use Rattle.ww_rule.specs.Guards.{AreSeats};
 ghost use Rattle.ww_seat.specs.Orderly.{IsOrderly};
 ghost use Rattle.ww_seat.specs.Work.{AreWoken, KeepsMarks, HasSigned, IsTold, IsWorking, SeesOther, MayStay};
@@ -18,15 +18,15 @@ pub(crate) fn sign_all(seat: &mut Seat16, board: &Board, lock: u8, seen: Owner, 
     requires seat { IsSeatOf board.now seat.old }
     requires lock { lock < size_of board.now }
     requires orderly { IsOrderly (size_of board.now) seat.old.seat.me }
-    requires inside { seat.old.seat.me.0.part.core.inside ≡ suc lock }
-    requires seats { AreSeats seat.old.seat.me.0.part.core.list }
+    requires inside { (view_of seat.old).inside ≡ suc lock }
+    requires seats { AreSeats (view_of seat.old).list }
     requires valid { IsValid seen }
-    requires seen { seat.old.seat.me.0.part.core.seen ≡ Some seen }
-    requires woken { AreWoken seat.old.seat.me.0.part.core wake.old.seats }
+    requires seen { (view_of seat.old).seen ≡ Some seen }
+    requires woken { AreWoken (view_of seat.old) wake.old.seats }
     ensures seat { IsSeatOf board.now seat.new }
     ensures records { seat.new.records ≡ seat.old.records }
     ensures signed { HasSigned (size_of board.now) seen seat.old.seat.me seat.new.seat.me }
-    ensures woken { AreWoken seat.new.seat.me.0.part.core wake.new.seats }
+    ensures woken { AreWoken (view_of seat.new) wake.new.seats }
     ensures kept { KeepsMarks wake.old.seats wake.new.seats }
 {
     let who = seat.who();
@@ -43,13 +43,13 @@ pub(crate) fn death(seat: &mut Seat16, board: &Board, lock: u8, seen: Owner) -> 
     requires seat { IsSeatOf board.now seat.old }
     requires lock { lock < size_of board.now }
     requires orderly { IsOrderly (size_of board.now) seat.old.seat.me }
-    requires work { (l : Bool) × IsWorking lock true l seat.old.seat.me.0.part.core }
-    requires seen { SeesOther seen seat.old.seat.me.0.part.core }
+    requires work { (l : Bool) × IsWorking lock true l (view_of seat.old) }
+    requires seen { SeesOther seen (view_of seat.old) }
     ensures seat { IsSeatOf board.now seat.new }
     ensures records { seat.new.records ≡ seat.old.records }
     ensures told { IsTold (size_of board.now) seat.old.seat.me seat.new.seat.me }
-    ensures death { IfSome result (λ k. MayDie seat.new.seat.me.0.part.core lock seen k) }
-    ensures life { IfNone result (MayStay seen seat.new.seat.me.0.part.core) }
+    ensures death { IfSome result (λ k. MayDie (view_of seat.new) lock seen k) }
+    ensures life { IfNone result (MayStay seen (view_of seat.new)) }
 {
     match seat.kind() {
         Kind::WaitDie => seat.must_die(board, lock, seen, 0),

@@ -2,7 +2,7 @@
 ghost use Rattle.std.specs.Prelude.{ℕ, ◌≡◌, ◌≢◌, ◌<◌, Bool, true, false, Some, None, IfSome, IfNone};
 ghost use Rattle.ww_word.specs.Owner.{IsValid};
 ghost use Rattle.ww_view.specs.May.{MayDie};
-ghost use Rattle.ww_table.specs.Seat.{IsSeatOf, size_of};
+ghost use Rattle.ww_table.specs.Seat.{IsSeatOf, size_of, view_of};
 ghost use Rattle.ww_seat.specs.declared.look.Look.TheVariants.{Deadlk};
 ghost use Rattle.ww_seat.specs.Orderly.{IsOrderly};
 ghost use Rattle.ww_seat.specs.Looks.{IsLook, MayLookSo};
@@ -27,8 +27,8 @@ pub(crate) fn stand(
     requires seat { IsSeatOf board.now seat.old }
     requires lock { lock < size_of board.now }
     requires orderly { IsOrderly (size_of board.now) seat.old.seat.me }
-    requires work { (l : Bool) × IsWorking lock stands l seat.old.seat.me.0.part.core }
-    requires seen { SeesOther seen seat.old.seat.me.0.part.core }
+    requires work { (l : Bool) × IsWorking lock stands l (view_of seat.old) }
+    requires seen { SeesOther seen (view_of seat.old) }
     ensures seat { IsSeatOf board.now seat.new }
     ensures records { seat.new.records ≡ seat.old.records }
     ensures stands { IfSome result (λ word. HasStood (size_of board.now) lock stands seen seat.old.seat.me word seat.new.seat.me) }
@@ -56,13 +56,13 @@ fn ask_if_first(
     requires seat { IsSeatOf board.now seat.old }
     requires lock { lock < size_of board.now }
     requires orderly { IsOrderly (size_of board.now) seat.old.seat.me }
-    requires work { IsWorking lock true is_later seat.old.seat.me.0.part.core }
-    requires seen { SeesOther seen seat.old.seat.me.0.part.core }
+    requires work { IsWorking lock true is_later (view_of seat.old) }
+    requires seen { SeesOther seen (view_of seat.old) }
     requires flags { is_later ≡ true → seen.flags ≢ 0 }
     ensures seat { IsSeatOf board.now seat.new }
     ensures records { seat.new.records ≡ seat.old.records }
     ensures touched { IsTouched (size_of board.now) seat.old.seat.me seat.new.seat.me }
-    ensures asked { IfSome result (λ word. HasAsked word is_later seat.new.seat.me.0.part.core) }
+    ensures asked { IfSome result (λ word. HasAsked word is_later (view_of seat.new)) }
 {
     if !is_later {
         return Some(seen);
@@ -88,13 +88,13 @@ fn back_off(seat: &mut Seat16, board: &Board, lock: u8, seen: Owner) -> bool
     requires seat { IsSeatOf board.now seat.old }
     requires lock { lock < size_of board.now }
     requires orderly { IsOrderly (size_of board.now) seat.old.seat.me }
-    requires work { (l : Bool) × IsWorking lock true l seat.old.seat.me.0.part.core }
+    requires work { (l : Bool) × IsWorking lock true l (view_of seat.old) }
     requires valid { IsValid seen }
-    requires may { (k : ℕ) × MayDie seat.old.seat.me.0.part.core lock seen k }
+    requires may { (k : ℕ) × MayDie (view_of seat.old) lock seen k }
     ensures seat { IsSeatOf board.now seat.new }
     ensures records { seat.new.records ≡ seat.old.records }
-    ensures met { result ≡ true → (k : ℕ) → MayDie seat.old.seat.me.0.part.core lock seen k → IsLook (size_of board.now) lock seat.old.seat.me (Deadlk k) seat.new.seat.me }
-    ensures tries { result ≡ true → seat.new.seat.me.0.part.core.tries ≡ seat.old.seat.me.0.part.core.tries }
+    ensures met { result ≡ true → (k : ℕ) → MayDie (view_of seat.old) lock seen k → IsLook (size_of board.now) lock seat.old.seat.me (Deadlk k) seat.new.seat.me }
+    ensures tries { result ≡ true → (view_of seat.new).tries ≡ (view_of seat.old).tries }
     ensures lost { result ≡ false → IsTouched (size_of board.now) seat.old.seat.me seat.new.seat.me }
     ensures condemned { HasCondemnedNone seat.old.seat.me seat.new.seat.me }
 {
@@ -118,18 +118,18 @@ pub(crate) fn stay_or_back_off(
     requires seat { IsSeatOf board.now seat.old }
     requires lock { lock < size_of board.now }
     requires orderly { IsOrderly (size_of board.now) seat.old.seat.me }
-    requires work { IsWorking lock true is_later seat.old.seat.me.0.part.core }
-    requires seen { SeesOther seen seat.old.seat.me.0.part.core }
+    requires work { IsWorking lock true is_later (view_of seat.old) }
+    requires seen { SeesOther seen (view_of seat.old) }
     requires flags { is_later ≡ true → seen.flags ≢ 0 }
-    requires woken { AreWoken seat.old.seat.me.0.part.core wake.old.seats }
+    requires woken { AreWoken (view_of seat.old) wake.old.seats }
     ensures seat { IsSeatOf board.now seat.new }
     ensures records { seat.new.records ≡ seat.old.records }
     ensures look { IfSome result (λ look. IsLook (size_of board.now) lock seat.old.seat.me look seat.new.seat.me) }
     ensures heeds { IfSome result (MayLookSo false) }
-    ensures tries { IfSome result (λ _. seat.new.seat.me.0.part.core.tries ≡ seat.old.seat.me.0.part.core.tries) }
+    ensures tries { IfSome result (λ _. (view_of seat.new).tries ≡ (view_of seat.old).tries) }
     ensures lost { IfNone result (IsAtWork (size_of board.now) lock seat.old.seat.me true is_later seat.new.seat.me) }
-    ensures attempts { seat.new.seat.me.0.part.core.attempts ≡ seat.old.seat.me.0.part.core.attempts }
-    ensures woken { AreWoken seat.new.seat.me.0.part.core wake.new.seats }
+    ensures attempts { (view_of seat.new).attempts ≡ (view_of seat.old).attempts }
+    ensures woken { AreWoken (view_of seat.new) wake.new.seats }
     ensures kept { KeepsMarks wake.old.seats wake.new.seats }
 {
     let word = ask_if_first(seat, board, lock, seen, is_later)?;

@@ -3,7 +3,7 @@
 
 ghost use Rattle.std.specs.Prelude.{◌≡◌, ◌<◌, ◌≤◌, ◌+◌};
 ghost use Rattle.ww_view.specs.View.{IsAway};
-ghost use Rattle.ww_table.specs.Seat.{IsSeatOf, size_of};
+ghost use Rattle.ww_table.specs.Seat.{IsSeatOf, size_of, view_of};
 ghost use Rattle.ww_seat.specs.Looks.{HasGlanced};
 
 use crate::patience::Patience;
@@ -56,8 +56,8 @@ fn is_same(before: Owner, now: Owner) -> bool {
 fn watch(seat: &mut Seat16, board: &Board, lock: u8, glances: u32, first: u32, most: u32)
     requires seat { IsSeatOf board.now seat.old }
     requires lock { lock < size_of board.now }
-    requires away { IsAway seat.old.seat.me.0.part.core }
-    requires few { seat.old.seat.me.0.part.core.glances + glances ≤ 16 }
+    requires away { IsAway (view_of seat.old) }
+    requires few { (view_of seat.old).glances + glances ≤ 16 }
     ensures seat { IsSeatOf board.now seat.new }
     ensures glanced { HasGlanced seat.old.seat.me seat.new.seat.me }
     ensures records { seat.new.records ≡ seat.old.records }
@@ -77,8 +77,8 @@ fn watch(seat: &mut Seat16, board: &Board, lock: u8, glances: u32, first: u32, m
 pub(crate) fn stay_away(seat: &mut Seat16, board: &Board, lock: u8, patience: &mut Patience)
     requires seat { IsSeatOf board.now seat.old }
     requires lock { lock < size_of board.now }
-    requires away { IsAway seat.old.seat.me.0.part.core }
-    requires tried { seat.old.seat.me.0.part.core.glances ≡ 0 }
+    requires away { IsAway (view_of seat.old) }
+    requires tried { (view_of seat.old).glances ≡ 0 }
     ensures seat { IsSeatOf board.now seat.new }
     ensures glanced { HasGlanced seat.old.seat.me seat.new.seat.me }
     ensures records { seat.new.records ≡ seat.old.records }

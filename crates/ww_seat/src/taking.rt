@@ -2,7 +2,7 @@
 ghost use Rattle.std.specs.Prelude.{◌≡◌, ◌<◌, ◌⊎◌, Bool, true, Some, None, IfSome, IfNone};
 ghost use Rattle.ww_word.specs.Owner.{IsValid, is_handed};
 ghost use Rattle.ww_view.specs.Word.{taken_word};
-ghost use Rattle.ww_table.specs.Seat.{IsSeatOf, size_of};
+ghost use Rattle.ww_table.specs.Seat.{IsSeatOf, size_of, view_of};
 ghost use Rattle.ww_rule.specs.Waiting.{HasListOnTop};
 ghost use Rattle.ww_rule.specs.Layout.{list_at};
 ghost use Rattle.ww_rule.specs.Out.{slot_of};
@@ -23,11 +23,11 @@ use ww_word::{Owner, WAITERS};
 fn own_word(seat: &mut Seat16, board: &Board, lock: u8) -> Owner
     requires seat { IsSeatOf board.now seat.old }
     requires lock { lock < size_of board.now }
-    requires list { slot_of seat.old.seat.me.1 (list_at lock) ≡ Some (Line seat.old.seat.me.0.part.core.list) }
+    requires list { slot_of seat.old.seat.me.1 (list_at lock) ≡ Some (Line (view_of seat.old).list) }
     ensures seat { IsSeatOf board.now seat.new }
     ensures records { seat.new.records ≡ seat.old.records }
     ensures read { HasListOnTop seat.old.seat.me lock seat.new.seat.me }
-    ensures word { result ≡ taken_word seat.old.seat.me.0.part.core.who seat.old.seat.me.0.part.core.stamp seat.old.seat.me.0.part.core.list }
+    ensures word { result ≡ taken_word (view_of seat.old).who (view_of seat.old).stamp (view_of seat.old).list }
     ensures valid { IsValid result }
 {
     let flags = match seat.first(board, lock) {
@@ -52,17 +52,17 @@ pub(crate) fn take_inside(
     requires seat { IsSeatOf board.now seat.old }
     requires lock { lock < size_of board.now }
     requires orderly { IsOrderly (size_of board.now) seat.old.seat.me }
-    requires work { (s l : Bool) × IsWorking lock s l seat.old.seat.me.0.part.core }
+    requires work { (s l : Bool) × IsWorking lock s l (view_of seat.old) }
     requires valid { IsValid seen }
-    requires free { (seen.seat ≡ None) ⊎ ((seen.seat ≡ Some seat.old.seat.me.0.part.core.who) × (is_handed seen ≡ true)) }
-    requires woken { AreWoken seat.old.seat.me.0.part.core wake.old.seats }
+    requires free { (seen.seat ≡ None) ⊎ ((seen.seat ≡ Some (view_of seat.old).who) × (is_handed seen ≡ true)) }
+    requires woken { AreWoken (view_of seat.old) wake.old.seats }
     ensures seat { IsSeatOf board.now seat.new }
     ensures records { seat.new.records ≡ seat.old.records }
     ensures took { IfSome result (λ x. IsLook (size_of board.now) lock seat.old.seat.me (Locked x) seat.new.seat.me) }
-    ensures tries { IfSome result (λ _. seat.new.seat.me.0.part.core.tries ≡ seat.old.seat.me.0.part.core.tries) }
+    ensures tries { IfSome result (λ _. (view_of seat.new).tries ≡ (view_of seat.old).tries) }
     ensures lost { IfNone result (IsTouched (size_of board.now) seat.old.seat.me seat.new.seat.me) }
-    ensures attempts { seat.new.seat.me.0.part.core.attempts ≡ seat.old.seat.me.0.part.core.attempts }
-    ensures woken { AreWoken seat.new.seat.me.0.part.core wake.new.seats }
+    ensures attempts { (view_of seat.new).attempts ≡ (view_of seat.old).attempts }
+    ensures woken { AreWoken (view_of seat.new) wake.new.seats }
     ensures kept { KeepsMarks wake.old.seats wake.new.seats }
 {
     if !seat.take(board, lock, seen) {

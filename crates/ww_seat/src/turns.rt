@@ -5,7 +5,7 @@ ghost use Rattle.std.specs.Option.{option_map};
 ghost use Rattle.ww_queue.specs.declared.entry.Entry.{Entry};
 ghost use Rattle.ww_view.specs.View.{owns};
 ghost use Rattle.ww_rule.specs.Cancels.{cancelling, finding_pending};
-ghost use Rattle.ww_table.specs.Seat.{IsSeatOf, size_of};
+ghost use Rattle.ww_table.specs.Seat.{IsSeatOf, size_of, view_of};
 ghost use Rattle.ww_seat.specs.Orderly.{IsSettledAt};
 ghost use Rattle.ww_seat.specs.Calls.{HasGiven};
 ghost use Rattle.ww_seat.specs.Guards.{IsGiving, IsStill};
@@ -21,11 +21,11 @@ pub fn enter_wanted(seat: &mut Seat16, board: &Board, lock: u8) -> bool
     requires lock { lock < size_of board.now }
     requires outside { IsOutside (size_of board.now) lock seat.old.seat.me }
     ensures seat { IsSeatOf board.now seat.new }
-    ensures inside { result ≡ true → IsAtWork (size_of board.now) lock seat.old.seat.me (not (seat.old.seat.me.0.part.core.waits == 0)) (not (seat.old.seat.me.0.part.core.waits == 0)) seat.new.seat.me }
-    ensures condemned { result ≡ true → seat.new.seat.me.0.part.core.condemned ≡ [] }
+    ensures inside { result ≡ true → IsAtWork (size_of board.now) lock seat.old.seat.me (not ((view_of seat.old).waits == 0)) (not ((view_of seat.old).waits == 0)) seat.new.seat.me }
+    ensures condemned { result ≡ true → (view_of seat.new).condemned ≡ [] }
     ensures outside { result ≡ false → IsOutside (size_of board.now) lock seat.new.seat.me }
-    ensures attempted { seat.new.seat.me.0.part.core.attempts ≡ seat.old.seat.me.0.part.core.attempts + 1 }
-    ensures waits { result ≡ false → seat.new.seat.me.0.part.core.waits ≡ seat.old.seat.me.0.part.core.waits }
+    ensures attempted { (view_of seat.new).attempts ≡ (view_of seat.old).attempts + 1 }
+    ensures waits { result ≡ false → (view_of seat.new).waits ≡ (view_of seat.old).waits }
     ensures still { result ≡ false → IsStill seat.old.seat.me seat.new.seat.me }
     ensures records { seat.new.records ≡ seat.old.records }
 {
@@ -36,7 +36,7 @@ pub fn enter_wanted(seat: &mut Seat16, board: &Board, lock: u8) -> bool
 pub fn give_at_once(seat: &mut Seat16, board: &Board, lock: u8) -> bool
     requires settled { IsSettledAt board.now seat.old }
     requires lock { lock < size_of board.now }
-    requires owner { owns seat.old.seat.me.0.part.core lock ≡ true }
+    requires owner { owns (view_of seat.old) lock ≡ true }
     ensures settled { IsSettledAt board.now seat.new }
     ensures given { result ≡ true → HasGiven seat.old.seat.me lock seat.new.seat.me }
     ensures still { result ≡ false → IsStill seat.old.seat.me seat.new.seat.me }
@@ -49,12 +49,12 @@ pub fn give_at_once(seat: &mut Seat16, board: &Board, lock: u8) -> bool
 pub fn enter_owned(seat: &mut Seat16, board: &Board, lock: u8) -> bool
     requires settled { IsSettledAt board.now seat.old }
     requires lock { lock < size_of board.now }
-    requires owner { owns seat.old.seat.me.0.part.core lock ≡ true }
+    requires owner { owns (view_of seat.old) lock ≡ true }
     ensures seat { IsSeatOf board.now seat.new }
     ensures giving { result ≡ true → IsGiving (size_of board.now) lock seat.new.seat.me }
     ensures settled { result ≡ false → IsSettledAt board.now seat.new }
     ensures still { IsStill seat.old.seat.me seat.new.seat.me }
-    ensures attempted { seat.new.seat.me.0.part.core.attempts ≡ seat.old.seat.me.0.part.core.attempts + 1 }
+    ensures attempted { (view_of seat.new).attempts ≡ (view_of seat.old).attempts + 1 }
     ensures records { seat.new.records ≡ seat.old.records }
 {
     seat.enter(board, lock)
@@ -68,12 +68,12 @@ pub fn give_on(seat: &mut Seat16, board: &Board, lock: u8) -> Option<Option<Entr
     ensures seat { IsSeatOf board.now seat.new }
     ensures settled { IfSome result (λ _. IsSettledAt board.now seat.new) }
     ensures given { IfSome result (λ _. HasGiven seat.old.seat.me lock seat.new.seat.me) }
-    ensures first { IfSome result (λ first. first ≡ slice_get seat.old.seat.me.0.part.core.list 0) }
-    ensures heir { IfSome result (λ first. seat.new.seat.me.0.part.core.heir ≡ option_map (λ (e : Entry). e.seat) first) }
-    ensures attempted { seat.new.seat.me.0.part.core.attempts ≡ seat.old.seat.me.0.part.core.attempts + 1 }
+    ensures first { IfSome result (λ first. first ≡ slice_get (view_of seat.old).list 0) }
+    ensures heir { IfSome result (λ first. (view_of seat.new).heir ≡ option_map (λ (e : Entry). e.seat) first) }
+    ensures attempted { (view_of seat.new).attempts ≡ (view_of seat.old).attempts + 1 }
     ensures giving { IfNone result (IsGiving (size_of board.now) lock seat.new.seat.me) }
     ensures still { IfNone result (IsStill seat.old.seat.me seat.new.seat.me) }
-    ensures list { IfNone result (seat.new.seat.me.0.part.core.list ≡ seat.old.seat.me.0.part.core.list) }
+    ensures list { IfNone result ((view_of seat.new).list ≡ (view_of seat.old).list) }
     ensures records { seat.new.records ≡ seat.old.records }
 {
     let seen = seat.look(board, lock);

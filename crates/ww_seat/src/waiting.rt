@@ -1,7 +1,7 @@
 ghost use Rattle.std.specs.Prelude.{◌≡◌, ◌<◌, ◌==◌, not, false, IfOk, IfErr};
 ghost use Rattle.ww_view.specs.View.{owns};
 ghost use Rattle.ww_view.specs.May.{WantsBase, WantsSigns};
-ghost use Rattle.ww_table.specs.Seat.{IsSeatOf, size_of};
+ghost use Rattle.ww_table.specs.Seat.{IsSeatOf, size_of, view_of};
 ghost use Rattle.ww_seat.specs.Orderly.{IsSettledAt};
 ghost use Rattle.ww_seat.specs.Calls.{HasTaken, IsTurnedAway, MayStop};
 ghost use Rattle.ww_seat.specs.Looks.{IsOutside, IsLook, MayLookSo};
@@ -40,15 +40,15 @@ pub fn wait_for<R: Wait>(
 ) -> Result<Node, Stop>
     requires settled { IsSettledAt board.now seat.old }
     requires lock { lock < size_of board.now }
-    requires lacks { owns seat.old.seat.me.0.part.core lock ≡ false }
-    requires base { WantsBase seat.old.seat.me.0.part.core }
-    requires signs { WantsSigns seat.old.seat.me.0.part.core }
-    requires tried { seat.old.seat.me.0.part.core.glances ≡ 0 }
+    requires lacks { owns (view_of seat.old) lock ≡ false }
+    requires base { WantsBase (view_of seat.old) }
+    requires signs { WantsSigns (view_of seat.old) }
+    requires tried { (view_of seat.old).glances ≡ 0 }
     ensures settled { IsSettledAt board.now seat.new }
     ensures ok { IfOk result (λ x. HasTaken seat.old.seat.me lock x seat.new.seat.me) }
     ensures err { IfErr result (λ why. IsTurnedAway seat.old.seat.me lock why seat.new.seat.me) }
     ensures heeds { IfErr result (MayStop heeds) }
-    ensures tries { seat.new.seat.me.0.part.core.tries ≡ seat.old.seat.me.0.part.core.tries }
+    ensures tries { (view_of seat.new).tries ≡ (view_of seat.old).tries }
     ensures records { seat.new.records ≡ seat.old.records }
 {
     stay_away(seat, board, lock, patience);
@@ -69,12 +69,12 @@ fn wait<R: Wait>(
     requires seat { IsSeatOf board.now seat.old }
     requires lock { lock < size_of board.now }
     requires outside { IsOutside (size_of board.now) lock seat.old.seat.me }
-    requires away { seat.old.seat.me.0.part.core.waits ≡ 0 }
+    requires away { (view_of seat.old).waits ≡ 0 }
     ensures settled { IsSettledAt board.now seat.new }
     ensures ok { IfOk result (λ x. HasTaken seat.old.seat.me lock x seat.new.seat.me) }
     ensures err { IfErr result (λ why. IsTurnedAway seat.old.seat.me lock why seat.new.seat.me) }
     ensures heeds { IfErr result (MayStop heeds) }
-    ensures tries { seat.new.seat.me.0.part.core.tries ≡ seat.old.seat.me.0.part.core.tries }
+    ensures tries { (view_of seat.new).tries ≡ (view_of seat.old).tries }
     ensures records { seat.new.records ≡ seat.old.records }
 {
     let mut is_later = false;
@@ -109,11 +109,11 @@ pub fn visit<R: Wait>(
     requires seat { IsSeatOf board.now seat.old }
     requires lock { lock < size_of board.now }
     requires outside { IsOutside (size_of board.now) lock seat.old.seat.me }
-    requires later { is_later ≡ not (seat.old.seat.me.0.part.core.waits == 0) }
+    requires later { is_later ≡ not ((view_of seat.old).waits == 0) }
     ensures seat { IsSeatOf board.now seat.new }
     ensures look { IsLook (size_of board.now) lock seat.old.seat.me result seat.new.seat.me }
     ensures heeds { MayLookSo heeds result }
-    ensures tries { seat.new.seat.me.0.part.core.tries ≡ seat.old.seat.me.0.part.core.tries }
+    ensures tries { (view_of seat.new).tries ≡ (view_of seat.old).tries }
     ensures records { seat.new.records ≡ seat.old.records }
 {
     spin_into_wanted(rt, seat, board, lock);

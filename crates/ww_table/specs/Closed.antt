@@ -19,12 +19,12 @@ use Rattle.ww_table.specs.declared.close.Rooms.{Rooms}
 use Rattle.ww_model.specs.Interrupts.{one_of}
 use Rattle.ww_rule.specs.Rule.{first_graph, own_of, times}
 use Rattle.ww_rule.specs.Records.{AreFree}
-use Rattle.ww_table.specs.Seat.{IsSeated}
+use Rattle.ww_table.specs.Seat.{IsSeated, view_of}
 
 -- a seat of the table that holds nothing
 pub record HasCome (table : TableId) (s : Seat16) : Type 0 where
   pub seated : IsSeated table s
-  pub bare : IsBare s.seat.me.0.part.core
+  pub bare : IsBare (view_of s)
   pub nothing : s.seat.me.1 ≡ []
 
 -- the seats of all numbers are there, and hold nothing

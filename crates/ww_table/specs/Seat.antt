@@ -2,6 +2,7 @@
 use Rattle.std.specs.Prelude.{ℕ, ◌≡◌, ◌<◌, ◌^◌, [], true, length}
 use Rattle.std.specs.List.{AllByRecursion}
 use Rattle.atomic_table.specs.Seated.{TableId}
+use Rattle.ww_view.specs.declared.view.View.{View}
 use Rattle.ww_rule.specs.declared.cells.Start.{Start}
 use Rattle.ww_rule.specs.Rule.{first_graph, first_part}
 use Rattle.ww_rule.specs.Steps.{seat_of}
@@ -9,14 +10,18 @@ use Rattle.ww_rule.specs.Out.{numbers_of}
 use Rattle.ww_table.specs.declared.board.Board.{Board}
 use Rattle.ww_table.specs.declared.seat.Seat16.{Seat16}
 
+-- what it knows of the table and of itself
+abbrev pub view_of : Seat16 → View
+view_of s = s.seat.me.0.part.core
+
 -- the seat is one of this table, and what it keeps beside its view is what the view says
 pub record IsSeated (table : TableId) (s : Seat16) : Type 0 where
   pub home : s.seat.table_id ≡ table
   pub seated : s.seat.me.0.seated ≡ true
-  pub kind : s.kind ≡ s.seat.me.0.part.core.kind
-  pub who : s.seat.me.0.part.core.who ≡ s.who
+  pub kind : s.kind ≡ (view_of s).kind
+  pub who : (view_of s).who ≡ s.who
   pub few : s.who < 16
-  pub stamp : s.seat.me.0.part.core.stamp ≡ s.stamp
+  pub stamp : (view_of s).stamp ≡ s.stamp
   pub small : s.stamp < 2 ^ 56
   pub order : s.order.items ≡ numbers_of s.seat.me.1
   pub records : s.records.items ≡ s.seat.me.0.part.own

@@ -1,7 +1,7 @@
 ghost use Rattle.std.specs.Prelude.{◌≡◌, ◌≢◌, ◌<◌, ◌≤◌, true, false};
 ghost use Rattle.ww_view.specs.View.{IsAway};
 ghost use Rattle.ww_view.specs.May.{MayHeed};
-ghost use Rattle.ww_table.specs.Seat.{IsSeatOf};
+ghost use Rattle.ww_table.specs.Seat.{IsSeatOf, view_of};
 ghost use Rattle.ww_rule.specs.Guards.{lost};
 ghost use Rattle.ww_rule.specs.Cancels.{cancelling, finding_pending, heeding};
 
@@ -16,7 +16,7 @@ impl Seat16 {
     pub fn set_cancel(&mut self, board: &Board, victim: u8) -> bool
         requires seat { IsSeatOf board.now self.old }
         requires victim { victim < 16 }
-        requires away { IsAway self.old.seat.me.0.part.core }
+        requires away { IsAway (view_of self.old) }
         ensures seat { IsSeatOf board.now self.new }
         ensures records { self.new.records ≡ self.old.records }
         ensures set { result ≡ true → self.new.seat.me ≡ (cancelling self.old.seat.me.0 victim, self.old.seat.me.1) }
@@ -31,7 +31,7 @@ impl Seat16 {
     /// where none is pending. Whoever found one gets out of that guard by `leave` alone.
     pub fn heed(&mut self, board: &Board, lock: u8) -> u64
         requires seat { IsSeatOf board.now self.old }
-        requires may { MayHeed self.old.seat.me.0.part.core lock }
+        requires may { MayHeed (view_of self.old) lock }
         ensures seat { IsSeatOf board.now self.new }
         ensures records { self.new.records ≡ self.old.records }
         ensures few { result ≤ 16 }

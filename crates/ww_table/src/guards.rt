@@ -6,7 +6,7 @@ ghost use Rattle.ww_view.specs.View.{owns};
 ghost use Rattle.ww_view.specs.May.{MayEnter, MayGlance, MayLeave};
 ghost use Rattle.ww_rule.specs.declared.cells.Cell.TheVariants.{Line};
 ghost use Rattle.ww_rule.specs.Layout.{list_at};
-ghost use Rattle.ww_table.specs.Seat.{IsSeated, IsSeatOf, size_of};
+ghost use Rattle.ww_table.specs.Seat.{IsSeated, IsSeatOf, size_of, view_of};
 ghost use Rattle.ww_rule.specs.Out.{AreOthers, numbers_of, slot_of};
 ghost use Rattle.ww_rule.specs.Guards.{AreSeats, StandsAs, shutting_out, entering, exiting, looking, glancing};
 ghost use Rattle.ww_rule.specs.Waiting.{HasListOnTop};
@@ -23,7 +23,7 @@ impl Seat16 {
     pub(crate) fn bring_list(&mut self, lock: u8) -> u8
         requires lock { lock < 64 }
         requires order { self.old.order.items ≡ numbers_of self.old.seat.me.1 }
-        requires list { slot_of self.old.seat.me.1 (list_at lock) ≡ Some (Line self.old.seat.me.0.part.core.list) }
+        requires list { slot_of self.old.seat.me.1 (list_at lock) ≡ Some (Line (view_of self.old).list) }
         ensures slot { result ≡ list_at lock }
         ensures same { self.new ≡ record self.old { seat = self.new.seat; order = self.new.order } }
         ensures seat { (t : TableId) → IsSeated t self.old → IsSeated t self.new }
@@ -38,11 +38,11 @@ impl Seat16 {
     pub fn enter(&mut self, board: &Board, lock: u8) -> bool
         requires seat { IsSeatOf board.now self.old }
         requires lock { lock < size_of board.now }
-        requires may { MayEnter self.old.seat.me.0.part.core lock }
+        requires may { MayEnter (view_of self.old) lock }
         requires room { length self.old.seat.me.1 < 65 }
         ensures seat { IsSeatOf board.now self.new }
         ensures records { self.new.records ≡ self.old.records }
-        ensures entered { result ≡ true → (q : List Entry) × AreSeats q × StandsAs self.old.seat.me.0.part.core lock q × (self.new.seat.me ≡ (entering self.old.seat.me.0 lock q, (list_at lock, Line q) ∷ self.old.seat.me.1)) }
+        ensures entered { result ≡ true → (q : List Entry) × AreSeats q × StandsAs (view_of self.old) lock q × (self.new.seat.me ≡ (entering self.old.seat.me.0 lock q, (list_at lock, Line q) ∷ self.old.seat.me.1)) }
         ensures lost { result ≡ false → self.new.seat.me ≡ (shutting_out self.old.seat.me.0, self.old.seat.me.1) }
     {
         let own = u64::from(self.who) + 1;
@@ -59,12 +59,12 @@ impl Seat16 {
     pub fn exit(&mut self, board: &Board, lock: u8)
         requires seat { IsSeatOf board.now self.old }
         requires lock { lock < size_of board.now }
-        requires may { MayLeave self.old.seat.me.0.part.core lock }
-        requires list { slot_of self.old.seat.me.1 (list_at lock) ≡ Some (Line self.old.seat.me.0.part.core.list) }
+        requires may { MayLeave (view_of self.old) lock }
+        requires list { slot_of self.old.seat.me.1 (list_at lock) ≡ Some (Line (view_of self.old).list) }
         ensures seat { IsSeatOf board.now self.new }
         ensures records { self.new.records ≡ self.old.records }
         ensures view { self.new.seat.me.0 ≡ exiting self.old.seat.me.0 }
-        ensures home { AreOthers self.old.seat.me.1 (list_at lock) (Line self.old.seat.me.0.part.core.list) self.new.seat.me.1 }
+        ensures home { AreOthers self.old.seat.me.1 (list_at lock) (Line (view_of self.old).list) self.new.seat.me.1 }
     {
         self.bring_list(lock);
         let shared = &board.table.shared;
@@ -76,13 +76,13 @@ impl Seat16 {
     pub fn look(&mut self, board: &Board, lock: u8) -> Owner
         requires seat { IsSeatOf board.now self.old }
         requires lock { lock < size_of board.now }
-        requires inside { self.old.seat.me.0.part.core.inside ≡ lock + 1 }
+        requires inside { (view_of self.old).inside ≡ lock + 1 }
         ensures seat { IsSeatOf board.now self.new }
         ensures records { self.new.records ≡ self.old.records }
         ensures looked { self.new.seat.me ≡ (looking self.old.seat.me.0 result, self.old.seat.me.1) }
         ensures valid { IsValid result }
-        ensures own { owns self.old.seat.me.0.part.core lock ≡ false → result.seat ≡ Some self.old.seat.me.0.part.core.who → is_handed result ≡ true }
-        ensures flags { self.old.seat.me.0.part.core.list ≢ [] → result.flags ≢ 0 }
+        ensures own { owns (view_of self.old) lock ≡ false → result.seat ≡ Some (view_of self.old).who → is_handed result ≡ true }
+        ensures flags { (view_of self.old).list ≢ [] → result.flags ≢ 0 }
     {
         let shared = &board.table.shared;
         let word = shared.load::<Look>(&mut self.seat, owner_word(lock));
@@ -97,7 +97,7 @@ impl Seat16 {
     pub fn glance(&mut self, board: &Board, lock: u8) -> Owner
         requires seat { IsSeatOf board.now self.old }
         requires lock { lock < size_of board.now }
-        requires may { MayGlance self.old.seat.me.0.part.core }
+        requires may { MayGlance (view_of self.old) }
         ensures seat { IsSeatOf board.now self.new }
         ensures records { self.new.records ≡ self.old.records }
         ensures glanced { self.new.seat.me ≡ (glancing self.old.seat.me.0, self.old.seat.me.1) }

@@ -8,7 +8,7 @@ ghost use Rattle.ww_word.specs.Owner.{IsValid};
 ghost use Rattle.ww_view.specs.Word.{given_word, rest_word};
 ghost use Rattle.ww_rule.specs.declared.cells.Cell.TheVariants.{Line};
 ghost use Rattle.ww_rule.specs.Layout.{list_at};
-ghost use Rattle.ww_table.specs.Seat.{IsSeatOf, size_of};
+ghost use Rattle.ww_table.specs.Seat.{IsSeatOf, size_of, view_of};
 ghost use Rattle.ww_rule.specs.Out.{slot_of};
 ghost use Rattle.ww_rule.specs.Waiting.{HasListOnTop};
 
@@ -24,10 +24,10 @@ impl Seat16 {
     pub fn must_die(&mut self, board: &Board, lock: u8, seen: Owner, sign: u64) -> Option<u64>
         requires seat { IsSeatOf board.now self.old }
         requires lock { lock < size_of board.now }
-        requires list { slot_of self.old.seat.me.1 (list_at lock) ≡ Some (Line self.old.seat.me.0.part.core.list) }
+        requires list { slot_of self.old.seat.me.1 (list_at lock) ≡ Some (Line (view_of self.old).list) }
         ensures seat { IsSeatOf board.now self.new }
         ensures read { HasListOnTop self.old.seat.me lock self.new.seat.me }
-        ensures death { result ≡ must_die self.old.kind seen self.old.seat.me.0.part.core.list self.old.who sign }
+        ensures death { result ≡ must_die self.old.kind seen (view_of self.old).list self.old.who sign }
         ensures records { self.new.records ≡ self.old.records }
     {
         let slot = self.bring_list(lock);
@@ -51,10 +51,10 @@ impl Seat16 {
     ) -> ArrayVec<(u8, u64), MAX_WAITERS>
         requires seat { IsSeatOf board.now self.old }
         requires lock { lock < size_of board.now }
-        requires list { slot_of self.old.seat.me.1 (list_at lock) ≡ Some (Line self.old.seat.me.0.part.core.list) }
+        requires list { slot_of self.old.seat.me.1 (list_at lock) ≡ Some (Line (view_of self.old).list) }
         ensures seat { IsSeatOf board.now self.new }
         ensures read { HasListOnTop self.old.seat.me lock self.new.seat.me }
-        ensures owed { result.items ≡ owed_signs self.old.kind seen self.old.seat.me.0.part.core.list self.old.who }
+        ensures owed { result.items ≡ owed_signs self.old.kind seen (view_of self.old).list self.old.who }
         ensures records { self.new.records ≡ self.old.records }
     {
         let slot = self.bring_list(lock);
@@ -72,10 +72,10 @@ impl Seat16 {
     pub fn first(&mut self, board: &Board, lock: u8) -> Option<Entry>
         requires seat { IsSeatOf board.now self.old }
         requires lock { lock < size_of board.now }
-        requires list { slot_of self.old.seat.me.1 (list_at lock) ≡ Some (Line self.old.seat.me.0.part.core.list) }
+        requires list { slot_of self.old.seat.me.1 (list_at lock) ≡ Some (Line (view_of self.old).list) }
         ensures seat { IsSeatOf board.now self.new }
         ensures read { HasListOnTop self.old.seat.me lock self.new.seat.me }
-        ensures first { result ≡ slice_get self.old.seat.me.0.part.core.list 0 }
+        ensures first { result ≡ slice_get (view_of self.old).list 0 }
         ensures records { self.new.records ≡ self.old.records }
     {
         let slot = self.bring_list(lock);
@@ -86,10 +86,10 @@ impl Seat16 {
     pub(crate) fn flag_left(&mut self, board: &Board, lock: u8) -> u8
         requires seat { IsSeatOf board.now self.old }
         requires lock { lock < size_of board.now }
-        requires list { slot_of self.old.seat.me.1 (list_at lock) ≡ Some (Line self.old.seat.me.0.part.core.list) }
+        requires list { slot_of self.old.seat.me.1 (list_at lock) ≡ Some (Line (view_of self.old).list) }
         ensures seat { IsSeatOf board.now self.new }
         ensures read { HasListOnTop self.old.seat.me lock self.new.seat.me }
-        ensures flag { result ≡ waiting (left self.old.seat.me.0.part.core.list self.old.seat.me.0.part.core.who) }
+        ensures flag { result ≡ waiting (left (view_of self.old).list (view_of self.old).who) }
         ensures same { self.new ≡ record self.old { seat = self.new.seat; order = self.new.order } }
     {
         let slot = self.bring_list(lock);
@@ -101,10 +101,10 @@ impl Seat16 {
         requires seat { IsSeatOf board.now self.old }
         requires lock { lock < size_of board.now }
         requires valid { IsValid seen }
-        requires list { slot_of self.old.seat.me.1 (list_at lock) ≡ Some (Line self.old.seat.me.0.part.core.list) }
+        requires list { slot_of self.old.seat.me.1 (list_at lock) ≡ Some (Line (view_of self.old).list) }
         ensures seat { IsSeatOf board.now self.new }
         ensures read { HasListOnTop self.old.seat.me lock self.new.seat.me }
-        ensures owner { result ≡ rest_word (left self.old.seat.me.0.part.core.list self.old.seat.me.0.part.core.who) seen }
+        ensures owner { result ≡ rest_word (left (view_of self.old).list (view_of self.old).who) seen }
         ensures valid { IsValid result }
         ensures same { self.new ≡ record self.old { seat = self.new.seat; order = self.new.order } }
     {
@@ -118,10 +118,10 @@ impl Seat16 {
     pub(crate) fn next_owner(&mut self, board: &Board, lock: u8, is_asked: bool) -> Owner
         requires seat { IsSeatOf board.now self.old }
         requires lock { lock < size_of board.now }
-        requires list { slot_of self.old.seat.me.1 (list_at lock) ≡ Some (Line self.old.seat.me.0.part.core.list) }
+        requires list { slot_of self.old.seat.me.1 (list_at lock) ≡ Some (Line (view_of self.old).list) }
         ensures seat { IsSeatOf board.now self.new }
         ensures read { HasListOnTop self.old.seat.me lock self.new.seat.me }
-        ensures owner { result ≡ given_word is_asked self.old.seat.me.0.part.core.list }
+        ensures owner { result ≡ given_word is_asked (view_of self.old).list }
         ensures same { self.new ≡ record self.old { seat = self.new.seat; order = self.new.order } }
     {
         let slot = self.bring_list(lock);

@@ -8,7 +8,7 @@ ghost use Rattle.ww_view.specs.May.{MayFast};
 ghost use Rattle.ww_view.specs.Made.{ended, fast_missed, has_read};
 ghost use Rattle.ww_rule.specs.declared.cells.Cell.{Cell};
 ghost use Rattle.ww_rule.specs.declared.cells.Cell.TheVariants.{Content};
-ghost use Rattle.ww_table.specs.Seat.{IsSeatOf, size_of};
+ghost use Rattle.ww_table.specs.Seat.{IsSeatOf, size_of, view_of};
 ghost use Rattle.ww_rule.specs.Out.{AreOthers, slot_of, numbers_of};
 ghost use Rattle.std.specs.Prelude.{ℕ, ◌^◌, List, nat_lt};
 ghost use Rattle.ww_word.specs.Owner.{packed};
@@ -103,12 +103,12 @@ impl Seat16 {
     pub fn take_free(&mut self, board: &Board, lock: u8) -> bool
         requires seat { IsSeatOf board.now self.old }
         requires lock { lock < size_of board.now }
-        requires may { MayFast self.old.seat.me.0.part.core }
+        requires may { MayFast (view_of self.old) }
         requires room { length self.old.seat.me.1 < 65 }
         ensures seat { IsSeatOf board.now self.new }
         ensures records { self.new.records ≡ self.old.records }
         ensures took { result ≡ true → (x : Node) × IsNodeOf (length self.old.seat.me.0.held) x × (self.new.seat.me ≡ (taking self.old.seat.me.0 lock x, (lock, Content x) ∷ self.old.seat.me.1)) }
-        ensures lost { result ≡ false → self.new.seat.me ≡ (knowing self.old.seat.me.0 (fast_missed self.old.seat.me.0.part.core), self.old.seat.me.1) }
+        ensures lost { result ≡ false → self.new.seat.me ≡ (knowing self.old.seat.me.0 (fast_missed (view_of self.old)), self.old.seat.me.1) }
     {
         let own = self.word();
         let shared = &board.table.shared;
@@ -124,8 +124,8 @@ impl Seat16 {
     pub fn give_free(&mut self, board: &Board, lock: u8) -> bool
         requires seat { IsSeatOf board.now self.old }
         requires lock { lock < size_of board.now }
-        requires away { IsAway self.old.seat.me.0.part.core }
-        requires owner { owns self.old.seat.me.0.part.core lock ≡ true }
+        requires away { IsAway (view_of self.old) }
+        requires owner { owns (view_of self.old) lock ≡ true }
         requires out { (x : Node) × (slot_of self.old.seat.me.1 lock ≡ Some (Content x)) × (get_elem? self.old.seat.me.0.held lock ≡ some (Some x)) }
         ensures seat { IsSeatOf board.now self.new }
         ensures records { self.new.records ≡ self.old.records }
@@ -146,13 +146,13 @@ impl Seat16 {
     /// Ends the context, if its own sign word is 0.
     pub fn end(&mut self, board: &Board) -> bool
         requires seat { IsSeatOf board.now self.old }
-        requires may { MayEnd self.old.seat.me.0.part.core }
+        requires may { MayEnd (view_of self.old) }
         ensures seat { IsSeatOf board.now self.new }
         ensures records { self.new.records ≡ self.old.records }
-        ensures ended { result ≡ true → self.new.seat.me ≡ (knowing self.old.seat.me.0 (ended self.old.seat.me.0.part.core), self.old.seat.me.1) }
-        ensures signed { result ≡ false → (k : ℕ) × (0 < k) × (self.new.seat.me ≡ (knowing self.old.seat.me.0 (has_read self.old.seat.me.0.part.core k), self.old.seat.me.1)) }
-        ensures known { (k : ℕ) → self.old.seat.me.0.part.core.sign ≡ Some k → 0 < k → result ≡ false }
-        ensures unsigned { self.old.seat.me.0.part.core.sign ≡ Some 0 → result ≡ true }
+        ensures ended { result ≡ true → self.new.seat.me ≡ (knowing self.old.seat.me.0 (ended (view_of self.old)), self.old.seat.me.1) }
+        ensures signed { result ≡ false → (k : ℕ) × (0 < k) × (self.new.seat.me ≡ (knowing self.old.seat.me.0 (has_read (view_of self.old) k), self.old.seat.me.1)) }
+        ensures known { (k : ℕ) → (view_of self.old).sign ≡ Some k → 0 < k → result ≡ false }
+        ensures unsigned { (view_of self.old).sign ≡ Some 0 → result ≡ true }
     {
         let sign = board
             .table

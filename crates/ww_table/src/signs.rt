@@ -1,7 +1,7 @@
 ghost use Rattle.std.specs.Prelude.{◌≡◌, ◌≢◌, ◌<◌, true, false};
 ghost use Rattle.ww_view.specs.View.{IsQuiet};
 ghost use Rattle.ww_view.specs.May.{MayClear, MaySign};
-ghost use Rattle.ww_table.specs.Seat.{IsSeatOf};
+ghost use Rattle.ww_table.specs.Seat.{IsSeatOf, view_of};
 ghost use Rattle.ww_rule.specs.Signs.{condemning, noting, reading, finding_none, clearing};
 
 use crate::board::Board;
@@ -15,7 +15,7 @@ impl Seat16 {
     pub fn sign(&mut self, board: &Board, lock: u8, victim: u8, stamp: u64) -> bool
         requires seat { IsSeatOf board.now self.old }
         requires victim { victim < 16 }
-        requires may { MaySign self.old.seat.me.0.part.core lock victim stamp }
+        requires may { MaySign (view_of self.old) lock victim stamp }
         ensures seat { IsSeatOf board.now self.new }
         ensures records { self.new.records ≡ self.old.records }
         ensures condemned { result ≡ true → self.new.seat.me ≡ (condemning self.old.seat.me.0 victim, self.old.seat.me.1) }
@@ -32,8 +32,8 @@ impl Seat16 {
         ensures seat { IsSeatOf board.now self.new }
         ensures records { self.new.records ≡ self.old.records }
         ensures signed { result ≢ 0 → self.new.seat.me ≡ (reading self.old.seat.me.0 result, self.old.seat.me.1) }
-        ensures quiet { result ≡ 0 → IsQuiet self.old.seat.me.0.part.core → self.new.seat.me ≡ (reading self.old.seat.me.0 0, self.old.seat.me.1) }
-        ensures unsigned { result ≡ 0 → ¬ IsQuiet self.old.seat.me.0.part.core → self.new.seat.me ≡ (finding_none self.old.seat.me.0, self.old.seat.me.1) }
+        ensures quiet { result ≡ 0 → IsQuiet (view_of self.old) → self.new.seat.me ≡ (reading self.old.seat.me.0 0, self.old.seat.me.1) }
+        ensures unsigned { result ≡ 0 → ¬ IsQuiet (view_of self.old) → self.new.seat.me ≡ (finding_none self.old.seat.me.0, self.old.seat.me.1) }
     {
         let shared = &board.table.shared;
         shared.load::<OwnSign>(&mut self.seat, sign_word(self.who))
@@ -42,7 +42,7 @@ impl Seat16 {
     /// Takes the own sign back. A store costs as much as any other locked step, so it is for a seat that found a sign.
     pub fn clear(&mut self, board: &Board)
         requires seat { IsSeatOf board.now self.old }
-        requires may { MayClear self.old.seat.me.0.part.core }
+        requires may { MayClear (view_of self.old) }
         ensures seat { IsSeatOf board.now self.new }
         ensures records { self.new.records ≡ self.old.records }
         ensures cleared { self.new.seat.me ≡ (clearing self.old.seat.me.0, self.old.seat.me.1) }

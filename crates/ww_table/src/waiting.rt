@@ -13,7 +13,7 @@ ghost use Rattle.ww_view.specs.Made.{died, interrupted, queued, taken};
 ghost use Rattle.ww_rule.specs.declared.cells.Cell.{Cell};
 ghost use Rattle.ww_rule.specs.declared.cells.Cell.TheVariants.{Content, Line};
 ghost use Rattle.ww_rule.specs.Layout.{list_at};
-ghost use Rattle.ww_table.specs.Seat.{IsSeatOf, size_of};
+ghost use Rattle.ww_table.specs.Seat.{IsSeatOf, size_of, view_of};
 ghost use Rattle.ww_rule.specs.Out.{AreOthers, slot_of};
 ghost use Rattle.ww_rule.specs.Guards.{AreSeats, lost};
 ghost use Rattle.ww_rule.specs.Waiting.{IsOut, joining, taking_inside, giving_inside, asking, dying};
@@ -35,14 +35,14 @@ impl Seat16 {
     pub fn join(&mut self, board: &Board, lock: u8, seen: Owner) -> bool
         requires seat { IsSeatOf board.now self.old }
         requires lock { lock < size_of board.now }
-        requires may { MayJoin self.old.seat.me.0.part.core lock seen }
+        requires may { MayJoin (view_of self.old) lock seen }
         requires valid { IsValid seen }
-        requires list { slot_of self.old.seat.me.1 (list_at lock) ≡ Some (Line self.old.seat.me.0.part.core.list) }
-        requires nodes { any_below 64 (owns self.old.seat.me.0.part.core) ≡ nat_lt 1 (length self.old.seat.me.1) }
+        requires list { slot_of self.old.seat.me.1 (list_at lock) ≡ Some (Line (view_of self.old).list) }
+        requires nodes { any_below 64 (owns (view_of self.old)) ≡ nat_lt 1 (length self.old.seat.me.1) }
         ensures seat { IsSeatOf board.now self.new }
         ensures records { self.new.records ≡ self.old.records }
-        ensures sure { self.old.seat.me.0.part.core.list ≢ [] → self.old.seat.me.0.part.core.seen ≡ Some seen → result ≡ true }
-        ensures joined { result ≡ true → (others : List (ℕ × Cell)) × AreOthers self.old.seat.me.1 (list_at lock) (Line self.old.seat.me.0.part.core.list) others × (self.new.seat.me ≡ (joining self.old.seat.me.0 lock seen, (list_at lock, Line (queued self.old.seat.me.0.part.core lock seen).list) ∷ others)) }
+        ensures sure { (view_of self.old).list ≢ [] → (view_of self.old).seen ≡ Some seen → result ≡ true }
+        ensures joined { result ≡ true → (others : List (ℕ × Cell)) × AreOthers self.old.seat.me.1 (list_at lock) (Line (view_of self.old).list) others × (self.new.seat.me ≡ (joining self.old.seat.me.0 lock seen, (list_at lock, Line (queued (view_of self.old) lock seen).list) ∷ others)) }
         ensures lost { result ≡ false → self.new.seat.me ≡ (lost self.old.seat.me.0, self.old.seat.me.1) }
     {
         let shared = &board.table.shared;
@@ -67,11 +67,11 @@ impl Seat16 {
     pub fn ask(&mut self, board: &Board, lock: u8, seen: Owner) -> bool
         requires seat { IsSeatOf board.now self.old }
         requires lock { lock < size_of board.now }
-        requires may { MayAsk self.old.seat.me.0.part.core lock seen }
+        requires may { MayAsk (view_of self.old) lock seen }
         requires valid { IsValid seen }
         ensures seat { IsSeatOf board.now self.new }
         ensures records { self.new.records ≡ self.old.records }
-        ensures sure { self.old.seat.me.0.part.core.list ≢ [] → self.old.seat.me.0.part.core.seen ≡ Some seen → result ≡ true }
+        ensures sure { (view_of self.old).list ≢ [] → (view_of self.old).seen ≡ Some seen → result ≡ true }
         ensures asked { result ≡ true → self.new.seat.me ≡ (asking self.old.seat.me.0 seen, self.old.seat.me.1) }
         ensures lost { result ≡ false → self.new.seat.me ≡ (lost self.old.seat.me.0, self.old.seat.me.1) }
     {
@@ -89,15 +89,15 @@ impl Seat16 {
     pub fn take(&mut self, board: &Board, lock: u8, seen: Owner) -> bool
         requires seat { IsSeatOf board.now self.old }
         requires lock { lock < size_of board.now }
-        requires may { MayTake self.old.seat.me.0.part.core lock seen }
+        requires may { MayTake (view_of self.old) lock seen }
         requires valid { IsValid seen }
-        requires list { slot_of self.old.seat.me.1 (list_at lock) ≡ Some (Line self.old.seat.me.0.part.core.list) }
+        requires list { slot_of self.old.seat.me.1 (list_at lock) ≡ Some (Line (view_of self.old).list) }
         requires room { length self.old.seat.me.1 < 65 }
         ensures seat { IsSeatOf board.now self.new }
         ensures records { self.new.records ≡ self.old.records }
-        ensures sure { self.old.seat.me.0.part.core.list ≢ [] → self.old.seat.me.0.part.core.seen ≡ Some seen → result ≡ true }
-        ensures took { result ≡ true → (x : Node) × (others : List (ℕ × Cell)) × IsNodeOf (length self.old.seat.me.0.held) x × AreOthers self.old.seat.me.1 (list_at lock) (Line self.old.seat.me.0.part.core.list) others × (self.new.seat.me ≡ (taking_inside self.old.seat.me.0 lock x, (list_at lock, Line (taken self.old.seat.me.0.part.core lock).list) ∷ (lock, Content x) ∷ others)) }
-        ensures lost { result ≡ false → (others : List (ℕ × Cell)) × AreOthers self.old.seat.me.1 (list_at lock) (Line self.old.seat.me.0.part.core.list) others × (self.new.seat.me ≡ (lost self.old.seat.me.0, (list_at lock, Line self.old.seat.me.0.part.core.list) ∷ others)) }
+        ensures sure { (view_of self.old).list ≢ [] → (view_of self.old).seen ≡ Some seen → result ≡ true }
+        ensures took { result ≡ true → (x : Node) × (others : List (ℕ × Cell)) × IsNodeOf (length self.old.seat.me.0.held) x × AreOthers self.old.seat.me.1 (list_at lock) (Line (view_of self.old).list) others × (self.new.seat.me ≡ (taking_inside self.old.seat.me.0 lock x, (list_at lock, Line (taken (view_of self.old) lock).list) ∷ (lock, Content x) ∷ others)) }
+        ensures lost { result ≡ false → (others : List (ℕ × Cell)) × AreOthers self.old.seat.me.1 (list_at lock) (Line (view_of self.old).list) others × (self.new.seat.me ≡ (lost self.old.seat.me.0, (list_at lock, Line (view_of self.old).list) ∷ others)) }
     {
         let flags = self.flag_left(board, lock);
         let old = pack(seen);
@@ -123,15 +123,15 @@ impl Seat16 {
     pub fn die(&mut self, board: &Board, lock: u8, seen: Owner) -> bool
         requires seat { IsSeatOf board.now self.old }
         requires lock { lock < size_of board.now }
-        requires may { (k : ℕ) × MayDie self.old.seat.me.0.part.core lock seen k }
+        requires may { (k : ℕ) × MayDie (view_of self.old) lock seen k }
         requires valid { IsValid seen }
-        requires list { slot_of self.old.seat.me.1 (list_at lock) ≡ Some (Line self.old.seat.me.0.part.core.list) }
+        requires list { slot_of self.old.seat.me.1 (list_at lock) ≡ Some (Line (view_of self.old).list) }
         ensures seat { IsSeatOf board.now self.new }
         ensures records { self.new.records ≡ self.old.records }
-        ensures older { (k : ℕ) → MayDie self.old.seat.me.0.part.core lock seen k → k < self.old.seat.me.0.part.core.stamp }
-        ensures sure { self.old.seat.me.0.part.core.list ≢ [] → self.old.seat.me.0.part.core.seen ≡ Some seen → result ≡ true }
-        ensures died { result ≡ true → (others : List (ℕ × Cell)) × AreOthers self.old.seat.me.1 (list_at lock) (Line self.old.seat.me.0.part.core.list) others × (self.new.seat.me ≡ (dying self.old.seat.me.0 seen, (list_at lock, Line (died self.old.seat.me.0.part.core seen).list) ∷ others)) }
-        ensures lost { result ≡ false → (others : List (ℕ × Cell)) × AreOthers self.old.seat.me.1 (list_at lock) (Line self.old.seat.me.0.part.core.list) others × (self.new.seat.me ≡ (lost self.old.seat.me.0, (list_at lock, Line self.old.seat.me.0.part.core.list) ∷ others)) }
+        ensures older { (k : ℕ) → MayDie (view_of self.old) lock seen k → k < (view_of self.old).stamp }
+        ensures sure { (view_of self.old).list ≢ [] → (view_of self.old).seen ≡ Some seen → result ≡ true }
+        ensures died { result ≡ true → (others : List (ℕ × Cell)) × AreOthers self.old.seat.me.1 (list_at lock) (Line (view_of self.old).list) others × (self.new.seat.me ≡ (dying self.old.seat.me.0 seen, (list_at lock, Line (died (view_of self.old) seen).list) ∷ others)) }
+        ensures lost { result ≡ false → (others : List (ℕ × Cell)) × AreOthers self.old.seat.me.1 (list_at lock) (Line (view_of self.old).list) others × (self.new.seat.me ≡ (lost self.old.seat.me.0, (list_at lock, Line (view_of self.old).list) ∷ others)) }
     {
         let rest = self.owner_left(board, lock, seen);
         let old = pack(seen);
@@ -151,14 +151,14 @@ impl Seat16 {
     pub fn leave(&mut self, board: &Board, lock: u8, seen: Owner) -> bool
         requires seat { IsSeatOf board.now self.old }
         requires lock { lock < size_of board.now }
-        requires may { MayStop self.old.seat.me.0.part.core lock }
+        requires may { MayStop (view_of self.old) lock }
         requires valid { IsValid seen }
-        requires list { slot_of self.old.seat.me.1 (list_at lock) ≡ Some (Line self.old.seat.me.0.part.core.list) }
+        requires list { slot_of self.old.seat.me.1 (list_at lock) ≡ Some (Line (view_of self.old).list) }
         ensures seat { IsSeatOf board.now self.new }
         ensures records { self.new.records ≡ self.old.records }
-        ensures sure { self.old.seat.me.0.part.core.seen ≡ Some seen → result ≡ true }
-        ensures left { result ≡ true → (others : List (ℕ × Cell)) × AreOthers self.old.seat.me.1 (list_at lock) (Line self.old.seat.me.0.part.core.list) others × (self.new.seat.me ≡ (stopping self.old.seat.me.0 seen, (list_at lock, Line (interrupted self.old.seat.me.0.part.core seen).list) ∷ others)) }
-        ensures lost { result ≡ false → (others : List (ℕ × Cell)) × AreOthers self.old.seat.me.1 (list_at lock) (Line self.old.seat.me.0.part.core.list) others × (self.new.seat.me ≡ (lost self.old.seat.me.0, (list_at lock, Line self.old.seat.me.0.part.core.list) ∷ others)) }
+        ensures sure { (view_of self.old).seen ≡ Some seen → result ≡ true }
+        ensures left { result ≡ true → (others : List (ℕ × Cell)) × AreOthers self.old.seat.me.1 (list_at lock) (Line (view_of self.old).list) others × (self.new.seat.me ≡ (stopping self.old.seat.me.0 seen, (list_at lock, Line (interrupted (view_of self.old) seen).list) ∷ others)) }
+        ensures lost { result ≡ false → (others : List (ℕ × Cell)) × AreOthers self.old.seat.me.1 (list_at lock) (Line (view_of self.old).list) others × (self.new.seat.me ≡ (lost self.old.seat.me.0, (list_at lock, Line (view_of self.old).list) ∷ others)) }
     {
         let rest = self.owner_left(board, lock, seen);
         let old = pack(seen);
@@ -177,16 +177,16 @@ impl Seat16 {
     pub fn give(&mut self, board: &Board, lock: u8, seen: Owner) -> bool
         requires seat { IsSeatOf board.now self.old }
         requires lock { lock < size_of board.now }
-        requires may { MayGive self.old.seat.me.0.part.core lock }
+        requires may { MayGive (view_of self.old) lock }
         requires valid { IsValid seen }
-        requires list { slot_of self.old.seat.me.1 (list_at lock) ≡ Some (Line self.old.seat.me.0.part.core.list) }
-        requires waiters { AreSeats self.old.seat.me.0.part.core.list }
+        requires list { slot_of self.old.seat.me.1 (list_at lock) ≡ Some (Line (view_of self.old).list) }
+        requires waiters { AreSeats (view_of self.old).list }
         requires out { (x : Node) × IsOut self.old.seat.me.1 lock (Content x) × (get_elem? self.old.seat.me.0.held lock ≡ some (Some x)) }
         ensures seat { IsSeatOf board.now self.new }
         ensures records { self.new.records ≡ self.old.records }
-        ensures sure { self.old.seat.me.0.part.core.list ≢ [] → self.old.seat.me.0.part.core.seen ≡ Some seen → result ≡ true }
-        ensures gave { result ≡ true → (x : Node) × (others : List (ℕ × Cell)) × (self.new.seat.me.0 ≡ giving_inside self.old.seat.me.0 lock (seen.flags == 3)) × AreOthers self.old.seat.me.1 (list_at lock) (Line self.old.seat.me.0.part.core.list) others × AreOthers ((list_at lock, Line self.old.seat.me.0.part.core.list) ∷ others) lock (Content x) self.new.seat.me.1 }
-        ensures lost { result ≡ false → (x : Node) × (others : List (ℕ × Cell)) × (rest : List (ℕ × Cell)) × AreOthers self.old.seat.me.1 (list_at lock) (Line self.old.seat.me.0.part.core.list) others × AreOthers ((list_at lock, Line self.old.seat.me.0.part.core.list) ∷ others) lock (Content x) rest × (self.new.seat.me ≡ (lost self.old.seat.me.0, (lock, Content x) ∷ rest)) }
+        ensures sure { (view_of self.old).list ≢ [] → (view_of self.old).seen ≡ Some seen → result ≡ true }
+        ensures gave { result ≡ true → (x : Node) × (others : List (ℕ × Cell)) × (self.new.seat.me.0 ≡ giving_inside self.old.seat.me.0 lock (seen.flags == 3)) × AreOthers self.old.seat.me.1 (list_at lock) (Line (view_of self.old).list) others × AreOthers ((list_at lock, Line (view_of self.old).list) ∷ others) lock (Content x) self.new.seat.me.1 }
+        ensures lost { result ≡ false → (x : Node) × (others : List (ℕ × Cell)) × (rest : List (ℕ × Cell)) × AreOthers self.old.seat.me.1 (list_at lock) (Line (view_of self.old).list) others × AreOthers ((list_at lock, Line (view_of self.old).list) ∷ others) lock (Content x) rest × (self.new.seat.me ≡ (lost self.old.seat.me.0, (lock, Content x) ∷ rest)) }
     {
         let owner = self.next_owner(board, lock, seen.flags == WAITERS | HANDOFF);
         bring(&mut self.seat, &mut self.order, lock);
