@@ -1,5 +1,5 @@
 -- A seat waits for a lock.
-use Rattle.std.proofs.Common.{◌≡◌, ℕ, zero, suc, ◌==◌, not, true, false, refl, sym, ap, subst, ⊎_elim, inl, inr, arith, Option, Some, Result, Ok, Err, IfOk, IfErr, ne_eqb}
+use Rattle.std.proofs.Common.{◌≡◌, ℕ, zero, suc, ◌==◌, not, false, refl, sym, ap, subst, ⊎_elim, inl, inr, Option, Some, Result, Ok, Err, IfOk, IfErr}
 use Rattle.ww_queue.specs.declared.kind.Kind.{Kind}
 use Rattle.ww_queue.specs.declared.kind.Kind.TheVariants.{WoundWait, WaitDie}
 use Rattle.ww_plain.specs.declared.node.Node.{Node}
@@ -62,14 +62,6 @@ turned_then a b c n (Interrupted by) h s = stopped_then a b c n by h s
 pub err_then : (a b c : Sat) (n : ℕ) (r : Result Node Stop) → HoldsAsBefore a b → IfErr r (λ why. IsTurnedAway b n why c) → IfErr r (λ why. IsTurnedAway a n why c)
 err_then a b c n (Ok x) h t = t
 err_then a b c n (Err why) h t = turned_then a b c n why h t
-
--- ---- it stands in the wait list, or in none
-
-pub first_look : (waits : ℕ) → waits ≡ 0 → false ≡ not (waits == 0)
-first_look waits e = ap (λ (w : ℕ). not (w == 0)) (sym e)
-
-pub later_look : (waits n : ℕ) → waits ≡ suc n → true ≡ not (waits == 0)
-later_look waits n e = ap not (sym (ne_eqb waits 0 (λ z. omega arith)))
 
 -- the first try failed
 pub wanting : (size n : ℕ) (m : Sat) → owns m.0.part.core n ≡ false → WantsBase m.0.part.core → WantsSigns m.0.part.core → IsOrderly size m → IsAway m.0.part.core → IsOutside size n m
