@@ -301,6 +301,7 @@ reserved_seated table s s' was is same = subst (IsSeated table) (sym is) (record
   few = was.few;
   stamp = was.stamp;
   small = was.small;
+  own = was.own;
   order = was.order;
   records = same ∙ was.records;
   alone = was.alone;

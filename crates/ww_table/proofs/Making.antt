@@ -1,5 +1,5 @@
 -- Making a table: its slots, and its seats one after another.
-use Rattle.std.proofs.Common.{refl, ◌≡◌, ℕ, suc, ◌+◌, ◌-◌, ◌<◌, ◌≤◌, ◌^◌, List, [], ◌∷◌, ◌++◌, length, sym, ap, ◌∙◌, subst, ⊎_elim, arith, None, replicate, length-append, zero, inl, inr}
+use Rattle.std.proofs.Common.{refl, ◌≡◌, ℕ, suc, ◌+◌, ◌-◌, ◌<◌, ◌≤◌, ◌^◌, List, [], ◌∷◌, ◌++◌, length, sym, ap, ◌∙◌, subst, ⊎_elim, arith, Some, None, replicate, length-append, zero, inl, inr}
 use mathlib.Core.Option.{some}
 use mathlib.Core.Option as maybe
 use lib.ListN.{get_elem?, length-replicate}
@@ -14,6 +14,7 @@ use Rattle.ww_rule.specs.declared.cells.Cell.TheVariants.{Content}
 use Rattle.ww_rule.specs.declared.cells.Part.{Part}
 use Rattle.ww_rule.specs.declared.cells.Sight.{Sight}
 use Rattle.ww_rule.specs.declared.cells.Start.{Start}
+use Rattle.ww_word.specs.Owner.{packed}
 use Rattle.ww_table.specs.declared.seat.Seat16.{Seat16}
 use Rattle.ww_rule.specs.Rule.{Sat, first_graph, first_part, first_parts, first_sight, Ruled}
 use Rattle.ww_rule.specs.Steps.{seat_of, first_seat, rest_of, without_first}
@@ -27,8 +28,8 @@ use Rattle.ww_model.specs.State.{start}
 use Rattle.ww_view.specs.View.{IsBare}
 use Rattle.ww_rule.proofs.Seats.{opens, opens_start, splits, at_end, bare_first}
 
-pub new_seat : (table : TableId) (key : Start) (k : ℕ) (s : Seat16) → s.seat.table_id ≡ table → s.seat.me ≡ (seat_of (length (first_graph key)) (first_part key.kind k), []) → s.kind ≡ key.kind → s.who ≡ k → k < 16 → s.stamp ≡ 0 → s.order.items ≡ [] → s.records.items ≡ [] → IsNew table key k s
-new_seat table key k s home me kind who few stamp order records = record {
+pub new_seat : (table : TableId) (key : Start) (k : ℕ) (s : Seat16) → s.seat.table_id ≡ table → s.seat.me ≡ (seat_of (length (first_graph key)) (first_part key.kind k), []) → s.kind ≡ key.kind → s.who ≡ k → k < 16 → s.stamp ≡ 0 → s.own ≡ packed (record { seat = Some s.who; stamp = s.stamp; flags = 0 }) → s.order.items ≡ [] → s.records.items ≡ [] → IsNew table key k s
+new_seat table key k s home me kind who few stamp own order records = record {
   seated = record {
     home = home;
     seated = ap (λ (m : Sat). m.0.seated) me;
@@ -37,6 +38,7 @@ new_seat table key k s home me kind who few stamp order records = record {
     few = subst (λ (t : ℕ). t < 16) (sym who) few;
     stamp = ap (λ (m : Sat). m.0.part.core.stamp) me ∙ sym stamp;
     small = omega arith;
+    own = own;
     order = order ∙ sym (ap (λ (m : Sat). numbers_of m.1) me);
     records = records ∙ sym (ap (λ (m : Sat). m.0.part.own) me);
     alone = ap (λ (m : Sat). m.0.idle) me;

@@ -1,8 +1,9 @@
 -- What a seat is after a step that leaves the rest of it alone.
-use Rattle.std.proofs.Common.{◌≡◌, ℕ, ◌<◌, ◌^◌, refl, sym, ap, ◌∙◌, subst}
+use Rattle.std.proofs.Common.{◌≡◌, ℕ, ◌<◌, ◌^◌, Some, refl, sym, ap, ◌∙◌, subst}
 use Rattle.std.specs.List.{AllByRecursion}
 use Rattle.atomic_table.specs.Seated.{TableId}
 use Rattle.ww_plain.specs.declared.history.Record.{Record}
+use Rattle.ww_word.specs.Owner.{packed}
 use Rattle.ww_rule.specs.declared.cells.Sight.{Sight}
 use Rattle.ww_rule.specs.Rule.{Sat}
 use Rattle.ww_rule.specs.Out.{numbers_of}
@@ -11,8 +12,8 @@ use Rattle.ww_table.specs.Seat.{IsSeated}
 
 -- the seat is as it was, but for its view and the slots that it has out
 pub seated_as : (table : TableId) (s new : Seat16) (w : Sight) → IsSeated table s → new.seat.table_id ≡ s.seat.table_id → new.seat.me.0 ≡ w → w.seated ≡ s.seat.me.0.seated → w.part.core.kind ≡ s.seat.me.0.part.core.kind → w.part.core.who ≡ s.seat.me.0.part.core.who
-    → w.part.core.stamp ≡ s.seat.me.0.part.core.stamp → w.part.own ≡ s.seat.me.0.part.own → w.idle ≡ s.seat.me.0.idle → new.kind ≡ s.kind → new.who ≡ s.who → new.stamp ≡ s.stamp → new.records.items ≡ s.records.items → new.order.items ≡ numbers_of new.seat.me.1 → IsSeated table new
-seated_as table s new w was home view seated kind who stamp own idle same_kind same_who same_stamp records order = record {
+    → w.part.core.stamp ≡ s.seat.me.0.part.core.stamp → w.part.own ≡ s.seat.me.0.part.own → w.idle ≡ s.seat.me.0.idle → new.kind ≡ s.kind → new.who ≡ s.who → new.stamp ≡ s.stamp → new.own ≡ s.own → new.records.items ≡ s.records.items → new.order.items ≡ numbers_of new.seat.me.1 → IsSeated table new
+seated_as table s new w was home view seated kind who stamp own idle same_kind same_who same_stamp word records order = record {
   home = home ∙ was.home;
   seated = ap (λ (v : Sight). v.seated) view ∙ seated ∙ was.seated;
   kind = same_kind ∙ was.kind ∙ sym kind ∙ ap (λ (v : Sight). v.part.core.kind) (sym view);
@@ -20,6 +21,7 @@ seated_as table s new w was home view seated kind who stamp own idle same_kind s
   few = subst (λ (t : ℕ). t < 16) (sym same_who) was.few;
   stamp = ap (λ (v : Sight). v.part.core.stamp) view ∙ stamp ∙ was.stamp ∙ sym same_stamp;
   small = subst (λ (t : ℕ). t < 2 ^ 56) (sym same_stamp) was.small;
+  own = word ∙ was.own ∙ (λ i. packed (record { seat = Some (sym same_who i); stamp = sym same_stamp i; flags = 0 }));
   order = order;
   records = records ∙ was.records ∙ sym own ∙ ap (λ (v : Sight). v.part.own) (sym view);
   alone = ap (λ (v : Sight). v.idle) view ∙ idle ∙ was.alone;
@@ -27,5 +29,5 @@ seated_as table s new w was home view seated kind who stamp own idle same_kind s
 }
 
 -- ... where these stay too
-pub seated_still : (table : TableId) (s new : Seat16) → IsSeated table s → new.seat.table_id ≡ s.seat.table_id → new.seat.me ≡ s.seat.me → new.kind ≡ s.kind → new.who ≡ s.who → new.stamp ≡ s.stamp → new.records.items ≡ s.records.items → new.order.items ≡ s.order.items → IsSeated table new
-seated_still table s new was home same kind who stamp records order = seated_as table s new s.seat.me.0 was home (ap (λ (m : Sat). m.0) same) refl refl refl refl refl refl kind who stamp records (order ∙ was.order ∙ ap (λ (m : Sat). numbers_of m.1) (sym same))
+pub seated_still : (table : TableId) (s new : Seat16) → IsSeated table s → new.seat.table_id ≡ s.seat.table_id → new.seat.me ≡ s.seat.me → new.kind ≡ s.kind → new.who ≡ s.who → new.stamp ≡ s.stamp → new.own ≡ s.own → new.records.items ≡ s.records.items → new.order.items ≡ s.order.items → IsSeated table new
+seated_still table s new was home same kind who stamp word records order = seated_as table s new s.seat.me.0 was home (ap (λ (m : Sat). m.0) same) refl refl refl refl refl refl kind who stamp word records (order ∙ was.order ∙ ap (λ (m : Sat). numbers_of m.1) (sym same))

@@ -1,7 +1,8 @@
 -- A seat as its caller has it.
-use Rattle.std.specs.Prelude.{ℕ, ◌≡◌, ◌<◌, ◌^◌, [], true, length}
+use Rattle.std.specs.Prelude.{ℕ, ◌≡◌, ◌<◌, ◌^◌, [], true, length, Some}
 use Rattle.std.specs.List.{AllByRecursion}
 use Rattle.atomic_table.specs.Seated.{TableId}
+use Rattle.ww_word.specs.Owner.{packed}
 use Rattle.ww_view.specs.declared.view.View.{View}
 use Rattle.ww_rule.specs.declared.cells.Start.{Start}
 use Rattle.ww_rule.specs.Rule.{first_graph, first_part}
@@ -23,6 +24,7 @@ pub record IsSeated (table : TableId) (s : Seat16) : Type 0 where
   pub few : s.who < 16
   pub stamp : (view_of s).stamp ≡ s.stamp
   pub small : s.stamp < 2 ^ 56
+  pub own : s.own ≡ packed (record { seat = Some s.who; stamp = s.stamp; flags = 0 })
   pub order : s.order.items ≡ numbers_of s.seat.me.1
   pub records : s.records.items ≡ s.seat.me.0.part.own
   pub alone : s.seat.me.0.idle ≡ []

@@ -1,10 +1,11 @@
-ghost use Rattle.std.specs.Prelude.{◌≡◌, ◌<◌, ◌≤◌, [], IfOk, IfErr, vec_len, vec_capacity};
+ghost use Rattle.std.specs.Prelude.{◌≡◌, ◌<◌, ◌≤◌, [], Some, IfOk, IfErr, vec_len, vec_capacity};
+ghost use Rattle.ww_word.specs.Owner.{packed};
 ghost use Rattle.ww_rule.specs.Layout.{IsSized};
 ghost use Rattle.ww_rule.specs.Rule.{first_sight};
 ghost use Rattle.ww_table.specs.Made.{AreNew, IsMade};
 
 use crate::board::Board;
-use crate::seat::Seat16;
+use crate::seat::{Seat16, own_word};
 use arrayvec::ArrayVec;
 use atomic_table::Table;
 use std::alloc::{AllocError, Global};
@@ -91,7 +92,9 @@ fn cut(
 
 /// A seat that did nothing yet.
 fn seated(alloc: Global, kind: Kind, seat: TableSeat, who: u8) -> Seat16
-    ensures same { result ≡ record { seat = seat; kind = kind; who = who; stamp = 0; order = result.order; records = result.records } }
+    requires { who < 16 }
+    ensures same { result ≡ record { seat = seat; kind = kind; who = who; stamp = 0; own = result.own; order = result.order; records = result.records } }
+    ensures own { result.own ≡ packed (record { seat = Some result.who; stamp = result.stamp; flags = 0 }) }
     ensures order { result.order.items ≡ [] }
     ensures records { result.records.items ≡ [] }
 {
@@ -100,6 +103,7 @@ fn seated(alloc: Global, kind: Kind, seat: TableSeat, who: u8) -> Seat16
         kind,
         who,
         stamp: 0,
+        own: own_word(who, 0),
         order: ArrayVec::new(),
         records: Vec::new(alloc),
     }

@@ -32,9 +32,24 @@ pub struct Seat16 {
     pub(crate) kind: Kind,
     pub(crate) who: u8,
     pub(crate) stamp: u64,
+    /// The owner word of a lock that it has taken, with nobody waiting.
+    pub(crate) own: u64,
     /// The slots that it has out, the one taken last at the end.
     pub(crate) order: ArrayVec<u8, MAX_OUT>,
     pub(crate) records: Vec<(u64, Record)>,
+}
+
+/// The owner word of a lock that this seat has taken with this stamp, with nobody waiting.
+pub(crate) fn own_word(who: u8, stamp: u64) -> u64
+    requires few { who < 16 }
+    requires small { stamp < 2 ^ 56 }
+    ensures { result ≡ packed (record { seat = Some who; stamp = stamp; flags = 0 }) }
+{
+    pack(Owner {
+        seat: Some(who),
+        stamp,
+        flags: 0,
+    })
 }
 
 impl Seat16 {
@@ -83,20 +98,8 @@ impl Seat16 {
             .fetch_add::<Draw>(&mut self.seat, STAMP, 1)
             + 1;
         self.stamp = stamp;
+        self.own = own_word(self.who, stamp);
         stamp
-    }
-
-    /// The owner word of a lock that this seat has taken, with nobody waiting.
-    fn word(&self) -> u64
-        requires few { self.now.who < 16 }
-        requires small { self.now.stamp < 2 ^ 56 }
-        ensures { result ≡ packed (record { seat = Some self.now.who; stamp = self.now.stamp; flags = 0 }) }
-    {
-        pack(Owner {
-            seat: Some(self.who),
-            stamp: self.stamp,
-            flags: 0,
-        })
     }
 
     /// One try to take a lock at once, which only a free one with an empty wait list allows.
@@ -110,7 +113,7 @@ impl Seat16 {
         ensures took { result ≡ true → (x : Node) × IsNodeOf (length self.old.seat.me.0.held) x × (self.new.seat.me ≡ (taking self.old.seat.me.0 lock x, (lock, Content x) ∷ self.old.seat.me.1)) }
         ensures lost { result ≡ false → self.new.seat.me ≡ (knowing self.old.seat.me.0 (fast_missed (view_of self.old)), self.old.seat.me.1) }
     {
-        let own = self.word();
+        let own = self.own;
         let shared = &board.table.shared;
         let found = shared.compare_exchange::<TakeFree>(&mut self.seat, owner_word(lock), 0, own);
         if found != 0 {
@@ -133,7 +136,7 @@ impl Seat16 {
         ensures kept { result ≡ false → (x : Node) × (others : List (ℕ × Cell)) × AreOthers self.old.seat.me.1 lock (Content x) others × (self.new.seat.me ≡ (keeping self.old.seat.me.0, (lock, Content x) ∷ others)) }
     {
         bring(&mut self.seat, &mut self.order, lock);
-        let own = self.word();
+        let own = self.own;
         let shared = &board.table.shared;
         let found = shared.compare_exchange::<GiveFree>(&mut self.seat, owner_word(lock), own, 0);
         if found != own {
@@ -162,6 +165,7 @@ impl Seat16 {
             return false;
         }
         self.stamp = 0;
+        self.own = own_word(self.who, 0);
         true
     }
 

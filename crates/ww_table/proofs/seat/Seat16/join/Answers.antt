@@ -24,7 +24,7 @@ returns-then-found-old-clause-lost c = λ _. (c.compare_exchange-found.ensures.2
 pub returns-then-found-old-clause-seat : goal.returns-then-found-old-clause-seat
 returns-then-found-old-clause-seat c = let s = c.requires.seat in let e = c.compare_exchange-found.ensures in
     let miss = (e.2 c.args.lock c.args.seen (c.owner_word.ensures, c.requires.valid, c.pack-old.ensures)).1 (λ z. c.if-found-old.true (z ∙ sym c.pack-old.ensures)) in
-    seated_as _ c.args.self.now _ _ s e.0 (ap (λ (m : Sat). m.0) miss) refl refl refl refl refl refl refl refl refl refl (s.order ∙ ap numbers_of (sym (ap (λ (m : Sat). m.1) miss)))
+    seated_as _ c.args.self.now _ _ s e.0 (ap (λ (m : Sat). m.0) miss) refl refl refl refl refl refl refl refl refl refl refl (s.order ∙ ap numbers_of (sym (ap (λ (m : Sat). m.1) miss)))
 
 pub bring-requires-clause-order : goal.bring-requires-clause-order
 bring-requires-clause-order c = let won = (c.compare_exchange-found.ensures.2 c.args.lock c.args.seen (c.owner_word.ensures, c.requires.valid, c.pack-old.ensures)).0 (c.if-found-old.false ∙ c.pack-old.ensures) in c.requires.seat.order ∙ ap numbers_of (sym (ap (λ (m : Sat). m.1) won.0))
@@ -41,7 +41,7 @@ pub returns-clause-seat : goal.returns-clause-seat
 returns-clause-seat c = let v = c.args.self.now.seat.me.0 in let b = c.bring.ensures in let won = (c.compare_exchange-found.ensures.2 c.args.lock c.args.seen (c.owner_word.ensures, c.requires.valid, c.pack-old.ensures)).0 (c.if-found-old.false ∙ c.pack-old.ensures) in
     let l = list_brought c.args.self.now.seat.me.1 c.compare_exchange-found.new.seat.me.1 c.bring.new.seat.me.1 b.slots.1 c.args.lock c.list_slot-slot.result v.part.core.list b.slots.0 (ap (λ (m : Sat). m.1) won.0) c.list_slot-slot.ensures c.requires.list b.slots.2 b.slots.3 b.slots.4 in let top = on_top c.bring.new.seat.me.1 b.slots.1 (64 + c.args.lock) c.list_slot-slot.result (Line v.part.core.list) l.1 c.list_slot-slot.ensures in
     let g = c.join_list.ensures in
-    seated_as _ c.args.self.now _ _ c.requires.seat (g.home.0 ∙ b.home.0 ∙ c.compare_exchange-found.ensures.0) (g.view ∙ b.view ∙ ap (λ (m : Sat). m.0) won.0) refl refl refl refl refl refl refl refl refl refl (b.order ∙ ap numbers_of top ∙ ap numbers_of (sym (g.list v.part.core.list top)))
+    seated_as _ c.args.self.now _ _ c.requires.seat (g.home.0 ∙ b.home.0 ∙ c.compare_exchange-found.ensures.0) (g.view ∙ b.view ∙ ap (λ (m : Sat). m.0) won.0) refl refl refl refl refl refl refl refl refl refl refl (b.order ∙ ap numbers_of top ∙ ap numbers_of (sym (g.list v.part.core.list top)))
 
 pub returns-clause-joined : goal.returns-clause-joined
 returns-clause-joined c = let v = c.args.self.now.seat.me.0 in let b = c.bring.ensures in let won = (c.compare_exchange-found.ensures.2 c.args.lock c.args.seen (c.owner_word.ensures, c.requires.valid, c.pack-old.ensures)).0 (c.if-found-old.false ∙ c.pack-old.ensures) in

@@ -9,4 +9,4 @@ load-requires c = let s = c.requires.seat in let small = s.few in let word = c.s
 
 pub returns-clause-seat : goal.returns-clause-seat
 returns-clause-seat c = let s = c.requires.seat in let e = c.load.ensures in let r = read_is 0 0 c.args.self.now.seat.me c.load.new.seat.me c.load.result e.2 in
-    seated_as _ c.args.self.now _ _ s e.0 (ap (λ m. m.0) r.4) refl r.1 r.2 r.3 refl refl refl refl refl refl (s.order ∙ ap numbers_of (sym (ap (λ m. m.1) r.4)))
+    seated_as _ c.args.self.now _ _ s e.0 (ap (λ m. m.0) r.4) refl r.1 r.2 r.3 refl refl refl refl refl refl refl (s.order ∙ ap numbers_of (sym (ap (λ m. m.1) r.4)))

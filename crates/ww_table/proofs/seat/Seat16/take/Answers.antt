@@ -36,7 +36,7 @@ returns-then-found-old-clause-lost c = let t = c.flag_left-flags.ensures.read in
 pub returns-then-found-old-clause-seat : goal.returns-then-found-old-clause-seat
 returns-then-found-old-clause-seat c = let r = c.flag_left-flags.ensures in
     let miss = (c.compare_exchange-found.ensures.2 c.args.lock c.args.seen (c.owner_word.ensures, c.requires.valid, c.pack-old.ensures)).1 (λ z. c.if-found-old.true (z ∙ sym c.pack-old.ensures)) in
-    seated_as _ _ _ (lost c.flag_left-flags.new.self.seat.me.0) r.seat c.compare_exchange-found.ensures.0 (ap (λ (m : Sat). m.0) miss) refl refl refl refl refl refl refl refl refl refl (r.seat.order ∙ ap numbers_of (sym (ap (λ (m : Sat). m.1) miss)))
+    seated_as _ _ _ (lost c.flag_left-flags.new.self.seat.me.0) r.seat c.compare_exchange-found.ensures.0 (ap (λ (m : Sat). m.0) miss) refl refl refl refl refl refl refl refl refl refl refl (r.seat.order ∙ ap numbers_of (sym (ap (λ (m : Sat). m.1) miss)))
 
 -- once the last one was taken off, the numbers of the slots that are out but for the list
 pub push-requires : goal.push-requires
@@ -68,7 +68,7 @@ returns-clause-seat c = let r = c.flag_left-flags.ensures in let t = r.read in l
     let list = has_left _ (node ∷ t.others) _ c.args.lock _ v.part.core.who _ v.part.core.list (ap (λ (m : Sat). m.1) hit.2 ∙ ap (λ (m : Sat). below node m.1) t.now) c.list_slot-slot.ensures (number_before _ _ _ _ r.seat t) g.list in
     let p = c.pop.ensures in let items = popped _ (numbers_of t.others) c.pop.new.self.items (64 + c.args.lock) c.pop.result (r.seat.order ∙ ap (λ (m : Sat). numbers_of m.1) t.now) p.items p.variant.1 in
     let order = c.push-2.ensures.items ∙ (λ i. (c.push.ensures.items ∙ ap (λ (k : List ℕ). k ++ c.args.lock ∷ []) items) i ++ c.list_slot-slot.ensures i ∷ []) in
-    seated_as _ _ _ (taking_inside c.flag_left-flags.new.self.seat.me.0 c.args.lock hit.0) r.seat (g.home.0 ∙ c.compare_exchange-found.ensures.0) (g.view ∙ ap (λ (m : Sat). m.0) hit.2) refl refl refl refl refl refl refl refl refl refl
+    seated_as _ _ _ (taking_inside c.flag_left-flags.new.self.seat.me.0 c.args.lock hit.0) r.seat (g.home.0 ∙ c.compare_exchange-found.ensures.0) (g.view ∙ ap (λ (m : Sat). m.0) hit.2) refl refl refl refl refl refl refl refl refl refl refl
     (order ∙ ap numbers_of (sym list))
 
 pub returns-then-found-old-clause-sure : goal.returns-then-found-old-clause-sure
