@@ -47,7 +47,7 @@ public:
 	ww_seat *get() noexcept { return it_; }
 };
 
-// A context: it is begun, and at its end gives all locks back and ends.
+// A context: it is begun, and at its end gives all locks back and ends. One that wasn't begun answers why to each call.
 class context {
 	static constexpr unsigned none = WW_MAX_LOCKS;
 	ww_seat *s_;
@@ -57,8 +57,10 @@ class context {
 	// Takes locks until none of them makes it back off, calls fn, and gives all back.
 	template <class Takes, class Fn> int holding(Takes &&takes, Fn &&fn)
 	{
-		int r;
+		int r = error_;
 
+		if (r)
+			return r;
 		told_ = none;
 		while ((r = takes()) == -EDEADLK && !(r = back_off()))
 			;
@@ -68,8 +70,10 @@ class context {
 		return r;
 	}
 
+	int of_begun(int (*call)(ww_seat *, unsigned), unsigned n) noexcept { return error_ ? error_ : call(s_, n); }
+
 public:
-	explicit context(seat &s) noexcept : s_(s.get()), error_(ww_acquire_init(s_)) {}
+	explicit context(seat &s) noexcept : s_(s.get()), error_(s_ ? ww_acquire_init(s_) : -EBUSY) {}
 	~context()
 	{
 		if (!error_) {
@@ -79,10 +83,11 @@ public:
 	}
 	context(const context &) = delete;
 	context &operator=(const context &) = delete;
+	// 0, or why it wasn't begun: that of ww_acquire_init, or -EBUSY where the seat is empty.
 	int error() const noexcept { return error_; }
 	int lock(unsigned n) noexcept
 	{
-		int r = ww_lock(s_, n);
+		int r = of_begun(ww_lock, n);
 
 		if (r == -EDEADLK)
 			told_ = n;
@@ -91,12 +96,13 @@ public:
 	// After -EDEADLK: gives all back, and takes the lock that it was told of, waiting for it.
 	int back_off() noexcept
 	{
-		ww_unlock_all(s_);
-		return ww_lock_slow(s_, told_);
+		if (!error_)
+			ww_unlock_all(s_);
+		return of_begun(ww_lock_slow, told_);
 	}
-	int try_lock(unsigned n) noexcept { return ww_trylock(s_, n); }
-	int unlock(unsigned n) noexcept { return ww_unlock(s_, n); }
-	int done() noexcept { return ww_acquire_done(s_); }
+	int try_lock(unsigned n) noexcept { return of_begun(ww_trylock, n); }
+	int unlock(unsigned n) noexcept { return of_begun(ww_unlock, n); }
+	int done() noexcept { return error_ ? error_ : ww_acquire_done(s_); }
 
 	/*
 	 * Three ways to take many locks.  Each backs off by itself, calls fn while all are held, and gives all back.  They

@@ -28,11 +28,25 @@ static bool is_code(int r)
 	return (r >= 0 && r <= WW_STAYS_LONGER) || r == -EINTR || r == -EBUSY || r == -EINVAL || r == -ENOSPC || r == -EDEADLK || r == -EALREADY;
 }
 
-/* What one thread knows of its seat by the answers alone. */
+/* What one thread knows of its seat by the answers alone: of the locks that it owns, those that it is sure of. */
 struct mine {
 	unsigned me, wants;
 	bool own[LOCKS], pending, giving;
 };
+
+static bool owns_none(struct mine *m)
+{
+	for (unsigned n = 0; n < LOCKS; n++)
+		if (m->own[n])
+			return false;
+	return true;
+}
+
+static void forget_all(struct mine *m)
+{
+	for (unsigned n = 0; n < LOCKS; n++)
+		m->own[n] = false;
+}
 
 static void gives_all(struct mine *m)
 {
@@ -41,8 +55,7 @@ static void gives_all(struct mine *m)
 	while ((r = ww_unlock_all_(&handles[m->me])) > 0)
 		MUST(!turned(m->me, r));
 	MUST(!r);
-	for (unsigned n = 0; n < LOCKS; n++)
-		m->own[n] = false;
+	forget_all(m);
 }
 
 static void ends(struct mine *m, int r)
@@ -55,6 +68,17 @@ static void ends(struct mine *m, int r)
 		if (r == -EDEADLK)
 			gives_all(m);
 	}
+}
+
+/* A seat that is at work isn't idle, and can't be closed. */
+static int idle(struct mine *m)
+{
+	ww_handle *h = &handles[m->me];
+	int r = ww_idle_(h);
+
+	MUST(r == -EBUSY || (!r && !m->pending && owns_none(m)));
+	MUST(!r || (ww_close_(h) == -EBUSY && h->full));
+	return r;
 }
 
 static void any(struct mine *m, unsigned op, unsigned n, bool heeds)
@@ -86,6 +110,14 @@ static void any(struct mine *m, unsigned op, unsigned n, bool heeds)
 		if (r > 0)
 			m->pending = m->giving = true;
 		break;
+	case 9:
+		r = ww_unlock_all_(h);
+		if (r >= 0)
+			forget_all(m);
+		if (r > 0)
+			m->pending = m->giving = true;
+		break;
+	case 10: r = idle(m); break;
 	default:
 		r = ww_go_on_(h, wakes);
 		ends(m, r);
@@ -101,7 +133,7 @@ static void *work(void *arg)
 	for (unsigned long i = 0; i < times; i++) {
 		unsigned drawn = next(&x), n = (drawn >> 8) % 10;
 
-		any(&m, drawn % 14, n == 9 ? 255 : n, drawn >> 12 & 1);
+		any(&m, drawn % 16, n == 9 ? 255 : n, drawn >> 12 & 1);
 		for (n = 0; n < LOCKS; n++)
 			if (m.own[n]) {
 				counters[n]++;

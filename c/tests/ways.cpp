@@ -95,6 +95,29 @@ bool refuses(ww::world &world)
 	       context.lock_walk(out, never) == -EINVAL && context.lock_walk(same, [] {}) == 0 && context.unlock(1) == -EINVAL;
 }
 
+// A context that wasn't begun takes nothing, and leaves what the seat holds: here the seat has one already, or is empty.
+bool begins_once(ww::world &world)
+{
+	ww::seat seat(world);
+	ww::context context(seat);
+	const std::array<unsigned, 2> list{ 1, 2 };
+	const auto refused = [&](ww::seat &of, int error) {
+		ww::context other(of);
+		const auto never = [] { std::abort(); };
+
+		return other.error() == error && other.lock_all(list, never) == error && other.lock(1) == error && other.try_lock(1) == error &&
+		       other.unlock(0) == error && other.back_off() == error && other.done() == error;
+	};
+	bool is_so = context.lock(0) == 0 && refused(seat, -EINVAL) && context.lock(0) == -EALREADY;
+	std::list<ww::seat> taken;
+
+	for (unsigned k = 1; k < threads; k++)
+		is_so = is_so && taken.emplace_back(world);
+	ww::seat empty(world);
+
+	return is_so && !empty && refused(empty, -EBUSY) && context.unlock(0) == 0;
+}
+
 bool is_ring()
 {
 	unsigned at = 0, steps = 0;
@@ -115,7 +138,7 @@ int run(ww::kind kind)
 
 	for (unsigned n = 0; n < count; n++)
 		nodes[n] = node{ (n + 1) % count, 0 };
-	if (world.error() || !refuses(world))
+	if (world.error() || !refuses(world) || !begins_once(world))
 		return 1;
 	for (unsigned me = 0; me < threads; me++)
 		all.emplace_back([&, me] { work(world, me, visits[me], faults[me]); });
