@@ -44,7 +44,7 @@ pub seen_as : (h g : Station) → IsOf h g → situation_of g ≡ record (situat
   deaths = g.seat.seat.me.0.part.core.deaths;
   view = g.seat.seat.me.0.part.core;
 }
-seen_as h g is = rw (is.board, is.same.kind, is.left, is.same.who, is.same.stamp, is.same.counts, is.same.stopped) refl
+seen_as h g is = rw (is.board, is.same.kind, is.left, is.same.who, is.same.stamp, is.same.counts, is.same.stopped, is.same.pendings) refl
 
 -- it holds what it held
 pub kept : (h g : Station) → Keeps h → IsOf h g → g.seat.seat.me.0.part.core.owned ≡ h.seat.seat.me.0.part.core.owned → g.held.items ≡ h.held.items → g.marks ≡ h.marks → g.seat.seat.me.0.part.core.stamp ≡ g.seat.stamp

@@ -33,6 +33,10 @@ HasTurned s turn s' = s' ≡ record s { turn = turn; view = s'.view }
 abbrev pub HasWorked : Situation → Situation → Type 0
 HasWorked s s' = s.view.attempts < s'.view.attempts
 
+-- it tried once to give a lock back at once, in vain: the lock's word told more than its owner
+abbrev pub HasKept : Situation → Situation → Type 0
+HasKept s s' = s'.view.kept ≡ s.view.kept + 1
+
 -- it glanced at an owner word
 abbrev pub HasGlanced : Situation → Situation → Type 0
 HasGlanced s s' = s'.view.glances ≡ s.view.glances + 1
@@ -152,7 +156,7 @@ IsWaitAnswer s n heeds _ s' = ⊥
 
 abbrev pub IsUnlockAnswer : Situation → ℕ → Answer → Situation → Type 0
 IsUnlockAnswer s n Done s' = IsHeldAtRest s n × HasGivenBack s n s'
-IsUnlockAnswer s n Again s' = IsHeldAtRest s n × HasTurned s (at.Gives n) s'
+IsUnlockAnswer s n Again s' = IsHeldAtRest s n × HasKept s s' × HasTurned s (at.Gives n) s'
 IsUnlockAnswer s n Busy s' = (is_at_rest s.turn ≡ false) × (s' ≡ s)
 IsUnlockAnswer s n Invalid s' = (is_at_rest s.turn ≡ true) × (is_among n s.held ≡ false) × (s' ≡ s)
 IsUnlockAnswer s n _ s' = ⊥
@@ -160,7 +164,7 @@ IsUnlockAnswer s n _ s' = ⊥
 -- the last one first: it gave back all, or those behind a lock that it still gives
 abbrev pub IsUnlockAllAnswer : Situation → Answer → Situation → Type 0
 IsUnlockAllAnswer s Done s' = (is_at_rest s.turn ≡ true) × (s' ≡ record s { held = []; view = s'.view })
-IsUnlockAllAnswer s Again s' = (is_at_rest s.turn ≡ true) × ((front rest : List ℕ) × (n : ℕ) × (s.held ≡ front ++ n ∷ rest) × (s' ≡ record s { held = front ++ n ∷ []; turn = at.Gives n; view = s'.view }))
+IsUnlockAllAnswer s Again s' = (is_at_rest s.turn ≡ true) × HasKept s s' × ((front rest : List ℕ) × (n : ℕ) × (s.held ≡ front ++ n ∷ rest) × (s' ≡ record s { held = front ++ n ∷ []; turn = at.Gives n; view = s'.view }))
 IsUnlockAllAnswer s Busy s' = (is_at_rest s.turn ≡ false) × (s' ≡ s)
 IsUnlockAllAnswer s _ s' = ⊥
 
@@ -192,10 +196,10 @@ abbrev pub IsWakesAnswer : Situation → List Bool → Situation → Type 0
 IsWakesAnswer s wakes s' = (is_inside s.turn ≡ true → (wakes ≡ replicate 16 false) × (s' ≡ s))
     × (is_inside s.turn ≡ false → (wakes ≡ s.wakes) × (s' ≡ record s { wakes = replicate 16 false }))
 
--- the wait of seat u is called off; or its one step found that pending already, which its view counts
+-- the wait of seat u is called off; or its one step found that pending already, which is counted
 abbrev pub IsCancelAnswer : Situation → ℕ → Answer → Situation → Type 0
 IsCancelAnswer s u Done s' = (is_at_rest s.turn ≡ true) × (u < 16) × (u ≢ s.caller → slice_index_or s'.wakes u false ≡ true) × KeepsMarks s.wakes s'.wakes × (s' ≡ record s { cancelled = u ∷ s.cancelled; wakes = s'.wakes })
-IsCancelAnswer s u Already s' = (is_at_rest s.turn ≡ true) × (u < 16) × (s' ≡ record s { view = found_pending s.view })
+IsCancelAnswer s u Already s' = (is_at_rest s.turn ≡ true) × (u < 16) × (s' ≡ record s { pendings = s.pendings + 1; view = found_pending s.view })
 IsCancelAnswer s u Busy s' = (is_at_rest s.turn ≡ false) × (s' ≡ s)
 IsCancelAnswer s u Invalid s' = (is_at_rest s.turn ≡ true) × (16 ≤ u) × (s' ≡ s)
 IsCancelAnswer s u _ s' = ⊥

@@ -27,6 +27,7 @@ fresh home size kind left caller = record {
   takes = 0;
   deaths = 0;
   cancelled = [];
+  pendings = 0;
   interrupted = [];
   view = first_view kind caller;
 }

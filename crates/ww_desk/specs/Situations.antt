@@ -10,8 +10,8 @@ use Rattle.ww_desk.specs.declared.turn.Turn.TheVariants.{Rests, Stays, Wants, Lo
 -- begin, and how many it has begun; its stamp, 0 without a context; whether its context is done; the locks that it holds,
 -- in the order in which they were taken; the lock for which it was told to back off; where its call stands; whom it has
 -- to wake, a mark for each seat; how often it tried to take a lock at once, took one, and had to back off; the seats whose
--- wait it called off, the last one first; each time that its own wait was called off, the last one first: for which lock,
--- and by which seat; and what its seat knows of the locks.
+-- wait it called off, the last one first, and how often it found a cancel pending where it would set one; each time that
+-- its own wait was called off, the last one first: for which lock, and by which seat; and what its seat knows of the locks.
 pub record Situation : Type 0 where
   pub home : TableId
   pub size : ℕ
@@ -29,6 +29,7 @@ pub record Situation : Type 0 where
   pub takes : ℕ
   pub deaths : ℕ
   pub cancelled : List ℕ
+  pub pendings : ℕ
   pub interrupted : List (ℕ × ℕ)
   pub view : View
 

@@ -40,6 +40,7 @@ situation_of d = record {
   takes = (view_of d.seat).takes;
   deaths = (view_of d.seat).deaths;
   cancelled = d.seat.seat.me.0.part.counts.cancelled;
+  pendings = (view_of d.seat).pendings;
   interrupted = (view_of d.seat).stopped;
   view = view_of d.seat;
 }

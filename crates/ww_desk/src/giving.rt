@@ -7,7 +7,7 @@ impl Station {
     ghost use Rattle.std.specs.Prelude.{◌≡◌, true, false};
     ghost use Rattle.ww_desk.specs.declared.turn.Turn.TheVariants.{Gives};
     ghost use Rattle.ww_desk.specs.Stations.{situation_of, Keeps};
-    ghost use Rattle.ww_desk.specs.Answers.{IsHeldAtRest, HasGivenBack, HasTurned, IsUnlockAnswer, IsUnlockAllAnswer};
+    ghost use Rattle.ww_desk.specs.Answers.{IsHeldAtRest, HasGivenBack, HasKept, HasTurned, IsUnlockAnswer, IsUnlockAllAnswer};
 
     /// One try to give back a lock that it holds; where somebody may wait for it, the call goes on.
     fn give_or_go_on(&mut self, lock: u8) -> bool
@@ -15,6 +15,7 @@ impl Station {
         requires held { IsHeldAtRest (situation_of self.old) lock }
         ensures keeps { Keeps self.new }
         ensures given { result ≡ true → HasGivenBack (situation_of self.old) lock (situation_of self.new) }
+        ensures kept { result ≡ false → HasKept (situation_of self.old) (situation_of self.new) }
         ensures going { result ≡ false → HasTurned (situation_of self.old) (Gives lock) (situation_of self.new) }
     {
         if give_at_once(&mut self.seat, &self.board, lock) {

@@ -1,5 +1,5 @@
 //! The further turns of a call.
-ghost use Rattle.std.specs.Prelude.{◌≡◌, ◌≢◌, ◌<◌, true, false, IfSome};
+ghost use Rattle.std.specs.Prelude.{◌≡◌, ◌≢◌, ◌<◌, ◌↔◌, true, false, IsTrue, IfSome, IfNone};
 ghost use Rattle.std.specs.List.{slice_index_or};
 ghost use Rattle.ww_seat.specs.Work.{KeepsMarks};
 ghost use Rattle.ww_desk.specs.declared.turn.Turn.TheVariants.{Stays, Looks, Lets};
@@ -157,7 +157,10 @@ impl Station {
 }
 
 /// Whether it is still the context that was seen before.
-fn is_same(seen: Option<Owner>, owner: Owner) -> bool {
+fn is_same(seen: Option<Owner>, owner: Owner) -> bool
+    ensures some { IfSome seen (λ before. IsTrue result ↔ ((before.seat ≡ owner.seat) × (before.stamp ≡ owner.stamp))) }
+    ensures none { IfNone seen (result ≡ false) }
+{
     match seen {
         Some(seen) => seen.seat == owner.seat && seen.stamp == owner.stamp,
         None => false,

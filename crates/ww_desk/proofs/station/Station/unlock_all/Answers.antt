@@ -37,5 +37,6 @@ loop-lock-preserved c =
       keeps = last_gone h g c.deref.result.now c.pop.new.self.items c.in-Some.lock c.give_at_once.new.seat i.keeps i.rests c.deref.ensures whole e.settled given marked refl;
       rests = i.rests;
       front = (c.in-Some.lock ∷ i.front.0, i.front.1 ∙ ap (λ (xs : List ℕ). xs ++ i.front.0) whole ∙ append_assoc c.pop.new.self.items (c.in-Some.lock ∷ []) i.front.0);
+      kept = e.gone c.if-not-give_at_once.false ∙ i.kept;
       now = last_seen h g c.in-Some.lock c.give_at_once.new.seat given marked ∙ ap (λ (s : Situation). let v : Situation = record s { held = c.pop.new.self.items; view = c.give_at_once.new.seat.seat.me.0.part.core } in v) i.now;
     }

@@ -8,6 +8,7 @@ invariant-loop-lock l = record {
   keeps : Keeps l.self;
   rests : is_at_rest l.self.turn ≡ true;
   front : (rest : List ℕ) × (l.fn.self.held.items ≡ l.self.held.items ++ rest);
+  kept : l.self.seat.seat.me.0.part.core.kept ≡ l.fn.self.seat.seat.me.0.part.core.kept;
   now : situation_of l.self ≡ record (situation_of l.fn.self) { held = l.self.held.items; view = l.self.seat.seat.me.0.part.core };
 }
 
