@@ -4,7 +4,7 @@ use Rattle.ww_queue.specs.declared.kind.Kind.{Kind}
 use Rattle.ww_view.specs.View.{IsAway}
 use Rattle.ww_table.specs.declared.board.Board.{Board}
 use Rattle.ww_table.specs.declared.seat.Seat16.{Seat16}
-use Rattle.ww_table.specs.Seat.{IsSeatOf, size_of}
+use Rattle.ww_table.specs.Seat.{IsSeatOf, size_of, view_of}
 use Rattle.ww_seat.specs.Orderly.{IsOrderly}
 use Rattle.ww_seat.specs.Looks.{IsOutside}
 
@@ -19,17 +19,17 @@ just n = slice_set none n true
 pub record Owns (board : Board) (k : Kind) (locks : List Bool) (s : Seat16) : Type 0 where
   pub seated : IsSeatOf board s
   pub orderly : IsOrderly (size_of board) s.seat.me
-  pub kind : s.seat.me.0.part.core.kind ≡ k
-  pub context : 0 < s.seat.me.0.part.core.stamp
-  pub owned : s.seat.me.0.part.core.owned ≡ locks
+  pub kind : (view_of s).kind ≡ k
+  pub context : 0 < (view_of s).stamp
+  pub owned : (view_of s).owned ≡ locks
 
 -- ... and waits for no lock
 pub record Holds (board : Board) (k : Kind) (locks : List Bool) (s : Seat16) : Type 0 where
   pub owns : Owns board k locks s
-  pub away : IsAway s.seat.me.0.part.core
+  pub away : IsAway (view_of s)
 
 -- ... or may look at this lock, where it stands in the wait list, or never was
 pub record MayLook (board : Board) (k : Kind) (locks : List Bool) (n : ℕ) (again : Bool) (s : Seat16) : Type 0 where
   pub owns : Owns board k locks s
   pub outside : IsOutside (size_of board) n s.seat.me
-  pub later : again ≡ not (s.seat.me.0.part.core.waits == 0)
+  pub later : again ≡ not ((view_of s).waits == 0)

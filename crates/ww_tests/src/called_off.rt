@@ -1,7 +1,9 @@
 //! Waits that are called off, by one thread: what would wait for a lock finds a cancel that was set before.
 
-ghost use Rattle.std.specs.Prelude.{◌≡◌, ◌<◌, length, Err, IfOk};
+ghost use Rattle.std.specs.Prelude.{◌≡◌, ◌<◌, length, Err, IsTrue, IfOk, IfErr};
+ghost use Rattle.ww_plain.specs.Numbers.{is_among};
 ghost use Rattle.ww_lock.specs.Holding.{IsAtHome};
+ghost use Rattle.ww_users.specs.Turns.{IsHaltingTurn};
 
 use crate::locks::{KINDS, begun, chain, closed, ended, locked};
 use crate::transactions::{Open, add, asked_interruptible};
@@ -15,7 +17,8 @@ use ww_plain::{By, Reply, Txn};
 use ww_queue::Kind;
 use ww_txn::TxnFault;
 use ww_users::{
-    UserFault, lock_list_interruptible, lock_order_interruptible, lock_walk_interruptible,
+    UserFault, lock_list_interruptible, lock_order_interruptible, lock_until_interruptible,
+    lock_walk_interruptible,
 };
 
 /// A world of three nodes in a chain, with three passes.
@@ -244,6 +247,68 @@ fn in_turn<R: Wait + Abort>(rt: &R, alloc: Global, kind: Kind) -> Result<(), Fai
 fn each_way_is_called_off(rt: HostRuntime) -> Result<(), Fail> {
     for kind in KINDS {
         in_turn(&rt, rt.alloc(), kind)?;
+    }
+    Ok(())
+}
+
+/// Takes the locks of both nodes, unless it is called off.
+fn both<R: Wait>(
+    rt: &R,
+    world: &World,
+    acquiring: Acquiring,
+    one: u8,
+    other: u8,
+) -> Result<Acquiring, (Pass, u8)>
+    requires home { IsAtHome acquiring world.now }
+    requires one { one < length world.now.first }
+    requires other { other < length world.now.first }
+    ensures home { IfOk result (λ a. IsAtHome a world.now) }
+    ensures held { IfOk result (λ a. IsTrue (is_among other a.held)) }
+    ensures back { IfErr result (λ e. IsAtHome e.0 world.now) }
+{
+    let body = |acquiring: Acquiring|
+        requires home { IsAtHome acquiring world.now }
+        requires one { one < length world.now.first }
+        requires other { other < length world.now.first }
+        ensures turn { IsHaltingTurn acquiring result }
+        ensures held { IfOk result (λ a. IsTrue (is_among other a.held)) }
+    {
+        let acquiring = acquiring.lock_interruptible(rt, world, one).going_on()?;
+        acquiring.lock_interruptible(rt, world, other).going_on()
+    };
+    lock_until_interruptible(rt, world, acquiring, body)
+}
+
+/// A body is called off at its second lock while another holds that, and takes both locks once nobody does.
+fn body_in_turn<R: Wait + Abort>(rt: &R, alloc: Global, kind: Kind) -> Result<(), Fail> {
+    let (world, zero, one, two) = three_passes(alloc, kind, 2)?;
+    assert!(rt; world.size() == 3);
+    let zero = locked(rt, &world, begun(rt, &world, zero), 1, 0);
+    let two = cancelled(rt, &world, two, 1, false);
+    let one = match both(rt, &world, begun(rt, &world, one), 0, 1) {
+        Ok(_acquiring) => panic!(rt; "the lock was free"),
+        Err((one, by)) => {
+            assert!(rt; by == 2 && one.left() == 1);
+            one
+        }
+    };
+    let two = cancelled(rt, &world, two, 1, false);
+    ended(rt, &world, zero);
+    match both(rt, &world, begun(rt, &world, one), 0, 1) {
+        Ok(acquiring) => {
+            assert!(rt; acquiring.held(0) && acquiring.held(1));
+            ended(rt, &world, acquiring);
+        }
+        Err((_one, by)) => panic!(rt; "{by} called it off"),
+    }
+    cancelled(rt, &world, two, 1, true);
+    Ok(())
+}
+
+#[test]
+fn a_body_is_called_off(rt: HostRuntime) -> Result<(), Fail> {
+    for kind in KINDS {
+        body_in_turn(&rt, rt.alloc(), kind)?;
     }
     Ok(())
 }

@@ -11,7 +11,7 @@ use Rattle.ww_users.specs.declared.trip.Trip.TheVariants.{Through, Already, Inte
 use Rattle.ww_users.specs.declared.reordered_list.Ordered.{Ordered}
 use Rattle.ww_users.specs.Ways.{IsContext, HoldsExactly, IsUserFault}
 use Rattle.ww_users.specs.Trips.{IsSameContext, IsHalted, IsWayTurn, HoldsKept, IsReordered, IsListTurn, IsOrderTurn}
-use Rattle.ww_users.specs.Turns.{KeepsContext, StartsTurn, IsTurn, IsBackedOff, Comes, EndsWith, IsCutShort, GoesThrough, IsWayFault, at_first, further}
+use Rattle.ww_users.specs.Turns.{KeepsContext, StartsTurn, IsTurn, IsOneMore, IsHaltedBy, IsBackedOff, Comes, EndsWith, IsCutShort, GoesThrough, IsWayFault, at_first, further}
 use Rattle.ww_users.proofs.Contexts.{same_later, context_later}
 use Rattle.ww_users.proofs.Entries.{way_again}
 use Rattle.ww_users.proofs.Orders.{order_begins, order_goes_on, order_among}
@@ -26,6 +26,10 @@ comes_keeps Turns Begins first Keeps base step _ _ (further a s b next c before 
 pub comes_from : {S T : Type 0} (Turns : Holding → S → Result T (Refused × S) → Type 0) (Begins Others : Holding → Type 0) (first : S) → ((a : Holding) → Begins a → Others a) → (a : Holding) (s : S)
     → Comes Turns Begins first a s → Comes Turns Others first a s
 comes_from Turns Begins Others first more = comes_keeps Turns Begins first (Comes Turns Others first) (λ a begins. at_first a (more a begins)) (λ a s b next c before turn off. further a s b next c before turn off)
+
+-- the last turn's outcome, under another name
+pub ends_as : {S T : Type 0} (Turns : Holding → S → Result T (Refused × S) → Type 0) (Begins : Holding → Type 0) (first : S) (t told : T) → t ≡ told → EndsWith Turns Begins first t → EndsWith Turns Begins first told
+ends_as {T = T} Turns Begins first t told is e = (e.0, e.1, e.2, subst (λ (u : T). Turns e.0 e.1 (Ok u)) is e.3)
 
 -- ---- one of the three ways
 
@@ -59,7 +63,8 @@ halted_home heeds s a by w halted home = same_home (interrupted_by s halted.1.0 
 -- what its last turn told it is told of the context that was begun
 pub ends_from : {S : Type 0} (Turns : Holding → S → Result Trip (Refused × S) → Type 0) (s begun : Holding) (first : S) → IsBegun s begun → (t told : Trip) → t ≡ told → EndsWith Turns (λ a. a ≡ begun) first t → EndsWith Turns (IsBegun s) first told
 ends_from Turns s begun first h t told is e =
-    (e.0, e.1, comes_from Turns (λ a. a ≡ begun) (IsBegun s) first (λ a same. subst (IsBegun s) (sym same) h) e.0 e.1 e.2, subst (λ (u : Trip). Turns e.0 e.1 (Ok u)) is e.3)
+    let last = ends_as Turns (λ a. a ≡ begun) first t told is e in
+    (last.0, last.1, comes_from Turns (λ a. a ≡ begun) (IsBegun s) first (λ a same. subst (IsBegun s) (sym same) h) last.0 last.1 last.2, last.3)
 
 pub ends_context : {S : Type 0} (Turns : Holding → S → Result Trip (Refused × S) → Type 0) (s : Holding) (first : S) (heeds : Bool) → ((a : Holding) (t : S) (r : Result Trip (Refused × S)) → Turns a t r → IsWayTurn heeds a r)
     → (t : Trip) → EndsWith Turns (IsBegun s) first t → (a : Holding) × IsContext s a × IsWayTurn {S = S} heeds a (Ok t)
@@ -142,3 +147,47 @@ turns_start Turns s first w home each = comes_keeps Turns (λ c. c ≡ s) first 
     (λ a is. subst (StartsTurn s w) (sym is) (record { home = home; same = keeps_at_once s; held = inl refl }))
     (λ a t b next c h turn off. let same = keeps_later a b.holding c (each a t b next h turn) (keeps_same b.holding c off.same) in
     record { home = keeps_home a c w same h.home; same = keeps_later s a c h.same same; held = inr (b.contended, off.alone) })
+
+-- ---- a body of `lock_until_interruptible`
+
+halted_home_by : (s a : Holding) (by : ℕ) (w : Setting) → IsHaltedBy s by a → IsAtHome s w → IsAtHome a w
+halted_home_by s a by w h home = record {
+  home = ap (λ (c : Holding). c.home) h.rest ∙ home.home;
+  size = h.size ∙ home.size;
+  number = rw (ap (λ (c : Holding). c.caller) h.rest) home.number;
+}
+
+-- the back-off was called off
+halted_by : (heeds : Bool) (s a : Holding) (by : ℕ) → IsHalted heeds s by a → IsHaltedBy s by a
+halted_by heeds s a by h =
+    let same = h.1.1 in
+    let more : a.interrupted ≡ (h.1.0, by) ∷ s.interrupted = ap (λ (c : Holding). c.interrupted) same.rest in
+    record {
+      rest = same.rest ∙ ap (λ (l : List (ℕ × ℕ)). record s { held = a.held; seen = a.seen; tries = a.tries; takes = a.takes; deaths = a.deaths; interrupted = l }) (sym more);
+      told = subst (IsOneMore by s.interrupted) (sym more) (refl, refl);
+      size = same.size;
+    }
+
+halted_later_by : (s a b : Holding) (by : ℕ) → KeepsContext s a → IsHaltedBy a by b → IsHaltedBy s by b
+halted_later_by s a b by h more = record {
+  rest = more.rest ∙ ap (λ (c : Holding). record c { held = b.held; seen = b.seen; tries = b.tries; takes = b.takes; deaths = b.deaths; interrupted = b.interrupted }) h.rest;
+  told = subst (λ (l : List (ℕ × ℕ)). IsOneMore by l b.interrupted) (ap (λ (c : Holding). c.interrupted) h.rest) more.told;
+  size = more.size ∙ h.size;
+}
+
+-- a pass that gave all back, and one that held nothing
+pub given_home : (a p : Holding) (w : Setting) → IsAtHome a w → p ≡ record a { held = []; stamp = 0 } → IsAtHome p w
+given_home a p w h is = subst (λ (c : Holding). IsAtHome c w) (sym is) (record { home = h.home; size = h.size; number = h.number })
+
+pub given_empty : (a p : Holding) → a.held ≡ [] → p ≡ record a { stamp = 0 } → p ≡ record a { held = []; stamp = 0 }
+given_empty a p nothing is = is ∙ ap (λ (ns : List ℕ). record a { held = ns; stamp = 0 }) nothing
+
+pub given_up : (s a p : Holding) (by : ℕ) → IsHaltedBy s by a → p ≡ record a { held = []; stamp = 0 } → IsHaltedBy (record s { stamp = 0 }) by p
+given_up s a p by h is = subst (IsHaltedBy (record s { stamp = 0 }) by) (sym is) (record { rest = ap (λ (c : Holding). record c { held = []; stamp = 0 }) h.rest; told = h.told; size = h.size })
+
+-- the body, in a context that starts a turn, or the back-off after it was called off
+pub turn_halted : (s a b : Holding) (by : ℕ) (w : Setting) → StartsTurn s w a → IsHaltedBy a by b → IsHaltedBy s by b × IsAtHome b w
+turn_halted s a b by w starts h = (halted_later_by s a b by starts.same h, halted_home_by a b by w h starts.home)
+
+pub back_halted : (s a b c : Holding) (by : ℕ) (w : Setting) → StartsTurn s w a → KeepsContext a b → IsHalted true b by c → IsHaltedBy s by c × IsAtHome c w
+back_halted s a b c by w starts turn h = turn_halted s a c by w starts (halted_later_by a b c by turn (halted_by true b c by h))

@@ -1,7 +1,9 @@
 -- What a body that takes locks does in its turns, of which each but the last one ends with EDEADLK.
-use Rattle.std.specs.Prelude.{ℕ, ◌≡◌, ◌∷◌, ◌⊎◌, [], Bool, true, length, Result, Ok, Err, IfOk, IfErr}
+use Rattle.std.specs.Prelude.{ℕ, ◌≡◌, ◌∷◌, ◌⊎◌, [], Bool, true, List, length, Result, Ok, Err, IfOk, IfErr}
 use Rattle.ww_lock.specs.Holding.{Holding, Refused, Wanting, Setting, IsAtHome}
 use Rattle.ww_lock.specs.Moves.{IsBegun}
+use Rattle.ww_lock.specs.declared.interruptible.Halt.{Halt}
+use Rattle.ww_lock.specs.declared.interruptible.Halt.TheVariants as halt
 use Rattle.ww_users.specs.declared.fault.UserFault.{UserFault}
 use Rattle.ww_users.specs.declared.fault.UserFault.TheVariants.{PassSpent, Already, Interrupted}
 use Rattle.ww_users.specs.declared.trip.Trip.{Trip}
@@ -24,6 +26,33 @@ pub record StartsTurn (s : Holding) (w : Setting) (a : Holding) : Type 0 where
 pub record IsTurn (s : Holding) (r : Result Holding Refused) : Type 0 where
   pub ok : IfOk r (KeepsContext s)
   pub err : IfErr r (λ b. KeepsContext s b.holding)
+
+-- one interruption more, by this caller
+abbrev pub IsOneMore : ℕ → List (ℕ × ℕ) → List (ℕ × ℕ) → Type 0
+IsOneMore by before [] = ⊥
+IsOneMore by before (last ∷ rest) = (last.1 ≡ by) × (rest ≡ before)
+
+-- its wait was called off by this caller; it is the same context otherwise, which may hold other locks
+pub record IsHaltedBy (s : Holding) (by : ℕ) (a : Holding) : Type 0 where
+  pub rest : a ≡ record s { held = a.held; seen = a.seen; tries = a.tries; takes = a.takes; deaths = a.deaths; interrupted = a.interrupted }
+  pub told : IsOneMore by s.interrupted a.interrupted
+  pub size : length a.seen ≡ length s.seen
+
+-- why a turn ended without all of its locks
+abbrev pub IsTurnHalt : Holding → Halt → Type 0
+IsTurnHalt s (halt.Deadlk b) = KeepsContext s b.holding
+IsTurnHalt s (halt.Interrupted a by) = IsHaltedBy s by a
+
+-- a turn that may be called off keeps the context, whichever way it ends
+pub record IsHaltingTurn (s : Holding) (r : Result Holding Halt) : Type 0 where
+  pub ok : IfOk r (KeepsContext s)
+  pub err : IfErr r (IsTurnHalt s)
+
+-- what the body ended with, of what its turn hands on: EDEADLK alone leads to another turn
+abbrev pub ended_with : Result (Result Holding (Holding × ℕ)) (Refused × Unit {0}) → Result Holding Halt
+ended_with (Ok (Ok a)) = Ok a
+ended_with (Ok (Err e)) = Err (halt.Interrupted e.0 e.1)
+ended_with (Err e) = Err (halt.Deadlk e.0)
 
 -- after a back-off: the same context, with the contended lock alone
 pub record IsBackedOff (b : Refused) (a : Holding) : Type 0 where

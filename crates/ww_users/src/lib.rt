@@ -14,5 +14,5 @@ mod walk;
 pub use fault::UserFault;
 pub use fixed_list::{lock_list, lock_list_interruptible};
 pub use reordered_list::{lock_order, lock_order_interruptible};
-pub use until::lock_until;
+pub use until::{lock_until, lock_until_interruptible};
 pub use walk::{lock_walk, lock_walk_interruptible};
