@@ -7,6 +7,7 @@ use Rattle.ww_queue.specs.declared.entry.Entry.{Entry}
 use Rattle.ww_plain.specs.declared.node.Node.{Node}
 use Rattle.ww_plain.specs.Numbers.{is_among, AreDifferent}
 use Rattle.ww_view.specs.View.{owns}
+use Rattle.ww_view.specs.Made.{without}
 use Rattle.ww_rule.specs.declared.cells.Counts.{Counts}
 use Rattle.ww_rule.specs.Rule.{Sat}
 use Rattle.ww_rule.specs.Guards.{AreSeats, glancing}
@@ -22,9 +23,10 @@ use Rattle.ww_seat.proofs.Outside.{orderly_knowing}
 use Rattle.ww_desk.specs.declared.turn.Turn.{Turn}
 use Rattle.ww_desk.specs.declared.turn.Turn.TheVariants.{Rests, Stays, Wants, Looks, Gives, Lets}
 use Rattle.ww_desk.specs.declared.station.Station.{Station}
-use Rattle.ww_desk.specs.Situations.{Situation, is_at_rest, without}
+use Rattle.ww_desk.specs.Situations.{Situation, is_at_rest}
 use Rattle.ww_desk.specs.Stations.{table_of, situation_of, IsAt, Keeps}
-use Rattle.ww_desk.proofs.Locks.{owns_more, held_more, owns_less, held_less, there_among, last_among, without_last}
+use Rattle.ww_seat.proofs.Without.{owns_less}
+use Rattle.ww_desk.proofs.Locks.{owns_more, held_more, held_less, there_among, last_among, without_last}
 
 -- the same desk, with the same seat of the same table
 pub record IsOf (h g : Station) : Type 0 where

@@ -2,14 +2,14 @@
 use Rattle.std.specs.Prelude.{ℕ, ◌≡◌, ◌≢◌, ◌<◌, ◌≤◌, ◌+◌, ◌-◌, ◌⊎◌, ◌∷◌, ◌++◌, [], Bool, true, false, List, Some, None, length, replicate}
 use Rattle.std.specs.List.{slice_index_or}
 use Rattle.ww_plain.specs.Numbers.{is_among}
-use Rattle.ww_view.specs.Made.{found_pending}
+use Rattle.ww_view.specs.Made.{without, found_pending}
 use Rattle.ww_seat.specs.Calls.{HasMet}
 use Rattle.ww_seat.specs.Work.{AreWoken, KeepsMarks}
 use Rattle.ww_desk.specs.declared.turn.Turn.{Turn}
 use Rattle.ww_desk.specs.declared.turn.Turn.TheVariants as at
 use Rattle.ww_desk.specs.declared.turn.Answer.{Answer}
 use Rattle.ww_desk.specs.declared.turn.Answer.TheVariants.{Done, Again, Stays, Sleeps, Busy, Invalid, Already, NoSpace, Deadlk, Interrupted}
-use Rattle.ww_desk.specs.Situations.{Situation, is_at_rest, is_inside, can_want, without}
+use Rattle.ww_desk.specs.Situations.{Situation, is_at_rest, is_inside, can_want}
 
 -- ---- what a call makes of a desk
 

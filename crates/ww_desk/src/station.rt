@@ -1,6 +1,6 @@
 ghost use Rattle.std.specs.Prelude.{◌≡◌, ◌<◌, ◌++◌, ◌∷◌, [], true, false, length, slice_set, None};
 ghost use Rattle.ww_plain.specs.Numbers.{is_among};
-ghost use Rattle.ww_desk.specs.Situations.{without};
+ghost use Rattle.ww_view.specs.Made.{without};
 
 use crate::turn::Turn;
 use arrayvec::ArrayVec;

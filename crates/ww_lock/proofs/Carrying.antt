@@ -1,15 +1,20 @@
 -- What a state carries, as the calls of its seat change that.
-use Rattle.std.proofs.Common.{◌≡◌, ◌≢◌, ℕ, suc, zero, ◌+◌, ◌<◌, ◌≤◌, ◌^◌, ◌||◌, eqb, true≢false, Bool, true, false, List, [], ◌∷◌, ◌++◌, length, set, get_or, refl, sym, ap, subst, ◌∙◌, arith, inl, inr, Some, length-set, get_or-set_same, get_or-set_other}
+use Rattle.std.proofs.Common.{◌≡◌, ◌≢◌, ℕ, suc, zero, ◌+◌, ◌-◌, ◌<◌, ◌≤◌, ◌^◌, ◌||◌, eqb, true≢false, Bool, true, false, List, [], ◌∷◌, ◌++◌, length, set, get_or, refl, sym, ap, subst, ◌∙◌, arith, inl, inr, Some, None, length-set, get_or-set_same, get_or-set_other}
 use mathlib.Core.Option.{some}
 use lib.ListN.{get_elem?}
 use Rattle.atomic_table.specs.Seated.{TableId}
 use Rattle.ww_plain.specs.declared.node.Node.{Node}
 use Rattle.ww_plain.specs.Numbers.{is_among}
 use Rattle.ww_plain.specs.Graph.{no_node, node_at}
-use Rattle.ww_plain.proofs.Members.{eqb_same, eqb_comm, true_or_false, same_from_eqb, or_false, or_right, is_among-append, different_head, different_tail, different_cons, different_none}
-use Rattle.ww_plain.specs.Numbers.{AreDifferent}
-use Rattle.std.specs.List.{AllByRecursion}
-use Rattle.ww_lock.proofs.Helds.{held_more}
+use Rattle.ww_plain.proofs.Members.{true_or_false, same_from_eqb, or_right, is_among-append, is_among-head}
+use Rattle.std.proofs.lemmas.Bool.{cases_lt}
+use Rattle.ww_rule.specs.declared.cells.Cell.{Cell}
+use Rattle.ww_rule.specs.declared.cells.Cell.TheVariants.{Content}
+use Rattle.ww_rule.specs.Layout.{list_at}
+use Rattle.ww_rule.specs.Out.{slot_of}
+use Rattle.ww_seat.proofs.Slots.{slot_here, not_both}
+use Rattle.ww_seat.proofs.Without.{another, owns_less, shorter}
+use Rattle.ww_lock.proofs.Helds.{held_more, held_less}
 use Rattle.ww_view.specs.View.{owns, IsBare}
 use Rattle.ww_table.specs.declared.seat.Seat16.{Seat16}
 use Rattle.ww_rule.specs.declared.cells.Counts.{Counts}
@@ -21,7 +26,7 @@ use Rattle.ww_seat.specs.Calls.{IsSame, HoldsAsBefore, HasTaken, HasToDie, HasSt
 use Rattle.ww_seat.specs.declared.patience.Patience.{Patience}
 use Rattle.ww_lock.specs.declared.hand.Hand.{Hand}
 use Rattle.ww_lock.specs.Holding.{Holding, Setting, IsAtHome, AreHeld, by_of}
-use Rattle.ww_lock.specs.Carried.{holding_of, Carries, CarriesFresh}
+use Rattle.ww_lock.specs.Carried.{holding_of, held_of, Carries, CarriesFresh}
 use Rattle.ww_lock.specs.Moves.{tried, with_node, backed_off, IsTaken, IsStop}
 
 pub settled_as : (a b : TableId) (m n : ℕ) (q : Seat16) → a ≡ b → m ≡ n → IsSettled a m q → IsSettled b n q
@@ -34,10 +39,10 @@ at_table s w p is home = (home.home ∙ sym (ap (λ (x : Setting). x.home) is), 
 pub here : (h : Hand) (w p : Setting) → p ≡ w → IsAtHome (holding_of h) w → Carries h → IsSettled p.home (length p.first) h.seat
 here h w p is home c = let t = at_table (holding_of h) w p is home in settled_as h.seat.seat.table_id p.home (length h.seen) (length p.first) h.seat t.0 t.1 c.settled
 
-pub bare_of : (h : Hand) → Carries h → h.held.items ≡ [] → IsBare h.seat.seat.me.0.part.core
+pub bare_of : (h : Hand) → Carries h → held_of h ≡ [] → IsBare h.seat.seat.me.0.part.core
 bare_of h c none = λ n. c.owned n ∙ ap (is_among n) none
 
-pub may_draw : (h : Hand) → Carries h → h.held.items ≡ [] → h.seat.stamp ≡ 0 → h.seat.seat.me.0.part.counts.draws + h.left + 1 < 2 ^ 32 → MayDraw h.seat.seat.me.0.part
+pub may_draw : (h : Hand) → Carries h → held_of h ≡ [] → h.seat.stamp ≡ 0 → h.seat.seat.me.0.part.counts.draws + h.left + 1 < 2 ^ 32 → MayDraw h.seat.seat.me.0.part
 may_draw h c none idle few = record { away = c.settled.away; no_context = c.settled.seated.stamp ∙ idle; bare = bare_of h c none; fewer = omega (arith, few) }
 
 -- the seat that a state carries once a call of it has ended
@@ -49,7 +54,7 @@ pub record HasMoved (h : Hand) (p : Setting) (q : Seat16) : Type 0 where
 
 -- a state of these parts is seen as a holding of these
 pub holding_is : (h g : Hand) (w p : Setting) (q : Seat16) → p ≡ w → IsAtHome (holding_of h) w → Carries h → HasMoved h p q → g.seat ≡ q → g.left ≡ h.left
-    → holding_of g ≡ record (holding_of h) { draws = q.seat.me.0.part.counts.draws; stamp = q.stamp; held = g.held.items; seen = g.seen; tries = q.seat.me.0.part.core.tries; takes = q.seat.me.0.part.core.takes; deaths = q.seat.me.0.part.core.deaths; cancelled = q.seat.me.0.part.counts.cancelled; pendings = q.seat.me.0.part.core.pendings; interrupted = q.seat.me.0.part.core.stopped }
+    → holding_of g ≡ record (holding_of h) { draws = q.seat.me.0.part.counts.draws; stamp = q.stamp; held = q.seat.me.0.part.core.locks; seen = g.seen; tries = q.seat.me.0.part.core.tries; takes = q.seat.me.0.part.core.takes; deaths = q.seat.me.0.part.core.deaths; cancelled = q.seat.me.0.part.counts.cancelled; pendings = q.seat.me.0.part.core.pendings; interrupted = q.seat.me.0.part.core.stopped }
 holding_is h g w p q is home c m seat left =
     let t = at_table (holding_of h) w p is home in
     let table : q.seat.table_id ≡ h.seat.seat.table_id = m.settled.seated.home ∙ sym t.0 in
@@ -58,14 +63,14 @@ holding_is h g w p q is home c m seat left =
 
 -- what is known of it, where its parts are these
 pub carries_as : (h g : Hand) (w p : Setting) (q : Seat16) → p ≡ w → IsAtHome (holding_of h) w → Carries h → HasMoved h p q → g.seat ≡ q → length g.seen ≡ length h.seen
-    → AreHeld g.held.items g.seen → ((n : ℕ) → owns q.seat.me.0.part.core n ≡ is_among n g.held.items) → g.marks ≡ q.seat.me.0.part.core.owned → q.seat.me.0.part.counts.draws + g.left < 2 ^ 32 → length q.records.items + g.left < 2 ^ 32 → Carries g
+    → AreHeld q.seat.me.0.part.core.locks g.seen → ((n : ℕ) → owns q.seat.me.0.part.core n ≡ is_among n q.seat.me.0.part.core.locks) → g.marks ≡ q.seat.me.0.part.core.owned → q.seat.me.0.part.counts.draws + g.left < 2 ^ 32 → length q.records.items + g.left < 2 ^ 32 → Carries g
 carries_as h g w p q is home c m seat size held owned marks draws commits =
     let t = at_table (holding_of h) w p is home in record {
       settled = subst (λ (s : Seat16). IsSettled s.seat.table_id (length g.seen) s) (sym seat)
           (settled_as p.home q.seat.table_id (length p.first) (length g.seen) q (sym m.settled.seated.home) (sym t.1 ∙ sym size) m.settled);
-      owned = λ n. ap (λ (s : Seat16). owns s.seat.me.0.part.core n) seat ∙ owned n;
+      owned = λ n. subst (λ (s : Seat16). owns s.seat.me.0.part.core n ≡ is_among n s.seat.me.0.part.core.locks) (sym seat) (owned n);
       marks = marks ∙ ap (λ (s : Seat16). s.seat.me.0.part.core.owned) (sym seat);
-      held = held;
+      held = subst (λ (s : Seat16). AreHeld s.seat.me.0.part.core.locks g.seen) (sym seat) held;
       answered = subst (λ (s : Seat16). by_of s.seat.me.0.part.core.stopped ≡ s.seat.me.0.part.counts.heeded) (sym seat) m.answered;
       draws = subst (λ (s : Seat16). s.seat.me.0.part.counts.draws + g.left < 2 ^ 32) (sym seat) draws;
       commits = subst (λ (s : Seat16). length s.records.items + g.left < 2 ^ 32) (sym seat) commits;
@@ -74,6 +79,13 @@ carries_as h g w p q is home c m seat size held owned marks draws commits =
 -- each cancel that was heeded is still answered, where both are as they were
 still_answered : (h : Hand) (q : Seat16) → Carries h → q.seat.me.0.part.core.stopped ≡ h.seat.seat.me.0.part.core.stopped → q.seat.me.0.part.counts.heeded ≡ h.seat.seat.me.0.part.counts.heeded → by_of q.seat.me.0.part.core.stopped ≡ q.seat.me.0.part.counts.heeded
 still_answered h q c stopped heeded = ap by_of stopped ∙ c.answered ∙ sym heeded
+
+-- ... and it holds what it held
+pub held_still : (h : Hand) (q : Seat16) → Carries h → q.seat.me.0.part.core.locks ≡ held_of h → AreHeld q.seat.me.0.part.core.locks h.seen
+held_still h q c locks = subst (λ (ns : List ℕ). AreHeld ns h.seen) (sym locks) c.held
+
+pub owned_still : (h : Hand) (q : Seat16) → Carries h → q.seat.me.0.part.core.owned ≡ h.seat.seat.me.0.part.core.owned → q.seat.me.0.part.core.locks ≡ held_of h → (n : ℕ) → owns q.seat.me.0.part.core n ≡ is_among n q.seat.me.0.part.core.locks
+owned_still h q c owned locks n = ap (λ (os : List Bool). get_or os n false) owned ∙ c.owned n ∙ ap (is_among n) (sym locks)
 
 -- ---- contexts
 
@@ -91,11 +103,11 @@ begins h w p q k is home f few settled records b pos =
     let drew = ap (λ (k : Counts). k.draws) b.counts in
     let many : length q.records.items ≡ length h.seat.records.items = ap (λ r. length r.items) records in record {
       fresh = record {
-        carries = carries_as h g w p q is home c m refl refl c.held (λ n. ap (λ (os : List Bool). get_or os n false) b.owned ∙ c.owned n) (c.marks ∙ sym b.owned) (omega (arith, few, drew)) (omega (arith, many, c.commits));
-        seen = λ n among. ap (λ hs. get_elem? hs n) b.held ∙ f.seen n among;
+        carries = carries_as h g w p q is home c m refl refl (held_still h q c b.locks) (owned_still h q c b.owned b.locks) (c.marks ∙ sym b.owned) (omega (arith, few, drew)) (omega (arith, many, c.commits));
+        seen = λ n among. ap (λ hs. get_elem? hs n) b.held ∙ f.seen n (ap (is_among n) (sym b.locks) ∙ among);
         commits = omega (arith, many, f.commits);
       };
-      is = holding_is h g w p q is home c m refl refl ∙ rw (b.counts, b.stopped, b.pendings, b.tries, b.takes, b.deaths) refl;
+      is = holding_is h g w p q is home c m refl refl ∙ rw (b.counts, b.locks, b.stopped, b.pendings, b.tries, b.takes, b.deaths) refl;
       stamped = omega (arith, pos, b.stamp, settled.seated.stamp);
     }
 
@@ -110,8 +122,8 @@ ends h w p q is home c settled records e =
     let m : HasMoved h p q = record { settled = settled; records = records; who = e.who; answered = still_answered h q c e.stopped (ap (λ (k : Counts). k.heeded) e.counts) } in
     let drew = ap (λ (k : Counts). k.draws) e.counts in
     let many : length q.records.items ≡ length h.seat.records.items = ap (λ r. length r.items) records in record {
-      carries = carries_as h g w p q is home c m refl refl c.held (λ n. ap (λ (os : List Bool). get_or os n false) e.owned ∙ c.owned n) (c.marks ∙ sym e.owned) (omega (arith, c.draws, drew)) (omega (arith, many, c.commits));
-      is = holding_is h g w p q is home c m refl refl ∙ rw (e.counts, e.stopped, e.pendings, sym settled.seated.stamp ∙ e.stamp, e.tries, e.takes, e.deaths) refl;
+      carries = carries_as h g w p q is home c m refl refl (held_still h q c e.locks) (owned_still h q c e.owned e.locks) (c.marks ∙ sym e.owned) (omega (arith, c.draws, drew)) (omega (arith, many, c.commits));
+      is = holding_is h g w p q is home c m refl refl ∙ rw (e.counts, e.locks, e.stopped, e.pendings, sym settled.seated.stamp ∙ e.stamp, e.tries, e.takes, e.deaths) refl;
     }
 
 -- ---- locks
@@ -128,9 +140,6 @@ elem_else (y ∷ ys) zero zero x isnt = absurd (isnt refl)
 elem_else (y ∷ ys) zero (suc m) x isnt = refl
 elem_else (y ∷ ys) (suc n) zero x isnt = refl
 elem_else (y ∷ ys) (suc n) (suc m) x isnt = elem_else ys n m x (λ e. isnt (ap suc e))
-
-another : (n m : ℕ) → eqb n m ≡ false → m ≢ n
-another n m differ e = true≢false (sym (subst (λ (k : ℕ). eqb n k ≡ true) (sym e) (eqb_same n)) ∙ differ)
 
 -- a number is the one that was added, or not
 among_added : (held : List ℕ) (n m : ℕ) → is_among m (held ++ n ∷ []) ≡ (is_among m held || (eqb n m || false))
@@ -157,10 +166,10 @@ pub record Takes (h g : Hand) (n : ℕ) (x : Node) : Type 0 where
   pub fresh : CarriesFresh g
   pub is : holding_of g ≡ with_node (record (holding_of h) { tries = g.seat.seat.me.0.part.core.tries; takes = (holding_of h).takes + 1 }) n x
 
-pub takes : (h g : Hand) (w p : Setting) (q : Seat16) (n : ℕ) (x : Node) → p ≡ w → IsAtHome (holding_of h) w → CarriesFresh h → n < length h.seen → is_among n h.held.items ≡ false
+pub takes : (h g : Hand) (w p : Setting) (q : Seat16) (n : ℕ) (x : Node) → p ≡ w → IsAtHome (holding_of h) w → CarriesFresh h → n < length h.seen → is_among n (held_of h) ≡ false
     → IsSettled p.home (length p.first) q → q.records ≡ h.seat.records → HasTaken h.seat.seat.me n x q.seat.me
-    → g.seat ≡ q → g.left ≡ h.left → g.held.items ≡ h.held.items ++ n ∷ [] → g.marks ≡ set h.marks n true → g.seen ≡ set h.seen n x → Takes h g n x
-takes h g w p q n x is home f lt new settled records t seat left grown marked read =
+    → g.seat ≡ q → g.left ≡ h.left → g.marks ≡ set h.marks n true → g.seen ≡ set h.seen n x → Takes h g n x
+takes h g w p q n x is home f lt new settled records t seat left marked read =
     let c = f.carries in
     let m : HasMoved h p q = record { settled = settled; records = records; who = t.same.who; answered = still_answered h q c t.same.stopped (ap (λ (k : Counts). k.heeded) t.same.counts) } in
     let drew = ap (λ (k : Counts). k.draws) t.same.counts in
@@ -168,24 +177,24 @@ takes h g w p q n x is home f lt new settled records t seat left grown marked re
     let long : length g.seen ≡ length h.seen = ap length read ∙ length-set h.seen n x in
     let wide : n < length h.seat.seat.me.0.part.core.owned = omega (arith, lt, c.held.few, c.settled.orderly.owned) in
     let deep : n < length h.seat.seat.me.0.held = omega (arith, lt, c.settled.orderly.held) in
-    let carried = carries_as h g w p q is home c m seat long (held_more h.held.items g.held.items h.seen g.seen n c.held lt new grown long)
-    (λ k. owns_more h.seat.seat.me.0.part.core.owned q.seat.me.0.part.core.owned h.held.items n wide t.owned c.owned k ∙ ap (is_among k) (sym grown))
+    let carried = carries_as h g w p q is home c m seat long (held_more (held_of h) q.seat.me.0.part.core.locks h.seen g.seen n c.held lt new t.locks long)
+    (λ k. owns_more h.seat.seat.me.0.part.core.owned q.seat.me.0.part.core.owned (held_of h) n wide t.owned c.owned k ∙ ap (is_among k) (sym t.locks))
     (marked ∙ ap (λ (os : List Bool). set os n true) c.marks ∙ sym t.owned)
     (omega (arith, c.draws, drew, left)) (omega (arith, many, c.commits, left)) in
     let here_now : get_elem? q.seat.me.0.held n ≡ some (Some (node_at g.seen n)) =
     ap (λ hs. get_elem? hs n) t.held ∙ elem_here h.seat.seat.me.0.held n (Some x) deep ∙ ap (λ (y : Node). some (Some y)) (sym (ap (λ (ns : List Node). node_at ns n) read ∙ get_or-set_same h.seen n x no_node lt)) in
-    let still : (k : ℕ) → k ≢ n → is_among k h.held.items ≡ true → get_elem? q.seat.me.0.held k ≡ some (Some (node_at g.seen k)) = λ k isnt among.
+    let still : (k : ℕ) → k ≢ n → is_among k (held_of h) ≡ true → get_elem? q.seat.me.0.held k ≡ some (Some (node_at g.seen k)) = λ k isnt among.
     ap (λ hs. get_elem? hs k) t.held ∙ elem_else h.seat.seat.me.0.held n k (Some x) isnt ∙ f.seen k among ∙ ap (λ (y : Node). some (Some y)) (sym (ap (λ (ns : List Node). node_at ns k) read ∙ get_or-set_other h.seen n k x no_node isnt)) in
     record {
       fresh = record {
         carries = carried;
         seen = λ k among. ap (λ (s : Seat16). get_elem? s.seat.me.0.held k) seat ∙ elim (true_or_false (eqb n k)) [
           | inl same ↦ subst (λ (j : ℕ). get_elem? q.seat.me.0.held j ≡ some (Some (node_at g.seen j))) (same_from_eqb n k same) here_now
-          | inr other ↦ still k (another n k other) (rest_among h.held.items n k other (ap (is_among k) (sym grown) ∙ among))
+          | inr other ↦ still k (another n k other) (rest_among (held_of h) n k other (ap (is_among k) (sym t.locks) ∙ ap (λ (s : Seat16). is_among k s.seat.me.0.part.core.locks) (sym seat) ∙ among))
         ];
         commits = subst (λ (s : Seat16). length s.records.items + g.left + 1 < 2 ^ 32) (sym seat) (omega (arith, many, f.commits, left));
       };
-      is = holding_is h g w p q is home c m seat left ∙ rw (seat, grown, read, t.same.counts, t.same.stopped, t.same.pendings, t.takes, t.deaths, sym settled.seated.stamp ∙ t.same.stamp ∙ c.settled.seated.stamp) refl;
+      is = holding_is h g w p q is home c m seat left ∙ rw (seat, t.locks, read, t.same.counts, t.same.stopped, t.same.pendings, t.takes, t.deaths, sym settled.seated.stamp ∙ t.same.stamp ∙ c.settled.seated.stamp) refl;
     }
   where
     rest_among : (held : List ℕ) (n k : ℕ) → eqb n k ≡ false → is_among k (held ++ n ∷ []) ≡ true → is_among k held ≡ true
@@ -195,7 +204,7 @@ takes h g w p q n x is home f lt new settled records t seat left grown marked re
     ]
 
 -- ... by one try
-pub taken_at_once : (h g : Hand) (q : Seat16) (n : ℕ) (x : Node) → is_among n h.held.items ≡ false → g.seat ≡ q → TriedOnce h.seat.seat.me q.seat.me → Takes h g n x → IsTaken (holding_of h) n (holding_of g)
+pub taken_at_once : (h g : Hand) (q : Seat16) (n : ℕ) (x : Node) → is_among n (held_of h) ≡ false → g.seat ≡ q → TriedOnce h.seat.seat.me q.seat.me → Takes h g n x → IsTaken (holding_of h) n (holding_of g)
 taken_at_once h g q n x new seat once t = record {
   new = new;
   contents = x;
@@ -203,7 +212,7 @@ taken_at_once h g q n x new seat once t = record {
 }
 
 -- ... after one try in vain, by waiting
-pub taken_late : (h g : Hand) (q : Seat16) (n : ℕ) (x : Node) (s : Holding) → is_among n h.held.items ≡ false → g.seat ≡ q → q.seat.me.0.part.core.tries ≡ h.seat.seat.me.0.part.core.tries → Takes h g n x → holding_of h ≡ tried s → IsTaken s n (holding_of g)
+pub taken_late : (h g : Hand) (q : Seat16) (n : ℕ) (x : Node) (s : Holding) → is_among n (held_of h) ≡ false → g.seat ≡ q → q.seat.me.0.part.core.tries ≡ h.seat.seat.me.0.part.core.tries → Takes h g n x → holding_of h ≡ tried s → IsTaken s n (holding_of g)
 taken_late h g q n x s new seat none t was = record {
   new = sym (ap (λ (z : Holding). is_among n z.held) was) ∙ new;
   contents = x;
@@ -217,31 +226,31 @@ record Keeps (h g : Hand) : Type 0 where
   is : holding_of g ≡ record (holding_of h) { tries = g.seat.seat.me.0.part.core.tries; takes = g.seat.seat.me.0.part.core.takes; deaths = g.seat.seat.me.0.part.core.deaths }
 
 keeps : (h : Hand) (w p : Setting) (q : Seat16) (z : Patience) → p ≡ w → IsAtHome (holding_of h) w → CarriesFresh h → IsSettled p.home (length p.first) q → q.records ≡ h.seat.records
-    → IsSame h.seat.seat.me q.seat.me → q.seat.me.0.part.core.owned ≡ h.seat.seat.me.0.part.core.owned → q.seat.me.0.held ≡ h.seat.seat.me.0.held → Keeps h (record h { seat = q; patience = z })
-keeps h w p q z is home f settled records same owned held =
+    → IsSame h.seat.seat.me q.seat.me → q.seat.me.0.part.core.owned ≡ h.seat.seat.me.0.part.core.owned → q.seat.me.0.part.core.locks ≡ held_of h → q.seat.me.0.held ≡ h.seat.seat.me.0.held → Keeps h (record h { seat = q; patience = z })
+keeps h w p q z is home f settled records same owned locks held =
     let c = f.carries in
     let g : Hand = record h { seat = q; patience = z } in
     let m : HasMoved h p q = record { settled = settled; records = records; who = same.who; answered = still_answered h q c same.stopped (ap (λ (k : Counts). k.heeded) same.counts) } in
     let drew = ap (λ (k : Counts). k.draws) same.counts in
     let many : length q.records.items ≡ length h.seat.records.items = ap (λ r. length r.items) records in record {
       fresh = record {
-        carries = carries_as h g w p q is home c m refl refl c.held (λ n. ap (λ (os : List Bool). get_or os n false) owned ∙ c.owned n) (c.marks ∙ sym owned) (omega (arith, c.draws, drew)) (omega (arith, many, c.commits));
-        seen = λ n among. ap (λ hs. get_elem? hs n) held ∙ f.seen n among;
+        carries = carries_as h g w p q is home c m refl refl (held_still h q c locks) (owned_still h q c owned locks) (c.marks ∙ sym owned) (omega (arith, c.draws, drew)) (omega (arith, many, c.commits));
+        seen = λ n among. ap (λ hs. get_elem? hs n) held ∙ f.seen n (ap (is_among n) (sym locks) ∙ among);
         commits = omega (arith, many, f.commits);
       };
-      is = holding_is h g w p q is home c m refl refl ∙ rw (same.counts, same.stopped, same.pendings, sym settled.seated.stamp ∙ same.stamp ∙ c.settled.seated.stamp) refl;
+      is = holding_is h g w p q is home c m refl refl ∙ rw (same.counts, locks, same.stopped, same.pendings, sym settled.seated.stamp ∙ same.stamp ∙ c.settled.seated.stamp) refl;
     }
 
 -- ... after one try in vain
 pub missed : (h : Hand) (w p : Setting) (q : Seat16) (z : Patience) → p ≡ w → IsAtHome (holding_of h) w → CarriesFresh h → IsSettled p.home (length p.first) q → q.records ≡ h.seat.records
     → HoldsAsBefore h.seat.seat.me q.seat.me → TriedOnce h.seat.seat.me q.seat.me → CarriesFresh (record h { seat = q; patience = z }) × (holding_of (record h { seat = q; patience = z }) ≡ tried (holding_of h))
-missed h w p q z is home f settled records b once = let k = keeps h w p q z is home f settled records b.same b.owned b.held in (k.fresh, k.is ∙ rw (once, b.takes, b.deaths) refl)
+missed h w p q z is home f settled records b once = let k = keeps h w p q z is home f settled records b.same b.owned b.locks b.held in (k.fresh, k.is ∙ rw (once, b.takes, b.deaths) refl)
 
 -- ... and it had to back off, after one try in vain
 died : (h : Hand) (w p : Setting) (q : Seat16) (z : Patience) (n k : ℕ) (s : Holding) → p ≡ w → IsAtHome (holding_of h) w → CarriesFresh h → IsSettled p.home (length p.first) q → q.records ≡ h.seat.records
     → HasToDie h.seat.seat.me n k q.seat.me → q.seat.me.0.part.core.tries ≡ h.seat.seat.me.0.part.core.tries → holding_of h ≡ tried s → holding_of (record h { seat = q; patience = z }) ≡ backed_off s
 died h w p q z n k s is home f settled records d none was =
-    let kept = keeps h w p q z is home f settled records d.same d.owned d.held in
+    let kept = keeps h w p q z is home f settled records d.same d.owned d.locks d.held in
     let now : holding_of (record h { seat = q; patience = z }) ≡ record (holding_of h) { deaths = (holding_of h).deaths + 1 } = kept.is ∙ rw (none, d.takes, d.deaths) refl in
     now ∙ ap (λ (x : Holding). record x { deaths = x.deaths + 1 }) was
 
@@ -268,23 +277,23 @@ stops h w p q z n by is home f settled records b none =
     let drew = ap (λ (k : Counts). k.draws) b.counts in
     let many : length q.records.items ≡ length h.seat.records.items = ap (λ r. length r.items) records in record {
       fresh = record {
-        carries = carries_as h g w p q is home c m refl refl c.held (λ k. ap (λ (os : List Bool). get_or os k false) b.owned ∙ c.owned k) (c.marks ∙ sym b.owned) (omega (arith, c.draws, drew)) (omega (arith, many, c.commits));
-        seen = λ k among. ap (λ hs. get_elem? hs k) b.held ∙ f.seen k among;
+        carries = carries_as h g w p q is home c m refl refl (held_still h q c b.locks) (owned_still h q c b.owned b.locks) (c.marks ∙ sym b.owned) (omega (arith, c.draws, drew)) (omega (arith, many, c.commits));
+        seen = λ k among. ap (λ hs. get_elem? hs k) b.held ∙ f.seen k (ap (is_among k) (sym b.locks) ∙ among);
         commits = omega (arith, many, f.commits);
       };
-      is = holding_is h g w p q is home c m refl refl ∙ rw (b.counts, b.stopped, b.pendings, none, b.takes, b.deaths, sym settled.seated.stamp ∙ b.stamp ∙ c.settled.seated.stamp) refl;
+      is = holding_is h g w p q is home c m refl refl ∙ rw (b.counts, b.locks, b.stopped, b.pendings, none, b.takes, b.deaths, sym settled.seated.stamp ∙ b.stamp ∙ c.settled.seated.stamp) refl;
     }
 
 -- what has to die holds a node
-holds_one : (h : Hand) → Carries h → (j : ℕ) × (owns h.seat.seat.me.0.part.core j ≡ true) → 1 ≤ length h.held.items
-holds_one h c one = some_among h.held.items one.0 (sym (c.owned one.0) ∙ one.1)
+holds_one : (h : Hand) → Carries h → (j : ℕ) × (owns h.seat.seat.me.0.part.core j ≡ true) → 1 ≤ length (held_of h)
+holds_one h c one = some_among (held_of h) one.0 (sym (c.owned one.0) ∙ one.1)
   where
     some_among : (ns : List ℕ) (n : ℕ) → is_among n ns ≡ true → 1 ≤ length ns
     some_among [] n e = absurd (true≢false (sym e))
     some_among (m ∷ ms) n e = omega arith
 
 -- it came without the lock, after one try in vain
-pub turned_away : (h : Hand) (w p : Setting) (q : Seat16) (z : Patience) (n : ℕ) (why : Stop) (s : Holding) → p ≡ w → IsAtHome (holding_of h) w → CarriesFresh h → is_among n h.held.items ≡ false → IsSettled p.home (length p.first) q → q.records ≡ h.seat.records
+pub turned_away : (h : Hand) (w p : Setting) (q : Seat16) (z : Patience) (n : ℕ) (why : Stop) (s : Holding) → p ≡ w → IsAtHome (holding_of h) w → CarriesFresh h → is_among n (held_of h) ≡ false → IsSettled p.home (length p.first) q → q.records ≡ h.seat.records
     → IsTurnedAway h.seat.seat.me n why q.seat.me → q.seat.me.0.part.core.tries ≡ h.seat.seat.me.0.part.core.tries → holding_of h ≡ tried s → IsStop s n why (holding_of (record h { seat = q; patience = z }))
 turned_away h w p q z n (Deadlk k) s is home f new settled records d none was =
     let stamp = ap (λ (x : Holding). x.stamp) was in
@@ -299,78 +308,69 @@ turned_away h w p q z n (Interrupted by) s is home f new settled records d none 
 -- ... and may still commit what it holds
 pub turned_fresh : (h : Hand) (w p : Setting) (q : Seat16) (z : Patience) (n : ℕ) (why : Stop) → p ≡ w → IsAtHome (holding_of h) w → CarriesFresh h → IsSettled p.home (length p.first) q → q.records ≡ h.seat.records
     → IsTurnedAway h.seat.seat.me n why q.seat.me → q.seat.me.0.part.core.tries ≡ h.seat.seat.me.0.part.core.tries → CarriesFresh (record h { seat = q; patience = z })
-turned_fresh h w p q z n (Deadlk k) is home f settled records d none = (keeps h w p q z is home f settled records d.same d.owned d.held).fresh
+turned_fresh h w p q z n (Deadlk k) is home f settled records d none = (keeps h w p q z is home f settled records d.same d.owned d.locks d.held).fresh
 turned_fresh h w p q z n (Interrupted by) is home f settled records d none = (stops h w p q z n by is home f settled records d none).fresh
 
 -- ---- giving back
 
-different_last : (ns : List ℕ) (n : ℕ) → AreDifferent (ns ++ n ∷ []) → AreDifferent ns × (is_among n ns ≡ false)
-different_last [] n d = (different_none, refl)
-different_last (m ∷ ms) n d =
-    let rest = different_last ms n (different_tail m (ms ++ n ∷ []) d) in
-    let parts = or_false (is_among m ms) (eqb n m || false) (sym (is_among-append m ms (n ∷ [])) ∙ different_head m (ms ++ n ∷ []) d) in
-    let first = or_false (eqb n m) false parts.1 in
-    (different_cons m ms parts.0 rest.0, ap (λ (b : Bool). b || is_among n ms) (eqb_comm n m first.0) ∙ rest.1)
-
-owns_less : (owned new : List Bool) (front : List ℕ) (n : ℕ) → n < length owned → new ≡ set owned n false → ((m : ℕ) → get_or owned m false ≡ is_among m (front ++ n ∷ [])) → is_among n front ≡ false → (m : ℕ) → get_or new m false ≡ is_among m front
-owns_less owned new front n lt is owns absent m = elim (true_or_false (eqb n m)) [
-  | inl same ↦
-      let e : n ≡ m = same_from_eqb n m same in
-      ap (λ (os : List Bool). get_or os m false) is ∙ subst (λ (k : ℕ). get_or (set owned n false) k false ≡ is_among k front) e (get_or-set_same owned n false false lt ∙ sym absent)
-  | inr other ↦
-      ap (λ (os : List Bool). get_or os m false) is ∙ get_or-set_other owned n m false false (another n m other) ∙ owns m
-      ∙ among_added front n m ∙ ap (λ (b : Bool). is_among m front || (b || false)) other ∙ or_nothing (is_among m front)
-]
+-- a seat between two calls has no wait list out
+pub no_list : (h : Hand) (n : ℕ) → Carries h → 64 ≤ n → slot_of h.seat.seat.me.1 n ≡ None
+no_list h n c le = subst (λ (k : ℕ). slot_of h.seat.seat.me.1 k ≡ None) (at_list n le) (c.settled.orderly.lists (n - 64) (λ inside. absurd (outside (n - 64) (sym c.settled.away.0 ∙ inside))))
   where
-    or_nothing : (b : Bool) → (b || (false || false)) ≡ b
-    or_nothing true = refl
-    or_nothing false = refl
+    at_list : (n : ℕ) → 64 ≤ n → list_at (n - 64) ≡ n
+    at_list n le = omega (arith, le)
 
-all_front : (P : ℕ → Type 0) (ns : List ℕ) (n : ℕ) → AllByRecursion P (ns ++ n ∷ []) → AllByRecursion P ns
-all_front P [] n all = tt
-all_front P (m ∷ ms) n all = (all.0, all_front P ms n all.1)
+    outside : (n : ℕ) → 0 ≡ suc n → ⊥
+    outside n e = omega (arith, e)
 
-all_last : (P : ℕ → Type 0) (ns : List ℕ) (n : ℕ) → AllByRecursion P (ns ++ n ∷ []) → P n
-all_last P [] n all = all.0
-all_last P (m ∷ ms) n all = all_last P ms n all.1
+-- What lies on top of what it has out is a node that is held.
+pub top_held : (h : Hand) (n : ℕ) (y : Cell) (others : List (ℕ × Cell)) → Carries h → h.seat.seat.me.1 ≡ (n, y) ∷ others → owns h.seat.seat.me.0.part.core n ≡ true
+top_held h n y others c is = elim (true_or_false (owns h.seat.seat.me.0.part.core n)) [
+  | inl owned ↦ owned
+  | inr lacks ↦ absurd (not_both (slot_of h.seat.seat.me.1 n) y (elim (cases_lt n 64) [
+    | inl lt ↦ c.settled.orderly.others n lt lacks
+    | inr le ↦ no_list h n c le
+  ]) (ap (λ (slots : List (ℕ × Cell)). slot_of slots n) is ∙ slot_here n y others))
+]
 
--- the node that was taken last is held, and is one of the graph
-pub record IsLast (h : Hand) (n : ℕ) : Type 0 where
-  pub there : n < length h.seen
-  pub owns : owns h.seat.seat.me.0.part.core n ≡ true
+-- ... and is one of the graph
+pub held_there : (h : Hand) (n : ℕ) → Carries h → owns h.seat.seat.me.0.part.core n ≡ true → n < length h.seen
+held_there h n c owned = (c.settled.orderly.nodes n owned).0
 
-pub last_held : (h : Hand) (front : List ℕ) (n : ℕ) → Carries h → h.held.items ≡ front ++ n ∷ [] → IsLast h n
-last_held h front n c is = record {
-  there = all_last (λ m. m < length h.seen) front n (subst (AllByRecursion (λ m. m < length h.seen)) is c.held.there);
-  owns = c.owned n ∙ ap (is_among n) is ∙ among_added front n n ∙ ap (λ (b : Bool). is_among n front || (b || false)) (eqb_same n) ∙ or_right (is_among n front) true refl;
-}
+-- Where nothing is out, nothing is held.
+pub none_held : (h : Hand) → Carries h → h.seat.seat.me.1 ≡ [] → held_of h ≡ []
+none_held h c none = nobody (held_of h) (λ n. elim (true_or_false (is_among n (held_of h))) [
+  | inl among ↦ absurd (let node = (c.settled.orderly.nodes n (c.owned n ∙ among)).1 in not_both (slot_of h.seat.seat.me.1 n) (Content node.0) (ap (λ (slots : List (ℕ × Cell)). slot_of slots n) none) node.2)
+  | inr absent ↦ absent
+])
+  where
+    nobody : (ns : List ℕ) → ((n : ℕ) → is_among n ns ≡ false) → ns ≡ []
+    nobody [] absent = refl
+    nobody (m ∷ ms) absent = absurd (true≢false (sym (is_among-head m ms) ∙ absent m))
 
+-- one node less is held
 pub record Gives (h g : Hand) : Type 0 where
   pub carries : Carries g
-  pub is : holding_of g ≡ record (holding_of h) { held = g.held.items }
+  pub is : holding_of g ≡ record (holding_of h) { held = held_of g }
+  pub fewer : length (held_of g) < length (held_of h)
 
-pub gives : (h g : Hand) (w p : Setting) (q : Seat16) (front : List ℕ) (n : ℕ) → p ≡ w → IsAtHome (holding_of h) w → Carries h → h.held.items ≡ front ++ n ∷ []
+pub gives : (h g : Hand) (w p : Setting) (q : Seat16) (n : ℕ) → p ≡ w → IsAtHome (holding_of h) w → Carries h → owns h.seat.seat.me.0.part.core n ≡ true
     → IsSettled p.home (length p.first) q → q.records ≡ h.seat.records → HasGiven h.seat.seat.me n q.seat.me
-    → g.seat ≡ q → g.left ≡ h.left → g.held.items ≡ front → g.marks ≡ set h.marks n false → g.seen ≡ h.seen → Gives h g
-gives h g w p q front n is home c was settled records b seat left now marked seen =
+    → g.seat ≡ q → g.left ≡ h.left → g.marks ≡ set h.marks n false → g.seen ≡ h.seen → Gives h g
+gives h g w p q n is home c owned settled records b seat left marked seen =
     let m : HasMoved h p q = record { settled = settled; records = records; who = b.same.who; answered = still_answered h q c b.same.stopped (ap (λ (k : Counts). k.heeded) b.same.counts) } in
     let drew = ap (λ (k : Counts). k.draws) b.same.counts in
     let many : length q.records.items ≡ length h.seat.records.items = ap (λ r. length r.items) records in
-    let l = last_held h front n c was in
-    let wide : n < length h.seat.seat.me.0.part.core.owned = omega (arith, l.there, c.held.few, c.settled.orderly.owned) in
-    let apart = different_last front n (subst AreDifferent was c.held.once) in
-    let held : AreHeld front h.seen = record {
-      there = all_front (λ k. k < length h.seen) front n (subst (AllByRecursion (λ k. k < length h.seen)) was c.held.there);
-      once = apart.0;
-      few = c.held.few;
-    } in record {
-      carries = carries_as h g w p q is home c m seat (ap length seen) (rw (now, seen) held)
-          (λ k. owns_less h.seat.seat.me.0.part.core.owned q.seat.me.0.part.core.owned front n wide b.owned (λ j. c.owned j ∙ ap (is_among j) was) apart.1 k ∙ ap (is_among k) (sym now))
+    let wide : n < length h.seat.seat.me.0.part.core.owned = let there = held_there h n c owned in omega (arith, there, c.held.few, c.settled.orderly.owned) in record {
+      carries = carries_as h g w p q is home c m seat (ap length seen)
+          (subst (λ (ns : List ℕ). AreHeld ns g.seen) (sym b.locks) (held_less (held_of h) h.seen g.seen n c.held (ap length seen)))
+          (λ k. owns_less h.seat.seat.me.0.part.core.owned q.seat.me.0.part.core.owned (held_of h) n wide b.owned c.owned k ∙ ap (is_among k) (sym b.locks))
           (marked ∙ ap (λ (os : List Bool). set os n false) c.marks ∙ sym b.owned)
           (omega (arith, c.draws, drew, left)) (omega (arith, many, c.commits, left));
-      is = holding_is h g w p q is home c m seat left ∙ rw (seen, b.same.counts, b.same.stopped, b.same.pendings, b.tries, b.takes, b.deaths, sym settled.seated.stamp ∙ b.same.stamp ∙ c.settled.seated.stamp) refl;
+      is = holding_is h g w p q is home c m seat left ∙ rw (seat, seen, b.same.counts, b.same.stopped, b.same.pendings, b.tries, b.takes, b.deaths, sym settled.seated.stamp ∙ b.same.stamp ∙ c.settled.seated.stamp) refl;
+      fewer = subst (λ (ns : List ℕ). length ns < length (held_of h)) (sym (ap (λ (s : Seat16). s.seat.me.0.part.core.locks) seat ∙ b.locks)) (shorter n (held_of h) (sym (c.owned n) ∙ owned));
     }
 
 -- a state is at home where one that differs in the nodes that are held was
-pub home_as : (h g : Hand) (w : Setting) → holding_of g ≡ record (holding_of h) { held = g.held.items } → IsAtHome (holding_of h) w → IsAtHome (holding_of g) w
+pub home_as : (h g : Hand) (w : Setting) → holding_of g ≡ record (holding_of h) { held = held_of g } → IsAtHome (holding_of h) w → IsAtHome (holding_of g) w
 home_as h g w same home = subst (λ (s : Holding). IsAtHome s w) (sym same) (record { home = home.home; size = home.size; number = home.number })

@@ -19,10 +19,10 @@ use Rattle.ww_seat.specs.Orderly.{IsSettled}
 use Rattle.ww_seat.specs.Calls.{HoldsAll, HasCommitted}
 use Rattle.ww_lock.specs.declared.hand.Hand.{Hand}
 use Rattle.ww_lock.specs.declared.prepared.Receipt.{Receipt}
-use Rattle.ww_lock.specs.Carried.{holding_of, Carries, CarriesFresh}
+use Rattle.ww_lock.specs.Carried.{holding_of, held_of, Carries, CarriesFresh}
 use Rattle.ww_lock.specs.Moves.{IsCommitted}
 use Rattle.ww_lock.proofs.Helds.{all_among}
-use Rattle.ww_lock.proofs.Carrying.{at_table, settled_as}
+use Rattle.ww_lock.proofs.Carrying.{at_table, settled_as, held_still, owned_still}
 use Rattle.ww_plain.specs.declared.node.Node.{Node}
 use Rattle.ww_plain.specs.declared.history.Record.{Record}
 use Rattle.ww_plain.specs.Numbers.{is_among}
@@ -102,7 +102,7 @@ pub may_commit : (h : Hand) (p : Change) (r : Record) → CarriesFresh h → IsM
 may_commit h p r f made caller seq fits =
     let c = f.carries in
     let ns : List ℕ = footprint_of p.before p.transaction in
-    let held : (n : ℕ) → is_among n ns ≡ true → is_among n h.held.items ≡ true = λ n e. all_among (λ m. is_among m h.held.items ≡ true) ns n made.holds e in
+    let held : (n : ℕ) → is_among n ns ≡ true → is_among n (held_of h) ≡ true = λ n e. all_among (λ m. is_among m (held_of h) ≡ true) ns n made.holds e in
     let as_seen : (n : ℕ) → is_among n ns ≡ true → node_at p.before n ≡ node_at h.seen n = λ n e. all_among (λ m. node_at p.before m ≡ node_at h.seen m) ns n made.contents e in
     let one = some_footprint p.before p.transaction (length p.before) fits in
     record {
@@ -141,15 +141,15 @@ commits h w pl q p r after ns told is home f settled b same seq reply capacity =
     record {
       carries = record {
         settled = settled_as pl.home q.seat.table_id (length pl.first) (length h.seen) q (sym settled.seated.home) (sym t.1) settled;
-        owned = λ n. ap (λ (os : List Bool). get_or os n false) b.owned ∙ c.owned n;
+        owned = owned_still h q c b.owned b.locks;
         marks = c.marks ∙ sym b.owned;
-        held = c.held;
+        held = held_still h q c b.locks;
         answered = ap by_of b.stopped ∙ c.answered ∙ sym (ap (λ (k : Counts). k.heeded) b.counts);
         draws = omega (arith, c.draws, ap (λ (k : Counts). k.draws) b.counts);
         commits = omega (arith, many, f.commits);
       };
       is = record {
-        own = rw (table, who, b.counts, b.stopped, b.pendings, stamp, own, room, b.tries, b.takes, b.deaths) refl;
+        own = rw (table, who, b.counts, b.locks, b.stopped, b.pendings, stamp, own, room, b.tries, b.takes, b.deaths) refl;
         above = below_as told.place h.seat.records.items (subst (AllByRecursion (λ x. x.0 < told.place)) (sym c.settled.seated.records) b.above);
         seq = seq ∙ sym size;
         reply = reply;

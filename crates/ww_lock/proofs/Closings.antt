@@ -1,5 +1,5 @@
 -- The seats of passes, as a world is closed.
-use Rattle.std.proofs.Common.{◌≡◌, ℕ, zero, suc, ◌-◌, ◌<◌, ◌≤◌, eqb, true, true≢false, inl, inr, List, [], ◌∷◌, ◌++◌, length, refl, sym, ap, subst, ◌∙◌, arith, None, Some}
+use Rattle.std.proofs.Common.{◌≡◌, ℕ, zero, suc, ◌<◌, ◌≤◌, eqb, true, true≢false, inl, inr, List, [], ◌∷◌, ◌++◌, length, refl, sym, ap, subst, ◌∙◌, arith, None, Some}
 use mathlib.Core.Option.{some}
 use lib.ListN.{get_elem?}
 use Rattle.std.specs.List.{AllByRecursion}
@@ -13,7 +13,6 @@ use Rattle.ww_view.specs.View.{IsBare}
 use Rattle.ww_rule.specs.declared.cells.Cell.{Cell}
 use Rattle.ww_rule.specs.declared.cells.Start.{Start}
 use Rattle.ww_table.specs.declared.seat.Seat16.{Seat16}
-use Rattle.ww_rule.specs.Layout.{list_at}
 use Rattle.ww_model.specs.State.{one_if}
 use Rattle.ww_rule.specs.Rule.{first_graph, times}
 use Rattle.ww_rule.specs.Out.{slot_of}
@@ -23,9 +22,9 @@ use Rattle.atomic_table.specs.Seated.{TableId}
 use Rattle.ww_lock.specs.declared.hand.Hand.{Hand}
 use Rattle.ww_lock.specs.declared.close.History.{History}
 use Rattle.ww_lock.specs.Holding.{Holding, Setting, AreAtHome, AreBelow, by_of, own_of}
-use Rattle.ww_lock.specs.Carried.{holding_of, Carries}
+use Rattle.ww_lock.specs.Carried.{holding_of, held_of, Carries}
 use Rattle.ww_lock.specs.Closed.{has_pass, missing_of, IsSeatOf, AreSeatsOf, AreAllBelow, AreParts, IsBalanced, AreBalanced, IsClosed}
-use Rattle.ww_lock.proofs.Carrying.{bare_of}
+use Rattle.ww_lock.proofs.Carrying.{bare_of, no_list}
 
 first_here : (x : ℕ × Cell) (xs : List (ℕ × Cell)) → slot_of (x ∷ xs) x.0 ≡ None → ⊥
 first_here x xs none = let same = eqb_same x.0 in let there : slot_of (x ∷ xs) x.0 ≡ Some x.1 = rw same refl in absurd (some_none x.1 (sym there ∙ none))
@@ -39,18 +38,12 @@ none_out (x ∷ xs) none = absurd (first_here x xs (none x.0))
 
 -- a seat between two calls that owns no lock has nothing out
 nothing_out : (h : Hand) → Carries h → IsBare h.seat.seat.me.0.part.core → h.seat.seat.me.1 ≡ []
-nothing_out h c bare = let o = c.settled.orderly in none_out h.seat.seat.me.1 (λ n. elim (cases_lt n 64) [
-  | inl lt ↦ o.others n lt (bare n)
-  | inr le ↦ subst (λ (k : ℕ). slot_of h.seat.seat.me.1 k ≡ None) (at_list n le) (o.lists (n - 64) (λ inside. absurd (outside (n - 64) (sym c.settled.away.0 ∙ inside))))
+nothing_out h c bare = none_out h.seat.seat.me.1 (λ n. elim (cases_lt n 64) [
+  | inl lt ↦ c.settled.orderly.others n lt (bare n)
+  | inr le ↦ no_list h n c le
 ])
-  where
-    at_list : (n : ℕ) → 64 ≤ n → list_at (n - 64) ≡ n
-    at_list n le = omega (arith, le)
 
-    outside : (n : ℕ) → 0 ≡ suc n → ⊥
-    outside n e = omega (arith, e)
-
-pub seat_of_pass : (h : Hand) (s : Holding) → holding_of h ≡ s → Carries h → h.held.items ≡ [] → IsSeatOf s h.seat
+pub seat_of_pass : (h : Hand) (s : Holding) → holding_of h ≡ s → Carries h → held_of h ≡ [] → IsSeatOf s h.seat
 seat_of_pass h s is c none = subst (λ (t : Holding). IsSeatOf t h.seat) is (record {
   come = record { seated = c.settled.seated; bare = bare_of h c none; nothing = nothing_out h c (bare_of h c none) };
   number = refl;

@@ -1,10 +1,11 @@
--- One node more is held.
-use Rattle.std.proofs.Common.{◌≡◌, ℕ, ◌<◌, ◌≤◌, true, false, eqb, inl, inr, List, [], ◌∷◌, ◌++◌, length, sym, subst, arith, length-append}
+-- One node more is held, or one less.
+use Rattle.std.proofs.Common.{◌≡◌, ℕ, ◌<◌, ◌≤◌, true, false, eqb, inl, inr, List, [], ◌∷◌, ◌++◌, length, sym, subst, arith}
 use Rattle.std.specs.List.{AllByRecursion}
 use Rattle.ww_plain.specs.declared.node.Node.{Node}
 use Rattle.ww_plain.specs.Numbers.{is_among}
 use Rattle.ww_plain.proofs.Members.{different_push, different_none, or_cases, same_from_eqb}
-use Rattle.ww_plain.proofs.FootprintFacts.{few_different}
+use Rattle.ww_view.specs.Made.{without}
+use Rattle.ww_seat.proofs.Without.{all_without, different_without}
 use Rattle.ww_lock.specs.Holding.{AreHeld}
 
 pub all_push : {A : Type 0} (P : A → Type 0) (xs : List A) (x : A) → AllByRecursion P xs → P x → AllByRecursion P (xs ++ x ∷ [])
@@ -18,10 +19,12 @@ held_more held new seen next n h lt absent is sizes = rw is (record {
   few = omega (arith, sizes, h.few);
 })
 
-pub room_held : (held : List ℕ) (seen : List Node) (n : ℕ) → AreHeld held seen → n < length seen → is_among n held ≡ false → length held < 64
-room_held held seen n h lt absent =
-    let few = few_different (length seen) (held ++ n ∷ []) (different_push held n h.once absent) (all_push (λ m. m < length seen) held n h.there lt) in
-    omega (arith, few, h.few, length-append held (n ∷ []))
+pub held_less : (held : List ℕ) (seen next : List Node) (n : ℕ) → AreHeld held seen → length next ≡ length seen → AreHeld (without n held) next
+held_less held seen next n h sizes = record {
+  there = subst (λ (size : ℕ). AllByRecursion (λ m. m < size) (without n held)) (sym sizes) (all_without (λ m. m < length seen) n held h.there);
+  once = different_without n held h.once;
+  few = omega (arith, sizes, h.few);
+}
 
 pub held_none : (seen : List Node) → length seen ≤ 64 → AreHeld [] seen
 held_none seen few = record { there = tt; once = different_none; few = few }

@@ -12,7 +12,7 @@ use Rattle.ww_table.specs.Seat.{IsNew}
 use Rattle.ww_plain.specs.Numbers.{is_among}
 use Rattle.ww_lock.specs.declared.hand.Hand.{Hand}
 use Rattle.ww_lock.specs.Holding.{Home, Holding, Setting, IsAtHome, AreAtHome, by_of, own_of}
-use Rattle.ww_lock.specs.Carried.{holding_of, Carries}
+use Rattle.ww_lock.specs.Carried.{holding_of, held_of, Carries}
 use Rattle.ww_lock.specs.Opened.{fresh, AreFresh, AreRests}
 use Rattle.ww_lock.specs.declared.world.Rest.{Rest}
 use mathlib.Core.Option.{some}
@@ -21,10 +21,14 @@ use Rattle.ww_seat.proofs.Starts.{none_owned, new_settled}
 use Rattle.ww_lock.proofs.Carrying.{settled_as}
 use Rattle.ww_lock.proofs.Helds.{held_none}
 
+pub new_holds_nothing : (t : TableId) (key : Start) (k : ℕ) (h : Hand) → IsNew t key k h.seat → held_of h ≡ []
+new_holds_nothing t key k h new = ap (λ (m : Sat). m.0.part.core.locks) new.me
+
 -- a seat that was made just now, in a state that has seen the graph
-pub new_carries : (t : TableId) (key : Start) (k : ℕ) (h : Hand) → IsNew t key k h.seat → h.held.items ≡ [] → h.marks ≡ replicate 64 false → h.seen ≡ first_graph key → length (first_graph key) ≤ 64 → h.left < 2 ^ 32 → Carries h
-new_carries t key k h new none marks seen few left =
+pub new_carries : (t : TableId) (key : Start) (k : ℕ) (h : Hand) → IsNew t key k h.seat → h.marks ≡ replicate 64 false → h.seen ≡ first_graph key → length (first_graph key) ≤ 64 → h.left < 2 ^ 32 → Carries h
+new_carries t key k h new marks seen few left =
     let me = new.me in
+    let none : held_of h ≡ [] = new_holds_nothing t key k h new in
     let size : length h.seen ≡ length (first_graph key) = ap length seen in
     let list : h.seat.records.items ≡ [] = new.seated.records ∙ ap (λ (m : Sat). m.0.part.own) me in
     record {
@@ -37,8 +41,9 @@ new_carries t key k h new none marks seen few left =
       commits = omega (arith, left, ap length list);
     }
 
-pub new_holding : (t : TableId) (key : Start) (k : ℕ) (h : Hand) → IsNew t key k h.seat → h.held.items ≡ [] → h.seen ≡ first_graph key → holding_of h ≡ fresh t (first_graph key) h.left k (holding_of h).room
-new_holding t key k h new none seen =
+pub new_holding : (t : TableId) (key : Start) (k : ℕ) (h : Hand) → IsNew t key k h.seat → h.seen ≡ first_graph key → holding_of h ≡ fresh t (first_graph key) h.left k (holding_of h).room
+new_holding t key k h new seen =
+    let none : held_of h ≡ [] = new_holds_nothing t key k h new in
     let list : h.seat.records.items ≡ [] = new.seated.records ∙ ap (λ (m : Sat). m.0.part.own) new.me in
     let stamp : h.seat.stamp ≡ 0 = sym new.seated.stamp ∙ ap (λ (m : Sat). m.0.part.core.stamp) new.me in
     let own : own_of h.seat.records.items ≡ [] = ap own_of list in

@@ -1,5 +1,5 @@
 -- What a state carries: the seat at the table, and what it keeps beside that.
-use Rattle.std.specs.Prelude.{ℕ, ◌≡◌, ◌<◌, ◌≤◌, ◌+◌, ◌-◌, ◌^◌, [], true, length, Option, Some, vec_len, vec_capacity}
+use Rattle.std.specs.Prelude.{ℕ, List, ◌≡◌, ◌<◌, ◌≤◌, ◌+◌, ◌-◌, ◌^◌, [], true, length, Option, Some, vec_len, vec_capacity}
 use mathlib.Core.Option.{some}
 use lib.ListN.{get_elem?}
 use Rattle.ww_plain.specs.Numbers.{is_among}
@@ -12,6 +12,10 @@ use Rattle.ww_lock.specs.declared.hand.Hand.{Hand}
 use Rattle.ww_lock.specs.Holding.{Holding, AreHeld, by_of, own_of}
 use Rattle.ww_table.specs.Seat.{view_of}
 
+-- the nodes that it holds, in the order in which it took them, as its view keeps them
+abbrev pub held_of : Hand → List ℕ
+held_of h = (view_of h.seat).locks
+
 -- what a contract sees of it
 abbrev pub holding_of : Hand → Holding
 holding_of h = record {
@@ -22,7 +26,7 @@ holding_of h = record {
   stamp = h.seat.stamp;
   own = own_of h.seat.records.items;
   room = vec_capacity h.seat.records - vec_len h.seat.records;
-  held = h.held.items;
+  held = held_of h;
   seen = h.seen;
   tries = (view_of h.seat).tries;
   takes = (view_of h.seat).takes;
@@ -40,9 +44,9 @@ met_of h = (view_of h.seat).met
 -- that it heeded was answered by an interruption. With what is left it stays within what the table counts.
 pub record Carries (h : Hand) : Type 0 where
   pub settled : IsSettled h.seat.seat.table_id (length h.seen) h.seat
-  pub owned : (n : ℕ) → owns (view_of h.seat) n ≡ is_among n h.held.items
+  pub owned : (n : ℕ) → owns (view_of h.seat) n ≡ is_among n (held_of h)
   pub marks : h.marks ≡ (view_of h.seat).owned
-  pub held : AreHeld h.held.items h.seen
+  pub held : AreHeld (held_of h) h.seen
   pub answered : by_of (view_of h.seat).stopped ≡ h.seat.seat.me.0.part.counts.heeded
   pub draws : h.seat.seat.me.0.part.counts.draws + h.left < 2 ^ 32
   pub commits : length h.seat.records.items + h.left < 2 ^ 32
@@ -50,7 +54,7 @@ pub record Carries (h : Hand) : Type 0 where
 -- ... and it may still commit: each node that is held is as it was seen
 pub record CarriesFresh (h : Hand) : Type 0 where
   pub carries : Carries h
-  pub seen : (n : ℕ) → is_among n h.held.items ≡ true → get_elem? h.seat.seat.me.0.held n ≡ some (Some (node_at h.seen n))
+  pub seen : (n : ℕ) → is_among n (held_of h) ≡ true → get_elem? h.seat.seat.me.0.held n ≡ some (Some (node_at h.seen n))
   pub commits : length h.seat.records.items + h.left + 1 < 2 ^ 32
 
 -- it has just lost its first try for a lock, hasn't glanced at the lock yet, and may go on to wait for it
@@ -63,6 +67,6 @@ pub record IsSpent (s : Holding) (h : Hand) : Type 0 where
   pub some : 1 ≤ s.left
   pub now : holding_of h ≡ record s { left = s.left - 1 }
   pub fresh : CarriesFresh h
-  pub nothing : h.held.items ≡ []
+  pub nothing : held_of h ≡ []
   pub idle : h.seat.stamp ≡ 0
   pub draws : h.seat.seat.me.0.part.counts.draws + h.left + 1 < 2 ^ 32

@@ -1,8 +1,3 @@
-ghost use Rattle.std.specs.Prelude.{◌≡◌, ◌↔◌, IsTrue};
-ghost use Rattle.std.specs.List.{AllByRecursion};
-ghost use Rattle.ww_plain.specs.Numbers.{is_among};
-
-use arrayvec::ArrayVec;
 use ww_plain::{Graph, MAX_NODES, Node, Txn, footprint};
 use ww_seat::Patience;
 use ww_table::Seat16;
@@ -13,9 +8,7 @@ use ww_table::Seat16;
 pub(crate) struct Hand {
     pub(crate) seat: Seat16,
     pub(crate) left: u32,
-    /// The nodes that are held, in the order in which they were taken.
-    pub(crate) held: ArrayVec<u8, MAX_NODES>,
-    /// The same as a mark for each node, which is read without a search.
+    /// A mark for each node that is held, which is read without a search.
     pub(crate) marks: [bool; MAX_NODES],
     /// The graph as it was seen: a node is put there when its lock is taken.
     pub(crate) seen: Graph,
@@ -23,34 +16,31 @@ pub(crate) struct Hand {
 }
 
 impl Hand {
-    ghost use Rattle.std.specs.Prelude.{◌≡◌, ◌<◌, ◌↔◌, ◌∷◌, ◌++◌, [], true, false, length, slice_set, IsTrue, IfSome};
+    ghost use Rattle.std.specs.Prelude.{◌≡◌, ◌<◌, ◌≤◌, ◌↔◌, true, length, slice_set, IsTrue, IfSome};
     ghost use Rattle.ww_plain.specs.Graph.{IsNodeOf};
     ghost use Rattle.ww_plain.specs.Numbers.{is_among};
     ghost use Rattle.ww_plain.specs.Transaction.{transaction_of, Fits};
-    ghost use Rattle.ww_lock.specs.Holding.{AreHeld, reads};
-    ghost use Rattle.ww_lock.specs.Carried.{holding_of, Carries};
+    ghost use Rattle.ww_lock.specs.Holding.{Holds, reads};
+    ghost use Rattle.ww_lock.specs.Carried.{holding_of, held_of, Carries};
     ghost use Rattle.ww_lock.specs.Making.{Covers};
 
     /// One node more is held, as it was found.
     pub(crate) fn add(&mut self, n: u8, node: Node)
         requires there { n < length self.old.seen }
         requires node { IsNodeOf (length self.old.seen) node }
-        requires held { AreHeld self.old.held.items self.old.seen }
-        requires new { is_among n self.old.held.items ≡ false }
+        requires few { length self.old.seen ≤ 64 }
         ensures seat { self.new.seat ≡ self.old.seat }
         ensures same { self.new.left ≡ self.old.left }
-        ensures held { self.new.held.items ≡ self.old.held.items ++ n ∷ [] }
         ensures marks { self.new.marks ≡ slice_set self.old.marks n true }
         ensures seen { self.new.seen ≡ slice_set self.old.seen n node }
     {
         self.seen.put(n, node);
-        self.held.push(n);
         self.marks[usize::from(n)] = true;
     }
 
     pub(crate) fn holds(&self, n: u8) -> bool
         requires { Carries self.now }
-        ensures { result ≡ is_among n self.now.held.items }
+        ensures { result ≡ is_among n (held_of self.now) }
     {
         usize::from(n) < MAX_NODES && self.marks[usize::from(n)]
     }
@@ -71,18 +61,25 @@ impl Hand {
         }
     }
 
+    /// Whether these nodes are all held.
+    fn holds_all(&self, nodes: &[u8]) -> bool
+        requires { Carries self.now }
+        ensures { IsTrue result ↔ Holds (holding_of self.now) nodes.now }
+    {
+        for n in nodes {
+            if !self.holds(*n) {
+                return false;
+            }
+        }
+        true
+    }
+
     /// Whether all that the transaction depends on and may change is held.
     pub(crate) fn covers(&self, txn: &Txn) -> bool
-        requires { Fits (length self.now.seen) (transaction_of txn.now) }
+        requires carries { Carries self.now }
+        requires fits { Fits (length self.now.seen) (transaction_of txn.now) }
         ensures { IsTrue result ↔ Covers (holding_of self.now) (transaction_of txn.now) }
     {
-        are_among(&footprint(&self.seen, txn), &self.held)
+        self.holds_all(&footprint(&self.seen, txn))
     }
-}
-
-/// Whether these nodes are all held.
-pub(crate) fn are_among(nodes: &[u8], held: &[u8]) -> bool
-    ensures { IsTrue result ↔ AllByRecursion (λ n. IsTrue (is_among n held.now)) nodes.now }
-{
-    nodes.iter().all(|n| held.contains(n))
 }

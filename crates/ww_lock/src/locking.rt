@@ -10,7 +10,7 @@ impl Hand {
     ghost use Rattle.ww_plain.specs.Numbers.{is_among};
     ghost use Rattle.ww_seat.specs.Calls.{IsTurnedAway, MayStop};
     ghost use Rattle.ww_lock.specs.Holding.{Holding, IsAtHome};
-    ghost use Rattle.ww_lock.specs.Carried.{holding_of, met_of, Carries, CarriesFresh, HasLost};
+    ghost use Rattle.ww_lock.specs.Carried.{holding_of, held_of, met_of, Carries, CarriesFresh, HasLost};
     ghost use Rattle.ww_lock.specs.Moves.{tried, found_pending, IsTaken, IsStop, IsCancelling, emptied};
 
     /// Starts a context: it draws a stamp.
@@ -19,7 +19,7 @@ impl Hand {
         requires fresh { CarriesFresh self.old }
         requires draws { self.old.seat.seat.me.0.part.counts.draws + self.old.left + 1 < 2 ^ 32 }
         requires idle { self.old.seat.stamp ≡ 0 }
-        requires nothing { self.old.held.items ≡ [] }
+        requires nothing { held_of self.old ≡ [] }
         ensures fresh { CarriesFresh self.new }
         ensures begun { holding_of self.new ≡ record (holding_of self.old) { draws = (holding_of self.old).draws + 1; stamp = self.new.seat.stamp } }
         ensures stamp { 0 < self.new.seat.stamp }
@@ -33,7 +33,7 @@ impl Hand {
         requires home { IsAtHome (holding_of self.old) world.now }
         requires carries { Carries self.old }
         requires context { 0 < self.old.seat.stamp }
-        requires nothing { self.old.held.items ≡ [] }
+        requires nothing { held_of self.old ≡ [] }
         ensures carries { Carries self.new }
         ensures ended { holding_of self.new ≡ record (holding_of self.old) { stamp = 0 } }
     {
@@ -45,9 +45,9 @@ impl Hand {
     pub(crate) fn try_take(&mut self, world: &World, n: u8) -> bool
         requires home { IsAtHome (holding_of self.old) world.now }
         requires fresh { CarriesFresh self.old }
-        requires want { (0 < self.old.seat.stamp) ⊎ (self.old.held.items ≡ []) }
+        requires want { (0 < self.old.seat.stamp) ⊎ (held_of self.old ≡ []) }
         requires node { n < length self.old.seen }
-        requires new { is_among n self.old.held.items ≡ false }
+        requires new { is_among n (held_of self.old) ≡ false }
         ensures fresh { CarriesFresh self.new }
         ensures taken { result ≡ true → IsTaken (holding_of self.old) n (holding_of self.new) }
         ensures busy { result ≡ false → holding_of self.new ≡ tried (holding_of self.old) }
@@ -78,9 +78,9 @@ impl Hand {
     ) -> Result<(), Stop>
         requires home { IsAtHome (holding_of self.old) world.now }
         requires fresh { CarriesFresh self.old }
-        requires want { (0 < self.old.seat.stamp) ⊎ (self.old.held.items ≡ []) }
+        requires want { (0 < self.old.seat.stamp) ⊎ (held_of self.old ≡ []) }
         requires node { n < length self.old.seen }
-        requires new { is_among n self.old.held.items ≡ false }
+        requires new { is_among n (held_of self.old) ≡ false }
         requires lost { HasLost self.old }
         ensures fresh { CarriesFresh self.new }
         ensures taken { IfOk result (λ _. (s : Holding) → holding_of self.old ≡ tried s → IsTaken s n (holding_of self.new)) }
@@ -118,7 +118,7 @@ impl Hand {
     pub(crate) fn take_alone<R: Wait>(&mut self, rt: &R, world: &World, n: u8)
         requires home { IsAtHome (holding_of self.old) world.now }
         requires fresh { CarriesFresh self.old }
-        requires nothing { self.old.held.items ≡ [] }
+        requires nothing { held_of self.old ≡ [] }
         requires node { n < length self.old.seen }
         ensures fresh { CarriesFresh self.new }
         ensures taken { IsTaken (holding_of self.old) n (holding_of self.new) }
@@ -132,7 +132,7 @@ impl Hand {
         }
     }
 
-    /// Gives all locks back, the one taken last first: its node lies on top of what the seat has out.
+    /// Gives all locks back, the one whose node lies on top of what the seat has out first.
     #[inline(always)]
     pub(crate) fn give_all<R: Wait>(&mut self, rt: &R, world: &World)
         requires home { IsAtHome (holding_of self.old) world.now }
@@ -140,7 +140,7 @@ impl Hand {
         ensures carries { Carries self.new }
         ensures emptied { holding_of self.new ≡ emptied (holding_of self.old) }
     {
-        while let Some(n) = self.held.pop() {
+        while let Some(n) = self.seat.top() {
             self.marks[usize::from(n)] = false;
             if !ww_seat::give_at_once(&mut self.seat, &world.board, n) {
                 ww_seat::give_waited(rt, &mut self.seat, &world.board, n, &world.wakers);

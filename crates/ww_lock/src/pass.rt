@@ -16,13 +16,13 @@ pub struct Pass {
 impl Model for Pass {
     ghost use Rattle.std.specs.Prelude.{◌≡◌, []};
     ghost use Rattle.ww_lock.specs.Holding.{Holding};
-    ghost use Rattle.ww_lock.specs.Carried.{holding_of, Carries};
+    ghost use Rattle.ww_lock.specs.Carried.{holding_of, held_of, Carries};
 
     ghost Value = { Holding };
 
     ghost view = { λ s. holding_of s.hand.value };
 
-    ghost invariant = { λ s. Carries s.hand.value × (s.hand.value.seat.stamp ≡ 0) × (s.hand.value.held.items ≡ []) };
+    ghost invariant = { λ s. Carries s.hand.value × (s.hand.value.seat.stamp ≡ 0) × (held_of s.hand.value ≡ []) };
 }
 
 impl Pass {

@@ -5,7 +5,6 @@ ghost use Rattle.ww_lock.specs.Opened.{AreFresh, AreRests};
 
 use crate::hand::Hand;
 use crate::pass::Pass;
-use arrayvec::ArrayVec;
 use crossbeam_utils::sync::{Parker, Unparker};
 use std::alloc::{AllocError, Global};
 use std::marker::Model;
@@ -162,7 +161,6 @@ fn fresh(
         let hand = Hand {
             seat,
             left: budget,
-            held: ArrayVec::new(),
             marks: [false; MAX_NODES],
             seen,
             patience,

@@ -47,6 +47,7 @@ taken_at_once size n y m won now was low lacks w r =
       taken = record {
         same = record { kind = ap (λ v. v.part.core.kind) view; who = ap (λ v. v.part.core.who) view; stamp = ap (λ v. v.part.core.stamp) view; own = ap (λ v. v.part.own) view; counts = ap (λ v. v.part.counts) view; stopped = ap (λ v. v.part.core.stopped) view; pendings = ap (λ v. v.part.core.pendings) view };
         owned = ap (λ v. v.part.core.owned) view;
+        locks = ap (λ v. v.part.core.locks) view;
         held = ap (λ v. v.held) view;
         takes = ap (λ v. v.part.core.takes) view;
         deaths = ap (λ v. v.part.core.deaths) view;

@@ -152,6 +152,7 @@ module _ (size : ℕ) (m : Sat) (r : Record) (before : List Node) (was : IsOrder
     stopped = ap (λ (w : Sight). w.part.core.stopped) v;
     pendings = ap (λ (w : Sight). w.part.core.pendings) v;
     owned = ap (λ (w : Sight). w.part.core.owned) v;
+    locks = ap (λ (w : Sight). w.part.core.locks) v;
     tries = ap (λ (w : Sight). w.part.core.tries) v;
     takes = ap (λ (w : Sight). w.part.core.takes) v;
     deaths = ap (λ (w : Sight). w.part.core.deaths) v;

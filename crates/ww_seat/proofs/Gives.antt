@@ -7,7 +7,7 @@ use Rattle.ww_queue.specs.declared.kind.Kind.TheVariants.{WaitDie}
 use Rattle.ww_plain.specs.declared.node.Node.{Node}
 use Rattle.ww_view.specs.View.{owns, IsAway}
 use Rattle.ww_view.specs.May.{MayEnter, MayLeave}
-use Rattle.ww_view.specs.Made.{once_inside}
+use Rattle.ww_view.specs.Made.{once_inside, without}
 use Rattle.ww_rule.specs.declared.cells.Cell.{Cell}
 use Rattle.ww_rule.specs.declared.cells.Cell.TheVariants.{Content, Line}
 use Rattle.ww_rule.specs.declared.cells.Sight.{Sight}
@@ -38,6 +38,7 @@ pub given_then : (a b c : Sat) (n : ℕ) → IsStill a b → HasGiven b n c → 
 given_then a b c n x y = record {
   same = same_then a b c x.holds.same y.same;
   owned = y.owned ∙ ap (λ xs. slice_set xs n false) x.holds.owned;
+  locks = y.locks ∙ ap (without n) x.holds.locks;
   held = y.held ∙ ap (λ xs. slice_set xs n None) x.holds.held;
   tries = y.tries ∙ x.tries;
   takes = y.takes ∙ x.holds.takes;
@@ -45,29 +46,29 @@ given_then a b c n x y = record {
 }
 
 pub then_given : (a b c : Sat) (n : ℕ) → HasGiven a n b → IsStill b c → HasGiven a n c
-then_given a b c n x y = record { same = same_then a b c x.same y.holds.same; owned = y.holds.owned ∙ x.owned; held = y.holds.held ∙ x.held; tries = y.tries ∙ x.tries; takes = y.holds.takes ∙ x.takes; deaths = y.holds.deaths ∙ x.deaths }
+then_given a b c n x y = record { same = same_then a b c x.same y.holds.same; owned = y.holds.owned ∙ x.owned; locks = y.holds.locks ∙ x.locks; held = y.holds.held ∙ x.held; tries = y.tries ∙ x.tries; takes = y.holds.takes ∙ x.takes; deaths = y.holds.deaths ∙ x.deaths }
 
 pub still_then : (a b c : Sat) → IsStill a b → IsStill b c → IsStill a c
 still_then a b c x y = record { holds = holds_then a b c x.holds y.holds; tries = y.tries ∙ x.tries }
 
 pub still_looking : (m m' : Sat) (o : Owner) → m'.0 ≡ looking m.0 o → IsStill m m'
-still_looking m m' o e = subst (λ (w : Sight). IsStill m (w, m'.1)) (sym e) (record { holds = record { same = record { kind = refl; who = refl; stamp = refl; own = refl; counts = refl; stopped = refl; pendings = refl }; owned = refl; held = refl; takes = refl; deaths = refl }; tries = refl })
+still_looking m m' o e = subst (λ (w : Sight). IsStill m (w, m'.1)) (sym e) (record { holds = record { same = record { kind = refl; who = refl; stamp = refl; own = refl; counts = refl; stopped = refl; pendings = refl }; owned = refl; locks = refl; held = refl; takes = refl; deaths = refl }; tries = refl })
 
 pub still_lost : (m m' : Sat) → m'.0 ≡ lost m.0 → IsStill m m'
-still_lost m m' e = subst (λ (w : Sight). IsStill m (w, m'.1)) (sym e) (record { holds = record { same = record { kind = refl; who = refl; stamp = refl; own = refl; counts = refl; stopped = refl; pendings = refl }; owned = refl; held = refl; takes = refl; deaths = refl }; tries = refl })
+still_lost m m' e = subst (λ (w : Sight). IsStill m (w, m'.1)) (sym e) (record { holds = record { same = record { kind = refl; who = refl; stamp = refl; own = refl; counts = refl; stopped = refl; pendings = refl }; owned = refl; locks = refl; held = refl; takes = refl; deaths = refl }; tries = refl })
 
 pub still_view : (m m' : Sat) → m'.0 ≡ m.0 → IsStill m m'
-still_view m m' e = subst (λ (w : Sight). IsStill m (w, m'.1)) (sym e) (record { holds = record { same = record { kind = refl; who = refl; stamp = refl; own = refl; counts = refl; stopped = refl; pendings = refl }; owned = refl; held = refl; takes = refl; deaths = refl }; tries = refl })
+still_view m m' e = subst (λ (w : Sight). IsStill m (w, m'.1)) (sym e) (record { holds = record { same = record { kind = refl; who = refl; stamp = refl; own = refl; counts = refl; stopped = refl; pendings = refl }; owned = refl; locks = refl; held = refl; takes = refl; deaths = refl }; tries = refl })
 
 -- it tried to give the lock back at once, and kept it
 pub still_kept : (m m' : Sat) → m'.0 ≡ keeping m.0 → IsStill m m'
-still_kept m m' e = subst (λ (w : Sight). IsStill m (w, m'.1)) (sym e) (record { holds = record { same = record { kind = refl; who = refl; stamp = refl; own = refl; counts = refl; stopped = refl; pendings = refl }; owned = refl; held = refl; takes = refl; deaths = refl }; tries = refl })
+still_kept m m' e = subst (λ (w : Sight). IsStill m (w, m'.1)) (sym e) (record { holds = record { same = record { kind = refl; who = refl; stamp = refl; own = refl; counts = refl; stopped = refl; pendings = refl }; owned = refl; locks = refl; held = refl; takes = refl; deaths = refl }; tries = refl })
 
 pub still_entered : (m m' : Sat) (n : ℕ) → HasEntered m n m' → IsStill m m'
-still_entered m m' n e = subst (λ (w : Sight). IsStill m (w, m'.1)) (sym e.view) (record { holds = record { same = record { kind = refl; who = refl; stamp = refl; own = refl; counts = refl; stopped = refl; pendings = refl }; owned = refl; held = refl; takes = refl; deaths = refl }; tries = refl })
+still_entered m m' n e = subst (λ (w : Sight). IsStill m (w, m'.1)) (sym e.view) (record { holds = record { same = record { kind = refl; who = refl; stamp = refl; own = refl; counts = refl; stopped = refl; pendings = refl }; owned = refl; locks = refl; held = refl; takes = refl; deaths = refl }; tries = refl })
 
 pub still_exited : (m m' : Sat) → m'.0 ≡ exiting m.0 → IsStill m m'
-still_exited m m' e = subst (λ (w : Sight). IsStill m (w, m'.1)) (sym e) (record { holds = record { same = record { kind = refl; who = refl; stamp = refl; own = refl; counts = refl; stopped = refl; pendings = refl }; owned = refl; held = refl; takes = refl; deaths = refl }; tries = refl })
+still_exited m m' e = subst (λ (w : Sight). IsStill m (w, m'.1)) (sym e) (record { holds = record { same = record { kind = refl; who = refl; stamp = refl; own = refl; counts = refl; stopped = refl; pendings = refl }; owned = refl; locks = refl; held = refl; takes = refl; deaths = refl }; tries = refl })
 
 -- it read the owner word, and then the wait list
 pub read_still : (a m m' m'' : Sat) (n : ℕ) (o : Owner) → IsStill a m → m' ≡ (looking m.0 o, m.1) → HasListOnTop m' n m'' → IsStill a m''
@@ -86,7 +87,7 @@ pub given_free : (size : ℕ) (m m' : Sat) (n : ℕ) (x : Node) → IsOrderly si
 given_free size m m' n x o away small view home = let few = o.few in (
   subst (λ (w : Sight). IsOrderly size (w, m'.1)) (sym view) (without_node size m n x (giving m.0 n) m'.1 o (omega arith) home refl refl refl refl refl),
   subst (λ (w : Sight). IsAway w.part.core) (sym view) (away.0, away.1),
-  subst (λ (w : Sight). HasGiven m n (w, m'.1)) (sym view) (record { same = record { kind = refl; who = refl; stamp = refl; own = refl; counts = refl; stopped = refl; pendings = refl }; owned = refl; held = refl; takes = refl; deaths = refl; tries = refl }),
+  subst (λ (w : Sight). HasGiven m n (w, m'.1)) (sym view) (record { same = record { kind = refl; who = refl; stamp = refl; own = refl; counts = refl; stopped = refl; pendings = refl }; owned = refl; locks = refl; held = refl; takes = refl; deaths = refl; tries = refl }),
 )
 
 pub kept_free : (size : ℕ) (m m' : Sat) (n : ℕ) (x : Node) (others : List (ℕ × Cell)) → IsOrderly size m → AreOthers m.1 n (Content x) others → m' ≡ (keeping m.0, (n, Content x) ∷ others) → IsOrderly size m'
@@ -150,7 +151,7 @@ let_go size a m m' n x others asked before g view top home = let first : Sat = (
       };
       inside = g.inside;
       waits = g.waits;
-      given = given_then a m (giving_inside m.0 n asked, m'.1) n before (record { same = record { kind = refl; who = refl; stamp = refl; own = refl; counts = refl; stopped = refl; pendings = refl }; owned = refl; held = refl; takes = refl; deaths = refl; tries = refl });
+      given = given_then a m (giving_inside m.0 n asked, m'.1) n before (record { same = record { kind = refl; who = refl; stamp = refl; own = refl; counts = refl; stopped = refl; pendings = refl }; owned = refl; locks = refl; held = refl; takes = refl; deaths = refl; tries = refl });
     })
 
 -- ---- outside again

@@ -24,7 +24,7 @@ outside_still size n m m' o g = subst (IsOutside size n) (sym g.now) (record {
 
 pub holds_glanced : (m m' : Sat) → HasGlanced m m' → HoldsAsBefore m m'
 holds_glanced m m' g = subst (HoldsAsBefore m) (sym g.now)
-    (record { same = record { kind = refl; who = refl; stamp = refl; own = refl; counts = refl; stopped = refl; pendings = refl }; owned = refl; held = refl; takes = refl; deaths = refl })
+    (record { same = record { kind = refl; who = refl; stamp = refl; own = refl; counts = refl; stopped = refl; pendings = refl }; owned = refl; locks = refl; held = refl; takes = refl; deaths = refl })
 
 pub waits_still : (m m' : Sat) → HasGlanced m m' → m.0.part.core.waits ≡ 0 → m'.0.part.core.waits ≡ 0
 waits_still m m' g e = ap (λ (w : Sat). w.0.part.core.waits) g.now ∙ e

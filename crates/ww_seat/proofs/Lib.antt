@@ -14,3 +14,4 @@ pub mod Starts
 pub mod Stood
 pub mod Stopped
 pub mod Stepwise
+pub mod Without

@@ -33,7 +33,7 @@ outside_shut size n m m' o is = subst (IsOutside size n) (sym is) (record {
 })
 
 pub still_shut : (m m' : Sat) → m' ≡ (shutting_out m.0, m.1) → IsStill m m'
-still_shut m m' is = subst (IsStill m) (sym is) (record { holds = record { same = record { kind = refl; who = refl; stamp = refl; own = refl; counts = refl; stopped = refl; pendings = refl }; owned = refl; held = refl; takes = refl; deaths = refl }; tries = refl })
+still_shut m m' is = subst (IsStill m) (sym is) (record { holds = record { same = record { kind = refl; who = refl; stamp = refl; own = refl; counts = refl; stopped = refl; pendings = refl }; owned = refl; locks = refl; held = refl; takes = refl; deaths = refl }; tries = refl })
 
 pub has_entered : (m m' : Sat) (n : ℕ) (q : List Entry) → AreSeats q → StandsAs m.0.part.core n q → m' ≡ (entering m.0 n q, (64 + n, Line q) ∷ m.1) → HasEntered m n m'
 has_entered m m' n q seats stands is = record { list = q; seats = seats; stands = stands; view = ap (λ (x : Sat). x.0) is }

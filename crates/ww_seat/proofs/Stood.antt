@@ -62,7 +62,7 @@ has_stood size n m m1 o p stands ord off inside few small sees got is valid = re
   work = λ l w. subst (λ (z : Sat). IsAtWork size n m true l z) (sym got.2) (record {
     orderly = listed_orderly size m n (joining m.0 n o) got.0 ord inside got.1 refl refl refl refl;
     working = working_queued n l m.0.part.core o (subst (λ (b : Bool). IsWorking n b l m.0.part.core) off w) few small;
-    holds = record { same = record { kind = refl; who = refl; stamp = refl; own = refl; counts = refl; stopped = refl; pendings = refl }; owned = refl; held = refl; takes = refl; deaths = refl };
+    holds = record { same = record { kind = refl; who = refl; stamp = refl; own = refl; counts = refl; stopped = refl; pendings = refl }; owned = refl; locks = refl; held = refl; takes = refl; deaths = refl };
     tries = refl;
   });
   sees = subst (λ (x : Owner). SeesOther x m1.0.part.core) (sym is) (subst (λ (z : Sat). SeesOther (with_waiters o) z.0.part.core) (sym got.2) (record { seen = refl; valid = subst IsValid is valid; other = sees.other }));
@@ -165,6 +165,7 @@ look_died size n l m m1 m2 o k w may older is out ord =
         pendings = ap (λ (z : Sight). z.part.core.pendings) view;
       };
       owned = ap (λ (z : Sight). z.part.core.owned) view;
+      locks = ap (λ (z : Sight). z.part.core.locks) view;
       held = ap (λ (z : Sight). z.held) view;
       takes = ap (λ (z : Sight). z.part.core.takes) view;
       deaths = ap (λ (z : Sight). z.part.core.deaths) view;
@@ -198,7 +199,7 @@ stays_outside size n l m m' w out ord = let v : View = m.0.part.core in (
     place = inr (ap (λ (z : Sight). z.part.core.waits) out ∙ w.place.0);
   },
   ap (λ (z : Sight). z.part.core.waits) out ∙ w.place.0,
-  subst (λ (z : Sight). HoldsAsBefore m (z, m'.1)) (sym out) (record { same = record { kind = refl; who = refl; stamp = refl; own = refl; counts = refl; stopped = refl; pendings = refl }; owned = refl; held = refl; takes = refl; deaths = refl }),
+  subst (λ (z : Sight). HoldsAsBefore m (z, m'.1)) (sym out) (record { same = record { kind = refl; who = refl; stamp = refl; own = refl; counts = refl; stopped = refl; pendings = refl }; owned = refl; locks = refl; held = refl; takes = refl; deaths = refl }),
 )
 
 -- who found nothing to ask for, signed all that it owes and doesn't have to die may go: m1 once it asked, m2 once it signed

@@ -188,6 +188,7 @@ look_taken size n s l m m2 m3 m4 m5 x r owed o low w t h out o4 got =
     let took : HasTaken m n r m5 = subst (λ (y : Node). HasTaken m n y m5) (sym same) (subst (λ (z : Sight). HasTaken m n x (z, m5.1)) (sym view) (record {
       same = record { kind = refl; who = refl; stamp = refl; own = refl; counts = refl; stopped = refl; pendings = refl };
       owned = refl;
+      locks = refl;
       held = refl;
       takes = refl;
       deaths = refl;

@@ -27,10 +27,10 @@ use Rattle.ww_seat.proofs.Guards.{listed_orderly, exiting_orderly}
 -- ---- the same of what it holds
 
 pub holds_touched : (m m' : Sat) (a : Option Owner) (b d : List ℕ) (c : Bool) → m'.0 ≡ knowing m.0 (touched m.0.part.core a b d c) → HoldsAsBefore m m'
-holds_touched m m' a b d c e = subst (λ (z : Sight). HoldsAsBefore m (z, m'.1)) (sym e) (record { same = record { kind = refl; who = refl; stamp = refl; own = refl; counts = refl; stopped = refl; pendings = refl }; owned = refl; held = refl; takes = refl; deaths = refl })
+holds_touched m m' a b d c e = subst (λ (z : Sight). HoldsAsBefore m (z, m'.1)) (sym e) (record { same = record { kind = refl; who = refl; stamp = refl; own = refl; counts = refl; stopped = refl; pendings = refl }; owned = refl; locks = refl; held = refl; takes = refl; deaths = refl })
 
 pub holds_told : (m m' : Sat) (s : Option ℕ) (c : Bool) → m'.0 ≡ knowing m.0 (told m.0.part.core s c) → HoldsAsBefore m m'
-holds_told m m' s c e = subst (λ (z : Sight). HoldsAsBefore m (z, m'.1)) (sym e) (record { same = record { kind = refl; who = refl; stamp = refl; own = refl; counts = refl; stopped = refl; pendings = refl }; owned = refl; held = refl; takes = refl; deaths = refl })
+holds_told m m' s c e = subst (λ (z : Sight). HoldsAsBefore m (z, m'.1)) (sym e) (record { same = record { kind = refl; who = refl; stamp = refl; own = refl; counts = refl; stopped = refl; pendings = refl }; owned = refl; locks = refl; held = refl; takes = refl; deaths = refl })
 
 -- ---- whom it has to wake
 
@@ -121,7 +121,7 @@ work_looked size n stands again m m' o was w is = subst (IsAtWork size n m stand
     later = w.later;
     behind = w.behind;
   };
-  holds = record { same = record { kind = refl; who = refl; stamp = refl; own = refl; counts = refl; stopped = refl; pendings = refl }; owned = refl; held = refl; takes = refl; deaths = refl };
+  holds = record { same = record { kind = refl; who = refl; stamp = refl; own = refl; counts = refl; stopped = refl; pendings = refl }; owned = refl; locks = refl; held = refl; takes = refl; deaths = refl };
   tries = refl;
 })
 

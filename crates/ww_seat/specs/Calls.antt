@@ -12,6 +12,7 @@ use Rattle.ww_plain.specs.Graph.{IsNodeOf, node_at}
 use Rattle.ww_view.specs.declared.view.View.{View}
 use Rattle.ww_view.specs.View.{owns}
 use Rattle.ww_view.specs.May.{IsShownBy}
+use Rattle.ww_view.specs.Made.{without}
 use Rattle.ww_rule.specs.Rule.{Sat}
 use Rattle.ww_seat.specs.declared.waiting.Stop.{Stop}
 use Rattle.ww_seat.specs.declared.waiting.Stop.TheVariants.{Deadlk, Interrupted}
@@ -31,6 +32,7 @@ pub record IsSame (m m' : Sat) : Type 0 where
 pub record HoldsAsBefore (m m' : Sat) : Type 0 where
   pub same : IsSame m m'
   pub owned : m'.0.part.core.owned ≡ m.0.part.core.owned
+  pub locks : m'.0.part.core.locks ≡ m.0.part.core.locks
   pub held : m'.0.held ≡ m.0.held
   pub takes : m'.0.part.core.takes ≡ m.0.part.core.takes
   pub deaths : m'.0.part.core.deaths ≡ m.0.part.core.deaths
@@ -40,6 +42,7 @@ pub record HoldsAsBefore (m m' : Sat) : Type 0 where
 pub record HasTaken (m : Sat) (n : ℕ) (x : Node) (m' : Sat) : Type 0 where
   pub same : IsSame m m'
   pub owned : m'.0.part.core.owned ≡ slice_set m.0.part.core.owned n true
+  pub locks : m'.0.part.core.locks ≡ m.0.part.core.locks ++ n ∷ []
   pub held : m'.0.held ≡ slice_set m.0.held n (Some x)
   pub takes : m'.0.part.core.takes ≡ m.0.part.core.takes + 1
   pub deaths : m'.0.part.core.deaths ≡ m.0.part.core.deaths
@@ -50,6 +53,7 @@ pub record HasTaken (m : Sat) (n : ℕ) (x : Node) (m' : Sat) : Type 0 where
 pub record HasGiven (m : Sat) (n : ℕ) (m' : Sat) : Type 0 where
   pub same : IsSame m m'
   pub owned : m'.0.part.core.owned ≡ slice_set m.0.part.core.owned n false
+  pub locks : m'.0.part.core.locks ≡ without n m.0.part.core.locks
   pub held : m'.0.held ≡ slice_set m.0.held n None
   pub tries : m'.0.part.core.tries ≡ m.0.part.core.tries
   pub takes : m'.0.part.core.takes ≡ m.0.part.core.takes
@@ -68,6 +72,7 @@ pub record HasMet (n k : ℕ) (v : View) : Type 0 where
 pub record HasToDie (m : Sat) (n k : ℕ) (m' : Sat) : Type 0 where
   pub same : IsSame m m'
   pub owned : m'.0.part.core.owned ≡ m.0.part.core.owned
+  pub locks : m'.0.part.core.locks ≡ m.0.part.core.locks
   pub held : m'.0.held ≡ m.0.held
   pub takes : m'.0.part.core.takes ≡ m.0.part.core.takes
   pub deaths : m'.0.part.core.deaths ≡ m.0.part.core.deaths + 1
@@ -88,6 +93,7 @@ pub record HasStopped (m : Sat) (n by : ℕ) (m' : Sat) : Type 0 where
   pub stopped : m'.0.part.core.stopped ≡ (n, by) ∷ m.0.part.core.stopped
   pub pendings : m'.0.part.core.pendings ≡ m.0.part.core.pendings
   pub owned : m'.0.part.core.owned ≡ m.0.part.core.owned
+  pub locks : m'.0.part.core.locks ≡ m.0.part.core.locks
   pub held : m'.0.held ≡ m.0.held
   pub takes : m'.0.part.core.takes ≡ m.0.part.core.takes
   pub deaths : m'.0.part.core.deaths ≡ m.0.part.core.deaths
@@ -117,6 +123,7 @@ pub record HasBegun (m : Sat) (k : ℕ) (m' : Sat) : Type 0 where
   pub stopped : m'.0.part.core.stopped ≡ m.0.part.core.stopped
   pub pendings : m'.0.part.core.pendings ≡ m.0.part.core.pendings
   pub owned : m'.0.part.core.owned ≡ m.0.part.core.owned
+  pub locks : m'.0.part.core.locks ≡ m.0.part.core.locks
   pub held : m'.0.held ≡ m.0.held
   pub tries : m'.0.part.core.tries ≡ m.0.part.core.tries
   pub takes : m'.0.part.core.takes ≡ m.0.part.core.takes
@@ -133,6 +140,7 @@ pub record HasEnded (m m' : Sat) : Type 0 where
   pub stopped : m'.0.part.core.stopped ≡ m.0.part.core.stopped
   pub pendings : m'.0.part.core.pendings ≡ m.0.part.core.pendings
   pub owned : m'.0.part.core.owned ≡ m.0.part.core.owned
+  pub locks : m'.0.part.core.locks ≡ m.0.part.core.locks
   pub held : m'.0.held ≡ m.0.held
   pub tries : m'.0.part.core.tries ≡ m.0.part.core.tries
   pub takes : m'.0.part.core.takes ≡ m.0.part.core.takes
@@ -152,6 +160,7 @@ pub record HasCommitted (m : Sat) (place : ℕ) (r : Record) (after : List Node)
   pub stopped : m'.0.part.core.stopped ≡ m.0.part.core.stopped
   pub pendings : m'.0.part.core.pendings ≡ m.0.part.core.pendings
   pub owned : m'.0.part.core.owned ≡ m.0.part.core.owned
+  pub locks : m'.0.part.core.locks ≡ m.0.part.core.locks
   pub tries : m'.0.part.core.tries ≡ m.0.part.core.tries
   pub takes : m'.0.part.core.takes ≡ m.0.part.core.takes
   pub deaths : m'.0.part.core.deaths ≡ m.0.part.core.deaths

@@ -1,4 +1,4 @@
-ghost use Rattle.std.specs.Prelude.{◌≡◌, ◌<◌, ◌∷◌, length, true, false, Some};
+ghost use Rattle.std.specs.Prelude.{◌≡◌, ◌<◌, [], ◌∷◌, length, true, false, Some, IfSome, IfNone};
 ghost use lib.ListN.{get_elem?};
 ghost use mathlib.Core.Option.{some};
 ghost use Rattle.ww_plain.specs.declared.node.Node.{Node};
@@ -81,6 +81,15 @@ impl Seat16 {
         ensures { result ≡ nat_lt 0 (length self.now.seat.me.1) }
     {
         self.order.len() > 0
+    }
+
+    /// The number of the slot that it has out on top.
+    pub fn top(&self) -> Option<u8>
+        requires order { self.now.order.items ≡ numbers_of self.now.seat.me.1 }
+        ensures top { IfSome result (λ n. (y : Cell) × (others : List (ℕ × Cell)) × (self.now.seat.me.1 ≡ (n, y) ∷ others)) }
+        ensures none { IfNone result (self.now.seat.me.1 ≡ []) }
+    {
+        self.order.last().copied()
     }
 
     /// Starts a context, and gives its stamp: one more than the stamp drawn last.

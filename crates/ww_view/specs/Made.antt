@@ -1,5 +1,5 @@
 -- What each step makes of the view.
-use Rattle.std.specs.Prelude.{ℕ, zero, suc, ◌+◌, ◌==◌, not, Bool, true, false, List, [], ◌∷◌, Option, Some, None, slice_get, slice_set}
+use Rattle.std.specs.Prelude.{ℕ, zero, suc, ◌+◌, ◌==◌, not, Bool, true, false, List, [], ◌∷◌, ◌++◌, filter, Option, Some, None, slice_get, slice_set}
 use Rattle.std.specs.Option.{option_map, unwrap_or}
 use Rattle.ww_word.specs.declared.owner.Owner.{Owner}
 use Rattle.ww_word.specs.Owner.{with_waiters}
@@ -15,6 +15,10 @@ use Rattle.ww_view.specs.declared.view.Met.{Met}
 use Rattle.ww_view.specs.declared.view.View.{View}
 use Rattle.ww_view.specs.Word.{taken_word, asked_word, given_word, rest_word}
 use Rattle.ww_view.specs.View.{owns}
+
+-- the numbers but this one, in their order
+abbrev pub without : ℕ → List ℕ → List ℕ
+without n ns = filter (λ m. not (m == n)) ns
 
 -- ---- the own sign, as far as it is known
 
@@ -51,6 +55,7 @@ fast_taken v n = record v {
   glances = 0;
   takes = v.takes + 1;
   met = None;
+  locks = v.locks ++ n ∷ [];
 }
 
 -- the word wasn't 0
@@ -58,7 +63,7 @@ abbrev pub fast_missed : View → View
 fast_missed v = record v { fresh = false; tries = v.tries + 1; glances = 0 }
 
 abbrev pub fast_given : View → ℕ → View
-fast_given v n = record v { owned = slice_set v.owned n false; fresh = false; met = None }
+fast_given v n = record v { owned = slice_set v.owned n false; fresh = false; met = None; locks = without n v.locks }
 
 -- the word told more than its owner, so the lock stays its
 abbrev pub fast_kept : View → View
@@ -134,6 +139,7 @@ taken v n = let q : List Entry = left v.list v.who in record v {
   fresh = false;
   takes = v.takes + 1;
   met = None;
+  locks = v.locks ++ n ∷ [];
 }
 
 abbrev pub has_asked : View → Owner → View
@@ -149,6 +155,7 @@ given v n asked = record v {
   fresh = false;
   met = None;
   heir = option_map (λ (e : Entry). e.seat) (slice_get v.list 0);
+  locks = without n v.locks;
 }
 
 -- what it meets at the lock that it is inside of, if it has to die there for a stamp

@@ -57,6 +57,7 @@ first_view kind s = record {
   pendings = 0;
   attempts = 0;
   heir = None;
+  locks = [];
 }
 
 -- ---- what the seat knows, each part a definition over just what it reads of the core and of the view

@@ -66,4 +66,6 @@ pub struct View {
     pub attempts: u64,
     /// The seat that was the first waiter, if somebody waited, as it last gave a lock back inside its guard.
     pub heir: Option<u8>,
+    /// The locks that it owns, in the order in which it took them.
+    pub locks: LinkedList<u8>,
 }

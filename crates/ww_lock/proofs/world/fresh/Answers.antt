@@ -1,9 +1,9 @@
 use Rattle.std.proofs.Common.{◌≡◌, [], ◌∷◌, ◌++◌, ℕ, ◌+◌, false, replicate, length, length-append, append_assoc, refl, sym, subst, ◌∙◌, rules, arith}
 use Rattle.ww_rule.specs.Rule.{first_graph}
 use Rattle.ww_lock.specs.declared.hand.Hand.{Hand}
-use Rattle.ww_lock.specs.Carried.{holding_of, Carries}
+use Rattle.ww_lock.specs.Carried.{holding_of, held_of, Carries}
 use Rattle.ww_lock.specs.Opened.{fresh, AreFresh}
-use Rattle.ww_lock.proofs.Openings.{next_is, new_carries, new_holding, new_idle, fresh_more}
+use Rattle.ww_lock.proofs.Openings.{next_is, new_carries, new_holding, new_idle, new_holds_nothing, fresh_more}
 use Rattle.ww_lock.proofs.world.fresh.Goals as goal
 
 pub invariant_of-push_reserved : goal.invariant_of-push_reserved
@@ -12,10 +12,9 @@ invariant_of-push_reserved c =
     let shared = c.args.board.now.table.shared in
     let next = next_is shared.table_id shared.key c.args.seats.items c.loop-seat.yielded c.loop-seat.seat-iterator.rest.items c.next.new.self.rest.items c.in-Some.seat c.loop-seat.rests.items c.pop.new.self.items c.in-Some-pop.field-0
     c.requires.seats.new i.2 (search rules) i.3 (search rules) in
-    let none : c.new.result.items ≡ [] = search rules in
-    let hand : Hand = record { seat = c.in-Some.seat; left = c.args.budget; held = c.new.result; marks = replicate 64 false; seen = c.in-Some-pop.field-0.seen; patience = c.in-Some-pop.field-0.patience } in
-    subst (λ (h : Hand). Carries h × (h.seat.stamp ≡ 0) × (h.held.items ≡ [])) (sym c.in-Ok.ensures.ok)
-    (new_carries shared.table_id shared.key (length c.loop-seat.yielded) hand next.0 none refl next.3 c.args.board.now.few (omega (arith, c.ranges.budget.fits)), new_idle shared.table_id shared.key _ c.in-Some.seat next.0, none)
+    let hand : Hand = record { seat = c.in-Some.seat; left = c.args.budget; marks = replicate 64 false; seen = c.in-Some-pop.field-0.seen; patience = c.in-Some-pop.field-0.patience } in
+    subst (λ (h : Hand). Carries h × (h.seat.stamp ≡ 0) × (held_of h ≡ [])) (sym c.in-Ok.ensures.ok)
+    (new_carries shared.table_id shared.key (length c.loop-seat.yielded) hand next.0 refl next.3 c.args.board.now.few (omega (arith, c.ranges.budget.fits)), new_idle shared.table_id shared.key _ c.in-Some.seat next.0, new_holds_nothing shared.table_id shared.key (length c.loop-seat.yielded) hand next.0)
 
 pub loop-seat-preserved : goal.loop-seat-preserved
 loop-seat-preserved c =
@@ -23,10 +22,9 @@ loop-seat-preserved c =
     let shared = c.args.board.now.table.shared in
     let next = next_is shared.table_id shared.key c.args.seats.items c.loop-seat.yielded c.loop-seat.seat-iterator.rest.items c.next.new.self.rest.items c.in-Some.seat c.loop-seat.rests.items c.pop.new.self.items c.in-Some-pop.field-0
     c.requires.seats.new i.2 (search rules) i.3 (search rules) in
-    let none : c.new.result.items ≡ [] = search rules in
     let more : length (c.loop-seat.yielded ++ c.in-Some.seat ∷ []) ≡ length c.loop-seat.yielded + 1 = length-append c.loop-seat.yielded (c.in-Some.seat ∷ []) in
-    let hand : Hand = record { seat = c.in-Some.seat; left = c.args.budget; held = c.new.result; marks = replicate 64 false; seen = c.in-Some-pop.field-0.seen; patience = c.in-Some-pop.field-0.patience } in
-    let holding = subst (λ (h : Hand). holding_of h ≡ fresh shared.table_id (first_graph shared.key) c.args.budget (length c.loop-seat.yielded) (holding_of h).room) (sym c.in-Ok.ensures.ok) (new_holding shared.table_id shared.key (length c.loop-seat.yielded) hand next.0 none next.3) in (
+    let hand : Hand = record { seat = c.in-Some.seat; left = c.args.budget; marks = replicate 64 false; seen = c.in-Some-pop.field-0.seen; patience = c.in-Some-pop.field-0.patience } in
+    let holding = subst (λ (h : Hand). holding_of h ≡ fresh shared.table_id (first_graph shared.key) c.args.budget (length c.loop-seat.yielded) (holding_of h).room) (sym c.in-Ok.ensures.ok) (new_holding shared.table_id shared.key (length c.loop-seat.yielded) hand next.0 next.3) in (
       tt,
       tt,
       append_assoc c.loop-seat.yielded (c.in-Some.seat ∷ []) c.next.new.self.rest.items ∙ next.1,

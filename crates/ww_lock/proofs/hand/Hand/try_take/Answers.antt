@@ -23,7 +23,7 @@ returns-in-Some c =
     let e = c.try_take.ensures in
     let added = c.add.ensures in
     let t = takes c.args.self.now c.add.new.self c.args.world.now _ c.try_take.new.seat c.args.n c.in-Some.node c.world.view_is c.requires.home c.requires.fresh c.requires.node c.requires.new e.seat e.records c.in-Some.ensures.some
-    added.seat added.same added.held added.marks added.seen in
+    added.seat added.same added.marks added.seen in
     record {
       fresh = t.fresh;
       taken = λ _. taken_at_once c.args.self.now c.add.new.self c.try_take.new.seat c.args.n c.in-Some.node c.requires.new added.seat e.once t;

@@ -24,7 +24,7 @@ returns g c =
     let e = c.wait_for.ensures in
     let added = c.add.ensures in
     let t = takes c.args.self.now c.add.new.self c.args.world.now _ c.wait_for.new.seat c.args.n c.in_ok-node.node c.world.view_is c.requires.home c.requires.fresh c.requires.node c.requires.new e.settled e.records c.in_ok-node.ensures.ok
-    added.seat added.same added.held added.marks added.seen in
+    added.seat added.same added.marks added.seen in
     record {
       fresh = t.fresh;
       taken = λ s was. taken_late c.args.self.now c.add.new.self c.wait_for.new.seat c.args.n c.in_ok-node.node s c.requires.new added.seat e.tries t was;
