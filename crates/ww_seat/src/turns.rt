@@ -40,8 +40,8 @@ pub fn give_at_once(seat: &mut Seat16, board: &Board, lock: u8) -> bool
     ensures settled { IsSettledAt board.now seat.new }
     ensures given { result ≡ true → HasGiven seat.old.seat.me lock seat.new.seat.me }
     ensures still { result ≡ false → IsStill seat.old.seat.me seat.new.seat.me }
-    ensures kept { result ≡ false → seat.new.seat.me.0.part.core.kept ≡ seat.old.seat.me.0.part.core.kept + 1 }
-    ensures gone { result ≡ true → seat.new.seat.me.0.part.core.kept ≡ seat.old.seat.me.0.part.core.kept }
+    ensures kept { result ≡ false → (view_of seat.new).kept ≡ (view_of seat.old).kept + 1 }
+    ensures gone { result ≡ true → (view_of seat.new).kept ≡ (view_of seat.old).kept }
     ensures records { seat.new.records ≡ seat.old.records }
 {
     seat.give_free(board, lock)
