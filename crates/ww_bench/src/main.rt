@@ -1,12 +1,12 @@
 //! Times transactions on threads. Its arguments are a load (`locks`, `reads`, `opposite`, `works`, `adds` or
-//! `transacts`), the kind of the locks (`wound-wait` or `wait-die`) and six numbers: how many threads there are, how many
-//! nodes a transaction takes, how many nodes there are, how many transactions each thread has, for how many pauses of the
-//! processor each of `works` holds its locks, and how often all of them are timed. It writes a line for each time:
-//! nanoseconds, back-offs, and how many transactions did what they are to do; of `works` the nanoseconds of a thread
-//! in the mean, and those of the longest transaction, for others 0 twice; and how the threads waited: first tries that
-//! were lost, looks at a lock, and sleeps.
-//! Where nothing is to be timed it runs each load once and writes the third number alone, which is the same each time.
-//! Its status is 2 where it doesn't know a word, or has too few or too many.
+//! `transacts`), the kind of the locks (`wound-wait` or `wait-die`) and six numbers: how many threads there are, how
+//! many nodes a transaction takes, how many nodes there are, how many transactions each thread has, for how many pauses
+//! of the processor each of `works` holds its locks, and how often all of them are timed. It writes a line for each
+//! time: nanoseconds, back-offs, and how many transactions did what they are to do; of `works` the nanoseconds of a
+//! thread in the mean, and those of the longest transaction, for others 0 twice; and how the threads waited: first
+//! tries that were lost, looks at a lock, and sleeps. Where nothing is to be timed it runs each load once and writes
+//! the third number alone, which is the same each time. Its status is 2 where it doesn't know a word, or has too few or
+//! too many.
 #![tactic(auto)]
 
 mod load;

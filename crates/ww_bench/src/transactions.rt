@@ -9,16 +9,7 @@ use std::hint;
 use std::sync::Wait;
 use ww_lock::{Acquiring, Backoff, Done, Lock, Pass, World};
 use ww_plain::{Txn, first_double};
-use ww_txn::Gate;
-
-/// A gate that keeps no transaction waiting.
-struct Open;
-
-impl Gate for Open {
-    fn before_commit(&self, _caller: u8, _seq: u64) {}
-
-    fn answered(&self, _caller: u8, _seq: u64) {}
-}
+use ww_txn::Open;
 
 /// Takes the locks of these nodes in turn, or as far as it can.
 #[inline]
@@ -93,8 +84,8 @@ pub(crate) fn look<R: Wait, const READS: bool>(
     (acquiring.unlock_all(rt, world).fini(world), is_read)
 }
 
-/// Takes the locks of these nodes, reads each of them, works for so many pauses of the processor, and gives all back. Tells
-/// whether it read what is there.
+/// Takes the locks of these nodes, reads each of them, works for so many pauses of the processor, and gives all back.
+/// Tells whether it read what is there.
 pub(crate) fn work<R: Wait>(
     rt: &R,
     world: &World,

@@ -1,7 +1,6 @@
 //! Scripts that run side by side. A gate holds a transaction back just before its commit, so that only threads come to
 //! an end.
 
-use crate::run::Open;
 use crate::workers::run_scripts;
 use std::alloc::{AllocError, Global};
 use std::sync::Wait;
@@ -12,7 +11,7 @@ use std::thread::Threads;
 use ww_parts::push_number;
 use ww_plain::{Record, Reply, Txn, replays};
 use ww_script::{Act, Input, Outcome, ScriptAnswer, Scripts, read_input};
-use ww_txn::Gate;
+use ww_txn::{Gate, Open};
 
 /// Two scripts of one add, each on a node of its own.
 const WOUND_WAIT: &str = r#"{"version":1,"kind":"wound-wait","history":true,

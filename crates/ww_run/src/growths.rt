@@ -1,12 +1,12 @@
-//! Scripts that are run where a growth is refused, and once more then. `bench/refuse_library_growths` refuses each growth
-//! in turn.
+//! Scripts that are run where a growth is refused, and once more then. `bench/refuse_library_growths` refuses each
+//! growth in turn.
 
-use crate::run::Open;
 use crate::workers::{RunFault, run_scripts};
 use std::alloc::Global;
 use std::test::Fail;
 use ww_plain::Reply;
 use ww_script::{Input, Outcome, ScriptAnswer, Scripts, read_input};
+use ww_txn::Open;
 
 /// One script, which adds to a node and asks for its value.
 const ADD_AND_GET: &str = r#"{"version":1,"kind":"wound-wait","history":true,

@@ -14,7 +14,7 @@ use std::thread::Threads;
 use ww_script::{
     Input, InputFault, MAX_BYTES, outcome_text, read_input, refusal_line, schedule_text,
 };
-use ww_txn::Gate;
+use ww_txn::Open;
 
 /// One byte more than an input may have: of a longer one no more needs to be read.
 const MOST: usize = MAX_BYTES + 1;
@@ -114,15 +114,6 @@ impl Refusal {
             Refusal::Input(_) => Status::Refused,
         }
     }
-}
-
-/// The program's gate: it keeps no transaction waiting.
-pub(crate) struct Open;
-
-impl Gate for Open {
-    fn before_commit(&self, _caller: u8, _seq: u64) {}
-
-    fn answered(&self, _caller: u8, _seq: u64) {}
 }
 
 /// The text of what the input asks for: of an outcome of its scripts, or of its schedule's replay.

@@ -6,7 +6,7 @@ ghost use Rattle.ww_lock.specs.Holding.{IsAtHome};
 ghost use Rattle.ww_users.specs.Turns.{IsHaltingTurn};
 
 use crate::locks::{KINDS, begun, chain, closed, ended, locked};
-use crate::transactions::{Open, add, asked_interruptible};
+use crate::transactions::{add, asked_interruptible};
 use crate::users::{covered, refused};
 use std::alloc::{AllocError, Global};
 use std::process::Abort;
@@ -15,7 +15,7 @@ use std::test::Fail;
 use ww_lock::{Acquiring, Backoff, Contended, Interruptible, Pass, World};
 use ww_plain::{By, Reply, Txn};
 use ww_queue::Kind;
-use ww_txn::TxnFault;
+use ww_txn::{Open, TxnFault};
 use ww_users::{
     UserFault, lock_list_interruptible, lock_order_interruptible, lock_until_interruptible,
     lock_walk_interruptible,
@@ -323,8 +323,8 @@ fn faulted<R: Wait + Abort>(rt: &R, world: &World, pass: Pass, txn: Txn, fault: 
     pass
 }
 
-/// A transaction while another holds node 1: of an interruption and a double, what comes first in its list is told. Then
-/// one that nobody holds up is made, and leaves the cancel set.
+/// A transaction while another holds node 1: of an interruption and a double, what comes first in its list is told.
+/// Then one that nobody holds up is made, and leaves the cancel set.
 fn transacted<R: Wait + Abort>(rt: &R, alloc: Global, kind: Kind) -> Result<(), Fail> {
     let (world, zero, one, two) = three_passes(alloc, kind, 3)?;
     assert!(rt; world.size() == 3 && TxnFault::Interrupted(2).number() == 20);

@@ -217,8 +217,8 @@ impl Gate for Counts {
     }
 }
 
-/// Asks for a transaction, whose waits may be called off or not. The gate is told of it, once before its commit and once
-/// behind, where it is made, and isn't where it is refused.
+/// Asks for a transaction, whose waits may be called off or not. The gate is told of it, once before its commit and
+/// once behind, where it is made, and isn't where it is refused.
 fn told<R: Wait + Abort>(
     rt: &R,
     world: &World,

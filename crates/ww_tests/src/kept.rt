@@ -118,8 +118,8 @@ fn walks<R: Wait>(rt: &R, world: &World, pass: Pass, stage: &AtomicU32) -> (Pass
     (pass, is_third && is_short, has_kept)
 }
 
-/// Tries for the middle node until the walk has it, or until it mostly has backed off already, as in Wait-Die it does at
-/// once.
+/// Tries for the middle node until the walk has it, or until it mostly has backed off already, as in Wait-Die it does
+/// at once.
 fn looks<R: Wait + Abort>(rt: &R, world: &World, mut pass: Pass, stage: &AtomicU32) -> (Pass, bool)
     requires home { IsAtHome pass world.now }
     ensures home { IsAtHome result.0 world.now }

@@ -8,7 +8,7 @@ ghost use Rattle.ww_users.specs.Turns.{IsTurn};
 
 use crate::locks::{chain, closed, graph_of};
 use crate::threads::commit;
-use crate::transactions::{Open, add};
+use crate::transactions::add;
 use std::alloc::{AllocError, Global};
 use std::process::Abort;
 use std::sync::Wait;
@@ -18,7 +18,7 @@ use std::thread::Threads;
 use ww_lock::{Acquiring, Done, Pass, World};
 use ww_plain::{By, Graph, Txn, replays};
 use ww_queue::Kind;
-use ww_txn::transact;
+use ww_txn::{Open, transact};
 use ww_users::{lock_list, lock_order, lock_until, lock_walk};
 
 /// For how many rounds the threads lock and commit by themselves, and for how many each makes its transaction in one

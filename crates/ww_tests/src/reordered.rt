@@ -1,5 +1,5 @@
-//! A list whose order changes. In Wait-Die it is stopped at its second entry, and then at its third: from then on it takes
-//! both of them before its first one. A list that is taken in its order has one of them at most then.
+//! A list whose order changes. In Wait-Die it is stopped at its second entry, and then at its third: from then on it
+//! takes both of them before its first one. A list that is taken in its order has one of them at most then.
 
 ghost use Rattle.std.specs.Prelude.{◌≡◌, length};
 ghost use Rattle.ww_lock.specs.Holding.{IsAtHome};

@@ -51,8 +51,8 @@ struct Asks {
     heeds: bool,
 }
 
-/// What a round does: the locks that it takes, each with what is added to its node; that addition; what is done instead,
-/// if the locks serve for it; and whom it calls off before.
+/// What a round does: the locks that it takes, each with what is added to its node; that addition; what is done
+/// instead, if the locks serve for it; and whom it calls off before.
 #[derive(Drop)]
 struct Plan {
     amounts: Vec<(u8, u64)>,
@@ -245,7 +245,8 @@ fn back_off<R: Wait>(
     }
 }
 
-/// Takes the locks of these nodes, by backing off and beginning again; or ends the context, and tells who called it off.
+/// Takes the locks of these nodes, by backing off and beginning again; or ends the context, and tells who called it
+/// off.
 fn take_all<R: Wait>(
     rt: &R,
     world: &World,

@@ -13,16 +13,7 @@ use std::test::Fail;
 use ww_lock::{Pass, Receipt, Try, World};
 use ww_plain::{By, Reply, Txn};
 use ww_queue::Kind;
-use ww_txn::{Gate, TxnFault, transact, transact_interruptible};
-
-/// A gate that holds nobody up.
-pub(crate) struct Open;
-
-impl Gate for Open {
-    fn before_commit(&self, _caller: u8, _seq: u64) {}
-
-    fn answered(&self, _caller: u8, _seq: u64) {}
-}
+use ww_txn::{Gate, Open, TxnFault, transact, transact_interruptible};
 
 /// Asks for a transaction.
 pub(crate) fn asked<R: Wait + Abort, G: Gate>(

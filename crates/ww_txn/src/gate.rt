@@ -1,7 +1,7 @@
 ghost use Rattle.std.specs.Prelude.{ℕ};
 
-/// Who is told of each transaction that commits, by the thread that makes it, and may hold that thread up. A
-/// transaction that is refused isn't told.
+/// Its methods are called, in the thread of the transaction, for each transaction that commits; they may hold that
+/// thread up. For a transaction that is refused they aren't called.
 pub trait Gate {
     /// What holds once a gate was asked before the commit of this number of this caller.
     ghost is_asked: { Self → ℕ → ℕ → Type 0 } = { λ _ _ _. Unit {0} };
@@ -17,4 +17,14 @@ pub trait Gate {
     fn answered(&self, caller: u8, seq: u64)
         requires { is_asked self.now caller seq }
         ensures { is_answered self.now caller seq };
+}
+
+/// The gate that does nothing: it keeps no transaction waiting.
+#[derive(Clone, Copy, Debug)]
+pub struct Open;
+
+impl Gate for Open {
+    fn before_commit(&self, _caller: u8, _seq: u64) {}
+
+    fn answered(&self, _caller: u8, _seq: u64) {}
 }

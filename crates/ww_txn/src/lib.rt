@@ -9,5 +9,5 @@ mod transacting;
 mod ways;
 
 pub use changing::{ChangeFault, change};
-pub use gate::Gate;
+pub use gate::{Gate, Open};
 pub use transacting::{TxnFault, transact, transact_interruptible};

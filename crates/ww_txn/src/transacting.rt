@@ -86,8 +86,8 @@ pub fn transact<R: Wait, G: Gate>(
     }
 }
 
-/// Makes a transaction as `transact` does, but its waits may be called off: nothing is recorded then, and the pass holds
-/// no lock. A `Peek` takes one lock without a context, as a plain mutex, and can't be called off.
+/// Makes a transaction as `transact` does, but its waits may be called off: nothing is recorded then, and the pass
+/// holds no lock. A `Peek` takes one lock without a context, as a plain mutex, and can't be called off.
 pub fn transact_interruptible<R: Wait, G: Gate>(
     world: &World,
     pass: Pass,
