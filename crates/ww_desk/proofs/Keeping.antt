@@ -6,6 +6,7 @@ use Rattle.ww_word.specs.declared.owner.Owner.{Owner}
 use Rattle.ww_queue.specs.declared.entry.Entry.{Entry}
 use Rattle.ww_plain.specs.declared.node.Node.{Node}
 use Rattle.ww_plain.specs.Numbers.{is_among, AreDifferent}
+use Rattle.ww_view.specs.declared.view.View.{View}
 use Rattle.ww_view.specs.View.{owns}
 use Rattle.ww_view.specs.Made.{without}
 use Rattle.ww_rule.specs.declared.cells.Counts.{Counts}
@@ -19,6 +20,8 @@ use Rattle.ww_seat.specs.Orderly.{IsSettled, IsSettledAt}
 use Rattle.ww_seat.specs.Calls.{IsSame, HasTaken, HasGiven}
 use Rattle.ww_seat.specs.Guards.{IsStill}
 use Rattle.ww_seat.specs.Looks.{IsOutside}
+use Rattle.ww_seat.specs.Work.{ComesOutside}
+use Rattle.ww_seat.specs.declared.look.Arrival.TheVariants.{Came}
 use Rattle.ww_seat.proofs.Outside.{orderly_knowing}
 use Rattle.ww_desk.specs.declared.turn.Turn.{Turn}
 use Rattle.ww_desk.specs.declared.turn.Turn.TheVariants.{Rests, Stays, Wants, Looks, Gives, Lets}
@@ -94,8 +97,8 @@ kept_less h g n k is there owned held marks stamp at =
 pub rest_of : (t : Turn) → is_at_rest t ≡ true → t ≡ Rests
 rest_of Rests e = refl
 rest_of (Stays n k heeds) e = absurd (true≢false (sym e))
-rest_of (Wants n stands heeds) e = absurd (true≢false (sym e))
-rest_of (Looks n stands again heeds) e = absurd (true≢false (sym e))
+rest_of (Wants n arrival heeds) e = absurd (true≢false (sym e))
+rest_of (Looks n arrival heeds) e = absurd (true≢false (sym e))
 rest_of (Gives n) e = absurd (true≢false (sym e))
 rest_of (Lets n) e = absurd (true≢false (sym e))
 
@@ -130,6 +133,10 @@ glanced_outside size n m m' o is = subst (IsOutside size n) (sym is) (record {
 glanced_same : (m m' : Sat) → m' ≡ (glancing m.0, m.1) → IsSame m m'
 glanced_same m m' is = subst (IsSame m) (sym is) (record { kind = refl; who = refl; stamp = refl; own = refl; counts = refl; stopped = refl; pendings = refl })
 
+-- who came just now, and stands in no list
+came_outside : (v : View) → v.waits ≡ 0 → ComesOutside Came v
+came_outside v none = let off = sym (ap (λ (w : ℕ). not (w == 0)) none) in (off, off)
+
 -- it glanced, and stays away
 pub glanced_stays : (h : Station) (b : Board) (q : Seat16) (seen : Option Owner) (n k : ℕ) (heeds : Bool) → Keeps h → h.turn ≡ Stays n k heeds → 1 ≤ k → b ≡ arc_value h.board → IsSeatOf b q → q.seat.me ≡ (glancing h.seat.seat.me.0, h.seat.seat.me.1)
     → Keeps (record h { seat = q; turn = Stays n (k - 1) heeds; seen = seen })
@@ -142,19 +149,19 @@ glanced_stays h b q seen n k heeds keeps turn some e seated is =
 
 -- ... or wants the lock now
 pub glanced_wants : (h : Station) (b : Board) (q : Seat16) (n k : ℕ) (heeds : Bool) → Keeps h → h.turn ≡ Stays n k heeds → b ≡ arc_value h.board → IsSeatOf b q → q.seat.me ≡ (glancing h.seat.seat.me.0, h.seat.seat.me.1)
-    → Keeps (record h { seat = q; turn = Wants n false heeds })
+    → Keeps (record h { seat = q; turn = Wants n Came heeds })
 glanced_wants h b q n k heeds keeps turn e seated is =
     let at = subst (λ (t : Turn). IsAt (table_of (arc_value h.board)) (size_of (arc_value h.board)) h.wake.seats t h.seat) turn keeps.at in
-    kept h (record h { seat = q; turn = Wants n false heeds }) keeps (record { board = refl; left = refl; same = glanced_same h.seat.seat.me q.seat.me is })
+    kept h (record h { seat = q; turn = Wants n Came heeds }) keeps (record { board = refl; left = refl; same = glanced_same h.seat.seat.me q.seat.me is })
     (ap (λ (m : Sat). m.0.part.core.owned) is) refl refl seated.stamp
-    (subst (λ (x : Board). IsSeatOf x q) e seated, at.1, glanced_outside _ n h.seat.seat.me q.seat.me at.2 is, sym (ap (λ (w : ℕ). not (w == 0)) (ap (λ (m : Sat). m.0.part.core.waits) is ∙ at.3)))
+    (subst (λ (x : Board). IsSeatOf x q) e seated, at.1, glanced_outside _ n h.seat.seat.me q.seat.me at.2 is, came_outside q.seat.me.0.part.core (ap (λ (m : Sat). m.0.part.core.waits) is ∙ at.3))
 
 -- with no glance left
-pub wants_now : (h : Station) (n k : ℕ) (heeds : Bool) → Keeps h → h.turn ≡ Stays n k heeds → Keeps (record h { turn = Wants n false heeds })
+pub wants_now : (h : Station) (n k : ℕ) (heeds : Bool) → Keeps h → h.turn ≡ Stays n k heeds → Keeps (record h { turn = Wants n Came heeds })
 wants_now h n k heeds keeps turn =
     let at = subst (λ (t : Turn). IsAt (table_of (arc_value h.board)) (size_of (arc_value h.board)) h.wake.seats t h.seat) turn keeps.at in
-    kept h (record h { turn = Wants n false heeds }) keeps (record { board = refl; left = refl; same = record { kind = refl; who = refl; stamp = refl; own = refl; counts = refl; stopped = refl; pendings = refl } }) refl refl refl keeps.stamp
-    (at.0, at.1, at.2, sym (ap (λ (w : ℕ). not (w == 0)) at.3))
+    kept h (record h { turn = Wants n Came heeds }) keeps (record { board = refl; left = refl; same = record { kind = refl; who = refl; stamp = refl; own = refl; counts = refl; stopped = refl; pendings = refl } }) refl refl refl keeps.stamp
+    (at.0, at.1, at.2, came_outside h.seat.seat.me.0.part.core at.3)
 
 -- ---- the first waiter
 

@@ -5,6 +5,7 @@ use Rattle.ww_plain.specs.Numbers.{is_among}
 use Rattle.ww_view.specs.Made.{without, found_pending}
 use Rattle.ww_seat.specs.Calls.{HasMet}
 use Rattle.ww_seat.specs.Work.{AreWoken, KeepsMarks}
+use Rattle.ww_seat.specs.declared.look.Arrival.TheVariants.{Came, Woken}
 use Rattle.ww_desk.specs.declared.turn.Turn.{Turn}
 use Rattle.ww_desk.specs.declared.turn.Turn.TheVariants as at
 use Rattle.ww_desk.specs.declared.turn.Answer.{Answer}
@@ -133,20 +134,20 @@ IsSlowAnswer s n heeds _ s' = ⊥
 
 -- it is still on its way to the lock, and has signed whom it has to wake
 abbrev pub IsOnItsWay : ℕ → Bool → Turn → Type 0
-IsOnItsWay n heeds (at.Wants m stands h) = (m ≡ n) × (h ≡ heeds)
-IsOnItsWay n heeds (at.Looks m stands again h) = (m ≡ n) × (h ≡ heeds)
+IsOnItsWay n heeds (at.Wants m arrival h) = (m ≡ n) × (h ≡ heeds)
+IsOnItsWay n heeds (at.Looks m arrival h) = (m ≡ n) × (h ≡ heeds)
 IsOnItsWay n heeds _ = ⊥
 
 -- a glance, where one is left
 abbrev pub IsStayAnswer : Situation → ℕ → ℕ → Bool → Answer → Situation → Type 0
 IsStayAnswer s n k heeds (Stays same) s' = (1 ≤ k) × HasGlanced s s' × HasTurned s (at.Stays n (k - 1) heeds) s'
-IsStayAnswer s n k heeds Again s' = ((k ≡ 0) ⊎ HasGlanced s s') × HasTurned s (at.Wants n false heeds) s'
+IsStayAnswer s n k heeds Again s' = ((k ≡ 0) ⊎ HasGlanced s s') × HasTurned s (at.Wants n Came heeds) s'
 IsStayAnswer s n k heeds _ s' = ⊥
 
 -- a look, or a try to go inside the guard: whom the seat had to wake it still has
 abbrev pub IsWaitAnswer : Situation → ℕ → Bool → Answer → Situation → Type 0
 IsWaitAnswer s n heeds Again s' = IsOnItsWay n heeds s'.turn × HasWorked s s' × KeepsMarks s.wakes s'.wakes × (s' ≡ record s { turn = s'.turn; wakes = s'.wakes; view = s'.view })
-IsWaitAnswer s n heeds Sleeps s' = AreWoken s'.view s'.wakes × HasWorked s s' × KeepsMarks s.wakes s'.wakes × (s' ≡ record s { turn = at.Wants n true heeds; wakes = s'.wakes; view = s'.view })
+IsWaitAnswer s n heeds Sleeps s' = AreWoken s'.view s'.wakes × HasWorked s s' × KeepsMarks s.wakes s'.wakes × (s' ≡ record s { turn = at.Wants n Woken heeds; wakes = s'.wakes; view = s'.view })
 IsWaitAnswer s n heeds Done s' = AreWoken s'.view s'.wakes × KeepsMarks s.wakes s'.wakes × (s' ≡ record s { turn = at.Rests; held = s.held ++ n ∷ []; told = None; takes = s.takes + 1; wakes = s'.wakes; view = s'.view })
 IsWaitAnswer s n heeds (Deadlk k) s' = AreWoken s'.view s'.wakes × KeepsMarks s.wakes s'.wakes × HasToBackOff s n k s'
 IsWaitAnswer s n heeds (Interrupted by) s' = AreWoken s'.view s'.wakes × KeepsMarks s.wakes s'.wakes × (heeds ≡ true) × (s' ≡ record s { turn = at.Rests; interrupted = (n, by) ∷ s.interrupted; wakes = s'.wakes; view = s'.view })
@@ -184,8 +185,8 @@ IsGiveAnswer s n _ s' = ⊥
 abbrev pub IsNextAnswer : Turn → Situation → Answer → Situation → Type 0
 IsNextAnswer at.Rests s a s' = (a ≡ Invalid) × (s' ≡ s)
 IsNextAnswer (at.Stays n k heeds) s a s' = IsStayAnswer s n k heeds a s'
-IsNextAnswer (at.Wants n stands heeds) s a s' = IsWaitAnswer s n heeds a s'
-IsNextAnswer (at.Looks n stands again heeds) s a s' = IsWaitAnswer s n heeds a s'
+IsNextAnswer (at.Wants n arrival heeds) s a s' = IsWaitAnswer s n heeds a s'
+IsNextAnswer (at.Looks n arrival heeds) s a s' = IsWaitAnswer s n heeds a s'
 IsNextAnswer (at.Gives n) s a s' = IsGiveAnswer s n a s'
 IsNextAnswer (at.Lets n) s a s' = IsGiveAnswer s n a s'
 

@@ -37,8 +37,8 @@ pub record Situation : Type 0 where
 abbrev pub is_at_rest : Turn → Bool
 is_at_rest Rests = true
 is_at_rest (Stays n k heeds) = false
-is_at_rest (Wants n stands heeds) = false
-is_at_rest (Looks n stands again heeds) = false
+is_at_rest (Wants n arrival heeds) = false
+is_at_rest (Looks n arrival heeds) = false
 is_at_rest (Gives n) = false
 is_at_rest (Lets n) = false
 
@@ -46,8 +46,8 @@ is_at_rest (Lets n) = false
 abbrev pub is_inside : Turn → Bool
 is_inside Rests = false
 is_inside (Stays n k heeds) = false
-is_inside (Wants n stands heeds) = false
-is_inside (Looks n stands again heeds) = true
+is_inside (Wants n arrival heeds) = false
+is_inside (Looks n arrival heeds) = true
 is_inside (Gives n) = false
 is_inside (Lets n) = true
 

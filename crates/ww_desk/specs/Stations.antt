@@ -11,7 +11,7 @@ use Rattle.ww_table.specs.Seat.{IsSeated, size_of, view_of}
 use Rattle.ww_seat.specs.Orderly.{IsOrderly, IsSettled}
 use Rattle.ww_seat.specs.Guards.{IsGiving}
 use Rattle.ww_seat.specs.Looks.{IsOutside}
-use Rattle.ww_seat.specs.Work.{AreWoken, IsWorking}
+use Rattle.ww_seat.specs.Work.{AreWoken, has_joined, looks_again, ComesOutside, IsWorking}
 use Rattle.ww_desk.specs.declared.turn.Turn.{Turn}
 use Rattle.ww_desk.specs.declared.turn.Turn.TheVariants.{Rests, Stays, Wants, Looks, Gives, Lets}
 use Rattle.ww_desk.specs.declared.station.Station.{Station}
@@ -49,8 +49,8 @@ situation_of d = record {
 abbrev pub IsAt : TableId → ℕ → List Bool → Turn → Seat16 → Type 0
 IsAt table size wakes Rests s = IsSettled table size s
 IsAt table size wakes (Stays n k heeds) s = IsSeated table s × (n < size) × IsOutside size n s.seat.me × ((view_of s).waits ≡ 0) × ((view_of s).glances + k ≤ 16)
-IsAt table size wakes (Wants n stands heeds) s = IsSeated table s × (n < size) × IsOutside size n s.seat.me × (stands ≡ not ((view_of s).waits == 0))
-IsAt table size wakes (Looks n stands again heeds) s = IsSeated table s × (n < size) × IsOrderly size s.seat.me × IsWorking n stands again (view_of s) × AreWoken (view_of s) wakes
+IsAt table size wakes (Wants n arrival heeds) s = IsSeated table s × (n < size) × IsOutside size n s.seat.me × ComesOutside arrival (view_of s)
+IsAt table size wakes (Looks n arrival heeds) s = IsSeated table s × (n < size) × IsOrderly size s.seat.me × IsWorking n (has_joined arrival) (looks_again arrival) (view_of s) × AreWoken (view_of s) wakes
 IsAt table size wakes (Gives n) s = IsSettled table size s × (n < size) × (owns (view_of s) n ≡ true)
 IsAt table size wakes (Lets n) s = IsSeated table s × (n < size) × IsGiving size n s.seat.me
 

@@ -3,9 +3,9 @@ use crate::turn::Answer;
 use std::marker::Model;
 use ww_word::MAX_SEATS;
 
-/// What a thread has of a world of locks: a seat, and where its call stands. Every call may be made at any time, waits for
-/// nobody, and answers what became of it; `Again`, `Stays` and `Sleeps` want a call of `go_on`. Contracts see it as a
-/// situation.
+/// What a thread has of a world of locks: a seat, and where its call stands. Every call may be made at any time, waits
+/// for nobody, and answers what became of it; `Again`, `Stays` and `Sleeps` want a call of `go_on`. Contracts see it as
+/// a situation.
 #[derive(Drop)]
 pub struct Desk {
     pub(crate) station: Station,
@@ -49,9 +49,9 @@ impl Desk {
         self.station.end()
     }
 
-    /// Takes a lock, or begins to wait for it; where `heeds` the wait may be called off. `Invalid` for a lock that isn't
-    /// there, for a context that is done, for one that was told to back off and hasn't, and for a second lock without a
-    /// context.
+    /// Takes a lock, or begins to wait for it; where `heeds` the wait may be called off. `Invalid` for a lock that
+    /// isn't there, for a context that is done, for one that was told to back off and hasn't, and for a second lock
+    /// without a context.
     #[inline]
     pub fn lock(&mut self, lock: u8, heeds: bool) -> Answer
         ensures { IsLockAnswer self.old lock heeds result self.new }
@@ -67,8 +67,8 @@ impl Desk {
         self.station.try_lock(lock)
     }
 
-    /// Takes the lock for which the context was told to back off, once it has. `Invalid` for any other lock, or while one
-    /// is held.
+    /// Takes the lock for which the context was told to back off, once it has. `Invalid` for any other lock, or while
+    /// one is held.
     pub fn lock_slow(&mut self, lock: u8, heeds: bool) -> Answer
         ensures { IsSlowAnswer self.old lock heeds result self.new }
     {
@@ -83,8 +83,8 @@ impl Desk {
         self.station.unlock(lock)
     }
 
-    /// Gives all locks back, the one taken last first. Where somebody may wait for one it answers `Again`: that one is given
-    /// back by further turns, and those before it by another call of this.
+    /// Gives all locks back, the one taken last first. Where somebody may wait for one it answers `Again`: that one is
+    /// given back by further turns, and those before it by another call of this.
     pub fn unlock_all(&mut self) -> Answer
         ensures { IsUnlockAllAnswer self.old result self.new }
     {
@@ -98,7 +98,8 @@ impl Desk {
         self.station.go_on()
     }
 
-    /// Calls off the wait of the seat of this number, if its call lets it. `Already` where that is pending, which stays.
+    /// Calls off the wait of the seat of this number, if its call lets it. `Already` where that is pending, which
+    /// stays.
     pub fn cancel(&mut self, victim: u8) -> Answer
         ensures { IsCancelAnswer self.old victim result self.new }
     {

@@ -45,8 +45,8 @@ impl Station {
         }
     }
 
-    /// Gives locks back, the one taken last first, up to the first for which somebody may wait: that one is given back by
-    /// further turns, and the others by another call.
+    /// Gives locks back, the one taken last first, up to the first for which somebody may wait: that one is given back
+    /// by further turns, and the others by another call.
     pub(crate) fn unlock_all(&mut self) -> Answer
         requires keeps { Keeps self.old }
         ensures keeps { Keeps self.new }

@@ -7,7 +7,7 @@ ghost use Rattle.ww_desk.specs.declared.turn.Turn.TheVariants.{Stays, Looks, Let
 use crate::station::Station;
 use crate::turn::{Answer, Turn};
 use ww_queue::Entry;
-use ww_seat::{Look, Wake, cancel_once, enter_owned, enter_wanted, give_on, look_once};
+use ww_seat::{Arrival, Look, Wake, cancel_once, enter_owned, enter_wanted, give_on, look_once};
 use ww_word::{MAX_SEATS, Owner};
 
 impl Station {
@@ -23,13 +23,13 @@ impl Station {
         match self.turn {
             Turn::Rests => Answer::Invalid,
             Turn::Stays(lock, glances, heeds) => self.stay(lock, glances, heeds),
-            Turn::Wants(lock, stands, heeds) => {
+            Turn::Wants(lock, arrival, heeds) => {
                 if !enter_wanted(&mut self.seat, &self.board, lock) {
                     return Answer::Again;
                 }
-                self.look(lock, stands, stands, heeds)
+                self.look(lock, arrival, heeds)
             }
-            Turn::Looks(lock, stands, is_later, heeds) => self.look(lock, stands, is_later, heeds),
+            Turn::Looks(lock, arrival, heeds) => self.look(lock, arrival, heeds),
             Turn::Gives(lock) => {
                 if !enter_owned(&mut self.seat, &self.board, lock) {
                     return Answer::Again;
@@ -48,12 +48,12 @@ impl Station {
         ensures answer { IsStayAnswer (situation_of self.old) lock glances heeds result (situation_of self.new) }
     {
         if glances == 0 {
-            self.turn = Turn::Wants(lock, false, heeds);
+            self.turn = Turn::Wants(lock, Arrival::Came, heeds);
             return Answer::Again;
         }
         let owner = self.seat.glance(&self.board, lock);
         if owner.seat.is_none() {
-            self.turn = Turn::Wants(lock, false, heeds);
+            self.turn = Turn::Wants(lock, Arrival::Came, heeds);
             return Answer::Again;
         }
         let is_same = is_same(self.seen, owner);
@@ -63,28 +63,27 @@ impl Station {
     }
 
     /// One look at a lock, inside its guard.
-    fn look(&mut self, lock: u8, stands: bool, is_later: bool, heeds: bool) -> Answer
-        requires keeps { Keeps (record self.old { turn = Looks lock stands is_later heeds }) }
+    fn look(&mut self, lock: u8, arrival: Arrival, heeds: bool) -> Answer
+        requires keeps { Keeps (record self.old { turn = Looks lock arrival heeds }) }
         ensures keeps { Keeps self.new }
         ensures answer { IsWaitAnswer (situation_of self.old) lock heeds result (situation_of self.new) }
     {
-        let mut stood = stands;
+        let mut arrival = arrival;
         let look = look_once(
             &mut self.seat,
             &self.board,
             lock,
-            is_later,
+            &mut arrival,
             heeds,
-            &mut stood,
             &mut self.wake,
         );
         match look {
             None => {
-                self.turn = Turn::Looks(lock, stood, is_later, heeds);
+                self.turn = Turn::Looks(lock, arrival, heeds);
                 Answer::Again
             }
             Some(Look::Waits) => {
-                self.turn = Turn::Wants(lock, true, heeds);
+                self.turn = Turn::Wants(lock, Arrival::Woken, heeds);
                 Answer::Sleeps
             }
             Some(Look::Locked(_)) => {

@@ -13,8 +13,8 @@ use ww_word::Owner;
 /// How many locks a world has at most.
 pub(crate) const MAX_LOCKS: usize = 64;
 
-/// What a desk keeps: its seat at the table that it shares with others, and where its call stands. Contracts see it as a
-/// situation.
+/// What a desk keeps: its seat at the table that it shares with others, and where its call stands. Contracts see it as
+/// a situation.
 #[derive(Drop)]
 pub(crate) struct Station {
     pub(crate) board: Arc<Board, Global>,
@@ -57,8 +57,8 @@ impl Station {
         usize::from(lock) < MAX_LOCKS && self.marks[usize::from(lock)]
     }
 
-    /// Whether it may want a lock: its context isn't done, and where it holds locks it has a context, which wasn't told to
-    /// back off.
+    /// Whether it may want a lock: its context isn't done, and where it holds locks it has a context, which wasn't told
+    /// to back off.
     pub(crate) fn can_want(&self) -> bool
         requires { Keeps self.now }
         ensures { result ≡ can_want (situation_of self.now) }

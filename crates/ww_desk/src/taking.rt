@@ -63,8 +63,8 @@ impl Station {
         }
     }
 
-    /// Takes a lock: one try, after which it stays away for a while and then waits. Where `heeds` the wait may be called
-    /// off.
+    /// Takes a lock: one try, after which it stays away for a while and then waits. Where `heeds` the wait may be
+    /// called off.
     pub(crate) fn lock(&mut self, lock: u8, heeds: bool) -> Answer
         requires keeps { Keeps self.old }
         ensures keeps { Keeps self.new }

@@ -1,5 +1,7 @@
 //! Where a call stands that is made in turns, and what a turn answers.
 
+use ww_seat::Arrival;
+
 /// Where a call of a desk stands.
 #[derive(Clone, Copy, Debug, PartialEq, Eq)]
 pub enum Turn {
@@ -8,12 +10,10 @@ pub enum Turn {
     /// It has just tried this lock in vain, and stays away from it for so many glances at most; whether its wait may be
     /// called off.
     Stays(u8, u8, bool),
-    /// Outside the guard of a lock that it wants: whether it stands in its wait list, and whether its wait may be called
-    /// off.
-    Wants(u8, bool, bool),
-    /// Inside that guard: whether it stands in the list, whether it stood there as it went inside, and whether its wait may
-    /// be called off.
-    Looks(u8, bool, bool, bool),
+    /// Outside the guard of a lock that it wants: how it came there, and whether its wait may be called off.
+    Wants(u8, Arrival, bool),
+    /// Inside that guard: how it came there, and whether its wait may be called off.
+    Looks(u8, Arrival, bool),
     /// It gives this lock back, and is outside its guard.
     Gives(u8),
     /// It gives this lock back, and is inside its guard.
@@ -27,16 +27,16 @@ pub enum Answer {
     Done,
     /// It wants another turn, at once.
     Again,
-    /// It wants another turn after some pauses: the lock that it wants has an owner; whether that is the context that was
-    /// seen at the glance before, which has work of some length then.
+    /// It wants another turn after some pauses, since the lock has an owner. True if that is the same context as at the
+    /// glance before, so one that works for longer.
     Stays(bool),
     /// It wants another turn once somebody has woken the seat.
     Sleeps,
-    /// Another call is on its way; of a trylock also that somebody has the lock or waits for it.
+    /// Another call is on its way; for a trylock also: somebody has the lock or waits for it.
     Busy,
     /// The call doesn't fit what the desk is at, or there is no such lock.
     Invalid,
-    /// The lock is held already; of a cancel, that one is pending already.
+    /// The lock is held already; for a cancel: one is pending already.
     Already,
     /// All contexts that the desk might begin were begun.
     NoSpace,

@@ -29,8 +29,8 @@ AreParts passes history = AllByRecursion (λ s. part_of s.caller history ≡ s.o
 abbrev pub IsBalanced : Holding → Holding → ℕ → Type 0
 IsBalanced s t pending = times t.caller s.cancelled ≡ times s.caller (by_of t.interrupted) + one_of s.caller t.caller pending
 
--- Each time that a pass was interrupted another had called off its wait, and that no more often than it did so: what is
--- left is pending, one cancel at most for each pass. No pass was interrupted by a caller that has none.
+-- A pass was interrupted by another at most as often as that one set its cancel; the difference is the cancel that is
+-- pending, one at most for each pass. No pass was interrupted by a caller that has none.
 pub record AreBalanced (w : Setting) (passes : List Holding) : Type 0 where
   pub pending : ℕ → ℕ
   pub each : AllByRecursion (λ s. AllByRecursion (λ t. IsBalanced s t (pending t.caller)) passes) passes

@@ -49,7 +49,7 @@ impl Lock {
         }
     }
 
-    /// The context where it holds the node now, whether it did before or not; or what has to back off.
+    /// The context if it holds the node now, newly or already; otherwise the context that has to back off.
     pub fn going_on(self) -> Result<Acquiring, Backoff>
         ensures { result ≡ going_on self }
     {

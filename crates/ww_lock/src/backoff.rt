@@ -5,9 +5,9 @@ use crate::world::World;
 use std::marker::Model;
 use std::sync::Wait;
 
-/// A context that was told EDEADLK. It still holds its locks, and can only give them all back. By its invariant its seat
-/// keeps what it met for just this lock as it backed off, by a step of its own: what it saw there shows the older context
-/// of just this stamp. It has taken and given no lock since.
+/// A context that was told EDEADLK. It still holds its locks, and can only give them all back. Invariant: the view of
+/// its seat keeps what it saw at just this lock when it backed off, and that shows an older context of just this stamp.
+/// It has taken and given back no lock since.
 pub struct Backoff {
     pub(crate) hand: Box<Hand>,
     pub(crate) contended: u8,

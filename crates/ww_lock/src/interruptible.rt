@@ -62,8 +62,8 @@ impl Acquiring {
     ghost use Rattle.ww_lock.specs.Moves.{IsInterruptibleAnswer};
 
     /// Takes the lock of a node as `lock` does, but a wait for it may be called off: the kernel's
-    /// `ww_mutex_lock_interruptible`. A cancel of this caller, whenever it was set, is answered where the call would
-    /// have to wait, and before EDEADLK; a call that meets no contention leaves it set.
+    /// `ww_mutex_lock_interruptible`. If the call has to wait and a cancel of this caller is pending, whenever it was
+    /// set, the answer is that, before any EDEADLK. A call that meets no contention leaves the cancel pending.
     pub fn lock_interruptible<R: Wait>(self, rt: &R, world: &World, n: u8) -> Interruptible
         requires home { IsAtHome self world.now }
         requires node { n < length world.now.first }

@@ -65,9 +65,9 @@ impl Hand {
         }
     }
 
-    /// Takes a lock that it has just tried in vain: it waits for it, as long as that takes where the rules say so; or
-    /// tells the stamp of the older context that was met, or who called the wait off. What it comes to is told of what
-    /// was held before that try.
+    /// Waits for a lock after a first try that failed. It ends with the lock, or with the stamp of the older context
+    /// that was met, or with the seat that called the wait off. The contract compares this with the state before that
+    /// try.
     #[cold]
     pub(crate) fn wait_for<R: Wait>(
         &mut self,

@@ -83,8 +83,8 @@ impl Pass {
     }
 
     /// Sets the cancel of a pass of this world and wakes it: its current interruptible wait, or its next interruptible
-    /// call that would wait, is interrupted. False if one is pending, which stays; that is counted, and nothing else changes. It takes nothing from the
-    /// budget. It stands for the kernel's signal.
+    /// call that would wait, is interrupted. False if a cancel is pending already: it stays, and only that it was found
+    /// is counted. This takes nothing from the budget. It stands for the kernel's signal.
     pub fn cancel(&mut self, world: &World, who: u8) -> bool
         requires home { IsAtHome self.old world.now }
         requires caller { who < world.now.passes }

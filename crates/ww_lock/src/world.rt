@@ -121,8 +121,8 @@ struct Rest {
     seen: Graph,
 }
 
-/// What `passes` passes wait with, and their graphs, last first, since `fresh` pops them. What wakes the parkers comes in the
-/// order of the passes.
+/// The parkers and the graphs of `passes` passes, the last one first, since `fresh` pops them; and what wakes the
+/// parkers, in the order of the passes.
 fn rests(alloc: Global, graph: &Graph, passes: u8) -> Result<(Vec<Rest>, Vec<Unparker>), AllocError>
     ensures rests { IfOk result (λ r. AreRests graph.now passes r.0.items) }
     ensures wakers { IfOk result (λ r. length r.1.items ≡ passes) }

@@ -6,10 +6,11 @@ use Rattle.ww_view.specs.May.{WantsSigns}
 use Rattle.ww_table.specs.declared.board.Board.{Board}
 use Rattle.ww_table.specs.declared.seat.Seat16.{Seat16}
 use Rattle.ww_rule.proofs.Seats.{bare_first}
+use Rattle.ww_seat.specs.declared.look.Arrival.TheVariants.{Came}
 use Rattle.ww_low_tests.specs.Looking.{Holds, MayLook, none}
 
 -- it lacks lock n, and what it knows of its sign lets it want a lock
-pub may_look : (board : Board) (k : Kind) (o : List Bool) (n : ℕ) (s : Seat16) → Holds board k o s → get_or o n false ≡ false → WantsSigns s.seat.me.0.part.core → MayLook board k o n false s
+pub may_look : (board : Board) (k : Kind) (o : List Bool) (n : ℕ) (s : Seat16) → Holds board k o s → get_or o n false ≡ false → WantsSigns s.seat.me.0.part.core → MayLook board k o n Came s
 may_look board k o n s h lacks signs = record {
   owns = h.owns;
   outside = record {
@@ -22,11 +23,11 @@ may_look board k o n s h lacks signs = record {
     outside = h.away.0;
     place = inl h.away.1;
   };
-  later = ap (λ (w : ℕ). not (eqb w 0)) (sym h.away.1);
+  comes = let off = ap (λ (w : ℕ). not (eqb w 0)) (sym h.away.1) in (off, off);
 }
 
 -- it holds lock j, and not lock n
-pub looks_first : (board : Board) (k : Kind) (o : List Bool) (n j : ℕ) (s : Seat16) → Holds board k o s → get_or o n false ≡ false → get_or o j false ≡ true → MayLook board k o n false s
+pub looks_first : (board : Board) (k : Kind) (o : List Bool) (n j : ℕ) (s : Seat16) → Holds board k o s → get_or o n false ≡ false → get_or o j false ≡ true → MayLook board k o n Came s
 looks_first board k o n j s h lacks has = may_look board k o n s h lacks (inr (inr (inl (j, ap (λ (l : List Bool). get_or l j false) h.owns.owned ∙ has))))
 
 -- it holds nothing

@@ -1,12 +1,14 @@
 -- A seat in a ring: what it holds, and where it stands.
-use Rattle.std.specs.Prelude.{ℕ, ◌≡◌, ◌<◌, ◌==◌, Bool, List, false, not, replicate, slice_set, true}
+use Rattle.std.specs.Prelude.{ℕ, ◌≡◌, ◌<◌, Bool, List, false, replicate, slice_set, true}
 use Rattle.ww_queue.specs.declared.kind.Kind.{Kind}
 use Rattle.ww_view.specs.View.{IsAway}
 use Rattle.ww_table.specs.declared.board.Board.{Board}
 use Rattle.ww_table.specs.declared.seat.Seat16.{Seat16}
 use Rattle.ww_table.specs.Seat.{IsSeatOf, size_of, view_of}
 use Rattle.ww_seat.specs.Orderly.{IsOrderly}
+use Rattle.ww_seat.specs.declared.look.Arrival.{Arrival}
 use Rattle.ww_seat.specs.Looks.{IsOutside}
+use Rattle.ww_seat.specs.Work.{ComesOutside}
 
 -- which locks a seat owns: none, or just this one
 abbrev pub none : List Bool
@@ -28,8 +30,8 @@ pub record Holds (board : Board) (k : Kind) (locks : List Bool) (s : Seat16) : T
   pub owns : Owns board k locks s
   pub away : IsAway (view_of s)
 
--- ... or may look at this lock, where it stands in the wait list, or never was
-pub record MayLook (board : Board) (k : Kind) (locks : List Bool) (n : ℕ) (again : Bool) (s : Seat16) : Type 0 where
+-- ... or may look at this lock: it stands in the wait list, or in none
+pub record MayLook (board : Board) (k : Kind) (locks : List Bool) (n : ℕ) (arrival : Arrival) (s : Seat16) : Type 0 where
   pub owns : Owns board k locks s
   pub outside : IsOutside (size_of board) n s.seat.me
-  pub later : again ≡ not ((view_of s).waits == 0)
+  pub comes : ComesOutside arrival (view_of s)

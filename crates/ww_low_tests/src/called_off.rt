@@ -4,6 +4,7 @@
 ghost use Rattle.std.specs.Prelude.{ℕ, ◌≡◌, ◌<◌, List, Bool, false, IfOk};
 ghost use Rattle.ww_queue.specs.declared.kind.Kind.{Kind};
 ghost use Rattle.ww_table.specs.Seat.{IsNew, size_of};
+ghost use Rattle.ww_seat.specs.declared.look.Arrival.TheVariants.{Came};
 ghost use Rattle.ww_low_tests.specs.Looking.{Owns, Holds, MayLook, just, none};
 
 use crate::rings::{
@@ -15,7 +16,7 @@ use std::process::Abort;
 use std::sync::Wait;
 use std::test::Fail;
 use ww_queue::Kind;
-use ww_seat::{Look, cancel, give_at_once, try_take, visit};
+use ww_seat::{Arrival, Look, cancel, give_at_once, try_take, visit};
 use ww_table::{Board, Seat16};
 
 const KINDS: [Kind; 2] = [Kind::WoundWait, Kind::WaitDie];
@@ -26,7 +27,7 @@ fn ask<R: Abort>(rt: &R, board: &mut Board, seat: &mut Seat16, kind: Kind)
     requires kind { board.old.table.shared.key.kind ≡ kind }
     requires new { (k : ℕ) × IsNew board.old.table.shared.table_id board.old.table.shared.key k seat.old }
     ensures same { board.new ≡ board.old }
-    ensures may { MayLook board.new kind none 0 false seat.new }
+    ensures may { MayLook board.new kind none 0 Came seat.new }
 {
     start(rt, board, seat, kind, [264, 0]);
     if try_take(seat, board, 0).is_some() {
@@ -38,7 +39,7 @@ fn ask<R: Abort>(rt: &R, board: &mut Board, seat: &mut Seat16, kind: Kind)
 fn asked<R: Abort>(rt: &R, alloc: Global, kind: Kind) -> Result<(Board, Seat16, Seat16), AllocError>
     ensures size { IfOk result (λ r. size_of r.0 ≡ 2) }
     ensures owner { IfOk result (λ r. Holds r.0 kind (just 0) r.1) }
-    ensures asking { IfOk result (λ r. MayLook r.0 kind none 0 false r.2) }
+    ensures asking { IfOk result (λ r. MayLook r.0 kind none 0 Came r.2) }
 {
     let (mut board, mut owner, mut asking) = two_seats(rt, alloc, kind)?;
     hold(rt, &mut board, &mut owner, kind, 0, [0, 0]);
@@ -64,13 +65,13 @@ fn stop<R: Wait + Abort>(
     seat: &mut Seat16,
     kind: Kind,
     lock: u8,
-    is_later: bool,
+    arrival: Arrival,
 ) -> u8
-    requires may { (o : List Bool) × MayLook board.now kind o lock is_later seat.old }
+    requires may { (o : List Bool) × MayLook board.now kind o lock arrival seat.old }
     requires lock { lock < size_of board.now }
     ensures { (o : List Bool) → Owns board.now kind o seat.old → Holds board.now kind o seat.new }
 {
-    match visit(rt, seat, board, lock, is_later, true, &[]) {
+    match visit(rt, seat, board, lock, arrival, true, &[]) {
         Look::Interrupted(by) => by,
         Look::Locked(_) | Look::Deadlk(_) | Look::Waits => panic!(rt; "it is called off"),
     }
@@ -102,13 +103,13 @@ fn taken_at_once<R: Wait + Abort>(
 /// The cancel is set while seat 1 waits, and found pending; its next look heeds it.
 fn while_it_waits<R: Wait + Abort>(rt: &R, alloc: Global, kind: Kind) -> Result<(), AllocError> {
     let (mut board, mut owner, mut asking) = asked(rt, alloc, kind)?;
-    wait(rt, &board, &mut asking, kind, 0, false, true);
+    wait(rt, &board, &mut asking, kind, 0, Arrival::Came, true);
     compare(rt, &mut board, [265, 0], 0, [2, 0]);
     call_off(rt, &board, &mut owner, false, &[]);
     compare_cancelled(rt, &mut board, [265, 0], 0, [2, 0], 1);
     call_off(rt, &board, &mut owner, true, &[]);
     compare_cancelled(rt, &mut board, [265, 0], 0, [2, 0], 1);
-    assert_eq!(rt; stop(rt, &board, &mut asking, kind, 0, true), 0);
+    assert_eq!(rt; stop(rt, &board, &mut asking, kind, 0, Arrival::Woken), 0);
     taken_at_once(rt, &mut board, kind, &mut owner, &mut asking);
     Ok(())
 }
@@ -126,7 +127,7 @@ fn before_it_waits<R: Wait + Abort>(rt: &R, alloc: Global, kind: Kind) -> Result
     let (mut board, mut owner, mut asking) = asked(rt, alloc, kind)?;
     call_off(rt, &board, &mut owner, false, &[]);
     compare_cancelled(rt, &mut board, [264, 0], 0, [2, 0], 1);
-    assert_eq!(rt; stop(rt, &board, &mut asking, kind, 0, false), 0);
+    assert_eq!(rt; stop(rt, &board, &mut asking, kind, 0, Arrival::Came), 0);
     taken_at_once(rt, &mut board, kind, &mut owner, &mut asking);
     Ok(())
 }
@@ -139,17 +140,17 @@ fn a_cancel_is_heeded_before_the_seat_waits(rt: HostRuntime) -> Result<(), Fail>
     Ok(())
 }
 
-/// Looks that don't heed the cancel leave it set: the second of them asks for the lock, which is taken back when the seat
-/// leaves.
+/// Looks that don't heed the cancel leave it set: the second of them asks for the lock, which is taken back when the
+/// seat leaves.
 fn after_plain_looks<R: Wait + Abort>(rt: &R, alloc: Global, kind: Kind) -> Result<(), AllocError> {
     let (mut board, mut owner, mut asking) = asked(rt, alloc, kind)?;
     call_off(rt, &board, &mut owner, false, &[]);
     compare_cancelled(rt, &mut board, [264, 0], 0, [2, 0], 1);
-    wait(rt, &board, &mut asking, kind, 0, false, false);
+    wait(rt, &board, &mut asking, kind, 0, Arrival::Came, false);
     compare_cancelled(rt, &mut board, [265, 0], 0, [2, 0], 1);
-    wait(rt, &board, &mut asking, kind, 0, true, false);
+    wait(rt, &board, &mut asking, kind, 0, Arrival::Woken, false);
     compare_cancelled(rt, &mut board, [267, 0], 0, [2, 0], 1);
-    assert_eq!(rt; stop(rt, &board, &mut asking, kind, 0, true), 0);
+    assert_eq!(rt; stop(rt, &board, &mut asking, kind, 0, Arrival::Woken), 0);
     taken_at_once(rt, &mut board, kind, &mut owner, &mut asking);
     Ok(())
 }
@@ -172,11 +173,14 @@ fn called_off_then_dies<R: Wait + Abort>(
     let (mut board, mut older, mut younger) = tied(rt, alloc, kind)?;
     call_off(rt, &board, &mut older, false, &[]);
     compare_cancelled(rt, &mut board, [264, 528], 0, [2, 0], 1);
-    wait(rt, &board, &mut older, kind, 1, false, false);
+    wait(rt, &board, &mut older, kind, 1, Arrival::Came, false);
     compare_cancelled(rt, &mut board, [264, 529], sign, [2, 0], 1);
-    assert_eq!(rt; stop(rt, &board, &mut younger, kind, 0, false), 0);
+    assert_eq!(rt; stop(rt, &board, &mut younger, kind, 0, Arrival::Came), 0);
     compare(rt, &mut board, [264, 529], sign, [2, 0]);
-    assert_eq!(rt; back_off(rt, &board, &mut younger, kind, 0, false), 1);
+    assert_eq!(rt;
+        back_off(rt, &board, &mut younger, kind, 0, Arrival::Came),
+        1
+    );
     untie(rt, &mut board, kind, &mut older, &mut younger, sign);
     Ok(())
 }
@@ -200,11 +204,11 @@ fn a_cancel_wakes_the_waiter(rt: HostRuntime) -> Result<(), Fail> {
     let alloc = rt.alloc();
     let (mut board, mut owner, mut asking) = asked(&rt, alloc, kind)?;
     let (parker, wakers) = bell(alloc)?;
-    wait(&rt, &board, &mut asking, kind, 0, false, true);
+    wait(&rt, &board, &mut asking, kind, 0, Arrival::Came, true);
     call_off(&rt, &board, &mut owner, false, &wakers);
     compare_cancelled(&rt, &mut board, [265, 0], 0, [2, 0], 1);
     parker.park(&rt);
-    assert_eq!(rt; stop(&rt, &board, &mut asking, kind, 0, true), 0);
+    assert_eq!(rt; stop(&rt, &board, &mut asking, kind, 0, Arrival::Woken), 0);
     taken_at_once(&rt, &mut board, kind, &mut owner, &mut asking);
     Ok(())
 }

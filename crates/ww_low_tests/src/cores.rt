@@ -81,8 +81,8 @@ const fn waiter(seat: u8, stamp: u64) -> Entry {
     }
 }
 
-/// What a core shows of the two seats: who owns the locks, whether seat 1 stands in the list of lock 0 and seat 0 in that
-/// of lock 1, and the sign of seat 1.
+/// What a core shows of the two seats: who owns the locks, whether seat 1 stands in the list of lock 0 and seat 0 in
+/// that of lock 1, and the sign of seat 1.
 type Shown = ([Holder; 2], [bool; 2], u64);
 
 const NOBODY: [Holder; 2] = [Holder::Nobody; 2];
@@ -154,8 +154,8 @@ fn step<R: Abort>(rt: &R, core: &mut Core, event: Event, told: Answer, shown: Sh
     assert!(rt; (core.sign_of(0), core.sign_of(1)) == (0, sign));
 }
 
-/// Each event by itself. No ring is there before the last event of `RING`, nor after the first that breaks it. In the last
-/// event of all seat 1, which owns nothing any more, clears its sign, and nothing else changes.
+/// Each event by itself. No ring is there before the last event of `RING`, nor after the first that breaks it. In the
+/// last event of all seat 1, which owns nothing any more, clears its sign, and nothing else changes.
 #[test]
 fn a_ring_closes_and_is_broken_step_by_step(rt: HostRuntime) -> Result<(), Fail> {
     let none = replayed(rt.alloc(), &[]);

@@ -4,6 +4,7 @@
 ghost use Rattle.std.specs.Prelude.{ℕ, ◌≡◌, ◌<◌, Bool, List, false, true, slice_index_or, slice_set, IfOk};
 ghost use Rattle.ww_queue.specs.declared.kind.Kind.{Kind};
 ghost use Rattle.ww_table.specs.Seat.{IsNew, size_of};
+ghost use Rattle.ww_seat.specs.declared.look.Arrival.TheVariants.{Woken};
 ghost use Rattle.ww_low_tests.specs.Looking.{Owns, Holds, MayLook, just, none};
 
 use crate::growths::twice;
@@ -15,7 +16,7 @@ use std::process::Abort;
 use std::sync::Wait;
 use std::test::Fail;
 use ww_queue::Kind;
-use ww_seat::{Look, begin, end, give_waited, try_take, visit};
+use ww_seat::{Arrival, Look, begin, end, give_waited, try_take, visit};
 use ww_table::{Board, Seat16};
 
 /// The words that two locks and two seats use: owners, guards, signs, the stamp word and the front word.
@@ -141,14 +142,14 @@ pub(crate) fn wait<R: Wait + Abort>(
     seat: &mut Seat16,
     kind: Kind,
     lock: u8,
-    is_later: bool,
+    arrival: Arrival,
     heeds: bool,
 )
-    requires may { (o : List Bool) × MayLook board.now kind o lock is_later seat.old }
+    requires may { (o : List Bool) × MayLook board.now kind o lock arrival seat.old }
     requires lock { lock < size_of board.now }
-    ensures { (o : List Bool) → Owns board.now kind o seat.old → MayLook board.now kind o lock true seat.new }
+    ensures { (o : List Bool) → Owns board.now kind o seat.old → MayLook board.now kind o lock Woken seat.new }
 {
-    match visit(rt, seat, board, lock, is_later, heeds, &[]) {
+    match visit(rt, seat, board, lock, arrival, heeds, &[]) {
         Look::Waits => {}
         Look::Locked(_) | Look::Deadlk(_) | Look::Interrupted(_) => panic!(rt; "it has to wait"),
     }
@@ -161,13 +162,13 @@ pub(crate) fn back_off<R: Wait + Abort>(
     seat: &mut Seat16,
     kind: Kind,
     lock: u8,
-    is_later: bool,
+    arrival: Arrival,
 ) -> u64
-    requires may { (o : List Bool) × MayLook board.now kind o lock is_later seat.old }
+    requires may { (o : List Bool) × MayLook board.now kind o lock arrival seat.old }
     requires lock { lock < size_of board.now }
     ensures { (o : List Bool) → Owns board.now kind o seat.old → Holds board.now kind o seat.new }
 {
-    match visit(rt, seat, board, lock, is_later, false, &[]) {
+    match visit(rt, seat, board, lock, arrival, false, &[]) {
         Look::Deadlk(met) => met,
         Look::Locked(_) | Look::Interrupted(_) | Look::Waits => panic!(rt; "it has to die"),
     }
@@ -175,10 +176,10 @@ pub(crate) fn back_off<R: Wait + Abort>(
 
 /// Looks again at a lock, and takes it.
 fn take<R: Wait + Abort>(rt: &R, board: &Board, seat: &mut Seat16, kind: Kind, lock: u8)
-    requires may { (o : List Bool) × MayLook board.now kind o lock true seat.old }
+    requires may { (o : List Bool) × MayLook board.now kind o lock Woken seat.old }
     requires lock { lock < size_of board.now }
 {
-    match visit(rt, seat, board, lock, true, false, &[]) {
+    match visit(rt, seat, board, lock, Arrival::Woken, false, &[]) {
         Look::Locked(_) => {}
         Look::Deadlk(_) | Look::Interrupted(_) | Look::Waits => panic!(rt; "the lock is free"),
     }
@@ -213,7 +214,7 @@ fn hand_back<R: Wait + Abort>(
     sign: u64,
 )
     requires size { size_of board.old ≡ 2 }
-    requires older { MayLook board.old kind (just 0) 1 true older.old }
+    requires older { MayLook board.old kind (just 0) 1 Woken older.old }
     requires younger { Holds board.old kind (just 1) younger.old }
     ensures same { board.new ≡ board.old }
     ensures holds { Holds board.new kind none younger.new }
@@ -235,7 +236,7 @@ pub(crate) fn untie<R: Wait + Abort>(
     sign: u64,
 )
     requires size { size_of board.old ≡ 2 }
-    requires older { MayLook board.old kind (just 0) 1 true older.old }
+    requires older { MayLook board.old kind (just 0) 1 Woken older.old }
     requires younger { Holds board.old kind (just 1) younger.old }
 {
     hand_back(rt, board, kind, older, younger, sign);
@@ -263,9 +264,12 @@ fn older_first<R: Wait + Abort>(
     sign: u64,
 ) -> Result<(), AllocError> {
     let (mut board, mut older, mut younger) = tied(rt, alloc, kind)?;
-    wait(rt, &board, &mut older, kind, 1, false, false);
+    wait(rt, &board, &mut older, kind, 1, Arrival::Came, false);
     compare(rt, &mut board, [264, 529], sign, [2, 0]);
-    assert_eq!(rt; back_off(rt, &board, &mut younger, kind, 0, false), 1);
+    assert_eq!(rt;
+        back_off(rt, &board, &mut younger, kind, 0, Arrival::Came),
+        1
+    );
     untie(rt, &mut board, kind, &mut older, &mut younger, sign);
     Ok(())
 }
@@ -275,11 +279,11 @@ fn older_first<R: Wait + Abort>(
 fn a_ring_is_undone_by_a_sign(rt: HostRuntime) -> Result<(), Fail> {
     let kind = Kind::WoundWait;
     let (mut board, mut older, mut younger) = tied(&rt, rt.alloc(), kind)?;
-    wait(&rt, &board, &mut younger, kind, 0, false, false);
+    wait(&rt, &board, &mut younger, kind, 0, Arrival::Came, false);
     compare(&rt, &mut board, [265, 528], 0, [2, 0]);
-    wait(&rt, &board, &mut older, kind, 1, false, false);
+    wait(&rt, &board, &mut older, kind, 1, Arrival::Came, false);
     compare(&rt, &mut board, [265, 529], 1, [2, 0]);
-    let met = back_off(&rt, &board, &mut younger, kind, 0, true);
+    let met = back_off(&rt, &board, &mut younger, kind, 0, Arrival::Woken);
     assert_eq!(rt; met, 1);
     hand_back(&rt, &mut board, kind, &mut older, &mut younger, 1);
     clear_and_end(&rt, &mut board, &mut younger, kind);
@@ -328,9 +332,9 @@ fn a_lock_is_handed_over(rt: HostRuntime) -> Result<(), Fail> {
     let alloc = rt.alloc();
     let (mut board, mut older, mut younger) = tied(&rt, alloc, kind)?;
     let (parker, wakers) = bell(alloc)?;
-    wait(&rt, &board, &mut younger, kind, 0, false, false);
+    wait(&rt, &board, &mut younger, kind, 0, Arrival::Came, false);
     compare(&rt, &mut board, [265, 528], 0, [2, 0]);
-    wait(&rt, &board, &mut younger, kind, 0, true, false);
+    wait(&rt, &board, &mut younger, kind, 0, Arrival::Woken, false);
     compare(&rt, &mut board, [267, 528], 0, [2, 0]);
     hand_over(&rt, &board, kind, &mut older, &wakers);
     compare(&rt, &mut board, [533, 528], 0, [2, 0]);

@@ -1,9 +1,10 @@
-//! A look that condemns a waiter wakes it: by one thread with the seats of a board. Nothing else wakes that one, so each
-//! of these tests would never end if its look didn't.
+//! A look that condemns a waiter wakes it: by one thread with the seats of a board. Nothing else wakes that one, so
+//! each of these tests would never end if its look didn't.
 
 ghost use Rattle.std.specs.Prelude.{ℕ, ◌≡◌, ◌<◌, Bool, List, false, true, IfOk};
 ghost use Rattle.ww_queue.specs.declared.kind.Kind.TheVariants.{WaitDie};
 ghost use Rattle.ww_table.specs.Seat.{IsNew, size_of};
+ghost use Rattle.ww_seat.specs.declared.look.Arrival.TheVariants.{Came, Woken};
 ghost use Rattle.ww_low_tests.specs.Looking.{Holds, MayLook, just, none};
 
 use crate::growths::twice;
@@ -16,7 +17,7 @@ use std::process::Abort;
 use std::sync::Wait;
 use std::test::Fail;
 use ww_queue::Kind;
-use ww_seat::{Look, try_take, visit};
+use ww_seat::{Arrival, Look, try_take, visit};
 use ww_table::{Board, Seat16};
 
 /// A board of two nodes, with its three seats.
@@ -46,7 +47,7 @@ fn three_seats<R: Abort>(
 fn miss<R: Abort>(rt: &R, board: &Board, seat: &mut Seat16, kind: Kind)
     requires size { size_of board.now ≡ 2 }
     requires holds { Holds board.now kind none seat.old }
-    ensures { MayLook board.now kind none 0 false seat.new }
+    ensures { MayLook board.now kind none 0 Came seat.new }
 {
     if try_take(seat, board, 0).is_some() {
         panic!(rt; "the lock was taken");
@@ -60,8 +61,8 @@ fn asleep<R: Wait + Abort>(
     alloc: Global,
 ) -> Result<(Board, Seat16, Seat16, Seat16), AllocError>
     ensures size { IfOk result (λ r. size_of r.0 ≡ 2) }
-    ensures oldest { IfOk result (λ r. MayLook r.0 WaitDie none 0 false r.1) }
-    ensures sleeper { IfOk result (λ r. MayLook r.0 WaitDie (just 1) 0 true r.2) }
+    ensures oldest { IfOk result (λ r. MayLook r.0 WaitDie none 0 Came r.1) }
+    ensures sleeper { IfOk result (λ r. MayLook r.0 WaitDie (just 1) 0 Woken r.2) }
     ensures owner { IfOk result (λ r. Holds r.0 WaitDie (just 0) r.3) }
 {
     let kind = Kind::WaitDie;
@@ -70,7 +71,7 @@ fn asleep<R: Wait + Abort>(
     hold(rt, &mut board, &mut sleeper, kind, 1, [0, 0]);
     hold(rt, &mut board, &mut owner, kind, 0, [0, 528]);
     miss(rt, &board, &mut oldest, kind);
-    wait(rt, &board, &mut sleeper, kind, 0, false, false);
+    wait(rt, &board, &mut sleeper, kind, 0, Arrival::Came, false);
     compare(rt, &mut board, [793, 528], 0, [3, 0]);
     Ok((board, oldest, sleeper, owner))
 }
@@ -84,10 +85,10 @@ fn look<R: Wait>(
     lock: u8,
     wakers: &[Unparker],
 ) -> Look
-    requires may { (o : List Bool) × MayLook board.now kind o lock false seat.old }
+    requires may { (o : List Bool) × MayLook board.now kind o lock Came seat.old }
     requires lock { lock < size_of board.now }
 {
-    visit(rt, seat, board, lock, false, false, wakers)
+    visit(rt, seat, board, lock, Arrival::Came, false, wakers)
 }
 
 /// The owner waits for another lock, and has to give way to an older context that comes to wait for it.
@@ -97,11 +98,14 @@ fn who_joins_wakes_the_owner(rt: HostRuntime) -> Result<(), Fail> {
     let alloc = rt.alloc();
     let (mut board, mut older, mut younger) = tied(&rt, alloc, kind)?;
     let (parker, wakers) = bell(alloc)?;
-    wait(&rt, &board, &mut younger, kind, 0, false, false);
+    wait(&rt, &board, &mut younger, kind, 0, Arrival::Came, false);
     assert!(rt; matches!(look(&rt, &board, &mut older, kind, 1, &wakers), Look::Waits));
     compare(&rt, &mut board, [265, 529], 1, [2, 0]);
     parker.park(&rt);
-    assert_eq!(rt; back_off(&rt, &board, &mut younger, kind, 0, true), 1);
+    assert_eq!(rt;
+        back_off(&rt, &board, &mut younger, kind, 0, Arrival::Woken),
+        1
+    );
     Ok(())
 }
 
@@ -120,7 +124,10 @@ fn who_joins_wakes_a_waiter(rt: HostRuntime) -> Result<(), Fail> {
     );
     compare(&rt, &mut board, [793, 528], 1, [3, 0]);
     parker.park(&rt);
-    assert_eq!(rt; back_off(&rt, &board, &mut sleeper, kind, 0, true), 1);
+    assert_eq!(rt;
+        back_off(&rt, &board, &mut sleeper, kind, 0, Arrival::Woken),
+        1
+    );
     compare(&rt, &mut board, [793, 528], 0, [3, 0]);
     Ok(())
 }
@@ -142,7 +149,10 @@ fn who_takes_past_the_list_wakes_a_waiter(rt: HostRuntime) -> Result<(), Fail> {
     );
     compare(&rt, &mut board, [265, 528], 1, [3, 0]);
     parker.park(&rt);
-    assert_eq!(rt; back_off(&rt, &board, &mut sleeper, kind, 0, true), 1);
+    assert_eq!(rt;
+        back_off(&rt, &board, &mut sleeper, kind, 0, Arrival::Woken),
+        1
+    );
     compare(&rt, &mut board, [264, 528], 0, [3, 0]);
     Ok(())
 }

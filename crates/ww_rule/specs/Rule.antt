@@ -81,8 +81,8 @@ Balanced cancel counts = (s v : ℕ) →
 abbrev pub no_counts : Counts
 no_counts = record { draws = 0; cancelled = []; heeded = [] }
 
--- The commits so far are a legal history, as many as the front word says. Each seat drew and committed fewer than 2^32
--- times, and the draws make up the stamp word. Nothing is counted of a number that no seat has.
+-- The commits so far are a legal history, as many as the front word says. Each seat drew fewer than 2^52 times and
+-- committed fewer than 2^32 times, and the draws make up the stamp word. Nothing is counted of a number that no seat has.
 pub record Counted (key : Start) (drawn commits : ℕ) (cancel : ℕ → ℕ) (log : List Recorded) (counts : ℕ → Counts) : Type 0 where
   pub legal : IsLegal (first_graph key) log
   pub graph : IsGraph (last_graph (first_graph key) log)

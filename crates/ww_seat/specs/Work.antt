@@ -1,5 +1,5 @@
 -- A seat at work inside the guard of a lock that it wants.
-use Rattle.std.specs.Prelude.{ℕ, suc, ◌≡◌, ◌≢◌, ◌<◌, ◌⊎◌, Bool, true, false, List, Option, Some, None}
+use Rattle.std.specs.Prelude.{ℕ, suc, ◌≡◌, ◌≢◌, ◌<◌, ◌==◌, ◌⊎◌, not, Bool, true, false, List, Option, Some, None}
 use Rattle.std.specs.List.{slice_index_or}
 use Rattle.ww_word.specs.declared.owner.Owner.{Owner}
 use Rattle.ww_word.specs.Owner.{IsValid}
@@ -17,6 +17,8 @@ use Rattle.ww_rule.specs.Guards.{AreSeats}
 use Rattle.ww_seat.specs.Orderly.{IsOrderly}
 use Rattle.ww_seat.specs.Calls.{HoldsAsBefore}
 use Rattle.ww_seat.specs.Looks.{MayWant}
+use Rattle.ww_seat.specs.declared.look.Arrival.{Arrival}
+use Rattle.ww_seat.specs.declared.look.Arrival.TheVariants.{Came, Joined, Woken}
 
 -- ---- what may change on the way
 
@@ -60,6 +62,22 @@ pub record HasCondemnedNone (m m' : Sat) : Type 0 where
   pub condemned : m'.0.part.core.condemned ≡ m.0.part.core.condemned
 
 -- ---- where it stands
+
+-- the seat stands in the wait list
+abbrev pub has_joined : Arrival → Bool
+has_joined Came = false
+has_joined Joined = true
+has_joined Woken = true
+
+-- ... and looks again
+abbrev pub looks_again : Arrival → Bool
+looks_again Came = false
+looks_again Joined = false
+looks_again Woken = true
+
+-- outside the guard: who came just now stands in no list, and who was woken stands in one
+abbrev pub ComesOutside : Arrival → View → Type 0
+ComesOutside a v = (has_joined a ≡ not (v.waits == 0)) × (looks_again a ≡ not (v.waits == 0))
 
 -- in the wait list of the lock as one that holds what it holds, or not there
 abbrev pub IsPlaced : Bool → ℕ → View → Type 0

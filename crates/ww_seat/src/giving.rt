@@ -13,8 +13,8 @@ use std::sync::Wait;
 use ww_queue::Entry;
 use ww_table::{Board, Seat16};
 
-/// Gives a lock back that somebody may wait for. The first waiter is woken, whether the lock was handed to it or is free:
-/// a waiter that parks looks only when it is woken.
+/// Gives a lock back that somebody may wait for. The first waiter is woken, whether the lock was handed to it or is
+/// free: a waiter that parks looks only when it is woken.
 #[cold]
 pub fn give_waited<R: Wait>(rt: &R, seat: &mut Seat16, board: &Board, lock: u8, wakers: &[Unparker])
     requires settled { IsSettledAt board.now seat.old }

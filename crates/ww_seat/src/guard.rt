@@ -1,4 +1,4 @@
-//! Into the guard of a lock. Who is inside it makes a few steps there and waits for nobody, so these spin.
+//! Into the guard of a lock. A seat inside it makes a few steps and never waits there, so others spin to get in.
 ghost use Rattle.std.specs.Prelude.{◌≡◌, ◌<◌, ◌==◌, [], not, true};
 ghost use Rattle.ww_view.specs.View.{owns};
 ghost use Rattle.ww_table.specs.Seat.{IsSeatOf, size_of, view_of};

@@ -14,8 +14,9 @@ use crossbeam_utils::sync::Unparker;
 use ww_table::{Board, Seat16};
 use ww_word::Owner;
 
-/// Sets the cancel of a seat and wakes it, so that it looks; false where one is pending, which stays. Whoever parks looks
-/// at its cancel first: what is set before that look is heeded by it, and what is set after it wakes the seat.
+/// Sets the cancel of a seat and wakes it, so that it looks; false if one is pending already, which stays. A waiter
+/// reads its cancel before it parks: one that is set earlier is heeded in that look, and one that is set later wakes
+/// the seat.
 pub fn cancel(seat: &mut Seat16, board: &Board, victim: u8, wakers: &[Unparker]) -> bool
     requires settled { IsSettledAt board.now seat.old }
     requires victim { victim < 16 }
@@ -31,8 +32,9 @@ pub fn cancel(seat: &mut Seat16, board: &Board, victim: u8, wakers: &[Unparker])
     true
 }
 
-/// Leaves the wait list and the guard where a cancel of the seat is pending and is to be heeded, and tells whose it was.
-/// While the seat stands in the list inside the guard nobody else writes the owner word, so it is still the one seen.
+/// Leaves the wait list and the guard where a cancel of the seat is pending and is to be heeded, and tells whose it
+/// was. While the seat stands in the list inside the guard nobody else writes the owner word, so it is still the one
+/// seen.
 pub(crate) fn stop_if_cancelled(
     seat: &mut Seat16,
     board: &Board,

@@ -23,7 +23,7 @@ pub use context::{begin, end};
 pub use fast::try_take;
 pub use giving::give_waited;
 pub use interrupting::cancel;
-pub use look::{Look, look_once};
+pub use look::{Arrival, Look, look_once};
 pub use patience::{Patience, Waited};
 pub use turns::{cancel_once, enter_owned, enter_wanted, give_at_once, give_on};
 pub use waiting::{Stop, visit, wait_for};

@@ -3,7 +3,7 @@ ghost use Rattle.std.specs.Prelude.{ℕ, ◌≡◌, ◌≢◌, ◌<◌, ◌+◌,
 ghost use Rattle.ww_table.specs.Seat.{IsSeatOf, size_of, view_of};
 ghost use Rattle.ww_seat.specs.Orderly.{IsOrderly};
 ghost use Rattle.ww_seat.specs.Looks.{IsLook, MayLookSo};
-ghost use Rattle.ww_seat.specs.Work.{AreWoken, KeepsMarks, IsWorking, IsAtWork};
+ghost use Rattle.ww_seat.specs.Work.{AreWoken, KeepsMarks, has_joined, looks_again, IsWorking, IsAtWork};
 
 use crate::interrupting::stop_if_cancelled;
 use crate::standing::{stand, stay_or_back_off};
@@ -13,6 +13,51 @@ use std::sync::Wait;
 use ww_plain::Node;
 use ww_table::{Board, Seat16};
 use ww_word::Owner;
+
+/// How a seat came to look at a lock.
+#[derive(Clone, Copy, Debug, PartialEq, Eq)]
+pub enum Arrival {
+    /// It came just now, and stands in no wait list.
+    Came,
+    /// It came just now, and has joined the wait list since.
+    Joined,
+    /// It was woken, and has been in the wait list since an earlier look.
+    Woken,
+}
+
+impl Arrival {
+    ghost use Rattle.std.specs.Prelude.{◌≡◌, true};
+    ghost use Rattle.ww_seat.specs.Work.{has_joined, looks_again};
+
+    pub(crate) fn has_joined(self) -> bool
+        ensures { result ≡ has_joined self }
+    {
+        match self {
+            Arrival::Came => false,
+            Arrival::Joined | Arrival::Woken => true,
+        }
+    }
+
+    pub(crate) fn looks_again(self) -> bool
+        ensures { result ≡ looks_again self }
+    {
+        match self {
+            Arrival::Came | Arrival::Joined => false,
+            Arrival::Woken => true,
+        }
+    }
+
+    /// The same, once the seat stands in the wait list.
+    fn joining(self) -> Arrival
+        ensures joined { has_joined result ≡ true }
+        ensures again { looks_again result ≡ looks_again self }
+    {
+        match self {
+            Arrival::Came | Arrival::Joined => Arrival::Joined,
+            Arrival::Woken => Arrival::Woken,
+        }
+    }
+}
 
 /// What one look came to.
 #[derive(Clone, Copy)]
@@ -38,29 +83,29 @@ fn is_ours(seat: &Seat16, seen: Owner) -> bool
     }
 }
 
-/// One attempt at a look; `None` if a compare-exchange found another word than was seen. The own cancel is looked at,
-/// where it is to be heeded, as soon as the seat stands in the wait list: so it asks for nothing and condemns nobody in
-/// vain.
+/// One attempt at a look; `None` if a compare-exchange found another word than was seen. If the call heeds its cancel,
+/// that is checked as soon as the seat is in the wait list: so the seat asks for nothing and condemns nobody for a wait
+/// that ends at once.
 pub fn look_once(
     seat: &mut Seat16,
     board: &Board,
     lock: u8,
-    is_later: bool,
+    arrival: &mut Arrival,
     heeds: bool,
-    stands: &mut bool,
     wake: &mut Wake,
 ) -> Option<Look>
     requires seat { IsSeatOf board.now seat.old }
     requires lock { lock < size_of board.now }
     requires orderly { IsOrderly (size_of board.now) seat.old.seat.me }
-    requires work { IsWorking lock stands.old is_later (view_of seat.old) }
+    requires work { IsWorking lock (has_joined arrival.old) (looks_again arrival.old) (view_of seat.old) }
     requires woken { AreWoken (view_of seat.old) wake.old.seats }
     ensures seat { IsSeatOf board.now seat.new }
     ensures records { seat.new.records ≡ seat.old.records }
     ensures look { IfSome result (λ look. IsLook (size_of board.now) lock seat.old.seat.me look seat.new.seat.me) }
     ensures heeds { IfSome result (MayLookSo heeds) }
     ensures tries { IfSome result (λ _. (view_of seat.new).tries ≡ (view_of seat.old).tries) }
-    ensures lost { IfNone result (IsAtWork (size_of board.now) lock seat.old.seat.me stands.new is_later seat.new.seat.me) }
+    ensures lost { IfNone result (IsAtWork (size_of board.now) lock seat.old.seat.me (has_joined arrival.new) (looks_again arrival.new) seat.new.seat.me) }
+    ensures again { looks_again arrival.new ≡ looks_again arrival.old }
     ensures attempted { (view_of seat.new).attempts ≡ (view_of seat.old).attempts + 1 }
     ensures woken { AreWoken (view_of seat.new) wake.new.seats }
     ensures kept { KeepsMarks wake.old.seats wake.new.seats }
@@ -72,12 +117,12 @@ pub fn look_once(
             None => None,
         };
     }
-    let word = stand(seat, board, lock, seen, *stands)?;
-    *stands = true;
+    let word = stand(seat, board, lock, seen, *arrival)?;
+    *arrival = arrival.joining();
     if let Some(by) = stop_if_cancelled(seat, board, lock, word, heeds) {
         return Some(Look::Interrupted(by));
     }
-    stay_or_back_off(seat, board, lock, word, is_later, wake)
+    stay_or_back_off(seat, board, lock, word, *arrival, wake)
 }
 
 /// One look at a lock whose guard the seat has just entered, until it is outside again. A compare-exchange that finds
@@ -87,14 +132,14 @@ pub(crate) fn look_at<R: Wait>(
     seat: &mut Seat16,
     board: &Board,
     lock: u8,
-    is_later: bool,
+    arrival: Arrival,
     heeds: bool,
     wake: &mut Wake,
 ) -> Look
     requires seat { IsSeatOf board.now seat.old }
     requires lock { lock < size_of board.now }
     requires orderly { IsOrderly (size_of board.now) seat.old.seat.me }
-    requires work { IsWorking lock is_later is_later (view_of seat.old) }
+    requires work { IsWorking lock (has_joined arrival) (looks_again arrival) (view_of seat.old) }
     requires woken { AreWoken (view_of seat.old) wake.old.seats }
     ensures seat { IsSeatOf board.now seat.new }
     ensures records { seat.new.records ≡ seat.old.records }
@@ -103,9 +148,9 @@ pub(crate) fn look_at<R: Wait>(
     ensures tries { (view_of seat.new).tries ≡ (view_of seat.old).tries }
     ensures woken { AreWoken (view_of seat.new) wake.new.seats }
 {
-    let mut stands = is_later;
+    let mut arrival = arrival;
     for _ in rt.forever() {
-        match look_once(seat, board, lock, is_later, heeds, &mut stands, wake) {
+        match look_once(seat, board, lock, &mut arrival, heeds, wake) {
             Some(look) => return look,
             None => {}
         }

@@ -7,10 +7,10 @@ use std::sync::Wait;
 /// The fewest pauses between two glances.
 const FEWEST: u32 = 8;
 
-/// How often their number is doubled at most, for a pass that keeps losing its first tries.
+/// At most so many doublings of that, for a pass that keeps losing its first tries.
 const MOST_LOSSES: u32 = 10;
 
-/// For so many first tries that win, one that was lost is forgotten.
+/// After so many first tries that won, one that was lost is forgotten.
 const CALM: u32 = 128;
 
 /// How many rounds a waiter gives the owner before it sleeps.
@@ -29,8 +29,8 @@ pub struct Waited {
     pub back_offs: u64,
 }
 
-/// What a pass waits with: the parker that it sleeps on, and what it remembers of its first tries, by which it stays away
-/// from a lock that it has just lost. No contract speaks of it.
+/// What a pass waits with: the parker that it sleeps on, and what it remembers of its first tries, by which it stays
+/// away from a lock that it has just lost. No contract speaks of it.
 #[derive(Drop)]
 pub struct Patience {
     /// Only the pass's own thread parks on it.

@@ -12,8 +12,8 @@ use ww_queue::Kind;
 use ww_table::{Board, Seat16};
 use ww_word::Owner;
 
-/// Sets all signs that the seat owes by the word it saw. Those that this call condemned have to be woken; whoever set
-/// the others wakes them.
+/// Sets all signs that the seat owes by the word it saw. The seats that this call condemned have to be woken by it; a
+/// seat that was signed before is woken by whoever signed it.
 pub(crate) fn sign_all(seat: &mut Seat16, board: &Board, lock: u8, seen: Owner, wake: &mut Wake)
     requires seat { IsSeatOf board.now seat.old }
     requires lock { lock < size_of board.now }

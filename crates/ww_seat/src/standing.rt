@@ -6,10 +6,10 @@ ghost use Rattle.ww_table.specs.Seat.{IsSeatOf, size_of, view_of};
 ghost use Rattle.ww_seat.specs.declared.look.Look.TheVariants.{Deadlk};
 ghost use Rattle.ww_seat.specs.Orderly.{IsOrderly};
 ghost use Rattle.ww_seat.specs.Looks.{IsLook, MayLookSo};
-ghost use Rattle.ww_seat.specs.Work.{AreWoken, KeepsMarks, HasCondemnedNone, IsTouched, IsWorking, IsAtWork, SeesOther, HasStood, HasAsked};
+ghost use Rattle.ww_seat.specs.Work.{AreWoken, KeepsMarks, HasCondemnedNone, IsTouched, has_joined, looks_again, IsWorking, IsAtWork, SeesOther, HasStood, HasAsked};
 
 use crate::leaving::leave;
-use crate::look::Look;
+use crate::look::{Arrival, Look};
 use crate::signs::{death, sign_all};
 use crate::wake::Wake;
 use ww_table::{Board, Seat16};
@@ -22,20 +22,20 @@ pub(crate) fn stand(
     board: &Board,
     lock: u8,
     seen: Owner,
-    stands: bool,
+    arrival: Arrival,
 ) -> Option<Owner>
     requires seat { IsSeatOf board.now seat.old }
     requires lock { lock < size_of board.now }
     requires orderly { IsOrderly (size_of board.now) seat.old.seat.me }
-    requires work { (l : Bool) × IsWorking lock stands l (view_of seat.old) }
+    requires work { (l : Bool) × IsWorking lock (has_joined arrival) l (view_of seat.old) }
     requires seen { SeesOther seen (view_of seat.old) }
     ensures seat { IsSeatOf board.now seat.new }
     ensures records { seat.new.records ≡ seat.old.records }
-    ensures stands { IfSome result (λ word. HasStood (size_of board.now) lock stands seen seat.old.seat.me word seat.new.seat.me) }
+    ensures stands { IfSome result (λ word. HasStood (size_of board.now) lock (has_joined arrival) seen seat.old.seat.me word seat.new.seat.me) }
     ensures lost { IfNone result (IsTouched (size_of board.now) seat.old.seat.me seat.new.seat.me) }
     ensures condemned { HasCondemnedNone seat.old.seat.me seat.new.seat.me }
 {
-    if stands {
+    if arrival.has_joined() {
         return Some(seen);
     }
     if !seat.join(board, lock, seen) {
@@ -51,20 +51,20 @@ fn ask_if_first(
     board: &Board,
     lock: u8,
     seen: Owner,
-    is_later: bool,
+    arrival: Arrival,
 ) -> Option<Owner>
     requires seat { IsSeatOf board.now seat.old }
     requires lock { lock < size_of board.now }
     requires orderly { IsOrderly (size_of board.now) seat.old.seat.me }
-    requires work { IsWorking lock true is_later (view_of seat.old) }
+    requires work { IsWorking lock true (looks_again arrival) (view_of seat.old) }
     requires seen { SeesOther seen (view_of seat.old) }
-    requires flags { is_later ≡ true → seen.flags ≢ 0 }
+    requires flags { looks_again arrival ≡ true → seen.flags ≢ 0 }
     ensures seat { IsSeatOf board.now seat.new }
     ensures records { seat.new.records ≡ seat.old.records }
     ensures touched { IsTouched (size_of board.now) seat.old.seat.me seat.new.seat.me }
-    ensures asked { IfSome result (λ word. HasAsked word is_later (view_of seat.new)) }
+    ensures asked { IfSome result (λ word. HasAsked word (looks_again arrival) (view_of seat.new)) }
 {
-    if !is_later {
+    if !arrival.looks_again() {
         return Some(seen);
     }
     if seen.flags != WAITERS {
@@ -105,34 +105,34 @@ fn back_off(seat: &mut Seat16, board: &Board, lock: u8, seen: Owner) -> bool
     true
 }
 
-/// What comes of a seat that stands in the wait list: it asks for the lock, where it looks again, condemns whom it has
-/// to, and then stays or backs off. Nothing where the owner word is another than the one seen.
+/// The rest of a look of a seat in the wait list: it asks for the lock if it looks again, signs the seats to which it
+/// owes signs, and then stays or backs off. `None` if the owner word is no longer the one seen.
 pub(crate) fn stay_or_back_off(
     seat: &mut Seat16,
     board: &Board,
     lock: u8,
     seen: Owner,
-    is_later: bool,
+    arrival: Arrival,
     wake: &mut Wake,
 ) -> Option<Look>
     requires seat { IsSeatOf board.now seat.old }
     requires lock { lock < size_of board.now }
     requires orderly { IsOrderly (size_of board.now) seat.old.seat.me }
-    requires work { IsWorking lock true is_later (view_of seat.old) }
+    requires work { IsWorking lock true (looks_again arrival) (view_of seat.old) }
     requires seen { SeesOther seen (view_of seat.old) }
-    requires flags { is_later ≡ true → seen.flags ≢ 0 }
+    requires flags { looks_again arrival ≡ true → seen.flags ≢ 0 }
     requires woken { AreWoken (view_of seat.old) wake.old.seats }
     ensures seat { IsSeatOf board.now seat.new }
     ensures records { seat.new.records ≡ seat.old.records }
     ensures look { IfSome result (λ look. IsLook (size_of board.now) lock seat.old.seat.me look seat.new.seat.me) }
     ensures heeds { IfSome result (MayLookSo false) }
     ensures tries { IfSome result (λ _. (view_of seat.new).tries ≡ (view_of seat.old).tries) }
-    ensures lost { IfNone result (IsAtWork (size_of board.now) lock seat.old.seat.me true is_later seat.new.seat.me) }
+    ensures lost { IfNone result (IsAtWork (size_of board.now) lock seat.old.seat.me true (looks_again arrival) seat.new.seat.me) }
     ensures attempts { (view_of seat.new).attempts ≡ (view_of seat.old).attempts }
     ensures woken { AreWoken (view_of seat.new) wake.new.seats }
     ensures kept { KeepsMarks wake.old.seats wake.new.seats }
 {
-    let word = ask_if_first(seat, board, lock, seen, is_later)?;
+    let word = ask_if_first(seat, board, lock, seen, arrival)?;
     sign_all(seat, board, lock, word, wake);
     match death(seat, board, lock, word) {
         None => {

@@ -16,18 +16,18 @@ const GLANCES_HOLDING: u32 = 8;
 
 const MOST_PAUSES_HOLDING: u32 = 8;
 
-/// The same of a seat that holds nothing, where the owner is done in a moment.
+/// The same for a seat that holds nothing, if the owner is quick.
 const GLANCES: u32 = 2;
 
-const MOST_PAUSES: u32 = 8192;
+const MOST_PAUSES: u32 = 6144;
 
-/// And where the owner works longer.
+/// The same if the owner works for longer.
 const GLANCES_LONGER: u32 = 8;
 
-const MOST_PAUSES_LONGER: u32 = 512;
+const MOST_PAUSES_LONGER: u32 = 1024;
 
-/// Whoever owns a lock for so many pauses has work of some length to do.
-const MOMENT: u32 = 32;
+/// A context that still owns the lock after so many pauses works for longer.
+const MOMENT: u32 = 128;
 
 /// After so many pauses another thread may have the processor.
 const BREATH: u32 = 64;
@@ -62,7 +62,7 @@ fn watch(seat: &mut Seat16, board: &Board, lock: u8, glances: u32, first: u32, m
     ensures glanced { HasGlanced seat.old.seat.me seat.new.seat.me }
     ensures records { seat.new.records ≡ seat.old.records }
 {
-    let mut pauses = first;
+    let mut pauses = most.min(first);
     for _ in 0..glances {
         rest_for(pauses);
         if seat.glance(board, lock).seat.is_none() {

@@ -5,9 +5,10 @@ ghost use Rattle.ww_table.specs.Seat.{IsSeatOf, size_of, view_of};
 ghost use Rattle.ww_seat.specs.Orderly.{IsSettledAt};
 ghost use Rattle.ww_seat.specs.Calls.{HasTaken, IsTurnedAway, MayStop};
 ghost use Rattle.ww_seat.specs.Looks.{IsOutside, IsLook, MayLookSo};
+ghost use Rattle.ww_seat.specs.Work.{ComesOutside};
 
 use crate::guard::spin_into_wanted;
-use crate::look::{Look, look_at};
+use crate::look::{Arrival, Look, look_at};
 use crate::patience::Patience;
 use crate::staying_away::stay_away;
 use crate::wake::Wake;
@@ -25,9 +26,9 @@ pub enum Stop {
     Interrupted(u8),
 }
 
-/// Takes a lock that the seat has just tried in vain (`try_take`), and gives its node, or tells why it came without: the
-/// older stamp that was met, or, if the call heeds its cancel, who called the wait off. It stays away for a while, and
-/// then looks, and parks, until a look ends its waiting.
+/// Waits for a lock after `try_take` has failed, and gives its node; or else the older stamp that was met, or, if the
+/// call heeds its cancel, the seat that called the wait off. It stays away for a while, and then looks and parks until
+/// a look ends the wait.
 #[cold]
 pub fn wait_for<R: Wait>(
     rt: &R,
@@ -77,10 +78,10 @@ fn wait<R: Wait>(
     ensures tries { (view_of seat.new).tries ≡ (view_of seat.old).tries }
     ensures records { seat.new.records ≡ seat.old.records }
 {
-    let mut is_later = false;
+    let mut arrival = Arrival::Came;
     for _ in rt.forever() {
         patience.look();
-        match visit(rt, seat, board, lock, is_later, heeds, wakers) {
+        match visit(rt, seat, board, lock, arrival, heeds, wakers) {
             Look::Locked(node) => return Ok(node),
             Look::Deadlk(met) => {
                 patience.back_off();
@@ -89,7 +90,7 @@ fn wait<R: Wait>(
             Look::Interrupted(by) => return Err(Stop::Interrupted(by)),
             Look::Waits => {
                 patience.sleep(rt);
-                is_later = true;
+                arrival = Arrival::Woken;
             }
         }
     }
@@ -102,14 +103,14 @@ pub fn visit<R: Wait>(
     seat: &mut Seat16,
     board: &Board,
     lock: u8,
-    is_later: bool,
+    arrival: Arrival,
     heeds: bool,
     wakers: &[Unparker],
 ) -> Look
     requires seat { IsSeatOf board.now seat.old }
     requires lock { lock < size_of board.now }
     requires outside { IsOutside (size_of board.now) lock seat.old.seat.me }
-    requires later { is_later ≡ not ((view_of seat.old).waits == 0) }
+    requires arrival { ComesOutside arrival (view_of seat.old) }
     ensures seat { IsSeatOf board.now seat.new }
     ensures look { IsLook (size_of board.now) lock seat.old.seat.me result seat.new.seat.me }
     ensures heeds { MayLookSo heeds result }
@@ -118,7 +119,7 @@ pub fn visit<R: Wait>(
 {
     spin_into_wanted(rt, seat, board, lock);
     let mut wake = Wake::new();
-    let look = look_at(rt, seat, board, lock, is_later, heeds, &mut wake);
+    let look = look_at(rt, seat, board, lock, arrival, heeds, &mut wake);
     wake.deliver(wakers);
     look
 }

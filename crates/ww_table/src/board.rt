@@ -28,9 +28,9 @@ impl Board {
         self.size
     }
 
-    /// Reads one word, for whoever has the board for itself, as tests do: a seat at work shares it, and reads by its steps
-    /// alone. No clause says what the word has. The words are numbered: owner words from 0, guards from 64, signs from
-    /// 128, the stamp word 144, the front word 145, cancels from 146.
+    /// Reads one word, for whoever has the board for itself, as tests do: a seat at work shares it, and reads by its
+    /// steps alone. No clause says what the word has. The words are numbered: owner words from 0, guards from 64, signs
+    /// from 128, the stamp word 144, the front word 145, cancels from 146.
     pub fn peek(&mut self, word: u8) -> u64
         requires { word < 162 }
         ensures same { self.new ≡ self.old }

@@ -27,8 +27,9 @@ impl Seat16 {
         shared.compare_exchange::<SetCancel>(&mut self.seat, cancel_word(victim), 0, own) == 0
     }
 
-    /// Takes the own cancel, as a waiter inside the guard whose lock another has: the seat that set it plus 1, or 0
-    /// where none is pending. Whoever found one gets out of that guard by `leave` alone.
+    /// Takes the own cancel, which only a waiter inside the guard may do, while another seat has the lock. It gives the
+    /// number of the seat that set it plus 1, or 0 if none is pending. A seat that found one can get out of the guard
+    /// only by `leave`.
     pub fn heed(&mut self, board: &Board, lock: u8) -> u64
         requires seat { IsSeatOf board.now self.old }
         requires may { MayHeed (view_of self.old) lock }

@@ -28,8 +28,8 @@ use ww_rule::lists::{join_list, leave_list};
 use ww_rule::plays_inside::{Ask, Die, Give, Join, Leave, Take};
 use ww_word::{HANDOFF, Owner, WAITERS, pack};
 
-/// The steps on an owner word inside its guard. Each is made if the word is still the one expected. It is, where that is
-/// the word that the seat saw last and somebody waits (`sure`): nobody else writes it then.
+/// The steps on an owner word inside its guard. Each succeeds if the word is still the one expected. It is if the seat
+/// saw that word last and somebody waits (`sure`), since nobody else writes it then.
 impl Seat16 {
     /// Stands in the wait list of the lock, if its owner word is still the one seen.
     pub fn join(&mut self, board: &Board, lock: u8, seen: Owner) -> bool

@@ -19,8 +19,8 @@ pub(crate) enum Trip {
     Interrupted(Acquiring, u8),
 }
 
-/// Locks the entries in the order of the list. The node that was kept from a slow lock is skipped once. An `Err` has the
-/// position of the entry at which the context was told EDEADLK.
+/// Locks the entries in the order of the list. The node that was kept from a slow lock is skipped once. An `Err` has
+/// the position of the entry at which the context was told EDEADLK.
 pub(crate) fn lock_entries<R: Wait>(
     world: &World,
     acquiring: Acquiring,

@@ -13,8 +13,8 @@ use crate::trip::Trip;
 use std::sync::Wait;
 use ww_lock::{Acquiring, Backoff, Contended, Done, Pass, World};
 
-/// Runs a body until it is told no EDEADLK. Each turn hands something on to the next one. The waits of the back-offs may
-/// be called off where the loop heeds cancels; then it tells by whom.
+/// Runs a body until it ends without EDEADLK. Each turn hands a value on to the next one. If the loop heeds cancels,
+/// the wait of a back-off may be called off, and the result says by whom.
 #[inline(always)]
 pub(crate) fn run_turns<R: Wait, S: Drop, T, F: Fn(Acquiring, S) -> Result<T, (Backoff, S)>>(
     rt: &R,
@@ -42,8 +42,8 @@ pub(crate) fn run_turns<R: Wait, S: Drop, T, F: Fn(Acquiring, S) -> Result<T, (B
     unreachable!()
 }
 
-/// Begins a context, and takes what a way is to take, in as many turns as that needs. It has all of it then, or everything
-/// is given back.
+/// Begins a context, and takes what a way is to take, in as many turns as that needs. It has all of it then, or
+/// everything is given back.
 #[inline(always)]
 pub(crate) fn take_turns<R: Wait, S: Drop, F: Fn(Acquiring, S) -> Result<Trip, (Backoff, S)>>(
     world: &World,

@@ -7,9 +7,9 @@ use crate::turns::run_turns;
 use std::sync::Wait;
 use ww_lock::{Acquiring, Backoff, Halt, Pass, World};
 
-/// Runs a body that takes locks until it is told no EDEADLK. After EDEADLK all locks are given back and the contended one
-/// is taken, and the body runs again: it finds that lock held, and is to take the others again. A body that takes a lock
-/// that is held already goes on by `going_on`.
+/// Runs a body that takes locks until it is told no EDEADLK. After EDEADLK all locks are given back and the contended
+/// one is taken, and the body runs again: it finds that lock held, and is to take the others again. A body that takes a
+/// lock that is held already goes on by `going_on`.
 pub fn lock_until<R: Wait, F: Fn(Acquiring) -> Result<Acquiring, Backoff>>(
     rt: &R,
     world: &World,

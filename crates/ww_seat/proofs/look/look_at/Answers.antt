@@ -1,13 +1,21 @@
-use Rattle.std.proofs.Common.{refl, ◌∙◌}
+use Rattle.std.proofs.Common.{Bool, refl, sym, subst, ◌∙◌}
+use Rattle.ww_table.specs.Seat.{size_of}
+use Rattle.ww_seat.specs.Work.{has_joined, looks_again, IsAtWork}
 use Rattle.ww_seat.proofs.Holds.{look_then}
 use Rattle.ww_seat.proofs.Working.{work_same, work_then}
 use Rattle.ww_seat.proofs.look.look_at.Goals as goal
 
 pub loop-init : goal.loop-init
-loop-init g c = (c.requires.seat, work_same _ c.args.lock c.args.is_later c.args.is_later c.args.seat.now.seat.me c.requires.orderly c.requires.work, refl, c.requires.woken)
+loop-init g c = (c.requires.seat, work_same _ c.args.lock (has_joined c.args.arrival) (looks_again c.args.arrival) c.args.seat.now.seat.me c.requires.orderly c.requires.work, refl, c.requires.woken)
 
 pub loop-preserved : goal.loop-preserved
-loop-preserved g c = (c.look_once.ensures.seat, work_then _ c.args.lock c.args.seat.now.seat.me c.loop.stands c.look_once.new.stands c.args.is_later c.loop.seat.seat.me c.look_once.new.seat.seat.me c.loop.invariant.1 c.in-None-look_once.ensures.lost, c.look_once.ensures.records ∙ c.loop.invariant.2, c.look_once.ensures.woken)
+loop-preserved g c = (
+  c.look_once.ensures.seat,
+  work_then _ c.args.lock c.args.seat.now.seat.me (has_joined c.loop.arrival) (has_joined c.look_once.new.arrival) (looks_again c.look_once.new.arrival) c.loop.seat.seat.me c.look_once.new.seat.seat.me
+      (subst (λ (b : Bool). IsAtWork (size_of c.args.board.now) c.args.lock c.args.seat.now.seat.me (has_joined c.loop.arrival) b c.loop.seat.seat.me) (sym c.look_once.ensures.again) c.loop.invariant.1) c.in-None-look_once.ensures.lost,
+  c.look_once.ensures.records ∙ c.loop.invariant.2,
+  c.look_once.ensures.woken,
+)
 
 pub returns-in-Some-look_once-clause-look : goal.returns-in-Some-look_once-clause-look
 returns-in-Some-look_once-clause-look g c = look_then _ c.args.lock c.args.seat.now.seat.me c.loop.seat.seat.me c.look_once.new.seat.seat.me c.in-Some-look_once.look c.loop.invariant.1.holds c.in-Some-look_once.ensures.look

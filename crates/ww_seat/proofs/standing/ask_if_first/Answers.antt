@@ -1,11 +1,12 @@
 use Rattle.std.proofs.Common.{sym, ◌∙◌}
+use Rattle.ww_seat.specs.Work.{looks_again}
 use Rattle.ww_seat.proofs.Working.{touched_same, touched_read, touched_lost, touched_then}
 use Rattle.ww_seat.proofs.Took.{read_who}
 use Rattle.ww_seat.proofs.Stood.{later_work, nothing_by_other, sees_read, may_ask, has_asked, touched_asking}
 use Rattle.ww_seat.proofs.standing.ask_if_first.Goals as goal
 
-pub returns-then-not-is_later-clause-touched : goal.returns-then-not-is_later-clause-touched
-returns-then-not-is_later-clause-touched c = touched_same _ c.args.seat.now.seat.me c.requires.orderly
+pub returns-then-not-looks_again-clause-touched : goal.returns-then-not-looks_again-clause-touched
+returns-then-not-looks_again-clause-touched c = touched_same _ c.args.seat.now.seat.me c.requires.orderly
 
 pub returns-then-seen-ne-WAITERS-clause-touched : goal.returns-then-seen-ne-WAITERS-clause-touched
 returns-then-seen-ne-WAITERS-clause-touched c = touched_same _ c.args.seat.now.seat.me c.requires.orderly
@@ -24,7 +25,7 @@ returns-then-first-who-clause-asked c = let m = c.args.seat.now.seat.me in recor
 
 pub ask-requires-clause-may : goal.ask-requires-clause-may
 ask-requires-clause-may c = let m = c.args.seat.now.seat.me in
-    may_ask c.args.lock m c.first.new.self.seat.me c.args.seen c.in_ok-first.first _ (later_work c.args.lock c.args.is_later m.0.part.core c.if-not-is_later.false c.requires.work) c.requires.seen c.first.ensures.read (sym c.first.ensures.first ∙ c.in_ok-first.was)
+    may_ask c.args.lock m c.first.new.self.seat.me c.args.seen c.in_ok-first.first _ (later_work c.args.lock (looks_again c.args.arrival) m.0.part.core (sym c.looks_again.ensures ∙ c.if-not-looks_again.false) c.requires.work) c.requires.seen c.first.ensures.read (sym c.first.ensures.first ∙ c.in_ok-first.was)
     (sym (read_who c.args.lock m c.first.new.self.seat.me _ c.first.ensures.read c.first.ensures.seat.who)) (c.if-first-who.false ∙ c.who.ensures) c.if-seen-ne-WAITERS.false
 
 pub returns-then-not-ask-clause-touched : goal.returns-then-not-ask-clause-touched
@@ -36,4 +37,4 @@ returns-clause-touched c = let m = c.args.seat.now.seat.me in let m1 = c.first.n
     let t = touched_read _ c.args.lock m m1 c.requires.orderly c.first.ensures.read in touched_then _ m m1 c.ask.new.self.seat.me t (touched_asking _ m1 c.ask.new.self.seat.me c.args.seen t.orderly (c.ask.ensures.asked c.if-not-ask.false))
 
 pub returns-clause-asked : goal.returns-clause-asked
-returns-clause-asked c = has_asked c.args.lock c.args.seat.now.seat.me c.first.new.self.seat.me c.ask.new.self.seat.me c.args.seen c.args.is_later c.requires.seen c.first.ensures.read (c.ask.ensures.asked c.if-not-ask.false)
+returns-clause-asked c = has_asked c.args.lock c.args.seat.now.seat.me c.first.new.self.seat.me c.ask.new.self.seat.me c.args.seen (looks_again c.args.arrival) c.requires.seen c.first.ensures.read (c.ask.ensures.asked c.if-not-ask.false)

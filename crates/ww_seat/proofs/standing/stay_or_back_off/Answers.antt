@@ -3,7 +3,7 @@ use Rattle.ww_rule.specs.declared.cells.Sight.{Sight}
 use Rattle.ww_rule.specs.Rule.{first_graph}
 use Rattle.ww_rule.specs.Steps.{knowing}
 use Rattle.ww_rule.specs.Guards.{exiting}
-use Rattle.ww_seat.specs.Work.{told}
+use Rattle.ww_seat.specs.Work.{looks_again, told}
 use Rattle.ww_seat.specs.declared.look.Look.TheVariants.{Deadlk, Waits}
 use Rattle.ww_seat.proofs.Holds.{look_then}
 use Rattle.ww_seat.proofs.Working.{none_condemned, woken_still, woken_touched, work_same, work_touched, work_told, work_noted}
@@ -12,41 +12,41 @@ use Rattle.ww_seat.proofs.Stood.{stays_goes, stays_outside}
 use Rattle.ww_seat.proofs.standing.stay_or_back_off.Goals as goal
 
 pub returns-in_err-word-clause-lost : goal.returns-in_err-word-clause-lost
-returns-in_err-word-clause-lost c = let size = length (first_graph c.args.board.now.table.shared.key) in let n = c.args.lock in let later = c.args.is_later in let m = c.args.seat.now.seat.me in
+returns-in_err-word-clause-lost c = let size = length (first_graph c.args.board.now.table.shared.key) in let n = c.args.lock in let later = looks_again c.args.arrival in let m = c.args.seat.now.seat.me in
     if_none c.from_residual.result _ (λ _. work_touched size n m true later m c.ask_if_first.new.seat.seat.me (work_same size n true later m c.requires.orderly c.requires.work) c.ask_if_first.ensures.touched)
 
 pub death-requires-clause-work : goal.death-requires-clause-work
-death-requires-clause-work c = let size = length (first_graph c.args.board.now.table.shared.key) in let n = c.args.lock in let later = c.args.is_later in let m = c.args.seat.now.seat.me in let m1 = c.ask_if_first.new.seat.seat.me in let m2 = c.sign_all.new.seat.seat.me in
+death-requires-clause-work c = let size = length (first_graph c.args.board.now.table.shared.key) in let n = c.args.lock in let later = looks_again c.args.arrival in let m = c.args.seat.now.seat.me in let m1 = c.ask_if_first.new.seat.seat.me in let m2 = c.sign_all.new.seat.seat.me in
     let w1 = work_touched size n m true later m m1 (work_same size n true later m c.requires.orderly c.requires.work) c.ask_if_first.ensures.touched in
     let w2 = work_noted size n m true later _ m1 m2 w1 c.sign_all.ensures.signed in (later, w2.working)
 
 pub leave-requires-clause-may : goal.leave-requires-clause-may
-leave-requires-clause-may c = let size = length (first_graph c.args.board.now.table.shared.key) in let n = c.args.lock in let later = c.args.is_later in let m = c.args.seat.now.seat.me in let m1 = c.ask_if_first.new.seat.seat.me in
+leave-requires-clause-may c = let size = length (first_graph c.args.board.now.table.shared.key) in let n = c.args.lock in let later = looks_again c.args.arrival in let m = c.args.seat.now.seat.me in let m1 = c.ask_if_first.new.seat.seat.me in
     let w1 = work_touched size n m true later m m1 (work_same size n true later m c.requires.orderly c.requires.work) c.ask_if_first.ensures.touched in
     stays_goes size n later m1 c.sign_all.new.seat.seat.me c.death.new.seat.seat.me c.in_ok-word.word w1.working c.in_ok-word.ensures.asked c.sign_all.ensures.signed c.death.ensures.told c.in-None.ensures.life
 
 pub returns-in-None-clause-look : goal.returns-in-None-clause-look
-returns-in-None-clause-look c = let size = length (first_graph c.args.board.now.table.shared.key) in let n = c.args.lock in let later = c.args.is_later in let m = c.args.seat.now.seat.me in let m1 = c.ask_if_first.new.seat.seat.me in let m2 = c.sign_all.new.seat.seat.me in let m3 = c.death.new.seat.seat.me in
+returns-in-None-clause-look c = let size = length (first_graph c.args.board.now.table.shared.key) in let n = c.args.lock in let later = looks_again c.args.arrival in let m = c.args.seat.now.seat.me in let m1 = c.ask_if_first.new.seat.seat.me in let m2 = c.sign_all.new.seat.seat.me in let m3 = c.death.new.seat.seat.me in
     let w1 = work_touched size n m true later m m1 (work_same size n true later m c.requires.orderly c.requires.work) c.ask_if_first.ensures.touched in
     let w2 = work_noted size n m true later _ m1 m2 w1 c.sign_all.ensures.signed in
     let w3 = work_told size n m true later m2 m3 w2 c.death.ensures.told in
     look_then size n m m3 c.leave.new.seat.seat.me Waits w3.holds (stays_outside size n later m3 c.leave.new.seat.seat.me w3.working c.leave.ensures.view c.leave.ensures.orderly)
 
 pub back_off-requires-clause-work : goal.back_off-requires-clause-work
-back_off-requires-clause-work c = let size = length (first_graph c.args.board.now.table.shared.key) in let n = c.args.lock in let later = c.args.is_later in let m = c.args.seat.now.seat.me in let m1 = c.ask_if_first.new.seat.seat.me in let m2 = c.sign_all.new.seat.seat.me in let m3 = c.death.new.seat.seat.me in
+back_off-requires-clause-work c = let size = length (first_graph c.args.board.now.table.shared.key) in let n = c.args.lock in let later = looks_again c.args.arrival in let m = c.args.seat.now.seat.me in let m1 = c.ask_if_first.new.seat.seat.me in let m2 = c.sign_all.new.seat.seat.me in let m3 = c.death.new.seat.seat.me in
     let w1 = work_touched size n m true later m m1 (work_same size n true later m c.requires.orderly c.requires.work) c.ask_if_first.ensures.touched in
     let w2 = work_noted size n m true later _ m1 m2 w1 c.sign_all.ensures.signed in
     let w3 = work_told size n m true later m2 m3 w2 c.death.ensures.told in (later, w3.working)
 
 pub returns-then-not-back_off-clause-lost : goal.returns-then-not-back_off-clause-lost
-returns-then-not-back_off-clause-lost c = let size = length (first_graph c.args.board.now.table.shared.key) in let n = c.args.lock in let later = c.args.is_later in let m = c.args.seat.now.seat.me in let m1 = c.ask_if_first.new.seat.seat.me in let m2 = c.sign_all.new.seat.seat.me in let m3 = c.death.new.seat.seat.me in
+returns-then-not-back_off-clause-lost c = let size = length (first_graph c.args.board.now.table.shared.key) in let n = c.args.lock in let later = looks_again c.args.arrival in let m = c.args.seat.now.seat.me in let m1 = c.ask_if_first.new.seat.seat.me in let m2 = c.sign_all.new.seat.seat.me in let m3 = c.death.new.seat.seat.me in
     let w1 = work_touched size n m true later m m1 (work_same size n true later m c.requires.orderly c.requires.work) c.ask_if_first.ensures.touched in
     let w2 = work_noted size n m true later _ m1 m2 w1 c.sign_all.ensures.signed in
     let w3 = work_told size n m true later m2 m3 w2 c.death.ensures.told in
     work_touched size n m true later m3 c.back_off.new.seat.seat.me w3 (c.back_off.ensures.lost c.if-not-back_off.true)
 
 pub returns-else-not-back_off-clause-look : goal.returns-else-not-back_off-clause-look
-returns-else-not-back_off-clause-look c = let size = length (first_graph c.args.board.now.table.shared.key) in let n = c.args.lock in let later = c.args.is_later in let m = c.args.seat.now.seat.me in let m1 = c.ask_if_first.new.seat.seat.me in let m2 = c.sign_all.new.seat.seat.me in let m3 = c.death.new.seat.seat.me in
+returns-else-not-back_off-clause-look c = let size = length (first_graph c.args.board.now.table.shared.key) in let n = c.args.lock in let later = looks_again c.args.arrival in let m = c.args.seat.now.seat.me in let m1 = c.ask_if_first.new.seat.seat.me in let m2 = c.sign_all.new.seat.seat.me in let m3 = c.death.new.seat.seat.me in
     let w1 = work_touched size n m true later m m1 (work_same size n true later m c.requires.orderly c.requires.work) c.ask_if_first.ensures.touched in
     let w2 = work_noted size n m true later _ m1 m2 w1 c.sign_all.ensures.signed in
     let w3 = work_told size n m true later m2 m3 w2 c.death.ensures.told in
