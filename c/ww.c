@@ -35,11 +35,14 @@ enum { SPINS = 6, ROUNDS = 11 };
 enum { MOST_PAUSES_HOLDING = 8 };
 
 /*
- * One that holds nothing glances twice, so many pauses apart.  Where the same context still owns the lock, that has work of
- * some length: the seat rests for a while before each glance that is left.  Where another does, all are quick: it rests the
- * longer the more first tries it lost of late, before so many glances in all.  So many that win make it forget one.
+ * One that holds nothing glances twice, so many pauses apart.  Where the same
+ * context still owns the lock, that has work of some length: the seat rests for
+ * a while before each glance that is left.  Where another does, all are quick:
+ * it rests the longer the more first tries it lost of late, before so many
+ * glances in all.  So many that win make it forget one.
  */
-enum { MOMENT = 32, FEWEST = 8, MOST_PAUSES = 8192, GLANCES = 4, MOST_PAUSES_LONGER = 512, MOST_LOSSES = 10, CALM = 128 };
+enum { MOMENT = 128, FEWEST = 8, MOST_PAUSES = 6144, GLANCES = 3 };
+enum { MOST_PAUSES_LONGER = 1024, MOST_LOSSES = 10, CALM = 128 };
 
 /* After so many pauses another thread may have the processor. */
 enum { BREATH = 64 };
@@ -122,7 +125,7 @@ static unsigned pauses_before(ww_seat *s, struct watch *w, bool is_same)
 	}
 	if (w->glances > GLANCES && !w->works)
 		return 0;
-	pauses = FEWEST << s->losses << (w->glances - 2);
+	pauses = (unsigned)FEWEST << s->losses << (w->glances - 2);
 	most = w->works ? MOST_PAUSES_LONGER : MOST_PAUSES;
 	return pauses < most ? pauses : most;
 }
@@ -250,7 +253,10 @@ static inline uint8_t number(unsigned n) { return n < WW_MAX_LOCKS ? (uint8_t)n 
 int ww_lock(ww_seat *s, unsigned n) { return locked(s, n, ww_lock_(&s->handle, number(n), false)); }
 int ww_lock_interruptible(ww_seat *s, unsigned n) { return locked(s, n, ww_lock_(&s->handle, number(n), true)); }
 int ww_lock_slow(ww_seat *s, unsigned n) { return locked(s, n, ww_lock_slow_(&s->handle, number(n), false)); }
-int ww_lock_slow_interruptible(ww_seat *s, unsigned n) { return locked(s, n, ww_lock_slow_(&s->handle, number(n), true)); }
+int ww_lock_slow_interruptible(ww_seat *s, unsigned n)
+{
+	return locked(s, n, ww_lock_slow_(&s->handle, number(n), true));
+}
 
 int ww_trylock(ww_seat *s, unsigned n)
 {
@@ -292,7 +298,8 @@ int ww_cancel(ww_seat *s, ww_seat *victim)
 	bool wakes[WW_MAX_SEATS];
 	int r;
 
-	if (s->world != victim->world)
+	/* A seat that was never opened has no world. */
+	if (!s->world || s->world != victim->world)
 		return -EINVAL;
 	r = ww_cancel_(&s->handle, (uint8_t)(victim - victim->world->seats), wakes);
 	wake(s, wakes);

@@ -43,14 +43,23 @@ typedef struct ww_world {
 	char orders[WW_MAX_LOCKS]; /* an address for each lock, by which the thread sanitizer knows it */
 } ww_world;
 
-/* -EINVAL: another kind, no lock or no seat, or too many; -ENOMEM. */
+/*
+ * Where the world was closed, or was never opened and is { 0 }, each call on a
+ * seat of it is told -EINVAL, and changes nothing; ww_seat_get gives NULL, and
+ * ww_seat_put and ww_close answer 0.
+ */
+
+/*
+ * Opens a world.  -EINVAL: another kind, no lock or no seat, or too many; -ENOMEM.
+ * After an error the world isn't open.  One that is open may not be opened again.
+ */
 int ww_open(ww_world *world, int kind, unsigned locks, unsigned seats);
 /* -EBUSY: a seat is taken, holds a lock, has a context or waits. Closing once more does nothing. */
 int ww_close(ww_world *world);
 
 /* A free seat for this thread, or NULL. */
 ww_seat *ww_seat_get(ww_world *world);
-/* -EBUSY: it holds a lock, has a context or waits. */
+/* Gives the seat back, which this thread uses no more. -EBUSY: it holds a lock, has a context or waits. */
 int ww_seat_put(ww_seat *seat);
 
 /* Begins a context. -EINVAL: there is one, or a lock is held; -ENOSPC: 2^52 - 1 were begun. */
@@ -63,21 +72,26 @@ int ww_acquire_fini(ww_seat *seat);
 /*
  * Takes a lock, and waits for it.  Without a context one lock alone may be held.
  * -EDEADLK: give all back, then ww_lock_slow of this lock; -EALREADY: it is held;
- * -EINVAL: no such lock, or none may be taken now.
+ * -EINVAL: no such lock, or none may be taken now: the context is done, it was told
+ * -EDEADLK and still holds a lock, or it would be a second lock without a context.
  */
 int ww_lock(ww_seat *seat, unsigned lock);
-/* The same, but ww_cancel may call the wait off: -EINTR. */
+/* The same, but ww_cancel may call the wait off: -EINTR, and what was held still is. */
 int ww_lock_interruptible(ww_seat *seat, unsigned lock);
 /* After -EDEADLK of this lock, with nothing held; waits for it. -EINVAL in all other cases. */
 int ww_lock_slow(ww_seat *seat, unsigned lock);
+/* The same, but ww_cancel may call the wait off: -EINTR. */
 int ww_lock_slow_interruptible(ww_seat *seat, unsigned lock);
-/* Takes the lock if nobody has it or waits for it. -EBUSY, -EALREADY, -EINVAL. */
+/* Takes the lock if nobody has it or waits for it, and else answers -EBUSY; -EALREADY and -EINVAL as ww_lock. */
 int ww_trylock(ww_seat *seat, unsigned lock);
-/* -EINVAL: it isn't held. */
+/* Gives the lock back. -EINVAL: it isn't held. */
 int ww_unlock(ww_seat *seat, unsigned lock);
-/* Gives all back, the one taken last first. */
+/* Gives all back, the one taken last first; 0 too where nothing is held. */
 int ww_unlock_all(ww_seat *seat);
-/* Calls off the interruptible wait of another seat of the world, now or the next one. -EALREADY: that is pending. */
+/*
+ * Calls off the interruptible wait of another seat of the world, now or the next
+ * one.  -EALREADY: that is pending; -EINVAL: the seats are of two worlds.
+ */
 int ww_cancel(ww_seat *seat, ww_seat *victim);
 
 /*
@@ -86,7 +100,9 @@ int ww_cancel(ww_seat *seat, ww_seat *victim);
  * wants another turn by ww_go_on_: at once, after some pauses, or once somebody
  * has woken the seat.  WW_STAYS_LONGER says besides that the context which owns
  * the lock is the one that was seen at the glance before.  Whoever is marked in
- * wakes has to be woken.
+ * wakes has to be woken.  Until a call has come to its end any other is told
+ * -EBUSY, and ww_go_on_ without one -EINVAL.  ww_unlock_all_ gives locks back up
+ * to the first for which somebody may wait: after its turns it is called again.
  */
 enum { WW_AGAIN = 1, WW_STAYS = 2, WW_SLEEPS = 3, WW_STAYS_LONGER = 4 };
 int32_t ww_open_(uint32_t kind, uint8_t locks, uint64_t left, ww_handle *seats, size_t count);

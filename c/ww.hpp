@@ -1,4 +1,4 @@
-// ww.hpp - the wound/wait locks of ww.h for C++17. Nothing here throws.
+// ww.hpp - the wound/wait locks of ww.h for C++17. Nothing here throws, or needs exceptions.
 #ifndef WW_HPP
 #define WW_HPP
 #include "ww.h"
@@ -18,7 +18,10 @@ class world {
 	int error_;
 
 public:
-	world(kind k, unsigned locks, unsigned seats) noexcept : error_(ww_open(&it_, static_cast<int>(k), locks, seats)) {}
+	world(kind k, unsigned locks, unsigned seats) noexcept
+		: error_(ww_open(&it_, static_cast<int>(k), locks, seats))
+	{
+	}
 	~world() { ww_close(&it_); }
 	world(const world &) = delete;
 	world &operator=(const world &) = delete;
@@ -54,19 +57,25 @@ class context {
 	int error_;
 	unsigned told_ = none; // the lock for which it was told to back off last
 
-	// Takes locks until none of them makes it back off, calls fn, and gives all back.
+	struct gives_all {
+		ww_seat *s;
+		~gives_all() { ww_unlock_all(s); }
+	};
+
+	// Takes locks until none of them makes it back off, calls fn, and gives all back, also where a callable throws.
 	template <class Takes, class Fn> int holding(Takes &&takes, Fn &&fn)
 	{
 		int r = error_;
 
 		if (r)
 			return r;
+		gives_all at_end{ s_ };
+
 		told_ = none;
 		while ((r = takes()) == -EDEADLK && !(r = back_off()))
 			;
 		if (!r)
 			std::forward<Fn>(fn)();
-		ww_unlock_all(s_);
 		return r;
 	}
 
@@ -105,9 +114,10 @@ public:
 	int done() noexcept { return error_ ? error_ : ww_acquire_done(s_); }
 
 	/*
-	 * Three ways to take many locks.  Each backs off by itself, calls fn while all are held, and gives all back.  They
-	 * answer 0, or the error of a lock call without calling fn: -EALREADY for a lock that a list has twice, -EINVAL for
-	 * one that isn't there.
+	 * Three ways to take many locks.  Each backs off by itself, calls fn while all
+	 * are held, and gives all back, also what the context held before.  They answer
+	 * 0, or the error of a lock call without calling fn: -EALREADY for a lock that a
+	 * list has twice, -EINVAL for one that isn't there.
 	 */
 
 	// A list that stays as it is: the lock that was waited for is skipped once.
@@ -146,8 +156,11 @@ public:
 			std::forward<Fn>(fn));
 	}
 
-	// Locks that are found on the way: next(starts) tells the next one, or nothing. It may read what the locks guard that
-	// it told since it was last asked with starts, and may tell one that is held. After a back-off it starts again.
+	/*
+	 * Locks that are found on the way: next(starts) tells the next one, or nothing.
+	 * It may read what the locks guard that it told since it was last asked with
+	 * starts, and may tell one that is held.  After a back-off it starts again.
+	 */
 	template <class Next, class Fn> int lock_walk(Next &&next, Fn &&fn)
 	{
 		return holding(

@@ -2,13 +2,10 @@
 import contextlib
 import ctypes
 import errno
+import os
 
 WOUND_WAIT, WAIT_DIE = 0, 1
 _WORLD, _ALIGNED = 2048, 64
-
-
-class Deadlock(Exception):
-    """An older context was met: all locks are to be given back."""
 
 
 class World:
@@ -36,26 +33,26 @@ class World:
 
 
 class Seat:
+    """A seat, for one thread."""
+
     def __init__(self, lib, at):
         self.lib, self.at = lib, at
 
     @contextlib.contextmanager
     def holding(self, locks):
-        """A context that holds these locks, taken in this order but for the one for which it had to back off."""
+        """A context that holds these locks, taken in this order; one for which it had to back off moves to the head."""
         told(self.lib.ww_acquire_init(self.at))
         try:
-            slow = None
-            while True:
-                try:
-                    if slow is not None:
-                        told(self.lib.ww_lock_slow(self.at, slow))
-                    for lock in locks:
-                        if lock != slow:
-                            told(self.lib.ww_lock(self.at, lock))
-                    break
-                except Deadlock:
+            order, take, at = list(locks), self.lib.ww_lock, 0
+            while at < len(order):
+                code = take(self.at, order[at])
+                if code == -errno.EDEADLK:
                     told(self.lib.ww_unlock_all(self.at))
-                    slow = lock
+                    order.insert(0, order.pop(at))
+                    take, at = self.lib.ww_lock_slow, 0
+                else:
+                    told(code)
+                    take, at = self.lib.ww_lock, at + 1
             yield
         finally:
             told(self.lib.ww_unlock_all(self.at))
@@ -63,7 +60,5 @@ class Seat:
 
 
 def told(code):
-    if code == -errno.EDEADLK:
-        raise Deadlock
     if code:
-        raise OSError(-code, errno.errorcode.get(-code, "?"))
+        raise OSError(-code, os.strerror(-code))

@@ -26,7 +26,8 @@ int main()
 					x = x * 1664525u + 1013904223u;
 					const unsigned from = x >> 8 & 15, to = x >> 16 & 15;
 					ww::context context(seat);
-					const int r = context.lock_all(std::initializer_list<unsigned>{ from, to }, [&] {
+					const std::initializer_list<unsigned> locks{ from, to };
+					const int r = context.lock_all(locks, [&] {
 						accounts[from] -= 1;
 						accounts[to] += 1;
 					});

@@ -1,4 +1,7 @@
-/* Two threads take two locks in opposite orders, 100,000 times in both kinds; now and then one sleeps with its first. */
+/*
+ * Two threads take two locks in opposite orders, 100,000 times in both kinds; now
+ * and then one sleeps with its first.
+ */
 #include "test.h"
 #include <unistd.h>
 

@@ -25,7 +25,8 @@ static int turned(unsigned me, int r)
 
 static bool is_code(int r)
 {
-	return (r >= 0 && r <= WW_STAYS_LONGER) || r == -EINTR || r == -EBUSY || r == -EINVAL || r == -ENOSPC || r == -EDEADLK || r == -EALREADY;
+	return (r >= 0 && r <= WW_STAYS_LONGER) || r == -EINTR || r == -EBUSY || r == -EINVAL || r == -ENOSPC ||
+	       r == -EDEADLK || r == -EALREADY;
 }
 
 /* What one thread knows of its seat by the answers alone: of the locks that it owns, those that it is sure of. */
@@ -152,9 +153,10 @@ static void empty_handles(ww_handle *h)
 {
 	bool wakes[WW_MAX_SEATS];
 
-	MUST(ww_begin_(h) == -EINVAL && ww_end_(h) == -EINVAL && ww_done_(h) == -EINVAL && ww_lock_(h, 0, true) == -EINVAL);
-	MUST(ww_try_(h, 0) == -EINVAL && ww_unlock_(h, 0) == -EINVAL && ww_unlock_all_(h) == -EINVAL && ww_go_on_(h, wakes) == -EINVAL);
-	MUST(ww_lock_slow_(h, 0, false) == -EINVAL && ww_cancel_(h, 0, wakes) == -EINVAL && !ww_idle_(h) && !ww_close_(h));
+	MUST(ww_begin_(h) == -EINVAL && ww_end_(h) == -EINVAL && ww_done_(h) == -EINVAL);
+	MUST(ww_lock_(h, 0, true) == -EINVAL && ww_lock_slow_(h, 0, false) == -EINVAL && ww_try_(h, 0) == -EINVAL);
+	MUST(ww_unlock_(h, 0) == -EINVAL && ww_unlock_all_(h) == -EINVAL);
+	MUST(ww_go_on_(h, wakes) == -EINVAL && ww_cancel_(h, 0, wakes) == -EINVAL && !ww_idle_(h) && !ww_close_(h));
 }
 
 int main(int count, char **words)
@@ -166,10 +168,12 @@ int main(int count, char **words)
 
 		empty_handles(&one);
 		MUST(ww_open_(2, 8, 9, handles, 4) == -EINVAL && ww_open_(kind, 0, 9, handles, 4) == -EINVAL);
-		MUST(ww_open_(kind, 65, 9, handles, 4) == -EINVAL && ww_open_(kind, 8, 9, handles, 0) == -EINVAL && ww_open_(kind, 8, 9, handles, 17) == -EINVAL);
+		MUST(ww_open_(kind, 65, 9, handles, 4) == -EINVAL && ww_open_(kind, 8, 9, handles, 0) == -EINVAL);
+		MUST(ww_open_(kind, 8, 9, handles, 17) == -EINVAL);
 		MUST(ww_open_(kind, 8, (uint64_t)1 << 52, handles, 4) == -EINVAL);
 		MUST(!ww_open_(kind, 1, 1, &one, 1) && !ww_begin_(&one) && ww_close_(&one) == -EBUSY && !ww_end_(&one));
-		MUST(ww_begin_(&one) == -ENOSPC && !ww_lock_(&one, 0, false) && ww_idle_(&one) == -EBUSY && ww_close_(&one) == -EBUSY);
+		MUST(ww_begin_(&one) == -ENOSPC && !ww_lock_(&one, 0, false));
+		MUST(ww_idle_(&one) == -EBUSY && ww_close_(&one) == -EBUSY);
 		MUST(!ww_unlock_(&one, 0) && !ww_idle_(&one) && !ww_close_(&one) && !ww_close_(&one));
 		empty_handles(&one);
 		MUST(!ww_open_(kind, LOCKS, UINT32_MAX, handles, THREADS));

@@ -1,4 +1,8 @@
-/* A world closes only when nobody uses it: not while a seat is taken, has a context, holds a lock or waits. */
+/*
+ * A world closes only when nobody uses it: not while a seat is taken, has a
+ * context, holds a lock or waits.  A seat that was closed, or never opened, is
+ * told so by each call.
+ */
 #include "test.h"
 #include <unistd.h>
 
@@ -47,15 +51,24 @@ static void while_a_turn_waits(ww_seat *s, ww_seat *other)
 	MUST(!ww_unlock_(&s->handle, 1));
 }
 
-static void closed(ww_seat *s)
+/* The seat's world isn't open. */
+static void is_closed(ww_seat *s)
 {
 	bool wakes[WW_MAX_SEATS];
 	ww_handle *h = &s->handle;
 
+	MUST(ww_acquire_init(s) == -EINVAL && ww_acquire_done(s) == -EINVAL && ww_acquire_fini(s) == -EINVAL);
+	MUST(ww_lock(s, 0) == -EINVAL && ww_lock_interruptible(s, 0) == -EINVAL && ww_trylock(s, 0) == -EINVAL);
+	MUST(ww_lock_slow(s, 0) == -EINVAL && ww_lock_slow_interruptible(s, 0) == -EINVAL);
+	MUST(ww_unlock(s, 0) == -EINVAL && ww_unlock_all(s) == -EINVAL && ww_cancel(s, s) == -EINVAL);
+	MUST(!ww_seat_put(s) && ww_go_on_(h, wakes) == -EINVAL && !ww_close_(h) && !h->full && !s->held);
+}
+
+static void closes(ww_seat *s)
+{
 	MUST(!ww_close(&world) && !ww_close(&world) && !ww_seat_get(&world));
-	MUST(ww_acquire_init(s) == -EINVAL && ww_lock(s, 0) == -EINVAL && ww_trylock(s, 0) == -EINVAL && ww_unlock(s, 0) == -EINVAL);
-	MUST(ww_unlock_all(s) == -EINVAL && ww_acquire_done(s) == -EINVAL && ww_acquire_fini(s) == -EINVAL);
-	MUST(ww_go_on_(h, wakes) == -EINVAL && !ww_close_(h) && !h->full);
+	is_closed(s);
+	MUST(!ww_close(&world));
 }
 
 int main(void)
@@ -64,7 +77,11 @@ int main(void)
 		ww_world none = { 0 };
 
 		MUST(!ww_seat_get(&none) && !ww_close(&none));
-		MUST(ww_open(&world, 2, 2, 2) == -EINVAL && ww_open(&world, kind, 65, 2) == -EINVAL && ww_open(&world, kind, 2, 17) == -EINVAL);
+		is_closed(&none.seats[0]);
+		MUST(ww_open(&world, 2, 2, 2) == -EINVAL && ww_open(&world, -1, 2, 2) == -EINVAL);
+		MUST(ww_open(&world, kind, 65, 2) == -EINVAL && ww_open(&world, kind, 2, 17) == -EINVAL);
+		MUST(ww_open(&world, kind, 0, 2) == -EINVAL && ww_open(&world, kind, 2, 0) == -EINVAL);
+		MUST(ww_open(&world, kind, 256 + 2, 2) == -EINVAL);
 		MUST(!ww_seat_get(&world) && !ww_close(&world) && !ww_open(&world, kind, 2, 2));
 		for (unsigned k = 0; k < 2; k++)
 			MUST((seats[k] = ww_seat_get(&world)) && ww_close(&world) == -EBUSY);
@@ -76,7 +93,7 @@ int main(void)
 		while_it_waits(seats[0]);
 		while_a_turn_waits(seats[0], seats[1]);
 		MUST(!ww_seat_put(seats[0]) && ww_close(&world) == -EBUSY && !ww_seat_put(seats[1]));
-		closed(seats[0]);
+		closes(seats[0]);
 	}
 	puts("closing: only a world that nobody uses");
 	return 0;

@@ -1,57 +1,97 @@
-/* Each allocation of opening is refused in turn: no handle is written, and nothing is left. This heap stands in for that of the library. */
-#include "../ww.h"
-#include <errno.h>
-#include <stdio.h>
-#include <stdlib.h>
-struct tried { bool ok; void *p; };
-static long made, live, refuse = -1;
-static char nothing[16];
-struct tried rattle_alloc(size_t n, size_t a)
-{
-	void *p;
+/*
+ * Each allocation of opening is refused in turn: no handle is written, the world
+ * isn't open, and nothing is left.  This heap stands in for that of the library.
+ */
+#include "test.h"
 
-	if (made++ == refuse)
-		return (struct tried){ false, nothing };
-	p = malloc(n ? n : a);
-	live += !!p;
-	return (struct tried){ !!p, p ? p : nothing };
+struct tried {
+	bool ok;
+	void *p;
+};
+
+static long made, live, refused = -1;
+static char nothing[16];
+
+static struct tried told(void *p) { return (struct tried){ p != NULL, p ? p : nothing }; }
+
+struct tried rattle_alloc(size_t size, size_t align);
+struct tried rattle_realloc(void *p, size_t kept, size_t size, size_t align);
+void rattle_dealloc(void *p);
+
+struct tried rattle_alloc(size_t size, size_t align)
+{
+	void *p = made++ == refused ? NULL : malloc(size ? size : align);
+
+	live += p != NULL;
+	return told(p);
 }
-struct tried rattle_realloc(void *p, size_t kept, size_t n, size_t a)
+
+struct tried rattle_realloc(void *p, size_t kept, size_t size, size_t align)
 {
 	(void)kept;
-	if (made++ == refuse)
-		return (struct tried){ false, nothing };
-	p = realloc(p, n ? n : a);
-	return (struct tried){ !!p, p };
+	return told(made++ == refused ? NULL : realloc(p, size ? size : align));
 }
-void rattle_dealloc(void *p) { live--; free(p); }
-int main(void)
+
+void rattle_dealloc(void *p)
 {
-	ww_handle h[16] = {0};
+	live--;
+	free(p);
+}
+
+/* By the call that opens handles. Afterwards no other call takes memory. */
+static void opens_handles(uint32_t kind)
+{
+	ww_handle handles[WW_MAX_SEATS] = { { 0 } };
 	long all;
 	int r;
 
-	for (refuse = 0; ; refuse++) {
+	for (refused = 0;; refused++) {
 		made = 0;
-		r = ww_open_(0, 64, 100, h, 16);
+		r = ww_open_(kind, WW_MAX_LOCKS, 100, handles, WW_MAX_SEATS);
 		if (!r)
 			break;
-		if (r != -ENOMEM)
-			return 1;
-		for (unsigned k = 0; k < 16; k++)
-			if (h[k].at || h[k].full)
-				return printf("handle %u is full after refusal %ld\n", k, refuse), 5;
-		if (live)
-			return printf("%ld blocks are left after refusal %ld\n", live, refuse), 2;
+		MUST(r == -ENOMEM && !live);
+		for (unsigned k = 0; k < WW_MAX_SEATS; k++)
+			MUST(!handles[k].at && !handles[k].full);
 	}
 	all = made;
+	MUST(all == refused);
 	made = 0;
-	refuse = -1;
-	for (unsigned k = 0; k < 16; k++)
-		if (ww_begin_(&h[k]) || ww_lock_(&h[k], (uint8_t)k, false) || ww_unlock_(&h[k], (uint8_t)k) || ww_end_(&h[k]))
-			return 3;
-	printf("%ld allocations to open 64 locks with 16 seats, each refused in turn; %ld by the calls\n", all, made);
-	for (unsigned k = 0; k < 16; k++)
-		ww_close_(&h[k]);
-	return live ? 4 : 0;
+	refused = -1;
+	for (unsigned k = 0; k < WW_MAX_SEATS; k++) {
+		ww_handle *h = &handles[k];
+
+		MUST(!ww_begin_(h) && !ww_lock_(h, (uint8_t)k, false) && !ww_unlock_(h, (uint8_t)k) && !ww_end_(h));
+	}
+	MUST(!made);
+	for (unsigned k = 0; k < WW_MAX_SEATS; k++)
+		MUST(!ww_close_(&handles[k]));
+	MUST(!live);
+	printf("%ld allocations to open 64 locks with 16 seats, each refused in turn; none by the calls\n", all);
+}
+
+/* By the call of the header. */
+static void opens_world(int kind)
+{
+	ww_world world;
+	int r;
+
+	for (refused = 0;; refused++) {
+		made = 0;
+		r = ww_open(&world, kind, 3, 2);
+		if (!r)
+			break;
+		MUST(r == -ENOMEM && !live && !ww_seat_get(&world) && !ww_close(&world));
+	}
+	MUST(made && made == refused && live && ww_seat_get(&world) == &world.seats[0]);
+	MUST(!ww_seat_put(&world.seats[0]) && !ww_close(&world) && !live);
+}
+
+int main(void)
+{
+	for (int kind = 0; kind < 2; kind++) {
+		opens_handles((uint32_t)kind);
+		opens_world(kind);
+	}
+	return 0;
 }

@@ -1,4 +1,7 @@
-/* Storms: 4 threads take some of 8 locks in order, in any order, or one by one, with naps and without. */
+/*
+ * Storms: 4 threads take some of 8 locks in order, in any order, or one by one
+ * without a context, or each thread in a way of its own; with naps and without.
+ */
 #include "test.h"
 #include <unistd.h>
 
@@ -6,25 +9,30 @@ enum { THREADS = 4, LOCKS = 8, TIMES = 20000 };
 
 static ww_world world;
 static unsigned long counters[LOCKS], added[THREADS][LOCKS];
-static unsigned way;
+
+/* How a storm takes its locks. */
+enum way { IN_ORDER, ANY_ORDER, SINGLE, MIXED, WAYS };
+static enum way way;
+static bool naps;
 
 static void nap(unsigned *x)
 {
-	if (way & 4 && next(x) % 64 == 0)
+	if (naps && next(x) % 64 == 0)
 		usleep(next(x) % 50);
 }
 
 static void *work(void *arg)
 {
 	unsigned me = (unsigned)(size_t)arg, x = 7 * me + 1, list[LOCKS], count;
+	enum way own = way == MIXED ? (enum way)(me % MIXED) : way;
 	ww_seat *s = ww_seat_get(&world);
 
 	MUST(s);
-	for (unsigned i = 0; i < (way & 4 ? TIMES / 10 : TIMES); i++) {
+	for (unsigned i = 0; i < (naps ? TIMES / 10 : TIMES); i++) {
 		bool wants[LOCKS] = { 0 };
 
 		count = 0;
-		if ((way & 3) == 2) {
+		if (own == SINGLE) {
 			list[count++] = next(&x) % LOCKS;
 			MUST(!ww_lock(s, list[0]) && ww_lock(s, (list[0] + 1) % LOCKS) == -EINVAL);
 		} else {
@@ -33,7 +41,7 @@ static void *work(void *arg)
 			for (unsigned k = 0; k < LOCKS; k++)
 				if (wants[k])
 					list[count++] = k;
-			for (unsigned k = count; (way & 3) == 1 && k > 1; k--) {
+			for (unsigned k = count; own == ANY_ORDER && k > 1; k--) {
 				unsigned j = next(&x) % k, swap = list[j];
 
 				list[j] = list[k - 1];
@@ -49,7 +57,7 @@ static void *work(void *arg)
 			nap(&x);
 		}
 		MUST(!ww_unlock_all(s));
-		if ((way & 3) != 2)
+		if (own != SINGLE)
 			MUST(!ww_acquire_fini(s));
 	}
 	MUST(!ww_seat_put(s));
@@ -59,20 +67,20 @@ static void *work(void *arg)
 int main(void)
 {
 	for (int kind = 0; kind < 2; kind++)
-		for (way = 0; way < 7; way++) {
-			if ((way & 3) == 3)
-				continue;
+		for (unsigned k = 0; k < 2 * WAYS; k++) {
+			way = (enum way)(k % WAYS);
+			naps = k >= WAYS;
 			MUST(!ww_open(&world, kind, LOCKS, THREADS));
 			in_threads(THREADS, work);
-			for (unsigned k = 0; k < LOCKS; k++) {
+			for (unsigned n = 0; n < LOCKS; n++) {
 				unsigned long all = 0;
 
 				for (unsigned t = 0; t < THREADS; t++) {
-					all += added[t][k];
-					added[t][k] = 0;
+					all += added[t][n];
+					added[t][n] = 0;
 				}
-				MUST(counters[k] == all);
-				counters[k] = 0;
+				MUST(counters[n] == all);
+				counters[n] = 0;
 			}
 			MUST(!ww_close(&world));
 		}

@@ -87,15 +87,38 @@ bool refuses(ww::world &world)
 	std::vector<unsigned> twice{ 1, 2, 1 }, beyond{ 1, count };
 	const auto never = [] { std::abort(); };
 	int calls = 0;
-	const auto same = [&](bool starts) { return calls = starts ? 1 : calls + 1, calls < 4 ? std::optional<unsigned>(1) : std::nullopt; };
+	const auto same = [&](bool starts) {
+		calls = starts ? 1 : calls + 1;
+		return calls < 4 ? std::optional<unsigned>(1) : std::nullopt;
+	};
 	const auto out = [](bool) { return std::optional<unsigned>(count); };
 
 	return context.lock_all(twice, never) == -EALREADY && context.lock_all_moving(twice, never) == -EALREADY &&
 	       context.lock_all(beyond, never) == -EINVAL && context.lock_all_moving(beyond, never) == -EINVAL &&
-	       context.lock_walk(out, never) == -EINVAL && context.lock_walk(same, [] {}) == 0 && context.unlock(1) == -EINVAL;
+	       context.lock_walk(out, never) == -EINVAL && context.lock_walk(same, [] {}) == 0 &&
+	       context.unlock(1) == -EINVAL;
 }
 
-// A context that wasn't begun takes nothing, and leaves what the seat holds: here the seat has one already, or is empty.
+// Where a callable throws all is given back too.
+bool gives_back(ww::world &world)
+{
+#ifdef __cpp_exceptions
+	ww::seat seat(world);
+	ww::context context(seat);
+	const std::array<unsigned, 2> list{ 1, 2 };
+
+	try {
+		context.lock_all(list, [] { throw 1; });
+	} catch (int) {
+		return context.unlock(1) == -EINVAL && context.unlock(2) == -EINVAL && !context.lock_all(list, [] {});
+	}
+	return false;
+#else
+	return !world.error();
+#endif
+}
+
+// A context that wasn't begun takes nothing, and leaves what the seat holds: here it has one already, or is empty.
 bool begins_once(ww::world &world)
 {
 	ww::seat seat(world);
@@ -105,8 +128,9 @@ bool begins_once(ww::world &world)
 		ww::context other(of);
 		const auto never = [] { std::abort(); };
 
-		return other.error() == error && other.lock_all(list, never) == error && other.lock(1) == error && other.try_lock(1) == error &&
-		       other.unlock(0) == error && other.back_off() == error && other.done() == error;
+		return other.error() == error && other.lock_all(list, never) == error && other.lock(1) == error &&
+		       other.try_lock(1) == error && other.unlock(0) == error && other.back_off() == error &&
+		       other.done() == error;
 	};
 	bool is_so = context.lock(0) == 0 && refused(seat, -EINVAL) && context.lock(0) == -EALREADY;
 	std::list<ww::seat> taken;
@@ -138,7 +162,7 @@ int run(ww::kind kind)
 
 	for (unsigned n = 0; n < count; n++)
 		nodes[n] = node{ (n + 1) % count, 0 };
-	if (world.error() || !refuses(world) || !begins_once(world))
+	if (world.error() || !refuses(world) || !begins_once(world) || !gives_back(world))
 		return 1;
 	for (unsigned me = 0; me < threads; me++)
 		all.emplace_back([&, me] { work(world, me, visits[me], faults[me]); });
