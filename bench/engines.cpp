@@ -4,18 +4,25 @@
  * std::scoped_lock over these.  engines SECONDS PAUSES prints a row for each
  * workload: threads, locks of a transaction, locks; each transaction works for so
  * many pauses of the processor under its locks.  Then what one lock costs a
- * thread that nobody disturbs.  The kernel's own code would be an engine more,
- * but its source isn't at hand here.
+ * thread that nobody disturbs, and what it takes to open a world.  The kernel's
+ * own code would be an engine more, but its source isn't at hand here.
+ *
+ * engines contexts LOCKS TAKES WAY TIMES makes so many contexts by one thread and
+ * prints nothing, for who counts instructions: each takes TAKES of LOCKS locks,
+ * and releases them by WAY: all at once, in the order of taking, or backwards.
  */
 #include "../c/ww.h"
 #include <algorithm>
 #include <array>
 #include <atomic>
+#include <cerrno>
 #include <chrono>
 #include <cstddef>
 #include <cstdint>
 #include <cstdio>
 #include <cstdlib>
+#include <cstring>
+#include <malloc.h>
 #include <mutex>
 #include <pthread.h>
 #include <thread>
@@ -25,25 +32,26 @@
 namespace {
 
 enum engine { wound_wait, wait_die, one_mutex, sorted_mutexes, scoped_lock, engines };
-constexpr unsigned most = WW_MAX_LOCKS, goes = 3;
+constexpr unsigned most = WW_MAX_LOCKS, most_taken = 32, goes = 3;
 constexpr std::array<const char *, engines> names{ "wound-wait", "wait-die", "one mutex", "sorted", "scoped_lock" };
 
 struct workload {
 	unsigned threads, takes, locks;
 };
 // Where a transaction takes both of two locks, threads take them in opposite orders.
-constexpr workload workloads[]{ { 1, 1, 64 }, { 1, 2, 64 }, { 1, 8, 64 }, { 2, 2, 64 },
-				{ 4, 2, 64 }, { 4, 8, 64 }, { 4, 2, 4 },  { 4, 2, 2 } };
+constexpr workload workloads[]{ { 1, 1, 64 },	 { 1, 2, 64 },	  { 1, 8, 64 },	  { 2, 2, 64 },	   { 4, 2, 64 },
+				{ 4, 8, 64 },	 { 4, 2, 4 },	  { 4, 2, 2 },	  { 1, 2, 4096 },  { 1, 2, 65536 },
+				{ 4, 2, 4096 }, { 4, 2, 65536 }, { 4, 8, 4096 }, { 4, 8, 65536 } };
 
 struct alignas(64) node {
 	long value;
 	std::mutex mutex;
 };
-std::array<node, most> nodes;
+std::vector<node> nodes(most);
 struct alignas(64) global {
 	pthread_mutex_t mutex = PTHREAD_MUTEX_INITIALIZER;
 } all;
-using list = std::array<unsigned, most>;
+using list = std::array<unsigned, most_taken>;
 
 workload now;
 unsigned pauses;
@@ -51,20 +59,14 @@ std::atomic<bool> stops;
 
 void draw(unsigned me, unsigned &x, list &it)
 {
-	std::uint64_t seen = 0;
-
 	if (now.takes == now.locks) {
 		for (unsigned k = 0; k < now.takes; k++)
 			it[k] = me & 1 ? now.locks - 1 - k : k;
 		return;
 	}
 	for (unsigned k = 0; k < now.takes;) {
-		const unsigned n = (x = x * 1664525u + 1013904223u) >> 10 & (now.locks - 1);
-
-		if (seen >> n & 1)
-			continue;
-		seen |= std::uint64_t(1) << n;
-		it[k++] = n;
+		it[k] = (x = x * 1664525u + 1013904223u) >> 10 & (now.locks - 1);
+		k += std::find(it.begin(), it.begin() + k, it[k]) == it.begin() + k;
 	}
 }
 
@@ -83,23 +85,26 @@ void add(const list &it)
 void by_ww(ww_seat *s, const list &it)
 {
 	unsigned slow = most;
+	int r = ww_begin(s);
 
-	ww_acquire_init(s);
-	for (;;) {
-		int r = slow < most ? ww_lock_slow(s, slow) : 0;
+	while (!r) {
 		unsigned k;
 
+		r = slow < most ? ww_lock_slow(s, slow) : 0;
 		for (k = 0; k < now.takes && !r; k++)
 			if (it[k] != slow)
 				r = ww_lock(s, it[k]);
-		if (!r)
+		if (r != -EDEADLK)
 			break;
 		ww_unlock_all(s);
 		slow = it[k - 1];
+		r = 0;
 	}
+	if (r)
+		std::exit(4);
 	add(it);
 	ww_unlock_all(s);
-	ww_acquire_fini(s);
+	ww_end(s);
 }
 
 void by_one(const list &it)
@@ -138,11 +143,11 @@ void by_scoped(const list &it)
 }
 
 // Transactions until it is stopped: how many.
-unsigned long work(engine by, unsigned me, ww_world &world)
+unsigned long work(engine by, unsigned me, ww_world *world)
 {
 	unsigned x = 77 * me + 1;
 	list it;
-	ww_seat *s = by <= wait_die ? ww_seat_get(&world) : nullptr;
+	ww_seat *s = by <= wait_die ? ww_seat_get(world) : nullptr;
 	unsigned long done = 0;
 
 	for (; !stops.load(std::memory_order_relaxed); done++) {
@@ -165,7 +170,7 @@ double run(engine by, double seconds)
 {
 	std::vector<std::thread> threads;
 	std::vector<unsigned long> counts(now.threads);
-	ww_world world;
+	ww_world *world = nullptr;
 	unsigned long done = 0;
 	long sum = 0;
 
@@ -186,7 +191,7 @@ double run(engine by, double seconds)
 	}
 	for (const node &it : nodes)
 		sum += it.value;
-	if (sum != static_cast<long>(done * now.takes) || (by <= wait_die && ww_close(&world)))
+	if (sum != static_cast<long>(done * now.takes) || ww_close(world))
 		std::exit(2);
 	return static_cast<double>(done) / took.count();
 }
@@ -210,20 +215,102 @@ template <class Fn> double cost(Fn &&fn)
 
 double cost_of_context(int kind)
 {
-	ww_world world;
+	ww_world *world;
+	int faults = 0;
 
-	if (ww_open(&world, kind, 1, 1))
+	if (ww_open(&world, kind, 2, 1))
 		std::exit(1);
-	ww_seat *s = ww_seat_get(&world);
-	const double it = cost([&] {
-		ww_acquire_init(s);
-		ww_lock(s, 0);
-		ww_unlock(s, 0);
-		ww_acquire_fini(s);
-	});
-	if (ww_seat_put(s) || ww_close(&world))
+	ww_seat *s = ww_seat_get(world);
+	const double it = cost([&] { faults |= ww_begin(s) | ww_lock(s, 1) | ww_unlock(s, 1) | ww_end(s); });
+	if (faults || ww_seat_put(s) || ww_close(world))
 		std::exit(2);
 	return it;
+}
+
+// How many bytes of the heap are in use.
+std::size_t heap()
+{
+	const auto told = mallinfo2();
+
+	return told.uordblks + told.hblkhd;
+}
+
+// A world of so many locks: the time to open it, to take all by one context, and to release them, each the best of some.
+void world_of(unsigned locks)
+{
+	using clock = std::chrono::steady_clock;
+	std::array<double, 4> best{ 1e9, 1e9, 1e9, 1e9 };
+	std::size_t bytes = 0;
+	const auto timed = [&best](unsigned which, auto &&fn) {
+		const auto from = clock::now();
+
+		if (fn())
+			std::exit(6);
+		best[which] = std::min(best[which], std::chrono::duration<double, std::milli>(clock::now() - from).count());
+	};
+
+	for (unsigned go = 0; go < goes; go++) {
+		ww_world *world;
+		const std::size_t before = heap();
+
+		timed(0, [&] { return ww_open(&world, WW_WOUND_WAIT, locks, WW_MAX_SEATS); });
+		bytes = std::max(bytes, heap() - before);
+		ww_seat *s = ww_seat_get(world);
+		const auto takes_all = [&] {
+			int r = ww_begin(s);
+
+			for (unsigned n = 0; n < locks && !r; n++)
+				r = ww_lock(s, n);
+			return r;
+		};
+		timed(1, takes_all);
+		timed(2, [&] { return ww_unlock_all(s) | ww_end(s); });
+		if (takes_all())
+			std::exit(6);
+		timed(3, [&] {
+			int r = 0;
+
+			for (unsigned n = 0; n < locks; n++)
+				r |= ww_unlock(s, n);
+			return r | ww_end(s);
+		});
+		if (ww_seat_put(s) || ww_close(world))
+			std::exit(2);
+	}
+	std::printf("%6u locks, 16 seats: %8.2f MiB, opened in %8.3f ms; all taken in %8.3f, released at once in %8.3f, in the "
+		    "order of taking in %9.3f\n",
+		    locks, static_cast<double>(bytes) / (1 << 20), best[0], best[1], best[2], best[3]);
+	std::fflush(stdout);
+}
+
+enum way { at_once, in_order, backwards };
+
+// For who counts instructions: contexts of one thread, which take locks from all over the world.
+void contexts(unsigned locks, unsigned takes, way by, unsigned times)
+{
+	ww_world *world;
+	int r = ww_open(&world, WW_WOUND_WAIT, locks, WW_MAX_SEATS);
+	ww_seat *s = r ? nullptr : ww_seat_get(world);
+	constexpr unsigned lists = 64;
+	std::vector<unsigned> drawn;
+
+	for (unsigned i = 0; i < lists; i++)
+		for (unsigned k = 0; k < takes; k++)
+			drawn.push_back((i * (locks / lists) + k * (locks / takes)) % locks);
+	for (unsigned i = 0; i < times && !r; i++) {
+		const unsigned *list = &drawn[i % lists * takes];
+
+		r = ww_begin(s);
+		for (unsigned k = 0; k < takes && !r; k++)
+			r = ww_lock(s, list[k]);
+		for (unsigned k = 0; k < takes && by == in_order && !r; k++)
+			r = ww_unlock(s, list[k]);
+		for (unsigned k = takes; k-- > 0 && by == backwards && !r;)
+			r = ww_unlock(s, list[k]);
+		r = r | (by == at_once ? ww_unlock_all(s) : 0) | ww_end(s);
+	}
+	if (r || ww_seat_put(s) || ww_close(world))
+		std::exit(7);
 }
 
 double cost_of_pair()
@@ -252,7 +339,7 @@ void row(double seconds)
 	std::array<double, engines> best{};
 
 	for (unsigned go = 0; go < goes; go++)
-		for (int by = 0; by < engines; by++)
+		for (unsigned by = 0; by < engines; by++)
 			best[by] = std::max(best[by], run(static_cast<engine>(by), seconds));
 	std::printf("%7u  %u of %-6u", now.threads, now.takes, now.locks);
 	for (double rate : best)
@@ -261,13 +348,19 @@ void row(double seconds)
 	std::fflush(stdout);
 }
 
+unsigned number(const char *word) { return static_cast<unsigned>(std::atoi(word)); }
+
 } // namespace
 
 int main(int count, char **words)
 {
+	if (count == 6 && !std::strcmp(words[1], "contexts")) {
+		contexts(number(words[2]), number(words[3]), static_cast<way>(number(words[4])), number(words[5]));
+		return 0;
+	}
 	const double seconds = count > 1 ? std::atof(words[1]) : 0.2;
 
-	pauses = count > 2 ? static_cast<unsigned>(std::atoi(words[2])) : 0;
+	pauses = count > 2 ? number(words[2]) : 0;
 	std::printf("thousand transactions a second, best of %u; at the end the first two against one mutex\n", goes);
 	std::printf("threads  locks      ");
 	for (const char *name : names)
@@ -281,5 +374,7 @@ int main(int count, char **words)
 		    cost_of_context(WW_WOUND_WAIT), cost_of_context(WW_WAIT_DIE));
 	std::printf("a pair of compare-exchanges %.1f; a mutex, locked and unlocked, %.1f\n",
 		    cost_of_pair(), cost_of_mutex());
+	for (unsigned locks : { 64u, 4096u, 65536u })
+		world_of(locks);
 	return 0;
 }

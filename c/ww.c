@@ -1,51 +1,26 @@
 /* ww.c - the waiting that the proved library leaves to its caller. */
 #define _GNU_SOURCE
-#include "ww.h"
+#include "ww_inside.h"
 #include <errno.h>
 #include <linux/futex.h>
 #include <sched.h>
+#include <stdlib.h>
 #include <string.h>
 #include <sys/syscall.h>
 #include <unistd.h>
 
-/* The proved library isn't built for the thread sanitizer, so that is told what orders the accesses under a lock. */
-#ifdef __has_feature
-#define SANITIZES_THREADS __has_feature(thread_sanitizer)
-#elif defined(__SANITIZE_THREAD__)
-#define SANITIZES_THREADS 1
-#else
-#define SANITIZES_THREADS 0
-#endif
-#if SANITIZES_THREADS
-#include <sanitizer/tsan_interface.h>
-#else
-static inline void __tsan_acquire(void *at) { (void)at; }
-static inline void __tsan_release(void *at) { (void)at; }
-#endif
-
-/* ww.py keeps so much room for a world. */
-_Static_assert(sizeof(ww_world) <= 2048, "a world fits");
+_Static_assert(sizeof(ww_seat) == 64, "a seat has one cache line");
 
 enum { NOTHING, TOKEN, ASLEEP };
+
+/* After so many nanoseconds it looks again whether a seat is free that can call it off. */
+enum { SOON = 1000000 };
 
 /* How many pauses come between two looks: they double, and after so many doublings another thread is let run. */
 enum { SPINS = 6, ROUNDS = 11 };
 
-/* A seat that holds locks stays away from one that it has just lost for a moment: others may wait for what it holds. */
-enum { MOST_PAUSES_HOLDING = 8 };
-
-/*
- * One that holds nothing glances twice, so many pauses apart.  Where the same
- * context still owns the lock, that has work of some length: the seat rests for
- * a while before each glance that is left.  Where another does, all are quick:
- * it rests the longer the more first tries it lost of late, before so many
- * glances in all.  So many that win make it forget one.
- */
-enum { MOMENT = 128, FEWEST = 8, MOST_PAUSES = 6144, GLANCES = 3 };
-enum { MOST_PAUSES_LONGER = 1024, MOST_LOSSES = 10, CALM = 128 };
-
-/* After so many pauses another thread may have the processor. */
-enum { BREATH = 64 };
+/* A call stays away for so many nanoseconds at the longest, however long a pause is, or others have the processor. */
+enum { STAY = 5000000 };
 
 static inline void pause_for(unsigned count)
 {
@@ -65,17 +40,53 @@ static void snooze(unsigned step)
 		pause_for(1u << step);
 }
 
-static void rest_for(unsigned count)
+void ww_futex_wait(uint32_t *word, uint32_t is, const struct timespec *until)
 {
-	for (; count >= BREATH; count -= BREATH) {
-		pause_for(BREATH);
-		sched_yield();
-	}
-	pause_for(count);
+	syscall(SYS_futex, word, FUTEX_WAIT_BITSET_PRIVATE, is, until, NULL, FUTEX_BITSET_MATCH_ANY);
 }
 
-/* Sleeps until the seat is woken. A token that was given before is kept, so that no wake-up is lost. */
-static void park(ww_seat *s)
+void ww_futex_wake(uint32_t *word) { syscall(SYS_futex, word, FUTEX_WAKE_PRIVATE, 1, NULL, NULL, 0); }
+
+bool ww_has_come(const struct timespec *until)
+{
+	struct timespec now;
+
+	clock_gettime(CLOCK_MONOTONIC, &now);
+	return now.tv_sec != until->tv_sec ? now.tv_sec > until->tv_sec : now.tv_nsec >= until->tv_nsec;
+}
+
+/* The time of the monotonic clock in so many nanoseconds, fewer than a second has. */
+static void from_now(struct timespec *at, long nanoseconds)
+{
+	clock_gettime(CLOCK_MONOTONIC, at);
+	at->tv_nsec += nanoseconds;
+	if (at->tv_nsec >= 1000000000) {
+		at->tv_nsec -= 1000000000;
+		at->tv_sec++;
+	}
+}
+
+static bool is_due(const struct ww_stop *stop)
+{
+	return (stop->asked && __atomic_load_n(stop->asked, __ATOMIC_SEQ_CST)) || (stop->until && ww_has_come(stop->until));
+}
+
+/* Until when a seat may sleep at the longest: where nobody could call it off yet, it tries again soon. */
+static const struct timespec *rises_by(const struct ww_stop *stop, struct timespec *soon)
+{
+	if (!stop || stop->sent)
+		return NULL;
+	if (!is_due(stop))
+		return stop->until;
+	from_now(soon, SOON);
+	return soon;
+}
+
+/*
+ * Sleeps until the seat is woken, or there is a reason to end the wait.  A token that
+ * was given before is kept, so that no wake-up is lost.
+ */
+static void park(ww_seat *s, const struct ww_stop *stop)
 {
 	uint32_t word = NOTHING;
 
@@ -84,62 +95,63 @@ static void park(ww_seat *s)
 			break;
 		snooze(step);
 	}
-	if (__atomic_compare_exchange_n(&s->token, &word, ASLEEP, false, __ATOMIC_SEQ_CST, __ATOMIC_SEQ_CST))
-		while (__atomic_load_n(&s->token, __ATOMIC_SEQ_CST) == ASLEEP)
-			syscall(SYS_futex, &s->token, FUTEX_WAIT_PRIVATE, ASLEEP, NULL, NULL, 0);
+	if (__atomic_compare_exchange_n(&s->token, &word, ASLEEP, false, __ATOMIC_SEQ_CST, __ATOMIC_SEQ_CST)) {
+		struct timespec soon;
+		const struct timespec *until = rises_by(stop, &soon);
+
+		while (__atomic_load_n(&s->token, __ATOMIC_SEQ_CST) == ASLEEP && !(until && ww_has_come(until)))
+			ww_futex_wait(&s->token, ASLEEP, until);
+	}
 	__atomic_store_n(&s->token, NOTHING, __ATOMIC_SEQ_CST);
 }
 
-static void unpark(ww_seat *s)
+void ww_unpark(ww_seat *s)
 {
 	if (__atomic_exchange_n(&s->token, TOKEN, __ATOMIC_SEQ_CST) == ASLEEP)
-		syscall(SYS_futex, &s->token, FUTEX_WAKE_PRIVATE, 1, NULL, NULL, 0);
+		ww_futex_wake(&s->token);
 }
 
 static void wake(const ww_seat *s, const bool *wakes)
 {
 	for (unsigned k = 0; k < s->world->count; k++)
 		if (wakes[k])
-			unpark(&s->world->seats[k]);
+			ww_unpark(&s->world->seats[k]);
 }
 
-/* How a call that lost its first try stays away from the lock: how often it glanced, and what it saw. */
-struct watch {
-	unsigned glances;
-	bool works; /* the owner has work of some length */
+/* How a call stays away from a lock that it has lost: until when, once it let another thread run, and that it is over. */
+struct stay {
+	struct timespec until;
+	bool yielded, over;
 };
 
-/* How many pauses come before the next glance; is_same: the owner is that of the glance before. */
-static unsigned pauses_before(ww_seat *s, struct watch *w, bool is_same)
+/* Rests as long as the library says. Once it is over, the few glances that are left follow at once. */
+static void rest(struct stay *stay, uint32_t pauses, bool yields)
 {
-	unsigned pauses, most;
-
-	w->glances++;
-	if (s->held)
-		return w->glances < 4 ? 1u << (w->glances - 1) : MOST_PAUSES_HOLDING;
-	if (w->glances == 1)
-		return MOMENT;
-	if (w->glances == 2 && is_same) {
-		w->works = true;
-		s->losses -= s->losses < 2 ? s->losses : 2; /* this one, and one more */
-	}
-	if (w->glances > GLANCES && !w->works)
-		return 0;
-	pauses = (unsigned)FEWEST << s->losses << (w->glances - 2);
-	most = w->works ? MOST_PAUSES_LONGER : MOST_PAUSES;
-	return pauses < most ? pauses : most;
+	if (stay->over)
+		return;
+	pause_for(pauses);
+	if (!yields)
+		return;
+	if (!stay->yielded)
+		from_now(&stay->until, STAY);
+	stay->yielded = true;
+	sched_yield();
+	stay->over = ww_has_come(&stay->until);
 }
 
-/* All turns of a call but the first. */
-static __attribute__((noinline, cold)) int go_on(ww_seat *s)
+__attribute__((noinline, cold)) int ww_go_on(ww_seat *s, struct ww_stop *stop)
 {
-	struct watch watch = { 0 };
+	struct stay stay = { 0 };
 	unsigned step = 0;
 
 	for (;;) {
 		bool wakes[WW_MAX_SEATS];
-		int r = ww_go_on_(&s->handle, wakes);
+		uint32_t pauses;
+		int r;
 
+		if (stop && !stop->sent && is_due(stop))
+			stop->sent = stop->call_off(stop->pool, s);
+		r = ww_go_on_(&s->handle, wakes, &pauses);
 		wake(s, wakes);
 		switch (r) {
 		case WW_AGAIN:
@@ -147,11 +159,11 @@ static __attribute__((noinline, cold)) int go_on(ww_seat *s)
 			step += step < ROUNDS;
 			break;
 		case WW_STAYS:
-		case WW_STAYS_LONGER:
-			rest_for(pauses_before(s, &watch, r == WW_STAYS_LONGER));
+		case WW_YIELDS:
+			rest(&stay, pauses, r == WW_YIELDS);
 			break;
 		case WW_SLEEPS:
-			park(s);
+			park(s, stop);
 			step = 0;
 			break;
 		default:
@@ -160,124 +172,201 @@ static __attribute__((noinline, cold)) int go_on(ww_seat *s)
 	}
 }
 
-int ww_open(ww_world *w, int kind, unsigned locks, unsigned seats)
+uint32_t ww_version(void) { return 10000 * WW_VERSION_MAJOR + 100 * WW_VERSION_MINOR + WW_VERSION_PATCH; }
+
+/* So many words have a bit for each lock. Without the thread sanitizer nobody asks which locks a seat holds. */
+static inline size_t words_for(uint32_t locks) { return SANITIZES_THREADS ? (locks + (size_t)63) / 64 : 0; }
+
+/* A world of seats that have done nothing yet, or NULL. */
+static ww_world *lay_out(uint32_t locks, uint32_t seats, const ww_handle *handles)
+{
+	size_t words = seats * words_for(locks), at = sizeof(ww_world) + seats * sizeof(ww_seat);
+	size_t size = at + words * sizeof(uint64_t) + (SANITIZES_THREADS ? locks : 0);
+	ww_world *w = aligned_alloc(_Alignof(ww_world), (size + 63) / 64 * 64);
+
+	if (!w)
+		return NULL;
+	memset(w, 0, size);
+	w->locks = locks;
+	w->count = seats;
+	w->marks = (uint64_t *)(void *)((char *)w + at);
+	w->orders = (char *)(w->marks + words);
+	for (uint32_t k = 0; k < seats; k++) {
+		w->seats[k].handle = handles[k];
+		w->seats[k].world = w;
+	}
+	return w;
+}
+
+int ww_open(ww_world **world, int kind, uint32_t locks, uint32_t seats)
 {
 	ww_handle handles[WW_MAX_SEATS] = { { 0 } };
 	int r;
 
-	memset(w, 0, sizeof *w);
-	if (locks > WW_MAX_LOCKS || seats > WW_MAX_SEATS)
+	if (!world)
 		return -EINVAL;
-	r = ww_open_((uint32_t)kind, (uint8_t)locks, ((uint64_t)1 << 52) - 1, handles, seats);
+	*world = NULL;
+	if (seats > WW_MAX_SEATS)
+		return -EINVAL;
+	r = ww_open_((uint32_t)kind, locks, ((uint64_t)1 << 52) - 1, handles, seats);
 	if (r)
 		return r;
-	w->count = seats;
-	for (unsigned k = 0; k < seats; k++) {
-		w->seats[k].handle = handles[k];
-		w->seats[k].world = w;
-	}
-	return 0;
+	*world = lay_out(locks, seats, handles);
+	if (*world)
+		return 0;
+	for (uint32_t k = 0; k < seats; k++)
+		ww_close_(&handles[k]);
+	return -ENOMEM;
 }
 
 int ww_close(ww_world *w)
 {
-	for (unsigned k = 0; k < w->count; k++)
+	if (!w)
+		return 0;
+	for (uint32_t k = 0; k < w->count; k++)
 		if (__atomic_load_n(&w->seats[k].taken, __ATOMIC_ACQUIRE) || ww_idle_(&w->seats[k].handle))
 			return -EBUSY;
-	for (unsigned k = 0; k < w->count; k++)
+	for (uint32_t k = 0; k < w->count; k++)
 		ww_close_(&w->seats[k].handle);
-	w->count = 0;
+	free(w);
 	return 0;
 }
 
+/* In turn, so that one who gives a seat back twice is told so wherever another is free. */
 ww_seat *ww_seat_get(ww_world *w)
 {
-	for (unsigned k = 0; k < w->count; k++)
-		if (!__atomic_exchange_n(&w->seats[k].taken, true, __ATOMIC_ACQUIRE))
-			return &w->seats[k];
+	uint32_t first = w ? __atomic_fetch_add(&w->turn, 1, __ATOMIC_RELAXED) % w->count : 0;
+
+	for (uint32_t k = 0; w && k < w->count; k++) {
+		ww_seat *s = &w->seats[(first + k) % w->count];
+
+		if (!__atomic_exchange_n(&s->taken, true, __ATOMIC_ACQUIRE))
+			return s;
+	}
 	return NULL;
 }
 
 int ww_seat_put(ww_seat *s)
 {
-	int r = ww_idle_(&s->handle);
+	int r;
 
-	if (!r)
-		__atomic_store_n(&s->taken, false, __ATOMIC_RELEASE);
-	return r;
+	if (!s)
+		return -EINVAL;
+	r = ww_idle_(&s->handle);
+	if (r)
+		return r;
+	drop_cancel(s);
+	return __atomic_exchange_n(&s->taken, false, __ATOMIC_RELEASE) ? 0 : -EINVAL;
 }
 
-int ww_acquire_init(ww_seat *s) { return ww_begin_(&s->handle); }
-int ww_acquire_done(ww_seat *s) { return ww_done_(&s->handle); }
-int ww_acquire_fini(ww_seat *s) { return ww_end_(&s->handle); }
+int ww_begin(ww_seat *s) { return s ? ww_begin_(&s->handle) : -EINVAL; }
+int ww_done(ww_seat *s) { return s ? ww_done_(&s->handle) : -EINVAL; }
+int ww_end(ww_seat *s) { return s ? ww_end_(&s->handle) : -EINVAL; }
+uint32_t ww_held(const ww_seat *s) { return s ? s->held : 0; }
 
-/* What the first try for a lock came to: how long the seat stays away the next time. */
-static inline void remember(ww_seat *s, bool won)
+/* Where the thread sanitizer's part keeps which locks the seat holds. */
+static inline uint64_t *marks_of(ww_seat *s)
 {
-	if (!won) {
-		s->losses += s->losses < MOST_LOSSES;
-	} else if (s->losses && ++s->wins >= CALM) {
-		s->wins = 0;
-		s->losses--;
+	return s->world->marks + (size_t)(s - s->world->seats) * words_for(s->world->locks);
+}
+
+static inline void take(ww_seat *s, uint32_t n)
+{
+	s->held++;
+	if (SANITIZES_THREADS) {
+		marks_of(s)[n / 64] |= (uint64_t)1 << n % 64;
+		__tsan_acquire(&s->world->orders[n]);
 	}
 }
 
-static inline void take(ww_seat *s, unsigned n)
+static inline void forget(ww_seat *s, uint32_t n)
 {
-	s->held |= (uint64_t)1 << n;
-	__tsan_acquire(&s->world->orders[n]);
+	s->held--;
+	if (SANITIZES_THREADS)
+		marks_of(s)[n / 64] &= ~((uint64_t)1 << n % 64);
 }
 
-/* All of these are about to be given back. */
-static inline void release(ww_seat *s, uint64_t locks)
+static inline void forget_all(ww_seat *s)
 {
-	for (unsigned n = 0; SANITIZES_THREADS && n < WW_MAX_LOCKS; n++)
-		if (locks >> n & 1)
-			__tsan_release(&s->world->orders[n]);
+	s->held = 0;
+	for (size_t k = 0; k < words_for(s->world->locks); k++)
+		marks_of(s)[k] = 0;
 }
 
-static inline int locked(ww_seat *s, unsigned n, int r)
+/* This lock, if the seat holds it, is about to be released. */
+static inline void release(ww_seat *s, uint32_t n)
 {
-	if (r >= 0)
-		remember(s, r == 0);
+	if (SANITIZES_THREADS && n < s->world->locks && marks_of(s)[n / 64] >> n % 64 & 1)
+		__tsan_release(&s->world->orders[n]);
+}
+
+static inline void release_all(ww_seat *s)
+{
+	for (size_t k = 0; k < words_for(s->world->locks); k++)
+		for (uint64_t left = marks_of(s)[k]; left; left &= left - 1)
+			__tsan_release(&s->world->orders[64 * k + (size_t)__builtin_ctzll(left)]);
+}
+
+static inline int locked(ww_seat *s, uint32_t n, int r)
+{
 	if (r > 0)
-		r = go_on(s);
+		r = ww_go_on(s, NULL);
 	if (r == 0)
 		take(s, n);
 	return r;
 }
 
-/* No world has a lock of the number that a greater one becomes. */
-static inline uint8_t number(unsigned n) { return n < WW_MAX_LOCKS ? (uint8_t)n : WW_MAX_LOCKS; }
+int ww_lock(ww_seat *s, uint32_t n) { return s ? locked(s, n, ww_lock_(&s->handle, n, false)) : -EINVAL; }
+int ww_lock_slow(ww_seat *s, uint32_t n) { return s ? locked(s, n, ww_lock_slow_(&s->handle, n, false)) : -EINVAL; }
 
-int ww_lock(ww_seat *s, unsigned n) { return locked(s, n, ww_lock_(&s->handle, number(n), false)); }
-int ww_lock_interruptible(ww_seat *s, unsigned n) { return locked(s, n, ww_lock_(&s->handle, number(n), true)); }
-int ww_lock_slow(ww_seat *s, unsigned n) { return locked(s, n, ww_lock_slow_(&s->handle, number(n), false)); }
-int ww_lock_slow_interruptible(ww_seat *s, unsigned n)
+/* Whether the wait was called off by a cancel for a former user of the seat: then the call is made again. */
+static inline bool was_stale(ww_seat *s, int r)
 {
-	return locked(s, n, ww_lock_slow_(&s->handle, number(n), true));
+	if (r != -EINTR)
+		return false;
+	s->stops++;
+	return __atomic_exchange_n(&s->stale, false, __ATOMIC_SEQ_CST);
 }
 
-int ww_trylock(ww_seat *s, unsigned n)
+int ww_lock_interruptible(ww_seat *s, uint32_t n)
 {
-	int r = ww_try_(&s->handle, number(n));
+	int r = -EINVAL;
+
+	while (s && was_stale(s, r = locked(s, n, ww_lock_(&s->handle, n, true))))
+		;
+	return r;
+}
+
+int ww_lock_slow_interruptible(ww_seat *s, uint32_t n)
+{
+	int r = -EINVAL;
+
+	while (s && was_stale(s, r = locked(s, n, ww_lock_slow_(&s->handle, n, true))))
+		;
+	return r;
+}
+
+int ww_trylock(ww_seat *s, uint32_t n)
+{
+	int r = s ? ww_try_(&s->handle, n) : -EINVAL;
 
 	if (r == 0)
 		take(s, n);
 	return r;
 }
 
-int ww_unlock(ww_seat *s, unsigned n)
+int ww_unlock(ww_seat *s, uint32_t n)
 {
-	uint64_t lock = n < WW_MAX_LOCKS ? (uint64_t)1 << n : 0;
 	int r;
 
-	release(s, s->held & lock);
-	r = ww_unlock_(&s->handle, number(n));
+	if (!s)
+		return -EINVAL;
+	release(s, n);
+	r = ww_unlock_(&s->handle, n);
 	if (r > 0)
-		r = go_on(s);
+		r = ww_go_on(s, NULL);
 	if (r == 0)
-		s->held &= ~lock;
+		forget(s, n);
 	return r;
 }
 
@@ -285,23 +374,36 @@ int ww_unlock_all(ww_seat *s)
 {
 	int r;
 
-	release(s, s->held);
+	if (!s)
+		return -EINVAL;
+	release_all(s);
 	while ((r = ww_unlock_all_(&s->handle)) > 0)
-		go_on(s);
+		ww_go_on(s, NULL);
 	if (r == 0)
-		s->held = 0;
+		forget_all(s);
 	return r;
+}
+
+/* Where a cancel for a former user is still pending, that becomes the cancel for this one, unless it was just met. */
+static int cancelled(ww_seat *s, ww_seat *victim)
+{
+	for (;;) {
+		bool stale = __atomic_load_n(&victim->stale, __ATOMIC_SEQ_CST), wakes[WW_MAX_SEATS];
+		int r = ww_cancel_(&s->handle, (uint8_t)(victim - victim->world->seats), wakes);
+
+		wake(s, wakes);
+		if (r == 0)
+			__atomic_fetch_add(&victim->cancels, 1, __ATOMIC_SEQ_CST);
+		if (r != -EALREADY || !stale)
+			return r;
+		if (__atomic_exchange_n(&victim->stale, false, __ATOMIC_SEQ_CST))
+			return 0;
+	}
 }
 
 int ww_cancel(ww_seat *s, ww_seat *victim)
 {
-	bool wakes[WW_MAX_SEATS];
-	int r;
-
-	/* A seat that was never opened has no world. */
-	if (!s->world || s->world != victim->world)
+	if (!s || !victim || s->world != victim->world || !__atomic_load_n(&victim->taken, __ATOMIC_ACQUIRE))
 		return -EINVAL;
-	r = ww_cancel_(&s->handle, (uint8_t)(victim - victim->world->seats), wakes);
-	wake(s, wakes);
-	return r;
+	return cancelled(s, victim);
 }

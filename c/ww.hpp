@@ -4,7 +4,9 @@
 #include "ww.h"
 #include <algorithm>
 #include <cerrno>
+#include <cstdint>
 #include <iterator>
+#include <limits>
 #include <optional>
 #include <utility>
 
@@ -12,22 +14,22 @@ namespace ww {
 
 enum class kind { wound_wait = WW_WOUND_WAIT, wait_die = WW_WAIT_DIE };
 
-// A world of locks. It stays where it is, and outlives its seats.
+// A world of locks, 0 to locks - 1. It outlives its seats.
 class world {
-	ww_world it_;
+	ww_world *it_ = nullptr;
 	int error_;
 
 public:
-	world(kind k, unsigned locks, unsigned seats) noexcept
+	world(kind k, std::uint32_t locks, std::uint32_t seats) noexcept
 		: error_(ww_open(&it_, static_cast<int>(k), locks, seats))
 	{
 	}
-	~world() { ww_close(&it_); }
+	~world() { ww_close(it_); }
 	world(const world &) = delete;
 	world &operator=(const world &) = delete;
 	// 0, or why it isn't open: -EINVAL or -ENOMEM.
-	int error() const noexcept { return error_; }
-	ww_world *get() noexcept { return &it_; }
+	[[nodiscard]] int error() const noexcept { return error_; }
+	ww_world *get() noexcept { return it_; }
 };
 
 // A seat of a world, for one thread; empty where none was free.
@@ -35,41 +37,43 @@ class seat {
 	ww_seat *it_;
 
 public:
-	explicit seat(world &w) noexcept : it_(w.error() ? nullptr : ww_seat_get(w.get())) {}
+	explicit seat(world &w) noexcept : it_(ww_seat_get(w.get())) {}
 	~seat()
 	{
-		if (it_) {
-			ww_unlock_all(it_);
-			ww_acquire_fini(it_);
-			ww_seat_put(it_);
-		}
+		ww_unlock_all(it_);
+		ww_end(it_);
+		ww_seat_put(it_);
 	}
 	seat(const seat &) = delete;
 	seat &operator=(const seat &) = delete;
 	explicit operator bool() const noexcept { return it_ != nullptr; }
 	ww_seat *get() noexcept { return it_; }
+	// Calls off the interruptible wait of another seat, as ww_cancel.
+	int cancel(seat &victim) noexcept { return ww_cancel(it_, victim.it_); }
 };
 
-// A context: it is begun, and at its end gives all locks back and ends. One that wasn't begun answers why to each call.
+// A context: it is begun, and at its end releases all locks and ends. One that wasn't begun answers why to each call.
 class context {
-	static constexpr unsigned none = WW_MAX_LOCKS;
+	static constexpr std::uint32_t none = std::numeric_limits<std::uint32_t>::max(); // no world has a lock of this number
 	ww_seat *s_;
 	int error_;
-	unsigned told_ = none; // the lock for which it was told to back off last
+	std::uint32_t told_ = none; // the lock for which it was told to back off last
 
-	struct gives_all {
+	struct releases_all {
 		ww_seat *s;
-		~gives_all() { ww_unlock_all(s); }
+		~releases_all() { ww_unlock_all(s); }
 	};
 
-	// Takes locks until none of them makes it back off, calls fn, and gives all back, also where a callable throws.
+	// Takes locks until none of them makes it back off, calls fn, and releases all, also where a callable throws.
 	template <class Takes, class Fn> int holding(Takes &&takes, Fn &&fn)
 	{
 		int r = error_;
 
 		if (r)
 			return r;
-		gives_all at_end{ s_ };
+		if (held())
+			return -EINVAL;
+		releases_all at_end{ s_ };
 
 		told_ = none;
 		while ((r = takes()) == -EDEADLK && !(r = back_off()))
@@ -79,55 +83,77 @@ class context {
 		return r;
 	}
 
-	int of_begun(int (*call)(ww_seat *, unsigned), unsigned n) noexcept { return error_ ? error_ : call(s_, n); }
-
-public:
-	explicit context(seat &s) noexcept : s_(s.get()), error_(s_ ? ww_acquire_init(s_) : -EBUSY) {}
-	~context()
+	// An integer of any type. One that no lock has becomes WW_MAX_LOCKS, which is no lock either, and not `none`.
+	template <class N> static constexpr std::uint32_t number(N n) noexcept
 	{
-		if (!error_) {
-			ww_unlock_all(s_);
-			ww_acquire_fini(s_);
-		}
+		return static_cast<std::uint32_t>(std::min<std::uintmax_t>(static_cast<std::uintmax_t>(n), WW_MAX_LOCKS));
 	}
-	context(const context &) = delete;
-	context &operator=(const context &) = delete;
-	// 0, or why it wasn't begun: that of ww_acquire_init, or -EBUSY where the seat is empty.
-	int error() const noexcept { return error_; }
-	int lock(unsigned n) noexcept
+
+	int of_begun(int (*call)(ww_seat *, std::uint32_t), std::uint32_t n) noexcept
 	{
-		int r = of_begun(ww_lock, n);
+		const int r = error_ ? error_ : call(s_, n);
 
 		if (r == -EDEADLK)
 			told_ = n;
 		return r;
 	}
-	// After -EDEADLK: gives all back, and takes the lock that it was told of, waiting for it.
-	int back_off() noexcept
+
+public:
+	explicit context(seat &s) noexcept : s_(s.get()), error_(s_ ? ww_begin(s_) : -EBUSY) {}
+	~context()
 	{
-		if (!error_)
+		if (!error_) {
 			ww_unlock_all(s_);
+			ww_end(s_);
+		}
+	}
+	context(const context &) = delete;
+	context &operator=(const context &) = delete;
+	// 0, or why it wasn't begun: that of ww_begin, or -EBUSY where the seat is empty.
+	[[nodiscard]] int error() const noexcept { return error_; }
+	// How many locks it holds.
+	std::uint32_t held() const noexcept { return error_ ? 0 : ww_held(s_); }
+	// The calls of ww.h of these names. A number is an integer of any type; what no lock has is -EINVAL.
+	template <class N> [[nodiscard]] int lock(N n) noexcept { return of_begun(ww_lock, number(n)); }
+	template <class N> [[nodiscard]] int lock_interruptible(N n) noexcept
+	{
+		return of_begun(ww_lock_interruptible, number(n));
+	}
+	template <class N> [[nodiscard]] int try_lock(N n) noexcept { return of_begun(ww_trylock, number(n)); }
+	template <class N> int unlock(N n) noexcept { return of_begun(ww_unlock, number(n)); }
+	int unlock_all() noexcept { return error_ ? error_ : ww_unlock_all(s_); }
+	int done() noexcept { return error_ ? error_ : ww_done(s_); }
+	// After -EDEADLK: releases all, and acquires the lock that it was told of, waiting for it.
+	[[nodiscard]] int back_off() noexcept
+	{
+		unlock_all();
 		return of_begun(ww_lock_slow, told_);
 	}
-	int try_lock(unsigned n) noexcept { return of_begun(ww_trylock, n); }
-	int unlock(unsigned n) noexcept { return of_begun(ww_unlock, n); }
-	int done() noexcept { return error_ ? error_ : ww_acquire_done(s_); }
+	// The same, but a cancel may call the wait off: -EINTR.
+	[[nodiscard]] int back_off_interruptible() noexcept
+	{
+		unlock_all();
+		return of_begun(ww_lock_slow_interruptible, told_);
+	}
 
 	/*
-	 * Three ways to take many locks.  Each backs off by itself, calls fn while all
-	 * are held, and gives all back, also what the context held before.  They answer
-	 * 0, or the error of a lock call without calling fn: -EALREADY for a lock that a
-	 * list has twice, -EINVAL for one that isn't there.
+	 * Three ways to take many locks, for a context that holds none: with one held
+	 * they answer -EINVAL, also from within each other's fn.  Each backs off by
+	 * itself, calls fn while all are held, and releases all.  They answer 0, or the
+	 * error of a lock call without calling fn: -EALREADY for a lock that a list has
+	 * twice, -EINVAL for one that isn't there.
 	 */
 
 	// A list that stays as it is: the lock that was waited for is skipped once.
-	template <class List, class Fn> int lock_all(const List &list, Fn &&fn)
+	template <class List, class Fn> [[nodiscard]] int lock_all(const List &list, Fn &&fn)
 	{
 		return holding(
 			[&] {
-				unsigned skips = told_;
+				std::uint32_t skips = told_;
 
-				for (unsigned n : list) {
+				for (const auto &it : list) {
+					const std::uint32_t n = number(it);
+
 					if (n == skips)
 						skips = none;
 					else if (int r = lock(n))
@@ -139,7 +165,7 @@ public:
 	}
 
 	// A list that may be reordered: the lock that was waited for moves to its head.
-	template <class List, class Fn> int lock_all_moving(List &list, Fn &&fn)
+	template <class List, class Fn> [[nodiscard]] int lock_all_moving(List &list, Fn &&fn)
 	{
 		return holding(
 			[&] {
@@ -161,12 +187,12 @@ public:
 	 * It may read what the locks guard that it told since it was last asked with
 	 * starts, and may tell one that is held.  After a back-off it starts again.
 	 */
-	template <class Next, class Fn> int lock_walk(Next &&next, Fn &&fn)
+	template <class Next, class Fn> [[nodiscard]] int lock_walk(Next &&next, Fn &&fn)
 	{
 		return holding(
 			[&] {
-				for (std::optional<unsigned> n = next(true); n; n = next(false)) {
-					int r = lock(*n);
+				for (auto n = next(true); n; n = next(false)) {
+					const int r = lock(*n);
 
 					if (r && r != -EALREADY)
 						return r;

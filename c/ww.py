@@ -1,64 +1,154 @@
-"""The wound/wait locks of ww.h, by ctypes over libww.so."""
+"""The wound/wait locks of ww.h, by ctypes over libww.so.
+
+An answer that isn't 0 comes as an OSError with its errno. A lock is a number; one that no lock has is EINVAL, however wide
+it is. An interrupt from the keyboard is met once the lock is there.
+"""
 import contextlib
 import ctypes
 import errno
+import operator
 import os
 
 WOUND_WAIT, WAIT_DIE = 0, 1
-_WORLD, _ALIGNED = 2048, 64
+_VERSION = 2
+_LARGEST = 2**32 - 1
+
+
+class _Number:
+    """A number of 32 bits. What is wider, or below 0, becomes the largest one, which no world has."""
+
+    @classmethod
+    def from_param(cls, number):
+        number = operator.index(number)
+        return ctypes.c_uint32(number if 0 <= number <= _LARGEST else _LARGEST)
+
+
+_SEAT = ctypes.c_void_p
+_CALLS = {
+    "ww_open": (ctypes.c_int, ctypes.POINTER(ctypes.c_void_p), _Number, _Number, _Number),
+    "ww_close": (ctypes.c_int, ctypes.c_void_p),
+    "ww_seat_get": (ctypes.c_void_p, ctypes.c_void_p),
+    "ww_cancel": (ctypes.c_int, _SEAT, _SEAT),
+    "ww_held": (ctypes.c_uint32, _SEAT),
+    "ww_version": (ctypes.c_uint32,),
+}
+_CALLS |= {f"ww_{it}": (ctypes.c_int, _SEAT) for it in ("seat_put", "begin", "done", "end", "unlock_all")}
+_LOCKS = ("lock", "lock_interruptible", "lock_slow", "lock_slow_interruptible", "trylock", "unlock")
+_CALLS |= {f"ww_{it}": (ctypes.c_int, _SEAT, _Number) for it in _LOCKS}
+
+
+def _library(path):
+    """The library, with the types of its calls."""
+    library = ctypes.CDLL(path)
+    for name, (result, *words) in _CALLS.items():
+        call = getattr(library, name)
+        call.restype, call.argtypes = result, words
+    if library.ww_version() // 10000 != _VERSION:
+        raise OSError(errno.ELIBACC, f"{path} has another interface")
+    return library
 
 
 class World:
     """A world of locks. Open it with the path of libww.so; each thread takes a seat of it."""
 
     def __init__(self, path, kind, locks, seats):
-        self.lib = ctypes.CDLL(path)
-        self.lib.ww_seat_get.restype = ctypes.c_void_p
-        self.memory = ctypes.create_string_buffer(_WORLD + _ALIGNED)
-        self.at = ctypes.c_void_p((ctypes.addressof(self.memory) + _ALIGNED - 1) // _ALIGNED * _ALIGNED)
-        told(self.lib.ww_open(self.at, kind, locks, seats))
+        self._library, self._at = _library(path), ctypes.c_void_p()
+        told(self._library.ww_open(ctypes.byref(self._at), kind, locks, seats))
 
     def close(self):
-        told(self.lib.ww_close(self.at))
+        """Closes the world; once more does nothing."""
+        told(self._library.ww_close(self._at))
+        self._at = ctypes.c_void_p()
 
     @contextlib.contextmanager
     def seat(self):
-        at = ctypes.c_void_p(self.lib.ww_seat_get(self.at))
+        """A seat, until the end of the block."""
+        at = self._library.ww_seat_get(self._at)
         if not at:
             raise OSError(errno.EBUSY, "no seat is free")
+        seat = Seat(self._library, at)
         try:
-            yield Seat(self.lib, at)
+            yield seat
         finally:
-            told(self.lib.ww_seat_put(at))
+            seat.unlock_all()
+            self._library.ww_end(at)
+            seat._at = None
+            told(self._library.ww_seat_put(at))
 
 
 class Seat:
-    """A seat, for one thread."""
+    """A seat, for one thread. It can be used within its block alone: afterwards each call is EINVAL."""
 
-    def __init__(self, lib, at):
-        self.lib, self.at = lib, at
+    def __init__(self, library, at):
+        self._library, self._at = library, at
+
+    def begin(self):
+        """Begins a context."""
+        told(self._library.ww_begin(self._at))
+
+    def done(self):
+        """The context has all its locks."""
+        told(self._library.ww_done(self._at))
+
+    def end(self):
+        """Ends the context, which holds none."""
+        told(self._library.ww_end(self._at))
+
+    def lock(self, lock, interruptible=False):
+        """Acquires the lock, and waits for it; if interruptible, a cancel may call the wait off (EINTR)."""
+        told((self._library.ww_lock_interruptible if interruptible else self._library.ww_lock)(self._at, lock))
+
+    def lock_slow(self, lock, interruptible=False):
+        """The same after EDEADLK of this lock, with nothing held."""
+        call = self._library.ww_lock_slow_interruptible if interruptible else self._library.ww_lock_slow
+        told(call(self._at, lock))
+
+    def trylock(self, lock):
+        """Acquires the lock if nobody has it or waits for it; whether it did."""
+        code = self._library.ww_trylock(self._at, lock)
+        if code != -errno.EBUSY:
+            told(code)
+        return code == 0
+
+    def unlock(self, lock):
+        """Releases the lock."""
+        told(self._library.ww_unlock(self._at, lock))
+
+    def unlock_all(self):
+        """Releases all."""
+        told(self._library.ww_unlock_all(self._at))
+
+    def held(self):
+        """How many locks it holds."""
+        return self._library.ww_held(self._at)
+
+    def cancel(self, victim):
+        """Calls off the interruptible wait of another seat, now or its next one."""
+        told(self._library.ww_cancel(self._at, victim._at))
 
     @contextlib.contextmanager
-    def holding(self, locks):
+    def holding(self, locks, interruptible=False):
         """A context that holds these locks, taken in this order; one for which it had to back off moves to the head."""
-        told(self.lib.ww_acquire_init(self.at))
+        self.begin()
         try:
-            order, take, at = list(locks), self.lib.ww_lock, 0
+            order, take, at = list(locks), self.lock, 0
             while at < len(order):
-                code = take(self.at, order[at])
-                if code == -errno.EDEADLK:
-                    told(self.lib.ww_unlock_all(self.at))
+                try:
+                    take(order[at], interruptible)
+                    take, at = self.lock, at + 1
+                except OSError as error:
+                    if error.errno != errno.EDEADLK:
+                        raise
+                    self.unlock_all()
                     order.insert(0, order.pop(at))
-                    take, at = self.lib.ww_lock_slow, 0
-                else:
-                    told(code)
-                    take, at = self.lib.ww_lock, at + 1
+                    take, at = self.lock_slow, 0
             yield
         finally:
-            told(self.lib.ww_unlock_all(self.at))
-            told(self.lib.ww_acquire_fini(self.at))
+            self.unlock_all()
+            self.end()
 
 
 def told(code):
+    """Raises what a call answered, if that isn't 0."""
     if code:
         raise OSError(-code, os.strerror(-code))

@@ -3,51 +3,63 @@
 #include <errno.h>
 #include <pthread.h>
 #include <stdio.h>
+#include <string.h>
 
 enum { THREADS = 4, ACCOUNTS = 16, TIMES = 50000 };
 
-static ww_world world;
+static ww_world *world;
 static long accounts[ACCOUNTS];
+static int ended; /* threads that did all they were to do */
 
-static void swap(unsigned *one, unsigned *other)
+static void swap(uint32_t *one, uint32_t *other)
 {
-	unsigned was = *one;
+	uint32_t was = *one;
 
 	*one = *other;
 	*other = was;
 }
 
-/* Moves 1, with both locks held. Where it has to back off it starts with the lock that it was told. */
-static void transfer(ww_seat *s, unsigned from, unsigned to)
+/* Moves 1, with both locks held: 0, or why it couldn't. */
+static int transfer(ww_seat *s, uint32_t from, uint32_t to)
 {
-	unsigned one = from, other = to;
+	uint32_t one = from, other = to;
+	int r = ww_begin(s);
 
-	ww_acquire_init(s);
-	ww_lock(s, one);                                /* the first lock of a context is never refused */
-	while (ww_lock(s, other) == -EDEADLK) {         /* an older context has to go first */
+	if (r)
+		return r;
+	r = ww_lock(s, one);
+	while (!r && (r = ww_lock(s, other)) == -EDEADLK) { /* an older context has to go first */
 		ww_unlock_all(s);
-		ww_lock_slow(s, other);                 /* waits until that one is done */
+		r = ww_lock_slow(s, other);                 /* waits until that one is done */
 		swap(&one, &other);
 	}
-	ww_acquire_done(s);
-	accounts[from] -= 1;
-	accounts[to] += 1;
+	if (!r) {
+		ww_done(s);
+		accounts[from] -= 1;
+		accounts[to] += 1;
+	}
 	ww_unlock_all(s);
-	ww_acquire_fini(s);
+	ww_end(s);
+	return r;
 }
 
 static void *work(void *arg)
 {
-	ww_seat *s = ww_seat_get(&world);
+	ww_seat *s = ww_seat_get(world);
 	unsigned x = (unsigned)(size_t)arg + 1;
+	int r = s ? 0 : -EBUSY;
 
-	for (int i = 0; i < TIMES; i++) {
+	for (int i = 0; i < TIMES && !r; i++) {
 		x = x * 1664525u + 1013904223u;
-		unsigned from = x >> 8 & 15, to = x >> 16 & 15;
+		uint32_t from = x >> 8 & 15, to = x >> 16 & 15;
 
 		if (from != to)
-			transfer(s, from, to);
+			r = transfer(s, from, to);
 	}
+	if (r)
+		fprintf(stderr, "transfers: %s\n", strerror(-r));
+	else
+		__atomic_fetch_add(&ended, 1, __ATOMIC_RELAXED);
 	ww_seat_put(s);
 	return NULL;
 }
@@ -60,11 +72,12 @@ int main(void)
 	if (ww_open(&world, WW_WAIT_DIE, ACCOUNTS, THREADS))
 		return 1;
 	for (size_t k = 0; k < THREADS; k++)
-		pthread_create(&threads[k], NULL, work, (void *)k);
+		if (pthread_create(&threads[k], NULL, work, (void *)k))
+			return 1;
 	for (size_t k = 0; k < THREADS; k++)
 		pthread_join(threads[k], NULL);
 	for (int k = 0; k < ACCOUNTS; k++)
 		sum += accounts[k];
 	printf("transfers: the sum is %ld\n", sum);
-	return sum != 0 || ww_close(&world);
+	return sum || ended != THREADS || ww_close(world);
 }

@@ -7,7 +7,7 @@
 
 enum { TIMES = 100000, NAPS = 64 };
 
-static ww_world world;
+static ww_world *world;
 static unsigned long counters[2], backs[2];
 static pthread_barrier_t both;
 
@@ -34,17 +34,17 @@ static unsigned long lock_both(ww_seat *s, unsigned one, unsigned other, bool na
 static void *work(void *arg)
 {
 	unsigned me = (unsigned)(size_t)arg;
-	ww_seat *s = ww_seat_get(&world);
+	ww_seat *s = ww_seat_get(world);
 
 	MUST(s);
 	pthread_barrier_wait(&both);
 	for (unsigned long i = 0; i < TIMES; i++) {
-		MUST(!ww_acquire_init(s));
+		MUST(!ww_begin(s));
 		backs[me] += lock_both(s, me, !me, i % NAPS == 0);
-		MUST(!ww_acquire_done(s) && ww_lock(s, 0) == -EALREADY);
+		MUST(!ww_done(s) && ww_lock(s, 0) == -EALREADY);
 		counters[0]++;
 		counters[1]++;
-		MUST(!ww_unlock(s, i & 1) && !ww_unlock_all(s) && !ww_acquire_fini(s));
+		MUST(!ww_unlock(s, i & 1) && !ww_unlock_all(s) && !ww_end(s));
 	}
 	MUST(!ww_seat_put(s));
 	return NULL;
@@ -59,7 +59,7 @@ int main(void)
 		in_threads(2, work);
 		MUST(counters[0] == 2ul * TIMES && counters[1] == 2ul * TIMES && backs[0] + backs[1]);
 		printf("abba %s: back-offs %lu %lu\n", kind ? "wait-die" : "wound-wait", backs[0], backs[1]);
-		MUST(!ww_close(&world) && !ww_close(&world));
+		MUST(!ww_close(world));
 	}
 	return 0;
 }

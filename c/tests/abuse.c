@@ -14,9 +14,7 @@ static unsigned long added[THREADS][LOCKS], times = 2000000;
 static int turned(unsigned me, int r)
 {
 	while (r > 0) {
-		bool wakes[WW_MAX_SEATS];
-
-		r = ww_go_on_(&handles[me], wakes); /* never sleeps: who looks again needs no waking */
+		r = turn(&handles[me]); /* never sleeps: who looks again needs no waking */
 		if (r > 0)
 			sched_yield();
 	}
@@ -25,7 +23,7 @@ static int turned(unsigned me, int r)
 
 static bool is_code(int r)
 {
-	return (r >= 0 && r <= WW_STAYS_LONGER) || r == -EINTR || r == -EBUSY || r == -EINVAL || r == -ENOSPC ||
+	return (r >= 0 && r <= WW_YIELDS) || r == -EINTR || r == -EBUSY || r == -EINVAL || r == -ENOSPC ||
 	       r == -EDEADLK || r == -EALREADY;
 }
 
@@ -92,7 +90,12 @@ static void any(struct mine *m, unsigned op, unsigned n, bool heeds)
 	case 0: r = ww_begin_(h); break;
 	case 1: r = ww_end_(h); break;
 	case 2: r = ww_done_(h); break;
-	case 3: r = ww_cancel_(h, (uint8_t)(n % 20), wakes); break;
+	case 3:
+		r = ww_cancel_(h, (uint8_t)n, wakes);
+		MUST(n < THREADS || r == (m->pending ? -EBUSY : -EINVAL)); /* no such seat */
+		for (unsigned k = THREADS; k < WW_MAX_SEATS; k++)
+			MUST(!wakes[k]);
+		break;
 	case 4: r = ww_try_(h, (uint8_t)n);
 		if (!r)
 			m->own[n] = true;
@@ -120,7 +123,7 @@ static void any(struct mine *m, unsigned op, unsigned n, bool heeds)
 		break;
 	case 10: r = idle(m); break;
 	default:
-		r = ww_go_on_(h, wakes);
+		r = turn(h);
 		ends(m, r);
 	}
 	MUST(is_code(r));
@@ -156,7 +159,7 @@ static void empty_handles(ww_handle *h)
 	MUST(ww_begin_(h) == -EINVAL && ww_end_(h) == -EINVAL && ww_done_(h) == -EINVAL);
 	MUST(ww_lock_(h, 0, true) == -EINVAL && ww_lock_slow_(h, 0, false) == -EINVAL && ww_try_(h, 0) == -EINVAL);
 	MUST(ww_unlock_(h, 0) == -EINVAL && ww_unlock_all_(h) == -EINVAL);
-	MUST(ww_go_on_(h, wakes) == -EINVAL && ww_cancel_(h, 0, wakes) == -EINVAL && !ww_idle_(h) && !ww_close_(h));
+	MUST(turn(h) == -EINVAL && ww_cancel_(h, 0, wakes) == -EINVAL && !ww_idle_(h) && !ww_close_(h));
 }
 
 int main(int count, char **words)
@@ -168,7 +171,7 @@ int main(int count, char **words)
 
 		empty_handles(&one);
 		MUST(ww_open_(2, 8, 9, handles, 4) == -EINVAL && ww_open_(kind, 0, 9, handles, 4) == -EINVAL);
-		MUST(ww_open_(kind, 65, 9, handles, 4) == -EINVAL && ww_open_(kind, 8, 9, handles, 0) == -EINVAL);
+		MUST(ww_open_(kind, WW_MAX_LOCKS + 1, 9, handles, 4) == -EINVAL && ww_open_(kind, 8, 9, handles, 0) == -EINVAL);
 		MUST(ww_open_(kind, 8, 9, handles, 17) == -EINVAL);
 		MUST(ww_open_(kind, 8, (uint64_t)1 << 52, handles, 4) == -EINVAL);
 		MUST(!ww_open_(kind, 1, 1, &one, 1) && !ww_begin_(&one) && ww_close_(&one) == -EBUSY && !ww_end_(&one));

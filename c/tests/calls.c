@@ -9,8 +9,8 @@
 
 enum { THREADS = 4, LOCKS = 8, NONE = WW_MAX_LOCKS, NAPS = 1024 };
 
-static ww_world world;
-static unsigned long counters[LOCKS], added[THREADS][LOCKS], times = 250000, backs, stops;
+static ww_world *world;
+static unsigned long counters[LOCKS], added[THREADS][LOCKS], times = 250000, backs, stops, cancels;
 static pthread_barrier_t all_there;
 
 /* What one thread knows of its seat. */
@@ -18,7 +18,7 @@ struct mine {
 	ww_seat *seat;
 	unsigned count, told; /* told: the lock for which it was told to back off */
 	bool own[LOCKS], context, done;
-	unsigned long backs, stops; /* how often it was told to back off, and called off */
+	unsigned long backs, stops, cancels; /* how often it was told to back off, was called off, and cancelled others */
 };
 
 static void holds(struct mine *m, unsigned n)
@@ -67,7 +67,7 @@ static void ends(struct mine *m, unsigned n, bool heeds, int refused, int r)
 	}
 }
 
-static void locks(struct mine *m, unsigned n, bool heeds)
+static void locks(struct mine *m, uint32_t n, bool heeds)
 {
 	int refused = refusal(m, n);
 
@@ -103,7 +103,7 @@ static void starts(struct mine *m)
 {
 	bool may = !m->context && !m->count;
 
-	MUST(ww_acquire_init(m->seat) == (may ? 0 : -EINVAL));
+	MUST(ww_begin(m->seat) == (may ? 0 : -EINVAL));
 	m->context |= may;
 }
 
@@ -111,7 +111,7 @@ static void has_all(struct mine *m)
 {
 	bool may = m->context && !m->done;
 
-	MUST(ww_acquire_done(m->seat) == (may ? 0 : -EINVAL));
+	MUST(ww_done(m->seat) == (may ? 0 : -EINVAL));
 	m->done |= may;
 }
 
@@ -119,7 +119,7 @@ static void finishes(struct mine *m)
 {
 	bool may = m->context && !m->count;
 
-	MUST(ww_acquire_fini(m->seat) == (may ? 0 : -EINVAL));
+	MUST(ww_end(m->seat) == (may ? 0 : -EINVAL));
 	if (may) {
 		m->context = m->done = false;
 		m->told = NONE;
@@ -132,7 +132,7 @@ static void changes_seats(struct mine *m)
 	bool may = !m->context && !m->count;
 
 	MUST(ww_seat_put(m->seat) == (may ? 0 : -EBUSY));
-	while (may && !(m->seat = ww_seat_get(&world)))
+	while (may && !(m->seat = ww_seat_get(world)))
 		sched_yield();
 }
 
@@ -153,9 +153,10 @@ static void any(struct mine *m, unsigned drawn)
 	case 12: case 13: gives_all(m); break;
 	case 14: changes_seats(m); break;
 	default: {
-		int r = ww_cancel(m->seat, &world.seats[n % THREADS]);
+		int r = ww_cancel(m->seat, &world->seats[n % THREADS]);
 
-		MUST(!r || r == -EALREADY);
+		MUST(!r || r == -EALREADY || r == -EINVAL); /* nobody may have that seat */
+		m->cancels += !r;
 	}
 	}
 }
@@ -163,7 +164,7 @@ static void any(struct mine *m, unsigned drawn)
 static void *work(void *arg)
 {
 	size_t me = (size_t)arg;
-	struct mine m = { .seat = ww_seat_get(&world), .told = NONE };
+	struct mine m = { .seat = ww_seat_get(world), .told = NONE };
 	unsigned x = 54321 + (unsigned)me;
 
 	MUST(m.seat);
@@ -184,6 +185,7 @@ static void *work(void *arg)
 	MUST(!ww_seat_put(m.seat));
 	__atomic_fetch_add(&backs, m.backs, __ATOMIC_RELAXED);
 	__atomic_fetch_add(&stops, m.stops, __ATOMIC_RELAXED);
+	__atomic_fetch_add(&cancels, m.cancels, __ATOMIC_RELAXED);
 	return NULL;
 }
 
@@ -193,7 +195,7 @@ int main(int count, char **words)
 		times = strtoul(words[1], NULL, 10);
 	pthread_barrier_init(&all_there, NULL, THREADS);
 	for (int kind = 0; kind < 2; kind++) {
-		backs = stops = 0;
+		backs = stops = cancels = 0;
 		MUST(!ww_open(&world, kind, LOCKS, THREADS));
 		in_threads(THREADS, work);
 		for (unsigned n = 0; n < LOCKS; n++) {
@@ -206,7 +208,7 @@ int main(int count, char **words)
 			MUST(counters[n] == all);
 			counters[n] = 0;
 		}
-		MUST(backs && stops && !ww_close(&world));
+		MUST(backs && stops && stops <= cancels && !ww_close(world));
 		printf("calls %s: %lu back-offs, %lu called off\n", kind ? "wait-die" : "wound-wait", backs, stops);
 	}
 	printf("calls: %lu in any state, every lock exclusive\n", 2 * THREADS * times);

@@ -1,40 +1,103 @@
-/* A wait that may be called off is, whether the cancel comes before it or during it; others aren't. */
+/*
+ * A wait that may be called off is, whether the cancel comes before it or during it;
+ * others aren't, nor are those of the seat's next user.
+ */
 #include "test.h"
 #include <unistd.h>
 
-static ww_world world, other;
-static ww_seat *seats[2];
+static ww_world *world, *other;
+static ww_seat *seats[3];
 
 /* By its turns the older one comes to sleep, so that this thread may go on. */
-static void sleeps(ww_seat *older, uint8_t lock)
+static void sleeps(ww_seat *older, uint32_t lock)
 {
-	bool wakes[WW_MAX_SEATS];
 	int r = ww_lock_(&older->handle, lock, false);
 
 	for (unsigned k = 0; k < 100 && r != WW_SLEEPS; k++)
-		MUST((r = ww_go_on_(&older->handle, wakes)) > 0);
+		MUST((r = turn(&older->handle)) > 0);
 	MUST(r == WW_SLEEPS);
 }
 
 /* A slow lock is called off too, here by a cancel that was there before; calls that don't heed it leave it there. */
 static void slowly(ww_seat *s, ww_seat *older)
 {
-	bool wakes[WW_MAX_SEATS];
-
-	MUST(!ww_acquire_init(older) && !ww_lock(older, 0) && !ww_acquire_init(s) && !ww_lock(s, 1));
+	MUST(!ww_begin(older) && !ww_lock(older, 0) && !ww_begin(s) && !ww_lock(s, 1));
 	sleeps(older, 1);
 	MUST(ww_lock(s, 0) == -EDEADLK && ww_lock_slow(s, 0) == -EINVAL && !ww_unlock_all(s));
 	MUST(ww_lock_slow_interruptible(s, 1) == -EINVAL && ww_lock_slow_interruptible(s, 0) == -EINTR);
-	MUST(!ww_go_on_(&older->handle, wakes) && !ww_unlock_all(older) && !ww_acquire_fini(older));
-	MUST(!ww_lock_slow_interruptible(s, 0) && !ww_unlock_all(s) && !ww_acquire_fini(s));
+	MUST(!turn(&older->handle) && !ww_unlock_all(older) && !ww_end(older));
+	MUST(!ww_lock_slow_interruptible(s, 0) && !ww_unlock_all(s) && !ww_end(s));
 }
 
 static void *waits(void *arg)
 {
 	(void)arg;
-	MUST(!ww_acquire_init(seats[1]) && ww_lock_interruptible(seats[1], 0) == -EINTR);
-	MUST(ww_lock_interruptible(seats[1], 1) == 0 && !ww_unlock_all(seats[1]) && !ww_acquire_fini(seats[1]));
+	MUST(!ww_begin(seats[1]) && ww_lock_interruptible(seats[1], 0) == -EINTR);
+	MUST(ww_lock_interruptible(seats[1], 1) == 0 && !ww_unlock_all(seats[1]) && !ww_end(seats[1]));
 	return NULL;
+}
+
+static void *waits_to_the_end(void *arg)
+{
+	(void)arg;
+	MUST(!ww_lock_interruptible(seats[1], 0) && !ww_unlock(seats[1], 0));
+	return NULL;
+}
+
+static void is_called_off(void)
+{
+	pthread_t thread;
+
+	MUST(!ww_lock(seats[0], 0) && !pthread_create(&thread, NULL, waits, NULL));
+	MUST(!pthread_join(thread, NULL) && !ww_unlock(seats[0], 0));
+}
+
+/* The lock is released a while after this thread began to wait for it. */
+static void is_let_be(void)
+{
+	pthread_t thread;
+
+	MUST(!ww_lock(seats[0], 0) && !pthread_create(&thread, NULL, waits_to_the_end, NULL));
+	usleep(5000);
+	MUST(!ww_unlock(seats[0], 0) && !pthread_join(thread, NULL));
+}
+
+static void changes_hands(void)
+{
+	MUST(!ww_seat_put(seats[1]) && ww_cancel(seats[0], seats[1]) == -EINVAL && (seats[1] = ww_seat_get(world)));
+}
+
+/* A cancel that met no wait isn't met by the next user of the seat, who can be cancelled as before. */
+static void is_not_left_behind(void)
+{
+	MUST(!ww_cancel(seats[0], seats[1]));
+	changes_hands();
+	is_let_be();
+	for (unsigned times = 1; times < 4; times++) {
+		MUST(!ww_cancel(seats[0], seats[1]));
+		for (unsigned k = 0; k < times; k++)
+			changes_hands();
+		MUST(!ww_cancel(seats[0], seats[1]) && ww_cancel(seats[0], seats[1]) == -EALREADY);
+		is_called_off();
+		is_let_be();
+	}
+}
+
+/* Just as the wait meets what was left, another cancel comes: that one calls it off, once, whoever is first. */
+static void comes_meanwhile(unsigned i)
+{
+	pthread_t thread;
+
+	MUST(!ww_cancel(seats[0], seats[1]));
+	changes_hands();
+	MUST(!ww_lock(seats[0], 0) && !pthread_create(&thread, NULL, waits, NULL));
+	for (unsigned k = 0; k < i * 64 && __atomic_load_n(&seats[1]->stale, __ATOMIC_SEQ_CST); k++)
+		;
+	if (i % 3 == 0)
+		usleep(i % 100);
+	MUST(!ww_cancel(seats[0], seats[1]) && !pthread_join(thread, NULL) && !ww_unlock(seats[0], 0));
+	if (i % 16 == 0)
+		is_let_be();
 }
 
 int main(void)
@@ -42,10 +105,10 @@ int main(void)
 	for (int kind = 0; kind < 2; kind++) {
 		MUST(!ww_open(&world, kind, 2, 2));
 		for (unsigned k = 0; k < 2; k++)
-			MUST((seats[k] = ww_seat_get(&world)));
-		MUST(!ww_seat_get(&world));
-		MUST(!ww_open(&other, kind, 2, 1));
-		MUST(ww_cancel(seats[0], &other.seats[0]) == -EINVAL && !ww_close(&other));
+			MUST((seats[k] = ww_seat_get(world)));
+		MUST(!ww_seat_get(world));
+		MUST(!ww_open(&other, kind, 2, 1) && (seats[2] = ww_seat_get(other)));
+		MUST(ww_cancel(seats[0], seats[2]) == -EINVAL && !ww_seat_put(seats[2]) && !ww_close(other));
 		MUST(!ww_cancel(seats[0], seats[1]) && ww_cancel(seats[0], seats[1]) == -EALREADY);
 		slowly(seats[1], seats[0]);
 		for (unsigned i = 0; i < 200; i++) {
@@ -57,9 +120,12 @@ int main(void)
 			MUST(!ww_cancel(seats[0], seats[1]));
 			MUST(!pthread_join(thread, NULL) && !ww_unlock(seats[0], 0));
 		}
-		MUST(ww_close(&world) == -EBUSY && !ww_seat_put(seats[0]));
-		MUST(ww_close(&world) == -EBUSY && !ww_seat_put(seats[1]) && !ww_close(&world));
+		is_not_left_behind();
+		for (unsigned i = 0; i < 500; i++)
+			comes_meanwhile(i);
+		MUST(ww_close(world) == -EBUSY && !ww_seat_put(seats[0]));
+		MUST(ww_close(world) == -EBUSY && !ww_seat_put(seats[1]) && !ww_close(world));
 	}
-	puts("cancels: each wait was called off");
+	puts("cancels: each wait was called off, and no other");
 	return 0;
 }

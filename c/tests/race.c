@@ -1,14 +1,14 @@
 /* A program that is wrong, for the thread sanitizer to find: one of its threads holds another lock than it should. */
 #include "test.h"
 
-static ww_world world;
+static ww_world *world;
 static unsigned long counter;
 static pthread_barrier_t both;
 
 static void *work(void *arg)
 {
 	unsigned me = (unsigned)(size_t)arg;
-	ww_seat *s = ww_seat_get(&world);
+	ww_seat *s = ww_seat_get(world);
 
 	MUST(s);
 	pthread_barrier_wait(&both);
@@ -27,7 +27,7 @@ int main(void)
 	pthread_barrier_init(&both, NULL, 2);
 	in_threads(2, work);
 	pthread_barrier_destroy(&both);
-	MUST(!ww_close(&world));
+	MUST(!ww_close(world));
 	printf("race: %lu\n", counter);
 	return 0;
 }

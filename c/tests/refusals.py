@@ -1,37 +1,108 @@
-"""What ww.py refuses: refusals.py libww.so"""
+"""What ww.py refuses, tries and calls off: refusals.py libww.so"""
+import contextlib
+import ctypes
 import errno
 import os
 import sys
+import threading
 
 sys.path.insert(0, os.path.join(os.path.dirname(os.path.abspath(__file__)), ".."))
 import ww
 
+LOCKS = 65536
 
-def is_refused(fault, holder):
-    """Begins to hold, which has to fail so."""
+
+def is_refused(fault, call, *words, **named):
+    """This call fails so; or where it is for a block, the block isn't reached."""
     try:
-        with holder:
-            pass
+        made = call(*words, **named)
+        if isinstance(made, contextlib.AbstractContextManager):
+            with made:
+                pass
     except OSError as error:
         return error.errno == fault
     return False
 
 
-for kind, locks, seats in [(2, 2, 1), (ww.WAIT_DIE, 0, 1), (ww.WAIT_DIE, 65, 1), (ww.WAIT_DIE, 2, 17)]:
+def is_no_number(call, *words):
+    """This isn't taken for a number."""
     try:
-        ww.World(sys.argv[1], kind, locks, seats)
-        sys.exit("there is no such world")
-    except OSError as error:
-        assert error.errno == errno.EINVAL
+        with call(*words):
+            pass
+    except (ctypes.ArgumentError, TypeError):
+        return True
+    return False
+
+
+def opens(path):
+    """Worlds within the bounds alone; no number is cut short."""
+    words = [(2, 2, 1), (ww.WAIT_DIE, 0, 1), (ww.WAIT_DIE, LOCKS + 1, 1), (ww.WAIT_DIE, 2, 17), (ww.WAIT_DIE, 2, 0)]
+    words += [(2**32, 2, 1), (ww.WAIT_DIE, 2**32 + 2, 1), (ww.WAIT_DIE, 2, 2**32 + 2), (ww.WAIT_DIE, -1, 1)]
+    for kind, locks, seats in words:
+        assert is_refused(errno.EINVAL, ww.World, path, kind, locks, seats)
+
+
+def holds(seat, locks):
+    """Lists with a lock that isn't there, or twice, and with what isn't a number."""
+    for wrong in (locks, locks + 1, LOCKS, -1, 2**32, 2**32 + 1, 2**64, 2**64 + 1):
+        for listed in ([wrong], [0, wrong], [wrong, 0]):
+            assert is_refused(errno.EINVAL, seat.holding, listed)
+    assert is_refused(errno.EALREADY, seat.holding, [0, 1, 0])
+    for wrong in (None, 1.0, "1"):
+        assert is_no_number(seat.holding, [wrong])
+    with seat.holding([locks - 1, 0]):
+        assert seat.held() == 2 and is_refused(errno.EINVAL, seat.holding, [0])
+    assert seat.held() == 0
+
+
+def one_by_one(seat, other):
+    """The calls of their own."""
+    seat.lock(1)
+    assert not other.trylock(1) and other.trylock(0) and is_refused(errno.EALREADY, other.trylock, 0)
+    other.unlock(0)
+    assert is_refused(errno.EINVAL, other.unlock, 0)
+    seat.unlock_all()
+    seat.begin()
+    seat.lock(0)
+    assert is_refused(errno.EINVAL, seat.lock_slow, 1) and is_refused(errno.EINVAL, seat.end)
+    seat.unlock(0)
+    seat.done()
+    assert is_refused(errno.EINVAL, seat.lock, 0)
+    seat.end()
+
+
+def calls_off(seat, other):
+    """A wait, while it is going on or before: by itself, and in a context."""
+    told = []
+
+    def waits():
+        told.append(is_refused(errno.EINTR, other.lock, 0, interruptible=True))
+        told.append(is_refused(errno.EINTR, other.holding, [1, 0], interruptible=True))
+
+    seat.lock(0)
+    seat.cancel(other)
+    assert is_refused(errno.EALREADY, seat.cancel, other)
+    thread = threading.Thread(target=waits)
+    thread.start()
+    while not told:
+        thread.join(0.001)
+    seat.cancel(other)
+    thread.join()
+    assert told == [True, True] and other.held() == 0
+    seat.unlock(0)
+
+
+opens(sys.argv[1])
 for kind in (ww.WOUND_WAIT, ww.WAIT_DIE):
-    world = ww.World(sys.argv[1], kind, 2, 1)
-    with world.seat() as seat:
-        assert is_refused(errno.EBUSY, world.seat())
-        for locks, fault in [([0, 1, 0], errno.EALREADY), ([1, 2], errno.EINVAL), ([-1], errno.EINVAL)]:
-            assert is_refused(fault, seat.holding(locks))
-        with seat.holding([1, 0]):
-            assert is_refused(errno.EINVAL, seat.holding([0]))
-    world.close()
-    world.close()
-    assert is_refused(errno.EBUSY, world.seat())
+    for locks in (2, 64, LOCKS):
+        world = ww.World(sys.argv[1], kind, locks, 2)
+        with world.seat() as seat, world.seat() as other:
+            assert is_refused(errno.EBUSY, world.seat) and is_refused(errno.EBUSY, world.close)
+            holds(seat, locks)
+            one_by_one(seat, other)
+            calls_off(seat, other)
+        assert is_refused(errno.EINVAL, seat.lock, 0) and is_refused(errno.EINVAL, seat.cancel, other)
+        world.close()
+        world.close()
+        assert is_refused(errno.EBUSY, world.seat)
 print("refusals: each told, and nothing stays held")

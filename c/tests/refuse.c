@@ -1,6 +1,7 @@
 /*
  * Each allocation of opening is refused in turn: no handle is written, the world
- * isn't open, and nothing is left.  This heap stands in for that of the library.
+ * isn't open, and nothing is left.  This heap stands in for that of the library,
+ * and what ww.c itself asks for comes by the wrappers (ld --wrap).
  */
 #include "test.h"
 
@@ -18,12 +19,15 @@ struct tried rattle_alloc(size_t size, size_t align);
 struct tried rattle_realloc(void *p, size_t kept, size_t size, size_t align);
 void rattle_dealloc(void *p);
 
+static void *asked(void *p)
+{
+	live += p != NULL;
+	return p;
+}
+
 struct tried rattle_alloc(size_t size, size_t align)
 {
-	void *p = made++ == refused ? NULL : malloc(size ? size : align);
-
-	live += p != NULL;
-	return told(p);
+	return told(asked(made++ == refused ? NULL : malloc(size ? size : align)));
 }
 
 struct tried rattle_realloc(void *p, size_t kept, size_t size, size_t align)
@@ -32,14 +36,26 @@ struct tried rattle_realloc(void *p, size_t kept, size_t size, size_t align)
 	return told(made++ == refused ? NULL : realloc(p, size ? size : align));
 }
 
-void rattle_dealloc(void *p)
+void rattle_dealloc(void *p) { free(p); }
+
+void *__real_aligned_alloc(size_t align, size_t size);
+void __real_free(void *p);
+void *__wrap_aligned_alloc(size_t align, size_t size);
+void __wrap_free(void *p);
+
+void *__wrap_aligned_alloc(size_t align, size_t size)
 {
-	live--;
-	free(p);
+	return asked(made++ == refused ? NULL : __real_aligned_alloc(align, size));
+}
+
+void __wrap_free(void *p)
+{
+	live -= p != NULL;
+	__real_free(p);
 }
 
 /* By the call that opens handles. Afterwards no other call takes memory. */
-static void opens_handles(uint32_t kind)
+static void opens_handles(uint32_t kind, uint32_t locks)
 {
 	ww_handle handles[WW_MAX_SEATS] = { { 0 } };
 	long all;
@@ -47,7 +63,7 @@ static void opens_handles(uint32_t kind)
 
 	for (refused = 0;; refused++) {
 		made = 0;
-		r = ww_open_(kind, WW_MAX_LOCKS, 100, handles, WW_MAX_SEATS);
+		r = ww_open_(kind, locks, 100, handles, WW_MAX_SEATS);
 		if (!r)
 			break;
 		MUST(r == -ENOMEM && !live);
@@ -58,40 +74,48 @@ static void opens_handles(uint32_t kind)
 	MUST(all == refused);
 	made = 0;
 	refused = -1;
-	for (unsigned k = 0; k < WW_MAX_SEATS; k++) {
+	for (uint32_t k = 0; k < WW_MAX_SEATS; k++) {
 		ww_handle *h = &handles[k];
 
-		MUST(!ww_begin_(h) && !ww_lock_(h, (uint8_t)k, false) && !ww_unlock_(h, (uint8_t)k) && !ww_end_(h));
+		MUST(!ww_begin_(h) && !ww_lock_(h, k, false) && !ww_lock_(h, locks - 1, false));
+		MUST(!ww_unlock_(h, k) && !ww_unlock_all_(h) && !ww_end_(h));
 	}
 	MUST(!made);
 	for (unsigned k = 0; k < WW_MAX_SEATS; k++)
 		MUST(!ww_close_(&handles[k]));
 	MUST(!live);
-	printf("%ld allocations to open 64 locks with 16 seats, each refused in turn; none by the calls\n", all);
+	printf("%ld allocations to open %u locks with 16 seats, each refused in turn; none by the calls\n", all, locks);
 }
 
 /* By the call of the header. */
-static void opens_world(int kind)
+static void opens_world(int kind, uint32_t locks)
 {
-	ww_world world;
+	ww_world *world;
+	ww_seat *s;
 	int r;
 
 	for (refused = 0;; refused++) {
 		made = 0;
-		r = ww_open(&world, kind, 3, 2);
+		r = ww_open(&world, kind, locks, 2);
 		if (!r)
 			break;
-		MUST(r == -ENOMEM && !live && !ww_seat_get(&world) && !ww_close(&world));
+		MUST(r == -ENOMEM && !live && !world);
 	}
-	MUST(made && made == refused && live && ww_seat_get(&world) == &world.seats[0]);
-	MUST(!ww_seat_put(&world.seats[0]) && !ww_close(&world) && !live);
+	MUST(made && made == refused && live && (s = ww_seat_get(world)));
+	made = 0;
+	refused = -1;
+	MUST(!ww_begin(s) && !ww_lock(s, 0) && !ww_lock(s, locks - 1) && !ww_unlock_all(s) && !ww_end(s) && !made);
+	MUST(!ww_seat_put(s) && !ww_close(world) && !live);
 }
 
 int main(void)
 {
-	for (int kind = 0; kind < 2; kind++) {
-		opens_handles((uint32_t)kind);
-		opens_world(kind);
-	}
+	const uint32_t sizes[] = { 64, 4096, WW_MAX_LOCKS };
+
+	for (int kind = 0; kind < 2; kind++)
+		for (unsigned k = 0; k < sizeof sizes / sizeof *sizes; k++) {
+			opens_handles((uint32_t)kind, sizes[k]);
+			opens_world(kind, sizes[k]);
+		}
 	return 0;
 }

@@ -3,7 +3,7 @@
 
 enum { TIMES = 200 };
 
-static ww_world world;
+static ww_world *world;
 static unsigned size;
 static unsigned long counters[WW_MAX_SEATS], total;
 static pthread_barrier_t barrier;
@@ -11,13 +11,13 @@ static pthread_barrier_t barrier;
 static void *work(void *arg)
 {
 	unsigned me = (unsigned)(size_t)arg, list[2] = { me, (me + 1) % size };
-	ww_seat *s = ww_seat_get(&world);
+	ww_seat *s = ww_seat_get(world);
 
 	MUST(s);
 	for (unsigned i = 0; i < TIMES; i++) {
 		int r;
 
-		MUST(!ww_acquire_init(s) && !ww_lock(s, list[0]));
+		MUST(!ww_begin(s) && !ww_lock(s, list[0]));
 		pthread_barrier_wait(&barrier);
 		r = ww_lock(s, list[1]);
 		if (r) {
@@ -32,7 +32,7 @@ static void *work(void *arg)
 		}
 		counters[list[0]]++;
 		counters[list[1]]++;
-		MUST(!ww_unlock_all(s) && !ww_acquire_fini(s));
+		MUST(!ww_unlock_all(s) && !ww_end(s));
 		pthread_barrier_wait(&barrier);
 	}
 	MUST(!ww_seat_put(s));
@@ -51,7 +51,7 @@ int main(void)
 				MUST(counters[k] == 2ul * TIMES);
 				counters[k] = 0;
 			}
-			MUST(total >= TIMES && !ww_close(&world));
+			MUST(total >= TIMES && !ww_close(world));
 			pthread_barrier_destroy(&barrier);
 		}
 	puts("rings of 2 to 16 threads: each broken");

@@ -7,7 +7,7 @@
 
 enum { THREADS = 4, LOCKS = 8, TIMES = 20000 };
 
-static ww_world world;
+static ww_world *world;
 static unsigned long counters[LOCKS], added[THREADS][LOCKS];
 
 /* How a storm takes its locks. */
@@ -25,7 +25,7 @@ static void *work(void *arg)
 {
 	unsigned me = (unsigned)(size_t)arg, x = 7 * me + 1, list[LOCKS], count;
 	enum way own = way == MIXED ? (enum way)(me % MIXED) : way;
-	ww_seat *s = ww_seat_get(&world);
+	ww_seat *s = ww_seat_get(world);
 
 	MUST(s);
 	for (unsigned i = 0; i < (naps ? TIMES / 10 : TIMES); i++) {
@@ -47,9 +47,9 @@ static void *work(void *arg)
 				list[j] = list[k - 1];
 				list[k - 1] = swap;
 			}
-			MUST(!ww_acquire_init(s));
+			MUST(!ww_begin(s));
 			lock_all(s, list, count);
-			MUST(!ww_acquire_done(s));
+			MUST(!ww_done(s));
 		}
 		for (unsigned k = 0; k < count; k++) {
 			counters[list[k]]++;
@@ -58,7 +58,7 @@ static void *work(void *arg)
 		}
 		MUST(!ww_unlock_all(s));
 		if (own != SINGLE)
-			MUST(!ww_acquire_fini(s));
+			MUST(!ww_end(s));
 	}
 	MUST(!ww_seat_put(s));
 	return NULL;
@@ -82,7 +82,7 @@ int main(void)
 				MUST(counters[n] == all);
 				counters[n] = 0;
 			}
-			MUST(!ww_close(&world));
+			MUST(!ww_close(world));
 		}
 	puts("storms: each counter is exact");
 	return 0;

@@ -2,7 +2,7 @@
 #ifndef TEST_H
 #define TEST_H
 #define _GNU_SOURCE
-#include "../ww.h"
+#include "../ww_inside.h"
 #include <errno.h>
 #include <pthread.h>
 #include <sched.h>
@@ -20,14 +20,14 @@
 static inline unsigned next(unsigned *x) { return (*x = *x * 1664525u + 1013904223u) >> 8; }
 
 /* Takes these locks, in this order but for the one that was told, and backs off until it has them all. */
-static inline unsigned long lock_all(ww_seat *s, const unsigned *list, unsigned count)
+static inline unsigned long lock_all(ww_seat *s, const uint32_t *list, uint32_t count)
 {
 	unsigned long backs = 0;
-	unsigned slow = WW_MAX_LOCKS;
+	uint32_t slow = WW_MAX_LOCKS;
 
 	for (;;) {
 		int r = slow < WW_MAX_LOCKS ? ww_lock_slow(s, slow) : 0;
-		unsigned k;
+		uint32_t k;
 
 		MUST(!r);
 		for (k = 0; k < count && !r; k++)
@@ -35,11 +35,20 @@ static inline unsigned long lock_all(ww_seat *s, const unsigned *list, unsigned 
 				r = ww_lock(s, list[k]);
 		if (!r)
 			return backs;
-		MUST(r == -EDEADLK && s->held);
+		MUST(r == -EDEADLK && ww_held(s));
 		slow = list[k - 1];
 		MUST(!ww_unlock_all(s));
 		backs++;
 	}
+}
+
+/* The next turn of a call, which wakes nobody and rests for nothing. */
+static inline int turn(ww_handle *h)
+{
+	bool wakes[WW_MAX_SEATS];
+	uint32_t rest;
+
+	return ww_go_on_(h, wakes, &rest);
 }
 
 /* Runs this in so many threads, each with its number. */

@@ -108,7 +108,7 @@ bool gives_back(ww::world &world)
 	const std::array<unsigned, 2> list{ 1, 2 };
 
 	try {
-		context.lock_all(list, [] { throw 1; });
+		(void)context.lock_all(list, [] { throw 1; });
 	} catch (int) {
 		return context.unlock(1) == -EINVAL && context.unlock(2) == -EINVAL && !context.lock_all(list, [] {});
 	}
@@ -152,6 +152,64 @@ bool is_ring()
 	return steps == count && !at;
 }
 
+// Neither a list alone nor one with others around it makes a lock of a number that none has, however wide that is.
+template <class N> bool is_no_lock(ww::context &context, N n)
+{
+	const auto never = [] { std::abort(); };
+	std::vector<N> alone{ n }, behind{ 0, n }, between{ 1, n, 2 }, twice{ n, n };
+	bool is_so = context.lock(n) == -EINVAL && context.try_lock(n) == -EINVAL && context.unlock(n) == -EINVAL &&
+		     context.lock_walk([n](bool) { return std::optional<N>(n); }, never) == -EINVAL;
+
+	for (auto *list : { &alone, &behind, &between, &twice })
+		is_so = is_so && context.lock_all(*list, never) == -EINVAL && context.lock_all_moving(*list, never) == -EINVAL &&
+			!context.held();
+	return is_so;
+}
+
+bool ends_where_it_ends(ww::kind kind, std::uint32_t locks)
+{
+	ww::world world(kind, locks, 1);
+	ww::seat seat(world);
+	ww::context context(seat);
+	std::uint32_t holds = 0;
+	const std::vector<std::uint32_t> ends{ locks - 1, 0 };
+
+	return !context.error() && is_no_lock(context, locks) && is_no_lock(context, locks + 1) &&
+	       is_no_lock(context, unsigned{ WW_MAX_LOCKS }) && is_no_lock(context, UINT32_MAX) &&
+	       is_no_lock(context, UINT32_MAX - 1) && is_no_lock(context, -1) && is_no_lock(context, std::int64_t{ 1 } << 32) &&
+	       is_no_lock(context, UINT64_MAX) && !context.lock_all(ends, [&] { holds = context.held(); }) && holds == 2 &&
+	       !context.held();
+}
+
+// With a lock held none of the ways begins, as it might have to release that; it stays held. So within each other.
+bool begins_with_nothing(ww::world &world)
+{
+	ww::seat seat(world);
+	ww::context context(seat);
+	std::vector<unsigned> list{ 1, 2 };
+	const auto refused = [&](std::uint32_t holds) {
+		const auto never = [] { std::abort(); };
+		const auto one = [](bool) { return std::optional<unsigned>(1); };
+
+		return context.lock_all(list, never) == -EINVAL && context.lock_all_moving(list, never) == -EINVAL &&
+		       context.lock_walk(one, never) == -EINVAL && context.held() == holds;
+	};
+	bool is_so = context.lock(0) == 0 && refused(1) && context.lock(0) == -EALREADY && context.unlock_all() == 0;
+	const auto within = [&] { is_so = is_so && refused(2) && context.lock(1) == -EALREADY; };
+
+	return !context.lock_all(list, within) && !context.lock_all_moving(list, within) && is_so && !context.held();
+}
+
+// One by one, and as they may be called off: what a cancel from before comes to.
+bool is_called_off(ww::world &world)
+{
+	ww::seat seat(world), other(world);
+	ww::context older(other), context(seat);
+
+	return !seat.cancel(other) && seat.cancel(other) == -EALREADY && !older.lock_interruptible(1) && older.held() == 1 &&
+	       !context.lock_interruptible(2) && context.try_lock(1) == -EBUSY && context.back_off_interruptible() == -EINVAL;
+}
+
 int run(ww::kind kind)
 {
 	ww::world world(kind, count, threads);
@@ -162,8 +220,12 @@ int run(ww::kind kind)
 
 	for (unsigned n = 0; n < count; n++)
 		nodes[n] = node{ (n + 1) % count, 0 };
-	if (world.error() || !refuses(world) || !begins_once(world) || !gives_back(world))
+	if (world.error() || !refuses(world) || !begins_once(world) || !gives_back(world) || !begins_with_nothing(world) ||
+	    !is_called_off(world))
 		return 1;
+	for (std::uint32_t locks : { 8u, 64u, unsigned{ WW_MAX_LOCKS } })
+		if (!ends_where_it_ends(kind, locks))
+			return 4;
 	for (unsigned me = 0; me < threads; me++)
 		all.emplace_back([&, me] { work(world, me, visits[me], faults[me]); });
 	for (unsigned me = 0; me < threads; me++) {

@@ -1,5 +1,5 @@
 -- The numbers that C is answered, the kernel's errors with a minus sign.
-use Rattle.std.specs.Prelude.{ℤ, pos, negsuc, true, false}
+use Rattle.std.specs.Prelude.{ℤ, pos, negsuc, if◌then◌else◌, ℕ}
 use Rattle.ww_desk.specs.declared.turn.Answer.{Answer}
 use Rattle.ww_desk.specs.declared.turn.Answer.TheVariants.{Done, Again, Stays, Sleeps, Busy, Invalid, Already, NoSpace, Deadlk, Interrupted}
 
@@ -7,12 +7,16 @@ use Rattle.ww_desk.specs.declared.turn.Answer.TheVariants.{Done, Again, Stays, S
 abbrev pub code_of : Answer → ℤ
 code_of Done = pos 0
 code_of Again = pos 1
-code_of (Stays false) = pos 2
 code_of Sleeps = pos 3
-code_of (Stays true) = pos 4
+code_of (Stays rest) = if rest.yields then pos 4 else pos 2
 code_of Busy = negsuc 15
 code_of Invalid = negsuc 21
 code_of Already = negsuc 113
 code_of NoSpace = negsuc 27
 code_of (Deadlk k) = negsuc 34
 code_of (Interrupted by) = negsuc 3
+
+-- how many pauses it rests after an answer
+abbrev pub pauses_of : Answer → ℕ
+pauses_of (Stays rest) = rest.pauses
+pauses_of _ = 0

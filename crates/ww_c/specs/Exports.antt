@@ -8,7 +8,7 @@ use Rattle.ww_desk.specs.Opened.{IsWorldSize, IsOpened}
 use Rattle.ww_queue.specs.declared.kind.Kind.{Kind}
 use Rattle.ww_queue.specs.declared.kind.Kind.TheVariants.{WoundWait, WaitDie}
 use Rattle.ww_c.specs.declared.slot.Handle.{Handle}
-use Rattle.ww_c.specs.Codes.{code_of}
+use Rattle.ww_c.specs.Codes.{code_of, pauses_of}
 
 -- The desk behind the handle answers by this relation, and the code is that of its answer; an empty handle is told EINVAL.
 abbrev pub IsCall : (Situation → Answer → Situation → Type 0) → Option Situation → ℤ → Option Situation → Type 0
@@ -23,6 +23,11 @@ IsWakingCall answers (Some s) code wakes after = (a : Answer) × (t s' : Situati
 abbrev pub goes_on : Situation → Answer → Situation → Type 0
 goes_on s a s' = IsNextAnswer s.turn s a s'
 
+-- the next turn, which also tells how many pauses to rest
+abbrev pub IsTurnCall : Option Situation → ℤ → List Bool → ℕ → Option Situation → Type 0
+IsTurnCall None code wakes pauses after = (code ≡ negsuc 21) × (wakes ≡ replicate 16 false) × (pauses ≡ 0) × (after ≡ None)
+IsTurnCall (Some s) code wakes pauses after = (a : Answer) × (t s' : Situation) × (after ≡ Some s') × goes_on s a t × IsWakesAnswer t wakes s' × (code ≡ code_of a) × (pauses ≡ pauses_of a)
+
 abbrev pub cancels : ℕ → Situation → Answer → Situation → Type 0
 cancels u s a s' = IsCancelAnswer s u a s'
 
@@ -36,7 +41,7 @@ abbrev pub IsCloseCall : Option Situation → ℤ → Option Situation → Type 
 IsCloseCall None code after = (code ≡ pos 0) × (after ≡ None)
 IsCloseCall (Some s) code after = (IsIdle s × (code ≡ pos 0) × (after ≡ None)) ⊎ ((¬ IsIdle s) × (code ≡ negsuc 15) × (after ≡ Some s))
 
--- 1 to 64 locks and 1 to 16 seats, each of which may begin fewer than 2 ^ 52 contexts, of one of two kinds
+-- 1 to 65,536 locks and 1 to 16 seats, each of which may begin fewer than 2 ^ 52 contexts, of one of two kinds
 pub record IsWorld (kind locks left seats : ℕ) : Type 0 where
   pub kinds : kind ≤ 1
   pub sizes : IsWorldSize locks seats left

@@ -1,5 +1,5 @@
 ghost use Rattle.std.specs.Prelude.{◌≡◌};
-ghost use Rattle.ww_c.specs.Codes.{code_of};
+ghost use Rattle.ww_c.specs.Codes.{code_of, pauses_of};
 
 use ww_desk::Answer;
 
@@ -16,14 +16,24 @@ pub(crate) fn code(answer: Answer) -> i32
     match answer {
         Answer::Done => 0,
         Answer::Again => 1,
-        Answer::Stays(false) => 2,
+        Answer::Stays(rest) if !rest.yields => 2,
         Answer::Sleeps => 3,
-        Answer::Stays(true) => 4,
+        Answer::Stays(_) => 4,
         Answer::Busy => EBUSY,
         Answer::Invalid => EINVAL,
         Answer::Already => -114,
         Answer::NoSpace => -28,
         Answer::Deadlk(_) => -35,
         Answer::Interrupted(_) => -4,
+    }
+}
+
+/// How many pauses C rests after a turn with this answer.
+pub(crate) fn pauses(answer: Answer) -> u32
+    ensures { result ≡ pauses_of answer }
+{
+    match answer {
+        Answer::Stays(rest) => rest.pauses,
+        _ => 0,
     }
 }

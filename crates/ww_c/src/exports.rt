@@ -1,8 +1,8 @@
 //! What C calls. Each is one call of a desk by its handle, and waits for nobody: `c/ww.h` says what C has to do.
 ghost use Rattle.ww_desk.specs.Answers.{IsBeginAnswer, IsDoneAnswer, IsEndAnswer, IsLockAnswer, IsSlowAnswer, IsTryAnswer, IsUnlockAnswer, IsUnlockAllAnswer};
-ghost use Rattle.ww_c.specs.Exports.{IsCall, IsCloseCall, IsIdleCall, IsWakingCall, goes_on, cancels};
+ghost use Rattle.ww_c.specs.Exports.{IsCall, IsCloseCall, IsIdleCall, IsTurnCall, IsWakingCall, cancels};
 
-use crate::codes::{EBUSY, EINVAL, code};
+use crate::codes::{EBUSY, EINVAL, code, pauses};
 use crate::slot::Handle;
 use std::alloc::Global;
 use ww_word::MAX_SEATS;
@@ -48,7 +48,7 @@ pub extern "C" fn ww_end_(alloc: Global, seat: &mut Handle) -> i32
 
 /// Takes a lock, or begins to wait for it; where `heeds` the wait may be called off.
 #[unsafe(no_mangle)]
-pub extern "C" fn ww_lock_(alloc: Global, seat: &mut Handle, lock: u8, heeds: bool) -> i32
+pub extern "C" fn ww_lock_(alloc: Global, seat: &mut Handle, lock: u32, heeds: bool) -> i32
     ensures { IsCall (λ s a t. IsLockAnswer s lock heeds a t) seat.old.slot.desk result seat.new.slot.desk }
 {
     let Some(mut desk) = seat.take(alloc) else {
@@ -61,7 +61,7 @@ pub extern "C" fn ww_lock_(alloc: Global, seat: &mut Handle, lock: u8, heeds: bo
 
 /// Takes the lock for which the context was told to back off.
 #[unsafe(no_mangle)]
-pub extern "C" fn ww_lock_slow_(alloc: Global, seat: &mut Handle, lock: u8, heeds: bool) -> i32
+pub extern "C" fn ww_lock_slow_(alloc: Global, seat: &mut Handle, lock: u32, heeds: bool) -> i32
     ensures { IsCall (λ s a t. IsSlowAnswer s lock heeds a t) seat.old.slot.desk result seat.new.slot.desk }
 {
     let Some(mut desk) = seat.take(alloc) else {
@@ -74,7 +74,7 @@ pub extern "C" fn ww_lock_slow_(alloc: Global, seat: &mut Handle, lock: u8, heed
 
 /// One try to take a lock.
 #[unsafe(no_mangle)]
-pub extern "C" fn ww_try_(alloc: Global, seat: &mut Handle, lock: u8) -> i32
+pub extern "C" fn ww_try_(alloc: Global, seat: &mut Handle, lock: u32) -> i32
     ensures { IsCall (λ s a t. IsTryAnswer s lock a t) seat.old.slot.desk result seat.new.slot.desk }
 {
     let Some(mut desk) = seat.take(alloc) else {
@@ -87,7 +87,7 @@ pub extern "C" fn ww_try_(alloc: Global, seat: &mut Handle, lock: u8) -> i32
 
 /// Gives a lock back, or begins to.
 #[unsafe(no_mangle)]
-pub extern "C" fn ww_unlock_(alloc: Global, seat: &mut Handle, lock: u8) -> i32
+pub extern "C" fn ww_unlock_(alloc: Global, seat: &mut Handle, lock: u32) -> i32
     ensures { IsCall (λ s a t. IsUnlockAnswer s lock a t) seat.old.slot.desk result seat.new.slot.desk }
 {
     let Some(mut desk) = seat.take(alloc) else {
@@ -111,17 +111,25 @@ pub extern "C" fn ww_unlock_all_(alloc: Global, seat: &mut Handle) -> i32
     code(answer)
 }
 
-/// The next turn of the call that is on its way. Whom to wake stands in `wakes`, a mark for each seat.
+/// The next turn of the call that is on its way. Whom to wake stands in `wakes`, a mark for each seat; how many pauses
+/// to rest then, in `rest`.
 #[unsafe(no_mangle)]
-pub extern "C" fn ww_go_on_(alloc: Global, seat: &mut Handle, wakes: &mut [bool; MAX_SEATS]) -> i32
-    ensures { IsWakingCall goes_on seat.old.slot.desk result wakes.new seat.new.slot.desk }
+pub extern "C" fn ww_go_on_(
+    alloc: Global,
+    seat: &mut Handle,
+    wakes: &mut [bool; MAX_SEATS],
+    rest: &mut u32,
+) -> i32
+    ensures { IsTurnCall seat.old.slot.desk result wakes.new rest.new seat.new.slot.desk }
 {
     *wakes = [false; MAX_SEATS];
+    *rest = 0;
     let Some(mut desk) = seat.take(alloc) else {
         return EINVAL;
     };
     let answer = desk.go_on();
     *wakes = desk.take_wakes();
+    *rest = pauses(answer);
     seat.put(desk);
     code(answer)
 }

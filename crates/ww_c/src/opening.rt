@@ -14,7 +14,7 @@ use ww_word::MAX_SEATS;
 pub extern "C" fn ww_open_(
     alloc: Global,
     kind: u32,
-    locks: u8,
+    locks: u32,
     left: u64,
     seats: &mut [Handle],
 ) -> i32
@@ -36,7 +36,7 @@ pub extern "C" fn ww_open_(
             }
             Err(_) => ENOMEM,
         },
-        Err(OpenFault::BadSize) => EINVAL,
+        Err(OpenFault::BadLocks | OpenFault::BadSeats | OpenFault::BadContexts) => EINVAL,
         Err(OpenFault::NoMemory) => ENOMEM,
     }
 }

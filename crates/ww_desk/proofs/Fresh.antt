@@ -7,16 +7,17 @@ use lib.ListN.{get_elem?}
 use Rattle.atomic_table.specs.Seated.{TableId}
 use Rattle.ww_queue.specs.declared.kind.Kind.{Kind}
 use Rattle.ww_plain.specs.Numbers.{is_among}
-use Rattle.ww_plain.proofs.Members.{different_none}
 use Rattle.ww_view.specs.View.{owns, first_view}
 use Rattle.ww_rule.specs.declared.cells.Start.{Start}
 use Rattle.ww_rule.specs.Rule.{Sat, first_graph, no_counts}
+use Rattle.ww_rule.proofs.Seats.{bare_first}
 use Rattle.ww_table.specs.declared.board.Board.{Board}
 use Rattle.ww_table.specs.declared.seat.Seat16.{Seat16}
 use Rattle.ww_table.specs.Seat.{IsNew}
-use Rattle.ww_seat.proofs.Starts.{none_owned, new_settled}
+use Rattle.ww_seat.proofs.Starts.{new_settled}
 use Rattle.ww_desk.specs.declared.turn.Turn.TheVariants.{Rests}
 use Rattle.ww_desk.specs.declared.station.Station.{Station}
+use Rattle.ww_desk.specs.Held.{Holding}
 use Rattle.ww_desk.specs.Situations.{Situation}
 use Rattle.ww_desk.specs.Stations.{situation_of, Keeps}
 use Rattle.ww_desk.specs.Opened.{fresh, AreFresh}
@@ -26,9 +27,10 @@ pub record IsFirst (b : Board) (k : ℕ) (h : Station) : Type 0 where
   pub board : arc_value h.board ≡ b
   pub new : IsNew b.table.shared.table_id b.table.shared.key k h.seat
   pub few : length (first_graph b.table.shared.key) ≤ 64
+  pub fits : length (first_graph b.table.shared.key) ≤ b.table.shared.key.locks
+  pub seats : h.seats ≤ 16
   pub left : h.left < 2 ^ 52
-  pub held : h.held.items ≡ []
-  pub marks : h.marks ≡ replicate 64 false
+  pub held : h.held ≡ record { locks = b.table.shared.key.locks; items = [] }
   pub is_done : h.is_done ≡ false
   pub told : h.told ≡ None
   pub turn : h.turn ≡ Rests
@@ -36,28 +38,28 @@ pub record IsFirst (b : Board) (k : ℕ) (h : Station) : Type 0 where
 
 pub first_keeps : (b : Board) (k : ℕ) (h : Station) → IsFirst b k h → Keeps h
 first_keeps b k h f = let me = f.new.me in record {
-  at = rw (f.board, f.turn) (new_settled b.table.shared.table_id b.table.shared.key k h.seat f.new f.few);
+  at = rw (f.board, f.turn) (new_settled b.table.shared.table_id b.table.shared.key k h.seat f.new f.few f.fits);
   stamp = f.new.seated.stamp;
-  held = rw (f.board, f.held) (record { few = f.few; there = tt; once = different_none });
-  owned = λ n. ap (λ (m : Sat). owns m.0.part.core n) me ∙ none_owned n ∙ sym (ap (is_among n) f.held);
-  marks = f.marks ∙ sym (ap (λ (m : Sat). m.0.part.core.owned) me);
-  room = ap (λ (m : Sat). length m.0.part.core.owned) me ∙ length-replicate 64 false;
+  all = rw (f.board, f.held) refl;
+  owned = λ n. ap (λ (m : Sat). owns m.0.part.core n) me ∙ bare_first b.table.shared.key.kind b.table.shared.key.locks k n ∙ sym (ap (λ (s : Holding). is_among n s.items) f.held);
+  room = rw f.board (ap (λ (m : Sat). length m.0.part.core.owned) me ∙ length-replicate b.table.shared.key.locks false);
+  seats = f.seats;
   draws = omega (arith, f.left, ap (λ (m : Sat). m.0.part.counts.draws) me);
 }
 
-pub first_seen : (b : Board) (k : ℕ) (h : Station) → IsFirst b k h → situation_of h ≡ fresh b.table.shared.table_id (length (first_graph b.table.shared.key)) b.table.shared.key.kind h.left k
+pub first_seen : (b : Board) (k : ℕ) (h : Station) → IsFirst b k h → situation_of h ≡ fresh b.table.shared.table_id b.table.shared.key.locks h.seats b.table.shared.key.kind h.left k
 first_seen b k h f =
-    let core : h.seat.seat.me.0.part.core ≡ first_view b.table.shared.key.kind k = ap (λ (m : Sat). m.0.part.core) f.new.me in
+    let core : h.seat.seat.me.0.part.core ≡ first_view b.table.shared.key.kind b.table.shared.key.locks k = ap (λ (m : Sat). m.0.part.core) f.new.me in
     let counts : h.seat.seat.me.0.part.counts ≡ no_counts = ap (λ (m : Sat). m.0.part.counts) f.new.me in
     rw (f.board, core, counts, f.held, f.is_done, f.told, f.turn, f.wakes) refl
 
-pub fresh_more : (all new : List Situation) (s : Situation) (home : TableId) (size : ℕ) (kind : Kind) (left n : ℕ) → AreFresh all home size kind left n → s ≡ fresh home size kind left n → new ≡ all ++ s ∷ [] → AreFresh new home size kind left (n + 1)
-fresh_more all new s home size kind left n h is grown = rw grown (record {
-  count = omega (arith, h.count, length-append all (s ∷ []));
-  each = λ i d lt. below_more (λ j. (e : Situation) → get_or (all ++ s ∷ []) j e ≡ fresh home size kind left j) n
-      (λ j low e. let small : j < length all = omega (arith, h.count, low) in rw (get_or_append_left all (s ∷ []) e j small) (h.each j e small))
-      (λ e. rw (get_or_push all s e n h.count) is)
-      i (omega (arith, h.count, lt, length-append all (s ∷ []))) d;
+pub fresh_more : (all new : List Situation) (s : Situation) (home : TableId) (size seats : ℕ) (kind : Kind) (left n : ℕ) → AreFresh all home size seats kind left n → s ≡ fresh home size seats kind left n → new ≡ all ++ s ∷ [] → AreFresh new home size seats kind left (n + 1)
+fresh_more all new s home size seats kind left n h is grown = rw grown (record {
+  long = omega (arith, h.long, length-append all (s ∷ []));
+  each = λ i d lt. below_more (λ j. (e : Situation) → get_or (all ++ s ∷ []) j e ≡ fresh home size seats kind left j) n
+      (λ j low e. let small : j < length all = omega (arith, h.long, low) in rw (get_or_append_left all (s ∷ []) e j small) (h.each j e small))
+      (λ e. rw (get_or_push all s e n h.long) is)
+      i (omega (arith, h.long, lt, length-append all (s ∷ []))) d;
 })
 
 elem_mid : {A : Type 0} (xs ys : List A) (y : A) → get_elem? (xs ++ y ∷ ys) (length xs) ≡ some y

@@ -1,3 +1,4 @@
+pub mod Places
 pub mod Locks
 pub mod Keeping
 pub mod Fresh

@@ -1,67 +1,60 @@
--- Lists of locks: one more, and one less.
-use Rattle.std.proofs.Common.{◌≡◌, ◌≢◌, ℕ, ◌<◌, ◌||◌, eqb, true≢false, Bool, true, false, List, [], ◌∷◌, ◌++◌, length, set, get_or, refl, sym, ap, subst, ◌∙◌, arith, inl, inr, length-append, get_or-set_same, get_or-set_other}
-use Rattle.std.specs.List.{AllByRecursion}
-use Rattle.ww_plain.specs.Numbers.{is_among, AreDifferent}
-use Rattle.ww_plain.proofs.Members.{eqb_same, eqb_comm, true_or_false, same_from_eqb, or_cases, or_false, or_right, is_among-append, different_head, different_tail, different_push}
-use Rattle.ww_plain.proofs.FootprintFacts.{few_different}
-use Rattle.ww_view.specs.Made.{without}
-use Rattle.ww_seat.proofs.Without.{another, without_same, without_else, all_without, different_without}
-use Rattle.ww_desk.specs.Stations.{AreHeld}
+-- Which locks are held, once that changes for one of them.
+use Rattle.std.proofs.Common.{◌≡◌, ◌≢◌, ℕ, zero, suc, ◌<◌, ◌≤◌, ◌||◌, not, eqb, true≢false, Bool, true, false, List, [], ◌∷◌, ◌++◌, length, set, get_or, refl, sym, ap, subst, ◌∙◌, arith, inl, inr, get_or-set_same, get_or-set_other}
+use Rattle.std.proofs.lemmas.Bool.Decides.{nat_tests}
+use mathlib.Core.Logic.{dite}
+use native.Mathlib.Decide.{ℕ_discrete}
+use Rattle.ww_plain.specs.Numbers.{is_among}
+use Rattle.ww_plain.proofs.Members.{eqb_same, true_or_false, or_right, is_among-append, is_among-head}
+use Rattle.ww_queue.proofs.Outcomes.{same_number, other_number}
+use Rattle.ww_model.specs.State.{any_below}
+use Rattle.ww_model.proofs.Slots.{below_found, found_below}
+use Rattle.ww_view.specs.declared.view.View.{View}
+use Rattle.ww_view.specs.View.{owns}
+use Rattle.ww_seat.proofs.Outside.{owned_low}
 
 or_nothing : (b : Bool) → (b || false) ≡ b
 or_nothing true = refl
 or_nothing false = refl
 
--- ---- one more
-
 among_added : (held : List ℕ) (n m : ℕ) → is_among m (held ++ n ∷ []) ≡ (is_among m held || eqb n m)
 among_added held n m = is_among-append m held (n ∷ []) ∙ ap (λ (b : Bool). is_among m held || b) (or_nothing (eqb n m))
 
-pub owns_more : (owned new : List Bool) (held : List ℕ) (n : ℕ) → n < length owned → new ≡ set owned n true → ((m : ℕ) → get_or owned m false ≡ is_among m held) → (m : ℕ) → get_or new m false ≡ is_among m (held ++ n ∷ [])
-owns_more owned new held n lt is owns m = elim (true_or_false (eqb n m)) [
-  | inl same ↦
-      let e : n ≡ m = same_from_eqb n m same in
-      ap (λ (os : List Bool). get_or os m false) is ∙ subst (λ (k : ℕ). get_or (set owned n true) k false ≡ true) e (get_or-set_same owned n true false lt)
-      ∙ sym (among_added held n m ∙ ap (λ (b : Bool). is_among m held || b) same ∙ or_right (is_among m held) true refl)
-  | inr other ↦
-      ap (λ (os : List Bool). get_or os m false) is ∙ get_or-set_other owned n m true false (another n m other) ∙ owns m
-      ∙ sym (among_added held n m ∙ ap (λ (b : Bool). is_among m held || b) other ∙ or_nothing (is_among m held))
-]
-
-all_push : (P : ℕ → Type 0) (xs : List ℕ) (x : ℕ) → AllByRecursion P xs → P x → AllByRecursion P (xs ++ x ∷ [])
-all_push P [] x all here = (here, tt)
-all_push P (y ∷ ys) x all here = (all.0, all_push P ys x all.1 here)
-
-pub held_more : (size : ℕ) (held : List ℕ) (n : ℕ) → AreHeld size held → n < size → is_among n held ≡ false → AreHeld size (held ++ n ∷ [])
-held_more size held n h lt absent = record { few = h.few; there = all_push (λ m. m < size) held n h.there lt; once = different_push held n h.once absent }
-
-pub room_held : (size : ℕ) (held : List ℕ) (n : ℕ) → AreHeld size held → n < size → is_among n held ≡ false → length held < 64
-room_held size held n h lt absent =
-    let few = few_different size (held ++ n ∷ []) (different_push held n h.once absent) (all_push (λ m. m < size) held n h.there lt) in
-    omega (arith, few, h.few, length-append held (n ∷ []))
-
--- ---- one less
-
-pub held_less : (size : ℕ) (held : List ℕ) (n : ℕ) → AreHeld size held → AreHeld size (without n held)
-held_less size held n h = record { few = h.few; there = all_without (λ m. m < size) n held h.there; once = different_without n held h.once }
-
--- what is among the locks that are held is one of the world
-pub there_among : (size : ℕ) (held : List ℕ) (n : ℕ) → AllByRecursion (λ m. m < size) held → is_among n held ≡ true → n < size
-there_among size [] n all e = absurd (true≢false (sym e))
-there_among size (m ∷ ms) n all e = elim (or_cases (eqb m n) (is_among n ms) e) [ inl same ↦ subst (λ (k : ℕ). k < size) (same_from_eqb m n same) all.0 | inr later ↦ there_among size ms n all.1 later ]
-
--- ---- the last one
-
+-- the last one is held, and any other where it is before
 pub last_among : (front : List ℕ) (n : ℕ) → is_among n (front ++ n ∷ []) ≡ true
 last_among front n = among_added front n n ∙ ap (λ (b : Bool). is_among n front || b) (eqb_same n) ∙ or_right (is_among n front) true refl
 
--- the one that was taken last goes, and the others stay as they are
-pub without_last : (front : List ℕ) (n : ℕ) → AreDifferent (front ++ n ∷ []) → without n (front ++ n ∷ []) ≡ front
-without_last [] n d = without_same n n [] (eqb_same n)
-without_last (m ∷ ms) n d =
-    let parts = or_false (is_among m ms) (eqb n m || false) (sym (is_among-append m ms (n ∷ [])) ∙ different_head m (ms ++ n ∷ []) d) in
-    let first = or_false (eqb n m) false parts.1 in
-    without_else n m (ms ++ n ∷ []) (eqb_comm n m first.0) ∙ ap (λ (xs : List ℕ). m ∷ xs) (without_last ms n (different_tail m (ms ++ n ∷ []) d))
+pub others_among : (front : List ℕ) (n m : ℕ) → m ≢ n → is_among m (front ++ n ∷ []) ≡ is_among m front
+others_among front n m differ = among_added front n m ∙ ap (λ (b : Bool). is_among m front || b) (apart n m differ) ∙ or_nothing (is_among m front)
+  where
+    apart : (n m : ℕ) → m ≢ n → eqb n m ≡ false
+    apart n m differ = grind (arith, nat_tests, differ)
 
-pub room_last : (size : ℕ) (held front : List ℕ) (n : ℕ) → AreHeld size held → held ≡ front ++ n ∷ [] → length front < 64
-room_last size held front n h is = let few = few_different size held h.once h.there in omega (arith, few, h.few, ap length is, length-append front (n ∷ []))
+-- it owns what is held, as before but for one lock
+pub owns_held : (owned new : List Bool) (was held : List ℕ) (n : ℕ) (b : Bool) → n < length owned → new ≡ set owned n b → ((m : ℕ) → get_or owned m false ≡ is_among m was)
+    → is_among n held ≡ b → ((m : ℕ) → m ≢ n → is_among m held ≡ is_among m was) → (m : ℕ) → get_or new m false ≡ is_among m held
+owns_held owned new was held n b lt is owns here others m = ap (λ (os : List Bool). get_or os m false) is ∙ dite (ℕ_discrete m n)
+    (λ same. subst (λ (k : ℕ). get_or (set owned n b) k false ≡ is_among k held) (sym same) (get_or-set_same owned n b false lt ∙ sym here))
+    (λ differ. get_or-set_other owned n m b false differ ∙ owns m ∙ sym (others m differ))
+
+-- ---- whether one is held
+
+none_of : (xs : List ℕ) → length xs ≤ 0 → xs ≡ []
+none_of [] none = refl
+none_of (x ∷ xs) none = absurd (omega arith)
+
+some_of : (n : ℕ) → n ≢ 0 → 1 ≤ n
+some_of zero isnt = absurd (isnt refl)
+some_of (suc n) isnt = omega arith
+
+holds_any : (v : View) (held : List ℕ) (b : Bool) → ((n : ℕ) → owns v n ≡ is_among n held) → (b ≡ true → held ≡ []) → (b ≡ false → 1 ≤ length held) → any_below (length v.owned) (owns v) ≡ not b
+holds_any v held true same none some = elim (true_or_false (any_below (length v.owned) (owns v))) [
+  | inl has ↦ let f = below_found (length v.owned) (owns v) has in absurd (true≢false (sym f.2 ∙ same f.0 ∙ ap (is_among f.0) (none refl)))
+  | inr lacks ↦ lacks
+]
+holds_any v [] false same none some = absurd (let z = some refl in omega arith)
+holds_any v (x ∷ xs) false same none some = let own : owns v x ≡ true = same x ∙ is_among-head x xs in found_below (length v.owned) (owns v) x (owned_low v.owned x own) own
+
+pub holds_told : (v : View) (held : List ℕ) (b : Bool) → ((n : ℕ) → owns v n ≡ is_among n held) → b ≡ eqb (length held) 0 → any_below (length v.owned) (owns v) ≡ not b
+holds_told v held b same told = holds_any v held b same
+    (λ e. none_of held (let z = same_number (length held) 0 (sym told ∙ e) in omega arith))
+    (λ e. some_of (length held) (other_number (length held) 0 (sym told ∙ e)))

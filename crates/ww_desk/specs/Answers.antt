@@ -2,14 +2,17 @@
 use Rattle.std.specs.Prelude.{ℕ, ◌≡◌, ◌≢◌, ◌<◌, ◌≤◌, ◌+◌, ◌-◌, ◌⊎◌, ◌∷◌, ◌++◌, [], Bool, true, false, List, Some, None, length, replicate}
 use Rattle.std.specs.List.{slice_index_or}
 use Rattle.ww_plain.specs.Numbers.{is_among}
-use Rattle.ww_view.specs.Made.{without, found_pending}
+use Rattle.ww_view.specs.Made.{found_pending}
 use Rattle.ww_seat.specs.Calls.{HasMet}
 use Rattle.ww_seat.specs.Work.{AreWoken, KeepsMarks}
 use Rattle.ww_seat.specs.declared.look.Arrival.TheVariants.{Came, Woken}
+use Rattle.ww_seat.specs.declared.resting.Rest.{Rest}
+use Rattle.ww_seat.specs.declared.resting.Stay.{Stay}
 use Rattle.ww_desk.specs.declared.turn.Turn.{Turn}
 use Rattle.ww_desk.specs.declared.turn.Turn.TheVariants as at
 use Rattle.ww_desk.specs.declared.turn.Answer.{Answer}
 use Rattle.ww_desk.specs.declared.turn.Answer.TheVariants.{Done, Again, Stays, Sleeps, Busy, Invalid, Already, NoSpace, Deadlk, Interrupted}
+use Rattle.ww_desk.specs.Held.{held_without}
 use Rattle.ww_desk.specs.Situations.{Situation, is_at_rest, is_inside, can_want}
 
 -- ---- what a call makes of a desk
@@ -22,9 +25,9 @@ HasLock s n s' = s' ≡ record s { held = s.held ++ n ∷ []; told = None; tries
 abbrev pub HasTried : Situation → Situation → Type 0
 HasTried s s' = s' ≡ record s { tries = s.tries + 1; view = s'.view }
 
--- this lock is held no more
+-- this lock is held no more, and the last one has its place
 abbrev pub HasGivenBack : Situation → ℕ → Situation → Type 0
-HasGivenBack s n s' = s' ≡ record s { held = without n s.held; view = s'.view }
+HasGivenBack s n s' = s' ≡ record s { held = held_without s.held n; view = s'.view }
 
 -- its call stands there now
 abbrev pub HasTurned : Situation → Turn → Situation → Type 0
@@ -105,10 +108,14 @@ IsEndAnswer s _ s' = ⊥
 
 -- ---- taking a lock
 
+-- all of a stay is left: ten glances, and 12,416 pauses in all its rests
+abbrev pub IsWholeStay : Stay → Type 0
+IsWholeStay stay = (stay.glances ≡ 10) × (stay.pauses ≡ 12416)
+
 -- the first turn: it has the lock, or stays away from it
 abbrev pub IsLockAnswer : Situation → ℕ → Bool → Answer → Situation → Type 0
 IsLockAnswer s n heeds Done s' = IsTryable s n × HasLock s n s'
-IsLockAnswer s n heeds Again s' = IsTryable s n × (s' ≡ record s { turn = at.Stays n 8 heeds; tries = s.tries + 1; view = s'.view })
+IsLockAnswer s n heeds Again s' = IsTryable s n × ((stay : Stay) × IsWholeStay stay × (s' ≡ record s { turn = at.Stays n stay heeds; tries = s.tries + 1; view = s'.view }))
 IsLockAnswer s n heeds Busy s' = (is_at_rest s.turn ≡ false) × (s' ≡ s)
 IsLockAnswer s n heeds Already s' = IsHeldAtRest s n × (s' ≡ s)
 IsLockAnswer s n heeds Invalid s' = IsBarred s n × (s' ≡ s)
@@ -138,11 +145,16 @@ IsOnItsWay n heeds (at.Wants m arrival h) = (m ≡ n) × (h ≡ heeds)
 IsOnItsWay n heeds (at.Looks m arrival h) = (m ≡ n) × (h ≡ heeds)
 IsOnItsWay n heeds _ = ⊥
 
--- a glance, where one is left
-abbrev pub IsStayAnswer : Situation → ℕ → ℕ → Bool → Answer → Situation → Type 0
-IsStayAnswer s n k heeds (Stays same) s' = (1 ≤ k) × HasGlanced s s' × HasTurned s (at.Stays n (k - 1) heeds) s'
-IsStayAnswer s n k heeds Again s' = ((k ≡ 0) ⊎ HasGlanced s s') × HasTurned s (at.Wants n Came heeds) s'
-IsStayAnswer s n k heeds _ s' = ⊥
+-- so much of its stay is left to a call that is told this rest
+pub record IsRest (stay next : Stay) (rest : Rest) : Type 0 where
+  pub glances : next.glances < stay.glances
+  pub pauses : next.pauses + rest.pauses ≡ stay.pauses
+
+-- a glance, and then a rest or the wish for the lock
+abbrev pub IsStayAnswer : Situation → ℕ → Stay → Bool → Answer → Situation → Type 0
+IsStayAnswer s n stay heeds (Stays rest) s' = HasGlanced s s' × ((next : Stay) × IsRest stay next rest × HasTurned s (at.Stays n next heeds) s')
+IsStayAnswer s n stay heeds Again s' = HasGlanced s s' × HasTurned s (at.Wants n Came heeds) s'
+IsStayAnswer s n stay heeds _ s' = ⊥
 
 -- a look, or a try to go inside the guard: whom the seat had to wake it still has
 abbrev pub IsWaitAnswer : Situation → ℕ → Bool → Answer → Situation → Type 0
@@ -177,14 +189,14 @@ IsGiveTurn n _ = ⊥
 
 abbrev pub IsGiveAnswer : Situation → ℕ → Answer → Situation → Type 0
 IsGiveAnswer s n Again s' = IsGiveTurn n s'.turn × HasWorked s s' × (s' ≡ record s { turn = s'.turn; view = s'.view })
-IsGiveAnswer s n Done s' = IsHeirWoken s' × KeepsMarks s.wakes s'.wakes × (s' ≡ record s { turn = at.Rests; held = without n s.held; wakes = s'.wakes; view = s'.view })
+IsGiveAnswer s n Done s' = IsHeirWoken s' × KeepsMarks s.wakes s'.wakes × (s' ≡ record s { turn = at.Rests; held = held_without s.held n; wakes = s'.wakes; view = s'.view })
 IsGiveAnswer s n _ s' = ⊥
 
 -- ---- the next turn, whatever call is on its way
 
 abbrev pub IsNextAnswer : Turn → Situation → Answer → Situation → Type 0
 IsNextAnswer at.Rests s a s' = (a ≡ Invalid) × (s' ≡ s)
-IsNextAnswer (at.Stays n k heeds) s a s' = IsStayAnswer s n k heeds a s'
+IsNextAnswer (at.Stays n stay heeds) s a s' = IsStayAnswer s n stay heeds a s'
 IsNextAnswer (at.Wants n arrival heeds) s a s' = IsWaitAnswer s n heeds a s'
 IsNextAnswer (at.Looks n arrival heeds) s a s' = IsWaitAnswer s n heeds a s'
 IsNextAnswer (at.Gives n) s a s' = IsGiveAnswer s n a s'
@@ -197,12 +209,12 @@ abbrev pub IsWakesAnswer : Situation → List Bool → Situation → Type 0
 IsWakesAnswer s wakes s' = (is_inside s.turn ≡ true → (wakes ≡ replicate 16 false) × (s' ≡ s))
     × (is_inside s.turn ≡ false → (wakes ≡ s.wakes) × (s' ≡ record s { wakes = replicate 16 false }))
 
--- the wait of seat u is called off; or its one step found that pending already, which is counted
+-- the wait of seat u, one of the world, is called off; or its one step found that pending already, which is counted
 abbrev pub IsCancelAnswer : Situation → ℕ → Answer → Situation → Type 0
-IsCancelAnswer s u Done s' = (is_at_rest s.turn ≡ true) × (u < 16) × (u ≢ s.caller → slice_index_or s'.wakes u false ≡ true) × KeepsMarks s.wakes s'.wakes × (s' ≡ record s { cancelled = u ∷ s.cancelled; wakes = s'.wakes })
-IsCancelAnswer s u Already s' = (is_at_rest s.turn ≡ true) × (u < 16) × (s' ≡ record s { pendings = s.pendings + 1; view = found_pending s.view })
+IsCancelAnswer s u Done s' = (is_at_rest s.turn ≡ true) × (u < s.seats) × (u ≢ s.caller → slice_index_or s'.wakes u false ≡ true) × KeepsMarks s.wakes s'.wakes × (s' ≡ record s { cancelled = u ∷ s.cancelled; wakes = s'.wakes })
+IsCancelAnswer s u Already s' = (is_at_rest s.turn ≡ true) × (u < s.seats) × (s' ≡ record s { pendings = s.pendings + 1; view = found_pending s.view })
 IsCancelAnswer s u Busy s' = (is_at_rest s.turn ≡ false) × (s' ≡ s)
-IsCancelAnswer s u Invalid s' = (is_at_rest s.turn ≡ true) × (16 ≤ u) × (s' ≡ s)
+IsCancelAnswer s u Invalid s' = (is_at_rest s.turn ≡ true) × (s.seats ≤ u) × (s' ≡ s)
 IsCancelAnswer s u _ s' = ⊥
 
 -- nothing is on its way, it has no context and holds nothing

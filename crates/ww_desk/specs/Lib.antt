@@ -1,3 +1,4 @@
+pub mod Held
 pub mod Situations
 pub mod Stations
 pub mod Answers

@@ -1,18 +1,21 @@
 -- What opening a world gives.
 use Rattle.std.specs.Prelude.{ℕ, ◌≡◌, ◌<◌, ◌≤◌, ◌^◌, ◌⊎◌, [], List, false, replicate, length, slice_index_or, None}
 use Rattle.atomic_table.specs.Seated.{TableId}
+use Rattle.ww_word.specs.declared.owner.TheConstants.{MAX_SEATS}
 use Rattle.ww_queue.specs.declared.kind.Kind.{Kind}
 use Rattle.ww_view.specs.View.{first_view}
 use Rattle.ww_desk.specs.declared.turn.Turn.TheVariants.{Rests}
+use Rattle.ww_desk.specs.declared.opening.TheConstants.{MAX_LOCKS}
 use Rattle.ww_desk.specs.declared.opening.OpenFault.{OpenFault}
-use Rattle.ww_desk.specs.declared.opening.OpenFault.TheVariants.{BadSize, NoMemory}
+use Rattle.ww_desk.specs.declared.opening.OpenFault.TheVariants.{BadLocks, BadSeats, BadContexts, NoMemory}
 use Rattle.ww_desk.specs.Situations.{Situation}
 
 -- the desk of this number, which has done nothing yet
-abbrev pub fresh : TableId → ℕ → Kind → ℕ → ℕ → Situation
-fresh home size kind left caller = record {
+abbrev pub fresh : TableId → ℕ → ℕ → Kind → ℕ → ℕ → Situation
+fresh home size seats kind left caller = record {
   home = home;
   size = size;
+  seats = seats;
   kind = kind;
   caller = caller;
   left = left;
@@ -29,27 +32,33 @@ fresh home size kind left caller = record {
   cancelled = [];
   pendings = 0;
   interrupted = [];
-  view = first_view kind caller;
+  view = first_view kind size caller;
 }
 
--- so many desks of one world, each with its number, that have done nothing yet
-pub record AreFresh (all : List Situation) (home : TableId) (size : ℕ) (kind : Kind) (left seats : ℕ) : Type 0 where
-  pub count : length all ≡ seats
-  pub each : (i : ℕ) (d : Situation) → i < length all → slice_index_or all i d ≡ fresh home size kind left i
+-- so many desks of one world of so many seats, each with its number, that have done nothing yet
+pub record AreFresh (all : List Situation) (home : TableId) (size seats : ℕ) (kind : Kind) (left count : ℕ) : Type 0 where
+  pub long : length all ≡ count
+  pub each : (i : ℕ) (d : Situation) → i < length all → slice_index_or all i d ≡ fresh home size seats kind left i
 
--- 1 to 64 locks, and 1 to 16 seats, each of which may begin fewer than 2 ^ 52 contexts
+-- there are some, and no more than these
+pub record IsCount (n most : ℕ) : Type 0 where
+  pub some : 1 ≤ n
+  pub few : n ≤ most
+
+-- the locks and the seats of a world, and how many contexts each seat may begin
 pub record IsWorldSize (locks seats left : ℕ) : Type 0 where
-  pub some_locks : 1 ≤ locks
-  pub few_locks : locks ≤ 64
-  pub some_seats : 1 ≤ seats
-  pub few_seats : seats ≤ 16
+  pub locks_are : IsCount locks MAX_LOCKS
+  pub seats_are : IsCount seats MAX_SEATS
   pub few_contexts : left < 2 ^ 52
 
 pub record IsOpened (kind : Kind) (locks seats left : ℕ) (all : List Situation) : Type 0 where
   pub sizes : IsWorldSize locks seats left
   pub home : TableId
-  pub fresh : AreFresh all home locks kind left seats
+  pub fresh : AreFresh all home locks seats kind left seats
 
+-- which number is out of range, the first one; or none is
 abbrev pub IsOpenFault : ℕ → ℕ → ℕ → OpenFault → Type 0
-IsOpenFault locks seats left BadSize = (locks ≡ 0) ⊎ ((64 < locks) ⊎ ((seats ≡ 0) ⊎ ((16 < seats) ⊎ (2 ^ 52 ≤ left))))
+IsOpenFault locks seats left BadLocks = (locks ≡ 0) ⊎ (MAX_LOCKS < locks)
+IsOpenFault locks seats left BadSeats = IsCount locks MAX_LOCKS × ((seats ≡ 0) ⊎ (MAX_SEATS < seats))
+IsOpenFault locks seats left BadContexts = IsCount locks MAX_LOCKS × IsCount seats MAX_SEATS × (2 ^ 52 ≤ left)
 IsOpenFault locks seats left NoMemory = IsWorldSize locks seats left

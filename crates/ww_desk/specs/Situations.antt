@@ -6,15 +6,16 @@ use Rattle.ww_view.specs.declared.view.View.{View}
 use Rattle.ww_desk.specs.declared.turn.Turn.{Turn}
 use Rattle.ww_desk.specs.declared.turn.Turn.TheVariants.{Rests, Stays, Wants, Looks, Gives, Lets}
 
--- Its world: the table; how many locks that has, and of which kind; its number there; how many contexts it may still
+-- Its world: the table; how many locks and seats that has, and of which kind; its number there; how many contexts it may still
 -- begin, and how many it has begun; its stamp, 0 without a context; whether its context is done; the locks that it holds,
--- in the order in which they were taken; the lock for which it was told to back off; where its call stands; whom it has
+-- each new one the last; the lock for which it was told to back off; where its call stands; whom it has
 -- to wake, a mark for each seat; how often it tried to take a lock at once, took one, and had to back off; the seats whose
 -- wait it called off, the last one first, and how often it found a cancel pending where it would set one; each time that
 -- its own wait was called off, the last one first: for which lock, and by which seat; and what its seat knows of the locks.
 pub record Situation : Type 0 where
   pub home : TableId
   pub size : ℕ
+  pub seats : ℕ
   pub kind : Kind
   pub caller : ℕ
   pub left : ℕ
@@ -36,7 +37,7 @@ pub record Situation : Type 0 where
 -- between two calls
 abbrev pub is_at_rest : Turn → Bool
 is_at_rest Rests = true
-is_at_rest (Stays n k heeds) = false
+is_at_rest (Stays n stay heeds) = false
 is_at_rest (Wants n arrival heeds) = false
 is_at_rest (Looks n arrival heeds) = false
 is_at_rest (Gives n) = false
@@ -45,7 +46,7 @@ is_at_rest (Lets n) = false
 -- inside a guard
 abbrev pub is_inside : Turn → Bool
 is_inside Rests = false
-is_inside (Stays n k heeds) = false
+is_inside (Stays n stay heeds) = false
 is_inside (Wants n arrival heeds) = false
 is_inside (Looks n arrival heeds) = true
 is_inside (Gives n) = false

@@ -1,13 +1,12 @@
 -- What is true of a desk, whatever was called before.
-use Rattle.std.specs.Prelude.{ℕ, ◌≡◌, ◌<◌, ◌≤◌, ◌+◌, ◌^◌, ◌==◌, Bool, not, true, List, length}
+use Rattle.std.specs.Prelude.{ℕ, ◌≡◌, ◌<◌, ◌≤◌, ◌+◌, ◌^◌, Bool, true, List, length}
 use Rattle.std.specs.Arc.{arc_value}
-use Rattle.std.specs.List.{AllByRecursion}
 use Rattle.atomic_table.specs.Seated.{TableId}
-use Rattle.ww_plain.specs.Numbers.{is_among, AreDifferent}
+use Rattle.ww_plain.specs.Numbers.{is_among}
 use Rattle.ww_view.specs.View.{owns}
 use Rattle.ww_table.specs.declared.board.Board.{Board}
 use Rattle.ww_table.specs.declared.seat.Seat16.{Seat16}
-use Rattle.ww_table.specs.Seat.{IsSeated, size_of, view_of}
+use Rattle.ww_table.specs.Seat.{IsSeated, locks_of, size_of, view_of}
 use Rattle.ww_seat.specs.Orderly.{IsOrderly, IsSettled}
 use Rattle.ww_seat.specs.Guards.{IsGiving}
 use Rattle.ww_seat.specs.Looks.{IsOutside}
@@ -25,7 +24,8 @@ table_of board = board.table.shared.table_id
 abbrev pub situation_of : Station → Situation
 situation_of d = record {
   home = table_of (arc_value d.board);
-  size = size_of (arc_value d.board);
+  size = locks_of (arc_value d.board);
+  seats = d.seats;
   kind = (view_of d.seat).kind;
   caller = (view_of d.seat).who;
   left = d.left;
@@ -46,29 +46,23 @@ situation_of d = record {
 }
 
 -- Where the seat is at each turn of a call, and whom it has to wake then.
-abbrev pub IsAt : TableId → ℕ → List Bool → Turn → Seat16 → Type 0
-IsAt table size wakes Rests s = IsSettled table size s
-IsAt table size wakes (Stays n k heeds) s = IsSeated table s × (n < size) × IsOutside size n s.seat.me × ((view_of s).waits ≡ 0) × ((view_of s).glances + k ≤ 16)
-IsAt table size wakes (Wants n arrival heeds) s = IsSeated table s × (n < size) × IsOutside size n s.seat.me × ComesOutside arrival (view_of s)
-IsAt table size wakes (Looks n arrival heeds) s = IsSeated table s × (n < size) × IsOrderly size s.seat.me × IsWorking n (has_joined arrival) (looks_again arrival) (view_of s) × AreWoken (view_of s) wakes
-IsAt table size wakes (Gives n) s = IsSettled table size s × (n < size) × (owns (view_of s) n ≡ true)
-IsAt table size wakes (Lets n) s = IsSeated table s × (n < size) × IsGiving size n s.seat.me
+abbrev pub IsAt : TableId → ℕ → ℕ → List Bool → Turn → Seat16 → Type 0
+IsAt table size locks wakes Rests s = IsSettled table size s
+IsAt table size locks wakes (Stays n stay heeds) s = IsSeated table s × (n < locks) × IsOutside size n s.seat.me × ((view_of s).waits ≡ 0) × (1 ≤ stay.glances) × ((view_of s).glances + stay.glances ≤ 16)
+IsAt table size locks wakes (Wants n arrival heeds) s = IsSeated table s × (n < locks) × IsOutside size n s.seat.me × ComesOutside arrival (view_of s)
+IsAt table size locks wakes (Looks n arrival heeds) s = IsSeated table s × (n < locks) × IsOrderly size s.seat.me × IsWorking n (has_joined arrival) (looks_again arrival) (view_of s) × AreWoken (view_of s) wakes
+IsAt table size locks wakes (Gives n) s = IsSettled table size s × (n < locks) × (owns (view_of s) n ≡ true)
+IsAt table size locks wakes (Lets n) s = IsSeated table s × (n < locks) × IsGiving size n s.seat.me
 
--- each lock that is held is one of the world, and is held once
-pub record AreHeld (size : ℕ) (held : List ℕ) : Type 0 where
-  pub few : size ≤ 64
-  pub there : AllByRecursion (λ n. n < size) held
-  pub once : AreDifferent held
-
--- The seat is where the turn says, and owns just the locks that are held, which have their marks. With what is left it
--- stays within what the table counts.
+-- The seat is where the turn says, and owns just the locks that are held. With what is left it stays within what the table
+-- counts.
 pub record Keeps (d : Station) : Type 0 where
-  pub at : IsAt (table_of (arc_value d.board)) (size_of (arc_value d.board)) d.wake.seats d.turn d.seat
+  pub at : IsAt (table_of (arc_value d.board)) (size_of (arc_value d.board)) (locks_of (arc_value d.board)) d.wake.seats d.turn d.seat
   pub stamp : (view_of d.seat).stamp ≡ d.seat.stamp
-  pub held : AreHeld (size_of (arc_value d.board)) d.held.items
+  pub all : d.held.locks ≡ locks_of (arc_value d.board)
   pub owned : (n : ℕ) → owns (view_of d.seat) n ≡ is_among n d.held.items
-  pub marks : d.marks ≡ (view_of d.seat).owned
-  pub room : length (view_of d.seat).owned ≡ 64
+  pub room : length (view_of d.seat).owned ≡ locks_of (arc_value d.board)
+  pub seats : d.seats ≤ 16
   pub draws : d.seat.seat.me.0.part.counts.draws + d.left < 2 ^ 52
 
 -- it has just tried this lock in vain, and may stay away from it

@@ -53,7 +53,7 @@ impl Desk {
     /// isn't there, for a context that is done, for one that was told to back off and hasn't, and for a second lock
     /// without a context.
     #[inline]
-    pub fn lock(&mut self, lock: u8, heeds: bool) -> Answer
+    pub fn lock(&mut self, lock: u32, heeds: bool) -> Answer
         ensures { IsLockAnswer self.old lock heeds result self.new }
     {
         self.station.lock(lock, heeds)
@@ -61,7 +61,7 @@ impl Desk {
 
     /// Takes a lock if nobody has it or waits for it, and else answers `Busy`.
     #[inline]
-    pub fn try_lock(&mut self, lock: u8) -> Answer
+    pub fn try_lock(&mut self, lock: u32) -> Answer
         ensures { IsTryAnswer self.old lock result self.new }
     {
         self.station.try_lock(lock)
@@ -69,21 +69,21 @@ impl Desk {
 
     /// Takes the lock for which the context was told to back off, once it has. `Invalid` for any other lock, or while
     /// one is held.
-    pub fn lock_slow(&mut self, lock: u8, heeds: bool) -> Answer
+    pub fn lock_slow(&mut self, lock: u32, heeds: bool) -> Answer
         ensures { IsSlowAnswer self.old lock heeds result self.new }
     {
         self.station.lock_slow(lock, heeds)
     }
 
-    /// Gives a lock back, or begins to. `Invalid` for one that isn't held.
+    /// Gives a lock back, or begins to; the last of those held takes its place. `Invalid` for one that isn't held.
     #[inline]
-    pub fn unlock(&mut self, lock: u8) -> Answer
+    pub fn unlock(&mut self, lock: u32) -> Answer
         ensures { IsUnlockAnswer self.old lock result self.new }
     {
         self.station.unlock(lock)
     }
 
-    /// Gives all locks back, the one taken last first. Where somebody may wait for one it answers `Again`: that one is
+    /// Gives all locks back, the last one first. Where somebody may wait for one it answers `Again`: that one is
     /// given back by further turns, and those before it by another call of this.
     pub fn unlock_all(&mut self) -> Answer
         ensures { IsUnlockAllAnswer self.old result self.new }
@@ -99,7 +99,7 @@ impl Desk {
     }
 
     /// Calls off the wait of the seat of this number, if its call lets it. `Already` where that is pending, which
-    /// stays.
+    /// stays; `Invalid` for a seat that the world hasn't.
     pub fn cancel(&mut self, victim: u8) -> Answer
         ensures { IsCancelAnswer self.old victim result self.new }
     {

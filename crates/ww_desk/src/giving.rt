@@ -10,7 +10,7 @@ impl Station {
     ghost use Rattle.ww_desk.specs.Answers.{IsHeldAtRest, HasGivenBack, HasKept, HasTurned, IsUnlockAnswer, IsUnlockAllAnswer};
 
     /// One try to give back a lock that it holds; where somebody may wait for it, the call goes on.
-    fn give_or_go_on(&mut self, lock: u8) -> bool
+    fn give_or_go_on(&mut self, lock: u32) -> bool
         requires keeps { Keeps self.old }
         requires held { IsHeldAtRest (situation_of self.old) lock }
         ensures keeps { Keeps self.new }
@@ -19,7 +19,7 @@ impl Station {
         ensures going { result ≡ false → HasTurned (situation_of self.old) (Gives lock) (situation_of self.new) }
     {
         if give_at_once(&mut self.seat, &self.board, lock) {
-            self.remove(lock);
+            self.held.remove(lock);
             return true;
         }
         self.turn = Turn::Gives(lock);
@@ -27,7 +27,7 @@ impl Station {
     }
 
     /// Gives a lock back.
-    pub(crate) fn unlock(&mut self, lock: u8) -> Answer
+    pub(crate) fn unlock(&mut self, lock: u32) -> Answer
         requires keeps { Keeps self.old }
         ensures keeps { Keeps self.new }
         ensures answer { IsUnlockAnswer (situation_of self.old) lock result (situation_of self.new) }
@@ -35,7 +35,7 @@ impl Station {
         if !self.rests() {
             return Answer::Busy;
         }
-        if !self.holds(lock) {
+        if !self.held.has(lock) {
             return Answer::Invalid;
         }
         if self.give_or_go_on(lock) {
@@ -45,7 +45,7 @@ impl Station {
         }
     }
 
-    /// Gives locks back, the one taken last first, up to the first for which somebody may wait: that one is given back
+    /// Gives locks back, the last one first, up to the first for which somebody may wait: that one is given back
     /// by further turns, and the others by another call.
     pub(crate) fn unlock_all(&mut self) -> Answer
         requires keeps { Keeps self.old }
@@ -57,11 +57,10 @@ impl Station {
         }
         while let Some(lock) = self.held.pop() {
             if !give_at_once(&mut self.seat, &self.board, lock) {
-                self.held.push(lock);
+                self.held.add(lock);
                 self.turn = Turn::Gives(lock);
                 return Answer::Again;
             }
-            self.marks[usize::from(lock)] = false;
         }
         Answer::Done
     }

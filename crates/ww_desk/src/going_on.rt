@@ -1,5 +1,5 @@
 //! The further turns of a call.
-ghost use Rattle.std.specs.Prelude.{◌≡◌, ◌≢◌, ◌<◌, ◌↔◌, true, false, IsTrue, IfSome, IfNone};
+ghost use Rattle.std.specs.Prelude.{◌≡◌, ◌≢◌, ◌<◌, true, false, IfSome};
 ghost use Rattle.std.specs.List.{slice_index_or};
 ghost use Rattle.ww_seat.specs.Work.{KeepsMarks};
 ghost use Rattle.ww_desk.specs.declared.turn.Turn.TheVariants.{Stays, Looks, Lets};
@@ -7,8 +7,10 @@ ghost use Rattle.ww_desk.specs.declared.turn.Turn.TheVariants.{Stays, Looks, Let
 use crate::station::Station;
 use crate::turn::{Answer, Turn};
 use ww_queue::Entry;
-use ww_seat::{Arrival, Look, Wake, cancel_once, enter_owned, enter_wanted, give_on, look_once};
-use ww_word::{MAX_SEATS, Owner};
+use ww_seat::{
+    Arrival, Look, Stay, Wake, cancel_once, enter_owned, enter_wanted, give_on, look_once,
+};
+use ww_word::MAX_SEATS;
 
 impl Station {
     ghost use Rattle.ww_desk.specs.Stations.{situation_of, Keeps};
@@ -22,7 +24,7 @@ impl Station {
     {
         match self.turn {
             Turn::Rests => Answer::Invalid,
-            Turn::Stays(lock, glances, heeds) => self.stay(lock, glances, heeds),
+            Turn::Stays(lock, stay, heeds) => self.stay(lock, stay, heeds),
             Turn::Wants(lock, arrival, heeds) => {
                 if !enter_wanted(&mut self.seat, &self.board, lock) {
                     return Answer::Again;
@@ -40,30 +42,25 @@ impl Station {
         }
     }
 
-    /// One glance at a lock that it tried in vain, where one is left; then it wants the lock.
-    fn stay(&mut self, lock: u8, glances: u8, heeds: bool) -> Answer
+    /// One glance at a lock that it tried in vain; then it rests, or wants the lock.
+    fn stay(&mut self, lock: u32, stay: Stay, heeds: bool) -> Answer
         requires keeps { Keeps self.old }
-        requires turn { self.old.turn ≡ Stays lock glances heeds }
+        requires turn { self.old.turn ≡ Stays lock stay heeds }
         ensures keeps { Keeps self.new }
-        ensures answer { IsStayAnswer (situation_of self.old) lock glances heeds result (situation_of self.new) }
+        ensures answer { IsStayAnswer (situation_of self.old) lock stay heeds result (situation_of self.new) }
     {
-        if glances == 0 {
-            self.turn = Turn::Wants(lock, Arrival::Came, heeds);
-            return Answer::Again;
-        }
         let owner = self.seat.glance(&self.board, lock);
-        if owner.seat.is_none() {
+        let mut stay = stay;
+        let Some(rest) = stay.next(&mut self.memory, owner) else {
             self.turn = Turn::Wants(lock, Arrival::Came, heeds);
             return Answer::Again;
-        }
-        let is_same = is_same(self.seen, owner);
-        self.seen = Some(owner);
-        self.turn = Turn::Stays(lock, glances - 1, heeds);
-        Answer::Stays(is_same)
+        };
+        self.turn = Turn::Stays(lock, stay, heeds);
+        Answer::Stays(rest)
     }
 
     /// One look at a lock, inside its guard.
-    fn look(&mut self, lock: u8, arrival: Arrival, heeds: bool) -> Answer
+    fn look(&mut self, lock: u32, arrival: Arrival, heeds: bool) -> Answer
         requires keeps { Keeps (record self.old { turn = Looks lock arrival heeds }) }
         ensures keeps { Keeps self.new }
         ensures answer { IsWaitAnswer (situation_of self.old) lock heeds result (situation_of self.new) }
@@ -75,6 +72,7 @@ impl Station {
             lock,
             &mut arrival,
             heeds,
+            !self.held.is_empty(),
             &mut self.wake,
         );
         match look {
@@ -104,7 +102,7 @@ impl Station {
     }
 
     /// One try to give the lock back inside its guard.
-    fn let_go(&mut self, lock: u8) -> Answer
+    fn let_go(&mut self, lock: u32) -> Answer
         requires keeps { Keeps (record self.old { turn = Lets lock }) }
         ensures keeps { Keeps self.new }
         ensures answer { IsGiveAnswer (situation_of self.old) lock result (situation_of self.new) }
@@ -116,7 +114,7 @@ impl Station {
             }
             Some(first) => {
                 add_first(&mut self.wake, self.seat.who(), first);
-                self.remove(lock);
+                self.held.remove(lock);
                 self.turn = Turn::Rests;
                 Answer::Done
             }
@@ -132,7 +130,7 @@ impl Station {
         if !self.rests() {
             return Answer::Busy;
         }
-        if usize::from(victim) >= MAX_SEATS {
+        if victim >= self.seats {
             return Answer::Invalid;
         }
         if !cancel_once(&mut self.seat, &self.board, victim) {
@@ -152,17 +150,6 @@ impl Station {
             Turn::Looks(..) | Turn::Lets(..) => [false; MAX_SEATS],
             _ => self.wake.take(),
         }
-    }
-}
-
-/// Whether it is still the context that was seen before.
-fn is_same(seen: Option<Owner>, owner: Owner) -> bool
-    ensures some { IfSome seen (λ before. IsTrue result ↔ ((before.seat ≡ owner.seat) × (before.stamp ≡ owner.stamp))) }
-    ensures none { IfNone seen (result ≡ false) }
-{
-    match seen {
-        Some(seen) => seen.seat == owner.seat && seen.stamp == owner.stamp,
-        None => false,
     }
 }
 

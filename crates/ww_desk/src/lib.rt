@@ -10,13 +10,14 @@ mod contexts;
 mod desk;
 mod giving;
 mod going_on;
+mod held;
 mod opening;
 mod station;
 mod taking;
 mod turn;
 
 pub use desk::Desk;
-pub use opening::{MAX_CONTEXTS, OpenFault, open};
+pub use opening::{MAX_CONTEXTS, MAX_LOCKS, OpenFault, open};
 pub use turn::{Answer, Turn};
 
 #[cfg(test)]

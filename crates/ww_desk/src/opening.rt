@@ -5,16 +5,19 @@ ghost use Rattle.ww_table.specs.Made.{AreNew};
 ghost use Rattle.ww_desk.specs.Opened.{AreFresh, IsOpened, IsOpenFault};
 
 use crate::desk::Desk;
-use crate::station::{MAX_LOCKS, Station};
+use crate::held::Held;
+use crate::station::Station;
 use crate::turn::Turn;
-use arrayvec::ArrayVec;
 use std::alloc::{AllocError, Global};
 use std::sync::Arc;
 use ww_plain::{Graph, Node};
 use ww_queue::Kind;
-use ww_seat::Wake;
+use ww_seat::{Memory, Wake};
 use ww_table::{Board, Seat16};
 use ww_word::MAX_SEATS;
+
+/// How many locks a world has at most.
+pub const MAX_LOCKS: u32 = 65_536;
 
 /// How many contexts a desk may begin. Those of sixteen fit into the stamps that there are.
 pub const MAX_CONTEXTS: u64 = (1 << 52) - 1;
@@ -22,33 +25,37 @@ pub const MAX_CONTEXTS: u64 = (1 << 52) - 1;
 /// Why a world was not opened.
 #[derive(Clone, Copy, Debug, PartialEq, Eq)]
 pub enum OpenFault {
-    /// There would be no lock or no seat, or more than 64 locks, or more than 16 seats, or a desk would begin more than
-    /// `MAX_CONTEXTS` contexts.
-    BadSize,
+    /// There would be no lock, or more than `MAX_LOCKS`.
+    BadLocks,
+    /// There would be no seat, or more than `MAX_SEATS`.
+    BadSeats,
+    /// A desk might begin more than `MAX_CONTEXTS` contexts.
+    BadContexts,
     /// A growth was refused.
     NoMemory,
 }
 
-/// Opens a world of so many locks, from 1 to 64, and gives its desks, from 1 to 16, each of which may begin so many
-/// contexts. The world goes with the last of its desks.
+/// Opens a world of so many locks, from 1 to `MAX_LOCKS`, and gives its desks, from 1 to `MAX_SEATS`, each of which may
+/// begin so many contexts. The first of these numbers that is out of range is told. It takes time and memory by the
+/// number of locks times that of seats; calls of desks take none. The world goes with the last of its desks.
 pub fn open(
     alloc: Global,
     kind: Kind,
-    locks: u8,
+    locks: u32,
     seats: u8,
     left: u64,
 ) -> Result<Vec<Desk>, OpenFault>
     ensures ok { IfOk result (λ all. IsOpened kind locks seats left all.items) }
     ensures err { IfErr result (IsOpenFault locks seats left) }
 {
-    if locks == 0 || usize::from(locks) > MAX_LOCKS {
-        return Err(OpenFault::BadSize);
+    if locks == 0 || locks > MAX_LOCKS {
+        return Err(OpenFault::BadLocks);
     }
     if seats == 0 || usize::from(seats) > MAX_SEATS {
-        return Err(OpenFault::BadSize);
+        return Err(OpenFault::BadSeats);
     }
     if left > MAX_CONTEXTS {
-        return Err(OpenFault::BadSize);
+        return Err(OpenFault::BadContexts);
     }
     match lay(alloc, kind, locks, seats, left) {
         Ok(all) => Ok(all),
@@ -56,9 +63,10 @@ pub fn open(
     }
 }
 
-/// Makes the table, and a desk for each of its seats. The nodes of the table's graph are never read.
-fn lay(alloc: Global, kind: Kind, locks: u8, seats: u8, left: u64) -> Result<Vec<Desk>, AllocError>
-    requires locks { (1 ≤ locks) × (locks ≤ 64) }
+/// Makes the table, and a desk for each of its seats. Its graph has one node, which is never read: the other locks guard
+/// none.
+fn lay(alloc: Global, kind: Kind, locks: u32, seats: u8, left: u64) -> Result<Vec<Desk>, AllocError>
+    requires locks { (1 ≤ locks) × (locks ≤ MAX_LOCKS) }
     requires seats { (1 ≤ seats) × (seats ≤ 16) }
     requires left { left < 2 ^ 52 }
     ensures { IfOk result (λ all. IsOpened kind locks seats left all.items) }
@@ -67,43 +75,47 @@ fn lay(alloc: Global, kind: Kind, locks: u8, seats: u8, left: u64) -> Result<Vec
         value: 0,
         ports: [None; 8],
     };
-    let nodes = Vec::from_elem(alloc, node, usize::from(locks))?;
+    let nodes = Vec::from_elem(alloc, node, 1)?;
     let room = Vec::with_capacity(alloc, usize::from(seats))?;
     let Ok(graph) = Graph::new(nodes) else {
         return Err(AllocError);
     };
-    let Ok((board, made)) = Board::make(alloc, kind, graph, seats) else {
+    let Ok((board, made)) = Board::make(alloc, kind, graph, locks, seats) else {
         return Err(AllocError);
     };
     let board = Arc::new(alloc, board)?;
-    fresh(&board, made, left, room)
+    fresh(&board, made, seats, left, room)
 }
 
 /// The desks of new seats.
 fn fresh(
     board: &Arc<Board, Global>,
     seats: Vec<Seat16>,
+    count: u8,
     left: u64,
     mut all: Vec<Desk>,
 ) -> Result<Vec<Desk>, AllocError>
     requires seats { AreNew (arc_value board.now).table.shared.table_id (arc_value board.now).table.shared.key (length seats.items) seats.items }
     requires few { length (first_graph (arc_value board.now).table.shared.key) ≤ 64 }
+    requires fits { length (first_graph (arc_value board.now).table.shared.key) ≤ (arc_value board.now).table.shared.key.locks }
+    requires count { (count ≡ length seats.items) × (count ≤ 16) }
     requires left { left < 2 ^ 52 }
     requires room { (all.items ≡ []) × (vec_len all ≡ 0) × (length seats.items ≤ vec_capacity all) }
-    ensures { IfOk result (λ all. AreFresh all.items (arc_value board.now).table.shared.table_id (length (first_graph (arc_value board.now).table.shared.key)) (arc_value board.now).table.shared.key.kind left (length seats.items)) }
+    ensures { IfOk result (λ all. AreFresh all.items (arc_value board.now).table.shared.table_id (arc_value board.now).table.shared.key.locks count (arc_value board.now).table.shared.key.kind left (length seats.items)) }
 {
     for seat in seats {
+        let held = Held::none(*all.allocator(), board.locks())?;
         let board = Arc::try_clone(board)?;
         let station = Station {
             board,
             seat,
+            seats: count,
             left,
-            held: ArrayVec::new(),
-            marks: [false; MAX_LOCKS],
+            held,
             is_done: false,
             told: None,
             turn: Turn::Rests,
-            seen: None,
+            memory: Memory::new(),
             wake: Wake::new(),
         };
         all.push_reserved(Desk { station });

@@ -1,9 +1,7 @@
 //! The first turn of taking a lock.
 use crate::station::Station;
 use crate::turn::{Answer, Turn};
-
-/// How often a call that lost its first try glances at the lock before it joins the wait list.
-const GLANCES: u8 = 8;
+use ww_seat::Stay;
 
 impl Station {
     ghost use Rattle.std.specs.Prelude.{◌≡◌, ◌<◌, true, false, IfSome, IfNone};
@@ -12,7 +10,7 @@ impl Station {
 
     /// Why it can't try to take this lock now, if it can't.
     #[inline]
-    fn refuses(&self, lock: u8) -> Option<Answer>
+    fn refuses(&self, lock: u32) -> Option<Answer>
         requires { Keeps self.now }
         ensures why { IfSome result (IsRefusal (situation_of self.now) lock) }
         ensures tryable { IfNone result (IsTryable (situation_of self.now) lock) }
@@ -20,17 +18,17 @@ impl Station {
         if !self.rests() {
             return Some(Answer::Busy);
         }
-        if self.holds(lock) {
+        if self.held.has(lock) {
             return Some(Answer::Already);
         }
-        if lock >= self.board.size() || !self.can_want() {
+        if lock >= self.board.locks() || !self.can_want() {
             return Some(Answer::Invalid);
         }
         None
     }
 
     /// One try to take a lock that it may want.
-    fn try_at_once(&mut self, lock: u8) -> bool
+    fn try_at_once(&mut self, lock: u32) -> bool
         requires keeps { Keeps self.old }
         requires tryable { IsTryable (situation_of self.old) lock }
         ensures keeps { Keeps self.new }
@@ -38,7 +36,7 @@ impl Station {
         ensures lost { result ≡ false → HasTried (situation_of self.old) (situation_of self.new) }
         ensures stays { result ≡ false → MayStay lock self.new }
     {
-        match ww_seat::try_take(&mut self.seat, &self.board, lock) {
+        match ww_seat::try_take(&mut self.seat, &self.board, lock, !self.held.is_empty()) {
             Some(_) => {
                 self.add(lock);
                 true
@@ -48,7 +46,7 @@ impl Station {
     }
 
     /// One try to take a lock, and no waiting.
-    pub(crate) fn try_lock(&mut self, lock: u8) -> Answer
+    pub(crate) fn try_lock(&mut self, lock: u32) -> Answer
         requires keeps { Keeps self.old }
         ensures keeps { Keeps self.new }
         ensures answer { IsTryAnswer (situation_of self.old) lock result (situation_of self.new) }
@@ -65,7 +63,7 @@ impl Station {
 
     /// Takes a lock: one try, after which it stays away for a while and then waits. Where `heeds` the wait may be
     /// called off.
-    pub(crate) fn lock(&mut self, lock: u8, heeds: bool) -> Answer
+    pub(crate) fn lock(&mut self, lock: u32, heeds: bool) -> Answer
         requires keeps { Keeps self.old }
         ensures keeps { Keeps self.new }
         ensures answer { IsLockAnswer (situation_of self.old) lock heeds result (situation_of self.new) }
@@ -74,14 +72,15 @@ impl Station {
             return why;
         }
         if self.try_at_once(lock) {
+            self.memory.win();
             return Answer::Done;
         }
-        self.turn = Turn::Stays(lock, GLANCES, heeds);
+        self.turn = Turn::Stays(lock, Stay::new(!self.held.is_empty()), heeds);
         Answer::Again
     }
 
     /// Takes the lock for which it was told to back off, once it has.
-    pub(crate) fn lock_slow(&mut self, lock: u8, heeds: bool) -> Answer
+    pub(crate) fn lock_slow(&mut self, lock: u32, heeds: bool) -> Answer
         requires keeps { Keeps self.old }
         ensures keeps { Keeps self.new }
         ensures answer { IsSlowAnswer (situation_of self.old) lock heeds result (situation_of self.new) }

@@ -1,23 +1,23 @@
 //! Where a call stands that is made in turns, and what a turn answers.
 
-use ww_seat::Arrival;
+use ww_seat::{Arrival, Rest, Stay};
 
 /// Where a call of a desk stands.
 #[derive(Clone, Copy, Debug, PartialEq, Eq)]
 pub enum Turn {
     /// Between two calls.
     Rests,
-    /// It has just tried this lock in vain, and stays away from it for so many glances at most; whether its wait may be
-    /// called off.
-    Stays(u8, u8, bool),
+    /// It has just tried this lock in vain, and stays away from it: for how long at most; whether its wait may be called
+    /// off.
+    Stays(u32, Stay, bool),
     /// Outside the guard of a lock that it wants: how it came there, and whether its wait may be called off.
-    Wants(u8, Arrival, bool),
+    Wants(u32, Arrival, bool),
     /// Inside that guard: how it came there, and whether its wait may be called off.
-    Looks(u8, Arrival, bool),
+    Looks(u32, Arrival, bool),
     /// It gives this lock back, and is outside its guard.
-    Gives(u8),
+    Gives(u32),
     /// It gives this lock back, and is inside its guard.
-    Lets(u8),
+    Lets(u32),
 }
 
 /// What a call of a desk, or a further turn of it, came to.
@@ -27,9 +27,8 @@ pub enum Answer {
     Done,
     /// It wants another turn, at once.
     Again,
-    /// It wants another turn after some pauses, since the lock has an owner. True if that is the same context as at the
-    /// glance before, so one that works for longer.
-    Stays(bool),
+    /// It wants another turn after this rest, since the lock has an owner.
+    Stays(Rest),
     /// It wants another turn once somebody has woken the seat.
     Sleeps,
     /// Another call is on its way; for a trylock also: somebody has the lock or waits for it.

@@ -1,3 +1,4 @@
+pub mod Condemned
 pub mod Moves
 pub mod Oldest
 pub mod Burden

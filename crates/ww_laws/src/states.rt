@@ -4,6 +4,7 @@ ghost use Rattle.ww_model.specs.Lawful.{FreeGuardsOweNothing, SignedOwnsOutside}
 ghost use Rattle.ww_model.specs.Run.{RunsAreLawful};
 ghost use Rattle.ww_model.specs.Alone.{OutsidersOweNothing, StampsAreFew};
 ghost use Rattle.ww_model.specs.Laws.{StartIsLawful, OfLawful, PlaceIsTheGuard, QueuesAscend, OnlyFirstIsUnsigned, EachWaitsForOne, RingsAreApart, OfReached, SignWasMet, WaitersAreSeats, CondemnedCanDie};
+ghost use Rattle.ww_laws.specs.Condemned.{CondemnedStays, CondemnedLooks, LooksOn, WhoLooksGivesWay};
 
 /// The start state is lawful.
 pub fn start_is_lawful()
@@ -29,6 +30,27 @@ pub fn rings_are_apart()
 /// stamp for which it has to die.
 pub fn condemned_can_die()
     ensures { OfReached CondemnedCanDie }
+{}
+
+/// A condemned seat stays so whatever the others do, for as long as the lock keeps its owner and, in Wait-Die, its
+/// waiters ahead of that seat.
+pub fn condemned_stays()
+    ensures { OfReached CondemnedStays }
+{}
+
+/// A condemned seat can go inside the guard where it waits, if that is free, and looks condemned then.
+pub fn condemned_looks()
+    ensures { OfReached CondemnedLooks }
+{}
+
+/// A seat that looks condemned does so until it gives way: nobody else changes that.
+pub fn looks_on()
+    ensures { OfLawful LooksOn }
+{}
+
+/// A seat that looks condemned can't take the lock: it is told EDEADLK, or EINTR if it heeds a cancel.
+pub fn who_looks_gives_way()
+    ensures { OfLawful WhoLooksGivesWay }
 {}
 
 /// Wound-Wait: the sign of a seat that owns a lock is the stamp of a context that it met.

@@ -1,5 +1,5 @@
 -- What a state carries, as the calls of its seat change that.
-use Rattle.std.proofs.Common.{◌≡◌, ◌≢◌, ℕ, suc, zero, ◌+◌, ◌-◌, ◌<◌, ◌≤◌, ◌^◌, ◌||◌, eqb, true≢false, Bool, true, false, List, [], ◌∷◌, ◌++◌, length, set, get_or, refl, sym, ap, subst, ◌∙◌, arith, inl, inr, Some, None, length-set, get_or-set_same, get_or-set_other}
+use Rattle.std.proofs.Common.{◌≡◌, ◌≢◌, ℕ, suc, zero, ◌+◌, ◌-◌, ◌<◌, ◌≤◌, ◌^◌, ◌||◌, eqb, ltb, true≢false, Bool, true, false, List, [], ◌∷◌, ◌++◌, length, set, get_or, refl, sym, ap, subst, ◌∙◌, arith, inl, inr, Some, None, length-set, get_or-set_same, get_or-set_other}
 use mathlib.Core.Option.{some}
 use lib.ListN.{get_elem?}
 use Rattle.atomic_table.specs.Seated.{TableId}
@@ -7,14 +7,11 @@ use Rattle.ww_plain.specs.declared.node.Node.{Node}
 use Rattle.ww_plain.specs.Numbers.{is_among}
 use Rattle.ww_plain.specs.Graph.{no_node, node_at}
 use Rattle.ww_plain.proofs.Members.{true_or_false, same_from_eqb, or_right, is_among-append, is_among-head}
-use Rattle.std.proofs.lemmas.Bool.{cases_lt}
 use Rattle.ww_rule.specs.declared.cells.Cell.{Cell}
-use Rattle.ww_rule.specs.declared.cells.Cell.TheVariants.{Content}
-use Rattle.ww_rule.specs.Layout.{list_at}
-use Rattle.ww_rule.specs.Out.{slot_of}
-use Rattle.ww_seat.proofs.Slots.{slot_here, not_both}
+use Rattle.ww_seat.proofs.Outside.{owner_of_first, holds_outside, bare_of_none}
 use Rattle.ww_seat.proofs.Without.{another, owns_less, shorter}
-use Rattle.ww_lock.proofs.Helds.{held_more, held_less}
+use Rattle.ww_lock.proofs.Helds.{held_more, held_less, all_among}
+use Rattle.ww_model.specs.State.{any_below}
 use Rattle.ww_view.specs.View.{owns, IsBare}
 use Rattle.ww_table.specs.declared.seat.Seat16.{Seat16}
 use Rattle.ww_rule.specs.declared.cells.Counts.{Counts}
@@ -313,37 +310,25 @@ turned_fresh h w p q z n (Interrupted by) is home f settled records d none = (st
 
 -- ---- giving back
 
--- a seat between two calls has no wait list out
-pub no_list : (h : Hand) (n : ℕ) → Carries h → 64 ≤ n → slot_of h.seat.seat.me.1 n ≡ None
-no_list h n c le = subst (λ (k : ℕ). slot_of h.seat.seat.me.1 k ≡ None) (at_list n le) (c.settled.orderly.lists (n - 64) (λ inside. absurd (outside (n - 64) (sym c.settled.away.0 ∙ inside))))
-  where
-    at_list : (n : ℕ) → 64 ≤ n → list_at (n - 64) ≡ n
-    at_list n le = omega (arith, le)
-
-    outside : (n : ℕ) → 0 ≡ suc n → ⊥
-    outside n e = omega (arith, e)
-
 -- What lies on top of what it has out is a node that is held.
 pub top_held : (h : Hand) (n : ℕ) (y : Cell) (others : List (ℕ × Cell)) → Carries h → h.seat.seat.me.1 ≡ (n, y) ∷ others → owns h.seat.seat.me.0.part.core n ≡ true
-top_held h n y others c is = elim (true_or_false (owns h.seat.seat.me.0.part.core n)) [
-  | inl owned ↦ owned
-  | inr lacks ↦ absurd (not_both (slot_of h.seat.seat.me.1 n) y (elim (cases_lt n 64) [
-    | inl lt ↦ c.settled.orderly.others n lt lacks
-    | inr le ↦ no_list h n c le
-  ]) (ap (λ (slots : List (ℕ × Cell)). slot_of slots n) is ∙ slot_here n y others))
-]
+top_held h n y others c is = owner_of_first (length h.seen) h.seat.seat.me n y others c.settled.orderly c.settled.away.0 is
 
 -- ... and is one of the graph
 pub held_there : (h : Hand) (n : ℕ) → Carries h → owns h.seat.seat.me.0.part.core n ≡ true → n < length h.seen
-held_there h n c owned = (c.settled.orderly.nodes n owned).0
+held_there h n c owned = all_among (λ m. m < length h.seen) (held_of h) n c.held.there (sym (c.owned n) ∙ owned)
+
+-- It holds a lock just where something is out.
+pub holds_out : (h : Hand) → Carries h → any_below (length h.seat.seat.me.0.part.core.owned) (owns h.seat.seat.me.0.part.core) ≡ ltb 0 (length h.seat.seat.me.1)
+holds_out h c = holds_outside (length h.seen) h.seat.seat.me c.settled.orderly c.settled.away.0 (λ n owned. held_there h n c owned)
 
 -- Where nothing is out, nothing is held.
 pub none_held : (h : Hand) → Carries h → h.seat.seat.me.1 ≡ [] → held_of h ≡ []
-none_held h c none = nobody (held_of h) (λ n. elim (true_or_false (is_among n (held_of h))) [
-  | inl among ↦ absurd (let node = (c.settled.orderly.nodes n (c.owned n ∙ among)).1 in not_both (slot_of h.seat.seat.me.1 n) (Content node.0) (ap (λ (slots : List (ℕ × Cell)). slot_of slots n) none) node.2)
-  | inr absent ↦ absent
-])
+none_held h c none = nobody (held_of h) (λ n. sym (c.owned n) ∙ bare n)
   where
+    bare : IsBare h.seat.seat.me.0.part.core
+    bare = bare_of_none h.seat.seat.me.0.part.core (holds_out h c ∙ ap (λ (slots : List (ℕ × Cell)). ltb 0 (length slots)) none)
+
     nobody : (ns : List ℕ) → ((n : ℕ) → is_among n ns ≡ false) → ns ≡ []
     nobody [] absent = refl
     nobody (m ∷ ms) absent = absurd (true≢false (sym (is_among-head m ms) ∙ absent m))

@@ -24,24 +24,15 @@ use Rattle.ww_lock.specs.declared.close.History.{History}
 use Rattle.ww_lock.specs.Holding.{Holding, Setting, AreAtHome, AreBelow, by_of, own_of}
 use Rattle.ww_lock.specs.Carried.{holding_of, held_of, Carries}
 use Rattle.ww_lock.specs.Closed.{has_pass, missing_of, IsSeatOf, AreSeatsOf, AreAllBelow, AreParts, IsBalanced, AreBalanced, IsClosed}
-use Rattle.ww_lock.proofs.Carrying.{bare_of, no_list}
-
-first_here : (x : ℕ × Cell) (xs : List (ℕ × Cell)) → slot_of (x ∷ xs) x.0 ≡ None → ⊥
-first_here x xs none = let same = eqb_same x.0 in let there : slot_of (x ∷ xs) x.0 ≡ Some x.1 = rw same refl in absurd (some_none x.1 (sym there ∙ none))
-  where
-    some_none : (y : Cell) → Some y ≡ None → ⊥
-    some_none y e = cc
-
-none_out : (slots : List (ℕ × Cell)) → ((n : ℕ) → slot_of slots n ≡ None) → slots ≡ []
-none_out [] none = refl
-none_out (x ∷ xs) none = absurd (first_here x xs (none x.0))
+use Rattle.ww_lock.proofs.Carrying.{bare_of, top_held}
 
 -- a seat between two calls that owns no lock has nothing out
 nothing_out : (h : Hand) → Carries h → IsBare h.seat.seat.me.0.part.core → h.seat.seat.me.1 ≡ []
-nothing_out h c bare = none_out h.seat.seat.me.1 (λ n. elim (cases_lt n 64) [
-  | inl lt ↦ c.settled.orderly.others n lt (bare n)
-  | inr le ↦ no_list h n c le
-])
+nothing_out h c bare = go h.seat.seat.me.1 refl
+  where
+    go : (slots : List (ℕ × Cell)) → h.seat.seat.me.1 ≡ slots → slots ≡ []
+    go [] out = refl
+    go (x ∷ xs) out = absurd (true≢false (sym (top_held h x.0 x.1 xs c out) ∙ bare x.0))
 
 pub seat_of_pass : (h : Hand) (s : Holding) → holding_of h ≡ s → Carries h → held_of h ≡ [] → IsSeatOf s h.seat
 seat_of_pass h s is c none = subst (λ (t : Holding). IsSeatOf t h.seat) is (record {

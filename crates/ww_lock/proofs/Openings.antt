@@ -17,7 +17,8 @@ use Rattle.ww_lock.specs.Opened.{fresh, AreFresh, AreRests}
 use Rattle.ww_lock.specs.declared.world.Rest.{Rest}
 use mathlib.Core.Option.{some}
 use lib.ListN.{get_elem?}
-use Rattle.ww_seat.proofs.Starts.{none_owned, new_settled}
+use Rattle.ww_rule.proofs.Seats.{bare_first}
+use Rattle.ww_seat.proofs.Starts.{new_settled}
 use Rattle.ww_lock.proofs.Carrying.{settled_as}
 use Rattle.ww_lock.proofs.Helds.{held_none}
 
@@ -25,16 +26,16 @@ pub new_holds_nothing : (t : TableId) (key : Start) (k : ℕ) (h : Hand) → IsN
 new_holds_nothing t key k h new = ap (λ (m : Sat). m.0.part.core.locks) new.me
 
 -- a seat that was made just now, in a state that has seen the graph
-pub new_carries : (t : TableId) (key : Start) (k : ℕ) (h : Hand) → IsNew t key k h.seat → h.marks ≡ replicate 64 false → h.seen ≡ first_graph key → length (first_graph key) ≤ 64 → h.left < 2 ^ 32 → Carries h
-new_carries t key k h new marks seen few left =
+pub new_carries : (t : TableId) (key : Start) (k : ℕ) (h : Hand) → IsNew t key k h.seat → h.marks ≡ replicate 64 false → h.seen ≡ first_graph key → length (first_graph key) ≤ 64 → key.locks ≡ 64 → h.left < 2 ^ 32 → Carries h
+new_carries t key k h new marks seen few locks left =
     let me = new.me in
     let none : held_of h ≡ [] = new_holds_nothing t key k h new in
     let size : length h.seen ≡ length (first_graph key) = ap length seen in
     let list : h.seat.records.items ≡ [] = new.seated.records ∙ ap (λ (m : Sat). m.0.part.own) me in
     record {
-      settled = settled_as t h.seat.seat.table_id (length (first_graph key)) (length h.seen) h.seat (sym new.seated.home) (sym size) (new_settled t key k h.seat new few);
-      owned = λ n. ap (λ (m : Sat). owns m.0.part.core n) me ∙ none_owned n ∙ sym (ap (is_among n) none);
-      marks = marks ∙ sym (ap (λ (m : Sat). m.0.part.core.owned) me);
+      settled = settled_as t h.seat.seat.table_id (length (first_graph key)) (length h.seen) h.seat (sym new.seated.home) (sym size) (new_settled t key k h.seat new few (omega (arith, few, locks)));
+      owned = λ n. ap (λ (m : Sat). owns m.0.part.core n) me ∙ bare_first key.kind key.locks k n ∙ sym (ap (is_among n) none);
+      marks = marks ∙ sym (ap (λ (m : Sat). m.0.part.core.owned) me ∙ ap (λ (n : ℕ). replicate n false) locks);
       held = rw (none, seen) (held_none (first_graph key) few);
       answered = ap (λ (m : Sat). by_of m.0.part.core.stopped) me ∙ sym (ap (λ (m : Sat). m.0.part.counts.heeded) me);
       draws = omega (arith, left, ap (λ (m : Sat). m.0.part.counts.draws) me);

@@ -17,9 +17,12 @@ pub(crate) struct Hand {
 
 impl Hand {
     ghost use Rattle.std.specs.Prelude.{◌≡◌, ◌<◌, ◌≤◌, ◌↔◌, true, length, slice_set, IsTrue, IfSome};
+    ghost use Rattle.ww_model.specs.State.{any_below};
     ghost use Rattle.ww_plain.specs.Graph.{IsNodeOf};
     ghost use Rattle.ww_plain.specs.Numbers.{is_among};
     ghost use Rattle.ww_plain.specs.Transaction.{transaction_of, Fits};
+    ghost use Rattle.ww_table.specs.Seat.{view_of};
+    ghost use Rattle.ww_view.specs.View.{owns};
     ghost use Rattle.ww_lock.specs.Holding.{Holds, reads};
     ghost use Rattle.ww_lock.specs.Carried.{holding_of, held_of, Carries};
     ghost use Rattle.ww_lock.specs.Making.{Covers};
@@ -43,6 +46,14 @@ impl Hand {
         ensures { result ≡ is_among n (held_of self.now) }
     {
         usize::from(n) < MAX_NODES && self.marks[usize::from(n)]
+    }
+
+    /// Whether any node is held: then its seat has that out.
+    pub(crate) fn holds_some(&self) -> bool
+        requires { Carries self.now }
+        ensures { any_below (length (view_of self.now.seat).owned) (owns (view_of self.now.seat)) ≡ result }
+    {
+        self.seat.has_out()
     }
 
     /// A node as it was when it was locked; nothing where it isn't held.

@@ -55,7 +55,8 @@ impl Hand {
         ensures unmet { result ≡ true → met_of self.new ≡ None }
         ensures met { result ≡ false → met_of self.new ≡ met_of self.old }
     {
-        match ww_seat::try_take(&mut self.seat, &world.board, n) {
+        let holds = self.holds_some();
+        match ww_seat::try_take_node(&mut self.seat, &world.board, u32::from(n), holds) {
             Some(node) => {
                 self.patience.win();
                 self.add(n, node);
@@ -89,12 +90,14 @@ impl Hand {
         ensures turned_away { IfErr result (λ why. IsTurnedAway self.old.seat.seat.me n why self.new.seat.seat.me) }
         ensures unmet { IfOk result (λ _. met_of self.new ≡ None) }
     {
+        let holds = self.holds_some();
         let node = ww_seat::wait_for(
             rt,
             &mut self.seat,
             &world.board,
-            n,
+            u32::from(n),
             heeds,
+            holds,
             &mut self.patience,
             &world.wakers,
         )?;
@@ -141,8 +144,8 @@ impl Hand {
         ensures emptied { holding_of self.new ≡ emptied (holding_of self.old) }
     {
         while let Some(n) = self.seat.top() {
-            self.marks[usize::from(n)] = false;
-            if !ww_seat::give_at_once(&mut self.seat, &world.board, n) {
+            self.marks[n as usize] = false;
+            if !ww_seat::give_node_at_once(&mut self.seat, &world.board, n) {
                 ww_seat::give_waited(rt, &mut self.seat, &world.board, n, &world.wakers);
             }
         }

@@ -15,6 +15,9 @@ use ww_seat::Patience;
 use ww_table::{Board, Seat16};
 use ww_word::MAX_SEATS;
 
+/// How many locks the table of a world has, whatever the size of its graph.
+const LOCKS: u32 = MAX_NODES as u32;
+
 /// How many passes a world has at most.
 const MAX_PASSES: u8 = MAX_SEATS as u8;
 
@@ -89,7 +92,9 @@ impl World {
         let Ok((rests, wakers)) = rests(alloc, &graph, passes) else {
             return Err((graph, OpenFault::NoMemory));
         };
-        let (board, seats) = match Board::make(alloc, kind, graph, passes) {
+        // Its contract says that this is a graph.
+        let _size = graph.size();
+        let (board, seats) = match Board::make(alloc, kind, graph, LOCKS, passes) {
             Ok(made) => made,
             Err((graph, _)) => return Err((graph, OpenFault::NoMemory)),
         };
@@ -148,6 +153,7 @@ fn fresh(
     budget: u32,
     mut all: Vec<Pass>,
 ) -> Result<Vec<Pass>, Graph>
+    requires locks { board.now.table.shared.key.locks ≡ 64 }
     requires seats { AreNew board.now.table.shared.table_id board.now.table.shared.key (length seats.items) seats.items }
     requires rests { AreRests (first_graph board.now.table.shared.key) (length seats.items) rests.items }
     requires room { (all.items ≡ []) × (vec_len all ≡ 0) × (length seats.items ≤ vec_capacity all) }
@@ -167,7 +173,10 @@ fn fresh(
         };
         match Box::new(alloc, hand) {
             Ok(hand) => all.push_reserved(Pass { hand }),
-            Err(refused) => return Err(refused.value.seen),
+            Err(refused) => {
+                let hand = refused.value;
+                return Err(hand.seen);
+            }
         }
     }
     Ok(all)

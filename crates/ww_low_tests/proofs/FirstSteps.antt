@@ -7,8 +7,8 @@ use Rattle.ww_rule.specs.Rule.{first_part}
 use Rattle.ww_rule.specs.Steps.{MayDraw}
 use Rattle.ww_rule.proofs.Seats.{bare_first}
 
-pub may_draw : (kind : Kind) (k : ℕ) → MayDraw (first_part kind k)
-may_draw kind k = record { away = (refl, refl); no_context = refl; bare = bare_first kind k; fewer = omega arith }
+pub may_draw : (kind : Kind) (locks k : ℕ) → MayDraw (first_part kind locks k)
+may_draw kind locks k = record { away = (refl, refl); no_context = refl; bare = bare_first kind locks k; fewer = omega arith }
 
-pub may_fast : (kind : Kind) (k stamp : ℕ) → 0 < stamp → MayFast (begun (first_part kind k).core stamp)
-may_fast kind k stamp some = record { away = (refl, refl); base = inl some; signs = inr (inl refl) }
+pub may_fast : (kind : Kind) (locks k stamp : ℕ) → 0 < stamp → MayFast (begun (first_part kind locks k).core stamp)
+may_fast kind locks k stamp some = record { away = (refl, refl); base = inl some; signs = inr (inl refl) }

@@ -5,17 +5,17 @@ use Rattle.std.proofs.lemmas.Bool.{cases_lt}
 use Rattle.ww_queue.specs.Queue.{Has}
 use Rattle.ww_table.specs.declared.board.Board.{Board}
 use Rattle.ww_table.specs.declared.seat.Seat16.{Seat16}
-use Rattle.ww_table.specs.Seat.{IsNew, size_of}
+use Rattle.ww_table.specs.Seat.{IsNew, locks_of, size_of}
 use Rattle.ww_table.specs.Closed.{HasCome, HaveAllCome}
 use Rattle.ww_rounds.specs.Standing.{Deeds, Did, Stands, at_first}
 use Rattle.ww_rounds.proofs.Standing.{bare, first_stands, nothing_out}
 use Rattle.ww_low_tests.specs.Gathered.{HaveCome}
 
 -- a seat that was made just now did nothing yet
-pub new_did : (board : Board) (k j : ℕ) (s : Seat16) → size_of board ≤ 64 → IsNew board.table.shared.table_id board.table.shared.key k s → s.who ≡ j → Did board (at_first j) s
-new_did board k j s few new is = subst (λ (n : ℕ). Did board (at_first n) s) (sym new.number ∙ is) (record {
+pub new_did : (board : Board) (k j : ℕ) (s : Seat16) → IsNew board.table.shared.table_id board.table.shared.key k s → s.who ≡ j → Did board (at_first j) s
+new_did board k j s new is = subst (λ (n : ℕ). Did board (at_first n) s) (sym new.number ∙ is) (record {
   seated = new.seated;
-  stands = subst (Stands (size_of board) (at_first k)) (sym new.me) (first_stands (size_of board) board.table.shared.key.kind k few);
+  stands = subst (Stands (size_of board) (at_first k)) (sym new.me) (first_stands (size_of board) board.table.shared.key.kind (locks_of board) k board.fits);
 })
 
 pub who_did : (board : Board) (d : Deeds) (s : Seat16) → Did board d s → s.who ≡ d.who

@@ -1,5 +1,5 @@
 -- A seat in a ring: what it holds, and where it stands.
-use Rattle.std.specs.Prelude.{ℕ, ◌≡◌, ◌<◌, Bool, List, false, replicate, slice_set, true}
+use Rattle.std.specs.Prelude.{ℕ, ◌≡◌, ◌<◌, Bool, List, false, replicate, slice_index_or, slice_set, true}
 use Rattle.ww_queue.specs.declared.kind.Kind.{Kind}
 use Rattle.ww_view.specs.View.{IsAway}
 use Rattle.ww_table.specs.declared.board.Board.{Board}
@@ -17,13 +17,14 @@ none = replicate 64 false
 abbrev pub just : ℕ → List Bool
 just n = slice_set none n true
 
--- a seat of this board, outside each guard, that owns just these locks in a context
+-- a seat of this board, outside each guard, that owns just these locks in a context, each of which guards a node
 pub record Owns (board : Board) (k : Kind) (locks : List Bool) (s : Seat16) : Type 0 where
   pub seated : IsSeatOf board s
   pub orderly : IsOrderly (size_of board) s.seat.me
   pub kind : (view_of s).kind ≡ k
   pub context : 0 < (view_of s).stamp
   pub owned : (view_of s).owned ≡ locks
+  pub nodes : (n : ℕ) → slice_index_or locks n false ≡ true → n < size_of board
 
 -- ... and waits for no lock
 pub record Holds (board : Board) (k : Kind) (locks : List Bool) (s : Seat16) : Type 0 where

@@ -3,12 +3,13 @@
 
 ghost use Rattle.std.specs.Prelude.{ℕ, ◌≡◌, ◌<◌, List, Bool, false, IfOk};
 ghost use Rattle.ww_queue.specs.declared.kind.Kind.{Kind};
-ghost use Rattle.ww_table.specs.Seat.{IsNew, size_of};
+ghost use Rattle.ww_table.specs.Seat.{IsNew, locks_of, size_of};
 ghost use Rattle.ww_seat.specs.declared.look.Arrival.TheVariants.{Came};
 ghost use Rattle.ww_low_tests.specs.Looking.{Owns, Holds, MayLook, just, none};
 
 use crate::rings::{
-    back_off, bell, compare, compare_cancelled, hold, start, tied, two_seats, untie, wait,
+    back_off, bell, compare, compare_cancelled, hold, holds_one, start, tied, two_seats, untie,
+    wait,
 };
 use crossbeam_utils::sync::Unparker;
 use std::alloc::{AllocError, Global};
@@ -24,13 +25,14 @@ const KINDS: [Kind; 2] = [Kind::WoundWait, Kind::WaitDie];
 /// Begins a context that tries for lock 0, which isn't free.
 fn ask<R: Abort>(rt: &R, board: &mut Board, seat: &mut Seat16, kind: Kind)
     requires size { size_of board.old ≡ 2 }
+    requires locks { locks_of board.old ≡ 64 }
     requires kind { board.old.table.shared.key.kind ≡ kind }
     requires new { (k : ℕ) × IsNew board.old.table.shared.table_id board.old.table.shared.key k seat.old }
     ensures same { board.new ≡ board.old }
     ensures may { MayLook board.new kind none 0 Came seat.new }
 {
     start(rt, board, seat, kind, [264, 0]);
-    if try_take(seat, board, 0).is_some() {
+    if try_take(seat, board, 0, false).is_some() {
         panic!(rt; "the lock was taken");
     }
 }
@@ -64,14 +66,15 @@ fn stop<R: Wait + Abort>(
     board: &Board,
     seat: &mut Seat16,
     kind: Kind,
-    lock: u8,
+    lock: u32,
     arrival: Arrival,
 ) -> u8
     requires may { (o : List Bool) × MayLook board.now kind o lock arrival seat.old }
     requires lock { lock < size_of board.now }
     ensures { (o : List Bool) → Owns board.now kind o seat.old → Holds board.now kind o seat.new }
 {
-    match visit(rt, seat, board, lock, arrival, true, &[]) {
+    let holds = holds_one(board, seat);
+    match visit(rt, seat, board, lock, arrival, true, holds, &[]) {
         Look::Interrupted(by) => by,
         Look::Locked(_) | Look::Deadlk(_) | Look::Waits => panic!(rt; "it is called off"),
     }
@@ -94,7 +97,7 @@ fn taken_at_once<R: Wait + Abort>(
         panic!(rt; "nobody waits for the lock");
     }
     compare(rt, board, [0, 0], 0, [2, 0]);
-    if try_take(stopped, board, 0).is_none() {
+    if try_take(stopped, board, 0, false).is_none() {
         panic!(rt; "the lock was free");
     }
     compare(rt, board, [528, 0], 0, [2, 0]);

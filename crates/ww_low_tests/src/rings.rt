@@ -1,9 +1,12 @@
 //! The ring of two contexts, by one thread with both seats of a board: each holds a lock and looks at the other's.
 //! After each call all words of the board are compared.
 
-ghost use Rattle.std.specs.Prelude.{ℕ, ◌≡◌, ◌<◌, Bool, List, false, true, slice_index_or, slice_set, IfOk};
+ghost use Rattle.std.specs.Prelude.{ℕ, ◌≡◌, ◌<◌, Bool, List, false, true, length, slice_index_or, slice_set, IfOk};
 ghost use Rattle.ww_queue.specs.declared.kind.Kind.{Kind};
-ghost use Rattle.ww_table.specs.Seat.{IsNew, size_of};
+ghost use Rattle.ww_model.specs.State.{any_below};
+ghost use Rattle.ww_view.specs.View.{owns};
+ghost use Rattle.ww_table.specs.Seat.{IsNew, locks_of, size_of, view_of};
+ghost use Rattle.ww_seat.specs.declared.look.Arrival.{Arrival};
 ghost use Rattle.ww_seat.specs.declared.look.Arrival.TheVariants.{Woken};
 ghost use Rattle.ww_low_tests.specs.Looking.{Owns, Holds, MayLook, just, none};
 
@@ -77,6 +80,7 @@ pub(crate) fn two_seats<R: Abort>(
     kind: Kind,
 ) -> Result<(Board, Seat16, Seat16), AllocError>
     ensures size { IfOk result (λ r. size_of r.0 ≡ 2) }
+    ensures locks { IfOk result (λ r. locks_of r.0 ≡ 64) }
     ensures count { IfOk result (λ r. r.0.table.shared.key.seats ≡ 2) }
     ensures kind { IfOk result (λ r. r.0.table.shared.key.kind ≡ kind) }
     ensures zero { IfOk result (λ r. (k : ℕ) × IsNew r.0.table.shared.table_id r.0.table.shared.key k r.1) }
@@ -103,6 +107,7 @@ pub(crate) fn start<R: Abort>(
     before: [u64; 2],
 )
     requires size { size_of board.old ≡ 2 }
+    requires locks { locks_of board.old ≡ 64 }
     requires kind { board.old.table.shared.key.kind ≡ kind }
     requires new { (k : ℕ) × IsNew board.old.table.shared.table_id board.old.table.shared.key k seat.old }
     ensures same { board.new ≡ board.old }
@@ -118,10 +123,11 @@ pub(crate) fn hold<R: Abort>(
     board: &mut Board,
     seat: &mut Seat16,
     kind: Kind,
-    lock: u8,
+    lock: u32,
     before: [u64; 2],
 )
     requires size { size_of board.old ≡ 2 }
+    requires locks { locks_of board.old ≡ 64 }
     requires kind { board.old.table.shared.key.kind ≡ kind }
     requires new { (k : ℕ) × IsNew board.old.table.shared.table_id board.old.table.shared.key k seat.old }
     requires lock { lock < 2 }
@@ -129,9 +135,17 @@ pub(crate) fn hold<R: Abort>(
     ensures holds { Holds board.new kind (just lock) seat.new }
 {
     start(rt, board, seat, kind, before);
-    let Some(_) = try_take(seat, board, lock) else {
-        panic!(rt; "the lock was free")
-    };
+    if try_take(seat, board, lock, false).is_none() {
+        panic!(rt; "the lock was free");
+    }
+}
+
+/// Whether the seat holds a lock: then it has the node out.
+pub(crate) fn holds_one(_board: &Board, seat: &Seat16) -> bool
+    requires may { (k : Kind) × (o : List Bool) × (n : ℕ) × (arrival : Arrival) × MayLook _board.now k o n arrival seat.now }
+    ensures { any_below (length (view_of seat.now).owned) (owns (view_of seat.now)) ≡ result }
+{
+    seat.has_out()
 }
 
 /// Looks at a lock, and comes to stand in its wait list, or still stands there. A pending cancel is looked for where it
@@ -141,7 +155,7 @@ pub(crate) fn wait<R: Wait + Abort>(
     board: &Board,
     seat: &mut Seat16,
     kind: Kind,
-    lock: u8,
+    lock: u32,
     arrival: Arrival,
     heeds: bool,
 )
@@ -149,7 +163,8 @@ pub(crate) fn wait<R: Wait + Abort>(
     requires lock { lock < size_of board.now }
     ensures { (o : List Bool) → Owns board.now kind o seat.old → MayLook board.now kind o lock Woken seat.new }
 {
-    match visit(rt, seat, board, lock, arrival, heeds, &[]) {
+    let holds = holds_one(board, seat);
+    match visit(rt, seat, board, lock, arrival, heeds, holds, &[]) {
         Look::Waits => {}
         Look::Locked(_) | Look::Deadlk(_) | Look::Interrupted(_) => panic!(rt; "it has to wait"),
     }
@@ -161,25 +176,27 @@ pub(crate) fn back_off<R: Wait + Abort>(
     board: &Board,
     seat: &mut Seat16,
     kind: Kind,
-    lock: u8,
+    lock: u32,
     arrival: Arrival,
 ) -> u64
     requires may { (o : List Bool) × MayLook board.now kind o lock arrival seat.old }
     requires lock { lock < size_of board.now }
     ensures { (o : List Bool) → Owns board.now kind o seat.old → Holds board.now kind o seat.new }
 {
-    match visit(rt, seat, board, lock, arrival, false, &[]) {
+    let holds = holds_one(board, seat);
+    match visit(rt, seat, board, lock, arrival, false, holds, &[]) {
         Look::Deadlk(met) => met,
         Look::Locked(_) | Look::Interrupted(_) | Look::Waits => panic!(rt; "it has to die"),
     }
 }
 
 /// Looks again at a lock, and takes it.
-fn take<R: Wait + Abort>(rt: &R, board: &Board, seat: &mut Seat16, kind: Kind, lock: u8)
+fn take<R: Wait + Abort>(rt: &R, board: &Board, seat: &mut Seat16, kind: Kind, lock: u32)
     requires may { (o : List Bool) × MayLook board.now kind o lock Woken seat.old }
     requires lock { lock < size_of board.now }
 {
-    match visit(rt, seat, board, lock, Arrival::Woken, false, &[]) {
+    let holds = holds_one(board, seat);
+    match visit(rt, seat, board, lock, Arrival::Woken, false, holds, &[]) {
         Look::Locked(_) => {}
         Look::Deadlk(_) | Look::Interrupted(_) | Look::Waits => panic!(rt; "the lock is free"),
     }

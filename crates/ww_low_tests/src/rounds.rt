@@ -8,7 +8,7 @@ ghost use Rattle.ww_low_tests.specs.Gathered.{HaveCome};
 
 use crate::plain::{graph_of, node};
 use crate::rings::compare;
-use crate::tables::closed;
+use crate::tables::{closed, made};
 use std::alloc::{AllocError, Global};
 use std::process::Abort;
 use std::test::Fail;
@@ -180,9 +180,7 @@ fn crowd<R: Threads + Abort + Sync>(
     requires { (1 ≤ threads) × (threads ≤ 16) }
 {
     let graph = graph_of(alloc, nodes)?;
-    let Ok((mut board, seats)) = Board::make(alloc, Kind::WoundWait, graph, threads) else {
-        return Err(Fail::from("it is made"));
-    };
+    let (mut board, seats) = made(rt, alloc, Kind::WoundWait, graph, threads)?;
     let shared = &board;
     let works = thread::map_vec(
         rt,

@@ -15,7 +15,10 @@ use ww_plain::{Graph, Record};
 use ww_queue::Kind;
 use ww_table::{Board, Seat16};
 
-/// A table of a graph. Where a growth is refused, the graph that came back is the one given, and is tried once more.
+/// How many locks a table has, whatever the size of its graph.
+const LOCKS: u32 = 64;
+
+/// A table of 64 locks on a graph. Where a growth is refused, the graph that came back is the one given, and is tried once more.
 pub(crate) fn made<R: Abort>(
     rt: &R,
     alloc: Global,
@@ -24,14 +27,16 @@ pub(crate) fn made<R: Abort>(
     seats: u8,
 ) -> Result<(Board, Vec<Seat16>), AllocError>
     requires { (1 ≤ seats) × (seats ≤ 16) }
-    ensures { IfOk result (λ r. IsMade kind graph seats r.0 r.1.items) }
+    ensures { IfOk result (λ r. IsMade kind graph 64 seats r.0 r.1.items) }
 {
     let copy = twice(|| graph.copy(alloc))?;
-    match Board::make(alloc, kind, graph, seats) {
+    // Its contract says that this is a graph.
+    let _size = graph.size();
+    match Board::make(alloc, kind, graph, LOCKS, seats) {
         Ok(made) => Ok(made),
         Err((graph, _)) => {
             assert!(rt; graph.is_same(&copy));
-            Board::make(alloc, kind, graph, seats).map_err(|_| AllocError)
+            Board::make(alloc, kind, graph, LOCKS, seats).map_err(|_| AllocError)
         }
     }
 }

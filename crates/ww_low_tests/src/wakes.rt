@@ -3,13 +3,13 @@
 
 ghost use Rattle.std.specs.Prelude.{ℕ, ◌≡◌, ◌<◌, Bool, List, false, true, IfOk};
 ghost use Rattle.ww_queue.specs.declared.kind.Kind.TheVariants.{WaitDie};
-ghost use Rattle.ww_table.specs.Seat.{IsNew, size_of};
+ghost use Rattle.ww_table.specs.Seat.{IsNew, locks_of, size_of};
 ghost use Rattle.ww_seat.specs.declared.look.Arrival.TheVariants.{Came, Woken};
 ghost use Rattle.ww_low_tests.specs.Looking.{Holds, MayLook, just, none};
 
 use crate::growths::twice;
 use crate::plain::{graph_of, node};
-use crate::rings::{back_off, bell, compare, hand_over, hold, start, tied, wait};
+use crate::rings::{back_off, bell, compare, hand_over, hold, holds_one, start, tied, wait};
 use crate::tables::made;
 use crossbeam_utils::sync::Unparker;
 use std::alloc::{AllocError, Global};
@@ -27,6 +27,7 @@ fn three_seats<R: Abort>(
     kind: Kind,
 ) -> Result<(Board, Seat16, Seat16, Seat16), AllocError>
     ensures size { IfOk result (λ r. size_of r.0 ≡ 2) }
+    ensures locks { IfOk result (λ r. locks_of r.0 ≡ 64) }
     ensures kind { IfOk result (λ r. r.0.table.shared.key.kind ≡ kind) }
     ensures zero { IfOk result (λ r. (k : ℕ) × IsNew r.0.table.shared.table_id r.0.table.shared.key k r.1) }
     ensures one { IfOk result (λ r. (k : ℕ) × IsNew r.0.table.shared.table_id r.0.table.shared.key k r.2) }
@@ -49,7 +50,7 @@ fn miss<R: Abort>(rt: &R, board: &Board, seat: &mut Seat16, kind: Kind)
     requires holds { Holds board.now kind none seat.old }
     ensures { MayLook board.now kind none 0 Came seat.new }
 {
-    if try_take(seat, board, 0).is_some() {
+    if try_take(seat, board, 0, false).is_some() {
         panic!(rt; "the lock was taken");
     }
 }
@@ -82,13 +83,14 @@ fn look<R: Wait>(
     board: &Board,
     seat: &mut Seat16,
     kind: Kind,
-    lock: u8,
+    lock: u32,
     wakers: &[Unparker],
 ) -> Look
     requires may { (o : List Bool) × MayLook board.now kind o lock Came seat.old }
     requires lock { lock < size_of board.now }
 {
-    visit(rt, seat, board, lock, Arrival::Came, false, wakers)
+    let holds = holds_one(board, seat);
+    visit(rt, seat, board, lock, Arrival::Came, false, holds, wakers)
 }
 
 /// The owner waits for another lock, and has to give way to an older context that comes to wait for it.

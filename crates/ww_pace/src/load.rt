@@ -59,7 +59,7 @@ fn graph(alloc: Global) -> Result<Graph, AllocError>
 /// Takes a lock and gives it back, and tells whether it had the lock; nothing where the lock can't be given back at
 /// once.
 #[inline(always)]
-fn pair(board: &Board, seat: &mut Seat16, lock: u8) -> Option<bool>
+fn pair(board: &Board, seat: &mut Seat16, lock: u32) -> Option<bool>
     requires resting { IsResting board.now seat.old }
     requires size { size_of board.now ≡ 64 }
     requires lock { lock < 64 }
@@ -84,9 +84,9 @@ fn work<const IS_DRAWN: bool>(board: &Board, mut seat: Seat16, rounds: u32) -> u
     let mut held = 0u64;
     for _ in 0..rounds {
         let lock = if IS_DRAWN {
-            (random.next_word() % 64) as u8
+            random.next_word() % 64
         } else {
-            who % 64
+            u32::from(who % 64)
         };
         let Some(had) = pair(board, &mut seat, lock) else {
             return held;
@@ -120,7 +120,13 @@ fn work_of_commits(board: &Board, alloc: Global, mut seat: Seat16, rounds: u32) 
 pub(crate) fn go<R: Runtime + Threads + Sync>(rt: &R, alloc: Global, load: Load) -> io::Result<Told>
     requires { (1 ≤ load.threads) × (load.threads ≤ 16) }
 {
-    let (board, seats) = match Board::make(alloc, Kind::WoundWait, graph(alloc)?, load.threads) {
+    let (board, seats) = match Board::make(
+        alloc,
+        Kind::WoundWait,
+        graph(alloc)?,
+        64,
+        load.threads,
+    ) {
         Ok(made) => made,
         Err((_, error)) => return Err(error.into()),
     };

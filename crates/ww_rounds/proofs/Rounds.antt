@@ -1,5 +1,5 @@
 -- A round keeps that a seat rests.
-use Rattle.std.proofs.Common.{◌≡◌, ℕ, suc, ◌<◌, Bool, true, false, eq-eqb, List, [], ◌∷◌, ◌++◌, length, get_or, set, sym, refl, ap, ◌∙◌, subst, arith, Some, None, length-set, length-append, get_or-set_same, get_or-set_other}
+use Rattle.std.proofs.Common.{◌≡◌, ℕ, suc, ◌<◌, ◌≤◌, Bool, true, false, eq-eqb, List, [], ◌∷◌, ◌++◌, length, get_or, set, sym, refl, ap, ◌∙◌, subst, arith, Some, None, length-set, length-append, get_or-set_same, get_or-set_other}
 use Rattle.std.specs.Bool.{if◌then◌else◌}
 use mathlib.Core.Logic.{dite}
 use mathlib.Core.Option.{some}
@@ -33,23 +33,23 @@ out_again size m m' n r low got = let x = got.0 in (
   ap (λ (z : Sat). get_elem? z.0.held n) got.1 ∙ set_here m.0.held n (Some x) (let l = r.held in omega arith),
 )
 
-bare_again : (size : ℕ) (m : Sat) (n : ℕ) (x : Node) → Rests size m → n < 64 → IsBare (giving (taking m.0 n x) n).part.core
+bare_again : (size : ℕ) (m : Sat) (n : ℕ) (x : Node) → Rests size m → n < size → IsBare (giving (taking m.0 n x) n).part.core
 bare_again size m n x r low k = dite (ℕ_discrete k n)
     (λ e. ap (λ (j : ℕ). get_or (set (set m.0.part.core.owned n true) n false) j false) e ∙ get_or-set_same (set m.0.part.core.owned n true) n false false (let l = r.owned in let s = length-set m.0.part.core.owned n true in omega arith))
     (λ ne. get_or-set_other (set m.0.part.core.owned n true) n k false false ne ∙ get_or-set_other m.0.part.core.owned n k true false ne ∙ r.bare k)
 
-gave : (size : ℕ) (m : Sat) (n : ℕ) (x : Node) → Rests size m → n < 64 → Rests size (giving (taking m.0 n x) n, [])
+gave : (size : ℕ) (m : Sat) (n : ℕ) (x : Node) → Rests size m → n < size → Rests size (giving (taking m.0 n x) n, [])
 gave size m n x r low = record {
   away = r.away;
   no_context = r.no_context;
   bare = bare_again size m n x r low;
   out = refl;
-  owned = length-set (set m.0.part.core.owned n true) n false ∙ length-set m.0.part.core.owned n true ∙ r.owned;
+  owned = subst (λ (k : ℕ). size ≤ k) (sym (length-set (set m.0.part.core.owned n true) n false ∙ length-set m.0.part.core.owned n true)) r.owned;
   held = length-set (set m.0.held n (Some x)) n None ∙ length-set m.0.held n (Some x) ∙ r.held;
 }
 
 -- once it gave the lock back it rests again
-pub rests_again : (size : ℕ) (m m' m'' : Sat) (n : ℕ) → Rests size m → n < 64 → (x : Node) × (m' ≡ (taking m.0 n x, (n, Content x) ∷ m.1))
+pub rests_again : (size : ℕ) (m m' m'' : Sat) (n : ℕ) → Rests size m → n < size → (x : Node) × (m' ≡ (taking m.0 n x, (n, Content x) ∷ m.1))
     → (y : Node) × (m''.0 ≡ giving m'.0 n) × AreOthers m'.1 n (Content y) m''.1 → Rests size m''
 rests_again size m m' m'' n r low got gone =
     let x = got.0 in

@@ -26,7 +26,7 @@ use Rattle.ww_rule.specs.Rule.{Sat, first_part}
 use Rattle.atomic_table.specs.Seated.{TableId}
 use Rattle.ww_table.specs.declared.board.Board.{Board}
 use Rattle.ww_table.specs.declared.seat.Seat16.{Seat16}
-use Rattle.ww_table.specs.Seat.{IsSeated, size_of}
+use Rattle.ww_table.specs.Seat.{IsSeated, locks_of, size_of}
 use Rattle.ww_rule.specs.Out.{AreOthers, slot_of}
 use Rattle.ww_rule.specs.Steps.{MayPlace, known, graph_of, taking, giving, placing, seat_of}
 use Rattle.ww_rule.proofs.Places.{graph_at, renewed_long, renewed_at}
@@ -46,17 +46,16 @@ few_if : (b : Bool) (c : ℕ) → c ≡ one_if b → c ≤ 1
 few_if true c e = omega arith
 few_if false c e = omega arith
 
-pub first_stands : (size : ℕ) (kind : Kind) (k : ℕ) → size ≤ 64 → Stands size (at_first k) (seat_of size (first_part kind k), [])
-first_stands size kind k few = record {
-  few = few;
+pub first_stands : (size : ℕ) (kind : Kind) (locks k : ℕ) → size ≤ locks → Stands size (at_first k) (seat_of size (first_part kind locks k), [])
+first_stands size kind locks k fits = record {
   away = (refl, refl);
   who = refl;
   draws = refl;
   commits = refl;
   stage = refl;
-  owned = length-replicate 64 false;
+  owned = omega (arith, fits, length-replicate locks false);
   held = length-replicate size None;
-  owns = bare_first kind k;
+  owns = bare_first kind locks k;
   out = refl;
   once = λ n. refl;
   nodes = λ n e. absurd cc;
@@ -100,17 +99,16 @@ module _ (size : ℕ) (d : Deeds) (m : Sat) (s : Stands size d m) where
 
   pub took_stands : (n : ℕ) (x : Node) → CanTake d → n < size → is_among n d.locks ≡ false → Stands size (took d n) (taking m.0 n x, (n, Content x) ∷ m.1)
   took_stands n x can low new = record {
-    few = s.few;
     away = s.away;
     who = s.who;
     draws = s.draws;
     commits = s.commits;
     stage = context can;
-    owned = length-set m.0.part.core.owned n true ∙ s.owned;
+    owned = subst (λ (k : ℕ). size ≤ k) (sym (length-set m.0.part.core.owned n true)) s.owned;
     held = length-set m.0.held n (Some x) ∙ s.held;
     owns = λ k. dite (ℕ_discrete k n)
         (λ e. subst (λ (j : ℕ). get_or (set m.0.part.core.owned n true) j false ≡ is_among j (n ∷ d.locks)) (sym e)
-        (get_or-set_same m.0.part.core.owned n true false (let f = s.few in let o = s.owned in omega arith) ∙ sym (is_among-head n d.locks)))
+        (get_or-set_same m.0.part.core.owned n true false (let o = s.owned in omega arith) ∙ sym (is_among-head n d.locks)))
         (λ ne. get_or-set_other m.0.part.core.owned n k true false ne ∙ s.owns k ∙ sym (among_else n d.locks k ne));
     out = ap suc s.out;
     once = λ k. dite (ℕ_discrete k n)
@@ -137,17 +135,16 @@ module _ (size : ℕ) (d : Deeds) (m : Sat) (s : Stands size d m) where
   pub gave_stands : (n : ℕ) (ls : List ℕ) (y : Cell) (others : List (ℕ × Cell)) → d.locks ≡ n ∷ ls → is_among n ls ≡ false → AreOthers m.1 n y others → Stands size (gave d ls) (giving m.0 n, others)
   gave_stands n ls y others top none are = let had : is_among n d.locks ≡ true = ap (is_among n) top ∙ is_among-head n ls in let n_low = (s.nodes n had).low in
       let left : (k : ℕ) → k ≢ n → is_among k d.locks ≡ is_among k ls = λ k ne. ap (is_among k) top ∙ among_else n ls k ne in record {
-        few = s.few;
         away = s.away;
         who = s.who;
         draws = s.draws;
         commits = s.commits;
         stage = stage_given d.stage n s.stage;
-        owned = length-set m.0.part.core.owned n false ∙ s.owned;
+        owned = subst (λ (k : ℕ). size ≤ k) (sym (length-set m.0.part.core.owned n false)) s.owned;
         held = length-set m.0.held n None ∙ s.held;
         owns = λ k. dite (ℕ_discrete k n)
             (λ e. subst (λ (j : ℕ). get_or (set m.0.part.core.owned n false) j false ≡ is_among j ls) (sym e)
-            (get_or-set_same m.0.part.core.owned n false false (let f = s.few in let o = s.owned in omega arith) ∙ sym none))
+            (get_or-set_same m.0.part.core.owned n false false (let o = s.owned in omega arith) ∙ sym none))
             (λ ne. get_or-set_other m.0.part.core.owned n k false false ne ∙ s.owns k ∙ left k ne);
         out = let l = others_long m.1 n y others are in let o = s.out in let t : length d.locks ≡ suc (length ls) = ap length top in omega arith;
         once = λ k. dite (ℕ_discrete k n)
@@ -195,7 +192,6 @@ module _ (size : ℕ) (d : Deeds) (m : Sat) (s : Stands size d m) where
       → ((k : ℕ) (x : Node) → is_among k d.locks ≡ true → k < size → get_elem? m.0.held k ≡ some (Some x) → slot_of m.1 k ≡ Some (Content x) → slot_of slots k ≡ Some (Content (node_at (graph_after (graph_of m.0.held) (transaction_of r.txn)) k)))
       → Stands size (committed d) (placing m.0 place r, slots)
   committed_stands place r slots long counts made = let graph : List Node = graph_after (graph_of m.0.held) (transaction_of r.txn) in record {
-    few = s.few;
     away = s.away;
     who = s.who;
     draws = s.draws;
@@ -337,12 +333,12 @@ may_place_two size d m s by items a b who seq is_who is_seq is apart one other f
 -- ---- at the start
 
 -- seats of a table that was made just now
-pub new_unused : (kind : Kind) (graph : List Node) (count : ℕ) (board : Board) (seats : List Seat16) → size_of board ≤ 64 → IsMade kind graph count board seats → AllByRecursion (IsUnused board) seats
-new_unused kind graph count board seats few made = all_from (IsUnused board) seats (λ k s e. let new = made.seats_are.new k s e in (
+pub new_unused : (kind : Kind) (graph : List Node) (locks count : ℕ) (board : Board) (seats : List Seat16) → IsMade kind graph locks count board seats → AllByRecursion (IsUnused board) seats
+new_unused kind graph locks count board seats made = all_from (IsUnused board) seats (λ k s e. let new = made.seats_are.new k s e in (
   k,
   record {
     seated = new.seated;
-    stands = subst (Stands (size_of board) (at_first k)) (sym new.me) (first_stands (size_of board) board.table.shared.key.kind k few);
+    stands = subst (Stands (size_of board) (at_first k)) (sym new.me) (first_stands (size_of board) board.table.shared.key.kind (locks_of board) k board.fits);
   },
 ))
 

@@ -1,5 +1,5 @@
 -- A seat between two rounds.
-use Rattle.std.specs.Prelude.{ℕ, ◌≡◌, [], length}
+use Rattle.std.specs.Prelude.{ℕ, ◌≡◌, ◌≤◌, [], length}
 use Rattle.ww_view.specs.View.{IsAway, IsBare}
 use Rattle.ww_table.specs.declared.board.Board.{Board}
 use Rattle.ww_table.specs.declared.seat.Seat16.{Seat16}
@@ -12,7 +12,7 @@ pub record Rests (size : ℕ) (m : Sat) : Type 0 where
   pub no_context : m.0.part.core.stamp ≡ 0
   pub bare : IsBare m.0.part.core
   pub out : m.1 ≡ []
-  pub owned : length m.0.part.core.owned ≡ 64
+  pub owned : size ≤ length m.0.part.core.owned
   pub held : length m.0.held ≡ size
 
 -- it rests, and is a seat of this board

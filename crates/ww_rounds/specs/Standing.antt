@@ -48,13 +48,12 @@ pub record IsHeld (size : ℕ) (m : Sat) (n : ℕ) : Type 0 where
 
 -- it did this, is inside no guard and in no wait list, and has just the nodes of its locks out
 pub record Stands (size : ℕ) (d : Deeds) (m : Sat) : Type 0 where
-  pub few : size ≤ 64
   pub away : IsAway m.0.part.core
   pub who : m.0.part.core.who ≡ d.who
   pub draws : m.0.part.counts.draws ≡ d.draws
   pub commits : length m.0.part.own ≡ d.commits
   pub stage : IsAt d.stage m.0.part.core
-  pub owned : length m.0.part.core.owned ≡ 64
+  pub owned : size ≤ length m.0.part.core.owned
   pub held : length m.0.held ≡ size
   pub owns : (n : ℕ) → owns m.0.part.core n ≡ is_among n d.locks
   pub out : length m.1 ≡ length d.locks

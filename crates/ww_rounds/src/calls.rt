@@ -40,7 +40,7 @@ pub fn take(board: &Board, seat: &mut Seat16, lock: u8) -> bool
         is_among lock d.locks ≡ false → Did board.now (took d lock) seat.new }
     ensures missed { result ≡ false → (d : Deeds) → Did board.now d seat.old → Did board.now d seat.new }
 {
-    seat.take_free(board, lock)
+    seat.take_free(board, u32::from(lock))
 }
 
 /// One try to give back the lock that was taken last of those that the seat owns.
@@ -50,7 +50,7 @@ pub fn give(board: &Board, seat: &mut Seat16, lock: u8) -> bool
     ensures { result ≡ true → (d : Deeds) (ls : List ℕ) → Did board.now d seat.old → d.locks ≡ lock ∷ ls →
         is_among lock ls ≡ false → Did board.now (gave d ls) seat.new }
 {
-    seat.give_free(board, lock)
+    seat.give_free(board, u32::from(lock))
 }
 
 /// Ends the context, where nobody signed the seat.
@@ -75,10 +75,11 @@ pub(crate) fn raise(board: &Board, seat: &mut Seat16, node: u8)
         value: 0,
         ports: [None; PORTS],
     };
-    let old = seat.swap_node(board, node, none);
+    let slot = u32::from(node);
+    let old = seat.swap_node(board, slot, none);
     let value = old.value.wrapping_add(1);
     let ports = old.ports;
-    seat.swap_node(board, node, Node { value, ports });
+    seat.swap_node(board, slot, Node { value, ports });
 }
 
 /// Commits that a node has 1 more, and gives the place. Where a growth is refused the seat is as before.

@@ -84,14 +84,14 @@ module _ (key : Start) (c : State) (e : Event) (law : IsLawful c) (can : Possibl
   sits_on id j v mine far f = let apart : (p : Part) → PartFits key c log at counts j p → p.core.who ≢ s = λ p g is. far (sym g.place ∙ ap at is ∙ mine) in record {
     part = part_on j v.part (apart v.part f.part) f.part;
     room = f.room;
-    held = λ n own. f.held n own ∙ ap (λ (x : Node). some (Some x)) (sym (spares.nodes_stay v.part.core.who n (apart v.part f.part) (f.part.knows.owned.has n own)));
+    held = λ n own small. f.held n own small ∙ ap (λ (x : Node). some (Some x)) (sym (spares.nodes_stay v.part.core.who n (apart v.part f.part) (f.part.knows.owned.has n own)));
     idle = λ k p there. let i = f.idle k p there in (part_on j p (apart p i.0) i.0, i.1);
     apart = f.apart;
     differ = f.differ;
   }
 
 -- another table with the same core: what the rule says of the core, of the commits and of the counts stays
-pub stays_as : (key : Start) (s s' : St) (r : Ruled key s) (at : ℕ → ℕ) → Shown r.core s'.words → AtHome (last_graph (first_graph key) r.log) r.core.owner r.core.queue r.core.guard s'.homes
+pub stays_as : (key : Start) (s s' : St) (r : Ruled key s) (at : ℕ → ℕ) → Shown key.locks r.core s'.words → AtHome key.locks (last_graph (first_graph key) r.log) r.core.owner r.core.queue r.core.guard s'.homes
     → ((j : ℕ) (v : Sight) → get_elem? s'.views j ≡ some v → v.seated ≡ true → Sits key r.core r.log at r.counts j v) → ((t : ℕ) → t < key.seats → IsThere s'.views (at t) t) → Stays key s r s'
 stays_as key s s' r at words homes seats there = record {
   is = refl;
@@ -104,6 +104,8 @@ stays_as key s s' r at words homes seats there = record {
     reached = r.reached;
     kind = r.kind;
     locks = r.locks;
+    many = r.many;
+    fits = r.fits;
     places = r.places;
     seats_there = r.seats_there;
     strangers = r.strangers;

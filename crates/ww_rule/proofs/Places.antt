@@ -1,10 +1,11 @@
 -- A commit: the record joins the history, and the nodes held are what it makes of them.
 use Rattle.std.proofs.Common.{◌≡◌, ◌≢◌, ℕ, zero, suc, ◌+◌, ◌<◌, ◌%◌, ◌^◌, true, List, [], ◌∷◌, ◌++◌, length, get_or, refl, sym, ap, ◌∙◌, subst, ⊎_elim, arith, Option, Some, None, length-append, Bool, false, eqb}
+use Rattle.std.proofs.lemmas.List.{get_or_past}
 use Rattle.std.specs.Bool.{if◌then◌else◌}
 use Rattle.std.specs.List.{AllByRecursion}
 use mathlib.Core.Logic.{dite}
 use mathlib.Core.Option.{none, some, some-injective}
-use native.Mathlib.Decide.{ℕ_discrete}
+use native.Mathlib.Decide.{ℕ_discrete, dec_le}
 use lib.ListN.{get_elem?, length-map}
 use Rattle.atomic_table.specs.Table.{step, keeps, stepped, Allows}
 use Rattle.ww_rule.specs.declared.cells.Cell.TheVariants.{Content}
@@ -13,7 +14,7 @@ use Rattle.ww_model.specs.declared.event.Event.TheVariants.{Commit}
 use Rattle.ww_plain.specs.declared.node.Node.{Node}
 use Rattle.ww_plain.specs.declared.history.Record.{Record}
 use Rattle.ww_plain.specs.Numbers.{is_among}
-use Rattle.ww_plain.specs.Graph.{IsGraph, node_at}
+use Rattle.ww_plain.specs.Graph.{IsGraph, no_node, node_at}
 use Rattle.ww_plain.specs.Footprint.{footprint_of}
 use Rattle.ww_plain.specs.Transaction.{Fits, transaction_of}
 use Rattle.ww_plain.specs.Meaning.{graph_after}
@@ -90,7 +91,9 @@ module _ (key : Start) (s : St) (r : Ruled key s) (id : ℕ) (me : Sat) (here : 
   sizes = length-map me.0.held known ∙ sits.room ∙ sym r.counted.size
 
   sees : (n : ℕ) → owns me.0.part.core n ≡ true → node_at seen n ≡ node_at graph n
-  sees n own = graph_at me.0.held n (node_at graph n) (sits.held n own)
+  sees n own = dite (dec_le (length (first_graph key)) n)
+      (λ beyond. get_or_past seen n no_node (let a = sizes in let b = r.counted.size in omega arith) ∙ sym (get_or_past graph n no_node (let b = r.counted.size in omega arith)))
+      (λ below. graph_at me.0.held n (node_at graph n) (sits.held n own (omega arith)))
 
   alike : IsSameInside seen graph (transaction_of x.txn)
   alike = inside seen graph (transaction_of x.txn) may.next.fits sizes (λ n among. sees n (may.covers n among))
@@ -132,34 +135,34 @@ module _ (key : Start) (s : St) (r : Ruled key s) (id : ℕ) (me : Sat) (here : 
     callers = λ k y e. ⊎_elim (λ was. r.counted.callers k y was) (λ is. subst (λ (z : Recorded). z.caller < key.seats) is (subst (λ (t : ℕ). t < key.seats) (sym may.caller) sits.part.number)) (at_snoc r.log (recorded_of x) y k e);
   }
 
-  pub place_makes : MakesWith key s r (Commit me.0.part.core.who) new (stepped s 648 (get_or s.words 648 0 + 1) id me.1 (placing me.0 (get_or s.words 648 0) x) keeps)
+  pub place_makes : MakesWith key s r (Commit me.0.part.core.who) new (stepped s 136 (get_or s.words 136 0 + 1) id me.1 (placing me.0 (get_or s.words 136 0) x) keeps)
   place_makes = let c = r.core in let v = me.0.part.core in let k = sits.part.knows in let same = r.words.front in let was = r.counted.front in let few = many in let lawful = law key s r id me here seated in
       let can = shows_commit c v lawful k may.owner.0 may.away may.owner.1 (omega arith) in let g = grows (first_graph key) r.log (recorded_of x) in
-      makes_all key s r id me here seated (Commit v.who) 648 (get_or s.words 648 0 + 1) (record (me.0.part) { own = me.0.part.own ++ (get_or s.words 648 0, x) ∷ [] }) (renewed 0 me.0.held (graph_after seen (transaction_of x.txn))) keeps new r.counts refl refl can
+      makes_all key s r id me here seated (Commit v.who) 136 (get_or s.words 136 0 + 1) (record (me.0.part) { own = me.0.part.own ++ (get_or s.words 136 0, x) ∷ [] }) (renewed 0 me.0.held (graph_after seen (transaction_of x.txn))) keeps new r.counts refl refl can
       (mine_commit c v lawful k can) sits.part.counted
-      (own_more me.0.part.own (get_or s.words 648 0) x ∙ (λ i. sits.part.own i ++ ((same ∙ was) i, recorded_of x) ∷ []) ∙ sym (ap (λ (t : ℕ). part_of t new) (sym may.caller) ∙ g.own_part ∙ ap (λ (t : ℕ). part_of t r.log ++ (length r.log, recorded_of x) ∷ []) may.caller))
+      (own_more me.0.part.own (get_or s.words 136 0) x ∙ (λ i. sits.part.own i ++ ((same ∙ was) i, recorded_of x) ∷ []) ∙ sym (ap (λ (t : ℕ). part_of t new) (sym may.caller) ∙ g.own_part ∙ ap (λ (t : ℕ). part_of t r.log ++ (length r.log, recorded_of x) ∷ []) may.caller))
       (record {
         counts_stay = λ t _. refl;
         parts_stay = λ t ne. g.other_parts t (λ z. ne (z ∙ may.caller));
         nodes_stay = λ t n ne own. stays n (λ mine. ne (let z = sym own ∙ k.owned.has n mine in cc));
       })
       (renewed_long 0 me.0.held _ ∙ sits.room)
-      (λ n own. renewed_at 0 me.0.held (graph_after seen (transaction_of x.txn)) n (node_at graph n) (sits.held n own) ∙ ap (λ (j : ℕ). some (Some (node_at (graph_after seen (transaction_of x.txn)) j))) (let z : 0 + n ≡ n = omega arith in z) ∙ ap (λ (y : Node). some (Some y)) (becomes n own))
+      (λ n own small. renewed_at 0 me.0.held (graph_after seen (transaction_of x.txn)) n (node_at graph n) (sits.held n own small) ∙ ap (λ (j : ℕ). some (Some (node_at (graph_after seen (transaction_of x.txn)) j))) (let z : 0 + n ≡ n = omega arith in z) ∙ ap (λ (y : Node). some (Some y)) (becomes n own))
       counted
-      (front_set c (Commit v.who) can.base lawful.base s.words r.words (get_or s.words 648 0 + 1) (λ m. tt) refl refl refl refl (ap (λ (y : ℕ). y + 1) (sym same)))
+      (front_set c (Commit v.who) can.base lawful.base key.locks s.words r.words (get_or s.words 136 0 + 1) (λ m. tt) refl refl refl refl (ap (λ (y : ℕ). y + 1) (sym same)))
       (record {
         deep = r.homes.deep;
         nodes = λ n low clear. r.homes.nodes n (let a = counted.size in let b = r.counted.size in omega arith) clear ∙ ap (λ (y : Node). some (some (Content y))) (sym (stays n (λ own. clear v.who (k.owned.has n own))));
         lists = r.homes.lists;
       })
 
-pub places : (key : Start) (slots id : ℕ) (me : Sat) (about : Option Record) (x : Record) → me.0.seated ≡ true → about ≡ Some x → MayPlace me.0 (recorded_of x) → Allows (Ruled key) slots id me 648 (λ z. (z + 1) % 2 ^ 64) (places_to about (step slots 648 1 0 none) me)
-places key slots id me about x seated is may s r deep at small = let n : ℕ = get_or s.words 648 0 in let same = r.words.front in let was = r.counted.front in let few = many key s r id me at seated x may in
+pub places : (key : Start) (slots id : ℕ) (me : Sat) (about : Option Record) (x : Record) → me.0.seated ≡ true → about ≡ Some x → MayPlace me.0 (recorded_of x) → Allows (Ruled key) slots id me 136 (λ z. (z + 1) % 2 ^ 64) (places_to about (step slots 136 1 0 none) me)
+places key slots id me about x seated is may s r deep at small = let n : ℕ = get_or s.words 136 0 in let same = r.words.front in let was = r.counted.front in let few = many key s r id me at seated x may in
     let up : (n + 1) % 2 ^ 64 ≡ n + 1 = omega arith in (
       placing me.0 n x,
       keeps,
       tt,
-      subst (λ (y : ℕ). Ruled key (stepped s 648 y id me.1 (placing me.0 n x) keeps)) (sym up) (place_makes key s r id me at seated x may).ruled,
+      subst (λ (y : ℕ). Ruled key (stepped s 136 y id me.1 (placing me.0 n x) keeps)) (sym up) (place_makes key s r id me at seated x may).ruled,
       (λ y is'. let e : x ≡ y = (let z : Some x ≡ Some y = sym is ∙ is' in cc) in (
         ap (λ (w : Record). let m : Sat = (placing me.0 n w, me.1) in m) e,
         own_below n me.0.part.own (part_of me.0.part.core.who r.log) (r.seats id me.0 at seated).part.own (subst (λ (k : ℕ). AllByRecursion (λ (p : ℕ × Recorded). p.0 < k) (part_of me.0.part.core.who r.log)) (let z : 0 + length r.log ≡ n = omega arith in z) (part_below 0 me.0.part.core.who r.log)),

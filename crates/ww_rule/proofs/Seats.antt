@@ -1,5 +1,5 @@
 -- The table as it is made, and seats that are cut off or joined.
-use Rattle.std.proofs.Common.{◌≡◌, ◌≢◌, ◌⊎◌, ℕ, zero, suc, ◌+◌, ◌-◌, ◌*◌, ◌<◌, ◌≤◌, true, false, true≢false, List, [], ◌∷◌, ◌++◌, length, replicate, get_or, set, sym, refl, ap, ◌∙◌, subst, ⊎_elim, inl, inr, arith, Option, None, length-set}
+use Rattle.std.proofs.Common.{◌≡◌, ◌≢◌, ◌⊎◌, ℕ, zero, suc, ◌+◌, ◌-◌, ◌*◌, ◌<◌, ◌≤◌, true, true≢false, List, [], ◌∷◌, ◌++◌, length, replicate, get_or, set, sym, refl, ap, ◌∙◌, subst, ⊎_elim, inl, inr, arith, Option, None, length-set}
 use mathlib.Core.Option.{some, some-injective}
 use mathlib.Core.Logic.{dite}
 use native.Mathlib.Decide.{ℕ_discrete}
@@ -14,7 +14,7 @@ use Rattle.ww_model.proofs.Counts.{one_of_nobody}
 use Rattle.ww_plain.specs.Graph.{IsGraph, node_at}
 use Rattle.ww_plain.specs.History.{Recorded}
 use Rattle.ww_view.specs.View.{IsBare}
-use Rattle.ww_view.proofs.Starts.{knows_start}
+use Rattle.ww_view.proofs.Starts.{knows_start, none_at}
 use Rattle.ww_rule.specs.declared.cells.Cell.{Cell}
 use Rattle.ww_rule.specs.declared.cells.Cell.TheVariants.{Content, Line}
 use Rattle.ww_rule.specs.declared.cells.Counts.{Counts}
@@ -58,13 +58,8 @@ aimed_else from to at t ne = go (ℕ_discrete (at t) from)
     go (yes e) = absurd (ne e)
     go (no _) = refl
 
-pub bare_first : (kind : Kind) (s : ℕ) → IsBare (first_part kind s).core
-bare_first kind s n = none 64 n
-  where
-    none : (many i : ℕ) → get_or (replicate many false) i false ≡ false
-    none zero i = refl
-    none (suc many) zero = refl
-    none (suc many) (suc i) = none many i
+pub bare_first : (kind : Kind) (locks s : ℕ) → IsBare (first_part kind locks s).core
+bare_first kind locks s = none_at locks
 
 module _ (key : Start) (c : State) (log : List Recorded) (at to : ℕ → ℕ) (counts : ℕ → Counts) (j k : ℕ) where
   -- the same facts of a number, where its view stands elsewhere
@@ -107,7 +102,7 @@ module _ (key : Start) where
   alone c log at counts j size p same fits bare = record {
     part = fits;
     room = length-replicate {A = Option _} size None ∙ same;
-    held = λ n own. absurd (true≢false (sym own ∙ bare n));
+    held = λ n own small. absurd (true≢false (sym own ∙ bare n));
     idle = λ i q there. absurd (cc);
     apart = λ i q there. absurd (cc);
     differ = λ i l q t a b. absurd (cc);
@@ -222,31 +217,31 @@ all_zero zero i = refl
 all_zero (suc n) zero = refl
 all_zero (suc n) (suc i) = all_zero n i
 
-first_at : (kind : Kind) (s n k : ℕ) (p : Part) → get_elem? (first_parts kind s n) k ≡ some p → (p ≡ first_part kind (s + k)) × (k < n)
-first_at kind s zero k p e = absurd (cc)
-first_at kind s (suc n) zero p e = (sym (some-injective (first_part kind s) p e) ∙ ap (first_part kind) (let z : s ≡ s + 0 = omega arith in z), omega arith)
-first_at kind s (suc n) (suc k) p e = let t = first_at kind (s + 1) n k p e in (t.0 ∙ ap (first_part kind) (let z : s + 1 + k ≡ s + suc k = omega arith in z), (let h = t.1 in omega arith))
+first_at : (kind : Kind) (locks s n k : ℕ) (p : Part) → get_elem? (first_parts kind locks s n) k ≡ some p → (p ≡ first_part kind locks (s + k)) × (k < n)
+first_at kind locks s zero k p e = absurd (cc)
+first_at kind locks s (suc n) zero p e = (sym (some-injective (first_part kind locks s) p e) ∙ ap (first_part kind locks) (let z : s ≡ s + 0 = omega arith in z), omega arith)
+first_at kind locks s (suc n) (suc k) p e = let t = first_at kind locks (s + 1) n k p e in (t.0 ∙ ap (first_part kind locks) (let z : s + 1 + k ≡ s + suc k = omega arith in z), (let h = t.1 in omega arith))
 
-parts_at : (kind : Kind) (s n k : ℕ) → k < n → get_elem? (first_parts kind s n) k ≡ some (first_part kind (s + k))
-parts_at kind s zero k low = absurd (omega arith)
-parts_at kind s (suc n) zero low = ap (λ (t : ℕ). some (first_part kind t)) (let z : s ≡ s + 0 = omega arith in z)
-parts_at kind s (suc n) (suc k) low = parts_at kind (s + 1) n k (omega arith) ∙ ap (λ (t : ℕ). some (first_part kind t)) (let z : s + 1 + k ≡ s + suc k = omega arith in z)
+parts_at : (kind : Kind) (locks s n k : ℕ) → k < n → get_elem? (first_parts kind locks s n) k ≡ some (first_part kind locks (s + k))
+parts_at kind locks s zero k low = absurd (omega arith)
+parts_at kind locks s (suc n) zero low = ap (λ (t : ℕ). some (first_part kind locks t)) (let z : s ≡ s + 0 = omega arith in z)
+parts_at kind locks s (suc n) (suc k) low = parts_at kind locks (s + 1) n k (omega arith) ∙ ap (λ (t : ℕ). some (first_part kind locks t)) (let z : s + 1 + k ≡ s + suc k = omega arith in z)
 
-module _ (key : Start) (some_seat : 1 ≤ key.seats) (few : key.seats < 17) (graph : IsGraph (first_graph key)) where
+module _ (key : Start) (some_seat : 1 ≤ key.seats) (few : key.seats < 17) (many : key.locks ≤ 65536) (fits : length (first_graph key) ≤ key.locks) (graph : IsGraph (first_graph key)) where
   abbrev first_core : State
-  first_core = start key.kind 64 16
+  first_core = start key.kind key.locks 16
 
-  first_fits : (t : ℕ) → t < key.seats → PartFits key first_core [] (λ _. 0) (λ _. no_counts) 0 (first_part key.kind t)
-  first_fits t small = record { place = refl; number = small; knows = knows_start key.kind 64 16 t (omega arith) (omega arith); counted = refl; own = refl }
+  first_fits : (t : ℕ) → t < key.seats → PartFits key first_core [] (λ _. 0) (λ _. no_counts) 0 (first_part key.kind key.locks t)
+  first_fits t small = record { place = refl; number = small; knows = knows_start key.kind key.locks 16 t (omega arith); counted = refl; own = refl }
 
   first_sits : Sits key first_core [] (λ _. 0) (λ _. no_counts) 0 (first_sight key)
   first_sits = record {
     part = first_fits (key.seats - 1) (omega arith);
     room = length-replicate {A = Option _} (length (first_graph key)) None;
-    held = λ n own. absurd (true≢false (sym own ∙ bare_first key.kind (key.seats - 1) n));
-    idle = λ k p e. let t = first_at key.kind 0 (key.seats - 1) k p e in subst (λ (q : Part). PartFits key first_core [] (λ _. 0) (λ _. no_counts) 0 q × IsBare q.core) (sym t.0) (first_fits (0 + k) (let h = t.1 in omega arith), bare_first key.kind (0 + k));
-    apart = λ k p e is. let t = first_at key.kind 0 (key.seats - 1) k p e in let h = t.1 in let w = ap (λ (q : Part). q.core.who) t.0 in omega arith;
-    differ = λ k l p q a b is. let w = ap (λ (x : Part). x.core.who) (first_at key.kind 0 (key.seats - 1) k p a).0 in let y = ap (λ (x : Part). x.core.who) (first_at key.kind 0 (key.seats - 1) l q b).0 in omega arith;
+    held = λ n own small. absurd (true≢false (sym own ∙ bare_first key.kind key.locks (key.seats - 1) n));
+    idle = λ k p e. let t = first_at key.kind key.locks 0 (key.seats - 1) k p e in subst (λ (q : Part). PartFits key first_core [] (λ _. 0) (λ _. no_counts) 0 q × IsBare q.core) (sym t.0) (first_fits (0 + k) (let h = t.1 in omega arith), bare_first key.kind key.locks (0 + k));
+    apart = λ k p e is. let t = first_at key.kind key.locks 0 (key.seats - 1) k p e in let h = t.1 in let w = ap (λ (q : Part). q.core.who) t.0 in omega arith;
+    differ = λ k l p q a b is. let w = ap (λ (x : Part). x.core.who) (first_at key.kind key.locks 0 (key.seats - 1) k p a).0 in let y = ap (λ (x : Part). x.core.who) (first_at key.kind key.locks 0 (key.seats - 1) l q b).0 in omega arith;
   }
 
   first_seats : (j : ℕ) (v : Sight) → get_elem? (first_sight key ∷ []) j ≡ some v → Sits key first_core [] (λ _. 0) (λ _. no_counts) j v
@@ -258,30 +253,32 @@ module _ (key : Start) (some_seat : 1 ≤ key.seats) (few : key.seats < 17) (gra
     view = first_sight key;
     stands = refl;
     seated = refl;
-    speaks = dite (ℕ_discrete (key.seats - 1) t) (λ is. inl is) (λ isnt. inr (t, first_part key.kind (0 + t), parts_at key.kind 0 (key.seats - 1) t (omega arith), omega arith));
+    speaks = dite (ℕ_discrete (key.seats - 1) t) (λ is. inl is) (λ isnt. inr (t, first_part key.kind key.locks (0 + t), parts_at key.kind key.locks 0 (key.seats - 1) t (omega arith), omega arith));
   }
 
-  pub opens : (xs : List Cell) → length xs ≡ 128 → ((n : ℕ) → n < length (first_graph key) → get_elem? xs n ≡ some (Content (node_at (first_graph key) n))) → ((n : ℕ) → n < 64 → get_elem? xs (64 + n) ≡ some (Line []))
-      → Ruled key (opening (replicate 656 0) xs (first_sight key))
+  pub opens : (xs : List Cell) → length xs ≡ 64 + key.locks → ((n : ℕ) → n < length (first_graph key) → get_elem? xs n ≡ some (Content (node_at (first_graph key) n))) → ((n : ℕ) → n < key.locks → get_elem? xs (64 + n) ≡ some (Line []))
+      → Ruled key (opening (replicate (144 + 8 * key.locks) 0) xs (first_sight key))
   opens xs long nodes lists = record {
     core = first_core;
     log = [];
     at = λ _. 0;
     counts = λ _. no_counts;
-    reached = at_start key.kind 64 16;
+    reached = at_start key.kind key.locks 16;
     kind = refl;
     locks = refl;
+    many = many;
+    fits = fits;
     places = refl;
     seats_there = few;
     strangers = λ t big. record { stamp = refl; bare = λ n own. absurd cc; outside = λ n z. absurd (let y : 0 ≡ suc t = z in omega arith); waits = λ n e h. absurd h };
     words = record {
-      wide = length-replicate {A = ℕ} 656 0;
-      owners = λ n l. all_zero 656 (8 * n);
-      guards = λ n l. all_zero 656 (8 * n + 1);
-      signs = λ t l. all_zero 656 (512 + 8 * t);
-      cancels = λ t l. all_zero 656 (512 + 8 * t + 1);
-      drawn = all_zero 656 640;
-      front = all_zero 656 648;
+      wide = length-replicate {A = ℕ} (144 + 8 * key.locks) 0;
+      owners = λ n l. all_zero (144 + 8 * key.locks) (144 + 8 * n);
+      guards = λ n l. all_zero (144 + 8 * key.locks) (144 + 8 * n + 1);
+      signs = λ t l. all_zero (144 + 8 * key.locks) (8 * t);
+      cancels = λ t l. all_zero (144 + 8 * key.locks) (8 * t + 1);
+      drawn = all_zero (144 + 8 * key.locks) 128;
+      front = all_zero (144 + 8 * key.locks) 136;
     };
     homes = record {
       deep = length-map xs (λ (x : Cell). some x) ∙ long;
@@ -305,7 +302,7 @@ module _ (key : Start) (some_seat : 1 ≤ key.seats) (few : key.seats < 17) (gra
   }
 
   -- what it tells then is the start of the core, and no commits
-  pub opens_start : (xs : List Cell) (long : length xs ≡ 128) (nodes : (n : ℕ) → n < length (first_graph key) → get_elem? xs n ≡ some (Content (node_at (first_graph key) n))) (lists : (n : ℕ) → n < 64 → get_elem? xs (64 + n) ≡ some (Line []))
+  pub opens_start : (xs : List Cell) (long : length xs ≡ 64 + key.locks) (nodes : (n : ℕ) → n < length (first_graph key) → get_elem? xs n ≡ some (Content (node_at (first_graph key) n))) (lists : (n : ℕ) → n < key.locks → get_elem? xs (64 + n) ≡ some (Line []))
       → ((opens xs long nodes lists).core ≡ first_core) × ((opens xs long nodes lists).log ≡ [])
   unfolding opens
   opens_start xs long nodes lists = (refl, refl)

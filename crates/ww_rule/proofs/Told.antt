@@ -1,5 +1,5 @@
 -- What the words and lists that a seat finds tell it, by what its view knows.
-use Rattle.std.proofs.Common.{◌≡◌, ⊎_elim, ℕ, suc, ◌<◌, Bool, true, false, true≢false, Some, refl, sym, ap, ◌∙◌, subst, arith}
+use Rattle.std.proofs.Common.{◌≡◌, length, ⊎_elim, ℕ, suc, ◌<◌, Bool, true, false, true≢false, Some, refl, sym, ap, ◌∙◌, subst, arith}
 use mathlib.Core.Logic.{dite}
 use native.Mathlib.Decide.{dec_le}
 use Rattle.ww_word.specs.declared.owner.Owner.{Owner}
@@ -28,9 +28,9 @@ use Rattle.ww_view.proofs.Deaths.{die_shows}
 use Rattle.ww_rule.specs.Guards.{StandsAs, IsSeenBy}
 
 module _ (c : State) (v : View) (l : IsLawful c) (k : Knows c v) where
-  low : (n : ℕ) → c.owner n ≡ Taken v.who → n < 64
+  low : (n : ℕ) → c.owner n ≡ Taken v.who → n < length v.owned
   low n own = dite (dec_le c.locks n)
-      (λ beyond. absurd (let o = l.base.owners.beyond n beyond in cc)) (λ below. let y = k.itself.locks in omega arith)
+      (λ beyond. absurd (let o = l.base.owners.beyond n beyond in cc)) (λ below. let r = k.owned.room in omega arith)
 
   -- an entry of the seat is the one that its view makes
   own_is : (n : ℕ) (e : Entry) → Has (c.queue n) e → e.seat ≡ v.who → e ≡ entry_of_view v
@@ -40,10 +40,10 @@ module _ (c : State) (v : View) (l : IsLawful c) (k : Knows c v) where
       holds m own true h = h
       holds m own false h = absurd ((l.base.queues.at n).holds_not e has h m (k.owned.has m own ∙ ap Taken (sym is)))
 
-      holds_is : e.holds ≡ any_below 64 (owns v)
-      holds_is = same_test e.holds (any_below 64 (owns v))
-          (λ h. let o = (l.base.queues.at n).holds e has h in let own : c.owner o.0 ≡ Taken v.who = o.1 ∙ ap Taken is in found_below 64 (owns v) o.0 (low o.0 own) (k.owned.lacks o.0 own))
-          (λ some. let f = below_found 64 (owns v) some in holds f.0 f.2 e.holds refl)
+      holds_is : e.holds ≡ any_below (length v.owned) (owns v)
+      holds_is = same_test e.holds (any_below (length v.owned) (owns v))
+          (λ h. let o = (l.base.queues.at n).holds e has h in let own : c.owner o.0 ≡ Taken v.who = o.1 ∙ ap Taken is in found_below (length v.owned) (owns v) o.0 (low o.0 own) (k.owned.lacks o.0 own))
+          (λ some. let f = below_found (length v.owned) (owns v) some in holds f.0 f.2 e.holds refl)
 
   own_entry : (n : ℕ) → v.waits ≡ suc n → entry_of (c.queue n) v.who ≡ Some (entry_of_view v)
   own_entry n waits = let t = k.queues.waited n waits in

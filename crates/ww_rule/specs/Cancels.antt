@@ -38,8 +38,8 @@ heeding v mark = record v {
 }
 
 abbrev pub heeds_to : Step Cell → Sat → ℕ → Sat → Type 0
-heeds_to st m found m' = (found ≡ 0 → m' ≡ (lost m.0, m.1)) × (found ≢ 0 → m' ≡ (heeding m.0 found, m.1))
-    × (found ≤ 16)
+heeds_to st m found m' = st.word ≡ cancel_at m.0.part.core.who →
+    (found ≡ 0 → m' ≡ (lost m.0, m.1)) × (found ≢ 0 → m' ≡ (heeding m.0 found, m.1)) × (found ≤ 16)
 
 -- ---- leave: out of the wait list, for the cancel that was heeded
 

@@ -1,37 +1,38 @@
--- Which word is which. The words of two locks, and of two seats, are eight apart, so that they share no cache line; the
+-- Which word is which: those of the seats and the counters first, and behind them those of the locks, as many as there
+-- are. The words of two locks, and of two seats, are eight apart, so that they share no cache line; the
 -- guard of a lock lies beside its owner word, since who enters the guard goes on to write that.
 use Rattle.std.specs.Prelude.{ℕ, ◌≡◌, ◌+◌, ◌*◌}
 use Rattle.atomic_table.specs.Seated.{TableId}
 
 abbrev pub owner_at : ℕ → ℕ
-owner_at n = 8 * n
+owner_at n = 144 + 8 * n
 
 abbrev pub guard_at : ℕ → ℕ
-guard_at n = 8 * n + 1
+guard_at n = 144 + 8 * n + 1
 
 abbrev pub sign_at : ℕ → ℕ
-sign_at s = 512 + 8 * s
+sign_at s = 8 * s
 
 -- beside the sign, since a waiter looks for both
 abbrev pub cancel_at : ℕ → ℕ
-cancel_at s = 512 + 8 * s + 1
+cancel_at s = 8 * s + 1
 
 abbrev pub stamp_at : ℕ
-stamp_at = 640
+stamp_at = 128
 
 abbrev pub front_at : ℕ
-front_at = 648
+front_at = 136
 
-abbrev pub words_in_all : ℕ
-words_in_all = 656
+abbrev pub words_for : ℕ → ℕ
+words_for locks = 144 + 8 * locks
 
--- slot n has the node n, and this one the wait list of its lock
+-- slot n has the node n, of 64 at most, and this one the wait list of lock n
 abbrev pub list_at : ℕ → ℕ
 list_at n = 64 + n
 
-abbrev pub slots_in_all : ℕ
-slots_in_all = 128
+abbrev pub slots_for : ℕ → ℕ
+slots_for locks = 64 + locks
 
--- a table of this layout
-abbrev pub IsSized : TableId → Type 0
-IsSized z = (z.words ≡ words_in_all) × (z.slots ≡ slots_in_all)
+-- a table of this layout, of so many locks
+abbrev pub IsSized : ℕ → TableId → Type 0
+IsSized locks z = (z.words ≡ words_for locks) × (z.slots ≡ slots_for locks)

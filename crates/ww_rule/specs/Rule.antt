@@ -28,7 +28,7 @@ use Rattle.ww_rule.specs.declared.cells.Counts.{Counts}
 use Rattle.ww_rule.specs.declared.cells.Part.{Part}
 use Rattle.ww_rule.specs.declared.cells.Sight.{Sight}
 use Rattle.ww_rule.specs.declared.cells.Start.{Start}
-use Rattle.ww_rule.specs.Layout.{owner_at, guard_at, sign_at, cancel_at, stamp_at, front_at, words_in_all, list_at, slots_in_all}
+use Rattle.ww_rule.specs.Layout.{owner_at, guard_at, sign_at, cancel_at, stamp_at, front_at, words_for, list_at, slots_for}
 
 -- the table as plain data
 abbrev pub St : Type 0
@@ -52,20 +52,20 @@ total zero f = 0
 total (suc n) f = f n + total n f
 
 -- the words show the core
-pub record Shown (c : State) (words : List ℕ) : Type 0 where
-  pub wide : length words ≡ words_in_all
-  pub owners : (n : ℕ) → n < 64 → slice_index words (owner_at n) ≡ packed (word_of c n)
-  pub guards : (n : ℕ) → n < 64 → slice_index words (guard_at n) ≡ c.guard n
+pub record Shown (locks : ℕ) (c : State) (words : List ℕ) : Type 0 where
+  pub wide : length words ≡ words_for locks
+  pub owners : (n : ℕ) → n < locks → slice_index words (owner_at n) ≡ packed (word_of c n)
+  pub guards : (n : ℕ) → n < locks → slice_index words (guard_at n) ≡ c.guard n
   pub signs : (s : ℕ) → s < 16 → slice_index words (sign_at s) ≡ c.sign s
   pub cancels : (s : ℕ) → s < 16 → slice_index words (cancel_at s) ≡ c.cancel s
   pub drawn : slice_index words stamp_at ≡ c.drawn
   pub front : slice_index words front_at ≡ c.commits
 
 -- a node whose lock no seat has taken, and a list whose guard is free, is at home
-pub record AtHome (graph : List Node) (owner : ℕ → Holder) (queue : ℕ → List Entry) (guard : ℕ → ℕ) (homes : List (maybe.Option Cell)) : Type 0 where
-  pub deep : length homes ≡ slots_in_all
+pub record AtHome (locks : ℕ) (graph : List Node) (owner : ℕ → Holder) (queue : ℕ → List Entry) (guard : ℕ → ℕ) (homes : List (maybe.Option Cell)) : Type 0 where
+  pub deep : length homes ≡ slots_for locks
   pub nodes : (n : ℕ) → n < length graph → ((s : ℕ) → owner n ≢ Taken s) → get_elem? homes n ≡ some (some (Content (node_at graph n)))
-  pub lists : (n : ℕ) → n < 64 → guard n ≡ 0 → get_elem? homes (list_at n) ≡ some (some (Line (queue n)))
+  pub lists : (n : ℕ) → n < locks → guard n ≡ 0 → get_elem? homes (list_at n) ≡ some (some (Line (queue n)))
 
 -- how often a seat is in the list
 abbrev pub times : ℕ → List ℕ → ℕ
@@ -107,7 +107,7 @@ pub record PartFits (key : Start) (c : State) (log : List Recorded) (at : ℕ �
 pub record Sits (key : Start) (c : State) (log : List Recorded) (at : ℕ → ℕ) (counts : ℕ → Counts) (j : ℕ) (v : Sight) : Type 0 where
   pub part : PartFits key c log at counts j v.part
   pub room : length v.held ≡ length (first_graph key)
-  pub held : (n : ℕ) → owns v.part.core n ≡ true → get_elem? v.held n ≡ some (Some (node_at (last_graph (first_graph key) log) n))
+  pub held : (n : ℕ) → owns v.part.core n ≡ true → n < length (first_graph key) → get_elem? v.held n ≡ some (Some (node_at (last_graph (first_graph key) log) n))
   pub idle : (k : ℕ) (p : Part) → get_elem? v.idle k ≡ some p → PartFits key c log at counts j p × IsBare p.core
   pub apart : (k : ℕ) (p : Part) → get_elem? v.idle k ≡ some p → p.core.who ≢ v.part.core.who
   pub differ : (k l : ℕ) (p q : Part) → get_elem? v.idle k ≡ some p → get_elem? v.idle l ≡ some q → p.core.who ≡ q.core.who → k ≡ l
@@ -137,12 +137,14 @@ pub record Ruled (key : Start) (s : St) : Type 0 where
   pub counts : ℕ → Counts
   pub reached : Reached core
   pub kind : core.kind ≡ key.kind
-  pub locks : core.locks ≡ 64
+  pub locks : core.locks ≡ key.locks
+  pub many : key.locks ≤ 65536
+  pub fits : length (first_graph key) ≤ key.locks
   pub places : core.seats ≡ 16
   pub seats_there : key.seats < 17
   pub strangers : (t : ℕ) → key.seats ≤ t → IsStranger core t
-  pub words : Shown core s.words
-  pub homes : AtHome (last_graph (first_graph key) log) core.owner core.queue core.guard s.homes
+  pub words : Shown key.locks core s.words
+  pub homes : AtHome key.locks (last_graph (first_graph key) log) core.owner core.queue core.guard s.homes
   pub counted : Counted key core.drawn core.commits core.cancel log counts
   pub seats : (j : ℕ) (v : Sight) → get_elem? s.views j ≡ some v → v.seated ≡ true → Sits key core log at counts j v
   pub there : (t : ℕ) → t < key.seats → IsThere s.views (at t) t
@@ -166,15 +168,15 @@ pub record Stays (key : Start) (s : St) (r : Ruled key s) (s' : St) : Type 0 whe
 
 -- ---- at the start
 
--- a number that did nothing yet
-abbrev pub first_part : Kind → ℕ → Part
-first_part kind s = record { core = first_view kind s; counts = no_counts; own = [] }
+-- a number that did nothing yet, at a table of so many locks
+abbrev pub first_part : Kind → ℕ → ℕ → Part
+first_part kind locks s = record { core = first_view kind locks s; counts = no_counts; own = [] }
 
 -- the numbers s, s + 1 and so on, n of them
-abbrev pub first_parts : Kind → ℕ → ℕ → List Part
-first_parts kind s zero = []
-first_parts kind s (suc n) = first_part kind s ∷ first_parts kind (s + 1) n
+abbrev pub first_parts : Kind → ℕ → ℕ → ℕ → List Part
+first_parts kind locks s zero = []
+first_parts kind locks s (suc n) = first_part kind locks s ∷ first_parts kind locks (s + 1) n
 
 -- the seat from which the others are cut off: it has the last number
 abbrev pub first_sight : Start → Sight
-first_sight key = record { seated = true; part = first_part key.kind (key.seats - 1); held = replicate (length (first_graph key)) None; idle = first_parts key.kind 0 (key.seats - 1) }
+first_sight key = record { seated = true; part = first_part key.kind key.locks (key.seats - 1); held = replicate (length (first_graph key)) None; idle = first_parts key.kind key.locks 0 (key.seats - 1) }

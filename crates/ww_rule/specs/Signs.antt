@@ -32,7 +32,8 @@ abbrev pub finding_none : Sight → Sight
 finding_none v = knowing v (found_none v.part.core)
 
 abbrev pub reads_to : Step Cell → Sat → ℕ → Sat → Type 0
-reads_to st m found m' = (found ≢ 0 → m' ≡ (reading m.0 found, m.1)) × (found ≡ 0 → IsQuiet m.0.part.core → m' ≡ (reading m.0 0, m.1))
+reads_to st m found m' = st.word ≡ sign_at m.0.part.core.who →
+    (found ≢ 0 → m' ≡ (reading m.0 found, m.1)) × (found ≡ 0 → IsQuiet m.0.part.core → m' ≡ (reading m.0 0, m.1))
     × (found ≡ 0 → ¬ IsQuiet m.0.part.core → m' ≡ (finding_none m.0, m.1))
 
 -- ---- clear: the own sign becomes 0
@@ -41,4 +42,4 @@ abbrev pub clearing : Sight → Sight
 clearing v = knowing v (cleared v.part.core)
 
 abbrev pub clears_to : Step Cell → Sat → ℕ → Sat → Type 0
-clears_to st m stored m' = m' ≡ (clearing m.0, m.1)
+clears_to st m stored m' = st.word ≡ sign_at m.0.part.core.who → m' ≡ (clearing m.0, m.1)

@@ -19,7 +19,7 @@ use Rattle.ww_rule.specs.declared.cells.Cell.{Cell}
 use Rattle.ww_rule.specs.declared.cells.Cell.TheVariants.{Content}
 use Rattle.ww_rule.specs.declared.cells.Part.{Part}
 use Rattle.ww_rule.specs.declared.cells.Sight.{Sight}
-use Rattle.ww_rule.specs.Layout.{owner_at}
+use Rattle.ww_rule.specs.Layout.{owner_at, sign_at, stamp_at}
 use Rattle.ww_rule.specs.Rule.{Sat, first_part}
 
 -- the view with other knowledge of the core
@@ -43,7 +43,7 @@ abbrev pub drawing : Sight → ℕ → Sight
 drawing v stamp = record v { part = record (v.part) { core = begun v.part.core stamp; counts = record (v.part.counts) { draws = v.part.counts.draws + 1 } } }
 
 abbrev pub draws_to : Step Cell → Sat → ℕ → Sat → Type 0
-draws_to st m found m' = (found < 2 ^ 56 - 1) × (m' ≡ (drawing m.0 (found + 1), m.1))
+draws_to st m found m' = st.word ≡ stamp_at → (found < 2 ^ 56 - 1) × (m' ≡ (drawing m.0 (found + 1), m.1))
 
 -- ---- take_free: one try to take a lock at once
 
@@ -68,6 +68,16 @@ abbrev pub gives_to : Step Cell → Sat → ℕ → Sat → Type 0
 gives_to st m found m' = (n : ℕ) → st.word ≡ owner_at n →
     (found ≡ st.first → m' ≡ (giving m.0 n, rest m.1)) × (found ≢ st.first → m' ≡ (keeping m.0, m.1))
 
+-- ---- the same of a lock that guards no node: no slot comes or goes
+
+abbrev pub takes_bare_to : Step Cell → Sat → ℕ → Sat → Type 0
+takes_bare_to st m found m' = (n : ℕ) → st.word ≡ owner_at n →
+    (found ≡ 0 → m' ≡ (knowing m.0 (fast_taken m.0.part.core n), m.1)) × (found ≢ 0 → m' ≡ (knowing m.0 (fast_missed m.0.part.core), m.1))
+
+abbrev pub gives_bare_to : Step Cell → Sat → ℕ → Sat → Type 0
+gives_bare_to st m found m' = (n : ℕ) → st.word ≡ owner_at n →
+    (found ≡ st.first → m' ≡ (knowing m.0 (fast_given m.0.part.core n), m.1)) × (found ≢ st.first → m' ≡ (keeping m.0, m.1))
+
 -- ---- end: the context ends, where the own sign is 0
 
 pub record MayEnd (v : View) : Type 0 where
@@ -76,7 +86,8 @@ pub record MayEnd (v : View) : Type 0 where
   pub bare : IsBare v
 
 abbrev pub ends_to : Step Cell → Sat → ℕ → Sat → Type 0
-ends_to st m found m' = (found ≡ 0 → m' ≡ (knowing m.0 (ended m.0.part.core), m.1)) × (found ≢ 0 → m' ≡ (knowing m.0 (has_read m.0.part.core found), m.1))
+ends_to st m found m' = st.word ≡ sign_at m.0.part.core.who →
+    (found ≡ 0 → m' ≡ (knowing m.0 (ended m.0.part.core), m.1)) × (found ≢ 0 → m' ≡ (knowing m.0 (has_read m.0.part.core found), m.1))
     × ((k : ℕ) → m.0.part.core.sign ≡ Some k → found ≡ k)
 
 -- ---- place: a commit
@@ -118,7 +129,7 @@ places_to about st m found m' = (r : Record) → about ≡ Some r → (m' ≡ (p
 
 -- nobody: what is left of a seat that was joined to another
 abbrev pub nobody : Sight
-nobody = record { seated = false; part = first_part WoundWait 0; held = []; idle = [] }
+nobody = record { seated = false; part = first_part WoundWait 0 0; held = []; idle = [] }
 
 abbrev pub seat_of : ℕ → Part → Sight
 seat_of size p = record { seated = true; part = p; held = replicate size None; idle = [] }

@@ -86,6 +86,14 @@ giving_inside v n asked = record v { part = record (v.part) { core = given v.par
 abbrev pub gives_inside : ℕ → Owner → Sat → Sat → Type 0
 gives_inside n o m m' = m' ≡ (giving_inside m.0 n (o.flags == 3), rest m.1)
 
+-- ---- the same of a lock that guards no node
+
+abbrev pub takes_bare_inside : ℕ → Owner → Sat → Sat → Type 0
+takes_bare_inside n o m m' = m' ≡ (knowing m.0 (taken m.0.part.core n), m.1)
+
+abbrev pub gives_bare_inside : ℕ → Owner → Sat → Sat → Type 0
+gives_bare_inside n o m m' = m' ≡ (knowing m.0 (given m.0.part.core n (o.flags == 3)), m.1)
+
 -- ---- ask: the next to give the lock back hands it over
 
 abbrev pub asking : Sight → Owner → Sight

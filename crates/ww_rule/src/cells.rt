@@ -77,6 +77,8 @@ pub struct Sight {
 #[derive(Drop)]
 pub struct Start {
     pub kind: Kind,
+    /// How many locks there are: the first ones guard the nodes, and the others nothing.
+    pub locks: u32,
     pub seats: u8,
     pub nodes: Snapshot<Graph>,
 }

@@ -6,41 +6,49 @@ ghost use Rattle.std.specs.Slots.{slots_items, slots_filled, slots_len, IsFull};
 ghost use Rattle.ww_plain.specs.declared.node.Node.{Node};
 ghost use Rattle.ww_plain.specs.Graph.{node_at};
 ghost use Rattle.ww_rule.specs.declared.cells.Cell.TheVariants.{Content, Line};
+ghost use Rattle.ww_rule.specs.Layout.{slots_for};
 ghost use Rattle.ww_rule.specs.Homes.{AreSlots, AreTakenBelow};
 
 use crate::cells::{Cell, Waiters};
-use crate::layout::SLOTS;
+use crate::layout;
 use atomic_table::Closed;
 use std::alloc::{AllocError, Global};
 use ww_plain::{Graph, Node};
 
 /// What the slots have at the start.
-pub fn slots(alloc: Global, graph: &Graph) -> Result<Vec<Cell>, AllocError>
-    ensures { IfOk result (λ slots. AreSlots graph.now 128 slots.items) }
+pub fn slots(alloc: Global, graph: &Graph, locks: u32) -> Result<Vec<Cell>, AllocError>
+    requires { locks ≤ 65536 }
+    ensures { IfOk result (λ slots. AreSlots graph.now (slots_for locks) slots.items) }
 {
-    let mut slots = Vec::with_capacity(alloc, SLOTS)?;
-    for n in 0..SLOTS as u8 {
+    let count = layout::slots(locks);
+    let mut slots = Vec::with_capacity(alloc, count)?;
+    for n in 0..count {
         slots.push_reserved(cell(graph, n));
     }
     Ok(slots)
 }
 
 /// What a slot has at the start.
-fn cell(graph: &Graph, n: u8) -> Cell
+fn cell(graph: &Graph, n: usize) -> Cell
     ensures node { n < length graph.now → result ≡ Content (node_at graph.now n) }
     ensures list { length graph.now ≤ n → result ≡ Line [] }
 {
-    if n < graph.size() {
-        Cell::Content(graph.node(n))
+    if n < usize::from(graph.size()) {
+        Cell::Content(graph.node(n as u8))
     } else {
         Cell::Line(Waiters::new())
     }
 }
 
 /// The nodes that a closed table has at home, of so many.
-pub fn nodes_of(mut closed: Closed<Cell, Global>, size: u8, mut nodes: Vec<Node>) -> Vec<Node>
-    requires full { IsFull closed.slots × (slots_len closed.slots ≡ 128) }
-    requires few { size ≤ 64 }
+pub fn nodes_of(
+    mut closed: Closed<Cell, Global>,
+    count: usize,
+    size: u8,
+    mut nodes: Vec<Node>,
+) -> Vec<Node>
+    requires full { IsFull closed.slots × (slots_len closed.slots ≡ count) }
+    requires few { (size ≤ 64) × (64 ≤ count) }
     requires nodes { (n : ℕ) → n < size → (x : Node) × (get_elem? (slots_items closed.slots) n ≡ some (Content x)) }
     requires room { (nodes.items ≡ []) × (vec_len nodes ≡ 0) × (size ≤ vec_capacity nodes) }
     ensures many { length result.items ≡ size }
@@ -52,16 +60,16 @@ pub fn nodes_of(mut closed: Closed<Cell, Global>, size: u8, mut nodes: Vec<Node>
             Cell::Line(_) => unreachable!(),
         }
     }
-    discard(closed, usize::from(size));
+    discard(closed, count, usize::from(size));
     nodes
 }
 
 /// Frees what is left of a closed table after this many slots were taken.
-fn discard(mut closed: Closed<Cell, Global>, taken: usize)
-    requires taken { AreTakenBelow taken 128 (slots_filled closed.slots) }
-    requires few { (taken ≤ 128) × (slots_len closed.slots ≡ 128) }
+fn discard(mut closed: Closed<Cell, Global>, count: usize, taken: usize)
+    requires taken { AreTakenBelow taken count (slots_filled closed.slots) }
+    requires few { (taken ≤ count) × (slots_len closed.slots ≡ count) }
 {
-    for i in taken..128 {
+    for i in taken..count {
         drop(closed.take(i));
     }
     closed.free();

@@ -1,33 +1,43 @@
 //! Which word is which: see `specs/Layout.antt`.
-ghost use Rattle.std.specs.Prelude.{◌≡◌, ◌<◌};
-ghost use Rattle.ww_rule.specs.Layout.{owner_at, guard_at, sign_at, cancel_at, list_at};
-
-/// How many words there are, most of them unused: they keep the others on cache lines of their own.
-pub const WORDS: usize = 656;
-
-/// How many slots there are.
-pub const SLOTS: usize = 128;
+ghost use Rattle.std.specs.Prelude.{◌≡◌, ◌<◌, ◌≤◌};
+ghost use Rattle.ww_rule.specs.Layout.{owner_at, guard_at, sign_at, cancel_at, list_at, words_for, slots_for};
 
 /// The stamp drawn last.
-pub const STAMP: usize = 640;
+pub const STAMP: usize = 128;
 
 /// The number of commits.
-pub const FRONT: usize = 648;
+pub const FRONT: usize = 136;
+
+/// How many words a table of so many locks has, most of them unused: they keep the others on cache lines of their own.
+pub fn words(locks: u32) -> usize
+    requires { locks ≤ 65536 }
+    ensures { result ≡ words_for locks }
+{
+    144 + 8 * locks as usize
+}
+
+/// How many slots a table of so many locks has.
+pub fn slots(locks: u32) -> usize
+    requires { locks ≤ 65536 }
+    ensures { result ≡ slots_for locks }
+{
+    64 + locks as usize
+}
 
 /// The owner word of a lock.
-pub fn owner_word(lock: u8) -> usize
-    requires { lock < 64 }
+pub fn owner_word(lock: u32) -> usize
+    requires { lock < 65536 }
     ensures { result ≡ owner_at lock }
 {
-    8 * usize::from(lock)
+    144 + 8 * lock as usize
 }
 
 /// The guard word of a lock.
-pub fn guard_word(lock: u8) -> usize
-    requires { lock < 64 }
+pub fn guard_word(lock: u32) -> usize
+    requires { lock < 65536 }
     ensures { result ≡ guard_at lock }
 {
-    8 * usize::from(lock) + 1
+    144 + 8 * lock as usize + 1
 }
 
 /// The sign word of a seat.
@@ -35,7 +45,7 @@ pub fn sign_word(seat: u8) -> usize
     requires { seat < 16 }
     ensures { result ≡ sign_at seat }
 {
-    512 + 8 * usize::from(seat)
+    8 * usize::from(seat)
 }
 
 /// The cancel word of a seat, on the cache line of its sign word: a waiter looks for both.
@@ -43,12 +53,12 @@ pub fn cancel_word(seat: u8) -> usize
     requires { seat < 16 }
     ensures { result ≡ cancel_at seat }
 {
-    512 + 8 * usize::from(seat) + 1
+    8 * usize::from(seat) + 1
 }
 
 /// The slot of the wait list of a lock.
-pub fn list_slot(lock: u8) -> u8
-    requires { lock < 64 }
+pub fn list_slot(lock: u32) -> u32
+    requires { lock < 65536 }
     ensures { result ≡ list_at lock }
 {
     64 + lock

@@ -44,42 +44,42 @@ fn owner_after(queue: &Queue, is_asked: bool) -> Owner
 }
 
 /// The flag of the waiters that are left in the list that was taken last, once this seat has gone.
-pub fn flag_there(seat: &mut TableSeat, shared: &Top, slot: u8, who: u8) -> u8
+pub fn flag_there(seat: &mut TableSeat, shared: &Top, slot: u32, who: u8) -> u8
     requires home { seat.old.table_id ≡ shared.now.table_id }
     requires top { (q : List Entry) × (seat.old.me.1 ≡ (slot, Line q) ∷ rest seat.old.me.1) }
     ensures home { (seat.new.table_id ≡ seat.old.table_id) × (seat.new.id ≡ seat.old.id) }
     ensures same { seat.new.me ≡ seat.old.me }
     ensures flag { (q : List Entry) → seat.old.me.1 ≡ (slot, Line q) ∷ rest seat.old.me.1 → result ≡ waiting (left q who) }
 {
-    match seat.slot_mut(shared, usize::from(slot)) {
+    match seat.slot_mut(shared, slot as usize) {
         Cell::Line(waiters) => flag_without(&waiters.queue, who),
         Cell::Content(_) => unreachable!(),
     }
 }
 
 /// Puts a waiter into the list that was taken last: one that doesn't stand there, and has a stamp of its own or none.
-pub fn join_list(seat: &mut TableSeat, shared: &Top, slot: u8, entry: Entry)
+pub fn join_list(seat: &mut TableSeat, shared: &Top, slot: u32, entry: Entry)
     requires home { seat.old.table_id ≡ shared.now.table_id }
     requires top { (q : List Entry) × (seat.old.me.1 ≡ (slot, Line q) ∷ rest seat.old.me.1) × (length q < 16) × StandsNot q entry.seat × IsNewStamp q entry.stamp }
     ensures home { (seat.new.table_id ≡ seat.old.table_id) × (seat.new.id ≡ seat.old.id) }
     ensures view { seat.new.me.0 ≡ seat.old.me.0 }
     ensures list { (q : List Entry) → seat.old.me.1 ≡ (slot, Line q) ∷ rest seat.old.me.1 → seat.new.me.1 ≡ (slot, Line (joined q entry)) ∷ rest seat.old.me.1 }
 {
-    match seat.slot_mut(shared, usize::from(slot)) {
+    match seat.slot_mut(shared, slot as usize) {
         Cell::Line(waiters) => waiters.queue.join(entry),
         Cell::Content(_) => unreachable!(),
     }
 }
 
 /// Takes the seat out of the list that was taken last.
-pub fn leave_list(seat: &mut TableSeat, shared: &Top, slot: u8, who: u8)
+pub fn leave_list(seat: &mut TableSeat, shared: &Top, slot: u32, who: u8)
     requires home { seat.old.table_id ≡ shared.now.table_id }
     requires top { (q : List Entry) × (seat.old.me.1 ≡ (slot, Line q) ∷ rest seat.old.me.1) }
     ensures home { (seat.new.table_id ≡ seat.old.table_id) × (seat.new.id ≡ seat.old.id) }
     ensures view { seat.new.me.0 ≡ seat.old.me.0 }
     ensures list { (q : List Entry) → seat.old.me.1 ≡ (slot, Line q) ∷ rest seat.old.me.1 → seat.new.me.1 ≡ (slot, Line (left q who)) ∷ rest seat.old.me.1 }
 {
-    match seat.slot_mut(shared, usize::from(slot)) {
+    match seat.slot_mut(shared, slot as usize) {
         Cell::Line(waiters) => {
             waiters.queue.leave(who);
         }
@@ -88,14 +88,14 @@ pub fn leave_list(seat: &mut TableSeat, shared: &Top, slot: u8, who: u8)
 }
 
 /// The owner of a lock that is given back, with the list that was taken last.
-pub fn owner_there(seat: &mut TableSeat, shared: &Top, slot: u8, is_asked: bool) -> Owner
+pub fn owner_there(seat: &mut TableSeat, shared: &Top, slot: u32, is_asked: bool) -> Owner
     requires home { seat.old.table_id ≡ shared.now.table_id }
     requires top { (q : List Entry) × (seat.old.me.1 ≡ (slot, Line q) ∷ rest seat.old.me.1) }
     ensures home { (seat.new.table_id ≡ seat.old.table_id) × (seat.new.id ≡ seat.old.id) }
     ensures same { seat.new.me ≡ seat.old.me }
     ensures owner { (q : List Entry) → seat.old.me.1 ≡ (slot, Line q) ∷ rest seat.old.me.1 → result ≡ given_word is_asked q }
 {
-    match seat.slot_mut(shared, usize::from(slot)) {
+    match seat.slot_mut(shared, slot as usize) {
         Cell::Line(waiters) => owner_after(&waiters.queue, is_asked),
         Cell::Content(_) => unreachable!(),
     }
@@ -105,7 +105,7 @@ pub fn owner_there(seat: &mut TableSeat, shared: &Top, slot: u8, is_asked: bool)
 pub fn death_there(
     seat: &mut TableSeat,
     shared: &Top,
-    slot: u8,
+    slot: u32,
     kind: Kind,
     seen: Owner,
     who: u8,
@@ -117,7 +117,7 @@ pub fn death_there(
     ensures same { seat.new.me ≡ seat.old.me }
     ensures death { (q : List Entry) → seat.old.me.1 ≡ (slot, Line q) ∷ rest seat.old.me.1 → result ≡ must_die kind seen q who sign }
 {
-    match seat.slot_mut(shared, usize::from(slot)) {
+    match seat.slot_mut(shared, slot as usize) {
         Cell::Line(waiters) => must_die(kind, seen, &waiters.queue, who, sign),
         Cell::Content(_) => unreachable!(),
     }
@@ -127,7 +127,7 @@ pub fn death_there(
 pub fn owed_there(
     seat: &mut TableSeat,
     shared: &Top,
-    slot: u8,
+    slot: u32,
     kind: Kind,
     seen: Owner,
     who: u8,
@@ -138,21 +138,21 @@ pub fn owed_there(
     ensures same { seat.new.me ≡ seat.old.me }
     ensures owed { (q : List Entry) → seat.old.me.1 ≡ (slot, Line q) ∷ rest seat.old.me.1 → result.items ≡ owed_signs kind seen q who }
 {
-    match seat.slot_mut(shared, usize::from(slot)) {
+    match seat.slot_mut(shared, slot as usize) {
         Cell::Line(waiters) => owed_signs(kind, seen, &waiters.queue, who),
         Cell::Content(_) => unreachable!(),
     }
 }
 
 /// The first waiter in the list that was taken last.
-pub fn first_there(seat: &mut TableSeat, shared: &Top, slot: u8) -> Option<Entry>
+pub fn first_there(seat: &mut TableSeat, shared: &Top, slot: u32) -> Option<Entry>
     requires home { seat.old.table_id ≡ shared.now.table_id }
     requires top { (q : List Entry) × (seat.old.me.1 ≡ (slot, Line q) ∷ rest seat.old.me.1) }
     ensures home { (seat.new.table_id ≡ seat.old.table_id) × (seat.new.id ≡ seat.old.id) }
     ensures same { seat.new.me ≡ seat.old.me }
     ensures first { (q : List Entry) → seat.old.me.1 ≡ (slot, Line q) ∷ rest seat.old.me.1 → result ≡ slice_get q 0 }
 {
-    match seat.slot_mut(shared, usize::from(slot)) {
+    match seat.slot_mut(shared, slot as usize) {
         Cell::Line(waiters) => waiters.queue.first(),
         Cell::Content(_) => unreachable!(),
     }

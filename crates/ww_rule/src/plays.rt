@@ -28,6 +28,24 @@ impl Play<Cell, Sight> for GiveFree {
     ghost then = { gives_to };
 }
 
+/// Of a lock that guards no node.
+pub struct TakeBare;
+
+impl Play<Cell, Sight> for TakeBare {
+    ghost use Rattle.ww_rule.specs.Steps.{takes_bare_to};
+
+    ghost then = { takes_bare_to };
+}
+
+/// Of a lock that guards no node.
+pub struct GiveBare;
+
+impl Play<Cell, Sight> for GiveBare {
+    ghost use Rattle.ww_rule.specs.Steps.{gives_bare_to};
+
+    ghost then = { gives_bare_to };
+}
+
 pub struct End;
 
 impl Play<Cell, Sight> for End {

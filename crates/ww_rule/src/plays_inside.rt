@@ -52,6 +52,24 @@ impl Play<Cell, Sight> for Take {
     ghost then = { tries_to takes_inside };
 }
 
+/// Of a lock that guards no node.
+pub struct TakeBareInside;
+
+impl Play<Cell, Sight> for TakeBareInside {
+    ghost use Rattle.ww_rule.specs.Waiting.{tries_to, takes_bare_inside};
+
+    ghost then = { tries_to takes_bare_inside };
+}
+
+/// Of a lock that guards no node.
+pub struct GiveBareInside;
+
+impl Play<Cell, Sight> for GiveBareInside {
+    ghost use Rattle.ww_rule.specs.Waiting.{tries_to, gives_bare_inside};
+
+    ghost then = { tries_to gives_bare_inside };
+}
+
 pub struct Give;
 
 impl Play<Cell, Sight> for Give {

@@ -12,7 +12,7 @@ pub const MAX_OUT: usize = 65;
 /// Rotates the slots that are out until this one is the last taken. It is no step, and costs nothing where it is that
 /// already.
 #[inline(always)]
-pub fn bring(seat: &mut TableSeat, order: &mut ArrayVec<u8, MAX_OUT>, slot: u8)
+pub fn bring(seat: &mut TableSeat, order: &mut ArrayVec<u32, MAX_OUT>, slot: u32)
     requires order { order.old.items ≡ numbers_of seat.old.me.1 }
     requires out { (y : Cell) × (slot_of seat.old.me.1 slot ≡ Some y) }
     ensures home { (seat.new.table_id ≡ seat.old.table_id) × (seat.new.id ≡ seat.old.id) }
@@ -27,7 +27,7 @@ pub fn bring(seat: &mut TableSeat, order: &mut ArrayVec<u8, MAX_OUT>, slot: u8)
 
 /// Rotates the slots that are out until this one is the last taken.
 #[cold]
-fn turn_to(seat: &mut TableSeat, order: &mut ArrayVec<u8, MAX_OUT>, slot: u8)
+fn turn_to(seat: &mut TableSeat, order: &mut ArrayVec<u32, MAX_OUT>, slot: u32)
     requires order { order.old.items ≡ numbers_of seat.old.me.1 }
     requires out { (y : Cell) × (slot_of seat.old.me.1 slot ≡ Some y) }
     ensures home { (seat.new.table_id ≡ seat.old.table_id) × (seat.new.id ≡ seat.old.id) }

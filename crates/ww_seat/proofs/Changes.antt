@@ -1,10 +1,10 @@
 -- A commit: what the transaction makes of the nodes held is what it makes of them in the graph that it was prepared on.
-use Rattle.std.proofs.Common.{◌≡◌, ℕ, zero, suc, ◌+◌, ◌<◌, true, false, eqb, List, [], ◌∷◌, length, map, drop, get_or, set, ◌^◌, refl, sym, ap, ◌∙◌, subst, ⊎_elim, inl, inr, arith, Option, Some}
+use Rattle.std.proofs.Common.{◌≡◌, ℕ, zero, suc, ◌+◌, ◌<◌, ◌≤◌, true, false, eqb, List, [], ◌∷◌, length, map, drop, get_or, set, ◌^◌, refl, sym, ap, ◌∙◌, subst, ⊎_elim, inl, inr, arith, Option, Some}
 use Rattle.std.proofs.lemmas.List.{length-map}
 use Rattle.std.specs.List.{AllByRecursion}
 use mathlib.Core.Logic.{dite}
-use mathlib.Core.Option.{some}
-use native.Mathlib.Decide.{ℕ_discrete}
+use mathlib.Core.Option.{none, some}
+use native.Mathlib.Decide.{ℕ_discrete, dec_le}
 use lib.ListN.{get_elem?}
 use Rattle.ww_plain.specs.declared.node.Node.{Node}
 use Rattle.ww_plain.specs.declared.history.Record.{Record}
@@ -32,15 +32,21 @@ use Rattle.ww_seat.specs.Commits.{naming, change_at, IsChanged}
 use Rattle.ww_seat.proofs.Outside.{orderly_still, orderly_swapped, orderly_named}
 use Rattle.atomic_table.proofs.Lists.{set_here, set_else}
 
+-- behind the end of a list is nothing
+item_past : {A : Type 0} (xs : List A) (n : ℕ) → length xs ≤ n → get_elem? xs n ≡ none
+item_past [] n past = refl
+item_past (x ∷ xs) zero past = absurd (omega arith)
+item_past (x ∷ xs) (suc n) past = item_past xs n (omega arith)
+
 -- ---- the nodes change one after another, the last one first
 
 -- a node that the seat owns is out, whatever the view names
-pub out_there : (size : ℕ) (held : List (Option Node)) (after : List Node) (ns : List ℕ) (m : Sat) (n : ℕ) → IsChanged size held after ns m → owns m.0.part.core n ≡ true → (n < size) × ((x : Node) × (slot_of m.1 n ≡ Some (Content x)))
-out_there size held after ns m n is own = let t = is.orderly.nodes n own in (t.0, (t.1.0, t.1.2))
+pub out_there : (size : ℕ) (held : List (Option Node)) (after : List Node) (ns : List ℕ) (m : Sat) (n : ℕ) → IsChanged size held after ns m → n < size → owns m.0.part.core n ≡ true → (x : Node) × (slot_of m.1 n ≡ Some (Content x))
+out_there size held after ns m n is low own = let t = is.orderly.nodes n low own in (t.0, t.2)
 
-changed_more : (size : ℕ) (held : List (Option Node)) (after : List Node) (ns : List ℕ) (m m' : Sat) (n : ℕ) (x : Node) → IsChanged size held after ns m → owns m.0.part.core n ≡ true
+changed_more : (size : ℕ) (held : List (Option Node)) (after : List Node) (ns : List ℕ) (m m' : Sat) (n : ℕ) (x : Node) → IsChanged size held after ns m → n < size → owns m.0.part.core n ≡ true
     → (others : List (ℕ × Cell)) × AreOthers m.1 n (Content x) others × (m' ≡ (m.0, (n, Content (node_at after n)) ∷ others)) → IsChanged size held after (n ∷ ns) m'
-changed_more size held after ns m m' n x is own t = let y : Node = node_at after n in let low = (is.orderly.nodes n own).0 in let long = is.orderly.held in record {
+changed_more size held after ns m m' n x is low own t = let y : Node = node_at after n in let long = is.orderly.held in record {
   now = set is.now n (Some y);
   orderly = orderly_swapped size (naming m is.now) (naming m' (set is.now n (Some y))) n x y t.0 is.orderly low own t.1 (ap (λ (z : Sat). naming z (set is.now n (Some y))) t.2);
   named = λ k e. dite (ℕ_discrete k n)
@@ -72,13 +78,13 @@ drop_here (n ∷ ns) (suc i) lt = drop_here ns i (omega arith)
 
 -- the node before those that were written was written
 pub changed_next : (size : ℕ) (held : List (Option Node)) (before after : List Node) (ns : List ℕ) (changes : List NodeChange) (i : ℕ) (d : NodeChange) (m m' : Sat) (x : Node) → changes ≡ map (change_at before after) ns
-    → i < length ns → IsChanged size held after (drop (suc i) ns) m → owns m.0.part.core (get_or changes i d).number ≡ true
+    → i < length ns → IsChanged size held after (drop (suc i) ns) m → (get_or changes i d).number < size → owns m.0.part.core (get_or changes i d).number ≡ true
     → (others : List (ℕ × Cell)) × AreOthers m.1 (get_or changes i d).number (Content x) others × (m' ≡ (m.0, ((get_or changes i d).number, Content (get_or changes i d).after) ∷ others)) → IsChanged size held after (drop i ns) m'
-changed_next size held before after ns changes i d m m' x are lt is own t =
+changed_next size held before after ns changes i d m m' x are lt is low own t =
     let n : ℕ = get_or ns i 0 in
     let here : get_or changes i d ≡ change_at before after n = ap (λ (cs : List NodeChange). get_or cs i d) are ∙ change_item before after ns i d lt in
     subst (λ (l : List ℕ). IsChanged size held after l m') (sym (drop_here ns i lt))
-    (changed_more size held after (drop (suc i) ns) m m' n x is (sym (ap (λ (c : NodeChange). owns m.0.part.core c.number) here) ∙ own)
+    (changed_more size held after (drop (suc i) ns) m m' n x is (subst (λ (c : NodeChange). c.number < size) here low) (sym (ap (λ (c : NodeChange). owns m.0.part.core c.number) here) ∙ own)
     (subst (λ (c : NodeChange). (others : List (ℕ × Cell)) × AreOthers m.1 c.number (Content x) others × (m' ≡ (m.0, (c.number, Content c.after) ∷ others))) here t))
 
 -- ---- the record may be placed, and the nodes are as it says
@@ -125,9 +131,11 @@ module _ (size : ℕ) (m : Sat) (r : Record) (before : List Node) (was : IsOrder
       ∙ ap (λ (x : Node). some (Some x)) (ap (node_at (graph_after (graph_of m.0.held) t)) (let z : 0 + n ≡ n = omega arith in z) ∙ sym (law.agree n e))
 
   named_else : (n : ℕ) → is_among n ns ≡ false → owns m.0.part.core n ≡ true → get_elem? renewed_held n ≡ get_elem? m.0.held n
-  named_else n e own = let o = was.nodes n own in renewed_at 0 m.0.held (graph_after (graph_of m.0.held) t) n o.1.0 o.1.1
-      ∙ ap (λ (x : Node). some (Some x)) (ap (node_at (graph_after (graph_of m.0.held) t)) (let z : 0 + n ≡ n = omega arith in z) ∙ outside (graph_of m.0.held) t n (sym (among n) ∙ e) ∙ graph_at m.0.held n o.1.0 o.1.1)
-      ∙ sym o.1.1
+  named_else n e own = dite (dec_le size n)
+      (λ beyond. item_past renewed_held n (let l = renewed_long 0 m.0.held (graph_after (graph_of m.0.held) t) in let w = was.held in omega arith) ∙ sym (item_past m.0.held n (let w = was.held in omega arith)))
+      (λ below. let o = was.nodes n (omega arith) own in renewed_at 0 m.0.held (graph_after (graph_of m.0.held) t) n o.0 o.1
+      ∙ ap (λ (x : Node). some (Some x)) (ap (node_at (graph_after (graph_of m.0.held) t)) (let z : 0 + n ≡ n = omega arith in z) ∙ outside (graph_of m.0.held) t n (sym (among n) ∙ e) ∙ graph_at m.0.held n o.0 o.1)
+      ∙ sym o.1)
 
   abbrev placed : ℕ → Sat
   placed place = (placing m.0 place r, m.1)
@@ -137,7 +145,7 @@ module _ (size : ℕ) (m : Sat) (r : Record) (before : List Node) (was : IsOrder
 
   end_placed : (place : ℕ) (slots : List (ℕ × Cell)) → IsChanged size m.0.held after ns (placing m.0 place r, slots) → IsOrderly size (placing m.0 place r, slots)
   end_placed place slots is = orderly_named size (naming (placing m.0 place r, slots) is.now) (placing m.0 place r, slots) is.orderly refl refl refl refl refl (renewed_long 0 m.0.held (graph_after (graph_of m.0.held) t) ∙ was.held ∙ sym is.orderly.held)
-      (λ n own. ⊎_elim (λ e. named_after n e ∙ sym (is.named n e)) (λ e. named_else n e own ∙ sym (is.others n e)) (true_or_false (is_among n ns)))
+      (λ n low own. ⊎_elim (λ e. named_after n e ∙ sym (is.named n e)) (λ e. named_else n e own ∙ sym (is.others n e)) (true_or_false (is_among n ns)))
 
   pub end_orderly : (place : ℕ) (m1 m2 : Sat) → m1 ≡ placed place → m2.0 ≡ m1.0 → IsChanged size m.0.held after ns m2 → IsOrderly size m2
   end_orderly place m1 m2 is view changed = let v : m2.0 ≡ placing m.0 place r = view ∙ ap (λ (z : Sat). z.0) is in

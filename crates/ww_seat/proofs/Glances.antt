@@ -1,18 +1,16 @@
 -- A seat that glances at a lock is otherwise as it was.
-use Rattle.std.proofs.Common.{◌≡◌, ℕ, ◌+◌, ◌<◌, refl, sym, ap, ◌∙◌, subst}
-use Rattle.ww_view.specs.View.{IsAway}
-use Rattle.ww_view.specs.May.{MayGlance}
+use Rattle.std.proofs.Common.{◌≡◌, ℕ, ◌+◌, refl, sym, ap, ◌∙◌, subst, arith}
+use Rattle.ww_rule.specs.Steps.{knowing}
 use Rattle.ww_rule.specs.Rule.{Sat}
 use Rattle.ww_rule.specs.Guards.{glancing}
 use Rattle.ww_seat.specs.Calls.{HoldsAsBefore}
 use Rattle.ww_seat.specs.Looks.{IsOutside, HasGlanced, having_glanced}
 use Rattle.ww_seat.proofs.Outside.{orderly_knowing}
 
-pub may_glance : (m a : Sat) (k : ℕ) → IsAway m.0.part.core → a ≡ having_glanced m k → k < 16 → MayGlance a.0.part.core
-may_glance m a k away is few = subst (λ (w : Sat). MayGlance w.0.part.core) (sym is) (record { away = away; few = few })
-
 pub once_more : (m a b : Sat) (k l : ℕ) → l ≡ k + 1 → a ≡ having_glanced m k → b ≡ (glancing a.0, a.1) → b ≡ having_glanced m l
-once_more m a b k l more is then = then ∙ ap (λ (w : Sat). let v : Sat = (glancing w.0, w.1) in v) is ∙ ap (having_glanced m) (sym more)
+once_more m a b k l more is then = let v = m.0.part.core in let all : v.all_glances + k + 1 ≡ v.all_glances + l = omega arith in
+    then ∙ ap (λ (w : Sat). let u : Sat = (glancing w.0, w.1) in u) is
+    ∙ (λ j. (knowing m.0 (record v { glances = sym more j; all_glances = all j }), m.1))
 
 pub outside_still : (size n : ℕ) (m m' : Sat) → IsOutside size n m → HasGlanced m m' → IsOutside size n m'
 outside_still size n m m' o g = subst (IsOutside size n) (sym g.now) (record {

@@ -1,5 +1,5 @@
 -- What the steps of a seat keep of what it has out.
-use Rattle.std.proofs.Common.{◌≡◌, ◌≢◌, ℕ, suc, ◌+◌, ◌-◌, ◌<◌, ◌≤◌, false, true≢false, List, ◌∷◌, length, get_or, slice_set, sym, ap, ◌∙◌, subst, arith, Some, None, length-set}
+use Rattle.std.proofs.Common.{◌≡◌, ◌≢◌, ℕ, suc, ◌+◌, ◌-◌, ◌<◌, ◌≤◌, inl, inr, ⊎_elim, false, true≢false, List, ◌∷◌, length, get_or, slice_set, sym, ap, ◌∙◌, subst, arith, Some, None, length-set}
 use mathlib.Core.Logic.{dite}
 use native.Mathlib.Decide.{ℕ_discrete}
 use lib.ListN.{get_elem?}
@@ -35,7 +35,7 @@ entering_orderly size m m' n q o outside is = subst (IsOrderly size) (sym is) (r
   owned = o.owned;
   held = o.held;
   apart = (low_outside size m o outside (64 + n) (omega arith), o.apart);
-  nodes = λ k own. let z = o.nodes k own in let few = o.few in let small = z.0 in (z.0, (z.1.0, z.1.1, slot_else (64 + n) (Line q) m.1 k (λ e. absurd (omega arith)) ∙ z.1.2));
+  nodes = λ k small own. let z = o.nodes k small own in let few = o.few in (z.0, z.1, slot_else (64 + n) (Line q) m.1 k (λ e. absurd (omega arith)) ∙ z.2);
   others = λ k small isnt. slot_else (64 + n) (Line q) m.1 k (λ e. absurd (omega arith)) ∙ o.others k small isnt;
   list = λ k e. let at : k ≡ n = omega arith in ap (λ (j : ℕ). slot_of ((64 + n, Line q) ∷ m.1) (64 + j)) at ∙ slot_here (64 + n) (Line q) m.1;
   lists = λ k isnt. slot_else (64 + n) (Line q) m.1 (64 + k) (λ e. isnt (omega arith)) ∙ low_outside size m o outside (64 + k) (omega arith);
@@ -48,7 +48,7 @@ exiting_orderly size m m' n o inside view home = let same = others_else m.1 (64 
   owned = o.owned;
   held = o.held;
   apart = others_apart m.1 (64 + n) (Line m.0.part.core.list) m'.1 o.apart home;
-  nodes = λ k own. let z = o.nodes k own in let few = o.few in let small = z.0 in (z.0, (z.1.0, z.1.1, same k (λ e. absurd (omega arith)) ∙ z.1.2));
+  nodes = λ k small own. let z = o.nodes k small own in let few = o.few in (z.0, z.1, same k (λ e. absurd (omega arith)) ∙ z.2);
   others = λ k small isnt. same k (λ e. absurd (omega arith)) ∙ o.others k small isnt;
   list = λ k e. absurd (omega arith);
   lists = λ k _. dite (ℕ_discrete k n)
@@ -64,32 +64,32 @@ pub listed_orderly : (size : ℕ) (m : Sat) (n : ℕ) (w : Sight) (others : List
     → w.part.core.owned ≡ m.0.part.core.owned → w.held ≡ m.0.held → w.part.core.inside ≡ m.0.part.core.inside → w.part.core.heeded ≡ m.0.part.core.heeded → IsOrderly size (w, (64 + n, Line w.part.core.list) ∷ others)
 listed_orderly size m n w others o in_guard out owned held inside heeded = let same = front_else m.1 (64 + n) (Line m.0.part.core.list) others o.apart out (Line w.part.core.list) in record {
   few = o.few;
-  owned = ap length owned ∙ o.owned;
+  owned = omega (arith, o.owned, ap length owned);
   held = ap length held ∙ o.held;
   apart = front_apart m.1 (64 + n) (Line m.0.part.core.list) others o.apart out (Line w.part.core.list);
-  nodes = λ k own. let z = o.nodes k (sym (ap (λ xs. get_or xs k false) owned) ∙ own) in let few = o.few in let small = z.0 in (z.0, (z.1.0, ap (λ xs. get_elem? xs k) held ∙ z.1.1, same k (λ e. absurd (omega arith)) ∙ z.1.2));
-  others = λ k small isnt. same k (λ e. absurd (omega arith)) ∙ o.others k small (sym (ap (λ xs. get_or xs k false) owned) ∙ isnt);
+  nodes = λ k small own. let z = o.nodes k small (sym (ap (λ xs. get_or xs k false) owned) ∙ own) in let few = o.few in (z.0, ap (λ xs. get_elem? xs k) held ∙ z.1, same k (λ e. absurd (omega arith)) ∙ z.2);
+  others = λ k small isnt. same k (λ e. absurd (omega arith)) ∙ o.others k small (⊎_elim (λ big. inl big) (λ lacks. inr (sym (ap (λ xs. get_or xs k false) owned) ∙ lacks)) isnt);
   list = λ k e. let at : k ≡ n = omega arith in ap (λ (j : ℕ). slot_of ((64 + n, Line w.part.core.list) ∷ others) (64 + j)) at ∙ slot_here (64 + n) (Line w.part.core.list) others;
   lists = λ k isnt. same (64 + k) (λ e. isnt (omega arith)) ∙ o.lists k (λ e. isnt (inside ∙ e));
   unheeded = heeded ∙ o.unheeded;
 }
 
 -- a node went home, and its lock is given back
-pub without_node : (size : ℕ) (m : Sat) (n : ℕ) (x : Node) (w : Sight) (slots : List (ℕ × Cell)) → IsOrderly size m → n < 64 → AreOthers m.1 n (Content x) slots
+pub without_node : (size : ℕ) (m : Sat) (n : ℕ) (x : Node) (w : Sight) (slots : List (ℕ × Cell)) → IsOrderly size m → n < size → AreOthers m.1 n (Content x) slots
     → w.part.core.owned ≡ slice_set m.0.part.core.owned n false → w.held ≡ slice_set m.0.held n None → w.part.core.inside ≡ m.0.part.core.inside → w.part.core.list ≡ m.0.part.core.list → w.part.core.heeded ≡ m.0.part.core.heeded → IsOrderly size (w, slots)
-without_node size m n x w slots o small home owned held inside list heeded = let same = others_else m.1 n (Content x) slots o.apart home in let long = o.owned in
+without_node size m n x w slots o small home owned held inside list heeded = let same = others_else m.1 n (Content x) slots o.apart home in let few = o.few in let long = o.owned in
     let gone : get_or w.part.core.owned n false ≡ false = ap (λ xs. get_or xs n false) owned ∙ owns_here m.0.part.core.owned n false (omega arith) in
     let kept : (k : ℕ) → k ≢ n → get_or w.part.core.owned k false ≡ get_or m.0.part.core.owned k false = λ k isnt. ap (λ xs. get_or xs k false) owned ∙ owns_else m.0.part.core.owned n false k isnt in record {
       few = o.few;
-      owned = ap length owned ∙ length-set m.0.part.core.owned n false ∙ o.owned;
+      owned = omega (arith, o.owned, ap length owned, length-set m.0.part.core.owned n false);
       held = ap length held ∙ length-set m.0.held n None ∙ o.held;
       apart = others_apart m.1 n (Content x) slots o.apart home;
-      nodes = λ k own. dite (ℕ_discrete k n)
+      nodes = λ k in_graph own. dite (ℕ_discrete k n)
           (λ is. absurd (true≢false (sym own ∙ ap (λ (j : ℕ). get_or w.part.core.owned j false) is ∙ gone)))
-          (λ isnt. let z = o.nodes k (sym (kept k isnt) ∙ own) in (z.0, (z.1.0, ap (λ xs. get_elem? xs k) held ∙ set_else m.0.held n k None isnt ∙ z.1.1, same k isnt ∙ z.1.2)));
+          (λ isnt. let z = o.nodes k in_graph (sym (kept k isnt) ∙ own) in (z.0, ap (λ xs. get_elem? xs k) held ∙ set_else m.0.held n k None isnt ∙ z.1, same k isnt ∙ z.2));
       others = λ k low own. dite (ℕ_discrete k n)
           (λ is. ap (slot_of slots) is ∙ others_gone m.1 n (Content x) slots o.apart home)
-          (λ isnt. same k isnt ∙ o.others k low (sym (kept k isnt) ∙ own));
+          (λ isnt. same k isnt ∙ o.others k low (⊎_elim (λ big. inl big) (λ lacks. inr (sym (kept k isnt) ∙ lacks)) own));
       list = λ k e. same (64 + k) (λ z. omega arith) ∙ o.list k (sym inside ∙ e) ∙ ap (λ (q : List Entry). Some (Line q)) (sym list);
       lists = λ k isnt. same (64 + k) (λ z. omega arith) ∙ o.lists k (λ e. isnt (inside ∙ e));
       unheeded = heeded ∙ o.unheeded;

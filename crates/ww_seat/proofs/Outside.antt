@@ -1,15 +1,16 @@
 -- Each step outside a guard keeps that what is out fits the view.
-use Rattle.std.proofs.Common.{◌≡◌, ◌≢◌, ℕ, suc, ◌-◌, ◌<◌, ◌≤◌, ltb, ⊎_elim, Bool, true, false, true≢false, List, [], ◌∷◌, length, get_or, set, refl, sym, ap, ◌∙◌, subst, arith, Option, Some, None, length-set, get_or-set_same, get_or-set_other}
-use Rattle.std.proofs.lemmas.Bool.Decides.{leb_tells}
+use Rattle.std.proofs.Common.{◌≡◌, ◌≢◌, ℕ, zero, suc, ◌-◌, ◌<◌, ◌≤◌, ltb, inl, inr, ⊎_elim, Bool, true, false, true≢false, List, [], ◌∷◌, length, get_or, set, refl, sym, ap, ◌∙◌, subst, arith, Option, Some, None, length-set, get_or-set_same, get_or-set_other}
+use Rattle.std.proofs.lemmas.Bool.{lt-ltb}
 use mathlib.Core.Logic.{dite}
 use mathlib.Core.Option.{some}
-use native.Mathlib.Decide.{ℕ_discrete}
+use native.Mathlib.Decide.{ℕ_discrete, dec_le}
 use lib.ListN.{get_elem?}
 use Rattle.atomic_table.proofs.Lists.{set_here, set_else}
 use Rattle.ww_plain.specs.declared.node.Node.{Node}
 use Rattle.ww_plain.proofs.Members.{true_or_false}
 use Rattle.ww_view.specs.declared.view.View.{View}
 use Rattle.ww_model.specs.State.{any_below}
+use Rattle.ww_model.proofs.Slots.{below_found, found_below}
 use Rattle.ww_view.specs.View.{owns, IsBare}
 use Rattle.ww_rule.specs.declared.cells.Cell.{Cell}
 use Rattle.ww_rule.specs.declared.cells.Cell.TheVariants.{Content, Line}
@@ -18,7 +19,7 @@ use Rattle.ww_rule.specs.Rule.{Sat}
 use Rattle.ww_rule.specs.Out.{slot_of, AreOthers}
 use Rattle.ww_rule.specs.Steps.{knowing, taking}
 use Rattle.ww_seat.specs.Orderly.{AreApart, IsOrderly}
-use Rattle.ww_seat.proofs.Slots.{slot_here, not_both, slot_else, front_apart, front_else, front_same, few_slots, fewer_beside, nodes_beside}
+use Rattle.ww_seat.proofs.Slots.{slot_here, not_both, same_cell, same_node, others_had, slot_else, front_apart, front_else, front_same, few_slots, fewer_beside}
 
 -- ---- what stays
 
@@ -28,11 +29,11 @@ pub orderly_still : (size : ℕ) (m m' : Sat) → IsOrderly size m → m'.0.part
     → AreApart m'.1 → ((k : ℕ) → slot_of m'.1 k ≡ slot_of m.1 k) → IsOrderly size m'
 orderly_still size m m' was owned held inside list heeded apart slots = record {
   few = was.few;
-  owned = ap (λ (l : List Bool). length l) owned ∙ was.owned;
+  owned = omega (arith, was.owned, ap (λ (l : List Bool). length l) owned);
   held = ap (λ (l : List (Option Node)). length l) held ∙ was.held;
   apart = apart;
-  nodes = λ n own. let t = was.nodes n (ap (λ (l : List Bool). get_or l n false) (sym owned) ∙ own) in (t.0, (t.1.0, ap (λ (l : List (Option Node)). get_elem? l n) held ∙ t.1.1, slots n ∙ t.1.2));
-  others = λ n small own. slots n ∙ was.others n small (ap (λ (l : List Bool). get_or l n false) (sym owned) ∙ own);
+  nodes = λ n low own. let t = was.nodes n low (ap (λ (l : List Bool). get_or l n false) (sym owned) ∙ own) in (t.0, ap (λ (l : List (Option Node)). get_elem? l n) held ∙ t.1, slots n ∙ t.2);
+  others = λ n small why. slots n ∙ was.others n small (⊎_elim (λ big. inl big) (λ lacks. inr (ap (λ (l : List Bool). get_or l n false) (sym owned) ∙ lacks)) why);
   list = λ n is. slots (list_at n) ∙ was.list n (sym inside ∙ is) ∙ ap (λ q. Some (Line q)) (sym list);
   lists = λ n isnt. slots (list_at n) ∙ was.lists n (λ is. isnt (inside ∙ is));
   unheeded = heeded ∙ was.unheeded;
@@ -58,21 +59,21 @@ owns_else owned n b k isnt = get_or-set_other owned n k b false isnt
 
 module _ (size : ℕ) (m : Sat) (n : ℕ) (x : Node) (was : IsOrderly size m) (low : n < size) where
   small : n < length m.0.part.core.owned
-  small = let a = was.few in let b = was.owned in omega arith
+  small = let b = was.owned in omega arith
 
   taken_orderly : owns m.0.part.core n ≡ false → IsOrderly size (taking m.0 n x, (n, Content x) ∷ m.1)
   taken_orderly lacks = let few = was.few in record {
     few = was.few;
-    owned = length-set m.0.part.core.owned n true ∙ was.owned;
+    owned = omega (arith, was.owned, length-set m.0.part.core.owned n true);
     held = length-set m.0.held n (Some x) ∙ was.held;
-    apart = (was.others n (omega arith) lacks, was.apart);
-    nodes = λ k own. dite (ℕ_discrete k n)
-        (λ is. subst (λ (j : ℕ). (j < size) × ((z : Node) × (get_elem? (set m.0.held n (Some x)) j ≡ some (Some z)) × (slot_of ((n, Content x) ∷ m.1) j ≡ Some (Content z)))) (sym is)
-        (low, (x, set_here m.0.held n (Some x) (let h = was.held in omega arith), slot_here n (Content x) m.1)))
-        (λ isnt. let t = was.nodes k (sym (owns_else m.0.part.core.owned n true k isnt) ∙ own) in (t.0, (t.1.0, set_else m.0.held n k (Some x) isnt ∙ t.1.1, slot_else n (Content x) m.1 k isnt ∙ t.1.2)));
-    others = λ k less own. dite (ℕ_discrete k n)
-        (λ is. absurd (true≢false (sym (owns_here m.0.part.core.owned n true small) ∙ ap (λ (j : ℕ). get_or (set m.0.part.core.owned n true) j false) (sym is) ∙ own)))
-        (λ isnt. slot_else n (Content x) m.1 k isnt ∙ was.others k less (sym (owns_else m.0.part.core.owned n true k isnt) ∙ own));
+    apart = (was.others n (omega arith) (inr lacks), was.apart);
+    nodes = λ k in_graph own. dite (ℕ_discrete k n)
+        (λ is. subst (λ (j : ℕ). (z : Node) × (get_elem? (set m.0.held n (Some x)) j ≡ some (Some z)) × (slot_of ((n, Content x) ∷ m.1) j ≡ Some (Content z))) (sym is)
+        (x, set_here m.0.held n (Some x) (let h = was.held in omega arith), slot_here n (Content x) m.1))
+        (λ isnt. let t = was.nodes k in_graph (sym (owns_else m.0.part.core.owned n true k isnt) ∙ own) in (t.0, set_else m.0.held n k (Some x) isnt ∙ t.1, slot_else n (Content x) m.1 k isnt ∙ t.2));
+    others = λ k less why. dite (ℕ_discrete k n)
+        (λ is. ⊎_elim (λ big. absurd (omega arith)) (λ own. absurd (true≢false (sym (owns_here m.0.part.core.owned n true small) ∙ ap (λ (j : ℕ). get_or (set m.0.part.core.owned n true) j false) (sym is) ∙ own))) why)
+        (λ isnt. slot_else n (Content x) m.1 k isnt ∙ was.others k less (⊎_elim (λ big. inl big) (λ own. inr (sym (owns_else m.0.part.core.owned n true k isnt) ∙ own)) why));
     list = λ k is. slot_else n (Content x) m.1 (list_at k) (λ e. absurd (omega arith)) ∙ was.list k is;
     lists = λ k isnt. slot_else n (Content x) m.1 (list_at k) (λ e. absurd (omega arith)) ∙ was.lists k isnt;
     unheeded = was.unheeded;
@@ -85,13 +86,13 @@ module _ (size : ℕ) (m : Sat) (n : ℕ) (x : Node) (was : IsOrderly size m) (l
     owned = was.owned;
     held = length-set m.0.held n (Some y) ∙ was.held;
     apart = front_apart m.1 n (Content x) others was.apart are (Content y);
-    nodes = λ k own. dite (ℕ_discrete k n)
-        (λ is. subst (λ (j : ℕ). (j < size) × ((z : Node) × (get_elem? (set m.0.held n (Some y)) j ≡ some (Some z)) × (slot_of ((n, Content y) ∷ others) j ≡ Some (Content z)))) (sym is)
-        (low, (y, set_here m.0.held n (Some y) (let h = was.held in omega arith), slot_here n (Content y) others)))
-        (λ isnt. let t = was.nodes k own in (t.0, (t.1.0, set_else m.0.held n k (Some y) isnt ∙ t.1.1, front_else m.1 n (Content x) others was.apart are (Content y) k isnt ∙ t.1.2)));
-    others = λ k less own. dite (ℕ_discrete k n)
-        (λ is. absurd (true≢false (sym owner ∙ ap (λ (j : ℕ). get_or m.0.part.core.owned j false) (sym is) ∙ own)))
-        (λ isnt. front_else m.1 n (Content x) others was.apart are (Content y) k isnt ∙ was.others k less own);
+    nodes = λ k in_graph own. dite (ℕ_discrete k n)
+        (λ is. subst (λ (j : ℕ). (z : Node) × (get_elem? (set m.0.held n (Some y)) j ≡ some (Some z)) × (slot_of ((n, Content y) ∷ others) j ≡ Some (Content z))) (sym is)
+        (y, set_here m.0.held n (Some y) (let h = was.held in omega arith), slot_here n (Content y) others))
+        (λ isnt. let t = was.nodes k in_graph own in (t.0, set_else m.0.held n k (Some y) isnt ∙ t.1, front_else m.1 n (Content x) others was.apart are (Content y) k isnt ∙ t.2));
+    others = λ k less why. dite (ℕ_discrete k n)
+        (λ is. ⊎_elim (λ big. absurd (omega arith)) (λ own. absurd (true≢false (sym owner ∙ ap (λ (j : ℕ). get_or m.0.part.core.owned j false) (sym is) ∙ own))) why)
+        (λ isnt. front_else m.1 n (Content x) others was.apart are (Content y) k isnt ∙ was.others k less why);
     list = λ k is. front_else m.1 n (Content x) others was.apart are (Content y) (list_at k) (λ e. absurd (omega arith)) ∙ was.list k is;
     lists = λ k isnt. front_else m.1 n (Content x) others was.apart are (Content y) (list_at k) (λ e. absurd (omega arith)) ∙ was.lists k isnt;
     unheeded = was.unheeded;
@@ -106,14 +107,14 @@ orderly_swapped size m m' n x y others was low owner are is = subst (IsOrderly s
 
 -- the view names the same of each node whose lock the seat owns
 pub orderly_named : (size : ℕ) (m m' : Sat) → IsOrderly size m → m'.1 ≡ m.1 → m'.0.part.core.owned ≡ m.0.part.core.owned → m'.0.part.core.inside ≡ m.0.part.core.inside → m'.0.part.core.list ≡ m.0.part.core.list → m'.0.part.core.heeded ≡ m.0.part.core.heeded
-    → length m'.0.held ≡ length m.0.held → ((n : ℕ) → owns m.0.part.core n ≡ true → get_elem? m'.0.held n ≡ get_elem? m.0.held n) → IsOrderly size m'
+    → length m'.0.held ≡ length m.0.held → ((n : ℕ) → n < size → owns m.0.part.core n ≡ true → get_elem? m'.0.held n ≡ get_elem? m.0.held n) → IsOrderly size m'
 orderly_named size m m' was slots owned inside list heeded long named = record {
   few = was.few;
-  owned = ap (λ (l : List Bool). length l) owned ∙ was.owned;
+  owned = omega (arith, was.owned, ap (λ (l : List Bool). length l) owned);
   held = long ∙ was.held;
   apart = subst AreApart (sym slots) was.apart;
-  nodes = λ n own. let old = ap (λ (l : List Bool). get_or l n false) (sym owned) ∙ own in let t = was.nodes n old in (t.0, (t.1.0, named n old ∙ t.1.1, at n ∙ t.1.2));
-  others = λ n small own. at n ∙ was.others n small (ap (λ (l : List Bool). get_or l n false) (sym owned) ∙ own);
+  nodes = λ n low own. let old = ap (λ (l : List Bool). get_or l n false) (sym owned) ∙ own in let t = was.nodes n low old in (t.0, named n low old ∙ t.1, at n ∙ t.2);
+  others = λ n small why. at n ∙ was.others n small (⊎_elim (λ big. inl big) (λ lacks. inr (ap (λ (l : List Bool). get_or l n false) (sym owned) ∙ lacks)) why);
   list = λ n is. at (list_at n) ∙ was.list n (sym inside ∙ is) ∙ ap (λ q. Some (Line q)) (sym list);
   lists = λ n isnt. at (list_at n) ∙ was.lists n (λ is. isnt (inside ∙ is));
   unheeded = heeded ∙ was.unheeded;
@@ -137,33 +138,76 @@ lists_else size m n was inside j high isnt = let k = high_list j high in ap (slo
 -- inside the guard of a lock that it lacks there is room for its node
 pub room_inside : (size : ℕ) (m : Sat) (n : ℕ) → IsOrderly size m → n < size → m.0.part.core.inside ≡ suc n → owns m.0.part.core n ≡ false → length m.1 < 65
 room_inside size m n was low inside lacks = let few = was.few in
-    fewer_beside 64 m.1 (list_at n) (Line m.0.part.core.list) n was.apart (was.list n inside) (omega arith) (lists_else size m n was inside) (omega arith) (was.others n (omega arith) lacks)
+    fewer_beside 64 m.1 (list_at n) (Line m.0.part.core.list) n was.apart (was.list n inside) (omega arith) (lists_else size m n was inside) (omega arith) (was.others n (omega arith) (inr lacks))
 
--- inside a guard it holds some lock just where more than the list is out
-pub holds_inside : (size : ℕ) (m : Sat) (n : ℕ) → IsOrderly size m → m.0.part.core.inside ≡ suc n → any_below 64 (owns m.0.part.core) ≡ ltb 1 (length m.1)
-holds_inside size m n was inside = nodes_beside 64 (owns m.0.part.core) m.1 (list_at n) (Line m.0.part.core.list) was.apart (was.list n inside) (omega arith)
-    (λ k less own. let t = was.nodes k own in (Content t.1.0, t.1.2)) (λ k less own. was.others k less own) (lists_else size m n was inside)
+-- what is set behind the end of a list leaves it
+pub set_past : {A : Type 0} (xs : List A) (n : ℕ) (x : A) → length xs ≤ n → set xs n x ≡ xs
+set_past [] n x past = refl
+set_past (y ∷ ys) zero x past = absurd (omega arith)
+set_past (y ∷ ys) (suc n) x past = ap (λ l. y ∷ l) (set_past ys n x (omega arith))
+
+-- ---- a lock taken, or given back, that guards no node: what is out stays
+
+pub orderly_bare : (size : ℕ) (m : Sat) (n : ℕ) (b : Bool) (w : View) → IsOrderly size m → size ≤ n → w.owned ≡ set m.0.part.core.owned n b → w.inside ≡ m.0.part.core.inside → w.list ≡ m.0.part.core.list → w.heeded ≡ m.0.part.core.heeded → IsOrderly size (knowing m.0 w, m.1)
+orderly_bare size m n b w was big owned inside list heeded =
+    let else_ : (k : ℕ) → k < size → get_or w.owned k false ≡ get_or m.0.part.core.owned k false = λ k low. ap (λ (l : List Bool). get_or l k false) owned ∙ owns_else m.0.part.core.owned n b k (λ e. absurd (omega arith)) in record {
+      few = was.few;
+      owned = omega (arith, was.owned, ap (λ (l : List Bool). length l) owned, length-set m.0.part.core.owned n b);
+      held = was.held;
+      apart = was.apart;
+      nodes = λ k low own. was.nodes k low (sym (else_ k low) ∙ own);
+      others = λ k less why. was.others k less (⊎_elim (λ high. inl high) (λ lacks. dite (dec_le size k) (λ high. inl high) (λ low. inr (sym (else_ k (omega arith)) ∙ lacks))) why);
+      list = λ k is. was.list k (sym inside ∙ is) ∙ ap (λ q. Some (Line q)) (sym list);
+      lists = λ k isnt. was.lists k (λ is. isnt (inside ∙ is));
+      unheeded = heeded ∙ was.unheeded;
+    }
 
 -- ---- whether it holds a lock
 
--- outside every guard what is out is the node of a lock that it owns
-pub owner_of_first : (size : ℕ) (m : Sat) → IsOrderly size m → m.0.part.core.inside ≡ 0 → 0 < length m.1 → (n : ℕ) × (owns m.0.part.core n ≡ true)
-owner_of_first size m was outside out = go m.1 was.others (λ n high. let k = high_list n high in ap (slot_of m.1) k.1 ∙ was.lists k.0 (λ is. absurd (omega arith))) out
-  where
-    go : (slots : List (ℕ × Cell)) → ((n : ℕ) → n < 64 → owns m.0.part.core n ≡ false → slot_of slots n ≡ None) → ((n : ℕ) → 64 ≤ n → slot_of slots n ≡ None) → 0 < length slots → (n : ℕ) × (owns m.0.part.core n ≡ true)
-    go [] low high out = absurd (omega arith)
-    go (x ∷ xs) low high out = let here : slot_of (x ∷ xs) x.0 ≡ Some x.1 = slot_here x.0 x.1 xs in ⊎_elim
-        (λ t. absurd (not_both (slot_of (x ∷ xs) x.0) x.1 (high x.0 t.1) here))
-        (λ t. ⊎_elim (λ own. (x.0, own)) (λ lacks. absurd (not_both (slot_of (x ∷ xs) x.0) x.1 (low x.0 t.1 lacks) here)) (true_or_false (owns m.0.part.core x.0)))
-        (leb_tells 64 x.0)
+pub owned_low : (xs : List Bool) (n : ℕ) → get_or xs n false ≡ true → n < length xs
+owned_low [] n own = absurd (true≢false (sym own))
+owned_low (x ∷ xs) zero own = omega arith
+owned_low (x ∷ xs) (suc n) own = let z = owned_low xs n own in omega arith
 
--- and where nothing is out it owns none
-pub bare_of_none : (size : ℕ) (m : Sat) → IsOrderly size m → length m.1 ≤ 0 → IsBare m.0.part.core
-bare_of_none size m was none n = ⊎_elim
-    (λ own. let t = was.nodes n own in absurd (go m.1 none (Content t.1.0) t.1.2))
+pub owner_of_some : (v : View) → any_below (length v.owned) (owns v) ≡ true → (n : ℕ) × (owns v n ≡ true)
+owner_of_some v has = let f = below_found (length v.owned) (owns v) has in (f.0, f.2)
+
+pub bare_of_none : (v : View) → any_below (length v.owned) (owns v) ≡ false → IsBare v
+bare_of_none v none n = ⊎_elim
+    (λ own. absurd (true≢false (sym (found_below (length v.owned) (owns v) n (owned_low v.owned n own) own) ∙ none)))
     (λ lacks. lacks)
+    (true_or_false (owns v n))
+
+-- ---- a node that it reads
+
+-- it is the one that its view names
+pub node_read : (size n : ℕ) (m m' : Sat) (r : Node) → IsOrderly size m → n < size → owns m.0.part.core n ≡ true → (got : (others : List (ℕ × Cell)) × AreOthers m.1 n (Content r) others × (m' ≡ (m.0, (n, Content r) ∷ others)))
+    → IsOrderly size m' × (get_elem? m.0.held n ≡ some (Some r))
+node_read size n m m' r o low own got =
+    let at = o.nodes n low own in
+    let same : at.0 ≡ r = same_node at.0 r (same_cell (slot_of m.1 n) (Content at.0) (Content r) at.2 (others_had m.1 n (Content r) got.0 o.apart got.1)) in
+    (orderly_brought size m m' n (Content r) got.0 o got.1 got.2, at.1 ∙ ap (λ (y : Node). some (Some y)) same)
+
+-- outside every guard what is out is the node of a lock that it owns
+pub owner_of_first : (size : ℕ) (m : Sat) (n : ℕ) (y : Cell) (others : List (ℕ × Cell)) → IsOrderly size m → m.0.part.core.inside ≡ 0 → m.1 ≡ (n, y) ∷ others → owns m.0.part.core n ≡ true
+owner_of_first size m n y others was outside out = ⊎_elim
+    (λ own. own)
+    (λ lacks. absurd (not_both (slot_of m.1 n) y
+    (dite (dec_le 64 n)
+    (λ high. let k = high_list n high in ap (slot_of m.1) k.1 ∙ was.lists k.0 (λ is. absurd (omega arith)))
+    (λ small. was.others n (omega arith) (inr lacks)))
+    (ap (λ (l : List (ℕ × Cell)). slot_of l n) out ∙ slot_here n y others)))
     (true_or_false (owns m.0.part.core n))
+
+-- so where each lock that it owns guards a node, it owns one just where something is out
+pub holds_outside : (size : ℕ) (m : Sat) → IsOrderly size m → m.0.part.core.inside ≡ 0 → ((n : ℕ) → owns m.0.part.core n ≡ true → n < size) → any_below (length m.0.part.core.owned) (owns m.0.part.core) ≡ ltb 0 (length m.1)
+holds_outside size m was outside low = go m.1 refl
   where
-    go : (slots : List (ℕ × Cell)) → length slots ≤ 0 → (y : Cell) → slot_of slots n ≡ Some y → ⊥
-    go [] none y is = cc
-    go (x ∷ xs) none y is = omega arith
+    go : (slots : List (ℕ × Cell)) → m.1 ≡ slots → any_below (length m.0.part.core.owned) (owns m.0.part.core) ≡ ltb 0 (length slots)
+    go [] out = ⊎_elim
+        (λ some. let f = owner_of_some m.0.part.core some in let node = was.nodes f.0 (low f.0 f.1) f.1 in
+        absurd (not_both (slot_of m.1 f.0) (Content node.0) (ap (λ (l : List (ℕ × Cell)). slot_of l f.0) out) node.2))
+        (λ none. none)
+        (true_or_false (any_below (length m.0.part.core.owned) (owns m.0.part.core)))
+    go (x ∷ xs) out = let own = owner_of_first size m x.0 x.1 xs was outside out in
+        found_below (length m.0.part.core.owned) (owns m.0.part.core) x.0 (owned_low m.0.part.core.owned x.0 own) own ∙ sym (lt-ltb 0 (length (x ∷ xs)) (omega arith))

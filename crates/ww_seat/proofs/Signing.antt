@@ -1,7 +1,6 @@
 -- Whom a seat inside a guard condemns, and whether it has to die.
 use Rattle.std.proofs.Common.{◌≡◌, ◌≢◌, ◌⊎◌, inl, inr, ⊎_elim, ℕ, zero, suc, ◌+◌, ◌<◌, ◌≤◌, Bool, true, false, true≢false, List, [], ◌∷◌, length, take, get_or, refl, sym, ap, ◌∙◌, subst, arith, Option, Some, None, IfSome, IfNone}
 use Rattle.std.specs.Option.{option_and_then}
-use Rattle.std.proofs.lemmas.Grind.{common_steps}
 use Rattle.ww_word.specs.declared.owner.Owner.{Owner}
 use Rattle.ww_word.specs.Owner.{IsValid, IsSeating}
 use Rattle.ww_queue.specs.declared.entry.Entry.{Entry}
@@ -10,7 +9,6 @@ use Rattle.ww_queue.specs.declared.kind.Kind.TheVariants.{WoundWait, WaitDie}
 use Rattle.ww_queue.specs.Entry.{IsHolding}
 use Rattle.ww_queue.specs.Queue.{Has, Once, entry_of}
 use Rattle.ww_queue.specs.Rules.{must_die, death_of, owed_signs}
-use Rattle.ww_queue.proofs.Outcomes.{true_holding, both_true}
 use Rattle.ww_queue.proofs.Deaths.{death_why, must_die_why, wound_wait_condemns}
 use Rattle.ww_queue.proofs.Leaves.{entry_why}
 use Rattle.ww_queue.proofs.Signs.{signed_why, wounded_why}
@@ -26,7 +24,7 @@ use Rattle.ww_rule.specs.Signs.{condemning, noting, reading, finding_none}
 use Rattle.ww_rule.specs.Waiting.{HasListOnTop}
 use Rattle.ww_seat.specs.Orderly.{IsOrderly}
 use Rattle.ww_seat.specs.Work.{AreWoken, IsTold, IsTouched, IsWorking, SeesOther, HasNoted, MayStay}
-use Rattle.ww_seat.proofs.Outside.{orderly_knowing}
+use Rattle.ww_seat.proofs.Outside.{orderly_knowing, owned_low}
 use Rattle.ww_seat.proofs.Working.{touched_read}
 
 -- ---- the signs that it owes
@@ -101,10 +99,10 @@ pub dying_holds : (kind : Kind) (o : Owner) (v : View) (s k : ℕ) → entry_of 
 dying_holds kind o v s k entry is = (death_why kind o v.list s (entry_of_view v) k (sym (death_is kind o v.list v.who s (entry_of_view v) entry) ∙ is)).0
 
 pub owns_one : (v : View) → IsHolding (entry_of_view v) → (j : ℕ) × (owns v j ≡ true)
-owns_one v h = let f = below_found 64 (owns v) (both_true _ _ (true_holding (entry_of_view v) h)).1 in (f.0, f.2)
+owns_one v h = let f = below_found (length v.owned) (owns v) h.1 in (f.0, f.2)
 
-pub owner_holds : (v : View) → 0 < v.stamp → (j : ℕ) → j < 64 → owns v j ≡ true → IsHolding (entry_of_view v)
-owner_holds v pos j low own = let e = found_below 64 (owns v) j low own in (pos, grind (arith, common_steps))
+pub owner_holds : (v : View) → 0 < v.stamp → (j : ℕ) → owns v j ≡ true → IsHolding (entry_of_view v)
+owner_holds v pos j own = (pos, found_below (length v.owned) (owns v) j (owned_low v.owned j own) own)
 
 pub wounded_dies : (kind : Kind) (o : Owner) (v : View) (k : ℕ) → kind ≡ WoundWait → Once v.list → entry_of v.list v.who ≡ Some (entry_of_view v) → IsHolding (entry_of_view v) → 0 < k → must_die kind o v.list v.who k ≡ Some k
 wounded_dies WoundWait o v k is once entry holding pos = (wound_wait_condemns o v.list (entry_of_view v) k k once (entry_why v.list v.who (entry_of_view v) entry).0).1 (holding, pos, refl)
@@ -148,9 +146,9 @@ holds_by size n l m o who k w kind at dies = dying_holds kind o m.0.part.core 1 
 
 pub stays_unsigned : (size n : ℕ) (l : Bool) (m m1 : Sat) (o : Owner) (who : ℕ) → IsOrderly size m → IsWorking n true l m.0.part.core → HasListOnTop m n m1 → (kind : Kind) → kind ≡ m.0.part.core.kind → kind ≡ WoundWait
     → m.0.part.core.who ≡ who → must_die kind o m.0.part.core.list who 1 ≡ None → MayStay o m1.0.part.core
-stays_unsigned size n l m m1 o who ord w top kind same is at lives = let few = ord.few in subst (λ (z : Sat). MayStay o z.0.part.core) (sym top.now) (record {
-  looked = λ _ pos has. let low = (ord.nodes has.0 has.1).0 in absurd (some_none (must_die kind o m.0.part.core.list m.0.part.core.who 1) 1
-      (wounded_dies kind o m.0.part.core 1 is w.once w.place.1 (owner_holds m.0.part.core pos has.0 (omega arith) has.1) (omega arith))
+stays_unsigned size n l m m1 o who ord w top kind same is at lives = subst (λ (z : Sat). MayStay o z.0.part.core) (sym top.now) (record {
+  looked = λ _ pos has. absurd (some_none (must_die kind o m.0.part.core.list m.0.part.core.who 1) 1
+      (wounded_dies kind o m.0.part.core 1 is w.once w.place.1 (owner_holds m.0.part.core pos has.0 has.1) (omega arith))
       (subst (λ (x : ℕ). must_die kind o m.0.part.core.list x 1 ≡ None) (sym at) lives));
   lives = λ d. absurd (let e : WoundWait ≡ WaitDie = sym is ∙ same ∙ d in cc);
 })

@@ -1,19 +1,17 @@
 -- The slots that a seat has out: one pushed, one taken out, one put in front again.
-use Rattle.std.proofs.Common.{◌≡◌, ◌≢◌, ◌⊎◌, ℕ, ◌+◌, ◌<◌, ◌≤◌, Bool, true, false, ◌||◌, true≢false, eqb, ltb, eq-eqb, ne_eqb, List, [], ◌∷◌, ◌++◌, length, map, refl, sym, ap, ◌∙◌, subst, ⊎_elim, inl, inr, arith, Option, Some, None, length-append}
-use Rattle.std.proofs.lemmas.Bool.{lt-ltb, le-ltb}
+use Rattle.std.proofs.Common.{◌≡◌, ◌≢◌, ◌⊎◌, ℕ, ◌+◌, ◌<◌, ◌≤◌, Bool, false, ◌||◌, eqb, eq-eqb, ne_eqb, List, [], ◌∷◌, ◌++◌, length, map, refl, sym, ap, ◌∙◌, subst, ⊎_elim, inl, inr, arith, Option, Some, None, length-append}
 use Rattle.std.proofs.lemmas.Bool.Decides.{leb_tells}
 use Rattle.std.proofs.lemmas.List.{length-map}
 use Rattle.std.specs.Bool.{if◌then◌else◌}
 use Rattle.std.specs.List.{list_any, AllByRecursion}
 use mathlib.Core.Logic.{dite}
 use native.Mathlib.Decide.{ℕ_discrete}
-use Rattle.ww_model.specs.State.{any_below}
-use Rattle.ww_model.proofs.Slots.{below_found, found_below}
+use Rattle.ww_plain.specs.declared.node.Node.{Node}
 use Rattle.ww_plain.specs.Numbers.{AreDifferent}
-use Rattle.ww_plain.proofs.Members.{true_or_false, different_none, different_cons}
+use Rattle.ww_plain.proofs.Members.{different_none, different_cons}
 use Rattle.ww_plain.proofs.FootprintFacts.{few_different}
 use Rattle.ww_rule.specs.declared.cells.Cell.{Cell}
-use Rattle.ww_rule.specs.declared.cells.Cell.TheVariants.{Line}
+use Rattle.ww_rule.specs.declared.cells.Cell.TheVariants.{Content, Line}
 use Rattle.ww_rule.specs.Out.{slot_of, AreOthers}
 use Rattle.ww_rule.specs.Waiting.{HaveOnly, IsOut}
 use Rattle.ww_seat.specs.Orderly.{AreApart}
@@ -41,6 +39,9 @@ not_both o y none some = cc
 
 pub same_cell : (o : Option Cell) (x y : Cell) → o ≡ Some x → o ≡ Some y → x ≡ y
 same_cell o x y a b = cc
+
+pub same_node : (x y : Node) → Content x ≡ Content y → x ≡ y
+same_node x y e = cc
 
 -- ---- two lists, one behind the other
 
@@ -156,11 +157,7 @@ take_out (x ∷ xs) n y is = dite (ℕ_discrete x.0 n)
     (λ isnt. let more = take_out xs n y (sym (first_else x xs n isnt) ∙ is) in
     (more.1.back ++ x ∷ more.1.front, record { front = x ∷ more.1.front; back = more.1.back; parts = ap (λ l. x ∷ l) more.1.parts; rest = refl }))
 
--- ---- all of them
-
-pub none_out : (slots : List (ℕ × Cell)) → ((n : ℕ) → slot_of slots n ≡ None) → slots ≡ []
-none_out [] none = refl
-none_out (x ∷ xs) none = absurd (not_both (slot_of (x ∷ xs) x.0) x.1 (none x.0) (first_here x xs x.0 refl))
+-- ---- the only one of its number
 
 none_only : (slots : List (ℕ × Cell)) (n : ℕ) (y : Cell) → slot_of slots n ≡ None → HaveOnly n y slots
 none_only [] n y none = tt
@@ -222,25 +219,3 @@ pub fewer_beside : (bound : ℕ) (slots : List (ℕ × Cell)) (l : ℕ) (y : Cel
 fewer_beside bound slots l y k apart out high low small none = let t = take_out slots l y out in
     let f = fewer_slots bound t.0 k (others_apart slots l y t.0 apart t.1) (low_without bound slots l y t.0 apart t.1 low) small (others_else slots l y t.0 apart t.1 k (λ e. absurd (omega arith)) ∙ none) in
     let g = others_long slots l y t.0 apart t.1 in omega arith
-
--- ---- whether a node is out beside a list
-
--- The slot l is out, beside it those of the numbers below the bound that pass the test, and no other.
-pub nodes_beside : (bound : ℕ) (test : ℕ → Bool) (slots : List (ℕ × Cell)) (l : ℕ) (y : Cell) → AreApart slots → slot_of slots l ≡ Some y → bound ≤ l
-    → ((n : ℕ) → n < bound → test n ≡ true → (z : Cell) × (slot_of slots n ≡ Some z)) → ((n : ℕ) → n < bound → test n ≡ false → slot_of slots n ≡ None) → ((n : ℕ) → bound ≤ n → n ≢ l → slot_of slots n ≡ None)
-    → any_below bound test ≡ ltb 1 (length slots)
-nodes_beside bound test slots l y apart out high on off low = let t = take_out slots l y out in let g = others_long slots l y t.0 apart t.1 in ⊎_elim
-    (λ some. let found = below_found bound test some in let z = on found.0 found.1 found.2 in
-    some ∙ sym (lt-ltb 1 (length slots) (let more = one_left t.0 found.0 z.0 (others_else slots l y t.0 apart t.1 found.0 (let h = found.1 in (λ e. absurd (omega arith))) ∙ z.1) in omega arith)))
-    (λ none. let gone = none_out t.0 (λ n. dite (ℕ_discrete n l)
-    (λ is. ap (slot_of t.0) is ∙ others_gone slots l y t.0 apart t.1)
-    (λ isnt. others_else slots l y t.0 apart t.1 n isnt ∙ ⊎_elim (λ small. off n small (not_found n small none)) (λ large. low n large isnt) (lt_or_le n bound))) in
-    let one = ap (λ (o : List (ℕ × Cell)). length o) gone in none ∙ sym (le-ltb 1 (length slots) (omega arith)))
-    (true_or_false (any_below bound test))
-  where
-    one_left : (others : List (ℕ × Cell)) (n : ℕ) (z : Cell) → slot_of others n ≡ Some z → 1 ≤ length others
-    one_left [] n z is = absurd cc
-    one_left (x ∷ xs) n z is = omega arith
-
-    not_found : (n : ℕ) → n < bound → any_below bound test ≡ false → test n ≡ false
-    not_found n small none = ⊎_elim (λ is. absurd (true≢false (sym (found_below bound test n small is) ∙ none))) (λ isnt. isnt) (true_or_false (test n))

@@ -1,13 +1,12 @@
 -- A lock taken inside its guard.
-use Rattle.std.proofs.Common.{◌≡◌, ◌≢◌, ◌⊎◌, inl, inr, ℕ, suc, ◌+◌, ◌<◌, Bool, true, false, true≢false, List, [], ◌∷◌, length, set, get_or, slice_get, refl, sym, ap, ◌∙◌, subst, arith, Option, Some, None, length-set}
+use Rattle.std.proofs.Common.{◌≡◌, ◌≢◌, ⊎_elim, inl, inr, ℕ, suc, ◌+◌, ◌<◌, ◌≤◌, Bool, true, false, true≢false, List, [], ◌∷◌, length, set, get_or, slice_get, refl, sym, ap, ◌∙◌, subst, arith, Option, Some, None, length-set}
 use mathlib.Core.Option.{some}
 use mathlib.Core.Option as maybe
 use mathlib.Core.Logic.{dite}
-use native.Mathlib.Decide.{ℕ_discrete}
+use native.Mathlib.Decide.{ℕ_discrete, dec_le}
 use lib.ListN.{get_elem?}
 use Rattle.atomic_table.proofs.Lists.{set_here, set_else}
 use Rattle.ww_word.specs.declared.owner.Owner.{Owner}
-use Rattle.ww_word.specs.Owner.{is_handed}
 use Rattle.ww_queue.specs.declared.entry.Entry.{Entry}
 use Rattle.ww_queue.specs.declared.kind.Kind.TheVariants.{WaitDie}
 use Rattle.ww_queue.specs.Queue.{Has, left}
@@ -20,7 +19,6 @@ use Rattle.ww_plain.specs.Graph.{IsNodeOf, no_node}
 use Rattle.ww_view.specs.declared.view.View.{View}
 use Rattle.ww_view.specs.View.{owns}
 use Rattle.ww_view.specs.Word.{taken_word}
-use Rattle.ww_view.specs.May.{MayTake}
 use Rattle.ww_view.specs.Made.{taken}
 use Rattle.ww_rule.specs.declared.cells.Cell.{Cell}
 use Rattle.ww_rule.specs.declared.cells.Cell.TheVariants.{Content, Line}
@@ -33,14 +31,12 @@ use Rattle.ww_rule.specs.Waiting.{HasListOnTop, taking_inside}
 use Rattle.ww_seat.specs.Orderly.{IsOrderly}
 use Rattle.ww_seat.specs.Calls.{HasTaken}
 use Rattle.ww_seat.specs.Looks.{IsLook}
-use Rattle.ww_seat.specs.Work.{touched, IsWorking, MayGo, HasNoted, HasSigned}
+use Rattle.ww_seat.specs.Work.{touched, IsWorking, MayGo, HasNoted, HasSigned, HasTakenInside}
 use Rattle.ww_seat.specs.declared.look.Look.TheVariants.{Locked}
-use Rattle.ww_seat.proofs.Slots.{slot_here, slot_else, others_had, others_gone, others_else, others_apart, same_cell}
-use Rattle.ww_seat.proofs.Outside.{orderly_brought}
+use Rattle.ww_seat.proofs.Slots.{slot_here, slot_else, others_gone, others_else, others_apart}
+use Rattle.ww_seat.proofs.Outside.{orderly_brought, orderly_bare, set_past}
 use Rattle.ww_seat.proofs.Outside.{owns_here, owns_else}
-
-pub may_take : (n : ℕ) (s l : Bool) (v : View) (o : Owner) → IsWorking n s l v → (o.seat ≡ None) ⊎ ((o.seat ≡ Some v.who) × (is_handed o ≡ true)) → MayTake v n o
-may_take n s l v o w free = record { inside = w.inside; base = w.want.base; signs = w.want.signs; free = free }
+use Rattle.ww_seat.proofs.Guards.{listed_orderly}
 
 -- what is out once the lock is taken
 pub taking_orderly : (size n : ℕ) (m : Sat) (x : Node) (others : List (ℕ × Cell)) → IsOrderly size m → n < size → m.0.part.core.inside ≡ suc n → owns m.0.part.core n ≡ false → AreOthers m.1 (64 + n) (Line m.0.part.core.list) others
@@ -56,37 +52,31 @@ taking_orderly size n m x others o low inside lacks out =
     let node : slot_of ((64 + n, Line q) ∷ (n, Content x) ∷ others) n ≡ Some (Content x) = slot_else (64 + n) (Line q) ((n, Content x) ∷ others) n far ∙ slot_here n (Content x) others in
     record {
       few = o.few;
-      owned = length-set m.0.part.core.owned n true ∙ o.owned;
+      owned = omega (arith, o.owned, length-set m.0.part.core.owned n true);
       held = length-set m.0.held n (Some x) ∙ o.held;
-      apart = (slot_else n (Content x) others (64 + n) (λ e. far (sym e)) ∙ gone, (else_ n far ∙ o.others n (omega arith) lacks, others_apart m.1 (64 + n) (Line m.0.part.core.list) others o.apart out));
-      nodes = λ k own. dite (ℕ_discrete k n)
-          (λ is. (subst (λ (j : ℕ). j < size) (sym is) low, (x, ap (get_elem? (set m.0.held n (Some x))) is ∙ set_here m.0.held n (Some x) (omega arith), ap (slot_of ((64 + n, Line q) ∷ (n, Content x) ∷ others)) is ∙ node)))
-          (λ isnt. let z = o.nodes k (sym (owns_else m.0.part.core.owned n true k isnt) ∙ own) in let small = z.0 in
-          (z.0, (z.1.0, set_else m.0.held n k (Some x) isnt ∙ z.1.1, top k (λ e. absurd (omega arith)) isnt ∙ z.1.2)));
-      others = λ k small isnt. dite (ℕ_discrete k n)
-          (λ is. absurd (true≢false (sym (owns_here m.0.part.core.owned n true (omega arith)) ∙ sym (ap (λ (j : ℕ). get_or (set m.0.part.core.owned n true) j false) is) ∙ isnt)))
-          (λ other. top k (λ e. absurd (omega arith)) other ∙ o.others k small (sym (owns_else m.0.part.core.owned n true k other) ∙ isnt));
+      apart = (slot_else n (Content x) others (64 + n) (λ e. far (sym e)) ∙ gone, (else_ n far ∙ o.others n (omega arith) (inr lacks), others_apart m.1 (64 + n) (Line m.0.part.core.list) others o.apart out));
+      nodes = λ k in_graph own. dite (ℕ_discrete k n)
+          (λ is. (x, ap (get_elem? (set m.0.held n (Some x))) is ∙ set_here m.0.held n (Some x) (omega arith), ap (slot_of ((64 + n, Line q) ∷ (n, Content x) ∷ others)) is ∙ node))
+          (λ isnt. let z = o.nodes k in_graph (sym (owns_else m.0.part.core.owned n true k isnt) ∙ own) in
+          (z.0, set_else m.0.held n k (Some x) isnt ∙ z.1, top k (λ e. absurd (omega arith)) isnt ∙ z.2));
+      others = λ k small why. dite (ℕ_discrete k n)
+          (λ is. ⊎_elim (λ big. absurd (omega arith)) (λ isnt. absurd (true≢false (sym (owns_here m.0.part.core.owned n true (omega arith)) ∙ sym (ap (λ (j : ℕ). get_or (set m.0.part.core.owned n true) j false) is) ∙ isnt))) why)
+          (λ other. top k (λ e. absurd (omega arith)) other ∙ o.others k small (⊎_elim (λ big. inl big) (λ isnt. inr (sym (owns_else m.0.part.core.owned n true k other) ∙ isnt)) why));
       list = λ k e. let at : k ≡ n = omega arith in ap (λ (j : ℕ). slot_of ((64 + n, Line q) ∷ (n, Content x) ∷ others) (64 + j)) at ∙ slot_here (64 + n) (Line q) ((n, Content x) ∷ others);
       lists = λ k isnt. top (64 + k) (λ e. isnt (omega arith)) (λ e. absurd (omega arith)) ∙ o.lists k isnt;
       unheeded = o.unheeded;
     }
 
--- the lock was taken, and nothing else was done
-pub record IsTaken (size n : ℕ) (m : Sat) (x : Node) (m' : Sat) : Type 0 where
-  pub orderly : IsOrderly size m'
-  pub view : m'.0 ≡ taking_inside m.0 n x
-  pub node : IsNodeOf (length m.0.held) x
-
 pub is_taken : (size n : ℕ) (m m1 : Sat) → IsOrderly size m → n < size → m.0.part.core.inside ≡ suc n → owns m.0.part.core n ≡ false
     → (got : (x : Node) × (others : List (ℕ × Cell)) × IsNodeOf (length m.0.held) x × AreOthers m.1 (64 + n) (Line m.0.part.core.list) others × (m1 ≡ (taking_inside m.0 n x, (64 + n, Line (taken m.0.part.core n).list) ∷ (n, Content x) ∷ others)))
-    → IsTaken size n m got.0 m1
+    → HasTakenInside size n m got.0 m1
 is_taken size n m m1 o low inside lacks got = record {
   orderly = subst (IsOrderly size) (sym got.4) (taking_orderly size n m got.0 got.1 o low inside lacks got.3);
   view = ap (λ (z : Sat). z.0) got.4;
   node = got.2;
 }
 
-pub taken_read : (size n : ℕ) (m m1 m2 : Sat) (x : Node) → IsTaken size n m x m1 → HasListOnTop m1 n m2 → IsTaken size n m x m2
+pub taken_read : (size n : ℕ) (m m1 m2 : Sat) (x : Node) → HasTakenInside size n m x m1 → HasListOnTop m1 n m2 → HasTakenInside size n m x m2
 taken_read size n m m1 m2 x t top = record {
   orderly = orderly_brought size m1 m2 (64 + n) (Line m1.0.part.core.list) top.others t.orderly top.apart top.now;
   view = ap (λ (z : Sat). z.0) top.now ∙ t.view;
@@ -102,7 +92,7 @@ pub record OwesAfter (n : ℕ) (w : View) : Type 0 where
   pub seats : AreSeats w.list
   pub seen : w.seen ≡ Some (taken_word w.who w.stamp w.list)
 
-pub owes_after : (size n : ℕ) (s l : Bool) (m m2 : Sat) (x : Node) (o : Owner) → IsWorking n s l m.0.part.core → IsTaken size n m x m2 → OwesAfter n m2.0.part.core
+pub owes_after : (size n : ℕ) (s l : Bool) (m m2 : Sat) (x : Node) (o : Owner) → IsWorking n s l m.0.part.core → HasTakenInside size n m x m2 → OwesAfter n m2.0.part.core
 owes_after size n s l m m2 x o w t = subst (λ (z : Sight). OwesAfter n z.part.core) (sym t.view)
     (record { inside = w.inside; seats = left_seats m.0.part.core.list m.0.part.core.who w.seats; seen = refl })
 
@@ -143,7 +133,7 @@ go_taken n s l v signed condemned fresh w all =
       lives = λ d. (word, refl, lives d);
     }
 
-pub taken_goes : (size n : ℕ) (s l : Bool) (m m2 m3 : Sat) (x : Node) (word : Owner) → IsWorking n s l m.0.part.core → IsTaken size n m x m2
+pub taken_goes : (size n : ℕ) (s l : Bool) (m m2 m3 : Sat) (x : Node) (word : Owner) → IsWorking n s l m.0.part.core → HasTakenInside size n m x m2
     → word ≡ taken_word m2.0.part.core.who m2.0.part.core.stamp m2.0.part.core.list → HasSigned size word m2 m3 → MayGo n m3.0.part.core
 taken_goes size n s l m m2 m3 x word w t is h =
     subst (λ (z : Sight). MayGo n z.part.core) (sym (h.view ∙ ap (λ (z : Sight). knowing z (touched z.part.core z.part.core.seen h.signed h.condemned h.fresh)) t.view))
@@ -151,48 +141,51 @@ taken_goes size n s l m m2 m3 x word w t is h =
     (λ u k has. h.all u k (subst (λ (o : Owner). Has (owed_signs m2.0.part.core.kind o m2.0.part.core.list m2.0.part.core.who) (u, k)) (sym is)
     (subst (λ (z : Sight). Has (owed_signs z.part.core.kind (taken_word z.part.core.who z.part.core.stamp z.part.core.list) z.part.core.list z.part.core.who) (u, k)) (sym t.view) has))))
 
-abbrev node_in : Cell → Node
-node_in (Content x) = x
-node_in (Line q) = no_node
-
 abbrev named : {A : Type 0} → A → maybe.Option (Option A) → A
 named d (some (Some x)) = x
 named d (some None) = d
 named d maybe.none = d
 
-out_view : (size n : ℕ) (m m2 m3 m4 : Sat) (x : Node) (owed : List (ℕ × ℕ)) → IsTaken size n m x m2 → (h : HasNoted size owed m2 m3) → m4.0 ≡ exiting m3.0
+out_view : (size n : ℕ) (m m2 m3 m4 : Sat) (x : Node) (owed : List (ℕ × ℕ)) → HasTakenInside size n m x m2 → (h : HasNoted size owed m2 m3) → m4.0 ≡ exiting m3.0
     → m4.0 ≡ exiting (knowing (taking_inside m.0 n x) (touched (taken m.0.part.core n) (taken m.0.part.core n).seen h.signed h.condemned h.fresh))
 out_view size n m m2 m3 m4 x owed t h out = out ∙ ap exiting (h.view ∙ ap (λ (z : Sight). knowing z (touched z.part.core z.part.core.seen h.signed h.condemned h.fresh)) t.view)
 
--- its node is out
-pub node_out : (size n : ℕ) (m m2 m3 m4 : Sat) (x : Node) (owed : List (ℕ × ℕ)) → IsOrderly size m → n < size → IsTaken size n m x m2 → HasNoted size owed m2 m3 → m4.0 ≡ exiting m3.0 → IsOrderly size m4 → (y : Node) × (slot_of m4.1 n ≡ Some (Content y))
-node_out size n m m2 m3 m4 x owed o low t h out o4 = let long = o.owned in let few = o.few in
-    let own : owns m4.0.part.core n ≡ true = ap (λ (z : Sight). owns z.part.core n) (out_view size n m m2 m3 m4 x owed t h out) ∙ owns_here m.0.part.core.owned n true (omega arith) in
-    let at = (o4.nodes n own).1 in (at.0, at.2)
+-- the seat owns it then
+pub own_out : (size n : ℕ) (m m2 m3 m4 : Sat) (x : Node) (owed : List (ℕ × ℕ)) → IsOrderly size m → HasTakenInside size n m x m2 → HasNoted size owed m2 m3 → m4.0 ≡ exiting m3.0 → n < size → owns m4.0.part.core n ≡ true
+own_out size n m m2 m3 m4 x owed o t h out low = let long = o.owned in
+    ap (λ (z : Sight). owns z.part.core n) (out_view size n m m2 m3 m4 x owed t h out) ∙ owns_here m.0.part.core.owned n true (omega arith)
 
--- the node that is read then is the one that was taken
-pub look_taken : (size n : ℕ) (s l : Bool) (m m2 m3 m4 m5 : Sat) (x r : Node) (owed : List (ℕ × ℕ)) → IsOrderly size m → n < size → IsWorking n s l m.0.part.core → IsTaken size n m x m2 → HasNoted size owed m2 m3 → m4.0 ≡ exiting m3.0 → IsOrderly size m4
-    → (others : List (ℕ × Cell)) × AreOthers m4.1 n (Content r) others × (m5 ≡ (m4.0, (n, Content r) ∷ others)) → IsLook size n m (Locked r) m5 × (m5.0.part.core.tries ≡ m.0.part.core.tries) × (m5.0.part.core.attempts ≡ m.0.part.core.attempts)
-look_taken size n s l m m2 m3 m4 m5 x r owed o low w t h out o4 got =
-    let long = o.owned in let wide = o.held in let few = o.few in
-    let base : m4.0 ≡ exiting (knowing (taking_inside m.0 n x) (touched (taken m.0.part.core n) (taken m.0.part.core n).seen h.signed h.condemned h.fresh)) =
-    out ∙ ap exiting (h.view ∙ ap (λ (z : Sight). knowing z (touched z.part.core z.part.core.seen h.signed h.condemned h.fresh)) t.view) in
-    let o5 : IsOrderly size m5 = orderly_brought size m4 m5 n (Content r) got.0 o4 got.1 got.2 in
-    let own : owns m4.0.part.core n ≡ true = ap (λ (z : Sight). owns z.part.core n) base ∙ owns_here m.0.part.core.owned n true (omega arith) in
-    let at = (o4.nodes n own).1 in
-    let held_is : get_elem? m4.0.held n ≡ some (Some x) = ap (λ (z : Sight). get_elem? z.held n) base ∙ set_here m.0.held n (Some x) (omega arith) in
-    let one : at.0 ≡ x = ap (named no_node) (sym at.1 ∙ held_is) in
-    let two : Content at.0 ≡ Content r = same_cell (slot_of m4.1 n) (Content at.0) (Content r) at.2 (others_had m4.1 n (Content r) got.0 o4.apart got.1) in
-    let same : r ≡ x = sym (ap node_in two) ∙ one in
-    let view : m5.0 ≡ exiting (knowing (taking_inside m.0 n x) (touched (taken m.0.part.core n) (taken m.0.part.core n).seen h.signed h.condemned h.fresh)) = ap (λ (z : Sat). z.0) got.2 ∙ base in
-    let took : HasTaken m n r m5 = subst (λ (y : Node). HasTaken m n y m5) (sym same) (subst (λ (z : Sight). HasTaken m n x (z, m5.1)) (sym view) (record {
+-- a lock that guards no node comes with none
+pub is_taken_bare : (size n : ℕ) (m m1 : Sat) → IsOrderly size m → size ≤ n → m.0.part.core.inside ≡ suc n
+    → (got : (others : List (ℕ × Cell)) × AreOthers m.1 (64 + n) (Line m.0.part.core.list) others × (m1 ≡ (knowing m.0 (taken m.0.part.core n), (64 + n, Line (taken m.0.part.core n).list) ∷ others))) → HasTakenInside size n m no_node m1
+is_taken_bare size n m m1 o big inside got = let wide = o.held in
+    let w : Sight = knowing m.0 (record (m.0.part.core) { list = left m.0.part.core.list m.0.part.core.who }) in
+    let listed = listed_orderly size m n w got.0 o inside got.1 refl refl refl refl in record {
+      orderly = subst (IsOrderly size) (sym got.2) (orderly_bare size (w, (64 + n, Line w.part.core.list) ∷ got.0) n true (taken m.0.part.core n) listed big refl refl refl refl);
+      view = ap (λ (z : Sat). z.0) got.2 ∙ (λ i. record (m.0) { part = record (m.0.part) { core = taken m.0.part.core n }; held = sym (set_past m.0.held n (Some no_node) (omega arith)) i });
+      node = tt;
+    }
+
+-- the node that is given then is the one that was taken, or a blank one where the lock guards none
+pub look_taken : (size n : ℕ) (m m2 m3 m4 m5 : Sat) (x r : Node) (owed : List (ℕ × ℕ)) → IsOrderly size m → HasTakenInside size n m x m2 → HasNoted size owed m2 m3 → m4.0 ≡ exiting m3.0 → IsOrderly size m5 → m5.0 ≡ m4.0
+    → (n < size → get_elem? m4.0.held n ≡ some (Some r)) → (size ≤ n → (k : ℕ) → IsNodeOf k r) → IsLook size n m (Locked r) m5 × (m5.0.part.core.tries ≡ m.0.part.core.tries) × (m5.0.part.core.attempts ≡ m.0.part.core.attempts)
+look_taken size n m m2 m3 m4 m5 x r owed o t h out o5 still node blank =
+    let wide = o.held in
+    let base = out_view size n m m2 m3 m4 x owed t h out in
+    let fits : (set m.0.held n (Some x) ≡ set m.0.held n (Some r)) × IsNodeOf (length m.0.held) r = dite (dec_le size n)
+    (λ big. (set_past m.0.held n (Some x) (omega arith) ∙ sym (set_past m.0.held n (Some r) (omega arith)), blank big (length m.0.held)))
+    (λ small. let low : n < size = omega arith in
+    let had : get_elem? m4.0.held n ≡ some (Some x) = ap (λ (z : Sight). get_elem? z.held n) base ∙ set_here m.0.held n (Some x) (omega arith) in
+    let same : x ≡ r = ap (named no_node) (sym had ∙ node low) in (ap (λ (y : Node). set m.0.held n (Some y)) same, subst (IsNodeOf (length m.0.held)) same t.node)) in
+    let view = still ∙ base in
+    let took : HasTaken m n r m5 = subst (λ (z : Sight). HasTaken m n r (z, m5.1)) (sym view) (record {
       same = record { kind = refl; who = refl; stamp = refl; own = refl; counts = refl; stopped = refl; pendings = refl };
       owned = refl;
       locks = refl;
-      held = refl;
+      held = fits.0;
       takes = refl;
       deaths = refl;
-      node = t.node;
+      node = fits.1;
       unmet = refl;
-    })) in
+    }) in
     ((o5, (ap (λ (z : Sight). z.part.core.inside) view, ap (λ (z : Sight). z.part.core.waits) view), took), ap (λ (z : Sight). z.part.core.tries) view, ap (λ (z : Sight). z.part.core.attempts) view)

@@ -1,16 +1,28 @@
 -- A lock is given back inside its guard.
-use Rattle.std.specs.Prelude.{ℕ, suc, ◌≡◌, true, Some}
+use Rattle.std.specs.Prelude.{ℕ, suc, ◌≡◌, true, Some, slice_get}
+use Rattle.std.specs.Option.{option_map}
+use Rattle.ww_queue.specs.declared.entry.Entry.{Entry}
 use Rattle.ww_queue.specs.declared.kind.Kind.TheVariants.{WaitDie}
 use Rattle.ww_view.specs.View.{owns}
+use Rattle.ww_view.specs.May.{MayLeave}
 use Rattle.ww_rule.specs.Rule.{Sat}
 use Rattle.ww_rule.specs.Guards.{AreSeats}
 use Rattle.ww_seat.specs.Orderly.{IsOrderly}
-use Rattle.ww_seat.specs.Calls.{HoldsAsBefore}
+use Rattle.ww_seat.specs.Calls.{HasGiven, HoldsAsBefore}
 
 -- it holds what it held, and tried to take no lock at once
 pub record IsStill (m m' : Sat) : Type 0 where
   pub holds : HoldsAsBefore m m'
   pub tries : m'.0.part.core.tries ≡ m.0.part.core.tries
+
+-- It gave the lock back, and knows who is to look now: the first waiter, if somebody waits. It may leave the guard.
+pub record HasLet (size n : ℕ) (m m' : Sat) : Type 0 where
+  pub orderly : IsOrderly size m'
+  pub may : MayLeave m'.0.part.core n
+  pub inside : m'.0.part.core.inside ≡ suc n
+  pub waits : m'.0.part.core.waits ≡ 0
+  pub given : HasGiven m n m'
+  pub heir : m'.0.part.core.heir ≡ option_map (λ (e : Entry). e.seat) (slice_get m.0.part.core.list 0)
 
 -- It is inside, as the owner who gives the lock back, and waits for none: its sign is then its own to tell.
 pub record IsGiving (size n : ℕ) (m : Sat) : Type 0 where

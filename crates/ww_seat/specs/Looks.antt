@@ -1,5 +1,5 @@
 -- A seat that wants a lock, on its way there.
-use Rattle.std.specs.Prelude.{ℕ, suc, ◌≡◌, ◌≤◌, ◌⊎◌, Bool, true, false}
+use Rattle.std.specs.Prelude.{ℕ, suc, ◌≡◌, ◌≤◌, ◌+◌, ◌⊎◌, Bool, true, false}
 use Rattle.ww_view.specs.declared.view.View.{View}
 use Rattle.ww_view.specs.View.{owns, IsAway}
 use Rattle.ww_view.specs.May.{WantsBase, WantsSigns}
@@ -23,9 +23,9 @@ pub record IsOutside (size n : ℕ) (m : Sat) : Type 0 where
   pub outside : m.0.part.core.inside ≡ 0
   pub place : (m.0.part.core.waits ≡ 0) ⊎ (m.0.part.core.waits ≡ suc n)
 
--- it has glanced so many times since its last try, and is otherwise as it was
+-- it has glanced so many times since its last try, before which it counted none, and is otherwise as it was
 abbrev pub having_glanced : Sat → ℕ → Sat
-having_glanced m k = (knowing m.0 (record (m.0.part.core) { glances = k }), m.1)
+having_glanced m k = (knowing m.0 (record (m.0.part.core) { glances = k; all_glances = m.0.part.core.all_glances + k }), m.1)
 
 pub record HasGlanced (m m' : Sat) : Type 0 where
   pub times : ℕ

@@ -1,11 +1,13 @@
 -- A seat at work inside the guard of a lock that it wants.
-use Rattle.std.specs.Prelude.{ℕ, suc, ◌≡◌, ◌≢◌, ◌<◌, ◌==◌, ◌⊎◌, not, Bool, true, false, List, Option, Some, None}
+use Rattle.std.specs.Prelude.{ℕ, suc, ◌≡◌, ◌≢◌, ◌<◌, ◌==◌, ◌⊎◌, not, Bool, true, false, List, length, Option, Some, None}
 use Rattle.std.specs.List.{slice_index_or}
 use Rattle.ww_word.specs.declared.owner.Owner.{Owner}
 use Rattle.ww_word.specs.Owner.{IsValid}
 use Rattle.ww_queue.specs.declared.kind.Kind.TheVariants.{WoundWait, WaitDie}
 use Rattle.ww_queue.specs.Queue.{Has, Once, StandsNot, entry_of}
 use Rattle.ww_queue.specs.Rules.{must_die, owed_signs}
+use Rattle.ww_plain.specs.declared.node.Node.{Node}
+use Rattle.ww_plain.specs.Graph.{IsNodeOf}
 use Rattle.ww_view.specs.declared.view.View.{View}
 use Rattle.ww_view.specs.Word.{TellsOther}
 use Rattle.ww_view.specs.View.{owns}
@@ -14,6 +16,7 @@ use Rattle.ww_view.specs.Made.{entry_of_view}
 use Rattle.ww_rule.specs.Rule.{Sat}
 use Rattle.ww_rule.specs.Steps.{knowing}
 use Rattle.ww_rule.specs.Guards.{AreSeats}
+use Rattle.ww_rule.specs.Waiting.{taking_inside}
 use Rattle.ww_seat.specs.Orderly.{IsOrderly}
 use Rattle.ww_seat.specs.Calls.{HoldsAsBefore}
 use Rattle.ww_seat.specs.Looks.{MayWant}
@@ -127,6 +130,12 @@ pub record HasNoted (size : ℕ) (owed : List (ℕ × ℕ)) (m m' : Sat) : Type 
 -- ... all whom it owes a sign by this word
 abbrev pub HasSigned : ℕ → Owner → Sat → Sat → Type 0
 HasSigned size o m m' = HasNoted size (owed_signs m.0.part.core.kind o m.0.part.core.list m.0.part.core.who) m m'
+
+-- It took lock n inside the guard, and did nothing else. Its view names this node then, if the lock guards one.
+pub record HasTakenInside (size n : ℕ) (m : Sat) (x : Node) (m' : Sat) : Type 0 where
+  pub orderly : IsOrderly size m'
+  pub view : m'.0 ≡ taking_inside m.0 n x
+  pub node : IsNodeOf (length m.0.held) x
 
 -- It stands in the wait list, and by the word that it saw another has the lock and somebody waits.
 pub record HasStood (size n : ℕ) (stands : Bool) (o : Owner) (m : Sat) (p : Owner) (m' : Sat) : Type 0 where

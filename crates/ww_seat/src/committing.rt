@@ -30,7 +30,7 @@ fn change(seat: &mut Seat16, board: &Board, changes: &[NodeChange])
     requires seat { IsSeatOf board.now seat.old }
     requires changes { (before : List Node) × (after : List Node) × (ns : List ℕ) × (changes.now ≡ map (change_at before after) ns) }
     requires out { (held : List (Option Node)) × IsOrderly (size_of board.now) (naming seat.old.seat.me held) }
-    requires owned { AllByRecursion (λ c. owns (view_of seat.old) c.number ≡ true) changes.now }
+    requires owned { AllByRecursion (λ c. (c.number < size_of board.now) × (owns (view_of seat.old) c.number ≡ true)) changes.now }
     ensures seat { IsSeatOf board.now seat.new }
     ensures view { seat.new.seat.me.0 ≡ seat.old.seat.me.0 }
     ensures records { seat.new.records ≡ seat.old.records }
@@ -38,7 +38,7 @@ fn change(seat: &mut Seat16, board: &Board, changes: &[NodeChange])
 {
     for at in (0..changes.len()).rev() {
         let change = changes[at];
-        seat.swap_node(board, change.number, change.after);
+        seat.swap_node(board, u32::from(change.number), change.after);
     }
 }
 

@@ -1,11 +1,13 @@
 //! One try to take a lock at once, which a free lock with an empty wait list allows.
 
-ghost use Rattle.std.specs.Prelude.{◌≡◌, ◌<◌, false, Some, IfSome, IfNone};
+ghost use Rattle.std.specs.Prelude.{ℕ, ◌≡◌, ◌<◌, ◌≤◌, false, Some, IfSome, IfNone, length};
+ghost use Rattle.ww_model.specs.State.{any_below};
+ghost use Rattle.ww_plain.specs.Graph.{IsNodeOf};
 ghost use Rattle.ww_view.specs.View.{owns, IsBare};
 ghost use Rattle.ww_view.specs.May.{WantsBase, WantsSigns};
 ghost use Rattle.ww_seat.specs.Orderly.{IsSettledAt};
 ghost use Rattle.ww_seat.specs.Calls.{HoldsAsBefore, HasTaken, TriedOnce};
-ghost use Rattle.ww_table.specs.Seat.{size_of, view_of};
+ghost use Rattle.ww_table.specs.Seat.{locks_of, size_of, view_of};
 
 use ww_plain::Node;
 use ww_queue::Kind;
@@ -30,8 +32,9 @@ fn unsign_bare(seat: &mut Seat16, board: &Board)
 }
 
 /// Takes the sign back where the context holds nothing: nobody waits for it then.
-fn unsign_if_bare(seat: &mut Seat16, board: &Board)
+fn unsign_if_bare(seat: &mut Seat16, board: &Board, holds: bool)
     requires seat { IsSettledAt board.now seat.old }
+    requires holds { any_below (length (view_of seat.old).owned) (owns (view_of seat.old)) ≡ holds }
     ensures seat { IsSettledAt board.now seat.new }
     ensures same { HoldsAsBefore seat.old.seat.me seat.new.seat.me }
     ensures tries { (view_of seat.new).tries ≡ (view_of seat.old).tries }
@@ -42,7 +45,7 @@ fn unsign_if_bare(seat: &mut Seat16, board: &Board)
     if seat.stamp() == 0 {
         return;
     }
-    if seat.has_out() {
+    if holds {
         return;
     }
     unsign_bare(seat, board);
@@ -50,8 +53,9 @@ fn unsign_if_bare(seat: &mut Seat16, board: &Board)
 
 /// Clears a sign that would forbid the seat to want a lock. In Wait-Die a signed seat owns a lock, so nothing is to be
 /// done.
-fn unsign(seat: &mut Seat16, board: &Board)
+fn unsign(seat: &mut Seat16, board: &Board, holds: bool)
     requires seat { IsSettledAt board.now seat.old }
+    requires holds { any_below (length (view_of seat.old).owned) (owns (view_of seat.old)) ≡ holds }
     ensures seat { IsSettledAt board.now seat.new }
     ensures same { HoldsAsBefore seat.old.seat.me seat.new.seat.me }
     ensures tries { (view_of seat.new).tries ≡ (view_of seat.old).tries }
@@ -60,18 +64,19 @@ fn unsign(seat: &mut Seat16, board: &Board)
     ensures records { seat.new.records ≡ seat.old.records }
 {
     match seat.kind() {
-        Kind::WoundWait => unsign_if_bare(seat, board),
+        Kind::WoundWait => unsign_if_bare(seat, board, holds),
         Kind::WaitDie => {}
     }
 }
 
-/// Takes a lock if it is free and nobody waits for it, and gives its node. It is the first try of every call that takes
-/// a lock: where it fails the seat may go on to want the lock.
-pub fn try_take(seat: &mut Seat16, board: &Board, lock: u8) -> Option<Node>
+/// Takes a lock that guards a node, if it is free and nobody waits for it, and gives the node.
+#[inline(always)]
+fn take_node(seat: &mut Seat16, board: &Board, lock: u32) -> Option<Node>
     requires seat { IsSettledAt board.now seat.old }
     requires lock { lock < size_of board.now }
     requires lacks { owns (view_of seat.old) lock ≡ false }
     requires base { WantsBase (view_of seat.old) }
+    requires signs { WantsSigns (view_of seat.old) }
     ensures seat { IsSettledAt board.now seat.new }
     ensures some { IfSome result (λ x. HasTaken seat.old.seat.me lock x seat.new.seat.me) }
     ensures none { IfNone result (HoldsAsBefore seat.old.seat.me seat.new.seat.me) }
@@ -81,9 +86,85 @@ pub fn try_take(seat: &mut Seat16, board: &Board, lock: u8) -> Option<Node>
     ensures signs { IfNone result (WantsSigns (view_of seat.new)) }
     ensures records { seat.new.records ≡ seat.old.records }
 {
-    unsign(seat, board);
     if !seat.take_free(board, lock) {
         return None;
     }
     Some(seat.top_node(board, lock))
+}
+
+/// The same of any lock. A blank node stands for that of a lock that guards none.
+#[inline(always)]
+fn take_at_once(seat: &mut Seat16, board: &Board, lock: u32) -> Option<Node>
+    requires seat { IsSettledAt board.now seat.old }
+    requires lock { lock < locks_of board.now }
+    requires lacks { owns (view_of seat.old) lock ≡ false }
+    requires base { WantsBase (view_of seat.old) }
+    requires signs { WantsSigns (view_of seat.old) }
+    ensures seat { IsSettledAt board.now seat.new }
+    ensures some { IfSome result (λ x. HasTaken seat.old.seat.me lock x seat.new.seat.me) }
+    ensures none { IfNone result (HoldsAsBefore seat.old.seat.me seat.new.seat.me) }
+    ensures met { IfNone result ((view_of seat.new).met ≡ (view_of seat.old).met) }
+    ensures once { TriedOnce seat.old.seat.me seat.new.seat.me }
+    ensures tried { IfNone result ((view_of seat.new).glances ≡ 0) }
+    ensures signs { IfNone result (WantsSigns (view_of seat.new)) }
+    ensures records { seat.new.records ≡ seat.old.records }
+{
+    if lock < u32::from(board.size()) {
+        return take_node(seat, board, lock);
+    }
+    if !seat.take_bare(board, lock) {
+        return None;
+    }
+    Some(blank())
+}
+
+/// A node of no graph, whose ports are empty.
+pub(crate) fn blank() -> Node
+    ensures { (size : ℕ) → IsNodeOf size result }
+{
+    Node {
+        value: 0,
+        ports: [None; 8],
+    }
+}
+
+/// Takes a lock if it is free and nobody waits for it, and gives its node. It is the first try of every call that takes
+/// a lock: where it fails the seat may go on to want the lock. Whether the seat holds a lock its caller knows.
+pub fn try_take(seat: &mut Seat16, board: &Board, lock: u32, holds: bool) -> Option<Node>
+    requires seat { IsSettledAt board.now seat.old }
+    requires lock { lock < locks_of board.now }
+    requires lacks { owns (view_of seat.old) lock ≡ false }
+    requires base { WantsBase (view_of seat.old) }
+    requires holds { any_below (length (view_of seat.old).owned) (owns (view_of seat.old)) ≡ holds }
+    ensures seat { IsSettledAt board.now seat.new }
+    ensures some { IfSome result (λ x. HasTaken seat.old.seat.me lock x seat.new.seat.me) }
+    ensures none { IfNone result (HoldsAsBefore seat.old.seat.me seat.new.seat.me) }
+    ensures met { IfNone result ((view_of seat.new).met ≡ (view_of seat.old).met) }
+    ensures once { TriedOnce seat.old.seat.me seat.new.seat.me }
+    ensures tried { IfNone result ((view_of seat.new).glances ≡ 0) }
+    ensures signs { IfNone result (WantsSigns (view_of seat.new)) }
+    ensures records { seat.new.records ≡ seat.old.records }
+{
+    unsign(seat, board, holds);
+    take_at_once(seat, board, lock)
+}
+
+/// The same of a lock that guards a node, as its caller knows.
+pub fn try_take_node(seat: &mut Seat16, board: &Board, lock: u32, holds: bool) -> Option<Node>
+    requires seat { IsSettledAt board.now seat.old }
+    requires lock { lock < size_of board.now }
+    requires lacks { owns (view_of seat.old) lock ≡ false }
+    requires base { WantsBase (view_of seat.old) }
+    requires holds { any_below (length (view_of seat.old).owned) (owns (view_of seat.old)) ≡ holds }
+    ensures seat { IsSettledAt board.now seat.new }
+    ensures some { IfSome result (λ x. HasTaken seat.old.seat.me lock x seat.new.seat.me) }
+    ensures none { IfNone result (HoldsAsBefore seat.old.seat.me seat.new.seat.me) }
+    ensures met { IfNone result ((view_of seat.new).met ≡ (view_of seat.old).met) }
+    ensures once { TriedOnce seat.old.seat.me seat.new.seat.me }
+    ensures tried { IfNone result ((view_of seat.new).glances ≡ 0) }
+    ensures signs { IfNone result (WantsSigns (view_of seat.new)) }
+    ensures records { seat.new.records ≡ seat.old.records }
+{
+    unsign(seat, board, holds);
+    take_node(seat, board, lock)
 }

@@ -1,6 +1,6 @@
 ghost use Rattle.std.specs.Prelude.{◌≡◌, ◌<◌, true, slice_get};
 ghost use Rattle.ww_view.specs.View.{owns};
-ghost use Rattle.ww_table.specs.Seat.{IsSeatOf, size_of, view_of};
+ghost use Rattle.ww_table.specs.Seat.{IsSeatOf, locks_of, size_of, view_of};
 ghost use Rattle.ww_seat.specs.Orderly.{IsSettledAt};
 ghost use Rattle.ww_seat.specs.Calls.{HasGiven};
 ghost use Rattle.ww_seat.specs.Guards.{IsGiving};
@@ -16,9 +16,15 @@ use ww_table::{Board, Seat16};
 /// Gives a lock back that somebody may wait for. The first waiter is woken, whether the lock was handed to it or is
 /// free: a waiter that parks looks only when it is woken.
 #[cold]
-pub fn give_waited<R: Wait>(rt: &R, seat: &mut Seat16, board: &Board, lock: u8, wakers: &[Unparker])
+pub fn give_waited<R: Wait>(
+    rt: &R,
+    seat: &mut Seat16,
+    board: &Board,
+    lock: u32,
+    wakers: &[Unparker],
+)
     requires settled { IsSettledAt board.now seat.old }
-    requires lock { lock < size_of board.now }
+    requires lock { lock < locks_of board.now }
     requires owner { owns (view_of seat.old) lock ≡ true }
     ensures settled { IsSettledAt board.now seat.new }
     ensures given { HasGiven seat.old.seat.me lock seat.new.seat.me }
@@ -31,9 +37,9 @@ pub fn give_waited<R: Wait>(rt: &R, seat: &mut Seat16, board: &Board, lock: u8, 
 
 /// Gives the lock back inside its guard, turn by turn, and tells who was the first waiter then.
 #[cold]
-fn give_inside<R: Wait>(rt: &R, seat: &mut Seat16, board: &Board, lock: u8) -> Option<Entry>
+fn give_inside<R: Wait>(rt: &R, seat: &mut Seat16, board: &Board, lock: u32) -> Option<Entry>
     requires seat { IsSeatOf board.now seat.old }
-    requires lock { lock < size_of board.now }
+    requires lock { lock < locks_of board.now }
     requires giving { IsGiving (size_of board.now) lock seat.old.seat.me }
     ensures settled { IsSettledAt board.now seat.new }
     ensures given { HasGiven seat.old.seat.me lock seat.new.seat.me }

@@ -1,7 +1,7 @@
 //! A wait is called off.
 ghost use Rattle.std.specs.Prelude.{◌≡◌, ◌<◌, Bool, true, false, IfSome, IfNone};
 ghost use Rattle.ww_rule.specs.Cancels.{cancelling, finding_pending};
-ghost use Rattle.ww_table.specs.Seat.{IsSeatOf, size_of, view_of};
+ghost use Rattle.ww_table.specs.Seat.{IsSeatOf, locks_of, size_of, view_of};
 ghost use Rattle.ww_seat.specs.declared.look.Look.TheVariants.{Interrupted};
 ghost use Rattle.ww_seat.specs.Orderly.{IsOrderly, IsSettledAt};
 ghost use Rattle.ww_seat.specs.Looks.{IsLook};
@@ -38,12 +38,12 @@ pub fn cancel(seat: &mut Seat16, board: &Board, victim: u8, wakers: &[Unparker])
 pub(crate) fn stop_if_cancelled(
     seat: &mut Seat16,
     board: &Board,
-    lock: u8,
+    lock: u32,
     seen: Owner,
     heeds: bool,
 ) -> Option<u8>
     requires seat { IsSeatOf board.now seat.old }
-    requires lock { lock < size_of board.now }
+    requires lock { lock < locks_of board.now }
     requires orderly { IsOrderly (size_of board.now) seat.old.seat.me }
     requires work { (l : Bool) × IsWorking lock true l (view_of seat.old) }
     requires seen { SeesOther seen (view_of seat.old) }

@@ -2,7 +2,7 @@
 ghost use Rattle.std.specs.Prelude.{ℕ, suc, ◌≡◌, ◌<◌};
 ghost use Rattle.ww_queue.specs.declared.kind.Kind.TheVariants.{WaitDie};
 ghost use Rattle.ww_view.specs.May.{LivesBySeen};
-ghost use Rattle.ww_table.specs.Seat.{IsSeatOf, size_of, view_of};
+ghost use Rattle.ww_table.specs.Seat.{IsSeatOf, locks_of, size_of, view_of};
 ghost use Rattle.ww_rule.specs.Guards.{exiting};
 ghost use Rattle.ww_seat.specs.Orderly.{IsOrderly};
 ghost use Rattle.ww_seat.specs.Work.{MayGo, IsCleared};
@@ -45,9 +45,9 @@ fn clear_if_signed(seat: &mut Seat16, board: &Board)
 }
 
 /// Leaves the guard. In Wait-Die the seat takes back its own sign first: whoever condemned it was met.
-pub(crate) fn leave(seat: &mut Seat16, board: &Board, lock: u8)
+pub(crate) fn leave(seat: &mut Seat16, board: &Board, lock: u32)
     requires seat { IsSeatOf board.now seat.old }
-    requires lock { lock < size_of board.now }
+    requires lock { lock < locks_of board.now }
     requires orderly { IsOrderly (size_of board.now) seat.old.seat.me }
     requires may { MayGo lock (view_of seat.old) }
     ensures seat { IsSeatOf board.now seat.new }

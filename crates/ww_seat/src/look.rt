@@ -1,6 +1,8 @@
 //! One look at a lock: from just inside its guard to just outside.
-ghost use Rattle.std.specs.Prelude.{ℕ, ◌≡◌, ◌≢◌, ◌<◌, ◌+◌, ◌⊎◌, true, false, Some, None, IfSome, IfNone};
-ghost use Rattle.ww_table.specs.Seat.{IsSeatOf, size_of, view_of};
+ghost use Rattle.std.specs.Prelude.{ℕ, ◌≡◌, ◌≢◌, ◌<◌, ◌+◌, ◌⊎◌, true, false, Some, None, IfSome, IfNone, length};
+ghost use Rattle.ww_model.specs.State.{any_below};
+ghost use Rattle.ww_view.specs.View.{owns};
+ghost use Rattle.ww_table.specs.Seat.{IsSeatOf, locks_of, size_of, view_of};
 ghost use Rattle.ww_seat.specs.Orderly.{IsOrderly};
 ghost use Rattle.ww_seat.specs.Looks.{IsLook, MayLookSo};
 ghost use Rattle.ww_seat.specs.Work.{AreWoken, KeepsMarks, has_joined, looks_again, IsWorking, IsAtWork};
@@ -89,13 +91,15 @@ fn is_ours(seat: &Seat16, seen: Owner) -> bool
 pub fn look_once(
     seat: &mut Seat16,
     board: &Board,
-    lock: u8,
+    lock: u32,
     arrival: &mut Arrival,
     heeds: bool,
+    holds: bool,
     wake: &mut Wake,
 ) -> Option<Look>
+    requires holds { any_below (length (view_of seat.old).owned) (owns (view_of seat.old)) ≡ holds }
     requires seat { IsSeatOf board.now seat.old }
-    requires lock { lock < size_of board.now }
+    requires lock { lock < locks_of board.now }
     requires orderly { IsOrderly (size_of board.now) seat.old.seat.me }
     requires work { IsWorking lock (has_joined arrival.old) (looks_again arrival.old) (view_of seat.old) }
     requires woken { AreWoken (view_of seat.old) wake.old.seats }
@@ -117,7 +121,7 @@ pub fn look_once(
             None => None,
         };
     }
-    let word = stand(seat, board, lock, seen, *arrival)?;
+    let word = stand(seat, board, lock, seen, *arrival, holds)?;
     *arrival = arrival.joining();
     if let Some(by) = stop_if_cancelled(seat, board, lock, word, heeds) {
         return Some(Look::Interrupted(by));
@@ -131,13 +135,15 @@ pub(crate) fn look_at<R: Wait>(
     rt: &R,
     seat: &mut Seat16,
     board: &Board,
-    lock: u8,
+    lock: u32,
     arrival: Arrival,
     heeds: bool,
+    holds: bool,
     wake: &mut Wake,
 ) -> Look
+    requires holds { any_below (length (view_of seat.old).owned) (owns (view_of seat.old)) ≡ holds }
     requires seat { IsSeatOf board.now seat.old }
-    requires lock { lock < size_of board.now }
+    requires lock { lock < locks_of board.now }
     requires orderly { IsOrderly (size_of board.now) seat.old.seat.me }
     requires work { IsWorking lock (has_joined arrival) (looks_again arrival) (view_of seat.old) }
     requires woken { AreWoken (view_of seat.old) wake.old.seats }
@@ -150,7 +156,7 @@ pub(crate) fn look_at<R: Wait>(
 {
     let mut arrival = arrival;
     for _ in rt.forever() {
-        match look_once(seat, board, lock, &mut arrival, heeds, wake) {
+        match look_once(seat, board, lock, &mut arrival, heeds, holds, wake) {
             Some(look) => return look,
             None => {}
         }

@@ -1,17 +1,10 @@
 //! How a pass waits for locks.
 
+use crate::resting::{Memory, Rest, Stay};
 use crossbeam_utils::Backoff as Pause;
 use crossbeam_utils::sync::Parker;
 use std::sync::Wait;
-
-/// The fewest pauses between two glances.
-const FEWEST: u32 = 8;
-
-/// At most so many doublings of that, for a pass that keeps losing its first tries.
-const MOST_LOSSES: u32 = 10;
-
-/// After so many first tries that won, one that was lost is forgotten.
-const CALM: u32 = 128;
+use ww_word::Owner;
 
 /// How many rounds a waiter gives the owner before it sleeps.
 const ROUNDS: u32 = 11;
@@ -29,20 +22,19 @@ pub struct Waited {
     pub back_offs: u64,
 }
 
-/// What a pass waits with: the parker that it sleeps on, and what it remembers of its first tries, by which it stays
-/// away from a lock that it has just lost. No contract speaks of it.
+/// What a pass waits with: the parker that it sleeps on, and what it remembers of its first tries. No contract speaks
+/// of it.
 #[derive(Drop)]
 pub struct Patience {
     /// Only the pass's own thread parks on it.
     parker: Parker,
-    /// Grows with each first try that is lost to an owner who is quick, and shrinks again where they win.
-    losses: u32,
-    /// The first tries that won since `losses` last shrank.
-    wins: u32,
+    memory: Memory,
     waited: Waited,
 }
 
 impl Patience {
+    ghost use Rattle.std.specs.Prelude.{◌≡◌, ◌<◌, ◌≤◌, ◌+◌, None, IfSome};
+
     pub fn new(parker: Parker) -> Patience {
         let waited = Waited {
             lost: 0,
@@ -52,8 +44,7 @@ impl Patience {
         };
         Patience {
             parker,
-            losses: 0,
-            wins: 0,
+            memory: Memory::new(),
             waited,
         }
     }
@@ -65,35 +56,22 @@ impl Patience {
     /// A first try has won.
     #[inline]
     pub fn win(&mut self) {
-        if self.losses > 0 {
-            self.calm_down();
-        }
+        self.memory.win();
     }
 
-    #[cold]
-    fn calm_down(&mut self) {
-        self.wins = self.wins.saturating_add(1);
-        if self.wins >= CALM {
-            self.wins = 0;
-            self.losses = self.losses.saturating_sub(1);
-        }
-    }
-
-    /// A first try has lost, to an owner who is done in a moment.
+    /// A first try has lost.
     pub(crate) fn lose(&mut self) {
         self.waited.lost = self.waited.lost.saturating_add(1);
-        self.losses = MOST_LOSSES.min(self.losses.saturating_add(1));
     }
 
-    /// A first try has lost, to an owner who works longer: who waits for that had better sleep.
-    pub(crate) fn lose_to_work(&mut self) {
-        self.waited.lost = self.waited.lost.saturating_add(1);
-        self.losses = self.losses.saturating_sub(1);
-    }
-
-    /// How many pauses come between the first two glances.
-    pub(crate) fn pauses(&self) -> u32 {
-        FEWEST << self.losses.min(MOST_LOSSES)
+    /// What a call that stays away does after a glance that saw this owner.
+    pub(crate) fn next(&mut self, stay: &mut Stay, owner: Owner) -> Option<Rest>
+        requires { 1 ≤ stay.old.glances }
+        ensures fewer { stay.new.glances < stay.old.glances }
+        ensures left { IfSome result (λ _. 1 ≤ stay.new.glances) }
+        ensures pauses { IfSome result (λ rest. stay.new.pauses + rest.pauses ≡ stay.old.pauses) }
+    {
+        stay.next(&mut self.memory, owner)
     }
 
     /// A lock is about to be looked at.

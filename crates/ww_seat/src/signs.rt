@@ -2,7 +2,7 @@
 ghost use Rattle.std.specs.Prelude.{suc, ◌≡◌, ◌<◌, Bool, Some, true, IfSome, IfNone};
 ghost use Rattle.ww_word.specs.Owner.{IsValid};
 ghost use Rattle.ww_view.specs.May.{MayDie};
-ghost use Rattle.ww_table.specs.Seat.{IsSeatOf, size_of, view_of};
+ghost use Rattle.ww_table.specs.Seat.{IsSeatOf, locks_of, size_of, view_of};
 ghost use Rattle.ww_rule.specs.Guards.{AreSeats};
 ghost use Rattle.ww_seat.specs.Orderly.{IsOrderly};
 ghost use Rattle.ww_seat.specs.Work.{AreWoken, KeepsMarks, HasSigned, IsTold, IsWorking, SeesOther, MayStay};
@@ -14,9 +14,9 @@ use ww_word::Owner;
 
 /// Sets all signs that the seat owes by the word it saw. The seats that this call condemned have to be woken by it; a
 /// seat that was signed before is woken by whoever signed it.
-pub(crate) fn sign_all(seat: &mut Seat16, board: &Board, lock: u8, seen: Owner, wake: &mut Wake)
+pub(crate) fn sign_all(seat: &mut Seat16, board: &Board, lock: u32, seen: Owner, wake: &mut Wake)
     requires seat { IsSeatOf board.now seat.old }
-    requires lock { lock < size_of board.now }
+    requires lock { lock < locks_of board.now }
     requires orderly { IsOrderly (size_of board.now) seat.old.seat.me }
     requires inside { (view_of seat.old).inside ≡ suc lock }
     requires seats { AreSeats (view_of seat.old).list }
@@ -39,9 +39,9 @@ pub(crate) fn sign_all(seat: &mut Seat16, board: &Board, lock: u8, seen: Owner, 
 }
 
 /// The stamp for which the seat has to die. In Wound-Wait it looks for its sign only where a sign would make it die.
-pub(crate) fn death(seat: &mut Seat16, board: &Board, lock: u8, seen: Owner) -> Option<u64>
+pub(crate) fn death(seat: &mut Seat16, board: &Board, lock: u32, seen: Owner) -> Option<u64>
     requires seat { IsSeatOf board.now seat.old }
-    requires lock { lock < size_of board.now }
+    requires lock { lock < locks_of board.now }
     requires orderly { IsOrderly (size_of board.now) seat.old.seat.me }
     requires work { (l : Bool) × IsWorking lock true l (view_of seat.old) }
     requires seen { SeesOther seen (view_of seat.old) }

@@ -1,8 +1,10 @@
 //! The lock is another's: the seat stands in its wait list, asks for it, and stays or dies there.
-ghost use Rattle.std.specs.Prelude.{ℕ, ◌≡◌, ◌≢◌, ◌<◌, Bool, true, false, Some, None, IfSome, IfNone};
+ghost use Rattle.std.specs.Prelude.{ℕ, ◌≡◌, ◌≢◌, ◌<◌, Bool, true, false, Some, None, IfSome, IfNone, length};
+ghost use Rattle.ww_model.specs.State.{any_below};
+ghost use Rattle.ww_view.specs.View.{owns};
 ghost use Rattle.ww_word.specs.Owner.{IsValid};
 ghost use Rattle.ww_view.specs.May.{MayDie};
-ghost use Rattle.ww_table.specs.Seat.{IsSeatOf, size_of, view_of};
+ghost use Rattle.ww_table.specs.Seat.{IsSeatOf, locks_of, size_of, view_of};
 ghost use Rattle.ww_seat.specs.declared.look.Look.TheVariants.{Deadlk};
 ghost use Rattle.ww_seat.specs.Orderly.{IsOrderly};
 ghost use Rattle.ww_seat.specs.Looks.{IsLook, MayLookSo};
@@ -20,14 +22,16 @@ use ww_word::{HANDOFF, Owner, WAITERS};
 pub(crate) fn stand(
     seat: &mut Seat16,
     board: &Board,
-    lock: u8,
+    lock: u32,
     seen: Owner,
     arrival: Arrival,
+    holds: bool,
 ) -> Option<Owner>
     requires seat { IsSeatOf board.now seat.old }
-    requires lock { lock < size_of board.now }
+    requires lock { lock < locks_of board.now }
     requires orderly { IsOrderly (size_of board.now) seat.old.seat.me }
     requires work { (l : Bool) × IsWorking lock (has_joined arrival) l (view_of seat.old) }
+    requires holds { any_below (length (view_of seat.old).owned) (owns (view_of seat.old)) ≡ holds }
     requires seen { SeesOther seen (view_of seat.old) }
     ensures seat { IsSeatOf board.now seat.new }
     ensures records { seat.new.records ≡ seat.old.records }
@@ -38,7 +42,7 @@ pub(crate) fn stand(
     if arrival.has_joined() {
         return Some(seen);
     }
-    if !seat.join(board, lock, seen) {
+    if !seat.join(board, lock, seen, holds) {
         return None;
     }
     Some(seen.with_waiters())
@@ -49,12 +53,12 @@ pub(crate) fn stand(
 fn ask_if_first(
     seat: &mut Seat16,
     board: &Board,
-    lock: u8,
+    lock: u32,
     seen: Owner,
     arrival: Arrival,
 ) -> Option<Owner>
     requires seat { IsSeatOf board.now seat.old }
-    requires lock { lock < size_of board.now }
+    requires lock { lock < locks_of board.now }
     requires orderly { IsOrderly (size_of board.now) seat.old.seat.me }
     requires work { IsWorking lock true (looks_again arrival) (view_of seat.old) }
     requires seen { SeesOther seen (view_of seat.old) }
@@ -84,9 +88,9 @@ fn ask_if_first(
 }
 
 /// Leaves the wait list and the guard, as the context has to back off, if the owner word is still the one seen.
-fn back_off(seat: &mut Seat16, board: &Board, lock: u8, seen: Owner) -> bool
+fn back_off(seat: &mut Seat16, board: &Board, lock: u32, seen: Owner) -> bool
     requires seat { IsSeatOf board.now seat.old }
-    requires lock { lock < size_of board.now }
+    requires lock { lock < locks_of board.now }
     requires orderly { IsOrderly (size_of board.now) seat.old.seat.me }
     requires work { (l : Bool) × IsWorking lock true l (view_of seat.old) }
     requires valid { IsValid seen }
@@ -110,13 +114,13 @@ fn back_off(seat: &mut Seat16, board: &Board, lock: u8, seen: Owner) -> bool
 pub(crate) fn stay_or_back_off(
     seat: &mut Seat16,
     board: &Board,
-    lock: u8,
+    lock: u32,
     seen: Owner,
     arrival: Arrival,
     wake: &mut Wake,
 ) -> Option<Look>
     requires seat { IsSeatOf board.now seat.old }
-    requires lock { lock < size_of board.now }
+    requires lock { lock < locks_of board.now }
     requires orderly { IsOrderly (size_of board.now) seat.old.seat.me }
     requires work { IsWorking lock true (looks_again arrival) (view_of seat.old) }
     requires seen { SeesOther seen (view_of seat.old) }

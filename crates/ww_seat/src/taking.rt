@@ -1,8 +1,13 @@
 //! Taking a lock that is free or was handed to the seat.
-ghost use Rattle.std.specs.Prelude.{◌≡◌, ◌<◌, ◌⊎◌, Bool, true, Some, None, IfSome, IfNone};
+ghost use Rattle.std.specs.Prelude.{ℕ, ◌≡◌, ◌<◌, ◌≤◌, ◌⊎◌, Bool, true, false, Some, None, IfSome, IfNone};
+ghost use lib.ListN.{get_elem?};
+ghost use mathlib.Core.Option.{some};
 ghost use Rattle.ww_word.specs.Owner.{IsValid, is_handed};
+ghost use Rattle.ww_plain.specs.declared.node.Node.{Node};
+ghost use Rattle.ww_plain.specs.Graph.{IsNodeOf};
+ghost use Rattle.ww_view.specs.View.{owns};
 ghost use Rattle.ww_view.specs.Word.{taken_word};
-ghost use Rattle.ww_table.specs.Seat.{IsSeatOf, size_of, view_of};
+ghost use Rattle.ww_table.specs.Seat.{IsSeatOf, locks_of, size_of, view_of};
 ghost use Rattle.ww_rule.specs.Waiting.{HasListOnTop};
 ghost use Rattle.ww_rule.specs.Layout.{list_at};
 ghost use Rattle.ww_rule.specs.Out.{slot_of};
@@ -10,8 +15,9 @@ ghost use Rattle.ww_rule.specs.declared.cells.Cell.TheVariants.{Line};
 ghost use Rattle.ww_seat.specs.declared.look.Look.TheVariants.{Locked};
 ghost use Rattle.ww_seat.specs.Orderly.{IsOrderly};
 ghost use Rattle.ww_seat.specs.Looks.{IsLook};
-ghost use Rattle.ww_seat.specs.Work.{AreWoken, KeepsMarks, IsTouched, IsWorking};
+ghost use Rattle.ww_seat.specs.Work.{AreWoken, KeepsMarks, HasTakenInside, IsTouched, IsWorking};
 
+use crate::fast::blank;
 use crate::leaving::leave;
 use crate::signs::sign_all;
 use crate::wake::Wake;
@@ -20,9 +26,9 @@ use ww_table::{Board, Seat16};
 use ww_word::{Owner, WAITERS};
 
 /// The owner word of a lock that this seat took, with the wait list as it is.
-fn own_word(seat: &mut Seat16, board: &Board, lock: u8) -> Owner
+fn own_word(seat: &mut Seat16, board: &Board, lock: u32) -> Owner
     requires seat { IsSeatOf board.now seat.old }
-    requires lock { lock < size_of board.now }
+    requires lock { lock < locks_of board.now }
     requires list { slot_of seat.old.seat.me.1 (list_at lock) ≡ Some (Line (view_of seat.old).list) }
     ensures seat { IsSeatOf board.now seat.new }
     ensures records { seat.new.records ≡ seat.old.records }
@@ -41,16 +47,55 @@ fn own_word(seat: &mut Seat16, board: &Board, lock: u8) -> Owner
     }
 }
 
+/// Takes the lock, if its owner word is still the one seen. The seat is inside the guard still.
+fn take_seen(seat: &mut Seat16, board: &Board, lock: u32, seen: Owner) -> bool
+    requires seat { IsSeatOf board.now seat.old }
+    requires lock { lock < locks_of board.now }
+    requires orderly { IsOrderly (size_of board.now) seat.old.seat.me }
+    requires work { (s l : Bool) × IsWorking lock s l (view_of seat.old) }
+    requires valid { IsValid seen }
+    requires free { (seen.seat ≡ None) ⊎ ((seen.seat ≡ Some (view_of seat.old).who) × (is_handed seen ≡ true)) }
+    ensures seat { IsSeatOf board.now seat.new }
+    ensures records { seat.new.records ≡ seat.old.records }
+    ensures took { result ≡ true → (x : Node) × HasTakenInside (size_of board.now) lock seat.old.seat.me x seat.new.seat.me }
+    ensures lost { result ≡ false → IsTouched (size_of board.now) seat.old.seat.me seat.new.seat.me }
+{
+    if lock < u32::from(board.size()) {
+        seat.take(board, lock, seen)
+    } else {
+        seat.take_bare_inside(board, lock, seen)
+    }
+}
+
+/// The node of a lock that the seat owns; a blank one where the lock guards none.
+fn node_or_blank(seat: &mut Seat16, board: &Board, lock: u32) -> Node
+    requires seat { IsSeatOf board.now seat.old }
+    requires orderly { IsOrderly (size_of board.now) seat.old.seat.me }
+    requires owner { lock < size_of board.now → owns (view_of seat.old) lock ≡ true }
+    ensures seat { IsSeatOf board.now seat.new }
+    ensures records { seat.new.records ≡ seat.old.records }
+    ensures orderly { IsOrderly (size_of board.now) seat.new.seat.me }
+    ensures view { seat.new.seat.me.0 ≡ seat.old.seat.me.0 }
+    ensures node { lock < size_of board.now → get_elem? seat.old.seat.me.0.held lock ≡ some (Some result) }
+    ensures blank { size_of board.now ≤ lock → (size : ℕ) → IsNodeOf size result }
+{
+    if lock < u32::from(board.size()) {
+        seat.node(board, lock)
+    } else {
+        blank()
+    }
+}
+
 /// Takes the lock, if its owner word is still the one seen, gives the signs that its owner owes, and leaves the guard.
 pub(crate) fn take_inside(
     seat: &mut Seat16,
     board: &Board,
-    lock: u8,
+    lock: u32,
     seen: Owner,
     wake: &mut Wake,
 ) -> Option<Node>
     requires seat { IsSeatOf board.now seat.old }
-    requires lock { lock < size_of board.now }
+    requires lock { lock < locks_of board.now }
     requires orderly { IsOrderly (size_of board.now) seat.old.seat.me }
     requires work { (s l : Bool) × IsWorking lock s l (view_of seat.old) }
     requires valid { IsValid seen }
@@ -65,11 +110,11 @@ pub(crate) fn take_inside(
     ensures woken { AreWoken (view_of seat.new) wake.new.seats }
     ensures kept { KeepsMarks wake.old.seats wake.new.seats }
 {
-    if !seat.take(board, lock, seen) {
+    if !take_seen(seat, board, lock, seen) {
         return None;
     }
     let word = own_word(seat, board, lock);
     sign_all(seat, board, lock, word, wake);
     leave(seat, board, lock);
-    Some(seat.node(board, lock))
+    Some(node_or_blank(seat, board, lock))
 }

@@ -2,23 +2,25 @@
 //! these turns; others make the turns themselves, and wait between them as they like.
 ghost use Rattle.std.specs.Prelude.{◌≡◌, ◌<◌, ◌+◌, ◌==◌, [], not, true, false, slice_get, IfSome, IfNone};
 ghost use Rattle.std.specs.Option.{option_map};
+ghost use Rattle.ww_word.specs.Owner.{IsValid};
 ghost use Rattle.ww_queue.specs.declared.entry.Entry.{Entry};
 ghost use Rattle.ww_view.specs.View.{owns};
 ghost use Rattle.ww_rule.specs.Cancels.{cancelling, finding_pending};
-ghost use Rattle.ww_table.specs.Seat.{IsSeatOf, size_of, view_of};
+ghost use Rattle.ww_table.specs.Seat.{IsSeatOf, locks_of, size_of, view_of};
 ghost use Rattle.ww_seat.specs.Orderly.{IsSettledAt};
 ghost use Rattle.ww_seat.specs.Calls.{HasGiven};
-ghost use Rattle.ww_seat.specs.Guards.{IsGiving, IsStill};
+ghost use Rattle.ww_seat.specs.Guards.{HasLet, IsGiving, IsStill};
 ghost use Rattle.ww_seat.specs.Looks.{IsOutside};
 ghost use Rattle.ww_seat.specs.Work.{IsAtWork};
 
 use ww_queue::Entry;
 use ww_table::{Board, Seat16};
+use ww_word::Owner;
 
 /// One try to go inside the guard of a lock that the seat wants.
-pub fn enter_wanted(seat: &mut Seat16, board: &Board, lock: u8) -> bool
+pub fn enter_wanted(seat: &mut Seat16, board: &Board, lock: u32) -> bool
     requires seat { IsSeatOf board.now seat.old }
-    requires lock { lock < size_of board.now }
+    requires lock { lock < locks_of board.now }
     requires outside { IsOutside (size_of board.now) lock seat.old.seat.me }
     ensures seat { IsSeatOf board.now seat.new }
     ensures inside { result ≡ true → IsAtWork (size_of board.now) lock seat.old.seat.me (not ((view_of seat.old).waits == 0)) (not ((view_of seat.old).waits == 0)) seat.new.seat.me }
@@ -32,8 +34,8 @@ pub fn enter_wanted(seat: &mut Seat16, board: &Board, lock: u8) -> bool
     seat.enter(board, lock)
 }
 
-/// One try to give a lock back at once, which only an empty wait list allows.
-pub fn give_at_once(seat: &mut Seat16, board: &Board, lock: u8) -> bool
+/// One try to give a lock back at once that guards a node.
+pub fn give_node_at_once(seat: &mut Seat16, board: &Board, lock: u32) -> bool
     requires settled { IsSettledAt board.now seat.old }
     requires lock { lock < size_of board.now }
     requires owner { owns (view_of seat.old) lock ≡ true }
@@ -47,10 +49,29 @@ pub fn give_at_once(seat: &mut Seat16, board: &Board, lock: u8) -> bool
     seat.give_free(board, lock)
 }
 
-/// One try to go inside the guard of a lock that the seat owns.
-pub fn enter_owned(seat: &mut Seat16, board: &Board, lock: u8) -> bool
+/// One try to give a lock back at once, which only an empty wait list allows.
+pub fn give_at_once(seat: &mut Seat16, board: &Board, lock: u32) -> bool
     requires settled { IsSettledAt board.now seat.old }
-    requires lock { lock < size_of board.now }
+    requires lock { lock < locks_of board.now }
+    requires owner { owns (view_of seat.old) lock ≡ true }
+    ensures settled { IsSettledAt board.now seat.new }
+    ensures given { result ≡ true → HasGiven seat.old.seat.me lock seat.new.seat.me }
+    ensures still { result ≡ false → IsStill seat.old.seat.me seat.new.seat.me }
+    ensures kept { result ≡ false → (view_of seat.new).kept ≡ (view_of seat.old).kept + 1 }
+    ensures gone { result ≡ true → (view_of seat.new).kept ≡ (view_of seat.old).kept }
+    ensures records { seat.new.records ≡ seat.old.records }
+{
+    if lock < u32::from(board.size()) {
+        give_node_at_once(seat, board, lock)
+    } else {
+        seat.give_bare(board, lock)
+    }
+}
+
+/// One try to go inside the guard of a lock that the seat owns.
+pub fn enter_owned(seat: &mut Seat16, board: &Board, lock: u32) -> bool
+    requires settled { IsSettledAt board.now seat.old }
+    requires lock { lock < locks_of board.now }
     requires owner { owns (view_of seat.old) lock ≡ true }
     ensures seat { IsSeatOf board.now seat.new }
     ensures giving { result ≡ true → IsGiving (size_of board.now) lock seat.new.seat.me }
@@ -62,10 +83,31 @@ pub fn enter_owned(seat: &mut Seat16, board: &Board, lock: u8) -> bool
     seat.enter(board, lock)
 }
 
-/// One try to give the lock back inside its guard, and to leave: then it tells the first waiter, who is to be woken.
-pub fn give_on(seat: &mut Seat16, board: &Board, lock: u8) -> Option<Option<Entry>>
+/// Gives the lock back, if its owner word is still the one seen. The seat is inside the guard still.
+fn give_seen(seat: &mut Seat16, board: &Board, lock: u32, seen: Owner) -> bool
     requires seat { IsSeatOf board.now seat.old }
-    requires lock { lock < size_of board.now }
+    requires lock { lock < locks_of board.now }
+    requires giving { IsGiving (size_of board.now) lock seat.old.seat.me }
+    requires valid { IsValid seen }
+    ensures seat { IsSeatOf board.now seat.new }
+    ensures records { seat.new.records ≡ seat.old.records }
+    ensures gave { result ≡ true → HasLet (size_of board.now) lock seat.old.seat.me seat.new.seat.me }
+    ensures kept { result ≡ false → IsGiving (size_of board.now) lock seat.new.seat.me }
+    ensures still { result ≡ false → IsStill seat.old.seat.me seat.new.seat.me }
+    ensures list { result ≡ false → (view_of seat.new).list ≡ (view_of seat.old).list }
+    ensures attempts { (view_of seat.new).attempts ≡ (view_of seat.old).attempts }
+{
+    if lock < u32::from(board.size()) {
+        seat.give(board, lock, seen)
+    } else {
+        seat.give_bare_inside(board, lock, seen)
+    }
+}
+
+/// One try to give the lock back inside its guard, and to leave: then it tells the first waiter, who is to be woken.
+pub fn give_on(seat: &mut Seat16, board: &Board, lock: u32) -> Option<Option<Entry>>
+    requires seat { IsSeatOf board.now seat.old }
+    requires lock { lock < locks_of board.now }
     requires giving { IsGiving (size_of board.now) lock seat.old.seat.me }
     ensures seat { IsSeatOf board.now seat.new }
     ensures settled { IfSome result (λ _. IsSettledAt board.now seat.new) }
@@ -80,7 +122,7 @@ pub fn give_on(seat: &mut Seat16, board: &Board, lock: u8) -> Option<Option<Entr
 {
     let seen = seat.look(board, lock);
     let first = seat.first(board, lock);
-    if !seat.give(board, lock, seen) {
+    if !give_seen(seat, board, lock, seen) {
         return None;
     }
     seat.exit(board, lock);

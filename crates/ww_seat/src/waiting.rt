@@ -1,7 +1,8 @@
-ghost use Rattle.std.specs.Prelude.{◌≡◌, ◌<◌, ◌==◌, not, false, IfOk, IfErr};
+ghost use Rattle.std.specs.Prelude.{◌≡◌, ◌<◌, ◌==◌, not, false, IfOk, IfErr, length};
+ghost use Rattle.ww_model.specs.State.{any_below};
 ghost use Rattle.ww_view.specs.View.{owns};
 ghost use Rattle.ww_view.specs.May.{WantsBase, WantsSigns};
-ghost use Rattle.ww_table.specs.Seat.{IsSeatOf, size_of, view_of};
+ghost use Rattle.ww_table.specs.Seat.{IsSeatOf, locks_of, size_of, view_of};
 ghost use Rattle.ww_seat.specs.Orderly.{IsSettledAt};
 ghost use Rattle.ww_seat.specs.Calls.{HasTaken, IsTurnedAway, MayStop};
 ghost use Rattle.ww_seat.specs.Looks.{IsOutside, IsLook, MayLookSo};
@@ -34,13 +35,15 @@ pub fn wait_for<R: Wait>(
     rt: &R,
     seat: &mut Seat16,
     board: &Board,
-    lock: u8,
+    lock: u32,
     heeds: bool,
+    holds: bool,
     patience: &mut Patience,
     wakers: &[Unparker],
 ) -> Result<Node, Stop>
+    requires holds { any_below (length (view_of seat.old).owned) (owns (view_of seat.old)) ≡ holds }
     requires settled { IsSettledAt board.now seat.old }
-    requires lock { lock < size_of board.now }
+    requires lock { lock < locks_of board.now }
     requires lacks { owns (view_of seat.old) lock ≡ false }
     requires base { WantsBase (view_of seat.old) }
     requires signs { WantsSigns (view_of seat.old) }
@@ -52,8 +55,8 @@ pub fn wait_for<R: Wait>(
     ensures tries { (view_of seat.new).tries ≡ (view_of seat.old).tries }
     ensures records { seat.new.records ≡ seat.old.records }
 {
-    stay_away(seat, board, lock, patience);
-    wait(rt, seat, board, lock, heeds, patience, wakers)
+    stay_away(seat, board, lock, holds, patience);
+    wait(rt, seat, board, lock, heeds, holds, patience, wakers)
 }
 
 /// Waits for a lock: it looks, and sleeps, until a look ends its waiting. It reads no word outside the guard, and its
@@ -62,13 +65,15 @@ fn wait<R: Wait>(
     rt: &R,
     seat: &mut Seat16,
     board: &Board,
-    lock: u8,
+    lock: u32,
     heeds: bool,
+    holds: bool,
     patience: &mut Patience,
     wakers: &[Unparker],
 ) -> Result<Node, Stop>
+    requires holds { any_below (length (view_of seat.old).owned) (owns (view_of seat.old)) ≡ holds }
     requires seat { IsSeatOf board.now seat.old }
-    requires lock { lock < size_of board.now }
+    requires lock { lock < locks_of board.now }
     requires outside { IsOutside (size_of board.now) lock seat.old.seat.me }
     requires away { (view_of seat.old).waits ≡ 0 }
     ensures settled { IsSettledAt board.now seat.new }
@@ -81,7 +86,7 @@ fn wait<R: Wait>(
     let mut arrival = Arrival::Came;
     for _ in rt.forever() {
         patience.look();
-        match visit(rt, seat, board, lock, arrival, heeds, wakers) {
+        match visit(rt, seat, board, lock, arrival, heeds, holds, wakers) {
             Look::Locked(node) => return Ok(node),
             Look::Deadlk(met) => {
                 patience.back_off();
@@ -102,13 +107,15 @@ pub fn visit<R: Wait>(
     rt: &R,
     seat: &mut Seat16,
     board: &Board,
-    lock: u8,
+    lock: u32,
     arrival: Arrival,
     heeds: bool,
+    holds: bool,
     wakers: &[Unparker],
 ) -> Look
+    requires holds { any_below (length (view_of seat.old).owned) (owns (view_of seat.old)) ≡ holds }
     requires seat { IsSeatOf board.now seat.old }
-    requires lock { lock < size_of board.now }
+    requires lock { lock < locks_of board.now }
     requires outside { IsOutside (size_of board.now) lock seat.old.seat.me }
     requires arrival { ComesOutside arrival (view_of seat.old) }
     ensures seat { IsSeatOf board.now seat.new }
@@ -119,7 +126,7 @@ pub fn visit<R: Wait>(
 {
     spin_into_wanted(rt, seat, board, lock);
     let mut wake = Wake::new();
-    let look = look_at(rt, seat, board, lock, arrival, heeds, &mut wake);
+    let look = look_at(rt, seat, board, lock, arrival, heeds, holds, &mut wake);
     wake.deliver(wakers);
     look
 }

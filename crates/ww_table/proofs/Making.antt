@@ -1,5 +1,5 @@
 -- Making a table: its slots, and its seats one after another.
-use Rattle.std.proofs.Common.{refl, ◌≡◌, ℕ, suc, ◌+◌, ◌-◌, ◌<◌, ◌≤◌, ◌^◌, List, [], ◌∷◌, ◌++◌, length, sym, ap, ◌∙◌, subst, ⊎_elim, arith, Some, None, replicate, length-append, zero, inl, inr}
+use Rattle.std.proofs.Common.{refl, ◌≡◌, ℕ, suc, ◌+◌, ◌-◌, ◌*◌, ◌<◌, ◌≤◌, ◌^◌, List, [], ◌∷◌, ◌++◌, length, sym, ap, ◌∙◌, subst, ⊎_elim, arith, Some, None, replicate, length-append, zero, inl, inr}
 use mathlib.Core.Option.{some}
 use mathlib.Core.Option as maybe
 use lib.ListN.{get_elem?, length-replicate}
@@ -28,7 +28,7 @@ use Rattle.ww_model.specs.State.{start}
 use Rattle.ww_view.specs.View.{IsBare}
 use Rattle.ww_rule.proofs.Seats.{opens, opens_start, splits, at_end, bare_first}
 
-pub new_seat : (table : TableId) (key : Start) (k : ℕ) (s : Seat16) → s.seat.table_id ≡ table → s.seat.me ≡ (seat_of (length (first_graph key)) (first_part key.kind k), []) → s.kind ≡ key.kind → s.who ≡ k → k < 16 → s.stamp ≡ 0 → s.own ≡ packed (record { seat = Some s.who; stamp = s.stamp; flags = 0 }) → s.order.items ≡ [] → s.records.items ≡ [] → IsNew table key k s
+pub new_seat : (table : TableId) (key : Start) (k : ℕ) (s : Seat16) → s.seat.table_id ≡ table → s.seat.me ≡ (seat_of (length (first_graph key)) (first_part key.kind key.locks k), []) → s.kind ≡ key.kind → s.who ≡ k → k < 16 → s.stamp ≡ 0 → s.own ≡ packed (record { seat = Some s.who; stamp = s.stamp; flags = 0 }) → s.order.items ≡ [] → s.records.items ≡ [] → IsNew table key k s
 new_seat table key k s home me kind who few stamp own order records = record {
   seated = record {
     home = home;
@@ -55,32 +55,32 @@ news_more table key n seats s are new = record {
 }
 
 -- the idle numbers of the first seat begin with the next
-next_idle : (key : Start) (k : ℕ) → k < key.seats - 1 → (less key k).idle ≡ first_part key.kind k ∷ (less key (k + 1)).idle
-next_idle key k more = ap (first_parts key.kind k) (let z : key.seats - 1 - k ≡ suc (key.seats - 1 - (k + 1)) = omega arith in z)
+next_idle : (key : Start) (k : ℕ) → k < key.seats - 1 → (less key k).idle ≡ first_part key.kind key.locks k ∷ (less key (k + 1)).idle
+next_idle key k more = ap (first_parts key.kind key.locks k) (let z : key.seats - 1 - k ≡ suc (key.seats - 1 - (k + 1)) = omega arith in z)
 
 pub next_splits : (key : Start) (id k : ℕ) (v : Sight) → v ≡ less key k → k < key.seats - 1 → Splits (Ruled key) id v (without_first v) (first_seat (length v.held) v.idle)
-next_splits key id k v is more = splits key id v (first_part key.kind k) (less key (k + 1)).idle (ap (λ (w : Sight). w.seated) is) (ap (λ (w : Sight). w.idle) is ∙ next_idle key k more)
+next_splits key id k v is more = splits key id v (first_part key.kind key.locks k) (less key (k + 1)).idle (ap (λ (w : Sight). w.seated) is) (ap (λ (w : Sight). w.idle) is ∙ next_idle key k more)
 
 pub next_left : (key : Start) (k : ℕ) (v : Sight) → v ≡ less key k → k < key.seats - 1 → without_first v ≡ less key (k + 1)
 next_left key k v is more = ap without_first is ∙ ap (λ (l : List Part). let w : Sight = record (first_sight key) { idle = rest_of l } in w) (next_idle key k more)
 
-pub next_cut : (key : Start) (k : ℕ) (v : Sight) → v ≡ less key k → k < key.seats - 1 → first_seat (length v.held) v.idle ≡ seat_of (length (first_graph key)) (first_part key.kind k)
+pub next_cut : (key : Start) (k : ℕ) (v : Sight) → v ≡ less key k → k < key.seats - 1 → first_seat (length v.held) v.idle ≡ seat_of (length (first_graph key)) (first_part key.kind key.locks k)
 next_cut key k v is more = ap (λ (w : Sight). first_seat (length w.held) w.idle) is ∙ ap (first_seat (length (less key k).held)) (next_idle key k more)
-    ∙ ap (λ (n : ℕ). seat_of n (first_part key.kind k)) (length-replicate {A = _} (length (first_graph key)) None)
+    ∙ ap (λ (n : ℕ). seat_of n (first_part key.kind key.locks k)) (length-replicate {A = _} (length (first_graph key)) None)
 
 -- with all numbers but the last cut off, the first seat is that of the last
-pub last_left : (key : Start) (k : ℕ) → k ≡ key.seats - 1 → less key k ≡ seat_of (length (first_graph key)) (first_part key.kind k)
-last_left key k is = (λ i. record (first_sight key) { part = first_part key.kind (sym is i); idle = first_parts key.kind k ((let z : key.seats - 1 - k ≡ 0 = omega arith in z) i) })
+pub last_left : (key : Start) (k : ℕ) → k ≡ key.seats - 1 → less key k ≡ seat_of (length (first_graph key)) (first_part key.kind key.locks k)
+last_left key k is = (λ i. record (first_sight key) { part = first_part key.kind key.locks (sym is i); idle = first_parts key.kind key.locks k ((let z : key.seats - 1 - k ≡ 0 = omega arith in z) i) })
 
-pub opens_made : (key : Start) (graph : List Node) (slots : List Cell) → first_graph key ≡ graph → 1 ≤ key.seats → key.seats ≤ 16 → IsGraph graph → AreSlots graph 128 slots → Ruled key (opening (replicate 656 0) slots (first_sight key))
-opens_made key graph slots same one few is are = opens key one (omega arith) (subst IsGraph (sym same) is) slots are.many
+pub opens_made : (key : Start) (graph : List Node) (slots : List Cell) → first_graph key ≡ graph → 1 ≤ key.seats → key.seats ≤ 16 → key.locks ≤ 65536 → length graph ≤ key.locks → IsGraph graph → AreSlots graph (64 + key.locks) slots → Ruled key (opening (replicate (144 + 8 * key.locks) 0) slots (first_sight key))
+opens_made key graph slots same one few many fits is are = opens key one (omega arith) many (let l = ap length same in omega arith) (subst IsGraph (sym same) is) slots are.many
     (λ n low. are.nodes n (let m = is.few in let l = ap length same in omega arith) (let l = ap length same in omega arith) ∙ ap (λ (g : List Node). maybe.some (Content (node_at g n))) (sym same))
     (λ n low. are.lists (64 + n) (omega arith) (let m = is.few in omega arith))
 
-pub opens_made_start : (key : Start) (graph : List Node) (slots : List Cell) (same : first_graph key ≡ graph) (one : 1 ≤ key.seats) (few : key.seats ≤ 16) (is : IsGraph graph) (are : AreSlots graph 128 slots)
-    → ((opens_made key graph slots same one few is are).core ≡ start key.kind 64 16) × ((opens_made key graph slots same one few is are).log ≡ [])
+pub opens_made_start : (key : Start) (graph : List Node) (slots : List Cell) (same : first_graph key ≡ graph) (one : 1 ≤ key.seats) (few : key.seats ≤ 16) (many : key.locks ≤ 65536) (fits : length graph ≤ key.locks) (is : IsGraph graph) (are : AreSlots graph (64 + key.locks) slots)
+    → ((opens_made key graph slots same one few many fits is are).core ≡ start key.kind key.locks 16) × ((opens_made key graph slots same one few many fits is are).log ≡ [])
 unfolding opens_made
-opens_made_start key graph slots same one few is are = opens_start key _ _ _ slots _ _ _
+opens_made_start key graph slots same one few many fits is are = opens_start key _ _ _ _ _ slots _ _ _
 
 all_from : {A : Type 0} (P : A → Type 0) (xs : List A) → ((k : ℕ) (x : A) → get_elem? xs k ≡ some x → P x) → AllByRecursion P xs
 all_from P [] each = tt
@@ -96,7 +96,7 @@ pub new_come : (table : TableId) (key : Start) (seats : List Seat16) → AreNew 
 new_come table key seats are = record {
   each = all_from (HasCome table) seats (λ k s e. let n = are.new k s e in record {
     seated = n.seated;
-    bare = subst (λ (m : Sat). IsBare m.0.part.core) (sym n.me) (bare_first key.kind k);
+    bare = subst (λ (m : Sat). IsBare m.0.part.core) (sym n.me) (bare_first key.kind key.locks k);
     nothing = ap (λ (m : Sat). m.1) n.me;
   });
   all = λ k low. let m = are.many in let t = there seats k (omega arith) in (t.0, t.1, (are.new k t.0 t.2).number);

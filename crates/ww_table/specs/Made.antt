@@ -17,13 +17,14 @@ pub record AreNew (table : TableId) (key : Start) (count : ℕ) (seats : List Se
   pub many : length seats ≡ count
   pub new : (k : ℕ) (s : Seat16) → get_elem? seats k ≡ some s → IsNew table key k s
 
--- the graph and the kind are those given, and there is a seat for each number
-pub record IsMade (kind : Kind) (graph : List Node) (count : ℕ) (board : Board) (seats : List Seat16) : Type 0 where
+-- the graph, the kind and the number of locks are those given, and there is a seat for each number
+pub record IsMade (kind : Kind) (graph : List Node) (locks count : ℕ) (board : Board) (seats : List Seat16) : Type 0 where
   pub kind_is : board.table.shared.key.kind ≡ kind
   pub graph_is : first_graph board.table.shared.key ≡ graph
+  pub locks_are : board.table.shared.key.locks ≡ locks
   pub count_is : board.table.shared.key.seats ≡ count
   pub seats_are : AreNew board.table.shared.table_id board.table.shared.key count seats
 
 -- the first seat, once so many numbers are cut off
 abbrev pub less : Start → ℕ → Sight
-less key k = record (first_sight key) { idle = first_parts key.kind k (key.seats - 1 - k) }
+less key k = record (first_sight key) { idle = first_parts key.kind key.locks k (key.seats - 1 - k) }

@@ -34,6 +34,10 @@ pub record IsSeated (table : TableId) (s : Seat16) : Type 0 where
 abbrev pub size_of : Board → ℕ
 size_of board = length (first_graph board.table.shared.key)
 
+-- how many locks a board has
+abbrev pub locks_of : Board → ℕ
+locks_of board = board.table.shared.key.locks
+
 -- the seat is one of this board
 abbrev pub IsSeatOf : Board → Seat16 → Type 0
 IsSeatOf board s = IsSeated board.table.shared.table_id s
@@ -42,4 +46,4 @@ IsSeatOf board s = IsSeated board.table.shared.table_id s
 pub record IsNew (table : TableId) (key : Start) (k : ℕ) (s : Seat16) : Type 0 where
   pub seated : IsSeated table s
   pub number : s.who ≡ k
-  pub me : s.seat.me ≡ (seat_of (length (first_graph key)) (first_part key.kind k), [])
+  pub me : s.seat.me ≡ (seat_of (length (first_graph key)) (first_part key.kind key.locks k), [])

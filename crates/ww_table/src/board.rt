@@ -7,12 +7,16 @@ use std::alloc::Global;
 use ww_rule::layout::{FRONT, STAMP, cancel_word, guard_word, owner_word, sign_word};
 use ww_rule::{Cell, Sight, Start, Words};
 
-/// A table of 64 locks and 16 seats, whatever the graph's size.
+/// A table of so many locks, 65,536 at most, of which the first ones guard the nodes of a graph, and of 16 seats.
 #[derive(Drop)]
 pub struct Board {
     pub(crate) table: Table<Cell, Sight, Start, Words, Global>,
     pub(crate) size: u8,
-    ghost sized: { IsSized table.shared.table_id },
+    pub(crate) locks: u32,
+    ghost sized: { IsSized table.shared.key.locks table.shared.table_id },
+    ghost locks_is: { locks ≡ table.shared.key.locks },
+    ghost many: { table.shared.key.locks ≤ 65536 },
+    ghost fits: { length (first_graph table.shared.key) ≤ table.shared.key.locks },
     ghost size_is: { size ≡ length (first_graph table.shared.key) },
     ghost some: { 1 ≤ table.shared.key.seats },
     ghost few: { length (first_graph table.shared.key) ≤ 64 },
@@ -28,16 +32,26 @@ impl Board {
         self.size
     }
 
+    /// How many locks there are.
+    pub fn locks(&self) -> u32
+        ensures { result ≡ self.now.table.shared.key.locks }
+    {
+        self.locks
+    }
+
     /// Reads one word, for whoever has the board for itself, as tests do: a seat at work shares it, and reads by its
     /// steps alone. No clause says what the word has. The words are numbered: owner words from 0, guards from 64, signs
-    /// from 128, the stamp word 144, the front word 145, cancels from 146.
+    /// from 128, the stamp word 144, the front word 145, cancels from 146. It gives 0 for a lock that isn't there.
     pub fn peek(&mut self, word: u8) -> u64
         requires { word < 162 }
         ensures same { self.new ≡ self.old }
     {
+        if word < 128 && u32::from(word % 64) >= self.locks {
+            return 0;
+        }
         self.table.shared.peek(match word {
-            0..=63 => owner_word(word),
-            64..=127 => guard_word(word - 64),
+            0..=63 => owner_word(u32::from(word)),
+            64..=127 => guard_word(u32::from(word) - 64),
             128..=143 => sign_word(word - 128),
             144 => STAMP,
             145 => FRONT,

@@ -30,7 +30,7 @@ impl Seat16 {
     /// Takes the own cancel, which only a waiter inside the guard may do, while another seat has the lock. It gives the
     /// number of the seat that set it plus 1, or 0 if none is pending. A seat that found one can get out of the guard
     /// only by `leave`.
-    pub fn heed(&mut self, board: &Board, lock: u8) -> u64
+    pub fn heed(&mut self, board: &Board, lock: u32) -> u64
         requires seat { IsSeatOf board.now self.old }
         requires may { MayHeed (view_of self.old) lock }
         ensures seat { IsSeatOf board.now self.new }

@@ -6,7 +6,7 @@ ghost use Rattle.ww_view.specs.View.{owns};
 ghost use Rattle.ww_view.specs.May.{MayEnter, MayGlance, MayLeave};
 ghost use Rattle.ww_rule.specs.declared.cells.Cell.TheVariants.{Line};
 ghost use Rattle.ww_rule.specs.Layout.{list_at};
-ghost use Rattle.ww_table.specs.Seat.{IsSeated, IsSeatOf, size_of, view_of};
+ghost use Rattle.ww_table.specs.Seat.{IsSeated, IsSeatOf, locks_of, view_of};
 ghost use Rattle.ww_rule.specs.Out.{AreOthers, numbers_of, slot_of};
 ghost use Rattle.ww_rule.specs.Guards.{AreSeats, StandsAs, shutting_out, entering, exiting, looking, glancing};
 ghost use Rattle.ww_rule.specs.Waiting.{HasListOnTop};
@@ -20,8 +20,8 @@ use ww_word::{Owner, unpack};
 
 impl Seat16 {
     /// Rotates the slots that are out until the wait list of the lock is the last taken, and gives the slot's number.
-    pub(crate) fn bring_list(&mut self, lock: u8) -> u8
-        requires lock { lock < 64 }
+    pub(crate) fn bring_list(&mut self, lock: u32) -> u32
+        requires lock { lock < 65536 }
         requires order { self.old.order.items ≡ numbers_of self.old.seat.me.1 }
         requires list { slot_of self.old.seat.me.1 (list_at lock) ≡ Some (Line (view_of self.old).list) }
         ensures slot { result ≡ list_at lock }
@@ -35,9 +35,9 @@ impl Seat16 {
     }
 
     /// One try to go inside the guard of a lock. The wait list comes with it.
-    pub fn enter(&mut self, board: &Board, lock: u8) -> bool
+    pub fn enter(&mut self, board: &Board, lock: u32) -> bool
         requires seat { IsSeatOf board.now self.old }
-        requires lock { lock < size_of board.now }
+        requires lock { lock < locks_of board.now }
         requires may { MayEnter (view_of self.old) lock }
         requires room { length self.old.seat.me.1 < 65 }
         ensures seat { IsSeatOf board.now self.new }
@@ -56,9 +56,9 @@ impl Seat16 {
     }
 
     /// Leaves the guard, and the wait list goes home as the view has it.
-    pub fn exit(&mut self, board: &Board, lock: u8)
+    pub fn exit(&mut self, board: &Board, lock: u32)
         requires seat { IsSeatOf board.now self.old }
-        requires lock { lock < size_of board.now }
+        requires lock { lock < locks_of board.now }
         requires may { MayLeave (view_of self.old) lock }
         requires list { slot_of self.old.seat.me.1 (list_at lock) ≡ Some (Line (view_of self.old).list) }
         ensures seat { IsSeatOf board.now self.new }
@@ -73,9 +73,9 @@ impl Seat16 {
     }
 
     /// The owner word of the lock whose guard the seat is inside of.
-    pub fn look(&mut self, board: &Board, lock: u8) -> Owner
+    pub fn look(&mut self, board: &Board, lock: u32) -> Owner
         requires seat { IsSeatOf board.now self.old }
-        requires lock { lock < size_of board.now }
+        requires lock { lock < locks_of board.now }
         requires inside { (view_of self.old).inside ≡ lock + 1 }
         ensures seat { IsSeatOf board.now self.new }
         ensures records { self.new.records ≡ self.old.records }
@@ -94,9 +94,9 @@ impl Seat16 {
 
     /// The owner word of a lock, read from outside its guard. It is a guess: others may change the word at once, and no
     /// clause says what it was.
-    pub fn glance(&mut self, board: &Board, lock: u8) -> Owner
+    pub fn glance(&mut self, board: &Board, lock: u32) -> Owner
         requires seat { IsSeatOf board.now self.old }
-        requires lock { lock < size_of board.now }
+        requires lock { lock < locks_of board.now }
         requires may { MayGlance (view_of self.old) }
         ensures seat { IsSeatOf board.now self.new }
         ensures records { self.new.records ≡ self.old.records }

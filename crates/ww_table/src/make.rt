@@ -1,4 +1,4 @@
-ghost use Rattle.std.specs.Prelude.{◌≡◌, ◌<◌, ◌≤◌, [], Some, IfOk, IfErr, vec_len, vec_capacity};
+ghost use Rattle.std.specs.Prelude.{◌≡◌, ◌<◌, ◌≤◌, [], Some, length, IfOk, IfErr, vec_len, vec_capacity};
 ghost use Rattle.ww_word.specs.Owner.{packed};
 ghost use Rattle.ww_rule.specs.Layout.{IsSized};
 ghost use Rattle.ww_rule.specs.Rule.{first_sight};
@@ -13,24 +13,26 @@ use std::snapshot::Snapshot;
 use ww_plain::Graph;
 use ww_queue::Kind;
 use ww_rule::homes::slots;
-use ww_rule::layout::WORDS;
+use ww_rule::layout::words;
 use ww_rule::plays::Seats;
 use ww_rule::{Start, TableSeat, Top};
 
 impl Board {
-    /// A table of locks of this kind for the nodes of a graph, and so many seats; seat k has the number k. Where a
+    /// A table of so many locks of this kind, the first of them for the nodes of a graph, and so many seats; seat k has the number k. Where a
     /// growth is refused the graph comes back.
     pub fn make(
         alloc: Global,
         kind: Kind,
         graph: Graph,
+        locks: u32,
         seats: u8,
     ) -> Result<(Board, Vec<Seat16>), (Graph, AllocError)>
+        requires locks { (length graph ≤ locks) × (locks ≤ 65536) }
         requires seats { (1 ≤ seats) × (seats ≤ 16) }
-        ensures ok { IfOk result (λ r. IsMade kind graph seats r.0 r.1.items) }
+        ensures ok { IfOk result (λ r. IsMade kind graph locks seats r.0 r.1.items) }
         ensures err { IfErr result (λ e. e.0 ≡ graph) }
     {
-        match lay(alloc, kind, &graph, seats) {
+        match lay(alloc, kind, &graph, locks, seats) {
             Ok(made) => Ok(made),
             Err(error) => Err((graph, error)),
         }
@@ -42,22 +44,26 @@ fn lay(
     alloc: Global,
     kind: Kind,
     graph: &Graph,
+    locks: u32,
     seats: u8,
 ) -> Result<(Board, Vec<Seat16>), AllocError>
+    requires locks { (length graph.now ≤ locks) × (locks ≤ 65536) }
     requires seats { (1 ≤ seats) × (seats ≤ 16) }
-    ensures { IfOk result (λ r. IsMade kind graph.now seats r.0 r.1.items) }
+    ensures { IfOk result (λ r. IsMade kind graph.now locks seats r.0 r.1.items) }
 {
     let size = graph.size();
     let room = Vec::with_capacity(alloc, usize::from(seats))?;
-    let slots = slots(alloc, graph)?;
+    let slots = slots(alloc, graph, locks)?;
+    let zeros = Vec::from_elem(alloc, 0, words(locks))?;
     let about = Start {
         kind,
+        locks,
         seats,
         nodes: Snapshot::of(graph),
     };
-    match Table::new(alloc, &[0; WORDS], slots, &about) {
+    match Table::new(alloc, &zeros, slots, &about) {
         Ok((table, first)) => {
-            let board = Board { table, size };
+            let board = Board { table, size, locks };
             let made = cut(alloc, kind, &board.table.shared, first, seats, room);
             Ok((board, made))
         }
@@ -74,7 +80,7 @@ fn cut(
     seats: u8,
     mut made: Vec<Seat16>,
 ) -> Vec<Seat16>
-    requires sized { IsSized shared.now.table_id }
+    requires sized { IsSized shared.now.key.locks shared.now.table_id }
     requires home { first.table_id ≡ shared.now.table_id }
     requires view { first.me ≡ (first_sight shared.now.key, []) }
     requires kind { kind ≡ shared.now.key.kind }

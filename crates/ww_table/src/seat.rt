@@ -1,14 +1,14 @@
-ghost use Rattle.std.specs.Prelude.{◌≡◌, ◌<◌, [], ◌∷◌, length, true, false, Some, IfSome, IfNone};
+ghost use Rattle.std.specs.Prelude.{◌≡◌, ◌<◌, ◌≤◌, [], ◌∷◌, length, true, false, Some, IfSome, IfNone};
 ghost use lib.ListN.{get_elem?};
 ghost use mathlib.Core.Option.{some};
 ghost use Rattle.ww_plain.specs.declared.node.Node.{Node};
 ghost use Rattle.ww_plain.specs.Graph.{IsNodeOf};
 ghost use Rattle.ww_view.specs.View.{owns, IsAway};
 ghost use Rattle.ww_view.specs.May.{MayFast};
-ghost use Rattle.ww_view.specs.Made.{ended, fast_missed, has_read};
+ghost use Rattle.ww_view.specs.Made.{ended, fast_given, fast_missed, fast_taken, has_read};
 ghost use Rattle.ww_rule.specs.declared.cells.Cell.{Cell};
 ghost use Rattle.ww_rule.specs.declared.cells.Cell.TheVariants.{Content};
-ghost use Rattle.ww_table.specs.Seat.{IsSeatOf, size_of, view_of};
+ghost use Rattle.ww_table.specs.Seat.{IsSeatOf, locks_of, size_of, view_of};
 ghost use Rattle.ww_rule.specs.Out.{AreOthers, slot_of, numbers_of};
 ghost use Rattle.std.specs.Prelude.{ℕ, ◌^◌, List, nat_lt};
 ghost use Rattle.ww_word.specs.Owner.{packed};
@@ -20,7 +20,7 @@ use ww_plain::{Node, Record};
 use ww_queue::Kind;
 use ww_rule::layout::{STAMP, owner_word, sign_word};
 use ww_rule::nodes::{node_there, swap_there};
-use ww_rule::plays::{Draw, End, GiveFree, TakeFree};
+use ww_rule::plays::{Draw, End, GiveBare, GiveFree, TakeBare, TakeFree};
 use ww_rule::{MAX_OUT, TableSeat, bring};
 use ww_word::{Owner, pack};
 
@@ -35,7 +35,7 @@ pub struct Seat16 {
     /// The owner word of a lock that it has taken, with nobody waiting.
     pub(crate) own: u64,
     /// The slots that it has out, the one taken last at the end.
-    pub(crate) order: ArrayVec<u8, MAX_OUT>,
+    pub(crate) order: ArrayVec<u32, MAX_OUT>,
     pub(crate) records: Vec<(u64, Record)>,
 }
 
@@ -84,7 +84,7 @@ impl Seat16 {
     }
 
     /// The number of the slot that it has out on top.
-    pub fn top(&self) -> Option<u8>
+    pub fn top(&self) -> Option<u32>
         requires order { self.now.order.items ≡ numbers_of self.now.seat.me.1 }
         ensures top { IfSome result (λ n. (y : Cell) × (others : List (ℕ × Cell)) × (self.now.seat.me.1 ≡ (n, y) ∷ others)) }
         ensures none { IfNone result (self.now.seat.me.1 ≡ []) }
@@ -112,7 +112,7 @@ impl Seat16 {
     }
 
     /// One try to take a lock at once, which only a free one with an empty wait list allows.
-    pub fn take_free(&mut self, board: &Board, lock: u8) -> bool
+    pub fn take_free(&mut self, board: &Board, lock: u32) -> bool
         requires seat { IsSeatOf board.now self.old }
         requires lock { lock < size_of board.now }
         requires may { MayFast (view_of self.old) }
@@ -133,7 +133,7 @@ impl Seat16 {
     }
 
     /// One try to give a lock back at once, which only an empty wait list allows.
-    pub fn give_free(&mut self, board: &Board, lock: u8) -> bool
+    pub fn give_free(&mut self, board: &Board, lock: u32) -> bool
         requires seat { IsSeatOf board.now self.old }
         requires lock { lock < size_of board.now }
         requires away { IsAway (view_of self.old) }
@@ -153,6 +153,37 @@ impl Seat16 {
         }
         self.order.pop();
         true
+    }
+
+    /// One try to take a lock at once that guards no node.
+    pub fn take_bare(&mut self, board: &Board, lock: u32) -> bool
+        requires seat { IsSeatOf board.now self.old }
+        requires lock { (size_of board.now ≤ lock) × (lock < locks_of board.now) }
+        requires may { MayFast (view_of self.old) }
+        ensures seat { IsSeatOf board.now self.new }
+        ensures records { self.new.records ≡ self.old.records }
+        ensures took { result ≡ true → self.new.seat.me ≡ (knowing self.old.seat.me.0 (fast_taken (view_of self.old) lock), self.old.seat.me.1) }
+        ensures lost { result ≡ false → self.new.seat.me ≡ (knowing self.old.seat.me.0 (fast_missed (view_of self.old)), self.old.seat.me.1) }
+    {
+        let own = self.own;
+        let shared = &board.table.shared;
+        shared.compare_exchange::<TakeBare>(&mut self.seat, owner_word(lock), 0, own) == 0
+    }
+
+    /// One try to give a lock back at once that guards no node.
+    pub fn give_bare(&mut self, board: &Board, lock: u32) -> bool
+        requires seat { IsSeatOf board.now self.old }
+        requires lock { (size_of board.now ≤ lock) × (lock < locks_of board.now) }
+        requires away { IsAway (view_of self.old) }
+        requires owner { owns (view_of self.old) lock ≡ true }
+        ensures seat { IsSeatOf board.now self.new }
+        ensures records { self.new.records ≡ self.old.records }
+        ensures gave { result ≡ true → self.new.seat.me ≡ (knowing self.old.seat.me.0 (fast_given (view_of self.old) lock), self.old.seat.me.1) }
+        ensures kept { result ≡ false → self.new.seat.me ≡ (keeping self.old.seat.me.0, self.old.seat.me.1) }
+    {
+        let own = self.own;
+        let shared = &board.table.shared;
+        shared.compare_exchange::<GiveBare>(&mut self.seat, owner_word(lock), own, 0) == own
     }
 
     /// Ends the context, if its own sign word is 0.
@@ -179,7 +210,7 @@ impl Seat16 {
     }
 
     /// A node that the seat has out. It is no step.
-    pub fn node(&mut self, board: &Board, lock: u8) -> Node
+    pub fn node(&mut self, board: &Board, lock: u32) -> Node
         requires seat { IsSeatOf board.now self.old }
         requires out { (x : Node) × (slot_of self.old.seat.me.1 lock ≡ Some (Content x)) }
         ensures seat { IsSeatOf board.now self.new }
@@ -191,7 +222,7 @@ impl Seat16 {
     }
 
     /// The node of the slot that the seat took last. It is no step.
-    pub fn top_node(&mut self, board: &Board, lock: u8) -> Node
+    pub fn top_node(&mut self, board: &Board, lock: u32) -> Node
         requires seat { IsSeatOf board.now self.old }
         requires top { (x : Node) × (others : List (ℕ × Cell)) × (self.old.seat.me.1 ≡ (lock, Content x) ∷ others) }
         ensures seat { IsSeatOf board.now self.new }
@@ -202,7 +233,7 @@ impl Seat16 {
     }
 
     /// Writes a node that the seat has out, and gives what was there. It is no step: nobody else sees it.
-    pub fn swap_node(&mut self, board: &Board, lock: u8, new: Node) -> Node
+    pub fn swap_node(&mut self, board: &Board, lock: u32, new: Node) -> Node
         requires seat { IsSeatOf board.now self.old }
         requires out { (x : Node) × (slot_of self.old.seat.me.1 lock ≡ Some (Content x)) }
         ensures seat { IsSeatOf board.now self.new }

@@ -1,4 +1,4 @@
-ghost use Rattle.std.specs.Prelude.{ℕ, ◌≡◌, ◌≢◌, ◌<◌, ◌==◌, [], ◌∷◌, length, nat_lt, true, false, List, Some};
+ghost use Rattle.std.specs.Prelude.{ℕ, ◌≡◌, ◌≢◌, ◌<◌, ◌≤◌, ◌==◌, [], ◌∷◌, length, nat_lt, true, false, List, Some};
 ghost use lib.ListN.{get_elem?};
 ghost use mathlib.Core.Option.{some};
 ghost use Rattle.atomic_table.specs.Table.{rest};
@@ -9,13 +9,14 @@ ghost use Rattle.ww_plain.specs.declared.node.Node.{Node};
 ghost use Rattle.ww_plain.specs.Graph.{IsNodeOf};
 ghost use Rattle.ww_view.specs.View.{owns};
 ghost use Rattle.ww_view.specs.May.{MayAsk, MayDie, MayGive, MayJoin, MayStop, MayTake};
-ghost use Rattle.ww_view.specs.Made.{died, interrupted, queued, taken};
+ghost use Rattle.ww_view.specs.Made.{died, given, interrupted, queued, taken};
 ghost use Rattle.ww_rule.specs.declared.cells.Cell.{Cell};
 ghost use Rattle.ww_rule.specs.declared.cells.Cell.TheVariants.{Content, Line};
 ghost use Rattle.ww_rule.specs.Layout.{list_at};
-ghost use Rattle.ww_table.specs.Seat.{IsSeatOf, size_of, view_of};
+ghost use Rattle.ww_table.specs.Seat.{IsSeatOf, size_of, locks_of, view_of};
 ghost use Rattle.ww_rule.specs.Out.{AreOthers, slot_of};
 ghost use Rattle.ww_rule.specs.Guards.{AreSeats, lost};
+ghost use Rattle.ww_rule.specs.Steps.{knowing};
 ghost use Rattle.ww_rule.specs.Waiting.{IsOut, joining, taking_inside, giving_inside, asking, dying};
 ghost use Rattle.ww_rule.specs.Cancels.{stopping};
 
@@ -25,20 +26,20 @@ use ww_queue::Entry;
 use ww_rule::bring;
 use ww_rule::layout::{list_slot, owner_word};
 use ww_rule::lists::{join_list, leave_list};
-use ww_rule::plays_inside::{Ask, Die, Give, Join, Leave, Take};
+use ww_rule::plays_inside::{Ask, Die, Give, GiveBareInside, Join, Leave, Take, TakeBareInside};
 use ww_word::{HANDOFF, Owner, WAITERS, pack};
 
 /// The steps on an owner word inside its guard. Each succeeds if the word is still the one expected. It is if the seat
 /// saw that word last and somebody waits (`sure`), since nobody else writes it then.
 impl Seat16 {
     /// Stands in the wait list of the lock, if its owner word is still the one seen.
-    pub fn join(&mut self, board: &Board, lock: u8, seen: Owner) -> bool
+    pub fn join(&mut self, board: &Board, lock: u32, seen: Owner, holds: bool) -> bool
         requires seat { IsSeatOf board.now self.old }
-        requires lock { lock < size_of board.now }
+        requires lock { lock < locks_of board.now }
         requires may { MayJoin (view_of self.old) lock seen }
         requires valid { IsValid seen }
         requires list { slot_of self.old.seat.me.1 (list_at lock) ≡ Some (Line (view_of self.old).list) }
-        requires nodes { any_below 64 (owns (view_of self.old)) ≡ nat_lt 1 (length self.old.seat.me.1) }
+        requires holds { any_below (length (view_of self.old).owned) (owns (view_of self.old)) ≡ holds }
         ensures seat { IsSeatOf board.now self.new }
         ensures records { self.new.records ≡ self.old.records }
         ensures sure { (view_of self.old).list ≢ [] → (view_of self.old).seen ≡ Some seen → result ≡ true }
@@ -55,7 +56,7 @@ impl Seat16 {
         let entry = Entry {
             seat: self.who,
             stamp: self.stamp,
-            holds: self.order.len() > 1,
+            holds,
         };
         let slot = list_slot(lock);
         bring(&mut self.seat, &mut self.order, slot);
@@ -64,9 +65,9 @@ impl Seat16 {
     }
 
     /// Asks whoever owns the lock to hand it over, if its owner word is still the one seen.
-    pub fn ask(&mut self, board: &Board, lock: u8, seen: Owner) -> bool
+    pub fn ask(&mut self, board: &Board, lock: u32, seen: Owner) -> bool
         requires seat { IsSeatOf board.now self.old }
-        requires lock { lock < size_of board.now }
+        requires lock { lock < locks_of board.now }
         requires may { MayAsk (view_of self.old) lock seen }
         requires valid { IsValid seen }
         ensures seat { IsSeatOf board.now self.new }
@@ -86,7 +87,7 @@ impl Seat16 {
 
     /// Takes the lock, if its owner word is still the one seen: that of a free lock, or of one handed to the seat. The
     /// node comes with it, and the seat leaves the wait list.
-    pub fn take(&mut self, board: &Board, lock: u8, seen: Owner) -> bool
+    pub fn take(&mut self, board: &Board, lock: u32, seen: Owner) -> bool
         requires seat { IsSeatOf board.now self.old }
         requires lock { lock < size_of board.now }
         requires may { MayTake (view_of self.old) lock seen }
@@ -99,13 +100,9 @@ impl Seat16 {
         ensures took { result ≡ true → (x : Node) × (others : List (ℕ × Cell)) × IsNodeOf (length self.old.seat.me.0.held) x × AreOthers self.old.seat.me.1 (list_at lock) (Line (view_of self.old).list) others × (self.new.seat.me ≡ (taking_inside self.old.seat.me.0 lock x, (list_at lock, Line (taken (view_of self.old) lock).list) ∷ (lock, Content x) ∷ others)) }
         ensures lost { result ≡ false → (others : List (ℕ × Cell)) × AreOthers self.old.seat.me.1 (list_at lock) (Line (view_of self.old).list) others × (self.new.seat.me ≡ (lost self.old.seat.me.0, (list_at lock, Line (view_of self.old).list) ∷ others)) }
     {
-        let flags = self.flag_left(board, lock);
+        let owner = self.own_left(board, lock);
         let old = pack(seen);
-        let new = pack(Owner {
-            seat: Some(self.who),
-            stamp: self.stamp,
-            flags,
-        });
+        let new = pack(owner);
         let shared = &board.table.shared;
         let found = shared.compare_exchange::<Take>(&mut self.seat, owner_word(lock), old, new);
         if found != old {
@@ -119,10 +116,62 @@ impl Seat16 {
         true
     }
 
-    /// Leaves the wait list, as the context has to back off, if the owner word is still the one seen.
-    pub fn die(&mut self, board: &Board, lock: u8, seen: Owner) -> bool
+    /// Takes a lock that guards no node, if its owner word is still the one seen, and leaves the wait list.
+    pub fn take_bare_inside(&mut self, board: &Board, lock: u32, seen: Owner) -> bool
         requires seat { IsSeatOf board.now self.old }
-        requires lock { lock < size_of board.now }
+        requires lock { (size_of board.now ≤ lock) × (lock < locks_of board.now) }
+        requires may { MayTake (view_of self.old) lock seen }
+        requires valid { IsValid seen }
+        requires list { slot_of self.old.seat.me.1 (list_at lock) ≡ Some (Line (view_of self.old).list) }
+        ensures seat { IsSeatOf board.now self.new }
+        ensures records { self.new.records ≡ self.old.records }
+        ensures sure { (view_of self.old).list ≢ [] → (view_of self.old).seen ≡ Some seen → result ≡ true }
+        ensures took { result ≡ true → (others : List (ℕ × Cell)) × AreOthers self.old.seat.me.1 (list_at lock) (Line (view_of self.old).list) others × (self.new.seat.me ≡ (knowing self.old.seat.me.0 (taken (view_of self.old) lock), (list_at lock, Line (taken (view_of self.old) lock).list) ∷ others)) }
+        ensures lost { result ≡ false → (others : List (ℕ × Cell)) × AreOthers self.old.seat.me.1 (list_at lock) (Line (view_of self.old).list) others × (self.new.seat.me ≡ (lost self.old.seat.me.0, (list_at lock, Line (view_of self.old).list) ∷ others)) }
+    {
+        let owner = self.own_left(board, lock);
+        let old = pack(seen);
+        let new = pack(owner);
+        let shared = &board.table.shared;
+        let found = shared.compare_exchange::<TakeBareInside>(
+            &mut self.seat,
+            owner_word(lock),
+            old,
+            new,
+        );
+        if found != old {
+            return false;
+        }
+        leave_list(&mut self.seat, shared, list_slot(lock), self.who);
+        true
+    }
+
+    /// Gives a lock back that guards no node, if its owner word is still the one seen: to the first waiter if that
+    /// asked for it.
+    pub fn give_bare_inside(&mut self, board: &Board, lock: u32, seen: Owner) -> bool
+        requires seat { IsSeatOf board.now self.old }
+        requires lock { (size_of board.now ≤ lock) × (lock < locks_of board.now) }
+        requires may { MayGive (view_of self.old) lock }
+        requires valid { IsValid seen }
+        requires list { slot_of self.old.seat.me.1 (list_at lock) ≡ Some (Line (view_of self.old).list) }
+        requires waiters { AreSeats (view_of self.old).list }
+        ensures seat { IsSeatOf board.now self.new }
+        ensures records { self.new.records ≡ self.old.records }
+        ensures sure { (view_of self.old).list ≢ [] → (view_of self.old).seen ≡ Some seen → result ≡ true }
+        ensures gave { result ≡ true → (others : List (ℕ × Cell)) × AreOthers self.old.seat.me.1 (list_at lock) (Line (view_of self.old).list) others × (self.new.seat.me ≡ (knowing self.old.seat.me.0 (given (view_of self.old) lock (seen.flags == 3)), (list_at lock, Line (view_of self.old).list) ∷ others)) }
+        ensures lost { result ≡ false → (others : List (ℕ × Cell)) × AreOthers self.old.seat.me.1 (list_at lock) (Line (view_of self.old).list) others × (self.new.seat.me ≡ (lost self.old.seat.me.0, (list_at lock, Line (view_of self.old).list) ∷ others)) }
+    {
+        let owner = self.next_owner(board, lock, seen.flags == WAITERS | HANDOFF);
+        let old = pack(seen);
+        let new = pack(owner);
+        let shared = &board.table.shared;
+        shared.compare_exchange::<GiveBareInside>(&mut self.seat, owner_word(lock), old, new) == old
+    }
+
+    /// Leaves the wait list, as the context has to back off, if the owner word is still the one seen.
+    pub fn die(&mut self, board: &Board, lock: u32, seen: Owner) -> bool
+        requires seat { IsSeatOf board.now self.old }
+        requires lock { lock < locks_of board.now }
         requires may { (k : ℕ) × MayDie (view_of self.old) lock seen k }
         requires valid { IsValid seen }
         requires list { slot_of self.old.seat.me.1 (list_at lock) ≡ Some (Line (view_of self.old).list) }
@@ -148,9 +197,9 @@ impl Seat16 {
     /// Leaves the wait list for the cancel that the seat has heeded, if the owner word is still the one seen. It is,
     /// where that is the word that the seat saw last (`sure`): while a waiter is inside the guard, nobody else writes
     /// it. So who has heeded a cancel needs no way back.
-    pub fn leave(&mut self, board: &Board, lock: u8, seen: Owner) -> bool
+    pub fn leave(&mut self, board: &Board, lock: u32, seen: Owner) -> bool
         requires seat { IsSeatOf board.now self.old }
-        requires lock { lock < size_of board.now }
+        requires lock { lock < locks_of board.now }
         requires may { MayStop (view_of self.old) lock }
         requires valid { IsValid seen }
         requires list { slot_of self.old.seat.me.1 (list_at lock) ≡ Some (Line (view_of self.old).list) }
@@ -174,7 +223,7 @@ impl Seat16 {
 
     /// Gives the lock back, if its owner word is still the one seen: to the first waiter, if that was asked for. The
     /// node goes home.
-    pub fn give(&mut self, board: &Board, lock: u8, seen: Owner) -> bool
+    pub fn give(&mut self, board: &Board, lock: u32, seen: Owner) -> bool
         requires seat { IsSeatOf board.now self.old }
         requires lock { lock < size_of board.now }
         requires may { MayGive (view_of self.old) lock }

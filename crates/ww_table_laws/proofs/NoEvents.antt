@@ -18,15 +18,15 @@ module _ (key : Start) (s : St) (r : Ruled key s) (id : ℕ) (me : Sat) (here : 
   mine : Sits key r.core r.log r.at r.counts id me.0
   mine = moves.mine key s r id me here seated
 
-  pub look_stays : (n : ℕ) (o : Owner) → me.0.part.core.inside ≡ suc n → IsValid o → get_or s.words (8 * n) 0 ≡ packed o → Stays key s r (read s (8 * n) id me (looking me.0 o))
-  look_stays n o inside valid hit = moves.looks_on key s r id me here seated (8 * n) (has_looked me.0.part.core o) refl (λ m. refl)
+  pub look_stays : (n : ℕ) (o : Owner) → me.0.part.core.inside ≡ suc n → IsValid o → get_or s.words (144 + 8 * n) 0 ≡ packed o → Stays key s r (read s (144 + 8 * n) id me (looking me.0 o))
+  look_stays n o inside valid hit = moves.looks_on key s r id me here seated (144 + 8 * n) (has_looked me.0.part.core o) refl (λ m. refl)
       (mine_look r.core me.0.part.core mine.part.knows n o inside (moves.found key s r id me here seated n o (inside_low key s r id me here seated n inside) valid hit))
 
-  pub glance_stays : (n : ℕ) → Stays key s r (read s (8 * n) id me (glancing me.0))
-  glance_stays n = moves.looks_on key s r id me here seated (8 * n) (glanced me.0.part.core) refl (λ m. refl) (mine_glanced r.core me.0.part.core mine.part.knows)
+  pub glance_stays : (n : ℕ) → Stays key s r (read s (144 + 8 * n) id me (glancing me.0))
+  glance_stays n = moves.looks_on key s r id me here seated (144 + 8 * n) (glanced me.0.part.core) refl (λ m. refl) (mine_glanced r.core me.0.part.core mine.part.knows)
 
-  pub own_sign_stays : IsNotedOnly key s r id me (512 + 8 * me.0.part.core.who)
-  own_sign_stays = let c = r.core in let v = me.0.part.core in let k = mine.part.knows in let i = 512 + 8 * v.who in let x = get_or s.words i 0 in
+  pub own_sign_stays : IsNotedOnly key s r id me (8 * me.0.part.core.who)
+  own_sign_stays = let c = r.core in let v = me.0.part.core in let k = mine.part.knows in let i = 8 * v.who in let x = get_or s.words i 0 in
       let tells : x ≡ c.sign v.who = r.words.signs v.who (let z = k.itself.seat in let y = r.places in omega arith) in record {
         found = λ quiet. moves.looks_on key s r id me here seated i (has_read v x) refl (λ m. refl) (mine_read c v k x (sym tells) quiet);
         found_none = moves.looks_on key s r id me here seated i (found_none v) refl (λ m. refl) (mine_read_none c v k);
@@ -41,5 +41,5 @@ module _ (key : Start) (s : St) (r : Ruled key s) (id : ℕ) (me : Sat) (here : 
     others = moves.looks_on key s r id me here seated i (stepped v) refl (λ m. refl) (mine_stepped c v k);
   }
 
-  pub lost_sign_stays : (u : ℕ) → u < 16 → get_or s.words (512 + 8 * u) 0 ≢ 0 → Stays key s r (read s (512 + 8 * u) id me (noting me.0 u))
-  lost_sign_stays u low isnt = moves.looks_on key s r id me here seated (512 + 8 * u) (noted me.0.part.core u) refl (λ m. refl) (mine_lost_sign r.core me.0.part.core mine.part.knows u (λ z. isnt (r.words.signs u low ∙ z)))
+  pub lost_sign_stays : (u : ℕ) → u < 16 → get_or s.words (8 * u) 0 ≢ 0 → Stays key s r (read s (8 * u) id me (noting me.0 u))
+  lost_sign_stays u low isnt = moves.looks_on key s r id me here seated (8 * u) (noted me.0.part.core u) refl (λ m. refl) (mine_lost_sign r.core me.0.part.core mine.part.knows u (λ z. isnt (r.words.signs u low ∙ z)))

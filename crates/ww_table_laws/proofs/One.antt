@@ -1,5 +1,5 @@
 -- A table tells one core, and one history.
-use Rattle.std.proofs.Common.{◌≡◌, ◌≢◌, ⊎_elim, ℕ, zero, suc, ◌+◌, ◌*◌, ◌<◌, ◌≤◌, Bool, true, false, true≢false, List, [], ◌∷◌, length, refl, sym, ap, ◌∙◌, subst, arith}
+use Rattle.std.proofs.Common.{◌≡◌, ⊎_elim, ℕ, zero, suc, ◌+◌, ◌*◌, ◌<◌, ◌≤◌, Bool, true, false, true≢false, List, [], ◌∷◌, length, refl, sym, ap, ◌∙◌, subst, arith}
 use mathlib.Core.Logic.{dite}
 use mathlib.Core.Option.{some, some-injective}
 use native.Mathlib.Decide.{dec_le}
@@ -78,17 +78,17 @@ module _ (key : Start) (s : St) (r : Ruled key s) where
   law : IsLawful c
   law = reached_is_lawful c r.reached
 
-  guard_free : (n : ℕ) → 64 ≤ n → c.guard n ≡ 0
+  guard_free : (n : ℕ) → key.locks ≤ n → c.guard n ≡ 0
   guard_free n beyond = go (c.guard n) refl
     where
       go : (g : ℕ) → c.guard n ≡ g → g ≡ 0
       go zero is = refl
       go (suc t) is = absurd (let inside = guards_are c r.reached t n is in let lock = inside.lock in let locks = r.locks in omega arith)
 
-  queue_empty : (n : ℕ) → 64 ≤ n → c.queue n ≡ []
+  queue_empty : (n : ℕ) → key.locks ≤ n → c.queue n ≡ []
   queue_empty n beyond = queues_beyond c r.reached n (let locks = r.locks in omega arith)
 
-  nobody_owns : (n : ℕ) → 64 ≤ n → c.owner n ≡ Nobody
+  nobody_owns : (n : ℕ) → key.locks ≤ n → c.owner n ≡ Nobody
   nobody_owns n beyond = law.base.owners.beyond n (let locks = r.locks in omega arith)
 
 -- what one view says of a number, by both
@@ -106,23 +106,23 @@ module _ (key : Start) (s : St) (r r' : Ruled key s) where
       x.speaks
 
   same_guard : (n : ℕ) → r.core.guard n ≡ r'.core.guard n
-  same_guard n = dite (dec_le 64 n)
+  same_guard n = dite (dec_le key.locks n)
       (λ beyond. guard_free key s r n beyond ∙ sym (guard_free key s r' n beyond))
       (λ below. sym (r.words.guards n (omega arith)) ∙ r'.words.guards n (omega arith))
 
-  same_word : (n : ℕ) → n < 64 → word_of r.core n ≡ word_of r'.core n
+  same_word : (n : ℕ) → n < key.locks → word_of r.core n ≡ word_of r'.core n
   same_word n low = packing_is_injective (word_of r.core n) (word_of r'.core n)
       (word_is_valid r.core n r.reached (let places = r.places in omega arith))
       (word_is_valid r'.core n r'.reached (let places = r'.places in omega arith))
       (sym (r.words.owners n low) ∙ r'.words.owners n low)
 
   same_owner : (n : ℕ) → r.core.owner n ≡ r'.core.owner n
-  same_owner n = dite (dec_le 64 n)
+  same_owner n = dite (dec_le key.locks n)
       (λ beyond. nobody_owns key s r n beyond ∙ sym (nobody_owns key s r' n beyond))
       (λ below. holder_told r.core r'.core (r.core.owner n) (r'.core.owner n) (r.core.asked n) (r'.core.asked n) (r.core.queue n) (r'.core.queue n) (same_word n (omega arith)))
 
   -- a list at home is that of both, and one that is out is named by the view of who is inside
-  list_home : (n : ℕ) → n < 64 → r.core.guard n ≡ 0 → r.core.queue n ≡ r'.core.queue n
+  list_home : (n : ℕ) → n < key.locks → r.core.guard n ≡ 0 → r.core.queue n ≡ r'.core.queue n
   list_home n low free = let at = sym (r.homes.lists n low free) ∙ r'.homes.lists n low (sym (same_guard n) ∙ free) in
       let lines : Line (r.core.queue n) ≡ Line (r'.core.queue n) = some-injective _ _ (some-injective _ _ at) in let same : r.core.queue n ≡ r'.core.queue n = cc in same
 
@@ -134,16 +134,16 @@ module _ (key : Start) (s : St) (r r' : Ruled key s) where
       let is : x.part.core.inside ≡ suc n = k.guard.inside n by in sym (k.queues.list n is) ∙ k'.queues.list n is)
 
   same_queue : (n : ℕ) → r.core.queue n ≡ r'.core.queue n
-  same_queue n = dite (dec_le 64 n)
+  same_queue n = dite (dec_le key.locks n)
       (λ beyond. queue_empty key s r n beyond ∙ sym (queue_empty key s r' n beyond))
       (λ below. go (r.core.guard n) refl (omega arith))
     where
-      go : (g : ℕ) → r.core.guard n ≡ g → n < 64 → r.core.queue n ≡ r'.core.queue n
+      go : (g : ℕ) → r.core.guard n ≡ g → n < key.locks → r.core.queue n ≡ r'.core.queue n
       go zero free low = list_home n low free
       go (suc t) inside low = list_out n t inside
 
   same_asked : (n : ℕ) → r.core.asked n ≡ r'.core.asked n
-  same_asked n = dite (dec_le 64 n)
+  same_asked n = dite (dec_le key.locks n)
       (λ beyond. free_not_asked r.core (law key s r) n (nobody_owns key s r n beyond) ∙ sym (free_not_asked r'.core (law key s r') n (nobody_owns key s r' n beyond)))
       (λ below. asked_told r.core r'.core (r.core.owner n) (r'.core.owner n) (r.core.asked n) (r'.core.asked n) (r.core.queue n) (r'.core.queue n) (same_word n (omega arith)) (same_owner n) (same_queue n))
 

@@ -1,6 +1,6 @@
 -- Of the steps at guards, inside them, on signs and on cancels: from every table that the rule allows each is one event
 -- on what is shown.
-use Rattle.std.specs.Prelude.{ℕ, suc, ◌≡◌, ◌≢◌, ◌<◌, ◌+◌, ◌-◌, ◌==◌, ◌∷◌, List, length, slice_index, Some}
+use Rattle.std.specs.Prelude.{ℕ, suc, ◌≡◌, ◌≢◌, ◌<◌, ◌≤◌, ◌+◌, ◌-◌, ◌==◌, ◌∷◌, List, length, slice_index, Some}
 use mathlib.Core.Option.{some}
 use lib.ListN.{get_elem?}
 use Rattle.atomic_table.specs.Table.{stepped, keeps, takes, gives, chain, rest}
@@ -19,11 +19,13 @@ use Rattle.ww_plain.specs.Graph.{node_at}
 use Rattle.ww_plain.specs.History.{last_graph}
 use Rattle.ww_view.specs.Word.{taken_word, asked_word, given_word, rest_word}
 use Rattle.ww_view.specs.May.{MayEnter, MayExit, MayJoin, MayTake, MayAsk, MayGive, MayDie, MaySign, MayClear, MayHeed, MayStop}
+use Rattle.ww_view.specs.Made.{given, taken}
 use Rattle.ww_rule.specs.declared.cells.Cell.{Cell}
 use Rattle.ww_rule.specs.declared.cells.Cell.TheVariants.{Content, Line}
 use Rattle.ww_rule.specs.declared.cells.Start.{Start}
 use Rattle.ww_rule.specs.Layout.{owner_at, guard_at, sign_at, cancel_at, list_at}
 use Rattle.ww_rule.specs.Rule.{St, Sat, first_graph, Ruled, Makes}
+use Rattle.ww_rule.specs.Steps.{knowing}
 use Rattle.ww_rule.specs.Guards.{entering, exiting}
 use Rattle.ww_rule.specs.Waiting.{joining, taking_inside, giving_inside, asking, dying}
 use Rattle.ww_rule.specs.Signs.{condemning, clearing}
@@ -34,7 +36,7 @@ use Rattle.ww_table_laws.specs.Laws.{Steps}
 -- a guard word 0 becomes that of the seat as Guard, and the list that comes out is that of the lock
 abbrev pub EnterIsGuard : Type 0
 EnterIsGuard = (key : Start) (s : St) (r : Ruled key s) (id : ℕ) (me : Sat) (n : ℕ) → Steps s id me →
-    n < 64 → MayEnter me.0.part.core n → slice_index s.words (guard_at n) ≡ 0 → let q : List Entry = r.core.queue n in
+    n < key.locks → MayEnter me.0.part.core n → slice_index s.words (guard_at n) ≡ 0 → let q : List Entry = r.core.queue n in
     Makes key s r (Guard me.0.part.core.who n)
     (stepped s (guard_at n) (suc me.0.part.core.who) id me.1 (entering me.0 n q) (takes (list_at n) (Line q)))
 
@@ -66,6 +68,21 @@ GiveIsGive = (key : Start) (s : St) (r : Ruled key s) (id : ℕ) (me : Sat) (n :
     me.1 ≡ (n, Content x) ∷ rest me.1 →
     Makes key s r (Give me.0.part.core.who n)
     (stepped s (owner_at n) (packed (given_word (o.flags == 3) me.0.part.core.list)) id me.1 (giving_inside me.0 n (o.flags == 3)) gives)
+
+-- the same of a lock that guards no node: no slot comes or goes
+abbrev pub TakeBareInsideIsTake : Type 0
+TakeBareInsideIsTake = (key : Start) (s : St) (r : Ruled key s) (id : ℕ) (me : Sat) (n : ℕ) (o : Owner) → Steps s id me →
+    length (first_graph key) ≤ n → MayTake me.0.part.core n o → IsValid o → slice_index s.words (owner_at n) ≡ packed o →
+    Makes key s r (Take me.0.part.core.who n)
+    (stepped s (owner_at n) (packed (taken_word me.0.part.core.who me.0.part.core.stamp (left me.0.part.core.list me.0.part.core.who))) id me.1
+    (knowing me.0 (taken me.0.part.core n)) keeps)
+
+abbrev pub GiveBareInsideIsGive : Type 0
+GiveBareInsideIsGive = (key : Start) (s : St) (r : Ruled key s) (id : ℕ) (me : Sat) (n : ℕ) (o : Owner) → Steps s id me →
+    length (first_graph key) ≤ n → MayGive me.0.part.core n → IsValid o → slice_index s.words (owner_at n) ≡ packed o →
+    Makes key s r (Give me.0.part.core.who n)
+    (stepped s (owner_at n) (packed (given_word (o.flags == 3) me.0.part.core.list)) id me.1
+    (knowing me.0 (given me.0.part.core n (o.flags == 3))) keeps)
 
 -- an owner word gets HANDOFF as Ask
 abbrev pub AskIsAsk : Type 0

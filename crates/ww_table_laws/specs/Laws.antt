@@ -16,7 +16,7 @@ use Rattle.ww_plain.specs.Graph.{IsGraph, node_at}
 use Rattle.ww_plain.specs.History.{Recorded, recorded_of, last_graph}
 use Rattle.ww_view.specs.View.{owns, IsAway}
 use Rattle.ww_view.specs.May.{MayFast}
-use Rattle.ww_view.specs.Made.{ended}
+use Rattle.ww_view.specs.Made.{ended, fast_given, fast_taken}
 use Rattle.ww_rule.specs.declared.cells.Cell.{Cell}
 use Rattle.ww_rule.specs.declared.cells.Cell.TheVariants.{Content}
 use Rattle.ww_rule.specs.declared.cells.Start.{Start}
@@ -24,7 +24,7 @@ use Rattle.atomic_table.specs.Seated.{TableId}
 use Rattle.ww_table.specs.declared.seat.Seat16.{Seat16}
 use Rattle.ww_table.specs.Made.{AreNew}
 use Rattle.ww_table.specs.Closed.{HaveAllCome}
-use Rattle.ww_rule.specs.Layout.{owner_at, sign_at, stamp_at, front_at, words_in_all, slots_in_all}
+use Rattle.ww_rule.specs.Layout.{owner_at, sign_at, stamp_at, front_at, words_for, slots_for}
 use Rattle.ww_rule.specs.Homes.{AreSlots}
 use Rattle.ww_rule.specs.Rule.{St, Sat, first_graph, first_sight, Ruled, MakesWith, Makes}
 use Rattle.ww_rule.specs.Steps.{MayDraw, MayEnd, MayPlace, taker, drawing, taking, giving, knowing, placing}
@@ -49,6 +49,16 @@ abbrev pub GiveFreeIsFastGive : Type 0
 GiveFreeIsFastGive = (key : Start) (s : St) (r : Ruled key s) (id : ℕ) (me : Sat) (n : ℕ) (x : Node) → Steps s id me → n < length (first_graph key) → IsAway me.0.part.core → owns me.0.part.core n ≡ true →
     get_elem? me.0.held n ≡ some (Some x) → me.1 ≡ (n, Content x) ∷ rest me.1 → slice_index s.words (owner_at n) ≡ packed (taker me.0.part.core) →
     Makes key s r (FastGive me.0.part.core.who n) (stepped s (owner_at n) 0 id me.1 (giving me.0 n) gives)
+
+-- the same of a lock that guards no node: no slot comes or goes
+abbrev pub TakeBareIsFast : Type 0
+TakeBareIsFast = (key : Start) (s : St) (r : Ruled key s) (id : ℕ) (me : Sat) (n : ℕ) → Steps s id me → length (first_graph key) ≤ n → n < key.locks → MayFast me.0.part.core → slice_index s.words (owner_at n) ≡ 0 →
+    Makes key s r (Fast me.0.part.core.who n) (stepped s (owner_at n) (packed (taker me.0.part.core)) id me.1 (knowing me.0 (fast_taken me.0.part.core n)) keeps)
+
+abbrev pub GiveBareIsFastGive : Type 0
+GiveBareIsFastGive = (key : Start) (s : St) (r : Ruled key s) (id : ℕ) (me : Sat) (n : ℕ) → Steps s id me → length (first_graph key) ≤ n → n < key.locks → IsAway me.0.part.core → owns me.0.part.core n ≡ true →
+    slice_index s.words (owner_at n) ≡ packed (taker me.0.part.core) →
+    Makes key s r (FastGive me.0.part.core.who n) (stepped s (owner_at n) 0 id me.1 (knowing me.0 (fast_given me.0.part.core n)) keeps)
 
 -- the own sign word is found 0, and the context ends, as End
 abbrev pub EndIsEnd : Type 0
@@ -80,9 +90,9 @@ StepsExtendTheRun = (key : Start) (s : St) (r : Ruled key s) (e : Event) (log : 
 
 -- the rule holds of a table made just now, and tells the start of the core and no commits
 abbrev pub NewTableShowsStart : Type 0
-NewTableShowsStart = (key : Start) (slots : List Cell) → 1 ≤ key.seats → key.seats ≤ 16 → IsGraph (first_graph key) → AreSlots (first_graph key) slots_in_all slots →
-    let s : St = opening (replicate words_in_all 0) slots (first_sight key) in
-    Ruled key s × ((r : Ruled key s) → (r.core ≡ start key.kind 64 16) × (r.log ≡ []))
+NewTableShowsStart = (key : Start) (slots : List Cell) → 1 ≤ key.seats → key.seats ≤ 16 → key.locks ≤ 65536 → length (first_graph key) ≤ key.locks → IsGraph (first_graph key) → AreSlots (first_graph key) (slots_for key.locks) slots →
+    let s : St = opening (replicate (words_for key.locks) 0) slots (first_sight key) in
+    Ruled key s × ((r : Ruled key s) → (r.core ≡ start key.kind key.locks 16) × (r.log ≡ []))
 
 -- seats that did nothing yet can be handed in to close the table
 abbrev pub NewSeatsCanClose : Type 0

@@ -1,6 +1,6 @@
 //! Laws of the table: each function's contract is one. A step's own call cites the lemma that its law does.
 
-ghost use Rattle.ww_table_laws.specs.Laws.{DrawIsBegin, TakeFreeIsFast, GiveFreeIsFastGive, EndIsEnd, PlaceIsCommit, RuledIsLawful, ShownIsOne, StepsExtendTheRun, NewTableShowsStart, NewSeatsCanClose};
+ghost use Rattle.ww_table_laws.specs.Laws.{DrawIsBegin, TakeFreeIsFast, GiveFreeIsFastGive, TakeBareIsFast, GiveBareIsFastGive, EndIsEnd, PlaceIsCommit, RuledIsLawful, ShownIsOne, StepsExtendTheRun, NewTableShowsStart, NewSeatsCanClose};
 
 /// From every table that the rule allows, a draw is the event Begin on what is shown.
 pub fn draw_is_begin()
@@ -15,6 +15,16 @@ pub fn take_free_is_fast()
 /// Giving back at once is the event FastGive.
 pub fn give_free_is_fast_give()
     ensures { GiveFreeIsFastGive }
+{}
+
+/// A try that wins a lock that guards no node is the event Fast.
+pub fn take_bare_is_fast()
+    ensures { TakeBareIsFast }
+{}
+
+/// Giving such a lock back at once is the event FastGive.
+pub fn give_bare_is_fast_give()
+    ensures { GiveBareIsFastGive }
 {}
 
 /// Finding the own sign 0 is the event End.

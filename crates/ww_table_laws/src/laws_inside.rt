@@ -1,7 +1,7 @@
 //! Laws of the steps at guards, inside them, on signs and on cancels: each function's contract is one. A step's own
 //! call cites the lemma that its law does.
 
-ghost use Rattle.ww_table_laws.specs.InsideLaws.{EnterIsGuard, ExitIsUnguard, JoinIsJoin, TakeIsTake, GiveIsGive, AskIsAsk, DieIsDie, SignIsSign, ClearIsClear, CancelIsCancel, HeedIsHeed, LeaveIsLeave};
+ghost use Rattle.ww_table_laws.specs.InsideLaws.{EnterIsGuard, ExitIsUnguard, JoinIsJoin, TakeIsTake, GiveIsGive, TakeBareInsideIsTake, GiveBareInsideIsGive, AskIsAsk, DieIsDie, SignIsSign, ClearIsClear, CancelIsCancel, HeedIsHeed, LeaveIsLeave};
 
 /// Going inside a guard is the event Guard.
 pub fn enter_is_guard()
@@ -26,6 +26,16 @@ pub fn take_is_take()
 /// Giving a lock back inside its guard is the event Give.
 pub fn give_is_give()
     ensures { GiveIsGive }
+{}
+
+/// Taking a lock inside its guard that guards no node is the event Take.
+pub fn take_bare_inside_is_take()
+    ensures { TakeBareInsideIsTake }
+{}
+
+/// Giving such a lock back inside its guard is the event Give.
+pub fn give_bare_inside_is_give()
+    ensures { GiveBareInsideIsGive }
 {}
 
 /// Asking for a lock is the event Ask.

@@ -5,8 +5,8 @@ ghost use Rattle.ww_plain.specs.Numbers.{is_among};
 ghost use Rattle.ww_lock.specs.Holding.{IsAtHome};
 ghost use Rattle.ww_users.specs.Turns.{IsHaltingTurn};
 
-use crate::locks::{KINDS, begun, chain, closed, ended, locked};
-use crate::transactions::{add, asked_interruptible};
+use crate::locks::{begun, closed, locked};
+use crate::transactions::asked_interruptible;
 use crate::users::{covered, refused};
 use std::alloc::{AllocError, Global};
 use std::process::Abort;
@@ -15,29 +15,12 @@ use std::test::Fail;
 use ww_lock::{Acquiring, Backoff, Contended, Interruptible, Pass, World};
 use ww_plain::{By, Reply, Txn};
 use ww_queue::Kind;
+use ww_test_parts::{KINDS, add, chain, ended, three_passes};
 use ww_txn::{Open, TxnFault};
 use ww_users::{
     UserFault, lock_list_interruptible, lock_order_interruptible, lock_until_interruptible,
     lock_walk_interruptible,
 };
-
-/// A world of three nodes in a chain, with three passes.
-pub(crate) fn three_passes(
-    alloc: Global,
-    kind: Kind,
-    budget: u32,
-) -> Result<(World, Pass, Pass, Pass), AllocError>
-    ensures { IfOk result (λ r. IsAtHome r.1 r.0 × IsAtHome r.2 r.0 × IsAtHome r.3 r.0) }
-{
-    let graph = chain(alloc, [1, 2, 3])?;
-    let Ok((world, mut passes)) = World::open(alloc, kind, graph, 3, budget) else {
-        return Err(AllocError);
-    };
-    let (Some(two), Some(one), Some(zero)) = (passes.pop(), passes.pop(), passes.pop()) else {
-        return Err(AllocError);
-    };
-    Ok((world, zero, one, two))
-}
 
 /// Sets the cancel of a caller, or finds it set.
 pub(crate) fn cancelled<R: Abort>(

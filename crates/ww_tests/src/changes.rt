@@ -3,8 +3,7 @@
 ghost use Rattle.std.specs.Prelude.{◌≡◌, ◌<◌, length};
 ghost use Rattle.ww_lock.specs.Holding.{IsAtHome};
 
-use crate::locks::{chain, closed, one_pass};
-use crate::transactions::add;
+use crate::locks::closed;
 use std::alloc::{AllocError, Global};
 use std::error::Error;
 use std::process::Abort;
@@ -14,6 +13,7 @@ use ww_caller::Refusal;
 use ww_lock::{CloseFault, OpenFault, Pass, Receipt, World};
 use ww_plain::{By, GraphFault, Reply, Txn};
 use ww_queue::Kind;
+use ww_test_parts::{add, chain, one_pass};
 use ww_txn::{ChangeFault, TxnFault, change};
 use ww_users::UserFault;
 

@@ -5,9 +5,8 @@
 ghost use Rattle.std.specs.Prelude.{◌≡◌, IfOk};
 ghost use Rattle.ww_lock.specs.Holding.{IsAtHome, AreAtHome};
 
-use crate::locks::{KINDS, begun, full_graph, graph_of, locked};
-use crate::threads::{is_possible, is_possible_alone};
-use crate::transactions::{add, asked, asked_interruptible, get, values};
+use crate::locks::{begun, full_graph, locked};
+use crate::transactions::{asked, asked_interruptible, get, values};
 use std::alloc::{AllocError, Global};
 use std::cell::Cell;
 use std::process::Abort;
@@ -18,6 +17,7 @@ use ww_crew::run_crew;
 use ww_lock::{CloseFault, Done, History, OpenFault, Pass, Prepared, Receipt, Solo, World};
 use ww_plain::{By, Graph, Reply, Txn, replays};
 use ww_queue::Kind;
+use ww_test_parts::{KINDS, add, graph_of, is_possible, is_possible_alone};
 use ww_txn::{Gate, TxnFault};
 
 /// A graph of nodes with these values. Where a growth is refused, it is made once more.

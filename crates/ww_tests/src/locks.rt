@@ -4,7 +4,6 @@
 ghost use Rattle.std.specs.Prelude.{◌≡◌, ◌<◌, ◌≤◌, length, IfOk};
 ghost use Rattle.ww_lock.specs.Holding.{IsAtHome, AreAtHome};
 
-use crate::threads::is_possible_alone;
 use std::alloc::{AllocError, Global};
 use std::process::Abort;
 use std::sync::Wait;
@@ -14,46 +13,7 @@ use ww_lock::{
 };
 use ww_plain::{By, Graph, Node, PORTS, Reply, Txn};
 use ww_queue::Kind;
-
-pub(crate) const KINDS: [Kind; 2] = [Kind::WoundWait, Kind::WaitDie];
-
-/// A node of this value, whose port 0 leads to this target.
-fn node(value: u64, target: Option<u8>) -> Node {
-    let mut ports = [None; PORTS];
-    ports[0] = target;
-    Node { value, ports }
-}
-
-/// A graph of nodes with these values, of which port 0 leads to these targets.
-pub(crate) fn graph_of(alloc: Global, nodes: &[(u64, Option<u8>)]) -> Result<Graph, AllocError> {
-    let mut all = Vec::new(alloc);
-    for (value, target) in nodes {
-        all.push(node(*value, *target))?;
-    }
-    Graph::new(all).ok().ok_or(AllocError)
-}
-
-/// Three nodes with these values. Port 0 leads from 0 to 1, and from 1 to 2.
-pub(crate) fn chain(alloc: Global, values: [u64; 3]) -> Result<Graph, AllocError> {
-    let [zero, one, two] = values;
-    graph_of(alloc, &[(zero, Some(1)), (one, Some(2)), (two, None)])
-}
-
-/// A world of this graph, with one pass.
-pub(crate) fn one_pass(
-    alloc: Global,
-    kind: Kind,
-    graph: Graph,
-    budget: u32,
-) -> Result<(World, Pass), AllocError>
-    ensures { IfOk result (λ r. IsAtHome r.1 r.0) }
-{
-    let Ok((world, mut passes)) = World::open(alloc, kind, graph, 1, budget) else {
-        return Err(AllocError);
-    };
-    let pass = passes.pop().ok_or(AllocError)?;
-    Ok((world, pass))
-}
+use ww_test_parts::{KINDS, chain, ended, graph_of, is_possible_alone, node, one_pass};
 
 /// A world of these nodes, with two passes, each of which may begin once.
 fn two_passes(
@@ -135,14 +95,6 @@ fn tried<R: Abort>(rt: &R, world: &World, acquiring: Acquiring, n: u8, is_busy: 
             acquiring
         }
     }
-}
-
-/// Gives all locks back and ends the context.
-pub(crate) fn ended<R: Wait>(rt: &R, world: &World, acquiring: Acquiring) -> Pass
-    requires home { IsAtHome acquiring world.now }
-    ensures home { IsAtHome result world.now }
-{
-    acquiring.unlock_all(rt, world).fini(world)
 }
 
 /// Pass 0 holds node 0; pass 1 tries for it, and takes node 1.

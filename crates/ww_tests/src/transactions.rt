@@ -4,7 +4,7 @@
 ghost use Rattle.std.specs.Prelude.{◌≡◌};
 ghost use Rattle.ww_lock.specs.Holding.{IsAtHome};
 
-use crate::locks::{KINDS, chain, closed, graph_of, one_pass};
+use crate::locks::closed;
 use std::alloc::{AllocError, Global};
 use std::cell::{Cell, RefCell};
 use std::process::Abort;
@@ -13,6 +13,7 @@ use std::test::Fail;
 use ww_lock::{Pass, Receipt, Try, World};
 use ww_plain::{By, Reply, Txn};
 use ww_queue::Kind;
+use ww_test_parts::{KINDS, add, chain, graph_of, one_pass, tries};
 use ww_txn::{Gate, Open, TxnFault, transact, transact_interruptible};
 
 /// Asks for a transaction.
@@ -50,10 +51,6 @@ pub(crate) fn asked_interruptible<R: Wait + Abort, G: Gate>(
 
 pub(crate) fn get(alloc: Global, by: By, nodes: &[u8]) -> Result<Txn, AllocError> {
     Ok(Txn::Get(by, Vec::from_slice(alloc, nodes)?))
-}
-
-pub(crate) fn add(alloc: Global, by: By, amounts: &[(u8, u64)]) -> Result<Txn, AllocError> {
-    Ok(Txn::Add(by, Vec::from_slice(alloc, amounts)?))
 }
 
 pub(crate) fn values(alloc: Global, values: &[u64]) -> Result<Reply, AllocError> {
@@ -165,22 +162,6 @@ struct Probe<'a> {
     ghost at_home: { IsAtHome pass world.now },
 }
 
-/// Whether somebody else finds a node busy.
-pub(crate) fn tries<R: Wait + Abort>(rt: &R, world: &World, pass: Pass, n: u8) -> (Pass, bool)
-    requires home { IsAtHome pass world.now }
-    ensures home { IsAtHome result.0 world.now }
-{
-    assert!(rt; n < world.size());
-    let Ok(acquiring) = pass.begin(world) else {
-        panic!(rt; "the pass is spent")
-    };
-    let (acquiring, is_busy) = match acquiring.try_lock(world, n) {
-        Try::Locked(acquiring) => (acquiring, false),
-        Try::Busy(acquiring) => (acquiring, true),
-    };
-    (acquiring.unlock_all(rt, world).fini(world), is_busy)
-}
-
 /// A gate that counts its calls, and sees that node 0 is locked in the first of each transaction and free in the
 /// second.
 #[derive(Drop)]
@@ -192,7 +173,7 @@ struct Watch<'a, R> {
 }
 
 impl<'a, R: Wait + Abort> Watch<'a, R> {
-    fn is_busy(&self) -> bool {
+    fn is_busy(&self) -> Option<bool> {
         let Ok(Some(Probe { world, pass })) = self.probe.try_replace(None) else {
             panic!(self.rt; "the probe is in use")
         };
@@ -206,13 +187,13 @@ impl<'a, R: Wait + Abort> Gate for Watch<'a, R> {
     fn before_commit(&self, caller: u8, seq: u64) {
         assert!(self.rt; caller == 0 && seq == self.asked.get() && seq == self.answered.get());
         self.asked.set(seq.wrapping_add(1));
-        assert!(self.rt; self.is_busy());
+        assert!(self.rt; self.is_busy() == Some(true));
     }
 
     fn answered(&self, caller: u8, seq: u64) {
         assert!(self.rt; caller == 0 && seq == self.answered.get());
         self.answered.set(seq.wrapping_add(1));
-        assert!(self.rt; seq.wrapping_add(1) == self.asked.get() && !self.is_busy());
+        assert!(self.rt; seq.wrapping_add(1) == self.asked.get() && self.is_busy() == Some(false));
     }
 }
 

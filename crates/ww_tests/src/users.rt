@@ -3,8 +3,6 @@
 ghost use Rattle.std.specs.Prelude.{◌≡◌, Err};
 ghost use Rattle.ww_lock.specs.Holding.{IsAtHome};
 
-use crate::locks::{KINDS, chain, one_pass};
-use crate::threads::is_possible;
 use std::alloc::Global;
 use std::process::Abort;
 use std::sync::Wait;
@@ -12,6 +10,7 @@ use std::test::Fail;
 use ww_lock::{Done, Pass, World};
 use ww_plain::Txn;
 use ww_queue::Kind;
+use ww_test_parts::{KINDS, chain, is_possible, one_pass};
 use ww_users::{UserFault, lock_list, lock_order, lock_walk};
 
 /// Gives all back, where the transaction can be made with what is held.

@@ -1,5 +1,5 @@
 -- What a seat inside a guard knows after its own event, and what any seat knows of what it found.
-use Rattle.std.proofs.Common.{rules, ◌≡◌, ◌≢◌, ⊎_elim, ℕ, suc, ◌<◌, Bool, List, ◌∷◌, Some, refl, sym, ap, ◌∙◌, subst, arith, true≢false}
+use Rattle.std.proofs.Common.{rules, length, ◌≡◌, ◌≢◌, ⊎_elim, ℕ, suc, ◌<◌, Bool, List, ◌∷◌, Some, refl, sym, ap, ◌∙◌, subst, arith, true≢false}
 use mathlib.Core.Logic.{dite}
 use native.Mathlib.Decide.{dec_le}
 use Rattle.ww_word.specs.declared.owner.Owner.{Owner}
@@ -51,14 +51,14 @@ module _ (c : State) (v : View) (l : IsLawful c) (k : Knows c v) where
       lock_of n own = dite (dec_le c.locks n)
           (λ beyond. absurd (let o = l.base.owners.beyond n beyond in cc)) (λ below. omega arith)
 
-      same_holds : any_below 64 (owns v) ≡ any_below c.locks (λ n. is_taken_by v.who (c.owner n))
-      same_holds = same_test (any_below 64 (owns v)) (any_below c.locks (λ n. is_taken_by v.who (c.owner n)))
-          (λ some. let f = below_found 64 (owns v) some in let own = k.owned.has f.0 f.2 in
+      same_holds : any_below (length v.owned) (owns v) ≡ any_below c.locks (λ n. is_taken_by v.who (c.owner n))
+      same_holds = same_test (any_below (length v.owned) (owns v)) (any_below c.locks (λ n. is_taken_by v.who (c.owner n)))
+          (λ some. let f = below_found (length v.owned) (owns v) some in let own = k.owned.has f.0 f.2 in
           found_below c.locks (λ n. is_taken_by v.who (c.owner n)) f.0 (lock_of f.0 own)
           (true_taken v.who (c.owner f.0) own))
           (λ some. let f = below_found c.locks (λ n. is_taken_by v.who (c.owner n)) some in
-          let low : f.0 < 64 = (let y = k.itself.locks in let z = f.1 in omega arith) in
-          found_below 64 (owns v) f.0 low (k.owned.lacks f.0 (taken_true v.who (c.owner f.0) f.2)))
+          let low : f.0 < length v.owned = (let z = f.1 in let r = k.owned.room in omega arith) in
+          found_below (length v.owned) (owns v) f.0 low (k.owned.lacks f.0 (taken_true v.who (c.owner f.0) f.2)))
 
   -- the seat joins that list, and then stands in it
   stands : (n : ℕ) → v.inside ≡ suc n → v.waits ≡ 0 →

@@ -47,10 +47,10 @@ taken_from WaitDie sign j is = (refl, is)
 
 module _ (c : State) (v : View) (l : IsLawful c) (k : Knows c v) where
   within : (n : ℕ) → n < c.locks → n < length v.owned
-  within n lock = let z = k.owned.room in let y = k.itself.locks in omega arith
+  within n lock = let z = k.owned.room in omega arith
 
   -- the seat takes lock n
-  pub gets : (n : ℕ) → n < c.locks → KnowsOwned (put c.owner n (Taken v.who)) v.who (set v.owned n true)
+  pub gets : (n : ℕ) → n < c.locks → KnowsOwned c.locks (put c.owner n (Taken v.who)) v.who (set v.owned n true)
   gets n lock = record {
     room = length-set v.owned n true ∙ k.owned.room;
     has = λ m. put_cases c.owner n (Taken v.who) m (λ o. get_or (set v.owned n true) m false ≡ true → o ≡ Taken v.who)
@@ -62,7 +62,7 @@ module _ (c : State) (v : View) (l : IsLawful c) (k : Knows c v) where
 
   -- it gives lock n back, to this owner
   pub gives : (n : ℕ) (o : Holder) → n < c.locks → o ≢ Taken v.who →
-      KnowsOwned (put c.owner n o) v.who (set v.owned n false)
+      KnowsOwned c.locks (put c.owner n o) v.who (set v.owned n false)
   gives n o lock isnt_mine = record {
     room = length-set v.owned n false ∙ k.owned.room;
     has = λ m. put_cases c.owner n o m (λ x. get_or (set v.owned n false) m false ≡ true → x ≡ Taken v.who)
@@ -81,7 +81,7 @@ module _ (c : State) (v : View) (l : IsLawful c) (k : Knows c v) where
   not_inside : Away c v.who → (n : ℕ) → v.inside ≡ suc n → ⊥
   not_inside away n is = away.inside n (k.guard.guards n is).1
 
-  restamped : (j : ℕ) → KnowsItself c.kind c.locks c.seats (put c.stamp v.who j) v.kind v.who j
+  restamped : (j : ℕ) → KnowsItself c.kind c.seats (put c.stamp v.who j) v.kind v.who j
   restamped j = assumption (sym (put_here c.stamp v.who j))
 
   pub mine_begin : Possible c (Begin v.who) → IsBare v → Knows (after c (Begin v.who)) (begun v (c.drawn + 1))

@@ -1,5 +1,5 @@
 -- What a seat knows stays, whatever the others do.
-use Rattle.std.proofs.Common.{◌≡◌, ◌≢◌, inl, inr, ⊎_elim, ℕ, zero, suc, ◌<◌, ◌≤◌, Some, [], refl, sym, ap, ◌∙◌, subst, true≢false}
+use Rattle.std.proofs.Common.{◌≡◌, ◌≢◌, inl, inr, ⊎_elim, ℕ, zero, suc, ◌<◌, Some, [], refl, sym, ap, ◌∙◌, subst, true≢false}
 use Rattle.ww_model.specs.State.{State}
 use Rattle.ww_model.specs.Alone.{NobodySigns}
 use Rattle.ww_model.proofs.Meetings.{same_kind}
@@ -24,11 +24,10 @@ others_know c e v l can other k = let t = v.who in let alone = others_are_left_a
   itself = record {
     kind = k.itself.kind ∙ sym (same_kind c e);
     seat = subst (λ x. t < x) (sym (same_seats c e)) k.itself.seat;
-    locks = subst (λ x. x ≤ 64) (sym (same_locks c e)) k.itself.locks;
     stamp = k.itself.stamp ∙ sym alone.stamp;
   };
   owned = record {
-    room = k.owned.room;
+    room = k.owned.room ∙ sym (same_locks c e);
     has = λ n is. (alone.taken n).0 (k.owned.has n is);
     lacks = λ n is. k.owned.lacks n ((alone.taken n).1 is);
   };

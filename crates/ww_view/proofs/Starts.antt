@@ -1,25 +1,27 @@
 -- What a seat knows at the start, and where it rests.
-use Rattle.std.proofs.Common.{rules, ◌≡◌, inl, ℕ, zero, suc, ◌<◌, ◌≤◌, false, replicate, get_or, refl, sym, ◌∙◌, subst, arith, true≢false}
+use Rattle.std.proofs.Common.{rules, ◌≡◌, inl, ℕ, zero, suc, ◌<◌, false, replicate, get_or, refl, sym, ◌∙◌, subst, arith, true≢false}
+use Rattle.std.proofs.lemmas.List.{length-replicate}
 use Rattle.ww_model.specs.State.{State, start, OwnsNone, InsideNone, InNoQueue}
 use Rattle.ww_model.proofs.Cancels.{away_unheeded}
 use Rattle.ww_view.specs.View.{Knows, first_view}
 use Rattle.ww_view.specs.Laws.{KnowsAtStart, RestsAsAtStart}
 use Rattle.ww_view.proofs.Shows.{bare_none, is_away, solo_unsigned}
 
-none_at : (k n : ℕ) → get_or (replicate k false) n false ≡ false
+-- a list that has no true at all, as that of the locks that a seat owns at the start
+pub none_at : (k n : ℕ) → get_or (replicate k false) n false ≡ false
 none_at zero n = refl
 none_at (suc k) zero = refl
 none_at (suc k) (suc n) = none_at k n
 
 -- a seat of which the core says that it rests
-resting : (c : State) (s : ℕ) → c.locks ≤ 64 → s < c.seats → 0 ≡ c.stamp s → OwnsNone c s → InsideNone c s →
+resting : (c : State) (s : ℕ) → s < c.seats → 0 ≡ c.stamp s → OwnsNone c s → InsideNone c s →
     InNoQueue c s → c.sign s ≡ 0 → c.heeded s ≡ 0 →
-    Knows c (first_view c.kind s)
-resting c s few seat solo bare outside away unsigned unheeded = record {
+    Knows c (first_view c.kind c.locks s)
+resting c s seat solo bare outside away unsigned unheeded = record {
   itself = assumption;
   owned = record {
-    room = refl;
-    has = λ n own. absurd (true≢false (sym own ∙ none_at 64 n));
+    room = length-replicate c.locks false;
+    has = λ n own. absurd (true≢false (sym own ∙ none_at c.locks n));
     lacks = λ n own. absurd (bare n own);
   };
   guard = search (rules, outside);
@@ -27,17 +29,17 @@ resting c s few seat solo bare outside away unsigned unheeded = record {
   seen = search rules;
   signed = search rules;
   sign = search (rules, unsigned);
-  quiet = λ _. inl (none_at 64);
+  quiet = λ _. inl (none_at c.locks);
   heeded = sym unheeded;
 }
 
 pub knows_start : KnowsAtStart
-knows_start kind locks seats s few seat =
-    resting (start kind locks seats) s few seat refl (λ n own. cc) (λ n is. omega arith) (λ n e h i. h) refl refl
+knows_start kind locks seats s seat =
+    resting (start kind locks seats) s seat refl (λ n own. cc) (λ n is. omega arith) (λ n e h i. h) refl refl
 
 -- a seat that rests is as at the start, whatever it did before
 pub rests : RestsAsAtStart
 rests c v l k away solo bare = let a = is_away c v l k away in
-    subst (λ kind. Knows c (first_view kind v.who)) (sym k.itself.kind)
-    (resting c v.who k.itself.locks k.itself.seat (sym solo ∙ k.itself.stamp) (bare_none c v l k bare)
+    subst (λ kind. Knows c (first_view kind c.locks v.who)) (sym k.itself.kind)
+    (resting c v.who k.itself.seat (sym solo ∙ k.itself.stamp) (bare_none c v l k bare)
     a.inside a.queue (solo_unsigned c v l k solo) (away_unheeded c l.base v.who a.queue))

@@ -1,5 +1,5 @@
 -- What each step makes of the view.
-use Rattle.std.specs.Prelude.{ℕ, zero, suc, ◌+◌, ◌==◌, not, Bool, true, false, List, [], ◌∷◌, ◌++◌, filter, Option, Some, None, slice_get, slice_set}
+use Rattle.std.specs.Prelude.{ℕ, zero, suc, ◌+◌, ◌==◌, not, Bool, true, false, List, [], ◌∷◌, ◌++◌, filter, Option, Some, None, slice_get, slice_set, length}
 use Rattle.std.specs.Option.{option_map, unwrap_or}
 use Rattle.ww_word.specs.declared.owner.Owner.{Owner}
 use Rattle.ww_word.specs.Owner.{with_waiters}
@@ -71,7 +71,7 @@ fast_kept v = record v { fresh = false; kept = v.kept + 1 }
 
 -- it read an owner word, which tells nothing that lasts
 abbrev pub glanced : View → View
-glanced v = record v { glances = v.glances + 1 }
+glanced v = record v { glances = v.glances + 1; all_glances = v.all_glances + 1 }
 
 -- it would set the cancel of a seat, and one was pending
 abbrev pub found_pending : View → View
@@ -114,7 +114,7 @@ exited v = record v {
 
 -- the seat as a waiter
 abbrev pub entry_of_view : View → Entry
-entry_of_view v = record { seat = v.who; stamp = v.stamp; holds = any_below 64 (owns v) }
+entry_of_view v = record { seat = v.who; stamp = v.stamp; holds = any_below (length v.owned) (owns v) }
 
 -- it joined the list; o was the word before
 abbrev pub queued : View → ℕ → Owner → View

@@ -1,5 +1,5 @@
 -- What a view says of its seat, and what the seat knows of the core by it.
-use Rattle.std.specs.Prelude.{ℕ, suc, ◌≡◌, ◌≢◌, ◌<◌, ◌≤◌, ◌⊎◌, Bool, true, false, List, [], Some, None, length, replicate}
+use Rattle.std.specs.Prelude.{ℕ, suc, ◌≡◌, ◌≢◌, ◌<◌, ◌⊎◌, Bool, true, false, List, [], Some, None, length, replicate}
 use Rattle.std.specs.List.{slice_index_or}
 use Rattle.ww_word.specs.declared.owner.Owner.{Owner}
 use Rattle.ww_queue.specs.declared.kind.Kind.{Kind}
@@ -29,13 +29,13 @@ IsAway v = (v.inside ≡ 0) × (v.waits ≡ 0)
 abbrev pub IsQuiet : View → Type 0
 IsQuiet v = IsBare v ⊎ ((v.kind ≡ WaitDie) × (v.inside ≢ 0))
 
--- the view of a seat that has done nothing yet
-abbrev pub first_view : Kind → ℕ → View
-first_view kind s = record {
+-- the view of a seat that has done nothing yet, at a table of so many locks
+abbrev pub first_view : Kind → ℕ → ℕ → View
+first_view kind locks s = record {
   kind = kind;
   who = s;
   stamp = 0;
-  owned = replicate 64 false;
+  owned = replicate locks false;
   inside = 0;
   list = [];
   waits = 0;
@@ -47,6 +47,7 @@ first_view kind s = record {
   fresh = false;
   tries = 0;
   glances = 0;
+  all_glances = 0;
   takes = 0;
   deaths = 0;
   kept = 0;
@@ -63,16 +64,15 @@ first_view kind s = record {
 -- ---- what the seat knows, each part a definition over just what it reads of the core and of the view
 
 -- of itself: the kind of the locks, that it is one of the seats, and its stamp
-pub record KnowsItself (core_kind : Kind) (core_locks core_seats : ℕ) (core_stamp : ℕ → ℕ) (own_kind : Kind)
+pub record KnowsItself (core_kind : Kind) (core_seats : ℕ) (core_stamp : ℕ → ℕ) (own_kind : Kind)
     (who own_stamp : ℕ) : Type 0 where
   pub kind : own_kind ≡ core_kind
   pub seat : who < core_seats
-  pub locks : core_locks ≤ 64
   pub stamp : own_stamp ≡ core_stamp who
 
 -- which locks it has taken
-pub record KnowsOwned (owner : ℕ → Holder) (who : ℕ) (owned : List Bool) : Type 0 where
-  pub room : length owned ≡ 64
+pub record KnowsOwned (core_locks : ℕ) (owner : ℕ → Holder) (who : ℕ) (owned : List Bool) : Type 0 where
+  pub room : length owned ≡ core_locks
   pub has : (n : ℕ) → slice_index_or owned n false ≡ true → owner n ≡ Taken who
   pub lacks : (n : ℕ) → owner n ≡ Taken who → slice_index_or owned n false ≡ true
 
@@ -92,8 +92,8 @@ pub record KnowsQueues (queue : ℕ → List Entry) (who own_inside : ℕ) (own_
 -- that whom it found signed there is so, as long as it owes that sign; and its own sign. That this is 0 it knows only
 -- while it is quiet.
 pub record Knows (c : State) (v : View) : Type 0 where
-  pub itself : KnowsItself c.kind c.locks c.seats c.stamp v.kind v.who v.stamp
-  pub owned : KnowsOwned c.owner v.who v.owned
+  pub itself : KnowsItself c.kind c.seats c.stamp v.kind v.who v.stamp
+  pub owned : KnowsOwned c.locks c.owner v.who v.owned
   pub guard : KnowsGuard c.locks c.guard v.who v.inside
   pub queues : KnowsQueues c.queue v.who v.inside v.list v.waits
   pub seen : (n : ℕ) (o : Owner) → v.inside ≡ suc n → v.seen ≡ Some o → c.queue n ≢ [] → o ≡ word_of c n

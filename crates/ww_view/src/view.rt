@@ -5,7 +5,7 @@ use ww_word::Owner;
 
 /// What a seat met at its death: for which older context it backed off from which lock, and what it saw there.
 pub struct Met {
-    pub lock: u8,
+    pub lock: u32,
     /// The stamp of the older context.
     pub stamp: u64,
     /// The owner word of the lock.
@@ -19,14 +19,14 @@ pub struct View {
     pub kind: Kind,
     pub who: u8,
     pub stamp: u64,
-    /// Whether it owns the lock.
-    pub owned: [bool; 64],
+    /// Of each lock of the table, whether it owns it.
+    pub owned: LinkedList<bool>,
     /// 0, or 1 more than the lock whose guard it is inside of.
-    pub inside: u8,
+    pub inside: u32,
     /// The wait list of that lock.
     pub list: Queue,
     /// 0, or 1 more than the lock in whose list it stands.
-    pub waits: u8,
+    pub waits: u32,
     /// The owner word of the lock that it is inside of, as it last read or wrote it there.
     pub seen: Option<Owner>,
     /// The seats that it found or made signed there, since it last changed the list or the owner.
@@ -43,6 +43,8 @@ pub struct View {
     pub tries: u64,
     /// How often it glanced at an owner word from outside its guard, since it last tried to take a lock at once.
     pub glances: u64,
+    /// How often it glanced at an owner word at all.
+    pub all_glances: u64,
     /// How often it took a lock, at once or inside its guard.
     pub takes: u64,
     /// How often it backed off.
@@ -59,7 +61,7 @@ pub struct View {
     pub heeded: u8,
     /// How often it was interrupted, the last time first: the lock whose wait list it left, and the seat whose cancel
     /// it had heeded. No other step changes it.
-    pub stopped: LinkedList<(u8, u8)>,
+    pub stopped: LinkedList<(u32, u8)>,
     /// How often it tried to set the cancel of a seat, and found one pending.
     pub pendings: u64,
     /// How often it tried to go inside a guard, or read an owner word inside of one.
@@ -67,5 +69,5 @@ pub struct View {
     /// The seat that was the first waiter, if somebody waited, as it last gave a lock back inside its guard.
     pub heir: Option<u8>,
     /// The locks that it owns, in the order in which it took them.
-    pub locks: LinkedList<u8>,
+    pub locks: LinkedList<u32>,
 }

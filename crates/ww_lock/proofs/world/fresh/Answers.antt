@@ -14,7 +14,7 @@ invariant_of-push_reserved c =
     c.requires.seats.new i.2 (search rules) i.3 (search rules) in
     let hand : Hand = record { seat = c.in-Some.seat; left = c.args.budget; marks = replicate 64 false; seen = c.in-Some-pop.field-0.seen; patience = c.in-Some-pop.field-0.patience } in
     subst (λ (h : Hand). Carries h × (h.seat.stamp ≡ 0) × (held_of h ≡ [])) (sym c.in-Ok.ensures.ok)
-    (new_carries shared.table_id shared.key (length c.loop-seat.yielded) hand next.0 refl next.3 c.args.board.now.few (omega (arith, c.ranges.budget.fits)), new_idle shared.table_id shared.key _ c.in-Some.seat next.0, new_holds_nothing shared.table_id shared.key (length c.loop-seat.yielded) hand next.0)
+    (new_carries shared.table_id shared.key (length c.loop-seat.yielded) hand next.0 refl next.3 c.args.board.now.few c.requires.locks (omega (arith, c.ranges.budget.fits)), new_idle shared.table_id shared.key _ c.in-Some.seat next.0, new_holds_nothing shared.table_id shared.key (length c.loop-seat.yielded) hand next.0)
 
 pub loop-seat-preserved : goal.loop-seat-preserved
 loop-seat-preserved c =

@@ -1,6 +1,7 @@
 use Rattle.std.proofs.Common.{ℕ, ◌<◌, false, sym, ap, ◌∙◌, subst}
 use Rattle.std.specs.Prelude.{slice_set}
 use Rattle.ww_low_tests.specs.Looking.{just}
+use Rattle.ww_low_tests.proofs.Holding.{none_nodes}
 use Rattle.ww_low_tests.proofs.Still.{holds_still, looks_still, settled}
 use Rattle.ww_low_tests.proofs.rings.hand_back.Goals as goal
 
@@ -18,6 +19,7 @@ returns-clause-holds g c = let h = c.requires.younger.owns in let e = c.give_wai
     kind = e.given.same.kind ∙ h.kind;
     context = subst (λ (k : ℕ). 0 < k) (sym e.given.same.stamp) h.context;
     owned = e.given.owned ∙ ap (λ l. slice_set l 1 false) h.owned;
+    nodes = none_nodes _;
   };
   away = e.settled.away;
 })

@@ -9,16 +9,16 @@ use Rattle.ww_low_tests.proofs.Gathered.{all_come}
 use Rattle.ww_low_tests.proofs.rounds.crowd.Goals as goal
 
 pub map_vec-requires-after_bounds : goal.map_vec-requires-after_bounds
-map_vec-requires-after_bounds g c = λ κs live i x lt is. let board = c.in-Ok.board in
-    subst (IsUnused board) (sym is) (all_item (IsUnused board) c.in-Ok.seats.items i x lt (new_unused _ _ _ board c.in-Ok.seats.items board.few c.in-Ok.ensures.ok))
+map_vec-requires-after_bounds g c = λ κs live i x lt is. let board = c.in_ok-board.board in
+    subst (IsUnused board) (sym is) (all_item (IsUnused board) c.in_ok-board.seats.items i x lt (new_unused _ _ _ _ board c.in_ok-board.seats.items c.in_ok-board.ensures))
 
 pub apart-requires : goal.apart-requires
 apart-requires g c = recursion_from_All _ c.in_ok-works.works.items (λ i d lt.
-    let count : i < length c.in-Ok.seats.items = omega (arith, lt, c.in_ok-works.ensures.len) in
+    let count : i < length c.in_ok-board.seats.items = omega (arith, lt, c.in_ok-works.ensures.len) in
     let job = (c.in_ok-works.ensures.each i d count).1 in
     job.call.met)
 
 pub closed-requires : goal.closed-requires
 closed-requires g c = let count : length c.in_ok-seats.seats.items ≡ c.args.threads = search rules in
-    let come = all_come c.in-Ok.board c.in_ok-seats.seats.items c.in_ok-seats.ensures (count ∙ sym c.in-Ok.ensures.ok.count_is) in
+    let come = all_come c.in_ok-board.board c.in_ok-seats.seats.items c.in_ok-seats.ensures (count ∙ sym c.in_ok-board.ensures.count_is) in
     subst (λ (v : Board). HaveAllCome v.table.shared.table_id v.table.shared.key c.in_ok-seats.seats.items) (sym c.compare.ensures) come

@@ -9,5 +9,5 @@ give_free-requires-clause-out c = let r = c.requires.resting.rests in let low = 
 pub returns : goal.returns
 returns c = record {
   seated = c.give_free.ensures.seat;
-  rests = rests_again _ c.args.seat.now.seat.me _ _ c.args.lock c.requires.resting.rests c.requires.lock (let t = c.take_free.ensures.took c.if-not-take_free.false in (t.0, t.2)) (c.give_free.ensures.gave c.if-not-give_free.false);
+  rests = rests_again _ c.args.seat.now.seat.me _ _ c.args.lock c.requires.resting.rests (let low = c.requires.lock in let all = c.requires.size in omega arith) (let t = c.take_free.ensures.took c.if-not-take_free.false in (t.0, t.2)) (c.give_free.ensures.gave c.if-not-give_free.false);
 }

@@ -4,4 +4,4 @@ use Rattle.ww_rule.specs.Homes.{AreTakenBelow}
 use Rattle.ww_rule.proofs.homes.discard.Given as goal
 
 abbrev pub invariant-loop-i : goal.invariant-loop-i
-invariant-loop-i l = AreTakenBelow l.i 128 (slots_filled l.closed.slots) × (slots_len l.closed.slots ≡ 128)
+invariant-loop-i l = AreTakenBelow l.i l.count (slots_filled l.closed.slots) × (slots_len l.closed.slots ≡ l.count)

@@ -16,7 +16,7 @@ unreachable-requires c = let i = c.loop-n.invariant in let x = c.requires.nodes 
 pub loop-n-preserved : goal.loop-n-preserved
 loop-n-preserved c = let i = c.loop-n.invariant in let t = c.take.ensures in let p = c.push_reserved.ensures in
     let here : get_elem? (slots_items c.args.closed.slots) c.loop-n.n ≡ some (Content c.in-Content.node) = ap (λ l. get_elem? l c.loop-n.n) (sym i.2) ∙ ap (get_elem? (slots_items c.loop-n.closed.slots)) (sym c.from.ensures) ∙ t.value ∙ ap some c.in-Content.is in (
-      subst (AreTakenBelow _ 128) (sym (t.others.1 ∙ ap (λ k. slice_set (slots_filled c.loop-n.closed.slots) k false) c.from.ensures)) (take_on c.loop-n.n 128 (slots_filled c.loop-n.closed.slots) i.0),
+      subst (AreTakenBelow _ c.args.count) (sym (t.others.1 ∙ ap (λ k. slice_set (slots_filled c.loop-n.closed.slots) k false) c.from.ensures)) (take_on c.loop-n.n c.args.count (slots_filled c.loop-n.closed.slots) i.0),
       t.others.2 ∙ i.1,
       t.others.0 ∙ i.2,
       (let l = ap length p.items in let m = length-append c.loop-n.nodes.items (c.in-Content.node ∷ []) in let k = i.3 in omega arith),

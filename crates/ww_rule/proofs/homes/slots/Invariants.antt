@@ -4,4 +4,4 @@ use Rattle.ww_rule.specs.Homes.{AreSlots}
 use Rattle.ww_rule.proofs.homes.slots.Given as goal
 
 abbrev pub invariant-loop-n : goal.invariant-loop-n
-invariant-loop-n l = AreSlots l.graph l.n l.slots.items × (vec_len l.slots ≡ l.n) × (128 ≤ vec_capacity l.slots)
+invariant-loop-n l = AreSlots l.graph l.n l.slots.items × (vec_len l.slots ≡ l.n) × (l.count ≤ vec_capacity l.slots)

@@ -1,4 +1,4 @@
-use Rattle.std.proofs.Common.{◌≡◌, true, List, ap, sym, subst, ◌∙◌}
+use Rattle.std.proofs.Common.{◌≡◌, ℕ, ◌<◌, true, List, ap, sym, subst, ◌∙◌}
 use Rattle.std.specs.List.{AllByRecursion}
 use Rattle.ww_plain.specs.declared.node.Node.{Node}
 use Rattle.ww_plain.specs.Footprint.{footprint_of}
@@ -6,6 +6,7 @@ use Rattle.ww_plain.specs.Transaction.{transaction_of}
 use Rattle.ww_plain.specs.Meaning.{graph_after}
 use Rattle.ww_view.specs.View.{owns}
 use Rattle.ww_rule.specs.Rule.{Sat}
+use Rattle.ww_rule.proofs.Fits.{place_low}
 use Rattle.ww_table.specs.Seat.{size_of}
 use Rattle.ww_seat.specs.declared.committing.NodeChange.{NodeChange}
 use Rattle.ww_seat.proofs.Changes.{may_place, all_change, start_orderly, end_orderly, has_committed, still_away}
@@ -34,8 +35,9 @@ change-requires-clause-owned c =
     let before : List Node = c.args.before.now.value in
     let t = transaction_of c.args.done.txn in
     let m : Sat = c.place-place.new.self.seat.me in
-    subst (AllByRecursion (λ (x : NodeChange). owns m.0.part.core x.number ≡ true)) (sym c.requires.changes)
-    (all_change (λ n. owns m.0.part.core n ≡ true) before (graph_after before t) (footprint_of before t) (λ n e. ap (λ (z : Sat). owns z.0.part.core n) c.place-place.ensures.placed ∙ (c.requires.held n e).0))
+    subst (AllByRecursion (λ (x : NodeChange). (x.number < size_of c.args.board.now) × (owns m.0.part.core x.number ≡ true))) (sym c.requires.changes)
+    (all_change (λ n. (n < size_of c.args.board.now) × (owns m.0.part.core n ≡ true)) before (graph_after before t) (footprint_of before t)
+    (λ n e. (subst (λ (k : ℕ). n < k) c.requires.seat.orderly.held (place_low c.args.seat.now.seat.me.0.held n _ (c.requires.held n e).1), ap (λ (z : Sat). owns z.0.part.core n) c.place-place.ensures.placed ∙ (c.requires.held n e).0)))
 
 pub returns-clause-seat : goal.returns-clause-seat
 returns-clause-seat c =

@@ -1,10 +1,9 @@
-use Rattle.std.proofs.Common.{length}
-use Rattle.ww_rule.specs.Rule.{first_graph}
-use Rattle.ww_seat.proofs.AtOnce.{holding_signs, holding_none}
+use Rattle.std.proofs.Common.{inl, inr, ◌∙◌}
+use Rattle.ww_seat.proofs.Outside.{owner_of_some, bare_of_none}
 use Rattle.ww_seat.proofs.fast.unsign_if_bare.Goals as goal
 
-pub returns-then-has_out-clause-signs : goal.returns-then-has_out-clause-signs
-returns-then-has_out-clause-signs c = holding_signs (length (first_graph c.args.board.now.table.shared.key)) c.args.seat.now.seat.me c.has_out.result c.requires.seat.orderly c.requires.seat.away.0 c.has_out.ensures c.if-has_out.true
+pub returns-then-holds-clause-signs : goal.returns-then-holds-clause-signs
+returns-then-holds-clause-signs c = inr (inr (inl (owner_of_some c.args.seat.now.seat.me.0.part.core (c.requires.holds ∙ c.if-holds.true))))
 
 pub unsign_bare-requires-clause-bare : goal.unsign_bare-requires-clause-bare
-unsign_bare-requires-clause-bare c = holding_none (length (first_graph c.args.board.now.table.shared.key)) c.args.seat.now.seat.me c.has_out.result c.requires.seat.orderly c.has_out.ensures c.if-has_out.false
+unsign_bare-requires-clause-bare c = bare_of_none c.args.seat.now.seat.me.0.part.core (c.requires.holds ∙ c.if-holds.false)

@@ -1,4 +1,5 @@
-use Rattle.std.proofs.Common.{Bool, refl, sym, subst, ◌∙◌}
+use Rattle.std.proofs.Common.{Bool, false, List, get_or, refl, sym, ap, subst, ◌∙◌, length}
+use Rattle.ww_model.specs.State.{any_below}
 use Rattle.ww_table.specs.Seat.{size_of}
 use Rattle.ww_seat.specs.Work.{has_joined, looks_again, IsAtWork}
 use Rattle.ww_seat.proofs.Holds.{look_then}
@@ -25,3 +26,6 @@ returns-in-Some-look_once-clause-tries g c = c.in-Some-look_once.ensures.tries �
 
 pub look_once-requires-clause-woken : goal.look_once-requires-clause-woken
 look_once-requires-clause-woken g c = c.loop.invariant.3
+
+pub look_once-requires-clause-holds : goal.look_once-requires-clause-holds
+look_once-requires-clause-holds g c = ap (λ (l : List Bool). any_below (length l) (λ n. get_or l n false)) c.loop.invariant.1.holds.owned ∙ c.requires.holds

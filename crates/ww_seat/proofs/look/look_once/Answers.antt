@@ -1,5 +1,7 @@
-use Rattle.std.proofs.Common.{Bool, true, length, sym, subst, ◌∙◌, IfNone}
-use Rattle.ww_rule.specs.Rule.{first_graph}
+use Rattle.std.proofs.Common.{Bool, true, length, sym, ap, subst, ◌∙◌, IfNone}
+use Rattle.ww_model.specs.State.{any_below}
+use Rattle.ww_view.specs.View.{owns}
+use Rattle.ww_rule.specs.Rule.{Sat, first_graph}
 use Rattle.ww_seat.specs.Work.{has_joined, looks_again, IsWorking, IsAtWork}
 use Rattle.ww_seat.proofs.Working.{woken_still, woken_looked, look_counts, work_touched, work_looked}
 use Rattle.ww_seat.proofs.Signing.{if_none}
@@ -125,3 +127,11 @@ returns-in-Some-stop_if_cancelled-clause-attempted c = c.stop_if_cancelled.ensur
 
 pub returns-clause-attempted : goal.returns-clause-attempted
 returns-clause-attempted c = c.stay_or_back_off.ensures.attempts ∙ c.stop_if_cancelled.ensures.condemned.attempts ∙ c.stand.ensures.condemned.attempts ∙ look_counts c.args.seat.now.seat.me c.look-seen.new.self.seat.me c.look-seen.result c.look-seen.ensures.looked
+
+pub stand-requires-clause-holds : goal.stand-requires-clause-holds
+stand-requires-clause-holds c = ap (λ (z : Sat). any_below (length z.0.part.core.owned) (owns z.0.part.core)) c.look-seen.ensures.looked ∙ c.requires.holds
+
+pub returns-in-None-clause-lost : goal.returns-in-None-clause-lost
+returns-in-None-clause-lost c = let size = length (first_graph c.args.board.now.table.shared.key) in let n = c.args.lock in let later = looks_again c.args.arrival.now in let stands = has_joined c.args.arrival.now in let m = c.args.seat.now.seat.me in let m1 = c.look-seen.new.self.seat.me in
+    let w1 = work_looked size n stands later m m1 c.look-seen.result c.requires.orderly c.requires.work c.look-seen.ensures.looked in
+    work_touched size n m stands later m1 c.take_inside.new.seat.seat.me w1 c.in-None.ensures.lost

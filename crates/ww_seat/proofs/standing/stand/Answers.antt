@@ -3,7 +3,6 @@ use Rattle.ww_rule.specs.Rule.{Sat}
 use Rattle.ww_rule.specs.Guards.{lost}
 use Rattle.ww_rule.specs.Waiting.{joining}
 use Rattle.ww_seat.specs.Work.{has_joined, IsWorking}
-use Rattle.ww_seat.proofs.Outside.{holds_inside}
 use Rattle.ww_seat.proofs.Working.{touched_lost, none_condemned}
 use Rattle.ww_seat.proofs.Stood.{may_join, has_stood, stood_already}
 use Rattle.ww_seat.proofs.standing.stand.Goals as goal
@@ -16,9 +15,6 @@ join-requires-clause-may c = may_join c.args.lock c.requires.work.0 c.args.seat.
 
 pub join-requires-clause-list : goal.join-requires-clause-list
 join-requires-clause-list c = c.requires.orderly.list c.args.lock c.requires.work.1.inside
-
-pub join-requires-clause-nodes : goal.join-requires-clause-nodes
-join-requires-clause-nodes c = holds_inside _ c.args.seat.now.seat.me c.args.lock c.requires.orderly c.requires.work.1.inside
 
 pub returns-then-not-join-clause-lost : goal.returns-then-not-join-clause-lost
 returns-then-not-join-clause-lost c = touched_lost _ c.args.seat.now.seat.me _ c.requires.orderly (c.join.ensures.lost c.if-not-join.true)

@@ -1,25 +1,24 @@
-use Rattle.std.proofs.Common.{ap, sym, subst, ⊎_elim}
+use Rattle.std.proofs.Common.{◌≤◌, ap, sym, subst, ⊎_elim, arith}
 use Rattle.ww_plain.proofs.Members.{true_or_false}
 use Rattle.ww_view.specs.View.{IsAway}
 use Rattle.ww_rule.specs.declared.cells.Sight.{Sight}
-use Rattle.ww_seat.proofs.Gives.{node_out, given_free, kept_free, still_kept}
+use Rattle.ww_table.specs.Seat.{size_of}
+use Rattle.ww_seat.proofs.Gives.{given_bare, kept_bare, still_kept}
 use Rattle.ww_seat.proofs.turns.give_at_once.Goals as goal
 
-pub give_free-requires-clause-out : goal.give_free-requires-clause-out
-give_free-requires-clause-out c = node_out _ c.args.seat.now.seat.me c.args.lock c.requires.settled.orderly c.requires.owner
-
-pub returns-clause-settled : goal.returns-clause-settled
-returns-clause-settled c = let s = c.requires.settled in ⊎_elim
-    (λ t. let e = c.give_free.ensures.gave t in let z = given_free _ c.args.seat.now.seat.me c.give_free.new.self.seat.me c.args.lock e.0 s.orderly s.away c.requires.lock e.1 e.2 in record { seated = c.give_free.ensures.seat; orderly = z.0; away = z.1 })
-    (λ f. let e = c.give_free.ensures.kept f in record {
-      seated = c.give_free.ensures.seat;
-      orderly = kept_free _ c.args.seat.now.seat.me c.give_free.new.self.seat.me c.args.lock e.0 e.1 s.orderly e.2 e.3;
-      away = subst (λ (w : Sight). IsAway w.part.core) (sym (ap (λ m. m.0) e.3)) s.away;
+pub returns-else-lock-from-clause-settled : goal.returns-else-lock-from-clause-settled
+returns-else-lock-from-clause-settled c = let s = c.requires.settled in let big : size_of c.args.board.now ≤ c.args.lock = omega (arith, c.if-lock-from.false, c.from.ensures, c.size.ensures) in ⊎_elim
+    (λ t. let z = given_bare _ c.args.seat.now.seat.me c.give_bare.new.self.seat.me c.args.lock s.orderly s.away big (c.give_bare.ensures.gave t) in record { seated = c.give_bare.ensures.seat; orderly = z.0; away = z.1 })
+    (λ f. let e = c.give_bare.ensures.kept f in record {
+      seated = c.give_bare.ensures.seat;
+      orderly = kept_bare _ c.args.seat.now.seat.me c.give_bare.new.self.seat.me s.orderly e;
+      away = subst (λ (w : Sight). IsAway w.part.core) (sym (ap (λ m. m.0) e)) s.away;
     })
-    (true_or_false c.give_free.result)
+    (true_or_false c.give_bare.result)
 
-pub returns-clause-given : goal.returns-clause-given
-returns-clause-given c = λ t. let s = c.requires.settled in let e = c.give_free.ensures.gave t in (given_free _ c.args.seat.now.seat.me c.give_free.new.self.seat.me c.args.lock e.0 s.orderly s.away c.requires.lock e.1 e.2).2
+pub returns-else-lock-from-clause-given : goal.returns-else-lock-from-clause-given
+returns-else-lock-from-clause-given c = λ t. let s = c.requires.settled in
+    (given_bare (size_of c.args.board.now) c.args.seat.now.seat.me c.give_bare.new.self.seat.me c.args.lock s.orderly s.away (omega (arith, c.if-lock-from.false, c.from.ensures, c.size.ensures)) (c.give_bare.ensures.gave t)).2
 
-pub returns-clause-still : goal.returns-clause-still
-returns-clause-still c = λ f. still_kept c.args.seat.now.seat.me c.give_free.new.self.seat.me (ap (λ m. m.0) (c.give_free.ensures.kept f).3)
+pub returns-else-lock-from-clause-still : goal.returns-else-lock-from-clause-still
+returns-else-lock-from-clause-still c = λ f. still_kept c.args.seat.now.seat.me c.give_bare.new.self.seat.me (ap (λ m. m.0) (c.give_bare.ensures.kept f))

@@ -1,4 +1,7 @@
-use Rattle.std.proofs.Common.{◌∙◌}
+use Rattle.std.proofs.Common.{ap, ◌∙◌, length}
+use Rattle.ww_model.specs.State.{any_below}
+use Rattle.ww_view.specs.View.{owns}
+use Rattle.ww_rule.specs.Rule.{Sat}
 use Rattle.ww_seat.proofs.Waits.{wanting, ok_then, err_then}
 use Rattle.ww_seat.proofs.Glances.{outside_still, holds_glanced, waits_still, tries_still}
 use Rattle.ww_seat.proofs.waiting.wait_for.Goals as goal
@@ -21,3 +24,6 @@ returns-clause-tries g c = c.wait.ensures.tries ∙ tries_still _ _ c.stay_away.
 
 pub returns-clause-records : goal.returns-clause-records
 returns-clause-records g c = c.wait.ensures.records ∙ c.stay_away.ensures.records
+
+pub wait-requires-clause-holds : goal.wait-requires-clause-holds
+wait-requires-clause-holds g c = ap (λ (z : Sat). any_below (length z.0.part.core.owned) (owns z.0.part.core)) c.stay_away.ensures.glanced.now ∙ c.requires.holds

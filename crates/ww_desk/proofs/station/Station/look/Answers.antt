@@ -1,16 +1,13 @@
-use Rattle.std.proofs.Common.{rules, ◌∙◌, sym, ap}
+use Rattle.std.proofs.Common.{rules, ap}
 use Rattle.ww_table.specs.Seat.{size_of}
 use Rattle.ww_seat.specs.Orderly.{IsOrderly}
 use Rattle.ww_seat.specs.Calls.{HasTaken}
 use Rattle.ww_view.specs.View.{IsAway}
 use Rattle.ww_desk.specs.declared.turn.Turn.TheVariants.{Rests, Looks}
 use Rattle.ww_desk.specs.declared.station.Station.{Station}
-use Rattle.ww_desk.proofs.Locks.{room_held}
+use Rattle.ww_desk.proofs.Locks.{holds_told}
 use Rattle.ww_desk.proofs.Keeping.{took}
 use Rattle.ww_desk.proofs.station.Station.look.Goals as goal
-
-pub add-requires-clause-room : goal.add-requires-clause-room
-add-requires-clause-room c = let k = c.requires.keeps in room_held _ c.args.self.now.held.items c.args.lock k.held k.at.1 (sym (k.owned c.args.lock) ∙ k.at.3.want.lacks)
 
 pub returns-in-Some-Locked-clause-keeps : goal.returns-in-Some-Locked-clause-keeps
 returns-in-Some-Locked-clause-keeps c =
@@ -18,6 +15,9 @@ returns-in-Some-Locked-clause-keeps c =
     let h : Station = record (c.args.self.now) { turn = Looks c.args.lock c.args.arrival c.args.heeds } in
     let q = c.look_once-look.new.seat in
     let look : IsOrderly (size_of c.deref.result.now) q.seat.me × IsAway q.seat.me.0.part.core × HasTaken c.args.self.now.seat.seat.me c.args.lock c.in-Some-Locked.field-0-0 q.seat.me = search rules in
-    took h _ c.deref.result.now c.args.lock c.in-Some-Locked.field-0-0 q c.look_once-look.new.wake k c.deref.ensures k.at.1 (sym (k.owned c.args.lock) ∙ k.at.3.want.lacks)
+    took h _ c.deref.result.now c.args.lock c.in-Some-Locked.field-0-0 q c.look_once-look.new.wake k c.deref.ensures k.at.1
     (record { seated = c.look_once-look.ensures.seat; orderly = look.0; away = look.1 }) look.2
     (ap (λ (d : Station). let e : Station = record d { turn = Rests } in e) c.add.ensures.same) c.add.ensures.held
+
+pub look_once-look-requires-clause-holds : goal.look_once-look-requires-clause-holds
+look_once-look-requires-clause-holds c = let h = c.args.self.now in holds_told h.seat.seat.me.0.part.core h.held.items c.is_empty.result c.requires.keeps.owned c.is_empty.ensures

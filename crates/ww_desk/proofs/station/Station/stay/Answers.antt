@@ -1,14 +1,12 @@
-use Rattle.std.proofs.Common.{rules, Some}
-use Rattle.ww_desk.proofs.Keeping.{glanced_stays, glanced_wants, wants_now}
+use Rattle.ww_desk.proofs.Keeping.{glanced_stays, glanced_wants}
 use Rattle.ww_desk.proofs.station.Station.stay.Goals as goal
 
-pub returns-then-glances-eq0-clause-keeps : goal.returns-then-glances-eq0-clause-keeps
-returns-then-glances-eq0-clause-keeps c = wants_now c.args.self.now c.args.lock c.args.glances c.args.heeds c.requires.keeps c.requires.turn
-
-pub returns-then-is_none-clause-keeps : goal.returns-then-is_none-clause-keeps
-returns-then-is_none-clause-keeps c =
-    glanced_wants c.args.self.now c.deref.result.now c.glance-owner.new.self c.args.lock c.args.glances c.args.heeds c.requires.keeps c.requires.turn c.deref.ensures c.glance-owner.ensures.seat c.glance-owner.ensures.glanced
+pub returns-in_default-clause-keeps : goal.returns-in_default-clause-keeps
+returns-in_default-clause-keeps c =
+    glanced_wants c.args.self.now c.deref.result.now c.glance-owner.new.self c.next.new.memory c.args.lock c.args.stay c.args.heeds c.requires.keeps c.requires.turn
+    c.deref.ensures c.glance-owner.ensures.seat c.glance-owner.ensures.glanced
 
 pub returns-clause-keeps : goal.returns-clause-keeps
 returns-clause-keeps c =
-    glanced_stays c.args.self.now c.deref.result.now c.glance-owner.new.self (Some c.glance-owner.result) c.args.lock c.args.glances c.args.heeds c.requires.keeps c.requires.turn (search rules) c.deref.ensures c.glance-owner.ensures.seat c.glance-owner.ensures.glanced
+    glanced_stays c.args.self.now c.deref.result.now c.glance-owner.new.self c.next.new.memory c.args.lock c.args.stay c.next.new.self c.args.heeds c.requires.keeps c.requires.turn
+    c.next.ensures.fewer c.in-Some.ensures.left c.deref.ensures c.glance-owner.ensures.seat c.glance-owner.ensures.glanced

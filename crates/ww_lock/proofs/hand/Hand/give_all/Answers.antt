@@ -8,79 +8,79 @@ use Rattle.ww_lock.proofs.hand.Hand.give_all.Goals as goal
 pub top-requires : goal.top-requires
 top-requires g c = record { order = c.loop-n.invariant.carries.settled.seated.order }
 
-pub bounds-self-from : goal.bounds-self-from
-bounds-self-from g c = let i = c.loop-n.invariant in
+pub bounds-self-n : goal.bounds-self-n
+bounds-self-n g c = let i = c.loop-n.invariant in
     let t = c.in-Some.ensures.top in
     let there = held_there c.loop-n.self c.in-Some.n i.carries (top_held c.loop-n.self c.in-Some.n t.0 t.1 i.carries t.2) in
-    omega (arith, there, i.carries.held.few, c.from.ensures)
+    omega (arith, there, i.carries.held.few)
 
-pub give_at_once-requires-clause-settled : goal.give_at_once-requires-clause-settled
-give_at_once-requires-clause-settled g c = let i = c.loop-n.invariant in
+pub give_node_at_once-requires-clause-settled : goal.give_node_at_once-requires-clause-settled
+give_node_at_once-requires-clause-settled g c = let i = c.loop-n.invariant in
     here c.loop-n.self c.args.world.now _ c.world.view_is (home_as c.args.self.now c.loop-n.self c.args.world.now i.same c.requires.home) i.carries
 
-pub give_at_once-requires-clause-lock : goal.give_at_once-requires-clause-lock
-give_at_once-requires-clause-lock g c = let i = c.loop-n.invariant in
+pub give_node_at_once-requires-clause-lock : goal.give_node_at_once-requires-clause-lock
+give_node_at_once-requires-clause-lock g c = let i = c.loop-n.invariant in
     let t = c.in-Some.ensures.top in
     let there = held_there c.loop-n.self c.in-Some.n i.carries (top_held c.loop-n.self c.in-Some.n t.0 t.1 i.carries t.2) in
     let table = at_table _ c.args.world.now _ c.world.view_is (home_as c.args.self.now c.loop-n.self c.args.world.now i.same c.requires.home) in
     omega (arith, there, table.1)
 
-pub give_at_once-requires-clause-owner : goal.give_at_once-requires-clause-owner
-give_at_once-requires-clause-owner g c = let t = c.in-Some.ensures.top in top_held c.loop-n.self c.in-Some.n t.0 t.1 c.loop-n.invariant.carries t.2
+pub give_node_at_once-requires-clause-owner : goal.give_node_at_once-requires-clause-owner
+give_node_at_once-requires-clause-owner g c = let t = c.in-Some.ensures.top in top_held c.loop-n.self c.in-Some.n t.0 t.1 c.loop-n.invariant.carries t.2
 
 pub give_waited-requires-clause-lock : goal.give_waited-requires-clause-lock
 give_waited-requires-clause-lock g c = let i = c.loop-n.invariant in
     let t = c.in-Some.ensures.top in
     let there = held_there c.loop-n.self c.in-Some.n i.carries (top_held c.loop-n.self c.in-Some.n t.0 t.1 i.carries t.2) in
     let table = at_table _ c.args.world.now _ c.world.view_is (home_as c.args.self.now c.loop-n.self c.args.world.now i.same c.requires.home) in
-    omega (arith, there, table.1)
+    omega (arith, there, table.1, c.world.inside.board.fits)
 
 pub give_waited-requires-clause-owner : goal.give_waited-requires-clause-owner
 give_waited-requires-clause-owner g c = let t = c.in-Some.ensures.top in
-    ap (λ (os : List Bool). get_or os c.in-Some.n false) (c.give_at_once.ensures.still c.if-not-give_at_once.true).holds.owned ∙ top_held c.loop-n.self c.in-Some.n t.0 t.1 c.loop-n.invariant.carries t.2
+    ap (λ (os : List Bool). get_or os c.in-Some.n false) (c.give_node_at_once.ensures.still c.if-not-give_node_at_once.true).holds.owned ∙ top_held c.loop-n.self c.in-Some.n t.0 t.1 c.loop-n.invariant.carries t.2
 
 pub loop-n-preserved : goal.loop-n-preserved
 loop-n-preserved g c =
     let i = c.loop-n.invariant in
-    let e = c.give_at_once.ensures in
+    let e = c.give_node_at_once.ensures in
     let h = c.loop-n.self in
     let t = c.in-Some.ensures.top in
-    let now = record h { seat = c.give_at_once.new.seat; marks = set h.marks c.from.result false } in
-    let v = gives h now c.args.world.now _ c.give_at_once.new.seat c.in-Some.n c.world.view_is (home_as c.args.self.now h c.args.world.now i.same c.requires.home) i.carries (top_held h c.in-Some.n t.0 t.1 i.carries t.2) e.settled e.records (e.given c.if-not-give_at_once.false) refl refl (ap (λ (k : ℕ). set h.marks k false) c.from.ensures) refl in
+    let now = record h { seat = c.give_node_at_once.new.seat; marks = set h.marks c.in-Some.n false } in
+    let v = gives h now c.args.world.now _ c.give_node_at_once.new.seat c.in-Some.n c.world.view_is (home_as c.args.self.now h c.args.world.now i.same c.requires.home) i.carries (top_held h c.in-Some.n t.0 t.1 i.carries t.2) e.settled e.records (e.given c.if-not-give_node_at_once.false) refl refl refl refl in
     record { carries = v.carries; same = v.is ∙ ap (λ (s : Holding). record s { held = held_of now }) i.same }
 
 pub loop-n-smaller : goal.loop-n-smaller
 loop-n-smaller g c =
     let i = c.loop-n.invariant in
-    let e = c.give_at_once.ensures in
+    let e = c.give_node_at_once.ensures in
     let h = c.loop-n.self in
     let t = c.in-Some.ensures.top in
-    let now = record h { seat = c.give_at_once.new.seat; marks = set h.marks c.from.result false } in
-    let v = gives h now c.args.world.now _ c.give_at_once.new.seat c.in-Some.n c.world.view_is (home_as c.args.self.now h c.args.world.now i.same c.requires.home) i.carries (top_held h c.in-Some.n t.0 t.1 i.carries t.2) e.settled e.records (e.given c.if-not-give_at_once.false) refl refl (ap (λ (k : ℕ). set h.marks k false) c.from.ensures) refl in
+    let now = record h { seat = c.give_node_at_once.new.seat; marks = set h.marks c.in-Some.n false } in
+    let v = gives h now c.args.world.now _ c.give_node_at_once.new.seat c.in-Some.n c.world.view_is (home_as c.args.self.now h c.args.world.now i.same c.requires.home) i.carries (top_held h c.in-Some.n t.0 t.1 i.carries t.2) e.settled e.records (e.given c.if-not-give_node_at_once.false) refl refl refl refl in
     v.fewer
 
-pub loop-n-preserved-then-not-give_at_once : goal.loop-n-preserved-then-not-give_at_once
-loop-n-preserved-then-not-give_at_once g c =
+pub loop-n-preserved-then-not-give_node_at_once : goal.loop-n-preserved-then-not-give_node_at_once
+loop-n-preserved-then-not-give_node_at_once g c =
     let i = c.loop-n.invariant in
-    let e = c.give_at_once.ensures in
+    let e = c.give_node_at_once.ensures in
     let w = c.give_waited.ensures in
     let h = c.loop-n.self in
     let t = c.in-Some.ensures.top in
-    let now = record h { seat = c.give_waited.new.seat; marks = set h.marks c.from.result false } in
-    let given = given_then h.seat.seat.me c.give_at_once.new.seat.seat.me c.give_waited.new.seat.seat.me c.in-Some.n (e.still c.if-not-give_at_once.true) w.given in
-    let v = gives h now c.args.world.now _ c.give_waited.new.seat c.in-Some.n c.world.view_is (home_as c.args.self.now h c.args.world.now i.same c.requires.home) i.carries (top_held h c.in-Some.n t.0 t.1 i.carries t.2) w.settled (w.records ∙ e.records) given refl refl (ap (λ (k : ℕ). set h.marks k false) c.from.ensures) refl in
+    let now = record h { seat = c.give_waited.new.seat; marks = set h.marks c.in-Some.n false } in
+    let given = given_then h.seat.seat.me c.give_node_at_once.new.seat.seat.me c.give_waited.new.seat.seat.me c.in-Some.n (e.still c.if-not-give_node_at_once.true) w.given in
+    let v = gives h now c.args.world.now _ c.give_waited.new.seat c.in-Some.n c.world.view_is (home_as c.args.self.now h c.args.world.now i.same c.requires.home) i.carries (top_held h c.in-Some.n t.0 t.1 i.carries t.2) w.settled (w.records ∙ e.records) given refl refl refl refl in
     record { carries = v.carries; same = v.is ∙ ap (λ (s : Holding). record s { held = held_of now }) i.same }
 
-pub loop-n-smaller-then-not-give_at_once : goal.loop-n-smaller-then-not-give_at_once
-loop-n-smaller-then-not-give_at_once g c =
+pub loop-n-smaller-then-not-give_node_at_once : goal.loop-n-smaller-then-not-give_node_at_once
+loop-n-smaller-then-not-give_node_at_once g c =
     let i = c.loop-n.invariant in
-    let e = c.give_at_once.ensures in
+    let e = c.give_node_at_once.ensures in
     let w = c.give_waited.ensures in
     let h = c.loop-n.self in
     let t = c.in-Some.ensures.top in
-    let now = record h { seat = c.give_waited.new.seat; marks = set h.marks c.from.result false } in
-    let given = given_then h.seat.seat.me c.give_at_once.new.seat.seat.me c.give_waited.new.seat.seat.me c.in-Some.n (e.still c.if-not-give_at_once.true) w.given in
-    let v = gives h now c.args.world.now _ c.give_waited.new.seat c.in-Some.n c.world.view_is (home_as c.args.self.now h c.args.world.now i.same c.requires.home) i.carries (top_held h c.in-Some.n t.0 t.1 i.carries t.2) w.settled (w.records ∙ e.records) given refl refl (ap (λ (k : ℕ). set h.marks k false) c.from.ensures) refl in
+    let now = record h { seat = c.give_waited.new.seat; marks = set h.marks c.in-Some.n false } in
+    let given = given_then h.seat.seat.me c.give_node_at_once.new.seat.seat.me c.give_waited.new.seat.seat.me c.in-Some.n (e.still c.if-not-give_node_at_once.true) w.given in
+    let v = gives h now c.args.world.now _ c.give_waited.new.seat c.in-Some.n c.world.view_is (home_as c.args.self.now h c.args.world.now i.same c.requires.home) i.carries (top_held h c.in-Some.n t.0 t.1 i.carries t.2) w.settled (w.records ∙ e.records) given refl refl refl refl in
     v.fewer
 
 pub returns-clause-emptied : goal.returns-clause-emptied

@@ -1,6 +1,8 @@
-use Rattle.std.proofs.Common.{ap, arith, inl, inr, ◌∙◌}
+use Rattle.std.proofs.Common.{ℕ, ap, arith, inl, inr, subst, ◌∙◌}
 use Rattle.std.proofs.lemmas.Result.{err_from_is_err_and}
+use Rattle.ww_view.specs.View.{owns}
 use Rattle.ww_table.specs.declared.seat.Seat16.{Seat16}
+use Rattle.ww_seat.specs.Calls.{HasTaken, IsTurnedAway}
 use Rattle.ww_lock.proofs.Carrying.{here, at_table, bare_of, takes, taken_late, turned_away, turned_fresh}
 use Rattle.ww_lock.proofs.hand.Hand.wait_for.Goals as goal
 
@@ -8,10 +10,10 @@ pub wait_for-requires-clause-settled : goal.wait_for-requires-clause-settled
 wait_for-requires-clause-settled g c = here c.args.self.now c.args.world.now _ c.world.view_is c.requires.home c.requires.fresh.carries
 
 pub wait_for-requires-clause-lock : goal.wait_for-requires-clause-lock
-wait_for-requires-clause-lock g c = omega (arith, c.requires.node, (at_table _ c.args.world.now _ c.world.view_is c.requires.home).1)
+wait_for-requires-clause-lock g c = omega (arith, c.requires.node, c.from.ensures, c.world.inside.board.fits, (at_table _ c.args.world.now _ c.world.view_is c.requires.home).1)
 
 pub wait_for-requires-clause-lacks : goal.wait_for-requires-clause-lacks
-wait_for-requires-clause-lacks g c = c.requires.fresh.carries.owned c.args.n ∙ c.requires.new
+wait_for-requires-clause-lacks g c = ap (owns c.args.self.now.seat.seat.me.0.part.core) c.from.ensures ∙ c.requires.fresh.carries.owned c.args.n ∙ c.requires.new
 
 pub wait_for-requires-clause-base : goal.wait_for-requires-clause-base
 wait_for-requires-clause-base g c = elim c.requires.want [
@@ -23,7 +25,8 @@ pub returns : goal.returns
 returns g c =
     let e = c.wait_for.ensures in
     let added = c.add.ensures in
-    let t = takes c.args.self.now c.add.new.self c.args.world.now _ c.wait_for.new.seat c.args.n c.in_ok-node.node c.world.view_is c.requires.home c.requires.fresh c.requires.node c.requires.new e.settled e.records c.in_ok-node.ensures.ok
+    let took = subst (λ (n : ℕ). HasTaken c.args.self.now.seat.seat.me n c.in_ok-node.node c.wait_for.new.seat.seat.me) c.from.ensures c.in_ok-node.ensures.ok in
+    let t = takes c.args.self.now c.add.new.self c.args.world.now _ c.wait_for.new.seat c.args.n c.in_ok-node.node c.world.view_is c.requires.home c.requires.fresh c.requires.node c.requires.new e.settled e.records took
     added.seat added.same added.marks added.seen in
     record {
       fresh = t.fresh;
@@ -31,19 +34,20 @@ returns g c =
       stopped = tt;
       heeds = tt;
       turned_away = tt;
-      unmet = ap (λ (s : Seat16). s.seat.me.0.part.core.met) added.seat ∙ c.in_ok-node.ensures.ok.unmet;
+      unmet = ap (λ (s : Seat16). s.seat.me.0.part.core.met) added.seat ∙ took.unmet;
     }
 
 pub returns-in_err-node : goal.returns-in_err-node
 returns-in_err-node g c =
     let e = c.wait_for.ensures in
     let h = c.args.self.now in
-    let d = c.in_err-node.ensures.err in
+    let why = c.in_err-node.field-0.0 in
+    let d = subst (λ (n : ℕ). IsTurnedAway h.seat.seat.me n why c.wait_for.new.seat.seat.me) c.from.ensures c.in_err-node.ensures.err in
     let p = err_from_is_err_and c.from_residual.result c.from_residual.ensures.1 in
     rw (p.1, p.2) (record {
-      fresh = turned_fresh h c.args.world.now _ c.wait_for.new.seat c.wait_for.new.patience c.args.n _ c.world.view_is c.requires.home c.requires.fresh e.settled e.records d e.tries;
+      fresh = turned_fresh h c.args.world.now _ c.wait_for.new.seat c.wait_for.new.patience c.args.n why c.world.view_is c.requires.home c.requires.fresh e.settled e.records d e.tries;
       taken = tt;
-      stopped = λ s was. turned_away h c.args.world.now _ c.wait_for.new.seat c.wait_for.new.patience c.args.n _ s c.world.view_is c.requires.home c.requires.fresh c.requires.new e.settled e.records d e.tries was;
+      stopped = λ s was. turned_away h c.args.world.now _ c.wait_for.new.seat c.wait_for.new.patience c.args.n why s c.world.view_is c.requires.home c.requires.fresh c.requires.new e.settled e.records d e.tries was;
       heeds = c.in_err-node.ensures.heeds;
       turned_away = d;
       unmet = tt;

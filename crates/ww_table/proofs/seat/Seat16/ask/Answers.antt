@@ -8,8 +8,8 @@ use Rattle.ww_table.proofs.Seated.{seated_as}
 use Rattle.ww_table.proofs.seat.Seat16.ask.Goals as goal
 
 pub compare_exchange-requires : goal.compare_exchange-requires
-compare_exchange-requires c = let s = c.requires.seat in let small = c.requires.lock in let word = c.owner_word.ensures in let few = c.args.board.now.few in
-    (s.home, (let z = c.args.board.now.sized.0 in omega arith), asks_lock _ _ _ _ c.args.lock c.args.seen _ _ _ word c.pack-old.ensures c.pack-new.ensures s.seated c.requires.may c.requires.valid)
+compare_exchange-requires c = let s = c.requires.seat in let small = c.requires.lock in let word = c.owner_word.ensures in let few = c.args.board.now.few in let many = c.args.board.now.many in let fits = c.args.board.now.fits in
+    (s.home, (let z = c.args.board.now.sized.0 in let fits = c.args.board.now.fits in omega arith), asks_lock _ _ _ _ c.args.lock c.args.seen _ _ _ word c.pack-old.ensures c.pack-new.ensures s.seated c.requires.may c.requires.valid)
 
 pub returns-clause-asked : goal.returns-clause-asked
 returns-clause-asked c = λ is. (c.compare_exchange.ensures.2 c.args.lock c.args.seen (c.owner_word.ensures, c.requires.valid, c.pack-old.ensures)).0 (eqb-true _ _ is ∙ c.pack-old.ensures)

@@ -15,7 +15,7 @@ use Rattle.ww_table.proofs.seat.Seat16.die.Goals as goal
 pub compare_exchange-found-requires : goal.compare_exchange-found-requires
 compare_exchange-found-requires c = let r = c.owner_left-rest.ensures in let v = c.args.self.now.seat.me.0 in (
   r.seat.home,
-  (let z = c.args.board.now.sized.0 in let few = c.args.board.now.few in let small = c.requires.lock in let word = c.owner_word.ensures in omega arith),
+  (let z = c.args.board.now.sized.0 in let few = c.args.board.now.few in let many = c.args.board.now.many in let fits = c.args.board.now.fits in let small = c.requires.lock in let word = c.owner_word.ensures in omega arith),
   dies_brought _ _ _ v _ c.args.lock c.args.seen c.owner_left-rest.result c.requires.may.0 _ _ _ (ap (λ (m : Sat). m.0) r.read.now) c.owner_word.ensures c.pack-old.ensures c.pack-new.ensures r.owner c.requires.seat.seated c.requires.may.1 c.requires.valid,
 )
 

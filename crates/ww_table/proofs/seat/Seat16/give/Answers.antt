@@ -24,7 +24,7 @@ pub compare_exchange-found-requires : goal.compare_exchange-found-requires
 compare_exchange-found-requires c = let r = c.next_owner-owner.ensures in let b = c.bring.ensures in let out = c.requires.out in
     let n = node_brought _ _ c.args.lock out.0 r.read _ _ _ out.1 b.slots.2 b.slots.3 b.slots.4 in (
       b.home.0 ∙ r.seat.home,
-      (let z = c.args.board.now.sized.0 in let few = c.args.board.now.few in let small = c.requires.lock in let word = c.owner_word.ensures in omega arith),
+      (let z = c.args.board.now.sized.0 in let few = c.args.board.now.few in let many = c.args.board.now.many in let fits = c.args.board.now.fits in let small = c.requires.lock in let word = c.owner_word.ensures in omega arith),
       gives_with_list _ _ _ c.args.self.now.seat.me.0 _ c.args.lock c.args.seen c.next_owner-owner.result out.0 b.slots.1 _ _ _ (b.view ∙ ap (λ (m : Sat). m.0) r.read.now) n.1 c.owner_word.ensures c.pack-old.ensures c.pack-new.ensures r.owner c.requires.seat.seated c.requires.may out.2 c.requires.valid,
     )
 

@@ -11,10 +11,10 @@ use Rattle.ww_table.proofs.Seated.{seated_as}
 use Rattle.ww_table.proofs.seat.Seat16.give_free.Goals as goal
 
 pub compare_exchange-found-requires : goal.compare_exchange-found-requires
-compare_exchange-found-requires c = let s = c.requires.seat in let b = c.bring.ensures in let out = c.requires.out in let small = c.requires.lock in let word = c.owner_word.ensures in let few = c.args.board.now.few in
+compare_exchange-found-requires c = let s = c.requires.seat in let b = c.bring.ensures in let out = c.requires.out in let small = c.requires.lock in let word = c.owner_word.ensures in let few = c.args.board.now.few in let many = c.args.board.now.many in let fits = c.args.board.now.fits in
     let y = brought c.args.self.now.seat.me.1 c.args.lock out.0 b.slots.0 b.slots.2 out.1 in (
       b.home.0 ∙ s.home,
-      (let z = c.args.board.now.sized.0 in omega arith),
+      (let z = c.args.board.now.sized.0 in let fits = c.args.board.now.fits in omega arith),
       gives_brought _ _ _ c.args.self.now.seat.me.0 _ c.args.lock _ _ _ _ out.0 b.slots.1 b.view (b.slots.4 ∙ ap (λ (z : Cell). (c.args.lock, z) ∷ b.slots.1) y) word small s.seated c.requires.away c.requires.owner out.2 s.who s.stamp s.few s.small s.own,
     )
 

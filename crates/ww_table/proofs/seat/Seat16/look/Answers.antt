@@ -5,8 +5,8 @@ use Rattle.ww_rule.proofs.InsideSteps.{looks_inside}
 use Rattle.ww_table.proofs.seat.Seat16.look.Goals as goal
 
 pub load-word-requires : goal.load-word-requires
-load-word-requires c = let s = c.requires.seat in let small = c.requires.lock in let word = c.owner_word.ensures in let few = c.args.board.now.few in let inside = c.requires.inside in
-    (s.home, (let z = c.args.board.now.sized.0 in omega arith), looks_inside _ _ _ _ c.args.lock _ word s.seated (omega arith))
+load-word-requires c = let s = c.requires.seat in let small = c.requires.lock in let word = c.owner_word.ensures in let few = c.args.board.now.few in let many = c.args.board.now.many in let fits = c.args.board.now.fits in let inside = c.requires.inside in
+    (s.home, (let z = c.args.board.now.sized.0 in let fits = c.args.board.now.fits in omega arith), looks_inside _ _ _ _ c.args.lock _ word s.seated (omega arith))
 
 pub returns-clause-own : goal.returns-clause-own
 returns-clause-own c = let told = c.load-word.ensures.2 in let read = (c.unpack.ensures c.in-Some.owner).0 c.in-Some.is in

@@ -10,7 +10,7 @@ use Rattle.ww_table.proofs.seat.Seat16.set_cancel.Goals as goal
 
 pub compare_exchange-requires : goal.compare_exchange-requires
 compare_exchange-requires c = let s = c.requires.seat in let small = c.requires.victim in
-    (s.home, (let z = c.args.board.now.sized.0 in let word = c.cancel_word.ensures in omega arith), cancels _ _ _ _ c.args.victim _ _ c.cancel_word.ensures small s.seated c.requires.away (let w = s.who in omega arith))
+    (s.home, (let z = c.args.board.now.sized.0 in let fits = c.args.board.now.fits in let word = c.cancel_word.ensures in omega arith), cancels _ _ _ _ c.args.victim _ _ c.cancel_word.ensures small s.seated c.requires.away (let w = s.who in omega arith))
 
 pub returns-clause-seat : goal.returns-clause-seat
 returns-clause-seat c = let e = c.compare_exchange.ensures in let now = e.2 c.args.victim c.cancel_word.ensures in let s = c.requires.seat in dite (ℕ_discrete c.compare_exchange.result 0)

@@ -10,7 +10,7 @@ use Rattle.ww_table.proofs.seat.Seat16.sign.Goals as goal
 
 pub compare_exchange-requires : goal.compare_exchange-requires
 compare_exchange-requires c = let s = c.requires.seat in let small = c.requires.victim in
-    (s.home, (let z = c.args.board.now.sized.0 in let word = c.sign_word.ensures in omega arith), signs _ _ _ _ c.args.lock c.args.victim c.args.stamp _ c.sign_word.ensures small s.seated c.requires.may)
+    (s.home, (let z = c.args.board.now.sized.0 in let fits = c.args.board.now.fits in let word = c.sign_word.ensures in omega arith), signs _ _ _ _ c.args.lock c.args.victim c.args.stamp _ c.sign_word.ensures small s.seated c.requires.may)
 
 pub returns-clause-seat : goal.returns-clause-seat
 returns-clause-seat c = let e = c.compare_exchange.ensures in let told = e.2 c.args.victim c.sign_word.ensures in let s = c.requires.seat in dite (ℕ_discrete c.compare_exchange.result 0)

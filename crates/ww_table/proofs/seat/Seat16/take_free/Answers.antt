@@ -8,8 +8,8 @@ use Rattle.ww_table.proofs.Seated.{seated_as}
 use Rattle.ww_table.proofs.seat.Seat16.take_free.Goals as goal
 
 pub compare_exchange-found-requires : goal.compare_exchange-found-requires
-compare_exchange-found-requires c = let s = c.requires.seat in let small = c.requires.lock in let word = c.owner_word.ensures in let few = c.args.board.now.few in
-    (s.home, (let z = c.args.board.now.sized.0 in omega arith), takes_free _ _ _ _ c.args.lock _ _ word small s.seated c.requires.may (s.own ∙ (λ i. packed (record { seat = Some (sym s.who i); stamp = sym s.stamp i; flags = 0 }))))
+compare_exchange-found-requires c = let s = c.requires.seat in let small = c.requires.lock in let word = c.owner_word.ensures in let few = c.args.board.now.few in let many = c.args.board.now.many in let fits = c.args.board.now.fits in
+    (s.home, (let z = c.args.board.now.sized.0 in let fits = c.args.board.now.fits in omega arith), takes_free _ _ _ _ c.args.lock _ _ word small s.seated c.requires.may (s.own ∙ (λ i. packed (record { seat = Some (sym s.who i); stamp = sym s.stamp i; flags = 0 }))))
 
 pub push-requires : goal.push-requires
 push-requires c = let s = c.requires.seat in let long = numbers_long c.args.self.now.seat.me.1 in let same = ap length s.order in let room = c.requires.room in (omega arith, omega arith)

@@ -1,0 +1,239 @@
+/*
+ * What libww_debug tells: each wrong call with its line and the calls that led to it;
+ * -EDEADLK without need, after which a program goes on; and who waits for whom: with
+ * the word `waits` that alone, for tools/picture.
+ */
+#ifndef WW_DEBUG
+#define WW_DEBUG
+#endif
+#include "mutex_test.h"
+#include <sys/wait.h>
+
+static DEFINE_WD_CLASS(c);
+static DEFINE_WW_CLASS(other);
+static struct ww_mutex a, b, its;
+static struct ww_acquire_ctx x, y; /* x is older; they hold a and b */
+static int line;
+
+/* So that the line of the call is known. */
+#define HERE(call) (line = __LINE__, (call))
+
+static void wrong_class(void) { MUST(HERE(ww_mutex_lock(&its, &x)) == -EINVAL); }
+static void after_done(void)
+{
+	ww_acquire_done(&x);
+	MUST(HERE(ww_mutex_lock(&b, &x)) == -EINVAL);
+}
+static void done_twice(void)
+{
+	ww_acquire_done(&x);
+	HERE(ww_acquire_done(&x));
+}
+static void fini_with_a_mutex(void) { HERE(ww_acquire_fini(&x)); }
+static void is_told(void)
+{
+	y.deadlock_inject_countdown = ~0u;
+	MUST(ww_mutex_lock(&a, &y) == -EDEADLK);
+}
+static void another_after_deadlk(void)
+{
+	is_told();
+	MUST(HERE(ww_mutex_lock_interruptible(&its, &y)) == -EINVAL);
+}
+static void holds_after_deadlk(void)
+{
+	is_told();
+	MUST(HERE(ww_mutex_lock(&a, &y)) == -EINVAL);
+}
+static void another_first(void)
+{
+	is_told();
+	ww_mutex_unlock(&b);
+	MUST(!HERE(ww_mutex_lock(&b, &y)));
+}
+static void tries_another_first(void)
+{
+	is_told();
+	ww_mutex_unlock(&b);
+	MUST(HERE(ww_mutex_trylock(&b, &y)));
+}
+static void slow_without_cause(void) { MUST(HERE(ww_mutex_lock_slow_interruptible(&b, &x)) == -EINVAL); }
+static void slow_ends(void) { HERE(ww_mutex_lock_slow(&b, &x)); }
+static void destroys_held(void) { MUST(HERE(ww_mutex_destroy(&a)) == -EBUSY); }
+static void destroys_twice(void)
+{
+	MUST(!ww_mutex_destroy(&its));
+	MUST(HERE(ww_mutex_destroy(&its)) == -EINVAL);
+}
+static void unlocks_in_vain(void) { HERE(ww_mutex_unlock(&its)); }
+static void *unlocks_a(void *arg)
+{
+	(void)arg;
+	HERE(ww_mutex_unlock(&a));
+	return NULL;
+}
+static void unlocked_by_another(void) { end_thread(begin_thread(unlocks_a, NULL)); }
+static void told_without_need(void)
+{
+	x.deadlock_inject_countdown = 0;
+	MUST(ww_mutex_lock(&its, &x) == -EINVAL);
+	ww_mutex_init(&its, &c);
+	MUST(ww_mutex_lock(&its, &x) == -EDEADLK && !its.ctx);
+	MUST(HERE(ww_mutex_lock(&its, &x)) == -EINVAL);
+}
+
+/* In a child, which begins as this one does. */
+static void prepare(void)
+{
+	ww_mutex_init(&a, &c);
+	ww_mutex_init(&b, &c);
+	ww_mutex_init(&its, &other);
+	ww_acquire_init(&x, &c);
+	ww_acquire_init(&y, &c);
+	MUST(!ww_mutex_lock(&a, &x) && !ww_mutex_lock(&b, &y));
+}
+
+static void tells(void (*what)(void), const char *message)
+{
+	char said[16384], place[256];
+	int ends[2], lines[2], status;
+	ssize_t count, all = 0;
+	pid_t child;
+
+	MUST(!pipe(ends) && !pipe(lines) && (child = fork()) >= 0);
+	if (!child) {
+		dup2(ends[1], 2);
+		prepare();
+		what();
+		MUST(ww_debug_faults());
+		MUST(write(lines[1], &line, sizeof line) == sizeof line);
+		_exit(0);
+	}
+	close(ends[1]);
+	close(lines[1]);
+	while ((count = read(ends[0], said + all, sizeof said - 1 - (size_t)all)) > 0)
+		all += count;
+	said[all] = 0;
+	count = read(lines[0], &line, sizeof line);
+	close(ends[0]);
+	close(lines[0]);
+	MUST(waitpid(child, &status, 0) == child);
+	if (count == sizeof line)
+		snprintf(place, sizeof place, "mutex_debug.c:%d: %s\n", line, message);
+	else /* the call ended the program, which kept its line to itself */
+		snprintf(place, sizeof place, ": %s\n", message);
+	if (!strstr(said, place) || !strchr(strstr(said, place), '(')) {
+		fprintf(stderr, "not told: %s\nbut %s\n", place, said);
+		exit(1);
+	}
+}
+
+/* A program that backs off as it should gets there, however often it is told to. */
+static void goes_on(void)
+{
+	struct ww_mutex list[6], *locks[6];
+	unsigned long bodies = 0, told = 0, before = ww_debug_faults();
+
+	for (unsigned k = 0; k < 6; k++) {
+		ww_mutex_init(&list[k], &c);
+		locks[k] = &list[k];
+	}
+	for (unsigned i = 0; i < 300; i++) {
+		struct ww_acquire_ctx z;
+		unsigned slow = 6, k;
+		int r;
+
+		ww_acquire_init(&z, &c);
+		MUST(z.deadlock_inject_interval == 1 && z.deadlock_inject_countdown < 16);
+		if (i % 3 == 0)
+			for (;;) {
+				for (k = 0, r = 0; k < 6 && !r; k++)
+					if (k != slow)
+						r = ww_mutex_lock(&list[k], &z);
+				if (!r)
+					break;
+				MUST(r == -EDEADLK && z.contending_lock == &list[k - 1]);
+				for (unsigned j = 0; j < 6; j++)
+					if (list[j].ctx == &z)
+						ww_mutex_unlock(&list[j]);
+				slow = k - 1;
+				told++;
+				if (i & 1)
+					ww_mutex_lock_slow(&list[slow], &z);
+				else
+					MUST(!ww_mutex_lock_slow_interruptible(&list[slow], &z));
+			}
+		else if (i % 3 == 1)
+			MUST(!ww_mutex_lock_all(&z, locks, 6));
+		else
+			ww_until_all_locked(&z) {
+				bodies++;
+				for (k = 0; k < 6; k++) {
+					r = ww_mutex_lock(&list[k], &z);
+					ww_retry_on_contention(&z);
+					MUST(!r);
+				}
+			}
+		MUST(z.acquired == 6);
+		for (k = 0; k < 6; k++)
+			ww_mutex_unlock(&list[k]);
+		ww_acquire_done(&z);
+		ww_acquire_fini(&z);
+	}
+	MUST(told > 30 && bodies > 130 && ww_debug_faults() == before);
+	for (unsigned k = 0; k < 6; k++)
+		MUST(!ww_mutex_destroy(&list[k]));
+}
+
+static void *waits(void *ctx)
+{
+	MUST(!ww_mutex_lock(ctx == &x ? &b : &a, ctx));
+	ww_mutex_unlock(ctx == &x ? &b : &a);
+	return NULL;
+}
+
+/* The older one waits for the younger, and one without a context for both. */
+static void prints(FILE *to)
+{
+	pthread_t threads[2];
+
+	threads[0] = begin_thread(waits, &x);
+	awaits_waiter(&b);
+	threads[1] = begin_thread(waits, NULL);
+	awaits_waiter(&a);
+	ww_class_print(&c, to);
+	ww_mutex_unlock(&b);
+	end_thread(threads[0]);
+	ww_mutex_unlock(&a);
+	end_thread(threads[1]);
+}
+
+int main(int count, char **words)
+{
+	if (count > 1 && !strcmp(words[1], "waits")) {
+		MUST(!ww_class_limit(&c, 8, 4));
+		prepare();
+		prints(stdout);
+		return 0;
+	}
+	tells(wrong_class, "ww_mutex_lock: the context is of another class");
+	tells(after_done, "ww_mutex_lock: the context is done");
+	tells(done_twice, "ww_acquire_done: the context is done, or has ended");
+	tells(fini_with_a_mutex, "ww_acquire_fini: the context still holds a mutex");
+	tells(another_after_deadlk, "ww_mutex_lock: the context is of another class");
+	tells(holds_after_deadlk, "ww_mutex_lock: the context was told -EDEADLK, and still holds a mutex");
+	tells(told_without_need, "ww_mutex_lock: the context was told -EDEADLK, and still holds a mutex");
+	tells(another_first, "ww_mutex_lock: after -EDEADLK another mutex comes first");
+	tells(tries_another_first, "ww_mutex_lock: after -EDEADLK another mutex comes first");
+	tells(slow_without_cause,
+	      "ww_mutex_lock_slow_interruptible: no -EDEADLK of this mutex came before, or the context still holds a mutex");
+	tells(slow_ends, "ww_mutex_lock_slow: no -EDEADLK of this mutex came before, or the context still holds a mutex");
+	tells(destroys_held, "ww_mutex_destroy: somebody holds the mutex, or waits for it");
+	tells(destroys_twice, "ww_mutex_destroy: the mutex isn't initialized");
+	tells(unlocks_in_vain, "ww_mutex_unlock: nobody holds the mutex");
+	tells(unlocked_by_another, "ww_mutex_unlock: another thread acquired the mutex");
+	goes_on();
+	MUST(!ww_debug_faults() && !ww_class_free(&c));
+	puts("mutex_debug: each fault is told with its line");
+	return 0;
+}

@@ -1,0 +1,217 @@
+/*
+ * What the kernel's calls can't answer ends the program, and says why under the
+ * call's name: each such end is one of a child.  And what a forked child may do.
+ */
+#include "mutex_test.h"
+#include <signal.h>
+#include <sys/wait.h>
+
+static DEFINE_WD_CLASS(c);
+static DEFINE_WW_CLASS(other);
+static DEFINE_WD_CLASS(small);
+static struct ww_mutex a, b, its;
+static struct ww_acquire_ctx x, y; /* x holds a, and y was told so */
+
+static void fini_with_a_mutex(void) { ww_acquire_fini(&x); }
+static void fini_twice(void)
+{
+	ww_mutex_unlock(&a);
+	ww_acquire_fini(&x);
+	ww_acquire_fini(&x);
+}
+static void done_twice(void)
+{
+	ww_acquire_done(&x);
+	ww_acquire_done(&x);
+}
+static void unlocks_in_vain(void)
+{
+	ww_mutex_unlock(&a);
+	ww_mutex_unlock(&a);
+}
+static void slow_without_cause(void) { ww_mutex_lock_slow(&its, &x); }
+static void slow_without_context(void) { ww_mutex_lock_slow(&a, NULL); }
+static void slow_while_it_holds(void) { ww_mutex_lock_slow(&a, &y); }
+static void tries_another_class(void)
+{
+	int r = ww_mutex_trylock(&its, &x);
+
+	(void)r;
+}
+static void tries_nothing(void)
+{
+	struct ww_mutex none = { 0 };
+	int r = ww_mutex_trylock(&none, NULL);
+
+	(void)r;
+}
+static void locks_what_is_destroyed(void)
+{
+	MUST(!ww_mutex_destroy(&its));
+	ww_mutex_lock(&its, NULL);
+}
+static void one_mutex_too_many(void)
+{
+	struct ww_mutex list[3];
+
+	MUST(!ww_class_limit(&small, 2, 1));
+	for (unsigned k = 0; k < 3; k++)
+		ww_mutex_init(&list[k], &small);
+}
+static void loop_while_it_holds(void)
+{
+	ww_until_all_locked(&x)
+		;
+}
+
+/* Of a class that was opened before the fork a child gets nothing. */
+static void inits_in_a_child(void)
+{
+	struct ww_mutex m;
+
+	MUST(ww_mutex_init_checked(&m, &c) == -EINVAL);
+	ww_mutex_init(&m, &c);
+}
+static void begins_in_a_child(void)
+{
+	struct ww_acquire_ctx z;
+
+	ww_mutex_unlock(&a);
+	ww_acquire_fini(&x);
+	MUST(ww_acquire_init_checked(&z, &c) == -EINVAL);
+	ww_acquire_init(&z, &c);
+}
+static void locks_in_a_child(void)
+{
+	struct timespec soon = in_ms(1);
+
+	MUST(!ww_mutex_trylock(&its, NULL) && ww_mutex_lock_interruptible(&its, NULL) == -EINVAL);
+	MUST(ww_mutex_lock_until(&its, NULL, &soon) == -EINVAL);
+	ww_mutex_lock(&its, NULL);
+}
+
+/* Runs it in a child, and reads what that says. */
+static int in_child(void (*what)(void), char *said, size_t room)
+{
+	int ends[2], status;
+	ssize_t count, all = 0;
+	pid_t child;
+
+	MUST(!pipe(ends) && (child = fork()) >= 0);
+	if (!child) {
+		dup2(ends[1], 2);
+		signal(SIGABRT, SIG_DFL);
+		what();
+		_exit(0);
+	}
+	close(ends[1]);
+	while ((count = read(ends[0], said + all, room - 1 - (size_t)all)) > 0)
+		all += count;
+	said[all] = 0;
+	close(ends[0]);
+	MUST(waitpid(child, &status, 0) == child);
+	return status;
+}
+
+static void ends(void (*what)(void), const char *message)
+{
+	char said[4096];
+	int status = in_child(what, said, sizeof said);
+
+	if (!WIFSIGNALED(status) || WTERMSIG(status) != SIGABRT || strncmp(said, message, strlen(message))) {
+		fprintf(stderr, "not told: %s, but %s\n", message, said);
+		exit(1);
+	}
+}
+
+/* A child has classes of its own, and what it had of a class that it lets go is new. */
+static void goes_on_in_a_child(void)
+{
+	static DEFINE_WW_CLASS(own);
+	struct ww_mutex m;
+	struct ww_acquire_ctx z;
+	struct ww_class *classes[] = { &own, &c };
+
+	for (unsigned k = 0; k < 2; k++) {
+		MUST(!ww_class_free(classes[k]) && !ww_class_limit(classes[k], 64, 4));
+		ww_mutex_init(&m, classes[k]);
+		ww_acquire_init(&z, classes[k]);
+		MUST(!ww_mutex_lock(&m, &z) && !ww_mutex_trylock(&m, NULL));
+		ww_mutex_unlock(&m);
+		ww_acquire_fini(&z);
+		MUST(!ww_mutex_lock(&m, NULL));
+		ww_mutex_unlock(&m);
+		MUST(!ww_mutex_destroy(&m) && !ww_class_free(classes[k]));
+	}
+}
+
+static bool stop;
+static void *works(void *arg)
+{
+	(void)arg;
+	while (!__atomic_load_n(&stop, __ATOMIC_RELAXED)) {
+		struct ww_acquire_ctx z;
+		struct ww_mutex m;
+
+		ww_mutex_init(&m, &c);
+		ww_acquire_init(&z, &c);
+		MUST(!ww_mutex_lock(&m, &z));
+		ww_mutex_unlock(&m);
+		ww_acquire_fini(&z);
+		MUST(!ww_mutex_destroy(&m));
+	}
+	return NULL;
+}
+
+/* Forks while other threads are amid their calls; the parent goes on as ever. */
+static void forks(void)
+{
+	pthread_t threads[4];
+	char said[4096];
+
+	for (unsigned k = 0; k < 4; k++)
+		threads[k] = begin_thread(works, NULL);
+	for (unsigned k = 0; k < 20; k++) {
+		int status = in_child(goes_on_in_a_child, said, sizeof said);
+
+		MUST(!status && !said[0]);
+	}
+	ends(locks_in_a_child, "ww_mutex_lock: the class was opened before a fork");
+	__atomic_store_n(&stop, true, __ATOMIC_RELAXED);
+	for (unsigned k = 0; k < 4; k++)
+		end_thread(threads[k]);
+}
+
+int main(void)
+{
+	ww_mutex_init(&a, &c);
+	ww_mutex_init(&b, &c);
+	ww_mutex_init(&its, &other);
+	ww_acquire_init(&x, &c);
+	ww_acquire_init(&y, &c);
+	MUST(!ww_mutex_lock(&a, &x));
+	ends(fini_with_a_mutex, "ww_acquire_fini: the context still holds a mutex");
+	ends(fini_twice, "ww_acquire_fini: the context has ended");
+	ends(done_twice, "ww_acquire_done: the context is done, or has ended");
+	ends(unlocks_in_vain, "ww_mutex_unlock: nobody holds the mutex");
+	ends(slow_without_cause, "ww_mutex_lock_slow: no -EDEADLK of this mutex came before");
+	ends(slow_without_context, "ww_mutex_lock_slow: no -EDEADLK of this mutex came before");
+	ends(tries_another_class, "ww_mutex_trylock: the context is of another class");
+	ends(tries_nothing, "ww_mutex_trylock: the mutex isn't initialized");
+	ends(locks_what_is_destroyed, "ww_mutex_lock: the mutex isn't initialized");
+	ends(one_mutex_too_many, "ww_mutex_init: the class has all mutexes that it may have");
+	ends(loop_while_it_holds, "ww_until_all_locked: the context holds a mutex");
+	ends(inits_in_a_child, "ww_mutex_init: the class was opened before a fork");
+	ends(begins_in_a_child, "ww_acquire_init: the class was opened before a fork");
+	ends(locks_in_a_child, "ww_mutex_lock: the class was opened before a fork");
+	MUST(!ww_mutex_lock(&b, &y) && ww_mutex_lock(&a, &y) == -EDEADLK);
+	ends(slow_while_it_holds, "ww_mutex_lock_slow: no -EDEADLK of this mutex came before");
+	forks();
+	ww_mutex_unlock(&a);
+	ww_mutex_unlock(&b);
+	ww_acquire_fini(&x);
+	ww_acquire_fini(&y);
+	MUST(!ww_mutex_destroy(&a) && !ww_mutex_destroy(&b) && !ww_mutex_destroy(&its) && !ww_class_free(&c) && !ww_class_free(&other));
+	puts("mutex_ends: each says why");
+	return 0;
+}

@@ -1,0 +1,131 @@
+/*
+ * Each allocation of a class's opening is refused in turn, that of the thread-local
+ * key too: the class isn't open, nothing is left, and the same call does it later.
+ * No other call allocates.  This heap stands in for that of the library, and what
+ * ww.c and ww_mutex.c ask for comes by the wrappers (ld --wrap).
+ */
+#include "mutex_test.h"
+
+struct tried {
+	bool ok;
+	void *p;
+};
+
+static long made, live, refused = -1;
+static char nothing[16];
+
+static struct tried told(void *p) { return (struct tried){ p != NULL, p ? p : nothing }; }
+
+static void *asked(void *p)
+{
+	live += p != NULL;
+	return p;
+}
+
+struct tried rattle_alloc(size_t size, size_t align);
+struct tried rattle_realloc(void *p, size_t kept, size_t size, size_t align);
+void rattle_dealloc(void *p);
+void *__real_aligned_alloc(size_t align, size_t size);
+void *__real_calloc(size_t count, size_t size);
+void __real_free(void *p);
+int __real_pthread_key_create(pthread_key_t *key, void (*end)(void *));
+void *__wrap_aligned_alloc(size_t align, size_t size);
+void *__wrap_calloc(size_t count, size_t size);
+void __wrap_free(void *p);
+int __wrap_pthread_key_create(pthread_key_t *key, void (*end)(void *));
+
+struct tried rattle_alloc(size_t size, size_t align)
+{
+	return told(asked(made++ == refused ? NULL : malloc(size ? size : align)));
+}
+
+struct tried rattle_realloc(void *p, size_t kept, size_t size, size_t align)
+{
+	(void)kept;
+	return told(made++ == refused ? NULL : realloc(p, size ? size : align));
+}
+
+void rattle_dealloc(void *p) { free(p); }
+
+void *__wrap_aligned_alloc(size_t align, size_t size)
+{
+	return asked(made++ == refused ? NULL : __real_aligned_alloc(align, size));
+}
+
+void *__wrap_calloc(size_t count, size_t size) { return asked(made++ == refused ? NULL : __real_calloc(count, size)); }
+
+int __wrap_pthread_key_create(pthread_key_t *key, void (*end)(void *))
+{
+	return made++ == refused ? EAGAIN : __real_pthread_key_create(key, end);
+}
+
+void __wrap_free(void *p)
+{
+	live -= p != NULL;
+	__real_free(p);
+}
+
+static DEFINE_WW_CLASS(wound_wait);
+static DEFINE_WD_CLASS(wait_die);
+static struct ww_class *c;
+
+/* Each call that may be the first to use the class. */
+static int opens(unsigned way)
+{
+	static struct ww_mutex m;
+	struct ww_acquire_ctx x;
+	int r;
+
+	switch (way) {
+	case 0: return ww_class_open(c);
+	case 1: r = ww_mutex_init_checked(&m, c); return r ? r : ww_mutex_destroy(&m);
+	default: r = ww_acquire_init_checked(&x, c); return r ? r : ww_acquire_fini_checked(&x);
+	}
+}
+
+static void uses_all(void)
+{
+	struct ww_mutex list[4];
+	struct ww_acquire_ctx x;
+
+	for (unsigned k = 0; k < 4; k++)
+		ww_mutex_init(&list[k], c);
+	ww_acquire_init(&x, c);
+	ww_until_all_locked(&x)
+		for (unsigned k = 0; k < 3; k++)
+			MUST(!ww_mutex_lock(&list[k], &x));
+	MUST(!ww_mutex_lock(&list[3], NULL));
+	for (unsigned k = 0; k < 4; k++)
+		ww_mutex_unlock(&list[k]);
+	ww_acquire_fini(&x);
+	for (unsigned k = 0; k < 4; k++)
+		MUST(!ww_mutex_destroy(&list[k]));
+}
+
+int main(void)
+{
+	struct ww_class *classes[] = { &wound_wait, &wait_die };
+
+	for (unsigned kind = 0; kind < 2; kind++) {
+		c = classes[kind];
+		for (unsigned way = 0; way < 3; way++) {
+			MUST(!ww_class_limit(c, 100, 16));
+			for (refused = 0;; refused++) {
+				int r;
+
+				made = 0;
+				r = opens(way);
+				if (!r)
+					break;
+				MUST(r == -ENOMEM && !live && !c->pool && !ww_class_free(c));
+			}
+			MUST(made == refused && live);
+			printf("%ld allocations to open a class, each refused in turn; none by the other calls\n", made);
+			refused = -1;
+			made = 0;
+			uses_all();
+			MUST(!made && !ww_class_free(c) && !live);
+		}
+	}
+	return 0;
+}

@@ -1,0 +1,38 @@
+/* What the tests of ww_mutex.h share. A program may include both headers. */
+#ifndef MUTEX_TEST_H
+#define MUTEX_TEST_H
+#include "test.h"
+#include "../ww_mutex.h"
+#include <string.h>
+#include <unistd.h>
+
+/* So many milliseconds from now, on the monotonic clock. */
+static inline struct timespec in_ms(long ms)
+{
+	struct timespec at;
+
+	clock_gettime(CLOCK_MONOTONIC, &at);
+	at.tv_nsec += ms * 1000000;
+	at.tv_sec += at.tv_nsec / 1000000000;
+	at.tv_nsec %= 1000000000;
+	return at;
+}
+
+/* Somebody waits for it, as far as can be seen from here. */
+static inline void awaits_waiter(const struct ww_mutex *m)
+{
+	while (!__atomic_load_n(&m->waiters, __ATOMIC_SEQ_CST))
+		usleep(100);
+	usleep(2000);
+}
+
+static inline pthread_t begin_thread(void *(*work)(void *), void *arg)
+{
+	pthread_t thread;
+
+	MUST(!pthread_create(&thread, NULL, work, arg));
+	return thread;
+}
+
+static inline void end_thread(pthread_t thread) { MUST(!pthread_join(thread, NULL)); }
+#endif

@@ -1,0 +1,76 @@
+/* ww_inside.h - what a world and a seat are, for the library's own sources and its tests. No program includes it. */
+#ifndef WW_INSIDE_H
+#define WW_INSIDE_H
+#include "ww.h"
+#include <time.h>
+
+/* The proved library isn't built for the thread sanitizer, so that is told what orders the accesses under a lock. */
+#ifdef __has_feature
+#define SANITIZES_THREADS __has_feature(thread_sanitizer)
+#elif defined(__SANITIZE_THREAD__)
+#define SANITIZES_THREADS 1
+#else
+#define SANITIZES_THREADS 0
+#endif
+#if SANITIZES_THREADS
+#include <sanitizer/tsan_interface.h>
+#else
+static inline void __tsan_acquire(void *at) { (void)at; }
+static inline void __tsan_release(void *at) { (void)at; }
+#endif
+
+/* It has a cache line of its own. */
+struct ww_seat {
+	ww_handle handle;
+	ww_world *world;
+	uint32_t token;		/* one futex word: nothing, a token, or its thread sleeps */
+	uint32_t held;		/* how many locks it holds */
+	uint32_t cancels;	/* how often it was cancelled, by others */
+	uint32_t stops;		/* how many waits that called off */
+	bool stale;		/* a cancel is pending that was meant for a user before this one */
+	bool taken;		/* by ww_seat_get, or for a context of ww_mutex.h */
+	const void *keeper;	/* the thread that has it at hand for its next context, if nobody takes it before */
+} __attribute__((aligned(64)));
+
+/* Behind the seats lies what the thread sanitizer is told of, where it is in use. */
+struct ww_world {
+	uint32_t locks, count;	/* of its seats */
+	uint32_t turn;		/* where ww_seat_get looks first */
+	char *orders;		/* an address for each lock, by which the thread sanitizer knows it */
+	uint64_t *marks;	/* for each seat a bit a lock: it is held */
+	ww_seat seats[];
+};
+
+struct ww_pool;
+
+/* Why a wait may end before its time: then another seat cancels it, which call_off does, or answers that none is free. */
+struct ww_stop {
+	const uint32_t *asked;		/* not 0: somebody asks for it; or NULL */
+	const struct timespec *until;	/* on the monotonic clock; or NULL */
+	struct ww_pool *pool;
+	bool (*call_off)(struct ww_pool *, ww_seat *);
+	bool sent;
+};
+
+#define WW_HIDDEN __attribute__((visibility("hidden")))
+/* All turns of a call but the first. */
+WW_HIDDEN int ww_go_on(ww_seat *s, struct ww_stop *stop);
+/* Wakes its thread, or leaves it a token. */
+WW_HIDDEN void ww_unpark(ww_seat *s);
+/* Sleeps as long as the word is this, until a time of the monotonic clock at the longest, if that isn't NULL. */
+WW_HIDDEN void ww_futex_wait(uint32_t *word, uint32_t is, const struct timespec *until);
+WW_HIDDEN void ww_futex_wake(uint32_t *word);
+/* Whether this time of the monotonic clock has come. */
+WW_HIDDEN bool ww_has_come(const struct timespec *until);
+
+/*
+ * Takes away a cancel that met no wait of the seat's user, by its thread.  The
+ * proved library can't drop one outside a wait, so it stays, marked, and the first
+ * wait that it calls off begins anew.
+ */
+static inline void drop_cancel(ww_seat *s)
+{
+	if ((int32_t)(__atomic_load_n(&s->cancels, __ATOMIC_SEQ_CST) - s->stops) > 0)
+		__atomic_store_n(&s->stale, true, __ATOMIC_SEQ_CST);
+}
+#endif

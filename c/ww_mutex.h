@@ -1,0 +1,277 @@
+/*
+ * ww_mutex.h - the kernel's wound/wait mutexes in user space, over proved locks.
+ *
+ * A mutex lies in the object that it guards, a context on the stack of the thread
+ * that runs it.  Names, signatures and answers are those of the kernel's
+ * <linux/ww_mutex.h>, so code that is written for that compiles as it stands; its
+ * document ww-mutex-design says what the calls are for.  What the kernel hasn't
+ * stands behind it, and is marked so.
+ *
+ * A class has at most 65,536 mutexes at once, and 16 contexts; a mutex that is
+ * held without a context (NULL) counts as one of these as long as it is held.
+ * ww_mutex(3) says what is promised, and what a program owes.
+ */
+#ifndef WW_MUTEX_H
+#define WW_MUTEX_H
+#include <errno.h>
+#include <stdbool.h>
+#include <stddef.h>
+#include <stdint.h>
+#include <time.h>
+
+/* As in ww.h: an answer that can't be dropped without a word. */
+#ifndef WW_MUST_CHECK
+#if defined(__cplusplus) && __cplusplus >= 201703L
+#define WW_MUST_CHECK [[nodiscard]]
+#elif defined(__GNUC__)
+#define WW_MUST_CHECK __attribute__((warn_unused_result))
+#else
+#define WW_MUST_CHECK
+#endif
+#endif
+
+#ifdef __cplusplus
+extern "C" {
+#endif
+
+struct ww_pool; /* what an open class has */
+struct ww_seat;
+
+/* A class of mutexes: a context belongs to one, and locks the mutexes of that class alone. */
+struct ww_class {
+	struct ww_pool *pool;		/* once it is open */
+	uint32_t mutexes, contexts;	/* as many at once; 0: 65,536 and 16 */
+	int is_wait_die;
+	const char *name;
+};
+
+/* What the fields below are for is the library's business, except ctx and acquired, which may be read. */
+struct ww_acquire_ctx;
+
+struct ww_mutex {
+	struct ww_acquire_ctx *ctx;	/* the context that holds it; NULL: none does. Others read it atomically */
+	struct ww_pool *pool;
+	struct ww_seat *alone;		/* by which it is held without a context */
+	uint32_t number;
+	uint32_t waiters;
+	struct ww_mutex *newer, *older;	/* what its context acquired after it and before it, where that is kept */
+};
+
+struct ww_acquire_ctx {
+	struct ww_pool *pool;
+	struct ww_seat *seat;		/* that of nobody where a call has more to do */
+	struct ww_seat *own;
+	unsigned int acquired;		/* how many mutexes it holds */
+	unsigned int cancelled;
+	struct ww_mutex *called;	/* by the call that is on its way */
+	struct ww_mutex *contending_lock; /* at which the last -EDEADLK came */
+	struct ww_mutex *newest;	/* what it acquired last, where that is kept */
+	struct ww_mutex *prelocked;
+	unsigned int flags, state;
+	unsigned int deadlock_inject_interval, deadlock_inject_countdown; /* of the debug library */
+	unsigned long stamp;		/* likewise */
+};
+
+/*
+ * A class, static or not, opened at its first use:
+ *	static DEFINE_WW_CLASS(boxes);
+ */
+#define DEFINE_WW_CLASS(classname) struct ww_class classname = { NULL, 0, 0, 0, #classname }
+#define DEFINE_WD_CLASS(classname) struct ww_class classname = { NULL, 0, 0, 1, #classname }
+
+/*
+ * Gives the mutex a number of its class.  It reads nothing of what stood there: a
+ * mutex that wasn't destroyed keeps its number for ever.  The program ends with a
+ * message where all numbers are given, or the class can't be opened.
+ */
+void ww_mutex_init(struct ww_mutex *lock, struct ww_class *ww_class);
+/*
+ * Takes the number back; the mutex is used no more until the next ww_mutex_init.
+ * -EBUSY: somebody holds it or waits for it, and nothing has changed; -EINVAL: it
+ * was destroyed before.
+ */
+int ww_mutex_destroy(struct ww_mutex *lock);
+
+/*
+ * Begins a context.  Where all contexts of the class are in use it waits for one
+ * to end: threads that hold something by one context and wait for another can wait
+ * for each other for ever, which nobody detects.
+ */
+void ww_acquire_init(struct ww_acquire_ctx *ctx, struct ww_class *ww_class);
+/* The context has all its locks: from now on it acquires none. The program ends where it was said before. */
+void ww_acquire_done(struct ww_acquire_ctx *ctx);
+/* Ends it. The program ends with a message where it still holds a mutex, or had ended. */
+void ww_acquire_fini(struct ww_acquire_ctx *ctx);
+
+/*
+ * Acquires the mutex, and waits for it.  -EDEADLK: release all that the context
+ * holds, then ww_mutex_lock_slow of this mutex; -EALREADY: the context holds it.
+ * -EINVAL: the context is done or has ended, it was told -EDEADLK and still holds a
+ * mutex, it is of another class, or the mutex isn't initialized.
+ * The first lock of a context is never refused.
+ *
+ * With NULL it is acquired without a context: 0, or the program ends with a message,
+ * since nobody looks at that answer.  A thread may hold several mutexes so.
+ * Each takes one of the contexts of the class as long as it is held, and waits for
+ * one as ww_acquire_init does.
+ */
+int ww_mutex_lock(struct ww_mutex *lock, struct ww_acquire_ctx *ctx);
+/* The same, but ww_acquire_cancel may call the wait off: -EINTR, and what was held still is. With NULL -EINVAL is told. */
+WW_MUST_CHECK int ww_mutex_lock_interruptible(struct ww_mutex *lock, struct ww_acquire_ctx *ctx);
+/*
+ * After -EDEADLK of this mutex, with nothing held: acquires it, and waits for it.
+ * The program ends with a message in all other cases.
+ */
+void ww_mutex_lock_slow(struct ww_mutex *lock, struct ww_acquire_ctx *ctx);
+/* The same, but ww_acquire_cancel may call the wait off: -EINTR; and -EINVAL in all other cases. */
+WW_MUST_CHECK int ww_mutex_lock_slow_interruptible(struct ww_mutex *lock, struct ww_acquire_ctx *ctx);
+/*
+ * 1 if it acquired the mutex, and else 0: somebody holds it or waits for it, or the
+ * context may acquire nothing now.  With NULL it is 0, too, where all contexts of the
+ * class are in use.  The program ends with a message for a context of another class.
+ */
+WW_MUST_CHECK int ww_mutex_trylock(struct ww_mutex *lock, struct ww_acquire_ctx *ctx);
+/* Releases it, by the thread that acquired it. The program ends with a message where nobody holds it. */
+void ww_mutex_unlock(struct ww_mutex *lock);
+/* Whether somebody holds it, at a glance. */
+bool ww_mutex_is_locked(struct ww_mutex *lock);
+
+/* ---- what the kernel hasn't ---- */
+
+/*
+ * NAME_checked does what NAME does, and answers where NAME would end the program:
+ * -EINVAL as told there; -ENOSPC where all numbers are given, -ENOMEM where the class
+ * can't be opened, and -EAGAIN where all contexts are in use, for which it doesn't wait.
+ */
+WW_MUST_CHECK int ww_mutex_init_checked(struct ww_mutex *lock, struct ww_class *ww_class);
+WW_MUST_CHECK int ww_acquire_init_checked(struct ww_acquire_ctx *ctx, struct ww_class *ww_class);
+WW_MUST_CHECK int ww_acquire_done_checked(struct ww_acquire_ctx *ctx);
+WW_MUST_CHECK int ww_acquire_fini_checked(struct ww_acquire_ctx *ctx);
+WW_MUST_CHECK int ww_mutex_lock_slow_checked(struct ww_mutex *lock, struct ww_acquire_ctx *ctx);
+WW_MUST_CHECK int ww_mutex_unlock_checked(struct ww_mutex *lock);
+
+/* A class in memory of the program's own, as DEFINE_WW_CLASS (0) or DEFINE_WD_CLASS (1) makes it. */
+void ww_class_init(struct ww_class *ww_class, int is_wait_die, const char *name);
+/*
+ * How many mutexes and contexts there may be at once, said before its first use;
+ * memory is taken for as many.  0: 65,536, and 16.  -EINVAL: more; -EBUSY: it is open.
+ */
+WW_MUST_CHECK int ww_class_limit(struct ww_class *ww_class, uint32_t mutexes, uint32_t contexts);
+/* Opens the class now, where it isn't open: it takes all its memory. -ENOMEM. */
+WW_MUST_CHECK int ww_class_open(struct ww_class *ww_class);
+/*
+ * Gives back its memory; the next use opens it anew.  -EBUSY: it has a mutex, a
+ * context runs, or a mutex is held.  No other thread uses the class meanwhile.
+ */
+int ww_class_free(struct ww_class *ww_class);
+
+/*
+ * As ww_mutex_lock_interruptible, but waits until this time of the monotonic clock at
+ * the longest: -ETIMEDOUT, and what was held still is.  A mutex that is free is
+ * acquired, however late it is.
+ */
+WW_MUST_CHECK int ww_mutex_lock_until(struct ww_mutex *lock, struct ww_acquire_ctx *ctx, const struct timespec *monotonic);
+/*
+ * Calls off the interruptible wait of a context, this one or the next: as a signal
+ * does in the kernel.  -EALREADY: that is pending; -EINVAL: the context has ended.
+ * It may be called by any thread as long as the context is there.  A cancel that
+ * found no wait ends with its context.
+ * A wait ends so as soon as one of the class's contexts isn't in use: where all 16 are,
+ * once one of them ends.  The same goes for a time that has come.
+ */
+int ww_acquire_cancel(struct ww_acquire_ctx *ctx);
+
+/* Of a context, for ww_mutex_lock_all and between ww_until_all_locked and its end. */
+enum {
+	WW_IGNORE_DUPLICATES = 1,	/* a mutex that the context holds is no error */
+	WW_INTERRUPTIBLE = 2,		/* waits may be called off */
+};
+void ww_acquire_flags(struct ww_acquire_ctx *ctx, unsigned int flags);
+
+/*
+ * Acquires all of them, in any order, and backs off by itself.  Where it answers an
+ * error it has released what it had acquired: -EALREADY, a mutex stands there twice or
+ * is held before; -EINTR; -EINVAL; -EDEADLK only to a context that held a mutex before,
+ * and has to release it.
+ */
+WW_MUST_CHECK int ww_mutex_lock_all(struct ww_acquire_ctx *ctx, struct ww_mutex *const *locks, size_t count);
+/* Releases all that the context acquired since ww_until_all_locked, the newest first. */
+void ww_acquire_unlock_all(struct ww_acquire_ctx *ctx);
+
+/*
+ * The same for mutexes that are found on the way, as drm_exec has it:
+ *
+ *	ww_until_all_locked(&ctx) {
+ *		for (..) {
+ *			err = ww_mutex_lock(&object->lock, &ctx);
+ *			ww_retry_on_contention(&ctx);
+ *			if (err)
+ *				goto fails;
+ *		}
+ *	}
+ *
+ * After -EDEADLK ww_retry_on_contention releases all that was acquired in the loop, and
+ * the body begins again; the next lock call first waits for the mutex at which
+ * -EDEADLK came, and the lock call of that one answers 0.  The context holds nothing
+ * when the loop begins.  In C++ no object with a destructor may lie between both.
+ */
+#define WW_PASTE__(a, b) a##b
+#define WW_PASTE_(a, b) WW_PASTE__(a, b)
+#define ww_until_all_locked(ctx)                                                                       \
+	for (void *ww_again_ = (ww_tries_begin_(ctx), __extension__ && WW_PASTE_(ww_again_at_, __LINE__)); \
+	     ww_again_; ww_again_ = NULL)                                                              \
+	WW_PASTE_(ww_again_at_, __LINE__) : while (ww_tries_more_(ctx))
+#define ww_retry_on_contention(ctx)                                                                    \
+	do {                                                                                           \
+		if (ww_is_contended(ctx))                                                              \
+			__extension__({ goto *ww_again_; });                                           \
+	} while (0)
+/* Whether the last lock call of the context answered -EDEADLK, and it hasn't backed off since. */
+bool ww_is_contended(const struct ww_acquire_ctx *ctx);
+void ww_tries_begin_(struct ww_acquire_ctx *ctx);
+bool ww_tries_more_(struct ww_acquire_ctx *ctx);
+
+#ifdef WW_DEBUG
+/*
+ * With -DWW_DEBUG, and -lww_debug in place of -lww: a call that is wrong is told on
+ * standard error, with its line and the calls by which the program came there, besides
+ * what it answers; and now and then a context that holds a mutex is told -EDEADLK
+ * without need, so that the way back is tried.
+ */
+#include <stdio.h>
+#ifdef __cplusplus
+extern "C" {
+#endif
+/* Writes who holds what and who waits for whom, at a glance, in the form that tools/picture draws. */
+void ww_class_print(struct ww_class *ww_class, FILE *to);
+/* How many calls were told to be wrong. */
+unsigned long ww_debug_faults(void);
+void ww_debug_at_(const char *file, int line);
+#ifdef __cplusplus
+}
+#endif
+
+/* As in the kernel: a context with deadlock_inject_countdown ~0u is told nothing without need. */
+#define CONFIG_DEBUG_WW_MUTEX_SLOWPATH 1
+#ifndef WW_POOL_H
+#define WW_HERE_ ww_debug_at_(__FILE__, __LINE__)
+#define ww_mutex_init(...) (WW_HERE_, ww_mutex_init(__VA_ARGS__))
+#define ww_mutex_destroy(...) (WW_HERE_, ww_mutex_destroy(__VA_ARGS__))
+#define ww_acquire_init(...) (WW_HERE_, ww_acquire_init(__VA_ARGS__))
+#define ww_acquire_done(...) (WW_HERE_, ww_acquire_done(__VA_ARGS__))
+#define ww_acquire_fini(...) (WW_HERE_, ww_acquire_fini(__VA_ARGS__))
+#define ww_mutex_lock(...) (WW_HERE_, ww_mutex_lock(__VA_ARGS__))
+#define ww_mutex_lock_interruptible(...) (WW_HERE_, ww_mutex_lock_interruptible(__VA_ARGS__))
+#define ww_mutex_lock_slow(...) (WW_HERE_, ww_mutex_lock_slow(__VA_ARGS__))
+#define ww_mutex_lock_slow_interruptible(...) (WW_HERE_, ww_mutex_lock_slow_interruptible(__VA_ARGS__))
+#define ww_mutex_lock_until(...) (WW_HERE_, ww_mutex_lock_until(__VA_ARGS__))
+#define ww_mutex_lock_all(...) (WW_HERE_, ww_mutex_lock_all(__VA_ARGS__))
+#define ww_mutex_trylock(...) (WW_HERE_, ww_mutex_trylock(__VA_ARGS__))
+#define ww_mutex_unlock(...) (WW_HERE_, ww_mutex_unlock(__VA_ARGS__))
+#endif
+#endif
+
+#ifdef __cplusplus
+}
+#endif
+#endif

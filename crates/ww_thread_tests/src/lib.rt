@@ -1,0 +1,16 @@
+//! Tests of the locks, the three ways of taking many of them, and transactions, by several threads, over what each of
+//! these libraries offers to all. They see what comes of threads.
+#![tactic(auto)]
+
+#[cfg(test)]
+mod cancels;
+#[cfg(test)]
+mod kept;
+#[cfg(test)]
+mod pairs;
+#[cfg(test)]
+mod races;
+#[cfg(test)]
+mod reordered;
+#[cfg(test)]
+mod threads;

@@ -1,0 +1,172 @@
+-- A seat in a call at the table, and the steps of the scene.
+use Rattle.std.proofs.Common.{◌≡◌, ◌≢◌, inl, inr, ⊎_elim, ℕ, true, false, List, [], ◌∷◌, Option, Some, None, refl, sym, ap, ◌∙◌, subst, arith, true≢false}
+use Rattle.std.proofs.lemmas.Bool.{cases_Bool}
+use Rattle.std.specs.Option.{option_map}
+use Rattle.std.specs.Prelude.{slice_get}
+use Rattle.ww_queue.specs.declared.entry.Entry.{Entry}
+use Rattle.ww_queue.specs.Queue.{Has}
+use Rattle.ww_model.specs.declared.event.Event.{Event}
+use Rattle.ww_model.specs.declared.event.Event.TheVariants.{Begin, Clear, Fast, FastGive, Guard, Join, Sign, Take, Ask, Give, Die, Unguard, Commit, End, Cancel, Heed, Leave}
+use Rattle.ww_model.specs.State.{State}
+use Rattle.ww_model.specs.Event.{actor}
+use Rattle.ww_model.proofs.Puts.{put_here, put_else}
+use Rattle.ww_model.proofs.Kept.{reached_is_lawful}
+use Rattle.ww_model.proofs.Outside.{signed_owns_outside}
+use Rattle.ww_view.specs.declared.view.View.{View}
+use Rattle.ww_view.specs.May.{Shows}
+use Rattle.ww_view.specs.Made.{view_after}
+use Rattle.ww_view.proofs.Events.{shown_is_possible, actor_knows}
+use Rattle.ww_view.proofs.Others.{others_know}
+use Rattle.ww_view.proofs.Shows.{shows_exit}
+use Rattle.ww_view.proofs.Inside.{mine_read, mine_read_none, mine_stepped}
+use Rattle.ww_wakes.specs.Scene.{acting, going_to_sleep, asleep, performs, leaves_to_sleep, finds_no_sign, finds_no_cancel, wakes, falls_asleep, rises, first_of, woken_by, next, goes_on}
+use Rattle.ww_wakes.specs.Ties.{also, ShownIsAStep, LeavingIsAStep, SignLookIsAStep, CancelLookIsAStep, OthersLeaveCallsAlone, ViewsTellWhomToWake, WakersMaySleep}
+use Rattle.ww_wakes.proofs.Woken.{another_was, owing_was, debt_was, debt_here}
+use Rattle.ww_wakes.proofs.Keeping.{reached_is_orderly}
+
+-- ---- own events
+
+-- inside a guard no event leaves a look at the sign the last step
+not_fresh : (c : State) (e : Event) (v : View) → Shows c v e → (view_after c e v).inside ≢ 0 → (view_after c e v).fresh ≡ true → ⊥
+not_fresh c (Commit s) v h inside fresh = inside h.0.0
+not_fresh c (Cancel s u) v h inside fresh = inside h.0.0
+not_fresh c (Begin s) v h inside fresh = true≢false (sym fresh)
+not_fresh c (Clear s) v h inside fresh = true≢false (sym fresh)
+not_fresh c (Fast s n) v h inside fresh = true≢false (sym fresh)
+not_fresh c (FastGive s n) v h inside fresh = true≢false (sym fresh)
+not_fresh c (Guard s n) v h inside fresh = true≢false (sym fresh)
+not_fresh c (Join s n) v h inside fresh = true≢false (sym fresh)
+not_fresh c (Sign s u) v h inside fresh = true≢false (sym fresh)
+not_fresh c (Take s n) v h inside fresh = true≢false (sym fresh)
+not_fresh c (Ask s n) v h inside fresh = true≢false (sym fresh)
+not_fresh c (Give s n) v h inside fresh = true≢false (sym fresh)
+not_fresh c (Die s n) v h inside fresh = true≢false (sym fresh)
+not_fresh c (Unguard s n) v h inside fresh = true≢false (sym fresh)
+not_fresh c (End s) v h inside fresh = true≢false (sym fresh)
+not_fresh c (Heed s n) v h inside fresh = true≢false (sym fresh)
+not_fresh c (Leave s n) v h inside fresh = true≢false (sym fresh)
+
+same_who : (c : State) (e : Event) (v : View) → (view_after c e v).who ≡ v.who
+same_who c (Begin s) v = refl
+same_who c _ v = refl
+
+new_there : (o : Option ℕ) (us : List ℕ) (u : ℕ) → o ≡ Some u → Has (also o us) u
+new_there None us u is = absurd (cc)
+new_there (Some x) us u is = inl (let same : u ≡ x = cc in same)
+
+old_there : (o : Option ℕ) (us : List ℕ) (u : ℕ) → Has us u → Has (also o us) u
+old_there None us u there = there
+old_there (Some x) us u there = inr there
+
+pub shown_is_a_step : ShownIsAStep
+shown_is_a_step w v e to_wake r i own h = let c = w.core in let reached = (reached_is_orderly w r).reached in
+    let l = reached_is_lawful c reached in let out = signed_owns_outside c reached in let who = same_who c e v in record {
+      may = record { acts = ap w.phase own ∙ i.acts; possible = shown_is_possible c v l out i.knows e own h };
+      call = record {
+        knows = actor_knows c v l out i.knows e own h;
+        acts = ap w.phase who ∙ i.acts;
+        fresh = λ inside fresh. absurd (not_fresh c e v h inside fresh);
+        debts = λ u owed. ⊎_elim (λ new. new_there (woken_by c e) to_wake u new.1)
+            (λ old. old_there (woken_by c e) to_wake u (i.debts u (subst (λ s. w.owes s u ≡ true) who old)))
+            (owing_was w.owes (actor e) (woken_by c e) (view_after c e v).who u owed);
+      };
+    }
+
+-- ---- out of the guard
+
+pub leaving_is_a_step : LeavingIsAStep
+leaving_is_a_step w v n heeds to_wake r i may waits heeded = let c = w.core in let k = i.knows in
+    let reached = (reached_is_orderly w r).reached in record {
+      acts = i.acts;
+      possible = shows_exit c v (reached_is_lawful c reached) k n (signed_owns_outside c reached) may.exit;
+      waits = k.queues.waited n waits;
+      unsigned = λ can. i.fresh (λ none. let z = may.exit.inside in omega arith)
+          (may.looked (k.itself.kind ∙ can.kind) waits (let z = k.itself.stamp in let y = can.context in omega arith)
+          (can.owns.0, k.owned.lacks can.owns.0 can.owns.1));
+      uncancelled = heeded;
+    }
+
+-- ---- looks at the own sign and cancel
+
+pub sign_look_is_a_step : SignLookIsAStep
+sign_look_is_a_step w v to_wake i none = let found = put_here w.found_no_sign v.who true in record {
+  may = (i.acts, none);
+  loud = record { knows = mine_read_none w.core v i.knows; acts = i.acts; fresh = λ _ _. found; debts = i.debts };
+  quiet = λ quiet. record { knows = mine_read w.core v i.knows 0 none (λ _. quiet); acts = i.acts; fresh = λ _ _. found; debts = i.debts };
+}
+
+pub cancel_look_is_a_step : CancelLookIsAStep
+cancel_look_is_a_step w v to_wake i none = record {
+  may = (i.acts, none);
+  call = record { knows = mine_stepped w.core v i.knows; acts = i.acts; fresh = λ _ fresh. absurd (true≢false (sym fresh)); debts = i.debts };
+}
+
+-- ---- steps of others
+
+pub others_leave_calls_alone : OthersLeaveCallsAlone
+others_leave_calls_alone w (performs e) v to_wake r may other i = let c = w.core in record {
+  knows = others_know c e v (reached_is_lawful c (reached_is_orderly w r).reached) may.possible other i.knows;
+  acts = i.acts;
+  fresh = λ inside fresh. put_else w.found_no_sign (actor e) false v.who (λ is. other (sym is)) ∙ i.fresh inside fresh;
+  debts = λ u owed. ⊎_elim (λ new. absurd (other (sym new.0))) (i.debts u) (owing_was w.owes (actor e) (woken_by c e) v.who u owed);
+}
+others_leave_calls_alone w (leaves_to_sleep s n heeds) v to_wake r may other i = let c = w.core in record {
+  knows = others_know c (Unguard s n) v (reached_is_lawful c (reached_is_orderly w r).reached) may.possible other i.knows;
+  acts = put_else w.phase s going_to_sleep v.who (λ is. other (sym is)) ∙ i.acts;
+  fresh = i.fresh;
+  debts = i.debts;
+}
+others_leave_calls_alone w (finds_no_sign s) v to_wake r may other i = record {
+  knows = i.knows;
+  acts = i.acts;
+  fresh = λ inside fresh. put_else w.found_no_sign s true v.who (λ is. other (sym is)) ∙ i.fresh inside fresh;
+  debts = i.debts;
+}
+others_leave_calls_alone w (finds_no_cancel s) v to_wake r may other i =
+    record { knows = i.knows; acts = i.acts; fresh = i.fresh; debts = i.debts }
+others_leave_calls_alone w (wakes s x) v to_wake r may other i = record {
+  knows = i.knows;
+  acts = i.acts;
+  fresh = i.fresh;
+  debts = λ u owed. ⊎_elim (λ paid. absurd (true≢false (sym paid.2))) (i.debts u) (debt_was w.owes s x false v.who u owed);
+}
+others_leave_calls_alone w (falls_asleep s) v to_wake r may other i = record {
+  knows = i.knows;
+  acts = put_else w.phase s asleep v.who (λ is. other (sym is)) ∙ i.acts;
+  fresh = i.fresh;
+  debts = i.debts;
+}
+others_leave_calls_alone w (rises s) v to_wake r may other i = record {
+  knows = i.knows;
+  acts = put_else w.phase s acting v.who (λ is. other (sym is)) ∙ i.acts;
+  fresh = λ inside fresh. put_else w.found_no_sign s false v.who (λ is. other (sym is)) ∙ i.fresh inside fresh;
+  debts = i.debts;
+}
+
+-- ---- whom the view tells
+
+first_told : (q : List Entry) → first_of q ≡ option_map (λ (e : Entry). e.seat) (slice_get q 0)
+first_told [] = refl
+first_told (e ∷ es) = refl
+
+pub views_tell_whom_to_wake : ViewsTellWhomToWake
+views_tell_whom_to_wake c v k = record {
+  signs = λ u x is. let one = another_was v.who u x is in (inl one.0, one.1);
+  gives = λ n inside. ap first_of (sym (k.queues.list n inside)) ∙ first_told v.list;
+}
+
+-- ---- waking all
+
+pub wakers_may_sleep : WakersMaySleep
+wakers_may_sleep w s [] r ready all = record {
+  reached = r;
+  may = record { ready = ready; paid = λ v. ⊎_elim (λ is. absurd (all v is)) (λ isnt. isnt) (cases_Bool (w.owes s v)) };
+}
+wakers_may_sleep w s (u ∷ us) r ready all = wakers_may_sleep (next w (wakes s u)) s us
+    (goes_on w (wakes s u) r (λ sleeps. let z : ⊥ = cc in z)) ready
+    (λ v owed. ⊎_elim (λ paid. absurd (true≢false (sym paid.2)))
+    (λ old. ⊎_elim (λ is. absurd (unpaid v is owed)) (λ later. later) (all v old))
+    (debt_was w.owes s u false s v owed))
+  where
+    unpaid : (v : ℕ) → v ≡ u → (next w (wakes s u)).owes s v ≡ true → ⊥
+    unpaid v is owed = true≢false (sym owed ∙ ap ((next w (wakes s u)).owes s) is ∙ debt_here w.owes s u false)

@@ -1,0 +1,6 @@
+pub mod Woken
+pub mod Keeping
+pub mod Walks
+pub mod Endless
+pub mod Calls
+pub mod Examples

@@ -1,0 +1,105 @@
+-- How what a seat does at the table, by its view, is a step of the scene.
+use Rattle.std.specs.Prelude.{ℕ, suc, ◌≡◌, ◌≢◌, Bool, true, List, [], ◌∷◌, Option, Some, None}
+use Rattle.ww_queue.specs.Queue.{Has}
+use Rattle.ww_model.specs.declared.event.Event.{Event}
+use Rattle.ww_model.specs.declared.event.Event.TheVariants.{Give, Sign}
+use Rattle.ww_model.specs.State.{State}
+use Rattle.ww_model.specs.Event.{actor}
+use Rattle.ww_view.specs.declared.view.View.{View}
+use Rattle.ww_view.specs.View.{Knows, IsQuiet}
+use Rattle.ww_view.specs.May.{MayLeave, Shows}
+use Rattle.ww_view.specs.Made.{view_after, has_read, found_none, stepped}
+use Rattle.ww_wakes.specs.Scene.{Scene, acting, going_to_sleep, Step, performs, leaves_to_sleep, finds_no_sign, finds_no_cancel, wakes, falls_asleep, rises, MayPerform, MayLeaveToSleep, MayFallAsleep, May, next, woken_by, IsReached}
+
+-- The seat with this view is in a call: it knows the core by its view, and acts; where the view says that it has just
+-- found no sign, it has; and whom it has yet to wake is one of these.
+pub record IsInCall (w : Scene) (v : View) (to_wake : List ℕ) : Type 0 where
+  pub knows : Knows w.core v
+  pub acts : w.phase v.who ≡ acting
+  pub fresh : v.inside ≢ 0 → v.fresh ≡ true → w.found_no_sign v.who ≡ true
+  pub debts : (u : ℕ) → w.owes v.who u ≡ true → Has to_wake u
+
+-- the seat whose step it is
+abbrev pub mover : Step → ℕ
+mover (performs e) = actor e
+mover (leaves_to_sleep s n heeds) = s
+mover (finds_no_sign s) = s
+mover (finds_no_cancel s) = s
+mover (wakes s v) = s
+mover (falls_asleep s) = s
+mover (rises s) = s
+
+-- these, and whom the seat has to wake for an event
+abbrev pub also : Option ℕ → List ℕ → List ℕ
+also None us = us
+also (Some u) us = u ∷ us
+
+-- the seat may perform the event, and then is in its call with the view as it is afterwards, and with whom the event
+-- makes it wake
+pub record MayGoOnBy (w : Scene) (v : View) (e : Event) (to_wake : List ℕ) : Type 0 where
+  pub may : MayPerform w e
+  pub call : IsInCall (next w (performs e)) (view_after w.core e v) (also (woken_by w.core e) to_wake)
+
+-- whatever event a view shows to be possible is a step of the scene
+abbrev pub ShownIsAStep : Type 0
+ShownIsAStep = (w : Scene) (v : View) (e : Event) (to_wake : List ℕ) → IsReached w → IsInCall w v to_wake →
+    actor e ≡ v.who → Shows w.core v e → MayGoOnBy w v e to_wake
+
+-- Whatever waiter the table lets out of a guard may go to sleep, if it found no cancel that its call heeds: of that no
+-- view tells.
+abbrev pub LeavingIsAStep : Type 0
+LeavingIsAStep = (w : Scene) (v : View) (n : ℕ) (heeds : Bool) (to_wake : List ℕ) → IsReached w →
+    IsInCall w v to_wake → MayLeave v n → v.waits ≡ suc n → (heeds ≡ true → w.found_no_cancel v.who ≡ true) →
+    MayLeaveToSleep w v.who n heeds
+
+-- the seat may find no sign, and then is in its call with what it found in its view: that nobody can sign it any more,
+-- where nobody can, else that it had no sign
+pub record MayGoOnUnsigned (w : Scene) (v : View) (to_wake : List ℕ) : Type 0 where
+  pub may : May w (finds_no_sign v.who)
+  pub loud : IsInCall (next w (finds_no_sign v.who)) (found_none v) to_wake
+  pub quiet : IsQuiet v → IsInCall (next w (finds_no_sign v.who)) (has_read v 0) to_wake
+
+-- a look at the own sign that finds none is a step of the scene
+abbrev pub SignLookIsAStep : Type 0
+SignLookIsAStep = (w : Scene) (v : View) (to_wake : List ℕ) → IsInCall w v to_wake → w.core.sign v.who ≡ 0 →
+    MayGoOnUnsigned w v to_wake
+
+-- the seat may find no cancel, and then is in its call with a view that says nothing of it
+pub record MayGoOnUncancelled (w : Scene) (v : View) (to_wake : List ℕ) : Type 0 where
+  pub may : May w (finds_no_cancel v.who)
+  pub call : IsInCall (next w (finds_no_cancel v.who)) (stepped v) to_wake
+
+-- and so is a look at the own cancel that finds none
+abbrev pub CancelLookIsAStep : Type 0
+CancelLookIsAStep = (w : Scene) (v : View) (to_wake : List ℕ) → IsInCall w v to_wake → w.core.cancel v.who ≡ 0 →
+    MayGoOnUncancelled w v to_wake
+
+-- no other seat's step takes a seat out of its call
+abbrev pub OthersLeaveCallsAlone : Type 0
+OthersLeaveCallsAlone = (w : Scene) (x : Step) (v : View) (to_wake : List ℕ) → IsReached w → May w x →
+    mover x ≢ v.who → IsInCall w v to_wake → IsInCall (next w x) v to_wake
+
+-- Whom a seat has to wake is whom its view tells: of its signs those whom it condemned, itself excepted; and, where it
+-- gave the lock back, its heir.
+pub record TellsWhomToWake (c : State) (v : View) : Type 0 where
+  pub signs : (u x : ℕ) → woken_by c (Sign v.who u) ≡ Some x →
+      Has (view_after c (Sign v.who u) v).condemned x × (x ≢ v.who)
+  pub gives : (n : ℕ) → v.inside ≡ suc n → woken_by c (Give v.who n) ≡ (view_after c (Give v.who n) v).heir
+
+abbrev pub ViewsTellWhomToWake : Type 0
+ViewsTellWhomToWake = (c : State) (v : View) → Knows c v → TellsWhomToWake c v
+
+-- the scene once the seat has woken these, one after another
+abbrev pub once_woken : ℕ → List ℕ → Scene → Scene
+once_woken s [] w = w
+once_woken s (u ∷ us) w = once_woken s us (next w (wakes s u))
+
+-- the steps by which it wakes them lead to this scene, in which it may fall asleep
+pub record MayFallAsleepThen (w : Scene) (s : ℕ) : Type 0 where
+  pub reached : IsReached w
+  pub may : MayFallAsleep w s
+
+-- whoever goes to sleep and wakes all of these, among whom are all whom it has yet to wake, may fall asleep
+abbrev pub WakersMaySleep : Type 0
+WakersMaySleep = (w : Scene) (s : ℕ) (us : List ℕ) → IsReached w → w.phase s ≡ going_to_sleep →
+    ((u : ℕ) → w.owes s u ≡ true → Has us u) → MayFallAsleepThen (once_woken s us w) s
