@@ -7,6 +7,11 @@
  * thread that nobody disturbs, and what it takes to open a world.  The kernel's
  * own code would be an engine more, but its source isn't at hand here.
  *
+ * engines threads SECONDS GOES prints what bench/plot draws: for some workloads
+ * and each engine, by 1 to 16 threads, a line for each go: transactions a second,
+ * in thousands, and, of another run that times each transaction by itself, the
+ * microseconds of the longest one.
+ *
  * engines contexts LOCKS TAKES WAY TIMES makes so many contexts by one thread and
  * prints nothing, for who counts instructions: each takes TAKES of LOCKS locks,
  * and releases them by WAY: all at once, in the order of taking, or backwards.
@@ -55,7 +60,15 @@ using list = std::array<unsigned, most_taken>;
 
 workload now;
 unsigned pauses;
+bool times_each;
 std::atomic<bool> stops;
+using steady = std::chrono::steady_clock;
+
+// What a thread did, and how long its longest transaction took where each is timed.
+struct tally {
+	unsigned long done = 0;
+	steady::duration longest{ 0 };
+};
 
 void draw(unsigned me, unsigned &x, list &it)
 {
@@ -142,36 +155,53 @@ void by_scoped(const list &it)
 	}
 }
 
-// Transactions until it is stopped: how many.
-unsigned long work(engine by, unsigned me, ww_world *world)
+void transact(engine by, ww_seat *s, list &it)
+{
+	switch (by) {
+	case wound_wait:
+	case wait_die: return by_ww(s, it);
+	case one_mutex: return by_one(it);
+	case sorted_mutexes: return by_sorted(it);
+	default: by_scoped(it);
+	}
+}
+
+// Transactions until it is stopped.
+tally work(engine by, unsigned me, ww_world *world)
 {
 	unsigned x = 77 * me + 1;
 	list it;
 	ww_seat *s = by <= wait_die ? ww_seat_get(world) : nullptr;
-	unsigned long done = 0;
+	tally mine;
 
-	for (; !stops.load(std::memory_order_relaxed); done++) {
+	for (; !stops.load(std::memory_order_relaxed); mine.done++) {
 		draw(me, x, it);
-		switch (by) {
-		case wound_wait:
-		case wait_die: by_ww(s, it); break;
-		case one_mutex: by_one(it); break;
-		case sorted_mutexes: by_sorted(it); break;
-		default: by_scoped(it);
+		if (!times_each) {
+			transact(by, s, it);
+			continue;
 		}
+		const auto from = steady::now();
+		transact(by, s, it);
+		mine.longest = std::max(mine.longest, steady::now() - from);
 	}
 	if (s)
 		ww_seat_put(s);
-	return done;
+	return mine;
 }
 
-// Transactions a second. The sum of all values has to be that of what was done.
-double run(engine by, double seconds)
+// Transactions a second, and the microseconds of the longest one where each is timed.
+struct speed {
+	double rate, longest;
+};
+
+// The sum of all values has to be that of what was done.
+speed run(engine by, double seconds)
 {
 	std::vector<std::thread> threads;
-	std::vector<unsigned long> counts(now.threads);
+	std::vector<tally> tallies(now.threads);
 	ww_world *world = nullptr;
 	unsigned long done = 0;
+	std::chrono::duration<double, std::micro> longest{ 0 };
 	long sum = 0;
 
 	stops = false;
@@ -179,21 +209,22 @@ double run(engine by, double seconds)
 		it.value = 0;
 	if (by <= wait_die && ww_open(&world, by, now.locks, now.threads))
 		std::exit(1);
-	const auto from = std::chrono::steady_clock::now();
+	const auto from = steady::now();
 	for (unsigned me = 0; me < now.threads; me++)
-		threads.emplace_back([&, me] { counts[me] = work(by, me, world); });
+		threads.emplace_back([&, me] { tallies[me] = work(by, me, world); });
 	std::this_thread::sleep_for(std::chrono::duration<double>(seconds));
 	stops = true;
-	const std::chrono::duration<double> took = std::chrono::steady_clock::now() - from;
+	const std::chrono::duration<double> took = steady::now() - from;
 	for (unsigned me = 0; me < now.threads; me++) {
 		threads[me].join();
-		done += counts[me];
+		done += tallies[me].done;
+		longest = std::max<decltype(longest)>(longest, tallies[me].longest);
 	}
 	for (const node &it : nodes)
 		sum += it.value;
 	if (sum != static_cast<long>(done * now.takes) || ww_close(world))
 		std::exit(2);
-	return static_cast<double>(done) / took.count();
+	return { static_cast<double>(done) / took.count(), longest.count() };
 }
 
 // Nanoseconds that this takes, the best of some goes.
@@ -203,11 +234,11 @@ template <class Fn> double cost(Fn &&fn)
 	double best = 1e9;
 
 	for (unsigned go = 0; go < goes; go++) {
-		const auto from = std::chrono::steady_clock::now();
+		const auto from = steady::now();
 
 		for (unsigned k = 0; k < times; k++)
 			fn();
-		const std::chrono::duration<double, std::nano> took = std::chrono::steady_clock::now() - from;
+		const std::chrono::duration<double, std::nano> took = steady::now() - from;
 		best = std::min(best, took.count() / times);
 	}
 	return best;
@@ -238,15 +269,14 @@ std::size_t heap()
 // A world of so many locks: the time to open it, to take all by one context, and to release them, each the best of some.
 void world_of(unsigned locks)
 {
-	using clock = std::chrono::steady_clock;
 	std::array<double, 4> best{ 1e9, 1e9, 1e9, 1e9 };
 	std::size_t bytes = 0;
 	const auto timed = [&best](unsigned which, auto &&fn) {
-		const auto from = clock::now();
+		const auto from = steady::now();
 
 		if (fn())
 			std::exit(6);
-		best[which] = std::min(best[which], std::chrono::duration<double, std::milli>(clock::now() - from).count());
+		best[which] = std::min(best[which], std::chrono::duration<double, std::milli>(steady::now() - from).count());
 	};
 
 	for (unsigned go = 0; go < goes; go++) {
@@ -340,12 +370,38 @@ void row(double seconds)
 
 	for (unsigned go = 0; go < goes; go++)
 		for (unsigned by = 0; by < engines; by++)
-			best[by] = std::max(best[by], run(static_cast<engine>(by), seconds));
+			best[by] = std::max(best[by], run(static_cast<engine>(by), seconds).rate);
 	std::printf("%7u  %u of %-6u", now.threads, now.takes, now.locks);
 	for (double rate : best)
 		std::printf("%14.0f", rate / 1000);
 	std::printf("%9.2f /%5.2f\n", best[wound_wait] / best[one_mutex], best[wait_die] / best[one_mutex]);
 	std::fflush(stdout);
+}
+
+// For bench/plot. Where transactions work, it is for ten to twenty microseconds.
+void by_threads(double seconds, unsigned times)
+{
+	struct panel {
+		unsigned takes, locks, pauses;
+	};
+	constexpr panel panels[]{ { 2, 64, 0 }, { 8, 64, 0 }, { 2, 4, 0 }, { 2, 64, 1600 } };
+
+	std::puts("locks,pauses,threads,engine,rate,longest");
+	for (const panel &it : panels)
+		for (unsigned threads = 1; threads <= WW_MAX_SEATS; threads *= 2)
+			for (unsigned go = 0; go < times; go++)
+				for (unsigned by = 0; by < engines; by++) {
+					now = { threads, it.takes, it.locks };
+					pauses = it.pauses;
+					times_each = false;
+					const double rate = run(static_cast<engine>(by), seconds).rate;
+					times_each = true;
+					const double longest = run(static_cast<engine>(by), seconds).longest;
+
+					std::printf("%u of %u,%u,%u,%s,%.1f,%.2f\n", it.takes, it.locks, it.pauses,
+						    threads, names[by], rate / 1000, longest);
+					std::fflush(stdout);
+				}
 }
 
 unsigned number(const char *word) { return static_cast<unsigned>(std::atoi(word)); }
@@ -356,6 +412,10 @@ int main(int count, char **words)
 {
 	if (count == 6 && !std::strcmp(words[1], "contexts")) {
 		contexts(number(words[2]), number(words[3]), static_cast<way>(number(words[4])), number(words[5]));
+		return 0;
+	}
+	if (count == 4 && !std::strcmp(words[1], "threads")) {
+		by_threads(std::atof(words[2]), number(words[3]));
 		return 0;
 	}
 	const double seconds = count > 1 ? std::atof(words[1]) : 0.2;

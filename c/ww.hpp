@@ -144,7 +144,8 @@ public:
 	 * twice, -EINVAL for one that isn't there.
 	 */
 
-	// A list that stays as it is: the lock that was waited for is skipped once.
+	// Takes the list in its order. After a back-off the contended lock comes first, and
+	// is skipped when the list reaches it.
 	template <class List, class Fn> [[nodiscard]] int lock_all(const List &list, Fn &&fn)
 	{
 		return holding(

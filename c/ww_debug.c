@@ -158,14 +158,28 @@ static uint32_t holder_of(const struct ww_pool *p, uint32_t number)
 	return __atomic_load_n(&p->debug->mutexes[number].seat, __ATOMIC_RELAXED);
 }
 
+/* The seat that holds a mutex, plus one: of one that is waited for, as it was seen first, so that all lines agree. */
+static uint32_t seen_holder(const struct view *v, uint32_t number, uint32_t seats)
+{
+	for (uint32_t k = 0; k < seats; k++)
+		if (v->seats[k].wants == number + 1)
+			return v->awaits[k];
+	return holder_of(v->pool, number);
+}
+
 static void look(const struct ww_pool *p, struct view *v)
 {
 	*v = (struct view){ .pool = p };
 	for (uint32_t k = 0; k < p->contexts; k++) {
 		v->seats[k].stamp = __atomic_load_n(&p->debug->seats[k].stamp, __ATOMIC_RELAXED);
-		v->seats[k].wants = __atomic_load_n(&p->debug->seats[k].wants, __ATOMIC_RELAXED);
-		if (v->seats[k].wants)
-			v->awaits[k] = holder_of(p, v->seats[k].wants - 1);
+		uint32_t wants = __atomic_load_n(&p->debug->seats[k].wants, __ATOMIC_RELAXED);
+		uint32_t holder = wants ? seen_holder(v, wants - 1, k) : 0;
+
+		/* One that has just acquired what it waited for waits no more. */
+		if (holder != k + 1) {
+			v->seats[k].wants = wants;
+			v->awaits[k] = holder;
+		}
 	}
 	for (uint32_t n = 0; n < p->mutexes; n++)
 		if (holder_of(p, n))
@@ -234,7 +248,7 @@ void ww_class_print(struct ww_class *c, FILE *to)
 	look(p, &v);
 	print_ring(&v, to);
 	for (uint32_t n = 0; n < p->mutexes; n++) {
-		uint32_t holder = holder_of(p, n);
+		uint32_t holder = seen_holder(&v, n, p->contexts);
 
 		if (!holder && !is_wanted(&v, n))
 			continue;

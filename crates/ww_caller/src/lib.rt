@@ -58,8 +58,8 @@ pub fn transfer<R: Wait>(
     (pass, Ok(receipt))
 }
 
-/// Takes two locks in the order given. Who is told EDEADLK gives all back, takes the lock that it couldn't get, and
-/// begins again.
+/// Takes two locks in the order given. After EDEADLK it releases all, takes the lock that it couldn't get, and begins
+/// again.
 fn lock_both<R: Wait>(rt: &R, world: &World, acquiring: Acquiring, from: u8, to: u8) -> Acquiring
     requires home { IsAtHome acquiring world.now }
     requires from { from < length world.now.first }

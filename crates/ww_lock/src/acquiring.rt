@@ -29,8 +29,8 @@ pub enum Lock {
     Locked(Acquiring),
     /// The context holds the node: the kernel's EALREADY.
     Already(Acquiring),
-    /// An older context was met, and all locks have to be given back: the kernel's EDEADLK. Only a context that holds a
-    /// lock is told so.
+    /// An older context was met, and all locks have to be released: the kernel's EDEADLK. Only a context that holds a
+    /// lock gets it.
     Deadlk(Backoff),
 }
 

@@ -12,8 +12,8 @@ pub enum Interruptible {
     Locked(Acquiring),
     /// The context holds the node: the kernel's EALREADY.
     Already(Acquiring),
-    /// An older context was met, and all locks have to be given back: the kernel's EDEADLK. Only a context that holds a
-    /// lock is told so.
+    /// An older context was met, and all locks have to be released: the kernel's EDEADLK. Only a context that holds a
+    /// lock gets it.
     Deadlk(Backoff),
     /// The wait was called off by this caller: the kernel's EINTR. The context holds what it held, and may go on.
     Interrupted(Acquiring, u8),
