@@ -7,6 +7,13 @@
  * thread that nobody disturbs, and what it takes to open a world.  The kernel's
  * own code would be an engine more, but its source isn't at hand here.
  *
+ * engines waits ENGINE THREADS TAKES LOCKS SECONDS INSIDE OUTSIDE times each
+ * transaction of one engine and one workload by itself; each works for so many
+ * pauses under its locks, and for so many behind them. It prints four numbers: how
+ * many transactions were done, how many the thread did that did fewest, how many
+ * nanoseconds the longest wait for all locks of one took, and how many of others
+ * were begun and ended meanwhile.
+ *
  * engines contexts LOCKS TAKES WAY TIMES makes so many contexts by one thread and
  * prints nothing, for who counts instructions: each takes TAKES of LOCKS locks,
  * and releases them by WAY: all at once, in the order of taking, or backwards.
@@ -25,6 +32,7 @@
 #include <malloc.h>
 #include <mutex>
 #include <pthread.h>
+#include <string_view>
 #include <thread>
 #include <utility>
 #include <vector>
@@ -54,7 +62,7 @@ struct alignas(64) global {
 using list = std::array<unsigned, most_taken>;
 
 workload now;
-unsigned pauses;
+unsigned pauses, outside;
 std::atomic<bool> stops;
 
 void draw(unsigned me, unsigned &x, list &it)
@@ -70,19 +78,53 @@ void draw(unsigned me, unsigned &x, list &it)
 	}
 }
 
-void add(const list &it)
+void pause_for(unsigned times)
 {
-	for (unsigned k = 0; k < pauses; k++)
+	for (unsigned k = 0; k < times; k++)
 #if defined(__x86_64__) || defined(__i386__)
 		__builtin_ia32_pause();
 #else
 		__asm__ volatile("" ::: "memory");
 #endif
+}
+
+// What each thread waited for, where transactions are timed one by one.
+struct alignas(128) wait {
+	std::chrono::steady_clock::time_point from;
+	unsigned long others_before, longest, passed_by;
+};
+std::array<wait, WW_MAX_SEATS> waits;
+bool times_each;
+struct alignas(128) counter {
+	std::atomic<unsigned long> locked;
+} all_threads;
+
+void begin_wait(unsigned me)
+{
+	waits[me].others_before = all_threads.locked.load(std::memory_order_relaxed);
+	waits[me].from = std::chrono::steady_clock::now();
+}
+
+void end_wait(unsigned me)
+{
+	const std::chrono::nanoseconds took = std::chrono::steady_clock::now() - waits[me].from;
+	const unsigned long others = all_threads.locked.fetch_add(1, std::memory_order_relaxed) - waits[me].others_before;
+
+	waits[me].longest = std::max(waits[me].longest, static_cast<unsigned long>(took.count()));
+	waits[me].passed_by = std::max(waits[me].passed_by, others);
+}
+
+// What a transaction does once it holds all its locks.
+void add(unsigned me, const list &it)
+{
+	if (times_each)
+		end_wait(me);
+	pause_for(pauses);
 	for (unsigned k = 0; k < now.takes; k++)
 		nodes[it[k]].value++;
 }
 
-void by_ww(ww_seat *s, const list &it)
+void by_ww(unsigned me, ww_seat *s, const list &it)
 {
 	unsigned slow = most;
 	int r = ww_begin(s);
@@ -102,42 +144,42 @@ void by_ww(ww_seat *s, const list &it)
 	}
 	if (r)
 		std::exit(4);
-	add(it);
+	add(me, it);
 	ww_unlock_all(s);
 	ww_end(s);
 }
 
-void by_one(const list &it)
+void by_one(unsigned me, const list &it)
 {
 	pthread_mutex_lock(&all.mutex);
-	add(it);
+	add(me, it);
 	pthread_mutex_unlock(&all.mutex);
 }
 
-void by_sorted(list &it)
+void by_sorted(unsigned me, list &it)
 {
 	std::sort(it.begin(), it.begin() + now.takes);
 	for (unsigned k = 0; k < now.takes; k++)
 		pthread_mutex_lock(nodes[it[k]].mutex.native_handle());
-	add(it);
+	add(me, it);
 	for (unsigned k = now.takes; k-- > 0;)
 		pthread_mutex_unlock(nodes[it[k]].mutex.native_handle());
 }
 
-template <std::size_t... Index> void by_scoped(const list &it, std::index_sequence<Index...>)
+template <std::size_t... Index> void by_scoped(unsigned me, const list &it, std::index_sequence<Index...>)
 {
 	std::scoped_lock held(nodes[it[Index]].mutex...);
 
-	add(it);
+	add(me, it);
 }
 
 // How many mutexes a scoped lock takes is fixed as it is compiled.
-void by_scoped(const list &it)
+void by_scoped(unsigned me, const list &it)
 {
 	switch (now.takes) {
-	case 1: return by_scoped(it, std::make_index_sequence<1>());
-	case 2: return by_scoped(it, std::make_index_sequence<2>());
-	case 8: return by_scoped(it, std::make_index_sequence<8>());
+	case 1: return by_scoped(me, it, std::make_index_sequence<1>());
+	case 2: return by_scoped(me, it, std::make_index_sequence<2>());
+	case 8: return by_scoped(me, it, std::make_index_sequence<8>());
 	default: std::exit(3);
 	}
 }
@@ -152,21 +194,30 @@ unsigned long work(engine by, unsigned me, ww_world *world)
 
 	for (; !stops.load(std::memory_order_relaxed); done++) {
 		draw(me, x, it);
+		if (times_each)
+			begin_wait(me);
 		switch (by) {
 		case wound_wait:
-		case wait_die: by_ww(s, it); break;
-		case one_mutex: by_one(it); break;
-		case sorted_mutexes: by_sorted(it); break;
-		default: by_scoped(it);
+		case wait_die: by_ww(me, s, it); break;
+		case one_mutex: by_one(me, it); break;
+		case sorted_mutexes: by_sorted(me, it); break;
+		default: by_scoped(me, it);
 		}
+		if (times_each)
+			pause_for(outside);
 	}
 	if (s)
 		ww_seat_put(s);
 	return done;
 }
 
-// Transactions a second. The sum of all values has to be that of what was done.
-double run(engine by, double seconds)
+struct rate {
+	double a_second;
+	unsigned long done, fewest;
+};
+
+// Transactions of all threads. The sum of all values has to be that of what was done.
+rate run(engine by, double seconds)
 {
 	std::vector<std::thread> threads;
 	std::vector<unsigned long> counts(now.threads);
@@ -193,7 +244,20 @@ double run(engine by, double seconds)
 		sum += it.value;
 	if (sum != static_cast<long>(done * now.takes) || ww_close(world))
 		std::exit(2);
-	return static_cast<double>(done) / took.count();
+	return { static_cast<double>(done) / took.count(), done, *std::min_element(counts.begin(), counts.end()) };
+}
+
+void time_waits(engine by, double seconds)
+{
+	times_each = true;
+	const rate told = run(by, seconds);
+	unsigned long longest = 0, passed_by = 0;
+
+	for (const wait &it : waits) {
+		longest = std::max(longest, it.longest);
+		passed_by = std::max(passed_by, it.passed_by);
+	}
+	std::printf("%lu %lu %lu %lu\n", told.done, told.fewest, longest, passed_by);
 }
 
 // Nanoseconds that this takes, the best of some goes.
@@ -340,7 +404,7 @@ void row(double seconds)
 
 	for (unsigned go = 0; go < goes; go++)
 		for (unsigned by = 0; by < engines; by++)
-			best[by] = std::max(best[by], run(static_cast<engine>(by), seconds));
+			best[by] = std::max(best[by], run(static_cast<engine>(by), seconds).a_second);
 	std::printf("%7u  %u of %-6u", now.threads, now.takes, now.locks);
 	for (double rate : best)
 		std::printf("%14.0f", rate / 1000);
@@ -356,6 +420,14 @@ int main(int count, char **words)
 {
 	if (count == 6 && !std::strcmp(words[1], "contexts")) {
 		contexts(number(words[2]), number(words[3]), static_cast<way>(number(words[4])), number(words[5]));
+		return 0;
+	}
+	if (count == 9 && !std::strcmp(words[1], "waits")) {
+		now = { number(words[3]), number(words[4]), number(words[5]) };
+		pauses = number(words[7]);
+		outside = number(words[8]);
+		time_waits(static_cast<engine>(std::find(names.begin(), names.end(), std::string_view(words[2])) - names.begin()),
+			   std::atof(words[6]));
 		return 0;
 	}
 	const double seconds = count > 1 ? std::atof(words[1]) : 0.2;

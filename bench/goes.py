@@ -9,8 +9,9 @@ import time
 ANEW = 10
 
 
-def asked(text, default, before=None):
-    """What the command line asks for, by the script's own text; `before` names the program that may be compared."""
+def asked(text, default, before=None, more=None):
+    """What the command line asks for, by the script's own text; `before` names the program that may be compared, and
+    `more` adds words of the script's own to the parser."""
     head, _, rest = text.partition("\n\n")
     form = argparse.RawDescriptionHelpFormatter
     parser = argparse.ArgumentParser(description=head, epilog=rest, formatter_class=form)
@@ -19,6 +20,8 @@ def asked(text, default, before=None):
     parser.add_argument("--minutes", type=float, metavar="M", help="no round begins after so many minutes")
     if before is not None:
         parser.add_argument("--before", metavar="PROGRAM", type=os.path.abspath, help=f"another {before}, side by side")
+    if more is not None:
+        more(parser)
     words = parser.parse_args()
     if words.goes < 1:
         parser.error("a number of goes above 0 is needed")
