@@ -12,6 +12,13 @@
  * in thousands, and, of another run that times each transaction by itself, the
  * microseconds of the longest one.
  *
+ * engines waits ENGINE THREADS TAKES LOCKS SECONDS INSIDE OUTSIDE times each
+ * transaction of one engine and one workload by itself; each works for so many
+ * pauses under its locks, and for so many behind them. It prints four numbers: how
+ * many transactions were done, how many the thread did that did fewest, how many
+ * nanoseconds the longest wait for all locks of one took, and how many of others
+ * were begun and ended meanwhile.
+ *
  * engines contexts LOCKS TAKES WAY TIMES makes so many contexts by one thread and
  * prints nothing, for who counts instructions: each takes TAKES of LOCKS locks,
  * and releases them by WAY: all at once, in the order of taking, or backwards.
@@ -30,6 +37,7 @@
 #include <malloc.h>
 #include <mutex>
 #include <pthread.h>
+#include <string_view>
 #include <thread>
 #include <utility>
 #include <vector>
@@ -59,7 +67,7 @@ struct alignas(64) global {
 using list = std::array<unsigned, most_taken>;
 
 workload now;
-unsigned pauses;
+unsigned pauses, outside;
 bool times_each;
 std::atomic<bool> stops;
 using steady = std::chrono::steady_clock;
@@ -83,19 +91,52 @@ void draw(unsigned me, unsigned &x, list &it)
 	}
 }
 
-void add(const list &it)
+void pause_for(unsigned times)
 {
-	for (unsigned k = 0; k < pauses; k++)
+	for (unsigned k = 0; k < times; k++)
 #if defined(__x86_64__) || defined(__i386__)
 		__builtin_ia32_pause();
 #else
 		__asm__ volatile("" ::: "memory");
 #endif
+}
+
+// What each thread waited for, where transactions are timed one by one.
+struct alignas(128) wait {
+	steady::time_point from;
+	unsigned long others_before, longest, passed_by;
+};
+std::array<wait, WW_MAX_SEATS> waits;
+struct alignas(128) counter {
+	std::atomic<unsigned long> locked;
+} all_threads;
+
+void begin_wait(unsigned me)
+{
+	waits[me].others_before = all_threads.locked.load(std::memory_order_relaxed);
+	waits[me].from = steady::now();
+}
+
+void end_wait(unsigned me)
+{
+	const std::chrono::nanoseconds took = steady::now() - waits[me].from;
+	const unsigned long others = all_threads.locked.fetch_add(1, std::memory_order_relaxed) - waits[me].others_before;
+
+	waits[me].longest = std::max(waits[me].longest, static_cast<unsigned long>(took.count()));
+	waits[me].passed_by = std::max(waits[me].passed_by, others);
+}
+
+// What a transaction does once it holds all its locks.
+void add(unsigned me, const list &it)
+{
+	if (times_each)
+		end_wait(me);
+	pause_for(pauses);
 	for (unsigned k = 0; k < now.takes; k++)
 		nodes[it[k]].value++;
 }
 
-void by_ww(ww_seat *s, const list &it)
+void by_ww(unsigned me, ww_seat *s, const list &it)
 {
 	unsigned slow = most;
 	int r = ww_begin(s);
@@ -115,54 +156,54 @@ void by_ww(ww_seat *s, const list &it)
 	}
 	if (r)
 		std::exit(4);
-	add(it);
+	add(me, it);
 	ww_unlock_all(s);
 	ww_end(s);
 }
 
-void by_one(const list &it)
+void by_one(unsigned me, const list &it)
 {
 	pthread_mutex_lock(&all.mutex);
-	add(it);
+	add(me, it);
 	pthread_mutex_unlock(&all.mutex);
 }
 
-void by_sorted(list &it)
+void by_sorted(unsigned me, list &it)
 {
 	std::sort(it.begin(), it.begin() + now.takes);
 	for (unsigned k = 0; k < now.takes; k++)
 		pthread_mutex_lock(nodes[it[k]].mutex.native_handle());
-	add(it);
+	add(me, it);
 	for (unsigned k = now.takes; k-- > 0;)
 		pthread_mutex_unlock(nodes[it[k]].mutex.native_handle());
 }
 
-template <std::size_t... Index> void by_scoped(const list &it, std::index_sequence<Index...>)
+template <std::size_t... Index> void by_scoped(unsigned me, const list &it, std::index_sequence<Index...>)
 {
 	std::scoped_lock held(nodes[it[Index]].mutex...);
 
-	add(it);
+	add(me, it);
 }
 
 // How many mutexes a scoped lock takes is fixed as it is compiled.
-void by_scoped(const list &it)
+void by_scoped(unsigned me, const list &it)
 {
 	switch (now.takes) {
-	case 1: return by_scoped(it, std::make_index_sequence<1>());
-	case 2: return by_scoped(it, std::make_index_sequence<2>());
-	case 8: return by_scoped(it, std::make_index_sequence<8>());
+	case 1: return by_scoped(me, it, std::make_index_sequence<1>());
+	case 2: return by_scoped(me, it, std::make_index_sequence<2>());
+	case 8: return by_scoped(me, it, std::make_index_sequence<8>());
 	default: std::exit(3);
 	}
 }
 
-void transact(engine by, ww_seat *s, list &it)
+void transact(engine by, unsigned me, ww_seat *s, list &it)
 {
 	switch (by) {
 	case wound_wait:
-	case wait_die: return by_ww(s, it);
-	case one_mutex: return by_one(it);
-	case sorted_mutexes: return by_sorted(it);
-	default: by_scoped(it);
+	case wait_die: return by_ww(me, s, it);
+	case one_mutex: return by_one(me, it);
+	case sorted_mutexes: return by_sorted(me, it);
+	default: by_scoped(me, it);
 	}
 }
 
@@ -177,21 +218,25 @@ tally work(engine by, unsigned me, ww_world *world)
 	for (; !stops.load(std::memory_order_relaxed); mine.done++) {
 		draw(me, x, it);
 		if (!times_each) {
-			transact(by, s, it);
+			transact(by, me, s, it);
 			continue;
 		}
+		begin_wait(me);
 		const auto from = steady::now();
-		transact(by, s, it);
+		transact(by, me, s, it);
 		mine.longest = std::max(mine.longest, steady::now() - from);
+		pause_for(outside);
 	}
 	if (s)
 		ww_seat_put(s);
 	return mine;
 }
 
-// Transactions a second, and the microseconds of the longest one where each is timed.
+// Transactions a second, and the microseconds of the longest one where each is timed; how many there were, and how many
+// of the thread that made fewest.
 struct speed {
 	double rate, longest;
+	unsigned long done, fewest;
 };
 
 // The sum of all values has to be that of what was done.
@@ -200,7 +245,7 @@ speed run(engine by, double seconds)
 	std::vector<std::thread> threads;
 	std::vector<tally> tallies(now.threads);
 	ww_world *world = nullptr;
-	unsigned long done = 0;
+	unsigned long done = 0, fewest = ~0ul;
 	std::chrono::duration<double, std::micro> longest{ 0 };
 	long sum = 0;
 
@@ -218,13 +263,27 @@ speed run(engine by, double seconds)
 	for (unsigned me = 0; me < now.threads; me++) {
 		threads[me].join();
 		done += tallies[me].done;
+		fewest = std::min(fewest, tallies[me].done);
 		longest = std::max<decltype(longest)>(longest, tallies[me].longest);
 	}
 	for (const node &it : nodes)
 		sum += it.value;
 	if (sum != static_cast<long>(done * now.takes) || ww_close(world))
 		std::exit(2);
-	return { static_cast<double>(done) / took.count(), longest.count() };
+	return { static_cast<double>(done) / took.count(), longest.count(), done, fewest };
+}
+
+void time_waits(engine by, double seconds)
+{
+	times_each = true;
+	const speed told = run(by, seconds);
+	unsigned long longest = 0, passed_by = 0;
+
+	for (const wait &it : waits) {
+		longest = std::max(longest, it.longest);
+		passed_by = std::max(passed_by, it.passed_by);
+	}
+	std::printf("%lu %lu %lu %lu\n", told.done, told.fewest, longest, passed_by);
 }
 
 // Nanoseconds that this takes, the best of some goes.
@@ -416,6 +475,14 @@ int main(int count, char **words)
 	}
 	if (count == 4 && !std::strcmp(words[1], "threads")) {
 		by_threads(std::atof(words[2]), number(words[3]));
+		return 0;
+	}
+	if (count == 9 && !std::strcmp(words[1], "waits")) {
+		now = { number(words[3]), number(words[4]), number(words[5]) };
+		pauses = number(words[7]);
+		outside = number(words[8]);
+		time_waits(static_cast<engine>(std::find(names.begin(), names.end(), std::string_view(words[2])) - names.begin()),
+			   std::atof(words[6]));
 		return 0;
 	}
 	const double seconds = count > 1 ? std::atof(words[1]) : 0.2;

@@ -9,9 +9,9 @@ import time
 ANEW = 10
 
 
-def asked(text, default, before=None, writes=False):
-    """What the command line asks for, by the script's own text; `before` names the program that may be compared, and
-    `writes` says whether figures may be written into a file."""
+def asked(text, default, before=None, writes=False, more=None):
+    """What the command line asks for, by the script's own text; `before` names the program that may be compared,
+    `writes` says whether figures may be written into a file, and `more` adds words of the script's own to the parser."""
     head, _, rest = text.partition("\n\n")
     form = argparse.RawDescriptionHelpFormatter
     parser = argparse.ArgumentParser(description=head, epilog=rest, formatter_class=form)
@@ -22,6 +22,8 @@ def asked(text, default, before=None, writes=False):
         parser.add_argument("--before", metavar="PROGRAM", type=os.path.abspath, help=f"another {before}, side by side")
     if writes:
         parser.add_argument("--csv", metavar="FILE", help="the figures for bench/plot")
+    if more is not None:
+        more(parser)
     words = parser.parse_args()
     if words.goes < 1:
         parser.error("a number of goes above 0 is needed")
