@@ -16,8 +16,15 @@ enum { NOTHING, TOKEN, ASLEEP };
 /* After so many nanoseconds it looks again whether a seat is free that can call it off. */
 enum { SOON = 1000000 };
 
-/* How many pauses come between two looks: they double, and after so many doublings another thread is let run. */
+/* How many pauses come between two looks or tries: they double, and after so many doublings another thread is let run. */
 enum { SPINS = 6, ROUNDS = 11 };
+
+/*
+ * A seat that is outside a guard after so many tries sleeps for so many nanoseconds
+ * before each further one: if its thread has a higher priority than that of the seat
+ * inside, and only yielded, that one would never run.
+ */
+enum { NAP = 50000 };
 
 /* A call stays away for so many nanoseconds at the longest, however long a pause is, or others have the processor. */
 enum { STAY = 5000000 };
@@ -38,6 +45,17 @@ static void snooze(unsigned step)
 		sched_yield();
 	else
 		pause_for(1u << step);
+}
+
+/* Before a further try to go inside a guard. Nobody waits for this seat meanwhile: whom it had to wake it has woken. */
+static void await_guard(unsigned *step)
+{
+	const struct timespec nap = { .tv_nsec = NAP };
+
+	if (*step < ROUNDS)
+		snooze((*step)++);
+	else
+		nanosleep(&nap, NULL);
 }
 
 void ww_futex_wait(uint32_t *word, uint32_t is, const struct timespec *until)
@@ -154,9 +172,11 @@ __attribute__((noinline, cold)) int ww_go_on(ww_seat *s, struct ww_stop *stop)
 		r = ww_go_on_(&s->handle, wakes, &pauses);
 		wake(s, wakes);
 		switch (r) {
+		case WW_AWAITS:
+			await_guard(&step);
+			continue;
 		case WW_AGAIN:
-			snooze(step);
-			step += step < ROUNDS;
+			/* It may be inside a guard, where it holds up everybody else. */
 			break;
 		case WW_STAYS:
 		case WW_YIELDS:
@@ -164,11 +184,11 @@ __attribute__((noinline, cold)) int ww_go_on(ww_seat *s, struct ww_stop *stop)
 			break;
 		case WW_SLEEPS:
 			park(s, stop);
-			step = 0;
 			break;
 		default:
 			return r;
 		}
+		step = 0;
 	}
 }
 

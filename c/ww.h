@@ -120,16 +120,18 @@ typedef struct {
 /*
  * The proved library: each call is one turn, and waits for nobody, for callers
  * with a scheduler of their own.  It answers 0, a negative errno, or that it
- * wants another turn by ww_go_on_: at once (WW_AGAIN), after as many pauses of the
- * processor as stand in rest (WW_STAYS), after these and once another thread was
- * let run (WW_YIELDS), or once somebody has woken the seat (WW_SLEEPS).  Whoever is
- * marked in wakes has to be woken.  Until a call has come to its end any other is told
+ * wants another turn by ww_go_on_: at once (WW_AGAIN), for the seat may be inside a
+ * guard, where it holds up everybody else; once the seat that is inside has left, so
+ * after a pause, and after a short sleep if that lasts (WW_AWAITS); after as many
+ * pauses of the processor as stand in rest (WW_STAYS), after these and once another
+ * thread was let run (WW_YIELDS), or once somebody has woken the seat (WW_SLEEPS).
+ * Whoever is marked in wakes has to be woken, and nobody else.  Until a call has come to its end any other is told
  * -EBUSY, and ww_go_on_ without one -EINVAL.  ww_unlock_all_ releases locks up
  * to the first for which somebody may wait: after its turns it is called again.
  * ww_cancel_ of a seat that the world hasn't is -EINVAL, and so is an empty handle
  * with each call; no pointer may be NULL.
  */
-enum { WW_AGAIN = 1, WW_STAYS = 2, WW_SLEEPS = 3, WW_YIELDS = 4 };
+enum { WW_AGAIN = 1, WW_STAYS = 2, WW_SLEEPS = 3, WW_YIELDS = 4, WW_AWAITS = 5 };
 WW_MUST_CHECK int32_t ww_open_(uint32_t kind, uint32_t locks, uint64_t left, ww_handle *seats, size_t count);
 int32_t ww_idle_(ww_handle *seat);
 int32_t ww_close_(ww_handle *seat);

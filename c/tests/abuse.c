@@ -23,7 +23,7 @@ static int turned(unsigned me, int r)
 
 static bool is_code(int r)
 {
-	return (r >= 0 && r <= WW_YIELDS) || r == -EINTR || r == -EBUSY || r == -EINVAL || r == -ENOSPC ||
+	return (r >= 0 && r <= WW_AWAITS) || r == -EINTR || r == -EBUSY || r == -EINVAL || r == -ENOSPC ||
 	       r == -EDEADLK || r == -EALREADY;
 }
 

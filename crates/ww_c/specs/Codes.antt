@@ -1,7 +1,7 @@
 -- The numbers that C is answered, the kernel's errors with a minus sign.
 use Rattle.std.specs.Prelude.{ℤ, pos, negsuc, if◌then◌else◌, ℕ}
 use Rattle.ww_desk.specs.declared.turn.Answer.{Answer}
-use Rattle.ww_desk.specs.declared.turn.Answer.TheVariants.{Done, Again, Stays, Sleeps, Busy, Invalid, Already, NoSpace, Deadlk, Interrupted}
+use Rattle.ww_desk.specs.declared.turn.Answer.TheVariants.{Done, Again, Awaits, Stays, Sleeps, Busy, Invalid, Already, NoSpace, Deadlk, Interrupted}
 
 -- EINTR is 4, ENOMEM 12, EBUSY 16, EINVAL 22, ENOSPC 28, EDEADLK 35, EALREADY 114
 abbrev pub code_of : Answer → ℤ
@@ -9,6 +9,7 @@ code_of Done = pos 0
 code_of Again = pos 1
 code_of Sleeps = pos 3
 code_of (Stays rest) = if rest.yields then pos 4 else pos 2
+code_of Awaits = pos 5
 code_of Busy = negsuc 15
 code_of Invalid = negsuc 21
 code_of Already = negsuc 113

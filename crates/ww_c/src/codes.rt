@@ -19,6 +19,7 @@ pub(crate) fn code(answer: Answer) -> i32
         Answer::Stays(rest) if !rest.yields => 2,
         Answer::Sleeps => 3,
         Answer::Stays(_) => 4,
+        Answer::Awaits => 5,
         Answer::Busy => EBUSY,
         Answer::Invalid => EINVAL,
         Answer::Already => -114,

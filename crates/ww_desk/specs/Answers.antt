@@ -1,17 +1,16 @@
 -- What became of a call of a desk, by its answer. A call may learn something of the locks, which its view tells then.
-use Rattle.std.specs.Prelude.{ℕ, ◌≡◌, ◌≢◌, ◌<◌, ◌≤◌, ◌+◌, ◌-◌, ◌⊎◌, ◌∷◌, ◌++◌, [], Bool, true, false, List, Some, None, length, replicate}
-use Rattle.std.specs.List.{slice_index_or}
+use Rattle.std.specs.Prelude.{ℕ, suc, ◌≡◌, ◌≢◌, ◌<◌, ◌≤◌, ◌+◌, ◌-◌, ◌⊎◌, ◌∷◌, ◌++◌, [], Bool, true, false, List, Some, None, length, replicate}
 use Rattle.ww_plain.specs.Numbers.{is_among}
-use Rattle.ww_view.specs.Made.{found_pending}
+use Rattle.ww_view.specs.Made.{found_pending, shut_out}
 use Rattle.ww_seat.specs.Calls.{HasMet}
-use Rattle.ww_seat.specs.Work.{AreWoken, KeepsMarks}
+use Rattle.ww_seat.specs.Work.{AreMarked, HasToWake}
 use Rattle.ww_seat.specs.declared.look.Arrival.TheVariants.{Came, Woken}
 use Rattle.ww_seat.specs.declared.resting.Rest.{Rest}
 use Rattle.ww_seat.specs.declared.resting.Stay.{Stay}
 use Rattle.ww_desk.specs.declared.turn.Turn.{Turn}
 use Rattle.ww_desk.specs.declared.turn.Turn.TheVariants as at
 use Rattle.ww_desk.specs.declared.turn.Answer.{Answer}
-use Rattle.ww_desk.specs.declared.turn.Answer.TheVariants.{Done, Again, Stays, Sleeps, Busy, Invalid, Already, NoSpace, Deadlk, Interrupted}
+use Rattle.ww_desk.specs.declared.turn.Answer.TheVariants.{Done, Again, Awaits, Stays, Sleeps, Busy, Invalid, Already, NoSpace, Deadlk, Interrupted}
 use Rattle.ww_desk.specs.Held.{held_without}
 use Rattle.ww_desk.specs.Situations.{Situation, is_at_rest, is_inside, can_want}
 
@@ -45,9 +44,26 @@ HasKept s s' = s'.view.kept ≡ s.view.kept + 1
 abbrev pub HasGlanced : Situation → Situation → Type 0
 HasGlanced s s' = s'.view.glances ≡ s.view.glances + 1
 
--- the first waiter of the lock that it gave back inside the guard has to be woken
-abbrev pub IsHeirWoken : Situation → Type 0
-IsHeirWoken s = (u : ℕ) → s.view.heir ≡ Some u → u ≢ s.caller → slice_index_or s.wakes u false ≡ true
+-- Another seat is inside the guard that it wants to go into. It has learned nothing else, is inside no guard, and has changed
+-- nothing.
+pub record IsShutOut (s s' : Situation) : Type 0 where
+  pub came : is_inside s.turn ≡ false
+  pub outside : s'.view.inside ≡ 0
+  pub now : s' ≡ record s { view = shut_out s.view }
+
+-- ---- whom it has to wake
+
+-- also whom it condemned inside the guard, and nobody else
+abbrev pub WakesCondemned : Situation → Situation → Type 0
+WakesCondemned s s' = AreMarked s.wakes (HasToWake s'.view) s'.wakes
+
+-- also the first waiter of the lock that it gave back inside the guard, and nobody else
+abbrev pub WakesHeir : Situation → Situation → Type 0
+WakesHeir s s' = AreMarked s.wakes (λ u. (s'.view.heir ≡ Some u) × (u ≢ s.caller)) s'.wakes
+
+-- also this seat, unless it is itself, and nobody else
+abbrev pub WakesAlso : Situation → ℕ → Situation → Type 0
+WakesAlso s u s' = AreMarked s.wakes (λ t. (u ≢ s.caller) × (t ≡ u)) s'.wakes
 
 -- ---- where a call may go on
 
@@ -139,11 +155,10 @@ IsSlowAnswer s n heeds _ s' = ⊥
 
 -- ---- waiting for it, in further turns
 
--- it is still on its way to the lock, and has signed whom it has to wake
-abbrev pub IsOnItsWay : ℕ → Bool → Turn → Type 0
-IsOnItsWay n heeds (at.Wants m arrival h) = (m ≡ n) × (h ≡ heeds)
-IsOnItsWay n heeds (at.Looks m arrival h) = (m ≡ n) × (h ≡ heeds)
-IsOnItsWay n heeds _ = ⊥
+-- its call looks at the lock, inside the guard
+abbrev pub IsLooking : ℕ → Bool → Turn → Type 0
+IsLooking n heeds (at.Looks m arrival h) = (m ≡ n) × (h ≡ heeds)
+IsLooking n heeds _ = ⊥
 
 -- so much of its stay is left to a call that is told this rest
 pub record IsRest (stay next : Stay) (rest : Rest) : Type 0 where
@@ -156,13 +171,14 @@ IsStayAnswer s n stay heeds (Stays rest) s' = HasGlanced s s' × ((next : Stay) 
 IsStayAnswer s n stay heeds Again s' = HasGlanced s s' × HasTurned s (at.Wants n Came heeds) s'
 IsStayAnswer s n stay heeds _ s' = ⊥
 
--- a look, or a try to go inside the guard: whom the seat had to wake it still has
+-- a look, after which it may be inside the guard still; or a try in vain to go inside
 abbrev pub IsWaitAnswer : Situation → ℕ → Bool → Answer → Situation → Type 0
-IsWaitAnswer s n heeds Again s' = IsOnItsWay n heeds s'.turn × HasWorked s s' × KeepsMarks s.wakes s'.wakes × (s' ≡ record s { turn = s'.turn; wakes = s'.wakes; view = s'.view })
-IsWaitAnswer s n heeds Sleeps s' = AreWoken s'.view s'.wakes × HasWorked s s' × KeepsMarks s.wakes s'.wakes × (s' ≡ record s { turn = at.Wants n Woken heeds; wakes = s'.wakes; view = s'.view })
-IsWaitAnswer s n heeds Done s' = AreWoken s'.view s'.wakes × KeepsMarks s.wakes s'.wakes × (s' ≡ record s { turn = at.Rests; held = s.held ++ n ∷ []; told = None; takes = s.takes + 1; wakes = s'.wakes; view = s'.view })
-IsWaitAnswer s n heeds (Deadlk k) s' = AreWoken s'.view s'.wakes × KeepsMarks s.wakes s'.wakes × HasToBackOff s n k s'
-IsWaitAnswer s n heeds (Interrupted by) s' = AreWoken s'.view s'.wakes × KeepsMarks s.wakes s'.wakes × (heeds ≡ true) × (s' ≡ record s { turn = at.Rests; interrupted = (n, by) ∷ s.interrupted; wakes = s'.wakes; view = s'.view })
+IsWaitAnswer s n heeds Awaits s' = IsShutOut s s'
+IsWaitAnswer s n heeds Again s' = IsLooking n heeds s'.turn × (s'.view.inside ≡ suc n) × HasWorked s s' × WakesCondemned s s' × (s' ≡ record s { turn = s'.turn; wakes = s'.wakes; view = s'.view })
+IsWaitAnswer s n heeds Sleeps s' = WakesCondemned s s' × HasWorked s s' × (s' ≡ record s { turn = at.Wants n Woken heeds; wakes = s'.wakes; view = s'.view })
+IsWaitAnswer s n heeds Done s' = WakesCondemned s s' × (s' ≡ record s { turn = at.Rests; held = s.held ++ n ∷ []; told = None; takes = s.takes + 1; wakes = s'.wakes; view = s'.view })
+IsWaitAnswer s n heeds (Deadlk k) s' = WakesCondemned s s' × HasToBackOff s n k s'
+IsWaitAnswer s n heeds (Interrupted by) s' = WakesCondemned s s' × (heeds ≡ true) × (s' ≡ record s { turn = at.Rests; interrupted = (n, by) ∷ s.interrupted; wakes = s'.wakes; view = s'.view })
 IsWaitAnswer s n heeds _ s' = ⊥
 
 -- ---- giving a lock back
@@ -181,15 +197,12 @@ IsUnlockAllAnswer s Again s' = (is_at_rest s.turn ≡ true) × HasKept s s' × (
 IsUnlockAllAnswer s Busy s' = (is_at_rest s.turn ≡ false) × (s' ≡ s)
 IsUnlockAllAnswer s _ s' = ⊥
 
--- a further turn of it: it is inside the guard or still outside, or the lock is given back
-abbrev pub IsGiveTurn : ℕ → Turn → Type 0
-IsGiveTurn n (at.Gives m) = m ≡ n
-IsGiveTurn n (at.Lets m) = m ≡ n
-IsGiveTurn n _ = ⊥
-
+-- A further turn of it: the lock is given back; or it is inside the guard still, which it is only where nobody waits; or it
+-- tried in vain to go inside.
 abbrev pub IsGiveAnswer : Situation → ℕ → Answer → Situation → Type 0
-IsGiveAnswer s n Again s' = IsGiveTurn n s'.turn × HasWorked s s' × (s' ≡ record s { turn = s'.turn; view = s'.view })
-IsGiveAnswer s n Done s' = IsHeirWoken s' × KeepsMarks s.wakes s'.wakes × (s' ≡ record s { turn = at.Rests; held = held_without s.held n; wakes = s'.wakes; view = s'.view })
+IsGiveAnswer s n Awaits s' = IsShutOut s s'
+IsGiveAnswer s n Again s' = (s'.view.inside ≡ suc n) × (s'.view.list ≡ []) × HasWorked s s' × HasTurned s (at.Lets n) s'
+IsGiveAnswer s n Done s' = WakesHeir s s' × (s' ≡ record s { turn = at.Rests; held = held_without s.held n; wakes = s'.wakes; view = s'.view })
 IsGiveAnswer s n _ s' = ⊥
 
 -- ---- the next turn, whatever call is on its way
@@ -211,7 +224,7 @@ IsWakesAnswer s wakes s' = (is_inside s.turn ≡ true → (wakes ≡ replicate 1
 
 -- the wait of seat u, one of the world, is called off; or its one step found that pending already, which is counted
 abbrev pub IsCancelAnswer : Situation → ℕ → Answer → Situation → Type 0
-IsCancelAnswer s u Done s' = (is_at_rest s.turn ≡ true) × (u < s.seats) × (u ≢ s.caller → slice_index_or s'.wakes u false ≡ true) × KeepsMarks s.wakes s'.wakes × (s' ≡ record s { cancelled = u ∷ s.cancelled; wakes = s'.wakes })
+IsCancelAnswer s u Done s' = (is_at_rest s.turn ≡ true) × (u < s.seats) × WakesAlso s u s' × (s' ≡ record s { cancelled = u ∷ s.cancelled; wakes = s'.wakes })
 IsCancelAnswer s u Already s' = (is_at_rest s.turn ≡ true) × (u < s.seats) × (s' ≡ record s { pendings = s.pendings + 1; view = found_pending s.view })
 IsCancelAnswer s u Busy s' = (is_at_rest s.turn ≡ false) × (s' ≡ s)
 IsCancelAnswer s u Invalid s' = (is_at_rest s.turn ≡ true) × (s.seats ≤ u) × (s' ≡ s)

@@ -4,8 +4,8 @@ use std::marker::Model;
 use ww_word::MAX_SEATS;
 
 /// What a thread has of a world of locks: a seat, and where its call stands. Every call may be made at any time, waits
-/// for nobody, and answers what became of it; `Again`, `Stays` and `Sleeps` want a call of `go_on`. Contracts see it as
-/// a situation.
+/// for nobody, and answers what became of it; `Again`, `Awaits`, `Stays` and `Sleeps` want a call of `go_on`. Contracts
+/// see it as a situation.
 #[derive(Drop)]
 pub struct Desk {
     pub(crate) station: Station,

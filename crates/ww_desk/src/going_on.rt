@@ -1,7 +1,8 @@
 //! The further turns of a call.
-ghost use Rattle.std.specs.Prelude.{◌≡◌, ◌≢◌, ◌<◌, true, false, IfSome};
-ghost use Rattle.std.specs.List.{slice_index_or};
-ghost use Rattle.ww_seat.specs.Work.{KeepsMarks};
+ghost use Rattle.std.specs.Prelude.{◌≡◌, ◌≢◌, ◌<◌, Some, IfSome};
+ghost use Rattle.std.specs.Option.{option_map};
+ghost use Rattle.ww_queue.specs.declared.entry.Entry.{Entry};
+ghost use Rattle.ww_seat.specs.Work.{AreMarked};
 ghost use Rattle.ww_desk.specs.declared.turn.Turn.TheVariants.{Stays, Looks, Lets};
 
 use crate::station::Station;
@@ -27,14 +28,14 @@ impl Station {
             Turn::Stays(lock, stay, heeds) => self.stay(lock, stay, heeds),
             Turn::Wants(lock, arrival, heeds) => {
                 if !enter_wanted(&mut self.seat, &self.board, lock) {
-                    return Answer::Again;
+                    return Answer::Awaits;
                 }
                 self.look(lock, arrival, heeds)
             }
             Turn::Looks(lock, arrival, heeds) => self.look(lock, arrival, heeds),
             Turn::Gives(lock) => {
                 if !enter_owned(&mut self.seat, &self.board, lock) {
-                    return Answer::Again;
+                    return Answer::Awaits;
                 }
                 self.let_go(lock)
             }
@@ -153,11 +154,10 @@ impl Station {
     }
 }
 
-/// Also wakes the first waiter, if there is one.
+/// Also wakes the first waiter, if there is one, and nobody else.
 fn add_first(wake: &mut Wake, who: u8, first: Option<Entry>)
     requires seat { IfSome first (λ entry. entry.seat < 16) }
-    ensures woken { IfSome first (λ entry. entry.seat ≢ who → slice_index_or wake.new.seats entry.seat false ≡ true) }
-    ensures kept { KeepsMarks wake.old.seats wake.new.seats }
+    ensures { AreMarked wake.old.seats (λ u. (option_map (λ (e : Entry). e.seat) first ≡ Some u) × (u ≢ who)) wake.new.seats }
 {
     if let Some(first) = first {
         wake.add(who, first.seat, true);

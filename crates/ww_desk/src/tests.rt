@@ -31,7 +31,7 @@ fn turned(desk: &mut Desk, first: Answer) -> Answer {
     let mut answer = first;
     for _ in 0..100u32 {
         match answer {
-            Answer::Again | Answer::Stays(_) => answer = desk.go_on(),
+            Answer::Again | Answer::Awaits | Answer::Stays(_) => answer = desk.go_on(),
             _ => break,
         }
     }

@@ -25,8 +25,10 @@ pub enum Turn {
 pub enum Answer {
     /// The call is at its end, and did what it is for.
     Done,
-    /// It wants another turn, at once.
+    /// It wants another turn, at once: it hasn't come to the guard of its lock yet, or is inside of it.
     Again,
+    /// It wants another turn once it may go inside the guard of its lock, where another seat is.
+    Awaits,
     /// It wants another turn after this rest, since the lock has an owner.
     Stays(Rest),
     /// It wants another turn once somebody has woken the seat.

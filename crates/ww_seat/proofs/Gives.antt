@@ -1,9 +1,11 @@
 -- A lock is given back inside its guard.
-use Rattle.std.proofs.Common.{◌≡◌, ℕ, ◌+◌, ◌<◌, ◌≤◌, Bool, true, false, List, ◌∷◌, slice_set, refl, sym, ap, ◌∙◌, subst, inl, inr, arith, Some, None}
+use Rattle.std.proofs.Common.{◌≡◌, ℕ, ◌+◌, ◌<◌, ◌≤◌, ◌≢◌, Bool, true, false, true≢false, List, [], ◌∷◌, slice_set, refl, sym, ap, ◌∙◌, subst, inl, inr, arith, Option, Some, None}
 use mathlib.Core.Option.{some}
 use lib.ListN.{get_elem?}
 use Rattle.ww_word.specs.declared.owner.Owner.{Owner}
+use Rattle.ww_queue.specs.declared.entry.Entry.{Entry}
 use Rattle.ww_queue.specs.declared.kind.Kind.TheVariants.{WaitDie}
+use Rattle.ww_model.proofs.Holders.{not_empty}
 use Rattle.ww_plain.specs.declared.node.Node.{Node}
 use Rattle.ww_view.specs.View.{owns, IsAway}
 use Rattle.ww_view.specs.May.{MayEnter}
@@ -23,6 +25,11 @@ use Rattle.ww_seat.proofs.Holds.{same_then, holds_then}
 use Rattle.ww_seat.proofs.Slots.{front_same, front_apart, is_out}
 use Rattle.ww_seat.proofs.Outside.{orderly_still, orderly_bare, set_past, owned_low, owns_here}
 use Rattle.ww_seat.proofs.Guards.{HasEntered, exiting_orderly, listed_orderly, without_node}
+
+-- a compare-exchange that can't be lost where somebody waits was lost: so nobody does
+pub waits_nobody : (q : List Entry) (was : Option Owner) (o : Owner) (won : Bool) → (q ≢ [] → was ≡ Some o → won ≡ true) → was ≡ Some o → won ≡ false → q ≡ []
+waits_nobody [] was o won sure is not = refl
+waits_nobody (e ∷ q) was o won sure is not = absurd (true≢false (sym (sure (not_empty (e ∷ q) e (inl refl)) is) ∙ not))
 
 -- ---- what the calls say of the seat, one after another
 

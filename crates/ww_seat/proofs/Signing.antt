@@ -23,7 +23,7 @@ use Rattle.ww_rule.specs.Guards.{AreSeats}
 use Rattle.ww_rule.specs.Signs.{condemning, noting, reading, finding_none}
 use Rattle.ww_rule.specs.Waiting.{HasListOnTop}
 use Rattle.ww_seat.specs.Orderly.{IsOrderly}
-use Rattle.ww_seat.specs.Work.{AreWoken, IsTold, IsTouched, IsWorking, SeesOther, HasNoted, MayStay}
+use Rattle.ww_seat.specs.Work.{AreMarked, HasToWake, IsTold, IsTouched, IsWorking, SeesOther, HasNoted, MayStay}
 use Rattle.ww_seat.proofs.Outside.{orderly_knowing, owned_low}
 use Rattle.ww_seat.proofs.Working.{touched_read}
 
@@ -81,14 +81,20 @@ pub noted_is : (won : Bool) (m1 m2 : Sat) (u : ℕ) → (won ≡ true → m2 ≡
 noted_is true m1 m2 u on off = on refl
 noted_is false m1 m2 u on off = off refl
 
--- those condemned before are still to be woken, and another where the step condemned it
-pub woken_noted : (m1 m2 : Sat) (was wakes : List Bool) (won : Bool) (who u : ℕ) → who ≡ m1.0.part.core.who → m2 ≡ (noted_by won m1.0 u, m1.1) → AreWoken m1.0.part.core was
-    → ((t : ℕ) → get_or was t false ≡ true → get_or wakes t false ≡ true) → (won ≡ true → u ≢ who → get_or wakes u false ≡ true) → AreWoken m2.0.part.core wakes
-woken_noted m1 m2 was wakes won who u own is woken before added = subst (λ (z : Sat). AreWoken z.0.part.core wakes) (sym is) (go won added)
+-- those condemned before are marked still, and another where the step condemned it
+pub marked_noted : (m1 m2 : Sat) (was mid now : List Bool) (won : Bool) (who u : ℕ) → who ≡ m1.0.part.core.who → m2 ≡ (noted_by won m1.0 u, m1.1) → AreMarked was (HasToWake m1.0.part.core) mid
+    → AreMarked mid (λ t. (won ≡ true) × (u ≢ who) × (t ≡ u)) now → AreMarked was (HasToWake m2.0.part.core) now
+marked_noted m1 m2 was mid now won who u own is marked added = subst (λ (z : Sat). AreMarked was (HasToWake z.0.part.core) now) (sym is) (go won added)
   where
-    go : (b : Bool) → (b ≡ true → u ≢ who → get_or wakes u false ≡ true) → AreWoken (noted_by b m1.0 u).part.core wakes
-    go true adds t has other = ⊎_elim (λ e. subst (λ (x : ℕ). get_or wakes x false ≡ true) (sym e) (adds refl (λ z. other (e ∙ z ∙ own)))) (λ old. before t (woken t old other)) has
-    go false adds t has other = before t (woken t has other)
+    go : (b : Bool) → AreMarked mid (λ t. (b ≡ true) × (u ≢ who) × (t ≡ u)) now → AreMarked was (HasToWake (noted_by b m1.0 u).part.core) now
+    go true adds t = (
+      λ marks. ⊎_elim (λ old. ⊎_elim inl (λ has. inr (inr has.0, has.1)) ((marked t).0 old)) (λ new. inr (inl new.2, λ e. new.1 (sym new.2 ∙ e ∙ sym own))) ((adds t).0 marks),
+      λ marks. (adds t).1 (⊎_elim (λ before. inl ((marked t).1 (inl before))) (λ has. ⊎_elim (λ e. inr (refl, (λ z. has.1 (e ∙ z ∙ own)), e)) (λ old. inl ((marked t).1 (inr (old, has.1)))) has.0) marks),
+    )
+    go false adds t = (
+      λ marks. ⊎_elim (λ old. (marked t).0 old) (λ new. absurd (true≢false (sym new.0))) ((adds t).0 marks),
+      λ marks. (adds t).1 (inl ((marked t).1 marks)),
+    )
 
 -- ---- whether it has to die
 

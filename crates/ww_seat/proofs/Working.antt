@@ -1,5 +1,5 @@
 -- What the steps of a seat inside a guard keep of its work there.
-use Rattle.std.proofs.Common.{◌≡◌, ◌⊎◌, inl, inr, ⊎_elim, ℕ, zero, suc, ◌+◌, ◌<◌, ◌==◌, Bool, true, false, true≢false, not, eqb, ne_eqb, List, ◌∷◌, refl, sym, ap, ◌∙◌, subst, arith, Option, Some}
+use Rattle.std.proofs.Common.{◌≡◌, ◌≢◌, ◌⊎◌, inl, inr, ⊎_elim, ℕ, zero, suc, ◌+◌, ◌<◌, ◌==◌, Bool, true, false, true≢false, not, eqb, ne_eqb, List, ◌∷◌, refl, sym, ap, ◌∙◌, subst, arith, Option, Some}
 use Rattle.ww_word.specs.declared.owner.Owner.{Owner}
 use Rattle.ww_queue.specs.declared.kind.Kind.{Kind}
 use Rattle.ww_queue.specs.declared.kind.Kind.TheVariants.{WoundWait, WaitDie}
@@ -19,7 +19,7 @@ use Rattle.ww_rule.specs.Waiting.{HasListOnTop}
 use Rattle.ww_seat.specs.Orderly.{IsOrderly}
 use Rattle.ww_seat.specs.Calls.{HoldsAsBefore}
 use Rattle.ww_seat.specs.Looks.{MayWant}
-use Rattle.ww_seat.specs.Work.{AreWoken, HasCondemnedNone, touched, told, IsTouched, IsTold, IsPlaced, IsWorking, IsAtWork, IsCleared, MayGo, HasNoted}
+use Rattle.ww_seat.specs.Work.{AreWoken, AreMarked, HasToWake, HasCondemnedNone, touched, told, IsTouched, IsTold, IsPlaced, IsWorking, IsAtWork, IsCleared, MayGo, HasNoted}
 use Rattle.ww_seat.proofs.Holds.{holds_same, holds_then}
 use Rattle.ww_seat.proofs.Outside.{orderly_knowing, orderly_brought}
 use Rattle.ww_seat.proofs.Guards.{listed_orderly, exiting_orderly}
@@ -39,10 +39,21 @@ pub none_condemned : (m m' : Sat) (w : Sight) → m'.0 ≡ w → w.part.core.who
 none_condemned m m' w view who attempts condemned = record { who = ap (λ (z : Sight). z.part.core.who) view ∙ who; attempts = ap (λ (z : Sight). z.part.core.attempts) view ∙ attempts; condemned = ap (λ (z : Sight). z.part.core.condemned) view ∙ condemned }
 
 pub woken_still : (m m' : Sat) (wakes : List Bool) → HasCondemnedNone m m' → AreWoken m.0.part.core wakes → AreWoken m'.0.part.core wakes
-woken_still m m' wakes none woken u has other = woken u (subst (λ (l : List ℕ). Has l u) none.condemned has) (λ e. other (e ∙ sym none.who))
+woken_still m m' wakes none woken u has = woken u (subst (λ (l : List ℕ). Has l u) none.condemned has.0, λ e. has.1 (e ∙ sym none.who))
 
 pub woken_touched : (size : ℕ) (m m' : Sat) (wakes : List Bool) → IsTouched size m m' → AreWoken m.0.part.core wakes → AreWoken m'.0.part.core wakes
 woken_touched size m m' wakes t = woken_still m m' wakes (none_condemned m m' (knowing m.0 (touched m.0.part.core t.seen t.signed m.0.part.core.condemned t.fresh)) t.view refl refl refl)
+
+-- it has nobody to wake that isn't marked yet
+pub marked_none : (m : Sat) (wakes : List Bool) → AreWoken m.0.part.core wakes → AreMarked wakes (HasToWake m.0.part.core) wakes
+marked_none m wakes woken u = (inl, ⊎_elim (λ was. was) (woken u))
+
+pub woken_marked : (m : Sat) (was now : List Bool) → AreMarked was (HasToWake m.0.part.core) now → AreWoken m.0.part.core now
+woken_marked m was now marked u has = (marked u).1 (inr has)
+
+pub marked_still : (m m' : Sat) (was now : List Bool) → HasCondemnedNone m m' → AreMarked was (HasToWake m.0.part.core) now → AreMarked was (HasToWake m'.0.part.core) now
+marked_still m m' was now none marked = subst (λ (l : List ℕ). AreMarked was (λ u. Has l u × (u ≢ m'.0.part.core.who)) now) (sym none.condemned)
+    (subst (λ (w : ℕ). AreMarked was (λ u. Has m.0.part.core.condemned u × (u ≢ w)) now) (sym none.who) marked)
 
 -- ---- its work goes on
 

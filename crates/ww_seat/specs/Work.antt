@@ -1,5 +1,5 @@
 -- A seat at work inside the guard of a lock that it wants.
-use Rattle.std.specs.Prelude.{ℕ, suc, ◌≡◌, ◌≢◌, ◌<◌, ◌==◌, ◌⊎◌, not, Bool, true, false, List, length, Option, Some, None}
+use Rattle.std.specs.Prelude.{ℕ, suc, ◌≡◌, ◌≢◌, ◌<◌, ◌==◌, ◌⊎◌, ◌↔◌, not, Bool, true, false, List, length, Option, Some, None}
 use Rattle.std.specs.List.{slice_index_or}
 use Rattle.ww_word.specs.declared.owner.Owner.{Owner}
 use Rattle.ww_word.specs.Owner.{IsValid}
@@ -51,12 +51,20 @@ pub record IsTold (size : ℕ) (m m' : Sat) : Type 0 where
 -- ---- who is to be woken
 
 -- each seat that its own signs condemned since it went inside the guard, but for itself
-abbrev pub AreWoken : View → List Bool → Type 0
-AreWoken v wakes = (u : ℕ) → Has v.condemned u → u ≢ v.who → slice_index_or wakes u false ≡ true
+abbrev pub HasToWake : View → ℕ → Type 0
+HasToWake v u = Has v.condemned u × (u ≢ v.who)
 
--- those that had to be woken still have to be
-abbrev pub KeepsMarks : List Bool → List Bool → Type 0
-KeepsMarks was now = (u : ℕ) → slice_index_or was u false ≡ true → slice_index_or now u false ≡ true
+-- it has a mark
+abbrev pub IsMarked : List Bool → ℕ → Type 0
+IsMarked wakes u = slice_index_or wakes u false ≡ true
+
+-- each seat that has to be woken has a mark
+abbrev pub AreWoken : View → List Bool → Type 0
+AreWoken v wakes = (u : ℕ) → HasToWake v u → IsMarked wakes u
+
+-- marked are those that were marked before, and these, and nobody else
+abbrev pub AreMarked : List Bool → (ℕ → Type 0) → List Bool → Type 0
+AreMarked was these now = (u : ℕ) → IsMarked now u ↔ (IsMarked was u ⊎ these u)
 
 -- the same seat, and it condemned nobody, nor did it look at an owner word
 pub record HasCondemnedNone (m m' : Sat) : Type 0 where

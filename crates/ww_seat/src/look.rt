@@ -5,7 +5,7 @@ ghost use Rattle.ww_view.specs.View.{owns};
 ghost use Rattle.ww_table.specs.Seat.{IsSeatOf, locks_of, size_of, view_of};
 ghost use Rattle.ww_seat.specs.Orderly.{IsOrderly};
 ghost use Rattle.ww_seat.specs.Looks.{IsLook, MayLookSo};
-ghost use Rattle.ww_seat.specs.Work.{AreWoken, KeepsMarks, has_joined, looks_again, IsWorking, IsAtWork};
+ghost use Rattle.ww_seat.specs.Work.{AreWoken, AreMarked, HasToWake, has_joined, looks_again, IsWorking, IsAtWork};
 
 use crate::interrupting::stop_if_cancelled;
 use crate::standing::{stand, stay_or_back_off};
@@ -111,8 +111,7 @@ pub fn look_once(
     ensures lost { IfNone result (IsAtWork (size_of board.now) lock seat.old.seat.me (has_joined arrival.new) (looks_again arrival.new) seat.new.seat.me) }
     ensures again { looks_again arrival.new ≡ looks_again arrival.old }
     ensures attempted { (view_of seat.new).attempts ≡ (view_of seat.old).attempts + 1 }
-    ensures woken { AreWoken (view_of seat.new) wake.new.seats }
-    ensures kept { KeepsMarks wake.old.seats wake.new.seats }
+    ensures marked { AreMarked wake.old.seats (HasToWake (view_of seat.new)) wake.new.seats }
 {
     let seen = seat.look(board, lock);
     if is_ours(seat, seen) {

@@ -5,7 +5,7 @@ ghost use Rattle.ww_view.specs.May.{MayDie};
 ghost use Rattle.ww_table.specs.Seat.{IsSeatOf, locks_of, size_of, view_of};
 ghost use Rattle.ww_rule.specs.Guards.{AreSeats};
 ghost use Rattle.ww_seat.specs.Orderly.{IsOrderly};
-ghost use Rattle.ww_seat.specs.Work.{AreWoken, KeepsMarks, HasSigned, IsTold, IsWorking, SeesOther, MayStay};
+ghost use Rattle.ww_seat.specs.Work.{AreWoken, AreMarked, HasToWake, HasSigned, IsTold, IsWorking, SeesOther, MayStay};
 
 use crate::wake::Wake;
 use ww_queue::Kind;
@@ -26,8 +26,7 @@ pub(crate) fn sign_all(seat: &mut Seat16, board: &Board, lock: u32, seen: Owner,
     ensures seat { IsSeatOf board.now seat.new }
     ensures records { seat.new.records ≡ seat.old.records }
     ensures signed { HasSigned (size_of board.now) seen seat.old.seat.me seat.new.seat.me }
-    ensures woken { AreWoken (view_of seat.new) wake.new.seats }
-    ensures kept { KeepsMarks wake.old.seats wake.new.seats }
+    ensures marked { AreMarked wake.old.seats (HasToWake (view_of seat.new)) wake.new.seats }
 {
     let who = seat.who();
     let owed = seat.owed_signs(board, lock, seen);

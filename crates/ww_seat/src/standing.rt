@@ -8,7 +8,7 @@ ghost use Rattle.ww_table.specs.Seat.{IsSeatOf, locks_of, size_of, view_of};
 ghost use Rattle.ww_seat.specs.declared.look.Look.TheVariants.{Deadlk};
 ghost use Rattle.ww_seat.specs.Orderly.{IsOrderly};
 ghost use Rattle.ww_seat.specs.Looks.{IsLook, MayLookSo};
-ghost use Rattle.ww_seat.specs.Work.{AreWoken, KeepsMarks, HasCondemnedNone, IsTouched, has_joined, looks_again, IsWorking, IsAtWork, SeesOther, HasStood, HasAsked};
+ghost use Rattle.ww_seat.specs.Work.{AreWoken, AreMarked, HasToWake, HasCondemnedNone, IsTouched, has_joined, looks_again, IsWorking, IsAtWork, SeesOther, HasStood, HasAsked};
 
 use crate::leaving::leave;
 use crate::look::{Arrival, Look};
@@ -133,8 +133,7 @@ pub(crate) fn stay_or_back_off(
     ensures tries { IfSome result (λ _. (view_of seat.new).tries ≡ (view_of seat.old).tries) }
     ensures lost { IfNone result (IsAtWork (size_of board.now) lock seat.old.seat.me true (looks_again arrival) seat.new.seat.me) }
     ensures attempts { (view_of seat.new).attempts ≡ (view_of seat.old).attempts }
-    ensures woken { AreWoken (view_of seat.new) wake.new.seats }
-    ensures kept { KeepsMarks wake.old.seats wake.new.seats }
+    ensures marked { AreMarked wake.old.seats (HasToWake (view_of seat.new)) wake.new.seats }
 {
     let word = ask_if_first(seat, board, lock, seen, arrival)?;
     sign_all(seat, board, lock, word, wake);

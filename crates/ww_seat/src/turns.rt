@@ -1,11 +1,12 @@
 //! What one round of each loop of a call does: a few steps, and it waits for nobody. The calls that wait are loops over
 //! these turns; others make the turns themselves, and wait between them as they like.
-ghost use Rattle.std.specs.Prelude.{◌≡◌, ◌<◌, ◌+◌, ◌==◌, [], not, true, false, slice_get, IfSome, IfNone};
+ghost use Rattle.std.specs.Prelude.{◌≡◌, ◌≢◌, ◌<◌, ◌+◌, ◌==◌, [], not, true, false, slice_get, IfSome, IfNone};
 ghost use Rattle.std.specs.Option.{option_map};
 ghost use Rattle.ww_word.specs.Owner.{IsValid};
 ghost use Rattle.ww_queue.specs.declared.entry.Entry.{Entry};
 ghost use Rattle.ww_view.specs.View.{owns};
 ghost use Rattle.ww_rule.specs.Cancels.{cancelling, finding_pending};
+ghost use Rattle.ww_rule.specs.Guards.{shutting_out};
 ghost use Rattle.ww_table.specs.Seat.{IsSeatOf, locks_of, size_of, view_of};
 ghost use Rattle.ww_seat.specs.Orderly.{IsSettledAt};
 ghost use Rattle.ww_seat.specs.Calls.{HasGiven};
@@ -26,6 +27,7 @@ pub fn enter_wanted(seat: &mut Seat16, board: &Board, lock: u32) -> bool
     ensures inside { result ≡ true → IsAtWork (size_of board.now) lock seat.old.seat.me (not ((view_of seat.old).waits == 0)) (not ((view_of seat.old).waits == 0)) seat.new.seat.me }
     ensures condemned { result ≡ true → (view_of seat.new).condemned ≡ [] }
     ensures outside { result ≡ false → IsOutside (size_of board.now) lock seat.new.seat.me }
+    ensures shut_out { result ≡ false → seat.new.seat.me ≡ (shutting_out seat.old.seat.me.0, seat.old.seat.me.1) }
     ensures attempted { (view_of seat.new).attempts ≡ (view_of seat.old).attempts + 1 }
     ensures waits { result ≡ false → (view_of seat.new).waits ≡ (view_of seat.old).waits }
     ensures still { result ≡ false → IsStill seat.old.seat.me seat.new.seat.me }
@@ -76,6 +78,7 @@ pub fn enter_owned(seat: &mut Seat16, board: &Board, lock: u32) -> bool
     ensures seat { IsSeatOf board.now seat.new }
     ensures giving { result ≡ true → IsGiving (size_of board.now) lock seat.new.seat.me }
     ensures settled { result ≡ false → IsSettledAt board.now seat.new }
+    ensures shut_out { result ≡ false → seat.new.seat.me ≡ (shutting_out seat.old.seat.me.0, seat.old.seat.me.1) }
     ensures still { IsStill seat.old.seat.me seat.new.seat.me }
     ensures attempted { (view_of seat.new).attempts ≡ (view_of seat.old).attempts + 1 }
     ensures records { seat.new.records ≡ seat.old.records }
@@ -95,6 +98,7 @@ fn give_seen(seat: &mut Seat16, board: &Board, lock: u32, seen: Owner) -> bool
     ensures kept { result ≡ false → IsGiving (size_of board.now) lock seat.new.seat.me }
     ensures still { result ≡ false → IsStill seat.old.seat.me seat.new.seat.me }
     ensures list { result ≡ false → (view_of seat.new).list ≡ (view_of seat.old).list }
+    ensures sure { (view_of seat.old).list ≢ [] → (view_of seat.old).seen ≡ Some seen → result ≡ true }
     ensures attempts { (view_of seat.new).attempts ≡ (view_of seat.old).attempts }
 {
     if lock < u32::from(board.size()) {
@@ -118,6 +122,7 @@ pub fn give_on(seat: &mut Seat16, board: &Board, lock: u32) -> Option<Option<Ent
     ensures giving { IfNone result (IsGiving (size_of board.now) lock seat.new.seat.me) }
     ensures still { IfNone result (IsStill seat.old.seat.me seat.new.seat.me) }
     ensures list { IfNone result ((view_of seat.new).list ≡ (view_of seat.old).list) }
+    ensures alone { IfNone result ((view_of seat.new).list ≡ []) }
     ensures records { seat.new.records ≡ seat.old.records }
 {
     let seen = seat.look(board, lock);

@@ -1,5 +1,5 @@
-ghost use Rattle.std.specs.Prelude.{ℕ, ◌≡◌, ◌≢◌, ◌<◌, true, false, replicate};
-ghost use Rattle.std.specs.List.{slice_index_or};
+ghost use Rattle.std.specs.Prelude.{◌≡◌, ◌≢◌, ◌<◌, true, false, replicate};
+ghost use Rattle.ww_seat.specs.Work.{AreMarked};
 
 use crossbeam_utils::sync::Unparker;
 use std::mem;
@@ -22,11 +22,10 @@ impl Wake {
         }
     }
 
-    /// Also wakes a seat that was condemned, but for the one that did so.
+    /// Also wakes a seat that was condemned, but for the one that did so, and nobody else.
     pub fn add(&mut self, who: u8, victim: u8, is_condemned: bool)
         requires victim { victim < 16 }
-        ensures before { (u : ℕ) → slice_index_or self.old.seats u false ≡ true → slice_index_or self.new.seats u false ≡ true }
-        ensures added { is_condemned ≡ true → victim ≢ who → slice_index_or self.new.seats victim false ≡ true }
+        ensures { AreMarked self.old.seats (λ u. (is_condemned ≡ true) × (victim ≢ who) × (u ≡ victim)) self.new.seats }
     {
         if is_condemned && victim != who {
             self.seats[usize::from(victim)] = true;

@@ -3,7 +3,7 @@ use Rattle.ww_model.specs.State.{any_below}
 use Rattle.ww_table.specs.Seat.{size_of}
 use Rattle.ww_seat.specs.Work.{has_joined, looks_again, IsAtWork}
 use Rattle.ww_seat.proofs.Holds.{look_then}
-use Rattle.ww_seat.proofs.Working.{work_same, work_then}
+use Rattle.ww_seat.proofs.Working.{work_same, work_then, woken_marked}
 use Rattle.ww_seat.proofs.look.look_at.Goals as goal
 
 pub loop-init : goal.loop-init
@@ -15,7 +15,7 @@ loop-preserved g c = (
   work_then _ c.args.lock c.args.seat.now.seat.me (has_joined c.loop.arrival) (has_joined c.look_once.new.arrival) (looks_again c.look_once.new.arrival) c.loop.seat.seat.me c.look_once.new.seat.seat.me
       (subst (λ (b : Bool). IsAtWork (size_of c.args.board.now) c.args.lock c.args.seat.now.seat.me (has_joined c.loop.arrival) b c.loop.seat.seat.me) (sym c.look_once.ensures.again) c.loop.invariant.1) c.in-None-look_once.ensures.lost,
   c.look_once.ensures.records ∙ c.loop.invariant.2,
-  c.look_once.ensures.woken,
+  woken_marked c.look_once.new.seat.seat.me _ _ c.look_once.ensures.marked,
 )
 
 pub returns-in-Some-look_once-clause-look : goal.returns-in-Some-look_once-clause-look
@@ -23,6 +23,9 @@ returns-in-Some-look_once-clause-look g c = look_then _ c.args.lock c.args.seat.
 
 pub returns-in-Some-look_once-clause-tries : goal.returns-in-Some-look_once-clause-tries
 returns-in-Some-look_once-clause-tries g c = c.in-Some-look_once.ensures.tries ∙ c.loop.invariant.1.tries
+
+pub returns-in-Some-look_once-clause-woken : goal.returns-in-Some-look_once-clause-woken
+returns-in-Some-look_once-clause-woken g c = woken_marked c.look_once.new.seat.seat.me _ _ c.look_once.ensures.marked
 
 pub look_once-requires-clause-woken : goal.look_once-requires-clause-woken
 look_once-requires-clause-woken g c = c.loop.invariant.3

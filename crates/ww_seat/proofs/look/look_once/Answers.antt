@@ -3,7 +3,7 @@ use Rattle.ww_model.specs.State.{any_below}
 use Rattle.ww_view.specs.View.{owns}
 use Rattle.ww_rule.specs.Rule.{Sat, first_graph}
 use Rattle.ww_seat.specs.Work.{has_joined, looks_again, IsWorking, IsAtWork}
-use Rattle.ww_seat.proofs.Working.{woken_still, woken_looked, look_counts, work_touched, work_looked}
+use Rattle.ww_seat.proofs.Working.{woken_still, woken_looked, marked_none, look_counts, work_touched, work_looked}
 use Rattle.ww_seat.proofs.Signing.{if_none}
 use Rattle.ww_seat.proofs.Holds.{stopped_then}
 use Rattle.ww_seat.proofs.Stood.{work_stood, flags_later, look_later, tries_later, work_later}
@@ -99,14 +99,14 @@ returns-clause-lost c = let size = length (first_graph c.args.board.now.table.sh
 pub take_inside-requires-clause-woken : goal.take_inside-requires-clause-woken
 take_inside-requires-clause-woken c = woken_looked c.args.seat.now.seat.me c.look-seen.new.self.seat.me c.look-seen.result _ c.look-seen.ensures.looked c.requires.woken
 
-pub returns-in_err-word-clause-woken : goal.returns-in_err-word-clause-woken
-returns-in_err-word-clause-woken c = let m1 = c.look-seen.new.self.seat.me in woken_still m1 c.stand.new.seat.seat.me _ c.stand.ensures.condemned
-    (woken_looked c.args.seat.now.seat.me m1 c.look-seen.result _ c.look-seen.ensures.looked c.requires.woken)
-
-pub returns-in-Some-stop_if_cancelled-clause-woken : goal.returns-in-Some-stop_if_cancelled-clause-woken
-returns-in-Some-stop_if_cancelled-clause-woken c = let m1 = c.look-seen.new.self.seat.me in let m2 = c.stand.new.seat.seat.me in
-    woken_still m2 c.stop_if_cancelled.new.seat.seat.me _ c.stop_if_cancelled.ensures.condemned (woken_still m1 m2 _ c.stand.ensures.condemned
+pub returns-in_err-word-clause-marked : goal.returns-in_err-word-clause-marked
+returns-in_err-word-clause-marked c = let m1 = c.look-seen.new.self.seat.me in marked_none c.stand.new.seat.seat.me _ (woken_still m1 c.stand.new.seat.seat.me _ c.stand.ensures.condemned
     (woken_looked c.args.seat.now.seat.me m1 c.look-seen.result _ c.look-seen.ensures.looked c.requires.woken))
+
+pub returns-in-Some-stop_if_cancelled-clause-marked : goal.returns-in-Some-stop_if_cancelled-clause-marked
+returns-in-Some-stop_if_cancelled-clause-marked c = let m1 = c.look-seen.new.self.seat.me in let m2 = c.stand.new.seat.seat.me in
+    marked_none c.stop_if_cancelled.new.seat.seat.me _ (woken_still m2 c.stop_if_cancelled.new.seat.seat.me _ c.stop_if_cancelled.ensures.condemned (woken_still m1 m2 _ c.stand.ensures.condemned
+    (woken_looked c.args.seat.now.seat.me m1 c.look-seen.result _ c.look-seen.ensures.looked c.requires.woken)))
 
 pub stay_or_back_off-requires-clause-woken : goal.stay_or_back_off-requires-clause-woken
 stay_or_back_off-requires-clause-woken c = let m1 = c.look-seen.new.self.seat.me in let m2 = c.stand.new.seat.seat.me in

@@ -1,8 +1,8 @@
 use Rattle.std.proofs.Common.{◌≡◌, length, take}
 use Rattle.ww_rule.specs.Rule.{first_graph}
 use Rattle.ww_table.specs.Seat.{IsSeated}
-use Rattle.ww_seat.specs.Work.{AreWoken, KeepsMarks, HasNoted}
+use Rattle.ww_seat.specs.Work.{AreMarked, HasToWake, HasNoted}
 use Rattle.ww_seat.proofs.signs.sign_all.Given as goal
 
 abbrev pub invariant-loop-pair : goal.invariant-loop-pair
-invariant-loop-pair l = IsSeated l.board.table.shared.table_id l.seat × HasNoted (length (first_graph l.board.table.shared.key)) (take l.pair-index l.pair-items) l.fn.seat.seat.me l.seat.seat.me × (l.seat.records ≡ l.fn.seat.records) × AreWoken l.seat.seat.me.0.part.core l.wake.seats × KeepsMarks l.fn.wake.seats l.wake.seats
+invariant-loop-pair l = IsSeated l.board.table.shared.table_id l.seat × HasNoted (length (first_graph l.board.table.shared.key)) (take l.pair-index l.pair-items) l.fn.seat.seat.me l.seat.seat.me × (l.seat.records ≡ l.fn.seat.records) × AreMarked l.fn.wake.seats (HasToWake l.seat.seat.me.0.part.core) l.wake.seats

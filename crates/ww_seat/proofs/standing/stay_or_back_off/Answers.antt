@@ -6,7 +6,7 @@ use Rattle.ww_rule.specs.Guards.{exiting}
 use Rattle.ww_seat.specs.Work.{looks_again, told}
 use Rattle.ww_seat.specs.declared.look.Look.TheVariants.{Deadlk, Waits}
 use Rattle.ww_seat.proofs.Holds.{look_then}
-use Rattle.ww_seat.proofs.Working.{none_condemned, woken_still, woken_touched, work_same, work_touched, work_told, work_noted}
+use Rattle.ww_seat.proofs.Working.{none_condemned, woken_touched, marked_none, marked_still, work_same, work_touched, work_told, work_noted}
 use Rattle.ww_seat.proofs.Signing.{if_none}
 use Rattle.ww_seat.proofs.Stood.{stays_goes, stays_outside}
 use Rattle.ww_seat.proofs.standing.stay_or_back_off.Goals as goal
@@ -52,23 +52,23 @@ returns-else-not-back_off-clause-look c = let size = length (first_graph c.args.
     let w3 = work_told size n m true later m2 m3 w2 c.death.ensures.told in
     look_then size n m m3 c.back_off.new.seat.seat.me (Deadlk c.in-Some.met) w3.holds (c.back_off.ensures.met c.if-not-back_off.false c.in-Some.met c.in-Some.ensures.death)
 
-pub returns-in_err-word-clause-woken : goal.returns-in_err-word-clause-woken
-returns-in_err-word-clause-woken c = woken_touched (length (first_graph c.args.board.now.table.shared.key)) c.args.seat.now.seat.me c.ask_if_first.new.seat.seat.me _ c.ask_if_first.ensures.touched c.requires.woken
+pub returns-in_err-word-clause-marked : goal.returns-in_err-word-clause-marked
+returns-in_err-word-clause-marked c = marked_none c.ask_if_first.new.seat.seat.me _ (woken_touched (length (first_graph c.args.board.now.table.shared.key)) c.args.seat.now.seat.me c.ask_if_first.new.seat.seat.me _ c.ask_if_first.ensures.touched c.requires.woken)
 
 pub sign_all-requires-clause-woken : goal.sign_all-requires-clause-woken
 sign_all-requires-clause-woken c = woken_touched (length (first_graph c.args.board.now.table.shared.key)) c.args.seat.now.seat.me c.ask_if_first.new.seat.seat.me _ c.ask_if_first.ensures.touched c.requires.woken
 
-pub returns-in-None-clause-woken : goal.returns-in-None-clause-woken
-returns-in-None-clause-woken c = let m2 = c.sign_all.new.seat.seat.me in let m4 = c.leave.new.seat.seat.me in let t = c.death.ensures.told in
-    woken_still m2 m4 _ (none_condemned m2 m4 (exiting (knowing m2.0 (told m2.0.part.core t.sign t.fresh))) (c.leave.ensures.view ∙ ap exiting t.view) refl refl refl) c.sign_all.ensures.woken
+pub returns-in-None-clause-marked : goal.returns-in-None-clause-marked
+returns-in-None-clause-marked c = let m2 = c.sign_all.new.seat.seat.me in let m4 = c.leave.new.seat.seat.me in let t = c.death.ensures.told in
+    marked_still m2 m4 _ _ (none_condemned m2 m4 (exiting (knowing m2.0 (told m2.0.part.core t.sign t.fresh))) (c.leave.ensures.view ∙ ap exiting t.view) refl refl refl) c.sign_all.ensures.marked
 
-pub returns-then-not-back_off-clause-woken : goal.returns-then-not-back_off-clause-woken
-returns-then-not-back_off-clause-woken c = let m2 = c.sign_all.new.seat.seat.me in let m3 = c.death.new.seat.seat.me in let t = c.death.ensures.told in
-    woken_still m3 c.back_off.new.seat.seat.me _ c.back_off.ensures.condemned (woken_still m2 m3 _ (none_condemned m2 m3 (knowing m2.0 (told m2.0.part.core t.sign t.fresh)) t.view refl refl refl) c.sign_all.ensures.woken)
+pub returns-then-not-back_off-clause-marked : goal.returns-then-not-back_off-clause-marked
+returns-then-not-back_off-clause-marked c = let m2 = c.sign_all.new.seat.seat.me in let m3 = c.death.new.seat.seat.me in let t = c.death.ensures.told in
+    marked_still m3 c.back_off.new.seat.seat.me _ _ c.back_off.ensures.condemned (marked_still m2 m3 _ _ (none_condemned m2 m3 (knowing m2.0 (told m2.0.part.core t.sign t.fresh)) t.view refl refl refl) c.sign_all.ensures.marked)
 
-pub returns-else-not-back_off-clause-woken : goal.returns-else-not-back_off-clause-woken
-returns-else-not-back_off-clause-woken c = let m2 = c.sign_all.new.seat.seat.me in let m3 = c.death.new.seat.seat.me in let t = c.death.ensures.told in
-    woken_still m3 c.back_off.new.seat.seat.me _ c.back_off.ensures.condemned (woken_still m2 m3 _ (none_condemned m2 m3 (knowing m2.0 (told m2.0.part.core t.sign t.fresh)) t.view refl refl refl) c.sign_all.ensures.woken)
+pub returns-else-not-back_off-clause-marked : goal.returns-else-not-back_off-clause-marked
+returns-else-not-back_off-clause-marked c = let m2 = c.sign_all.new.seat.seat.me in let m3 = c.death.new.seat.seat.me in let t = c.death.ensures.told in
+    marked_still m3 c.back_off.new.seat.seat.me _ _ c.back_off.ensures.condemned (marked_still m2 m3 _ _ (none_condemned m2 m3 (knowing m2.0 (told m2.0.part.core t.sign t.fresh)) t.view refl refl refl) c.sign_all.ensures.marked)
 
 pub returns-in_err-word-clause-attempts : goal.returns-in_err-word-clause-attempts
 returns-in_err-word-clause-attempts c = ap (λ (z : Sight). z.part.core.attempts) c.ask_if_first.ensures.touched.view

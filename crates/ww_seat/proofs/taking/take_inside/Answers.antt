@@ -4,7 +4,7 @@ use Rattle.ww_rule.specs.Waiting.{taking_inside}
 use Rattle.ww_table.specs.Seat.{size_of}
 use Rattle.ww_seat.specs.Looks.{IsLook}
 use Rattle.ww_seat.specs.declared.look.Look.TheVariants.{Locked}
-use Rattle.ww_seat.proofs.Working.{none_condemned, woken_still, woken_touched}
+use Rattle.ww_seat.proofs.Working.{none_condemned, woken_still, woken_touched, marked_none, marked_still}
 use Rattle.ww_seat.proofs.Took.{taken_read, owes_after, taken_goes, own_out, look_taken, word_read}
 use Rattle.ww_seat.proofs.taking.take_inside.Goals as goal
 
@@ -58,9 +58,9 @@ returns-clause-tries c = (came c).1
 pub returns-clause-attempts : goal.returns-clause-attempts
 returns-clause-attempts c = (came c).2
 
-pub returns-then-not-take_seen-clause-woken : goal.returns-then-not-take_seen-clause-woken
-returns-then-not-take_seen-clause-woken c = woken_touched _ c.args.seat.now.seat.me c.take_seen.new.seat.seat.me _ (c.take_seen.ensures.lost c.if-not-take_seen.true) c.requires.woken
+pub returns-then-not-take_seen-clause-marked : goal.returns-then-not-take_seen-clause-marked
+returns-then-not-take_seen-clause-marked c = marked_none c.take_seen.new.seat.seat.me _ (woken_touched _ c.args.seat.now.seat.me c.take_seen.new.seat.seat.me _ (c.take_seen.ensures.lost c.if-not-take_seen.true) c.requires.woken)
 
-pub returns-clause-woken : goal.returns-clause-woken
-returns-clause-woken c = let m3 = c.sign_all.new.seat.seat.me in let m5 = c.node_or_blank.new.seat.seat.me in
-    woken_still m3 m5 _ (none_condemned m3 m5 (exiting m3.0) (c.node_or_blank.ensures.view ∙ c.leave.ensures.view) refl refl refl) c.sign_all.ensures.woken
+pub returns-clause-marked : goal.returns-clause-marked
+returns-clause-marked c = let m3 = c.sign_all.new.seat.seat.me in let m5 = c.node_or_blank.new.seat.seat.me in
+    marked_still m3 m5 _ _ (none_condemned m3 m5 (exiting m3.0) (c.node_or_blank.ensures.view ∙ c.leave.ensures.view) refl refl refl) c.sign_all.ensures.marked

@@ -21,6 +21,9 @@ returns-clause-condemned c = λ t. ap (λ (m : Sat). m.0.part.core.condemned) (c
 pub returns-clause-outside : goal.returns-clause-outside
 returns-clause-outside c = λ f. outside_shut _ c.args.lock c.args.seat.now.seat.me c.enter.new.self.seat.me c.requires.outside (c.enter.ensures.lost f)
 
+pub returns-clause-shut_out : goal.returns-clause-shut_out
+returns-clause-shut_out c = c.enter.ensures.lost
+
 pub returns-clause-waits : goal.returns-clause-waits
 returns-clause-waits c = λ f. waits_shut c.args.seat.now.seat.me c.enter.new.self.seat.me (c.enter.ensures.lost f)
 

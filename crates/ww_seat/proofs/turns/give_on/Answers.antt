@@ -7,7 +7,7 @@ use Rattle.ww_rule.specs.Rule.{Sat}
 use Rattle.ww_table.specs.Seat.{size_of}
 use Rattle.ww_seat.specs.Calls.{HasGiven}
 use Rattle.ww_seat.specs.Orderly.{IsOrderly}
-use Rattle.ww_seat.proofs.Gives.{read_still, still_then, still_view, looked_giving, read_giving, has_let}
+use Rattle.ww_seat.proofs.Gives.{waits_nobody, read_still, still_then, still_view, looked_giving, read_giving, has_let}
 use Rattle.ww_seat.proofs.turns.give_on.Goals.{After-exit}
 use Rattle.ww_seat.proofs.turns.give_on.Goals as goal
 
@@ -18,6 +18,10 @@ pub returns-then-not-give_seen-clause-still : goal.returns-then-not-give_seen-cl
 returns-then-not-give_seen-clause-still c = let m = c.args.seat.now.seat.me in still_then m c.first-first.new.self.seat.me c.give_seen.new.seat.seat.me
     (read_still m m c.look-seen.new.self.seat.me c.first-first.new.self.seat.me c.args.lock c.look-seen.result (still_view m m refl) c.look-seen.ensures.looked c.first-first.ensures.read)
     (c.give_seen.ensures.still c.if-not-give_seen.true)
+
+pub returns-then-not-give_seen-clause-alone : goal.returns-then-not-give_seen-clause-alone
+returns-then-not-give_seen-clause-alone c = let lost = c.if-not-give_seen.true in c.give_seen.ensures.list lost ∙ waits_nobody _ _ _ _ c.give_seen.ensures.sure
+    (ap (λ (m : Sat). m.0.part.core.seen) c.first-first.ensures.read.now ∙ ap (λ (m : Sat). m.0.part.core.seen) c.look-seen.ensures.looked) lost
 
 pub exit-requires-clause-list : goal.exit-requires-clause-list
 exit-requires-clause-list c = let l = c.give_seen.ensures.gave c.if-not-give_seen.false in l.orderly.list c.args.lock l.inside
