@@ -3,6 +3,8 @@
 #![tactic(auto)]
 
 #[cfg(test)]
+mod back_offs;
+#[cfg(test)]
 mod cancels;
 #[cfg(test)]
 mod kept;
