@@ -1,5 +1,5 @@
 //! The wait list that a seat took last, read and changed in its slot. None of this is a step: nobody else sees it.
-ghost use Rattle.std.specs.Prelude.{◌≡◌, ◌<◌, ◌↔◌, ◌∷◌, List, length, slice_get, IsSome};
+ghost use Rattle.std.specs.Prelude.{◌≡◌, ◌<◌, ◌↔◌, ◌⊎◌, ◌∷◌, List, length, slice_get, IsSome};
 ghost use Rattle.atomic_table.specs.Table.{rest};
 ghost use Rattle.ww_queue.specs.declared.entry.Entry.{Entry};
 ghost use Rattle.ww_queue.specs.Queue.{Stands, StandsNot, IsNewStamp, joined, left};
@@ -96,17 +96,24 @@ pub fn join_list(seat: &mut TableSeat, shared: &Top, slot: u32, page: Page, entr
     }
 }
 
-/// Takes the seat out of the list that was taken last, if it stands there, and gives it a page.
-pub fn leave_list(seat: &mut TableSeat, shared: &Top, slot: u32, who: u8) -> Option<Page>
+/// Takes the seat out of the list that was taken last, and gives it a page if it stands there, else back the one that it
+/// has.
+pub fn leave_list(
+    seat: &mut TableSeat,
+    shared: &Top,
+    slot: u32,
+    who: u8,
+    page: Option<Page>,
+) -> Option<Page>
     requires home { seat.old.table_id ≡ shared.now.table_id }
     requires top { (q : List Entry) × (seat.old.me.1 ≡ (slot, Line q) ∷ rest seat.old.me.1) }
     ensures home { (seat.new.table_id ≡ seat.old.table_id) × (seat.new.id ≡ seat.old.id) }
     ensures view { seat.new.me.0 ≡ seat.old.me.0 }
     ensures list { (q : List Entry) → seat.old.me.1 ≡ (slot, Line q) ∷ rest seat.old.me.1 → seat.new.me.1 ≡ (slot, Line (left q who)) ∷ rest seat.old.me.1 }
-    ensures page { (q : List Entry) → seat.old.me.1 ≡ (slot, Line q) ∷ rest seat.old.me.1 → IsSome result ↔ Stands q who }
+    ensures page { (q : List Entry) → seat.old.me.1 ≡ (slot, Line q) ∷ rest seat.old.me.1 → IsSome result ↔ (IsSome page ⊎ Stands q who) }
 {
     match seat.slot_mut(shared, slot as usize) {
-        Cell::Line(waiters) => waiters.leave(who),
+        Cell::Line(waiters) => waiters.leave(who).or(page),
         Cell::Content(_) => unreachable!(),
     }
 }
