@@ -40,11 +40,11 @@ use Rattle.ww_rule.specs.declared.cells.Start.{Start}
 use Rattle.ww_rule.specs.Rule.{St, Sat, first_graph, Ruled}
 use Rattle.ww_rule.specs.Steps.{knowing}
 use Rattle.ww_rule.specs.Guards.{lost, AreSeats, IsSeenBy, entering, exiting, looking, glancing, enters_to, exits_to, looks_to, glances_to}
-use Rattle.ww_rule.specs.Waiting.{Expects, SeesWaiters, tries_to, HasPlace, joining, joins, taking_inside, below, takes_inside, giving_inside, gives_inside, takes_bare_inside, gives_bare_inside, asking, asks, dying, dies, dies_to}
+use Rattle.ww_rule.specs.Waiting.{StandsIfWaiting, Expects, SeesWaiters, tries_to, HasPlace, joining, joins, taking_inside, below, takes_inside, giving_inside, gives_inside, takes_bare_inside, gives_bare_inside, asking, asks, dying, dies, dies_to}
 use Rattle.ww_rule.specs.Signs.{condemning, noting, reading, finding_none, clearing, signs_to, reads_to, clears_to}
 use Rattle.ww_rule.specs.Cancels.{cancelling, heeding, stopping, stops, leaves_to, cancels_to, heeds_to}
 use Rattle.ww_rule.proofs.Moves.{cas, looks, low, node_there}
-use Rattle.ww_rule.proofs.Told.{stands_as, seen_by, death_is_older}
+use Rattle.ww_rule.proofs.Told.{stands_as, stands_there, seen_by, death_is_older}
 use Rattle.ww_rule.proofs.InsideMoves.{enter_makes, exit_makes, join_makes, take_makes, give_makes, take_bare_makes, give_bare_makes, ask_makes, die_makes, sign_makes, clear_makes, leave_makes, cancel_makes, heed_makes, mine, inside_low}
 
 -- ---- guards
@@ -169,6 +169,9 @@ and_finds : (key : Start) (slots id : ℕ) (me : Sat) (i : ℕ) (f : ℕ → ℕ
     → Allows (Ruled key) slots id me i f then → Allows (Ruled key) slots id me i f (λ x m'. then x m' × Q x)
 and_finds key slots id me i f then Q tells step s r deep at small = let t = step s r deep at small in (t.0, t.1, t.2, t.3, (t.4, tells s r at))
 
+stands : (key : Start) (s : St) (r : Ruled key s) (id : ℕ) (me : Sat) → get_elem? s.views id ≡ some me.0 → me.0.seated ≡ true → (n : ℕ) → me.0.part.core.inside ≡ suc n → StandsIfWaiting me.0.part.core
+stands key s r id me at seated = stands_there r.core me.0.part.core (reached_is_lawful r.core r.reached) (mine key s r id me at seated).part.knows
+
 has_place : (c : State) → Reached c → c.seats ≡ 16 → (v : View) → Knows c v → (n : ℕ) → v.inside ≡ suc n → v.waits ≡ 0 → HasPlace v
 has_place c run places v k n inside out = let list = k.queues.list n inside in
     let alone : StandsNot (c.queue n) v.who = λ e has is. (let z = k.queues.waits n (e, has, is) in omega arith) in record {
@@ -206,7 +209,7 @@ takes_lock key slots id me n o y cs i old new at was is small seated may valid t
       act,
       takes_valid key s r n v.who y me.1 cs small (inside_low key s r id me at seated n may.inside) m.can.base.free top,
       m.ruled,
-      (x, node_there key s r id me at seated n small, subst (λ (l : List (ℕ × Cell)). let before : Sat = (taking_inside me.0 n x, carried_after l act) in let after : Sat = (taking_inside me.0 n x, below (n, Content x) l) in before ≡ after) (sym top) refl),
+      (x, node_there key s r id me at seated n small, subst (λ (l : List (ℕ × Cell)). let before : Sat = (taking_inside me.0 n x, carried_after l act) in let after : Sat = (taking_inside me.0 n x, below (n, Content x) l) in before ≡ after) (sym top) refl, stands key s r id me at seated n may.inside),
     )))
 
 pub gives_lock : (key : Start) (slots id : ℕ) (me : Sat) (n : ℕ) (o : Owner) (x : Node) (i old new : ℕ) → i ≡ 144 + 8 * n → old ≡ packed o → new ≡ packed (given_word (o.flags == 3) me.0.part.core.list)
@@ -222,7 +225,7 @@ pub takes_lock_bare : (key : Start) (slots id : ℕ) (me : Sat) (n : ℕ) (o : O
     → Allows (Ruled key) slots id me i (λ x. either (eqb x old) new x) (tries_to takes_bare_inside (step slots i old new none) me)
 takes_lock_bare key slots id me n o i old new at was is big seated may valid = let v = me.0.part.core in let word = packed (taken_word v.who v.stamp (left v.list v.who)) in
     by_numbers key slots id me takes_bare_inside i (144 + 8 * n) old (packed o) new word at was is (expecting key slots id me n o word takes_bare_inside seated valid
-    (λ s r at hit. (knowing me.0 (made.taken v n), keeps, tt, (take_bare_makes key s r id me at seated n o big may valid hit).ruled, refl)))
+    (λ s r at hit. (knowing me.0 (made.taken v n), keeps, tt, (take_bare_makes key s r id me at seated n o big may valid hit).ruled, (refl, stands key s r id me at seated n may.inside))))
 
 pub gives_lock_bare : (key : Start) (slots id : ℕ) (me : Sat) (n : ℕ) (o : Owner) (i old new : ℕ) → i ≡ 144 + 8 * n → old ≡ packed o → new ≡ packed (given_word (o.flags == 3) me.0.part.core.list)
     → length (first_graph key) ≤ n → me.0.seated ≡ true → MayGive me.0.part.core n → IsValid o
@@ -241,7 +244,7 @@ pub dies_waiting : (key : Start) (slots id : ℕ) (me : Sat) (n : ℕ) (o : Owne
 dies_waiting key slots id me n o k i old new at was is seated may valid = let word = packed (rest_word (left me.0.part.core.list me.0.part.core.who) o) in
     and_tells key slots id me i (λ x. either (eqb x old) new x) (tries_to dies (step slots i old new none) me) ((m : ℕ) (p : Owner) (j : ℕ) → MayDie me.0.part.core m p j → j < me.0.part.core.stamp)
     (λ s r at m p j dies. death_is_older r.core me.0.part.core (reached_is_lawful r.core r.reached) (mine key s r id me at seated).part.knows m p j dies)
-    (by_numbers key slots id me dies i (144 + 8 * n) old (packed o) new word at was is (expecting key slots id me n o word dies seated valid (λ s r at hit. (dying me.0 o, keeps, tt, (die_makes key s r id me at seated n o k may valid hit).ruled, refl))))
+    (by_numbers key slots id me dies i (144 + 8 * n) old (packed o) new word at was is (expecting key slots id me n o word dies seated valid (λ s r at hit. (dying me.0 o, keeps, tt, (die_makes key s r id me at seated n o k may valid hit).ruled, (refl, stands key s r id me at seated n may.inside)))))
 
 -- ---- cancels
 
@@ -253,7 +256,7 @@ stops_waiting key slots id me n o i old new at was is seated may valid = let wor
     (λ s r here m p stop saw word_at. let k = (mine key s r id me here seated).part.knows in let h = k.queues.waited m stop.waits in
     ap (λ (j : ℕ). get_or s.words j 0) word_at ∙ word_is_seen key s r id me here seated m p
     (record { inside = stop.inside; waits = λ e. not_empty (r.core.queue m) h.0 h.1 (sym (k.queues.list m stop.inside) ∙ e); seen = saw }))
-    (by_numbers key slots id me stops i (144 + 8 * n) old (packed o) new word at was is (expecting key slots id me n o word stops seated valid (λ s r at hit. (stopping me.0 o, keeps, tt, (leave_makes key s r id me at seated n o may valid hit).ruled, refl))))
+    (by_numbers key slots id me stops i (144 + 8 * n) old (packed o) new word at was is (expecting key slots id me n o word stops seated valid (λ s r at hit. (stopping me.0 o, keeps, tt, (leave_makes key s r id me at seated n o may valid hit).ruled, (refl, stands key s r id me at seated n may.inside)))))
 
 cancels_there : (key : Start) (slots id : ℕ) (me : Sat) (u new : ℕ) → u < 16 → me.0.seated ≡ true → IsAway me.0.part.core → new ≡ me.0.part.core.who + 1
     → Allows (Ruled key) slots id me (8 * u + 1) (λ x. either (eqb x 0) new x) (cancels_to (step slots (8 * u + 1) 0 new none) me)
@@ -376,11 +379,11 @@ clears key slots id me i is seated may s r deep at small = (
   λ _. refl,
 )
 
--- whatever the own sign says, the seat keeps its kind, its number, its context and its slots
-pub read_is : (slots i : ℕ) (me me' : Sat) (x : ℕ) → i ≡ 8 * me.0.part.core.who → reads_to (step slots i 0 0 none) me x me' → (w : View) × (w.kind ≡ me.0.part.core.kind) × (w.who ≡ me.0.part.core.who) × (w.stamp ≡ me.0.part.core.stamp) × (me' ≡ (knowing me.0 w, me.1))
+-- whatever the own sign says, the seat keeps its kind, its number, its context, its slots and what it waits for
+pub read_is : (slots i : ℕ) (me me' : Sat) (x : ℕ) → i ≡ 8 * me.0.part.core.who → reads_to (step slots i 0 0 none) me x me' → (w : View) × (w.kind ≡ me.0.part.core.kind) × (w.who ≡ me.0.part.core.who) × (w.stamp ≡ me.0.part.core.stamp) × (w.waits ≡ me.0.part.core.waits) × (me' ≡ (knowing me.0 w, me.1))
 read_is slots i me me' x is told = let v : View = me.0.part.core in let read = told is in dite (ℕ_discrete x 0)
-    (λ e. dite (is_quiet? v) (λ quiet. (made.has_read v 0, refl, refl, refl, read.1 e quiet)) (λ loud. (made.found_none v, refl, refl, refl, read.2 e loud)))
-    (λ ne. (made.has_read v x, refl, refl, refl, read.0 ne))
+    (λ e. dite (is_quiet? v) (λ quiet. (made.has_read v 0, refl, refl, refl, refl, read.1 e quiet)) (λ loud. (made.found_none v, refl, refl, refl, refl, read.2 e loud)))
+    (λ ne. (made.has_read v x, refl, refl, refl, refl, read.0 ne))
 
 -- ---- the same of a list slot that was brought to the front, by the number and stamp that the seat keeps
 

@@ -13,3 +13,4 @@ pub mod InsideSteps
 pub mod InsideTurning
 pub mod Slots
 pub mod Filling
+pub mod Paging

@@ -1,5 +1,5 @@
 -- What the words and lists that a seat finds tell it, by what its view knows.
-use Rattle.std.proofs.Common.{◌≡◌, length, ⊎_elim, ℕ, suc, ◌<◌, Bool, true, false, true≢false, Some, refl, sym, ap, ◌∙◌, subst, arith}
+use Rattle.std.proofs.Common.{◌≡◌, length, inl, inr, ⊎_elim, ℕ, zero, suc, ◌<◌, Bool, true, false, true≢false, Some, refl, sym, ap, ◌∙◌, subst, arith}
 use mathlib.Core.Logic.{dite}
 use native.Mathlib.Decide.{dec_le}
 use Rattle.ww_word.specs.declared.owner.Owner.{Owner}
@@ -7,7 +7,7 @@ use Rattle.ww_word.specs.Owner.{is_handed}
 use Rattle.ww_queue.specs.declared.kind.Kind.{Kind}
 use Rattle.ww_queue.specs.declared.kind.Kind.TheVariants.{WoundWait, WaitDie}
 use Rattle.ww_queue.specs.declared.entry.Entry.{Entry}
-use Rattle.ww_queue.specs.Queue.{Has, Before, entry_of}
+use Rattle.ww_queue.specs.Queue.{Has, Stands, Before, entry_of}
 use Rattle.ww_queue.specs.Rules.{must_die}
 use Rattle.ww_queue.proofs.Leaves.{entry_when}
 use Rattle.ww_queue.proofs.Aheads.{before_older}
@@ -26,6 +26,7 @@ use Rattle.ww_view.specs.Made.{entry_of_view}
 use Rattle.ww_view.proofs.Tells.{no_flags}
 use Rattle.ww_view.proofs.Deaths.{die_shows}
 use Rattle.ww_rule.specs.Guards.{StandsAs, IsSeenBy}
+use Rattle.ww_rule.specs.Waiting.{StandsIfWaiting}
 
 module _ (c : State) (v : View) (l : IsLawful c) (k : Knows c v) where
   low : (n : ℕ) → c.owner n ≡ Taken v.who → n < length v.owned
@@ -55,6 +56,16 @@ module _ (c : State) (v : View) (l : IsLawful c) (k : Knows c v) where
     absent = λ out e has is. (let z = k.queues.waits n (e, has, is) in omega arith);
     entry = λ waits. own_entry n (omega arith);
   }
+
+  -- a waiter goes inside no guard but that of the lock where it waits
+  pub stands_there : (n : ℕ) → v.inside ≡ suc n → StandsIfWaiting v
+  stands_there n inside = go v.waits refl
+    where
+      go : (w : ℕ) → v.waits ≡ w → StandsIfWaiting v
+      go zero out = inl out
+      go (suc m) waits = let h = k.queues.waited m waits in
+          let here = l.base.guards.own_guard m n h.0 h.1 ((k.guard.guards n inside).1 ∙ ap suc (sym h.2)) in
+          inr (subst (λ q. Stands q v.who) (ap c.queue here ∙ sym (k.queues.list n inside)) h)
 
   pub seen_by : (n : ℕ) (o : Owner) → v.inside ≡ suc n → o ≡ word_of c n → IsSeenBy v n o
   seen_by n o inside is = record {

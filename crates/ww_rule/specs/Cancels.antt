@@ -11,7 +11,7 @@ use Rattle.ww_rule.specs.Layout.{owner_at, cancel_at}
 use Rattle.ww_rule.specs.Rule.{Sat}
 use Rattle.ww_rule.specs.Steps.{knowing}
 use Rattle.ww_rule.specs.Guards.{lost}
-use Rattle.ww_rule.specs.Waiting.{tries_to}
+use Rattle.ww_rule.specs.Waiting.{StandsIfWaiting, tries_to}
 
 -- ---- set_cancel: the cancel of a seat is set, if none of it is pending; else the seat counts that one was
 
@@ -47,7 +47,7 @@ abbrev pub stopping : Sight → Owner → Sight
 stopping v o = knowing v (interrupted v.part.core o)
 
 abbrev pub stops : ℕ → Owner → Sat → Sat → Type 0
-stops n o m m' = m' ≡ (stopping m.0 o, m.1)
+stops n o m m' = (m' ≡ (stopping m.0 o, m.1)) × StandsIfWaiting m.0.part.core
 
 -- The word is still the one that the seat saw last: nobody else writes it while somebody waits and the seat is inside.
 abbrev pub leaves_to : Step Cell → Sat → ℕ → Sat → Type 0

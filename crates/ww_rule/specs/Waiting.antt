@@ -1,9 +1,9 @@
 -- What each step inside a guard asks of the seat beside its view, and what it makes of the seat.
-use Rattle.std.specs.Prelude.{ℕ, suc, ◌≡◌, ◌≢◌, ◌<◌, ◌==◌, Bool, List, [], ◌∷◌, length, slice_set, Some, None}
+use Rattle.std.specs.Prelude.{ℕ, suc, ◌≡◌, ◌≢◌, ◌<◌, ◌⊎◌, ◌==◌, Bool, List, [], ◌∷◌, length, slice_set, Some, None}
 use Rattle.atomic_table.specs.Table.{Step, rest}
 use Rattle.ww_word.specs.declared.owner.Owner.{Owner}
 use Rattle.ww_word.specs.Owner.{IsValid, packed}
-use Rattle.ww_queue.specs.Queue.{StandsNot, IsNewStamp}
+use Rattle.ww_queue.specs.Queue.{Stands, StandsNot, IsNewStamp}
 use Rattle.ww_plain.specs.declared.node.Node.{Node}
 use Rattle.ww_plain.specs.Graph.{IsNodeOf}
 use Rattle.ww_view.specs.declared.view.View.{View}
@@ -41,6 +41,10 @@ pub record HasListOnTop (m : Sat) (n : ℕ) (m' : Sat) : Type 0 where
   pub apart : AreOthers m.1 (list_at n) (Line m.0.part.core.list) others
   pub now : m' ≡ (m.0, (list_at n, Line m.0.part.core.list) ∷ others)
 
+-- the seat stands in the list that it is inside of, if it waits at all
+abbrev pub StandsIfWaiting : View → Type 0
+StandsIfWaiting v = (v.waits ≡ 0) ⊎ Stands v.list v.who
+
 -- ---- join: into the wait list
 
 -- the list has room for the seat, which doesn't stand in it, and no waiter has its stamp
@@ -66,7 +70,7 @@ below x [] = x ∷ []
 below x (y ∷ ys) = y ∷ x ∷ ys
 
 abbrev pub takes_inside : ℕ → Owner → Sat → Sat → Type 0
-takes_inside n o m m' = (x : Node) × IsNodeOf (length m.0.held) x × (m' ≡ (taking_inside m.0 n x, below (n, Content x) m.1))
+takes_inside n o m m' = (x : Node) × IsNodeOf (length m.0.held) x × (m' ≡ (taking_inside m.0 n x, below (n, Content x) m.1)) × StandsIfWaiting m.0.part.core
 
 -- ---- give: the lock is nobody's, or the first waiter's if that was asked for, and its node goes home
 
@@ -89,7 +93,7 @@ gives_inside n o m m' = m' ≡ (giving_inside m.0 n (o.flags == 3), rest m.1)
 -- ---- the same of a lock that guards no node
 
 abbrev pub takes_bare_inside : ℕ → Owner → Sat → Sat → Type 0
-takes_bare_inside n o m m' = m' ≡ (knowing m.0 (taken m.0.part.core n), m.1)
+takes_bare_inside n o m m' = (m' ≡ (knowing m.0 (taken m.0.part.core n), m.1)) × StandsIfWaiting m.0.part.core
 
 abbrev pub gives_bare_inside : ℕ → Owner → Sat → Sat → Type 0
 gives_bare_inside n o m m' = m' ≡ (knowing m.0 (given m.0.part.core n (o.flags == 3)), m.1)
@@ -108,7 +112,7 @@ abbrev pub dying : Sight → Owner → Sight
 dying v o = knowing v (died v.part.core o)
 
 abbrev pub dies : ℕ → Owner → Sat → Sat → Type 0
-dies n o m m' = m' ≡ (dying m.0 o, m.1)
+dies n o m m' = (m' ≡ (dying m.0 o, m.1)) × StandsIfWaiting m.0.part.core
 
 -- who has to die, whatever the word is now, has to for an older context
 abbrev pub dies_to : Step Cell → Sat → ℕ → Sat → Type 0

@@ -1,43 +1,12 @@
+use crate::pages::Waiters;
 use atomic_table::{Seat, Shared, TableRule};
 use std::collections::LinkedList;
-use std::marker::Model;
 use std::snapshot::Snapshot;
 use ww_plain::{Graph, Node, Record};
-use ww_queue::{Kind, Queue};
+use ww_queue::Kind;
 use ww_view::view::View;
 
-/// A wait list in its slot. The unused bytes behind it keep its length off the cache line of the next slot's first
-/// entries, wherever the slots begin.
-#[derive(Drop)]
-pub struct Waiters {
-    pub queue: Queue,
-    apart: [u64; 8],
-}
-
-impl Model for Waiters {
-    ghost use Rattle.std.specs.Prelude.{List};
-    ghost use Rattle.ww_queue.specs.declared.entry.Entry.{Entry};
-
-    ghost Value = { List Entry };
-
-    ghost view = { λ waiters. waiters.queue };
-}
-
-impl Waiters {
-    ghost use Rattle.std.specs.Prelude.{◌≡◌, []};
-
-    /// An empty list.
-    pub fn new() -> Waiters
-        ensures { result ≡ [] }
-    {
-        Waiters {
-            queue: Queue::new(),
-            apart: [0; 8],
-        }
-    }
-}
-
-/// What a slot has. A node's slot is as large as a list's, so that no two nodes that are changed share a cache line.
+/// What a slot has.
 #[derive(Drop)]
 pub enum Cell {
     Content(Node),

@@ -9,8 +9,9 @@ ghost use Rattle.ww_rule.specs.declared.cells.Cell.TheVariants.{Content, Line};
 ghost use Rattle.ww_rule.specs.Layout.{slots_for};
 ghost use Rattle.ww_rule.specs.Homes.{AreSlots, AreTakenBelow};
 
-use crate::cells::{Cell, Waiters};
+use crate::cells::Cell;
 use crate::layout;
+use crate::pages::Waiters;
 use atomic_table::Closed;
 use std::alloc::{AllocError, Global};
 use ww_plain::{Graph, Node};
@@ -23,20 +24,20 @@ pub fn slots(alloc: Global, graph: &Graph, locks: u32) -> Result<Vec<Cell>, Allo
     let count = layout::slots(locks);
     let mut slots = Vec::with_capacity(alloc, count)?;
     for n in 0..count {
-        slots.push_reserved(cell(graph, n));
+        slots.push_reserved(cell(alloc, graph, n));
     }
     Ok(slots)
 }
 
 /// What a slot has at the start.
-fn cell(graph: &Graph, n: usize) -> Cell
+fn cell(alloc: Global, graph: &Graph, n: usize) -> Cell
     ensures node { n < length graph.now → result ≡ Content (node_at graph.now n) }
     ensures list { length graph.now ≤ n → result ≡ Line [] }
 {
     if n < usize::from(graph.size()) {
         Cell::Content(graph.node(n as u8))
     } else {
-        Cell::Line(Waiters::new())
+        Cell::Line(Waiters::new(alloc))
     }
 }
 

@@ -8,10 +8,12 @@ pub mod homes;
 pub mod layout;
 pub mod lists;
 pub mod nodes;
+mod pages;
 pub mod plays;
 pub mod plays_inside;
 pub mod records;
 mod slots_out;
 
-pub use cells::{Cell, Counts, Part, Sight, Start, TableSeat, Top, Waiters, Words};
+pub use cells::{Cell, Counts, Part, Sight, Start, TableSeat, Top, Words};
+pub use pages::{Page, Waiters};
 pub use slots_out::{MAX_OUT, bring};

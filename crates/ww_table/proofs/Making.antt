@@ -1,5 +1,6 @@
 -- Making a table: its slots, and its seats one after another.
 use Rattle.std.proofs.Common.{refl, ◌≡◌, ℕ, suc, ◌+◌, ◌-◌, ◌*◌, ◌<◌, ◌≤◌, ◌^◌, List, [], ◌∷◌, ◌++◌, length, sym, ap, ◌∙◌, subst, ⊎_elim, arith, Some, None, replicate, length-append, zero, inl, inr}
+use Rattle.std.specs.Prelude.{IsSome}
 use mathlib.Core.Option.{some}
 use mathlib.Core.Option as maybe
 use lib.ListN.{get_elem?, length-replicate}
@@ -28,8 +29,8 @@ use Rattle.ww_model.specs.State.{start}
 use Rattle.ww_view.specs.View.{IsBare}
 use Rattle.ww_rule.proofs.Seats.{opens, opens_start, splits, at_end, bare_first}
 
-pub new_seat : (table : TableId) (key : Start) (k : ℕ) (s : Seat16) → s.seat.table_id ≡ table → s.seat.me ≡ (seat_of (length (first_graph key)) (first_part key.kind key.locks k), []) → s.kind ≡ key.kind → s.who ≡ k → k < 16 → s.stamp ≡ 0 → s.own ≡ packed (record { seat = Some s.who; stamp = s.stamp; flags = 0 }) → s.order.items ≡ [] → s.records.items ≡ [] → IsNew table key k s
-new_seat table key k s home me kind who few stamp own order records = record {
+pub new_seat : (table : TableId) (key : Start) (k : ℕ) (s : Seat16) → s.seat.table_id ≡ table → s.seat.me ≡ (seat_of (length (first_graph key)) (first_part key.kind key.locks k), []) → s.kind ≡ key.kind → s.who ≡ k → k < 16 → s.stamp ≡ 0 → s.own ≡ packed (record { seat = Some s.who; stamp = s.stamp; flags = 0 }) → s.order.items ≡ [] → s.records.items ≡ [] → IsSome s.page → IsNew table key k s
+new_seat table key k s home me kind who few stamp own order records page = record {
   seated = record {
     home = home;
     seated = ap (λ (m : Sat). m.0.seated) me;
@@ -43,6 +44,7 @@ new_seat table key k s home me kind who few stamp own order records = record {
     records = records ∙ sym (ap (λ (m : Sat). m.0.part.own) me);
     alone = ap (λ (m : Sat). m.0.idle) me;
     places = subst (AllByRecursion (λ (p : ℕ × Record). p.0 < 2 ^ 37)) (sym records) tt;
+    page = λ _. page;
   };
   number = who;
   me = me;

@@ -1,5 +1,5 @@
 -- A seat as its caller has it.
-use Rattle.std.specs.Prelude.{ℕ, ◌≡◌, ◌<◌, ◌^◌, [], true, length, Some}
+use Rattle.std.specs.Prelude.{ℕ, ◌≡◌, ◌<◌, ◌^◌, [], true, length, Some, IsSome}
 use Rattle.std.specs.List.{AllByRecursion}
 use Rattle.atomic_table.specs.Seated.{TableId}
 use Rattle.ww_word.specs.Owner.{packed}
@@ -29,6 +29,8 @@ pub record IsSeated (table : TableId) (s : Seat16) : Type 0 where
   pub records : s.records.items ≡ s.seat.me.0.part.own
   pub alone : s.seat.me.0.idle ≡ []
   pub places : AllByRecursion (λ p. p.0 < 2 ^ 37) s.records.items
+  -- a seat that stands in no list has its page
+  pub page : (view_of s).waits ≡ 0 → IsSome s.page
 
 -- how many nodes a board has
 abbrev pub size_of : Board → ℕ

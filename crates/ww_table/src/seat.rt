@@ -21,7 +21,7 @@ use ww_queue::Kind;
 use ww_rule::layout::{STAMP, owner_word, sign_word};
 use ww_rule::nodes::{node_there, swap_there};
 use ww_rule::plays::{Draw, End, GiveBare, GiveFree, TakeBare, TakeFree};
-use ww_rule::{MAX_OUT, TableSeat, bring};
+use ww_rule::{MAX_OUT, Page, TableSeat, bring};
 use ww_word::{Owner, pack};
 
 /// A seat of a board. It may start one context after another. Each of its steps is one atomic operation on one word;
@@ -37,6 +37,8 @@ pub struct Seat16 {
     /// The slots that it has out, the one taken last at the end.
     pub(crate) order: ArrayVec<u32, MAX_OUT>,
     pub(crate) records: Vec<(u64, Record)>,
+    /// Room for a wait list, while it stands in none.
+    pub(crate) page: Option<Page>,
 }
 
 /// The owner word of a lock that this seat has taken with this stamp, with nobody waiting.

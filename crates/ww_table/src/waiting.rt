@@ -60,7 +60,10 @@ impl Seat16 {
         };
         let slot = list_slot(lock);
         bring(&mut self.seat, &mut self.order, slot);
-        join_list(&mut self.seat, shared, slot, entry);
+        let Some(page) = self.page.take() else {
+            unreachable!()
+        };
+        join_list(&mut self.seat, shared, slot, page, entry);
         true
     }
 
@@ -112,7 +115,8 @@ impl Seat16 {
         self.order.pop();
         self.order.push(lock);
         self.order.push(slot);
-        leave_list(&mut self.seat, shared, slot, self.who);
+        let page = self.page.take();
+        self.page = leave_list(&mut self.seat, shared, slot, self.who, page);
         true
     }
 
@@ -142,7 +146,8 @@ impl Seat16 {
         if found != old {
             return false;
         }
-        leave_list(&mut self.seat, shared, list_slot(lock), self.who);
+        let page = self.page.take();
+        self.page = leave_list(&mut self.seat, shared, list_slot(lock), self.who, page);
         true
     }
 
@@ -190,7 +195,8 @@ impl Seat16 {
         if found != old {
             return false;
         }
-        leave_list(&mut self.seat, shared, list_slot(lock), self.who);
+        let page = self.page.take();
+        self.page = leave_list(&mut self.seat, shared, list_slot(lock), self.who, page);
         true
     }
 
@@ -217,7 +223,8 @@ impl Seat16 {
         if found != old {
             return false;
         }
-        leave_list(&mut self.seat, shared, list_slot(lock), self.who);
+        let page = self.page.take();
+        self.page = leave_list(&mut self.seat, shared, list_slot(lock), self.who, page);
         true
     }
 

@@ -20,8 +20,8 @@ returns-clause-lost c = λ isnt. (c.compare_exchange.ensures.2 c.args.lock c.arg
 pub returns-clause-seat : goal.returns-clause-seat
 returns-clause-seat c = let s = c.requires.seat in let e = c.compare_exchange.ensures in let told = e.2 c.args.lock c.args.seen (c.owner_word.ensures, c.requires.valid, c.pack-old.ensures) in
     dite (ℕ_discrete c.compare_exchange.result (packed c.args.seen))
-    (λ hit. let now = told.0 hit in seated_as _ c.args.self.now _ _ s e.0 (ap (λ m. m.0) now) refl refl refl refl refl refl refl refl refl refl refl (s.order ∙ ap numbers_of (sym (ap (λ m. m.1) now))))
-    (λ miss. let now = told.1 miss in seated_as _ c.args.self.now _ _ s e.0 (ap (λ m. m.0) now) refl refl refl refl refl refl refl refl refl refl refl (s.order ∙ ap numbers_of (sym (ap (λ m. m.1) now))))
+    (λ hit. let now = told.0 hit in seated_as _ c.args.self.now _ _ s e.0 (ap (λ m. m.0) now) refl refl refl refl refl refl refl refl refl refl refl refl refl (s.order ∙ ap numbers_of (sym (ap (λ m. m.1) now))))
+    (λ miss. let now = told.1 miss in seated_as _ c.args.self.now _ _ s e.0 (ap (λ m. m.0) now) refl refl refl refl refl refl refl refl refl refl refl refl refl (s.order ∙ ap numbers_of (sym (ap (λ m. m.1) now))))
 
 pub returns-clause-sure : goal.returns-clause-sure
 returns-clause-sure c = λ waits saw. eq-eqb _ _ ((c.compare_exchange.ensures.2 c.args.lock c.args.seen (c.owner_word.ensures, c.requires.valid, c.pack-old.ensures)).2

@@ -18,14 +18,14 @@ returns-then-found-ne0-clause-lost c = λ _. (c.compare_exchange-found.ensures.2
 
 pub returns-then-found-ne0-clause-seat : goal.returns-then-found-ne0-clause-seat
 returns-then-found-ne0-clause-seat c = let e = c.compare_exchange-found.ensures in let miss = (e.2 c.args.lock c.guard_word.ensures).1 c.if-found-ne0.true in let s = c.requires.seat in
-    seated_as _ c.args.self.now _ _ s e.0 (ap (λ m. m.0) miss) refl refl refl refl refl refl refl refl refl refl refl (s.order ∙ ap numbers_of (sym (ap (λ m. m.1) miss)))
+    seated_as _ c.args.self.now _ _ s e.0 (ap (λ m. m.0) miss) refl refl refl refl refl refl refl refl refl refl refl refl refl (s.order ∙ ap numbers_of (sym (ap (λ m. m.1) miss)))
 
 pub returns-clause-entered : goal.returns-clause-entered
 returns-clause-entered c = λ _. (c.compare_exchange-found.ensures.2 c.args.lock c.guard_word.ensures).0 c.if-found-ne0.false
 
 pub returns-clause-seat : goal.returns-clause-seat
 returns-clause-seat c = let e = c.compare_exchange-found.ensures in let got = (e.2 c.args.lock c.guard_word.ensures).0 c.if-found-ne0.false in let s = c.requires.seat in
-    seated_as _ c.args.self.now _ (entering c.args.self.now.seat.me.0 c.args.lock got.0) s e.0 (ap (λ m. m.0) got.3) refl refl refl refl refl refl refl refl refl refl refl
+    seated_as _ c.args.self.now _ (entering c.args.self.now.seat.me.0 c.args.lock got.0) s e.0 (ap (λ m. m.0) got.3) refl refl refl refl refl refl refl refl refl refl refl refl refl
     (c.push.ensures.items ∙ ap (λ (l : List ℕ). l ++ c.list_slot.result ∷ []) s.order ∙ ap (λ (k : ℕ). numbers_of c.args.self.now.seat.me.1 ++ k ∷ []) c.list_slot.ensures ∙ ap numbers_of (sym (ap (λ m. m.1) got.3)))
 
 pub returns-then-found-ne0-clause-entered : goal.returns-then-found-ne0-clause-entered

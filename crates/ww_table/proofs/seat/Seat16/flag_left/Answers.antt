@@ -17,4 +17,4 @@ returns-clause-flag c = let b = c.bring_list-slot.ensures in c.flag_there.ensure
     ∙ ap (λ (who : ℕ). waiting (left c.args.self.now.seat.me.0.part.core.list who)) (sym (number_before _ _ _ _ (b.seat _ c.requires.seat) b.read))
 
 pub returns-clause-seat : goal.returns-clause-seat
-returns-clause-seat c = seated_still _ _ _ (c.bring_list-slot.ensures.seat _ c.requires.seat) c.flag_there.ensures.home.0 c.flag_there.ensures.same refl refl refl refl refl refl
+returns-clause-seat c = seated_still _ _ _ (c.bring_list-slot.ensures.seat _ c.requires.seat) c.flag_there.ensures.home.0 c.flag_there.ensures.same refl refl refl refl refl refl refl

@@ -37,7 +37,7 @@ returns-then-found-old-clause-lost c = let t = c.next_owner-owner.ensures.read i
 pub returns-then-found-old-clause-seat : goal.returns-then-found-old-clause-seat
 returns-then-found-old-clause-seat c = let r = c.next_owner-owner.ensures in let b = c.bring.ensures in
     let miss = (c.compare_exchange-found.ensures.2 c.args.lock c.args.seen (c.owner_word.ensures, c.requires.valid, c.pack-old.ensures)).1 (λ z. c.if-found-old.true (z ∙ sym c.pack-old.ensures)) in
-    seated_as _ _ _ (lost c.next_owner-owner.new.self.seat.me.0) r.seat (c.compare_exchange-found.ensures.0 ∙ b.home.0) (ap (λ (m : Sat). m.0) miss ∙ ap lost b.view) refl refl refl refl refl refl refl refl refl refl refl (b.order ∙ ap numbers_of (sym (ap (λ (m : Sat). m.1) miss)))
+    seated_as _ _ _ (lost c.next_owner-owner.new.self.seat.me.0) r.seat (c.compare_exchange-found.ensures.0 ∙ b.home.0) (ap (λ (m : Sat). m.0) miss ∙ ap lost b.view) refl refl refl refl refl refl refl refl refl refl refl refl refl (b.order ∙ ap numbers_of (sym (ap (λ (m : Sat). m.1) miss)))
 
 pub returns-clause-gave : goal.returns-clause-gave
 returns-clause-gave c = let t = c.next_owner-owner.ensures.read in let b = c.bring.ensures in let out = c.requires.out in
@@ -57,7 +57,7 @@ returns-clause-seat c = let r = c.next_owner-owner.ensures in let b = c.bring.en
     let hit = (c.compare_exchange-found.ensures.2 c.args.lock c.args.seen (c.owner_word.ensures, c.requires.valid, c.pack-old.ensures)).0 (c.if-found-old.false ∙ c.pack-old.ensures) in
     let p = c.pop.ensures in let items = popped c.bring.new.order.items (numbers_of b.slots.1) c.pop.new.self.items c.args.lock c.pop.result (b.order ∙ ap numbers_of n.1) p.items p.variant.1 in
     seated_as _ _ _ (giving_inside c.next_owner-owner.new.self.seat.me.0 c.args.lock (c.args.seen.flags == 3)) r.seat (c.compare_exchange-found.ensures.0 ∙ b.home.0)
-    (ap (λ (m : Sat). m.0) hit ∙ ap (λ (w : Sight). giving_inside w c.args.lock (c.args.seen.flags == 3)) b.view) refl refl refl refl refl refl refl refl refl refl refl
+    (ap (λ (m : Sat). m.0) hit ∙ ap (λ (w : Sight). giving_inside w c.args.lock (c.args.seen.flags == 3)) b.view) refl refl refl refl refl refl refl refl refl refl refl refl refl
     (items ∙ ap numbers_of (sym (ap (λ (m : Sat). m.1) hit ∙ ap rest n.1)))
 
 pub returns-then-found-old-clause-sure : goal.returns-then-found-old-clause-sure

@@ -37,8 +37,8 @@ returns-clause-lost c = λ isnt. let t = c.next_owner-owner.ensures.read in
 pub returns-clause-seat : goal.returns-clause-seat
 returns-clause-seat c = let r = c.next_owner-owner.ensures.seat in let e = c.compare_exchange.ensures in let told = e.2 c.args.lock c.args.seen (c.owner_word.ensures, c.requires.valid, c.pack-old.ensures) in
     dite (ℕ_discrete c.compare_exchange.result (packed c.args.seen))
-    (λ hit. let now = told.0 hit in seated_as _ _ _ _ r e.0 (ap (λ (m : Sat). m.0) now) refl refl refl refl refl refl refl refl refl refl refl (r.order ∙ ap numbers_of (sym (ap (λ (m : Sat). m.1) now))))
-    (λ miss. let now = told.1 miss in seated_as _ _ _ _ r e.0 (ap (λ (m : Sat). m.0) now) refl refl refl refl refl refl refl refl refl refl refl (r.order ∙ ap numbers_of (sym (ap (λ (m : Sat). m.1) now))))
+    (λ hit. let now = told.0 hit in seated_as _ _ _ _ r e.0 (ap (λ (m : Sat). m.0) now) refl refl refl refl refl refl refl refl refl refl refl refl refl (r.order ∙ ap numbers_of (sym (ap (λ (m : Sat). m.1) now))))
+    (λ miss. let now = told.1 miss in seated_as _ _ _ _ r e.0 (ap (λ (m : Sat). m.0) now) refl refl refl refl refl refl refl refl refl refl refl refl refl (r.order ∙ ap numbers_of (sym (ap (λ (m : Sat). m.1) now))))
 
 pub returns-clause-sure : goal.returns-clause-sure
 returns-clause-sure c = λ waits saw. let view = ap (λ (m : Sat). m.0) c.next_owner-owner.ensures.read.now in

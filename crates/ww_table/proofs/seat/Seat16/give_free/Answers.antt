@@ -20,7 +20,7 @@ compare_exchange-found-requires c = let s = c.requires.seat in let b = c.bring.e
 
 pub returns-then-found-own-clause-seat : goal.returns-then-found-own-clause-seat
 returns-then-found-own-clause-seat c = let b = c.bring.ensures in let e = c.compare_exchange-found.ensures in let lost = (e.2 c.args.lock c.owner_word.ensures).1 c.if-found-own.true in
-    seated_as _ c.args.self.now _ (keeping c.args.self.now.seat.me.0) c.requires.seat (e.0 ∙ b.home.0) (ap (λ m. m.0) lost ∙ ap keeping b.view) refl refl refl refl refl refl refl refl refl refl refl (b.order ∙ ap numbers_of (sym (ap (λ m. m.1) lost)))
+    seated_as _ c.args.self.now _ (keeping c.args.self.now.seat.me.0) c.requires.seat (e.0 ∙ b.home.0) (ap (λ m. m.0) lost ∙ ap keeping b.view) refl refl refl refl refl refl refl refl refl refl refl refl refl (b.order ∙ ap numbers_of (sym (ap (λ m. m.1) lost)))
 
 pub returns-then-found-own-clause-kept : goal.returns-then-found-own-clause-kept
 returns-then-found-own-clause-kept c = let b = c.bring.ensures in let e = c.compare_exchange-found.ensures in let lost = (e.2 c.args.lock c.owner_word.ensures).1 c.if-found-own.true in let out = c.requires.out in
@@ -30,7 +30,7 @@ returns-then-found-own-clause-kept c = let b = c.bring.ensures in let e = c.comp
 pub returns-clause-seat : goal.returns-clause-seat
 returns-clause-seat c = let b = c.bring.ensures in let e = c.compare_exchange-found.ensures in let got = (e.2 c.args.lock c.owner_word.ensures).0 c.if-found-own.false in
     let p = c.pop.ensures in
-    seated_as _ c.args.self.now _ (giving c.args.self.now.seat.me.0 c.args.lock) c.requires.seat (e.0 ∙ b.home.0) (ap (λ m. m.0) got ∙ ap (λ (v : Sight). giving v c.args.lock) b.view) refl refl refl refl refl refl refl refl refl refl refl
+    seated_as _ c.args.self.now _ (giving c.args.self.now.seat.me.0 c.args.lock) c.requires.seat (e.0 ∙ b.home.0) (ap (λ m. m.0) got ∙ ap (λ (v : Sight). giving v c.args.lock) b.view) refl refl refl refl refl refl refl refl refl refl refl refl refl
     (popped c.bring.new.order.items (numbers_of b.slots.1) c.pop.new.self.items c.args.lock c.pop.result (b.order ∙ ap numbers_of b.slots.4) p.items p.variant.1 ∙ ap numbers_of (sym (ap (λ m. m.1) got ∙ ap rest b.slots.4)))
 
 pub returns-clause-gave : goal.returns-clause-gave

@@ -14,5 +14,5 @@ swap-requires c = let s = c.requires.seat in let small = s.few in let word = c.c
 
 pub returns-clause-seat : goal.returns-clause-seat
 returns-clause-seat c = let s = c.requires.seat in let e = c.swap.ensures in let heard = e.2 (c.cancel_word.ensures ∙ ap (λ (t : ℕ). 8 * t + 1) (sym s.who)) in dite (ℕ_discrete c.swap.result 0)
-    (λ none. let now = heard.0 none in seated_as _ c.args.self.now _ (lost c.args.self.now.seat.me.0) s e.0 (ap (λ m. m.0) now) refl refl refl refl refl refl refl refl refl refl refl (s.order ∙ ap numbers_of (sym (ap (λ m. m.1) now))))
-    (λ some. let now = heard.1 some in seated_as _ c.args.self.now _ (heeding c.args.self.now.seat.me.0 c.swap.result) s e.0 (ap (λ m. m.0) now) refl refl refl refl refl refl refl refl refl refl refl (s.order ∙ ap numbers_of (sym (ap (λ m. m.1) now))))
+    (λ none. let now = heard.0 none in seated_as _ c.args.self.now _ (lost c.args.self.now.seat.me.0) s e.0 (ap (λ m. m.0) now) refl refl refl refl refl refl refl refl refl refl refl refl refl (s.order ∙ ap numbers_of (sym (ap (λ m. m.1) now))))
+    (λ some. let now = heard.1 some in seated_as _ c.args.self.now _ (heeding c.args.self.now.seat.me.0 c.swap.result) s e.0 (ap (λ m. m.0) now) refl refl refl refl refl refl refl refl refl refl refl refl refl (s.order ∙ ap numbers_of (sym (ap (λ m. m.1) now))))

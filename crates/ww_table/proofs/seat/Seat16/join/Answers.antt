@@ -1,4 +1,5 @@
-use Rattle.std.proofs.Common.{◌≡◌, ℕ, ◌+◌, arith, ap, sym, refl, ◌∙◌, subst, List, ◌∷◌}
+use Rattle.std.proofs.Common.{◌≡◌, true≢false, ℕ, suc, ◌+◌, arith, ap, sym, refl, ◌∙◌, subst, List, ◌∷◌}
+use Rattle.std.specs.Prelude.{IsSome}
 use Rattle.atomic_table.specs.Table.{rest}
 use Rattle.ww_word.specs.Owner.{packed}
 use Rattle.ww_queue.specs.declared.entry.Entry.{Entry}
@@ -10,7 +11,7 @@ use Rattle.ww_rule.specs.Rule.{Sat}
 use Rattle.ww_rule.specs.Out.{numbers_of, slot_of}
 use Rattle.ww_rule.proofs.InsideSteps.{joins_list}
 use Rattle.ww_rule.proofs.InsideTurning.{list_brought, on_top}
-use Rattle.ww_table.proofs.Seated.{seated_as}
+use Rattle.ww_table.proofs.Seated.{seated_as, seated_paged}
 use Rattle.ww_table.proofs.seat.Seat16.join.Goals as goal
 
 pub compare_exchange-found-requires : goal.compare_exchange-found-requires
@@ -23,7 +24,7 @@ returns-then-found-old-clause-lost c = λ _. (c.compare_exchange-found.ensures.2
 pub returns-then-found-old-clause-seat : goal.returns-then-found-old-clause-seat
 returns-then-found-old-clause-seat c = let s = c.requires.seat in let e = c.compare_exchange-found.ensures in
     let miss = (e.2 c.args.lock c.args.seen (c.owner_word.ensures, c.requires.valid, c.pack-old.ensures)).1 (λ z. c.if-found-old.true (z ∙ sym c.pack-old.ensures)) in
-    seated_as _ c.args.self.now _ _ s e.0 (ap (λ (m : Sat). m.0) miss) refl refl refl refl refl refl refl refl refl refl refl (s.order ∙ ap numbers_of (sym (ap (λ (m : Sat). m.1) miss)))
+    seated_as _ c.args.self.now _ _ s e.0 (ap (λ (m : Sat). m.0) miss) refl refl refl refl refl refl refl refl refl refl refl refl refl (s.order ∙ ap numbers_of (sym (ap (λ (m : Sat). m.1) miss)))
 
 pub bring-requires-clause-order : goal.bring-requires-clause-order
 bring-requires-clause-order c = let won = (c.compare_exchange-found.ensures.2 c.args.lock c.args.seen (c.owner_word.ensures, c.requires.valid, c.pack-old.ensures)).0 (c.if-found-old.false ∙ c.pack-old.ensures) in c.requires.seat.order ∙ ap numbers_of (sym (ap (λ (m : Sat). m.1) won.0))
@@ -40,7 +41,7 @@ pub returns-clause-seat : goal.returns-clause-seat
 returns-clause-seat c = let v = c.args.self.now.seat.me.0 in let b = c.bring.ensures in let won = (c.compare_exchange-found.ensures.2 c.args.lock c.args.seen (c.owner_word.ensures, c.requires.valid, c.pack-old.ensures)).0 (c.if-found-old.false ∙ c.pack-old.ensures) in
     let l = list_brought c.args.self.now.seat.me.1 c.compare_exchange-found.new.seat.me.1 c.bring.new.seat.me.1 b.slots.1 c.args.lock c.list_slot-slot.result v.part.core.list b.slots.0 (ap (λ (m : Sat). m.1) won.0) c.list_slot-slot.ensures c.requires.list b.slots.2 b.slots.3 b.slots.4 in let top = on_top c.bring.new.seat.me.1 b.slots.1 (64 + c.args.lock) c.list_slot-slot.result (Line v.part.core.list) l.1 c.list_slot-slot.ensures in
     let g = c.join_list.ensures in
-    seated_as _ c.args.self.now _ _ c.requires.seat (g.home.0 ∙ b.home.0 ∙ c.compare_exchange-found.ensures.0) (g.view ∙ b.view ∙ ap (λ (m : Sat). m.0) won.0) refl refl refl refl refl refl refl refl refl refl refl (b.order ∙ ap numbers_of top ∙ ap numbers_of (sym (g.list v.part.core.list top)))
+    seated_paged _ c.args.self.now _ _ c.requires.seat (g.home.0 ∙ b.home.0 ∙ c.compare_exchange-found.ensures.0) (g.view ∙ b.view ∙ ap (λ (m : Sat). m.0) won.0) refl refl refl refl refl refl (λ (out : suc c.args.lock ≡ 0). absurd (omega arith)) refl refl refl refl refl (b.order ∙ ap numbers_of top ∙ ap numbers_of (sym (g.list v.part.core.list top)))
 
 pub returns-clause-joined : goal.returns-clause-joined
 returns-clause-joined c = let v = c.args.self.now.seat.me.0 in let b = c.bring.ensures in let won = (c.compare_exchange-found.ensures.2 c.args.lock c.args.seen (c.owner_word.ensures, c.requires.valid, c.pack-old.ensures)).0 (c.if-found-old.false ∙ c.pack-old.ensures) in
@@ -59,3 +60,6 @@ pack-new-requires c = c.with_waiters.ensures.valid c.requires.valid
 
 pub returns-then-found-old-clause-joined : goal.returns-then-found-old-clause-joined
 returns-then-found-old-clause-joined c = λ no. absurd cc
+
+pub unreachable-requires : goal.unreachable-requires
+unreachable-requires c = absurd (true≢false (sym (subst IsSome (sym c.take.ensures.value ∙ c.in_default.is) (c.requires.seat.page c.requires.may.not_waiting))))

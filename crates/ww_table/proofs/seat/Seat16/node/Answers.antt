@@ -15,7 +15,7 @@ node_there-requires-clause-top c = let v = c.args.self.now.seat.me.0 in let b = 
 
 pub returns-clause-seat : goal.returns-clause-seat
 returns-clause-seat c = let b = c.bring.ensures in let g = c.node_there.ensures in
-    seated_as _ c.args.self.now _ _ c.requires.seat (g.home.0 ∙ b.home.0) (ap (λ (m : Sat). m.0) g.same ∙ b.view) refl refl refl refl refl refl refl refl refl refl refl (b.order ∙ ap (λ (m : Sat). numbers_of m.1) (sym g.same))
+    seated_as _ c.args.self.now _ _ c.requires.seat (g.home.0 ∙ b.home.0) (ap (λ (m : Sat). m.0) g.same ∙ b.view) refl refl refl refl refl refl refl refl refl refl refl refl refl (b.order ∙ ap (λ (m : Sat). numbers_of m.1) (sym g.same))
 
 pub returns-clause-read : goal.returns-clause-read
 returns-clause-read c = let v = c.args.self.now.seat.me.0 in let b = c.bring.ensures in let x = c.requires.out.0 in

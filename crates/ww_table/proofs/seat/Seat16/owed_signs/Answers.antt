@@ -16,4 +16,4 @@ pub returns-clause-owed : goal.returns-clause-owed
 returns-clause-owed c = let b = c.bring_list-slot.ensures in c.owed_there.ensures.owed _ (list_on_top _ _ _ _ b.read b.slot) ∙ ap (λ (s : Seat16). owed_signs s.kind c.args.seen c.args.self.now.seat.me.0.part.core.list s.who) b.same
 
 pub returns-clause-seat : goal.returns-clause-seat
-returns-clause-seat c = seated_still _ _ _ (c.bring_list-slot.ensures.seat _ c.requires.seat) c.owed_there.ensures.home.0 c.owed_there.ensures.same refl refl refl refl refl refl
+returns-clause-seat c = seated_still _ _ _ (c.bring_list-slot.ensures.seat _ c.requires.seat) c.owed_there.ensures.home.0 c.owed_there.ensures.same refl refl refl refl refl refl refl

@@ -10,8 +10,8 @@ use Rattle.ww_rule.specs.Waiting.{SeesWaiters, taking_inside, below}
 use Rattle.ww_rule.proofs.InsideSteps.{takes_brought}
 use Rattle.ww_rule.proofs.InsideTurning.{others_long, on_top}
 use Rattle.ww_rule.proofs.Turning.{numbers_long, popped}
-use Rattle.ww_table.proofs.OnTop.{number_before, has_left}
-use Rattle.ww_table.proofs.Seated.{seated_as}
+use Rattle.ww_table.proofs.OnTop.{number_before, has_left, has_page}
+use Rattle.ww_table.proofs.Seated.{seated_as, seated_paged}
 use Rattle.ww_table.proofs.seat.Seat16.take.Goals as goal
 
 pub compare_exchange-found-requires : goal.compare_exchange-found-requires
@@ -30,7 +30,7 @@ returns-then-found-old-clause-lost c = let t = c.own_left-owner.ensures.read in
 pub returns-then-found-old-clause-seat : goal.returns-then-found-old-clause-seat
 returns-then-found-old-clause-seat c = let r = c.own_left-owner.ensures in
     let miss = (c.compare_exchange-found.ensures.2 c.args.lock c.args.seen (c.owner_word.ensures, c.requires.valid, c.pack-old.ensures)).1 (λ z. c.if-found-old.true (z ∙ sym c.pack-old.ensures)) in
-    seated_as _ _ _ (lost c.own_left-owner.new.self.seat.me.0) r.seat c.compare_exchange-found.ensures.0 (ap (λ (m : Sat). m.0) miss) refl refl refl refl refl refl refl refl refl refl refl (r.seat.order ∙ ap numbers_of (sym (ap (λ (m : Sat). m.1) miss)))
+    seated_as _ _ _ (lost c.own_left-owner.new.self.seat.me.0) r.seat c.compare_exchange-found.ensures.0 (ap (λ (m : Sat). m.0) miss) refl refl refl refl refl refl refl refl refl refl refl refl refl (r.seat.order ∙ ap numbers_of (sym (ap (λ (m : Sat). m.1) miss)))
 
 -- once the last one was taken off, the numbers of the slots that are out but for the list
 pub push-requires : goal.push-requires
@@ -62,7 +62,7 @@ returns-clause-seat c = let r = c.own_left-owner.ensures in let t = r.read in le
     let list = has_left _ (node ∷ t.others) _ c.args.lock _ v.part.core.who _ v.part.core.list (ap (λ (m : Sat). m.1) hit.2 ∙ ap (λ (m : Sat). below node m.1) t.now) c.list_slot-slot.ensures (number_before _ _ _ _ r.seat t) g.list in
     let p = c.pop.ensures in let items = popped _ (numbers_of t.others) c.pop.new.self.items (64 + c.args.lock) c.pop.result (r.seat.order ∙ ap (λ (m : Sat). numbers_of m.1) t.now) p.items p.variant.1 in
     let order = c.push-2.ensures.items ∙ (λ i. (c.push.ensures.items ∙ ap (λ (k : List ℕ). k ++ c.args.lock ∷ []) items) i ++ c.list_slot-slot.ensures i ∷ []) in
-    seated_as _ _ _ (taking_inside c.own_left-owner.new.self.seat.me.0 c.args.lock hit.0) r.seat (g.home.0 ∙ c.compare_exchange-found.ensures.0) (g.view ∙ ap (λ (m : Sat). m.0) hit.2) refl refl refl refl refl refl refl refl refl refl refl
+    seated_paged _ _ _ (taking_inside c.own_left-owner.new.self.seat.me.0 c.args.lock hit.0) r.seat (g.home.0 ∙ c.compare_exchange-found.ensures.0) (g.view ∙ ap (λ (m : Sat). m.0) hit.2) refl refl refl refl refl refl (λ _. (g.page v.part.core.list (on_top _ (node ∷ t.others) (64 + c.args.lock) _ (Line v.part.core.list) (ap (λ (m : Sat). m.1) hit.2 ∙ ap (λ (m : Sat). below node m.1) t.now) c.list_slot-slot.ensures)).1 (has_page _ _ _ _ _ r.seat t hit.3 c.take-page.ensures.value)) refl refl refl refl refl
     (order ∙ ap numbers_of (sym list))
 
 pub returns-then-found-old-clause-sure : goal.returns-then-found-old-clause-sure

@@ -11,7 +11,7 @@ node_there-requires-clause-top c = let t = c.requires.top in (t.0, on_top c.args
 
 pub returns-clause-seat : goal.returns-clause-seat
 returns-clause-seat c = let g = c.node_there.ensures in let s = c.requires.seat in
-    seated_as _ c.args.self.now _ _ s g.home.0 (ap (λ (m : Sat). m.0) g.same) refl refl refl refl refl refl refl refl refl refl refl (s.order ∙ ap (λ (m : Sat). numbers_of m.1) (sym g.same))
+    seated_as _ c.args.self.now _ _ s g.home.0 (ap (λ (m : Sat). m.0) g.same) refl refl refl refl refl refl refl refl refl refl refl refl refl (s.order ∙ ap (λ (m : Sat). numbers_of m.1) (sym g.same))
 
 pub returns-clause-read : goal.returns-clause-read
 returns-clause-read c = let t = c.requires.top in let g = c.node_there.ensures in let v = c.args.self.now.seat.me.0 in
