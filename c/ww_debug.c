@@ -181,9 +181,12 @@ static void look(const struct ww_pool *p, struct view *v)
 			v->awaits[k] = holder;
 		}
 	}
-	for (uint32_t n = 0; n < p->mutexes; n++)
-		if (holder_of(p, n))
-			v->holds[holder_of(p, n) - 1] = true;
+	for (uint32_t n = 0; n < p->mutexes; n++) {
+		uint32_t holder = holder_of(p, n);
+
+		if (holder)
+			v->holds[holder - 1] = true;
+	}
 }
 
 /* From each seat along what it waits for, at most once around. */

@@ -331,9 +331,10 @@ bool ww_tries_more_(struct ww_acquire_ctx *x)
 	return true;
 }
 
+/* Without ww_until_all_locked nothing tells what was acquired, so nothing is released. */
 void ww_acquire_unlock_all(struct ww_acquire_ctx *x)
 {
-	while (x->newest)
+	while (x->seat != x->own && x->newest)
 		ww_mutex_unlock(x->newest);
 }
 

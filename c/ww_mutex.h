@@ -195,7 +195,11 @@ void ww_acquire_flags(struct ww_acquire_ctx *ctx, unsigned int flags);
  * and has to release it.
  */
 WW_MUST_CHECK int ww_mutex_lock_all(struct ww_acquire_ctx *ctx, struct ww_mutex *const *locks, size_t count);
-/* Releases all that the context acquired since ww_until_all_locked, the newest first. */
+/*
+ * Releases all that the context acquired since ww_until_all_locked, the newest first.
+ * A context without such a loop releases each mutex by ww_mutex_unlock, also after
+ * ww_mutex_lock_all: for it this call releases nothing.
+ */
 void ww_acquire_unlock_all(struct ww_acquire_ctx *ctx);
 
 /*

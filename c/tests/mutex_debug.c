@@ -208,6 +208,49 @@ static void prints(FILE *to)
 	end_thread(threads[1]);
 }
 
+static DEFINE_WW_CLASS(busy);
+static struct ww_mutex shared[3];
+static bool is_over;
+
+/* One context after the other, each with two of three mutexes. */
+static void *transacts(void *arg)
+{
+	unsigned n = (unsigned)(size_t)arg;
+
+	for (unsigned k = n; !__atomic_load_n(&is_over, __ATOMIC_RELAXED); k++) {
+		struct ww_mutex *two[2] = { &shared[k % 3], &shared[(k + 1 + n % 2) % 3] };
+		struct ww_acquire_ctx z;
+
+		ww_acquire_init(&z, &busy);
+		MUST(!ww_mutex_lock_all(&z, two, 2));
+		ww_mutex_unlock(two[0]);
+		ww_mutex_unlock(two[1]);
+		ww_acquire_fini(&z);
+	}
+	return NULL;
+}
+
+/* The waits can be written out while others acquire and release. */
+static void prints_beside_others(void)
+{
+	FILE *to = fopen("/dev/null", "w");
+	pthread_t threads[4];
+
+	MUST(to && !ww_class_limit(&busy, 8, 8));
+	for (unsigned k = 0; k < 3; k++)
+		ww_mutex_init(&shared[k], &busy);
+	for (size_t k = 0; k < 4; k++)
+		threads[k] = begin_thread(transacts, (void *)k);
+	for (unsigned k = 0; k < 20000; k++)
+		ww_class_print(&busy, to);
+	__atomic_store_n(&is_over, true, __ATOMIC_RELAXED);
+	for (unsigned k = 0; k < 4; k++)
+		end_thread(threads[k]);
+	for (unsigned k = 0; k < 3; k++)
+		MUST(!ww_mutex_destroy(&shared[k]));
+	MUST(!ww_class_free(&busy) && !fclose(to));
+}
+
 int main(int count, char **words)
 {
 	if (count > 1 && !strcmp(words[1], "waits")) {
@@ -233,6 +276,7 @@ int main(int count, char **words)
 	tells(unlocks_in_vain, "ww_mutex_unlock: nobody holds the mutex");
 	tells(unlocked_by_another, "ww_mutex_unlock: another thread acquired the mutex");
 	goes_on();
+	prints_beside_others();
 	MUST(!ww_debug_faults() && !ww_class_free(&c));
 	puts("mutex_debug: each fault is told with its line");
 	return 0;
