@@ -1,5 +1,5 @@
 -- The seats of passes, as a world is closed.
-use Rattle.std.proofs.Common.{◌≡◌, ℕ, zero, suc, ◌<◌, ◌≤◌, eqb, true, true≢false, inl, inr, List, [], ◌∷◌, ◌++◌, length, refl, sym, ap, subst, ◌∙◌, arith, None, Some}
+use Rattle.std.proofs.Common.{◌≡◌, ℕ, zero, suc, ◌<◌, ◌≤◌, eqb, true, true≢false, inl, inr, List, [], ◌∷◌, ◌++◌, length, refl, sym, ap, subst, ◌∙◌, arith}
 use mathlib.Core.Option.{some}
 use lib.ListN.{get_elem?}
 use Rattle.std.specs.List.{AllByRecursion}
@@ -15,7 +15,6 @@ use Rattle.ww_rule.specs.declared.cells.Start.{Start}
 use Rattle.ww_table.specs.declared.seat.Seat16.{Seat16}
 use Rattle.ww_model.specs.State.{one_if}
 use Rattle.ww_rule.specs.Rule.{first_graph, times}
-use Rattle.ww_rule.specs.Out.{slot_of}
 use Rattle.ww_table.specs.Closed.{HasCome, HaveAllCome, HasPlaces}
 use Rattle.ww_table.specs.Closed as table
 use Rattle.atomic_table.specs.Seated.{TableId}
@@ -47,7 +46,11 @@ pub below_own : (place : ℕ) (records : List (ℕ × Record)) → AllByRecursio
 below_own place [] all = tt
 below_own place (r ∷ rs) all = (all.0, below_own place rs all.1)
 
-own_below : (place : ℕ) (records : List (ℕ × Record)) → AreBelow place (own_of records) → AllByRecursion (λ q. q.0 < place) records
+pub below_further : (m n : ℕ) (own : List (ℕ × Recorded)) → m ≤ n → AreBelow m own → AreBelow n own
+below_further m n [] low all = tt
+below_further m n (p ∷ ps) low all = (let h = all.0 in omega arith, below_further m n ps low all.1)
+
+pub own_below : (place : ℕ) (records : List (ℕ × Record)) → AreBelow place (own_of records) → AllByRecursion (λ q. q.0 < place) records
 own_below place [] all = tt
 own_below place (r ∷ rs) all = (all.0, own_below place rs all.1)
 

@@ -1,4 +1,4 @@
-ghost use Rattle.std.specs.Prelude.{◌≡◌, ◌≤◌, ◌^◌, [], length, vec_len, vec_capacity};
+ghost use Rattle.std.specs.Prelude.{ℕ, ◌≡◌, ◌≤◌, ◌^◌, [], length, vec_len, vec_capacity};
 ghost use Rattle.ww_lock.specs.Closed.{has_pass, missing_of, IsSeatOf, AreSeatsOf, AreAllBelow};
 
 use crate::pass::Pass;
@@ -92,7 +92,8 @@ fn has_pass(passes: &[Pass], caller: u8) -> bool
 
 /// One more than the greatest place of all commits of the passes.
 fn reach(passes: &[Pass]) -> usize
-    ensures { AreAllBelow result passes.now }
+    ensures all { AreAllBelow result passes.now }
+    ensures exact { (n : ℕ) → AreAllBelow n passes.now → result ≤ n }
 {
     let mut reach = 0;
     for pass in passes {
@@ -114,7 +115,7 @@ fn seats_of(passes: Vec<Pass>, mut seats: Vec<Seat16>) -> Vec<Seat16>
 }
 
 impl Pass {
-    ghost use Rattle.std.specs.Prelude.{◌≤◌};
+    ghost use Rattle.std.specs.Prelude.{ℕ, ◌≤◌};
     ghost use Rattle.ww_lock.specs.Holding.{AreBelow};
     ghost use Rattle.ww_lock.specs.Closed.{IsSeatOf};
 
@@ -122,6 +123,7 @@ impl Pass {
     fn reach(&self, least: usize) -> usize
         ensures least { least ≤ result }
         ensures all { AreBelow result self.now.own }
+        ensures exact { (n : ℕ) → least ≤ n → AreBelow n self.now.own → result ≤ n }
     {
         self.hand.seat.reach(least)
     }

@@ -1,5 +1,5 @@
 -- Closing a table: the records in the order of their places.
-use Rattle.std.proofs.Common.{◌≡◌, ◌≢◌, ℕ, zero, suc, ◌+◌, ◌<◌, Bool, true, false, eqb, List, [], ◌∷◌, ◌++◌, length, take, get_or, sym, refl, ap, ◌∙◌, subst, ⊎_elim, inl, inr, arith, Option, Some, None, length-append}
+use Rattle.std.proofs.Common.{◌≡◌, ◌≢◌, ℕ, zero, suc, ◌+◌, Bool, true, false, eqb, List, [], ◌∷◌, ◌++◌, length, sym, refl, ap, ◌∙◌, subst, ⊎_elim, inl, inr, arith, Option, Some, None, length-append}
 use Rattle.std.specs.Bool.{if◌then◌else◌}
 use Rattle.std.specs.List.{AllByRecursion}
 use mathlib.Core.Option.{some, some-injective}
@@ -103,11 +103,6 @@ laid_is log parts places laid owns all = somes_are places log
         ap (get_elem? log) (let z : i ≡ p.0 = (let y = p.1 in omega arith) in z) ∙ p.2
 
 -- ---- seats that are joined
-
-pub take_all : {A : Type 0} (P : A → Type 0) (xs : List A) (i : ℕ) (x : A) → i < length xs → x ≡ get_or xs i x → AllByRecursion P (take i xs) → P x → AllByRecursion P (take (i + 1) xs)
-take_all P [] i x small is all here = absurd (omega arith)
-take_all P (y ∷ ys) zero x small is all here = (subst P is here, tt)
-take_all P (y ∷ ys) (suc i) x small is all here = subst (λ (k : ℕ). AllByRecursion P (take k (y ∷ ys))) (let z : suc (i + 1) ≡ suc i + 1 = omega arith in z) (all.0, take_all P ys i x (omega arith) is all.1 here)
 
 pub all_more : {A : Type 0} (P Q : A → Type 0) → ((x : A) → P x → Q x) → (xs : List A) → AllByRecursion P xs → AllByRecursion Q xs
 all_more P Q more [] all = tt
