@@ -302,6 +302,7 @@ reserved_seated table s s' was is same = subst (IsSeated table) (sym is) (record
   records = same ∙ was.records;
   alone = was.alone;
   places = subst (AllByRecursion (λ (p : ℕ × Record). p.0 < 2 ^ 37)) (sym same) was.places;
+  page = was.page;
 })
 
 pub reserved_did : (board : Board) (d : Deeds) (s s' : Seat16) → Did board d s → s' ≡ record s { records = s'.records } → s'.records.items ≡ s.records.items → Did board d s'
