@@ -177,6 +177,7 @@ impl<'a, R: Wait + Abort> Watch<'a, R> {
         let Ok(Some(Probe { world, pass })) = self.probe.try_replace(None) else {
             panic!(self.rt; "the probe is in use")
         };
+        assert!(self.rt; world.size() > 0);
         let (pass, is_busy) = tries(self.rt, world, pass, 0);
         assert!(self.rt; self.probe.try_replace(Some(Probe { world, pass })).is_ok());
         is_busy
