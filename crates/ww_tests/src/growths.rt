@@ -6,9 +6,8 @@ ghost use Rattle.std.specs.Prelude.{◌≡◌, IfOk};
 ghost use Rattle.ww_lock.specs.Holding.{IsAtHome, AreAtHome};
 
 use crate::locks::{begun, full_graph, locked};
-use crate::transactions::{asked, asked_interruptible, get, values};
+use crate::transactions::{counted, get, values};
 use std::alloc::{AllocError, Global};
-use std::cell::Cell;
 use std::process::Abort;
 use std::sync::Wait;
 use std::test::Fail;
@@ -18,7 +17,7 @@ use ww_lock::{CloseFault, Done, History, OpenFault, Pass, Prepared, Receipt, Sol
 use ww_plain::{By, Graph, Reply, Txn, replays};
 use ww_queue::Kind;
 use ww_test_parts::{KINDS, add, graph_of, is_possible, is_possible_alone};
-use ww_txn::{Gate, TxnFault};
+use ww_txn::TxnFault;
 
 /// A graph of nodes with these values. Where a growth is refused, it is made once more.
 fn nodes_of(alloc: Global, nodes: &[(u64, Option<u8>)]) -> Result<Graph, AllocError> {
@@ -200,49 +199,6 @@ fn a_solo_prepares_a_peek(rt: HostRuntime) -> Result<(), Fail> {
     Ok(())
 }
 
-/// A gate that counts how often it is told of a commit, before and behind.
-#[derive(Drop)]
-struct Counts {
-    asked: Cell<u64>,
-    answered: Cell<u64>,
-}
-
-impl Gate for Counts {
-    fn before_commit(&self, _caller: u8, _seq: u64) {
-        self.asked.set(self.asked.get().wrapping_add(1));
-    }
-
-    fn answered(&self, _caller: u8, _seq: u64) {
-        self.answered.set(self.answered.get().wrapping_add(1));
-    }
-}
-
-/// Asks for a transaction, whose waits may be called off or not. The gate is told of it, once before its commit and
-/// once behind, where it is made, and isn't where it is refused.
-fn told<R: Wait + Abort>(
-    rt: &R,
-    world: &World,
-    pass: Pass,
-    txn: Txn,
-    heeds: bool,
-) -> (Pass, Result<Receipt, TxnFault>)
-    requires home { IsAtHome pass world.now }
-    ensures home { IsAtHome result.0 world.now }
-{
-    let counts = Counts {
-        asked: Cell::new(0),
-        answered: Cell::new(0),
-    };
-    let (pass, told) = if heeds {
-        asked_interruptible(rt, world, pass, &counts, txn)
-    } else {
-        asked(rt, world, pass, &counts, txn)
-    };
-    let times = u64::from(told.is_ok());
-    assert!(rt; counts.asked.get() == times && counts.answered.get() == times);
-    (pass, told)
-}
-
 /// Makes a transaction. Where a growth is refused, one context or solo is spent, and nothing is committed.
 fn made<R: Wait + Abort>(
     rt: &R,
@@ -256,14 +212,14 @@ fn made<R: Wait + Abort>(
 {
     let [txn, again] = txns;
     let before = (pass.left(), pass.commits());
-    let (pass, told_first) = told(rt, world, pass, txn, heeds);
-    let fault = match told_first {
+    let (pass, told) = counted(rt, world, pass, txn, heeds);
+    let fault = match told {
         Ok(receipt) => return (pass, receipt),
         Err(fault) => fault,
     };
     assert!(rt; fault == TxnFault::NoMemory && fault.number() == 6);
     assert!(rt; (pass.left().saturating_add(1), pass.commits()) == before);
-    match told(rt, world, pass, again, heeds) {
+    match counted(rt, world, pass, again, heeds) {
         (pass, Ok(receipt)) => (pass, receipt),
         (_, Err(fault)) => panic!(rt; "{fault:?}"),
     }
