@@ -109,6 +109,10 @@ fn in_a_row<R: Wait + Abort>(rt: &R, alloc: Global, kind: Kind) -> Result<(), Fa
     let one = taken(rt, &world, one, 0, 114);
     let two = cancelled(rt, &world, two, 1, true);
     let one = ended(rt, &world, one);
+    let waited = one.waited();
+    assert!(rt;
+        waited.lost == 1 && waited.looks == 1 && waited.sleeps == 0 && waited.back_offs == 0
+    );
     let history = closed(rt, world, vec![in alloc; zero, one, two]?);
     assert!(rt; history.records.is_empty());
     Ok(())
