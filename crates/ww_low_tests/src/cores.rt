@@ -181,6 +181,31 @@ fn a_ring_closes_and_is_broken_step_by_step(rt: HostRuntime) -> Result<(), Fail>
     Ok(())
 }
 
+/// Seat 0 owns the lock, and seat 1, which waits for it, is called off once more after it has heeded a cancel. After each
+/// event it is looked which cancel of seat 1 is pending; the last one stays.
+const CALLED_OFF_TWICE: [(Event, Answer, u8); 10] = [
+    (Event::Begin(0), Answer::Stamp(1), 0),
+    (Event::Begin(1), Answer::Stamp(2), 0),
+    (Event::Fast(0, 0), Answer::Locked, 0),
+    (Event::Guard(1, 0), Answer::Done, 0),
+    (Event::Join(1, 0), Answer::Done, 0),
+    (Event::Cancel(0, 1), Answer::Done, 1),
+    (Event::Heed(1, 0), Answer::Done, 0),
+    (Event::Cancel(0, 1), Answer::Done, 1),
+    (Event::Leave(1, 0), Answer::Interrupted(0), 1),
+    (Event::Unguard(1, 0), Answer::Done, 1),
+];
+
+#[test]
+fn a_cancel_that_was_set_after_another_was_heeded_stays(rt: HostRuntime) -> Result<(), Fail> {
+    let mut core = Core::new(rt.alloc(), Kind::WoundWait, 1, 2)?;
+    for (event, told, cancel) in CALLED_OFF_TWICE {
+        assert!(rt; core.step(event).ok() == Some(told));
+        assert!(rt; core.seats() == 2 && (core.cancel_of(0), core.cancel_of(1)) == (0, cancel));
+    }
+    Ok(())
+}
+
 #[test]
 fn a_replay_ends_at_the_first_event_that_is_impossible(rt: HostRuntime) -> Result<(), Fail> {
     let events = [

@@ -288,11 +288,11 @@ fn an_outcome_has_its_text(rt: HostRuntime) -> Result<(), Fail> {
 }
 
 /// What came of one empty script on one node of 5.
-fn empty_outcome(alloc: Global) -> Result<Outcome, AllocError> {
+fn empty_outcome(alloc: Global, version: Version) -> Result<Outcome, AllocError> {
     Ok(Outcome {
         replies: vec![in alloc; Vec::new(alloc)]?,
         places: None,
-        ports: Version::Two.ports(),
+        ports: version.ports(),
         graph: graph_of(alloc, &[node(5, None)])?,
     })
 }
@@ -300,8 +300,11 @@ fn empty_outcome(alloc: Global) -> Result<Outcome, AllocError> {
 #[test]
 fn an_empty_outcome_has_its_text(rt: HostRuntime) -> Result<(), Fail> {
     let alloc = rt.alloc();
-    let outcome = twice(|| empty_outcome(alloc))?;
-    let text = twice(|| outcome_text(alloc, &outcome))?;
+    let one = twice(|| empty_outcome(alloc, Version::One))?;
+    let text = twice(|| outcome_text(alloc, &one))?;
+    assert!(rt; text.as_slice() == b"node 0 5 - - - -\n".as_slice());
+    let two = twice(|| empty_outcome(alloc, Version::Two))?;
+    let text = twice(|| outcome_text(alloc, &two))?;
     assert!(rt; text.as_slice() == b"node 0 5 - - - - - - - -\n".as_slice());
     Ok(())
 }

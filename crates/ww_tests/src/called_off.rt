@@ -6,7 +6,7 @@ ghost use Rattle.ww_lock.specs.Holding.{IsAtHome};
 ghost use Rattle.ww_users.specs.Turns.{IsHaltingTurn};
 
 use crate::locks::{begun, closed, locked};
-use crate::transactions::asked_interruptible;
+use crate::transactions::counted;
 use crate::users::{covered, refused};
 use std::alloc::{AllocError, Global};
 use std::process::Abort;
@@ -16,7 +16,7 @@ use ww_lock::{Acquiring, Backoff, Contended, Interruptible, Pass, World};
 use ww_plain::{By, Reply, Txn};
 use ww_queue::Kind;
 use ww_test_parts::{KINDS, add, chain, ended, three_passes};
-use ww_txn::{Open, TxnFault};
+use ww_txn::TxnFault;
 use ww_users::{
     UserFault, lock_list_interruptible, lock_order_interruptible, lock_until_interruptible,
     lock_walk_interruptible,
@@ -109,6 +109,10 @@ fn in_a_row<R: Wait + Abort>(rt: &R, alloc: Global, kind: Kind) -> Result<(), Fa
     let one = taken(rt, &world, one, 0, 114);
     let two = cancelled(rt, &world, two, 1, true);
     let one = ended(rt, &world, one);
+    let waited = one.waited();
+    assert!(rt;
+        waited.lost == 1 && waited.looks == 1 && waited.sleeps == 0 && waited.back_offs == 0
+    );
     let history = closed(rt, world, vec![in alloc; zero, one, two]?);
     assert!(rt; history.records.is_empty());
     Ok(())
@@ -296,12 +300,12 @@ fn a_body_is_called_off(rt: HostRuntime) -> Result<(), Fail> {
     Ok(())
 }
 
-/// A transaction that is answered this fault.
+/// A transaction that is answered this fault, and of which its gate isn't told.
 fn faulted<R: Wait + Abort>(rt: &R, world: &World, pass: Pass, txn: Txn, fault: TxnFault) -> Pass
     requires home { IsAtHome pass world.now }
     ensures home { IsAtHome result world.now }
 {
-    let (pass, told) = asked_interruptible(rt, world, pass, &Open, txn);
+    let (pass, told) = counted(rt, world, pass, txn, true);
     assert!(rt; told.err() == Some(fault));
     pass
 }
@@ -322,7 +326,7 @@ fn transacted<R: Wait + Abort>(rt: &R, alloc: Global, kind: Kind) -> Result<(), 
     let zero = ended(rt, &world, zero);
     assert!(rt; one.left() == 1 && one.commits() == 0);
     let txn = add(alloc, By::List, &[(0, 1), (1, 1)])?;
-    let (one, told) = asked_interruptible(rt, &world, one, &Open, txn);
+    let (one, told) = counted(rt, &world, one, txn, true);
     let told = told.ok().ok_or("it is made")?;
     assert!(rt; told.place == 0 && told.seq == 0 && told.reply == Reply::Done);
     let two = cancelled(rt, &world, two, 1, true);

@@ -5,10 +5,10 @@
 ghost use Rattle.std.specs.Prelude.{◌≡◌, IfOk};
 ghost use Rattle.ww_lock.specs.Holding.{IsAtHome, AreAtHome};
 
+use crate::called_off::cancelled;
 use crate::locks::{begun, full_graph, locked};
-use crate::transactions::{asked, asked_interruptible, get, values};
+use crate::transactions::{counted, get, values};
 use std::alloc::{AllocError, Global};
-use std::cell::Cell;
 use std::process::Abort;
 use std::sync::Wait;
 use std::test::Fail;
@@ -18,7 +18,10 @@ use ww_lock::{CloseFault, Done, History, OpenFault, Pass, Prepared, Receipt, Sol
 use ww_plain::{By, Graph, Reply, Txn, replays};
 use ww_queue::Kind;
 use ww_test_parts::{KINDS, add, graph_of, is_possible, is_possible_alone};
-use ww_txn::{Gate, TxnFault};
+use ww_txn::TxnFault;
+
+/// How many transactions each of two passes makes that take turns.
+const TURNS: u32 = 100;
 
 /// A graph of nodes with these values. Where a growth is refused, it is made once more.
 fn nodes_of(alloc: Global, nodes: &[(u64, Option<u8>)]) -> Result<Graph, AllocError> {
@@ -200,49 +203,6 @@ fn a_solo_prepares_a_peek(rt: HostRuntime) -> Result<(), Fail> {
     Ok(())
 }
 
-/// A gate that counts how often it is told of a commit, before and behind.
-#[derive(Drop)]
-struct Counts {
-    asked: Cell<u64>,
-    answered: Cell<u64>,
-}
-
-impl Gate for Counts {
-    fn before_commit(&self, _caller: u8, _seq: u64) {
-        self.asked.set(self.asked.get().wrapping_add(1));
-    }
-
-    fn answered(&self, _caller: u8, _seq: u64) {
-        self.answered.set(self.answered.get().wrapping_add(1));
-    }
-}
-
-/// Asks for a transaction, whose waits may be called off or not. The gate is told of it, once before its commit and
-/// once behind, where it is made, and isn't where it is refused.
-fn told<R: Wait + Abort>(
-    rt: &R,
-    world: &World,
-    pass: Pass,
-    txn: Txn,
-    heeds: bool,
-) -> (Pass, Result<Receipt, TxnFault>)
-    requires home { IsAtHome pass world.now }
-    ensures home { IsAtHome result.0 world.now }
-{
-    let counts = Counts {
-        asked: Cell::new(0),
-        answered: Cell::new(0),
-    };
-    let (pass, told) = if heeds {
-        asked_interruptible(rt, world, pass, &counts, txn)
-    } else {
-        asked(rt, world, pass, &counts, txn)
-    };
-    let times = u64::from(told.is_ok());
-    assert!(rt; counts.asked.get() == times && counts.answered.get() == times);
-    (pass, told)
-}
-
 /// Makes a transaction. Where a growth is refused, one context or solo is spent, and nothing is committed.
 fn made<R: Wait + Abort>(
     rt: &R,
@@ -256,20 +216,21 @@ fn made<R: Wait + Abort>(
 {
     let [txn, again] = txns;
     let before = (pass.left(), pass.commits());
-    let (pass, told_first) = told(rt, world, pass, txn, heeds);
-    let fault = match told_first {
+    let (pass, told) = counted(rt, world, pass, txn, heeds);
+    let fault = match told {
         Ok(receipt) => return (pass, receipt),
         Err(fault) => fault,
     };
     assert!(rt; fault == TxnFault::NoMemory && fault.number() == 6);
     assert!(rt; (pass.left().saturating_add(1), pass.commits()) == before);
-    match told(rt, world, pass, again, heeds) {
+    match counted(rt, world, pass, again, heeds) {
         (pass, Ok(receipt)) => (pass, receipt),
         (_, Err(fault)) => panic!(rt; "{fault:?}"),
     }
 }
 
-/// Makes it in a world of budget 2, whose history has it then.
+/// Makes it in a world of budget 2, whose history has it then. A cancel is pending where its waits may be called off, and
+/// stays so, since it waits for nothing.
 fn made_once<R: Wait + Abort>(
     rt: &R,
     alloc: Global,
@@ -282,7 +243,14 @@ fn made_once<R: Wait + Abort>(
     let Some(pass) = passes.pop() else {
         return Err(Fail::from("there is a pass"));
     };
+    let pass = if heeds {
+        let pass = cancelled(rt, &world, pass, 0, false);
+        cancelled(rt, &world, pass, 0, true)
+    } else {
+        pass
+    };
     let (pass, told) = made(rt, &world, pass, txns, heeds);
+    let pass = cancelled(rt, &world, pass, 0, heeds);
     assert!(rt; told.place == 0 && told.seq == 0 && told.reply == *reply);
     assert!(rt; pass.commits() == 1);
     passes.push(pass)?;
@@ -355,7 +323,7 @@ fn a_peek_is_made(rt: HostRuntime) -> Result<(), Fail> {
     Ok(())
 }
 
-/// Two passes take turns, four times: each adds 1 to both nodes, in an order of its own.
+/// Two passes take turns, a hundred times: each adds 1 to both nodes, in an order of its own.
 fn take_turns<R: Wait + Abort>(
     rt: &R,
     alloc: Global,
@@ -369,7 +337,7 @@ fn take_turns<R: Wait + Abort>(
     ensures one { IfOk result (λ r. IsAtHome r.1 world.now) }
 {
     let (up, down) = ([(0, 1), (1, 1)], [(1, 1), (0, 1)]);
-    for _ in 0..4 {
+    for _ in 0..TURNS {
         zero = made(
             rt,
             world,
@@ -392,7 +360,7 @@ fn take_turns<R: Wait + Abort>(
 
 /// What two passes made of this graph of two nodes.
 fn made_in_turns<R: Wait + Abort>(rt: &R, alloc: Global, graph: Graph) -> Result<History, Fail> {
-    let (world, mut passes) = opened(rt, alloc, Kind::WaitDie, graph, 2, 5);
+    let (world, mut passes) = opened(rt, alloc, Kind::WaitDie, graph, 2, TURNS + 1);
     let (Some(one), Some(zero)) = (passes.pop(), passes.pop()) else {
         return Err(Fail::from("there are two passes"));
     };
@@ -407,11 +375,11 @@ fn what_two_made_in_turns_replays(rt: HostRuntime) -> Result<(), Fail> {
     let alloc = rt.alloc();
     let graph = nodes_of(alloc, &[(0, None), (0, None)])?;
     let history = made_in_turns(&rt, alloc, copied(alloc, &graph)?)?;
-    assert!(rt; history.records.len() == 8);
+    assert!(rt; history.records.len() == 200);
     assert!(rt;
         history
             .graph
-            .is_same(&nodes_of(alloc, &[(8, None), (8, None)])?)
+            .is_same(&nodes_of(alloc, &[(200, None), (200, None)])?)
     );
     let last = match replays(alloc, copied(alloc, &graph)?, &history.records) {
         Ok(last) => last,

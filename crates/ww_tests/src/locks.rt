@@ -260,6 +260,29 @@ fn younger_holder_backs_off(rt: HostRuntime) -> Result<(), Fail> {
     Ok(())
 }
 
+/// A pass that took its lock at once didn't wait. The younger one lost its try for that lock, and was told EDEADLK in its
+/// only look.
+#[test]
+fn each_pass_tells_how_it_waited(rt: HostRuntime) -> Result<(), Fail> {
+    let (world, zero, one) = two_passes(rt.alloc(), Kind::WaitDie, &[(7, None), (8, None)])?;
+    assert!(rt; world.size() == 2);
+    let zero = locked(&rt, &world, begun(&rt, &world, zero), 0, 0);
+    let one = locked(&rt, &world, begun(&rt, &world, one), 1, 0);
+    let one = refused(&rt, &world, one, 0).unlock_all(&rt, &world);
+    let (zero, one) = (ended(&rt, &world, zero), one.fini(&world));
+    let waited = zero.waited();
+    assert_eq!(rt;
+        (waited.lost, waited.looks, waited.sleeps, waited.back_offs),
+        (0, 0, 0, 0)
+    );
+    let waited = one.waited();
+    assert_eq!(rt;
+        (waited.lost, waited.looks, waited.sleeps, waited.back_offs),
+        (1, 1, 0, 1)
+    );
+    Ok(())
+}
+
 /// Pass 1 takes node 1, and then begins anew with node 0: its stamp is what it was, and node 1 is free again.
 fn started_over<R: Wait + Abort>(rt: &R, alloc: Global, kind: Kind) -> Result<(), Fail> {
     let (world, zero, one) = two_passes(alloc, kind, &[(7, None), (8, None)])?;

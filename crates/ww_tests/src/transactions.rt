@@ -32,7 +32,7 @@ pub(crate) fn asked<R: Wait + Abort, G: Gate>(
 }
 
 /// Asks for a transaction whose waits may be called off.
-pub(crate) fn asked_interruptible<R: Wait + Abort, G: Gate>(
+fn asked_interruptible<R: Wait + Abort, G: Gate>(
     rt: &R,
     world: &World,
     pass: Pass,
@@ -47,6 +47,49 @@ pub(crate) fn asked_interruptible<R: Wait + Abort, G: Gate>(
         Txn::Peek(_) => panic!(rt; "a peek can't be called off"),
         txn => transact_interruptible(world, pass, rt, gate, txn),
     }
+}
+
+/// A gate that counts how often it is told of a commit, before and behind.
+#[derive(Drop)]
+struct Counts {
+    asked: Cell<u64>,
+    answered: Cell<u64>,
+}
+
+impl Gate for Counts {
+    fn before_commit(&self, _caller: u8, _seq: u64) {
+        self.asked.set(self.asked.get().wrapping_add(1));
+    }
+
+    fn answered(&self, _caller: u8, _seq: u64) {
+        self.answered.set(self.answered.get().wrapping_add(1));
+    }
+}
+
+/// Asks for a transaction, whose waits may be called off or not. If it is made, the gate is told of it, once before its
+/// commit and once behind; if it is refused or called off, the gate isn't told.
+pub(crate) fn counted<R: Wait + Abort>(
+    rt: &R,
+    world: &World,
+    pass: Pass,
+    txn: Txn,
+    heeds: bool,
+) -> (Pass, Result<Receipt, TxnFault>)
+    requires home { IsAtHome pass world.now }
+    ensures home { IsAtHome result.0 world.now }
+{
+    let counts = Counts {
+        asked: Cell::new(0),
+        answered: Cell::new(0),
+    };
+    let (pass, told) = if heeds {
+        asked_interruptible(rt, world, pass, &counts, txn)
+    } else {
+        asked(rt, world, pass, &counts, txn)
+    };
+    let times = u64::from(told.is_ok());
+    assert!(rt; counts.asked.get() == times && counts.answered.get() == times);
+    (pass, told)
 }
 
 pub(crate) fn get(alloc: Global, by: By, nodes: &[u8]) -> Result<Txn, AllocError> {
@@ -177,7 +220,7 @@ impl<'a, R: Wait + Abort> Watch<'a, R> {
         let Ok(Some(Probe { world, pass })) = self.probe.try_replace(None) else {
             panic!(self.rt; "the probe is in use")
         };
-        assert!(self.rt; 0 < world.size());
+        assert!(self.rt; world.size() > 0);
         let (pass, is_busy) = tries(self.rt, world, pass, 0);
         assert!(self.rt; self.probe.try_replace(Some(Probe { world, pass })).is_ok());
         is_busy
