@@ -14,5 +14,3 @@ mod pairs;
 mod races;
 #[cfg(test)]
 mod reordered;
-#[cfg(test)]
-mod threads;
