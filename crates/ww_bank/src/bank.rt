@@ -10,11 +10,11 @@ use rand_pcg::Pcg32;
 use std::alloc::{AllocError, Global};
 use std::sync::Wait;
 use std::thread::Threads;
-use ww_caller::transfer;
-use ww_crew::run_crew;
 use ww_lock::{History, Pass, World};
 use ww_plain::{Graph, Node, PORTS};
 use ww_queue::Kind;
+use ww_scope::run_crew;
+use ww_transfer::transfer;
 
 /// How many threads there are, from 1 to 16, and how many transfers each tries to make, at least one.
 #[derive(Clone, Copy, Debug)]

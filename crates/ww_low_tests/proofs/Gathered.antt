@@ -7,8 +7,8 @@ use Rattle.ww_table.specs.declared.board.Board.{Board}
 use Rattle.ww_table.specs.declared.seat.Seat16.{Seat16}
 use Rattle.ww_table.specs.Seat.{IsNew, locks_of, size_of}
 use Rattle.ww_table.specs.Closed.{HasCome, HaveAllCome}
-use Rattle.ww_rounds.specs.Standing.{Deeds, Did, Stands, at_first}
-use Rattle.ww_rounds.proofs.Standing.{bare, first_stands, nothing_out}
+use Rattle.ww_table_loads.specs.Standing.{Deeds, Did, Stands, at_first}
+use Rattle.ww_table_loads.proofs.Standing.{bare, first_stands, nothing_out}
 use Rattle.ww_low_tests.specs.Gathered.{HaveCome}
 
 -- a seat that was made just now did nothing yet

@@ -4,7 +4,7 @@ use Rattle.ww_queue.specs.declared.kind.Kind.{Kind}
 use Rattle.ww_table.specs.declared.board.Board.{Board}
 use Rattle.ww_table.specs.declared.seat.Seat16.{Seat16}
 use Rattle.ww_table.specs.Seat.{IsNew}
-use Rattle.ww_rounds.specs.Standing.{Deeds, Did}
+use Rattle.ww_table_loads.specs.Standing.{Deeds, Did}
 use Rattle.ww_seat.specs.Orderly.{IsSettledAt}
 use Rattle.ww_seat.specs.declared.look.Arrival.{Arrival}
 use Rattle.ww_low_tests.specs.Looking.{Owns, Holds, MayLook}

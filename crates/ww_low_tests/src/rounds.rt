@@ -2,7 +2,7 @@
 
 ghost use Rattle.std.specs.Prelude.{◌≡◌, ◌≤◌, IfOk, IfSome};
 ghost use Rattle.std.specs.List.{AllByRecursion};
-ghost use Rattle.ww_rounds.specs.Standing.{Did, IsUnused, at_rest};
+ghost use Rattle.ww_table_loads.specs.Standing.{Did, IsUnused, at_rest};
 ghost use Rattle.ww_table.specs.Closed.{HasCome};
 ghost use Rattle.ww_low_tests.specs.Gathered.{HaveCome};
 
@@ -16,8 +16,8 @@ use std::thread;
 use std::thread::Threads;
 use ww_plain::{Graph, Node};
 use ww_queue::Kind;
-use ww_rounds::{Tally, round_of_two};
 use ww_table::{Board, Seat16};
+use ww_table_loads::{Tally, round_of_two};
 
 const TRIES: u32 = 1_000;
 

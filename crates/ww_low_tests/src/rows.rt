@@ -2,7 +2,7 @@
 
 ghost use Rattle.std.specs.Prelude.{◌≡◌, ◌∷◌, [], IfOk};
 ghost use Rattle.ww_table.specs.Seat.{size_of};
-ghost use Rattle.ww_rounds.specs.Standing.{Deeds, Did, at_first, began, took, committed, gave, ended};
+ghost use Rattle.ww_table_loads.specs.Standing.{Deeds, Did, at_first, began, took, committed, gave, ended};
 
 use crate::growths::twice;
 use crate::plain::node;
@@ -13,8 +13,8 @@ use std::process::Abort;
 use std::test::Fail;
 use ww_plain::{By, Record, Reply, Txn};
 use ww_queue::Kind;
-use ww_rounds::{begin, commit_one, end, give, take};
 use ww_table::{Board, Seat16};
+use ww_table_loads::{begin, commit_one, end, give, take};
 
 /// Both begin a context, and each takes a node: seat 1 the second, as the first isn't free.
 fn take_one_each<R: Abort>(rt: &R, board: &mut Board, zero: &mut Seat16, one: &mut Seat16)

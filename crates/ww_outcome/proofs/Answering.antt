@@ -5,7 +5,7 @@ use Rattle.std.specs.List.{AllByRecursion}
 use Rattle.std.proofs.lemmas.Bool.Decides.{nat_tests}
 use Rattle.std.proofs.lemmas.List.{get_or_past}
 use Rattle.std.proofs.lemmas.List.Sums.{sum_by-cons}
-use Rattle.ww_plan.specs.Acts.{Deed}
+use Rattle.ww_script_parts.specs.Acts.{Deed}
 use Rattle.ww_outcome.specs.Said.{Said}
 use Rattle.ww_outcome.specs.Cancels.{cancelled_in, times, sum_below, cancels_of, interrupters_of, AreBalanced, AreAnsweredOnce, CancelsAreAnsweredOnce}
 

@@ -13,14 +13,14 @@ use Rattle.ww_plain.specs.History.{Recorded, part_from, part_of, last_graph}
 use Rattle.ww_plain.specs.Meaning.{Answer, graph_after}
 use Rattle.ww_plain.proofs.Members.{true_or_false}
 use Rattle.ww_plain.proofs.Unused.{unused_after}
-use Rattle.ww_parts.specs.Pieces.{spaced_or_dash, numbered}
-use Rattle.ww_plan.specs.declared.ranges.Ranges.{Ranges}
-use Rattle.ww_plan.specs.declared.version.Version.TheVariants.{One, Two}
-use Rattle.ww_plan.specs.Versions.{ports_of}
-use Rattle.ww_plan.specs.Acts.{Deed, does, interruptible, cancels, Suits}
-use Rattle.ww_plan.specs.Scripts.{Plan, IsPlan, IsScript, ranges_of}
-use Rattle.ww_plan.proofs.More.{all_kept, scripts_more}
-use Rattle.ww_plan.proofs.Said.{none_repeated}
+use Rattle.ww_json.specs.Pieces.{spaced_or_dash, numbered}
+use Rattle.ww_script_parts.specs.declared.ranges.Ranges.{Ranges}
+use Rattle.ww_script_parts.specs.declared.version.Version.TheVariants.{One, Two}
+use Rattle.ww_script_parts.specs.Versions.{ports_of}
+use Rattle.ww_script_parts.specs.Acts.{Deed, does, interruptible, cancels, Suits}
+use Rattle.ww_script_parts.specs.Scripts.{Plan, IsPlan, IsScript, ranges_of}
+use Rattle.ww_script_parts.proofs.More.{all_kept, scripts_more}
+use Rattle.ww_script_parts.proofs.Said.{none_repeated}
 use Rattle.ww_outcome.specs.Said.{Said, answered, already, interrupted, cancelling}
 use Rattle.ww_outcome.specs.Outcome.{Told, IsRecorded, IsAnswered, AreAnswered, IsOutcome}
 use Rattle.ww_outcome.specs.Text.{script_lines, place_lines, node_line, outcome_lines}

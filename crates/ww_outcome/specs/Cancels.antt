@@ -1,6 +1,6 @@
 -- What becomes of the cancels that scripts set.
 use Rattle.std.specs.Prelude.{ℕ, zero, suc, ◌≡◌, ◌+◌, ◌<◌, ◌≤◌, ◌==◌, true, List, [], ◌∷◌, length, slice_index_or, count_by, if◌then◌else◌}
-use Rattle.ww_plan.specs.Acts.{Deed, cancels}
+use Rattle.ww_script_parts.specs.Acts.{Deed, cancels}
 use Rattle.ww_outcome.specs.Said.{Said, interrupted, cancelling}
 
 -- the scripts that these acts cancelled, each as often as a cancel of it was set

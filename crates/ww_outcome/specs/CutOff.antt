@@ -2,10 +2,10 @@
 use Rattle.std.specs.Prelude.{ℕ, ◌≡◌, ◌↔◌, ◌-◌, List, ◌++◌, codes, replicate, None}
 use Rattle.std.specs.List.{flat_map}
 use Rattle.ww_plain.specs.declared.node.Node.{Node}
-use Rattle.ww_parts.specs.Pieces.{spaced_or_dash, numbered}
-use Rattle.ww_plan.specs.declared.version.Version.TheVariants.{One, Two}
-use Rattle.ww_plan.specs.Versions.{ports_of}
-use Rattle.ww_plan.specs.Scripts.{Plan, IsPlan}
+use Rattle.ww_json.specs.Pieces.{spaced_or_dash, numbered}
+use Rattle.ww_script_parts.specs.declared.version.Version.TheVariants.{One, Two}
+use Rattle.ww_script_parts.specs.Versions.{ports_of}
+use Rattle.ww_script_parts.specs.Scripts.{Plan, IsPlan}
 use Rattle.ww_outcome.specs.Outcome.{Told, IsOutcome}
 use Rattle.ww_outcome.specs.Text.{script_lines, place_lines, node_text, outcome_lines}
 

@@ -3,4 +3,4 @@ pub mod Cancels
 pub mod Outcome
 pub mod Text
 pub mod CutOff
-pub use Rattle.ww_plan.specs.Scripts
+pub use Rattle.ww_script_parts.specs.Scripts

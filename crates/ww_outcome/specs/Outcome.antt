@@ -7,8 +7,8 @@ use Rattle.ww_plain.specs.Transaction.{Transaction, listed, FirstDouble}
 use Rattle.ww_plain.specs.Meaning.{Answer}
 use Rattle.ww_plain.specs.History.{Recorded, IsLegal, last_graph, part_of}
 use Rattle.ww_outcome.specs.declared.outcome.ScriptAnswer.{ScriptAnswer}
-use Rattle.ww_plan.specs.Acts.{Deed, does, interruptible, cancels}
-use Rattle.ww_plan.specs.Scripts.{Plan}
+use Rattle.ww_script_parts.specs.Acts.{Deed, does, interruptible, cancels}
+use Rattle.ww_script_parts.specs.Scripts.{Plan}
 use Rattle.ww_outcome.specs.Said.{Said, answered, already, interrupted, cancelling, said_of}
 use Rattle.ww_outcome.specs.Cancels.{AreBalanced}
 

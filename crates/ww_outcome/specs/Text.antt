@@ -3,7 +3,7 @@ use Rattle.std.specs.Prelude.{ℕ, List, [], ◌++◌, take, codes, decimal, tru
 use Rattle.std.specs.List.{flat_map}
 use Rattle.ww_plain.specs.declared.node.Node.{Node}
 use Rattle.ww_plain.specs.Meaning.{Answer, values, done, moved, short, full, was, summed, ended}
-use Rattle.ww_parts.specs.Pieces.{spaced, spaced_or_dash, numbered}
+use Rattle.ww_json.specs.Pieces.{spaced, spaced_or_dash, numbered}
 use Rattle.ww_outcome.specs.Said.{Said, answered, already, interrupted, cancelling}
 use Rattle.ww_outcome.specs.Outcome.{Told}
 

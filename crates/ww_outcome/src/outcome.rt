@@ -28,7 +28,7 @@ pub struct Outcome {
 }
 
 impl Model for Outcome {
-    ghost use Rattle.ww_plan.specs.Versions.{ArePorts};
+    ghost use Rattle.ww_script_parts.specs.Versions.{ArePorts};
     ghost use Rattle.ww_outcome.specs.Outcome.{Told, told_of};
 
     ghost Value = { Told };

@@ -2,12 +2,12 @@ ghost use Rattle.std.specs.Prelude.{◌≡◌, ◌≤◌, ◌++◌, map, string_
 ghost use Rattle.std.specs.List.{flat_map};
 ghost use Rattle.ww_plain.specs.Meaning.{answer_of};
 ghost use Rattle.ww_outcome.specs.Said.{said_of};
-ghost use Rattle.ww_parts.specs.Pieces.{spaced, spaced_or_dash, numbered};
+ghost use Rattle.ww_json.specs.Pieces.{spaced, spaced_or_dash, numbered};
 ghost use Rattle.ww_outcome.specs.Text.{answer_text, said_text, reply_line, script_lines, place_line, node_line, outcome_lines};
 
 use crate::outcome::{Outcome, ScriptAnswer};
 use std::alloc::{AllocError, Global};
-use ww_parts::{push_number, push_option};
+use ww_json::{push_number, push_option};
 use ww_plain::{Graph, Node, PORTS, Reply};
 
 fn push_values(out: &mut String, values: &[u64]) -> Result<(), AllocError>

@@ -1,6 +1,6 @@
 -- How a run ends, by what is due.
 use Rattle.std.proofs.Common.{ℕ, List, Option, inl, inr, refl, sym, subst}
-use Rattle.ww_parts.specs.declared.fault.InputFault.TheVariants.{NotJson, BadKey, BadNumber, BadGraph, BadWord, BadVersion, NoMemory, TooLong, BadType}
+use Rattle.ww_json.specs.declared.fault.InputFault.TheVariants.{NotJson, BadKey, BadNumber, BadGraph, BadWord, BadVersion, NoMemory, TooLong, BadType}
 use Rattle.ww_run.specs.declared.workers.RunFault.TheVariants as run
 use Rattle.ww_run.specs.declared.run.Refusal.{Refusal}
 use Rattle.ww_run.specs.declared.run.Refusal.TheVariants.{Input, Run}

@@ -4,12 +4,12 @@ use Rattle.std.proofs.lemmas.List.{length-map}
 use Rattle.std.specs.List.{AllByRecursion}
 use Rattle.std.specs.Global.{Vec}
 use Rattle.ww_plain.specs.declared.node.Node.{Node}
-use Rattle.ww_plan.specs.declared.acts.Act.{Act}
+use Rattle.ww_script_parts.specs.declared.acts.Act.{Act}
 use Rattle.ww_script.specs.Acts.{Deed, deed_of, Suits}
 use Rattle.ww_plain.proofs.GraphFacts.{all_item}
 use Rattle.ww_lock.specs.Holding.{Holding, Setting, IsAtHome}
 use Rattle.ww_lock.specs.Opened.{IsOpened}
-use Rattle.ww_plan.specs.declared.ranges.Ranges.{Ranges}
+use Rattle.ww_script_parts.specs.declared.ranges.Ranges.{Ranges}
 use Rattle.ww_plain.specs.declared.node.TheConstants.{PORTS}
 use Rattle.ww_script.specs.Scripts.{IsScript, ranges_of}
 use Rattle.ww_run.specs.Workers.{AreShort, AreNoLonger, IsBudget, AreReady}

@@ -4,7 +4,7 @@ use Rattle.std.proofs.lemmas.Bool.{false≢true}
 use Rattle.std.proofs.lemmas.List.{append-nil, length-map}
 use Rattle.std.specs.Global.{Vec}
 use Rattle.std.specs.declared.thread.PromisedHandle.{PromisedHandle}
-use Rattle.ww_plan.specs.declared.acts.Act.{Act}
+use Rattle.ww_script_parts.specs.declared.acts.Act.{Act}
 use Rattle.ww_script.specs.Acts.{Deed, deed_of}
 use Rattle.ww_lock.specs.Holding.{Holding, Setting}
 use Rattle.ww_run.specs.declared.worker.Work.{Work}

@@ -1,8 +1,8 @@
 -- What a run reads and writes.
 use Rattle.std.specs.Prelude.{ℕ, ◌≡◌, ◌≢◌, ◌≤◌, ◌<◌, ◌⊎◌, ◌++◌, List, length, codes, Option, Ok, Err}
 use Rattle.std.specs.Io.KnownBytes.{Appends, Keeps, Consumes, IsAtEnd}
-use Rattle.ww_parts.specs.declared.fault.InputFault.{InputFault}
-use Rattle.ww_parts.specs.declared.fault.InputFault.TheVariants.{NoMemory}
+use Rattle.ww_json.specs.declared.fault.InputFault.{InputFault}
+use Rattle.ww_json.specs.declared.fault.InputFault.TheVariants.{NoMemory}
 use Rattle.ww_script.specs.Fault.{number_of, refusal_text}
 use Rattle.ww_script.specs.declared.input.Input.TheVariants.{Scripts, Schedule}
 use Rattle.ww_script.specs.Scripts.{Plan}

@@ -9,7 +9,7 @@ use Rattle.ww_txn.specs.declared.transacting.TxnFault.{TxnFault}
 use Rattle.ww_txn.specs.declared.transacting.TxnFault.TheVariants.{PassSpent, Already, Interrupted}
 use Rattle.ww_txn.specs.declared.transacting.TxnFault.TheVariants as txn
 use Rattle.ww_plain.specs.declared.node.TheConstants.{PORTS}
-use Rattle.ww_plan.specs.declared.acts.Act.{Act}
+use Rattle.ww_script_parts.specs.declared.acts.Act.{Act}
 use Rattle.ww_script.specs.Acts.{Deed, Suits}
 use Rattle.ww_script.specs.Scripts.{ranges_of}
 use Rattle.ww_script.specs.Said.{Said, answered, cancelling, said_of}

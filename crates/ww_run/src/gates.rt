@@ -8,7 +8,7 @@ use std::sync::atomic::{AtomicBool, AtomicU64, Ordering};
 use std::test::Fail;
 use std::thread;
 use std::thread::Threads;
-use ww_parts::push_number;
+use ww_json::push_number;
 use ww_plain::{Record, Reply, Txn, replays};
 use ww_script::{Act, Input, Outcome, ScriptAnswer, Scripts, read_input};
 use ww_txn::{Gate, Open};

@@ -4,10 +4,10 @@ use Rattle.std.specs.Prelude.{codes, bytes_eq}
 use Rattle.serde_json.specs.Data.{Data}
 use Rattle.ww_model.specs.declared.event.Event.{Event}
 use Rattle.ww_model.specs.declared.event.Event.TheVariants.{Begin, Clear, Fast, FastGive, Guard, Join, Sign, Take, Ask, Give, Die, Unguard, Commit, End, Cancel, Heed, Leave}
-use Rattle.ww_parts.specs.declared.fault.InputFault.{InputFault}
-use Rattle.ww_parts.specs.Parts.{each, counted, ranged, array, below, member, only, text}
-use Rattle.ww_parts.specs.Kinds.{kind_in}
-use Rattle.ww_parts.proofs.Kept.{bind_ok, done, ok_is, either_kept, each_kept, below_kept, ranged_kept, counted_kept}
+use Rattle.ww_json.specs.declared.fault.InputFault.{InputFault}
+use Rattle.ww_json.specs.Parts.{each, counted, ranged, array, below, member, only, text}
+use Rattle.ww_json.specs.Kinds.{kind_in}
+use Rattle.ww_json.proofs.Kept.{bind_ok, done, ok_is, either_kept, each_kept, below_kept, ranged_kept, counted_kept}
 use Rattle.ww_schedule.specs.Events.{seat_of, both_of, alone, both, event_with, event_from, event_in}
 use Rattle.ww_schedule.specs.Schedules.{Timetable, IsThere, AreEvents, IsTimetable, events_in, timetable_in}
 

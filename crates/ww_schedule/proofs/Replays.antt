@@ -11,11 +11,11 @@ use Rattle.ww_model.specs.Event.{Possible, after, answer}
 use Rattle.ww_model.specs.Run.{state_after, IsRun}
 use Rattle.ww_model.proofs.Runs.{run_more, state_more}
 use Rattle.ww_schedule.specs.Schedules.{Timetable}
-use Rattle.ww_parts.specs.Pieces.{numbered}
+use Rattle.ww_json.specs.Pieces.{numbered}
 use Rattle.ww_schedule.specs.ScheduleText.{event_line, impossible_text, ring_line, condemned_line}
 use Rattle.ww_model.specs.Waits.{CondemnedOf}
 use Rattle.ww_schedule.specs.Replay.{front, answers_of, run_lines, AreTold, below_count, RingOf, seats_of, IsRingTold, Replay, first_state, last_state, IsReplay, line_of_lock, line_of_seat, replay_lines, IsReplayTold}
-use Rattle.ww_parts.proofs.Numbered.{numbered_more, length_front}
+use Rattle.ww_json.proofs.Numbered.{numbered_more, length_front}
 
 -- ---- runs
 

@@ -3,8 +3,8 @@ use Rattle.std.proofs.Common.{◌≡◌, ℕ, ◌<◌, ◌≤◌, List, [], ◌�
 use Rattle.std.proofs.lemmas.List.{length-map}
 use Rattle.ww_model.specs.declared.event.Event.{Event}
 use Rattle.ww_model.specs.declared.event.Event.TheVariants.{Begin, Clear, Fast, FastGive, Guard, Join, Sign, Take, Ask, Give, Die, Unguard, Commit, End, Cancel, Heed, Leave}
-use Rattle.ww_parts.specs.Spelling.{list, whole}
-use Rattle.ww_parts.proofs.Said.{below_said, ranged_said, counted_said, each_said, kind_said}
+use Rattle.ww_json.specs.Spelling.{list, whole}
+use Rattle.ww_json.proofs.Said.{below_said, ranged_said, counted_said, each_said, kind_said}
 use Rattle.ww_schedule.specs.Events.{alone, both, event_with, event_in}
 use Rattle.ww_schedule.specs.Schedules.{Timetable, IsThere, AreEvents, IsTimetable, events_in, timetable_in}
 use Rattle.ww_schedule.specs.Spelling.{event_data, timetable_data}

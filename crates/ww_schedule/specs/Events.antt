@@ -3,9 +3,9 @@ use Rattle.std.specs.Prelude.{ℕ, List, [], ◌∷◌, codes, bytes_eq, Result,
 use Rattle.serde_json.specs.Data.{Data}
 use Rattle.ww_model.specs.declared.event.Event.{Event}
 use Rattle.ww_model.specs.declared.event.Event.TheVariants.{Begin, Clear, Fast, FastGive, Guard, Join, Sign, Take, Ask, Give, Die, Unguard, Commit, End, Cancel, Heed, Leave}
-use Rattle.ww_parts.specs.declared.fault.InputFault.{InputFault}
-use Rattle.ww_parts.specs.declared.fault.InputFault.TheVariants.{BadWord}
-use Rattle.ww_parts.specs.Parts.{◌>>=◌, array, text, below}
+use Rattle.ww_json.specs.declared.fault.InputFault.{InputFault}
+use Rattle.ww_json.specs.declared.fault.InputFault.TheVariants.{BadWord}
+use Rattle.ww_json.specs.Parts.{◌>>=◌, array, text, below}
 
 -- one member, a seat
 abbrev pub seat_of : ℕ → List Data → Result ℕ InputFault

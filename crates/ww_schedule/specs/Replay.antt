@@ -10,7 +10,7 @@ use Rattle.ww_model.specs.Run.{state_after, IsRun}
 use Rattle.ww_model.specs.Replay.{IsFirstImpossible}
 use Rattle.ww_model.specs.Waits.{IsRing, IsLeastRing, FindsChosen, CondemnedOf}
 use Rattle.ww_schedule.specs.Schedules.{Timetable}
-use Rattle.ww_parts.specs.Pieces.{numbered}
+use Rattle.ww_json.specs.Pieces.{numbered}
 use Rattle.ww_schedule.specs.ScheduleText.{event_line, impossible_text, ring_line, condemned_line, lock_line, seat_line}
 
 -- ---- what is found

@@ -7,7 +7,7 @@ use Rattle.ww_model.specs.declared.state.Holder.TheVariants.{Nobody, Taken, Hand
 use Rattle.ww_model.specs.declared.event.Answer.{Answer}
 use Rattle.ww_model.specs.declared.event.Answer.TheVariants as told
 use Rattle.ww_model.specs.declared.event.Answer.TheVariants.{Stamp, Done, Locked, Met, Free, Deadlk, Place, Interrupted}
-use Rattle.ww_parts.specs.Pieces.{spaced, spaced_or_dash}
+use Rattle.ww_json.specs.Pieces.{spaced, spaced_or_dash}
 
 -- what an event answers
 abbrev pub answer_text : Answer → List ℕ

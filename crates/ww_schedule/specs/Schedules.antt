@@ -8,9 +8,9 @@ use Rattle.ww_word.specs.declared.owner.TheConstants.{MAX_SEATS}
 use Rattle.ww_model.specs.declared.state.TheConstants.{MAX_LOCKS}
 use Rattle.ww_model.specs.declared.event.Event.{Event}
 use Rattle.ww_model.specs.declared.event.Event.TheVariants.{Begin, Clear, Fast, FastGive, Guard, Join, Sign, Take, Ask, Give, Die, Unguard, Commit, End, Cancel, Heed, Leave}
-use Rattle.ww_parts.specs.declared.fault.InputFault.{InputFault}
-use Rattle.ww_parts.specs.Parts.{◌>>=◌, member, only, ranged, counted, each}
-use Rattle.ww_parts.specs.Kinds.{kind_in}
+use Rattle.ww_json.specs.declared.fault.InputFault.{InputFault}
+use Rattle.ww_json.specs.Parts.{◌>>=◌, member, only, ranged, counted, each}
+use Rattle.ww_json.specs.Kinds.{kind_in}
 use Rattle.ww_schedule.specs.Events.{event_in}
 
 -- `Schedule`, with a list where it has a vector

@@ -3,7 +3,7 @@ use Rattle.std.specs.Prelude.{ℕ, List, [], ◌∷◌, map, codes}
 use Rattle.serde_json.specs.Data.{Data, string, object, no_members, member}
 use Rattle.ww_model.specs.declared.event.Event.{Event}
 use Rattle.ww_model.specs.declared.event.Event.TheVariants.{Begin, Clear, Fast, FastGive, Guard, Join, Sign, Take, Ask, Give, Die, Unguard, Commit, End, Cancel, Heed, Leave}
-use Rattle.ww_parts.specs.Spelling.{list, whole, kind_word}
+use Rattle.ww_json.specs.Spelling.{list, whole, kind_word}
 use Rattle.ww_schedule.specs.Schedules.{Timetable}
 
 -- a word and its numbers

@@ -2,12 +2,12 @@
 
 ghost use Rattle.std.specs.Prelude.{map};
 ghost use Rattle.serde_json.specs.View.{view};
-ghost use Rattle.ww_parts.specs.Parts.{Says};
+ghost use Rattle.ww_json.specs.Parts.{Says};
 ghost use Rattle.ww_schedule.specs.Events.{seat_of as seat_members, both_of as both_members, event_with, event_in};
 
 use serde_json::Value;
+use ww_json::{InputFault, array_of, below_of, text_of};
 use ww_model::Event;
-use ww_parts::{InputFault, array_of, below_of, text_of};
 
 /// One member, a seat.
 fn seat_of(seats: u8, members: &[Value]) -> Result<u8, InputFault>

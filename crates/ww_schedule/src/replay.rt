@@ -1,14 +1,14 @@
 ghost use Rattle.std.specs.Prelude.{◌≡◌, ◌<◌, ◌≤◌, ◌++◌, string_bytes, Some, OnOk, IfOk};
 ghost use Rattle.std.specs.List.{flat_map};
 ghost use Rattle.ww_model.specs.Snapshot.{state_of};
-ghost use Rattle.ww_parts.specs.Pieces.{spaced};
+ghost use Rattle.ww_json.specs.Pieces.{spaced};
 ghost use Rattle.ww_schedule.specs.ScheduleText.{answer_text, event_line, ring_line, condemned_line, stamped, owner_text, entry_text, lock_line};
 ghost use Rattle.ww_schedule.specs.Replay.{first_state, owner_stamp, line_of_lock, line_of_seat, below_count, AreTold, IsRingTold, IsReplayTold, IsTextOf, HasOneText};
 
 use crate::schedules::Schedule;
 use std::alloc::{AllocError, Global};
+use ww_json::{push_number, push_option};
 use ww_model::{Answer, Core, Event, Holder, condemned_in, cycle_in};
-use ww_parts::{push_number, push_option};
 use ww_queue::Entry;
 
 fn push_answer(out: &mut String, answer: Answer) -> Result<(), AllocError>

@@ -1,6 +1,6 @@
 ghost use Rattle.std.specs.Prelude.{map};
 ghost use Rattle.serde_json.specs.View.{view};
-ghost use Rattle.ww_parts.specs.Parts.{Gives, each};
+ghost use Rattle.ww_json.specs.Parts.{Gives, each};
 ghost use Rattle.ww_schedule.specs.Events.{event_in};
 ghost use Rattle.ww_schedule.specs.Schedules.{events_in, timetable_in};
 
@@ -8,8 +8,8 @@ use crate::events::event_of;
 use serde_json::Value;
 use std::alloc::Global;
 use std::marker::Model;
+use ww_json::{InputFault, counted_of, kind_of, member_of, only_of, ranged_of};
 use ww_model::{Event, MAX_LOCKS};
-use ww_parts::{InputFault, counted_of, kind_of, member_of, only_of, ranged_of};
 use ww_queue::Kind;
 use ww_word::MAX_SEATS;
 

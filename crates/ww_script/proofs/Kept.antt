@@ -2,11 +2,11 @@
 use Rattle.std.proofs.Common.{◌≡◌, length, Ok, Err, subst}
 use Rattle.std.specs.Prelude.{nat_lt}
 use Rattle.serde_json.specs.Data.{Data}
-use Rattle.ww_parts.specs.declared.fault.InputFault.TheVariants.{TooLong}
-use Rattle.ww_parts.specs.Parts.{◌>>=◌, size}
-use Rattle.ww_parts.proofs.Kept.{bind_ok, done, ok_is, either_kept}
-use Rattle.ww_plan.specs.Scripts.{Plan, plan_in}
-use Rattle.ww_plan.proofs.Kept.{plan_kept}
+use Rattle.ww_json.specs.declared.fault.InputFault.TheVariants.{TooLong}
+use Rattle.ww_json.specs.Parts.{◌>>=◌, size}
+use Rattle.ww_json.proofs.Kept.{bind_ok, done, ok_is, either_kept}
+use Rattle.ww_script_parts.specs.Scripts.{Plan, plan_in}
+use Rattle.ww_script_parts.proofs.Kept.{plan_kept}
 use Rattle.ww_schedule.specs.Schedules.{Timetable, timetable_in}
 use Rattle.ww_schedule.proofs.Kept.{timetable_kept}
 use Rattle.ww_script.specs.declared.input.Input.{Input}

@@ -4,7 +4,7 @@ use Rattle.std.proofs.lemmas.Str.{is_utf8-from_IsUtf8, IsUtf8-from_is_utf8}
 use Rattle.std.specs.Str.{IsUtf8, is_utf8}
 use Rattle.serde_json.specs.Data.{Data}
 use Rattle.serde_json.specs.Read.{read}
-use Rattle.ww_parts.specs.declared.fault.InputFault.TheVariants.{NotJson}
+use Rattle.ww_json.specs.declared.fault.InputFault.TheVariants.{NotJson}
 use Rattle.ww_script.specs.Reading.{value_if, parsed}
 
 pub parsed_some : (bytes : List ℕ) (d : Data) → IsUtf8 bytes → read bytes ≡ Some d → parsed bytes ≡ Ok d

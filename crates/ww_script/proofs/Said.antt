@@ -1,12 +1,12 @@
 -- What an input is said by is read as it.
 use Rattle.std.proofs.Common.{◌≡◌, inl, inr, Ok, ap}
-use Rattle.ww_parts.specs.Parts.{◌>>=◌}
-use Rattle.ww_plan.specs.declared.version.Version.{Version}
-use Rattle.ww_plan.specs.declared.version.Version.TheVariants.{One, Two}
-use Rattle.ww_plan.specs.Versions.{ports_of}
-use Rattle.ww_plan.specs.Scripts.{Plan, IsPlan}
-use Rattle.ww_plan.specs.Spelling.{plan_data}
-use Rattle.ww_plan.proofs.Said.{plan_said}
+use Rattle.ww_json.specs.Parts.{◌>>=◌}
+use Rattle.ww_script_parts.specs.declared.version.Version.{Version}
+use Rattle.ww_script_parts.specs.declared.version.Version.TheVariants.{One, Two}
+use Rattle.ww_script_parts.specs.Versions.{ports_of}
+use Rattle.ww_script_parts.specs.Scripts.{Plan, IsPlan}
+use Rattle.ww_script_parts.specs.Spelling.{plan_data}
+use Rattle.ww_script_parts.proofs.Said.{plan_said}
 use Rattle.ww_schedule.proofs.Said.{timetable_said}
 use Rattle.ww_script.specs.declared.input.Input.TheVariants as input
 use Rattle.ww_script.specs.Reading.{version_in, input_in}

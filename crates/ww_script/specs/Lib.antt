@@ -1,10 +1,10 @@
-pub use Rattle.ww_parts.specs.Fault
-pub use Rattle.ww_parts.specs.Parts
-pub use Rattle.ww_parts.specs.Kinds
-pub use Rattle.ww_plan.specs.Versions
-pub use Rattle.ww_plan.specs.Transactions
-pub use Rattle.ww_plan.specs.Acts
-pub use Rattle.ww_plan.specs.Scripts
+pub use Rattle.ww_json.specs.Fault
+pub use Rattle.ww_json.specs.Parts
+pub use Rattle.ww_json.specs.Kinds
+pub use Rattle.ww_script_parts.specs.Versions
+pub use Rattle.ww_script_parts.specs.Transactions
+pub use Rattle.ww_script_parts.specs.Acts
+pub use Rattle.ww_script_parts.specs.Scripts
 pub use Rattle.ww_outcome.specs.Said
 pub use Rattle.ww_outcome.specs.Cancels
 pub use Rattle.ww_outcome.specs.Outcome

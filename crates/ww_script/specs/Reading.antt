@@ -4,15 +4,15 @@ use Rattle.std.specs.Str.{is_utf8}
 use Rattle.serde_json.specs.Data.{Data}
 use Rattle.serde_json.specs.Find.{get, as_number, as_u64}
 use Rattle.serde_json.specs.Read.{read}
-use Rattle.ww_parts.specs.declared.fault.InputFault.{InputFault}
-use Rattle.ww_parts.specs.declared.fault.InputFault.TheVariants.{NotJson, BadVersion, TooLong, BadType}
+use Rattle.ww_json.specs.declared.fault.InputFault.{InputFault}
+use Rattle.ww_json.specs.declared.fault.InputFault.TheVariants.{NotJson, BadVersion, TooLong, BadType}
 use Rattle.ww_script.specs.declared.input.Input.{Input}
 use Rattle.ww_script.specs.declared.input.Input.TheVariants as input
-use Rattle.ww_parts.specs.Parts.{◌>>=◌, size, member}
-use Rattle.ww_plan.specs.declared.version.Version.{Version}
-use Rattle.ww_plan.specs.declared.version.Version.TheVariants.{One, Two}
-use Rattle.ww_plan.specs.Versions.{number_of}
-use Rattle.ww_plan.specs.Scripts.{IsPlan, plan_in}
+use Rattle.ww_json.specs.Parts.{◌>>=◌, size, member}
+use Rattle.ww_script_parts.specs.declared.version.Version.{Version}
+use Rattle.ww_script_parts.specs.declared.version.Version.TheVariants.{One, Two}
+use Rattle.ww_script_parts.specs.Versions.{number_of}
+use Rattle.ww_script_parts.specs.Scripts.{IsPlan, plan_in}
 use Rattle.ww_schedule.specs.Schedules.{IsTimetable, timetable_in}
 
 -- the version of this number, where there is one

@@ -1,10 +1,10 @@
 -- How an input says what it asks for.
 use Rattle.std.specs.Prelude.{◌≡◌, ℕ, List, Ok}
 use Rattle.serde_json.specs.Data.{Data}
-use Rattle.ww_plan.specs.declared.version.Version.TheVariants.{One}
-use Rattle.ww_plan.specs.Versions.{ports_of}
-use Rattle.ww_plan.specs.Scripts.{Plan}
-use Rattle.ww_plan.specs.Spelling.{plan_data}
+use Rattle.ww_script_parts.specs.declared.version.Version.TheVariants.{One}
+use Rattle.ww_script_parts.specs.Versions.{ports_of}
+use Rattle.ww_script_parts.specs.Scripts.{Plan}
+use Rattle.ww_script_parts.specs.Spelling.{plan_data}
 use Rattle.ww_outcome.specs.Outcome.{Told}
 use Rattle.ww_outcome.specs.CutOff.{in_version_2, IsCutOff}
 use Rattle.ww_schedule.specs.Spelling.{timetable_data}

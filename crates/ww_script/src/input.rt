@@ -1,14 +1,14 @@
 ghost use Rattle.std.specs.Prelude.{◌≡◌, ◌<◌, length};
 ghost use Rattle.serde_json.specs.View.{view};
-ghost use Rattle.ww_parts.specs.Parts.{Gives, Says};
+ghost use Rattle.ww_json.specs.Parts.{Gives, Says};
 ghost use Rattle.ww_script.specs.Reading.{version_in, input_in, parsed, reading, ReadingKeepsRanges};
 ghost use Rattle.ww_script.specs.Spelling.{EachInputCanBeSaid, EachVersion1IsCutOff};
 
 use serde_json::{Category, Value};
 use std::alloc::Global;
-use ww_parts::{InputFault, member_of, size_of};
-use ww_plan::{Scripts, Version, scripts_of};
+use ww_json::{InputFault, member_of, size_of};
 use ww_schedule::{Schedule, schedule_of};
+use ww_script_parts::{Scripts, Version, scripts_of};
 
 /// How many bytes an input has at most.
 pub const MAX_BYTES: usize = 1_048_576;

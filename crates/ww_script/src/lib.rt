@@ -8,9 +8,9 @@ pub use input::{
     Input, MAX_BYTES, each_input_can_be_said, each_version_1_is_cut_off, read_input,
     reading_keeps_ranges,
 };
+pub use ww_json::{InputFault, refusal_line};
 pub use ww_outcome::{
     Outcome, ScriptAnswer, cancels_are_answered_once, outcome_text, versions_agree,
 };
-pub use ww_parts::{InputFault, refusal_line};
-pub use ww_plan::{Act, Ranges, Scripts, Version};
 pub use ww_schedule::{Schedule, a_schedule_has_one_text, schedule_text};
+pub use ww_script_parts::{Act, Ranges, Scripts, Version};

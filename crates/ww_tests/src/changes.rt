@@ -9,11 +9,11 @@ use std::error::Error;
 use std::process::Abort;
 use std::sync::Wait;
 use std::test::Fail;
-use ww_caller::Refusal;
 use ww_lock::{CloseFault, OpenFault, Pass, Receipt, World};
 use ww_plain::{By, GraphFault, Reply, Txn};
 use ww_queue::Kind;
 use ww_test_parts::{add, chain, one_pass};
+use ww_transfer::Refusal;
 use ww_txn::{ChangeFault, TxnFault, change};
 use ww_users::UserFault;
 

@@ -12,12 +12,12 @@ use std::alloc::{AllocError, Global};
 use std::process::Abort;
 use std::sync::Wait;
 use std::test::Fail;
-use ww_caller::{Refusal, transfer};
-use ww_crew::run_crew;
 use ww_lock::{CloseFault, Done, History, OpenFault, Pass, Prepared, Receipt, Solo, World};
 use ww_plain::{By, Graph, Reply, Txn, replays};
 use ww_queue::Kind;
+use ww_scope::run_crew;
 use ww_test_parts::{KINDS, add, graph_of, is_possible, is_possible_alone};
+use ww_transfer::{Refusal, transfer};
 use ww_txn::TxnFault;
 
 /// How many transactions each of two passes makes that take turns.

@@ -1,5 +1,5 @@
 use Rattle.std.proofs.Common.{refl}
-use Rattle.ww_rounds.specs.Standing.{at_rest}
+use Rattle.ww_table_loads.specs.Standing.{at_rest}
 use Rattle.ww_low_tests.proofs.Gathered.{did_come}
 use Rattle.ww_low_tests.proofs.rounds.all_tries.Goals as goal
 

@@ -3,8 +3,8 @@ use Rattle.std.proofs.lemmas.List.Elements.{recursion_from_All}
 use Rattle.ww_plain.proofs.GraphFacts.{all_item}
 use Rattle.ww_table.specs.declared.board.Board.{Board}
 use Rattle.ww_table.specs.Closed.{HaveAllCome}
-use Rattle.ww_rounds.specs.Standing.{IsUnused}
-use Rattle.ww_rounds.proofs.Standing.{new_unused}
+use Rattle.ww_table_loads.specs.Standing.{IsUnused}
+use Rattle.ww_table_loads.proofs.Standing.{new_unused}
 use Rattle.ww_low_tests.proofs.Gathered.{all_come}
 use Rattle.ww_low_tests.proofs.rounds.crowd.Goals as goal
 

@@ -1,6 +1,6 @@
 use Rattle.std.proofs.Common.{ℕ, refl, sym, subst, arith}
-use Rattle.ww_rounds.specs.Standing.{Did, at_first}
-use Rattle.ww_rounds.proofs.Standing.{unused_did}
+use Rattle.ww_table_loads.specs.Standing.{Did, at_first}
+use Rattle.ww_table_loads.proofs.Standing.{unused_did}
 use Rattle.ww_low_tests.proofs.rounds.tries.Goals as goal
 
 pub loop-at-init : goal.loop-at-init

@@ -1,5 +1,5 @@
 use Rattle.std.proofs.Common.{◌≡◌, ◌≤◌}
-use Rattle.ww_rounds.specs.Standing.{Did, at_rest}
+use Rattle.ww_table_loads.specs.Standing.{Did, at_rest}
 use Rattle.ww_low_tests.proofs.rounds.tries.Given as goal
 
 abbrev pub invariant-loop-at : goal.invariant-loop-at

@@ -1,5 +1,5 @@
 use Rattle.std.proofs.Common.{[], refl}
-use Rattle.ww_rounds.specs.Standing.{Deeds, at_first, began, took, committed, gave}
+use Rattle.ww_table_loads.specs.Standing.{Deeds, at_first, began, took, committed, gave}
 use Rattle.ww_low_tests.proofs.Still.{did_still}
 use Rattle.ww_low_tests.proofs.rows.commit_and_give.Goals as goal
 

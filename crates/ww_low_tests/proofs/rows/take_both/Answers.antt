@@ -1,5 +1,5 @@
 use Rattle.std.proofs.Common.{[], ◌∷◌, refl, inr}
-use Rattle.ww_rounds.specs.Standing.{Deeds, at_first, began, took, gave}
+use Rattle.ww_table_loads.specs.Standing.{Deeds, at_first, began, took, gave}
 use Rattle.ww_low_tests.proofs.Still.{did_still}
 use Rattle.ww_low_tests.proofs.rows.take_both.Goals as goal
 

@@ -1,5 +1,5 @@
 use Rattle.std.proofs.Common.{refl, inl, ◌∙◌, arith}
-use Rattle.ww_rounds.specs.Standing.{at_first, began}
+use Rattle.ww_table_loads.specs.Standing.{at_first, began}
 use Rattle.ww_low_tests.proofs.Still.{did_still}
 use Rattle.ww_low_tests.proofs.rows.take_one_each.Goals as goal
 

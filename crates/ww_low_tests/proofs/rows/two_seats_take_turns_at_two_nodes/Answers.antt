@@ -1,7 +1,7 @@
 use Rattle.std.proofs.Common.{◌≡◌, [], ◌∷◌, refl, sym, subst, ap, ◌∙◌, arith}
 use Rattle.ww_table.specs.declared.board.Board.{Board}
 use Rattle.ww_table.specs.Closed.{HaveAllCome}
-use Rattle.ww_rounds.specs.Standing.{Deeds, at_first, began, took, committed, gave, ended}
+use Rattle.ww_table_loads.specs.Standing.{Deeds, at_first, began, took, committed, gave, ended}
 use Rattle.ww_low_tests.proofs.Gathered.{new_did, two_come, all_come}
 use Rattle.ww_low_tests.proofs.Still.{did_still}
 use Rattle.ww_low_tests.proofs.rows.two_seats_take_turns_at_two_nodes.Goals as goal

@@ -1,7 +1,7 @@
 use Rattle.std.proofs.Common.{◌<◌, ◌++◌, length, sym, ap, ◌∙◌, string_bytes, arith}
 use Rattle.std.proofs.lemmas.Option.{get_or_from_slice_get}
 use Rattle.ww_outcome.specs.Text.{node_line}
-use Rattle.ww_parts.proofs.Numbered.{numbered_at}
+use Rattle.ww_json.proofs.Numbered.{numbered_at}
 use Rattle.ww_outcome.proofs.text.push_graph.Goals as goal
 
 pub loop-index-preserved : goal.loop-index-preserved

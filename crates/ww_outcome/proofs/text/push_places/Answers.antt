@@ -1,5 +1,5 @@
 use Rattle.ww_outcome.specs.Text.{place_line}
-use Rattle.ww_parts.proofs.Numbered.{numbered_at}
+use Rattle.ww_json.proofs.Numbered.{numbered_at}
 use Rattle.ww_outcome.proofs.text.push_places.Goals as goal
 
 pub loop-place-preserved : goal.loop-place-preserved

@@ -1,5 +1,5 @@
 use Rattle.std.proofs.Common.{◌≡◌, ◌++◌, take, string_bytes}
-use Rattle.ww_parts.specs.Pieces.{numbered}
+use Rattle.ww_json.specs.Pieces.{numbered}
 use Rattle.ww_outcome.specs.Text.{place_line}
 use Rattle.ww_outcome.proofs.text.push_places.Given as goal
 

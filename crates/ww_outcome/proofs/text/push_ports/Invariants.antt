@@ -1,6 +1,6 @@
 use Rattle.std.proofs.Common.{◌≡◌, ◌++◌, take, string_bytes}
 use Rattle.std.specs.List.{flat_map}
-use Rattle.ww_parts.specs.Pieces.{spaced_or_dash}
+use Rattle.ww_json.specs.Pieces.{spaced_or_dash}
 use Rattle.ww_outcome.proofs.text.push_ports.Given as goal
 
 abbrev pub invariant-loop-port : goal.invariant-loop-port

@@ -1,7 +1,7 @@
 use Rattle.std.proofs.Common.{ap}
 use Rattle.ww_outcome.specs.Said.{said_of}
 use Rattle.ww_outcome.specs.Text.{reply_line}
-use Rattle.ww_parts.proofs.Numbered.{numbered_by}
+use Rattle.ww_json.proofs.Numbered.{numbered_by}
 use Rattle.ww_outcome.proofs.text.push_script.Goals as goal
 
 pub loop-index-preserved : goal.loop-index-preserved

@@ -1,6 +1,6 @@
 use Rattle.std.proofs.Common.{◌≡◌, ◌++◌, map, take, string_bytes}
 use Rattle.ww_outcome.specs.Said.{said_of}
-use Rattle.ww_parts.specs.Pieces.{numbered}
+use Rattle.ww_json.specs.Pieces.{numbered}
 use Rattle.ww_outcome.specs.Text.{reply_line}
 use Rattle.ww_outcome.proofs.text.push_script.Given as goal
 

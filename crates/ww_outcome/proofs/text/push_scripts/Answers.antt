@@ -3,7 +3,7 @@ use Rattle.std.specs.Global.{Vec}
 use Rattle.ww_outcome.specs.declared.outcome.ScriptAnswer.{ScriptAnswer}
 use Rattle.ww_outcome.specs.Said.{said_of}
 use Rattle.ww_outcome.specs.Text.{script_lines}
-use Rattle.ww_parts.proofs.Numbered.{numbered_by}
+use Rattle.ww_json.proofs.Numbered.{numbered_by}
 use Rattle.ww_outcome.proofs.text.push_scripts.Goals as goal
 
 pub loop-script-preserved : goal.loop-script-preserved

@@ -1,6 +1,6 @@
 use Rattle.std.proofs.Common.{◌≡◌, ◌++◌, take, string_bytes}
 use Rattle.std.specs.List.{flat_map}
-use Rattle.ww_parts.specs.Pieces.{spaced}
+use Rattle.ww_json.specs.Pieces.{spaced}
 use Rattle.ww_outcome.proofs.text.push_values.Given as goal
 
 abbrev pub invariant-loop-value : goal.invariant-loop-value

@@ -1,7 +1,7 @@
 use Rattle.std.proofs.Common.{rules, ◌≡◌, ◌≤◌, ◌<◌, ◌+◌, ℕ, zero, suc, List, [], ◌∷◌, length, get_or, sym, subst, arith}
 use Rattle.std.specs.Ordering.{ord_max, nat_cmp}
 use Rattle.std.specs.Global.{Vec}
-use Rattle.ww_plan.specs.declared.acts.Act.{Act}
+use Rattle.ww_script_parts.specs.declared.acts.Act.{Act}
 use Rattle.ww_run.proofs.workers.budget.Goals as goal
 
 -- the greater of two numbers, and what both are within

@@ -1,9 +1,9 @@
 use Rattle.std.proofs.Common.{◌≡◌, ℕ, ◌<◌, ◌≤◌, List, length, get_or, Some, None, if◌then◌else◌, refl, ap, subst, ◌∙◌, rules}
 use Rattle.std.specs.Global.{Vec}
-use Rattle.ww_plan.specs.declared.acts.Act.{Act}
+use Rattle.ww_script_parts.specs.declared.acts.Act.{Act}
 use Rattle.ww_plain.specs.History.{history_of}
 use Rattle.ww_plain.specs.declared.node.TheConstants.{PORTS}
-use Rattle.ww_plan.proofs.More.{ports_few, scripts_more}
+use Rattle.ww_script_parts.proofs.More.{ports_few, scripts_more}
 use Rattle.ww_script.specs.Scripts.{script_lists, ranges_of}
 use Rattle.ww_script.specs.Outcome.{place_list, places_of}
 use Rattle.ww_run.proofs.Scripts.{all_worked, all_there}

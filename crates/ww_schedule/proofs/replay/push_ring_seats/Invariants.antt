@@ -1,6 +1,6 @@
 use Rattle.std.proofs.Common.{◌≡◌, ◌++◌, take, string_bytes}
 use Rattle.std.specs.List.{flat_map}
-use Rattle.ww_parts.specs.Pieces.{spaced}
+use Rattle.ww_json.specs.Pieces.{spaced}
 use Rattle.ww_schedule.proofs.replay.push_ring_seats.Given as goal
 
 abbrev pub invariant-loop-seat : goal.invariant-loop-seat

@@ -1,9 +1,9 @@
 use Rattle.std.proofs.Common.{rules}
 use Rattle.std.proofs.lemmas.Result.{err_from_is_err_and}
 use Rattle.serde_json.specs.View.{view}
-use Rattle.ww_parts.specs.Parts.{each}
+use Rattle.ww_json.specs.Parts.{each}
 use Rattle.ww_schedule.specs.Events.{event_in}
-use Rattle.ww_parts.proofs.Each.{each_more, each_stops}
+use Rattle.ww_json.proofs.Each.{each_more, each_stops}
 use Rattle.ww_schedule.proofs.schedules.each_event.Goals as goal
 
 pub loop-item-init : goal.loop-item-init

@@ -1,6 +1,6 @@
 use Rattle.std.proofs.Common.{◌≡◌, map, take, Ok}
 use Rattle.serde_json.specs.View.{view}
-use Rattle.ww_parts.specs.Parts.{each}
+use Rattle.ww_json.specs.Parts.{each}
 use Rattle.ww_schedule.specs.Events.{event_in}
 use Rattle.ww_schedule.proofs.schedules.each_event.Given as goal
 

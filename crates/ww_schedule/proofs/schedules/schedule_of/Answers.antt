@@ -1,5 +1,5 @@
 use Rattle.serde_json.specs.View.{view}
-use Rattle.ww_parts.proofs.Kept.{ranged_kept}
+use Rattle.ww_json.proofs.Kept.{ranged_kept}
 use Rattle.ww_schedule.proofs.Kept.{events_kept}
 use Rattle.ww_schedule.proofs.schedules.schedule_of.Goals as goal
 

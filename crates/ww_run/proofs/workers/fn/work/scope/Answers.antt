@@ -1,7 +1,7 @@
 use Rattle.std.proofs.Common.{◌≡◌, ℕ, List, [], length, map, get_or, vec_len, refl, sym, ap, subst, ◌∙◌, arith, rules, zero-add, vec_capacity}
 use Rattle.std.specs.Vec.Iter.{into_iter_items}
 use Rattle.std.specs.Global.{Vec}
-use Rattle.ww_plan.specs.declared.acts.Act.{Act}
+use Rattle.ww_script_parts.specs.declared.acts.Act.{Act}
 use Rattle.ww_script.specs.Acts.{deed_of}
 use Rattle.ww_run.specs.Workers.{IsReady}
 use Rattle.ww_run.proofs.Starts.{IsPromised, ArePromised, ready_from, starting, started, not_started, all_started, all_kept, no_length}

@@ -1,5 +1,0 @@
-use Rattle.ww_plan.proofs.Kept.{graph_kept}
-use Rattle.ww_plan.proofs.scripts.graph_of.Goals as goal
-
-pub returns : goal.returns
-returns c = let no = c.in-Err.ensures.ok.1 (graph_kept c.args.version _ _ c.in_ok-nodes_of.ensures).0 in absurd cc

@@ -1,0 +1,22 @@
+use Rattle.std.proofs.Common.{rules}
+use Rattle.std.proofs.lemmas.Result.{err_from_is_err_and}
+use Rattle.serde_json.specs.View.{view}
+use Rattle.ww_json.specs.Parts.{each}
+use Rattle.ww_script_parts.specs.Acts.{deed_of, act_in}
+use Rattle.ww_json.proofs.Each.{each_more_by, each_stops}
+use Rattle.ww_script_parts.proofs.scripts.each_act.Goals as goal
+
+pub loop-item-init : goal.loop-item-init
+unfolding each
+loop-item-init c = search rules
+
+pub loop-item-preserved : goal.loop-item-preserved
+loop-item-preserved c =
+    each_more_by deed_of view (act_in c.args.ranges) c.args.items.now c.loop-item.item-index c.item-item.result c.loop-item.acts.items _
+    c.in_ok-act.act c.loop-item-test.true c.item-item.is c.loop-item.invariant c.in_ok-act.ensures c.in_ok-push.ensures.items
+
+pub returns-in_err-act : goal.returns-in_err-act
+returns-in_err-act c =
+    let p = err_from_is_err_and c.from_residual-in_err-act.result c.from_residual-in_err-act.ensures.1 in
+    rw (p.1, p.2) (λ ne. each_stops view (act_in c.args.ranges) c.args.items.now c.loop-item.item-index c.item-item.result _ _
+    c.loop-item-test.true c.item-item.is c.loop-item.invariant (c.in_err-act.ensures ne))
