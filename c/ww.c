@@ -29,6 +29,9 @@ enum { NAP = 50000 };
 /* A call stays away for so many nanoseconds at the longest, however long a pause is, or others have the processor. */
 enum { STAY = 5000000 };
 
+/* Behind so many pauses of a long rest another thread is let run. */
+enum { BREATH = 64 };
+
 static inline void pause_for(unsigned count)
 {
 	for (unsigned i = 0; i < count; i++)
@@ -136,25 +139,30 @@ static void wake(const ww_seat *s, const bool *wakes)
 			ww_unpark(&s->world->seats[k]);
 }
 
-/* How a call stays away from a lock that it has lost: until when, once it let another thread run, and that it is over. */
+/* How a call stays away from a lock that it has lost: until when, once it let others run, and that it is over. */
 struct stay {
 	struct timespec until;
 	bool yielded, over;
 };
 
-/* Rests as long as the library says. Once it is over, the few glances that are left follow at once. */
+/*
+ * Rests as long as the library says; amid a long rest it lets other threads run, since one of them may have the lock.
+ * Once the stay is over, the few glances that are left follow at once.
+ */
 static void rest(struct stay *stay, uint32_t pauses, bool yields)
 {
-	if (stay->over)
-		return;
-	pause_for(pauses);
-	if (!yields)
+	if (!yields && !stay->over)
+		pause_for(pauses);
+	if (!yields || stay->over)
 		return;
 	if (!stay->yielded)
 		from_now(&stay->until, STAY);
 	stay->yielded = true;
-	sched_yield();
-	stay->over = ww_has_come(&stay->until);
+	for (uint32_t rested = 0; rested < pauses && !stay->over; rested += BREATH) {
+		pause_for(BREATH);
+		sched_yield();
+		stay->over = ww_has_come(&stay->until);
+	}
 }
 
 __attribute__((noinline, cold)) int ww_go_on(ww_seat *s, struct ww_stop *stop)

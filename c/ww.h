@@ -123,11 +123,12 @@ typedef struct {
  * wants another turn by ww_go_on_: at once (WW_AGAIN), for the seat may be inside a
  * guard, where it holds up everybody else; once the seat that is inside has left, so
  * after a pause, and after a short sleep if that lasts (WW_AWAITS); after as many
- * pauses of the processor as stand in rest (WW_STAYS), after these and once another
- * thread was let run (WW_YIELDS), or once somebody has woken the seat (WW_SLEEPS).
- * Whoever is marked in wakes has to be woken, and nobody else.  Until a call has come to its end any other is told
- * -EBUSY, and ww_go_on_ without one -EINVAL.  ww_unlock_all_ releases locks up
- * to the first for which somebody may wait: after its turns it is called again.
+ * pauses of the processor as stand in rest (WW_STAYS), amid which other threads are
+ * best let run (WW_YIELDS), or once somebody has woken the seat (WW_SLEEPS).
+ * Whoever is marked in wakes has to be woken, and nobody else.  Until a call has come
+ * to its end any other is told -EBUSY, and ww_go_on_ without one -EINVAL.
+ * ww_unlock_all_ releases locks up to the first for which somebody may wait: after
+ * its turns it is called again.
  * ww_cancel_ of a seat that the world hasn't is -EINVAL, and so is an empty handle
  * with each call; no pointer may be NULL.
  */

@@ -1,5 +1,5 @@
 //! How a call stays away from a lock that it has just tried in vain, as data: how often it glances at the lock, how many
-//! pauses it rests between two glances, and whether it then lets another thread run. It waits for nobody and reads
+//! pauses it rests between two glances, and whether it lets other threads run meanwhile. It waits for nobody and reads
 //! nothing; each number of it stands here and nowhere else.
 
 ghost use Rattle.std.specs.Prelude.{◌≡◌, ◌<◌, ◌≤◌, ◌+◌, None, IfSome};
@@ -31,8 +31,12 @@ const GLANCES_LONGER: u8 = 8;
 
 const PAUSES_LONGER: u32 = 1024;
 
-/// After a rest of so many pauses another thread may have the processor.
-const BREATH: u32 = 64;
+/// After so many pauses of a rest another thread may have the processor.
+pub(crate) const BREATH: u32 = 64;
+
+/// So often in a rest, at most. Where other programs want the processors each time takes a whole turn; where only the
+/// locks' own threads do, and are more than processors, whoever has the lock can't go on without.
+pub(crate) const MOST_YIELDS: u32 = 8;
 
 /// The fewest pauses of a seat that holds nothing.
 const FEWEST: u32 = 8;
@@ -100,7 +104,7 @@ impl Memory {
 #[derive(Clone, Copy, Debug, PartialEq, Eq)]
 pub struct Rest {
     pub pauses: u32,
-    /// Whether another thread is let run then, once.
+    /// Whether other threads are let run meanwhile, behind each 64 pauses, 8 times at most.
     pub yields: bool,
 }
 

@@ -7,17 +7,18 @@ ghost use Rattle.ww_table.specs.Seat.{IsSeatOf, locks_of, view_of};
 ghost use Rattle.ww_seat.specs.Looks.{HasGlanced};
 
 use crate::patience::Patience;
-use crate::resting::{MOST_GLANCES, Rest, Stay};
+use crate::resting::{BREATH, MOST_GLANCES, MOST_YIELDS, Rest, Stay};
 use std::{hint, thread};
 use ww_table::{Board, Seat16};
 
 /// Rests as it is told to.
 fn take_rest(rest: Rest) {
-    for _ in 0..rest.pauses {
+    for done in 0..rest.pauses {
         hint::spin_loop();
-    }
-    if rest.yields {
-        thread::yield_now();
+        let paused = done + 1;
+        if rest.yields && paused % BREATH == 0 && paused <= BREATH * MOST_YIELDS {
+            thread::yield_now();
+        }
     }
 }
 
