@@ -31,12 +31,8 @@ const GLANCES_LONGER: u8 = 8;
 
 const PAUSES_LONGER: u32 = 1024;
 
-/// After so many pauses of a rest another thread may have the processor.
+/// After so many pauses of a rest another thread may have the processor: it may be the one that has the lock.
 pub(crate) const BREATH: u32 = 64;
-
-/// So often in a rest, at most. Where other programs want the processors each time takes a whole turn; where only the
-/// locks' own threads do, and are more than processors, whoever has the lock can't go on without.
-pub(crate) const MOST_YIELDS: u32 = 8;
 
 /// The fewest pauses of a seat that holds nothing.
 const FEWEST: u32 = 8;
@@ -104,7 +100,7 @@ impl Memory {
 #[derive(Clone, Copy, Debug, PartialEq, Eq)]
 pub struct Rest {
     pub pauses: u32,
-    /// Whether other threads are let run meanwhile, behind each 64 pauses, 8 times at most.
+    /// Whether other threads are let run meanwhile, behind each 64 pauses.
     pub yields: bool,
 }
 

@@ -7,7 +7,7 @@ ghost use Rattle.ww_table.specs.Seat.{IsSeatOf, locks_of, view_of};
 ghost use Rattle.ww_seat.specs.Looks.{HasGlanced};
 
 use crate::patience::Patience;
-use crate::resting::{BREATH, MOST_GLANCES, MOST_YIELDS, Rest, Stay};
+use crate::resting::{BREATH, MOST_GLANCES, Rest, Stay};
 use std::{hint, thread};
 use ww_table::{Board, Seat16};
 
@@ -15,8 +15,7 @@ use ww_table::{Board, Seat16};
 fn take_rest(rest: Rest) {
     for done in 0..rest.pauses {
         hint::spin_loop();
-        let paused = done + 1;
-        if rest.yields && paused % BREATH == 0 && paused <= BREATH * MOST_YIELDS {
+        if rest.yields && (done + 1) % BREATH == 0 {
             thread::yield_now();
         }
     }
