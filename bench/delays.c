@@ -1,4 +1,4 @@
-/* Preloaded before a program, this draws delays at random: where memory is asked for and given back, where a thread
+/* Preloaded before a program, this draws delays at random: where memory is asked for and freed, where a thread
  * gives its processor away, and before a thread begins to wait in the system or wakes another. So threads meet at
  * points between which they mostly pass in no time. Some waits end at once, as the system may let them at any time.
  *

@@ -10,7 +10,8 @@
  * engines threads SECONDS GOES prints what bench/plot draws: for some workloads
  * and each engine, by 1 to 16 threads, a line for each go: transactions a second,
  * in thousands, and, of another run that times each transaction by itself, the
- * microseconds of the longest one.
+ * microseconds of the longest one. Two more workloads, with four threads alone, are
+ * for tables.
  *
  * engines waits ENGINE THREADS TAKES LOCKS SECONDS INSIDE OUTSIDE times each
  * transaction of one engine and one workload by itself; each works for so many
@@ -191,6 +192,7 @@ void by_scoped(unsigned me, const list &it)
 	switch (now.takes) {
 	case 1: return by_scoped(me, it, std::make_index_sequence<1>());
 	case 2: return by_scoped(me, it, std::make_index_sequence<2>());
+	case 4: return by_scoped(me, it, std::make_index_sequence<4>());
 	case 8: return by_scoped(me, it, std::make_index_sequence<8>());
 	default: std::exit(3);
 	}
@@ -437,17 +439,19 @@ void row(double seconds)
 	std::fflush(stdout);
 }
 
-// For bench/plot. Where transactions work, it is for ten to twenty microseconds.
+// For bench/plot, and with four threads alone for tables. Where transactions work, it is for ten to twenty microseconds.
 void by_threads(double seconds, unsigned times)
 {
 	struct panel {
-		unsigned takes, locks, pauses;
+		unsigned takes, locks, pauses, fewest, most;
 	};
-	constexpr panel panels[]{ { 2, 64, 0 }, { 8, 64, 0 }, { 2, 4, 0 }, { 2, 64, 1600 } };
+	constexpr panel panels[]{ { 2, 64, 0, 1, WW_MAX_SEATS }, { 8, 64, 0, 1, WW_MAX_SEATS },
+				  { 2, 4, 0, 1, WW_MAX_SEATS },	 { 2, 64, 1600, 1, WW_MAX_SEATS },
+				  { 4, 64, 0, 4, 4 },		 { 2, 2, 0, 4, 4 } };
 
 	std::puts("locks,pauses,threads,engine,rate,longest");
 	for (const panel &it : panels)
-		for (unsigned threads = 1; threads <= WW_MAX_SEATS; threads *= 2)
+		for (unsigned threads = it.fewest; threads <= it.most; threads *= 2)
 			for (unsigned go = 0; go < times; go++)
 				for (unsigned by = 0; by < engines; by++) {
 					now = { threads, it.takes, it.locks };

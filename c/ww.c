@@ -1,5 +1,6 @@
 /* ww.c - the waiting that the proved library leaves to its caller. */
 #define _GNU_SOURCE
+#define WW_NO_INLINE /* Here are the functions that may be called in place of those that ww.h compiles into its callers. */
 #include "ww_inside.h"
 #include <errno.h>
 #include <linux/futex.h>
@@ -10,6 +11,7 @@
 #include <unistd.h>
 
 _Static_assert(sizeof(ww_seat) == 64, "a seat has one cache line");
+_Static_assert(offsetof(ww_seat, handle) == 0, "a seat begins with its handle");
 
 enum { NOTHING, TOKEN, ASLEEP };
 
@@ -147,7 +149,7 @@ struct stay {
 
 /*
  * Rests as long as the library says; amid a long rest it lets other threads run, since one of them may have the lock.
- * Once the stay is over, the few glances that are left follow at once.
+ * Once the stay is over, the few spin reads that are left follow at once.
  */
 static void rest(struct stay *stay, uint32_t pauses, bool yields)
 {
@@ -199,6 +201,8 @@ __attribute__((noinline, cold)) int ww_go_on(ww_seat *s, struct ww_stop *stop)
 		step = 0;
 	}
 }
+
+int ww_further(ww_seat *s) { return ww_go_on(s, NULL); }
 
 uint32_t ww_version(void) { return 10000 * WW_VERSION_MAJOR + 100 * WW_VERSION_MINOR + WW_VERSION_PATCH; }
 
@@ -260,7 +264,7 @@ int ww_close(ww_world *w)
 	return 0;
 }
 
-/* In turn, so that one who gives a seat back twice is told so wherever another is free. */
+/* In turn, so that a thread that releases a seat twice is told so wherever another is free. */
 ww_seat *ww_seat_get(ww_world *w)
 {
 	uint32_t first = w ? __atomic_fetch_add(&w->turn, 1, __ATOMIC_RELAXED) % w->count : 0;
@@ -290,7 +294,7 @@ int ww_seat_put(ww_seat *s)
 int ww_begin(ww_seat *s) { return s ? ww_begin_(&s->handle) : -EINVAL; }
 int ww_done(ww_seat *s) { return s ? ww_done_(&s->handle) : -EINVAL; }
 int ww_end(ww_seat *s) { return s ? ww_end_(&s->handle) : -EINVAL; }
-uint32_t ww_held(const ww_seat *s) { return s ? s->held : 0; }
+uint32_t ww_held(const ww_seat *s) { return s ? (uint32_t)ww_held_((ww_handle *)&s->handle) : 0; }
 
 /* Where the thread sanitizer's part keeps which locks the seat holds. */
 static inline uint64_t *marks_of(ww_seat *s)
@@ -300,7 +304,6 @@ static inline uint64_t *marks_of(ww_seat *s)
 
 static inline void take(ww_seat *s, uint32_t n)
 {
-	s->held++;
 	if (SANITIZES_THREADS) {
 		marks_of(s)[n / 64] |= (uint64_t)1 << n % 64;
 		__tsan_acquire(&s->world->orders[n]);
@@ -309,14 +312,12 @@ static inline void take(ww_seat *s, uint32_t n)
 
 static inline void forget(ww_seat *s, uint32_t n)
 {
-	s->held--;
 	if (SANITIZES_THREADS)
 		marks_of(s)[n / 64] &= ~((uint64_t)1 << n % 64);
 }
 
 static inline void forget_all(ww_seat *s)
 {
-	s->held = 0;
 	for (size_t k = 0; k < words_for(s->world->locks); k++)
 		marks_of(s)[k] = 0;
 }

@@ -19,12 +19,11 @@ static inline void __tsan_acquire(void *at) { (void)at; }
 static inline void __tsan_release(void *at) { (void)at; }
 #endif
 
-/* It has a cache line of its own. */
+/* It has a cache line of its own, and begins with its handle, as ww.h says. */
 struct ww_seat {
 	ww_handle handle;
 	ww_world *world;
 	uint32_t token;		/* one futex word: nothing, a token, or its thread sleeps */
-	uint32_t held;		/* how many locks it holds */
 	uint32_t cancels;	/* how often it was cancelled, by others */
 	uint32_t stops;		/* how many waits that called off */
 	bool stale;		/* a cancel is pending that was meant for a user before this one */
@@ -53,7 +52,7 @@ struct ww_stop {
 };
 
 #define WW_HIDDEN __attribute__((visibility("hidden")))
-/* All turns of a call but the first. */
+/* All steps of a call but the first. */
 WW_HIDDEN int ww_go_on(ww_seat *s, struct ww_stop *stop);
 /* Wakes its thread, or leaves it a token. */
 WW_HIDDEN void ww_unpark(ww_seat *s);

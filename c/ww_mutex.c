@@ -204,7 +204,7 @@ static inline void own(struct ww_mutex *m, struct ww_acquire_ctx *x, ww_seat *s)
 	}
 }
 
-/* From the second turn of a lock call to its end; r is what the first one answered. */
+/* From the second step of a lock call to its end; r is what the first one answered. */
 COLD static int lock_on(struct ww_mutex *m, struct ww_acquire_ctx *x, ww_seat *s, int r, enum way way, const struct timespec *until)
 {
 	struct ww_stop stop = { .asked = x ? &x->cancelled : NULL, .until = until, .pool = m->pool, .call_off = call_off };
@@ -215,7 +215,6 @@ COLD static int lock_on(struct ww_mutex *m, struct ww_acquire_ctx *x, ww_seat *s
 		__atomic_fetch_add(&m->waiters, 1, __ATOMIC_SEQ_CST);
 	}
 	for (;;) {
-		s->held = x ? x->acquired : 0;
 		if (r > 0)
 			r = ww_go_on(s, heeds ? &stop : NULL);
 		if (r != -EINTR || stop.sent)
@@ -499,7 +498,7 @@ int ww_mutex_trylock(struct ww_mutex *m, struct ww_acquire_ctx *x)
 	return 1;
 }
 
-/* Where somebody may wait for it, or the context keeps a list of what it acquired; r is what the first turn answered. */
+/* Where somebody may wait for it, or the context keeps a list of what it acquired; r is what the first step answered. */
 COLD static int unlock_on(struct ww_acquire_ctx *x, int r)
 {
 	if (x->seat != x->own) {
@@ -528,7 +527,7 @@ COLD static int unlock_alone(struct ww_mutex *m)
 	return r;
 }
 
-/* From the first turn on the mutex is another's, who may destroy it and give its memory away. */
+/* From the first step on the mutex is another's, who may destroy it and give its memory away. */
 static inline int unlock(struct ww_mutex *m)
 {
 	struct ww_acquire_ctx *x = holder(m);

@@ -160,7 +160,7 @@ WW_MUST_CHECK int ww_class_limit(struct ww_class *ww_class, uint32_t mutexes, ui
 /* Opens the class now, where it isn't open: it takes all its memory. -ENOMEM. */
 WW_MUST_CHECK int ww_class_open(struct ww_class *ww_class);
 /*
- * Gives back its memory; the next use opens it anew.  -EBUSY: it has a mutex, a
+ * Frees its memory; the next use opens it anew.  -EBUSY: it has a mutex, a
  * context runs, or a mutex is held.  No other thread uses the class meanwhile.
  */
 int ww_class_free(struct ww_class *ww_class);

@@ -1,4 +1,4 @@
-// ww_mutex.hpp - the mutexes and contexts of ww_mutex.h for C++17, given back by themselves. Nothing here throws, or needs
+// ww_mutex.hpp - the mutexes and contexts of ww_mutex.h for C++17, released by themselves. Nothing here throws, or needs
 // exceptions. clang's -Wthread-safety knows what each call acquires.
 #ifndef WW_MUTEX_HPP
 #define WW_MUTEX_HPP

@@ -1,4 +1,4 @@
-/* ww_pool.c - classes of mutexes: their opening and freeing, numbers that are given and taken back, and seats. */
+/* ww_pool.c - classes of mutexes: their opening and freeing, numbers that are handed out and put back, and seats. */
 #define _GNU_SOURCE
 #include "ww_pool.h"
 #include <pthread.h>

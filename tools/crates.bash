@@ -1,7 +1,7 @@
-# Which crates a crate stands on. To be sourced.
+# Which crates a crate depends on. To be sourced.
 # shellcheck shell=bash
 
-# Prints this crate and all that it stands on, one a line, each behind those that it stands on itself: the order in which
+# Prints this crate and all that it depends on, one a line, each behind those that it depends on: the order in which
 # rt proves them. The second word is the crates.txt to read; the libraries of the kit aren't in it. It fails where that
 # can't be read, or doesn't name the crate.
 crates_of() {
@@ -17,7 +17,7 @@ crates_of() {
     tell_crate "$1"
 }
 
-# The part of `crates_of` for one crate: those that it stands on, and then it, but for those that were told before.
+# The part of `crates_of` for one crate: those that it depends on, and then it, but for those that were told before.
 tell_crate() {
     local used
     [ -n "${uses[$1]+named}" ] && [ -z "${is_told[$1]-}" ] || return 0

@@ -2,7 +2,7 @@
  * What nobody promises: that whoever waits gets its lock.  Two contexts take one
  * lock by turns, each within its one context; a third, younger than both, stands
  * behind them in the list, and sleeps for as long as they go on.  All calls are
- * made by turns in one thread, so each run is the same.
+ * made step by step in one thread, so each run is the same.
  */
 #include "../ww.h"
 #include <stdio.h>
@@ -14,7 +14,7 @@ enum { TIMES = 100000 };
 static ww_handle seats[SEATS];
 static long woken[SEATS];
 
-/* Turns until the seat has to sleep, or its call has come to its end. */
+/* Steps until the seat has to sleep, or its call has come to its end. */
 static int go_on(int seat)
 {
 	int answer;

@@ -1,5 +1,5 @@
 /*
- * Four threads make any turn in any state, with any number: every answer is a
+ * Four threads make any step in any state, with any number: every answer is a
  * code, and every lock exclusive.  Then handles that were never opened, or were
  * closed.
  */
@@ -14,7 +14,7 @@ static unsigned long added[THREADS][LOCKS], times = 2000000;
 static int turned(unsigned me, int r)
 {
 	while (r > 0) {
-		r = turn(&handles[me]); /* never sleeps: who looks again needs no waking */
+		r = turn(&handles[me]); /* never sleeps: a waiter that looks again needs no waking */
 		if (r > 0)
 			sched_yield();
 	}

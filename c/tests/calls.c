@@ -2,7 +2,7 @@
  * Four threads make any call of ww.h in any state, with any number.  What each
  * may answer follows from the answers before: a thread keeps what it holds by
  * them, so every answer is asked for exactly, every lock is exclusive, and all
- * come to their ends.  On the way seats are given back, and taken anew.
+ * come to their ends.  On the way seats are put back, and taken anew.
  */
 #include "test.h"
 #include <unistd.h>
@@ -126,7 +126,7 @@ static void finishes(struct mine *m)
 	}
 }
 
-/* There are as many seats as threads, so where it gave its own back one is free, if not at once. */
+/* There are as many seats as threads, so where it put its own back one is free, if not at once. */
 static void changes_seats(struct mine *m)
 {
 	bool may = !m->context && !m->count;

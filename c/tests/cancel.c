@@ -8,7 +8,7 @@
 static ww_world *world, *other;
 static ww_seat *seats[3];
 
-/* By its turns the older one comes to sleep, so that this thread may go on. */
+/* By its steps the older one comes to sleep, so that this thread may go on. */
 static void sleeps(ww_seat *older, uint32_t lock)
 {
 	int r = ww_lock_(&older->handle, lock, false);

@@ -32,7 +32,7 @@ static void while_it_waits(ww_seat *s)
 	MUST(ww_close(world) == -EBUSY && !ww_unlock(s, 0) && !pthread_join(thread, NULL));
 }
 
-/* By its turns a seat waits in sight of this thread. */
+/* By its steps a seat waits in sight of this thread. */
 static void while_a_turn_waits(ww_seat *s, ww_seat *other)
 {
 	int r = 1;
@@ -85,7 +85,7 @@ static void opens_within_bounds(int kind)
 	does_not_open(kind, 2, UINT32_MAX);
 }
 
-/* A seat that nobody has can't be given back, nor once another was taken in its place. */
+/* A seat that nobody has can't be put back, nor once another was taken in its place. */
 static void gives_back_once(void)
 {
 	ww_seat *first = seats[0], *other;

@@ -1,4 +1,4 @@
-// Mutexes and contexts of C++: each gives itself back, also where a callable throws, and results are passed on. With
+// Mutexes and contexts of C++: each releases itself, also where a callable throws, and results are passed on. With
 // -DUNGUARDED clang has to warn.
 #include "../ww.hpp"
 #include "../ww_mutex.hpp"
@@ -168,5 +168,5 @@ int main()
 	}
 	lists(ww_class);
 	MUST(!ww_class_free(&ww_class));
-	std::puts("mutex_own: each gave itself back");
+	std::puts("mutex_own: each released itself");
 }

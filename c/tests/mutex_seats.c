@@ -1,7 +1,7 @@
 /*
  * The sixteen contexts of a class: all may be in use, by one thread or by many; a
  * thread that used the class keeps none of them from others, whether it ended or
- * not; and who has to wait for one goes on once one ends.
+ * not; and a thread that has to wait for one goes on once one ends.
  */
 #include "mutex_test.h"
 

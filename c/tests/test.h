@@ -42,7 +42,7 @@ static inline unsigned long lock_all(ww_seat *s, const uint32_t *list, uint32_t 
 	}
 }
 
-/* The next turn of a call, which wakes nobody and rests for nothing. */
+/* The next step of a call, which wakes nobody and rests for nothing. */
 static inline int turn(ww_handle *h)
 {
 	bool wakes[WW_MAX_SEATS];

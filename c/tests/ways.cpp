@@ -99,7 +99,7 @@ bool refuses(ww::world &world)
 	       context.unlock(1) == -EINVAL;
 }
 
-// Where a callable throws all is given back too.
+// Where a callable throws all is released too.
 bool gives_back(ww::world &world)
 {
 #ifdef __cpp_exceptions

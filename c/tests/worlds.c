@@ -98,7 +98,7 @@ static void is_no_lock(ww_seat *s, uint32_t n)
 	}
 }
 
-/* By its turns the older seat comes to sleep. */
+/* By its steps the older seat comes to sleep. */
 static void sleeps(ww_seat *older, uint32_t lock)
 {
 	int r = ww_lock_(&older->handle, lock, false);

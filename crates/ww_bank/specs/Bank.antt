@@ -4,6 +4,6 @@ use Rattle.ww_plain.specs.History.{Recorded}
 use Rattle.ww_plain_laws.specs.Totals.{is_move}
 use Rattle.ww_scope.specs.Crew.{OwnMeet}
 
--- each record of the own list is a `Move`
+-- each record of the log is a `Move`
 abbrev pub OwnMoves : List (ℕ × Recorded) → Type 0
 OwnMoves own = OwnMeet (λ r. is_move r.transaction) own

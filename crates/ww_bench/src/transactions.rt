@@ -64,7 +64,7 @@ fn read_all(world: &World, acquiring: &Acquiring, list: &[u8]) -> bool
     sum == list.len() as u64
 }
 
-/// Takes the locks of these nodes, reads each of them where that is wanted, and gives all back. Tells whether it read
+/// Takes the locks of these nodes, reads each of them where that is wanted, and releases all. Tells whether it read
 /// what is there.
 pub(crate) fn look<R: Wait, const READS: bool>(
     rt: &R,
@@ -84,7 +84,7 @@ pub(crate) fn look<R: Wait, const READS: bool>(
     (acquiring.unlock_all(rt, world).fini(world), is_read)
 }
 
-/// Takes the locks of these nodes, reads each of them, works for so many pauses of the processor, and gives all back.
+/// Takes the locks of these nodes, reads each of them, works for so many pauses of the processor, and releases all.
 /// Tells whether it read what is there.
 pub(crate) fn work<R: Wait>(
     rt: &R,
@@ -118,7 +118,7 @@ fn is_possible(world: &World, done: &Done, txn: &Txn) -> bool
     txn.fits(world.size()) && first_double(txn).is_none() && done.covers(world, txn)
 }
 
-/// Commits a transaction and gives all back, and tells whether it was committed.
+/// Commits a transaction and releases all, and tells whether it was committed.
 fn commit<R: Wait>(rt: &R, world: &World, mut done: Done, txn: Txn) -> (Pass, bool)
     requires home { IsAtHome done world.now }
     ensures home { IsAtHome result.0 world.now }
@@ -133,7 +133,7 @@ fn commit<R: Wait>(rt: &R, world: &World, mut done: Done, txn: Txn) -> (Pass, bo
     (committed.unlock_all(rt, world).fini(world), true)
 }
 
-/// Takes the locks of these nodes, commits a transaction on them and gives all back. Tells whether it was committed.
+/// Takes the locks of these nodes, commits a transaction on them and releases all. Tells whether it was committed.
 pub(crate) fn add<R: Wait>(rt: &R, world: &World, pass: Pass, list: &[u8], txn: Txn) -> (Pass, bool)
     requires home { IsAtHome pass world.now }
     ensures home { IsAtHome result.0 world.now }

@@ -12,7 +12,11 @@ use Rattle.ww_c.specs.contracts.slot.parts.Parts as Parts
 use Rattle.ww_c.specs.contracts.slot.Slot as Held
 
 abbrev pub E : Bx
-E = record { row = Desk.the_row; laws = desk.the_row_laws; al = record { row = Heap.the_row; laws = heap.the_row_laws; g = ghosts; d = dict; drops = impl [] tnil dnil } }
+E = record {
+  row = Desk.the_row;
+  laws = desk.the_row_laws;
+  al = record { row = Heap.the_row; laws = heap.the_row_laws; g = ghosts; d = dict; drops = impl [] tnil dnil };
+}
 
 abbrev pub FromParts : Slot 0
 FromParts = plain (λ _. Parts.the_row Desk.the_row Heap.the_row ghosts)

@@ -20,7 +20,13 @@ nothing_more [] = refl
 nothing_more (x ∷ xs) = ap (λ ys. x ∷ ys) (nothing_more xs)
 
 pub none_filled : (desks : List Situation) (handles : List Handle) → length desks ≡ length handles → IsFilled desks desks handles
-none_filled desks handles same = record { rest = []; whole = sym (nothing_more desks); before = desks_in handles; count = length_in handles ∙ sym same; now = sym (nothing_more (desks_in handles)) }
+none_filled desks handles same = record {
+  rest = [];
+  whole = sym (nothing_more desks);
+  before = desks_in handles;
+  count = length_in handles ∙ sym same;
+  now = sym (nothing_more (desks_in handles));
+}
 
 set_in : (handles : List Handle) (n : ℕ) (h : Handle) → desks_in (set handles n h) ≡ set (desks_in handles) n h.slot.desk
 set_in [] n h = refl
@@ -37,13 +43,16 @@ cut_at : (before after : List (Option Situation)) (n : ℕ) (x : Option Situatio
 cut_at [] after n x e = absurd (omega (arith, e))
 cut_at (y ∷ []) after zero x e = record { front = []; count = refl; now = refl }
 cut_at (y ∷ z ∷ ys) after zero x e = absurd (omega (arith, e))
-cut_at (y ∷ ys) after (suc n) x e = let c = cut_at ys after n x (omega (arith, e)) in record { front = y ∷ c.front; count = ap suc c.count; now = ap (λ (l : List (Option Situation)). y ∷ l) c.now }
+cut_at (y ∷ ys) after (suc n) x e = let c = cut_at ys after n x (omega (arith, e)) in
+    record { front = y ∷ c.front; count = ap suc c.count; now = ap (λ (l : List (Option Situation)). y ∷ l) c.now }
 
 append_front : (front rest : List Situation) (s : Situation) → (front ++ s ∷ []) ++ rest ≡ front ++ s ∷ rest
 append_front [] rest s = refl
 append_front (x ∷ xs) rest s = ap (λ (l : List Situation). x ∷ l) (append_front xs rest s)
 
-pub one_filled : (desks old front : List Situation) (s : Situation) (handles new : List Handle) (h : Handle) → IsFilled desks old handles → old ≡ front ++ s ∷ [] → new ≡ set handles (length front) h → h.slot.desk ≡ Some s → IsFilled desks front new
+pub one_filled : (desks old front : List Situation) (s : Situation) (handles new : List Handle) (h : Handle)
+    → IsFilled desks old handles → old ≡ front ++ s ∷ [] → new ≡ set handles (length front) h → h.slot.desk ≡ Some s
+    → IsFilled desks front new
 one_filled desks old front s handles new h f popped is put =
     let more : length f.before ≡ length front + 1 = f.count ∙ ap length popped ∙ length-append front (s ∷ []) in
     let c = cut_at f.before (map Some f.rest) (length front) h.slot.desk more in record {
@@ -51,5 +60,7 @@ one_filled desks old front s handles new h f popped is put =
       whole = f.whole ∙ ap (λ (l : List Situation). l ++ f.rest) popped ∙ append_front front f.rest s;
       before = c.front;
       count = c.count;
-      now = ap desks_in is ∙ set_in handles (length front) h ∙ ap (λ (l : List (Option Situation)). set l (length front) h.slot.desk) f.now ∙ c.now ∙ ap (λ (x : Option Situation). c.front ++ x ∷ map Some f.rest) put;
+      now = ap desks_in is ∙ set_in handles (length front) h
+          ∙ ap (λ (l : List (Option Situation)). set l (length front) h.slot.desk) f.now ∙ c.now
+          ∙ ap (λ (x : Option Situation). c.front ++ x ∷ map Some f.rest) put;
     }

@@ -1,5 +1,5 @@
 -- The numbers that C is answered, the kernel's errors with a minus sign.
-use Rattle.std.specs.Prelude.{ℤ, pos, negsuc, if◌then◌else◌, ℕ}
+use Rattle.std.specs.Prelude.{ℤ, pos, negsuc, if◌then◌else◌, nat_eq, ℕ}
 use Rattle.ww_desk.specs.declared.turn.Answer.{Answer}
 use Rattle.ww_desk.specs.declared.turn.Answer.TheVariants.{Done, Again, Awaits, Stays, Sleeps, Busy, Invalid, Already, NoSpace, Deadlk, Interrupted}
 
@@ -8,7 +8,7 @@ abbrev pub code_of : Answer → ℤ
 code_of Done = pos 0
 code_of Again = pos 1
 code_of Sleeps = pos 3
-code_of (Stays rest) = if rest.yields then pos 4 else pos 2
+code_of (Stays rest) = if nat_eq rest.yields 0 then pos 2 else pos 4
 code_of Awaits = pos 5
 code_of Busy = negsuc 15
 code_of Invalid = negsuc 21

@@ -1,5 +1,5 @@
 -- What a call by a handle of C's comes to.
-use Rattle.std.specs.Prelude.{ℕ, zero, suc, ◌≡◌, ◌≤◌, ◌⊎◌, ℤ, pos, negsuc, Bool, false, List, map, replicate, Option, Some, None, Box}
+use Rattle.std.specs.Prelude.{ℕ, zero, suc, ◌≡◌, ◌≤◌, ◌⊎◌, ℤ, pos, negsuc, Bool, false, List, length, map, replicate, Option, Some, None, Box}
 use Rattle.std.specs.Global.{Global}
 use Rattle.ww_desk.specs.declared.turn.Answer.{Answer}
 use Rattle.ww_desk.specs.Situations.{Situation}
@@ -18,15 +18,17 @@ IsCall answers (Some s) code after = (a : Answer) × (s' : Situation) × (after 
 -- ... and then it is told whom to wake
 abbrev pub IsWakingCall : (Situation → Answer → Situation → Type 0) → Option Situation → ℤ → List Bool → Option Situation → Type 0
 IsWakingCall answers None code wakes after = (code ≡ negsuc 21) × (wakes ≡ replicate 16 false) × (after ≡ None)
-IsWakingCall answers (Some s) code wakes after = (a : Answer) × (t s' : Situation) × (after ≡ Some s') × answers s a t × IsWakesAnswer t wakes s' × (code ≡ code_of a)
+IsWakingCall answers (Some s) code wakes after = (a : Answer) × (t s' : Situation) × (after ≡ Some s')
+    × answers s a t × IsWakesAnswer t wakes s' × (code ≡ code_of a)
 
 abbrev pub goes_on : Situation → Answer → Situation → Type 0
 goes_on s a s' = IsNextAnswer s.turn s a s'
 
--- the next turn, which also tells how many pauses to rest
+-- the next step, which also tells how many pauses to rest
 abbrev pub IsTurnCall : Option Situation → ℤ → List Bool → ℕ → Option Situation → Type 0
 IsTurnCall None code wakes pauses after = (code ≡ negsuc 21) × (wakes ≡ replicate 16 false) × (pauses ≡ 0) × (after ≡ None)
-IsTurnCall (Some s) code wakes pauses after = (a : Answer) × (t s' : Situation) × (after ≡ Some s') × goes_on s a t × IsWakesAnswer t wakes s' × (code ≡ code_of a) × (pauses ≡ pauses_of a)
+IsTurnCall (Some s) code wakes pauses after = (a : Answer) × (t s' : Situation) × (after ≡ Some s') × goes_on s a t
+    × IsWakesAnswer t wakes s' × (code ≡ code_of a) × (pauses ≡ pauses_of a)
 
 abbrev pub cancels : ℕ → Situation → Answer → Situation → Type 0
 cancels u s a s' = IsCancelAnswer s u a s'
@@ -35,6 +37,11 @@ cancels u s a s' = IsCancelAnswer s u a s'
 abbrev pub IsIdleCall : Option Situation → ℤ → Option Situation → Type 0
 IsIdleCall None code after = (code ≡ pos 0) × (after ≡ None)
 IsIdleCall (Some s) code after = (after ≡ Some s) × ((IsIdle s × (code ≡ pos 0)) ⊎ ((¬ IsIdle s) × (code ≡ negsuc 15)))
+
+-- how many locks the desk holds, which are none for an empty handle
+abbrev pub IsHeldCall : Option Situation → ℕ → Option Situation → Type 0
+IsHeldCall None count after = (count ≡ 0) × (after ≡ None)
+IsHeldCall (Some s) count after = (after ≡ Some s) × (count ≡ length s.held)
 
 -- an idle desk is closed, and any other is left as it is
 abbrev pub IsCloseCall : Option Situation → ℤ → Option Situation → Type 0
@@ -68,4 +75,5 @@ pub record IsOpen (kind locks left seats : ℕ) (after : List (Option Situation)
 -- a world; ENOMEM, or EINVAL for any other sizes, and then the handles have what they had
 abbrev pub IsOpenCall : ℕ → ℕ → ℕ → ℕ → List (Option Situation) → ℤ → List (Option Situation) → Type 0
 IsOpenCall kind locks left seats before code after = ((code ≡ pos 0) × IsOpen kind locks left seats after)
-    ⊎ (((code ≡ negsuc 11) × IsWorld kind locks left seats × (after ≡ before)) ⊎ ((code ≡ negsuc 21) × (¬ IsWorld kind locks left seats) × (after ≡ before)))
+    ⊎ (((code ≡ negsuc 11) × IsWorld kind locks left seats × (after ≡ before))
+    ⊎ ((code ≡ negsuc 21) × (¬ IsWorld kind locks left seats) × (after ≡ before)))

@@ -1,3 +1,4 @@
 pub mod Slots
+pub mod Lending
 pub mod Codes
 pub mod Exports

@@ -10,13 +10,14 @@ pub(crate) const EINVAL: i32 = -22;
 pub(crate) const ENOMEM: i32 = -12;
 
 /// The number of an answer for C.
+#[inline(always)]
 pub(crate) fn code(answer: Answer) -> i32
     ensures { result ≡ code_of answer }
 {
     match answer {
         Answer::Done => 0,
         Answer::Again => 1,
-        Answer::Stays(rest) if !rest.yields => 2,
+        Answer::Stays(rest) if rest.yields == 0 => 2,
         Answer::Sleeps => 3,
         Answer::Stays(_) => 4,
         Answer::Awaits => 5,
@@ -29,7 +30,7 @@ pub(crate) fn code(answer: Answer) -> i32
     }
 }
 
-/// How many pauses C rests after a turn with this answer.
+/// How many pauses C rests after a step with this answer.
 pub(crate) fn pauses(answer: Answer) -> u32
     ensures { result ≡ pauses_of answer }
 {

@@ -1,5 +1,5 @@
 //! What C keeps of a seat.
-ghost use Rattle.std.specs.Prelude.{◌≡◌, Option, Some, None, IfSome, IfNone, true};
+ghost use Rattle.std.specs.Prelude.{◌≡◌, Option, Some, None, IfSome, IfNone, true, not};
 ghost use Rattle.ww_desk.specs.contracts.desk.Desk.{the_row};
 ghost use Rattle.ww_c.specs.Slots.{slot_owns, slot_coded, is_full};
 
@@ -25,6 +25,19 @@ impl Model for Slot {
 }
 
 impl Slot {
+    ghost use Rattle.std.specs.Borrow.{sem};
+    ghost use Rattle.ww_c.specs.Lending.{LendsDesk};
+
+    /// Lends the desk where it lies, so that a call neither empties the slot nor fills it again.
+    #[inline(always)]
+    pub(crate) fn lend(&mut self) -> &mut Desk
+        requires { is_full self.old.desk ≡ true }
+        ensures* writes_back { sem 𝓛 (LendsDesk self.entry result) }
+        ensures value { Some result.now ≡ self.old.desk }
+    {
+        unsafe { &mut *(self.at as *mut Desk) }
+    }
+
     fn empty(alloc: Global) -> Slot
         ensures { result.desk ≡ None }
     {
@@ -60,12 +73,20 @@ impl Slot {
 #[repr(C)]
 #[derive(Drop)]
 pub struct Handle {
-    slot: Slot,
+    pub(crate) slot: Slot,
     full: bool,
     ghost tells: { full ≡ is_full slot.desk },
 }
 
 impl Handle {
+    /// Whether it has no desk.
+    #[inline(always)]
+    pub(crate) fn is_empty(&self) -> bool
+        ensures { result ≡ not (is_full self.now.slot.desk) }
+    {
+        !self.full
+    }
+
     /// Takes the desk out.
     pub fn take(&mut self, alloc: Global) -> Option<Box<Desk, Global>>
         ensures some { IfSome result (λ desk. self.old.slot.desk ≡ Some desk.value) }

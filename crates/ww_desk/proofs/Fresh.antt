@@ -41,23 +41,31 @@ first_keeps b k h f = let me = f.new.me in record {
   at = rw (f.board, f.turn) (new_settled b.table.shared.table_id b.table.shared.key k h.seat f.new f.few f.fits);
   stamp = f.new.seated.stamp;
   all = rw (f.board, f.held) refl;
-  owned = λ n. ap (λ (m : Sat). owns m.0.part.core n) me ∙ bare_first b.table.shared.key.kind b.table.shared.key.locks k n ∙ sym (ap (λ (s : Holding). is_among n s.items) f.held);
+  owned = λ n. ap (λ (m : Sat). owns m.0.part.core n) me
+      ∙ bare_first b.table.shared.key.kind b.table.shared.key.locks k n
+      ∙ sym (ap (λ (s : Holding). is_among n s.items) f.held);
   room = rw f.board (ap (λ (m : Sat). length m.0.part.core.owned) me ∙ length-replicate b.table.shared.key.locks false);
   seats = f.seats;
   draws = omega (arith, f.left, ap (λ (m : Sat). m.0.part.counts.draws) me);
 }
 
-pub first_seen : (b : Board) (k : ℕ) (h : Station) → IsFirst b k h → situation_of h ≡ fresh b.table.shared.table_id b.table.shared.key.locks h.seats b.table.shared.key.kind h.left k
+pub first_seen : (b : Board) (k : ℕ) (h : Station) → IsFirst b k h
+    → situation_of h ≡ fresh b.table.shared.table_id b.table.shared.key.locks h.seats b.table.shared.key.kind h.left
+    k
 first_seen b k h f =
-    let core : h.seat.seat.me.0.part.core ≡ first_view b.table.shared.key.kind b.table.shared.key.locks k = ap (λ (m : Sat). m.0.part.core) f.new.me in
+    let core : h.seat.seat.me.0.part.core ≡ first_view b.table.shared.key.kind b.table.shared.key.locks k =
+    ap (λ (m : Sat). m.0.part.core) f.new.me in
     let counts : h.seat.seat.me.0.part.counts ≡ no_counts = ap (λ (m : Sat). m.0.part.counts) f.new.me in
     rw (f.board, core, counts, f.held, f.is_done, f.told, f.turn, f.wakes) refl
 
-pub fresh_more : (all new : List Situation) (s : Situation) (home : TableId) (size seats : ℕ) (kind : Kind) (left n : ℕ) → AreFresh all home size seats kind left n → s ≡ fresh home size seats kind left n → new ≡ all ++ s ∷ [] → AreFresh new home size seats kind left (n + 1)
+pub fresh_more : (all new : List Situation) (s : Situation) (home : TableId) (size seats : ℕ) (kind : Kind)
+    (left n : ℕ) → AreFresh all home size seats kind left n → s ≡ fresh home size seats kind left n
+    → new ≡ all ++ s ∷ [] → AreFresh new home size seats kind left (n + 1)
 fresh_more all new s home size seats kind left n h is grown = rw grown (record {
   long = omega (arith, h.long, length-append all (s ∷ []));
   each = λ i d lt. below_more (λ j. (e : Situation) → get_or (all ++ s ∷ []) j e ≡ fresh home size seats kind left j) n
-      (λ j low e. let small : j < length all = omega (arith, h.long, low) in rw (get_or_append_left all (s ∷ []) e j small) (h.each j e small))
+      (λ j low e. let small : j < length all = omega (arith, h.long, low) in
+      rw (get_or_append_left all (s ∷ []) e j small) (h.each j e small))
       (λ e. rw (get_or_push all s e n h.long) is)
       i (omega (arith, h.long, lt, length-append all (s ∷ []))) d;
 })
@@ -67,7 +75,9 @@ elem_mid [] ys y = refl
 elem_mid (x ∷ xs) ys y = elem_mid xs ys y
 
 -- the next of new seats has the number of those before it
-pub next_is : (t : TableId) (key : Start) (seats yielded rest more : List Seat16) (s : Seat16) → ((k : ℕ) (x : Seat16) → get_elem? seats k ≡ some x → IsNew t key k x) → yielded ++ rest ≡ seats → rest ≡ s ∷ more
+pub next_is : (t : TableId) (key : Start) (seats yielded rest more : List Seat16) (s : Seat16)
+    → ((k : ℕ) (x : Seat16) → get_elem? seats k ≡ some x → IsNew t key k x) → yielded ++ rest ≡ seats
+    → rest ≡ s ∷ more
     → IsNew t key (length yielded) s × (yielded ++ s ∷ more ≡ seats)
 next_is t key seats yielded rest more s each whole step =
     let here = ap (λ (l : List Seat16). yielded ++ l) (sym step) ∙ whole in

@@ -33,13 +33,16 @@ at_among (m ∷ ms) n e = elim (or_cases (eqb m n) (is_among n ms) e) [
 ]
 
 -- its place is the one that the list has it at
-placed : (held places : List ℕ) (room i n : ℕ) → ArePlaces held places room → i < length held → get_or held i 0 ≡ n → get_or places n 0 ≡ i + 1
+placed : (held places : List ℕ) (room i n : ℕ) → ArePlaces held places room → i < length held → get_or held i 0 ≡ n
+    → get_or places n 0 ≡ i + 1
 placed held places room i n p lt is = subst (λ (m : ℕ). get_or places m 0 ≡ i + 1) is (p.found i lt)
 
 below_placed : (places : List ℕ) (n k : ℕ) → get_or places n 0 ≡ k + 1 → n < length places
-below_placed places n k e = elim (cases_lt n (length places)) [ inl lt ↦ lt | inr le ↦ absurd (let none = get_or_past places n 0 le in omega (arith, e, none)) ]
+below_placed places n k e = elim (cases_lt n (length places))
+    [ inl lt ↦ lt | inr le ↦ absurd (let none = get_or_past places n 0 le in omega (arith, e, none)) ]
 
-place_among : (held places : List ℕ) (room n : ℕ) → ArePlaces held places room → is_among n held ≡ true → (i : ℕ) × (i < length held) × (get_or held i 0 ≡ n) × (get_or places n 0 ≡ i + 1)
+place_among : (held places : List ℕ) (room n : ℕ) → ArePlaces held places room → is_among n held ≡ true → (i : ℕ)
+    × (i < length held) × (get_or held i 0 ≡ n) × (get_or places n 0 ≡ i + 1)
 place_among held places room n p e = let a = at_among held n e in (a.at, a.inside, a.is, placed held places room a.at n p a.inside a.is)
 
 -- what the place of a lock that is held tells
@@ -49,7 +52,8 @@ pub record Stands (held places : List ℕ) (n place : ℕ) : Type 0 where
   pub here : get_or held (place - 1) 0 ≡ n
   pub low : n < length places
 
-pub stands : (held places : List ℕ) (room n : ℕ) → ArePlaces held places room → is_among n held ≡ true → Stands held places n (get_or places n 0)
+pub stands : (held places : List ℕ) (room n : ℕ) → ArePlaces held places room → is_among n held ≡ true
+    → Stands held places n (get_or places n 0)
 stands held places room n p e = let a = place_among held places room n p e in record {
   some = omega (arith, a.3);
   within = omega (arith, a.1, a.3);
@@ -58,23 +62,31 @@ stands held places room n p e = let a = place_among held places room n p e in re
 }
 
 -- as it was read
-pub read_place : (held places : List ℕ) (room n place : ℕ) → ArePlaces held places room → is_among n held ≡ true → place ≡ get_or places n place → Stands held places n place
+pub read_place : (held places : List ℕ) (room n place : ℕ) → ArePlaces held places room → is_among n held ≡ true
+    → place ≡ get_or places n place → Stands held places n place
 read_place held places room n place p e read =
     let s = stands held places room n p e in subst (Stands held places n) (sym (read ∙ get_or_default_zero places n place s.low)) s
 
 pub held_inside : (v w : Holding) (n : ℕ) → v ≡ w → is_among n w.items ≡ true → is_among n v.items ≡ true
 held_inside v w n e has = ap (λ (h : Holding). is_among n h.items) e ∙ has
 
-last_low : (held places : List ℕ) (room : ℕ) → ArePlaces held places room → 1 ≤ length held → get_or held (length held - 1) 0 < length places
-last_low held places room p some = below_placed places (get_or held (length held - 1) 0) (length held - 1) (p.found (length held - 1) (omega (arith, some)))
+last_low : (held places : List ℕ) (room : ℕ) → ArePlaces held places room → 1 ≤ length held
+    → get_or held (length held - 1) 0 < length places
+last_low held places room p some = below_placed places (get_or held (length held - 1) 0) (length held - 1)
+    (p.found (length held - 1) (omega (arith, some)))
 
 -- the last lock, as it was read
-last_read : (held : List ℕ) (last len : ℕ) → 1 ≤ length held → len ≡ length held → last ≡ get_or held (len - 1) last → last ≡ get_or held (length held - 1) 0
+last_read : (held : List ℕ) (last len : ℕ) → 1 ≤ length held → len ≡ length held → last ≡ get_or held (len - 1) last
+    → last ≡ get_or held (length held - 1) 0
 last_read held last len some count read =
-    read ∙ ap (λ (j : ℕ). get_or held j last) (let same : len - 1 ≡ length held - 1 = omega (arith, count) in same) ∙ get_or_default_zero held (length held - 1) last (omega (arith, some))
+    read ∙ ap (λ (j : ℕ). get_or held j last) (let same : len - 1 ≡ length held - 1 = omega (arith, count) in same)
+    ∙ get_or_default_zero held (length held - 1) last (omega (arith, some))
 
-pub last_below : (held places : List ℕ) (room last len : ℕ) → ArePlaces held places room → 1 ≤ length held → len ≡ length held → last ≡ get_or held (len - 1) last → last < length places
-last_below held places room last len p some count read = subst (λ (l : ℕ). l < length places) (sym (last_read held last len some count read)) (last_low held places room p some)
+pub last_below : (held places : List ℕ) (room last len : ℕ) → ArePlaces held places room → 1 ≤ length held
+    → len ≡ length held → last ≡ get_or held (len - 1) last → last < length places
+last_below held places room last len p some count read =
+    subst (λ (l : ℕ). l < length places) (sym (last_read held last len some count read))
+    (last_low held places room p some)
 
 some_place : (k : ℕ) → not (eqb (k + 1) 0) ≡ true
 some_place k = grind (arith, nat_tests)
@@ -89,38 +101,50 @@ pub told_past : (held places : List ℕ) (room n : ℕ) → ArePlaces held place
 told_past held places room n p le = sym (told_by_place held places room n p) ∙ ap (λ (k : ℕ). not (eqb k 0)) (get_or_past places n 0 le)
 
 -- no lock stands twice, so no more are held than there are
-different_from : (held places : List ℕ) (k : ℕ) → ((i : ℕ) → i < length held → get_or places (get_or held i 0) 0 ≡ k + i + 1) → AreDifferent held
+different_from : (held places : List ℕ) (k : ℕ)
+    → ((i : ℕ) → i < length held → get_or places (get_or held i 0) 0 ≡ k + i + 1) → AreDifferent held
 different_from [] places k at = different_none
 different_from (m ∷ ms) places k at = different_cons m ms
     (elim (true_or_false (is_among m ms)) [
       | inl has ↦ absurd (
           let a = at_among ms m has in
           let first : get_or places m 0 ≡ k + 0 + 1 = at 0 (omega arith) in
-          let again : get_or places m 0 ≡ k + suc a.at + 1 = subst (λ (j : ℕ). get_or places j 0 ≡ k + suc a.at + 1) a.is (at (suc a.at) (omega (arith, a.inside))) in
+          let again : get_or places m 0 ≡ k + suc a.at + 1 =
+          subst (λ (j : ℕ). get_or places j 0 ≡ k + suc a.at + 1) a.is
+          (at (suc a.at) (omega (arith, a.inside))) in
           omega (arith, first, again))
       | inr none ↦ none
     ])
     (different_from ms places (k + 1) (λ i lt. let later = at (suc i) (omega (arith, lt)) in omega (arith, later)))
 
-all_below : (held places : List ℕ) (k : ℕ) → ((i : ℕ) → i < length held → get_or places (get_or held i 0) 0 ≡ k + i + 1) → AllByRecursion (λ m. m < length places) held
+all_below : (held places : List ℕ) (k : ℕ)
+    → ((i : ℕ) → i < length held → get_or places (get_or held i 0) 0 ≡ k + i + 1)
+    → AllByRecursion (λ m. m < length places) held
 all_below [] places k at = tt
-all_below (m ∷ ms) places k at =
-    (below_placed places m k (let first = at 0 (omega arith) in omega (arith, first)), all_below ms places (k + 1) (λ i lt. let later = at (suc i) (omega (arith, lt)) in omega (arith, later)))
+all_below (m ∷ ms) places k at = (
+  below_placed places m k (let first = at 0 (omega arith) in omega (arith, first)),
+  all_below ms places (k + 1)
+      (λ i lt. let later = at (suc i) (omega (arith, lt)) in omega (arith, later)),
+)
 
 no_more_held : (held places : List ℕ) (room : ℕ) → ArePlaces held places room → length held ≤ length places
 no_more_held held places room p =
-    let at : (i : ℕ) → i < length held → get_or places (get_or held i 0) 0 ≡ 0 + i + 1 = λ i lt. let here = p.found i lt in omega (arith, here) in
+    let at : (i : ℕ) → i < length held → get_or places (get_or held i 0) 0 ≡ 0 + i + 1 = λ i lt. let here =
+    p.found i lt in omega (arith, here) in
     few_different (length places) held (different_from held places 0 at) (all_below held places 0 at)
 
 -- ---- one more
 
-pub more_placed : (held places : List ℕ) (room n : ℕ) → ArePlaces held places room → n < length places → is_among n held ≡ false → ArePlaces (held ++ n ∷ []) (set places n (length held + 1)) room
+pub more_placed : (held places : List ℕ) (room n : ℕ) → ArePlaces held places room → n < length places
+    → is_among n held ≡ false → ArePlaces (held ++ n ∷ []) (set places n (length held + 1)) room
 more_placed held places room n p low lacks = record {
   found = λ i lt. below_more (λ j. get_or (set places n (length held + 1)) (get_or (held ++ n ∷ []) j 0) 0 ≡ j + 1) (length held)
       (λ j inside.
       ap (λ (m : ℕ). get_or (set places n (length held + 1)) m 0) (get_or_append_left held (n ∷ []) 0 j inside)
-      ∙ get_or-set_other places n (get_or held j 0) (length held + 1) 0 (λ e. true≢false (sym (among_at held j n inside e) ∙ lacks)) ∙ p.found j inside)
-      (ap (λ (m : ℕ). get_or (set places n (length held + 1)) m 0) (get_or_push held n 0 (length held) refl) ∙ get_or-set_same places n (length held + 1) 0 low)
+      ∙ get_or-set_other places n (get_or held j 0) (length held + 1) 0
+      (λ e. true≢false (sym (among_at held j n inside e) ∙ lacks)) ∙ p.found j inside)
+      (ap (λ (m : ℕ). get_or (set places n (length held + 1)) m 0) (get_or_push held n 0 (length held) refl)
+      ∙ get_or-set_same places n (length held + 1) 0 low)
       i (let long = length-append held (n ∷ []) in omega (arith, lt, long));
   absent = λ m e.
       let parts = or_false (is_among m held) (eqb n m || false) (sym (is_among-append m held (n ∷ [])) ∙ e) in
@@ -131,7 +155,8 @@ more_placed held places room n p low lacks = record {
 }
 
 -- while one isn't held there is room for it
-pub room_more : (held places : List ℕ) (room n : ℕ) → ArePlaces held places room → n < length places → is_among n held ≡ false → length held < length places
+pub room_more : (held places : List ℕ) (room n : ℕ) → ArePlaces held places room → n < length places
+    → is_among n held ≡ false → length held < length places
 room_more held places room n p low lacks =
     let few = no_more_held (held ++ n ∷ []) (set places n (length held + 1)) room (more_placed held places room n p low lacks) in
     omega (arith, few, length-append held (n ∷ []), length-set places n (length held + 1))
@@ -147,17 +172,27 @@ pub popped : (front places : List ℕ) (room n : ℕ) → ArePlaces (front ++ n 
 popped front places room n p =
     let held : List ℕ = front ++ n ∷ [] in
     let long : length held ≡ length front + 1 = length-append front (n ∷ []) in
-    let last : get_or places n 0 ≡ length front + 1 = placed held places room (length front) n p (omega (arith, long)) (get_or_push front n 0 (length front) refl) in
+    let last : get_or places n 0 ≡ length front + 1 =
+    placed held places room (length front) n p (omega (arith, long))
+    (get_or_push front n 0 (length front) refl) in
     let low : n < length places = below_placed places n (length front) last in
-    let early : (i : ℕ) → i < length front → get_or places (get_or front i 0) 0 ≡ i + 1 = λ i lt. placed held places room i (get_or front i 0) p (omega (arith, long, lt)) (get_or_append_left front (n ∷ []) 0 i lt) in
-    let apart : (i : ℕ) → i < length front → get_or front i 0 ≢ n = λ i lt e. let here = early i lt in let there = subst (λ (m : ℕ). get_or places m 0 ≡ i + 1) e here in omega (arith, lt, last, there) in record {
+    let early : (i : ℕ) → i < length front
+    → get_or places (get_or front i 0) 0 ≡ i + 1 =
+    λ i lt. placed held places room i (get_or front i 0) p (omega (arith, long, lt))
+    (get_or_append_left front (n ∷ []) 0 i lt) in
+    let apart : (i : ℕ) → i < length front → get_or front i 0 ≢ n = λ i lt e. let here = early i lt in
+    let there = subst (λ (m : ℕ). get_or places m 0 ≡ i + 1) e here in omega (arith, lt, last, there) in
+    record {
       low = low;
-      lacks = elim (true_or_false (is_among n front)) [ inl has ↦ absurd (let a = at_among front n has in apart a.at a.inside a.is) | inr none ↦ none ];
+      lacks = elim (true_or_false (is_among n front))
+          [ inl has ↦ absurd (let a = at_among front n has in apart a.at a.inside a.is) | inr none ↦ none ];
       left = record {
         found = λ i lt. get_or-set_other places n (get_or front i 0) 0 0 (apart i lt) ∙ early i lt;
         absent = λ m e. dite (ℕ_discrete m n)
             (λ same. subst (λ (k : ℕ). get_or (set places n 0) k 0 ≡ 0) (sym same) (get_or-set_same places n 0 0 low))
-            (λ differ. get_or-set_other places n m 0 0 differ ∙ p.absent m (is_among-append m front (n ∷ []) ∙ ap (λ (b : Bool). b || (eqb n m || false)) e ∙ ap (λ (b : Bool). b || false) (differs n m differ)));
+            (λ differ. get_or-set_other places n m 0 0 differ
+            ∙ p.absent m (is_among-append m front (n ∷ []) ∙ ap (λ (b : Bool). b || (eqb n m || false)) e
+            ∙ ap (λ (b : Bool). b || false) (differs n m differ)));
         reserved = omega (arith, p.reserved, length-set places n 0);
         few = omega (arith, p.few, length-set places n 0);
       };
@@ -184,7 +219,13 @@ record StoodAt (held new : List ℕ) (i k : ℕ) : Type 0 where
 
 stood : (held new : List ℕ) (i k : ℕ) → IsFilled held new i → k < length new → StoodAt held new i k
 stood held new i k f lt = dite (ℕ_discrete k i)
-    (λ e. record { at = length held - 1; inside = omega (arith, f.inside); other = λ z. omega (arith, z, e, lt, f.long); is = ap (λ (j : ℕ). get_or new j 0) e ∙ f.moved (omega (arith, e, lt, f.long)) })
+    (λ e. record {
+      at = length held - 1;
+      inside = omega (arith, f.inside);
+      other = λ z. omega (arith, z, e, lt, f.long);
+      is = ap (λ (j : ℕ). get_or new j 0) e
+          ∙ f.moved (omega (arith, e, lt, f.long));
+    })
     (λ e. record { at = k; inside = omega (arith, lt, f.long); other = e; is = f.stays k e (omega (arith, lt, f.long)) })
 
 same_bool : (a b : Bool) → (a ≡ true → b ≡ true) → (b ≡ true → a ≡ true) → a ≡ b
@@ -206,7 +247,8 @@ others_held held new i n m f here differ = same_bool (is_among m new) (is_among 
           among_at new i m (omega (arith, before, f.long)) (f.moved before ∙ sym (ap (λ (j : ℕ). get_or held j 0) last) ∙ a.is)
     ])
 
-gone : (held new places : List ℕ) (room i n : ℕ) → ArePlaces held places room → IsFilled held new i → get_or held i 0 ≡ n → is_among n new ≡ false
+gone : (held new places : List ℕ) (room i n : ℕ) → ArePlaces held places room → IsFilled held new i
+    → get_or held i 0 ≡ n → is_among n new ≡ false
 gone held new places room i n p f here = elim (true_or_false (is_among n new)) [
   | inl has ↦ absurd (
       let a = at_among new n has in let s = stood held new i a.at f a.inside in
@@ -219,7 +261,8 @@ gone held new places room i n p f here = elim (true_or_false (is_among n new)) [
 abbrev moved_places : List ℕ → List ℕ → ℕ → ℕ → List ℕ
 moved_places held places i n = set (set places (get_or held (length held - 1) 0) (i + 1)) n 0
 
-less_placed : (held new places : List ℕ) (room i n : ℕ) → ArePlaces held places room → IsFilled held new i → get_or held i 0 ≡ n → ArePlaces new (moved_places held places i n) room
+less_placed : (held new places : List ℕ) (room i n : ℕ) → ArePlaces held places room → IsFilled held new i
+    → get_or held i 0 ≡ n → ArePlaces new (moved_places held places i n) room
 less_placed held new places room i n p f here =
     let last : ℕ = get_or held (length held - 1) 0 in
     let some : 1 ≤ length held = omega (arith, f.inside) in
@@ -233,12 +276,18 @@ less_placed held new places room i n p f here =
       found = λ k lt. dite (ℕ_discrete k i)
           (λ e.
           let before : i + 1 < length held = omega (arith, lt, e, f.long) in
-          let differ : last ≢ n = λ z. let both = subst (λ (m : ℕ). get_or places m 0 ≡ length held - 1 + 1) z at_last in omega (arith, both, at_n, before) in
-          ap (λ (j : ℕ). get_or (moved_places held places i n) (get_or new j 0) 0) e ∙ ap (λ (m : ℕ). get_or (moved_places held places i n) m 0) (f.moved before)
-          ∙ get_or-set_other (set places last (i + 1)) n last 0 0 differ ∙ get_or-set_same places last (i + 1) 0 (last_low held places room p some) ∙ ap (λ (j : ℕ). j + 1) (sym e))
+          let differ : last ≢ n = λ z. let both =
+          subst (λ (m : ℕ). get_or places m 0 ≡ length held - 1 + 1) z at_last in
+          omega (arith, both, at_n, before) in
+          ap (λ (j : ℕ). get_or (moved_places held places i n) (get_or new j 0) 0) e
+          ∙ ap (λ (m : ℕ). get_or (moved_places held places i n) m 0) (f.moved before)
+          ∙ get_or-set_other (set places last (i + 1)) n last 0 0 differ
+          ∙ get_or-set_same places last (i + 1) 0 (last_low held places room p some)
+          ∙ ap (λ (j : ℕ). j + 1) (sym e))
           (λ e.
           let same : get_or new k 0 ≡ get_or held k 0 = f.stays k e (omega (arith, lt, f.long)) in
-          let here_k : get_or places (get_or new k 0) 0 ≡ k + 1 = placed held places room k (get_or new k 0) p (omega (arith, lt, f.long)) (sym same) in
+          let here_k : get_or places (get_or new k 0) 0 ≡ k + 1 =
+          placed held places room k (get_or new k 0) p (omega (arith, lt, f.long)) (sym same) in
           others (get_or new k 0)
           (λ z. let both = subst (λ (m : ℕ). get_or places m 0 ≡ k + 1) z here_k in e (omega (arith, both, at_n)))
           (λ z. let both = subst (λ (m : ℕ). get_or places m 0 ≡ k + 1) z here_k in omega (arith, both, at_last, lt, f.long))
@@ -247,17 +296,20 @@ less_placed held new places room i n p f here =
           (λ same. subst (λ (k : ℕ). get_or (moved_places held places i n) k 0 ≡ 0) (sym same) gone)
           (λ differ.
           let none : is_among m held ≡ false = sym (others_held held new i n m f here differ) ∙ e in
-          others m differ (λ z. true≢false (sym (among_at held (length held - 1) m (omega (arith, some)) (sym z)) ∙ none)) ∙ p.absent m none);
+          others m differ (λ z. true≢false (sym (among_at held (length held - 1) m (omega (arith, some)) (sym z))
+          ∙ none)) ∙ p.absent m none);
       reserved = omega (arith, p.reserved, long, length-set (set places last (i + 1)) n 0);
       few = omega (arith, p.few, long, length-set (set places last (i + 1)) n 0);
     }
 
-first_place : (held places : List ℕ) (room i n : ℕ) → ArePlaces held places room → i < length held → get_or held i 0 ≡ n → position_or_len (λ m. eqb m n) held ≡ i
+first_place : (held places : List ℕ) (room i n : ℕ) → ArePlaces held places room → i < length held
+    → get_or held i 0 ≡ n → position_or_len (λ m. eqb m n) held ≡ i
 first_place held places room i n p lt here = position_or_len_is (λ m. eqb m n) held i 0 (omega (arith, lt))
     (λ k before. elim (true_or_false (eqb (get_or held k 0) n)) [
       | inl same ↦ absurd (
           let one = placed held places room i n p lt here in
-          let two = placed held places room k n p (omega (arith, before, lt)) (same_from_eqb (get_or held k 0) n same) in omega (arith, one, two, before))
+          let two = placed held places room k n p (omega (arith, before, lt))
+          (same_from_eqb (get_or held k 0) n same) in omega (arith, one, two, before))
       | inr other ↦ other
     ])
     (λ inside. subst (λ (k : ℕ). eqb k n ≡ true) (sym here) (eqb_same n))
@@ -279,7 +331,9 @@ pub record IsReleased (held new places moved : List ℕ) (room n : ℕ) : Type 0
   pub others : (m : ℕ) → m ≢ n → is_among m new ≡ is_among m held
   pub left : ArePlaces new moved room
 
-pub released : (held new places : List ℕ) (room n place last out len : ℕ) → ArePlaces held places room → is_among n held ≡ true → IsTakenOut held new places n place last out len → IsReleased held new places (set (set places last place) n 0) room n
+pub released : (held new places : List ℕ) (room n place last out len : ℕ) → ArePlaces held places room
+    → is_among n held ≡ true → IsTakenOut held new places n place last out len
+    → IsReleased held new places (set (set places last place) n 0) room n
 released held new places room n place last out len p has t =
     let s = read_place held places room n place p has t.place_is in
     let i : ℕ = place - 1 in
@@ -294,17 +348,22 @@ released held new places room n place last out len p has t =
     } in
     let out_is : out ≡ n = t.out_is ∙ get_or_default_zero held i out within ∙ s.here in
     let last_is : last ≡ get_or held (length held - 1) 0 = last_read held last len (omega (arith, within)) t.count t.last_is in record {
-      now = t.now ∙ ap (λ (k : ℕ). swap_remove held i k) out_is ∙ sym (ap (λ (k : ℕ). swap_remove held k n) (first_place held places room i n p within s.here));
+      now = t.now ∙ ap (λ (k : ℕ). swap_remove held i k) out_is
+          ∙ sym (ap (λ (k : ℕ). swap_remove held k n) (first_place held places room i n p within s.here));
       lacks = gone held new places room i n p f s.here;
       others = λ m differ. others_held held new i n m f s.here differ;
       left = subst (λ (k : ℕ). ArePlaces new (set (set places last k) n 0) room) next
-          (subst (λ (l : ℕ). ArePlaces new (set (set places l (i + 1)) n 0) room) (sym last_is) (less_placed held new places room i n p f s.here));
+          (subst (λ (l : ℕ). ArePlaces new (set (set places l (i + 1)) n 0) room) (sym last_is)
+          (less_placed held new places room i n p f s.here));
     }
 
 -- what is seen of it then
-pub seen_released : (held new places : List ℕ) (v : Holding) (n last place : ℕ) → holding held places ≡ v → new ≡ held_without held n → holding new (set (set places last place) n 0) ≡ record v { items = held_without v.items n }
+pub seen_released : (held new places : List ℕ) (v : Holding) (n last place : ℕ) → holding held places ≡ v
+    → new ≡ held_without held n → holding new (set (set places last place) n 0)
+    ≡ record v { items = held_without v.items n }
 seen_released held new places v n last place was is =
-    let long : length (set (set places last place) n 0) ≡ length places = length-set (set places last place) n 0 ∙ length-set places last place in
+    let long : length (set (set places last place) n 0) ≡ length places = length-set (set places last place) n 0
+    ∙ length-set places last place in
     ap (λ (xs : List ℕ). holding xs (set (set places last place) n 0)) is
     ∙ ap (λ (k : ℕ). let h : Holding = record { locks = k; items = held_without held n } in h) long
     ∙ ap (λ (w : Holding). let h : Holding = record w { items = held_without w.items n } in h) was

@@ -5,7 +5,7 @@ use Rattle.ww_view.specs.Made.{found_pending, shut_out}
 use Rattle.ww_seat.specs.Calls.{HasMet}
 use Rattle.ww_seat.specs.Work.{AreMarked, HasToWake}
 use Rattle.ww_seat.specs.declared.look.Arrival.TheVariants.{Came, Woken}
-use Rattle.ww_seat.specs.declared.resting.Rest.{Rest}
+use Rattle.ww_seat.specs.Rests.{Rests}
 use Rattle.ww_seat.specs.declared.resting.Stay.{Stay}
 use Rattle.ww_desk.specs.declared.turn.Turn.{Turn}
 use Rattle.ww_desk.specs.declared.turn.Turn.TheVariants as at
@@ -36,11 +36,11 @@ HasTurned s turn s' = s' ≡ record s { turn = turn; view = s'.view }
 abbrev pub HasWorked : Situation → Situation → Type 0
 HasWorked s s' = s.view.attempts < s'.view.attempts
 
--- it tried once to give a lock back at once, in vain: the lock's word told more than its owner
+-- it tried once to release a lock at once, in vain: the lock's word told more than its owner
 abbrev pub HasKept : Situation → Situation → Type 0
 HasKept s s' = s'.view.kept ≡ s.view.kept + 1
 
--- it glanced at an owner word
+-- it made a spin read of an owner word
 abbrev pub HasGlanced : Situation → Situation → Type 0
 HasGlanced s s' = s'.view.glances ≡ s.view.glances + 1
 
@@ -57,7 +57,7 @@ pub record IsShutOut (s s' : Situation) : Type 0 where
 abbrev pub WakesCondemned : Situation → Situation → Type 0
 WakesCondemned s s' = AreMarked s.wakes (HasToWake s'.view) s'.wakes
 
--- also the first waiter of the lock that it gave back inside the guard, and nobody else
+-- also the first waiter of the lock that it released inside the guard, and nobody else
 abbrev pub WakesHeir : Situation → Situation → Type 0
 WakesHeir s s' = AreMarked s.wakes (λ u. (s'.view.heir ≡ Some u) × (u ≢ s.caller)) s'.wakes
 
@@ -117,21 +117,24 @@ IsDoneAnswer s Invalid s' = (is_at_rest s.turn ≡ true) × ((s.stamp ≡ 0) ⊎
 IsDoneAnswer s _ s' = ⊥
 
 abbrev pub IsEndAnswer : Situation → Answer → Situation → Type 0
-IsEndAnswer s Done s' = (is_at_rest s.turn ≡ true) × (s.stamp ≢ 0) × (s.held ≡ []) × (s' ≡ record s { stamp = 0; is_done = false; told = None; view = s'.view })
+IsEndAnswer s Done s' = (is_at_rest s.turn ≡ true) × (s.stamp ≢ 0) × (s.held ≡ [])
+    × (s' ≡ record s { stamp = 0; is_done = false; told = None; view = s'.view })
 IsEndAnswer s Busy s' = (is_at_rest s.turn ≡ false) × (s' ≡ s)
 IsEndAnswer s Invalid s' = (is_at_rest s.turn ≡ true) × ((s.stamp ≡ 0) ⊎ (s.held ≢ [])) × (s' ≡ s)
 IsEndAnswer s _ s' = ⊥
 
 -- ---- taking a lock
 
--- all of a stay is left: ten glances, and 12,416 pauses in all its rests
+-- all of a stay is left: fourteen spin reads, and 12,416 pauses in all its rests
 abbrev pub IsWholeStay : Stay → Type 0
-IsWholeStay stay = (stay.glances ≡ 10) × (stay.pauses ≡ 12416)
+IsWholeStay stay = (stay.glances ≡ 14) × (stay.pauses ≡ 12416)
 
--- the first turn: it has the lock, or stays away from it
+-- the first step: it has the lock, or stays away from it
 abbrev pub IsLockAnswer : Situation → ℕ → Bool → Answer → Situation → Type 0
 IsLockAnswer s n heeds Done s' = IsTryable s n × HasLock s n s'
-IsLockAnswer s n heeds Again s' = IsTryable s n × ((stay : Stay) × IsWholeStay stay × (s' ≡ record s { turn = at.Stays n stay heeds; tries = s.tries + 1; view = s'.view }))
+IsLockAnswer s n heeds Again s' = IsTryable s n
+    × ((stay : Stay) × IsWholeStay stay × (s'
+    ≡ record s { turn = at.Stays n stay heeds; tries = s.tries + 1; view = s'.view }))
 IsLockAnswer s n heeds Busy s' = (is_at_rest s.turn ≡ false) × (s' ≡ s)
 IsLockAnswer s n heeds Already s' = IsHeldAtRest s n × (s' ≡ s)
 IsLockAnswer s n heeds Invalid s' = IsBarred s n × (s' ≡ s)
@@ -153,35 +156,44 @@ IsSlowAnswer s n heeds Busy s' = (is_at_rest s.turn ≡ false) × (s' ≡ s)
 IsSlowAnswer s n heeds Invalid s' = (is_at_rest s.turn ≡ true) × ((s.told ≢ Some n) ⊎ ((s.held ≢ []) ⊎ IsBarred s n)) × (s' ≡ s)
 IsSlowAnswer s n heeds _ s' = ⊥
 
--- ---- waiting for it, in further turns
+-- ---- waiting for it, in further steps
 
 -- its call looks at the lock, inside the guard
 abbrev pub IsLooking : ℕ → Bool → Turn → Type 0
 IsLooking n heeds (at.Looks m arrival h) = (m ≡ n) × (h ≡ heeds)
 IsLooking n heeds _ = ⊥
 
--- so much of its stay is left to a call that is told this rest
-pub record IsRest (stay next : Stay) (rest : Rest) : Type 0 where
-  pub glances : next.glances < stay.glances
-  pub pauses : next.pauses + rest.pauses ≡ stay.pauses
-
--- a glance, and then a rest or the wish for the lock
+-- a spin read, and then a rest or the wish for the lock
 abbrev pub IsStayAnswer : Situation → ℕ → Stay → Bool → Answer → Situation → Type 0
-IsStayAnswer s n stay heeds (Stays rest) s' = HasGlanced s s' × ((next : Stay) × IsRest stay next rest × HasTurned s (at.Stays n next heeds) s')
+IsStayAnswer s n stay heeds (Stays rest) s' = HasGlanced s s'
+    × ((next : Stay) × Rests stay next rest × HasTurned s (at.Stays n next heeds) s')
 IsStayAnswer s n stay heeds Again s' = HasGlanced s s' × HasTurned s (at.Wants n Came heeds) s'
 IsStayAnswer s n stay heeds _ s' = ⊥
 
--- a look, after which it may be inside the guard still; or a try in vain to go inside
+-- a look, after which it may be inside the guard still; or a try in vain to go inside. A call that heeds cancels is told to
+-- sleep only once it found none inside that guard.
 abbrev pub IsWaitAnswer : Situation → ℕ → Bool → Answer → Situation → Type 0
 IsWaitAnswer s n heeds Awaits s' = IsShutOut s s'
-IsWaitAnswer s n heeds Again s' = IsLooking n heeds s'.turn × (s'.view.inside ≡ suc n) × HasWorked s s' × WakesCondemned s s' × (s' ≡ record s { turn = s'.turn; wakes = s'.wakes; view = s'.view })
-IsWaitAnswer s n heeds Sleeps s' = WakesCondemned s s' × HasWorked s s' × (s' ≡ record s { turn = at.Wants n Woken heeds; wakes = s'.wakes; view = s'.view })
-IsWaitAnswer s n heeds Done s' = WakesCondemned s s' × (s' ≡ record s { turn = at.Rests; held = s.held ++ n ∷ []; told = None; takes = s.takes + 1; wakes = s'.wakes; view = s'.view })
+IsWaitAnswer s n heeds Again s' = IsLooking n heeds s'.turn × (s'.view.inside ≡ suc n) × HasWorked s s'
+    × WakesCondemned s s' × (s' ≡ record s { turn = s'.turn; wakes = s'.wakes; view = s'.view })
+IsWaitAnswer s n heeds Sleeps s' = WakesCondemned s s' × HasWorked s s'
+    × (heeds ≡ true → s'.view.uncancelled ≡ true)
+    × (s' ≡ record s { turn = at.Wants n Woken heeds; wakes = s'.wakes; view = s'.view })
+IsWaitAnswer s n heeds Done s' = WakesCondemned s s'
+    × (s' ≡ record s {
+      turn = at.Rests;
+      held = s.held ++ n ∷ [];
+      told = None;
+      takes = s.takes + 1;
+      wakes = s'.wakes;
+      view = s'.view;
+    })
 IsWaitAnswer s n heeds (Deadlk k) s' = WakesCondemned s s' × HasToBackOff s n k s'
-IsWaitAnswer s n heeds (Interrupted by) s' = WakesCondemned s s' × (heeds ≡ true) × (s' ≡ record s { turn = at.Rests; interrupted = (n, by) ∷ s.interrupted; wakes = s'.wakes; view = s'.view })
+IsWaitAnswer s n heeds (Interrupted by) s' = WakesCondemned s s' × (heeds ≡ true)
+    × (s' ≡ record s { turn = at.Rests; interrupted = (n, by) ∷ s.interrupted; wakes = s'.wakes; view = s'.view })
 IsWaitAnswer s n heeds _ s' = ⊥
 
--- ---- giving a lock back
+-- ---- releasing a lock
 
 abbrev pub IsUnlockAnswer : Situation → ℕ → Answer → Situation → Type 0
 IsUnlockAnswer s n Done s' = IsHeldAtRest s n × HasGivenBack s n s'
@@ -190,22 +202,23 @@ IsUnlockAnswer s n Busy s' = (is_at_rest s.turn ≡ false) × (s' ≡ s)
 IsUnlockAnswer s n Invalid s' = (is_at_rest s.turn ≡ true) × (is_among n s.held ≡ false) × (s' ≡ s)
 IsUnlockAnswer s n _ s' = ⊥
 
--- the last one first: it gave back all, or those behind a lock that it still gives
+-- the last one first: it released all, or those behind a lock that it is still releasing
 abbrev pub IsUnlockAllAnswer : Situation → Answer → Situation → Type 0
 IsUnlockAllAnswer s Done s' = (is_at_rest s.turn ≡ true) × (s' ≡ record s { held = []; view = s'.view })
-IsUnlockAllAnswer s Again s' = (is_at_rest s.turn ≡ true) × HasKept s s' × ((front rest : List ℕ) × (n : ℕ) × (s.held ≡ front ++ n ∷ rest) × (s' ≡ record s { held = front ++ n ∷ []; turn = at.Gives n; view = s'.view }))
+IsUnlockAllAnswer s Again s' = (is_at_rest s.turn ≡ true) × HasKept s s'
+    × ((front rest : List ℕ) × (n : ℕ) × (s.held ≡ front ++ n ∷ rest)
+    × (s' ≡ record s { held = front ++ n ∷ []; turn = at.Gives n; view = s'.view }))
 IsUnlockAllAnswer s Busy s' = (is_at_rest s.turn ≡ false) × (s' ≡ s)
 IsUnlockAllAnswer s _ s' = ⊥
 
--- A further turn of it: the lock is given back; or it is inside the guard still, which it is only where nobody waits; or it
--- tried in vain to go inside.
+-- a further turn of it: it tried in vain to go inside the guard; or the lock is released
 abbrev pub IsGiveAnswer : Situation → ℕ → Answer → Situation → Type 0
 IsGiveAnswer s n Awaits s' = IsShutOut s s'
-IsGiveAnswer s n Again s' = (s'.view.inside ≡ suc n) × (s'.view.list ≡ []) × HasWorked s s' × HasTurned s (at.Lets n) s'
-IsGiveAnswer s n Done s' = WakesHeir s s' × (s' ≡ record s { turn = at.Rests; held = held_without s.held n; wakes = s'.wakes; view = s'.view })
+IsGiveAnswer s n Done s' = WakesHeir s s'
+    × (s' ≡ record s { turn = at.Rests; held = held_without s.held n; wakes = s'.wakes; view = s'.view })
 IsGiveAnswer s n _ s' = ⊥
 
--- ---- the next turn, whatever call is on its way
+-- ---- the next step, whatever call is on its way
 
 abbrev pub IsNextAnswer : Turn → Situation → Answer → Situation → Type 0
 IsNextAnswer at.Rests s a s' = (a ≡ Invalid) × (s' ≡ s)
@@ -213,7 +226,6 @@ IsNextAnswer (at.Stays n stay heeds) s a s' = IsStayAnswer s n stay heeds a s'
 IsNextAnswer (at.Wants n arrival heeds) s a s' = IsWaitAnswer s n heeds a s'
 IsNextAnswer (at.Looks n arrival heeds) s a s' = IsWaitAnswer s n heeds a s'
 IsNextAnswer (at.Gives n) s a s' = IsGiveAnswer s n a s'
-IsNextAnswer (at.Lets n) s a s' = IsGiveAnswer s n a s'
 
 -- ---- whom to wake, and calling off
 
@@ -224,8 +236,10 @@ IsWakesAnswer s wakes s' = (is_inside s.turn ≡ true → (wakes ≡ replicate 1
 
 -- the wait of seat u, one of the world, is called off; or its one step found that pending already, which is counted
 abbrev pub IsCancelAnswer : Situation → ℕ → Answer → Situation → Type 0
-IsCancelAnswer s u Done s' = (is_at_rest s.turn ≡ true) × (u < s.seats) × WakesAlso s u s' × (s' ≡ record s { cancelled = u ∷ s.cancelled; wakes = s'.wakes })
-IsCancelAnswer s u Already s' = (is_at_rest s.turn ≡ true) × (u < s.seats) × (s' ≡ record s { pendings = s.pendings + 1; view = found_pending s.view })
+IsCancelAnswer s u Done s' = (is_at_rest s.turn ≡ true) × (u < s.seats) × WakesAlso s u s'
+    × (s' ≡ record s { cancelled = u ∷ s.cancelled; wakes = s'.wakes })
+IsCancelAnswer s u Already s' = (is_at_rest s.turn ≡ true) × (u < s.seats)
+    × (s' ≡ record s { pendings = s.pendings + 1; view = found_pending s.view })
 IsCancelAnswer s u Busy s' = (is_at_rest s.turn ≡ false) × (s' ≡ s)
 IsCancelAnswer s u Invalid s' = (is_at_rest s.turn ≡ true) × (s.seats ≤ u) × (s' ≡ s)
 IsCancelAnswer s u _ s' = ⊥

@@ -4,7 +4,7 @@ use Rattle.atomic_table.specs.Seated.{TableId}
 use Rattle.ww_queue.specs.declared.kind.Kind.{Kind}
 use Rattle.ww_view.specs.declared.view.View.{View}
 use Rattle.ww_desk.specs.declared.turn.Turn.{Turn}
-use Rattle.ww_desk.specs.declared.turn.Turn.TheVariants.{Rests, Stays, Wants, Looks, Gives, Lets}
+use Rattle.ww_desk.specs.declared.turn.Turn.TheVariants.{Rests, Stays, Wants, Looks, Gives}
 
 -- Its world: the table; how many locks and seats that has, and of which kind; its number there; how many contexts it may still
 -- begin, and how many it has begun; its stamp, 0 without a context; whether its context is done; the locks that it holds,
@@ -41,7 +41,6 @@ is_at_rest (Stays n stay heeds) = false
 is_at_rest (Wants n arrival heeds) = false
 is_at_rest (Looks n arrival heeds) = false
 is_at_rest (Gives n) = false
-is_at_rest (Lets n) = false
 
 -- inside a guard
 abbrev pub is_inside : Turn → Bool
@@ -50,7 +49,6 @@ is_inside (Stays n stay heeds) = false
 is_inside (Wants n arrival heeds) = false
 is_inside (Looks n arrival heeds) = true
 is_inside (Gives n) = false
-is_inside (Lets n) = true
 
 abbrev pub is_empty : List ℕ → Bool
 is_empty [] = true

@@ -8,11 +8,10 @@ use Rattle.ww_table.specs.declared.board.Board.{Board}
 use Rattle.ww_table.specs.declared.seat.Seat16.{Seat16}
 use Rattle.ww_table.specs.Seat.{IsSeated, locks_of, size_of, view_of}
 use Rattle.ww_seat.specs.Orderly.{IsOrderly, IsSettled}
-use Rattle.ww_seat.specs.Guards.{IsGiving}
 use Rattle.ww_seat.specs.Looks.{IsOutside}
 use Rattle.ww_seat.specs.Work.{AreWoken, has_joined, looks_again, ComesOutside, IsWorking}
 use Rattle.ww_desk.specs.declared.turn.Turn.{Turn}
-use Rattle.ww_desk.specs.declared.turn.Turn.TheVariants.{Rests, Stays, Wants, Looks, Gives, Lets}
+use Rattle.ww_desk.specs.declared.turn.Turn.TheVariants.{Rests, Stays, Wants, Looks, Gives}
 use Rattle.ww_desk.specs.declared.station.Station.{Station}
 use Rattle.ww_desk.specs.Situations.{Situation}
 
@@ -45,16 +44,18 @@ situation_of d = record {
   view = view_of d.seat;
 }
 
--- Where the seat is at each turn of a call, and whom it has to wake then.
+-- Where the seat is at each step of a call, and whom it has to wake then.
 abbrev pub IsAt : TableId → ℕ → ℕ → List Bool → Turn → Seat16 → Type 0
 IsAt table size locks wakes Rests s = IsSettled table size s
-IsAt table size locks wakes (Stays n stay heeds) s = IsSeated table s × (n < locks) × IsOutside size n s.seat.me × ((view_of s).waits ≡ 0) × (1 ≤ stay.glances) × ((view_of s).glances + stay.glances ≤ 16)
-IsAt table size locks wakes (Wants n arrival heeds) s = IsSeated table s × (n < locks) × IsOutside size n s.seat.me × ComesOutside arrival (view_of s)
-IsAt table size locks wakes (Looks n arrival heeds) s = IsSeated table s × (n < locks) × IsOrderly size s.seat.me × IsWorking n (has_joined arrival) (looks_again arrival) (view_of s) × AreWoken (view_of s) wakes
+IsAt table size locks wakes (Stays n stay heeds) s = IsSeated table s × (n < locks) × IsOutside size n s.seat.me
+    × ((view_of s).waits ≡ 0) × (1 ≤ stay.glances) × ((view_of s).glances + stay.glances ≤ 16)
+IsAt table size locks wakes (Wants n arrival heeds) s = IsSeated table s × (n < locks) × IsOutside size n s.seat.me
+    × ComesOutside arrival (view_of s)
+IsAt table size locks wakes (Looks n arrival heeds) s = IsSeated table s × (n < locks) × IsOrderly size s.seat.me
+    × IsWorking n (has_joined arrival) (looks_again arrival) (view_of s) × AreWoken (view_of s) wakes
 IsAt table size locks wakes (Gives n) s = IsSettled table size s × (n < locks) × (owns (view_of s) n ≡ true)
-IsAt table size locks wakes (Lets n) s = IsSeated table s × (n < locks) × IsGiving size n s.seat.me
 
--- The seat is where the turn says, and owns just the locks that are held. With what is left it stays within what the table
+-- The seat is where `turn` says, and owns just the locks that are held. With what is left it stays within what the table
 -- counts.
 pub record Keeps (d : Station) : Type 0 where
   pub at : IsAt (table_of (arc_value d.board)) (size_of (arc_value d.board)) (locks_of (arc_value d.board)) d.wake.seats d.turn d.seat

@@ -7,6 +7,7 @@ impl Station {
     ghost use Rattle.ww_desk.specs.Answers.{IsBeginAnswer, IsDoneAnswer, IsEndAnswer};
 
     /// Starts a context.
+    #[inline(always)]
     pub(crate) fn begin(&mut self) -> Answer
         requires keeps { Keeps self.old }
         ensures keeps { Keeps self.new }
@@ -29,6 +30,7 @@ impl Station {
     }
 
     /// The context has all its locks.
+    #[inline(always)]
     pub(crate) fn done(&mut self) -> Answer
         requires keeps { Keeps self.old }
         ensures keeps { Keeps self.new }
@@ -45,6 +47,7 @@ impl Station {
     }
 
     /// Ends the context.
+    #[inline(always)]
     pub(crate) fn end(&mut self) -> Answer
         requires keeps { Keeps self.old }
         ensures keeps { Keeps self.new }

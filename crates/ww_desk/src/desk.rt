@@ -23,11 +23,12 @@ impl Model for Desk {
 }
 
 impl Desk {
-    ghost use Rattle.std.specs.Prelude.{◌≡◌, ◌↔◌, IsTrue};
+    ghost use Rattle.std.specs.Prelude.{◌≡◌, ◌↔◌, IsTrue, length};
     ghost use Rattle.ww_desk.specs.Answers.{IsBeginAnswer, IsDoneAnswer, IsEndAnswer, IsLockAnswer, IsTryAnswer, IsSlowAnswer, IsUnlockAnswer, IsUnlockAllAnswer, IsNextAnswer, IsWakesAnswer, IsCancelAnswer, IsIdle};
 
     /// Starts a context, with a stamp of its own. `Invalid` where there is one, or a lock is held; `NoSpace` where all
     /// that were allowed were begun.
+    #[inline(always)]
     pub fn begin(&mut self) -> Answer
         ensures { IsBeginAnswer self.old result self.new }
     {
@@ -36,6 +37,7 @@ impl Desk {
 
     /// The context has all its locks: from now on it takes none, as if there were none to take. `Invalid` without a
     /// context, and the second time.
+    #[inline(always)]
     pub fn done(&mut self) -> Answer
         ensures { IsDoneAnswer self.old result self.new }
     {
@@ -43,6 +45,7 @@ impl Desk {
     }
 
     /// Ends the context. `Invalid` where there is none, or a lock is held.
+    #[inline(always)]
     pub fn end(&mut self) -> Answer
         ensures { IsEndAnswer self.old result self.new }
     {
@@ -52,7 +55,7 @@ impl Desk {
     /// Takes a lock, or begins to wait for it; where `heeds` the wait may be called off. `Invalid` for a lock that
     /// isn't there, for a context that is done, for one that was told to back off and hasn't, and for a second lock
     /// without a context.
-    #[inline]
+    #[inline(always)]
     pub fn lock(&mut self, lock: u32, heeds: bool) -> Answer
         ensures { IsLockAnswer self.old lock heeds result self.new }
     {
@@ -60,7 +63,7 @@ impl Desk {
     }
 
     /// Takes a lock if nobody has it or waits for it, and else answers `Busy`.
-    #[inline]
+    #[inline(always)]
     pub fn try_lock(&mut self, lock: u32) -> Answer
         ensures { IsTryAnswer self.old lock result self.new }
     {
@@ -69,29 +72,31 @@ impl Desk {
 
     /// Takes the lock for which the context was told to back off, once it has. `Invalid` for any other lock, or while
     /// one is held.
+    #[inline(always)]
     pub fn lock_slow(&mut self, lock: u32, heeds: bool) -> Answer
         ensures { IsSlowAnswer self.old lock heeds result self.new }
     {
         self.station.lock_slow(lock, heeds)
     }
 
-    /// Gives a lock back, or begins to; the last of those held takes its place. `Invalid` for one that isn't held.
-    #[inline]
+    /// Releases a lock, or begins to; the last of those held takes its place. `Invalid` for one that isn't held.
+    #[inline(always)]
     pub fn unlock(&mut self, lock: u32) -> Answer
         ensures { IsUnlockAnswer self.old lock result self.new }
     {
         self.station.unlock(lock)
     }
 
-    /// Gives all locks back, the last one first. Where somebody may wait for one it answers `Again`: that one is
-    /// given back by further turns, and those before it by another call of this.
+    /// Releases all locks, the last one first. Where somebody may wait for one it answers `Again`: that one is
+    /// released by further steps, and those before it by another call of this.
+    #[inline(always)]
     pub fn unlock_all(&mut self) -> Answer
         ensures { IsUnlockAllAnswer self.old result self.new }
     {
         self.station.unlock_all()
     }
 
-    /// The next turn of the call that is on its way. `Invalid` where none is.
+    /// The next step of the call that is on its way. `Invalid` where none is.
     pub fn go_on(&mut self) -> Answer
         ensures { IsNextAnswer self.old.turn self.old result self.new }
     {
@@ -118,6 +123,13 @@ impl Desk {
         ensures { IsTrue result ↔ IsIdle self.now }
     {
         self.station.rests() && self.station.seat.stamp() == 0 && self.station.held.is_empty()
+    }
+
+    /// How many locks it holds.
+    pub fn held(&self) -> usize
+        ensures { result ≡ length self.now.held }
+    {
+        self.station.held.count()
     }
 
     /// Its number, from 0.

@@ -1,4 +1,4 @@
-//! The first turn of giving a lock back.
+//! The first step of releasing a lock.
 use crate::station::Station;
 use crate::turn::{Answer, Turn};
 use ww_seat::give_at_once;
@@ -9,7 +9,8 @@ impl Station {
     ghost use Rattle.ww_desk.specs.Stations.{situation_of, Keeps};
     ghost use Rattle.ww_desk.specs.Answers.{IsHeldAtRest, HasGivenBack, HasKept, HasTurned, IsUnlockAnswer, IsUnlockAllAnswer};
 
-    /// One try to give back a lock that it holds; where somebody may wait for it, the call goes on.
+    /// One try to release a lock that it holds; where somebody may wait for it, the call goes on.
+    #[inline(always)]
     fn give_or_go_on(&mut self, lock: u32) -> bool
         requires keeps { Keeps self.old }
         requires held { IsHeldAtRest (situation_of self.old) lock }
@@ -22,11 +23,21 @@ impl Station {
             self.held.remove(lock);
             return true;
         }
-        self.turn = Turn::Gives(lock);
+        self.goes_on_giving(lock);
         false
     }
 
-    /// Gives a lock back.
+    /// Further turns release this lock. A call seldom comes here, and needs no frame as long as it doesn't.
+    #[cold]
+    #[inline(never)]
+    fn goes_on_giving(&mut self, lock: u32)
+        ensures { self.new ≡ record self.old { turn = Gives lock } }
+    {
+        self.turn = Turn::Gives(lock);
+    }
+
+    /// Releases a lock.
+    #[inline(always)]
     pub(crate) fn unlock(&mut self, lock: u32) -> Answer
         requires keeps { Keeps self.old }
         ensures keeps { Keeps self.new }
@@ -45,8 +56,9 @@ impl Station {
         }
     }
 
-    /// Gives locks back, the last one first, up to the first for which somebody may wait: that one is given back
-    /// by further turns, and the others by another call.
+    /// Releases locks, the last one first, up to the first for which somebody may wait: that one is released
+    /// by further steps, and the others by another call.
+    #[inline(always)]
     pub(crate) fn unlock_all(&mut self) -> Answer
         requires keeps { Keeps self.old }
         ensures keeps { Keeps self.new }
@@ -58,7 +70,7 @@ impl Station {
         while let Some(lock) = self.held.pop() {
             if !give_at_once(&mut self.seat, &self.board, lock) {
                 self.held.add(lock);
-                self.turn = Turn::Gives(lock);
+                self.goes_on_giving(lock);
                 return Answer::Again;
             }
         }

@@ -1,9 +1,9 @@
-//! The further turns of a call.
+//! The further steps of a call.
 ghost use Rattle.std.specs.Prelude.{◌≡◌, ◌≢◌, ◌<◌, Some, IfSome};
 ghost use Rattle.std.specs.Option.{option_map};
 ghost use Rattle.ww_queue.specs.declared.entry.Entry.{Entry};
 ghost use Rattle.ww_seat.specs.Work.{AreMarked};
-ghost use Rattle.ww_desk.specs.declared.turn.Turn.TheVariants.{Stays, Looks, Lets};
+ghost use Rattle.ww_desk.specs.declared.turn.Turn.TheVariants.{Stays, Looks, Gives};
 
 use crate::station::Station;
 use crate::turn::{Answer, Turn};
@@ -17,7 +17,7 @@ impl Station {
     ghost use Rattle.ww_desk.specs.Stations.{situation_of, Keeps};
     ghost use Rattle.ww_desk.specs.Answers.{IsNextAnswer, IsStayAnswer, IsWaitAnswer, IsGiveAnswer, IsCancelAnswer, IsWakesAnswer};
 
-    /// The next turn of the call that is on its way.
+    /// The next step of the call that is on its way.
     pub(crate) fn go_on(&mut self) -> Answer
         requires keeps { Keeps self.old }
         ensures keeps { Keeps self.new }
@@ -33,17 +33,11 @@ impl Station {
                 self.look(lock, arrival, heeds)
             }
             Turn::Looks(lock, arrival, heeds) => self.look(lock, arrival, heeds),
-            Turn::Gives(lock) => {
-                if !enter_owned(&mut self.seat, &self.board, lock) {
-                    return Answer::Awaits;
-                }
-                self.let_go(lock)
-            }
-            Turn::Lets(lock) => self.let_go(lock),
+            Turn::Gives(lock) => self.let_go(lock),
         }
     }
 
-    /// One glance at a lock that it tried in vain; then it rests, or wants the lock.
+    /// One spin read of a lock that it tried in vain; then it rests, or wants the lock.
     fn stay(&mut self, lock: u32, stay: Stay, heeds: bool) -> Answer
         requires keeps { Keeps self.old }
         requires turn { self.old.turn ≡ Stays lock stay heeds }
@@ -102,24 +96,21 @@ impl Station {
         }
     }
 
-    /// One try to give the lock back inside its guard.
+    /// One try to go inside the guard of a lock that it releases; inside, the lock is released for certain.
     fn let_go(&mut self, lock: u32) -> Answer
-        requires keeps { Keeps (record self.old { turn = Lets lock }) }
+        requires keeps { Keeps self.old }
+        requires turn { self.old.turn ≡ Gives lock }
         ensures keeps { Keeps self.new }
         ensures answer { IsGiveAnswer (situation_of self.old) lock result (situation_of self.new) }
     {
-        match give_on(&mut self.seat, &self.board, lock) {
-            None => {
-                self.turn = Turn::Lets(lock);
-                Answer::Again
-            }
-            Some(first) => {
-                add_first(&mut self.wake, self.seat.who(), first);
-                self.held.remove(lock);
-                self.turn = Turn::Rests;
-                Answer::Done
-            }
+        if !enter_owned(&mut self.seat, &self.board, lock) {
+            return Answer::Awaits;
         }
+        let first = give_on(&mut self.seat, &self.board, lock);
+        add_first(&mut self.wake, self.seat.who(), first);
+        self.held.remove(lock);
+        self.turn = Turn::Rests;
+        Answer::Done
     }
 
     /// Calls off the wait of a seat, which is to be woken then.
@@ -148,7 +139,7 @@ impl Station {
         ensures answer { IsWakesAnswer (situation_of self.old) result (situation_of self.new) }
     {
         match self.turn {
-            Turn::Looks(..) | Turn::Lets(..) => [false; MAX_SEATS],
+            Turn::Looks(..) => [false; MAX_SEATS],
             _ => self.wake.take(),
         }
     }

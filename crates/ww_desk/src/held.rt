@@ -22,7 +22,7 @@ impl Model for Held {
 }
 
 impl Held {
-    ghost use Rattle.std.specs.Prelude.{ℕ, ◌≡◌, ◌≢◌, ◌<◌, ◌≤◌, ◌==◌, ◌++◌, ◌∷◌, [], true, false, length, IfOk, IfSome, IfNone};
+    ghost use Rattle.std.specs.Prelude.{ℕ, ◌≡◌, ◌≢◌, ◌<◌, ◌≤◌, ◌==◌, ◌++◌, ◌∷◌, [], true, false, length, IfOk, IfSome, IfNone, nat_lt};
     ghost use Rattle.ww_plain.specs.Numbers.{is_among};
     ghost use Rattle.ww_desk.specs.Held.{held_without};
 
@@ -36,12 +36,30 @@ impl Held {
         Ok(Held { items, places })
     }
 
+    /// How many they are.
+    #[inline(always)]
+    pub(crate) fn count(&self) -> usize
+        ensures { result ≡ length self.now.items }
+    {
+        self.items.len()
+    }
+
+    #[inline(always)]
     pub(crate) fn is_empty(&self) -> bool
         ensures { result ≡ (length self.now.items == 0) }
     {
         self.items.is_empty()
     }
 
+    /// Whether there is a lock of this number.
+    #[inline(always)]
+    pub(crate) fn is_lock(&self, lock: u32) -> bool
+        ensures { result ≡ nat_lt lock self.now.locks }
+    {
+        (lock as usize) < self.places.len()
+    }
+
+    #[inline(always)]
     pub(crate) fn has(&self, lock: u32) -> bool
         ensures { result ≡ is_among lock self.now.items }
     {
@@ -49,6 +67,7 @@ impl Held {
     }
 
     /// One lock more.
+    #[inline(always)]
     pub(crate) fn add(&mut self, lock: u32)
         requires there { lock < self.old.locks }
         requires lacks { is_among lock self.old.items ≡ false }
@@ -59,6 +78,7 @@ impl Held {
     }
 
     /// One lock less: the last one takes its place.
+    #[inline(always)]
     pub(crate) fn remove(&mut self, lock: u32)
         requires has { is_among lock self.old.items ≡ true }
         ensures now { self.new ≡ record self.old { items = held_without self.old.items lock } }
@@ -73,6 +93,7 @@ impl Held {
     }
 
     /// The last lock less.
+    #[inline(always)]
     pub(crate) fn pop(&mut self) -> Option<u32>
         ensures some { IfSome result (λ lock. self.old ≡ record self.new { items = self.new.items ++ lock ∷ [] }) }
         ensures there { IfSome result (λ lock. lock < self.new.locks) }

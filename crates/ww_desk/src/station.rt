@@ -35,6 +35,7 @@ impl Station {
     ghost use Rattle.ww_desk.specs.Stations.{situation_of, Keeps};
 
     /// Whether it is between two calls.
+    #[inline(always)]
     pub(crate) fn rests(&self) -> bool
         ensures { result ≡ is_at_rest self.now.turn }
     {
@@ -46,6 +47,7 @@ impl Station {
 
     /// Whether it may want a lock: its context isn't done, and where it holds locks it has a context, which wasn't told
     /// to back off.
+    #[inline(always)]
     pub(crate) fn can_want(&self) -> bool
         requires { Keeps self.now }
         ensures { result ≡ can_want (situation_of self.now) }
@@ -60,6 +62,7 @@ impl Station {
     }
 
     /// One lock more is held, and none is to be backed off from.
+    #[inline(always)]
     pub(crate) fn add(&mut self, lock: u32)
         requires there { lock < self.old.held.locks }
         requires lacks { is_among lock self.old.held.items ≡ false }

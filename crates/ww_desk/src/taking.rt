@@ -1,4 +1,4 @@
-//! The first turn of taking a lock.
+//! The first step of taking a lock.
 use crate::station::Station;
 use crate::turn::{Answer, Turn};
 use ww_seat::Stay;
@@ -9,7 +9,7 @@ impl Station {
     ghost use Rattle.ww_desk.specs.Answers.{IsTryable, IsRefusal, IsTryAnswer, IsLockAnswer, IsSlowAnswer, HasLock, HasTried};
 
     /// Why it can't try to take this lock now, if it can't.
-    #[inline]
+    #[inline(always)]
     fn refuses(&self, lock: u32) -> Option<Answer>
         requires { Keeps self.now }
         ensures why { IfSome result (IsRefusal (situation_of self.now) lock) }
@@ -21,13 +21,14 @@ impl Station {
         if self.held.has(lock) {
             return Some(Answer::Already);
         }
-        if lock >= self.board.locks() || !self.can_want() {
+        if !self.held.is_lock(lock) || !self.can_want() {
             return Some(Answer::Invalid);
         }
         None
     }
 
     /// One try to take a lock that it may want.
+    #[inline(always)]
     fn try_at_once(&mut self, lock: u32) -> bool
         requires keeps { Keeps self.old }
         requires tryable { IsTryable (situation_of self.old) lock }
@@ -46,6 +47,7 @@ impl Station {
     }
 
     /// One try to take a lock, and no waiting.
+    #[inline(always)]
     pub(crate) fn try_lock(&mut self, lock: u32) -> Answer
         requires keeps { Keeps self.old }
         ensures keeps { Keeps self.new }
@@ -63,6 +65,7 @@ impl Station {
 
     /// Takes a lock: one try, after which it stays away for a while and then waits. Where `heeds` the wait may be
     /// called off.
+    #[inline(always)]
     pub(crate) fn lock(&mut self, lock: u32, heeds: bool) -> Answer
         requires keeps { Keeps self.old }
         ensures keeps { Keeps self.new }
@@ -80,6 +83,7 @@ impl Station {
     }
 
     /// Takes the lock for which it was told to back off, once it has.
+    #[inline(always)]
     pub(crate) fn lock_slow(&mut self, lock: u32, heeds: bool) -> Answer
         requires keeps { Keeps self.old }
         ensures keeps { Keeps self.new }

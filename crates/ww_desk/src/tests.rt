@@ -10,10 +10,7 @@ use ww_seat::Rest;
 
 /// A rest that is too short to let another thread run.
 fn shortly(pauses: u32) -> Answer {
-    Answer::Stays(Rest {
-        pauses,
-        yields: false,
-    })
+    Answer::Stays(Rest { pauses, yields: 0 })
 }
 
 /// Two desks of a world of two locks, each of which may begin two contexts.
@@ -26,7 +23,7 @@ fn two(alloc: Global, kind: Kind) -> Result<(Desk, Desk), AllocError> {
     Ok((zero, one))
 }
 
-/// The turns of a call until it ends, or sleeps, or has made many.
+/// The steps of a call until it ends, or sleeps, or has made many.
 fn turned(desk: &mut Desk, first: Answer) -> Answer {
     let mut answer = first;
     for _ in 0..100u32 {
@@ -88,14 +85,14 @@ fn two_desks_meet(rt: HostRuntime) -> Result<(), Fail> {
     Ok(())
 }
 
-/// A call rests shortly if the owner is quick, or can't be told apart, and otherwise as one that waits for work. Each
-/// call looks at its lock anew.
+/// A call rests shortly if the owner is quick, or can't be told apart, or is gone by the second spin read, and otherwise
+/// as one that waits for work. Each call looks at its lock anew.
 #[test]
 fn owners_stay(rt: HostRuntime) -> Result<(), Fail> {
     let (mut zero, mut one) = two(rt.alloc(), Kind::WoundWait)?;
     let moment = Answer::Stays(Rest {
         pauses: 128,
-        yields: true,
+        yields: 2,
     });
     assert!(rt; zero.lock(0, false) == Answer::Done && one.lock(0, false) == Answer::Again);
     assert!(rt; one.go_on() == moment && one.go_on() == shortly(16));
@@ -105,6 +102,10 @@ fn owners_stay(rt: HostRuntime) -> Result<(), Fail> {
     assert!(rt; one.lock(0, false) == Answer::Again && one.go_on() == moment);
     assert!(rt; one.go_on() == shortly(8) && one.go_on() == shortly(16));
     assert!(rt; zero.unlock(0) == Answer::Done && one.go_on() == Answer::Again);
+    assert!(rt; one.go_on() == Answer::Done && one.unlock_all() == Answer::Done);
+    assert!(rt; zero.lock(0, false) == Answer::Done && one.lock(0, false) == Answer::Again);
+    assert!(rt; one.go_on() == moment && zero.unlock(0) == Answer::Done);
+    assert!(rt; one.go_on() == shortly(16) && one.go_on() == Answer::Again);
     assert!(rt; one.go_on() == Answer::Done && one.unlock_all() == Answer::Done);
     Ok(())
 }

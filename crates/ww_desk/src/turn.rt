@@ -1,4 +1,4 @@
-//! Where a call stands that is made in turns, and what a turn answers.
+//! Where a call stands that is made in non-blocking steps, and what a step answers.
 
 use ww_seat::{Arrival, Rest, Stay};
 
@@ -14,24 +14,22 @@ pub enum Turn {
     Wants(u32, Arrival, bool),
     /// Inside that guard: how it came there, and whether its wait may be called off.
     Looks(u32, Arrival, bool),
-    /// It gives this lock back, and is outside its guard.
+    /// It releases this lock, and is outside its guard.
     Gives(u32),
-    /// It gives this lock back, and is inside its guard.
-    Lets(u32),
 }
 
-/// What a call of a desk, or a further turn of it, came to.
+/// What a call of a desk, or a further step of it, came to.
 #[derive(Clone, Copy, Debug, PartialEq, Eq)]
 pub enum Answer {
     /// The call is at its end, and did what it is for.
     Done,
-    /// It wants another turn, at once: it hasn't come to the guard of its lock yet, or is inside of it.
+    /// It wants another step, at once: it hasn't come to the guard of its lock yet, or is inside of it.
     Again,
-    /// It wants another turn once it may go inside the guard of its lock, where another seat is.
+    /// It wants another step once it may go inside the guard of its lock, where another seat is.
     Awaits,
-    /// It wants another turn after this rest, since the lock has an owner.
+    /// It wants another step after this rest: it stays away from a lock that it has just lost.
     Stays(Rest),
-    /// It wants another turn once somebody has woken the seat.
+    /// It wants another step once somebody has woken the seat.
     Sleeps,
     /// Another call is on its way; for a trylock also: somebody has the lock or waits for it.
     Busy,
@@ -41,7 +39,7 @@ pub enum Answer {
     Already,
     /// All contexts that the desk might begin were begun.
     NoSpace,
-    /// All locks are to be given back, for an older context of this stamp.
+    /// All locks are to be released, for an older context of this stamp.
     Deadlk(u64),
     /// This seat called the wait off.
     Interrupted(u8),

@@ -10,7 +10,8 @@ use Rattle.ww_json.specs.Parts.{◌>>=◌, each, counted, ranged, is_within, arr
 
 -- ---- results
 
-pub bind_ok : {A B : Type 0} (r : Result A InputFault) (f : A → Result B InputFault) (y : B) → (r >>= f) ≡ Ok y → (x : A) × (r ≡ Ok x) × (f x ≡ Ok y)
+pub bind_ok : {A B : Type 0} (r : Result A InputFault) (f : A → Result B InputFault) (y : B) → (r >>= f) ≡ Ok y
+    → (x : A) × (r ≡ Ok x) × (f x ≡ Ok y)
 bind_ok (Ok x) f y e = (x, refl, e)
 bind_ok (Err fault) f y e = absurd cc
 
@@ -26,12 +27,14 @@ pub ok_is : {A : Type 0} (x y : A) → done x ≡ done y → x ≡ y
 ok_is x y e = cc
 
 -- whichever was chosen keeps the fact
-pub either_kept : {A : Type 0} (P : A → Type 0) (b : Bool) (r s : Result A InputFault) (x : A) → (r ≡ Ok x → P x) → (s ≡ Ok x → P x) → cond b r s ≡ Ok x → P x
+pub either_kept : {A : Type 0} (P : A → Type 0) (b : Bool) (r s : Result A InputFault) (x : A) → (r ≡ Ok x → P x)
+    → (s ≡ Ok x → P x) → cond b r s ≡ Ok x → P x
 either_kept P true r s x h k e = h e
 either_kept P false r s x h k e = k e
 
 -- each of what was read is so, and none is left out
-pub each_kept : {A : Type 0} (P : A → Type 0) (f : Data → Result A InputFault) (ds : List Data) (xs : List A) → ((d : Data) (x : A) → f d ≡ Ok x → P x) → each f ds ≡ Ok xs → AllByRecursion P xs × (length xs ≡ length ds)
+pub each_kept : {A : Type 0} (P : A → Type 0) (f : Data → Result A InputFault) (ds : List Data) (xs : List A)
+    → ((d : Data) (x : A) → f d ≡ Ok x → P x) → each f ds ≡ Ok xs → AllByRecursion P xs × (length xs ≡ length ds)
 unfolding each
 each_kept P f [] xs h e = let none : [] ≡ xs = cc in subst (λ ys. AllByRecursion P ys × (length ys ≡ 0)) none (tt, refl)
 each_kept P f (d ∷ ds) xs h e =

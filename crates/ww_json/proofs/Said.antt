@@ -31,7 +31,8 @@ counted_said low high ds least most =
     ∙ ap (λ b. cond b (Ok ds) (Err BadNumber)) (is_within_of low high (length ds) least most)
 
 -- each item that keeps the fact is read as it is
-pub each_said : {A : Type 0} (P : A → Type 0) (say : A → Data) (f : Data → Result A InputFault) (xs : List A) → ((x : A) → P x → f (say x) ≡ Ok x) → AllByRecursion P xs → each f (map say xs) ≡ Ok xs
+pub each_said : {A : Type 0} (P : A → Type 0) (say : A → Data) (f : Data → Result A InputFault) (xs : List A)
+    → ((x : A) → P x → f (say x) ≡ Ok x) → AllByRecursion P xs → each f (map say xs) ≡ Ok xs
 unfolding each
 each_said P say f [] h all = refl
 each_said P say f (x ∷ xs) h all = rw (h x all.0, each_said P say f xs h all.1) refl

@@ -12,7 +12,7 @@ abbrev pub ◌>>=◌ : {A B : Type 0} → Result A InputFault → (A → Result 
 (Ok x) >>= f = f x
 (Err fault) >>= f = Err fault
 
--- What a function returned, as `view` shows it, is just what the definition says. No definition says want of memory, so
+-- What a function returned, as `view` shows it, is just what the definition says. No definition says lack of memory, so
 -- that isn't returned either.
 abbrev pub Says : {X Y : Type 0} → (X → Y) → Result X InputFault → Result Y InputFault → Type 0
 Says view (Ok x) said = said ≡ Ok (view x)

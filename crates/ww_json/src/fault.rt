@@ -5,7 +5,7 @@ ghost use Rattle.ww_json.specs.declared.fault.InputFault.TheVariants.{NoMemory};
 use std::alloc::{AllocError, AllocFailed};
 use thiserror::Error;
 
-/// Why an input is refused: its first fault, or want of memory. The numbers are those of the refusal lines.
+/// Why an input is refused: its first fault, or lack of memory. The numbers are those of the refusal lines.
 #[derive(Clone, Copy, Debug, PartialEq, Eq, Drop, Error)]
 pub enum InputFault {
     #[error("not json")]

@@ -24,7 +24,8 @@ total (suc k) f = f k + total k f
 
 total_below : (k : ℕ) (f g : ℕ → ℕ) → ((n : ℕ) → n < k → f n ≤ g n) → total k f ≤ total k g
 total_below zero f g each = omega arith
-total_below (suc k) f g each = let last = each k (omega arith) in let rest = total_below k f g (λ n below. each n (omega arith)) in omega arith
+total_below (suc k) f g each = let last = each k (omega arith) in
+    let rest = total_below k f g (λ n below. each n (omega arith)) in omega arith
 
 -- what changes at one place alone changes the sum by no more
 total_at : (k i a b : ℕ) (f g : ℕ → ℕ) → i < k → f i + a ≤ g i + b → ((n : ℕ) → n ≢ i → f n ≤ g n) → total k f + a ≤ total k g + b
@@ -36,7 +37,7 @@ total_at (suc k) i a b f g below here other = dite (ℕ_discrete k i)
 
 -- ---- the burden
 
--- Whoever waits weighs 6, who has taken a lock 4, and to whom one was handed 2; who is inside a guard weighs 1, and so
+-- A waiter weighs 6, a taken owner of a lock 4, one that it was handed to 2; a seat inside a guard weighs 1, and so
 -- does each context. So a take, a death, an interruption and a give make the burden smaller by 2 at least, and to go
 -- inside before adds 1.
 
@@ -76,7 +77,12 @@ pub left_shorter : (q : List Entry) (s : ℕ) → Stands q s → length (left q 
 left_shorter [] s here = absurd here.1
 left_shorter (e ∷ es) s here = by_test (e.seat == s) es (e ∷ left es s) (λ q. length q + 1 ≡ length (e ∷ es))
     (λ _. omega arith)
-    (λ isnt. let rest = left_shorter es s (here.0, ⊎_elim (λ same. absurd (other_number e.seat s isnt (ap (λ (y : Entry). y.seat) (sym same) ∙ here.2))) (λ later. later) here.1, here.2) in omega arith)
+    (λ isnt. let rest = left_shorter es s (
+      here.0,
+      ⊎_elim (λ same. absurd (other_number e.seat s isnt
+          (ap (λ (y : Entry). y.seat) (sym same) ∙ here.2))) (λ later. later) here.1,
+      here.2,
+    ) in omega arith)
 
 given_weighs : (b : Bool) (q : List Entry) → weight (given_to b q) ≤ 2
 given_weighs true [] = omega arith
@@ -87,7 +93,8 @@ take_lowers : (c : State) (s n : ℕ) → Stands (c.queue n) s → CanTake c s n
 take_lowers c s n waits can = let locks = total_at c.locks n 2 0 (of_lock (after c (Take s n))) (of_lock c) can.inside.lock
     (let q = ap length (put_here c.queue n (left (c.queue n) s)) in let o = ap weight (put_here c.owner n (Taken s)) in
     let shorter = left_shorter (c.queue n) s waits in omega arith)
-    (λ m other. let q = ap length (put_else c.queue n (left (c.queue n) s) m other) in let o = ap weight (put_else c.owner n (Taken s) m other) in omega arith)
+    (λ m other. let q = ap length (put_else c.queue n (left (c.queue n) s) m other) in
+    let o = ap weight (put_else c.owner n (Taken s) m other) in omega arith)
     in omega arith
 
 die_lowers : (c : State) (s n : ℕ) → CanDie c s n → burden (after c (Die s n)) + 2 ≤ burden c
@@ -103,8 +110,10 @@ leave_lowers c s n can = let locks = total_at c.locks n 2 0 (of_lock (after c (L
     in omega arith
 
 give_lowers : (c : State) (s n : ℕ) → CanGive c s n → burden (after c (Give s n)) + 2 ≤ burden c
-give_lowers c s n can = let given = given_to (c.asked n) (c.queue n) in let locks = total_at c.locks n 2 0 (of_lock (after c (Give s n))) (of_lock c) can.inside.lock
-    (let o = ap weight (put_here c.owner n given) in let own = ap weight can.owns in let light = given_weighs (c.asked n) (c.queue n) in omega arith)
+give_lowers c s n can = let given = given_to (c.asked n) (c.queue n) in
+    let locks = total_at c.locks n 2 0 (of_lock (after c (Give s n))) (of_lock c) can.inside.lock
+    (let o = ap weight (put_here c.owner n given) in let own = ap weight can.owns in
+    let light = given_weighs (c.asked n) (c.queue n) in omega arith)
     (λ m other. let o = ap weight (put_else c.owner n given m other) in omega arith)
     in omega arith
 
@@ -144,42 +153,54 @@ module _ (spared : ℕ → Type 0) where
   to_lower : (c d : State) (e : Event) → Sparing spared d e → Possible d e → Lower c (after d e) → LeadsBy (Sparing spared) d (Lower c)
   to_lower c d e may can lower = first (Sparing spared) d e (Lower c) may can (stay (Sparing spared) (after d e) (Lower c) lower)
 
-  -- who waits and is inside can take the lock
+  -- a seat that waits and is inside can take the lock
   pub takes : (c : State) (s n : ℕ) → Stands (c.queue n) s → Possible c (Take s n) → GetsLighter c
   takes c s n waits can = to_lower c c (Take s n) (waits, λ u _. tt) can (let down = take_lowers c s n waits can.base in omega arith)
 
-  -- who is inside can die
+  -- a seat inside can die
   pub dies : (c : State) (s n : ℕ) → ¬ spared s → Possible c (Die s n) → GetsLighter c
   dies c s n free can = to_lower c c (Die s n) (tt, other_than spared s free) can (let down = die_lowers c s n can.base in omega arith)
 
-  -- who has heeded a cancel can leave the list
+  -- a seat that has heeded a cancel can leave the list
   pub interrupted : (c : State) (s n : ℕ) → ¬ spared s → Possible c (Leave s n) → GetsLighter c
-  interrupted c s n free can = to_lower c c (Leave s n) (tt, other_than spared s free) can (let down = leave_lowers c s n can.base in omega arith)
+  interrupted c s n free can = to_lower c c (Leave s n) (tt, other_than spared s free) can
+      (let down = leave_lowers c s n can.base in omega arith)
 
-  -- who is inside can leave the guard, after some signs
-  pub leaves : (c : State) → Reached c → (s n : ℕ) → LeadsBy (Sparing spared) c (λ d. ButSigns c d × Possible d (Unguard s n)) → GetsLighter c
+  -- a seat inside can leave the guard, after some signs
+  pub leaves : (c : State) → Reached c → (s n : ℕ)
+      → LeadsBy (Sparing spared) c (λ d. ButSigns c d × Possible d (Unguard s n)) → GetsLighter c
   leaves c reached s n way = and_then (Sparing spared) c (λ d. ButSigns c d × Possible d (Unguard s n)) (Lower c) reached way
-      (λ d _ there. to_lower c d (Unguard s n) (tt, λ u _. tt) there.1 (let same = but_signs c d there.0 in let down = unguard_lowers d s n there.1.base in omega arith))
+      (λ d _ there. to_lower c d (Unguard s n) (tt, λ u _. tt) there.1
+      (let same = but_signs c d there.0 in let down = unguard_lowers d s n there.1.base in omega arith))
 
   -- who can go inside can do there what makes the burden smaller by 2
-  goes_inside : (c : State) (s n : ℕ) (e : Event) → Possible c (Guard s n) → Sparing spared (after c (Guard s n)) e → Possible (after c (Guard s n)) e →
+  goes_inside : (c : State) (s n : ℕ) (e : Event) → Possible c (Guard s n) → Sparing spared (after c (Guard s n)) e
+      → Possible (after c (Guard s n)) e →
       burden (after (after c (Guard s n)) e) + 2 ≤ burden (after c (Guard s n)) → GetsLighter c
-  goes_inside c s n e go may can down = let up = guard_adds c s n go.base in first (Sparing spared) c (Guard s n) (Lower c) (tt, λ u _. tt) go
+  goes_inside c s n e go may can down = let up = guard_adds c s n go.base in
+      first (Sparing spared) c (Guard s n) (Lower c) (tt, λ u _. tt) go
       (to_lower c (after c (Guard s n)) e may can (omega arith))
 
-  -- who waits can go inside and take the lock
-  pub goes_and_takes : (c : State) (s n : ℕ) → Stands (c.queue n) s → Possible c (Guard s n) → Possible (after c (Guard s n)) (Take s n) → GetsLighter c
-  goes_and_takes c s n waits go can = goes_inside c s n (Take s n) go (waits, λ u _. tt) can (take_lowers (after c (Guard s n)) s n waits can.base)
+  -- a seat that waits can go inside and take the lock
+  pub goes_and_takes : (c : State) (s n : ℕ) → Stands (c.queue n) s → Possible c (Guard s n)
+      → Possible (after c (Guard s n)) (Take s n) → GetsLighter c
+  goes_and_takes c s n waits go can = goes_inside c s n (Take s n) go (waits, λ u _. tt) can
+      (take_lowers (after c (Guard s n)) s n waits can.base)
 
   -- an owner can go inside and give the lock
-  pub goes_and_gives : (c : State) (s n : ℕ) → ¬ spared s → Possible c (Guard s n) → Possible (after c (Guard s n)) (Give s n) → GetsLighter c
-  goes_and_gives c s n free go can = goes_inside c s n (Give s n) go (tt, other_than spared s free) can (give_lowers (after c (Guard s n)) s n can.base)
+  pub goes_and_gives : (c : State) (s n : ℕ) → ¬ spared s → Possible c (Guard s n)
+      → Possible (after c (Guard s n)) (Give s n) → GetsLighter c
+  goes_and_gives c s n free go can = goes_inside c s n (Give s n) go (tt, other_than spared s free) can
+      (give_lowers (after c (Guard s n)) s n can.base)
 
-  -- who waits can go inside and die
+  -- a seat that waits can go inside and die
   pub goes_and_dies : (c : State) (s n : ℕ) → ¬ spared s → Possible c (Guard s n) → Possible (after c (Guard s n)) (Die s n) → GetsLighter c
-  goes_and_dies c s n free go can = goes_inside c s n (Die s n) go (tt, other_than spared s free) can (die_lowers (after c (Guard s n)) s n can.base)
+  goes_and_dies c s n free go can = goes_inside c s n (Die s n) go (tt, other_than spared s free) can
+      (die_lowers (after c (Guard s n)) s n can.base)
 
   -- a context can end, once its sign is cleared
-  pub ends : (c : State) → Reached c → (s : ℕ) → ¬ spared s → LeadsBy (Sparing spared) c (λ d. ButSigns c d × Possible d (End s)) → GetsLighter c
+  pub ends : (c : State) → Reached c → (s : ℕ) → ¬ spared s
+      → LeadsBy (Sparing spared) c (λ d. ButSigns c d × Possible d (End s)) → GetsLighter c
   ends c reached s free way = and_then (Sparing spared) c (λ d. ButSigns c d × Possible d (End s)) (Lower c) reached way
-      (λ d _ there. to_lower c d (End s) (tt, other_than spared s free) there.1 (let same = but_signs c d there.0 in let down = end_lowers d s there.1.base in omega arith))
+      (λ d _ there. to_lower c d (End s) (tt, other_than spared s free) there.1
+      (let same = but_signs c d there.0 in let down = end_lowers d s there.1.base in omega arith))

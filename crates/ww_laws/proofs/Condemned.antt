@@ -27,7 +27,8 @@ abbrev HasIt : State → ℕ → ℕ → Type 0
 HasIt c t n = (c.owner n ≡ Taken t) ⊎ (c.owner n ≡ Handed t)
 
 -- whoever begins or ends a context has no lock
-has_none : (c : State) (t u n : ℕ) → IsBase c → ((m : ℕ) → c.owner m ≢ Taken u) → ((e : Entry) → Has (c.queue n) e → e.seat ≢ u) → HasIt c t n → t ≢ u
+has_none : (c : State) (t u n : ℕ) → IsBase c → ((m : ℕ) → c.owner m ≢ Taken u)
+    → ((e : Entry) → Has (c.queue n) e → e.seat ≢ u) → HasIt c t n → t ≢ u
 has_none c t u n l owns_none stands_not own is = ⊎_elim
     (λ y. owns_none n (y ∙ ap Taken is))
     (λ y. let h = (l.owners.at n).handed_stands t y in stands_not h.0 h.1 (h.2 ∙ is)) own
@@ -50,12 +51,15 @@ dies_of_owner d n t e dying l h p b own isnt q younger = let o = owner_as d (d.o
     })))
 
 -- an event of another leaves it that the seat must die, if the cause stays
-still_dies : (c : State) (e : Event) (a n : ℕ) → IsLawful c → Possible c e → actor e ≢ a → IsSome (dies c a n) → KeepsCause c (after c e) a n →
+still_dies : (c : State) (e : Event) (a n : ℕ) → IsLawful c → Possible c e → actor e ≢ a → IsSome (dies c a n)
+    → KeepsCause c (after c e) a n →
     IsSome (dies (after c e) a n)
 still_dies c e a n l can other must keeps = let d = after c e in let l' = keeps_lawful c e can l in let cause = some_of (dies c a n) must in
-    let w = dies_why c a n cause.0 cause.1 in let x = w.entry in let there : Has (d.queue n) x = (entry_stays c e a other n x w.seat).0 w.stands in
+    let w = dies_why c a n cause.0 cause.1 in let x = w.entry in
+    let there : Has (d.queue n) x = (entry_stays c e a other n x w.seat).0 w.stands in
     subst (λ s. IsSome (dies d s n)) w.seat (by_kind c.kind (IsSome (dies d x.seat n))
-    (λ wounding. let signed = (w.wounded wounding).0 in let same = (others_are_left_alone c e a l can other).signed signed in let at = ap d.sign w.seat in
+    (λ wounding. let signed = (w.wounded wounding).0 in
+    let same = (others_are_left_alone c e a l can other).signed signed in let at = ap d.sign w.seat in
     dies_wounded d n x (same_kind c e ∙ wounding) (l'.base.queues.at n).once there w.context w.holds (omega arith))
     (λ dying. ⊎_elim
     (λ i. let own = i.1 in let stamp = i.2 in let some = i.3 in let younger = i.4 in let kept = owner_stamp c e i.0 n l.base can.base own in
@@ -63,7 +67,8 @@ still_dies c e a n l can other must keeps = let d = after c e in let l' = keeps_
     dies_of_owner d n i.0 x (same_kind c e ∙ dying) l'.base there w.context w.holds
     (⊎_elim (λ y. inl (keeps.owner ∙ y)) (λ y. inr (keeps.owner ∙ y)) own)
     (λ is. let z = ap c.stamp is in omega arith) (omega arith) (omega arith))
-    (λ y. dies_behind d n x (same_kind c e ∙ dying) (l'.base.queues.at n).once there w.context w.holds y.0 (keeps.ahead dying y.0 x w.seat y.1) y.2)
+    (λ y. dies_behind d n x (same_kind c e ∙ dying) (l'.base.queues.at n).once there w.context w.holds y.0
+    (keeps.ahead dying y.0 x w.seat y.1) y.2)
     (w.older dying)))
 
 pub condemned_stays : OfReached CondemnedStays
@@ -99,11 +104,15 @@ guarded : (c : State) (s a n m : ℕ) → s ≢ a → c.guard m ≡ suc s → c.
 guarded c s a n m isnt his mine is = isnt (let z = ap c.guard is in omega arith)
 
 -- nobody else changes the owner of a lock inside whose guard the seat is and where it waits
-owner_inside : (c : State) (e : Event) (a n : ℕ) → BasePossible c e → actor e ≢ a → c.guard n ≡ suc a → Stands (c.queue n) a → (after c e).owner n ≡ c.owner n
-owner_inside c (Fast s m) a n can other mine h = put_else c.owner m (Taken s) n (λ is. absurd (subst (λ q. Has q h.0) (ap c.queue is ∙ can.idle.empty) h.1))
-owner_inside c (FastGive s m) a n can other mine h = put_else c.owner m Nobody n (λ is. absurd (subst (λ q. Has q h.0) (ap c.queue is ∙ can.empty) h.1))
+owner_inside : (c : State) (e : Event) (a n : ℕ) → BasePossible c e → actor e ≢ a → c.guard n ≡ suc a
+    → Stands (c.queue n) a → (after c e).owner n ≡ c.owner n
+owner_inside c (Fast s m) a n can other mine h =
+    put_else c.owner m (Taken s) n (λ is. absurd (subst (λ q. Has q h.0) (ap c.queue is ∙ can.idle.empty) h.1))
+owner_inside c (FastGive s m) a n can other mine h =
+    put_else c.owner m Nobody n (λ is. absurd (subst (λ q. Has q h.0) (ap c.queue is ∙ can.empty) h.1))
 owner_inside c (Take s m) a n can other mine h = put_else c.owner m (Taken s) n (guarded c s a n m other can.inside.guard mine)
-owner_inside c (Give s m) a n can other mine h = put_else c.owner m (given_to (c.asked m) (c.queue m)) n (guarded c s a n m other can.inside.guard mine)
+owner_inside c (Give s m) a n can other mine h =
+    put_else c.owner m (given_to (c.asked m) (c.queue m)) n (guarded c s a n m other can.inside.guard mine)
 owner_inside c _ a n can other mine h = refl
 
 pub looks_on : OfLawful LooksOn
@@ -116,14 +125,27 @@ looks_on c l e a n w can other = let d = after c e in let owner = owner_inside c
       };
       waits = (stands_stays c e a other n).0 w.waits;
       other = (w.other.0, w.other.1, ⊎_elim (λ y. inl (owner ∙ y)) (λ y. inr (owner ∙ y)) w.other.2);
-      dies_there = still_dies c e a n l can other w.dies_there (record { owner = owner; ahead = λ _ x y _ before. subst (λ q. Before q x y) (sym queue) before });
+      dies_there = still_dies c e a n l can other w.dies_there
+          (record { owner = owner; ahead = λ _ x y _ before. subst (λ q. Before q x y) (sym queue) before });
     }
 
 pub who_looks_gives_way : OfLawful WhoLooksGivesWay
 who_looks_gives_way c l a n w = record {
   takes_not = λ can. not_free (c.owner n) a w.other can.base.free;
   stays_not = λ dying can. true≢false (sym (subst IsSome (can.signs.safe dying).lives w.dies_there));
-  dies = λ unheeded. record { base = record { inside = w.inside; waits = w.waits; other = w.other; unheeded = unheeded }; signs = w.dies_there };
-  heeds = λ unheeded set. record { base = record { inside = w.inside; waits = w.waits; other = w.other; cancelled = set; unheeded = unheeded }; signs = tt };
+  dies = λ unheeded. record {
+    base = record {
+      inside = w.inside;
+      waits = w.waits;
+      other = w.other;
+      unheeded = unheeded;
+    };
+    signs = w.dies_there;
+  };
+  heeds = λ unheeded set. record {
+    base =
+        record { inside = w.inside; waits = w.waits; other = w.other; cancelled = set; unheeded = unheeded };
+    signs = tt;
+  };
   leaves = λ some. record { base = record { inside = w.inside; waits = w.waits; heeded = some }; signs = tt };
 }

@@ -12,7 +12,8 @@ use Rattle.ww_laws.proofs.OutsideMoves.{empty_or_lighter}
 abbrev NoOne : ℕ → Type 0
 NoOne s = ⊥
 
-goes_down : (c : State) → Reached c → ((d : State) → Reached d → Lower c d → LeadsBy (Sparing NoOne) d IsEmptied) → LeadsBy (Sparing NoOne) c IsEmptied
+goes_down : (c : State) → Reached c → ((d : State) → Reached d → Lower c d → LeadsBy (Sparing NoOne) d IsEmptied)
+    → LeadsBy (Sparing NoOne) c IsEmptied
 goes_down c reached rest = ⊎_elim (stay (Sparing NoOne) c IsEmptied)
     (λ lighter. and_then (Sparing NoOne) c (Lower c) IsEmptied reached lighter rest) (empty_or_lighter NoOne c reached (λ s is. absurd is))
 

@@ -42,10 +42,13 @@ module _ (s n : ℕ) where
   abbrev FindsFree : State → Type 0
   FindsFree c = WantsOutside c × (c.guard n ≡ 0)
 
-  -- who is not kept inside leaves the guard
-  goes_out : (c : State) → Reached c → (u m : ℕ) → Inside c u m → c.heeded u ≡ 0 → (Stands (c.queue m) u → HasOther c u m) → (c.kind ≡ WaitDie → dies c u m ≡ None) →
-      (P : State → Type 0) → ((d : State) → Reached d → ButSigns c d → Possible d (Unguard u m) → P (after d (Unguard u m))) → LeadsBy (Sparing (Only s)) c P
-  goes_out c reached u m inside unheeded contended lives P there = let E = Sparing (Only s) in and_then E c (λ d. ButSigns c d × Possible d (Unguard u m)) P reached
+  -- a seat that is not kept inside leaves the guard
+  goes_out : (c : State) → Reached c → (u m : ℕ) → Inside c u m → c.heeded u ≡ 0
+      → (Stands (c.queue m) u → HasOther c u m) → (c.kind ≡ WaitDie → dies c u m ≡ None) →
+      (P : State → Type 0) → ((d : State) → Reached d → ButSigns c d → Possible d (Unguard u m)
+      → P (after d (Unguard u m))) → LeadsBy (Sparing (Only s)) c P
+  goes_out c reached u m inside unheeded contended lives P there = let E = Sparing (Only s) in
+      and_then E c (λ d. ButSigns c d × Possible d (Unguard u m)) P reached
       (leave (Only s) c u m inside reached unheeded contended lives)
       (λ d reached' way. first E d (Unguard u m) P (tt, λ v _. tt) way.1 (stay E (after d (Unguard u m)) P (there d reached' way.0 way.1)))
 
@@ -54,7 +57,9 @@ module _ (s n : ℕ) where
   comes_out : (c : State) → Reached c → Wants c → LeadsBy (Sparing (Only s)) c WantsOutside
   comes_out c reached w = ⊎_elim
       (λ none. stay (Sparing (Only s)) c WantsOutside (w, λ m is. let inside = guards_are c reached s m is in none m inside.lock is))
-      (λ one. let m = one.0 in goes_out c reached s m (guards_are c reached s m one.2) (away_unheeded c (reached_is_lawful c reached).base s w.2) (λ waits. absurd (w.2 m waits.0 waits.1 waits.2))
+      (λ one. let m = one.0 in goes_out c reached s m (guards_are c reached s m one.2)
+      (away_unheeded c (reached_is_lawful c reached).base s w.2)
+      (λ waits. absurd (w.2 m waits.0 waits.1 waits.2))
       (λ _. only_waiters_die c.kind (owner_as c (c.owner m)) (c.queue m) s (c.sign s) (w.2 m)) WantsOutside
       (λ d reached' same can. (
         subst Wants (sym same.1) w,
@@ -65,25 +70,37 @@ module _ (s n : ℕ) where
 
   -- ---- another leaves that of the lock
 
-  other_out : (c : State) → Reached c → WantsOutside c → (u : ℕ) → Inside c u n → c.heeded u ≡ 0 → (Stands (c.queue n) u → HasOther c u n) → (c.kind ≡ WaitDie → dies c u n ≡ None) →
+  other_out : (c : State) → Reached c → WantsOutside c → (u : ℕ) → Inside c u n → c.heeded u ≡ 0
+      → (Stands (c.queue n) u → HasOther c u n) → (c.kind ≡ WaitDie → dies c u n ≡ None) →
       LeadsBy (Sparing (Only s)) c FindsFree
   other_out c reached w u inside unheeded contended lives = goes_out c reached u n inside unheeded contended lives FindsFree
-      (λ d _ same can. let out = subst (λ x. InsideNone x s) (sym same.1) w.1 in
-      ((subst Wants (sym same.1) w.0, λ k. put_cases d.guard n 0 k (λ g. g ≢ suc s) (λ _ z. omega arith) (λ _. out k)), put_here d.guard n 0))
+      (λ d _ same can. let out = subst (λ x. InsideNone x s) (sym same.1) w.1 in (
+        (
+          subst Wants (sym same.1) w.0,
+          λ k. put_cases d.guard n 0 k (λ g. g ≢ suc s) (λ _ z. omega arith)
+              (λ _. out k),
+        ),
+        put_here d.guard n 0,
+      ))
 
   -- ... when it has left the list
-  left_out : (c : State) → Reached c → WantsOutside c → (u : ℕ) → Inside c u n → StandsNot (c.queue n) u → LeadsBy (Sparing (Only s)) c FindsFree
-  left_out c reached w u inside gone = other_out c reached w u inside (inside_unheeded c (reached_is_lawful c reached).base u n inside.guard gone) (λ waits. absurd (gone waits.0 waits.1 waits.2))
+  left_out : (c : State) → Reached c → WantsOutside c → (u : ℕ) → Inside c u n → StandsNot (c.queue n) u
+      → LeadsBy (Sparing (Only s)) c FindsFree
+  left_out c reached w u inside gone = other_out c reached w u inside
+      (inside_unheeded c (reached_is_lawful c reached).base u n inside.guard gone)
+      (λ waits. absurd (gone waits.0 waits.1 waits.2))
       (λ _. only_waiters_die c.kind (owner_as c (c.owner n)) (c.queue n) u (c.sign u) gone)
 
   no_queue : (c : State) (u : ℕ) → InNoQueue c s → InNoQueue (after c (Take u n)) s
-  no_queue c u none m = put_cases c.queue n (left (c.queue n) u) m (λ q. StandsNot q s) (λ _ e h. none n e (left_has (c.queue n) u e h)) (λ _. none m)
+  no_queue c u none m = put_cases c.queue n (left (c.queue n) u) m (λ q. StandsNot q s)
+      (λ _ e h. none n e (left_has (c.queue n) u e h)) (λ _. none m)
 
   gone_from : (c : State) → Reached c → (u : ℕ) → StandsNot ((after c (Take u n)).queue n) u
   gone_from c reached u = subst (λ q. StandsNot q u) (sym (put_here c.queue n (left (c.queue n) u)))
       (left_gone (c.queue n) u ((reached_is_lawful c reached).base.queues.at n).once)
 
-  module _ (c : State) (reached : Reached c) (w : WantsOutside c) (u : ℕ) (inside : Inside c u n) (other : u ≢ s) (waits : Stands (c.queue n) u) where
+  module _ (c : State) (reached : Reached c) (w : WantsOutside c) (u : ℕ) (inside : Inside c u n) (other : u ≢ s)
+      (waits : Stands (c.queue n) u) where
     it_takes : (c.owner n ≡ Nobody) ⊎ (c.owner n ≡ Handed u) → LeadsBy (Sparing (Only s)) c FindsFree
     it_takes free = first (Sparing (Only s)) c (Take u n) FindsFree (waits, λ v _. tt) can
         (left_out (after c (Take u n)) (further c (Take u n) reached can)
@@ -103,7 +120,10 @@ module _ (s n : ℕ) where
         (record { guard = inside.guard; lock = inside.lock; seat = inside.seat }) (gone_from c reached u))
       where
         can : Possible c (Die u n)
-        can = record { base = record { inside = inside; waits = waits; other = has; unheeded = unheeded }; signs = subst IsSome (sym is) refl }
+        can = record {
+          base = record { inside = inside; waits = waits; other = has; unheeded = unheeded };
+          signs = subst IsSome (sym is) refl;
+        }
 
     it_is_interrupted : c.heeded u ≢ 0 → LeadsBy (Sparing (Only s)) c FindsFree
     it_is_interrupted heeded = first (Sparing (Only s)) c (Leave u n) FindsFree (tt, λ v mine same. other (same ∙ mine)) can
@@ -129,7 +149,8 @@ module _ (s n : ℕ) where
   -- ---- the oldest clears a sign that keeps it from wanting a lock, goes in, and can join
 
   seat_of : (c : State) → Reached c → 0 < c.stamp s → s < c.seats
-  seat_of c reached some = dite (dec_le c.seats s) (λ beyond. let none = stamps_beyond c reached s beyond in absurd (omega arith)) (λ within. omega arith)
+  seat_of c reached some = dite (dec_le c.seats s)
+      (λ beyond. let none = stamps_beyond c reached s beyond in absurd (omega arith)) (λ within. omega arith)
 
   abbrev FindsCalm : State → Type 0
   FindsCalm c = FindsFree c × IsCalm c s
@@ -154,7 +175,8 @@ module _ (s n : ℕ) where
   goes_in : (c : State) → Reached c → FindsCalm c → LeadsBy (Sparing (Only s)) c CanJoinIt
   goes_in c reached found = first (Sparing (Only s)) c (Guard s n) CanJoinIt (tt, λ v _. tt) go (stay (Sparing (Only s)) inside CanJoinIt (
     join,
-    oldest_can_take (after inside (Join s n)) (further inside (Join s n) (further c (Guard s n) reached go) join) s n (record { context = w.0; oldest = w.1 })
+    oldest_can_take (after inside (Join s n)) (further inside (Join s n) (further c (Guard s n) reached go) join) s
+        n (record { context = w.0; oldest = w.1 })
         (x, subst (λ q. Has q x) (sym (put_here c.queue n (joined (c.queue n) x))) (joined_new (c.queue n) x), refl)
         (away_unheeded c (reached_is_lawful c reached).base s w.2),
   ))

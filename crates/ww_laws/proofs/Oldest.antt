@@ -45,13 +45,15 @@ module _ (c : State) (l : IsBase c) (s : ℕ) (o : IsOldest c s) where
   -- ---- it stays the oldest
 
   pub same_stamp : (e : Event) → BasePossible c e → e ≢ End s → (after c e).stamp s ≡ c.stamp s
-  same_stamp (Begin t) can goes_on = put_else c.stamp t (c.drawn + 1) s (λ is. let none = can.no_context in let some = o.context in let same = ap c.stamp is in omega arith)
+  same_stamp (Begin t) can goes_on = put_else c.stamp t (c.drawn + 1) s
+      (λ is. let none = can.no_context in let some = o.context in let same = ap c.stamp is in omega arith)
   same_stamp (End t) can goes_on = put_else c.stamp t 0 s (λ is. goes_on (ap End (sym is)))
   same_stamp _ can goes_on = refl
 
   -- another context is as old as it was, or younger than all before
   not_older : (e : Event) → BasePossible c e → (t : ℕ) → 0 < (after c e).stamp t → c.stamp s ≤ (after c e).stamp t
-  not_older (Begin u) can t = put_cases c.stamp u (c.drawn + 1) t (λ x. 0 < x → c.stamp s ≤ x) (λ _ _. let below = l.stamps.below s in omega arith) (λ _. o.oldest t)
+  not_older (Begin u) can t = put_cases c.stamp u (c.drawn + 1) t (λ x. 0 < x → c.stamp s ≤ x)
+      (λ _ _. let below = l.stamps.below s in omega arith) (λ _. o.oldest t)
   not_older (End u) can t = put_cases c.stamp u 0 t (λ x. 0 < x → c.stamp s ≤ x) (λ _ some. absurd (omega arith)) (λ _. o.oldest t)
   not_older _ can t = o.oldest t
 
@@ -63,7 +65,8 @@ module _ (c : State) (l : IsBase c) (s : ℕ) (o : IsOldest c s) where
 
   unsigned_stays : (e : Event) → Possible c e → c.sign s ≡ 0 → (after c e).sign s ≡ 0
   unsigned_stays (Clear t) can none = put_cases c.sign t 0 s (λ x. x ≡ 0) (λ _. refl) (λ _. none)
-  unsigned_stays (Sign u v) can none = put_else c.sign v (sign_for c u v) s (λ is. never_signed u (subst (λ x. Possible c (Sign u x)) (sym is) can)) ∙ none
+  unsigned_stays (Sign u v) can none = put_else c.sign v (sign_for c u v) s
+      (λ is. never_signed u (subst (λ x. Possible c (Sign u x)) (sym is) can)) ∙ none
   unsigned_stays _ can none = none
 
   never_dies : (c.kind ≡ WoundWait → c.sign s ≡ 0) → (n : ℕ) → IsSome (dies c s n) → ⊥
@@ -72,7 +75,8 @@ module _ (c : State) (l : IsBase c) (s : ℕ) (o : IsOldest c s) where
       (λ dying. oldest_lives dying n cause.0 d)
 
 -- along a run
-goes_on : (before c : State) → IsLawful c → (s : ℕ) → c.stamp s ≡ before.stamp s → IsOldestUnsigned c s → (events : List Event) → IsRun c events →
+goes_on : (before c : State) → IsLawful c → (s : ℕ) → c.stamp s ≡ before.stamp s → IsOldestUnsigned c s
+    → (events : List Event) → IsRun c events →
     ¬ Has events (End s) → GoesOn before (state_after c events) s
 goes_on before c l s same o [] run no_end = record {
   same = same;

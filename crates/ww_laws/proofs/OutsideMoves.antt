@@ -65,7 +65,9 @@ holder_is Nobody = inl refl
 holder_is (Taken t) = inr (inl (t, refl))
 holder_is (Handed t) = inr (inr (t, refl))
 
-module _ (spared : ℕ → Type 0) (c : State) (reached : Reached c) (spared_waits : (s : ℕ) → spared s → IsOldest c s × ((n : ℕ) × Stands (c.queue n) s) × (c.heeded s ≡ 0)) (quiet : (n : ℕ) → c.guard n ≡ 0) where
+module _ (spared : ℕ → Type 0) (c : State) (reached : Reached c)
+    (spared_waits : (s : ℕ) → spared s → IsOldest c s × ((n : ℕ) × Stands (c.queue n) s) × (c.heeded s ≡ 0))
+    (quiet : (n : ℕ) → c.guard n ≡ 0) where
   lawful : IsLawful c
   lawful = reached_is_lawful c reached
 
@@ -77,7 +79,7 @@ module _ (spared : ℕ → Type 0) (c : State) (reached : Reached c) (spared_wai
       (λ beyond. absurd (subst (λ q. Has q e) (queues_beyond c reached n beyond) h))
       (λ within. omega arith)
 
-  -- ---- who waits
+  -- ---- a seat that waits
 
   can_go : (s n : ℕ) → Stands (c.queue n) s → Possible c (Guard s n)
   can_go s n waits = record {
@@ -103,12 +105,15 @@ module _ (spared : ℕ → Type 0) (c : State) (reached : Reached c) (spared_wai
   condemned_dies : (a b : ℕ) → YieldsTo c a b → GetsLighter spared c
   condemned_dies a b yields = let condemned = yields.0 in let cause = some_of (dies c a condemned.lock) condemned.dies_there in
       let way = condemned_can_die c reached a condemned (quiet condemned.lock) cause.0 cause.1 in
-      goes_and_dies spared c a condemned.lock (λ is. let older = yields.1 in let younger = yields.2 in let least = (spared_waits a is).0.oldest b older in omega arith) way.guard way.die
+      goes_and_dies spared c a condemned.lock
+      (λ is. let older = yields.1 in let younger = yields.2 in
+      let least = (spared_waits a is).0.oldest b older in omega arith) way.guard way.die
 
-  -- ---- who owns a lock and doesn't wait
+  -- ---- a seat that owns a lock and doesn't wait
 
   owned_lock : (n t : ℕ) → c.owner n ≡ Taken t → n < c.locks
-  owned_lock n t own = dite (dec_le c.locks n) (λ beyond. absurd (let none = lawful.base.owners.beyond n beyond in cc)) (λ within. omega arith)
+  owned_lock n t own = dite (dec_le c.locks n)
+      (λ beyond. absurd (let none = lawful.base.owners.beyond n beyond in cc)) (λ within. omega arith)
 
   owner_gives : (n t : ℕ) → c.owner n ≡ Taken t → InNoQueue c t → GetsLighter spared c
   owner_gives n t own none = goes_and_gives spared c t n (λ is. let w = (spared_waits t is).1 in none w.0 w.1.0 w.1.1 w.1.2) can (record {
@@ -186,7 +191,12 @@ module _ (spared : ℕ → Type 0) (c : State) (reached : Reached c) (spared_wai
     first_of = one_behind (c.stamp t) k t own (goes_itself c.kind (c.stamp t)) (λ m u below own'. absurd (let nobody = none m below in cc));
   }
   first_with k t own (inr best) = ⊎_elim
-      (λ stays. record { lock = best.lock; seat = best.seat; owns = best.owns; first_of = one_behind (c.stamp best.seat) k t own stays best.first_of })
+      (λ stays. record {
+        lock = best.lock;
+        seat = best.seat;
+        owns = best.owns;
+        first_of = one_behind (c.stamp best.seat) k t own stays best.first_of;
+      })
       (λ changes. record {
         lock = k;
         seat = t;
@@ -196,13 +206,15 @@ module _ (spared : ℕ → Type 0) (c : State) (reached : Reached c) (spared_wai
       })
       (one_goes_first c.kind (c.stamp best.seat) (c.stamp t))
 
-  none_more : (k : ℕ) → c.owner k ≡ Nobody → ((n : ℕ) → n < k → c.owner n ≡ Nobody) ⊎ FirstOwner k → ((n : ℕ) → n < suc k → c.owner n ≡ Nobody) ⊎ FirstOwner (suc k)
+  none_more : (k : ℕ) → c.owner k ≡ Nobody → ((n : ℕ) → n < k → c.owner n ≡ Nobody) ⊎ FirstOwner k
+      → ((n : ℕ) → n < suc k → c.owner n ≡ Nobody) ⊎ FirstOwner (suc k)
   none_more k free (inl none) = inl (λ n below. dite (ℕ_discrete n k) (λ is. ap c.owner is ∙ free) (λ isnt. none n (omega arith)))
   none_more k free (inr best) = inr (record {
     lock = best.lock;
     seat = best.seat;
     owns = best.owns;
-    first_of = λ m u below own. dite (ℕ_discrete m k) (λ is. absurd (let none = ap c.owner is ∙ free in cc)) (λ isnt. best.first_of m u (omega arith) own);
+    first_of = λ m u below own. dite (ℕ_discrete m k) (λ is. absurd (let none = ap c.owner is ∙ free in cc))
+        (λ isnt. best.first_of m u (omega arith) own);
   })
 
   first_owner : ((n : ℕ) → Rests n) → (k : ℕ) → ((n : ℕ) → n < k → c.owner n ≡ Nobody) ⊎ FirstOwner k
@@ -215,18 +227,27 @@ module _ (spared : ℕ → Type 0) (c : State) (reached : Reached c) (spared_wai
   -- ---- it, or who keeps it waiting, has to die
 
   -- where somebody waits and nobody can go on at once, another owns the lock and waits too
-  stuck_at : ((n : ℕ) → Rests n) → (s n : ℕ) → Stands (c.queue n) s → (u : ℕ) × (u ≢ s) × (c.owner n ≡ Taken u) × ((j : ℕ) × Stands (c.queue j) u)
+  stuck_at : ((n : ℕ) → Rests n) → (s n : ℕ) → Stands (c.queue n) s → (u : ℕ) × (u ≢ s) × (c.owner n ≡ Taken u)
+      × ((j : ℕ) × Stands (c.queue j) u)
   stuck_at rests s n waits = ⊎_elim
       (λ free. absurd (subst (λ q. Has q waits.0) free.1 waits.1))
-      (λ stuck. (stuck.0, (λ is. (lawful.base.owners.at n).taken_stands_not stuck.0 stuck.1 waits.0 waits.1 (waits.2 ∙ sym is)), stuck.1, stuck.2))
+      (λ stuck. (
+        stuck.0,
+        (λ is. (lawful.base.owners.at n).taken_stands_not stuck.0 stuck.1 waits.0 waits.1
+            (waits.2 ∙ sym is)),
+        stuck.1,
+        stuck.2,
+      ))
       (rests n)
 
   waits_there : (t u m : ℕ) → Stands (c.queue m) t → u ≢ t → c.owner m ≡ Taken u → WaitsAt c t u m
   waits_there t u m waits other own = record { stands = waits; outside = inside_none t m; owner = inl own; other = λ is. other (sym is) }
 
   -- t has taken lock n, goes first and waits at lock m, whose owner waits
-  first_dies : ((n : ℕ) → Rests n) → (n t m : ℕ) → c.owner n ≡ Taken t → AllBehind (c.stamp t) c.locks → Stands (c.queue m) t → GetsLighter spared c
-  first_dies rests n t m own behind waits = let r = stuck_at rests t m waits in let u = r.0 in let j = r.3.0 in let r' = stuck_at rests u j r.3.1 in ⊎_elim
+  first_dies : ((n : ℕ) → Rests n) → (n t m : ℕ) → c.owner n ≡ Taken t → AllBehind (c.stamp t) c.locks
+      → Stands (c.queue m) t → GetsLighter spared c
+  first_dies rests n t m own behind waits = let r = stuck_at rests t m waits in let u = r.0 in let j = r.3.0 in
+      let r' = stuck_at rests u j r.3.1 in ⊎_elim
       (condemned_dies t u)
       (⊎_elim (condemned_dies u t) (λ on. absurd (goes_not_onward c.kind (c.stamp t) (c.stamp u) (behind m u (owned_lock m u r.2) r.2) on)))
       (edge c lawful c.kind refl t u m j (waiting_owner c lawful.base t u n m own (waits_there t u m waits r.1 r.2))
@@ -243,11 +264,13 @@ module _ (spared : ℕ → Type 0) (c : State) (reached : Reached c) (spared_wai
       (λ stuck. absurd (let nobody = none n (owned_lock n stuck.0 stuck.1) in let own = stuck.1 in cc)) (rests n)
 
   context_ends : ((n : ℕ) → (c.owner n ≡ Nobody) × (c.queue n ≡ [])) → (s : ℕ) → s < c.seats → 0 < c.stamp s → GetsLighter spared c
-  context_ends free s seat context = ends spared c reached s (λ is. let w = (spared_waits s is).1 in in_no_queue w.0 w.1.0 w.1.1 w.1.2) (dite (ℕ_discrete (c.sign s) 0)
+  context_ends free s seat context = ends spared c reached s
+      (λ is. let w = (spared_waits s is).1 in in_no_queue w.0 w.1.0 w.1.1 w.1.2) (dite (ℕ_discrete (c.sign s) 0)
       (λ none. stay (Sparing spared) c (λ d. ButSigns c d × Possible d (End s)) ((c.sign, refl), can_end c.sign none))
       (λ some. first (Sparing spared) c (Clear s) (λ d. ButSigns c d × Possible d (End s)) (tt, λ u _. tt)
       (record { base = context; signs = inl (record { seat = seat; inside = inside_none s; queue = in_no_queue }, owns_none) })
-      (stay (Sparing spared) (after c (Clear s)) (λ d. ButSigns c d × Possible d (End s)) ((put c.sign s 0, refl), can_end (put c.sign s 0) (put_here c.sign s 0)))))
+      (stay (Sparing spared) (after c (Clear s)) (λ d. ButSigns c d × Possible d (End s))
+      ((put c.sign s 0, refl), can_end (put c.sign s 0) (put_here c.sign s 0)))))
     where
       in_no_queue : InNoQueue c s
       in_no_queue n e h = absurd (subst (λ q. Has q e) (free n).1 h)
@@ -257,7 +280,11 @@ module _ (spared : ℕ → Type 0) (c : State) (reached : Reached c) (spared_wai
 
       can_end : (signs : ℕ → ℕ) → signs s ≡ 0 → Possible (with_signs c signs) (End s)
       can_end signs none = record {
-        base = record { away = record { seat = seat; inside = inside_none s; queue = in_no_queue }; context = context; owns_none = owns_none };
+        base = record {
+          away = record { seat = seat; inside = inside_none s; queue = in_no_queue };
+          context = context;
+          owns_none = owns_none;
+        };
         signs = none;
       }
 
@@ -268,7 +295,8 @@ module _ (spared : ℕ → Type 0) (c : State) (reached : Reached c) (spared_wai
     asked = λ n. false_from_ne_true (c.asked n) (λ asked. ((lawful.base.owners.at n).asked_taken asked).1 (free n).1);
     guard = quiet;
     stamp = none;
-    sign = λ s. dite (ℕ_discrete (c.sign s) 0) (λ is. is) (λ some. absurd (let older = lawful.signs.older_signs s (omega arith) in let z = none s in omega arith));
+    sign = λ s. dite (ℕ_discrete (c.sign s) 0) (λ is. is)
+        (λ some. absurd (let older = lawful.signs.older_signs s (omega arith) in let z = none s in omega arith));
     heeded = λ s. away_unheeded c lawful.base s (λ n e h. absurd (subst (λ q. Has q e) (free n).1 h));
   }
 
@@ -296,11 +324,13 @@ pub guard_is : (g : ℕ) → (g ≡ 0) ⊎ ((s : ℕ) × (g ≡ suc s))
 guard_is zero = inl refl
 guard_is (suc s) = inr (s, refl)
 
--- everything is free, or some run makes the burden smaller, if who is spared is the oldest and waits
-pub empty_or_lighter : (spared : ℕ → Type 0) (c : State) → Reached c → ((s : ℕ) → spared s → IsOldest c s × ((n : ℕ) × Stands (c.queue n) s) × (c.heeded s ≡ 0)) →
+-- everything is free, or some run makes the burden smaller, if the spared seat is the oldest and waits
+pub empty_or_lighter : (spared : ℕ → Type 0) (c : State) → Reached c
+    → ((s : ℕ) → spared s → IsOldest c s × ((n : ℕ) × Stands (c.queue n) s) × (c.heeded s ≡ 0)) →
     IsEmptied c ⊎ GetsLighter spared c
 empty_or_lighter spared c reached spared_waits = ⊎_elim
     (λ quiet. outside_move spared c reached spared_waits (λ n. ⊎_elim (λ none. none)
     (λ one. let inside = guards_are c reached one.0 n one.1 in quiet n inside.lock) (guard_is (c.guard n))))
-    (λ one. inr (inside_move spared c reached one.2.0 one.0 (guards_are c reached one.2.0 one.0 one.2.1) (λ is. let w = spared_waits one.2.0 is in (w.0, w.2))))
+    (λ one. inr (inside_move spared c reached one.2.0 one.0 (guards_are c reached one.2.0 one.0 one.2.1)
+    (λ is. let w = spared_waits one.2.0 is in (w.0, w.2))))
     (search (λ n. c.guard n ≡ 0) (λ n. (s : ℕ) × (c.guard n ≡ suc s)) (λ n. guard_is (c.guard n)) c.locks)

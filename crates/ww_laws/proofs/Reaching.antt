@@ -21,11 +21,13 @@ use Rattle.ww_laws.proofs.Tests.{all_pass, a_run}
 
 -- Two contexts take a lock each, and then wait for each other: the younger is wounded.
 abbrev to_a_ring : Kind → List Event
-to_a_ring WoundWait = Begin 0 ∷ Begin 1 ∷ Fast 0 0 ∷ Fast 1 1 ∷ Guard 0 1 ∷ Join 0 1 ∷ Sign 0 1 ∷ Unguard 0 1 ∷ Guard 1 0 ∷ Join 1 0 ∷ Unguard 1 0 ∷ []
-to_a_ring WaitDie = Begin 0 ∷ Begin 1 ∷ Begin 2 ∷ Fast 1 0 ∷ Fast 2 1 ∷ Guard 1 1 ∷ Join 1 1 ∷ Unguard 1 1 ∷ Guard 2 1 ∷ Give 2 1 ∷ Unguard 2 1 ∷
+to_a_ring WoundWait = Begin 0 ∷ Begin 1 ∷ Fast 0 0 ∷ Fast 1 1 ∷ Guard 0 1 ∷ Join 0 1 ∷ Sign 0 1 ∷ Unguard 0 1 ∷
+    Guard 1 0 ∷ Join 1 0 ∷ Unguard 1 0 ∷ []
+to_a_ring WaitDie = Begin 0 ∷ Begin 1 ∷ Begin 2 ∷ Fast 1 0 ∷ Fast 2 1 ∷ Guard 1 1 ∷ Join 1 1 ∷ Unguard 1 1 ∷ Guard 2
+    1 ∷ Give 2 1 ∷ Unguard 2 1 ∷
     Guard 0 1 ∷ Take 0 1 ∷ Sign 0 1 ∷ Unguard 0 1 ∷ Guard 0 0 ∷ Join 0 0 ∷ Unguard 0 0 ∷ []
 
--- The younger dies and gives its lock back, to the older, which commits; and it ends.
+-- The younger dies and releases its lock, to the older, which commits; and it ends.
 abbrev out_of_it : Kind → List Event
 out_of_it WoundWait = Guard 1 0 ∷ Die 1 0 ∷ Unguard 1 0 ∷ Guard 0 1 ∷ Ask 0 1 ∷ Unguard 0 1 ∷ Guard 1 1 ∷ Give 1 1 ∷ Unguard 1 1 ∷ Clear 1 ∷
     Guard 0 1 ∷ Take 0 1 ∷ Unguard 0 1 ∷ Commit 0 ∷ FastGive 0 0 ∷ End 1 ∷ []
@@ -61,9 +63,17 @@ reached_ring kind = let from = start kind 2 3 in let there = at_start kind 2 3 i
 
 -- ---- the ring
 
-waits_for : (c : State) (a b n k : ℕ) → Has (c.queue n) (record { seat = a; stamp = k; holds = true }) → c.guard n ≡ 0 → c.owner n ≡ Taken b → a ≢ b → WaitsFor c a b
-waits_for c a b n k there free own other =
-    (n, record { stands = (record { seat = a; stamp = k; holds = true }, there, refl); outside = λ inside. omega arith; owner = inl own; other = other })
+waits_for : (c : State) (a b n k : ℕ) → Has (c.queue n) (record { seat = a; stamp = k; holds = true })
+    → c.guard n ≡ 0 → c.owner n ≡ Taken b → a ≢ b → WaitsFor c a b
+waits_for c a b n k there free own other = (
+  n,
+  record {
+    stands = (record { seat = a; stamp = k; holds = true }, there, refl);
+    outside = λ inside. omega arith;
+    owner = inl own;
+    other = other;
+  },
+)
 
 two_contexts : (c : State) → WaitsFor c 0 1 → WaitsFor c 1 0 → c.stamp 0 ≡ 1 → c.stamp 1 ≡ 2 → IsRing c (0 ∷ 1 ∷ [])
 two_contexts c v w first second = record {
@@ -99,22 +109,26 @@ event_at [] i = None
 event_at (e ∷ es) zero = Some e
 event_at (e ∷ es) (suc i) = event_at es i
 
-happens_in : (kind : Kind) (c : State) → c.kind ≡ kind → Reached c → (es : List Event) → IsRun c es → (i : ℕ) (e : Event) → event_at es i ≡ Some e → Happens kind e
+happens_in : (kind : Kind) (c : State) → c.kind ≡ kind → Reached c → (es : List Event) → IsRun c es
+    → (i : ℕ) (e : Event) → event_at es i ≡ Some e → Happens kind e
 happens_in kind c is reached [] run i e there = absurd (cc)
 happens_in kind c is reached (x ∷ xs) run zero e there = let same : x ≡ e = cc in
     record { state = c; of_kind = is; reached = reached; holds = subst (Possible c) same run.0 }
-happens_in kind c is reached (x ∷ xs) run (suc i) e there = happens_in kind (after c x) (same_kind c x ∙ is) (further c x reached run.0) xs run.1 i e there
+happens_in kind c is reached (x ∷ xs) run (suc i) e there =
+    happens_in kind (after c x) (same_kind c x ∙ is) (further c x reached run.0) xs run.1 i e there
 
 before_ring : (kind : Kind) (i : ℕ) (e : Event) → event_at (to_a_ring kind) i ≡ Some e → Happens kind e
 before_ring kind = let from = start kind 2 3 in let there = at_start kind 2 3 in
     happens_in kind from refl there (to_a_ring kind) (a_run from there (to_a_ring kind) (to_it kind))
 
 behind_ring : (kind : Kind) (i : ℕ) (e : Event) → event_at (out_of_it kind) i ≡ Some e → Happens kind e
-behind_ring kind = happens_in kind (ring_in kind) (of_its_kind kind (start kind 2 3) (to_a_ring kind) refl) (reached_ring kind) (out_of_it kind)
+behind_ring kind = happens_in kind (ring_in kind) (of_its_kind kind (start kind 2 3) (to_a_ring kind) refl)
+    (reached_ring kind) (out_of_it kind)
     (a_run (ring_in kind) (reached_ring kind) (out_of_it kind) (from_it kind))
 
 where_cancelled : (kind : Kind) (i : ℕ) (e : Event) → event_at (cancelled_there kind) i ≡ Some e → Happens kind e
-where_cancelled kind = happens_in kind (ring_in kind) (of_its_kind kind (start kind 2 3) (to_a_ring kind) refl) (reached_ring kind) (cancelled_there kind)
+where_cancelled kind = happens_in kind (ring_in kind) (of_its_kind kind (start kind 2 3) (to_a_ring kind) refl)
+    (reached_ring kind) (cancelled_there kind)
     (a_run (ring_in kind) (reached_ring kind) (cancelled_there kind) (cancels_it kind))
 
 pub events_happen : EventsHappen

@@ -25,7 +25,7 @@ use Rattle.ww_laws.proofs.OutsideMoves.{empty_or_lighter}
 abbrev pub Only : ℕ → ℕ → Type 0
 Only s u = u ≡ s
 
--- who is spared doesn't end
+-- a spared seat doesn't end
 pub not_ended : (s : ℕ) (e : Event) → Spares s e → e ≢ End s
 not_ended s (End u) other is = other (cc)
 not_ended s _ spared is = cc
@@ -57,17 +57,25 @@ module _ (s n : ℕ) where
 
   waits_on : (c : State) (e : Event) → Reached c → Possible c e → Sparing (Only s) c e → Waits c → Waits (after c e) ⊎ Owns (after c e) s n
   waits_on c e reached can may w = let l = (reached_is_lawful c reached).base in let spares = may.1 s refl in ⊎_elim
-      (λ waits. inl (record { oldest = oldest_stays c l s w.oldest e can.base (not_ended s e spares); waits = waits; unheeded = unheeded_on c e s may.0 spares w.unheeded })) inr
+      (λ waits. inl (record {
+        oldest = oldest_stays c l s w.oldest e can.base (not_ended s e spares);
+        waits = waits;
+        unheeded = unheeded_on c e s may.0 spares w.unheeded;
+      })) inr
       (waits_or_owns c e s n l can.base may.0 spares w.waits)
 
   lighter : (c : State) → Reached c → Waits c → GetsLighter (Only s) c
   lighter c reached w = ⊎_elim (λ empty. absurd (subst (λ q. Has q w.waits.0) (empty.queue n) w.waits.1)) (λ way. way)
-      (empty_or_lighter (Only s) c reached (λ u is. subst (λ v. IsOldest c v × ((m : ℕ) × Stands (c.queue m) v) × (c.heeded v ≡ 0)) (sym is) (w.oldest, (n, w.waits), w.unheeded)))
+      (empty_or_lighter (Only s) c reached
+      (λ u is. subst (λ v. IsOldest c v × ((m : ℕ) × Stands (c.queue m) v) × (c.heeded v ≡ 0)) (sym is)
+      (w.oldest, (n, w.waits), w.unheeded)))
 
-  goes_down : (c : State) → Reached c → Waits c → ((d : State) → Reached d → Lower c d → Waits d → LeadsBy (Sparing (Only s)) d (λ d. Owns d s n)) →
+  goes_down : (c : State) → Reached c → Waits c
+      → ((d : State) → Reached d → Lower c d → Waits d → LeadsBy (Sparing (Only s)) d (λ d. Owns d s n)) →
       LeadsBy (Sparing (Only s)) c (λ d. Owns d s n)
   goes_down c reached w rest = let E = Sparing (Only s) in let owns : State → Type 0 = λ d. Owns d s n in
-      and_then E c (λ d. (Lower c d × Waits d) ⊎ Owns d s n) owns reached (until E Waits (Lower c) owns waits_on c reached w (lighter c reached w))
+      and_then E c (λ d. (Lower c d × Waits d) ⊎ Owns d s n) owns reached
+      (until E Waits (Lower c) owns waits_on c reached w (lighter c reached w))
       (λ d there. ⊎_elim (λ down. rest d there down.0 down.1) (stay E d owns))
 
   within : (bound : ℕ) (c : State) → Reached c → Waits c → burden c ≤ bound → LeadsBy (Sparing (Only s)) c (λ d. Owns d s n)
@@ -79,4 +87,6 @@ pub sparing : (s : ℕ) (c : State) (P : State → Type 0) → LeadsBy (Sparing 
 sparing s = widened (Sparing (Only s)) (WindsUpSparing s) (λ d e may. (may.0, may.1 s refl))
 
 pub oldest_can_take : OldestCanTake
-oldest_can_take c reached s n oldest waits unheeded = sparing s c (λ d. Owns d s n) (within s n (burden c) c reached (record { oldest = oldest; waits = waits; unheeded = unheeded }) (omega arith))
+oldest_can_take c reached s n oldest waits unheeded =
+    sparing s c (λ d. Owns d s n) (within s n (burden c) c reached
+    (record { oldest = oldest; waits = waits; unheeded = unheeded }) (omega arith))

@@ -97,7 +97,8 @@ passes c (Take s n) = is_in c s n && (wants c s && is_free_for s (c.owner n))
 passes c (Ask s n) = is_in c s n && (is_first s (c.queue n) && (is_other_taken s (c.owner n) && not (c.asked n)))
 passes c (Give s n) = is_in c s n && is_taken_by s (c.owner n)
 passes c (Die s n) = is_in c s n && (has_waiter s (c.queue n) && (is_other s (c.owner n) && ((c.heeded s == 0) && is_some (dies c s n))))
-passes c (Unguard s n) = is_in c s n && ((not (has_waiter s (c.queue n)) || is_other s (c.owner n)) && ((c.heeded s == 0) && (all_signed c (owes c s n) && is_safe c.kind c s n)))
+passes c (Unguard s n) = is_in c s n && ((not (has_waiter s (c.queue n)) || is_other s (c.owner n))
+    && ((c.heeded s == 0) && (all_signed c (owes c s n) && is_safe c.kind c s n)))
 passes c (Commit s) = is_away c s && (owns_some c s && nat_lt c.commits 18446744073709551615)
 passes c (End s) = is_away c s && (nat_lt 0 (c.stamp s) && (not (owns_some c s) && (c.sign s == 0)))
 passes c (Cancel s v) = is_away c s && (nat_lt v c.seats && (c.cancel v == 0))
@@ -160,28 +161,35 @@ signed_from c (p ∷ ps) is v k h = let both = both_true (nat_lt 0 (c.sign p.0))
 
 module _ (c : State) (s : ℕ) where
   is_inside : (n : ℕ) → is_in c s n ≡ true → Inside c s n
-  is_inside n is = let a = both_true (c.guard n == suc s) (nat_lt n c.locks && nat_lt s c.seats) is in let b = both_true (nat_lt n c.locks) (nat_lt s c.seats) a.1 in
+  is_inside n is = let a = both_true (c.guard n == suc s) (nat_lt n c.locks && nat_lt s c.seats) is in
+      let b = both_true (nat_lt n c.locks) (nat_lt s c.seats) a.1 in
       record { guard = same_number (c.guard n) (suc s) a.0; lock = less n c.locks b.0; seat = less s c.seats b.1 }
 
   wanted : wants c s ≡ true → (0 < c.stamp s) × IsCalm c s
   wanted is = let a = both_true (nat_lt 0 (c.stamp s)) ((c.sign s == 0) || owns_some c s) is in (
     less 0 (c.stamp s) a.0,
     ⊎_elim
-        (λ none. inl (same_number (c.sign s) 0 none)) (λ owns. inr (owns_found c.locks c.owner s owns)) (or_true (c.sign s == 0) (owns_some c s) a.1),
+        (λ none. inl (same_number (c.sign s) 0 none)) (λ owns. inr (owns_found c.locks c.owner s owns))
+        (or_true (c.sign s == 0) (owns_some c s) a.1),
   )
 
   module _ (reached : Reached c) where
     none_inside : inside_none c s ≡ true → InsideNone c s
-    none_inside is n in_n = true≢false (sym (found_below c.locks (λ m. c.guard m == suc s) n (guards_are c reached s n in_n).lock (number_same (c.guard n) (suc s) in_n))
+    none_inside is n in_n = true≢false (sym
+        (found_below c.locks (λ m. c.guard m == suc s) n (guards_are c reached s n in_n).lock
+        (number_same (c.guard n) (suc s) in_n))
         ∙ not_true (any_below c.locks (λ m. c.guard m == suc s)) is)
 
     none_waits : in_no_queue c s ≡ true → InNoQueue c s
-    none_waits is n e h mine = let lock : n < c.locks = dite (dec_le c.locks n) (λ beyond. absurd (subst (λ q. Has q e) (queues_beyond c reached n beyond) h)) (λ within. omega arith) in
+    none_waits is n e h mine = let lock : n < c.locks =
+        dite (dec_le c.locks n) (λ beyond. absurd (subst (λ q. Has q e) (queues_beyond c reached n beyond) h))
+        (λ within. omega arith) in
         true≢false (sym (found_below c.locks (λ m. has_waiter s (c.queue m)) n lock (stands_waiter s (c.queue n) (e, h, mine)))
         ∙ not_true (any_below c.locks (λ m. has_waiter s (c.queue m))) is)
 
     away : is_away c s ≡ true → Away c s
-    away is = let a = both_true (nat_lt s c.seats) (inside_none c s && in_no_queue c s) is in let b = both_true (inside_none c s) (in_no_queue c s) a.1 in
+    away is = let a = both_true (nat_lt s c.seats) (inside_none c s && in_no_queue c s) is in
+        let b = both_true (inside_none c s) (in_no_queue c s) a.1 in
         record { seat = less s c.seats a.0; inside = none_inside b.0; queue = none_waits b.1 }
 
     owns_nothing : not (owns_some c s) ≡ true → OwnsNone c s
@@ -199,10 +207,17 @@ may_leave WoundWait c s n is safe dying = absurd (let clash = sym is ∙ dying i
 may_leave WaitDie c s n is safe dying = let a = both_true (not (is_some (dies c s n))) (c.sign s == 0) safe in
     record { lives = none_from (dies c s n) a.0; unsigned = same_number (c.sign s) 0 a.1 }
 
-may_go : (c : State) → Reached c → (s n : ℕ) → inside_none c s ≡ true → s < c.seats → n < c.locks → c.guard n ≡ 0 → in_no_queue c s ≡ true → (taken : Bool) → is_taken_by s (c.owner n) ≡ taken →
+may_go : (c : State) → Reached c → (s n : ℕ) → inside_none c s ≡ true → s < c.seats → n < c.locks → c.guard n ≡ 0
+    → in_no_queue c s ≡ true → (taken : Bool) → is_taken_by s (c.owner n) ≡ taken →
     (taken || wants c s) ≡ true → Possible c (Guard s n)
 may_go c reached s n none seat lock free away' true own is = let owns = taken_true s (c.owner n) own in record {
-  base = record { seat = seat; lock = lock; inside_none = none_inside c s reached none; free = free; why = inl (owns, none_waits c s reached away') };
+  base = record {
+    seat = seat;
+    lock = lock;
+    inside_none = none_inside c s reached none;
+    free = free;
+    why = inl (owns, none_waits c s reached away');
+  };
   signs = inl owns;
 }
 may_go c reached s n none seat lock free away' false own is = let w = wanted c s is in record {
@@ -238,7 +253,8 @@ may c reached (Clear s) is = let n = place_of c s in
           (or_true (is_away c s && not (owns_some c s)) (lives c.kind c s n) p.1);
     }
 may c reached (Fast s n) is =
-    let p = both_true (is_away c s) (wants c s && (nat_lt n c.locks && (is_free (c.owner n) && (is_empty (c.queue n) && not (c.asked n))))) is in
+    let p = both_true (is_away c s) (wants c s
+    && (nat_lt n c.locks && (is_free (c.owner n) && (is_empty (c.queue n) && not (c.asked n))))) is in
     let q = both_true (wants c s) (nat_lt n c.locks && (is_free (c.owner n) && (is_empty (c.queue n) && not (c.asked n)))) p.1 in
     let r = both_true (nat_lt n c.locks) (is_free (c.owner n) && (is_empty (c.queue n) && not (c.asked n))) q.1 in
     let t = both_true (is_free (c.owner n)) (is_empty (c.queue n) && not (c.asked n)) r.1 in
@@ -246,7 +262,12 @@ may c reached (Fast s n) is =
       base = record {
         away = away c s reached p.0;
         may_own = inl w.0;
-        idle = record { lock = less n c.locks r.0; free = free_from (c.owner n) t.0; empty = empty_from (c.queue n) u.0; not_asked = not_true (c.asked n) u.1 };
+        idle = record {
+          lock = less n c.locks r.0;
+          free = free_from (c.owner n) t.0;
+          empty = empty_from (c.queue n) u.0;
+          not_asked = not_true (c.asked n) u.1;
+        };
       };
       signs = w.1;
     }
@@ -264,7 +285,8 @@ may c reached (FastGive s n) is =
       };
       signs = tt;
     }
-may c reached (Guard s n) is = let wait = has_waiter s (c.queue n) in let new = in_no_queue c s && (is_taken_by s (c.owner n) || wants c s) in
+may c reached (Guard s n) is = let wait = has_waiter s (c.queue n) in
+    let new = in_no_queue c s && (is_taken_by s (c.owner n) || wants c s) in
     let p = both_true (nat_lt s c.seats) (nat_lt n c.locks && (inside_none c s && ((c.guard n == 0) && (wait || new)))) is in
     let q = both_true (nat_lt n c.locks) (inside_none c s && ((c.guard n == 0) && (wait || new))) p.1 in
     let r = both_true (inside_none c s) ((c.guard n == 0) && (wait || new)) q.1 in
@@ -290,7 +312,8 @@ may c reached (Join s n) is =
       signs = w.1;
     }
 may c reached (Sign s v) is = let owed = owed_to v (owes c s (place_of c s)) in
-    let p = both_true (is_in c s (place_of c s)) ((c.sign v == 0) && is_some owed) is in let q = both_true (c.sign v == 0) (is_some owed) p.1 in record {
+    let p = both_true (is_in c s (place_of c s)) ((c.sign v == 0) && is_some owed) is in
+    let q = both_true (c.sign v == 0) (is_some owed) p.1 in record {
       base = is_inside c s (place_of c s) p.0;
       signs = record { unsigned = same_number (c.sign v) 0 q.0; owed = q.1 };
     }
@@ -321,7 +344,8 @@ may c reached (Give s n) is = let p = both_true (is_in c s n) (is_taken_by s (c.
   signs = tt;
 }
 may c reached (Die s n) is =
-    let p = both_true (is_in c s n) (has_waiter s (c.queue n) && (is_other s (c.owner n) && ((c.heeded s == 0) && is_some (dies c s n)))) is in
+    let p = both_true (is_in c s n) (has_waiter s (c.queue n)
+    && (is_other s (c.owner n) && ((c.heeded s == 0) && is_some (dies c s n)))) is in
     let q = both_true (has_waiter s (c.queue n)) (is_other s (c.owner n) && ((c.heeded s == 0) && is_some (dies c s n))) p.1 in
     let r = both_true (is_other s (c.owner n)) ((c.heeded s == 0) && is_some (dies c s n)) q.1 in
     let t = both_true (c.heeded s == 0) (is_some (dies c s n)) r.1 in record {
@@ -334,7 +358,8 @@ may c reached (Die s n) is =
       signs = t.1;
     }
 may c reached (Unguard s n) is = let wait = not (has_waiter s (c.queue n)) in
-    let p = both_true (is_in c s n) ((wait || is_other s (c.owner n)) && ((c.heeded s == 0) && (all_signed c (owes c s n) && is_safe c.kind c s n))) is in
+    let p = both_true (is_in c s n) ((wait || is_other s (c.owner n))
+    && ((c.heeded s == 0) && (all_signed c (owes c s n) && is_safe c.kind c s n))) is in
     let q = both_true (wait || is_other s (c.owner n)) ((c.heeded s == 0) && (all_signed c (owes c s n) && is_safe c.kind c s n)) p.1 in
     let t = both_true (c.heeded s == 0) (all_signed c (owes c s n) && is_safe c.kind c s n) q.1 in
     let r = both_true (all_signed c (owes c s n)) (is_safe c.kind c s n) t.1 in record {
@@ -371,7 +396,8 @@ may c reached (Cancel s v) is =
       signs = tt;
     }
 may c reached (Heed s n) is =
-    let p = both_true (is_in c s n) (has_waiter s (c.queue n) && (is_other s (c.owner n) && (nat_lt 0 (c.cancel s) && (c.heeded s == 0)))) is in
+    let p = both_true (is_in c s n) (has_waiter s (c.queue n)
+    && (is_other s (c.owner n) && (nat_lt 0 (c.cancel s) && (c.heeded s == 0)))) is in
     let q = both_true (has_waiter s (c.queue n)) (is_other s (c.owner n) && (nat_lt 0 (c.cancel s) && (c.heeded s == 0))) p.1 in
     let r = both_true (is_other s (c.owner n)) (nat_lt 0 (c.cancel s) && (c.heeded s == 0)) q.1 in
     let t = both_true (nat_lt 0 (c.cancel s)) (c.heeded s == 0) r.1 in record {

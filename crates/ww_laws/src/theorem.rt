@@ -1,5 +1,5 @@
 //! The theorem, sentence by sentence of `specs/Theorem.antt` of `ww_model`: every ring of waits has a condemned member,
-//! who is told EDEADLK had to be, the oldest never backs off, nobody is stuck for good, and nobody is interrupted but
+//! no EDEADLK is spurious, the oldest never backs off, nobody is stuck for good, and nobody is interrupted but
 //! by a cancel.
 
 ghost use Rattle.ww_model.specs.Theorem.{RingsAreCondemned, CyclesAreCondemned, CyclesAreOfContexts, ReachedIsLawful, DeadlkWasMet, OldestNeverDies, OldestCanTake, OldestCanJoinAndTake, CanBeEmptied, CancelsAreCounted, RingsAreReached, EventsHappen};
@@ -36,7 +36,7 @@ pub fn oldest_never_dies()
 {}
 
 /// Wherever the oldest context waits and has heeded no cancel, some run leads to it owning the lock in which nobody
-/// begins anything new, and in which it neither dies nor is interrupted nor gives anything back: whoever is in its way
+/// begins anything new, and in which it neither dies nor is interrupted nor releases anything: whoever is in its way
 /// can be made to give way, and it never has to.
 pub fn oldest_can_take()
     ensures { OldestCanTake }

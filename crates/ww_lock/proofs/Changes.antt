@@ -1,5 +1,5 @@
 -- What is prepared, and what its commit makes of a state.
-use Rattle.std.proofs.Common.{◌≡◌, ℕ, zero, suc, ◌+◌, ◌-◌, ◌<◌, ◌≤◌, ◌^◌, ◌||◌, ◌∙◌, Bool, List, [], ◌∷◌, ◌++◌, length, length-append, map, fold, get_or, true, false, inl, inr, Option, Some, None, slice_get, refl, sym, ap, subst, arith}
+use Rattle.std.proofs.Common.{◌≡◌, ℕ, zero, suc, ◌+◌, ◌-◌, ◌<◌, ◌≤◌, ◌^◌, ◌||◌, ◌∙◌, Bool, List, [], ◌∷◌, ◌++◌, length, length-append, map, fold, true, inl, inr, Option, Some, None, slice_get, refl, sym, ap, subst, arith}
 use Rattle.std.specs.Prelude.{vec_len, vec_capacity}
 use Rattle.std.specs.List.{AllByRecursion}
 use Rattle.std.proofs.lemmas.List.{length-map, map-append}
@@ -12,29 +12,31 @@ use Rattle.ww_plain.specs.Transaction.{get, add, move, link, sum, reverse, peek,
 use Rattle.ww_plain.specs.Meaning.{answer_of}
 use Rattle.ww_plain.proofs.Members.{true_or_false, is_among-append, is_among-head}
 use Rattle.ww_plain.proofs.Walks.{gives_walk}
-use Rattle.ww_rule.specs.declared.cells.Counts.{Counts}
 use Rattle.ww_table.specs.declared.seat.Seat16.{Seat16}
 use Rattle.ww_view.specs.View.{owns}
 use Rattle.ww_seat.specs.Orderly.{IsSettled}
+use Rattle.ww_seat.specs.Accounts.{Account, account_of, having_committed}
 use Rattle.ww_seat.specs.Calls.{HoldsAll, HasCommitted}
 use Rattle.ww_lock.specs.declared.hand.Hand.{Hand}
 use Rattle.ww_lock.specs.declared.prepared.Receipt.{Receipt}
 use Rattle.ww_lock.specs.Carried.{holding_of, held_of, Carries, CarriesFresh}
 use Rattle.ww_lock.specs.Moves.{IsCommitted}
 use Rattle.ww_lock.proofs.Helds.{all_among}
-use Rattle.ww_lock.proofs.Carrying.{at_table, settled_as, held_still, owned_still}
+use Rattle.ww_lock.proofs.Carrying.{at_table, settled_as, seen_with, seen_still, carries_with}
 use Rattle.ww_plain.specs.declared.node.Node.{Node}
 use Rattle.ww_plain.specs.declared.history.Record.{Record}
 use Rattle.ww_plain.specs.Numbers.{is_among}
 use Rattle.ww_plain.specs.Footprint.{footprint_of}
 use Rattle.ww_plain.specs.Transaction.{Transaction}
 use Rattle.ww_plain.specs.History.{Recorded, recorded_of}
-use Rattle.ww_lock.specs.Holding.{Holding, Change, Setting, IsAtHome, Holds, SameAt, AreBelow, by_of, own_of}
+use Rattle.ww_lock.specs.Holding.{Holding, Change, Setting, IsAtHome, Holds, SameAt, AreBelow, own_of}
 use Rattle.ww_lock.specs.Making.{IsMade, Finds}
 use Rattle.ww_seat.specs.Commits.{change_at}
 
 -- the nodes are held as they were before
-pub found : (s : Holding) (before after : List Node) (ns : List ℕ) → (AllByRecursion (Finds s) (map (change_at before after) ns) → Holds s ns × SameAt before s.seen ns) × (Holds s ns × SameAt before s.seen ns → AllByRecursion (Finds s) (map (change_at before after) ns))
+pub found : (s : Holding) (before after : List Node) (ns : List ℕ)
+    → (AllByRecursion (Finds s) (map (change_at before after) ns) → Holds s ns × SameAt before s.seen ns)
+    × (Holds s ns × SameAt before s.seen ns → AllByRecursion (Finds s) (map (change_at before after) ns))
 found s before after [] = (λ _. (tt, tt), λ _. tt)
 found s before after (n ∷ ns) = let rest = found s before after ns in (
   λ all. let more = rest.0 all.1 in ((all.0.0, more.0), (sym all.0.1, more.1)),
@@ -81,7 +83,9 @@ some_walk graph start p most one =
 
 pub some_footprint : (graph : List Node) (t : Transaction) (size : ℕ) → Fits size t → Some_among (footprint_of graph t)
 some_footprint graph (get by nodes) size fits = some_distinct nodes fits.0.some
-some_footprint graph (add by amounts) size fits = some_distinct (map (λ pair. pair.0) amounts) (omega (arith, fits.0.some, length-map amounts (λ (pair : ℕ × ℕ). pair.0)))
+some_footprint graph (add by amounts) size fits =
+    some_distinct (map (λ pair. pair.0) amounts)
+    (omega (arith, fits.0.some, length-map amounts (λ (pair : ℕ × ℕ). pair.0)))
 some_footprint graph (move from to amount) size fits = some_distinct (from ∷ to ∷ []) (omega arith)
 some_footprint graph (link node port target) size fits = some_target (node ∷ []) target (node, is_among-head node [])
 some_footprint graph (sum start port length) size fits = some_walk graph start port length fits.some
@@ -98,12 +102,17 @@ pub record MayCommit (h : Hand) (p : Change) (r : Record) : Type 0 where
   pub held : HoldsAll h.seat.seat.me p.before (footprint_of p.before p.transaction)
   pub fewer : length h.seat.seat.me.0.part.own + 1 < 2 ^ 32
 
-pub may_commit : (h : Hand) (p : Change) (r : Record) → CarriesFresh h → IsMade (holding_of h) p → r.caller ≡ h.seat.who → r.seq ≡ length h.seat.records.items → Fits (length p.before) p.transaction → MayCommit h p r
+pub may_commit : (h : Hand) (p : Change) (r : Record) → CarriesFresh h → IsMade (holding_of h) p
+    → r.caller ≡ h.seat.who → r.seq ≡ length h.seat.records.items → Fits (length p.before) p.transaction
+    → MayCommit h p r
 may_commit h p r f made caller seq fits =
     let c = f.carries in
     let ns : List ℕ = footprint_of p.before p.transaction in
-    let held : (n : ℕ) → is_among n ns ≡ true → is_among n (held_of h) ≡ true = λ n e. all_among (λ m. is_among m (held_of h) ≡ true) ns n made.holds e in
-    let as_seen : (n : ℕ) → is_among n ns ≡ true → node_at p.before n ≡ node_at h.seen n = λ n e. all_among (λ m. node_at p.before m ≡ node_at h.seen m) ns n made.contents e in
+    let held : (n : ℕ) → is_among n ns ≡ true
+    → is_among n (held_of h) ≡ true = λ n e. all_among (λ m. is_among m (held_of h) ≡ true) ns n made.holds e in
+    let as_seen : (n : ℕ) → is_among n ns ≡ true
+    → node_at p.before n ≡ node_at h.seen n =
+    λ n e. all_among (λ m. node_at p.before m ≡ node_at h.seen m) ns n made.contents e in
     let one = some_footprint p.before p.transaction (length p.before) fits in
     record {
       owner = (one.0, c.owned one.0 ∙ held one.0 one.1);
@@ -121,36 +130,71 @@ below_as : (place : ℕ) (records : List (ℕ × Record)) → AllByRecursion (λ
 below_as place [] all = tt
 below_as place (r ∷ rs) all = (all.0, below_as place rs all.1)
 
-pub commits : (h : Hand) (w pl : Setting) (q : Seat16) (p : Change) (r : Record) (after : List Node) (ns : List ℕ) (told : Receipt) → pl ≡ w → IsAtHome (holding_of h) w → CarriesFresh h
-    → IsSettled pl.home (length pl.first) q → HasCommitted h.seat.seat.me told.place r after ns q.seat.me → recorded_of r ≡ record { caller = h.seat.who; seq = length h.seat.records.items; transaction = p.transaction; answer = p.answer }
-    → told.seq ≡ length h.seat.records.items → answer_of told.reply ≡ p.answer → vec_capacity q.records ≡ vec_capacity h.seat.records → Commits h (record h { seat = q }) p told
+pub commits : (h : Hand) (w pl : Setting) (q : Seat16) (p : Change) (r : Record) (after : List Node) (ns : List ℕ)
+    (told : Receipt) → pl ≡ w → IsAtHome (holding_of h) w → CarriesFresh h
+    → IsSettled pl.home.table (length pl.first) q → HasCommitted h.seat.seat.me told.place r after ns q.seat.me
+    → recorded_of r ≡ record {
+      caller = h.seat.who;
+      seq = length h.seat.records.items;
+      transaction = p.transaction;
+      answer = p.answer;
+    }
+    → told.seq ≡ length h.seat.records.items → answer_of told.reply ≡ p.answer
+    → vec_capacity q.records ≡ vec_capacity h.seat.records → Commits h (record h { seat = q }) p told
 commits h w pl q p r after ns told is home f settled b same seq reply capacity =
     let c = f.carries in
     let g : Hand = record h { seat = q } in
     let t = at_table (holding_of h) w pl is home in
-    let records : q.records.items ≡ h.seat.records.items ++ (told.place, r) ∷ [] = settled.seated.records ∙ b.own ∙ ap (λ l. l ++ (told.place, r) ∷ []) (sym c.settled.seated.records) in
-    let many : length q.records.items ≡ length h.seat.records.items + 1 = ap length records ∙ length-append h.seat.records.items ((told.place, r) ∷ []) in
-    let room : vec_capacity q.records - vec_len q.records ≡ vec_capacity h.seat.records - vec_len h.seat.records - 1 = omega (arith, many, capacity) in
+    let records : q.records.items ≡ h.seat.records.items ++ (told.place, r) ∷ [] = settled.seated.records
+    ∙ ap (λ (x : Account). x.own) b.now ∙ ap (λ l. l ++ (told.place, r) ∷ []) (sym c.settled.seated.records) in
+    let many : length q.records.items ≡ length h.seat.records.items + 1 = ap length records
+    ∙ length-append h.seat.records.items ((told.place, r) ∷ []) in
+    let room : vec_capacity q.records - vec_len q.records
+    ≡ vec_capacity h.seat.records - vec_len h.seat.records - 1 = omega (arith, many, capacity) in
     let table : q.seat.table_id ≡ h.seat.seat.table_id = settled.seated.home ∙ sym t.0 in
-    let who : q.who ≡ h.seat.who = sym settled.seated.who ∙ b.who ∙ c.settled.seated.who in
-    let stamp : q.stamp ≡ h.seat.stamp = sym settled.seated.stamp ∙ b.stamp ∙ c.settled.seated.stamp in
-    let size : length (own_of h.seat.records.items) ≡ length h.seat.records.items = length-map h.seat.records.items (λ (x : ℕ × Record). (x.0, recorded_of x.1)) in
-    let own : own_of q.records.items ≡ own_of h.seat.records.items ++ (told.place, record { caller = h.seat.who; seq = length (own_of h.seat.records.items); transaction = p.transaction; answer = p.answer }) ∷ [] =
+    let who : q.who ≡ h.seat.who = sym settled.seated.who ∙ ap (λ (x : Account). x.who) b.now ∙ c.settled.seated.who in
+    let size : length (own_of h.seat.records.items) ≡ length h.seat.records.items =
+    length-map h.seat.records.items (λ (x : ℕ × Record). (x.0, recorded_of x.1)) in
+    let own : own_of q.records.items ≡ own_of h.seat.records.items ++ (
+      told.place,
+      record {
+        caller = h.seat.who;
+        seq = length (own_of h.seat.records.items);
+        transaction = p.transaction;
+        answer = p.answer;
+      },
+    ) ∷ [] =
     ap own_of records ∙ map-append (λ (x : ℕ × Record). (x.0, recorded_of x.1)) h.seat.records.items ((told.place, r) ∷ [])
-    ∙ ap (λ (d : Recorded). own_of h.seat.records.items ++ (told.place, d) ∷ []) (same ∙ ap (λ (k : ℕ). record { caller = h.seat.who; seq = k; transaction = p.transaction; answer = p.answer }) (sym size)) in
+    ∙ ap (λ (d : Recorded). own_of h.seat.records.items ++ (told.place, d) ∷ [])
+    (same ∙ ap (λ (k : ℕ). record {
+      caller = h.seat.who;
+      seq = k;
+      transaction = p.transaction;
+      answer = p.answer;
+    }) (sym size)) in
+    let a : Account = having_committed (account_of h.seat.seat.me) told.place r q.seat.me.0.held in
+    let added : List (ℕ × Recorded) = own_of h.seat.records.items ++ (
+      told.place,
+      record {
+        caller = h.seat.who;
+        seq = length (own_of h.seat.records.items);
+        transaction = p.transaction;
+        answer = p.answer;
+      },
+    ) ∷ [] in
+    let less : ℕ = vec_capacity h.seat.records - vec_len h.seat.records - 1 in
+    let same : holding_of g ≡ record (seen_with h (account_of q.seat.me)) { own = added; room = less } =
+    rw (table, who, own, room, sym settled.seated.stamp) refl in
     record {
-      carries = record {
-        settled = settled_as pl.home q.seat.table_id (length pl.first) (length h.seen) q (sym settled.seated.home) (sym t.1) settled;
-        owned = owned_still h q c b.owned b.locks;
-        marks = c.marks ∙ sym b.owned;
-        held = held_still h q c b.locks;
-        answered = ap by_of b.stopped ∙ c.answered ∙ sym (ap (λ (k : Counts). k.heeded) b.counts);
-        draws = omega (arith, c.draws, ap (λ (k : Counts). k.draws) b.counts);
-        commits = omega (arith, many, f.commits);
-      };
+      carries = carries_with g a b.now (settled_as pl.home.table q.seat.table_id (length pl.first) (length h.seen) q
+          (sym settled.seated.home) (sym t.1) settled)
+          (record { owned = c.owned; marks = c.marks; held = c.held; answered = c.answered; draws = c.draws })
+          (rw who c.placed) (omega (arith, many, f.commits));
       is = record {
-        own = rw (table, who, b.counts, b.locks, b.stopped, b.pendings, stamp, own, room, b.tries, b.takes, b.deaths) refl;
-        above = below_as told.place h.seat.records.items (subst (AllByRecursion (λ x. x.0 < told.place)) (sym c.settled.seated.records) b.above);
+        own = same ∙ ap (λ (x : Account). let s : Holding = record (seen_with h x) { own = added; room = less } in
+            s) b.now ∙ ap (λ (s : Holding). record s { own = added; room = less }) (seen_still h c);
+        above = below_as told.place h.seat.records.items
+            (subst (AllByRecursion (λ x. x.0 < told.place)) (sym c.settled.seated.records) b.above);
         seq = seq ∙ sym size;
         reply = reply;
       };

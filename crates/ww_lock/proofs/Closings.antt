@@ -20,7 +20,7 @@ use Rattle.ww_table.specs.Closed as table
 use Rattle.atomic_table.specs.Seated.{TableId}
 use Rattle.ww_lock.specs.declared.hand.Hand.{Hand}
 use Rattle.ww_lock.specs.declared.close.History.{History}
-use Rattle.ww_lock.specs.Holding.{Holding, Setting, AreAtHome, AreBelow, by_of, own_of}
+use Rattle.ww_lock.specs.Holding.{Home, Holding, Setting, AreAtHome, AreBelow, by_of, own_of}
 use Rattle.ww_lock.specs.Carried.{holding_of, held_of, Carries}
 use Rattle.ww_lock.specs.Closed.{has_pass, missing_of, IsSeatOf, AreSeatsOf, AreAllBelow, AreParts, IsBalanced, AreBalanced, IsClosed}
 use Rattle.ww_lock.proofs.Carrying.{bare_of, top_held}
@@ -54,19 +54,27 @@ pub own_below : (place : ℕ) (records : List (ℕ × Record)) → AreBelow plac
 own_below place [] all = tt
 own_below place (r ∷ rs) all = (all.0, own_below place rs all.1)
 
-pub fits : (place : ℕ) (passes : List Holding) (seats : List Seat16) → AreSeatsOf passes seats → AreAllBelow place passes → AllByRecursion (HasPlaces place) seats
+pub fits : (place : ℕ) (passes : List Holding) (seats : List Seat16) → AreSeatsOf passes seats
+    → AreAllBelow place passes → AllByRecursion (HasPlaces place) seats
 fits place [] [] are all = tt
 fits place [] (q ∷ qs) are all = absurd are
 fits place (s ∷ ss) [] are all = absurd are
-fits place (s ∷ ss) (q ∷ qs) are all = (own_below place q.records.items (subst (AreBelow place) (sym are.0.own) all.0), fits place ss qs are.1 all.1)
+fits place (s ∷ ss) (q ∷ qs) are all =
+    (own_below place q.records.items (subst (AreBelow place) (sym are.0.own) all.0), fits place ss qs are.1 all.1)
 
-come : (t : TableId) (w : Setting) (passes : List Holding) (seats : List Seat16) → w.home ≡ t → AreAtHome passes w → AreSeatsOf passes seats → AllByRecursion (HasCome t) seats
+come : (t : TableId) (w : Setting) (passes : List Holding) (seats : List Seat16) → w.home.table ≡ t
+    → AreAtHome passes w → AreSeatsOf passes seats → AllByRecursion (HasCome t) seats
 come t w [] [] is home are = tt
 come t w [] (q ∷ qs) is home are = absurd are
 come t w (s ∷ ss) [] is home are = absurd are
-come t w (s ∷ ss) (q ∷ qs) is home are = (subst (λ (z : TableId). HasCome z q) (home.0.home ∙ is) are.0.come, come t w ss qs is home.1 are.1)
+come t w (s ∷ ss) (q ∷ qs) is home are = (
+  subst (λ (z : TableId). HasCome z q) (ap (λ (x : Home). x.table) home.0.home ∙ is) are.0.come,
+  come t w ss qs
+      is home.1 are.1,
+)
 
-found : (passes : List Holding) (seats : List Seat16) (k : ℕ) → AreSeatsOf passes seats → has_pass passes k ≡ true → (q : Seat16) × Has seats q × (q.who ≡ k)
+found : (passes : List Holding) (seats : List Seat16) (k : ℕ) → AreSeatsOf passes seats → has_pass passes k ≡ true
+    → (q : Seat16) × Has seats q × (q.who ≡ k)
 found [] [] k are has = absurd (true≢false (sym has))
 found [] (q ∷ qs) k are has = absurd are
 found (s ∷ ss) [] k are has = absurd are
@@ -88,7 +96,9 @@ all_there (suc c) passes none k lt = elim (true_or_false (has_pass passes c)) [
     same_number : (c k : ℕ) → c ≤ k → k < suc c → c ≡ k
     same_number c k most lt = omega (arith, most, lt)
 
-pub all_come : (t : TableId) (key : Start) (w : Setting) (passes : List Holding) (seats : List Seat16) → w.home ≡ t → key.seats ≡ w.passes → AreAtHome passes w → missing_of w.passes passes ≡ 0 → AreSeatsOf passes seats → HaveAllCome t key seats
+pub all_come : (t : TableId) (key : Start) (w : Setting) (passes : List Holding) (seats : List Seat16)
+    → w.home.table ≡ t → key.seats ≡ w.passes → AreAtHome passes w → missing_of w.passes passes ≡ 0
+    → AreSeatsOf passes seats → HaveAllCome t key seats
 all_come t key w passes seats is count home none are = record {
   each = come t w passes seats is home are;
   all = λ k lt. found passes seats k are (all_there w.passes passes none k (omega (arith, lt, count)));
@@ -104,14 +114,20 @@ all_elems : {A : Type 0} (P : A → Type 0) (xs : List A) → ((k : ℕ) (x : A)
 all_elems P [] each = tt
 all_elems P (x ∷ xs) each = (each 0 x refl, all_elems P xs (λ k y e. each (suc k) y e))
 
-parts : (history : List Recorded) (passes : List Holding) (seats : List Seat16) → AreSeatsOf passes seats → ((q : Seat16) → Has seats q → part_of q.who history ≡ own_of q.records.items) → AreParts passes history
+parts : (history : List Recorded) (passes : List Holding) (seats : List Seat16) → AreSeatsOf passes seats
+    → ((q : Seat16) → Has seats q → part_of q.who history ≡ own_of q.records.items) → AreParts passes history
 parts history [] [] are each = tt
 parts history [] (q ∷ qs) are each = absurd are
 parts history (s ∷ ss) [] are each = absurd are
-parts history (s ∷ ss) (q ∷ qs) are each = (ap (λ (k : ℕ). part_of k history) (sym are.0.number) ∙ each q (inl refl) ∙ are.0.own, parts history ss qs are.1 (λ r has. each r (inr has)))
+parts history (s ∷ ss) (q ∷ qs) are each = (
+  ap (λ (k : ℕ). part_of k history) (sym are.0.number) ∙ each q (inl refl)
+      ∙ are.0.own,
+  parts history ss qs are.1 (λ r has. each r (inr has)),
+)
 
 -- what holds of each seat, told of its pass
-of_each : (passes : List Holding) (seats : List Seat16) (P : Holding → Type 0) → AreSeatsOf passes seats → ((s : Holding) (q : Seat16) → IsSeatOf s q → Has seats q → P s) → AllByRecursion P passes
+of_each : (passes : List Holding) (seats : List Seat16) (P : Holding → Type 0) → AreSeatsOf passes seats
+    → ((s : Holding) (q : Seat16) → IsSeatOf s q → Has seats q → P s) → AllByRecursion P passes
 of_each [] [] P are each = tt
 of_each [] (q ∷ qs) P are each = absurd are
 of_each (s ∷ ss) [] P are each = absurd are
@@ -125,16 +141,21 @@ all_less most (k ∷ ks) none = (
   all_less most ks (λ j le. let z = none j le in omega (arith, z)),
 )
 
-balances : (key : Start) (w : Setting) (passes : List Holding) (seats : List Seat16) (records : List Record) (nodes : List Node) → key.seats ≡ w.passes → AreSeatsOf passes seats → table.IsClosed key seats records nodes → AreBalanced w passes
+balances : (key : Start) (w : Setting) (passes : List Holding) (seats : List Seat16) (records : List Record)
+    (nodes : List Node) → key.seats ≡ w.passes → AreSeatsOf passes seats → table.IsClosed key seats records nodes
+    → AreBalanced w passes
 balances key w passes seats records nodes count are c = record {
   pending = c.pending;
   each = of_each passes seats (λ s. AllByRecursion (λ t. IsBalanced s t (c.pending t.caller)) passes) are (λ s q is has.
-      of_each passes seats (λ t. IsBalanced s t (c.pending t.caller)) are (λ t r at there. rw (sym is.number, sym at.number, sym is.cancelled, sym at.heeded) (c.balanced q r has there)));
+      of_each passes seats (λ t. IsBalanced s t (c.pending t.caller)) are
+      (λ t r at there. rw (sym is.number, sym at.number, sym is.cancelled, sym at.heeded)
+      (c.balanced q r has there)));
   callers = of_each passes seats (λ t. AllByRecursion (λ k. k < w.passes) (by_of t.interrupted)) are (λ t r at there.
       all_less w.passes (by_of t.interrupted) (λ k big. ap (times k) (sym at.heeded) ∙ c.strangers k r (omega (arith, big, count)) there));
 }
 
-pub closed : (key : Start) (w : Setting) (passes : List Holding) (seats : List Seat16) (h : History) → first_graph key ≡ w.first → key.seats ≡ w.passes → missing_of w.passes passes ≡ 0 → AreSeatsOf passes seats
+pub closed : (key : Start) (w : Setting) (passes : List Holding) (seats : List Seat16) (h : History)
+    → first_graph key ≡ w.first → key.seats ≡ w.passes → missing_of w.passes passes ≡ 0 → AreSeatsOf passes seats
     → table.IsClosed key seats h.records.items h.graph → IsClosed w passes h
 closed key w passes seats h first count none are c = let history : List Recorded = history_of h.records.items in record {
   legal = subst (λ (g : List Node). IsLegal g history) first c.legal;
@@ -146,7 +167,8 @@ closed key w passes seats h first count none are c = let history : List Recorded
   balanced = balances key w passes seats h.records.items h.graph count are c;
 }
 
-pub seats_push : (passes : List Holding) (seats : List Seat16) (s : Holding) (q : Seat16) → AreSeatsOf passes seats → IsSeatOf s q → AreSeatsOf (passes ++ s ∷ []) (seats ++ q ∷ [])
+pub seats_push : (passes : List Holding) (seats : List Seat16) (s : Holding) (q : Seat16) → AreSeatsOf passes seats
+    → IsSeatOf s q → AreSeatsOf (passes ++ s ∷ []) (seats ++ q ∷ [])
 seats_push [] [] s q are is = (is, tt)
 seats_push [] (r ∷ rs) s q are is = absurd are
 seats_push (t ∷ ts) [] s q are is = absurd are

@@ -4,3 +4,4 @@ pub mod Carrying
 pub mod Changes
 pub mod Openings
 pub mod Closings
+pub mod Taking

@@ -1,7 +1,8 @@
 -- Passes that have done nothing yet.
-use Rattle.std.proofs.Common.{◌≡◌, ℕ, suc, ◌+◌, ◌<◌, ◌≤◌, ◌^◌, false, replicate, List, [], ◌∷◌, ◌++◌, length, refl, sym, ap, subst, ◌∙◌, arith, length-append, get_or, below_more}
+use Rattle.std.proofs.Common.{◌≡◌, ℕ, zero, suc, ◌+◌, ◌<◌, ◌≤◌, ◌^◌, false, replicate, List, [], ◌∷◌, ◌++◌, length, map, reverse, drop, Some, refl, sym, ap, subst, ◌∙◌, arith, length-append, get_or, below_more}
+use Rattle.std.specs.Prelude.{slice_get}
 use Rattle.std.specs.List.{AllByRecursion}
-use Rattle.std.proofs.lemmas.List.{get_or_append_left, get_or_push}
+use Rattle.std.proofs.lemmas.List.{get_or_append_left, get_or_push, map-append, reverse-append}
 use Rattle.atomic_table.specs.Seated.{TableId}
 use Rattle.ww_plain.specs.declared.node.Node.{Node}
 use Rattle.ww_view.specs.View.{owns}
@@ -12,7 +13,8 @@ use Rattle.ww_table.specs.Seat.{IsNew}
 use Rattle.ww_plain.specs.Numbers.{is_among}
 use Rattle.ww_lock.specs.declared.hand.Hand.{Hand}
 use Rattle.ww_lock.specs.Holding.{Home, Holding, Setting, IsAtHome, AreAtHome, by_of, own_of}
-use Rattle.ww_lock.specs.Carried.{holding_of, held_of, Carries}
+use Rattle.ww_seat.specs.Bells.{sleeps_at}
+use Rattle.ww_lock.specs.Carried.{holding_of, held_of, bells_of, Carries}
 use Rattle.ww_lock.specs.Opened.{fresh, AreFresh, AreRests}
 use Rattle.ww_lock.specs.declared.world.Rest.{Rest}
 use mathlib.Core.Option.{some}
@@ -26,24 +28,31 @@ pub new_holds_nothing : (t : TableId) (key : Start) (k : ℕ) (h : Hand) → IsN
 new_holds_nothing t key k h new = ap (λ (m : Sat). m.0.part.core.locks) new.me
 
 -- a seat that was made just now, in a state that has seen the graph
-pub new_carries : (t : TableId) (key : Start) (k : ℕ) (h : Hand) → IsNew t key k h.seat → h.marks ≡ replicate 64 false → h.seen ≡ first_graph key → length (first_graph key) ≤ 64 → key.locks ≡ 64 → h.left < 2 ^ 32 → Carries h
-new_carries t key k h new marks seen few locks left =
+pub new_carries : (t : TableId) (key : Start) (k : ℕ) (h : Hand) → IsNew t key k h.seat
+    → h.marks ≡ replicate 64 false → h.seen ≡ first_graph key → length (first_graph key) ≤ 64 → key.locks ≡ 64
+    → h.left < 2 ^ 32 → slice_get (bells_of h) k ≡ Some (sleeps_at h.patience) → Carries h
+new_carries t key k h new marks seen few locks left placed =
     let me = new.me in
     let none : held_of h ≡ [] = new_holds_nothing t key k h new in
     let size : length h.seen ≡ length (first_graph key) = ap length seen in
     let list : h.seat.records.items ≡ [] = new.seated.records ∙ ap (λ (m : Sat). m.0.part.own) me in
     record {
-      settled = settled_as t h.seat.seat.table_id (length (first_graph key)) (length h.seen) h.seat (sym new.seated.home) (sym size) (new_settled t key k h.seat new few (omega (arith, few, locks)));
+      settled = settled_as t h.seat.seat.table_id (length (first_graph key)) (length h.seen) h.seat
+          (sym new.seated.home) (sym size) (new_settled t key k h.seat new few (omega (arith, few, locks)));
       owned = λ n. ap (λ (m : Sat). owns m.0.part.core n) me ∙ bare_first key.kind key.locks k n ∙ sym (ap (is_among n) none);
       marks = marks ∙ sym (ap (λ (m : Sat). m.0.part.core.owned) me ∙ ap (λ (n : ℕ). replicate n false) locks);
       held = rw (none, seen) (held_none (first_graph key) few);
+      placed = ap (slice_get (bells_of h)) new.number ∙ placed;
       answered = ap (λ (m : Sat). by_of m.0.part.core.stopped) me ∙ sym (ap (λ (m : Sat). m.0.part.counts.heeded) me);
       draws = omega (arith, left, ap (λ (m : Sat). m.0.part.counts.draws) me);
       commits = omega (arith, left, ap length list);
     }
 
-pub new_holding : (t : TableId) (key : Start) (k : ℕ) (h : Hand) → IsNew t key k h.seat → h.seen ≡ first_graph key → holding_of h ≡ fresh t (first_graph key) h.left k (holding_of h).room
-new_holding t key k h new seen =
+pub new_holding : (home : Home) (key : Start) (k : ℕ) (h : Hand) → IsNew home.table key k h.seat
+    → h.seen ≡ first_graph key → bells_of h ≡ home.parkers
+    → holding_of h ≡ fresh home (first_graph key) h.left k (holding_of h).room
+new_holding home key k h new seen bells =
+    let t = home.table in
     let none : held_of h ≡ [] = new_holds_nothing t key k h new in
     let list : h.seat.records.items ≡ [] = new.seated.records ∙ ap (λ (m : Sat). m.0.part.own) new.me in
     let stamp : h.seat.stamp ≡ 0 = sym new.seated.stamp ∙ ap (λ (m : Sat). m.0.part.core.stamp) new.me in
@@ -54,48 +63,96 @@ new_holding t key k h new seen =
     let tries : h.seat.seat.me.0.part.core.tries ≡ 0 = ap (λ (m : Sat). m.0.part.core.tries) new.me in
     let takes : h.seat.seat.me.0.part.core.takes ≡ 0 = ap (λ (m : Sat). m.0.part.core.takes) new.me in
     let deaths : h.seat.seat.me.0.part.core.deaths ≡ 0 = ap (λ (m : Sat). m.0.part.core.deaths) new.me in
-    rw (new.seated.home, new.number, counts, stopped, pendings, stamp, own, none, seen, tries, takes, deaths) refl
+    rw (new.seated.home, bells, new.number, counts, stopped, pendings, stamp, own, none, seen, tries, takes, deaths) refl
 
 pub new_idle : (t : TableId) (key : Start) (k : ℕ) (q : Seat16) → IsNew t key k q → q.stamp ≡ 0
 new_idle t key k q new = sym new.seated.stamp ∙ ap (λ (m : Sat). m.0.part.core.stamp) new.me
 
-pub fresh_more : (all new : List Holding) (s : Holding) (first : List Node) (home : Home) (n budget : ℕ) → AreFresh all first home n budget → s ≡ fresh home first budget n s.room → new ≡ all ++ s ∷ [] → AreFresh new first home (n + 1) budget
+pub fresh_more : (all new : List Holding) (s : Holding) (first : List Node) (home : Home) (n budget : ℕ)
+    → AreFresh all first home n budget → s ≡ fresh home first budget n s.room → new ≡ all ++ s ∷ []
+    → AreFresh new first home (n + 1) budget
 fresh_more all new s first home n budget h is grown = rw grown (record {
   count = omega (arith, h.count, length-append all (s ∷ []));
-  each = λ i d lt. below_more (λ j. (e : Holding) → get_or (all ++ s ∷ []) j e ≡ fresh home first budget j (get_or (all ++ s ∷ []) j e).room) n
-      (λ j low e. let small : j < length all = omega (arith, h.count, low) in rw (get_or_append_left all (s ∷ []) e j small) (h.each j e small))
+  each = λ i d lt. below_more (λ j. (e : Holding)
+      → get_or (all ++ s ∷ []) j e ≡ fresh home first budget j (get_or (all ++ s ∷ []) j e).room) n
+      (λ j low e. let small : j < length all = omega (arith, h.count, low) in
+      rw (get_or_append_left all (s ∷ []) e j small) (h.each j e small))
       (λ e. rw (get_or_push all s e n h.count) is)
       i (omega (arith, h.count, lt, length-append all (s ∷ []))) d;
 })
 
 -- what holds at each index holds of each
-pub all_from_index : {A : Type 0} (P : A → Type 0) (xs : List A) → ((i : ℕ) (d : A) → i < length xs → P (get_or xs i d)) → AllByRecursion P xs
+pub all_from_index : {A : Type 0} (P : A → Type 0) (xs : List A)
+    → ((i : ℕ) (d : A) → i < length xs → P (get_or xs i d)) → AllByRecursion P xs
 all_from_index P [] each = tt
 all_from_index P (x ∷ xs) each = (each 0 x (omega arith), all_from_index P xs (λ i d lt. each (suc i) d (omega (arith, lt))))
 
 -- passes that have done nothing yet are at home where they were made
-pub fresh_home : (w : Setting) (all : List Holding) (passes budget : ℕ) → AreFresh all w.first w.home passes budget → w.passes ≡ passes → AreAtHome all w
+pub fresh_home : (w : Setting) (all : List Holding) (passes budget : ℕ) → AreFresh all w.first w.home passes budget
+    → w.passes ≡ passes → AreAtHome all w
 fresh_home w all passes budget fresh count = all_from_index (λ s. IsAtHome s w) all (λ i d lt.
-    subst (λ (s : Holding). IsAtHome s w) (sym (fresh.each i d lt)) (record { home = refl; size = refl; number = omega (arith, lt, fresh.count, count) }))
+    subst (λ (s : Holding). IsAtHome s w) (sym (fresh.each i d lt))
+    (record { home = refl; size = refl; number = omega (arith, lt, fresh.count, count) }))
 
 pub elem_mid : {A : Type 0} (xs ys : List A) (y : A) → get_elem? (xs ++ y ∷ ys) (length xs) ≡ some y
 elem_mid [] ys y = refl
 elem_mid (x ∷ xs) ys y = elem_mid xs ys y
 
--- one of these parts less
-pub rests_less : (graph : List Node) (count : ℕ) (rests front : List Rest) (r : Rest) → AreRests graph (suc count) rests → rests ≡ front ++ r ∷ [] → AreRests graph count front × (r.seen ≡ graph)
-rests_less graph count rests front r h is =
+-- one of these parts less, and what is known of that one
+record TakesRest (graph : List Node) (parkers : List TableId) (front : List Rest) (r : Rest) : Type 0 where
+  parkers_are : sleeps_at r.patience ∷ reverse (map (λ (x : Rest). sleeps_at x.patience) front) ≡ parkers
+  rests : AreRests graph (reverse (map (λ (x : Rest). sleeps_at x.patience) front)) front
+  seen : r.seen ≡ graph
+
+rests_less : (graph : List Node) (parkers : List TableId) (rests front : List Rest) (r : Rest)
+    → AreRests graph parkers rests → rests ≡ front ++ r ∷ [] → TakesRest graph parkers front r
+rests_less graph parkers rests front r h is =
     let split = last_of front r (subst (AllByRecursion (λ (x : Rest). x.seen ≡ graph)) is h.seen) in
-    (record { count_is = omega (arith, h.count_is, ap length is, length-append front (r ∷ [])); seen = split.0 }, split.1)
+    let at : Rest → TableId = λ x. sleeps_at x.patience in
+    let turned : reverse (map at (front ++ r ∷ [])) ≡ at r ∷ reverse (map at front) =
+    ap reverse (map-append at front (r ∷ [])) ∙ reverse-append (map at front) (at r ∷ []) in
+    record {
+      parkers_are = sym turned ∙ sym (ap (λ (rs : List Rest). reverse (map at rs)) is) ∙ h.parkers_are;
+      rests = record { parkers_are = refl; seen = split.0 };
+      seen = split.1;
+    }
   where
-    last_of : (front : List Rest) (r : Rest) → AllByRecursion (λ (x : Rest). x.seen ≡ graph) (front ++ r ∷ []) → AllByRecursion (λ (x : Rest). x.seen ≡ graph) front × (r.seen ≡ graph)
+    last_of : (front : List Rest) (r : Rest) → AllByRecursion (λ (x : Rest). x.seen ≡ graph) (front ++ r ∷ [])
+        → AllByRecursion (λ (x : Rest). x.seen ≡ graph) front × (r.seen ≡ graph)
     last_of [] r all = (tt, all.0)
     last_of (x ∷ xs) r all = let rest = last_of xs r all.1 in ((all.0, rest.0), rest.1)
 
--- the next of new seats has the number of those before it, and sees the first graph
-pub next_is : (t : TableId) (key : Start) (seats yielded rest more : List Seat16) (s : Seat16) (rests front : List Rest) (r : Rest) → ((k : ℕ) (x : Seat16) → get_elem? seats k ≡ some x → IsNew t key k x) → yielded ++ rest ≡ seats → rest ≡ s ∷ more
-    → AreRests (first_graph key) (length rest) rests → rests ≡ front ++ r ∷ [] → IsNew t key (length yielded) s × (yielded ++ s ∷ more ≡ seats) × AreRests (first_graph key) (length more) front × (r.seen ≡ first_graph key)
-next_is t key seats yielded rest more s rests front r each whole step are popped =
+-- what is read where the rest of a list begins
+front_read : (parkers rest : List TableId) (k : ℕ) (p : TableId) → p ∷ rest ≡ drop k parkers
+    → (slice_get parkers k ≡ Some p) × (drop (suc k) parkers ≡ rest)
+front_read [] rest zero p is = absurd (omega (arith, ap length is))
+front_read [] rest (suc k) p is = absurd (omega (arith, ap length is))
+front_read (q ∷ qs) rest zero p is = (ap Some (sym (ap (λ (l : List TableId). get_or l 0 p) is)), sym (ap (drop 1) is))
+front_read (q ∷ qs) rest (suc k) p is = front_read qs rest k p is
+
+-- The next of new seats has the number of those before it, sees the first graph, and sleeps on the parker of this number.
+pub record IsNext (t : TableId) (key : Start) (parkers : List TableId) (seats yielded more : List Seat16)
+    (s : Seat16) (front : List Rest) (r : Rest) : Type 0 where
+  pub new : IsNew t key (length yielded) s
+  pub whole : yielded ++ s ∷ more ≡ seats
+  pub rests : AreRests (first_graph key) (drop (suc (length yielded)) parkers) front
+  pub seen : r.seen ≡ first_graph key
+  pub placed : slice_get parkers (length yielded) ≡ Some (sleeps_at r.patience)
+
+pub next_is : (t : TableId) (key : Start) (parkers : List TableId) (seats yielded rest more : List Seat16)
+    (s : Seat16) (rests front : List Rest) (r : Rest)
+    → ((k : ℕ) (x : Seat16) → get_elem? seats k ≡ some x → IsNew t key k x) → yielded ++ rest ≡ seats
+    → rest ≡ s ∷ more
+    → AreRests (first_graph key) (drop (length yielded) parkers) rests → rests ≡ front ++ r ∷ []
+    → IsNext t key parkers seats yielded more s front r
+next_is t key parkers seats yielded rest more s rests front r each whole step are popped =
     let here = ap (λ (l : List Seat16). yielded ++ l) (sym step) ∙ whole in
-    let less = rests_less (first_graph key) (length more) rests front r (subst (λ (l : List Seat16). AreRests (first_graph key) (length l) rests) step are) popped in
-    (each (length yielded) s (subst (λ (l : List Seat16). get_elem? l (length yielded) ≡ some s) here (elem_mid yielded more s)), here, less.0, less.1)
+    let less = rests_less (first_graph key) (drop (length yielded) parkers) rests front r are popped in
+    let read = front_read parkers _ (length yielded) (sleeps_at r.patience) less.parkers_are in
+    record {
+      new = each (length yielded) s (subst (λ (l : List Seat16). get_elem? l (length yielded) ≡ some s) here (elem_mid yielded more s));
+      whole = here;
+      rests = subst (λ (ps : List TableId). AreRests (first_graph key) ps front) (sym read.1) less.rests;
+      seen = less.seen;
+      placed = read.0;
+    }

@@ -1,5 +1,5 @@
 -- What a state carries: the seat at the table, and what it keeps beside that.
-use Rattle.std.specs.Prelude.{ℕ, List, ◌≡◌, ◌<◌, ◌≤◌, ◌+◌, ◌-◌, ◌^◌, [], true, length, Option, Some, vec_len, vec_capacity}
+use Rattle.std.specs.Prelude.{ℕ, List, ◌≡◌, ◌<◌, ◌≤◌, ◌+◌, ◌-◌, ◌^◌, [], true, length, map, Option, Some, None, slice_get, vec_len, vec_capacity}
 use mathlib.Core.Option.{some}
 use lib.ListN.{get_elem?}
 use Rattle.ww_plain.specs.Numbers.{is_among}
@@ -7,7 +7,12 @@ use Rattle.ww_plain.specs.Graph.{node_at}
 use Rattle.ww_view.specs.declared.view.Met.{Met}
 use Rattle.ww_view.specs.View.{owns}
 use Rattle.ww_view.specs.May.{WantsSigns}
+use Rattle.atomic_table.specs.Seated.{TableId}
 use Rattle.ww_seat.specs.Orderly.{IsSettled}
+use Rattle.ww_seat.specs.Bells.{rings_at, sleeps_at}
+use Rattle.ww_seat.specs.Calls.{HasMet}
+use Rattle.ww_seat.specs.declared.waiting.Stop.{Stop}
+use Rattle.ww_seat.specs.declared.waiting.Stop.TheVariants.{Deadlk, Interrupted}
 use Rattle.ww_lock.specs.declared.hand.Hand.{Hand}
 use Rattle.ww_lock.specs.Holding.{Holding, AreHeld, by_of, own_of}
 use Rattle.ww_table.specs.Seat.{view_of}
@@ -16,10 +21,14 @@ use Rattle.ww_table.specs.Seat.{view_of}
 abbrev pub held_of : Hand → List ℕ
 held_of h = (view_of h.seat).locks
 
+-- the parkers that its bells ring
+abbrev pub bells_of : Hand → List TableId
+bells_of h = map rings_at h.bells.items
+
 -- what a contract sees of it
 abbrev pub holding_of : Hand → Holding
 holding_of h = record {
-  home = h.seat.seat.table_id;
+  home = record { table = h.seat.seat.table_id; parkers = bells_of h };
   caller = h.seat.who;
   left = h.left;
   draws = h.seat.seat.me.0.part.counts.draws;
@@ -40,13 +49,15 @@ holding_of h = record {
 abbrev pub met_of : Hand → Option Met
 met_of h = (view_of h.seat).met
 
--- The seat is between two calls, and owns just the locks of the nodes that are held, which have their marks. Each cancel
--- that it heeded was answered by an interruption. With what is left it stays within what the table counts.
+-- The seat is between two calls, and owns just the locks of the nodes that are held, which have their marks. Its own
+-- bell rings the parker that it sleeps on. Each cancel that it heeded was answered by an interruption. With what is left
+-- it stays within what the table counts.
 pub record Carries (h : Hand) : Type 0 where
   pub settled : IsSettled h.seat.seat.table_id (length h.seen) h.seat
   pub owned : (n : ℕ) → owns (view_of h.seat) n ≡ is_among n (held_of h)
   pub marks : h.marks ≡ (view_of h.seat).owned
   pub held : AreHeld (held_of h) h.seen
+  pub placed : slice_get (bells_of h) h.seat.who ≡ Some (sleeps_at h.patience)
   pub answered : by_of (view_of h.seat).stopped ≡ h.seat.seat.me.0.part.counts.heeded
   pub draws : h.seat.seat.me.0.part.counts.draws + h.left < 2 ^ 32
   pub commits : length h.seat.records.items + h.left < 2 ^ 32
@@ -57,7 +68,12 @@ pub record CarriesFresh (h : Hand) : Type 0 where
   pub seen : (n : ℕ) → is_among n (held_of h) ≡ true → get_elem? h.seat.seat.me.0.held n ≡ some (Some (node_at h.seen n))
   pub commits : length h.seat.records.items + h.left + 1 < 2 ^ 32
 
--- it has just lost its first try for a lock, hasn't glanced at the lock yet, and may go on to wait for it
+-- the bells of one ring the same parkers as those of the other, and both sleep on the same one
+pub record IsPlacedAlike (h g : Hand) : Type 0 where
+  pub bells : bells_of g ≡ bells_of h
+  pub parker : sleeps_at g.patience ≡ sleeps_at h.patience
+
+-- it has just lost its first try for a lock, hasn't made a spin read of it yet, and may go on to wait for it
 pub record HasLost (h : Hand) : Type 0 where
   pub tried : (view_of h.seat).glances ≡ 0
   pub signs : WantsSigns (view_of h.seat)
@@ -70,3 +86,9 @@ pub record IsSpent (s : Holding) (h : Hand) : Type 0 where
   pub nothing : held_of h ≡ []
   pub idle : h.seat.stamp ≡ 0
   pub draws : h.seat.seat.me.0.part.counts.draws + h.left + 1 < 2 ^ 32
+
+-- what its seat has met where it came without lock n: an older context of the stamp that it tells; or nothing, where its
+-- wait was called off
+abbrev pub HasMetSo : ℕ → Stop → Hand → Type 0
+HasMetSo n (Deadlk k) h = HasMet n k (view_of h.seat)
+HasMetSo n (Interrupted by) h = met_of h ≡ None

@@ -20,7 +20,7 @@ abbrev pub missing_of : ℕ → List Holding → ℕ
 missing_of zero passes = 0
 missing_of (suc k) passes = if has_pass passes k then missing_of k passes else missing_of k passes + 1
 
--- the part of each caller is the own list of its pass
+-- the part of each caller is the log of its pass
 abbrev pub AreParts : List Holding → List Recorded → Type 0
 AreParts passes history = AllByRecursion (λ s. part_of s.caller history ≡ s.own) passes
 
@@ -37,7 +37,7 @@ pub record AreBalanced (w : Setting) (passes : List Holding) : Type 0 where
   pub callers : AllByRecursion (λ t. AllByRecursion (λ c. c < w.passes) (by_of t.interrupted)) passes
 
 -- The history is legal from the graph that the world was opened with, and leads to the graph that is told. There is one
--- pass for each caller, each record is one of theirs, and the part of each is exactly the own list of its pass. Cancels
+-- pass for each caller, each record is one of theirs, and the part of each is exactly the log of its pass. Cancels
 -- and interruptions are balanced.
 pub record IsClosed (w : Setting) (passes : List Holding) (h : History) : Type 0 where
   pub legal : IsLegal w.first (history_of h.records.items)
@@ -59,7 +59,7 @@ close_number NoMemory = 6
 
 -- the seat of a pass that holds nothing, with its number, its commits, and what is counted of its cancels
 pub record IsSeatOf (s : Holding) (q : Seat16) : Type 0 where
-  pub come : HasCome s.home q
+  pub come : HasCome s.home.table q
   pub number : q.who ≡ s.caller
   pub own : own_of q.records.items ≡ s.own
   pub cancelled : q.seat.me.0.part.counts.cancelled ≡ s.cancelled
@@ -72,6 +72,6 @@ AreSeatsOf [] (q ∷ qs) = ⊥
 AreSeatsOf (s ∷ ss) [] = ⊥
 AreSeatsOf (s ∷ ss) (q ∷ qs) = IsSeatOf s q × AreSeatsOf ss qs
 
--- all places of their own lists are below this one
+-- all places of their logs are below this one
 abbrev pub AreAllBelow : ℕ → List Holding → Type 0
 AreAllBelow place passes = AllByRecursion (λ s. AreBelow place s.own) passes

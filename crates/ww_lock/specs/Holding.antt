@@ -11,12 +11,14 @@ use Rattle.ww_plain.specs.Transaction.{Transaction}
 use Rattle.ww_plain.specs.Meaning.{Answer}
 use Rattle.ww_plain.specs.History.{Recorded, recorded_of}
 
--- which world a pass is of: its table
-abbrev pub Home : Type 0
-Home = TableId
+-- which world a pass is of: its table, and the parkers that its passes sleep on, in their order. A parker is told from
+-- others by the table that has its token.
+pub record Home : Type 0 where
+  pub table : TableId
+  pub parkers : List TableId
 
 -- Its world and its number there; how many contexts and solos it may still start; how many contexts it has begun, for
--- each of which it drew a stamp; its stamp, 0 without a context; its own list: all its commits with their places,
+-- each of which it drew a stamp; its stamp, 0 without a context; its log: all its commits with their places,
 -- oldest first, with room for so many more; the nodes that it holds, in the order in which it took them; the graph as
 -- it has seen it, of which the nodes held are as they were when they were locked; how often it tried to take a lock at
 -- once, by one step that a free lock allows, how often it took a lock, and how often it had to back off; the callers
@@ -45,7 +47,7 @@ pub record Refused : Type 0 where
   pub contended : ℕ
   pub met : ℕ
 
--- a context that has given all locks back, and wants this one
+-- a context that has released all locks, and wants this one
 pub record Wanting : Type 0 where
   pub holding : Holding
   pub contended : ℕ
@@ -99,6 +101,6 @@ pub record AreHeld (held : List ℕ) (seen : List Node) : Type 0 where
   pub once : AreDifferent held
   pub few : length seen ≤ 64
 
--- all places of the own list are below this one
+-- all places of the log are below this one
 abbrev pub AreBelow : ℕ → List (ℕ × Recorded) → Type 0
 AreBelow place own = AllByRecursion (λ p. p.0 < place) own

@@ -1,5 +1,5 @@
 -- How one state becomes another.
-use Rattle.std.specs.Prelude.{ℕ, ◌≡◌, ◌<◌, ◌≤◌, ◌+◌, ◌-◌, ◌∷◌, ◌++◌, [], length, true, false, slice_set, Result, Ok, Err}
+use Rattle.std.specs.Prelude.{ℕ, Bool, ◌≡◌, ◌<◌, ◌≤◌, ◌+◌, ◌-◌, ◌∷◌, ◌++◌, [], length, true, false, slice_set, Result, Ok, Err}
 use Rattle.ww_plain.specs.declared.node.Node.{Node}
 use Rattle.ww_plain.specs.Numbers.{is_among}
 use Rattle.ww_plain.specs.Meaning.{answer_of}
@@ -14,6 +14,8 @@ use Rattle.ww_lock.specs.declared.acquiring.Try.{Try}
 use Rattle.ww_lock.specs.declared.acquiring.Try.TheVariants as try
 use Rattle.ww_seat.specs.declared.waiting.Stop.{Stop}
 use Rattle.ww_seat.specs.declared.waiting.Stop.TheVariants as seat
+use Rattle.ww_lock.specs.declared.waits.Waits.{Waits}
+use Rattle.ww_lock.specs.declared.waits.Waits.TheVariants.{ToTheEnd, UntilCancelled}
 use Rattle.ww_lock.specs.Holding.{Holding, Refused, Change, AreBelow}
 
 -- one node more is held, with these contents
@@ -83,6 +85,16 @@ abbrev pub IsStop : Holding → ℕ → Stop → Holding → Type 0
 IsStop s n (seat.Deadlk k) a = (a ≡ backed_off s) × (1 ≤ k) × (k < s.stamp) × (1 ≤ length s.held)
 IsStop s n (seat.Interrupted by) a = IsInterrupted s n by a
 
+-- a wait that a cancel calls off
+abbrev pub heeds : Waits → Bool
+heeds ToTheEnd = false
+heeds UntilCancelled = true
+
+-- only such a wait is called off
+abbrev pub MayEnd : Waits → Stop → Type 0
+MayEnd waits (seat.Deadlk k) = Unit {0}
+MayEnd waits (seat.Interrupted by) = waits ≡ UntilCancelled
+
 -- the wait of this caller was called off
 abbrev pub IsCancelling : Holding → ℕ → Holding → Type 0
 IsCancelling s who a = a ≡ record s { cancelled = who ∷ s.cancelled }
@@ -116,6 +128,11 @@ IsInterruptibleAnswer s n (stop.Already a) = (is_among n s.held ≡ true) × (a 
 IsInterruptibleAnswer s n (stop.Deadlk b) = IsRefused s n b
 IsInterruptibleAnswer s n (stop.Interrupted a by) = IsInterrupted s n by a
 
+-- ... of a call that waits so: only a wait until a cancel is called off
+abbrev pub IsAnswer : Waits → Holding → ℕ → Interruptible → Type 0
+IsAnswer waits s n (stop.Interrupted a by) = (waits ≡ UntilCancelled) × IsInterrupted s n by a
+IsAnswer waits s n answer = IsInterruptibleAnswer s n answer
+
 -- its error number, 0 without one
 abbrev pub interruptible_code_of : Interruptible → ℕ
 interruptible_code_of (stop.Locked a) = 0
@@ -135,7 +152,7 @@ abbrev pub IsTryAnswer : Holding → ℕ → Try → Type 0
 IsTryAnswer s n (try.Locked a) = IsTaken s n a
 IsTryAnswer s n (try.Busy a) = (is_among n s.held ≡ true → a ≡ s) × (is_among n s.held ≡ false → a ≡ tried s)
 
--- One record more in the own list, of this caller and of the next number, with the transaction and the answer that were
+-- One record more in the log, of this caller and of the next number, with the transaction and the answer that were
 -- prepared, in the room that was made for it. Its place, which the receipt tells, is above all before.
 pub record IsCommitted (s : Holding) (p : Change) (a : Holding) (told : Receipt) : Type 0 where
   pub own : a ≡ record s {

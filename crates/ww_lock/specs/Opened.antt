@@ -1,25 +1,49 @@
 -- What opening a world gives.
-use Rattle.std.specs.Prelude.{ℕ, ◌≡◌, ◌≤◌, ◌<◌, ◌⊎◌, List, [], length, slice_index_or}
+use Rattle.std.specs.Prelude.{ℕ, ◌≡◌, ◌≤◌, ◌<◌, ◌⊎◌, List, [], length, map, reverse, slice_index_or}
+use Rattle.atomic_table.specs.Seated.{TableId}
 use Rattle.ww_plain.specs.declared.node.Node.{Node}
 use Rattle.std.specs.List.{AllByRecursion}
+use Rattle.ww_table.specs.declared.board.Board.{Board}
+use Rattle.ww_seat.specs.declared.bell.Wire.{Wire}
+use Rattle.ww_seat.specs.Bells.{leads_to, sleeps_at}
 use Rattle.ww_lock.specs.declared.world.OpenFault.{OpenFault}
 use Rattle.ww_lock.specs.declared.world.Rest.{Rest}
 use Rattle.ww_lock.specs.declared.world.OpenFault.TheVariants.{BadSize, NoMemory}
 use Rattle.ww_lock.specs.Holding.{Home, Holding, Setting, AreAtHome}
 
+-- the world with this board, to whose passes these wires lead
+abbrev pub home_at : Board → List Wire → Home
+home_at board wires = record { table = board.table.shared.table_id; parkers = map leads_to wires }
+
 -- the pass of this number, which has done nothing yet
 abbrev pub fresh : Home → List Node → ℕ → ℕ → ℕ → Holding
 fresh home first budget caller room =
-    record { home = home; caller = caller; left = budget; draws = 0; stamp = 0; own = []; room = room; held = []; seen = first; tries = 0; takes = 0; deaths = 0; cancelled = []; pendings = 0; interrupted = [] }
+    record {
+      home = home;
+      caller = caller;
+      left = budget;
+      draws = 0;
+      stamp = 0;
+      own = [];
+      room = room;
+      held = [];
+      seen = first;
+      tries = 0;
+      takes = 0;
+      deaths = 0;
+      cancelled = [];
+      pendings = 0;
+      interrupted = [];
+    }
 
 -- so many passes, each with its number, that have done nothing yet
 pub record AreFresh (all : List Holding) (first : List Node) (home : Home) (passes budget : ℕ) : Type 0 where
   pub count : length all ≡ passes
   pub each : (i : ℕ) (d : Holding) → i < length all → slice_index_or all i d ≡ fresh home first budget i (slice_index_or all i d).room
 
--- so many parts of passes, each of which has seen this graph
-pub record AreRests (graph : List Node) (count : ℕ) (rests : List Rest) : Type 0 where
-  pub count_is : length rests ≡ count
+-- the parts of passes that sleep on these parkers, the last one first, each of which has seen this graph
+pub record AreRests (graph : List Node) (parkers : List TableId) (rests : List Rest) : Type 0 where
+  pub parkers_are : reverse (map (λ r. sleeps_at r.patience) rests) ≡ parkers
   pub seen : AllByRecursion (λ r. r.seen ≡ graph) rests
 
 -- 1 to 16 passes, each of which may do something

@@ -1,8 +1,11 @@
 use crate::backoff::Backoff;
 use crate::done::{Done, Empty};
 use crate::hand::Hand;
+use crate::held::Held;
+use crate::interruptible::Interruptible;
+use crate::waits::Waits;
 use crate::world::World;
-use std::marker::Model;
+use std::marker::{Model, PhantomData};
 use std::sync::Wait;
 use ww_plain::Node;
 use ww_seat::Stop;
@@ -73,7 +76,7 @@ impl Acquiring {
     ghost use Rattle.ww_plain.specs.Graph.{IsNodeOf};
     ghost use Rattle.ww_plain.specs.Numbers.{is_among};
     ghost use Rattle.ww_lock.specs.Holding.{IsAtHome, reads};
-    ghost use Rattle.ww_lock.specs.Moves.{IsLockAnswer, IsTaken, IsTryAnswer, emptied};
+    ghost use Rattle.ww_lock.specs.Moves.{IsAnswer, IsLockAnswer, IsTaken, IsTryAnswer, emptied};
 
     /// The context's stamp: the smaller of two is that of the older context.
     pub fn stamp(&self) -> u64
@@ -95,21 +98,33 @@ impl Acquiring {
         requires node { n < length world.now.first }
         ensures { IsLockAnswer self n result }
     {
+        match self.lock_as(rt, world, n, Waits::ToTheEnd) {
+            Interruptible::Locked(acquiring) => Lock::Locked(acquiring),
+            Interruptible::Already(acquiring) => Lock::Already(acquiring),
+            Interruptible::Deadlk(backoff) => Lock::Deadlk(backoff),
+            Interruptible::Interrupted(_acquiring, _) => unreachable!(),
+        }
+    }
+
+    /// Takes the lock of a node as `lock` does, or as `lock_interruptible` does: the last argument says how it waits.
+    #[inline(always)]
+    pub fn lock_as<R: Wait>(self, rt: &R, world: &World, n: u8, waits: Waits) -> Interruptible
+        requires home { IsAtHome self world.now }
+        requires node { n < length world.now.first }
+        ensures { IsAnswer waits self n result }
+    {
         if self.held(n) {
-            return Lock::Already(self);
+            return Interruptible::Already(self);
         }
         let Acquiring { mut hand } = self;
-        if hand.try_take(world, n) {
-            return Lock::Locked(Acquiring { hand });
-        }
-        match hand.wait_for(rt, world, n, false) {
-            Ok(()) => Lock::Locked(Acquiring { hand }),
-            Err(Stop::Deadlk(met)) => Lock::Deadlk(Backoff {
+        match hand.take(rt, world, n, waits) {
+            Ok(()) => Interruptible::Locked(Acquiring { hand }),
+            Err(Stop::Deadlk(met)) => Interruptible::Deadlk(Backoff {
                 hand,
                 contended: n,
                 met,
             }),
-            Err(Stop::Interrupted(_)) => unreachable!(),
+            Err(Stop::Interrupted(by)) => Interruptible::Interrupted(Acquiring { hand }, by),
         }
     }
 
@@ -140,7 +155,7 @@ impl Acquiring {
         self.hand.read(n)
     }
 
-    /// Gives all locks back of its own accord, and takes this one first, however long that takes. The context keeps its
+    /// Releases all locks of its own accord, and takes this one first, however long that takes. The context keeps its
     /// stamp, and with it its age among the others. It holds no other lock, so nobody tells it EDEADLK.
     pub fn start_over<R: Wait>(self, rt: &R, world: &World, n: u8) -> Acquiring
         requires home { IsAtHome self world.now }
@@ -159,10 +174,13 @@ impl Acquiring {
         ensures { result ≡ self }
     {
         let Acquiring { hand } = self;
-        Done { hand }
+        Held {
+            hand,
+            by: PhantomData,
+        }
     }
 
-    /// Gives all locks back.
+    /// Releases all locks.
     #[inline(always)]
     pub fn unlock_all<R: Wait>(self, rt: &R, world: &World) -> Empty
         requires home { IsAtHome self world.now }

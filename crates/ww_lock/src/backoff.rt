@@ -5,9 +5,9 @@ use crate::world::World;
 use std::marker::Model;
 use std::sync::Wait;
 
-/// A context that was told EDEADLK. It still holds its locks, and can only give them all back. Invariant: the view of
+/// A context that was told EDEADLK. It still holds its locks, and can only release them all. Invariant: the view of
 /// its seat keeps what it saw at just this lock when it backed off, and that shows an older context of just this stamp.
-/// It has taken and given back no lock since.
+/// It has taken and released no lock since.
 pub struct Backoff {
     pub(crate) hand: Box<Hand>,
     pub(crate) contended: u8,
@@ -47,7 +47,7 @@ impl Backoff {
         self.met
     }
 
-    /// Gives all locks back.
+    /// Releases all locks.
     pub fn unlock_all<R: Wait>(self, rt: &R, world: &World) -> Contended
         requires home { IsAtHome self.holding world.now }
         ensures { result ≡ record { holding = emptied self.holding; contended = self.contended } }
@@ -61,7 +61,7 @@ impl Backoff {
         Contended { hand, contended }
     }
 
-    /// Gives all locks back, and takes the one that it couldn't get, however long that takes.
+    /// Releases all locks, and takes the one that it couldn't get, however long that takes.
     pub fn back_off<R: Wait>(self, rt: &R, world: &World) -> Acquiring
         requires home { IsAtHome self.holding world.now }
         ensures taken { IsTaken (emptied self.holding) self.contended result }

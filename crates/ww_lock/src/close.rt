@@ -51,18 +51,18 @@ impl World {
         ensures ok { IfOk result (IsClosed self passes.items) }
         ensures err { IfErr result (λ e. (e.0 ≡ self) × (e.1 ≡ passes) × IsCloseFault self passes.items e.2) }
     {
-        let missing = missing(&passes, self.wakers.len() as u8);
+        let missing = missing(&passes, self.wires.len() as u8);
         if missing > 0 {
             return Err((self, passes, CloseFault::Missing(missing)));
         }
-        let alloc = *self.wakers.allocator();
+        let alloc = *self.wires.allocator();
         let Ok(rooms) = self.board.rooms(alloc, reach(&passes)) else {
             return Err((self, passes, CloseFault::NoMemory));
         };
         let Ok(seats) = Vec::with_capacity(alloc, passes.len()) else {
             return Err((self, passes, CloseFault::NoMemory));
         };
-        let World { board, wakers: _ } = self;
+        let World { board, wires: _ } = self;
         let seats = seats_of(passes, seats);
         let (records, graph) = board.close_in(seats, rooms);
         Ok(History { records, graph })

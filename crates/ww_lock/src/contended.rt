@@ -1,11 +1,13 @@
 use crate::acquiring::Acquiring;
 use crate::hand::Hand;
 use crate::pass::Pass;
+use crate::waits::Waits;
 use crate::world::World;
 use std::marker::Model;
 use std::sync::Wait;
+use ww_seat::Stop;
 
-/// A context that was told EDEADLK and has given all locks back. It may take the lock that it couldn't get, or end.
+/// A context that was told EDEADLK and has released all locks. It may take the lock that it couldn't get, or end.
 pub struct Contended {
     pub(crate) hand: Box<Hand>,
     pub(crate) contended: u8,
@@ -24,9 +26,10 @@ impl Model for Contended {
 }
 
 impl Contended {
-    ghost use Rattle.std.specs.Prelude.{◌≡◌, ◌∷◌, []};
+    ghost use Rattle.std.specs.Prelude.{◌≡◌, ◌∷◌, [], IfOk, IfErr};
     ghost use Rattle.ww_lock.specs.Holding.{IsAtHome};
-    ghost use Rattle.ww_lock.specs.Moves.{IsTaken};
+    ghost use Rattle.ww_lock.specs.Moves.{IsTaken, IsInterrupted};
+    ghost use Rattle.ww_lock.specs.declared.waits.Waits.TheVariants.{UntilCancelled};
 
     /// Takes the contended lock, however long that takes: the kernel's slow path. It holds no other lock, so nobody
     /// tells it EDEADLK.
@@ -35,12 +38,36 @@ impl Contended {
         ensures taken { IsTaken self.holding self.contended result }
         ensures alone { result.held ≡ self.contended ∷ [] }
     {
+        match self.lock_slow_as(rt, world, Waits::ToTheEnd) {
+            Ok(acquiring) => acquiring,
+            Err(_) => unreachable!(),
+        }
+    }
+
+    /// Takes the contended lock as `lock_slow` does, or as `lock_slow_interruptible` does: the last argument says how it
+    /// waits.
+    pub fn lock_slow_as<R: Wait>(
+        self,
+        rt: &R,
+        world: &World,
+        waits: Waits,
+    ) -> Result<Acquiring, (Contended, u8)>
+        requires home { IsAtHome self.holding world.now }
+        ensures taken { IfOk result (IsTaken self.holding self.contended) }
+        ensures alone { IfOk result (λ a. a.held ≡ self.contended ∷ []) }
+        ensures waits { IfErr result (λ _. waits ≡ UntilCancelled) }
+        ensures same { IfErr result (λ e. e.0.contended ≡ self.contended) }
+        ensures interrupted { IfErr result (λ e. IsInterrupted self.holding self.contended e.1 e.0.holding) }
+    {
         let Contended {
             mut hand,
             contended,
         } = self;
-        hand.take_alone(rt, world, contended);
-        Acquiring { hand }
+        match hand.take(rt, world, contended, waits) {
+            Ok(()) => Ok(Acquiring { hand }),
+            Err(Stop::Interrupted(by)) => Err((Contended { hand, contended }, by)),
+            Err(Stop::Deadlk(_)) => unreachable!(),
+        }
     }
 
     /// Ends the context.

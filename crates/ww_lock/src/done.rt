@@ -1,47 +1,17 @@
 use crate::hand::Hand;
+use crate::held::{Held, InContext, Kept};
 use crate::pass::Pass;
-use crate::prepared::{Prepared, Receipt};
 use crate::world::World;
-use std::alloc::AllocError;
 use std::marker::Model;
 use std::sync::Wait;
-use ww_plain::{Node, Txn, first_double};
 
 /// A context that has all its locks.
-pub struct Done {
-    pub(crate) hand: Box<Hand>,
-}
-
-impl Model for Done {
-    ghost use Rattle.std.specs.Prelude.{◌<◌};
-    ghost use Rattle.ww_lock.specs.Holding.{Holding};
-    ghost use Rattle.ww_lock.specs.Carried.{holding_of, CarriesFresh};
-
-    ghost Value = { Holding };
-
-    ghost view = { λ s. holding_of s.hand.value };
-
-    ghost invariant = { λ s. CarriesFresh s.hand.value × (0 < s.hand.value.seat.stamp) };
-}
+pub type Done = Held<InContext>;
 
 /// A context that has committed, and still holds its locks.
-pub struct Committed {
-    pub(crate) hand: Box<Hand>,
-}
+pub type Committed = Kept<InContext>;
 
-impl Model for Committed {
-    ghost use Rattle.std.specs.Prelude.{◌<◌};
-    ghost use Rattle.ww_lock.specs.Holding.{Holding};
-    ghost use Rattle.ww_lock.specs.Carried.{holding_of, Carries};
-
-    ghost Value = { Holding };
-
-    ghost view = { λ s. holding_of s.hand.value };
-
-    ghost invariant = { λ s. Carries s.hand.value × (0 < s.hand.value.seat.stamp) };
-}
-
-/// A context that has given all locks back.
+/// A context that has released all locks.
 pub struct Empty {
     pub(crate) hand: Box<Hand>,
 }
@@ -59,84 +29,16 @@ impl Model for Empty {
 }
 
 impl Done {
-    ghost use Rattle.std.specs.Prelude.{◌≡◌, ◌<◌, ◌↔◌, length, IsTrue, IfSome, IfOk, IfErr, OnErr};
-    ghost use Rattle.ww_plain.specs.Graph.{IsNodeOf};
-    ghost use Rattle.ww_plain.specs.Transaction.{transaction_of, Fits, HasNoDouble};
-    ghost use Rattle.ww_lock.specs.Holding.{IsAtHome, reads};
-    ghost use Rattle.ww_lock.specs.Making.{Covers, IsMade, IsMadeOf};
-    ghost use Rattle.ww_lock.specs.Moves.{IsCommitted, emptied};
+    ghost use Rattle.std.specs.Prelude.{◌≡◌};
+    ghost use Rattle.ww_lock.specs.Holding.{IsAtHome};
+    ghost use Rattle.ww_lock.specs.Moves.{emptied};
 
-    /// The node as it was when it was locked; nothing where it isn't held. Its ports name nodes of the world, or none.
-    pub fn read(&self, world: &World, n: u8) -> Option<Node>
-        requires home { IsAtHome self.now world.now }
-        requires node { n < length world.now.first }
-        ensures contents { result ≡ reads self.now n }
-        ensures there { IfSome result (IsNodeOf (length world.now.first)) }
-    {
-        self.hand.read(n)
-    }
-
-    /// Whether all that the transaction depends on and may change is held.
-    pub fn covers(&self, world: &World, txn: &Txn) -> bool
-        requires home { IsAtHome self.now world.now }
-        requires fits { Fits (length self.now.seen) (transaction_of txn.now) }
-        ensures { IsTrue result ↔ Covers self.now (transaction_of txn.now) }
-    {
-        self.hand.covers(txn)
-    }
-
-    /// Whether the transaction can be prepared here: it fits the world, names no node twice, and all that it depends on
-    /// and may change is held.
-    #[tactic(auto, using(ww_plain::proofs::Doubles::no_double_is_none))]
-    pub fn serves(&self, world: &World, txn: &Txn) -> bool
-        requires home { IsAtHome self.now world.now }
-        ensures fits { IsTrue result → Fits (length self.now.seen) (transaction_of txn.now) }
-        ensures no_double { IsTrue result → HasNoDouble (transaction_of txn.now) }
-        ensures covers { IsTrue result → Covers self.now (transaction_of txn.now) }
-        ensures told { Fits (length self.now.seen) (transaction_of txn.now) → HasNoDouble (transaction_of txn.now) → Covers self.now (transaction_of txn.now) → IsTrue result }
-    {
-        txn.fits(world.size()) && first_double(txn).is_none() && self.covers(world, txn)
-    }
-
-    /// Prepares a transaction: makes every growth that its commit needs. Nothing is changed or recorded until that.
-    pub fn prepare(&mut self, world: &World, txn: Txn) -> Result<Prepared, (Txn, AllocError)>
-        requires home { IsAtHome self.old world.now }
-        requires fits { Fits (length self.old.seen) (transaction_of txn) }
-        requires no_double { HasNoDouble (transaction_of txn) }
-        requires covers { Covers self.old (transaction_of txn) }
-        ensures same { self.new ≡ record self.old { room = self.new.room } }
-        ensures ok { IfOk result (λ p. IsMadeOf self.new p (transaction_of txn)) }
-        ensures err { IfErr result (λ e. e.0 ≡ txn) }
-        ensures refused { OnErr result (self.new ≡ self.old) }
-    {
-        self.hand.prepare(*world.wakers.allocator(), txn)
-    }
-
-    /// Whether what was prepared can be committed here: the nodes that it depends on and may change are held, with the
-    /// contents that it was made from, and there is room for its record.
-    pub fn made(&self, prepared: &Prepared) -> bool
-        ensures { IsTrue result ↔ IsMade self.now prepared.now }
-    {
-        self.hand.made(prepared)
-    }
-
-    /// Commits what was prepared: it takes the next place of the one history, and the nodes change. It takes no memory.
-    pub fn commit(self, world: &World, prepared: Prepared) -> (Committed, Receipt)
-        requires home { IsAtHome self world.now }
-        requires made { IsMade self prepared }
-        ensures { IsCommitted self prepared result.0 result.1 }
-    {
-        let Done { mut hand } = self;
-        let receipt = hand.commit(world, prepared);
-        (Committed { hand }, receipt)
-    }
-
-    /// Gives all locks back, with nothing committed.
+    /// Releases all locks, with nothing committed.
     pub fn unlock_all<R: Wait>(self, rt: &R, world: &World) -> Empty
         requires home { IsAtHome self world.now }
         ensures { result ≡ emptied self }
     {
-        let Done { mut hand } = self;
+        let Held { mut hand, by: _ } = self;
         hand.give_all(rt, world);
         Empty { hand }
     }
@@ -147,12 +49,12 @@ impl Committed {
     ghost use Rattle.ww_lock.specs.Holding.{IsAtHome};
     ghost use Rattle.ww_lock.specs.Moves.{emptied};
 
-    /// Gives all locks back.
+    /// Releases all locks.
     pub fn unlock_all<R: Wait>(self, rt: &R, world: &World) -> Empty
         requires home { IsAtHome self world.now }
         ensures { result ≡ emptied self }
     {
-        let Committed { mut hand } = self;
+        let Kept { mut hand, by: _ } = self;
         hand.give_all(rt, world);
         Empty { hand }
     }

@@ -1,5 +1,5 @@
 use ww_plain::{Graph, MAX_NODES, Node, Txn, footprint};
-use ww_seat::Patience;
+use ww_seat::{Bell, Patience};
 use ww_table::Seat16;
 
 /// What a pass carries through all its states: its seat at the table, and what it keeps beside that. Contracts see it
@@ -13,6 +13,8 @@ pub(crate) struct Hand {
     /// The graph as it was seen: a node is put there when its lock is taken.
     pub(crate) seen: Graph,
     pub(crate) patience: Patience,
+    /// What it wakes each pass by, in their order, itself too.
+    pub(crate) bells: Vec<Bell>,
 }
 
 impl Hand {
@@ -24,7 +26,7 @@ impl Hand {
     ghost use Rattle.ww_table.specs.Seat.{view_of};
     ghost use Rattle.ww_view.specs.View.{owns};
     ghost use Rattle.ww_lock.specs.Holding.{Holds, reads};
-    ghost use Rattle.ww_lock.specs.Carried.{holding_of, held_of, Carries};
+    ghost use Rattle.ww_lock.specs.Carried.{holding_of, held_of, Carries, IsPlacedAlike};
     ghost use Rattle.ww_lock.specs.Making.{Covers};
 
     /// One node more is held, as it was found.
@@ -36,6 +38,7 @@ impl Hand {
         ensures same { self.new.left ≡ self.old.left }
         ensures marks { self.new.marks ≡ slice_set self.old.marks n true }
         ensures seen { self.new.seen ≡ slice_set self.old.seen n node }
+        ensures alike { IsPlacedAlike self.old self.new }
     {
         self.seen.put(n, node);
         self.marks[usize::from(n)] = true;

@@ -3,9 +3,9 @@
 use crate::acquiring::Acquiring;
 use crate::backoff::Backoff;
 use crate::contended::Contended;
+use crate::waits::Waits;
 use crate::world::World;
 use std::sync::Wait;
-use ww_seat::Stop;
 
 /// What an interruptible lock call answers.
 pub enum Interruptible {
@@ -69,22 +69,7 @@ impl Acquiring {
         requires node { n < length world.now.first }
         ensures { IsInterruptibleAnswer self n result }
     {
-        if self.held(n) {
-            return Interruptible::Already(self);
-        }
-        let Acquiring { mut hand } = self;
-        if hand.try_take(world, n) {
-            return Interruptible::Locked(Acquiring { hand });
-        }
-        match hand.wait_for(rt, world, n, true) {
-            Ok(()) => Interruptible::Locked(Acquiring { hand }),
-            Err(Stop::Deadlk(met)) => Interruptible::Deadlk(Backoff {
-                hand,
-                contended: n,
-                met,
-            }),
-            Err(Stop::Interrupted(by)) => Interruptible::Interrupted(Acquiring { hand }, by),
-        }
+        self.lock_as(rt, world, n, Waits::UntilCancelled)
     }
 }
 
@@ -106,17 +91,6 @@ impl Contended {
         ensures same { IfErr result (λ e. e.0.contended ≡ self.contended) }
         ensures interrupted { IfErr result (λ e. IsInterrupted self.holding self.contended e.1 e.0.holding) }
     {
-        let Contended {
-            mut hand,
-            contended,
-        } = self;
-        if hand.try_take(world, contended) {
-            return Ok(Acquiring { hand });
-        }
-        match hand.wait_for(rt, world, contended, true) {
-            Ok(()) => Ok(Acquiring { hand }),
-            Err(Stop::Interrupted(by)) => Err((Contended { hand, contended }, by)),
-            Err(Stop::Deadlk(_)) => unreachable!(),
-        }
+        self.lock_slow_as(rt, world, Waits::UntilCancelled)
     }
 }

@@ -1,6 +1,7 @@
 //! What the calls of the states do at the table of the world, by the seat that each state carries.
 
 use crate::hand::Hand;
+use crate::waits::Waits;
 use crate::world::World;
 use std::sync::Wait;
 use ww_seat::Stop;
@@ -8,10 +9,10 @@ use ww_seat::Stop;
 impl Hand {
     ghost use Rattle.std.specs.Prelude.{◌≡◌, ◌≤◌, ◌<◌, ◌+◌, ◌^◌, ◌⊎◌, [], true, false, length, None, IfOk, IfErr};
     ghost use Rattle.ww_plain.specs.Numbers.{is_among};
-    ghost use Rattle.ww_seat.specs.Calls.{IsTurnedAway, MayStop};
+    ghost use Rattle.ww_seat.specs.Calls.{IsTurnedAway};
     ghost use Rattle.ww_lock.specs.Holding.{Holding, IsAtHome};
-    ghost use Rattle.ww_lock.specs.Carried.{holding_of, held_of, met_of, Carries, CarriesFresh, HasLost};
-    ghost use Rattle.ww_lock.specs.Moves.{tried, found_pending, IsTaken, IsStop, IsCancelling, emptied};
+    ghost use Rattle.ww_lock.specs.Carried.{holding_of, held_of, met_of, Carries, CarriesFresh, HasLost, HasMetSo};
+    ghost use Rattle.ww_lock.specs.Moves.{tried, found_pending, IsTaken, IsStop, MayEnd, IsCancelling, emptied};
 
     /// Starts a context: it draws a stamp.
     pub(crate) fn begin(&mut self, world: &World)
@@ -75,7 +76,7 @@ impl Hand {
         rt: &R,
         world: &World,
         n: u8,
-        heeds: bool,
+        waits: Waits,
     ) -> Result<(), Stop>
         requires home { IsAtHome (holding_of self.old) world.now }
         requires fresh { CarriesFresh self.old }
@@ -86,7 +87,7 @@ impl Hand {
         ensures fresh { CarriesFresh self.new }
         ensures taken { IfOk result (λ _. (s : Holding) → holding_of self.old ≡ tried s → IsTaken s n (holding_of self.new)) }
         ensures stopped { IfErr result (λ why. (s : Holding) → holding_of self.old ≡ tried s → IsStop s n why (holding_of self.new)) }
-        ensures heeds { IfErr result (MayStop heeds) }
+        ensures waits { IfErr result (MayEnd waits) }
         ensures turned_away { IfErr result (λ why. IsTurnedAway self.old.seat.seat.me n why self.new.seat.seat.me) }
         ensures unmet { IfOk result (λ _. met_of self.new ≡ None) }
     {
@@ -96,13 +97,40 @@ impl Hand {
             &mut self.seat,
             &world.board,
             u32::from(n),
-            heeds,
+            waits.heeds(),
             holds,
             &mut self.patience,
-            &world.wakers,
+            &mut self.bells,
         )?;
         self.add(n, node);
         Ok(())
+    }
+
+    /// Takes a lock that isn't held, by one try, or else after waiting for it; or it tells why it has to go without.
+    #[inline(always)]
+    pub(crate) fn take<R: Wait>(
+        &mut self,
+        rt: &R,
+        world: &World,
+        n: u8,
+        waits: Waits,
+    ) -> Result<(), Stop>
+        requires home { IsAtHome (holding_of self.old) world.now }
+        requires fresh { CarriesFresh self.old }
+        requires want { (0 < self.old.seat.stamp) ⊎ (held_of self.old ≡ []) }
+        requires node { n < length self.old.seen }
+        requires new { is_among n (held_of self.old) ≡ false }
+        ensures fresh { CarriesFresh self.new }
+        ensures taken { IfOk result (λ _. IsTaken (holding_of self.old) n (holding_of self.new)) }
+        ensures stopped { IfErr result (λ why. IsStop (holding_of self.old) n why (holding_of self.new)) }
+        ensures waits { IfErr result (MayEnd waits) }
+        ensures unmet { IfOk result (λ _. met_of self.new ≡ None) }
+        ensures met { IfErr result (λ why. HasMetSo n why self.new) }
+    {
+        if self.try_take(world, n) {
+            return Ok(());
+        }
+        self.wait_for(rt, world, n, waits)
     }
 
     /// Calls off the wait of a caller.
@@ -114,7 +142,7 @@ impl Hand {
         ensures set { result ≡ true → IsCancelling (holding_of self.old) who (holding_of self.new) }
         ensures pending { result ≡ false → holding_of self.new ≡ found_pending (holding_of self.old) }
     {
-        ww_seat::cancel(&mut self.seat, &world.board, who, &world.wakers)
+        ww_seat::cancel(&mut self.seat, &world.board, who, &mut self.bells)
     }
 
     /// Takes a lock where nothing is held: nobody is told EDEADLK there.
@@ -127,15 +155,12 @@ impl Hand {
         ensures taken { IsTaken (holding_of self.old) n (holding_of self.new) }
         ensures unmet { met_of self.new ≡ None }
     {
-        if self.try_take(world, n) {
-            return;
-        }
-        if self.wait_for(rt, world, n, false).is_err() {
+        if self.take(rt, world, n, Waits::ToTheEnd).is_err() {
             unreachable!()
         }
     }
 
-    /// Gives all locks back, the one whose node lies on top of what the seat has out first.
+    /// Releases all locks, the one whose node lies on top of what the seat has out first.
     #[inline(always)]
     pub(crate) fn give_all<R: Wait>(&mut self, rt: &R, world: &World)
         requires home { IsAtHome (holding_of self.old) world.now }
@@ -146,7 +171,7 @@ impl Hand {
         while let Some(n) = self.seat.top() {
             self.marks[n as usize] = false;
             if !ww_seat::give_node_at_once(&mut self.seat, &world.board, n) {
-                ww_seat::give_waited(rt, &mut self.seat, &world.board, n, &world.wakers);
+                ww_seat::give_waited(rt, &mut self.seat, &world.board, n, &mut self.bells);
             }
         }
     }

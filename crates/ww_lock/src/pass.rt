@@ -1,8 +1,9 @@
 use crate::acquiring::Acquiring;
 use crate::hand::Hand;
+use crate::held::Held;
 use crate::solo::Solo;
 use crate::world::World;
-use std::marker::Model;
+use std::marker::{Model, PhantomData};
 use std::sync::Wait;
 use ww_seat::Waited;
 
@@ -57,7 +58,7 @@ impl Pass {
         self.hand.patience.waited()
     }
 
-    /// One context or solo less; a spent pass is given back.
+    /// One context or solo less; a spent pass is returned.
     fn spend(self) -> Result<Box<Hand>, Pass>
         ensures ok { IfOk result (λ hand. IsSpent self hand.value) }
         ensures err { IfErr result (λ p. (self.left ≡ 0) × (p ≡ self)) }
@@ -94,7 +95,7 @@ impl Pass {
         self.hand.cancel(world, who)
     }
 
-    /// Takes one lock without a context, as a plain mutex, however long that takes. A spent pass is given back.
+    /// Takes one lock without a context, as a plain mutex, however long that takes. A spent pass is returned.
     pub fn lock_solo<R: Wait>(self, rt: &R, world: &World, n: u8) -> Result<Solo, Pass>
         requires home { IsAtHome self world.now }
         requires node { n < length world.now.first }
@@ -103,6 +104,9 @@ impl Pass {
     {
         let mut hand = self.spend()?;
         hand.take_alone(rt, world, n);
-        Ok(Solo { hand })
+        Ok(Held {
+            hand,
+            by: PhantomData,
+        })
     }
 }

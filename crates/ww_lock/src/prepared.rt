@@ -10,7 +10,7 @@ use ww_seat::NodeChange;
 /// A transaction that was prepared. Nothing is changed or recorded before its commit, and it may be dropped.
 #[derive(Drop)]
 pub struct Prepared {
-    /// As it joins the own list.
+    /// As it joins the log.
     pub(crate) record: Record,
     /// For the receipt.
     pub(crate) reply: Reply,
@@ -56,7 +56,7 @@ impl Hand {
     ghost use Rattle.ww_lock.specs.Making.{Covers, IsMade, IsMadeOf, Finds};
     ghost use Rattle.ww_lock.specs.Moves.{IsCommitted};
 
-    /// The transaction's answer, twice, and its changes of the nodes as they were seen, with the room in the own list
+    /// The transaction's answer, twice, and its changes of the nodes as they were seen, with the room in the log
     /// that its commit needs.
     fn change(
         &mut self,

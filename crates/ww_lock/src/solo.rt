@@ -1,111 +1,25 @@
-use crate::hand::Hand;
+use crate::held::{Alone, Held, Kept};
 use crate::pass::Pass;
-use crate::prepared::{Prepared, Receipt};
 use crate::world::World;
-use std::alloc::AllocError;
-use std::marker::Model;
 use std::sync::Wait;
-use ww_plain::{Node, Txn};
 
 /// One lock, taken without a context.
-pub struct Solo {
-    pub(crate) hand: Box<Hand>,
-}
-
-impl Model for Solo {
-    ghost use Rattle.std.specs.Prelude.{◌≡◌};
-    ghost use Rattle.ww_lock.specs.Holding.{Holding};
-    ghost use Rattle.ww_lock.specs.Carried.{holding_of, CarriesFresh};
-
-    ghost Value = { Holding };
-
-    ghost view = { λ s. holding_of s.hand.value };
-
-    ghost invariant = { λ s. CarriesFresh s.hand.value × (s.hand.value.seat.stamp ≡ 0) };
-}
+pub type Solo = Held<Alone>;
 
 /// One lock that was taken without a context, after its commit.
-pub struct SoloDone {
-    pub(crate) hand: Box<Hand>,
-}
-
-impl Model for SoloDone {
-    ghost use Rattle.std.specs.Prelude.{◌≡◌};
-    ghost use Rattle.ww_lock.specs.Holding.{Holding};
-    ghost use Rattle.ww_lock.specs.Carried.{holding_of, Carries};
-
-    ghost Value = { Holding };
-
-    ghost view = { λ s. holding_of s.hand.value };
-
-    ghost invariant = { λ s. Carries s.hand.value × (s.hand.value.seat.stamp ≡ 0) };
-}
+pub type SoloDone = Kept<Alone>;
 
 impl Solo {
-    ghost use Rattle.std.specs.Prelude.{◌≡◌, ◌<◌, ◌↔◌, length, IsTrue, IfSome, IfOk, IfErr, OnErr};
-    ghost use Rattle.ww_plain.specs.Graph.{IsNodeOf};
-    ghost use Rattle.ww_plain.specs.Transaction.{transaction_of, Fits, HasNoDouble};
-    ghost use Rattle.ww_lock.specs.Holding.{IsAtHome, reads};
-    ghost use Rattle.ww_lock.specs.Making.{Covers, IsMade, IsMadeOf};
-    ghost use Rattle.ww_lock.specs.Moves.{IsCommitted, emptied};
+    ghost use Rattle.std.specs.Prelude.{◌≡◌};
+    ghost use Rattle.ww_lock.specs.Holding.{IsAtHome};
+    ghost use Rattle.ww_lock.specs.Moves.{emptied};
 
-    /// The node as it was when it was locked; nothing where it isn't held. Its ports name nodes of the world, or none.
-    pub fn read(&self, world: &World, n: u8) -> Option<Node>
-        requires home { IsAtHome self.now world.now }
-        requires node { n < length world.now.first }
-        ensures contents { result ≡ reads self.now n }
-        ensures there { IfSome result (IsNodeOf (length world.now.first)) }
-    {
-        self.hand.read(n)
-    }
-
-    /// Whether all that the transaction depends on and may change is held.
-    pub fn covers(&self, world: &World, txn: &Txn) -> bool
-        requires home { IsAtHome self.now world.now }
-        requires fits { Fits (length self.now.seen) (transaction_of txn.now) }
-        ensures { IsTrue result ↔ Covers self.now (transaction_of txn.now) }
-    {
-        self.hand.covers(txn)
-    }
-
-    /// Prepares a transaction, as [`crate::Done::prepare`] does.
-    pub fn prepare(&mut self, world: &World, txn: Txn) -> Result<Prepared, (Txn, AllocError)>
-        requires home { IsAtHome self.old world.now }
-        requires fits { Fits (length self.old.seen) (transaction_of txn) }
-        requires no_double { HasNoDouble (transaction_of txn) }
-        requires covers { Covers self.old (transaction_of txn) }
-        ensures same { self.new ≡ record self.old { room = self.new.room } }
-        ensures ok { IfOk result (λ p. IsMadeOf self.new p (transaction_of txn)) }
-        ensures err { IfErr result (λ e. e.0 ≡ txn) }
-        ensures refused { OnErr result (self.new ≡ self.old) }
-    {
-        self.hand.prepare(*world.wakers.allocator(), txn)
-    }
-
-    /// Whether what was prepared can be committed here, as [`crate::Done::made`].
-    pub fn made(&self, prepared: &Prepared) -> bool
-        ensures { IsTrue result ↔ IsMade self.now prepared.now }
-    {
-        self.hand.made(prepared)
-    }
-
-    /// Commits what was prepared, as [`crate::Done::commit`] does.
-    pub fn commit(self, world: &World, prepared: Prepared) -> (SoloDone, Receipt)
-        requires home { IsAtHome self world.now }
-        requires made { IsMade self prepared }
-        ensures { IsCommitted self prepared result.0 result.1 }
-    {
-        let Solo { mut hand } = self;
-        let receipt = hand.commit(world, prepared);
-        (SoloDone { hand }, receipt)
-    }
-
-    /// Gives the lock back, with nothing committed.
+    /// Releases the lock, with nothing committed.
     pub fn unlock<R: Wait>(self, rt: &R, world: &World) -> Pass
         requires home { IsAtHome self world.now }
         ensures { result ≡ emptied self }
     {
-        let Solo { mut hand } = self;
+        let Held { mut hand, by: _ } = self;
         hand.give_all(rt, world);
         Pass { hand }
     }
@@ -116,12 +30,12 @@ impl SoloDone {
     ghost use Rattle.ww_lock.specs.Holding.{IsAtHome};
     ghost use Rattle.ww_lock.specs.Moves.{emptied};
 
-    /// Gives the lock back.
+    /// Releases the lock.
     pub fn unlock<R: Wait>(self, rt: &R, world: &World) -> Pass
         requires home { IsAtHome self world.now }
         ensures { result ≡ emptied self }
     {
-        let SoloDone { mut hand } = self;
+        let Kept { mut hand, by: _ } = self;
         hand.give_all(rt, world);
         Pass { hand }
     }

@@ -1,17 +1,17 @@
-ghost use Rattle.std.specs.Prelude.{◌≡◌, ◌≤◌, [], length, IfOk, IfErr, vec_len, vec_capacity};
+ghost use Rattle.std.specs.Prelude.{◌≡◌, ◌≤◌, [], length, map, IfOk, IfErr, vec_len, vec_capacity};
 ghost use Rattle.ww_table.specs.Made.{AreNew};
 ghost use Rattle.ww_rule.specs.Rule.{first_graph};
-ghost use Rattle.ww_lock.specs.Opened.{AreFresh, AreRests};
+ghost use Rattle.ww_seat.specs.Bells.{leads_to, rings_at};
+ghost use Rattle.ww_lock.specs.Opened.{home_at, AreFresh, AreRests};
 
 use crate::hand::Hand;
 use crate::pass::Pass;
-use crossbeam_utils::sync::{Parker, Unparker};
 use std::alloc::{AllocError, Global};
 use std::marker::Model;
 use thiserror::Error;
 use ww_plain::{Graph, MAX_NODES};
 use ww_queue::Kind;
-use ww_seat::Patience;
+use ww_seat::{Bell, Parker, Patience, Wire};
 use ww_table::{Board, Seat16};
 use ww_word::MAX_SEATS;
 
@@ -49,8 +49,8 @@ impl OpenFault {
 #[derive(Drop)]
 pub struct World {
     pub(crate) board: Board,
-    /// What wakes each pass, in their order.
-    pub(crate) wakers: Vec<Unparker>,
+    /// What bells are made of, one for each pass, in their order. Threads share a world, and can't share a bell.
+    pub(crate) wires: Vec<Wire>,
 }
 
 impl Model for World {
@@ -60,10 +60,11 @@ impl Model for World {
 
     ghost use Rattle.std.specs.Prelude.{◌≡◌, ◌≤◌, length};
     ghost use Rattle.ww_rule.specs.Rule.{first_graph};
+    ghost use Rattle.ww_lock.specs.Opened.{home_at};
 
-    ghost view = { λ w. record { home = w.board.table.shared.table_id; kind = w.board.table.shared.key.kind; first = first_graph w.board.table.shared.key; passes = length w.wakers.items } };
+    ghost view = { λ w. record { home = home_at w.board w.wires.items; kind = w.board.table.shared.key.kind; first = first_graph w.board.table.shared.key; passes = length w.wires.items } };
 
-    ghost invariant = { λ w. (length w.wakers.items ≤ 16) × (w.board.table.shared.key.seats ≡ length w.wakers.items) };
+    ghost invariant = { λ w. (length w.wires.items ≤ 16) × (w.board.table.shared.key.seats ≡ length w.wires.items) };
 }
 
 impl World {
@@ -89,7 +90,7 @@ impl World {
         let Ok(room) = Vec::with_capacity(alloc, usize::from(passes)) else {
             return Err((graph, OpenFault::NoMemory));
         };
-        let Ok((rests, wakers)) = rests(alloc, &graph, passes) else {
+        let Ok((rests, wires)) = rests(alloc, &graph, passes) else {
             return Err((graph, OpenFault::NoMemory));
         };
         // Its contract says that this is a graph.
@@ -98,8 +99,8 @@ impl World {
             Ok(made) => made,
             Err((graph, _)) => return Err((graph, OpenFault::NoMemory)),
         };
-        match fresh(alloc, &board, seats, rests, budget, room) {
-            Ok(all) => Ok((World { board, wakers }, all)),
+        match fresh(alloc, &board, &wires, seats, rests, budget, room) {
+            Ok(all) => Ok((World { board, wires }, all)),
             Err(graph) => Err((graph, OpenFault::NoMemory)),
         }
     }
@@ -108,7 +109,7 @@ impl World {
     pub fn passes(&self) -> u8
         ensures { result ≡ self.now.passes }
     {
-        self.wakers.len() as u8
+        self.wires.len() as u8
     }
 
     /// How many nodes there are.
@@ -126,28 +127,40 @@ struct Rest {
     seen: Graph,
 }
 
-/// The parkers and the graphs of `passes` passes, the last one first, since `fresh` pops them; and what wakes the
+/// The parkers and the graphs of `passes` passes, the last one first, since `fresh` pops them; and the wires to the
 /// parkers, in the order of the passes.
-fn rests(alloc: Global, graph: &Graph, passes: u8) -> Result<(Vec<Rest>, Vec<Unparker>), AllocError>
-    ensures rests { IfOk result (λ r. AreRests graph.now passes r.0.items) }
-    ensures wakers { IfOk result (λ r. length r.1.items ≡ passes) }
+fn rests(alloc: Global, graph: &Graph, passes: u8) -> Result<(Vec<Rest>, Vec<Wire>), AllocError>
+    ensures rests { IfOk result (λ r. AreRests graph.now (map leads_to r.1.items) r.0.items) }
+    ensures wires { IfOk result (λ r. length r.1.items ≡ passes) }
 {
     let mut rests = Vec::new(alloc);
-    let mut wakers = Vec::new(alloc);
+    let mut wires = Vec::new(alloc);
     for _ in 0..passes {
         let parker = Parker::new(alloc)?;
         let seen = graph.copy(alloc)?;
-        wakers.insert(0, parker.unparker().clone()?)?;
+        wires.insert(0, parker.wire()?)?;
         let patience = Patience::new(parker);
         rests.push(Rest { patience, seen })?;
     }
-    Ok((rests, wakers))
+    Ok((rests, wires))
+}
+
+/// The bells of one pass: one of each pass's parker, in the order of the passes.
+fn hung(alloc: Global, wires: &[Wire]) -> Result<Vec<Bell>, AllocError>
+    ensures { IfOk result (λ bells. map rings_at bells.items ≡ map leads_to wires.now) }
+{
+    let mut bells = Vec::with_capacity(alloc, wires.len())?;
+    for wire in wires {
+        bells.push(Bell::hang(wire)?)?;
+    }
+    Ok(bells)
 }
 
 /// The passes of new seats, which have done nothing yet; or the graph that they have seen, where a growth was refused.
 fn fresh(
     alloc: Global,
     board: &Board,
+    wires: &[Wire],
     seats: Vec<Seat16>,
     mut rests: Vec<Rest>,
     budget: u32,
@@ -155,14 +168,18 @@ fn fresh(
 ) -> Result<Vec<Pass>, Graph>
     requires locks { board.now.table.shared.key.locks ≡ 64 }
     requires seats { AreNew board.now.table.shared.table_id board.now.table.shared.key (length seats.items) seats.items }
-    requires rests { AreRests (first_graph board.now.table.shared.key) (length seats.items) rests.items }
+    requires wires { length wires.now ≡ length seats.items }
+    requires rests { AreRests (first_graph board.now.table.shared.key) (map leads_to wires.now) rests.items }
     requires room { (all.items ≡ []) × (vec_len all ≡ 0) × (length seats.items ≤ vec_capacity all) }
-    ensures ok { IfOk result (λ all. AreFresh all.items (first_graph board.now.table.shared.key) board.now.table.shared.table_id (length seats.items) budget) }
+    ensures ok { IfOk result (λ all. AreFresh all.items (first_graph board.now.table.shared.key) (home_at board.now wires.now) (length seats.items) budget) }
     ensures err { IfErr result (λ graph. graph ≡ first_graph board.now.table.shared.key) }
 {
     for seat in seats {
         let Some(Rest { patience, seen }) = rests.pop() else {
             unreachable!()
+        };
+        let Ok(bells) = hung(alloc, wires) else {
+            return Err(seen);
         };
         let hand = Hand {
             seat,
@@ -170,6 +187,7 @@ fn fresh(
             marks: [false; MAX_NODES],
             seen,
             patience,
+            bells,
         };
         match Box::new(alloc, hand) {
             Ok(hand) => all.push_reserved(Pass { hand }),

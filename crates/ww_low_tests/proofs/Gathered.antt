@@ -12,10 +12,12 @@ use Rattle.ww_table_loads.proofs.Standing.{bare, first_stands, nothing_out}
 use Rattle.ww_low_tests.specs.Gathered.{HaveCome}
 
 -- a seat that was made just now did nothing yet
-pub new_did : (board : Board) (k j : ℕ) (s : Seat16) → IsNew board.table.shared.table_id board.table.shared.key k s → s.who ≡ j → Did board (at_first j) s
+pub new_did : (board : Board) (k j : ℕ) (s : Seat16) → IsNew board.table.shared.table_id board.table.shared.key k s
+    → s.who ≡ j → Did board (at_first j) s
 new_did board k j s new is = subst (λ (n : ℕ). Did board (at_first n) s) (sym new.number ∙ is) (record {
   seated = new.seated;
-  stands = subst (Stands (size_of board) (at_first k)) (sym new.me) (first_stands (size_of board) board.table.shared.key.kind (locks_of board) k board.fits);
+  stands = subst (Stands (size_of board) (at_first k)) (sym new.me)
+      (first_stands (size_of board) board.table.shared.key.kind (locks_of board) k board.fits);
 })
 
 pub who_did : (board : Board) (d : Deeds) (s : Seat16) → Did board d s → s.who ≡ d.who
@@ -23,7 +25,11 @@ who_did board d s did = sym did.seated.who ∙ did.stands.who
 
 -- a seat that owns no lock holds nothing
 pub did_come : (board : Board) (d : Deeds) (s : Seat16) → Did board d s → d.locks ≡ [] → HasCome board.table.shared.table_id s
-did_come board d s did none = record { seated = did.seated; bare = bare (size_of board) d s.seat.me did.stands none; nothing = nothing_out (size_of board) d s.seat.me did.stands none }
+did_come board d s did none = record {
+  seated = did.seated;
+  bare = bare (size_of board) d s.seat.me did.stands none;
+  nothing = nothing_out (size_of board) d s.seat.me did.stands none;
+}
 
 pub none_come : (board : Board) → HaveCome board []
 none_come board = record { each = tt; all = λ k lt. absurd (omega (arith, lt)) }
@@ -42,7 +48,8 @@ has_last [] x = inl refl
 has_last (z ∷ zs) x = inr (has_last zs x)
 
 -- one more, with the next number
-pub one_more : (board : Board) (seats : List Seat16) (s : Seat16) → HaveCome board seats → HasCome board.table.shared.table_id s → s.who ≡ length seats → HaveCome board (seats ++ s ∷ [])
+pub one_more : (board : Board) (seats : List Seat16) (s : Seat16) → HaveCome board seats
+    → HasCome board.table.shared.table_id s → s.who ≡ length seats → HaveCome board (seats ++ s ∷ [])
 one_more board seats s were come next = record {
   each = each_more (HasCome board.table.shared.table_id) seats s were.each come;
   all = λ k lt. elim (cases_lt k (length seats)) [
@@ -52,10 +59,15 @@ one_more board seats s were come next = record {
 }
 
 -- they are all
-pub all_come : (board : Board) (seats : List Seat16) → HaveCome board seats → length seats ≡ board.table.shared.key.seats → HaveAllCome board.table.shared.table_id board.table.shared.key seats
+pub all_come : (board : Board) (seats : List Seat16) → HaveCome board seats
+    → length seats ≡ board.table.shared.key.seats
+    → HaveAllCome board.table.shared.table_id board.table.shared.key seats
 all_come board seats were count = record { each = were.each; all = λ k lt. were.all k (omega (arith, lt, count)) }
 
 -- two seats
-pub two_come : (board : Board) (d e : Deeds) (zero one : Seat16) → Did board d zero → Did board e one → d.locks ≡ [] → e.locks ≡ [] → d.who ≡ 0 → e.who ≡ 1 → HaveCome board (zero ∷ one ∷ [])
+pub two_come : (board : Board) (d e : Deeds) (zero one : Seat16) → Did board d zero → Did board e one → d.locks ≡ []
+    → e.locks ≡ [] → d.who ≡ 0 → e.who ≡ 1 → HaveCome board (zero ∷ one ∷ [])
 two_come board d e zero one first second none_first none_second is_zero is_one =
-    one_more board (zero ∷ []) one (one_more board [] zero (none_come board) (did_come board d zero first none_first) (who_did board d zero first ∙ is_zero)) (did_come board e one second none_second) (who_did board e one second ∙ is_one)
+    one_more board (zero ∷ []) one (one_more board [] zero (none_come board)
+    (did_come board d zero first none_first) (who_did board d zero first ∙ is_zero))
+    (did_come board e one second none_second) (who_did board e one second ∙ is_one)

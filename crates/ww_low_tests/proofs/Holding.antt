@@ -13,7 +13,8 @@ use Rattle.ww_seat.specs.declared.look.Arrival.TheVariants.{Came}
 use Rattle.ww_low_tests.specs.Looking.{Holds, MayLook, just, none}
 
 -- it lacks lock n, and what it knows of its sign lets it want a lock
-pub may_look : (board : Board) (k : Kind) (o : List Bool) (n : ℕ) (s : Seat16) → Holds board k o s → get_or o n false ≡ false → WantsSigns s.seat.me.0.part.core → MayLook board k o n Came s
+pub may_look : (board : Board) (k : Kind) (o : List Bool) (n : ℕ) (s : Seat16) → Holds board k o s
+    → get_or o n false ≡ false → WantsSigns s.seat.me.0.part.core → MayLook board k o n Came s
 may_look board k o n s h lacks signs = record {
   owns = h.owns;
   outside = record {
@@ -30,14 +31,18 @@ may_look board k o n s h lacks signs = record {
 }
 
 -- it holds lock j, and not lock n
-pub looks_first : (board : Board) (k : Kind) (o : List Bool) (n j : ℕ) (s : Seat16) → Holds board k o s → get_or o n false ≡ false → get_or o j false ≡ true → MayLook board k o n Came s
-looks_first board k o n j s h lacks has = may_look board k o n s h lacks (inr (inr (inl (j, ap (λ (l : List Bool). get_or l j false) h.owns.owned ∙ has))))
+pub looks_first : (board : Board) (k : Kind) (o : List Bool) (n j : ℕ) (s : Seat16) → Holds board k o s
+    → get_or o n false ≡ false → get_or o j false ≡ true → MayLook board k o n Came s
+looks_first board k o n j s h lacks has =
+    may_look board k o n s h lacks (inr (inr
+    (inl (j, ap (λ (l : List Bool). get_or l j false) h.owns.owned ∙ has))))
 
 -- it holds nothing
 pub bare_with_none : (board : Board) (k : Kind) (s : Seat16) → Holds board k none s → IsBare s.seat.me.0.part.core
 bare_with_none board k s h n = ap (λ (l : List Bool). get_or l n false) h.owns.owned ∙ none_at 64 n
 
-pub holds_none : (board : Board) (k : Kind) (s : Seat16) → Holds board k none s → any_below (length s.seat.me.0.part.core.owned) (owns s.seat.me.0.part.core) ≡ false
+pub holds_none : (board : Board) (k : Kind) (s : Seat16) → Holds board k none s
+    → any_below (length s.seat.me.0.part.core.owned) (owns s.seat.me.0.part.core) ≡ false
 holds_none board k s h = ap (λ (l : List Bool). any_below (length l) (λ n. get_or l n false)) h.owns.owned
 
 -- each lock of these guards a node

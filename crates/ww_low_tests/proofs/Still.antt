@@ -9,7 +9,8 @@ use Rattle.ww_seat.specs.Orderly.{IsSettledAt}
 use Rattle.ww_seat.specs.declared.look.Arrival.{Arrival}
 use Rattle.ww_low_tests.specs.Looking.{Owns, Holds, MayLook}
 
-pub new_still : (s : Seat16) (a b : Board) → b ≡ a → (k : ℕ) × IsNew a.table.shared.table_id a.table.shared.key k s → (k : ℕ) × IsNew b.table.shared.table_id b.table.shared.key k s
+pub new_still : (s : Seat16) (a b : Board) → b ≡ a → (k : ℕ) × IsNew a.table.shared.table_id a.table.shared.key k s
+    → (k : ℕ) × IsNew b.table.shared.table_id b.table.shared.key k s
 new_still s a b e h = subst (λ (v : Board). (k : ℕ) × IsNew v.table.shared.table_id v.table.shared.key k s) (sym e) h
 
 pub owns_still : {a b : Board} {k : Kind} {o : List Bool} {s : Seat16} → b ≡ a → Owns a k o s → Owns b k o s
@@ -18,7 +19,8 @@ owns_still {k = k} {o = o} {s = s} e h = subst (λ (v : Board). Owns v k o s) (s
 pub holds_still : {a b : Board} {k : Kind} {o : List Bool} {s : Seat16} → b ≡ a → Holds a k o s → Holds b k o s
 holds_still {k = k} {o = o} {s = s} e h = subst (λ (v : Board). Holds v k o s) (sym e) h
 
-pub looks_still : {a b : Board} {k : Kind} {o : List Bool} {n : ℕ} {arrival : Arrival} {s : Seat16} → b ≡ a → MayLook a k o n arrival s → MayLook b k o n arrival s
+pub looks_still : {a b : Board} {k : Kind} {o : List Bool} {n : ℕ} {arrival : Arrival} {s : Seat16} → b ≡ a
+    → MayLook a k o n arrival s → MayLook b k o n arrival s
 looks_still {k = k} {o = o} {n = n} {arrival = arrival} {s = s} e h = subst (λ (v : Board). MayLook v k o n arrival s) (sym e) h
 
 pub settled : (board : Board) (k : Kind) (o : List Bool) (s : Seat16) → Holds board k o s → IsSettledAt board s

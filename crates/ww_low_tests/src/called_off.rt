@@ -1,23 +1,23 @@
 //! A waiter is called off, by one thread with both seats of a board. After each call all words of the board are
 //! compared, its cancel among them.
 
-ghost use Rattle.std.specs.Prelude.{ℕ, ◌≡◌, ◌<◌, List, Bool, false, IfOk};
+ghost use Rattle.std.specs.Prelude.{ℕ, ◌≡◌, ◌<◌, List, Bool, false, length, IfOk};
 ghost use Rattle.ww_queue.specs.declared.kind.Kind.{Kind};
 ghost use Rattle.ww_table.specs.Seat.{IsNew, locks_of, size_of};
 ghost use Rattle.ww_seat.specs.declared.look.Arrival.TheVariants.{Came};
+ghost use Rattle.ww_seat.specs.Bells.{AreBellsOf};
 ghost use Rattle.ww_low_tests.specs.Looking.{Owns, Holds, MayLook, just, none};
 
 use crate::rings::{
-    back_off, bell, compare, compare_cancelled, hold, holds_one, start, tied, two_seats, untie,
+    back_off, bells, compare, compare_cancelled, hold, holds_one, start, tied, two_seats, untie,
     wait,
 };
-use crossbeam_utils::sync::Unparker;
 use std::alloc::{AllocError, Global};
 use std::process::Abort;
 use std::sync::Wait;
 use std::test::Fail;
 use ww_queue::Kind;
-use ww_seat::{Arrival, Look, cancel, give_at_once, try_take, visit};
+use ww_seat::{Arrival, Bell, Look, cancel, give_at_once, try_take, visit};
 use ww_table::{Board, Seat16};
 
 const KINDS: [Kind; 2] = [Kind::WoundWait, Kind::WaitDie];
@@ -40,6 +40,7 @@ fn ask<R: Abort>(rt: &R, board: &mut Board, seat: &mut Seat16, kind: Kind)
 /// Seat 0 has lock 0, and seat 1 wants it and has none.
 fn asked<R: Abort>(rt: &R, alloc: Global, kind: Kind) -> Result<(Board, Seat16, Seat16), AllocError>
     ensures size { IfOk result (λ r. size_of r.0 ≡ 2) }
+    ensures count { IfOk result (λ r. r.0.table.shared.key.seats ≡ 2) }
     ensures owner { IfOk result (λ r. Holds r.0 kind (just 0) r.1) }
     ensures asking { IfOk result (λ r. MayLook r.0 kind none 0 Came r.2) }
 {
@@ -51,11 +52,13 @@ fn asked<R: Abort>(rt: &R, alloc: Global, kind: Kind) -> Result<(Board, Seat16, 
 }
 
 /// Sets the cancel of seat 1, or finds it set.
-fn call_off<R: Abort>(rt: &R, board: &Board, by: &mut Seat16, is_pending: bool, wakers: &[Unparker])
-    requires { (k : Kind) × (o : List Bool) × Holds board.now k o by.old }
-    ensures { (k : Kind) (o : List Bool) → Holds board.now k o by.old → Holds board.now k o by.new }
+fn call_off<R: Abort>(rt: &R, board: &Board, by: &mut Seat16, is_pending: bool, bells: &mut [Bell])
+    requires holds { (k : Kind) × (o : List Bool) × Holds board.now k o by.old }
+    requires bells { AreBellsOf board.now bells.old }
+    ensures holds { (k : Kind) (o : List Bool) → Holds board.now k o by.old → Holds board.now k o by.new }
+    ensures bells { length bells.new ≡ length bells.old }
 {
-    if cancel(by, board, 1, wakers) == is_pending {
+    if cancel(by, board, 1, bells) == is_pending {
         panic!(rt; "the cancel was pending, or it wasn't");
     }
 }
@@ -68,19 +71,22 @@ fn stop<R: Wait + Abort>(
     kind: Kind,
     lock: u32,
     arrival: Arrival,
+    bells: &mut [Bell],
 ) -> u8
     requires may { (o : List Bool) × MayLook board.now kind o lock arrival seat.old }
     requires lock { lock < size_of board.now }
-    ensures { (o : List Bool) → Owns board.now kind o seat.old → Holds board.now kind o seat.new }
+    requires bells { AreBellsOf board.now bells.old }
+    ensures bells { length bells.new ≡ length bells.old }
+    ensures holds { (o : List Bool) → Owns board.now kind o seat.old → Holds board.now kind o seat.new }
 {
     let holds = holds_one(board, seat);
-    match visit(rt, seat, board, lock, arrival, true, holds, &[]) {
+    match visit(rt, seat, board, lock, arrival, true, holds, bells) {
         Look::Interrupted(by) => by,
         Look::Locked(_) | Look::Deadlk(_) | Look::Waits => panic!(rt; "it is called off"),
     }
 }
 
-/// Seat 1 was called off, and nobody waits: the lock is given back, and a try takes it.
+/// Seat 1 was called off, and nobody waits: the lock is released, and a try takes it.
 fn taken_at_once<R: Wait + Abort>(
     rt: &R,
     board: &mut Board,
@@ -106,13 +112,26 @@ fn taken_at_once<R: Wait + Abort>(
 /// The cancel is set while seat 1 waits, and found pending; its next look heeds it.
 fn while_it_waits<R: Wait + Abort>(rt: &R, alloc: Global, kind: Kind) -> Result<(), AllocError> {
     let (mut board, mut owner, mut asking) = asked(rt, alloc, kind)?;
-    wait(rt, &board, &mut asking, kind, 0, Arrival::Came, true);
+    let (_, mut bells) = bells(alloc, 2)?;
+    wait(
+        rt,
+        &board,
+        &mut asking,
+        kind,
+        0,
+        Arrival::Came,
+        true,
+        &mut bells,
+    );
     compare(rt, &mut board, [265, 0], 0, [2, 0]);
-    call_off(rt, &board, &mut owner, false, &[]);
+    call_off(rt, &board, &mut owner, false, &mut bells);
     compare_cancelled(rt, &mut board, [265, 0], 0, [2, 0], 1);
-    call_off(rt, &board, &mut owner, true, &[]);
+    call_off(rt, &board, &mut owner, true, &mut bells);
     compare_cancelled(rt, &mut board, [265, 0], 0, [2, 0], 1);
-    assert_eq!(rt; stop(rt, &board, &mut asking, kind, 0, Arrival::Woken), 0);
+    assert_eq!(rt;
+        stop(rt, &board, &mut asking, kind, 0, Arrival::Woken, &mut bells),
+        0
+    );
     taken_at_once(rt, &mut board, kind, &mut owner, &mut asking);
     Ok(())
 }
@@ -128,9 +147,13 @@ fn a_waiter_is_called_off(rt: HostRuntime) -> Result<(), Fail> {
 /// The cancel is set before seat 1 looks.
 fn before_it_waits<R: Wait + Abort>(rt: &R, alloc: Global, kind: Kind) -> Result<(), AllocError> {
     let (mut board, mut owner, mut asking) = asked(rt, alloc, kind)?;
-    call_off(rt, &board, &mut owner, false, &[]);
+    let (_, mut bells) = bells(alloc, 2)?;
+    call_off(rt, &board, &mut owner, false, &mut bells);
     compare_cancelled(rt, &mut board, [264, 0], 0, [2, 0], 1);
-    assert_eq!(rt; stop(rt, &board, &mut asking, kind, 0, Arrival::Came), 0);
+    assert_eq!(rt;
+        stop(rt, &board, &mut asking, kind, 0, Arrival::Came, &mut bells),
+        0
+    );
     taken_at_once(rt, &mut board, kind, &mut owner, &mut asking);
     Ok(())
 }
@@ -147,13 +170,35 @@ fn a_cancel_is_heeded_before_the_seat_waits(rt: HostRuntime) -> Result<(), Fail>
 /// seat leaves.
 fn after_plain_looks<R: Wait + Abort>(rt: &R, alloc: Global, kind: Kind) -> Result<(), AllocError> {
     let (mut board, mut owner, mut asking) = asked(rt, alloc, kind)?;
-    call_off(rt, &board, &mut owner, false, &[]);
+    let (_, mut bells) = bells(alloc, 2)?;
+    call_off(rt, &board, &mut owner, false, &mut bells);
     compare_cancelled(rt, &mut board, [264, 0], 0, [2, 0], 1);
-    wait(rt, &board, &mut asking, kind, 0, Arrival::Came, false);
+    wait(
+        rt,
+        &board,
+        &mut asking,
+        kind,
+        0,
+        Arrival::Came,
+        false,
+        &mut bells,
+    );
     compare_cancelled(rt, &mut board, [265, 0], 0, [2, 0], 1);
-    wait(rt, &board, &mut asking, kind, 0, Arrival::Woken, false);
+    wait(
+        rt,
+        &board,
+        &mut asking,
+        kind,
+        0,
+        Arrival::Woken,
+        false,
+        &mut bells,
+    );
     compare_cancelled(rt, &mut board, [267, 0], 0, [2, 0], 1);
-    assert_eq!(rt; stop(rt, &board, &mut asking, kind, 0, Arrival::Woken), 0);
+    assert_eq!(rt;
+        stop(rt, &board, &mut asking, kind, 0, Arrival::Woken, &mut bells),
+        0
+    );
     taken_at_once(rt, &mut board, kind, &mut owner, &mut asking);
     Ok(())
 }
@@ -174,17 +219,38 @@ fn called_off_then_dies<R: Wait + Abort>(
     sign: u64,
 ) -> Result<(), AllocError> {
     let (mut board, mut older, mut younger) = tied(rt, alloc, kind)?;
-    call_off(rt, &board, &mut older, false, &[]);
+    let (_, mut bells) = bells(alloc, 2)?;
+    call_off(rt, &board, &mut older, false, &mut bells);
     compare_cancelled(rt, &mut board, [264, 528], 0, [2, 0], 1);
-    wait(rt, &board, &mut older, kind, 1, Arrival::Came, false);
+    wait(
+        rt,
+        &board,
+        &mut older,
+        kind,
+        1,
+        Arrival::Came,
+        false,
+        &mut bells,
+    );
     compare_cancelled(rt, &mut board, [264, 529], sign, [2, 0], 1);
-    assert_eq!(rt; stop(rt, &board, &mut younger, kind, 0, Arrival::Came), 0);
+    assert_eq!(rt;
+        stop(rt, &board, &mut younger, kind, 0, Arrival::Came, &mut bells),
+        0
+    );
     compare(rt, &mut board, [264, 529], sign, [2, 0]);
     assert_eq!(rt;
-        back_off(rt, &board, &mut younger, kind, 0, Arrival::Came),
+        back_off(rt, &board, &mut younger, kind, 0, Arrival::Came, &mut bells),
         1
     );
-    untie(rt, &mut board, kind, &mut older, &mut younger, sign);
+    untie(
+        rt,
+        &mut board,
+        kind,
+        &mut older,
+        &mut younger,
+        sign,
+        &mut bells,
+    );
     Ok(())
 }
 
@@ -206,12 +272,32 @@ fn a_cancel_wakes_the_waiter(rt: HostRuntime) -> Result<(), Fail> {
     let kind = Kind::WoundWait;
     let alloc = rt.alloc();
     let (mut board, mut owner, mut asking) = asked(&rt, alloc, kind)?;
-    let (parker, wakers) = bell(alloc)?;
-    wait(&rt, &board, &mut asking, kind, 0, Arrival::Came, true);
-    call_off(&rt, &board, &mut owner, false, &wakers);
+    let (mut parker, mut bells) = bells(alloc, 2)?;
+    wait(
+        &rt,
+        &board,
+        &mut asking,
+        kind,
+        0,
+        Arrival::Came,
+        true,
+        &mut bells,
+    );
+    call_off(&rt, &board, &mut owner, false, &mut bells);
     compare_cancelled(&rt, &mut board, [265, 0], 0, [2, 0], 1);
     parker.park(&rt);
-    assert_eq!(rt; stop(&rt, &board, &mut asking, kind, 0, Arrival::Woken), 0);
+    assert_eq!(rt;
+        stop(
+            &rt,
+            &board,
+            &mut asking,
+            kind,
+            0,
+            Arrival::Woken,
+            &mut bells
+        ),
+        0
+    );
     taken_at_once(&rt, &mut board, kind, &mut owner, &mut asking);
     Ok(())
 }

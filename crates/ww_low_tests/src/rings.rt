@@ -8,18 +8,18 @@ ghost use Rattle.ww_view.specs.View.{owns};
 ghost use Rattle.ww_table.specs.Seat.{IsNew, locks_of, size_of, view_of};
 ghost use Rattle.ww_seat.specs.declared.look.Arrival.{Arrival};
 ghost use Rattle.ww_seat.specs.declared.look.Arrival.TheVariants.{Woken};
+ghost use Rattle.ww_seat.specs.Bells.{AreBellsOf};
 ghost use Rattle.ww_low_tests.specs.Looking.{Owns, Holds, MayLook, just, none};
 
 use crate::growths::twice;
 use crate::plain::{graph_of, node};
 use crate::tables::made;
-use crossbeam_utils::sync::{Parker, Unparker};
 use std::alloc::{AllocError, Global};
 use std::process::Abort;
 use std::sync::Wait;
 use std::test::Fail;
 use ww_queue::Kind;
-use ww_seat::{Arrival, Look, begin, end, give_waited, try_take, visit};
+use ww_seat::{Arrival, Bell, Look, Parker, begin, end, give_waited, try_take, visit};
 use ww_table::{Board, Seat16};
 
 /// The words that two locks and two seats use: owners, guards, signs, the stamp word and the front word.
@@ -158,13 +158,16 @@ pub(crate) fn wait<R: Wait + Abort>(
     lock: u32,
     arrival: Arrival,
     heeds: bool,
+    bells: &mut [Bell],
 )
     requires may { (o : List Bool) × MayLook board.now kind o lock arrival seat.old }
     requires lock { lock < size_of board.now }
-    ensures { (o : List Bool) → Owns board.now kind o seat.old → MayLook board.now kind o lock Woken seat.new }
+    requires bells { AreBellsOf board.now bells.old }
+    ensures bells { length bells.new ≡ length bells.old }
+    ensures may { (o : List Bool) → Owns board.now kind o seat.old → MayLook board.now kind o lock Woken seat.new }
 {
     let holds = holds_one(board, seat);
-    match visit(rt, seat, board, lock, arrival, heeds, holds, &[]) {
+    match visit(rt, seat, board, lock, arrival, heeds, holds, bells) {
         Look::Waits => {}
         Look::Locked(_) | Look::Deadlk(_) | Look::Interrupted(_) => panic!(rt; "it has to wait"),
     }
@@ -178,25 +181,36 @@ pub(crate) fn back_off<R: Wait + Abort>(
     kind: Kind,
     lock: u32,
     arrival: Arrival,
+    bells: &mut [Bell],
 ) -> u64
     requires may { (o : List Bool) × MayLook board.now kind o lock arrival seat.old }
     requires lock { lock < size_of board.now }
-    ensures { (o : List Bool) → Owns board.now kind o seat.old → Holds board.now kind o seat.new }
+    requires bells { AreBellsOf board.now bells.old }
+    ensures bells { length bells.new ≡ length bells.old }
+    ensures holds { (o : List Bool) → Owns board.now kind o seat.old → Holds board.now kind o seat.new }
 {
     let holds = holds_one(board, seat);
-    match visit(rt, seat, board, lock, arrival, false, holds, &[]) {
+    match visit(rt, seat, board, lock, arrival, false, holds, bells) {
         Look::Deadlk(met) => met,
         Look::Locked(_) | Look::Interrupted(_) | Look::Waits => panic!(rt; "it has to die"),
     }
 }
 
 /// Looks again at a lock, and takes it.
-fn take<R: Wait + Abort>(rt: &R, board: &Board, seat: &mut Seat16, kind: Kind, lock: u32)
+fn take<R: Wait + Abort>(
+    rt: &R,
+    board: &Board,
+    seat: &mut Seat16,
+    kind: Kind,
+    lock: u32,
+    bells: &mut [Bell],
+)
     requires may { (o : List Bool) × MayLook board.now kind o lock Woken seat.old }
     requires lock { lock < size_of board.now }
+    requires bells { AreBellsOf board.now bells.old }
 {
     let holds = holds_one(board, seat);
-    match visit(rt, seat, board, lock, Arrival::Woken, false, holds, &[]) {
+    match visit(rt, seat, board, lock, Arrival::Woken, false, holds, bells) {
         Look::Locked(_) => {}
         Look::Deadlk(_) | Look::Interrupted(_) | Look::Waits => panic!(rt; "the lock is free"),
     }
@@ -209,6 +223,7 @@ pub(crate) fn tied<R: Abort>(
     kind: Kind,
 ) -> Result<(Board, Seat16, Seat16), AllocError>
     ensures size { IfOk result (λ r. size_of r.0 ≡ 2) }
+    ensures count { IfOk result (λ r. r.0.table.shared.key.seats ≡ 2) }
     ensures older { IfOk result (λ r. Holds r.0 kind (just 0) r.1) }
     ensures younger { IfOk result (λ r. Holds r.0 kind (just 1) r.2) }
 {
@@ -221,7 +236,7 @@ pub(crate) fn tied<R: Abort>(
     Ok((board, older, younger))
 }
 
-/// The younger, which has backed off, gives its lock back, and the older takes it.
+/// The younger, which has backed off, releases its lock, and the older takes it.
 fn hand_back<R: Wait + Abort>(
     rt: &R,
     board: &mut Board,
@@ -229,17 +244,19 @@ fn hand_back<R: Wait + Abort>(
     older: &mut Seat16,
     younger: &mut Seat16,
     sign: u64,
+    bells: &mut [Bell],
 )
     requires size { size_of board.old ≡ 2 }
     requires older { MayLook board.old kind (just 0) 1 Woken older.old }
     requires younger { Holds board.old kind (just 1) younger.old }
+    requires bells { AreBellsOf board.old bells.old }
     ensures same { board.new ≡ board.old }
     ensures holds { Holds board.new kind none younger.new }
 {
     compare(rt, board, [264, 529], sign, [2, 0]);
-    give_waited(rt, younger, board, 1, &[]);
+    give_waited(rt, younger, board, 1, bells);
     compare(rt, board, [264, 1], sign, [2, 0]);
-    take(rt, board, older, kind, 1);
+    take(rt, board, older, kind, 1, bells);
     compare(rt, board, [264, 264], sign, [2, 0]);
 }
 
@@ -251,12 +268,14 @@ pub(crate) fn untie<R: Wait + Abort>(
     older: &mut Seat16,
     younger: &mut Seat16,
     sign: u64,
+    bells: &mut [Bell],
 )
     requires size { size_of board.old ≡ 2 }
     requires older { MayLook board.old kind (just 0) 1 Woken older.old }
     requires younger { Holds board.old kind (just 1) younger.old }
+    requires bells { AreBellsOf board.old bells.old }
 {
-    hand_back(rt, board, kind, older, younger, sign);
+    hand_back(rt, board, kind, older, younger, sign, bells);
     end(younger, board);
     compare(rt, board, [264, 264], 0, [2, 0]);
 }
@@ -281,13 +300,31 @@ fn older_first<R: Wait + Abort>(
     sign: u64,
 ) -> Result<(), AllocError> {
     let (mut board, mut older, mut younger) = tied(rt, alloc, kind)?;
-    wait(rt, &board, &mut older, kind, 1, Arrival::Came, false);
+    let (_, mut bells) = bells(alloc, 2)?;
+    wait(
+        rt,
+        &board,
+        &mut older,
+        kind,
+        1,
+        Arrival::Came,
+        false,
+        &mut bells,
+    );
     compare(rt, &mut board, [264, 529], sign, [2, 0]);
     assert_eq!(rt;
-        back_off(rt, &board, &mut younger, kind, 0, Arrival::Came),
+        back_off(rt, &board, &mut younger, kind, 0, Arrival::Came, &mut bells),
         1
     );
-    untie(rt, &mut board, kind, &mut older, &mut younger, sign);
+    untie(
+        rt,
+        &mut board,
+        kind,
+        &mut older,
+        &mut younger,
+        sign,
+        &mut bells,
+    );
     Ok(())
 }
 
@@ -296,13 +333,48 @@ fn older_first<R: Wait + Abort>(
 fn a_ring_is_undone_by_a_sign(rt: HostRuntime) -> Result<(), Fail> {
     let kind = Kind::WoundWait;
     let (mut board, mut older, mut younger) = tied(&rt, rt.alloc(), kind)?;
-    wait(&rt, &board, &mut younger, kind, 0, Arrival::Came, false);
+    let (_, mut bells) = bells(rt.alloc(), 2)?;
+    wait(
+        &rt,
+        &board,
+        &mut younger,
+        kind,
+        0,
+        Arrival::Came,
+        false,
+        &mut bells,
+    );
     compare(&rt, &mut board, [265, 528], 0, [2, 0]);
-    wait(&rt, &board, &mut older, kind, 1, Arrival::Came, false);
+    wait(
+        &rt,
+        &board,
+        &mut older,
+        kind,
+        1,
+        Arrival::Came,
+        false,
+        &mut bells,
+    );
     compare(&rt, &mut board, [265, 529], 1, [2, 0]);
-    let met = back_off(&rt, &board, &mut younger, kind, 0, Arrival::Woken);
+    let met = back_off(
+        &rt,
+        &board,
+        &mut younger,
+        kind,
+        0,
+        Arrival::Woken,
+        &mut bells,
+    );
     assert_eq!(rt; met, 1);
-    hand_back(&rt, &mut board, kind, &mut older, &mut younger, 1);
+    hand_back(
+        &rt,
+        &mut board,
+        kind,
+        &mut older,
+        &mut younger,
+        1,
+        &mut bells,
+    );
     clear_and_end(&rt, &mut board, &mut younger, kind);
     Ok(())
 }
@@ -319,26 +391,37 @@ fn a_younger_context_never_waits(rt: HostRuntime) -> Result<(), Fail> {
     Ok(())
 }
 
-/// What seat 1 sleeps on, and what wakes both seats.
-pub(crate) fn bell(alloc: Global) -> Result<(Parker, [Unparker; 2]), AllocError> {
-    let zero = Parker::new(alloc)?.unparker().clone()?;
+/// What seat 1 sleeps on, and a bell for each of so many seats.
+pub(crate) fn bells(alloc: Global, seats: u8) -> Result<(Parker, Vec<Bell>), AllocError>
+    ensures { IfOk result (λ r. length r.1.items ≡ seats) }
+{
     let parker = Parker::new(alloc)?;
-    let one = parker.unparker().clone()?;
-    Ok((parker, [zero, one]))
+    let mut bells = Vec::new(alloc);
+    for seat in 0..seats {
+        let wire = if seat == 1 {
+            parker.wire()?
+        } else {
+            Parker::new(alloc)?.wire()?
+        };
+        bells.push(Bell::hang(&wire)?)?;
+    }
+    Ok((parker, bells))
 }
 
-/// Gives lock 0 back, where somebody waits for it.
+/// Releases lock 0, where somebody waits for it.
 pub(crate) fn hand_over<R: Wait>(
     rt: &R,
     board: &Board,
     kind: Kind,
     owner: &mut Seat16,
-    wakers: &[Unparker],
+    bells: &mut [Bell],
 )
     requires size { size_of board.now ≡ 2 }
     requires owner { Holds board.now kind (just 0) owner.old }
+    requires bells { AreBellsOf board.now bells.old }
+    ensures bells { length bells.new ≡ length bells.old }
 {
-    give_waited(rt, owner, board, 0, wakers);
+    give_waited(rt, owner, board, 0, bells);
 }
 
 /// A waiter asks for the lock at its second look. So the lock is handed to it, and it is woken: else this would never
@@ -348,15 +431,33 @@ fn a_lock_is_handed_over(rt: HostRuntime) -> Result<(), Fail> {
     let kind = Kind::WoundWait;
     let alloc = rt.alloc();
     let (mut board, mut older, mut younger) = tied(&rt, alloc, kind)?;
-    let (parker, wakers) = bell(alloc)?;
-    wait(&rt, &board, &mut younger, kind, 0, Arrival::Came, false);
+    let (mut parker, mut bells) = bells(alloc, 2)?;
+    wait(
+        &rt,
+        &board,
+        &mut younger,
+        kind,
+        0,
+        Arrival::Came,
+        false,
+        &mut bells,
+    );
     compare(&rt, &mut board, [265, 528], 0, [2, 0]);
-    wait(&rt, &board, &mut younger, kind, 0, Arrival::Woken, false);
+    wait(
+        &rt,
+        &board,
+        &mut younger,
+        kind,
+        0,
+        Arrival::Woken,
+        false,
+        &mut bells,
+    );
     compare(&rt, &mut board, [267, 528], 0, [2, 0]);
-    hand_over(&rt, &board, kind, &mut older, &wakers);
+    hand_over(&rt, &board, kind, &mut older, &mut bells);
     compare(&rt, &mut board, [533, 528], 0, [2, 0]);
     parker.park(&rt);
-    take(&rt, &board, &mut younger, kind, 0);
+    take(&rt, &board, &mut younger, kind, 0, &mut bells);
     compare(&rt, &mut board, [528, 528], 0, [2, 0]);
     Ok(())
 }

@@ -48,7 +48,7 @@ impl Made {
     }
 }
 
-/// What a thread gives back.
+/// What a thread returns.
 #[derive(Drop)]
 struct Work {
     seat: Seat16,
@@ -109,7 +109,7 @@ fn come<R: Abort>(
     Ok(())
 }
 
-/// Takes what the threads gave back apart, where the seats come in the order of their numbers.
+/// Takes what the threads returned apart, where the seats come in the order of their numbers.
 fn apart<R: Abort>(
     rt: &R,
     board: &Board,

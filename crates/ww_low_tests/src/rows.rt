@@ -78,7 +78,7 @@ fn commit<R: Abort>(
     Ok(place)
 }
 
-/// Seat 0 makes room, commits that its node has 1 more, gives it back, and ends.
+/// Seat 0 makes room, commits that its node has 1 more, releases it, and ends.
 fn commit_and_give<R: Abort>(
     rt: &R,
     alloc: Global,
@@ -105,7 +105,7 @@ fn commit_and_give<R: Abort>(
     Ok(())
 }
 
-/// Seat 1 takes the first node too, gives both back, and ends.
+/// Seat 1 takes the first node too, releases both, and ends.
 fn take_both<R: Abort>(rt: &R, board: &mut Board, one: &mut Seat16)
     requires size { size_of board.old ≡ 2 }
     requires one { Did board.old (took (began (at_first 1)) 1) one.old }

@@ -88,7 +88,7 @@ fn makes_and_closes_at_once(rt: HostRuntime) -> Result<(), Fail> {
     Ok(())
 }
 
-/// A context takes node 0 and gives it back: the owner word in between, and whether both tries won.
+/// A context takes node 0 and releases it: the owner word in between, and whether both tries won.
 fn takes_once(board: &mut Board, seat: &mut Seat16) -> (u64, bool)
     requires node { 0 < length (first_graph board.old.table.shared.key) }
     requires new { (k : ℕ) × IsNew board.old.table.shared.table_id board.old.table.shared.key k seat.old }
@@ -102,7 +102,7 @@ fn takes_once(board: &mut Board, seat: &mut Seat16) -> (u64, bool)
     (word, gave)
 }
 
-/// The last seat of a table of two nodes takes node 0 and gives it back.
+/// The last seat of a table of two nodes takes node 0 and releases it.
 fn last_takes_once<R: Abort>(rt: &R, alloc: Global) -> Result<(u64, bool), AllocError> {
     let graph = graph_of(alloc, &[node(0, None); 2])?;
     if graph.size() == 0 {

@@ -1,23 +1,23 @@
 //! A look that condemns a waiter wakes it: by one thread with the seats of a board. Nothing else wakes that one, so
 //! each of these tests would never end if its look didn't.
 
-ghost use Rattle.std.specs.Prelude.{ℕ, ◌≡◌, ◌<◌, Bool, List, false, true, IfOk};
+ghost use Rattle.std.specs.Prelude.{ℕ, ◌≡◌, ◌<◌, Bool, List, false, true, length, IfOk};
 ghost use Rattle.ww_queue.specs.declared.kind.Kind.TheVariants.{WaitDie};
 ghost use Rattle.ww_table.specs.Seat.{IsNew, locks_of, size_of};
 ghost use Rattle.ww_seat.specs.declared.look.Arrival.TheVariants.{Came, Woken};
+ghost use Rattle.ww_seat.specs.Bells.{AreBellsOf};
 ghost use Rattle.ww_low_tests.specs.Looking.{Holds, MayLook, just, none};
 
 use crate::growths::twice;
 use crate::plain::{graph_of, node};
-use crate::rings::{back_off, bell, compare, hand_over, hold, holds_one, start, tied, wait};
+use crate::rings::{back_off, bells, compare, hand_over, hold, holds_one, start, tied, wait};
 use crate::tables::made;
-use crossbeam_utils::sync::Unparker;
 use std::alloc::{AllocError, Global};
 use std::process::Abort;
 use std::sync::Wait;
 use std::test::Fail;
 use ww_queue::Kind;
-use ww_seat::{Arrival, Look, try_take, visit};
+use ww_seat::{Arrival, Bell, Look, try_take, visit};
 use ww_table::{Board, Seat16};
 
 /// A board of two nodes, with its three seats.
@@ -28,6 +28,7 @@ fn three_seats<R: Abort>(
 ) -> Result<(Board, Seat16, Seat16, Seat16), AllocError>
     ensures size { IfOk result (λ r. size_of r.0 ≡ 2) }
     ensures locks { IfOk result (λ r. locks_of r.0 ≡ 64) }
+    ensures count { IfOk result (λ r. r.0.table.shared.key.seats ≡ 3) }
     ensures kind { IfOk result (λ r. r.0.table.shared.key.kind ≡ kind) }
     ensures zero { IfOk result (λ r. (k : ℕ) × IsNew r.0.table.shared.table_id r.0.table.shared.key k r.1) }
     ensures one { IfOk result (λ r. (k : ℕ) × IsNew r.0.table.shared.table_id r.0.table.shared.key k r.2) }
@@ -60,8 +61,12 @@ fn miss<R: Abort>(rt: &R, board: &Board, seat: &mut Seat16, kind: Kind)
 fn asleep<R: Wait + Abort>(
     rt: &R,
     alloc: Global,
+    bells: &mut [Bell],
 ) -> Result<(Board, Seat16, Seat16, Seat16), AllocError>
+    requires three { length bells.old ≡ 3 }
+    ensures three { length bells.new ≡ 3 }
     ensures size { IfOk result (λ r. size_of r.0 ≡ 2) }
+    ensures count { IfOk result (λ r. r.0.table.shared.key.seats ≡ 3) }
     ensures oldest { IfOk result (λ r. MayLook r.0 WaitDie none 0 Came r.1) }
     ensures sleeper { IfOk result (λ r. MayLook r.0 WaitDie (just 1) 0 Woken r.2) }
     ensures owner { IfOk result (λ r. Holds r.0 WaitDie (just 0) r.3) }
@@ -72,7 +77,16 @@ fn asleep<R: Wait + Abort>(
     hold(rt, &mut board, &mut sleeper, kind, 1, [0, 0]);
     hold(rt, &mut board, &mut owner, kind, 0, [0, 528]);
     miss(rt, &board, &mut oldest, kind);
-    wait(rt, &board, &mut sleeper, kind, 0, Arrival::Came, false);
+    wait(
+        rt,
+        &board,
+        &mut sleeper,
+        kind,
+        0,
+        Arrival::Came,
+        false,
+        bells,
+    );
     compare(rt, &mut board, [793, 528], 0, [3, 0]);
     Ok((board, oldest, sleeper, owner))
 }
@@ -84,13 +98,15 @@ fn look<R: Wait>(
     seat: &mut Seat16,
     kind: Kind,
     lock: u32,
-    wakers: &[Unparker],
+    bells: &mut [Bell],
 ) -> Look
     requires may { (o : List Bool) × MayLook board.now kind o lock Came seat.old }
     requires lock { lock < size_of board.now }
+    requires bells { AreBellsOf board.now bells.old }
+    ensures bells { length bells.new ≡ length bells.old }
 {
     let holds = holds_one(board, seat);
-    visit(rt, seat, board, lock, Arrival::Came, false, holds, wakers)
+    visit(rt, seat, board, lock, Arrival::Came, false, holds, bells)
 }
 
 /// The owner waits for another lock, and has to give way to an older context that comes to wait for it.
@@ -99,13 +115,35 @@ fn who_joins_wakes_the_owner(rt: HostRuntime) -> Result<(), Fail> {
     let kind = Kind::WoundWait;
     let alloc = rt.alloc();
     let (mut board, mut older, mut younger) = tied(&rt, alloc, kind)?;
-    let (parker, wakers) = bell(alloc)?;
-    wait(&rt, &board, &mut younger, kind, 0, Arrival::Came, false);
-    assert!(rt; matches!(look(&rt, &board, &mut older, kind, 1, &wakers), Look::Waits));
+    let (mut parker, mut bells) = bells(alloc, 2)?;
+    wait(
+        &rt,
+        &board,
+        &mut younger,
+        kind,
+        0,
+        Arrival::Came,
+        false,
+        &mut bells,
+    );
+    assert!(rt;
+        matches!(
+            look(&rt, &board, &mut older, kind, 1, &mut bells),
+            Look::Waits
+        )
+    );
     compare(&rt, &mut board, [265, 529], 1, [2, 0]);
     parker.park(&rt);
     assert_eq!(rt;
-        back_off(&rt, &board, &mut younger, kind, 0, Arrival::Woken),
+        back_off(
+            &rt,
+            &board,
+            &mut younger,
+            kind,
+            0,
+            Arrival::Woken,
+            &mut bells
+        ),
         1
     );
     Ok(())
@@ -116,43 +154,60 @@ fn who_joins_wakes_the_owner(rt: HostRuntime) -> Result<(), Fail> {
 fn who_joins_wakes_a_waiter(rt: HostRuntime) -> Result<(), Fail> {
     let kind = Kind::WaitDie;
     let alloc = rt.alloc();
-    let (mut board, mut oldest, mut sleeper, _owner) = asleep(&rt, alloc)?;
-    let (parker, wakers) = bell(alloc)?;
+    let (mut parker, mut bells) = bells(alloc, 3)?;
+    let (mut board, mut oldest, mut sleeper, _owner) = asleep(&rt, alloc, &mut bells)?;
     assert!(rt;
         matches!(
-            look(&rt, &board, &mut oldest, kind, 0, &wakers),
+            look(&rt, &board, &mut oldest, kind, 0, &mut bells),
             Look::Waits
         )
     );
     compare(&rt, &mut board, [793, 528], 1, [3, 0]);
     parker.park(&rt);
     assert_eq!(rt;
-        back_off(&rt, &board, &mut sleeper, kind, 0, Arrival::Woken),
+        back_off(
+            &rt,
+            &board,
+            &mut sleeper,
+            kind,
+            0,
+            Arrival::Woken,
+            &mut bells
+        ),
         1
     );
     compare(&rt, &mut board, [793, 528], 0, [3, 0]);
     Ok(())
 }
 
-/// The owner gives the lock back and wakes nobody, and an older context takes it past the list.
+/// The owner releases the lock, with bells that wake nobody here, and an older context takes it past the list.
 #[test]
 fn who_takes_past_the_list_wakes_a_waiter(rt: HostRuntime) -> Result<(), Fail> {
     let kind = Kind::WaitDie;
     let alloc = rt.alloc();
-    let (mut board, mut oldest, mut sleeper, mut owner) = asleep(&rt, alloc)?;
-    let (parker, wakers) = bell(alloc)?;
-    hand_over(&rt, &board, kind, &mut owner, &[]);
+    let (_, mut others) = bells(alloc, 3)?;
+    let (mut parker, mut bells) = bells(alloc, 3)?;
+    let (mut board, mut oldest, mut sleeper, mut owner) = asleep(&rt, alloc, &mut bells)?;
+    hand_over(&rt, &board, kind, &mut owner, &mut others);
     compare(&rt, &mut board, [1, 528], 0, [3, 0]);
     assert!(rt;
         matches!(
-            look(&rt, &board, &mut oldest, kind, 0, &wakers),
+            look(&rt, &board, &mut oldest, kind, 0, &mut bells),
             Look::Locked(_)
         )
     );
     compare(&rt, &mut board, [265, 528], 1, [3, 0]);
     parker.park(&rt);
     assert_eq!(rt;
-        back_off(&rt, &board, &mut sleeper, kind, 0, Arrival::Woken),
+        back_off(
+            &rt,
+            &board,
+            &mut sleeper,
+            kind,
+            0,
+            Arrival::Woken,
+            &mut bells
+        ),
         1
     );
     compare(&rt, &mut board, [264, 528], 0, [3, 0]);

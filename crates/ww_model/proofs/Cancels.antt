@@ -54,58 +54,76 @@ inside_unheeded c l s n inside none = dite (ℕ_discrete (c.heeded s) 0) (λ is.
     absurd (none h.0 (subst (λ m. Has (c.queue m) h.0) (l.guards.one_guard s k.0 n k.1.inside inside) h.1) h.2))
 
 pub keeps_cancels : KeepsBase (λ c. Cancels c.seats c.cancel c.heeded c.owner c.queue c.guard)
-keeps_cancels c (Fast s n) can l = moved c.seats c.cancel c.heeded c.owner (put c.owner n (Taken s)) c.queue c.queue c.guard c.guard (λ t m p k. record {
-  inside = k.inside;
-  waits = k.waits;
-  other = subst (λ o. (u : ℕ) × (u ≢ t) × ((o ≡ Taken u) ⊎ (o ≡ Handed u))) (sym (put_else c.owner n (Taken s) m
-      (λ is. let h = k.waits in let none : Has {A = Entry} [] h.0 = subst (λ q. Has q h.0) (ap c.queue is ∙ can.idle.empty) h.1 in none))) k.other;
-}) l.cancels
-keeps_cancels c (FastGive s n) can l = moved c.seats c.cancel c.heeded c.owner (put c.owner n Nobody) c.queue c.queue c.guard c.guard (λ t m p k. record {
-  inside = k.inside;
-  waits = k.waits;
-  other = subst (λ o. (u : ℕ) × (u ≢ t) × ((o ≡ Taken u) ⊎ (o ≡ Handed u))) (sym (put_else c.owner n Nobody m
-      (λ is. let h = k.waits in let none : Has {A = Entry} [] h.0 = subst (λ q. Has q h.0) (ap c.queue is ∙ can.empty) h.1 in none))) k.other;
-}) l.cancels
-keeps_cancels c (Guard s n) can l = moved c.seats c.cancel c.heeded c.owner c.owner c.queue c.queue c.guard (put c.guard n (suc s)) (λ t m p k. record {
-  inside = put_else c.guard n (suc s) m (λ is. let z = ap c.guard is in let f = can.free in let g = k.inside in omega arith) ∙ k.inside;
-  waits = k.waits;
-  other = k.other;
-}) l.cancels
-keeps_cancels c (Unguard s n) can l = moved c.seats c.cancel c.heeded c.owner c.owner c.queue c.queue c.guard (put c.guard n 0) (λ t m p k. record {
-  inside = put_else c.guard n 0 m (elsewhere c.guard s t n m can.inside.guard k.inside (λ is. let z = ap c.heeded is in let y = can.unheeded in omega arith)) ∙ k.inside;
-  waits = k.waits;
-  other = k.other;
-}) l.cancels
-keeps_cancels c (Join s n) can l = moved c.seats c.cancel c.heeded c.owner c.owner c.queue (put c.queue n (joined (c.queue n) (waiter_of c s))) c.guard c.guard (λ t m p k. record {
-  inside = k.inside;
-  waits = let h = k.waits in (
-    h.0,
-    put_cases c.queue n (joined (c.queue n) (waiter_of c s)) m (λ q. Has q h.0)
-        (λ is. joined_old (c.queue n) (waiter_of c s) h.0 (subst (λ x. Has (c.queue x) h.0) is h.1)) (λ _. h.1),
-    h.2,
-  );
-  other = k.other;
-}) l.cancels
-keeps_cancels c (Take s n) can l = moved c.seats c.cancel c.heeded c.owner (put c.owner n (Taken s)) c.queue (put c.queue n (left (c.queue n) s)) c.guard c.guard (λ t m p k.
+keeps_cancels c (Fast s n) can l = moved c.seats c.cancel c.heeded c.owner (put c.owner n (Taken s)) c.queue c.queue
+    c.guard c.guard (λ t m p k. record {
+      inside = k.inside;
+      waits = k.waits;
+      other = subst (λ o. (u : ℕ) × (u ≢ t) × ((o ≡ Taken u) ⊎ (o ≡ Handed u))) (sym (put_else c.owner n (Taken s) m
+          (λ is. let h = k.waits in let none : Has {A = Entry} [] h.0 =
+          subst (λ q. Has q h.0) (ap c.queue is ∙ can.idle.empty) h.1 in none))) k.other;
+    }) l.cancels
+keeps_cancels c (FastGive s n) can l =
+    moved c.seats c.cancel c.heeded c.owner (put c.owner n Nobody) c.queue c.queue c.guard c.guard
+    (λ t m p k. record {
+      inside = k.inside;
+      waits = k.waits;
+      other = subst (λ o. (u : ℕ) × (u ≢ t) × ((o ≡ Taken u) ⊎ (o ≡ Handed u))) (sym (put_else c.owner n Nobody m
+          (λ is. let h = k.waits in let none : Has {A = Entry} [] h.0 =
+          subst (λ q. Has q h.0) (ap c.queue is ∙ can.empty) h.1 in none))) k.other;
+    }) l.cancels
+keeps_cancels c (Guard s n) can l = moved c.seats c.cancel c.heeded c.owner c.owner c.queue c.queue c.guard
+    (put c.guard n (suc s)) (λ t m p k. record {
+      inside = put_else c.guard n (suc s) m (λ is. let z = ap c.guard is in let f = can.free in let g = k.inside in omega arith) ∙ k.inside;
+      waits = k.waits;
+      other = k.other;
+    }) l.cancels
+keeps_cancels c (Unguard s n) can l = moved c.seats c.cancel c.heeded c.owner c.owner c.queue c.queue c.guard
+    (put c.guard n 0) (λ t m p k. record {
+      inside = put_else c.guard n 0 m (elsewhere c.guard s t n m can.inside.guard k.inside
+          (λ is. let z = ap c.heeded is in let y = can.unheeded in omega arith)) ∙ k.inside;
+      waits = k.waits;
+      other = k.other;
+    }) l.cancels
+keeps_cancels c (Join s n) can l = moved c.seats c.cancel c.heeded c.owner c.owner c.queue
+    (put c.queue n (joined (c.queue n) (waiter_of c s))) c.guard c.guard (λ t m p k. record {
+      inside = k.inside;
+      waits = let h = k.waits in (
+        h.0,
+        put_cases c.queue n (joined (c.queue n) (waiter_of c s)) m (λ q. Has q h.0)
+            (λ is. joined_old (c.queue n) (waiter_of c s) h.0 (subst (λ x. Has (c.queue x) h.0) is h.1)) (λ _. h.1),
+        h.2,
+      );
+      other = k.other;
+    }) l.cancels
+keeps_cancels c (Take s n) can l = moved c.seats c.cancel c.heeded c.owner (put c.owner n (Taken s)) c.queue
+    (put c.queue n (left (c.queue n) s)) c.guard c.guard (λ t m p k.
     let far : m ≢ n = elsewhere c.guard s t n m can.inside.guard k.inside
-    (λ is. not_free (c.owner n) s (subst (λ x. HasOther c x n) is (subst (HasOther c t) (l.guards.one_guard t m n k.inside (can.inside.guard ∙ ap suc (sym is))) k.other)) can.free) in record {
+    (λ is. not_free (c.owner n) s (subst (λ x. HasOther c x n) is
+    (subst (HasOther c t) (l.guards.one_guard t m n k.inside (can.inside.guard ∙ ap suc (sym is))) k.other))
+    can.free) in record {
       inside = k.inside;
       waits = subst (λ q. Stands q t) (sym (put_else c.queue n (left (c.queue n) s) m far)) k.waits;
       other = subst (λ o. (u : ℕ) × (u ≢ t) × ((o ≡ Taken u) ⊎ (o ≡ Handed u))) (sym (put_else c.owner n (Taken s) m far)) k.other;
     }) l.cancels
-keeps_cancels c (Give s n) can l = moved c.seats c.cancel c.heeded c.owner (put c.owner n (given_to (c.asked n) (c.queue n))) c.queue c.queue c.guard c.guard (λ t m p k.
+keeps_cancels c (Give s n) can l = moved c.seats c.cancel c.heeded c.owner
+    (put c.owner n (given_to (c.asked n) (c.queue n))) c.queue c.queue c.guard c.guard (λ t m p k.
     let far : m ≢ n = elsewhere c.guard s t n m can.inside.guard k.inside
-    (λ is. not_own (c.owner n) s (subst (λ x. HasOther c x n) is (subst (HasOther c t) (l.guards.one_guard t m n k.inside (can.inside.guard ∙ ap suc (sym is))) k.other)) (inl can.owns)) in record {
+    (λ is. not_own (c.owner n) s (subst (λ x. HasOther c x n) is
+    (subst (HasOther c t) (l.guards.one_guard t m n k.inside (can.inside.guard ∙ ap suc (sym is))) k.other))
+    (inl can.owns)) in record {
       inside = k.inside;
       waits = k.waits;
-      other = subst (λ o. (u : ℕ) × (u ≢ t) × ((o ≡ Taken u) ⊎ (o ≡ Handed u))) (sym (put_else c.owner n (given_to (c.asked n) (c.queue n)) m far)) k.other;
+      other = subst (λ o. (u : ℕ) × (u ≢ t) × ((o ≡ Taken u) ⊎ (o ≡ Handed u)))
+          (sym (put_else c.owner n (given_to (c.asked n) (c.queue n)) m far)) k.other;
     }) l.cancels
-keeps_cancels c (Die s n) can l = moved c.seats c.cancel c.heeded c.owner c.owner c.queue (put c.queue n (left (c.queue n) s)) c.guard c.guard (λ t m p k. record {
-  inside = k.inside;
-  waits = subst (λ q. Stands q t) (sym (put_else c.queue n (left (c.queue n) s) m
-      (elsewhere c.guard s t n m can.inside.guard k.inside (λ is. let z = ap c.heeded is in let y = can.unheeded in omega arith)))) k.waits;
-  other = k.other;
-}) l.cancels
+keeps_cancels c (Die s n) can l = moved c.seats c.cancel c.heeded c.owner c.owner c.queue
+    (put c.queue n (left (c.queue n) s)) c.guard c.guard (λ t m p k. record {
+      inside = k.inside;
+      waits = subst (λ q. Stands q t) (sym (put_else c.queue n (left (c.queue n) s) m
+          (elsewhere c.guard s t n m can.inside.guard k.inside
+          (λ is. let z = ap c.heeded is in let y = can.unheeded in omega arith)))) k.waits;
+      other = k.other;
+    }) l.cancels
 keeps_cancels c (Leave s n) can l = record {
   set = l.cancels.set;
   heeded = λ t. put_cases c.heeded s 0 t (λ x. x ≤ c.seats) (λ _. omega arith) (λ _. l.cancels.heeded t);
@@ -115,7 +133,9 @@ keeps_cancels c (Leave s n) can l = record {
         k.0,
         record {
           inside = k.1.inside;
-          waits = subst (λ q. Stands q t) (sym (put_else c.queue n (left (c.queue n) s) k.0 (elsewhere c.guard s t n k.0 can.inside.guard k.1.inside isnt))) k.1.waits;
+          waits = subst (λ q. Stands q t) (sym
+              (put_else c.queue n (left (c.queue n) s) k.0
+              (elsewhere c.guard s t n k.0 can.inside.guard k.1.inside isnt))) k.1.waits;
           other = k.1.other;
         },
       ));
@@ -124,7 +144,8 @@ keeps_cancels c (Heed s n) can l = record {
   set = λ t. put_cases c.cancel s 0 t (λ x. x ≤ c.seats) (λ _. omega arith) (λ _. l.cancels.set t);
   heeded = λ t. put_cases c.heeded s (c.cancel s) t (λ x. x ≤ c.seats) (λ _. l.cancels.set s) (λ _. l.cancels.heeded t);
   heeding = λ t. put_cases c.heeded s (c.cancel s) t (λ x. 0 < x → (m : ℕ) × IsKept c.owner c.queue c.guard t m)
-      (λ is _. subst (λ x. (m : ℕ) × IsKept c.owner c.queue c.guard x m) (sym is) (n, record { inside = can.inside.guard; waits = can.waits; other = can.other }))
+      (λ is _. subst (λ x. (m : ℕ) × IsKept c.owner c.queue c.guard x m) (sym is)
+      (n, record { inside = can.inside.guard; waits = can.waits; other = can.other }))
       (λ _. l.cancels.heeding t);
 }
 keeps_cancels c (Cancel s v) can l = record {

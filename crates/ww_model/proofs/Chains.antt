@@ -37,7 +37,11 @@ none_more a h (b ∷ bs) none apart = (none.0, none_more a h bs none.1 apart)
 
 pub differ_more : (r : List ℕ) (h : ℕ) → Differ r → ¬ IsOneOf h r → Differ (r ++ h ∷ [])
 differ_more [] h differ new = (tt, tt)
-differ_more (a ∷ bs) h differ new = (none_more a h bs differ.0 (λ is. new (inl (sym is))), differ_more bs h differ.1 (λ later. new (inr later)))
+differ_more (a ∷ bs) h differ new = (
+  none_more a h bs differ.0 (λ is. new (inl (sym is))),
+  differ_more bs h differ.1
+      (λ later. new (inr later)),
+)
 
 -- the seats as waiters, so that as many fit as in a wait list
 as_waiters : List ℕ → List Entry
@@ -52,7 +56,11 @@ waiter_from (a ∷ bs) e h = ⊎_elim (λ is. inl (ap (λ (x : Entry). x.seat) i
 waiters_once : (r : List ℕ) → Differ r → Once (as_waiters r)
 unfolding as_waiters
 waiters_once [] differ = tt
-waiters_once (a ∷ bs) differ = (λ e h is. not_one_of a bs differ.0 (subst (λ (x : ℕ). IsOneOf x bs) is (waiter_from bs e h)), waiters_once bs differ.1)
+waiters_once (a ∷ bs) differ = (
+  λ e h is. not_one_of a bs differ.0
+      (subst (λ (x : ℕ). IsOneOf x bs) is (waiter_from bs e h)),
+  waiters_once bs differ.1,
+)
 
 length-as_waiters : (r : List ℕ) → length (as_waiters r) ≡ length r
 unfolding as_waiters
@@ -152,16 +160,21 @@ reaches_waits c x z (b ∷ bs, l) = (b, l.0)
 
 -- each of a walk is a seat
 leading_seats : (c : State) → Reached c → (a : ℕ) (bs : List ℕ) (z x : ℕ) → Leads c a bs z → (x ≡ a) ⊎ IsOneOf x bs → x < c.seats
-leading_seats c run a [] z x l one = ⊎_elim (λ is. subst (λ (y : ℕ). y < c.seats) (sym is) (waiter_is_seat c run a z l)) (λ none. absurd none) one
-leading_seats c run a (b ∷ bs) z x l one = ⊎_elim (λ is. subst (λ (y : ℕ). y < c.seats) (sym is) (waiter_is_seat c run a b l.0)) (leading_seats c run b bs z x l.1) one
+leading_seats c run a [] z x l one = ⊎_elim
+    (λ is. subst (λ (y : ℕ). y < c.seats) (sym is) (waiter_is_seat c run a z l)) (λ none. absurd none) one
+leading_seats c run a (b ∷ bs) z x l one =
+    ⊎_elim (λ is. subst (λ (y : ℕ). y < c.seats) (sym is) (waiter_is_seat c run a b l.0))
+    (leading_seats c run b bs z x l.1) one
 
 pub walked_seats : (c : State) → Reached c → (a : ℕ) (r : List ℕ) (h x : ℕ) → Walked c a r h → IsOneOf x r → x < c.seats
 walked_seats c run a [] h x walked one = absurd one
 walked_seats c run a (y ∷ ys) h x walked one = leading_seats c run a ys h x walked.1 (⊎_elim (λ is. inl (is ∙ walked.0)) inr one)
 
 -- a walk that comes to a new seat has not been to all seats
-pub walk_has_room : (c : State) → Reached c → (a : ℕ) (r : List ℕ) (h : ℕ) → Walked c a r h → Differ r → ¬ IsOneOf h r → h < c.seats → length r < c.seats
-walk_has_room c run a r h walked differ new seat = subst (λ (k : ℕ). k < c.seats) (length-as_waiters r) (room_for c.seats (as_waiters r) h (waiters_once r differ)
+pub walk_has_room : (c : State) → Reached c → (a : ℕ) (r : List ℕ) (h : ℕ) → Walked c a r h → Differ r
+    → ¬ IsOneOf h r → h < c.seats → length r < c.seats
+walk_has_room c run a r h walked differ new seat =
+    subst (λ (k : ℕ). k < c.seats) (length-as_waiters r) (room_for c.seats (as_waiters r) h (waiters_once r differ)
     (λ e there. walked_seats c run a r h e.seat walked (waiter_from r e there))
     (λ e there is. new (subst (λ (x : ℕ). IsOneOf x r) is (waiter_from r e there))) seat)
 
@@ -173,7 +186,8 @@ stays c l h back cycle y (w ∷ ws) k within [] z m = inr (within z (inl (waits_
 stays c l h back cycle y [] k within (b ∷ bs) z m =
     stays c l h back cycle h back cycle (λ x one. one) bs z (subst (λ (x : ℕ). Leads c x bs z) (waits_once c l y b h m.0 k) m.1)
 stays c l h back cycle y (w ∷ ws) k within (b ∷ bs) z m =
-    stays c l h back cycle w ws k.1 (λ x one. within x (inr one)) bs z (subst (λ (x : ℕ). Leads c x bs z) (waits_once c l y b w m.0 k.0) m.1)
+    stays c l h back cycle w ws k.1 (λ x one. within x (inr one)) bs z
+    (subst (λ (x : ℕ). Leads c x bs z) (waits_once c l y b w m.0 k.0) m.1)
 
 -- ---- two rings
 
@@ -211,7 +225,8 @@ turned c (a ∷ bs) x cycle (inr later) = let parts = cut c a bs a x cycle later
       (⊎_elim inl (λ after. inr (either_one_of parts.after (a ∷ parts.before) y (inl after)))) (parts.each y old)) one;
 }
 
-same_chain : (c : State) → IsLawful c → (a x : ℕ) (bs ds : List ℕ) → Leads c x bs a → Leads c x ds a → IsNoneOf a bs → IsNoneOf a ds → bs ≡ ds
+same_chain : (c : State) → IsLawful c → (a x : ℕ) (bs ds : List ℕ) → Leads c x bs a → Leads c x ds a → IsNoneOf a bs
+    → IsNoneOf a ds → bs ≡ ds
 same_chain c l a x [] [] v w none none' = refl
 same_chain c l a x [] (d ∷ ds) v w none none' = absurd (none'.0 (waits_once c l x a d v w.0))
 same_chain c l a x (b ∷ bs) [] v w none none' = absurd (none.0 (waits_once c l x a b w v.0))
@@ -240,13 +255,15 @@ no_return c run a (x ∷ xs) h walked differ (inr later) other reaches = let par
     (stays c (reached_is_lawful c run) h parts.after parts.from h parts.after parts.from (λ y one. one) reaches.0 a reaches.1)
 
 -- a walk that comes back to its first seat is a ring
-pub ring_walked : (c : State) → Reached c → (a : ℕ) (r : List ℕ) (h : ℕ) → Walked c a r h → Differ r → IsOneOf h r → h ≡ a → IsRingFrom c a r
+pub ring_walked : (c : State) → Reached c → (a : ℕ) (r : List ℕ) (h : ℕ) → Walked c a r h → Differ r → IsOneOf h r
+    → h ≡ a → IsRingFrom c a r
 ring_walked c run a [] h walked differ one is = absurd one
-ring_walked c run a (x ∷ xs) h walked differ one is = let cycle : IsCycle c (x ∷ xs) = subst (λ (y : ℕ). Leads c y xs y) (sym walked.0) (subst (Leads c a xs) is walked.1) in record {
-  rest = xs;
-  parts = ap (λ (y : ℕ). y ∷ xs) walked.0;
-  ring_is = record { cycle = cycle; contexts = cycles_are_of_contexts c (reached_is_lawful c run) (x ∷ xs) cycle; different = differ };
-}
+ring_walked c run a (x ∷ xs) h walked differ one is = let cycle : IsCycle c (x ∷ xs) =
+    subst (λ (y : ℕ). Leads c y xs y) (sym walked.0) (subst (Leads c a xs) is walked.1) in record {
+      rest = xs;
+      parts = ap (λ (y : ℕ). y ∷ xs) walked.0;
+      ring_is = record { cycle = cycle; contexts = cycles_are_of_contexts c (reached_is_lawful c run) (x ∷ xs) cycle; different = differ };
+    }
 
 -- ---- what a search of the locks finds
 
@@ -262,9 +279,11 @@ pub one_of_new : (r : List ℕ) (h : ℕ) → IsOneOf h (r ++ h ∷ [])
 one_of_new [] h = inl refl
 one_of_new (y ∷ ys) h = inr (one_of_new ys h)
 
-pub owned_within : (owners : List Holder) (n b : ℕ) → (get_or owners n Nobody ≡ Taken b) ⊎ (get_or owners n Nobody ≡ Handed b) → n < length owners
+pub owned_within : (owners : List Holder) (n b : ℕ) → (get_or owners n Nobody ≡ Taken b)
+    ⊎ (get_or owners n Nobody ≡ Handed b) → n < length owners
 owned_within owners n b owned = ⊎_elim (λ within. within) (λ past. let free = get_or_past owners n Nobody past in
-    absurd (⊎_elim (λ is. nobody_owns b (inl (sym free ∙ is))) (λ is. nobody_owns b (inr (sym free ∙ is))) owned)) (cases_lt n (length owners))
+    absurd (⊎_elim (λ is. nobody_owns b (inl (sym free ∙ is))) (λ is. nobody_owns b (inr (sym free ∙ is))) owned))
+    (cases_lt n (length owners))
 
 pub awaited_told : (c : State) (a n : ℕ) (o : Option ℕ) → Stands (c.queue n) a → c.guard n ≢ suc a →
     Finds (λ b. (a ≢ b) × ((c.owner n ≡ Taken b) ⊎ (c.owner n ≡ Handed b))) o → Finds (λ b. WaitsAt c a b n) o
@@ -273,16 +292,21 @@ awaited_told c a n (Some b) stands outside told = record { stands = stands; outs
 
 pub one_tells : (s : ℕ) (r : List ℕ) → list_any (λ y. y == s) r ≡ true → IsOneOf s r
 one_tells s [] is = absurd (true≢false (sym is))
-one_tells s (y ∷ ys) is = ⊎_elim (λ here. inl (sym (same_number y s here))) (λ later. inr (one_tells s ys later)) (or_true (y == s) (list_any (λ x. x == s) ys) is)
+one_tells s (y ∷ ys) is = ⊎_elim (λ here. inl (sym (same_number y s here))) (λ later. inr (one_tells s ys later))
+    (or_true (y == s) (list_any (λ x. x == s) ys) is)
 
 pub tells_one : (s : ℕ) (r : List ℕ) → IsOneOf s r → list_any (λ y. y == s) r ≡ true
 tells_one s [] one = absurd one
-tells_one s (y ∷ ys) one = true_or (y == s) (list_any (λ x. x == s) ys) (⊎_elim (λ is. inl (number_same y s (sym is))) (λ later. inr (tells_one s ys later)) one)
+tells_one s (y ∷ ys) one = true_or (y == s) (list_any (λ x. x == s) ys)
+    (⊎_elim (λ is. inl (number_same y s (sym is))) (λ later. inr (tells_one s ys later)) one)
 
 pub first_of_ring : (c : State) → Reached c → (ring : List ℕ) → IsRing c ring → (a : ℕ) × (a < c.seats) × IsOneOf a ring
 first_of_ring c run [] ring = absurd ring.cycle
 first_of_ring c run (a ∷ bs) ring = (a, (let w = reaches_waits c a a (bs, ring.cycle) in waiter_is_seat c run a w.0 w.1), inl refl)
 
 -- one lock more has been looked at
-pub not_there : (c : State) (a n : ℕ) → ((m b : ℕ) → m < n → ¬ WaitsAt c a b m) → ((b : ℕ) → ¬ WaitsAt c a b n) → (m b : ℕ) → m < n + 1 → ¬ WaitsAt c a b m
-not_there c a n before here m b within w = ⊎_elim (λ less. before m b less w) (λ past. let same : m ≡ n = omega arith in here b (subst (WaitsAt c a b) same w)) (cases_lt m n)
+pub not_there : (c : State) (a n : ℕ) → ((m b : ℕ) → m < n → ¬ WaitsAt c a b m) → ((b : ℕ) → ¬ WaitsAt c a b n)
+    → (m b : ℕ) → m < n + 1 → ¬ WaitsAt c a b m
+not_there c a n before here m b within w =
+    ⊎_elim (λ less. before m b less w) (λ past. let same : m ≡ n = omega arith in
+    here b (subst (WaitsAt c a b) same w)) (cases_lt m n)

@@ -10,17 +10,20 @@ use Rattle.ww_model.proofs.Chains.{one_of_more, one_of_old, one_of_new}
 
 module _ (c : State) where
   pub found_same : (seats : List ℕ) (s : ℕ) (o : Option ℕ) → CondemnedOf c seats o → ¬ IsCondemned c s → CondemnedOf c (seats ++ s ∷ []) o
-  found_same seats s None found free = λ a is. ⊎_elim (λ old. found a (old, is.1)) (λ same. free (subst (IsCondemned c) same is.1)) (one_of_more seats s a is.0)
+  found_same seats s None found free = λ a is. ⊎_elim (λ old. found a (old, is.1))
+      (λ same. free (subst (IsCondemned c) same is.1)) (one_of_more seats s a is.0)
   found_same seats s (Some a) found free = record {
     member = one_of_old seats s a found.member;
     condemned = found.condemned;
-    least = λ b one is. ⊎_elim (λ old. found.least b old is) (λ same. absurd (free (subst (IsCondemned c) same is))) (one_of_more seats s b one);
+    least = λ b one is. ⊎_elim (λ old. found.least b old is) (λ same. absurd (free (subst (IsCondemned c) same is)))
+        (one_of_more seats s b one);
   }
 
   lesser : (a s : ℕ) → ((min a s ≡ a) × (a ≤ s)) ⊎ ((min a s ≡ s) × (s ≤ a))
   lesser a s = ⊎_elim (λ less. inl (omega arith, omega arith)) (λ more. inr (omega arith, more)) (cases_lt a s)
 
-  pub found_more : (seats : List ℕ) (s : ℕ) (o : Option ℕ) → CondemnedOf c seats o → IsCondemned c s → CondemnedOf c (seats ++ s ∷ []) (Some (lesser_of o s))
+  pub found_more : (seats : List ℕ) (s : ℕ) (o : Option ℕ) → CondemnedOf c seats o → IsCondemned c s
+      → CondemnedOf c (seats ++ s ∷ []) (Some (lesser_of o s))
   found_more seats s None found here = record {
     member = one_of_new seats s;
     condemned = here;
@@ -35,7 +38,8 @@ module _ (c : State) where
       (λ second. subst (IsLeastCondemned c (seats ++ s ∷ [])) (sym second.0) (record {
         member = one_of_new seats s;
         condemned = here;
-        least = λ b one is. ⊎_elim (λ old. let a_least = found.least b old is in omega (arith, second.1)) (λ same. omega arith) (one_of_more seats s b one);
+        least = λ b one is. ⊎_elim (λ old. let a_least = found.least b old is in omega (arith, second.1))
+            (λ same. omega arith) (one_of_more seats s b one);
       }))
       (lesser a s)
 

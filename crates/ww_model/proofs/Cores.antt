@@ -14,32 +14,52 @@ use Rattle.ww_model.specs.Step.{Steps}
 use Rattle.ww_model.proofs.Slots.{seen, stored}
 
 module _ (s : Snapshot) where
-  pub stamp_set : (i a : ℕ) → i < length s.stamps → state_of (record s { stamps = set s.stamps i a }) ≡ record (state_of s) { stamp = put (state_of s).stamp i a }
-  stamp_set i a within = ap (λ (k : ℕ). record (state_of s) { seats = k; stamp = λ n. get_or (set s.stamps i a) n 0 }) (length-set s.stamps i a)
+  pub stamp_set : (i a : ℕ) → i < length s.stamps
+      → state_of (record s { stamps = set s.stamps i a })
+      ≡ record (state_of s) { stamp = put (state_of s).stamp i a }
+  stamp_set i a within = ap (λ (k : ℕ). record (state_of s) {
+    seats = k;
+    stamp = λ n. get_or (set s.stamps i a) n 0;
+  }) (length-set s.stamps i a)
       ∙ ap (λ (f : ℕ → ℕ). record (state_of s) { stamp = f }) (stored s.stamps i a 0 within)
 
-  pub sign_set : (i a : ℕ) → i < length s.signs → state_of (record s { signs = set s.signs i a }) ≡ record (state_of s) { sign = put (state_of s).sign i a }
+  pub sign_set : (i a : ℕ) → i < length s.signs
+      → state_of (record s { signs = set s.signs i a }) ≡ record (state_of s) { sign = put (state_of s).sign i a }
   sign_set i a within = ap (λ (f : ℕ → ℕ). record (state_of s) { sign = f }) (stored s.signs i a 0 within)
 
-  pub owner_set : (i : ℕ) (a : Holder) → i < length s.owners → state_of (record s { owners = set s.owners i a }) ≡ record (state_of s) { owner = put (state_of s).owner i a }
-  owner_set i a within = ap (λ (k : ℕ). record (state_of s) { locks = k; owner = λ n. get_or (set s.owners i a) n Nobody }) (length-set s.owners i a)
+  pub owner_set : (i : ℕ) (a : Holder) → i < length s.owners
+      → state_of (record s { owners = set s.owners i a })
+      ≡ record (state_of s) { owner = put (state_of s).owner i a }
+  owner_set i a within = ap (λ (k : ℕ). record (state_of s) {
+    locks = k;
+    owner = λ n. get_or (set s.owners i a) n Nobody;
+  }) (length-set s.owners i a)
       ∙ ap (λ (f : ℕ → Holder). record (state_of s) { owner = f }) (stored s.owners i a Nobody within)
 
-  pub asked_set : (i : ℕ) (a : Bool) → i < length s.asked → state_of (record s { asked = set s.asked i a }) ≡ record (state_of s) { asked = put (state_of s).asked i a }
+  pub asked_set : (i : ℕ) (a : Bool) → i < length s.asked
+      → state_of (record s { asked = set s.asked i a }) ≡ record (state_of s) { asked = put (state_of s).asked i a }
   asked_set i a within = ap (λ (f : ℕ → Bool). record (state_of s) { asked = f }) (stored s.asked i a false within)
 
-  pub queue_set : (i : ℕ) (a : List Entry) → i < length s.queues → state_of (record s { queues = set s.queues i a }) ≡ record (state_of s) { queue = put (state_of s).queue i a }
+  pub queue_set : (i : ℕ) (a : List Entry) → i < length s.queues
+      → state_of (record s { queues = set s.queues i a })
+      ≡ record (state_of s) { queue = put (state_of s).queue i a }
   queue_set i a within = ap (λ (f : ℕ → List Entry). record (state_of s) { queue = f }) (stored s.queues i a [] within)
 
-  pub guard_set : (i : ℕ) (a : Option ℕ) → i < length s.guards → state_of (record s { guards = set s.guards i a }) ≡ record (state_of s) { guard = put (state_of s).guard i (guard_number a) }
+  pub guard_set : (i : ℕ) (a : Option ℕ) → i < length s.guards
+      → state_of (record s { guards = set s.guards i a })
+      ≡ record (state_of s) { guard = put (state_of s).guard i (guard_number a) }
   guard_set i a within = ap (λ (f : ℕ → ℕ). record (state_of s) { guard = f }) (seen guard_number s.guards i a None within)
 
 -- (of the list of cancels, and of those that were heeded)
 module _ (s : Snapshot) where
-  pub cancel_set : (i a : ℕ) → i < length s.cancels → state_of (record s { cancels = set s.cancels i a }) ≡ record (state_of s) { cancel = put (state_of s).cancel i a }
+  pub cancel_set : (i a : ℕ) → i < length s.cancels
+      → state_of (record s { cancels = set s.cancels i a })
+      ≡ record (state_of s) { cancel = put (state_of s).cancel i a }
   cancel_set i a within = ap (λ (f : ℕ → ℕ). record (state_of s) { cancel = f }) (stored s.cancels i a 0 within)
 
-  pub heeded_set : (i a : ℕ) → i < length s.heeded → state_of (record s { heeded = set s.heeded i a }) ≡ record (state_of s) { heeded = put (state_of s).heeded i a }
+  pub heeded_set : (i a : ℕ) → i < length s.heeded
+      → state_of (record s { heeded = set s.heeded i a })
+      ≡ record (state_of s) { heeded = put (state_of s).heeded i a }
   heeded_set i a within = ap (λ (f : ℕ → ℕ). record (state_of s) { heeded = f }) (stored s.heeded i a 0 within)
 
 -- the lists after writes that keep their lengths
@@ -76,11 +96,13 @@ pub record Makes (s : Snapshot) (e : Event) (t : Snapshot) : Type 0 where
 pub kept : (old s t : Snapshot) (e : Event) → s ≡ old → IsCore s → Possible (state_of old) e → Makes s e t → IsCore t
 kept old s t e is core can makes = record {
   sizes = resized s t core.sizes makes.lengths;
-  reached = subst Reached (sym makes.state) (further (state_of s) e core.reached (subst (λ (x : Snapshot). Possible (state_of x) e) (sym is) can));
+  reached = subst Reached (sym makes.state)
+      (further (state_of s) e core.reached (subst (λ (x : Snapshot). Possible (state_of x) e) (sym is) can));
 }
 
 -- ... and is answered
-pub stepped : (old s t : Snapshot) (e : Event) (a : Answer) → s ≡ old → IsCore s → Possible (state_of old) e → a ≡ answer (state_of s) e → Makes s e t → Steps old e t a
+pub stepped : (old s t : Snapshot) (e : Event) (a : Answer) → s ≡ old → IsCore s → Possible (state_of old) e
+    → a ≡ answer (state_of s) e → Makes s e t → Steps old e t a
 stepped old s t e a is core can told makes = record {
   possible = can;
   answer = subst (λ (x : Snapshot). a ≡ answer (state_of x) e) is told;

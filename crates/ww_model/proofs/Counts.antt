@@ -38,18 +38,24 @@ module _ (from v : ℕ) where
   waiting_in c = one_of from v (c.cancel v) + one_of from v (c.heeded v)
 
   -- an event sets, answers or moves on what it counts
-  counted : (c : State) (e : Event) → Possible c e → cancels_now from v e + waiting_in c ≡ interrupts_now from v e (answer c e) + waiting_in (after c e)
+  counted : (c : State) (e : Event) → Possible c e
+      → cancels_now from v e + waiting_in c ≡ interrupts_now from v e (answer c e) + waiting_in (after c e)
   counted c (Cancel s u) can = put_cases c.cancel u (s + 1) v
-      (λ x. one_if ((u == v) && (s == from)) + (one_of from v (c.cancel v) + one_of from v (c.heeded v)) ≡ 0 + (one_of from v x + one_of from v (c.heeded v)))
-      (λ is. let a = here (s == from) u is in let b = one_of_seat s in let d = ap (one_of from v) (ap c.cancel is ∙ can.base.none) in let e = one_of_nobody in omega arith)
+      (λ x. one_if ((u == v) && (s == from)) + (one_of from v (c.cancel v) + one_of from v (c.heeded v)) ≡ 0
+      + (one_of from v x + one_of from v (c.heeded v)))
+      (λ is. let a = here (s == from) u is in let b = one_of_seat s in
+      let d = ap (one_of from v) (ap c.cancel is ∙ can.base.none) in let e = one_of_nobody in omega arith)
       (λ isnt. let a = other (s == from) u isnt in omega arith)
   counted c (Heed s n) can = puts_cases c.cancel c.heeded s 0 (c.cancel s) v
       (λ x y. 0 + (one_of from v (c.cancel v) + one_of from v (c.heeded v)) ≡ 0 + (one_of from v x + one_of from v y))
-      (λ is. let a = ap (one_of from v) (ap c.cancel is) in let b = ap (one_of from v) (ap c.heeded is ∙ can.base.unheeded) in let d = one_of_nobody in omega arith)
+      (λ is. let a = ap (one_of from v) (ap c.cancel is) in
+      let b = ap (one_of from v) (ap c.heeded is ∙ can.base.unheeded) in let d = one_of_nobody in omega arith)
       (λ _. refl)
   counted c (Leave s n) can = put_cases c.heeded s 0 v
-      (λ x. 0 + (one_of from v (c.cancel v) + one_of from v (c.heeded v)) ≡ one_if ((s == v) && (c.heeded s - 1 == from)) + (one_of from v (c.cancel v) + one_of from v x))
-      (λ is. let a = here (c.heeded s - 1 == from) s is in let b = one_before (c.heeded s) can.base.heeded in let d = ap (one_of from v) (ap c.heeded is) in let e = one_of_nobody in omega arith)
+      (λ x. 0 + (one_of from v (c.cancel v) + one_of from v (c.heeded v))
+      ≡ one_if ((s == v) && (c.heeded s - 1 == from)) + (one_of from v (c.cancel v) + one_of from v x))
+      (λ is. let a = here (c.heeded s - 1 == from) s is in let b = one_before (c.heeded s) can.base.heeded in
+      let d = ap (one_of from v) (ap c.heeded is) in let e = one_of_nobody in omega arith)
       (λ isnt. let a = other (c.heeded s - 1 == from) s isnt in omega arith)
   counted c _ can = refl
 
@@ -59,4 +65,5 @@ module _ (from v : ℕ) where
   counted_all c (e ∷ es) run = let one = counted c e run.0 in let rest = counted_all (after c e) es run.1 in omega arith
 
 pub cancels_are_counted : CancelsAreCounted
-cancels_are_counted kind locks seats events run from v = let all = counted_all from v (start kind locks seats) events run in let n = one_of_nobody from v in omega arith
+cancels_are_counted kind locks seats events run from v = let all =
+    counted_all from v (start kind locks seats) events run in let n = one_of_nobody from v in omega arith

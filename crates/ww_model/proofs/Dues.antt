@@ -1,4 +1,4 @@
--- Who has to die at a lock and why, and to whom a seat inside its guard owes a sign and why.
+-- Which waiter has to die at a lock and why, and to whom a seat inside its guard owes a sign and why.
 use Rattle.std.proofs.Common.{◌≡◌, ◌≢◌, ◌⊎◌, inl, inr, ⊎_elim, ℕ, ◌<◌, ◌==◌, true, false, nat_lt, List, [], ◌∷◌, Some, refl, sym, ap, ◌∙◌, subst, arith, true≢false}
 use Rattle.std.specs.Prelude.{find, unwrap_or}
 use Rattle.std.specs.Option.{IsSome, option_map}
@@ -43,7 +43,7 @@ taken_from c Nobody t own taken = absurd (cc)
 taken_from c (Taken u) t own taken = ap Taken (let same : u ≡ t = cc in same)
 taken_from c (Handed u) t own taken = absurd (true≢false taken)
 
--- ---- who has to die
+-- ---- which waiter has to die
 
 module _ (c : State) (s n k : ℕ) where
   -- why the seat has to die at the lock, of stamp k
@@ -59,7 +59,8 @@ module _ (c : State) (s n k : ℕ) where
         ⊎ ((x : Entry) × Before (c.queue n) x entry × (0 < x.stamp) × (x.stamp ≡ k))
 
 -- the rule of each kind gives the reason
-pub dies_of : (c : State) (s n k : ℕ) (kind : Kind) → c.kind ≡ kind → must_die kind (owner_as c (c.owner n)) (c.queue n) s (c.sign s) ≡ Some k → DiesOf c s n k
+pub dies_of : (c : State) (s n k : ℕ) (kind : Kind) → c.kind ≡ kind
+    → must_die kind (owner_as c (c.owner n)) (c.queue n) s (c.sign s) ≡ Some k → DiesOf c s n k
 dies_of c s n k WoundWait is h = let o = owner_as c (c.owner n) in let r = must_die_why WoundWait o (c.queue n) s (c.sign s) k h in
     let d = death_why WoundWait o (c.queue n) (c.sign s) r.0 k r.3 in let same = (cond_some (nat_lt 0 (c.sign s)) (c.sign s) k d.1).1 in
     let some = death_is_of_context WoundWait o (c.queue n) s (c.sign s) k h in record {
@@ -88,15 +89,22 @@ pub dies_why : (c : State) (s n k : ℕ) → dies c s n ≡ Some k → DiesOf c 
 dies_why c s n k h = dies_of c s n k c.kind refl h
 
 -- where the rule of the kind condemns, the seat has to die
-pub dies_by : (c : State) (s n : ℕ) (kind : Kind) → c.kind ≡ kind → (k : ℕ) × (must_die kind (owner_as c (c.owner n)) (c.queue n) s (c.sign s) ≡ Some k) → IsSome (dies c s n)
-dies_by c s n kind is d = is_some_of (dies c s n) d.0 (subst (λ x. must_die x (owner_as c (c.owner n)) (c.queue n) s (c.sign s) ≡ Some d.0) (sym is) d.1)
+pub dies_by : (c : State) (s n : ℕ) (kind : Kind) → c.kind ≡ kind → (k : ℕ)
+    × (must_die kind (owner_as c (c.owner n)) (c.queue n) s (c.sign s) ≡ Some k) → IsSome (dies c s n)
+dies_by c s n kind is d = is_some_of (dies c s n) d.0
+    (subst (λ x. must_die x (owner_as c (c.owner n)) (c.queue n) s (c.sign s) ≡ Some d.0) (sym is) d.1)
 
-pub dies_wounded : (c : State) (n : ℕ) (e : Entry) → c.kind ≡ WoundWait → Once (c.queue n) → Has (c.queue n) e → 0 < e.stamp → e.holds ≡ true →
+pub dies_wounded : (c : State) (n : ℕ) (e : Entry) → c.kind ≡ WoundWait → Once (c.queue n) → Has (c.queue n) e
+    → 0 < e.stamp → e.holds ≡ true →
     0 < c.sign e.seat → IsSome (dies c e.seat n)
-dies_wounded c n e wounding one h p b signed = dies_by c e.seat n WoundWait wounding
-    (c.sign e.seat, (wound_wait_condemns (owner_as c (c.owner n)) (c.queue n) e (c.sign e.seat) (c.sign e.seat) one h).1 ((p, b), signed, refl))
+dies_wounded c n e wounding one h p b signed = dies_by c e.seat n WoundWait wounding (
+  c.sign e.seat,
+  (wound_wait_condemns (owner_as c (c.owner n)) (c.queue n) e (c.sign e.seat) (c.sign e.seat) one
+      h).1 ((p, b), signed, refl),
+)
 
-pub dies_younger : (c : State) (n : ℕ) (e : Entry) → c.kind ≡ WaitDie → Once (c.queue n) → Has (c.queue n) e → 0 < e.stamp → e.holds ≡ true →
+pub dies_younger : (c : State) (n : ℕ) (e : Entry) → c.kind ≡ WaitDie → Once (c.queue n) → Has (c.queue n) e
+    → 0 < e.stamp → e.holds ≡ true →
     (t : ℕ) → c.owner n ≡ Taken t → t ≢ e.seat → 0 < c.stamp t → c.stamp t < e.stamp → IsSome (dies c e.seat n)
 dies_younger c n e dying one h p b t own isnt q younger = let same = stamp_is c (c.owner n) t (inl own) in
     dies_by c e.seat n WaitDie dying (dies_when (owner_as c (c.owner n)) (c.queue n) e (c.sign e.seat) one h (p, b)
@@ -110,11 +118,16 @@ dies_behind c n e dying one h p b x before q = dies_by c e.seat n WaitDie dying
 -- ---- whom a seat inside owes a sign
 
 -- an older waiter that holds locks: its owner is owed one
-pub owes_wound : (c : State) (s n t : ℕ) (e : Entry) → c.kind ≡ WoundWait → c.owner n ≡ Taken t → Has (c.queue n) e → e.holds ≡ true → 0 < e.stamp →
+pub owes_wound : (c : State) (s n t : ℕ) (e : Entry) → c.kind ≡ WoundWait → c.owner n ≡ Taken t → Has (c.queue n) e
+    → e.holds ≡ true → 0 < e.stamp →
     e.stamp < c.stamp t → (k : ℕ) × Has (owes c s n) (t, k)
 owes_wound c s n t e wounding own h b p older = let o = owner_as c (c.owner n) in let same = stamp_is c (c.owner n) t (inl own) in
-    let r = wounded_some o (c.queue n) s t e (seat_is c (c.owner n) t own) (taken_is c (c.owner n) t own) h (p, b) (let z = older in omega arith) in
-    (r.0, subst (λ x. Has (owed_signs x o (c.queue n) s) (t, r.0)) (sym wounding) (subst (λ pairs. Has pairs (t, r.0)) (sym r.1) (inl refl)))
+    let r = wounded_some o (c.queue n) s t e (seat_is c (c.owner n) t own) (taken_is c (c.owner n) t own) h (p, b)
+    (let z = older in omega arith) in (
+      r.0,
+      subst (λ x. Has (owed_signs x o (c.queue n) s) (t, r.0)) (sym wounding)
+          (subst (λ pairs. Has pairs (t, r.0)) (sym r.1) (inl refl)),
+    )
 
 -- whom Wound-Wait signs owns the lock, and is met by an older waiter that holds locks
 pub wound_from : (c : State) (s n v k : ℕ) → c.kind ≡ WoundWait → Has (owes c s n) (v, k) →
@@ -130,7 +143,7 @@ pub death_from : (c : State) (s n v k : ℕ) → c.kind ≡ WaitDie → Has (owe
 death_from c s n v k dying h = let o = owner_as c (c.owner n) in
     dies_of c v n k WaitDie dying (signed_why o (c.queue n) s v k (subst (λ x. Has (owed_signs x o (c.queue n) s) (v, k)) dying h)).1
 
--- who has to die is owed a sign by another seat inside
+-- a waiter that has to die is owed a sign by another seat inside
 pub owes_death : (c : State) (s n v k : ℕ) → c.kind ≡ WaitDie → v ≢ s → dies c v n ≡ Some k → Has (owes c s n) (v, k)
 owes_death c s n v k dying isnt d = let o = owner_as c (c.owner n) in
     subst (λ x. Has (owed_signs x o (c.queue n) s) (v, k)) (sym dying)
@@ -140,8 +153,9 @@ pub by_kind : (kind : Kind) (P : Type 0) → (kind ≡ WoundWait → P) → (kin
 by_kind WoundWait P wounding dying = wounding refl
 by_kind WaitDie P wounding dying = dying refl
 
--- a sign doesn't say who has to die in Wait-Die
-pub dies_unsigned : (kind : Kind) → kind ≡ WaitDie → (o : Owner) (q : List Entry) (s k j : ℕ) → must_die kind o q s k ≡ must_die kind o q s j
+-- a sign doesn't say which waiter has to die in Wait-Die
+pub dies_unsigned : (kind : Kind) → kind ≡ WaitDie → (o : Owner) (q : List Entry) (s k j : ℕ)
+    → must_die kind o q s k ≡ must_die kind o q s j
 dies_unsigned WoundWait dying o q s k j = absurd (cc)
 dies_unsigned WaitDie dying o q s k j = refl
 
@@ -149,7 +163,9 @@ dies_unsigned WaitDie dying o q s k j = refl
 pub dies_older : (c : State) (s n k : ℕ) → IsBase c → c.kind ≡ WaitDie → DiesOf c s n k → (0 < k) × (k < c.stamp s)
 dies_older c s n k l dying d = let same = (l.queues.at n).stamps d.entry d.stands ∙ ap c.stamp d.seat in ⊎_elim
     (λ i. (i.3, let z = i.4 in omega arith))
-    (λ i. let y = i.3 in let p = i.2 in let z = before_older (c.queue n) i.0 d.entry (l.queues.at n).ascends i.1 p d.context in (omega arith, omega arith)) (d.older dying)
+    (λ i. let y = i.3 in let p = i.2 in let z =
+    before_older (c.queue n) i.0 d.entry (l.queues.at n).ascends i.1 p d.context in (omega arith, omega arith))
+    (d.older dying)
 
 -- so is that of a sign that is owed
 pub owed_older : (c : State) (s n v k : ℕ) → IsBase c → Has (owes c s n) (v, k) → (0 < k) × (k < c.stamp v)
@@ -170,7 +186,8 @@ owed_from v pairs k h = let r = mapped_from (λ (p : ℕ × ℕ). p.1) (find (λ
 -- where a stamp is owed to a seat, one is found
 pub owed_there : (v k : ℕ) (pairs : List (ℕ × ℕ)) → Has pairs (v, k) → IsSome (owed_to v pairs)
 owed_there v k [] h = absurd h
-owed_there v k (p ∷ ps) h = by_test (p.0 == v) (Some p) (find (λ (x : ℕ × ℕ). x.0 == v) ps) (λ o. IsSome (option_map (λ (x : ℕ × ℕ). x.1) o))
+owed_there v k (p ∷ ps) h = by_test (p.0 == v) (Some p) (find (λ (x : ℕ × ℕ). x.0 == v) ps)
+    (λ o. IsSome (option_map (λ (x : ℕ × ℕ). x.1) o))
     (λ _. refl)
     (λ isnt. ⊎_elim (λ is. absurd (other_number p.0 v isnt (sym (ap (λ (x : ℕ × ℕ). x.0) is)))) (λ later. owed_there v k ps later) h)
 

@@ -16,7 +16,8 @@ pub keeps_guards : KeepsBase (λ c. Guards c.queue c.guard)
 keeps_guards c (Guard s n) can l = record {
   one_guard = λ t i j a b. ⊎_elim
       (λ x. ⊎_elim (λ y. x.0 ∙ sym y.0) (λ y. absurd (can.inside_none j (y.1 ∙ sym x.1))) (put_was c.guard n (suc s) j (λ g. g ≡ suc t) b))
-      (λ x. ⊎_elim (λ y. absurd (can.inside_none i (x.1 ∙ sym y.1))) (λ y. l.guards.one_guard t i j x.1 y.1) (put_was c.guard n (suc s) j (λ g. g ≡ suc t) b))
+      (λ x. ⊎_elim (λ y. absurd (can.inside_none i (x.1 ∙ sym y.1))) (λ y. l.guards.one_guard t i j x.1 y.1)
+      (put_was c.guard n (suc s) j (λ g. g ≡ suc t) b))
       (put_was c.guard n (suc s) i (λ g. g ≡ suc t) a);
   own_guard = λ i j e h b. ⊎_elim
       (λ x. let same : e.seat ≡ s = let z = x.1 in omega arith in ⊎_elim (λ a. absurd (a.1 i e h same))

@@ -44,10 +44,23 @@ start_is_lawful kind locks seats = record {
   base = record {
     stamps = record { differ = λ s t h. absurd (omega arith); below = λ s. omega arith };
     owners = record {
-      at = λ n. record { handed_stands = λ s o. absurd (cc); taken_stands_not = λ s o e h. absurd h; asked_taken = λ b. absurd (true≢false (sym b)) };
+      at = λ n. record {
+        handed_stands = λ s o. absurd (cc);
+        taken_stands_not = λ s o e h. absurd h;
+        asked_taken = λ b. absurd (true≢false (sym b));
+      };
       beyond = λ n _. refl;
     };
-    queues = record { at = λ n. record { once = tt; stamps = λ e h. absurd h; holds = λ e h. absurd h; holds_not = λ e h. absurd h; ascends = tt }; one_queue = λ m n e f h. absurd h };
+    queues = record {
+      at = λ n. record {
+        once = tt;
+        stamps = λ e h. absurd h;
+        holds = λ e h. absurd h;
+        holds_not = λ e h. absurd h;
+        ascends = tt;
+      };
+      one_queue = λ m n e f h. absurd h;
+    };
     guards = record { one_guard = λ s m n a. absurd (omega arith); own_guard = λ m n e h. absurd h };
     solos = record { one_lock = λ s m n z a. absurd (cc); none_queued = λ n m e h. absurd h };
     cancels = record { set = λ s. omega arith; heeded = λ s. omega arith; heeding = λ s p. absurd (omega arith) };

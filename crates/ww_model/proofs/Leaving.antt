@@ -27,7 +27,8 @@ pub stays_taken : (c : State) (n m s : ℕ) (o : Holder) → (m ≡ n → ⊥) �
 stays_taken c n m s o other own gone = gone (put_else c.owner n o m other ∙ own)
 
 pub taken_leaves_by_giving : TakenLeavesByGiving
-taken_leaves_by_giving c (Fast u m) s n can own gone = absurd (stays_taken c m n s (Taken u) (λ is. let z = ap c.owner is in let y = can.idle.free in cc) own gone)
+taken_leaves_by_giving c (Fast u m) s n can own gone =
+    absurd (stays_taken c m n s (Taken u) (λ is. let z = ap c.owner is in let y = can.idle.free in cc) own gone)
 taken_leaves_by_giving c (Take u m) s n can own gone = absurd (stays_taken c m n s (Taken u)
     (λ is. let z = ap c.owner is in ⊎_elim (λ y. let w : ⊥ = cc in w) (λ y. let w : ⊥ = cc in w) can.free) own gone)
 taken_leaves_by_giving c (FastGive u m) s n can own gone = dite (ℕ_discrete n m)
@@ -39,10 +40,15 @@ taken_leaves_by_giving c (Give u m) s n can own gone = dite (ℕ_discrete n m)
 taken_leaves_by_giving c _ s n can own gone = absurd (gone own)
 
 -- a handed lock is taken by its seat, or stays handed
-pub handed_or_taken : (c : State) (e : Event) (s n : ℕ) → BasePossible c e → c.owner n ≡ Handed s → (e ≡ Take s n) ⊎ ((after c e).owner n ≡ Handed s)
-handed_or_taken c (Fast u m) s n can own = inr (put_else c.owner m (Taken u) n (λ is. let z = ap c.owner is in let y = can.idle.free in cc) ∙ own)
-handed_or_taken c (FastGive u m) s n can own = inr (put_else c.owner m Nobody n (λ is. let z = ap c.owner is in let y = can.owns in cc) ∙ own)
-handed_or_taken c (Give u m) s n can own = inr (put_else c.owner m (given_to (c.asked m) (c.queue m)) n (λ is. let z = ap c.owner is in let y = can.owns in cc) ∙ own)
+pub handed_or_taken : (c : State) (e : Event) (s n : ℕ) → BasePossible c e → c.owner n ≡ Handed s → (e ≡ Take s n)
+    ⊎ ((after c e).owner n ≡ Handed s)
+handed_or_taken c (Fast u m) s n can own =
+    inr (put_else c.owner m (Taken u) n (λ is. let z = ap c.owner is in let y = can.idle.free in cc) ∙ own)
+handed_or_taken c (FastGive u m) s n can own =
+    inr (put_else c.owner m Nobody n (λ is. let z = ap c.owner is in let y = can.owns in cc) ∙ own)
+handed_or_taken c (Give u m) s n can own =
+    inr (put_else c.owner m (given_to (c.asked m) (c.queue m)) n
+    (λ is. let z = ap c.owner is in let y = can.owns in cc) ∙ own)
 handed_or_taken c (Take u m) s n can own = dite (ℕ_discrete n m)
     (λ is. let z = ap c.owner is in ⊎_elim (λ y. absurd (cc)) (λ y. let same : u ≡ s = cc in inl (cc)) can.free)
     (λ isnt. inr (put_else c.owner m (Taken u) n isnt ∙ own))
@@ -72,7 +78,8 @@ queues_ascend c l n = (l.base.queues.at n).ascends
 
 pub keeps_seats : (c : State) (e : Event) → BasePossible c e → WaitersAreSeats c → WaitersAreSeats (after c e)
 keeps_seats c (Join s n) can l = λ m e. put_cases c.queue n (joined (c.queue n) (waiter_of c s)) m (λ q. Has q e → e.seat < c.seats)
-    (λ _ h. ⊎_elim (λ i. let z = ap (λ (y : Entry). y.seat) i in let k = can.inside.seat in omega arith) (λ i. l n e i) (joined_has (c.queue n) (waiter_of c s) e h))
+    (λ _ h. ⊎_elim (λ i. let z = ap (λ (y : Entry). y.seat) i in let k = can.inside.seat in omega arith)
+    (λ i. l n e i) (joined_has (c.queue n) (waiter_of c s) e h))
     (λ _. l m e)
 keeps_seats c (Take s n) can l = λ m e h. l m e (stood c.queue n s m e h)
 keeps_seats c (Die s n) can l = λ m e h. l m e (stood c.queue n s m e h)
@@ -96,7 +103,8 @@ waiting_unheeded c l a n h outside = dite (ℕ_discrete (c.heeded a) 0) (λ none
     let at : n ≡ k.0 = l.guards.own_guard n k.0 h.0 h.1 (k.1.inside ∙ ap suc (sym h.2)) in absurd (outside (ap c.guard at ∙ k.1.inside)))
 
 pub condemned_can_die : OfReached CondemnedCanDie
-condemned_can_die c run a condemned free k d = let l = reached_is_lawful c run in let n = condemned.lock in let h = condemned.waits.stands in
+condemned_can_die c run a condemned free k d = let l = reached_is_lawful c run in let n = condemned.lock in
+    let h = condemned.waits.stands in
     let other : HasOther c a n = (condemned.awaited, (λ is. condemned.waits.other (sym is)), condemned.waits.owner) in
     let lock = owned_below c l.base a n other in
     let seat : a < c.seats = (let z = waiters_are_seats c run n h.0 h.1 in let y = h.2 in omega arith) in record {
@@ -104,7 +112,8 @@ condemned_can_die c run a condemned free k d = let l = reached_is_lawful c run i
         base = record {
           seat = seat;
           lock = lock;
-          inside_none = λ m g. let same = l.base.guards.own_guard n m h.0 h.1 (g ∙ ap suc (sym h.2)) in let z = ap c.guard same in omega arith;
+          inside_none = λ m g. let same = l.base.guards.own_guard n m h.0 h.1 (g ∙ ap suc (sym h.2)) in
+              let z = ap c.guard same in omega arith;
           free = free;
           why = inr (inl h);
         };

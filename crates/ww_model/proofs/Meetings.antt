@@ -33,12 +33,22 @@ taker_owned c u s calm p is = let same : u ≡ s = cc in
     ⊎_elim (λ z. let y = ap c.sign same in absurd (omega arith)) (λ z. (z.0, z.1 ∙ ap Taken same)) calm
 
 -- a sign that an owner has is new and met, or was there
-pub stays : (c : State) (e : Event) → Possible c e → c.kind ≡ WoundWait → (s : ℕ) → 0 < (after c e).sign s → OwnsSome (after c e) s → Stays c (after c e) s
-stays c (Clear u) can wounding s p own = inr (own, put_else c.sign u 0 s (λ is. let z = put_here c.sign u 0 in let y = ap (put c.sign u 0) is in omega arith))
+pub stays : (c : State) (e : Event) → Possible c e → c.kind ≡ WoundWait → (s : ℕ) → 0 < (after c e).sign s
+    → OwnsSome (after c e) s → Stays c (after c e) s
+stays c (Clear u) can wounding s p own =
+    inr (
+      own,
+      put_else c.sign u 0 s (λ is. let z = put_here c.sign u 0 in let y = ap (put c.sign u 0) is in
+          omega arith),
+    )
 stays c (Fast u n) can wounding s p own = inr (owned c n (Taken u) s (taker_owned c u s can.signs p) own, refl)
 stays c (Take u n) can wounding s p own = inr (owned c n (Taken u) s (taker_owned c u s can.signs p) own, refl)
 stays c (FastGive u n) can wounding s p own = inr (owned c n Nobody s (λ x. absurd (cc)) own, refl)
-stays c (Give u n) can wounding s p own = inr (owned c n (given_to (c.asked n) (c.queue n)) s (λ x. absurd (not_given (c.asked n) (c.queue n) s x)) own, refl)
+stays c (Give u n) can wounding s p own =
+    inr (
+      owned c n (given_to (c.asked n) (c.queue n)) s (λ x. absurd (not_given (c.asked n) (c.queue n) s x)) own,
+      refl,
+    )
 stays c (Sign u v) can wounding s p own =
     let n = place_of c u in let k = sign_for c u v in
     let w = wound_from c u n v k wounding (sign_owed c u v can.signs.owed) in let m = w.3 in
@@ -63,8 +73,11 @@ same_kind c _ = refl
 
 pub sign_was_met : SignWasMet
 sign_was_met _ (at_start kind locks seats) wounding s p own = absurd (omega arith)
-sign_was_met _ (further c e run can) wounding s p own = let was : c.kind ≡ WoundWait = sym (same_kind c e) ∙ wounding in
-    (own, ⊎_elim inl (λ x. inr (subst (HasMet c run s) (sym x.1) (sign_was_met c run was s (let y = x.1 in omega arith) x.0))) (stays c e can was s p own))
+sign_was_met _ (further c e run can) wounding s p own = let was : c.kind ≡ WoundWait = sym (same_kind c e) ∙ wounding in (
+  own,
+  ⊎_elim inl (λ x. inr (subst (HasMet c run s) (sym x.1)
+      (sign_was_met c run was s (let y = x.1 in omega arith) x.0))) (stays c e can was s p own),
+)
 
 pub death_was_met : (c : State) (run : Reached c) (s n k : ℕ) → Possible c (Die s n) → dies c s n ≡ Some k → DeadlkIsMet c run s n k
 death_was_met c run s n k can h = let l = reached_is_lawful c run in let d = dies_why c s n k h in
@@ -78,7 +91,7 @@ death_was_met c run s n k can h = let l = reached_is_lawful c run in let d = die
       };
     }
 
--- giving back answers no EDEADLK
+-- releasing answers no EDEADLK
 giving_is_none : (o : Holder) (k : ℕ) → giving o ≡ Deadlk k → ⊥
 giving_is_none Nobody k is = cc
 giving_is_none (Taken s) k is = cc
@@ -89,7 +102,9 @@ deadlk_was_met c run (Die s n) k can is = let cause = some_of (dies c s n) can.s
   seat = s;
   lock = n;
   event = refl;
-  met = death_was_met c run s n k can (cause.1 ∙ ap Some (let same = ap (λ (o : Option ℕ). unwrap_or o 0) cause.1 in let told : unwrap_or (dies c s n) 0 ≡ k = cc in sym same ∙ told));
+  met = death_was_met c run s n k can (cause.1
+      ∙ ap Some (let same = ap (λ (o : Option ℕ). unwrap_or o 0) cause.1 in
+      let told : unwrap_or (dies c s n) 0 ≡ k = cc in sym same ∙ told));
 }
 deadlk_was_met c run (Give s n) k can is = absurd (giving_is_none (given_to (c.asked n) (c.queue n)) k is)
 deadlk_was_met c run _ k can is = absurd (cc)

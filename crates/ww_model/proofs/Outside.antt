@@ -46,7 +46,8 @@ keeps_outside c (Guard s n) can l k = λ dying t p. let w = k dying t p in (
       (λ a. a.0 x.0 h.0 h.1 mine)) can.base.why)
       (λ x. can.base.inside_none x.0 (x.1 ∙ ap suc (sym same))) (l.signs.signs.waiting dying t p)) (λ _. w.2),
 )
-keeps_outside c (Unguard s n) can l k = λ dying t p. let w = k dying t p in (w.0, w.1, put_cases c.guard n 0 w.0 (λ g. g ≢ suc t) (λ _ i. omega arith) (λ _. w.2))
+keeps_outside c (Unguard s n) can l k = λ dying t p. let w = k dying t p in
+    (w.0, w.1, put_cases c.guard n 0 w.0 (λ g. g ≢ suc t) (λ _ i. omega arith) (λ _. w.2))
 keeps_outside c (Sign s v) can l k = let n = place_of c s in λ dying t. put_cases c.sign v (sign_for c s v) t
     (λ x. 0 < x → (m : ℕ) × (c.owner m ≡ Taken t) × (c.guard m ≢ suc t))
     (λ is _. let r = death_from c s n v (sign_for c s v) dying (sign_owed c s v can.signs.owed) in

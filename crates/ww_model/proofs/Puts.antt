@@ -29,9 +29,11 @@ module _ {A : Type 0} where
 
 module _ {A B : Type 0} where
   -- two functions changed at the same place
-  pub puts_cases : (f : ℕ → A) (g : ℕ → B) (i : ℕ) (a : A) (b : B) (j : ℕ) (P : A → B → Type 0) → (j ≡ i → P a b) → (j ≢ i → P (f j) (g j)) → P (put f i a j) (put g i b j)
+  pub puts_cases : (f : ℕ → A) (g : ℕ → B) (i : ℕ) (a : A) (b : B) (j : ℕ) (P : A → B → Type 0) → (j ≡ i → P a b)
+      → (j ≢ i → P (f j) (g j)) → P (put f i a j) (put g i b j)
   puts_cases f g i a b j P here other = dite (ℕ_discrete j i)
-      (λ e. subst (λ x. P x (put g i b j)) (sym (put_here f i a) ∙ ap (put f i a) (sym e)) (subst (P a) (sym (put_here g i b) ∙ ap (put g i b) (sym e)) (here e)))
+      (λ e. subst (λ x. P x (put g i b j)) (sym (put_here f i a) ∙ ap (put f i a) (sym e))
+      (subst (P a) (sym (put_here g i b) ∙ ap (put g i b) (sym e)) (here e)))
       (λ ne. subst (λ x. P x (put g i b j)) (sym (put_else f i a j ne)) (subst (P (f j)) (sym (put_else g i b j ne)) (other ne)))
 
 -- where the changed function has what it is asked for

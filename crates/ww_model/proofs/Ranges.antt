@@ -33,7 +33,8 @@ keeps_takers : (c : State) (e : Event) → BasePossible c e → TakersAreSeats c
 unfolding TakersAreSeats
 keeps_takers c (Fast s n) can old m t = put_cases c.owner n (Taken s) m (λ h. h ≡ Taken t → t < c.seats)
     (λ _ e. subst (λ (x : ℕ). x < c.seats) (took s t e) can.away.seat) (λ _. old m t)
-keeps_takers c (FastGive s n) can old m t = put_cases c.owner n Nobody m (λ h. h ≡ Taken t → t < c.seats) (λ _ e. absurd (cc)) (λ _. old m t)
+keeps_takers c (FastGive s n) can old m t =
+    put_cases c.owner n Nobody m (λ h. h ≡ Taken t → t < c.seats) (λ _ e. absurd (cc)) (λ _. old m t)
 keeps_takers c (Take s n) can old m t = put_cases c.owner n (Taken s) m (λ h. h ≡ Taken t → t < c.seats)
     (λ _ e. subst (λ (x : ℕ). x < c.seats) (took s t e) can.inside.seat) (λ _. old m t)
 keeps_takers c (Give s n) can old m t = put_cases c.owner n (given_to (c.asked n) (c.queue n)) m (λ h. h ≡ Taken t → t < c.seats)
@@ -69,17 +70,21 @@ few_stamps _ (further c e run can) = keeps_few c e can.base (few_stamps c run)
 
 pub has_room : (c : State) → Reached c → c.seats ≤ 16 → (n s : ℕ) → s < c.seats → StandsNot (c.queue n) s → length (c.queue n) < 16
 has_room c run sixteen n s seat new =
-    let room = room_for c.seats (c.queue n) s ((reached_is_lawful c run).base.queues.at n).once (waiters_are_seats c run n) new seat in omega arith
+    let room = room_for c.seats (c.queue n) s ((reached_is_lawful c run).base.queues.at n).once
+    (waiters_are_seats c run n) new seat in omega arith
 
 pub new_stamp : (c : State) → Reached c → (n s : ℕ) → StandsNot (c.queue n) s → IsNewStamp (c.queue n) (c.stamp s)
-new_stamp c run n s new = let base = (reached_is_lawful c run).base in is_new_stamp c.drawn c.stamp c.owner (c.queue n) s base.stamps (base.queues.at n) new
+new_stamp c run n s new = let base = (reached_is_lawful c run).base in
+    is_new_stamp c.drawn c.stamp c.owner (c.queue n) s base.stamps (base.queues.at n) new
 
--- ---- who is owed a sign
+-- ---- which seat is owed a sign
 
 pub owed_seat : (c : State) → Reached c → (n u v : ℕ) → IsSome (owed_to v (owes c u n)) → v < c.seats
-owed_seat c run n u v some = let k = some_of (owed_to v (owes c u n)) some in let owed = owed_from v (owes c u n) k.0 k.1 in by_kind c.kind (v < c.seats)
+owed_seat c run n u v some = let k = some_of (owed_to v (owes c u n)) some in
+    let owed = owed_from v (owes c u n) k.0 k.1 in by_kind c.kind (v < c.seats)
     (λ wounding. takers_are_seats c run n v (wound_from c u n v k.0 wounding owed).0)
-    (λ dying. let d = death_from c u n v k.0 dying owed in subst (λ (x : ℕ). x < c.seats) d.seat (waiters_are_seats c run n d.entry d.stands))
+    (λ dying. let d = death_from c u n v k.0 dying owed in
+    subst (λ (x : ℕ). x < c.seats) d.seat (waiters_are_seats c run n d.entry d.stands))
 
 -- ---- others
 

@@ -101,7 +101,8 @@ pub edge : (c : State) → IsLawful c → (kind : Kind) → c.kind ≡ kind → 
 edge c l WoundWait is a b n m p q own out other = dite (dec_le (c.stamp b) (c.stamp a))
     (λ le. let d = apart c l.base a b n m p q other in inr (inr (omega arith)))
     (λ gt. let k = p.stamp in let h = p.context in
-    let signed = l.signs.wounds is n b p.entry own out p.stands (λ g. p.waits.outside (g ∙ ap suc p.seat)) p.holds p.context (omega arith) in
+    let signed = l.signs.wounds is n b p.entry own out p.stands (λ g. p.waits.outside (g ∙ ap suc p.seat)) p.holds
+    p.context (omega arith) in
     inr (inl (
       condemns c b m q signed (dies_wounded c m q.entry is (l.base.queues.at m).once q.stands q.context q.holds
           (subst (λ x. 0 < c.sign x) (sym q.seat) signed)),
@@ -112,10 +113,12 @@ edge c l WaitDie is a b n m p q own out other = dite (dec_le (c.stamp a) (c.stam
     (λ le. let d = apart c l.base a b n m p q other in inr (inr (omega arith)))
     (λ gt. let k = p.stamp in let j = q.stamp in let h = q.context in
     let younger : c.stamp b < p.entry.stamp = omega arith in
-    let signed = (l.signs.deaths is n).younger_signed b p.entry own (omega arith) out p.stands (λ g. p.waits.outside (g ∙ ap suc p.seat)) p.holds younger in
+    let signed = (l.signs.deaths is n).younger_signed b p.entry own (omega arith) out p.stands
+    (λ g. p.waits.outside (g ∙ ap suc p.seat)) p.holds younger in
     inl (
       condemns c a n p (subst (λ s. 0 < c.sign s) p.seat signed)
-          (dies_younger c n p.entry is (l.base.queues.at n).once p.stands p.context p.holds b own (λ i. other (sym (i ∙ p.seat))) (omega arith) younger),
+          (dies_younger c n p.entry is (l.base.queues.at n).once p.stands p.context p.holds b own
+          (λ i. other (sym (i ∙ p.seat))) (omega arith) younger),
       omega arith,
       omega arith,
     ))
@@ -131,7 +134,9 @@ last c a (b ∷ bs) z w = last c b bs z w.1
 
 pub link : (c : State) → IsLawful c → (x a b d : ℕ) → WaitsFor c x a → WaitsFor c a b → WaitsFor c b d →
     IsCondemned c a ⊎ (IsCondemned c b ⊎ Onward c.kind (c.stamp a) (c.stamp b))
-link c l x a b d w v u = ⊎_elim (λ yields. inl yields.0) (⊎_elim (λ yields. inr (inl yields.0)) (λ on. inr (inr on))) (edge c l c.kind refl a b v.0 u.0 (member c l.base x a b w v) (member c l.base a b d v u)
+link c l x a b d w v u = ⊎_elim (λ yields. inl yields.0)
+    (⊎_elim (λ yields. inr (inl yields.0)) (λ on. inr (inr on)))
+    (edge c l c.kind refl a b v.0 u.0 (member c l.base x a b w v) (member c l.base a b d v u)
     (is_taken c l.base a b d v u) (outside c l.base a b d v u) v.1.other)
 
 -- somebody of the chain is condemned, or the stamps go one way from its first seat to its last
@@ -149,7 +154,8 @@ chain c l x a (b ∷ bs) z d w v u = let f = first c b bs z v.1 in ⊎_elim
 pub cycles_are_condemned : CyclesAreCondemned
 cycles_are_condemned c l [] r = absurd r
 cycles_are_condemned c l (a ∷ bs) r = let f = first c a bs a r in let b = last c a bs a r in ⊎_elim
-    (λ p. (p.0, ⊎_elim (λ h. h) (λ e. inl e) p.1, p.2)) (λ on. absurd (not_onward c.kind (c.stamp a) on)) (chain c l b.0 a bs a f.0 b.1 r f.1)
+    (λ p. (p.0, ⊎_elim (λ h. h) (λ e. inl e) p.1, p.2)) (λ on. absurd (not_onward c.kind (c.stamp a) on))
+    (chain c l b.0 a bs a f.0 b.1 r f.1)
 
 pub rings_are_condemned : RingsAreCondemned
 rings_are_condemned c run ring is = cycles_are_condemned c (reached_is_lawful c run) ring is.cycle

@@ -11,7 +11,8 @@ use Rattle.ww_model.proofs.Puts.{put_cases}
 use Rattle.ww_model.proofs.Outcomes.{or_true, true_or, same_test}
 
 -- what an item of the list passes is passed at some number
-pub any_found : {X : Type 0} (test : X → Bool) (xs : List X) (d : X) → list_any test xs ≡ true → (n : ℕ) × (n < length xs) × (test (get_or xs n d) ≡ true)
+pub any_found : {X : Type 0} (test : X → Bool) (xs : List X) (d : X) → list_any test xs ≡ true → (n : ℕ)
+    × (n < length xs) × (test (get_or xs n d) ≡ true)
 any_found test [] d is = absurd (true≢false (sym is))
 any_found test (x ∷ xs) d is = ⊎_elim
     (λ here. (0, omega arith, here))
@@ -19,7 +20,8 @@ any_found test (x ∷ xs) d is = ⊎_elim
     (or_true (test x) (list_any test xs) is)
 
 -- ... and the other way round, where the value beyond the end does not pass
-pub found_any : {X : Type 0} (test : X → Bool) (xs : List X) (d : X) → test d ≡ false → (n : ℕ) → test (get_or xs n d) ≡ true → list_any test xs ≡ true
+pub found_any : {X : Type 0} (test : X → Bool) (xs : List X) (d : X) → test d ≡ false → (n : ℕ)
+    → test (get_or xs n d) ≡ true → list_any test xs ≡ true
 found_any test [] d none n is = absurd (true≢false (sym is ∙ none))
 found_any test (x ∷ xs) d none zero is = true_or (test x) (list_any test xs) (inl is)
 found_any test (x ∷ xs) d none (suc n) is = true_or (test x) (list_any test xs) (inr (found_any test xs d none n is))
@@ -38,7 +40,8 @@ found_below (suc k) test n below is = true_or (test k) (any_below k test) (dite 
     (λ ne. inr (found_below k test n (omega arith) is)))
 
 -- a search by number is one of the items
-pub below_any : {X : Type 0} (test : X → Bool) (xs : List X) (d : X) → test d ≡ false → any_below (length xs) (λ n. test (get_or xs n d)) ≡ list_any test xs
+pub below_any : {X : Type 0} (test : X → Bool) (xs : List X) (d : X) → test d ≡ false
+    → any_below (length xs) (λ n. test (get_or xs n d)) ≡ list_any test xs
 below_any test xs d none = same_test (any_below (length xs) (λ n. test (get_or xs n d))) (list_any test xs)
     (λ is. let found = below_found (length xs) (λ n. test (get_or xs n d)) is in found_any test xs d none found.0 found.2)
     (λ is. let found = any_found test xs d is in found_below (length xs) (λ n. test (get_or xs n d)) found.0 found.1 found.2)

@@ -1,4 +1,4 @@
--- Who waits in a list.
+-- Which seats wait in a list.
 use Rattle.std.proofs.Common.{ℕ, ◌≡◌, ◌==◌, ◌↔◌, ⊎_elim, inl, inr, IsTrue, Bool, true, List, [], ◌∷◌, refl, sym, ap, ◌∙◌, true≢false}
 use Rattle.std.specs.List.{list_any}
 use Rattle.ww_queue.specs.declared.entry.Entry.{Entry}

@@ -21,11 +21,15 @@ same_owner c d Nobody same = refl
 same_owner c d (Taken u) same = ap (λ (k : ℕ). let x : Owner = record { seat = Some u; stamp = k; flags = 0 } in x) (same u (inl refl))
 same_owner c d (Handed u) same = ap (λ (k : ℕ). let x : Owner = record { seat = Some u; stamp = k; flags = 5 } in x) (same u (inr refl))
 
-pub same_word : (c d : State) (o o' : Holder) (b b' : Bool) (q q' : List Entry) → owner_as d o ≡ owner_as c o → o ≡ o' → b ≡ b' → q ≡ q' → word_from d o b q ≡ word_from c o' b' q'
-same_word c d o o' b b' q q' r x y z = ap (λ (w : Owner). record w { flags = waiting q + 2 * one_if b + pickup o }) r ∙ λ i. word_from c (x i) (y i) (z i)
+pub same_word : (c d : State) (o o' : Holder) (b b' : Bool) (q q' : List Entry) → owner_as d o ≡ owner_as c o
+    → o ≡ o' → b ≡ b' → q ≡ q' → word_from d o b q ≡ word_from c o' b' q'
+same_word c d o o' b b' q q' r x y z =
+    ap (λ (w : Owner). record w { flags = waiting q + 2 * one_if b + pickup o }) r
+    ∙ λ i. word_from c (x i) (y i) (z i)
 
 -- what a context that begins or ends leaves of the word
-pub restamped : (c d : State) (s k m : ℕ) → IsBase c → OwnsNone c s → StandsNot (c.queue m) s → d.stamp ≡ put c.stamp s k → owner_as d (c.owner m) ≡ owner_as c (c.owner m)
+pub restamped : (c d : State) (s k m : ℕ) → IsBase c → OwnsNone c s → StandsNot (c.queue m) s
+    → d.stamp ≡ put c.stamp s k → owner_as d (c.owner m) ≡ owner_as c (c.owner m)
 restamped c d s k m l none away is = same_owner c d (c.owner m) (λ u own. ap (λ f. f u) is ∙ put_else c.stamp s k u (λ same. ⊎_elim
     (λ o. none m (o ∙ ap Taken same))
     (λ o. let h = (l.owners.at m).handed_stands u o in away h.0 h.1 (h.2 ∙ same)) own))
@@ -49,14 +53,17 @@ handed_same c (Handed s) false (e ∷ es) = refl
 pub word_owes : (c : State) (s n : ℕ) → owed_signs c.kind (word_of c n) (c.queue n) s ≡ owes c s n
 word_owes c s n = go c.kind (c.owner n)
   where
-    go : (kind : Kind) (o : Holder) → owed_signs kind (word_from c o (c.asked n) (c.queue n)) (c.queue n) s ≡ owed_signs kind (owner_as c o) (c.queue n) s
-    go WoundWait o = ap (λ (b : Bool). owed_wound (cond b None (owner_as c o).seat) (owner_as c o).stamp (least_holding (c.queue n))) (handed_same c o (c.asked n) (c.queue n))
+    go : (kind : Kind) (o : Holder) → owed_signs kind (word_from c o (c.asked n) (c.queue n)) (c.queue n) s
+        ≡ owed_signs kind (owner_as c o) (c.queue n) s
+    go WoundWait o = ap (λ (b : Bool). owed_wound (cond b None (owner_as c o).seat) (owner_as c o).stamp
+        (least_holding (c.queue n))) (handed_same c o (c.asked n) (c.queue n))
     go WaitDie o = refl
 
 pub word_dies : (c : State) (s n : ℕ) → must_die c.kind (word_of c n) (c.queue n) s (c.sign s) ≡ dies c s n
 word_dies c s n = go c.kind (c.owner n)
   where
-    go : (kind : Kind) (o : Holder) → must_die kind (word_from c o (c.asked n) (c.queue n)) (c.queue n) s (c.sign s) ≡ must_die kind (owner_as c o) (c.queue n) s (c.sign s)
+    go : (kind : Kind) (o : Holder) → must_die kind (word_from c o (c.asked n) (c.queue n)) (c.queue n) s (c.sign s)
+        ≡ must_die kind (owner_as c o) (c.queue n) s (c.sign s)
     go WoundWait o = refl
     go WaitDie o = refl
 

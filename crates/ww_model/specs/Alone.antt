@@ -22,7 +22,7 @@ module _ (c d : State) (t : ℕ) where
     pub queue : d.queue n ≡ c.queue n
     -- Where nobody waits, FastGive and Fast of others write the word.
     pub word : c.queue n ≢ [] → word_of d n ≡ word_of c n
-    -- who is owed a sign was owed one before, and keeps the one that it has
+    -- a seat that is owed a sign was owed one before, and keeps the one that it has
     pub owed : (v k : ℕ) → Has (owes d t n) (v, k) → Has (owes c t n) (v, k)
     pub signed : (v k : ℕ) → Has (owes c t n) (v, k) → c.sign v ≢ 0 → d.sign v ≢ 0
 
@@ -68,7 +68,7 @@ HandedLeavesByTaking = (c : State) (e : Event) (s n : ℕ) → BasePossible c e 
 
 -- ---- of one state
 
--- Whoever is inside a guard, doesn't wait there and hasn't taken the lock owes nobody who is unsigned.
+-- Whoever is inside a guard, doesn't wait there and hasn't taken the lock owes no unsigned seat.
 abbrev pub OutsidersOweNothing : State → Type 0
 OutsidersOweNothing c = (s n : ℕ) → c.guard n ≡ suc s → StandsNot (c.queue n) s → c.owner n ≢ Taken s →
     (v k : ℕ) → Has (owes c s n) (v, k) → c.sign v ≢ 0

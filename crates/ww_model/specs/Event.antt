@@ -35,7 +35,7 @@ actor (Leave s n) = s
 abbrev pub owed_to : ℕ → List (ℕ × ℕ) → Option ℕ
 owed_to v pairs = option_map (λ pair. pair.1) (find (λ pair. pair.0 == v) pairs)
 
--- who owns the lock once it is given back: the first waiter, if it is asked to hand the lock over
+-- who owns the lock once it is released: the first waiter, if it is asked to hand the lock over
 abbrev pub given_to : Bool → List Entry → Holder
 given_to true (e ∷ es) = holder.Handed e.seat
 given_to _ _ = holder.Nobody
@@ -45,7 +45,7 @@ abbrev pub still_asked : List Entry → Bool → Bool
 still_asked [] asked = false
 still_asked (e ∷ es) asked = asked
 
--- how a lock was given back
+-- how a lock was released
 abbrev pub giving : Holder → Answer
 giving holder.Nobody = Free
 giving (holder.Taken s) = Free

@@ -32,7 +32,7 @@ abbrev pub HasMet : (c : State) → Reached c → ℕ → ℕ → Type 0
 HasMet _ (at_start kind locks seats) s k = ⊥
 HasMet _ (further c e run can) s k = OwnsSome (after c e) s × (MeetsNow (after c e) s k ⊎ HasMet c run s k)
 
--- who is told to die owned a lock, and met the older context whose stamp it is told
+-- a context that gets EDEADLK owned a lock, and met the older context whose stamp it is told
 pub record DeadlkIsMet (c : State) (run : Reached c) (s n k : ℕ) : Type 0 where
   pub owns : OwnsSome c s
   pub wounded : c.kind ≡ WoundWait → HasMet c run s k

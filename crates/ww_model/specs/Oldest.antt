@@ -24,7 +24,7 @@ pub record GoesOn (before c : State) (s : ℕ) : Type 0 where
   pub never_dies : (n : ℕ) → ¬ Possible c (Die s n)
   pub never_signed : (u : ℕ) → ¬ Possible c (Sign u s)
 
--- in the event the seat neither dies nor is interrupted nor gives back anything that it has
+-- in the event the seat neither dies nor is interrupted nor releases anything that it has
 abbrev pub Spares : ℕ → Event → Type 0
 Spares s (FastGive u n) = u ≢ s
 Spares s (Give u n) = u ≢ s
@@ -33,7 +33,7 @@ Spares s (Leave u n) = u ≢ s
 Spares s (End u) = u ≢ s
 Spares s _ = Unit {0}
 
--- the others wind up, and so does the seat, but without dying or giving anything back
+-- the others wind up, and so does the seat, but without dying or releasing anything
 abbrev pub WindsUpSparing : ℕ → State → Event → Type 0
 WindsUpSparing s c e = WindsUp c e × Spares s e
 

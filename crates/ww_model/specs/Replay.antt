@@ -14,7 +14,7 @@ pub record IsFirstImpossible (c : State) (events : List Event) (i : ℕ) : Type 
   pub there : slice_get events i ≡ Some event
   pub impossible : ¬ Possible (state_after c (take i events)) event
 
--- of want of memory nothing is said
+-- of lack of memory nothing is said
 abbrev pub IsReplayFault : State → List Event → ReplayFault → Type 0
 IsReplayFault c events (Impossible i) = IsFirstImpossible c events i
 IsReplayFault c events NoMemory = Unit {0}

@@ -103,7 +103,7 @@ module _ (c : State) where
   abbrev pub OwnsSome : ℕ → Type 0
   OwnsSome s = (n : ℕ) × (c.owner n ≡ Taken s)
 
-  -- the lock has an owner other than the seat, who has taken it or to whom it was handed
+  -- the lock has an owner other than the seat, which has taken it or to which it was handed
   abbrev pub HasOther : ℕ → ℕ → Type 0
   HasOther s n = (t : ℕ) × (t ≢ s) × ((c.owner n ≡ Taken t) ⊎ (c.owner n ≡ Handed t))
 

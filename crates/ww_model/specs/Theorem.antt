@@ -58,7 +58,7 @@ OldestNeverDies = (c : State) → IsLawful c → (s : ℕ) → IsOldestUnsigned 
     (events : List Event) → IsRun c events → ¬ Has events (End s) → GoesOn c (state_after c events) s
 
 -- Wherever the oldest context waits and has heeded no cancel, whoever is in its way can be made to give way: some run
--- leads to it owning the lock, in which it neither dies nor is interrupted nor gives anything back, and nobody begins
+-- leads to it owning the lock, in which it neither dies nor is interrupted nor releases anything, and nobody begins
 -- anything new.
 abbrev pub OldestCanTake : Type 0
 OldestCanTake = (c : State) → Reached c → (s n : ℕ) → IsOldest c s → Stands (c.queue n) s → c.heeded s ≡ 0 →

@@ -1,4 +1,4 @@
--- Who waits for whom, cycles of waits, and who is condemned.
+-- Who waits for whom, cycles of waits, and which seats are condemned.
 use Rattle.std.specs.Prelude.{ℕ, suc, ◌≡◌, ◌≢◌, ◌<◌, ◌≤◌, ◌⊎◌, List, [], ◌∷◌, Option, IsSome, MatchOption}
 use Rattle.ww_queue.specs.Queue.{Stands}
 use Rattle.ww_model.specs.declared.state.Holder.TheVariants.{Taken, Handed}

@@ -1,4 +1,4 @@
-//! The events of a lock that nobody waits for: it is taken and given back by one step on its owner word.
+//! The events of a lock that nobody waits for: it is taken and released by one step on its owner word.
 
 use crate::event::{Answer, NotPossible};
 use crate::state::{Core, Holder};

@@ -253,7 +253,7 @@ fn is_taken_by_other(holder: Holder, seat: u8) -> bool
     }
 }
 
-/// Who owns a lock once it is given back.
+/// Who owns a lock once it is released.
 fn given_to(is_asked: bool, waiters: &[Entry]) -> Holder
     ensures { result ≡ given_to is_asked waiters.now }
 {
@@ -263,7 +263,7 @@ fn given_to(is_asked: bool, waiters: &[Entry]) -> Holder
     }
 }
 
-/// How a lock was given back.
+/// How a lock was released.
 fn giving(next: Holder) -> Answer
     ensures { result ≡ giving next }
 {

@@ -1,4 +1,4 @@
-//! Who waits for whom: the rings of contexts that wait for each other, and who of them is condemned.
+//! Who waits for whom: the rings of contexts that wait for each other, and which of them is condemned.
 
 ghost use Rattle.std.specs.Prelude.{◌≡◌, ◌≢◌, ◌==◌, ◌⊎◌, IsSome};
 ghost use Rattle.std.specs.List.{list_any};

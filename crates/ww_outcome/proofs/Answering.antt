@@ -81,8 +81,10 @@ module _ (scripts : List (List Deed)) (replies : List (List Said)) (pending : �
   unset victim script le =
       ap (λ deeds. times victim (cancelled_in deeds (get_or replies script []))) (get_or_past scripts script [] le)
 
-  interrupters_are_scripts : (victim : ℕ) → victim < length scripts → AllByRecursion (λ k. k < length scripts) (interrupters_of scripts replies victim)
-  interrupters_are_scripts victim lt = none_stands (length scripts) (interrupters_of scripts replies victim) (λ k le. omega (arith, balanced k victim lt, unset victim k le))
+  interrupters_are_scripts : (victim : ℕ) → victim < length scripts
+      → AllByRecursion (λ k. k < length scripts) (interrupters_of scripts replies victim)
+  interrupters_are_scripts victim lt = none_stands (length scripts) (interrupters_of scripts replies victim)
+      (λ k le. omega (arith, balanced k victim lt, unset victim k le))
 
   -- what was set, in sum: as many as were answered, and those that are pending
   all_set : (victim : ℕ) → victim < length scripts → sum_below (length scripts) (cancels_of scripts replies victim)

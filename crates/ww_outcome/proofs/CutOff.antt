@@ -67,12 +67,14 @@ module _ (used : ℕ) where
   record_low (interruptible txn) number a r low is = subst (NamesBelow used) (sym is.1.transaction) low
   record_low (cancels script) number a r low is = absurd is
 
-  part_low : (seq : ℕ) (deeds : List Deed) (saids : List Said) (part : List (ℕ × Recorded)) → AllByRecursion IsLowDeed deeds → IsAnswered seq deeds saids part → ArePartLow part
+  part_low : (seq : ℕ) (deeds : List Deed) (saids : List Said) (part : List (ℕ × Recorded))
+      → AllByRecursion IsLowDeed deeds → IsAnswered seq deeds saids part → ArePartLow part
   part_low seq [] [] [] low is = tt
   part_low seq [] [] (r ∷ part) low is = absurd is
   part_low seq [] (said ∷ saids) part low is = absurd is
   part_low seq (deed ∷ deeds) [] part low is = absurd is
-  part_low seq (deed ∷ deeds) (answered a ∷ saids) (r ∷ part) low is = (record_low deed seq a r.1 low.0 is.0, part_low (seq + 1) deeds saids part low.1 is.1)
+  part_low seq (deed ∷ deeds) (answered a ∷ saids) (r ∷ part) low is =
+      (record_low deed seq a r.1 low.0 is.0, part_low (seq + 1) deeds saids part low.1 is.1)
   part_low seq (deed ∷ deeds) (answered a ∷ saids) [] low is = tt
   part_low seq (deed ∷ deeds) (already n ∷ saids) part low is = part_low seq deeds saids part low.1 is.1
   part_low seq (deed ∷ deeds) (interrupted n ∷ saids) part low is = part_low seq deeds saids part low.1 is.1
@@ -94,7 +96,8 @@ module _ (used : ℕ) where
   own_low : (place : ℕ) (r : Recorded) (rs : List Recorded) → ArePartLow (part_from place r.caller (r ∷ rs)) → IsLow r
   own_low place r rs low = let same : (r.caller == r.caller) ≡ true = grind (arith, nat_tests) in (rw same at low).0
 
-  later_low : (place caller : ℕ) (r : Recorded) (rs : List Recorded) → ArePartLow (part_from place caller (r ∷ rs)) → ArePartLow (part_from (place + 1) caller rs)
+  later_low : (place caller : ℕ) (r : Recorded) (rs : List Recorded) → ArePartLow (part_from place caller (r ∷ rs))
+      → ArePartLow (part_from (place + 1) caller rs)
   later_low place caller r rs low = elim (true_or_false (r.caller == caller)) [
     | inl own ↦ (rw own at low).1
     | inr other ↦ rw other at low
@@ -118,19 +121,24 @@ module _ (used : ℕ) where
   history_low plan told is same o =
       let n = length plan.scripts in
       let ranges = ranges_of (length plan.graph) plan.ports n in
-      let low = all_kept (IsScript ranges) (λ script. AllByRecursion IsLowDeed script) plan.scripts (λ script s. all_kept (Suits ranges) IsLowDeed script (λ deed. deed_low ranges deed same) s.suit) is.each in
+      let low = all_kept (IsScript ranges) (λ script. AllByRecursion IsLowDeed script) plan.scripts
+      (λ script s. all_kept (Suits ranges) IsLowDeed script (λ deed. deed_low ranges deed same) s.suit)
+      is.each in
       whole_low n 0 o.history o.explained.callers (λ c lt.
       let e : 0 + c ≡ c = omega arith in
       subst (λ k. ArePartLow (part_of k o.history)) e (parts_low 0 plan.scripts told.replies o.history low o.explained.answered c lt))
 
-  graph_low : (graph : List Node) (history : List Recorded) → AllByRecursion IsLow history → AreEmptyFrom used graph → AreEmptyFrom used (last_graph graph history)
+  graph_low : (graph : List Node) (history : List Recorded) → AllByRecursion IsLow history → AreEmptyFrom used graph
+      → AreEmptyFrom used (last_graph graph history)
   graph_low graph [] low unused = unused
-  graph_low graph (r ∷ rs) low unused = graph_low (graph_after graph r.transaction) rs low.1 (unused_after graph r.transaction used low.0 unused)
+  graph_low graph (r ∷ rs) low unused = graph_low (graph_after graph r.transaction) rs low.1
+      (unused_after graph r.transaction used low.0 unused)
 
 -- ---- the text
 
 -- behind the same bytes, the ports one after the other
-ports_behind : (front : List ℕ) (ps qs rs : List (Option ℕ)) → ps ≡ qs ++ rs → front ++ flat_map spaced_or_dash ps ≡ front ++ flat_map spaced_or_dash qs ++ flat_map spaced_or_dash rs
+ports_behind : (front : List ℕ) (ps qs rs : List (Option ℕ)) → ps ≡ qs ++ rs
+    → front ++ flat_map spaced_or_dash ps ≡ front ++ flat_map spaced_or_dash qs ++ flat_map spaced_or_dash rs
 ports_behind front ps qs rs e =
     ap (λ ports. front ++ flat_map spaced_or_dash ports) e
     ∙ ap (λ bytes. front ++ bytes) (flat_map-append spaced_or_dash qs rs)
@@ -138,10 +146,12 @@ ports_behind front ps qs rs e =
 
 module _ (index : ℕ) (node : Node) where
   -- all ports are the first ones and those that version 1 lacks
-  all_ports : IsEmptyFrom (ports_of One) node → take PORTS node.ports ≡ take (ports_of One) node.ports ++ replicate (ports_of Two - ports_of One) None
+  all_ports : IsEmptyFrom (ports_of One) node
+      → take PORTS node.ports ≡ take (ports_of One) node.ports ++ replicate (ports_of Two - ports_of One) None
   all_ports is =
       let first = take (ports_of One) node.ports in
-      let rest : length (drop (ports_of One) node.ports) ≡ ports_of Two - ports_of One = omega (arith, length-drop (ports_of One) node.ports, is.0) in
+      let rest : length (drop (ports_of One) node.ports) ≡ ports_of Two - ports_of One =
+      omega (arith, length-drop (ports_of One) node.ports, is.0) in
       take_all PORTS node.ports (omega (arith, is.0)) ∙ sym (take-append-drop (ports_of One) node.ports)
       ∙ ap (λ ps. first ++ ps) (none_repeated (drop (ports_of One) node.ports) is.1 ∙ ap (λ k. replicate k None) rest)
 
@@ -151,7 +161,8 @@ module _ (index : ℕ) (node : Node) where
       let front = codes "node " ++ decimal index ++ codes " " ++ decimal node.value in
       ap (λ bytes. bytes ++ codes "\n") (ports_behind front _ _ _ (all_ports is))
 
-numbered_same : {X : Type 0} (P : X → Type 0) (f g : ℕ → X → List ℕ) (index : ℕ) (xs : List X) → ((i : ℕ) (x : X) → P x → f i x ≡ g i x) → AllByRecursion P xs → numbered f index xs ≡ numbered g index xs
+numbered_same : {X : Type 0} (P : X → Type 0) (f g : ℕ → X → List ℕ) (index : ℕ) (xs : List X)
+    → ((i : ℕ) (x : X) → P x → f i x ≡ g i x) → AllByRecursion P xs → numbered f index xs ≡ numbered g index xs
 numbered_same P f g index [] same all = refl
 numbered_same P f g index (x ∷ xs) same all = rw (same index x all.0, numbered_same P f g (index + 1) xs same all.1) refl
 
@@ -161,9 +172,11 @@ module _ (plan : Plan) (told : Told) (is : IsPlan plan) (one : plan.ports ≡ po
   unused_in_the_end : IsOutcome plan told → AreEmptyFrom (ports_of One) told.graph
   unused_in_the_end o =
       let unused = rw one at is.unused in
-      subst (AreEmptyFrom (ports_of One)) o.explained.graph (graph_low (ports_of One) plan.graph o.history (history_low (ports_of One) plan told is one o) unused)
+      subst (AreEmptyFrom (ports_of One)) o.explained.graph
+      (graph_low (ports_of One) plan.graph o.history (history_low (ports_of One) plan told is one o) unused)
 
-  longer_text : IsOutcome plan told → outcome_lines (told_in_version_2 told) ≡ numbered script_lines 0 told.replies ++ place_lines told.places ++ numbered longer_line 0 told.graph
+  longer_text : IsOutcome plan told → outcome_lines (told_in_version_2 told)
+      ≡ numbered script_lines 0 told.replies ++ place_lines told.places ++ numbered longer_line 0 told.graph
   unfolding outcome_lines
   longer_text o =
       ap (λ lines. numbered script_lines 0 told.replies ++ place_lines told.places ++ lines)
@@ -174,7 +187,14 @@ module _ (plan : Plan) (told : Told) (is : IsPlan plan) (one : plan.ports ≡ po
       let e = o.explained in
       record {
         history = o.history;
-        explained = record { legal = e.legal; callers = e.callers; answered = e.answered; places = e.places; ports = refl; graph = e.graph };
+        explained = record {
+          legal = e.legal;
+          callers = e.callers;
+          answered = e.answered;
+          places = e.places;
+          ports = refl;
+          graph = e.graph;
+        };
         pending = o.pending;
         balanced = o.balanced;
       }
@@ -184,7 +204,14 @@ module _ (plan : Plan) (told : Told) (is : IsPlan plan) (one : plan.ports ≡ po
       let e = o.explained in
       record {
         history = o.history;
-        explained = record { legal = e.legal; callers = e.callers; answered = e.answered; places = e.places; ports = same ∙ sym one; graph = e.graph };
+        explained = record {
+          legal = e.legal;
+          callers = e.callers;
+          answered = e.answered;
+          places = e.places;
+          ports = same ∙ sym one;
+          graph = e.graph;
+        };
         pending = o.pending;
         balanced = o.balanced;
       }

@@ -1,4 +1,4 @@
--- The first double of the nodes that some pairs name.
+-- The first duplicate of the nodes that some pairs name.
 use Rattle.std.proofs.Common.{◌≡◌, ◌≢◌, ℕ, zero, suc, ◌+◌, ◌<◌, ◌≤◌, Bool, true, false, inl, inr, eqb, Option, Some, None, is_some, List, [], ◌∷◌, ◌++◌, length, take, drop, get_or, map, refl, ap, arith, sym, ◌∙◌}
 use Rattle.std.specs.List.{IsDistinct}
 use Rattle.std.specs.Bool.{then_some}
@@ -8,13 +8,15 @@ use Rattle.ww_plain.specs.Transaction.{IsFirstDouble, FirstDouble}
 use Rattle.ww_plain.proofs.Members.{or_cases, same_from_eqb, eqb_same, is_among-head, is_among-tail, different_push, different_head, different_tail}
 
 -- a list around the place i, as another list
-map_around : {X Y : Type 0} (f : X → Y) (xs : List X) (i : ℕ) (d : X) → i < length xs → map f xs ≡ map f (take i xs) ++ f (get_or xs i d) ∷ map f (drop (suc i) xs)
+map_around : {X Y : Type 0} (f : X → Y) (xs : List X) (i : ℕ) (d : X) → i < length xs
+    → map f xs ≡ map f (take i xs) ++ f (get_or xs i d) ∷ map f (drop (suc i) xs)
 map_around f [] i d lt = absurd (omega arith)
 map_around f (x ∷ xs) zero d lt = refl
 map_around f (x ∷ xs) (suc i) d lt = ap (λ ys. f x ∷ ys) (map_around f xs i d (omega arith))
 
 -- the item at i is named by an earlier one, and no two earlier ones name the same
-pub double_found : {X : Type 0} (f : X → ℕ) (xs : List X) (i : ℕ) (x : X) (n : ℕ) → i < length xs → x ≡ get_or xs i x → n ≡ f x → AreDifferent (map f (take i xs)) → is_among n (map f (take i xs)) ≡ true
+pub double_found : {X : Type 0} (f : X → ℕ) (xs : List X) (i : ℕ) (x : X) (n : ℕ) → i < length xs
+    → x ≡ get_or xs i x → n ≡ f x → AreDifferent (map f (take i xs)) → is_among n (map f (take i xs)) ≡ true
     → IsFirstDouble (map f xs) n
 double_found f xs i x n lt is names different earlier = record {
   front = map f (take i xs);
@@ -24,12 +26,14 @@ double_found f xs i x n lt is names different earlier = record {
   earlier = earlier;
 }
 
-pub different_more : {X : Type 0} (f : X → ℕ) (xs : List X) (i : ℕ) (x : X) (n : ℕ) → i < length xs → x ≡ get_or xs i x → n ≡ f x → AreDifferent (map f (take i xs)) → is_among n (map f (take i xs)) ≡ false
+pub different_more : {X : Type 0} (f : X → ℕ) (xs : List X) (i : ℕ) (x : X) (n : ℕ) → i < length xs
+    → x ≡ get_or xs i x → n ≡ f x → AreDifferent (map f (take i xs)) → is_among n (map f (take i xs)) ≡ false
     → AreDifferent (map f (take (i + 1) xs))
 different_more f xs i x n lt is names different new =
     rw (map_more f xs i x lt, ← names ∙ ap f is) (different_push (map f (take i xs)) n different new)
 
-pub different_all : {X : Type 0} (f : X → ℕ) (xs : List X) (i : ℕ) → length xs ≤ i → AreDifferent (map f (take i xs)) → AreDifferent (map f xs)
+pub different_all : {X : Type 0} (f : X → ℕ) (xs : List X) (i : ℕ) → length xs ≤ i
+    → AreDifferent (map f (take i xs)) → AreDifferent (map f xs)
 different_all f xs i le different = rw take_all at different
 
 by_test : (m n : ℕ) (same : Bool) → eqb m n ≡ same → FirstDouble (m ∷ n ∷ []) (then_some same n)
@@ -58,7 +62,7 @@ not_different n (m ∷ ms) rest e different =
       | inr later ↦ not_different n ms rest later (different_tail m (ms ++ n ∷ rest) different)
     ]
 
--- where there is a first double, the nodes do not all differ
+-- where there is a first duplicate, the nodes do not all differ
 pub no_double_is_none : (ns : List ℕ) (double : Option ℕ) → FirstDouble ns double → is_some double ≡ true → AreDifferent ns → ⊥
 no_double_is_none ns None first e different = absurd cc
 no_double_is_none ns (Some n) first e different = not_different n first.front first.rest first.earlier (rw first.parts at different)

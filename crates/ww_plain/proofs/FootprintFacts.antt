@@ -25,13 +25,16 @@ below_push size [] n below here = (here, tt)
 below_push size (m ∷ ms) n below here = (below.0, below_push size ms n below.1 here)
 
 pub below_joined : (size : ℕ) (ns : List ℕ) (n : ℕ) → AreBelow size ns → n < size → AreBelow size (joined ns n)
-below_joined size ns n below here = elim (true_or_false (is_among n ns)) [ inl e ↦ rw e below | inr e ↦ rw e (below_push size ns n below here) ]
+below_joined size ns n below here = elim (true_or_false (is_among n ns))
+    [ inl e ↦ rw e below | inr e ↦ rw e (below_push size ns n below here) ]
 
 pub different_joined : (ns : List ℕ) (n : ℕ) → AreDifferent ns → AreDifferent (joined ns n)
-different_joined ns n different = elim (true_or_false (is_among n ns)) [ inl e ↦ rw e different | inr e ↦ rw e (different_push ns n different e) ]
+different_joined ns n different = elim (true_or_false (is_among n ns))
+    [ inl e ↦ rw e different | inr e ↦ rw e (different_push ns n different e) ]
 
 length_joined : (ns : List ℕ) (n : ℕ) → length (joined ns n) ≤ length ns + 1
-length_joined ns n = elim (true_or_false (is_among n ns)) [ inl e ↦ rw e (omega arith) | inr e ↦ rw e (omega (arith, length-append ns (n ∷ []))) ]
+length_joined ns n = elim (true_or_false (is_among n ns))
+    [ inl e ↦ rw e (omega arith) | inr e ↦ rw e (omega (arith, length-append ns (n ∷ []))) ]
 
 pub length_all_joined : (ns ms : List ℕ) → length (fold joined ns ms) ≤ length ns + length ms
 length_all_joined ns [] = omega arith
@@ -54,32 +57,44 @@ below_among size (m ∷ ms) below n e = elim (or_cases (eqb n m) (list_any (eqb 
 pub few_different : (size : ℕ) (ns : List ℕ) → AreDifferent ns → AreBelow size ns → length ns ≤ size
 few_different size ns different below = length-le_from_distinct_below ns size different (below_among size ns below)
 
-follows_below : (graph : List Node) (p v : ℕ) (ws : List ℕ) → IsGraph graph → v < length graph → Follows graph p (v ∷ ws) → AreBelow (length graph) (v ∷ ws)
+follows_below : (graph : List Node) (p v : ℕ) (ws : List ℕ) → IsGraph graph → v < length graph
+    → Follows graph p (v ∷ ws) → AreBelow (length graph) (v ∷ ws)
 follows_below graph p v [] is here follows = (here, tt)
-follows_below graph p v (w ∷ ws) is here follows = (here, follows_below graph p w ws is (target_is_there graph v p w is follows.0) follows.1)
+follows_below graph p v (w ∷ ws) is here follows =
+    (here, follows_below graph p w ws is (target_is_there graph v p w is follows.0) follows.1)
 
-pub begun_below : (graph : List Node) (start p most : ℕ) (vs : List ℕ) → IsGraph graph → start < length graph → IsWalk graph start p most vs → AreBelow (length graph) vs
+pub begun_below : (graph : List Node) (start p most : ℕ) (vs : List ℕ) → IsGraph graph → start < length graph
+    → IsWalk graph start p most vs → AreBelow (length graph) vs
 begun_below graph start p most [] is here walk = absurd walk.begins
-begun_below graph start p most (v ∷ ws) is here walk = follows_below graph p v ws is (subst (λ (n : ℕ). n < length graph) (sym walk.begins) here) walk.follows
+begun_below graph start p most (v ∷ ws) is here walk =
+    follows_below graph p v ws is (subst (λ (n : ℕ). n < length graph) (sym walk.begins) here) walk.follows
 
 -- the nodes of a walk are there
-pub walk_below : (graph : List Node) (start p most : ℕ) → IsGraph graph → start < length graph → 1 ≤ most → AreBelow (length graph) (walk_of graph start p most)
-walk_below graph start p most is here some = begun_below graph start p most (walk_of graph start p most) is here (gives_walk graph start p most some)
+pub walk_below : (graph : List Node) (start p most : ℕ) → IsGraph graph → start < length graph → 1 ≤ most
+    → AreBelow (length graph) (walk_of graph start p most)
+walk_below graph start p most is here some =
+    begun_below graph start p most (walk_of graph start p most) is here (gives_walk graph start p most some)
 
 pub different_walk : (graph : List Node) (start p most : ℕ) → 1 ≤ most → AreDifferent (walk_of graph start p most)
 different_walk graph start p most some = (gives_walk graph start p most some).different
 
-few_with_target : (size : ℕ) (ns : List ℕ) (target : Option ℕ) → AreDifferent ns → AreBelow size ns → IfSome target (λ t. t < size) → length (with_target ns target) ≤ size
+few_with_target : (size : ℕ) (ns : List ℕ) (target : Option ℕ) → AreDifferent ns → AreBelow size ns
+    → IfSome target (λ t. t < size) → length (with_target ns target) ≤ size
 few_with_target size ns None different below there = few_different size ns different below
-few_with_target size ns (Some t) different below there = few_different size (joined ns t) (different_joined ns t different) (below_joined size ns t below there)
+few_with_target size ns (Some t) different below there =
+    few_different size (joined ns t) (different_joined ns t different) (below_joined size ns t below there)
 
 -- a walk and its stop are no more nodes than the graph has
-pub few_walked : (graph : List Node) (start p most : ℕ) → IsGraph graph → start < length graph → 1 ≤ most → length (walked graph p (walk_of graph start p most)) ≤ length graph
+pub few_walked : (graph : List Node) (start p most : ℕ) → IsGraph graph → start < length graph → 1 ≤ most
+    → length (walked graph p (walk_of graph start p most)) ≤ length graph
 few_walked graph start p most is here some =
-    few_with_target (length graph) (walk_of graph start p most) (stop_of graph p (walk_of graph start p most)) (different_walk graph start p most some) (walk_below graph start p most is here some) (port_is_there graph (last_of (walk_of graph start p most)) p is.closed)
+    few_with_target (length graph) (walk_of graph start p most) (stop_of graph p (walk_of graph start p most))
+    (different_walk graph start p most some) (walk_below graph start p most is here some)
+    (port_is_there graph (last_of (walk_of graph start p most)) p is.closed)
 
 -- so far there are no more nodes than items
-pub few_more : {X : Type 0} (f : X → ℕ) (xs : List X) (i : ℕ) (x : X) (n : ℕ) (ns : List ℕ) → i < length xs → x ≡ get_or xs i x → n ≡ f x → ns ≡ distinct_of (map f (take i xs)) → length (joined ns n) ≤ length xs
+pub few_more : {X : Type 0} (f : X → ℕ) (xs : List X) (i : ℕ) (x : X) (n : ℕ) (ns : List ℕ) → i < length xs
+    → x ≡ get_or xs i x → n ≡ f x → ns ≡ distinct_of (map f (take i xs)) → length (joined ns n) ≤ length xs
 few_more f xs i x n ns lt is names so_far =
     let more = length_joined ns n in
     let few = length_all_joined [] (map f (take i xs)) in
@@ -87,7 +102,8 @@ few_more f xs i x n ns lt is names so_far =
     omega (arith, more, few, same, length-map (take i xs) f, length-take-le i xs (omega arith))
 
 -- a walk and its stop have room
-pub room_for_stop : (graph : List Node) (start p most : ℕ) (vs : List ℕ) (stop : Option ℕ) → IsGraph graph → IsCourse (length graph) start p most → vs ≡ walk_of graph start p most
+pub room_for_stop : (graph : List Node) (start p most : ℕ) (vs : List ℕ) (stop : Option ℕ) → IsGraph graph
+    → IsCourse (length graph) start p most → vs ≡ walk_of graph start p most
     → stop ≡ stop_of graph p (walk_of graph start p most) → length (with_target vs stop) ≤ MAX_NODES
 room_for_stop graph start p most vs stop graphs course is stops =
     let few = few_walked graph start p most graphs course.starts course.some in

@@ -24,8 +24,10 @@ all_set P (x ∷ xs) zero y here all = (here, all.1)
 all_set P (x ∷ xs) (suc i) y here all = (all.0, all_set P xs i y here all.1)
 
 -- each port names a node that is there
-pub port_is_there : (graph : List Node) (n p : ℕ) → AllByRecursion (IsNodeOf (length graph)) graph → IfSome (port_of graph n p) (λ target. target < length graph)
-port_is_there graph n p closed = all_at (λ port. IfSome port (λ target. target < length graph)) (node_at graph n).ports p None tt (all_at (IsNodeOf (length graph)) graph n no_node tt closed)
+pub port_is_there : (graph : List Node) (n p : ℕ) → AllByRecursion (IsNodeOf (length graph)) graph
+    → IfSome (port_of graph n p) (λ target. target < length graph)
+port_is_there graph n p closed = all_at (λ port. IfSome port (λ target. target < length graph))
+    (node_at graph n).ports p None tt (all_at (IsNodeOf (length graph)) graph n no_node tt closed)
 
 pub target_is_there : (graph : List Node) (n p target : ℕ) → IsGraph graph → port_of graph n p ≡ Some target → target < length graph
 target_is_there graph n p target h e = subst (λ (port : Option ℕ). IfSome port (λ t. t < length graph)) e (port_is_there graph n p h.closed)

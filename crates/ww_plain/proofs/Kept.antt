@@ -24,28 +24,37 @@ sized_value size graph n value h = record {
   closed = all_set (IsNodeOf size) graph n (record (node_at graph n) { value = value }) (node_is_of size graph n h) h.closed;
 }
 
-sized_port : (size : ℕ) (graph : List Node) (n p : ℕ) (target : Option ℕ) → IsSized size graph → IfSome target (λ t. t < size) → IsSized size (with_port graph n p target)
+sized_port : (size : ℕ) (graph : List Node) (n p : ℕ) (target : Option ℕ) → IsSized size graph
+    → IfSome target (λ t. t < size) → IsSized size (with_port graph n p target)
 sized_port size graph n p target h there = record {
   length_is = length-set graph n _ ∙ h.length_is;
-  closed = all_set (IsNodeOf size) graph n _ (all_set (λ port. IfSome port (λ t. t < size)) (node_at graph n).ports p target there (node_is_of size graph n h)) h.closed;
+  closed = all_set (IsNodeOf size) graph n _
+      (all_set (λ port. IfSome port (λ t. t < size)) (node_at graph n).ports p target there
+      (node_is_of size graph n h)) h.closed;
 }
 
 pub sized_added : (size : ℕ) (graph : List Node) (amounts : List (ℕ × ℕ)) → IsSized size graph → IsSized size (fold raised graph amounts)
 sized_added size graph [] h = h
-sized_added size graph (pair ∷ pairs) h = sized_added size (raised graph pair) pairs (sized_value size graph pair.0 ((value_of graph pair.0 + pair.1) % 2 ^ 64) h)
+sized_added size graph (pair ∷ pairs) h =
+    sized_added size (raised graph pair) pairs
+    (sized_value size graph pair.0 ((value_of graph pair.0 + pair.1) % 2 ^ 64) h)
 
 pub sized_moving : (size : ℕ) (graph : List Node) (from to amount : ℕ) → IsSized size graph → IsSized size ((moving graph from to amount).1)
 sized_moving size graph from to amount h = elim (true_or_false (nat_lt (value_of graph from) amount)) [
   | inl short ↦ rw short h
   | inr enough ↦ rw enough (elim (true_or_false (nat_lt (2 ^ 64 - 1) (value_of graph to + amount))) [
     | inl full ↦ rw full h
-    | inr room ↦ rw room (sized_value size (with_value graph from (value_of graph from - amount)) to (value_of graph to + amount) (sized_value size graph from (value_of graph from - amount) h))
+    | inr room ↦ rw room (sized_value size (with_value graph from (value_of graph from - amount)) to
+        (value_of graph to + amount) (sized_value size graph from (value_of graph from - amount) h))
   ])
 ]
 
-pub sized_turned : (size : ℕ) (graph : List Node) (p : ℕ) (before : Option ℕ) (vs : List ℕ) → IsSized size graph → IfSome before (λ t. t < size) → AreBelow size vs → IsSized size (turned graph p before vs)
+pub sized_turned : (size : ℕ) (graph : List Node) (p : ℕ) (before : Option ℕ) (vs : List ℕ) → IsSized size graph
+    → IfSome before (λ t. t < size) → AreBelow size vs → IsSized size (turned graph p before vs)
 sized_turned size graph p before [] h there below = h
-sized_turned size graph p before (v ∷ vs) h there below = sized_turned size (with_port graph v p before) p (Some v) vs (sized_port size graph v p before h there) below.0 below.1
+sized_turned size graph p before (v ∷ vs) h there below =
+    sized_turned size (with_port graph v p before) p (Some v) vs (sized_port size graph v p before h there) below.0
+    below.1
 
 pub sized_graph : (graph : List Node) → IsGraph graph → IsSized (length graph) graph
 sized_graph graph h = record { length_is = refl; closed = h.closed }
@@ -60,9 +69,12 @@ graph_from_sized graph new h sized = record {
 pub sized_turning : (graph : List Node) (start p most : ℕ) → IsGraph graph → start < length graph → 1 ≤ most
     → IsSized (length graph) (turned graph p (stop_of graph p (walk_of graph start p most)) (walk_of graph start p most))
 sized_turning graph start p most h here some =
-    sized_turned (length graph) graph p (stop_of graph p (walk_of graph start p most)) (walk_of graph start p most) (sized_graph graph h) (port_is_there graph (last_of (walk_of graph start p most)) p h.closed) (walk_below graph start p most h here some)
+    sized_turned (length graph) graph p (stop_of graph p (walk_of graph start p most)) (walk_of graph start p most)
+    (sized_graph graph h) (port_is_there graph (last_of (walk_of graph start p most)) p h.closed)
+    (walk_below graph start p most h here some)
 
-pub sized_after : (graph : List Node) (txn : Transaction) → IsGraph graph → Fits (length graph) txn → IsSized (length graph) (graph_after graph txn)
+pub sized_after : (graph : List Node) (txn : Transaction) → IsGraph graph → Fits (length graph) txn
+    → IsSized (length graph) (graph_after graph txn)
 sized_after graph (get by nodes) h fits = sized_graph graph h
 sized_after graph (add by amounts) h fits = sized_added (length graph) graph amounts (sized_graph graph h)
 sized_after graph (move from to amount) h fits = sized_moving (length graph) graph from to amount (sized_graph graph h)

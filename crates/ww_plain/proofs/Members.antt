@@ -18,7 +18,8 @@ pub is_among-tail : (m n : ℕ) (ns : List ℕ) → is_among n ns ≡ true → i
 is_among-tail m n ns e = or_right (eqb m n) (is_among n ns) e
 
 -- what holds of the head and of each of the tail holds of each
-pub among_cons : (P : ℕ → Type 0) (m : ℕ) (ms : List ℕ) → P m → ((n : ℕ) → is_among n ms ≡ true → P n) → (n : ℕ) → is_among n (m ∷ ms) ≡ true → P n
+pub among_cons : (P : ℕ → Type 0) (m : ℕ) (ms : List ℕ) → P m → ((n : ℕ) → is_among n ms ≡ true → P n) → (n : ℕ)
+    → is_among n (m ∷ ms) ≡ true → P n
 among_cons P m ms here there n e =
     elim (or_cases (eqb m n) (is_among n ms) e) [ inl same ↦ subst P (same_from_eqb m n same) here | inr later ↦ there n later ]
 
@@ -61,6 +62,7 @@ different_push [] n h e = (tt, tt)
 different_push (m ∷ ms) n h e =
     let both = or_false (eqb m n) (is_among n ms) e in (others_push m ms n h.0 both.0, different_push ms n h.1 both.1)
   where
-    others_push : (m : ℕ) (ms : List ℕ) (n : ℕ) → AllByRecursion (λ k. eqb m k ≡ false) ms → eqb m n ≡ false → AllByRecursion (λ k. eqb m k ≡ false) (ms ++ n ∷ [])
+    others_push : (m : ℕ) (ms : List ℕ) (n : ℕ) → AllByRecursion (λ k. eqb m k ≡ false) ms → eqb m n ≡ false
+        → AllByRecursion (λ k. eqb m k ≡ false) (ms ++ n ∷ [])
     others_push m [] n h e = (e, tt)
     others_push m (k ∷ ks) n h e = (h.0, others_push m ks n h.1 e)

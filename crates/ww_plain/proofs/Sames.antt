@@ -25,7 +25,8 @@ port_alike p q = search rules
 node_alike : (n m : Node) → Decides (of_node.ghosts.eq n m) (n ≡ m)
 node_alike n m =
     let both = Decides-and _ _ (Decides-eqb n.value m.value) (slice_eq-Decides port_alike n.ports m.ports _ refl) in
-    Decides-like _ (λ same. (λ i. record { value = same.0 i; ports = same.1 i })) (λ e. (ap (λ (k : Node). k.value) e, ap (λ (k : Node). k.ports) e)) both
+    Decides-like _ (λ same. (λ i. record { value = same.0 i; ports = same.1 i }))
+    (λ e. (ap (λ (k : Node). k.value) e, ap (λ (k : Node). k.ports) e)) both
 
 pub node_same : (n m : Node) (r : Bool) → r ≡ of_node.ghosts.eq n m → Decides r (n ≡ m)
 node_same n m r is = Decides-at _ _ is (node_alike n m)
@@ -35,7 +36,9 @@ nodes_same ns ms r is = slice_eq-Decides node_alike ns ms r is
 
 -- of a node and the amount that it gets
 pair_alike : (p q : ℕ × ℕ) → Decides (p.0 == q.0 && p.1 == q.1) (p ≡ q)
-pair_alike p q = Decides-like _ (λ same. (λ i. (same.0 i, same.1 i))) (λ e. (ap (λ (r : ℕ × ℕ). r.0) e, ap (λ (r : ℕ × ℕ). r.1) e)) (Decides-and _ _ (Decides-eqb p.0 q.0) (Decides-eqb p.1 q.1))
+pair_alike p q = Decides-like _ (λ same. (λ i. (same.0 i, same.1 i)))
+    (λ e. (ap (λ (r : ℕ × ℕ). r.0) e, ap (λ (r : ℕ × ℕ). r.1) e))
+    (Decides-and _ _ (Decides-eqb p.0 q.0) (Decides-eqb p.1 q.1))
 
 abbrev amounts_in : Transaction → List (ℕ × ℕ)
 amounts_in (add by amounts) = amounts
@@ -44,8 +47,12 @@ amounts_in txn = []
 txn_alike : (a b : Txn) → Decides (of_txn.ghosts.eq a b) (transaction_of a ≡ transaction_of b)
 txn_alike (Get AlongList ns) b = search rules
 txn_alike (Get Order ns) b = search rules
-txn_alike (Add AlongList ps) (Add AlongList qs) = Decides-like _ (λ same. ap (add AlongList) same) (λ e. ap amounts_in e) (slice_eq-Decides pair_alike ps.items qs.items _ refl)
-txn_alike (Add Order ps) (Add Order qs) = Decides-like _ (λ same. ap (add Order) same) (λ e. ap amounts_in e) (slice_eq-Decides pair_alike ps.items qs.items _ refl)
+txn_alike (Add AlongList ps) (Add AlongList qs) =
+    Decides-like _ (λ same. ap (add AlongList) same) (λ e. ap amounts_in e)
+    (slice_eq-Decides pair_alike ps.items qs.items _ refl)
+txn_alike (Add Order ps) (Add Order qs) =
+    Decides-like _ (λ same. ap (add Order) same) (λ e. ap amounts_in e)
+    (slice_eq-Decides pair_alike ps.items qs.items _ refl)
 txn_alike (Add AlongList ps) (Add Order qs) = search rules
 txn_alike (Add Order ps) (Add AlongList qs) = search rules
 txn_alike (Add by ps) (Get way ns) = search rules
@@ -72,5 +79,15 @@ record_same a b r is =
     let whole = Decides-and _ _ (Decides-eqb a.caller b.caller) (Decides-and _ _ (Decides-eqb a.seq b.seq) said) in
     Decides-at _ _ is (Decides-like _
     (λ same. (λ i. record { caller = same.0 i; seq = same.1.0 i; transaction = same.1.1.0 i; answer = same.1.1.1 i }))
-    (λ e. (ap (λ (r : Recorded). r.caller) e, (ap (λ (r : Recorded). r.seq) e, (ap (λ (r : Recorded). r.transaction) e, ap (λ (r : Recorded). r.answer) e))))
+    (λ e. (
+      ap (λ (r : Recorded). r.caller) e,
+      (
+        ap (λ (r : Recorded). r.seq) e,
+        (
+          ap (λ (r : Recorded). r.transaction) e,
+          ap (λ (r : Recorded). r.answer)
+              e,
+        ),
+      ),
+    ))
     whole)

@@ -9,7 +9,8 @@ use Rattle.ww_plain.proofs.Fronts.{last_from-push}
 
 -- the node at i is turned, and then those behind it
 pub turned_more : (graph : List Node) (p : ℕ) (before : Option ℕ) (walk : List ℕ) (i : ℕ) → i < length walk
-    → turned graph p before (drop i walk) ≡ turned (with_port graph (get_or walk i 0) p before) p (Some (get_or walk i 0)) (drop (i + 1) walk)
+    → turned graph p before (drop i walk)
+    ≡ turned (with_port graph (get_or walk i 0) p before) p (Some (get_or walk i 0)) (drop (i + 1) walk)
 turned_more graph p before walk i lt = rw (add-one, drop-cons walk i 0) refl
 
 last_of-push : (vs : List ℕ) (v : ℕ) → last_of (vs ++ v ∷ []) ≡ v

@@ -10,7 +10,8 @@ use Rattle.ww_plain.specs.Laws.{UnusedPortsStayEmpty}
 use Rattle.ww_plain.proofs.Members.{true_or_false}
 use Rattle.ww_plain.proofs.GraphFacts.{all_item}
 
-all_set_inside : {X : Type 0} (P : X → Type 0) (xs : List X) (i : ℕ) (x : X) → (i < length xs → P x) → AllByRecursion P xs → AllByRecursion P (set xs i x)
+all_set_inside : {X : Type 0} (P : X → Type 0) (xs : List X) (i : ℕ) (x : X) → (i < length xs → P x)
+    → AllByRecursion P xs → AllByRecursion P (set xs i x)
 all_set_inside P [] i y here all = tt
 all_set_inside P (x ∷ xs) zero y here all = (here (omega arith), all.1)
 all_set_inside P (x ∷ xs) (suc i) y here all = (all.0, all_set_inside P xs i y (λ lt. here (omega (arith, lt))) all.1)
@@ -18,13 +19,18 @@ all_set_inside P (x ∷ xs) (suc i) y here all = (all.0, all_set_inside P xs i y
 module _ (used : ℕ) where
   unused_value : (graph : List Node) (n value : ℕ) → AreEmptyFrom used graph → AreEmptyFrom used (with_value graph n value)
   unused_value graph n value unused =
-      all_set_inside (IsEmptyFrom used) graph n (record (node_at graph n) { value = value }) (λ lt. all_item (IsEmptyFrom used) graph n no_node lt unused) unused
+      all_set_inside (IsEmptyFrom used) graph n (record (node_at graph n) { value = value })
+      (λ lt. all_item (IsEmptyFrom used) graph n no_node lt unused) unused
 
-  unused_port : (graph : List Node) (n p : ℕ) (target : Option ℕ) → p < used → AreEmptyFrom used graph → AreEmptyFrom used (with_port graph n p target)
+  unused_port : (graph : List Node) (n p : ℕ) (target : Option ℕ) → p < used → AreEmptyFrom used graph
+      → AreEmptyFrom used (with_port graph n p target)
   unused_port graph n p target low unused = all_set_inside (IsEmptyFrom used) graph n _ (λ lt.
       let here = all_item (IsEmptyFrom used) graph n no_node lt unused in
-      let ports = (node_at graph n).ports in
-      (length-set ports p target ∙ here.0, subst (AllByRecursion (λ port. port ≡ None)) (sym (drop-set-lt used ports p target low)) here.1)) unused
+      let ports = (node_at graph n).ports in (
+        length-set ports p target ∙ here.0,
+        subst (AllByRecursion (λ port. port ≡ None))
+            (sym (drop-set-lt used ports p target low)) here.1,
+      )) unused
 
   unused_added : (graph : List Node) (amounts : List (ℕ × ℕ)) → AreEmptyFrom used graph → AreEmptyFrom used (fold raised graph amounts)
   unused_added graph [] unused = unused
@@ -36,13 +42,16 @@ module _ (used : ℕ) where
     | inl short ↦ rw short unused
     | inr enough ↦ rw enough (elim (true_or_false (nat_lt (2 ^ 64 - 1) (value_of graph to + amount))) [
       | inl full ↦ rw full unused
-      | inr room ↦ rw room (unused_value (with_value graph from (value_of graph from - amount)) to (value_of graph to + amount) (unused_value graph from (value_of graph from - amount) unused))
+      | inr room ↦ rw room (unused_value (with_value graph from (value_of graph from - amount)) to
+          (value_of graph to + amount) (unused_value graph from (value_of graph from - amount) unused))
     ])
   ]
 
-  unused_turned : (graph : List Node) (p : ℕ) (before : Option ℕ) (vs : List ℕ) → p < used → AreEmptyFrom used graph → AreEmptyFrom used (turned graph p before vs)
+  unused_turned : (graph : List Node) (p : ℕ) (before : Option ℕ) (vs : List ℕ) → p < used → AreEmptyFrom used graph
+      → AreEmptyFrom used (turned graph p before vs)
   unused_turned graph p before [] low unused = unused
-  unused_turned graph p before (v ∷ vs) low unused = unused_turned (with_port graph v p before) p (Some v) vs low (unused_port graph v p before low unused)
+  unused_turned graph p before (v ∷ vs) low unused =
+      unused_turned (with_port graph v p before) p (Some v) vs low (unused_port graph v p before low unused)
 
 pub unused_after : UnusedPortsStayEmpty
 unused_after graph (get by nodes) used names unused = unused

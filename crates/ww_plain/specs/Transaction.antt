@@ -78,7 +78,7 @@ pub record IsFirstDouble (ns : List ℕ) (n : ℕ) : Type 0 where
   pub different : AreDifferent front
   pub earlier : IsTrue (is_among n front)
 
--- the first double, or None where there is none
+-- the first duplicate, or None where there is none
 abbrev pub FirstDouble : List ℕ → Option ℕ → Type 0
 FirstDouble ns None = AreDifferent ns
 FirstDouble ns (Some n) = IsFirstDouble ns n

@@ -51,7 +51,7 @@ impl Model for Graph {
 impl Graph {
     ghost use Rattle.ww_plain.specs.Graph.{IsGraph, IsRefused, IsNodeOf, node_at};
 
-    /// Takes the nodes for a graph. It looks at their number first, and gives them back where they are none.
+    /// Takes the nodes for a graph. It looks at their number first, and returns them if they are none.
     pub fn new(nodes: Vec<Node>) -> Result<Graph, (Vec<Node>, GraphFault)>
         ensures ok { IsOk result ↔ IsGraph nodes.items }
         ensures kept { IfOk result (λ graph. graph ≡ nodes.items) }

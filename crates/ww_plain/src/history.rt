@@ -39,7 +39,7 @@ impl Record {
     }
 }
 
-/// The last graph of the records' history, if that is legal from the graph given: each transaction fits, has no double,
+/// The last graph of the records' history, if that is legal from this graph: each transaction fits, has no duplicate,
 /// and has the reply of its point.
 pub fn replays(
     alloc: Global,

@@ -31,7 +31,8 @@ total_port : (graph : List Node) (n p : ℕ) (target : Option ℕ) → total_of 
 total_port graph n p target = elim (true_or_false (nat_lt n (length graph))) [
   | inl there ↦
       let lt : n < length graph = grind (arith, nat_tests) in
-      let same = sum_by-set (λ (node : Node). node.value) graph n (record (node_at graph n) { ports = set (node_at graph n).ports p target }) no_node lt in
+      let same = sum_by-set (λ (node : Node). node.value) graph n
+      (record (node_at graph n) { ports = set (node_at graph n).ports p target }) no_node lt in
       omega (arith, same)
   | inr past ↦
       let le : length graph ≤ n = grind (arith, nat_tests) in

@@ -33,7 +33,8 @@ older_why owner e k is =
 pub older_when : (owner : Owner) (e : Entry) → MeetsOlderOwner owner e → older_owner owner e ≡ Some owner.stamp
 older_when owner e met = true_picks {A = Option ℕ} (is_other owner.seat e.seat && is_older owner.stamp e.stamp) (Some owner.stamp) None
     (true_both (is_other owner.seat e.seat) (is_older owner.stamp e.stamp)
-    (subst (λ o. is_other o e.seat ≡ true) (sym met.owns) (other_when met.seat e.seat met.other)) (true_older owner.stamp e.stamp met.older))
+    (subst (λ o. is_other o e.seat ≡ true) (sym met.owns) (other_when met.seat e.seat met.other))
+    (true_older owner.stamp e.stamp met.older))
 
 pub older_none : (owner : Owner) (e : Entry) → ¬ MeetsOlderOwner owner e → older_owner owner e ≡ None
 older_none owner e none = go (older_owner owner e) refl
@@ -53,7 +54,8 @@ stamp_why : (o : Option Entry) (k : ℕ) → option_map (λ (x : Entry). x.stamp
 stamp_why None k is = absurd cc
 stamp_why (Some x) k is = (x, refl, cc)
 
-and_then_why : (f : Entry → Option ℕ) (o : Option Entry) (k : ℕ) → option_and_then f o ≡ Some k → (e : Entry) × (o ≡ Some e) × (f e ≡ Some k)
+and_then_why : (f : Entry → Option ℕ) (o : Option Entry) (k : ℕ) → option_and_then f o ≡ Some k → (e : Entry)
+    × (o ≡ Some e) × (f e ≡ Some k)
 and_then_why f None k is = absurd cc
 and_then_why f (Some e) k is = (e, refl, is)
 
@@ -62,14 +64,16 @@ abbrev or_ahead : List Entry → Entry → Option ℕ → Option ℕ
 or_ahead q e o = option_or o (option_map (λ x. x.stamp) (first_before q e.seat))
 
 -- the cause in Wait-Die
-pub cause_why : (owner : Owner) (q : List Entry) (e : Entry) (sign k : ℕ) → Has q e → cause_of WaitDie owner q sign e ≡ Some k → IsCause owner q e k
+pub cause_why : (owner : Owner) (q : List Entry) (e : Entry) (sign k : ℕ) → Has q e
+    → cause_of WaitDie owner q sign e ≡ Some k → IsCause owner q e k
 cause_why owner q e sign k h is = ⊎_elim
     (λ met. inl (older_why owner e k met))
     (λ rest. let x = stamp_why (first_before q e.seat) k rest.1 in
     inr (none_older owner e rest.0, (x.0, ahead_is_first_before q e.seat (e, h, refl) ∙ x.1, x.2)))
     (or_why (older_owner owner e) (option_map (λ x. x.stamp) (first_before q e.seat)) k is)
 
-pub cause_when : (owner : Owner) (q : List Entry) (e : Entry) (sign k : ℕ) → Has q e → IsCause owner q e k → cause_of WaitDie owner q sign e ≡ Some k
+pub cause_when : (owner : Owner) (q : List Entry) (e : Entry) (sign k : ℕ) → Has q e → IsCause owner q e k
+    → cause_of WaitDie owner q sign e ≡ Some k
 cause_when owner q e sign k h cause = ⊎_elim
     (λ met. ap (or_ahead q e) (older_when owner e met.0) ∙ ap Some (sym met.1))
     (λ rest. let x = rest.1 in
@@ -78,19 +82,26 @@ cause_when owner q e sign k h cause = ⊎_elim
     cause
 
 -- only a waiter that holds locks dies, and of its cause
-pub death_why : (kind : Kind) (owner : Owner) (q : List Entry) (sign : ℕ) (e : Entry) (k : ℕ) → death_of kind owner q sign e ≡ Some k → IsHolding e × (cause_of kind owner q sign e ≡ Some k)
-death_why kind owner q sign e k = by_test (is_holding e) (cause_of kind owner q sign e) None (λ o. o ≡ Some k → IsHolding e × (cause_of kind owner q sign e ≡ Some k))
+pub death_why : (kind : Kind) (owner : Owner) (q : List Entry) (sign : ℕ) (e : Entry) (k : ℕ)
+    → death_of kind owner q sign e ≡ Some k → IsHolding e × (cause_of kind owner q sign e ≡ Some k)
+death_why kind owner q sign e k = by_test (is_holding e) (cause_of kind owner q sign e) None
+    (λ o. o ≡ Some k → IsHolding e × (cause_of kind owner q sign e ≡ Some k))
     (λ holds is. (holding_true e holds, is)) (λ _ is. absurd cc)
 
-pub death_when : (kind : Kind) (owner : Owner) (q : List Entry) (sign : ℕ) (e : Entry) → IsHolding e → death_of kind owner q sign e ≡ cause_of kind owner q sign e
-death_when kind owner q sign e holding = true_picks {A = Option ℕ} (is_holding e) (cause_of kind owner q sign e) None (true_holding e holding)
+pub death_when : (kind : Kind) (owner : Owner) (q : List Entry) (sign : ℕ) (e : Entry) → IsHolding e
+    → death_of kind owner q sign e ≡ cause_of kind owner q sign e
+death_when kind owner q sign e holding =
+    true_picks {A = Option ℕ} (is_holding e) (cause_of kind owner q sign e) None (true_holding e holding)
 
 -- what a seat dies of is what its waiter dies of
-pub must_die_of_entry : (kind : Kind) (owner : Owner) (q : List Entry) (e : Entry) (sign : ℕ) → Once q → Has q e → must_die kind owner q e.seat sign ≡ death_of kind owner q sign e
+pub must_die_of_entry : (kind : Kind) (owner : Owner) (q : List Entry) (e : Entry) (sign : ℕ) → Once q → Has q e
+    → must_die kind owner q e.seat sign ≡ death_of kind owner q sign e
 must_die_of_entry kind owner q e sign once h = ap (option_and_then (death_of kind owner q sign)) (entry_when q e once h)
 
--- who dies stands in the list
-pub must_die_why : (kind : Kind) (owner : Owner) (q : List Entry) (me sign k : ℕ) → must_die kind owner q me sign ≡ Some k → (e : Entry) × Has q e × (e.seat ≡ me) × (death_of kind owner q sign e ≡ Some k)
+-- a waiter that dies stands in the list
+pub must_die_why : (kind : Kind) (owner : Owner) (q : List Entry) (me sign k : ℕ)
+    → must_die kind owner q me sign ≡ Some k → (e : Entry) × Has q e × (e.seat ≡ me)
+    × (death_of kind owner q sign e ≡ Some k)
 must_die_why kind owner q me sign k is =
     let own = and_then_why (death_of kind owner q sign) (entry_of q me) k is in let here = entry_why q me own.0 own.1 in
     (own.0, here.0, here.1, own.2)
@@ -98,28 +109,33 @@ must_die_why kind owner q me sign k is =
 pub only_waiters_die : (kind : Kind) (owner : Owner) (q : List Entry) (me sign : ℕ) → StandsNot q me → must_die kind owner q me sign ≡ None
 only_waiters_die kind owner q me sign out = ap (option_and_then (death_of kind owner q sign)) (entry_none q me out)
 
-pub wait_die_condemns : (owner : Owner) (q : List Entry) (e : Entry) (sign k : ℕ) → Once q → Has q e → (must_die WaitDie owner q e.seat sign ≡ Some k) ↔ (IsHolding e × IsCause owner q e k)
+pub wait_die_condemns : (owner : Owner) (q : List Entry) (e : Entry) (sign k : ℕ) → Once q → Has q e
+    → (must_die WaitDie owner q e.seat sign ≡ Some k) ↔ (IsHolding e × IsCause owner q e k)
 wait_die_condemns owner q e sign k once h = let own = must_die_of_entry WaitDie owner q e sign once h in (
   λ is. let death = death_why WaitDie owner q sign e k (sym own ∙ is) in (death.0, cause_why owner q e sign k h death.1),
   λ why. own ∙ death_when WaitDie owner q sign e why.0 ∙ cause_when owner q e sign k h why.1,
 )
 
 sign_why : (sign k : ℕ) → cond (nat_lt 0 sign) (Some sign) None ≡ Some k → (0 < k) × (k ≡ sign)
-sign_why sign k is = let both = cond_some (nat_lt 0 sign) sign k is in let some : 0 < sign = let lt = both.0 in grind (arith, common_steps) in let same = both.1 in (omega arith, sym both.1)
+sign_why sign k is = let both = cond_some (nat_lt 0 sign) sign k is in let some : 0 < sign = let lt = both.0 in
+    grind (arith, common_steps) in let same = both.1 in (omega arith, sym both.1)
 
 sign_when : (sign k : ℕ) → (0 < k) × (k ≡ sign) → cond (nat_lt 0 sign) (Some sign) None ≡ Some k
 sign_when sign k why = let some : nat_lt 0 sign ≡ true = let lt = why.0 in let same = why.1 in grind (arith, common_steps) in
     true_picks {A = Option ℕ} (nat_lt 0 sign) (Some sign) None some ∙ ap Some (sym why.1)
 
-pub wound_wait_condemns : (owner : Owner) (q : List Entry) (e : Entry) (sign k : ℕ) → Once q → Has q e → (must_die WoundWait owner q e.seat sign ≡ Some k) ↔ (IsHolding e × (0 < k) × (k ≡ sign))
+pub wound_wait_condemns : (owner : Owner) (q : List Entry) (e : Entry) (sign k : ℕ) → Once q → Has q e
+    → (must_die WoundWait owner q e.seat sign ≡ Some k) ↔ (IsHolding e × (0 < k) × (k ≡ sign))
 wound_wait_condemns owner q e sign k once h = let own = must_die_of_entry WoundWait owner q e sign once h in (
   λ is. let death = death_why WoundWait owner q sign e k (sym own ∙ is) in let why = sign_why sign k death.1 in (death.0, why.0, why.1),
   λ why. own ∙ death_when WoundWait owner q sign e why.0 ∙ sign_when sign k (why.1, why.2),
 )
 
 -- a waiter that holds locks and has a cause dies
-cause_kills : (owner : Owner) (q : List Entry) (e : Entry) (sign k : ℕ) → Once q → Has q e → IsHolding e → cause_of WaitDie owner q sign e ≡ Some k → (k : ℕ) × (must_die WaitDie owner q e.seat sign ≡ Some k)
-cause_kills owner q e sign k once h holding is = (k, must_die_of_entry WaitDie owner q e sign once h ∙ death_when WaitDie owner q sign e holding ∙ is)
+cause_kills : (owner : Owner) (q : List Entry) (e : Entry) (sign k : ℕ) → Once q → Has q e → IsHolding e
+    → cause_of WaitDie owner q sign e ≡ Some k → (k : ℕ) × (must_die WaitDie owner q e.seat sign ≡ Some k)
+cause_kills owner q e sign k once h holding is =
+    (k, must_die_of_entry WaitDie owner q e sign once h ∙ death_when WaitDie owner q sign e holding ∙ is)
 
 -- an older owner, or a context before it, makes a waiter that holds locks die
 pub dies_when : (owner : Owner) (q : List Entry) (e : Entry) (sign : ℕ) → Once q → Has q e → IsHolding e
@@ -151,7 +167,8 @@ dies_why owner q me sign k is =
     )
 
 -- the stamp that condemns is an older one
-pub death_is_of_older : (owner : Owner) (q : List Entry) (e : Entry) (sign k : ℕ) → Once q → Ascends q → Has q e → must_die WaitDie owner q e.seat sign ≡ Some k → IsOlder k e.stamp
+pub death_is_of_older : (owner : Owner) (q : List Entry) (e : Entry) (sign k : ℕ) → Once q → Ascends q → Has q e
+    → must_die WaitDie owner q e.seat sign ≡ Some k → IsOlder k e.stamp
 death_is_of_older owner q e sign k once order h is =
     let death = death_why WaitDie owner q sign e k (sym (must_die_of_entry WaitDie owner q e sign once h) ∙ is) in
     ⊎_elim

@@ -39,7 +39,8 @@ pub left_gone : (q : List Entry) (seat : ℕ) → Once q → StandsNot (left q s
 left_gone [] seat once = λ y h. absurd h
 left_gone (e ∷ es) seat once = by_test (e.seat == seat) es (e ∷ left es seat) (λ q. StandsNot q seat)
     (λ is y h same. once.0 y h (same ∙ sym (same_number e.seat seat is)))
-    (λ isnt y. ⊎_elim (λ same is. other_number e.seat seat isnt (sym (ap (λ (z : Entry). z.seat) same) ∙ is)) (λ later. left_gone es seat once.1 y later))
+    (λ isnt y. ⊎_elim (λ same is. other_number e.seat seat isnt (sym (ap (λ (z : Entry). z.seat) same) ∙ is))
+    (λ later. left_gone es seat once.1 y later))
 
 -- the waiter that is found stands there, and is of the seat
 pub entry_why : (q : List Entry) (seat : ℕ) (e : Entry) → entry_of q seat ≡ Some e → Has q e × (e.seat ≡ seat)
@@ -53,7 +54,8 @@ pub entry_when : (q : List Entry) (e : Entry) → Once q → Has q e → entry_o
 entry_when [] e once h = absurd h
 entry_when (x ∷ xs) e once h = by_test (x.seat == e.seat) (Some x) (entry_of xs e.seat) (λ o. o ≡ Some e)
     (λ is. ⊎_elim (λ same. ap Some (sym same)) (λ later. absurd (once.0 e later (sym (same_number x.seat e.seat is)))) h)
-    (λ isnt. ⊎_elim (λ same. absurd (other_number x.seat e.seat isnt (ap (λ (z : Entry). z.seat) (sym same)))) (λ later. entry_when xs e once.1 later) h)
+    (λ isnt. ⊎_elim (λ same. absurd (other_number x.seat e.seat isnt (ap (λ (z : Entry). z.seat) (sym same))))
+    (λ later. entry_when xs e once.1 later) h)
 
 -- a seat that doesn't stand there has no waiter
 pub entry_none : (q : List Entry) (seat : ℕ) → StandsNot q seat → entry_of q seat ≡ None
@@ -66,16 +68,23 @@ pub entry_some : (q : List Entry) (seat : ℕ) → Stands q seat → (e : Entry)
 entry_some [] seat here = absurd here.1
 entry_some (x ∷ xs) seat here = by_test (x.seat == seat) (Some x) (entry_of xs seat) (λ o. (e : Entry) × (o ≡ Some e))
     (λ _. (x, refl))
-    (λ isnt. ⊎_elim (λ same. absurd (other_number x.seat seat isnt (ap (λ (z : Entry). z.seat) (sym same) ∙ here.2))) (λ later. entry_some xs seat (here.0, later, here.2)) here.1)
+    (λ isnt. ⊎_elim (λ same. absurd (other_number x.seat seat isnt
+    (ap (λ (z : Entry). z.seat) (sym same) ∙ here.2))) (λ later. entry_some xs seat (here.0, later, here.2))
+    here.1)
 
 -- what a leave does, by the waiter that is found
 Leaves : List Entry → ℕ → Option Entry → List Entry → Type 0
 Leaves q seat found new = MatchOption found (StandsNot q seat × (new ≡ q)) (HasLeft q seat new)
 
 -- one more stands in front
-one_more : (x : Entry) (xs : List Entry) (seat : ℕ) → x.seat ≢ seat → (found : Option Entry) → Leaves xs seat found (left xs seat) → Leaves (x ∷ xs) seat found (x ∷ left xs seat)
+one_more : (x : Entry) (xs : List Entry) (seat : ℕ) → x.seat ≢ seat → (found : Option Entry)
+    → Leaves xs seat found (left xs seat) → Leaves (x ∷ xs) seat found (x ∷ left xs seat)
 unfolding Leaves
-one_more x xs seat other None l = (λ y. ⊎_elim (λ same is. other (sym (ap (λ (z : Entry). z.seat) same) ∙ is)) (l.0 y), ap (λ ys. x ∷ ys) l.1)
+one_more x xs seat other None l = (
+  λ y. ⊎_elim (λ same is. other (sym (ap (λ (z : Entry). z.seat) same) ∙ is))
+      (l.0 y),
+  ap (λ ys. x ∷ ys) l.1,
+)
 one_more x xs seat other (Some e) l = record {
   front = x ∷ l.front;
   rest = l.rest;
@@ -86,14 +95,23 @@ one_more x xs seat other (Some e) l = record {
 }
 
 -- the first waiter is the one of the seat, or not
-leaves_from : (x : Entry) (xs : List Entry) (seat : ℕ) (own : Bool) → (x.seat == seat) ≡ own → Leaves xs seat (entry_of xs seat) (left xs seat)
+leaves_from : (x : Entry) (xs : List Entry) (seat : ℕ) (own : Bool) → (x.seat == seat) ≡ own
+    → Leaves xs seat (entry_of xs seat) (left xs seat)
     → Leaves (x ∷ xs) seat (cond own (Some x) (entry_of xs seat)) (cond own xs (x ∷ left xs seat))
 unfolding Leaves
-leaves_from x xs seat true is l = record { front = []; rest = xs; old_parts = refl; new_parts = refl; own = same_number x.seat seat is; first = λ y h. absurd h }
+leaves_from x xs seat true is l = record {
+  front = [];
+  rest = xs;
+  old_parts = refl;
+  new_parts = refl;
+  own = same_number x.seat seat is;
+  first = λ y h. absurd h;
+}
 leaves_from x xs seat false isnt l = one_more x xs seat (other_number x.seat seat isnt) (entry_of xs seat) l
 
 -- whoever leaves is taken out, and nobody else moves
-pub takes_one_out : (q : List Entry) (seat : ℕ) → MatchOption (entry_of q seat) (StandsNot q seat × (left q seat ≡ q)) (HasLeft q seat (left q seat))
+pub takes_one_out : (q : List Entry) (seat : ℕ)
+    → MatchOption (entry_of q seat) (StandsNot q seat × (left q seat ≡ q)) (HasLeft q seat (left q seat))
 unfolding Leaves
 takes_one_out [] seat = (λ y h. absurd h, refl)
 takes_one_out (x ∷ xs) seat = leaves_from x xs seat (x.seat == seat) refl (takes_one_out xs seat)
@@ -103,7 +121,8 @@ pub none_entry : (q : List Entry) (seat : ℕ) → entry_of q seat ≡ None → 
 none_entry [] seat = λ _ y h. absurd h
 none_entry (x ∷ xs) seat = by_test (x.seat == seat) (Some x) (entry_of xs seat) (λ o. o ≡ None → StandsNot (x ∷ xs) seat)
     (λ _ is. absurd cc)
-    (λ isnt is y. ⊎_elim (λ same own. other_number x.seat seat isnt (ap (λ (z : Entry). z.seat) (sym same) ∙ own)) (none_entry xs seat is y))
+    (λ isnt is y. ⊎_elim (λ same own. other_number x.seat seat isnt (ap (λ (z : Entry). z.seat) (sym same) ∙ own))
+    (none_entry xs seat is y))
 
 pub stands_or_not : (q : List Entry) (seat : ℕ) → Stands q seat ⊎ StandsNot q seat
 stands_or_not q seat = go (entry_of q seat) refl

@@ -35,5 +35,6 @@ module _ {X Y : Type 0} where
   length-filter_map f [] = omega arith
   length-filter_map f (x ∷ xs) = let few = cons_longer (f x) (filter_map f xs) (length xs) (length-filter_map f xs) in omega arith
 
-  pub filter_map_more : (f : X → Option Y) (xs : List X) (i : ℕ) (d : X) → i < length xs → filter_map f (take (i + 1) xs) ≡ filter_map f (take i xs) ++ cons_option (f (get_or xs i d)) []
+  pub filter_map_more : (f : X → Option Y) (xs : List X) (i : ℕ) (d : X) → i < length xs
+      → filter_map f (take (i + 1) xs) ≡ filter_map f (take i xs) ++ cons_option (f (get_or xs i d)) []
   filter_map_more f xs i d within = ap (filter_map f) (take_more xs i d within) ∙ filter_map-append f (take i xs) (get_or xs i d ∷ [])

@@ -28,7 +28,8 @@ waiters_fit (suc n) q once seats =
     let one = length-left q n in omega arith
 
 -- where a seat doesn't wait yet, there is room for it
-pub room_for : (n : ℕ) (q : List Entry) (seat : ℕ) → Once q → ((e : Entry) → Has q e → e.seat < n) → StandsNot q seat → seat < n → length q < n
+pub room_for : (n : ℕ) (q : List Entry) (seat : ℕ) → Once q → ((e : Entry) → Has q e → e.seat < n)
+    → StandsNot q seat → seat < n → length q < n
 room_for n q seat once seats out below =
     let x : Entry = record { seat = seat; stamp = 0; holds = false } in
     let all = waiters_fit n (joined q x) (joined_once q x out once)

@@ -80,7 +80,7 @@ pub record IsAhead (q : List Entry) (seat : ℕ) (e : Entry) : Type 0 where
   pub other : e.seat ≢ seat
   pub behind : Stands rest seat
 
--- who is ahead with a context is the first one in the list, where the seat waits behind that
+-- an entry ahead with a context is the first one in the list, where the seat waits behind that
 abbrev pub AheadIsFirstContext : Type 0
 AheadIsFirstContext = (q : List Entry) (seat : ℕ) (e : Entry) → (ahead_of q seat ≡ Some e) ↔ IsAhead q seat e
 
@@ -97,12 +97,12 @@ IsCause owner q e k =
     (MeetsOlderOwner owner e × (k ≡ owner.stamp)) ⊎
     ((¬ MeetsOlderOwner owner e) × ((x : Entry) × (ahead_of q e.seat ≡ Some x) × (k ≡ x.stamp)))
 
--- in Wait-Die a waiter has to die exactly where it holds locks and an older owner or a context before it is the cause
+-- in Wait-Die a waiter has to die iff it holds locks and an older owner or a context before it is the cause
 abbrev pub WaitDieCondemns : Type 0
 WaitDieCondemns = (owner : Owner) (q : List Entry) (e : Entry) (sign k : ℕ) → Once q → Has q e →
     (must_die WaitDie owner q e.seat sign ≡ Some k) ↔ (IsHolding e × IsCause owner q e k)
 
--- in Wound-Wait a waiter has to die exactly where it holds locks and has a sign
+-- in Wound-Wait a waiter has to die iff it holds locks and has a sign
 abbrev pub WoundWaitCondemns : Type 0
 WoundWaitCondemns = (owner : Owner) (q : List Entry) (e : Entry) (sign k : ℕ) → Once q → Has q e →
     (must_die WoundWait owner q e.seat sign ≡ Some k) ↔ (IsHolding e × (0 < k) × (k ≡ sign))
@@ -137,7 +137,7 @@ pub record IsWounded (owner : Owner) (q : List Entry) (seat k : ℕ) : Type 0 wh
   pub oldest : IsLeastHolding q k
   pub older : IsOlder k owner.stamp
 
--- in Wound-Wait the owner alone is signed, exactly where it has taken the lock and an older waiter holds locks
+-- in Wound-Wait the owner alone is signed, iff it has taken the lock and an older waiter holds locks
 abbrev pub SignIsWound : Type 0
 SignIsWound = (owner : Owner) (q : List Entry) (me : ℕ) →
     ((seat k : ℕ) → (owed_signs WoundWait owner q me ≡ (seat, k) ∷ []) ↔ IsWounded owner q seat k) ×

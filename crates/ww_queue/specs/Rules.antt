@@ -1,4 +1,4 @@
--- Who has to die, and who has to be told.
+-- Which waiter has to die, and which has to be told.
 use Rattle.std.specs.Prelude.{ℕ, ◌==◌, ◌&&◌, Bool, false, not, nat_lt, min, List, [], ◌∷◌, Option, Some, None, if◌then◌else◌}
 use Rattle.std.specs.Option.{option_and_then, option_map, option_or}
 use Rattle.std.specs.List.{filter_map}

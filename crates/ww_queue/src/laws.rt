@@ -45,17 +45,17 @@ pub fn each_seat_has_room()
     ensures { EachSeatHasRoom }
 {}
 
-/// Who is ahead with a context is the first one in the list, where the seat waits behind that.
+/// An entry ahead with a context is the first one in the list, where the seat waits behind that.
 pub fn ahead_is_first_context()
     ensures { AheadIsFirstContext }
 {}
 
-/// In Wait-Die a waiter has to die exactly where it holds locks and an older owner or a context before it is the cause.
+/// In Wait-Die a waiter has to die iff it holds locks and an older owner or a context before it is the cause.
 pub fn wait_die_condemns()
     ensures { WaitDieCondemns }
 {}
 
-/// In Wound-Wait a waiter has to die exactly where it holds locks and has a sign.
+/// In Wound-Wait a waiter has to die iff it holds locks and has a sign.
 pub fn wound_wait_condemns()
     ensures { WoundWaitCondemns }
 {}
@@ -75,7 +75,7 @@ pub fn signs_are_deaths()
     ensures { SignsAreDeaths }
 {}
 
-/// In Wound-Wait the owner alone is signed, exactly where it has taken the lock and an older waiter holds locks.
+/// In Wound-Wait the owner alone is signed, iff it has taken the lock and an older waiter holds locks.
 pub fn sign_is_wound()
     ensures { SignIsWound }
 {}

@@ -47,7 +47,7 @@ fn older_owner(owner: Owner, entry: Entry) -> Option<u64>
 /// Wound-Wait the oldest waiter that holds locks wounds the owner, if that is younger; an owner to whom the lock was
 /// handed has not taken it yet, and looks at the list itself. In Wait-Die each other waiter that has to die is told.
 /// The kernel wakes and wounds at moments of its own. That one rule on a lock's state stands for all of these, and that
-/// a seat is told by a sign with the stamp in it, is ours: `docs/RULES.md`, "Who must die, and which signs are owed".
+/// a seat is told by a sign with the stamp in it, is ours: `docs/RULES.md`, "Which waiter must die ..".
 pub fn owed_signs(
     kind: Kind,
     owner: Owner,

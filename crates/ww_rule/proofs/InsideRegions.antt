@@ -20,53 +20,80 @@ use Rattle.ww_rule.specs.declared.cells.Cell.TheVariants.{Line}
 use Rattle.ww_rule.specs.Rule.{Shown, AtHome}
 
 module _ (c : State) (e : Event) (can : BasePossible c e) (l : IsBase c) (locks : ℕ) (words : List ℕ) (sh : Shown locks c words) where
-  pub guard_set : (n x : ℕ) → n < locks → ((m : ℕ) → Leaves e m) → (after c e).cancel ≡ c.cancel → (after c e).guard ≡ put c.guard n x → (after c e).sign ≡ c.sign → (after c e).drawn ≡ c.drawn → (after c e).commits ≡ c.commits
+  pub guard_set : (n x : ℕ) → n < locks → ((m : ℕ) → Leaves e m) → (after c e).cancel ≡ c.cancel
+      → (after c e).guard ≡ put c.guard n x → (after c e).sign ≡ c.sign → (after c e).drawn ≡ c.drawn
+      → (after c e).commits ≡ c.commits
       → Shown locks (after c e) (set words (144 + 8 * n + 1) x)
   guard_set n x small far cancels guards signs drawn commits = let wide = sh.wide in record {
     wide = length-set words (144 + 8 * n + 1) x ∙ sh.wide;
-    owners = λ m low. get_or-set_other words (144 + 8 * n + 1) (144 + 8 * m) x 0 (λ z. omega arith) ∙ sh.owners m low ∙ ap packed (sym (word_else c e m can l (far m)));
+    owners = λ m low. get_or-set_other words (144 + 8 * n + 1) (144 + 8 * m) x 0 (λ z. omega arith)
+        ∙ sh.owners m low ∙ ap packed (sym (word_else c e m can l (far m)));
     guards = λ m low. dite (ℕ_discrete m n)
-        (λ is. ap (λ (k : ℕ). get_or (set words (144 + 8 * n + 1) x) (144 + 8 * k + 1) 0) is ∙ get_or-set_same words (144 + 8 * n + 1) x 0 (omega arith) ∙ sym (put_here c.guard n x) ∙ ap (put c.guard n x) (sym is) ∙ ap (λ (f : ℕ → ℕ). f m) (sym guards))
-        (λ isnt. get_or-set_other words (144 + 8 * n + 1) (144 + 8 * m + 1) x 0 (λ z. isnt (omega arith)) ∙ sh.guards m low ∙ sym (put_else c.guard n x m isnt) ∙ ap (λ (f : ℕ → ℕ). f m) (sym guards));
-    signs = λ s low. get_or-set_other words (144 + 8 * n + 1) (8 * s) x 0 (λ z. omega arith) ∙ sh.signs s low ∙ ap (λ (f : ℕ → ℕ). f s) (sym signs);
-    cancels = λ s low. get_or-set_other words (144 + 8 * n + 1) (8 * s + 1) x 0 (λ z. omega arith) ∙ sh.cancels s low ∙ ap (λ (f : ℕ → ℕ). f s) (sym cancels);
+        (λ is. ap (λ (k : ℕ). get_or (set words (144 + 8 * n + 1) x) (144 + 8 * k + 1) 0) is
+        ∙ get_or-set_same words (144 + 8 * n + 1) x 0 (omega arith) ∙ sym (put_here c.guard n x)
+        ∙ ap (put c.guard n x) (sym is) ∙ ap (λ (f : ℕ → ℕ). f m) (sym guards))
+        (λ isnt. get_or-set_other words (144 + 8 * n + 1) (144 + 8 * m + 1) x 0 (λ z. isnt (omega arith))
+        ∙ sh.guards m low ∙ sym (put_else c.guard n x m isnt) ∙ ap (λ (f : ℕ → ℕ). f m) (sym guards));
+    signs = λ s low. get_or-set_other words (144 + 8 * n + 1) (8 * s) x 0 (λ z. omega arith) ∙ sh.signs s low
+        ∙ ap (λ (f : ℕ → ℕ). f s) (sym signs);
+    cancels = λ s low. get_or-set_other words (144 + 8 * n + 1) (8 * s + 1) x 0 (λ z. omega arith)
+        ∙ sh.cancels s low ∙ ap (λ (f : ℕ → ℕ). f s) (sym cancels);
     drawn = get_or-set_other words (144 + 8 * n + 1) 128 x 0 (λ z. omega arith) ∙ sh.drawn ∙ sym drawn;
     front = get_or-set_other words (144 + 8 * n + 1) 136 x 0 (λ z. omega arith) ∙ sh.front ∙ sym commits;
   }
 
-  pub sign_set : (u x : ℕ) → u < 16 → ((m : ℕ) → Leaves e m) → (after c e).cancel ≡ c.cancel → (after c e).guard ≡ c.guard → (after c e).sign ≡ put c.sign u x → (after c e).drawn ≡ c.drawn → (after c e).commits ≡ c.commits
+  pub sign_set : (u x : ℕ) → u < 16 → ((m : ℕ) → Leaves e m) → (after c e).cancel ≡ c.cancel
+      → (after c e).guard ≡ c.guard → (after c e).sign ≡ put c.sign u x → (after c e).drawn ≡ c.drawn
+      → (after c e).commits ≡ c.commits
       → Shown locks (after c e) (set words (8 * u) x)
   sign_set u x small far cancels guards signs drawn commits = let wide = sh.wide in record {
     wide = length-set words (8 * u) x ∙ sh.wide;
-    owners = λ m low. get_or-set_other words (8 * u) (144 + 8 * m) x 0 (λ z. omega arith) ∙ sh.owners m low ∙ ap packed (sym (word_else c e m can l (far m)));
-    guards = λ m low. get_or-set_other words (8 * u) (144 + 8 * m + 1) x 0 (λ z. omega arith) ∙ sh.guards m low ∙ ap (λ (f : ℕ → ℕ). f m) (sym guards);
+    owners = λ m low. get_or-set_other words (8 * u) (144 + 8 * m) x 0 (λ z. omega arith) ∙ sh.owners m low
+        ∙ ap packed (sym (word_else c e m can l (far m)));
+    guards = λ m low. get_or-set_other words (8 * u) (144 + 8 * m + 1) x 0 (λ z. omega arith) ∙ sh.guards m low
+        ∙ ap (λ (f : ℕ → ℕ). f m) (sym guards);
     signs = λ s low. dite (ℕ_discrete s u)
-        (λ is. ap (λ (k : ℕ). get_or (set words (8 * u) x) (8 * k) 0) is ∙ get_or-set_same words (8 * u) x 0 (omega arith) ∙ sym (put_here c.sign u x) ∙ ap (put c.sign u x) (sym is) ∙ ap (λ (f : ℕ → ℕ). f s) (sym signs))
-        (λ isnt. get_or-set_other words (8 * u) (8 * s) x 0 (λ z. isnt (omega arith)) ∙ sh.signs s low ∙ sym (put_else c.sign u x s isnt) ∙ ap (λ (f : ℕ → ℕ). f s) (sym signs));
-    cancels = λ s low. get_or-set_other words (8 * u) (8 * s + 1) x 0 (λ z. omega arith) ∙ sh.cancels s low ∙ ap (λ (f : ℕ → ℕ). f s) (sym cancels);
+        (λ is. ap (λ (k : ℕ). get_or (set words (8 * u) x) (8 * k) 0) is
+        ∙ get_or-set_same words (8 * u) x 0 (omega arith) ∙ sym (put_here c.sign u x)
+        ∙ ap (put c.sign u x) (sym is) ∙ ap (λ (f : ℕ → ℕ). f s) (sym signs))
+        (λ isnt. get_or-set_other words (8 * u) (8 * s) x 0 (λ z. isnt (omega arith)) ∙ sh.signs s low
+        ∙ sym (put_else c.sign u x s isnt) ∙ ap (λ (f : ℕ → ℕ). f s) (sym signs));
+    cancels = λ s low. get_or-set_other words (8 * u) (8 * s + 1) x 0 (λ z. omega arith) ∙ sh.cancels s low
+        ∙ ap (λ (f : ℕ → ℕ). f s) (sym cancels);
     drawn = get_or-set_other words (8 * u) 128 x 0 (λ z. omega arith) ∙ sh.drawn ∙ sym drawn;
     front = get_or-set_other words (8 * u) 136 x 0 (λ z. omega arith) ∙ sh.front ∙ sym commits;
   }
 
-  pub cancel_set : (u x : ℕ) → u < 16 → ((m : ℕ) → Leaves e m) → (after c e).cancel ≡ put c.cancel u x → (after c e).guard ≡ c.guard → (after c e).sign ≡ c.sign → (after c e).drawn ≡ c.drawn → (after c e).commits ≡ c.commits
+  pub cancel_set : (u x : ℕ) → u < 16 → ((m : ℕ) → Leaves e m) → (after c e).cancel ≡ put c.cancel u x
+      → (after c e).guard ≡ c.guard → (after c e).sign ≡ c.sign → (after c e).drawn ≡ c.drawn
+      → (after c e).commits ≡ c.commits
       → Shown locks (after c e) (set words (8 * u + 1) x)
   cancel_set u x small far cancels guards signs drawn commits = let wide = sh.wide in record {
     wide = length-set words (8 * u + 1) x ∙ sh.wide;
-    owners = λ m low. get_or-set_other words (8 * u + 1) (144 + 8 * m) x 0 (λ z. omega arith) ∙ sh.owners m low ∙ ap packed (sym (word_else c e m can l (far m)));
-    guards = λ m low. get_or-set_other words (8 * u + 1) (144 + 8 * m + 1) x 0 (λ z. omega arith) ∙ sh.guards m low ∙ ap (λ (f : ℕ → ℕ). f m) (sym guards);
-    signs = λ s low. get_or-set_other words (8 * u + 1) (8 * s) x 0 (λ z. omega arith) ∙ sh.signs s low ∙ ap (λ (f : ℕ → ℕ). f s) (sym signs);
+    owners = λ m low. get_or-set_other words (8 * u + 1) (144 + 8 * m) x 0 (λ z. omega arith) ∙ sh.owners m low
+        ∙ ap packed (sym (word_else c e m can l (far m)));
+    guards = λ m low. get_or-set_other words (8 * u + 1) (144 + 8 * m + 1) x 0 (λ z. omega arith) ∙ sh.guards m low
+        ∙ ap (λ (f : ℕ → ℕ). f m) (sym guards);
+    signs = λ s low. get_or-set_other words (8 * u + 1) (8 * s) x 0 (λ z. omega arith) ∙ sh.signs s low
+        ∙ ap (λ (f : ℕ → ℕ). f s) (sym signs);
     cancels = λ s low. dite (ℕ_discrete s u)
-        (λ is. ap (λ (k : ℕ). get_or (set words (8 * u + 1) x) (8 * k + 1) 0) is ∙ get_or-set_same words (8 * u + 1) x 0 (omega arith) ∙ sym (put_here c.cancel u x) ∙ ap (put c.cancel u x) (sym is) ∙ ap (λ (f : ℕ → ℕ). f s) (sym cancels))
-        (λ isnt. get_or-set_other words (8 * u + 1) (8 * s + 1) x 0 (λ z. isnt (omega arith)) ∙ sh.cancels s low ∙ sym (put_else c.cancel u x s isnt) ∙ ap (λ (f : ℕ → ℕ). f s) (sym cancels));
+        (λ is. ap (λ (k : ℕ). get_or (set words (8 * u + 1) x) (8 * k + 1) 0) is
+        ∙ get_or-set_same words (8 * u + 1) x 0 (omega arith) ∙ sym (put_here c.cancel u x)
+        ∙ ap (put c.cancel u x) (sym is) ∙ ap (λ (f : ℕ → ℕ). f s) (sym cancels))
+        (λ isnt. get_or-set_other words (8 * u + 1) (8 * s + 1) x 0 (λ z. isnt (omega arith)) ∙ sh.cancels s low
+        ∙ sym (put_else c.cancel u x s isnt) ∙ ap (λ (f : ℕ → ℕ). f s) (sym cancels));
     drawn = get_or-set_other words (8 * u + 1) 128 x 0 (λ z. omega arith) ∙ sh.drawn ∙ sym drawn;
     front = get_or-set_other words (8 * u + 1) 136 x 0 (λ z. omega arith) ∙ sh.front ∙ sym commits;
   }
 
 -- the list of a guarded lock changes
-pub list_inside : (locks : ℕ) (graph : List Node) (owner : ℕ → Holder) (queue : ℕ → List Entry) (guard : ℕ → ℕ) (homes : List (maybe.Option Cell)) (s n : ℕ) (q : List Entry) → guard n ≡ suc s
+pub list_inside : (locks : ℕ) (graph : List Node) (owner : ℕ → Holder) (queue : ℕ → List Entry) (guard : ℕ → ℕ)
+    (homes : List (maybe.Option Cell)) (s n : ℕ) (q : List Entry) → guard n ≡ suc s
     → AtHome locks graph owner queue guard homes → AtHome locks graph owner (put queue n q) guard homes
 list_inside locks graph owner queue guard homes s n q inside h = record {
   deep = h.deep;
   nodes = h.nodes;
-  lists = λ m low free. h.lists m low free ∙ ap (λ (x : List Entry). some (some (Line x))) (sym (put_else queue n q m (λ is. let z = ap guard is in omega arith)));
+  lists = λ m low free. h.lists m low free
+      ∙ ap (λ (x : List Entry). some (some (Line x)))
+      (sym (put_else queue n q m (λ is. let z = ap guard is in omega arith)));
 }

@@ -19,7 +19,8 @@ same_slot : (slots : List (ℕ × Cell)) (n : ℕ) (x y : Cell) → slot_of slot
 same_slot slots n x y there is = let e : Some y ≡ Some x = sym there ∙ is in cc
 
 -- a slot that was brought to the front has what it had
-pub slot_brought : (slots same now others : List (ℕ × Cell)) (n m : ℕ) (x y : Cell) → same ≡ slots → m ≡ n → slot_of slots n ≡ Some x → slot_of same m ≡ Some y → AreOthers same m y others
+pub slot_brought : (slots same now others : List (ℕ × Cell)) (n m : ℕ) (x y : Cell) → same ≡ slots → m ≡ n
+    → slot_of slots n ≡ Some x → slot_of same m ≡ Some y → AreOthers same m y others
     → now ≡ (m, y) ∷ others → AreOthers slots n x others × (now ≡ (n, x) ∷ others)
 slot_brought slots same now others n m x y as_was at is there others_are top =
     let has : y ≡ x = same_slot same m x y there (ap (slot_of same) at ∙ ap (λ (l : List (ℕ × Cell)). slot_of l n) as_was ∙ is) in (
@@ -27,7 +28,8 @@ slot_brought slots same now others n m x y as_was at is there others_are top =
       top ∙ (λ i. (at i, has i) ∷ others),
     )
 
-pub list_brought : (slots same now others : List (ℕ × Cell)) (n m : ℕ) (q : List Entry) (y : Cell) → same ≡ slots → m ≡ 64 + n → slot_of slots (64 + n) ≡ Some (Line q) → slot_of same m ≡ Some y → AreOthers same m y others
+pub list_brought : (slots same now others : List (ℕ × Cell)) (n m : ℕ) (q : List Entry) (y : Cell) → same ≡ slots
+    → m ≡ 64 + n → slot_of slots (64 + n) ≡ Some (Line q) → slot_of same m ≡ Some y → AreOthers same m y others
     → now ≡ (m, y) ∷ others → AreOthers slots (64 + n) (Line q) others × (now ≡ (64 + n, Line q) ∷ others)
 list_brought slots same now others n m q = slot_brought slots same now others (64 + n) m (Line q)
 
@@ -47,12 +49,15 @@ none_left (x ∷ xs) who e = absurd cc
 
 pub one_left : (q : List Entry) (who : ℕ) (e : Entry) → slice_get q 0 ≡ Some e → length q ≡ 1 → e.seat ≡ who → waiting (left q who) ≡ 0
 one_left [] who e first one is = absurd cc
-one_left (x ∷ []) who e first one is = let same : x ≡ e = cc in ap (λ (b : Bool). waiting (if b then [] else x ∷ [])) (eq-eqb x.seat who (ap (λ (y : Entry). y.seat) same ∙ is))
+one_left (x ∷ []) who e first one is = let same : x ≡ e = cc in
+    ap (λ (b : Bool). waiting (if b then [] else x ∷ [])) (eq-eqb x.seat who (ap (λ (y : Entry). y.seat) same ∙ is))
 one_left (x ∷ y ∷ zs) who e first one is = absurd (omega arith)
 
 pub some_left : (q : List Entry) (who : ℕ) (e : Entry) → slice_get q 0 ≡ Some e → (length q ≡ 1 → e.seat ≢ who) → waiting (left q who) ≡ 1
 some_left [] who e first not = absurd cc
-some_left (x ∷ []) who e first not = let same : x ≡ e = cc in ap (λ (b : Bool). waiting (if b then [] else x ∷ [])) (ne_eqb x.seat who (λ z. not refl (ap (λ (y : Entry). y.seat) (sym same) ∙ z)))
+some_left (x ∷ []) who e first not = let same : x ≡ e = cc in
+    ap (λ (b : Bool). waiting (if b then [] else x ∷ []))
+    (ne_eqb x.seat who (λ z. not refl (ap (λ (y : Entry). y.seat) (sym same) ∙ z)))
 some_left (x ∷ y ∷ zs) who e first not = go (eqb x.seat who)
   where
     go : (b : Bool) → waiting (if b then y ∷ zs else x ∷ left (y ∷ zs) who) ≡ 1
@@ -63,15 +68,19 @@ pub waiting_flags : (q : List Entry) → AreFlags (waiting q)
 waiting_flags [] = inl refl
 waiting_flags (e ∷ es) = inr (inl refl)
 
-pub others_long : (slots : List (ℕ × Cell)) (n : ℕ) (y : Cell) (others : List (ℕ × Cell)) → AreOthers slots n y others → length slots ≡ length others + 1
-others_long slots n y others a = let p = ap (λ (l : List (ℕ × Cell)). length l) a.parts in let q = ap (λ (l : List (ℕ × Cell)). length l) a.rest in let f = length-append a.front ((n, y) ∷ a.back) in let g = length-append a.back a.front in omega arith
+pub others_long : (slots : List (ℕ × Cell)) (n : ℕ) (y : Cell) (others : List (ℕ × Cell))
+    → AreOthers slots n y others → length slots ≡ length others + 1
+others_long slots n y others a = let p = ap (λ (l : List (ℕ × Cell)). length l) a.parts in
+    let q = ap (λ (l : List (ℕ × Cell)). length l) a.rest in let f = length-append a.front ((n, y) ∷ a.back) in
+    let g = length-append a.back a.front in omega arith
 
 -- ---- a slot that is out, where another was brought to the front
 
 found_only : (slots : List (ℕ × Cell)) (n : ℕ) (y w : Cell) → HaveOnly n y slots → slot_of slots n ≡ Some w → w ≡ y
 found_only [] n y w only is = absurd cc
 found_only (x ∷ xs) n y w only is = ⊎_elim
-    (λ t. let e : Some x.1 ≡ Some w = ap (λ (b : Bool). if b then Some x.1 else slot_of xs n) (sym t.0) ∙ is in let same : x.1 ≡ w = cc in sym same ∙ only.0 t.1)
+    (λ t. let e : Some x.1 ≡ Some w = ap (λ (b : Bool). if b then Some x.1 else slot_of xs n) (sym t.0) ∙ is in
+    let same : x.1 ≡ w = cc in sym same ∙ only.0 t.1)
     (λ t. found_only xs n y w only.1 (ap (λ (b : Bool). if b then Some x.1 else slot_of xs n) (sym t.0) ∙ is))
     (eqb_tells x.0 n)
 
@@ -83,11 +92,13 @@ only_split : (front back : List (ℕ × Cell)) (n : ℕ) (y : Cell) → HaveOnly
 only_split [] back n y only = (tt, only)
 only_split (x ∷ xs) back n y only = let more = only_split xs back n y only.1 in ((only.0, more.0), more.1)
 
-slot_in : (front back : List (ℕ × Cell)) (n : ℕ) (w : Cell) → slot_of (front ++ back) n ≡ Some w → (slot_of front n ≡ Some w) ⊎ (slot_of back n ≡ Some w)
+slot_in : (front back : List (ℕ × Cell)) (n : ℕ) (w : Cell) → slot_of (front ++ back) n ≡ Some w
+    → (slot_of front n ≡ Some w) ⊎ (slot_of back n ≡ Some w)
 slot_in [] back n w is = inr is
 slot_in (x ∷ xs) back n w is = go (eqb x.0 n) is (slot_in xs back n w)
   where
-    go : (b : Bool) → (if b then Some x.1 else slot_of (xs ++ back) n) ≡ Some w → (slot_of (xs ++ back) n ≡ Some w → (slot_of xs n ≡ Some w) ⊎ (slot_of back n ≡ Some w))
+    go : (b : Bool) → (if b then Some x.1 else slot_of (xs ++ back) n) ≡ Some w
+        → (slot_of (xs ++ back) n ≡ Some w → (slot_of xs n ≡ Some w) ⊎ (slot_of back n ≡ Some w))
         → ((if b then Some x.1 else slot_of xs n) ≡ Some w) ⊎ (slot_of back n ≡ Some w)
     go true e more = inl e
     go false e more = more e
@@ -96,7 +107,9 @@ in_front : (front back : List (ℕ × Cell)) (n : ℕ) (w : Cell) → slot_of fr
 in_front [] back n w is = absurd cc
 in_front (x ∷ xs) back n w is = go (eqb x.0 n) is (in_front xs back n w)
   where
-    go : (b : Bool) → (if b then Some x.1 else slot_of xs n) ≡ Some w → (slot_of xs n ≡ Some w → slot_of (xs ++ back) n ≡ Some w) → (if b then Some x.1 else slot_of (xs ++ back) n) ≡ Some w
+    go : (b : Bool) → (if b then Some x.1 else slot_of xs n) ≡ Some w
+        → (slot_of xs n ≡ Some w → slot_of (xs ++ back) n ≡ Some w)
+        → (if b then Some x.1 else slot_of (xs ++ back) n) ≡ Some w
     go true e more = e
     go false e more = more e
 
@@ -104,25 +117,29 @@ in_back : (front back : List (ℕ × Cell)) (n : ℕ) (w : Cell) → slot_of bac
 in_back [] back n w is = (w, is)
 in_back (x ∷ xs) back n w is = go (eqb x.0 n) (in_back xs back n w is)
   where
-    go : (b : Bool) → (u : Cell) × (slot_of (xs ++ back) n ≡ Some u) → (u : Cell) × ((if b then Some x.1 else slot_of (xs ++ back) n) ≡ Some u)
+    go : (b : Bool) → (u : Cell) × (slot_of (xs ++ back) n ≡ Some u) → (u : Cell)
+        × ((if b then Some x.1 else slot_of (xs ++ back) n) ≡ Some u)
     go true more = (x.1, refl)
     go false more = more
 
-pub still_out : (slots : List (ℕ × Cell)) (m : ℕ) (z : Cell) (others : List (ℕ × Cell)) (n : ℕ) (y : Cell) → m ≢ n → AreOthers slots m z others → IsOut slots n y → slot_of ((m, z) ∷ others) n ≡ Some y
+pub still_out : (slots : List (ℕ × Cell)) (m : ℕ) (z : Cell) (others : List (ℕ × Cell)) (n : ℕ) (y : Cell) → m ≢ n
+    → AreOthers slots m z others → IsOut slots n y → slot_of ((m, z) ∷ others) n ≡ Some y
 still_out slots m z others n y far a out =
     let split = only_split a.front ((m, z) ∷ a.back) n y (subst (HaveOnly n y) a.parts out.only) in
     let only : HaveOnly n y others = subst (HaveOnly n y) (sym a.rest) (only_joined a.back a.front n y split.1.1 split.0) in
-    let passed : slot_of ((m, z) ∷ others) n ≡ slot_of others n = ap (λ (b : Bool). if b then Some z else slot_of others n) (ne_eqb m n far) in
+    let passed : slot_of ((m, z) ∷ others) n ≡ slot_of others n =
+    ap (λ (b : Bool). if b then Some z else slot_of others n) (ne_eqb m n far) in
     let there : (u : Cell) × (slot_of (a.back ++ a.front) n ≡ Some u) = ⊎_elim (λ e. in_back a.back a.front n y e)
     (λ e. (y, in_front a.back a.front n y (ap (λ (b : Bool). if b then Some z else slot_of a.back n) (sym (ne_eqb m n far)) ∙ e)))
     (slot_in a.front ((m, z) ∷ a.back) n y (ap (λ (l : List (ℕ × Cell)). slot_of l n) (sym a.parts) ∙ out.there)) in
     let here : slot_of others n ≡ Some there.0 = ap (λ (l : List (ℕ × Cell)). slot_of l n) a.rest ∙ there.1 in
     passed ∙ here ∙ ap (λ (u : Cell). Some u) (found_only others n y there.0 only here)
 
--- ---- the owner of a lock that is given back
+-- ---- the owner of a lock that is released
 
 pub given_valid : (b : Bool) (q : List Entry) → AreSeats q → IsValid (given_word b q)
 given_valid true [] seats = record { seating = (refl, omega arith); stamp = omega arith; flags = inl refl }
-given_valid true (e ∷ es) seats = let first = seats e (inl refl) in record { seating = first.0; stamp = first.1; flags = inr (inr (inr refl)) }
+given_valid true (e ∷ es) seats = let first = seats e (inl refl) in
+    record { seating = first.0; stamp = first.1; flags = inr (inr (inr refl)) }
 given_valid false [] seats = record { seating = (refl, omega arith); stamp = omega arith; flags = inl refl }
 given_valid false (e ∷ es) seats = record { seating = (refl, omega arith); stamp = omega arith; flags = inr (inl refl) }

@@ -55,9 +55,11 @@ idle_valid = record { seating = (refl, omega arith); stamp = omega arith; flags 
 
 -- the stamps never end
 pub draw_room : (key : Start) (s : St) (r : Ruled key s) → get_or s.words 128 0 < 2 ^ 56 - 1
-draw_room key s r = let same = r.words.drawn in let sum = r.counted.stamps in let most = total_below 16 (2 ^ 52) (λ t. (r.counts t).draws) r.counted.few in omega arith
+draw_room key s r = let same = r.words.drawn in let sum = r.counted.stamps in
+    let most = total_below 16 (2 ^ 52) (λ t. (r.counts t).draws) r.counted.few in omega arith
 
-module _ (key : Start) (s : St) (r : Ruled key s) (id : ℕ) (me : Sat) (here : get_elem? s.views id ≡ some me.0) (seated : me.0.seated ≡ true) where
+module _ (key : Start) (s : St) (r : Ruled key s) (id : ℕ) (me : Sat) (here : get_elem? s.views id ≡ some me.0)
+    (seated : me.0.seated ≡ true) where
   abbrev graph : List Node
   graph = last_graph (first_graph key) r.log
 
@@ -73,11 +75,13 @@ module _ (key : Start) (s : St) (r : Ruled key s) (id : ℕ) (me : Sat) (here : 
 
   -- the seat as the owner of a lock is one that a word can tell
   pub taker_valid : IsValid (taker me.0.part.core)
-  taker_valid = let k = mine.part.knows in let below = law.base.stamps.below me.0.part.core.who in let few = few_stamps r.core r.reached in let stamp = k.itself.stamp in let seat = k.itself.seat in let sixteen = r.places in record {
-    seating = omega arith;
-    stamp = omega arith;
-    flags = inl refl;
-  }
+  taker_valid = let k = mine.part.knows in let below = law.base.stamps.below me.0.part.core.who in
+      let few = few_stamps r.core r.reached in let stamp = k.itself.stamp in let seat = k.itself.seat in
+      let sixteen = r.places in record {
+        seating = omega arith;
+        stamp = omega arith;
+        flags = inl refl;
+      }
 
   -- all locks of nodes are there
   pub low : (n : ℕ) → n < length (first_graph key) → n < key.locks
@@ -85,14 +89,22 @@ module _ (key : Start) (s : St) (r : Ruled key s) (id : ℕ) (me : Sat) (here : 
 
   -- a node of the fold is one of a graph of as many nodes as the view has room for
   pub node_there : (n : ℕ) → n < length (first_graph key) → IsNodeOf (length me.0.held) (node_at graph n)
-  node_there n small = let z = r.counted.size in subst (λ (size : ℕ). IsNodeOf size (node_at graph n)) (r.counted.size ∙ sym mine.room) (all_item (IsNodeOf (length graph)) graph n no_node (omega arith) r.counted.graph.closed)
+  node_there n small = let z = r.counted.size in
+      subst (λ (size : ℕ). IsNodeOf size (node_at graph n)) (r.counted.size ∙ sym mine.room)
+      (all_item (IsNodeOf (length graph)) graph n no_node (omega arith) r.counted.graph.closed)
 
   -- the seat makes an event, and what the table has of it becomes p and the nodes held
-  pub makes_all : (e : Event) (i x : ℕ) (p : Part) (held : List (Option Node)) (a : Act Cell) (log : List Recorded) (counts : ℕ → Counts) → actor e ≡ me.0.part.core.who → p.core.who ≡ me.0.part.core.who
-      → Possible r.core e → Knows (after r.core e) p.core → p.counts ≡ counts p.core.who → own_of p.own ≡ part_of p.core.who log → Spares key r.core r.log log r.counts counts me.0.part.core.who
-      → length held ≡ length (first_graph key) → ((n : ℕ) → owns p.core n ≡ true → n < length (first_graph key) → get_elem? held n ≡ some (Some (node_at (last_graph (first_graph key) log) n)))
-      → Counted key (after r.core e).drawn (after r.core e).commits (after r.core e).cancel log counts → Shown key.locks (after r.core e) (set s.words i x)
-      → AtHome key.locks (last_graph (first_graph key) log) (after r.core e).owner (after r.core e).queue (after r.core e).guard (homes_after s.homes me.1 a)
+  pub makes_all : (e : Event) (i x : ℕ) (p : Part) (held : List (Option Node)) (a : Act Cell) (log : List Recorded)
+      (counts : ℕ → Counts) → actor e ≡ me.0.part.core.who → p.core.who ≡ me.0.part.core.who
+      → Possible r.core e → Knows (after r.core e) p.core → p.counts ≡ counts p.core.who
+      → own_of p.own ≡ part_of p.core.who log → Spares key r.core r.log log r.counts counts me.0.part.core.who
+      → length held ≡ length (first_graph key)
+      → ((n : ℕ) → owns p.core n ≡ true → n < length (first_graph key)
+      → get_elem? held n ≡ some (Some (node_at (last_graph (first_graph key) log) n)))
+      → Counted key (after r.core e).drawn (after r.core e).commits (after r.core e).cancel log counts
+      → Shown key.locks (after r.core e) (set s.words i x)
+      → AtHome key.locks (last_graph (first_graph key) log) (after r.core e).owner (after r.core e).queue
+      (after r.core e).guard (homes_after s.homes me.1 a)
       → MakesWith key s r e log (stepped s i x id me.1 (record me.0 { part = p; held = held }) a)
   makes_all e i x p held a log counts acts same can knows tallied own spares room has counted words homes = record {
     can = can;
@@ -110,146 +122,228 @@ module _ (key : Start) (s : St) (r : Ruled key s) (id : ℕ) (me : Sat) (here : 
       fits = r.fits;
       places = same_seats r.core e ∙ r.places;
       seats_there = r.seats_there;
-      strangers = λ t big. strange_on r.core e t can.base (λ z. let small = mine.part.number in let far = acts in omega arith) (r.strangers t big);
+      strangers = λ t big. strange_on r.core e t can.base
+          (λ z. let small = mine.part.number in let far = acts in omega arith) (r.strangers t big);
       words = words;
       homes = homes;
       counted = counted;
       seats = seats_stay (Sits key (after r.core e) log r.at counts) s.views id (record me.0 { part = p; held = held })
           (λ _. record {
-            part = record { place = ap r.at same ∙ mine.part.place; number = subst (λ (t : ℕ). t < key.seats) (sym same) mine.part.number; knows = knows; counted = tallied; own = own };
+            part = record {
+              place = ap r.at same ∙ mine.part.place;
+              number = subst (λ (t : ℕ). t < key.seats) (sym same) mine.part.number;
+              knows = knows;
+              counted = tallied;
+              own = own;
+            };
             room = room;
             held = has;
-            idle = λ k q there. let i = mine.idle k q there in (part_on key r.core e law can r.log log r.at r.counts counts me.0.part.core.who acts spares id q (mine.apart k q there) i.0, i.1);
+            idle = λ k q there. let i = mine.idle k q there in (
+              part_on key r.core e law can r.log log r.at r.counts counts me.0.part.core.who acts spares id q
+                  (mine.apart k q there) i.0,
+              i.1,
+            );
             apart = λ k q there z. mine.apart k q there (z ∙ same);
             differ = mine.differ;
           })
-          (λ j d far there on. sits_on key r.core e law can r.log log r.at r.counts counts me.0.part.core.who acts spares id j d mine.part.place far (r.seats j d there on));
-      there = λ t small. there_kept s.views id me.0 (record me.0 { part = p; held = held }) (r.at t) t here refl same refl (r.there t small);
+          (λ j d far there on. sits_on key r.core e law can r.log log r.at r.counts counts me.0.part.core.who acts
+          spares id j d mine.part.place far (r.seats j d there on));
+      there = λ t small. there_kept s.views id me.0 (record me.0 { part = p; held = held }) (r.at t) t here refl
+          same refl (r.there t small);
     };
   }
 
   -- ... where nobody drew or committed
-  pub makes : (e : Event) (i x : ℕ) (w : View) (held : List (Option Node)) (a : Act Cell) → actor e ≡ me.0.part.core.who → w.who ≡ me.0.part.core.who → Possible r.core e → Knows (after r.core e) w
-      → length held ≡ length (first_graph key) → ((n : ℕ) → owns w n ≡ true → n < length (first_graph key) → get_elem? held n ≡ some (Some (node_at graph n)))
-      → Counted key (after r.core e).drawn (after r.core e).commits (after r.core e).cancel r.log r.counts → Shown key.locks (after r.core e) (set s.words i x) → AtHome key.locks graph (after r.core e).owner (after r.core e).queue (after r.core e).guard (homes_after s.homes me.1 a)
+  pub makes : (e : Event) (i x : ℕ) (w : View) (held : List (Option Node)) (a : Act Cell)
+      → actor e ≡ me.0.part.core.who → w.who ≡ me.0.part.core.who → Possible r.core e → Knows (after r.core e) w
+      → length held ≡ length (first_graph key)
+      → ((n : ℕ) → owns w n ≡ true → n < length (first_graph key)
+      → get_elem? held n ≡ some (Some (node_at graph n)))
+      → Counted key (after r.core e).drawn (after r.core e).commits (after r.core e).cancel r.log r.counts
+      → Shown key.locks (after r.core e) (set s.words i x)
+      → AtHome key.locks graph (after r.core e).owner (after r.core e).queue (after r.core e).guard
+      (homes_after s.homes me.1 a)
       → Makes key s r e (stepped s i x id me.1 (record me.0 { part = record (me.0.part) { core = w }; held = held }) a)
-  makes e i x w held a acts same can knows room has counted words homes = makes_all e i x (record (me.0.part) { core = w }) held a r.log r.counts acts same can knows
-      (mine.part.counted ∙ ap r.counts (sym same)) (mine.part.own ∙ ap (λ (t : ℕ). part_of t r.log) (sym same)) (record { counts_stay = λ t _. refl; parts_stay = λ t _. refl; nodes_stay = λ t n _ _. refl }) room has counted words homes
+  makes e i x w held a acts same can knows room has counted words homes =
+      makes_all e i x (record (me.0.part) { core = w }) held a r.log r.counts acts same can knows
+      (mine.part.counted ∙ ap r.counts (sym same)) (mine.part.own ∙ ap (λ (t : ℕ). part_of t r.log) (sym same))
+      (record { counts_stay = λ t _. refl; parts_stay = λ t _. refl; nodes_stay = λ t n _ _. refl }) room has
+      counted words homes
 
   -- take_free: the owner word was 0
   pub fast_makes : (n : ℕ) → n < length (first_graph key) → MayFast me.0.part.core → get_or s.words (144 + 8 * n) 0 ≡ 0
-      → Makes key s r (Fast me.0.part.core.who n) (stepped s (144 + 8 * n) (packed (taker me.0.part.core)) id me.1 (taking me.0 n (node_at graph n)) (takes n (Content (node_at graph n))))
-  fast_makes n small may hit = let c = r.core in let v = me.0.part.core in let k = mine.part.knows in let l = low n small in let is : idle ≡ word_of c n = found n idle l idle_valid hit in
-      let can = shows_fast c v law k n (signed_owns_outside c r.reached) may (let z = r.locks in omega arith) is in let deep = r.homes.deep in let x = node_at graph n in let room = mine.room in
-      makes (Fast v.who n) (144 + 8 * n) (packed (taker v)) (fast_taken v n) (set me.0.held n (Some x)) (takes n (Content x)) refl refl can (mine_fast c v law k n can)
+      → Makes key s r (Fast me.0.part.core.who n)
+      (stepped s (144 + 8 * n) (packed (taker me.0.part.core)) id me.1 (taking me.0 n (node_at graph n))
+      (takes n (Content (node_at graph n))))
+  fast_makes n small may hit = let c = r.core in let v = me.0.part.core in let k = mine.part.knows in
+      let l = low n small in let is : idle ≡ word_of c n = found n idle l idle_valid hit in
+      let can = shows_fast c v law k n (signed_owns_outside c r.reached) may (let z = r.locks in omega arith) is in
+      let deep = r.homes.deep in let x = node_at graph n in let room = mine.room in
+      makes (Fast v.who n) (144 + 8 * n) (packed (taker v)) (fast_taken v n) (set me.0.held n (Some x))
+      (takes n (Content x)) refl refl can (mine_fast c v law k n can)
       (length-set me.0.held n (Some x) ∙ mine.room)
       (λ m own in_graph. dite (ℕ_discrete m n)
-      (λ e. ap (get_elem? (set me.0.held n (Some x))) e ∙ set_here me.0.held n (Some x) (omega arith) ∙ ap (λ (j : ℕ). some (Some (node_at graph j))) (sym e))
+      (λ e. ap (get_elem? (set me.0.held n (Some x))) e ∙ set_here me.0.held n (Some x) (omega arith)
+      ∙ ap (λ (j : ℕ). some (Some (node_at graph j))) (sym e))
       (λ isnt. set_else me.0.held n m (Some x) isnt ∙ mine.held m (sym (get_or-set_other v.owned n m true false isnt) ∙ own) in_graph))
       r.counted
       (owner_set c (Fast v.who n) can.base law.base key.locks s.words r.words n (packed (taker v)) l (λ m far. far) refl refl refl refl refl
-      ((λ i. packed (record { seat = Some v.who; stamp = k.itself.stamp i; flags = 0 })) ∙ ap packed (sym (word_fast c v.who n can.base.idle.empty can.base.idle.not_asked))))
+      ((λ i. packed (record { seat = Some v.who; stamp = k.itself.stamp i; flags = 0 }))
+      ∙ ap packed (sym (word_fast c v.who n can.base.idle.empty can.base.idle.not_asked))))
       (record {
         deep = length-set s.homes n none ∙ r.homes.deep;
-        nodes = λ m low'. put_cases c.owner n (Taken v.who) m (λ o. ((t : ℕ) → o ≢ Taken t) → get_elem? (set s.homes n none) m ≡ some (some (Content (node_at graph m)))) (λ _ clear. absurd (clear v.who refl))
+        nodes = λ m low'. put_cases c.owner n (Taken v.who) m
+            (λ o. ((t : ℕ) → o ≢ Taken t) → get_elem? (set s.homes n none) m
+            ≡ some (some (Content (node_at graph m)))) (λ _ clear. absurd (clear v.who refl))
             (λ isnt clear. set_else s.homes n m none isnt ∙ r.homes.nodes m low' clear);
-        lists = λ m l' free. set_else s.homes n (64 + m) none (λ z. let a = r.counted.size in let b = r.counted.graph.few in omega arith) ∙ r.homes.lists m l' free;
+        lists = λ m l' free. set_else s.homes n (64 + m) none
+            (λ z. let a = r.counted.size in let b = r.counted.graph.few in omega arith) ∙ r.homes.lists m l' free;
       })
 
   -- give_free: the owner word was that of the seat without flags
-  pub fast_give_makes : (n : ℕ) (x : Node) → n < length (first_graph key) → IsAway me.0.part.core → owns me.0.part.core n ≡ true → get_elem? me.0.held n ≡ some (Some x) → IsValid (taker me.0.part.core)
+  pub fast_give_makes : (n : ℕ) (x : Node) → n < length (first_graph key) → IsAway me.0.part.core
+      → owns me.0.part.core n ≡ true → get_elem? me.0.held n ≡ some (Some x) → IsValid (taker me.0.part.core)
       → get_or s.words (144 + 8 * n) 0 ≡ packed (taker me.0.part.core) → me.1 ≡ (n, Content x) ∷ rest me.1
       → Makes key s r (FastGive me.0.part.core.who n) (stepped s (144 + 8 * n) 0 id me.1 (giving me.0 n) gives)
-  fast_give_makes n x small away own has valid hit top = let c = r.core in let v = me.0.part.core in let k = mine.part.knows in let l = low n small in let is = found n (taker v) l valid hit in
+  fast_give_makes n x small away own has valid hit top = let c = r.core in let v = me.0.part.core in
+      let k = mine.part.knows in let l = low n small in let is = found n (taker v) l valid hit in
       let can = shows_fast_give c v law k n away own (let z = r.locks in omega arith) (taker v) is refl in let deep = r.homes.deep in
       let value : x ≡ node_at graph n = (let p : some (Some x) ≡ some (Some (node_at graph n)) = sym has ∙ mine.held n own small in cc) in
       makes (FastGive v.who n) (144 + 8 * n) 0 (fast_given v n) (set me.0.held n None) gives refl refl can (mine_fast_give c v law k n can)
       (length-set me.0.held n None ∙ mine.room)
       (λ m own' in_graph. dite (ℕ_discrete m n)
-      (λ e. absurd (true≢false (sym own' ∙ ap (λ i. get_or (set v.owned n false) i false) e ∙ get_or-set_same v.owned n false false (let z = k.owned.room in let y = r.locks in omega arith))))
+      (λ e. absurd (true≢false (sym own' ∙ ap (λ i. get_or (set v.owned n false) i false) e
+      ∙ get_or-set_same v.owned n false false (let z = k.owned.room in let y = r.locks in omega arith))))
       (λ isnt. set_else me.0.held n m None isnt ∙ mine.held m (sym (get_or-set_other v.owned n m false false isnt) ∙ own') in_graph))
       r.counted
-      (owner_set c (FastGive v.who n) can.base law.base key.locks s.words r.words n 0 l (λ m far. far) refl refl refl refl refl (ap packed (sym (word_fast_give c v.who n can.base.empty can.base.not_asked))))
-      (subst (λ (z : List (ℕ × Cell)). AtHome key.locks graph (put c.owner n Nobody) c.queue c.guard (homes_after s.homes z gives)) (sym top) (record {
+      (owner_set c (FastGive v.who n) can.base law.base key.locks s.words r.words n 0 l (λ m far. far) refl refl
+      refl refl refl (ap packed (sym (word_fast_give c v.who n can.base.empty can.base.not_asked))))
+      (subst (λ (z : List (ℕ × Cell)). AtHome key.locks graph (put c.owner n Nobody) c.queue c.guard
+      (homes_after s.homes z gives)) (sym top) (record {
         deep = length-set s.homes n (some (Content x)) ∙ r.homes.deep;
         nodes = λ m low' clear. dite (ℕ_discrete m n)
-            (λ e. ap (get_elem? (set s.homes n (some (Content x)))) e ∙ set_here s.homes n (some (Content x)) (omega arith) ∙ ap (λ (y : Node). some (some (Content y))) (value ∙ ap (node_at graph) (sym e)))
-            (λ isnt. set_else s.homes n m (some (Content x)) isnt ∙ r.homes.nodes m low' (λ t z. clear t (put_else c.owner n Nobody m isnt ∙ z)));
-        lists = λ m l' free. set_else s.homes n (64 + m) (some (Content x)) (λ z. let a = r.counted.size in let b = r.counted.graph.few in omega arith) ∙ r.homes.lists m l' free;
+            (λ e. ap (get_elem? (set s.homes n (some (Content x)))) e
+            ∙ set_here s.homes n (some (Content x)) (omega arith)
+            ∙ ap (λ (y : Node). some (some (Content y))) (value ∙ ap (node_at graph) (sym e)))
+            (λ isnt. set_else s.homes n m (some (Content x)) isnt
+            ∙ r.homes.nodes m low' (λ t z. clear t (put_else c.owner n Nobody m isnt ∙ z)));
+        lists = λ m l' free. set_else s.homes n (64 + m) (some (Content x))
+            (λ z. let a = r.counted.size in let b = r.counted.graph.few in omega arith) ∙ r.homes.lists m l' free;
       }))
 
   -- take_bare: the owner word was 0, and the lock guards no node
   pub bare_makes : (n : ℕ) → length (first_graph key) ≤ n → n < key.locks → MayFast me.0.part.core → get_or s.words (144 + 8 * n) 0 ≡ 0
-      → Makes key s r (Fast me.0.part.core.who n) (stepped s (144 + 8 * n) (packed (taker me.0.part.core)) id me.1 (knowing me.0 (fast_taken me.0.part.core n)) keeps)
-  bare_makes n big l may hit = let c = r.core in let v = me.0.part.core in let k = mine.part.knows in let is : idle ≡ word_of c n = found n idle l idle_valid hit in
+      → Makes key s r (Fast me.0.part.core.who n)
+      (stepped s (144 + 8 * n) (packed (taker me.0.part.core)) id me.1
+      (knowing me.0 (fast_taken me.0.part.core n)) keeps)
+  bare_makes n big l may hit = let c = r.core in let v = me.0.part.core in let k = mine.part.knows in
+      let is : idle ≡ word_of c n = found n idle l idle_valid hit in
       let can = shows_fast c v law k n (signed_owns_outside c r.reached) may (let z = r.locks in omega arith) is in
       makes (Fast v.who n) (144 + 8 * n) (packed (taker v)) (fast_taken v n) me.0.held keeps refl refl can (mine_fast c v law k n can)
       mine.room
       (λ m own in_graph. mine.held m (sym (get_or-set_other v.owned n m true false (λ z. omega arith)) ∙ own) in_graph)
       r.counted
       (owner_set c (Fast v.who n) can.base law.base key.locks s.words r.words n (packed (taker v)) l (λ m far. far) refl refl refl refl refl
-      ((λ i. packed (record { seat = Some v.who; stamp = k.itself.stamp i; flags = 0 })) ∙ ap packed (sym (word_fast c v.who n can.base.idle.empty can.base.idle.not_asked))))
+      ((λ i. packed (record { seat = Some v.who; stamp = k.itself.stamp i; flags = 0 }))
+      ∙ ap packed (sym (word_fast c v.who n can.base.idle.empty can.base.idle.not_asked))))
       (record {
         deep = r.homes.deep;
-        nodes = λ m low'. put_cases c.owner n (Taken v.who) m (λ o. ((t : ℕ) → o ≢ Taken t) → get_elem? s.homes m ≡ some (some (Content (node_at graph m)))) (λ _ clear. absurd (clear v.who refl)) (λ _ clear. r.homes.nodes m low' clear);
+        nodes = λ m low'. put_cases c.owner n (Taken v.who) m
+            (λ o. ((t : ℕ) → o ≢ Taken t) → get_elem? s.homes m ≡ some (some (Content (node_at graph m))))
+            (λ _ clear. absurd (clear v.who refl)) (λ _ clear. r.homes.nodes m low' clear);
         lists = r.homes.lists;
       })
 
   -- give_bare: the owner word was that of the seat without flags, and the lock guards no node
-  pub bare_give_makes : (n : ℕ) → length (first_graph key) ≤ n → n < key.locks → IsAway me.0.part.core → owns me.0.part.core n ≡ true → IsValid (taker me.0.part.core)
+  pub bare_give_makes : (n : ℕ) → length (first_graph key) ≤ n → n < key.locks → IsAway me.0.part.core
+      → owns me.0.part.core n ≡ true → IsValid (taker me.0.part.core)
       → get_or s.words (144 + 8 * n) 0 ≡ packed (taker me.0.part.core)
       → Makes key s r (FastGive me.0.part.core.who n) (stepped s (144 + 8 * n) 0 id me.1 (knowing me.0 (fast_given me.0.part.core n)) keeps)
-  bare_give_makes n big l away own valid hit = let c = r.core in let v = me.0.part.core in let k = mine.part.knows in let is = found n (taker v) l valid hit in
+  bare_give_makes n big l away own valid hit = let c = r.core in let v = me.0.part.core in
+      let k = mine.part.knows in let is = found n (taker v) l valid hit in
       let can = shows_fast_give c v law k n away own (let z = r.locks in omega arith) (taker v) is refl in
       makes (FastGive v.who n) (144 + 8 * n) 0 (fast_given v n) me.0.held keeps refl refl can (mine_fast_give c v law k n can)
       mine.room
       (λ m own' in_graph. mine.held m (sym (get_or-set_other v.owned n m false false (λ z. omega arith)) ∙ own') in_graph)
       r.counted
-      (owner_set c (FastGive v.who n) can.base law.base key.locks s.words r.words n 0 l (λ m far. far) refl refl refl refl refl (ap packed (sym (word_fast_give c v.who n can.base.empty can.base.not_asked))))
+      (owner_set c (FastGive v.who n) can.base law.base key.locks s.words r.words n 0 l (λ m far. far) refl refl
+      refl refl refl (ap packed (sym (word_fast_give c v.who n can.base.empty can.base.not_asked))))
       (record {
         deep = r.homes.deep;
-        nodes = λ m low' clear. r.homes.nodes m low' (λ t z. clear t (put_else c.owner n Nobody m (λ e. let a = r.counted.size in omega arith) ∙ z));
+        nodes = λ m low' clear. r.homes.nodes m low'
+            (λ t z. clear t (put_else c.owner n Nobody m (λ e. let a = r.counted.size in omega arith) ∙ z));
         lists = r.homes.lists;
       })
 
   -- end: the own sign word is 0, and stays
   pub end_makes : MayEnd me.0.part.core → get_or s.words (8 * me.0.part.core.who) 0 ≡ 0
-      → Makes key s r (End me.0.part.core.who) (stepped s (8 * me.0.part.core.who) (get_or s.words (8 * me.0.part.core.who) 0) id me.1 (knowing me.0 (ended me.0.part.core)) keeps)
+      → Makes key s r (End me.0.part.core.who)
+      (stepped s (8 * me.0.part.core.who) (get_or s.words (8 * me.0.part.core.who) 0) id me.1
+      (knowing me.0 (ended me.0.part.core)) keeps)
   end_makes may hit = let c = r.core in let v = me.0.part.core in let k = mine.part.knows in let i = 8 * v.who in
-      let can = shows_end c v law k may.away may.context may.bare (sym (r.words.signs v.who (let z = k.itself.seat in let y = r.places in omega arith)) ∙ hit) in
-      makes (End v.who) i (get_or s.words i 0) (ended v) me.0.held keeps refl refl can (mine_end c v law k can may.bare) mine.room mine.held r.counted
-      (subst (Shown key.locks (after c (End v.who))) (sym (set-get_or s.words i 0)) (none_set c (End v.who) can.base law.base key.locks s.words r.words (λ m. tt) refl refl refl refl refl))
+      let can = shows_end c v law k may.away may.context may.bare
+      (sym (r.words.signs v.who (let z = k.itself.seat in let y = r.places in omega arith)) ∙ hit) in
+      makes (End v.who) i (get_or s.words i 0) (ended v) me.0.held keeps refl refl can
+      (mine_end c v law k can may.bare) mine.room mine.held r.counted
+      (subst (Shown key.locks (after c (End v.who))) (sym (set-get_or s.words i 0))
+      (none_set c (End v.who) can.base law.base key.locks s.words r.words (λ m. tt) refl refl refl refl refl))
       (record { deep = r.homes.deep; nodes = r.homes.nodes; lists = r.homes.lists })
 
   -- draw: the stamp word goes one up
-  pub draw_makes : MayDraw me.0.part → get_or s.words 128 0 < 2 ^ 56 - 1 → Makes key s r (Begin me.0.part.core.who) (stepped s 128 (get_or s.words 128 0 + 1) id me.1 (drawing me.0 (get_or s.words 128 0 + 1)) keeps)
-  draw_makes may room = let c = r.core in let v = me.0.part.core in let k = mine.part.knows in let same = r.words.drawn in let x = get_or s.words 128 0 in
-      let can = shows_begin c v law k may.away may.no_context may.bare (subst (λ (y : ℕ). y < 2 ^ 56 - 1) same room) in let count = r.counts v.who in let more : Counts = record count { draws = count.draws + 1 } in let counts = put r.counts v.who more in
-      makes_all (Begin v.who) 128 (x + 1) (record (me.0.part) { core = begun v (x + 1); counts = record (me.0.part.counts) { draws = me.0.part.counts.draws + 1 } }) me.0.held keeps r.log counts refl refl can
+  pub draw_makes : MayDraw me.0.part → get_or s.words 128 0 < 2 ^ 56 - 1
+      → Makes key s r (Begin me.0.part.core.who)
+      (stepped s 128 (get_or s.words 128 0 + 1) id me.1 (drawing me.0 (get_or s.words 128 0 + 1)) keeps)
+  draw_makes may room = let c = r.core in let v = me.0.part.core in let k = mine.part.knows in
+      let same = r.words.drawn in let x = get_or s.words 128 0 in
+      let can = shows_begin c v law k may.away may.no_context may.bare
+      (subst (λ (y : ℕ). y < 2 ^ 56 - 1) same room) in let count = r.counts v.who in
+      let more : Counts = record count { draws = count.draws + 1 } in let counts = put r.counts v.who more in
+      makes_all (Begin v.who) 128 (x + 1) (record
+      (me.0.part) {
+        core = begun v (x + 1);
+        counts = record (me.0.part.counts) { draws = me.0.part.counts.draws + 1 };
+      }) me.0.held keeps r.log counts
+      refl refl can
       (subst (λ (y : ℕ). Knows (after c (Begin v.who)) (begun v (y + 1))) (sym same) (mine_begin c v law k can may.bare))
       (ap (λ (y : Counts). record y { draws = y.draws + 1 }) mine.part.counted ∙ sym (put_here r.counts v.who more)) mine.part.own
-      (record { counts_stay = λ t ne. put_else r.counts v.who more t ne; parts_stay = λ t _. refl; nodes_stay = λ t n _ _. refl }) mine.room mine.held
+      (record {
+        counts_stay = λ t ne. put_else r.counts v.who more t ne;
+        parts_stay = λ t _. refl;
+        nodes_stay = λ t n _ _. refl;
+      }) mine.room mine.held
       (record {
         legal = r.counted.legal;
         graph = r.counted.graph;
         size = r.counted.size;
         front = r.counted.front;
-        stamps = ap (λ (y : ℕ). y + 1) r.counted.stamps ∙ sym (total_one 16 (λ t. (counts t).draws) (λ t. (r.counts t).draws) v.who (let z = k.itself.seat in let y = r.places in omega arith) (λ t ne. ap (λ (y : Counts). y.draws) (put_else r.counts v.who more t ne)) (ap (λ (y : Counts). y.draws) (put_here r.counts v.who more)));
-        balanced = λ t u. ap (times u) (put_cases r.counts v.who more t (λ y. y.cancelled ≡ (r.counts t).cancelled) (λ is. ap (λ (y : ℕ). (r.counts y).cancelled) (sym is)) (λ _. refl)) ∙ r.counted.balanced t u
-            ∙ ap (λ (y : List ℕ). times t y + one_of t u (c.cancel u)) (sym (put_cases r.counts v.who more u (λ y. y.heeded ≡ (r.counts u).heeded) (λ is. ap (λ (y : ℕ). (r.counts y).heeded) (sym is)) (λ _. refl)));
+        stamps = ap (λ (y : ℕ). y + 1) r.counted.stamps
+            ∙ sym (total_one 16 (λ t. (counts t).draws) (λ t. (r.counts t).draws) v.who
+            (let z = k.itself.seat in let y = r.places in omega arith)
+            (λ t ne. ap (λ (y : Counts). y.draws) (put_else r.counts v.who more t ne))
+            (ap (λ (y : Counts). y.draws) (put_here r.counts v.who more)));
+        balanced = λ t u. ap (times u) (put_cases r.counts v.who more t (λ y. y.cancelled ≡ (r.counts t).cancelled)
+            (λ is. ap (λ (y : ℕ). (r.counts y).cancelled) (sym is)) (λ _. refl)) ∙ r.counted.balanced t u
+            ∙ ap (λ (y : List ℕ). times t y + one_of t u (c.cancel u))
+            (sym (put_cases r.counts v.who more u (λ y. y.heeded ≡ (r.counts u).heeded)
+            (λ is. ap (λ (y : ℕ). (r.counts y).heeded) (sym is)) (λ _. refl)));
         strangers = λ t big. put_else r.counts v.who more t (λ e. let own = mine.part.number in omega arith) ∙ r.counted.strangers t big;
-        few = λ t. put_cases r.counts v.who more t (λ y. y.draws < 2 ^ 52) (λ _. let d = ap (λ (y : Counts). y.draws) mine.part.counted in let f = may.fewer in omega arith) (λ _. r.counted.few t);
+        few = λ t. put_cases r.counts v.who more t (λ y. y.draws < 2 ^ 52)
+            (λ _. let d = ap (λ (y : Counts). y.draws) mine.part.counted in let f = may.fewer in omega arith)
+            (λ _. r.counted.few t);
         brief = r.counted.brief;
         callers = r.counted.callers;
       })
-      (drawn_set c (Begin v.who) can.base law.base key.locks s.words r.words (x + 1) (λ m. tt) refl refl refl (ap (λ (y : ℕ). y + 1) (sym same)) refl)
+      (drawn_set c (Begin v.who) can.base law.base key.locks s.words r.words (x + 1) (λ m. tt) refl refl refl
+      (ap (λ (y : ℕ). y + 1) (sym same)) refl)
       (record { deep = r.homes.deep; nodes = r.homes.nodes; lists = r.homes.lists })
 
   -- ---- steps that are no event
 
   -- a load, or a compare-exchange that finds another number
-  pub looks_on : (i : ℕ) (w : View) → w.who ≡ me.0.part.core.who → ((n : ℕ) → owns w n ≡ owns me.0.part.core n) → Knows r.core w → Stays key s r (stepped s i (get_or s.words i 0) id me.1 (knowing me.0 w) keeps)
-  looks_on i w same has knows = stays_as key s (stepped s i (get_or s.words i 0) id me.1 (knowing me.0 w) keeps) r r.at (subst (Shown key.locks r.core) (sym (set-get_or s.words i 0)) r.words) r.homes
+  pub looks_on : (i : ℕ) (w : View) → w.who ≡ me.0.part.core.who → ((n : ℕ) → owns w n ≡ owns me.0.part.core n)
+      → Knows r.core w → Stays key s r (stepped s i (get_or s.words i 0) id me.1 (knowing me.0 w) keeps)
+  looks_on i w same has knows = stays_as key s (stepped s i (get_or s.words i 0) id me.1 (knowing me.0 w) keeps) r
+      r.at (subst (Shown key.locks r.core) (sym (set-get_or s.words i 0)) r.words) r.homes
       (seats_stay (Sits key r.core r.log r.at r.counts) s.views id (knowing me.0 w)
       (λ _. record {
         part = record {
@@ -268,19 +362,31 @@ module _ (key : Start) (s : St) (r : Ruled key s) (id : ℕ) (me : Sat) (here : 
       (λ j d _ there. r.seats j d there))
       (λ t small. there_kept s.views id me.0 (knowing me.0 w) (r.at t) t here refl same refl (r.there t small))
 
-  pub looks : (i : ℕ) (w : View) → w.who ≡ me.0.part.core.who → ((n : ℕ) → owns w n ≡ owns me.0.part.core n) → Knows r.core w → Ruled key (stepped s i (get_or s.words i 0) id me.1 (knowing me.0 w) keeps)
+  pub looks : (i : ℕ) (w : View) → w.who ≡ me.0.part.core.who → ((n : ℕ) → owns w n ≡ owns me.0.part.core n)
+      → Knows r.core w → Ruled key (stepped s i (get_or s.words i 0) id me.1 (knowing me.0 w) keeps)
   looks i w same has knows = (looks_on i w same has knows).ruled
 
 -- ---- a step as the table asks for it
 
 -- a compare-exchange of a seat, by its two cases; where it is lost only what the view knows changes
-pub cas : (key : Start) (slots id : ℕ) (me : Sat) (i old new : ℕ) (lost : View) (then : ℕ → Sat → Type 0) → me.0.seated ≡ true → lost.who ≡ me.0.part.core.who → ((n : ℕ) → owns lost n ≡ owns me.0.part.core n)
+pub cas : (key : Start) (slots id : ℕ) (me : Sat) (i old new : ℕ) (lost : View) (then : ℕ → Sat → Type 0)
+    → me.0.seated ≡ true → lost.who ≡ me.0.part.core.who → ((n : ℕ) → owns lost n ≡ owns me.0.part.core n)
     → ((c : State) → Knows c me.0.part.core → Knows c lost)
-    → ((s : St) (r : Ruled key s) → get_elem? s.views id ≡ some me.0 → get_or s.words i 0 ≡ old → (w : Sight) × (a : Act Cell) × Valid s.homes me.1 a × Ruled key (stepped s i new id me.1 w a) × then old (w, carried_after me.1 a))
+    → ((s : St) (r : Ruled key s) → get_elem? s.views id ≡ some me.0 → get_or s.words i 0 ≡ old → (w : Sight)
+    × (a : Act Cell) × Valid s.homes me.1 a × Ruled key (stepped s i new id me.1 w a)
+    × then old (w, carried_after me.1 a))
     → ((x : ℕ) → x ≢ old → then x (knowing me.0 lost, me.1))
     → Allows (Ruled key) slots id me i (λ x. either (eqb x old) new x) then
-cas key slots id me i old new lost then seated same has keeps' hit miss s r deep at small = let x : ℕ = get_or s.words i 0 in dite (ℕ_discrete x old)
-    (λ e. let t = hit s r at e in (t.0, t.1, t.2, exchanged x old new (λ y. Ruled key (stepped s i y id me.1 t.0 t.1)) (λ _. t.3) (λ ne. absurd (ne e)), subst (λ y. then y (t.0, carried_after me.1 t.1)) (sym e) t.4))
+cas key slots id me i old new lost then seated same has keeps' hit miss s r deep at small = let x : ℕ =
+    get_or s.words i 0 in dite (ℕ_discrete x old)
+    (λ e. let t = hit s r at e in (
+      t.0,
+      t.1,
+      t.2,
+      exchanged x old new
+          (λ y. Ruled key (stepped s i y id me.1 t.0 t.1)) (λ _. t.3) (λ ne. absurd (ne e)),
+      subst (λ y. then y (t.0, carried_after me.1 t.1)) (sym e) t.4,
+    ))
     (λ ne. (
       knowing me.0 lost,
       keeps,
@@ -290,93 +396,163 @@ cas key slots id me i old new lost then seated same has keeps' hit miss s r deep
       miss x ne,
     ))
 
-takes_there : (key : Start) (slots id : ℕ) (me : Sat) (n new : ℕ) → n < length (first_graph key) → me.0.seated ≡ true → MayFast me.0.part.core → new ≡ packed (taker me.0.part.core)
+takes_there : (key : Start) (slots id : ℕ) (me : Sat) (n new : ℕ) → n < length (first_graph key)
+    → me.0.seated ≡ true → MayFast me.0.part.core → new ≡ packed (taker me.0.part.core)
     → Allows (Ruled key) slots id me (144 + 8 * n) (λ x. either (eqb x 0) new x) (takes_to (step slots (144 + 8 * n) 0 new none) me)
-takes_there key slots id me n new small seated may is = cas key slots id me (144 + 8 * n) 0 new (fast_missed me.0.part.core) (takes_to (step slots (144 + 8 * n) 0 new none) me) seated refl (λ m. refl) (λ c k. mine_missed c me.0.part.core k)
-    (λ s r at hit. let x : Node = node_at (last_graph (first_graph key) r.log) n in let m = fast_makes key s r id me at seated n small may hit in (
+takes_there key slots id me n new small seated may is =
+    cas key slots id me (144 + 8 * n) 0 new (fast_missed me.0.part.core)
+    (takes_to (step slots (144 + 8 * n) 0 new none) me) seated refl (λ m. refl)
+    (λ c k. mine_missed c me.0.part.core k)
+    (λ s r at hit. let x : Node = node_at (last_graph (first_graph key) r.log) n in
+    let m = fast_makes key s r id me at seated n small may hit in (
       taking me.0 n x,
       takes n (Content x),
       r.homes.nodes n (let z = r.counted.size in omega arith) (λ t own. let z = sym m.can.base.idle.free ∙ own in absurd cc),
       subst (λ (y : ℕ). Ruled key (stepped s (144 + 8 * n) y id me.1 (taking me.0 n x) (takes n (Content x)))) (sym is) m.ruled,
-      (λ j there. let e : n ≡ j = omega arith in ((λ _. (x, node_there key s r id me at seated n small, ap (λ (i : ℕ). let w : Sat = (taking me.0 i x, (i, Content x) ∷ me.1) in w) e)), λ no. absurd (no refl))),
+      (λ j there. let e : n ≡ j = omega arith in (
+        (λ _. (
+          x,
+          node_there key s r id me at seated n small,
+          ap
+              (λ (i : ℕ). let w : Sat = (taking me.0 i x, (i, Content x) ∷ me.1) in w) e,
+        )),
+        λ no. absurd (no refl),
+      )),
     ))
     (λ x ne j there. ((λ z. absurd (ne z)), λ _. refl))
 
-pub takes_free : (key : Start) (slots id : ℕ) (me : Sat) (n i new : ℕ) → i ≡ 144 + 8 * n → n < length (first_graph key) → me.0.seated ≡ true → MayFast me.0.part.core → new ≡ packed (taker me.0.part.core)
+pub takes_free : (key : Start) (slots id : ℕ) (me : Sat) (n i new : ℕ) → i ≡ 144 + 8 * n
+    → n < length (first_graph key) → me.0.seated ≡ true → MayFast me.0.part.core
+    → new ≡ packed (taker me.0.part.core)
     → Allows (Ruled key) slots id me i (λ x. either (eqb x 0) new x) (takes_to (step slots i 0 new none) me)
-takes_free key slots id me n i new at small seated may is = subst (λ (j : ℕ). Allows (Ruled key) slots id me j (λ x. either (eqb x 0) new x) (takes_to (step slots j 0 new none) me)) (sym at) (takes_there key slots id me n new small seated may is)
+takes_free key slots id me n i new at small seated may is =
+    subst (λ (j : ℕ). Allows (Ruled key) slots id me j (λ x. either (eqb x 0) new x)
+    (takes_to (step slots j 0 new none) me)) (sym at) (takes_there key slots id me n new small seated may is)
 
-gives_there : (key : Start) (slots id : ℕ) (me : Sat) (n old : ℕ) (x : Node) → n < length (first_graph key) → me.0.seated ≡ true → IsAway me.0.part.core → owns me.0.part.core n ≡ true → get_elem? me.0.held n ≡ some (Some x)
+gives_there : (key : Start) (slots id : ℕ) (me : Sat) (n old : ℕ) (x : Node) → n < length (first_graph key)
+    → me.0.seated ≡ true → IsAway me.0.part.core → owns me.0.part.core n ≡ true
+    → get_elem? me.0.held n ≡ some (Some x)
     → IsValid (taker me.0.part.core) → me.1 ≡ (n, Content x) ∷ rest me.1 → old ≡ packed (taker me.0.part.core)
     → Allows (Ruled key) slots id me (144 + 8 * n) (λ y. either (eqb y old) 0 y) (gives_to (step slots (144 + 8 * n) old 0 none) me)
-gives_there key slots id me n old x small seated away own has valid top is = cas key slots id me (144 + 8 * n) old 0 (fast_kept me.0.part.core) (gives_to (step slots (144 + 8 * n) old 0 none) me) seated refl (λ m. refl) (λ c k. mine_kept c me.0.part.core k)
+gives_there key slots id me n old x small seated away own has valid top is =
+    cas key slots id me (144 + 8 * n) old 0 (fast_kept me.0.part.core)
+    (gives_to (step slots (144 + 8 * n) old 0 none) me) seated refl (λ m. refl)
+    (λ c k. mine_kept c me.0.part.core k)
     (λ s r at hit. (
       giving me.0 n,
       gives,
       tt,
       (fast_give_makes key s r id me at seated n x small away own has valid (hit ∙ is) top).ruled,
-      (λ j there. let e : n ≡ j = omega arith in ((λ _. ap (λ (i : ℕ). let w : Sat = (giving me.0 i, rest me.1) in w) e), λ no. absurd (no refl))),
+      (λ j there. let e : n ≡ j = omega arith in
+          ((λ _. ap (λ (i : ℕ). let w : Sat = (giving me.0 i, rest me.1) in w) e), λ no. absurd (no refl))),
     ))
     (λ y ne j there. ((λ z. absurd (ne z)), λ _. refl))
 
-pub gives_free : (key : Start) (slots id : ℕ) (me : Sat) (n i old : ℕ) (x : Node) → i ≡ 144 + 8 * n → n < length (first_graph key) → me.0.seated ≡ true → IsAway me.0.part.core → owns me.0.part.core n ≡ true → get_elem? me.0.held n ≡ some (Some x)
+pub gives_free : (key : Start) (slots id : ℕ) (me : Sat) (n i old : ℕ) (x : Node) → i ≡ 144 + 8 * n
+    → n < length (first_graph key) → me.0.seated ≡ true → IsAway me.0.part.core → owns me.0.part.core n ≡ true
+    → get_elem? me.0.held n ≡ some (Some x)
     → IsValid (taker me.0.part.core) → me.1 ≡ (n, Content x) ∷ rest me.1 → old ≡ packed (taker me.0.part.core)
     → Allows (Ruled key) slots id me i (λ y. either (eqb y old) 0 y) (gives_to (step slots i old 0 none) me)
-gives_free key slots id me n i old x at small seated away own has valid top is = subst (λ (j : ℕ). Allows (Ruled key) slots id me j (λ y. either (eqb y old) 0 y) (gives_to (step slots j old 0 none) me)) (sym at) (gives_there key slots id me n old x small seated away own has valid top is)
+gives_free key slots id me n i old x at small seated away own has valid top is =
+    subst (λ (j : ℕ). Allows (Ruled key) slots id me j (λ y. either (eqb y old) 0 y)
+    (gives_to (step slots j old 0 none) me)) (sym at)
+    (gives_there key slots id me n old x small seated away own has valid top is)
 
-bares_there : (key : Start) (slots id : ℕ) (me : Sat) (n new : ℕ) → length (first_graph key) ≤ n → n < key.locks → me.0.seated ≡ true → MayFast me.0.part.core → new ≡ packed (taker me.0.part.core)
+bares_there : (key : Start) (slots id : ℕ) (me : Sat) (n new : ℕ) → length (first_graph key) ≤ n → n < key.locks
+    → me.0.seated ≡ true → MayFast me.0.part.core → new ≡ packed (taker me.0.part.core)
     → Allows (Ruled key) slots id me (144 + 8 * n) (λ x. either (eqb x 0) new x) (takes_bare_to (step slots (144 + 8 * n) 0 new none) me)
-bares_there key slots id me n new big low seated may is = cas key slots id me (144 + 8 * n) 0 new (fast_missed me.0.part.core) (takes_bare_to (step slots (144 + 8 * n) 0 new none) me) seated refl (λ m. refl) (λ c k. mine_missed c me.0.part.core k)
+bares_there key slots id me n new big low seated may is =
+    cas key slots id me (144 + 8 * n) 0 new (fast_missed me.0.part.core)
+    (takes_bare_to (step slots (144 + 8 * n) 0 new none) me) seated refl (λ m. refl)
+    (λ c k. mine_missed c me.0.part.core k)
     (λ s r at hit. (
       knowing me.0 (fast_taken me.0.part.core n),
       keeps,
       tt,
-      subst (λ (y : ℕ). Ruled key (stepped s (144 + 8 * n) y id me.1 (knowing me.0 (fast_taken me.0.part.core n)) keeps)) (sym is) (bare_makes key s r id me at seated n big low may hit).ruled,
-      (λ j there. let e : n ≡ j = omega arith in ((λ _. ap (λ (i : ℕ). let w : Sat = (knowing me.0 (fast_taken me.0.part.core i), me.1) in w) e), λ no. absurd (no refl))),
+      subst (λ (y : ℕ). Ruled key (stepped s (144 + 8 * n) y id me.1 (knowing me.0 (fast_taken me.0.part.core n))
+          keeps)) (sym is) (bare_makes key s r id me at seated n big low may hit).ruled,
+      (λ j there. let e : n ≡ j = omega arith in (
+        (λ _. ap (λ (i : ℕ). let w : Sat = (knowing me.0 (fast_taken me.0.part.core i), me.1) in w) e),
+        λ no.
+            absurd (no refl),
+      )),
     ))
     (λ x ne j there. ((λ z. absurd (ne z)), λ _. refl))
 
-pub takes_bare : (key : Start) (slots id : ℕ) (me : Sat) (n i new : ℕ) → i ≡ 144 + 8 * n → length (first_graph key) ≤ n → n < key.locks → me.0.seated ≡ true → MayFast me.0.part.core → new ≡ packed (taker me.0.part.core)
+pub takes_bare : (key : Start) (slots id : ℕ) (me : Sat) (n i new : ℕ) → i ≡ 144 + 8 * n
+    → length (first_graph key) ≤ n → n < key.locks → me.0.seated ≡ true → MayFast me.0.part.core
+    → new ≡ packed (taker me.0.part.core)
     → Allows (Ruled key) slots id me i (λ x. either (eqb x 0) new x) (takes_bare_to (step slots i 0 new none) me)
-takes_bare key slots id me n i new at big low seated may is = subst (λ (j : ℕ). Allows (Ruled key) slots id me j (λ x. either (eqb x 0) new x) (takes_bare_to (step slots j 0 new none) me)) (sym at) (bares_there key slots id me n new big low seated may is)
+takes_bare key slots id me n i new at big low seated may is =
+    subst (λ (j : ℕ). Allows (Ruled key) slots id me j (λ x. either (eqb x 0) new x)
+    (takes_bare_to (step slots j 0 new none) me)) (sym at) (bares_there key slots id me n new big low seated may is)
 
-gives_bare_there : (key : Start) (slots id : ℕ) (me : Sat) (n old : ℕ) → length (first_graph key) ≤ n → n < key.locks → me.0.seated ≡ true → IsAway me.0.part.core → owns me.0.part.core n ≡ true
+gives_bare_there : (key : Start) (slots id : ℕ) (me : Sat) (n old : ℕ) → length (first_graph key) ≤ n
+    → n < key.locks → me.0.seated ≡ true → IsAway me.0.part.core → owns me.0.part.core n ≡ true
     → IsValid (taker me.0.part.core) → old ≡ packed (taker me.0.part.core)
     → Allows (Ruled key) slots id me (144 + 8 * n) (λ y. either (eqb y old) 0 y) (gives_bare_to (step slots (144 + 8 * n) old 0 none) me)
-gives_bare_there key slots id me n old big low seated away own valid is = cas key slots id me (144 + 8 * n) old 0 (fast_kept me.0.part.core) (gives_bare_to (step slots (144 + 8 * n) old 0 none) me) seated refl (λ m. refl) (λ c k. mine_kept c me.0.part.core k)
+gives_bare_there key slots id me n old big low seated away own valid is =
+    cas key slots id me (144 + 8 * n) old 0 (fast_kept me.0.part.core)
+    (gives_bare_to (step slots (144 + 8 * n) old 0 none) me) seated refl (λ m. refl)
+    (λ c k. mine_kept c me.0.part.core k)
     (λ s r at hit. (
       knowing me.0 (fast_given me.0.part.core n),
       keeps,
       tt,
       (bare_give_makes key s r id me at seated n big low away own valid (hit ∙ is)).ruled,
-      (λ j there. let e : n ≡ j = omega arith in ((λ _. ap (λ (i : ℕ). let w : Sat = (knowing me.0 (fast_given me.0.part.core i), me.1) in w) e), λ no. absurd (no refl))),
+      (λ j there. let e : n ≡ j = omega arith in (
+        (λ _. ap (λ (i : ℕ). let w : Sat = (knowing me.0 (fast_given me.0.part.core i), me.1) in w) e),
+        λ no.
+            absurd (no refl),
+      )),
     ))
     (λ y ne j there. ((λ z. absurd (ne z)), λ _. refl))
 
-pub gives_bare : (key : Start) (slots id : ℕ) (me : Sat) (n i old : ℕ) → i ≡ 144 + 8 * n → length (first_graph key) ≤ n → n < key.locks → me.0.seated ≡ true → IsAway me.0.part.core → owns me.0.part.core n ≡ true
+pub gives_bare : (key : Start) (slots id : ℕ) (me : Sat) (n i old : ℕ) → i ≡ 144 + 8 * n
+    → length (first_graph key) ≤ n → n < key.locks → me.0.seated ≡ true → IsAway me.0.part.core
+    → owns me.0.part.core n ≡ true
     → IsValid (taker me.0.part.core) → old ≡ packed (taker me.0.part.core)
     → Allows (Ruled key) slots id me i (λ y. either (eqb y old) 0 y) (gives_bare_to (step slots i old 0 none) me)
-gives_bare key slots id me n i old at big low seated away own valid is = subst (λ (j : ℕ). Allows (Ruled key) slots id me j (λ y. either (eqb y old) 0 y) (gives_bare_to (step slots j old 0 none) me)) (sym at) (gives_bare_there key slots id me n old big low seated away own valid is)
+gives_bare key slots id me n i old at big low seated away own valid is =
+    subst (λ (j : ℕ). Allows (Ruled key) slots id me j (λ y. either (eqb y old) 0 y)
+    (gives_bare_to (step slots j old 0 none) me)) (sym at)
+    (gives_bare_there key slots id me n old big low seated away own valid is)
 
 -- ... of a slot that was brought to the front, by the number and stamp that the seat keeps
-pub gives_brought : (key : Start) (slots id : ℕ) (v : Sight) (me : Sat) (n i old who stamp : ℕ) (x : Node) (others : List (ℕ × Cell)) → me.0 ≡ v → me.1 ≡ (n, Content x) ∷ others → i ≡ 144 + 8 * n → n < length (first_graph key) → v.seated ≡ true
-    → IsAway v.part.core → owns v.part.core n ≡ true → get_elem? v.held n ≡ some (Some x) → v.part.core.who ≡ who → v.part.core.stamp ≡ stamp → who < 16 → stamp < 2 ^ 56 → old ≡ packed (record { seat = Some who; stamp = stamp; flags = 0 })
+pub gives_brought : (key : Start) (slots id : ℕ) (v : Sight) (me : Sat) (n i old who stamp : ℕ) (x : Node)
+    (others : List (ℕ × Cell)) → me.0 ≡ v → me.1 ≡ (n, Content x) ∷ others → i ≡ 144 + 8 * n
+    → n < length (first_graph key) → v.seated ≡ true
+    → IsAway v.part.core → owns v.part.core n ≡ true → get_elem? v.held n ≡ some (Some x) → v.part.core.who ≡ who
+    → v.part.core.stamp ≡ stamp → who < 16 → stamp < 2 ^ 56
+    → old ≡ packed (record { seat = Some who; stamp = stamp; flags = 0 })
     → Allows (Ruled key) slots id me i (λ y. either (eqb y old) 0 y) (gives_to (step slots i old 0 none) me)
 gives_brought key slots id v me n i old who stamp x others view top at small seated away own has is_who is_stamp few low is =
-    let same : taker me.0.part.core ≡ record { seat = Some who; stamp = stamp; flags = 0 } = (λ j. record { seat = Some ((ap (λ (w : Sight). w.part.core.who) view ∙ is_who) j); stamp = (ap (λ (w : Sight). w.part.core.stamp) view ∙ is_stamp) j; flags = 0 }) in
+    let same : taker me.0.part.core ≡ record { seat = Some who; stamp = stamp; flags = 0 } =
+    (λ j. record {
+      seat = Some ((ap (λ (w : Sight). w.part.core.who) view ∙ is_who) j);
+      stamp = (ap (λ (w : Sight). w.part.core.stamp) view ∙ is_stamp) j;
+      flags = 0;
+    }) in
     let valid : IsValid (record { seat = Some who; stamp = stamp; flags = 0 }) = record { seating = few; stamp = low; flags = inl refl } in
-    gives_free key slots id me n i old x at small (ap (λ (w : Sight). w.seated) view ∙ seated) (subst (λ (w : Sight). IsAway w.part.core) (sym view) away) (ap (λ (w : Sight). owns w.part.core n) view ∙ own)
-    (ap (λ (w : Sight). get_elem? w.held n) view ∙ has) (subst IsValid (sym same) valid) (top ∙ ap (λ (l : List (ℕ × Cell)). (n, Content x) ∷ rest l) (sym top)) (is ∙ ap packed (sym same))
+    gives_free key slots id me n i old x at small (ap (λ (w : Sight). w.seated) view ∙ seated)
+    (subst (λ (w : Sight). IsAway w.part.core) (sym view) away)
+    (ap (λ (w : Sight). owns w.part.core n) view ∙ own)
+    (ap (λ (w : Sight). get_elem? w.held n) view ∙ has) (subst IsValid (sym same) valid)
+    (top ∙ ap (λ (l : List (ℕ × Cell)). (n, Content x) ∷ rest l) (sym top)) (is ∙ ap packed (sym same))
 
-pub ends : (key : Start) (slots id : ℕ) (me : Sat) (i : ℕ) → i ≡ 8 * me.0.part.core.who → me.0.seated ≡ true → MayEnd me.0.part.core → Allows (Ruled key) slots id me i (λ x. x) (ends_to (step slots i 0 0 none) me)
-ends key slots id me i is seated may s r deep at small = let c : State = r.core in let v : View = me.0.part.core in let k = (r.seats id me.0 at seated).part.knows in let x : ℕ = get_or s.words i 0 in
-    let tells : x ≡ c.sign v.who = ap (λ (j : ℕ). get_or s.words j 0) is ∙ r.words.signs v.who (let z = k.itself.seat in let y = r.places in omega arith) in
+pub ends : (key : Start) (slots id : ℕ) (me : Sat) (i : ℕ) → i ≡ 8 * me.0.part.core.who → me.0.seated ≡ true
+    → MayEnd me.0.part.core → Allows (Ruled key) slots id me i (λ x. x) (ends_to (step slots i 0 0 none) me)
+ends key slots id me i is seated may s r deep at small = let c : State = r.core in let v : View = me.0.part.core in
+    let k = (r.seats id me.0 at seated).part.knows in let x : ℕ = get_or s.words i 0 in
+    let tells : x ≡ c.sign v.who = ap (λ (j : ℕ). get_or s.words j 0) is
+    ∙ r.words.signs v.who (let z = k.itself.seat in let y = r.places in omega arith) in
     let known : (j : ℕ) → v.sign ≡ Some j → x ≡ j = λ j told. tells ∙ k.sign j told in dite (ℕ_discrete x 0)
     (λ e. (
       knowing me.0 (ended v),
       keeps,
       tt,
-      subst (λ (j : ℕ). Ruled key (stepped s j (get_or s.words j 0) id me.1 (knowing me.0 (ended v)) keeps)) (sym is) (end_makes key s r id me at seated may (ap (λ (j : ℕ). get_or s.words j 0) (sym is) ∙ e)).ruled,
+      subst (λ (j : ℕ). Ruled key (stepped s j (get_or s.words j 0) id me.1 (knowing me.0 (ended v)) keeps))
+          (sym is) (end_makes key s r id me at seated may (ap (λ (j : ℕ). get_or s.words j 0) (sym is) ∙ e)).ruled,
       λ _. ((λ _. refl), (λ no. absurd (no e)), known),
     ))
     (λ ne. (
@@ -387,11 +563,14 @@ ends key slots id me i is seated may s r deep at small = let c : State = r.core 
       λ _. ((λ z. absurd (ne z)), (λ _. refl), known),
     ))
 
-pub draws_one : (key : Start) (slots id : ℕ) (me : Sat) → me.0.seated ≡ true → MayDraw me.0.part → Allows (Ruled key) slots id me 128 (λ z. (z + 1) % 2 ^ 64) (draws_to (step slots 128 1 0 none) me)
-draws_one key slots id me seated may s r deep at small = let x : ℕ = get_or s.words 128 0 in let room = draw_room key s r in let up : (x + 1) % 2 ^ 64 ≡ x + 1 = omega arith in (
-  drawing me.0 (x + 1),
-  keeps,
-  tt,
-  subst (λ (y : ℕ). Ruled key (stepped s 128 y id me.1 (drawing me.0 (x + 1)) keeps)) (sym up) (draw_makes key s r id me at seated may room).ruled,
-  λ _. (room, refl),
-)
+pub draws_one : (key : Start) (slots id : ℕ) (me : Sat) → me.0.seated ≡ true → MayDraw me.0.part
+    → Allows (Ruled key) slots id me 128 (λ z. (z + 1) % 2 ^ 64) (draws_to (step slots 128 1 0 none) me)
+draws_one key slots id me seated may s r deep at small = let x : ℕ = get_or s.words 128 0 in
+    let room = draw_room key s r in let up : (x + 1) % 2 ^ 64 ≡ x + 1 = omega arith in (
+      drawing me.0 (x + 1),
+      keeps,
+      tt,
+      subst (λ (y : ℕ). Ruled key (stepped s 128 y id me.1 (drawing me.0 (x + 1)) keeps)) (sym up)
+          (draw_makes key s r id me at seated may room).ruled,
+      λ _. (room, refl),
+    )

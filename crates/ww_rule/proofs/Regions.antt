@@ -12,45 +12,65 @@ use Rattle.ww_view.proofs.Written.{Leaves, word_else}
 use Rattle.ww_rule.specs.Rule.{Shown}
 
 module _ (c : State) (e : Event) (can : BasePossible c e) (l : IsBase c) (locks : ℕ) (words : List ℕ) (sh : Shown locks c words) where
-  pub owner_set : (n x : ℕ) → n < locks → ((m : ℕ) → m ≢ n → Leaves e m) → (after c e).cancel ≡ c.cancel → (after c e).guard ≡ c.guard → (after c e).sign ≡ c.sign → (after c e).drawn ≡ c.drawn → (after c e).commits ≡ c.commits
+  pub owner_set : (n x : ℕ) → n < locks → ((m : ℕ) → m ≢ n → Leaves e m) → (after c e).cancel ≡ c.cancel
+      → (after c e).guard ≡ c.guard → (after c e).sign ≡ c.sign → (after c e).drawn ≡ c.drawn
+      → (after c e).commits ≡ c.commits
       → x ≡ packed (word_of (after c e) n) → Shown locks (after c e) (set words (144 + 8 * n) x)
   owner_set n x small far cancels guards signs drawn commits here = let wide = sh.wide in record {
     wide = length-set words (144 + 8 * n) x ∙ sh.wide;
     owners = λ m low. dite (ℕ_discrete m n)
-        (λ is. ap (λ (k : ℕ). get_or (set words (144 + 8 * n) x) (144 + 8 * k) 0) is ∙ get_or-set_same words (144 + 8 * n) x 0 (omega arith) ∙ here ∙ ap (λ (k : ℕ). packed (word_of (after c e) k)) (sym is))
-        (λ isnt. get_or-set_other words (144 + 8 * n) (144 + 8 * m) x 0 (λ z. isnt (omega arith)) ∙ sh.owners m low ∙ ap packed (sym (word_else c e m can l (far m isnt))));
-    guards = λ m low. get_or-set_other words (144 + 8 * n) (144 + 8 * m + 1) x 0 (λ z. omega arith) ∙ sh.guards m low ∙ ap (λ (f : ℕ → ℕ). f m) (sym guards);
-    signs = λ s low. get_or-set_other words (144 + 8 * n) (8 * s) x 0 (λ z. omega arith) ∙ sh.signs s low ∙ ap (λ (f : ℕ → ℕ). f s) (sym signs);
-    cancels = λ s low. get_or-set_other words (144 + 8 * n) (8 * s + 1) x 0 (λ z. omega arith) ∙ sh.cancels s low ∙ ap (λ (f : ℕ → ℕ). f s) (sym cancels);
+        (λ is. ap (λ (k : ℕ). get_or (set words (144 + 8 * n) x) (144 + 8 * k) 0) is
+        ∙ get_or-set_same words (144 + 8 * n) x 0 (omega arith) ∙ here
+        ∙ ap (λ (k : ℕ). packed (word_of (after c e) k)) (sym is))
+        (λ isnt. get_or-set_other words (144 + 8 * n) (144 + 8 * m) x 0 (λ z. isnt (omega arith)) ∙ sh.owners m low
+        ∙ ap packed (sym (word_else c e m can l (far m isnt))));
+    guards = λ m low. get_or-set_other words (144 + 8 * n) (144 + 8 * m + 1) x 0 (λ z. omega arith)
+        ∙ sh.guards m low ∙ ap (λ (f : ℕ → ℕ). f m) (sym guards);
+    signs = λ s low. get_or-set_other words (144 + 8 * n) (8 * s) x 0 (λ z. omega arith) ∙ sh.signs s low
+        ∙ ap (λ (f : ℕ → ℕ). f s) (sym signs);
+    cancels = λ s low. get_or-set_other words (144 + 8 * n) (8 * s + 1) x 0 (λ z. omega arith) ∙ sh.cancels s low
+        ∙ ap (λ (f : ℕ → ℕ). f s) (sym cancels);
     drawn = get_or-set_other words (144 + 8 * n) 128 x 0 (λ z. omega arith) ∙ sh.drawn ∙ sym drawn;
     front = get_or-set_other words (144 + 8 * n) 136 x 0 (λ z. omega arith) ∙ sh.front ∙ sym commits;
   }
 
   -- the two counts
-  pub drawn_set : (x : ℕ) → ((m : ℕ) → Leaves e m) → (after c e).cancel ≡ c.cancel → (after c e).guard ≡ c.guard → (after c e).sign ≡ c.sign → (after c e).drawn ≡ x → (after c e).commits ≡ c.commits → Shown locks (after c e) (set words 128 x)
+  pub drawn_set : (x : ℕ) → ((m : ℕ) → Leaves e m) → (after c e).cancel ≡ c.cancel → (after c e).guard ≡ c.guard
+      → (after c e).sign ≡ c.sign → (after c e).drawn ≡ x → (after c e).commits ≡ c.commits
+      → Shown locks (after c e) (set words 128 x)
   drawn_set x far cancels guards signs drawn commits = let wide = sh.wide in record {
     wide = length-set words 128 x ∙ sh.wide;
-    owners = λ m low. get_or-set_other words 128 (144 + 8 * m) x 0 (λ z. omega arith) ∙ sh.owners m low ∙ ap packed (sym (word_else c e m can l (far m)));
-    guards = λ m low. get_or-set_other words 128 (144 + 8 * m + 1) x 0 (λ z. omega arith) ∙ sh.guards m low ∙ ap (λ (f : ℕ → ℕ). f m) (sym guards);
+    owners = λ m low. get_or-set_other words 128 (144 + 8 * m) x 0 (λ z. omega arith) ∙ sh.owners m low
+        ∙ ap packed (sym (word_else c e m can l (far m)));
+    guards = λ m low. get_or-set_other words 128 (144 + 8 * m + 1) x 0 (λ z. omega arith) ∙ sh.guards m low
+        ∙ ap (λ (f : ℕ → ℕ). f m) (sym guards);
     signs = λ s low. get_or-set_other words 128 (8 * s) x 0 (λ z. omega arith) ∙ sh.signs s low ∙ ap (λ (f : ℕ → ℕ). f s) (sym signs);
-    cancels = λ s low. get_or-set_other words 128 (8 * s + 1) x 0 (λ z. omega arith) ∙ sh.cancels s low ∙ ap (λ (f : ℕ → ℕ). f s) (sym cancels);
+    cancels = λ s low. get_or-set_other words 128 (8 * s + 1) x 0 (λ z. omega arith) ∙ sh.cancels s low
+        ∙ ap (λ (f : ℕ → ℕ). f s) (sym cancels);
     drawn = get_or-set_same words 128 x 0 (omega arith) ∙ sym drawn;
     front = get_or-set_other words 128 136 x 0 (λ z. omega arith) ∙ sh.front ∙ sym commits;
   }
 
-  pub front_set : (x : ℕ) → ((m : ℕ) → Leaves e m) → (after c e).cancel ≡ c.cancel → (after c e).guard ≡ c.guard → (after c e).sign ≡ c.sign → (after c e).drawn ≡ c.drawn → (after c e).commits ≡ x → Shown locks (after c e) (set words 136 x)
+  pub front_set : (x : ℕ) → ((m : ℕ) → Leaves e m) → (after c e).cancel ≡ c.cancel → (after c e).guard ≡ c.guard
+      → (after c e).sign ≡ c.sign → (after c e).drawn ≡ c.drawn → (after c e).commits ≡ x
+      → Shown locks (after c e) (set words 136 x)
   front_set x far cancels guards signs drawn commits = let wide = sh.wide in record {
     wide = length-set words 136 x ∙ sh.wide;
-    owners = λ m low. get_or-set_other words 136 (144 + 8 * m) x 0 (λ z. omega arith) ∙ sh.owners m low ∙ ap packed (sym (word_else c e m can l (far m)));
-    guards = λ m low. get_or-set_other words 136 (144 + 8 * m + 1) x 0 (λ z. omega arith) ∙ sh.guards m low ∙ ap (λ (f : ℕ → ℕ). f m) (sym guards);
+    owners = λ m low. get_or-set_other words 136 (144 + 8 * m) x 0 (λ z. omega arith) ∙ sh.owners m low
+        ∙ ap packed (sym (word_else c e m can l (far m)));
+    guards = λ m low. get_or-set_other words 136 (144 + 8 * m + 1) x 0 (λ z. omega arith) ∙ sh.guards m low
+        ∙ ap (λ (f : ℕ → ℕ). f m) (sym guards);
     signs = λ s low. get_or-set_other words 136 (8 * s) x 0 (λ z. omega arith) ∙ sh.signs s low ∙ ap (λ (f : ℕ → ℕ). f s) (sym signs);
-    cancels = λ s low. get_or-set_other words 136 (8 * s + 1) x 0 (λ z. omega arith) ∙ sh.cancels s low ∙ ap (λ (f : ℕ → ℕ). f s) (sym cancels);
+    cancels = λ s low. get_or-set_other words 136 (8 * s + 1) x 0 (λ z. omega arith) ∙ sh.cancels s low
+        ∙ ap (λ (f : ℕ → ℕ). f s) (sym cancels);
     drawn = get_or-set_other words 136 128 x 0 (λ z. omega arith) ∙ sh.drawn ∙ sym drawn;
     front = get_or-set_same words 136 x 0 (omega arith) ∙ sym commits;
   }
 
   -- no word changes
-  pub none_set : ((m : ℕ) → Leaves e m) → (after c e).cancel ≡ c.cancel → (after c e).guard ≡ c.guard → (after c e).sign ≡ c.sign → (after c e).drawn ≡ c.drawn → (after c e).commits ≡ c.commits → Shown locks (after c e) words
+  pub none_set : ((m : ℕ) → Leaves e m) → (after c e).cancel ≡ c.cancel → (after c e).guard ≡ c.guard
+      → (after c e).sign ≡ c.sign → (after c e).drawn ≡ c.drawn → (after c e).commits ≡ c.commits
+      → Shown locks (after c e) words
   none_set far cancels guards signs drawn commits = record {
     wide = sh.wide;
     owners = λ m low. sh.owners m low ∙ ap packed (sym (word_else c e m can l (far m)));

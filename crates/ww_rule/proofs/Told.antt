@@ -35,7 +35,11 @@ module _ (c : State) (v : View) (l : IsLawful c) (k : Knows c v) where
 
   -- an entry of the seat is the one that its view makes
   own_is : (n : ℕ) (e : Entry) → Has (c.queue n) e → e.seat ≡ v.who → e ≡ entry_of_view v
-  own_is n e has is = λ i. record { seat = is i; stamp = ((l.base.queues.at n).stamps e has ∙ ap c.stamp is ∙ sym k.itself.stamp) i; holds = holds_is i }
+  own_is n e has is = λ i. record {
+    seat = is i;
+    stamp = ((l.base.queues.at n).stamps e has ∙ ap c.stamp is ∙ sym k.itself.stamp) i;
+    holds = holds_is i;
+  }
     where
       holds : (m : ℕ) → owns v m ≡ true → (b : Bool) → e.holds ≡ b → e.holds ≡ true
       holds m own true h = h
@@ -43,12 +47,14 @@ module _ (c : State) (v : View) (l : IsLawful c) (k : Knows c v) where
 
       holds_is : e.holds ≡ any_below (length v.owned) (owns v)
       holds_is = same_test e.holds (any_below (length v.owned) (owns v))
-          (λ h. let o = (l.base.queues.at n).holds e has h in let own : c.owner o.0 ≡ Taken v.who = o.1 ∙ ap Taken is in found_below (length v.owned) (owns v) o.0 (low o.0 own) (k.owned.lacks o.0 own))
+          (λ h. let o = (l.base.queues.at n).holds e has h in let own : c.owner o.0 ≡ Taken v.who = o.1
+          ∙ ap Taken is in found_below (length v.owned) (owns v) o.0 (low o.0 own) (k.owned.lacks o.0 own))
           (λ some. let f = below_found (length v.owned) (owns v) some in holds f.0 f.2 e.holds refl)
 
   own_entry : (n : ℕ) → v.waits ≡ suc n → entry_of (c.queue n) v.who ≡ Some (entry_of_view v)
   own_entry n waits = let t = k.queues.waited n waits in
-      ap (entry_of (c.queue n)) (sym t.2) ∙ entry_when (c.queue n) t.0 (l.base.queues.at n).once t.1 ∙ ap (λ (e : Entry). Some e) (own_is n t.0 t.1 t.2)
+      ap (entry_of (c.queue n)) (sym t.2) ∙ entry_when (c.queue n) t.0 (l.base.queues.at n).once t.1
+      ∙ ap (λ (e : Entry). Some e) (own_is n t.0 t.1 t.2)
 
   pub stands_as : (n j : ℕ) → n ≡ j → StandsAs v j (c.queue n)
   stands_as n j same = record {
@@ -81,10 +87,13 @@ module _ (c : State) (v : View) (l : IsLawful c) (k : Knows c v) where
   death_is_older n o j may = go v.kind refl
     where
       go : (kind : Kind) → v.kind ≡ kind → j < v.stamp
-      go WoundWait is = let m = (die_shows v n o j may).wounded is in let s = k.sign j m.0 in let some = m.1 in let older = l.signs.older_signs v.who (omega arith) in let same = k.itself.stamp in omega arith
-      go WaitDie is = let d = dies_why o v.list v.who may.why.0 j (subst (λ (x : Kind). must_die x o v.list v.who may.why.0 ≡ Some j) is may.why.2) in
+      go WoundWait is = let m = (die_shows v n o j may).wounded is in let s = k.sign j m.0 in let some = m.1 in
+          let older = l.signs.older_signs v.who (omega arith) in let same = k.itself.stamp in omega arith
+      go WaitDie is = let d = dies_why o v.list v.who may.why.0 j
+          (subst (λ (x : Kind). must_die x o v.list v.who may.why.0 ≡ Some j) is may.why.2) in
           let list = k.queues.list n may.inside in let at = l.base.queues.at n in
           let stamp : d.0.stamp ≡ v.stamp = at.stamps d.0 (subst (λ q. Has q d.0) list d.1) ∙ ap c.stamp d.2 ∙ sym k.itself.stamp in ⊎_elim
           (λ m. let older = m.0.older.1 in let same = m.1 in omega arith)
-          (λ x. let older = before_older (c.queue n) x.0 d.0 at.ascends (subst (λ q. Before q x.0 d.0) list x.1) x.2 d.3.0 in let same = x.3 in omega arith)
+          (λ x. let older = before_older (c.queue n) x.0 d.0 at.ascends (subst (λ q. Before q x.0 d.0) list x.1) x.2
+          d.3.0 in let same = x.3 in omega arith)
           d.4

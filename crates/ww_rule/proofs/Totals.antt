@@ -15,7 +15,8 @@ total_same (suc n) f g s h same = let a = same n (λ e. omega arith) in let b = 
 pub total_one : (n : ℕ) (f g : ℕ → ℕ) (s : ℕ) → s < n → ((t : ℕ) → t ≢ s → f t ≡ g t) → f s ≡ g s + 1 → total n f ≡ total n g + 1
 total_one zero f g s h same one = absurd (omega arith)
 total_one (suc n) f g s h same one = dite (ℕ_discrete n s)
-    (λ e. let a : f n ≡ g n + 1 = subst (λ (x : ℕ). f x ≡ g x + 1) (sym e) one in let b = total_same n f g s (omega arith) same in omega arith)
+    (λ e. let a : f n ≡ g n + 1 = subst (λ (x : ℕ). f x ≡ g x + 1) (sym e) one in
+    let b = total_same n f g s (omega arith) same in omega arith)
     (λ ne. let a = same n ne in let b = total_one n f g s (omega arith) same one in omega arith)
 
 pub total_below : (n b : ℕ) (f : ℕ → ℕ) → ((t : ℕ) → f t < b) → total n f ≤ n * b
@@ -27,11 +28,18 @@ total_zero zero = refl
 total_zero (suc n) = let a = total_zero n in omega arith
 
 -- each record is in one part
-pub parts_whole : (place : ℕ) (log : List Recorded) → ((k : ℕ) (x : Recorded) → get_elem? log k ≡ some x → x.caller < 16) → length log ≡ total 16 (λ t. length (part_from place t log))
+pub parts_whole : (place : ℕ) (log : List Recorded)
+    → ((k : ℕ) (x : Recorded) → get_elem? log k ≡ some x → x.caller < 16)
+    → length log ≡ total 16 (λ t. length (part_from place t log))
 parts_whole place [] small = sym (total_zero 16)
 parts_whole place (x ∷ log) small =
     let more = parts_whole (place + 1) log (λ k y e. small (suc k) y e) in
-    let other : (t : ℕ) → t ≢ x.caller → length (part_from place t (x ∷ log)) ≡ length (part_from (place + 1) t log) = λ t ne. (let apart : eqb x.caller t ≡ false = ne_eqb x.caller t (λ z. ne (sym z)) in rw apart refl) in
-    let own : length (part_from place x.caller (x ∷ log)) ≡ length (part_from (place + 1) x.caller log) + 1 = (rw (eqb_same x.caller) (let z : suc (length (part_from (place + 1) x.caller log)) ≡ length (part_from (place + 1) x.caller log) + 1 = omega arith in z)) in
-    let one = total_one 16 (λ t. length (part_from place t (x ∷ log))) (λ t. length (part_from (place + 1) t log)) x.caller (small 0 x refl) other own in
+    let other : (t : ℕ) → t ≢ x.caller → length (part_from place t (x ∷ log))
+    ≡ length (part_from (place + 1) t log) =
+    λ t ne. (let apart : eqb x.caller t ≡ false = ne_eqb x.caller t (λ z. ne (sym z)) in rw apart refl) in
+    let own : length (part_from place x.caller (x ∷ log)) ≡ length (part_from (place + 1) x.caller log) + 1 =
+    (rw (eqb_same x.caller) (let z : suc (length (part_from (place + 1) x.caller log))
+    ≡ length (part_from (place + 1) x.caller log) + 1 = omega arith in z)) in
+    let one = total_one 16 (λ t. length (part_from place t (x ∷ log))) (λ t. length (part_from (place + 1) t log))
+    x.caller (small 0 x refl) other own in
     (let z : suc (length log) ≡ length log + 1 = omega arith in z) ∙ ap (λ (y : ℕ). y + 1) more ∙ sym one

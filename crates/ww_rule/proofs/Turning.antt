@@ -28,7 +28,8 @@ ends_alike (x ∷ xs) [] a b e = absurd (let l = ap length e in let m = length-a
 ends_alike (x ∷ xs) (y ∷ ys) a b e = let more = ends_alike xs ys a b (ap (λ l. later_of l) e) in ((λ i. first_of (e i) ∷ more.0 i), more.1)
 
 -- the last number is that of the slot taken last
-pub last_number : (slots : List (ℕ × Cell)) (ns : List ℕ) (n : ℕ) → numbers_of slots ≡ ns ++ n ∷ [] → (y : Cell) × (xs : List (ℕ × Cell)) × (slots ≡ (n, y) ∷ xs) × (ns ≡ numbers_of xs)
+pub last_number : (slots : List (ℕ × Cell)) (ns : List ℕ) (n : ℕ) → numbers_of slots ≡ ns ++ n ∷ [] → (y : Cell)
+    × (xs : List (ℕ × Cell)) × (slots ≡ (n, y) ∷ xs) × (ns ≡ numbers_of xs)
 last_number [] ns n e = absurd (let l = ap length e in let m = length-append ns (n ∷ []) in omega arith)
 last_number (x ∷ xs) ns n e = let both = ends_alike (numbers_of xs) ns x.0 n e in (x.1, xs, (λ i. (both.1 i, x.1) ∷ xs), sym both.0)
 
@@ -37,13 +38,17 @@ pub last_read : (items ns : List ℕ) (n d i : ℕ) → items ≡ ns ++ n ∷ []
 last_read items ns n d i is at = rw is (get_or_push ns n d i (omega (arith, ap length is, length-append ns (n ∷ []), at)))
 
 -- the slot whose number is read at the last place was taken last
-pub last_taken : (slots : List (ℕ × Cell)) (items : List ℕ) (n d i : ℕ) → items ≡ numbers_of slots → i + 1 ≡ length items → get_or items i d ≡ n → (y : Cell) × (xs : List (ℕ × Cell)) × (slots ≡ (n, y) ∷ xs)
+pub last_taken : (slots : List (ℕ × Cell)) (items : List ℕ) (n d i : ℕ) → items ≡ numbers_of slots
+    → i + 1 ≡ length items → get_or items i d ≡ n → (y : Cell) × (xs : List (ℕ × Cell)) × (slots ≡ (n, y) ∷ xs)
 last_taken [] items n d i is at read = absurd (let l = ap length is in omega arith)
-last_taken (x ∷ xs) items n d i is at read = (x.1, xs, ap (λ (j : ℕ). (j, x.1) ∷ xs) (sym (last_read items (numbers_of xs) x.0 d i is at) ∙ read))
+last_taken (x ∷ xs) items n d i is at read =
+    (x.1, xs, ap (λ (j : ℕ). (j, x.1) ∷ xs) (sym (last_read items (numbers_of xs) x.0 d i is at) ∙ read))
 
 -- what a `pop` leaves
-pub popped : (items ns new : List ℕ) (n : ℕ) (last : Option ℕ) → items ≡ ns ++ n ∷ [] → items ≡ new ++ option_to_list last → (0 < length items → IsSome last) → new ≡ ns
-popped items ns new n None is left some = absurd (let z = some (let l = ap length is in let m = length-append ns (n ∷ []) in omega arith) in cc)
+pub popped : (items ns new : List ℕ) (n : ℕ) (last : Option ℕ) → items ≡ ns ++ n ∷ []
+    → items ≡ new ++ option_to_list last → (0 < length items → IsSome last) → new ≡ ns
+popped items ns new n None is left some =
+    absurd (let z = some (let l = ap length is in let m = length-append ns (n ∷ []) in omega arith) in cc)
 popped items ns new n (Some k) is left some = (ends_alike new ns k n (sym left ∙ is)).0
 
 pub numbers_long : (slots : List (ℕ × Cell)) → length (numbers_of slots) ≡ length slots
@@ -59,7 +64,9 @@ slot_past : (front back : List (ℕ × Cell)) (n : ℕ) → slot_of front n ≡ 
 slot_past [] back n none = refl
 slot_past (x ∷ xs) back n none = go (eqb x.0 n) none (λ e. slot_past xs back n e)
   where
-    go : (b : Bool) → (if b then Some x.1 else slot_of xs n) ≡ None → (slot_of xs n ≡ None → slot_of (xs ++ back) n ≡ slot_of back n) → (if b then Some x.1 else slot_of (xs ++ back) n) ≡ slot_of back n
+    go : (b : Bool) → (if b then Some x.1 else slot_of xs n) ≡ None
+        → (slot_of xs n ≡ None → slot_of (xs ++ back) n ≡ slot_of back n)
+        → (if b then Some x.1 else slot_of (xs ++ back) n) ≡ slot_of back n
     go true e more = absurd cc
     go false e more = more e
 
@@ -73,7 +80,8 @@ pub unturned : (slots : List (ℕ × Cell)) (n : ℕ) → AreTurned slots slots 
 unturned slots n = record { front = []; back = slots; parts = refl; turned = sym (append-nil slots); count = refl; passed = refl }
 
 -- all were turned
-pub exhausted : (slots now : List (ℕ × Cell)) (k n : ℕ) (y : Cell) → AreTurned slots now k n → length slots ≤ k → slot_of slots n ≡ Some y → ⊥
+pub exhausted : (slots now : List (ℕ × Cell)) (k n : ℕ) (y : Cell) → AreTurned slots now k n → length slots ≤ k
+    → slot_of slots n ≡ Some y → ⊥
 exhausted slots now k n y t all there = go t.back t.parts
   where
     go : (back : List (ℕ × Cell)) → slots ≡ t.front ++ back → ⊥
@@ -81,7 +89,8 @@ exhausted slots now k n y t all there = go t.back t.parts
     go (x ∷ xs) e = let l = ap length e in let m = length-append t.front (x ∷ xs) in let c = t.count in omega arith
 
 -- one more is turned
-pub turn_on : (slots xs : List (ℕ × Cell)) (x : ℕ × Cell) (k n : ℕ) → AreTurned slots (x ∷ xs) k n → k < length slots → x.0 ≢ n → AreTurned slots (xs ++ x ∷ []) (k + 1) n
+pub turn_on : (slots xs : List (ℕ × Cell)) (x : ℕ × Cell) (k n : ℕ) → AreTurned slots (x ∷ xs) k n
+    → k < length slots → x.0 ≢ n → AreTurned slots (xs ++ x ∷ []) (k + 1) n
 turn_on slots xs x k n t more isnt = go t.back t.parts t.turned
   where
     go : (back : List (ℕ × Cell)) → slots ≡ t.front ++ back → x ∷ xs ≡ back ++ t.front → AreTurned slots (xs ++ x ∷ []) (k + 1) n
@@ -96,16 +105,25 @@ turn_on slots xs x k n t more isnt = go t.back t.parts t.turned
     }
 
 -- the slot was found
-pub turned_to : (slots xs : List (ℕ × Cell)) (x : ℕ × Cell) (k n : ℕ) → AreTurned slots (x ∷ xs) k n → k < length slots → x.0 ≡ n → (slot_of slots n ≡ Some x.1) × AreOthers slots n x.1 xs
+pub turned_to : (slots xs : List (ℕ × Cell)) (x : ℕ × Cell) (k n : ℕ) → AreTurned slots (x ∷ xs) k n
+    → k < length slots → x.0 ≡ n → (slot_of slots n ≡ Some x.1) × AreOthers slots n x.1 xs
 turned_to slots xs x k n t more is = go t.back t.parts t.turned
   where
-    go : (back : List (ℕ × Cell)) → slots ≡ t.front ++ back → x ∷ xs ≡ back ++ t.front → (slot_of slots n ≡ Some x.1) × AreOthers slots n x.1 xs
+    go : (back : List (ℕ × Cell)) → slots ≡ t.front ++ back → x ∷ xs ≡ back ++ t.front
+        → (slot_of slots n ≡ Some x.1) × AreOthers slots n x.1 xs
     go [] e f = absurd (let l = ap length e in let m = length-append t.front [] in let c = t.count in omega arith)
     go (y ∷ ys) e f = let same : y ≡ x = ap (λ l. head_or x l) (sym f) in let later : xs ≡ ys ++ t.front = ap (λ l. rest l) f in (
       ap (λ l. slot_of l n) e ∙ slot_past t.front (y ∷ ys) n t.passed ∙ ap (λ z. slot_of (z ∷ ys) n) same ∙ slot_here x ys n is,
-      record { front = t.front; back = ys; parts = e ∙ ap (λ z. t.front ++ z ∷ ys) same ∙ ap (λ (j : ℕ). t.front ++ (j, x.1) ∷ ys) is; rest = later },
+      record {
+        front = t.front;
+        back = ys;
+        parts = e ∙ ap (λ z. t.front ++ z ∷ ys) same
+            ∙ ap (λ (j : ℕ). t.front ++ (j, x.1) ∷ ys) is;
+        rest = later;
+      },
     )
 
 -- the content of a slot that was brought to the front
-pub brought : (slots : List (ℕ × Cell)) (n : ℕ) (x : Node) (y : Cell) → slot_of slots n ≡ Some y → slot_of slots n ≡ Some (Content x) → y ≡ Content x
+pub brought : (slots : List (ℕ × Cell)) (n : ℕ) (x : Node) (y : Cell) → slot_of slots n ≡ Some y
+    → slot_of slots n ≡ Some (Content x) → y ≡ Content x
 brought slots n x y there is = let e : Some y ≡ Some (Content x) = sym there ∙ is in cc

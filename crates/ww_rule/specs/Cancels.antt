@@ -4,13 +4,12 @@ use Rattle.atomic_table.specs.Table.{Step}
 use Rattle.ww_word.specs.declared.owner.Owner.{Owner}
 use Rattle.ww_word.specs.Owner.{packed}
 use Rattle.ww_view.specs.May.{MayStop}
-use Rattle.ww_view.specs.Made.{found_pending, has_heeded, interrupted}
+use Rattle.ww_view.specs.Made.{found_pending, found_uncancelled, has_heeded, interrupted}
 use Rattle.ww_rule.specs.declared.cells.Cell.{Cell}
 use Rattle.ww_rule.specs.declared.cells.Sight.{Sight}
 use Rattle.ww_rule.specs.Layout.{owner_at, cancel_at}
 use Rattle.ww_rule.specs.Rule.{Sat}
 use Rattle.ww_rule.specs.Steps.{knowing}
-use Rattle.ww_rule.specs.Guards.{lost}
 use Rattle.ww_rule.specs.Waiting.{StandsIfWaiting, tries_to}
 
 -- ---- set_cancel: the cancel of a seat is set, if none of it is pending; else the seat counts that one was
@@ -27,7 +26,10 @@ abbrev pub cancels_to : Step Cell → Sat → ℕ → Sat → Type 0
 cancels_to st m found m' = (u : ℕ) → st.word ≡ cancel_at u →
     (found ≡ 0 → m' ≡ (cancelling m.0 u, m.1)) × (found ≢ 0 → m' ≡ (finding_pending m.0, m.1))
 
--- ---- heed: the own cancel becomes 0, and if one was pending the seat has heeded it
+-- ---- heed: the own cancel becomes 0, and if one was pending the seat has heeded it; else it has found none
+
+abbrev pub finding_uncancelled : Sight → Sight
+finding_uncancelled v = knowing v (found_uncancelled v.part.core)
 
 abbrev pub heeding : Sight → ℕ → Sight
 heeding v mark = record v {
@@ -39,7 +41,7 @@ heeding v mark = record v {
 
 abbrev pub heeds_to : Step Cell → Sat → ℕ → Sat → Type 0
 heeds_to st m found m' = st.word ≡ cancel_at m.0.part.core.who →
-    (found ≡ 0 → m' ≡ (lost m.0, m.1)) × (found ≢ 0 → m' ≡ (heeding m.0 found, m.1)) × (found ≤ 16)
+    (found ≡ 0 → m' ≡ (finding_uncancelled m.0, m.1)) × (found ≢ 0 → m' ≡ (heeding m.0 found, m.1)) × (found ≤ 16)
 
 -- ---- leave: out of the wait list, for the cancel that was heeded
 

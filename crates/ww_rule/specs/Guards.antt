@@ -41,7 +41,8 @@ shutting_out v = knowing v (shut_out v.part.core)
 
 abbrev pub enters_to : Step Cell → Sat → ℕ → Sat → Type 0
 enters_to st m found m' = (n : ℕ) → st.word ≡ guard_at n →
-    (found ≡ 0 → (q : List Entry) × AreSeats q × StandsAs m.0.part.core n q × (m' ≡ (entering m.0 n q, (list_at n, Line q) ∷ m.1))) × (found ≢ 0 → m' ≡ (shutting_out m.0, m.1))
+    (found ≡ 0 → (q : List Entry) × AreSeats q × StandsAs m.0.part.core n q
+    × (m' ≡ (entering m.0 n q, (list_at n, Line q) ∷ m.1))) × (found ≢ 0 → m' ≡ (shutting_out m.0, m.1))
 
 -- ---- exit: out of the guard, and the wait list goes home
 
@@ -63,9 +64,10 @@ pub record IsSeenBy (v : View) (n : ℕ) (o : Owner) : Type 0 where
   pub flags : v.list ≢ [] → o.flags ≢ 0
 
 abbrev pub looks_to : Step Cell → Sat → ℕ → Sat → Type 0
-looks_to st m found m' = (o : Owner) × IsValid o × (found ≡ packed o) × (m' ≡ (looking m.0 o, m.1)) × ((n : ℕ) → st.word ≡ owner_at n → IsSeenBy m.0.part.core n o)
+looks_to st m found m' = (o : Owner) × IsValid o × (found ≡ packed o) × (m' ≡ (looking m.0 o, m.1))
+    × ((n : ℕ) → st.word ≡ owner_at n → IsSeenBy m.0.part.core n o)
 
--- ---- glance: the owner word, read from outside the guard: others may have changed it since
+-- ---- a spin read: the owner word, read from outside the guard: others may have changed it since
 
 abbrev pub glancing : Sight → Sight
 glancing v = knowing v (glanced v.part.core)

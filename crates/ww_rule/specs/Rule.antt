@@ -42,7 +42,7 @@ Sat = Me Cell Sight
 abbrev pub first_graph : Start → List Node
 first_graph key = key.nodes.value
 
--- an own list, as the plain graph tells records
+-- a log, as the plain graph tells records
 abbrev pub own_of : List (ℕ × Record) → List (ℕ × Recorded)
 own_of records = map (λ p. (p.0, recorded_of p.1)) records
 
@@ -62,7 +62,8 @@ pub record Shown (locks : ℕ) (c : State) (words : List ℕ) : Type 0 where
   pub front : slice_index words front_at ≡ c.commits
 
 -- a node whose lock no seat has taken, and a list whose guard is free, is at home
-pub record AtHome (locks : ℕ) (graph : List Node) (owner : ℕ → Holder) (queue : ℕ → List Entry) (guard : ℕ → ℕ) (homes : List (maybe.Option Cell)) : Type 0 where
+pub record AtHome (locks : ℕ) (graph : List Node) (owner : ℕ → Holder) (queue : ℕ → List Entry) (guard : ℕ → ℕ)
+    (homes : List (maybe.Option Cell)) : Type 0 where
   pub deep : length homes ≡ slots_for locks
   pub nodes : (n : ℕ) → n < length graph → ((s : ℕ) → owner n ≢ Taken s) → get_elem? homes n ≡ some (some (Content (node_at graph n)))
   pub lists : (n : ℕ) → n < locks → guard n ≡ 0 → get_elem? homes (list_at n) ≡ some (some (Line (queue n)))
@@ -107,7 +108,8 @@ pub record PartFits (key : Start) (c : State) (log : List Recorded) (at : ℕ �
 pub record Sits (key : Start) (c : State) (log : List Recorded) (at : ℕ → ℕ) (counts : ℕ → Counts) (j : ℕ) (v : Sight) : Type 0 where
   pub part : PartFits key c log at counts j v.part
   pub room : length v.held ≡ length (first_graph key)
-  pub held : (n : ℕ) → owns v.part.core n ≡ true → n < length (first_graph key) → get_elem? v.held n ≡ some (Some (node_at (last_graph (first_graph key) log) n))
+  pub held : (n : ℕ) → owns v.part.core n ≡ true → n < length (first_graph key)
+      → get_elem? v.held n ≡ some (Some (node_at (last_graph (first_graph key) log) n))
   pub idle : (k : ℕ) (p : Part) → get_elem? v.idle k ≡ some p → PartFits key c log at counts j p × IsBare p.core
   pub apart : (k : ℕ) (p : Part) → get_elem? v.idle k ≡ some p → p.core.who ≢ v.part.core.who
   pub differ : (k l : ℕ) (p q : Part) → get_elem? v.idle k ≡ some p → get_elem? v.idle l ≡ some q → p.core.who ≡ q.core.who → k ≡ l
@@ -179,4 +181,9 @@ first_parts kind locks s (suc n) = first_part kind locks s ∷ first_parts kind 
 
 -- the seat from which the others are cut off: it has the last number
 abbrev pub first_sight : Start → Sight
-first_sight key = record { seated = true; part = first_part key.kind key.locks (key.seats - 1); held = replicate (length (first_graph key)) None; idle = first_parts key.kind key.locks 0 (key.seats - 1) }
+first_sight key = record {
+  seated = true;
+  part = first_part key.kind key.locks (key.seats - 1);
+  held = replicate (length (first_graph key)) None;
+  idle = first_parts key.kind key.locks 0 (key.seats - 1);
+}

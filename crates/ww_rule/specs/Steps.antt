@@ -40,7 +40,12 @@ pub record MayDraw (p : Part) : Type 0 where
   pub fewer : p.counts.draws + 1 < 2 ^ 52
 
 abbrev pub drawing : Sight → ℕ → Sight
-drawing v stamp = record v { part = record (v.part) { core = begun v.part.core stamp; counts = record (v.part.counts) { draws = v.part.counts.draws + 1 } } }
+drawing v stamp = record v {
+  part = record (v.part) {
+    core = begun v.part.core stamp;
+    counts = record (v.part.counts) { draws = v.part.counts.draws + 1 };
+  };
+}
 
 abbrev pub draws_to : Step Cell → Sat → ℕ → Sat → Type 0
 draws_to st m found m' = st.word ≡ stamp_at → (found < 2 ^ 56 - 1) × (m' ≡ (drawing m.0 (found + 1), m.1))
@@ -53,9 +58,10 @@ taking v n x = record v { part = record (v.part) { core = fast_taken v.part.core
 
 abbrev pub takes_to : Step Cell → Sat → ℕ → Sat → Type 0
 takes_to st m found m' = (n : ℕ) → st.word ≡ owner_at n →
-    (found ≡ 0 → (x : Node) × IsNodeOf (length m.0.held) x × (m' ≡ (taking m.0 n x, (n, Content x) ∷ m.1))) × (found ≢ 0 → m' ≡ (knowing m.0 (fast_missed m.0.part.core), m.1))
+    (found ≡ 0 → (x : Node) × IsNodeOf (length m.0.held) x × (m' ≡ (taking m.0 n x, (n, Content x) ∷ m.1)))
+    × (found ≢ 0 → m' ≡ (knowing m.0 (fast_missed m.0.part.core), m.1))
 
--- ---- give_free: the lock is given back at once, where nobody waits
+-- ---- give_free: the lock is released at once, where nobody waits
 
 abbrev pub giving : Sight → ℕ → Sight
 giving v n = record v { part = record (v.part) { core = fast_given v.part.core n }; held = slice_set v.held n None }
@@ -119,11 +125,15 @@ pub record MayPlace (v : Sight) (r : Recorded) : Type 0 where
 
 -- one record more, and the nodes held are what the transaction makes of them
 abbrev pub placing : Sight → ℕ → Record → Sight
-placing v place r = record v { part = record (v.part) { own = v.part.own ++ (place, r) ∷ [] }; held = renewed 0 v.held (graph_after (graph_of v.held) (transaction_of r.txn)) }
+placing v place r = record v {
+  part = record (v.part) { own = v.part.own ++ (place, r) ∷ [] };
+  held = renewed 0 v.held (graph_after (graph_of v.held) (transaction_of r.txn));
+}
 
 -- its place is above all that it had
 abbrev pub places_to : Option Record → Step Cell → Sat → ℕ → Sat → Type 0
-places_to about st m found m' = (r : Record) → about ≡ Some r → (m' ≡ (placing m.0 found r, m.1)) × AllByRecursion (λ p. p.0 < found) m.0.part.own × (found < 2 ^ 37)
+places_to about st m found m' = (r : Record) → about ≡ Some r → (m' ≡ (placing m.0 found r, m.1))
+    × AllByRecursion (λ p. p.0 < found) m.0.part.own × (found < 2 ^ 37)
 
 -- ---- splitting and joining seats
 

@@ -7,6 +7,7 @@ use Rattle.ww_queue.specs.Queue.{Stands, StandsNot, IsNewStamp}
 use Rattle.ww_plain.specs.declared.node.Node.{Node}
 use Rattle.ww_plain.specs.Graph.{IsNodeOf}
 use Rattle.ww_view.specs.declared.view.View.{View}
+use Rattle.ww_view.specs.View.{NobodyWrites}
 use Rattle.ww_view.specs.May.{MayDie}
 use Rattle.ww_view.specs.Made.{queued, taken, given, has_asked, died}
 use Rattle.ww_rule.specs.declared.cells.Cell.{Cell}
@@ -22,18 +23,18 @@ use Rattle.ww_rule.specs.Guards.{lost}
 abbrev pub Expects : Step Cell → ℕ → Owner → Type 0
 Expects st n o = (st.word ≡ owner_at n) × IsValid o × (st.first ≡ packed o)
 
--- the seat is inside the guard, somebody waits there, and this is the owner that it saw last
-pub record SeesWaiters (v : View) (n : ℕ) (o : Owner) : Type 0 where
+-- the seat is inside the guard, nobody else writes the owner word there, and this is the owner that it saw last
+pub record IsStillThere (v : View) (n : ℕ) (o : Owner) : Type 0 where
   pub inside : v.inside ≡ suc n
-  pub waits : v.list ≢ []
+  pub alone : NobodyWrites v n
   pub seen : v.seen ≡ Some o
 
 -- What such a step makes of the seat where the word is the one expected; where it is another, nothing but that it made
--- a step. It is the one expected where the seat saw it and somebody waits: nobody else writes it then.
+-- a step. It is the one expected where the seat saw it last and nobody else writes it.
 abbrev pub tries_to : (ℕ → Owner → Sat → Sat → Type 0) → Step Cell → Sat → ℕ → Sat → Type 0
 tries_to wins st m found m' = (n : ℕ) (o : Owner) → Expects st n o →
     (found ≡ packed o → wins n o m m') × (found ≢ packed o → m' ≡ (lost m.0, m.1))
-    × (SeesWaiters m.0.part.core n o → found ≡ packed o)
+    × (IsStillThere m.0.part.core n o → found ≡ packed o)
 
 -- the wait list is the slot taken last, and the seat is as it was but for the order of its slots
 pub record HasListOnTop (m : Sat) (n : ℕ) (m' : Sat) : Type 0 where
@@ -70,7 +71,8 @@ below x [] = x ∷ []
 below x (y ∷ ys) = y ∷ x ∷ ys
 
 abbrev pub takes_inside : ℕ → Owner → Sat → Sat → Type 0
-takes_inside n o m m' = (x : Node) × IsNodeOf (length m.0.held) x × (m' ≡ (taking_inside m.0 n x, below (n, Content x) m.1)) × StandsIfWaiting m.0.part.core
+takes_inside n o m m' = (x : Node) × IsNodeOf (length m.0.held) x
+    × (m' ≡ (taking_inside m.0 n x, below (n, Content x) m.1)) × StandsIfWaiting m.0.part.core
 
 -- ---- give: the lock is nobody's, or the first waiter's if that was asked for, and its node goes home
 
@@ -98,7 +100,7 @@ takes_bare_inside n o m m' = (m' ≡ (knowing m.0 (taken m.0.part.core n), m.1))
 abbrev pub gives_bare_inside : ℕ → Owner → Sat → Sat → Type 0
 gives_bare_inside n o m m' = m' ≡ (knowing m.0 (given m.0.part.core n (o.flags == 3)), m.1)
 
--- ---- ask: the next to give the lock back hands it over
+-- ---- ask: the next to release the lock hands it over
 
 abbrev pub asking : Sight → Owner → Sight
 asking v o = knowing v (has_asked v.part.core o)
@@ -114,6 +116,6 @@ dying v o = knowing v (died v.part.core o)
 abbrev pub dies : ℕ → Owner → Sat → Sat → Type 0
 dies n o m m' = (m' ≡ (dying m.0 o, m.1)) × StandsIfWaiting m.0.part.core
 
--- who has to die, whatever the word is now, has to for an older context
+-- a waiter that has to die, whatever the word is now, has to for an older context
 abbrev pub dies_to : Step Cell → Sat → ℕ → Sat → Type 0
 dies_to st m found m' = tries_to dies st m found m' × ((n : ℕ) (o : Owner) (k : ℕ) → MayDie m.0.part.core n o k → k < m.0.part.core.stamp)

@@ -48,7 +48,7 @@ fn owed_in(waiters: &Waiters, kind: Kind, seen: Owner, who: u8) -> ArrayVec<(u8,
     owed_signs(kind, seen, waiters.queue_or(&Queue::new()), who)
 }
 
-/// The owner of a lock that is given back, with this wait list.
+/// The owner of a lock that is released, with this wait list.
 fn owner_after(waiters: &Waiters, is_asked: bool) -> Owner
     ensures { result ≡ given_word is_asked waiters.now }
 {
@@ -118,7 +118,7 @@ pub fn leave_list(
     }
 }
 
-/// The owner of a lock that is given back, with the list that was taken last.
+/// The owner of a lock that is released, with the list that was taken last.
 pub fn owner_there(seat: &mut TableSeat, shared: &Top, slot: u32, is_asked: bool) -> Owner
     requires home { seat.old.table_id ≡ shared.now.table_id }
     requires top { (q : List Entry) × (seat.old.me.1 ≡ (slot, Line q) ∷ rest seat.old.me.1) }

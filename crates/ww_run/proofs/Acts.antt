@@ -184,7 +184,8 @@ pub one_more : (w : Setting) (number : ℕ) (deeds now rest : List Deed) (saids 
     → IsUnderWay w number deeds now saids s → IsAtHome a w → IsAfter s a → IsTold s deed said a
     → IsUnderWay w number deeds rest more a
 one_more w number deeds now rest saids more deed said s a first grown h home after told =
-    let under : IsUnderWay w number deeds (deed ∷ rest) saids s = subst (λ (xs : List Deed). IsUnderWay w number deeds xs saids s) first h in record {
+    let under : IsUnderWay w number deeds (deed ∷ rest) saids s =
+    subst (λ (xs : List Deed). IsUnderWay w number deeds xs saids s) first h in record {
       done = under.done ++ deed ∷ [];
       parts = under.parts ∙ sym (append_assoc under.done (deed ∷ []) rest);
       ran = rw grown (ran_more under.done saids deed said s a under.ran told);

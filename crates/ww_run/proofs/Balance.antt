@@ -56,7 +56,7 @@ never bound n [] all le = refl
 never bound n (k ∷ ks) all le =
     omega (arith, sum_by-cons (λ j. one (j == n)) k ks, never bound n ks all.1 le, never_first bound n k all.0 le)
 
--- ---- who has a cancel that is pending
+-- ---- which seat has a cancel that is pending
 
 -- the number, if it names one of so many scripts
 abbrev named : ℕ → ℕ → ℕ
@@ -97,10 +97,13 @@ module _ (scripts : List (List Deed)) (replies : List (List Said)) (w : Setting)
       let row : Row s = all_item Row passes script d (there_too script there) closed.each in
       let cell : lock.IsBalanced s v (closed.pending v.caller) =
       all_item (λ b. lock.IsBalanced s b (closed.pending b.caller)) passes victim d (there_too victim lt) row in
-      let by_script : rule.times v.caller s.cancelled ≡ rule.times script (by_of v.interrupted) + one_if (closed.pending v.caller == script + 1) =
-      subst (λ (k : ℕ). rule.times v.caller s.cancelled ≡ rule.times k (by_of v.interrupted) + one_if (closed.pending v.caller == k + 1)) mine.0 cell in
+      let by_script : rule.times v.caller s.cancelled ≡ rule.times script (by_of v.interrupted)
+      + one_if (closed.pending v.caller == script + 1) =
+      subst (λ (k : ℕ). rule.times v.caller s.cancelled ≡ rule.times k (by_of v.interrupted)
+      + one_if (closed.pending v.caller == k + 1)) mine.0 cell in
       let by_both : rule.times victim s.cancelled ≡ rule.times script (by_of v.interrupted) + one_if (closed.pending victim == script + 1) =
-      subst (λ (k : ℕ). rule.times k s.cancelled ≡ rule.times script (by_of v.interrupted) + one_if (closed.pending k == script + 1)) theirs.0 by_script in
+      subst (λ (k : ℕ). rule.times k s.cancelled ≡ rule.times script (by_of v.interrupted)
+      + one_if (closed.pending k == script + 1)) theirs.0 by_script in
       omega (
         arith,
         by_both,

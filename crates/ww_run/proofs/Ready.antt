@@ -71,7 +71,8 @@ are_ready w scripts passes first count budget opened many all is_budget =
           let is = opened.passes_fresh.each i d there in
           let ranges : ℕ → ℕ → Ranges = λ nodes count. ranges_of nodes PORTS count in
           let number = length (lists scripts) in
-          let script : IsScript (ranges (length first) number) (get_or (lists scripts) i t) = all_item (IsScript (ranges (length first) number)) (lists scripts) i t lt all in
+          let script : IsScript (ranges (length first) number) (get_or (lists scripts) i t) =
+          all_item (IsScript (ranges (length first) number)) (lists scripts) i t lt all in
           record {
             home = all_item (λ s. IsAtHome s w) passes i d there opened.home;
             same_caller = ap (λ s. s.caller) is;
@@ -82,6 +83,7 @@ are_ready w scripts passes first count budget opened many all is_budget =
             budget = omega (arith, is_budget.enough i t lt, ap (λ s. s.left) is);
             suit = subst (λ (n : ℕ). AllByRecursion (Suits (ranges (length w.first) n)) (get_or (lists scripts) i t))
                 (sym (same_count w scripts passes first count budget opened many))
-                (subst (λ (g : List Node). AllByRecursion (Suits (ranges (length g) number)) (get_or (lists scripts) i t)) (sym opened.first_graph) script.suit);
+                (subst (λ (g : List Node). AllByRecursion (Suits (ranges (length g) number))
+                (get_or (lists scripts) i t)) (sym opened.first_graph) script.suit);
           };
     }

@@ -110,7 +110,7 @@ all_there n scripts replies passes is h = none_missing n passes (λ k lt.
     subst (λ (j : ℕ). has_pass passes j ≡ true) (zero-add k)
     (has_each 0 scripts replies passes k h (omega (arith, lt, is, length_worked 0 scripts replies passes h))))
 
--- the parts of the history are the own lists, and these are what the scripts came to
+-- the parts of the history are the logs, and these are what the scripts came to
 pub are_answered : (number : ℕ) (scripts : List (List Deed)) (replies : List (List Said)) (passes : List Holding)
     (history : List Recorded)
     → AreWorked number scripts replies passes → AreParts passes history → AreAnswered number scripts replies history

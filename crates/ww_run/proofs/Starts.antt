@@ -18,7 +18,7 @@ AreReadyFrom w number [] [] = Unit {0}
 AreReadyFrom w number (t ∷ ts) (s ∷ ss) = IsReady w number (map deed_of t.items) s × AreReadyFrom w (number + 1) ts ss
 AreReadyFrom w number _ _ = ⊥
 
--- what a worker gives back was promised of this script and this caller
+-- what a worker returns was promised of this script and this caller
 pub record IsPromised (w : Setting) (number : ℕ) (acts : Vec Act) (p : WorkOf) : Type 0 where
   pub world_is : p.world.now ≡ w
   pub caller_is : p.caller ≡ number
@@ -164,7 +164,7 @@ all_started w all rest passes workers room is_short h short none =
     subst (λ (scripts : List (Vec Act)). ArePromised w 0 scripts workers)
     (sym (h.parts ∙ ap (λ ts. h.done ++ ts) nothing ∙ append-nil h.done)) (h.promised short)
 
--- what the workers of all scripts promised, they gave back
+-- what the workers of all scripts promised, they returned
 pub all_kept : (w : Setting) (scripts : List (Vec Act)) (workers : List (PromisedHandle Work WorkOf)) (works : List Work)
     → ArePromised w 0 scripts workers → length works ≡ length workers
     → ((i : ℕ) (work : Work) → i < length workers → (d : PromisedHandle Work WorkOf) × (d ≡ get_or workers i d)

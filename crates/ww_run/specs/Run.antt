@@ -69,13 +69,13 @@ IsTextFor input text = IsOutcomeText input text ⊎ IsReplayText input text
 abbrev pub AsksForScripts : List ℕ → Type 0
 AsksForScripts input = (plan : Plan) × (reading input ≡ Ok (Scripts plan))
 
--- The input has the fault, where it is refused for one. Where it is given up for anything but want of memory, it asks
+-- The input has the fault, where it is refused for one. Where it is given up for anything but lack of memory, it asks
 -- for scripts: nothing else starts threads.
 abbrev pub IsRefusedFor : List ℕ → Refusal → Type 0
 IsRefusedFor input (Input fault) = fault ≢ NoMemory → reading input ≡ Err fault
 IsRefusedFor input (Run fault) = fault ≢ run.NoMemory → AsksForScripts input
 
--- the input has a fault, which want of memory isn't, and this is the fault's line
+-- the input has a fault, which lack of memory isn't, and this is the fault's line
 pub record IsRefusalLine (input text : List ℕ) : Type 0 where
   pub fault : InputFault
   pub own : fault ≢ NoMemory

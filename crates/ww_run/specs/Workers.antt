@@ -40,7 +40,7 @@ pub record IsAfter (s a : Holding) : Type 0 where
   pub same_caller : a.caller ≡ s.caller
   pub budget : s.left ≤ a.left + 1
 
--- An act with an answer of the plain graph added its record to the own list, as the next. Any other left it as it was.
+-- An act with an answer of the plain graph added its record to the log, as the next. Any other left it as it was.
 abbrev pub Adds : Holding → Deed → Said → Holding → Type 0
 Adds s deed (answered answer) a =
     (place : ℕ) × (r : Recorded) × (a.own ≡ s.own ++ (place, r) ∷ []) × IsRecorded deed (length s.own) answer r
@@ -72,7 +72,7 @@ pub record IsReady (w : Setting) (number : ℕ) (deeds : List Deed) (s : Holding
   pub budget : length deeds ≤ s.left
   pub suit : AllByRecursion (Suits (ranges_of (length w.first) PORTS w.passes)) deeds
 
--- The pass's own list is exactly what the acts came to that were told this, and it counts what they cancelled or found
+-- The pass's log is exactly what the acts came to that were told this, and it counts what they cancelled or found
 -- pending, and by whom they were called off.
 pub record HasRun (deeds : List Deed) (saids : List Said) (s : Holding) : Type 0 where
   pub answered : IsAnswered 0 deeds saids s.own
@@ -80,7 +80,7 @@ pub record HasRun (deeds : List Deed) (saids : List Said) (s : Holding) : Type 0
   pub pendings : s.pendings ≡ pendings_in saids
   pub interrupted : (script : ℕ) → times script (by_of s.interrupted) ≡ times script (interrupters_in saids)
 
--- What the worker of this caller gives back. If it didn't stop, its pass says of the script what that was told.
+-- What the worker of this caller returns. If it didn't stop, its pass says of the script what that was told.
 pub record IsWork (w : Setting) (number : ℕ) (deeds : List Deed) (work : Work) : Type 0 where
   pub home : IsAtHome work.pass w
   pub same_caller : work.pass.caller ≡ number
@@ -107,7 +107,7 @@ pub record AreReady (w : Setting) (scripts : List (List Deed)) (passes : List Ho
   pub each : (i : ℕ) (t : List Deed) (d : Holding) → i < length scripts
       → IsReady w i (slice_index_or scripts i t) (slice_index_or passes i d)
 
--- a worker for each script gave back what it came to
+-- a worker for each script returned what it came to
 pub record AreWorks (w : Setting) (scripts : List (List Deed)) (works : List Work) : Type 0 where
   pub count : length works ≡ length scripts
   pub each : (i : ℕ) (t : List Deed) (d : Work) → i < length scripts

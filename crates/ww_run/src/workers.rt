@@ -124,7 +124,7 @@ fn work<R: Threads + Wait + Sync, G: Gate + Sync>(
     )
 }
 
-/// Parts what the workers gave back.
+/// Parts what the workers returned.
 fn parted(alloc: Global, works: Vec<Work>) -> Result<(Vec<Pass>, Vec<Vec<ScriptAnswer>>), RunFault>
     ensures { IfOk result (λ r. AreParted works.items r.0.items r.1.items) }
 {

@@ -33,19 +33,22 @@ both_kept seats limit (a ∷ b ∷ []) p e =
 both_kept seats limit (a ∷ b ∷ c ∷ ds) p e = absurd cc
 
 -- what every event of a seat keeps, one that is read keeps
-alone_kept : (P : Event → Type 0) (event : ℕ → Event) (seats : ℕ) (ds : List Data) (x : Event) → ((s : ℕ) → s < seats → P (event s)) → alone event seats ds ≡ Ok x → P x
+alone_kept : (P : Event → Type 0) (event : ℕ → Event) (seats : ℕ) (ds : List Data) (x : Event)
+    → ((s : ℕ) → s < seats → P (event s)) → alone event seats ds ≡ Ok x → P x
 alone_kept P event seats ds x h e =
     let s = bind_ok (seat_of seats ds) (λ s. done (event s)) x e in
     subst P (ok_is (event s.0) x s.2) (h s.0 (seat_kept seats ds s.0 s.1))
 
 -- the same of events of a seat and of a number below the limit
-pair_event_kept : (P : Event → Type 0) (event : ℕ → ℕ → Event) (seats limit : ℕ) (ds : List Data) (x : Event) → ((s n : ℕ) → s < seats → n < limit → P (event s n)) → both event seats limit ds ≡ Ok x → P x
+pair_event_kept : (P : Event → Type 0) (event : ℕ → ℕ → Event) (seats limit : ℕ) (ds : List Data) (x : Event)
+    → ((s n : ℕ) → s < seats → n < limit → P (event s n)) → both event seats limit ds ≡ Ok x → P x
 pair_event_kept P event seats limit ds x h e =
     let p = bind_ok (both_of seats limit ds) (λ (p : ℕ × ℕ). done (event p.0 p.1)) x e in
     let b = both_kept seats limit ds p.0 p.1 in
     subst P (ok_is (event p.0.0 p.0.1) x p.2) (h p.0.0 p.0.1 b.0 b.1)
 
-event_with_kept : (seats locks : ℕ) (word : List ℕ) (ds : List Data) (x : Event) → event_with seats locks word ds ≡ Ok x → IsThere seats locks x
+event_with_kept : (seats locks : ℕ) (word : List ℕ) (ds : List Data) (x : Event)
+    → event_with seats locks word ds ≡ Ok x → IsThere seats locks x
 unfolding event_with
 event_with_kept seats locks word ds x e =
     let P = IsThere seats locks in
@@ -65,7 +68,8 @@ event_with_kept seats locks word ds x e =
     (either_kept P (bytes_eq word (codes "end")) _ _ x (alone_kept P End seats ds x (λ s a. a))
     (either_kept P (bytes_eq word (codes "cancel")) _ _ x (pair_event_kept P Cancel seats seats ds x (λ s v a b. (a, b)))
     (either_kept P (bytes_eq word (codes "heed")) _ _ x (pair_event_kept P Heed seats locks ds x (λ s n a b. (a, b)))
-    (either_kept P (bytes_eq word (codes "leave")) _ _ x (pair_event_kept P Leave seats locks ds x (λ s n a b. (a, b))) (λ none. absurd cc))))))))))))))))) e
+    (either_kept P (bytes_eq word (codes "leave")) _ _ x
+    (pair_event_kept P Leave seats locks ds x (λ s n a b. (a, b))) (λ none. absurd cc))))))))))))))))) e
 
 event_from_kept : (seats locks : ℕ) (ds : List Data) (x : Event) → event_from seats locks ds ≡ Ok x → IsThere seats locks x
 event_from_kept seats locks [] x e = absurd cc
@@ -100,7 +104,9 @@ timetable_kept members d t e =
     let kind = bind_ok (kind_in k.0) _ t o.2 in
     let locks = bind_ok (ranged 1 64 l.0) _ t kind.2 in
     let seats = bind_ok (ranged 1 16 s.0) _ t locks.2 in
-    let es = bind_ok (events_in seats.0 locks.0 v.0) (λ (es : List Event). let r : Result Timetable InputFault = Ok (record { kind = kind.0; locks = locks.0; seats = seats.0; events = es }) in r) t seats.2 in
+    let es = bind_ok (events_in seats.0 locks.0 v.0)
+    (λ (es : List Event). let r : Result Timetable InputFault =
+    Ok (record { kind = kind.0; locks = locks.0; seats = seats.0; events = es }) in r) t seats.2 in
     let made : Timetable = record { kind = kind.0; locks = locks.0; seats = seats.0; events = es.0 } in
     let some_locks = ranged_kept 1 64 l.0 locks.0 locks.1 in
     let some_seats = ranged_kept 1 16 s.0 seats.0 seats.1 in

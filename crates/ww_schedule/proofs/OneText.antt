@@ -24,7 +24,8 @@ front_runs c es None stops = stops
 front_runs c es (Some index) stops = stops.before
 
 -- an event of a run was possible at its place
-possible_there : (c : State) (es : List Event) (i : ℕ) (e : Event) → IsRun c es → slice_get es i ≡ Some e → Possible (state_after c (take i es)) e
+possible_there : (c : State) (es : List Event) (i : ℕ) (e : Event) → IsRun c es → slice_get es i ≡ Some e
+    → Possible (state_after c (take i es)) e
 possible_there c [] i e run there = absurd (cc)
 possible_there c (x ∷ es) zero e run there = let is : x ≡ e = cc in subst (Possible c) is run.0
 possible_there c (x ∷ es) (suc i) e run there = possible_there (after c x) es i e run.1 there
@@ -84,7 +85,8 @@ module _ (c : State) (base : IsBase c) where
       let first = subst (IsRing c) p.parts p.ring_is in
       let second = subst (IsRing c) q.parts q.ring_is in
       let same = le_antisymm (p.least (q.first ∷ q.rest) q.first second (inl refl)) (q.least (p.first ∷ p.rest) p.first first (inl refl)) in
-      p.parts ∙ ap (λ a. a ∷ p.rest) same ∙ one_ring_from q.first p.rest q.rest (subst (λ a. IsRing c (a ∷ p.rest)) same first) second ∙ sym q.parts
+      p.parts ∙ ap (λ a. a ∷ p.rest) same ∙ one_ring_from q.first p.rest q.rest
+      (subst (λ a. IsRing c (a ∷ p.rest)) same first) second ∙ sym q.parts
 
   one_ring : (a b : Option (List ℕ)) → RingOf c a → RingOf c b → a ≡ b
   one_ring None None p q = refl
@@ -104,7 +106,8 @@ one_condemned c seats (Some a) (Some b) p q = ap Some (le_antisymm (p.least b q.
 
 -- In a lawful state nobody waits for two, so that a seat begins one ring at most.
 last_is_base : (t : Timetable) (r : Replay) → IsReplay t r → IsBase (last_state t r)
-last_is_base t r is = (runs_are_lawful t.kind t.locks t.seats (front r.stop t.events) (front_runs (first_state t) t.events r.stop is.stop)).base
+last_is_base t r is = (runs_are_lawful t.kind t.locks t.seats (front r.stop t.events)
+    (front_runs (first_state t) t.events r.stop is.stop)).base
 
 one_replay : (t : Timetable) (r s : Replay) → IsReplay t r → IsReplay t s → r ≡ s
 one_replay t r s p q =
@@ -112,8 +115,10 @@ one_replay t r s p q =
     let last = ap (λ i. state_after (first_state t) (front i t.events)) stop in
     let ring = one_ring (last_state t s) (last_is_base t s q) r.ring s.ring (subst (λ c. RingOf c r.ring) last p.ring) q.ring in
     let condemned = one_condemned (last_state t s) (seats_of s.ring) r.condemned s.condemned
-    (subst (λ x. CondemnedOf (last_state t s) (seats_of x) r.condemned) ring (subst (λ c. CondemnedOf c (seats_of r.ring) r.condemned) last p.condemned)) q.condemned in
-    ap (λ i. record r { stop = i }) stop ∙ ap (λ x. record s { ring = x; condemned = r.condemned }) ring ∙ ap (λ x. record s { condemned = x }) condemned
+    (subst (λ x. CondemnedOf (last_state t s) (seats_of x) r.condemned) ring
+    (subst (λ c. CondemnedOf c (seats_of r.ring) r.condemned) last p.condemned)) q.condemned in
+    ap (λ i. record r { stop = i }) stop ∙ ap (λ x. record s { ring = x; condemned = r.condemned }) ring
+    ∙ ap (λ x. record s { condemned = x }) condemned
 
 pub one_text : HasOneText
 one_text t a b told again = told.2 ∙ ap (replay_lines t) (one_replay t told.0 again.0 told.1 again.1) ∙ sym again.2

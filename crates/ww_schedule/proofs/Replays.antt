@@ -63,8 +63,10 @@ pub told_none : (c : State) (text : List ℕ) → IsTold c [] c text text
 told_none c text = record { run = tt; state = refl; text = sym (append-nil text) }
 
 -- one event more
-pub told_more : (c : State) (es : List Event) (i : ℕ) (e : Event) (a : Answer) (end next : State) (old out new : List ℕ) → i < length es → IsTold c (take i es) end old out
-    → Possible end (get_or es i e) → a ≡ answer end (get_or es i e) → next ≡ after end (get_or es i e) → new ≡ out ++ event_line i a → IsTold c (take (i + 1) es) next old new
+pub told_more : (c : State) (es : List Event) (i : ℕ) (e : Event) (a : Answer) (end next : State)
+    (old out new : List ℕ) → i < length es → IsTold c (take i es) end old out
+    → Possible end (get_or es i e) → a ≡ answer end (get_or es i e) → next ≡ after end (get_or es i e)
+    → new ≡ out ++ event_line i a → IsTold c (take (i + 1) es) next old new
 told_more c es i e a end next old out new lt told can says is pushed =
     let x = get_or es i e in
     let more = take_more es i e lt in
@@ -74,7 +76,8 @@ told_more c es i e a end next old out new lt told can says is pushed =
       state = is ∙ ap (λ s. after s x) here ∙ sym (state_more c (take i es) x) ∙ ap (state_after c) (sym more);
       text = numbered_more event_line (answers_of c (take i es)) (answers_of c (take (i + 1) es)) i a old out new
           (answers_counted c (take i es) ∙ length_front es i lt)
-          (ap (answers_of c) more ∙ answers_push c (take i es) x ∙ ap (λ y. answers_of c (take i es) ++ y ∷ []) (sym (says ∙ ap (λ s. answer s x) here)))
+          (ap (answers_of c) more ∙ answers_push c (take i es) x
+          ∙ ap (λ y. answers_of c (take i es) ++ y ∷ []) (sym (says ∙ ap (λ s. answer s x) here)))
           told.text pushed;
     }
 
@@ -84,7 +87,8 @@ on_ok (Ok x) f p = f p
 on_ok (Err e) f p = tt
 
 -- all of the events were possible
-pub told_all : (c : State) (es : List Event) (i : ℕ) (end : State) (old new : List ℕ) → length es ≤ i → IsTold c (take i es) end old new → AreTold c es end old new
+pub told_all : (c : State) (es : List Event) (i : ℕ) (end : State) (old new : List ℕ) → length es ≤ i
+    → IsTold c (take i es) end old new → AreTold c es end old new
 unfolding run_lines
 told_all c es i end old new all told =
     let whole = take_all i es all in
@@ -92,11 +96,13 @@ told_all c es i end old new all told =
       stop = None;
       stops = subst (IsRun c) whole told.run;
       state = told.state ∙ ap (state_after c) whole;
-      text = told.text ∙ ap (λ front. old ++ numbered event_line 0 (answers_of c front)) whole ∙ ap (λ t. old ++ t) (sym (append-nil (numbered event_line 0 (answers_of c es))));
+      text = told.text ∙ ap (λ front. old ++ numbered event_line 0 (answers_of c front)) whole
+          ∙ ap (λ t. old ++ t) (sym (append-nil (numbered event_line 0 (answers_of c es))));
     }
 
 -- the event at i was not possible
-pub told_to : (c : State) (es : List Event) (i : ℕ) (d : Event) (end next : State) (old out new : List ℕ) → i < length es → IsTold c (take i es) end old out → ¬ Possible end (get_or es i d)
+pub told_to : (c : State) (es : List Event) (i : ℕ) (d : Event) (end next : State) (old out new : List ℕ)
+    → i < length es → IsTold c (take i es) end old out → ¬ Possible end (get_or es i d)
     → next ≡ end → new ≡ out ++ impossible_text (Some i) → AreTold c es next old new
 unfolding run_lines
 told_to c es i d end next old out new lt told cannot same pushed = record {
@@ -108,12 +114,14 @@ told_to c es i d end next old out new lt told cannot same pushed = record {
     impossible = λ can. cannot (subst (λ s. Possible s (get_or es i d)) (sym told.state) can);
   };
   state = same ∙ told.state;
-  text = pushed ∙ ap (λ o. o ++ impossible_text (Some i)) told.text ∙ append_assoc old (numbered event_line 0 (answers_of c (take i es))) (impossible_text (Some i));
+  text = pushed ∙ ap (λ o. o ++ impossible_text (Some i)) told.text
+      ∙ append_assoc old (numbered event_line 0 (answers_of c (take i es))) (impossible_text (Some i));
 }
 
 -- ---- what is told of the ring
 
-pub ring_told : (c : State) (ring : Option (List ℕ)) (seat : Option ℕ) (old mid new : List ℕ) → RingOf c ring → CondemnedOf c (seats_of ring) seat
+pub ring_told : (c : State) (ring : Option (List ℕ)) (seat : Option ℕ) (old mid new : List ℕ) → RingOf c ring
+    → CondemnedOf c (seats_of ring) seat
     → mid ≡ old ++ ring_line ring → new ≡ mid ++ condemned_line seat → IsRingTold c old new
 ring_told c ring seat old mid new found condemned first second = record {
   ring = ring;
@@ -140,15 +148,18 @@ end_of t end old new told =
     }
 
 -- the same, where the first state and the events are known to be the schedule's
-pub told_of : (t : Timetable) (c : State) (es : List Event) (end : State) (old new : List ℕ) → c ≡ first_state t → es ≡ t.events → AreTold c es end old new → AreTold (first_state t) t.events end old new
-told_of t c es end old new first same told = subst (λ s. AreTold s t.events end old new) first (subst (λ x. AreTold c x end old new) same told)
+pub told_of : (t : Timetable) (c : State) (es : List Event) (end : State) (old new : List ℕ) → c ≡ first_state t
+    → es ≡ t.events → AreTold c es end old new → AreTold (first_state t) t.events end old new
+told_of t c es end old new first same told =
+    subst (λ s. AreTold s t.events end old new) first (subst (λ x. AreTold c x end old new) same told)
 
 regroup : (o r g c l s : List ℕ) → ((((o ++ r) ++ g) ++ c) ++ l) ++ s ≡ o ++ ((((r ++ g) ++ c) ++ l) ++ s)
 regroup o r g c l s =
     ap (λ x. ((x ++ c) ++ l) ++ s) (append_assoc o r g) ∙ ap (λ x. (x ++ l) ++ s) (append_assoc o (r ++ g) c)
     ∙ ap (λ x. x ++ s) (append_assoc o ((r ++ g) ++ c) l) ∙ append_assoc o (((r ++ g) ++ c) ++ l) s
 
-pub replay_told : (t : Timetable) (end : State) (old one two three new : List ℕ) → AreTold (first_state t) t.events end old one → IsRingTold end one two
+pub replay_told : (t : Timetable) (end : State) (old one two three new : List ℕ)
+    → AreTold (first_state t) t.events end old one → IsRingTold end one two
     → three ≡ two ++ below_count t.locks (line_of_lock end) → new ≡ three ++ below_count t.seats (line_of_seat end) → IsReplayTold t old new
 unfolding replay_lines
 replay_told t end old one two three new told ring locks seats =
@@ -159,10 +170,14 @@ replay_told t end old one two three new told ring locks seats =
       condemned = subst (λ s. CondemnedOf s (seats_of ring.ring) ring.condemned) told.state ring.is_condemned;
     } in
     let run = run_lines (first_state t) t.events told.stop in
-    let lines = λ (s : State). ((((old ++ run) ++ ring_line ring.ring) ++ condemned_line ring.condemned) ++ below_count t.locks (line_of_lock s)) ++ below_count t.seats (line_of_seat s) in
+    let lines = λ (s : State). ((((old ++ run) ++ ring_line ring.ring) ++ condemned_line ring.condemned) ++
+    below_count t.locks (line_of_lock s)) ++ below_count t.seats (line_of_seat s) in
     let last = last_state t r in
     let text = seats
-    ∙ ap (λ x. x ++ below_count t.seats (line_of_seat end)) (locks ∙ ap (λ x. x ++ below_count t.locks (line_of_lock end)) (ring.text ∙ ap (λ x. (x ++ ring_line ring.ring) ++ condemned_line ring.condemned) told.text))
+    ∙ ap (λ x. x ++ below_count t.seats (line_of_seat end))
+    (locks ∙ ap (λ x. x ++ below_count t.locks (line_of_lock end))
+    (ring.text ∙ ap (λ x. (x ++ ring_line ring.ring) ++ condemned_line ring.condemned) told.text))
     ∙ ap lines told.state
-    ∙ regroup old run (ring_line ring.ring) (condemned_line ring.condemned) (below_count t.locks (line_of_lock last)) (below_count t.seats (line_of_seat last)) in
+    ∙ regroup old run (ring_line ring.ring) (condemned_line ring.condemned)
+    (below_count t.locks (line_of_lock last)) (below_count t.seats (line_of_seat last)) in
     (r, is, text)

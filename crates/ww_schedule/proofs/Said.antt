@@ -12,7 +12,8 @@ use Rattle.ww_schedule.specs.Spelling.{event_data, timetable_data}
 alone_said : (event : ℕ → Event) (seats s : ℕ) → s < seats → alone event seats (whole s ∷ []) ≡ Ok (event s)
 alone_said event seats s lt = rw (below_said seats s lt) refl
 
-both_said : (event : ℕ → ℕ → Event) (seats limit s n : ℕ) → (s < seats) × (n < limit) → both event seats limit (whole s ∷ whole n ∷ []) ≡ Ok (event s n)
+both_said : (event : ℕ → ℕ → Event) (seats limit s n : ℕ) → (s < seats) × (n < limit)
+    → both event seats limit (whole s ∷ whole n ∷ []) ≡ Ok (event s n)
 both_said event seats limit s n lt = rw (below_said seats s lt.0, below_said limit n lt.1) refl
 
 event_said : (seats locks : ℕ) (e : Event) → IsThere seats locks e → event_in seats locks (event_data e) ≡ Ok e
@@ -40,10 +41,20 @@ unfolding events_in
 events_said seats locks es are =
     let n = length-map es event_data in
     let most : length (map event_data es) ≤ 10000 = omega (arith, are.few) in
-    rw (counted_said 0 10000 (map event_data es) (omega arith) most, each_said (IsThere seats locks) event_data (event_in seats locks) es (event_said seats locks) are.there) refl
+    rw (
+      counted_said 0 10000 (map event_data es) (omega arith) most,
+      each_said (IsThere seats locks) event_data
+          (event_in seats locks) es (event_said seats locks) are.there,
+    ) refl
 
 -- the fields of an object of five keys
 pub timetable_said : (t : Timetable) → IsTimetable t → timetable_in 5 (timetable_data t) ≡ Ok t
 unfolding timetable_in
 timetable_said t is =
-    rw (kind_said t.kind, ranged_said 1 64 t.locks is.some_lock is.few_locks, ranged_said 1 16 t.seats is.some_seat is.few_seats, events_said t.seats t.locks t.events is.events) refl
+    rw (
+      kind_said t.kind,
+      ranged_said 1 64 t.locks is.some_lock is.few_locks,
+      ranged_said 1 16 t.seats is.some_seat
+          is.few_seats,
+      events_said t.seats t.locks t.events is.events,
+    ) refl

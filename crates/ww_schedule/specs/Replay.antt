@@ -113,7 +113,7 @@ pub record AreTold (c : State) (events : List Event) (end : State) (old new : Li
   pub state : end ≡ state_after c (front stop events)
   pub text : new ≡ old ++ run_lines c events stop
 
--- the ring of the state and who is condemned were told behind a text
+-- the ring of the state and its condemned seats were told behind a text
 pub record IsRingTold (c : State) (old new : List ℕ) : Type 0 where
   pub ring : Option (List ℕ)
   pub condemned : Option ℕ

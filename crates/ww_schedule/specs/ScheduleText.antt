@@ -39,7 +39,7 @@ ring_text (Some seats) = flat_map spaced seats
 unfoldable pub ring_line : Option (List ℕ) → List ℕ
 ring_line ring = codes "ring" ++ ring_text ring ++ codes "\n"
 
--- who is condemned
+-- which seat is condemned
 unfoldable pub condemned_line : Option ℕ → List ℕ
 condemned_line seat = codes "condemned" ++ spaced_or_dash seat ++ codes "\n"
 

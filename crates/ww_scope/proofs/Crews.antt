@@ -58,7 +58,7 @@ pub all_there : (n : ℕ) (passes : List Holding) → length passes ≡ n → Ar
 all_there n passes count h = none_missing n passes (λ k lt.
     subst (λ (j : ℕ). has_pass passes j ≡ true) (zero-add k) (has_each 0 passes k h (omega (arith, lt, count))))
 
--- ---- what the own lists are, the history is
+-- ---- what the logs are, the history is
 
 later_meet : (test : Recorded → Bool) (own : Bool) (entry : ℕ × Recorded) (xs : List (ℕ × Recorded))
     → OwnMeet test (if own then entry ∷ xs else xs) → OwnMeet test xs
@@ -157,7 +157,7 @@ module _ {F X : Type 0} (g : Shared F (Bor Setting × (Holding × Unit {0})) (Ho
         subst (λ (n : ℕ). OwnMeet test (part_of n history)) here (subst (OwnMeet test) (sym parts.0) own)
   ]
 
-  -- what each own list is, the history is
+  -- what each log is, the history is
   pub history_meets : (o : Opening) (w : Setting) (test : Recorded → Bool) (backs : List Holding) (values : List X) (h : History)
       → ComesBack g f o → LeavesOwn g f o test → AreWorked g f o w 0 backs values → IsClosed w backs h
       → AllMeet test (history_of h.records.items)

@@ -38,7 +38,7 @@ pub record LeadsFrom (first : List Node) (h : History) : Type 0 where
 abbrev pub AllMeet : (Recorded → Bool) → List Recorded → Type 0
 AllMeet test history = AllByRecursion (λ r. IsTrue (test r)) history
 
--- ... each of an own list
+-- ... each of a log
 abbrev pub OwnMeet : (Recorded → Bool) → List (ℕ × Recorded) → Type 0
 OwnMeet test own = AllByRecursion (λ p. IsTrue (test p.1)) own
 
@@ -47,17 +47,17 @@ module _ {F X : Type 0} (g : Shared F (Bor Setting × (Holding × Unit {0})) (Ho
   abbrev pub CanWork : Opening → Type 0
   CanWork o = (w : Bor Setting) (s : Holding) → IsBeginning o w.now s → g.pre f (w, (s, tt))
 
-  -- ... and such a call gives its own pass back, at home
+  -- ... and such a call returns its own pass, at home
   abbrev pub ComesBack : Opening → Type 0
   ComesBack o = (w : Bor Setting) (s : Holding) (r : Holding × X) → IsBeginning o w.now s → g.post f (w, (s, tt)) r
       → IsAtHome r.0 w.now × (r.0.caller ≡ s.caller)
 
-  -- ... and leaves in its own list only records that meet the test
+  -- ... and leaves in its log only records that meet the test
   abbrev pub LeavesOwn : Opening → (Recorded → Bool) → Type 0
   LeavesOwn o test = (w : Bor Setting) (s : Holding) (r : Holding × X) → IsBeginning o w.now s → g.post f (w, (s, tt)) r
       → OwnMeet test r.0.own
 
-  -- a call of the work with this world and its pass of this number gave the pass back so, with this value
+  -- a call of the work with this world and its pass of this number returned the pass so, with this value
   pub record IsWorked (o : Opening) (w : Setting) (caller : ℕ) (back : Holding) (value : X) : Type 0 where
     pub shown : Bor Setting
     pub shows : shown.now ≡ w
@@ -72,7 +72,7 @@ module _ {F X : Type 0} (g : Shared F (Bor Setting × (Holding × Unit {0})) (Ho
   AreWorked o w caller (back ∷ backs) (value ∷ values) = IsWorked o w caller back value × AreWorked o w (suc caller) backs values
   AreWorked o w caller _ _ = ⊥
 
-  -- There was a world that was opened so. Each of its passes went to a call of the work, which gave it back, with its
+  -- There was a world that was opened so. Each of its passes went to a call of the work, which returned it, with its
   -- value. With all of these passes the world was closed.
   pub record HasWorked (o : Opening) (h : History) (values : List X) : Type 0 where
     pub world : Setting
@@ -85,7 +85,7 @@ module _ {F X : Type 0} (g : Shared F (Bor Setting × (Holding × Unit {0})) (Ho
   abbrev pub CanWorkEach : Bor Setting → List Holding → Type 0
   CanWorkEach w begun = (i : ℕ) (s : Holding) → i < length begun → g.pre f (w, (slice_index_or begun i s, tt))
 
-  -- a call of the work with each of these passes gave a pass back, and a value
+  -- a call of the work with each of these passes returned a pass, and a value
   pub record AreGiven (w : Bor Setting) (begun : List Holding) (worked : List (Holding × X)) : Type 0 where
     pub count : length worked ≡ length begun
     pub each : (i : ℕ) (s : Holding) (r : Holding × X) → i < length begun

@@ -19,7 +19,7 @@ use ww_queue::Kind;
 /// Opens a world on a graph, with so many passes, from 1 to 16, each of which may start so many contexts and solos;
 /// calls `work` with the world and each of the passes; and closes the world, once all calls have returned. Each call
 /// has a thread of its own, or that of the caller; where no thread can be started, calls are made one after another. A
-/// call gives its pass back, and a value, which stand in the order of the passes. It is refused for want of memory
+/// call returns its pass, and a value, which stand in the order of the passes. It is refused for lack of memory
 /// alone.
 pub fn run_crew<R: Threads + Sync, X: Send + Drop, F: Fn(&World, Pass) -> (Pass, X) + Sync>(
     rt: &R,

@@ -16,7 +16,8 @@ use Rattle.ww_script.specs.Spelling.{EachInputCanBeSaid, EachVersion1IsCutOff}
 use Rattle.ww_script.proofs.Kept.{reading_kept}
 
 -- the number of a version is read as the version, and then the rest
-scripts_said : (version : Version) (plan : Plan) → plan.ports ≡ ports_of version → IsPlan plan → input_in (plan_data plan) ≡ Ok (input.Scripts plan)
+scripts_said : (version : Version) (plan : Plan) → plan.ports ≡ ports_of version → IsPlan plan
+    → input_in (plan_data plan) ≡ Ok (input.Scripts plan)
 unfolding input_in version_in
 scripts_said One plan used is = rw used (ap (λ r. r >>= λ plan. Ok (input.Scripts plan)) (rw used at (plan_said One plan used is)))
 scripts_said Two plan used is = rw used (ap (λ r. r >>= λ plan. Ok (input.Scripts plan)) (rw used at (plan_said Two plan used is)))

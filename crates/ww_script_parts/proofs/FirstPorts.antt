@@ -26,7 +26,8 @@ module _ {V : Type 0} (view : V → Data) (size : ℕ) (items : List V) where
   one_fewer : (k : ℕ) → k < PORTS → empty_ports (PORTS - k) ≡ None ∷ empty_ports (PORTS - (k + 1))
   one_fewer k lt = let e : PORTS - k ≡ suc (PORTS - (k + 1)) = omega (arith, lt) in ap empty_ports e
 
-  pub one_read : (k : ℕ) (item : V) (old new : List (Option ℕ)) (port : Option ℕ) → length items ≤ PORTS → k < length items → item ≡ get_or items k item
+  pub one_read : (k : ℕ) (item : V) (old new : List (Option ℕ)) (port : Option ℕ) → length items ≤ PORTS
+      → k < length items → item ≡ get_or items k item
       → AreRead k old → port_in size (view item) ≡ Ok port → new ≡ set old k port → AreRead (k + 1) new
   one_read k item old new port few lt is h read e =
       let rest = empty_ports (PORTS - (k + 1)) in

@@ -44,7 +44,8 @@ module _ (ranges : Ranges) (few : ranges.ports ≤ PORTS) where
       let ns = bind_ok (each (below ranges.nodes) xs.0) (λ ns. let r : Result Transaction InputFault = Ok (get w.0 ns) in r) t xs.2 in
       let c = counted_kept 1 64 b xs.0 xs.1 in
       let p = each_kept (λ n. n < ranges.nodes) (below ranges.nodes) xs.0 ns.0 (below_kept ranges.nodes) ns.1 in
-      subst IsLocking (ok_is (get w.0 ns.0) t ns.2) (((record { some = omega (arith, c.0, p.1); few = omega (arith, c.1, p.1) }, p.0), tt), tt)
+      subst IsLocking (ok_is (get w.0 ns.0) t ns.2)
+      (((record { some = omega (arith, c.0, p.1); few = omega (arith, c.1, p.1) }, p.0), tt), tt)
   get_kept (a ∷ b ∷ c ∷ ds) t e = absurd cc
 
   pair_of_kept : (ds : List Data) (p : ℕ × ℕ) → pair_of ranges.nodes ds ≡ Ok p → p.0 < ranges.nodes
@@ -70,7 +71,8 @@ module _ (ranges : Ranges) (few : ranges.ports ≤ PORTS) where
       let ps = bind_ok (each (pair_in ranges.nodes) xs.0) (λ ps. let r : Result Transaction InputFault = Ok (add w.0 ps) in r) t xs.2 in
       let c = counted_kept 1 64 b xs.0 xs.1 in
       let p = each_kept (λ (q : ℕ × ℕ). q.0 < ranges.nodes) (pair_in ranges.nodes) xs.0 ps.0 pair_kept ps.1 in
-      subst IsLocking (ok_is (add w.0 ps.0) t ps.2) (((record { some = omega (arith, c.0, p.1); few = omega (arith, c.1, p.1) }, p.0), tt), tt)
+      subst IsLocking (ok_is (add w.0 ps.0) t ps.2)
+      (((record { some = omega (arith, c.0, p.1); few = omega (arith, c.1, p.1) }, p.0), tt), tt)
   add_kept (a ∷ b ∷ c ∷ ds) t e = absurd cc
 
   move_kept : (ds : List Data) (t : Transaction) → move_of ranges.nodes ds ≡ Ok t → IsLocking t
@@ -134,7 +136,8 @@ module _ (ranges : Ranges) (few : ranges.ports ≤ PORTS) where
   reverse_kept : (ds : List Data) (t : Transaction) → reverse_of ranges ds ≡ Ok t → IsLocking t
   unfolding reverse_of
   reverse_kept ds t e =
-      let k = bind_ok (course_of ranges ds) (λ (c : ℕ × ℕ × ℕ). let r : Result Transaction InputFault = Ok (reverse c.0 c.1 c.2) in r) t e in
+      let k = bind_ok (course_of ranges ds)
+      (λ (c : ℕ × ℕ × ℕ). let r : Result Transaction InputFault = Ok (reverse c.0 c.1 c.2) in r) t e in
       subst IsLocking (ok_is (reverse k.0.0 k.0.1 k.0.2) t k.2) (course_kept ds k.0 k.1, tt)
 
   peek_kept : (ds : List Data) (t : Transaction) → peek_of ranges.nodes ds ≡ Ok t → IsWithin ranges t
@@ -153,9 +156,11 @@ module _ (ranges : Ranges) (few : ranges.ports ≤ PORTS) where
       (either_kept IsLocking (bytes_eq word (codes "sum")) _ _ t (sum_kept ds t)
       (either_kept IsLocking (bytes_eq word (codes "reverse")) _ _ t (reverse_kept ds t) (λ none. absurd cc)))))) e
 
-  transaction_worded_kept : (word : List ℕ) (ds : List Data) (t : Transaction) → transaction_worded ranges word ds ≡ Ok t → IsWithin ranges t
+  transaction_worded_kept : (word : List ℕ) (ds : List Data) (t : Transaction)
+      → transaction_worded ranges word ds ≡ Ok t → IsWithin ranges t
   transaction_worded_kept word ds t e =
-      either_kept (IsWithin ranges) (bytes_eq word (codes "peek")) _ _ t (peek_kept ds t) (λ locking. (locking_worded_kept word ds t locking).0) e
+      either_kept (IsWithin ranges) (bytes_eq word (codes "peek")) _ _ t (peek_kept ds t)
+      (λ locking. (locking_worded_kept word ds t locking).0) e
 
   locking_from_kept : (ds : List Data) (t : Transaction) → locking_from ranges ds ≡ Ok t → IsLocking t
   locking_from_kept [] t e = absurd cc
@@ -239,7 +244,8 @@ padded_kept : (used count : ℕ) (ps : List (Option ℕ)) → used ≤ PORTS →
     → ArePortsOf used count (ps ++ replicate (PORTS - length ps) None)
 padded_kept used count ps few many all =
     let others = PORTS - length ps in
-    let behind : drop used (ps ++ replicate others None) ≡ replicate others None = ap (λ k. drop k (ps ++ replicate others None)) (sym many) ∙ drop-append_seam ps (replicate others None) in (
+    let behind : drop used (ps ++ replicate others None) ≡ replicate others None =
+    ap (λ k. drop k (ps ++ replicate others None)) (sym many) ∙ drop-append_seam ps (replicate others None) in (
       all_appended (IsPort count) ps (replicate others None) all (all_replicated (IsPort count) others None tt),
       omega (arith, length-append ps (replicate others None), length-replicate {A = Option ℕ} others None, few, many),
       subst (AllByRecursion (λ port. port ≡ None)) (sym behind) (all_replicated (λ port. port ≡ None) others None refl),
@@ -250,17 +256,22 @@ pub few_ports : (version : Version) → ports_of version ≤ PORTS
 few_ports One = omega arith
 few_ports Two = omega arith
 
-ports_kept : (version : Version) (count : ℕ) (d : Data) (ps : List (Option ℕ)) → ports_in version count d ≡ Ok ps → ArePortsOf (ports_of version) count ps
+ports_kept : (version : Version) (count : ℕ) (d : Data) (ps : List (Option ℕ)) → ports_in version count d ≡ Ok ps
+    → ArePortsOf (ports_of version) count ps
 unfolding ports_in
 ports_kept version count d ps e =
     let used = ports_of version in
     let a = bind_ok (counted used used d) (λ ds. first_ports (each (port_in count) ds)) ps e in
-    let b = bind_ok (each (port_in count) a.0) (λ qs. let r : Result (List (Option ℕ)) InputFault = Ok (qs ++ replicate (PORTS - length qs) None) in r) ps a.2 in
+    let b = bind_ok (each (port_in count) a.0)
+    (λ qs. let r : Result (List (Option ℕ)) InputFault = Ok (qs ++ replicate (PORTS - length qs) None) in r) ps
+    a.2 in
     let c = counted_kept used used d a.0 a.1 in
     let p = each_kept (IsPort count) (port_in count) a.0 b.0 (port_kept count) b.1 in
-    subst (ArePortsOf used count) (ok_is (b.0 ++ replicate (PORTS - length b.0) None) ps b.2) (padded_kept used count b.0 (few_ports version) (omega (arith, c.0, c.1, p.1)) p.0)
+    subst (ArePortsOf used count) (ok_is (b.0 ++ replicate (PORTS - length b.0) None) ps b.2)
+    (padded_kept used count b.0 (few_ports version) (omega (arith, c.0, c.1, p.1)) p.0)
 
-node_kept : (version : Version) (count : ℕ) (d : Data) (n : Node) → node_in version count d ≡ Ok n → ArePortsOf (ports_of version) count n.ports
+node_kept : (version : Version) (count : ℕ) (d : Data) (n : Node) → node_in version count d ≡ Ok n
+    → ArePortsOf (ports_of version) count n.ports
 unfolding node_in
 node_kept version count d n e =
     let m = bind_ok (size d) _ n e in
@@ -268,17 +279,22 @@ node_kept version count d n e =
     let p = bind_ok (member (codes "ports") d) _ n v.2 in
     let o = bind_ok (only 2 m.0) _ n p.2 in
     let k = bind_ok (number v.0) _ n o.2 in
-    let ps = bind_ok (ports_in version count p.0) (λ (ps : List (Option ℕ)). let r : Result Node InputFault = Ok (record { value = k.0; ports = ps }) in r) n k.2 in
+    let ps = bind_ok (ports_in version count p.0)
+    (λ (ps : List (Option ℕ)). let r : Result Node InputFault = Ok (record { value = k.0; ports = ps }) in r) n
+    k.2 in
     let made : Node = record { value = k.0; ports = ps.0 } in
     subst (λ (node : Node). ArePortsOf (ports_of version) count node.ports) (ok_is made n ps.2) (ports_kept version count p.0 ps.0 ps.1)
 
-pub graph_kept : (version : Version) (d : Data) (ns : List Node) → graph_in version d ≡ Ok ns → IsGraph ns × AreEmptyFrom (ports_of version) ns
+pub graph_kept : (version : Version) (d : Data) (ns : List Node) → graph_in version d ≡ Ok ns → IsGraph ns
+    × AreEmptyFrom (ports_of version) ns
 unfolding graph_in
 graph_kept version d ns e =
     let a = bind_ok (counted 1 64 d) (λ ds. each (node_in version (length ds)) ds) ns e in
     let c = counted_kept 1 64 d a.0 a.1 in
-    let p = each_kept (IsNodeOf (length a.0)) (node_in version (length a.0)) a.0 ns (λ d n e. (node_kept version (length a.0) d n e).0) a.2 in
-    let q = each_kept (IsEmptyFrom (ports_of version)) (node_in version (length a.0)) a.0 ns (λ d n e. let is = node_kept version (length a.0) d n e in (is.1, is.2)) a.2 in (
+    let p = each_kept (IsNodeOf (length a.0)) (node_in version (length a.0)) a.0 ns
+    (λ d n e. (node_kept version (length a.0) d n e).0) a.2 in
+    let q = each_kept (IsEmptyFrom (ports_of version)) (node_in version (length a.0)) a.0 ns
+    (λ d n e. let is = node_kept version (length a.0) d n e in (is.1, is.2)) a.2 in (
       record {
         some = omega (arith, c.0, p.1);
         few = omega (arith, c.1, p.1);
@@ -303,13 +319,15 @@ pub record AreScripts (nodes ports : ℕ) (scripts : List (List Deed)) : Type 0 
   pub few : length scripts ≤ 16
   pub each : AllByRecursion (IsScript (ranges_of nodes ports (length scripts))) scripts
 
-pub scripts_kept : (nodes : ℕ) (version : Version) (d : Data) (ss : List (List Deed)) → scripts_in nodes (ports_of version) d ≡ Ok ss → AreScripts nodes (ports_of version) ss
+pub scripts_kept : (nodes : ℕ) (version : Version) (d : Data) (ss : List (List Deed))
+    → scripts_in nodes (ports_of version) d ≡ Ok ss → AreScripts nodes (ports_of version) ss
 unfolding scripts_in
 scripts_kept nodes version d ss e =
     let ranges = ranges_of nodes (ports_of version) in
     let a = bind_ok (counted 1 16 d) (λ ds. each (script_in (ranges (length ds))) ds) ss e in
     let c = counted_kept 1 16 d a.0 a.1 in
-    let p = each_kept (IsScript (ranges (length a.0))) (script_in (ranges (length a.0))) a.0 ss (script_kept (ranges (length a.0)) (few_ports version)) a.2 in
+    let p = each_kept (IsScript (ranges (length a.0))) (script_in (ranges (length a.0))) a.0 ss
+    (script_kept (ranges (length a.0)) (few_ports version)) a.2 in
     record {
       some = omega (arith, c.0, p.1);
       few = omega (arith, c.1, p.1);
@@ -332,8 +350,10 @@ plan_kept version members d plan e =
     let kind = bind_ok (kind_in k.0) _ plan o.2 in
     let history = bind_ok (boolean h.0) _ plan kind.2 in
     let graph = bind_ok (graph_in version n.0) _ plan history.2 in
-    let made : List (List Deed) → Plan = λ ss. record { kind = kind.0; history = history.0; ports = ports_of version; graph = graph.0; scripts = ss } in
-    let ss = bind_ok (scripts_in (length graph.0) (ports_of version) s.0) (λ (ss : List (List Deed)). let r : Result Plan InputFault = Ok (made ss) in r) plan graph.2 in
+    let made : List (List Deed) → Plan = λ ss.
+    record { kind = kind.0; history = history.0; ports = ports_of version; graph = graph.0; scripts = ss } in
+    let ss = bind_ok (scripts_in (length graph.0) (ports_of version) s.0)
+    (λ (ss : List (List Deed)). let r : Result Plan InputFault = Ok (made ss) in r) plan graph.2 in
     let all = scripts_kept (length graph.0) version s.0 ss.0 ss.1 in
     let g = graph_kept version n.0 graph.0 graph.1 in
     subst IsPlan (ok_is (made ss.0) plan ss.2)

@@ -33,7 +33,8 @@ module _ (few many : ℕ) (le : few ≤ many) where
   suits_more nodes scripts (interruptible txn) suits = ((suits.0.0, names_more txn suits.0.1), suits.1)
   suits_more nodes scripts (cancels script) suits = suits
 
-  script_more : (nodes scripts : ℕ) (script : List Deed) → IsScript (ranges_of nodes few scripts) script → IsScript (ranges_of nodes many scripts) script
+  script_more : (nodes scripts : ℕ) (script : List Deed) → IsScript (ranges_of nodes few scripts) script
+      → IsScript (ranges_of nodes many scripts) script
   script_more nodes scripts script is = record {
     few = is.few;
     suit = all_kept (Suits (ranges_of nodes few scripts)) (Suits (ranges_of nodes many scripts)) script (suits_more nodes scripts) is.suit;

@@ -31,25 +31,38 @@ unfolding by_in
 by_said by.List = refl
 by_said by.Order = refl
 
-get_said : (count : ℕ) (b : By) (nodes : List ℕ) → Fits count (get b nodes) → get_of count (string (by_word b) ∷ list (map whole nodes) ∷ []) ≡ Ok (get b nodes)
+get_said : (count : ℕ) (b : By) (nodes : List ℕ) → Fits count (get b nodes)
+    → get_of count (string (by_word b) ∷ list (map whole nodes) ∷ []) ≡ Ok (get b nodes)
 get_said count b nodes fits =
     let n = length-map nodes whole in
     let least : 1 ≤ length (map whole nodes) = omega (arith, fits.0.some) in
     let most : length (map whole nodes) ≤ 64 = omega (arith, fits.0.few) in
-    rw (by_said b, counted_said 1 64 (map whole nodes) least most, each_said (λ n. n < count) whole (below count) nodes (below_said count) fits.1) refl
+    rw (
+      by_said b,
+      counted_said 1 64 (map whole nodes) least most,
+      each_said (λ n. n < count) whole (below count)
+          nodes (below_said count) fits.1,
+    ) refl
 
 pair_said : (count : ℕ) (p : ℕ × ℕ) → p.0 < count → pair_in count (pair_data p) ≡ Ok p
 unfolding pair_in
 pair_said count p lt = ap (λ r. r >>= λ n. Ok (n, p.1)) (below_said count p.0 lt)
 
-add_said : (count : ℕ) (b : By) (pairs : List (ℕ × ℕ)) → Fits count (add b pairs) → add_of count (string (by_word b) ∷ list (map pair_data pairs) ∷ []) ≡ Ok (add b pairs)
+add_said : (count : ℕ) (b : By) (pairs : List (ℕ × ℕ)) → Fits count (add b pairs)
+    → add_of count (string (by_word b) ∷ list (map pair_data pairs) ∷ []) ≡ Ok (add b pairs)
 add_said count b pairs fits =
     let n = length-map pairs pair_data in
     let least : 1 ≤ length (map pair_data pairs) = omega (arith, fits.0.some) in
     let most : length (map pair_data pairs) ≤ 64 = omega (arith, fits.0.few) in
-    rw (by_said b, counted_said 1 64 (map pair_data pairs) least most, each_said (λ (p : ℕ × ℕ). p.0 < count) pair_data (pair_in count) pairs (pair_said count) fits.1) refl
+    rw (
+      by_said b,
+      counted_said 1 64 (map pair_data pairs) least most,
+      each_said (λ (p : ℕ × ℕ). p.0 < count)
+          pair_data (pair_in count) pairs (pair_said count) fits.1,
+    ) refl
 
-move_said : (count from to amount : ℕ) → Fits count (move from to amount) → move_of count (whole from ∷ whole to ∷ whole amount ∷ []) ≡ Ok (move from to amount)
+move_said : (count from to amount : ℕ) → Fits count (move from to amount)
+    → move_of count (whole from ∷ whole to ∷ whole amount ∷ []) ≡ Ok (move from to amount)
 move_said count from to amount fits = rw (below_said count from fits.0, below_said count to fits.1) refl
 
 target_said : (count : ℕ) (p : Option ℕ) → IfSome p (λ target. target < count) → target_in count (target_data p) ≡ Ok p
@@ -57,17 +70,34 @@ unfolding target_in
 target_said count None lt = refl
 target_said count (Some n) lt = rw (below_said count n lt) refl
 
-link_said : (ranges : Ranges) (node port : ℕ) (target : Option ℕ) → IsWithin ranges (link node port target) → link_of ranges (whole node ∷ whole port ∷ target_data target ∷ []) ≡ Ok (link node port target)
-link_said ranges node port target is = rw (below_said ranges.nodes node is.0.0, below_said ranges.ports port is.1, target_said ranges.nodes target is.0.2) refl
+link_said : (ranges : Ranges) (node port : ℕ) (target : Option ℕ) → IsWithin ranges (link node port target)
+    → link_of ranges (whole node ∷ whole port ∷ target_data target ∷ []) ≡ Ok (link node port target)
+link_said ranges node port target is =
+    rw (
+      below_said ranges.nodes node is.0.0,
+      below_said ranges.ports port is.1,
+      target_said ranges.nodes target
+          is.0.2,
+    ) refl
 
-course_said : (ranges : Ranges) (start port length : ℕ) → IsCourse ranges.nodes start port length → port < ranges.ports → course_of ranges (whole start ∷ whole port ∷ whole length ∷ []) ≡ Ok (start, port, length)
-course_said ranges start port length is low = rw (below_said ranges.nodes start is.starts, below_said ranges.ports port low, ranged_said 1 64 length is.some is.few) refl
+course_said : (ranges : Ranges) (start port length : ℕ) → IsCourse ranges.nodes start port length
+    → port < ranges.ports → course_of ranges (whole start ∷ whole port ∷ whole length ∷ [])
+    ≡ Ok (start, port, length)
+course_said ranges start port length is low =
+    rw (
+      below_said ranges.nodes start is.starts,
+      below_said ranges.ports port low,
+      ranged_said 1 64 length is.some
+          is.few,
+    ) refl
 
-sum_said : (ranges : Ranges) (start port length : ℕ) → IsWithin ranges (sum start port length) → sum_of ranges (whole start ∷ whole port ∷ whole length ∷ []) ≡ Ok (sum start port length)
+sum_said : (ranges : Ranges) (start port length : ℕ) → IsWithin ranges (sum start port length)
+    → sum_of ranges (whole start ∷ whole port ∷ whole length ∷ []) ≡ Ok (sum start port length)
 unfolding sum_of
 sum_said ranges start port length is = rw (course_said ranges start port length is.0 is.1) refl
 
-reverse_said : (ranges : Ranges) (start port length : ℕ) → IsWithin ranges (reverse start port length) → reverse_of ranges (whole start ∷ whole port ∷ whole length ∷ []) ≡ Ok (reverse start port length)
+reverse_said : (ranges : Ranges) (start port length : ℕ) → IsWithin ranges (reverse start port length)
+    → reverse_of ranges (whole start ∷ whole port ∷ whole length ∷ []) ≡ Ok (reverse start port length)
 unfolding reverse_of
 reverse_said ranges start port length is = rw (course_said ranges start port length is.0 is.1) refl
 
@@ -147,10 +177,15 @@ ports_said version count few node is =
     let least : used ≤ length (map target_data first) = omega (arith, n, padded.0) in
     let most : length (map target_data first) ≤ used = omega (arith, n, padded.0) in
     let all = all_taken (λ p. IfSome p (λ target. target < count)) used node.ports is.0 in
-    rw (counted_said used used (map target_data first) least most, each_said (λ p. IfSome p (λ target. target < count)) target_data (port_in count) first (port_said count few) all)
+    rw (
+      counted_said used used (map target_data first) least most,
+      each_said
+          (λ p. IfSome p (λ target. target < count)) target_data (port_in count) first (port_said count few) all,
+    )
     (ap (λ ps. Ok ps) (sym padded.1))
 
-node_said : (version : Version) (count : ℕ) → count ≤ 64 → (node : Node) → IsWhole version count node → node_in version count (node_data (ports_of version) node) ≡ Ok node
+node_said : (version : Version) (count : ℕ) → count ≤ 64 → (node : Node) → IsWhole version count node
+    → node_in version count (node_data (ports_of version) node) ≡ Ok node
 unfolding node_in
 node_said version count few node is = rw (ports_said version count few node is) refl
 
@@ -167,7 +202,12 @@ graph_said version graph is unused =
     let least : 1 ≤ length (map said graph) = omega (arith, n, is.some) in
     let most : length (map said graph) ≤ 64 = omega (arith, n, is.few) in
     let all = both_all (IsNodeOf (length graph)) (IsEmptyFrom (ports_of version)) graph is.closed unused in
-    rw (counted_said 1 64 (map said graph) least most, n, each_said (IsWhole version (length graph)) said (node_in version (length graph)) graph (node_said version (length graph) is.few) all) refl
+    rw (
+      counted_said 1 64 (map said graph) least most,
+      n,
+      each_said (IsWhole version (length graph)) said
+          (node_in version (length graph)) graph (node_said version (length graph) is.few) all,
+    ) refl
 
 -- ---- scripts
 
@@ -176,9 +216,14 @@ unfolding script_in
 script_said ranges xs is =
     let n = length-map xs act_data in
     let most : length (map act_data xs) ≤ 10000 = omega (arith, is.few) in
-    rw (counted_said 0 10000 (map act_data xs) (omega arith) most, each_said (Suits ranges) act_data (act_in ranges) xs (act_said ranges) is.suit) refl
+    rw (
+      counted_said 0 10000 (map act_data xs) (omega arith) most,
+      each_said (Suits ranges) act_data (act_in ranges)
+          xs (act_said ranges) is.suit,
+    ) refl
 
-scripts_said : (nodes ports : ℕ) (ss : List (List Deed)) → 1 ≤ length ss → length ss ≤ 16 → AllByRecursion (IsScript (ranges_of nodes ports (length ss))) ss
+scripts_said : (nodes ports : ℕ) (ss : List (List Deed)) → 1 ≤ length ss → length ss ≤ 16
+    → AllByRecursion (IsScript (ranges_of nodes ports (length ss))) ss
     → scripts_in nodes ports (list (map script_data ss)) ≡ Ok ss
 unfolding scripts_in
 scripts_said nodes ports ss some few all =
@@ -186,12 +231,24 @@ scripts_said nodes ports ss some few all =
     let least : 1 ≤ length (map script_data ss) = omega arith in
     let most : length (map script_data ss) ≤ 16 = omega arith in
     let ranges = ranges_of nodes ports (length ss) in
-    rw (counted_said 1 16 (map script_data ss) least most, n, each_said (IsScript ranges) script_data (script_in ranges) ss (script_said ranges) all) refl
+    rw (
+      counted_said 1 16 (map script_data ss) least most,
+      n,
+      each_said (IsScript ranges) script_data
+          (script_in ranges) ss (script_said ranges) all,
+    ) refl
 
 -- the fields of an object of five keys
-pub plan_said : (version : Version) (plan : Plan) → plan.ports ≡ ports_of version → IsPlan plan → plan_in version 5 (plan_data plan) ≡ Ok plan
+pub plan_said : (version : Version) (plan : Plan) → plan.ports ≡ ports_of version → IsPlan plan
+    → plan_in version 5 (plan_data plan) ≡ Ok plan
 unfolding plan_in
 plan_said version plan used is =
     let unused = rw used at is.unused in
     let each = rw used at is.each in
-    rw (used, kind_said plan.kind, graph_said version plan.graph is.graph unused, scripts_said (length plan.graph) (ports_of version) plan.scripts is.some is.few each) refl
+    rw (
+      used,
+      kind_said plan.kind,
+      graph_said version plan.graph is.graph unused,
+      scripts_said (length plan.graph)
+          (ports_of version) plan.scripts is.some is.few each,
+    ) refl

@@ -26,6 +26,7 @@ use Rattle.ww_rule.specs.Out.{AreOthers, slot_of}
 use Rattle.ww_rule.specs.Steps.{known, graph_of, renewed, MayPlace, placing}
 use Rattle.ww_rule.proofs.Places.{graph_at, renewed_long, renewed_at}
 use Rattle.ww_seat.specs.Orderly.{IsOrderly}
+use Rattle.ww_seat.specs.Accounts.{Account, account_of}
 use Rattle.ww_seat.specs.Calls.{HoldsAll, HasCommitted}
 use Rattle.ww_seat.specs.declared.committing.NodeChange.{NodeChange}
 use Rattle.ww_seat.specs.Commits.{naming, change_at, IsChanged}
@@ -41,16 +42,22 @@ item_past (x ∷ xs) (suc n) past = item_past xs n (omega arith)
 -- ---- the nodes change one after another, the last one first
 
 -- a node that the seat owns is out, whatever the view names
-pub out_there : (size : ℕ) (held : List (Option Node)) (after : List Node) (ns : List ℕ) (m : Sat) (n : ℕ) → IsChanged size held after ns m → n < size → owns m.0.part.core n ≡ true → (x : Node) × (slot_of m.1 n ≡ Some (Content x))
+pub out_there : (size : ℕ) (held : List (Option Node)) (after : List Node) (ns : List ℕ) (m : Sat) (n : ℕ)
+    → IsChanged size held after ns m → n < size → owns m.0.part.core n ≡ true → (x : Node)
+    × (slot_of m.1 n ≡ Some (Content x))
 out_there size held after ns m n is low own = let t = is.orderly.nodes n low own in (t.0, t.2)
 
-changed_more : (size : ℕ) (held : List (Option Node)) (after : List Node) (ns : List ℕ) (m m' : Sat) (n : ℕ) (x : Node) → IsChanged size held after ns m → n < size → owns m.0.part.core n ≡ true
-    → (others : List (ℕ × Cell)) × AreOthers m.1 n (Content x) others × (m' ≡ (m.0, (n, Content (node_at after n)) ∷ others)) → IsChanged size held after (n ∷ ns) m'
+changed_more : (size : ℕ) (held : List (Option Node)) (after : List Node) (ns : List ℕ) (m m' : Sat) (n : ℕ)
+    (x : Node) → IsChanged size held after ns m → n < size → owns m.0.part.core n ≡ true
+    → (others : List (ℕ × Cell)) × AreOthers m.1 n (Content x) others
+    × (m' ≡ (m.0, (n, Content (node_at after n)) ∷ others)) → IsChanged size held after (n ∷ ns) m'
 changed_more size held after ns m m' n x is low own t = let y : Node = node_at after n in let long = is.orderly.held in record {
   now = set is.now n (Some y);
-  orderly = orderly_swapped size (naming m is.now) (naming m' (set is.now n (Some y))) n x y t.0 is.orderly low own t.1 (ap (λ (z : Sat). naming z (set is.now n (Some y))) t.2);
+  orderly = orderly_swapped size (naming m is.now) (naming m' (set is.now n (Some y))) n x y t.0 is.orderly low own
+      t.1 (ap (λ (z : Sat). naming z (set is.now n (Some y))) t.2);
   named = λ k e. dite (ℕ_discrete k n)
-      (λ same. subst (λ (j : ℕ). get_elem? (set is.now n (Some y)) j ≡ some (Some (node_at after j))) (sym same) (set_here is.now n (Some y) (omega arith)))
+      (λ same. subst (λ (j : ℕ). get_elem? (set is.now n (Some y)) j ≡ some (Some (node_at after j))) (sym same)
+      (set_here is.now n (Some y) (omega arith)))
       (λ differ. set_else is.now n k (Some y) differ ∙ is.named k (elim (or_cases (eqb n k) (is_among k ns) e) [
         | inl z ↦ absurd (differ (sym (same_from_eqb n k z)))
         | inr later ↦ later
@@ -62,14 +69,17 @@ changed_more size held after ns m m' n x is low own t = let y : Node = node_at a
 
 -- ---- the loop over the nodes
 
-pub change_item : (before after : List Node) (ns : List ℕ) (i : ℕ) (d : NodeChange) → i < length ns → get_or (map (change_at before after) ns) i d ≡ change_at before after (get_or ns i 0)
+pub change_item : (before after : List Node) (ns : List ℕ) (i : ℕ) (d : NodeChange) → i < length ns
+    → get_or (map (change_at before after) ns) i d ≡ change_at before after (get_or ns i 0)
 change_item before after [] i d lt = absurd (omega arith)
 change_item before after (n ∷ ns) zero d lt = refl
 change_item before after (n ∷ ns) (suc i) d lt = change_item before after ns i d (omega arith)
 
-pub all_change : (P : ℕ → Type 0) (before after : List Node) (ns : List ℕ) → ((n : ℕ) → is_among n ns ≡ true → P n) → AllByRecursion (λ c. P c.number) (map (change_at before after) ns)
+pub all_change : (P : ℕ → Type 0) (before after : List Node) (ns : List ℕ) → ((n : ℕ) → is_among n ns ≡ true → P n)
+    → AllByRecursion (λ c. P c.number) (map (change_at before after) ns)
 all_change P before after [] each = tt
-all_change P before after (n ∷ ns) each = (each n (is_among-head n ns), all_change P before after ns (λ k e. each k (is_among-tail n k ns e)))
+all_change P before after (n ∷ ns) each =
+    (each n (is_among-head n ns), all_change P before after ns (λ k e. each k (is_among-tail n k ns e)))
 
 pub drop_here : (ns : List ℕ) (i : ℕ) → i < length ns → drop i ns ≡ get_or ns i 0 ∷ drop (suc i) ns
 drop_here [] i lt = absurd (omega arith)
@@ -77,19 +87,30 @@ drop_here (n ∷ ns) zero lt = refl
 drop_here (n ∷ ns) (suc i) lt = drop_here ns i (omega arith)
 
 -- the node before those that were written was written
-pub changed_next : (size : ℕ) (held : List (Option Node)) (before after : List Node) (ns : List ℕ) (changes : List NodeChange) (i : ℕ) (d : NodeChange) (m m' : Sat) (x : Node) → changes ≡ map (change_at before after) ns
-    → i < length ns → IsChanged size held after (drop (suc i) ns) m → (get_or changes i d).number < size → owns m.0.part.core (get_or changes i d).number ≡ true
-    → (others : List (ℕ × Cell)) × AreOthers m.1 (get_or changes i d).number (Content x) others × (m' ≡ (m.0, ((get_or changes i d).number, Content (get_or changes i d).after) ∷ others)) → IsChanged size held after (drop i ns) m'
+pub changed_next : (size : ℕ) (held : List (Option Node)) (before after : List Node) (ns : List ℕ)
+    (changes : List NodeChange) (i : ℕ) (d : NodeChange) (m m' : Sat) (x : Node)
+    → changes ≡ map (change_at before after) ns
+    → i < length ns → IsChanged size held after (drop (suc i) ns) m → (get_or changes i d).number < size
+    → owns m.0.part.core (get_or changes i d).number ≡ true
+    → (others : List (ℕ × Cell)) × AreOthers m.1 (get_or changes i d).number (Content x) others
+    × (m' ≡ (m.0, ((get_or changes i d).number, Content (get_or changes i d).after) ∷ others))
+    → IsChanged size held after (drop i ns) m'
 changed_next size held before after ns changes i d m m' x are lt is low own t =
     let n : ℕ = get_or ns i 0 in
-    let here : get_or changes i d ≡ change_at before after n = ap (λ (cs : List NodeChange). get_or cs i d) are ∙ change_item before after ns i d lt in
+    let here : get_or changes i d ≡ change_at before after n = ap (λ (cs : List NodeChange). get_or cs i d) are
+    ∙ change_item before after ns i d lt in
     subst (λ (l : List ℕ). IsChanged size held after l m') (sym (drop_here ns i lt))
-    (changed_more size held after (drop (suc i) ns) m m' n x is (subst (λ (c : NodeChange). c.number < size) here low) (sym (ap (λ (c : NodeChange). owns m.0.part.core c.number) here) ∙ own)
-    (subst (λ (c : NodeChange). (others : List (ℕ × Cell)) × AreOthers m.1 c.number (Content x) others × (m' ≡ (m.0, (c.number, Content c.after) ∷ others))) here t))
+    (changed_more size held after (drop (suc i) ns) m m' n x is
+    (subst (λ (c : NodeChange). c.number < size) here low)
+    (sym (ap (λ (c : NodeChange). owns m.0.part.core c.number) here) ∙ own)
+    (subst (λ (c : NodeChange). (others : List (ℕ × Cell)) × AreOthers m.1 c.number (Content x) others
+    × (m' ≡ (m.0, (c.number, Content c.after) ∷ others))) here t))
 
 -- ---- the record may be placed, and the nodes are as it says
 
-module _ (size : ℕ) (m : Sat) (r : Record) (before : List Node) (was : IsOrderly size m) (next : IsNext before (recorded_of r)) (sizes : length before ≡ size) (holds : HoldsAll m before (footprint_of before (transaction_of r.txn))) where
+module _ (size : ℕ) (m : Sat) (r : Record) (before : List Node) (was : IsOrderly size m)
+    (next : IsNext before (recorded_of r)) (sizes : length before ≡ size)
+    (holds : HoldsAll m before (footprint_of before (transaction_of r.txn))) where
   abbrev t : Transaction
   t = transaction_of r.txn
 
@@ -109,9 +130,14 @@ module _ (size : ℕ) (m : Sat) (r : Record) (before : List Node) (was : IsOrder
   among n = ap (is_among n) (sym law.footprint)
 
   next_held : IsNext (graph_of m.0.held) (recorded_of r)
-  next_held = record { fits = subst (λ (k : ℕ). Fits k t) (sizes ∙ sym long) next.fits; no_double = next.no_double; answered = law.answer ∙ next.answered }
+  next_held = record {
+    fits = subst (λ (k : ℕ). Fits k t) (sizes ∙ sym long) next.fits;
+    no_double = next.no_double;
+    answered = law.answer ∙ next.answered;
+  }
 
-  pub may_place : IsAway m.0.part.core → (n : ℕ) × (owns m.0.part.core n ≡ true) → r.caller ≡ m.0.part.core.who → r.seq ≡ length m.0.part.own → length m.0.part.own + 1 < 2 ^ 32 → MayPlace m.0 (recorded_of r)
+  pub may_place : IsAway m.0.part.core → (n : ℕ) × (owns m.0.part.core n ≡ true) → r.caller ≡ m.0.part.core.who
+      → r.seq ≡ length m.0.part.own → length m.0.part.own + 1 < 2 ^ 32 → MayPlace m.0 (recorded_of r)
   may_place away owner caller seq fewer = record {
     away = away;
     owner = owner;
@@ -128,47 +154,48 @@ module _ (size : ℕ) (m : Sat) (r : Record) (before : List Node) (was : IsOrder
   -- what the view names after the record is placed
   named_after : (n : ℕ) → is_among n ns ≡ true → get_elem? renewed_held n ≡ some (Some (node_at after n))
   named_after n e = renewed_at 0 m.0.held (graph_after (graph_of m.0.held) t) n (node_at before n) (holds n e).1
-      ∙ ap (λ (x : Node). some (Some x)) (ap (node_at (graph_after (graph_of m.0.held) t)) (let z : 0 + n ≡ n = omega arith in z) ∙ sym (law.agree n e))
+      ∙ ap (λ (x : Node). some (Some x)) (ap (node_at (graph_after (graph_of m.0.held) t))
+      (let z : 0 + n ≡ n = omega arith in z) ∙ sym (law.agree n e))
 
   named_else : (n : ℕ) → is_among n ns ≡ false → owns m.0.part.core n ≡ true → get_elem? renewed_held n ≡ get_elem? m.0.held n
   named_else n e own = dite (dec_le size n)
-      (λ beyond. item_past renewed_held n (let l = renewed_long 0 m.0.held (graph_after (graph_of m.0.held) t) in let w = was.held in omega arith) ∙ sym (item_past m.0.held n (let w = was.held in omega arith)))
+      (λ beyond. item_past renewed_held n (let l = renewed_long 0 m.0.held (graph_after (graph_of m.0.held) t) in
+      let w = was.held in omega arith) ∙ sym (item_past m.0.held n (let w = was.held in omega arith)))
       (λ below. let o = was.nodes n (omega arith) own in renewed_at 0 m.0.held (graph_after (graph_of m.0.held) t) n o.0 o.1
-      ∙ ap (λ (x : Node). some (Some x)) (ap (node_at (graph_after (graph_of m.0.held) t)) (let z : 0 + n ≡ n = omega arith in z) ∙ outside (graph_of m.0.held) t n (sym (among n) ∙ e) ∙ graph_at m.0.held n o.0 o.1)
+      ∙ ap (λ (x : Node). some (Some x)) (ap (node_at (graph_after (graph_of m.0.held) t))
+      (let z : 0 + n ≡ n = omega arith in z) ∙ outside (graph_of m.0.held) t n (sym (among n) ∙ e)
+      ∙ graph_at m.0.held n o.0 o.1)
       ∙ sym o.1)
 
   abbrev placed : ℕ → Sat
   placed place = (placing m.0 place r, m.1)
 
   pub start_orderly : (place : ℕ) (m1 : Sat) → m1 ≡ placed place → IsOrderly size (naming m1 m.0.held)
-  start_orderly place m1 is = subst (λ (z : Sat). IsOrderly size (naming z m.0.held)) (sym is) (orderly_still size m (naming (placed place) m.0.held) was refl refl refl refl refl was.apart (λ k. refl))
+  start_orderly place m1 is = subst (λ (z : Sat). IsOrderly size (naming z m.0.held)) (sym is)
+      (orderly_still size m (naming (placed place) m.0.held) was refl refl refl refl refl was.apart (λ k. refl))
 
-  end_placed : (place : ℕ) (slots : List (ℕ × Cell)) → IsChanged size m.0.held after ns (placing m.0 place r, slots) → IsOrderly size (placing m.0 place r, slots)
-  end_placed place slots is = orderly_named size (naming (placing m.0 place r, slots) is.now) (placing m.0 place r, slots) is.orderly refl refl refl refl refl (renewed_long 0 m.0.held (graph_after (graph_of m.0.held) t) ∙ was.held ∙ sym is.orderly.held)
-      (λ n low own. ⊎_elim (λ e. named_after n e ∙ sym (is.named n e)) (λ e. named_else n e own ∙ sym (is.others n e)) (true_or_false (is_among n ns)))
+  end_placed : (place : ℕ) (slots : List (ℕ × Cell)) → IsChanged size m.0.held after ns (placing m.0 place r, slots)
+      → IsOrderly size (placing m.0 place r, slots)
+  end_placed place slots is = orderly_named size (naming (placing m.0 place r, slots) is.now)
+      (placing m.0 place r, slots) is.orderly refl refl refl refl refl
+      (renewed_long 0 m.0.held (graph_after (graph_of m.0.held) t) ∙ was.held ∙ sym is.orderly.held)
+      (λ n low own. ⊎_elim (λ e. named_after n e ∙ sym (is.named n e))
+      (λ e. named_else n e own ∙ sym (is.others n e)) (true_or_false (is_among n ns)))
 
   pub end_orderly : (place : ℕ) (m1 m2 : Sat) → m1 ≡ placed place → m2.0 ≡ m1.0 → IsChanged size m.0.held after ns m2 → IsOrderly size m2
   end_orderly place m1 m2 is view changed = let v : m2.0 ≡ placing m.0 place r = view ∙ ap (λ (z : Sat). z.0) is in
-      subst (λ (w : Sight). IsOrderly size (w, m2.1)) (sym v) (end_placed place m2.1 (subst (λ (w : Sight). IsChanged size m.0.held after ns (w, m2.1)) v changed))
+      subst (λ (w : Sight). IsOrderly size (w, m2.1)) (sym v)
+      (end_placed place m2.1 (subst (λ (w : Sight). IsChanged size m.0.held after ns (w, m2.1)) v changed))
 
-  pub has_committed : (place : ℕ) (m1 m2 : Sat) → m1 ≡ placed place → m2.0 ≡ m1.0 → AllByRecursion (λ p. p.0 < place) m.0.part.own → HasCommitted m place r after ns m2
+  pub has_committed : (place : ℕ) (m1 m2 : Sat) → m1 ≡ placed place → m2.0 ≡ m1.0
+      → AllByRecursion (λ p. p.0 < place) m.0.part.own → HasCommitted m place r after ns m2
   has_committed place m1 m2 is view above = let v : m2.0 ≡ placing m.0 place r = view ∙ ap (λ (z : Sat). z.0) is in record {
-    kind = ap (λ (w : Sight). w.part.core.kind) v;
-    who = ap (λ (w : Sight). w.part.core.who) v;
-    stamp = ap (λ (w : Sight). w.part.core.stamp) v;
-    counts = ap (λ (w : Sight). w.part.counts) v;
-    stopped = ap (λ (w : Sight). w.part.core.stopped) v;
-    pendings = ap (λ (w : Sight). w.part.core.pendings) v;
-    owned = ap (λ (w : Sight). w.part.core.owned) v;
-    locks = ap (λ (w : Sight). w.part.core.locks) v;
-    tries = ap (λ (w : Sight). w.part.core.tries) v;
-    takes = ap (λ (w : Sight). w.part.core.takes) v;
-    deaths = ap (λ (w : Sight). w.part.core.deaths) v;
-    own = ap (λ (w : Sight). w.part.own) v;
+    now = ap (λ (w : Sight). let a : Account = record (account_of (w, m2.1)) { held = m2.0.held } in a) v;
     above = above;
     named = λ n e. ap (λ (w : Sight). get_elem? w.held n) v ∙ named_after n e;
     others = λ n e own. ap (λ (w : Sight). get_elem? w.held n) v ∙ named_else n e own;
   }
 
   pub still_away : (place : ℕ) (m1 m2 : Sat) → m1 ≡ placed place → m2.0 ≡ m1.0 → IsAway m.0.part.core → IsAway m2.0.part.core
-  still_away place m1 m2 is view away = let v : m2.0 ≡ placing m.0 place r = view ∙ ap (λ (z : Sat). z.0) is in subst (λ (w : Sight). IsAway w.part.core) (sym v) away
+  still_away place m1 m2 is view away = let v : m2.0 ≡ placing m.0 place r = view ∙ ap (λ (z : Sat). z.0) is in
+      subst (λ (w : Sight). IsAway w.part.core) (sym v) away

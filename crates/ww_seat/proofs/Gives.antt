@@ -1,104 +1,104 @@
--- A lock is given back inside its guard.
-use Rattle.std.proofs.Common.{◌≡◌, ℕ, ◌+◌, ◌<◌, ◌≤◌, ◌≢◌, Bool, true, false, true≢false, List, [], ◌∷◌, slice_set, refl, sym, ap, ◌∙◌, subst, inl, inr, arith, Option, Some, None}
+-- A lock is released inside its guard.
+use Rattle.std.proofs.Common.{◌≡◌, ℕ, ◌+◌, ◌<◌, ◌≤◌, Bool, true, false, List, ◌∷◌, refl, sym, ap, ◌∙◌, subst, inl, inr, arith, Some, None}
 use mathlib.Core.Option.{some}
 use lib.ListN.{get_elem?}
 use Rattle.ww_word.specs.declared.owner.Owner.{Owner}
-use Rattle.ww_queue.specs.declared.entry.Entry.{Entry}
 use Rattle.ww_queue.specs.declared.kind.Kind.TheVariants.{WaitDie}
-use Rattle.ww_model.proofs.Holders.{not_empty}
 use Rattle.ww_plain.specs.declared.node.Node.{Node}
 use Rattle.ww_view.specs.View.{owns, IsAway}
 use Rattle.ww_view.specs.May.{MayEnter}
-use Rattle.ww_view.specs.Made.{once_inside, without, fast_given, given}
+use Rattle.ww_view.specs.Made.{once_inside, fast_given, given}
 use Rattle.ww_rule.specs.declared.cells.Cell.{Cell}
 use Rattle.ww_rule.specs.declared.cells.Cell.TheVariants.{Content, Line}
 use Rattle.ww_rule.specs.declared.cells.Sight.{Sight}
 use Rattle.ww_rule.specs.Rule.{Sat}
 use Rattle.ww_rule.specs.Out.{slot_of, AreOthers}
 use Rattle.ww_rule.specs.Steps.{knowing, giving, keeping}
-use Rattle.ww_rule.specs.Guards.{lost, exiting, looking}
+use Rattle.ww_rule.specs.Guards.{exiting, looking}
 use Rattle.ww_rule.specs.Waiting.{HasListOnTop, IsOut, giving_inside}
 use Rattle.ww_seat.specs.Orderly.{IsOrderly}
-use Rattle.ww_seat.specs.Calls.{HasGiven}
-use Rattle.ww_seat.specs.Guards.{HasLet, IsStill, IsGiving}
-use Rattle.ww_seat.proofs.Holds.{same_then, holds_then}
+use Rattle.ww_seat.specs.Accounts.{Account, having_given}
+use Rattle.ww_seat.specs.Calls.{HoldsAsBefore, HasGiven}
+use Rattle.ww_seat.specs.Guards.{HasLet, IsGiving}
+use Rattle.ww_seat.proofs.Holds.{holds_then}
 use Rattle.ww_seat.proofs.Slots.{front_same, front_apart, is_out}
 use Rattle.ww_seat.proofs.Outside.{orderly_still, orderly_bare, set_past, owned_low, owns_here}
 use Rattle.ww_seat.proofs.Guards.{HasEntered, exiting_orderly, listed_orderly, without_node}
 
--- a compare-exchange that can't be lost where somebody waits was lost: so nobody does
-pub waits_nobody : (q : List Entry) (was : Option Owner) (o : Owner) (won : Bool) → (q ≢ [] → was ≡ Some o → won ≡ true) → was ≡ Some o → won ≡ false → q ≡ []
-waits_nobody [] was o won sure is not = refl
-waits_nobody (e ∷ q) was o won sure is not = absurd (true≢false (sym (sure (not_empty (e ∷ q) e (inl refl)) is) ∙ not))
-
 -- ---- what the calls say of the seat, one after another
 
-pub given_then : (a b c : Sat) (n : ℕ) → IsStill a b → HasGiven b n c → HasGiven a n c
-given_then a b c n x y = record {
-  same = same_then a b c x.holds.same y.same;
-  owned = y.owned ∙ ap (λ xs. slice_set xs n false) x.holds.owned;
-  locks = y.locks ∙ ap (without n) x.holds.locks;
-  held = y.held ∙ ap (λ xs. slice_set xs n None) x.holds.held;
-  tries = y.tries ∙ x.tries;
-  takes = y.takes ∙ x.holds.takes;
-  deaths = y.deaths ∙ x.holds.deaths;
-}
+pub given_then : (a b c : Sat) (n : ℕ) → HoldsAsBefore a b → HasGiven b n c → HasGiven a n c
+given_then a b c n x y = y ∙ ap (λ (z : Account). having_given z n) x
 
-pub then_given : (a b c : Sat) (n : ℕ) → HasGiven a n b → IsStill b c → HasGiven a n c
-then_given a b c n x y = record { same = same_then a b c x.same y.holds.same; owned = y.holds.owned ∙ x.owned; locks = y.holds.locks ∙ x.locks; held = y.holds.held ∙ x.held; tries = y.tries ∙ x.tries; takes = y.holds.takes ∙ x.takes; deaths = y.holds.deaths ∙ x.deaths }
+pub then_given : (a b c : Sat) (n : ℕ) → HasGiven a n b → HoldsAsBefore b c → HasGiven a n c
+then_given a b c n x y = y ∙ x
 
-pub still_then : (a b c : Sat) → IsStill a b → IsStill b c → IsStill a c
-still_then a b c x y = record { holds = holds_then a b c x.holds y.holds; tries = y.tries ∙ x.tries }
+pub still_looking : (m m' : Sat) (o : Owner) → m'.0 ≡ looking m.0 o → HoldsAsBefore m m'
+still_looking m m' o e = subst (λ (w : Sight). HoldsAsBefore m (w, m'.1)) (sym e) refl
 
-pub still_looking : (m m' : Sat) (o : Owner) → m'.0 ≡ looking m.0 o → IsStill m m'
-still_looking m m' o e = subst (λ (w : Sight). IsStill m (w, m'.1)) (sym e) (record { holds = record { same = record { kind = refl; who = refl; stamp = refl; own = refl; counts = refl; stopped = refl; pendings = refl }; owned = refl; locks = refl; held = refl; takes = refl; deaths = refl }; tries = refl })
+pub still_view : (m m' : Sat) → m'.0 ≡ m.0 → HoldsAsBefore m m'
+still_view m m' e = subst (λ (w : Sight). HoldsAsBefore m (w, m'.1)) (sym e) refl
 
-pub still_lost : (m m' : Sat) → m'.0 ≡ lost m.0 → IsStill m m'
-still_lost m m' e = subst (λ (w : Sight). IsStill m (w, m'.1)) (sym e) (record { holds = record { same = record { kind = refl; who = refl; stamp = refl; own = refl; counts = refl; stopped = refl; pendings = refl }; owned = refl; locks = refl; held = refl; takes = refl; deaths = refl }; tries = refl })
+-- it tried to release the lock at once, and kept it
+pub still_kept : (m m' : Sat) → m'.0 ≡ keeping m.0 → HoldsAsBefore m m'
+still_kept m m' e = subst (λ (w : Sight). HoldsAsBefore m (w, m'.1)) (sym e) refl
 
-pub still_view : (m m' : Sat) → m'.0 ≡ m.0 → IsStill m m'
-still_view m m' e = subst (λ (w : Sight). IsStill m (w, m'.1)) (sym e) (record { holds = record { same = record { kind = refl; who = refl; stamp = refl; own = refl; counts = refl; stopped = refl; pendings = refl }; owned = refl; locks = refl; held = refl; takes = refl; deaths = refl }; tries = refl })
+pub still_entered : (m m' : Sat) (n : ℕ) → HasEntered m n m' → HoldsAsBefore m m'
+still_entered m m' n e = subst (λ (w : Sight). HoldsAsBefore m (w, m'.1)) (sym e.view) refl
 
--- it tried to give the lock back at once, and kept it
-pub still_kept : (m m' : Sat) → m'.0 ≡ keeping m.0 → IsStill m m'
-still_kept m m' e = subst (λ (w : Sight). IsStill m (w, m'.1)) (sym e) (record { holds = record { same = record { kind = refl; who = refl; stamp = refl; own = refl; counts = refl; stopped = refl; pendings = refl }; owned = refl; locks = refl; held = refl; takes = refl; deaths = refl }; tries = refl })
-
-pub still_entered : (m m' : Sat) (n : ℕ) → HasEntered m n m' → IsStill m m'
-still_entered m m' n e = subst (λ (w : Sight). IsStill m (w, m'.1)) (sym e.view) (record { holds = record { same = record { kind = refl; who = refl; stamp = refl; own = refl; counts = refl; stopped = refl; pendings = refl }; owned = refl; locks = refl; held = refl; takes = refl; deaths = refl }; tries = refl })
-
-pub still_exited : (m m' : Sat) → m'.0 ≡ exiting m.0 → IsStill m m'
-still_exited m m' e = subst (λ (w : Sight). IsStill m (w, m'.1)) (sym e) (record { holds = record { same = record { kind = refl; who = refl; stamp = refl; own = refl; counts = refl; stopped = refl; pendings = refl }; owned = refl; locks = refl; held = refl; takes = refl; deaths = refl }; tries = refl })
+pub still_exited : (m m' : Sat) → m'.0 ≡ exiting m.0 → HoldsAsBefore m m'
+still_exited m m' e = subst (λ (w : Sight). HoldsAsBefore m (w, m'.1)) (sym e) refl
 
 -- it read the owner word, and then the wait list
-pub read_still : (a m m' m'' : Sat) (n : ℕ) (o : Owner) → IsStill a m → m' ≡ (looking m.0 o, m.1) → HasListOnTop m' n m'' → IsStill a m''
-read_still a m m' m'' n o before looked read = still_then a m m'' before (still_then m m' m'' (still_looking m m' o (ap (λ (x : Sat). x.0) looked)) (still_view m' m'' (ap (λ (x : Sat). x.0) read.now)))
+pub read_still : (a m m' m'' : Sat) (n : ℕ) (o : Owner) → HoldsAsBefore a m → m' ≡ (looking m.0 o, m.1)
+    → HasListOnTop m' n m'' → HoldsAsBefore a m''
+read_still a m m' m'' n o before looked read =
+    holds_then a m m'' before (holds_then m m' m'' (still_looking m m' o (ap (λ (x : Sat). x.0) looked))
+    (still_view m' m'' (ap (λ (x : Sat). x.0) read.now)))
 
 -- ---- at once
 
 -- the node of a lock that it owns is out
-pub node_out : (size : ℕ) (m : Sat) (n : ℕ) → IsOrderly size m → n < size → owns m.0.part.core n ≡ true → (x : Node) × (slot_of m.1 n ≡ Some (Content x)) × (get_elem? m.0.held n ≡ some (Some x))
+pub node_out : (size : ℕ) (m : Sat) (n : ℕ) → IsOrderly size m → n < size → owns m.0.part.core n ≡ true → (x : Node)
+    × (slot_of m.1 n ≡ Some (Content x)) × (get_elem? m.0.held n ≡ some (Some x))
 node_out size m n o low own = let z = o.nodes n low own in (z.0, z.2, z.1)
 
-pub given_free : (size : ℕ) (m m' : Sat) (n : ℕ) (x : Node) → IsOrderly size m → IsAway m.0.part.core → n < size → m'.0 ≡ giving m.0 n → AreOthers m.1 n (Content x) m'.1 → IsOrderly size m' × IsAway m'.0.part.core × HasGiven m n m'
+pub given_free : (size : ℕ) (m m' : Sat) (n : ℕ) (x : Node) → IsOrderly size m → IsAway m.0.part.core → n < size
+    → m'.0 ≡ giving m.0 n → AreOthers m.1 n (Content x) m'.1 → IsOrderly size m' × IsAway m'.0.part.core
+    × HasGiven m n m'
 given_free size m m' n x o away small view home = (
-  subst (λ (w : Sight). IsOrderly size (w, m'.1)) (sym view) (without_node size m n x (giving m.0 n) m'.1 o small home refl refl refl refl refl),
+  subst (λ (w : Sight). IsOrderly size (w, m'.1)) (sym view)
+      (without_node size m n x (giving m.0 n) m'.1 o small home refl refl refl refl refl),
   subst (λ (w : Sight). IsAway w.part.core) (sym view) (away.0, away.1),
-  subst (λ (w : Sight). HasGiven m n (w, m'.1)) (sym view) (record { same = record { kind = refl; who = refl; stamp = refl; own = refl; counts = refl; stopped = refl; pendings = refl }; owned = refl; locks = refl; held = refl; takes = refl; deaths = refl; tries = refl }),
+  subst (λ (w : Sight). HasGiven m n (w, m'.1)) (sym view) refl,
 )
 
-pub kept_free : (size : ℕ) (m m' : Sat) (n : ℕ) (x : Node) (others : List (ℕ × Cell)) → IsOrderly size m → AreOthers m.1 n (Content x) others → m' ≡ (keeping m.0, (n, Content x) ∷ others) → IsOrderly size m'
-kept_free size m m' n x others o out is = subst (IsOrderly size) (sym is) (orderly_still size m (keeping m.0, (n, Content x) ∷ others) o refl refl refl refl refl
+pub kept_free : (size : ℕ) (m m' : Sat) (n : ℕ) (x : Node) (others : List (ℕ × Cell)) → IsOrderly size m
+    → AreOthers m.1 n (Content x) others → m' ≡ (keeping m.0, (n, Content x) ∷ others) → IsOrderly size m'
+kept_free size m m' n x others o out is =
+    subst (IsOrderly size) (sym is) (orderly_still size m (keeping m.0, (n, Content x) ∷ others) o refl refl refl
+    refl refl
     (front_apart m.1 n (Content x) others o.apart out (Content x)) (front_same m.1 n (Content x) others o.apart out))
 
 -- the owner may go inside
 pub owner_enters : (m m' : Sat) (n : ℕ) → m'.0 ≡ m.0 → IsAway m.0.part.core → owns m.0.part.core n ≡ true → MayEnter m'.0.part.core n
-owner_enters m m' n same away own = subst (λ (w : Sight). MayEnter w.part.core n) (sym same) (record { outside = away.0; why = inl (away.1, own) })
+owner_enters m m' n same away own = subst (λ (w : Sight). MayEnter w.part.core n) (sym same)
+    (record { outside = away.0; why = inl (away.1, own) })
 
 -- ---- inside
 
-pub entered_giving : (size : ℕ) (m m' : Sat) (n : ℕ) → HasEntered m n m' → IsOrderly size m' → m.0.part.core.waits ≡ 0 → owns m.0.part.core n ≡ true → IsGiving size n m'
+pub entered_giving : (size : ℕ) (m m' : Sat) (n : ℕ) → HasEntered m n m' → IsOrderly size m'
+    → m.0.part.core.waits ≡ 0 → owns m.0.part.core n ≡ true → IsGiving size n m'
 entered_giving size m m' n e o waits own = subst (λ (w : Sight). IsOrderly size (w, m'.1) → IsGiving size n (w, m'.1)) (sym e.view)
-    (λ o'. record { orderly = o'; inside = refl; waits = waits; owner = own; seats = e.seats; unsigned = λ (is : m.0.part.core.kind ≡ WaitDie). (λ i. once_inside (is i) (waits i) m.0.part.core.sign) }) o
+    (λ o'. record {
+      orderly = o';
+      inside = refl;
+      waits = waits;
+      owner = own;
+      seats = e.seats;
+      unsigned = λ (is : m.0.part.core.kind ≡ WaitDie). (λ i. once_inside (is i) (waits i) m.0.part.core.sign);
+    })
+    o
 
 pub looked_giving : (size : ℕ) (m m' : Sat) (n : ℕ) (o : Owner) → IsGiving size n m → m' ≡ (looking m.0 o, m.1) → IsGiving size n m'
 looked_giving size m m' n o g is = subst (IsGiving size n) (sym is) (record {
@@ -120,73 +120,83 @@ read_giving size m m' n g t = subst (IsGiving size n) (sym t.now) (record {
   unsigned = g.unsigned;
 })
 
-pub giving_out : (size : ℕ) (m : Sat) (n : ℕ) → IsGiving size n m → n < size → (x : Node) × IsOut m.1 n (Content x) × (get_elem? m.0.held n ≡ some (Some x))
+pub giving_out : (size : ℕ) (m : Sat) (n : ℕ) → IsGiving size n m → n < size → (x : Node) × IsOut m.1 n (Content x)
+    × (get_elem? m.0.held n ≡ some (Some x))
 giving_out size m n g low = let z = node_out size m n g.orderly low g.owner in (z.0, is_out m.1 n (Content z.0) g.orderly.apart z.1, z.2)
 
-pub lost_giving : (size : ℕ) (m m' : Sat) (n : ℕ) (x : Node) (others slots : List (ℕ × Cell)) → IsGiving size n m → AreOthers m.1 (64 + n) (Line m.0.part.core.list) others → AreOthers ((64 + n, Line m.0.part.core.list) ∷ others) n (Content x) slots
-    → m' ≡ (lost m.0, (n, Content x) ∷ slots) → IsGiving size n m'
-lost_giving size m m' n x others slots g top out is = let first : Sat = (m.0, (64 + n, Line m.0.part.core.list) ∷ others) in let o = listed_orderly size m n m.0 others g.orderly g.inside top refl refl refl refl in subst (IsGiving size n) (sym is) (record {
-  orderly = orderly_still size first (lost m.0, (n, Content x) ∷ slots) o refl refl refl refl refl (front_apart first.1 n (Content x) slots o.apart out (Content x)) (front_same first.1 n (Content x) slots o.apart out);
-  inside = g.inside;
-  waits = g.waits;
-  owner = g.owner;
-  seats = g.seats;
-  unsigned = g.unsigned;
-})
+-- it released the lock, by what its view has then
+lets : (size : ℕ) (m m' : Sat) (n : ℕ) (asked : Bool) → IsGiving size n m → IsOrderly size m'
+    → m'.0 ≡ giving_inside m.0 n asked → HasLet size n m m'
+lets size m m' n asked g o view = let low = owned_low m.0.part.core.owned n g.owner in
+    subst (λ (w : Sight). IsOrderly size (w, m'.1) → HasLet size n m (w, m'.1)) (sym view) (λ now. record {
+      orderly = now;
+      may = record {
+        exit = record {
+          inside = g.inside;
+          why = inl (g.waits, owns_here m.0.part.core.owned n false low);
+          unsigned = λ is. inr (inl (g.unsigned is));
+          unheeded = g.orderly.unheeded;
+        };
+        acted = refl;
+        again = λ _ w. absurd (let z = g.waits in omega arith);
+        looked = λ _ w _ _. absurd (let z = g.waits in omega arith);
+      };
+      inside = g.inside;
+      waits = g.waits;
+      given = refl;
+      heir = refl;
+    }) o
 
--- it gave the lock back, by what its view has then
-lets : (size : ℕ) (m m' : Sat) (n : ℕ) (asked : Bool) → IsGiving size n m → IsOrderly size m' → m'.0 ≡ giving_inside m.0 n asked → HasLet size n m m'
-lets size m m' n asked g o view = let low = owned_low m.0.part.core.owned n g.owner in subst (λ (w : Sight). IsOrderly size (w, m'.1) → HasLet size n m (w, m'.1)) (sym view) (λ now. record {
-  orderly = now;
-  may = record {
-    exit = record { inside = g.inside; why = inl (g.waits, owns_here m.0.part.core.owned n false low); unsigned = λ is. inr (inl (g.unsigned is)); unheeded = g.orderly.unheeded };
-    acted = refl;
-    again = λ _ w. absurd (let z = g.waits in omega arith);
-    looked = λ _ w _ _. absurd (let z = g.waits in omega arith);
-  };
-  inside = g.inside;
-  waits = g.waits;
-  given = record { same = record { kind = refl; who = refl; stamp = refl; own = refl; counts = refl; stopped = refl; pendings = refl }; owned = refl; locks = refl; held = refl; takes = refl; deaths = refl; tries = refl };
-  heir = refl;
-}) o
-
-pub let_go : (size : ℕ) (m m' : Sat) (n : ℕ) (x : Node) (others : List (ℕ × Cell)) (asked : Bool) → IsGiving size n m → n < size → m'.0 ≡ giving_inside m.0 n asked → AreOthers m.1 (64 + n) (Line m.0.part.core.list) others
+pub let_go : (size : ℕ) (m m' : Sat) (n : ℕ) (x : Node) (others : List (ℕ × Cell)) (asked : Bool)
+    → IsGiving size n m → n < size → m'.0 ≡ giving_inside m.0 n asked
+    → AreOthers m.1 (64 + n) (Line m.0.part.core.list) others
     → AreOthers ((64 + n, Line m.0.part.core.list) ∷ others) n (Content x) m'.1 → HasLet size n m m'
-let_go size m m' n x others asked g small view top home = let first : Sat = (m.0, (64 + n, Line m.0.part.core.list) ∷ others) in let o = listed_orderly size m n m.0 others g.orderly g.inside top refl refl refl refl in
-    lets size m m' n asked g (subst (λ (w : Sight). IsOrderly size (w, m'.1)) (sym view) (without_node size first n x (giving_inside m.0 n asked) m'.1 o small home refl refl refl refl refl)) view
+let_go size m m' n x others asked g small view top home = let first : Sat =
+    (m.0, (64 + n, Line m.0.part.core.list) ∷ others) in
+    let o = listed_orderly size m n m.0 others g.orderly g.inside top refl refl refl refl in
+    lets size m m' n asked g (subst (λ (w : Sight). IsOrderly size (w, m'.1)) (sym view)
+    (without_node size first n x (giving_inside m.0 n asked) m'.1 o small home refl refl refl refl refl)) view
 
 -- ---- a lock that guards no node
 
-pub given_bare : (size : ℕ) (m m' : Sat) (n : ℕ) → IsOrderly size m → IsAway m.0.part.core → size ≤ n → m' ≡ (knowing m.0 (fast_given m.0.part.core n), m.1) → IsOrderly size m' × IsAway m'.0.part.core × HasGiven m n m'
+pub given_bare : (size : ℕ) (m m' : Sat) (n : ℕ) → IsOrderly size m → IsAway m.0.part.core → size ≤ n
+    → m' ≡ (knowing m.0 (fast_given m.0.part.core n), m.1) → IsOrderly size m' × IsAway m'.0.part.core
+    × HasGiven m n m'
 given_bare size m m' n o away big is = let wide = o.held in
-    let view : m'.0 ≡ giving m.0 n = ap (λ (z : Sat). z.0) is ∙ (λ i. record (m.0) { part = record (m.0.part) { core = fast_given m.0.part.core n }; held = sym (set_past m.0.held n None (omega arith)) i }) in (
+    let view : m'.0 ≡ giving m.0 n = ap (λ (z : Sat). z.0) is
+    ∙ (λ i. record (m.0) {
+      part = record (m.0.part) { core = fast_given m.0.part.core n };
+      held = sym (set_past m.0.held n None (omega arith)) i;
+    }) in (
       subst (IsOrderly size) (sym is) (orderly_bare size m n false (fast_given m.0.part.core n) o big refl refl refl refl),
       subst (λ (w : Sight). IsAway w.part.core) (sym view) (away.0, away.1),
-      subst (λ (w : Sight). HasGiven m n (w, m'.1)) (sym view) (record { same = record { kind = refl; who = refl; stamp = refl; own = refl; counts = refl; stopped = refl; pendings = refl }; owned = refl; locks = refl; held = refl; takes = refl; deaths = refl; tries = refl }),
+      subst (λ (w : Sight). HasGiven m n (w, m'.1)) (sym view) refl,
     )
 
 pub kept_bare : (size : ℕ) (m m' : Sat) → IsOrderly size m → m' ≡ (keeping m.0, m.1) → IsOrderly size m'
-kept_bare size m m' o is = subst (IsOrderly size) (sym is) (orderly_still size m (keeping m.0, m.1) o refl refl refl refl refl o.apart (λ k. refl))
+kept_bare size m m' o is = subst (IsOrderly size) (sym is)
+    (orderly_still size m (keeping m.0, m.1) o refl refl refl refl refl o.apart (λ k. refl))
 
-pub lost_giving_bare : (size : ℕ) (m m' : Sat) (n : ℕ) (others : List (ℕ × Cell)) → IsGiving size n m → AreOthers m.1 (64 + n) (Line m.0.part.core.list) others → m' ≡ (lost m.0, (64 + n, Line m.0.part.core.list) ∷ others) → IsGiving size n m'
-lost_giving_bare size m m' n others g top is = let first : Sat = (m.0, (64 + n, Line m.0.part.core.list) ∷ others) in let o = listed_orderly size m n m.0 others g.orderly g.inside top refl refl refl refl in subst (IsGiving size n) (sym is) (record {
-  orderly = orderly_still size first (lost m.0, first.1) o refl refl refl refl refl o.apart (λ k. refl);
-  inside = g.inside;
-  waits = g.waits;
-  owner = g.owner;
-  seats = g.seats;
-  unsigned = g.unsigned;
-})
-
-pub let_go_bare : (size : ℕ) (m m' : Sat) (n : ℕ) (others : List (ℕ × Cell)) (asked : Bool) → IsGiving size n m → size ≤ n → AreOthers m.1 (64 + n) (Line m.0.part.core.list) others
+pub let_go_bare : (size : ℕ) (m m' : Sat) (n : ℕ) (others : List (ℕ × Cell)) (asked : Bool) → IsGiving size n m
+    → size ≤ n → AreOthers m.1 (64 + n) (Line m.0.part.core.list) others
     → m' ≡ (knowing m.0 (given m.0.part.core n asked), (64 + n, Line m.0.part.core.list) ∷ others) → HasLet size n m m'
-let_go_bare size m m' n others asked g big top is = let first : Sat = (m.0, (64 + n, Line m.0.part.core.list) ∷ others) in let o = listed_orderly size m n m.0 others g.orderly g.inside top refl refl refl refl in let wide = g.orderly.held in
-    let view : m'.0 ≡ giving_inside m.0 n asked = ap (λ (z : Sat). z.0) is ∙ (λ i. record (m.0) { part = record (m.0.part) { core = given m.0.part.core n asked }; held = sym (set_past m.0.held n None (omega arith)) i }) in
-    lets size m m' n asked g (subst (IsOrderly size) (sym is) (orderly_bare size first n false (given m.0.part.core n asked) o big refl refl refl refl)) view
+let_go_bare size m m' n others asked g big top is = let first : Sat =
+    (m.0, (64 + n, Line m.0.part.core.list) ∷ others) in
+    let o = listed_orderly size m n m.0 others g.orderly g.inside top refl refl refl refl in
+    let wide = g.orderly.held in
+    let view : m'.0 ≡ giving_inside m.0 n asked = ap (λ (z : Sat). z.0) is
+    ∙ (λ i. record (m.0) {
+      part = record (m.0.part) { core = given m.0.part.core n asked };
+      held = sym (set_past m.0.held n None (omega arith)) i;
+    }) in
+    lets size m m' n asked g (subst (IsOrderly size) (sym is)
+    (orderly_bare size first n false (given m.0.part.core n asked) o big refl refl refl refl)) view
 
 -- ---- outside again
 
-pub has_let : (size : ℕ) (a b c m' : Sat) (n : ℕ) → IsStill a b → HasLet size n b c → m'.0 ≡ exiting c.0 → AreOthers c.1 (64 + n) (Line c.0.part.core.list) m'.1 → IsOrderly size m' × IsAway m'.0.part.core × HasGiven a n m'
+pub has_let : (size : ℕ) (a b c m' : Sat) (n : ℕ) → HoldsAsBefore a b → HasLet size n b c → m'.0 ≡ exiting c.0
+    → AreOthers c.1 (64 + n) (Line c.0.part.core.list) m'.1 → IsOrderly size m' × IsAway m'.0.part.core
+    × HasGiven a n m'
 has_let size a b c m' n before l view home = (
   exiting_orderly size c m' n l.orderly l.inside view home,
   subst (λ (w : Sight). IsAway w.part.core) (sym view) (refl, l.waits),

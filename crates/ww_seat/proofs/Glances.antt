@@ -1,4 +1,4 @@
--- A seat that glances at a lock is otherwise as it was.
+-- A seat that makes a spin read of a lock is otherwise as it was.
 use Rattle.std.proofs.Common.{◌≡◌, ℕ, ◌+◌, refl, sym, ap, ◌∙◌, subst, arith}
 use Rattle.ww_rule.specs.Steps.{knowing}
 use Rattle.ww_rule.specs.Rule.{Sat}
@@ -21,11 +21,7 @@ outside_still size n m m' o g = subst (IsOutside size n) (sym g.now) (record {
 })
 
 pub holds_glanced : (m m' : Sat) → HasGlanced m m' → HoldsAsBefore m m'
-holds_glanced m m' g = subst (HoldsAsBefore m) (sym g.now)
-    (record { same = record { kind = refl; who = refl; stamp = refl; own = refl; counts = refl; stopped = refl; pendings = refl }; owned = refl; locks = refl; held = refl; takes = refl; deaths = refl })
+holds_glanced m m' g = subst (HoldsAsBefore m) (sym g.now) refl
 
 pub waits_still : (m m' : Sat) → HasGlanced m m' → m.0.part.core.waits ≡ 0 → m'.0.part.core.waits ≡ 0
 waits_still m m' g e = ap (λ (w : Sat). w.0.part.core.waits) g.now ∙ e
-
-pub tries_still : (m m' : Sat) → HasGlanced m m' → m'.0.part.core.tries ≡ m.0.part.core.tries
-tries_still m m' g = ap (λ (w : Sat). w.0.part.core.tries) g.now

@@ -14,4 +14,5 @@ pub mod Starts
 pub mod Stood
 pub mod Stopped
 pub mod Stepwise
+pub mod Among
 pub mod Without

@@ -29,10 +29,12 @@ use Rattle.ww_seat.proofs.Working.{touched_read}
 
 -- ---- the signs that it owes
 
-pub take_has : {A : Type 0} (xs : List A) (i : ℕ) (d y : A) → i < length xs → Has (take (suc i) xs) y → Has (take i xs) y ⊎ (y ≡ get_or xs i d)
+pub take_has : {A : Type 0} (xs : List A) (i : ℕ) (d y : A) → i < length xs → Has (take (suc i) xs) y
+    → Has (take i xs) y ⊎ (y ≡ get_or xs i d)
 take_has [] i d y low h = absurd (omega arith)
 take_has (x ∷ xs) zero d y low h = ⊎_elim (λ e. inr e) (λ none. absurd none) h
-take_has (x ∷ xs) (suc i) d y low h = ⊎_elim (λ e. inl (inl e)) (λ later. ⊎_elim (λ z. inl (inr z)) (λ z. inr z) (take_has xs i d y (omega arith) later)) h
+take_has (x ∷ xs) (suc i) d y low h = ⊎_elim (λ e. inl (inl e))
+    (λ later. ⊎_elim (λ z. inl (inr z)) (λ z. inr z) (take_has xs i d y (omega arith) later)) h
 
 pub has_at : {A : Type 0} (xs : List A) (i : ℕ) (d : A) → i < length xs → Has xs (get_or xs i d)
 has_at [] i d low = absurd (omega arith)
@@ -42,23 +44,38 @@ has_at (x ∷ xs) (suc i) d low = inr (has_at xs i d (omega arith))
 seating_of : (o : Owner) (s : Option ℕ) (u : ℕ) → IsSeating o s → s ≡ Some u → u < 16
 seating_of o s u sits is = let z : IsSeating o (Some u) = subst (IsSeating o) is sits in z
 
-pub victim_small : (kind : Kind) (o : Owner) (q : List Entry) (me u k : ℕ) → IsValid o → AreSeats q → Has (owed_signs kind o q me) (u, k) → u < 16
+pub victim_small : (kind : Kind) (o : Owner) (q : List Entry) (me u k : ℕ) → IsValid o → AreSeats q
+    → Has (owed_signs kind o q me) (u, k) → u < 16
 victim_small WoundWait o q me u k valid seats has = seating_of o o.seat u valid.seating (wounded_why o q me u k has).owns
-victim_small WaitDie o q me u k valid seats has = let w = must_die_why WaitDie o q u 0 k (signed_why o q me u k has).1 in let small = (seats w.0 w.1).0 in let same = w.2 in omega arith
+victim_small WaitDie o q me u k valid seats has = let w =
+    must_die_why WaitDie o q u 0 k (signed_why o q me u k has).1 in let small = (seats w.0 w.1).0 in
+    let same = w.2 in omega arith
 
-pub may_sign : (size n : ℕ) (owed : List (ℕ × ℕ)) (m m1 : Sat) (o : Owner) (u k : ℕ) → m.0.part.core.inside ≡ suc n → m.0.part.core.seen ≡ Some o
-    → HasNoted size owed m m1 → Has (owed_signs m.0.part.core.kind o m.0.part.core.list m.0.part.core.who) (u, k) → MaySign m1.0.part.core n u k
-may_sign size n owed m m1 o u k inside seen h has = subst (λ (z : Sight). MaySign z.part.core n u k) (sym h.view) (record { inside = inside; owes = (o, seen, has) })
+pub may_sign : (size n : ℕ) (owed : List (ℕ × ℕ)) (m m1 : Sat) (o : Owner) (u k : ℕ) → m.0.part.core.inside ≡ suc n
+    → m.0.part.core.seen ≡ Some o
+    → HasNoted size owed m m1 → Has (owed_signs m.0.part.core.kind o m.0.part.core.list m.0.part.core.who) (u, k)
+    → MaySign m1.0.part.core n u k
+may_sign size n owed m m1 o u k inside seen h has =
+    subst (λ (z : Sight). MaySign z.part.core n u k) (sym h.view)
+    (record { inside = inside; owes = (o, seen, has) })
 
 pub noted_none : (size : ℕ) (m m1 : Sat) → IsTouched size m m1 → m1.0 ≡ m.0 → HasNoted size [] m m1
-noted_none size m m1 t same = record { orderly = t.orderly; signed = m.0.part.core.signed; condemned = m.0.part.core.condemned; fresh = m.0.part.core.fresh; view = same; all = λ u k none. absurd none }
+noted_none size m m1 t same = record {
+  orderly = t.orderly;
+  signed = m.0.part.core.signed;
+  condemned = m.0.part.core.condemned;
+  fresh = m.0.part.core.fresh;
+  view = same;
+  all = λ u k none. absurd none;
+}
 
 -- another seat was found or made signed, as the step told
 abbrev noted_by : Bool → Sight → ℕ → Sight
 noted_by true v u = condemning v u
 noted_by false v u = noting v u
 
-pub noted_more : (size : ℕ) (xs ys : List (ℕ × ℕ)) (m m1 m2 : Sat) (won : Bool) (u : ℕ) → HasNoted size xs m m1 → m2 ≡ (noted_by won m1.0 u, m1.1)
+pub noted_more : (size : ℕ) (xs ys : List (ℕ × ℕ)) (m m1 m2 : Sat) (won : Bool) (u : ℕ) → HasNoted size xs m m1
+    → m2 ≡ (noted_by won m1.0 u, m1.1)
     → ((v k : ℕ) → Has ys (v, k) → Has xs (v, k) ⊎ (v ≡ u)) → HasNoted size ys m m2
 noted_more size xs ys m m1 m2 true u h is more = record {
   orderly = orderly_knowing size m1 m2 (condemning m1.0 u).part.core h.orderly is refl refl refl refl;
@@ -77,19 +94,26 @@ noted_more size xs ys m m1 m2 false u h is more = record {
   all = λ v k has. ⊎_elim (λ old. inr (h.all v k old)) (λ e. inl e) (more v k has);
 }
 
-pub noted_is : (won : Bool) (m1 m2 : Sat) (u : ℕ) → (won ≡ true → m2 ≡ (condemning m1.0 u, m1.1)) → (won ≡ false → m2 ≡ (noting m1.0 u, m1.1)) → m2 ≡ (noted_by won m1.0 u, m1.1)
+pub noted_is : (won : Bool) (m1 m2 : Sat) (u : ℕ) → (won ≡ true → m2 ≡ (condemning m1.0 u, m1.1))
+    → (won ≡ false → m2 ≡ (noting m1.0 u, m1.1)) → m2 ≡ (noted_by won m1.0 u, m1.1)
 noted_is true m1 m2 u on off = on refl
 noted_is false m1 m2 u on off = off refl
 
 -- those condemned before are marked still, and another where the step condemned it
-pub marked_noted : (m1 m2 : Sat) (was mid now : List Bool) (won : Bool) (who u : ℕ) → who ≡ m1.0.part.core.who → m2 ≡ (noted_by won m1.0 u, m1.1) → AreMarked was (HasToWake m1.0.part.core) mid
+pub marked_noted : (m1 m2 : Sat) (was mid now : List Bool) (won : Bool) (who u : ℕ) → who ≡ m1.0.part.core.who
+    → m2 ≡ (noted_by won m1.0 u, m1.1) → AreMarked was (HasToWake m1.0.part.core) mid
     → AreMarked mid (λ t. (won ≡ true) × (u ≢ who) × (t ≡ u)) now → AreMarked was (HasToWake m2.0.part.core) now
-marked_noted m1 m2 was mid now won who u own is marked added = subst (λ (z : Sat). AreMarked was (HasToWake z.0.part.core) now) (sym is) (go won added)
+marked_noted m1 m2 was mid now won who u own is marked added =
+    subst (λ (z : Sat). AreMarked was (HasToWake z.0.part.core) now) (sym is) (go won added)
   where
-    go : (b : Bool) → AreMarked mid (λ t. (b ≡ true) × (u ≢ who) × (t ≡ u)) now → AreMarked was (HasToWake (noted_by b m1.0 u).part.core) now
+    go : (b : Bool) → AreMarked mid (λ t. (b ≡ true) × (u ≢ who) × (t ≡ u)) now
+        → AreMarked was (HasToWake (noted_by b m1.0 u).part.core) now
     go true adds t = (
-      λ marks. ⊎_elim (λ old. ⊎_elim inl (λ has. inr (inr has.0, has.1)) ((marked t).0 old)) (λ new. inr (inl new.2, λ e. new.1 (sym new.2 ∙ e ∙ sym own))) ((adds t).0 marks),
-      λ marks. (adds t).1 (⊎_elim (λ before. inl ((marked t).1 (inl before))) (λ has. ⊎_elim (λ e. inr (refl, (λ z. has.1 (e ∙ z ∙ own)), e)) (λ old. inl ((marked t).1 (inr (old, has.1)))) has.0) marks),
+      λ marks. ⊎_elim (λ old. ⊎_elim inl (λ has. inr (inr has.0, has.1)) ((marked t).0 old))
+          (λ new. inr (inl new.2, λ e. new.1 (sym new.2 ∙ e ∙ sym own))) ((adds t).0 marks),
+      λ marks. (adds t).1 (⊎_elim (λ before. inl ((marked t).1 (inl before)))
+          (λ has. ⊎_elim (λ e. inr (refl, (λ z. has.1 (e ∙ z ∙ own)), e))
+          (λ old. inl ((marked t).1 (inr (old, has.1)))) has.0) marks),
     )
     go false adds t = (
       λ marks. ⊎_elim (λ old. (marked t).0 old) (λ new. absurd (true≢false (sym new.0))) ((adds t).0 marks),
@@ -98,11 +122,14 @@ marked_noted m1 m2 was mid now won who u own is marked added = subst (λ (z : Sa
 
 -- ---- whether it has to die
 
-death_is : (kind : Kind) (o : Owner) (q : List Entry) (me s : ℕ) (e : Entry) → entry_of q me ≡ Some e → must_die kind o q me s ≡ death_of kind o q s e
+death_is : (kind : Kind) (o : Owner) (q : List Entry) (me s : ℕ) (e : Entry) → entry_of q me ≡ Some e
+    → must_die kind o q me s ≡ death_of kind o q s e
 death_is kind o q me s e is = ap (option_and_then (death_of kind o q s)) is
 
-pub dying_holds : (kind : Kind) (o : Owner) (v : View) (s k : ℕ) → entry_of v.list v.who ≡ Some (entry_of_view v) → must_die kind o v.list v.who s ≡ Some k → IsHolding (entry_of_view v)
-dying_holds kind o v s k entry is = (death_why kind o v.list s (entry_of_view v) k (sym (death_is kind o v.list v.who s (entry_of_view v) entry) ∙ is)).0
+pub dying_holds : (kind : Kind) (o : Owner) (v : View) (s k : ℕ) → entry_of v.list v.who ≡ Some (entry_of_view v)
+    → must_die kind o v.list v.who s ≡ Some k → IsHolding (entry_of_view v)
+dying_holds kind o v s k entry is = (death_why kind o v.list s (entry_of_view v) k
+    (sym (death_is kind o v.list v.who s (entry_of_view v) entry) ∙ is)).0
 
 pub owns_one : (v : View) → IsHolding (entry_of_view v) → (j : ℕ) × (owns v j ≡ true)
 owns_one v h = let f = below_found (length v.owned) (owns v) h.1 in (f.0, f.2)
@@ -110,8 +137,12 @@ owns_one v h = let f = below_found (length v.owned) (owns v) h.1 in (f.0, f.2)
 pub owner_holds : (v : View) → 0 < v.stamp → (j : ℕ) → owns v j ≡ true → IsHolding (entry_of_view v)
 owner_holds v pos j own = (pos, found_below (length v.owned) (owns v) j (owned_low v.owned j own) own)
 
-pub wounded_dies : (kind : Kind) (o : Owner) (v : View) (k : ℕ) → kind ≡ WoundWait → Once v.list → entry_of v.list v.who ≡ Some (entry_of_view v) → IsHolding (entry_of_view v) → 0 < k → must_die kind o v.list v.who k ≡ Some k
-wounded_dies WoundWait o v k is once entry holding pos = (wound_wait_condemns o v.list (entry_of_view v) k k once (entry_why v.list v.who (entry_of_view v) entry).0).1 (holding, pos, refl)
+pub wounded_dies : (kind : Kind) (o : Owner) (v : View) (k : ℕ) → kind ≡ WoundWait → Once v.list
+    → entry_of v.list v.who ≡ Some (entry_of_view v) → IsHolding (entry_of_view v) → 0 < k
+    → must_die kind o v.list v.who k ≡ Some k
+wounded_dies WoundWait o v k is once entry holding pos =
+    (wound_wait_condemns o v.list (entry_of_view v) k k once (entry_why v.list v.who (entry_of_view v) entry).0).1
+    (holding, pos, refl)
 wounded_dies WaitDie o v k is once entry holding pos = absurd cc
 
 pub if_some : (o : Option ℕ) (P : ℕ → Type 0) → ((k : ℕ) → o ≡ Some k → P k) → IfSome o P
@@ -127,30 +158,52 @@ some_none o x a b = cc
 
 -- in Wait-Die it has to die, or doesn't, by the list alone
 pub told_read : (size n : ℕ) (m m1 : Sat) → IsOrderly size m → HasListOnTop m n m1 → IsTold size m m1
-told_read size n m m1 o top = let t = touched_read size n m m1 o top in record { orderly = t.orderly; sign = m.0.part.core.sign; fresh = m.0.part.core.fresh; wants = λ w. w; view = ap (λ (z : Sat). z.0) top.now }
+told_read size n m m1 o top = let t = touched_read size n m m1 o top in
+    record {
+      orderly = t.orderly;
+      sign = m.0.part.core.sign;
+      fresh = m.0.part.core.fresh;
+      wants = λ w. w;
+      view = ap (λ (z : Sat). z.0) top.now;
+    }
 
-pub dies_waiting : (n : ℕ) (l : Bool) (m m1 : Sat) (o : Owner) (who k : ℕ) → IsWorking n true l m.0.part.core → SeesOther o m.0.part.core → HasListOnTop m n m1 → (kind : Kind) → kind ≡ m.0.part.core.kind → kind ≡ WaitDie
+pub dies_waiting : (n : ℕ) (l : Bool) (m m1 : Sat) (o : Owner) (who k : ℕ) → IsWorking n true l m.0.part.core
+    → SeesOther o m.0.part.core → HasListOnTop m n m1 → (kind : Kind) → kind ≡ m.0.part.core.kind → kind ≡ WaitDie
     → m.0.part.core.who ≡ who → must_die kind o m.0.part.core.list who 0 ≡ Some k → m.0.part.core.heeded ≡ 0 → MayDie m1.0.part.core n o k
-dies_waiting n l m m1 o who k w sees top kind same is at dies unheeded = subst (λ (z : Sat). MayDie z.0.part.core n o k) (sym top.now) (record {
-  inside = w.inside;
-  waits = w.place.0;
-  other = sees.other;
-  why = (0, inl (sym same ∙ is), subst (λ (x : Kind). must_die x o m.0.part.core.list m.0.part.core.who 0 ≡ Some k) same (subst (λ (x : ℕ). must_die kind o m.0.part.core.list x 0 ≡ Some k) (sym at) dies));
-  unheeded = unheeded;
-})
+dies_waiting n l m m1 o who k w sees top kind same is at dies unheeded =
+    subst (λ (z : Sat). MayDie z.0.part.core n o k) (sym top.now) (record {
+      inside = w.inside;
+      waits = w.place.0;
+      other = sees.other;
+      why = (
+        0,
+        inl (sym same ∙ is),
+        subst (λ (x : Kind). must_die x o m.0.part.core.list m.0.part.core.who 0 ≡ Some k)
+            same (subst (λ (x : ℕ). must_die kind o m.0.part.core.list x 0 ≡ Some k) (sym at) dies),
+      );
+      unheeded = unheeded;
+    })
 
-pub stays_waiting : (n : ℕ) (m m1 : Sat) (o : Owner) (who : ℕ) → HasListOnTop m n m1 → (kind : Kind) → kind ≡ m.0.part.core.kind → kind ≡ WaitDie
+pub stays_waiting : (n : ℕ) (m m1 : Sat) (o : Owner) (who : ℕ) → HasListOnTop m n m1 → (kind : Kind)
+    → kind ≡ m.0.part.core.kind → kind ≡ WaitDie
     → m.0.part.core.who ≡ who → must_die kind o m.0.part.core.list who 0 ≡ None → MayStay o m1.0.part.core
 stays_waiting n m m1 o who top kind same is at lives = subst (λ (z : Sat). MayStay o z.0.part.core) (sym top.now) (record {
   looked = λ wound. absurd (let e : WaitDie ≡ WoundWait = sym is ∙ same ∙ wound in cc);
-  lives = λ _. subst (λ (x : Kind). must_die x o m.0.part.core.list m.0.part.core.who 0 ≡ None) same (subst (λ (x : ℕ). must_die kind o m.0.part.core.list x 0 ≡ None) (sym at) lives);
+  lives = λ _. subst (λ (x : Kind). must_die x o m.0.part.core.list m.0.part.core.who 0 ≡ None) same
+      (subst (λ (x : ℕ). must_die kind o m.0.part.core.list x 0 ≡ None) (sym at) lives);
 })
 
 -- in Wound-Wait a sign would make it die, or wouldn't
-pub holds_by : (size n : ℕ) (l : Bool) (m : Sat) (o : Owner) (who k : ℕ) → IsWorking n true l m.0.part.core → (kind : Kind) → m.0.part.core.who ≡ who → must_die kind o m.0.part.core.list who 1 ≡ Some k → IsHolding (entry_of_view m.0.part.core)
-holds_by size n l m o who k w kind at dies = dying_holds kind o m.0.part.core 1 k w.place.1 (subst (λ (x : ℕ). must_die kind o m.0.part.core.list x 1 ≡ Some k) (sym at) dies)
+pub holds_by : (size n : ℕ) (l : Bool) (m : Sat) (o : Owner) (who k : ℕ) → IsWorking n true l m.0.part.core
+    → (kind : Kind) → m.0.part.core.who ≡ who → must_die kind o m.0.part.core.list who 1 ≡ Some k
+    → IsHolding (entry_of_view m.0.part.core)
+holds_by size n l m o who k w kind at dies =
+    dying_holds kind o m.0.part.core 1 k w.place.1
+    (subst (λ (x : ℕ). must_die kind o m.0.part.core.list x 1 ≡ Some k) (sym at) dies)
 
-pub stays_unsigned : (size n : ℕ) (l : Bool) (m m1 : Sat) (o : Owner) (who : ℕ) → IsOrderly size m → IsWorking n true l m.0.part.core → HasListOnTop m n m1 → (kind : Kind) → kind ≡ m.0.part.core.kind → kind ≡ WoundWait
+pub stays_unsigned : (size n : ℕ) (l : Bool) (m m1 : Sat) (o : Owner) (who : ℕ) → IsOrderly size m
+    → IsWorking n true l m.0.part.core → HasListOnTop m n m1 → (kind : Kind) → kind ≡ m.0.part.core.kind
+    → kind ≡ WoundWait
     → m.0.part.core.who ≡ who → must_die kind o m.0.part.core.list who 1 ≡ None → MayStay o m1.0.part.core
 stays_unsigned size n l m m1 o who ord w top kind same is at lives = subst (λ (z : Sat). MayStay o z.0.part.core) (sym top.now) (record {
   looked = λ _ pos has. absurd (some_none (must_die kind o m.0.part.core.list m.0.part.core.who 1) 1
@@ -161,10 +214,12 @@ stays_unsigned size n l m m1 o who ord w top kind same is at lives = subst (λ (
 
 -- it holds locks in Wound-Wait, so others may sign it
 pub not_quiet : (v : View) → v.kind ≡ WoundWait → (j : ℕ) × (owns v j ≡ true) → ¬ IsQuiet v
-not_quiet v kind has quiet = ⊎_elim (λ bare. true≢false (sym has.1 ∙ bare has.0)) (λ d. absurd (let e : WoundWait ≡ WaitDie = sym kind ∙ d.0 in cc)) quiet
+not_quiet v kind has quiet = ⊎_elim (λ bare. true≢false (sym has.1 ∙ bare has.0))
+    (λ d. absurd (let e : WoundWait ≡ WaitDie = sym kind ∙ d.0 in cc)) quiet
 
 -- it found no sign
-pub told_none : (size n : ℕ) (m m1 m2 : Sat) → IsOrderly size m → HasListOnTop m n m1 → IsHolding (entry_of_view m.0.part.core) → m2 ≡ (finding_none m1.0, m1.1) → IsTold size m m2
+pub told_none : (size n : ℕ) (m m1 m2 : Sat) → IsOrderly size m → HasListOnTop m n m1
+    → IsHolding (entry_of_view m.0.part.core) → m2 ≡ (finding_none m1.0, m1.1) → IsTold size m m2
 told_none size n m m1 m2 o top holding is = record {
   orderly = orderly_knowing size m1 m2 (finding_none m1.0).part.core (touched_read size n m m1 o top).orderly is refl refl refl refl;
   sign = None;
@@ -173,14 +228,17 @@ told_none size n m m1 m2 o top holding is = record {
   view = ap (λ (z : Sat). z.0) is ∙ ap (λ (z : Sat). finding_none z.0) top.now;
 }
 
-pub stays_none : (n : ℕ) (m m1 m2 : Sat) (o : Owner) → HasListOnTop m n m1 → m.0.part.core.kind ≡ WoundWait → m2 ≡ (finding_none m1.0, m1.1) → MayStay o m2.0.part.core
-stays_none n m m1 m2 o top kind is = subst (λ (z : Sight). MayStay o z.part.core) (sym (ap (λ (z : Sat). z.0) is ∙ ap (λ (z : Sat). finding_none z.0) top.now)) (record {
-  looked = λ _ _ _. refl;
-  lives = λ d. absurd (let e : WoundWait ≡ WaitDie = sym kind ∙ d in cc);
-})
+pub stays_none : (n : ℕ) (m m1 m2 : Sat) (o : Owner) → HasListOnTop m n m1 → m.0.part.core.kind ≡ WoundWait
+    → m2 ≡ (finding_none m1.0, m1.1) → MayStay o m2.0.part.core
+stays_none n m m1 m2 o top kind is = subst (λ (z : Sight). MayStay o z.part.core)
+    (sym (ap (λ (z : Sat). z.0) is ∙ ap (λ (z : Sat). finding_none z.0) top.now)) (record {
+      looked = λ _ _ _. refl;
+      lives = λ d. absurd (let e : WoundWait ≡ WaitDie = sym kind ∙ d in cc);
+    })
 
 -- it found a sign
-pub told_signed : (size n k : ℕ) (m m1 m2 : Sat) → IsOrderly size m → HasListOnTop m n m1 → IsHolding (entry_of_view m.0.part.core) → m2 ≡ (reading m1.0 k, m1.1) → IsTold size m m2
+pub told_signed : (size n k : ℕ) (m m1 m2 : Sat) → IsOrderly size m → HasListOnTop m n m1
+    → IsHolding (entry_of_view m.0.part.core) → m2 ≡ (reading m1.0 k, m1.1) → IsTold size m m2
 told_signed size n k m m1 m2 o top holding is = record {
   orderly = orderly_knowing size m1 m2 (reading m1.0 k).part.core (touched_read size n m m1 o top).orderly is refl refl refl refl;
   sign = Some k;
@@ -189,17 +247,22 @@ told_signed size n k m m1 m2 o top holding is = record {
   view = ap (λ (z : Sat). z.0) is ∙ ap (λ (z : Sat). reading z.0 k) top.now;
 }
 
-pub dies_signed : (n k : ℕ) (l : Bool) (m m1 m2 : Sat) (o : Owner) → IsWorking n true l m.0.part.core → SeesOther o m.0.part.core → HasListOnTop m n m1 → m.0.part.core.kind ≡ WoundWait → IsHolding (entry_of_view m.0.part.core) → k ≢ 0
+pub dies_signed : (n k : ℕ) (l : Bool) (m m1 m2 : Sat) (o : Owner) → IsWorking n true l m.0.part.core
+    → SeesOther o m.0.part.core → HasListOnTop m n m1 → m.0.part.core.kind ≡ WoundWait
+    → IsHolding (entry_of_view m.0.part.core) → k ≢ 0
     → m2 ≡ (reading m1.0 k, m1.1) → m.0.part.core.heeded ≡ 0 → MayDie m2.0.part.core n o k
-dies_signed n k l m m1 m2 o w sees top kind holding isnt is unheeded = subst (λ (z : Sight). MayDie z.part.core n o k) (sym (ap (λ (z : Sat). z.0) is ∙ ap (λ (z : Sat). reading z.0 k) top.now)) (record {
-  inside = w.inside;
-  waits = w.place.0;
-  other = sees.other;
-  why = (k, inr refl, wounded_dies m.0.part.core.kind o m.0.part.core k kind w.once w.place.1 holding (omega arith));
-  unheeded = unheeded;
-})
+dies_signed n k l m m1 m2 o w sees top kind holding isnt is unheeded =
+    subst (λ (z : Sight). MayDie z.part.core n o k)
+    (sym (ap (λ (z : Sat). z.0) is ∙ ap (λ (z : Sat). reading z.0 k) top.now)) (record {
+      inside = w.inside;
+      waits = w.place.0;
+      other = sees.other;
+      why = (k, inr refl, wounded_dies m.0.part.core.kind o m.0.part.core k kind w.once w.place.1 holding (omega arith));
+      unheeded = unheeded;
+    })
 
-pub still_loud : (n : ℕ) (m m1 : Sat) → HasListOnTop m n m1 → m.0.part.core.kind ≡ WoundWait → (j : ℕ) × (owns m.0.part.core j ≡ true) → ¬ IsQuiet m1.0.part.core
+pub still_loud : (n : ℕ) (m m1 : Sat) → HasListOnTop m n m1 → m.0.part.core.kind ≡ WoundWait → (j : ℕ)
+    × (owns m.0.part.core j ≡ true) → ¬ IsQuiet m1.0.part.core
 still_loud n m m1 top kind has = subst (λ (z : Sat). ¬ IsQuiet z.0.part.core) (sym top.now) (not_quiet m.0.part.core kind has)
 
 -- ---- the signs, one after another
@@ -207,8 +270,11 @@ still_loud n m m1 top kind has = subst (λ (z : Sat). ¬ IsQuiet z.0.part.core) 
 take_more : {A : Type 0} (xs : List A) (i : ℕ) (d y : A) → i < length xs → Has (take (i + 1) xs) y → Has (take i xs) y ⊎ (y ≡ get_or xs i d)
 take_more xs i d y low h = let e : i + 1 ≡ suc i = omega arith in take_has xs i d y low (subst (λ (j : ℕ). Has (take j xs) y) e h)
 
-pub noted_step : (size i : ℕ) (items : List (ℕ × ℕ)) (m m1 m2 : Sat) (won : Bool) → i < length items → HasNoted size (take i items) m m1 → m2 ≡ (noted_by won m1.0 (get_or items i (0, 0)).0, m1.1) → HasNoted size (take (i + 1) items) m m2
-noted_step size i items m m1 m2 won low h is = noted_more size (take i items) (take (i + 1) items) m m1 m2 won (get_or items i (0, 0)).0 h is
+pub noted_step : (size i : ℕ) (items : List (ℕ × ℕ)) (m m1 m2 : Sat) (won : Bool) → i < length items
+    → HasNoted size (take i items) m m1 → m2 ≡ (noted_by won m1.0 (get_or items i (0, 0)).0, m1.1)
+    → HasNoted size (take (i + 1) items) m m2
+noted_step size i items m m1 m2 won low h is =
+    noted_more size (take i items) (take (i + 1) items) m m1 m2 won (get_or items i (0, 0)).0 h is
     (λ v k has. ⊎_elim (λ old. inl old) (λ e. inr (ap (λ (p : ℕ × ℕ). p.0) e)) (take_more items i (0, 0) (v, k) low has))
 
 has_taken : {A : Type 0} (xs : List A) (i : ℕ) (y : A) → length xs ≤ i → Has xs y → Has (take i xs) y
@@ -216,10 +282,12 @@ has_taken [] i y all h = absurd h
 has_taken (x ∷ xs) zero y all h = absurd (omega arith)
 has_taken (x ∷ xs) (suc i) y all h = ⊎_elim (λ e. inl e) (λ z. inr (has_taken xs i y (omega arith) z)) h
 
-pub owed_is : (items owed : List (ℕ × ℕ)) (kind kind2 : Kind) (o : Owner) (q : List Entry) (who who2 : ℕ) → items ≡ owed → owed ≡ owed_signs kind o q who → kind ≡ kind2 → who2 ≡ who → items ≡ owed_signs kind2 o q who2
+pub owed_is : (items owed : List (ℕ × ℕ)) (kind kind2 : Kind) (o : Owner) (q : List Entry) (who who2 : ℕ)
+    → items ≡ owed → owed ≡ owed_signs kind o q who → kind ≡ kind2 → who2 ≡ who → items ≡ owed_signs kind2 o q who2
 owed_is items owed kind kind2 o q who who2 a b c d = a ∙ b ∙ ap (λ (x : Kind). owed_signs x o q who) c ∙ ap (owed_signs kind2 o q) (sym d)
 
-pub noted_all : (size i : ℕ) (items owed : List (ℕ × ℕ)) (m m1 : Sat) → length items ≤ i → items ≡ owed → HasNoted size (take i items) m m1 → HasNoted size owed m m1
+pub noted_all : (size i : ℕ) (items owed : List (ℕ × ℕ)) (m m1 : Sat) → length items ≤ i → items ≡ owed
+    → HasNoted size (take i items) m m1 → HasNoted size owed m m1
 noted_all size i items owed m m1 all is h = record {
   orderly = h.orderly;
   signed = h.signed;
@@ -229,5 +297,6 @@ noted_all size i items owed m m1 all is h = record {
   all = λ u k has. h.all u k (has_taken items i (u, k) all (subst (λ (l : List (ℕ × ℕ)). Has l (u, k)) (sym is) has));
 }
 
-pub owed_at : (items owed : List (ℕ × ℕ)) (i : ℕ) → i < length items → items ≡ owed → Has owed ((get_or items i (0, 0)).0, (get_or items i (0, 0)).1)
+pub owed_at : (items owed : List (ℕ × ℕ)) (i : ℕ) → i < length items → items ≡ owed
+    → Has owed ((get_or items i (0, 0)).0, (get_or items i (0, 0)).1)
 owed_at items owed i low is = subst (λ (l : List (ℕ × ℕ)). Has l (get_or items i (0, 0))) is (has_at items i (0, 0) low)

@@ -81,7 +81,8 @@ apart_split (x ∷ xs) back apart = let more = apart_split xs back apart.1 in le
 apart_join : (front back : List (ℕ × Cell)) → AreApart front → AreApart back → Differ front back → AreApart (front ++ back)
 apart_join [] back one two differ = two
 apart_join (x ∷ xs) back one two differ = (
-  past_none xs back x.0 one.0 ∙ ⊎_elim (λ e. absurd (not_both (slot_of (x ∷ xs) x.0) x.1 e (first_here x xs x.0 refl))) (λ e. e) (differ x.0),
+  past_none xs back x.0 one.0 ∙ ⊎_elim (λ e. absurd
+      (not_both (slot_of (x ∷ xs) x.0) x.1 e (first_here x xs x.0 refl))) (λ e. e) (differ x.0),
   apart_join xs back one.1 two (λ n. dite (ℕ_discrete x.0 n)
       (λ is. inl (ap (slot_of xs) (sym is) ∙ one.0))
       (λ isnt. ⊎_elim (λ e. inl (sym (first_else x xs n isnt) ∙ e)) (λ e. inr e) (differ n))),
@@ -101,7 +102,8 @@ turned front back differ n = ⊎_elim
 
 -- ---- one slot taken out
 
-module _ (slots : List (ℕ × Cell)) (n : ℕ) (y : Cell) (others : List (ℕ × Cell)) (apart : AreApart slots) (are : AreOthers slots n y others) where
+module _ (slots : List (ℕ × Cell)) (n : ℕ) (y : Cell) (others : List (ℕ × Cell)) (apart : AreApart slots)
+    (are : AreOthers slots n y others) where
   split : AreApart are.front × AreApart ((n, y) ∷ are.back) × Differ are.front ((n, y) ∷ are.back)
   split = apart_split are.front ((n, y) ∷ are.back) (subst AreApart are.parts apart)
 
@@ -115,7 +117,8 @@ module _ (slots : List (ℕ × Cell)) (n : ℕ) (y : Cell) (others : List (ℕ �
 
   -- it was out with this
   pub others_had : slot_of slots n ≡ Some y
-  others_had = ap (λ (l : List (ℕ × Cell)). slot_of l n) are.parts ∙ past_none are.front ((n, y) ∷ are.back) n front_none ∙ slot_here n y are.back
+  others_had = ap (λ (l : List (ℕ × Cell)). slot_of l n) are.parts
+      ∙ past_none are.front ((n, y) ∷ are.back) n front_none ∙ slot_here n y are.back
 
   -- it is out no more
   pub others_gone : slot_of others n ≡ None
@@ -131,7 +134,8 @@ module _ (slots : List (ℕ × Cell)) (n : ℕ) (y : Cell) (others : List (ℕ �
       ∙ ap (λ (l : List (ℕ × Cell)). slot_of l k) (sym are.parts)
 
   pub others_apart : AreApart others
-  others_apart = subst AreApart (sym are.rest) (apart_join are.back are.front split.1.1 split.0 (λ k. ⊎_elim (λ e. inr e) (λ e. inl e) (differ k)))
+  others_apart = subst AreApart (sym are.rest)
+      (apart_join are.back are.front split.1.1 split.0 (λ k. ⊎_elim (λ e. inr e) (λ e. inl e) (differ k)))
 
   -- put in front again, with whatever it has then
   pub front_apart : (z : Cell) → AreApart ((n, z) ∷ others)
@@ -147,15 +151,26 @@ module _ (slots : List (ℕ × Cell)) (n : ℕ) (y : Cell) (others : List (ℕ �
       (λ isnt. front_else y k isnt)
 
   pub others_long : length slots ≡ length others + 1
-  others_long = let p = ap (λ (l : List (ℕ × Cell)). length l) are.parts in let q = ap (λ (l : List (ℕ × Cell)). length l) are.rest in let f = length-append are.front ((n, y) ∷ are.back) in let g = length-append are.back are.front in omega arith
+  others_long = let p = ap (λ (l : List (ℕ × Cell)). length l) are.parts in
+      let q = ap (λ (l : List (ℕ × Cell)). length l) are.rest in
+      let f = length-append are.front ((n, y) ∷ are.back) in let g = length-append are.back are.front in omega arith
 
 -- a slot that is out can be taken out
-pub take_out : (slots : List (ℕ × Cell)) (n : ℕ) (y : Cell) → slot_of slots n ≡ Some y → (others : List (ℕ × Cell)) × AreOthers slots n y others
+pub take_out : (slots : List (ℕ × Cell)) (n : ℕ) (y : Cell) → slot_of slots n ≡ Some y → (others : List (ℕ × Cell))
+    × AreOthers slots n y others
 take_out [] n y is = absurd cc
 take_out (x ∷ xs) n y is = dite (ℕ_discrete x.0 n)
-    (λ e. let same : x.1 ≡ y = same_cell (slot_of (x ∷ xs) n) x.1 y (first_here x xs n e) is in (xs ++ [], record { front = []; back = xs; parts = λ i. (e i, same i) ∷ xs; rest = refl }))
-    (λ isnt. let more = take_out xs n y (sym (first_else x xs n isnt) ∙ is) in
-    (more.1.back ++ x ∷ more.1.front, record { front = x ∷ more.1.front; back = more.1.back; parts = ap (λ l. x ∷ l) more.1.parts; rest = refl }))
+    (λ e. let same : x.1 ≡ y = same_cell (slot_of (x ∷ xs) n) x.1 y (first_here x xs n e) is in
+    (xs ++ [], record { front = []; back = xs; parts = λ i. (e i, same i) ∷ xs; rest = refl }))
+    (λ isnt. let more = take_out xs n y (sym (first_else x xs n isnt) ∙ is) in (
+      more.1.back ++ x ∷ more.1.front,
+      record {
+        front = x ∷ more.1.front;
+        back = more.1.back;
+        parts = ap (λ l. x ∷ l) more.1.parts;
+        rest = refl;
+      },
+    ))
 
 -- ---- the only one of its number
 
@@ -187,13 +202,15 @@ not_among : (slots : List (ℕ × Cell)) (n : ℕ) → slot_of slots n ≡ None 
 not_among [] n none = refl
 not_among (x ∷ xs) n none = dite (ℕ_discrete x.0 n)
     (λ is. absurd (not_both (slot_of (x ∷ xs) n) x.1 none (first_here x xs n is)))
-    (λ isnt. ap (λ (b : Bool). b || list_any (λ m. eqb m n) (numbers xs)) (ne_eqb x.0 n isnt) ∙ not_among xs n (sym (first_else x xs n isnt) ∙ none))
+    (λ isnt. ap (λ (b : Bool). b || list_any (λ m. eqb m n) (numbers xs)) (ne_eqb x.0 n isnt)
+    ∙ not_among xs n (sym (first_else x xs n isnt) ∙ none))
 
 different : (slots : List (ℕ × Cell)) → AreApart slots → AreDifferent (numbers slots)
 different [] apart = different_none
 different (x ∷ xs) apart = different_cons x.0 (numbers xs) (not_among xs x.0 apart.0) (different xs apart.1)
 
-below_each : (bound : ℕ) (slots : List (ℕ × Cell)) → AreApart slots → ((n : ℕ) → bound ≤ n → slot_of slots n ≡ None) → AllByRecursion (λ n. n < bound) (numbers slots)
+below_each : (bound : ℕ) (slots : List (ℕ × Cell)) → AreApart slots → ((n : ℕ) → bound ≤ n → slot_of slots n ≡ None)
+    → AllByRecursion (λ n. n < bound) (numbers slots)
 below_each bound [] apart low = tt
 below_each bound (x ∷ xs) apart low = (
   ⊎_elim (λ z. z) (λ z. absurd (not_both (slot_of (x ∷ xs) x.0) x.1 (low x.0 z) (first_here x xs x.0 refl))) (lt_or_le x.0 bound),
@@ -203,19 +220,31 @@ below_each bound (x ∷ xs) apart low = (
 )
 
 -- slots below a bound are at most as many as that
-pub few_slots : (bound : ℕ) (slots : List (ℕ × Cell)) → AreApart slots → ((n : ℕ) → bound ≤ n → slot_of slots n ≡ None) → length slots ≤ bound
-few_slots bound slots apart low = let f = few_different bound (numbers slots) (different slots apart) (below_each bound slots apart low) in let l = length-map slots (λ (x : ℕ × Cell). x.0) in omega arith
+pub few_slots : (bound : ℕ) (slots : List (ℕ × Cell)) → AreApart slots
+    → ((n : ℕ) → bound ≤ n → slot_of slots n ≡ None) → length slots ≤ bound
+few_slots bound slots apart low = let f =
+    few_different bound (numbers slots) (different slots apart) (below_each bound slots apart low) in
+    let l = length-map slots (λ (x : ℕ × Cell). x.0) in omega arith
 
 -- and fewer where one of them is not out
-pub fewer_slots : (bound : ℕ) (slots : List (ℕ × Cell)) (k : ℕ) → AreApart slots → ((n : ℕ) → bound ≤ n → slot_of slots n ≡ None) → k < bound → slot_of slots k ≡ None → length slots < bound
-fewer_slots bound slots k apart low small none = let f = few_slots bound ((k, Line []) ∷ slots) (none, apart) (λ n high. slot_else k (Line []) slots n (λ e. absurd (omega arith)) ∙ low n high) in omega arith
+pub fewer_slots : (bound : ℕ) (slots : List (ℕ × Cell)) (k : ℕ) → AreApart slots
+    → ((n : ℕ) → bound ≤ n → slot_of slots n ≡ None) → k < bound → slot_of slots k ≡ None → length slots < bound
+fewer_slots bound slots k apart low small none = let f =
+    few_slots bound ((k, Line []) ∷ slots) (none, apart)
+    (λ n high. slot_else k (Line []) slots n (λ e. absurd (omega arith)) ∙ low n high) in omega arith
 
-low_without : (bound : ℕ) (slots : List (ℕ × Cell)) (l : ℕ) (y : Cell) (others : List (ℕ × Cell)) → AreApart slots → AreOthers slots l y others → ((n : ℕ) → bound ≤ n → n ≢ l → slot_of slots n ≡ None) → (n : ℕ) → bound ≤ n → slot_of others n ≡ None
+low_without : (bound : ℕ) (slots : List (ℕ × Cell)) (l : ℕ) (y : Cell) (others : List (ℕ × Cell)) → AreApart slots
+    → AreOthers slots l y others → ((n : ℕ) → bound ≤ n → n ≢ l → slot_of slots n ≡ None) → (n : ℕ) → bound ≤ n
+    → slot_of others n ≡ None
 low_without bound slots l y others apart are low n high = dite (ℕ_discrete n l)
     (λ is. ap (slot_of others) is ∙ others_gone slots l y others apart are)
     (λ isnt. others_else slots l y others apart are n isnt ∙ low n high isnt)
 
-pub fewer_beside : (bound : ℕ) (slots : List (ℕ × Cell)) (l : ℕ) (y : Cell) (k : ℕ) → AreApart slots → slot_of slots l ≡ Some y → bound ≤ l → ((n : ℕ) → bound ≤ n → n ≢ l → slot_of slots n ≡ None) → k < bound → slot_of slots k ≡ None → length slots < bound + 1
+pub fewer_beside : (bound : ℕ) (slots : List (ℕ × Cell)) (l : ℕ) (y : Cell) (k : ℕ) → AreApart slots
+    → slot_of slots l ≡ Some y → bound ≤ l → ((n : ℕ) → bound ≤ n → n ≢ l → slot_of slots n ≡ None) → k < bound
+    → slot_of slots k ≡ None → length slots < bound + 1
 fewer_beside bound slots l y k apart out high low small none = let t = take_out slots l y out in
-    let f = fewer_slots bound t.0 k (others_apart slots l y t.0 apart t.1) (low_without bound slots l y t.0 apart t.1 low) small (others_else slots l y t.0 apart t.1 k (λ e. absurd (omega arith)) ∙ none) in
+    let f = fewer_slots bound t.0 k (others_apart slots l y t.0 apart t.1)
+    (low_without bound slots l y t.0 apart t.1 low) small
+    (others_else slots l y t.0 apart t.1 k (λ e. absurd (omega arith)) ∙ none) in
     let g = others_long slots l y t.0 apart t.1 in omega arith

@@ -11,7 +11,9 @@ use Rattle.ww_rule.proofs.Seats.{bare_first}
 use Rattle.ww_table.specs.Seat.{IsNew}
 use Rattle.ww_seat.specs.Orderly.{IsOrderly, IsSettled}
 
-new_orderly : (key : Start) (k : ℕ) → length (first_graph key) ≤ 64 → length (first_graph key) ≤ key.locks → IsOrderly (length (first_graph key)) (seat_of (length (first_graph key)) (first_part key.kind key.locks k), [])
+new_orderly : (key : Start) (k : ℕ) → length (first_graph key) ≤ 64 → length (first_graph key) ≤ key.locks
+    → IsOrderly (length (first_graph key))
+    (seat_of (length (first_graph key)) (first_part key.kind key.locks k), [])
 new_orderly key k few fits = record {
   few = few;
   owned = omega (arith, fits, length-replicate key.locks false);
@@ -25,7 +27,8 @@ new_orderly key k few fits = record {
 }
 
 -- a seat that was made just now is settled
-pub new_settled : (t : TableId) (key : Start) (k : ℕ) (q : Seat16) → IsNew t key k q → length (first_graph key) ≤ 64 → length (first_graph key) ≤ key.locks → IsSettled t (length (first_graph key)) q
+pub new_settled : (t : TableId) (key : Start) (k : ℕ) (q : Seat16) → IsNew t key k q → length (first_graph key) ≤ 64
+    → length (first_graph key) ≤ key.locks → IsSettled t (length (first_graph key)) q
 new_settled t key k q new few fits = record {
   seated = new.seated;
   orderly = subst (IsOrderly (length (first_graph key))) (sym new.me) (new_orderly key k few fits);

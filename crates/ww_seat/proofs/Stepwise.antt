@@ -1,4 +1,4 @@
--- A turn that found another inside, or that went inside.
+-- A step that found another inside, or that went inside.
 use Rattle.std.proofs.Common.{◌≡◌, ℕ, ◌+◌, ◌==◌, not, ◌∷◌, List, refl, sym, ap, subst}
 use Rattle.ww_queue.specs.declared.entry.Entry.{Entry}
 use Rattle.ww_view.specs.View.{IsAway}
@@ -6,7 +6,7 @@ use Rattle.ww_rule.specs.declared.cells.Cell.TheVariants.{Line}
 use Rattle.ww_rule.specs.Rule.{Sat}
 use Rattle.ww_rule.specs.Guards.{AreSeats, StandsAs, shutting_out, entering}
 use Rattle.ww_seat.specs.Orderly.{IsOrderly}
-use Rattle.ww_seat.specs.Guards.{IsStill}
+use Rattle.ww_seat.specs.Calls.{HoldsAsBefore}
 use Rattle.ww_seat.specs.Looks.{IsOutside}
 use Rattle.ww_seat.specs.Work.{IsAtWork}
 use Rattle.ww_seat.proofs.Gives.{still_entered}
@@ -32,16 +32,20 @@ outside_shut size n m m' o is = subst (IsOutside size n) (sym is) (record {
   place = o.place;
 })
 
-pub still_shut : (m m' : Sat) → m' ≡ (shutting_out m.0, m.1) → IsStill m m'
-still_shut m m' is = subst (IsStill m) (sym is) (record { holds = record { same = record { kind = refl; who = refl; stamp = refl; own = refl; counts = refl; stopped = refl; pendings = refl }; owned = refl; locks = refl; held = refl; takes = refl; deaths = refl }; tries = refl })
+pub still_shut : (m m' : Sat) → m' ≡ (shutting_out m.0, m.1) → HoldsAsBefore m m'
+still_shut m m' is = subst (HoldsAsBefore m) (sym is) refl
 
-pub has_entered : (m m' : Sat) (n : ℕ) (q : List Entry) → AreSeats q → StandsAs m.0.part.core n q → m' ≡ (entering m.0 n q, (64 + n, Line q) ∷ m.1) → HasEntered m n m'
+pub has_entered : (m m' : Sat) (n : ℕ) (q : List Entry) → AreSeats q → StandsAs m.0.part.core n q
+    → m' ≡ (entering m.0 n q, (64 + n, Line q) ∷ m.1) → HasEntered m n m'
 has_entered m m' n q seats stands is = record { list = q; seats = seats; stands = stands; view = ap (λ (x : Sat). x.0) is }
 
-pub now_at_work : (size n : ℕ) (m m' : Sat) (q : List Entry) → IsOutside size n m → AreSeats q → StandsAs m.0.part.core n q → m' ≡ (entering m.0 n q, (64 + n, Line q) ∷ m.1)
+pub now_at_work : (size n : ℕ) (m m' : Sat) (q : List Entry) → IsOutside size n m → AreSeats q
+    → StandsAs m.0.part.core n q → m' ≡ (entering m.0 n q, (64 + n, Line q) ∷ m.1)
     → IsAtWork size n m (not (m.0.part.core.waits == 0)) (not (m.0.part.core.waits == 0)) m'
 now_at_work size n m m' q out seats stands is =
     let e = has_entered m m' n q seats stands is in
     let s = still_entered m m' n e in
-    let w = work_inside size n (not (m.0.part.core.waits == 0)) m' (entered_inside size n m m' out e (entering_orderly size m m' n q out.orderly out.outside is)) (sym (entered_later n m m' e)) in
-    record { orderly = w.orderly; working = w.working; holds = s.holds; tries = s.tries }
+    let w = work_inside size n (not (m.0.part.core.waits == 0)) m'
+    (entered_inside size n m m' out e (entering_orderly size m m' n q out.orderly out.outside is))
+    (sym (entered_later n m m' e)) in
+    record { orderly = w.orderly; working = w.working; holds = s }

@@ -25,6 +25,7 @@ use Rattle.ww_rule.specs.Steps.{knowing}
 use Rattle.ww_rule.specs.Guards.{AreSeats, exiting}
 use Rattle.ww_rule.specs.Waiting.{HasListOnTop, joining, asking, dying}
 use Rattle.ww_seat.specs.Orderly.{IsOrderly}
+use Rattle.ww_seat.specs.Accounts.{account_of}
 use Rattle.ww_seat.specs.Calls.{HoldsAsBefore, HasToDie}
 use Rattle.ww_seat.specs.Looks.{MayWant, IsOutside, IsLook}
 use Rattle.ww_seat.specs.Work.{touched, told, IsTouched, IsTold, IsPlaced, IsWorking, IsAtWork, SeesOther, HasStood, HasAsked, HasSigned, MayGo, MayStay}
@@ -39,12 +40,24 @@ use Rattle.ww_seat.proofs.Signing.{dying_holds, owns_one}
 -- ---- it joins
 
 pub may_join : (n : ℕ) (l : Bool) (v : View) (o : Owner) → IsWorking n false l v → SeesOther o v → MayJoin v n o
-may_join n l v o w sees = record { inside = w.inside; not_waiting = w.place.0; base = w.want.base; signs = w.want.signs; other = sees.other }
+may_join n l v o w sees = record {
+  inside = w.inside;
+  not_waiting = w.place.0;
+  base = w.want.base;
+  signs = w.want.signs;
+  other = sees.other;
+}
 
 joined_seats : (q : List Entry) (e : Entry) → AreSeats q → e.seat < 16 → e.stamp < 2 ^ 56 → AreSeats (joined q e)
-joined_seats q e seats few small f h = ⊎_elim (λ is. (subst (λ (x : Entry). x.seat < 16) (sym is) few, subst (λ (x : Entry). x.stamp < 2 ^ 56) (sym is) small)) (λ old. seats f old) (joined_has q e f h)
+joined_seats q e seats few small f h =
+    ⊎_elim (λ is. (
+      subst (λ (x : Entry). x.seat < 16) (sym is) few,
+      subst (λ (x : Entry). x.stamp < 2 ^ 56) (sym is)
+          small,
+    )) (λ old. seats f old) (joined_has q e f h)
 
-working_queued : (n : ℕ) (l : Bool) (v : View) (o : Owner) → IsWorking n false l v → v.who < 16 → v.stamp < 2 ^ 56 → IsWorking n true l (queued v n o)
+working_queued : (n : ℕ) (l : Bool) (v : View) (o : Owner) → IsWorking n false l v → v.who < 16 → v.stamp < 2 ^ 56
+    → IsWorking n true l (queued v n o)
 working_queued n l v o w few small = let once = joined_once v.list (entry_of_view v) w.place.1 w.once in record {
   want = record { lacks = w.want.lacks; base = w.want.base; signs = w.want.signs };
   inside = w.inside;
@@ -55,28 +68,34 @@ working_queued n l v o w few small = let once = joined_once v.list (entry_of_vie
   behind = λ _. refl;
 }
 
-pub has_stood : (size n : ℕ) (m m1 : Sat) (o p : Owner) (stands : Bool) → IsOrderly size m → stands ≡ false → m.0.part.core.inside ≡ suc n → m.0.part.core.who < 16 → m.0.part.core.stamp < 2 ^ 56 → SeesOther o m.0.part.core
-    → (others : List (ℕ × Cell)) × AreOthers m.1 (64 + n) (Line m.0.part.core.list) others × (m1 ≡ (joining m.0 n o, (64 + n, Line (queued m.0.part.core n o).list) ∷ others))
+pub has_stood : (size n : ℕ) (m m1 : Sat) (o p : Owner) (stands : Bool) → IsOrderly size m → stands ≡ false
+    → m.0.part.core.inside ≡ suc n → m.0.part.core.who < 16 → m.0.part.core.stamp < 2 ^ 56
+    → SeesOther o m.0.part.core
+    → (others : List (ℕ × Cell)) × AreOthers m.1 (64 + n) (Line m.0.part.core.list) others
+    × (m1 ≡ (joining m.0 n o, (64 + n, Line (queued m.0.part.core n o).list) ∷ others))
     → p ≡ with_waiters o → IsValid p → HasStood size n stands o m p m1
 has_stood size n m m1 o p stands ord off inside few small sees got is valid = record {
   work = λ l w. subst (λ (z : Sat). IsAtWork size n m true l z) (sym got.2) (record {
     orderly = listed_orderly size m n (joining m.0 n o) got.0 ord inside got.1 refl refl refl refl;
     working = working_queued n l m.0.part.core o (subst (λ (b : Bool). IsWorking n b l m.0.part.core) off w) few small;
-    holds = record { same = record { kind = refl; who = refl; stamp = refl; own = refl; counts = refl; stopped = refl; pendings = refl }; owned = refl; locks = refl; held = refl; takes = refl; deaths = refl };
-    tries = refl;
+    holds = refl;
   });
-  sees = subst (λ (x : Owner). SeesOther x m1.0.part.core) (sym is) (subst (λ (z : Sat). SeesOther (with_waiters o) z.0.part.core) (sym got.2) (record { seen = refl; valid = subst IsValid is valid; other = sees.other }));
+  sees = subst (λ (x : Owner). SeesOther x m1.0.part.core) (sym is)
+      (subst (λ (z : Sat). SeesOther (with_waiters o) z.0.part.core) (sym got.2)
+      (record { seen = refl; valid = subst IsValid is valid; other = sees.other }));
   flags = λ on. absurd (true≢false (sym on ∙ off));
 }
 
-pub stood_already : (size n : ℕ) (m : Sat) (o : Owner) (stands : Bool) → IsOrderly size m → stands ≡ true → SeesOther o m.0.part.core → HasStood size n stands o m o m
+pub stood_already : (size n : ℕ) (m : Sat) (o : Owner) (stands : Bool) → IsOrderly size m → stands ≡ true
+    → SeesOther o m.0.part.core → HasStood size n stands o m o m
 stood_already size n m o stands ord on sees = record {
   work = λ l w. work_same size n true l m ord (subst (λ (b : Bool). IsWorking n b l m.0.part.core) on w);
   sees = sees;
   flags = λ _. refl;
 }
 
-pub work_stood : (size n : ℕ) (before : Sat) (stands again : Bool) (m m' : Sat) (o p : Owner) → IsAtWork size n before stands again m → HasStood size n stands o m p m' → IsAtWork size n before true again m'
+pub work_stood : (size n : ℕ) (before : Sat) (stands again : Bool) (m m' : Sat) (o p : Owner)
+    → IsAtWork size n before stands again m → HasStood size n stands o m p m' → IsAtWork size n before true again m'
 work_stood size n before stands again m m' o p w h = work_then size n before stands true again m m' w (h.work again w.working)
 
 -- ---- it asks
@@ -89,13 +108,19 @@ first_of : (q : List Entry) (e : Entry) → slice_get q 0 ≡ Some e → IsFirst
 first_of [] e is = absurd cc
 first_of (x ∷ xs) e is = let a : x ≡ e = cc in (x, xs, refl, ap (λ (z : Entry). z.seat) a)
 
-pub nothing_by_other : (n : ℕ) (m m1 : Sat) (o : Owner) (e : Entry) (who : ℕ) → SeesOther o m.0.part.core → HasListOnTop m n m1 → slice_get m.0.part.core.list 0 ≡ Some e → m.0.part.core.who ≡ who → e.seat ≢ who → NothingToAsk m1.0.part.core
-nothing_by_other n m m1 o e who sees top is at isnt = subst (λ (z : Sat). NothingToAsk z.0.part.core) (sym top.now) (o, sees.seen, inr (inr (λ first. isnt (first_is m.0.part.core.list e m.0.part.core.who is first ∙ at))))
+pub nothing_by_other : (n : ℕ) (m m1 : Sat) (o : Owner) (e : Entry) (who : ℕ) → SeesOther o m.0.part.core
+    → HasListOnTop m n m1 → slice_get m.0.part.core.list 0 ≡ Some e → m.0.part.core.who ≡ who → e.seat ≢ who
+    → NothingToAsk m1.0.part.core
+nothing_by_other n m m1 o e who sees top is at isnt =
+    subst (λ (z : Sat). NothingToAsk z.0.part.core) (sym top.now)
+    (o, sees.seen, inr (inr (λ first. isnt (first_is m.0.part.core.list e m.0.part.core.who is first ∙ at))))
 
 pub sees_read : (n : ℕ) (m m1 : Sat) (o : Owner) → SeesOther o m.0.part.core → HasListOnTop m n m1 → SeesOther o m1.0.part.core
 sees_read n m m1 o sees top = subst (λ (z : Sat). SeesOther o z.0.part.core) (sym top.now) sees
 
-pub may_ask : (n : ℕ) (m m1 : Sat) (o : Owner) (e : Entry) (who : ℕ) → IsWorking n true true m.0.part.core → SeesOther o m.0.part.core → HasListOnTop m n m1 → slice_get m.0.part.core.list 0 ≡ Some e → m.0.part.core.who ≡ who → e.seat ≡ who → o.flags ≡ 1 → MayAsk m1.0.part.core n o
+pub may_ask : (n : ℕ) (m m1 : Sat) (o : Owner) (e : Entry) (who : ℕ) → IsWorking n true true m.0.part.core
+    → SeesOther o m.0.part.core → HasListOnTop m n m1 → slice_get m.0.part.core.list 0 ≡ Some e
+    → m.0.part.core.who ≡ who → e.seat ≡ who → o.flags ≡ 1 → MayAsk m1.0.part.core n o
 may_ask n m m1 o e who w sees top is at same one = subst (λ (z : Sat). MayAsk z.0.part.core n o) (sym top.now) (record {
   inside = w.inside;
   later = w.later;
@@ -108,13 +133,20 @@ asked_seating : (o : Owner) (t : ℕ) → IsSeating o o.seat → o.seat ≡ Some
 asked_seating o t sits is = subst (IsSeating (asked_word o)) (sym is) (let z : IsSeating o (Some t) = subst (IsSeating o) is sits in z)
 
 pub asked_sees : (v : View) (o : Owner) → SeesOther o v → IsValid (asked_word o)
-asked_sees v o sees = record { seating = asked_seating o sees.other.0 sees.valid.seating sees.other.1; stamp = sees.valid.stamp; flags = inr (inr (inl refl)) }
+asked_sees v o sees = record {
+  seating = asked_seating o sees.other.0 sees.valid.seating sees.other.1;
+  stamp = sees.valid.stamp;
+  flags = inr (inr (inl refl));
+}
 
-pub has_asked : (n : ℕ) (m m1 m2 : Sat) (o : Owner) (again : Bool) → SeesOther o m.0.part.core → HasListOnTop m n m1 → m2 ≡ (asking m1.0 o, m1.1) → HasAsked (asked_word o) again m2.0.part.core
-has_asked n m m1 m2 o again sees top is = subst (λ (z : Sight). HasAsked (asked_word o) again z.part.core) (sym (ap (λ (z : Sat). z.0) is ∙ ap (λ (z : Sat). asking z.0 o) top.now)) (record {
-  sees = record { seen = refl; valid = asked_sees m.0.part.core o sees; other = sees.other };
-  asked = λ _. (asked_word o, refl, inl refl);
-})
+pub has_asked : (n : ℕ) (m m1 m2 : Sat) (o : Owner) (again : Bool) → SeesOther o m.0.part.core → HasListOnTop m n m1
+    → m2 ≡ (asking m1.0 o, m1.1) → HasAsked (asked_word o) again m2.0.part.core
+has_asked n m m1 m2 o again sees top is =
+    subst (λ (z : Sight). HasAsked (asked_word o) again z.part.core)
+    (sym (ap (λ (z : Sat). z.0) is ∙ ap (λ (z : Sat). asking z.0 o) top.now)) (record {
+      sees = record { seen = refl; valid = asked_sees m.0.part.core o sees; other = sees.other };
+      asked = λ _. (asked_word o, refl, inl refl);
+    })
 
 pub touched_asking : (size : ℕ) (m m1 : Sat) (o : Owner) → IsOrderly size m → m1 ≡ (asking m.0 o, m.1) → IsTouched size m m1
 touched_asking size m m1 o ord is = record {
@@ -128,11 +160,19 @@ touched_asking size m m1 o ord is = record {
 -- ---- it backs off
 
 pub dying_orderly : (size n : ℕ) (m m1 : Sat) (o : Owner) → IsOrderly size m → m.0.part.core.inside ≡ suc n
-    → (others : List (ℕ × Cell)) × AreOthers m.1 (64 + n) (Line m.0.part.core.list) others × (m1 ≡ (dying m.0 o, (64 + n, Line (died m.0.part.core o).list) ∷ others)) → IsOrderly size m1 × (m1.0 ≡ dying m.0 o)
-dying_orderly size n m m1 o ord inside got = (subst (IsOrderly size) (sym got.2) (listed_orderly size m n (dying m.0 o) got.0 ord inside got.1 refl refl refl refl), ap (λ (z : Sat). z.0) got.2)
+    → (others : List (ℕ × Cell)) × AreOthers m.1 (64 + n) (Line m.0.part.core.list) others
+    × (m1 ≡ (dying m.0 o, (64 + n, Line (died m.0.part.core o).list) ∷ others)) → IsOrderly size m1
+    × (m1.0 ≡ dying m.0 o)
+dying_orderly size n m m1 o ord inside got = (
+  subst (IsOrderly size) (sym got.2) (listed_orderly size m n (dying m.0 o) got.0 ord inside got.1 refl refl refl
+      refl),
+  ap (λ (z : Sat). z.0) got.2,
+)
 
 -- whoever left the wait list may go, whatever it notes of that
-pub gone_goes : (n : ℕ) (l : Bool) (v : View) (o : Owner) (deaths : ℕ) (met : Option Met) (heeded : ℕ) (stopped : List (ℕ × ℕ)) → IsWorking n true l v → MayGo n (record (died v o) { deaths = deaths; met = met; heeded = heeded; stopped = stopped })
+pub gone_goes : (n : ℕ) (l : Bool) (v : View) (o : Owner) (deaths : ℕ) (met : Option Met) (heeded : ℕ)
+    (stopped : List (ℕ × ℕ)) → IsWorking n true l v
+    → MayGo n (record (died v o) { deaths = deaths; met = met; heeded = heeded; stopped = stopped })
 gone_goes n l v o deaths met heeded stopped w = let q : List Entry = left v.list v.who in record {
   inside = w.inside;
   why = inl (refl, w.want.lacks);
@@ -143,32 +183,24 @@ gone_goes n l v o deaths met heeded stopped w = let q : List Entry = left v.list
 }
 
 pub died_goes : (n : ℕ) (l : Bool) (m m1 : Sat) (o : Owner) → IsWorking n true l m.0.part.core → m1.0 ≡ dying m.0 o → MayGo n m1.0.part.core
-died_goes n l m m1 o w is = let v : View = m.0.part.core in subst (λ (z : Sight). MayGo n z.part.core) (sym is) (gone_goes n l v o (v.deaths + 1) (died v o).met v.heeded v.stopped w)
+died_goes n l m m1 o w is = let v : View = m.0.part.core in
+    subst (λ (z : Sight). MayGo n z.part.core) (sym is)
+    (gone_goes n l v o (v.deaths + 1) (died v o).met v.heeded v.stopped w)
 
 -- in Wound-Wait the own sign stays known outside
-shown_outside : (kind : Kind) (sign : Option ℕ) (q : List Entry) (who : ℕ) (o : Owner) (k : ℕ) → IsShownBy kind sign q who o k → IsShownBy kind (once_outside kind sign) q who o k
+shown_outside : (kind : Kind) (sign : Option ℕ) (q : List Entry) (who : ℕ) (o : Owner) (k : ℕ)
+    → IsShownBy kind sign q who o k → IsShownBy kind (once_outside kind sign) q who o k
 shown_outside WoundWait sign q who o k s = s
 shown_outside WaitDie sign q who o k s = record { wounded = λ w. absurd (cc); older = s.older }
 
-pub look_died : (size n : ℕ) (l : Bool) (m m1 m2 : Sat) (o : Owner) (k : ℕ) → IsWorking n true l m.0.part.core → MayDie m.0.part.core n o k → k < m.0.part.core.stamp → m1.0 ≡ dying m.0 o → m2.0 ≡ exiting m1.0 → IsOrderly size m2
+pub look_died : (size n : ℕ) (l : Bool) (m m1 m2 : Sat) (o : Owner) (k : ℕ) → IsWorking n true l m.0.part.core
+    → MayDie m.0.part.core n o k → k < m.0.part.core.stamp → m1.0 ≡ dying m.0 o → m2.0 ≡ exiting m1.0
+    → IsOrderly size m2
     → IsLook size n m (Deadlk k) m2
 look_died size n l m m1 m2 o k w may older is out ord =
     let view : m2.0 ≡ exiting (dying m.0 o) = out ∙ ap exiting is in
     let met : HasToDie m n k m2 = record {
-      same = record {
-        kind = ap (λ (z : Sight). z.part.core.kind) view;
-        who = ap (λ (z : Sight). z.part.core.who) view;
-        stamp = ap (λ (z : Sight). z.part.core.stamp) view;
-        own = ap (λ (z : Sight). z.part.own) view;
-        counts = ap (λ (z : Sight). z.part.counts) view;
-        stopped = ap (λ (z : Sight). z.part.core.stopped) view;
-        pendings = ap (λ (z : Sight). z.part.core.pendings) view;
-      };
-      owned = ap (λ (z : Sight). z.part.core.owned) view;
-      locks = ap (λ (z : Sight). z.part.core.locks) view;
-      held = ap (λ (z : Sight). z.held) view;
-      takes = ap (λ (z : Sight). z.part.core.takes) view;
-      deaths = ap (λ (z : Sight). z.part.core.deaths) view;
+      now = ap (λ (z : Sight). account_of (z, m2.1)) view;
       one = owns_one m.0.part.core (dying_holds m.0.part.core.kind o m.0.part.core may.why.0 k w.place.1 may.why.2);
       context = death_is_of_context m.0.part.core.kind o m.0.part.core.list m.0.part.core.who may.why.0 k may.why.2;
       older = older;
@@ -177,36 +209,41 @@ look_died size n l m m1 m2 o k w may older is out ord =
         list = m.0.part.core.list;
         noted = ap (λ (z : Sight). z.part.core.met) view ∙ die_notes m.0.part.core n o k may;
         shown = subst (λ (z : Sight). IsShownBy z.part.core.kind z.part.core.sign m.0.part.core.list z.part.core.who o k) (sym view)
-            (shown_outside m.0.part.core.kind m.0.part.core.sign m.0.part.core.list m.0.part.core.who o k (die_shows m.0.part.core n o k may));
+            (shown_outside m.0.part.core.kind m.0.part.core.sign m.0.part.core.list m.0.part.core.who o k
+            (die_shows m.0.part.core n o k may));
       };
     } in (ord, (ap (λ (z : Sight). z.part.core.inside) view, ap (λ (z : Sight). z.part.core.waits) view), met)
-
-pub died_tries : (m m1 m2 : Sat) (o : Owner) → m1.0 ≡ dying m.0 o → m2.0 ≡ exiting m1.0 → m2.0.part.core.tries ≡ m.0.part.core.tries
-died_tries m m1 m2 o is out = ap (λ (z : Sight). z.part.core.tries) (out ∙ ap exiting is)
 
 -- ---- it stays
 
 wants_outside : (kind : Kind) (v : View) → v.kind ≡ kind → WantsSigns v → WantsSigns (exited v)
-wants_outside WoundWait v is wants = ⊎_elim (λ z. inl z) (λ r. ⊎_elim (λ z. inr (inl (ap (λ (x : Kind). once_outside x v.sign) is ∙ z))) (λ r2. inr (inr r2)) r) wants
+wants_outside WoundWait v is wants = ⊎_elim (λ z. inl z)
+    (λ r. ⊎_elim (λ z. inr (inl (ap (λ (x : Kind). once_outside x v.sign) is ∙ z))) (λ r2. inr (inr r2)) r) wants
 wants_outside WaitDie v is wants = inr (inr (inr is))
 
-pub stays_outside : (size n : ℕ) (l : Bool) (m m' : Sat) → IsWorking n true l m.0.part.core → m'.0 ≡ exiting m.0 → IsOrderly size m' → IsOutside size n m' × (m'.0.part.core.waits ≡ suc n) × HoldsAsBefore m m'
+pub stays_outside : (size n : ℕ) (l : Bool) (m m' : Sat) → IsWorking n true l m.0.part.core → m'.0 ≡ exiting m.0
+    → IsOrderly size m' → IsOutside size n m' × (m'.0.part.core.waits ≡ suc n) × HoldsAsBefore m m'
 stays_outside size n l m m' w out ord = let v : View = m.0.part.core in (
   record {
     orderly = ord;
-    want = subst (λ (z : Sight). MayWant n z.part.core) (sym out) (record { lacks = w.want.lacks; base = w.want.base; signs = wants_outside v.kind v refl w.want.signs });
+    want = subst (λ (z : Sight). MayWant n z.part.core) (sym out)
+        (record { lacks = w.want.lacks; base = w.want.base; signs = wants_outside v.kind v refl w.want.signs });
     outside = ap (λ (z : Sight). z.part.core.inside) out;
     place = inr (ap (λ (z : Sight). z.part.core.waits) out ∙ w.place.0);
   },
   ap (λ (z : Sight). z.part.core.waits) out ∙ w.place.0,
-  subst (λ (z : Sight). HoldsAsBefore m (z, m'.1)) (sym out) (record { same = record { kind = refl; who = refl; stamp = refl; own = refl; counts = refl; stopped = refl; pendings = refl }; owned = refl; locks = refl; held = refl; takes = refl; deaths = refl }),
+  subst (λ (z : Sight). HoldsAsBefore m (z, m'.1)) (sym out) refl,
 )
 
 -- who found nothing to ask for, signed all that it owes and doesn't have to die may go: m1 once it asked, m2 once it signed
-pub stays_goes : (size n : ℕ) (l : Bool) (m1 m2 m3 : Sat) (o : Owner) → IsWorking n true l m1.0.part.core → HasAsked o l m1.0.part.core → HasSigned size o m1 m2 → (t : IsTold size m2 m3) → MayStay o m3.0.part.core → MayGo n m3.0.part.core
+pub stays_goes : (size n : ℕ) (l : Bool) (m1 m2 m3 : Sat) (o : Owner) → IsWorking n true l m1.0.part.core
+    → HasAsked o l m1.0.part.core → HasSigned size o m1 m2 → (t : IsTold size m2 m3) → MayStay o m3.0.part.core
+    → MayGo n m3.0.part.core
 stays_goes size n l m1 m2 m3 o w asked h t stay =
-    let view : m3.0 ≡ knowing m1.0 (told (touched m1.0.part.core m1.0.part.core.seen h.signed h.condemned h.fresh) t.sign t.fresh) = t.view ∙ ap (λ (z : Sight). knowing z (told z.part.core t.sign t.fresh)) h.view in
-    let stay2 : MayStay o (told (touched m1.0.part.core m1.0.part.core.seen h.signed h.condemned h.fresh) t.sign t.fresh) = subst (λ (z : Sight). MayStay o z.part.core) view stay in
+    let view : m3.0 ≡ knowing m1.0 (told (touched m1.0.part.core m1.0.part.core.seen h.signed h.condemned h.fresh)
+    t.sign t.fresh) = t.view ∙ ap (λ (z : Sight). knowing z (told z.part.core t.sign t.fresh)) h.view in
+    let stay2 : MayStay o (told (touched m1.0.part.core m1.0.part.core.seen h.signed h.condemned h.fresh) t.sign
+    t.fresh) = subst (λ (z : Sight). MayStay o z.part.core) view stay in
     subst (λ (z : Sight). MayGo n z.part.core) (sym view) (record {
       inside = w.inside;
       why = inr (record { word = o; seen = asked.sees.seen; signed = h.all; other = inr asked.sees.other; lives = stay2.lives });
@@ -219,21 +256,22 @@ stays_goes size n l m1 m2 m3 o w asked h t stay =
 -- ---- a look goes on
 
 -- whoever looks again stands in a list that isn't empty
-pub flags_later : (n : ℕ) (stands again : Bool) (v : View) (o p : Owner) → IsWorking n stands again v → (v.list ≢ [] → o.flags ≢ 0) → (stands ≡ true → p ≡ o) → again ≡ true → p.flags ≢ 0
+pub flags_later : (n : ℕ) (stands again : Bool) (v : View) (o p : Owner) → IsWorking n stands again v
+    → (v.list ≢ [] → o.flags ≢ 0) → (stands ≡ true → p ≡ o) → again ≡ true → p.flags ≢ 0
 flags_later n stands again v o p w flags same later =
     let on = w.behind later in let place : IsPlaced true n v = subst (λ (b : Bool). IsPlaced b n v) on w.place in
-    let some : v.list ≢ [] = λ e. let none : entry_of v.list v.who ≡ None = ap (λ (q : List Entry). entry_of q v.who) e in let is = place.1 in absurd cc in
+    let some : v.list ≢ [] = λ e. let none : entry_of v.list v.who ≡ None =
+    ap (λ (q : List Entry). entry_of q v.who) e in let is = place.1 in absurd cc in
     subst (λ (x : Owner). x.flags ≢ 0) (sym (same on)) (flags some)
 
-pub look_later : (size n : ℕ) (before m m' : Sat) (o : Option Look) → HoldsAsBefore before m → IfSome o (λ look. IsLook size n m look m') → IfSome o (λ look. IsLook size n before look m')
+pub look_later : (size n : ℕ) (before m m' : Sat) (o : Option Look) → HoldsAsBefore before m
+    → IfSome o (λ look. IsLook size n m look m') → IfSome o (λ look. IsLook size n before look m')
 look_later size n before m m' None h l = tt
 look_later size n before m m' (Some k) h l = look_then size n before m m' k h l
 
-pub tries_later : (before m m' : Sat) (o : Option Look) → m.0.part.core.tries ≡ before.0.part.core.tries → IfSome o (λ _. m'.0.part.core.tries ≡ m.0.part.core.tries) → IfSome o (λ _. m'.0.part.core.tries ≡ before.0.part.core.tries)
-tries_later before m m' None same l = tt
-tries_later before m m' (Some k) same l = l ∙ same
-
-pub work_later : (size n : ℕ) (before : Sat) (stands again : Bool) (m m' : Sat) (o : Option Look) → IsAtWork size n before stands again m → IfNone o (IsAtWork size n m true again m') → IfNone o (IsAtWork size n before true again m')
+pub work_later : (size n : ℕ) (before : Sat) (stands again : Bool) (m m' : Sat) (o : Option Look)
+    → IsAtWork size n before stands again m → IfNone o (IsAtWork size n m true again m')
+    → IfNone o (IsAtWork size n before true again m')
 work_later size n before stands again m m' None w l = work_then size n before stands true again m m' w l
 work_later size n before stands again m m' (Some k) w l = tt
 

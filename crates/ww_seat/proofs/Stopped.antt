@@ -1,38 +1,47 @@
 -- A seat that heeds its cancel, and leaves the wait list for it.
-use Rattle.std.proofs.Common.{◌≡◌, ◌≢◌, ℕ, ◌+◌, Bool, true, false, List, ◌∷◌, refl, sym, ap, subst, Some, None}
+use Rattle.std.proofs.Common.{◌≡◌, ◌≢◌, ℕ, ◌+◌, Bool, true, false, List, ◌∷◌, refl, sym, ap, ◌∙◌, subst, Option, Some, None}
+use Rattle.std.specs.Prelude.{IfSome}
 use Rattle.ww_word.specs.declared.owner.Owner.{Owner}
+use Rattle.ww_view.specs.declared.view.View.{View}
 use Rattle.ww_view.specs.Made.{interrupted}
 use Rattle.ww_rule.specs.declared.cells.Cell.{Cell}
 use Rattle.ww_rule.specs.declared.cells.Cell.TheVariants.{Line}
 use Rattle.ww_rule.specs.declared.cells.Sight.{Sight}
 use Rattle.ww_rule.specs.Rule.{Sat}
 use Rattle.ww_rule.specs.Out.{AreOthers, slot_of}
-use Rattle.ww_rule.specs.Cancels.{heeding, stopping}
-use Rattle.ww_rule.specs.Guards.{lost}
+use Rattle.ww_rule.specs.Cancels.{finding_uncancelled, heeding, stopping}
 use Rattle.ww_seat.specs.Orderly.{IsOrderly}
-use Rattle.ww_seat.specs.Work.{IsTouched, IsWorking, IsAtWork, SeesOther, MayGo, GoesOn}
+use Rattle.ww_seat.specs.Accounts.{account_of}
+use Rattle.ww_seat.specs.declared.look.Look.{Look}
+use Rattle.ww_seat.specs.declared.look.Look.TheVariants.{Locked, Deadlk, Interrupted, Waits}
+use Rattle.ww_seat.specs.Looks.{MayWaitSo}
+use Rattle.ww_seat.specs.Work.{IsWorking, IsAtWork, SeesOther, MayGo, GoesOn}
 use Rattle.ww_seat.proofs.Guards.{listed_orderly}
 use Rattle.ww_seat.proofs.Outside.{orderly_knowing}
 use Rattle.ww_seat.proofs.Stood.{gone_goes}
-use Rattle.ww_seat.proofs.Working.{work_touched}
 
 -- ---- no cancel was pending
 
 pub goes_on_same : (size : ℕ) (m : Sat) → IsOrderly size m → GoesOn size m m
-goes_on_same size m o = record { orderly = o; fresh = m.0.part.core.fresh; view = refl }
+goes_on_same size m o = record { orderly = o; fresh = m.0.part.core.fresh; uncancelled = m.0.part.core.uncancelled; view = refl }
 
-pub goes_on_lost : (size : ℕ) (m m' : Sat) → IsOrderly size m → m' ≡ (lost m.0, m.1) → GoesOn size m m'
-goes_on_lost size m m' o is = record { orderly = orderly_knowing size m m' (lost m.0).part.core o is refl refl refl refl; fresh = false; view = ap (λ (z : Sat). z.0) is }
-
-pub goes_on_touched : (size : ℕ) (m m' : Sat) → GoesOn size m m' → IsTouched size m m'
-goes_on_touched size m m' g = record { orderly = g.orderly; seen = m.0.part.core.seen; signed = m.0.part.core.signed; fresh = g.fresh; view = g.view }
+pub goes_on_none : (size : ℕ) (m m' : Sat) → IsOrderly size m → m' ≡ (finding_uncancelled m.0, m.1) → GoesOn size m m'
+goes_on_none size m m' o is =
+    record {
+      orderly = orderly_knowing size m m' (finding_uncancelled m.0).part.core o is refl refl refl refl;
+      fresh = false;
+      uncancelled = true;
+      view = ap (λ (z : Sat). z.0) is;
+    }
 
 pub goes_on_sees : (size : ℕ) (m m' : Sat) (o : Owner) → GoesOn size m m' → SeesOther o m.0.part.core → SeesOther o m'.0.part.core
-goes_on_sees size m m' o g sees = subst (λ (z : Sight). SeesOther o z.part.core) (sym g.view) (record { seen = sees.seen; valid = sees.valid; other = sees.other })
+goes_on_sees size m m' o g sees = subst (λ (z : Sight). SeesOther o z.part.core) (sym g.view)
+    (record { seen = sees.seen; valid = sees.valid; other = sees.other })
 
 -- ---- one was
 
-module _ (size n mark : ℕ) (l : Bool) (m m1 : Sat) (ord : IsOrderly size m) (w : IsWorking n true l m.0.part.core) (is : m1 ≡ (heeding m.0 mark, m.1)) (some : mark ≢ 0) where
+module _ (size n mark : ℕ) (l : Bool) (m m1 : Sat) (ord : IsOrderly size m) (w : IsWorking n true l m.0.part.core)
+    (is : m1 ≡ (heeding m.0 mark, m.1)) (some : mark ≢ 0) where
   pub list_there : slot_of m1.1 (64 + n) ≡ Some (Line m1.0.part.core.list)
   list_there = subst (λ (z : Sat). slot_of z.1 (64 + n) ≡ Some (Line z.0.part.core.list)) (sym is) (ord.list n w.inside)
 
@@ -41,10 +50,16 @@ module _ (size n mark : ℕ) (l : Bool) (m m1 : Sat) (ord : IsOrderly size m) (w
     pub orderly : IsOrderly size m2
     pub view : m2.0 ≡ stopping (heeding m.0 mark) o
 
-  pub has_left : (o : Owner) (m2 : Sat) → (others : List (ℕ × Cell)) × AreOthers m1.1 (64 + n) (Line m1.0.part.core.list) others × (m2 ≡ (stopping m1.0 o, (64 + n, Line (interrupted m1.0.part.core o).list) ∷ others)) → HasLeft o m2
-  has_left o m2 = subst (λ (z : Sat). (others : List (ℕ × Cell)) × AreOthers z.1 (64 + n) (Line z.0.part.core.list) others × (m2 ≡ (stopping z.0 o, (64 + n, Line (interrupted z.0.part.core o).list) ∷ others)) → HasLeft o m2) (sym is)
+  pub has_left : (o : Owner) (m2 : Sat) → (others : List (ℕ × Cell))
+      × AreOthers m1.1 (64 + n) (Line m1.0.part.core.list) others
+      × (m2 ≡ (stopping m1.0 o, (64 + n, Line (interrupted m1.0.part.core o).list) ∷ others)) → HasLeft o m2
+  has_left o m2 = subst (λ (z : Sat). (others : List (ℕ × Cell))
+      × AreOthers z.1 (64 + n) (Line z.0.part.core.list) others
+      × (m2 ≡ (stopping z.0 o, (64 + n, Line (interrupted z.0.part.core o).list) ∷ others)) → HasLeft o m2) (sym is)
       (λ got. record {
-        orderly = subst (IsOrderly size) (sym got.2) (listed_orderly size m n (stopping (heeding m.0 mark) o) got.0 ord w.inside got.1 refl refl refl (sym ord.unheeded));
+        orderly = subst (IsOrderly size) (sym got.2)
+            (listed_orderly size m n (stopping (heeding m.0 mark) o) got.0 ord w.inside got.1 refl refl refl
+            (sym ord.unheeded));
         view = ap (λ (z : Sat). z.0) got.2;
       })
 
@@ -54,5 +69,27 @@ module _ (size n mark : ℕ) (l : Bool) (m m1 : Sat) (ord : IsOrderly size m) (w
 
 -- ---- a look goes on
 
-pub work_goes_on : (size n : ℕ) (before : Sat) (again : Bool) (m m' : Sat) → IsAtWork size n before true again m → GoesOn size m m' → IsAtWork size n before true again m'
-work_goes_on size n before again m m' w g = work_touched size n before true again m m' w (goes_on_touched size m m' g)
+pub work_goes_on : (size n : ℕ) (before : Sat) (again : Bool) (m m' : Sat) → IsAtWork size n before true again m
+    → GoesOn size m m' → IsAtWork size n before true again m'
+work_goes_on size n before again m m' x g = record {
+  orderly = g.orderly;
+  working = let w = x.working in subst (λ (z : Sight). IsWorking n true again z.part.core) (sym g.view) (record {
+    want = record { lacks = w.want.lacks; base = w.want.base; signs = w.want.signs };
+    inside = w.inside;
+    seats = w.seats;
+    once = w.once;
+    place = w.place;
+    later = w.later;
+    behind = w.behind;
+  });
+  holds = ap (λ (z : Sight). account_of (z, m'.1)) g.view ∙ x.holds;
+}
+
+-- where it found no cancel before, or need not look, it still has once it comes to waiting
+pub waits_so : (heeds found : Bool) (v : View) (o : Option Look) → (heeds ≡ true → found ≡ true)
+    → IfSome o (MayWaitSo found v) → IfSome o (MayWaitSo heeds v)
+waits_so heeds found v None first then = tt
+waits_so heeds found v (Some Waits) first then = λ is. then (first is)
+waits_so heeds found v (Some (Locked x)) first then = tt
+waits_so heeds found v (Some (Deadlk k)) first then = tt
+waits_so heeds found v (Some (Interrupted by)) first then = tt

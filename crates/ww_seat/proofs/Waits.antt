@@ -31,27 +31,31 @@ still_unsigned WaitDie (suc n) sign e = e
 still_unsigned WoundWait waits sign e = e
 
 pub entered_inside : (size n : ℕ) (m m' : Sat) → IsOutside size n m → HasEntered m n m' → IsOrderly size m' → IsInside size n m'
-entered_inside size n m m' out e o = subst (λ (w : Sight). IsOrderly size (w, m'.1) → IsInside size n (w, m'.1)) (sym e.view) (λ o'. record {
-  orderly = o';
-  want = record {
-    lacks = out.want.lacks;
-    base = out.want.base;
-    signs = ⊎_elim (λ s. inl s) (λ s. inr (⊎_elim (λ t. inl (still_unsigned m.0.part.core.kind m.0.part.core.waits m.0.part.core.sign t)) (λ t. inr t) s)) out.want.signs;
-  };
-  inside = refl;
-  place = out.place;
-  seats = e.seats;
-  once = e.stands.once;
-  absent = e.stands.absent;
-  entry = e.stands.entry;
-  later = refl;
-  acted = refl;
-}) o
+entered_inside size n m m' out e o = subst (λ (w : Sight). IsOrderly size (w, m'.1) → IsInside size n (w, m'.1))
+    (sym e.view) (λ o'. record {
+      orderly = o';
+      want = record {
+        lacks = out.want.lacks;
+        base = out.want.base;
+        signs = ⊎_elim (λ s. inl s) (λ s. inr
+            (⊎_elim (λ t. inl (still_unsigned m.0.part.core.kind m.0.part.core.waits m.0.part.core.sign t)) (λ t. inr t)
+            s)) out.want.signs;
+      };
+      inside = refl;
+      place = out.place;
+      seats = e.seats;
+      once = e.stands.once;
+      absent = e.stands.absent;
+      entry = e.stands.entry;
+      later = refl;
+      acted = refl;
+    }) o
 
 pub entered_later : (n : ℕ) (m m' : Sat) → HasEntered m n m' → m'.0.part.core.later ≡ not (m.0.part.core.waits == 0)
 entered_later n m m' e = ap (λ (w : Sight). w.part.core.later) e.view
 
-pub ok_then : (a b c : Sat) (n : ℕ) (r : Result Node Stop) → HoldsAsBefore a b → IfOk r (λ x. HasTaken b n x c) → IfOk r (λ x. HasTaken a n x c)
+pub ok_then : (a b c : Sat) (n : ℕ) (r : Result Node Stop) → HoldsAsBefore a b → IfOk r (λ x. HasTaken b n x c)
+    → IfOk r (λ x. HasTaken a n x c)
 ok_then a b c n (Ok x) h t = taken_then a b c n x h t
 ok_then a b c n (Err why) h t = t
 
@@ -59,12 +63,14 @@ turned_then : (a b c : Sat) (n : ℕ) (why : Stop) → HoldsAsBefore a b → IsT
 turned_then a b c n (Deadlk k) h d = die_then a b c n k h d
 turned_then a b c n (Interrupted by) h s = stopped_then a b c n by h s
 
-pub err_then : (a b c : Sat) (n : ℕ) (r : Result Node Stop) → HoldsAsBefore a b → IfErr r (λ why. IsTurnedAway b n why c) → IfErr r (λ why. IsTurnedAway a n why c)
+pub err_then : (a b c : Sat) (n : ℕ) (r : Result Node Stop) → HoldsAsBefore a b
+    → IfErr r (λ why. IsTurnedAway b n why c) → IfErr r (λ why. IsTurnedAway a n why c)
 err_then a b c n (Ok x) h t = t
 err_then a b c n (Err why) h t = turned_then a b c n why h t
 
 -- the first try failed
-pub wanting : (size n : ℕ) (m : Sat) → owns m.0.part.core n ≡ false → WantsBase m.0.part.core → WantsSigns m.0.part.core → IsOrderly size m → IsAway m.0.part.core → IsOutside size n m
+pub wanting : (size n : ℕ) (m : Sat) → owns m.0.part.core n ≡ false → WantsBase m.0.part.core
+    → WantsSigns m.0.part.core → IsOrderly size m → IsAway m.0.part.core → IsOutside size n m
 wanting size n m lacks base signs o away = record {
   orderly = o;
   want = record { lacks = lacks; base = base; signs = signs };

@@ -1,9 +1,10 @@
 -- A list of locks without one of them.
-use Rattle.std.proofs.Common.{◌≡◌, ◌≢◌, ℕ, ◌<◌, ◌≤◌, ◌||◌, eqb, not, cond, true≢false, Bool, true, false, List, [], ◌∷◌, length, set, get_or, refl, sym, ap, subst, ◌∙◌, arith, inl, inr, get_or-set_same, get_or-set_other}
+use Rattle.std.proofs.Common.{◌≡◌, ◌≢◌, ℕ, ◌<◌, ◌≤◌, ◌||◌, eqb, not, cond, true≢false, Bool, true, false, List, [], ◌∷◌, length, set, get_or, refl, sym, ap, subst, ◌∙◌, arith, inl, inr}
 use Rattle.std.specs.List.{AllByRecursion}
 use Rattle.ww_plain.specs.Numbers.{is_among, AreDifferent}
 use Rattle.ww_plain.proofs.Members.{eqb_same, true_or_false, same_from_eqb, different_head, different_tail, different_cons, different_none}
 use Rattle.ww_view.specs.Made.{without}
+use Rattle.ww_seat.proofs.Among.{apart, owns_held}
 
 pub another : (n m : ℕ) → eqb n m ≡ false → m ≢ n
 another n m differ e = true≢false (sym (subst (λ (k : ℕ). eqb n k ≡ true) (sym e) (eqb_same n)) ∙ differ)
@@ -30,13 +31,12 @@ stays n k (m ∷ ms) e = elim (true_or_false (eqb m n)) [
   | inr other ↦ ap (is_among k) (without_else n m ms other) ∙ ap (λ (b : Bool). eqb m k || b) (stays n k ms e)
 ]
 
-pub owns_less : (owned new : List Bool) (held : List ℕ) (n : ℕ) → n < length owned → new ≡ set owned n false → ((m : ℕ) → get_or owned m false ≡ is_among m held) → (m : ℕ) → get_or new m false ≡ is_among m (without n held)
-owns_less owned new held n lt is owns m = elim (true_or_false (eqb n m)) [
-  | inl same ↦
-      let e : n ≡ m = same_from_eqb n m same in
-      ap (λ (os : List Bool). get_or os m false) is ∙ subst (λ (k : ℕ). get_or (set owned n false) k false ≡ is_among k (without n held)) e (get_or-set_same owned n false false lt ∙ sym (gone n held))
-  | inr other ↦ ap (λ (os : List Bool). get_or os m false) is ∙ get_or-set_other owned n m false false (another n m other) ∙ owns m ∙ sym (stays n m held other)
-]
+pub owns_less : (owned new : List Bool) (held : List ℕ) (n : ℕ) → n < length owned → new ≡ set owned n false
+    → ((m : ℕ) → get_or owned m false ≡ is_among m held) → (m : ℕ)
+    → get_or new m false ≡ is_among m (without n held)
+owns_less owned new held n lt is owns =
+    owns_held owned new held (without n held) n false lt is owns (gone n held)
+    (λ m differ. stays n m held (apart n m differ))
 
 pub all_without : (P : ℕ → Type 0) (n : ℕ) (ns : List ℕ) → AllByRecursion P ns → AllByRecursion P (without n ns)
 all_without P n [] all = tt
@@ -55,7 +55,9 @@ pub different_without : (n : ℕ) (ns : List ℕ) → AreDifferent ns → AreDif
 different_without n [] d = different_none
 different_without n (m ∷ ms) d = elim (true_or_false (eqb m n)) [
   | inl same ↦ subst AreDifferent (sym (without_same n m ms same)) (different_without n ms (different_tail m ms d))
-  | inr other ↦ subst AreDifferent (sym (without_else n m ms other)) (different_cons m (without n ms) (absent_without n m ms (different_head m ms d)) (different_without n ms (different_tail m ms d)))
+  | inr other ↦ subst AreDifferent (sym (without_else n m ms other))
+      (different_cons m (without n ms) (absent_without n m ms (different_head m ms d))
+      (different_without n ms (different_tail m ms d)))
 ]
 
 no_longer : (n : ℕ) (ns : List ℕ) → length (without n ns) ≤ length ns

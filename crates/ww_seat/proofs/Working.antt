@@ -26,23 +26,34 @@ use Rattle.ww_seat.proofs.Guards.{listed_orderly, exiting_orderly}
 
 -- ---- the same of what it holds
 
-pub holds_touched : (m m' : Sat) (a : Option Owner) (b d : List ℕ) (c : Bool) → m'.0 ≡ knowing m.0 (touched m.0.part.core a b d c) → HoldsAsBefore m m'
-holds_touched m m' a b d c e = subst (λ (z : Sight). HoldsAsBefore m (z, m'.1)) (sym e) (record { same = record { kind = refl; who = refl; stamp = refl; own = refl; counts = refl; stopped = refl; pendings = refl }; owned = refl; locks = refl; held = refl; takes = refl; deaths = refl })
+pub holds_touched : (m m' : Sat) (a : Option Owner) (b d : List ℕ) (c : Bool)
+    → m'.0 ≡ knowing m.0 (touched m.0.part.core a b d c) → HoldsAsBefore m m'
+holds_touched m m' a b d c e = subst (λ (z : Sight). HoldsAsBefore m (z, m'.1)) (sym e) refl
 
 pub holds_told : (m m' : Sat) (s : Option ℕ) (c : Bool) → m'.0 ≡ knowing m.0 (told m.0.part.core s c) → HoldsAsBefore m m'
-holds_told m m' s c e = subst (λ (z : Sight). HoldsAsBefore m (z, m'.1)) (sym e) (record { same = record { kind = refl; who = refl; stamp = refl; own = refl; counts = refl; stopped = refl; pendings = refl }; owned = refl; locks = refl; held = refl; takes = refl; deaths = refl })
+holds_told m m' s c e = subst (λ (z : Sight). HoldsAsBefore m (z, m'.1)) (sym e) refl
 
 -- ---- whom it has to wake
 
 -- it condemned nobody, by what its view is then
-pub none_condemned : (m m' : Sat) (w : Sight) → m'.0 ≡ w → w.part.core.who ≡ m.0.part.core.who → w.part.core.attempts ≡ m.0.part.core.attempts → w.part.core.condemned ≡ m.0.part.core.condemned → HasCondemnedNone m m'
-none_condemned m m' w view who attempts condemned = record { who = ap (λ (z : Sight). z.part.core.who) view ∙ who; attempts = ap (λ (z : Sight). z.part.core.attempts) view ∙ attempts; condemned = ap (λ (z : Sight). z.part.core.condemned) view ∙ condemned }
+pub none_condemned : (m m' : Sat) (w : Sight) → m'.0 ≡ w → w.part.core.who ≡ m.0.part.core.who
+    → w.part.core.attempts ≡ m.0.part.core.attempts → w.part.core.condemned ≡ m.0.part.core.condemned
+    → HasCondemnedNone m m'
+none_condemned m m' w view who attempts condemned =
+    record {
+      who = ap (λ (z : Sight). z.part.core.who) view ∙ who;
+      attempts = ap (λ (z : Sight). z.part.core.attempts) view ∙ attempts;
+      condemned = ap (λ (z : Sight). z.part.core.condemned) view ∙ condemned;
+    }
 
 pub woken_still : (m m' : Sat) (wakes : List Bool) → HasCondemnedNone m m' → AreWoken m.0.part.core wakes → AreWoken m'.0.part.core wakes
 woken_still m m' wakes none woken u has = woken u (subst (λ (l : List ℕ). Has l u) none.condemned has.0, λ e. has.1 (e ∙ sym none.who))
 
-pub woken_touched : (size : ℕ) (m m' : Sat) (wakes : List Bool) → IsTouched size m m' → AreWoken m.0.part.core wakes → AreWoken m'.0.part.core wakes
-woken_touched size m m' wakes t = woken_still m m' wakes (none_condemned m m' (knowing m.0 (touched m.0.part.core t.seen t.signed m.0.part.core.condemned t.fresh)) t.view refl refl refl)
+pub woken_touched : (size : ℕ) (m m' : Sat) (wakes : List Bool) → IsTouched size m m' → AreWoken m.0.part.core wakes
+    → AreWoken m'.0.part.core wakes
+woken_touched size m m' wakes t = woken_still m m' wakes
+    (none_condemned m m' (knowing m.0 (touched m.0.part.core t.seen t.signed m.0.part.core.condemned t.fresh))
+    t.view refl refl refl)
 
 -- it has nobody to wake that isn't marked yet
 pub marked_none : (m : Sat) (wakes : List Bool) → AreWoken m.0.part.core wakes → AreMarked wakes (HasToWake m.0.part.core) wakes
@@ -51,17 +62,21 @@ marked_none m wakes woken u = (inl, ⊎_elim (λ was. was) (woken u))
 pub woken_marked : (m : Sat) (was now : List Bool) → AreMarked was (HasToWake m.0.part.core) now → AreWoken m.0.part.core now
 woken_marked m was now marked u has = (marked u).1 (inr has)
 
-pub marked_still : (m m' : Sat) (was now : List Bool) → HasCondemnedNone m m' → AreMarked was (HasToWake m.0.part.core) now → AreMarked was (HasToWake m'.0.part.core) now
-marked_still m m' was now none marked = subst (λ (l : List ℕ). AreMarked was (λ u. Has l u × (u ≢ m'.0.part.core.who)) now) (sym none.condemned)
+pub marked_still : (m m' : Sat) (was now : List Bool) → HasCondemnedNone m m'
+    → AreMarked was (HasToWake m.0.part.core) now → AreMarked was (HasToWake m'.0.part.core) now
+marked_still m m' was now none marked =
+    subst (λ (l : List ℕ). AreMarked was (λ u. Has l u × (u ≢ m'.0.part.core.who)) now) (sym none.condemned)
     (subst (λ (w : ℕ). AreMarked was (λ u. Has m.0.part.core.condemned u × (u ≢ w)) now) (sym none.who) marked)
 
 -- ---- its work goes on
 
-place_touched : (stands : Bool) (n : ℕ) (v : View) (a : Option Owner) (b d : List ℕ) (c : Bool) → IsPlaced stands n v → IsPlaced stands n (touched v a b d c)
+place_touched : (stands : Bool) (n : ℕ) (v : View) (a : Option Owner) (b d : List ℕ) (c : Bool)
+    → IsPlaced stands n v → IsPlaced stands n (touched v a b d c)
 place_touched true n v a b d c p = p
 place_touched false n v a b d c p = p
 
-pub working_touched : (n : ℕ) (stands again : Bool) (v : View) (a : Option Owner) (b d : List ℕ) (c : Bool) → IsWorking n stands again v → IsWorking n stands again (touched v a b d c)
+pub working_touched : (n : ℕ) (stands again : Bool) (v : View) (a : Option Owner) (b d : List ℕ) (c : Bool)
+    → IsWorking n stands again v → IsWorking n stands again (touched v a b d c)
 working_touched n stands again v a b d c w = record {
   want = record { lacks = w.want.lacks; base = w.want.base; signs = w.want.signs };
   inside = w.inside;
@@ -76,7 +91,8 @@ place_told : (stands : Bool) (n : ℕ) (v : View) (s : Option ℕ) (c : Bool) �
 place_told true n v s c p = p
 place_told false n v s c p = p
 
-pub working_told : (n : ℕ) (stands again : Bool) (v : View) (s : Option ℕ) (c : Bool) → IsWorking n stands again v → WantsSigns (told v s c) → IsWorking n stands again (told v s c)
+pub working_told : (n : ℕ) (stands again : Bool) (v : View) (s : Option ℕ) (c : Bool) → IsWorking n stands again v
+    → WantsSigns (told v s c) → IsWorking n stands again (told v s c)
 working_told n stands again v s c w wants = record {
   want = record { lacks = w.want.lacks; base = w.want.base; signs = wants };
   inside = w.inside;
@@ -87,40 +103,52 @@ working_told n stands again v s c w wants = record {
   behind = w.behind;
 }
 
-pub work_same : (size n : ℕ) (stands again : Bool) (m : Sat) → IsOrderly size m → IsWorking n stands again m.0.part.core → IsAtWork size n m stands again m
-work_same size n stands again m o w = record { orderly = o; working = w; holds = holds_same m; tries = refl }
+pub work_same : (size n : ℕ) (stands again : Bool) (m : Sat) → IsOrderly size m
+    → IsWorking n stands again m.0.part.core → IsAtWork size n m stands again m
+work_same size n stands again m o w = record { orderly = o; working = w; holds = holds_same m }
 
-pub work_then : (size n : ℕ) (before : Sat) (s1 s2 again : Bool) (m m' : Sat) → IsAtWork size n before s1 again m → IsAtWork size n m s2 again m' → IsAtWork size n before s2 again m'
-work_then size n before s1 s2 again m m' x y = record { orderly = y.orderly; working = y.working; holds = holds_then before m m' x.holds y.holds; tries = y.tries ∙ x.tries }
+pub work_then : (size n : ℕ) (before : Sat) (s1 s2 again : Bool) (m m' : Sat) → IsAtWork size n before s1 again m
+    → IsAtWork size n m s2 again m' → IsAtWork size n before s2 again m'
+work_then size n before s1 s2 again m m' x y =
+    record { orderly = y.orderly; working = y.working; holds = holds_then before m m' x.holds y.holds }
 
-pub work_touched : (size n : ℕ) (before : Sat) (stands again : Bool) (m m' : Sat) → IsAtWork size n before stands again m → IsTouched size m m' → IsAtWork size n before stands again m'
+pub work_touched : (size n : ℕ) (before : Sat) (stands again : Bool) (m m' : Sat)
+    → IsAtWork size n before stands again m → IsTouched size m m' → IsAtWork size n before stands again m'
 work_touched size n before stands again m m' w t = record {
   orderly = t.orderly;
-  working = subst (λ (z : Sight). IsWorking n stands again z.part.core) (sym t.view) (working_touched n stands again m.0.part.core t.seen t.signed m.0.part.core.condemned t.fresh w.working);
+  working = subst (λ (z : Sight). IsWorking n stands again z.part.core) (sym t.view)
+      (working_touched n stands again m.0.part.core t.seen t.signed m.0.part.core.condemned t.fresh w.working);
   holds = holds_then before m m' w.holds (holds_touched m m' t.seen t.signed m.0.part.core.condemned t.fresh t.view);
-  tries = ap (λ (z : Sight). z.part.core.tries) t.view ∙ w.tries;
 }
 
-pub work_told : (size n : ℕ) (before : Sat) (stands again : Bool) (m m' : Sat) → IsAtWork size n before stands again m → IsTold size m m' → IsAtWork size n before stands again m'
+pub work_told : (size n : ℕ) (before : Sat) (stands again : Bool) (m m' : Sat)
+    → IsAtWork size n before stands again m → IsTold size m m' → IsAtWork size n before stands again m'
 work_told size n before stands again m m' w t = record {
   orderly = t.orderly;
-  working = subst (λ (z : Sight). IsWorking n stands again z.part.core) (sym t.view) (working_told n stands again m.0.part.core t.sign t.fresh w.working (t.wants w.working.want.signs));
+  working = subst (λ (z : Sight). IsWorking n stands again z.part.core) (sym t.view)
+      (working_told n stands again m.0.part.core t.sign t.fresh w.working (t.wants w.working.want.signs));
   holds = holds_then before m m' w.holds (holds_told m m' t.sign t.fresh t.view);
-  tries = ap (λ (z : Sight). z.part.core.tries) t.view ∙ w.tries;
 }
 
 -- ---- single steps
 
 -- nothing at all
 pub touched_same : (size : ℕ) (m : Sat) → IsOrderly size m → IsTouched size m m
-touched_same size m o = record { orderly = o; seen = m.0.part.core.seen; signed = m.0.part.core.signed; fresh = m.0.part.core.fresh; view = refl }
+touched_same size m o = record {
+  orderly = o;
+  seen = m.0.part.core.seen;
+  signed = m.0.part.core.signed;
+  fresh = m.0.part.core.fresh;
+  view = refl;
+}
 
 -- a look: it counts
 place_looked : (stands : Bool) (n : ℕ) (v : View) (o : Owner) → IsPlaced stands n v → IsPlaced stands n (has_looked v o)
 place_looked true n v o p = p
 place_looked false n v o p = p
 
-pub work_looked : (size n : ℕ) (stands again : Bool) (m m' : Sat) (o : Owner) → IsOrderly size m → IsWorking n stands again m.0.part.core → m' ≡ (looking m.0 o, m.1) → IsAtWork size n m stands again m'
+pub work_looked : (size n : ℕ) (stands again : Bool) (m m' : Sat) (o : Owner) → IsOrderly size m
+    → IsWorking n stands again m.0.part.core → m' ≡ (looking m.0 o, m.1) → IsAtWork size n m stands again m'
 work_looked size n stands again m m' o was w is = subst (IsAtWork size n m stands again) (sym is) (record {
   orderly = orderly_knowing size m (looking m.0 o, m.1) (has_looked m.0.part.core o) was refl refl refl refl refl;
   working = record {
@@ -132,14 +160,14 @@ work_looked size n stands again m m' o was w is = subst (IsAtWork size n m stand
     later = w.later;
     behind = w.behind;
   };
-  holds = record { same = record { kind = refl; who = refl; stamp = refl; own = refl; counts = refl; stopped = refl; pendings = refl }; owned = refl; locks = refl; held = refl; takes = refl; deaths = refl };
-  tries = refl;
+  holds = refl;
 })
 
 pub look_counts : (m m' : Sat) (o : Owner) → m' ≡ (looking m.0 o, m.1) → m'.0.part.core.attempts ≡ m.0.part.core.attempts + 1
 look_counts m m' o is = ap (λ (z : Sat). z.0.part.core.attempts) is
 
-pub woken_looked : (m m' : Sat) (o : Owner) (wakes : List Bool) → m' ≡ (looking m.0 o, m.1) → AreWoken m.0.part.core wakes → AreWoken m'.0.part.core wakes
+pub woken_looked : (m m' : Sat) (o : Owner) (wakes : List Bool) → m' ≡ (looking m.0 o, m.1)
+    → AreWoken m.0.part.core wakes → AreWoken m'.0.part.core wakes
 woken_looked m m' o wakes is woken = subst (λ (z : Sat). AreWoken z.0.part.core wakes) (sym is) woken
 
 -- a step that was lost
@@ -154,7 +182,8 @@ touched_lost size m m' was is = record {
 
 -- ... with the list brought to the front before
 pub touched_lost_on_top : (size n : ℕ) (m m' : Sat) → IsOrderly size m → m.0.part.core.inside ≡ suc n
-    → (others : List (ℕ × Cell)) × AreOthers m.1 (64 + n) (Line m.0.part.core.list) others × (m' ≡ (lost m.0, (64 + n, Line m.0.part.core.list) ∷ others)) → IsTouched size m m'
+    → (others : List (ℕ × Cell)) × AreOthers m.1 (64 + n) (Line m.0.part.core.list) others
+    × (m' ≡ (lost m.0, (64 + n, Line m.0.part.core.list) ∷ others)) → IsTouched size m m'
 touched_lost_on_top size n m m' was inside got = record {
   orderly = subst (IsOrderly size) (sym got.2) (listed_orderly size m n (lost m.0) got.0 was inside got.1 refl refl refl refl);
   seen = m.0.part.core.seen;
@@ -183,27 +212,45 @@ touched_then size a b c x y = record {
 }
 
 -- it found or made some signed
-pub work_noted : (size n : ℕ) (before : Sat) (stands again : Bool) (owed : List (ℕ × ℕ)) (m m' : Sat) → IsAtWork size n before stands again m → HasNoted size owed m m' → IsAtWork size n before stands again m'
+pub work_noted : (size n : ℕ) (before : Sat) (stands again : Bool) (owed : List (ℕ × ℕ)) (m m' : Sat)
+    → IsAtWork size n before stands again m → HasNoted size owed m m' → IsAtWork size n before stands again m'
 work_noted size n before stands again owed m m' w h = record {
   orderly = h.orderly;
-  working = subst (λ (z : Sight). IsWorking n stands again z.part.core) (sym h.view) (working_touched n stands again m.0.part.core m.0.part.core.seen h.signed h.condemned h.fresh w.working);
+  working = subst (λ (z : Sight). IsWorking n stands again z.part.core) (sym h.view)
+      (working_touched n stands again m.0.part.core m.0.part.core.seen h.signed h.condemned h.fresh w.working);
   holds = holds_then before m m' w.holds (holds_touched m m' m.0.part.core.seen h.signed h.condemned h.fresh h.view);
-  tries = ap (λ (z : Sight). z.part.core.tries) h.view ∙ w.tries;
 }
 
 -- ---- out of the guard
 
-pub may_clear : (m m1 : Sat) (k : ℕ) → m1 ≡ (reading m.0 k, m.1) → 0 < m.0.part.core.stamp → m.0.part.core.kind ≡ WaitDie → (n : ℕ) × (m.0.part.core.inside ≡ suc n) → LivesBySeen m.0.part.core → MayClear m1.0.part.core
-may_clear m m1 k is pos kind at lives = subst (λ (z : Sat). MayClear z.0.part.core) (sym is) (record { context = pos; why = inr (kind, at, lives) })
+pub may_clear : (m m1 : Sat) (k : ℕ) → m1 ≡ (reading m.0 k, m.1) → 0 < m.0.part.core.stamp
+    → m.0.part.core.kind ≡ WaitDie → (n : ℕ) × (m.0.part.core.inside ≡ suc n) → LivesBySeen m.0.part.core
+    → MayClear m1.0.part.core
+may_clear m m1 k is pos kind at lives =
+    subst (λ (z : Sat). MayClear z.0.part.core) (sym is) (record { context = pos; why = inr (kind, at, lives) })
 
 pub cleared_same : (m : Sat) → (m.0.part.core.kind ≡ WaitDie → m.0.part.core.stamp ≡ 0) → IsCleared m m
-cleared_same m none = record { sign = m.0.part.core.sign; fresh = m.0.part.core.fresh; now = refl; same = λ _. (refl, refl); unsigned = λ d. inl (none d) }
+cleared_same m none = record {
+  sign = m.0.part.core.sign;
+  fresh = m.0.part.core.fresh;
+  now = refl;
+  same = λ _. (refl, refl);
+  unsigned = λ d. inl (none d);
+}
 
 pub cleared_zero : (m m1 : Sat) → m.0.part.core.kind ≡ WaitDie → m1 ≡ (reading m.0 0, m.1) → IsCleared m m1
 cleared_zero m m1 kind is = record { sign = Some 0; fresh = true; now = is; same = λ w. absurd (cc); unsigned = λ _. inr refl }
 
-pub cleared_now : (m m1 m2 : Sat) (k : ℕ) → m.0.part.core.kind ≡ WaitDie → m1 ≡ (reading m.0 k, m.1) → m2 ≡ (clearing m1.0, m1.1) → IsCleared m m2
-cleared_now m m1 m2 k kind is then = record { sign = Some 0; fresh = false; now = then ∙ ap (λ (z : Sat). (clearing z.0, z.1)) is; same = λ w. absurd (cc); unsigned = λ _. inr refl }
+pub cleared_now : (m m1 m2 : Sat) (k : ℕ) → m.0.part.core.kind ≡ WaitDie → m1 ≡ (reading m.0 k, m.1)
+    → m2 ≡ (clearing m1.0, m1.1) → IsCleared m m2
+cleared_now m m1 m2 k kind is then = record {
+  sign = Some 0;
+  fresh = false;
+  now = then
+      ∙ ap (λ (z : Sat). (clearing z.0, z.1)) is;
+  same = λ w. absurd (cc);
+  unsigned = λ _. inr refl;
+}
 
 paid_told : (v : View) (s : Option ℕ) (c : Bool) → HasPaid v → HasPaid (told v s c)
 paid_told v s c p = record { word = p.word; seen = p.seen; signed = p.signed; other = p.other; lives = p.lives }
@@ -227,7 +274,8 @@ outside_same WaitDie s t same = refl
 
 pub left_view : (m m1 m2 : Sat) → IsCleared m m1 → m2.0 ≡ exiting m1.0 → m2.0 ≡ exiting m.0
 left_view m m1 m2 c is = is ∙ ap (λ (z : Sat). exiting z.0) c.now
-    ∙ ap (λ (x : Option ℕ). knowing m.0 (record (exited m.0.part.core) { sign = x })) (outside_same m.0.part.core.kind c.sign m.0.part.core.sign (λ w. (c.same w).0))
+    ∙ ap (λ (x : Option ℕ). knowing m.0 (record (exited m.0.part.core) { sign = x }))
+    (outside_same m.0.part.core.kind c.sign m.0.part.core.sign (λ w. (c.same w).0))
 
 pub cleared_orderly : (size : ℕ) (m m1 : Sat) → IsOrderly size m → IsCleared m m1 → IsOrderly size m1
 cleared_orderly size m m1 o c = orderly_knowing size m m1 (told m.0.part.core c.sign c.fresh) o c.now refl refl refl refl
@@ -235,8 +283,10 @@ cleared_orderly size m m1 o c = orderly_knowing size m m1 (told m.0.part.core c.
 pub cleared_inside : (n : ℕ) (m m1 : Sat) → IsCleared m m1 → m.0.part.core.inside ≡ suc n → m1.0.part.core.inside ≡ suc n
 cleared_inside n m m1 c inside = ap (λ (z : Sat). z.0.part.core.inside) c.now ∙ inside
 
-pub left_orderly : (size n : ℕ) (m m1 m2 : Sat) → IsOrderly size m → IsCleared m m1 → m.0.part.core.inside ≡ suc n → m2.0 ≡ exiting m1.0 → AreOthers m1.1 (64 + n) (Line m1.0.part.core.list) m2.1 → IsOrderly size m2
-left_orderly size n m m1 m2 o c inside view home = exiting_orderly size m1 m2 n (cleared_orderly size m m1 o c) (cleared_inside n m m1 c inside) view home
+pub left_orderly : (size n : ℕ) (m m1 m2 : Sat) → IsOrderly size m → IsCleared m m1 → m.0.part.core.inside ≡ suc n
+    → m2.0 ≡ exiting m1.0 → AreOthers m1.1 (64 + n) (Line m1.0.part.core.list) m2.1 → IsOrderly size m2
+left_orderly size n m m1 m2 o c inside view home =
+    exiting_orderly size m1 m2 n (cleared_orderly size m m1 o c) (cleared_inside n m m1 c inside) view home
 
 -- ---- just inside
 
@@ -253,21 +303,28 @@ pub record IsInside (size n : ℕ) (m : Sat) : Type 0 where
   pub later : m.0.part.core.later ≡ not (m.0.part.core.waits == 0)
   pub acted : m.0.part.core.acted ≡ not (m.0.part.core.waits == 0)
 
-place_inside : (again : Bool) (n w : ℕ) → again ≡ not (eqb w 0) → (w ≡ 0) ⊎ (w ≡ suc n) → (again ≡ true → w ≡ suc n) × (again ≡ false → w ≡ 0)
+place_inside : (again : Bool) (n w : ℕ) → again ≡ not (eqb w 0) → (w ≡ 0) ⊎ (w ≡ suc n) → (again ≡ true → w ≡ suc n)
+    × (again ≡ false → w ≡ 0)
 place_inside again n zero is at = (λ t. absurd (true≢false (sym t ∙ is)), λ _. refl)
-place_inside again n (suc w) is at = (λ _. ⊎_elim (λ z. absurd (omega arith)) (λ z. z) at, λ f. absurd (true≢false (sym (ap not (ne_eqb (suc w) 0 (λ e. absurd (omega arith)))) ∙ sym is ∙ f)))
+place_inside again n (suc w) is at = (
+  λ _. ⊎_elim (λ z. absurd (omega arith)) (λ z. z) at,
+  λ f. absurd
+      (true≢false (sym (ap not (ne_eqb (suc w) 0 (λ e. absurd (omega arith)))) ∙ sym is ∙ f)),
+)
 
 placed : (again : Bool) (n : ℕ) (v : View) → (again ≡ true → IsPlaced true n v) → (again ≡ false → IsPlaced false n v) → IsPlaced again n v
 placed true n v = λ yes no. yes refl
 placed false n v = λ yes no. no refl
 
 pub work_inside : (size n : ℕ) (again : Bool) (m : Sat) → IsInside size n m → again ≡ m.0.part.core.later → IsAtWork size n m again again m
-work_inside size n again m i is = let p = place_inside again n m.0.part.core.waits (is ∙ i.later) i.place in work_same size n again again m i.orderly (record {
-  want = i.want;
-  inside = i.inside;
-  seats = i.seats;
-  once = i.once;
-  place = placed again n m.0.part.core (λ t. let w = p.0 t in (w, i.entry w, i.acted ∙ sym i.later ∙ sym is ∙ t)) (λ f. let w = p.1 f in (w, i.absent w));
-  later = sym is;
-  behind = λ t. t;
-})
+work_inside size n again m i is = let p = place_inside again n m.0.part.core.waits (is ∙ i.later) i.place in
+    work_same size n again again m i.orderly (record {
+      want = i.want;
+      inside = i.inside;
+      seats = i.seats;
+      once = i.once;
+      place = placed again n m.0.part.core (λ t. let w = p.0 t in (w, i.entry w, i.acted ∙ sym i.later ∙ sym is ∙ t))
+          (λ f. let w = p.1 f in (w, i.absent w));
+      later = sym is;
+      behind = λ t. t;
+    })

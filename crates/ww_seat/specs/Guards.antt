@@ -1,4 +1,4 @@
--- A lock is given back inside its guard.
+-- A lock is released inside its guard.
 use Rattle.std.specs.Prelude.{ℕ, suc, ◌≡◌, true, Some, slice_get}
 use Rattle.std.specs.Option.{option_map}
 use Rattle.ww_queue.specs.declared.entry.Entry.{Entry}
@@ -8,14 +8,9 @@ use Rattle.ww_view.specs.May.{MayLeave}
 use Rattle.ww_rule.specs.Rule.{Sat}
 use Rattle.ww_rule.specs.Guards.{AreSeats}
 use Rattle.ww_seat.specs.Orderly.{IsOrderly}
-use Rattle.ww_seat.specs.Calls.{HasGiven, HoldsAsBefore}
+use Rattle.ww_seat.specs.Calls.{HasGiven}
 
--- it holds what it held, and tried to take no lock at once
-pub record IsStill (m m' : Sat) : Type 0 where
-  pub holds : HoldsAsBefore m m'
-  pub tries : m'.0.part.core.tries ≡ m.0.part.core.tries
-
--- It gave the lock back, and knows who is to look now: the first waiter, if somebody waits. It may leave the guard.
+-- It released the lock, and knows who is to look now: the first waiter, if somebody waits. It may leave the guard.
 pub record HasLet (size n : ℕ) (m m' : Sat) : Type 0 where
   pub orderly : IsOrderly size m'
   pub may : MayLeave m'.0.part.core n
@@ -24,7 +19,7 @@ pub record HasLet (size n : ℕ) (m m' : Sat) : Type 0 where
   pub given : HasGiven m n m'
   pub heir : m'.0.part.core.heir ≡ option_map (λ (e : Entry). e.seat) (slice_get m.0.part.core.list 0)
 
--- It is inside, as the owner who gives the lock back, and waits for none: its sign is then its own to tell.
+-- It is inside, as the owner that releases the lock, and waits for none: its sign is then its own to tell.
 pub record IsGiving (size n : ℕ) (m : Sat) : Type 0 where
   pub orderly : IsOrderly size m
   pub inside : m.0.part.core.inside ≡ suc n

@@ -1,6 +1,9 @@
+pub mod Accounts
 pub mod Orderly
 pub mod Calls
 pub mod Commits
 pub mod Looks
+pub mod Rests
 pub mod Guards
 pub mod Work
+pub mod Bells

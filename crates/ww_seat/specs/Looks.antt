@@ -23,7 +23,7 @@ pub record IsOutside (size n : ℕ) (m : Sat) : Type 0 where
   pub outside : m.0.part.core.inside ≡ 0
   pub place : (m.0.part.core.waits ≡ 0) ⊎ (m.0.part.core.waits ≡ suc n)
 
--- it has glanced so many times since its last try, before which it counted none, and is otherwise as it was
+-- it has made so many spin reads since its last try, before which it counted none, and is otherwise as it was
 abbrev pub having_glanced : Sat → ℕ → Sat
 having_glanced m k = (knowing m.0 (record (m.0.part.core) { glances = k; all_glances = m.0.part.core.all_glances + k }), m.1)
 
@@ -43,3 +43,8 @@ IsLook size n m Waits m' = IsOutside size n m' × (m'.0.part.core.waits ≡ suc 
 abbrev pub MayLookSo : Bool → Look → Type 0
 MayLookSo heeds (Interrupted by) = heeds ≡ true
 MayLookSo heeds _ = Unit {0}
+
+-- a look of a call that heeds cancels comes to waiting only once it found none
+abbrev pub MayWaitSo : Bool → View → Look → Type 0
+MayWaitSo heeds v Waits = heeds ≡ true → v.uncancelled ≡ true
+MayWaitSo heeds v _ = Unit {0}

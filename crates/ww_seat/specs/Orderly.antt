@@ -26,7 +26,8 @@ pub record IsOrderly (size : ℕ) (m : Sat) : Type 0 where
   pub owned : size ≤ length m.0.part.core.owned
   pub held : length m.0.held ≡ size
   pub apart : AreApart m.1
-  pub nodes : (n : ℕ) → n < size → owns m.0.part.core n ≡ true → (x : Node) × (get_elem? m.0.held n ≡ some (Some x)) × (slot_of m.1 n ≡ Some (Content x))
+  pub nodes : (n : ℕ) → n < size → owns m.0.part.core n ≡ true → (x : Node) × (get_elem? m.0.held n ≡ some (Some x))
+      × (slot_of m.1 n ≡ Some (Content x))
   pub others : (n : ℕ) → n < 64 → (size ≤ n) ⊎ (owns m.0.part.core n ≡ false) → slot_of m.1 n ≡ None
   pub list : (n : ℕ) → m.0.part.core.inside ≡ suc n → slot_of m.1 (list_at n) ≡ Some (Line m.0.part.core.list)
   pub lists : (n : ℕ) → m.0.part.core.inside ≢ suc n → slot_of m.1 (list_at n) ≡ None

@@ -48,7 +48,7 @@ pub record IsTold (size : ℕ) (m m' : Sat) : Type 0 where
   pub wants : WantsSigns m.0.part.core → WantsSigns (told m.0.part.core sign fresh)
   pub view : m'.0 ≡ knowing m.0 (told m.0.part.core sign fresh)
 
--- ---- who is to be woken
+-- ---- which seats are to be woken
 
 -- each seat that its own signs condemned since it went inside the guard, but for itself
 abbrev pub HasToWake : View → ℕ → Type 0
@@ -86,7 +86,7 @@ looks_again Came = false
 looks_again Joined = false
 looks_again Woken = true
 
--- outside the guard: who came just now stands in no list, and who was woken stands in one
+-- outside the guard: a seat that came just now stands in no list, and one that was woken in one
 abbrev pub ComesOutside : Arrival → View → Type 0
 ComesOutside a v = (has_joined a ≡ not (v.waits == 0)) × (looks_again a ≡ not (v.waits == 0))
 
@@ -110,7 +110,6 @@ pub record IsAtWork (size n : ℕ) (before : Sat) (stands again : Bool) (m : Sat
   pub orderly : IsOrderly size m
   pub working : IsWorking n stands again m.0.part.core
   pub holds : HoldsAsBefore before m
-  pub tries : m.0.part.core.tries ≡ before.0.part.core.tries
 
 -- ---- the word that it saw
 
@@ -120,11 +119,12 @@ pub record SeesOther (o : Owner) (v : View) : Type 0 where
   pub valid : IsValid o
   pub other : TellsOther o v.who
 
--- Nothing is changed, but that it may not have just looked for its own sign any more.
+-- Nothing is changed, but that it may not have just looked for its own sign any more, and may have found no cancel.
 pub record GoesOn (size : ℕ) (m m' : Sat) : Type 0 where
   pub orderly : IsOrderly size m'
   pub fresh : Bool
-  pub view : m'.0 ≡ knowing m.0 (touched m.0.part.core m.0.part.core.seen m.0.part.core.signed m.0.part.core.condemned fresh)
+  pub uncancelled : Bool
+  pub view : m'.0 ≡ knowing m.0 (record (m.0.part.core) { fresh = fresh; uncancelled = uncancelled })
 
 -- It found or made signed each of these.
 pub record HasNoted (size : ℕ) (owed : List (ℕ × ℕ)) (m m' : Sat) : Type 0 where

@@ -10,6 +10,7 @@ ghost use Rattle.ww_table.specs.Seat.{view_of};
 use ww_table::{Board, Seat16};
 
 /// Starts a context, and gives its stamp: one more than the stamp drawn last.
+#[inline(always)]
 pub fn begin(seat: &mut Seat16, board: &Board) -> u64
     requires seat { IsSettledAt board.now seat.old }
     requires may { MayDraw seat.old.seat.me.0.part }
@@ -22,6 +23,7 @@ pub fn begin(seat: &mut Seat16, board: &Board) -> u64
 }
 
 /// Ends the context. A sign that it still has is taken back first: nobody signs a seat that holds nothing.
+#[inline(always)]
 pub fn end(seat: &mut Seat16, board: &Board)
     requires seat { IsSettledAt board.now seat.old }
     requires context { 0 < (view_of seat.old).stamp }

@@ -6,7 +6,7 @@ ghost use Rattle.ww_plain.specs.Graph.{IsNodeOf};
 ghost use Rattle.ww_view.specs.View.{owns, IsBare};
 ghost use Rattle.ww_view.specs.May.{WantsBase, WantsSigns};
 ghost use Rattle.ww_seat.specs.Orderly.{IsSettledAt};
-ghost use Rattle.ww_seat.specs.Calls.{HoldsAsBefore, HasTaken, TriedOnce};
+ghost use Rattle.ww_seat.specs.Calls.{HoldsAsBefore, HasTakenAtOnce, HasTriedInVain};
 ghost use Rattle.ww_table.specs.Seat.{locks_of, size_of, view_of};
 
 use ww_plain::Node;
@@ -14,13 +14,13 @@ use ww_queue::Kind;
 use ww_table::{Board, Seat16};
 
 /// Takes the sign back of a context that holds nothing.
+#[inline(always)]
 fn unsign_bare(seat: &mut Seat16, board: &Board)
     requires seat { IsSettledAt board.now seat.old }
     requires context { 0 < (view_of seat.old).stamp }
     requires bare { IsBare (view_of seat.old) }
     ensures seat { IsSettledAt board.now seat.new }
     ensures same { HoldsAsBefore seat.old.seat.me seat.new.seat.me }
-    ensures tries { (view_of seat.new).tries ≡ (view_of seat.old).tries }
     ensures met { (view_of seat.new).met ≡ (view_of seat.old).met }
     ensures sign { (view_of seat.new).sign ≡ Some 0 }
     ensures records { seat.new.records ≡ seat.old.records }
@@ -32,12 +32,12 @@ fn unsign_bare(seat: &mut Seat16, board: &Board)
 }
 
 /// Takes the sign back where the context holds nothing: nobody waits for it then.
+#[inline(always)]
 fn unsign_if_bare(seat: &mut Seat16, board: &Board, holds: bool)
     requires seat { IsSettledAt board.now seat.old }
     requires holds { any_below (length (view_of seat.old).owned) (owns (view_of seat.old)) ≡ holds }
     ensures seat { IsSettledAt board.now seat.new }
     ensures same { HoldsAsBefore seat.old.seat.me seat.new.seat.me }
-    ensures tries { (view_of seat.new).tries ≡ (view_of seat.old).tries }
     ensures met { (view_of seat.new).met ≡ (view_of seat.old).met }
     ensures signs { WantsSigns (view_of seat.new) }
     ensures records { seat.new.records ≡ seat.old.records }
@@ -53,12 +53,12 @@ fn unsign_if_bare(seat: &mut Seat16, board: &Board, holds: bool)
 
 /// Clears a sign that would forbid the seat to want a lock. In Wait-Die a signed seat owns a lock, so nothing is to be
 /// done.
+#[inline(always)]
 fn unsign(seat: &mut Seat16, board: &Board, holds: bool)
     requires seat { IsSettledAt board.now seat.old }
     requires holds { any_below (length (view_of seat.old).owned) (owns (view_of seat.old)) ≡ holds }
     ensures seat { IsSettledAt board.now seat.new }
     ensures same { HoldsAsBefore seat.old.seat.me seat.new.seat.me }
-    ensures tries { (view_of seat.new).tries ≡ (view_of seat.old).tries }
     ensures met { (view_of seat.new).met ≡ (view_of seat.old).met }
     ensures signs { WantsSigns (view_of seat.new) }
     ensures records { seat.new.records ≡ seat.old.records }
@@ -78,10 +78,9 @@ fn take_node(seat: &mut Seat16, board: &Board, lock: u32) -> Option<Node>
     requires base { WantsBase (view_of seat.old) }
     requires signs { WantsSigns (view_of seat.old) }
     ensures seat { IsSettledAt board.now seat.new }
-    ensures some { IfSome result (λ x. HasTaken seat.old.seat.me lock x seat.new.seat.me) }
-    ensures none { IfNone result (HoldsAsBefore seat.old.seat.me seat.new.seat.me) }
+    ensures some { IfSome result (λ x. HasTakenAtOnce seat.old.seat.me lock x seat.new.seat.me) }
+    ensures none { IfNone result (HasTriedInVain seat.old.seat.me seat.new.seat.me) }
     ensures met { IfNone result ((view_of seat.new).met ≡ (view_of seat.old).met) }
-    ensures once { TriedOnce seat.old.seat.me seat.new.seat.me }
     ensures tried { IfNone result ((view_of seat.new).glances ≡ 0) }
     ensures signs { IfNone result (WantsSigns (view_of seat.new)) }
     ensures records { seat.new.records ≡ seat.old.records }
@@ -101,10 +100,9 @@ fn take_at_once(seat: &mut Seat16, board: &Board, lock: u32) -> Option<Node>
     requires base { WantsBase (view_of seat.old) }
     requires signs { WantsSigns (view_of seat.old) }
     ensures seat { IsSettledAt board.now seat.new }
-    ensures some { IfSome result (λ x. HasTaken seat.old.seat.me lock x seat.new.seat.me) }
-    ensures none { IfNone result (HoldsAsBefore seat.old.seat.me seat.new.seat.me) }
+    ensures some { IfSome result (λ x. HasTakenAtOnce seat.old.seat.me lock x seat.new.seat.me) }
+    ensures none { IfNone result (HasTriedInVain seat.old.seat.me seat.new.seat.me) }
     ensures met { IfNone result ((view_of seat.new).met ≡ (view_of seat.old).met) }
-    ensures once { TriedOnce seat.old.seat.me seat.new.seat.me }
     ensures tried { IfNone result ((view_of seat.new).glances ≡ 0) }
     ensures signs { IfNone result (WantsSigns (view_of seat.new)) }
     ensures records { seat.new.records ≡ seat.old.records }
@@ -130,6 +128,7 @@ pub(crate) fn blank() -> Node
 
 /// Takes a lock if it is free and nobody waits for it, and gives its node. It is the first try of every call that takes
 /// a lock: where it fails the seat may go on to want the lock. Whether the seat holds a lock its caller knows.
+#[inline(always)]
 pub fn try_take(seat: &mut Seat16, board: &Board, lock: u32, holds: bool) -> Option<Node>
     requires seat { IsSettledAt board.now seat.old }
     requires lock { lock < locks_of board.now }
@@ -137,10 +136,9 @@ pub fn try_take(seat: &mut Seat16, board: &Board, lock: u32, holds: bool) -> Opt
     requires base { WantsBase (view_of seat.old) }
     requires holds { any_below (length (view_of seat.old).owned) (owns (view_of seat.old)) ≡ holds }
     ensures seat { IsSettledAt board.now seat.new }
-    ensures some { IfSome result (λ x. HasTaken seat.old.seat.me lock x seat.new.seat.me) }
-    ensures none { IfNone result (HoldsAsBefore seat.old.seat.me seat.new.seat.me) }
+    ensures some { IfSome result (λ x. HasTakenAtOnce seat.old.seat.me lock x seat.new.seat.me) }
+    ensures none { IfNone result (HasTriedInVain seat.old.seat.me seat.new.seat.me) }
     ensures met { IfNone result ((view_of seat.new).met ≡ (view_of seat.old).met) }
-    ensures once { TriedOnce seat.old.seat.me seat.new.seat.me }
     ensures tried { IfNone result ((view_of seat.new).glances ≡ 0) }
     ensures signs { IfNone result (WantsSigns (view_of seat.new)) }
     ensures records { seat.new.records ≡ seat.old.records }
@@ -157,10 +155,9 @@ pub fn try_take_node(seat: &mut Seat16, board: &Board, lock: u32, holds: bool) -
     requires base { WantsBase (view_of seat.old) }
     requires holds { any_below (length (view_of seat.old).owned) (owns (view_of seat.old)) ≡ holds }
     ensures seat { IsSettledAt board.now seat.new }
-    ensures some { IfSome result (λ x. HasTaken seat.old.seat.me lock x seat.new.seat.me) }
-    ensures none { IfNone result (HoldsAsBefore seat.old.seat.me seat.new.seat.me) }
+    ensures some { IfSome result (λ x. HasTakenAtOnce seat.old.seat.me lock x seat.new.seat.me) }
+    ensures none { IfNone result (HasTriedInVain seat.old.seat.me seat.new.seat.me) }
     ensures met { IfNone result ((view_of seat.new).met ≡ (view_of seat.old).met) }
-    ensures once { TriedOnce seat.old.seat.me seat.new.seat.me }
     ensures tried { IfNone result ((view_of seat.new).glances ≡ 0) }
     ensures signs { IfNone result (WantsSigns (view_of seat.new)) }
     ensures records { seat.new.records ≡ seat.old.records }

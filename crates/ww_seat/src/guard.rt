@@ -3,7 +3,8 @@ ghost use Rattle.std.specs.Prelude.{◌≡◌, ◌<◌, ◌==◌, [], not, true}
 ghost use Rattle.ww_view.specs.View.{owns};
 ghost use Rattle.ww_table.specs.Seat.{IsSeatOf, locks_of, size_of, view_of};
 ghost use Rattle.ww_seat.specs.Orderly.{IsSettledAt};
-ghost use Rattle.ww_seat.specs.Guards.{IsGiving, IsStill};
+ghost use Rattle.ww_seat.specs.Calls.{HoldsAsBefore};
+ghost use Rattle.ww_seat.specs.Guards.{IsGiving};
 ghost use Rattle.ww_seat.specs.Looks.{IsOutside};
 ghost use Rattle.ww_seat.specs.Work.{IsAtWork};
 
@@ -41,7 +42,7 @@ pub(crate) fn spin_into_owned<R: Wait>(rt: &R, seat: &mut Seat16, board: &Board,
     requires owner { owns (view_of seat.old) lock ≡ true }
     ensures seat { IsSeatOf board.now seat.new }
     ensures giving { IsGiving (size_of board.now) lock seat.new.seat.me }
-    ensures still { IsStill seat.old.seat.me seat.new.seat.me }
+    ensures still { HoldsAsBefore seat.old.seat.me seat.new.seat.me }
     ensures records { seat.new.records ≡ seat.old.records }
 {
     let pause = Pause::new();

@@ -5,30 +5,34 @@ ghost use Rattle.ww_table.specs.Seat.{IsSeatOf, locks_of, size_of, view_of};
 ghost use Rattle.ww_seat.specs.declared.look.Look.TheVariants.{Interrupted};
 ghost use Rattle.ww_seat.specs.Orderly.{IsOrderly, IsSettledAt};
 ghost use Rattle.ww_seat.specs.Looks.{IsLook};
+ghost use Rattle.ww_seat.specs.Bells.{AreBellsOf, ArePlacedAlike, IsRung};
 ghost use Rattle.ww_seat.specs.Work.{HasCondemnedNone, IsWorking, SeesOther, GoesOn};
 
+use crate::bell::Bell;
 use crate::leaving::leave;
 use crate::turns::cancel_once;
 use crate::wake::wake_seat;
-use crossbeam_utils::sync::Unparker;
 use ww_table::{Board, Seat16};
 use ww_word::Owner;
 
 /// Sets the cancel of a seat and wakes it, so that it looks; false if one is pending already, which stays. A waiter
 /// reads its cancel before it parks: one that is set earlier is heeded in that look, and one that is set later wakes
 /// the seat.
-pub fn cancel(seat: &mut Seat16, board: &Board, victim: u8, wakers: &[Unparker]) -> bool
+pub fn cancel(seat: &mut Seat16, board: &Board, victim: u8, bells: &mut [Bell]) -> bool
     requires settled { IsSettledAt board.now seat.old }
     requires victim { victim < 16 }
+    requires bells { AreBellsOf board.now bells.old }
     ensures settled { IsSettledAt board.now seat.new }
     ensures set { result ≡ true → seat.new.seat.me ≡ (cancelling seat.old.seat.me.0 victim, seat.old.seat.me.1) }
     ensures pending { result ≡ false → seat.new.seat.me ≡ (finding_pending seat.old.seat.me.0, seat.old.seat.me.1) }
     ensures records { seat.new.records ≡ seat.old.records }
+    ensures rung { result ≡ true → IsRung victim bells.old bells.new }
+    ensures placed { ArePlacedAlike bells.old bells.new }
 {
     if !cancel_once(seat, board, victim) {
         return false;
     }
-    wake_seat(victim, wakers);
+    wake_seat(victim, bells);
     true
 }
 
@@ -51,8 +55,8 @@ pub(crate) fn stop_if_cancelled(
     ensures records { seat.new.records ≡ seat.old.records }
     ensures stopped { IfSome result (λ by. IsLook (size_of board.now) lock seat.old.seat.me (Interrupted by) seat.new.seat.me) }
     ensures heeds { IfSome result (λ _. heeds ≡ true) }
-    ensures tries { IfSome result (λ _. (view_of seat.new).tries ≡ (view_of seat.old).tries) }
     ensures goes_on { IfNone result (GoesOn (size_of board.now) seat.old.seat.me seat.new.seat.me) }
+    ensures uncancelled { IfNone result (heeds ≡ true → (view_of seat.new).uncancelled ≡ true) }
     ensures condemned { HasCondemnedNone seat.old.seat.me seat.new.seat.me }
 {
     if !heeds {

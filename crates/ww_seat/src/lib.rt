@@ -1,6 +1,7 @@
 //! The calls of the locks, by the steps of one seat at the table.
 #![tactic(auto)]
 
+mod bell;
 mod committing;
 mod context;
 mod fast;
@@ -19,6 +20,7 @@ mod turns;
 mod waiting;
 mod wake;
 
+pub use bell::{Bell, Parker, Wire};
 pub use committing::{NodeChange, commit};
 pub use context::{begin, end};
 pub use fast::{try_take, try_take_node};

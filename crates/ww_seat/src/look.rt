@@ -4,7 +4,7 @@ ghost use Rattle.ww_model.specs.State.{any_below};
 ghost use Rattle.ww_view.specs.View.{owns};
 ghost use Rattle.ww_table.specs.Seat.{IsSeatOf, locks_of, size_of, view_of};
 ghost use Rattle.ww_seat.specs.Orderly.{IsOrderly};
-ghost use Rattle.ww_seat.specs.Looks.{IsLook, MayLookSo};
+ghost use Rattle.ww_seat.specs.Looks.{IsLook, MayLookSo, MayWaitSo};
 ghost use Rattle.ww_seat.specs.Work.{AreWoken, AreMarked, HasToWake, has_joined, looks_again, IsWorking, IsAtWork};
 
 use crate::interrupting::stop_if_cancelled;
@@ -107,7 +107,7 @@ pub fn look_once(
     ensures records { seat.new.records ≡ seat.old.records }
     ensures look { IfSome result (λ look. IsLook (size_of board.now) lock seat.old.seat.me look seat.new.seat.me) }
     ensures heeds { IfSome result (MayLookSo heeds) }
-    ensures tries { IfSome result (λ _. (view_of seat.new).tries ≡ (view_of seat.old).tries) }
+    ensures uncancelled { IfSome result (MayWaitSo heeds (view_of seat.new)) }
     ensures lost { IfNone result (IsAtWork (size_of board.now) lock seat.old.seat.me (has_joined arrival.new) (looks_again arrival.new) seat.new.seat.me) }
     ensures again { looks_again arrival.new ≡ looks_again arrival.old }
     ensures attempted { (view_of seat.new).attempts ≡ (view_of seat.old).attempts + 1 }
@@ -150,7 +150,7 @@ pub(crate) fn look_at<R: Wait>(
     ensures records { seat.new.records ≡ seat.old.records }
     ensures look { IsLook (size_of board.now) lock seat.old.seat.me result seat.new.seat.me }
     ensures heeds { MayLookSo heeds result }
-    ensures tries { (view_of seat.new).tries ≡ (view_of seat.old).tries }
+    ensures uncancelled { MayWaitSo heeds (view_of seat.new) result }
     ensures woken { AreWoken (view_of seat.new) wake.new.seats }
 {
     let mut arrival = arrival;

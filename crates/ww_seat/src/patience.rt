@@ -1,9 +1,10 @@
 //! How a pass waits for locks.
 
+use crate::bell::Parker;
 use crate::resting::{Memory, Rest, Stay};
 use crossbeam_utils::Backoff as Pause;
-use crossbeam_utils::sync::Parker;
 use std::sync::Wait;
+use ww_table::Seat16;
 use ww_word::Owner;
 
 /// How many rounds a waiter gives the owner before it sleeps.
@@ -22,8 +23,7 @@ pub struct Waited {
     pub back_offs: u64,
 }
 
-/// What a pass waits with: the parker that it sleeps on, and what it remembers of its first tries. No contract speaks
-/// of it.
+/// What a pass waits with: the parker that it sleeps on, which stays the same, and what it remembers of its first tries.
 #[derive(Drop)]
 pub struct Patience {
     /// Only the pass's own thread parks on it.
@@ -33,9 +33,14 @@ pub struct Patience {
 }
 
 impl Patience {
-    ghost use Rattle.std.specs.Prelude.{◌≡◌, ◌<◌, ◌≤◌, ◌+◌, None, IfSome};
+    ghost use Rattle.std.specs.Prelude.{◌≡◌, ◌≢◌, ◌≤◌, IfSome};
+    ghost use Rattle.ww_table.specs.Seat.{view_of};
+    ghost use Rattle.ww_seat.specs.Bells.{place_of, sleeps_at};
+    ghost use Rattle.ww_seat.specs.Rests.{Rests};
 
-    pub fn new(parker: Parker) -> Patience {
+    pub fn new(parker: Parker) -> Patience
+        ensures { sleeps_at result ≡ place_of parker }
+    {
         let waited = Waited {
             lost: 0,
             looks: 0,
@@ -55,37 +60,48 @@ impl Patience {
 
     /// A first try has won.
     #[inline]
-    pub fn win(&mut self) {
+    pub fn win(&mut self)
+        ensures { sleeps_at self.new ≡ sleeps_at self.old }
+    {
         self.memory.win();
     }
 
     /// A first try has lost.
-    pub(crate) fn lose(&mut self) {
+    pub(crate) fn lose(&mut self)
+        ensures { sleeps_at self.new ≡ sleeps_at self.old }
+    {
         self.waited.lost = self.waited.lost.saturating_add(1);
     }
 
-    /// What a call that stays away does after a glance that saw this owner.
+    /// What a call that stays away does after a spin read that saw this owner.
     pub(crate) fn next(&mut self, stay: &mut Stay, owner: Owner) -> Option<Rest>
         requires { 1 ≤ stay.old.glances }
-        ensures fewer { stay.new.glances < stay.old.glances }
-        ensures left { IfSome result (λ _. 1 ≤ stay.new.glances) }
-        ensures pauses { IfSome result (λ rest. stay.new.pauses + rest.pauses ≡ stay.old.pauses) }
+        ensures rests { IfSome result (λ rest. Rests stay.old stay.new rest) }
+        ensures parker { sleeps_at self.new ≡ sleeps_at self.old }
     {
         stay.next(&mut self.memory, owner)
     }
 
     /// A lock is about to be looked at.
-    pub(crate) fn look(&mut self) {
+    pub(crate) fn look(&mut self)
+        ensures { sleeps_at self.new ≡ sleeps_at self.old }
+    {
         self.waited.looks = self.waited.looks.saturating_add(1);
     }
 
     /// A look came to EDEADLK.
-    pub(crate) fn back_off(&mut self) {
+    pub(crate) fn back_off(&mut self)
+        ensures { sleeps_at self.new ≡ sleeps_at self.old }
+    {
         self.waited.back_offs = self.waited.back_offs.saturating_add(1);
     }
 
-    /// Sleeps until somebody wakes the seat. If the wake-up comes during the rounds before, it costs no system call.
-    pub(crate) fn sleep<R: Wait>(&mut self, rt: &R) {
+    /// Sleeps until somebody wakes the seat, which stands in a wait list. If the wake-up comes during the rounds before,
+    /// it costs no system call.
+    pub(crate) fn sleep<R: Wait>(&mut self, rt: &R, seat: &Seat16)
+        requires stands { (view_of seat.now).waits ≢ 0 }
+        ensures parker { sleeps_at self.new ≡ sleeps_at self.old }
+    {
         self.waited.sleeps = self.waited.sleeps.saturating_add(1);
         let pause = Pause::new();
         for _ in 0..ROUNDS {

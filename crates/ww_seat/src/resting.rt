@@ -1,13 +1,14 @@
-//! How a call stays away from a lock that it has just tried in vain, as data: how often it glances at the lock, how many
-//! pauses it rests between two glances, and whether it lets other threads run meanwhile. It waits for nobody and reads
-//! nothing; each number of it stands here and nowhere else.
+//! How a call stays away from a lock that it has just tried in vain, as data: how many spin reads of the lock it makes,
+//! how many pauses it rests between two of them, and how often it lets other threads run meanwhile. It waits for nobody
+//! and reads nothing; each number of it stands here and nowhere else.
 
-ghost use Rattle.std.specs.Prelude.{◌≡◌, ◌<◌, ◌≤◌, ◌+◌, None, IfSome};
+ghost use Rattle.std.specs.Prelude.{◌≡◌, ◌<◌, ◌≤◌, ◌+◌, ◌↔◌, nat_eq, if◌then◌else◌, true, IsTrue, None, IfSome};
+ghost use Rattle.ww_seat.specs.Rests.{EndsIfFree, EndsAfter, IsLate, first_with, Rests};
 
 use ww_word::Owner;
 
-/// How often a call glances at a lock at most.
-pub const MOST_GLANCES: u8 = 10;
+/// How many spin reads of a lock a call makes at most.
+pub const MOST_GLANCES: u8 = 14;
 
 /// How many pauses a call rests at most, all its rests together.
 pub const MOST_PAUSES: u32 = 12_416;
@@ -15,23 +16,29 @@ pub const MOST_PAUSES: u32 = 12_416;
 /// A context that still owns the lock after so many pauses works for longer.
 const MOMENT: u32 = 128;
 
-/// A seat that holds locks rests shortly, since others may wait for these: so many glances after the first one, and the
-/// most pauses before each.
-const GLANCES_HOLDING: u8 = 8;
+/// A long rest has parts of so many pauses at most, with a spin read after each.
+const PART: u32 = 1024;
+
+/// A call joins once so many contexts have begun since the first that it saw, however few pauses that took: on busy
+/// processors other programs may have run meanwhile.
+const LATE: u64 = 16_384;
+
+/// A seat that holds locks rests shortly, since others may wait for these: so often, and for so many pauses at most.
+const RESTS_HOLDING: u8 = 8;
 
 const PAUSES_HOLDING: u32 = 8;
 
 /// The same for a seat that holds nothing, if the owner is quick.
-const GLANCES_QUICK: u8 = 2;
+const RESTS_QUICK: u8 = 2;
 
 const PAUSES_QUICK: u32 = 6144;
 
 /// The same if the owner works for longer.
-const GLANCES_LONGER: u8 = 8;
+const RESTS_LONGER: u8 = 8;
 
 const PAUSES_LONGER: u32 = 1024;
 
-/// After so many pauses of a rest another thread may have the processor: it may be the one that has the lock.
+/// After each so many pauses of a rest another thread may have the processor: it may be the one that has the lock.
 pub(crate) const BREATH: u32 = 64;
 
 /// The fewest pauses of a seat that holds nothing.
@@ -43,9 +50,9 @@ const MOST_LOSSES: u32 = 10;
 /// After so many first tries that won, one that was lost is forgotten.
 const CALM: u32 = 128;
 
-/// A law of these numbers: a call glances ten times at most, and rests for 12,416 pauses at most.
+/// A law of these numbers: a call makes fourteen spin reads at most, and rests for 12,416 pauses at most.
 pub fn limits()
-    ensures glances { MOST_GLANCES ≡ 10 }
+    ensures glances { MOST_GLANCES ≡ 14 }
     ensures pauses { MOST_PAUSES ≡ 12416 }
 {}
 
@@ -96,40 +103,54 @@ impl Memory {
     }
 }
 
-/// A rest between two glances.
+/// A rest between two spin reads.
 #[derive(Clone, Copy, Debug, PartialEq, Eq)]
 pub struct Rest {
     pub pauses: u32,
-    /// Whether other threads are let run meanwhile, behind each 64 pauses.
-    pub yields: bool,
+    /// How often other threads are let run meanwhile: behind each 64 pauses.
+    pub yields: u32,
+}
+
+/// The rests of a call that knows how long the owners of its lock take.
+#[derive(Clone, Copy, Debug, PartialEq, Eq)]
+struct Plan {
+    /// How many rests are left.
+    rests: u8,
+    /// How many pauses the next one has; each has twice as many as the one before, up to the longest.
+    next: u32,
+    longest: u32,
+    /// How many pauses are left of a rest that has begun.
+    amid: u32,
 }
 
 /// What a call that stays away knows of the lock's owner.
 #[derive(Clone, Copy, Debug, PartialEq, Eq)]
 enum Seen {
-    /// It hasn't glanced yet.
+    /// It has made no spin read yet.
     Nothing,
-    /// It has glanced once.
+    /// It has made one spin read.
     Once(Owner),
-    /// It knows how long its rests are: the next one, and the longest.
-    Enough(u32, u32),
+    /// It knows how long its rests are.
+    Enough(Plan),
 }
 
 /// Where a call stands that stays away. It begins anew with each call.
 #[derive(Clone, Copy, Debug, PartialEq, Eq)]
 pub struct Stay {
-    /// How many glances are left.
+    /// How many spin reads are left.
     pub glances: u8,
     /// How many pauses are left.
     pub pauses: u32,
     holds: bool,
     seen: Seen,
+    /// The stamp of the first context that it saw own the lock, 0 before.
+    first: u64,
 }
 
 impl Stay {
     /// A call that has just lost its first try; whether its seat holds a lock.
     pub fn new(holds: bool) -> Stay
-        ensures glances { result.glances ≡ 10 }
+        ensures glances { result.glances ≡ 14 }
         ensures pauses { result.pauses ≡ 12416 }
     {
         Stay {
@@ -137,89 +158,123 @@ impl Stay {
             pauses: MOST_PAUSES,
             holds,
             seen: Seen::Nothing,
+            first: 0,
         }
     }
 
-    /// What comes after a glance that saw this owner: a rest and one more glance; or nothing, as the call joins the wait
-    /// list. A lock that nobody owns ends it, and so does the last glance.
+    /// What comes after a spin read that saw this owner: a rest and one more spin read; or nothing, as the call joins the
+    /// wait list.
     pub fn next(&mut self, memory: &mut Memory, owner: Owner) -> Option<Rest>
         requires { 1 ≤ self.old.glances }
-        ensures free { owner.seat ≡ None → result ≡ None }
-        ensures fewer { self.new.glances < self.old.glances }
-        ensures left { IfSome result (λ _. 1 ≤ self.new.glances) }
-        ensures pauses { IfSome result (λ rest. self.new.pauses + rest.pauses ≡ self.old.pauses) }
+        ensures free { owner.seat ≡ None → (result ≡ None) ↔ EndsIfFree self.old }
+        ensures late { IsLate self.old.first owner → result ≡ None }
+        ensures first { self.new.first ≡ first_with self.old.first owner }
+        ensures rests { IfSome result (λ rest. Rests self.old self.new rest) }
     {
         self.glances -= 1;
-        if owner.seat.is_none() {
-            self.give_up(memory);
+        let ends = match owner.seat {
+            None => self.seen.ends_if_free(),
+            Some(_) => self.is_late(owner.stamp) || self.seen.is_over(),
+        };
+        self.seen = self.seen.learned(memory, self.holds, owner);
+        if ends || self.glances == 0 {
             return None;
         }
-        let wanted = self.wanted(memory, owner);
-        if self.glances == 0 {
-            return None;
-        }
+        let wanted = self.seen.pauses();
         let pauses = wanted.min(self.pauses);
         self.pauses -= pauses;
         Some(Rest {
             pauses,
-            yields: pauses >= BREATH,
+            yields: pauses / BREATH,
         })
     }
 
-    /// The lock is free: an owner that was seen before was quick.
-    fn give_up(&self, memory: &mut Memory) {
-        match self.seen {
-            Seen::Nothing | Seen::Once(_) => memory.lose(),
-            Seen::Enough(..) => {}
+    /// Whether so many contexts have begun since the first that it saw. Whoever has no context tells nothing of that.
+    fn is_late(&mut self, stamp: u64) -> bool
+        ensures glances { self.new.glances ≡ self.old.glances }
+        ensures pauses { self.new.pauses ≡ self.old.pauses }
+        ensures seen { self.new.seen ≡ self.old.seen }
+        ensures first { self.new.first ≡ (if nat_eq self.old.first 0 then stamp else self.old.first) }
+        ensures late { 0 < self.old.first → self.old.first + 16384 ≤ stamp → result ≡ true }
+    {
+        if self.first == 0 {
+            self.first = stamp;
+        }
+        stamp.saturating_sub(self.first) >= LATE
+    }
+}
+
+impl Seen {
+    /// Whether a lock that nobody owns ends the stay.
+    fn ends_if_free(self) -> bool
+        ensures { IsTrue result ↔ EndsAfter self }
+    {
+        match self {
+            Seen::Nothing => true,
+            Seen::Once(_) => false,
+            Seen::Enough(plan) => plan.amid == 0,
         }
     }
 
-    /// How many pauses the next rest should have, now that this owner was seen.
-    fn wanted(&mut self, memory: &mut Memory, owner: Owner) -> u32
-        ensures glances { self.new.glances ≤ self.old.glances }
-        ensures pauses { self.new.pauses ≡ self.old.pauses }
-    {
-        match self.seen {
-            Seen::Nothing if !self.holds => {
-                self.seen = Seen::Once(owner);
-                return MOMENT;
+    /// What it knows once it saw this owner too; whether its seat holds a lock.
+    fn learned(self, memory: &mut Memory, holds: bool, owner: Owner) -> Seen {
+        match self {
+            Seen::Nothing if holds => {
+                memory.lose();
+                Seen::planned(RESTS_HOLDING, 1, PAUSES_HOLDING)
             }
             Seen::Nothing => {
-                memory.lose();
-                self.rest_up_to(GLANCES_HOLDING, 1, PAUSES_HOLDING);
+                if owner.seat.is_none() {
+                    memory.lose();
+                }
+                Seen::Once(owner)
             }
             Seen::Once(before) if is_same(before, owner) => {
                 memory.lose_to_work();
-                self.rest_up_to(GLANCES_LONGER, memory.pauses(), PAUSES_LONGER);
+                Seen::planned(RESTS_LONGER, memory.pauses(), PAUSES_LONGER)
             }
             Seen::Once(_) => {
                 memory.lose();
-                self.rest_up_to(GLANCES_QUICK, memory.pauses(), PAUSES_QUICK);
+                Seen::planned(RESTS_QUICK, memory.pauses(), PAUSES_QUICK)
             }
-            Seen::Enough(..) => {}
+            Seen::Enough(_) => self,
         }
-        self.doubled()
     }
 
-    /// So many glances are left, and so long are the rests before them: they double, from the first one to the longest.
-    fn rest_up_to(&mut self, glances: u8, first: u32, longest: u32)
-        ensures glances { self.new.glances ≤ self.old.glances }
-        ensures pauses { self.new.pauses ≡ self.old.pauses }
-    {
-        self.glances = self.glances.min(glances);
-        self.seen = Seen::Enough(longest.min(first), longest);
+    fn planned(rests: u8, first: u32, longest: u32) -> Seen {
+        Seen::Enough(Plan {
+            rests,
+            next: longest.min(first),
+            longest,
+            amid: 0,
+        })
     }
 
-    /// The pauses of the next rest; the one behind it has twice as many.
-    fn doubled(&mut self) -> u32
-        ensures glances { self.new.glances ≡ self.old.glances }
-        ensures pauses { self.new.pauses ≡ self.old.pauses }
-    {
-        let Seen::Enough(next, longest) = self.seen else {
-            return MOMENT;
-        };
-        self.seen = Seen::Enough(longest.min(next.saturating_mul(2)), longest);
-        next
+    /// Whether no rest is left.
+    fn is_over(self) -> bool {
+        matches!(self, Seen::Enough(plan) if plan.rests == 0 && plan.amid == 0)
+    }
+
+    /// The pauses of the next rest, or of the next part of one.
+    fn pauses(&mut self) -> u32 {
+        match self {
+            Seen::Enough(plan) => plan.part(),
+            _ => MOMENT,
+        }
+    }
+}
+
+impl Plan {
+    /// The pauses of the next part; where no rest has begun, of the next rest.
+    fn part(&mut self) -> u32 {
+        if self.amid == 0 {
+            self.rests = self.rests.saturating_sub(1);
+            self.amid = self.next;
+            self.next = self.longest.min(self.next.saturating_mul(2));
+        }
+        let part = self.amid.min(PART);
+        self.amid -= part;
+        part
     }
 }
 

@@ -7,7 +7,7 @@ ghost use Rattle.ww_view.specs.May.{MayDie};
 ghost use Rattle.ww_table.specs.Seat.{IsSeatOf, locks_of, size_of, view_of};
 ghost use Rattle.ww_seat.specs.declared.look.Look.TheVariants.{Deadlk};
 ghost use Rattle.ww_seat.specs.Orderly.{IsOrderly};
-ghost use Rattle.ww_seat.specs.Looks.{IsLook, MayLookSo};
+ghost use Rattle.ww_seat.specs.Looks.{IsLook, MayLookSo, MayWaitSo};
 ghost use Rattle.ww_seat.specs.Work.{AreWoken, AreMarked, HasToWake, HasCondemnedNone, IsTouched, has_joined, looks_again, IsWorking, IsAtWork, SeesOther, HasStood, HasAsked};
 
 use crate::leaving::leave;
@@ -98,7 +98,6 @@ fn back_off(seat: &mut Seat16, board: &Board, lock: u32, seen: Owner) -> bool
     ensures seat { IsSeatOf board.now seat.new }
     ensures records { seat.new.records ≡ seat.old.records }
     ensures met { result ≡ true → (k : ℕ) → MayDie (view_of seat.old) lock seen k → IsLook (size_of board.now) lock seat.old.seat.me (Deadlk k) seat.new.seat.me }
-    ensures tries { result ≡ true → (view_of seat.new).tries ≡ (view_of seat.old).tries }
     ensures lost { result ≡ false → IsTouched (size_of board.now) seat.old.seat.me seat.new.seat.me }
     ensures condemned { HasCondemnedNone seat.old.seat.me seat.new.seat.me }
 {
@@ -130,7 +129,7 @@ pub(crate) fn stay_or_back_off(
     ensures records { seat.new.records ≡ seat.old.records }
     ensures look { IfSome result (λ look. IsLook (size_of board.now) lock seat.old.seat.me look seat.new.seat.me) }
     ensures heeds { IfSome result (MayLookSo false) }
-    ensures tries { IfSome result (λ _. (view_of seat.new).tries ≡ (view_of seat.old).tries) }
+    ensures uncancelled { IfSome result (MayWaitSo (view_of seat.old).uncancelled (view_of seat.new)) }
     ensures lost { IfNone result (IsAtWork (size_of board.now) lock seat.old.seat.me true (looks_again arrival) seat.new.seat.me) }
     ensures attempts { (view_of seat.new).attempts ≡ (view_of seat.old).attempts }
     ensures marked { AreMarked wake.old.seats (HasToWake (view_of seat.new)) wake.new.seats }

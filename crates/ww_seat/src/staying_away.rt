@@ -5,20 +5,26 @@ ghost use Rattle.std.specs.Prelude.{◌≡◌, ◌<◌};
 ghost use Rattle.ww_view.specs.View.{IsAway};
 ghost use Rattle.ww_table.specs.Seat.{IsSeatOf, locks_of, view_of};
 ghost use Rattle.ww_seat.specs.Looks.{HasGlanced};
+ghost use Rattle.ww_seat.specs.Bells.{sleeps_at};
 
 use crate::patience::Patience;
 use crate::resting::{BREATH, MOST_GLANCES, Rest, Stay};
 use std::{hint, thread};
 use ww_table::{Board, Seat16};
 
+fn pause_for(pauses: u32) {
+    for _ in 0..pauses {
+        hint::spin_loop();
+    }
+}
+
 /// Rests as it is told to.
 fn take_rest(rest: Rest) {
-    for done in 0..rest.pauses {
-        hint::spin_loop();
-        if rest.yields && (done + 1) % BREATH == 0 {
-            thread::yield_now();
-        }
+    for _ in 0..rest.yields {
+        pause_for(BREATH);
+        thread::yield_now();
     }
+    pause_for(rest.pauses % BREATH);
 }
 
 /// Stays away from a lock that it has just tried in vain, until nobody owns it, or for as long as its patience says.
@@ -36,6 +42,7 @@ pub(crate) fn stay_away(
     ensures seat { IsSeatOf board.now seat.new }
     ensures glanced { HasGlanced seat.old.seat.me seat.new.seat.me }
     ensures records { seat.new.records ≡ seat.old.records }
+    ensures parker { sleeps_at patience.new ≡ sleeps_at patience.old }
 {
     patience.lose();
     let mut stay = Stay::new(holds);

@@ -104,7 +104,6 @@ pub(crate) fn take_inside(
     ensures seat { IsSeatOf board.now seat.new }
     ensures records { seat.new.records ≡ seat.old.records }
     ensures took { IfSome result (λ x. IsLook (size_of board.now) lock seat.old.seat.me (Locked x) seat.new.seat.me) }
-    ensures tries { IfSome result (λ _. (view_of seat.new).tries ≡ (view_of seat.old).tries) }
     ensures lost { IfNone result (IsTouched (size_of board.now) seat.old.seat.me seat.new.seat.me) }
     ensures attempts { (view_of seat.new).attempts ≡ (view_of seat.old).attempts }
     ensures marked { AreMarked wake.old.seats (HasToWake (view_of seat.new)) wake.new.seats }

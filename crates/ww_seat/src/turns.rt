@@ -1,6 +1,6 @@
 //! What one round of each loop of a call does: a few steps, and it waits for nobody. The calls that wait are loops over
-//! these turns; others make the turns themselves, and wait between them as they like.
-ghost use Rattle.std.specs.Prelude.{◌≡◌, ◌≢◌, ◌<◌, ◌+◌, ◌==◌, [], not, true, false, slice_get, IfSome, IfNone};
+//! these steps; others make the steps themselves, and wait between them as they like.
+ghost use Rattle.std.specs.Prelude.{◌≡◌, ◌<◌, ◌+◌, ◌==◌, [], Some, not, true, false, slice_get};
 ghost use Rattle.std.specs.Option.{option_map};
 ghost use Rattle.ww_word.specs.Owner.{IsValid};
 ghost use Rattle.ww_queue.specs.declared.entry.Entry.{Entry};
@@ -9,8 +9,8 @@ ghost use Rattle.ww_rule.specs.Cancels.{cancelling, finding_pending};
 ghost use Rattle.ww_rule.specs.Guards.{shutting_out};
 ghost use Rattle.ww_table.specs.Seat.{IsSeatOf, locks_of, size_of, view_of};
 ghost use Rattle.ww_seat.specs.Orderly.{IsSettledAt};
-ghost use Rattle.ww_seat.specs.Calls.{HasGiven};
-ghost use Rattle.ww_seat.specs.Guards.{HasLet, IsGiving, IsStill};
+ghost use Rattle.ww_seat.specs.Calls.{HoldsAsBefore, HasGiven};
+ghost use Rattle.ww_seat.specs.Guards.{HasLet, IsGiving};
 ghost use Rattle.ww_seat.specs.Looks.{IsOutside};
 ghost use Rattle.ww_seat.specs.Work.{IsAtWork};
 
@@ -30,20 +30,21 @@ pub fn enter_wanted(seat: &mut Seat16, board: &Board, lock: u32) -> bool
     ensures shut_out { result ≡ false → seat.new.seat.me ≡ (shutting_out seat.old.seat.me.0, seat.old.seat.me.1) }
     ensures attempted { (view_of seat.new).attempts ≡ (view_of seat.old).attempts + 1 }
     ensures waits { result ≡ false → (view_of seat.new).waits ≡ (view_of seat.old).waits }
-    ensures still { result ≡ false → IsStill seat.old.seat.me seat.new.seat.me }
+    ensures still { result ≡ false → HoldsAsBefore seat.old.seat.me seat.new.seat.me }
     ensures records { seat.new.records ≡ seat.old.records }
 {
     seat.enter(board, lock)
 }
 
-/// One try to give a lock back at once that guards a node.
+/// One try to release a lock at once that guards a node.
+#[inline(always)]
 pub fn give_node_at_once(seat: &mut Seat16, board: &Board, lock: u32) -> bool
     requires settled { IsSettledAt board.now seat.old }
     requires lock { lock < size_of board.now }
     requires owner { owns (view_of seat.old) lock ≡ true }
     ensures settled { IsSettledAt board.now seat.new }
     ensures given { result ≡ true → HasGiven seat.old.seat.me lock seat.new.seat.me }
-    ensures still { result ≡ false → IsStill seat.old.seat.me seat.new.seat.me }
+    ensures still { result ≡ false → HoldsAsBefore seat.old.seat.me seat.new.seat.me }
     ensures kept { result ≡ false → (view_of seat.new).kept ≡ (view_of seat.old).kept + 1 }
     ensures gone { result ≡ true → (view_of seat.new).kept ≡ (view_of seat.old).kept }
     ensures records { seat.new.records ≡ seat.old.records }
@@ -51,14 +52,15 @@ pub fn give_node_at_once(seat: &mut Seat16, board: &Board, lock: u32) -> bool
     seat.give_free(board, lock)
 }
 
-/// One try to give a lock back at once, which only an empty wait list allows.
+/// One try to release a lock at once, which only an empty wait list allows.
+#[inline(always)]
 pub fn give_at_once(seat: &mut Seat16, board: &Board, lock: u32) -> bool
     requires settled { IsSettledAt board.now seat.old }
     requires lock { lock < locks_of board.now }
     requires owner { owns (view_of seat.old) lock ≡ true }
     ensures settled { IsSettledAt board.now seat.new }
     ensures given { result ≡ true → HasGiven seat.old.seat.me lock seat.new.seat.me }
-    ensures still { result ≡ false → IsStill seat.old.seat.me seat.new.seat.me }
+    ensures still { result ≡ false → HoldsAsBefore seat.old.seat.me seat.new.seat.me }
     ensures kept { result ≡ false → (view_of seat.new).kept ≡ (view_of seat.old).kept + 1 }
     ensures gone { result ≡ true → (view_of seat.new).kept ≡ (view_of seat.old).kept }
     ensures records { seat.new.records ≡ seat.old.records }
@@ -79,59 +81,49 @@ pub fn enter_owned(seat: &mut Seat16, board: &Board, lock: u32) -> bool
     ensures giving { result ≡ true → IsGiving (size_of board.now) lock seat.new.seat.me }
     ensures settled { result ≡ false → IsSettledAt board.now seat.new }
     ensures shut_out { result ≡ false → seat.new.seat.me ≡ (shutting_out seat.old.seat.me.0, seat.old.seat.me.1) }
-    ensures still { IsStill seat.old.seat.me seat.new.seat.me }
+    ensures still { HoldsAsBefore seat.old.seat.me seat.new.seat.me }
     ensures attempted { (view_of seat.new).attempts ≡ (view_of seat.old).attempts + 1 }
     ensures records { seat.new.records ≡ seat.old.records }
 {
     seat.enter(board, lock)
 }
 
-/// Gives the lock back, if its owner word is still the one seen. The seat is inside the guard still.
-fn give_seen(seat: &mut Seat16, board: &Board, lock: u32, seen: Owner) -> bool
+/// Releases the lock, whose owner word the seat saw last. The seat is inside the guard still.
+fn give_seen(seat: &mut Seat16, board: &Board, lock: u32, seen: Owner)
     requires seat { IsSeatOf board.now seat.old }
     requires lock { lock < locks_of board.now }
     requires giving { IsGiving (size_of board.now) lock seat.old.seat.me }
     requires valid { IsValid seen }
+    requires seen { (view_of seat.old).seen ≡ Some seen }
     ensures seat { IsSeatOf board.now seat.new }
     ensures records { seat.new.records ≡ seat.old.records }
-    ensures gave { result ≡ true → HasLet (size_of board.now) lock seat.old.seat.me seat.new.seat.me }
-    ensures kept { result ≡ false → IsGiving (size_of board.now) lock seat.new.seat.me }
-    ensures still { result ≡ false → IsStill seat.old.seat.me seat.new.seat.me }
-    ensures list { result ≡ false → (view_of seat.new).list ≡ (view_of seat.old).list }
-    ensures sure { (view_of seat.old).list ≢ [] → (view_of seat.old).seen ≡ Some seen → result ≡ true }
+    ensures gave { HasLet (size_of board.now) lock seat.old.seat.me seat.new.seat.me }
     ensures attempts { (view_of seat.new).attempts ≡ (view_of seat.old).attempts }
 {
     if lock < u32::from(board.size()) {
-        seat.give(board, lock, seen)
+        seat.give(board, lock, seen);
     } else {
-        seat.give_bare_inside(board, lock, seen)
+        seat.give_bare_inside(board, lock, seen);
     }
 }
 
-/// One try to give the lock back inside its guard, and to leave: then it tells the first waiter, who is to be woken.
-pub fn give_on(seat: &mut Seat16, board: &Board, lock: u32) -> Option<Option<Entry>>
+/// Releases the lock inside its guard, and leaves. The result is the first waiter, which is to be woken.
+pub fn give_on(seat: &mut Seat16, board: &Board, lock: u32) -> Option<Entry>
     requires seat { IsSeatOf board.now seat.old }
     requires lock { lock < locks_of board.now }
     requires giving { IsGiving (size_of board.now) lock seat.old.seat.me }
-    ensures seat { IsSeatOf board.now seat.new }
-    ensures settled { IfSome result (λ _. IsSettledAt board.now seat.new) }
-    ensures given { IfSome result (λ _. HasGiven seat.old.seat.me lock seat.new.seat.me) }
-    ensures first { IfSome result (λ first. first ≡ slice_get (view_of seat.old).list 0) }
-    ensures heir { IfSome result (λ first. (view_of seat.new).heir ≡ option_map (λ (e : Entry). e.seat) first) }
+    ensures settled { IsSettledAt board.now seat.new }
+    ensures given { HasGiven seat.old.seat.me lock seat.new.seat.me }
+    ensures first { result ≡ slice_get (view_of seat.old).list 0 }
+    ensures heir { (view_of seat.new).heir ≡ option_map (λ (e : Entry). e.seat) result }
     ensures attempted { (view_of seat.new).attempts ≡ (view_of seat.old).attempts + 1 }
-    ensures giving { IfNone result (IsGiving (size_of board.now) lock seat.new.seat.me) }
-    ensures still { IfNone result (IsStill seat.old.seat.me seat.new.seat.me) }
-    ensures list { IfNone result ((view_of seat.new).list ≡ (view_of seat.old).list) }
-    ensures alone { IfNone result ((view_of seat.new).list ≡ []) }
     ensures records { seat.new.records ≡ seat.old.records }
 {
     let seen = seat.look(board, lock);
     let first = seat.first(board, lock);
-    if !give_seen(seat, board, lock, seen) {
-        return None;
-    }
+    give_seen(seat, board, lock, seen);
     seat.exit(board, lock);
-    Some(first)
+    first
 }
 
 /// Sets the cancel of a seat, which is to be woken then; false where one is pending, which stays.

@@ -5,15 +5,16 @@ ghost use Rattle.ww_view.specs.May.{WantsBase, WantsSigns};
 ghost use Rattle.ww_table.specs.Seat.{IsSeatOf, locks_of, size_of, view_of};
 ghost use Rattle.ww_seat.specs.Orderly.{IsSettledAt};
 ghost use Rattle.ww_seat.specs.Calls.{HasTaken, IsTurnedAway, MayStop};
-ghost use Rattle.ww_seat.specs.Looks.{IsOutside, IsLook, MayLookSo};
+ghost use Rattle.ww_seat.specs.Looks.{IsOutside, IsLook, MayLookSo, MayWaitSo};
 ghost use Rattle.ww_seat.specs.Work.{ComesOutside};
+ghost use Rattle.ww_seat.specs.Bells.{sleeps_at, AreBellsOf, ArePlacedAlike, HaveRung};
 
+use crate::bell::Bell;
 use crate::guard::spin_into_wanted;
 use crate::look::{Arrival, Look, look_at};
 use crate::patience::Patience;
 use crate::staying_away::stay_away;
 use crate::wake::Wake;
-use crossbeam_utils::sync::Unparker;
 use std::sync::Wait;
 use ww_plain::Node;
 use ww_table::{Board, Seat16};
@@ -39,7 +40,7 @@ pub fn wait_for<R: Wait>(
     heeds: bool,
     holds: bool,
     patience: &mut Patience,
-    wakers: &[Unparker],
+    bells: &mut [Bell],
 ) -> Result<Node, Stop>
     requires holds { any_below (length (view_of seat.old).owned) (owns (view_of seat.old)) ≡ holds }
     requires settled { IsSettledAt board.now seat.old }
@@ -48,15 +49,17 @@ pub fn wait_for<R: Wait>(
     requires base { WantsBase (view_of seat.old) }
     requires signs { WantsSigns (view_of seat.old) }
     requires tried { (view_of seat.old).glances ≡ 0 }
+    requires bells { AreBellsOf board.now bells.old }
     ensures settled { IsSettledAt board.now seat.new }
     ensures ok { IfOk result (λ x. HasTaken seat.old.seat.me lock x seat.new.seat.me) }
     ensures err { IfErr result (λ why. IsTurnedAway seat.old.seat.me lock why seat.new.seat.me) }
     ensures heeds { IfErr result (MayStop heeds) }
-    ensures tries { (view_of seat.new).tries ≡ (view_of seat.old).tries }
     ensures records { seat.new.records ≡ seat.old.records }
+    ensures parker { sleeps_at patience.new ≡ sleeps_at patience.old }
+    ensures placed { ArePlacedAlike bells.old bells.new }
 {
     stay_away(seat, board, lock, holds, patience);
-    wait(rt, seat, board, lock, heeds, holds, patience, wakers)
+    wait(rt, seat, board, lock, heeds, holds, patience, bells)
 }
 
 /// Waits for a lock: it looks, and sleeps, until a look ends its waiting. It reads no word outside the guard, and its
@@ -69,24 +72,26 @@ fn wait<R: Wait>(
     heeds: bool,
     holds: bool,
     patience: &mut Patience,
-    wakers: &[Unparker],
+    bells: &mut [Bell],
 ) -> Result<Node, Stop>
     requires holds { any_below (length (view_of seat.old).owned) (owns (view_of seat.old)) ≡ holds }
     requires seat { IsSeatOf board.now seat.old }
     requires lock { lock < locks_of board.now }
     requires outside { IsOutside (size_of board.now) lock seat.old.seat.me }
     requires away { (view_of seat.old).waits ≡ 0 }
+    requires bells { AreBellsOf board.now bells.old }
     ensures settled { IsSettledAt board.now seat.new }
     ensures ok { IfOk result (λ x. HasTaken seat.old.seat.me lock x seat.new.seat.me) }
     ensures err { IfErr result (λ why. IsTurnedAway seat.old.seat.me lock why seat.new.seat.me) }
     ensures heeds { IfErr result (MayStop heeds) }
-    ensures tries { (view_of seat.new).tries ≡ (view_of seat.old).tries }
     ensures records { seat.new.records ≡ seat.old.records }
+    ensures parker { sleeps_at patience.new ≡ sleeps_at patience.old }
+    ensures placed { ArePlacedAlike bells.old bells.new }
 {
     let mut arrival = Arrival::Came;
     for _ in rt.forever() {
         patience.look();
-        match visit(rt, seat, board, lock, arrival, heeds, holds, wakers) {
+        match visit(rt, seat, board, lock, arrival, heeds, holds, bells) {
             Look::Locked(node) => return Ok(node),
             Look::Deadlk(met) => {
                 patience.back_off();
@@ -94,7 +99,7 @@ fn wait<R: Wait>(
             }
             Look::Interrupted(by) => return Err(Stop::Interrupted(by)),
             Look::Waits => {
-                patience.sleep(rt);
+                patience.sleep(rt, seat);
                 arrival = Arrival::Woken;
             }
         }
@@ -111,22 +116,25 @@ pub fn visit<R: Wait>(
     arrival: Arrival,
     heeds: bool,
     holds: bool,
-    wakers: &[Unparker],
+    bells: &mut [Bell],
 ) -> Look
     requires holds { any_below (length (view_of seat.old).owned) (owns (view_of seat.old)) ≡ holds }
     requires seat { IsSeatOf board.now seat.old }
     requires lock { lock < locks_of board.now }
     requires outside { IsOutside (size_of board.now) lock seat.old.seat.me }
     requires arrival { ComesOutside arrival (view_of seat.old) }
+    requires bells { AreBellsOf board.now bells.old }
     ensures seat { IsSeatOf board.now seat.new }
     ensures look { IsLook (size_of board.now) lock seat.old.seat.me result seat.new.seat.me }
     ensures heeds { MayLookSo heeds result }
-    ensures tries { (view_of seat.new).tries ≡ (view_of seat.old).tries }
+    ensures uncancelled { MayWaitSo heeds (view_of seat.new) result }
     ensures records { seat.new.records ≡ seat.old.records }
+    ensures rung { HaveRung (view_of seat.new) bells.old bells.new }
+    ensures placed { ArePlacedAlike bells.old bells.new }
 {
     spin_into_wanted(rt, seat, board, lock);
     let mut wake = Wake::new();
     let look = look_at(rt, seat, board, lock, arrival, heeds, holds, &mut wake);
-    wake.deliver(wakers);
+    wake.deliver(bells);
     look
 }

@@ -1,7 +1,8 @@
-ghost use Rattle.std.specs.Prelude.{◌≡◌, ◌≢◌, ◌<◌, true, false, replicate};
+ghost use Rattle.std.specs.Prelude.{ℕ, ◌≡◌, ◌≢◌, ◌<◌, true, false, length, replicate, IfSome};
+ghost use Rattle.ww_seat.specs.Bells.{rung_at, ArePlacedAlike, AreRung, IsRung};
 ghost use Rattle.ww_seat.specs.Work.{AreMarked};
 
-use crossbeam_utils::sync::Unparker;
+use crate::bell::Bell;
 use std::mem;
 use ww_queue::Entry;
 use ww_word::MAX_SEATS;
@@ -40,10 +41,14 @@ impl Wake {
         mem::replace(&mut self.seats, [false; MAX_SEATS])
     }
 
-    pub(crate) fn deliver(self, wakers: &[Unparker]) {
-        for (waker, wakes) in wakers.iter().zip(self.seats.iter()) {
-            if *wakes {
-                waker.unpark();
+    /// Rings for each seat that is to be woken, and for nobody else.
+    pub(crate) fn deliver(self, bells: &mut [Bell])
+        ensures rung { AreRung self.seats bells.old bells.new }
+        ensures placed { ArePlacedAlike bells.old bells.new }
+    {
+        for u in 0..MAX_SEATS {
+            if self.seats[u] {
+                wake_seat(u as u8, bells);
             }
         }
     }
@@ -51,16 +56,24 @@ impl Wake {
 
 /// Wakes the first waiter, if there is one.
 #[cold]
-pub(crate) fn wake_first(first: Option<Entry>, wakers: &[Unparker]) {
+pub(crate) fn wake_first(first: Option<Entry>, bells: &mut [Bell])
+    ensures rung { IfSome first (λ e. IsRung e.seat bells.old bells.new) }
+    ensures placed { ArePlacedAlike bells.old bells.new }
+{
     if let Some(first) = first {
-        wake_seat(first.seat, wakers);
+        wake_seat(first.seat, bells);
     }
 }
 
-/// Wakes a seat.
+/// Wakes a seat. A number that no seat has has no bell.
 #[cold]
-pub(crate) fn wake_seat(seat: u8, wakers: &[Unparker]) {
-    if let Some(waker) = wakers.get(usize::from(seat)) {
-        waker.unpark();
+pub(crate) fn wake_seat(seat: u8, bells: &mut [Bell])
+    ensures rung { IsRung seat bells.old bells.new }
+    ensures others { (u : ℕ) → u ≢ seat → rung_at bells.new u ≡ rung_at bells.old u }
+    ensures placed { ArePlacedAlike bells.old bells.new }
+{
+    let u = usize::from(seat);
+    if u < bells.len() {
+        bells[u].ring();
     }
 }

@@ -152,7 +152,7 @@ impl Memory {
     }
 }
 
-/// Waits for a lock, and tells who called that off. Who is told EDEADLK has to back off.
+/// Waits for a lock, and tells who called that off. A context that gets EDEADLK has to back off.
 fn wait<R: Wait>(
     rt: &R,
     world: &World,
@@ -224,7 +224,7 @@ fn take_in_turn<R: Wait>(
     Ok((acquiring, None))
 }
 
-/// Gives all back, and takes the lock that it couldn't get; or ends the context where that is called off.
+/// Releases all, and takes the lock that it couldn't get; or ends the context where that is called off.
 fn back_off<R: Wait>(
     rt: &R,
     world: &World,
@@ -391,7 +391,7 @@ fn round<R: Wait>(rt: &R, world: &World, mut pass: Pass, plan: Plan, memory: &mu
     pass
 }
 
-/// What a thread gives back.
+/// What a thread returns.
 #[derive(Drop)]
 struct Work {
     pass: Pass,
@@ -413,7 +413,7 @@ fn all_rounds<R: Wait>(rt: &R, alloc: Global, world: &World, mut pass: Pass, can
     Work { pass, memory }
 }
 
-/// Takes what the threads gave back apart.
+/// Takes what the threads returned apart.
 fn passes_of(
     _world: &World,
     alloc: Global,

@@ -29,7 +29,10 @@ use Rattle.ww_model.specs.State.{start}
 use Rattle.ww_view.specs.View.{IsBare}
 use Rattle.ww_rule.proofs.Seats.{opens, opens_start, splits, at_end, bare_first}
 
-pub new_seat : (table : TableId) (key : Start) (k : ℕ) (s : Seat16) → s.seat.table_id ≡ table → s.seat.me ≡ (seat_of (length (first_graph key)) (first_part key.kind key.locks k), []) → s.kind ≡ key.kind → s.who ≡ k → k < 16 → s.stamp ≡ 0 → s.own ≡ packed (record { seat = Some s.who; stamp = s.stamp; flags = 0 }) → s.order.items ≡ [] → s.records.items ≡ [] → IsSome s.page → IsNew table key k s
+pub new_seat : (table : TableId) (key : Start) (k : ℕ) (s : Seat16) → s.seat.table_id ≡ table
+    → s.seat.me ≡ (seat_of (length (first_graph key)) (first_part key.kind key.locks k), []) → s.kind ≡ key.kind
+    → s.who ≡ k → k < 16 → s.stamp ≡ 0 → s.own ≡ packed (record { seat = Some s.who; stamp = s.stamp; flags = 0 })
+    → s.order.items ≡ [] → s.records.items ≡ [] → IsSome s.page → IsNew table key k s
 new_seat table key k s home me kind who few stamp own order records page = record {
   seated = record {
     home = home;
@@ -50,37 +53,60 @@ new_seat table key k s home me kind who few stamp own order records page = recor
   me = me;
 }
 
-pub news_more : (table : TableId) (key : Start) (n : ℕ) (seats : List Seat16) (s : Seat16) → AreNew table key n seats → IsNew table key n s → AreNew table key (n + 1) (seats ++ s ∷ [])
+pub news_more : (table : TableId) (key : Start) (n : ℕ) (seats : List Seat16) (s : Seat16)
+    → AreNew table key n seats → IsNew table key n s → AreNew table key (n + 1) (seats ++ s ∷ [])
 news_more table key n seats s are new = record {
   many = let l = length-append seats (s ∷ []) in let m = are.many in omega arith;
-  new = λ k t there. ⊎_elim (λ was. are.new k t was) (λ now. subst (λ (x : ℕ × Seat16). IsNew table key x.0 x.1) (λ i. (sym (now.0 ∙ are.many) i, now.1 i)) new) (at_end seats s t k there);
+  new = λ k t there. ⊎_elim (λ was. are.new k t was)
+      (λ now. subst (λ (x : ℕ × Seat16). IsNew table key x.0 x.1) (λ i. (sym (now.0 ∙ are.many) i, now.1 i)) new)
+      (at_end seats s t k there);
 }
 
 -- the idle numbers of the first seat begin with the next
 next_idle : (key : Start) (k : ℕ) → k < key.seats - 1 → (less key k).idle ≡ first_part key.kind key.locks k ∷ (less key (k + 1)).idle
 next_idle key k more = ap (first_parts key.kind key.locks k) (let z : key.seats - 1 - k ≡ suc (key.seats - 1 - (k + 1)) = omega arith in z)
 
-pub next_splits : (key : Start) (id k : ℕ) (v : Sight) → v ≡ less key k → k < key.seats - 1 → Splits (Ruled key) id v (without_first v) (first_seat (length v.held) v.idle)
-next_splits key id k v is more = splits key id v (first_part key.kind key.locks k) (less key (k + 1)).idle (ap (λ (w : Sight). w.seated) is) (ap (λ (w : Sight). w.idle) is ∙ next_idle key k more)
+pub next_splits : (key : Start) (id k : ℕ) (v : Sight) → v ≡ less key k → k < key.seats - 1
+    → Splits (Ruled key) id v (without_first v) (first_seat (length v.held) v.idle)
+next_splits key id k v is more = splits key id v (first_part key.kind key.locks k) (less key (k + 1)).idle
+    (ap (λ (w : Sight). w.seated) is) (ap (λ (w : Sight). w.idle) is ∙ next_idle key k more)
 
 pub next_left : (key : Start) (k : ℕ) (v : Sight) → v ≡ less key k → k < key.seats - 1 → without_first v ≡ less key (k + 1)
-next_left key k v is more = ap without_first is ∙ ap (λ (l : List Part). let w : Sight = record (first_sight key) { idle = rest_of l } in w) (next_idle key k more)
+next_left key k v is more = ap without_first is
+    ∙ ap (λ (l : List Part). let w : Sight = record (first_sight key) { idle = rest_of l } in w)
+    (next_idle key k more)
 
-pub next_cut : (key : Start) (k : ℕ) (v : Sight) → v ≡ less key k → k < key.seats - 1 → first_seat (length v.held) v.idle ≡ seat_of (length (first_graph key)) (first_part key.kind key.locks k)
-next_cut key k v is more = ap (λ (w : Sight). first_seat (length w.held) w.idle) is ∙ ap (first_seat (length (less key k).held)) (next_idle key k more)
+pub next_cut : (key : Start) (k : ℕ) (v : Sight) → v ≡ less key k → k < key.seats - 1
+    → first_seat (length v.held) v.idle ≡ seat_of (length (first_graph key)) (first_part key.kind key.locks k)
+next_cut key k v is more = ap (λ (w : Sight). first_seat (length w.held) w.idle) is
+    ∙ ap (first_seat (length (less key k).held)) (next_idle key k more)
     ∙ ap (λ (n : ℕ). seat_of n (first_part key.kind key.locks k)) (length-replicate {A = _} (length (first_graph key)) None)
 
 -- with all numbers but the last cut off, the first seat is that of the last
-pub last_left : (key : Start) (k : ℕ) → k ≡ key.seats - 1 → less key k ≡ seat_of (length (first_graph key)) (first_part key.kind key.locks k)
-last_left key k is = (λ i. record (first_sight key) { part = first_part key.kind key.locks (sym is i); idle = first_parts key.kind key.locks k ((let z : key.seats - 1 - k ≡ 0 = omega arith in z) i) })
+pub last_left : (key : Start) (k : ℕ) → k ≡ key.seats - 1
+    → less key k ≡ seat_of (length (first_graph key)) (first_part key.kind key.locks k)
+last_left key k is = (λ i. record (first_sight key) {
+  part = first_part key.kind key.locks (sym is i);
+  idle = first_parts key.kind key.locks k ((let z : key.seats - 1 - k ≡ 0 = omega arith in z) i);
+})
 
-pub opens_made : (key : Start) (graph : List Node) (slots : List Cell) → first_graph key ≡ graph → 1 ≤ key.seats → key.seats ≤ 16 → key.locks ≤ 65536 → length graph ≤ key.locks → IsGraph graph → AreSlots graph (64 + key.locks) slots → Ruled key (opening (replicate (144 + 8 * key.locks) 0) slots (first_sight key))
-opens_made key graph slots same one few many fits is are = opens key one (omega arith) many (let l = ap length same in omega arith) (subst IsGraph (sym same) is) slots are.many
-    (λ n low. are.nodes n (let m = is.few in let l = ap length same in omega arith) (let l = ap length same in omega arith) ∙ ap (λ (g : List Node). maybe.some (Content (node_at g n))) (sym same))
+pub opens_made : (key : Start) (graph : List Node) (slots : List Cell) → first_graph key ≡ graph → 1 ≤ key.seats
+    → key.seats ≤ 16 → key.locks ≤ 65536 → length graph ≤ key.locks → IsGraph graph
+    → AreSlots graph (64 + key.locks) slots
+    → Ruled key (opening (replicate (144 + 8 * key.locks) 0) slots (first_sight key))
+opens_made key graph slots same one few many fits is are =
+    opens key one (omega arith) many (let l = ap length same in omega arith) (subst IsGraph (sym same) is) slots
+    are.many
+    (λ n low. are.nodes n (let m = is.few in let l = ap length same in omega arith)
+    (let l = ap length same in omega arith)
+    ∙ ap (λ (g : List Node). maybe.some (Content (node_at g n))) (sym same))
     (λ n low. are.lists (64 + n) (omega arith) (let m = is.few in omega arith))
 
-pub opens_made_start : (key : Start) (graph : List Node) (slots : List Cell) (same : first_graph key ≡ graph) (one : 1 ≤ key.seats) (few : key.seats ≤ 16) (many : key.locks ≤ 65536) (fits : length graph ≤ key.locks) (is : IsGraph graph) (are : AreSlots graph (64 + key.locks) slots)
-    → ((opens_made key graph slots same one few many fits is are).core ≡ start key.kind key.locks 16) × ((opens_made key graph slots same one few many fits is are).log ≡ [])
+pub opens_made_start : (key : Start) (graph : List Node) (slots : List Cell) (same : first_graph key ≡ graph)
+    (one : 1 ≤ key.seats) (few : key.seats ≤ 16) (many : key.locks ≤ 65536) (fits : length graph ≤ key.locks)
+    (is : IsGraph graph) (are : AreSlots graph (64 + key.locks) slots)
+    → ((opens_made key graph slots same one few many fits is are).core ≡ start key.kind key.locks 16)
+    × ((opens_made key graph slots same one few many fits is are).log ≡ [])
 unfolding opens_made
 opens_made_start key graph slots same one few many fits is are = opens_start key _ _ _ _ _ slots _ _ _
 

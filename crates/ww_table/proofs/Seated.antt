@@ -12,8 +12,13 @@ use Rattle.ww_table.specs.declared.seat.Seat16.{Seat16}
 use Rattle.ww_table.specs.Seat.{IsSeated}
 
 -- the seat is as it was, but for its view, the slots that it has out, and its page
-pub seated_paged : (table : TableId) (s new : Seat16) (w : Sight) → IsSeated table s → new.seat.table_id ≡ s.seat.table_id → new.seat.me.0 ≡ w → w.seated ≡ s.seat.me.0.seated → w.part.core.kind ≡ s.seat.me.0.part.core.kind → w.part.core.who ≡ s.seat.me.0.part.core.who
-    → w.part.core.stamp ≡ s.seat.me.0.part.core.stamp → w.part.own ≡ s.seat.me.0.part.own → w.idle ≡ s.seat.me.0.idle → (w.part.core.waits ≡ 0 → IsSome new.page) → new.kind ≡ s.kind → new.who ≡ s.who → new.stamp ≡ s.stamp → new.own ≡ s.own → new.records.items ≡ s.records.items → new.order.items ≡ numbers_of new.seat.me.1 → IsSeated table new
+pub seated_paged : (table : TableId) (s new : Seat16) (w : Sight) → IsSeated table s
+    → new.seat.table_id ≡ s.seat.table_id → new.seat.me.0 ≡ w → w.seated ≡ s.seat.me.0.seated
+    → w.part.core.kind ≡ s.seat.me.0.part.core.kind → w.part.core.who ≡ s.seat.me.0.part.core.who
+    → w.part.core.stamp ≡ s.seat.me.0.part.core.stamp → w.part.own ≡ s.seat.me.0.part.own
+    → w.idle ≡ s.seat.me.0.idle → (w.part.core.waits ≡ 0 → IsSome new.page) → new.kind ≡ s.kind → new.who ≡ s.who
+    → new.stamp ≡ s.stamp → new.own ≡ s.own → new.records.items ≡ s.records.items
+    → new.order.items ≡ numbers_of new.seat.me.1 → IsSeated table new
 seated_paged table s new w was home view seated kind who stamp own idle paged same_kind same_who same_stamp word records order = record {
   home = home ∙ was.home;
   seated = ap (λ (v : Sight). v.seated) view ∙ seated ∙ was.seated;
@@ -31,11 +36,21 @@ seated_paged table s new w was home view seated kind who stamp own idle paged sa
 }
 
 -- ... and its page
-pub seated_as : (table : TableId) (s new : Seat16) (w : Sight) → IsSeated table s → new.seat.table_id ≡ s.seat.table_id → new.seat.me.0 ≡ w → w.seated ≡ s.seat.me.0.seated → w.part.core.kind ≡ s.seat.me.0.part.core.kind → w.part.core.who ≡ s.seat.me.0.part.core.who
-    → w.part.core.stamp ≡ s.seat.me.0.part.core.stamp → w.part.own ≡ s.seat.me.0.part.own → w.idle ≡ s.seat.me.0.idle → w.part.core.waits ≡ s.seat.me.0.part.core.waits → new.kind ≡ s.kind → new.who ≡ s.who → new.stamp ≡ s.stamp → new.own ≡ s.own → new.records.items ≡ s.records.items → new.page ≡ s.page → new.order.items ≡ numbers_of new.seat.me.1 → IsSeated table new
+pub seated_as : (table : TableId) (s new : Seat16) (w : Sight) → IsSeated table s
+    → new.seat.table_id ≡ s.seat.table_id → new.seat.me.0 ≡ w → w.seated ≡ s.seat.me.0.seated
+    → w.part.core.kind ≡ s.seat.me.0.part.core.kind → w.part.core.who ≡ s.seat.me.0.part.core.who
+    → w.part.core.stamp ≡ s.seat.me.0.part.core.stamp → w.part.own ≡ s.seat.me.0.part.own
+    → w.idle ≡ s.seat.me.0.idle → w.part.core.waits ≡ s.seat.me.0.part.core.waits → new.kind ≡ s.kind
+    → new.who ≡ s.who → new.stamp ≡ s.stamp → new.own ≡ s.own → new.records.items ≡ s.records.items
+    → new.page ≡ s.page → new.order.items ≡ numbers_of new.seat.me.1 → IsSeated table new
 seated_as table s new w was home view seated kind who stamp own idle waits same_kind same_who same_stamp word records page =
-    seated_paged table s new w was home view seated kind who stamp own idle (λ out. subst IsSome (sym page) (was.page (sym waits ∙ out))) same_kind same_who same_stamp word records
+    seated_paged table s new w was home view seated kind who stamp own idle
+    (λ out. subst IsSome (sym page) (was.page (sym waits ∙ out))) same_kind same_who same_stamp word records
 
 -- ... where these stay too
-pub seated_still : (table : TableId) (s new : Seat16) → IsSeated table s → new.seat.table_id ≡ s.seat.table_id → new.seat.me ≡ s.seat.me → new.kind ≡ s.kind → new.who ≡ s.who → new.stamp ≡ s.stamp → new.own ≡ s.own → new.records.items ≡ s.records.items → new.page ≡ s.page → new.order.items ≡ s.order.items → IsSeated table new
-seated_still table s new was home same kind who stamp word records page order = seated_as table s new s.seat.me.0 was home (ap (λ (m : Sat). m.0) same) refl refl refl refl refl refl refl kind who stamp word records page (order ∙ was.order ∙ ap (λ (m : Sat). numbers_of m.1) (sym same))
+pub seated_still : (table : TableId) (s new : Seat16) → IsSeated table s → new.seat.table_id ≡ s.seat.table_id
+    → new.seat.me ≡ s.seat.me → new.kind ≡ s.kind → new.who ≡ s.who → new.stamp ≡ s.stamp → new.own ≡ s.own
+    → new.records.items ≡ s.records.items → new.page ≡ s.page → new.order.items ≡ s.order.items → IsSeated table new
+seated_still table s new was home same kind who stamp word records page order =
+    seated_as table s new s.seat.me.0 was home (ap (λ (m : Sat). m.0) same) refl refl refl refl refl refl refl kind
+    who stamp word records page (order ∙ was.order ∙ ap (λ (m : Sat). numbers_of m.1) (sym same))

@@ -33,7 +33,7 @@ pub record HaveAllCome (table : TableId) (key : Start) (seats : List Seat16) : T
   pub all : (k : ℕ) → k < key.seats → (s : Seat16) × Has seats s × (s.who ≡ k)
 
 -- The records are a legal history from the first graph, and lead to this graph. Each is one of a seat's, and the part
--- of each seat is exactly its own list. The seats were no more than the table has.
+-- of each seat is exactly its log. The seats were no more than the table has.
 pub record IsClosed (key : Start) (seats : List Seat16) (records : List Record) (graph : List Node) : Type 0 where
   pub legal : IsLegal (first_graph key) (history_of records)
   pub fold : graph ≡ last_graph (first_graph key) (history_of records)
@@ -42,7 +42,9 @@ pub record IsClosed (key : Start) (seats : List Seat16) (records : List Record) 
   pub few : length seats ≡ key.seats
   -- each cancel that one seat set for another was heeded, or is pending: of each seat one at most
   pub pending : ℕ → ℕ
-  pub balanced : (s t : Seat16) → Has seats s → Has seats t → times t.who s.seat.me.0.part.counts.cancelled ≡ times s.who t.seat.me.0.part.counts.heeded + one_of s.who t.who (pending t.who)
+  pub balanced : (s t : Seat16) → Has seats s → Has seats t
+      → times t.who s.seat.me.0.part.counts.cancelled ≡ times s.who t.seat.me.0.part.counts.heeded
+      + one_of s.who t.who (pending t.who)
   -- and nobody heeded a cancel of a number that no seat has
   pub strangers : (k : ℕ) (t : Seat16) → key.seats ≤ k → Has seats t → times k t.seat.me.0.part.counts.heeded ≡ 0
 
@@ -58,7 +60,8 @@ pub record AreLaid (parts : List Part) (places : List (Option Record)) : Type 0 
   pub filled : (p : Part) (i : ℕ) (r : Record) → Has parts p → Has p.own (i, r) → (t : Record) × (get_elem? places i ≡ some (Some t))
 
 -- These seats are one, which holds nothing and has all their numbers, and the places have their records.
-pub record IsGathered (table : TableId) (seats : List Seat16) (count : ℕ) (token : Seat Cell Sight) (places : List (Option Record)) : Type 0 where
+pub record IsGathered (table : TableId) (seats : List Seat16) (count : ℕ) (token : Seat Cell Sight)
+    (places : List (Option Record)) : Type 0 where
   pub home : token.table_id ≡ table
   pub seated : token.me.0.seated ≡ true
   pub bare : IsBare token.me.0.part.core

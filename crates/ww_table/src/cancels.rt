@@ -2,8 +2,7 @@ ghost use Rattle.std.specs.Prelude.{◌≡◌, ◌≢◌, ◌<◌, ◌≤◌, tr
 ghost use Rattle.ww_view.specs.View.{IsAway};
 ghost use Rattle.ww_view.specs.May.{MayHeed};
 ghost use Rattle.ww_table.specs.Seat.{IsSeatOf, view_of};
-ghost use Rattle.ww_rule.specs.Guards.{lost};
-ghost use Rattle.ww_rule.specs.Cancels.{cancelling, finding_pending, heeding};
+ghost use Rattle.ww_rule.specs.Cancels.{cancelling, finding_pending, finding_uncancelled, heeding};
 
 use crate::board::Board;
 use crate::seat::Seat16;
@@ -28,7 +27,7 @@ impl Seat16 {
     }
 
     /// Takes the own cancel, which only a waiter inside the guard may do, while another seat has the lock. It gives the
-    /// number of the seat that set it plus 1, or 0 if none is pending. A seat that found one can get out of the guard
+    /// number of the seat that set it plus 1, or 0 if none is pending, which the view notes. A seat that found one can get out of the guard
     /// only by `leave`.
     pub fn heed(&mut self, board: &Board, lock: u32) -> u64
         requires seat { IsSeatOf board.now self.old }
@@ -36,7 +35,7 @@ impl Seat16 {
         ensures seat { IsSeatOf board.now self.new }
         ensures records { self.new.records ≡ self.old.records }
         ensures few { result ≤ 16 }
-        ensures none { result ≡ 0 → self.new.seat.me ≡ (lost self.old.seat.me.0, self.old.seat.me.1) }
+        ensures none { result ≡ 0 → self.new.seat.me ≡ (finding_uncancelled self.old.seat.me.0, self.old.seat.me.1) }
         ensures heeded { result ≢ 0 → self.new.seat.me ≡ (heeding self.old.seat.me.0 result, self.old.seat.me.1) }
     {
         let shared = &board.table.shared;

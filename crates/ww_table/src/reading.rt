@@ -133,7 +133,7 @@ impl Seat16 {
         seen
     }
 
-    /// Who owns the lock after it is given back: the first waiter if HANDOFF is set, else nobody.
+    /// Who owns the lock after it is released: the first waiter if HANDOFF is set, else nobody.
     pub(crate) fn next_owner(&mut self, board: &Board, lock: u32, is_asked: bool) -> Owner
         requires seat { IsSeatOf board.now self.old }
         requires lock { lock < locks_of board.now }

@@ -134,7 +134,7 @@ impl Seat16 {
         true
     }
 
-    /// One try to give a lock back at once, which only an empty wait list allows.
+    /// One try to release a lock at once, which only an empty wait list allows.
     pub fn give_free(&mut self, board: &Board, lock: u32) -> bool
         requires seat { IsSeatOf board.now self.old }
         requires lock { lock < size_of board.now }
@@ -172,7 +172,7 @@ impl Seat16 {
         shared.compare_exchange::<TakeBare>(&mut self.seat, owner_word(lock), 0, own) == 0
     }
 
-    /// One try to give a lock back at once that guards no node.
+    /// One try to release a lock at once that guards no node.
     pub fn give_bare(&mut self, board: &Board, lock: u32) -> bool
         requires seat { IsSeatOf board.now self.old }
         requires lock { (size_of board.now ≤ lock) × (lock < locks_of board.now) }

@@ -30,7 +30,8 @@ use ww_rule::plays_inside::{Ask, Die, Give, GiveBareInside, Join, Leave, Take, T
 use ww_word::{HANDOFF, Owner, WAITERS, pack};
 
 /// The steps on an owner word inside its guard. Each succeeds if the word is still the one expected. It is if the seat
-/// saw that word last and somebody waits (`sure`), since nobody else writes it then.
+/// saw that word last and somebody waits (`sure`), since nobody else writes it then; and nobody but its owner writes the
+/// word of a lock while that is inside the guard, so a release there always succeeds.
 impl Seat16 {
     /// Stands in the wait list of the lock, if its owner word is still the one seen.
     pub fn join(&mut self, board: &Board, lock: u32, seen: Owner, holds: bool) -> bool
@@ -151,26 +152,25 @@ impl Seat16 {
         true
     }
 
-    /// Gives a lock back that guards no node, if its owner word is still the one seen: to the first waiter if that
-    /// asked for it.
-    pub fn give_bare_inside(&mut self, board: &Board, lock: u32, seen: Owner) -> bool
+    /// Releases a lock that guards no node, and whose owner word the seat saw last: to the first waiter if that asked
+    /// for it.
+    pub fn give_bare_inside(&mut self, board: &Board, lock: u32, seen: Owner)
         requires seat { IsSeatOf board.now self.old }
         requires lock { (size_of board.now ≤ lock) × (lock < locks_of board.now) }
         requires may { MayGive (view_of self.old) lock }
         requires valid { IsValid seen }
+        requires seen { (view_of self.old).seen ≡ Some seen }
         requires list { slot_of self.old.seat.me.1 (list_at lock) ≡ Some (Line (view_of self.old).list) }
         requires waiters { AreSeats (view_of self.old).list }
         ensures seat { IsSeatOf board.now self.new }
         ensures records { self.new.records ≡ self.old.records }
-        ensures sure { (view_of self.old).list ≢ [] → (view_of self.old).seen ≡ Some seen → result ≡ true }
-        ensures gave { result ≡ true → (others : List (ℕ × Cell)) × AreOthers self.old.seat.me.1 (list_at lock) (Line (view_of self.old).list) others × (self.new.seat.me ≡ (knowing self.old.seat.me.0 (given (view_of self.old) lock (seen.flags == 3)), (list_at lock, Line (view_of self.old).list) ∷ others)) }
-        ensures lost { result ≡ false → (others : List (ℕ × Cell)) × AreOthers self.old.seat.me.1 (list_at lock) (Line (view_of self.old).list) others × (self.new.seat.me ≡ (lost self.old.seat.me.0, (list_at lock, Line (view_of self.old).list) ∷ others)) }
+        ensures gave { (others : List (ℕ × Cell)) × AreOthers self.old.seat.me.1 (list_at lock) (Line (view_of self.old).list) others × (self.new.seat.me ≡ (knowing self.old.seat.me.0 (given (view_of self.old) lock (seen.flags == 3)), (list_at lock, Line (view_of self.old).list) ∷ others)) }
     {
         let owner = self.next_owner(board, lock, seen.flags == WAITERS | HANDOFF);
         let old = pack(seen);
         let new = pack(owner);
         let shared = &board.table.shared;
-        shared.compare_exchange::<GiveBareInside>(&mut self.seat, owner_word(lock), old, new) == old
+        shared.compare_exchange::<GiveBareInside>(&mut self.seat, owner_word(lock), old, new);
     }
 
     /// Leaves the wait list, as the context has to back off, if the owner word is still the one seen.
@@ -202,7 +202,7 @@ impl Seat16 {
 
     /// Leaves the wait list for the cancel that the seat has heeded, if the owner word is still the one seen. It is,
     /// where that is the word that the seat saw last (`sure`): while a waiter is inside the guard, nobody else writes
-    /// it. So who has heeded a cancel needs no way back.
+    /// it. So a seat that has heeded a cancel needs no way back.
     pub fn leave(&mut self, board: &Board, lock: u32, seen: Owner) -> bool
         requires seat { IsSeatOf board.now self.old }
         requires lock { lock < locks_of board.now }
@@ -228,32 +228,27 @@ impl Seat16 {
         true
     }
 
-    /// Gives the lock back, if its owner word is still the one seen: to the first waiter, if that was asked for. The
-    /// node goes home.
-    pub fn give(&mut self, board: &Board, lock: u32, seen: Owner) -> bool
+    /// Releases the lock, whose owner word the seat saw last: to the first waiter, if that was asked for. The node goes
+    /// home.
+    pub fn give(&mut self, board: &Board, lock: u32, seen: Owner)
         requires seat { IsSeatOf board.now self.old }
         requires lock { lock < size_of board.now }
         requires may { MayGive (view_of self.old) lock }
         requires valid { IsValid seen }
+        requires seen { (view_of self.old).seen ≡ Some seen }
         requires list { slot_of self.old.seat.me.1 (list_at lock) ≡ Some (Line (view_of self.old).list) }
         requires waiters { AreSeats (view_of self.old).list }
         requires out { (x : Node) × IsOut self.old.seat.me.1 lock (Content x) × (get_elem? self.old.seat.me.0.held lock ≡ some (Some x)) }
         ensures seat { IsSeatOf board.now self.new }
         ensures records { self.new.records ≡ self.old.records }
-        ensures sure { (view_of self.old).list ≢ [] → (view_of self.old).seen ≡ Some seen → result ≡ true }
-        ensures gave { result ≡ true → (x : Node) × (others : List (ℕ × Cell)) × (self.new.seat.me.0 ≡ giving_inside self.old.seat.me.0 lock (seen.flags == 3)) × AreOthers self.old.seat.me.1 (list_at lock) (Line (view_of self.old).list) others × AreOthers ((list_at lock, Line (view_of self.old).list) ∷ others) lock (Content x) self.new.seat.me.1 }
-        ensures lost { result ≡ false → (x : Node) × (others : List (ℕ × Cell)) × (rest : List (ℕ × Cell)) × AreOthers self.old.seat.me.1 (list_at lock) (Line (view_of self.old).list) others × AreOthers ((list_at lock, Line (view_of self.old).list) ∷ others) lock (Content x) rest × (self.new.seat.me ≡ (lost self.old.seat.me.0, (lock, Content x) ∷ rest)) }
+        ensures gave { (x : Node) × (others : List (ℕ × Cell)) × (self.new.seat.me.0 ≡ giving_inside self.old.seat.me.0 lock (seen.flags == 3)) × AreOthers self.old.seat.me.1 (list_at lock) (Line (view_of self.old).list) others × AreOthers ((list_at lock, Line (view_of self.old).list) ∷ others) lock (Content x) self.new.seat.me.1 }
     {
         let owner = self.next_owner(board, lock, seen.flags == WAITERS | HANDOFF);
         bring(&mut self.seat, &mut self.order, lock);
         let old = pack(seen);
         let new = pack(owner);
         let shared = &board.table.shared;
-        let found = shared.compare_exchange::<Give>(&mut self.seat, owner_word(lock), old, new);
-        if found != old {
-            return false;
-        }
+        shared.compare_exchange::<Give>(&mut self.seat, owner_word(lock), old, new);
         self.order.pop();
-        true
     }
 }

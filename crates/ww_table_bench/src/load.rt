@@ -20,11 +20,11 @@ use ww_table_loads::{Tally, round_of_one};
 /// What a round does.
 #[derive(Clone, Copy, Debug, PartialEq, Eq)]
 pub(crate) enum What {
-    /// Takes the thread's own lock and gives it back.
+    /// Takes the thread's own lock and releases it.
     Pairs,
     /// The same with one of 64 locks, drawn at random.
     PairsOf64,
-    /// Starts a context, takes the thread's own lock, commits that its node has 1 more, gives the lock back, and ends.
+    /// Starts a context, takes the thread's own lock, commits that its node has 1 more, releases the lock, and ends.
     Commits,
 }
 
@@ -56,7 +56,7 @@ fn graph(alloc: Global) -> Result<Graph, AllocError>
     Graph::new(nodes).ok().ok_or(AllocError)
 }
 
-/// Takes a lock and gives it back, and tells whether it had the lock; nothing where the lock can't be given back at
+/// Takes a lock and releases it, and tells whether it had the lock; nothing where the lock can't be released at
 /// once.
 #[inline(always)]
 fn pair(board: &Board, seat: &mut Seat16, lock: u32) -> Option<bool>

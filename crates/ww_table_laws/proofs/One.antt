@@ -27,7 +27,8 @@ use Rattle.ww_table.proofs.Closing.{part_has, has_part}
 
 -- ---- an owner word tells owner and HANDOFF
 
-same_holder : (c d : State) (o p : Holder) → (owner_as c o).seat ≡ (owner_as d p).seat → is_handed (owner_as c o) ≡ is_handed (owner_as d p) → o ≡ p
+same_holder : (c d : State) (o p : Holder) → (owner_as c o).seat ≡ (owner_as d p).seat
+    → is_handed (owner_as c o) ≡ is_handed (owner_as d p) → o ≡ p
 same_holder c d Nobody Nobody seat handed = refl
 same_holder c d Nobody (Taken t) seat handed = absurd cc
 same_holder c d Nobody (Handed t) seat handed = absurd cc
@@ -49,7 +50,9 @@ one_if_is false true same = absurd (omega arith)
 one_if_is false false same = refl
 
 asked_told : (c d : State) (o p : Holder) (a b : Bool) (q w : List Entry) → word_from c o a q ≡ word_from d p b w → o ≡ p → q ≡ w → a ≡ b
-asked_told c d o p a b q w same owner list = let flags : waiting q + 2 * one_if a + pickup o ≡ waiting w + 2 * one_if b + pickup p = ap (λ (x : Owner). x.flags) same in
+asked_told c d o p a b q w same owner list =
+    let flags : waiting q + 2 * one_if a + pickup o ≡ waiting w + 2 * one_if b + pickup p =
+    ap (λ (x : Owner). x.flags) same in
     let few = ap waiting list in let pick = ap pickup owner in one_if_is a b (omega arith)
 
 -- ---- where no lock is
@@ -100,9 +103,15 @@ record IsTold (key : Start) (s : St) (r r' : Ruled key s) (t : ℕ) : Type 0 whe
 
 module _ (key : Start) (s : St) (r r' : Ruled key s) where
   told : (t : ℕ) → t < key.seats → IsTold key s r r' t
-  told t small = let x = r.there t small in let f = r.seats (r.at t) x.view x.stands x.seated in let g = r'.seats (r.at t) x.view x.stands x.seated in ⊎_elim
+  told t small = let x = r.there t small in let f = r.seats (r.at t) x.view x.stands x.seated in
+      let g = r'.seats (r.at t) x.view x.stands x.seated in ⊎_elim
       (λ own. record { part = x.view.part; who = own; here = (r.at t, f.part); there = (r.at t, g.part) })
-      (λ idle. record { part = idle.1; who = idle.3; here = (r.at t, (f.idle idle.0 idle.1 idle.2).0); there = (r.at t, (g.idle idle.0 idle.1 idle.2).0) })
+      (λ idle. record {
+        part = idle.1;
+        who = idle.3;
+        here = (r.at t, (f.idle idle.0 idle.1 idle.2).0);
+        there = (r.at t, (g.idle idle.0 idle.1 idle.2).0);
+      })
       x.speaks
 
   same_guard : (n : ℕ) → r.core.guard n ≡ r'.core.guard n
@@ -119,12 +128,14 @@ module _ (key : Start) (s : St) (r r' : Ruled key s) where
   same_owner : (n : ℕ) → r.core.owner n ≡ r'.core.owner n
   same_owner n = dite (dec_le key.locks n)
       (λ beyond. nobody_owns key s r n beyond ∙ sym (nobody_owns key s r' n beyond))
-      (λ below. holder_told r.core r'.core (r.core.owner n) (r'.core.owner n) (r.core.asked n) (r'.core.asked n) (r.core.queue n) (r'.core.queue n) (same_word n (omega arith)))
+      (λ below. holder_told r.core r'.core (r.core.owner n) (r'.core.owner n) (r.core.asked n) (r'.core.asked n)
+      (r.core.queue n) (r'.core.queue n) (same_word n (omega arith)))
 
-  -- a list at home is that of both, and one that is out is named by the view of who is inside
+  -- a list at home is that of both, and one that is out is named by the view of the seat inside
   list_home : (n : ℕ) → n < key.locks → r.core.guard n ≡ 0 → r.core.queue n ≡ r'.core.queue n
   list_home n low free = let at = sym (r.homes.lists n low free) ∙ r'.homes.lists n low (sym (same_guard n) ∙ free) in
-      let lines : Line (r.core.queue n) ≡ Line (r'.core.queue n) = some-injective _ _ (some-injective _ _ at) in let same : r.core.queue n ≡ r'.core.queue n = cc in same
+      let lines : Line (r.core.queue n) ≡ Line (r'.core.queue n) = some-injective _ _ (some-injective _ _ at) in
+      let same : r.core.queue n ≡ r'.core.queue n = cc in same
 
   list_out : (n t : ℕ) → r.core.guard n ≡ suc t → r.core.queue n ≡ r'.core.queue n
   list_out n t inside = dite (dec_le key.seats t)
@@ -144,28 +155,35 @@ module _ (key : Start) (s : St) (r r' : Ruled key s) where
 
   same_asked : (n : ℕ) → r.core.asked n ≡ r'.core.asked n
   same_asked n = dite (dec_le key.locks n)
-      (λ beyond. free_not_asked r.core (law key s r) n (nobody_owns key s r n beyond) ∙ sym (free_not_asked r'.core (law key s r') n (nobody_owns key s r' n beyond)))
-      (λ below. asked_told r.core r'.core (r.core.owner n) (r'.core.owner n) (r.core.asked n) (r'.core.asked n) (r.core.queue n) (r'.core.queue n) (same_word n (omega arith)) (same_owner n) (same_queue n))
+      (λ beyond. free_not_asked r.core (law key s r) n (nobody_owns key s r n beyond)
+      ∙ sym (free_not_asked r'.core (law key s r') n (nobody_owns key s r' n beyond)))
+      (λ below. asked_told r.core r'.core (r.core.owner n) (r'.core.owner n) (r.core.asked n) (r'.core.asked n)
+      (r.core.queue n) (r'.core.queue n) (same_word n (omega arith)) (same_owner n) (same_queue n))
 
   same_stamp : (t : ℕ) → r.core.stamp t ≡ r'.core.stamp t
   same_stamp t = dite (dec_le key.seats t)
       (λ beyond. (r.strangers t beyond).stamp ∙ sym ((r'.strangers t beyond).stamp))
-      (λ below. let x = told t (omega arith) in ap r.core.stamp (sym x.who) ∙ sym x.here.1.knows.itself.stamp ∙ x.there.1.knows.itself.stamp ∙ ap r'.core.stamp x.who)
+      (λ below. let x = told t (omega arith) in ap r.core.stamp (sym x.who) ∙ sym x.here.1.knows.itself.stamp
+      ∙ x.there.1.knows.itself.stamp ∙ ap r'.core.stamp x.who)
 
   same_sign : (t : ℕ) → r.core.sign t ≡ r'.core.sign t
   same_sign t = dite (dec_le 16 t)
-      (λ beyond. let few = r.seats_there in unsigned r.core (law key s r) t (r.strangers t (omega arith)).stamp ∙ sym (unsigned r'.core (law key s r') t (r'.strangers t (omega arith)).stamp))
+      (λ beyond. let few = r.seats_there in unsigned r.core (law key s r) t (r.strangers t (omega arith)).stamp
+      ∙ sym (unsigned r'.core (law key s r') t (r'.strangers t (omega arith)).stamp))
       (λ below. sym (r.words.signs t (omega arith)) ∙ r'.words.signs t (omega arith))
 
   same_cancel : (t : ℕ) → r.core.cancel t ≡ r'.core.cancel t
   same_cancel t = dite (dec_le 16 t)
-      (λ beyond. cancels_beyond r.core r.reached t (let places = r.places in omega arith) ∙ sym (cancels_beyond r'.core r'.reached t (let places = r'.places in omega arith)))
+      (λ beyond. cancels_beyond r.core r.reached t (let places = r.places in omega arith)
+      ∙ sym (cancels_beyond r'.core r'.reached t (let places = r'.places in omega arith)))
       (λ below. sym (r.words.cancels t (omega arith)) ∙ r'.words.cancels t (omega arith))
 
   same_heeded : (t : ℕ) → r.core.heeded t ≡ r'.core.heeded t
   same_heeded t = dite (dec_le key.seats t)
-      (λ beyond. away_unheeded r.core (law key s r).base t (r.strangers t beyond).waits ∙ sym (away_unheeded r'.core (law key s r').base t (r'.strangers t beyond).waits))
-      (λ below. let x = told t (omega arith) in ap r.core.heeded (sym x.who) ∙ sym x.here.1.knows.heeded ∙ x.there.1.knows.heeded ∙ ap r'.core.heeded x.who)
+      (λ beyond. away_unheeded r.core (law key s r).base t (r.strangers t beyond).waits
+      ∙ sym (away_unheeded r'.core (law key s r').base t (r'.strangers t beyond).waits))
+      (λ below. let x = told t (omega arith) in ap r.core.heeded (sym x.who) ∙ sym x.here.1.knows.heeded
+      ∙ x.there.1.knows.heeded ∙ ap r'.core.heeded x.who)
 
   pub core_is_one : r.core ≡ r'.core
   core_is_one = λ i. record {
@@ -187,18 +205,24 @@ module _ (key : Start) (s : St) (r r' : Ruled key s) where
   -- ---- the history
 
   same_part : (t : ℕ) → t < key.seats → part_of t r.log ≡ part_of t r'.log
-  same_part t small = let x = told t small in ap (λ (k : ℕ). part_of k r.log) (sym x.who) ∙ sym x.here.1.own ∙ x.there.1.own ∙ ap (λ (k : ℕ). part_of k r'.log) x.who
+  same_part t small = let x = told t small in ap (λ (k : ℕ). part_of k r.log) (sym x.who) ∙ sym x.here.1.own
+      ∙ x.there.1.own ∙ ap (λ (k : ℕ). part_of k r'.log) x.who
 
   -- each record stands at its place in both
   log_has : (i : ℕ) (x : Recorded) → get_elem? r.log i ≡ some x → get_elem? r'.log i ≡ some x
-  log_has i x here = let p = has_part 0 x.caller r'.log (0 + i) x (subst (λ l. Has l (0 + i, x)) (same_part x.caller (r.counted.callers i x here)) (part_has 0 x.caller i r.log x here refl)) in
+  log_has i x here = let p = has_part 0 x.caller r'.log (0 + i) x
+      (subst (λ l. Has l (0 + i, x)) (same_part x.caller (r.counted.callers i x here))
+      (part_has 0 x.caller i r.log x here refl)) in
       ap (get_elem? r'.log) (let z : i ≡ p.0 = (let y = p.1 in omega arith) in z) ∙ p.2
 
-same_lists : {A : Type 0} (xs ys : List A) → length xs ≡ length ys → ((i : ℕ) (x : A) → get_elem? xs i ≡ some x → get_elem? ys i ≡ some x) → xs ≡ ys
+same_lists : {A : Type 0} (xs ys : List A) → length xs ≡ length ys
+    → ((i : ℕ) (x : A) → get_elem? xs i ≡ some x → get_elem? ys i ≡ some x) → xs ≡ ys
 same_lists [] [] long has = refl
 same_lists [] (y ∷ ys) long has = absurd (omega arith)
 same_lists (x ∷ xs) [] long has = absurd (omega arith)
-same_lists (x ∷ xs) (y ∷ ys) long has = λ i. sym (some-injective y x (has 0 x refl)) i ∷ same_lists xs ys (omega arith) (λ k z e. has (suc k) z e) i
+same_lists (x ∷ xs) (y ∷ ys) long has =
+    λ i. sym (some-injective y x (has 0 x refl)) i ∷ same_lists xs ys (omega arith) (λ k z e. has (suc k) z e) i
 
 pub log_is_one : (key : Start) (s : St) (r r' : Ruled key s) → r.log ≡ r'.log
-log_is_one key s r r' = same_lists r.log r'.log (sym r.counted.front ∙ sym r.words.front ∙ r'.words.front ∙ r'.counted.front) (log_has key s r r')
+log_is_one key s r r' = same_lists r.log r'.log
+    (sym r.counted.front ∙ sym r.words.front ∙ r'.words.front ∙ r'.counted.front) (log_has key s r r')

@@ -54,11 +54,13 @@ JoinIsJoin = (key : Start) (s : St) (r : Ruled key s) (id : ℕ) (me : Sat) (n :
 
 -- an owner word becomes that of a seat inside the guard as Take, and the node that comes out has the fold's value
 abbrev pub TakeIsTake : Type 0
-TakeIsTake = (key : Start) (s : St) (r : Ruled key s) (id : ℕ) (me : Sat) (n : ℕ) (o : Owner) (y : Cell) (others : List (ℕ × Cell)) → Steps s id me →
+TakeIsTake = (key : Start) (s : St) (r : Ruled key s) (id : ℕ) (me : Sat) (n : ℕ) (o : Owner) (y : Cell)
+    (others : List (ℕ × Cell)) → Steps s id me →
     n < length (first_graph key) → MayTake me.0.part.core n o → IsValid o → slice_index s.words (owner_at n) ≡ packed o →
     me.1 ≡ (list_at n, y) ∷ others → let x : Node = node_at (last_graph (first_graph key) r.log) n in
     Makes key s r (Take me.0.part.core.who n)
-    (stepped s (owner_at n) (packed (taken_word me.0.part.core.who me.0.part.core.stamp (left me.0.part.core.list me.0.part.core.who))) id me.1
+    (stepped s (owner_at n) (packed (taken_word me.0.part.core.who me.0.part.core.stamp
+    (left me.0.part.core.list me.0.part.core.who))) id me.1
     (taking_inside me.0 n x) (chain gives (chain (takes n (Content x)) (takes (list_at n) y))))
 
 -- an owner word of the seat inside the guard becomes nobody's, or the first waiter's, as Give
@@ -74,7 +76,8 @@ abbrev pub TakeBareInsideIsTake : Type 0
 TakeBareInsideIsTake = (key : Start) (s : St) (r : Ruled key s) (id : ℕ) (me : Sat) (n : ℕ) (o : Owner) → Steps s id me →
     length (first_graph key) ≤ n → MayTake me.0.part.core n o → IsValid o → slice_index s.words (owner_at n) ≡ packed o →
     Makes key s r (Take me.0.part.core.who n)
-    (stepped s (owner_at n) (packed (taken_word me.0.part.core.who me.0.part.core.stamp (left me.0.part.core.list me.0.part.core.who))) id me.1
+    (stepped s (owner_at n) (packed (taken_word me.0.part.core.who me.0.part.core.stamp
+    (left me.0.part.core.list me.0.part.core.who))) id me.1
     (knowing me.0 (taken me.0.part.core n)) keeps)
 
 abbrev pub GiveBareInsideIsGive : Type 0

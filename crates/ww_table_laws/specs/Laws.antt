@@ -37,38 +37,54 @@ pub record Steps (s : St) (id : ℕ) (me : Sat) : Type 0 where
 -- the stamp word goes one up as Begin
 abbrev pub DrawIsBegin : Type 0
 DrawIsBegin = (key : Start) (s : St) (r : Ruled key s) (id : ℕ) (me : Sat) → Steps s id me → MayDraw me.0.part →
-    let stamp : ℕ = slice_index s.words stamp_at + 1 in Makes key s r (Begin me.0.part.core.who) (stepped s stamp_at stamp id me.1 (drawing me.0 stamp) keeps)
+    let stamp : ℕ = slice_index s.words stamp_at + 1 in
+    Makes key s r (Begin me.0.part.core.who) (stepped s stamp_at stamp id me.1 (drawing me.0 stamp) keeps)
 
 -- outside a guard an owner word 0 becomes that of the seat as Fast, and the node that comes out has the fold's value
 abbrev pub TakeFreeIsFast : Type 0
-TakeFreeIsFast = (key : Start) (s : St) (r : Ruled key s) (id : ℕ) (me : Sat) (n : ℕ) → Steps s id me → n < length (first_graph key) → MayFast me.0.part.core → slice_index s.words (owner_at n) ≡ 0 →
-    let x : Node = node_at (last_graph (first_graph key) r.log) n in Makes key s r (Fast me.0.part.core.who n) (stepped s (owner_at n) (packed (taker me.0.part.core)) id me.1 (taking me.0 n x) (takes n (Content x)))
+TakeFreeIsFast = (key : Start) (s : St) (r : Ruled key s) (id : ℕ) (me : Sat) (n : ℕ) → Steps s id me
+    → n < length (first_graph key) → MayFast me.0.part.core → slice_index s.words (owner_at n) ≡ 0 →
+    let x : Node = node_at (last_graph (first_graph key) r.log) n in
+    Makes key s r (Fast me.0.part.core.who n)
+    (stepped s (owner_at n) (packed (taker me.0.part.core)) id me.1 (taking me.0 n x) (takes n (Content x)))
 
 -- outside a guard the owner word of the seat without flags becomes 0 as FastGive
 abbrev pub GiveFreeIsFastGive : Type 0
-GiveFreeIsFastGive = (key : Start) (s : St) (r : Ruled key s) (id : ℕ) (me : Sat) (n : ℕ) (x : Node) → Steps s id me → n < length (first_graph key) → IsAway me.0.part.core → owns me.0.part.core n ≡ true →
-    get_elem? me.0.held n ≡ some (Some x) → me.1 ≡ (n, Content x) ∷ rest me.1 → slice_index s.words (owner_at n) ≡ packed (taker me.0.part.core) →
+GiveFreeIsFastGive = (key : Start) (s : St) (r : Ruled key s) (id : ℕ) (me : Sat) (n : ℕ) (x : Node) → Steps s id me
+    → n < length (first_graph key) → IsAway me.0.part.core → owns me.0.part.core n ≡ true →
+    get_elem? me.0.held n ≡ some (Some x) → me.1 ≡ (n, Content x) ∷ rest me.1
+    → slice_index s.words (owner_at n) ≡ packed (taker me.0.part.core) →
     Makes key s r (FastGive me.0.part.core.who n) (stepped s (owner_at n) 0 id me.1 (giving me.0 n) gives)
 
 -- the same of a lock that guards no node: no slot comes or goes
 abbrev pub TakeBareIsFast : Type 0
-TakeBareIsFast = (key : Start) (s : St) (r : Ruled key s) (id : ℕ) (me : Sat) (n : ℕ) → Steps s id me → length (first_graph key) ≤ n → n < key.locks → MayFast me.0.part.core → slice_index s.words (owner_at n) ≡ 0 →
-    Makes key s r (Fast me.0.part.core.who n) (stepped s (owner_at n) (packed (taker me.0.part.core)) id me.1 (knowing me.0 (fast_taken me.0.part.core n)) keeps)
+TakeBareIsFast = (key : Start) (s : St) (r : Ruled key s) (id : ℕ) (me : Sat) (n : ℕ) → Steps s id me
+    → length (first_graph key) ≤ n → n < key.locks → MayFast me.0.part.core → slice_index s.words (owner_at n) ≡ 0 →
+    Makes key s r (Fast me.0.part.core.who n)
+    (stepped s (owner_at n) (packed (taker me.0.part.core)) id me.1 (knowing me.0 (fast_taken me.0.part.core n))
+    keeps)
 
 abbrev pub GiveBareIsFastGive : Type 0
-GiveBareIsFastGive = (key : Start) (s : St) (r : Ruled key s) (id : ℕ) (me : Sat) (n : ℕ) → Steps s id me → length (first_graph key) ≤ n → n < key.locks → IsAway me.0.part.core → owns me.0.part.core n ≡ true →
+GiveBareIsFastGive = (key : Start) (s : St) (r : Ruled key s) (id : ℕ) (me : Sat) (n : ℕ) → Steps s id me
+    → length (first_graph key) ≤ n → n < key.locks → IsAway me.0.part.core → owns me.0.part.core n ≡ true →
     slice_index s.words (owner_at n) ≡ packed (taker me.0.part.core) →
     Makes key s r (FastGive me.0.part.core.who n) (stepped s (owner_at n) 0 id me.1 (knowing me.0 (fast_given me.0.part.core n)) keeps)
 
 -- the own sign word is found 0, and the context ends, as End
 abbrev pub EndIsEnd : Type 0
-EndIsEnd = (key : Start) (s : St) (r : Ruled key s) (id : ℕ) (me : Sat) → Steps s id me → MayEnd me.0.part.core → slice_index s.words (sign_at me.0.part.core.who) ≡ 0 →
-    let i : ℕ = sign_at me.0.part.core.who in Makes key s r (End me.0.part.core.who) (stepped s i (slice_index s.words i) id me.1 (knowing me.0 (ended me.0.part.core)) keeps)
+EndIsEnd = (key : Start) (s : St) (r : Ruled key s) (id : ℕ) (me : Sat) → Steps s id me → MayEnd me.0.part.core
+    → slice_index s.words (sign_at me.0.part.core.who) ≡ 0 →
+    let i : ℕ = sign_at me.0.part.core.who in
+    Makes key s r (End me.0.part.core.who)
+    (stepped s i (slice_index s.words i) id me.1 (knowing me.0 (ended me.0.part.core)) keeps)
 
 -- the front word goes one up as Commit, and the commits are one more: this record, behind all others
 abbrev pub PlaceIsCommit : Type 0
-PlaceIsCommit = (key : Start) (s : St) (r : Ruled key s) (id : ℕ) (me : Sat) (done : Record) → Steps s id me → MayPlace me.0 (recorded_of done) →
-    let place : ℕ = slice_index s.words front_at in MakesWith key s r (Commit me.0.part.core.who) (r.log ++ recorded_of done ∷ []) (stepped s front_at (place + 1) id me.1 (placing me.0 place done) keeps)
+PlaceIsCommit = (key : Start) (s : St) (r : Ruled key s) (id : ℕ) (me : Sat) (done : Record) → Steps s id me
+    → MayPlace me.0 (recorded_of done) →
+    let place : ℕ = slice_index s.words front_at in
+    MakesWith key s r (Commit me.0.part.core.who) (r.log ++ recorded_of done ∷ [])
+    (stepped s front_at (place + 1) id me.1 (placing me.0 place done) keeps)
 
 -- a lawful state of the core; every cycle of waits there has a condemned member, and each of its members a context
 pub record IsSafe (c : State) : Type 0 where
@@ -86,11 +102,14 @@ ShownIsOne = (key : Start) (s : St) (r r' : Ruled key s) → (r.core ≡ r'.core
 
 -- so after a step that is an event that one state is the state after the event, and a run to the state before goes on
 abbrev pub StepsExtendTheRun : Type 0
-StepsExtendTheRun = (key : Start) (s : St) (r : Ruled key s) (e : Event) (log : List Recorded) (s' : St) → MakesWith key s r e log s' → (r' : Ruled key s') → (r'.core ≡ after r.core e) × (r'.log ≡ log)
+StepsExtendTheRun = (key : Start) (s : St) (r : Ruled key s) (e : Event) (log : List Recorded) (s' : St)
+    → MakesWith key s r e log s' → (r' : Ruled key s') → (r'.core ≡ after r.core e) × (r'.log ≡ log)
 
 -- the rule holds of a table made just now, and tells the start of the core and no commits
 abbrev pub NewTableShowsStart : Type 0
-NewTableShowsStart = (key : Start) (slots : List Cell) → 1 ≤ key.seats → key.seats ≤ 16 → key.locks ≤ 65536 → length (first_graph key) ≤ key.locks → IsGraph (first_graph key) → AreSlots (first_graph key) (slots_for key.locks) slots →
+NewTableShowsStart = (key : Start) (slots : List Cell) → 1 ≤ key.seats → key.seats ≤ 16 → key.locks ≤ 65536
+    → length (first_graph key) ≤ key.locks → IsGraph (first_graph key)
+    → AreSlots (first_graph key) (slots_for key.locks) slots →
     let s : St = opening (replicate (words_for key.locks) 0) slots (first_sight key) in
     Ruled key s × ((r : Ruled key s) → (r.core ≡ start key.kind key.locks 16) × (r.log ≡ []))
 

@@ -15,7 +15,7 @@ use Rattle.ww_rule.specs.Rule.{St, Sat, Ruled, Stays}
 use Rattle.ww_rule.specs.Steps.{knowing, keeping, nobody, first_seat, without_first, with_seat}
 use Rattle.ww_rule.specs.Guards.{lost, shutting_out, looking, glancing}
 use Rattle.ww_rule.specs.Signs.{noting, reading, finding_none}
-use Rattle.ww_rule.specs.Cancels.{finding_pending}
+use Rattle.ww_rule.specs.Cancels.{finding_pending, finding_uncancelled}
 use Rattle.ww_table_laws.specs.Laws.{Steps}
 
 -- the table once the seat read a word, or found there another than it expected, and has this view then
@@ -28,7 +28,7 @@ LookIsNoEvent = (key : Start) (s : St) (r : Ruled key s) (id : ℕ) (me : Sat) (
     me.0.part.core.inside ≡ suc n → IsValid o → slice_index s.words (owner_at n) ≡ packed o →
     Stays key s r (read s (owner_at n) id me (looking me.0 o))
 
--- a glance at an owner word from outside the guard
+-- a spin read of an owner word from outside the guard
 abbrev pub GlanceIsNoEvent : Type 0
 GlanceIsNoEvent = (key : Start) (s : St) (r : Ruled key s) (id : ℕ) (me : Sat) (n : ℕ) → Steps s id me →
     Stays key s r (read s (owner_at n) id me (glancing me.0))
@@ -39,15 +39,17 @@ pub record IsNotedOnly (key : Start) (s : St) (r : Ruled key s) (id : ℕ) (me :
   pub found_none : Stays key s r (read s i id me (finding_none me.0))
 
 abbrev pub OwnSignIsNoEvent : Type 0
-OwnSignIsNoEvent = (key : Start) (s : St) (r : Ruled key s) (id : ℕ) (me : Sat) → Steps s id me → IsNotedOnly key s r id me (sign_at me.0.part.core.who)
+OwnSignIsNoEvent = (key : Start) (s : St) (r : Ruled key s) (id : ℕ) (me : Sat) → Steps s id me
+    → IsNotedOnly key s r id me (sign_at me.0.part.core.who)
 
--- A try that finds another word than the seat expected: to take a lock at once; to give it back at once; to set a cancel
--- where one is pending; to go inside a guard; or inside it, or to heed a cancel where none is pending.
+-- A try that finds another word than the seat expected: to take a lock at once; to release it at once; to set a cancel
+-- where one is pending; to go inside a guard; to heed a cancel where none is pending; or inside a guard.
 pub record IsLostOnly (key : Start) (s : St) (r : Ruled key s) (id : ℕ) (me : Sat) (i : ℕ) : Type 0 where
   pub taking : Stays key s r (read s i id me (knowing me.0 (fast_missed me.0.part.core)))
   pub giving : Stays key s r (read s i id me (keeping me.0))
   pub cancelling : Stays key s r (read s i id me (finding_pending me.0))
   pub entering : Stays key s r (read s i id me (shutting_out me.0))
+  pub heeding : Stays key s r (read s i id me (finding_uncancelled me.0))
   pub others : Stays key s r (read s i id me (lost me.0))
 
 abbrev pub LostIsNoEvent : Type 0
@@ -62,10 +64,15 @@ LostSignIsNoEvent = (key : Start) (s : St) (r : Ruled key s) (id : ℕ) (me : Sa
 abbrev pub SplitIsNoEvent : Type 0
 SplitIsNoEvent = (key : Start) (s : St) (r : Ruled key s) (id : ℕ) (v : Sight) (p : Part) (ps : List Part) →
     get_elem? s.views id ≡ some v → v.seated ≡ true → v.idle ≡ p ∷ ps →
-    Stays key s r (record { words = s.words; homes = s.homes; views = slice_set s.views id (without_first v) ++ first_seat (length v.held) v.idle ∷ [] })
+    Stays key s r (record {
+      words = s.words;
+      homes = s.homes;
+      views = slice_set s.views id (without_first v) ++ first_seat (length v.held) v.idle ∷ [];
+    })
 
 -- a seat takes in another that owns nothing
 abbrev pub JoinIsNoEvent : Type 0
 JoinIsNoEvent = (key : Start) (s : St) (r : Ruled key s) (id : ℕ) (v : Sight) (other : ℕ) (w : Sight) →
-    get_elem? s.views id ≡ some v → v.seated ≡ true → other ≢ id → get_elem? (slice_set s.views id (with_seat v w)) other ≡ some w → w.seated ≡ true → IsBare w.part.core →
+    get_elem? s.views id ≡ some v → v.seated ≡ true → other ≢ id
+    → get_elem? (slice_set s.views id (with_seat v w)) other ≡ some w → w.seated ≡ true → IsBare w.part.core →
     Stays key s r (record { words = s.words; homes = s.homes; views = slice_set (slice_set s.views id (with_seat v w)) other nobody })

@@ -12,7 +12,7 @@ pub fn take_free_is_fast()
     ensures { TakeFreeIsFast }
 {}
 
-/// Giving back at once is the event FastGive.
+/// Releasing a lock at once is the event FastGive.
 pub fn give_free_is_fast_give()
     ensures { GiveFreeIsFastGive }
 {}
@@ -22,7 +22,7 @@ pub fn take_bare_is_fast()
     ensures { TakeBareIsFast }
 {}
 
-/// Giving such a lock back at once is the event FastGive.
+/// Releasing such a lock at once is the event FastGive.
 pub fn give_bare_is_fast_give()
     ensures { GiveBareIsFastGive }
 {}

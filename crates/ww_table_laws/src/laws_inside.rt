@@ -23,7 +23,7 @@ pub fn take_is_take()
     ensures { TakeIsTake }
 {}
 
-/// Giving a lock back inside its guard is the event Give.
+/// Releasing a lock inside its guard is the event Give.
 pub fn give_is_give()
     ensures { GiveIsGive }
 {}
@@ -33,7 +33,7 @@ pub fn take_bare_inside_is_take()
     ensures { TakeBareInsideIsTake }
 {}
 
-/// Giving such a lock back inside its guard is the event Give.
+/// Releasing such a lock inside its guard is the event Give.
 pub fn give_bare_inside_is_give()
     ensures { GiveBareInsideIsGive }
 {}

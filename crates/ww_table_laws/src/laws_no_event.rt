@@ -8,7 +8,7 @@ pub fn look_is_no_event()
     ensures { LookIsNoEvent }
 {}
 
-/// So does a glance at one.
+/// So does a spin read of one.
 pub fn glance_is_no_event()
     ensures { GlanceIsNoEvent }
 {}

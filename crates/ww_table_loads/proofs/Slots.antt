@@ -21,7 +21,9 @@ count_both : (front back : List (ℕ × Cell)) (n : ℕ) → count_of (front ++ 
 count_both [] back n = omega arith
 count_both (x ∷ xs) back n = go (eqb x.0 n) (count_both xs back n)
   where
-    go : (b : Bool) → count_of (xs ++ back) n ≡ count_of xs n + count_of back n → (if b then suc (count_of (xs ++ back) n) else count_of (xs ++ back) n) ≡ (if b then suc (count_of xs n) else count_of xs n) + count_of back n
+    go : (b : Bool) → count_of (xs ++ back) n ≡ count_of xs n + count_of back n
+        → (if b then suc (count_of (xs ++ back) n) else count_of (xs ++ back) n)
+        ≡ (if b then suc (count_of xs n) else count_of xs n) + count_of back n
     go true e = omega arith
     go false e = e
 
@@ -29,7 +31,8 @@ none_there : (slots : List (ℕ × Cell)) (n : ℕ) → count_of slots n ≡ 0 �
 none_there [] n e = refl
 none_there (x ∷ xs) n e = go (eqb x.0 n) e (none_there xs n)
   where
-    go : (b : Bool) → (if b then suc (count_of xs n) else count_of xs n) ≡ 0 → (count_of xs n ≡ 0 → slot_of xs n ≡ None) → (if b then Some x.1 else slot_of xs n) ≡ None
+    go : (b : Bool) → (if b then suc (count_of xs n) else count_of xs n) ≡ 0
+        → (count_of xs n ≡ 0 → slot_of xs n ≡ None) → (if b then Some x.1 else slot_of xs n) ≡ None
     go true e more = absurd (omega arith)
     go false e more = more e
 
@@ -37,7 +40,9 @@ past_none : (front back : List (ℕ × Cell)) (n : ℕ) → slot_of front n ≡ 
 past_none [] back n none = refl
 past_none (x ∷ xs) back n none = go (eqb x.0 n) none (past_none xs back n)
   where
-    go : (b : Bool) → (if b then Some x.1 else slot_of xs n) ≡ None → (slot_of xs n ≡ None → slot_of (xs ++ back) n ≡ slot_of back n) → (if b then Some x.1 else slot_of (xs ++ back) n) ≡ slot_of back n
+    go : (b : Bool) → (if b then Some x.1 else slot_of xs n) ≡ None
+        → (slot_of xs n ≡ None → slot_of (xs ++ back) n ≡ slot_of back n)
+        → (if b then Some x.1 else slot_of (xs ++ back) n) ≡ slot_of back n
     go true e more = absurd cc
     go false e more = more e
 
@@ -45,7 +50,8 @@ before_none : (front back : List (ℕ × Cell)) (n : ℕ) → slot_of back n ≡
 before_none [] back n none = none
 before_none (x ∷ xs) back n none = ap (λ (o : Option Cell). if eqb x.0 n then Some x.1 else o) (before_none xs back n none)
 
-turned : (front back : List (ℕ × Cell)) (n : ℕ) → count_of front n + count_of back n ≤ 1 → slot_of (back ++ front) n ≡ slot_of (front ++ back) n
+turned : (front back : List (ℕ × Cell)) (n : ℕ) → count_of front n + count_of back n ≤ 1
+    → slot_of (back ++ front) n ≡ slot_of (front ++ back) n
 turned front back n few = go (count_of front n) refl
   where
     go : (k : ℕ) → count_of front n ≡ k → slot_of (back ++ front) n ≡ slot_of (front ++ back) n
@@ -70,12 +76,17 @@ module _ (slots : List (ℕ × Cell)) (n : ℕ) (y : Cell) (others : List (ℕ �
   same_count k isnt = let a = whole k in let b = count_else n y are.back k isnt in let c = rest_count k in omega arith
 
   pub others_long : length slots ≡ length others + 1
-  others_long = let p = ap (λ (l : List (ℕ × Cell)). length l) are.parts in let q = ap (λ (l : List (ℕ × Cell)). length l) are.rest in let f = length-append are.front ((n, y) ∷ are.back) in let g = length-append are.back are.front in omega arith
+  others_long = let p = ap (λ (l : List (ℕ × Cell)). length l) are.parts in
+      let q = ap (λ (l : List (ℕ × Cell)). length l) are.rest in
+      let f = length-append are.front ((n, y) ∷ are.back) in let g = length-append are.back are.front in omega arith
 
   pub others_had : count_of slots n ≤ 1 → slot_of slots n ≡ Some y
   others_had few = let a = whole n in let b = count_here n y are.back in
-      ap (λ (l : List (ℕ × Cell)). slot_of l n) are.parts ∙ past_none are.front ((n, y) ∷ are.back) n (none_there are.front n (omega arith)) ∙ slot_here n y are.back
+      ap (λ (l : List (ℕ × Cell)). slot_of l n) are.parts
+      ∙ past_none are.front ((n, y) ∷ are.back) n (none_there are.front n (omega arith))
+      ∙ slot_here n y are.back
 
   pub others_else : (k : ℕ) → k ≢ n → count_of slots k ≤ 1 → slot_of others k ≡ slot_of slots k
   others_else k isnt few = let a = rest_count k in let b = same_count k isnt in
-      ap (λ (l : List (ℕ × Cell)). slot_of l k) are.rest ∙ turned are.front are.back k (omega arith) ∙ sym (without are.front are.back n y k isnt) ∙ ap (λ (l : List (ℕ × Cell)). slot_of l k) (sym are.parts)
+      ap (λ (l : List (ℕ × Cell)). slot_of l k) are.rest ∙ turned are.front are.back k (omega arith)
+      ∙ sym (without are.front are.back n y k isnt) ∙ ap (λ (l : List (ℕ × Cell)). slot_of l k) (sym are.parts)

@@ -43,7 +43,7 @@ pub fn take(board: &Board, seat: &mut Seat16, lock: u8) -> bool
     seat.take_free(board, u32::from(lock))
 }
 
-/// One try to give back the lock that was taken last of those that the seat owns.
+/// One try to release the lock that was taken last of those that the seat owns.
 #[inline(always)]
 pub fn give(board: &Board, seat: &mut Seat16, lock: u8) -> bool
     requires did { (d : Deeds) × Did board.now d seat.old × (is_among lock d.locks ≡ true) }
@@ -112,7 +112,7 @@ pub fn commit_one(
     Ok(place)
 }
 
-/// A round: a context that takes a lock, commits that its node has 1 more, and gives the lock back. What it comes to,
+/// A round: a context that takes a lock, commits that its node has 1 more, and releases the lock. What it comes to,
 /// or nothing where it can't be ended.
 #[inline(always)]
 pub fn round_of_one(

@@ -93,7 +93,7 @@ fn try_both(
     Some(made)
 }
 
-/// A round: a context that tries to take two locks, commits that their nodes have 1 more each, and gives back what it
+/// A round: a context that tries to take two locks, commits that their nodes have 1 more each, and releases what it
 /// took. What it comes to, with the place of the commit if there was one; nothing where it can't be ended.
 pub fn round_of_two(
     board: &Board,

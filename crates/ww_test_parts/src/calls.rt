@@ -34,7 +34,7 @@ pub fn first_locked<R: Wait>(
     }
 }
 
-/// Gives all locks back and ends the context.
+/// Releases all locks and ends the context.
 pub fn ended<R: Wait>(rt: &R, world: &World, acquiring: Acquiring) -> Pass
     requires home { IsAtHome acquiring world.now }
     ensures home { IsAtHome result world.now }
@@ -79,7 +79,7 @@ pub fn is_possible_alone(world: &World, solo: &Solo, txn: &Txn) -> bool
     txn.fits(world.size()) && first_double(txn).is_none() && solo.covers(world, txn)
 }
 
-/// Commits a transaction, if that is possible, and gives all back.
+/// Commits a transaction, if that is possible, and releases all.
 pub fn commit<R: Wait>(rt: &R, world: &World, mut done: Done, txn: Txn) -> (Pass, Option<Receipt>)
     requires home { IsAtHome done world.now }
     ensures home { IsAtHome result.0 world.now }
@@ -94,7 +94,7 @@ pub fn commit<R: Wait>(rt: &R, world: &World, mut done: Done, txn: Txn) -> (Pass
     (done.unlock_all(rt, world).fini(world), Some(receipt))
 }
 
-/// Commits a transaction without a context, if that is possible, and gives its lock back.
+/// Commits a transaction without a context, if that is possible, and releases its lock.
 pub fn commit_alone<R: Wait>(
     rt: &R,
     world: &World,

@@ -310,7 +310,7 @@ fn faulted<R: Wait + Abort>(rt: &R, world: &World, pass: Pass, txn: Txn, fault: 
     pass
 }
 
-/// A transaction while another holds node 1: of an interruption and a double, what comes first in its list is told.
+/// A transaction while another holds node 1: of an interruption and a duplicate, what comes first in its list is told.
 /// Then one that nobody holds up is made, and leaves the cancel set.
 fn transacted<R: Wait + Abort>(rt: &R, alloc: Global, kind: Kind) -> Result<(), Fail> {
     let (world, zero, one, two) = three_passes(alloc, kind, 3)?;

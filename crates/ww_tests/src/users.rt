@@ -13,7 +13,7 @@ use ww_queue::Kind;
 use ww_test_parts::{KINDS, chain, is_possible, one_pass};
 use ww_users::{UserFault, lock_list, lock_order, lock_walk};
 
-/// Gives all back, where the transaction can be made with what is held.
+/// Releases all, where the transaction can be made with what is held.
 pub(crate) fn covered<R: Wait + Abort>(rt: &R, world: &World, done: Done, txn: &Txn) -> Pass
     requires home { IsAtHome done world.now }
     ensures home { IsAtHome result world.now }

@@ -47,7 +47,7 @@ const WAYS: [Way; 5] = [
     Way::Transaction,
 ];
 
-/// Takes both nodes in the turns of a body.
+/// Takes both nodes in the rounds of a body.
 fn in_turns<R: Wait>(rt: &R, world: &World, pass: Pass) -> Result<(), UserFault>
     requires home { IsAtHome pass world.now }
     requires size { length world.now.first ≡ 3 }

@@ -1,4 +1,4 @@
-//! Two threads in step: one waits for a lock, and the other gives it back only once the first was called off. So a
+//! Two threads in step: one waits for a lock, and the other releases it only once the first was called off. So a
 //! cancel that is lost, or the wake-up for it, makes this hang.
 
 ghost use Rattle.ww_lock.specs.Holding.{IsAtHome};

@@ -31,7 +31,7 @@ const TRIES: u32 = 10_000;
 /// How many walks may miss the last node, since the list was cut too early for them.
 const WALKS: u32 = 100;
 
-/// What a thread gives back: its pass, whether all came as it must, and whether it kept the last node.
+/// What a thread returns: its pass, whether all came as it must, and whether it kept the last node.
 #[derive(Drop)]
 struct Work {
     pass: Pass,
@@ -56,7 +56,7 @@ fn holds<R: Wait>(rt: &R, world: &World, pass: Pass, stage: &AtomicU64) -> (Pass
 }
 
 /// The second oldest takes the middle node from the walk, and cuts the list behind it. It holds a node that nobody else
-/// wants, since who holds nothing lets a younger one go on.
+/// wants, since a context that holds nothing lets a younger one go on.
 fn cuts<R: Wait>(rt: &R, world: &World, pass: Pass, stage: &AtomicU64) -> (Pass, bool)
     requires home { IsAtHome pass world.now }
     requires size { length world.now.first ≡ 4 }

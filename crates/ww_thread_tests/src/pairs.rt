@@ -38,7 +38,7 @@ impl Play {
     }
 }
 
-/// Gives all back, takes the lock that it couldn't get, and ends. It tells whether it then held that lock and not its
+/// Releases all, takes the lock that it couldn't get, and ends. It tells whether it then held that lock and not its
 /// first.
 fn gives_way<R: Wait>(
     rt: &R,
@@ -192,7 +192,7 @@ fn round<R: Wait>(rt: &R, world: &World, pass: Pass, play: Play, sides: &Sides) 
     }
 }
 
-/// What a thread gives back: its pass, and in how many of its rounds all came as it must.
+/// What a thread returns: its pass, and in how many of its rounds all came as it must.
 #[derive(Drop)]
 struct Work {
     pass: Pass,

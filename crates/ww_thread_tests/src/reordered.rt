@@ -24,7 +24,7 @@ const YIELDS: u32 = 100;
 /// How often somebody looks whether both entries are taken.
 const TRIES: u32 = 2_000;
 
-/// Locks the list, and gives it back.
+/// Locks the list, and releases it.
 fn lists<R: Wait>(rt: &R, world: &World, pass: Pass, sides: &Sides) -> bool
     requires home { IsAtHome pass world.now }
 {
@@ -59,7 +59,7 @@ fn are_busy<R: Wait + Abort>(rt: &R, world: &World, mut pass: Pass) -> bool
     false
 }
 
-/// Takes node 0 while the list waits for node 2, and keeps it while that is given back. It tells whether the list took
+/// Takes node 0 while the list waits for node 2, and keeps it while that is released. It tells whether the list took
 /// both other nodes meanwhile.
 fn first_is_kept<R: Wait + Abort>(rt: &R, world: &World, pass: Pass, second: Acquiring) -> bool
     requires pass { IsAtHome pass world.now }
@@ -84,7 +84,7 @@ fn first_is_kept<R: Wait + Abort>(rt: &R, world: &World, pass: Pass, second: Acq
     }
 }
 
-/// Two older contexts have a node each, which they give back one after the other.
+/// Two older contexts have a node each, which they release one after the other.
 fn stops<R: Wait + Abort>(
     rt: &R,
     world: &World,

@@ -79,7 +79,7 @@ pub record IsChanged (Decides : Deciding) (s : Holding) (list : List ℕ) (a : H
   pub seq : told.seq ≡ length s.own
   pub size : length a.seen ≡ length s.seen
 
--- Why nothing was recorded: first it is looked whether the pass has a context left, then whether the list has a double.
+-- Why nothing was recorded: first it is looked whether the pass has a context left, then whether a node is named twice.
 abbrev pub IsChangeFault : Deciding → Holding → List ℕ → Holding → ChangeFault → Type 0
 IsChangeFault Decides s list a PassSpent = (s.left ≡ 0) × (a ≡ s)
 IsChangeFault Decides s list a (Already n) = FirstDouble list (Some n) × IsReturned s 1 a

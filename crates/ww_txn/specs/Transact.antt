@@ -1,8 +1,10 @@
 -- What becomes of a transaction, and of the pass that it is given.
-use Rattle.std.specs.Prelude.{ℕ, ◌≡◌, ◌≤◌, ◌+◌, ◌-◌, ◌∷◌, ◌++◌, [], length, Bool, true, Some, None}
+use Rattle.std.specs.Prelude.{ℕ, ◌≡◌, ◌≤◌, ◌+◌, ◌-◌, ◌∷◌, ◌++◌, [], length, Some, None}
 use Rattle.ww_plain.specs.Transaction.{Transaction, peek, listed, FirstDouble}
 use Rattle.ww_plain.specs.Meaning.{answer_of}
 use Rattle.ww_lock.specs.declared.prepared.Receipt.{Receipt}
+use Rattle.ww_lock.specs.declared.waits.Waits.{Waits}
+use Rattle.ww_lock.specs.declared.waits.Waits.TheVariants.{UntilCancelled}
 use Rattle.ww_lock.specs.Holding.{Holding, AreBelow}
 use Rattle.ww_lock.specs.Making.{Covers}
 use Rattle.ww_users.specs.declared.fault.UserFault.{UserFault}
@@ -46,13 +48,13 @@ pub record IsTransacted (s a : Holding) (txn : Transaction) (told : Receipt) : T
   pub seq : told.seq ≡ length s.own
   pub size : length a.seen ≡ length s.seen
 
--- Why nothing was recorded: first it is looked whether the pass has a context left. Then a double is told, or that a wait
--- was called off, whichever is met first; the latter only of a transaction that heeds cancels.
-abbrev pub IsTxnFault : Bool → Holding → Transaction → Holding → TxnFault → Type 0
-IsTxnFault heeds s txn a PassSpent = (s.left ≡ 0) × (a ≡ s)
-IsTxnFault heeds s txn a (Already n) = FirstDouble (listed txn) (Some n) × IsReturned s (contexts_of txn) a
-IsTxnFault heeds s txn a (Interrupted by) = (heeds ≡ true) × IsCalledOff s by a
-IsTxnFault heeds s txn a NoMemory = FirstDouble (listed txn) None × IsReturned s (contexts_of txn) a
+-- Why nothing was recorded: first comes that the pass has no context left. Then a duplicate is told, or that a wait
+-- was called off, whichever is met first; the latter only of a transaction that waits until a cancel.
+abbrev pub IsTxnFault : Waits → Holding → Transaction → Holding → TxnFault → Type 0
+IsTxnFault waits s txn a PassSpent = (s.left ≡ 0) × (a ≡ s)
+IsTxnFault waits s txn a (Already n) = FirstDouble (listed txn) (Some n) × IsReturned s (contexts_of txn) a
+IsTxnFault waits s txn a (Interrupted by) = (waits ≡ UntilCancelled) × IsCalledOff s by a
+IsTxnFault waits s txn a NoMemory = FirstDouble (listed txn) None × IsReturned s (contexts_of txn) a
 
 abbrev pub txn_number : TxnFault → ℕ
 txn_number PassSpent = 4

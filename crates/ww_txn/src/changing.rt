@@ -33,9 +33,9 @@ pub enum ChangeFault {
 }
 
 /// Locks the nodes of a list, hands their values to a closure, in the order of the list, commits the transaction that
-/// it answers, and gives all back. It begins one context. It is refused where the pass has none left; else where the
+/// it answers, and releases all. It begins one context. It is refused where the pass has none left; else where the
 /// list names a node twice; else where the closure answers nothing, or a transaction that can't be made with these
-/// locks; else for want of memory.
+/// locks; else for lack of memory.
 pub fn change<R: Wait, F: FnOnce(&[u64]) -> Option<Txn>>(
     rt: &R,
     world: &World,

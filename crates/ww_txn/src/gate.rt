@@ -13,7 +13,7 @@ pub trait Gate {
     fn before_commit(&self, caller: u8, seq: u64)
         ensures { is_asked self.now caller seq };
 
-    /// The transaction is committed, and all its locks were given back.
+    /// The transaction is committed, and all its locks were released.
     fn answered(&self, caller: u8, seq: u64)
         requires { is_asked self.now caller seq }
         ensures { is_answered self.now caller seq };

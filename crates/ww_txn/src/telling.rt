@@ -47,7 +47,7 @@ impl<'a, G: Gate> Telling<'a, G> {
         self.stage = Stage::Asked;
     }
 
-    /// The transaction is committed, and all its locks were given back.
+    /// The transaction is committed, and all its locks were released.
     pub(crate) fn answered(&mut self)
         requires stage { self.old.stage ≡ Asked }
         requires asked { G.is_asked self.old.gate.now self.old.caller self.old.seq }

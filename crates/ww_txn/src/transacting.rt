@@ -1,6 +1,7 @@
-ghost use Rattle.std.specs.Prelude.{◌≡◌, ◌<◌, Bool, true, false, length, IfOk, IfErr, OnOk, OnErr};
+ghost use Rattle.std.specs.Prelude.{◌≡◌, ◌<◌, length, IfOk, IfErr, OnOk, OnErr};
 ghost use Rattle.ww_plain.specs.Transaction.{transaction_of, peek, Fits};
 ghost use Rattle.ww_lock.specs.Holding.{IsAtHome};
+ghost use Rattle.ww_lock.specs.declared.waits.Waits.TheVariants.{ToTheEnd, UntilCancelled};
 ghost use Rattle.ww_txn.specs.declared.telling.Stage.TheVariants.{Untold, Answered};
 ghost use Rattle.ww_txn.specs.Transact.{IsTransacted, IsTxnFault, contexts_of};
 
@@ -9,7 +10,7 @@ use crate::telling::Telling;
 use crate::ways::lock_all;
 use std::sync::Wait;
 use thiserror::Error;
-use ww_lock::{Pass, Receipt, World};
+use ww_lock::{Pass, Receipt, Waits, World};
 use ww_plain::Txn;
 use ww_users::UserFault;
 
@@ -62,9 +63,9 @@ impl From<UserFault> for TxnFault {
     }
 }
 
-/// Makes a transaction: takes its locks, commits it and gives all back, for one of the contexts and solos that the
+/// Makes a transaction: takes its locks, commits it and releases all, for one of the contexts and solos that the
 /// pass has left. The gate is told of it twice, where it commits. It is refused where the pass has none left; else
-/// where its list names a node twice; else for want of memory.
+/// where its list names a node twice; else for lack of memory.
 pub fn transact<R: Wait, G: Gate>(
     world: &World,
     pass: Pass,
@@ -76,13 +77,13 @@ pub fn transact<R: Wait, G: Gate>(
     requires fits { Fits (length world.now.first) (transaction_of txn) }
     ensures home { IsAtHome result.0 world.now }
     ensures ok { IfOk result.1 (IsTransacted pass result.0 (transaction_of txn)) }
-    ensures err { IfErr result.1 (IsTxnFault false pass (transaction_of txn) result.0) }
+    ensures err { IfErr result.1 (IsTxnFault ToTheEnd pass (transaction_of txn) result.0) }
     ensures gate { OnOk result.1 (G.is_answered gate.now pass.caller (length pass.own)) }
 {
     let mut telling = Telling::new(gate, pass.caller(), pass.commits());
     match txn {
         Txn::Peek(node) => transact_alone(world, pass, rt, &mut telling, node),
-        txn => transact_together(world, pass, rt, &mut telling, txn, false),
+        txn => transact_together(world, pass, rt, &mut telling, txn, Waits::ToTheEnd),
     }
 }
 
@@ -100,21 +101,21 @@ pub fn transact_interruptible<R: Wait, G: Gate>(
     requires context { contexts_of (transaction_of txn) ≡ 1 }
     ensures home { IsAtHome result.0 world.now }
     ensures ok { IfOk result.1 (IsTransacted pass result.0 (transaction_of txn)) }
-    ensures err { IfErr result.1 (IsTxnFault true pass (transaction_of txn) result.0) }
+    ensures err { IfErr result.1 (IsTxnFault UntilCancelled pass (transaction_of txn) result.0) }
     ensures gate { OnOk result.1 (G.is_answered gate.now pass.caller (length pass.own)) }
 {
     let mut telling = Telling::new(gate, pass.caller(), pass.commits());
-    transact_together(world, pass, rt, &mut telling, txn, true)
+    transact_together(world, pass, rt, &mut telling, txn, Waits::UntilCancelled)
 }
 
-/// Makes a transaction in a context, whose waits may be called off where it heeds cancels.
+/// Makes a transaction in a context.
 fn transact_together<R: Wait, G: Gate>(
     world: &World,
     pass: Pass,
     rt: &R,
     telling: &mut Telling<G>,
     txn: Txn,
-    heeds: bool,
+    waits: Waits,
 ) -> (Pass, Result<Receipt, TxnFault>)
     requires home { IsAtHome pass world.now }
     requires untold { telling.old.stage ≡ Untold }
@@ -122,12 +123,12 @@ fn transact_together<R: Wait, G: Gate>(
     requires one { contexts_of (transaction_of txn) ≡ 1 }
     ensures home { IsAtHome result.0 world.now }
     ensures ok { IfOk result.1 (IsTransacted pass result.0 (transaction_of txn)) }
-    ensures err { IfErr result.1 (IsTxnFault heeds pass (transaction_of txn) result.0) }
+    ensures err { IfErr result.1 (IsTxnFault waits pass (transaction_of txn) result.0) }
     ensures told { OnOk result.1 (G.is_answered telling.old.gate.now telling.old.caller telling.old.seq) }
     ensures once { OnOk result.1 (telling.new ≡ record telling.old { stage = Answered }) }
     ensures untold { OnErr result.1 (telling.new ≡ telling.old) }
 {
-    let mut done = match lock_all(world, pass, rt, &txn, heeds) {
+    let mut done = match lock_all(world, pass, rt, &txn, waits) {
         Ok(done) => done,
         Err((pass, fault)) => return (pass, Err(TxnFault::from(fault))),
     };
@@ -155,7 +156,7 @@ fn transact_alone<R: Wait, G: Gate>(
     requires node { node < length world.now.first }
     ensures home { IsAtHome result.0 world.now }
     ensures ok { IfOk result.1 (IsTransacted pass result.0 (peek node)) }
-    ensures err { IfErr result.1 (IsTxnFault false pass (peek node) result.0) }
+    ensures err { IfErr result.1 (IsTxnFault ToTheEnd pass (peek node) result.0) }
     ensures told { OnOk result.1 (G.is_answered telling.old.gate.now telling.old.caller telling.old.seq) }
     ensures once { OnOk result.1 (telling.new ≡ record telling.old { stage = Answered }) }
     ensures untold { OnErr result.1 (telling.new ≡ telling.old) }

@@ -21,30 +21,39 @@ pub record IsAlong (s a : Holding) (start p most : ℕ) (vs : List ℕ) (stop : 
   pub held : (n : ℕ) → is_among n vs ≡ true → is_among n a.held ≡ true
   pub there : IfSome stop (λ n. n < length s.seen)
 
-follows_agrees : (graph other : List Node) (p v : ℕ) (ws : List ℕ) → Agree graph other (v ∷ ws) → Follows graph p (v ∷ ws) → Follows other p (v ∷ ws) × (stop_of graph p (v ∷ ws) ≡ stop_of other p (v ∷ ws))
+follows_agrees : (graph other : List Node) (p v : ℕ) (ws : List ℕ) → Agree graph other (v ∷ ws)
+    → Follows graph p (v ∷ ws) → Follows other p (v ∷ ws) × (stop_of graph p (v ∷ ws) ≡ stop_of other p (v ∷ ws))
 follows_agrees graph other p v [] agree follows = (tt, ap (λ (node : Node). get_or node.ports p None) (agree v (is_among-head v [])))
 follows_agrees graph other p v (w ∷ ws) agree follows =
-    let here : port_of graph v p ≡ port_of other v p = ap (λ (node : Node). get_or node.ports p None) (agree v (is_among-head v (w ∷ ws))) in
+    let here : port_of graph v p ≡ port_of other v p =
+    ap (λ (node : Node). get_or node.ports p None) (agree v (is_among-head v (w ∷ ws))) in
     let rest = follows_agrees graph other p w ws (λ n e. agree n (is_among-tail v n (w ∷ ws) e)) follows.1 in
     ((sym here ∙ follows.0, rest.0), rest.1)
 
-front_agrees : (graph other : List Node) (start p most : ℕ) (vs : List ℕ) (stop : Option ℕ) → Agree graph other vs → IsFront graph start p most vs stop → IsFront other start p most vs stop
+front_agrees : (graph other : List Node) (start p most : ℕ) (vs : List ℕ) (stop : Option ℕ) → Agree graph other vs
+    → IsFront graph start p most vs stop → IsFront other start p most vs stop
 front_agrees graph other start p most [] stop agree h = absurd h.begins
 front_agrees graph other start p most (v ∷ ws) stop agree h =
     let both = follows_agrees graph other p v ws agree h.follows in
     record { begins = h.begins; different = h.different; follows = both.0; short = h.short; leads = h.leads ∙ both.1 }
 
-pub along_begins : (s a : Holding) (start p most : ℕ) (vs : List ℕ) (stop : Option ℕ) → HasLocked s start a → 1 ≤ most → vs ≡ start ∷ [] → stop ≡ port_of a.seen start p → IfSome stop (λ n. n < length s.seen)
+pub along_begins : (s a : Holding) (start p most : ℕ) (vs : List ℕ) (stop : Option ℕ) → HasLocked s start a
+    → 1 ≤ most → vs ≡ start ∷ [] → stop ≡ port_of a.seen start p → IfSome stop (λ n. n < length s.seen)
     → IsAlong s a start p most vs stop
 along_begins s a start p most vs stop locked some is leads there = rw is (record {
   same = locked.same;
   front = front_of_one a.seen start p most stop some leads;
-  held = λ n e. elim (or_cases (eqb start n) false e) [ inl same ↦ subst (λ (m : ℕ). is_among m a.held ≡ true) (same_from_eqb start n same) locked.holds | inr none ↦ absurd cc ];
+  held = λ n e. elim (or_cases (eqb start n) false e) [
+    | inl same ↦ subst (λ (m : ℕ). is_among m a.held ≡ true) (same_from_eqb start n same) locked.holds
+    | inr none
+        ↦ absurd cc
+  ];
   there = there;
 })
 
 -- one lock more, of any node
-pub along_locks : (s a b : Holding) (start p most n : ℕ) (vs : List ℕ) (stop : Option ℕ) → IsAlong s a start p most vs stop → HasLocked a n b → IsAlong s b start p most vs stop
+pub along_locks : (s a b : Holding) (start p most n : ℕ) (vs : List ℕ) (stop : Option ℕ)
+    → IsAlong s a start p most vs stop → HasLocked a n b → IsAlong s b start p most vs stop
 along_locks s a b start p most n vs stop h locked = record {
   same = same_later s a b h.same locked.same;
   front = front_agrees a.seen b.seen start p most vs stop (λ m e. locked.contents m (h.held m e)) h.front;
@@ -53,15 +62,21 @@ along_locks s a b start p most n vs stop h locked = record {
 }
 
 -- the stop is held and new, and the walk goes on from it
-pub along_goes_on : (s a : Holding) (start p most n : ℕ) (vs new : List ℕ) (stop next : Option ℕ) → IsAlong s a start p most vs stop → GoesOnTo vs most stop n → is_among n a.held ≡ true → new ≡ vs ++ n ∷ []
+pub along_goes_on : (s a : Holding) (start p most n : ℕ) (vs new : List ℕ) (stop next : Option ℕ)
+    → IsAlong s a start p most vs stop → GoesOnTo vs most stop n → is_among n a.held ≡ true → new ≡ vs ++ n ∷ []
     → next ≡ port_of a.seen n p → IfSome next (λ m. m < length s.seen) → IsAlong s a start p most new next
 along_goes_on s a start p most n vs new stop next h goes holds pushed leads there = record {
   same = h.same;
   front = rw leads (front_more a.seen start p most vs new stop n h.front goes pushed);
-  held = λ m e. elim (or_cases (is_among m vs) (is_among m (n ∷ [])) (sym (is_among-append m vs (n ∷ [])) ∙ ap (is_among m) (sym pushed) ∙ e)) [
-    | inl before ↦ h.held m before
-    | inr last ↦ elim (or_cases (eqb n m) false last) [ inl same ↦ subst (λ (k : ℕ). is_among k a.held ≡ true) (same_from_eqb n m same) holds | inr none ↦ absurd cc ]
-  ];
+  held = λ m e. elim (or_cases (is_among m vs) (is_among m (n ∷ []))
+      (sym (is_among-append m vs (n ∷ [])) ∙ ap (is_among m) (sym pushed) ∙ e)) [
+        | inl before ↦ h.held m before
+        | inr last ↦ elim (or_cases (eqb n m) false last) [
+          | inl same ↦ subst (λ (k : ℕ). is_among k a.held ≡ true) (same_from_eqb n m same) holds
+          | inr none ↦ absurd
+              cc
+        ]
+      ];
   there = there;
 }
 
@@ -70,14 +85,18 @@ all_held held [] each = tt
 all_held held (n ∷ ns) each = (each n (is_among-head n ns), all_held held ns (λ m e. each m (is_among-tail n m ns e)))
 
 -- the stop, too, where there is one
-stop_held : (held vs : List ℕ) (stop : Option ℕ) → ((n : ℕ) → is_among n vs ≡ true → is_among n held ≡ true) → IfSome stop (λ n. is_among n held ≡ true) → AllByRecursion (λ n. is_among n held ≡ true) (with_target vs stop)
+stop_held : (held vs : List ℕ) (stop : Option ℕ) → ((n : ℕ) → is_among n vs ≡ true → is_among n held ≡ true)
+    → IfSome stop (λ n. is_among n held ≡ true) → AllByRecursion (λ n. is_among n held ≡ true) (with_target vs stop)
 stop_held held vs None each last = all_held held vs each
-stop_held held vs (Some t) each last = all_held held (joined vs t) (λ n e. elim (or_cases (is_among n vs) (eqb t n) (sym (is_among-joined n vs t) ∙ e)) [
-  | inl before ↦ each n before
-  | inr same ↦ subst (λ (m : ℕ). is_among m held ≡ true) (same_from_eqb t n same) last
-])
+stop_held held vs (Some t) each last =
+    all_held held (joined vs t) (λ n e. elim (or_cases (is_among n vs) (eqb t n) (sym (is_among-joined n vs t) ∙ e)) [
+      | inl before ↦ each n before
+      | inr same ↦ subst (λ (m : ℕ). is_among m held ≡ true) (same_from_eqb t n same) last
+    ])
 
-pub along_ends : (s a : Holding) (start p most : ℕ) (vs : List ℕ) (stop : Option ℕ) → IsAlong s a start p most vs stop → IsEnd vs most stop → IfSome stop (λ n. is_among n a.held ≡ true) → HoldsWalk start p most a
+pub along_ends : (s a : Holding) (start p most : ℕ) (vs : List ℕ) (stop : Option ℕ)
+    → IsAlong s a start p most vs stop → IsEnd vs most stop → IfSome stop (λ n. is_among n a.held ≡ true)
+    → HoldsWalk start p most a
 along_ends s a start p most vs stop h ends last =
     let walk : vs ≡ walk_of a.seen start p most = only_walk a.seen start p most vs (front_ends a.seen start p most vs stop h.front ends) in
     rw (← walk, ← h.front.leads) (stop_held a.held vs stop h.held last)

@@ -23,7 +23,8 @@ different_moved ns ms moved different = IsDistinct-IsPermutation eqb flips ns ms
 
 -- where a list has two parts, and n stands in it, it stands in the second part, or in the first
 Parted : (ms ks front rest : List ℕ) (n : ℕ) → Type 0
-Parted ms ks front rest n = ((more : List ℕ) × (front ≡ ms ++ more) × (ks ≡ more ++ n ∷ rest)) ⊎ ((less : List ℕ) × (ms ≡ front ++ n ∷ less))
+Parted ms ks front rest n = ((more : List ℕ) × (front ≡ ms ++ more) × (ks ≡ more ++ n ∷ rest))
+    ⊎ ((less : List ℕ) × (ms ≡ front ++ n ∷ less))
 
 parted : (ms ks front rest : List ℕ) (n : ℕ) → ms ++ ks ≡ front ++ n ∷ rest → Parted ms ks front rest n
 unfolding Parted
@@ -34,10 +35,13 @@ parted (a ∷ ms) ks (f ∷ front) rest n e = elim (parted ms ks front rest n cc
   | inr sooner ↦ inr (sooner.0, let same = sooner.1 in cc)
 ]
 
--- a double behind different entries is not concerned by their order
-pub double_before : (ms ks : List ℕ) (n : ℕ) (d : Option ℕ) → AreDifferent (ms ++ n ∷ []) → FirstDouble (n ∷ (ms ++ ks)) d → FirstDouble (ms ++ n ∷ ks) d
+-- a duplicate behind different entries is not concerned by their order
+pub double_before : (ms ks : List ℕ) (n : ℕ) (d : Option ℕ) → AreDifferent (ms ++ n ∷ [])
+    → FirstDouble (n ∷ (ms ++ ks)) d → FirstDouble (ms ++ n ∷ ks) d
 unfolding Parted
-double_before ms ks n None different h = different_moved (n ∷ (ms ++ ks)) (ms ++ n ∷ ks) (IsPermutation-sym (ms ++ n ∷ ks) (n ∷ (ms ++ ks)) (IsPermutation-middle ms n ks)) h
+double_before ms ks n None different h =
+    different_moved (n ∷ (ms ++ ks)) (ms ++ n ∷ ks)
+    (IsPermutation-sym (ms ++ n ∷ ks) (n ∷ (ms ++ ks)) (IsPermutation-middle ms n ks)) h
 double_before ms ks n (Some m) different h =
     let head_first = different_moved (ms ++ n ∷ []) (n ∷ ms) (IsPermutation-to_front ms n) different in
     elim (parted (n ∷ ms) ks h.front h.rest m h.parts) [
@@ -49,10 +53,18 @@ double_before ms ks n (Some m) different h =
             rest = h.rest;
             parts = ap (λ ns. ms ++ n ∷ ns) later.2 ∙ sym (append_assoc ms (n ∷ later.0) (m ∷ h.rest));
             different = different_moved (n ∷ (ms ++ later.0)) (ms ++ n ∷ later.0) back (subst AreDifferent front h.different);
-            earlier = sym (list_any-IsPermutation (λ k. eqb k m) (n ∷ (ms ++ later.0)) (ms ++ n ∷ later.0) back) ∙ ap (is_among m) (sym front) ∙ h.earlier;
+            earlier = sym (list_any-IsPermutation (λ k. eqb k m) (n ∷ (ms ++ later.0)) (ms ++ n ∷ later.0) back)
+                ∙ ap (is_among m) (sym front) ∙ h.earlier;
           }
       | inr sooner ↦
-          let first : IsFirstDouble (n ∷ ms) m = record { front = h.front; rest = sooner.0; parts = sooner.1; different = h.different; earlier = h.earlier } in
+          let first : IsFirstDouble (n ∷ ms) m =
+          record {
+            front = h.front;
+            rest = sooner.0;
+            parts = sooner.1;
+            different = h.different;
+            earlier = h.earlier;
+          } in
           absurd (no_double_is_none (n ∷ ms) (Some m) first refl head_first)
     ]
 
@@ -60,25 +72,43 @@ pub order_begins : (list : List ℕ) → IsReordered list list
 order_begins list = record { moved = IsPermutation-refl list; double = λ d h. h }
 
 -- the entry of this position is moved to the head, and all up to it differ
-order_later : (list order : List ℕ) (position n : ℕ) → position < length order → n ≡ get_or order position n → AreDifferent (take (position + 1) order) → IsReordered list order → IsReordered list (n ∷ remove order position)
+order_later : (list order : List ℕ) (position n : ℕ) → position < length order → n ≡ get_or order position n
+    → AreDifferent (take (position + 1) order) → IsReordered list order
+    → IsReordered list (n ∷ remove order position)
 order_later list order position n lt is different h =
-    let front : take (position + 1) order ≡ take position order ++ n ∷ [] = take_more order position n lt ∙ ap (λ m. take position order ++ m ∷ []) (sym is) in
-    let whole : order ≡ take position order ++ n ∷ drop (suc position) order = sym (take-append-drop position order) ∙ ap (λ ns. take position order ++ ns) (drop-cons order position n lt ∙ ap (λ m. m ∷ drop (suc position) order) (sym is)) in
+    let front : take (position + 1) order ≡ take position order ++ n ∷ [] = take_more order position n lt
+    ∙ ap (λ m. take position order ++ m ∷ []) (sym is) in
+    let whole : order ≡ take position order ++ n ∷ drop (suc position) order = sym (take-append-drop position order)
+    ∙ ap (λ ns. take position order ++ ns)
+    (drop-cons order position n lt ∙ ap (λ m. m ∷ drop (suc position) order) (sym is)) in
     record {
       moved = IsPermutation-trans list order (n ∷ remove order position) h.moved (IsPermutation-remove order position n lt is);
-      double = λ d first. h.double d (subst (λ (ns : List ℕ). FirstDouble ns d) (sym whole) (double_before (take position order) (drop (suc position) order) n d (subst AreDifferent front different) first));
+      double = λ d first. h.double d (subst (λ (ns : List ℕ). FirstDouble ns d) (sym whole)
+          (double_before (take position order) (drop (suc position) order) n d (subst AreDifferent front different)
+          first));
     }
 
 -- so the trip goes on behind it
-pub order_goes_on : (list order new : List ℕ) (position n : ℕ) (b : Refused) (a : Holding) → IsReordered list order → IsContended order b position → n ≡ get_or order position n → new ≡ n ∷ remove order position → a.held ≡ b.contended ∷ []
+pub order_goes_on : (list order new : List ℕ) (position n : ℕ) (b : Refused) (a : Holding) → IsReordered list order
+    → IsContended order b position → n ≡ get_or order position n → new ≡ n ∷ remove order position
+    → a.held ≡ b.contended ∷ []
     → HoldsKept (Some n) new a × IsReordered list new
 order_goes_on list order new position n b a h met is moved alone =
     let contended : b.contended ≡ n = sym (get_or_from_slice_get order position b.contended n met.entry) ∙ sym is in
-    rw moved (record { held = alone ∙ ap (λ m. m ∷ []) contended; listed = is_among-head n (remove order position) }, order_later list order position n met.there is met.different h)
+    rw moved (
+      record {
+        held = alone ∙ ap (λ m. m ∷ []) contended;
+        listed = is_among-head n (remove order position);
+      },
+      order_later list order position n met.there is
+          met.different h,
+    )
 
 pub order_among : (list order : List ℕ) (n : ℕ) → IsReordered list order → is_among n order ≡ is_among n list
 order_among list order n h = sym (list_any-IsPermutation (λ m. eqb m n) list order h.moved)
 
-pub order_below : (list order : List ℕ) (size : ℕ) → IsReordered list order → AllByRecursion (λ n. n < size) list → AllByRecursion (λ n. n < size) order
+pub order_below : (list order : List ℕ) (size : ℕ) → IsReordered list order → AllByRecursion (λ n. n < size) list
+    → AllByRecursion (λ n. n < size) order
 order_below list order size h below =
-    recursion_from_All (λ n. n < size) order (All-permutation (λ n. n < size) list order h.moved (All-from_recursion (λ n. n < size) list below))
+    recursion_from_All (λ n. n < size) order
+    (All-permutation (λ n. n < size) list order h.moved (All-from_recursion (λ n. n < size) list below))

@@ -1,15 +1,15 @@
 -- What one trip through a list, or along a walk, does to the context that makes it.
-use Rattle.std.specs.Prelude.{ℕ, ◌≡◌, ◌<◌, ◌+◌, ◌∷◌, [], Bool, true, List, length, take, slice_get, remove, Option, Some, None, IfSome, IsTrue, Result, Ok, Err}
+use Rattle.std.specs.Prelude.{ℕ, ◌≡◌, ◌<◌, ◌+◌, ◌∷◌, [], List, length, take, slice_get, remove, Option, Some, None, IfSome, IsTrue, Result, Ok, Err}
 use Rattle.std.specs.List.Sorted.{IsPermutation}
 use Rattle.ww_plain.specs.Numbers.{is_among, AreDifferent}
 use Rattle.ww_plain.specs.Graph.{Agree}
 use Rattle.ww_plain.specs.Footprint.{walked}
 use Rattle.ww_plain.specs.Transaction.{FirstDouble}
 use Rattle.ww_plain.specs.Walk.{walk_of}
-use Rattle.ww_lock.specs.declared.interruptible.Interruptible.{Interruptible}
-use Rattle.ww_lock.specs.declared.interruptible.Interruptible.TheVariants as lock
+use Rattle.ww_lock.specs.declared.waits.Waits.{Waits}
+use Rattle.ww_lock.specs.declared.waits.Waits.TheVariants.{UntilCancelled}
 use Rattle.ww_lock.specs.Holding.{Holding, Refused, Holds}
-use Rattle.ww_lock.specs.Moves.{interrupted_by, IsInterrupted, IsInterruptibleAnswer}
+use Rattle.ww_lock.specs.Moves.{interrupted_by}
 use Rattle.ww_lock.specs.declared.interruptible.Halt.{Halt}
 use Rattle.ww_lock.specs.declared.interruptible.Halt.TheVariants as halt
 use Rattle.ww_users.specs.declared.trip.Trip.{Trip}
@@ -46,28 +46,23 @@ pub record IsContended (list : List ℕ) (b : Refused) (position : ℕ) : Type 0
   pub entry : slice_get list position ≡ Some b.contended
   pub different : AreDifferent (take (position + 1) list)
 
--- the answer of a lock call, which may be called off only where it heeds cancels
-abbrev pub IsAnswer : Bool → Holding → ℕ → Interruptible → Type 0
-IsAnswer heeds s n (lock.Interrupted a by) = (heeds ≡ true) × IsInterrupted s n by a
-IsAnswer heeds s n answer = IsInterruptibleAnswer s n answer
-
 -- its wait for some node was called off by this caller; it is the same context otherwise
-abbrev pub IsHalted : Bool → Holding → ℕ → Holding → Type 0
-IsHalted heeds s by a = (heeds ≡ true) × ((n : ℕ) × IsSameContext (interrupted_by s n by) a)
+abbrev pub IsHalted : Waits → Holding → ℕ → Holding → Type 0
+IsHalted waits s by a = (waits ≡ UntilCancelled) × ((n : ℕ) × IsSameContext (interrupted_by s n by) a)
 
 -- why a context didn't get a lock
-abbrev pub IsHalt : Bool → Holding → Halt → Type 0
-IsHalt heeds s (halt.Deadlk b) = IsSameContext s b.holding
-IsHalt heeds s (halt.Interrupted a by) = IsHalted heeds s by a
+abbrev pub IsHalt : Waits → Holding → Halt → Type 0
+IsHalt waits s (halt.Deadlk b) = IsSameContext s b.holding
+IsHalt waits s (halt.Interrupted a by) = IsHalted waits s by a
 
--- How a trip through a list ended: with all of it locked in its order, at its first double, called off, or with EDEADLK.
-abbrev pub IsTrip : Bool → Holding → List ℕ → Option ℕ → Result Trip (Refused × ℕ) → Type 0
-IsTrip heeds s list kept (Ok (Through a)) = IsSameContext s a × HoldsExactly list a × FirstDouble list None × (a.held ≡ in_order kept list)
-IsTrip heeds s list kept (Ok (Already a n)) = IsSameContext s a × FirstDouble list (Some n)
-IsTrip heeds s list kept (Ok (Interrupted a by)) = IsHalted heeds s by a
-IsTrip heeds s list kept (Err e) = IsSameContext s e.0.holding × IsContended list e.0 e.1
+-- How a trip through a list ended: with all of it locked in order, at its first duplicate, called off, or with EDEADLK.
+abbrev pub IsTrip : Waits → Holding → List ℕ → Option ℕ → Result Trip (Refused × ℕ) → Type 0
+IsTrip waits s list kept (Ok (Through a)) = IsSameContext s a × HoldsExactly list a × FirstDouble list None × (a.held ≡ in_order kept list)
+IsTrip waits s list kept (Ok (Already a n)) = IsSameContext s a × FirstDouble list (Some n)
+IsTrip waits s list kept (Ok (Interrupted a by)) = IsHalted waits s by a
+IsTrip waits s list kept (Err e) = IsSameContext s e.0.holding × IsContended list e.0 e.1
 
--- the same entries in another order, with the same first double
+-- the same entries in another order, with the same first duplicate
 pub record IsReordered (list order : List ℕ) : Type 0 where
   pub moved : IsPermutation list order
   pub double : (d : Option ℕ) → FirstDouble order d → FirstDouble list d
@@ -76,29 +71,30 @@ pub record IsReordered (list order : List ℕ) : Type 0 where
 abbrev pub HoldsWalk : ℕ → ℕ → ℕ → Holding → Type 0
 HoldsWalk start port most a = Holds a (walked a.seen port (walk_of a.seen start port most))
 
--- ---- turns of the three ways
+-- ---- rounds of the three ways
 
--- a turn of any way keeps the context, or was called off
-abbrev pub IsWayTurn : {S : Type 0} → Bool → Holding → Result Trip (Refused × S) → Type 0
-IsWayTurn heeds s (Ok (Through a)) = IsSameContext s a
-IsWayTurn heeds s (Ok (Already a n)) = IsSameContext s a
-IsWayTurn heeds s (Ok (Interrupted a by)) = IsHalted heeds s by a
-IsWayTurn heeds s (Err e) = IsSameContext s e.0.holding
+-- a round of any way keeps the context, or was called off
+abbrev pub IsWayTurn : {S : Type 0} → Waits → Holding → Result Trip (Refused × S) → Type 0
+IsWayTurn waits s (Ok (Through a)) = IsSameContext s a
+IsWayTurn waits s (Ok (Already a n)) = IsSameContext s a
+IsWayTurn waits s (Ok (Interrupted a by)) = IsHalted waits s by a
+IsWayTurn waits s (Err e) = IsSameContext s e.0.holding
 
--- the fixed list: the next turn is told which node was contended
-abbrev pub IsListTurn : Bool → Holding → List ℕ → Option ℕ → Result Trip (Refused × Option ℕ) → Type 0
-IsListTurn heeds s list kept (Ok trip) = IsTrip heeds s list kept (Ok trip)
-IsListTurn heeds s list kept (Err e) = IsSameContext s e.0.holding × ((position : ℕ) × IsContended list e.0 position) × (e.1 ≡ Some e.0.contended)
+-- the fixed list: the next round is told which node was contended
+abbrev pub IsListTurn : Waits → Holding → List ℕ → Option ℕ → Result Trip (Refused × Option ℕ) → Type 0
+IsListTurn waits s list kept (Ok trip) = IsTrip waits s list kept (Ok trip)
+IsListTurn waits s list kept (Err e) = IsSameContext s e.0.holding
+    × ((position : ℕ) × IsContended list e.0 position) × (e.1 ≡ Some e.0.contended)
 
--- the reordered list: the next turn also has the contended entry at the head
-abbrev pub IsOrderTurn : Bool → Holding → Ordered → Result Trip (Refused × Ordered) → Type 0
-IsOrderTurn heeds s o (Ok trip) = IsTrip heeds s o.order.items o.kept (Ok trip)
-IsOrderTurn heeds s o (Err e) = IsSameContext s e.0.holding × (e.1.kept ≡ Some e.0.contended)
+-- the reordered list: the next round also has the contended entry at the head
+abbrev pub IsOrderTurn : Waits → Holding → Ordered → Result Trip (Refused × Ordered) → Type 0
+IsOrderTurn waits s o (Ok trip) = IsTrip waits s o.order.items o.kept (Ok trip)
+IsOrderTurn waits s o (Err e) = IsSameContext s e.0.holding × (e.1.kept ≡ Some e.0.contended)
     × ((position : ℕ) × IsContended o.order.items e.0 position × (e.1.order.items ≡ e.0.contended ∷ remove o.order.items position))
 
 -- the walk
-abbrev pub IsWalkTurn : Bool → Holding → ℕ → ℕ → ℕ → Result Trip (Refused × Unit {0}) → Type 0
-IsWalkTurn heeds s start port most (Ok (Through a)) = IsSameContext s a × HoldsWalk start port most a
-IsWalkTurn heeds s start port most (Ok (Already a n)) = ⊥
-IsWalkTurn heeds s start port most (Ok (Interrupted a by)) = IsHalted heeds s by a
-IsWalkTurn heeds s start port most (Err e) = IsSameContext s e.0.holding
+abbrev pub IsWalkTurn : Waits → Holding → ℕ → ℕ → ℕ → Result Trip (Refused × Unit {0}) → Type 0
+IsWalkTurn waits s start port most (Ok (Through a)) = IsSameContext s a × HoldsWalk start port most a
+IsWalkTurn waits s start port most (Ok (Already a n)) = ⊥
+IsWalkTurn waits s start port most (Ok (Interrupted a by)) = IsHalted waits s by a
+IsWalkTurn waits s start port most (Err e) = IsSameContext s e.0.holding

@@ -1,10 +1,12 @@
 -- What the three ways of taking many locks give.
-use Rattle.std.specs.Prelude.{ℕ, ◌≡◌, ◌≤◌, ◌+◌, ◌-◌, ◌==◌, ◌∷◌, [], not, Bool, true, List, length, Option, None, Some}
+use Rattle.std.specs.Prelude.{ℕ, ◌≡◌, ◌≤◌, ◌+◌, ◌-◌, ◌==◌, ◌∷◌, [], not, List, length, Option, None, Some}
 use Rattle.std.specs.List.{filter}
 use Rattle.ww_plain.specs.Numbers.{is_among}
 use Rattle.ww_plain.specs.Transaction.{FirstDouble}
 use Rattle.ww_lock.specs.Holding.{Holding}
 use Rattle.ww_lock.specs.Moves.{interrupted_by}
+use Rattle.ww_lock.specs.declared.waits.Waits.{Waits}
+use Rattle.ww_lock.specs.declared.waits.Waits.TheVariants.{UntilCancelled}
 use Rattle.ww_users.specs.declared.fault.UserFault.{UserFault}
 use Rattle.ww_users.specs.declared.fault.UserFault.TheVariants.{PassSpent, Already, Interrupted}
 
@@ -13,7 +15,7 @@ abbrev pub IsToldOfEach : Holding → Holding → Type 0
 IsToldOfEach s a = a.tries + s.takes + s.deaths ≡ s.tries + a.takes + a.deaths
 
 -- A pass that comes back after a refusal: one context less to start, so many more begun, no context, no lock, and the
--- same own list.
+-- same log.
 pub record IsReturned (s : Holding) (begun : ℕ) (a : Holding) : Type 0 where
   pub some : 1 ≤ s.left
   pub rest : a ≡ record s {
@@ -64,16 +66,17 @@ in_order (Some kept) list = kept ∷ filter (λ n. not (n == kept)) list
 abbrev pub TookInOrder : List ℕ → Holding → Type 0
 TookInOrder list a = (kept : Option ℕ) × (a.held ≡ in_order kept list)
 
--- Why the nodes of the list were not locked: the budget is looked at first. Only a call that heeds cancels is called off.
-abbrev pub IsUserFault : Bool → Holding → List ℕ → Holding → UserFault → Type 0
-IsUserFault heeds s list a PassSpent = (s.left ≡ 0) × (a ≡ s)
-IsUserFault heeds s list a (Already n) = FirstDouble list (Some n) × IsReturned s 1 a
-IsUserFault heeds s list a (Interrupted by) = (heeds ≡ true) × IsCalledOff s by a
+-- Why the nodes of the list were not locked: the budget is looked at first. Only a call that waits
+-- until a cancel is called off.
+abbrev pub IsUserFault : Waits → Holding → List ℕ → Holding → UserFault → Type 0
+IsUserFault waits s list a PassSpent = (s.left ≡ 0) × (a ≡ s)
+IsUserFault waits s list a (Already n) = FirstDouble list (Some n) × IsReturned s 1 a
+IsUserFault waits s list a (Interrupted by) = (waits ≡ UntilCancelled) × IsCalledOff s by a
 
 -- why a walk was not locked: nothing of it is named twice
-abbrev pub IsWalkFault : Bool → Holding → Holding → UserFault → Type 0
-IsWalkFault heeds s a (Already n) = ⊥
-IsWalkFault heeds s a fault = IsUserFault heeds s [] a fault
+abbrev pub IsWalkFault : Waits → Holding → Holding → UserFault → Type 0
+IsWalkFault waits s a (Already n) = ⊥
+IsWalkFault waits s a fault = IsUserFault waits s [] a fault
 
 abbrev pub user_number : UserFault → ℕ
 user_number PassSpent = 4

@@ -1,7 +1,8 @@
-ghost use Rattle.std.specs.Prelude.{◌≡◌, ◌≤◌, ◌<◌, true, false, None, length, IfOk, IfErr};
+ghost use Rattle.std.specs.Prelude.{◌≡◌, ◌≤◌, ◌<◌, None, length, IfOk, IfErr};
 ghost use Rattle.std.specs.List.{AllByRecursion};
 ghost use Rattle.ww_plain.specs.Transaction.{FirstDouble};
 ghost use Rattle.ww_lock.specs.Holding.{IsAtHome};
+ghost use Rattle.ww_lock.specs.declared.waits.Waits.TheVariants.{ToTheEnd, UntilCancelled};
 ghost use Rattle.ww_users.specs.Ways.{IsContext, HoldsExactly, TookInOrder, IsUserFault};
 ghost use Rattle.ww_users.specs.Trips.{HoldsKept, IsListTurn};
 
@@ -9,9 +10,9 @@ use crate::fault::UserFault;
 use crate::trip::{Trip, lock_entries};
 use crate::turns::take_turns;
 use std::sync::Wait;
-use ww_lock::{Acquiring, Backoff, Done, Pass, World};
+use ww_lock::{Acquiring, Backoff, Done, Pass, Waits, World};
 
-/// Method 1: locks the nodes in the order of the list. On EDEADLK it gives all back, takes the contended lock by
+/// Method 1: locks the nodes in the order of the list. On EDEADLK it releases all, takes the contended lock by
 /// the slow path, and starts again with that entry skipped once. A list that names a node twice is refused with the
 /// first entry whose node stands earlier; then, as with a spent pass, no lock is held and nothing is recorded.
 pub fn lock_list<R: Wait>(
@@ -28,13 +29,13 @@ pub fn lock_list<R: Wait>(
     ensures holds { IfOk result (HoldsExactly list.now) }
     ensures order { IfOk result (TookInOrder list.now) }
     ensures no_double { IfOk result (λ _. FirstDouble list.now None) }
-    ensures err { IfErr result (λ e. IsUserFault false pass list.now e.0 e.1) }
+    ensures err { IfErr result (λ e. IsUserFault ToTheEnd pass list.now e.0 e.1) }
     ensures room { IfErr result (λ e. e.0.room ≡ pass.room) }
 {
-    lock_in_order(world, pass, rt, list, false)
+    lock_list_as(world, pass, rt, list, Waits::ToTheEnd)
 }
 
-/// Method 1, but each wait may be called off. All is given back then, too.
+/// Method 1, but each wait may be called off. All is released then, too.
 pub fn lock_list_interruptible<R: Wait>(
     world: &World,
     pass: Pass,
@@ -49,20 +50,19 @@ pub fn lock_list_interruptible<R: Wait>(
     ensures holds { IfOk result (HoldsExactly list.now) }
     ensures order { IfOk result (TookInOrder list.now) }
     ensures no_double { IfOk result (λ _. FirstDouble list.now None) }
-    ensures err { IfErr result (λ e. IsUserFault true pass list.now e.0 e.1) }
+    ensures err { IfErr result (λ e. IsUserFault UntilCancelled pass list.now e.0 e.1) }
     ensures room { IfErr result (λ e. e.0.room ≡ pass.room) }
 {
-    lock_in_order(world, pass, rt, list, true)
+    lock_list_as(world, pass, rt, list, Waits::UntilCancelled)
 }
 
-/// Locks the nodes in the order of the list, whether the waits may be called off or not.
-#[inline(always)]
-fn lock_in_order<R: Wait>(
+/// Method 1; the last argument says how its lock calls wait.
+pub fn lock_list_as<R: Wait>(
     world: &World,
     pass: Pass,
     rt: &R,
     list: &[u8],
-    heeds: bool,
+    waits: Waits,
 ) -> Result<Done, (Pass, UserFault)>
     requires home { IsAtHome pass world.now }
     requires nodes { AllByRecursion (λ n. n < length world.now.first) list.now }
@@ -70,7 +70,7 @@ fn lock_in_order<R: Wait>(
     ensures holds { IfOk result (HoldsExactly list.now) }
     ensures order { IfOk result (TookInOrder list.now) }
     ensures no_double { IfOk result (λ _. FirstDouble list.now None) }
-    ensures err { IfErr result (λ e. IsUserFault heeds pass list.now e.0 e.1) }
+    ensures err { IfErr result (λ e. IsUserFault waits pass list.now e.0 e.1) }
     ensures room { IfErr result (λ e. e.0.room ≡ pass.room) }
 {
     take_turns(
@@ -78,14 +78,14 @@ fn lock_in_order<R: Wait>(
         pass,
         rt,
         None,
-        heeds,
+        waits,
         |acquiring: Acquiring, kept: Option<u8>| -> Result<Trip, (Backoff, Option<u8>)>
             requires home { IsAtHome acquiring world.now }
             requires nodes { AllByRecursion (λ n. n < length world.now.first) list.now }
             requires kept { HoldsKept kept list.now acquiring }
-            ensures { IsListTurn heeds acquiring list.entry.now kept result }
+            ensures { IsListTurn waits acquiring list.entry.now kept result }
         {
-            match lock_entries(world, acquiring, rt, list, kept, heeds) {
+            match lock_entries(world, acquiring, rt, list, kept, waits) {
                 Ok(trip) => Ok(trip),
                 Err((backoff, _)) => {
                     let contended = backoff.contended();

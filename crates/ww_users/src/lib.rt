@@ -12,7 +12,7 @@ mod until;
 mod walk;
 
 pub use fault::UserFault;
-pub use fixed_list::{lock_list, lock_list_interruptible};
-pub use reordered_list::{lock_order, lock_order_interruptible};
+pub use fixed_list::{lock_list, lock_list_as, lock_list_interruptible};
+pub use reordered_list::{lock_order, lock_order_as, lock_order_interruptible};
 pub use until::{lock_until, lock_until_interruptible};
-pub use walk::{lock_walk, lock_walk_interruptible};
+pub use walk::{lock_walk, lock_walk_as, lock_walk_interruptible};

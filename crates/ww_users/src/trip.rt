@@ -1,13 +1,12 @@
-//! One trip through a list, as the fixed list and the reordered one make it in each turn.
+//! One trip through a list, as the fixed list and the reordered one make it in each round.
 
 ghost use Rattle.std.specs.Prelude.{◌<◌, length};
 ghost use Rattle.std.specs.List.{AllByRecursion};
 ghost use Rattle.ww_lock.specs.Holding.{IsAtHome};
 ghost use Rattle.ww_users.specs.Trips.{HoldsKept, IsTrip};
 
-use crate::context::lock;
 use std::sync::Wait;
-use ww_lock::{Acquiring, Backoff, Interruptible, World};
+use ww_lock::{Acquiring, Backoff, Interruptible, Waits, World};
 
 /// How a trip ended that isn't made again.
 pub(crate) enum Trip {
@@ -27,12 +26,12 @@ pub(crate) fn lock_entries<R: Wait>(
     rt: &R,
     list: &[u8],
     kept: Option<u8>,
-    heeds: bool,
+    waits: Waits,
 ) -> Result<Trip, (Backoff, usize)>
     requires home { IsAtHome acquiring world.now }
     requires nodes { AllByRecursion (λ n. n < length world.now.first) list.now }
     requires kept { HoldsKept kept list.now acquiring }
-    ensures { IsTrip heeds acquiring list.now kept result }
+    ensures { IsTrip waits acquiring list.now kept result }
 {
     let mut acquiring = acquiring;
     let mut kept = kept;
@@ -41,7 +40,7 @@ pub(crate) fn lock_entries<R: Wait>(
             kept = None;
             continue;
         }
-        acquiring = match lock(world, acquiring, rt, *n, heeds) {
+        acquiring = match acquiring.lock_as(rt, world, *n, waits) {
             Interruptible::Locked(acquiring) => acquiring,
             Interruptible::Already(acquiring) => return Ok(Trip::Already(acquiring, *n)),
             Interruptible::Deadlk(backoff) => return Err((backoff, position)),

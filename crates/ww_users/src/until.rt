@@ -5,9 +5,9 @@ ghost use Rattle.ww_users.specs.Turns.{KeepsContext, StartsTurn, IsTurn, IsHalti
 use crate::context::give_up;
 use crate::turns::run_turns;
 use std::sync::Wait;
-use ww_lock::{Acquiring, Backoff, Halt, Pass, World};
+use ww_lock::{Acquiring, Backoff, Halt, Pass, Waits, World};
 
-/// Runs a body that takes locks until it is told no EDEADLK. After EDEADLK all locks are given back and the contended
+/// Runs a body that takes locks until it gets no EDEADLK. After EDEADLK all locks are released and the contended
 /// one is taken, and the body runs again: it finds that lock held, and is to take the others again. A body that takes a
 /// lock that is held already goes on by `going_on`.
 pub fn lock_until<R: Wait, F: Fn(Acquiring) -> Result<Acquiring, Backoff>>(
@@ -28,7 +28,7 @@ pub fn lock_until<R: Wait, F: Fn(Acquiring) -> Result<Acquiring, Backoff>>(
         world,
         acquiring,
         (),
-        false,
+        Waits::ToTheEnd,
         |acquiring: Acquiring, _: ()| -> Result<Acquiring, (Backoff, ())>
             requires { F.pre body acquiring }
             ensures ok { IfOk result (λ a. F.post body acquiring (Ok a)) }
@@ -47,7 +47,7 @@ pub fn lock_until<R: Wait, F: Fn(Acquiring) -> Result<Acquiring, Backoff>>(
 }
 
 /// Runs a body as `lock_until` does, but each wait may be called off: those of the body, which tells so by `going_on`,
-/// and those of the back-offs. Then all locks are given back, the context ends, and it is told by whom.
+/// and those of the back-offs. Then all locks are released, the context ends, and it is told by whom.
 pub fn lock_until_interruptible<R: Wait, F: Fn(Acquiring) -> Result<Acquiring, Halt>>(
     rt: &R,
     world: &World,
@@ -69,7 +69,7 @@ pub fn lock_until_interruptible<R: Wait, F: Fn(Acquiring) -> Result<Acquiring, H
         world,
         acquiring,
         (),
-        true,
+        Waits::UntilCancelled,
         |acquiring: Acquiring, _: ()| -> Result<Result<Acquiring, (Acquiring, u8)>, (Backoff, ())>
             requires { F.pre body acquiring }
             ensures { F.post body acquiring (ended_with result) }

@@ -1,9 +1,10 @@
-ghost use Rattle.std.specs.Prelude.{◌≡◌, ◌<◌, true, false, length, Some, IfOk, IfErr, IfSome, IsTrue};
+ghost use Rattle.std.specs.Prelude.{◌≡◌, ◌<◌, false, length, Some, IfOk, IfErr, IfSome, IsTrue};
 ghost use Rattle.ww_plain.specs.Graph.{port_of};
 ghost use Rattle.ww_plain.specs.Numbers.{is_among};
 ghost use Rattle.ww_plain.specs.Transaction.{IsCourse, sum, reverse};
 ghost use Rattle.ww_plain.specs.Walk.{IsEnd, GoesOnTo};
 ghost use Rattle.ww_lock.specs.Holding.{IsAtHome};
+ghost use Rattle.ww_lock.specs.declared.waits.Waits.TheVariants.{UntilCancelled};
 ghost use Rattle.ww_lock.specs.Making.{Covers};
 ghost use Rattle.ww_users.specs.Ways.{IsContext, IsWalkFault};
 ghost use Rattle.ww_users.specs.Trips.{IsSameContext, HoldsWalk, IsHalt, IsWalkTurn};
@@ -14,12 +15,12 @@ use crate::trip::Trip;
 use crate::turns::take_turns;
 use arrayvec::ArrayVec;
 use std::sync::Wait;
-use ww_lock::{Acquiring, Backoff, Done, Halt, Pass, World};
+use ww_lock::{Acquiring, Backoff, Done, Halt, Pass, Waits, World};
 use ww_plain::{MAX_NODES, PORTS};
 
 /// Method 3: locks the walk from a node along a port, of at most so many nodes, and its stop, as it finds them. On
-/// EDEADLK it gives all back, takes the contended lock by the slow path, keeps it, and starts the walk again:
-/// others may have changed the ports along it. A spent pass is given back.
+/// EDEADLK it releases all, takes the contended lock by the slow path, keeps it, and starts the walk again:
+/// others may have changed the ports along it. A spent pass is returned.
 pub fn lock_walk<R: Wait>(
     world: &World,
     pass: Pass,
@@ -35,14 +36,14 @@ pub fn lock_walk<R: Wait>(
     ensures reverse { IfOk result (λ d. Covers d (reverse start port most)) }
     ensures err { IfErr result (λ p. (pass.left ≡ 0) × (p ≡ pass)) }
 {
-    match lock_found(world, pass, rt, start, port, most, false) {
+    match lock_walk_as(world, pass, rt, start, port, most, Waits::ToTheEnd) {
         Ok(done) => Ok(done),
         Err((pass, UserFault::PassSpent)) => Err(pass),
         Err(_) => unreachable!(),
     }
 }
 
-/// Method 3, but each wait may be called off. All is given back then.
+/// Method 3, but each wait may be called off. All is released then.
 pub fn lock_walk_interruptible<R: Wait>(
     world: &World,
     pass: Pass,
@@ -56,41 +57,40 @@ pub fn lock_walk_interruptible<R: Wait>(
     ensures context { IfOk result (IsContext pass) }
     ensures sum { IfOk result (λ d. Covers d (sum start port most)) }
     ensures reverse { IfOk result (λ d. Covers d (reverse start port most)) }
-    ensures err { IfErr result (λ e. IsWalkFault true pass e.0 e.1) }
+    ensures err { IfErr result (λ e. IsWalkFault UntilCancelled pass e.0 e.1) }
 {
-    lock_found(world, pass, rt, start, port, most, true)
+    lock_walk_as(world, pass, rt, start, port, most, Waits::UntilCancelled)
 }
 
-/// Locks the walk and its stop as it finds them, whether the waits may be called off or not.
-#[inline(always)]
-fn lock_found<R: Wait>(
+/// Method 3; the last argument says how its lock calls wait.
+pub fn lock_walk_as<R: Wait>(
     world: &World,
     pass: Pass,
     rt: &R,
     start: u8,
     port: u8,
     most: u8,
-    heeds: bool,
+    waits: Waits,
 ) -> Result<Done, (Pass, UserFault)>
     requires home { IsAtHome pass world.now }
     requires course { IsCourse (length world.now.first) start port most }
     ensures context { IfOk result (IsContext pass) }
     ensures sum { IfOk result (λ d. Covers d (sum start port most)) }
     ensures reverse { IfOk result (λ d. Covers d (reverse start port most)) }
-    ensures err { IfErr result (λ e. IsWalkFault heeds pass e.0 e.1) }
+    ensures err { IfErr result (λ e. IsWalkFault waits pass e.0 e.1) }
 {
     take_turns(
         world,
         pass,
         rt,
         (),
-        heeds,
+        waits,
         |acquiring: Acquiring, _: ()| -> Result<Trip, (Backoff, ())>
             requires home { IsAtHome acquiring world.now }
             requires course { IsCourse (length world.now.first) start port most }
-            ensures { IsWalkTurn heeds acquiring start port most result }
+            ensures { IsWalkTurn waits acquiring start port most result }
         {
-            match lock_along(world, acquiring, rt, start, port, most, heeds) {
+            match lock_along(world, acquiring, rt, start, port, most, waits) {
                 Ok(acquiring) => Ok(Trip::Through(acquiring)),
                 Err(Halt::Deadlk(backoff)) => Err((backoff, ())),
                 Err(Halt::Interrupted(acquiring, by)) => Ok(Trip::Interrupted(acquiring, by)),
@@ -109,20 +109,20 @@ fn lock_along<R: Wait>(
     start: u8,
     port: u8,
     most: u8,
-    heeds: bool,
+    waits: Waits,
 ) -> Result<Acquiring, Halt>
     requires home { IsAtHome acquiring world.now }
     requires course { IsCourse (length world.now.first) start port most }
     ensures ok { IfOk result (IsSameContext acquiring) }
     ensures holds { IfOk result (HoldsWalk start port most) }
-    ensures err { IfErr result (IsHalt heeds acquiring) }
+    ensures err { IfErr result (IsHalt waits acquiring) }
 {
-    let mut acquiring = lock_one(world, acquiring, rt, start, heeds)?;
+    let mut acquiring = lock_one(world, acquiring, rt, start, waits)?;
     let mut walk = ArrayVec::<u8, MAX_NODES>::new();
     walk.push(start);
     let mut stop = target_of(world, &acquiring, start, port);
     while let Some(next) = stop {
-        acquiring = lock_one(world, acquiring, rt, next, heeds)?;
+        acquiring = lock_one(world, acquiring, rt, next, waits)?;
         if is_over(&walk, most, next) {
             return Ok(acquiring);
         }

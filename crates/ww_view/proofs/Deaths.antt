@@ -49,7 +49,8 @@ die_shows v n o k may = go v.kind refl may.why.1 may.why.2
 
 -- the view notes it
 pub die_notes : DeathIsNoted
-die_notes v n o k may = (λ i. met_at (may.inside i) (must_die v.kind o v.list v.who (unwrap_or v.sign 0)) o v.list) ∙ ap (λ x. met_at (suc n) x o v.list) (go v.kind may.why.1 may.why.2)
+die_notes v n o k may = (λ i. met_at (may.inside i) (must_die v.kind o v.list v.who (unwrap_or v.sign 0)) o v.list)
+    ∙ ap (λ x. met_at (suc n) x o v.list) (go v.kind may.why.1 may.why.2)
   where
     s : ℕ
     s = may.why.0

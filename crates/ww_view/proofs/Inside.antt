@@ -24,7 +24,7 @@ use Rattle.ww_model.proofs.Dues.{by_kind, wound_from, sign_for, sign_owed, sign_
 use Rattle.ww_view.specs.declared.view.View.{View}
 use Rattle.ww_view.specs.Word.{taken_word, asked_word, given_word, rest_word}
 use Rattle.ww_view.specs.View.{owns, KnowsQueues, Knows, IsQuiet}
-use Rattle.ww_view.specs.Made.{entry_of_view, queued, taken, has_asked, given, died, has_heeded, interrupted, has_looked, noted, has_condemned, has_read, found_none, cleared, fast_missed, fast_kept, glanced, found_pending, shut_out, stepped}
+use Rattle.ww_view.specs.Made.{entry_of_view, queued, taken, has_asked, given, died, has_heeded, interrupted, has_looked, noted, has_condemned, has_read, found_none, found_uncancelled, cleared, fast_missed, fast_kept, glanced, found_pending, shut_out, stepped}
 use Rattle.ww_view.proofs.Written.{word_join, word_take, word_ask, word_give, word_die, word_leave}
 use Rattle.ww_view.proofs.Mine.{taken_from, gets, gives, bare_still}
 
@@ -184,6 +184,9 @@ module _ (c : State) (v : View) (k : Knows c v) where
 
   pub mine_read_none : Knows c (found_none v)
   mine_read_none = search rules
+
+  pub mine_uncancelled : Knows c (found_uncancelled v)
+  mine_uncancelled = assumption
 
   pub mine_missed : Knows c (fast_missed v)
   mine_missed = assumption

@@ -60,7 +60,7 @@ module _ (c : State) (v : View) (l : IsLawful c) (k : Knows c v) where
         (λ isnt own. owned_else v.owned n m true isnt ∙ k.owned.lacks m own);
   }
 
-  -- it gives lock n back, to this owner
+  -- it releases lock n, to this owner
   pub gives : (n : ℕ) (o : Holder) → n < c.locks → o ≢ Taken v.who →
       KnowsOwned c.locks (put c.owner n o) v.who (set v.owned n false)
   gives n o lock isnt_mine = record {
@@ -109,7 +109,7 @@ module _ (c : State) (v : View) (l : IsLawful c) (k : Knows c v) where
   quiet_bare : v.kind ≡ WoundWait → v.sign ≡ Some 0 → IsBare v
   quiet_bare wounding none = ⊎_elim (λ bare. bare) (λ x. absurd (let y = x.0 in cc)) (k.quiet none)
 
-  -- who is neither in a list nor inside a guard has no sign in Wait-Die
+  -- a seat neither in a list nor inside a guard has no sign in Wait-Die
   away_unsigned : (n : ℕ) → Possible c (Guard v.who n) → v.kind ≡ WaitDie → v.waits ≡ 0 → c.sign v.who ≡ 0
   away_unsigned n can dying none = dite (ℕ_discrete (c.sign v.who) 0) (λ i. i) (λ some. absurd (⊎_elim
       (λ x. let y = k.queues.waits x.0 x.1 in omega arith) (λ x. can.base.inside_none x.0 x.1)

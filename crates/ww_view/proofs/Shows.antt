@@ -49,6 +49,10 @@ module _ (c : State) (v : View) (l : IsLawful c) (k : Knows c v) where
       (λ dying. dite (ℕ_discrete (c.sign v.who) 0) inl
       (λ some. let own = outside (sym k.itself.kind ∙ dying) v.who (omega arith) in inr (own.0, own.1))))) how
 
+  -- the word inside is the one that it saw last, where somebody waits
+  seen_waited : (n : ℕ) (o : Owner) → v.inside ≡ suc n → v.seen ≡ Some o → c.queue n ≢ [] → o ≡ word_of c n
+  seen_waited n o is saw some = k.seen n o is saw (inl (λ none. some (sym (k.queues.list n is) ∙ none)))
+
   pub is_inside : (n : ℕ) → v.inside ≡ suc n → Inside c v.who n
   is_inside n is = search (rules, k.guard.guards n is)
 
@@ -138,7 +142,7 @@ module _ (c : State) (v : View) (l : IsLawful c) (k : Knows c v) where
 
   pub shows_heed : (n : ℕ) → MayHeed v n → c.cancel v.who ≢ 0 → Possible c (Heed v.who n)
   shows_heed n may some = let here = k.queues.waited n may.waits in
-      let found = k.seen n may.other.0 may.inside may.other.1 (not_empty (c.queue n) here.0 here.1) in
+      let found = seen_waited n may.other.0 may.inside may.other.1 (not_empty (c.queue n) here.0 here.1) in
       let other = other_seat c n may.other.0 found v.who may.other.2 in
       let unheeded = sym k.heeded ∙ may.unheeded in
       search (rules, is_inside n may.inside, here, other, unheeded)
@@ -152,7 +156,7 @@ module _ (c : State) (v : View) (l : IsLawful c) (k : Knows c v) where
   tells_sign n u j may = let o = may.owes.0 in
       let some : c.queue n ≢ [] = λ none.
       none_owed v.kind o v.list v.who u j (k.queues.list n may.inside ∙ none) may.owes.2 in
-      subst (λ pairs. Has pairs (u, j)) (owes_by_view n o may.inside (k.seen n o may.inside may.owes.1 some)) may.owes.2
+      subst (λ pairs. Has pairs (u, j)) (owes_by_view n o may.inside (seen_waited n o may.inside may.owes.1 some)) may.owes.2
 
   pub shows_sign : (n u j : ℕ) → MaySign v n u j → c.sign u ≡ 0 → Possible c (Sign v.who u)
   shows_sign n u j may found = let at = sym (lawful_place c l v.who n (is_inside n may.inside)) in
@@ -169,7 +173,7 @@ module _ (c : State) (v : View) (l : IsLawful c) (k : Knows c v) where
       must_die v.kind o v.list v.who 0 ≡ None →
       dies c v.who n ≡ None
   lives_by_view n o is saw dying lives = ⊎_elim
-      (λ here. let found = k.seen n o is saw (not_empty (c.queue n) here.0 here.1) in
+      (λ here. let found = seen_waited n o is saw (not_empty (c.queue n) here.0 here.1) in
       sym (dies_by_view n o 0 is found (inl dying)) ∙ lives)
       (none_dies n) (stands_or_not (c.queue n) v.who)
 
@@ -187,7 +191,7 @@ module _ (c : State) (v : View) (l : IsLawful c) (k : Knows c v) where
   owed_by_seen n o u j is saw h =
       let some : c.queue n ≢ [] = λ none. none_owed c.kind (word_of c n) (c.queue n) v.who u j none
       (subst (λ pairs. Has pairs (u, j)) (sym (word_owes c v.who n)) h) in
-      subst (λ pairs. Has pairs (u, j)) (sym (owes_by_view n o is (k.seen n o is saw some))) h
+      subst (λ pairs. Has pairs (u, j)) (sym (owes_by_view n o is (seen_waited n o is saw some))) h
 
   pub shows_exit : (n : ℕ) → SignedOwnsOutside c → MayExit v n → Possible c (Unguard v.who n)
   shows_exit n outside may = record {
@@ -195,7 +199,7 @@ module _ (c : State) (v : View) (l : IsLawful c) (k : Knows c v) where
       inside = is_inside n may.inside;
       contended = λ here. ⊎_elim (λ x. absurd (in_no_queue x.0 n here.0 here.1 here.2))
           (λ p. ⊎_elim (λ none. absurd (in_no_queue none n here.0 here.1 here.2))
-          (λ o. let found = k.seen n p.word may.inside p.seen (not_empty (c.queue n) here.0 here.1) in
+          (λ o. let found = seen_waited n p.word may.inside p.seen (not_empty (c.queue n) here.0 here.1) in
           other_seat c n p.word found v.who o) p.other) may.why;
       unheeded = sym k.heeded ∙ may.unheeded;
     };

@@ -16,7 +16,7 @@ use Rattle.ww_view.specs.declared.view.View.{View}
 use Rattle.ww_view.specs.Word.{words_after}
 use Rattle.ww_view.specs.View.{IsBare, IsAway, IsQuiet, Knows, first_view}
 use Rattle.ww_view.specs.May.{MayDie, MaySign, MayExit, MayStop, MetByView, Shows}
-use Rattle.ww_view.specs.Made.{died, interrupted, fast_missed, fast_kept, glanced, found_pending, shut_out, has_looked, noted, has_read, found_none, stepped, view_after}
+use Rattle.ww_view.specs.Made.{died, interrupted, fast_missed, fast_kept, glanced, found_pending, shut_out, has_looked, noted, has_read, found_none, found_uncancelled, stepped, view_after}
 
 -- ---- what a seat knows
 
@@ -43,6 +43,7 @@ pub record FindsMore (c : State) (v : View) : Type 0 where
   pub kept : Knows c (fast_kept v)
   pub read : (c.sign v.who ≡ 0 → IsQuiet v) → Knows c (has_read v (c.sign v.who))
   pub found_none : Knows c (found_none v)
+  pub found_uncancelled : Knows c (found_uncancelled v)
   pub missed : Knows c (fast_missed v)
   pub glanced : Knows c (glanced v)
   pub found_pending : Knows c (found_pending v)
@@ -76,7 +77,7 @@ abbrev pub ExitIsPossible : Type 0
 ExitIsPossible = (c : State) (v : View) (n : ℕ) → IsLawful c → SignedOwnsOutside c → Knows c v → MayExit v n →
     Possible c (Unguard v.who n)
 
--- who must die and whom to sign is the same by the word and the list that a seat has inside as by the core
+-- which waiter must die and whom to sign is the same by the word and the list that a seat has inside as by the core
 pub record DecidesAlike (c : State) (v : View) (n : ℕ) (o : Owner) : Type 0 where
   pub owes : owed_signs v.kind o v.list v.who ≡ owes c v.who n
   pub dies : (s : ℕ) → (v.kind ≡ WaitDie) ⊎ (v.sign ≡ Some s) → must_die v.kind o v.list v.who s ≡ dies c v.who n

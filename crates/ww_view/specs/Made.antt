@@ -95,6 +95,7 @@ entered v n q = record v {
   later = not (v.waits == 0);
   acted = not (v.waits == 0);
   fresh = false;
+  uncancelled = false;
   attempts = v.attempts + 1;
 }
 
@@ -145,7 +146,7 @@ taken v n = let q : List Entry = left v.list v.who in record v {
 abbrev pub has_asked : View → Owner → View
 has_asked v o = record v { seen = Some (asked_word o); fresh = false }
 
--- whether HANDOFF stood in the word before; who is to look now is the first waiter
+-- whether HANDOFF stood in the word before; the seat that is to look now is the first waiter
 abbrev pub given : View → ℕ → Bool → View
 given v n asked = record v {
   owned = slice_set v.owned n false;
@@ -221,6 +222,14 @@ found_none v = record v { sign = None; fresh = true }
 
 abbrev pub cleared : View → View
 cleared v = record v { sign = Some 0; fresh = false }
+
+-- ---- the own cancel
+
+-- none was pending, and others may change that at once
+abbrev pub found_uncancelled : View → View
+found_uncancelled v = record v { fresh = false; uncancelled = true }
+
+-- ---- what tells nothing
 
 -- a step that told the seat nothing that lasts
 abbrev pub stepped : View → View

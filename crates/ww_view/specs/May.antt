@@ -29,12 +29,12 @@ pub record MayFast (v : View) : Type 0 where
   pub base : WantsBase v
   pub signs : WantsSigns v
 
--- to glance at an owner word: no waiter may, and others sixteen times at most between one try and the next
+-- to make a spin read of an owner word: no waiter may, and others sixteen times at most between one try and the next
 pub record MayGlance (v : View) : Type 0 where
   pub away : IsAway v
   pub few : v.glances < 16
 
--- to go inside the guard: to give the lock back, to look again, or to want it
+-- to go inside the guard: to release the lock, to look again, or to want it
 pub record MayEnter (v : View) (n : ℕ) : Type 0 where
   pub outside : v.inside ≡ 0
   pub why : ((v.waits ≡ 0) × (owns v n ≡ true))
@@ -117,7 +117,7 @@ pub record MayExit (v : View) (n : ℕ) : Type 0 where
   pub unsigned : v.kind ≡ WaitDie → (v.stamp ≡ 0) ⊎ ((v.sign ≡ Some 0) ⊎ IsBare v)
   pub unheeded : v.heeded ≡ 0
 
--- the lock was asked for or handed over, or another is first: so who looks again may go on waiting
+-- the lock was asked for or handed over, or another is first: so a waiter that looks again may go on waiting
 abbrev pub NothingToAsk : View → Type 0
 NothingToAsk v = (o : Owner) × (v.seen ≡ Some o) × ((o.flags ≡ 3) ⊎ ((is_handed o ≡ true) ⊎ (¬ IsFirst v.list v.who)))
 

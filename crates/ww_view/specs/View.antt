@@ -45,6 +45,7 @@ first_view kind locks s = record {
   later = false;
   acted = false;
   fresh = false;
+  uncancelled = false;
   tries = 0;
   glances = 0;
   all_glances = 0;
@@ -60,6 +61,11 @@ first_view kind locks s = record {
   heir = None;
   locks = [];
 }
+
+-- Nobody else writes the owner word of this lock while the seat is inside its guard: somebody waits there, or the lock is
+-- the seat's.
+abbrev pub NobodyWrites : View → ℕ → Type 0
+NobodyWrites v n = (v.list ≢ []) ⊎ (owns v n ≡ true)
 
 -- ---- what the seat knows, each part a definition over just what it reads of the core and of the view
 
@@ -88,15 +94,15 @@ pub record KnowsQueues (queue : ℕ → List Entry) (who own_inside : ℕ) (own_
   pub waits : (n : ℕ) → Stands (queue n) who → own_waits ≡ suc n
   pub waited : (n : ℕ) → own_waits ≡ suc n → Stands (queue n) who
 
--- All of it. Of owner words and signs it knows what no other seat can change: the word inside, where somebody waits;
--- that whom it found signed there is so, as long as it owes that sign; and its own sign. That this is 0 it knows only
--- while it is quiet.
+-- All of it. Of owner words and signs it knows what no other seat can change: the word inside, where nobody else writes
+-- it; that whom it found signed there is so, as long as it owes that sign; and its own sign. That this is 0 it knows
+-- only while it is quiet.
 pub record Knows (c : State) (v : View) : Type 0 where
   pub itself : KnowsItself c.kind c.seats c.stamp v.kind v.who v.stamp
   pub owned : KnowsOwned c.locks c.owner v.who v.owned
   pub guard : KnowsGuard c.locks c.guard v.who v.inside
   pub queues : KnowsQueues c.queue v.who v.inside v.list v.waits
-  pub seen : (n : ℕ) (o : Owner) → v.inside ≡ suc n → v.seen ≡ Some o → c.queue n ≢ [] → o ≡ word_of c n
+  pub seen : (n : ℕ) (o : Owner) → v.inside ≡ suc n → v.seen ≡ Some o → NobodyWrites v n → o ≡ word_of c n
   pub signed : (n u k : ℕ) → v.inside ≡ suc n → Has v.signed u → Has (owes c v.who n) (u, k) → c.sign u ≢ 0
   pub sign : (k : ℕ) → v.sign ≡ Some k → c.sign v.who ≡ k
   pub quiet : v.sign ≡ Some 0 → IsQuiet v

@@ -20,7 +20,7 @@ taken_word s stamp q = record { seat = Some s; stamp = stamp; flags = waiting q 
 abbrev pub asked_word : Owner → Owner
 asked_word o = record o { flags = 3 }
 
--- of a lock that was given back: if it was asked to, it is handed to the first waiter
+-- of a lock that was released: if it was asked to, it is handed to the first waiter
 abbrev pub given_word : Bool → List Entry → Owner
 given_word true (e ∷ es) = handed_to e.seat e.stamp
 given_word _ q = record idle { flags = waiting q }

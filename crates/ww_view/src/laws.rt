@@ -42,7 +42,7 @@ pub fn exit_is_possible()
     ensures { ExitIsPossible }
 {}
 
-/// Who must die and whom to sign is the same by the view as by the core.
+/// Which waiter must die and whom to sign is the same by the view as by the core.
 pub fn view_decides()
     ensures { ViewDecides }
 {}

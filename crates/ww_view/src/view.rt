@@ -39,21 +39,23 @@ pub struct View {
     pub acted: bool,
     /// Its last step inside was to read its own sign. It says nothing of a seat that is outside.
     pub fresh: bool,
+    /// It has read its own cancel since it last went inside a guard, and found none.
+    pub uncancelled: bool,
     /// How often it tried to take a lock at once.
     pub tries: u64,
-    /// How often it glanced at an owner word from outside its guard, since it last tried to take a lock at once.
+    /// How many spin reads of owner words it made since it last tried to take a lock at once.
     pub glances: u64,
-    /// How often it glanced at an owner word at all.
+    /// How often it made a spin read at all.
     pub all_glances: u64,
     /// How often it took a lock, at once or inside its guard.
     pub takes: u64,
     /// How often it backed off.
     pub deaths: u64,
-    /// How often it tried to give a lock back at once, and kept it.
+    /// How often it tried to release a lock at once, and kept it.
     pub kept: u64,
     /// The seats that its own signs condemned since it last went inside a guard.
     pub condemned: LinkedList<u8>,
-    /// Once it has backed off: what it met, and where; until it takes a lock, gives one back or is interrupted, or its
+    /// Once it has backed off: what it met, and where; until it takes a lock, releases one or is interrupted, or its
     /// context begins or ends. No other step sets it.
     pub met: Option<Met>,
     /// 0, or 1 more than the seat whose cancel it has heeded: a waiter inside the guard, which has not left the list
@@ -66,7 +68,7 @@ pub struct View {
     pub pendings: u64,
     /// How often it tried to go inside a guard, or read an owner word inside of one.
     pub attempts: u64,
-    /// The seat that was the first waiter, if somebody waited, as it last gave a lock back inside its guard.
+    /// The seat that was the first waiter, if somebody waited, as it last released a lock inside its guard.
     pub heir: Option<u8>,
     /// The locks that it owns, in the order in which it took them.
     pub locks: LinkedList<u32>,

@@ -1,5 +1,5 @@
 -- A seat in a call at the table, and the steps of the scene.
-use Rattle.std.proofs.Common.{◌≡◌, ◌≢◌, inl, inr, ⊎_elim, ℕ, true, false, List, [], ◌∷◌, Option, Some, None, refl, sym, ap, ◌∙◌, subst, arith, true≢false}
+use Rattle.std.proofs.Common.{◌≡◌, ◌≢◌, inl, inr, ⊎_elim, ℕ, Bool, true, false, List, [], ◌∷◌, Option, Some, None, refl, sym, ap, ◌∙◌, subst, arith, true≢false}
 use Rattle.std.proofs.lemmas.Bool.{cases_Bool}
 use Rattle.std.specs.Option.{option_map}
 use Rattle.std.specs.Prelude.{slice_get}
@@ -18,8 +18,8 @@ use Rattle.ww_view.specs.Made.{view_after}
 use Rattle.ww_view.proofs.Events.{shown_is_possible, actor_knows}
 use Rattle.ww_view.proofs.Others.{others_know}
 use Rattle.ww_view.proofs.Shows.{shows_exit}
-use Rattle.ww_view.proofs.Inside.{mine_read, mine_read_none, mine_stepped}
-use Rattle.ww_wakes.specs.Scene.{acting, going_to_sleep, asleep, performs, leaves_to_sleep, finds_no_sign, finds_no_cancel, wakes, falls_asleep, rises, first_of, woken_by, next, goes_on}
+use Rattle.ww_view.proofs.Inside.{mine_read, mine_read_none, mine_uncancelled}
+use Rattle.ww_wakes.specs.Scene.{Scene, acting, going_to_sleep, asleep, performs, leaves_to_sleep, finds_no_sign, finds_no_cancel, wakes, falls_asleep, rises, first_of, uncancelled_after, woken_by, next, goes_on}
 use Rattle.ww_wakes.specs.Ties.{also, ShownIsAStep, LeavingIsAStep, SignLookIsAStep, CancelLookIsAStep, OthersLeaveCallsAlone, ViewsTellWhomToWake, WakersMaySleep}
 use Rattle.ww_wakes.proofs.Woken.{another_was, owing_was, debt_was, debt_here}
 use Rattle.ww_wakes.proofs.Keeping.{reached_is_orderly}
@@ -46,6 +46,28 @@ not_fresh c (End s) v h inside fresh = true≢false (sym fresh)
 not_fresh c (Heed s n) v h inside fresh = true≢false (sym fresh)
 not_fresh c (Leave s n) v h inside fresh = true≢false (sym fresh)
 
+-- only a look at the own cancel makes the view say that it found none, and who cancels is inside no guard
+still_uncancelled : (w : Scene) (e : Event) (v : View) → Shows w.core v e
+    → (v.inside ≢ 0 → v.uncancelled ≡ true → w.found_no_cancel v.who ≡ true) →
+    (view_after w.core e v).inside ≢ 0 → (view_after w.core e v).uncancelled ≡ true → uncancelled_after w.found_no_cancel e v.who ≡ true
+still_uncancelled w (Guard s n) v h had inside none = absurd (true≢false (sym none))
+still_uncancelled w (Cancel s u) v h had inside none = absurd (inside h.0.0)
+still_uncancelled w (Unguard s n) v h had inside none = absurd (inside refl)
+still_uncancelled w (Begin s) v h had inside none = had inside none
+still_uncancelled w (Clear s) v h had inside none = had inside none
+still_uncancelled w (Fast s n) v h had inside none = had inside none
+still_uncancelled w (FastGive s n) v h had inside none = had inside none
+still_uncancelled w (Join s n) v h had inside none = had inside none
+still_uncancelled w (Sign s u) v h had inside none = had inside none
+still_uncancelled w (Take s n) v h had inside none = had inside none
+still_uncancelled w (Ask s n) v h had inside none = had inside none
+still_uncancelled w (Give s n) v h had inside none = had inside none
+still_uncancelled w (Die s n) v h had inside none = had inside none
+still_uncancelled w (Commit s) v h had inside none = had inside none
+still_uncancelled w (End s) v h had inside none = had inside none
+still_uncancelled w (Heed s n) v h had inside none = had inside none
+still_uncancelled w (Leave s n) v h had inside none = had inside none
+
 same_who : (c : State) (e : Event) (v : View) → (view_after c e v).who ≡ v.who
 same_who c (Begin s) v = refl
 same_who c _ v = refl
@@ -66,6 +88,7 @@ shown_is_a_step w v e to_wake r i own h = let c = w.core in let reached = (reach
         knows = actor_knows c v l out i.knows e own h;
         acts = ap w.phase who ∙ i.acts;
         fresh = λ inside fresh. absurd (not_fresh c e v h inside fresh);
+        uncancelled = λ inside none. ap (uncancelled_after w.found_no_cancel e) who ∙ still_uncancelled w e v h i.uncancelled inside none;
         debts = λ u owed. ⊎_elim (λ new. new_there (woken_by c e) to_wake u new.1)
             (λ old. old_there (woken_by c e) to_wake u (i.debts u (subst (λ s. w.owes s u ≡ true) who old)))
             (owing_was w.owes (actor e) (woken_by c e) (view_after c e v).who u owed);
@@ -75,7 +98,7 @@ shown_is_a_step w v e to_wake r i own h = let c = w.core in let reached = (reach
 -- ---- out of the guard
 
 pub leaving_is_a_step : LeavingIsAStep
-leaving_is_a_step w v n heeds to_wake r i may waits heeded = let c = w.core in let k = i.knows in
+leaving_is_a_step w v n heeds to_wake r i may waits found = let c = w.core in let k = i.knows in
     let reached = (reached_is_orderly w r).reached in record {
       acts = i.acts;
       possible = shows_exit c v (reached_is_lawful c reached) k n (signed_owns_outside c reached) may.exit;
@@ -83,7 +106,7 @@ leaving_is_a_step w v n heeds to_wake r i may waits heeded = let c = w.core in l
       unsigned = λ can. i.fresh (λ none. let z = may.exit.inside in omega arith)
           (may.looked (k.itself.kind ∙ can.kind) waits (let z = k.itself.stamp in let y = can.context in omega arith)
           (can.owns.0, k.owned.lacks can.owns.0 can.owns.1));
-      uncancelled = heeded;
+      uncancelled = λ heeded. i.uncancelled (λ none. let z = may.exit.inside in omega arith) (found heeded);
     }
 
 -- ---- looks at the own sign and cancel
@@ -91,55 +114,90 @@ leaving_is_a_step w v n heeds to_wake r i may waits heeded = let c = w.core in l
 pub sign_look_is_a_step : SignLookIsAStep
 sign_look_is_a_step w v to_wake i none = let found = put_here w.found_no_sign v.who true in record {
   may = (i.acts, none);
-  loud = record { knows = mine_read_none w.core v i.knows; acts = i.acts; fresh = λ _ _. found; debts = i.debts };
-  quiet = λ quiet. record { knows = mine_read w.core v i.knows 0 none (λ _. quiet); acts = i.acts; fresh = λ _ _. found; debts = i.debts };
+  loud = record {
+    knows = mine_read_none w.core v i.knows;
+    acts = i.acts;
+    fresh = λ _ _. found;
+    uncancelled = i.uncancelled;
+    debts = i.debts;
+  };
+  quiet = λ quiet. record {
+    knows = mine_read w.core v i.knows 0 none (λ _. quiet);
+    acts = i.acts;
+    fresh = λ _ _. found;
+    uncancelled = i.uncancelled;
+    debts = i.debts;
+  };
 }
 
 pub cancel_look_is_a_step : CancelLookIsAStep
 cancel_look_is_a_step w v to_wake i none = record {
   may = (i.acts, none);
-  call = record { knows = mine_stepped w.core v i.knows; acts = i.acts; fresh = λ _ fresh. absurd (true≢false (sym fresh)); debts = i.debts };
+  call = record {
+    knows = mine_uncancelled w.core v i.knows;
+    acts = i.acts;
+    fresh = λ _ fresh. absurd (true≢false (sym fresh));
+    uncancelled = λ _ _. put_here w.found_no_cancel v.who true;
+    debts = i.debts;
+  };
 }
 
 -- ---- steps of others
+
+-- another's event leaves whether a seat has found no cancel
+others_uncancelled : (found : ℕ → Bool) (e : Event) (s : ℕ) → actor e ≢ s → uncancelled_after found e s ≡ found s
+others_uncancelled found (Cancel s u) t other = put_else found s false t (λ is. other (sym is))
+others_uncancelled found _ t other = refl
 
 pub others_leave_calls_alone : OthersLeaveCallsAlone
 others_leave_calls_alone w (performs e) v to_wake r may other i = let c = w.core in record {
   knows = others_know c e v (reached_is_lawful c (reached_is_orderly w r).reached) may.possible other i.knows;
   acts = i.acts;
   fresh = λ inside fresh. put_else w.found_no_sign (actor e) false v.who (λ is. other (sym is)) ∙ i.fresh inside fresh;
+  uncancelled = λ inside none. others_uncancelled w.found_no_cancel e v.who other ∙ i.uncancelled inside none;
   debts = λ u owed. ⊎_elim (λ new. absurd (other (sym new.0))) (i.debts u) (owing_was w.owes (actor e) (woken_by c e) v.who u owed);
 }
 others_leave_calls_alone w (leaves_to_sleep s n heeds) v to_wake r may other i = let c = w.core in record {
   knows = others_know c (Unguard s n) v (reached_is_lawful c (reached_is_orderly w r).reached) may.possible other i.knows;
   acts = put_else w.phase s going_to_sleep v.who (λ is. other (sym is)) ∙ i.acts;
   fresh = i.fresh;
+  uncancelled = i.uncancelled;
   debts = i.debts;
 }
 others_leave_calls_alone w (finds_no_sign s) v to_wake r may other i = record {
   knows = i.knows;
   acts = i.acts;
   fresh = λ inside fresh. put_else w.found_no_sign s true v.who (λ is. other (sym is)) ∙ i.fresh inside fresh;
+  uncancelled = i.uncancelled;
   debts = i.debts;
 }
 others_leave_calls_alone w (finds_no_cancel s) v to_wake r may other i =
-    record { knows = i.knows; acts = i.acts; fresh = i.fresh; debts = i.debts }
+    record {
+      knows = i.knows;
+      acts = i.acts;
+      fresh = i.fresh;
+      uncancelled = λ inside none. put_else w.found_no_cancel s true v.who (λ is. other (sym is)) ∙ i.uncancelled inside none;
+      debts = i.debts;
+    }
 others_leave_calls_alone w (wakes s x) v to_wake r may other i = record {
   knows = i.knows;
   acts = i.acts;
   fresh = i.fresh;
+  uncancelled = i.uncancelled;
   debts = λ u owed. ⊎_elim (λ paid. absurd (true≢false (sym paid.2))) (i.debts u) (debt_was w.owes s x false v.who u owed);
 }
 others_leave_calls_alone w (falls_asleep s) v to_wake r may other i = record {
   knows = i.knows;
   acts = put_else w.phase s asleep v.who (λ is. other (sym is)) ∙ i.acts;
   fresh = i.fresh;
+  uncancelled = i.uncancelled;
   debts = i.debts;
 }
 others_leave_calls_alone w (rises s) v to_wake r may other i = record {
   knows = i.knows;
   acts = put_else w.phase s acting v.who (λ is. other (sym is)) ∙ i.acts;
   fresh = λ inside fresh. put_else w.found_no_sign s false v.who (λ is. other (sym is)) ∙ i.fresh inside fresh;
+  uncancelled = λ inside none. put_else w.found_no_cancel s false v.who (λ is. other (sym is)) ∙ i.uncancelled inside none;
   debts = i.debts;
 }
 

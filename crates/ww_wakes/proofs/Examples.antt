@@ -30,7 +30,7 @@ leave : {w : Scene} {s n : ℕ} {es : List Event} (heeds : Bool) → Goes w (Ung
 leave {w} {s} {n} {es} heeds g may =
     record { reached = goes_on w (leaves_to_sleep s n heeds) g.reached (may g.run.0); run = g.run.1 }
 
--- the first takes the lock, and the second waits for it, until the first gives it back
+-- the first takes the lock, and the second waits for it, until the first releases it
 abbrev events : List Event
 events = Begin 0 ∷ Begin 1 ∷ Fast 0 0 ∷ Guard 1 0 ∷ Join 1 0 ∷ Unguard 1 0 ∷ Guard 0 0 ∷ Give 0 0 ∷ []
 

@@ -48,9 +48,14 @@ implied true f = ⊎_elim inl (λ y. inr (λ _. y)) (f refl)
 implied false f = inr (λ h. absurd (true≢false (sym h)))
 
 told_too : {A B : Type 0} (c : State) (heeds : ℕ → Bool) (s : ℕ) → (A → B) → Rests c heeds A s → Rests c heeds B s
-told_too c heeds s more x = record { lock = x.lock; stands = x.stands; outside = x.outside; quiet = ⊎_elim (λ told. inl (more told)) inr x.quiet }
+told_too c heeds s more x = record {
+  lock = x.lock;
+  stands = x.stands;
+  outside = x.outside;
+  quiet = ⊎_elim (λ told. inl (more told)) inr x.quiet;
+}
 
--- who sleeps doesn't act
+-- a sleeper doesn't act
 pub not_acting : (p : Phase) → p ≡ asleep → p ≢ acting
 not_acting p sleeps acts = let z : ⊥ = cc in z
 
@@ -68,7 +73,8 @@ module _ (w : Scene) (e : Event) where
   sign_on t other (inl told) = inl (told_more t told)
   sign_on t other (inr none) = ⊎_elim inr (λ is. inl (told_new t is)) (still_unsigned w.core e t other none)
 
-  cancel_on : (t : ℕ) → CancelsNot t e → IsTold w t ⊎ (w.core.cancel t ≡ 0) → IsTold (next w (performs e)) t ⊎ ((after w.core e).cancel t ≡ 0)
+  cancel_on : (t : ℕ) → CancelsNot t e → IsTold w t ⊎ (w.core.cancel t ≡ 0) → IsTold (next w (performs e)) t
+      ⊎ ((after w.core e).cancel t ≡ 0)
   cancel_on t other (inl told) = inl (told_more t told)
   cancel_on t other (inr none) = ⊎_elim inr (λ is. inl (told_new t is)) (still_uncancelled w.core e t other none)
 

@@ -143,7 +143,7 @@ module _ (w : Scene) (o : IsOrderly w) (still : IsStill w) where
   awake s (inr (inl token)) = absurd (true≢false (sym token ∙ still.no_token s))
   awake s (inr (inr owed)) = absurd (true≢false (sym owed.1 ∙ still.paid owed.0 s))
 
-  -- who is awaited and up holds a lock, awake
+  -- a seat that is awaited and up holds a lock, awake
   holder : (x s n : ℕ) → Awaits w.core x s n → IsUp w s → IsAwakeHolder w s
   holder x s n await up = let out = awake s up in record {
     owns = ⊎_elim (λ own. (n, own))

@@ -31,7 +31,7 @@ taken_for_none u q s (inr h) = let z = h.0 in cc
 first_is : (q : List Entry) (s : ℕ) → IsFirst q s → first_of q ≡ Some s
 first_is q s f = ap first_of f.2 ∙ ap Some f.3
 
--- whoever gives the lock back wakes whom it is there for then
+-- a seat that releases the lock wakes the one that it is there for then
 given_first : (asked : Bool) (q : List Entry) (s : ℕ) → DueAt (given_to asked q) q s → first_of q ≡ Some s
 given_first true [] s (inl h) = absurd (cc)
 given_first true [] s (inr h) = first_is [] s h.1

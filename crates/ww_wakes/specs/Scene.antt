@@ -39,7 +39,7 @@ first_scene kind locks seats = record {
   heeds = λ _. false;
 }
 
--- ---- who is to be woken
+-- ---- which seats are to be woken
 
 -- the seat of the first waiter
 abbrev pub first_of : List Entry → Option ℕ
@@ -50,7 +50,7 @@ first_of (e ∷ es) = Some e.seat
 abbrev pub another : ℕ → ℕ → Option ℕ
 another s v = if v == s then None else Some v
 
--- whom a seat has to wake for its event: whom it signs, the first waiter of the lock that it gives back, and whose
+-- whom a seat has to wake for its event: whom it signs, the first waiter of the lock that it releases, and whose
 -- cancel it sets
 abbrev pub woken_by : State → Event → Option ℕ
 woken_by c (Sign s v) = another s v
@@ -86,7 +86,7 @@ pub record CanBeWounded (c : State) (s : ℕ) : Type 0 where
   pub context : 0 < c.stamp s
   pub owns : OwnsSome c s
 
--- who has found no cancel, after this event: who cancels may have cancelled itself, and has to look again
+-- which seats have found no cancel, after this event: one that cancels may have cancelled itself, and has to look again
 abbrev pub uncancelled_after : (ℕ → Bool) → Event → ℕ → Bool
 uncancelled_after found (Cancel s v) = put found s false
 uncancelled_after found _ = found

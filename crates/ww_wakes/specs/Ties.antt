@@ -8,15 +8,16 @@ use Rattle.ww_model.specs.Event.{actor}
 use Rattle.ww_view.specs.declared.view.View.{View}
 use Rattle.ww_view.specs.View.{Knows, IsQuiet}
 use Rattle.ww_view.specs.May.{MayLeave, Shows}
-use Rattle.ww_view.specs.Made.{view_after, has_read, found_none, stepped}
+use Rattle.ww_view.specs.Made.{view_after, has_read, found_none, found_uncancelled}
 use Rattle.ww_wakes.specs.Scene.{Scene, acting, going_to_sleep, Step, performs, leaves_to_sleep, finds_no_sign, finds_no_cancel, wakes, falls_asleep, rises, MayPerform, MayLeaveToSleep, MayFallAsleep, May, next, woken_by, IsReached}
 
--- The seat with this view is in a call: it knows the core by its view, and acts; where the view says that it has just
--- found no sign, it has; and whom it has yet to wake is one of these.
+-- The seat with this view is in a call: it knows the core by its view, and acts; where the view says inside a guard that
+-- it has just found no sign, or that it has found no cancel, it has; and whom it has yet to wake is one of these.
 pub record IsInCall (w : Scene) (v : View) (to_wake : List ℕ) : Type 0 where
   pub knows : Knows w.core v
   pub acts : w.phase v.who ≡ acting
   pub fresh : v.inside ≢ 0 → v.fresh ≡ true → w.found_no_sign v.who ≡ true
+  pub uncancelled : v.inside ≢ 0 → v.uncancelled ≡ true → w.found_no_cancel v.who ≡ true
   pub debts : (u : ℕ) → w.owes v.who u ≡ true → Has to_wake u
 
 -- the seat whose step it is
@@ -45,11 +46,11 @@ abbrev pub ShownIsAStep : Type 0
 ShownIsAStep = (w : Scene) (v : View) (e : Event) (to_wake : List ℕ) → IsReached w → IsInCall w v to_wake →
     actor e ≡ v.who → Shows w.core v e → MayGoOnBy w v e to_wake
 
--- Whatever waiter the table lets out of a guard may go to sleep, if it found no cancel that its call heeds: of that no
--- view tells.
+-- Whatever waiter the table lets out of a guard may go to sleep, if its view says that it found no cancel there, where its
+-- call heeds cancels.
 abbrev pub LeavingIsAStep : Type 0
 LeavingIsAStep = (w : Scene) (v : View) (n : ℕ) (heeds : Bool) (to_wake : List ℕ) → IsReached w →
-    IsInCall w v to_wake → MayLeave v n → v.waits ≡ suc n → (heeds ≡ true → w.found_no_cancel v.who ≡ true) →
+    IsInCall w v to_wake → MayLeave v n → v.waits ≡ suc n → (heeds ≡ true → v.uncancelled ≡ true) →
     MayLeaveToSleep w v.who n heeds
 
 -- the seat may find no sign, and then is in its call with what it found in its view: that nobody can sign it any more,
@@ -64,10 +65,10 @@ abbrev pub SignLookIsAStep : Type 0
 SignLookIsAStep = (w : Scene) (v : View) (to_wake : List ℕ) → IsInCall w v to_wake → w.core.sign v.who ≡ 0 →
     MayGoOnUnsigned w v to_wake
 
--- the seat may find no cancel, and then is in its call with a view that says nothing of it
+-- the seat may find no cancel, and then is in its call with a view that says so
 pub record MayGoOnUncancelled (w : Scene) (v : View) (to_wake : List ℕ) : Type 0 where
   pub may : May w (finds_no_cancel v.who)
-  pub call : IsInCall (next w (finds_no_cancel v.who)) (stepped v) to_wake
+  pub call : IsInCall (next w (finds_no_cancel v.who)) (found_uncancelled v) to_wake
 
 -- and so is a look at the own cancel that finds none
 abbrev pub CancelLookIsAStep : Type 0
@@ -80,7 +81,7 @@ OthersLeaveCallsAlone = (w : Scene) (x : Step) (v : View) (to_wake : List ℕ) �
     mover x ≢ v.who → IsInCall w v to_wake → IsInCall (next w x) v to_wake
 
 -- Whom a seat has to wake is whom its view tells: of its signs those whom it condemned, itself excepted; and, where it
--- gave the lock back, its heir.
+-- released the lock, its heir.
 pub record TellsWhomToWake (c : State) (v : View) : Type 0 where
   pub signs : (u x : ℕ) → woken_by c (Sign v.who u) ≡ Some x →
       Has (view_after c (Sign v.who u) v).condemned x × (x ≢ v.who)

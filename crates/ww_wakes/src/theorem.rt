@@ -34,7 +34,7 @@ pub fn sleep_for_ever_is_a_wait()
     ensures { SleepForEverIsAWait }
 {}
 
-/// In each kind some run comes to a sleeper who has to wait, and goes on to where the lock is there for it and it is only
+/// In each kind some run comes to a sleeper that must wait, and then to where the lock is there for it and it is only
 /// about to be woken.
 pub fn sleepers_are_reached()
     ensures { SleepersAreReached }

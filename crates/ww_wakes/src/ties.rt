@@ -6,7 +6,8 @@ pub fn shown_is_a_step()
     ensures { ShownIsAStep }
 {}
 
-/// Whatever waiter the table lets out of a guard may go to sleep, if it found no cancel that its call heeds.
+/// Whatever waiter the table lets out of a guard may go to sleep, if its call heeds no cancel or its view says that it
+/// found none.
 pub fn leaving_is_a_step()
     ensures { LeavingIsAStep }
 {}

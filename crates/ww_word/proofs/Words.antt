@@ -20,7 +20,12 @@ packing_is_injective owner other valid valid' same = grind (arith, common_steps)
 
 pub unpacking_is_inverse : UnpackingIsInverse
 unpacking_is_inverse = (
-  λ owner valid other. (λ same. let e : owner ≡ other = cc in subst (λ x. IsValid x × (packed x ≡ packed owner)) e (valid, refl), λ is. ap Some (packing_is_injective owner other valid is.0 (sym is.1))),
+  λ owner valid other. (
+    λ same. let e : owner ≡ other = cc in
+        subst (λ x. IsValid x × (packed x ≡ packed owner)) e (valid, refl),
+    λ is. ap Some
+        (packing_is_injective owner other valid is.0 (sym is.1)),
+  ),
   λ word owner reads. ((reads owner).0 refl).1,
 )
 

@@ -26,7 +26,7 @@ seat_number (Some seat) = seat + 1
 abbrev pub packed : Owner → ℕ
 packed owner = owner.flags + 8 * seat_number owner.seat + 256 * owner.stamp
 
--- the word is read as an owner exactly where that is valid and packs to the word
+-- the word is read as an owner iff that is valid and packs to the word
 abbrev pub IsReadOf : ℕ → Option Owner → Type 0
 IsReadOf word read = (owner : Owner) → (read ≡ Some owner) ↔ (IsValid owner × (packed owner ≡ word))
 

@@ -10,4 +10,5 @@ not_alone n m other = grind (arith, common_steps)
 pub prepare-requires-clause-no_double : goal.prepare-requires-clause-no_double
 prepare-requires-clause-no_double g c =
     let requires = c.requires in
-    different_cons c.args.from (c.args.to ∷ []) (not_alone c.args.from c.args.to requires.different) (different_cons c.args.to [] refl different_none)
+    different_cons c.args.from (c.args.to ∷ []) (not_alone c.args.from c.args.to requires.different)
+    (different_cons c.args.to [] refl different_none)

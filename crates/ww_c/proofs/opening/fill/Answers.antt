@@ -19,6 +19,7 @@ loop-desk-preserved c =
     let at : c.len-at.result ≡ length left = search rules in
     let popped : c.loop-desk.boxes.items ≡ left ++ c.in-Some.desk ∷ [] = search rules in
     let put : c.put.new.self.slot.desk ≡ Some c.in-Some.desk.value = search rules in
-    one_filled (desks_of c.args.boxes.items) (desks_of c.loop-desk.boxes.items) (desks_of left) c.in-Some.desk.value c.loop-desk.seats _ c.put.new.self c.loop-desk.invariant
+    one_filled (desks_of c.args.boxes.items) (desks_of c.loop-desk.boxes.items) (desks_of left) c.in-Some.desk.value
+    c.loop-desk.seats _ c.put.new.self c.loop-desk.invariant
     (ap desks_of popped ∙ map-append value_of left (c.in-Some.desk ∷ []))
     (ap (λ (n : ℕ). set c.loop-desk.seats n c.put.new.self) (at ∙ sym (length-map left value_of))) put

@@ -10,24 +10,80 @@ pub invariant_of-push_reserved : goal.invariant_of-push_reserved
 invariant_of-push_reserved c =
     let i = c.loop-seat.invariant in
     let b = arc_value c.args.board.now in
-    let next = next_is b.table.shared.table_id b.table.shared.key c.args.seats.items c.loop-seat.yielded c.loop-seat.seat-iterator.rest.items c.next.new.self.rest.items c.in-Some.seat c.requires.seats.new i.2 (search rules) in
-    let h : Station = record { board = c.in_ok-board.board; seat = c.in-Some.seat; seats = c.args.count; left = c.args.left; held = c.in_ok-held.held; is_done = false; told = None; turn = Rests; memory = c.new.result; wake = c.new-in-loop-seat.result } in
-    let f : IsFirst b (length c.loop-seat.yielded) h = record { board = search rules; new = next.0; few = c.requires.few; fits = c.requires.fits; seats = c.requires.count.1; left = c.requires.left; held = search rules; is_done = refl; told = refl; turn = refl; wakes = c.new-in-loop-seat.ensures } in
+    let next = next_is b.table.shared.table_id b.table.shared.key c.args.seats.items c.loop-seat.yielded
+    c.loop-seat.seat-iterator.rest.items c.next.new.self.rest.items c.in-Some.seat c.requires.seats.new i.2
+    (search rules) in
+    let h : Station = record {
+      board = c.in_ok-board.board;
+      seat = c.in-Some.seat;
+      seats = c.args.count;
+      left = c.args.left;
+      held = c.in_ok-held.held;
+      is_done = false;
+      told = None;
+      turn = Rests;
+      memory = c.new.result;
+      wake = c.new-in-loop-seat.result;
+    } in
+    let f : IsFirst b (length c.loop-seat.yielded) h =
+    record {
+      board = search rules;
+      new = next.0;
+      few = c.requires.few;
+      fits = c.requires.fits;
+      seats = c.requires.count.1;
+      left = c.requires.left;
+      held = search rules;
+      is_done = refl;
+      told = refl;
+      turn = refl;
+      wakes = c.new-in-loop-seat.ensures;
+    } in
     first_keeps b (length c.loop-seat.yielded) h f
 
 pub loop-seat-preserved : goal.loop-seat-preserved
 loop-seat-preserved c =
     let i = c.loop-seat.invariant in
     let b = arc_value c.args.board.now in
-    let next = next_is b.table.shared.table_id b.table.shared.key c.args.seats.items c.loop-seat.yielded c.loop-seat.seat-iterator.rest.items c.next.new.self.rest.items c.in-Some.seat c.requires.seats.new i.2 (search rules) in
-    let more : length (c.loop-seat.yielded ++ c.in-Some.seat ∷ []) ≡ length c.loop-seat.yielded + 1 = length-append c.loop-seat.yielded (c.in-Some.seat ∷ []) in
-    let h : Station = record { board = c.in_ok-board.board; seat = c.in-Some.seat; seats = c.args.count; left = c.args.left; held = c.in_ok-held.held; is_done = false; told = None; turn = Rests; memory = c.new.result; wake = c.new-in-loop-seat.result } in
-    let f : IsFirst b (length c.loop-seat.yielded) h = record { board = search rules; new = next.0; few = c.requires.few; fits = c.requires.fits; seats = c.requires.count.1; left = c.requires.left; held = search rules; is_done = refl; told = refl; turn = refl; wakes = c.new-in-loop-seat.ensures } in (
+    let next = next_is b.table.shared.table_id b.table.shared.key c.args.seats.items c.loop-seat.yielded
+    c.loop-seat.seat-iterator.rest.items c.next.new.self.rest.items c.in-Some.seat c.requires.seats.new i.2
+    (search rules) in
+    let more : length (c.loop-seat.yielded ++ c.in-Some.seat ∷ []) ≡ length c.loop-seat.yielded + 1 =
+    length-append c.loop-seat.yielded (c.in-Some.seat ∷ []) in
+    let h : Station = record {
+      board = c.in_ok-board.board;
+      seat = c.in-Some.seat;
+      seats = c.args.count;
+      left = c.args.left;
+      held = c.in_ok-held.held;
+      is_done = false;
+      told = None;
+      turn = Rests;
+      memory = c.new.result;
+      wake = c.new-in-loop-seat.result;
+    } in
+    let f : IsFirst b (length c.loop-seat.yielded) h =
+    record {
+      board = search rules;
+      new = next.0;
+      few = c.requires.few;
+      fits = c.requires.fits;
+      seats = c.requires.count.1;
+      left = c.requires.left;
+      held = search rules;
+      is_done = refl;
+      told = refl;
+      turn = refl;
+      wakes = c.new-in-loop-seat.ensures;
+    } in (
       tt,
       tt,
       append_assoc c.loop-seat.yielded (c.in-Some.seat ∷ []) c.next.new.self.rest.items ∙ next.1,
-      subst (λ (k : ℕ). AreFresh c.push_reserved.new.self.items b.table.shared.table_id b.table.shared.key.locks c.args.count b.table.shared.key.kind c.args.left k) (sym more)
-          (fresh_more c.loop-seat.all.items c.push_reserved.new.self.items _ b.table.shared.table_id b.table.shared.key.locks c.args.count b.table.shared.key.kind c.args.left (length c.loop-seat.yielded) i.3 (first_seen b (length c.loop-seat.yielded) h f) c.push_reserved.ensures.items),
+      subst (λ (k : ℕ). AreFresh c.push_reserved.new.self.items b.table.shared.table_id b.table.shared.key.locks
+          c.args.count b.table.shared.key.kind c.args.left k) (sym more)
+          (fresh_more c.loop-seat.all.items c.push_reserved.new.self.items _ b.table.shared.table_id
+          b.table.shared.key.locks c.args.count b.table.shared.key.kind c.args.left (length c.loop-seat.yielded)
+          i.3 (first_seen b (length c.loop-seat.yielded) h f) c.push_reserved.ensures.items),
       omega (arith, more, i.4, c.push_reserved.ensures.len),
       omega (arith, i.5, c.push_reserved.ensures.capacity),
     )

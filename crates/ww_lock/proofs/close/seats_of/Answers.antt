@@ -10,11 +10,15 @@ loop-pass-preserved c =
     let i = c.loop-pass.invariant in
     let step : c.loop-pass.pass-iterator.rest.items ≡ c.in-Some.pass ∷ c.next.new.self.rest.items = search rules in
     let whole = ap (λ (l : List Holding). c.loop-pass.yielded ++ l) (sym step) ∙ i.2 in
-    let more : length (c.loop-pass.yielded ++ c.in-Some.pass ∷ []) ≡ length c.loop-pass.yielded + 1 = length-append c.loop-pass.yielded (c.in-Some.pass ∷ []) in (
+    let more : length (c.loop-pass.yielded ++ c.in-Some.pass ∷ []) ≡ length c.loop-pass.yielded + 1 =
+    length-append c.loop-pass.yielded (c.in-Some.pass ∷ []) in (
       tt,
       tt,
       append_assoc c.loop-pass.yielded (c.in-Some.pass ∷ []) c.next.new.self.rest.items ∙ whole,
-      subst (λ (qs : List Seat16). AreSeatsOf (c.loop-pass.yielded ++ c.in-Some.pass ∷ []) qs) (sym c.push_reserved.ensures.items) (seats_push c.loop-pass.yielded c.loop-pass.seats.items c.in-Some.pass c.into_seat.result i.3 c.into_seat.ensures),
+      subst (λ (qs : List Seat16). AreSeatsOf (c.loop-pass.yielded ++ c.in-Some.pass ∷ []) qs)
+          (sym c.push_reserved.ensures.items)
+          (seats_push c.loop-pass.yielded c.loop-pass.seats.items c.in-Some.pass c.into_seat.result i.3
+          c.into_seat.ensures),
       omega (arith, more, i.4, c.push_reserved.ensures.len),
       omega (arith, i.5, c.push_reserved.ensures.capacity),
     )

@@ -21,24 +21,32 @@ loop-change-init c =
     let ns : List ℕ = footprint_of graph txn in
     let items : List NodeChange = c.deref_mut-change-items.result.now in
     let new : graph_after graph txn ≡ c.apply.new.graph = ap (λ (m : Answer × List Node). m.1) c.in_ok-reply.ensures.ok in
-    let are : items ≡ map (change_at graph graph) ns = c.deref_mut-change-items.ensures.value ∙ c.in_ok-changes.ensures ∙ ap (λ (l : List ℕ). map (change_at graph graph) l) (c.deref.ensures.0 ∙ c.footprint-nodes.ensures) in
+    let are : items ≡ map (change_at graph graph) ns = c.deref_mut-change-items.ensures.value
+    ∙ c.in_ok-changes.ensures ∙ ap (λ (l : List ℕ). map (change_at graph graph) l)
+    (c.deref.ensures.0 ∙ c.footprint-nodes.ensures) in
     subst (λ (g : List Node). IsGoingBack graph (graph_after graph txn) ns 0 items g) new
-    (goes_back graph (graph_after graph txn) ns items (sized_after graph txn c.size-size.ensures.graph c.requires.fits).length_is (outside graph txn) are)
+    (goes_back graph (graph_after graph txn) ns items
+    (sized_after graph txn c.size-size.ensures.graph c.requires.fits).length_is (outside graph txn) are)
 
 pub node-change-requires : goal.node-change-requires
-node-change-requires c = number_there c.args.graph.now _ _ c.loop-change.change-index c.loop-change.change-items c.loop-change.graph none c.loop-change.invariant c.requires.there (omega arith)
+node-change-requires c = number_there c.args.graph.now _ _ c.loop-change.change-index c.loop-change.change-items
+    c.loop-change.graph none c.loop-change.invariant c.requires.there (omega arith)
 
 pub put-requires-clause-there : goal.put-requires-clause-there
-put-requires-clause-there c = number_there c.args.graph.now _ _ c.loop-change.change-index c.loop-change.change-items c.loop-change.graph none c.loop-change.invariant c.requires.there (omega arith)
+put-requires-clause-there c = number_there c.args.graph.now _ _ c.loop-change.change-index
+    c.loop-change.change-items c.loop-change.graph none c.loop-change.invariant c.requires.there (omega arith)
 
 pub put-requires-clause-node : goal.put-requires-clause-node
-put-requires-clause-node c = node_fits c.args.graph.now _ _ c.loop-change.change-index c.loop-change.change-items c.loop-change.graph none c.loop-change.invariant c.size-size.ensures.graph (omega arith)
+put-requires-clause-node c = node_fits c.args.graph.now _ _ c.loop-change.change-index c.loop-change.change-items
+    c.loop-change.graph none c.loop-change.invariant c.size-size.ensures.graph (omega arith)
 
 pub loop-change-preserved : goal.loop-change-preserved
 loop-change-preserved c =
     let graph : List Node = c.args.graph.now in
     let txn = transaction_of c.args.txn.now in
-    next_back graph (graph_after graph txn) (footprint_of graph txn) c.loop-change.change-index c.loop-change.change-items c.loop-change.graph c.put.new.self none c.node-change.result c.loop-change.invariant
+    next_back graph (graph_after graph txn) (footprint_of graph txn) c.loop-change.change-index
+    c.loop-change.change-items c.loop-change.graph c.put.new.self none c.node-change.result
+    c.loop-change.invariant
     (different_footprint graph txn c.requires.fits) c.requires.there (omega arith) c.node-change.ensures c.put.ensures
 
 pub returns-clause-same : goal.returns-clause-same
@@ -56,5 +64,6 @@ returns-clause-changes c =
     let i = c.loop-change in
     let vector = c.in_ok-changes.changes in
     let long = many_changes graph (graph_after graph txn) (footprint_of graph txn) i.change-index i.change-items i.graph i.invariant in
-    written_back vector.len i.change-items vector.items (omega (arith, vector.ok.0)) (omega (arith, vector.ok.0, i.auto.change-items, c.deref_mut-change-items.ensures.len))
+    written_back vector.len i.change-items vector.items (omega (arith, vector.ok.0))
+    (omega (arith, vector.ok.0, i.auto.change-items, c.deref_mut-change-items.ensures.len))
     ∙ (is_back graph (graph_after graph txn) (footprint_of graph txn) i.change-index i.change-items i.graph (omega arith) i.invariant).1

@@ -16,5 +16,11 @@ loop-n-preserved c =
     let x : Node = c.node-node.result in
     let read : node_at graph n ≡ x = node_read graph n x c.node-node.ensures in
     let so_far : List NodeChange = map (change_at graph graph) (take i ns) in
-    let here : so_far ++ (record { number = n; before = x; after = x }) ∷ [] ≡ so_far ++ change_at graph graph n ∷ [] = ap (λ (y : Node). so_far ++ (record { number = n; before = y; after = y }) ∷ []) (sym read) in
-    (c.push_reserved.ensures.items ∙ ap (λ (l : List NodeChange). l ++ (record { number = n; before = x; after = x }) ∷ []) c.loop-n.invariant.0 ∙ here ∙ sym (map_more (change_at graph graph) ns i 0 (omega arith)), omega arith)
+    let here : so_far ++ (record { number = n; before = x; after = x }) ∷ []
+    ≡ so_far ++ change_at graph graph n ∷ [] =
+    ap (λ (y : Node). so_far ++ (record { number = n; before = y; after = y }) ∷ []) (sym read) in (
+      c.push_reserved.ensures.items ∙ ap (λ (l : List NodeChange). l ++
+          (record { number = n; before = x; after = x }) ∷ []) c.loop-n.invariant.0 ∙ here
+          ∙ sym (map_more (change_at graph graph) ns i 0 (omega arith)),
+      omega arith,
+    )

@@ -1,8 +1,11 @@
-use Rattle.std.proofs.Common.{◌≡◌, [], ◌∷◌, ◌++◌, ℕ, ◌+◌, false, replicate, length, length-append, append_assoc, refl, sym, subst, ◌∙◌, rules, arith}
+use Rattle.std.proofs.Common.{◌≡◌, [], ◌∷◌, ◌++◌, ℕ, suc, ◌+◌, false, replicate, List, length, map, drop, ap, length-append, append_assoc, refl, sym, subst, ◌∙◌, rules, arith}
 use Rattle.ww_rule.specs.Rule.{first_graph}
 use Rattle.ww_lock.specs.declared.hand.Hand.{Hand}
 use Rattle.ww_lock.specs.Carried.{holding_of, held_of, Carries}
-use Rattle.ww_lock.specs.Opened.{fresh, AreFresh}
+use Rattle.atomic_table.specs.Seated.{TableId}
+use Rattle.std.specs.Prelude.{slice_get}
+use Rattle.ww_seat.specs.Bells.{leads_to}
+use Rattle.ww_lock.specs.Opened.{fresh, home_at, AreFresh, AreRests}
 use Rattle.ww_lock.proofs.Openings.{next_is, new_carries, new_holding, new_idle, new_holds_nothing, fresh_more}
 use Rattle.ww_lock.proofs.world.fresh.Goals as goal
 
@@ -10,27 +13,60 @@ pub invariant_of-push_reserved : goal.invariant_of-push_reserved
 invariant_of-push_reserved c =
     let i = c.loop-seat.invariant in
     let shared = c.args.board.now.table.shared in
-    let next = next_is shared.table_id shared.key c.args.seats.items c.loop-seat.yielded c.loop-seat.seat-iterator.rest.items c.next.new.self.rest.items c.in-Some.seat c.loop-seat.rests.items c.pop.new.self.items c.in-Some-pop.field-0
+    let next = next_is shared.table_id shared.key (map leads_to c.args.wires.now) c.args.seats.items
+    c.loop-seat.yielded c.loop-seat.seat-iterator.rest.items c.next.new.self.rest.items c.in-Some.seat
+    c.loop-seat.rests.items c.pop.new.self.items c.in-Some-pop.field-0
     c.requires.seats.new i.2 (search rules) i.3 (search rules) in
-    let hand : Hand = record { seat = c.in-Some.seat; left = c.args.budget; marks = replicate 64 false; seen = c.in-Some-pop.field-0.seen; patience = c.in-Some-pop.field-0.patience } in
-    subst (λ (h : Hand). Carries h × (h.seat.stamp ≡ 0) × (held_of h ≡ [])) (sym c.in-Ok.ensures.ok)
-    (new_carries shared.table_id shared.key (length c.loop-seat.yielded) hand next.0 refl next.3 c.args.board.now.few c.requires.locks (omega (arith, c.ranges.budget.fits)), new_idle shared.table_id shared.key _ c.in-Some.seat next.0, new_holds_nothing shared.table_id shared.key (length c.loop-seat.yielded) hand next.0)
+    let hand : Hand = record {
+      seat = c.in-Some.seat;
+      left = c.args.budget;
+      marks = replicate 64 false;
+      seen = c.in-Some-pop.field-0.seen;
+      patience = c.in-Some-pop.field-0.patience;
+      bells = c.in-Ok.bells;
+    } in
+    subst (λ (h : Hand). Carries h × (h.seat.stamp ≡ 0) × (held_of h ≡ [])) (sym c.in-Ok-new.ensures.ok) (
+      new_carries shared.table_id shared.key (length c.loop-seat.yielded) hand next.new refl next.seen
+          c.args.board.now.few c.requires.locks (omega (arith, c.ranges.budget.fits))
+          (ap (λ (ps : List TableId). slice_get ps (length c.loop-seat.yielded)) c.in-Ok.ensures ∙ next.placed),
+      new_idle shared.table_id shared.key _ c.in-Some.seat next.new,
+      new_holds_nothing shared.table_id shared.key
+          (length c.loop-seat.yielded) hand next.new,
+    )
 
 pub loop-seat-preserved : goal.loop-seat-preserved
 loop-seat-preserved c =
     let i = c.loop-seat.invariant in
     let shared = c.args.board.now.table.shared in
-    let next = next_is shared.table_id shared.key c.args.seats.items c.loop-seat.yielded c.loop-seat.seat-iterator.rest.items c.next.new.self.rest.items c.in-Some.seat c.loop-seat.rests.items c.pop.new.self.items c.in-Some-pop.field-0
+    let next = next_is shared.table_id shared.key (map leads_to c.args.wires.now) c.args.seats.items
+    c.loop-seat.yielded c.loop-seat.seat-iterator.rest.items c.next.new.self.rest.items c.in-Some.seat
+    c.loop-seat.rests.items c.pop.new.self.items c.in-Some-pop.field-0
     c.requires.seats.new i.2 (search rules) i.3 (search rules) in
-    let more : length (c.loop-seat.yielded ++ c.in-Some.seat ∷ []) ≡ length c.loop-seat.yielded + 1 = length-append c.loop-seat.yielded (c.in-Some.seat ∷ []) in
-    let hand : Hand = record { seat = c.in-Some.seat; left = c.args.budget; marks = replicate 64 false; seen = c.in-Some-pop.field-0.seen; patience = c.in-Some-pop.field-0.patience } in
-    let holding = subst (λ (h : Hand). holding_of h ≡ fresh shared.table_id (first_graph shared.key) c.args.budget (length c.loop-seat.yielded) (holding_of h).room) (sym c.in-Ok.ensures.ok) (new_holding shared.table_id shared.key (length c.loop-seat.yielded) hand next.0 next.3) in (
+    let more : length (c.loop-seat.yielded ++ c.in-Some.seat ∷ []) ≡ length c.loop-seat.yielded + 1 =
+    length-append c.loop-seat.yielded (c.in-Some.seat ∷ []) in
+    let after : suc (length c.loop-seat.yielded) ≡ length (c.loop-seat.yielded ++ c.in-Some.seat ∷ []) = omega (arith, more) in
+    let hand : Hand = record {
+      seat = c.in-Some.seat;
+      left = c.args.budget;
+      marks = replicate 64 false;
+      seen = c.in-Some-pop.field-0.seen;
+      patience = c.in-Some-pop.field-0.patience;
+      bells = c.in-Ok.bells;
+    } in
+    let holding = subst (λ (h : Hand). holding_of h
+    ≡ fresh (home_at c.args.board.now c.args.wires.now) (first_graph shared.key) c.args.budget
+    (length c.loop-seat.yielded) (holding_of h).room) (sym c.in-Ok-new.ensures.ok)
+    (new_holding (home_at c.args.board.now c.args.wires.now) shared.key (length c.loop-seat.yielded) hand
+    next.new next.seen c.in-Ok.ensures) in (
       tt,
       tt,
-      append_assoc c.loop-seat.yielded (c.in-Some.seat ∷ []) c.next.new.self.rest.items ∙ next.1,
-      next.2,
-      subst (λ (k : ℕ). AreFresh c.push_reserved.new.self.items (first_graph shared.key) shared.table_id k c.args.budget) (sym more)
-          (fresh_more c.loop-seat.all.items c.push_reserved.new.self.items _ (first_graph shared.key) shared.table_id (length c.loop-seat.yielded) c.args.budget i.4 holding c.push_reserved.ensures.items),
+      append_assoc c.loop-seat.yielded (c.in-Some.seat ∷ []) c.next.new.self.rest.items ∙ next.whole,
+      subst (λ (k : ℕ). AreRests (first_graph shared.key) (drop k (map leads_to c.args.wires.now)) c.pop.new.self.items) after next.rests,
+      subst (λ (k : ℕ). AreFresh c.push_reserved.new.self.items (first_graph shared.key)
+          (home_at c.args.board.now c.args.wires.now) k c.args.budget) (sym more)
+          (fresh_more c.loop-seat.all.items c.push_reserved.new.self.items _ (first_graph shared.key)
+          (home_at c.args.board.now c.args.wires.now) (length c.loop-seat.yielded) c.args.budget i.4 holding
+          c.push_reserved.ensures.items),
       omega (arith, more, i.5, c.push_reserved.ensures.len),
       omega (arith, i.6, c.push_reserved.ensures.capacity),
     )

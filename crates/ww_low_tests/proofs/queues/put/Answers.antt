@@ -14,7 +14,8 @@ all_have p (x ∷ xs) e all h = let both = both_true (p x) (list_all p xs) all i
 other_seat : (e x : Entry) → (not (e.seat == x.seat) && (x.stamp == 0 || not (e.stamp == x.stamp))) ≡ true → e.seat ≢ x.seat
 other_seat e x is same = grind (arith, common_steps)
 
-other_stamp : (e x : Entry) → (not (e.seat == x.seat) && (x.stamp == 0 || not (e.stamp == x.stamp))) ≡ true → 0 < x.stamp → e.stamp ≢ x.stamp
+other_stamp : (e x : Entry) → (not (e.seat == x.seat) && (x.stamp == 0 || not (e.stamp == x.stamp))) ≡ true
+    → 0 < x.stamp → e.stamp ≢ x.stamp
 other_stamp e x is some same = grind (arith, common_steps)
 
 pub join-requires-clause-seat : goal.join-requires-clause-seat

@@ -9,11 +9,14 @@ pub wait-requires-clause-may : goal.wait-requires-clause-may
 wait-requires-clause-may g c = (just 1, looks_first _ WoundWait (just 1) 0 1 c.in_ok-board.younger c.in_ok-board.ensures.younger refl refl)
 
 pub wait-requires-2-clause-may : goal.wait-requires-2-clause-may
-wait-requires-2-clause-may g c = (just 1, looks_still c.compare.ensures (c.wait.ensures (just 1) c.in_ok-board.ensures.younger.owns))
+wait-requires-2-clause-may g c = (just 1, looks_still c.compare.ensures (c.wait.ensures.may (just 1) c.in_ok-board.ensures.younger.owns))
 
 pub hand_over-requires-clause-owner : goal.hand_over-requires-clause-owner
 hand_over-requires-clause-owner g c = holds_still (c.compare-2.ensures ∙ c.compare.ensures) c.in_ok-board.ensures.older
 
 pub take-requires-clause-may : goal.take-requires-clause-may
-take-requires-clause-may g c = let waited = c.wait.ensures (just 1) c.in_ok-board.ensures.younger.owns in
-    (just 1, looks_still (c.compare-3.ensures ∙ c.compare-2.ensures) (c.wait-2.ensures (just 1) (owns_still c.compare.ensures waited.owns)))
+take-requires-clause-may g c = let waited = c.wait.ensures.may (just 1) c.in_ok-board.ensures.younger.owns in (
+  just 1,
+  looks_still (c.compare-3.ensures ∙ c.compare-2.ensures)
+      (c.wait-2.ensures.may (just 1) (owns_still c.compare.ensures waited.owns)),
+)

@@ -9,4 +9,5 @@ clear-requires-clause-may g c = let h = c.requires.holds in record { context = h
 
 pub end-requires-clause-may : goal.end-requires-clause-may
 end-requires-clause-may g c = let h = c.requires.holds in
-    subst (λ (m : Sat). MayEnd m.0.part.core) (sym c.clear.ensures.cleared) (record { away = h.away; context = h.owns.context; bare = bare_with_none _ _ _ h })
+    subst (λ (m : Sat). MayEnd m.0.part.core) (sym c.clear.ensures.cleared)
+    (record { away = h.away; context = h.owns.context; bare = bare_with_none _ _ _ h })

@@ -7,4 +7,6 @@ has_out-requires c = record { order = c.requires.may.4.owns.seated.order }
 
 pub returns : goal.returns
 returns c = let may = c.requires.may.4 in
-    holds_outside _ c.args.seat.now.seat.me may.owns.orderly may.outside.outside (λ n own. may.owns.nodes n (sym (ap (λ (l : List Bool). get_or l n false) may.owns.owned) ∙ own)) ∙ sym c.has_out.ensures
+    holds_outside _ c.args.seat.now.seat.me may.owns.orderly may.outside.outside
+    (λ n own. may.owns.nodes n (sym (ap (λ (l : List Bool). get_or l n false) may.owns.owned) ∙ own))
+    ∙ sym c.has_out.ensures

@@ -1,6 +1,7 @@
 use Rattle.std.proofs.Common.{ℕ, ◌<◌, false, replicate, sym, ap, ◌∙◌, subst}
 use Rattle.ww_rule.specs.Rule.{Sat}
 use Rattle.ww_rule.specs.Steps.{MayDraw}
+use Rattle.ww_seat.specs.Accounts.{Account}
 use Rattle.ww_seat.proofs.Starts.{new_settled}
 use Rattle.ww_low_tests.proofs.FirstSteps.{may_draw}
 use Rattle.ww_low_tests.proofs.Holding.{none_nodes}
@@ -8,7 +9,8 @@ use Rattle.ww_low_tests.proofs.Still.{holds_still}
 use Rattle.ww_low_tests.proofs.rings.start.Goals as goal
 
 pub begin-stamp-requires-clause-seat : goal.begin-stamp-requires-clause-seat
-begin-stamp-requires-clause-seat g c = new_settled _ _ c.requires.new.0 c.args.seat.now c.requires.new.1 c.args.board.now.few c.args.board.now.fits
+begin-stamp-requires-clause-seat g c =
+    new_settled _ _ c.requires.new.0 c.args.seat.now c.requires.new.1 c.args.board.now.few c.args.board.now.fits
 
 pub begin-stamp-requires-clause-may : goal.begin-stamp-requires-clause-may
 begin-stamp-requires-clause-may g c = subst (λ (m : Sat). MayDraw m.0.part) (sym c.requires.new.1.me) (may_draw _ _ c.requires.new.0)
@@ -18,9 +20,10 @@ returns-clause-holds g c = let e = c.begin-stamp.ensures in let me = c.requires.
   owns = record {
     seated = e.seat.seated;
     orderly = e.seat.orderly;
-    kind = e.begun.kind ∙ ap (λ (m : Sat). m.0.part.core.kind) me ∙ c.requires.kind;
-    context = subst (λ (k : ℕ). 0 < k) (sym e.begun.stamp) e.context;
-    owned = e.begun.owned ∙ ap (λ (m : Sat). m.0.part.core.owned) me ∙ ap (λ (n : ℕ). replicate n false) c.requires.locks;
+    kind = ap (λ (a : Account). a.kind) e.begun.now ∙ ap (λ (m : Sat). m.0.part.core.kind) me ∙ c.requires.kind;
+    context = subst (λ (k : ℕ). 0 < k) (sym (ap (λ (a : Account). a.stamp) e.begun.now)) e.context;
+    owned = ap (λ (a : Account). a.owned) e.begun.now ∙ ap (λ (m : Sat). m.0.part.core.owned) me
+        ∙ ap (λ (n : ℕ). replicate n false) c.requires.locks;
     nodes = none_nodes _;
   };
   away = e.seat.away;

@@ -5,4 +5,5 @@ use Rattle.ww_low_tests.specs.Gathered.{HaveCome}
 use Rattle.ww_low_tests.proofs.rounds.apart.Given as goal
 
 abbrev pub invariant-loop-seat : goal.invariant-loop-seat
-invariant-loop-seat g l = HaveCome l.board l.seats.items × AllByRecursion (λ w. HasCome l.board.table.shared.table_id w.seat) (into_iter_items l.seat-iterator)
+invariant-loop-seat g l = HaveCome l.board l.seats.items
+    × AllByRecursion (λ w. HasCome l.board.table.shared.table_id w.seat) (into_iter_items l.seat-iterator)

@@ -6,4 +6,5 @@ use Rattle.ww_low_tests.proofs.rounds.come.Goals as goal
 pub returns : goal.returns
 returns g c = let next : c.args.seat.who ≡ length c.args.seats.now.items = search rules in
     let grown : c.push.new.self.items ≡ c.args.seats.now.items ++ c.args.seat ∷ [] = search rules in
-    subst (HaveCome c.args._board.now) (sym grown) (one_more c.args._board.now c.args.seats.now.items c.args.seat c.requires.come c.requires.next next)
+    subst (HaveCome c.args._board.now) (sym grown)
+    (one_more c.args._board.now c.args.seats.now.items c.args.seat c.requires.come c.requires.next next)

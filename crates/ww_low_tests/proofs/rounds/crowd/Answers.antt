@@ -10,7 +10,8 @@ use Rattle.ww_low_tests.proofs.rounds.crowd.Goals as goal
 
 pub map_vec-requires-after_bounds : goal.map_vec-requires-after_bounds
 map_vec-requires-after_bounds g c = λ κs live i x lt is. let board = c.in_ok-board.board in
-    subst (IsUnused board) (sym is) (all_item (IsUnused board) c.in_ok-board.seats.items i x lt (new_unused _ _ _ _ board c.in_ok-board.seats.items c.in_ok-board.ensures))
+    subst (IsUnused board) (sym is) (all_item (IsUnused board) c.in_ok-board.seats.items i x lt
+    (new_unused _ _ _ _ board c.in_ok-board.seats.items c.in_ok-board.ensures))
 
 pub apart-requires : goal.apart-requires
 apart-requires g c = recursion_from_All _ c.in_ok-works.works.items (λ i d lt.

@@ -7,7 +7,8 @@ pub returns-in-Ok-clause-did : goal.returns-in-Ok-clause-did
 returns-in-Ok-clause-did g c = c.in-Ok.ensures.ok (took (began (at_first 0)) 0) c.requires refl
 
 pub commit_one-requires-2-clause-did : goal.commit_one-requires-2-clause-did
-commit_one-requires-2-clause-did g c = let d : Deeds = took (began (at_first 0)) 0 in (d, did_still c.compare.ensures (c.in_default.ensures.err d c.requires), refl, refl, refl)
+commit_one-requires-2-clause-did g c = let d : Deeds = took (began (at_first 0)) 0 in
+    (d, did_still c.compare.ensures (c.in_default.ensures.err d c.requires), refl, refl, refl)
 
 pub returns-clause-did : goal.returns-clause-did
 returns-clause-did g c = let d : Deeds = took (began (at_first 0)) 0 in

@@ -4,10 +4,12 @@ use Rattle.ww_low_tests.proofs.Still.{did_still}
 use Rattle.ww_low_tests.proofs.rows.commit_and_give.Goals as goal
 
 pub commit-requires : goal.commit-requires
-commit-requires g c = let d : Deeds = took (began (at_first 0)) 0 in c.in_ok-reserve.ensures.did d (did_still c.in_ok-reserve.ensures.same c.requires.zero)
+commit-requires g c = let d : Deeds = took (began (at_first 0)) 0 in
+    c.in_ok-reserve.ensures.did d (did_still c.in_ok-reserve.ensures.same c.requires.zero)
 
 pub give-requires : goal.give-requires
-give-requires g c = let d : Deeds = took (began (at_first 0)) 0 in record { did = (committed d, did_still c.compare.ensures c.in_ok-place.ensures.did, refl) }
+give-requires g c = let d : Deeds = took (began (at_first 0)) 0 in
+    record { did = (committed d, did_still c.compare.ensures c.in_ok-place.ensures.did, refl) }
 
 pub end-requires : goal.end-requires
 end-requires g c = let d : Deeds = took (began (at_first 0)) 0 in

@@ -26,4 +26,5 @@ returns-clause-one g c = let d : Deeds = took (began (at_first 1)) 1 in
     let taken = c.take.ensures.took c.if-not-take.false d c.requires.one (inr (refl, λ e. absurd cc)) refl in
     let given = c.give.ensures c.if-not-give.false (took d 0) (1 ∷ []) (did_still c.compare.ensures taken) refl refl in
     let both = c.give-2.ensures c.if-not-give-2.false (gave (took d 0) (1 ∷ [])) [] (did_still c.compare-2.ensures given) refl refl in
-    did_still c.compare-4.ensures (c.end.ensures c.if-not-end.false (gave (gave (took d 0) (1 ∷ [])) []) (did_still c.compare-3.ensures both))
+    did_still c.compare-4.ensures (c.end.ensures c.if-not-end.false (gave (gave (took d 0) (1 ∷ [])) [])
+    (did_still c.compare-3.ensures both))

@@ -16,15 +16,19 @@ take-requires-2-clause-did g c = let begun = c.begin-2.ensures (at_first 1) (did
 
 pub take-requires-3-clause-did : goal.take-requires-3-clause-did
 take-requires-3-clause-did g c = let begun = c.begin-2.ensures (at_first 1) (did_still c.compare.ensures c.requires.one) in
-    let missed = c.take-2.ensures.missed c.if-take.false (began (at_first 1)) (did_still (c.compare-3.ensures ∙ c.compare-2.ensures) begun) in
+    let missed = c.take-2.ensures.missed c.if-take.false (began (at_first 1))
+    (did_still (c.compare-3.ensures ∙ c.compare-2.ensures) begun) in
     (began (at_first 1), did_still c.compare-4.ensures missed, inl refl, refl, omega arith)
 
 pub returns-clause-zero : goal.returns-clause-zero
 returns-clause-zero g c = let begun = c.begin.ensures (at_first 0) c.requires.zero in
-    let taken = c.take.ensures.took c.if-not-take.false (began (at_first 0)) (did_still (c.compare-2.ensures ∙ c.compare.ensures) begun) (inl refl) refl in
+    let taken = c.take.ensures.took c.if-not-take.false (began (at_first 0))
+    (did_still (c.compare-2.ensures ∙ c.compare.ensures) begun) (inl refl) refl in
     did_still (c.compare-5.ensures ∙ c.compare-4.ensures ∙ c.compare-3.ensures) taken
 
 pub returns-clause-one : goal.returns-clause-one
 returns-clause-one g c = let begun = c.begin-2.ensures (at_first 1) (did_still c.compare.ensures c.requires.one) in
-    let missed = c.take-2.ensures.missed c.if-take.false (began (at_first 1)) (did_still (c.compare-3.ensures ∙ c.compare-2.ensures) begun) in
-    did_still c.compare-5.ensures (c.take-3.ensures.took c.if-not-take-2.false (began (at_first 1)) (did_still c.compare-4.ensures missed) (inl refl) refl)
+    let missed = c.take-2.ensures.missed c.if-take.false (began (at_first 1))
+    (did_still (c.compare-3.ensures ∙ c.compare-2.ensures) begun) in
+    did_still c.compare-5.ensures (c.take-3.ensures.took c.if-not-take-2.false (began (at_first 1))
+    (did_still c.compare-4.ensures missed) (inl refl) refl)

@@ -19,9 +19,12 @@ take_both-requires-clause-one g c = did_still c.in_ok-commit_and_give.ensures.sa
 
 pub closed-requires : goal.closed-requires
 closed-requires g c = let board = c.take_both.new.board in
-    let same : board ≡ c.in_ok-board.board = c.take_both.ensures.same ∙ c.in_ok-commit_and_give.ensures.same ∙ c.take_one_each.ensures.same ∙ c.compare.ensures in
+    let same : board ≡ c.in_ok-board.board = c.take_both.ensures.same ∙ c.in_ok-commit_and_give.ensures.same
+    ∙ c.take_one_each.ensures.same ∙ c.compare.ensures in
     let zero : Deeds = ended (gave (committed (took (began (at_first 0)) 0)) []) in
     let one : Deeds = ended (gave (gave (took (took (began (at_first 1)) 1) 0) (1 ∷ [])) []) in
     let zero_did = did_still c.take_both.ensures.same c.in_ok-commit_and_give.ensures.zero in
-    subst (HaveAllCome board.table.shared.table_id board.table.shared.key) (sym c.in_ok-seats.ensures) (all_come board (c.commit_and_give.new.zero ∷ c.take_both.new.one ∷ [])
-    (two_come board zero one c.commit_and_give.new.zero c.take_both.new.one zero_did c.take_both.ensures.one refl refl refl refl) (sym (ap (λ (v : Board). v.table.shared.key.seats) same ∙ c.in_ok-board.ensures.count)))
+    subst (HaveAllCome board.table.shared.table_id board.table.shared.key) (sym c.in_ok-seats.ensures)
+    (all_come board (c.commit_and_give.new.zero ∷ c.take_both.new.one ∷ [])
+    (two_come board zero one c.commit_and_give.new.zero c.take_both.new.one zero_did c.take_both.ensures.one refl
+    refl refl refl) (sym (ap (λ (v : Board). v.table.shared.key.seats) same ∙ c.in_ok-board.ensures.count)))

@@ -10,8 +10,10 @@ pub draw-requires-clause-may : goal.draw-requires-clause-may
 draw-requires-clause-may c = subst (λ (m : Sat). MayDraw m.0.part) (sym c.requires.new.1.me) (may_draw _ _ c.requires.new.0)
 
 pub take_free-requires-clause-may : goal.take_free-requires-clause-may
-take_free-requires-clause-may c = let d = c.draw.ensures in let view = ap (λ (m : Sat). m.0) d.drew ∙ ap (λ (m : Sat). drawing m.0 c.draw.result) c.requires.new.1.me in
+take_free-requires-clause-may c = let d = c.draw.ensures in let view = ap (λ (m : Sat). m.0) d.drew
+    ∙ ap (λ (m : Sat). drawing m.0 c.draw.result) c.requires.new.1.me in
     subst (λ (v : Sight). MayFast v.part.core) (sym view) (may_fast _ _ c.requires.new.0 c.draw.result d.context)
 
 pub take_free-requires-clause-room : goal.take_free-requires-clause-room
-take_free-requires-clause-room c = let long = ap (λ (m : Sat). length m.1) c.draw.ensures.drew ∙ ap (λ (m : Sat). length m.1) c.requires.new.1.me in omega arith
+take_free-requires-clause-room c = let long = ap (λ (m : Sat). length m.1) c.draw.ensures.drew
+    ∙ ap (λ (m : Sat). length m.1) c.requires.new.1.me in omega arith

@@ -16,23 +16,31 @@ loop-i-init c = record {
 
 pub loop-i-preserved : goal.loop-i-preserved
 loop-i-preserved c = let ok = c.if-is_err.ensures.negation in record {
-  goes = went_on (start c.args.kind c.args.locks c.args.seats) c.args.events.now c.loop-i.i (Begin 0) (state_of c.loop-i.core) (state_of c.step.new.self) c.loop-i-test.true c.loop-i.invariant.goes
+  goes = went_on (start c.args.kind c.args.locks c.args.seats) c.args.events.now c.loop-i.i (Begin 0)
+      (state_of c.loop-i.core) (state_of c.step.new.self) c.loop-i-test.true c.loop-i.invariant.goes
       (c.step.ensures.possible.0 (ok_of c.step.result ok))
-      (on_ok c.step.result (state_of c.step.new.self ≡ after (state_of c.loop-i.core) (get_or c.args.events.now c.loop-i.i (Begin 0))) ok c.step.ensures.state);
+      (on_ok c.step.result (state_of c.step.new.self
+      ≡ after (state_of c.loop-i.core) (get_or c.args.events.now c.loop-i.i (Begin 0))) ok
+      c.step.ensures.state);
   locks = c.step.ensures.locks ∙ c.loop-i.invariant.locks;
   seats = c.step.ensures.seats ∙ c.loop-i.invariant.seats;
 }
 
 pub returns-then-is_err-clause-fault : goal.returns-then-is_err-clause-fault
-returns-then-is_err-clause-fault c = stopped (start c.args.kind c.args.locks c.args.seats) c.args.events.now c.loop-i.i (Begin 0) (state_of c.loop-i.core) c.loop-i-test.true c.loop-i.invariant.goes
+returns-then-is_err-clause-fault c = stopped (start c.args.kind c.args.locks c.args.seats) c.args.events.now
+    c.loop-i.i (Begin 0) (state_of c.loop-i.core) c.loop-i-test.true c.loop-i.invariant.goes
     (λ can. err_of c.step.result (sym c.if-is_err.ensures.value) (c.step.ensures.possible.1 can))
 
 pub returns-clause-run : goal.returns-clause-run
-returns-clause-run c = (went_all (start c.args.kind c.args.locks c.args.seats) c.args.events.now c.loop-i.i (state_of c.loop-i.core) (omega arith) c.loop-i.invariant.goes).run
+returns-clause-run c = (went_all (start c.args.kind c.args.locks c.args.seats) c.args.events.now c.loop-i.i
+    (state_of c.loop-i.core) (omega arith) c.loop-i.invariant.goes).run
 
 pub returns-clause-state : goal.returns-clause-state
-returns-clause-state c = (went_all (start c.args.kind c.args.locks c.args.seats) c.args.events.now c.loop-i.i (state_of c.loop-i.core) (omega arith) c.loop-i.invariant.goes).state
+returns-clause-state c = (went_all (start c.args.kind c.args.locks c.args.seats) c.args.events.now c.loop-i.i
+    (state_of c.loop-i.core) (omega arith) c.loop-i.invariant.goes).state
 
 pub returns-clause-reached : goal.returns-clause-reached
-returns-clause-reached c = goes_reached (start c.args.kind c.args.locks c.args.seats) c.args.events.now (state_of c.loop-i.core) (at_start c.args.kind c.args.locks c.args.seats)
-    (went_all (start c.args.kind c.args.locks c.args.seats) c.args.events.now c.loop-i.i (state_of c.loop-i.core) (omega arith) c.loop-i.invariant.goes)
+returns-clause-reached c = goes_reached (start c.args.kind c.args.locks c.args.seats) c.args.events.now
+    (state_of c.loop-i.core) (at_start c.args.kind c.args.locks c.args.seats)
+    (went_all (start c.args.kind c.args.locks c.args.seats) c.args.events.now c.loop-i.i (state_of c.loop-i.core)
+    (omega arith) c.loop-i.invariant.goes)

@@ -4,7 +4,14 @@ use Rattle.ww_plain.specs.Graph.{value_of}
 use Rattle.ww_plain.proofs.meaning.sum.Goals as goal
 
 pub overflow_add-total : goal.overflow_add-total
-overflow_add-total c = omega (arith, c.requires.few, c.loop-node.invariant.1, c.loop-node-test.true, c.from-total.ensures, c.value_at.type_inv)
+overflow_add-total c = omega (
+  arith,
+  c.requires.few,
+  c.loop-node.invariant.1,
+  c.loop-node-test.true,
+  c.from-total.ensures,
+  c.value_at.type_inv,
+)
 
 pub loop-node-preserved : goal.loop-node-preserved
 loop-node-preserved c =

@@ -12,14 +12,16 @@ pub returns-then-not-insert : goal.returns-then-not-insert
 returns-then-not-insert g c =
     let (different, marks) = c.loop-item.invariant in
     let came = not-false _ (sym (c.insert.ensures.new _ marks) ∙ c.if-not-insert.true) in
-    double_found g.T.Listed.names c.args.items.now c.loop-item.item-index c.item-item.result _ c.loop-item-test.true c.item-item.is c.node-node.ensures different came
+    double_found g.T.Listed.names c.args.items.now c.loop-item.item-index c.item-item.result _ c.loop-item-test.true
+    c.item-item.is c.node-node.ensures different came
 
 pub loop-item-preserved : goal.loop-item-preserved
 loop-item-preserved g c =
     let (different, marks) = c.loop-item.invariant in
     let new = not-true _ (sym (c.insert.ensures.new _ marks) ∙ c.if-not-insert.false) in
     let more = map_more g.T.Listed.names c.args.items.now c.loop-item.item-index c.item-item.result c.loop-item-test.true in (
-      different_more g.T.Listed.names c.args.items.now c.loop-item.item-index c.item-item.result _ c.loop-item-test.true c.item-item.is c.node-node.ensures different new,
+      different_more g.T.Listed.names c.args.items.now c.loop-item.item-index c.item-item.result _
+          c.loop-item-test.true c.item-item.is c.node-node.ensures different new,
       rw (more, ← c.node-node.ensures ∙ ap g.T.Listed.names c.item-item.is) (c.insert.ensures.more _ marks),
     )
 

@@ -13,7 +13,9 @@ pub push-requires : goal.push-requires
 push-requires c =
     let i = c.loop-waiter.waiter-index in
     let pair_of : Entry → Option (ℕ × ℕ) = λ e. owed_death c.args.owner c.args.queue.now c.args.me e.seat in
-    let front : length c.loop-waiter.owed.items ≡ length (owed_deaths c.args.owner c.args.queue.now c.args.me (take i c.args.queue.now)) = ap length c.loop-waiter.invariant in
+    let front : length c.loop-waiter.owed.items
+    ≡ length (owed_deaths c.args.owner c.args.queue.now c.args.me (take i c.args.queue.now)) =
+    ap length c.loop-waiter.invariant in
     let few = length-filter_map pair_of (take i c.args.queue.now) in
     let taken = length-take i c.args.queue.now in
     (lit< tt, omega arith)
@@ -34,5 +36,6 @@ loop-waiter-preserved c =
       | in_default w ↦
           let is : c.owed_death.result ≡ None = w.in_default.is in
           let here : pair_of (get_or all i blank) ≡ None = cc in
-          let no_more = more ∙ ap (λ o. filter_map pair_of (take i all) ++ cons_option o []) here ∙ append-nil (filter_map pair_of (take i all)) in cc
+          let no_more = more ∙ ap (λ o. filter_map pair_of (take i all) ++ cons_option o []) here
+          ∙ append-nil (filter_map pair_of (take i all)) in cc
     ]

@@ -9,5 +9,7 @@ use Rattle.ww_rule.proofs.homes.nodes_of.Given as goal
 
 abbrev pub invariant-loop-n : goal.invariant-loop-n
 invariant-loop-n l = AreTakenBelow l.n l.count (slots_filled l.closed.slots) × (slots_len l.closed.slots ≡ l.count)
-    × (slots_items l.closed.slots ≡ slots_items l.initial.closed.slots) × (length l.nodes.items ≡ l.n) × (vec_len l.nodes ≡ l.n) × (l.size ≤ vec_capacity l.nodes)
-    × ((k : ℕ) (x : Node) → k < l.n → get_elem? (slots_items l.initial.closed.slots) k ≡ some (Content x) → get_elem? l.nodes.items k ≡ some x)
+    × (slots_items l.closed.slots ≡ slots_items l.initial.closed.slots) × (length l.nodes.items ≡ l.n)
+    × (vec_len l.nodes ≡ l.n) × (l.size ≤ vec_capacity l.nodes)
+    × ((k : ℕ) (x : Node) → k < l.n → get_elem? (slots_items l.initial.closed.slots) k ≡ some (Content x)
+    → get_elem? l.nodes.items k ≡ some x)

@@ -19,7 +19,14 @@ loop-act-preserved g c =
     let answers = c.loop-act.answers.items in
     let deed = deed_of c.in-Some.act in
     let done = c.carry_out-next in (
-      omega (arith, c.loop-act.invariant.0, ap length c.in-Some.ensures.steps.0, ap length c.push_reserved.ensures.items, c.push_reserved.ensures.capacity),
+      omega (
+        arith,
+        c.loop-act.invariant.0,
+        ap length c.in-Some.ensures.steps.0,
+        ap length
+            c.push_reserved.ensures.items,
+        c.push_reserved.ensures.capacity,
+      ),
       one_more c.args.world.now c.args.pass.caller (map deed_of c.args.acts.items) _ _ (map said_of answers) _ deed
           (said_of c.in-Ok-told.answer) c.loop-act.pass done.result.0
           (ap (map deed_of) c.in-Some.ensures.steps.0)

@@ -24,7 +24,8 @@ one_more (x ∷ xs) zero most more acts there is up here before zero d lt = subs
 one_more (x ∷ xs) zero most more acts there is up here before (suc k) d lt = absurd (omega (arith, lt))
 one_more (x ∷ xs) (suc n) most more acts there is up here before zero d lt = omega (arith, before 0 d (omega arith), up)
 one_more (x ∷ xs) (suc n) most more acts there is up here before (suc k) d lt =
-    one_more xs n most more acts (omega (arith, there)) is up here (λ j e low. before (suc j) e (omega (arith, low))) k d (omega (arith, lt))
+    one_more xs n most more acts (omega (arith, there)) is up here
+    (λ j e low. before (suc j) e (omega (arith, low))) k d (omega (arith, lt))
 
 pub loop-acts-preserved : goal.loop-acts-preserved
 loop-acts-preserved c =
@@ -37,7 +38,8 @@ loop-acts-preserved c =
           c.loop-acts-test.true c.acts-item.is first short c.loop-acts.invariant.2,
       λ other one all.
           let here : length c.acts-item.result.items ≤ other =
-          subst (λ (v : Vec Act). length v.items ≤ other) (sym c.acts-item.is) (all c.loop-acts.acts-index c.acts-item.result (omega arith)) in
+          subst (λ (v : Vec Act). length v.items ≤ other) (sym c.acts-item.is)
+          (all c.loop-acts.acts-index c.acts-item.result (omega arith)) in
           max_within c.loop-acts.most c.len.result other c.max-most.result c.max-most.ensures
           (c.loop-acts.invariant.3 other one (λ k d lt. all k d (omega (arith, lt)))) (search rules),
     )

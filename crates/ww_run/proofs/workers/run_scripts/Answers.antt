@@ -15,13 +15,15 @@ use Rattle.ww_run.proofs.workers.run_scripts.Goals.{then-history+in_ok-places, e
 
 pub budget-budget-requires : goal.budget-budget-requires
 budget-budget-requires g c = rw c.deref.ensures.value
-    (few_each (ranges_of (length c.scripts.inside.graph) c.scripts.inside.ports (length (script_lists c.scripts.inside.scripts))) c.scripts.inside.scripts.items c.scripts.invariant.each)
+    (few_each (ranges_of (length c.scripts.inside.graph) c.scripts.inside.ports
+    (length (script_lists c.scripts.inside.scripts))) c.scripts.inside.scripts.items c.scripts.invariant.each)
 
 pub work-requires-after_bounds : goal.work-requires-after_bounds
 work-requires-after_bounds g c = λ κs within.
     let scripts = c.scripts.inside.scripts.items in
     let each = scripts_more c.scripts.inside.ports PORTS (ports_few c.scripts.inside.ports c.scripts.invariant.version)
-    (length c.scripts.inside.graph) (length (script_lists c.scripts.inside.scripts)) (script_lists c.scripts.inside.scripts) c.scripts.invariant.each in
+    (length c.scripts.inside.graph) (length (script_lists c.scripts.inside.scripts))
+    (script_lists c.scripts.inside.scripts) c.scripts.invariant.each in
     are_ready c.in-Ok.world scripts c.in-Ok.passes.items c.scripts.inside.graph _ c.budget-budget.result c.in-Ok.ensures.ok
     (grind rules) each
     (is_budget c.budget-budget.result scripts c.budget-budget.ensures.some

@@ -8,16 +8,20 @@ loop-index-init c = told_none (state_of c.args.core.now) (string_bytes c.args.ou
 
 pub loop-index-preserved : goal.loop-index-preserved
 loop-index-preserved c =
-    told_more (state_of c.args.core.now) c.args.events.now c.loop-index.index-counter _ c.in-Ok.answer (state_of c.loop-index.core) (state_of c.step.new.self)
+    told_more (state_of c.args.core.now) c.args.events.now c.loop-index.index-counter _ c.in-Ok.answer
+    (state_of c.loop-index.core) (state_of c.step.new.self)
     (string_bytes c.args.out.now) (string_bytes c.loop-index.out) (string_bytes c.push_event_line.new.out)
-    c.loop-index-test.true c.loop-index.invariant (c.in-Ok.ensures.possible.0 refl) c.in-Ok.ensures.answer c.in-Ok.ensures.state c.in_ok-push_event_line-in-Ok.ensures
+    c.loop-index-test.true c.loop-index.invariant (c.in-Ok.ensures.possible.0 refl) c.in-Ok.ensures.answer
+    c.in-Ok.ensures.state c.in_ok-push_event_line-in-Ok.ensures
 
 pub returns-in-Err : goal.returns-in-Err
 returns-in-Err c =
     on_ok c.writeln.result
-    (told_to (state_of c.args.core.now) c.args.events.now c.loop-index.index-counter _ (state_of c.loop-index.core) (state_of c.step.new.self)
+    (told_to (state_of c.args.core.now) c.args.events.now c.loop-index.index-counter _ (state_of c.loop-index.core)
+    (state_of c.step.new.self)
     (string_bytes c.args.out.now) (string_bytes c.loop-index.out) (string_bytes c.writeln.new.self)
-    c.loop-index-test.true c.loop-index.invariant (λ can. let no = c.in-Err.ensures.possible.1 can in absurd cc) (ap state_of c.in-Err.ensures.refused))
+    c.loop-index-test.true c.loop-index.invariant (λ can. let no = c.in-Err.ensures.possible.1 can in absurd cc)
+    (ap state_of c.in-Err.ensures.refused))
     c.writeln.ensures.bytes
 
 pub returns : goal.returns

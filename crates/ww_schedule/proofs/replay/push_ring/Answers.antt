@@ -16,7 +16,8 @@ pub returns-in_ok-push_ring_line-in-Some : goal.returns-in_ok-push_ring_line-in-
 returns-in_ok-push_ring_line-in-Some c =
     let core = state_of c.args.core.now in
     let condemned = subst (λ seats. CondemnedOf core seats c.condemned_in.result) c.deref-in-Some.ensures.0 c.condemned_in.ensures.least in
-    let line = c.in_ok-push_ring_line-in-Some.ensures ∙ ap (λ seats. string_bytes c.args.out.now ++ ring_line (Some seats)) c.deref.ensures.0 in
+    let line = c.in_ok-push_ring_line-in-Some.ensures
+    ∙ ap (λ seats. string_bytes c.args.out.now ++ ring_line (Some seats)) c.deref.ensures.0 in
     on_ok c.push_condemned_line-in-Some.result
     (ring_told core (Some c.in-Some.ring.items) c.condemned_in.result _ _ _ c.in-Some.ensures condemned line)
     c.push_condemned_line-in-Some.ensures

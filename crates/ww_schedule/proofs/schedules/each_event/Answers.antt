@@ -12,7 +12,8 @@ loop-item-init c = search rules
 
 pub loop-item-preserved : goal.loop-item-preserved
 loop-item-preserved c =
-    each_more view (event_in c.args.seats c.args.locks) c.args.items.now c.loop-item.item-index c.item-item.result c.loop-item.events.items _
+    each_more view (event_in c.args.seats c.args.locks) c.args.items.now c.loop-item.item-index c.item-item.result
+    c.loop-item.events.items _
     c.in_ok-event.event c.loop-item-test.true c.item-item.is c.loop-item.invariant c.in_ok-event.ensures c.in_ok-push.ensures.items
 
 pub returns-in_err-event : goal.returns-in_err-event

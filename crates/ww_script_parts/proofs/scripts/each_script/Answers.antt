@@ -13,7 +13,8 @@ loop-item-init c = search rules
 
 pub loop-item-preserved : goal.loop-item-preserved
 loop-item-preserved c =
-    each_more_by (λ s. map deed_of s.items) view (script_in c.args.ranges) c.args.items.now c.loop-item.item-index c.item-item.result c.loop-item.scripts.items _
+    each_more_by (λ s. map deed_of s.items) view (script_in c.args.ranges) c.args.items.now c.loop-item.item-index
+    c.item-item.result c.loop-item.scripts.items _
     c.in_ok-script.script c.loop-item-test.true c.item-item.is c.loop-item.invariant c.in_ok-script.ensures c.in_ok-push.ensures.items
 
 pub returns-in_err-script : goal.returns-in_err-script

@@ -6,4 +6,11 @@ invariant_of-result c =
     let read = rw c.ports-ports.ensures at c.in_ok-scripts-2.ensures in
     let all = rw c.size.ensures.size at (scripts_kept _ c.args.version _ _ read) in
     let unused = (graph_kept c.args.version _ _ c.in_ok-graph.ensures).1 in
-    rw c.ports-ports.ensures (record { version = are_ports c.args.version; graph = c.size.ensures.graph; unused = unused; some = all.some; few = all.few; each = all.each })
+    rw c.ports-ports.ensures (record {
+      version = are_ports c.args.version;
+      graph = c.size.ensures.graph;
+      unused = unused;
+      some = all.some;
+      few = all.few;
+      each = all.each;
+    })

@@ -20,14 +20,19 @@ abbrev none : NodeChange
 none = record { number = 0; before = no_node; after = no_node }
 
 -- the next node of the list is the seat's
-own_next : (size : ℕ) (v w : Sight) (changes : List NodeChange) (i : ℕ) → i < length changes → v ≡ w → AllByRecursion (λ c. (c.number < size) × (owns w.part.core c.number ≡ true)) changes → ((get_or changes i none).number < size) × (owns v.part.core (get_or changes i none).number ≡ true)
-own_next size v w changes i lt same owned = let t = all_item (λ (c : NodeChange). (c.number < size) × (owns w.part.core c.number ≡ true)) changes i none lt owned in (t.0, ap (λ (u : Sight). owns u.part.core (get_or changes i none).number) same ∙ t.1)
+own_next : (size : ℕ) (v w : Sight) (changes : List NodeChange) (i : ℕ) → i < length changes → v ≡ w
+    → AllByRecursion (λ c. (c.number < size) × (owns w.part.core c.number ≡ true)) changes
+    → ((get_or changes i none).number < size) × (owns v.part.core (get_or changes i none).number ≡ true)
+own_next size v w changes i lt same owned = let t =
+    all_item (λ (c : NodeChange). (c.number < size) × (owns w.part.core c.number ≡ true)) changes i none lt owned in
+    (t.0, ap (λ (u : Sight). owns u.part.core (get_or changes i none).number) same ∙ t.1)
 
 pub swap_node-requires-clause-out : goal.swap_node-requires-clause-out
 swap_node-requires-clause-out c =
     let g = c.requires.changes in
     let is = c.loop-at.invariant.changed c.requires.out.0 g.0 g.1 g.2 g.3 c.requires.out.1 in
-    let mine = own_next (size_of c.args.board.now) c.loop-at.seat.seat.me.0 c.args.seat.now.seat.me.0 c.args.changes.now (c.loop-at.at - 1) (omega arith) c.loop-at.invariant.view c.requires.owned in
+    let mine = own_next (size_of c.args.board.now) c.loop-at.seat.seat.me.0 c.args.seat.now.seat.me.0
+    c.args.changes.now (c.loop-at.at - 1) (omega arith) c.loop-at.invariant.view c.requires.owned in
     subst (λ (n : ℕ). (x : Node) × (slot_of c.loop-at.seat.seat.me.1 n ≡ Some (Content x))) (sym c.from.ensures)
     (out_there _ _ _ _ c.loop-at.seat.seat.me (get_or c.args.changes.now (c.loop-at.at - 1) none).number is mine.0 mine.1)
 
@@ -36,17 +41,22 @@ loop-at-preserved c =
     let i : ℕ = c.loop-at.at - 1 in
     let was : Sat = c.loop-at.seat.seat.me in
     let new : Sat = c.swap_node.new.self.seat.me in
-    let t = subst (λ (n : ℕ). (others : List (ℕ × Cell)) × AreOthers was.1 n (Content c.swap_node.result) others × (new ≡ (was.0, (n, Content (get_or c.args.changes.now i none).after) ∷ others))) c.from.ensures c.swap_node.ensures.swapped in
+    let t = subst (λ (n : ℕ). (others : List (ℕ × Cell)) × AreOthers was.1 n (Content c.swap_node.result) others
+    × (new ≡ (was.0, (n, Content (get_or c.args.changes.now i none).after) ∷ others))) c.from.ensures
+    c.swap_node.ensures.swapped in
     let up : c.loop-at.at ≡ suc i = omega arith in
-    let mine = own_next (size_of c.args.board.now) c.loop-at.seat.seat.me.0 c.args.seat.now.seat.me.0 c.args.changes.now i (omega arith) c.loop-at.invariant.view c.requires.owned in
+    let mine = own_next (size_of c.args.board.now) c.loop-at.seat.seat.me.0 c.args.seat.now.seat.me.0
+    c.args.changes.now i (omega arith) c.loop-at.invariant.view c.requires.owned in
     record {
       seated = c.swap_node.ensures.seat;
       view = ap (λ (z : Sat). z.0) t.2 ∙ c.loop-at.invariant.view;
       records = c.swap_node.ensures.records ∙ c.loop-at.invariant.records;
       changed = λ held before after ns are was.
           let many : length c.args.changes.now ≡ length ns = ap length are ∙ length-map ns (change_at before after) in
-          changed_next (size_of c.args.board.now) held before after ns c.args.changes.now i none c.loop-at.seat.seat.me c.swap_node.new.self.seat.me c.swap_node.result are (omega arith)
-          (subst (λ (k : ℕ). IsChanged (size_of c.args.board.now) held after (drop k ns) c.loop-at.seat.seat.me) up (c.loop-at.invariant.changed held before after ns are was))
+          changed_next (size_of c.args.board.now) held before after ns c.args.changes.now i none
+          c.loop-at.seat.seat.me c.swap_node.new.self.seat.me c.swap_node.result are (omega arith)
+          (subst (λ (k : ℕ). IsChanged (size_of c.args.board.now) held after (drop k ns) c.loop-at.seat.seat.me) up
+          (c.loop-at.invariant.changed held before after ns are was))
           mine.0 mine.1
           t;
     }
@@ -54,4 +64,5 @@ loop-at-preserved c =
 pub returns-clause-changed : goal.returns-clause-changed
 returns-clause-changed c = λ held before after ns are was.
     let all : c.loop-at.at ≡ 0 = omega arith in
-    subst (λ (k : ℕ). IsChanged (size_of c.args.board.now) held after (drop k ns) c.loop-at.seat.seat.me) all (c.loop-at.invariant.changed held before after ns are was)
+    subst (λ (k : ℕ). IsChanged (size_of c.args.board.now) held after (drop k ns) c.loop-at.seat.seat.me) all
+    (c.loop-at.invariant.changed held before after ns are was)

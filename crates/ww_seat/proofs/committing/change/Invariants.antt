@@ -10,5 +10,7 @@ invariant-loop-at l = record {
   seated : IsSeated l.board.table.shared.table_id l.seat;
   view : l.seat.seat.me.0 ≡ l.fn.seat.seat.me.0;
   records : l.seat.records ≡ l.fn.seat.records;
-  changed : (held : List (Option Node)) (before after : List Node) (ns : List ℕ) → l.changes ≡ map (change_at before after) ns → IsOrderly (size_of l.board) (naming l.fn.seat.seat.me held) → IsChanged (size_of l.board) held after (drop l.at ns) l.seat.seat.me;
+  changed : (held : List (Option Node)) (before after : List Node) (ns : List ℕ)
+      → l.changes ≡ map (change_at before after) ns → IsOrderly (size_of l.board) (naming l.fn.seat.seat.me held)
+      → IsChanged (size_of l.board) held after (drop l.at ns) l.seat.seat.me;
 }

@@ -35,26 +35,38 @@ change-requires-clause-owned c =
     let before : List Node = c.args.before.now.value in
     let t = transaction_of c.args.done.txn in
     let m : Sat = c.place-place.new.self.seat.me in
-    subst (AllByRecursion (λ (x : NodeChange). (x.number < size_of c.args.board.now) × (owns m.0.part.core x.number ≡ true))) (sym c.requires.changes)
+    subst (AllByRecursion (λ (x : NodeChange). (x.number < size_of c.args.board.now)
+    × (owns m.0.part.core x.number ≡ true))) (sym c.requires.changes)
     (all_change (λ n. (n < size_of c.args.board.now) × (owns m.0.part.core n ≡ true)) before (graph_after before t) (footprint_of before t)
-    (λ n e. (subst (λ (k : ℕ). n < k) c.requires.seat.orderly.held (place_low c.args.seat.now.seat.me.0.held n _ (c.requires.held n e).1), ap (λ (z : Sat). owns z.0.part.core n) c.place-place.ensures.placed ∙ (c.requires.held n e).0)))
+    (λ n e. (
+      subst (λ (k : ℕ). n < k) c.requires.seat.orderly.held
+          (place_low c.args.seat.now.seat.me.0.held n _ (c.requires.held n e).1),
+      ap
+          (λ (z : Sat). owns z.0.part.core n) c.place-place.ensures.placed ∙ (c.requires.held n e).0,
+    )))
 
 pub returns-clause-seat : goal.returns-clause-seat
 returns-clause-seat c =
     let before : List Node = c.args.before.now.value in
     let t = transaction_of c.args.done.txn in
     let m : Sat = c.args.seat.now.seat.me in
-    let out = start_orderly (size_of c.args.board.now) m c.args.done before c.requires.seat.orderly c.requires.next c.requires.size c.requires.held c.place-place.result c.place-place.new.self.seat.me c.place-place.ensures.placed in
+    let out = start_orderly (size_of c.args.board.now) m c.args.done before c.requires.seat.orderly c.requires.next
+    c.requires.size c.requires.held c.place-place.result c.place-place.new.self.seat.me
+    c.place-place.ensures.placed in
     record {
       seated = c.change.ensures.seat;
-      orderly = end_orderly (size_of c.args.board.now) m c.args.done before c.requires.seat.orderly c.requires.next c.requires.size c.requires.held
+      orderly = end_orderly (size_of c.args.board.now) m c.args.done before c.requires.seat.orderly c.requires.next
+          c.requires.size c.requires.held
           c.place-place.result c.place-place.new.self.seat.me c.change.new.seat.seat.me c.place-place.ensures.placed c.change.ensures.view
           (c.change.ensures.changed m.0.held before (graph_after before t) (footprint_of before t) c.requires.changes out);
-      away = still_away (size_of c.args.board.now) m c.args.done before c.requires.seat.orderly c.requires.next c.requires.size c.requires.held
-          c.place-place.result c.place-place.new.self.seat.me c.change.new.seat.seat.me c.place-place.ensures.placed c.change.ensures.view c.requires.seat.away;
+      away = still_away (size_of c.args.board.now) m c.args.done before c.requires.seat.orderly c.requires.next
+          c.requires.size c.requires.held
+          c.place-place.result c.place-place.new.self.seat.me c.change.new.seat.seat.me c.place-place.ensures.placed
+          c.change.ensures.view c.requires.seat.away;
     }
 
 pub returns-clause-committed : goal.returns-clause-committed
 returns-clause-committed c = has_committed (size_of c.args.board.now) c.args.seat.now.seat.me c.args.done c.args.before.now.value
     c.requires.seat.orderly c.requires.next c.requires.size c.requires.held
-    c.place-place.result c.place-place.new.self.seat.me c.change.new.seat.seat.me c.place-place.ensures.placed c.change.ensures.view c.place-place.ensures.above
+    c.place-place.result c.place-place.new.self.seat.me c.change.new.seat.seat.me c.place-place.ensures.placed
+    c.change.ensures.view c.place-place.ensures.above

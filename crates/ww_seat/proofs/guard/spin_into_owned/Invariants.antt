@@ -1,9 +1,11 @@
 use Rattle.std.proofs.Common.{◌≡◌, length}
 use Rattle.ww_rule.specs.Rule.{first_graph}
-use Rattle.ww_seat.specs.Guards.{IsStill}
+use Rattle.ww_seat.specs.Calls.{HoldsAsBefore}
 use Rattle.ww_seat.specs.Orderly.{IsSettled}
 use Rattle.ww_seat.proofs.guard.spin_into_owned.Given as goal
 
 abbrev pub invariant-loop : goal.invariant-loop
 invariant-loop g l =
-    (goal.iterator-loop g).can_next l.iterator' × (goal.iterator-loop g).is_finite l.iterator' × IsSettled l.board.table.shared.table_id (length (first_graph l.board.table.shared.key)) l.seat × IsStill l.initial.seat.seat.me l.seat.seat.me × (l.seat.records ≡ l.initial.seat.records)
+    (goal.iterator-loop g).can_next l.iterator' × (goal.iterator-loop g).is_finite l.iterator'
+    × IsSettled l.board.table.shared.table_id (length (first_graph l.board.table.shared.key)) l.seat
+    × HoldsAsBefore l.initial.seat.seat.me l.seat.seat.me × (l.seat.records ≡ l.initial.seat.records)

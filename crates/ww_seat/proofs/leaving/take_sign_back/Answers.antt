@@ -10,4 +10,6 @@ pub clear_if_signed-requires-clause-lives : goal.clear_if_signed-requires-clause
 clear_if_signed-requires-clause-lives c = c.requires.lives (sym c.requires.seat.kind ∙ sym c.kind.ensures ∙ c.in-WaitDie.is)
 
 pub returns-in-WoundWait-clause-cleared : goal.returns-in-WoundWait-clause-cleared
-returns-in-WoundWait-clause-cleared c = cleared_same c.args.seat.now.seat.me (λ d. absurd (let e : WoundWait ≡ WaitDie = sym c.in-WoundWait.is ∙ c.kind.ensures ∙ c.requires.seat.kind ∙ d in cc))
+returns-in-WoundWait-clause-cleared c =
+    cleared_same c.args.seat.now.seat.me (λ d. absurd
+    (let e : WoundWait ≡ WaitDie = sym c.in-WoundWait.is ∙ c.kind.ensures ∙ c.requires.seat.kind ∙ d in cc))

@@ -1,5 +1,6 @@
-use Rattle.std.proofs.Common.{Bool, false, List, get_or, refl, sym, ap, subst, ◌∙◌, length}
+use Rattle.std.proofs.Common.{Bool, false, get_or, refl, sym, ap, subst, ◌∙◌, length}
 use Rattle.ww_model.specs.State.{any_below}
+use Rattle.ww_seat.specs.Accounts.{Account}
 use Rattle.ww_table.specs.Seat.{size_of}
 use Rattle.ww_seat.specs.Work.{has_joined, looks_again, IsAtWork}
 use Rattle.ww_seat.proofs.Holds.{look_then}
@@ -7,22 +8,30 @@ use Rattle.ww_seat.proofs.Working.{work_same, work_then, woken_marked}
 use Rattle.ww_seat.proofs.look.look_at.Goals as goal
 
 pub loop-init : goal.loop-init
-loop-init g c = (c.requires.seat, work_same _ c.args.lock (has_joined c.args.arrival) (looks_again c.args.arrival) c.args.seat.now.seat.me c.requires.orderly c.requires.work, refl, c.requires.woken)
+loop-init g c = (
+  c.requires.seat,
+  work_same _ c.args.lock (has_joined c.args.arrival) (looks_again c.args.arrival)
+      c.args.seat.now.seat.me c.requires.orderly c.requires.work,
+  refl,
+  c.requires.woken,
+)
 
 pub loop-preserved : goal.loop-preserved
 loop-preserved g c = (
   c.look_once.ensures.seat,
-  work_then _ c.args.lock c.args.seat.now.seat.me (has_joined c.loop.arrival) (has_joined c.look_once.new.arrival) (looks_again c.look_once.new.arrival) c.loop.seat.seat.me c.look_once.new.seat.seat.me
-      (subst (λ (b : Bool). IsAtWork (size_of c.args.board.now) c.args.lock c.args.seat.now.seat.me (has_joined c.loop.arrival) b c.loop.seat.seat.me) (sym c.look_once.ensures.again) c.loop.invariant.1) c.in-None-look_once.ensures.lost,
+  work_then _ c.args.lock c.args.seat.now.seat.me (has_joined c.loop.arrival) (has_joined c.look_once.new.arrival)
+      (looks_again c.look_once.new.arrival) c.loop.seat.seat.me c.look_once.new.seat.seat.me
+      (subst (λ (b : Bool). IsAtWork (size_of c.args.board.now) c.args.lock c.args.seat.now.seat.me
+      (has_joined c.loop.arrival) b c.loop.seat.seat.me) (sym c.look_once.ensures.again) c.loop.invariant.1)
+      c.in-None-look_once.ensures.lost,
   c.look_once.ensures.records ∙ c.loop.invariant.2,
   woken_marked c.look_once.new.seat.seat.me _ _ c.look_once.ensures.marked,
 )
 
 pub returns-in-Some-look_once-clause-look : goal.returns-in-Some-look_once-clause-look
-returns-in-Some-look_once-clause-look g c = look_then _ c.args.lock c.args.seat.now.seat.me c.loop.seat.seat.me c.look_once.new.seat.seat.me c.in-Some-look_once.look c.loop.invariant.1.holds c.in-Some-look_once.ensures.look
-
-pub returns-in-Some-look_once-clause-tries : goal.returns-in-Some-look_once-clause-tries
-returns-in-Some-look_once-clause-tries g c = c.in-Some-look_once.ensures.tries ∙ c.loop.invariant.1.tries
+returns-in-Some-look_once-clause-look g c =
+    look_then _ c.args.lock c.args.seat.now.seat.me c.loop.seat.seat.me c.look_once.new.seat.seat.me
+    c.in-Some-look_once.look c.loop.invariant.1.holds c.in-Some-look_once.ensures.look
 
 pub returns-in-Some-look_once-clause-woken : goal.returns-in-Some-look_once-clause-woken
 returns-in-Some-look_once-clause-woken g c = woken_marked c.look_once.new.seat.seat.me _ _ c.look_once.ensures.marked
@@ -31,4 +40,5 @@ pub look_once-requires-clause-woken : goal.look_once-requires-clause-woken
 look_once-requires-clause-woken g c = c.loop.invariant.3
 
 pub look_once-requires-clause-holds : goal.look_once-requires-clause-holds
-look_once-requires-clause-holds g c = ap (λ (l : List Bool). any_below (length l) (λ n. get_or l n false)) c.loop.invariant.1.holds.owned ∙ c.requires.holds
+look_once-requires-clause-holds g c = ap (λ (a : Account). any_below (length a.owned) (λ n. get_or a.owned n false))
+    c.loop.invariant.1.holds ∙ c.requires.holds

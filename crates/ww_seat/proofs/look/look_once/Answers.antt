@@ -6,132 +6,197 @@ use Rattle.ww_seat.specs.Work.{has_joined, looks_again, IsWorking, IsAtWork}
 use Rattle.ww_seat.proofs.Working.{woken_still, woken_looked, marked_none, look_counts, work_touched, work_looked}
 use Rattle.ww_seat.proofs.Signing.{if_none}
 use Rattle.ww_seat.proofs.Holds.{stopped_then}
-use Rattle.ww_seat.proofs.Stood.{work_stood, flags_later, look_later, tries_later, work_later}
-use Rattle.ww_seat.proofs.Stopped.{work_goes_on, goes_on_sees}
+use Rattle.ww_seat.proofs.Stood.{work_stood, flags_later, look_later, work_later}
+use Rattle.ww_seat.proofs.Stopped.{work_goes_on, goes_on_sees, waits_so}
 use Rattle.ww_seat.proofs.look.look_once.Goals as goal
 
 pub take_inside-requires-clause-work : goal.take_inside-requires-clause-work
-take_inside-requires-clause-work c = let size = length (first_graph c.args.board.now.table.shared.key) in let n = c.args.lock in let later = looks_again c.args.arrival.now in let stands = has_joined c.args.arrival.now in let m = c.args.seat.now.seat.me in let m1 = c.look-seen.new.self.seat.me in
+take_inside-requires-clause-work c = let size = length (first_graph c.args.board.now.table.shared.key) in
+    let n = c.args.lock in let later = looks_again c.args.arrival.now in
+    let stands = has_joined c.args.arrival.now in let m = c.args.seat.now.seat.me in
+    let m1 = c.look-seen.new.self.seat.me in
     let w1 = work_looked size n stands later m m1 c.look-seen.result c.requires.orderly c.requires.work c.look-seen.ensures.looked in
     (stands, later, w1.working)
 
 pub stand-requires-clause-work : goal.stand-requires-clause-work
-stand-requires-clause-work c = let size = length (first_graph c.args.board.now.table.shared.key) in let n = c.args.lock in let later = looks_again c.args.arrival.now in let stands = has_joined c.args.arrival.now in let m = c.args.seat.now.seat.me in let m1 = c.look-seen.new.self.seat.me in
+stand-requires-clause-work c = let size = length (first_graph c.args.board.now.table.shared.key) in
+    let n = c.args.lock in let later = looks_again c.args.arrival.now in
+    let stands = has_joined c.args.arrival.now in let m = c.args.seat.now.seat.me in
+    let m1 = c.look-seen.new.self.seat.me in
     let w1 = work_looked size n stands later m m1 c.look-seen.result c.requires.orderly c.requires.work c.look-seen.ensures.looked in
     (later, w1.working)
 
 pub returns-in_err-word-clause-lost : goal.returns-in_err-word-clause-lost
-returns-in_err-word-clause-lost c = let size = length (first_graph c.args.board.now.table.shared.key) in let n = c.args.lock in let later = looks_again c.args.arrival.now in let stands = has_joined c.args.arrival.now in let m = c.args.seat.now.seat.me in let m1 = c.look-seen.new.self.seat.me in
+returns-in_err-word-clause-lost c = let size = length (first_graph c.args.board.now.table.shared.key) in
+    let n = c.args.lock in let later = looks_again c.args.arrival.now in
+    let stands = has_joined c.args.arrival.now in let m = c.args.seat.now.seat.me in
+    let m1 = c.look-seen.new.self.seat.me in
     let w1 = work_looked size n stands later m m1 c.look-seen.result c.requires.orderly c.requires.work c.look-seen.ensures.looked in
     if_none c.from_residual.result _ (λ _. work_touched size n m stands later m1 c.stand.new.seat.seat.me w1 c.in_err-word.ensures.lost)
 
 pub stop_if_cancelled-requires-clause-orderly : goal.stop_if_cancelled-requires-clause-orderly
-stop_if_cancelled-requires-clause-orderly c = let size = length (first_graph c.args.board.now.table.shared.key) in let n = c.args.lock in let later = looks_again c.args.arrival.now in let stands = has_joined c.args.arrival.now in let m = c.args.seat.now.seat.me in let m1 = c.look-seen.new.self.seat.me in
+stop_if_cancelled-requires-clause-orderly c = let size = length (first_graph c.args.board.now.table.shared.key) in
+    let n = c.args.lock in let later = looks_again c.args.arrival.now in
+    let stands = has_joined c.args.arrival.now in let m = c.args.seat.now.seat.me in
+    let m1 = c.look-seen.new.self.seat.me in
     let w1 = work_looked size n stands later m m1 c.look-seen.result c.requires.orderly c.requires.work c.look-seen.ensures.looked in
-    let m2 = c.stand.new.seat.seat.me in let w2 = work_stood size n m stands later m1 m2 c.look-seen.result c.in_ok-word.word w1 c.in_ok-word.ensures.stands in
+    let m2 = c.stand.new.seat.seat.me in let w2 =
+    work_stood size n m stands later m1 m2 c.look-seen.result c.in_ok-word.word w1
+    c.in_ok-word.ensures.stands in
     w2.orderly
 
 pub stop_if_cancelled-requires-clause-work : goal.stop_if_cancelled-requires-clause-work
-stop_if_cancelled-requires-clause-work c = let size = length (first_graph c.args.board.now.table.shared.key) in let n = c.args.lock in let later = looks_again c.args.arrival.now in let stands = has_joined c.args.arrival.now in let m = c.args.seat.now.seat.me in let m1 = c.look-seen.new.self.seat.me in
+stop_if_cancelled-requires-clause-work c = let size = length (first_graph c.args.board.now.table.shared.key) in
+    let n = c.args.lock in let later = looks_again c.args.arrival.now in
+    let stands = has_joined c.args.arrival.now in let m = c.args.seat.now.seat.me in
+    let m1 = c.look-seen.new.self.seat.me in
     let w1 = work_looked size n stands later m m1 c.look-seen.result c.requires.orderly c.requires.work c.look-seen.ensures.looked in
-    let m2 = c.stand.new.seat.seat.me in let w2 = work_stood size n m stands later m1 m2 c.look-seen.result c.in_ok-word.word w1 c.in_ok-word.ensures.stands in
+    let m2 = c.stand.new.seat.seat.me in let w2 =
+    work_stood size n m stands later m1 m2 c.look-seen.result c.in_ok-word.word w1
+    c.in_ok-word.ensures.stands in
     (later, w2.working)
 
 pub returns-in-Some-stop_if_cancelled-clause-look : goal.returns-in-Some-stop_if_cancelled-clause-look
-returns-in-Some-stop_if_cancelled-clause-look c = let size = length (first_graph c.args.board.now.table.shared.key) in let n = c.args.lock in let later = looks_again c.args.arrival.now in let stands = has_joined c.args.arrival.now in let m = c.args.seat.now.seat.me in let m1 = c.look-seen.new.self.seat.me in
+returns-in-Some-stop_if_cancelled-clause-look c = let size =
+    length (first_graph c.args.board.now.table.shared.key) in let n = c.args.lock in
+    let later = looks_again c.args.arrival.now in let stands = has_joined c.args.arrival.now in
+    let m = c.args.seat.now.seat.me in let m1 = c.look-seen.new.self.seat.me in
     let w1 = work_looked size n stands later m m1 c.look-seen.result c.requires.orderly c.requires.work c.look-seen.ensures.looked in
-    let m2 = c.stand.new.seat.seat.me in let w2 = work_stood size n m stands later m1 m2 c.look-seen.result c.in_ok-word.word w1 c.in_ok-word.ensures.stands in
-    let l = c.in-Some-stop_if_cancelled.ensures.stopped in (l.0, l.1, stopped_then m m2 c.stop_if_cancelled.new.seat.seat.me n c.in-Some-stop_if_cancelled.by w2.holds l.2)
-
-pub returns-in-Some-stop_if_cancelled-clause-tries : goal.returns-in-Some-stop_if_cancelled-clause-tries
-returns-in-Some-stop_if_cancelled-clause-tries c = let size = length (first_graph c.args.board.now.table.shared.key) in let n = c.args.lock in let later = looks_again c.args.arrival.now in let stands = has_joined c.args.arrival.now in let m = c.args.seat.now.seat.me in let m1 = c.look-seen.new.self.seat.me in
-    let w1 = work_looked size n stands later m m1 c.look-seen.result c.requires.orderly c.requires.work c.look-seen.ensures.looked in
-    let m2 = c.stand.new.seat.seat.me in let w2 = work_stood size n m stands later m1 m2 c.look-seen.result c.in_ok-word.word w1 c.in_ok-word.ensures.stands in
-    c.in-Some-stop_if_cancelled.ensures.tries ∙ w2.tries
+    let m2 = c.stand.new.seat.seat.me in let w2 =
+    work_stood size n m stands later m1 m2 c.look-seen.result c.in_ok-word.word w1
+    c.in_ok-word.ensures.stands in
+    let l = c.in-Some-stop_if_cancelled.ensures.stopped in (
+      l.0,
+      l.1,
+      stopped_then m m2 c.stop_if_cancelled.new.seat.seat.me n c.in-Some-stop_if_cancelled.by w2.holds
+          l.2,
+    )
 
 pub stay_or_back_off-requires-clause-orderly : goal.stay_or_back_off-requires-clause-orderly
-stay_or_back_off-requires-clause-orderly c = let size = length (first_graph c.args.board.now.table.shared.key) in let n = c.args.lock in let later = looks_again c.args.arrival.now in let stands = has_joined c.args.arrival.now in let m = c.args.seat.now.seat.me in let m1 = c.look-seen.new.self.seat.me in
+stay_or_back_off-requires-clause-orderly c = let size = length (first_graph c.args.board.now.table.shared.key) in
+    let n = c.args.lock in let later = looks_again c.args.arrival.now in
+    let stands = has_joined c.args.arrival.now in let m = c.args.seat.now.seat.me in
+    let m1 = c.look-seen.new.self.seat.me in
     let w1 = work_looked size n stands later m m1 c.look-seen.result c.requires.orderly c.requires.work c.look-seen.ensures.looked in
-    let m2 = c.stand.new.seat.seat.me in let w2 = work_stood size n m stands later m1 m2 c.look-seen.result c.in_ok-word.word w1 c.in_ok-word.ensures.stands in
+    let m2 = c.stand.new.seat.seat.me in let w2 =
+    work_stood size n m stands later m1 m2 c.look-seen.result c.in_ok-word.word w1
+    c.in_ok-word.ensures.stands in
     let m3 = c.stop_if_cancelled.new.seat.seat.me in let w3 = work_goes_on size n m later m2 m3 w2 c.in_default.ensures.goes_on in
     w3.orderly
 
 pub stay_or_back_off-requires-clause-work : goal.stay_or_back_off-requires-clause-work
-stay_or_back_off-requires-clause-work c = let size = length (first_graph c.args.board.now.table.shared.key) in let n = c.args.lock in let later = looks_again c.args.arrival.now in let stands = has_joined c.args.arrival.now in let m = c.args.seat.now.seat.me in let m1 = c.look-seen.new.self.seat.me in
+stay_or_back_off-requires-clause-work c = let size = length (first_graph c.args.board.now.table.shared.key) in
+    let n = c.args.lock in let later = looks_again c.args.arrival.now in
+    let stands = has_joined c.args.arrival.now in let m = c.args.seat.now.seat.me in
+    let m1 = c.look-seen.new.self.seat.me in
     let w1 = work_looked size n stands later m m1 c.look-seen.result c.requires.orderly c.requires.work c.look-seen.ensures.looked in
-    let m2 = c.stand.new.seat.seat.me in let w2 = work_stood size n m stands later m1 m2 c.look-seen.result c.in_ok-word.word w1 c.in_ok-word.ensures.stands in
+    let m2 = c.stand.new.seat.seat.me in let w2 =
+    work_stood size n m stands later m1 m2 c.look-seen.result c.in_ok-word.word w1
+    c.in_ok-word.ensures.stands in
     let m3 = c.stop_if_cancelled.new.seat.seat.me in let w3 = work_goes_on size n m later m2 m3 w2 c.in_default.ensures.goes_on in
     subst (λ (b : Bool). IsWorking n true b m3.0.part.core) (sym c.joining.ensures.again) w3.working
 
 pub stay_or_back_off-requires-clause-seen : goal.stay_or_back_off-requires-clause-seen
-stay_or_back_off-requires-clause-seen c = let size = length (first_graph c.args.board.now.table.shared.key) in let n = c.args.lock in let later = looks_again c.args.arrival.now in let stands = has_joined c.args.arrival.now in let m = c.args.seat.now.seat.me in let m1 = c.look-seen.new.self.seat.me in
+stay_or_back_off-requires-clause-seen c = let size = length (first_graph c.args.board.now.table.shared.key) in
+    let n = c.args.lock in let later = looks_again c.args.arrival.now in
+    let stands = has_joined c.args.arrival.now in let m = c.args.seat.now.seat.me in
+    let m1 = c.look-seen.new.self.seat.me in
     let w1 = work_looked size n stands later m m1 c.look-seen.result c.requires.orderly c.requires.work c.look-seen.ensures.looked in
-    let m2 = c.stand.new.seat.seat.me in let w2 = work_stood size n m stands later m1 m2 c.look-seen.result c.in_ok-word.word w1 c.in_ok-word.ensures.stands in
+    let m2 = c.stand.new.seat.seat.me in let w2 =
+    work_stood size n m stands later m1 m2 c.look-seen.result c.in_ok-word.word w1
+    c.in_ok-word.ensures.stands in
     let m3 = c.stop_if_cancelled.new.seat.seat.me in let w3 = work_goes_on size n m later m2 m3 w2 c.in_default.ensures.goes_on in
     goes_on_sees size m2 m3 c.in_ok-word.word c.in_default.ensures.goes_on c.in_ok-word.ensures.stands.sees
 
 pub stay_or_back_off-requires-clause-flags : goal.stay_or_back_off-requires-clause-flags
-stay_or_back_off-requires-clause-flags c = λ again. flags_later c.args.lock (has_joined c.args.arrival.now) (looks_again c.args.arrival.now) c.args.seat.now.seat.me.0.part.core c.look-seen.result c.in_ok-word.word c.requires.work c.look-seen.ensures.flags c.in_ok-word.ensures.stands.flags (sym c.joining.ensures.again ∙ again)
+stay_or_back_off-requires-clause-flags c =
+    λ again. flags_later c.args.lock (has_joined c.args.arrival.now) (looks_again c.args.arrival.now)
+    c.args.seat.now.seat.me.0.part.core c.look-seen.result c.in_ok-word.word c.requires.work
+    c.look-seen.ensures.flags c.in_ok-word.ensures.stands.flags (sym c.joining.ensures.again ∙ again)
 
 pub returns-clause-look : goal.returns-clause-look
-returns-clause-look c = let size = length (first_graph c.args.board.now.table.shared.key) in let n = c.args.lock in let later = looks_again c.args.arrival.now in let stands = has_joined c.args.arrival.now in let m = c.args.seat.now.seat.me in let m1 = c.look-seen.new.self.seat.me in
+returns-clause-look c = let size = length (first_graph c.args.board.now.table.shared.key) in let n = c.args.lock in
+    let later = looks_again c.args.arrival.now in let stands = has_joined c.args.arrival.now in
+    let m = c.args.seat.now.seat.me in let m1 = c.look-seen.new.self.seat.me in
     let w1 = work_looked size n stands later m m1 c.look-seen.result c.requires.orderly c.requires.work c.look-seen.ensures.looked in
-    let m2 = c.stand.new.seat.seat.me in let w2 = work_stood size n m stands later m1 m2 c.look-seen.result c.in_ok-word.word w1 c.in_ok-word.ensures.stands in
+    let m2 = c.stand.new.seat.seat.me in let w2 =
+    work_stood size n m stands later m1 m2 c.look-seen.result c.in_ok-word.word w1
+    c.in_ok-word.ensures.stands in
     let m3 = c.stop_if_cancelled.new.seat.seat.me in let w3 = work_goes_on size n m later m2 m3 w2 c.in_default.ensures.goes_on in
     look_later size n m m3 c.stay_or_back_off.new.seat.seat.me c.stay_or_back_off.result w3.holds c.stay_or_back_off.ensures.look
 
-pub returns-clause-tries : goal.returns-clause-tries
-returns-clause-tries c = let size = length (first_graph c.args.board.now.table.shared.key) in let n = c.args.lock in let later = looks_again c.args.arrival.now in let stands = has_joined c.args.arrival.now in let m = c.args.seat.now.seat.me in let m1 = c.look-seen.new.self.seat.me in
-    let w1 = work_looked size n stands later m m1 c.look-seen.result c.requires.orderly c.requires.work c.look-seen.ensures.looked in
-    let m2 = c.stand.new.seat.seat.me in let w2 = work_stood size n m stands later m1 m2 c.look-seen.result c.in_ok-word.word w1 c.in_ok-word.ensures.stands in
-    let m3 = c.stop_if_cancelled.new.seat.seat.me in let w3 = work_goes_on size n m later m2 m3 w2 c.in_default.ensures.goes_on in
-    tries_later m m3 c.stay_or_back_off.new.seat.seat.me c.stay_or_back_off.result w3.tries c.stay_or_back_off.ensures.tries
-
 pub returns-clause-lost : goal.returns-clause-lost
-returns-clause-lost c = let size = length (first_graph c.args.board.now.table.shared.key) in let n = c.args.lock in let later = looks_again c.args.arrival.now in let stands = has_joined c.args.arrival.now in let m = c.args.seat.now.seat.me in let m1 = c.look-seen.new.self.seat.me in
+returns-clause-lost c = let size = length (first_graph c.args.board.now.table.shared.key) in let n = c.args.lock in
+    let later = looks_again c.args.arrival.now in let stands = has_joined c.args.arrival.now in
+    let m = c.args.seat.now.seat.me in let m1 = c.look-seen.new.self.seat.me in
     let w1 = work_looked size n stands later m m1 c.look-seen.result c.requires.orderly c.requires.work c.look-seen.ensures.looked in
-    let m2 = c.stand.new.seat.seat.me in let w2 = work_stood size n m stands later m1 m2 c.look-seen.result c.in_ok-word.word w1 c.in_ok-word.ensures.stands in
+    let m2 = c.stand.new.seat.seat.me in let w2 =
+    work_stood size n m stands later m1 m2 c.look-seen.result c.in_ok-word.word w1
+    c.in_ok-word.ensures.stands in
     let m3 = c.stop_if_cancelled.new.seat.seat.me in let w3 = work_goes_on size n m later m2 m3 w2 c.in_default.ensures.goes_on in
     let now = looks_again c.joining.result in let m4 = c.stay_or_back_off.new.seat.seat.me in
     subst (λ (b : Bool). IfNone c.stay_or_back_off.result (IsAtWork size n m b now m4)) (sym c.joining.ensures.joined)
-    (work_later size n m true now m3 m4 c.stay_or_back_off.result (subst (λ (b : Bool). IsAtWork size n m true b m3) (sym c.joining.ensures.again) w3) c.stay_or_back_off.ensures.lost)
+    (work_later size n m true now m3 m4 c.stay_or_back_off.result
+    (subst (λ (b : Bool). IsAtWork size n m true b m3) (sym c.joining.ensures.again) w3)
+    c.stay_or_back_off.ensures.lost)
 
 pub take_inside-requires-clause-woken : goal.take_inside-requires-clause-woken
-take_inside-requires-clause-woken c = woken_looked c.args.seat.now.seat.me c.look-seen.new.self.seat.me c.look-seen.result _ c.look-seen.ensures.looked c.requires.woken
+take_inside-requires-clause-woken c = woken_looked c.args.seat.now.seat.me c.look-seen.new.self.seat.me
+    c.look-seen.result _ c.look-seen.ensures.looked c.requires.woken
 
 pub returns-in_err-word-clause-marked : goal.returns-in_err-word-clause-marked
-returns-in_err-word-clause-marked c = let m1 = c.look-seen.new.self.seat.me in marked_none c.stand.new.seat.seat.me _ (woken_still m1 c.stand.new.seat.seat.me _ c.stand.ensures.condemned
+returns-in_err-word-clause-marked c = let m1 = c.look-seen.new.self.seat.me in
+    marked_none c.stand.new.seat.seat.me _ (woken_still m1 c.stand.new.seat.seat.me _ c.stand.ensures.condemned
     (woken_looked c.args.seat.now.seat.me m1 c.look-seen.result _ c.look-seen.ensures.looked c.requires.woken))
 
 pub returns-in-Some-stop_if_cancelled-clause-marked : goal.returns-in-Some-stop_if_cancelled-clause-marked
 returns-in-Some-stop_if_cancelled-clause-marked c = let m1 = c.look-seen.new.self.seat.me in let m2 = c.stand.new.seat.seat.me in
-    marked_none c.stop_if_cancelled.new.seat.seat.me _ (woken_still m2 c.stop_if_cancelled.new.seat.seat.me _ c.stop_if_cancelled.ensures.condemned (woken_still m1 m2 _ c.stand.ensures.condemned
+    marked_none c.stop_if_cancelled.new.seat.seat.me _
+    (woken_still m2 c.stop_if_cancelled.new.seat.seat.me _ c.stop_if_cancelled.ensures.condemned
+    (woken_still m1 m2 _ c.stand.ensures.condemned
     (woken_looked c.args.seat.now.seat.me m1 c.look-seen.result _ c.look-seen.ensures.looked c.requires.woken)))
 
 pub stay_or_back_off-requires-clause-woken : goal.stay_or_back_off-requires-clause-woken
 stay_or_back_off-requires-clause-woken c = let m1 = c.look-seen.new.self.seat.me in let m2 = c.stand.new.seat.seat.me in
-    woken_still m2 c.stop_if_cancelled.new.seat.seat.me _ c.stop_if_cancelled.ensures.condemned (woken_still m1 m2 _ c.stand.ensures.condemned
+    woken_still m2 c.stop_if_cancelled.new.seat.seat.me _ c.stop_if_cancelled.ensures.condemned
+    (woken_still m1 m2 _ c.stand.ensures.condemned
     (woken_looked c.args.seat.now.seat.me m1 c.look-seen.result _ c.look-seen.ensures.looked c.requires.woken))
 
 pub returns-in-Some-clause-attempted : goal.returns-in-Some-clause-attempted
-returns-in-Some-clause-attempted c = c.take_inside.ensures.attempts ∙ look_counts c.args.seat.now.seat.me c.look-seen.new.self.seat.me c.look-seen.result c.look-seen.ensures.looked
+returns-in-Some-clause-attempted c = c.take_inside.ensures.attempts
+    ∙ look_counts c.args.seat.now.seat.me c.look-seen.new.self.seat.me c.look-seen.result c.look-seen.ensures.looked
 
 pub returns-in-None-clause-attempted : goal.returns-in-None-clause-attempted
-returns-in-None-clause-attempted c = c.take_inside.ensures.attempts ∙ look_counts c.args.seat.now.seat.me c.look-seen.new.self.seat.me c.look-seen.result c.look-seen.ensures.looked
+returns-in-None-clause-attempted c = c.take_inside.ensures.attempts
+    ∙ look_counts c.args.seat.now.seat.me c.look-seen.new.self.seat.me c.look-seen.result c.look-seen.ensures.looked
 
 pub returns-in_err-word-clause-attempted : goal.returns-in_err-word-clause-attempted
-returns-in_err-word-clause-attempted c = c.stand.ensures.condemned.attempts ∙ look_counts c.args.seat.now.seat.me c.look-seen.new.self.seat.me c.look-seen.result c.look-seen.ensures.looked
+returns-in_err-word-clause-attempted c = c.stand.ensures.condemned.attempts
+    ∙ look_counts c.args.seat.now.seat.me c.look-seen.new.self.seat.me c.look-seen.result c.look-seen.ensures.looked
 
 pub returns-in-Some-stop_if_cancelled-clause-attempted : goal.returns-in-Some-stop_if_cancelled-clause-attempted
-returns-in-Some-stop_if_cancelled-clause-attempted c = c.stop_if_cancelled.ensures.condemned.attempts ∙ c.stand.ensures.condemned.attempts ∙ look_counts c.args.seat.now.seat.me c.look-seen.new.self.seat.me c.look-seen.result c.look-seen.ensures.looked
+returns-in-Some-stop_if_cancelled-clause-attempted c = c.stop_if_cancelled.ensures.condemned.attempts
+    ∙ c.stand.ensures.condemned.attempts ∙ look_counts c.args.seat.now.seat.me c.look-seen.new.self.seat.me
+    c.look-seen.result c.look-seen.ensures.looked
 
 pub returns-clause-attempted : goal.returns-clause-attempted
-returns-clause-attempted c = c.stay_or_back_off.ensures.attempts ∙ c.stop_if_cancelled.ensures.condemned.attempts ∙ c.stand.ensures.condemned.attempts ∙ look_counts c.args.seat.now.seat.me c.look-seen.new.self.seat.me c.look-seen.result c.look-seen.ensures.looked
+returns-clause-attempted c = c.stay_or_back_off.ensures.attempts ∙ c.stop_if_cancelled.ensures.condemned.attempts
+    ∙ c.stand.ensures.condemned.attempts ∙ look_counts c.args.seat.now.seat.me c.look-seen.new.self.seat.me
+    c.look-seen.result c.look-seen.ensures.looked
 
 pub stand-requires-clause-holds : goal.stand-requires-clause-holds
-stand-requires-clause-holds c = ap (λ (z : Sat). any_below (length z.0.part.core.owned) (owns z.0.part.core)) c.look-seen.ensures.looked ∙ c.requires.holds
+stand-requires-clause-holds c = ap (λ (z : Sat). any_below (length z.0.part.core.owned) (owns z.0.part.core))
+    c.look-seen.ensures.looked ∙ c.requires.holds
 
 pub returns-in-None-clause-lost : goal.returns-in-None-clause-lost
-returns-in-None-clause-lost c = let size = length (first_graph c.args.board.now.table.shared.key) in let n = c.args.lock in let later = looks_again c.args.arrival.now in let stands = has_joined c.args.arrival.now in let m = c.args.seat.now.seat.me in let m1 = c.look-seen.new.self.seat.me in
+returns-in-None-clause-lost c = let size = length (first_graph c.args.board.now.table.shared.key) in
+    let n = c.args.lock in let later = looks_again c.args.arrival.now in
+    let stands = has_joined c.args.arrival.now in let m = c.args.seat.now.seat.me in
+    let m1 = c.look-seen.new.self.seat.me in
     let w1 = work_looked size n stands later m m1 c.look-seen.result c.requires.orderly c.requires.work c.look-seen.ensures.looked in
     work_touched size n m stands later m1 c.take_inside.new.seat.seat.me w1 c.in-None.ensures.lost
+
+pub returns-clause-uncancelled : goal.returns-clause-uncancelled
+returns-clause-uncancelled c = waits_so c.args.heeds c.stop_if_cancelled.new.seat.seat.me.0.part.core.uncancelled
+    c.stay_or_back_off.new.seat.seat.me.0.part.core c.stay_or_back_off.result
+    c.in_default.ensures.uncancelled c.stay_or_back_off.ensures.uncancelled

@@ -5,4 +5,7 @@ use Rattle.ww_seat.specs.Work.{AreMarked, HasToWake, HasNoted}
 use Rattle.ww_seat.proofs.signs.sign_all.Given as goal
 
 abbrev pub invariant-loop-pair : goal.invariant-loop-pair
-invariant-loop-pair l = IsSeated l.board.table.shared.table_id l.seat × HasNoted (length (first_graph l.board.table.shared.key)) (take l.pair-index l.pair-items) l.fn.seat.seat.me l.seat.seat.me × (l.seat.records ≡ l.fn.seat.records) × AreMarked l.fn.wake.seats (HasToWake l.seat.seat.me.0.part.core) l.wake.seats
+invariant-loop-pair l = IsSeated l.board.table.shared.table_id l.seat
+    × HasNoted (length (first_graph l.board.table.shared.key)) (take l.pair-index l.pair-items) l.fn.seat.seat.me
+    l.seat.seat.me × (l.seat.records ≡ l.fn.seat.records)
+    × AreMarked l.fn.wake.seats (HasToWake l.seat.seat.me.0.part.core) l.wake.seats

@@ -20,21 +20,34 @@ returns-then-first-who-clause-touched c = touched_read _ c.args.lock c.args.seat
 pub returns-then-first-who-clause-asked : goal.returns-then-first-who-clause-asked
 returns-then-first-who-clause-asked c = let m = c.args.seat.now.seat.me in record {
   sees = sees_read c.args.lock m c.first.new.self.seat.me c.args.seen c.requires.seen c.first.ensures.read;
-  asked = λ _. nothing_by_other c.args.lock m c.first.new.self.seat.me c.args.seen c.in_ok-first.first _ c.requires.seen c.first.ensures.read (sym c.first.ensures.first ∙ c.in_ok-first.was) (sym (read_who c.args.lock m c.first.new.self.seat.me _ c.first.ensures.read c.first.ensures.seat.who)) (λ same. c.if-first-who.true (same ∙ sym c.who.ensures));
+  asked = λ _. nothing_by_other c.args.lock m c.first.new.self.seat.me c.args.seen c.in_ok-first.first _
+      c.requires.seen c.first.ensures.read (sym c.first.ensures.first ∙ c.in_ok-first.was)
+      (sym (read_who c.args.lock m c.first.new.self.seat.me _ c.first.ensures.read c.first.ensures.seat.who))
+      (λ same. c.if-first-who.true (same ∙ sym c.who.ensures));
 }
 
 pub ask-requires-clause-may : goal.ask-requires-clause-may
 ask-requires-clause-may c = let m = c.args.seat.now.seat.me in
-    may_ask c.args.lock m c.first.new.self.seat.me c.args.seen c.in_ok-first.first _ (later_work c.args.lock (looks_again c.args.arrival) m.0.part.core (sym c.looks_again.ensures ∙ c.if-not-looks_again.false) c.requires.work) c.requires.seen c.first.ensures.read (sym c.first.ensures.first ∙ c.in_ok-first.was)
-    (sym (read_who c.args.lock m c.first.new.self.seat.me _ c.first.ensures.read c.first.ensures.seat.who)) (c.if-first-who.false ∙ c.who.ensures) c.if-seen-ne-WAITERS.false
+    may_ask c.args.lock m c.first.new.self.seat.me c.args.seen c.in_ok-first.first _
+    (later_work c.args.lock (looks_again c.args.arrival) m.0.part.core
+    (sym c.looks_again.ensures ∙ c.if-not-looks_again.false) c.requires.work) c.requires.seen
+    c.first.ensures.read (sym c.first.ensures.first ∙ c.in_ok-first.was)
+    (sym (read_who c.args.lock m c.first.new.self.seat.me _ c.first.ensures.read c.first.ensures.seat.who))
+    (c.if-first-who.false ∙ c.who.ensures) c.if-seen-ne-WAITERS.false
 
 pub returns-then-not-ask-clause-touched : goal.returns-then-not-ask-clause-touched
 returns-then-not-ask-clause-touched c = let m = c.args.seat.now.seat.me in let m1 = c.first.new.self.seat.me in
-    let t = touched_read _ c.args.lock m m1 c.requires.orderly c.first.ensures.read in touched_then _ m m1 c.ask.new.self.seat.me t (touched_lost _ m1 c.ask.new.self.seat.me t.orderly (c.ask.ensures.lost c.if-not-ask.true))
+    let t = touched_read _ c.args.lock m m1 c.requires.orderly c.first.ensures.read in
+    touched_then _ m m1 c.ask.new.self.seat.me t
+    (touched_lost _ m1 c.ask.new.self.seat.me t.orderly (c.ask.ensures.lost c.if-not-ask.true))
 
 pub returns-clause-touched : goal.returns-clause-touched
 returns-clause-touched c = let m = c.args.seat.now.seat.me in let m1 = c.first.new.self.seat.me in
-    let t = touched_read _ c.args.lock m m1 c.requires.orderly c.first.ensures.read in touched_then _ m m1 c.ask.new.self.seat.me t (touched_asking _ m1 c.ask.new.self.seat.me c.args.seen t.orderly (c.ask.ensures.asked c.if-not-ask.false))
+    let t = touched_read _ c.args.lock m m1 c.requires.orderly c.first.ensures.read in
+    touched_then _ m m1 c.ask.new.self.seat.me t
+    (touched_asking _ m1 c.ask.new.self.seat.me c.args.seen t.orderly (c.ask.ensures.asked c.if-not-ask.false))
 
 pub returns-clause-asked : goal.returns-clause-asked
-returns-clause-asked c = has_asked c.args.lock c.args.seat.now.seat.me c.first.new.self.seat.me c.ask.new.self.seat.me c.args.seen (looks_again c.args.arrival) c.requires.seen c.first.ensures.read (c.ask.ensures.asked c.if-not-ask.false)
+returns-clause-asked c = has_asked c.args.lock c.args.seat.now.seat.me c.first.new.self.seat.me
+    c.ask.new.self.seat.me c.args.seen (looks_again c.args.arrival) c.requires.seen c.first.ensures.read
+    (c.ask.ensures.asked c.if-not-ask.false)

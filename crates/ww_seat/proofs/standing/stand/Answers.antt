@@ -8,10 +8,14 @@ use Rattle.ww_seat.proofs.Stood.{may_join, has_stood, stood_already}
 use Rattle.ww_seat.proofs.standing.stand.Goals as goal
 
 pub returns-then-has_joined-clause-stands : goal.returns-then-has_joined-clause-stands
-returns-then-has_joined-clause-stands c = stood_already _ c.args.lock c.args.seat.now.seat.me c.args.seen (has_joined c.args.arrival) c.requires.orderly (sym c.has_joined.ensures ∙ c.if-has_joined.true) c.requires.seen
+returns-then-has_joined-clause-stands c =
+    stood_already _ c.args.lock c.args.seat.now.seat.me c.args.seen (has_joined c.args.arrival) c.requires.orderly
+    (sym c.has_joined.ensures ∙ c.if-has_joined.true) c.requires.seen
 
 pub join-requires-clause-may : goal.join-requires-clause-may
-join-requires-clause-may c = may_join c.args.lock c.requires.work.0 c.args.seat.now.seat.me.0.part.core c.args.seen (subst (λ (b : Bool). IsWorking c.args.lock b c.requires.work.0 c.args.seat.now.seat.me.0.part.core) (sym c.has_joined.ensures ∙ c.if-has_joined.false) c.requires.work.1) c.requires.seen
+join-requires-clause-may c = may_join c.args.lock c.requires.work.0 c.args.seat.now.seat.me.0.part.core c.args.seen
+    (subst (λ (b : Bool). IsWorking c.args.lock b c.requires.work.0 c.args.seat.now.seat.me.0.part.core)
+    (sym c.has_joined.ensures ∙ c.if-has_joined.false) c.requires.work.1) c.requires.seen
 
 pub join-requires-clause-list : goal.join-requires-clause-list
 join-requires-clause-list c = c.requires.orderly.list c.args.lock c.requires.work.1.inside
@@ -20,11 +24,20 @@ pub returns-then-not-join-clause-lost : goal.returns-then-not-join-clause-lost
 returns-then-not-join-clause-lost c = touched_lost _ c.args.seat.now.seat.me _ c.requires.orderly (c.join.ensures.lost c.if-not-join.true)
 
 pub returns-clause-stands : goal.returns-clause-stands
-returns-clause-stands c = has_stood _ c.args.lock c.args.seat.now.seat.me c.join.new.self.seat.me c.args.seen c.with_waiters.result (has_joined c.args.arrival) c.requires.orderly (sym c.has_joined.ensures ∙ c.if-has_joined.false) c.requires.work.1.inside
-    (subst (λ (x : ℕ). x < 16) (sym c.requires.seat.who) c.requires.seat.few) (subst (λ (x : ℕ). x < 2 ^ 56) (sym c.requires.seat.stamp) c.requires.seat.small) c.requires.seen (c.join.ensures.joined c.if-not-join.false) c.with_waiters.ensures.same (c.with_waiters.ensures.valid c.requires.seen.valid)
+returns-clause-stands c = has_stood _ c.args.lock c.args.seat.now.seat.me c.join.new.self.seat.me c.args.seen
+    c.with_waiters.result (has_joined c.args.arrival) c.requires.orderly
+    (sym c.has_joined.ensures ∙ c.if-has_joined.false) c.requires.work.1.inside
+    (subst (λ (x : ℕ). x < 16) (sym c.requires.seat.who) c.requires.seat.few)
+    (subst (λ (x : ℕ). x < 2 ^ 56) (sym c.requires.seat.stamp) c.requires.seat.small) c.requires.seen
+    (c.join.ensures.joined c.if-not-join.false) c.with_waiters.ensures.same
+    (c.with_waiters.ensures.valid c.requires.seen.valid)
 
 pub returns-then-not-join-clause-condemned : goal.returns-then-not-join-clause-condemned
-returns-then-not-join-clause-condemned c = none_condemned c.args.seat.now.seat.me c.join.new.self.seat.me (lost c.args.seat.now.seat.me.0) (ap (λ (z : Sat). z.0) (c.join.ensures.lost c.if-not-join.true)) refl refl refl
+returns-then-not-join-clause-condemned c =
+    none_condemned c.args.seat.now.seat.me c.join.new.self.seat.me (lost c.args.seat.now.seat.me.0)
+    (ap (λ (z : Sat). z.0) (c.join.ensures.lost c.if-not-join.true)) refl refl refl
 
 pub returns-clause-condemned : goal.returns-clause-condemned
-returns-clause-condemned c = none_condemned c.args.seat.now.seat.me c.join.new.self.seat.me (joining c.args.seat.now.seat.me.0 c.args.lock c.args.seen) (ap (λ (z : Sat). z.0) (c.join.ensures.joined c.if-not-join.false).2) refl refl refl
+returns-clause-condemned c = none_condemned c.args.seat.now.seat.me c.join.new.self.seat.me
+    (joining c.args.seat.now.seat.me.0 c.args.lock c.args.seen)
+    (ap (λ (z : Sat). z.0) (c.join.ensures.joined c.if-not-join.false).2) refl refl refl

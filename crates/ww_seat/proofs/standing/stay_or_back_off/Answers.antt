@@ -12,75 +12,127 @@ use Rattle.ww_seat.proofs.Stood.{stays_goes, stays_outside}
 use Rattle.ww_seat.proofs.standing.stay_or_back_off.Goals as goal
 
 pub returns-in_err-word-clause-lost : goal.returns-in_err-word-clause-lost
-returns-in_err-word-clause-lost c = let size = length (first_graph c.args.board.now.table.shared.key) in let n = c.args.lock in let later = looks_again c.args.arrival in let m = c.args.seat.now.seat.me in
-    if_none c.from_residual.result _ (λ _. work_touched size n m true later m c.ask_if_first.new.seat.seat.me (work_same size n true later m c.requires.orderly c.requires.work) c.ask_if_first.ensures.touched)
+returns-in_err-word-clause-lost c = let size = length (first_graph c.args.board.now.table.shared.key) in
+    let n = c.args.lock in let later = looks_again c.args.arrival in let m = c.args.seat.now.seat.me in
+    if_none c.from_residual.result _ (λ _. work_touched size n m true later m c.ask_if_first.new.seat.seat.me
+    (work_same size n true later m c.requires.orderly c.requires.work) c.ask_if_first.ensures.touched)
 
 pub death-requires-clause-work : goal.death-requires-clause-work
-death-requires-clause-work c = let size = length (first_graph c.args.board.now.table.shared.key) in let n = c.args.lock in let later = looks_again c.args.arrival in let m = c.args.seat.now.seat.me in let m1 = c.ask_if_first.new.seat.seat.me in let m2 = c.sign_all.new.seat.seat.me in
-    let w1 = work_touched size n m true later m m1 (work_same size n true later m c.requires.orderly c.requires.work) c.ask_if_first.ensures.touched in
+death-requires-clause-work c = let size = length (first_graph c.args.board.now.table.shared.key) in
+    let n = c.args.lock in let later = looks_again c.args.arrival in let m = c.args.seat.now.seat.me in
+    let m1 = c.ask_if_first.new.seat.seat.me in let m2 = c.sign_all.new.seat.seat.me in
+    let w1 = work_touched size n m true later m m1
+    (work_same size n true later m c.requires.orderly c.requires.work) c.ask_if_first.ensures.touched in
     let w2 = work_noted size n m true later _ m1 m2 w1 c.sign_all.ensures.signed in (later, w2.working)
 
 pub leave-requires-clause-may : goal.leave-requires-clause-may
-leave-requires-clause-may c = let size = length (first_graph c.args.board.now.table.shared.key) in let n = c.args.lock in let later = looks_again c.args.arrival in let m = c.args.seat.now.seat.me in let m1 = c.ask_if_first.new.seat.seat.me in
-    let w1 = work_touched size n m true later m m1 (work_same size n true later m c.requires.orderly c.requires.work) c.ask_if_first.ensures.touched in
-    stays_goes size n later m1 c.sign_all.new.seat.seat.me c.death.new.seat.seat.me c.in_ok-word.word w1.working c.in_ok-word.ensures.asked c.sign_all.ensures.signed c.death.ensures.told c.in-None.ensures.life
+leave-requires-clause-may c = let size = length (first_graph c.args.board.now.table.shared.key) in
+    let n = c.args.lock in let later = looks_again c.args.arrival in let m = c.args.seat.now.seat.me in
+    let m1 = c.ask_if_first.new.seat.seat.me in
+    let w1 = work_touched size n m true later m m1
+    (work_same size n true later m c.requires.orderly c.requires.work) c.ask_if_first.ensures.touched in
+    stays_goes size n later m1 c.sign_all.new.seat.seat.me c.death.new.seat.seat.me c.in_ok-word.word w1.working
+    c.in_ok-word.ensures.asked c.sign_all.ensures.signed c.death.ensures.told c.in-None.ensures.life
 
 pub returns-in-None-clause-look : goal.returns-in-None-clause-look
-returns-in-None-clause-look c = let size = length (first_graph c.args.board.now.table.shared.key) in let n = c.args.lock in let later = looks_again c.args.arrival in let m = c.args.seat.now.seat.me in let m1 = c.ask_if_first.new.seat.seat.me in let m2 = c.sign_all.new.seat.seat.me in let m3 = c.death.new.seat.seat.me in
-    let w1 = work_touched size n m true later m m1 (work_same size n true later m c.requires.orderly c.requires.work) c.ask_if_first.ensures.touched in
+returns-in-None-clause-look c = let size = length (first_graph c.args.board.now.table.shared.key) in
+    let n = c.args.lock in let later = looks_again c.args.arrival in let m = c.args.seat.now.seat.me in
+    let m1 = c.ask_if_first.new.seat.seat.me in let m2 = c.sign_all.new.seat.seat.me in
+    let m3 = c.death.new.seat.seat.me in
+    let w1 = work_touched size n m true later m m1
+    (work_same size n true later m c.requires.orderly c.requires.work) c.ask_if_first.ensures.touched in
     let w2 = work_noted size n m true later _ m1 m2 w1 c.sign_all.ensures.signed in
     let w3 = work_told size n m true later m2 m3 w2 c.death.ensures.told in
-    look_then size n m m3 c.leave.new.seat.seat.me Waits w3.holds (stays_outside size n later m3 c.leave.new.seat.seat.me w3.working c.leave.ensures.view c.leave.ensures.orderly)
+    look_then size n m m3 c.leave.new.seat.seat.me Waits w3.holds
+    (stays_outside size n later m3 c.leave.new.seat.seat.me w3.working c.leave.ensures.view
+    c.leave.ensures.orderly)
 
 pub back_off-requires-clause-work : goal.back_off-requires-clause-work
-back_off-requires-clause-work c = let size = length (first_graph c.args.board.now.table.shared.key) in let n = c.args.lock in let later = looks_again c.args.arrival in let m = c.args.seat.now.seat.me in let m1 = c.ask_if_first.new.seat.seat.me in let m2 = c.sign_all.new.seat.seat.me in let m3 = c.death.new.seat.seat.me in
-    let w1 = work_touched size n m true later m m1 (work_same size n true later m c.requires.orderly c.requires.work) c.ask_if_first.ensures.touched in
+back_off-requires-clause-work c = let size = length (first_graph c.args.board.now.table.shared.key) in
+    let n = c.args.lock in let later = looks_again c.args.arrival in let m = c.args.seat.now.seat.me in
+    let m1 = c.ask_if_first.new.seat.seat.me in let m2 = c.sign_all.new.seat.seat.me in
+    let m3 = c.death.new.seat.seat.me in
+    let w1 = work_touched size n m true later m m1
+    (work_same size n true later m c.requires.orderly c.requires.work) c.ask_if_first.ensures.touched in
     let w2 = work_noted size n m true later _ m1 m2 w1 c.sign_all.ensures.signed in
     let w3 = work_told size n m true later m2 m3 w2 c.death.ensures.told in (later, w3.working)
 
 pub returns-then-not-back_off-clause-lost : goal.returns-then-not-back_off-clause-lost
-returns-then-not-back_off-clause-lost c = let size = length (first_graph c.args.board.now.table.shared.key) in let n = c.args.lock in let later = looks_again c.args.arrival in let m = c.args.seat.now.seat.me in let m1 = c.ask_if_first.new.seat.seat.me in let m2 = c.sign_all.new.seat.seat.me in let m3 = c.death.new.seat.seat.me in
-    let w1 = work_touched size n m true later m m1 (work_same size n true later m c.requires.orderly c.requires.work) c.ask_if_first.ensures.touched in
+returns-then-not-back_off-clause-lost c = let size = length (first_graph c.args.board.now.table.shared.key) in
+    let n = c.args.lock in let later = looks_again c.args.arrival in let m = c.args.seat.now.seat.me in
+    let m1 = c.ask_if_first.new.seat.seat.me in let m2 = c.sign_all.new.seat.seat.me in
+    let m3 = c.death.new.seat.seat.me in
+    let w1 = work_touched size n m true later m m1
+    (work_same size n true later m c.requires.orderly c.requires.work) c.ask_if_first.ensures.touched in
     let w2 = work_noted size n m true later _ m1 m2 w1 c.sign_all.ensures.signed in
     let w3 = work_told size n m true later m2 m3 w2 c.death.ensures.told in
     work_touched size n m true later m3 c.back_off.new.seat.seat.me w3 (c.back_off.ensures.lost c.if-not-back_off.true)
 
 pub returns-else-not-back_off-clause-look : goal.returns-else-not-back_off-clause-look
-returns-else-not-back_off-clause-look c = let size = length (first_graph c.args.board.now.table.shared.key) in let n = c.args.lock in let later = looks_again c.args.arrival in let m = c.args.seat.now.seat.me in let m1 = c.ask_if_first.new.seat.seat.me in let m2 = c.sign_all.new.seat.seat.me in let m3 = c.death.new.seat.seat.me in
-    let w1 = work_touched size n m true later m m1 (work_same size n true later m c.requires.orderly c.requires.work) c.ask_if_first.ensures.touched in
+returns-else-not-back_off-clause-look c = let size = length (first_graph c.args.board.now.table.shared.key) in
+    let n = c.args.lock in let later = looks_again c.args.arrival in let m = c.args.seat.now.seat.me in
+    let m1 = c.ask_if_first.new.seat.seat.me in let m2 = c.sign_all.new.seat.seat.me in
+    let m3 = c.death.new.seat.seat.me in
+    let w1 = work_touched size n m true later m m1
+    (work_same size n true later m c.requires.orderly c.requires.work) c.ask_if_first.ensures.touched in
     let w2 = work_noted size n m true later _ m1 m2 w1 c.sign_all.ensures.signed in
     let w3 = work_told size n m true later m2 m3 w2 c.death.ensures.told in
-    look_then size n m m3 c.back_off.new.seat.seat.me (Deadlk c.in-Some.met) w3.holds (c.back_off.ensures.met c.if-not-back_off.false c.in-Some.met c.in-Some.ensures.death)
+    look_then size n m m3 c.back_off.new.seat.seat.me (Deadlk c.in-Some.met) w3.holds
+    (c.back_off.ensures.met c.if-not-back_off.false c.in-Some.met c.in-Some.ensures.death)
 
 pub returns-in_err-word-clause-marked : goal.returns-in_err-word-clause-marked
-returns-in_err-word-clause-marked c = marked_none c.ask_if_first.new.seat.seat.me _ (woken_touched (length (first_graph c.args.board.now.table.shared.key)) c.args.seat.now.seat.me c.ask_if_first.new.seat.seat.me _ c.ask_if_first.ensures.touched c.requires.woken)
+returns-in_err-word-clause-marked c = marked_none c.ask_if_first.new.seat.seat.me _
+    (woken_touched (length (first_graph c.args.board.now.table.shared.key)) c.args.seat.now.seat.me
+    c.ask_if_first.new.seat.seat.me _ c.ask_if_first.ensures.touched c.requires.woken)
 
 pub sign_all-requires-clause-woken : goal.sign_all-requires-clause-woken
-sign_all-requires-clause-woken c = woken_touched (length (first_graph c.args.board.now.table.shared.key)) c.args.seat.now.seat.me c.ask_if_first.new.seat.seat.me _ c.ask_if_first.ensures.touched c.requires.woken
+sign_all-requires-clause-woken c = woken_touched (length (first_graph c.args.board.now.table.shared.key))
+    c.args.seat.now.seat.me c.ask_if_first.new.seat.seat.me _ c.ask_if_first.ensures.touched c.requires.woken
 
 pub returns-in-None-clause-marked : goal.returns-in-None-clause-marked
-returns-in-None-clause-marked c = let m2 = c.sign_all.new.seat.seat.me in let m4 = c.leave.new.seat.seat.me in let t = c.death.ensures.told in
-    marked_still m2 m4 _ _ (none_condemned m2 m4 (exiting (knowing m2.0 (told m2.0.part.core t.sign t.fresh))) (c.leave.ensures.view ∙ ap exiting t.view) refl refl refl) c.sign_all.ensures.marked
+returns-in-None-clause-marked c = let m2 = c.sign_all.new.seat.seat.me in let m4 = c.leave.new.seat.seat.me in
+    let t = c.death.ensures.told in
+    marked_still m2 m4 _ _ (none_condemned m2 m4 (exiting (knowing m2.0 (told m2.0.part.core t.sign t.fresh)))
+    (c.leave.ensures.view ∙ ap exiting t.view) refl refl refl) c.sign_all.ensures.marked
 
 pub returns-then-not-back_off-clause-marked : goal.returns-then-not-back_off-clause-marked
-returns-then-not-back_off-clause-marked c = let m2 = c.sign_all.new.seat.seat.me in let m3 = c.death.new.seat.seat.me in let t = c.death.ensures.told in
-    marked_still m3 c.back_off.new.seat.seat.me _ _ c.back_off.ensures.condemned (marked_still m2 m3 _ _ (none_condemned m2 m3 (knowing m2.0 (told m2.0.part.core t.sign t.fresh)) t.view refl refl refl) c.sign_all.ensures.marked)
+returns-then-not-back_off-clause-marked c = let m2 = c.sign_all.new.seat.seat.me in
+    let m3 = c.death.new.seat.seat.me in let t = c.death.ensures.told in
+    marked_still m3 c.back_off.new.seat.seat.me _ _ c.back_off.ensures.condemned
+    (marked_still m2 m3 _ _ (none_condemned m2 m3 (knowing m2.0 (told m2.0.part.core t.sign t.fresh)) t.view
+    refl refl refl) c.sign_all.ensures.marked)
 
 pub returns-else-not-back_off-clause-marked : goal.returns-else-not-back_off-clause-marked
-returns-else-not-back_off-clause-marked c = let m2 = c.sign_all.new.seat.seat.me in let m3 = c.death.new.seat.seat.me in let t = c.death.ensures.told in
-    marked_still m3 c.back_off.new.seat.seat.me _ _ c.back_off.ensures.condemned (marked_still m2 m3 _ _ (none_condemned m2 m3 (knowing m2.0 (told m2.0.part.core t.sign t.fresh)) t.view refl refl refl) c.sign_all.ensures.marked)
+returns-else-not-back_off-clause-marked c = let m2 = c.sign_all.new.seat.seat.me in
+    let m3 = c.death.new.seat.seat.me in let t = c.death.ensures.told in
+    marked_still m3 c.back_off.new.seat.seat.me _ _ c.back_off.ensures.condemned
+    (marked_still m2 m3 _ _ (none_condemned m2 m3 (knowing m2.0 (told m2.0.part.core t.sign t.fresh)) t.view
+    refl refl refl) c.sign_all.ensures.marked)
 
 pub returns-in_err-word-clause-attempts : goal.returns-in_err-word-clause-attempts
 returns-in_err-word-clause-attempts c = ap (λ (z : Sight). z.part.core.attempts) c.ask_if_first.ensures.touched.view
 
 pub returns-in-None-clause-attempts : goal.returns-in-None-clause-attempts
-returns-in-None-clause-attempts c = ap (λ (z : Sight). z.part.core.attempts) (c.leave.ensures.view ∙ ap exiting c.death.ensures.told.view) ∙ ap (λ (z : Sight). z.part.core.attempts) c.sign_all.ensures.signed.view
+returns-in-None-clause-attempts c = ap (λ (z : Sight). z.part.core.attempts)
+    (c.leave.ensures.view ∙ ap exiting c.death.ensures.told.view)
+    ∙ ap (λ (z : Sight). z.part.core.attempts) c.sign_all.ensures.signed.view
     ∙ ap (λ (z : Sight). z.part.core.attempts) c.ask_if_first.ensures.touched.view
 
 pub returns-then-not-back_off-clause-attempts : goal.returns-then-not-back_off-clause-attempts
-returns-then-not-back_off-clause-attempts c = c.back_off.ensures.condemned.attempts ∙ ap (λ (z : Sight). z.part.core.attempts) c.death.ensures.told.view ∙ ap (λ (z : Sight). z.part.core.attempts) c.sign_all.ensures.signed.view
+returns-then-not-back_off-clause-attempts c = c.back_off.ensures.condemned.attempts
+    ∙ ap (λ (z : Sight). z.part.core.attempts) c.death.ensures.told.view
+    ∙ ap (λ (z : Sight). z.part.core.attempts) c.sign_all.ensures.signed.view
     ∙ ap (λ (z : Sight). z.part.core.attempts) c.ask_if_first.ensures.touched.view
 
 pub returns-else-not-back_off-clause-attempts : goal.returns-else-not-back_off-clause-attempts
-returns-else-not-back_off-clause-attempts c = c.back_off.ensures.condemned.attempts ∙ ap (λ (z : Sight). z.part.core.attempts) c.death.ensures.told.view ∙ ap (λ (z : Sight). z.part.core.attempts) c.sign_all.ensures.signed.view
+returns-else-not-back_off-clause-attempts c = c.back_off.ensures.condemned.attempts
+    ∙ ap (λ (z : Sight). z.part.core.attempts) c.death.ensures.told.view
+    ∙ ap (λ (z : Sight). z.part.core.attempts) c.sign_all.ensures.signed.view
     ∙ ap (λ (z : Sight). z.part.core.attempts) c.ask_if_first.ensures.touched.view
+
+pub returns-in-None-clause-uncancelled : goal.returns-in-None-clause-uncancelled
+returns-in-None-clause-uncancelled c =
+    λ found. ap (λ (z : Sight). z.part.core.uncancelled)
+    (c.leave.ensures.view ∙ ap exiting c.death.ensures.told.view)
+    ∙ ap (λ (z : Sight). z.part.core.uncancelled) c.sign_all.ensures.signed.view
+    ∙ ap (λ (z : Sight). z.part.core.uncancelled) c.ask_if_first.ensures.touched.view ∙ found

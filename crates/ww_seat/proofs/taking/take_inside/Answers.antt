@@ -10,10 +10,12 @@ use Rattle.ww_seat.proofs.taking.take_inside.Goals as goal
 
 pub own_word-word-requires-clause-list : goal.own_word-word-requires-clause-list
 own_word-word-requires-clause-list c = let t = c.take_seen.ensures.took c.if-not-take_seen.false in
-    t.1.orderly.list c.args.lock (owes_after _ c.args.lock c.requires.work.0 c.requires.work.1 c.args.seat.now.seat.me c.take_seen.new.seat.seat.me _ c.args.seen c.requires.work.2 t.1).inside
+    t.1.orderly.list c.args.lock (owes_after _ c.args.lock c.requires.work.0 c.requires.work.1
+    c.args.seat.now.seat.me c.take_seen.new.seat.seat.me _ c.args.seen c.requires.work.2 t.1).inside
 
 pub sign_all-requires : goal.sign_all-requires
-sign_all-requires c = let m = c.args.seat.now.seat.me in let m1 = c.take_seen.new.seat.seat.me in let m2 = c.own_word-word.new.seat.seat.me in
+sign_all-requires c = let m = c.args.seat.now.seat.me in let m1 = c.take_seen.new.seat.seat.me in
+    let m2 = c.own_word-word.new.seat.seat.me in
     let t = c.take_seen.ensures.took c.if-not-take_seen.false in
     let t2 = taken_read _ c.args.lock m m1 m2 _ t.1 c.own_word-word.ensures.read in
     let owes = owes_after _ c.args.lock c.requires.work.0 c.requires.work.1 m m2 _ c.args.seen c.requires.work.2 t2 in record {
@@ -34,33 +36,41 @@ leave-requires c = let m = c.args.seat.now.seat.me in let m1 = c.take_seen.new.s
       seat = c.sign_all.ensures.seat;
       lock = c.requires.lock;
       orderly = h.orderly;
-      may = taken_goes _ c.args.lock c.requires.work.0 c.requires.work.1 m m2 c.sign_all.new.seat.seat.me _ c.own_word-word.result c.requires.work.2 t2 (word_read c.args.lock m1 m2 _ c.own_word-word.ensures.read c.own_word-word.ensures.word) h;
+      may = taken_goes _ c.args.lock c.requires.work.0 c.requires.work.1 m m2 c.sign_all.new.seat.seat.me _
+          c.own_word-word.result c.requires.work.2 t2
+          (word_read c.args.lock m1 m2 _ c.own_word-word.ensures.read c.own_word-word.ensures.word) h;
     }
 
 pub node_or_blank-requires-clause-owner : goal.node_or_blank-requires-clause-owner
 node_or_blank-requires-clause-owner c = let m = c.args.seat.now.seat.me in let m2 = c.own_word-word.new.seat.seat.me in
-    let t2 = taken_read _ c.args.lock m c.take_seen.new.seat.seat.me m2 _ (c.take_seen.ensures.took c.if-not-take_seen.false).1 c.own_word-word.ensures.read in
-    own_out _ c.args.lock m m2 c.sign_all.new.seat.seat.me c.leave.new.seat.seat.me _ _ c.requires.orderly t2 c.sign_all.ensures.signed c.leave.ensures.view
+    let t2 = taken_read _ c.args.lock m c.take_seen.new.seat.seat.me m2 _
+    (c.take_seen.ensures.took c.if-not-take_seen.false).1 c.own_word-word.ensures.read in
+    own_out _ c.args.lock m m2 c.sign_all.new.seat.seat.me c.leave.new.seat.seat.me _ _ c.requires.orderly t2
+    c.sign_all.ensures.signed c.leave.ensures.view
 
 -- what the look came to
 came : (c : goal.After-node_or_blank) → let m = c.args.seat.now.seat.me in let m5 = c.node_or_blank.new.seat.seat.me in
-    IsLook (size_of c.args.board.now) c.args.lock m (Locked c.node_or_blank.result) m5 × (m5.0.part.core.tries ≡ m.0.part.core.tries) × (m5.0.part.core.attempts ≡ m.0.part.core.attempts)
+    IsLook (size_of c.args.board.now) c.args.lock m (Locked c.node_or_blank.result) m5 × (m5.0.part.core.attempts ≡ m.0.part.core.attempts)
 came c = let m = c.args.seat.now.seat.me in let m2 = c.own_word-word.new.seat.seat.me in let n = c.node_or_blank.ensures in
-    let t2 = taken_read _ c.args.lock m c.take_seen.new.seat.seat.me m2 _ (c.take_seen.ensures.took c.if-not-take_seen.false).1 c.own_word-word.ensures.read in
-    look_taken _ c.args.lock m m2 c.sign_all.new.seat.seat.me c.leave.new.seat.seat.me c.node_or_blank.new.seat.seat.me _ c.node_or_blank.result _ c.requires.orderly t2 c.sign_all.ensures.signed c.leave.ensures.view n.orderly n.view n.node n.blank
+    let t2 = taken_read _ c.args.lock m c.take_seen.new.seat.seat.me m2 _
+    (c.take_seen.ensures.took c.if-not-take_seen.false).1 c.own_word-word.ensures.read in
+    look_taken _ c.args.lock m m2 c.sign_all.new.seat.seat.me c.leave.new.seat.seat.me
+    c.node_or_blank.new.seat.seat.me _ c.node_or_blank.result _ c.requires.orderly t2 c.sign_all.ensures.signed
+    c.leave.ensures.view n.orderly n.view n.node n.blank
 
 pub returns-clause-took : goal.returns-clause-took
 returns-clause-took c = (came c).0
 
-pub returns-clause-tries : goal.returns-clause-tries
-returns-clause-tries c = (came c).1
-
 pub returns-clause-attempts : goal.returns-clause-attempts
-returns-clause-attempts c = (came c).2
+returns-clause-attempts c = (came c).1
 
 pub returns-then-not-take_seen-clause-marked : goal.returns-then-not-take_seen-clause-marked
-returns-then-not-take_seen-clause-marked c = marked_none c.take_seen.new.seat.seat.me _ (woken_touched _ c.args.seat.now.seat.me c.take_seen.new.seat.seat.me _ (c.take_seen.ensures.lost c.if-not-take_seen.true) c.requires.woken)
+returns-then-not-take_seen-clause-marked c =
+    marked_none c.take_seen.new.seat.seat.me _
+    (woken_touched _ c.args.seat.now.seat.me c.take_seen.new.seat.seat.me _
+    (c.take_seen.ensures.lost c.if-not-take_seen.true) c.requires.woken)
 
 pub returns-clause-marked : goal.returns-clause-marked
 returns-clause-marked c = let m3 = c.sign_all.new.seat.seat.me in let m5 = c.node_or_blank.new.seat.seat.me in
-    marked_still m3 m5 _ _ (none_condemned m3 m5 (exiting m3.0) (c.node_or_blank.ensures.view ∙ c.leave.ensures.view) refl refl refl) c.sign_all.ensures.marked
+    marked_still m3 m5 _ _ (none_condemned m3 m5 (exiting m3.0)
+    (c.node_or_blank.ensures.view ∙ c.leave.ensures.view) refl refl refl) c.sign_all.ensures.marked

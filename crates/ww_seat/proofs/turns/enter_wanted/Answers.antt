@@ -13,13 +13,15 @@ pub enter-requires-clause-room : goal.enter-requires-clause-room
 enter-requires-clause-room c = room_outside _ _ c.requires.outside.orderly c.requires.outside.outside
 
 pub returns-clause-inside : goal.returns-clause-inside
-returns-clause-inside c = λ t. let e = c.enter.ensures.entered t in now_at_work _ c.args.lock c.args.seat.now.seat.me c.enter.new.self.seat.me e.0 c.requires.outside e.1 e.2 e.3
+returns-clause-inside c = λ t. let e = c.enter.ensures.entered t in
+    now_at_work _ c.args.lock c.args.seat.now.seat.me c.enter.new.self.seat.me e.0 c.requires.outside e.1 e.2 e.3
 
 pub returns-clause-condemned : goal.returns-clause-condemned
 returns-clause-condemned c = λ t. ap (λ (m : Sat). m.0.part.core.condemned) (c.enter.ensures.entered t).3
 
 pub returns-clause-outside : goal.returns-clause-outside
-returns-clause-outside c = λ f. outside_shut _ c.args.lock c.args.seat.now.seat.me c.enter.new.self.seat.me c.requires.outside (c.enter.ensures.lost f)
+returns-clause-outside c = λ f. outside_shut _ c.args.lock c.args.seat.now.seat.me c.enter.new.self.seat.me
+    c.requires.outside (c.enter.ensures.lost f)
 
 pub returns-clause-shut_out : goal.returns-clause-shut_out
 returns-clause-shut_out c = c.enter.ensures.lost

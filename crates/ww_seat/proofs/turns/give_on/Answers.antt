@@ -7,30 +7,31 @@ use Rattle.ww_rule.specs.Rule.{Sat}
 use Rattle.ww_table.specs.Seat.{size_of}
 use Rattle.ww_seat.specs.Calls.{HasGiven}
 use Rattle.ww_seat.specs.Orderly.{IsOrderly}
-use Rattle.ww_seat.proofs.Gives.{waits_nobody, read_still, still_then, still_view, looked_giving, read_giving, has_let}
+use Rattle.ww_seat.proofs.Gives.{read_still, still_view, looked_giving, read_giving, has_let}
 use Rattle.ww_seat.proofs.turns.give_on.Goals.{After-exit}
 use Rattle.ww_seat.proofs.turns.give_on.Goals as goal
 
 pub give_seen-requires-clause-giving : goal.give_seen-requires-clause-giving
-give_seen-requires-clause-giving c = read_giving _ c.look-seen.new.self.seat.me c.first-first.new.self.seat.me c.args.lock (looked_giving _ c.args.seat.now.seat.me c.look-seen.new.self.seat.me c.args.lock c.look-seen.result c.requires.giving c.look-seen.ensures.looked) c.first-first.ensures.read
+give_seen-requires-clause-giving c = read_giving _ c.look-seen.new.self.seat.me c.first-first.new.self.seat.me
+    c.args.lock (looked_giving _ c.args.seat.now.seat.me c.look-seen.new.self.seat.me c.args.lock c.look-seen.result
+    c.requires.giving c.look-seen.ensures.looked) c.first-first.ensures.read
 
-pub returns-then-not-give_seen-clause-still : goal.returns-then-not-give_seen-clause-still
-returns-then-not-give_seen-clause-still c = let m = c.args.seat.now.seat.me in still_then m c.first-first.new.self.seat.me c.give_seen.new.seat.seat.me
-    (read_still m m c.look-seen.new.self.seat.me c.first-first.new.self.seat.me c.args.lock c.look-seen.result (still_view m m refl) c.look-seen.ensures.looked c.first-first.ensures.read)
-    (c.give_seen.ensures.still c.if-not-give_seen.true)
-
-pub returns-then-not-give_seen-clause-alone : goal.returns-then-not-give_seen-clause-alone
-returns-then-not-give_seen-clause-alone c = let lost = c.if-not-give_seen.true in c.give_seen.ensures.list lost ∙ waits_nobody _ _ _ _ c.give_seen.ensures.sure
-    (ap (λ (m : Sat). m.0.part.core.seen) c.first-first.ensures.read.now ∙ ap (λ (m : Sat). m.0.part.core.seen) c.look-seen.ensures.looked) lost
+pub give_seen-requires-clause-seen : goal.give_seen-requires-clause-seen
+give_seen-requires-clause-seen c = ap (λ (m : Sat). m.0.part.core.seen) c.first-first.ensures.read.now
+    ∙ ap (λ (m : Sat). m.0.part.core.seen) c.look-seen.ensures.looked
 
 pub exit-requires-clause-list : goal.exit-requires-clause-list
-exit-requires-clause-list c = let l = c.give_seen.ensures.gave c.if-not-give_seen.false in l.orderly.list c.args.lock l.inside
+exit-requires-clause-list c = let l = c.give_seen.ensures.gave in l.orderly.list c.args.lock l.inside
 
 -- outside again
-out : (c : After-exit) → let m = c.args.seat.now.seat.me in let m' = c.exit.new.self.seat.me in IsOrderly (size_of c.args.board.now) m' × IsAway m'.0.part.core × HasGiven m c.args.lock m'
-out c = let m = c.args.seat.now.seat.me in has_let (size_of c.args.board.now) m c.first-first.new.self.seat.me c.give_seen.new.seat.seat.me c.exit.new.self.seat.me c.args.lock
-    (read_still m m c.look-seen.new.self.seat.me c.first-first.new.self.seat.me c.args.lock c.look-seen.result (still_view m m refl) c.look-seen.ensures.looked c.first-first.ensures.read)
-    (c.give_seen.ensures.gave c.if-not-give_seen.false) c.exit.ensures.view c.exit.ensures.home
+out : (c : After-exit) → let m = c.args.seat.now.seat.me in let m' = c.exit.new.self.seat.me in
+    IsOrderly (size_of c.args.board.now) m' × IsAway m'.0.part.core × HasGiven m c.args.lock m'
+out c = let m = c.args.seat.now.seat.me in
+    has_let (size_of c.args.board.now) m c.first-first.new.self.seat.me c.give_seen.new.seat.seat.me
+    c.exit.new.self.seat.me c.args.lock
+    (read_still m m c.look-seen.new.self.seat.me c.first-first.new.self.seat.me c.args.lock c.look-seen.result
+    (still_view m m refl) c.look-seen.ensures.looked c.first-first.ensures.read)
+    c.give_seen.ensures.gave c.exit.ensures.view c.exit.ensures.home
 
 pub returns-clause-settled : goal.returns-clause-settled
 returns-clause-settled c = let z = out c in record { seated = c.exit.ensures.seat; orderly = z.0; away = z.1 }
@@ -39,5 +40,6 @@ pub returns-clause-given : goal.returns-clause-given
 returns-clause-given c = (out c).2
 
 pub returns-clause-heir : goal.returns-clause-heir
-returns-clause-heir c = ap (λ (v : Sight). v.part.core.heir) c.exit.ensures.view ∙ (c.give_seen.ensures.gave c.if-not-give_seen.false).heir
-    ∙ ap (λ (m : Sat). option_map (λ (e : Entry). e.seat) (slice_get m.0.part.core.list 0)) c.first-first.ensures.read.now ∙ ap (option_map (λ (e : Entry). e.seat)) (sym c.first-first.ensures.first)
+returns-clause-heir c = ap (λ (v : Sight). v.part.core.heir) c.exit.ensures.view ∙ c.give_seen.ensures.gave.heir
+    ∙ ap (λ (m : Sat). option_map (λ (e : Entry). e.seat) (slice_get m.0.part.core.list 0))
+    c.first-first.ensures.read.now ∙ ap (option_map (λ (e : Entry). e.seat)) (sym c.first-first.ensures.first)

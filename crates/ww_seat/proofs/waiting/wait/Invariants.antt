@@ -4,9 +4,14 @@ use Rattle.ww_table.specs.Seat.{IsSeated}
 use Rattle.ww_seat.specs.Calls.{HoldsAsBefore}
 use Rattle.ww_seat.specs.Looks.{IsOutside}
 use Rattle.ww_seat.specs.Work.{ComesOutside}
+use Rattle.ww_seat.specs.Bells.{sleeps_at, ArePlacedAlike}
 use Rattle.ww_seat.proofs.waiting.wait.Given as goal
 
 abbrev pub invariant-loop : goal.invariant-loop
 invariant-loop g l =
-    (goal.iterator-loop g).can_next l.iterator' × (goal.iterator-loop g).is_finite l.iterator' × IsSeated l.board.table.shared.table_id l.seat × IsOutside (length (first_graph l.board.table.shared.key)) l.lock l.seat.seat.me
-    × ComesOutside l.arrival l.seat.seat.me.0.part.core × HoldsAsBefore l.initial.seat.seat.me l.seat.seat.me × (l.seat.seat.me.0.part.core.tries ≡ l.initial.seat.seat.me.0.part.core.tries) × (l.seat.records ≡ l.initial.seat.records)
+    (goal.iterator-loop g).can_next l.iterator' × (goal.iterator-loop g).is_finite l.iterator'
+    × IsSeated l.board.table.shared.table_id l.seat
+    × IsOutside (length (first_graph l.board.table.shared.key)) l.lock l.seat.seat.me
+    × ComesOutside l.arrival l.seat.seat.me.0.part.core × HoldsAsBefore l.initial.seat.seat.me l.seat.seat.me
+    × (l.seat.records ≡ l.initial.seat.records)
+    × (sleeps_at l.patience ≡ sleeps_at l.initial.patience) × ArePlacedAlike l.initial.bells l.bells

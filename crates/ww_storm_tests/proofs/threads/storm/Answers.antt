@@ -6,7 +6,8 @@ use Rattle.ww_storm_tests.proofs.threads.storm.Goals as goal
 
 pub map_vec-requires-after_bounds : goal.map_vec-requires-after_bounds
 map_vec-requires-after_bounds g c = λ κs live i x lt is.
-    subst (λ (s : Holding). IsAtHome s c.in-Ok.world) (sym is) (all_item (λ s. IsAtHome s c.in-Ok.world) c.in-Ok.passes.items i x lt c.in-Ok.ensures.ok.home)
+    subst (λ (s : Holding). IsAtHome s c.in-Ok.world) (sym is)
+    (all_item (λ s. IsAtHome s c.in-Ok.world) c.in-Ok.passes.items i x lt c.in-Ok.ensures.ok.home)
 
 pub passes_of-requires : goal.passes_of-requires
 passes_of-requires g c = recursion_from_All _ c.in_ok-works.works.items (λ i d lt.

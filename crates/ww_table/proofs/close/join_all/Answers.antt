@@ -12,8 +12,11 @@ use Rattle.ww_table.proofs.Closing.{none_left, gathered_more}
 use Rattle.ww_table.proofs.close.join_all.Goals as goal
 
 pub join_seat-requires : goal.join_seat-requires
-join_seat-requires c = let i = c.loop-seat.invariant in let step : c.loop-seat.seat-iterator.rest.items ≡ c.in-Some.seat ∷ c.next.new.self.rest.items = search rules in
-    let whole = ap (λ (l : List Seat16). c.loop-seat.yielded ++ l) (sym step) ∙ i.5 in let came = all_at (HasCome c.args.shared.now.table_id) c.loop-seat.yielded c.next.new.self.rest.items c.in-Some.seat (subst (AllByRecursion (HasCome c.args.shared.now.table_id)) (sym whole) c.requires.come) in
+join_seat-requires c = let i = c.loop-seat.invariant in
+    let step : c.loop-seat.seat-iterator.rest.items ≡ c.in-Some.seat ∷ c.next.new.self.rest.items = search rules in
+    let whole = ap (λ (l : List Seat16). c.loop-seat.yielded ++ l) (sym step) ∙ i.5 in
+    let came = all_at (HasCome c.args.shared.now.table_id) c.loop-seat.yielded c.next.new.self.rest.items
+    c.in-Some.seat (subst (AllByRecursion (HasCome c.args.shared.now.table_id)) (sym whole) c.requires.come) in
     let is = c.come-other.ensures.seat in (
       i.2,
       ap (λ s. s.table_id) is ∙ came.seated.home,
@@ -23,20 +26,32 @@ join_seat-requires c = let i = c.loop-seat.invariant in let step : c.loop-seat.s
     )
 
 pub loop-seat-preserved : goal.loop-seat-preserved
-loop-seat-preserved c = let i = c.loop-seat.invariant in let step : c.loop-seat.seat-iterator.rest.items ≡ c.in-Some.seat ∷ c.next.new.self.rest.items = search rules in
-    let whole = ap (λ (l : List Seat16). c.loop-seat.yielded ++ l) (sym step) ∙ i.5 in let came = all_at (HasCome c.args.shared.now.table_id) c.loop-seat.yielded c.next.new.self.rest.items c.in-Some.seat (subst (AllByRecursion (HasCome c.args.shared.now.table_id)) (sym whole) c.requires.come) in
-    let is = c.come-other.ensures.seat in let put = c.come-other.ensures.put in let e = c.join_seat.ensures in let view = ap (λ (m : Sat). m.0) e.2 in (
+loop-seat-preserved c = let i = c.loop-seat.invariant in
+    let step : c.loop-seat.seat-iterator.rest.items ≡ c.in-Some.seat ∷ c.next.new.self.rest.items = search rules in
+    let whole = ap (λ (l : List Seat16). c.loop-seat.yielded ++ l) (sym step) ∙ i.5 in
+    let came = all_at (HasCome c.args.shared.now.table_id) c.loop-seat.yielded c.next.new.self.rest.items
+    c.in-Some.seat (subst (AllByRecursion (HasCome c.args.shared.now.table_id)) (sym whole) c.requires.come) in
+    let is = c.come-other.ensures.seat in let put = c.come-other.ensures.put in let e = c.join_seat.ensures in
+    let view = ap (λ (m : Sat). m.0) e.2 in (
       tt,
       tt,
       e.0 ∙ i.2,
       ap (λ (v : Sight). v.seated) view ∙ i.3,
       put.size ∙ i.4,
       append_assoc c.loop-seat.yielded (c.in-Some.seat ∷ []) c.next.new.self.rest.items ∙ whole,
-      λ front g. subst (λ l. IsGathered c.args.shared.now.table_id l (length c.args.places.now) c.join_seat.new.seat c.come-other.new.places) (append_assoc front c.loop-seat.yielded (c.in-Some.seat ∷ []))
-          (gathered_more _ (front ++ c.loop-seat.yielded) c.in-Some.seat _ c.loop-seat.token c.join_seat.new.seat c.loop-seat.places c.come-other.new.places (i.6 front g) came put e.0 (view ∙ ap (λ s. with_seat c.loop-seat.token.me.0 s.me.0) is)),
+      λ front g. subst (λ l. IsGathered c.args.shared.now.table_id l (length c.args.places.now) c.join_seat.new.seat
+          c.come-other.new.places) (append_assoc front c.loop-seat.yielded (c.in-Some.seat ∷ []))
+          (gathered_more _ (front ++ c.loop-seat.yielded) c.in-Some.seat _ c.loop-seat.token c.join_seat.new.seat
+          c.loop-seat.places c.come-other.new.places (i.6 front g) came put e.0
+          (view ∙ ap (λ s. with_seat c.loop-seat.token.me.0 s.me.0) is)),
     )
 
 pub returns : goal.returns
-returns c = let i = c.loop-seat.invariant in let done : c.loop-seat.seat-iterator.rest.items ≡ [] = none_left c.loop-seat.seat-iterator.rest.items (let z = c.in-None.ensures.steps.0 in let o = c.loop-seat.seat-iterator.rest.ok in omega arith) in
-    let all : c.loop-seat.yielded ≡ c.args.seats.items = sym (append-nil c.loop-seat.yielded) ∙ ap (λ l. c.loop-seat.yielded ++ l) (sym done) ∙ i.5 in
-    λ front g. subst (λ l. IsGathered c.args.shared.now.table_id (front ++ l) (length c.args.places.now) c.loop-seat.token c.loop-seat.places) all (i.6 front g)
+returns c = let i = c.loop-seat.invariant in
+    let done : c.loop-seat.seat-iterator.rest.items ≡ [] =
+    none_left c.loop-seat.seat-iterator.rest.items
+    (let z = c.in-None.ensures.steps.0 in let o = c.loop-seat.seat-iterator.rest.ok in omega arith) in
+    let all : c.loop-seat.yielded ≡ c.args.seats.items = sym (append-nil c.loop-seat.yielded)
+    ∙ ap (λ l. c.loop-seat.yielded ++ l) (sym done) ∙ i.5 in
+    λ front g. subst (λ l. IsGathered c.args.shared.now.table_id (front ++ l) (length c.args.places.now)
+    c.loop-seat.token c.loop-seat.places) all (i.6 front g)

@@ -10,20 +10,34 @@ split_seat-seat-requires c = let i = c.loop-who.invariant in let e = c.requires.
     (i.0, (let z = c.requires.sized.0 in omega arith), next_splits _ _ c.loop-who.who _ (ap (λ (m : Sat). m.0) i.1) (omega arith))
 
 pub loop-who-preserved : goal.loop-who-preserved
-loop-who-preserved c = let i = c.loop-who.invariant in let e = c.requires.seats in let t = c.loop-who-test.true in let is = ap (λ (m : Sat). m.0) i.1 in let key = c.args.shared.now.key in
-    let more : c.loop-who.who < key.seats - 1 = omega arith in let s = c.split_seat-seat.ensures in let same = c.seated.ensures.same in let p = c.push_reserved.ensures in (
+loop-who-preserved c = let i = c.loop-who.invariant in let e = c.requires.seats in let t = c.loop-who-test.true in
+    let is = ap (λ (m : Sat). m.0) i.1 in let key = c.args.shared.now.key in
+    let more : c.loop-who.who < key.seats - 1 = omega arith in let s = c.split_seat-seat.ensures in
+    let same = c.seated.ensures.same in let p = c.push_reserved.ensures in (
       s.0 ∙ i.0,
       s.2 ∙ (λ j. (next_left key c.loop-who.who _ is more j, ap (λ (m : Sat). m.1) i.1 j)),
       subst (AreNew c.args.shared.now.table_id key _) (sym p.items) (news_more _ key c.loop-who.who _ c.seated.result i.2
-          (new_seat _ key c.loop-who.who c.seated.result (ap (λ (x : Seat16). x.seat.table_id) same ∙ s.3 ∙ i.0) (ap (λ (x : Seat16). x.seat.me) same ∙ s.4 ∙ (λ j. (next_cut key c.loop-who.who _ is more j, [])))
-          (ap (λ (x : Seat16). x.kind) same ∙ c.requires.kind) (ap (λ (x : Seat16). x.who) same) (omega arith) (ap (λ (x : Seat16). x.stamp) same) c.seated.ensures.own c.seated.ensures.order c.seated.ensures.records c.seated.ensures.page)),
+          (new_seat _ key c.loop-who.who c.seated.result (ap (λ (x : Seat16). x.seat.table_id) same ∙ s.3 ∙ i.0)
+          (ap (λ (x : Seat16). x.seat.me) same ∙ s.4 ∙ (λ j. (next_cut key c.loop-who.who _ is more j, [])))
+          (ap (λ (x : Seat16). x.kind) same ∙ c.requires.kind) (ap (λ (x : Seat16). x.who) same) (omega arith)
+          (ap (λ (x : Seat16). x.stamp) same) c.seated.ensures.own c.seated.ensures.order
+          c.seated.ensures.records c.seated.ensures.page)),
       (let l = p.len in let m = i.3 in omega arith),
       (let l = p.capacity in let m = i.4 in omega arith),
     )
 
 pub returns : goal.returns
-returns c = let i = c.loop-who.invariant in let e = c.requires.seats in let t = c.loop-who-test.false in let a = c.loop-who.auto.who-end in let key = c.args.shared.now.key in
-    let ended : c.loop-who.who ≡ key.seats - 1 = omega arith in let all : c.loop-who.who + 1 ≡ c.args.seats = omega arith in let same = c.seated-2.ensures.same in let p = c.push_reserved-2.ensures in
-    subst (λ n. AreNew c.args.shared.now.table_id key n c.push_reserved-2.new.self.items) all (subst (AreNew c.args.shared.now.table_id key _) (sym p.items) (news_more _ key c.loop-who.who _ c.seated-2.result i.2
-    (new_seat _ key c.loop-who.who c.seated-2.result (ap (λ (x : Seat16). x.seat.table_id) same ∙ i.0) (ap (λ (x : Seat16). x.seat.me) same ∙ i.1 ∙ (λ j. (last_left key c.loop-who.who ended j, [])))
-    (ap (λ (x : Seat16). x.kind) same ∙ c.requires.kind) (ap (λ (x : Seat16). x.who) same ∙ (let z : c.args.seats - 1 ≡ c.loop-who.who = omega arith in z)) (omega arith) (ap (λ (x : Seat16). x.stamp) same) c.seated-2.ensures.own c.seated-2.ensures.order c.seated-2.ensures.records c.seated-2.ensures.page)))
+returns c = let i = c.loop-who.invariant in let e = c.requires.seats in let t = c.loop-who-test.false in
+    let a = c.loop-who.auto.who-end in let key = c.args.shared.now.key in
+    let ended : c.loop-who.who ≡ key.seats - 1 = omega arith in
+    let all : c.loop-who.who + 1 ≡ c.args.seats = omega arith in let same = c.seated-2.ensures.same in
+    let p = c.push_reserved-2.ensures in
+    subst (λ n. AreNew c.args.shared.now.table_id key n c.push_reserved-2.new.self.items) all
+    (subst (AreNew c.args.shared.now.table_id key _) (sym p.items)
+    (news_more _ key c.loop-who.who _ c.seated-2.result i.2
+    (new_seat _ key c.loop-who.who c.seated-2.result (ap (λ (x : Seat16). x.seat.table_id) same ∙ i.0)
+    (ap (λ (x : Seat16). x.seat.me) same ∙ i.1 ∙ (λ j. (last_left key c.loop-who.who ended j, [])))
+    (ap (λ (x : Seat16). x.kind) same ∙ c.requires.kind)
+    (ap (λ (x : Seat16). x.who) same ∙ (let z : c.args.seats - 1 ≡ c.loop-who.who = omega arith in z))
+    (omega arith) (ap (λ (x : Seat16). x.stamp) same) c.seated-2.ensures.own c.seated-2.ensures.order
+    c.seated-2.ensures.records c.seated-2.ensures.page)))

@@ -4,4 +4,6 @@ use Rattle.ww_table.specs.Made.{AreNew, less}
 use Rattle.ww_table.proofs.make.cut.Given as goal
 
 abbrev pub invariant-loop-who : goal.invariant-loop-who
-invariant-loop-who l = (l.first.table_id ≡ l.shared.table_id) × (l.first.me ≡ (less l.shared.key l.who, [])) × AreNew l.shared.table_id l.shared.key l.who l.made.items × (vec_len l.made ≡ l.who) × (l.seats ≤ vec_capacity l.made)
+invariant-loop-who l = (l.first.table_id ≡ l.shared.table_id) × (l.first.me ≡ (less l.shared.key l.who, []))
+    × AreNew l.shared.table_id l.shared.key l.who l.made.items × (vec_len l.made ≡ l.who)
+    × (l.seats ≤ vec_capacity l.made)

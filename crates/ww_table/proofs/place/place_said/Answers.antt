@@ -3,7 +3,12 @@ use Rattle.ww_rule.proofs.Places.{places}
 use Rattle.ww_table.proofs.place.place_said.Goals as goal
 
 pub fetch_add-requires : goal.fetch_add-requires
-fetch_add-requires g c = let r = c.requires in (r.home, (let z = c.args.board.now.sized.0 in let fits = c.args.board.now.fits in omega arith), places _ _ _ _ _ c.args.done.now r.seated r.said r.may)
+fetch_add-requires g c = let r = c.requires in (
+  r.home,
+  (let z = c.args.board.now.sized.0 in let fits = c.args.board.now.fits in omega arith),
+  places _ _ _ _ _
+      c.args.done.now r.seated r.said r.may,
+)
 
 pub returns-clause-placed : goal.returns-clause-placed
 returns-clause-placed g c = (c.fetch_add.ensures.2 c.args.done.now c.requires.said).0

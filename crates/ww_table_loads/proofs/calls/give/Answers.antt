@@ -9,5 +9,6 @@ use Rattle.ww_table_loads.proofs.calls.give.Goals as goal
 pub returns : goal.returns
 returns c = λ won d ls did top none. let m = c.args.seat.now.seat.me in
     let m' = c.give_free.new.self.seat.me in
-    let told = subst (λ (n : ℕ). (y : Node) × (m'.0 ≡ giving m.0 n) × AreOthers m.1 n (Content y) m'.1) c.from.ensures (c.give_free.ensures.gave won) in
+    let told = subst (λ (n : ℕ). (y : Node) × (m'.0 ≡ giving m.0 n) × AreOthers m.1 n (Content y) m'.1)
+    c.from.ensures (c.give_free.ensures.gave won) in
     record { seated = c.give_free.ensures.seat; stands = gave_again _ d m _ did.stands c.args.lock ls told top none }

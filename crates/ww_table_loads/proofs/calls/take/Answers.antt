@@ -11,5 +11,7 @@ take_free-requires-clause-may c = let r = c.requires.did in may_fast _ r.0 c.arg
 
 pub returns-clause-took : goal.returns-clause-took
 returns-clause-took c = λ won d did can new. let m = c.args.seat.now.seat.me in
-    let told = subst (λ (n : ℕ). (x : Node) × IsNodeOf (length m.0.held) x × (c.take_free.new.self.seat.me ≡ (taking m.0 n x, (n, Content x) ∷ m.1))) c.from.ensures (c.take_free.ensures.took won) in
+    let told = subst (λ (n : ℕ). (x : Node) × IsNodeOf (length m.0.held) x
+    × (c.take_free.new.self.seat.me ≡ (taking m.0 n x, (n, Content x) ∷ m.1))) c.from.ensures
+    (c.take_free.ensures.took won) in
     record { seated = c.take_free.ensures.seat; stands = took_again _ d m _ did.stands c.args.lock told can c.requires.lock new }

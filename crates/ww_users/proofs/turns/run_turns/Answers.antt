@@ -6,4 +6,9 @@ pub loop-init : goal.loop-init
 loop-init g c = (tt, tt, at_first _ refl)
 
 pub loop-preserved : goal.loop-preserved
-loop-preserved g c = (tt, tt, further _ _ _ _ _ c.loop.invariant.2 c.in-Err.ensures (record { same = c.in_ok-acquiring.ensures.same; alone = c.in_ok-acquiring.ensures.alone }))
+loop-preserved g c = (
+  tt,
+  tt,
+  further _ _ _ _ _ c.loop.invariant.2 c.in-Err.ensures
+      (record { same = c.in_ok-acquiring.ensures.same; alone = c.in_ok-acquiring.ensures.alone }),
+)

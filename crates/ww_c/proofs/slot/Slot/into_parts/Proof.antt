@@ -54,9 +54,13 @@ module _ {M : Type 1} {𝓤 : Ura M} (𝓛 : Logic 𝓤) (at_mem : Memory → SP
   at p a o vs = ((tt, tt, tt, (slot_at p a o, tt), (vs, tt)), tt)
 
   walk : (p : Ptr) (a : Global) (o : W) (vs : List Val)
-      → ent 𝓤 ((walk_of 𝓛 F.ended stayed (F.clauses 𝓛 at_mem run)).pre (at p a o vs)) (WpFn 𝓤 H 𝓣.C 𝓣.Λ code.function (vs ++ []) ((walk_of 𝓛 F.ended stayed (F.clauses 𝓛 at_mem run)).post (at p a o vs)))
+      → ent 𝓤 ((walk_of 𝓛 F.ended stayed (F.clauses 𝓛 at_mem run)).pre (at p a o vs))
+      (WpFn 𝓤 H 𝓣.C 𝓣.Λ code.function (vs ++ [])
+      ((walk_of 𝓛 F.ended stayed (F.clauses 𝓛 at_mem run)).post (at p a o vs)))
   walk p a None vs =
-      qed 𝓛 ((‵ ftrue ⊛ ‵ (fsep (HeldRow.the_row.own_val (slot_at p a None) vs) ftrue)) ∷ raw (fact 𝓤 (false ≡ true)) ∷ []) ∵ move ! (1 ∷ []) $ heard ! (false ≡ true) (λ e. absurd (true≢false (sym e)))
+      qed 𝓛 ((‵ ftrue ⊛ ‵ (fsep (HeldRow.the_row.own_val (slot_at p a None) vs) ftrue)) ∷ raw
+      (fact 𝓤 (false ≡ true)) ∷ []) ∵ move ! (1 ∷ []) $ heard ! (false ≡ true)
+      (λ e. absurd (true≢false (sym e)))
   walk p a (Some x) vs =
       let z = at p a (Some x) vs in
       let Post = (walk_of 𝓛 F.ended stayed (F.clauses 𝓛 at_mem run)).post z in
@@ -64,13 +68,18 @@ module _ {M : Type 1} {𝓤 : Ura M} (𝓛 : Logic 𝓤) (at_mem : Memory → SP
       let To = type_at (F.signature).result tt in
       let made : To.Denot = record { ptr = p; alloc = a; value = x } in
       qed 𝓛 ((‵ ftrue ⊛ ‵ (fsep ((B E).own_val v vs) ftrue)) ∷ raw (fact 𝓤 (true ≡ true)) ∷ []) ∵ split ! $ drop ! $ fsplit ! $
-      box_out E ! v vs (λ b o hv e ws fa. box_in E ! v b o v.value e refl $ use1 𝓛 (‵ (To.own_val made (word E hv b o ∷ []))) (id⊢ 𝓤 _) $ move ! (1 ∷ []) $ drop ! $ move ! (1 ∷ []) $ drop ! $
+      box_out E ! v vs (λ b o hv e ws fa. box_in E ! v b o v.value e refl $ use1 𝓛
+      (‵ (To.own_val made (word E hv b o ∷ []))) (id⊢ 𝓤 _) $ move ! (1 ∷ []) $ drop ! $ move ! (1 ∷ []) $ drop !
+      $
       let w = word E hv b o in
       let Γ : List (Item 𝓤) = ‵ (To.own_val made (w ∷ [])) ∷ [] in
       by ! (subst (λ (us : List Val). ent 𝓤 (types.Kit.⋆ 𝓛 Γ) (WpFn 𝓤 H 𝓣.C 𝓣.Λ code.function (us ++ []) Post)) (sym ws)
       (qed 𝓛 Γ ∵ enter ! 𝓣.C 𝓣.Λ code.function (w ∷ []) _ $ alloc_all ! (λ ls. pass_all ! refl (box_typed E hv b o fa, tt) $
-      sets ! (of_opd ! (get_in ! (fld ! refl (stop !)) (sub ! 0 refl (whole !)))) refl (tt, tt) $ sets ! (of_opd ! (get_in ! (fld ! refl (stop !)) (sub ! 1 refl (whole !)))) refl fa $ sets ! (of_opd ! (get ! refl)) refl (tt, tt) $
-      sets ! (agg ! (and_then ! (get ! refl) (and_then ! (get ! refl) (no_more !)))) refl (box_typed E hv b o fa) $ returns ! (look_at ! 0 refl) $ free_all ! refl $
+      sets ! (of_opd ! (get_in ! (fld ! refl (stop !)) (sub ! 0 refl (whole !)))) refl (tt, tt) $ sets !
+      (of_opd ! (get_in ! (fld ! refl (stop !)) (sub ! 1 refl (whole !)))) refl fa $ sets !
+      (of_opd ! (get ! refl)) refl (tt, tt) $
+      sets ! (agg ! (and_then ! (get ! refl) (and_then ! (get ! refl) (no_more !)))) refl (box_typed E hv b o fa) $
+      returns ! (look_at ! 0 refl) $ free_all ! refl $
       suffices ! _ (ends_at 𝓛 F.ended stayed (F.clauses 𝓛 at_mem run) z w made (tt, tt) (tt, tt)) $ says ! refl $
       nothing ! $ nothing ! $ fjoin ! $ join ! $ nothing ! $ join ! $ done !))))
 
@@ -79,5 +88,6 @@ unfolding tables_of
 into_parts_spec 𝓤 𝓛 𝓜 𝓡 wired =
     let 𝓣 : Tables 𝓤 𝓛.H = tables_of 𝓤 𝓛.H 𝓜 (tables 𝓤 𝓛.H 𝓜 𝓡 𝓡.env) in
     entered 𝓤 𝓛.H (triple_of 𝓛 F.signature (F.spec 𝓛 𝓜.mem 𝓡.returns)) 𝓣.C 𝓣.Λ #self code.function (code.unfolded 𝓤 𝓛.H 𝓜 𝓡 wired)
-    (walk_Meets 𝓛 F.ended stayed (Goes-dropped 𝓛 0 From yes (λ κs x f. refl), tt) (F.clauses 𝓛 𝓜.mem 𝓡.returns) (WpFn 𝓤 𝓛.H 𝓣.C 𝓣.Λ code.function) (WpFn-mono 𝓤 𝓛.H 𝓛.laws 𝓣 code.function)
+    (walk_Meets 𝓛 F.ended stayed (Goes-dropped 𝓛 0 From yes (λ κs x f. refl), tt) (F.clauses 𝓛 𝓜.mem 𝓡.returns)
+    (WpFn 𝓤 𝓛.H 𝓣.C 𝓣.Λ code.function) (WpFn-mono 𝓤 𝓛.H 𝓛.laws 𝓣 code.function)
     (λ z. walk 𝓛 𝓜.mem 𝓡.returns 𝓣 z.0.3.0.at z.0.3.0.alloc z.0.3.0.desk z.0.4.0))

@@ -6,87 +6,113 @@ use Rattle.ww_desk.proofs.held.Held.remove.Goals as goal
 
 pub index-place-requires : goal.index-place-requires
 index-place-requires c =
-    let s = stands c.self.inside.items.items c.self.inside.places.items _ c.args.lock c.self.invariant (held_inside _ _ c.args.lock c.self.view_is c.requires.has) in omega (arith, s.low, c.self.inside.places.ok.0)
+    let s = stands c.self.inside.items.items c.self.inside.places.items _ c.args.lock c.self.invariant
+    (held_inside _ _ c.args.lock c.self.view_is c.requires.has) in
+    omega (arith, s.low, c.self.inside.places.ok.0)
 
 pub overflow_sub-place : goal.overflow_sub-place
 overflow_sub-place c =
-    (read_place c.self.inside.items.items c.self.inside.places.items _ c.args.lock c.index-place.result.now c.self.invariant (held_inside _ _ c.args.lock c.self.view_is c.requires.has) c.index-place.ensures).some
+    (read_place c.self.inside.items.items c.self.inside.places.items _ c.args.lock c.index-place.result.now
+    c.self.invariant (held_inside _ _ c.args.lock c.self.view_is c.requires.has) c.index-place.ensures).some
 
 pub swap_remove-requires : goal.swap_remove-requires
 swap_remove-requires c =
-    let s = read_place c.self.inside.items.items c.self.inside.places.items _ c.args.lock c.index-place.result.now c.self.invariant (held_inside _ _ c.args.lock c.self.view_is c.requires.has) c.index-place.ensures in
+    let s = read_place c.self.inside.items.items c.self.inside.places.items _ c.args.lock c.index-place.result.now
+    c.self.invariant (held_inside _ _ c.args.lock c.self.view_is c.requires.has) c.index-place.ensures in
     omega (arith, s.some, s.within, c.self.inside.items.ok.0)
 
 pub index_mut-requires : goal.index_mut-requires
 index_mut-requires c =
-    let s = stands c.self.inside.items.items c.self.inside.places.items _ c.args.lock c.self.invariant (held_inside _ _ c.args.lock c.self.view_is c.requires.has) in
-    let low = last_below c.self.inside.items.items c.self.inside.places.items _ c.index-last.result.now c.len.result c.self.invariant (omega (arith, s.some, s.within)) (omega (arith, c.len.ensures, c.self.inside.items.ok.0)) c.index-last.ensures in
+    let s = stands c.self.inside.items.items c.self.inside.places.items _ c.args.lock c.self.invariant
+    (held_inside _ _ c.args.lock c.self.view_is c.requires.has) in
+    let low = last_below c.self.inside.items.items c.self.inside.places.items _ c.index-last.result.now c.len.result
+    c.self.invariant (omega (arith, s.some, s.within)) (omega (arith, c.len.ensures, c.self.inside.items.ok.0))
+    c.index-last.ensures in
     omega (arith, low, c.self.inside.places.ok.0)
 
 pub index_mut-requires-2 : goal.index_mut-requires-2
 index_mut-requires-2 c =
-    let s = stands c.self.inside.items.items c.self.inside.places.items _ c.args.lock c.self.invariant (held_inside _ _ c.args.lock c.self.view_is c.requires.has) in omega (arith, s.low, c.self.inside.places.ok.0)
+    let s = stands c.self.inside.items.items c.self.inside.places.items _ c.args.lock c.self.invariant
+    (held_inside _ _ c.args.lock c.self.view_is c.requires.has) in
+    omega (arith, s.low, c.self.inside.places.ok.0)
 
 pub invariant_of-self : goal.invariant_of-self
 invariant_of-self c =
     let end : vec_len c.self.inside.items - 1 ≡ c.len.result - 1 = omega (arith, c.len.ensures) in
-    let t : IsTakenOut c.self.inside.items.items c.swap_remove.new.self.items c.self.inside.places.items c.args.lock c.index-place.result.now c.index-last.result.now c.swap_remove.result c.len.result = record {
+    let t : IsTakenOut c.self.inside.items.items c.swap_remove.new.self.items c.self.inside.places.items c.args.lock
+    c.index-place.result.now c.index-last.result.now c.swap_remove.result c.len.result = record {
       place_is = c.index-place.ensures;
       last_is = c.index-last.ensures;
       out_is = c.swap_remove.ensures.value;
       now = c.swap_remove.ensures.items;
       count = omega (arith, c.len.ensures, c.self.inside.items.ok.0);
       long = omega (arith, c.swap_remove.ensures.len, c.swap_remove.new.self.ok.0, c.self.inside.items.ok.0);
-      moved = λ d before. c.swap_remove.ensures.by_index.0 d (omega (arith, before, c.len.ensures)) ∙ ap (λ (j : ℕ). get_or c.self.inside.items.items j d) end;
+      moved = λ d before. c.swap_remove.ensures.by_index.0 d (omega (arith, before, c.len.ensures))
+          ∙ ap (λ (j : ℕ). get_or c.self.inside.items.items j d) end;
       stays = λ k d apart before. c.swap_remove.ensures.by_index.1 k d apart (omega (arith, before, c.len.ensures));
     } in
-    let r = released c.self.inside.items.items c.swap_remove.new.self.items c.self.inside.places.items _ c.args.lock c.index-place.result.now c.index-last.result.now c.swap_remove.result c.len.result c.self.invariant (held_inside _ _ c.args.lock c.self.view_is c.requires.has) t in
+    let r = released c.self.inside.items.items c.swap_remove.new.self.items c.self.inside.places.items _ c.args.lock
+    c.index-place.result.now c.index-last.result.now c.swap_remove.result c.len.result c.self.invariant
+    (held_inside _ _ c.args.lock c.self.view_is c.requires.has) t in
     rw c.swap_remove.ensures.capacity r.left
 
 pub returns-clause-now : goal.returns-clause-now
 returns-clause-now c =
     let end : vec_len c.self.inside.items - 1 ≡ c.len.result - 1 = omega (arith, c.len.ensures) in
-    let t : IsTakenOut c.self.inside.items.items c.swap_remove.new.self.items c.self.inside.places.items c.args.lock c.index-place.result.now c.index-last.result.now c.swap_remove.result c.len.result = record {
+    let t : IsTakenOut c.self.inside.items.items c.swap_remove.new.self.items c.self.inside.places.items c.args.lock
+    c.index-place.result.now c.index-last.result.now c.swap_remove.result c.len.result = record {
       place_is = c.index-place.ensures;
       last_is = c.index-last.ensures;
       out_is = c.swap_remove.ensures.value;
       now = c.swap_remove.ensures.items;
       count = omega (arith, c.len.ensures, c.self.inside.items.ok.0);
       long = omega (arith, c.swap_remove.ensures.len, c.swap_remove.new.self.ok.0, c.self.inside.items.ok.0);
-      moved = λ d before. c.swap_remove.ensures.by_index.0 d (omega (arith, before, c.len.ensures)) ∙ ap (λ (j : ℕ). get_or c.self.inside.items.items j d) end;
+      moved = λ d before. c.swap_remove.ensures.by_index.0 d (omega (arith, before, c.len.ensures))
+          ∙ ap (λ (j : ℕ). get_or c.self.inside.items.items j d) end;
       stays = λ k d apart before. c.swap_remove.ensures.by_index.1 k d apart (omega (arith, before, c.len.ensures));
     } in
-    let r = released c.self.inside.items.items c.swap_remove.new.self.items c.self.inside.places.items _ c.args.lock c.index-place.result.now c.index-last.result.now c.swap_remove.result c.len.result c.self.invariant (held_inside _ _ c.args.lock c.self.view_is c.requires.has) t in
-    seen_released c.self.inside.items.items c.swap_remove.new.self.items c.self.inside.places.items c.args.self.now c.args.lock c.index-last.result.now c.index-place.result.now c.self.view_is r.now
+    let r = released c.self.inside.items.items c.swap_remove.new.self.items c.self.inside.places.items _ c.args.lock
+    c.index-place.result.now c.index-last.result.now c.swap_remove.result c.len.result c.self.invariant
+    (held_inside _ _ c.args.lock c.self.view_is c.requires.has) t in
+    seen_released c.self.inside.items.items c.swap_remove.new.self.items c.self.inside.places.items c.args.self.now
+    c.args.lock c.index-last.result.now c.index-place.result.now c.self.view_is r.now
 
 pub returns-clause-gone : goal.returns-clause-gone
 returns-clause-gone c =
     let end : vec_len c.self.inside.items - 1 ≡ c.len.result - 1 = omega (arith, c.len.ensures) in
-    let t : IsTakenOut c.self.inside.items.items c.swap_remove.new.self.items c.self.inside.places.items c.args.lock c.index-place.result.now c.index-last.result.now c.swap_remove.result c.len.result = record {
+    let t : IsTakenOut c.self.inside.items.items c.swap_remove.new.self.items c.self.inside.places.items c.args.lock
+    c.index-place.result.now c.index-last.result.now c.swap_remove.result c.len.result = record {
       place_is = c.index-place.ensures;
       last_is = c.index-last.ensures;
       out_is = c.swap_remove.ensures.value;
       now = c.swap_remove.ensures.items;
       count = omega (arith, c.len.ensures, c.self.inside.items.ok.0);
       long = omega (arith, c.swap_remove.ensures.len, c.swap_remove.new.self.ok.0, c.self.inside.items.ok.0);
-      moved = λ d before. c.swap_remove.ensures.by_index.0 d (omega (arith, before, c.len.ensures)) ∙ ap (λ (j : ℕ). get_or c.self.inside.items.items j d) end;
+      moved = λ d before. c.swap_remove.ensures.by_index.0 d (omega (arith, before, c.len.ensures))
+          ∙ ap (λ (j : ℕ). get_or c.self.inside.items.items j d) end;
       stays = λ k d apart before. c.swap_remove.ensures.by_index.1 k d apart (omega (arith, before, c.len.ensures));
     } in
-    let r = released c.self.inside.items.items c.swap_remove.new.self.items c.self.inside.places.items _ c.args.lock c.index-place.result.now c.index-last.result.now c.swap_remove.result c.len.result c.self.invariant (held_inside _ _ c.args.lock c.self.view_is c.requires.has) t in
+    let r = released c.self.inside.items.items c.swap_remove.new.self.items c.self.inside.places.items _ c.args.lock
+    c.index-place.result.now c.index-last.result.now c.swap_remove.result c.len.result c.self.invariant
+    (held_inside _ _ c.args.lock c.self.view_is c.requires.has) t in
     r.lacks
 
 pub returns-clause-others : goal.returns-clause-others
 returns-clause-others c =
     let end : vec_len c.self.inside.items - 1 ≡ c.len.result - 1 = omega (arith, c.len.ensures) in
-    let t : IsTakenOut c.self.inside.items.items c.swap_remove.new.self.items c.self.inside.places.items c.args.lock c.index-place.result.now c.index-last.result.now c.swap_remove.result c.len.result = record {
+    let t : IsTakenOut c.self.inside.items.items c.swap_remove.new.self.items c.self.inside.places.items c.args.lock
+    c.index-place.result.now c.index-last.result.now c.swap_remove.result c.len.result = record {
       place_is = c.index-place.ensures;
       last_is = c.index-last.ensures;
       out_is = c.swap_remove.ensures.value;
       now = c.swap_remove.ensures.items;
       count = omega (arith, c.len.ensures, c.self.inside.items.ok.0);
       long = omega (arith, c.swap_remove.ensures.len, c.swap_remove.new.self.ok.0, c.self.inside.items.ok.0);
-      moved = λ d before. c.swap_remove.ensures.by_index.0 d (omega (arith, before, c.len.ensures)) ∙ ap (λ (j : ℕ). get_or c.self.inside.items.items j d) end;
+      moved = λ d before. c.swap_remove.ensures.by_index.0 d (omega (arith, before, c.len.ensures))
+          ∙ ap (λ (j : ℕ). get_or c.self.inside.items.items j d) end;
       stays = λ k d apart before. c.swap_remove.ensures.by_index.1 k d apart (omega (arith, before, c.len.ensures));
     } in
-    let r = released c.self.inside.items.items c.swap_remove.new.self.items c.self.inside.places.items _ c.args.lock c.index-place.result.now c.index-last.result.now c.swap_remove.result c.len.result c.self.invariant (held_inside _ _ c.args.lock c.self.view_is c.requires.has) t in
+    let r = released c.self.inside.items.items c.swap_remove.new.self.items c.self.inside.places.items _ c.args.lock
+    c.index-place.result.now c.index-last.result.now c.swap_remove.result c.len.result c.self.invariant
+    (held_inside _ _ c.args.lock c.self.view_is c.requires.has) t in
     λ n differ. r.others n differ ∙ ap (λ (h : Holding). is_among n h.items) c.self.view_is

@@ -14,10 +14,12 @@ returns-in-Some-Locked-clause-keeps c =
     let k = c.requires.keeps in
     let h : Station = record (c.args.self.now) { turn = Looks c.args.lock c.args.arrival c.args.heeds } in
     let q = c.look_once-look.new.seat in
-    let look : IsOrderly (size_of c.deref.result.now) q.seat.me × IsAway q.seat.me.0.part.core × HasTaken c.args.self.now.seat.seat.me c.args.lock c.in-Some-Locked.field-0-0 q.seat.me = search rules in
-    took h _ c.deref.result.now c.args.lock c.in-Some-Locked.field-0-0 q c.look_once-look.new.wake k c.deref.ensures k.at.1
+    let look : IsOrderly (size_of c.deref.result.now) q.seat.me × IsAway q.seat.me.0.part.core
+    × HasTaken c.args.self.now.seat.seat.me c.args.lock c.in-Some-Locked.field-0-0 q.seat.me = search rules in
+    took h _ c.deref.result.now _ c.args.lock c.in-Some-Locked.field-0-0 q c.look_once-look.new.wake k c.deref.ensures k.at.1
     (record { seated = c.look_once-look.ensures.seat; orderly = look.0; away = look.1 }) look.2
     (ap (λ (d : Station). let e : Station = record d { turn = Rests } in e) c.add.ensures.same) c.add.ensures.held
 
 pub look_once-look-requires-clause-holds : goal.look_once-look-requires-clause-holds
-look_once-look-requires-clause-holds c = let h = c.args.self.now in holds_told h.seat.seat.me.0.part.core h.held.items c.is_empty.result c.requires.keeps.owned c.is_empty.ensures
+look_once-look-requires-clause-holds c = let h = c.args.self.now in
+    holds_told h.seat.seat.me.0.part.core h.held.items c.is_empty.result c.requires.keeps.owned c.is_empty.ensures

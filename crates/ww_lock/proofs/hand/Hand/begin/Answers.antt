@@ -10,5 +10,6 @@ begin-requires-clause-may c = may_draw c.args.self.now c.requires.fresh.carries 
 pub returns : goal.returns
 returns c =
     let e = c.begin.ensures in
-    let b = begins c.args.self.now c.args.world.now _ c.begin.new.seat c.begin.result c.world.view_is c.requires.home c.requires.fresh c.requires.draws e.seat e.records e.begun e.context in
+    let b = begins c.args.self.now c.args.world.now _ c.begin.new.seat c.begin.result c.world.view_is
+    c.requires.home c.requires.fresh c.requires.draws e.seat e.records e.begun e.context in
     record { fresh = b.fresh; begun = b.is; stamp = b.stamped; unmet = e.begun.unmet }

@@ -15,27 +15,52 @@ pub commit-place-requires-clause-owner : goal.commit-place-requires-clause-owner
 commit-place-requires-clause-owner c =
     let i = c.prepared.inside in
     let t = transaction_of i.record.txn in
-    let p : Change = record { transaction = t; answer = answer_of i.record.reply; before = i.before.value; after = graph_after i.before.value t } in
+    let p : Change = record {
+      transaction = t;
+      answer = answer_of i.record.reply;
+      before = i.before.value;
+      after = graph_after i.before.value t;
+    } in
     let r : Record = record (i.record) { caller = c.who.result; seq = c.commits-seq.result } in
-    (may_commit c.args.self.now p r c.requires.fresh (subst (IsMade (holding_of c.args.self.now)) (sym c.prepared.view_is) c.requires.made) c.who.ensures c.commits-seq.ensures c.prepared.invariant.next.fits).owner
+    (may_commit c.args.self.now p r c.requires.fresh
+    (subst (IsMade (holding_of c.args.self.now)) (sym c.prepared.view_is) c.requires.made) c.who.ensures
+    c.commits-seq.ensures c.prepared.invariant.next.fits).owner
 
 pub commit-place-requires-clause-held : goal.commit-place-requires-clause-held
 commit-place-requires-clause-held c =
     let i = c.prepared.inside in
     let t = transaction_of i.record.txn in
-    let p : Change = record { transaction = t; answer = answer_of i.record.reply; before = i.before.value; after = graph_after i.before.value t } in
+    let p : Change = record {
+      transaction = t;
+      answer = answer_of i.record.reply;
+      before = i.before.value;
+      after = graph_after i.before.value t;
+    } in
     let r : Record = record (i.record) { caller = c.who.result; seq = c.commits-seq.result } in
-    (may_commit c.args.self.now p r c.requires.fresh (subst (IsMade (holding_of c.args.self.now)) (sym c.prepared.view_is) c.requires.made) c.who.ensures c.commits-seq.ensures c.prepared.invariant.next.fits).held
+    (may_commit c.args.self.now p r c.requires.fresh
+    (subst (IsMade (holding_of c.args.self.now)) (sym c.prepared.view_is) c.requires.made) c.who.ensures
+    c.commits-seq.ensures c.prepared.invariant.next.fits).held
 
 pub returns : goal.returns
 returns c =
     let i = c.prepared.inside in
     let t = transaction_of i.record.txn in
-    let p : Change = record { transaction = t; answer = answer_of i.record.reply; before = i.before.value; after = graph_after i.before.value t } in
+    let p : Change = record {
+      transaction = t;
+      answer = answer_of i.record.reply;
+      before = i.before.value;
+      after = graph_after i.before.value t;
+    } in
     let r : Record = record (i.record) { caller = c.who.result; seq = c.commits-seq.result } in
     let e = c.commit-place.ensures in
     let g : Hand = record (c.args.self.now) { seat = c.commit-place.new.seat } in
     let told : Receipt = record { place = c.commit-place.result; seq = c.commits-seq.result; reply = i.reply } in
-    let b = commits c.args.self.now c.args.world.now _ c.commit-place.new.seat p r _ _ told c.world.view_is c.requires.home c.requires.fresh e.seat e.committed
+    let b = commits c.args.self.now c.args.world.now _ c.commit-place.new.seat p r _ _ told c.world.view_is
+    c.requires.home c.requires.fresh e.seat e.committed
     (rw (c.who.ensures, c.commits-seq.ensures) refl) c.commits-seq.ensures c.prepared.invariant.reply e.capacity in
-    record { carries = b.carries; committed = subst (λ (q : Change). IsCommitted (holding_of c.args.self.now) q (holding_of g) told) c.prepared.view_is b.is }
+    record {
+      carries = b.carries;
+      committed =
+          subst (λ (q : Change). IsCommitted (holding_of c.args.self.now) q (holding_of g) told) c.prepared.view_is
+          b.is;
+    }

@@ -14,5 +14,6 @@ end-requires-clause-bare c = bare_of c.args.self.now c.requires.carries c.requir
 pub returns : goal.returns
 returns c =
     let e = c.end.ensures in
-    let b = ends c.args.self.now c.args.world.now _ c.end.new.seat c.world.view_is c.requires.home c.requires.carries e.seat e.records e.ended in
+    let b = ends c.args.self.now c.args.world.now _ c.end.new.seat c.world.view_is c.requires.home
+    c.requires.carries e.seat e.records e.ended in
     record { carries = b.carries; ended = b.is }

@@ -8,7 +8,8 @@ use Rattle.ww_model.proofs.state.Core.all_signed.Goals as goal
 pub returns-then-sign_at-eq0 : goal.returns-then-sign_at-eq0
 returns-then-sign_at-eq0 c = let pair = get_or c.args.owed.now c.loop-pair.pair-index (0, 0) in (
   λ f. absurd (true≢false (sym f)),
-  λ all. absurd (all pair.0 pair.1 (has_at c.args.owed.now c.loop-pair.pair-index (0, 0) c.loop-pair-test.true) (sym c.sign_at.ensures ∙ c.if-sign_at-eq0.true)),
+  λ all. absurd (all pair.0 pair.1 (has_at c.args.owed.now c.loop-pair.pair-index (0, 0) c.loop-pair-test.true)
+      (sym c.sign_at.ensures ∙ c.if-sign_at-eq0.true)),
 )
 
 pub loop-pair-preserved : goal.loop-pair-preserved

@@ -9,10 +9,14 @@ use Rattle.ww_model.proofs.state.Core.clear.Goals as goal
 
 pub invariant_of-self : goal.invariant_of-self
 invariant_of-self c = let seat = cleared_seat (state_of (snapshot_of c.self.inside)) c.args.seat
-    (subst (λ (s : Snapshot). Possible (state_of s) (Clear c.args.seat)) (sym c.self.view_is) (c.can_clear.ensures.0 c.if-not-can_clear.false)) in
-    (did_clear c.args.self.now (snapshot_of c.self.inside) c.self.view_is c.self.invariant c.args.seat (omega (arith, seat, c.self.invariant.sizes.signs)) (c.can_clear.ensures.0 c.if-not-can_clear.false)).core
+    (subst (λ (s : Snapshot). Possible (state_of s) (Clear c.args.seat)) (sym c.self.view_is)
+    (c.can_clear.ensures.0 c.if-not-can_clear.false)) in
+    (did_clear c.args.self.now (snapshot_of c.self.inside) c.self.view_is c.self.invariant c.args.seat
+    (omega (arith, seat, c.self.invariant.sizes.signs)) (c.can_clear.ensures.0 c.if-not-can_clear.false)).core
 
 pub returns : goal.returns
 returns c = let seat = cleared_seat (state_of (snapshot_of c.self.inside)) c.args.seat
-    (subst (λ (s : Snapshot). Possible (state_of s) (Clear c.args.seat)) (sym c.self.view_is) (c.can_clear.ensures.0 c.if-not-can_clear.false)) in
-    (did_clear c.args.self.now (snapshot_of c.self.inside) c.self.view_is c.self.invariant c.args.seat (omega (arith, seat, c.self.invariant.sizes.signs)) (c.can_clear.ensures.0 c.if-not-can_clear.false)).steps
+    (subst (λ (s : Snapshot). Possible (state_of s) (Clear c.args.seat)) (sym c.self.view_is)
+    (c.can_clear.ensures.0 c.if-not-can_clear.false)) in
+    (did_clear c.args.self.now (snapshot_of c.self.inside) c.self.view_is c.self.invariant c.args.seat
+    (omega (arith, seat, c.self.invariant.sizes.signs)) (c.can_clear.ensures.0 c.if-not-can_clear.false)).steps

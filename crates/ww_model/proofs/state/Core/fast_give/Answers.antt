@@ -3,7 +3,9 @@ use Rattle.ww_model.proofs.Effects.{did_fast_give}
 use Rattle.ww_model.proofs.state.Core.fast_give.Goals as goal
 
 pub invariant_of-self : goal.invariant_of-self
-invariant_of-self c = (did_fast_give c.args.self.now (snapshot_of c.self.inside) c.self.view_is c.self.invariant c.args.seat c.args.lock (c.can_fast_give.ensures.0 c.if-not-can_fast_give.false)).core
+invariant_of-self c = (did_fast_give c.args.self.now (snapshot_of c.self.inside) c.self.view_is c.self.invariant
+    c.args.seat c.args.lock (c.can_fast_give.ensures.0 c.if-not-can_fast_give.false)).core
 
 pub returns : goal.returns
-returns c = (did_fast_give c.args.self.now (snapshot_of c.self.inside) c.self.view_is c.self.invariant c.args.seat c.args.lock (c.can_fast_give.ensures.0 c.if-not-can_fast_give.false)).steps
+returns c = (did_fast_give c.args.self.now (snapshot_of c.self.inside) c.self.view_is c.self.invariant c.args.seat
+    c.args.lock (c.can_fast_give.ensures.0 c.if-not-can_fast_give.false)).steps

@@ -9,5 +9,6 @@ pub returns : goal.returns
 returns c = let now = state_of c.args.self.now in
     let reached = subst (λ (s : Snapshot). Reached (state_of s)) c.self.view_is c.self.invariant.reached in (
       λ is. (c.place_of.result, c.lives_at.ensures.0 is),
-      λ some. c.lives_at.ensures.1 (subst (MayLive now c.args.seat) (sym (c.place_of.ensures ∙ place_is now reached c.args.seat some.0 some.1.inside)) some.1),
+      λ some. c.lives_at.ensures.1 (subst (MayLive now c.args.seat)
+          (sym (c.place_of.ensures ∙ place_is now reached c.args.seat some.0 some.1.inside)) some.1),
     )

@@ -8,4 +8,5 @@ loop-lock-preserved c = not_there (state_of c.args.self.now) c.args.seat c.loop-
 
 pub returns : goal.returns
 returns c = λ b w. c.loop-lock.invariant w.0 b
-    (let within = owned_within c.args.self.now.owners w.0 b w.1.owner in omega (arith, c.loop-lock-test.false, c.locks-lock-end.ensures)) w.1
+    (let within = owned_within c.args.self.now.owners w.0 b w.1.owner in
+    omega (arith, c.loop-lock-test.false, c.locks-lock-end.ensures)) w.1

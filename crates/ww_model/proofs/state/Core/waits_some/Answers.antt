@@ -7,5 +7,6 @@ use Rattle.ww_model.proofs.state.Core.waits_some.Goals as goal
 
 pub returns : goal.returns
 returns c = subst (λ (s : Snapshot). IsTrue c.any_has_waiter.result ↔ StandsSome (state_of s) c.args.seat) c.self.view_is
-    (rw (c.any_has_waiter.ensures, c.deref.ensures.value) (any_tells (has_waiter c.args.seat) c.self.inside.queues.items [] (λ q. Stands q c.args.seat) refl
+    (rw (c.any_has_waiter.ensures, c.deref.ensures.value)
+    (any_tells (has_waiter c.args.seat) c.self.inside.queues.items [] (λ q. Stands q c.args.seat) refl
     (waiter_stands c.args.seat) (stands_waiter c.args.seat)))

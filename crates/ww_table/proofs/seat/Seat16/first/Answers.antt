@@ -14,4 +14,5 @@ pub returns-clause-first : goal.returns-clause-first
 returns-clause-first c = let b = c.bring_list-slot.ensures in c.first_there.ensures.first _ (list_on_top _ _ _ _ b.read b.slot)
 
 pub returns-clause-seat : goal.returns-clause-seat
-returns-clause-seat c = seated_still _ _ _ (c.bring_list-slot.ensures.seat _ c.requires.seat) c.first_there.ensures.home.0 c.first_there.ensures.same refl refl refl refl refl refl refl
+returns-clause-seat c = seated_still _ _ _ (c.bring_list-slot.ensures.seat _ c.requires.seat)
+    c.first_there.ensures.home.0 c.first_there.ensures.same refl refl refl refl refl refl refl

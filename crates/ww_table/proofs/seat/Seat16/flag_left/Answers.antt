@@ -14,7 +14,9 @@ returns-clause-read c = still_on_top _ _ _ _ c.bring_list-slot.ensures.read c.fl
 
 pub returns-clause-flag : goal.returns-clause-flag
 returns-clause-flag c = let b = c.bring_list-slot.ensures in c.flag_there.ensures.flag _ (list_on_top _ _ _ _ b.read b.slot)
-    ∙ ap (λ (who : ℕ). waiting (left c.args.self.now.seat.me.0.part.core.list who)) (sym (number_before _ _ _ _ (b.seat _ c.requires.seat) b.read))
+    ∙ ap (λ (who : ℕ). waiting (left c.args.self.now.seat.me.0.part.core.list who))
+    (sym (number_before _ _ _ _ (b.seat _ c.requires.seat) b.read))
 
 pub returns-clause-seat : goal.returns-clause-seat
-returns-clause-seat c = seated_still _ _ _ (c.bring_list-slot.ensures.seat _ c.requires.seat) c.flag_there.ensures.home.0 c.flag_there.ensures.same refl refl refl refl refl refl refl
+returns-clause-seat c = seated_still _ _ _ (c.bring_list-slot.ensures.seat _ c.requires.seat)
+    c.flag_there.ensures.home.0 c.flag_there.ensures.same refl refl refl refl refl refl refl

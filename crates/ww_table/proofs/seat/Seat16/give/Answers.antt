@@ -1,12 +1,11 @@
-use Rattle.std.proofs.Common.{◌==◌, ◌+◌, arith, ap, sym, refl, ◌∙◌, subst, ◌∷◌}
+use Rattle.std.proofs.Common.{◌==◌, ◌+◌, arith, ap, sym, refl, ◌∙◌, subst, ◌∷◌, inr}
 use Rattle.atomic_table.specs.Table.{rest}
 use Rattle.ww_word.specs.Owner.{IsValid}
 use Rattle.ww_rule.specs.declared.cells.Cell.TheVariants.{Content, Line}
 use Rattle.ww_rule.specs.declared.cells.Sight.{Sight}
 use Rattle.ww_rule.specs.Rule.{Sat}
 use Rattle.ww_rule.specs.Out.{numbers_of, AreOthers}
-use Rattle.ww_rule.specs.Guards.{lost}
-use Rattle.ww_rule.specs.Waiting.{SeesWaiters, giving_inside}
+use Rattle.ww_rule.specs.Waiting.{IsStillThere, giving_inside}
 use Rattle.ww_rule.proofs.InsideSteps.{gives_with_list}
 use Rattle.ww_rule.proofs.InsideTurning.{given_valid}
 use Rattle.ww_rule.proofs.Turning.{popped}
@@ -15,52 +14,51 @@ use Rattle.ww_table.proofs.Seated.{seated_as}
 use Rattle.ww_table.proofs.seat.Seat16.give.Goals as goal
 
 pub bring-requires-clause-out : goal.bring-requires-clause-out
-bring-requires-clause-out c = let out = c.requires.out in (Content out.0, node_out _ _ c.args.lock out.0 c.next_owner-owner.ensures.read out.1)
+bring-requires-clause-out c = let out = c.requires.out in
+    (Content out.0, node_out _ _ c.args.lock out.0 c.next_owner-owner.ensures.read out.1)
 
 pub pack-new-requires : goal.pack-new-requires
-pack-new-requires c = subst IsValid (sym c.next_owner-owner.ensures.owner) (given_valid (c.args.seen.flags == 3) c.args.self.now.seat.me.0.part.core.list c.requires.waiters)
+pack-new-requires c = subst IsValid (sym c.next_owner-owner.ensures.owner)
+    (given_valid (c.args.seen.flags == 3) c.args.self.now.seat.me.0.part.core.list c.requires.waiters)
 
-pub compare_exchange-found-requires : goal.compare_exchange-found-requires
-compare_exchange-found-requires c = let r = c.next_owner-owner.ensures in let b = c.bring.ensures in let out = c.requires.out in
+pub compare_exchange-requires : goal.compare_exchange-requires
+compare_exchange-requires c = let r = c.next_owner-owner.ensures in let b = c.bring.ensures in let out = c.requires.out in
     let n = node_brought _ _ c.args.lock out.0 r.read _ _ _ out.1 b.slots.2 b.slots.3 b.slots.4 in (
       b.home.0 ∙ r.seat.home,
-      (let z = c.args.board.now.sized.0 in let few = c.args.board.now.few in let many = c.args.board.now.many in let fits = c.args.board.now.fits in let small = c.requires.lock in let word = c.owner_word.ensures in omega arith),
-      gives_with_list _ _ _ c.args.self.now.seat.me.0 _ c.args.lock c.args.seen c.next_owner-owner.result out.0 b.slots.1 _ _ _ (b.view ∙ ap (λ (m : Sat). m.0) r.read.now) n.1 c.owner_word.ensures c.pack-old.ensures c.pack-new.ensures r.owner c.requires.seat.seated c.requires.may out.2 c.requires.valid,
+      (let z = c.args.board.now.sized.0 in let few = c.args.board.now.few in let many = c.args.board.now.many in
+          let fits = c.args.board.now.fits in let small = c.requires.lock in let word = c.owner_word.ensures in
+          omega arith),
+      gives_with_list _ _ _ c.args.self.now.seat.me.0 _ c.args.lock c.args.seen c.next_owner-owner.result out.0
+          b.slots.1 _ _ _ (b.view ∙ ap (λ (m : Sat). m.0) r.read.now) n.1 c.owner_word.ensures c.pack-old.ensures
+          c.pack-new.ensures r.owner c.requires.seat.seated c.requires.may out.2 c.requires.valid,
     )
-
-pub returns-then-found-old-clause-lost : goal.returns-then-found-old-clause-lost
-returns-then-found-old-clause-lost c = let t = c.next_owner-owner.ensures.read in let b = c.bring.ensures in let out = c.requires.out in
-    let n = node_brought _ _ c.args.lock out.0 t _ _ _ out.1 b.slots.2 b.slots.3 b.slots.4 in let view = b.view ∙ ap (λ (m : Sat). m.0) t.now in
-    let miss = (c.compare_exchange-found.ensures.2 c.args.lock c.args.seen (c.owner_word.ensures, c.requires.valid, c.pack-old.ensures)).1 (λ z. c.if-found-old.true (z ∙ sym c.pack-old.ensures)) in
-    λ _. (out.0, t.others, b.slots.1, t.apart, n.0, miss ∙ (λ i. (lost (view i), n.1 i)))
-
-pub returns-then-found-old-clause-seat : goal.returns-then-found-old-clause-seat
-returns-then-found-old-clause-seat c = let r = c.next_owner-owner.ensures in let b = c.bring.ensures in
-    let miss = (c.compare_exchange-found.ensures.2 c.args.lock c.args.seen (c.owner_word.ensures, c.requires.valid, c.pack-old.ensures)).1 (λ z. c.if-found-old.true (z ∙ sym c.pack-old.ensures)) in
-    seated_as _ _ _ (lost c.next_owner-owner.new.self.seat.me.0) r.seat (c.compare_exchange-found.ensures.0 ∙ b.home.0) (ap (λ (m : Sat). m.0) miss ∙ ap lost b.view) refl refl refl refl refl refl refl refl refl refl refl refl refl (b.order ∙ ap numbers_of (sym (ap (λ (m : Sat). m.1) miss)))
 
 pub returns-clause-gave : goal.returns-clause-gave
 returns-clause-gave c = let t = c.next_owner-owner.ensures.read in let b = c.bring.ensures in let out = c.requires.out in
-    let n = node_brought _ _ c.args.lock out.0 t _ _ _ out.1 b.slots.2 b.slots.3 b.slots.4 in let view = b.view ∙ ap (λ (m : Sat). m.0) t.now in
-    let hit = (c.compare_exchange-found.ensures.2 c.args.lock c.args.seen (c.owner_word.ensures, c.requires.valid, c.pack-old.ensures)).0 (c.if-found-old.false ∙ c.pack-old.ensures) in
-    λ _. (
+    let n = node_brought _ _ c.args.lock out.0 t _ _ _ out.1 b.slots.2 b.slots.3 b.slots.4 in let view = b.view
+    ∙ ap (λ (m : Sat). m.0) t.now in
+    let told = c.compare_exchange.ensures.2 c.args.lock c.args.seen (c.owner_word.ensures, c.requires.valid, c.pack-old.ensures) in
+    let hit = told.0 (told.2 (subst (λ (w : Sight). IsStillThere w.part.core c.args.lock c.args.seen) (sym view)
+    (record { inside = c.requires.may.inside; alone = inr c.requires.may.owns; seen = c.requires.seen }))) in (
       out.0,
       t.others,
       ap (λ (m : Sat). m.0) hit ∙ ap (λ (w : Sight). giving_inside w c.args.lock (c.args.seen.flags == 3)) view,
       t.apart,
-      subst (AreOthers ((64 + c.args.lock, Line c.args.self.now.seat.me.0.part.core.list) ∷ t.others) c.args.lock (Content out.0)) (sym (ap (λ (m : Sat). m.1) hit ∙ ap rest n.1)) n.0,
+      subst (AreOthers ((64 + c.args.lock, Line c.args.self.now.seat.me.0.part.core.list) ∷ t.others) c.args.lock
+          (Content out.0)) (sym (ap (λ (m : Sat). m.1) hit ∙ ap rest n.1)) n.0,
     )
 
 pub returns-clause-seat : goal.returns-clause-seat
 returns-clause-seat c = let r = c.next_owner-owner.ensures in let b = c.bring.ensures in let out = c.requires.out in
-    let n = node_brought _ _ c.args.lock out.0 r.read _ _ _ out.1 b.slots.2 b.slots.3 b.slots.4 in
-    let hit = (c.compare_exchange-found.ensures.2 c.args.lock c.args.seen (c.owner_word.ensures, c.requires.valid, c.pack-old.ensures)).0 (c.if-found-old.false ∙ c.pack-old.ensures) in
-    let p = c.pop.ensures in let items = popped c.bring.new.order.items (numbers_of b.slots.1) c.pop.new.self.items c.args.lock c.pop.result (b.order ∙ ap numbers_of n.1) p.items p.variant.1 in
-    seated_as _ _ _ (giving_inside c.next_owner-owner.new.self.seat.me.0 c.args.lock (c.args.seen.flags == 3)) r.seat (c.compare_exchange-found.ensures.0 ∙ b.home.0)
-    (ap (λ (m : Sat). m.0) hit ∙ ap (λ (w : Sight). giving_inside w c.args.lock (c.args.seen.flags == 3)) b.view) refl refl refl refl refl refl refl refl refl refl refl refl refl
+    let n = node_brought _ _ c.args.lock out.0 r.read _ _ _ out.1 b.slots.2 b.slots.3 b.slots.4 in let view = b.view
+    ∙ ap (λ (m : Sat). m.0) r.read.now in
+    let told = c.compare_exchange.ensures.2 c.args.lock c.args.seen (c.owner_word.ensures, c.requires.valid, c.pack-old.ensures) in
+    let hit = told.0 (told.2 (subst (λ (w : Sight). IsStillThere w.part.core c.args.lock c.args.seen) (sym view)
+    (record { inside = c.requires.may.inside; alone = inr c.requires.may.owns; seen = c.requires.seen }))) in
+    let p = c.pop.ensures in let items = popped c.bring.new.order.items (numbers_of b.slots.1) c.pop.new.self.items
+    c.args.lock c.pop.result (b.order ∙ ap numbers_of n.1) p.items p.variant.1 in
+    seated_as _ _ _ (giving_inside c.next_owner-owner.new.self.seat.me.0 c.args.lock (c.args.seen.flags == 3))
+    r.seat (c.compare_exchange.ensures.0 ∙ b.home.0)
+    (ap (λ (m : Sat). m.0) hit ∙ ap (λ (w : Sight). giving_inside w c.args.lock (c.args.seen.flags == 3)) b.view)
+    refl refl refl refl refl refl refl refl refl refl refl refl refl
     (items ∙ ap numbers_of (sym (ap (λ (m : Sat). m.1) hit ∙ ap rest n.1)))
-
-pub returns-then-found-old-clause-sure : goal.returns-then-found-old-clause-sure
-returns-then-found-old-clause-sure c = let view = c.bring.ensures.view ∙ ap (λ (m : Sat). m.0) c.next_owner-owner.ensures.read.now in
-    λ waits saw. absurd (c.if-found-old.true ((c.compare_exchange-found.ensures.2 c.args.lock c.args.seen (c.owner_word.ensures, c.requires.valid, c.pack-old.ensures)).2
-    (subst (λ (w : Sight). SeesWaiters w.part.core c.args.lock c.args.seen) (sym view) (record { inside = c.requires.may.inside; waits = waits; seen = saw })) ∙ sym c.pack-old.ensures))

@@ -12,17 +12,41 @@ use Rattle.ww_table.proofs.Seated.{seated_as}
 use Rattle.ww_table.proofs.seat.Seat16.give_bare.Goals as goal
 
 pub compare_exchange-requires : goal.compare_exchange-requires
-compare_exchange-requires c = let s = c.requires.seat in let small = c.requires.lock.1 in let word = c.owner_word.ensures in let few = c.args.board.now.few in let many = c.args.board.now.many in let fits = c.args.board.now.fits in
-    let same : ◌≡◌ {A = Owner} (record { seat = Some c.args.self.now.who; stamp = c.args.self.now.stamp; flags = 0 }) (record { seat = Some c.args.self.now.seat.me.0.part.core.who; stamp = c.args.self.now.seat.me.0.part.core.stamp; flags = 0 }) = (λ i. record { seat = Some (sym s.who i); stamp = sym s.stamp i; flags = 0 }) in
-    (s.home, (let z = c.args.board.now.sized.0 in omega arith), gives_bare _ _ _ _ c.args.lock _ _ word c.requires.lock.0 small s.seated c.requires.away c.requires.owner (subst IsValid same (record { seating = s.few; stamp = s.small; flags = inl refl })) (s.own ∙ ap packed same))
+compare_exchange-requires c = let s = c.requires.seat in let small = c.requires.lock.1 in
+    let word = c.owner_word.ensures in let few = c.args.board.now.few in let many = c.args.board.now.many in
+    let fits = c.args.board.now.fits in
+    let same : ◌≡◌ {A = Owner} (record {
+      seat = Some c.args.self.now.who;
+      stamp = c.args.self.now.stamp;
+      flags = 0;
+    }) (record {
+      seat = Some c.args.self.now.seat.me.0.part.core.who;
+      stamp = c.args.self.now.seat.me.0.part.core.stamp;
+      flags = 0;
+    }) =
+    (λ i. record { seat = Some (sym s.who i); stamp = sym s.stamp i; flags = 0 }) in (
+      s.home,
+      (let z = c.args.board.now.sized.0 in omega arith),
+      gives_bare _ _ _ _ c.args.lock _ _ word
+          c.requires.lock.0 small s.seated c.requires.away c.requires.owner
+          (subst IsValid same (record { seating = s.few; stamp = s.small; flags = inl refl }))
+          (s.own ∙ ap packed same),
+    )
 
 pub returns-clause-seat : goal.returns-clause-seat
-returns-clause-seat c = let e = c.compare_exchange.ensures in let told = e.2 c.args.lock c.owner_word.ensures in let s = c.requires.seat in let v = c.args.self.now.seat.me.0 in dite (ℕ_discrete c.compare_exchange.result c.args.self.now.own)
-    (λ won. let now = told.0 won in seated_as _ c.args.self.now _ (knowing v (fast_given v.part.core c.args.lock)) s e.0 (ap (λ m. m.0) now) refl refl refl refl refl refl refl refl refl refl refl refl refl (s.order ∙ ap numbers_of (sym (ap (λ m. m.1) now))))
-    (λ lost. let now = told.1 lost in seated_as _ c.args.self.now _ (keeping v) s e.0 (ap (λ m. m.0) now) refl refl refl refl refl refl refl refl refl refl refl refl refl (s.order ∙ ap numbers_of (sym (ap (λ m. m.1) now))))
+returns-clause-seat c = let e = c.compare_exchange.ensures in let told = e.2 c.args.lock c.owner_word.ensures in
+    let s = c.requires.seat in let v = c.args.self.now.seat.me.0 in
+    dite (ℕ_discrete c.compare_exchange.result c.args.self.now.own)
+    (λ won. let now = told.0 won in seated_as _ c.args.self.now _ (knowing v (fast_given v.part.core c.args.lock)) s
+    e.0 (ap (λ m. m.0) now) refl refl refl refl refl refl refl refl refl refl refl refl refl
+    (s.order ∙ ap numbers_of (sym (ap (λ m. m.1) now))))
+    (λ lost. let now = told.1 lost in seated_as _ c.args.self.now _ (keeping v) s e.0 (ap (λ m. m.0) now) refl refl
+    refl refl refl refl refl refl refl refl refl refl refl (s.order ∙ ap numbers_of (sym (ap (λ m. m.1) now))))
 
 pub returns-clause-gave : goal.returns-clause-gave
-returns-clause-gave c = λ won. (c.compare_exchange.ensures.2 c.args.lock c.owner_word.ensures).0 (same_number c.compare_exchange.result c.args.self.now.own won)
+returns-clause-gave c = λ won. (c.compare_exchange.ensures.2 c.args.lock c.owner_word.ensures).0
+    (same_number c.compare_exchange.result c.args.self.now.own won)
 
 pub returns-clause-kept : goal.returns-clause-kept
-returns-clause-kept c = λ lost. (c.compare_exchange.ensures.2 c.args.lock c.owner_word.ensures).1 (other_number c.compare_exchange.result c.args.self.now.own lost)
+returns-clause-kept c = λ lost. (c.compare_exchange.ensures.2 c.args.lock c.owner_word.ensures).1
+    (other_number c.compare_exchange.result c.args.self.now.own lost)

@@ -1,46 +1,44 @@
-use Rattle.std.proofs.Common.{◌==◌, arith, ap, sym, refl, ◌∙◌, subst, eqb-true, eq-eqb, true≢false}
-use mathlib.Core.Logic.{dite}
-use native.Mathlib.Decide.{ℕ_discrete}
-use Rattle.ww_word.specs.Owner.{IsValid, packed}
+use Rattle.std.proofs.Common.{◌==◌, arith, ap, sym, refl, ◌∙◌, subst, inr}
+use Rattle.ww_word.specs.Owner.{IsValid}
 use Rattle.ww_view.specs.Made.{given}
 use Rattle.ww_rule.specs.declared.cells.Sight.{Sight}
 use Rattle.ww_rule.specs.Rule.{Sat}
 use Rattle.ww_rule.specs.Out.{numbers_of}
-use Rattle.ww_rule.specs.Guards.{lost}
 use Rattle.ww_rule.specs.Steps.{knowing}
-use Rattle.ww_rule.specs.Waiting.{SeesWaiters}
+use Rattle.ww_rule.specs.Waiting.{IsStillThere}
 use Rattle.ww_rule.proofs.InsideSteps.{gives_bare_with_list}
 use Rattle.ww_rule.proofs.InsideTurning.{given_valid}
 use Rattle.ww_table.proofs.Seated.{seated_as}
 use Rattle.ww_table.proofs.seat.Seat16.give_bare_inside.Goals as goal
 
 pub pack-new-requires : goal.pack-new-requires
-pack-new-requires c = subst IsValid (sym c.next_owner-owner.ensures.owner) (given_valid (c.args.seen.flags == 3) c.args.self.now.seat.me.0.part.core.list c.requires.waiters)
+pack-new-requires c = subst IsValid (sym c.next_owner-owner.ensures.owner)
+    (given_valid (c.args.seen.flags == 3) c.args.self.now.seat.me.0.part.core.list c.requires.waiters)
 
 pub compare_exchange-requires : goal.compare_exchange-requires
 compare_exchange-requires c = let r = c.next_owner-owner.ensures in (
   r.seat.home,
   (let z = c.args.board.now.sized.0 in let small = c.requires.lock.1 in let word = c.owner_word.ensures in omega arith),
-  gives_bare_with_list _ _ _ c.args.self.now.seat.me.0 _ c.args.lock c.args.seen c.next_owner-owner.result _ _ _ (ap (λ (m : Sat). m.0) r.read.now) c.owner_word.ensures c.pack-old.ensures c.pack-new.ensures r.owner c.requires.lock.0 c.requires.seat.seated c.requires.may c.requires.valid,
+  gives_bare_with_list _ _ _ c.args.self.now.seat.me.0 _ c.args.lock c.args.seen c.next_owner-owner.result _ _ _
+      (ap (λ (m : Sat). m.0) r.read.now) c.owner_word.ensures c.pack-old.ensures c.pack-new.ensures r.owner
+      c.requires.lock.0 c.requires.seat.seated c.requires.may c.requires.valid,
 )
 
 pub returns-clause-gave : goal.returns-clause-gave
-returns-clause-gave c = λ is. let t = c.next_owner-owner.ensures.read in
-    let hit = (c.compare_exchange.ensures.2 c.args.lock c.args.seen (c.owner_word.ensures, c.requires.valid, c.pack-old.ensures)).0 (eqb-true _ _ is ∙ c.pack-old.ensures) in
-    (t.others, t.apart, hit ∙ ap (λ (m : Sat). let now : Sat = (knowing m.0 (given m.0.part.core c.args.lock (c.args.seen.flags == 3)), m.1) in now) t.now)
-
-pub returns-clause-lost : goal.returns-clause-lost
-returns-clause-lost c = λ isnt. let t = c.next_owner-owner.ensures.read in
-    let miss = (c.compare_exchange.ensures.2 c.args.lock c.args.seen (c.owner_word.ensures, c.requires.valid, c.pack-old.ensures)).1 (λ z. true≢false (sym (eq-eqb _ _ (z ∙ sym c.pack-old.ensures)) ∙ isnt)) in
-    (t.others, t.apart, miss ∙ ap (λ (m : Sat). let now : Sat = (lost m.0, m.1) in now) t.now)
+returns-clause-gave c = let t = c.next_owner-owner.ensures.read in let view = ap (λ (m : Sat). m.0) t.now in
+    let told = c.compare_exchange.ensures.2 c.args.lock c.args.seen (c.owner_word.ensures, c.requires.valid, c.pack-old.ensures) in
+    let hit = told.0 (told.2 (subst (λ (w : Sight). IsStillThere w.part.core c.args.lock c.args.seen) (sym view)
+    (record { inside = c.requires.may.inside; alone = inr c.requires.may.owns; seen = c.requires.seen }))) in (
+      t.others,
+      t.apart,
+      hit ∙ ap (λ (m : Sat). let now : Sat =
+          (knowing m.0 (given m.0.part.core c.args.lock (c.args.seen.flags == 3)), m.1) in now) t.now,
+    )
 
 pub returns-clause-seat : goal.returns-clause-seat
-returns-clause-seat c = let r = c.next_owner-owner.ensures.seat in let e = c.compare_exchange.ensures in let told = e.2 c.args.lock c.args.seen (c.owner_word.ensures, c.requires.valid, c.pack-old.ensures) in
-    dite (ℕ_discrete c.compare_exchange.result (packed c.args.seen))
-    (λ hit. let now = told.0 hit in seated_as _ _ _ _ r e.0 (ap (λ (m : Sat). m.0) now) refl refl refl refl refl refl refl refl refl refl refl refl refl (r.order ∙ ap numbers_of (sym (ap (λ (m : Sat). m.1) now))))
-    (λ miss. let now = told.1 miss in seated_as _ _ _ _ r e.0 (ap (λ (m : Sat). m.0) now) refl refl refl refl refl refl refl refl refl refl refl refl refl (r.order ∙ ap numbers_of (sym (ap (λ (m : Sat). m.1) now))))
-
-pub returns-clause-sure : goal.returns-clause-sure
-returns-clause-sure c = λ waits saw. let view = ap (λ (m : Sat). m.0) c.next_owner-owner.ensures.read.now in
-    eq-eqb _ _ ((c.compare_exchange.ensures.2 c.args.lock c.args.seen (c.owner_word.ensures, c.requires.valid, c.pack-old.ensures)).2
-    (subst (λ (w : Sight). SeesWaiters w.part.core c.args.lock c.args.seen) (sym view) (record { inside = c.requires.may.inside; waits = waits; seen = saw })) ∙ sym c.pack-old.ensures)
+returns-clause-seat c = let r = c.next_owner-owner.ensures in let view = ap (λ (m : Sat). m.0) r.read.now in
+    let told = c.compare_exchange.ensures.2 c.args.lock c.args.seen (c.owner_word.ensures, c.requires.valid, c.pack-old.ensures) in
+    let hit = told.0 (told.2 (subst (λ (w : Sight). IsStillThere w.part.core c.args.lock c.args.seen) (sym view)
+    (record { inside = c.requires.may.inside; alone = inr c.requires.may.owns; seen = c.requires.seen }))) in
+    seated_as _ _ _ _ r.seat c.compare_exchange.ensures.0 (ap (λ (m : Sat). m.0) hit) refl refl refl refl refl refl
+    refl refl refl refl refl refl refl (r.seat.order ∙ ap numbers_of (sym (ap (λ (m : Sat). m.1) hit)))

@@ -11,33 +11,56 @@ use Rattle.ww_table.proofs.Seated.{seated_as}
 use Rattle.ww_table.proofs.seat.Seat16.give_free.Goals as goal
 
 pub compare_exchange-found-requires : goal.compare_exchange-found-requires
-compare_exchange-found-requires c = let s = c.requires.seat in let b = c.bring.ensures in let out = c.requires.out in let small = c.requires.lock in let word = c.owner_word.ensures in let few = c.args.board.now.few in let many = c.args.board.now.many in let fits = c.args.board.now.fits in
+compare_exchange-found-requires c = let s = c.requires.seat in let b = c.bring.ensures in
+    let out = c.requires.out in let small = c.requires.lock in let word = c.owner_word.ensures in
+    let few = c.args.board.now.few in let many = c.args.board.now.many in let fits = c.args.board.now.fits in
     let y = brought c.args.self.now.seat.me.1 c.args.lock out.0 b.slots.0 b.slots.2 out.1 in (
       b.home.0 ∙ s.home,
       (let z = c.args.board.now.sized.0 in let fits = c.args.board.now.fits in omega arith),
-      gives_brought _ _ _ c.args.self.now.seat.me.0 _ c.args.lock _ _ _ _ out.0 b.slots.1 b.view (b.slots.4 ∙ ap (λ (z : Cell). (c.args.lock, z) ∷ b.slots.1) y) word small s.seated c.requires.away c.requires.owner out.2 s.who s.stamp s.few s.small s.own,
+      gives_brought _ _ _ c.args.self.now.seat.me.0 _ c.args.lock _ _ _ _ out.0 b.slots.1 b.view
+          (b.slots.4 ∙ ap (λ (z : Cell). (c.args.lock, z) ∷ b.slots.1) y) word small s.seated c.requires.away
+          c.requires.owner out.2 s.who s.stamp s.few s.small s.own,
     )
 
 pub returns-then-found-own-clause-seat : goal.returns-then-found-own-clause-seat
-returns-then-found-own-clause-seat c = let b = c.bring.ensures in let e = c.compare_exchange-found.ensures in let lost = (e.2 c.args.lock c.owner_word.ensures).1 c.if-found-own.true in
-    seated_as _ c.args.self.now _ (keeping c.args.self.now.seat.me.0) c.requires.seat (e.0 ∙ b.home.0) (ap (λ m. m.0) lost ∙ ap keeping b.view) refl refl refl refl refl refl refl refl refl refl refl refl refl (b.order ∙ ap numbers_of (sym (ap (λ m. m.1) lost)))
+returns-then-found-own-clause-seat c = let b = c.bring.ensures in let e = c.compare_exchange-found.ensures in
+    let lost = (e.2 c.args.lock c.owner_word.ensures).1 c.if-found-own.true in
+    seated_as _ c.args.self.now _ (keeping c.args.self.now.seat.me.0) c.requires.seat (e.0 ∙ b.home.0)
+    (ap (λ m. m.0) lost ∙ ap keeping b.view) refl refl refl refl refl refl refl refl refl refl refl refl refl
+    (b.order ∙ ap numbers_of (sym (ap (λ m. m.1) lost)))
 
 pub returns-then-found-own-clause-kept : goal.returns-then-found-own-clause-kept
-returns-then-found-own-clause-kept c = let b = c.bring.ensures in let e = c.compare_exchange-found.ensures in let lost = (e.2 c.args.lock c.owner_word.ensures).1 c.if-found-own.true in let out = c.requires.out in
-    let y = brought c.args.self.now.seat.me.1 c.args.lock out.0 b.slots.0 b.slots.2 out.1 in let top = b.slots.4 ∙ ap (λ (z : Cell). (c.args.lock, z) ∷ b.slots.1) y in
-    λ _. (out.0, b.slots.1, subst (λ (z : Cell). AreOthers c.args.self.now.seat.me.1 c.args.lock z b.slots.1) y b.slots.3, lost ∙ (λ i. (keeping (b.view i), top i)))
+returns-then-found-own-clause-kept c = let b = c.bring.ensures in let e = c.compare_exchange-found.ensures in
+    let lost = (e.2 c.args.lock c.owner_word.ensures).1 c.if-found-own.true in let out = c.requires.out in
+    let y = brought c.args.self.now.seat.me.1 c.args.lock out.0 b.slots.0 b.slots.2 out.1 in let top = b.slots.4
+    ∙ ap (λ (z : Cell). (c.args.lock, z) ∷ b.slots.1) y in
+    λ _. (
+      out.0,
+      b.slots.1,
+      subst (λ (z : Cell). AreOthers c.args.self.now.seat.me.1 c.args.lock z b.slots.1) y
+          b.slots.3,
+      lost ∙ (λ i. (keeping (b.view i), top i)),
+    )
 
 pub returns-clause-seat : goal.returns-clause-seat
-returns-clause-seat c = let b = c.bring.ensures in let e = c.compare_exchange-found.ensures in let got = (e.2 c.args.lock c.owner_word.ensures).0 c.if-found-own.false in
+returns-clause-seat c = let b = c.bring.ensures in let e = c.compare_exchange-found.ensures in
+    let got = (e.2 c.args.lock c.owner_word.ensures).0 c.if-found-own.false in
     let p = c.pop.ensures in
-    seated_as _ c.args.self.now _ (giving c.args.self.now.seat.me.0 c.args.lock) c.requires.seat (e.0 ∙ b.home.0) (ap (λ m. m.0) got ∙ ap (λ (v : Sight). giving v c.args.lock) b.view) refl refl refl refl refl refl refl refl refl refl refl refl refl
-    (popped c.bring.new.order.items (numbers_of b.slots.1) c.pop.new.self.items c.args.lock c.pop.result (b.order ∙ ap numbers_of b.slots.4) p.items p.variant.1 ∙ ap numbers_of (sym (ap (λ m. m.1) got ∙ ap rest b.slots.4)))
+    seated_as _ c.args.self.now _ (giving c.args.self.now.seat.me.0 c.args.lock) c.requires.seat (e.0 ∙ b.home.0)
+    (ap (λ m. m.0) got ∙ ap (λ (v : Sight). giving v c.args.lock) b.view) refl refl refl refl refl refl refl
+    refl refl refl refl refl refl
+    (popped c.bring.new.order.items (numbers_of b.slots.1) c.pop.new.self.items c.args.lock c.pop.result
+    (b.order ∙ ap numbers_of b.slots.4) p.items p.variant.1
+    ∙ ap numbers_of (sym (ap (λ m. m.1) got ∙ ap rest b.slots.4)))
 
 pub returns-clause-gave : goal.returns-clause-gave
-returns-clause-gave c = let b = c.bring.ensures in let e = c.compare_exchange-found.ensures in let got = (e.2 c.args.lock c.owner_word.ensures).0 c.if-found-own.false in let out = c.requires.out in
+returns-clause-gave c = let b = c.bring.ensures in let e = c.compare_exchange-found.ensures in
+    let got = (e.2 c.args.lock c.owner_word.ensures).0 c.if-found-own.false in let out = c.requires.out in
     let y = brought c.args.self.now.seat.me.1 c.args.lock out.0 b.slots.0 b.slots.2 out.1 in
     λ _. (
       out.0,
       ap (λ m. m.0) got ∙ ap (λ (v : Sight). giving v c.args.lock) b.view,
-      subst (AreOthers c.args.self.now.seat.me.1 c.args.lock (Content out.0)) (sym (ap (λ m. m.1) got ∙ ap rest b.slots.4)) (subst (λ (z : Cell). AreOthers c.args.self.now.seat.me.1 c.args.lock z b.slots.1) y b.slots.3),
+      subst (AreOthers c.args.self.now.seat.me.1 c.args.lock (Content out.0))
+          (sym (ap (λ m. m.1) got ∙ ap rest b.slots.4))
+          (subst (λ (z : Cell). AreOthers c.args.self.now.seat.me.1 c.args.lock z b.slots.1) y b.slots.3),
     )

@@ -14,4 +14,5 @@ pub returns-clause-owner : goal.returns-clause-owner
 returns-clause-owner c = let b = c.bring_list-slot.ensures in c.owner_there.ensures.owner _ (list_on_top _ _ _ _ b.read b.slot)
 
 pub returns-clause-seat : goal.returns-clause-seat
-returns-clause-seat c = seated_still _ _ _ (c.bring_list-slot.ensures.seat _ c.requires.seat) c.owner_there.ensures.home.0 c.owner_there.ensures.same refl refl refl refl refl refl refl
+returns-clause-seat c = seated_still _ _ _ (c.bring_list-slot.ensures.seat _ c.requires.seat)
+    c.owner_there.ensures.home.0 c.owner_there.ensures.same refl refl refl refl refl refl refl

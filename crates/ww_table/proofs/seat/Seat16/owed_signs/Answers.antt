@@ -13,7 +13,10 @@ pub returns-clause-read : goal.returns-clause-read
 returns-clause-read c = still_on_top _ _ _ _ c.bring_list-slot.ensures.read c.owed_there.ensures.same
 
 pub returns-clause-owed : goal.returns-clause-owed
-returns-clause-owed c = let b = c.bring_list-slot.ensures in c.owed_there.ensures.owed _ (list_on_top _ _ _ _ b.read b.slot) ∙ ap (λ (s : Seat16). owed_signs s.kind c.args.seen c.args.self.now.seat.me.0.part.core.list s.who) b.same
+returns-clause-owed c = let b = c.bring_list-slot.ensures in
+    c.owed_there.ensures.owed _ (list_on_top _ _ _ _ b.read b.slot)
+    ∙ ap (λ (s : Seat16). owed_signs s.kind c.args.seen c.args.self.now.seat.me.0.part.core.list s.who) b.same
 
 pub returns-clause-seat : goal.returns-clause-seat
-returns-clause-seat c = seated_still _ _ _ (c.bring_list-slot.ensures.seat _ c.requires.seat) c.owed_there.ensures.home.0 c.owed_there.ensures.same refl refl refl refl refl refl refl
+returns-clause-seat c = seated_still _ _ _ (c.bring_list-slot.ensures.seat _ c.requires.seat)
+    c.owed_there.ensures.home.0 c.owed_there.ensures.same refl refl refl refl refl refl refl

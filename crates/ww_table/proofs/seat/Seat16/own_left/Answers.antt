@@ -8,8 +8,16 @@ use Rattle.ww_table.proofs.seat.Seat16.own_left.Goals as goal
 
 pub returns-clause-owner : goal.returns-clause-owner
 returns-clause-owner c = let r = c.flag_left-flags.ensures in
-    λ i. let w : Owner = record { seat = Some (sym (number_before _ _ _ _ r.seat r.read) i); stamp = sym (stamp_before _ _ _ _ r.seat r.read) i; flags = r.flag i } in w
+    λ i. let w : Owner = record {
+      seat = Some (sym (number_before _ _ _ _ r.seat r.read) i);
+      stamp = sym (stamp_before _ _ _ _ r.seat r.read) i;
+      flags = r.flag i;
+    } in w
 
 pub returns-clause-valid : goal.returns-clause-valid
 returns-clause-valid c = let r = c.flag_left-flags.ensures in let v = c.args.self.now.seat.me.0 in
-    record { seating = r.seat.few; stamp = r.seat.small; flags = subst AreFlags (sym r.flag) (waiting_flags (left v.part.core.list v.part.core.who)) }
+    record {
+      seating = r.seat.few;
+      stamp = r.seat.small;
+      flags = subst AreFlags (sym r.flag) (waiting_flags (left v.part.core.list v.part.core.who));
+    }

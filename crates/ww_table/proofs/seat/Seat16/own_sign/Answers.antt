@@ -5,11 +5,19 @@ use Rattle.ww_table.proofs.Seated.{seated_as}
 use Rattle.ww_table.proofs.seat.Seat16.own_sign.Goals as goal
 
 pub load-requires : goal.load-requires
-load-requires c = let s = c.requires.seat in let small = s.few in let word = c.sign_word.ensures in (s.home, (let z = c.args.board.now.sized.0 in let fits = c.args.board.now.fits in omega arith), reads _ _ _ _ _ (word ∙ ap (λ (t : ℕ). 8 * t) (sym s.who)) s.seated)
+load-requires c = let s = c.requires.seat in let small = s.few in let word = c.sign_word.ensures in (
+  s.home,
+  (let z = c.args.board.now.sized.0 in let fits = c.args.board.now.fits in omega arith),
+  reads _ _ _ _ _
+      (word ∙ ap (λ (t : ℕ). 8 * t) (sym s.who)) s.seated,
+)
 
 pub returns-clause-seat : goal.returns-clause-seat
-returns-clause-seat c = let s = c.requires.seat in let e = c.load.ensures in let r = read_is 0 c.sign_word.result c.args.self.now.seat.me c.load.new.seat.me c.load.result (c.sign_word.ensures ∙ ap (λ (t : ℕ). 8 * t) (sym s.who)) e.2 in
-    seated_as _ c.args.self.now _ _ s e.0 (ap (λ m. m.0) r.5) refl r.1 r.2 r.3 refl refl r.4 refl refl refl refl refl refl (s.order ∙ ap numbers_of (sym (ap (λ m. m.1) r.5)))
+returns-clause-seat c = let s = c.requires.seat in let e = c.load.ensures in
+    let r = read_is 0 c.sign_word.result c.args.self.now.seat.me c.load.new.seat.me c.load.result
+    (c.sign_word.ensures ∙ ap (λ (t : ℕ). 8 * t) (sym s.who)) e.2 in
+    seated_as _ c.args.self.now _ _ s e.0 (ap (λ m. m.0) r.5) refl r.1 r.2 r.3 refl refl r.4 refl refl refl refl
+    refl refl (s.order ∙ ap numbers_of (sym (ap (λ m. m.1) r.5)))
 
 pub returns-clause-signed : goal.returns-clause-signed
 returns-clause-signed c = (c.load.ensures.2 (c.sign_word.ensures ∙ ap (λ (t : ℕ). 8 * t) (sym c.requires.seat.who))).0

@@ -9,16 +9,28 @@ use Rattle.ww_table.proofs.Seated.{seated_as}
 use Rattle.ww_table.proofs.seat.Seat16.set_cancel.Goals as goal
 
 pub compare_exchange-requires : goal.compare_exchange-requires
-compare_exchange-requires c = let s = c.requires.seat in let small = c.requires.victim in
-    (s.home, (let z = c.args.board.now.sized.0 in let fits = c.args.board.now.fits in let word = c.cancel_word.ensures in omega arith), cancels _ _ _ _ c.args.victim _ _ c.cancel_word.ensures small s.seated c.requires.away (let w = s.who in omega arith))
+compare_exchange-requires c = let s = c.requires.seat in let small = c.requires.victim in (
+  s.home,
+  (let z = c.args.board.now.sized.0 in let fits = c.args.board.now.fits in
+      let word = c.cancel_word.ensures in omega arith),
+  cancels _ _ _ _ c.args.victim _ _ c.cancel_word.ensures
+      small s.seated c.requires.away (let w = s.who in omega arith),
+)
 
 pub returns-clause-seat : goal.returns-clause-seat
-returns-clause-seat c = let e = c.compare_exchange.ensures in let now = e.2 c.args.victim c.cancel_word.ensures in let s = c.requires.seat in dite (ℕ_discrete c.compare_exchange.result 0)
-    (λ none. let set = now.0 none in seated_as _ c.args.self.now _ (cancelling c.args.self.now.seat.me.0 c.args.victim) s e.0 (ap (λ m. m.0) set) refl refl refl refl refl refl refl refl refl refl refl refl refl (s.order ∙ ap numbers_of (sym (ap (λ m. m.1) set))))
-    (λ some. let pending = now.1 some in seated_as _ c.args.self.now _ (finding_pending c.args.self.now.seat.me.0) s e.0 (ap (λ m. m.0) pending) refl refl refl refl refl refl refl refl refl refl refl refl refl (s.order ∙ ap numbers_of (sym (ap (λ m. m.1) pending))))
+returns-clause-seat c = let e = c.compare_exchange.ensures in let now = e.2 c.args.victim c.cancel_word.ensures in
+    let s = c.requires.seat in dite (ℕ_discrete c.compare_exchange.result 0)
+    (λ none. let set = now.0 none in seated_as _ c.args.self.now _
+    (cancelling c.args.self.now.seat.me.0 c.args.victim) s e.0 (ap (λ m. m.0) set) refl refl refl refl refl refl
+    refl refl refl refl refl refl refl (s.order ∙ ap numbers_of (sym (ap (λ m. m.1) set))))
+    (λ some. let pending = now.1 some in seated_as _ c.args.self.now _ (finding_pending c.args.self.now.seat.me.0) s
+    e.0 (ap (λ m. m.0) pending) refl refl refl refl refl refl refl refl refl refl refl refl refl
+    (s.order ∙ ap numbers_of (sym (ap (λ m. m.1) pending))))
 
 pub returns-clause-set : goal.returns-clause-set
-returns-clause-set c = λ set. (c.compare_exchange.ensures.2 c.args.victim c.cancel_word.ensures).0 (same_number c.compare_exchange.result 0 set)
+returns-clause-set c = λ set. (c.compare_exchange.ensures.2 c.args.victim c.cancel_word.ensures).0
+    (same_number c.compare_exchange.result 0 set)
 
 pub returns-clause-pending : goal.returns-clause-pending
-returns-clause-pending c = λ pending. (c.compare_exchange.ensures.2 c.args.victim c.cancel_word.ensures).1 (other_number c.compare_exchange.result 0 pending)
+returns-clause-pending c = λ pending. (c.compare_exchange.ensures.2 c.args.victim c.cancel_word.ensures).1
+    (other_number c.compare_exchange.result 0 pending)

@@ -9,16 +9,28 @@ use Rattle.ww_table.proofs.Seated.{seated_as}
 use Rattle.ww_table.proofs.seat.Seat16.sign.Goals as goal
 
 pub compare_exchange-requires : goal.compare_exchange-requires
-compare_exchange-requires c = let s = c.requires.seat in let small = c.requires.victim in
-    (s.home, (let z = c.args.board.now.sized.0 in let fits = c.args.board.now.fits in let word = c.sign_word.ensures in omega arith), signs _ _ _ _ c.args.lock c.args.victim c.args.stamp _ c.sign_word.ensures small s.seated c.requires.may)
+compare_exchange-requires c = let s = c.requires.seat in let small = c.requires.victim in (
+  s.home,
+  (let z = c.args.board.now.sized.0 in let fits = c.args.board.now.fits in
+      let word = c.sign_word.ensures in omega arith),
+  signs _ _ _ _ c.args.lock c.args.victim c.args.stamp _
+      c.sign_word.ensures small s.seated c.requires.may,
+)
 
 pub returns-clause-seat : goal.returns-clause-seat
-returns-clause-seat c = let e = c.compare_exchange.ensures in let told = e.2 c.args.victim c.sign_word.ensures in let s = c.requires.seat in dite (ℕ_discrete c.compare_exchange.result 0)
-    (λ won. let now = told.0 won in seated_as _ c.args.self.now _ (condemning c.args.self.now.seat.me.0 c.args.victim) s e.0 (ap (λ m. m.0) now) refl refl refl refl refl refl refl refl refl refl refl refl refl (s.order ∙ ap numbers_of (sym (ap (λ m. m.1) now))))
-    (λ lost. let now = told.1 lost in seated_as _ c.args.self.now _ (noting c.args.self.now.seat.me.0 c.args.victim) s e.0 (ap (λ m. m.0) now) refl refl refl refl refl refl refl refl refl refl refl refl refl (s.order ∙ ap numbers_of (sym (ap (λ m. m.1) now))))
+returns-clause-seat c = let e = c.compare_exchange.ensures in let told = e.2 c.args.victim c.sign_word.ensures in
+    let s = c.requires.seat in dite (ℕ_discrete c.compare_exchange.result 0)
+    (λ won. let now = told.0 won in seated_as _ c.args.self.now _
+    (condemning c.args.self.now.seat.me.0 c.args.victim) s e.0 (ap (λ m. m.0) now) refl refl refl refl refl refl
+    refl refl refl refl refl refl refl (s.order ∙ ap numbers_of (sym (ap (λ m. m.1) now))))
+    (λ lost. let now = told.1 lost in seated_as _ c.args.self.now _ (noting c.args.self.now.seat.me.0 c.args.victim)
+    s e.0 (ap (λ m. m.0) now) refl refl refl refl refl refl refl refl refl refl refl refl refl
+    (s.order ∙ ap numbers_of (sym (ap (λ m. m.1) now))))
 
 pub returns-clause-condemned : goal.returns-clause-condemned
-returns-clause-condemned c = λ won. (c.compare_exchange.ensures.2 c.args.victim c.sign_word.ensures).0 (same_number c.compare_exchange.result 0 won)
+returns-clause-condemned c = λ won. (c.compare_exchange.ensures.2 c.args.victim c.sign_word.ensures).0
+    (same_number c.compare_exchange.result 0 won)
 
 pub returns-clause-noted : goal.returns-clause-noted
-returns-clause-noted c = λ lost. (c.compare_exchange.ensures.2 c.args.victim c.sign_word.ensures).1 (other_number c.compare_exchange.result 0 lost)
+returns-clause-noted c = λ lost. (c.compare_exchange.ensures.2 c.args.victim c.sign_word.ensures).1
+    (other_number c.compare_exchange.result 0 lost)

@@ -12,11 +12,14 @@ loop-pass-init g c =
     let w = c.captures.world.now in
     let ready = ready_from w 0 c.captures.scripts.items c.captures.passes.items c.requires.count
     (λ i t d lt. subst
-    (λ (k : ℕ). IsReady w k (get_or (map (λ (s : Vec Act). map deed_of s.items) c.captures.scripts.items) i t) (get_or c.captures.passes.items i d))
+    (λ (k : ℕ). IsReady w k (get_or (map (λ (s : Vec Act). map deed_of s.items) c.captures.scripts.items) i t)
+    (get_or c.captures.passes.items i d))
     (sym (zero-add i)) (c.requires.each i t d lt)) in
     let gives = c.into_iter-pass-iterator.ensures.into_iter_gives in (
       grind rules,
-      rw (c.into_iter-rest.ensures.rest, gives.0) (starting w c.captures.scripts.items c.captures.scripts.items c.captures.passes.items c.in_ok-workers.workers.items
+      rw (c.into_iter-rest.ensures.rest, gives.0)
+          (starting w c.captures.scripts.items c.captures.scripts.items c.captures.passes.items
+          c.in_ok-workers.workers.items
           (vec_capacity c.in_ok-workers.workers) refl c.in_ok-workers.ensures.items ready
           (omega (arith, c.in_ok-workers.ensures.capacity, c.len.ensures))),
     )

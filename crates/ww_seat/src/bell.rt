@@ -1,0 +1,101 @@
+//! What a thread sleeps on, and what others wake it by.
+ghost use Rattle.std.specs.Prelude.{◌≡◌, ◌+◌, true};
+ghost use Rattle.std.specs.Arc.{arc_value};
+
+use crossbeam_utils::rule::{Outcome, Protocol};
+use crossbeam_utils::sync::parker::{Pass, RuledParker, RuledUnparker};
+use std::alloc::{AllocError, Global};
+use std::sync::Wait;
+
+/// Nothing is asked of a token. A pass counts the tokens that it gave.
+pub(crate) struct Rings;
+
+impl Protocol<bool, u64> for Rings {
+    ghost holds = { λ _ _. Unit {0} };
+
+    ghost first = { 0 };
+}
+
+/// A token was given, and is there.
+struct Rang;
+
+impl Outcome<bool, u64> for Rang {
+    ghost then = { λ v _ now w. (now ≡ true) × (w ≡ v + 1) };
+}
+
+/// A token was there, and was taken.
+struct Heard;
+
+impl Outcome<bool, u64> for Heard {
+    ghost then = { λ v was _ w. (was ≡ true) × (w ≡ v) };
+}
+
+/// What one thread sleeps on. Nobody else has it.
+#[derive(Drop)]
+pub struct Parker {
+    parker: RuledParker<u64, Rings>,
+    pass: Pass<u64>,
+    ghost own: { pass.table_id ≡ (arc_value parker.unparker.state).shared.table_id },
+}
+
+impl Parker {
+    ghost use Rattle.std.specs.Prelude.{IfOk};
+    ghost use Rattle.ww_seat.specs.Bells.{leads_to, place_of};
+
+    pub fn new(alloc: Global) -> Result<Parker, AllocError> {
+        let (parker, pass) = RuledParker::ruled(alloc)?;
+        Ok(Parker { parker, pass })
+    }
+
+    /// A wire that leads to it.
+    pub fn wire(&self) -> Result<Wire, AllocError>
+        ensures { IfOk result (λ wire. leads_to wire ≡ place_of self.now) }
+    {
+        let unparker = self.parker.unparker().clone()?;
+        Ok(Wire { unparker })
+    }
+
+    /// Sleeps until its token is there, and takes it.
+    pub fn park<R: Wait>(&mut self, rt: &R)
+        ensures { place_of self.new ≡ place_of self.old }
+    {
+        self.parker.park_as::<Heard, R>(rt, &mut self.pass);
+    }
+}
+
+/// What bells of one parker are made of. Threads may share it; a bell they may not.
+#[derive(Drop)]
+pub struct Wire {
+    unparker: RuledUnparker<u64, Rings>,
+}
+
+/// Wakes whoever sleeps on one parker, by its token. It counts the tokens that it gave.
+#[derive(Drop)]
+pub struct Bell {
+    unparker: RuledUnparker<u64, Rings>,
+    pass: Pass<u64>,
+    ghost own: { pass.table_id ≡ (arc_value unparker.state).shared.table_id },
+}
+
+impl Bell {
+    ghost use Rattle.std.specs.Prelude.{IfOk};
+    ghost use Rattle.ww_seat.specs.Bells.{leads_to, rings_at, rung};
+
+    /// A bell of the parker to which the wire leads. It has given no token yet.
+    pub fn hang(wire: &Wire) -> Result<Bell, AllocError>
+        ensures placed { IfOk result (λ bell. rings_at bell ≡ leads_to wire.now) }
+        ensures silent { IfOk result (λ bell. rung bell ≡ 0) }
+    {
+        let unparker = wire.unparker.clone()?;
+        let pass = unparker.pass();
+        Ok(Bell { unparker, pass })
+    }
+
+    /// Gives the token, and wakes whoever sleeps there.
+    pub(crate) fn ring(&mut self)
+        ensures rung { rung self.new ≡ rung self.old + 1 }
+        ensures placed { rings_at self.new ≡ rings_at self.old }
+    {
+        self.unparker.unpark_as::<Rang>(&mut self.pass);
+    }
+}
