@@ -5,7 +5,7 @@ pub mod AtOnce
 pub mod Changes
 pub mod Guards
 pub mod Gives
-pub mod Waits
+pub mod Waitings
 pub mod Glances
 pub mod Working
 pub mod Signing

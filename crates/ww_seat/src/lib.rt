@@ -18,6 +18,7 @@ mod staying_away;
 mod taking;
 mod turns;
 mod waiting;
+mod waits;
 mod wake;
 
 pub use bell::{Bell, Parker, Wire};
@@ -31,4 +32,5 @@ pub use patience::{Patience, Waited};
 pub use resting::{MOST_GLANCES, MOST_PAUSES, Memory, Rest, Stay, limits};
 pub use turns::{cancel_once, enter_owned, enter_wanted, give_at_once, give_node_at_once, give_on};
 pub use waiting::{Stop, visit, wait_for};
+pub use waits::Waits;
 pub use wake::Wake;

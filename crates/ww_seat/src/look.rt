@@ -10,6 +10,7 @@ ghost use Rattle.ww_seat.specs.Work.{AreWoken, AreMarked, HasToWake, has_joined,
 use crate::interrupting::stop_if_cancelled;
 use crate::standing::{stand, stay_or_back_off};
 use crate::taking::take_inside;
+use crate::waits::Waits;
 use crate::wake::Wake;
 use std::sync::Wait;
 use ww_plain::Node;
@@ -93,7 +94,7 @@ pub fn look_once(
     board: &Board,
     lock: u32,
     arrival: &mut Arrival,
-    heeds: bool,
+    waits: Waits,
     holds: bool,
     wake: &mut Wake,
 ) -> Option<Look>
@@ -106,8 +107,8 @@ pub fn look_once(
     ensures seat { IsSeatOf board.now seat.new }
     ensures records { seat.new.records ≡ seat.old.records }
     ensures look { IfSome result (λ look. IsLook (size_of board.now) lock seat.old.seat.me look seat.new.seat.me) }
-    ensures heeds { IfSome result (MayLookSo heeds) }
-    ensures uncancelled { IfSome result (MayWaitSo heeds (view_of seat.new)) }
+    ensures waits { IfSome result (MayLookSo waits) }
+    ensures uncancelled { IfSome result (MayWaitSo waits (view_of seat.new)) }
     ensures lost { IfNone result (IsAtWork (size_of board.now) lock seat.old.seat.me (has_joined arrival.new) (looks_again arrival.new) seat.new.seat.me) }
     ensures again { looks_again arrival.new ≡ looks_again arrival.old }
     ensures attempted { (view_of seat.new).attempts ≡ (view_of seat.old).attempts + 1 }
@@ -122,7 +123,7 @@ pub fn look_once(
     }
     let word = stand(seat, board, lock, seen, *arrival, holds)?;
     *arrival = arrival.joining();
-    if let Some(by) = stop_if_cancelled(seat, board, lock, word, heeds) {
+    if let Some(by) = stop_if_cancelled(seat, board, lock, word, waits) {
         return Some(Look::Interrupted(by));
     }
     stay_or_back_off(seat, board, lock, word, *arrival, wake)
@@ -136,7 +137,7 @@ pub(crate) fn look_at<R: Wait>(
     board: &Board,
     lock: u32,
     arrival: Arrival,
-    heeds: bool,
+    waits: Waits,
     holds: bool,
     wake: &mut Wake,
 ) -> Look
@@ -149,13 +150,13 @@ pub(crate) fn look_at<R: Wait>(
     ensures seat { IsSeatOf board.now seat.new }
     ensures records { seat.new.records ≡ seat.old.records }
     ensures look { IsLook (size_of board.now) lock seat.old.seat.me result seat.new.seat.me }
-    ensures heeds { MayLookSo heeds result }
-    ensures uncancelled { MayWaitSo heeds (view_of seat.new) result }
+    ensures waits { MayLookSo waits result }
+    ensures uncancelled { MayWaitSo waits (view_of seat.new) result }
     ensures woken { AreWoken (view_of seat.new) wake.new.seats }
 {
     let mut arrival = arrival;
     for _ in rt.forever() {
-        match look_once(seat, board, lock, &mut arrival, heeds, holds, wake) {
+        match look_once(seat, board, lock, &mut arrival, waits, holds, wake) {
             Some(look) => return look,
             None => {}
         }

@@ -6,6 +6,7 @@ ghost use Rattle.ww_word.specs.Owner.{IsValid};
 ghost use Rattle.ww_view.specs.May.{MayDie};
 ghost use Rattle.ww_table.specs.Seat.{IsSeatOf, locks_of, size_of, view_of};
 ghost use Rattle.ww_seat.specs.declared.look.Look.TheVariants.{Deadlk};
+ghost use Rattle.ww_seat.specs.declared.waits.Waits.TheVariants.{ToTheEnd, UntilCancelled};
 ghost use Rattle.ww_seat.specs.Orderly.{IsOrderly};
 ghost use Rattle.ww_seat.specs.Looks.{IsLook, MayLookSo, MayWaitSo};
 ghost use Rattle.ww_seat.specs.Work.{AreWoken, AreMarked, HasToWake, HasCondemnedNone, IsTouched, has_joined, looks_again, IsWorking, IsAtWork, SeesOther, HasStood, HasAsked};
@@ -128,8 +129,8 @@ pub(crate) fn stay_or_back_off(
     ensures seat { IsSeatOf board.now seat.new }
     ensures records { seat.new.records ≡ seat.old.records }
     ensures look { IfSome result (λ look. IsLook (size_of board.now) lock seat.old.seat.me look seat.new.seat.me) }
-    ensures heeds { IfSome result (MayLookSo false) }
-    ensures uncancelled { IfSome result (MayWaitSo (view_of seat.old).uncancelled (view_of seat.new)) }
+    ensures waits { IfSome result (MayLookSo ToTheEnd) }
+    ensures uncancelled { (view_of seat.old).uncancelled ≡ true → IfSome result (MayWaitSo UntilCancelled (view_of seat.new)) }
     ensures lost { IfNone result (IsAtWork (size_of board.now) lock seat.old.seat.me true (looks_again arrival) seat.new.seat.me) }
     ensures attempts { (view_of seat.new).attempts ≡ (view_of seat.old).attempts }
     ensures marked { AreMarked wake.old.seats (HasToWake (view_of seat.new)) wake.new.seats }

@@ -197,6 +197,6 @@ returns-in-None-clause-lost c = let size = length (first_graph c.args.board.now.
     work_touched size n m stands later m1 c.take_inside.new.seat.seat.me w1 c.in-None.ensures.lost
 
 pub returns-clause-uncancelled : goal.returns-clause-uncancelled
-returns-clause-uncancelled c = waits_so c.args.heeds c.stop_if_cancelled.new.seat.seat.me.0.part.core.uncancelled
+returns-clause-uncancelled c = waits_so c.args.waits c.stop_if_cancelled.new.seat.seat.me.0.part.core.uncancelled
     c.stay_or_back_off.new.seat.seat.me.0.part.core c.stay_or_back_off.result
     c.in_default.ensures.uncancelled c.stay_or_back_off.ensures.uncancelled

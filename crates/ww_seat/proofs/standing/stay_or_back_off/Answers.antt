@@ -132,7 +132,7 @@ returns-else-not-back_off-clause-attempts c = c.back_off.ensures.condemned.attem
 
 pub returns-in-None-clause-uncancelled : goal.returns-in-None-clause-uncancelled
 returns-in-None-clause-uncancelled c =
-    λ found. ap (λ (z : Sight). z.part.core.uncancelled)
+    λ found _. ap (λ (z : Sight). z.part.core.uncancelled)
     (c.leave.ensures.view ∙ ap exiting c.death.ensures.told.view)
     ∙ ap (λ (z : Sight). z.part.core.uncancelled) c.sign_all.ensures.signed.view
     ∙ ap (λ (z : Sight). z.part.core.uncancelled) c.ask_if_first.ensures.touched.view ∙ found

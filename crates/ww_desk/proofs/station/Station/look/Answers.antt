@@ -12,7 +12,7 @@ use Rattle.ww_desk.proofs.station.Station.look.Goals as goal
 pub returns-in-Some-Locked-clause-keeps : goal.returns-in-Some-Locked-clause-keeps
 returns-in-Some-Locked-clause-keeps c =
     let k = c.requires.keeps in
-    let h : Station = record (c.args.self.now) { turn = Looks c.args.lock c.args.arrival c.args.heeds } in
+    let h : Station = record (c.args.self.now) { turn = Looks c.args.lock c.args.arrival c.args.waits } in
     let q = c.look_once-look.new.seat in
     let look : IsOrderly (size_of c.deref.result.now) q.seat.me × IsAway q.seat.me.0.part.core
     × HasTaken c.args.self.now.seat.seat.me c.args.lock c.in-Some-Locked.field-0-0 q.seat.me = search rules in
