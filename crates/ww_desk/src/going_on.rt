@@ -9,7 +9,8 @@ use crate::station::Station;
 use crate::turn::{Answer, Turn};
 use ww_queue::Entry;
 use ww_seat::{
-    Arrival, Look, Stay, Waits, Wake, cancel_once, enter_owned, enter_wanted, give_on, look_once,
+    Arrival, Attempt, Look, Stay, Waits, Wake, cancel_once, enter_owned, enter_wanted, give_on,
+    look_once,
 };
 use ww_word::MAX_SEATS;
 
@@ -61,7 +62,7 @@ impl Station {
         ensures answer { IsWaitAnswer (situation_of self.old) lock waits result (situation_of self.new) }
     {
         let mut arrival = arrival;
-        let look = look_once(
+        let attempt = look_once(
             &mut self.seat,
             &self.board,
             lock,
@@ -70,26 +71,26 @@ impl Station {
             !self.held.is_empty(),
             &mut self.wake,
         );
-        match look {
-            None => {
+        match attempt {
+            Attempt::Lost => {
                 self.turn = Turn::Looks(lock, arrival, waits);
                 Answer::Again
             }
-            Some(Look::Waits) => {
+            Attempt::Ended(Look::Waits) => {
                 self.turn = Turn::Wants(lock, Arrival::Woken, waits);
                 Answer::Sleeps
             }
-            Some(Look::Locked(_)) => {
+            Attempt::Ended(Look::Locked(_)) => {
                 self.add(lock);
                 self.turn = Turn::Rests;
                 Answer::Done
             }
-            Some(Look::Deadlk(met)) => {
+            Attempt::Ended(Look::Deadlk(met)) => {
                 self.told = Some(lock);
                 self.turn = Turn::Rests;
                 Answer::Deadlk(met)
             }
-            Some(Look::Interrupted(by)) => {
+            Attempt::Ended(Look::Interrupted(by)) => {
                 self.turn = Turn::Rests;
                 Answer::Interrupted(by)
             }

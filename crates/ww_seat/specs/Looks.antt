@@ -7,6 +7,8 @@ use Rattle.ww_rule.specs.Rule.{Sat}
 use Rattle.ww_rule.specs.Steps.{knowing}
 use Rattle.ww_seat.specs.Orderly.{IsOrderly}
 use Rattle.ww_seat.specs.Calls.{HoldsAsBefore, HasTaken, HasToDie, HasStopped}
+use Rattle.ww_seat.specs.declared.look.Attempt.{Attempt}
+use Rattle.ww_seat.specs.declared.look.Attempt.TheVariants.{Lost, Ended}
 use Rattle.ww_seat.specs.declared.look.Look.{Look}
 use Rattle.ww_seat.specs.declared.look.Look.TheVariants as look
 use Rattle.ww_seat.specs.declared.waits.Waits.{Waits}
@@ -40,6 +42,16 @@ IsLook size n m (look.Locked x) m' = IsOrderly size m' × IsAway m'.0.part.core 
 IsLook size n m (look.Deadlk k) m' = IsOrderly size m' × IsAway m'.0.part.core × HasToDie m n k m'
 IsLook size n m (look.Interrupted by) m' = IsOrderly size m' × IsAway m'.0.part.core × HasStopped m n by m'
 IsLook size n m look.Waits m' = IsOutside size n m' × (m'.0.part.core.waits ≡ suc n) × HoldsAsBefore m m'
+
+-- what is true of the look, if the attempt came to its end
+abbrev pub IfEnded : Attempt → (Look → Type 0) → Type 0
+IfEnded Lost P = Unit {0}
+IfEnded (Ended look) P = P look
+
+-- what is true if it was lost
+abbrev pub IfLost : Attempt → Type 0 → Type 0
+IfLost Lost P = P
+IfLost (Ended look) P = Unit {0}
 
 -- only a look of a wait until a cancel comes to an interruption
 abbrev pub MayLookSo : Waits → Look → Type 0

@@ -27,7 +27,7 @@ pub use context::{begin, end};
 pub use fast::{try_take, try_take_node};
 pub use giving::give_waited;
 pub use interrupting::cancel;
-pub use look::{Arrival, Look, look_once};
+pub use look::{Arrival, Attempt, Look, look_once};
 pub use patience::{Patience, Waited};
 pub use resting::{MOST_GLANCES, MOST_PAUSES, Memory, Rest, Stay, limits};
 pub use turns::{cancel_once, enter_owned, enter_wanted, give_at_once, give_node_at_once, give_on};
