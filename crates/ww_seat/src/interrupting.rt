@@ -6,7 +6,7 @@ ghost use Rattle.ww_seat.specs.declared.look.Look.TheVariants.{Interrupted};
 ghost use Rattle.ww_seat.specs.declared.waits.Waits.TheVariants.{UntilCancelled};
 ghost use Rattle.ww_seat.specs.Orderly.{IsOrderly, IsSettledAt};
 ghost use Rattle.ww_seat.specs.Looks.{IsLook};
-ghost use Rattle.ww_seat.specs.Bells.{AreBellsOf, ArePlacedAlike, IsRung};
+ghost use Rattle.ww_seat.specs.Bells.{AreBellsOf, ArePlacedAlike, IsRung, OnlyRing};
 ghost use Rattle.ww_seat.specs.Work.{HasCondemnedNone, IsWorking, SeesOther, GoesOn};
 
 use crate::bell::Bell;
@@ -29,6 +29,7 @@ pub fn cancel(seat: &mut Seat16, board: &Board, victim: u8, bells: &mut [Bell]) 
     ensures pending { result ≡ false → seat.new.seat.me ≡ (finding_pending seat.old.seat.me.0, seat.old.seat.me.1) }
     ensures records { seat.new.records ≡ seat.old.records }
     ensures rung { result ≡ true → IsRung victim bells.old bells.new }
+    ensures others { OnlyRing (λ u. (result ≡ true) × (u ≡ victim)) bells.old bells.new }
     ensures placed { ArePlacedAlike bells.old bells.new }
 {
     if !cancel_once(seat, board, victim) {
