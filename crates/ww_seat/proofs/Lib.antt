@@ -16,3 +16,4 @@ pub mod Stopped
 pub mod Stepwise
 pub mod Among
 pub mod Without
+pub mod Ringing

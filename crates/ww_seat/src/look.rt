@@ -5,7 +5,7 @@ ghost use Rattle.ww_view.specs.View.{owns};
 ghost use Rattle.ww_table.specs.Seat.{IsSeatOf, locks_of, size_of, view_of};
 ghost use Rattle.ww_seat.specs.Orderly.{IsOrderly};
 ghost use Rattle.ww_seat.specs.Looks.{IfEnded, IfLost, IsLook, MayLookSo, MayWaitSo};
-ghost use Rattle.ww_seat.specs.Work.{AreWoken, AreMarked, HasToWake, has_joined, looks_again, IsWorking, IsAtWork};
+ghost use Rattle.ww_seat.specs.Work.{AreWoken, AreOnlyWoken, StillHasToWake, AreMarked, HasToWake, has_joined, looks_again, IsWorking, IsAtWork};
 
 use crate::interrupting::stop_if_cancelled;
 use crate::standing::{stand, stay_or_back_off};
@@ -121,6 +121,7 @@ pub fn look_once(
     ensures again { looks_again arrival.new ≡ looks_again arrival.old }
     ensures attempted { (view_of seat.new).attempts ≡ (view_of seat.old).attempts + 1 }
     ensures marked { AreMarked wake.old.seats (HasToWake (view_of seat.new)) wake.new.seats }
+    ensures still { StillHasToWake (view_of seat.old) (view_of seat.new) }
 {
     let seen = seat.look(board, lock);
     if is_ours(seat, seen) {
@@ -157,12 +158,14 @@ pub(crate) fn look_at<R: Wait>(
     requires orderly { IsOrderly (size_of board.now) seat.old.seat.me }
     requires work { IsWorking lock (has_joined arrival) (looks_again arrival) (view_of seat.old) }
     requires woken { AreWoken (view_of seat.old) wake.old.seats }
+    requires only { AreOnlyWoken (view_of seat.old) wake.old.seats }
     ensures seat { IsSeatOf board.now seat.new }
     ensures records { seat.new.records ≡ seat.old.records }
     ensures look { IsLook (size_of board.now) lock seat.old.seat.me result seat.new.seat.me }
     ensures waits { MayLookSo waits result }
     ensures uncancelled { MayWaitSo waits (view_of seat.new) result }
     ensures woken { AreWoken (view_of seat.new) wake.new.seats }
+    ensures only { AreOnlyWoken (view_of seat.new) wake.new.seats }
 {
     let mut arrival = arrival;
     for _ in rt.forever() {

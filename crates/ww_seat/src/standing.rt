@@ -9,7 +9,7 @@ ghost use Rattle.ww_seat.specs.declared.look.Look.TheVariants.{Deadlk};
 ghost use Rattle.ww_seat.specs.declared.waits.Waits.TheVariants.{ToTheEnd, UntilCancelled};
 ghost use Rattle.ww_seat.specs.Orderly.{IsOrderly};
 ghost use Rattle.ww_seat.specs.Looks.{IfEnded, IfLost, IsLook, MayLookSo, MayWaitSo};
-ghost use Rattle.ww_seat.specs.Work.{AreWoken, AreMarked, HasToWake, HasCondemnedNone, IsTouched, has_joined, looks_again, IsWorking, IsAtWork, SeesOther, HasStood, HasAsked};
+ghost use Rattle.ww_seat.specs.Work.{AreWoken, StillHasToWake, AreMarked, HasToWake, HasCondemnedNone, IsTouched, has_joined, looks_again, IsWorking, IsAtWork, SeesOther, HasStood, HasAsked};
 
 use crate::leaving::leave;
 use crate::look::{Arrival, Attempt, Look};
@@ -134,6 +134,7 @@ pub(crate) fn stay_or_back_off(
     ensures lost { IfLost result (IsAtWork (size_of board.now) lock seat.old.seat.me true (looks_again arrival) seat.new.seat.me) }
     ensures attempts { (view_of seat.new).attempts ≡ (view_of seat.old).attempts }
     ensures marked { AreMarked wake.old.seats (HasToWake (view_of seat.new)) wake.new.seats }
+    ensures still { StillHasToWake (view_of seat.old) (view_of seat.new) }
 {
     let Some(word) = ask_if_first(seat, board, lock, seen, arrival) else {
         return Attempt::Lost;

@@ -6,8 +6,8 @@ ghost use Rattle.ww_table.specs.Seat.{IsSeatOf, locks_of, size_of, view_of};
 ghost use Rattle.ww_seat.specs.Orderly.{IsSettledAt};
 ghost use Rattle.ww_seat.specs.Calls.{HasTaken, IsTurnedAway, MayStop};
 ghost use Rattle.ww_seat.specs.Looks.{IsOutside, IsLook, MayLookSo, MayWaitSo};
-ghost use Rattle.ww_seat.specs.Work.{ComesOutside};
-ghost use Rattle.ww_seat.specs.Bells.{sleeps_at, AreBellsOf, ArePlacedAlike, HaveRung};
+ghost use Rattle.ww_seat.specs.Work.{ComesOutside, HasToWake};
+ghost use Rattle.ww_seat.specs.Bells.{sleeps_at, AreBellsOf, ArePlacedAlike, HaveRung, OnlyRing};
 
 use crate::bell::Bell;
 use crate::guard::spin_into_wanted;
@@ -131,6 +131,7 @@ pub fn visit<R: Wait>(
     ensures uncancelled { MayWaitSo waits (view_of seat.new) result }
     ensures records { seat.new.records ≡ seat.old.records }
     ensures rung { HaveRung (view_of seat.new) bells.old bells.new }
+    ensures others { OnlyRing (HasToWake (view_of seat.new)) bells.old bells.new }
     ensures placed { ArePlacedAlike bells.old bells.new }
 {
     spin_into_wanted(rt, seat, board, lock);

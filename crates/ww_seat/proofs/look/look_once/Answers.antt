@@ -4,7 +4,7 @@ use Rattle.ww_view.specs.View.{owns}
 use Rattle.ww_rule.specs.Rule.{Sat, first_graph}
 use Rattle.ww_seat.specs.Looks.{IfLost}
 use Rattle.ww_seat.specs.Work.{has_joined, looks_again, IsWorking, IsAtWork}
-use Rattle.ww_seat.proofs.Working.{woken_still, woken_looked, marked_none, look_counts, work_touched, work_looked}
+use Rattle.ww_seat.proofs.Working.{woken_still, woken_looked, still_none, still_looked, marked_none, look_counts, work_touched, work_looked}
 use Rattle.ww_seat.proofs.Holds.{stopped_then}
 use Rattle.ww_seat.proofs.Stood.{work_stood, flags_later, look_later, work_later}
 use Rattle.ww_seat.proofs.Stopped.{work_goes_on, goes_on_sees, waits_so}
@@ -200,3 +200,29 @@ pub returns-clause-uncancelled : goal.returns-clause-uncancelled
 returns-clause-uncancelled c = waits_so c.args.waits c.stop_if_cancelled.new.seat.seat.me.0.part.core.uncancelled
     c.stay_or_back_off.new.seat.seat.me.0.part.core c.stay_or_back_off.result
     c.in_default-stop_if_cancelled.ensures.uncancelled c.stay_or_back_off.ensures.uncancelled
+
+pub returns-in-Some-clause-still : goal.returns-in-Some-clause-still
+returns-in-Some-clause-still c = λ u has. c.take_inside.ensures.still u
+    (still_looked c.args.seat.now.seat.me c.look-seen.new.self.seat.me c.look-seen.result c.look-seen.ensures.looked u has)
+
+pub returns-in-None-clause-still : goal.returns-in-None-clause-still
+returns-in-None-clause-still c = λ u has. c.take_inside.ensures.still u
+    (still_looked c.args.seat.now.seat.me c.look-seen.new.self.seat.me c.look-seen.result c.look-seen.ensures.looked u has)
+
+pub returns-in_default-clause-still : goal.returns-in_default-clause-still
+returns-in_default-clause-still c = let m1 = c.look-seen.new.self.seat.me in
+    λ u has. still_none m1 c.stand.new.seat.seat.me c.stand.ensures.condemned u
+    (still_looked c.args.seat.now.seat.me m1 c.look-seen.result c.look-seen.ensures.looked u has)
+
+pub returns-in-Some-stop_if_cancelled-clause-still : goal.returns-in-Some-stop_if_cancelled-clause-still
+returns-in-Some-stop_if_cancelled-clause-still c = let m1 = c.look-seen.new.self.seat.me in let m2 = c.stand.new.seat.seat.me in
+    λ u has. still_none m2 c.stop_if_cancelled.new.seat.seat.me c.stop_if_cancelled.ensures.condemned u
+    (still_none m1 m2 c.stand.ensures.condemned u
+    (still_looked c.args.seat.now.seat.me m1 c.look-seen.result c.look-seen.ensures.looked u has))
+
+pub returns-clause-still : goal.returns-clause-still
+returns-clause-still c = let m1 = c.look-seen.new.self.seat.me in let m2 = c.stand.new.seat.seat.me in
+    λ u has. c.stay_or_back_off.ensures.still u
+    (still_none m2 c.stop_if_cancelled.new.seat.seat.me c.stop_if_cancelled.ensures.condemned u
+    (still_none m1 m2 c.stand.ensures.condemned u
+    (still_looked c.args.seat.now.seat.me m1 c.look-seen.result c.look-seen.ensures.looked u has)))

@@ -6,7 +6,7 @@ use Rattle.ww_rule.specs.Guards.{exiting}
 use Rattle.ww_seat.specs.Work.{looks_again, told}
 use Rattle.ww_seat.specs.declared.look.Look.TheVariants.{Deadlk, Waits}
 use Rattle.ww_seat.proofs.Holds.{look_then}
-use Rattle.ww_seat.proofs.Working.{none_condemned, woken_touched, marked_none, marked_still, work_same, work_touched, work_told, work_noted}
+use Rattle.ww_seat.proofs.Working.{none_condemned, woken_touched, marked_none, marked_still, still_none, still_touched, still_later, work_same, work_touched, work_told, work_noted}
 use Rattle.ww_seat.proofs.Stood.{stays_goes, stays_outside}
 use Rattle.ww_seat.proofs.standing.stay_or_back_off.Goals as goal
 
@@ -135,3 +135,31 @@ returns-in-None-clause-uncancelled c =
     (c.leave.ensures.view ∙ ap exiting c.death.ensures.told.view)
     ∙ ap (λ (z : Sight). z.part.core.uncancelled) c.sign_all.ensures.signed.view
     ∙ ap (λ (z : Sight). z.part.core.uncancelled) c.ask_if_first.ensures.touched.view ∙ found
+
+pub returns-in_default-clause-still : goal.returns-in_default-clause-still
+returns-in_default-clause-still c = still_touched (length (first_graph c.args.board.now.table.shared.key))
+    c.args.seat.now.seat.me c.ask_if_first.new.seat.seat.me c.ask_if_first.ensures.touched
+
+pub returns-in-None-clause-still : goal.returns-in-None-clause-still
+returns-in-None-clause-still c = let m2 = c.sign_all.new.seat.seat.me in let m4 = c.leave.new.seat.seat.me in
+    let t = c.death.ensures.told in
+    still_later _ _ c.args.seat.now.seat.me c.ask_if_first.new.seat.seat.me m2 m4 c.ask_if_first.ensures.touched
+    c.sign_all.ensures.signed
+    (none_condemned m2 m4 (exiting (knowing m2.0 (told m2.0.part.core t.sign t.fresh)))
+    (c.leave.ensures.view ∙ ap exiting t.view) refl refl refl)
+
+pub returns-then-not-back_off-clause-still : goal.returns-then-not-back_off-clause-still
+returns-then-not-back_off-clause-still c = let m2 = c.sign_all.new.seat.seat.me in let m3 = c.death.new.seat.seat.me in
+    let t = c.death.ensures.told in
+    let kept = still_later _ _ c.args.seat.now.seat.me c.ask_if_first.new.seat.seat.me m2 m3
+    c.ask_if_first.ensures.touched c.sign_all.ensures.signed
+    (none_condemned m2 m3 (knowing m2.0 (told m2.0.part.core t.sign t.fresh)) t.view refl refl refl) in
+    λ u has. still_none m3 c.back_off.new.seat.seat.me c.back_off.ensures.condemned u (kept u has)
+
+pub returns-else-not-back_off-clause-still : goal.returns-else-not-back_off-clause-still
+returns-else-not-back_off-clause-still c = let m2 = c.sign_all.new.seat.seat.me in let m3 = c.death.new.seat.seat.me in
+    let t = c.death.ensures.told in
+    let kept = still_later _ _ c.args.seat.now.seat.me c.ask_if_first.new.seat.seat.me m2 m3
+    c.ask_if_first.ensures.touched c.sign_all.ensures.signed
+    (none_condemned m2 m3 (knowing m2.0 (told m2.0.part.core t.sign t.fresh)) t.view refl refl refl) in
+    λ u has. still_none m3 c.back_off.new.seat.seat.me c.back_off.ensures.condemned u (kept u has)
