@@ -317,7 +317,7 @@ fn a_peek_is_made(rt: HostRuntime) -> Result<(), Fail> {
         alloc,
         graph,
         [Txn::Peek(1), Txn::Peek(1)],
-        false,
+        Waits::ToTheEnd,
         &reply,
     )?;
     assert!(rt; last.is_same(&copy));
@@ -344,7 +344,7 @@ fn take_turns<R: Wait + Abort>(
             world,
             zero,
             [adds(alloc, &up)?, adds(alloc, &up)?],
-            false,
+            Waits::ToTheEnd,
         )
         .0;
         one = made(
@@ -352,7 +352,7 @@ fn take_turns<R: Wait + Abort>(
             world,
             one,
             [adds(alloc, &down)?, adds(alloc, &down)?],
-            false,
+            Waits::ToTheEnd,
         )
         .0;
     }
