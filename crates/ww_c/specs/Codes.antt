@@ -1,5 +1,7 @@
--- The numbers that C is answered, the kernel's errors with a minus sign.
-use Rattle.std.specs.Prelude.{ℤ, pos, negsuc, if◌then◌else◌, nat_eq, ℕ}
+-- The numbers that C is answered, the kernel's errors with a minus sign; and what C says of a wait.
+use Rattle.std.specs.Prelude.{ℤ, pos, negsuc, if◌then◌else◌, nat_eq, ℕ, Bool, true, false}
+use Rattle.ww_seat.specs.declared.waits.Waits.{Waits}
+use Rattle.ww_seat.specs.declared.waits.Waits.TheVariants.{ToTheEnd, UntilCancelled}
 use Rattle.ww_desk.specs.declared.turn.Answer.{Answer}
 use Rattle.ww_desk.specs.declared.turn.Answer.TheVariants.{Done, Again, Awaits, Stays, Sleeps, Busy, Invalid, Already, NoSpace, Deadlk, Interrupted}
 
@@ -21,3 +23,8 @@ code_of (Interrupted by) = negsuc 3
 abbrev pub pauses_of : Answer → ℕ
 pauses_of (Stays rest) = rest.pauses
 pauses_of _ = 0
+
+-- how a lock call waits that heeds cancels, or that heeds none
+abbrev pub waits_of : Bool → Waits
+waits_of true = UntilCancelled
+waits_of false = ToTheEnd

@@ -1,7 +1,8 @@
 ghost use Rattle.std.specs.Prelude.{◌≡◌};
-ghost use Rattle.ww_c.specs.Codes.{code_of, pauses_of};
+ghost use Rattle.ww_c.specs.Codes.{code_of, pauses_of, waits_of};
 
 use ww_desk::Answer;
+use ww_seat::Waits;
 
 pub(crate) const EBUSY: i32 = -16;
 
@@ -37,5 +38,17 @@ pub(crate) fn pauses(answer: Answer) -> u32
     match answer {
         Answer::Stays(rest) => rest.pauses,
         _ => 0,
+    }
+}
+
+/// How a lock call of C waits: `heeds` says that it may be called off.
+#[inline(always)]
+pub(crate) fn waits(heeds: bool) -> Waits
+    ensures { result ≡ waits_of heeds }
+{
+    if heeds {
+        Waits::UntilCancelled
+    } else {
+        Waits::ToTheEnd
     }
 }

@@ -1,8 +1,9 @@
 //! What C calls. Each is one call of a desk by its handle, and waits for nobody: `c/ww.h` says what C has to do.
 ghost use Rattle.ww_desk.specs.Answers.{IsBeginAnswer, IsDoneAnswer, IsEndAnswer, IsLockAnswer, IsSlowAnswer, IsTryAnswer, IsUnlockAnswer, IsUnlockAllAnswer};
+ghost use Rattle.ww_c.specs.Codes.{waits_of};
 ghost use Rattle.ww_c.specs.Exports.{IsCall, IsCloseCall, IsHeldCall, IsIdleCall, IsTurnCall, IsWakingCall, cancels};
 
-use crate::codes::{EBUSY, EINVAL, code, pauses};
+use crate::codes::{EBUSY, EINVAL, code, pauses, waits};
 use crate::slot::Handle;
 use std::alloc::Global;
 use ww_word::MAX_SEATS;
@@ -43,23 +44,23 @@ pub extern "C" fn ww_end_(seat: &mut Handle) -> i32
 /// Takes a lock, or begins to wait for it; where `heeds` the wait may be called off.
 #[unsafe(no_mangle)]
 pub extern "C" fn ww_lock_(seat: &mut Handle, lock: u32, heeds: bool) -> i32
-    ensures { IsCall (λ s a t. IsLockAnswer s lock heeds a t) seat.old.slot.desk result seat.new.slot.desk }
+    ensures { IsCall (λ s a t. IsLockAnswer s lock (waits_of heeds) a t) seat.old.slot.desk result seat.new.slot.desk }
 {
     if seat.is_empty() {
         return EINVAL;
     }
-    code(seat.slot.lend().lock(lock, heeds))
+    code(seat.slot.lend().lock(lock, waits(heeds)))
 }
 
 /// Takes the lock for which the context was told to back off.
 #[unsafe(no_mangle)]
 pub extern "C" fn ww_lock_slow_(seat: &mut Handle, lock: u32, heeds: bool) -> i32
-    ensures { IsCall (λ s a t. IsSlowAnswer s lock heeds a t) seat.old.slot.desk result seat.new.slot.desk }
+    ensures { IsCall (λ s a t. IsSlowAnswer s lock (waits_of heeds) a t) seat.old.slot.desk result seat.new.slot.desk }
 {
     if seat.is_empty() {
         return EINVAL;
     }
-    code(seat.slot.lend().lock_slow(lock, heeds))
+    code(seat.slot.lend().lock_slow(lock, waits(heeds)))
 }
 
 /// One try to take a lock.

@@ -20,6 +20,7 @@ use Rattle.ww_seat.specs.Looks.{IsOutside}
 use Rattle.ww_seat.specs.Work.{ComesOutside}
 use Rattle.ww_seat.specs.declared.resting.Memory.{Memory}
 use Rattle.ww_seat.specs.declared.resting.Stay.{Stay}
+use Rattle.ww_seat.specs.declared.waits.Waits.{Waits}
 use Rattle.ww_seat.specs.declared.look.Arrival.TheVariants.{Came}
 use Rattle.ww_desk.specs.declared.turn.Turn.{Turn}
 use Rattle.ww_desk.specs.declared.turn.Turn.TheVariants.{Rests, Stays, Wants, Looks, Gives}
@@ -110,9 +111,9 @@ there_held h n k has = let low = owned_low h.seat.seat.me.0.part.core.owned n (k
 
 pub rest_of : (t : Turn) → is_at_rest t ≡ true → t ≡ Rests
 rest_of Rests e = refl
-rest_of (Stays n stay heeds) e = absurd (true≢false (sym e))
-rest_of (Wants n arrival heeds) e = absurd (true≢false (sym e))
-rest_of (Looks n arrival heeds) e = absurd (true≢false (sym e))
+rest_of (Stays n stay waits) e = absurd (true≢false (sym e))
+rest_of (Wants n arrival waits) e = absurd (true≢false (sym e))
+rest_of (Looks n arrival waits) e = absurd (true≢false (sym e))
 rest_of (Gives n) e = absurd (true≢false (sym e))
 
 -- the seat that was settled at the board is settled at the one that the desk shares
@@ -161,22 +162,22 @@ came_outside : (v : View) → v.waits ≡ 0 → ComesOutside Came v
 came_outside v none = let off = sym (ap (λ (w : ℕ). not (w == 0)) none) in (off, off)
 
 -- where the seat is that stays away
-staying : (h : Station) (n : ℕ) (stay : Stay) (heeds : Bool) → Keeps h → h.turn ≡ Stays n stay heeds
+staying : (h : Station) (n : ℕ) (stay : Stay) (waits : Waits) → Keeps h → h.turn ≡ Stays n stay waits
     → IsAt (table_of (arc_value h.board)) (size_of (arc_value h.board)) (locks_of (arc_value h.board)) h.wake.seats
-    (Stays n stay heeds) h.seat
-staying h n stay heeds keeps turn =
+    (Stays n stay waits) h.seat
+staying h n stay waits keeps turn =
     subst (λ (t : Turn). IsAt (table_of (arc_value h.board)) (size_of (arc_value h.board))
     (locks_of (arc_value h.board)) h.wake.seats t h.seat) turn keeps.at
 
 -- it made a spin read, and stays away
 pub glanced_stays : (h : Station) (b : Board) (q : Seat16) (memory : Memory) (n : ℕ) (stay next : Stay)
-    (heeds : Bool) → Keeps h → h.turn ≡ Stays n stay heeds
+    (waits : Waits) → Keeps h → h.turn ≡ Stays n stay waits
     → next.glances < stay.glances → 1 ≤ next.glances → b ≡ arc_value h.board → IsSeatOf b q
     → q.seat.me ≡ (glancing h.seat.seat.me.0, h.seat.seat.me.1)
-    → Keeps (record h { seat = q; turn = Stays n next heeds; memory = memory })
-glanced_stays h b q memory n stay next heeds keeps turn fewer some e seated is = let at = staying h n stay heeds keeps turn in
+    → Keeps (record h { seat = q; turn = Stays n next waits; memory = memory })
+glanced_stays h b q memory n stay next waits keeps turn fewer some e seated is = let at = staying h n stay waits keeps turn in
     let more : q.seat.me.0.part.core.glances ≡ h.seat.seat.me.0.part.core.glances + 1 = ap (λ (m : Sat). m.0.part.core.glances) is in
-    kept h (record h { seat = q; turn = Stays n next heeds; memory = memory }) keeps
+    kept h (record h { seat = q; turn = Stays n next waits; memory = memory }) keeps
     (record { board = refl; seats = refl; left = refl; now = ap account_of is }) refl seated.stamp (
       subst (λ (x : Board). IsSeatOf x q) e seated,
       at.1,
@@ -188,12 +189,12 @@ glanced_stays h b q memory n stay next heeds keeps turn fewer some e seated is =
     )
 
 -- ... or wants the lock now
-pub glanced_wants : (h : Station) (b : Board) (q : Seat16) (memory : Memory) (n : ℕ) (stay : Stay) (heeds : Bool)
-    → Keeps h → h.turn ≡ Stays n stay heeds
+pub glanced_wants : (h : Station) (b : Board) (q : Seat16) (memory : Memory) (n : ℕ) (stay : Stay) (waits : Waits)
+    → Keeps h → h.turn ≡ Stays n stay waits
     → b ≡ arc_value h.board → IsSeatOf b q → q.seat.me ≡ (glancing h.seat.seat.me.0, h.seat.seat.me.1)
-    → Keeps (record h { seat = q; turn = Wants n Came heeds; memory = memory })
-glanced_wants h b q memory n stay heeds keeps turn e seated is = let at = staying h n stay heeds keeps turn in
-    kept h (record h { seat = q; turn = Wants n Came heeds; memory = memory }) keeps
+    → Keeps (record h { seat = q; turn = Wants n Came waits; memory = memory })
+glanced_wants h b q memory n stay waits keeps turn e seated is = let at = staying h n stay waits keeps turn in
+    kept h (record h { seat = q; turn = Wants n Came waits; memory = memory }) keeps
     (record { board = refl; seats = refl; left = refl; now = ap account_of is }) refl seated.stamp (
       subst (λ (x : Board). IsSeatOf x q) e seated,
       at.1,

@@ -7,6 +7,8 @@ use Rattle.ww_seat.specs.Work.{AreMarked, HasToWake}
 use Rattle.ww_seat.specs.declared.look.Arrival.TheVariants.{Came, Woken}
 use Rattle.ww_seat.specs.Rests.{Rests}
 use Rattle.ww_seat.specs.declared.resting.Stay.{Stay}
+use Rattle.ww_seat.specs.declared.waits.Waits.{Waits}
+use Rattle.ww_seat.specs.declared.waits.Waits.TheVariants.{UntilCancelled}
 use Rattle.ww_desk.specs.declared.turn.Turn.{Turn}
 use Rattle.ww_desk.specs.declared.turn.Turn.TheVariants as at
 use Rattle.ww_desk.specs.declared.turn.Answer.{Answer}
@@ -130,15 +132,15 @@ abbrev pub IsWholeStay : Stay → Type 0
 IsWholeStay stay = (stay.glances ≡ 14) × (stay.pauses ≡ 12416)
 
 -- the first step: it has the lock, or stays away from it
-abbrev pub IsLockAnswer : Situation → ℕ → Bool → Answer → Situation → Type 0
-IsLockAnswer s n heeds Done s' = IsTryable s n × HasLock s n s'
-IsLockAnswer s n heeds Again s' = IsTryable s n
+abbrev pub IsLockAnswer : Situation → ℕ → Waits → Answer → Situation → Type 0
+IsLockAnswer s n waits Done s' = IsTryable s n × HasLock s n s'
+IsLockAnswer s n waits Again s' = IsTryable s n
     × ((stay : Stay) × IsWholeStay stay × (s'
-    ≡ record s { turn = at.Stays n stay heeds; tries = s.tries + 1; view = s'.view }))
-IsLockAnswer s n heeds Busy s' = (is_at_rest s.turn ≡ false) × (s' ≡ s)
-IsLockAnswer s n heeds Already s' = IsHeldAtRest s n × (s' ≡ s)
-IsLockAnswer s n heeds Invalid s' = IsBarred s n × (s' ≡ s)
-IsLockAnswer s n heeds _ s' = ⊥
+    ≡ record s { turn = at.Stays n stay waits; tries = s.tries + 1; view = s'.view }))
+IsLockAnswer s n waits Busy s' = (is_at_rest s.turn ≡ false) × (s' ≡ s)
+IsLockAnswer s n waits Already s' = IsHeldAtRest s n × (s' ≡ s)
+IsLockAnswer s n waits Invalid s' = IsBarred s n × (s' ≡ s)
+IsLockAnswer s n waits _ s' = ⊥
 
 -- one try
 abbrev pub IsTryAnswer : Situation → ℕ → Answer → Situation → Type 0
@@ -149,37 +151,37 @@ IsTryAnswer s n Invalid s' = IsBarred s n × (s' ≡ s)
 IsTryAnswer s n _ s' = ⊥
 
 -- the lock for which it was told to back off, with nothing held
-abbrev pub IsSlowAnswer : Situation → ℕ → Bool → Answer → Situation → Type 0
-IsSlowAnswer s n heeds Done s' = (s.told ≡ Some n) × (s.held ≡ []) × IsTryable s n × HasLock s n s'
-IsSlowAnswer s n heeds Again s' = (s.told ≡ Some n) × (s.held ≡ []) × IsLockAnswer s n heeds Again s'
-IsSlowAnswer s n heeds Busy s' = (is_at_rest s.turn ≡ false) × (s' ≡ s)
-IsSlowAnswer s n heeds Invalid s' = (is_at_rest s.turn ≡ true) × ((s.told ≢ Some n) ⊎ ((s.held ≢ []) ⊎ IsBarred s n)) × (s' ≡ s)
-IsSlowAnswer s n heeds _ s' = ⊥
+abbrev pub IsSlowAnswer : Situation → ℕ → Waits → Answer → Situation → Type 0
+IsSlowAnswer s n waits Done s' = (s.told ≡ Some n) × (s.held ≡ []) × IsTryable s n × HasLock s n s'
+IsSlowAnswer s n waits Again s' = (s.told ≡ Some n) × (s.held ≡ []) × IsLockAnswer s n waits Again s'
+IsSlowAnswer s n waits Busy s' = (is_at_rest s.turn ≡ false) × (s' ≡ s)
+IsSlowAnswer s n waits Invalid s' = (is_at_rest s.turn ≡ true) × ((s.told ≢ Some n) ⊎ ((s.held ≢ []) ⊎ IsBarred s n)) × (s' ≡ s)
+IsSlowAnswer s n waits _ s' = ⊥
 
 -- ---- waiting for it, in further steps
 
 -- its call looks at the lock, inside the guard
-abbrev pub IsLooking : ℕ → Bool → Turn → Type 0
-IsLooking n heeds (at.Looks m arrival h) = (m ≡ n) × (h ≡ heeds)
-IsLooking n heeds _ = ⊥
+abbrev pub IsLooking : ℕ → Waits → Turn → Type 0
+IsLooking n waits (at.Looks m arrival w) = (m ≡ n) × (w ≡ waits)
+IsLooking n waits _ = ⊥
 
 -- a spin read, and then a rest or the wish for the lock
-abbrev pub IsStayAnswer : Situation → ℕ → Stay → Bool → Answer → Situation → Type 0
-IsStayAnswer s n stay heeds (Stays rest) s' = HasGlanced s s'
-    × ((next : Stay) × Rests stay next rest × HasTurned s (at.Stays n next heeds) s')
-IsStayAnswer s n stay heeds Again s' = HasGlanced s s' × HasTurned s (at.Wants n Came heeds) s'
-IsStayAnswer s n stay heeds _ s' = ⊥
+abbrev pub IsStayAnswer : Situation → ℕ → Stay → Waits → Answer → Situation → Type 0
+IsStayAnswer s n stay waits (Stays rest) s' = HasGlanced s s'
+    × ((next : Stay) × Rests stay next rest × HasTurned s (at.Stays n next waits) s')
+IsStayAnswer s n stay waits Again s' = HasGlanced s s' × HasTurned s (at.Wants n Came waits) s'
+IsStayAnswer s n stay waits _ s' = ⊥
 
--- a look, after which it may be inside the guard still; or a try in vain to go inside. A call that heeds cancels is told to
--- sleep only once it found none inside that guard.
-abbrev pub IsWaitAnswer : Situation → ℕ → Bool → Answer → Situation → Type 0
-IsWaitAnswer s n heeds Awaits s' = IsShutOut s s'
-IsWaitAnswer s n heeds Again s' = IsLooking n heeds s'.turn × (s'.view.inside ≡ suc n) × HasWorked s s'
+-- a look, after which it may be inside the guard still; or a try in vain to go inside. A call that waits until a cancel is
+-- told to sleep only once it found none inside that guard.
+abbrev pub IsWaitAnswer : Situation → ℕ → Waits → Answer → Situation → Type 0
+IsWaitAnswer s n waits Awaits s' = IsShutOut s s'
+IsWaitAnswer s n waits Again s' = IsLooking n waits s'.turn × (s'.view.inside ≡ suc n) × HasWorked s s'
     × WakesCondemned s s' × (s' ≡ record s { turn = s'.turn; wakes = s'.wakes; view = s'.view })
-IsWaitAnswer s n heeds Sleeps s' = WakesCondemned s s' × HasWorked s s'
-    × (heeds ≡ true → s'.view.uncancelled ≡ true)
-    × (s' ≡ record s { turn = at.Wants n Woken heeds; wakes = s'.wakes; view = s'.view })
-IsWaitAnswer s n heeds Done s' = WakesCondemned s s'
+IsWaitAnswer s n waits Sleeps s' = WakesCondemned s s' × HasWorked s s'
+    × (waits ≡ UntilCancelled → s'.view.uncancelled ≡ true)
+    × (s' ≡ record s { turn = at.Wants n Woken waits; wakes = s'.wakes; view = s'.view })
+IsWaitAnswer s n waits Done s' = WakesCondemned s s'
     × (s' ≡ record s {
       turn = at.Rests;
       held = s.held ++ n ∷ [];
@@ -188,10 +190,10 @@ IsWaitAnswer s n heeds Done s' = WakesCondemned s s'
       wakes = s'.wakes;
       view = s'.view;
     })
-IsWaitAnswer s n heeds (Deadlk k) s' = WakesCondemned s s' × HasToBackOff s n k s'
-IsWaitAnswer s n heeds (Interrupted by) s' = WakesCondemned s s' × (heeds ≡ true)
+IsWaitAnswer s n waits (Deadlk k) s' = WakesCondemned s s' × HasToBackOff s n k s'
+IsWaitAnswer s n waits (Interrupted by) s' = WakesCondemned s s' × (waits ≡ UntilCancelled)
     × (s' ≡ record s { turn = at.Rests; interrupted = (n, by) ∷ s.interrupted; wakes = s'.wakes; view = s'.view })
-IsWaitAnswer s n heeds _ s' = ⊥
+IsWaitAnswer s n waits _ s' = ⊥
 
 -- ---- releasing a lock
 
@@ -222,9 +224,9 @@ IsGiveAnswer s n _ s' = ⊥
 
 abbrev pub IsNextAnswer : Turn → Situation → Answer → Situation → Type 0
 IsNextAnswer at.Rests s a s' = (a ≡ Invalid) × (s' ≡ s)
-IsNextAnswer (at.Stays n stay heeds) s a s' = IsStayAnswer s n stay heeds a s'
-IsNextAnswer (at.Wants n arrival heeds) s a s' = IsWaitAnswer s n heeds a s'
-IsNextAnswer (at.Looks n arrival heeds) s a s' = IsWaitAnswer s n heeds a s'
+IsNextAnswer (at.Stays n stay waits) s a s' = IsStayAnswer s n stay waits a s'
+IsNextAnswer (at.Wants n arrival waits) s a s' = IsWaitAnswer s n waits a s'
+IsNextAnswer (at.Looks n arrival waits) s a s' = IsWaitAnswer s n waits a s'
 IsNextAnswer (at.Gives n) s a s' = IsGiveAnswer s n a s'
 
 -- ---- whom to wake, and calling off

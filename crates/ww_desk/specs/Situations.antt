@@ -37,17 +37,17 @@ pub record Situation : Type 0 where
 -- between two calls
 abbrev pub is_at_rest : Turn → Bool
 is_at_rest Rests = true
-is_at_rest (Stays n stay heeds) = false
-is_at_rest (Wants n arrival heeds) = false
-is_at_rest (Looks n arrival heeds) = false
+is_at_rest (Stays n stay waits) = false
+is_at_rest (Wants n arrival waits) = false
+is_at_rest (Looks n arrival waits) = false
 is_at_rest (Gives n) = false
 
 -- inside a guard
 abbrev pub is_inside : Turn → Bool
 is_inside Rests = false
-is_inside (Stays n stay heeds) = false
-is_inside (Wants n arrival heeds) = false
-is_inside (Looks n arrival heeds) = true
+is_inside (Stays n stay waits) = false
+is_inside (Wants n arrival waits) = false
+is_inside (Looks n arrival waits) = true
 is_inside (Gives n) = false
 
 abbrev pub is_empty : List ℕ → Bool

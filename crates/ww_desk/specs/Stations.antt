@@ -47,11 +47,11 @@ situation_of d = record {
 -- Where the seat is at each step of a call, and whom it has to wake then.
 abbrev pub IsAt : TableId → ℕ → ℕ → List Bool → Turn → Seat16 → Type 0
 IsAt table size locks wakes Rests s = IsSettled table size s
-IsAt table size locks wakes (Stays n stay heeds) s = IsSeated table s × (n < locks) × IsOutside size n s.seat.me
+IsAt table size locks wakes (Stays n stay waits) s = IsSeated table s × (n < locks) × IsOutside size n s.seat.me
     × ((view_of s).waits ≡ 0) × (1 ≤ stay.glances) × ((view_of s).glances + stay.glances ≤ 16)
-IsAt table size locks wakes (Wants n arrival heeds) s = IsSeated table s × (n < locks) × IsOutside size n s.seat.me
+IsAt table size locks wakes (Wants n arrival waits) s = IsSeated table s × (n < locks) × IsOutside size n s.seat.me
     × ComesOutside arrival (view_of s)
-IsAt table size locks wakes (Looks n arrival heeds) s = IsSeated table s × (n < locks) × IsOrderly size s.seat.me
+IsAt table size locks wakes (Looks n arrival waits) s = IsSeated table s × (n < locks) × IsOrderly size s.seat.me
     × IsWorking n (has_joined arrival) (looks_again arrival) (view_of s) × AreWoken (view_of s) wakes
 IsAt table size locks wakes (Gives n) s = IsSettled table size s × (n < locks) × (owns (view_of s) n ≡ true)
 

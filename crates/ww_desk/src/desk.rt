@@ -1,6 +1,7 @@
 use crate::station::Station;
 use crate::turn::Answer;
 use std::marker::Model;
+use ww_seat::Waits;
 use ww_word::MAX_SEATS;
 
 /// What a thread has of a world of locks: a seat, and where its call stands. Every call may be made at any time, waits
@@ -52,14 +53,13 @@ impl Desk {
         self.station.end()
     }
 
-    /// Takes a lock, or begins to wait for it; where `heeds` the wait may be called off. `Invalid` for a lock that
-    /// isn't there, for a context that is done, for one that was told to back off and hasn't, and for a second lock
-    /// without a context.
+    /// Takes a lock, or begins to wait for it. `Invalid` for a lock that isn't there, for a context that is done, for
+    /// one that was told to back off and hasn't, and for a second lock without a context.
     #[inline(always)]
-    pub fn lock(&mut self, lock: u32, heeds: bool) -> Answer
-        ensures { IsLockAnswer self.old lock heeds result self.new }
+    pub fn lock(&mut self, lock: u32, waits: Waits) -> Answer
+        ensures { IsLockAnswer self.old lock waits result self.new }
     {
-        self.station.lock(lock, heeds)
+        self.station.lock(lock, waits)
     }
 
     /// Takes a lock if nobody has it or waits for it, and else answers `Busy`.
@@ -73,10 +73,10 @@ impl Desk {
     /// Takes the lock for which the context was told to back off, once it has. `Invalid` for any other lock, or while
     /// one is held.
     #[inline(always)]
-    pub fn lock_slow(&mut self, lock: u32, heeds: bool) -> Answer
-        ensures { IsSlowAnswer self.old lock heeds result self.new }
+    pub fn lock_slow(&mut self, lock: u32, waits: Waits) -> Answer
+        ensures { IsSlowAnswer self.old lock waits result self.new }
     {
-        self.station.lock_slow(lock, heeds)
+        self.station.lock_slow(lock, waits)
     }
 
     /// Releases a lock, or begins to; the last of those held takes its place. `Invalid` for one that isn't held.

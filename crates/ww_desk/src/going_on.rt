@@ -9,7 +9,8 @@ use crate::station::Station;
 use crate::turn::{Answer, Turn};
 use ww_queue::Entry;
 use ww_seat::{
-    Arrival, Look, Stay, Wake, cancel_once, enter_owned, enter_wanted, give_on, look_once,
+    Arrival, Attempt, Look, Stay, Waits, Wake, cancel_once, enter_owned, enter_wanted, give_on,
+    look_once,
 };
 use ww_word::MAX_SEATS;
 
@@ -25,71 +26,71 @@ impl Station {
     {
         match self.turn {
             Turn::Rests => Answer::Invalid,
-            Turn::Stays(lock, stay, heeds) => self.stay(lock, stay, heeds),
-            Turn::Wants(lock, arrival, heeds) => {
+            Turn::Stays(lock, stay, waits) => self.stay(lock, stay, waits),
+            Turn::Wants(lock, arrival, waits) => {
                 if !enter_wanted(&mut self.seat, &self.board, lock) {
                     return Answer::Awaits;
                 }
-                self.look(lock, arrival, heeds)
+                self.look(lock, arrival, waits)
             }
-            Turn::Looks(lock, arrival, heeds) => self.look(lock, arrival, heeds),
+            Turn::Looks(lock, arrival, waits) => self.look(lock, arrival, waits),
             Turn::Gives(lock) => self.let_go(lock),
         }
     }
 
     /// One spin read of a lock that it tried in vain; then it rests, or wants the lock.
-    fn stay(&mut self, lock: u32, stay: Stay, heeds: bool) -> Answer
+    fn stay(&mut self, lock: u32, stay: Stay, waits: Waits) -> Answer
         requires keeps { Keeps self.old }
-        requires turn { self.old.turn ≡ Stays lock stay heeds }
+        requires turn { self.old.turn ≡ Stays lock stay waits }
         ensures keeps { Keeps self.new }
-        ensures answer { IsStayAnswer (situation_of self.old) lock stay heeds result (situation_of self.new) }
+        ensures answer { IsStayAnswer (situation_of self.old) lock stay waits result (situation_of self.new) }
     {
         let owner = self.seat.glance(&self.board, lock);
         let mut stay = stay;
         let Some(rest) = stay.next(&mut self.memory, owner) else {
-            self.turn = Turn::Wants(lock, Arrival::Came, heeds);
+            self.turn = Turn::Wants(lock, Arrival::Came, waits);
             return Answer::Again;
         };
-        self.turn = Turn::Stays(lock, stay, heeds);
+        self.turn = Turn::Stays(lock, stay, waits);
         Answer::Stays(rest)
     }
 
     /// One look at a lock, inside its guard.
-    fn look(&mut self, lock: u32, arrival: Arrival, heeds: bool) -> Answer
-        requires keeps { Keeps (record self.old { turn = Looks lock arrival heeds }) }
+    fn look(&mut self, lock: u32, arrival: Arrival, waits: Waits) -> Answer
+        requires keeps { Keeps (record self.old { turn = Looks lock arrival waits }) }
         ensures keeps { Keeps self.new }
-        ensures answer { IsWaitAnswer (situation_of self.old) lock heeds result (situation_of self.new) }
+        ensures answer { IsWaitAnswer (situation_of self.old) lock waits result (situation_of self.new) }
     {
         let mut arrival = arrival;
-        let look = look_once(
+        let attempt = look_once(
             &mut self.seat,
             &self.board,
             lock,
             &mut arrival,
-            heeds,
+            waits,
             !self.held.is_empty(),
             &mut self.wake,
         );
-        match look {
-            None => {
-                self.turn = Turn::Looks(lock, arrival, heeds);
+        match attempt {
+            Attempt::Lost => {
+                self.turn = Turn::Looks(lock, arrival, waits);
                 Answer::Again
             }
-            Some(Look::Waits) => {
-                self.turn = Turn::Wants(lock, Arrival::Woken, heeds);
+            Attempt::Ended(Look::Waits) => {
+                self.turn = Turn::Wants(lock, Arrival::Woken, waits);
                 Answer::Sleeps
             }
-            Some(Look::Locked(_)) => {
+            Attempt::Ended(Look::Locked(_)) => {
                 self.add(lock);
                 self.turn = Turn::Rests;
                 Answer::Done
             }
-            Some(Look::Deadlk(met)) => {
+            Attempt::Ended(Look::Deadlk(met)) => {
                 self.told = Some(lock);
                 self.turn = Turn::Rests;
                 Answer::Deadlk(met)
             }
-            Some(Look::Interrupted(by)) => {
+            Attempt::Ended(Look::Interrupted(by)) => {
                 self.turn = Turn::Rests;
                 Answer::Interrupted(by)
             }

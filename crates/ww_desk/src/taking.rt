@@ -1,7 +1,7 @@
 //! The first step of taking a lock.
 use crate::station::Station;
 use crate::turn::{Answer, Turn};
-use ww_seat::Stay;
+use ww_seat::{Stay, Waits};
 
 impl Station {
     ghost use Rattle.std.specs.Prelude.{◌≡◌, ◌<◌, true, false, IfSome, IfNone};
@@ -63,13 +63,12 @@ impl Station {
         }
     }
 
-    /// Takes a lock: one try, after which it stays away for a while and then waits. Where `heeds` the wait may be
-    /// called off.
+    /// Takes a lock: one try, after which it stays away for a while and then waits.
     #[inline(always)]
-    pub(crate) fn lock(&mut self, lock: u32, heeds: bool) -> Answer
+    pub(crate) fn lock(&mut self, lock: u32, waits: Waits) -> Answer
         requires keeps { Keeps self.old }
         ensures keeps { Keeps self.new }
-        ensures answer { IsLockAnswer (situation_of self.old) lock heeds result (situation_of self.new) }
+        ensures answer { IsLockAnswer (situation_of self.old) lock waits result (situation_of self.new) }
     {
         if let Some(why) = self.refuses(lock) {
             return why;
@@ -78,20 +77,20 @@ impl Station {
             self.memory.win();
             return Answer::Done;
         }
-        self.turn = Turn::Stays(lock, Stay::new(!self.held.is_empty()), heeds);
+        self.turn = Turn::Stays(lock, Stay::new(!self.held.is_empty()), waits);
         Answer::Again
     }
 
     /// Takes the lock for which it was told to back off, once it has.
     #[inline(always)]
-    pub(crate) fn lock_slow(&mut self, lock: u32, heeds: bool) -> Answer
+    pub(crate) fn lock_slow(&mut self, lock: u32, waits: Waits) -> Answer
         requires keeps { Keeps self.old }
         ensures keeps { Keeps self.new }
-        ensures answer { IsSlowAnswer (situation_of self.old) lock heeds result (situation_of self.new) }
+        ensures answer { IsSlowAnswer (situation_of self.old) lock waits result (situation_of self.new) }
     {
         if self.rests() && (self.told != Some(lock) || !self.held.is_empty()) {
             return Answer::Invalid;
         }
-        self.lock(lock, heeds)
+        self.lock(lock, waits)
     }
 }

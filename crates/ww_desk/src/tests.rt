@@ -7,6 +7,7 @@ use std::process::Abort;
 use std::test::Fail;
 use ww_queue::Kind;
 use ww_seat::Rest;
+use ww_seat::Waits::{ToTheEnd, UntilCancelled};
 
 /// A rest that is too short to let another thread run.
 fn shortly(pauses: u32) -> Answer {
@@ -38,23 +39,23 @@ fn turned(desk: &mut Desk, first: Answer) -> Answer {
 /// Each holds a lock and wants the other's: the younger one backs off, and takes that lock in the slow way.
 fn meets<R: Abort>(rt: &R, zero: &mut Desk, one: &mut Desk) {
     assert!(rt; zero.begin() == Answer::Done && one.begin() == Answer::Done);
-    assert!(rt; zero.lock(0, false) == Answer::Done && one.lock(1, false) == Answer::Done);
-    let answer = zero.lock(1, false);
+    assert!(rt; zero.lock(0, ToTheEnd) == Answer::Done && one.lock(1, ToTheEnd) == Answer::Done);
+    let answer = zero.lock(1, ToTheEnd);
     assert!(rt; turned(zero, answer) == Answer::Sleeps);
     assert!(rt; zero.unlock_all() == Answer::Busy && zero.end() == Answer::Busy);
-    let answer = one.lock(0, false);
+    let answer = one.lock(0, ToTheEnd);
     assert!(rt; turned(one, answer) == Answer::Deadlk(1));
     assert!(rt;
-        one.lock(0, false) == Answer::Invalid && one.lock_slow(0, false) == Answer::Invalid
+        one.lock(0, ToTheEnd) == Answer::Invalid && one.lock_slow(0, ToTheEnd) == Answer::Invalid
     );
-    assert!(rt; one.unlock(0) == Answer::Invalid && one.lock(1, false) == Answer::Already);
+    assert!(rt; one.unlock(0) == Answer::Invalid && one.lock(1, ToTheEnd) == Answer::Already);
     let answer = one.unlock_all();
     assert!(rt; turned(one, answer) == Answer::Done);
     assert!(rt; one.take_wakes()[0] && !one.take_wakes()[0]);
-    assert!(rt; one.lock_slow(1, false) == Answer::Invalid);
+    assert!(rt; one.lock_slow(1, ToTheEnd) == Answer::Invalid);
     assert!(rt; zero.go_on() == Answer::Done && zero.done() == Answer::Done);
     assert!(rt; zero.done() == Answer::Invalid && zero.end() == Answer::Invalid);
-    let answer = one.lock_slow(0, true);
+    let answer = one.lock_slow(0, UntilCancelled);
     assert!(rt; turned(one, answer) == Answer::Sleeps);
 }
 
@@ -67,7 +68,7 @@ fn is_called_off<R: Abort>(rt: &R, zero: &mut Desk, one: &mut Desk) {
     assert!(rt; one.go_on() == Answer::Invalid && one.try_lock(0) == Answer::Busy);
     assert!(rt; one.end() == Answer::Done && one.is_idle());
     assert!(rt; zero.unlock_all() == Answer::Done && zero.end() == Answer::Done && zero.is_idle());
-    assert!(rt; zero.try_lock(0) == Answer::Done && zero.lock(1, false) == Answer::Invalid);
+    assert!(rt; zero.try_lock(0) == Answer::Done && zero.lock(1, ToTheEnd) == Answer::Invalid);
     assert!(rt;
         !zero.is_idle() && zero.begin() == Answer::Invalid && zero.unlock(0) == Answer::Done
     );
@@ -94,16 +95,16 @@ fn owners_stay(rt: HostRuntime) -> Result<(), Fail> {
         pauses: 128,
         yields: 2,
     });
-    assert!(rt; zero.lock(0, false) == Answer::Done && one.lock(0, false) == Answer::Again);
+    assert!(rt; zero.lock(0, ToTheEnd) == Answer::Done && one.lock(0, ToTheEnd) == Answer::Again);
     assert!(rt; one.go_on() == moment && one.go_on() == shortly(16));
     assert!(rt; zero.unlock(0) == Answer::Done && one.go_on() == Answer::Again);
     assert!(rt; one.go_on() == Answer::Done && one.unlock_all() == Answer::Done);
-    assert!(rt; zero.begin() == Answer::Done && zero.lock(0, false) == Answer::Done);
-    assert!(rt; one.lock(0, false) == Answer::Again && one.go_on() == moment);
+    assert!(rt; zero.begin() == Answer::Done && zero.lock(0, ToTheEnd) == Answer::Done);
+    assert!(rt; one.lock(0, ToTheEnd) == Answer::Again && one.go_on() == moment);
     assert!(rt; one.go_on() == shortly(8) && one.go_on() == shortly(16));
     assert!(rt; zero.unlock(0) == Answer::Done && one.go_on() == Answer::Again);
     assert!(rt; one.go_on() == Answer::Done && one.unlock_all() == Answer::Done);
-    assert!(rt; zero.lock(0, false) == Answer::Done && one.lock(0, false) == Answer::Again);
+    assert!(rt; zero.lock(0, ToTheEnd) == Answer::Done && one.lock(0, ToTheEnd) == Answer::Again);
     assert!(rt; one.go_on() == moment && zero.unlock(0) == Answer::Done);
     assert!(rt; one.go_on() == shortly(16) && one.go_on() == Answer::Again);
     assert!(rt; one.go_on() == Answer::Done && one.unlock_all() == Answer::Done);

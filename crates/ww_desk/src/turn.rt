@@ -1,19 +1,18 @@
 //! Where a call stands that is made in non-blocking steps, and what a step answers.
 
-use ww_seat::{Arrival, Rest, Stay};
+use ww_seat::{Arrival, Rest, Stay, Waits};
 
 /// Where a call of a desk stands.
 #[derive(Clone, Copy, Debug, PartialEq, Eq)]
 pub enum Turn {
     /// Between two calls.
     Rests,
-    /// It has just tried this lock in vain, and stays away from it: for how long at most; whether its wait may be called
-    /// off.
-    Stays(u32, Stay, bool),
-    /// Outside the guard of a lock that it wants: how it came there, and whether its wait may be called off.
-    Wants(u32, Arrival, bool),
-    /// Inside that guard: how it came there, and whether its wait may be called off.
-    Looks(u32, Arrival, bool),
+    /// It has just tried this lock in vain, and stays away from it: for how long at most, and how it waits then.
+    Stays(u32, Stay, Waits),
+    /// Outside the guard of a lock that it wants: how it came there, and how it waits.
+    Wants(u32, Arrival, Waits),
+    /// Inside that guard: how it came there, and how it waits.
+    Looks(u32, Arrival, Waits),
     /// It releases this lock, and is outside its guard.
     Gives(u32),
 }

@@ -1,23 +1,12 @@
 -- What a call comes to that tries once, and waits then.
-use Rattle.std.proofs.Common.{◌≡◌, ℕ, Bool, true, Result, Ok, Err, IfOk, IfErr, None, refl, sym, ap, subst, ◌∙◌, true≢false}
+use Rattle.std.proofs.Common.{◌≡◌, ℕ, Result, Ok, Err, IfOk, IfErr}
 use Rattle.ww_seat.specs.declared.waiting.Stop.{Stop}
 use Rattle.ww_seat.specs.declared.waiting.Stop.TheVariants.{Deadlk, Interrupted}
-use Rattle.ww_seat.specs.Calls.{IsTurnedAway, MayStop}
-use Rattle.ww_lock.specs.declared.waits.Waits.{Waits}
-use Rattle.ww_lock.specs.declared.waits.Waits.TheVariants.{ToTheEnd, UntilCancelled}
+use Rattle.ww_seat.specs.Calls.{IsTurnedAway}
 use Rattle.ww_lock.specs.declared.hand.Hand.{Hand}
 use Rattle.ww_lock.specs.Holding.{Holding}
 use Rattle.ww_lock.specs.Carried.{HasMetSo}
-use Rattle.ww_lock.specs.Moves.{heeds, tried, IsTaken, IsStop, MayEnd}
-
-until_cancelled : (waits : Waits) → heeds waits ≡ true → waits ≡ UntilCancelled
-until_cancelled ToTheEnd e = absurd (true≢false (sym e))
-until_cancelled UntilCancelled e = refl
-
--- a seat's call looks at its cancel only for a wait that a cancel calls off
-pub may_end : (waits : Waits) (looks : Bool) (why : Stop) → looks ≡ heeds waits → MayStop looks why → MayEnd waits why
-may_end waits looks (Deadlk k) is h = tt
-may_end waits looks (Interrupted by) is h = until_cancelled waits (sym is ∙ h)
+use Rattle.ww_lock.specs.Moves.{tried, IsTaken, IsStop}
 
 -- what it told of each state before the try, it tells of that one
 pub taken_then : (r : Result (Unit {0}) Stop) (s a b : Holding) (n : ℕ) → a ≡ tried s

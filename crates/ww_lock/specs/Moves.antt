@@ -1,5 +1,5 @@
 -- How one state becomes another.
-use Rattle.std.specs.Prelude.{ℕ, Bool, ◌≡◌, ◌<◌, ◌≤◌, ◌+◌, ◌-◌, ◌∷◌, ◌++◌, [], length, true, false, slice_set, Result, Ok, Err}
+use Rattle.std.specs.Prelude.{ℕ, ◌≡◌, ◌<◌, ◌≤◌, ◌+◌, ◌-◌, ◌∷◌, ◌++◌, [], length, true, false, slice_set, Result, Ok, Err}
 use Rattle.ww_plain.specs.declared.node.Node.{Node}
 use Rattle.ww_plain.specs.Numbers.{is_among}
 use Rattle.ww_plain.specs.Meaning.{answer_of}
@@ -14,8 +14,8 @@ use Rattle.ww_lock.specs.declared.acquiring.Try.{Try}
 use Rattle.ww_lock.specs.declared.acquiring.Try.TheVariants as try
 use Rattle.ww_seat.specs.declared.waiting.Stop.{Stop}
 use Rattle.ww_seat.specs.declared.waiting.Stop.TheVariants as seat
-use Rattle.ww_lock.specs.declared.waits.Waits.{Waits}
-use Rattle.ww_lock.specs.declared.waits.Waits.TheVariants.{ToTheEnd, UntilCancelled}
+use Rattle.ww_seat.specs.declared.waits.Waits.{Waits}
+use Rattle.ww_seat.specs.declared.waits.Waits.TheVariants.{UntilCancelled}
 use Rattle.ww_lock.specs.Holding.{Holding, Refused, Change, AreBelow}
 
 -- one node more is held, with these contents
@@ -84,16 +84,6 @@ pub record IsInterrupted (s : Holding) (n by : ℕ) (a : Holding) : Type 0 where
 abbrev pub IsStop : Holding → ℕ → Stop → Holding → Type 0
 IsStop s n (seat.Deadlk k) a = (a ≡ backed_off s) × (1 ≤ k) × (k < s.stamp) × (1 ≤ length s.held)
 IsStop s n (seat.Interrupted by) a = IsInterrupted s n by a
-
--- a wait that a cancel calls off
-abbrev pub heeds : Waits → Bool
-heeds ToTheEnd = false
-heeds UntilCancelled = true
-
--- only such a wait is called off
-abbrev pub MayEnd : Waits → Stop → Type 0
-MayEnd waits (seat.Deadlk k) = Unit {0}
-MayEnd waits (seat.Interrupted by) = waits ≡ UntilCancelled
 
 -- the wait of this caller was called off
 abbrev pub IsCancelling : Holding → ℕ → Holding → Type 0

@@ -3,12 +3,11 @@ use crate::done::{Done, Empty};
 use crate::hand::Hand;
 use crate::held::Held;
 use crate::interruptible::Interruptible;
-use crate::waits::Waits;
 use crate::world::World;
 use std::marker::{Model, PhantomData};
 use std::sync::Wait;
 use ww_plain::Node;
-use ww_seat::Stop;
+use ww_seat::{Stop, Waits};
 
 /// A context that takes locks. Its seat has noted no older context for which it had to die.
 pub struct Acquiring {

@@ -1,11 +1,10 @@
 use crate::acquiring::Acquiring;
 use crate::hand::Hand;
 use crate::pass::Pass;
-use crate::waits::Waits;
 use crate::world::World;
 use std::marker::Model;
 use std::sync::Wait;
-use ww_seat::Stop;
+use ww_seat::{Stop, Waits};
 
 /// A context that was told EDEADLK and has released all locks. It may take the lock that it couldn't get, or end.
 pub struct Contended {
@@ -29,7 +28,7 @@ impl Contended {
     ghost use Rattle.std.specs.Prelude.{◌≡◌, ◌∷◌, [], IfOk, IfErr};
     ghost use Rattle.ww_lock.specs.Holding.{IsAtHome};
     ghost use Rattle.ww_lock.specs.Moves.{IsTaken, IsInterrupted};
-    ghost use Rattle.ww_lock.specs.declared.waits.Waits.TheVariants.{UntilCancelled};
+    ghost use Rattle.ww_seat.specs.declared.waits.Waits.TheVariants.{UntilCancelled};
 
     /// Takes the contended lock, however long that takes: the kernel's slow path. It holds no other lock, so nobody
     /// tells it EDEADLK.

@@ -3,9 +3,9 @@
 use crate::acquiring::Acquiring;
 use crate::backoff::Backoff;
 use crate::contended::Contended;
-use crate::waits::Waits;
 use crate::world::World;
 use std::sync::Wait;
+use ww_seat::Waits;
 
 /// What an interruptible lock call answers.
 pub enum Interruptible {

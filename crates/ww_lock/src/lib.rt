@@ -20,7 +20,6 @@ mod locking;
 mod pass;
 mod prepared;
 mod solo;
-mod waits;
 mod world;
 
 pub use acquiring::{Acquiring, Lock, Try};
@@ -33,6 +32,5 @@ pub use interruptible::{Halt, Interruptible};
 pub use pass::Pass;
 pub use prepared::{Prepared, Receipt};
 pub use solo::{Solo, SoloDone};
-pub use waits::Waits;
 pub use world::{OpenFault, World};
-pub use ww_seat::Waited;
+pub use ww_seat::{Waited, Waits};

@@ -1,18 +1,17 @@
 //! What the calls of the states do at the table of the world, by the seat that each state carries.
 
 use crate::hand::Hand;
-use crate::waits::Waits;
 use crate::world::World;
 use std::sync::Wait;
-use ww_seat::Stop;
+use ww_seat::{Stop, Waits};
 
 impl Hand {
     ghost use Rattle.std.specs.Prelude.{◌≡◌, ◌≤◌, ◌<◌, ◌+◌, ◌^◌, ◌⊎◌, [], true, false, length, None, IfOk, IfErr};
     ghost use Rattle.ww_plain.specs.Numbers.{is_among};
-    ghost use Rattle.ww_seat.specs.Calls.{IsTurnedAway};
+    ghost use Rattle.ww_seat.specs.Calls.{IsTurnedAway, MayStop};
     ghost use Rattle.ww_lock.specs.Holding.{Holding, IsAtHome};
     ghost use Rattle.ww_lock.specs.Carried.{holding_of, held_of, met_of, Carries, CarriesFresh, HasLost, HasMetSo};
-    ghost use Rattle.ww_lock.specs.Moves.{tried, found_pending, IsTaken, IsStop, MayEnd, IsCancelling, emptied};
+    ghost use Rattle.ww_lock.specs.Moves.{tried, found_pending, IsTaken, IsStop, IsCancelling, emptied};
 
     /// Starts a context: it draws a stamp.
     pub(crate) fn begin(&mut self, world: &World)
@@ -87,7 +86,7 @@ impl Hand {
         ensures fresh { CarriesFresh self.new }
         ensures taken { IfOk result (λ _. (s : Holding) → holding_of self.old ≡ tried s → IsTaken s n (holding_of self.new)) }
         ensures stopped { IfErr result (λ why. (s : Holding) → holding_of self.old ≡ tried s → IsStop s n why (holding_of self.new)) }
-        ensures waits { IfErr result (MayEnd waits) }
+        ensures waits { IfErr result (MayStop waits) }
         ensures turned_away { IfErr result (λ why. IsTurnedAway self.old.seat.seat.me n why self.new.seat.seat.me) }
         ensures unmet { IfOk result (λ _. met_of self.new ≡ None) }
     {
@@ -97,7 +96,7 @@ impl Hand {
             &mut self.seat,
             &world.board,
             u32::from(n),
-            waits.heeds(),
+            waits,
             holds,
             &mut self.patience,
             &mut self.bells,
@@ -123,7 +122,7 @@ impl Hand {
         ensures fresh { CarriesFresh self.new }
         ensures taken { IfOk result (λ _. IsTaken (holding_of self.old) n (holding_of self.new)) }
         ensures stopped { IfErr result (λ why. IsStop (holding_of self.old) n why (holding_of self.new)) }
-        ensures waits { IfErr result (MayEnd waits) }
+        ensures waits { IfErr result (MayStop waits) }
         ensures unmet { IfOk result (λ _. met_of self.new ≡ None) }
         ensures met { IfErr result (λ why. HasMetSo n why self.new) }
     {

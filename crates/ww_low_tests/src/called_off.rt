@@ -17,7 +17,7 @@ use std::process::Abort;
 use std::sync::Wait;
 use std::test::Fail;
 use ww_queue::Kind;
-use ww_seat::{Arrival, Bell, Look, cancel, give_at_once, try_take, visit};
+use ww_seat::{Arrival, Bell, Look, Waits, cancel, give_at_once, try_take, visit};
 use ww_table::{Board, Seat16};
 
 const KINDS: [Kind; 2] = [Kind::WoundWait, Kind::WaitDie];
@@ -80,7 +80,16 @@ fn stop<R: Wait + Abort>(
     ensures holds { (o : List Bool) → Owns board.now kind o seat.old → Holds board.now kind o seat.new }
 {
     let holds = holds_one(board, seat);
-    match visit(rt, seat, board, lock, arrival, true, holds, bells) {
+    match visit(
+        rt,
+        seat,
+        board,
+        lock,
+        arrival,
+        Waits::UntilCancelled,
+        holds,
+        bells,
+    ) {
         Look::Interrupted(by) => by,
         Look::Locked(_) | Look::Deadlk(_) | Look::Waits => panic!(rt; "it is called off"),
     }
@@ -120,7 +129,7 @@ fn while_it_waits<R: Wait + Abort>(rt: &R, alloc: Global, kind: Kind) -> Result<
         kind,
         0,
         Arrival::Came,
-        true,
+        Waits::UntilCancelled,
         &mut bells,
     );
     compare(rt, &mut board, [265, 0], 0, [2, 0]);
@@ -180,7 +189,7 @@ fn after_plain_looks<R: Wait + Abort>(rt: &R, alloc: Global, kind: Kind) -> Resu
         kind,
         0,
         Arrival::Came,
-        false,
+        Waits::ToTheEnd,
         &mut bells,
     );
     compare_cancelled(rt, &mut board, [265, 0], 0, [2, 0], 1);
@@ -191,7 +200,7 @@ fn after_plain_looks<R: Wait + Abort>(rt: &R, alloc: Global, kind: Kind) -> Resu
         kind,
         0,
         Arrival::Woken,
-        false,
+        Waits::ToTheEnd,
         &mut bells,
     );
     compare_cancelled(rt, &mut board, [267, 0], 0, [2, 0], 1);
@@ -229,7 +238,7 @@ fn called_off_then_dies<R: Wait + Abort>(
         kind,
         1,
         Arrival::Came,
-        false,
+        Waits::ToTheEnd,
         &mut bells,
     );
     compare_cancelled(rt, &mut board, [264, 529], sign, [2, 0], 1);
@@ -280,7 +289,7 @@ fn a_cancel_wakes_the_waiter(rt: HostRuntime) -> Result<(), Fail> {
         kind,
         0,
         Arrival::Came,
-        true,
+        Waits::UntilCancelled,
         &mut bells,
     );
     call_off(&rt, &board, &mut owner, false, &mut bells);

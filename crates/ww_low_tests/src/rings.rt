@@ -19,7 +19,7 @@ use std::process::Abort;
 use std::sync::Wait;
 use std::test::Fail;
 use ww_queue::Kind;
-use ww_seat::{Arrival, Bell, Look, Parker, begin, end, give_waited, try_take, visit};
+use ww_seat::{Arrival, Bell, Look, Parker, Waits, begin, end, give_waited, try_take, visit};
 use ww_table::{Board, Seat16};
 
 /// The words that two locks and two seats use: owners, guards, signs, the stamp word and the front word.
@@ -148,8 +148,8 @@ pub(crate) fn holds_one(_board: &Board, seat: &Seat16) -> bool
     seat.has_out()
 }
 
-/// Looks at a lock, and comes to stand in its wait list, or still stands there. A pending cancel is looked for where it
-/// is to be heeded.
+/// Looks at a lock, and comes to stand in its wait list, or still stands there. A pending cancel is looked for where the
+/// wait is until a cancel.
 pub(crate) fn wait<R: Wait + Abort>(
     rt: &R,
     board: &Board,
@@ -157,7 +157,7 @@ pub(crate) fn wait<R: Wait + Abort>(
     kind: Kind,
     lock: u32,
     arrival: Arrival,
-    heeds: bool,
+    waits: Waits,
     bells: &mut [Bell],
 )
     requires may { (o : List Bool) × MayLook board.now kind o lock arrival seat.old }
@@ -167,7 +167,7 @@ pub(crate) fn wait<R: Wait + Abort>(
     ensures may { (o : List Bool) → Owns board.now kind o seat.old → MayLook board.now kind o lock Woken seat.new }
 {
     let holds = holds_one(board, seat);
-    match visit(rt, seat, board, lock, arrival, heeds, holds, bells) {
+    match visit(rt, seat, board, lock, arrival, waits, holds, bells) {
         Look::Waits => {}
         Look::Locked(_) | Look::Deadlk(_) | Look::Interrupted(_) => panic!(rt; "it has to wait"),
     }
@@ -190,7 +190,16 @@ pub(crate) fn back_off<R: Wait + Abort>(
     ensures holds { (o : List Bool) → Owns board.now kind o seat.old → Holds board.now kind o seat.new }
 {
     let holds = holds_one(board, seat);
-    match visit(rt, seat, board, lock, arrival, false, holds, bells) {
+    match visit(
+        rt,
+        seat,
+        board,
+        lock,
+        arrival,
+        Waits::ToTheEnd,
+        holds,
+        bells,
+    ) {
         Look::Deadlk(met) => met,
         Look::Locked(_) | Look::Interrupted(_) | Look::Waits => panic!(rt; "it has to die"),
     }
@@ -210,7 +219,16 @@ fn take<R: Wait + Abort>(
     requires bells { AreBellsOf board.now bells.old }
 {
     let holds = holds_one(board, seat);
-    match visit(rt, seat, board, lock, Arrival::Woken, false, holds, bells) {
+    match visit(
+        rt,
+        seat,
+        board,
+        lock,
+        Arrival::Woken,
+        Waits::ToTheEnd,
+        holds,
+        bells,
+    ) {
         Look::Locked(_) => {}
         Look::Deadlk(_) | Look::Interrupted(_) | Look::Waits => panic!(rt; "the lock is free"),
     }
@@ -308,7 +326,7 @@ fn older_first<R: Wait + Abort>(
         kind,
         1,
         Arrival::Came,
-        false,
+        Waits::ToTheEnd,
         &mut bells,
     );
     compare(rt, &mut board, [264, 529], sign, [2, 0]);
@@ -341,7 +359,7 @@ fn a_ring_is_undone_by_a_sign(rt: HostRuntime) -> Result<(), Fail> {
         kind,
         0,
         Arrival::Came,
-        false,
+        Waits::ToTheEnd,
         &mut bells,
     );
     compare(&rt, &mut board, [265, 528], 0, [2, 0]);
@@ -352,7 +370,7 @@ fn a_ring_is_undone_by_a_sign(rt: HostRuntime) -> Result<(), Fail> {
         kind,
         1,
         Arrival::Came,
-        false,
+        Waits::ToTheEnd,
         &mut bells,
     );
     compare(&rt, &mut board, [265, 529], 1, [2, 0]);
@@ -439,7 +457,7 @@ fn a_lock_is_handed_over(rt: HostRuntime) -> Result<(), Fail> {
         kind,
         0,
         Arrival::Came,
-        false,
+        Waits::ToTheEnd,
         &mut bells,
     );
     compare(&rt, &mut board, [265, 528], 0, [2, 0]);
@@ -450,7 +468,7 @@ fn a_lock_is_handed_over(rt: HostRuntime) -> Result<(), Fail> {
         kind,
         0,
         Arrival::Woken,
-        false,
+        Waits::ToTheEnd,
         &mut bells,
     );
     compare(&rt, &mut board, [267, 528], 0, [2, 0]);

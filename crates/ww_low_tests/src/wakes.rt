@@ -17,7 +17,7 @@ use std::process::Abort;
 use std::sync::Wait;
 use std::test::Fail;
 use ww_queue::Kind;
-use ww_seat::{Arrival, Bell, Look, try_take, visit};
+use ww_seat::{Arrival, Bell, Look, Waits, try_take, visit};
 use ww_table::{Board, Seat16};
 
 /// A board of two nodes, with its three seats.
@@ -84,7 +84,7 @@ fn asleep<R: Wait + Abort>(
         kind,
         0,
         Arrival::Came,
-        false,
+        Waits::ToTheEnd,
         bells,
     );
     compare(rt, &mut board, [793, 528], 0, [3, 0]);
@@ -106,7 +106,16 @@ fn look<R: Wait>(
     ensures bells { length bells.new ≡ length bells.old }
 {
     let holds = holds_one(board, seat);
-    visit(rt, seat, board, lock, Arrival::Came, false, holds, bells)
+    visit(
+        rt,
+        seat,
+        board,
+        lock,
+        Arrival::Came,
+        Waits::ToTheEnd,
+        holds,
+        bells,
+    )
 }
 
 /// The owner waits for another lock, and has to give way to an older context that comes to wait for it.
@@ -123,7 +132,7 @@ fn who_joins_wakes_the_owner(rt: HostRuntime) -> Result<(), Fail> {
         kind,
         0,
         Arrival::Came,
-        false,
+        Waits::ToTheEnd,
         &mut bells,
     );
     assert!(rt;

@@ -5,7 +5,7 @@ pub mod AtOnce
 pub mod Changes
 pub mod Guards
 pub mod Gives
-pub mod Waits
+pub mod Waitings
 pub mod Glances
 pub mod Working
 pub mod Signing
@@ -16,3 +16,4 @@ pub mod Stopped
 pub mod Stepwise
 pub mod Among
 pub mod Without
+pub mod Ringing

@@ -67,6 +67,7 @@ noted_none size m m1 t same = record {
   fresh = m.0.part.core.fresh;
   view = same;
   all = λ u k none. absurd none;
+  more = λ u has. has;
 }
 
 -- another seat was found or made signed, as the step told
@@ -84,6 +85,7 @@ noted_more size xs ys m m1 m2 true u h is more = record {
   fresh = false;
   view = ap (λ (z : Sat). z.0) is ∙ ap (λ (z : Sight). condemning z u) h.view;
   all = λ v k has. ⊎_elim (λ old. inr (h.all v k old)) (λ e. inl e) (more v k has);
+  more = λ v has. inr (h.more v has);
 }
 noted_more size xs ys m m1 m2 false u h is more = record {
   orderly = orderly_knowing size m1 m2 (noting m1.0 u).part.core h.orderly is refl refl refl refl;
@@ -92,6 +94,7 @@ noted_more size xs ys m m1 m2 false u h is more = record {
   fresh = false;
   view = ap (λ (z : Sat). z.0) is ∙ ap (λ (z : Sight). noting z u) h.view;
   all = λ v k has. ⊎_elim (λ old. inr (h.all v k old)) (λ e. inl e) (more v k has);
+  more = h.more;
 }
 
 pub noted_is : (won : Bool) (m1 m2 : Sat) (u : ℕ) → (won ≡ true → m2 ≡ (condemning m1.0 u, m1.1))
@@ -295,6 +298,7 @@ noted_all size i items owed m m1 all is h = record {
   fresh = h.fresh;
   view = h.view;
   all = λ u k has. h.all u k (has_taken items i (u, k) all (subst (λ (l : List (ℕ × ℕ)). Has l (u, k)) (sym is) has));
+  more = h.more;
 }
 
 pub owed_at : (items owed : List (ℕ × ℕ)) (i : ℕ) → i < length items → items ≡ owed

@@ -12,7 +12,7 @@ use Rattle.ww_seat.specs.Work.{IsAtWork}
 use Rattle.ww_seat.proofs.Gives.{still_entered}
 use Rattle.ww_seat.proofs.Guards.{HasEntered, entering_orderly}
 use Rattle.ww_seat.proofs.Outside.{orderly_knowing}
-use Rattle.ww_seat.proofs.Waits.{entered_inside, entered_later}
+use Rattle.ww_seat.proofs.Waitings.{entered_inside, entered_later}
 use Rattle.ww_seat.proofs.Working.{work_inside}
 
 pub orderly_shut : (size : ℕ) (m m' : Sat) → IsOrderly size m → m' ≡ (shutting_out m.0, m.1) → IsOrderly size m'

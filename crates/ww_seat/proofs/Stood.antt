@@ -1,5 +1,5 @@
 -- A seat in the wait list: it joins, asks, stays or backs off.
-use Rattle.std.proofs.Common.{◌≡◌, ◌≢◌, inl, inr, ⊎_elim, ℕ, suc, ◌+◌, ◌<◌, ◌^◌, Bool, true, false, true≢false, List, [], ◌∷◌, slice_get, refl, sym, ap, ◌∙◌, subst, arith, Option, Some, None, IfSome, IfNone}
+use Rattle.std.proofs.Common.{◌≡◌, ◌≢◌, inl, inr, ⊎_elim, ℕ, suc, ◌+◌, ◌<◌, ◌^◌, Bool, true, false, true≢false, List, [], ◌∷◌, slice_get, refl, sym, ap, ◌∙◌, subst, arith, Option, Some, None}
 use Rattle.ww_word.specs.declared.owner.Owner.{Owner}
 use Rattle.ww_word.specs.Owner.{IsValid, IsSeating, with_waiters}
 use Rattle.ww_queue.specs.declared.entry.Entry.{Entry}
@@ -27,9 +27,10 @@ use Rattle.ww_rule.specs.Waiting.{HasListOnTop, joining, asking, dying}
 use Rattle.ww_seat.specs.Orderly.{IsOrderly}
 use Rattle.ww_seat.specs.Accounts.{account_of}
 use Rattle.ww_seat.specs.Calls.{HoldsAsBefore, HasToDie}
-use Rattle.ww_seat.specs.Looks.{MayWant, IsOutside, IsLook}
+use Rattle.ww_seat.specs.Looks.{MayWant, IsOutside, IsLook, IfEnded, IfLost}
 use Rattle.ww_seat.specs.Work.{touched, told, IsTouched, IsTold, IsPlaced, IsWorking, IsAtWork, SeesOther, HasStood, HasAsked, HasSigned, MayGo, MayStay}
-use Rattle.ww_seat.specs.declared.look.Look.{Look}
+use Rattle.ww_seat.specs.declared.look.Attempt.{Attempt}
+use Rattle.ww_seat.specs.declared.look.Attempt.TheVariants.{Lost, Ended}
 use Rattle.ww_seat.specs.declared.look.Look.TheVariants.{Deadlk}
 use Rattle.ww_seat.proofs.Guards.{listed_orderly}
 use Rattle.ww_seat.proofs.Outside.{orderly_knowing}
@@ -264,16 +265,16 @@ flags_later n stands again v o p w flags same later =
     ap (λ (q : List Entry). entry_of q v.who) e in let is = place.1 in absurd cc in
     subst (λ (x : Owner). x.flags ≢ 0) (sym (same on)) (flags some)
 
-pub look_later : (size n : ℕ) (before m m' : Sat) (o : Option Look) → HoldsAsBefore before m
-    → IfSome o (λ look. IsLook size n m look m') → IfSome o (λ look. IsLook size n before look m')
-look_later size n before m m' None h l = tt
-look_later size n before m m' (Some k) h l = look_then size n before m m' k h l
+pub look_later : (size n : ℕ) (before m m' : Sat) (a : Attempt) → HoldsAsBefore before m
+    → IfEnded a (λ look. IsLook size n m look m') → IfEnded a (λ look. IsLook size n before look m')
+look_later size n before m m' Lost h l = tt
+look_later size n before m m' (Ended look) h l = look_then size n before m m' look h l
 
-pub work_later : (size n : ℕ) (before : Sat) (stands again : Bool) (m m' : Sat) (o : Option Look)
-    → IsAtWork size n before stands again m → IfNone o (IsAtWork size n m true again m')
-    → IfNone o (IsAtWork size n before true again m')
-work_later size n before stands again m m' None w l = work_then size n before stands true again m m' w l
-work_later size n before stands again m m' (Some k) w l = tt
+pub work_later : (size n : ℕ) (before : Sat) (stands again : Bool) (m m' : Sat) (a : Attempt)
+    → IsAtWork size n before stands again m → IfLost a (IsAtWork size n m true again m')
+    → IfLost a (IsAtWork size n before true again m')
+work_later size n before stands again m m' Lost w l = work_then size n before stands true again m m' w l
+work_later size n before stands again m m' (Ended look) w l = tt
 
 pub later_work : (n : ℕ) (again : Bool) (v : View) → again ≡ true → IsWorking n true again v → IsWorking n true true v
 later_work n again v is w = subst (λ (b : Bool). IsWorking n true b v) is w

@@ -1,6 +1,5 @@
 -- A seat that heeds its cancel, and leaves the wait list for it.
-use Rattle.std.proofs.Common.{◌≡◌, ◌≢◌, ℕ, ◌+◌, Bool, true, false, List, ◌∷◌, refl, sym, ap, ◌∙◌, subst, Option, Some, None}
-use Rattle.std.specs.Prelude.{IfSome}
+use Rattle.std.proofs.Common.{◌≡◌, ◌≢◌, ℕ, ◌+◌, Bool, true, false, List, ◌∷◌, refl, sym, ap, ◌∙◌, subst, Some, None}
 use Rattle.ww_word.specs.declared.owner.Owner.{Owner}
 use Rattle.ww_view.specs.declared.view.View.{View}
 use Rattle.ww_view.specs.Made.{interrupted}
@@ -12,18 +11,18 @@ use Rattle.ww_rule.specs.Out.{AreOthers, slot_of}
 use Rattle.ww_rule.specs.Cancels.{finding_uncancelled, heeding, stopping}
 use Rattle.ww_seat.specs.Orderly.{IsOrderly}
 use Rattle.ww_seat.specs.Accounts.{account_of}
-use Rattle.ww_seat.specs.declared.look.Look.{Look}
-use Rattle.ww_seat.specs.declared.look.Look.TheVariants.{Locked, Deadlk, Interrupted, Waits}
-use Rattle.ww_seat.specs.Looks.{MayWaitSo}
+use Rattle.ww_seat.specs.declared.look.Attempt.{Attempt}
+use Rattle.ww_seat.specs.declared.look.Attempt.TheVariants.{Lost, Ended}
+use Rattle.ww_seat.specs.declared.look.Look.TheVariants as look
+use Rattle.ww_seat.specs.declared.waits.Waits.{Waits}
+use Rattle.ww_seat.specs.declared.waits.Waits.TheVariants.{UntilCancelled}
+use Rattle.ww_seat.specs.Looks.{IfEnded, MayWaitSo}
 use Rattle.ww_seat.specs.Work.{IsWorking, IsAtWork, SeesOther, MayGo, GoesOn}
 use Rattle.ww_seat.proofs.Guards.{listed_orderly}
 use Rattle.ww_seat.proofs.Outside.{orderly_knowing}
 use Rattle.ww_seat.proofs.Stood.{gone_goes}
 
 -- ---- no cancel was pending
-
-pub goes_on_same : (size : ℕ) (m : Sat) → IsOrderly size m → GoesOn size m m
-goes_on_same size m o = record { orderly = o; fresh = m.0.part.core.fresh; uncancelled = m.0.part.core.uncancelled; view = refl }
 
 pub goes_on_none : (size : ℕ) (m m' : Sat) → IsOrderly size m → m' ≡ (finding_uncancelled m.0, m.1) → GoesOn size m m'
 goes_on_none size m m' o is =
@@ -86,10 +85,10 @@ work_goes_on size n before again m m' x g = record {
 }
 
 -- where it found no cancel before, or need not look, it still has once it comes to waiting
-pub waits_so : (heeds found : Bool) (v : View) (o : Option Look) → (heeds ≡ true → found ≡ true)
-    → IfSome o (MayWaitSo found v) → IfSome o (MayWaitSo heeds v)
-waits_so heeds found v None first then = tt
-waits_so heeds found v (Some Waits) first then = λ is. then (first is)
-waits_so heeds found v (Some (Locked x)) first then = tt
-waits_so heeds found v (Some (Deadlk k)) first then = tt
-waits_so heeds found v (Some (Interrupted by)) first then = tt
+pub waits_so : (waits : Waits) (found : Bool) (v : View) (a : Attempt) → (waits ≡ UntilCancelled → found ≡ true)
+    → (found ≡ true → IfEnded a (MayWaitSo UntilCancelled v)) → IfEnded a (MayWaitSo waits v)
+waits_so waits found v Lost first then = tt
+waits_so waits found v (Ended look.Waits) first then = λ is. then (first is) refl
+waits_so waits found v (Ended (look.Locked x)) first then = tt
+waits_so waits found v (Ended (look.Deadlk k)) first then = tt
+waits_so waits found v (Ended (look.Interrupted by)) first then = tt

@@ -19,7 +19,7 @@ use Rattle.ww_rule.specs.Waiting.{HasListOnTop}
 use Rattle.ww_seat.specs.Orderly.{IsOrderly}
 use Rattle.ww_seat.specs.Calls.{HoldsAsBefore}
 use Rattle.ww_seat.specs.Looks.{MayWant}
-use Rattle.ww_seat.specs.Work.{AreWoken, AreMarked, HasToWake, HasCondemnedNone, touched, told, IsTouched, IsTold, IsPlaced, IsWorking, IsAtWork, IsCleared, MayGo, HasNoted}
+use Rattle.ww_seat.specs.Work.{AreWoken, AreOnlyWoken, StillHasToWake, AreMarked, HasToWake, HasCondemnedNone, touched, told, IsTouched, IsTold, IsPlaced, IsWorking, IsAtWork, IsCleared, MayGo, HasNoted}
 use Rattle.ww_seat.proofs.Holds.{holds_same, holds_then}
 use Rattle.ww_seat.proofs.Outside.{orderly_knowing, orderly_brought}
 use Rattle.ww_seat.proofs.Guards.{listed_orderly, exiting_orderly}
@@ -58,6 +58,29 @@ woken_touched size m m' wakes t = woken_still m m' wakes
 -- it has nobody to wake that isn't marked yet
 pub marked_none : (m : Sat) (wakes : List Bool) → AreWoken m.0.part.core wakes → AreMarked wakes (HasToWake m.0.part.core) wakes
 marked_none m wakes woken u = (inl, ⊎_elim (λ was. was) (woken u))
+
+-- nobody was condemned, so whoever had to be woken still has to be
+pub still_none : (m m' : Sat) → HasCondemnedNone m m' → StillHasToWake m.0.part.core m'.0.part.core
+still_none m m' none u has = (subst (λ (l : List ℕ). Has l u) (sym none.condemned) has.0, λ e. has.1 (e ∙ none.who))
+
+pub still_touched : (size : ℕ) (m m' : Sat) → IsTouched size m m' → StillHasToWake m.0.part.core m'.0.part.core
+still_touched size m m' t = still_none m m'
+    (none_condemned m m' (knowing m.0 (touched m.0.part.core t.seen t.signed m.0.part.core.condemned t.fresh))
+    t.view refl refl refl)
+
+pub still_noted : (size : ℕ) (owed : List (ℕ × ℕ)) (m m' : Sat) → HasNoted size owed m m'
+    → StillHasToWake m.0.part.core m'.0.part.core
+still_noted size owed m m' h u has = subst (λ (z : Sight). HasToWake z.part.core u) (sym h.view) (h.more u has.0, has.1)
+
+pub still_later : (size : ℕ) (owed : List (ℕ × ℕ)) (m m1 m2 m3 : Sat) → IsTouched size m m1 → HasNoted size owed m1 m2
+    → HasCondemnedNone m2 m3 → StillHasToWake m.0.part.core m3.0.part.core
+still_later size owed m m1 m2 m3 t h none u has = still_none m2 m3 none u (still_noted size owed m1 m2 h u (still_touched size m m1 t u has))
+
+-- whoever was marked alone is so still
+pub only_marked : (m m' : Sat) (was now : List Bool) → AreOnlyWoken m.0.part.core was
+    → StillHasToWake m.0.part.core m'.0.part.core → AreMarked was (HasToWake m'.0.part.core) now
+    → AreOnlyWoken m'.0.part.core now
+only_marked m m' was now only still marked u mark = ⊎_elim (λ before. still u (only u before)) (λ has. has) ((marked u).0 mark)
 
 pub woken_marked : (m : Sat) (was now : List Bool) → AreMarked was (HasToWake m.0.part.core) now → AreWoken m.0.part.core now
 woken_marked m was now marked u has = (marked u).1 (inr has)
@@ -169,6 +192,9 @@ look_counts m m' o is = ap (λ (z : Sat). z.0.part.core.attempts) is
 pub woken_looked : (m m' : Sat) (o : Owner) (wakes : List Bool) → m' ≡ (looking m.0 o, m.1)
     → AreWoken m.0.part.core wakes → AreWoken m'.0.part.core wakes
 woken_looked m m' o wakes is woken = subst (λ (z : Sat). AreWoken z.0.part.core wakes) (sym is) woken
+
+pub still_looked : (m m' : Sat) (o : Owner) → m' ≡ (looking m.0 o, m.1) → StillHasToWake m.0.part.core m'.0.part.core
+still_looked m m' o is = subst (λ (z : Sat). StillHasToWake m.0.part.core z.0.part.core) (sym is) (λ u has. has)
 
 -- a step that was lost
 pub touched_lost : (size : ℕ) (m m' : Sat) → IsOrderly size m → m' ≡ (lost m.0, m.1) → IsTouched size m m'

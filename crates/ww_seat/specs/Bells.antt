@@ -62,7 +62,11 @@ AreRung marks bells bells' = (u : ℕ) → u < length bells →
 abbrev pub IsRung : ℕ → List Bell → List Bell → Type 0
 IsRung u bells bells' = u < length bells → rung_at bells' u ≡ option_map (one_more true) (rung_at bells u)
 
--- ... of each seat that this one condemned since it went inside the guard, itself excepted
+-- only these seats' bells gave tokens, if any did
+abbrev pub OnlyRing : (ℕ → Type 0) → List Bell → List Bell → Type 0
+OnlyRing these bells bells' = (u : ℕ) → (¬ these u) → rung_at bells' u ≡ rung_at bells u
+
+-- one token more from the bell of each seat that this one condemned since it went inside the guard, itself excepted
 abbrev pub HaveRung : View → List Bell → List Bell → Type 0
 HaveRung v bells bells' = (u : ℕ) → Has v.condemned u → u ≢ v.who → IsRung u bells bells'
 

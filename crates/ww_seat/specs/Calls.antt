@@ -1,5 +1,5 @@
 -- What the calls of the locks make of a seat.
-use Rattle.std.specs.Prelude.{ℕ, ◌≡◌, ◌<◌, List, Bool, true, false, length, Some, None, IsTrue}
+use Rattle.std.specs.Prelude.{ℕ, ◌≡◌, ◌<◌, List, true, false, length, Some, None, IsTrue}
 use Rattle.std.specs.List.{AllByRecursion}
 use mathlib.Core.Option.{some}
 use lib.ListN.{get_elem?}
@@ -16,6 +16,8 @@ use Rattle.ww_rule.specs.Rule.{Sat}
 use Rattle.ww_seat.specs.Accounts.{Account, account_of, having_tried, having_taken, having_given, having_died, having_stopped, having_begun, having_ended, having_committed}
 use Rattle.ww_seat.specs.declared.waiting.Stop.{Stop}
 use Rattle.ww_seat.specs.declared.waiting.Stop.TheVariants.{Deadlk, Interrupted}
+use Rattle.ww_seat.specs.declared.waits.Waits.{Waits}
+use Rattle.ww_seat.specs.declared.waits.Waits.TheVariants.{UntilCancelled}
 
 -- it has what it had, and did nothing that is counted
 abbrev pub HoldsAsBefore : Sat → Sat → Type 0
@@ -72,10 +74,10 @@ abbrev pub IsTurnedAway : Sat → ℕ → Stop → Sat → Type 0
 IsTurnedAway m n (Deadlk k) m' = HasToDie m n k m'
 IsTurnedAway m n (Interrupted by) m' = HasStopped m n by m'
 
--- only a call that looks at its cancel is interrupted
-abbrev pub MayStop : Bool → Stop → Type 0
-MayStop heeds (Deadlk k) = Unit {0}
-MayStop heeds (Interrupted by) = heeds ≡ true
+-- only a wait until a cancel is interrupted
+abbrev pub MayStop : Waits → Stop → Type 0
+MayStop waits (Deadlk k) = Unit {0}
+MayStop waits (Interrupted by) = waits ≡ UntilCancelled
 
 -- A context of stamp k started: the seat holds what it held, and has drawn once more.
 pub record HasBegun (m : Sat) (k : ℕ) (m' : Sat) : Type 0 where

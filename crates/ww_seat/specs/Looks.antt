@@ -1,5 +1,5 @@
 -- A seat that wants a lock, on its way there.
-use Rattle.std.specs.Prelude.{ℕ, suc, ◌≡◌, ◌≤◌, ◌+◌, ◌⊎◌, Bool, true, false}
+use Rattle.std.specs.Prelude.{ℕ, suc, ◌≡◌, ◌≤◌, ◌+◌, ◌⊎◌, true, false}
 use Rattle.ww_view.specs.declared.view.View.{View}
 use Rattle.ww_view.specs.View.{owns, IsAway}
 use Rattle.ww_view.specs.May.{WantsBase, WantsSigns}
@@ -7,8 +7,12 @@ use Rattle.ww_rule.specs.Rule.{Sat}
 use Rattle.ww_rule.specs.Steps.{knowing}
 use Rattle.ww_seat.specs.Orderly.{IsOrderly}
 use Rattle.ww_seat.specs.Calls.{HoldsAsBefore, HasTaken, HasToDie, HasStopped}
+use Rattle.ww_seat.specs.declared.look.Attempt.{Attempt}
+use Rattle.ww_seat.specs.declared.look.Attempt.TheVariants.{Lost, Ended}
 use Rattle.ww_seat.specs.declared.look.Look.{Look}
-use Rattle.ww_seat.specs.declared.look.Look.TheVariants.{Locked, Deadlk, Interrupted, Waits}
+use Rattle.ww_seat.specs.declared.look.Look.TheVariants as look
+use Rattle.ww_seat.specs.declared.waits.Waits.{Waits}
+use Rattle.ww_seat.specs.declared.waits.Waits.TheVariants.{UntilCancelled}
 
 -- why the seat may want a lock
 pub record MayWant (n : ℕ) (v : View) : Type 0 where
@@ -34,17 +38,27 @@ pub record HasGlanced (m m' : Sat) : Type 0 where
 
 -- what a look came to, once the seat is outside again
 abbrev pub IsLook : ℕ → ℕ → Sat → Look → Sat → Type 0
-IsLook size n m (Locked x) m' = IsOrderly size m' × IsAway m'.0.part.core × HasTaken m n x m'
-IsLook size n m (Deadlk k) m' = IsOrderly size m' × IsAway m'.0.part.core × HasToDie m n k m'
-IsLook size n m (Interrupted by) m' = IsOrderly size m' × IsAway m'.0.part.core × HasStopped m n by m'
-IsLook size n m Waits m' = IsOutside size n m' × (m'.0.part.core.waits ≡ suc n) × HoldsAsBefore m m'
+IsLook size n m (look.Locked x) m' = IsOrderly size m' × IsAway m'.0.part.core × HasTaken m n x m'
+IsLook size n m (look.Deadlk k) m' = IsOrderly size m' × IsAway m'.0.part.core × HasToDie m n k m'
+IsLook size n m (look.Interrupted by) m' = IsOrderly size m' × IsAway m'.0.part.core × HasStopped m n by m'
+IsLook size n m look.Waits m' = IsOutside size n m' × (m'.0.part.core.waits ≡ suc n) × HoldsAsBefore m m'
 
--- only a look at the cancel comes to an interruption
-abbrev pub MayLookSo : Bool → Look → Type 0
-MayLookSo heeds (Interrupted by) = heeds ≡ true
-MayLookSo heeds _ = Unit {0}
+-- what is true of the look, if the attempt came to its end
+abbrev pub IfEnded : Attempt → (Look → Type 0) → Type 0
+IfEnded Lost P = Unit {0}
+IfEnded (Ended look) P = P look
 
--- a look of a call that heeds cancels comes to waiting only once it found none
-abbrev pub MayWaitSo : Bool → View → Look → Type 0
-MayWaitSo heeds v Waits = heeds ≡ true → v.uncancelled ≡ true
-MayWaitSo heeds v _ = Unit {0}
+-- what is true if it was lost
+abbrev pub IfLost : Attempt → Type 0 → Type 0
+IfLost Lost P = P
+IfLost (Ended look) P = Unit {0}
+
+-- only a look of a wait until a cancel comes to an interruption
+abbrev pub MayLookSo : Waits → Look → Type 0
+MayLookSo waits (look.Interrupted by) = waits ≡ UntilCancelled
+MayLookSo waits _ = Unit {0}
+
+-- a look of a wait until a cancel comes to waiting only once it found none
+abbrev pub MayWaitSo : Waits → View → Look → Type 0
+MayWaitSo waits v look.Waits = waits ≡ UntilCancelled → v.uncancelled ≡ true
+MayWaitSo waits v _ = Unit {0}

@@ -62,6 +62,14 @@ IsMarked wakes u = slice_index_or wakes u false ≡ true
 abbrev pub AreWoken : View → List Bool → Type 0
 AreWoken v wakes = (u : ℕ) → HasToWake v u → IsMarked wakes u
 
+-- only a seat that has to be woken has a mark
+abbrev pub AreOnlyWoken : View → List Bool → Type 0
+AreOnlyWoken v wakes = (u : ℕ) → IsMarked wakes u → HasToWake v u
+
+-- whoever had to be woken still has to be
+abbrev pub StillHasToWake : View → View → Type 0
+StillHasToWake v v' = (u : ℕ) → HasToWake v u → HasToWake v' u
+
 -- marked are those that were marked before, and these, and nobody else
 abbrev pub AreMarked : List Bool → (ℕ → Type 0) → List Bool → Type 0
 AreMarked was these now = (u : ℕ) → IsMarked now u ↔ (IsMarked was u ⊎ these u)
@@ -134,6 +142,7 @@ pub record HasNoted (size : ℕ) (owed : List (ℕ × ℕ)) (m m' : Sat) : Type 
   pub fresh : Bool
   pub view : m'.0 ≡ knowing m.0 (touched m.0.part.core m.0.part.core.seen signed condemned fresh)
   pub all : (u k : ℕ) → Has owed (u, k) → Has signed u
+  pub more : (u : ℕ) → Has m.0.part.core.condemned u → Has condemned u
 
 -- ... all whom it owes a sign by this word
 abbrev pub HasSigned : ℕ → Owner → Sat → Sat → Type 0

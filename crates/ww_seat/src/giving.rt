@@ -1,9 +1,9 @@
-ghost use Rattle.std.specs.Prelude.{◌≡◌, ◌<◌, true};
+ghost use Rattle.std.specs.Prelude.{◌≡◌, ◌<◌, true, Some};
 ghost use Rattle.ww_view.specs.View.{owns};
 ghost use Rattle.ww_table.specs.Seat.{locks_of, view_of};
 ghost use Rattle.ww_seat.specs.Orderly.{IsSettledAt};
 ghost use Rattle.ww_seat.specs.Calls.{HasGiven};
-ghost use Rattle.ww_seat.specs.Bells.{AreBellsOf, ArePlacedAlike, HasRungHeir};
+ghost use Rattle.ww_seat.specs.Bells.{AreBellsOf, ArePlacedAlike, HasRungHeir, OnlyRing};
 
 use crate::bell::Bell;
 use crate::guard::spin_into_owned;
@@ -24,6 +24,7 @@ pub fn give_waited<R: Wait>(rt: &R, seat: &mut Seat16, board: &Board, lock: u32,
     ensures given { HasGiven seat.old.seat.me lock seat.new.seat.me }
     ensures records { seat.new.records ≡ seat.old.records }
     ensures rung { HasRungHeir (view_of seat.new) bells.old bells.new }
+    ensures others { OnlyRing (λ u. (view_of seat.new).heir ≡ Some u) bells.old bells.new }
     ensures placed { ArePlacedAlike bells.old bells.new }
 {
     spin_into_owned(rt, seat, board, lock);

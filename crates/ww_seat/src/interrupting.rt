@@ -3,14 +3,16 @@ ghost use Rattle.std.specs.Prelude.{◌≡◌, ◌<◌, Bool, true, false, IfSom
 ghost use Rattle.ww_rule.specs.Cancels.{cancelling, finding_pending};
 ghost use Rattle.ww_table.specs.Seat.{IsSeatOf, locks_of, size_of, view_of};
 ghost use Rattle.ww_seat.specs.declared.look.Look.TheVariants.{Interrupted};
+ghost use Rattle.ww_seat.specs.declared.waits.Waits.TheVariants.{UntilCancelled};
 ghost use Rattle.ww_seat.specs.Orderly.{IsOrderly, IsSettledAt};
 ghost use Rattle.ww_seat.specs.Looks.{IsLook};
-ghost use Rattle.ww_seat.specs.Bells.{AreBellsOf, ArePlacedAlike, IsRung};
+ghost use Rattle.ww_seat.specs.Bells.{AreBellsOf, ArePlacedAlike, IsRung, OnlyRing};
 ghost use Rattle.ww_seat.specs.Work.{HasCondemnedNone, IsWorking, SeesOther, GoesOn};
 
 use crate::bell::Bell;
 use crate::leaving::leave;
 use crate::turns::cancel_once;
+use crate::waits::Waits;
 use crate::wake::wake_seat;
 use ww_table::{Board, Seat16};
 use ww_word::Owner;
@@ -27,6 +29,7 @@ pub fn cancel(seat: &mut Seat16, board: &Board, victim: u8, bells: &mut [Bell]) 
     ensures pending { result ≡ false → seat.new.seat.me ≡ (finding_pending seat.old.seat.me.0, seat.old.seat.me.1) }
     ensures records { seat.new.records ≡ seat.old.records }
     ensures rung { result ≡ true → IsRung victim bells.old bells.new }
+    ensures others { OnlyRing (λ u. (result ≡ true) × (u ≡ victim)) bells.old bells.new }
     ensures placed { ArePlacedAlike bells.old bells.new }
 {
     if !cancel_once(seat, board, victim) {
@@ -36,7 +39,7 @@ pub fn cancel(seat: &mut Seat16, board: &Board, victim: u8, bells: &mut [Bell]) 
     true
 }
 
-/// Leaves the wait list and the guard where a cancel of the seat is pending and is to be heeded, and tells whose it
+/// Leaves the wait list and the guard where a cancel of the seat is pending and its wait is one that a cancel calls off, and tells whose it
 /// was. While the seat stands in the list inside the guard nobody else writes the owner word, so it is still the one
 /// seen.
 pub(crate) fn stop_if_cancelled(
@@ -44,7 +47,7 @@ pub(crate) fn stop_if_cancelled(
     board: &Board,
     lock: u32,
     seen: Owner,
-    heeds: bool,
+    waits: Waits,
 ) -> Option<u8>
     requires seat { IsSeatOf board.now seat.old }
     requires lock { lock < locks_of board.now }
@@ -54,13 +57,14 @@ pub(crate) fn stop_if_cancelled(
     ensures seat { IsSeatOf board.now seat.new }
     ensures records { seat.new.records ≡ seat.old.records }
     ensures stopped { IfSome result (λ by. IsLook (size_of board.now) lock seat.old.seat.me (Interrupted by) seat.new.seat.me) }
-    ensures heeds { IfSome result (λ _. heeds ≡ true) }
+    ensures waits { IfSome result (λ _. waits ≡ UntilCancelled) }
     ensures goes_on { IfNone result (GoesOn (size_of board.now) seat.old.seat.me seat.new.seat.me) }
-    ensures uncancelled { IfNone result (heeds ≡ true → (view_of seat.new).uncancelled ≡ true) }
+    ensures uncancelled { IfNone result (waits ≡ UntilCancelled → (view_of seat.new).uncancelled ≡ true) }
     ensures condemned { HasCondemnedNone seat.old.seat.me seat.new.seat.me }
 {
-    if !heeds {
-        return None;
+    match waits {
+        Waits::ToTheEnd => return None,
+        Waits::UntilCancelled => {}
     }
     let mark = seat.heed(board, lock);
     if mark == 0 {

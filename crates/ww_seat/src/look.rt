@@ -1,15 +1,16 @@
 //! One look at a lock: from just inside its guard to just outside.
-ghost use Rattle.std.specs.Prelude.{ℕ, ◌≡◌, ◌≢◌, ◌<◌, ◌+◌, ◌⊎◌, true, false, Some, None, IfSome, IfNone, length};
+ghost use Rattle.std.specs.Prelude.{ℕ, ◌≡◌, ◌≢◌, ◌<◌, ◌+◌, ◌⊎◌, true, false, Some, None, length};
 ghost use Rattle.ww_model.specs.State.{any_below};
 ghost use Rattle.ww_view.specs.View.{owns};
 ghost use Rattle.ww_table.specs.Seat.{IsSeatOf, locks_of, size_of, view_of};
 ghost use Rattle.ww_seat.specs.Orderly.{IsOrderly};
-ghost use Rattle.ww_seat.specs.Looks.{IsLook, MayLookSo, MayWaitSo};
-ghost use Rattle.ww_seat.specs.Work.{AreWoken, AreMarked, HasToWake, has_joined, looks_again, IsWorking, IsAtWork};
+ghost use Rattle.ww_seat.specs.Looks.{IfEnded, IfLost, IsLook, MayLookSo, MayWaitSo};
+ghost use Rattle.ww_seat.specs.Work.{AreWoken, AreOnlyWoken, StillHasToWake, AreMarked, HasToWake, has_joined, looks_again, IsWorking, IsAtWork};
 
 use crate::interrupting::stop_if_cancelled;
 use crate::standing::{stand, stay_or_back_off};
 use crate::taking::take_inside;
+use crate::waits::Waits;
 use crate::wake::Wake;
 use std::sync::Wait;
 use ww_plain::Node;
@@ -74,6 +75,15 @@ pub enum Look {
     Waits,
 }
 
+/// What one attempt at a look came to.
+#[derive(Clone, Copy)]
+pub enum Attempt {
+    /// A compare-exchange found another owner word than was seen: the seat is still at work, and has to look again.
+    Lost,
+    /// The look is at its end.
+    Ended(Look),
+}
+
 /// Whether the lock is free, or handed to this seat, which doesn't own it.
 fn is_ours(seat: &Seat16, seen: Owner) -> bool
     ensures free { result ≡ true → (seen.seat ≡ None) ⊎ (seen.seat ≡ Some seat.now.who) }
@@ -85,18 +95,17 @@ fn is_ours(seat: &Seat16, seen: Owner) -> bool
     }
 }
 
-/// One attempt at a look; `None` if a compare-exchange found another word than was seen. If the call heeds its cancel,
-/// that is checked as soon as the seat is in the wait list: so the seat asks for nothing and condemns nobody for a wait
-/// that ends at once.
+/// One attempt at a look. If the call heeds its cancel, that is checked as soon as the seat is in the wait list: so the
+/// seat asks for nothing and condemns nobody for a wait that ends at once.
 pub fn look_once(
     seat: &mut Seat16,
     board: &Board,
     lock: u32,
     arrival: &mut Arrival,
-    heeds: bool,
+    waits: Waits,
     holds: bool,
     wake: &mut Wake,
-) -> Option<Look>
+) -> Attempt
     requires holds { any_below (length (view_of seat.old).owned) (owns (view_of seat.old)) ≡ holds }
     requires seat { IsSeatOf board.now seat.old }
     requires lock { lock < locks_of board.now }
@@ -105,25 +114,28 @@ pub fn look_once(
     requires woken { AreWoken (view_of seat.old) wake.old.seats }
     ensures seat { IsSeatOf board.now seat.new }
     ensures records { seat.new.records ≡ seat.old.records }
-    ensures look { IfSome result (λ look. IsLook (size_of board.now) lock seat.old.seat.me look seat.new.seat.me) }
-    ensures heeds { IfSome result (MayLookSo heeds) }
-    ensures uncancelled { IfSome result (MayWaitSo heeds (view_of seat.new)) }
-    ensures lost { IfNone result (IsAtWork (size_of board.now) lock seat.old.seat.me (has_joined arrival.new) (looks_again arrival.new) seat.new.seat.me) }
+    ensures look { IfEnded result (λ look. IsLook (size_of board.now) lock seat.old.seat.me look seat.new.seat.me) }
+    ensures waits { IfEnded result (MayLookSo waits) }
+    ensures uncancelled { IfEnded result (MayWaitSo waits (view_of seat.new)) }
+    ensures lost { IfLost result (IsAtWork (size_of board.now) lock seat.old.seat.me (has_joined arrival.new) (looks_again arrival.new) seat.new.seat.me) }
     ensures again { looks_again arrival.new ≡ looks_again arrival.old }
     ensures attempted { (view_of seat.new).attempts ≡ (view_of seat.old).attempts + 1 }
     ensures marked { AreMarked wake.old.seats (HasToWake (view_of seat.new)) wake.new.seats }
+    ensures still { StillHasToWake (view_of seat.old) (view_of seat.new) }
 {
     let seen = seat.look(board, lock);
     if is_ours(seat, seen) {
         return match take_inside(seat, board, lock, seen, wake) {
-            Some(node) => Some(Look::Locked(node)),
-            None => None,
+            Some(node) => Attempt::Ended(Look::Locked(node)),
+            None => Attempt::Lost,
         };
     }
-    let word = stand(seat, board, lock, seen, *arrival, holds)?;
+    let Some(word) = stand(seat, board, lock, seen, *arrival, holds) else {
+        return Attempt::Lost;
+    };
     *arrival = arrival.joining();
-    if let Some(by) = stop_if_cancelled(seat, board, lock, word, heeds) {
-        return Some(Look::Interrupted(by));
+    if let Some(by) = stop_if_cancelled(seat, board, lock, word, waits) {
+        return Attempt::Ended(Look::Interrupted(by));
     }
     stay_or_back_off(seat, board, lock, word, *arrival, wake)
 }
@@ -136,7 +148,7 @@ pub(crate) fn look_at<R: Wait>(
     board: &Board,
     lock: u32,
     arrival: Arrival,
-    heeds: bool,
+    waits: Waits,
     holds: bool,
     wake: &mut Wake,
 ) -> Look
@@ -146,18 +158,20 @@ pub(crate) fn look_at<R: Wait>(
     requires orderly { IsOrderly (size_of board.now) seat.old.seat.me }
     requires work { IsWorking lock (has_joined arrival) (looks_again arrival) (view_of seat.old) }
     requires woken { AreWoken (view_of seat.old) wake.old.seats }
+    requires only { AreOnlyWoken (view_of seat.old) wake.old.seats }
     ensures seat { IsSeatOf board.now seat.new }
     ensures records { seat.new.records ≡ seat.old.records }
     ensures look { IsLook (size_of board.now) lock seat.old.seat.me result seat.new.seat.me }
-    ensures heeds { MayLookSo heeds result }
-    ensures uncancelled { MayWaitSo heeds (view_of seat.new) result }
+    ensures waits { MayLookSo waits result }
+    ensures uncancelled { MayWaitSo waits (view_of seat.new) result }
     ensures woken { AreWoken (view_of seat.new) wake.new.seats }
+    ensures only { AreOnlyWoken (view_of seat.new) wake.new.seats }
 {
     let mut arrival = arrival;
     for _ in rt.forever() {
-        match look_once(seat, board, lock, &mut arrival, heeds, holds, wake) {
-            Some(look) => return look,
-            None => {}
+        match look_once(seat, board, lock, &mut arrival, waits, holds, wake) {
+            Attempt::Ended(look) => return look,
+            Attempt::Lost => {}
         }
     }
     unreachable!()

@@ -6,12 +6,13 @@ ghost use Rattle.ww_word.specs.Owner.{IsValid};
 ghost use Rattle.ww_view.specs.May.{MayDie};
 ghost use Rattle.ww_table.specs.Seat.{IsSeatOf, locks_of, size_of, view_of};
 ghost use Rattle.ww_seat.specs.declared.look.Look.TheVariants.{Deadlk};
+ghost use Rattle.ww_seat.specs.declared.waits.Waits.TheVariants.{ToTheEnd, UntilCancelled};
 ghost use Rattle.ww_seat.specs.Orderly.{IsOrderly};
-ghost use Rattle.ww_seat.specs.Looks.{IsLook, MayLookSo, MayWaitSo};
-ghost use Rattle.ww_seat.specs.Work.{AreWoken, AreMarked, HasToWake, HasCondemnedNone, IsTouched, has_joined, looks_again, IsWorking, IsAtWork, SeesOther, HasStood, HasAsked};
+ghost use Rattle.ww_seat.specs.Looks.{IfEnded, IfLost, IsLook, MayLookSo, MayWaitSo};
+ghost use Rattle.ww_seat.specs.Work.{AreWoken, StillHasToWake, AreMarked, HasToWake, HasCondemnedNone, IsTouched, has_joined, looks_again, IsWorking, IsAtWork, SeesOther, HasStood, HasAsked};
 
 use crate::leaving::leave;
-use crate::look::{Arrival, Look};
+use crate::look::{Arrival, Attempt, Look};
 use crate::signs::{death, sign_all};
 use crate::wake::Wake;
 use ww_table::{Board, Seat16};
@@ -109,7 +110,7 @@ fn back_off(seat: &mut Seat16, board: &Board, lock: u32, seen: Owner) -> bool
 }
 
 /// The rest of a look of a seat in the wait list: it asks for the lock if it looks again, signs the seats to which it
-/// owes signs, and then stays or backs off. `None` if the owner word is no longer the one seen.
+/// owes signs, and then stays or backs off.
 pub(crate) fn stay_or_back_off(
     seat: &mut Seat16,
     board: &Board,
@@ -117,7 +118,7 @@ pub(crate) fn stay_or_back_off(
     seen: Owner,
     arrival: Arrival,
     wake: &mut Wake,
-) -> Option<Look>
+) -> Attempt
     requires seat { IsSeatOf board.now seat.old }
     requires lock { lock < locks_of board.now }
     requires orderly { IsOrderly (size_of board.now) seat.old.seat.me }
@@ -127,25 +128,28 @@ pub(crate) fn stay_or_back_off(
     requires woken { AreWoken (view_of seat.old) wake.old.seats }
     ensures seat { IsSeatOf board.now seat.new }
     ensures records { seat.new.records ≡ seat.old.records }
-    ensures look { IfSome result (λ look. IsLook (size_of board.now) lock seat.old.seat.me look seat.new.seat.me) }
-    ensures heeds { IfSome result (MayLookSo false) }
-    ensures uncancelled { IfSome result (MayWaitSo (view_of seat.old).uncancelled (view_of seat.new)) }
-    ensures lost { IfNone result (IsAtWork (size_of board.now) lock seat.old.seat.me true (looks_again arrival) seat.new.seat.me) }
+    ensures look { IfEnded result (λ look. IsLook (size_of board.now) lock seat.old.seat.me look seat.new.seat.me) }
+    ensures waits { IfEnded result (MayLookSo ToTheEnd) }
+    ensures uncancelled { (view_of seat.old).uncancelled ≡ true → IfEnded result (MayWaitSo UntilCancelled (view_of seat.new)) }
+    ensures lost { IfLost result (IsAtWork (size_of board.now) lock seat.old.seat.me true (looks_again arrival) seat.new.seat.me) }
     ensures attempts { (view_of seat.new).attempts ≡ (view_of seat.old).attempts }
     ensures marked { AreMarked wake.old.seats (HasToWake (view_of seat.new)) wake.new.seats }
+    ensures still { StillHasToWake (view_of seat.old) (view_of seat.new) }
 {
-    let word = ask_if_first(seat, board, lock, seen, arrival)?;
+    let Some(word) = ask_if_first(seat, board, lock, seen, arrival) else {
+        return Attempt::Lost;
+    };
     sign_all(seat, board, lock, word, wake);
     match death(seat, board, lock, word) {
         None => {
             leave(seat, board, lock);
-            Some(Look::Waits)
+            Attempt::Ended(Look::Waits)
         }
         Some(met) => {
             if !back_off(seat, board, lock, word) {
-                return None;
+                return Attempt::Lost;
             }
-            Some(Look::Deadlk(met))
+            Attempt::Ended(Look::Deadlk(met))
         }
     }
 }

@@ -15,7 +15,7 @@ ghost use Rattle.ww_rule.specs.declared.cells.Cell.TheVariants.{Line};
 ghost use Rattle.ww_seat.specs.declared.look.Look.TheVariants.{Locked};
 ghost use Rattle.ww_seat.specs.Orderly.{IsOrderly};
 ghost use Rattle.ww_seat.specs.Looks.{IsLook};
-ghost use Rattle.ww_seat.specs.Work.{AreWoken, AreMarked, HasToWake, HasTakenInside, IsTouched, IsWorking};
+ghost use Rattle.ww_seat.specs.Work.{AreWoken, StillHasToWake, AreMarked, HasToWake, HasTakenInside, IsTouched, IsWorking};
 
 use crate::fast::blank;
 use crate::leaving::leave;
@@ -107,6 +107,7 @@ pub(crate) fn take_inside(
     ensures lost { IfNone result (IsTouched (size_of board.now) seat.old.seat.me seat.new.seat.me) }
     ensures attempts { (view_of seat.new).attempts ≡ (view_of seat.old).attempts }
     ensures marked { AreMarked wake.old.seats (HasToWake (view_of seat.new)) wake.new.seats }
+    ensures still { StillHasToWake (view_of seat.old) (view_of seat.new) }
 {
     if !take_seen(seat, board, lock, seen) {
         return None;

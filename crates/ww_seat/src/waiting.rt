@@ -6,14 +6,15 @@ ghost use Rattle.ww_table.specs.Seat.{IsSeatOf, locks_of, size_of, view_of};
 ghost use Rattle.ww_seat.specs.Orderly.{IsSettledAt};
 ghost use Rattle.ww_seat.specs.Calls.{HasTaken, IsTurnedAway, MayStop};
 ghost use Rattle.ww_seat.specs.Looks.{IsOutside, IsLook, MayLookSo, MayWaitSo};
-ghost use Rattle.ww_seat.specs.Work.{ComesOutside};
-ghost use Rattle.ww_seat.specs.Bells.{sleeps_at, AreBellsOf, ArePlacedAlike, HaveRung};
+ghost use Rattle.ww_seat.specs.Work.{ComesOutside, HasToWake};
+ghost use Rattle.ww_seat.specs.Bells.{sleeps_at, AreBellsOf, ArePlacedAlike, HaveRung, OnlyRing};
 
 use crate::bell::Bell;
 use crate::guard::spin_into_wanted;
 use crate::look::{Arrival, Look, look_at};
 use crate::patience::Patience;
 use crate::staying_away::stay_away;
+use crate::waits::Waits;
 use crate::wake::Wake;
 use std::sync::Wait;
 use ww_plain::Node;
@@ -37,7 +38,7 @@ pub fn wait_for<R: Wait>(
     seat: &mut Seat16,
     board: &Board,
     lock: u32,
-    heeds: bool,
+    waits: Waits,
     holds: bool,
     patience: &mut Patience,
     bells: &mut [Bell],
@@ -53,13 +54,13 @@ pub fn wait_for<R: Wait>(
     ensures settled { IsSettledAt board.now seat.new }
     ensures ok { IfOk result (λ x. HasTaken seat.old.seat.me lock x seat.new.seat.me) }
     ensures err { IfErr result (λ why. IsTurnedAway seat.old.seat.me lock why seat.new.seat.me) }
-    ensures heeds { IfErr result (MayStop heeds) }
+    ensures waits { IfErr result (MayStop waits) }
     ensures records { seat.new.records ≡ seat.old.records }
     ensures parker { sleeps_at patience.new ≡ sleeps_at patience.old }
     ensures placed { ArePlacedAlike bells.old bells.new }
 {
     stay_away(seat, board, lock, holds, patience);
-    wait(rt, seat, board, lock, heeds, holds, patience, bells)
+    wait(rt, seat, board, lock, waits, holds, patience, bells)
 }
 
 /// Waits for a lock: it looks, and sleeps, until a look ends its waiting. It reads no word outside the guard, and its
@@ -69,7 +70,7 @@ fn wait<R: Wait>(
     seat: &mut Seat16,
     board: &Board,
     lock: u32,
-    heeds: bool,
+    waits: Waits,
     holds: bool,
     patience: &mut Patience,
     bells: &mut [Bell],
@@ -83,7 +84,7 @@ fn wait<R: Wait>(
     ensures settled { IsSettledAt board.now seat.new }
     ensures ok { IfOk result (λ x. HasTaken seat.old.seat.me lock x seat.new.seat.me) }
     ensures err { IfErr result (λ why. IsTurnedAway seat.old.seat.me lock why seat.new.seat.me) }
-    ensures heeds { IfErr result (MayStop heeds) }
+    ensures waits { IfErr result (MayStop waits) }
     ensures records { seat.new.records ≡ seat.old.records }
     ensures parker { sleeps_at patience.new ≡ sleeps_at patience.old }
     ensures placed { ArePlacedAlike bells.old bells.new }
@@ -91,7 +92,7 @@ fn wait<R: Wait>(
     let mut arrival = Arrival::Came;
     for _ in rt.forever() {
         patience.look();
-        match visit(rt, seat, board, lock, arrival, heeds, holds, bells) {
+        match visit(rt, seat, board, lock, arrival, waits, holds, bells) {
             Look::Locked(node) => return Ok(node),
             Look::Deadlk(met) => {
                 patience.back_off();
@@ -114,7 +115,7 @@ pub fn visit<R: Wait>(
     board: &Board,
     lock: u32,
     arrival: Arrival,
-    heeds: bool,
+    waits: Waits,
     holds: bool,
     bells: &mut [Bell],
 ) -> Look
@@ -126,15 +127,16 @@ pub fn visit<R: Wait>(
     requires bells { AreBellsOf board.now bells.old }
     ensures seat { IsSeatOf board.now seat.new }
     ensures look { IsLook (size_of board.now) lock seat.old.seat.me result seat.new.seat.me }
-    ensures heeds { MayLookSo heeds result }
-    ensures uncancelled { MayWaitSo heeds (view_of seat.new) result }
+    ensures waits { MayLookSo waits result }
+    ensures uncancelled { MayWaitSo waits (view_of seat.new) result }
     ensures records { seat.new.records ≡ seat.old.records }
     ensures rung { HaveRung (view_of seat.new) bells.old bells.new }
+    ensures others { OnlyRing (HasToWake (view_of seat.new)) bells.old bells.new }
     ensures placed { ArePlacedAlike bells.old bells.new }
 {
     spin_into_wanted(rt, seat, board, lock);
     let mut wake = Wake::new();
-    let look = look_at(rt, seat, board, lock, arrival, heeds, holds, &mut wake);
+    let look = look_at(rt, seat, board, lock, arrival, waits, holds, &mut wake);
     wake.deliver(bells);
     look
 }

@@ -1,5 +1,7 @@
-ghost use Rattle.std.specs.Prelude.{ℕ, ◌≡◌, ◌≢◌, ◌<◌, true, false, length, replicate, IfSome};
-ghost use Rattle.ww_seat.specs.Bells.{rung_at, ArePlacedAlike, AreRung, IsRung};
+ghost use Rattle.std.specs.Prelude.{◌≡◌, ◌≢◌, ◌<◌, true, false, replicate, Some, IfSome};
+ghost use Rattle.std.specs.Option.{option_map};
+ghost use Rattle.ww_queue.specs.declared.entry.Entry.{Entry};
+ghost use Rattle.ww_seat.specs.Bells.{ArePlacedAlike, AreRung, IsRung, OnlyRing};
 ghost use Rattle.ww_seat.specs.Work.{AreMarked};
 
 use crate::bell::Bell;
@@ -58,6 +60,7 @@ impl Wake {
 #[cold]
 pub(crate) fn wake_first(first: Option<Entry>, bells: &mut [Bell])
     ensures rung { IfSome first (λ e. IsRung e.seat bells.old bells.new) }
+    ensures others { OnlyRing (λ u. option_map (λ (e : Entry). e.seat) first ≡ Some u) bells.old bells.new }
     ensures placed { ArePlacedAlike bells.old bells.new }
 {
     if let Some(first) = first {
@@ -69,7 +72,7 @@ pub(crate) fn wake_first(first: Option<Entry>, bells: &mut [Bell])
 #[cold]
 pub(crate) fn wake_seat(seat: u8, bells: &mut [Bell])
     ensures rung { IsRung seat bells.old bells.new }
-    ensures others { (u : ℕ) → u ≢ seat → rung_at bells.new u ≡ rung_at bells.old u }
+    ensures others { OnlyRing (λ u. u ≡ seat) bells.old bells.new }
     ensures placed { ArePlacedAlike bells.old bells.new }
 {
     let u = usize::from(seat);

@@ -15,7 +15,7 @@ use std::test::Fail;
 use std::thread;
 use std::thread::Threads;
 use ww_lock::{
-    Acquiring, Backoff, Done, History, Interruptible, Lock, Pass, Receipt, Solo, Try, World,
+    Acquiring, Backoff, Done, History, Interruptible, Lock, Pass, Receipt, Solo, Try, Waits, World,
 };
 use ww_plain::{By, Graph, PORTS, Record, Txn, first_double, replays};
 use ww_queue::Kind;
@@ -44,11 +44,11 @@ struct Memory {
     faults: u32,
 }
 
-/// How a round asks for its locks: whether it tries for each first, and whether its calls may be called off.
+/// How a round asks for its locks: whether it tries for each first, and how its calls wait.
 #[derive(Clone, Copy)]
 struct Asks {
     tries: bool,
-    heeds: bool,
+    waits: Waits,
 }
 
 /// What a round does: the locks that it takes, each with what is added to its node; that addition; what is done
@@ -96,7 +96,7 @@ impl Memory {
         Ok(amounts)
     }
 
-    /// What to do next. A third of the rounds may be called off, where any is.
+    /// What to do next.
     fn plan(&mut self, alloc: Global, cancels: bool) -> Result<Plan, AllocError> {
         let mut amounts = self.draw(alloc)?;
         let is_alone = self.below(8) == 0;
@@ -110,10 +110,19 @@ impl Memory {
             is_alone,
             asks: Asks {
                 tries: self.below(4) == 0,
-                heeds: cancels && self.below(3) == 0,
+                waits: self.waits(cancels),
             },
             victim: cancels.then(|| self.below(MAX_THREADS as u8)),
         })
+    }
+
+    /// How its calls wait: a third of the rounds may be called off, where any is.
+    fn waits(&mut self, cancels: bool) -> Waits {
+        if cancels && self.below(3) == 0 {
+            Waits::UntilCancelled
+        } else {
+            Waits::ToTheEnd
+        }
     }
 
     /// A transaction that names nodes of this list alone, as far as that can be seen without the graph; nothing in half
@@ -158,23 +167,23 @@ fn wait<R: Wait>(
     world: &World,
     acquiring: Acquiring,
     n: u8,
-    heeds: bool,
+    waits: Waits,
 ) -> Result<(Acquiring, Option<u8>), Backoff>
     requires home { IsAtHome acquiring world.now }
     requires node { n < length world.now.first }
     ensures home { IfOk result (λ a. IsAtHome a.0 world.now) }
     ensures holding { IfErr result (λ b. IsAtHome b.holding world.now) }
 {
-    if !heeds {
-        return match acquiring.lock(rt, world, n) {
+    match waits {
+        Waits::ToTheEnd => match acquiring.lock(rt, world, n) {
             Lock::Locked(next) | Lock::Already(next) => Ok((next, None)),
             Lock::Deadlk(backoff) => Err(backoff),
-        };
-    }
-    match acquiring.lock_interruptible(rt, world, n) {
-        Interruptible::Locked(next) | Interruptible::Already(next) => Ok((next, None)),
-        Interruptible::Interrupted(next, by) => Ok((next, Some(by))),
-        Interruptible::Deadlk(backoff) => Err(backoff),
+        },
+        Waits::UntilCancelled => match acquiring.lock_interruptible(rt, world, n) {
+            Interruptible::Locked(next) | Interruptible::Already(next) => Ok((next, None)),
+            Interruptible::Interrupted(next, by) => Ok((next, Some(by))),
+            Interruptible::Deadlk(backoff) => Err(backoff),
+        },
     }
 }
 
@@ -198,7 +207,7 @@ fn take<R: Wait>(
             Try::Busy(next) => next,
         };
     }
-    wait(rt, world, acquiring, n, asks.heeds)
+    wait(rt, world, acquiring, n, asks.waits)
 }
 
 /// Takes the locks of these nodes in turn, up to a call that is called off.
@@ -229,19 +238,19 @@ fn back_off<R: Wait>(
     rt: &R,
     world: &World,
     backoff: Backoff,
-    heeds: bool,
+    waits: Waits,
 ) -> Result<Acquiring, (Pass, u8)>
     requires home { IsAtHome backoff.holding world.now }
     ensures home { IfOk result (λ a. IsAtHome a world.now) }
     ensures pass { IfErr result (λ e. IsAtHome e.0 world.now) }
 {
     let contended = backoff.unlock_all(rt, world);
-    if !heeds {
-        return Ok(contended.lock_slow(rt, world));
-    }
-    match contended.lock_slow_interruptible(rt, world) {
-        Ok(acquiring) => Ok(acquiring),
-        Err((contended, by)) => Err((contended.fini(world), by)),
+    match waits {
+        Waits::ToTheEnd => Ok(contended.lock_slow(rt, world)),
+        Waits::UntilCancelled => match contended.lock_slow_interruptible(rt, world) {
+            Ok(acquiring) => Ok(acquiring),
+            Err((contended, by)) => Err((contended.fini(world), by)),
+        },
     }
 }
 
@@ -267,7 +276,7 @@ fn take_all<R: Wait>(
                     Some(by) => Err((acquiring.unlock_all(rt, world).fini(world), by)),
                 };
             }
-            Err(backoff) => back_off(rt, world, backoff, asks.heeds)?,
+            Err(backoff) => back_off(rt, world, backoff, asks.waits)?,
         };
     }
     unreachable!()

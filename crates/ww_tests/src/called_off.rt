@@ -12,7 +12,7 @@ use std::alloc::{AllocError, Global};
 use std::process::Abort;
 use std::sync::Wait;
 use std::test::Fail;
-use ww_lock::{Acquiring, Backoff, Contended, Interruptible, Pass, World};
+use ww_lock::{Acquiring, Backoff, Contended, Interruptible, Pass, Waits, World};
 use ww_plain::{By, Reply, Txn};
 use ww_queue::Kind;
 use ww_test_parts::{KINDS, add, chain, ended, three_passes};
@@ -305,7 +305,7 @@ fn faulted<R: Wait + Abort>(rt: &R, world: &World, pass: Pass, txn: Txn, fault: 
     requires home { IsAtHome pass world.now }
     ensures home { IsAtHome result world.now }
 {
-    let (pass, told) = counted(rt, world, pass, txn, true);
+    let (pass, told) = counted(rt, world, pass, txn, Waits::UntilCancelled);
     assert!(rt; told.err() == Some(fault));
     pass
 }
@@ -326,7 +326,7 @@ fn transacted<R: Wait + Abort>(rt: &R, alloc: Global, kind: Kind) -> Result<(), 
     let zero = ended(rt, &world, zero);
     assert!(rt; one.left() == 1 && one.commits() == 0);
     let txn = add(alloc, By::List, &[(0, 1), (1, 1)])?;
-    let (one, told) = counted(rt, &world, one, txn, true);
+    let (one, told) = counted(rt, &world, one, txn, Waits::UntilCancelled);
     let told = told.ok().ok_or("it is made")?;
     assert!(rt; told.place == 0 && told.seq == 0 && told.reply == Reply::Done);
     let two = cancelled(rt, &world, two, 1, true);

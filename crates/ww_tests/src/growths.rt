@@ -12,7 +12,7 @@ use std::alloc::{AllocError, Global};
 use std::process::Abort;
 use std::sync::Wait;
 use std::test::Fail;
-use ww_lock::{CloseFault, Done, History, OpenFault, Pass, Prepared, Receipt, Solo, World};
+use ww_lock::{CloseFault, Done, History, OpenFault, Pass, Prepared, Receipt, Solo, Waits, World};
 use ww_plain::{By, Graph, Reply, Txn, replays};
 use ww_queue::Kind;
 use ww_scope::run_crew;
@@ -209,21 +209,21 @@ fn made<R: Wait + Abort>(
     world: &World,
     pass: Pass,
     txns: [Txn; 2],
-    heeds: bool,
+    waits: Waits,
 ) -> (Pass, Receipt)
     requires home { IsAtHome pass world.now }
     ensures home { IsAtHome result.0 world.now }
 {
     let [txn, again] = txns;
     let before = (pass.left(), pass.commits());
-    let (pass, told) = counted(rt, world, pass, txn, heeds);
+    let (pass, told) = counted(rt, world, pass, txn, waits);
     let fault = match told {
         Ok(receipt) => return (pass, receipt),
         Err(fault) => fault,
     };
     assert!(rt; fault == TxnFault::NoMemory && fault.number() == 6);
     assert!(rt; (pass.left().saturating_add(1), pass.commits()) == before);
-    match counted(rt, world, pass, again, heeds) {
+    match counted(rt, world, pass, again, waits) {
         (pass, Ok(receipt)) => (pass, receipt),
         (_, Err(fault)) => panic!(rt; "{fault:?}"),
     }
@@ -236,21 +236,22 @@ fn made_once<R: Wait + Abort>(
     alloc: Global,
     graph: Graph,
     txns: [Txn; 2],
-    heeds: bool,
+    waits: Waits,
     reply: &Reply,
 ) -> Result<Graph, Fail> {
     let (world, mut passes) = opened(rt, alloc, Kind::WoundWait, graph, 1, 2);
     let Some(pass) = passes.pop() else {
         return Err(Fail::from("there is a pass"));
     };
-    let pass = if heeds {
+    let is_pending = waits == Waits::UntilCancelled;
+    let pass = if is_pending {
         let pass = cancelled(rt, &world, pass, 0, false);
         cancelled(rt, &world, pass, 0, true)
     } else {
         pass
     };
-    let (pass, told) = made(rt, &world, pass, txns, heeds);
-    let pass = cancelled(rt, &world, pass, 0, heeds);
+    let (pass, told) = made(rt, &world, pass, txns, waits);
+    let pass = cancelled(rt, &world, pass, 0, is_pending);
     assert!(rt; told.place == 0 && told.seq == 0 && told.reply == *reply);
     assert!(rt; pass.commits() == 1);
     passes.push(pass)?;
@@ -266,43 +267,43 @@ fn made_once<R: Wait + Abort>(
 }
 
 /// Asks for the values of both nodes.
-fn asks_once<R: Wait + Abort>(rt: &R, alloc: Global, heeds: bool) -> Result<(), Fail> {
+fn asks_once<R: Wait + Abort>(rt: &R, alloc: Global, waits: Waits) -> Result<(), Fail> {
     let graph = nodes_of(alloc, &[(7, None), (9, None)])?;
     let copy = copied(alloc, &graph)?;
     let txns = [asks(alloc, &[1, 0])?, asks(alloc, &[1, 0])?];
     let reply = tells(alloc, &[9, 7])?;
-    let last = made_once(rt, alloc, graph, txns, heeds, &reply)?;
+    let last = made_once(rt, alloc, graph, txns, waits, &reply)?;
     assert!(rt; last.is_same(&copy));
     Ok(())
 }
 
 #[test]
 fn a_get_is_made(rt: HostRuntime) -> Result<(), Fail> {
-    asks_once(&rt, rt.alloc(), false)
+    asks_once(&rt, rt.alloc(), Waits::ToTheEnd)
 }
 
 #[test]
 fn an_interruptible_get_is_made(rt: HostRuntime) -> Result<(), Fail> {
-    asks_once(&rt, rt.alloc(), true)
+    asks_once(&rt, rt.alloc(), Waits::UntilCancelled)
 }
 
 /// Adds 1 to the only node.
-fn adds_once<R: Wait + Abort>(rt: &R, alloc: Global, heeds: bool) -> Result<(), Fail> {
+fn adds_once<R: Wait + Abort>(rt: &R, alloc: Global, waits: Waits) -> Result<(), Fail> {
     let graph = nodes_of(alloc, &[(0, None)])?;
     let txns = [adds(alloc, &[(0, 1)])?, adds(alloc, &[(0, 1)])?];
-    let last = made_once(rt, alloc, graph, txns, heeds, &Reply::Done)?;
+    let last = made_once(rt, alloc, graph, txns, waits, &Reply::Done)?;
     assert!(rt; last.is_same(&nodes_of(alloc, &[(1, None)])?));
     Ok(())
 }
 
 #[test]
 fn an_add_is_made(rt: HostRuntime) -> Result<(), Fail> {
-    adds_once(&rt, rt.alloc(), false)
+    adds_once(&rt, rt.alloc(), Waits::ToTheEnd)
 }
 
 #[test]
 fn an_interruptible_add_is_made(rt: HostRuntime) -> Result<(), Fail> {
-    adds_once(&rt, rt.alloc(), true)
+    adds_once(&rt, rt.alloc(), Waits::UntilCancelled)
 }
 
 #[test]
@@ -316,7 +317,7 @@ fn a_peek_is_made(rt: HostRuntime) -> Result<(), Fail> {
         alloc,
         graph,
         [Txn::Peek(1), Txn::Peek(1)],
-        false,
+        Waits::ToTheEnd,
         &reply,
     )?;
     assert!(rt; last.is_same(&copy));
@@ -343,7 +344,7 @@ fn take_turns<R: Wait + Abort>(
             world,
             zero,
             [adds(alloc, &up)?, adds(alloc, &up)?],
-            false,
+            Waits::ToTheEnd,
         )
         .0;
         one = made(
@@ -351,7 +352,7 @@ fn take_turns<R: Wait + Abort>(
             world,
             one,
             [adds(alloc, &down)?, adds(alloc, &down)?],
-            false,
+            Waits::ToTheEnd,
         )
         .0;
     }

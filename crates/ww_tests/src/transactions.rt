@@ -10,7 +10,7 @@ use std::cell::{Cell, RefCell};
 use std::process::Abort;
 use std::sync::Wait;
 use std::test::Fail;
-use ww_lock::{Pass, Receipt, Try, World};
+use ww_lock::{Pass, Receipt, Try, Waits, World};
 use ww_plain::{By, Reply, Txn};
 use ww_queue::Kind;
 use ww_test_parts::{KINDS, add, chain, graph_of, one_pass, tries};
@@ -73,7 +73,7 @@ pub(crate) fn counted<R: Wait + Abort>(
     world: &World,
     pass: Pass,
     txn: Txn,
-    heeds: bool,
+    waits: Waits,
 ) -> (Pass, Result<Receipt, TxnFault>)
     requires home { IsAtHome pass world.now }
     ensures home { IsAtHome result.0 world.now }
@@ -82,10 +82,9 @@ pub(crate) fn counted<R: Wait + Abort>(
         asked: Cell::new(0),
         answered: Cell::new(0),
     };
-    let (pass, told) = if heeds {
-        asked_interruptible(rt, world, pass, &counts, txn)
-    } else {
-        asked(rt, world, pass, &counts, txn)
+    let (pass, told) = match waits {
+        Waits::ToTheEnd => asked(rt, world, pass, &counts, txn),
+        Waits::UntilCancelled => asked_interruptible(rt, world, pass, &counts, txn),
     };
     let times = u64::from(told.is_ok());
     assert!(rt; counts.asked.get() == times && counts.answered.get() == times);

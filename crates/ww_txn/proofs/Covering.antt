@@ -8,7 +8,7 @@ use Rattle.ww_plain.specs.Numbers.{is_among, distinct_of, AreDifferent}
 use Rattle.ww_plain.proofs.Members.{is_among-head, is_among-tail, different_cons, different_none}
 use Rattle.ww_plain.proofs.Frames.{is_among-distinct_of}
 use Rattle.ww_plain.proofs.Doubles.{no_double_is_none}
-use Rattle.ww_lock.specs.declared.waits.Waits.{Waits}
+use Rattle.ww_lock.specs.Waits.{Waits}
 use Rattle.ww_lock.specs.Holding.{Holding, Holds}
 use Rattle.ww_users.specs.declared.fault.UserFault.{UserFault}
 use Rattle.ww_users.specs.declared.fault.UserFault.TheVariants.{PassSpent, Already, Interrupted}

@@ -3,8 +3,8 @@ use Rattle.std.specs.Prelude.{ℕ, ◌≡◌, ◌≤◌, ◌+◌, ◌-◌, ◌�
 use Rattle.ww_plain.specs.Transaction.{Transaction, peek, listed, FirstDouble}
 use Rattle.ww_plain.specs.Meaning.{answer_of}
 use Rattle.ww_lock.specs.declared.prepared.Receipt.{Receipt}
-use Rattle.ww_lock.specs.declared.waits.Waits.{Waits}
-use Rattle.ww_lock.specs.declared.waits.Waits.TheVariants.{UntilCancelled}
+use Rattle.ww_lock.specs.Waits.{Waits}
+use Rattle.ww_lock.specs.Waits.TheVariants.{UntilCancelled}
 use Rattle.ww_lock.specs.Holding.{Holding, AreBelow}
 use Rattle.ww_lock.specs.Making.{Covers}
 use Rattle.ww_users.specs.declared.fault.UserFault.{UserFault}

@@ -1,7 +1,7 @@
 ghost use Rattle.std.specs.Prelude.{◌≡◌, ◌<◌, length, IfOk, IfErr, OnOk, OnErr};
 ghost use Rattle.ww_plain.specs.Transaction.{transaction_of, peek, Fits};
 ghost use Rattle.ww_lock.specs.Holding.{IsAtHome};
-ghost use Rattle.ww_lock.specs.declared.waits.Waits.TheVariants.{ToTheEnd, UntilCancelled};
+ghost use Rattle.ww_lock.specs.Waits.TheVariants.{ToTheEnd, UntilCancelled};
 ghost use Rattle.ww_txn.specs.declared.telling.Stage.TheVariants.{Untold, Answered};
 ghost use Rattle.ww_txn.specs.Transact.{IsTransacted, IsTxnFault, contexts_of};
 

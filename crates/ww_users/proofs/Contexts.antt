@@ -2,8 +2,8 @@
 use Rattle.std.proofs.Common.{◌≡◌, ℕ, ◌+◌, ◌-◌, [], length, refl, sym, ap, subst, ◌∙◌, arith, length-set, Result, Ok, Err, IfErr}
 use Rattle.ww_lock.specs.Holding.{Holding, Wanting}
 use Rattle.ww_lock.specs.Moves.{with_node, taken, backed_off, interrupted_by, emptied, going_on_or_halted, IsTaken, IsInterrupted, IsAnswer}
-use Rattle.ww_lock.specs.declared.waits.Waits.{Waits}
-use Rattle.ww_lock.specs.declared.waits.Waits.TheVariants.{UntilCancelled}
+use Rattle.ww_lock.specs.Waits.{Waits}
+use Rattle.ww_lock.specs.Waits.TheVariants.{UntilCancelled}
 use Rattle.ww_lock.specs.declared.interruptible.Interruptible.{Interruptible}
 use Rattle.ww_lock.specs.declared.interruptible.Interruptible.TheVariants as answer
 use Rattle.ww_lock.specs.declared.interruptible.Halt.{Halt}

@@ -3,8 +3,8 @@ use Rattle.std.proofs.Common.{◌≡◌, ℕ, ◌∷◌, [], List, refl, sym, ap
 use Rattle.std.proofs.lemmas.Option.{get_or_from_slice_get}
 use Rattle.ww_lock.specs.Holding.{Holding, Refused, Wanting, Setting, IsAtHome}
 use Rattle.ww_lock.specs.Moves.{IsBegun, interrupted_by}
-use Rattle.ww_lock.specs.declared.waits.Waits.{Waits}
-use Rattle.ww_lock.specs.declared.waits.Waits.TheVariants.{UntilCancelled}
+use Rattle.ww_lock.specs.Waits.{Waits}
+use Rattle.ww_lock.specs.Waits.TheVariants.{UntilCancelled}
 use Rattle.ww_plain.specs.Transaction.{FirstDouble}
 use Rattle.ww_users.specs.declared.fault.UserFault.{UserFault}
 use Rattle.ww_users.specs.declared.fault.UserFault.TheVariants as fault

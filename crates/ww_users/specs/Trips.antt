@@ -6,8 +6,8 @@ use Rattle.ww_plain.specs.Graph.{Agree}
 use Rattle.ww_plain.specs.Footprint.{walked}
 use Rattle.ww_plain.specs.Transaction.{FirstDouble}
 use Rattle.ww_plain.specs.Walk.{walk_of}
-use Rattle.ww_lock.specs.declared.waits.Waits.{Waits}
-use Rattle.ww_lock.specs.declared.waits.Waits.TheVariants.{UntilCancelled}
+use Rattle.ww_lock.specs.Waits.{Waits}
+use Rattle.ww_lock.specs.Waits.TheVariants.{UntilCancelled}
 use Rattle.ww_lock.specs.Holding.{Holding, Refused, Holds}
 use Rattle.ww_lock.specs.Moves.{interrupted_by}
 use Rattle.ww_lock.specs.declared.interruptible.Halt.{Halt}

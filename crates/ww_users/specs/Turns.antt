@@ -2,8 +2,8 @@
 use Rattle.std.specs.Prelude.{ℕ, ◌≡◌, ◌∷◌, ◌⊎◌, [], List, length, Result, Ok, Err, IfOk, IfErr}
 use Rattle.ww_lock.specs.Holding.{Holding, Refused, Wanting, Setting, IsAtHome}
 use Rattle.ww_lock.specs.Moves.{IsBegun}
-use Rattle.ww_lock.specs.declared.waits.Waits.{Waits}
-use Rattle.ww_lock.specs.declared.waits.Waits.TheVariants.{UntilCancelled}
+use Rattle.ww_lock.specs.Waits.{Waits}
+use Rattle.ww_lock.specs.Waits.TheVariants.{UntilCancelled}
 use Rattle.ww_lock.specs.declared.interruptible.Halt.{Halt}
 use Rattle.ww_lock.specs.declared.interruptible.Halt.TheVariants as halt
 use Rattle.ww_users.specs.declared.fault.UserFault.{UserFault}

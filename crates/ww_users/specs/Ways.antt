@@ -5,8 +5,8 @@ use Rattle.ww_plain.specs.Numbers.{is_among}
 use Rattle.ww_plain.specs.Transaction.{FirstDouble}
 use Rattle.ww_lock.specs.Holding.{Holding}
 use Rattle.ww_lock.specs.Moves.{interrupted_by}
-use Rattle.ww_lock.specs.declared.waits.Waits.{Waits}
-use Rattle.ww_lock.specs.declared.waits.Waits.TheVariants.{UntilCancelled}
+use Rattle.ww_lock.specs.Waits.{Waits}
+use Rattle.ww_lock.specs.Waits.TheVariants.{UntilCancelled}
 use Rattle.ww_users.specs.declared.fault.UserFault.{UserFault}
 use Rattle.ww_users.specs.declared.fault.UserFault.TheVariants.{PassSpent, Already, Interrupted}
 

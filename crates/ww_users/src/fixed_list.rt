@@ -2,7 +2,7 @@ ghost use Rattle.std.specs.Prelude.{◌≡◌, ◌≤◌, ◌<◌, None, length,
 ghost use Rattle.std.specs.List.{AllByRecursion};
 ghost use Rattle.ww_plain.specs.Transaction.{FirstDouble};
 ghost use Rattle.ww_lock.specs.Holding.{IsAtHome};
-ghost use Rattle.ww_lock.specs.declared.waits.Waits.TheVariants.{ToTheEnd, UntilCancelled};
+ghost use Rattle.ww_lock.specs.Waits.TheVariants.{ToTheEnd, UntilCancelled};
 ghost use Rattle.ww_users.specs.Ways.{IsContext, HoldsExactly, TookInOrder, IsUserFault};
 ghost use Rattle.ww_users.specs.Trips.{HoldsKept, IsListTurn};
 

@@ -4,7 +4,7 @@ ghost use Rattle.ww_plain.specs.Numbers.{is_among};
 ghost use Rattle.ww_plain.specs.Transaction.{IsCourse, sum, reverse};
 ghost use Rattle.ww_plain.specs.Walk.{IsEnd, GoesOnTo};
 ghost use Rattle.ww_lock.specs.Holding.{IsAtHome};
-ghost use Rattle.ww_lock.specs.declared.waits.Waits.TheVariants.{UntilCancelled};
+ghost use Rattle.ww_lock.specs.Waits.TheVariants.{UntilCancelled};
 ghost use Rattle.ww_lock.specs.Making.{Covers};
 ghost use Rattle.ww_users.specs.Ways.{IsContext, IsWalkFault};
 ghost use Rattle.ww_users.specs.Trips.{IsSameContext, HoldsWalk, IsHalt, IsWalkTurn};

@@ -13,20 +13,7 @@ invariant_of-push_reserved c =
     let next = next_is b.table.shared.table_id b.table.shared.key c.args.seats.items c.loop-seat.yielded
     c.loop-seat.seat-iterator.rest.items c.next.new.self.rest.items c.in-Some.seat c.requires.seats.new i.2
     (search rules) in
-    let h : Station = record {
-      board = c.in_ok-board.board;
-      seat = c.in-Some.seat;
-      seats = c.args.count;
-      left = c.args.left;
-      held = c.in_ok-held.held;
-      is_done = false;
-      told = None;
-      turn = Rests;
-      memory = c.new.result;
-      wake = c.new-in-loop-seat.result;
-    } in
-    let f : IsFirst b (length c.loop-seat.yielded) h =
-    record {
+    let f : IsFirst b (length c.loop-seat.yielded) _ = record {
       board = search rules;
       new = next.0;
       few = c.requires.few;
@@ -39,7 +26,7 @@ invariant_of-push_reserved c =
       turn = refl;
       wakes = c.new-in-loop-seat.ensures;
     } in
-    first_keeps b (length c.loop-seat.yielded) h f
+    first_keeps b (length c.loop-seat.yielded) _ f
 
 pub loop-seat-preserved : goal.loop-seat-preserved
 loop-seat-preserved c =
@@ -62,8 +49,7 @@ loop-seat-preserved c =
       memory = c.new.result;
       wake = c.new-in-loop-seat.result;
     } in
-    let f : IsFirst b (length c.loop-seat.yielded) h =
-    record {
+    let f : IsFirst b (length c.loop-seat.yielded) h = record {
       board = search rules;
       new = next.0;
       few = c.requires.few;

@@ -1,13 +1,10 @@
-use Rattle.std.proofs.Common.{length, ap, refl, sym, ◌∙◌, true≢false}
+use Rattle.std.proofs.Common.{length, ap, refl, ◌∙◌}
 use Rattle.ww_rule.specs.Rule.{Sat, first_graph}
 use Rattle.ww_rule.specs.Guards.{exiting}
 use Rattle.ww_rule.specs.Cancels.{finding_uncancelled, heeding, stopping}
 use Rattle.ww_seat.proofs.Working.{none_condemned}
-use Rattle.ww_seat.proofs.Stopped.{goes_on_same, goes_on_none, list_there, has_left, stopped_goes}
+use Rattle.ww_seat.proofs.Stopped.{goes_on_none, list_there, has_left, stopped_goes}
 use Rattle.ww_seat.proofs.interrupting.stop_if_cancelled.Goals as goal
-
-pub returns-then-not-heeds-clause-goes_on : goal.returns-then-not-heeds-clause-goes_on
-returns-then-not-heeds-clause-goes_on c = goes_on_same _ c.args.seat.now.seat.me c.requires.orderly
 
 pub returns-then-mark-eq0-clause-goes_on : goal.returns-then-mark-eq0-clause-goes_on
 returns-then-mark-eq0-clause-goes_on c =
@@ -50,9 +47,6 @@ returns-clause-condemned c = let size = length (first_graph c.args.board.now.tab
     (c.leave.ensures.left c.if-not-leave.false) in
     none_condemned m c.leave-2.new.seat.seat.me (exiting (stopping (heeding m.0 c.heed-mark.result) c.args.seen))
     (c.leave-2.ensures.view ∙ ap exiting left.view) refl refl refl
-
-pub returns-then-not-heeds-clause-uncancelled : goal.returns-then-not-heeds-clause-uncancelled
-returns-then-not-heeds-clause-uncancelled c = λ is. absurd (true≢false (sym is ∙ c.if-not-heeds.true))
 
 pub returns-then-mark-eq0-clause-uncancelled : goal.returns-then-mark-eq0-clause-uncancelled
 returns-then-mark-eq0-clause-uncancelled c = λ _. ap (λ (z : Sat). z.0.part.core.uncancelled) (c.heed-mark.ensures.none c.if-mark-eq0.true)

@@ -4,7 +4,7 @@ use Rattle.ww_seat.specs.Accounts.{Account}
 use Rattle.ww_table.specs.Seat.{size_of}
 use Rattle.ww_seat.specs.Work.{has_joined, looks_again, IsAtWork}
 use Rattle.ww_seat.proofs.Holds.{look_then}
-use Rattle.ww_seat.proofs.Working.{work_same, work_then, woken_marked}
+use Rattle.ww_seat.proofs.Working.{work_same, work_then, woken_marked, only_marked}
 use Rattle.ww_seat.proofs.look.look_at.Goals as goal
 
 pub loop-init : goal.loop-init
@@ -14,6 +14,7 @@ loop-init g c = (
       c.args.seat.now.seat.me c.requires.orderly c.requires.work,
   refl,
   c.requires.woken,
+  c.requires.only,
 )
 
 pub loop-preserved : goal.loop-preserved
@@ -23,18 +24,24 @@ loop-preserved g c = (
       (looks_again c.look_once.new.arrival) c.loop.seat.seat.me c.look_once.new.seat.seat.me
       (subst (λ (b : Bool). IsAtWork (size_of c.args.board.now) c.args.lock c.args.seat.now.seat.me
       (has_joined c.loop.arrival) b c.loop.seat.seat.me) (sym c.look_once.ensures.again) c.loop.invariant.1)
-      c.in-None-look_once.ensures.lost,
+      c.in-Lost.ensures.lost,
   c.look_once.ensures.records ∙ c.loop.invariant.2,
   woken_marked c.look_once.new.seat.seat.me _ _ c.look_once.ensures.marked,
+  only_marked c.loop.seat.seat.me c.look_once.new.seat.seat.me _ _ c.loop.invariant.4 c.look_once.ensures.still
+      c.look_once.ensures.marked,
 )
 
-pub returns-in-Some-look_once-clause-look : goal.returns-in-Some-look_once-clause-look
-returns-in-Some-look_once-clause-look g c =
+pub returns-in-Ended-clause-look : goal.returns-in-Ended-clause-look
+returns-in-Ended-clause-look g c =
     look_then _ c.args.lock c.args.seat.now.seat.me c.loop.seat.seat.me c.look_once.new.seat.seat.me
-    c.in-Some-look_once.look c.loop.invariant.1.holds c.in-Some-look_once.ensures.look
+    c.in-Ended.look c.loop.invariant.1.holds c.in-Ended.ensures.look
 
-pub returns-in-Some-look_once-clause-woken : goal.returns-in-Some-look_once-clause-woken
-returns-in-Some-look_once-clause-woken g c = woken_marked c.look_once.new.seat.seat.me _ _ c.look_once.ensures.marked
+pub returns-in-Ended-clause-woken : goal.returns-in-Ended-clause-woken
+returns-in-Ended-clause-woken g c = woken_marked c.look_once.new.seat.seat.me _ _ c.look_once.ensures.marked
+
+pub returns-in-Ended-clause-only : goal.returns-in-Ended-clause-only
+returns-in-Ended-clause-only g c = only_marked c.loop.seat.seat.me c.look_once.new.seat.seat.me _ _ c.loop.invariant.4
+    c.look_once.ensures.still c.look_once.ensures.marked
 
 pub look_once-requires-clause-woken : goal.look_once-requires-clause-woken
 look_once-requires-clause-woken g c = c.loop.invariant.3

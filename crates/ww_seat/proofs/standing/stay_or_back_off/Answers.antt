@@ -6,16 +6,15 @@ use Rattle.ww_rule.specs.Guards.{exiting}
 use Rattle.ww_seat.specs.Work.{looks_again, told}
 use Rattle.ww_seat.specs.declared.look.Look.TheVariants.{Deadlk, Waits}
 use Rattle.ww_seat.proofs.Holds.{look_then}
-use Rattle.ww_seat.proofs.Working.{none_condemned, woken_touched, marked_none, marked_still, work_same, work_touched, work_told, work_noted}
-use Rattle.ww_seat.proofs.Signing.{if_none}
+use Rattle.ww_seat.proofs.Working.{none_condemned, woken_touched, marked_none, marked_still, still_none, still_touched, still_later, work_same, work_touched, work_told, work_noted}
 use Rattle.ww_seat.proofs.Stood.{stays_goes, stays_outside}
 use Rattle.ww_seat.proofs.standing.stay_or_back_off.Goals as goal
 
-pub returns-in_err-word-clause-lost : goal.returns-in_err-word-clause-lost
-returns-in_err-word-clause-lost c = let size = length (first_graph c.args.board.now.table.shared.key) in
+pub returns-in_default-clause-lost : goal.returns-in_default-clause-lost
+returns-in_default-clause-lost c = let size = length (first_graph c.args.board.now.table.shared.key) in
     let n = c.args.lock in let later = looks_again c.args.arrival in let m = c.args.seat.now.seat.me in
-    if_none c.from_residual.result _ (λ _. work_touched size n m true later m c.ask_if_first.new.seat.seat.me
-    (work_same size n true later m c.requires.orderly c.requires.work) c.ask_if_first.ensures.touched)
+    work_touched size n m true later m c.ask_if_first.new.seat.seat.me
+    (work_same size n true later m c.requires.orderly c.requires.work) c.ask_if_first.ensures.touched
 
 pub death-requires-clause-work : goal.death-requires-clause-work
 death-requires-clause-work c = let size = length (first_graph c.args.board.now.table.shared.key) in
@@ -31,8 +30,8 @@ leave-requires-clause-may c = let size = length (first_graph c.args.board.now.ta
     let m1 = c.ask_if_first.new.seat.seat.me in
     let w1 = work_touched size n m true later m m1
     (work_same size n true later m c.requires.orderly c.requires.work) c.ask_if_first.ensures.touched in
-    stays_goes size n later m1 c.sign_all.new.seat.seat.me c.death.new.seat.seat.me c.in_ok-word.word w1.working
-    c.in_ok-word.ensures.asked c.sign_all.ensures.signed c.death.ensures.told c.in-None.ensures.life
+    stays_goes size n later m1 c.sign_all.new.seat.seat.me c.death.new.seat.seat.me c.in-Some.word w1.working
+    c.in-Some.ensures.asked c.sign_all.ensures.signed c.death.ensures.told c.in-None.ensures.life
 
 pub returns-in-None-clause-look : goal.returns-in-None-clause-look
 returns-in-None-clause-look c = let size = length (first_graph c.args.board.now.table.shared.key) in
@@ -77,11 +76,11 @@ returns-else-not-back_off-clause-look c = let size = length (first_graph c.args.
     (work_same size n true later m c.requires.orderly c.requires.work) c.ask_if_first.ensures.touched in
     let w2 = work_noted size n m true later _ m1 m2 w1 c.sign_all.ensures.signed in
     let w3 = work_told size n m true later m2 m3 w2 c.death.ensures.told in
-    look_then size n m m3 c.back_off.new.seat.seat.me (Deadlk c.in-Some.met) w3.holds
-    (c.back_off.ensures.met c.if-not-back_off.false c.in-Some.met c.in-Some.ensures.death)
+    look_then size n m m3 c.back_off.new.seat.seat.me (Deadlk c.in-Some-death.met) w3.holds
+    (c.back_off.ensures.met c.if-not-back_off.false c.in-Some-death.met c.in-Some-death.ensures.death)
 
-pub returns-in_err-word-clause-marked : goal.returns-in_err-word-clause-marked
-returns-in_err-word-clause-marked c = marked_none c.ask_if_first.new.seat.seat.me _
+pub returns-in_default-clause-marked : goal.returns-in_default-clause-marked
+returns-in_default-clause-marked c = marked_none c.ask_if_first.new.seat.seat.me _
     (woken_touched (length (first_graph c.args.board.now.table.shared.key)) c.args.seat.now.seat.me
     c.ask_if_first.new.seat.seat.me _ c.ask_if_first.ensures.touched c.requires.woken)
 
@@ -109,8 +108,8 @@ returns-else-not-back_off-clause-marked c = let m2 = c.sign_all.new.seat.seat.me
     (marked_still m2 m3 _ _ (none_condemned m2 m3 (knowing m2.0 (told m2.0.part.core t.sign t.fresh)) t.view
     refl refl refl) c.sign_all.ensures.marked)
 
-pub returns-in_err-word-clause-attempts : goal.returns-in_err-word-clause-attempts
-returns-in_err-word-clause-attempts c = ap (λ (z : Sight). z.part.core.attempts) c.ask_if_first.ensures.touched.view
+pub returns-in_default-clause-attempts : goal.returns-in_default-clause-attempts
+returns-in_default-clause-attempts c = ap (λ (z : Sight). z.part.core.attempts) c.ask_if_first.ensures.touched.view
 
 pub returns-in-None-clause-attempts : goal.returns-in-None-clause-attempts
 returns-in-None-clause-attempts c = ap (λ (z : Sight). z.part.core.attempts)
@@ -132,7 +131,35 @@ returns-else-not-back_off-clause-attempts c = c.back_off.ensures.condemned.attem
 
 pub returns-in-None-clause-uncancelled : goal.returns-in-None-clause-uncancelled
 returns-in-None-clause-uncancelled c =
-    λ found. ap (λ (z : Sight). z.part.core.uncancelled)
+    λ found _. ap (λ (z : Sight). z.part.core.uncancelled)
     (c.leave.ensures.view ∙ ap exiting c.death.ensures.told.view)
     ∙ ap (λ (z : Sight). z.part.core.uncancelled) c.sign_all.ensures.signed.view
     ∙ ap (λ (z : Sight). z.part.core.uncancelled) c.ask_if_first.ensures.touched.view ∙ found
+
+pub returns-in_default-clause-still : goal.returns-in_default-clause-still
+returns-in_default-clause-still c = still_touched (length (first_graph c.args.board.now.table.shared.key))
+    c.args.seat.now.seat.me c.ask_if_first.new.seat.seat.me c.ask_if_first.ensures.touched
+
+pub returns-in-None-clause-still : goal.returns-in-None-clause-still
+returns-in-None-clause-still c = let m2 = c.sign_all.new.seat.seat.me in let m4 = c.leave.new.seat.seat.me in
+    let t = c.death.ensures.told in
+    still_later _ _ c.args.seat.now.seat.me c.ask_if_first.new.seat.seat.me m2 m4 c.ask_if_first.ensures.touched
+    c.sign_all.ensures.signed
+    (none_condemned m2 m4 (exiting (knowing m2.0 (told m2.0.part.core t.sign t.fresh)))
+    (c.leave.ensures.view ∙ ap exiting t.view) refl refl refl)
+
+pub returns-then-not-back_off-clause-still : goal.returns-then-not-back_off-clause-still
+returns-then-not-back_off-clause-still c = let m2 = c.sign_all.new.seat.seat.me in let m3 = c.death.new.seat.seat.me in
+    let t = c.death.ensures.told in
+    let kept = still_later _ _ c.args.seat.now.seat.me c.ask_if_first.new.seat.seat.me m2 m3
+    c.ask_if_first.ensures.touched c.sign_all.ensures.signed
+    (none_condemned m2 m3 (knowing m2.0 (told m2.0.part.core t.sign t.fresh)) t.view refl refl refl) in
+    λ u has. still_none m3 c.back_off.new.seat.seat.me c.back_off.ensures.condemned u (kept u has)
+
+pub returns-else-not-back_off-clause-still : goal.returns-else-not-back_off-clause-still
+returns-else-not-back_off-clause-still c = let m2 = c.sign_all.new.seat.seat.me in let m3 = c.death.new.seat.seat.me in
+    let t = c.death.ensures.told in
+    let kept = still_later _ _ c.args.seat.now.seat.me c.ask_if_first.new.seat.seat.me m2 m3
+    c.ask_if_first.ensures.touched c.sign_all.ensures.signed
+    (none_condemned m2 m3 (knowing m2.0 (told m2.0.part.core t.sign t.fresh)) t.view refl refl refl) in
+    λ u has. still_none m3 c.back_off.new.seat.seat.me c.back_off.ensures.condemned u (kept u has)

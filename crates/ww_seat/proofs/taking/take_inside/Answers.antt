@@ -4,7 +4,7 @@ use Rattle.ww_rule.specs.Waiting.{taking_inside}
 use Rattle.ww_table.specs.Seat.{size_of}
 use Rattle.ww_seat.specs.Looks.{IsLook}
 use Rattle.ww_seat.specs.declared.look.Look.TheVariants.{Locked}
-use Rattle.ww_seat.proofs.Working.{none_condemned, woken_still, woken_touched, marked_none, marked_still}
+use Rattle.ww_seat.proofs.Working.{none_condemned, woken_still, woken_touched, marked_none, marked_still, still_none, still_touched, still_noted}
 use Rattle.ww_seat.proofs.Took.{taken_read, owes_after, taken_goes, own_out, look_taken, word_read}
 use Rattle.ww_seat.proofs.taking.take_inside.Goals as goal
 
@@ -74,3 +74,17 @@ pub returns-clause-marked : goal.returns-clause-marked
 returns-clause-marked c = let m3 = c.sign_all.new.seat.seat.me in let m5 = c.node_or_blank.new.seat.seat.me in
     marked_still m3 m5 _ _ (none_condemned m3 m5 (exiting m3.0)
     (c.node_or_blank.ensures.view ∙ c.leave.ensures.view) refl refl refl) c.sign_all.ensures.marked
+
+pub returns-then-not-take_seen-clause-still : goal.returns-then-not-take_seen-clause-still
+returns-then-not-take_seen-clause-still c = still_touched _ c.args.seat.now.seat.me c.take_seen.new.seat.seat.me
+    (c.take_seen.ensures.lost c.if-not-take_seen.true)
+
+pub returns-clause-still : goal.returns-clause-still
+returns-clause-still c = let m = c.args.seat.now.seat.me in let m2 = c.own_word-word.new.seat.seat.me in
+    let m3 = c.sign_all.new.seat.seat.me in let m5 = c.node_or_blank.new.seat.seat.me in
+    let t = c.take_seen.ensures.took c.if-not-take_seen.false in
+    let t2 = taken_read _ c.args.lock m c.take_seen.new.seat.seat.me m2 _ t.1 c.own_word-word.ensures.read in
+    let taken = still_none m m2 (none_condemned m m2 (taking_inside m.0 c.args.lock t.0) t2.view refl refl refl) in
+    let left = still_none m3 m5 (none_condemned m3 m5 (exiting m3.0)
+    (c.node_or_blank.ensures.view ∙ c.leave.ensures.view) refl refl refl) in
+    λ u has. left u (still_noted _ _ m2 m3 c.sign_all.ensures.signed u (taken u has))

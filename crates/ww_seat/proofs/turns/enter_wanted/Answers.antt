@@ -2,7 +2,7 @@ use Rattle.std.proofs.Common.{ap, ⊎_elim}
 use Rattle.ww_plain.proofs.Members.{true_or_false}
 use Rattle.ww_rule.specs.Rule.{Sat}
 use Rattle.ww_seat.proofs.Outside.{room_outside}
-use Rattle.ww_seat.proofs.Waits.{wanter_enters}
+use Rattle.ww_seat.proofs.Waitings.{wanter_enters}
 use Rattle.ww_seat.proofs.Stepwise.{outside_shut, waits_shut, still_shut, now_at_work}
 use Rattle.ww_seat.proofs.turns.enter_wanted.Goals as goal
 

@@ -2,7 +2,7 @@ use Rattle.std.proofs.Common.{ap, ◌∙◌, length}
 use Rattle.ww_model.specs.State.{any_below}
 use Rattle.ww_view.specs.View.{owns}
 use Rattle.ww_rule.specs.Rule.{Sat}
-use Rattle.ww_seat.proofs.Waits.{wanting, ok_then, err_then}
+use Rattle.ww_seat.proofs.Waitings.{wanting, ok_then, err_then}
 use Rattle.ww_seat.proofs.Glances.{outside_still, holds_glanced, waits_still}
 use Rattle.ww_seat.proofs.waiting.wait_for.Goals as goal
 

@@ -1,4 +1,4 @@
-use Rattle.std.proofs.Common.{◌≡◌, ◌-◌, ◌∙◌, ℕ, get_or, ap, arith, vec_len}
+use Rattle.std.proofs.Common.{◌∙◌, sym, ap, arith, vec_len}
 use Rattle.ww_plain.specs.Numbers.{is_among}
 use Rattle.ww_desk.specs.Held.{Holding}
 use Rattle.ww_desk.proofs.Places.{stands, read_place, held_inside, last_below, IsTakenOut, released, seen_released}
@@ -38,81 +38,42 @@ index_mut-requires-2 c =
 
 pub invariant_of-self : goal.invariant_of-self
 invariant_of-self c =
-    let end : vec_len c.self.inside.items - 1 ≡ c.len.result - 1 = omega (arith, c.len.ensures) in
     let t : IsTakenOut c.self.inside.items.items c.swap_remove.new.self.items c.self.inside.places.items c.args.lock
-    c.index-place.result.now c.index-last.result.now c.swap_remove.result c.len.result = record {
+    c.index-place.result.now c.index-last.result.now c.swap_remove.result (vec_len c.self.inside.items) =
+    record {
       place_is = c.index-place.ensures;
-      last_is = c.index-last.ensures;
+      last_is = rw (sym c.len.ensures) c.index-last.ensures;
       out_is = c.swap_remove.ensures.value;
       now = c.swap_remove.ensures.items;
-      count = omega (arith, c.len.ensures, c.self.inside.items.ok.0);
+      count = c.self.inside.items.ok.0;
       long = omega (arith, c.swap_remove.ensures.len, c.swap_remove.new.self.ok.0, c.self.inside.items.ok.0);
-      moved = λ d before. c.swap_remove.ensures.by_index.0 d (omega (arith, before, c.len.ensures))
-          ∙ ap (λ (j : ℕ). get_or c.self.inside.items.items j d) end;
-      stays = λ k d apart before. c.swap_remove.ensures.by_index.1 k d apart (omega (arith, before, c.len.ensures));
+      moved = c.swap_remove.ensures.by_index.0;
+      stays = c.swap_remove.ensures.by_index.1;
     } in
-    let r = released c.self.inside.items.items c.swap_remove.new.self.items c.self.inside.places.items _ c.args.lock
-    c.index-place.result.now c.index-last.result.now c.swap_remove.result c.len.result c.self.invariant
+    let r = released _ _ _ _ c.args.lock _ _ _ _ c.self.invariant
     (held_inside _ _ c.args.lock c.self.view_is c.requires.has) t in
     rw c.swap_remove.ensures.capacity r.left
 
-pub returns-clause-now : goal.returns-clause-now
-returns-clause-now c =
-    let end : vec_len c.self.inside.items - 1 ≡ c.len.result - 1 = omega (arith, c.len.ensures) in
+pub returns : goal.returns
+returns c =
     let t : IsTakenOut c.self.inside.items.items c.swap_remove.new.self.items c.self.inside.places.items c.args.lock
-    c.index-place.result.now c.index-last.result.now c.swap_remove.result c.len.result = record {
+    c.index-place.result.now c.index-last.result.now c.swap_remove.result (vec_len c.self.inside.items) =
+    record {
       place_is = c.index-place.ensures;
-      last_is = c.index-last.ensures;
+      last_is = rw (sym c.len.ensures) c.index-last.ensures;
       out_is = c.swap_remove.ensures.value;
       now = c.swap_remove.ensures.items;
-      count = omega (arith, c.len.ensures, c.self.inside.items.ok.0);
+      count = c.self.inside.items.ok.0;
       long = omega (arith, c.swap_remove.ensures.len, c.swap_remove.new.self.ok.0, c.self.inside.items.ok.0);
-      moved = λ d before. c.swap_remove.ensures.by_index.0 d (omega (arith, before, c.len.ensures))
-          ∙ ap (λ (j : ℕ). get_or c.self.inside.items.items j d) end;
-      stays = λ k d apart before. c.swap_remove.ensures.by_index.1 k d apart (omega (arith, before, c.len.ensures));
+      moved = c.swap_remove.ensures.by_index.0;
+      stays = c.swap_remove.ensures.by_index.1;
     } in
-    let r = released c.self.inside.items.items c.swap_remove.new.self.items c.self.inside.places.items _ c.args.lock
-    c.index-place.result.now c.index-last.result.now c.swap_remove.result c.len.result c.self.invariant
+    let r = released _ _ _ _ c.args.lock _ _ _ _ c.self.invariant
     (held_inside _ _ c.args.lock c.self.view_is c.requires.has) t in
-    seen_released c.self.inside.items.items c.swap_remove.new.self.items c.self.inside.places.items c.args.self.now
-    c.args.lock c.index-last.result.now c.index-place.result.now c.self.view_is r.now
-
-pub returns-clause-gone : goal.returns-clause-gone
-returns-clause-gone c =
-    let end : vec_len c.self.inside.items - 1 ≡ c.len.result - 1 = omega (arith, c.len.ensures) in
-    let t : IsTakenOut c.self.inside.items.items c.swap_remove.new.self.items c.self.inside.places.items c.args.lock
-    c.index-place.result.now c.index-last.result.now c.swap_remove.result c.len.result = record {
-      place_is = c.index-place.ensures;
-      last_is = c.index-last.ensures;
-      out_is = c.swap_remove.ensures.value;
-      now = c.swap_remove.ensures.items;
-      count = omega (arith, c.len.ensures, c.self.inside.items.ok.0);
-      long = omega (arith, c.swap_remove.ensures.len, c.swap_remove.new.self.ok.0, c.self.inside.items.ok.0);
-      moved = λ d before. c.swap_remove.ensures.by_index.0 d (omega (arith, before, c.len.ensures))
-          ∙ ap (λ (j : ℕ). get_or c.self.inside.items.items j d) end;
-      stays = λ k d apart before. c.swap_remove.ensures.by_index.1 k d apart (omega (arith, before, c.len.ensures));
-    } in
-    let r = released c.self.inside.items.items c.swap_remove.new.self.items c.self.inside.places.items _ c.args.lock
-    c.index-place.result.now c.index-last.result.now c.swap_remove.result c.len.result c.self.invariant
-    (held_inside _ _ c.args.lock c.self.view_is c.requires.has) t in
-    r.lacks
-
-pub returns-clause-others : goal.returns-clause-others
-returns-clause-others c =
-    let end : vec_len c.self.inside.items - 1 ≡ c.len.result - 1 = omega (arith, c.len.ensures) in
-    let t : IsTakenOut c.self.inside.items.items c.swap_remove.new.self.items c.self.inside.places.items c.args.lock
-    c.index-place.result.now c.index-last.result.now c.swap_remove.result c.len.result = record {
-      place_is = c.index-place.ensures;
-      last_is = c.index-last.ensures;
-      out_is = c.swap_remove.ensures.value;
-      now = c.swap_remove.ensures.items;
-      count = omega (arith, c.len.ensures, c.self.inside.items.ok.0);
-      long = omega (arith, c.swap_remove.ensures.len, c.swap_remove.new.self.ok.0, c.self.inside.items.ok.0);
-      moved = λ d before. c.swap_remove.ensures.by_index.0 d (omega (arith, before, c.len.ensures))
-          ∙ ap (λ (j : ℕ). get_or c.self.inside.items.items j d) end;
-      stays = λ k d apart before. c.swap_remove.ensures.by_index.1 k d apart (omega (arith, before, c.len.ensures));
-    } in
-    let r = released c.self.inside.items.items c.swap_remove.new.self.items c.self.inside.places.items _ c.args.lock
-    c.index-place.result.now c.index-last.result.now c.swap_remove.result c.len.result c.self.invariant
-    (held_inside _ _ c.args.lock c.self.view_is c.requires.has) t in
-    λ n differ. r.others n differ ∙ ap (λ (h : Holding). is_among n h.items) c.self.view_is
+    record {
+      now =
+          seen_released c.self.inside.items.items c.swap_remove.new.self.items c.self.inside.places.items
+          c.args.self.now c.args.lock c.index-last.result.now c.index-place.result.now c.self.view_is r.now;
+      gone = r.lacks;
+      others = λ n differ. r.others n differ ∙ ap (λ (h : Holding). is_among n h.items) c.self.view_is;
+    }

@@ -9,17 +9,17 @@ use Rattle.ww_desk.proofs.Locks.{holds_told}
 use Rattle.ww_desk.proofs.Keeping.{took}
 use Rattle.ww_desk.proofs.station.Station.look.Goals as goal
 
-pub returns-in-Some-Locked-clause-keeps : goal.returns-in-Some-Locked-clause-keeps
-returns-in-Some-Locked-clause-keeps c =
+pub returns-in-Ended-Locked-clause-keeps : goal.returns-in-Ended-Locked-clause-keeps
+returns-in-Ended-Locked-clause-keeps c =
     let k = c.requires.keeps in
-    let h : Station = record (c.args.self.now) { turn = Looks c.args.lock c.args.arrival c.args.heeds } in
-    let q = c.look_once-look.new.seat in
+    let h : Station = record (c.args.self.now) { turn = Looks c.args.lock c.args.arrival c.args.waits } in
+    let q = c.look_once-attempt.new.seat in
     let look : IsOrderly (size_of c.deref.result.now) q.seat.me × IsAway q.seat.me.0.part.core
-    × HasTaken c.args.self.now.seat.seat.me c.args.lock c.in-Some-Locked.field-0-0 q.seat.me = search rules in
-    took h _ c.deref.result.now _ c.args.lock c.in-Some-Locked.field-0-0 q c.look_once-look.new.wake k c.deref.ensures k.at.1
-    (record { seated = c.look_once-look.ensures.seat; orderly = look.0; away = look.1 }) look.2
+    × HasTaken c.args.self.now.seat.seat.me c.args.lock c.in-Ended-Locked.field-0-0 q.seat.me = search rules in
+    took h _ c.deref.result.now _ c.args.lock c.in-Ended-Locked.field-0-0 q c.look_once-attempt.new.wake k c.deref.ensures k.at.1
+    (record { seated = c.look_once-attempt.ensures.seat; orderly = look.0; away = look.1 }) look.2
     (ap (λ (d : Station). let e : Station = record d { turn = Rests } in e) c.add.ensures.same) c.add.ensures.held
 
-pub look_once-look-requires-clause-holds : goal.look_once-look-requires-clause-holds
-look_once-look-requires-clause-holds c = let h = c.args.self.now in
+pub look_once-attempt-requires-clause-holds : goal.look_once-attempt-requires-clause-holds
+look_once-attempt-requires-clause-holds c = let h = c.args.self.now in
     holds_told h.seat.seat.me.0.part.core h.held.items c.is_empty.result c.requires.keeps.owned c.is_empty.ensures

@@ -8,7 +8,6 @@ use Rattle.ww_seat.specs.Calls.{HasTaken, IsTurnedAway}
 use Rattle.ww_seat.specs.Bells.{leads_to}
 use Rattle.ww_lock.specs.Carried.{IsPlacedAlike}
 use Rattle.ww_lock.proofs.Carrying.{here, at_table, bells_at, placed_after, bare_of, takes, taken_late, turned_away, turned_fresh}
-use Rattle.ww_lock.proofs.Taking.{may_end}
 use Rattle.ww_lock.proofs.hand.Hand.wait_for.Goals as goal
 
 pub wait_for-requires-clause-settled : goal.wait_for-requires-clause-settled
@@ -74,7 +73,7 @@ returns-in_err-node g c =
       taken = tt;
       stopped = λ s was. turned_away h c.args.world.now _ c.wait_for.new.seat now c.args.n why s alike
           c.world.view_is c.requires.home c.requires.fresh c.requires.new e.settled e.records d was;
-      waits = may_end c.args.waits _ why c.heeds.ensures c.in_err-node.ensures.heeds;
+      waits = c.in_err-node.ensures.waits;
       turned_away = d;
       unmet = tt;
     })
