@@ -92,3 +92,13 @@ of_context() {
     [ "$way" != mutexes ] || words=("$work/mutexes" "$k")
     echo $((($(count_of "${words[@]}" 3000) - $(count_of "${words[@]}" 1000)) / 2000))
 }
+
+# The timed program of passes, as `rt ci` leaves it.
+bench=../crates/ww_bench/out/ww_bench
+
+# Those of one transaction of passes that locks so many of 64 nodes, reads each and releases all, by one thread in
+# Wound-Wait. The drawing of its list is counted too.
+of_passes() {
+    local words=("$bench" reads wound-wait 1 "$2" 64)
+    echo $((($(count_of "${words[@]}" 3000 0 1) - $(count_of "${words[@]}" 1000 0 1)) / 2000))
+}

@@ -12,7 +12,7 @@ use ww_plain::{Txn, first_double};
 use ww_txn::Open;
 
 /// Takes the locks of these nodes in turn, or as far as it can.
-#[inline]
+#[inline(always)]
 fn take_in_turn<R: Wait>(
     rt: &R,
     world: &World,
@@ -57,7 +57,7 @@ fn read_all(world: &World, acquiring: &Acquiring, list: &[u8]) -> bool
     for n in list {
         if *n < world.size() {
             if let Some(node) = acquiring.read(world, *n) {
-                sum = sum.saturating_add(node.value);
+                sum = sum.wrapping_add(node.value);
             }
         }
     }

@@ -71,11 +71,12 @@ pub enum Try {
 }
 
 impl Acquiring {
-    ghost use Rattle.std.specs.Prelude.{◌≡◌, ◌<◌, ◌∷◌, [], length, IfSome};
+    ghost use Rattle.std.specs.Prelude.{◌≡◌, ◌<◌, ◌∷◌, [], false, length, IfSome};
     ghost use Rattle.ww_plain.specs.Graph.{IsNodeOf};
     ghost use Rattle.ww_plain.specs.Numbers.{is_among};
-    ghost use Rattle.ww_lock.specs.Holding.{IsAtHome, reads};
-    ghost use Rattle.ww_lock.specs.Moves.{IsAnswer, IsLockAnswer, IsTaken, IsTryAnswer, emptied};
+    ghost use Rattle.ww_lock.specs.Holding.{Holding, IsAtHome, reads};
+    ghost use Rattle.ww_lock.specs.Carried.{holding_of, held_of, CarriesFresh, HasLost};
+    ghost use Rattle.ww_lock.specs.Moves.{IsAnswer, IsLockAnswer, IsTaken, IsTryAnswer, emptied, tried};
 
     /// The context's stamp: the smaller of two is that of the older context.
     pub fn stamp(&self) -> u64
@@ -91,13 +92,20 @@ impl Acquiring {
         self.hand.holds(n)
     }
 
-    /// Takes the lock of a node, and waits for it where the rules say so.
-    pub fn lock<R: Wait>(self, rt: &R, world: &World, n: u8) -> Lock
-        requires home { IsAtHome self world.now }
+    /// Waits for a lock after a first try that failed, to the end. The contract compares this with the state before that
+    /// try.
+    #[cold]
+    fn wait_to_the_end<R: Wait>(rt: &R, world: &World, hand: Box<Hand>, n: u8) -> Lock
+        requires home { IsAtHome (holding_of hand.value) world.now }
+        requires fresh { CarriesFresh hand.value }
+        requires context { 0 < hand.value.seat.stamp }
         requires node { n < length world.now.first }
-        ensures { IsLockAnswer self n result }
+        requires new { is_among n (held_of hand.value) ≡ false }
+        requires lost { HasLost hand.value }
+        requires tried { (s : Holding) × (holding_of hand.value ≡ tried s) }
+        ensures { (s : Holding) → holding_of hand.value ≡ tried s → IsLockAnswer s n result }
     {
-        match self.lock_as(rt, world, n, Waits::ToTheEnd) {
+        match Self::wait_as(rt, world, hand, n, Waits::ToTheEnd) {
             Interruptible::Locked(acquiring) => Lock::Locked(acquiring),
             Interruptible::Already(acquiring) => Lock::Already(acquiring),
             Interruptible::Deadlk(backoff) => Lock::Deadlk(backoff),
@@ -105,18 +113,25 @@ impl Acquiring {
         }
     }
 
-    /// Takes the lock of a node as `lock` does, or as `lock_interruptible` does: the last argument says how it waits.
-    #[inline(always)]
-    pub fn lock_as<R: Wait>(self, rt: &R, world: &World, n: u8, waits: Waits) -> Interruptible
-        requires home { IsAtHome self world.now }
+    /// The same, to the end or until it is called off: the last argument says how it waits.
+    #[cold]
+    fn wait_as<R: Wait>(
+        rt: &R,
+        world: &World,
+        mut hand: Box<Hand>,
+        n: u8,
+        waits: Waits,
+    ) -> Interruptible
+        requires home { IsAtHome (holding_of hand.value) world.now }
+        requires fresh { CarriesFresh hand.value }
+        requires context { 0 < hand.value.seat.stamp }
         requires node { n < length world.now.first }
-        ensures { IsAnswer waits self n result }
+        requires new { is_among n (held_of hand.value) ≡ false }
+        requires lost { HasLost hand.value }
+        requires tried { (s : Holding) × (holding_of hand.value ≡ tried s) }
+        ensures { (s : Holding) → holding_of hand.value ≡ tried s → IsAnswer waits s n result }
     {
-        if self.held(n) {
-            return Interruptible::Already(self);
-        }
-        let Acquiring { mut hand } = self;
-        match hand.take(rt, world, n, waits) {
+        match hand.wait_for(rt, world, n, waits) {
             Ok(()) => Interruptible::Locked(Acquiring { hand }),
             Err(Stop::Deadlk(met)) => Interruptible::Deadlk(Backoff {
                 hand,
@@ -127,13 +142,48 @@ impl Acquiring {
         }
     }
 
+    /// Takes the lock of a node, and waits for it where the rules say so. The node's lock is taken in the caller's code if
+    /// it is free.
+    #[inline(always)]
+    pub fn lock<R: Wait>(self, rt: &R, world: &World, n: u8) -> Lock
+        requires home { IsAtHome self world.now }
+        requires node { n < length world.now.first }
+        ensures { IsLockAnswer self n result }
+    {
+        if self.hand.holds_there(n) {
+            return Lock::Already(self);
+        }
+        let Acquiring { mut hand } = self;
+        if hand.try_take(world, n) {
+            return Lock::Locked(Acquiring { hand });
+        }
+        Self::wait_to_the_end(rt, world, hand, n)
+    }
+
+    /// Takes the lock of a node as `lock` does, or as `lock_interruptible` does: the last argument says how it waits.
+    #[inline(always)]
+    pub fn lock_as<R: Wait>(self, rt: &R, world: &World, n: u8, waits: Waits) -> Interruptible
+        requires home { IsAtHome self world.now }
+        requires node { n < length world.now.first }
+        ensures { IsAnswer waits self n result }
+    {
+        if self.hand.holds_there(n) {
+            return Interruptible::Already(self);
+        }
+        let Acquiring { mut hand } = self;
+        if hand.try_take(world, n) {
+            return Interruptible::Locked(Acquiring { hand });
+        }
+        Self::wait_as(rt, world, hand, n, waits)
+    }
+
     /// Takes the lock of a node if nobody has it or waits for it, and waits for nobody.
     pub fn try_lock(self, world: &World, n: u8) -> Try
         requires home { IsAtHome self world.now }
         requires node { n < length world.now.first }
         ensures { IsTryAnswer self n result }
     {
-        if self.held(n) {
+        if self.hand.holds_there(n) {
             return Try::Busy(self);
         }
         let Acquiring { mut hand } = self;

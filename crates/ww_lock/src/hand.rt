@@ -51,6 +51,15 @@ impl Hand {
         usize::from(n) < MAX_NODES && self.marks[usize::from(n)]
     }
 
+    /// The same of a node of the world.
+    pub(crate) fn holds_there(&self, n: u8) -> bool
+        requires carries { Carries self.now }
+        requires node { n < length self.now.seen }
+        ensures { result ≡ is_among n (held_of self.now) }
+    {
+        self.marks[usize::from(n)]
+    }
+
     /// Whether any node is held: then its seat has that out.
     pub(crate) fn holds_some(&self) -> bool
         requires { Carries self.now }
@@ -66,7 +75,7 @@ impl Hand {
         ensures contents { result ≡ reads (holding_of self.now) n }
         ensures there { IfSome result (IsNodeOf (length self.now.seen)) }
     {
-        if self.holds(n) {
+        if self.holds_there(n) {
             // Its contract says that what was seen is a graph.
             let _size = self.seen.size();
             Some(self.seen.node(n))

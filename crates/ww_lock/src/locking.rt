@@ -58,8 +58,8 @@ impl Hand {
         let holds = self.holds_some();
         match ww_seat::try_take_node(&mut self.seat, &world.board, u32::from(n), holds) {
             Some(node) => {
-                self.patience.win();
                 self.add(n, node);
+                self.patience.win();
                 true
             }
             None => false,

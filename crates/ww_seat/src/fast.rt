@@ -31,11 +31,11 @@ fn unsign_bare(seat: &mut Seat16, board: &Board)
     seat.clear(board);
 }
 
-/// Takes the sign back where the context holds nothing: nobody waits for it then.
+/// Takes the sign back of a seat that holds nothing, if it has a context: nobody waits for it then.
 #[inline(always)]
-fn unsign_if_bare(seat: &mut Seat16, board: &Board, holds: bool)
+fn unsign_context(seat: &mut Seat16, board: &Board)
     requires seat { IsSettledAt board.now seat.old }
-    requires holds { any_below (length (view_of seat.old).owned) (owns (view_of seat.old)) ≡ holds }
+    requires bare { IsBare (view_of seat.old) }
     ensures seat { IsSettledAt board.now seat.new }
     ensures same { HoldsAsBefore seat.old.seat.me seat.new.seat.me }
     ensures met { (view_of seat.new).met ≡ (view_of seat.old).met }
@@ -45,14 +45,11 @@ fn unsign_if_bare(seat: &mut Seat16, board: &Board, holds: bool)
     if seat.stamp() == 0 {
         return;
     }
-    if holds {
-        return;
-    }
     unsign_bare(seat, board);
 }
 
-/// Clears a sign that would forbid the seat to want a lock. In Wait-Die a signed seat owns a lock, so nothing is to be
-/// done.
+/// Clears a sign that would forbid the seat to want a lock. Where it owns a lock nothing forbids that; and in Wait-Die a
+/// signed seat owns one.
 #[inline(always)]
 fn unsign(seat: &mut Seat16, board: &Board, holds: bool)
     requires seat { IsSettledAt board.now seat.old }
@@ -63,8 +60,11 @@ fn unsign(seat: &mut Seat16, board: &Board, holds: bool)
     ensures signs { WantsSigns (view_of seat.new) }
     ensures records { seat.new.records ≡ seat.old.records }
 {
+    if holds {
+        return;
+    }
     match seat.kind() {
-        Kind::WoundWait => unsign_if_bare(seat, board, holds),
+        Kind::WoundWait => unsign_context(seat, board),
         Kind::WaitDie => {}
     }
 }

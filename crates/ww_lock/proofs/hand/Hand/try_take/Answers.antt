@@ -33,13 +33,14 @@ returns-in-Some c =
     let added = c.add.ensures in
     let took = subst (λ (n : ℕ). HasTakenAtOnce c.args.self.now.seat.seat.me n c.in-Some.node
     c.try_take_node.new.seat.seat.me) c.from.ensures c.in-Some.ensures.some in
-    let t = takes c.args.self.now c.add.new.self c.args.world.now _ c.try_take_node.new.seat _ c.args.n
+    let now = record c.add.new.self { patience = c.win.new.self } in
+    let t = takes c.args.self.now now c.args.world.now _ c.try_take_node.new.seat _ c.args.n
     c.in-Some.node c.world.view_is c.requires.home c.requires.fresh c.requires.node c.requires.new e.seat
     e.records took
-    (record { bells = added.alike.bells; parker = added.alike.parker ∙ c.win.ensures }) added.seat added.same added.marks added.seen in
+    (record { bells = added.alike.bells; parker = c.win.ensures ∙ added.alike.parker }) added.seat added.same added.marks added.seen in
     record {
       fresh = t.fresh;
-      taken = λ _. taken_at_once c.args.self.now c.add.new.self c.args.n c.in-Some.node c.requires.new t;
+      taken = λ _. taken_at_once c.args.self.now now c.args.n c.in-Some.node c.requires.new t;
       busy = λ f. absurd (true≢false f);
       lost = λ f. absurd (true≢false f);
       unmet = λ _. ap (λ (s : Seat16). s.seat.me.0.part.core.met) added.seat ∙ took.unmet;
