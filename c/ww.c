@@ -18,8 +18,11 @@ enum { NOTHING, TOKEN, ASLEEP };
 /* After so many nanoseconds it looks again whether a seat is free that can call it off. */
 enum { SOON = 1000000 };
 
-/* How many pauses come between two looks or tries: they double, and after so many doublings another thread is let run. */
+/* At a guard's entrance the pauses between two tries double so often; then other threads are let run, in these rounds. */
 enum { SPINS = 6, ROUNDS = 11 };
+
+/* Before a seat sleeps it looks so often whether it was woken; the pauses in between double. It lets nobody run for that. */
+enum { WAKES = 9 };
 
 /*
  * A seat that is outside a guard after so many tries sleeps for so many nanoseconds
@@ -28,8 +31,12 @@ enum { SPINS = 6, ROUNDS = 11 };
  */
 enum { NAP = 50000 };
 
-/* A call stays away for so many nanoseconds at the longest, however long a pause is, or others have the processor. */
-enum { STAY = 5000000 };
+/*
+ * A call lets other threads run for so many nanoseconds, from the first time that it
+ * does so.  By then somebody else wants its processor, and each further time would
+ * cost it a time slice, before its age helps it: it goes on to wait, and sleeps sooner.
+ */
+enum { STAY = 500000 };
 
 /* Behind so many pauses of a long rest another thread is let run. */
 enum { BREATH = 64 };
@@ -42,25 +49,6 @@ static inline void pause_for(unsigned count)
 #else
 		__asm__ volatile("" ::: "memory");
 #endif
-}
-
-static void snooze(unsigned step)
-{
-	if (step > SPINS)
-		sched_yield();
-	else
-		pause_for(1u << step);
-}
-
-/* Before a further try to go inside a guard. Nobody waits for this seat meanwhile: whom it had to wake it has woken. */
-static void await_guard(unsigned *step)
-{
-	const struct timespec nap = { .tv_nsec = NAP };
-
-	if (*step < ROUNDS)
-		snooze((*step)++);
-	else
-		nanosleep(&nap, NULL);
 }
 
 void ww_futex_wait(uint32_t *word, uint32_t is, const struct timespec *until)
@@ -89,6 +77,36 @@ static void from_now(struct timespec *at, long nanoseconds)
 	}
 }
 
+/* How a call lets other threads run: until when, once it has begun to, and that it does so no more. */
+struct stay {
+	struct timespec until;
+	bool yielded, over;
+};
+
+static void yield(struct stay *stay)
+{
+	if (!stay->yielded)
+		from_now(&stay->until, STAY);
+	stay->yielded = true;
+	sched_yield();
+	stay->over = ww_has_come(&stay->until);
+}
+
+/* Before a further try to go inside a guard. Nobody waits for this seat meanwhile: whom it had to wake it has woken. */
+static void await_guard(struct stay *stay, unsigned *step)
+{
+	const struct timespec nap = { .tv_nsec = NAP };
+
+	if (*step <= SPINS)
+		pause_for(1u << *step);
+	else if (*step < ROUNDS && !stay->over)
+		yield(stay);
+	else
+		nanosleep(&nap, NULL);
+	if (*step < ROUNDS)
+		(*step)++;
+}
+
 static bool is_due(const struct ww_stop *stop)
 {
 	return (stop->asked && __atomic_load_n(stop->asked, __ATOMIC_SEQ_CST)) || (stop->until && ww_has_come(stop->until));
@@ -113,11 +131,8 @@ static void park(ww_seat *s, const struct ww_stop *stop)
 {
 	uint32_t word = NOTHING;
 
-	for (unsigned step = 0; step < ROUNDS; step++) {
-		if (__atomic_load_n(&s->token, __ATOMIC_SEQ_CST) == TOKEN)
-			break;
-		snooze(step);
-	}
+	for (unsigned step = 0; step < WAKES && __atomic_load_n(&s->token, __ATOMIC_SEQ_CST) != TOKEN; step++)
+		pause_for(1u << step);
 	if (__atomic_compare_exchange_n(&s->token, &word, ASLEEP, false, __ATOMIC_SEQ_CST, __ATOMIC_SEQ_CST)) {
 		struct timespec soon;
 		const struct timespec *until = rises_by(stop, &soon);
@@ -141,29 +156,17 @@ static void wake(const ww_seat *s, const bool *wakes)
 			ww_unpark(&s->world->seats[k]);
 }
 
-/* How a call stays away from a lock that it has lost: until when, once it let others run, and that it is over. */
-struct stay {
-	struct timespec until;
-	bool yielded, over;
-};
-
 /*
  * Rests as long as the library says; amid a long rest it lets other threads run, since one of them may have the lock.
- * Once the stay is over, the few spin reads that are left follow at once.
+ * Once that is over, the few spin reads that are left follow at once.
  */
 static void rest(struct stay *stay, uint32_t pauses, bool yields)
 {
 	if (!yields && !stay->over)
 		pause_for(pauses);
-	if (!yields || stay->over)
-		return;
-	if (!stay->yielded)
-		from_now(&stay->until, STAY);
-	stay->yielded = true;
-	for (uint32_t rested = 0; rested < pauses && !stay->over; rested += BREATH) {
+	for (uint32_t rested = 0; yields && rested < pauses && !stay->over; rested += BREATH) {
 		pause_for(BREATH);
-		sched_yield();
-		stay->over = ww_has_come(&stay->until);
+		yield(stay);
 	}
 }
 
@@ -183,7 +186,7 @@ __attribute__((noinline, cold)) int ww_go_on(ww_seat *s, struct ww_stop *stop)
 		wake(s, wakes);
 		switch (r) {
 		case WW_AWAITS:
-			await_guard(&step);
+			await_guard(&stay, &step);
 			continue;
 		case WW_AGAIN:
 			/* It may be inside a guard, where it holds up everybody else. */

@@ -39,7 +39,7 @@ use Rattle.ww_rule.specs.declared.cells.Sight.{Sight}
 use Rattle.ww_rule.specs.declared.cells.Start.{Start}
 use Rattle.ww_rule.specs.Rule.{St, Sat, first_graph, Ruled}
 use Rattle.ww_rule.specs.Steps.{knowing}
-use Rattle.ww_rule.specs.Guards.{lost, AreSeats, IsSeenBy, entering, exiting, looking, glancing, enters_to, exits_to, looks_to, glances_to}
+use Rattle.ww_rule.specs.Guards.{lost, AreSeats, IsSeenBy, entering, exiting, looking, glancing, enters_to, exits_to, looks_to, glances_to, counts_to}
 use Rattle.ww_rule.specs.Waiting.{StandsIfWaiting, Expects, IsStillThere, tries_to, HasPlace, joining, joins, taking_inside, below, takes_inside, giving_inside, gives_inside, takes_bare_inside, gives_bare_inside, asking, asks, dying, dies, dies_to}
 use Rattle.ww_rule.specs.Signs.{condemning, noting, reading, finding_none, clearing, signs_to, reads_to, clears_to}
 use Rattle.ww_rule.specs.Cancels.{cancelling, heeding, stopping, stops, leaves_to, cancels_to, heeds_to}
@@ -151,6 +151,16 @@ glances_outside key slots id me n i is low seated s r deep at small = let c : St
     ),
     refl,
   ),
+)
+
+pub counts_outside : (key : Start) (slots id : ℕ) (me : Sat) (i : ℕ) → me.0.seated ≡ true
+    → Allows (Ruled key) slots id me i (λ x. x) (counts_to (step slots i 0 0 none) me)
+counts_outside key slots id me i seated s r deep at small = let c : State = r.core in let v : View = me.0.part.core in (
+  glancing me.0,
+  keeps,
+  tt,
+  looks key s r id me at seated i (made.glanced v) refl (λ m. refl) (mine_glanced c v (mine key s r id me at seated).part.knows),
+  refl,
 )
 
 -- ---- owner words

@@ -74,3 +74,7 @@ glancing v = knowing v (glanced v.part.core)
 
 abbrev pub glances_to : Step Cell → Sat → ℕ → Sat → Type 0
 glances_to st m found m' = ((o : Owner) × IsValid o × (found ≡ packed o)) × (m' ≡ (glancing m.0, m.1))
+
+-- ... or the stamp word, which tells how many contexts have begun: any number, as far as a proof knows
+abbrev pub counts_to : Step Cell → Sat → ℕ → Sat → Type 0
+counts_to st m found m' = m' ≡ (glancing m.0, m.1)

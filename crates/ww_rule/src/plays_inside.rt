@@ -36,6 +36,15 @@ impl Play<Cell, Sight> for Glance {
     ghost then = { glances_to };
 }
 
+/// It is made outside, of the stamp word.
+pub struct Count;
+
+impl Play<Cell, Sight> for Count {
+    ghost use Rattle.ww_rule.specs.Guards.{counts_to};
+
+    ghost then = { counts_to };
+}
+
 pub struct Join;
 
 impl Play<Cell, Sight> for Join {

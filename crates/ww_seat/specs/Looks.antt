@@ -27,9 +27,10 @@ pub record IsOutside (size n : ℕ) (m : Sat) : Type 0 where
   pub outside : m.0.part.core.inside ≡ 0
   pub place : (m.0.part.core.waits ≡ 0) ⊎ (m.0.part.core.waits ≡ suc n)
 
--- it has made so many spin reads since its last try, before which it counted none, and is otherwise as it was
+-- it has made so many more spin reads, and is otherwise as it was
 abbrev pub having_glanced : Sat → ℕ → Sat
-having_glanced m k = (knowing m.0 (record (m.0.part.core) { glances = k; all_glances = m.0.part.core.all_glances + k }), m.1)
+having_glanced m k = let v : View = m.0.part.core in
+    (knowing m.0 (record v { glances = v.glances + k; all_glances = v.all_glances + k }), m.1)
 
 pub record HasGlanced (m m' : Sat) : Type 0 where
   pub times : ℕ

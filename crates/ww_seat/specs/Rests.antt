@@ -6,22 +6,22 @@ use Rattle.ww_seat.specs.declared.resting.Seen.{Seen}
 use Rattle.ww_seat.specs.declared.resting.Seen.TheVariants.{Nothing, Once, Enough}
 use Rattle.ww_seat.specs.declared.resting.Stay.{Stay}
 
--- by what was seen before, a free lock ends a stay: it doesn't where the second spin read sees it, since the owner before
--- was quick, nor amid a long rest
+-- by what was seen before, a free lock ends a stay: it doesn't where the second spin read of it sees that, since the owner
+-- before was quick
 abbrev pub EndsAfter : Seen → Type 0
 EndsAfter Nothing = Unit {0}
 EndsAfter (Once owner) = ⊥
-EndsAfter (Enough plan) = plan.amid ≡ 0
+EndsAfter (Enough plan) = Unit {0}
 
 -- a free lock ends this stay; the last spin read ends any
 abbrev pub EndsIfFree : Stay → Type 0
 EndsIfFree stay = (stay.glances ≡ 1) ⊎ EndsAfter stay.seen
 
--- so many contexts have begun since the first that it saw, whose stamp that is, and 0 if it has seen none
+-- so many contexts have begun since the first that it saw, whose stamp `first` is, and 0 if it has seen none
 pub record IsLate (first : ℕ) (owner : Owner) : Type 0 where
   pub owned : owner.seat ≢ None
   pub seen : 0 < first
-  pub begun : first + 16384 ≤ owner.stamp
+  pub begun : first + 4096 ≤ owner.stamp
 
 -- that stamp, once it has seen this owner too
 abbrev pub first_with : ℕ → Owner → ℕ

@@ -2,13 +2,14 @@
 
 use crate::bell::Parker;
 use crate::resting::{Memory, Rest, Stay};
-use crossbeam_utils::Backoff as Pause;
+use crate::staying_away::pause_for;
 use std::sync::Wait;
 use ww_table::Seat16;
 use ww_word::Owner;
 
-/// How many rounds a waiter gives the owner before it sleeps.
-const ROUNDS: u32 = 11;
+/// How many pauses a waiter gives the owner before it sleeps. It lets nobody else run for that: where others want its
+/// processor, it would lose a time slice.
+const PAUSES: u32 = 512;
 
 /// How a pass waited since its world was opened. Each count stops at the greatest number.
 #[derive(Clone, Copy, Debug, PartialEq, Eq)]
@@ -96,17 +97,14 @@ impl Patience {
         self.waited.back_offs = self.waited.back_offs.saturating_add(1);
     }
 
-    /// Sleeps until somebody wakes the seat, which stands in a wait list. If the wake-up comes during the rounds before,
+    /// Sleeps until somebody wakes the seat, which stands in a wait list. If the wake-up comes during the pauses before,
     /// it costs no system call.
     pub(crate) fn sleep<R: Wait>(&mut self, rt: &R, seat: &Seat16)
         requires stands { (view_of seat.now).waits ≢ 0 }
         ensures parker { sleeps_at self.new ≡ sleeps_at self.old }
     {
         self.waited.sleeps = self.waited.sleeps.saturating_add(1);
-        let pause = Pause::new();
-        for _ in 0..ROUNDS {
-            pause.snooze();
-        }
+        pause_for(PAUSES);
         self.parker.park(rt);
     }
 }

@@ -1,14 +1,14 @@
-//! How a call stays away from a lock that it has just tried in vain, as data: how many spin reads of the lock it makes,
-//! how many pauses it rests between two of them, and how often it lets other threads run meanwhile. It waits for nobody
-//! and reads nothing; each number of it stands here and nowhere else.
+//! How a call stays away from a lock that it has just tried in vain, as data: how many spin reads it makes, how many
+//! pauses it rests between two of the lock, how often it lets other threads run meanwhile, and when that took too long. It
+//! waits for nobody and reads nothing; each number of it stands here and nowhere else.
 
-ghost use Rattle.std.specs.Prelude.{◌≡◌, ◌<◌, ◌≤◌, ◌+◌, ◌↔◌, nat_eq, if◌then◌else◌, true, IsTrue, None, IfSome};
+ghost use Rattle.std.specs.Prelude.{◌≡◌, ◌<◌, ◌≤◌, ◌+◌, ◌↔◌, nat_eq, if◌then◌else◌, true, false, IsTrue, None, IfSome};
 ghost use Rattle.ww_seat.specs.Rests.{EndsIfFree, EndsAfter, IsLate, first_with, Rests};
 
 use ww_word::Owner;
 
-/// How many spin reads of a lock a call makes at most.
-pub const MOST_GLANCES: u8 = 14;
+/// How many spin reads a call makes at most, of its lock and of the stamp word.
+pub const MOST_GLANCES: u8 = 16;
 
 /// How many pauses a call rests at most, all its rests together.
 pub const MOST_PAUSES: u32 = 12_416;
@@ -16,12 +16,9 @@ pub const MOST_PAUSES: u32 = 12_416;
 /// A context that still owns the lock after so many pauses works for longer.
 const MOMENT: u32 = 128;
 
-/// A long rest has parts of so many pauses at most, with a spin read after each.
-const PART: u32 = 1024;
-
 /// A call joins once so many contexts have begun since the first that it saw, however few pauses that took: on busy
 /// processors other programs may have run meanwhile.
-const LATE: u64 = 16_384;
+const LATE: u64 = 4096;
 
 /// A seat that holds locks rests shortly, since others may wait for these: so often, and for so many pauses at most.
 const RESTS_HOLDING: u8 = 8;
@@ -34,7 +31,7 @@ const RESTS_QUICK: u8 = 2;
 const PAUSES_QUICK: u32 = 6144;
 
 /// The same if the owner works for longer.
-const RESTS_LONGER: u8 = 8;
+const RESTS_LONGER: u8 = 7;
 
 const PAUSES_LONGER: u32 = 1024;
 
@@ -50,9 +47,9 @@ const MOST_LOSSES: u32 = 10;
 /// After so many first tries that won, one that was lost is forgotten.
 const CALM: u32 = 128;
 
-/// A law of these numbers: a call makes fourteen spin reads at most, and rests for 12,416 pauses at most.
+/// A law of these numbers: a call makes sixteen spin reads at most, and rests for 12,416 pauses at most.
 pub fn limits()
-    ensures glances { MOST_GLANCES ≡ 14 }
+    ensures glances { MOST_GLANCES ≡ 16 }
     ensures pauses { MOST_PAUSES ≡ 12416 }
 {}
 
@@ -103,7 +100,7 @@ impl Memory {
     }
 }
 
-/// A rest between two spin reads.
+/// A rest between two spin reads of a lock.
 #[derive(Clone, Copy, Debug, PartialEq, Eq)]
 pub struct Rest {
     pub pauses: u32,
@@ -119,8 +116,6 @@ struct Plan {
     /// How many pauses the next one has; each has twice as many as the one before, up to the longest.
     next: u32,
     longest: u32,
-    /// How many pauses are left of a rest that has begun.
-    amid: u32,
 }
 
 /// What a call that stays away knows of the lock's owner.
@@ -143,14 +138,16 @@ pub struct Stay {
     pub pauses: u32,
     holds: bool,
     seen: Seen,
-    /// The stamp of the first context that it saw own the lock, 0 before.
+    /// The first stamp that it saw, 0 before.
     first: u64,
+    /// How often it has let other threads run.
+    yields: u32,
 }
 
 impl Stay {
     /// A call that has just lost its first try; whether its seat holds a lock.
     pub fn new(holds: bool) -> Stay
-        ensures glances { result.glances ≡ 14 }
+        ensures glances { result.glances ≡ 16 }
         ensures pauses { result.pauses ≡ 12416 }
     {
         Stay {
@@ -159,11 +156,12 @@ impl Stay {
             holds,
             seen: Seen::Nothing,
             first: 0,
+            yields: 0,
         }
     }
 
-    /// What comes after a spin read that saw this owner: a rest and one more spin read; or nothing, as the call joins the
-    /// wait list.
+    /// What comes after a spin read of the lock that saw this owner: a rest and one more such read; or nothing, as the call
+    /// joins the wait list.
     pub fn next(&mut self, memory: &mut Memory, owner: Owner) -> Option<Rest>
         requires { 1 ≤ self.old.glances }
         ensures free { owner.seat ≡ None → (result ≡ None) ↔ EndsIfFree self.old }
@@ -189,13 +187,30 @@ impl Stay {
         })
     }
 
-    /// Whether so many contexts have begun since the first that it saw. Whoever has no context tells nothing of that.
-    fn is_late(&mut self, stamp: u64) -> bool
+    /// It has let other threads run once more. Whether a spin read shows now how late it is: that is so after 1, 2, 4, 8
+    /// and so on of these, as long as one is left besides.
+    pub(crate) fn yielded(&mut self) -> bool
+        requires { 1 ≤ self.old.glances }
+        ensures reads { result ≡ true → self.new.glances + 1 ≡ self.old.glances }
+        ensures rests { result ≡ false → self.new.glances ≡ self.old.glances }
+        ensures one { 1 ≤ self.new.glances }
+        ensures pauses { self.new.pauses ≡ self.old.pauses }
+        ensures first { self.new.first ≡ self.old.first }
+    {
+        self.yields = self.yields.saturating_add(1);
+        let looks = self.yields.is_power_of_two() && self.glances > 1;
+        self.glances -= u8::from(looks);
+        looks
+    }
+
+    /// Whether so many contexts have begun since the first that it saw, by the stamp that it sees now. Whoever has no
+    /// context tells nothing of that.
+    pub(crate) fn is_late(&mut self, stamp: u64) -> bool
         ensures glances { self.new.glances ≡ self.old.glances }
         ensures pauses { self.new.pauses ≡ self.old.pauses }
         ensures seen { self.new.seen ≡ self.old.seen }
         ensures first { self.new.first ≡ (if nat_eq self.old.first 0 then stamp else self.old.first) }
-        ensures late { 0 < self.old.first → self.old.first + 16384 ≤ stamp → result ≡ true }
+        ensures late { 0 < self.old.first → self.old.first + 4096 ≤ stamp → result ≡ true }
     {
         if self.first == 0 {
             self.first = stamp;
@@ -210,9 +225,8 @@ impl Seen {
         ensures { IsTrue result ↔ EndsAfter self }
     {
         match self {
-            Seen::Nothing => true,
+            Seen::Nothing | Seen::Enough(_) => true,
             Seen::Once(_) => false,
-            Seen::Enough(plan) => plan.amid == 0,
         }
     }
 
@@ -246,35 +260,30 @@ impl Seen {
             rests,
             next: longest.min(first),
             longest,
-            amid: 0,
         })
     }
 
     /// Whether no rest is left.
     fn is_over(self) -> bool {
-        matches!(self, Seen::Enough(plan) if plan.rests == 0 && plan.amid == 0)
+        matches!(self, Seen::Enough(plan) if plan.rests == 0)
     }
 
-    /// The pauses of the next rest, or of the next part of one.
+    /// The pauses of the next rest.
     fn pauses(&mut self) -> u32 {
         match self {
-            Seen::Enough(plan) => plan.part(),
+            Seen::Enough(plan) => plan.rest(),
             _ => MOMENT,
         }
     }
 }
 
 impl Plan {
-    /// The pauses of the next part; where no rest has begun, of the next rest.
-    fn part(&mut self) -> u32 {
-        if self.amid == 0 {
-            self.rests = self.rests.saturating_sub(1);
-            self.amid = self.next;
-            self.next = self.longest.min(self.next.saturating_mul(2));
-        }
-        let part = self.amid.min(PART);
-        self.amid -= part;
-        part
+    /// The pauses of the next rest, which is one fewer that is left.
+    fn rest(&mut self) -> u32 {
+        let pauses = self.next;
+        self.rests = self.rests.saturating_sub(1);
+        self.next = self.longest.min(pauses.saturating_mul(2));
+        pauses
     }
 }
 

@@ -1,7 +1,7 @@
 //! Whoever has just lost its first try for a lock stays away from it for a while, before it joins the wait list: one
 //! waiter there makes everybody else go through the guard.
 
-ghost use Rattle.std.specs.Prelude.{◌≡◌, ◌<◌};
+ghost use Rattle.std.specs.Prelude.{◌≡◌, ◌<◌, ◌≤◌, ◌+◌};
 ghost use Rattle.ww_view.specs.View.{IsAway};
 ghost use Rattle.ww_table.specs.Seat.{IsSeatOf, locks_of, view_of};
 ghost use Rattle.ww_seat.specs.Looks.{HasGlanced};
@@ -12,19 +12,53 @@ use crate::resting::{BREATH, MOST_GLANCES, Rest, Stay};
 use std::{hint, thread};
 use ww_table::{Board, Seat16};
 
-fn pause_for(pauses: u32) {
+pub(crate) fn pause_for(pauses: u32) {
     for _ in 0..pauses {
         hint::spin_loop();
     }
 }
 
-/// Rests as it is told to.
-fn take_rest(rest: Rest) {
+/// Whether the call sees that it is late, once it has let other threads run.
+fn sees_late(seat: &mut Seat16, board: &Board, stay: &mut Stay) -> bool
+    requires seat { IsSeatOf board.now seat.old }
+    requires away { IsAway (view_of seat.old) }
+    requires one { 1 ≤ stay.old.glances }
+    requires few { (view_of seat.old).glances + stay.old.glances ≤ 16 }
+    ensures seat { IsSeatOf board.now seat.new }
+    ensures glanced { HasGlanced seat.old.seat.me seat.new.seat.me }
+    ensures records { seat.new.records ≡ seat.old.records }
+    ensures one { 1 ≤ stay.new.glances }
+    ensures few { (view_of seat.new).glances + stay.new.glances ≤ 16 }
+{
+    if !stay.yielded() {
+        return false;
+    }
+    let begun = seat.begun(board);
+    stay.is_late(begun)
+}
+
+/// Rests as it is told to, and lets other threads run meanwhile. Where these ran for so long that the call is late, it ends
+/// the rest and answers true.
+fn take_rest(seat: &mut Seat16, board: &Board, stay: &mut Stay, rest: Rest) -> bool
+    requires seat { IsSeatOf board.now seat.old }
+    requires away { IsAway (view_of seat.old) }
+    requires one { 1 ≤ stay.old.glances }
+    requires few { (view_of seat.old).glances + stay.old.glances ≤ 16 }
+    ensures seat { IsSeatOf board.now seat.new }
+    ensures glanced { HasGlanced seat.old.seat.me seat.new.seat.me }
+    ensures records { seat.new.records ≡ seat.old.records }
+    ensures one { 1 ≤ stay.new.glances }
+    ensures few { (view_of seat.new).glances + stay.new.glances ≤ 16 }
+{
     for _ in 0..rest.yields {
         pause_for(BREATH);
         thread::yield_now();
+        if sees_late(seat, board, stay) {
+            return true;
+        }
     }
     pause_for(rest.pauses % BREATH);
+    false
 }
 
 /// Stays away from a lock that it has just tried in vain, until nobody owns it, or for as long as its patience says.
@@ -51,6 +85,8 @@ pub(crate) fn stay_away(
         let Some(rest) = patience.next(&mut stay, owner) else {
             return;
         };
-        take_rest(rest);
+        if take_rest(seat, board, &mut stay, rest) {
+            return;
+        }
     }
 }

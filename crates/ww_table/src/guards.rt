@@ -14,8 +14,8 @@ ghost use Rattle.ww_rule.specs.Waiting.{HasListOnTop};
 use crate::board::Board;
 use crate::seat::Seat16;
 use ww_rule::bring;
-use ww_rule::layout::{guard_word, list_slot, owner_word};
-use ww_rule::plays_inside::{Enter, Exit, Glance, Look};
+use ww_rule::layout::{STAMP, guard_word, list_slot, owner_word};
+use ww_rule::plays_inside::{Count, Enter, Exit, Glance, Look};
 use ww_word::{Owner, unpack};
 
 impl Seat16 {
@@ -109,5 +109,17 @@ impl Seat16 {
             Some(owner) => owner,
             None => unreachable!(),
         }
+    }
+
+    /// How many contexts have begun, as the stamp word told from outside all guards. It is a guess as well, and counts
+    /// as a spin read.
+    pub fn begun(&mut self, board: &Board) -> u64
+        requires seat { IsSeatOf board.now self.old }
+        requires may { MayGlance (view_of self.old) }
+        ensures seat { IsSeatOf board.now self.new }
+        ensures records { self.new.records ≡ self.old.records }
+        ensures glanced { self.new.seat.me ≡ (glancing self.old.seat.me.0, self.old.seat.me.1) }
+    {
+        board.table.shared.load::<Count>(&mut self.seat, STAMP)
     }
 }

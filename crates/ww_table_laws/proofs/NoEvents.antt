@@ -29,6 +29,10 @@ module _ (key : Start) (s : St) (r : Ruled key s) (id : ℕ) (me : Sat) (here : 
   glance_stays n = moves.looks_on key s r id me here seated (144 + 8 * n) (glanced me.0.part.core) refl (λ m. refl)
       (mine_glanced r.core me.0.part.core mine.part.knows)
 
+  pub count_stays : Stays key s r (read s 128 id me (glancing me.0))
+  count_stays = moves.looks_on key s r id me here seated 128 (glanced me.0.part.core) refl (λ m. refl)
+      (mine_glanced r.core me.0.part.core mine.part.knows)
+
   pub own_sign_stays : IsNotedOnly key s r id me (8 * me.0.part.core.who)
   own_sign_stays = let c = r.core in let v = me.0.part.core in let k = mine.part.knows in let i = 8 * v.who in let x = get_or s.words i 0 in
       let tells : x ≡ c.sign v.who = r.words.signs v.who (let z = k.itself.seat in let y = r.places in omega arith) in record {

@@ -33,6 +33,11 @@ abbrev pub GlanceIsNoEvent : Type 0
 GlanceIsNoEvent = (key : Start) (s : St) (r : Ruled key s) (id : ℕ) (me : Sat) (n : ℕ) → Steps s id me →
     Stays key s r (read s (owner_at n) id me (glancing me.0))
 
+-- a spin read of the stamp word
+abbrev pub CountIsNoEvent : Type 0
+CountIsNoEvent = (key : Start) (s : St) (r : Ruled key s) (id : ℕ) (me : Sat) → Steps s id me →
+    Stays key s r (read s stamp_at id me (glancing me.0))
+
 -- a look at the own sign: what is found is noted, or that nothing was; so too where a context doesn't end, being signed
 pub record IsNotedOnly (key : Start) (s : St) (r : Ruled key s) (id : ℕ) (me : Sat) (i : ℕ) : Type 0 where
   pub found : (slice_index s.words i ≡ 0 → IsQuiet me.0.part.core) → Stays key s r (read s i id me (reading me.0 (slice_index s.words i)))

@@ -1,7 +1,7 @@
 //! Laws of what is no event of the core: each function's contract is one. A step's own call rests on the lemma that its
 //! law does.
 
-ghost use Rattle.ww_table_laws.specs.NoEvents.{LookIsNoEvent, GlanceIsNoEvent, OwnSignIsNoEvent, LostIsNoEvent, LostSignIsNoEvent, SplitIsNoEvent, JoinIsNoEvent};
+ghost use Rattle.ww_table_laws.specs.NoEvents.{LookIsNoEvent, GlanceIsNoEvent, CountIsNoEvent, OwnSignIsNoEvent, LostIsNoEvent, LostSignIsNoEvent, SplitIsNoEvent, JoinIsNoEvent};
 
 /// A look at an owner word leaves core and commits as they are.
 pub fn look_is_no_event()
@@ -11,6 +11,11 @@ pub fn look_is_no_event()
 /// So does a spin read of one.
 pub fn glance_is_no_event()
     ensures { GlanceIsNoEvent }
+{}
+
+/// So does one of the stamp word.
+pub fn count_is_no_event()
+    ensures { CountIsNoEvent }
 {}
 
 /// So does a look at the own sign.
