@@ -129,7 +129,7 @@ IsEndAnswer s _ s' = ⊥
 
 -- all of a stay is left: fourteen spin reads, and 12,416 pauses in all its rests
 abbrev pub IsWholeStay : Stay → Type 0
-IsWholeStay stay = (stay.glances ≡ 14) × (stay.pauses ≡ 12416)
+IsWholeStay stay = (stay.glances ≡ 16) × (stay.pauses ≡ 12416)
 
 -- the first step: it has the lock, or stays away from it
 abbrev pub IsLockAnswer : Situation → ℕ → Waits → Answer → Situation → Type 0
