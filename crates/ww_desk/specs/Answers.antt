@@ -127,7 +127,7 @@ IsEndAnswer s _ s' = ⊥
 
 -- ---- taking a lock
 
--- all of a stay is left: fourteen spin reads, and 12,416 pauses in all its rests
+-- all of a stay is left: sixteen spin reads, and 12,416 pauses in all its rests
 abbrev pub IsWholeStay : Stay → Type 0
 IsWholeStay stay = (stay.glances ≡ 16) × (stay.pauses ≡ 12416)
 
