@@ -1,9 +1,10 @@
 use Rattle.std.proofs.Common.{◌≡◌, ◌<◌, ℕ, List, ap, arith, false, length, refl, subst, ◌∙◌}
 use Rattle.ww_plain.specs.Numbers.{is_among}
 use Rattle.ww_seat.specs.declared.waiting.Stop.{Stop}
+use Rattle.ww_seat.specs.Calls.{MayStop}
 use Rattle.ww_lock.specs.Holding.{Holding}
 use Rattle.ww_lock.specs.Carried.{holding_of}
-use Rattle.ww_lock.specs.Moves.{IsStop, MayEnd}
+use Rattle.ww_lock.specs.Moves.{IsStop}
 use Rattle.ww_lock.proofs.acquiring.Acquiring.wait_as.Goals as goal
 
 pub invariant_of-result : goal.invariant_of-result
@@ -27,7 +28,7 @@ returns-in-Err-Deadlk g c = λ s was.
 
 pub returns-in-Err-Interrupted : goal.returns-in-Err-Interrupted
 returns-in-Err-Interrupted g c = λ s was. (
-  subst (λ (why : Stop). MayEnd c.args.waits why) c.in-Err-Interrupted.field-0-is c.in-Err-Interrupted.ensures.waits,
+  subst (λ (why : Stop). MayStop c.args.waits why) c.in-Err-Interrupted.field-0-is c.in-Err-Interrupted.ensures.waits,
   subst (λ (why : Stop). IsStop s c.args.n why (holding_of c.wait_for.new.self)) c.in-Err-Interrupted.field-0-is
       (c.in-Err-Interrupted.ensures.stopped s (ap holding_of c.deref_mut.ensures.value ∙ was)),
 )
