@@ -10,7 +10,7 @@ use Rattle.ww_view.specs.Made.{fast_missed}
 use Rattle.ww_rule.specs.declared.cells.Part.{Part}
 use Rattle.ww_rule.specs.declared.cells.Sight.{Sight}
 use Rattle.ww_rule.specs.declared.cells.Start.{Start}
-use Rattle.ww_rule.specs.Layout.{owner_at, sign_at}
+use Rattle.ww_rule.specs.Layout.{owner_at, sign_at, stamp_at}
 use Rattle.ww_rule.specs.Rule.{St, Sat, Ruled, Stays}
 use Rattle.ww_rule.specs.Steps.{knowing, keeping, nobody, first_seat, without_first, with_seat}
 use Rattle.ww_rule.specs.Guards.{lost, shutting_out, looking, glancing}
