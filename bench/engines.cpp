@@ -1,30 +1,24 @@
 /*
- * Transactions a second under several engines, side by side: the proved locks in
- * both kinds, one mutex for all, one mutex a lock in sorted order, and
- * std::scoped_lock over these.  engines SECONDS PAUSES prints a row for each
- * workload: threads, locks of a transaction, locks; each transaction works for so
- * many pauses of the processor under its locks.  Then what one lock costs a
- * thread that nobody disturbs, and what it takes to open a world.  The kernel's
- * own code would be an engine more, but its source isn't at hand here.
+ * Transactions by one engine, the same for all of them: the proved locks by each
+ * of their interfaces in both kinds, one mutex for all, one mutex a lock in sorted
+ * order, std::scoped_lock over these, and no lock at all, for one thread.
  *
- * engines threads SECONDS GOES prints what bench/plot draws: for some workloads
- * and each engine, by 1 to 16 threads, a line for each go: transactions a second,
- * in thousands, and, of another run that times each transaction by itself, the
- * microseconds of the longest one. Two more workloads, with four threads alone, are
- * for tables.
+ * engines go ENGINE THREADS TAKES LOCKS SECONDS INSIDE OUTSIDE HOW: each thread
+ * draws TAKES of LOCKS locks, acquires them, works for INSIDE pauses of the
+ * processor, adds 1 to what each lock guards, releases all, and works for OUTSIDE
+ * pauses; once they take both of two locks, threads do so in opposite orders. HOW
+ * has `t` where each transaction is timed by itself, and `a` where each thread has
+ * LOCKS of its own. It prints how many were done, in how many nanoseconds, how many
+ * the thread did that did fewest; and where they were timed, how many nanoseconds
+ * the longest wait for all locks of one took, and how many of others were begun and
+ * ended meanwhile.
  *
- * engines waits ENGINE THREADS TAKES LOCKS SECONDS INSIDE OUTSIDE times each
- * transaction of one engine and one workload by itself; each works for so many
- * pauses under its locks, and for so many behind them. It prints four numbers: how
- * many transactions were done, how many the thread did that did fewest, how many
- * nanoseconds the longest wait for all locks of one took, and how many of others
- * were begun and ended meanwhile.
- *
- * engines contexts LOCKS TAKES WAY TIMES makes so many contexts by one thread and
- * prints nothing, for who counts instructions: each takes TAKES of LOCKS locks,
- * and releases them by WAY: all at once, in the order of taking, or backwards.
+ * engines contexts ENGINE TAKES LOCKS TIMES makes so many by one thread, and prints
+ * nothing: for who counts what they do. engines open CONTEXTS LOCKS prints the bytes
+ * of the heap that an open class has, those that are resident, and the milliseconds
+ * of opening it. engines peer prints the name of the peer, if there is one: another
+ * implementation of wound/wait mutexes, which peer.h has as `struct here` below.
  */
-#include "../c/ww.h"
 #include <algorithm>
 #include <array>
 #include <atomic>
@@ -40,57 +34,313 @@
 #include <pthread.h>
 #include <string_view>
 #include <thread>
+#include <unistd.h>
 #include <utility>
 #include <vector>
+#include <ww.h>
+#include <ww_mutex.h>
+#if __has_include(<peer.h>)
+#include <peer.h>
+#define HAS_PEER
+#endif
 
 namespace {
 
-enum engine { wound_wait, wait_die, one_mutex, sorted_mutexes, scoped_lock, engines };
-constexpr unsigned most = WW_MAX_LOCKS, most_taken = 32, goes = 3;
-constexpr std::array<const char *, engines> names{ "wound-wait", "wait-die", "one mutex", "sorted", "scoped_lock" };
+using steady = std::chrono::steady_clock;
+constexpr unsigned most_taken = 32, none = ~0u;
+constexpr auto relaxed = std::memory_order_relaxed;
+using list = std::array<unsigned, most_taken>;
 
 struct workload {
 	unsigned threads, takes, locks;
-};
-// Where a transaction takes both of two locks, threads take them in opposite orders.
-constexpr workload workloads[]{ { 1, 1, 64 },	 { 1, 2, 64 },	  { 1, 8, 64 },	  { 2, 2, 64 },	   { 4, 2, 64 },
-				{ 4, 8, 64 },	 { 4, 2, 4 },	  { 4, 2, 2 },	  { 1, 2, 4096 },  { 1, 2, 65536 },
-				{ 4, 2, 4096 }, { 4, 2, 65536 }, { 4, 8, 4096 }, { 4, 8, 65536 } };
+	double seconds;
+	unsigned inside, outside;
+	bool times_each, is_apart;
+} now;
 
-struct alignas(64) node {
-	long value;
-	std::mutex mutex;
-};
-std::vector<node> nodes(most);
-struct alignas(64) global {
-	pthread_mutex_t mutex = PTHREAD_MUTEX_INITIALIZER;
-} all;
-using list = std::array<unsigned, most_taken>;
+enum status { cant_open = 1, wrong_sum, wrong_words, wrong_answer };
 
-workload now;
-unsigned pauses, outside;
-bool times_each;
-std::atomic<bool> stops;
-using steady = std::chrono::steady_clock;
-
-// What a thread did, and how long its longest transaction took where each is timed.
-struct tally {
-	unsigned long done = 0;
-	steady::duration longest{ 0 };
-};
-
-void draw(unsigned me, unsigned &x, list &it)
+void must(int answer)
 {
-	if (now.takes == now.locks) {
-		for (unsigned k = 0; k < now.takes; k++)
-			it[k] = me & 1 ? now.locks - 1 - k : k;
-		return;
-	}
-	for (unsigned k = 0; k < now.takes;) {
-		it[k] = (x = x * 1664525u + 1013904223u) >> 10 & (now.locks - 1);
-		k += std::find(it.begin(), it.begin() + k, it[k]) == it.begin() + k;
-	}
+	if (answer)
+		std::exit(wrong_answer);
 }
+
+// A lock lies beside what it guards, on a cache line of both.
+template <class Lock> struct alignas(64) node {
+	long value = 0;
+	Lock lock;
+};
+template <class Lock> using nodes = std::vector<node<Lock>>;
+struct no_lock {};
+
+// How many locks there are, and those of a thread, from this one on.
+unsigned all_locks() { return now.is_apart ? now.threads * now.locks : now.locks; }
+unsigned first_of(unsigned thread) { return now.is_apart ? thread * now.locks : 0; }
+
+struct nothing {
+	using lock = no_lock;
+	explicit nothing(nodes<lock> &) {}
+	struct thread {
+		thread(nothing &, unsigned) {}
+	};
+	template <class Fn> void transact(thread &, nodes<lock> &, list &, Fn &&fn) { fn(); }
+};
+
+class one_mutex {
+	alignas(64) std::mutex mutex;
+
+public:
+	using lock = no_lock;
+	explicit one_mutex(nodes<lock> &) {}
+	struct thread {
+		thread(one_mutex &, unsigned) {}
+	};
+	template <class Fn> void transact(thread &, nodes<lock> &, list &, Fn &&fn)
+	{
+		std::lock_guard held(mutex);
+
+		fn();
+	}
+};
+
+struct sorted_mutexes {
+	using lock = std::mutex;
+	explicit sorted_mutexes(nodes<lock> &) {}
+	struct thread {
+		thread(sorted_mutexes &, unsigned) {}
+	};
+	template <class Fn> void transact(thread &, nodes<lock> &all, list &it, Fn &&fn)
+	{
+		std::sort(it.begin(), it.begin() + now.takes);
+		for (unsigned k = 0; k < now.takes; k++)
+			all[it[k]].lock.lock();
+		fn();
+		for (unsigned k = now.takes; k-- > 0;)
+			all[it[k]].lock.unlock();
+	}
+};
+
+class scoped_lock {
+	template <class Fn, std::size_t... Index>
+	static void by(nodes<std::mutex> &all, const list &it, Fn &&fn, std::index_sequence<Index...>)
+	{
+		std::scoped_lock held(all[it[Index]].lock...);
+
+		fn();
+	}
+
+public:
+	using lock = std::mutex;
+	explicit scoped_lock(nodes<lock> &) {}
+	struct thread {
+		thread(scoped_lock &, unsigned) {}
+	};
+	// How many mutexes it takes is fixed as it is compiled.
+	template <class Fn> void transact(thread &, nodes<lock> &all, list &it, Fn &&fn)
+	{
+		switch (now.takes) {
+		case 1: return by(all, it, fn, std::make_index_sequence<1>());
+		case 2: return by(all, it, fn, std::make_index_sequence<2>());
+		case 4: return by(all, it, fn, std::make_index_sequence<4>());
+		case 8: return by(all, it, fn, std::make_index_sequence<8>());
+		default: std::exit(wrong_words);
+		}
+	}
+};
+
+// ww.h
+template <ww_kind kind> class numbers {
+	ww_world *world = nullptr;
+
+public:
+	using lock = no_lock;
+	explicit numbers(nodes<lock> &)
+	{
+		if (ww_open(&world, kind, all_locks(), now.threads))
+			std::exit(cant_open);
+	}
+	numbers(const numbers &) = delete;
+	~numbers() { must(ww_close(world)); }
+
+	struct thread {
+		ww_seat *seat;
+
+		thread(numbers &of, unsigned) : seat(ww_seat_get(of.world)) {}
+		thread(const thread &) = delete;
+		~thread() { must(ww_seat_put(seat)); }
+	};
+
+	template <class Fn> void transact(thread &me, nodes<lock> &, list &it, Fn &&fn)
+	{
+		ww_seat *const seat = me.seat;
+		unsigned slow = none;
+
+		must(ww_begin(seat));
+		for (;;) {
+			int answer = 0;
+			unsigned k = 0;
+
+			if (slow != none)
+				must(ww_lock_slow(seat, slow));
+			for (; k < now.takes && !answer; k++)
+				if (it[k] != slow)
+					answer = ww_lock(seat, it[k]);
+			if (!answer)
+				break;
+			if (answer != -EDEADLK)
+				std::exit(wrong_answer);
+			ww_unlock_all(seat);
+			slow = it[k - 1];
+		}
+		fn();
+		ww_unlock_all(seat);
+		ww_end(seat);
+	}
+};
+
+// ww_mutex.h, as what follows asks for it; a peer has the same.
+struct here {
+	using class_ = ww_class;
+	using mutex = ww_mutex;
+	using context = ww_acquire_ctx;
+
+	static void begin_thread() {}
+	static void open(class_ &c, int is_wait_die, unsigned mutexes, unsigned contexts)
+	{
+		ww_class_init(&c, is_wait_die, "bench");
+		if (ww_class_limit(&c, mutexes, contexts) || ww_class_open(&c))
+			std::exit(cant_open);
+	}
+	static void close(class_ &c) { must(ww_class_free(&c)); }
+	static void make(mutex &m, class_ &c) { ww_mutex_init(&m, &c); }
+	static void destroy(mutex &m) { must(ww_mutex_destroy(&m)); }
+	static void begin(context &x, class_ &c) { ww_acquire_init(&x, &c); }
+	static int lock(mutex &m, context &x) { return ww_mutex_lock(&m, &x); }
+	static void lock_slow(mutex &m, context &x) { ww_mutex_lock_slow(&m, &x); }
+	static void unlock(mutex &m) { ww_mutex_unlock(&m); }
+	static void end(context &x) { ww_acquire_fini(&x); }
+};
+
+// The kernel's calls as its document has them.
+struct plainly {
+	template <class Of, class Fn>
+	static void transact(typename Of::class_ &c, nodes<typename Of::mutex> &all, list &it, Fn &&fn)
+	{
+		typename Of::context x;
+		unsigned slow = none;
+
+		Of::begin(x, c);
+		for (;;) {
+			int answer = 0;
+			unsigned k = 0;
+
+			if (slow != none)
+				Of::lock_slow(all[slow].lock, x);
+			for (; k < now.takes && !answer; k++)
+				if (it[k] != slow)
+					answer = Of::lock(all[it[k]].lock, x);
+			if (!answer)
+				break;
+			if (answer != -EDEADLK)
+				std::exit(wrong_answer);
+			const unsigned contended = it[--k];
+
+			while (k-- > 0)
+				if (it[k] != slow)
+					Of::unlock(all[it[k]].lock);
+			if (slow != none)
+				Of::unlock(all[slow].lock);
+			slow = contended;
+		}
+		fn();
+		for (unsigned k = now.takes; k-- > 0;)
+			Of::unlock(all[it[k]].lock);
+		Of::end(x);
+	}
+};
+
+// The loop that backs off by itself.
+struct by_loop {
+	static void acquire(ww_acquire_ctx &x, nodes<ww_mutex> &all, const list &it)
+	{
+		ww_until_all_locked(&x) {
+			for (unsigned k = 0; k < now.takes; k++) {
+				const int answer = ww_mutex_lock(&all[it[k]].lock, &x);
+
+				ww_retry_on_contention(&x);
+				if (answer)
+					std::exit(wrong_answer);
+			}
+		}
+	}
+
+	template <class, class Fn> static void transact(ww_class &c, nodes<ww_mutex> &all, list &it, Fn &&fn)
+	{
+		ww_acquire_ctx x;
+
+		ww_acquire_init(&x, &c);
+		acquire(x, all, it);
+		fn();
+		ww_acquire_unlock_all(&x);
+		ww_acquire_fini(&x);
+	}
+};
+
+struct by_list {
+	template <class, class Fn> static void transact(ww_class &c, nodes<ww_mutex> &all, list &it, Fn &&fn)
+	{
+		ww_acquire_ctx x;
+		std::array<ww_mutex *, most_taken> wanted;
+
+		for (unsigned k = 0; k < now.takes; k++)
+			wanted[k] = &all[it[k]].lock;
+		ww_acquire_init(&x, &c);
+		must(ww_mutex_lock_all(&x, wanted.data(), now.takes));
+		fn();
+		for (unsigned k = now.takes; k-- > 0;)
+			ww_mutex_unlock(wanted[k]);
+		ww_acquire_fini(&x);
+	}
+};
+
+// Of one class, or each thread of its own.
+template <ww_kind kind, class Way, class Of = here, bool has_own = false> class mutexes {
+	nodes<typename Of::mutex> &all;
+	std::vector<typename Of::class_> classes;
+
+public:
+	using lock = typename Of::mutex;
+	explicit mutexes(nodes<lock> &all) : all(all), classes(has_own ? now.threads : 1)
+	{
+		const std::size_t each = all.size() / classes.size();
+
+		Of::begin_thread();
+		for (auto &it : classes)
+			Of::open(it, kind, unsigned(each), has_own ? 1 : now.threads);
+		for (std::size_t k = 0; k < all.size(); k++)
+			Of::make(all[k].lock, classes[k / each]);
+	}
+	mutexes(const mutexes &) = delete;
+	~mutexes()
+	{
+		for (auto &it : all)
+			Of::destroy(it.lock);
+		for (auto &it : classes)
+			Of::close(it);
+	}
+
+	struct thread {
+		typename Of::class_ &its;
+
+		thread(mutexes &of, unsigned me) : its(of.classes[has_own ? me : 0]) { Of::begin_thread(); }
+	};
+
+	template <class Fn> void transact(thread &me, nodes<lock> &nodes, list &it, Fn &&fn)
+	{
+		Way::template transact<Of>(me.its, nodes, it, fn);
+	}
+};
 
 void pause_for(unsigned times)
 {
@@ -102,224 +352,160 @@ void pause_for(unsigned times)
 #endif
 }
 
-// What each thread waited for, where transactions are timed one by one.
-struct alignas(128) wait {
-	steady::time_point from;
-	unsigned long others_before, longest, passed_by;
+void draw(unsigned me, unsigned &x, list &it)
+{
+	const unsigned first = first_of(me);
+
+	if (now.takes == now.locks) {
+		for (unsigned k = 0; k < now.takes; k++)
+			it[k] = first + (me & 1 ? now.locks - 1 - k : k);
+		return;
+	}
+	for (unsigned k = 0; k < now.takes;) {
+		x = x * 1664525u + 1013904223u;
+		it[k] = first + unsigned(std::uint64_t{ x } * now.locks >> 32);
+		k += std::find(it.begin(), it.begin() + k, it[k]) == it.begin() + k;
+	}
+}
+
+// What a thread did, and what it waited for, where transactions are timed one by one.
+struct alignas(128) tally {
+	unsigned long done = 0, longest = 0, passed_by = 0;
 };
-std::array<wait, WW_MAX_SEATS> waits;
 struct alignas(128) counter {
 	std::atomic<unsigned long> locked;
 } all_threads;
+std::atomic<bool> stops;
 
-void begin_wait(unsigned me)
-{
-	waits[me].others_before = all_threads.locked.load(std::memory_order_relaxed);
-	waits[me].from = steady::now();
-}
+class timed {
+	tally &of;
+	const unsigned long others = all_threads.locked.load(relaxed);
+	const steady::time_point from = steady::now();
 
-void end_wait(unsigned me)
-{
-	const std::chrono::nanoseconds took = steady::now() - waits[me].from;
-	const unsigned long others = all_threads.locked.fetch_add(1, std::memory_order_relaxed) - waits[me].others_before;
+public:
+	explicit timed(tally &of) : of(of) {}
+	void has_all() const
+	{
+		const std::chrono::nanoseconds took = steady::now() - from;
 
-	waits[me].longest = std::max(waits[me].longest, static_cast<unsigned long>(took.count()));
-	waits[me].passed_by = std::max(waits[me].passed_by, others);
-}
-
-// What a transaction does once it holds all its locks.
-void add(unsigned me, const list &it)
-{
-	if (times_each)
-		end_wait(me);
-	pause_for(pauses);
-	for (unsigned k = 0; k < now.takes; k++)
-		nodes[it[k]].value++;
-}
-
-void by_ww(unsigned me, ww_seat *s, const list &it)
-{
-	unsigned slow = most;
-	int r = ww_begin(s);
-
-	while (!r) {
-		unsigned k;
-
-		r = slow < most ? ww_lock_slow(s, slow) : 0;
-		for (k = 0; k < now.takes && !r; k++)
-			if (it[k] != slow)
-				r = ww_lock(s, it[k]);
-		if (r != -EDEADLK)
-			break;
-		ww_unlock_all(s);
-		slow = it[k - 1];
-		r = 0;
+		of.longest = std::max(of.longest, static_cast<unsigned long>(took.count()));
+		of.passed_by = std::max(of.passed_by, all_threads.locked.fetch_add(1, relaxed) - others);
 	}
-	if (r)
-		std::exit(4);
-	add(me, it);
-	ww_unlock_all(s);
-	ww_end(s);
-}
-
-void by_one(unsigned me, const list &it)
-{
-	pthread_mutex_lock(&all.mutex);
-	add(me, it);
-	pthread_mutex_unlock(&all.mutex);
-}
-
-void by_sorted(unsigned me, list &it)
-{
-	std::sort(it.begin(), it.begin() + now.takes);
-	for (unsigned k = 0; k < now.takes; k++)
-		pthread_mutex_lock(nodes[it[k]].mutex.native_handle());
-	add(me, it);
-	for (unsigned k = now.takes; k-- > 0;)
-		pthread_mutex_unlock(nodes[it[k]].mutex.native_handle());
-}
-
-template <std::size_t... Index> void by_scoped(unsigned me, const list &it, std::index_sequence<Index...>)
-{
-	std::scoped_lock held(nodes[it[Index]].mutex...);
-
-	add(me, it);
-}
-
-// How many mutexes a scoped lock takes is fixed as it is compiled.
-void by_scoped(unsigned me, const list &it)
-{
-	switch (now.takes) {
-	case 1: return by_scoped(me, it, std::make_index_sequence<1>());
-	case 2: return by_scoped(me, it, std::make_index_sequence<2>());
-	case 4: return by_scoped(me, it, std::make_index_sequence<4>());
-	case 8: return by_scoped(me, it, std::make_index_sequence<8>());
-	default: std::exit(3);
-	}
-}
-
-void transact(engine by, unsigned me, ww_seat *s, list &it)
-{
-	switch (by) {
-	case wound_wait:
-	case wait_die: return by_ww(me, s, it);
-	case one_mutex: return by_one(me, it);
-	case sorted_mutexes: return by_sorted(me, it);
-	default: by_scoped(me, it);
-	}
-}
-
-// Transactions until it is stopped.
-tally work(engine by, unsigned me, ww_world *world)
-{
-	unsigned x = 77 * me + 1;
-	list it;
-	ww_seat *s = by <= wait_die ? ww_seat_get(world) : nullptr;
-	tally mine;
-
-	for (; !stops.load(std::memory_order_relaxed); mine.done++) {
-		draw(me, x, it);
-		if (!times_each) {
-			transact(by, me, s, it);
-			continue;
-		}
-		begin_wait(me);
-		const auto from = steady::now();
-		transact(by, me, s, it);
-		mine.longest = std::max(mine.longest, steady::now() - from);
-		pause_for(outside);
-	}
-	if (s)
-		ww_seat_put(s);
-	return mine;
-}
-
-// Transactions a second, and the microseconds of the longest one where each is timed; how many there were, and how many
-// of the thread that made fewest.
-struct speed {
-	double rate, longest;
-	unsigned long done, fewest;
 };
 
-// The sum of all values has to be that of what was done.
-speed run(engine by, double seconds)
+template <class Engine> void add_to(nodes<typename Engine::lock> &all, const list &it)
 {
+	pause_for(now.inside);
+	for (unsigned k = 0; k < now.takes; k++)
+		all[it[k]].value++;
+}
+
+// Transactions of a thread, as long as this says so.
+template <class Engine, class Fn>
+tally work(Engine &engine, nodes<typename Engine::lock> &all, unsigned me, Fn &&goes_on)
+{
+	typename Engine::thread mine(engine, me);
+	unsigned x = 77 * me + 1;
+	list it;
+	tally told;
+
+	for (; goes_on(told.done); told.done++) {
+		draw(me, x, it);
+		if (now.times_each) {
+			const timed wait(told);
+
+			engine.transact(mine, all, it, [&] {
+				wait.has_all();
+				add_to<Engine>(all, it);
+			});
+		} else {
+			engine.transact(mine, all, it, [&] { add_to<Engine>(all, it); });
+		}
+		pause_for(now.outside);
+	}
+	return told;
+}
+
+// The sum of all values has to be that of what was done.
+template <class Engine> void go()
+{
+	nodes<typename Engine::lock> all(all_locks());
 	std::vector<std::thread> threads;
 	std::vector<tally> tallies(now.threads);
-	ww_world *world = nullptr;
+	tally most;
 	unsigned long done = 0, fewest = ~0ul;
-	std::chrono::duration<double, std::micro> longest{ 0 };
 	long sum = 0;
+	Engine engine(all);
+	pthread_barrier_t start;
 
-	stops = false;
-	for (node &it : nodes)
-		it.value = 0;
-	if (by <= wait_die && ww_open(&world, by, now.locks, now.threads))
-		std::exit(1);
-	const auto from = steady::now();
+	pthread_barrier_init(&start, nullptr, now.threads + 1);
 	for (unsigned me = 0; me < now.threads; me++)
-		threads.emplace_back([&, me] { tallies[me] = work(by, me, world); });
-	std::this_thread::sleep_for(std::chrono::duration<double>(seconds));
+		threads.emplace_back([&, me] {
+			pthread_barrier_wait(&start);
+			tallies[me] = work(engine, all, me, [](unsigned long) { return !stops.load(relaxed); });
+		});
+	pthread_barrier_wait(&start);
+	const auto from = steady::now();
+	std::this_thread::sleep_for(std::chrono::duration<double>(now.seconds));
 	stops = true;
-	const std::chrono::duration<double> took = steady::now() - from;
-	for (unsigned me = 0; me < now.threads; me++) {
-		threads[me].join();
-		done += tallies[me].done;
-		fewest = std::min(fewest, tallies[me].done);
-		longest = std::max<decltype(longest)>(longest, tallies[me].longest);
+	const std::chrono::nanoseconds took = steady::now() - from;
+	for (auto &it : threads)
+		it.join();
+	pthread_barrier_destroy(&start);
+	for (const tally &it : tallies) {
+		done += it.done;
+		fewest = std::min(fewest, it.done);
+		most.longest = std::max(most.longest, it.longest);
+		most.passed_by = std::max(most.passed_by, it.passed_by);
 	}
-	for (const node &it : nodes)
+	for (const auto &it : all)
 		sum += it.value;
-	if (sum != static_cast<long>(done * now.takes) || ww_close(world))
-		std::exit(2);
-	return { static_cast<double>(done) / took.count(), longest.count(), done, fewest };
+	if (sum != static_cast<long>(done * now.takes))
+		std::exit(wrong_sum);
+	std::printf("%lu %lld %lu", done, static_cast<long long>(took.count()), fewest);
+	if (now.times_each)
+		std::printf(" %lu %lu", most.longest, most.passed_by);
+	std::puts("");
 }
 
-void time_waits(engine by, double seconds)
+template <class Engine> void contexts(unsigned long times)
 {
-	times_each = true;
-	const speed told = run(by, seconds);
-	unsigned long longest = 0, passed_by = 0;
+	nodes<typename Engine::lock> all(all_locks());
+	Engine engine(all);
 
-	for (const wait &it : waits) {
-		longest = std::max(longest, it.longest);
-		passed_by = std::max(passed_by, it.passed_by);
-	}
-	std::printf("%lu %lu %lu %lu\n", told.done, told.fewest, longest, passed_by);
+	work(engine, all, 0, [times](unsigned long done) { return done < times; });
 }
 
-// Nanoseconds that this takes, the best of some goes.
-template <class Fn> double cost(Fn &&fn)
-{
-	constexpr unsigned times = 1000000;
-	double best = 1e9;
+struct named {
+	const char *name;
+	void (*go)();
+	void (*contexts)(unsigned long);
+};
+template <class Engine> constexpr named as(const char *name) { return { name, go<Engine>, contexts<Engine> }; }
 
-	for (unsigned go = 0; go < goes; go++) {
-		const auto from = steady::now();
+constexpr ww_kind wound_wait = WW_WOUND_WAIT, wait_die = WW_WAIT_DIE;
+constexpr named engines[]{
+	as<nothing>("nothing"),
+	as<one_mutex>("one mutex"),
+	as<sorted_mutexes>("sorted"),
+	as<scoped_lock>("scoped_lock"),
+	as<numbers<wound_wait>>("ww.h wound-wait"),
+	as<numbers<wait_die>>("ww.h wait-die"),
+	as<mutexes<wound_wait, plainly>>("plain wound-wait"),
+	as<mutexes<wait_die, plainly>>("plain wait-die"),
+	as<mutexes<wound_wait, by_loop>>("loop wound-wait"),
+	as<mutexes<wait_die, by_loop>>("loop wait-die"),
+	as<mutexes<wound_wait, by_list>>("list wound-wait"),
+	as<mutexes<wait_die, by_list>>("list wait-die"),
+	as<mutexes<wound_wait, plainly, here, true>>("own class wound-wait"),
+	as<mutexes<wait_die, plainly, here, true>>("own class wait-die"),
+#ifdef HAS_PEER
+	as<mutexes<wound_wait, plainly, peer>>("peer wound-wait"),
+	as<mutexes<wait_die, plainly, peer>>("peer wait-die"),
+#endif
+};
 
-		for (unsigned k = 0; k < times; k++)
-			fn();
-		const std::chrono::duration<double, std::nano> took = steady::now() - from;
-		best = std::min(best, took.count() / times);
-	}
-	return best;
-}
-
-double cost_of_context(int kind)
-{
-	ww_world *world;
-	int faults = 0;
-
-	if (ww_open(&world, kind, 2, 1))
-		std::exit(1);
-	ww_seat *s = ww_seat_get(world);
-	const double it = cost([&] { faults |= ww_begin(s) | ww_lock(s, 1) | ww_unlock(s, 1) | ww_end(s); });
-	if (faults || ww_seat_put(s) || ww_close(world))
-		std::exit(2);
-	return it;
-}
-
-// How many bytes of the heap are in use.
+// An open class: bytes of the heap, bytes that are resident, and milliseconds.
 std::size_t heap()
 {
 	const auto told = mallinfo2();
@@ -327,185 +513,62 @@ std::size_t heap()
 	return told.uordblks + told.hblkhd;
 }
 
-// A world of so many locks: the time to open it, to take all by one context, and to release them, each the best of some.
-void world_of(unsigned locks)
+std::size_t resident()
 {
-	std::array<double, 4> best{ 1e9, 1e9, 1e9, 1e9 };
-	std::size_t bytes = 0;
-	const auto timed = [&best](unsigned which, auto &&fn) {
-		const auto from = steady::now();
+	unsigned long pages = 0;
+	std::FILE *told = std::fopen("/proc/self/statm", "r");
 
-		if (fn())
-			std::exit(6);
-		best[which] = std::min(best[which], std::chrono::duration<double, std::milli>(steady::now() - from).count());
-	};
-
-	for (unsigned go = 0; go < goes; go++) {
-		ww_world *world;
-		const std::size_t before = heap();
-
-		timed(0, [&] { return ww_open(&world, WW_WOUND_WAIT, locks, WW_MAX_SEATS); });
-		bytes = std::max(bytes, heap() - before);
-		ww_seat *s = ww_seat_get(world);
-		const auto takes_all = [&] {
-			int r = ww_begin(s);
-
-			for (unsigned n = 0; n < locks && !r; n++)
-				r = ww_lock(s, n);
-			return r;
-		};
-		timed(1, takes_all);
-		timed(2, [&] { return ww_unlock_all(s) | ww_end(s); });
-		if (takes_all())
-			std::exit(6);
-		timed(3, [&] {
-			int r = 0;
-
-			for (unsigned n = 0; n < locks; n++)
-				r |= ww_unlock(s, n);
-			return r | ww_end(s);
-		});
-		if (ww_seat_put(s) || ww_close(world))
-			std::exit(2);
-	}
-	std::printf("%6u locks, 16 seats: %8.2f MiB, opened in %8.3f ms; all taken in %8.3f, released at once in %8.3f, in the "
-		    "order of taking in %9.3f\n",
-		    locks, static_cast<double>(bytes) / (1 << 20), best[0], best[1], best[2], best[3]);
-	std::fflush(stdout);
+	if (!told || std::fscanf(told, "%*u %lu", &pages) != 1)
+		std::exit(wrong_words);
+	std::fclose(told);
+	return pages * static_cast<std::size_t>(sysconf(_SC_PAGESIZE));
 }
 
-enum way { at_once, in_order, backwards };
-
-// For who counts instructions: contexts of one thread, which take locks from all over the world.
-void contexts(unsigned locks, unsigned takes, way by, unsigned times)
+void open(unsigned contexts, unsigned locks)
 {
-	ww_world *world;
-	int r = ww_open(&world, WW_WOUND_WAIT, locks, WW_MAX_SEATS);
-	ww_seat *s = r ? nullptr : ww_seat_get(world);
-	constexpr unsigned lists = 64;
-	std::vector<unsigned> drawn;
+	ww_class its;
+	const std::size_t heap_before = heap(), resident_before = resident();
+	const auto from = steady::now();
 
-	for (unsigned i = 0; i < lists; i++)
-		for (unsigned k = 0; k < takes; k++)
-			drawn.push_back((i * (locks / lists) + k * (locks / takes)) % locks);
-	for (unsigned i = 0; i < times && !r; i++) {
-		const unsigned *list = &drawn[i % lists * takes];
-
-		r = ww_begin(s);
-		for (unsigned k = 0; k < takes && !r; k++)
-			r = ww_lock(s, list[k]);
-		for (unsigned k = 0; k < takes && by == in_order && !r; k++)
-			r = ww_unlock(s, list[k]);
-		for (unsigned k = takes; k-- > 0 && by == backwards && !r;)
-			r = ww_unlock(s, list[k]);
-		r = r | (by == at_once ? ww_unlock_all(s) : 0) | ww_end(s);
-	}
-	if (r || ww_seat_put(s) || ww_close(world))
-		std::exit(7);
+	here::open(its, WW_WOUND_WAIT, locks, contexts);
+	const std::chrono::duration<double, std::milli> took = steady::now() - from;
+	std::printf("%zu %zu %.4f\n", heap() - heap_before, resident() - resident_before, took.count());
+	here::close(its);
 }
 
-double cost_of_pair()
+unsigned number(const char *word) { return static_cast<unsigned>(std::strtoul(word, nullptr, 10)); }
+
+const named &engine_of(std::string_view name)
 {
-	std::atomic<std::uint64_t> word{ 0 };
-
-	return cost([&] {
-		std::uint64_t was = 0;
-
-		word.compare_exchange_strong(was, 1);
-		was = 1;
-		word.compare_exchange_strong(was, 0);
-	});
+	for (const named &it : engines)
+		if (name == it.name)
+			return it;
+	std::exit(wrong_words);
 }
-
-double cost_of_mutex()
-{
-	return cost([] {
-		pthread_mutex_lock(&all.mutex);
-		pthread_mutex_unlock(&all.mutex);
-	});
-}
-
-void row(double seconds)
-{
-	std::array<double, engines> best{};
-
-	for (unsigned go = 0; go < goes; go++)
-		for (unsigned by = 0; by < engines; by++)
-			best[by] = std::max(best[by], run(static_cast<engine>(by), seconds).rate);
-	std::printf("%7u  %u of %-6u", now.threads, now.takes, now.locks);
-	for (double rate : best)
-		std::printf("%14.0f", rate / 1000);
-	std::printf("%9.2f /%5.2f\n", best[wound_wait] / best[one_mutex], best[wait_die] / best[one_mutex]);
-	std::fflush(stdout);
-}
-
-// For bench/plot, and with four threads alone for tables. Where transactions work, it is for ten to twenty microseconds.
-void by_threads(double seconds, unsigned times)
-{
-	struct panel {
-		unsigned takes, locks, pauses, fewest, most;
-	};
-	constexpr panel panels[]{ { 2, 64, 0, 1, WW_MAX_SEATS }, { 8, 64, 0, 1, WW_MAX_SEATS },
-				  { 2, 4, 0, 1, WW_MAX_SEATS },	 { 2, 64, 1600, 1, WW_MAX_SEATS },
-				  { 4, 64, 0, 4, 4 },		 { 2, 2, 0, 4, 4 } };
-
-	std::puts("locks,pauses,threads,engine,rate,longest");
-	for (const panel &it : panels)
-		for (unsigned threads = it.fewest; threads <= it.most; threads *= 2)
-			for (unsigned go = 0; go < times; go++)
-				for (unsigned by = 0; by < engines; by++) {
-					now = { threads, it.takes, it.locks };
-					pauses = it.pauses;
-					times_each = false;
-					const double rate = run(static_cast<engine>(by), seconds).rate;
-					times_each = true;
-					const double longest = run(static_cast<engine>(by), seconds).longest;
-
-					std::printf("%u of %u,%u,%u,%s,%.1f,%.2f\n", it.takes, it.locks, it.pauses,
-						    threads, names[by], rate / 1000, longest);
-					std::fflush(stdout);
-				}
-}
-
-unsigned number(const char *word) { return static_cast<unsigned>(std::atoi(word)); }
 
 } // namespace
 
 int main(int count, char **words)
 {
-	if (count == 6 && !std::strcmp(words[1], "contexts")) {
-		contexts(number(words[2]), number(words[3]), static_cast<way>(number(words[4])), number(words[5]));
-		return 0;
-	}
-	if (count == 4 && !std::strcmp(words[1], "threads")) {
-		by_threads(std::atof(words[2]), number(words[3]));
-		return 0;
-	}
-	if (count == 9 && !std::strcmp(words[1], "waits")) {
-		now = { number(words[3]), number(words[4]), number(words[5]) };
-		pauses = number(words[7]);
-		outside = number(words[8]);
-		time_waits(static_cast<engine>(std::find(names.begin(), names.end(), std::string_view(words[2])) - names.begin()),
-			   std::atof(words[6]));
-		return 0;
-	}
-	const double seconds = count > 1 ? std::atof(words[1]) : 0.2;
+	const std::string_view what = count > 1 ? words[1] : "";
 
-	pauses = count > 2 ? number(words[2]) : 0;
-	std::printf("thousand transactions a second, best of %u; at the end the first two against one mutex\n", goes);
-	std::printf("threads  locks      ");
-	for (const char *name : names)
-		std::printf("%14s", name);
-	std::puts("      against");
-	for (const workload &it : workloads) {
-		now = it;
-		row(seconds);
+	if (what == "go" && count == 10) {
+		const std::string_view how = words[9];
+
+		now = { number(words[3]), number(words[4]), number(words[5]), std::atof(words[6]), number(words[7]),
+			number(words[8]), how.find('t') != how.npos, how.find('a') != how.npos };
+		engine_of(words[2]).go();
+	} else if (what == "contexts" && count == 6) {
+		now = { 1, number(words[3]), number(words[4]), 0, 0, 0, false, false };
+		engine_of(words[2]).contexts(number(words[5]));
+	} else if (what == "open" && count == 4) {
+		open(number(words[2]), number(words[3]));
+	} else if (what == "peer" && count == 2) {
+#ifdef HAS_PEER
+		std::puts(peer::name);
+#endif
+	} else {
+		return wrong_words;
 	}
-	std::printf("\nnanoseconds with nobody else: begin, lock, unlock and end %.1f / %.1f; ",
-		    cost_of_context(WW_WOUND_WAIT), cost_of_context(WW_WAIT_DIE));
-	std::printf("a pair of compare-exchanges %.1f; a mutex, locked and unlocked, %.1f\n",
-		    cost_of_pair(), cost_of_mutex());
-	for (unsigned locks : { 64u, 4096u, 65536u })
-		world_of(locks);
 	return 0;
 }

@@ -47,7 +47,7 @@ def stolen():
 
 
 class Goes:
-    """Goes of some rows, in rounds. A go in which processor time was stolen is made anew, ten times at most."""
+    """Goes of some rows, in rounds. A go in which processor time was stolen is made anew, a few times at most."""
 
     def __init__(self, words):
         self.load_before = os.getloadavg()[0]
@@ -56,8 +56,8 @@ class Goes:
         self.left_out = 0
         self.disturbed = 0
 
-    def undisturbed(self, go, *words):
-        for _ in range(ANEW):
+    def undisturbed(self, go, anew, *words):
+        for _ in range(anew):
             before = stolen()
             told = go(*words)
             if stolen() == before:
@@ -67,13 +67,13 @@ class Goes:
         self.disturbed += 1
         return told
 
-    def of(self, go, rows):
-        """What each go of each row told, where `go` is called with the words of the row."""
+    def of(self, go, rows, anew=ANEW):
+        """What each go of each row told, where `go` is called with the words of the row, so often at most."""
         end = None if self.words.minutes is None else time.monotonic() + 60 * self.words.minutes
         told = {row: [] for row in rows}
         while self.made < self.words.goes and (self.made == 0 or end is None or time.monotonic() < end):
             for row, words in rows.items():
-                told[row].append(self.undisturbed(go, *words))
+                told[row].append(self.undisturbed(go, anew, *words))
             self.made += 1
         return told
 

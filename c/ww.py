@@ -10,7 +10,8 @@ import operator
 import os
 
 WOUND_WAIT, WAIT_DIE = 0, 1
-_VERSION = 2
+_VERSION = 3
+_NAME = f"libww.so.{_VERSION}"
 _LARGEST = 2**32 - 1
 
 
@@ -37,8 +38,16 @@ _LOCKS = ("lock", "lock_interruptible", "lock_slow", "lock_slow_interruptible", 
 _CALLS |= {f"ww_{it}": (ctypes.c_int, _SEAT, _Number) for it in _LOCKS}
 
 
+def _found():
+    """Where libww.so is: beside this module, below the prefix that both were installed in, or where the loader looks."""
+    here = os.path.dirname(os.path.realpath(__file__))
+    near = [os.path.join(here, up, _NAME) for up in ("", "../..")]
+    return next((path for path in near if os.path.exists(path)), _NAME)
+
+
 def _library(path):
     """The library, with the types of its calls."""
+    path = path or _found()
     library = ctypes.CDLL(path)
     for name, (result, *words) in _CALLS.items():
         call = getattr(library, name)
@@ -49,10 +58,10 @@ def _library(path):
 
 
 class World:
-    """A world of locks. Open it with the path of libww.so; each thread takes a seat of it."""
+    """A world of locks; each thread takes a seat of it. `library` is the path of another libww.so than the installed one."""
 
-    def __init__(self, path, kind, locks, seats):
-        self._library, self._at = _library(path), ctypes.c_void_p()
+    def __init__(self, kind, locks, seats, library=None):
+        self._library, self._at = _library(library), ctypes.c_void_p()
         told(self._library.ww_open(ctypes.byref(self._at), kind, locks, seats))
 
     def close(self):
@@ -60,9 +69,17 @@ class World:
         told(self._library.ww_close(self._at))
         self._at = ctypes.c_void_p()
 
+    def __enter__(self):
+        return self
+
+    def __exit__(self, *_):
+        self.close()
+
     @contextlib.contextmanager
     def seat(self):
         """A seat, until the end of the block."""
+        if not self._at:
+            raise OSError(errno.EINVAL, "the world is closed")
         at = self._library.ww_seat_get(self._at)
         if not at:
             raise OSError(errno.EBUSY, "no seat is free")

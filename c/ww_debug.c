@@ -6,6 +6,11 @@
 #include <stdlib.h>
 #include <unistd.h>
 
+/*
+ * What others look at meanwhile is stored and read relaxed: nothing is ordered by it, and ww_class_print tells
+ * what was so at a glance.
+ */
+
 /* Of a mutex, by its number: the seat that holds it, plus one, and the thread that acquired it. */
 struct holding {
 	uint32_t seat;
@@ -20,13 +25,14 @@ struct standing {
 
 struct debug {
 	unsigned long stamps;
-	struct standing seats[WW_MAX_SEATS];
+	struct standing *seats;
 	struct holding mutexes[];
 };
 
 static unsigned long faults;
 static __thread const char *at_file; /* its address is that of the thread */
 static __thread int at_line;
+static __thread const struct ww_mutex *acquired; /* by the lock call of a context that is on its way */
 
 void ww_debug_at_(const char *file, int line)
 {
@@ -51,8 +57,13 @@ void ww_debug_fault(const char *call, const char *why)
 
 int ww_debug_open(struct ww_pool *p)
 {
-	p->debug = calloc(1, sizeof *p->debug + p->mutexes * sizeof(struct holding));
-	return p->debug ? 0 : -ENOMEM;
+	size_t size = sizeof *p->debug + p->mutexes * sizeof(struct holding);
+
+	p->debug = calloc(1, size + p->contexts * sizeof(struct standing));
+	if (!p->debug)
+		return -ENOMEM;
+	p->debug->seats = (struct standing *)(void *)((char *)p->debug + size);
+	return 0;
 }
 
 void ww_debug_free(struct ww_pool *p) { free(p->debug); }
@@ -61,17 +72,17 @@ static inline uint32_t number_of(const struct ww_pool *p, const ww_seat *s) { re
 
 void ww_debug_begun(struct ww_acquire_ctx *x)
 {
-	x->stamp = __atomic_add_fetch(&x->pool->debug->stamps, 1, __ATOMIC_RELAXED);
+	x->stamp = __atomic_add_fetch(&x->own->pool->debug->stamps, 1, __ATOMIC_RELAXED);
 	x->deadlock_inject_interval = 1;
 	x->deadlock_inject_countdown = x->stamp & 15;
-	__atomic_store_n(&x->pool->debug->seats[number_of(x->pool, x->own)].stamp, x->stamp, __ATOMIC_RELAXED);
+	__atomic_store_n(&x->own->pool->debug->seats[number_of(x->own->pool, x->own)].stamp, x->stamp, __ATOMIC_RELAXED);
 }
 
 void ww_debug_done(struct ww_acquire_ctx *x) { x->state |= IS_DONE; }
 
 void ww_debug_ended(struct ww_acquire_ctx *x)
 {
-	__atomic_store_n(&x->pool->debug->seats[number_of(x->pool, x->own)].stamp, 0, __ATOMIC_RELAXED);
+	__atomic_store_n(&x->own->pool->debug->seats[number_of(x->own->pool, x->own)].stamp, 0, __ATOMIC_RELAXED);
 }
 
 void ww_debug_waits(struct ww_pool *p, ww_seat *s, const struct ww_mutex *m)
@@ -84,14 +95,16 @@ void ww_debug_acquired(const struct ww_mutex *m, const struct ww_acquire_ctx *x,
 	struct holding *h = &m->pool->debug->mutexes[m->number];
 
 	__atomic_store_n(&h->seat, number_of(m->pool, x ? x->own : s) + 1, __ATOMIC_RELAXED);
-	h->thread = &at_file;
+	__atomic_store_n(&h->thread, &at_file, __ATOMIC_RELAXED);
+	if (x)
+		acquired = m;
 }
 
 void ww_debug_released(const struct ww_mutex *m)
 {
 	struct holding *h = &m->pool->debug->mutexes[m->number];
 
-	if (h->thread != &at_file)
+	if (__atomic_load_n(&h->thread, __ATOMIC_RELAXED) != &at_file)
 		ww_debug_fault("ww_mutex_unlock", "another thread acquired the mutex");
 	__atomic_store_n(&h->seat, 0, __ATOMIC_RELAXED);
 }
@@ -118,14 +131,19 @@ static int injected(struct ww_mutex *m, struct ww_acquire_ctx *x)
 	x->deadlock_inject_countdown = interval;
 	x->contending_lock = m;
 	x->state |= WAS_TOLD | WAS_INJECTED;
-	if (x->seat != x->own)
+	if (x->gives != x->own) {
 		x->state |= HAS_TO_BACK_OFF;
+		x->pool = NO_POOL;
+	}
 	ww_mutex_unlock(m);
 	return -EDEADLK;
 }
 
 int ww_debug_told(struct ww_mutex *m, struct ww_acquire_ctx *x, int r, bool injects)
 {
+	bool anew = acquired == m; /* What it held before stays held. */
+
+	acquired = NULL;
 	if (r == -EDEADLK)
 		x->state |= WAS_TOLD;
 	if (r == -EINVAL && injects)
@@ -135,7 +153,7 @@ int ww_debug_told(struct ww_mutex *m, struct ww_acquire_ctx *x, int r, bool inje
 	if (x->state & WAS_TOLD && x->contending_lock != m)
 		ww_debug_fault("ww_mutex_lock", "after -EDEADLK another mutex comes first");
 	x->state &= ~(unsigned)(WAS_TOLD | WAS_INJECTED);
-	return injects && x->acquired > 1 ? injected(m, x) : 0;
+	return injects && anew && x->acquired > 1 ? injected(m, x) : 0;
 }
 
 bool ww_debug_injected(const struct ww_mutex *m, const struct ww_acquire_ctx *x)
@@ -145,12 +163,18 @@ bool ww_debug_injected(const struct ww_mutex *m, const struct ww_acquire_ctx *x)
 
 /* ---- who waits for whom ---- */
 
+/* Of a seat: what it is, the seat that holds what it waits for, plus one, and another that waits for the same, plus one. */
+struct seen {
+	struct standing is;
+	uint32_t awaits, next;
+	bool holds, is_told;
+};
+
 /* What can be seen at once, though others go on meanwhile. */
 struct view {
 	const struct ww_pool *pool;
-	struct standing seats[WW_MAX_SEATS];
-	uint32_t awaits[WW_MAX_SEATS]; /* the seat that holds what it waits for, plus one */
-	bool holds[WW_MAX_SEATS];
+	struct seen *seats;
+	uint32_t *first; /* of each mutex a seat that waits for it, plus one */
 };
 
 static uint32_t holder_of(const struct ww_pool *p, uint32_t number)
@@ -159,33 +183,34 @@ static uint32_t holder_of(const struct ww_pool *p, uint32_t number)
 }
 
 /* The seat that holds a mutex, plus one: of one that is waited for, as it was seen first, so that all lines agree. */
-static uint32_t seen_holder(const struct view *v, uint32_t number, uint32_t seats)
+static uint32_t seen_holder(const struct view *v, uint32_t number)
 {
-	for (uint32_t k = 0; k < seats; k++)
-		if (v->seats[k].wants == number + 1)
-			return v->awaits[k];
-	return holder_of(v->pool, number);
+	return v->first[number] ? v->seats[v->first[number] - 1].awaits : holder_of(v->pool, number);
 }
 
-static void look(const struct ww_pool *p, struct view *v)
+static void look(const struct view *v)
 {
-	*v = (struct view){ .pool = p };
-	for (uint32_t k = 0; k < p->contexts; k++) {
-		v->seats[k].stamp = __atomic_load_n(&p->debug->seats[k].stamp, __ATOMIC_RELAXED);
-		uint32_t wants = __atomic_load_n(&p->debug->seats[k].wants, __ATOMIC_RELAXED);
-		uint32_t holder = wants ? seen_holder(v, wants - 1, k) : 0;
+	const struct ww_pool *p = v->pool;
 
+	for (uint32_t k = 0; k < p->contexts; k++) {
+		struct seen *s = &v->seats[k];
+		uint32_t wants = __atomic_load_n(&p->debug->seats[k].wants, __ATOMIC_RELAXED);
+		uint32_t holder = wants ? seen_holder(v, wants - 1) : 0;
+
+		s->is.stamp = __atomic_load_n(&p->debug->seats[k].stamp, __ATOMIC_RELAXED);
 		/* One that has just acquired what it waited for waits no more. */
-		if (holder != k + 1) {
-			v->seats[k].wants = wants;
-			v->awaits[k] = holder;
+		if (wants && holder != k + 1) {
+			s->is.wants = wants;
+			s->awaits = holder;
+			s->next = v->first[wants - 1];
+			v->first[wants - 1] = k + 1;
 		}
 	}
 	for (uint32_t n = 0; n < p->mutexes; n++) {
 		uint32_t holder = holder_of(p, n);
 
 		if (holder)
-			v->holds[holder - 1] = true;
+			v->seats[holder - 1].holds = true;
 	}
 }
 
@@ -195,9 +220,9 @@ static void print_ring(const struct view *v, FILE *to)
 	for (uint32_t k = 0; k < v->pool->contexts; k++) {
 		uint32_t at = k, youngest = k, steps = 0;
 
-		while (v->awaits[at] && steps++ < WW_MAX_SEATS) {
-			at = v->awaits[at] - 1;
-			youngest = v->seats[at].stamp > v->seats[youngest].stamp ? at : youngest;
+		while (v->seats[at].awaits && steps++ < v->pool->contexts) {
+			at = v->seats[at].awaits - 1;
+			youngest = v->seats[at].is.stamp > v->seats[youngest].is.stamp ? at : youngest;
 			if (at == k)
 				break;
 		}
@@ -206,7 +231,7 @@ static void print_ring(const struct view *v, FILE *to)
 		fputs("ring", to);
 		do {
 			fprintf(to, " %u", at);
-			at = v->awaits[at] - 1;
+			at = v->seats[at].awaits - 1;
 		} while (at != k);
 		fprintf(to, "\ncondemned %u\n", youngest);
 		return;
@@ -217,51 +242,49 @@ static void print_ring(const struct view *v, FILE *to)
 /* Those with a context first, the oldest one before the others. */
 static void print_waiters(const struct view *v, uint32_t number, FILE *to)
 {
-	bool is_told[WW_MAX_SEATS] = { false };
-
 	for (;;) {
-		uint32_t first = WW_MAX_SEATS;
+		struct seen *first = NULL;
 
-		for (uint32_t k = 0; k < v->pool->contexts; k++)
-			if (v->seats[k].wants == number + 1 && !is_told[k] &&
-			    (first == WW_MAX_SEATS || v->seats[k].stamp - 1 < v->seats[first].stamp - 1))
-				first = k;
-		if (first == WW_MAX_SEATS)
+		for (uint32_t k = v->first[number]; k; k = v->seats[k - 1].next) {
+			struct seen *s = &v->seats[k - 1];
+
+			if (!s->is_told && (!first || s->is.stamp - 1 <= first->is.stamp - 1))
+				first = s;
+		}
+		if (!first)
 			return;
-		is_told[first] = true;
-		fprintf(to, " %u/%lu%s", first, v->seats[first].stamp, v->holds[first] ? "+" : "");
+		first->is_told = true;
+		fprintf(to, " %u/%lu%s", (uint32_t)(first - v->seats), first->is.stamp, first->holds ? "+" : "");
 	}
-}
-
-static bool is_wanted(const struct view *v, uint32_t number)
-{
-	for (uint32_t k = 0; k < v->pool->contexts; k++)
-		if (v->seats[k].wants == number + 1)
-			return true;
-	return false;
 }
 
 void ww_class_print(struct ww_class *c, FILE *to)
 {
 	struct ww_pool *p = __atomic_load_n(&c->pool, __ATOMIC_ACQUIRE);
-	struct view v;
+	struct view v = { .pool = p };
 
 	if (!p)
 		return;
-	look(p, &v);
-	print_ring(&v, to);
-	for (uint32_t n = 0; n < p->mutexes; n++) {
-		uint32_t holder = seen_holder(&v, n, p->contexts);
+	v.seats = calloc(p->contexts, sizeof *v.seats);
+	v.first = calloc(p->mutexes + (size_t)1, sizeof *v.first);
+	if (v.seats && v.first) {
+		look(&v);
+		print_ring(&v, to);
+		for (uint32_t n = 0; n < p->mutexes; n++) {
+			uint32_t holder = seen_holder(&v, n);
 
-		if (!holder && !is_wanted(&v, n))
-			continue;
-		if (holder)
-			fprintf(to, "lock %u %u/%lu :", n, holder - 1, v.seats[holder - 1].stamp);
-		else
-			fprintf(to, "lock %u - :", n);
-		print_waiters(&v, n, to);
-		fputc('\n', to);
+			if (!holder && !v.first[n])
+				continue;
+			if (holder)
+				fprintf(to, "lock %u %u/%lu :", n, holder - 1, v.seats[holder - 1].is.stamp);
+			else
+				fprintf(to, "lock %u - :", n);
+			print_waiters(&v, n, to);
+			fputc('\n', to);
+		}
+		for (uint32_t k = 0; k < p->contexts; k++)
+			fprintf(to, "seat %u %lu 0\n", k, v.seats[k].is.stamp);
 	}
-	for (uint32_t k = 0; k < p->contexts; k++)
-		fprintf(to, "seat %u %lu 0\n", k, v.seats[k].stamp);
+	free(v.seats);
+	free(v.first);
 }

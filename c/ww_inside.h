@@ -4,6 +4,10 @@
 #include "ww.h"
 #include <time.h>
 
+#define LIKELY(fact) __builtin_expect(!!(fact), 1)
+#define UNLIKELY(fact) __builtin_expect(!!(fact), 0)
+#define COLD __attribute__((noinline, cold))
+
 /* The proved library isn't built for the thread sanitizer, so that is told what orders the accesses under a lock. */
 #ifdef __has_feature
 #define SANITIZES_THREADS __has_feature(thread_sanitizer)
@@ -19,16 +23,31 @@ static inline void __tsan_acquire(void *at) { (void)at; }
 static inline void __tsan_release(void *at) { (void)at; }
 #endif
 
-/* It has a cache line of its own, and begins with its handle, as ww.h says. */
+/* Two locks of a list: that acquired before this one, and after it. */
+struct ww_link {
+	uint32_t before, after;
+};
+
+struct ww_pool;
+
+/* It has two cache lines of its own. The first is what ww.h says, which its thread alone uses. */
 struct ww_seat {
-	ww_handle handle;
+	union {
+		ww_handle handle;
+		ww_front_ front;
+	};
 	ww_world *world;
 	uint32_t token;		/* one futex word: nothing, a token, or its thread sleeps */
 	uint32_t cancels;	/* how often it was cancelled, by others */
 	uint32_t stops;		/* how many waits that called off */
 	bool stale;		/* a cancel is pending that was meant for a user before this one */
-	bool taken;		/* by ww_seat_get, or for a context of ww_mutex.h */
-	const void *keeper;	/* the thread that has it at hand for its next context, if nobody takes it before */
+	bool taken;		/* by ww_seat_get */
+	bool busy;		/* for ww_mutex.h, where its class's seats aren't shared: its keeper uses it */
+	bool kept;		/* by a thread, while they aren't shared; under the lock of opening */
+	bool left;		/* it was busy as they came to be shared; written once, by whoever shared them */
+	bool was_loose;		/* its user took it when they were shared */
+	uint32_t listed;	/* of the locks that are listed the one acquired last */
+	struct ww_pool *pool;	/* the class of ww_mutex.h that has it, if any */
 } __attribute__((aligned(64)));
 
 /* Behind the seats lies what the thread sanitizer is told of, where it is in use. */
@@ -37,17 +56,16 @@ struct ww_world {
 	uint32_t turn;		/* where ww_seat_get looks first */
 	char *orders;		/* an address for each lock, by which the thread sanitizer knows it */
 	uint64_t *marks;	/* for each seat a bit a lock: it is held */
+	struct ww_link *links;	/* one a lock, for whoever holds it and has listed it */
 	ww_seat seats[];
 };
 
-struct ww_pool;
-
-/* Why a wait may end before its time: then another seat cancels it, which call_off does, or answers that none is free. */
+/* Why a wait may end before its time: then another seat cancels it, which call_off does. */
 struct ww_stop {
 	const uint32_t *asked;		/* not 0: somebody asks for it; or NULL */
 	const struct timespec *until;	/* on the monotonic clock; or NULL */
 	struct ww_pool *pool;
-	bool (*call_off)(struct ww_pool *, ww_seat *);
+	void (*call_off)(struct ww_pool *, ww_seat *);
 	bool sent;
 };
 

@@ -1,11 +1,50 @@
-/* ww_mutex.c - the kernel's ww_mutex over numbered locks: classes, numbers, and seats that threads keep. */
+/*
+ * ww_mutex.c - the kernel's ww_mutex over numbered locks: mutexes, contexts, and loops of these that back off by themselves.
+ *
+ * What a context has to do, amid a loop (ww_until_all_locked) and behind it, is one of six states.  `it` is the mutex at
+ * which it was told -EDEADLK last; OWES: it waited for `it` before that was asked for, which is to come.
+ *
+ *	state		call				answer			then
+ *	EASE		a lock				0			EASE
+ *							-EDEADLK		TOLD
+ *							-EALREADY (0 with WW_IGNORE_DUPLICATES), -EINTR, -ETIMEDOUT	EASE
+ *			a slow lock			-EINVAL			EASE
+ *	OWES		a lock of it			0, a trylock 1		EASE
+ *			a lock of another		0			OWES
+ *							-EDEADLK		TOLD, OWES
+ *			unlock of it, and a lock of it	0			EASE
+ *			ww_acquire_unlock_all					EASE
+ *	TOLD		a lock of what is held		-EALREADY, as above	TOLD
+ *			any other lock			-EINVAL, a trylock 0	TOLD
+ *			back off						FIRST
+ *			its last unlock						TOLD, holding nothing
+ *	TOLD, OWES	a lock of what is owed		0, a trylock 1		TOLD
+ *			else as TOLD, and behind each other lock still OWES
+ *	TOLD, holding nothing: as FIRST, but a lock of another doesn't wait for it
+ *	FIRST		a lock of it			0			EASE
+ *			a lock of another		0, having waited for it	OWES
+ *							-EDEADLK, likewise	TOLD, OWES
+ *			a slow lock of it		0			EASE
+ *			a slow lock of another		-EINVAL			FIRST
+ *			a trylock			1			EASE
+ *							0			FIRST
+ *			any of these			-EINTR, -ETIMEDOUT	FIRST, or OWES if that came at the other one
+ *	any		ww_mutex_lock_all		as its locks one by one, and it backs off by itself if nothing was held
+ *
+ * tests/mutex_loop.c walks through all of it.
+ */
 #define _GNU_SOURCE
+#define WW_NO_INLINE /* Here are the functions that may be called in place of those that ww_mutex.h compiles into its callers. */
 #include "ww_pool.h"
 #include <stdio.h>
 #include <stdlib.h>
 
-/* Calls by the handle of this seat answer -EINVAL, and change nothing. */
-static ww_seat nobody;
+/*
+ * Calls by the handle of this seat answer -EINVAL, and change nothing.  All threads have it,
+ * though a handle is one caller's: so it lies where nobody can write.
+ */
+static const ww_seat no_seat;
+#define NOBODY ((ww_seat *)(uintptr_t)&no_seat)
 
 static const char not_due[] = "no -EDEADLK of this mutex came before, or the context still holds a mutex";
 
@@ -27,8 +66,8 @@ int ww_mutex_init_checked(struct ww_mutex *m, struct ww_class *c)
 	uint32_t number;
 	int r = pool_of(c, &p);
 
-	if (!r)
-		r = ww_take_number(p, &number);
+	if (!r && !ww_take_number(&p->numbers, &number))
+		r = p->gone ? -EINVAL : -ENOSPC;
 	if (r)
 		return r;
 	*m = (struct ww_mutex){ .pool = p, .number = number };
@@ -46,6 +85,8 @@ static const char *told(int r)
 	}
 }
 
+static const char *told_at_begin(int r) { return r == -ENOSPC ? "the class has begun as many contexts as it may" : told(r); }
+
 void ww_mutex_init(struct ww_mutex *m, struct ww_class *c)
 {
 	int r = ww_mutex_init_checked(m, c);
@@ -54,9 +95,54 @@ void ww_mutex_init(struct ww_mutex *m, struct ww_class *c)
 		end("ww_mutex_init", told(r));
 }
 
+/*
+ * `ctx` and `alone` are written by the mutex's holder alone, relaxed: one holder's accesses are ordered before
+ * the next one's by the lock, and to all others they are a glance.
+ */
 static inline struct ww_acquire_ctx *holder(const struct ww_mutex *m) { return __atomic_load_n(&m->ctx, __ATOMIC_RELAXED); }
 
 bool ww_mutex_is_locked(struct ww_mutex *m) { return holder(m) || __atomic_load_n(&m->alone, __ATOMIC_RELAXED); }
+
+/*
+ * All steps of a call but the first.  In a forked child one by a seat that was taken before
+ * would wait for threads that aren't there: so the seat has an empty handle from then on, what
+ * it held is let go, and each call by it is -EINVAL.
+ */
+COLD static int go_on(ww_seat *s, struct ww_stop *stop)
+{
+	if (LIKELY(!s->pool->gone))
+		return ww_go_on(s, stop);
+	s->handle = (ww_handle){ 0 };
+	return -EINVAL;
+}
+
+static inline bool is_let_go(const ww_seat *s) { return !s->handle.at; }
+
+/* The same of a release, whose first step answered r, not 0. */
+COLD static int release_further(ww_seat *s, int r)
+{
+	if (r > 0)
+		r = go_on(s, NULL);
+	return is_let_go(s) ? 0 : r;
+}
+
+/*
+ * Whether the lock of a mutex is free: the spare seat takes it, if it can at once, and
+ * releases it.  An unlock's last access to the mutex comes before the step that releases
+ * its lock; so whoever had it is through with it, and what they wrote is seen here.
+ */
+static bool is_released(struct ww_pool *p, struct ww_mutex *m)
+{
+	ww_seat *s = borrow_spare(p);
+	bool released = ww_try_(&s->handle, m->number) == 0;
+	int r = released ? ww_unlock_(&s->handle, m->number) : 0;
+
+	if (UNLIKELY(r))
+		release_further(s, r);
+	put_spare(p);
+	__tsan_acquire(m);
+	return released;
+}
 
 /* A waiter that got it says so first, and then that it waits no more. */
 int ww_mutex_destroy(struct ww_mutex *m)
@@ -67,18 +153,54 @@ int ww_mutex_destroy(struct ww_mutex *m)
 		ww_debug_fault("ww_mutex_destroy", "the mutex isn't initialized");
 		return -EINVAL;
 	}
-	if (__atomic_load_n(&m->waiters, __ATOMIC_SEQ_CST) || ww_mutex_is_locked(m)) {
+	/* In a forked child nobody uses it any more, and its number isn't given. */
+	if (UNLIKELY(p->gone)) {
+		*m = (struct ww_mutex){ 0 };
+		return 0;
+	}
+	if (__atomic_load_n(&m->waiters, __ATOMIC_SEQ_CST) || ww_mutex_is_locked(m) || !is_released(p, m)) {
 		ww_debug_fault("ww_mutex_destroy", "somebody holds the mutex, or waits for it");
 		return -EBUSY;
 	}
 	m->pool = NULL;
-	ww_give_number(p, m->number);
+	ww_give_number(&p->numbers, m->number);
 	return 0;
 }
 
 /* ---- contexts ---- */
 
-static inline int begin(struct ww_acquire_ctx *x, struct ww_class *c, bool waits)
+/* Relaxed: whoever cancels the context that was here before may look meanwhile, and nothing is ordered by what it sees. */
+static inline void of_seat(struct ww_acquire_ctx *x, struct ww_pool *p, ww_seat *s)
+{
+	x->pool = p;
+	x->gives = s;
+	__atomic_store_n(&x->own, s, __ATOMIC_RELAXED);
+	__atomic_store_n(&x->cancelled, 0, __ATOMIC_RELAXED);
+	x->acquired = x->flags = x->state = 0;
+}
+
+static inline void no_more(struct ww_acquire_ctx *x)
+{
+	x->pool = NO_POOL;
+	__atomic_store_n(&x->own, NULL, __ATOMIC_RELAXED);
+}
+
+static inline int begin_with(struct ww_acquire_ctx *x, struct ww_pool *p, ww_seat *s)
+{
+	int r;
+
+	of_seat(x, p, s);
+	r = ww_begin_(&s->handle);
+	if (UNLIKELY(r)) {
+		no_more(x);
+		give_seat(p, s, s->was_loose);
+		return r;
+	}
+	ww_debug_begun(x);
+	return 0;
+}
+
+COLD static int begin_anyhow(struct ww_acquire_ctx *x, struct ww_class *c, bool waits)
 {
 	struct ww_pool *p;
 	ww_seat *s;
@@ -87,33 +209,58 @@ static inline int begin(struct ww_acquire_ctx *x, struct ww_class *c, bool waits
 	if (r)
 		return r;
 	s = seat_at_once(p);
-	if (UNLIKELY(!s)) {
+	if (!s)
 		r = waits ? ww_seek_seat(p, NULL, &s) : p->gone ? -EINVAL : -EAGAIN;
-		if (r)
-			return r;
-	}
-	x->pool = p;
-	x->seat = x->own = s;
-	x->acquired = x->cancelled = 0;
-	x->flags = x->state = 0;
-	x->contending_lock = x->newest = x->prelocked = NULL;
-	ww_debug_begun(x);
-	r = ww_begin_(&s->handle);
-	if (UNLIKELY(r)) {
-		x->pool = NULL;
-		give_seat(p, s);
-	}
-	return r;
+	return r ? r : begin_with(x, p, s);
 }
 
-int ww_acquire_init_checked(struct ww_acquire_ctx *x, struct ww_class *c) { return begin(x, c, false); }
+/* The seat was at hand, but came to be shared. */
+COLD static int begin_late(struct ww_acquire_ctx *x, struct ww_class *c, ww_seat *s, bool waits)
+{
+	s = ww_late_seat(c->pool, s);
+	return s ? begin_with(x, c->pool, s) : begin_anyhow(x, c, waits);
+}
 
+int ww_acquire_init_checked(struct ww_acquire_ctx *x, struct ww_class *c)
+{
+	struct ww_pool *p = __atomic_load_n(&c->pool, __ATOMIC_ACQUIRE);
+	ww_seat *s = ww_mine.seats[0].seat;
+
+	if (UNLIKELY(!p || !has_at_hand(p)))
+		return begin_anyhow(x, c, false);
+	if (UNLIKELY(!use_kept(p, s)))
+		return begin_late(x, c, s, false);
+	return begin_with(x, p, s);
+}
+
+COLD static void init_else(struct ww_acquire_ctx *x, struct ww_class *c, ww_seat *late)
+{
+	int r = late ? begin_late(x, c, late, true) : begin_anyhow(x, c, true);
+
+	if (r)
+		end("ww_acquire_init", told_at_begin(r));
+}
+
+/*
+ * A seat that nobody uses begins a context for certain, unless as many were begun as may be: then this is none,
+ * by which no second lock is acquired, and ww_acquire_fini ends the program.
+ */
 void ww_acquire_init(struct ww_acquire_ctx *x, struct ww_class *c)
 {
-	int r = begin(x, c, true);
+	struct ww_pool *p = __atomic_load_n(&c->pool, __ATOMIC_ACQUIRE);
+	ww_seat *s = ww_mine.seats[0].seat;
 
-	if (UNLIKELY(r))
-		end("ww_acquire_init", told(r));
+	if (UNLIKELY(!p || !has_at_hand(p))) {
+		init_else(x, c, NULL);
+		return;
+	}
+	if (UNLIKELY(!use_kept(p, s))) {
+		init_else(x, c, s);
+		return;
+	}
+	of_seat(x, p, s);
+	ww_debug_begun(x);
+	(void)!ww_begin_(&s->handle);
 }
 
 int ww_acquire_done_checked(struct ww_acquire_ctx *x)
@@ -133,29 +280,77 @@ void ww_acquire_done(struct ww_acquire_ctx *x)
 
 int ww_acquire_fini_checked(struct ww_acquire_ctx *x)
 {
-	struct ww_pool *p = x->pool;
 	ww_seat *s = x->own;
 	int r = s ? ww_end_(&s->handle) : -EINVAL;
 
-	if (UNLIKELY(r))
+	if (r && !(s && is_let_go(s)))
 		return r;
 	ww_debug_ended(x);
-	x->pool = NULL;
-	x->seat = &nobody;
-	x->own = NULL;
-	give_seat(p, s);
+	no_more(x);
+	give_seat(s->pool, s, s->was_loose);
 	return 0;
+}
+
+COLD static void fini_else(struct ww_acquire_ctx *x)
+{
+	if (ww_acquire_fini_checked(x))
+		end("ww_acquire_fini", !x->own ? "the context has ended" : x->acquired ? "the context still holds a mutex" :
+			told_at_begin(-ENOSPC));
 }
 
 void ww_acquire_fini(struct ww_acquire_ctx *x)
 {
-	if (UNLIKELY(ww_acquire_fini_checked(x)))
-		end("ww_acquire_fini", x->own ? "the context still holds a mutex" : "the context has ended");
+	ww_seat *s = x->own;
+
+	/* A context that has released all ends for certain. */
+	if (UNLIKELY(!s || s->handle.standing != WW_BARE_)) {
+		fini_else(x);
+		return;
+	}
+	ww_debug_ended(x);
+	no_more(x);
+	ww_end_(&s->handle);
+	give_seat(s->pool, s, s->was_loose);
 }
 
-void ww_acquire_flags(struct ww_acquire_ctx *x, unsigned int flags) { x->flags = flags; }
+/* Amid ww_until_all_locked, or behind it. */
+static inline bool is_loop(const struct ww_acquire_ctx *x) { return x->gives == NOBODY; }
 
-/* The thread that waits does the rest, since only it knows when the wait is over. */
+/*
+ * HAS_TO_BACK_OFF is TOLD of the table above, WAITS_FIRST is FIRST, and `prelocked` what it OWES.  As long as one of these
+ * stands its lock calls take the long way, as they do where each wait may be called off.
+ */
+static void close_or_open(struct ww_acquire_ctx *x)
+{
+	x->pool = is_loop(x) && (x->state & (HAS_TO_BACK_OFF | WAITS_FIRST | HEEDS_IN_LOOPS) || x->prelocked) ? NO_POOL : x->own->pool;
+}
+
+static void told_to_back_off(struct ww_acquire_ctx *x)
+{
+	x->state |= HAS_TO_BACK_OFF;
+	close_or_open(x);
+}
+
+/* And is to be asked for this one, if that isn't NULL. */
+static void has_acquired(struct ww_acquire_ctx *x, struct ww_mutex *prelocked)
+{
+	x->state &= ~(unsigned)(HAS_TO_BACK_OFF | WAITS_FIRST);
+	x->prelocked = prelocked;
+	close_or_open(x);
+}
+
+void ww_acquire_flags(struct ww_acquire_ctx *x, unsigned int flags)
+{
+	x->flags = flags;
+	x->state = flags & WW_INTERRUPTIBLE ? x->state | HEEDS_IN_LOOPS : x->state & ~(unsigned)HEEDS_IN_LOOPS;
+	if (x->own)
+		close_or_open(x);
+}
+
+/*
+ * The thread that waits does the rest, since only it knows when the wait is over.  Relaxed: that its own begin of the
+ * context came before is the caller's to see to.
+ */
 int ww_acquire_cancel(struct ww_acquire_ctx *x)
 {
 	ww_seat *s = __atomic_load_n(&x->own, __ATOMIC_RELAXED);
@@ -170,18 +365,16 @@ int ww_acquire_cancel(struct ww_acquire_ctx *x)
 
 /* ---- waiting ---- */
 
-/* A call by another seat, for which some seat has to be free, cancels the wait of this one. */
-static bool call_off(struct ww_pool *p, ww_seat *victim)
+/* A call by the spare seat cancels the wait of this one. */
+static void call_off(struct ww_pool *p, ww_seat *victim)
 {
-	bool wakes[WW_MAX_SEATS];
-	ww_seat *s = seat_at_once(p);
+	ww_seat *s = borrow_spare(p);
 
-	if (!s)
-		return false;
 	/* One that is pending does as well. It wakes nobody but this thread, which is awake. */
-	(void)ww_cancel_(&s->handle, (uint8_t)(victim - p->world->seats), wakes);
-	give_seat(p, s);
-	return true;
+	(void)ww_cancel_(&s->handle, (uint16_t)(victim - p->world->seats));
+	while (ww_next_wake_(&s->handle) >= 0)
+		;
+	put_spare(p);
 }
 
 static inline int32_t first_turn(ww_seat *s, uint32_t number, enum way way)
@@ -197,6 +390,8 @@ static inline void own(struct ww_mutex *m, struct ww_acquire_ctx *x, ww_seat *s)
 	__tsan_acquire(m);
 	ww_debug_acquired(m, x, s);
 	if (x) {
+		m->older = x->newest;
+		x->newest = m;
 		x->acquired++;
 		__atomic_store_n(&m->ctx, x, __ATOMIC_RELAXED);
 	} else {
@@ -216,7 +411,7 @@ COLD static int lock_on(struct ww_mutex *m, struct ww_acquire_ctx *x, ww_seat *s
 	}
 	for (;;) {
 		if (r > 0)
-			r = ww_go_on(s, heeds ? &stop : NULL);
+			r = go_on(s, heeds ? &stop : NULL);
 		if (r != -EINTR || stop.sent)
 			break;
 		/* It was called off by a cancel that another wait of the seat had left. */
@@ -237,104 +432,160 @@ COLD static int lock_on(struct ww_mutex *m, struct ww_acquire_ctx *x, ww_seat *s
 
 /* ---- contexts that back off by themselves ---- */
 
-/* What such a context acquired is a list, the newest first. */
-static void link_to(struct ww_acquire_ctx *x, struct ww_mutex *m)
-{
-	m->newer = NULL;
-	m->older = x->newest;
-	if (m->older)
-		m->older->newer = m;
-	x->newest = m;
-}
-
+/*
+ * What such a context acquired is a list, the newest first.  An unlock takes one out,
+ * for which each has to know the one acquired after it: from `linked` on they do.
+ */
 static void unlink_from(struct ww_acquire_ctx *x, struct ww_mutex *m)
 {
-	if (m->newer)
-		m->newer->older = m->older;
-	else
+	if (x->newest == m) {
 		x->newest = m->older;
+		if (x->linked == m)
+			x->linked = m->older;
+		return;
+	}
+	for (struct ww_mutex *at = x->newest; at != x->linked; at = at->older)
+		if (at->older)
+			at->older->newer = at;
+	x->linked = x->newest;
+	m->newer->older = m->older;
 	if (m->older)
 		m->older->newer = m->newer;
 }
 
-static int locked(struct ww_mutex *m, struct ww_acquire_ctx *x, enum way way, const struct timespec *until)
+/* Whether it waited for this mutex before the call for it came, which comes now. */
+static bool was_prelocked(struct ww_acquire_ctx *x, const struct ww_mutex *m)
 {
-	int r = first_turn(x->own, m->number, way);
+	if (x->prelocked != m)
+		return false;
+	x->prelocked = NULL;
+	close_or_open(x);
+	return true;
+}
 
-	r = lock_on(m, x, x->own, r, way, until);
+/* What its lock call comes to, by what the proved library answered at last. */
+static int looped(struct ww_mutex *m, struct ww_acquire_ctx *x, int r)
+{
 	if (r == 0)
-		link_to(x, m);
-	return r;
+		has_acquired(x, x->prelocked == m ? NULL : x->prelocked); /* That one may have been released meanwhile. */
+	if (r == -EDEADLK)
+		told_to_back_off(x);
+	if (r != -EALREADY)
+		return r;
+	if (was_prelocked(x, m))
+		return 0;
+	return x->flags & WW_IGNORE_DUPLICATES ? 0 : r;
 }
 
 /* Before anything else it waits for the mutex at which it was told to back off. */
-static int wait_first(struct ww_acquire_ctx *x)
+static int wait_first(struct ww_acquire_ctx *x, bool heeds, const struct timespec *until)
 {
 	struct ww_mutex *m = x->contending_lock;
-	bool heeds = x->flags & WW_INTERRUPTIBLE;
-	int r = locked(m, x, ww_debug_injected(m, x) ? heeds ? HEEDS : STAYS : heeds ? SLOWLY_HEEDS : SLOWLY, NULL);
+	enum way way = ww_debug_injected(m, x) ? heeds ? HEEDS : STAYS : heeds ? SLOWLY_HEEDS : SLOWLY;
+	int r = lock_on(m, x, x->own, first_turn(x->own, m->number, way), way, until);
 
 	if (ww_debug_told(m, x, r, false))
 		return r;
-	x->state &= ~(unsigned)WAITS_FIRST;
-	x->prelocked = m;
+	has_acquired(x, m);
 	return 0;
 }
 
-/* A lock call of a context whose calls have more to do, or that has ended. */
-COLD static int lock_specially(struct ww_mutex *m, struct ww_acquire_ctx *x, enum way way, const struct timespec *until)
+static int lock_now(struct ww_mutex *m, struct ww_acquire_ctx *x, enum way way, const struct timespec *until)
 {
-	int r;
+	int r = lock_on(m, x, x->own, first_turn(x->own, m->number, way), way, until);
 
-	if (!x->own)
-		return -EINVAL;
-	if (x->state & WAITS_FIRST && (r = wait_first(x)))
-		return r;
-	if (x->flags & WW_INTERRUPTIBLE && way == STAYS)
-		way = HEEDS;
-	r = locked(m, x, way, until);
-	if (r == -EDEADLK)
-		x->state |= HAS_TO_BACK_OFF;
-	if (r != -EALREADY)
-		return r;
-	if (x->prelocked == m) {
-		x->prelocked = NULL;
-		return 0;
+	return is_loop(x) ? looped(m, x, r) : r;
+}
+
+/* All of a lock call, not a slow one, of a context that hasn't ended. */
+static int lock_by(struct ww_mutex *m, struct ww_acquire_ctx *x, enum way way, const struct timespec *until)
+{
+	if (is_loop(x)) {
+		if (x->flags & WW_INTERRUPTIBLE)
+			way = HEEDS;
+		if (x->state & WAITS_FIRST) {
+			int r = wait_first(x, way == HEEDS, until);
+
+			if (r || was_prelocked(x, m))
+				return r;
+		}
 	}
-	return x->flags & WW_IGNORE_DUPLICATES ? 0 : r;
+	return lock_now(m, x, way, until);
 }
 
 bool ww_is_contended(const struct ww_acquire_ctx *x) { return x->state & HAS_TO_BACK_OFF; }
 
+/* A loop begins: what is acquired from now on is kept, and an unlock takes it out. */
+static void begin_loop(struct ww_acquire_ctx *x)
+{
+	x->linked = x->prelocked = NULL;
+	x->gives = NOBODY;
+	if (UNLIKELY(x->state)) {
+		x->state &= ~(unsigned)TRIES;
+		close_or_open(x);
+	}
+}
+
 void ww_tries_begin_(struct ww_acquire_ctx *x)
 {
-	x->state &= ~(unsigned)TRIES;
-	x->prelocked = NULL;
 	if (!x->own || x->acquired)
 		end("ww_until_all_locked", "the context holds a mutex, or has ended");
 	x->newest = NULL;
-	x->seat = &nobody;
+	begin_loop(x);
 }
 
-bool ww_tries_more_(struct ww_acquire_ctx *x)
+COLD static void give_on(ww_seat *s, int r)
+{
+	if (release_further(s, r))
+		end("ww_acquire_unlock_all", "nobody holds the mutex");
+}
+
+/* From the first step on a mutex is another's, who may destroy it and give its memory away. */
+static inline void release_all(struct ww_acquire_ctx *x)
+{
+	struct ww_mutex *m;
+
+	while ((m = x->newest)) {
+		uint32_t number = m->number;
+		int r;
+
+		ww_debug_released(m);
+		x->newest = m->older;
+		x->acquired--;
+		__atomic_store_n(&m->ctx, NULL, __ATOMIC_RELAXED);
+		__tsan_release(m);
+		r = ww_unlock_(&x->own->handle, number);
+		if (UNLIKELY(r))
+			give_on(x->own, r);
+	}
+	x->linked = x->prelocked = NULL;
+}
+
+static void back_off(struct ww_acquire_ctx *x)
+{
+	release_all(x);
+	x->state = (x->state & ~(unsigned)HAS_TO_BACK_OFF) | WAITS_FIRST;
+	close_or_open(x);
+}
+
+COLD bool ww_tries_else_(struct ww_acquire_ctx *x)
 {
 	if (x->state & HAS_TO_BACK_OFF) {
-		ww_acquire_unlock_all(x);
-		x->state ^= HAS_TO_BACK_OFF | WAITS_FIRST;
-	} else if (x->state & IS_TRYING) {
-		x->state ^= IS_TRYING;
-		return false;
+		back_off(x);
+		x->state |= IS_TRYING;
+		return true;
 	}
-	x->state |= IS_TRYING;
-	x->prelocked = NULL;
-	return true;
+	x->state ^= IS_TRYING;
+	return x->state & IS_TRYING;
 }
+
+bool ww_tries_more_(struct ww_acquire_ctx *x) { return ww_tries_else_(x); }
 
 /* Without ww_until_all_locked nothing tells what was acquired, so nothing is released. */
 void ww_acquire_unlock_all(struct ww_acquire_ctx *x)
 {
-	while (x->seat != x->own && x->newest)
-		ww_mutex_unlock(x->newest);
+	if (LIKELY(is_loop(x)))
+		release_all(x);
 }
 
 /* ---- locks ---- */
@@ -342,7 +593,7 @@ void ww_acquire_unlock_all(struct ww_acquire_ctx *x)
 /* What is wrong with a context and a mutex that don't go together. */
 static const char *fault_of(const struct ww_mutex *m, const struct ww_acquire_ctx *x)
 {
-	return !m->pool ? "the mutex isn't initialized" : !x->pool ? "the context has ended" : "the context is of another class";
+	return !m->pool ? "the mutex isn't initialized" : !x->own ? "the context has ended" : "the context is of another class";
 }
 
 COLD static int faulty(const char *call, const struct ww_mutex *m, const struct ww_acquire_ctx *x)
@@ -355,8 +606,25 @@ COLD static int lock_further(struct ww_acquire_ctx *x, int r, enum way way)
 {
 	struct ww_mutex *m = x->called;
 
-	r = x->seat == x->own ? lock_on(m, x, x->own, r, way, NULL) : lock_specially(m, x, way, NULL);
+	r = lock_on(m, x, x->own, r, way, NULL);
+	if (is_loop(x))
+		r = looped(m, x, r);
 	return ww_debug_told(m, x, r, true);
+}
+
+/* Whether a context whose pool isn't the mutex's may lock it all the same: it has only more to do. */
+static inline bool goes_together(const struct ww_mutex *m, const struct ww_acquire_ctx *x)
+{
+	return m->pool && x->own && m->pool == x->own->pool;
+}
+
+COLD static int lock_specially(const char *call, struct ww_mutex *m, struct ww_acquire_ctx *x, enum way way, const struct timespec *until)
+{
+	if (!goes_together(m, x))
+		return faulty(call, m, x);
+	if (ww_debug_refuses(x))
+		return -EINVAL;
+	return ww_debug_told(m, x, lock_by(m, x, way, until), true);
 }
 
 /* The context keeps which mutex it is, so that nothing need be kept over the call. */
@@ -365,51 +633,101 @@ static inline int lock(struct ww_mutex *m, struct ww_acquire_ctx *x, enum way wa
 	int r;
 
 	if (UNLIKELY(m->pool != x->pool))
-		return faulty("ww_mutex_lock", m, x);
+		return lock_specially("ww_mutex_lock", m, x, way, NULL);
 	if (ww_debug_refuses(x))
 		return -EINVAL;
 	x->called = m;
-	r = first_turn(x->seat, m->number, way);
+	r = first_turn(x->own, m->number, way);
 	if (UNLIKELY(r))
 		return lock_further(x, r, way);
 	own(x->called, x, NULL);
 	return ww_debug_told(x->called, x, 0, true);
 }
 
-/* Without a context: by a seat of its own, for which it may have to wait. */
-COLD static int lock_alone(struct ww_mutex *m, enum way way, const struct timespec *until)
+int ww_mutex_lock_further_(struct ww_mutex *m, struct ww_acquire_ctx *x, int r)
+{
+	x->called = m;
+	return lock_further(x, r, STAYS);
+}
+
+/* From the second step on by this seat, which is given where that fails. */
+COLD static int lock_on_by_seat(struct ww_mutex *m, ww_seat *s, int r, enum way way, const struct timespec *until)
 {
 	struct ww_pool *p = m->pool;
-	ww_seat *s;
-	int r = 0;
 
-	if (!p)
-		return -EINVAL;
-	s = seat_at_once(p);
-	if (!s) {
-		__atomic_fetch_add(&m->waiters, 1, __ATOMIC_SEQ_CST);
-		r = ww_seek_seat(p, until, &s);
-		__atomic_fetch_sub(&m->waiters, 1, __ATOMIC_SEQ_CST);
-	}
+	r = lock_on(m, NULL, s, r, way, until);
 	if (r)
-		return r;
-	r = lock_on(m, NULL, s, first_turn(s, m->number, way), way, until);
-	if (r)
-		give_seat(p, s);
+		give_seat(p, s, s->was_loose);
 	return r;
 }
 
-/* Nobody looks at what this would answer. */
-COLD static int lock_alone_or_end(struct ww_mutex *m)
+static inline int lock_by_seat(struct ww_mutex *m, ww_seat *s, enum way way, const struct timespec *until)
 {
-	if (lock_alone(m, STAYS, NULL))
-		end("ww_mutex_lock", m->pool ? told(-EINVAL) : "the mutex isn't initialized");
+	int r = first_turn(s, m->number, way);
+
+	if (UNLIKELY(r))
+		return lock_on_by_seat(m, s, r, way, until);
+	own(m, NULL, s);
+	return 0;
+}
+
+/* It waits for a seat, and for the mutex from the first on, until it holds that. */
+COLD static int seek_and_lock(struct ww_mutex *m, enum way way, const struct timespec *until)
+{
+	ww_seat *s;
+	int r;
+
+	__atomic_fetch_add(&m->waiters, 1, __ATOMIC_SEQ_CST);
+	r = ww_seek_seat(m->pool, until, &s);
+	if (!r)
+		r = lock_by_seat(m, s, way, until);
+	__atomic_fetch_sub(&m->waiters, 1, __ATOMIC_SEQ_CST);
+	return r;
+}
+
+/* By any seat: `late`, which was at hand but came to be shared, if that is one, or another. */
+COLD static int lock_by_any(struct ww_mutex *m, ww_seat *late, enum way way, const struct timespec *until)
+{
+	ww_seat *s;
+
+	if (!m->pool)
+		return -EINVAL;
+	s = late ? ww_late_seat(m->pool, late) : ww_other_seat(m->pool);
+	return s ? lock_by_seat(m, s, way, until) : seek_and_lock(m, way, until);
+}
+
+/* Without a context: by a seat of its own, for which it may have to wait. */
+static inline int lock_alone(struct ww_mutex *m, enum way way, const struct timespec *until)
+{
+	struct ww_pool *p = m->pool;
+	ww_seat *s = ww_mine.seats[0].seat;
+
+	if (UNLIKELY(!p || !has_at_hand(p)))
+		return lock_by_any(m, NULL, way, until);
+	return LIKELY(use_kept(p, s)) ? lock_by_seat(m, s, way, until) : lock_by_any(m, s, way, until);
+}
+
+COLD __attribute__((noreturn)) static void end_alone(const struct ww_mutex *m)
+{
+	end("ww_mutex_lock", m->pool ? told(-EINVAL) : "the mutex isn't initialized");
+}
+
+/* Nobody looks at what it would answer. */
+int ww_mutex_lock_alone_(struct ww_mutex *m)
+{
+	if (UNLIKELY(lock_alone(m, STAYS, NULL)))
+		end_alone(m);
 	return 0;
 }
 
 int ww_mutex_lock(struct ww_mutex *m, struct ww_acquire_ctx *x)
 {
-	return LIKELY(x) ? lock(m, x, STAYS) : lock_alone_or_end(m);
+	return LIKELY(x) ? lock(m, x, STAYS) : ww_mutex_lock_alone_(m);
+}
+
+int ww_mutex_lock_else_(struct ww_mutex *m, struct ww_acquire_ctx *x)
+{
+	return lock(m, x, STAYS);
 }
 
 int ww_mutex_lock_interruptible(struct ww_mutex *m, struct ww_acquire_ctx *x)
@@ -419,33 +737,21 @@ int ww_mutex_lock_interruptible(struct ww_mutex *m, struct ww_acquire_ctx *x)
 
 int ww_mutex_lock_until(struct ww_mutex *m, struct ww_acquire_ctx *x, const struct timespec *until)
 {
-	int r;
-
-	if (!x)
-		return lock_alone(m, HEEDS, until);
-	if (m->pool != x->pool)
-		return faulty("ww_mutex_lock_until", m, x);
-	if (ww_debug_refuses(x))
+	/* No time, by which a thread couldn't sleep. */
+	if (UNLIKELY(until->tv_nsec < 0 || until->tv_nsec >= 1000000000))
 		return -EINVAL;
-	if (x->seat != x->own)
-		return ww_debug_told(m, x, lock_specially(m, x, HEEDS, until), true);
-	r = first_turn(x->own, m->number, HEEDS);
-	return ww_debug_told(m, x, lock_on(m, x, x->own, r, HEEDS, until), true);
+	return x ? lock_specially("ww_mutex_lock_until", m, x, HEEDS, until) : lock_alone(m, HEEDS, until);
 }
 
-/* After an -EDEADLK that the debug library made up the proved one doesn't know that this is due. */
+/*
+ * In a loop it is the wait that comes first itself, or isn't due.  After an -EDEADLK that the
+ * debug library made up the proved one doesn't know that it is.
+ */
 static int lock_slowly(struct ww_mutex *m, struct ww_acquire_ctx *x, enum way way, enum way plain)
 {
-	int r;
-
-	if (!x || m->pool != x->pool)
+	if (!x || !goes_together(m, x))
 		return -EINVAL;
-	if (ww_debug_injected(m, x))
-		way = plain;
-	if (x->seat != x->own)
-		return ww_debug_told(m, x, lock_specially(m, x, way, NULL), false);
-	r = first_turn(x->own, m->number, way);
-	return ww_debug_told(m, x, lock_on(m, x, x->own, r, way, NULL), false);
+	return ww_debug_told(m, x, lock_now(m, x, ww_debug_injected(m, x) ? plain : way, NULL), false);
 }
 
 int ww_mutex_lock_slow_checked(struct ww_mutex *m, struct ww_acquire_ctx *x) { return lock_slowly(m, x, SLOWLY, STAYS); }
@@ -476,61 +782,93 @@ static int try_alone(struct ww_mutex *m)
 	if (ww_mutex_is_locked(m) || !(s = seat_at_once(p)))
 		return 0;
 	if (ww_try_(&s->handle, m->number)) {
-		give_seat(p, s);
+		give_seat(p, s, s->was_loose);
 		return 0;
 	}
 	own(m, NULL, s);
 	return 1;
 }
 
+/* A context that was told to back off may try, once it holds nothing; then it waits for nothing first. */
+COLD static int try_specially(struct ww_mutex *m, struct ww_acquire_ctx *x)
+{
+	int r;
+
+	if (!goes_together(m, x))
+		end("ww_mutex_trylock", fault_of(m, x));
+	r = ww_try_(&x->own->handle, m->number);
+	if (r)
+		return r == -EALREADY && was_prelocked(x, m);
+	own(m, x, NULL);
+	ww_debug_told(m, x, 0, false);
+	return looped(m, x, 0) == 0;
+}
+
 int ww_mutex_trylock(struct ww_mutex *m, struct ww_acquire_ctx *x)
 {
 	if (!x)
 		return try_alone(m);
-	if (UNLIKELY(m->pool != x->pool || !x->own))
-		end("ww_mutex_trylock", fault_of(m, x));
-	if (ww_try_(&x->own->handle, m->number))
+	if (UNLIKELY(m->pool != x->pool))
+		return try_specially(m, x);
+	if (UNLIKELY(ww_try_(&x->own->handle, m->number)))
 		return 0;
 	own(m, x, NULL);
 	ww_debug_told(m, x, 0, false);
-	if (UNLIKELY(x->seat != x->own))
-		link_to(x, m);
 	return 1;
 }
 
-/* Where somebody may wait for it, or the context keeps a list of what it acquired; r is what the first step answered. */
-COLD static int unlock_on(struct ww_acquire_ctx *x, int r)
+/*
+ * Where somebody may wait for it, or the context keeps a list of what it acquired; r is what
+ * the first step answered.  In a loop that did nothing, so the mutex is there still.
+ */
+static int unlock_on(struct ww_acquire_ctx *x, int r)
 {
-	if (x->seat != x->own) {
+	if (is_loop(x)) {
+		uint32_t number;
+
 		unlink_from(x, x->called);
+		number = x->called->number;
 		__tsan_release(x->called);
-		r = ww_unlock_(&x->own->handle, x->called->number);
+		r = ww_unlock_(&x->own->handle, number);
+		if (LIKELY(!r))
+			return 0;
 	}
-	return r > 0 ? ww_go_on(x->own, NULL) : r;
+	return release_further(x->own, r);
 }
 
-COLD static int unlock_alone(struct ww_mutex *m)
+COLD static int unlock_alone_on(ww_seat *s, int r)
 {
-	struct ww_pool *p = m->pool;
+	r = release_further(s, r);
+	give_seat(s->pool, s, s->was_loose);
+	return r;
+}
+
+static inline int unlock_alone(struct ww_mutex *m)
+{
 	ww_seat *s = m->alone;
+	uint32_t number = m->number;
 	int r;
 
-	if (!p || !s)
+	if (UNLIKELY(!s))
 		return -EINVAL;
 	ww_debug_released(m);
 	__atomic_store_n(&m->alone, NULL, __ATOMIC_RELAXED);
 	__tsan_release(m);
-	r = ww_unlock_(&s->handle, m->number);
-	if (r > 0)
-		r = ww_go_on(s, NULL);
-	give_seat(p, s);
-	return r;
+	r = ww_unlock_(&s->handle, number);
+	if (UNLIKELY(r))
+		return unlock_alone_on(s, r);
+	give_seat(s->pool, s, s->was_loose);
+	return 0;
 }
 
-/* From the first step on the mutex is another's, who may destroy it and give its memory away. */
+/*
+ * From the step that releases the lock on the mutex is another's, who may destroy it and give
+ * its memory away; until then nobody does, since ww_mutex_destroy takes the lock.
+ */
 static inline int unlock(struct ww_mutex *m)
 {
 	struct ww_acquire_ctx *x = holder(m);
+	uint32_t number = m->number;
 	int r;
 
 	if (UNLIKELY(!x))
@@ -540,16 +878,31 @@ static inline int unlock(struct ww_mutex *m)
 	x->acquired--;
 	__atomic_store_n(&m->ctx, NULL, __ATOMIC_RELAXED);
 	__tsan_release(m);
-	r = ww_unlock_(&x->seat->handle, m->number);
+	r = ww_unlock_(&x->gives->handle, number);
 	return LIKELY(!r) ? 0 : unlock_on(x, r);
 }
 
 int ww_mutex_unlock_checked(struct ww_mutex *m) { return unlock(m); }
 
+COLD static void end_unheld(void) { end("ww_mutex_unlock", "nobody holds the mutex"); }
+
 void ww_mutex_unlock(struct ww_mutex *m)
 {
 	if (UNLIKELY(unlock(m)))
-		end("ww_mutex_unlock", "nobody holds the mutex");
+		end_unheld();
+}
+
+void ww_mutex_unlock_else_(struct ww_mutex *m)
+{
+	if (UNLIKELY(unlock_alone(m)))
+		end_unheld();
+}
+
+void ww_mutex_unlock_further_(struct ww_mutex *m, struct ww_acquire_ctx *x, int r)
+{
+	x->called = m;
+	if (unlock_on(x, r))
+		end_unheld();
 }
 
 /* ---- many of them ---- */
@@ -563,38 +916,81 @@ static int lock_each(struct ww_acquire_ctx *x, struct ww_mutex *const *locks, si
 	return r;
 }
 
-/* Amid ww_until_all_locked, which backs off by itself: what was acquired by this call is released after any other error. */
-static int lock_more(struct ww_acquire_ctx *x, struct ww_mutex *const *locks, size_t count)
+/* What it acquired after this mutex is released. */
+static void release_after(struct ww_acquire_ctx *x, const struct ww_mutex *before)
+{
+	while (x->newest != before)
+		ww_mutex_unlock(x->newest);
+}
+
+/* Tries until no -EDEADLK comes; r is what the first time answered. */
+static int lock_until_all_are(struct ww_acquire_ctx *x, struct ww_mutex *const *locks, size_t count, int r)
+{
+	while (r == -EDEADLK) {
+		back_off(x);
+		r = lock_each(x, locks, count);
+	}
+	if (r)
+		release_all(x);
+	return r;
+}
+
+/* In a loop, or behind one: it backs off by itself if nothing was held, and else what was is left to its caller. */
+COLD static int lock_more(struct ww_acquire_ctx *x, struct ww_mutex *const *locks, size_t count)
 {
 	struct ww_mutex *before = x->newest;
 	int r = lock_each(x, locks, count);
 
-	while (r && r != -EDEADLK && x->newest != before)
-		ww_mutex_unlock(x->newest);
+	if (!before)
+		return lock_until_all_are(x, locks, count, r);
+	if (r)
+		release_after(x, before);
+	return r;
+}
+
+/* From the k-th on, to which the first turn answered r; or all of them, where none was tried. */
+COLD static int lock_all_on(struct ww_acquire_ctx *x, struct ww_mutex *const *locks, size_t count, size_t k, int r, bool held)
+{
+	begin_loop(x);
+	if (r) {
+		x->called = locks[k];
+		r = lock_further(x, r, x->flags & WW_INTERRUPTIBLE ? HEEDS : STAYS);
+		k++;
+	}
+	if (!r)
+		r = lock_each(x, locks + k, count - k);
+	if (!held)
+		r = lock_until_all_are(x, locks, count, r);
+	else if (r)
+		release_all(x);
+	x->state &= ~(unsigned)TRIES;
+	x->prelocked = NULL;
+	x->gives = x->own;
+	close_or_open(x);
 	return r;
 }
 
 int ww_mutex_lock_all(struct ww_acquire_ctx *x, struct ww_mutex *const *locks, size_t count)
 {
-	bool held = x && x->acquired;
-	int r = 0;
-
-	if (!x || !x->own)
+	if (UNLIKELY(!x || !x->own))
 		return -EINVAL;
-	if (x->seat != x->own)
+	if (is_loop(x))
 		return lock_more(x, locks, count);
+	bool held = x->acquired, heeds = x->flags & WW_INTERRUPTIBLE;
+
 	x->newest = NULL;
-	x->state &= ~(unsigned)TRIES;
-	x->seat = &nobody;
-	while (ww_tries_more_(x)) {
-		r = lock_each(x, locks, count);
-		if (r && (r != -EDEADLK || held))
-			break;
+#ifndef WW_DEBUG
+	for (size_t k = 0; k < count; k++) {
+		struct ww_mutex *m = locks[k];
+		int r = LIKELY(m->pool == x->pool) ? ww_lock_(&x->own->handle, m->number, heeds) : -EINVAL;
+
+		if (UNLIKELY(r))
+			return lock_all_on(x, locks, count, k, r, held);
+		own(m, x, NULL);
 	}
-	if (r)
-		ww_acquire_unlock_all(x);
-	x->state &= ~(unsigned)TRIES;
-	x->prelocked = NULL;
-	x->seat = x->own;
-	return r;
+	return 0;
+#else
+	(void)heeds;
+	return lock_all_on(x, locks, count, 0, 0, held);
+#endif
 }

@@ -7,8 +7,9 @@
  * document ww-mutex-design says what the calls are for.  What the kernel hasn't
  * stands behind it, and is marked so.
  *
- * A class has at most 65,536 mutexes at once, and 16 contexts; a mutex that is
- * held without a context (NULL) counts as one of these as long as it is held.
+ * A class has 65,536 mutexes and 1,024 contexts at once, or as many as ww_class_limit
+ * said; a mutex that is held without a context (NULL) counts as one of these as
+ * long as it is held.
  * ww_mutex(3) says what is promised, and what a program owes.
  */
 #ifndef WW_MUTEX_H
@@ -40,7 +41,7 @@ struct ww_seat;
 /* A class of mutexes: a context belongs to one, and locks the mutexes of that class alone. */
 struct ww_class {
 	struct ww_pool *pool;		/* once it is open */
-	uint32_t mutexes, contexts;	/* as many at once; 0: 65,536 and 16 */
+	uint32_t mutexes, contexts;	/* as many at once; 0: 65,536 and 1,024 */
 	int is_wait_die;
 	const char *name;
 };
@@ -58,14 +59,15 @@ struct ww_mutex {
 };
 
 struct ww_acquire_ctx {
-	struct ww_pool *pool;
-	struct ww_seat *seat;		/* that of nobody where a call has more to do */
-	struct ww_seat *own;
+	struct ww_pool *pool;		/* what it may lock at once; no class's once it has ended, or where a call has more to do */
+	struct ww_seat *own;		/* NULL once it has ended */
+	struct ww_seat *gives;		/* the same; or that of nobody, where an unlock has more to do */
 	unsigned int acquired;		/* how many mutexes it holds */
 	unsigned int cancelled;
 	struct ww_mutex *called;	/* by the call that is on its way */
 	struct ww_mutex *contending_lock; /* at which the last -EDEADLK came */
 	struct ww_mutex *newest;	/* what it acquired last, where that is kept */
+	struct ww_mutex *linked;	/* from which on each of these knows the one acquired after it */
 	struct ww_mutex *prelocked;
 	unsigned int flags, state;
 	unsigned int deadlock_inject_interval, deadlock_inject_countdown; /* of the debug library */
@@ -88,13 +90,14 @@ void ww_mutex_init(struct ww_mutex *lock, struct ww_class *ww_class);
 /*
  * Takes the number back; the mutex is used no more until the next ww_mutex_init.
  * -EBUSY: somebody holds it or waits for it, and nothing has changed; -EINVAL: it
- * was destroyed before.
+ * was destroyed before.  Once it answers 0, whoever held the mutex is through with it, and
+ * its memory may go, though their calls of ww_mutex_unlock may not have come back yet.
  */
 int ww_mutex_destroy(struct ww_mutex *lock);
 
 /*
  * Begins a context.  Where all contexts of the class are in use it waits for one
- * to end: threads that hold something by one context and wait for another can wait
+ * to end, behind those who wait already: threads that hold something by one context and wait for another can wait
  * for each other for ever, which nobody detects.
  */
 void ww_acquire_init(struct ww_acquire_ctx *ctx, struct ww_class *ww_class);
@@ -154,30 +157,32 @@ WW_MUST_CHECK int ww_mutex_unlock_checked(struct ww_mutex *lock);
 void ww_class_init(struct ww_class *ww_class, int is_wait_die, const char *name);
 /*
  * How many mutexes and contexts there may be at once, said before its first use;
- * memory is taken for as many.  0: 65,536, and 16.  -EINVAL: more; -EBUSY: it is open.
+ * memory is taken for as many.  0: 65,536, and 1,024.  -EINVAL: more than 65,536, or than
+ * 4,094 contexts; -EBUSY: it is open.
  */
 WW_MUST_CHECK int ww_class_limit(struct ww_class *ww_class, uint32_t mutexes, uint32_t contexts);
 /* Opens the class now, where it isn't open: it takes all its memory. -ENOMEM. */
 WW_MUST_CHECK int ww_class_open(struct ww_class *ww_class);
 /*
- * Frees its memory; the next use opens it anew.  -EBUSY: it has a mutex, a
- * context runs, or a mutex is held.  No other thread uses the class meanwhile.
+ * Frees its memory, but for a few kilobytes, which the class that is opened next has;
+ * the next use opens it anew.  -EBUSY: it has a mutex, a context runs, or a mutex is
+ * held.  It may be asked until it is 0, as long as no other thread begins to use the
+ * class then; one that is amid the end of its last context may be.
  */
 int ww_class_free(struct ww_class *ww_class);
 
 /*
  * As ww_mutex_lock_interruptible, but waits until this time of the monotonic clock at
  * the longest: -ETIMEDOUT, and what was held still is.  A mutex that is free is
- * acquired, however late it is.
+ * acquired, however late it is.  -EINVAL, too: tv_nsec isn't 0 to 999,999,999.
  */
 WW_MUST_CHECK int ww_mutex_lock_until(struct ww_mutex *lock, struct ww_acquire_ctx *ctx, const struct timespec *monotonic);
 /*
  * Calls off the interruptible wait of a context, this one or the next: as a signal
  * does in the kernel.  -EALREADY: that is pending; -EINVAL: the context has ended.
- * It may be called by any thread as long as the context is there.  A cancel that
- * found no wait ends with its context.
- * A wait ends so as soon as one of the class's contexts isn't in use: where all 16 are,
- * once one of them ends.  The same goes for a time that has come.
+ * It may be called by any thread as long as the context is there, from the end of its
+ * ww_acquire_init on.  A cancel that found no wait ends with its context.
+ * A wait ends so also where all contexts of the class are in use, and at a time that has come.
  */
 int ww_acquire_cancel(struct ww_acquire_ctx *ctx);
 
@@ -192,7 +197,7 @@ void ww_acquire_flags(struct ww_acquire_ctx *ctx, unsigned int flags);
  * Acquires all of them, in any order, and backs off by itself.  Where it answers an
  * error it has released what it had acquired: -EALREADY, a mutex stands there twice or
  * is held before; -EINTR; -EINVAL; -EDEADLK only to a context that held a mutex before,
- * and has to release it.
+ * and has to release it.  All this goes for a context in a loop as well, below.
  */
 WW_MUST_CHECK int ww_mutex_lock_all(struct ww_acquire_ctx *ctx, struct ww_mutex *const *locks, size_t count);
 /*
@@ -216,8 +221,13 @@ void ww_acquire_unlock_all(struct ww_acquire_ctx *ctx);
  *
  * After -EDEADLK ww_retry_on_contention releases all that was acquired in the loop, and
  * the body begins again; the next lock call first waits for the mutex at which
- * -EDEADLK came, and the lock call of that one answers 0.  The context holds nothing
- * when the loop begins.  In C++ no object with a destructor may lie between both.
+ * -EDEADLK came, by its own time and for its own cancel, and the lock call of that one
+ * answers 0 (a trylock 1).  A trylock that succeeds before, or a slow lock of that mutex,
+ * is instead of that wait.  So that mutex has to be there still, though nothing is held:
+ * where another thread could destroy it then, keep a reference to its object.  The body
+ * may also release all by itself and go on by ww_mutex_lock_slow.  The context holds
+ * nothing when the loop begins.  In C++ no object with a destructor may lie between
+ * both, and in C none with __attribute__((cleanup)).
  */
 #define WW_PASTE__(a, b) a##b
 #define WW_PASTE_(a, b) WW_PASTE__(a, b)
@@ -273,6 +283,87 @@ void ww_debug_at_(const char *file, int line);
 #define ww_mutex_trylock(...) (WW_HERE_, ww_mutex_trylock(__VA_ARGS__))
 #define ww_mutex_unlock(...) (WW_HERE_, ww_mutex_unlock(__VA_ARGS__))
 #endif
+#endif
+
+/*
+ * The calls of a mutex that is free are compiled into their callers, as those of
+ * ww.h: each is its first turn by the proved library, and the library does the rest.
+ */
+#ifdef __has_feature
+#if __has_feature(thread_sanitizer) && !defined(WW_NO_INLINE)
+#define WW_NO_INLINE
+#endif
+#elif defined(__SANITIZE_THREAD__) && !defined(WW_NO_INLINE)
+#define WW_NO_INLINE
+#endif
+int ww_mutex_lock_alone_(struct ww_mutex *lock);
+int ww_mutex_lock_else_(struct ww_mutex *lock, struct ww_acquire_ctx *ctx);
+int ww_mutex_lock_further_(struct ww_mutex *lock, struct ww_acquire_ctx *ctx, int r);
+void ww_mutex_unlock_else_(struct ww_mutex *lock);
+void ww_mutex_unlock_further_(struct ww_mutex *lock, struct ww_acquire_ctx *ctx, int r);
+bool ww_tries_else_(struct ww_acquire_ctx *ctx);
+enum { WW_IS_TRYING_ = 1, WW_HAS_TO_BACK_OFF_ = 2 }; /* of a context's state */
+#if defined(__GNUC__) && !defined(WW_NO_INLINE) && !defined(WW_DEBUG)
+/* A seat begins with its handle. */
+int32_t ww_first_of_lock_(struct ww_seat *seat, uint32_t lock, bool heeds) __asm__("ww_lock_");
+int32_t ww_first_of_unlock_(struct ww_seat *seat, uint32_t lock) __asm__("ww_unlock_");
+#define WW_INLINE_ extern __inline __attribute__((__gnu_inline__))
+
+/* What is stored relaxed, here and below, is the holder's alone: the lock orders it from holder to holder. */
+WW_INLINE_ int ww_mutex_lock(struct ww_mutex *lock, struct ww_acquire_ctx *ctx)
+{
+	int r;
+
+	if (__builtin_expect(!ctx, 0))
+		return ww_mutex_lock_alone_(lock);
+	if (__builtin_expect(lock->pool != ctx->pool, 0))
+		return ww_mutex_lock_else_(lock, ctx);
+	r = ww_first_of_lock_(ctx->own, lock->number, false);
+	if (__builtin_expect(r != 0, 0))
+		return ww_mutex_lock_further_(lock, ctx, r);
+	lock->older = ctx->newest;
+	ctx->newest = lock;
+	ctx->acquired++;
+	__atomic_store_n(&lock->ctx, ctx, __ATOMIC_RELAXED);
+	return 0;
+}
+
+/* From the first turn on the mutex is another's, who may destroy it, unless the turn did nothing. */
+WW_INLINE_ void ww_mutex_unlock(struct ww_mutex *lock)
+{
+	struct ww_acquire_ctx *ctx = __atomic_load_n(&lock->ctx, __ATOMIC_RELAXED);
+	uint32_t number = lock->number;
+	int r;
+
+	if (__builtin_expect(!ctx, 0)) {
+		ww_mutex_unlock_else_(lock);
+		return;
+	}
+	ctx->acquired--;
+	__atomic_store_n(&lock->ctx, (struct ww_acquire_ctx *)0, __ATOMIC_RELAXED);
+	r = ww_first_of_unlock_(ctx->gives, number);
+	if (__builtin_expect(r != 0, 0))
+		ww_mutex_unlock_further_(lock, ctx, r);
+}
+
+WW_INLINE_ bool ww_is_contended(const struct ww_acquire_ctx *ctx)
+{
+	return ctx->state & WW_HAS_TO_BACK_OFF_;
+}
+
+WW_INLINE_ bool ww_tries_more_(struct ww_acquire_ctx *ctx)
+{
+	if (__builtin_expect(ctx->state == 0, 1)) {
+		ctx->state = WW_IS_TRYING_;
+		return true;
+	}
+	if (__builtin_expect(ctx->state == WW_IS_TRYING_, 1)) {
+		ctx->state = 0;
+		return false;
+	}
+	return ww_tries_else_(ctx);
+}
+#undef WW_INLINE_
 #endif
 
 #ifdef __cplusplus

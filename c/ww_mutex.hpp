@@ -19,6 +19,23 @@
 #define WW_GUARDED_BY(mutex) WW_SAFETY_(guarded_by(mutex))
 #define WW_REQUIRES(...) WW_SAFETY_(requires_capability(__VA_ARGS__))
 
+// Where the program made a call, which the debug library tells: each call here has it from its caller.
+#ifdef WW_DEBUG
+#define WW_FROM_ const char *file_ = __builtin_FILE(), int line_ = __builtin_LINE()
+#define WW_AND_FROM_ , WW_FROM_
+#define WW_THERE_ file_, line_
+#define WW_AND_THERE_ , WW_THERE_
+#define WW_NOWHERE_ [[maybe_unused]] const char *file_ = nullptr; [[maybe_unused]] int line_ = 0
+#undef WW_HERE_
+#define WW_HERE_ ww_debug_at_(file_, line_)
+#else
+#define WW_FROM_
+#define WW_AND_FROM_
+#define WW_THERE_
+#define WW_AND_THERE_
+#define WW_NOWHERE_
+#endif
+
 // In the kernel's form; the numbered locks of ww.hpp are in ww.
 namespace ww::kernel {
 
@@ -38,7 +55,7 @@ public:
 	}
 	mutex_class(const mutex_class &) = delete;
 	mutex_class &operator=(const mutex_class &) = delete;
-	// As many at once; 0: all that there may be. -EINVAL: more; -EBUSY: it is open.
+	// As many at once, as ww_class_limit has it. -EINVAL: too many; -EBUSY: it is open.
 	[[nodiscard]] int limit(std::uint32_t mutexes, std::uint32_t contexts) noexcept
 	{
 		return ww_class_limit(&it_, mutexes, contexts);
@@ -54,9 +71,10 @@ class WW_SAFETY_(capability("mutex")) mutex {
 	struct ww_mutex it_;
 
 public:
-	explicit mutex(struct ww_class &c) noexcept { ww_mutex_init(&it_, &c); }
+	explicit mutex(struct ww_class &c WW_AND_FROM_) noexcept { ww_mutex_init(&it_, &c); }
 	~mutex()
 	{
+		WW_NOWHERE_;
 		if (ww_mutex_destroy(&it_)) {
 			std::fputs("ww::kernel::mutex: somebody holds it, or waits for it\n", stderr);
 			std::abort();
@@ -64,9 +82,12 @@ public:
 	}
 	mutex(const mutex &) = delete;
 	mutex &operator=(const mutex &) = delete;
-	void lock() noexcept WW_SAFETY_(acquire_capability()) { ww_mutex_lock(&it_, nullptr); }
-	[[nodiscard]] bool try_lock() noexcept WW_SAFETY_(try_acquire_capability(true)) { return ww_mutex_trylock(&it_, nullptr); }
-	void unlock() noexcept WW_SAFETY_(release_capability()) { ww_mutex_unlock(&it_); }
+	void lock(WW_FROM_) noexcept WW_SAFETY_(acquire_capability()) { ww_mutex_lock(&it_, nullptr); }
+	[[nodiscard]] bool try_lock(WW_FROM_) noexcept WW_SAFETY_(try_acquire_capability(true))
+	{
+		return ww_mutex_trylock(&it_, nullptr);
+	}
+	void unlock(WW_FROM_) noexcept WW_SAFETY_(release_capability()) { ww_mutex_unlock(&it_); }
 	bool is_locked() noexcept { return ww_mutex_is_locked(&it_); }
 	struct ww_mutex *get() noexcept { return &it_; }
 };
@@ -76,7 +97,7 @@ class WW_SAFETY_(scoped_lockable) guard {
 	mutex &m_;
 
 public:
-	explicit guard(mutex &m) noexcept WW_SAFETY_(acquire_capability(m)) : m_(m) { m_.lock(); }
+	explicit guard(mutex &m WW_AND_FROM_) noexcept WW_SAFETY_(acquire_capability(m)) : m_(m) { m_.lock(WW_THERE_); }
 	~guard() WW_SAFETY_(release_capability()) { m_.unlock(); }
 	guard(const guard &) = delete;
 	guard &operator=(const guard &) = delete;
@@ -109,7 +130,7 @@ public:
 class context {
 	ww_acquire_ctx it_;
 
-	template <class List> int acquire_all(const List &list) WW_SAFETY_(no_thread_safety_analysis)
+	template <class List> int acquire_all(const List &list WW_AND_FROM_) WW_SAFETY_(no_thread_safety_analysis)
 	{
 		int r = 0;
 
@@ -129,7 +150,7 @@ class context {
 
 public:
 	// Where all contexts of the class are in use it waits for one, as ww_acquire_init does.
-	explicit context(struct ww_class &c, unsigned flags = 0) noexcept
+	explicit context(struct ww_class &c, unsigned flags = 0 WW_AND_FROM_) noexcept
 	{
 		ww_acquire_init(&it_, &c);
 		ww_acquire_flags(&it_, flags);
@@ -137,6 +158,7 @@ public:
 	}
 	~context()
 	{
+		WW_NOWHERE_;
 		unlock_all();
 		ww_acquire_fini(&it_);
 	}
@@ -144,48 +166,49 @@ public:
 	context &operator=(const context &) = delete;
 
 	// 0, or -EDEADLK, -EALREADY, -EINVAL, as ww_mutex_lock; after -EDEADLK comes back_off().
-	[[nodiscard]] int lock(mutex &m) noexcept WW_SAFETY_(try_acquire_capability(false, m))
+	[[nodiscard]] int lock(mutex &m WW_AND_FROM_) noexcept WW_SAFETY_(try_acquire_capability(false, m))
 	{
 		return ww_mutex_lock(m.get(), &it_);
 	}
 	// -EINTR besides, where another thread called cancel().
-	[[nodiscard]] int lock_interruptible(mutex &m) noexcept WW_SAFETY_(try_acquire_capability(false, m))
+	[[nodiscard]] int lock_interruptible(mutex &m WW_AND_FROM_) noexcept WW_SAFETY_(try_acquire_capability(false, m))
 	{
 		return ww_mutex_lock_interruptible(m.get(), &it_);
 	}
 	// -ETIMEDOUT besides.
-	[[nodiscard]] int lock_until(mutex &m, const timespec &monotonic) noexcept WW_SAFETY_(try_acquire_capability(false, m))
+	[[nodiscard]] int lock_until(mutex &m, const timespec &monotonic WW_AND_FROM_) noexcept
+		WW_SAFETY_(try_acquire_capability(false, m))
 	{
 		return ww_mutex_lock_until(m.get(), &it_, &monotonic);
 	}
-	[[nodiscard]] bool try_lock(mutex &m) noexcept WW_SAFETY_(try_acquire_capability(true, m))
+	[[nodiscard]] bool try_lock(mutex &m WW_AND_FROM_) noexcept WW_SAFETY_(try_acquire_capability(true, m))
 	{
 		return ww_mutex_trylock(m.get(), &it_);
 	}
-	void unlock(mutex &m) noexcept WW_SAFETY_(release_capability(m)) WW_SAFETY_(no_thread_safety_analysis)
+	void unlock(mutex &m WW_AND_FROM_) noexcept WW_SAFETY_(release_capability(m)) WW_SAFETY_(no_thread_safety_analysis)
 	{
 		ww_mutex_unlock(m.get());
 	}
 	void unlock_all() noexcept { ww_acquire_unlock_all(&it_); }
 	// After -EDEADLK: releases all. The next lock call first waits for the mutex at which that came.
 	void back_off() noexcept { ww_tries_more_(&it_); }
-	void done() noexcept { ww_acquire_done(&it_); }
+	void done(WW_FROM_) noexcept { ww_acquire_done(&it_); }
 	int cancel() noexcept { return ww_acquire_cancel(&it_); }
 	unsigned held() const noexcept { return it_.acquired; }
 	ww_acquire_ctx *get() noexcept { return &it_; }
 
 	// Acquires the mutexes of a list of pointers, in any order, and backs off by itself; the context holds nothing before.
 	// 0, or an error for which it holds nothing: -EALREADY for one that stands there twice, -EINTR, -EINVAL.
-	template <class List> [[nodiscard]] int lock_all(const List &list)
+	template <class List> [[nodiscard]] int lock_all(const List &list WW_AND_FROM_)
 	{
 		if (it_.acquired)
 			return -EINVAL;
 		ww_tries_begin_(&it_);
-		return acquire_all(list);
+		return acquire_all(list WW_AND_THERE_);
 	}
 
 	// The same, and then calls fn and releases all, also where fn throws. It gives what fn returns.
-	template <class List, class Fn> auto with_all(const List &list, Fn &&fn) -> result<std::invoke_result_t<Fn>>
+	template <class List, class Fn> auto with_all(const List &list, Fn &&fn WW_AND_FROM_) -> result<std::invoke_result_t<Fn>>
 	{
 		using value = std::invoke_result_t<Fn>;
 		struct releases {
@@ -193,7 +216,7 @@ public:
 			~releases() { x.unlock_all(); }
 		};
 
-		if (int r = lock_all(list))
+		if (int r = lock_all(list WW_AND_THERE_))
 			return result<value>(r);
 		releases at_end{ *this };
 		if constexpr (std::is_void_v<value>) {
@@ -207,10 +230,20 @@ public:
 
 // By a context of its own.
 template <class List, class Fn>
-auto lock_all(struct ww_class &c, const List &list, Fn &&fn, unsigned flags = 0) -> result<std::invoke_result_t<Fn>>
+auto lock_all(struct ww_class &c, const List &list, Fn &&fn, unsigned flags = 0 WW_AND_FROM_) -> result<std::invoke_result_t<Fn>>
 {
-	return context(c, flags).with_all(list, std::forward<Fn>(fn));
+	return context(c, flags WW_AND_THERE_).with_all(list, std::forward<Fn>(fn) WW_AND_THERE_);
 }
 
 } // namespace ww::kernel
+
+#undef WW_FROM_
+#undef WW_AND_FROM_
+#undef WW_THERE_
+#undef WW_AND_THERE_
+#undef WW_NOWHERE_
+#ifdef WW_DEBUG
+#undef WW_HERE_
+#define WW_HERE_ ww_debug_at_(__FILE__, __LINE__)
+#endif
 #endif

@@ -3,48 +3,83 @@
 #define WW_POOL_H
 #include "ww_inside.h"
 #include "ww_mutex.h"
-
-#define LIKELY(fact) __builtin_expect(!!(fact), 1)
-#define UNLIKELY(fact) __builtin_expect(!!(fact), 0)
-#define COLD __attribute__((noinline, cold))
+#include <pthread.h>
 
 struct debug;
 
+/*
+ * Numbers from 0 to count - 1: those from `fresh` on were never given, and each of the
+ * others that is free is in one of the stacks.  A thread gives to its own one, and takes
+ * from there first, so threads seldom meet there.
+ */
+enum { STACKS = 16 };
+struct ww_stack {
+	uint64_t top; /* a number plus one, and above that how often it changed */
+} __attribute__((aligned(64)));
+struct ww_numbers {
+	uint32_t fresh, count;
+	uint32_t *below; /* for each free number the one below it, plus one */
+	struct ww_stack stacks[STACKS];
+};
+
+/*
+ * Once its class is freed its memory stays, for a class that is opened later: whoever gave a
+ * seat looks at `own_id`, or at `seekers`, once more, though others may have freed the class by then.
+ */
 struct ww_pool {
 	ww_world *world;
 	struct ww_class *class_;
 	uint64_t id; /* no other class that is or was open has the same */
+	uint64_t own_id; /* the same, as long as its seats aren't shared; then SHARING, and SHARED once they are */
 	uint32_t mutexes, contexts;
 	bool gone; /* it was opened before a fork, of which this is the child */
 	struct ww_pool *next;
 	struct debug *debug;
-	/* Numbers that were never given are those from `fresh`; of the others the free ones are a stack. */
-	struct {
-		uint32_t fresh;
-		uint64_t top;    /* its number plus one, and above that how often it changed */
-		uint32_t *below; /* for each free number the one below it, plus one */
-	} __attribute__((aligned(64))) numbers;
-	uint32_t seekers __attribute__((aligned(64))); /* they wait for a seat, */
-	uint32_t given;                                /* and sleep on this word */
+	struct ww_numbers numbers; /* of mutexes */
+	struct ww_numbers loose;   /* of the seats that no thread keeps and nobody uses */
+	uint32_t seekers __attribute__((aligned(64))); /* so many threads wait for a seat; others take none meanwhile */
+	struct ww_seeker *first, *last;                /* of these, in the order in which they came */
+	pthread_mutex_t queue;                         /* for both */
+	/* Whoever has it uses the seat behind those of the contexts, and waits for nobody. */
+	pthread_mutex_t spare __attribute__((aligned(64)));
 };
 
-/* The seats that this thread had. Its address is that of the thread. */
-enum { KEPT = 4 };
+/*
+ * A seat is kept by the thread that took it, and nobody else takes it, until some
+ * thread finds none: from then on the class's seats are shared, and each is loose while
+ * it isn't used.  Before, its keeper says that it is busy, and only then looks whether
+ * they are shared; whoever shares them says so first, makes each thread see that by
+ * membarrier(2), and only then looks which of them are busy: those are left to whoever
+ * uses them, and the others are loose.
+ *
+ * Whoever ends the use of a seat that it had before the seats were shared asks whether
+ * the seat was left to it; one that was taken later is always given by who used it.
+ */
+#define SHARING (UINT64_MAX - 1)
+#define SHARED UINT64_MAX
+
+/* The seats that this thread keeps. */
+enum { KEPT = 12 };
 struct ww_mine {
-	struct {
+	struct ww_kept {
 		uint64_t id;
 		ww_seat *seat;
-	} seats[KEPT]; /* the last one first */
-	bool told;     /* that the thread ends */
+	} seats[KEPT];  /* the last one first */
+	uint32_t stack; /* its number plus one, once it has one */
+	bool told;      /* that the thread ends */
 };
 WW_HIDDEN extern __thread struct ww_mine ww_mine __attribute__((tls_model("initial-exec")));
 
-/* -ENOSPC: all are given; -EINVAL: the class was opened before a fork. */
-WW_HIDDEN int ww_take_number(struct ww_pool *p, uint32_t *number);
-WW_HIDDEN void ww_give_number(struct ww_pool *p, uint32_t number);
-/* A seat that this thread had not long ago, or one that no other thread keeps, or else any that nobody has; or NULL. */
+/* A number that is free, if there is one. */
+WW_HIDDEN bool ww_take_number(struct ww_numbers *of, uint32_t *number);
+WW_HIDDEN void ww_give_number(struct ww_numbers *of, uint32_t number);
+/* Where the seat that this thread had last isn't at hand: any other that it may use now; or NULL. */
 WW_HIDDEN ww_seat *ww_other_seat(struct ww_pool *p);
-/* Waits for a seat, until a time if that isn't NULL: -ETIMEDOUT; -EINVAL as above. */
+/* The keeper of this seat began to use it while they came to be shared. */
+WW_HIDDEN ww_seat *ww_late_seat(struct ww_pool *p, ww_seat *s);
+/* The seats of the class that had this number are shared, or it is open no more. */
+WW_HIDDEN void ww_give_shared(struct ww_pool *p, ww_seat *s, uint64_t id, bool was_loose);
+/* Waits for a seat behind all who wait already, until a time if that isn't NULL: -ETIMEDOUT; -EINVAL in a child. */
 WW_HIDDEN int ww_seek_seat(struct ww_pool *p, const struct timespec *until, ww_seat **s);
 
 static inline int pool_of(struct ww_class *c, struct ww_pool **p)
@@ -54,36 +89,80 @@ static inline int pool_of(struct ww_class *c, struct ww_pool **p)
 		return 0;
 	int r = ww_class_open(c);
 
-	*p = c->pool;
+	*p = __atomic_load_n(&c->pool, __ATOMIC_ACQUIRE);
 	return r;
 }
 
-static inline bool take_seat(ww_seat *s)
+/*
+ * Whether this thread keeps the seat that it had last, of this class, and nobody uses it: a context that was begun here may
+ * go on elsewhere.  own_id is read relaxed: if it was another's just before, use_kept finds that.
+ */
+static inline bool has_at_hand(const struct ww_pool *p)
 {
-	return !__atomic_load_n(&s->taken, __ATOMIC_RELAXED) && !__atomic_exchange_n(&s->taken, true, __ATOMIC_ACQUIRE);
+	return LIKELY(ww_mine.seats[0].id == __atomic_load_n(&p->own_id, __ATOMIC_RELAXED)) &&
+	       LIKELY(!__atomic_load_n(&ww_mine.seats[0].seat->busy, __ATOMIC_ACQUIRE));
+}
+
+/*
+ * By its keeper; whether it isn't shared yet, or else ww_late_seat says what is to be done.  Relaxed, both: what
+ * orders them, for whoever shares the seats, is its membarrier.
+ */
+static inline bool use_kept(struct ww_pool *p, ww_seat *s)
+{
+	__atomic_store_n(&s->busy, true, __ATOMIC_RELAXED);
+	__atomic_signal_fence(__ATOMIC_SEQ_CST);
+	return LIKELY(__atomic_load_n(&p->own_id, __ATOMIC_RELAXED) < SHARING);
 }
 
 static inline ww_seat *seat_at_once(struct ww_pool *p)
 {
 	ww_seat *s = ww_mine.seats[0].seat;
 
-	return LIKELY(ww_mine.seats[0].id == p->id && take_seat(s)) ? s : ww_other_seat(p);
+	if (UNLIKELY(!has_at_hand(p)))
+		return ww_other_seat(p);
+	return LIKELY(use_kept(p, s)) ? s : ww_late_seat(p, s);
 }
 
-static inline void give_seat(struct ww_pool *p, ww_seat *s)
+/*
+ * was_loose: it was taken when its class's seats were shared; only its user knows, since once it isn't busy
+ * somebody else may take it, and free the class.  Where they aren't shared, it is free once it isn't busy.
+ */
+static inline void give_seat(struct ww_pool *p, ww_seat *s, bool was_loose)
 {
-	if (UNLIKELY(p->gone))
-		return;
-	/* Whoever seeks says so before it looks, and this looks after it gave. */
-	__atomic_store_n(&s->taken, false, __ATOMIC_SEQ_CST);
-	if (UNLIKELY(__atomic_load_n(&p->seekers, __ATOMIC_SEQ_CST))) {
-		__atomic_fetch_add(&p->given, 1, __ATOMIC_SEQ_CST);
-		ww_futex_wake(&p->given);
-	}
+	uint64_t id = p->id;
+
+	__atomic_store_n(&s->busy, false, __ATOMIC_RELEASE);
+	__atomic_signal_fence(__ATOMIC_SEQ_CST);
+	/* Relaxed: as in use_kept; where it changed because the class was freed, nothing of that is looked at any more. */
+	if (UNLIKELY(__atomic_load_n(&p->own_id, __ATOMIC_RELAXED) != id))
+		ww_give_shared(p, s, id, was_loose);
 }
+
+/*
+ * A seat that no context has, so that whatever has to be done at once is, though all
+ * contexts are in use: it calls off waits, and tells whether a lock is free.
+ */
+static inline ww_seat *borrow_spare(struct ww_pool *p)
+{
+	pthread_mutex_lock(&p->spare);
+	return &p->world->seats[p->contexts];
+}
+static inline void put_spare(struct ww_pool *p) { pthread_mutex_unlock(&p->spare); }
+
+/* The pool of a context that has ended, or whose lock calls have more to do: no mutex has it. */
+#define NO_POOL ((struct ww_pool *)1)
 
 /* Of a context: it backs off by itself; and what only the debug library asks for. */
-enum { IS_TRYING = 1, HAS_TO_BACK_OFF = 2, WAITS_FIRST = 4, TRIES = 7, IS_DONE = 8, WAS_TOLD = 16, WAS_INJECTED = 32 };
+enum {
+	IS_TRYING = WW_IS_TRYING_,
+	HAS_TO_BACK_OFF = WW_HAS_TO_BACK_OFF_,
+	WAITS_FIRST = 4,
+	TRIES = 7,
+	IS_DONE = 8,
+	WAS_TOLD = 16,
+	WAS_INJECTED = 32,
+	HEEDS_IN_LOOPS = 64,
+};
 
 #ifdef WW_DEBUG
 WW_HIDDEN int ww_debug_open(struct ww_pool *p);

@@ -20,12 +20,11 @@ static int go_on(int seat)
 	int answer;
 
 	do {
-		bool wakes[WW_MAX_SEATS];
 		uint32_t rest; /* nobody else runs meanwhile, so it needs none */
 
-		answer = ww_go_on_(&seats[seat], wakes, &rest);
-		for (int k = 0; k < SEATS; k++)
-			woken[k] += wakes[k];
+		answer = ww_go_on_(&seats[seat], &rest);
+		for (int k; (k = ww_next_wake_(&seats[seat])) >= 0;)
+			woken[k]++;
 	} while (answer > 0 && answer != WW_SLEEPS);
 	return answer;
 }

@@ -1,9 +1,9 @@
-"""Two threads move money between two accounts, each in its own direction: transfers.py libww.so"""
+"""Two threads move money between two accounts, each in its own direction: transfers.py [libww.so]"""
 import os
 import sys
 import threading
 
-sys.path.insert(0, os.path.join(os.path.dirname(os.path.abspath(__file__)), ".."))
+sys.path.insert(0, os.path.join(os.path.dirname(os.path.abspath(__file__)), ".."))  # where it isn't installed
 import ww
 
 accounts = [0, 0]
@@ -18,7 +18,7 @@ def work(world, locks):
 
 
 for kind in (ww.WOUND_WAIT, ww.WAIT_DIE):
-    world = ww.World(sys.argv[1], kind, 2, 2)
+    world = ww.World(kind, 2, 2, *sys.argv[1:])
     threads = [threading.Thread(target=work, args=(world, [me, 1 - me])) for me in (0, 1)]
     for thread in threads:
         thread.start()

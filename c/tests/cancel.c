@@ -83,6 +83,45 @@ static void is_not_left_behind(void)
 	}
 }
 
+static void *waits_once(void *arg)
+{
+	(void)arg;
+	MUST(ww_lock_interruptible(seats[1], 0) == -EINTR);
+	return NULL;
+}
+
+/* A cancel that was met is over: each next user of the seat can be cancelled. */
+static void is_over(void)
+{
+	for (unsigned k = 0; k < 3; k++) {
+		pthread_t thread;
+
+		MUST(!ww_lock(seats[0], 0) && !pthread_create(&thread, NULL, waits_once, NULL));
+		usleep(1000);
+		MUST(!ww_cancel(seats[0], seats[1]) && !pthread_join(thread, NULL) && !ww_unlock(seats[0], 0));
+		changes_hands();
+	}
+}
+
+/* Told to end by pthread_cancel before: so it would end at the first call at which such a thread ends. */
+static void *is_told_to_end(void *arg)
+{
+	MUST(!pthread_cancel(pthread_self()));
+	MUST(!ww_lock(seats[1], 0) && !ww_unlock(seats[1], 0));
+	return arg;
+}
+
+/* It ends behind its calls, though it sleeps amid one. */
+static void is_no_end_of_thread(void)
+{
+	pthread_t thread;
+	void *ended;
+
+	MUST(!ww_lock(seats[0], 0) && !pthread_create(&thread, NULL, is_told_to_end, &seats));
+	usleep(20000);
+	MUST(!ww_unlock(seats[0], 0) && !pthread_join(thread, &ended) && ended == &seats);
+}
+
 /* Just as the wait meets what was left, another cancel comes: that one calls it off, once, whoever is first. */
 static void comes_meanwhile(unsigned i)
 {
@@ -121,6 +160,8 @@ int main(void)
 			MUST(!pthread_join(thread, NULL) && !ww_unlock(seats[0], 0));
 		}
 		is_not_left_behind();
+		is_over();
+		is_no_end_of_thread();
 		for (unsigned i = 0; i < 500; i++)
 			comes_meanwhile(i);
 		MUST(ww_close(world) == -EBUSY && !ww_seat_put(seats[0]));

@@ -80,8 +80,8 @@ static void opens_within_bounds(int kind)
 	does_not_open(kind, 0, 2);
 	does_not_open(kind, UINT32_MAX, 2);
 	does_not_open(kind, 2, 0);
-	does_not_open(kind, 2, WW_MAX_SEATS + 1);
-	does_not_open(kind, 2, 256 + 2);
+	does_not_open(kind, 2, 4096);
+	does_not_open(kind, 2, 65536 + 2);
 	does_not_open(kind, 2, UINT32_MAX);
 }
 

@@ -35,6 +35,14 @@ static void answers(struct ww_class *c)
 	MUST(ww_acquire_fini_checked(&x) == -EINVAL && ww_acquire_done_checked(&x) == -EINVAL);
 	MUST(ww_mutex_lock(&a, &x) == -EINVAL && ww_acquire_cancel(&x) == -EINVAL);
 	MUST(!ww_mutex_destroy(&a) && !ww_mutex_destroy(&b));
+	/* No context and no mutex any more. */
+	MUST(ww_mutex_lock(&a, &x) == -EINVAL && ww_mutex_lock_interruptible(&a, &x) == -EINVAL);
+	MUST(ww_mutex_unlock_checked(&a) == -EINVAL);
+	/* Memory that was something else before. */
+	memset(&x, 0xff, sizeof x);
+	ww_acquire_init(&x, c);
+	MUST(!ww_is_contended(&x) && !x.acquired);
+	ww_acquire_fini(&x);
 }
 
 /* Without a context a thread holds several at once, also while it has a context. */
@@ -70,12 +78,21 @@ static void two_contexts(struct ww_class *c, bool plainly)
 	ww_acquire_init(&younger, c);
 	MUST(!ww_mutex_lock(&a, &older) && !ww_mutex_lock(&b, &younger));
 	if (c->is_wait_die) {
-		MUST(ww_mutex_lock(&a, &younger) == -EDEADLK && younger.acquired == 1);
+		struct ww_mutex its, *list[] = { &a };
+
+		MUST((plainly ? ww_mutex_lock(&a, &younger) : ww_mutex_lock_all(&younger, list, 1)) == -EDEADLK);
+		MUST(younger.acquired == 1 && !ww_is_contended(&younger));
 		MUST(ww_mutex_lock(&a, &younger) == -EINVAL && ww_mutex_lock_slow_checked(&a, &younger) == -EINVAL);
 		MUST(!ww_mutex_trylock(&a, &younger));
 		ww_mutex_unlock(&b);
 		MUST(ww_mutex_lock_slow_checked(&b, &younger) == -EINVAL);
 		ww_mutex_unlock(&a);
+		/* Another class's mutex, of the same number. */
+		ww_mutex_init(&its, &other);
+		its.number = a.number;
+		MUST(ww_mutex_lock_slow_checked(&its, &younger) == -EINVAL && ww_mutex_lock_slow_interruptible(&its, &younger) == -EINVAL);
+		its.number = 0;
+		MUST(!ww_mutex_destroy(&its));
 		if (plainly)
 			MUST(!ww_mutex_lock(&a, &younger));
 		else

@@ -3,11 +3,14 @@
 #include "../ww.hpp"
 #include "../ww_mutex.hpp"
 #include <array>
+#include <ctime>
 #include <memory>
 #include <mutex>
 #include <string>
 #include <thread>
 #include <vector>
+#include <sys/wait.h>
+#include <unistd.h>
 
 #define MUST(fact)                                                                                     \
 	do {                                                                                           \
@@ -114,6 +117,35 @@ static void lists(struct ww_class &c)
 	MUST(x.lock(d.lock) == -EINVAL);
 }
 
+// After a back-off, in Wait-Die: whatever is acquired first is instead of the wait, and that has its time.
+static void backs_off(struct ww_class &c) WW_SAFETY_(no_thread_safety_analysis)
+{
+	mutex a(c), b(c), d(c);
+	context older(c), x(c);
+	timespec now;
+
+	MUST(!older.lock(a) && !x.lock(b) && x.lock(a) == -EDEADLK);
+	x.back_off();
+	MUST(!clock_gettime(CLOCK_MONOTONIC, &now) && x.lock_until(b, now) == -ETIMEDOUT && !x.held());
+	MUST(x.try_lock(d) && !x.try_lock(a) && !x.lock(b) && x.held() == 2);
+}
+
+static mutex_class lasting(mutex_class::wait_die, "lasting");
+static mutex held_at_a_fork(lasting);
+
+// A child ends as others do, whatever threads held that aren't there.
+static void forks()
+{
+	int status = 1;
+
+	held_at_a_fork.lock();
+	const pid_t child = fork();
+	if (!child)
+		std::exit(0);
+	MUST(child > 0 && waitpid(child, &status, 0) == child && !status);
+	held_at_a_fork.unlock();
+}
+
 static void storm(struct ww_class &c)
 {
 	constexpr int threads = 6, times = 3000, count = 8;
@@ -167,6 +199,8 @@ int main()
 		storm(own);
 	}
 	lists(ww_class);
+	backs_off(ww_class);
+	forks();
 	MUST(!ww_class_free(&ww_class));
 	std::puts("mutex_own: each released itself");
 }

@@ -1,5 +1,5 @@
 /*
- * The sixteen contexts of a class: all may be in use, by one thread or by many; a
+ * A class of sixteen contexts: all may be in use, by one thread or by many; a
  * thread that used the class keeps none of them from others, whether it ended or
  * not; and a thread that has to wait for one goes on once one ends.
  */
@@ -44,10 +44,10 @@ static void *locks_alone(void *arg)
 /* All at once, by this thread. */
 static void all_in_use(void)
 {
-	struct ww_acquire_ctx list[WW_MAX_SEATS];
+	struct ww_acquire_ctx list[16];
 	pthread_t threads[3];
 
-	for (unsigned k = 0; k < WW_MAX_SEATS; k++)
+	for (unsigned k = 0; k < 16; k++)
 		MUST(!ww_acquire_init_checked(&list[k], c));
 	is_full();
 	ww_mutex_init(&awaited, c);
@@ -59,7 +59,7 @@ static void all_in_use(void)
 	ww_acquire_fini(&list[7]);
 	for (unsigned k = 0; k < 3; k++)
 		end_thread(threads[k]);
-	for (unsigned k = 0; k < WW_MAX_SEATS; k++)
+	for (unsigned k = 0; k < 16; k++)
 		if (k != 7)
 			ww_acquire_fini(&list[k]);
 	MUST(!ww_mutex_destroy(&awaited));
@@ -78,19 +78,19 @@ static void *keeps(void *arg)
 /* Sixteen others each had a context; this one takes them all. */
 static void kept_by_others(void)
 {
-	pthread_t threads[WW_MAX_SEATS];
-	struct ww_acquire_ctx list[WW_MAX_SEATS];
+	pthread_t threads[16];
+	struct ww_acquire_ctx list[16];
 
-	for (unsigned k = 0; k < WW_MAX_SEATS; k++)
+	for (unsigned k = 0; k < 16; k++)
 		threads[k] = begin_thread(keeps, NULL);
 	pthread_barrier_wait(&all_there);
-	for (unsigned k = 0; k < WW_MAX_SEATS; k++)
+	for (unsigned k = 0; k < 16; k++)
 		MUST(!ww_acquire_init_checked(&list[k], c));
 	is_full();
-	for (unsigned k = 0; k < WW_MAX_SEATS; k++)
+	for (unsigned k = 0; k < 16; k++)
 		ww_acquire_fini(&list[k]);
 	pthread_barrier_wait(&all_done);
-	for (unsigned k = 0; k < WW_MAX_SEATS; k++)
+	for (unsigned k = 0; k < 16; k++)
 		end_thread(threads[k]);
 	for (unsigned k = 0; k < 40; k++)
 		end_thread(begin_thread(begins, NULL));
@@ -142,17 +142,18 @@ static void many_for_few(void)
 		threads[k] = begin_thread(adds, NULL);
 	for (unsigned k = 0; k < THREADS; k++)
 		end_thread(threads[k]);
-	MUST(sum == THREADS * 500 && !ww_mutex_destroy(&guard) && !ww_class_free(c) && !ww_class_limit(c, 0, 0));
+	MUST(sum == THREADS * 500 && !ww_mutex_destroy(&guard) && !ww_class_free(c));
 }
 
 int main(void)
 {
 	struct ww_class *classes[] = { &wound_wait, &wait_die };
 
-	pthread_barrier_init(&all_there, NULL, WW_MAX_SEATS + 1);
-	pthread_barrier_init(&all_done, NULL, WW_MAX_SEATS + 1);
+	pthread_barrier_init(&all_there, NULL, 16 + 1);
+	pthread_barrier_init(&all_done, NULL, 16 + 1);
 	for (unsigned kind = 0; kind < 2; kind++) {
 		c = classes[kind];
+		MUST(!ww_class_limit(c, 0, 16));
 		for (unsigned again = 0; again < 3; again++) {
 			all_in_use();
 			kept_by_others();

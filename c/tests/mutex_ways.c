@@ -99,7 +99,7 @@ static void races_with_time(void)
 	MUST(lates[0] && lates[1] && lates[2]);
 }
 
-/* With all contexts in use a time is heeded once one of them ends. */
+/* A time is heeded with all contexts in use. */
 static void *waits_in_vain(void *ctx)
 {
 	struct timespec soon = in_ms(1);
@@ -110,22 +110,17 @@ static void *waits_in_vain(void *ctx)
 
 static void ends_with_all_in_use(void)
 {
-	struct ww_acquire_ctx all[WW_MAX_SEATS];
+	struct ww_acquire_ctx all[16];
 	pthread_t thread;
 
-	for (unsigned k = 0; k < WW_MAX_SEATS; k++)
+	for (unsigned k = 0; k < 16; k++)
 		MUST(!ww_acquire_init_checked(&all[k], c));
 	MUST(!ww_mutex_lock(&a, &all[0]));
 	thread = begin_thread(waits_in_vain, &all[1]);
-	awaits_waiter(&a);
-	usleep(5000);
-	MUST(a.waiters == 1);
-	ww_acquire_fini(&all[2]);
 	end_thread(thread);
 	ww_mutex_unlock(&a);
-	for (unsigned k = 0; k < WW_MAX_SEATS; k++)
-		if (k != 2)
-			ww_acquire_fini(&all[k]);
+	for (unsigned k = 0; k < 16; k++)
+		ww_acquire_fini(&all[k]);
 }
 
 /* ---- a cancel ---- */
@@ -176,7 +171,7 @@ static void calls_off(void)
 static void *isnt_called_off(void *arg)
 {
 	(void)arg;
-	for (unsigned k = 0; k < WW_MAX_SEATS; k++) {
+	for (unsigned k = 0; k < 16; k++) {
 		struct ww_acquire_ctx x;
 
 		ww_acquire_init(&x, c);
@@ -190,16 +185,16 @@ static void *isnt_called_off(void *arg)
 /* A cancel that found no wait ends with its context, and its seat's next context hears nothing of it. */
 static void forgets_cancels(void)
 {
-	struct ww_acquire_ctx all[WW_MAX_SEATS];
+	struct ww_acquire_ctx all[16];
 	struct timespec past = { 0, 0 };
 	pthread_t thread;
 
 	MUST(!ww_mutex_lock(&a, NULL));
-	for (unsigned k = 0; k < WW_MAX_SEATS - 1; k++) {
+	for (unsigned k = 0; k < 16 - 1; k++) {
 		ww_acquire_init(&all[k], c);
-		MUST(!ww_acquire_cancel(&all[k]) && (k % 2 || k == WW_MAX_SEATS - 2 || ww_mutex_lock_until(&a, &all[k], &past) == -EINTR));
+		MUST(!ww_acquire_cancel(&all[k]) && (k % 2 || k == 16 - 2 || ww_mutex_lock_until(&a, &all[k], &past) == -EINTR));
 	}
-	for (unsigned k = 0; k < WW_MAX_SEATS - 1; k++)
+	for (unsigned k = 0; k < 16 - 1; k++)
 		ww_acquire_fini(&all[k]);
 	thread = begin_thread(isnt_called_off, NULL);
 	awaits_waiter(&a);
@@ -367,6 +362,7 @@ int main(void)
 
 	for (unsigned kind = 0; kind < 2; kind++) {
 		c = classes[kind];
+		MUST(!ww_class_limit(c, 0, 16));
 		ww_mutex_init(&a, c);
 		ww_mutex_init(&b, c);
 		for (unsigned k = 0; k < 8; k++)

@@ -36,10 +36,10 @@ def is_no_number(call, *words):
 
 def opens(path):
     """Worlds within the bounds alone; no number is cut short."""
-    words = [(2, 2, 1), (ww.WAIT_DIE, 0, 1), (ww.WAIT_DIE, LOCKS + 1, 1), (ww.WAIT_DIE, 2, 17), (ww.WAIT_DIE, 2, 0)]
-    words += [(2**32, 2, 1), (ww.WAIT_DIE, 2**32 + 2, 1), (ww.WAIT_DIE, 2, 2**32 + 2), (ww.WAIT_DIE, -1, 1)]
+    words = [(2, 2, 1), (ww.WAIT_DIE, 0, 1), (ww.WAIT_DIE, LOCKS + 1, 1), (ww.WAIT_DIE, 2, 4096), (ww.WAIT_DIE, 2, 0)]
+    words += [(2**32, 2, 1), (ww.WAIT_DIE, 2**32 + 2, 1), (ww.WAIT_DIE, 2, 2**32 + 2), (ww.WAIT_DIE, 2, 2**16 + 2), (ww.WAIT_DIE, -1, 1)]
     for kind, locks, seats in words:
-        assert is_refused(errno.EINVAL, ww.World, path, kind, locks, seats)
+        assert is_refused(errno.EINVAL, ww.World, kind, locks, seats, path)
 
 
 def holds(seat, locks):
@@ -95,7 +95,7 @@ def calls_off(seat, other):
 opens(sys.argv[1])
 for kind in (ww.WOUND_WAIT, ww.WAIT_DIE):
     for locks in (2, 64, LOCKS):
-        world = ww.World(sys.argv[1], kind, locks, 2)
+        world = ww.World(kind, locks, 2, sys.argv[1])
         with world.seat() as seat, world.seat() as other:
             assert is_refused(errno.EBUSY, world.seat) and is_refused(errno.EBUSY, world.close)
             holds(seat, locks)
@@ -104,5 +104,5 @@ for kind in (ww.WOUND_WAIT, ww.WAIT_DIE):
         assert is_refused(errno.EINVAL, seat.lock, 0) and is_refused(errno.EINVAL, seat.cancel, other)
         world.close()
         world.close()
-        assert is_refused(errno.EBUSY, world.seat)
+        assert is_refused(errno.EINVAL, world.seat)
 print("refusals: each told, and nothing stays held")

@@ -39,14 +39,18 @@ struct tried rattle_realloc(void *p, size_t kept, size_t size, size_t align)
 void rattle_dealloc(void *p) { free(p); }
 
 void *__real_aligned_alloc(size_t align, size_t size);
+void *__real_calloc(size_t count, size_t size);
 void __real_free(void *p);
 void *__wrap_aligned_alloc(size_t align, size_t size);
+void *__wrap_calloc(size_t count, size_t size);
 void __wrap_free(void *p);
 
 void *__wrap_aligned_alloc(size_t align, size_t size)
 {
 	return asked(made++ == refused ? NULL : __real_aligned_alloc(align, size));
 }
+
+void *__wrap_calloc(size_t count, size_t size) { return asked(made++ == refused ? NULL : __real_calloc(count, size)); }
 
 void __wrap_free(void *p)
 {
@@ -57,31 +61,31 @@ void __wrap_free(void *p)
 /* By the call that opens handles. Afterwards no other call takes memory. */
 static void opens_handles(uint32_t kind, uint32_t locks)
 {
-	ww_handle handles[WW_MAX_SEATS] = { { 0 } };
+	ww_handle handles[16] = { { 0 } };
 	long all;
 	int r;
 
 	for (refused = 0;; refused++) {
 		made = 0;
-		r = ww_open_(kind, locks, 100, handles, WW_MAX_SEATS);
+		r = ww_open_(kind, locks, 100, handles, 16);
 		if (!r)
 			break;
 		MUST(r == -ENOMEM && !live);
-		for (unsigned k = 0; k < WW_MAX_SEATS; k++)
-			MUST(!handles[k].at && !handles[k].full);
+		for (unsigned k = 0; k < 16; k++)
+			MUST(!handles[k].at && !handles[k].standing);
 	}
 	all = made;
 	MUST(all == refused);
 	made = 0;
 	refused = -1;
-	for (uint32_t k = 0; k < WW_MAX_SEATS; k++) {
+	for (uint32_t k = 0; k < 16; k++) {
 		ww_handle *h = &handles[k];
 
 		MUST(!ww_begin_(h) && !ww_lock_(h, k, false) && !ww_lock_(h, locks - 1, false));
-		MUST(!ww_unlock_(h, k) && !ww_unlock_all_(h) && !ww_end_(h));
+		MUST(!ww_unlock_(h, k) && ww_has_(h, k) == -EINVAL && !ww_unlock_(h, locks - 1) && !ww_end_(h));
 	}
 	MUST(!made);
-	for (unsigned k = 0; k < WW_MAX_SEATS; k++)
+	for (unsigned k = 0; k < 16; k++)
 		MUST(!ww_close_(&handles[k]));
 	MUST(!live);
 	printf("%ld allocations to open %u locks with 16 seats, each refused in turn; none by the calls\n", all, locks);

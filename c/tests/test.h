@@ -45,16 +45,18 @@ static inline unsigned long lock_all(ww_seat *s, const uint32_t *list, uint32_t 
 /* The next step of a call, which wakes nobody and rests for nothing. */
 static inline int turn(ww_handle *h)
 {
-	bool wakes[WW_MAX_SEATS];
 	uint32_t rest;
+	int r = ww_go_on_(h, &rest);
 
-	return ww_go_on_(h, wakes, &rest);
+	while (ww_next_wake_(h) >= 0)
+		;
+	return r;
 }
 
 /* Runs this in so many threads, each with its number. */
 static inline void in_threads(unsigned count, void *(*work)(void *))
 {
-	pthread_t threads[WW_MAX_SEATS];
+	pthread_t threads[16];
 
 	for (size_t k = 0; k < count; k++)
 		MUST(!pthread_create(&threads[k], NULL, work, (void *)k));

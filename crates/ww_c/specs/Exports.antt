@@ -1,9 +1,9 @@
 -- What a call by a handle of C's comes to.
-use Rattle.std.specs.Prelude.{ℕ, zero, suc, ◌≡◌, ◌≤◌, ◌⊎◌, ℤ, pos, negsuc, Bool, false, List, length, map, replicate, Option, Some, None, Box}
+use Rattle.std.specs.Prelude.{ℕ, zero, suc, ◌≡◌, ◌≤◌, ◌⊎◌, ℤ, pos, negsuc, List, length, map, Option, Some, None, Box}
 use Rattle.std.specs.Global.{Global}
 use Rattle.ww_desk.specs.declared.turn.Answer.{Answer}
 use Rattle.ww_desk.specs.Situations.{Situation}
-use Rattle.ww_desk.specs.Answers.{IsNextAnswer, IsCancelAnswer, IsWakesAnswer, IsIdle}
+use Rattle.ww_desk.specs.Answers.{IsEachAnswer, IsNextAnswer, IsCancelAnswer, IsWakeAnswer, IsIdle}
 use Rattle.ww_desk.specs.Opened.{IsWorldSize, IsOpened}
 use Rattle.ww_queue.specs.declared.kind.Kind.{Kind}
 use Rattle.ww_queue.specs.declared.kind.Kind.TheVariants.{WoundWait, WaitDie}
@@ -15,23 +15,31 @@ abbrev pub IsCall : (Situation → Answer → Situation → Type 0) → Option S
 IsCall answers None code after = (code ≡ negsuc 21) × (after ≡ None)
 IsCall answers (Some s) code after = (a : Answer) × (s' : Situation) × (after ≡ Some s') × answers s a s' × (code ≡ code_of a)
 
--- ... and then it is told whom to wake
-abbrev pub IsWakingCall : (Situation → Answer → Situation → Type 0) → Option Situation → ℤ → List Bool → Option Situation → Type 0
-IsWakingCall answers None code wakes after = (code ≡ negsuc 21) × (wakes ≡ replicate 16 false) × (after ≡ None)
-IsWakingCall answers (Some s) code wakes after = (a : Answer) × (t s' : Situation) × (after ≡ Some s')
-    × answers s a t × IsWakesAnswer t wakes s' × (code ≡ code_of a)
+-- a seat to be woken, or none
+abbrev pub wake_code : Option ℕ → ℤ
+wake_code None = negsuc 21
+wake_code (Some who) = pos who
+
+abbrev pub IsWakeCall : Option Situation → ℤ → Option Situation → Type 0
+IsWakeCall None code after = (code ≡ negsuc 21) × (after ≡ None)
+IsWakeCall (Some s) code after = (who : Option ℕ) × (s' : Situation) × (after ≡ Some s') × IsWakeAnswer s who s' × (code ≡ wake_code who)
 
 abbrev pub goes_on : Situation → Answer → Situation → Type 0
 goes_on s a s' = IsNextAnswer s.turn s a s'
 
 -- the next step, which also tells how many pauses to rest
-abbrev pub IsTurnCall : Option Situation → ℤ → List Bool → ℕ → Option Situation → Type 0
-IsTurnCall None code wakes pauses after = (code ≡ negsuc 21) × (wakes ≡ replicate 16 false) × (pauses ≡ 0) × (after ≡ None)
-IsTurnCall (Some s) code wakes pauses after = (a : Answer) × (t s' : Situation) × (after ≡ Some s') × goes_on s a t
-    × IsWakesAnswer t wakes s' × (code ≡ code_of a) × (pauses ≡ pauses_of a)
+abbrev pub IsTurnCall : Option Situation → ℤ → ℕ → Option Situation → Type 0
+IsTurnCall None code pauses after = (code ≡ negsuc 21) × (pauses ≡ 0) × (after ≡ None)
+IsTurnCall (Some s) code pauses after = (a : Answer) × (s' : Situation) × (after ≡ Some s') × goes_on s a s'
+    × (code ≡ code_of a) × (pauses ≡ pauses_of a)
 
 abbrev pub cancels : ℕ → Situation → Answer → Situation → Type 0
 cancels u s a s' = IsCancelAnswer s u a s'
+
+-- which locks of a list it has released, from the end on; an empty handle none
+abbrev pub IsEachCall : Option Situation → List ℕ → ℕ → Option Situation → Type 0
+IsEachCall None ns left after = (left ≡ length ns) × (after ≡ None)
+IsEachCall (Some s) ns left after = (s' : Situation) × (after ≡ Some s') × IsEachAnswer s ns left s'
 
 -- whether the desk is idle, which an empty handle counts as
 abbrev pub IsIdleCall : Option Situation → ℤ → Option Situation → Type 0
@@ -48,7 +56,7 @@ abbrev pub IsCloseCall : Option Situation → ℤ → Option Situation → Type 
 IsCloseCall None code after = (code ≡ pos 0) × (after ≡ None)
 IsCloseCall (Some s) code after = (IsIdle s × (code ≡ pos 0) × (after ≡ None)) ⊎ ((¬ IsIdle s) × (code ≡ negsuc 15) × (after ≡ Some s))
 
--- 1 to 65,536 locks and 1 to 16 seats, each of which may begin fewer than 2 ^ 52 contexts, of one of two kinds
+-- 1 to 65,536 locks and 1 to 4,095 seats, each of which may begin fewer than 2 ^ 52 contexts, of one of two kinds
 pub record IsWorld (kind locks left seats : ℕ) : Type 0 where
   pub kinds : kind ≤ 1
   pub sizes : IsWorldSize locks seats left

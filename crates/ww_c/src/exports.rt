@@ -1,22 +1,64 @@
 //! What C calls. Each is one call of a desk by its handle, and waits for nobody: `c/ww.h` says what C has to do.
-ghost use Rattle.ww_desk.specs.Answers.{IsBeginAnswer, IsDoneAnswer, IsEndAnswer, IsLockAnswer, IsSlowAnswer, IsTryAnswer, IsUnlockAnswer, IsUnlockAllAnswer};
+ghost use Rattle.std.specs.Prelude.{◌≡◌, ◌<◌, ◌≤◌, ◌⊎◌, take};
+ghost use Rattle.ww_desk.specs.Answers.{IsBeginAnswer, IsDoneAnswer, IsEndAnswer, IsLockAnswer, IsSlowAnswer, IsTryAnswer, IsUnlockAnswer, IsHasAnswer};
 ghost use Rattle.ww_c.specs.Codes.{waits_of};
-ghost use Rattle.ww_c.specs.Exports.{IsCall, IsCloseCall, IsHeldCall, IsIdleCall, IsTurnCall, IsWakingCall, cancels};
+ghost use Rattle.ww_c.specs.Exports.{IsCall, IsCloseCall, IsEachCall, IsHeldCall, IsIdleCall, IsTurnCall, IsWakeCall, cancels};
 
 use crate::codes::{EBUSY, EINVAL, code, pauses, waits};
-use crate::slot::Handle;
+use crate::slot::{ALONE, BARE, FULL, Handle, PLAIN, READY};
 use std::alloc::Global;
-use ww_word::MAX_SEATS;
+use ww_desk::Answer;
+
+/// So many locks C keeps in the array of a seat.
+pub(crate) const KEPT: usize = 9;
 
 /// Starts a context.
 #[unsafe(no_mangle)]
 pub extern "C" fn ww_begin_(seat: &mut Handle) -> i32
     ensures { IsCall IsBeginAnswer seat.old.slot.desk result seat.new.slot.desk }
 {
+    if seat.standing != READY {
+        return begin_anyhow(seat);
+    }
+    let desk = seat.slot.lend();
+    match desk.begin_ready() {
+        Answer::Done => {
+            if desk.has_contexts_left() {
+                seat.below = desk.locks();
+                seat.standing = PLAIN;
+            } else {
+                seat.standing = FULL;
+            }
+            0
+        }
+        answer => {
+            seat.standing = FULL;
+            code(answer)
+        }
+    }
+}
+
+#[cold]
+#[inline(never)]
+fn begin_anyhow(seat: &mut Handle) -> i32
+    ensures { IsCall IsBeginAnswer seat.old.slot.desk result seat.new.slot.desk }
+{
     if seat.is_empty() {
         return EINVAL;
     }
-    code(seat.slot.lend().begin())
+    seat.standing = FULL;
+    seat.below = 0;
+    let desk = seat.slot.lend();
+    match desk.begin() {
+        Answer::Done => {
+            if desk.has_contexts_left() {
+                seat.below = desk.locks();
+                seat.standing = PLAIN;
+            }
+            0
+        }
+        answer => code(answer),
+    }
 }
 
 /// The context has all its locks.
@@ -27,6 +69,8 @@ pub extern "C" fn ww_done_(seat: &mut Handle) -> i32
     if seat.is_empty() {
         return EINVAL;
     }
+    seat.standing = FULL;
+    seat.below = 0;
     code(seat.slot.lend().done())
 }
 
@@ -35,10 +79,34 @@ pub extern "C" fn ww_done_(seat: &mut Handle) -> i32
 pub extern "C" fn ww_end_(seat: &mut Handle) -> i32
     ensures { IsCall IsEndAnswer seat.old.slot.desk result seat.new.slot.desk }
 {
+    if seat.standing != BARE {
+        return end_anyhow(seat);
+    }
+    seat.slot.lend().end_bare();
+    seat.standing = READY;
+    0
+}
+
+#[cold]
+#[inline(never)]
+fn end_anyhow(seat: &mut Handle) -> i32
+    ensures { IsCall IsEndAnswer seat.old.slot.desk result seat.new.slot.desk }
+{
     if seat.is_empty() {
         return EINVAL;
     }
-    code(seat.slot.lend().end())
+    seat.standing = FULL;
+    seat.below = 0;
+    let desk = seat.slot.lend();
+    match desk.end() {
+        Answer::Done => {
+            if desk.has_contexts_left() {
+                seat.standing = READY;
+            }
+            0
+        }
+        answer => code(answer),
+    }
 }
 
 /// Takes a lock, or begins to wait for it; where `heeds` the wait may be called off.
@@ -46,10 +114,68 @@ pub extern "C" fn ww_end_(seat: &mut Handle) -> i32
 pub extern "C" fn ww_lock_(seat: &mut Handle, lock: u32, heeds: bool) -> i32
     ensures { IsCall (λ s a t. IsLockAnswer s lock (waits_of heeds) a t) seat.old.slot.desk result seat.new.slot.desk }
 {
+    if lock >= seat.below {
+        return lock_alone(seat, lock, heeds);
+    }
+    match seat.slot.lend().lock_plainly(lock, waits(heeds)) {
+        Answer::Done => 0,
+        answer => {
+            seat.standing = FULL;
+            seat.below = 0;
+            code(answer)
+        }
+    }
+}
+
+/// The same without a context, where none has begun.
+#[inline(never)]
+fn lock_alone(seat: &mut Handle, lock: u32, heeds: bool) -> i32
+    ensures { IsCall (λ s a t. IsLockAnswer s lock (waits_of heeds) a t) seat.old.slot.desk result seat.new.slot.desk }
+{
+    if seat.standing != READY {
+        return lock_anyhow(seat, lock, heeds);
+    }
+    let desk = seat.slot.lend();
+    if lock >= desk.locks() {
+        return lock_anyhow(seat, lock, heeds);
+    }
+    match desk.lock_plainly(lock, waits(heeds)) {
+        Answer::Done => {
+            seat.standing = ALONE;
+            0
+        }
+        answer => {
+            seat.standing = FULL;
+            code(answer)
+        }
+    }
+}
+
+#[cold]
+#[inline(never)]
+fn lock_anyhow(seat: &mut Handle, lock: u32, heeds: bool) -> i32
+    ensures { IsCall (λ s a t. IsLockAnswer s lock (waits_of heeds) a t) seat.old.slot.desk result seat.new.slot.desk }
+{
     if seat.is_empty() {
         return EINVAL;
     }
-    code(seat.slot.lend().lock(lock, waits(heeds)))
+    seat.standing = FULL;
+    seat.below = 0;
+    let desk = seat.slot.lend();
+    match desk.lock(lock, waits(heeds)) {
+        Answer::Done => {
+            if desk.has_contexts_left() {
+                if desk.has_context() {
+                    seat.below = desk.locks();
+                    seat.standing = PLAIN;
+                } else {
+                    seat.standing = ALONE;
+                }
+            }
+            0
+        }
+        answer => code(answer),
+    }
 }
 
 /// Takes the lock for which the context was told to back off.
@@ -60,7 +186,19 @@ pub extern "C" fn ww_lock_slow_(seat: &mut Handle, lock: u32, heeds: bool) -> i3
     if seat.is_empty() {
         return EINVAL;
     }
-    code(seat.slot.lend().lock_slow(lock, waits(heeds)))
+    seat.standing = FULL;
+    seat.below = 0;
+    let desk = seat.slot.lend();
+    match desk.lock_slow(lock, waits(heeds)) {
+        Answer::Done => {
+            if desk.has_context() && desk.has_contexts_left() {
+                seat.below = desk.locks();
+                seat.standing = PLAIN;
+            }
+            0
+        }
+        answer => code(answer),
+    }
 }
 
 /// One try to take a lock.
@@ -68,10 +206,68 @@ pub extern "C" fn ww_lock_slow_(seat: &mut Handle, lock: u32, heeds: bool) -> i3
 pub extern "C" fn ww_try_(seat: &mut Handle, lock: u32) -> i32
     ensures { IsCall (λ s a t. IsTryAnswer s lock a t) seat.old.slot.desk result seat.new.slot.desk }
 {
+    if lock >= seat.below {
+        return try_alone(seat, lock);
+    }
+    match seat.slot.lend().try_lock_plainly(lock) {
+        Answer::Done => 0,
+        answer => {
+            seat.standing = FULL;
+            seat.below = 0;
+            code(answer)
+        }
+    }
+}
+
+/// The same without a context, where none has begun.
+#[inline(never)]
+fn try_alone(seat: &mut Handle, lock: u32) -> i32
+    ensures { IsCall (λ s a t. IsTryAnswer s lock a t) seat.old.slot.desk result seat.new.slot.desk }
+{
+    if seat.standing != READY {
+        return try_anyhow(seat, lock);
+    }
+    let desk = seat.slot.lend();
+    if lock >= desk.locks() {
+        return try_anyhow(seat, lock);
+    }
+    match desk.try_lock_plainly(lock) {
+        Answer::Done => {
+            seat.standing = ALONE;
+            0
+        }
+        answer => {
+            seat.standing = FULL;
+            code(answer)
+        }
+    }
+}
+
+#[cold]
+#[inline(never)]
+fn try_anyhow(seat: &mut Handle, lock: u32) -> i32
+    ensures { IsCall (λ s a t. IsTryAnswer s lock a t) seat.old.slot.desk result seat.new.slot.desk }
+{
     if seat.is_empty() {
         return EINVAL;
     }
-    code(seat.slot.lend().try_lock(lock))
+    seat.standing = FULL;
+    seat.below = 0;
+    let desk = seat.slot.lend();
+    match desk.try_lock(lock) {
+        Answer::Done => {
+            if desk.has_contexts_left() {
+                if desk.has_context() {
+                    seat.below = desk.locks();
+                    seat.standing = PLAIN;
+                } else {
+                    seat.standing = ALONE;
+                }
+            }
+            0
+        }
+        answer => code(answer),
+    }
 }
 
 /// Releases a lock, or begins to.
@@ -79,54 +275,139 @@ pub extern "C" fn ww_try_(seat: &mut Handle, lock: u32) -> i32
 pub extern "C" fn ww_unlock_(seat: &mut Handle, lock: u32) -> i32
     ensures { IsCall (λ s a t. IsUnlockAnswer s lock a t) seat.old.slot.desk result seat.new.slot.desk }
 {
+    if lock >= seat.below {
+        return unlock_alone(seat, lock);
+    }
+    let desk = seat.slot.lend();
+    match desk.unlock_at_rest(lock) {
+        Answer::Done => {
+            if desk.holds_none() {
+                seat.standing = BARE;
+                seat.below = 0;
+            }
+            0
+        }
+        answer => {
+            seat.standing = FULL;
+            seat.below = 0;
+            code(answer)
+        }
+    }
+}
+
+/// The same of a lock that was taken without a context.
+#[inline(never)]
+fn unlock_alone(seat: &mut Handle, lock: u32) -> i32
+    ensures { IsCall (λ s a t. IsUnlockAnswer s lock a t) seat.old.slot.desk result seat.new.slot.desk }
+{
+    if seat.standing != ALONE {
+        return unlock_anyhow(seat, lock);
+    }
+    let desk = seat.slot.lend();
+    if lock >= desk.locks() {
+        return unlock_anyhow(seat, lock);
+    }
+    match desk.unlock_at_rest(lock) {
+        Answer::Done => {
+            if desk.holds_none() {
+                seat.standing = READY;
+            }
+            0
+        }
+        answer => {
+            seat.standing = FULL;
+            code(answer)
+        }
+    }
+}
+
+#[cold]
+#[inline(never)]
+fn unlock_anyhow(seat: &mut Handle, lock: u32) -> i32
+    ensures { IsCall (λ s a t. IsUnlockAnswer s lock a t) seat.old.slot.desk result seat.new.slot.desk }
+{
     if seat.is_empty() {
         return EINVAL;
     }
+    seat.standing = FULL;
+    seat.below = 0;
     code(seat.slot.lend().unlock(lock))
 }
 
-/// Releases locks, the last one first, up to the first for which somebody may wait.
+/// Releases the first `count` locks of these, the last one first, up to one that isn't held or isn't released at once, and
+/// gives how many are left. Where the handle doesn't know that its context may want a lock, it releases none.
 #[unsafe(no_mangle)]
-pub extern "C" fn ww_unlock_all_(seat: &mut Handle) -> i32
-    ensures { IsCall IsUnlockAllAnswer seat.old.slot.desk result seat.new.slot.desk }
+pub extern "C" fn ww_unlock_each_(seat: &mut Handle, locks: &[u32; KEPT], count: usize) -> usize
+    ensures each { count ≤ 9 → 0 < seat.old.below → IsEachCall seat.old.slot.desk (take count locks.now) result seat.new.slot.desk }
+    ensures none { (9 < count) ⊎ (seat.old.below ≡ 0) → (result ≡ count) × (seat.new.slot.desk ≡ seat.old.slot.desk) }
+{
+    if count > KEPT || seat.below == 0 {
+        return count;
+    }
+    let desk = seat.slot.lend();
+    let left = desk.unlock_each(&locks[..count]);
+    if desk.holds_none() {
+        seat.standing = BARE;
+        seat.below = 0;
+    }
+    left
+}
+
+/// Whether the seat holds a lock.
+#[unsafe(no_mangle)]
+pub extern "C" fn ww_has_(seat: &mut Handle, lock: u32) -> i32
+    ensures { IsCall (λ s a t. IsHasAnswer s lock a t) seat.old.slot.desk result seat.new.slot.desk }
 {
     if seat.is_empty() {
         return EINVAL;
     }
-    code(seat.slot.lend().unlock_all())
+    code(seat.slot.lend().has(lock))
 }
 
-/// The next step of the call that is on its way. Whom to wake stands in `wakes`, a mark for each seat; how many pauses
-/// to rest then, in `rest`.
+/// The next step of the call that is on its way. How many pauses to rest then stands in `rest`.
 #[unsafe(no_mangle)]
-pub extern "C" fn ww_go_on_(seat: &mut Handle, wakes: &mut [bool; MAX_SEATS], rest: &mut u32) -> i32
-    ensures { IsTurnCall seat.old.slot.desk result wakes.new rest.new seat.new.slot.desk }
+pub extern "C" fn ww_go_on_(seat: &mut Handle, rest: &mut u32) -> i32
+    ensures { IsTurnCall seat.old.slot.desk result rest.new seat.new.slot.desk }
 {
-    *wakes = [false; MAX_SEATS];
     *rest = 0;
     if seat.is_empty() {
         return EINVAL;
     }
-    let desk = seat.slot.lend();
-    let answer = desk.go_on();
-    *wakes = desk.take_wakes();
+    seat.standing = FULL;
+    seat.below = 0;
+    let answer = seat.slot.lend().go_on();
     *rest = pauses(answer);
     code(answer)
 }
 
-/// Calls off the wait of a seat. Whom to wake stands in `wakes`.
+/// The number of one of the seats to be woken now, or EINVAL if there are none, or while the seat may be inside a guard.
+/// Each is told once.
 #[unsafe(no_mangle)]
-pub extern "C" fn ww_cancel_(seat: &mut Handle, victim: u8, wakes: &mut [bool; MAX_SEATS]) -> i32
-    ensures { IsWakingCall (cancels victim) seat.old.slot.desk result wakes.new seat.new.slot.desk }
+pub extern "C" fn ww_next_wake_(seat: &mut Handle) -> i32
+    ensures { IsWakeCall seat.old.slot.desk result seat.new.slot.desk }
 {
-    *wakes = [false; MAX_SEATS];
     if seat.is_empty() {
         return EINVAL;
     }
-    let desk = seat.slot.lend();
-    let answer = desk.cancel(victim);
-    *wakes = desk.take_wakes();
-    code(answer)
+    seat.standing = FULL;
+    seat.below = 0;
+    match seat.slot.lend().next_wake() {
+        Some(who) => i32::from(who),
+        None => EINVAL,
+    }
+}
+
+/// Calls off the wait of a seat, which is to be woken then.
+#[unsafe(no_mangle)]
+pub extern "C" fn ww_cancel_(seat: &mut Handle, victim: u16) -> i32
+    ensures { IsCall (cancels victim) seat.old.slot.desk result seat.new.slot.desk }
+{
+    if seat.is_empty() {
+        return EINVAL;
+    }
+    seat.standing = FULL;
+    seat.below = 0;
+    code(seat.slot.lend().cancel(victim))
 }
 
 /// Whether the seat may be closed: EBUSY while a call is on its way, or there is a context or a lock.

@@ -6,7 +6,7 @@ use crate::slot::Handle;
 use std::alloc::{AllocError, Global};
 use ww_desk::{Desk, OpenFault, open};
 use ww_queue::Kind;
-use ww_word::MAX_SEATS;
+use ww_word::wide::MANY_SEATS;
 
 /// Opens a world of so many locks of a kind (0 Wound-Wait, 1 Wait-Die), with a seat for each of the handles, which are
 /// empty before.
@@ -25,10 +25,10 @@ pub extern "C" fn ww_open_(
         1 => Kind::WaitDie,
         _ => return EINVAL,
     };
-    if seats.len() > MAX_SEATS {
+    if seats.len() > usize::from(MANY_SEATS) {
         return EINVAL;
     }
-    match open(alloc, kind, locks, seats.len() as u8, left) {
+    match open(alloc, kind, locks, seats.len() as u16, left) {
         Ok(desks) => match boxed(alloc, desks) {
             Ok(boxes) => {
                 fill(boxes, seats);

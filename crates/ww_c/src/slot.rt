@@ -1,6 +1,9 @@
 //! What C keeps of a seat.
-ghost use Rattle.std.specs.Prelude.{◌≡◌, Option, Some, None, IfSome, IfNone, true, not};
+ghost use Rattle.std.specs.Prelude.{◌≡◌, ◌<◌, ◌==◌, Option, Some, None, IfSome, IfNone, true, not};
+ghost use Rattle.std.proofs.Props.{props};
+ghost use Rattle.ww_desk.specs.Situations.{IsReady, IsPlain, IsBare};
 ghost use Rattle.ww_desk.specs.contracts.desk.Desk.{the_row};
+ghost use Rattle.ww_c.specs.Standing.{knows, is_ready, is_plain, is_bare, is_alone, has_locks};
 ghost use Rattle.ww_c.specs.Slots.{slot_owns, slot_coded, is_full};
 
 mod parts;
@@ -69,13 +72,40 @@ impl Slot {
     }
 }
 
-/// What C declares as `struct { void *at; bool full; }`.
+/// Of a handle: it has no desk.
+pub(crate) const EMPTY: u32 = 0;
+
+/// It has a desk, of which nothing else is known.
+pub(crate) const FULL: u32 = 1;
+
+/// Its desk is ready for a context.
+pub(crate) const READY: u32 = 2;
+
+/// Its desk has a context that may want a lock.
+pub(crate) const PLAIN: u32 = 3;
+
+/// Its desk has a context that has released all that it held.
+pub(crate) const BARE: u32 = 4;
+
+/// Its desk has no context, and has taken a lock without one.
+pub(crate) const ALONE: u32 = 5;
+
+/// What C declares as `struct { void *at; uint32_t standing, below; }`.
 #[repr(C)]
 #[derive(Drop)]
 pub struct Handle {
     pub(crate) slot: Slot,
-    full: bool,
-    ghost tells: { full ≡ is_full slot.desk },
+    /// What is known of the desk, by the numbers above, so that the next call need not look.
+    pub(crate) standing: u32,
+    /// Where that context may want a lock, it may want each below this number that it doesn't hold; else it is 0.
+    pub(crate) below: u32,
+    ghost full: { is_full slot.desk ≡ not (standing == 0) },
+    ghost ready: { standing ≡ 2 → knows is_ready slot.desk ≡ true },
+    ghost plain: { standing ≡ 3 → knows is_plain slot.desk ≡ true },
+    ghost locks: { 0 < below → knows (has_locks below) slot.desk ≡ true },
+    ghost only_plain: { 0 < below → standing ≡ 3 },
+    ghost bare: { standing ≡ 4 → knows is_bare slot.desk ≡ true },
+    ghost alone: { standing ≡ 5 → knows is_alone slot.desk ≡ true },
 }
 
 impl Handle {
@@ -84,7 +114,7 @@ impl Handle {
     pub(crate) fn is_empty(&self) -> bool
         ensures { result ≡ not (is_full self.now.slot.desk) }
     {
-        !self.full
+        self.standing == EMPTY
     }
 
     /// Takes the desk out.
@@ -93,17 +123,22 @@ impl Handle {
         ensures none { IfNone result (self.old.slot.desk ≡ None) }
         ensures empty { self.new.slot.desk ≡ None }
     {
-        if !self.full {
+        if self.standing == EMPTY {
             return None;
         }
         let was = mem::replace(
             self,
             Handle {
                 slot: Slot::empty(alloc),
-                full: false,
+                standing: EMPTY,
+                below: 0,
             },
         );
-        let Handle { slot, full: _ } = was;
+        let Handle {
+            slot,
+            standing: _,
+            below: _,
+        } = was;
         Some(slot.into_parts().into_box())
     }
 
@@ -113,7 +148,8 @@ impl Handle {
     {
         *self = Handle {
             slot: Slot::of_parts(Parts::of(desk)),
-            full: true,
+            standing: FULL,
+            below: 0,
         };
     }
 }

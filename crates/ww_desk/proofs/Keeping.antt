@@ -1,21 +1,29 @@
 -- What a desk keeps, as the calls of its seat change that.
-use Rattle.std.proofs.Common.{◌≡◌, ℕ, ◌+◌, ◌<◌, ◌≤◌, ◌≢◌, ◌==◌, Bool, not, true, false, true≢false, List, [], ◌∷◌, ◌++◌, length, set, get_or, refl, sym, ap, subst, ◌∙◌, arith, inl, length-set, Some, None, slice_get, Option}
+use Rattle.std.proofs.Common.{◌≡◌, ℕ, ◌+◌, ◌-◌, ◌<◌, ◌≤◌, ◌≢◌, ◌==◌, ◌&&◌, Bool, not, true, false, true≢false, List, [], ◌∷◌, ◌++◌, length, set, get_or, refl, sym, ap, subst, ◌∙◌, arith, eqb, inl, inr, ⊎_elim, is_none, if◌then◌else◌, get_or-set_other, length-set, length-append, Some, None, slice_get, Option, append_assoc, ◌⊎◌}
 use Rattle.std.specs.Prelude.{unwrap_or, IfSome}
 use Rattle.std.specs.Arc.{arc_value}
 use Rattle.ww_queue.specs.declared.entry.Entry.{Entry}
 use Rattle.ww_plain.specs.declared.node.Node.{Node}
-use Rattle.ww_plain.specs.Numbers.{is_among}
+use Rattle.ww_plain.specs.Numbers.{is_among, AreDifferent}
+use Rattle.ww_plain.proofs.Members.{different_push, true_or_false}
 use Rattle.ww_view.specs.declared.view.View.{View}
+use Rattle.ww_view.specs.View.{owns}
 use Rattle.ww_rule.specs.declared.cells.Counts.{Counts}
 use Rattle.ww_rule.specs.Rule.{Sat}
 use Rattle.ww_rule.specs.Guards.{AreSeats, glancing}
 use Rattle.ww_table.specs.declared.board.Board.{Board}
 use Rattle.ww_table.specs.declared.seat.Seat16.{Seat16}
-use Rattle.ww_table.specs.Seat.{IsSeatOf, locks_of, size_of}
-use Rattle.ww_seat.specs.declared.wake.Wake.{Wake}
+use Rattle.ww_table.specs.Seat.{IsSeatOf, giving_of, locks_of, size_of, tells_own, view_of}
 use Rattle.ww_seat.specs.Orderly.{IsSettled, IsSettledAt}
-use Rattle.ww_seat.specs.Accounts.{Account, account_of}
-use Rattle.ww_seat.specs.Calls.{HoldsAsBefore, HasAdded, HasGiven}
+use Rattle.ww_seat.specs.Accounts.{Account, account_of, having_tried}
+use Rattle.ww_seat.specs.Calls.{HasAdded, HasGiven, HasTaken, HasLetOnce, HasTriedOnce}
+use Rattle.ww_table.specs.declared.seat.Taking.{Taking}
+use Rattle.ww_table.specs.declared.seat.Taking.TheVariants.{Took, Had, Missed}
+use Rattle.ww_table.specs.declared.seat.Giving.TheVariants.{Gave, Kept, Lacked}
+use Rattle.ww_table.specs.declared.seat.Found.{Found}
+use Rattle.ww_table.specs.declared.seat.Tried.TheVariants.{InVain}
+use Rattle.ww_queue.proofs.Outcomes.{both_true, number_other}
+use Rattle.ww_plain.specs.Graph.{no_node}
 use Rattle.ww_seat.specs.Looks.{IsOutside}
 use Rattle.ww_seat.specs.Work.{ComesOutside}
 use Rattle.ww_seat.specs.declared.resting.Memory.{Memory}
@@ -23,19 +31,26 @@ use Rattle.ww_seat.specs.declared.resting.Stay.{Stay}
 use Rattle.ww_seat.specs.declared.waits.Waits.{Waits}
 use Rattle.ww_seat.specs.declared.look.Arrival.TheVariants.{Came}
 use Rattle.ww_desk.specs.declared.turn.Turn.{Turn}
-use Rattle.ww_desk.specs.declared.turn.Turn.TheVariants.{Rests, Stays, Wants, Looks, Gives}
+use Rattle.ww_desk.specs.declared.turn.Turn.TheVariants.{Rests, Stays, Wants, Gives}
 use Rattle.ww_desk.specs.declared.station.Station.{Station}
-use Rattle.ww_desk.specs.Situations.{Situation, is_at_rest}
-use Rattle.ww_desk.specs.Stations.{table_of, situation_of, IsAt, Keeps}
+use Rattle.ww_desk.specs.Situations.{Situation, is_at_rest, IsPlain}
+use Rattle.ww_desk.specs.Answers.{HasGivenBack, HasReleased, HasSomeHeld, StaysOut}
+use Rattle.ww_seat.proofs.Naps.{out_then}
+use Rattle.ww_view.specs.Made.{without}
+use Rattle.ww_desk.specs.Stations.{table_of, situation_of, wants_now, IsAt, Keeps, MayStay}
 use Rattle.ww_seat.proofs.Outside.{orderly_knowing, owned_low}
-use Rattle.ww_seat.proofs.Among.{owns_held, last_among, others_among}
-use Rattle.ww_desk.specs.Held.{Holding}
+use Rattle.std.specs.Global.{Vec}
+use Rattle.ww_seat.proofs.Among.{owns_more}
+use Rattle.ww_seat.proofs.Without.{owns_less, different_without}
+use Rattle.ww_desk.proofs.Locks.{few_held, one_less, rest_of, some_held, wanting}
 
 -- the same desk, with a seat of the same table that has this account
 pub record IsOf (h g : Station) (a : Account) : Type 0 where
   pub board : g.board ≡ h.board
+  pub locks : g.locks ≡ h.locks
   pub seats : g.seats ≡ h.seats
   pub left : g.left ≡ h.left
+  pub marks : length g.wake.items ≡ length h.wake.items
   pub now : account_of g.seat.seat.me ≡ a
 
 -- what is seen of it then
@@ -46,10 +61,10 @@ seen_with h g a = record (situation_of h) {
   draws = a.counts.draws;
   stamp = a.stamp;
   is_done = g.is_done;
-  held = g.held.items;
+  held = a.locks;
   told = g.told;
   turn = g.turn;
-  wakes = g.wake.seats;
+  wakes = g.wake.items;
   tries = a.tries;
   takes = a.takes;
   deaths = a.deaths;
@@ -61,91 +76,260 @@ seen_with h g a = record (situation_of h) {
 
 pub seen_as : (h g : Station) (a : Account) → IsOf h g a → situation_of g ≡ seen_with h g a
 seen_as h g a is = let same : situation_of g ≡ seen_with h g (account_of g.seat.seat.me) =
-    rw (is.board, is.seats, is.left) refl in same ∙ ap (seen_with h g) is.now
+    rw (is.board, is.locks, is.seats, is.left) refl in same ∙ ap (seen_with h g) is.now
+
+-- what is seen of it where its call ended, with these marks
+pub seen_ended : (h : Station) (q : Seat16) (told : Option ℕ) (wakes : List ℕ) (a : Account) → account_of q.seat.me ≡ a →
+    let g : Station = record h { seat = q; told = told; turn = Rests } in
+    let s : Situation = record (situation_of g) { wakes = wakes } in
+    let t : Situation = record (seen_with h g a) { wakes = wakes } in s ≡ t
+seen_ended h q told wakes a now = let g : Station = record h { seat = q; told = told; turn = Rests } in
+    ap (λ (s : Situation). let t : Situation = record s { wakes = wakes } in t)
+    (seen_as h g a (record { board = refl; locks = refl; seats = refl; left = refl; marks = refl; now = now }))
 
 abbrev IsWhere : Station → Type 0
-IsWhere g = IsAt (table_of (arc_value g.board)) (size_of (arc_value g.board)) (locks_of (arc_value g.board)) g.wake.seats g.turn g.seat
+IsWhere g = IsAt (table_of (arc_value g.board)) (size_of (arc_value g.board)) (locks_of (arc_value g.board)) g.wake.items g.turn g.seat
 
 -- it holds what it held
-pub kept : (h g : Station) → Keeps h → IsOf h g (account_of h.seat.seat.me) → g.held ≡ h.held
+pub kept : (h g : Station) → Keeps h → IsOf h g (account_of h.seat.seat.me) → g.count ≡ h.count
     → g.seat.seat.me.0.part.core.stamp ≡ g.seat.stamp → IsWhere g → Keeps g
-kept h g k is held stamp at = record {
+kept h g k is count stamp at = record {
   at = at;
   stamp = stamp;
-  all = rw (is.board, held) k.all;
-  owned = λ n. ap (λ (a : Account). get_or a.owned n false) is.now ∙ k.owned n ∙ sym (ap (λ (s : Holding). is_among n s.items) held);
+  bare = rw is.board k.bare;
+  locks = rw is.board (omega (arith, is.locks, k.locks));
+  most = rw is.board k.most;
+  count = count ∙ k.count ∙ sym (ap (λ (a : Account). length a.locks) is.now);
+  differ = subst AreDifferent (sym (ap (λ (a : Account). a.locks) is.now)) k.differ;
+  owned = λ n. ap (λ (a : Account). get_or a.owned n false) is.now ∙ k.owned n
+      ∙ sym (ap (λ (a : Account). is_among n a.locks) is.now);
   room = rw is.board (ap (λ (a : Account). length a.owned) is.now ∙ k.room);
-  seats = omega (arith, k.seats, is.seats);
+  seats = rw (is.board, is.seats) k.seats;
+  few = rw (is.board, is.seats) k.few;
+  marks = rw is.board (is.marks ∙ k.marks);
   draws = omega (arith, k.draws, is.left, ap (λ (a : Account). a.counts.draws) is.now);
 }
 
--- one lock is held now, or no more, and the others as before
-pub record HoldsNow (was now : Holding) (n : ℕ) (b : Bool) : Type 0 where
-  pub all : now.locks ≡ was.locks
-  pub this : is_among n now.items ≡ b
-  pub others : (m : ℕ) → m ≢ n → is_among m now.items ≡ is_among m was.items
+-- it holds one lock more, or less
+record HoldsNow (h : Station) (a : Account) (many : ℕ) : Type 0 where
+  pub owned : (n : ℕ) → get_or a.owned n false ≡ is_among n a.locks
+  pub room : length a.owned ≡ length h.seat.seat.me.0.part.core.owned
+  pub differ : AreDifferent a.locks
+  pub count : many ≡ length a.locks
+  pub counts : a.counts ≡ h.seat.seat.me.0.part.counts
 
-kept_but : (h g : Station) (a : Account) (n : ℕ) (b : Bool) → Keeps h → IsOf h g a
-    → n < locks_of (arc_value h.board) → a.owned ≡ set h.seat.seat.me.0.part.core.owned n b
-    → a.counts ≡ h.seat.seat.me.0.part.counts → HoldsNow h.held g.held n b
+kept_but : (h g : Station) (a : Account) → Keeps h → IsOf h g a → HoldsNow h a g.count
     → g.seat.seat.me.0.part.core.stamp ≡ g.seat.stamp → IsWhere g → Keeps g
-kept_but h g a n b k is there owned counts held stamp at =
-    let wide : n < length h.seat.seat.me.0.part.core.owned = omega (arith, there, k.room) in
-    let now : g.seat.seat.me.0.part.core.owned ≡ set h.seat.seat.me.0.part.core.owned n b =
-    ap (λ (x : Account). x.owned) is.now ∙ owned in record {
-      at = at;
-      stamp = stamp;
-      all = rw is.board (held.all ∙ k.all);
-      owned = owns_held h.seat.seat.me.0.part.core.owned g.seat.seat.me.0.part.core.owned h.held.items g.held.items
-          n b wide now k.owned held.this held.others;
-      room = rw is.board (ap length now ∙ length-set h.seat.seat.me.0.part.core.owned n b ∙ k.room);
-      seats = omega (arith, k.seats, is.seats);
-      draws = omega (arith, k.draws, is.left, ap (λ (x : Account). x.counts.draws) is.now, ap (λ (c : Counts). c.draws) counts);
-    }
+kept_but h g a k is now stamp at = record {
+  at = at;
+  stamp = stamp;
+  bare = rw is.board k.bare;
+  locks = rw is.board (omega (arith, is.locks, k.locks));
+  most = rw is.board k.most;
+  count = now.count ∙ sym (ap (λ (x : Account). length x.locks) is.now);
+  differ = subst AreDifferent (sym (ap (λ (x : Account). x.locks) is.now)) now.differ;
+  owned = λ n. ap (λ (x : Account). get_or x.owned n false) is.now ∙ now.owned n
+      ∙ sym (ap (λ (x : Account). is_among n x.locks) is.now);
+  room = rw is.board (ap (λ (x : Account). length x.owned) is.now ∙ now.room ∙ k.room);
+  seats = rw (is.board, is.seats) k.seats;
+  few = rw (is.board, is.seats) k.few;
+  marks = rw is.board (is.marks ∙ k.marks);
+  draws = omega (arith, k.draws, is.left, ap (λ (x : Account). x.counts.draws) is.now, ap (λ (c : Counts). c.draws) now.counts);
+}
 
 -- what is held is a lock of the world
-pub there_held : (h : Station) (n : ℕ) → Keeps h → is_among n h.held.items ≡ true → n < locks_of (arc_value h.board)
+pub there_held : (h : Station) (n : ℕ) → Keeps h → is_among n h.seat.seat.me.0.part.core.locks ≡ true → n < locks_of (arc_value h.board)
 there_held h n k has = let low = owned_low h.seat.seat.me.0.part.core.owned n (k.owned n ∙ has) in omega (arith, low, k.room)
 
 -- ---- a desk whose seat is settled again
-
-pub rest_of : (t : Turn) → is_at_rest t ≡ true → t ≡ Rests
-rest_of Rests e = refl
-rest_of (Stays n stay waits) e = absurd (true≢false (sym e))
-rest_of (Wants n arrival waits) e = absurd (true≢false (sym e))
-rest_of (Looks n arrival waits) e = absurd (true≢false (sym e))
-rest_of (Gives n) e = absurd (true≢false (sym e))
 
 -- the seat that was settled at the board is settled at the one that the desk shares
 pub settled_here : (a b : Board) (q : Seat16) → b ≡ a → IsSettledAt b q → IsSettled (table_of a) (size_of a) q
 settled_here a b q e s = subst (λ (x : Board). IsSettledAt x q) e s
 
+-- it counts no more than there are
+pub few_counted : (h : Station) → Keeps h → h.count ≤ 65536
+few_counted h k =
+    let few = few_held h.seat.seat.me.0.part.core h.seat.seat.me.0.part.core.locks (locks_of (arc_value h.board))
+    k.owned k.room k.differ in omega (arith, few, k.count, k.most)
+
 -- it took a lock
-pub took : (h g : Station) (b : Board) (tries n : ℕ) (x : Node) (q : Seat16) (w : Wake) → Keeps h
-    → b ≡ arc_value h.board → n < locks_of (arc_value h.board) → IsSettledAt b q
-    → HasAdded (record (account_of h.seat.seat.me) { tries = tries }) n x q.seat.me
-    → g ≡ record h { seat = q; held = g.held; told = None; turn = Rests; wake = w }
-    → g.held ≡ record (h.held) { items = h.held.items ++ n ∷ [] } → Keeps g
-took h g b tries n x q w k e there settled t is grown =
-    let now : Station = record h { seat = q; held = g.held; told = None; turn = Rests; wake = w } in
-    let held : HoldsNow h.held g.held n true = record {
-      all = ap (λ (s : Holding). s.locks) grown;
-      this = ap (λ (s : Holding). is_among n s.items) grown ∙ last_among h.held.items n;
-      others = λ m differ. ap (λ (s : Holding). is_among m s.items) grown ∙ others_among h.held.items n m differ;
-    } in
-    subst Keeps (sym is) (kept_but h now _ n true k
-    (record { board = refl; seats = refl; left = refl; now = t.now }) there refl refl held settled.seated.stamp
+pub took : (h g : Station) (b : Board) (tries n : ℕ) (x : Node) (q : Seat16) (w : Vec ℕ) → Keeps h
+    → length w.items ≡ length h.wake.items → b ≡ arc_value h.board → n < h.locks → is_among n h.seat.seat.me.0.part.core.locks ≡ false
+    → IsSettledAt b q → HasAdded (record (account_of h.seat.seat.me) { tries = tries }) n x q.seat.me
+    → g ≡ record h { seat = q; count = h.count + 1; told = None; turn = Rests; wake = w } → Keeps g
+took h g b tries n x q w k long e there lacks settled t is =
+    let now : Station = record h { seat = q; count = h.count + 1; told = None; turn = Rests; wake = w } in
+    let v : View = h.seat.seat.me.0.part.core in
+    let wide : n < length v.owned = omega (arith, there, k.locks, k.room) in
+    subst Keeps (sym is) (kept_but h now _ k
+    (record { board = refl; locks = refl; seats = refl; left = refl; marks = long; now = t.now })
+    (record {
+      owned = owns_more v.owned (set v.owned n true) v.locks n wide refl k.owned;
+      room = length-set v.owned n true;
+      differ = different_push v.locks n k.differ lacks;
+      count = omega (arith, k.count, length-append v.locks (n ∷ []));
+      counts = refl;
+    }) settled.seated.stamp
     (settled_here (arc_value h.board) b q e settled))
 
 -- it released a lock
-pub gave : (h g : Station) (b : Board) (n : ℕ) (q : Seat16) (w : Wake) → Keeps h → b ≡ arc_value h.board
-    → is_among n h.held.items ≡ true → IsSettledAt b q
-    → HasGiven h.seat.seat.me n q.seat.me → g ≡ record h { seat = q; held = g.held; turn = Rests; wake = w }
-    → HoldsNow h.held g.held n false → Keeps g
-gave h g b n q w k e has settled t is less =
-    let now : Station = record h { seat = q; held = g.held; turn = Rests; wake = w } in
-    subst Keeps (sym is) (kept_but h now _ n false k (record { board = refl; seats = refl; left = refl; now = t })
-    (there_held h n k has) refl refl less settled.seated.stamp (settled_here (arc_value h.board) b q e settled))
+pub gave : (h g : Station) (b : Board) (n : ℕ) (q : Seat16) (w : Vec ℕ) → Keeps h → length w.items ≡ length h.wake.items
+    → b ≡ arc_value h.board
+    → is_among n h.seat.seat.me.0.part.core.locks ≡ true → IsSettledAt b q
+    → HasGiven h.seat.seat.me n q.seat.me
+    → g ≡ record h { seat = q; count = h.count - 1; turn = Rests; wake = w } → Keeps g
+gave h g b n q w k long e has settled t is =
+    let now : Station = record h { seat = q; count = h.count - 1; turn = Rests; wake = w } in
+    let v : View = h.seat.seat.me.0.part.core in
+    let wide : n < length v.owned = (let low = there_held h n k has in omega (arith, low, k.room)) in
+    subst Keeps (sym is) (kept_but h now _ k
+    (record { board = refl; locks = refl; seats = refl; left = refl; marks = long; now = t })
+    (record {
+      owned = owns_less v.owned (set v.owned n false) v.locks n wide refl k.owned;
+      room = length-set v.owned n false;
+      differ = different_without n v.locks k.differ;
+      count = omega (arith, k.count, one_less n v.locks k.differ has);
+      counts = refl;
+    }) settled.seated.stamp (settled_here (arc_value h.board) b q e settled))
+
+-- ---- one try at a lock
+
+-- what became of it, by what its try came to
+abbrev pub after_try : Station → Seat16 → Taking → Station
+after_try h q Took = record h { seat = q; count = h.count + 1; told = None }
+after_try h q Had = record h { seat = q }
+after_try h q Missed = record h { seat = q }
+
+still_where : (h : Station) (b : Board) (q : Seat16) → Keeps h → h.turn ≡ Rests → b ≡ arc_value h.board → IsSettledAt b q
+    → IsAt (table_of (arc_value h.board)) (size_of (arc_value h.board)) (locks_of (arc_value h.board)) h.wake.items h.turn q
+still_where h b q k rests e settled =
+    subst (λ (t : Turn). IsAt (table_of (arc_value h.board)) (size_of (arc_value h.board)) (locks_of (arc_value h.board)) h.wake.items t q)
+    (sym rests) (settled_here (arc_value h.board) b q e settled)
+
+pub tried_keeps : (h : Station) (b : Board) (q : Seat16) (n : ℕ) (t : Taking) → Keeps h → wants_now h ≡ true
+    → b ≡ arc_value h.board → n < h.locks → IsSettledAt b q → HasTriedOnce h.seat.seat.me n t q.seat.me
+    → Keeps (after_try h q t)
+tried_keeps h b q n Took k wants e there settled t =
+    let w = wanting h k wants in
+    took h (after_try h q Took) b _ n no_node q h.wake k refl e there (sym (k.owned n) ∙ t.0) settled t.1
+    (λ i. record h { seat = q; count = h.count + 1; told = None; turn = w.rests i })
+tried_keeps h b q n Had k wants e there settled t =
+    let w = wanting h k wants in
+    kept h (after_try h q Had) k
+    (record { board = refl; locks = refl; seats = refl; left = refl; marks = refl; now = ap account_of t.1 }) refl settled.seated.stamp
+    (still_where h b q k w.rests e settled)
+tried_keeps h b q n Missed k wants e there settled t =
+    let w = wanting h k wants in
+    kept_but h (after_try h q Missed) (having_tried (account_of h.seat.seat.me)) k
+    (record { board = refl; locks = refl; seats = refl; left = refl; marks = refl; now = t.tried })
+    (record { owned = k.owned; room = refl; differ = k.differ; count = k.count; counts = refl })
+    settled.seated.stamp
+    (still_where h b q k w.rests e settled)
+
+-- the same, where nothing was told before
+pub took_plainly : (h : Station) (b : Board) (q : Seat16) (n : ℕ) → Keeps h → IsPlain (situation_of h)
+    → b ≡ arc_value h.board → n < h.locks → IsSettledAt b q → HasTriedOnce h.seat.seat.me n Took q.seat.me
+    → Keeps (record h { seat = q; count = h.count + 1 })
+took_plainly h b q n k plain e there settled t =
+    let rests = rest_of h.turn plain.rests in let untold = plain.untold in
+    took h (record h { seat = q; count = h.count + 1 }) b _ n no_node q h.wake k refl e there (sym (k.owned n) ∙ t.0) settled t.1
+    (λ i. record h { seat = q; count = h.count + 1; told = untold i; turn = rests i })
+
+-- it may stay away from a lock that it has just missed
+pub missed_stays : (h : Station) (b : Board) (q : Seat16) (n : ℕ) → Keeps h → wants_now h ≡ true → b ≡ arc_value h.board
+    → IsSettledAt b q → HasTriedOnce h.seat.seat.me n Missed q.seat.me → MayStay n (record h { seat = q })
+missed_stays h b q n k wants e settled t =
+    let w = wanting h k wants in
+    let v : View = h.seat.seat.me.0.part.core in let v' : View = q.seat.me.0.part.core in
+    let here = settled_here (arc_value h.board) b q e settled in
+    let owned : (m : ℕ) → owns v' m ≡ owns v m = λ m. ap (λ (a : Account). get_or a.owned m false) t.tried in (
+      record {
+        orderly = here.orderly;
+        want = record {
+          lacks = owned n ∙ t.lacks;
+          base = ⊎_elim (λ context. inl (omega (arith, context, ap (λ (a : Account). a.stamp) t.tried)))
+              (λ bare. inr (λ m. owned m ∙ bare m)) w.base;
+          signs = t.signs;
+        };
+        outside = here.away.0;
+        place = inl here.away.1;
+      },
+      t.glances,
+    )
+
+-- ---- one try to release a lock
+
+pub gave_keeps : (h g : Station) (b : Board) (q : Seat16) (n : ℕ) → Keeps h → is_at_rest h.turn ≡ true
+    → b ≡ arc_value h.board → IsSettledAt b q → HasLetOnce h.seat.seat.me n Gave q.seat.me
+    → g ≡ record h { seat = q; count = h.count - 1 } → Keeps g
+gave_keeps h g b q n k rests e settled t is =
+    let still = rest_of h.turn rests in
+    gave h g b n q h.wake k refl e (sym (k.owned n) ∙ t.0) settled t.1
+    (is ∙ (λ i. record h { seat = q; count = h.count - 1; turn = still i }))
+
+-- a try in vain leaves what the seat has
+pub vain_same : (m m' : Sat) (n : ℕ) (f : Found) → HasLetOnce m n (giving_of (InVain f)) m' → account_of m' ≡ account_of m
+vain_same m m' n f t = elim (true_or_false (tells_own f)) [
+  | inl own ↦ (subst (λ (b : Bool). HasLetOnce m n (if b then Kept else Lacked) m') own t).1
+  | inr other ↦ ap account_of (subst (λ (b : Bool). HasLetOnce m n (if b then Kept else Lacked) m') other t).1
+]
+
+pub vain_keeps : (h : Station) (b : Board) (q : Seat16) → Keeps h → is_at_rest h.turn ≡ true → b ≡ arc_value h.board
+    → IsSettledAt b q → account_of q.seat.me ≡ account_of h.seat.seat.me → Keeps (record h { seat = q })
+vain_keeps h b q k rests e settled same =
+    kept h (record h { seat = q }) k
+    (record { board = refl; locks = refl; seats = refl; left = refl; marks = refl; now = same }) refl
+    settled.seated.stamp
+    (still_where h b q k (rest_of h.turn rests) e settled)
+
+pub vain_seen : (h : Station) (q : Seat16) → account_of q.seat.me ≡ account_of h.seat.seat.me
+    → situation_of (record h { seat = q }) ≡ record (situation_of h) { view = q.seat.me.0.part.core }
+vain_seen h q same = seen_as h (record h { seat = q }) (account_of h.seat.seat.me)
+    (record { board = refl; locks = refl; seats = refl; left = refl; marks = refl; now = same })
+
+-- why a try to release was in vain
+pub vain_why : (h : Station) (q : Seat16) (n : ℕ) (f : Found) → Keeps h
+    → HasLetOnce h.seat.seat.me n (giving_of (InVain f)) q.seat.me
+    → (is_among n (view_of h.seat).locks ≡ false) ⊎ ((view_of q).kept ≡ (view_of h.seat).kept + 1)
+vain_why h q n f k t = elim (true_or_false (tells_own f)) [
+  | inl own ↦ inr (subst (λ (b : Bool). HasLetOnce h.seat.seat.me n (if b then Kept else Lacked) q.seat.me) own t).2
+  | inr other ↦ inl (sym (k.owned n)
+      ∙ (subst (λ (b : Bool). HasLetOnce h.seat.seat.me n (if b then Kept else Lacked) q.seat.me) other t).0)
+]
+
+-- ---- several releases
+
+pub released_on : (s t u : Situation) (ns : List ℕ) → HasReleased s ns t → StaysOut t u → u ≡ record t { view = u.view }
+    → HasReleased s ns u
+released_on s t u [] r out is = (
+  out_then s.view t.view u.view r.0 out,
+  is ∙ ap (λ (x : Situation). let y : Situation = record x { view = u.view } in y) r.1,
+)
+released_on s t u (n ∷ ns) r out is = (
+  r.0,
+  r.1,
+  (
+    r.2.0,
+    (
+      out_then r.0.view t.view u.view r.2.1.0 out,
+      is ∙ ap (λ (x : Situation). let y : Situation = record x { view = u.view } in y) r.2.1.1,
+    ),
+  ),
+)
+
+pub split_more : (front rest others : List ℕ) (n : ℕ) (all : List ℕ) → all ≡ front ++ rest → front ≡ others ++ n ∷ []
+    → all ≡ others ++ n ∷ rest
+split_more front rest others n all is step = is ∙ ap (λ (l : List ℕ). l ++ rest) step ∙ append_assoc others (n ∷ []) rest
+
+pub seen_alone : (s t u : Situation) → HasSomeHeld s t → u ≡ record t { view = u.view } → HasSomeHeld s u
+seen_alone s t u r is = is ∙ ap (λ (x : Situation). let y : Situation = record x { view = u.view } in y) r
+    ∙ ap (λ (held : List ℕ). let y : Situation = record s { held = held; view = u.view } in y) (sym (ap (λ (x : Situation). x.held) is))
+
+pub given_alone : (s t u : Situation) (n : ℕ) → HasSomeHeld s t → HasGivenBack t n u → HasSomeHeld s u
+given_alone s t u n r is =
+    is.1 ∙ ap (λ (x : Situation). let y : Situation = record x { held = without n t.held; view = u.view } in y) r
+    ∙ ap (λ (held : List ℕ). let y : Situation = record s { held = held; view = u.view } in y) (sym (ap (λ (x : Situation). x.held) is.1))
 
 -- ---- spin reads
 
@@ -163,11 +347,11 @@ came_outside v none = let off = sym (ap (λ (w : ℕ). not (w == 0)) none) in (o
 
 -- where the seat is that stays away
 staying : (h : Station) (n : ℕ) (stay : Stay) (waits : Waits) → Keeps h → h.turn ≡ Stays n stay waits
-    → IsAt (table_of (arc_value h.board)) (size_of (arc_value h.board)) (locks_of (arc_value h.board)) h.wake.seats
+    → IsAt (table_of (arc_value h.board)) (size_of (arc_value h.board)) (locks_of (arc_value h.board)) h.wake.items
     (Stays n stay waits) h.seat
 staying h n stay waits keeps turn =
     subst (λ (t : Turn). IsAt (table_of (arc_value h.board)) (size_of (arc_value h.board))
-    (locks_of (arc_value h.board)) h.wake.seats t h.seat) turn keeps.at
+    (locks_of (arc_value h.board)) h.wake.items t h.seat) turn keeps.at
 
 -- it made a spin read, and stays away
 pub glanced_stays : (h : Station) (b : Board) (q : Seat16) (memory : Memory) (n : ℕ) (stay next : Stay)
@@ -178,7 +362,7 @@ pub glanced_stays : (h : Station) (b : Board) (q : Seat16) (memory : Memory) (n 
 glanced_stays h b q memory n stay next waits keeps turn fewer some e seated is = let at = staying h n stay waits keeps turn in
     let more : q.seat.me.0.part.core.glances ≡ h.seat.seat.me.0.part.core.glances + 1 = ap (λ (m : Sat). m.0.part.core.glances) is in
     kept h (record h { seat = q; turn = Stays n next waits; memory = memory }) keeps
-    (record { board = refl; seats = refl; left = refl; now = ap account_of is }) refl seated.stamp (
+    (record { board = refl; locks = refl; seats = refl; left = refl; marks = refl; now = ap account_of is }) refl seated.stamp (
       subst (λ (x : Board). IsSeatOf x q) e seated,
       at.1,
       glanced_outside _ n h.seat.seat.me q.seat.me at.2 is,
@@ -195,7 +379,7 @@ pub glanced_wants : (h : Station) (b : Board) (q : Seat16) (memory : Memory) (n 
     → Keeps (record h { seat = q; turn = Wants n Came waits; memory = memory })
 glanced_wants h b q memory n stay waits keeps turn e seated is = let at = staying h n stay waits keeps turn in
     kept h (record h { seat = q; turn = Wants n Came waits; memory = memory }) keeps
-    (record { board = refl; seats = refl; left = refl; now = ap account_of is }) refl seated.stamp (
+    (record { board = refl; locks = refl; seats = refl; left = refl; marks = refl; now = ap account_of is }) refl seated.stamp (
       subst (λ (x : Board). IsSeatOf x q) e seated,
       at.1,
       glanced_outside _ n h.seat.seat.me q.seat.me at.2 is,
@@ -204,51 +388,41 @@ glanced_wants h b q memory n stay waits keeps turn e seated is = let at = stayin
 
 -- ---- the first waiter
 
-pub first_seat : (q : List Entry) (e : Entry) → AreSeats q → Some e ≡ slice_get q 0 → e.seat < 16
-first_seat [] e seats is = absurd cc
-first_seat (x ∷ xs) e seats is = subst (λ (y : Entry). y.seat < 16)
+pub first_seat : (n : ℕ) (q : List Entry) (e : Entry) → AreSeats n q → Some e ≡ slice_get q 0 → e.seat < n
+first_seat n [] e seats is = absurd cc
+first_seat n (x ∷ xs) e seats is = subst (λ (y : Entry). y.seat < n)
     (sym (ap (λ (o : Option Entry). unwrap_or o x) is)) (seats x (inl refl)).0
 
-pub first_waiter : (q : List Entry) (first : Option Entry) → AreSeats q → first ≡ slice_get q 0 → IfSome first (λ e. e.seat < 16)
-first_waiter q None seats is = tt
-first_waiter q (Some e) seats is = first_seat q e seats is
+pub first_waiter : (n : ℕ) (q : List Entry) (first : Option Entry) → AreSeats n q → first ≡ slice_get q 0 → IfSome first (λ e. e.seat < n)
+first_waiter n q None seats is = tt
+first_waiter n q (Some e) seats is = first_seat n q e seats is
 
--- ---- the last lock that is held
+pub first_below : (first : Option Entry) (m n : ℕ) → m ≤ n → IfSome first (λ e. e.seat < m) → IfSome first (λ e. e.seat < n)
+first_below None m n le is = tt
+first_below (Some e) m n le is = omega (arith, le, is)
 
--- it still gives that one
-pub last_stays : (h g : Station) (b : Board) (front : List ℕ) (n : ℕ) (q : Seat16) → Keeps h → b ≡ arc_value h.board
-    → h.held.items ≡ front ++ n ∷ [] → IsSettledAt b q → HoldsAsBefore h.seat.seat.me q.seat.me
-    → g ≡ record h { seat = q; held = g.held; turn = Gives n } → g.held ≡ h.held → Keeps g
-last_stays h g b front n q k e was settled still is held =
-    let now : Station = record h { seat = q; held = g.held; turn = Gives n } in
-    let has : is_among n h.held.items ≡ true = ap (is_among n) was ∙ last_among front n in
-    subst Keeps (sym is) (kept h now k (record { board = refl; seats = refl; left = refl; now = still }) held settled.seated.stamp (
-      settled_here (arc_value h.board) b q e settled,
-      there_held h n k has,
-      ap
-          (λ (a : Account). get_or a.owned n false) still ∙ k.owned n ∙ has,
-    ))
-
--- it released that one
-pub last_gone : (h g : Station) (b : Board) (less : Holding) (n : ℕ) (q : Seat16) → Keeps h
-    → is_at_rest h.turn ≡ true → b ≡ arc_value h.board → h.held ≡ record less { items = less.items ++ n ∷ [] }
-    → is_among n less.items ≡ false → IsSettledAt b q → HasGiven h.seat.seat.me n q.seat.me
-    → g ≡ record h { seat = q; held = less } → Keeps g
-last_gone h g b less n q k rests e was gone settled t is =
-    let now : Station = record h { seat = q; held = less; turn = Rests } in
-    let moved : g ≡ now = is ∙ ap (λ (u : Turn). let d : Station = record h { seat = q; held = less; turn = u } in
-    d) (rest_of h.turn rests) in
-    let left : HoldsNow h.held less n false = record {
-      all = sym (ap (λ (s : Holding). s.locks) was);
-      this = gone;
-      others = λ m differ. sym (others_among less.items n m differ) ∙ sym (ap (λ (s : Holding). is_among m s.items) was);
-    } in
-    subst Keeps (sym moved) (gave h now b n q h.wake k e
-    (ap (λ (s : Holding). is_among n s.items) was ∙ last_among less.items n) settled t refl left)
-
-pub last_seen : (h g : Station) (n : ℕ) (less : Holding) (q : Seat16) → HasGiven h.seat.seat.me n q.seat.me
-    → g ≡ record h { seat = q; held = less }
-    → situation_of g ≡ record (situation_of h) { held = less.items; view = q.seat.me.0.part.core }
-last_seen h g n less q t is =
-    let now : Station = record h { seat = q; held = less } in
-    ap situation_of is ∙ seen_as h now _ (record { board = refl; seats = refl; left = refl; now = t })
+-- what is seen of a desk whose seat took a lock
+pub took_seen : (h g : Station) (n : ℕ) (x : Node) (q : Seat16) (w : Vec ℕ) → length w.items ≡ length h.wake.items
+    → HasTaken h.seat.seat.me n x q.seat.me
+    → g ≡ record h { seat = q; count = h.count + 1; told = None; turn = Rests; wake = w }
+    → situation_of g ≡ record (situation_of h) {
+      held = h.seat.seat.me.0.part.core.locks ++ n ∷ [];
+      told = None;
+      turn = Rests;
+      wakes = g.wake.items;
+      tries = h.seat.seat.me.0.part.core.tries;
+      takes = h.seat.seat.me.0.part.core.takes + 1;
+      view = g.seat.seat.me.0.part.core;
+    }
+took_seen h g n x q w long t is =
+    let now : Station = record h { seat = q; count = h.count + 1; told = None; turn = Rests; wake = w } in
+    ap situation_of is ∙ seen_as h now _ (record { board = refl; locks = refl; seats = refl; left = refl; marks = long; now = t.now })
+    ∙ (λ i. record (situation_of h) {
+      held = h.seat.seat.me.0.part.core.locks ++ n ∷ [];
+      told = None;
+      turn = Rests;
+      wakes = (sym is i).wake.items;
+      tries = h.seat.seat.me.0.part.core.tries;
+      takes = h.seat.seat.me.0.part.core.takes + 1;
+      view = (sym is i).seat.seat.me.0.part.core;
+    })

@@ -1,4 +1,4 @@
-pub mod Places
 pub mod Locks
 pub mod Keeping
 pub mod Fresh
+pub mod Marks

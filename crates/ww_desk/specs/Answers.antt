@@ -1,9 +1,12 @@
 -- What became of a call of a desk, by its answer. A call may learn something of the locks, which its view tells then.
-use Rattle.std.specs.Prelude.{ℕ, suc, ◌≡◌, ◌≢◌, ◌<◌, ◌≤◌, ◌+◌, ◌-◌, ◌⊎◌, ◌∷◌, ◌++◌, [], Bool, true, false, List, Some, None, length, replicate}
+use Rattle.std.specs.Prelude.{ℕ, suc, ◌≡◌, ◌≢◌, ◌<◌, ◌≤◌, ◌+◌, ◌-◌, ◌⊎◌, ◌∷◌, ◌++◌, [], slice_set, Option, Bool, true, false, List, Some, None, length}
 use Rattle.ww_plain.specs.Numbers.{is_among}
-use Rattle.ww_view.specs.Made.{found_pending, shut_out}
-use Rattle.ww_seat.specs.Calls.{HasMet}
-use Rattle.ww_seat.specs.Work.{AreMarked, HasToWake}
+use Rattle.ww_view.specs.Made.{found_pending, shut_out, without}
+use Rattle.ww_table.specs.declared.seat.Taking.{Taking}
+use Rattle.ww_table.specs.declared.seat.Taking.TheVariants as try
+use Rattle.ww_seat.specs.Calls.{HasMet, HasStayedOut}
+use Rattle.ww_seat.specs.Work.{HasToWake}
+use Rattle.ww_seat.specs.Marks.{is_marked, IsMarked, AreMarked}
 use Rattle.ww_seat.specs.declared.look.Arrival.TheVariants.{Came, Woken}
 use Rattle.ww_seat.specs.Rests.{Rests}
 use Rattle.ww_seat.specs.declared.resting.Stay.{Stay}
@@ -11,28 +14,34 @@ use Rattle.ww_seat.specs.declared.waits.Waits.{Waits}
 use Rattle.ww_seat.specs.declared.waits.Waits.TheVariants.{UntilCancelled}
 use Rattle.ww_desk.specs.declared.turn.Turn.{Turn}
 use Rattle.ww_desk.specs.declared.turn.Turn.TheVariants as at
+use Rattle.ww_desk.specs.declared.turn.Refusal.{Refusal}
+use Rattle.ww_desk.specs.declared.turn.Refusal.TheVariants as no
 use Rattle.ww_desk.specs.declared.turn.Answer.{Answer}
 use Rattle.ww_desk.specs.declared.turn.Answer.TheVariants.{Done, Again, Awaits, Stays, Sleeps, Busy, Invalid, Already, NoSpace, Deadlk, Interrupted}
-use Rattle.ww_desk.specs.Held.{held_without}
 use Rattle.ww_desk.specs.Situations.{Situation, is_at_rest, is_inside, can_want}
 
 -- ---- what a call makes of a desk
 
--- one lock more is held, the only one that it took
+-- it went inside no guard, so there is nobody whom it has to wake for this
+abbrev pub StaysOut : Situation → Situation → Type 0
+StaysOut s s' = HasStayedOut s.view s'.view
+
+-- one lock more is held, the only one that it took, and it took that at once
 abbrev pub HasLock : Situation → ℕ → Situation → Type 0
-HasLock s n s' = s' ≡ record s { held = s.held ++ n ∷ []; told = None; tries = s.tries + 1; takes = s.takes + 1; view = s'.view }
+HasLock s n s' = StaysOut s s'
+    × (s' ≡ record s { held = s.held ++ n ∷ []; told = None; tries = s.tries + 1; takes = s.takes + 1; view = s'.view })
 
 -- it tried once to take the lock at once, in vain
 abbrev pub HasTried : Situation → Situation → Type 0
-HasTried s s' = s' ≡ record s { tries = s.tries + 1; view = s'.view }
+HasTried s s' = StaysOut s s' × (s' ≡ record s { tries = s.tries + 1; view = s'.view })
 
--- this lock is held no more, and the last one has its place
+-- this lock is held no more; it was released at once
 abbrev pub HasGivenBack : Situation → ℕ → Situation → Type 0
-HasGivenBack s n s' = s' ≡ record s { held = held_without s.held n; view = s'.view }
+HasGivenBack s n s' = StaysOut s s' × (s' ≡ record s { held = without n s.held; view = s'.view })
 
--- its call stands there now
+-- its call stands there now, and it is still outside
 abbrev pub HasTurned : Situation → Turn → Situation → Type 0
-HasTurned s turn s' = s' ≡ record s { turn = turn; view = s'.view }
+HasTurned s turn s' = StaysOut s s' × (s' ≡ record s { turn = turn; view = s'.view })
 
 -- it tried to go inside a guard, or looked at an owner word there
 abbrev pub HasWorked : Situation → Situation → Type 0
@@ -69,23 +78,32 @@ WakesAlso s u s' = AreMarked s.wakes (λ t. (u ≢ s.caller) × (t ≡ u)) s'.wa
 
 -- ---- where a call may go on
 
+-- there is a lock of this number
+abbrev pub IsThere : Situation → ℕ → Type 0
+IsThere s n = n < s.size
+
 -- between two calls, with a lock that it may want
 pub record IsTryable (s : Situation) (n : ℕ) : Type 0 where
   pub rests : is_at_rest s.turn ≡ true
   pub lacks : is_among n s.held ≡ false
-  pub there : n < s.size
+  pub there : IsThere s n
   pub wants : can_want s ≡ true
 
 -- ... with one that it doesn't hold, and may not want, or that isn't there
 pub record IsBarred (s : Situation) (n : ℕ) : Type 0 where
   pub rests : is_at_rest s.turn ≡ true
   pub lacks : is_among n s.held ≡ false
-  pub why : (s.size ≤ n) ⊎ (can_want s ≡ false)
+  pub why : (¬ IsThere s n) ⊎ (can_want s ≡ false)
 
 -- ... with one that it holds
 pub record IsHeldAtRest (s : Situation) (n : ℕ) : Type 0 where
   pub rests : is_at_rest s.turn ≡ true
   pub holds : is_among n s.held ≡ true
+
+abbrev pub answer_of : Refusal → Answer
+answer_of no.Busy = Busy
+answer_of no.Already = Already
+answer_of no.Invalid = Invalid
 
 -- why it can't try to take this lock
 abbrev pub IsRefusal : Situation → ℕ → Answer → Type 0
@@ -93,6 +111,12 @@ IsRefusal s n Busy = is_at_rest s.turn ≡ false
 IsRefusal s n Already = IsHeldAtRest s n
 IsRefusal s n Invalid = IsBarred s n
 IsRefusal s n _ = ⊥
+
+-- what one try came to, of a lock that it may want if it doesn't hold it
+abbrev pub HasTriedAsIs : Situation → ℕ → Taking → Situation → Type 0
+HasTriedAsIs s n try.Took s' = IsTryable s n × HasLock s n s'
+HasTriedAsIs s n try.Had s' = IsHeldAtRest s n × (s' ≡ s)
+HasTriedAsIs s n try.Missed s' = IsTryable s n × HasTried s s'
 
 -- it is told to back off: by its own step, for an older context of stamp k, which its view shows; and it holds a lock
 pub record HasToBackOff (s : Situation) (n k : ℕ) (s' : Situation) : Type 0 where
@@ -105,11 +129,12 @@ pub record HasToBackOff (s : Situation) (n k : ℕ) (s' : Situation) : Type 0 wh
 -- ---- contexts
 
 abbrev pub IsBeginAnswer : Situation → Answer → Situation → Type 0
-IsBeginAnswer s Done s' = (is_at_rest s.turn ≡ true) × (s.stamp ≡ 0) × (s.held ≡ []) × (1 ≤ s.left) × (1 ≤ s'.stamp)
+IsBeginAnswer s Done s' = (is_at_rest s.turn ≡ true) × (s.stamp ≡ 0) × (s.held ≡ []) × (1 ≤ s.left) × (1 ≤ s'.stamp) × StaysOut s s'
     × (s' ≡ record s { left = s.left - 1; draws = s.draws + 1; stamp = s'.stamp; is_done = false; told = None; view = s'.view })
 IsBeginAnswer s Busy s' = (is_at_rest s.turn ≡ false) × (s' ≡ s)
 IsBeginAnswer s Invalid s' = (is_at_rest s.turn ≡ true) × ((s.stamp ≢ 0) ⊎ (s.held ≢ [])) × (s' ≡ s)
-IsBeginAnswer s NoSpace s' = (is_at_rest s.turn ≡ true) × (s.stamp ≡ 0) × (s.held ≡ []) × (s.left ≡ 0) × (s' ≡ s)
+IsBeginAnswer s NoSpace s' = (is_at_rest s.turn ≡ true) × (s.stamp ≡ 0) × (s.held ≡ []) × (((s.left ≡ 0) × (s' ≡ s))
+    ⊎ ((16 < s.seats) × (1 ≤ s.left) × (s' ≡ record s { left = s.left - 1; draws = s.draws + 1 })))
 IsBeginAnswer s _ s' = ⊥
 
 abbrev pub IsDoneAnswer : Situation → Answer → Situation → Type 0
@@ -119,7 +144,7 @@ IsDoneAnswer s Invalid s' = (is_at_rest s.turn ≡ true) × ((s.stamp ≡ 0) ⊎
 IsDoneAnswer s _ s' = ⊥
 
 abbrev pub IsEndAnswer : Situation → Answer → Situation → Type 0
-IsEndAnswer s Done s' = (is_at_rest s.turn ≡ true) × (s.stamp ≢ 0) × (s.held ≡ [])
+IsEndAnswer s Done s' = (is_at_rest s.turn ≡ true) × (s.stamp ≢ 0) × (s.held ≡ []) × StaysOut s s'
     × (s' ≡ record s { stamp = 0; is_done = false; told = None; view = s'.view })
 IsEndAnswer s Busy s' = (is_at_rest s.turn ≡ false) × (s' ≡ s)
 IsEndAnswer s Invalid s' = (is_at_rest s.turn ≡ true) × ((s.stamp ≡ 0) ⊎ (s.held ≢ [])) × (s' ≡ s)
@@ -134,7 +159,7 @@ IsWholeStay stay = (stay.glances ≡ 16) × (stay.pauses ≡ 12416)
 -- the first step: it has the lock, or stays away from it
 abbrev pub IsLockAnswer : Situation → ℕ → Waits → Answer → Situation → Type 0
 IsLockAnswer s n waits Done s' = IsTryable s n × HasLock s n s'
-IsLockAnswer s n waits Again s' = IsTryable s n
+IsLockAnswer s n waits Again s' = IsTryable s n × StaysOut s s'
     × ((stay : Stay) × IsWholeStay stay × (s'
     ≡ record s { turn = at.Stays n stay waits; tries = s.tries + 1; view = s'.view }))
 IsLockAnswer s n waits Busy s' = (is_at_rest s.turn ≡ false) × (s' ≡ s)
@@ -204,20 +229,29 @@ IsUnlockAnswer s n Busy s' = (is_at_rest s.turn ≡ false) × (s' ≡ s)
 IsUnlockAnswer s n Invalid s' = (is_at_rest s.turn ≡ true) × (is_among n s.held ≡ false) × (s' ≡ s)
 IsUnlockAnswer s n _ s' = ⊥
 
--- the last one first: it released all, or those behind a lock that it is still releasing
-abbrev pub IsUnlockAllAnswer : Situation → Answer → Situation → Type 0
-IsUnlockAllAnswer s Done s' = (is_at_rest s.turn ≡ true) × (s' ≡ record s { held = []; view = s'.view })
-IsUnlockAllAnswer s Again s' = (is_at_rest s.turn ≡ true) × HasKept s s'
-    × ((front rest : List ℕ) × (n : ℕ) × (s.held ≡ front ++ n ∷ rest)
-    × (s' ≡ record s { held = front ++ n ∷ []; turn = at.Gives n; view = s'.view }))
-IsUnlockAllAnswer s Busy s' = (is_at_rest s.turn ≡ false) × (s' ≡ s)
-IsUnlockAllAnswer s _ s' = ⊥
+-- it has released these, the last one first, each by one step
+abbrev pub HasReleased : Situation → List ℕ → Situation → Type 0
+HasReleased s [] s' = StaysOut s s' × (s' ≡ record s { view = s'.view })
+HasReleased s (n ∷ ns) s' = (t : Situation) × HasReleased s ns t × IsUnlockAnswer t n Done s'
+
+-- nothing has changed but what it holds, and what it knows of the locks
+abbrev pub HasSomeHeld : Situation → Situation → Type 0
+HasSomeHeld s s' = s' ≡ record s { held = s'.held; view = s'.view }
+
+-- why the last one of these isn't released: it isn't held, or one try to release it at once was in vain
+abbrev pub HasStoppedAt : Situation → List ℕ → Situation → Type 0
+HasStoppedAt s kept s' = (more : List ℕ) × (n : ℕ) × (kept ≡ more ++ n ∷ []) × ((is_among n s'.held ≡ false) ⊎ HasKept s s')
+
+-- of this list it has released all but so many, from the end on, and as many as it could
+abbrev pub IsEachAnswer : Situation → List ℕ → ℕ → Situation → Type 0
+IsEachAnswer s ns left s' = (kept gone : List ℕ) × (ns ≡ kept ++ gone) × (length kept ≡ left) × HasReleased s gone s'
+    × ((kept ≡ []) ⊎ HasStoppedAt s kept s')
 
 -- a further turn of it: it tried in vain to go inside the guard; or the lock is released
 abbrev pub IsGiveAnswer : Situation → ℕ → Answer → Situation → Type 0
 IsGiveAnswer s n Awaits s' = IsShutOut s s'
 IsGiveAnswer s n Done s' = WakesHeir s s'
-    × (s' ≡ record s { turn = at.Rests; held = held_without s.held n; wakes = s'.wakes; view = s'.view })
+    × (s' ≡ record s { turn = at.Rests; held = without n s.held; wakes = s'.wakes; view = s'.view })
 IsGiveAnswer s n _ s' = ⊥
 
 -- ---- the next step, whatever call is on its way
@@ -229,12 +263,27 @@ IsNextAnswer (at.Wants n arrival waits) s a s' = IsWaitAnswer s n waits a s'
 IsNextAnswer (at.Looks n arrival waits) s a s' = IsWaitAnswer s n waits a s'
 IsNextAnswer (at.Gives n) s a s' = IsGiveAnswer s n a s'
 
+-- ---- what it holds
+
+-- whether it holds the lock
+abbrev pub IsHasAnswer : Situation → ℕ → Answer → Situation → Type 0
+IsHasAnswer s n Done s' = IsHeldAtRest s n × (s' ≡ s)
+IsHasAnswer s n Busy s' = (is_at_rest s.turn ≡ false) × (s' ≡ s)
+IsHasAnswer s n Invalid s' = (is_at_rest s.turn ≡ true) × (is_among n s.held ≡ false) × (s' ≡ s)
+IsHasAnswer s n _ s' = ⊥
+
 -- ---- whom to wake, and calling off
 
+-- a seat that has a mark, which it has no more then; or none has
+abbrev pub IsTaken : List ℕ → Option ℕ → List ℕ → Type 0
+IsTaken marks None marks' = ((u : ℕ) → ¬ IsMarked marks u) × (marks' ≡ marks)
+IsTaken marks (Some u) marks' = IsMarked marks u × (is_marked marks' u ≡ false)
+    × ((t : ℕ) → t ≢ u → is_marked marks' t ≡ is_marked marks t)
+
 -- Each seat is told once, and none while this one is inside a guard.
-abbrev pub IsWakesAnswer : Situation → List Bool → Situation → Type 0
-IsWakesAnswer s wakes s' = (is_inside s.turn ≡ true → (wakes ≡ replicate 16 false) × (s' ≡ s))
-    × (is_inside s.turn ≡ false → (wakes ≡ s.wakes) × (s' ≡ record s { wakes = replicate 16 false }))
+abbrev pub IsWakeAnswer : Situation → Option ℕ → Situation → Type 0
+IsWakeAnswer s who s' = (is_inside s.turn ≡ true → (who ≡ None) × (s' ≡ s))
+    × (is_inside s.turn ≡ false → IsTaken s.wakes who s'.wakes × (s' ≡ record s { wakes = s'.wakes }))
 
 -- the wait of seat u, one of the world, is called off; or its one step found that pending already, which is counted
 abbrev pub IsCancelAnswer : Situation → ℕ → Answer → Situation → Type 0

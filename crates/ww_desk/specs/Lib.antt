@@ -1,4 +1,3 @@
-pub mod Held
 pub mod Situations
 pub mod Stations
 pub mod Answers

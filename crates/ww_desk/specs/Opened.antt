@@ -1,9 +1,10 @@
 -- What opening a world gives.
-use Rattle.std.specs.Prelude.{ℕ, ◌≡◌, ◌<◌, ◌≤◌, ◌^◌, ◌⊎◌, [], List, false, replicate, length, slice_index_or, None}
+use Rattle.std.specs.Prelude.{ℕ, ◌≡◌, ◌<◌, ◌≤◌, ◌+◌, ◌/◌, ◌^◌, ◌⊎◌, [], List, false, replicate, length, slice_index_or, None}
 use Rattle.atomic_table.specs.Seated.{TableId}
-use Rattle.ww_word.specs.declared.owner.TheConstants.{MAX_SEATS}
+use Rattle.ww_word.specs.declared.wide.TheConstants.{MANY_SEATS}
 use Rattle.ww_queue.specs.declared.kind.Kind.{Kind}
 use Rattle.ww_view.specs.View.{first_view}
+use Rattle.ww_rule.specs.Rule.{places_for}
 use Rattle.ww_desk.specs.declared.turn.Turn.TheVariants.{Rests}
 use Rattle.ww_desk.specs.declared.opening.TheConstants.{MAX_LOCKS}
 use Rattle.ww_desk.specs.declared.opening.OpenFault.{OpenFault}
@@ -25,14 +26,14 @@ fresh home size seats kind left caller = record {
   held = [];
   told = None;
   turn = Rests;
-  wakes = replicate 16 false;
+  wakes = replicate ((places_for seats + 63) / 64) 0;
   tries = 0;
   takes = 0;
   deaths = 0;
   cancelled = [];
   pendings = 0;
   interrupted = [];
-  view = first_view kind size caller;
+  view = first_view kind size (places_for seats) caller;
 }
 
 -- so many desks of one world of so many seats, each with its number, that have done nothing yet
@@ -48,7 +49,7 @@ pub record IsCount (n most : ℕ) : Type 0 where
 -- the locks and the seats of a world, and how many contexts each seat may begin
 pub record IsWorldSize (locks seats left : ℕ) : Type 0 where
   pub locks_are : IsCount locks MAX_LOCKS
-  pub seats_are : IsCount seats MAX_SEATS
+  pub seats_are : IsCount seats MANY_SEATS
   pub few_contexts : left < 2 ^ 52
 
 pub record IsOpened (kind : Kind) (locks seats left : ℕ) (all : List Situation) : Type 0 where
@@ -59,6 +60,6 @@ pub record IsOpened (kind : Kind) (locks seats left : ℕ) (all : List Situation
 -- which number is out of range, the first one; or none is
 abbrev pub IsOpenFault : ℕ → ℕ → ℕ → OpenFault → Type 0
 IsOpenFault locks seats left BadLocks = (locks ≡ 0) ⊎ (MAX_LOCKS < locks)
-IsOpenFault locks seats left BadSeats = IsCount locks MAX_LOCKS × ((seats ≡ 0) ⊎ (MAX_SEATS < seats))
-IsOpenFault locks seats left BadContexts = IsCount locks MAX_LOCKS × IsCount seats MAX_SEATS × (2 ^ 52 ≤ left)
+IsOpenFault locks seats left BadSeats = IsCount locks MAX_LOCKS × ((seats ≡ 0) ⊎ (MANY_SEATS < seats))
+IsOpenFault locks seats left BadContexts = IsCount locks MAX_LOCKS × IsCount seats MANY_SEATS × (2 ^ 52 ≤ left)
 IsOpenFault locks seats left NoMemory = IsWorldSize locks seats left

@@ -1,5 +1,5 @@
 -- What a contract sees of a desk.
-use Rattle.std.specs.Prelude.{ℕ, ◌==◌, ◌∷◌, [], Bool, true, false, List, Option, is_none, if◌then◌else◌}
+use Rattle.std.specs.Prelude.{ℕ, ◌≡◌, ◌≢◌, ◌==◌, ◌⊎◌, ◌∷◌, [], Bool, true, false, List, Option, Some, None, is_none, if◌then◌else◌}
 use Rattle.atomic_table.specs.Seated.{TableId}
 use Rattle.ww_queue.specs.declared.kind.Kind.{Kind}
 use Rattle.ww_view.specs.declared.view.View.{View}
@@ -9,7 +9,7 @@ use Rattle.ww_desk.specs.declared.turn.Turn.TheVariants.{Rests, Stays, Wants, Lo
 -- Its world: the table; how many locks and seats that has, and of which kind; its number there; how many contexts it may still
 -- begin, and how many it has begun; its stamp, 0 without a context; whether its context is done; the locks that it holds,
 -- each new one the last; the lock for which it was told to back off; where its call stands; whom it has
--- to wake, a mark for each seat; how often it tried to take a lock at once, took one, and had to back off; the seats whose
+-- to wake, a mark for each seat, 64 in a word; how often it tried to take a lock at once, took one, and had to back off; the seats whose
 -- wait it called off, the last one first, and how often it found a cancel pending where it would set one; each time that
 -- its own wait was called off, the last one first: for which lock, and by which seat; and what its seat knows of the locks.
 pub record Situation : Type 0 where
@@ -25,7 +25,7 @@ pub record Situation : Type 0 where
   pub held : List ℕ
   pub told : Option ℕ
   pub turn : Turn
-  pub wakes : List Bool
+  pub wakes : List ℕ
   pub tries : ℕ
   pub takes : ℕ
   pub deaths : ℕ
@@ -57,3 +57,30 @@ is_empty (n ∷ ns) = false
 -- It may want a lock: its context isn't done; and where it holds locks it has a context, which wasn't told to back off.
 abbrev pub can_want : Situation → Bool
 can_want s = if s.is_done then false else (if is_empty s.held then true else (if s.stamp == 0 then false else is_none s.told))
+
+-- ---- what a caller may know of it, so that its next call looks at nothing else
+
+-- between two calls, without a context or a lock, and it may begin one
+pub record IsReady (s : Situation) : Type 0 where
+  pub left : s.left ≢ 0
+  pub rests : is_at_rest s.turn ≡ true
+  pub no_context : s.stamp ≡ 0
+  pub bare : s.held ≡ []
+  pub goes_on : s.is_done ≡ false
+  pub untold : s.told ≡ None
+
+-- between two calls, and it may want a lock: where it holds none it has no context, or one that nobody has signed, since it
+-- has just begun
+pub record IsPlain (s : Situation) : Type 0 where
+  pub rests : is_at_rest s.turn ≡ true
+  pub wants : can_want s ≡ true
+  pub untold : s.told ≡ None
+  pub unsigned : s.held ≡ [] → (s.stamp ≡ 0) ⊎ (s.view.sign ≡ Some 0)
+
+-- between two calls, with a context that has released all that it held
+pub record IsBare (s : Situation) : Type 0 where
+  pub rests : is_at_rest s.turn ≡ true
+  pub context : s.stamp ≢ 0
+  pub bare : s.held ≡ []
+  pub goes_on : s.is_done ≡ false
+  pub untold : s.told ≡ None

@@ -1,22 +1,22 @@
 //! The further steps of a call.
-ghost use Rattle.std.specs.Prelude.{◌≡◌, ◌≢◌, ◌<◌, Some, IfSome};
+ghost use Rattle.std.specs.Prelude.{◌≡◌, ◌≢◌, ◌<◌, ◌≤◌, ◌*◌, ◌/◌, ◌%◌, ◌^◌, length, Some, IfSome};
 ghost use Rattle.std.specs.Option.{option_map};
 ghost use Rattle.ww_queue.specs.declared.entry.Entry.{Entry};
 ghost use Rattle.ww_seat.specs.Work.{AreMarked};
+ghost use Rattle.ww_desk.specs.Answers.{IsTaken};
 ghost use Rattle.ww_desk.specs.declared.turn.Turn.TheVariants.{Stays, Looks, Gives};
 
 use crate::station::Station;
 use crate::turn::{Answer, Turn};
-use ww_queue::Entry;
+use ww_queue::wide::Entry;
 use ww_seat::{
-    Arrival, Attempt, Look, Stay, Waits, Wake, cancel_once, enter_owned, enter_wanted, give_on,
-    look_once,
+    Arrival, Attempt, Look, Stay, Waits, cancel_once, enter_owned, enter_wanted, give_on,
+    look_once, mark,
 };
-use ww_word::MAX_SEATS;
 
 impl Station {
     ghost use Rattle.ww_desk.specs.Stations.{situation_of, Keeps};
-    ghost use Rattle.ww_desk.specs.Answers.{IsNextAnswer, IsStayAnswer, IsWaitAnswer, IsGiveAnswer, IsCancelAnswer, IsWakesAnswer};
+    ghost use Rattle.ww_desk.specs.Answers.{IsNextAnswer, IsStayAnswer, IsWaitAnswer, IsGiveAnswer, IsCancelAnswer, IsWakeAnswer};
 
     /// The next step of the call that is on its way.
     pub(crate) fn go_on(&mut self) -> Answer
@@ -68,7 +68,7 @@ impl Station {
             lock,
             &mut arrival,
             waits,
-            !self.held.is_empty(),
+            self.count != 0,
             &mut self.wake,
         );
         match attempt {
@@ -81,7 +81,7 @@ impl Station {
                 Answer::Sleeps
             }
             Attempt::Ended(Look::Locked(_)) => {
-                self.add(lock);
+                self.add();
                 self.turn = Turn::Rests;
                 Answer::Done
             }
@@ -109,13 +109,13 @@ impl Station {
         }
         let first = give_on(&mut self.seat, &self.board, lock);
         add_first(&mut self.wake, self.seat.who(), first);
-        self.held.remove(lock);
+        self.count -= 1;
         self.turn = Turn::Rests;
         Answer::Done
     }
 
     /// Calls off the wait of a seat, which is to be woken then.
-    pub(crate) fn cancel(&mut self, victim: u8) -> Answer
+    pub(crate) fn cancel(&mut self, victim: u16) -> Answer
         requires keeps { Keeps self.old }
         ensures keeps { Keeps self.new }
         ensures answer { IsCancelAnswer (situation_of self.old) victim result (situation_of self.new) }
@@ -129,29 +129,55 @@ impl Station {
         if !cancel_once(&mut self.seat, &self.board, victim) {
             return Answer::Already;
         }
-        self.wake.add(self.seat.who(), victim, true);
+        mark(&mut self.wake, self.seat.who(), victim, true);
         Answer::Done
     }
 
-    /// Whom to wake, a mark for each seat, while this one is outside every guard; then nobody any more.
-    pub(crate) fn take_wakes(&mut self) -> [bool; MAX_SEATS]
+    /// One of those to wake, while this one is outside every guard. Each is told once.
+    pub(crate) fn next_wake(&mut self) -> Option<u16>
         requires keeps { Keeps self.old }
         ensures keeps { Keeps self.new }
-        ensures answer { IsWakesAnswer (situation_of self.old) result (situation_of self.new) }
+        ensures answer { IsWakeAnswer (situation_of self.old) result (situation_of self.new) }
     {
         match self.turn {
-            Turn::Looks(..) => [false; MAX_SEATS],
-            _ => self.wake.take(),
+            Turn::Looks(..) => None,
+            _ => take_mark(&mut self.wake),
         }
     }
 }
 
+/// The place of the lowest bit that is set.
+fn lowest(word: u64) -> u16
+    requires some { word ≢ 0 }
+    ensures small { result < 64 }
+    ensures set { word / 2 ^ result % 2 ≡ 1 }
+{
+    word.trailing_zeros() as u16
+}
+
+/// The first seat that has a mark, which it has no more then.
+fn take_mark(marks: &mut [u64]) -> Option<u16>
+    requires { length marks.old ≤ 64 }
+    ensures taken { IsTaken marks.old result marks.new }
+    ensures long { length marks.new ≡ length marks.old }
+{
+    for i in 0..marks.len() {
+        if marks[i] != 0 {
+            let bit = lowest(marks[i]);
+            marks[i] &= !(1 << bit);
+            return Some(64 * i as u16 + bit);
+        }
+    }
+    None
+}
+
 /// Also wakes the first waiter, if there is one, and nobody else.
-fn add_first(wake: &mut Wake, who: u8, first: Option<Entry>)
-    requires seat { IfSome first (λ entry. entry.seat < 16) }
-    ensures { AreMarked wake.old.seats (λ u. (option_map (λ (e : Entry). e.seat) first ≡ Some u) × (u ≢ who)) wake.new.seats }
+fn add_first(wake: &mut [u64], who: u16, first: Option<Entry>)
+    requires seat { IfSome first (λ entry. entry.seat < 64 * length wake.old) }
+    ensures marked { AreMarked wake.old (λ u. (option_map (λ (e : Entry). e.seat) first ≡ Some u) × (u ≢ who)) wake.new }
+    ensures long { length wake.new ≡ length wake.old }
 {
     if let Some(first) = first {
-        wake.add(who, first.seat, true);
+        mark(wake, who, first.seat(), true);
     }
 }

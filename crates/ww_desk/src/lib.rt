@@ -10,7 +10,6 @@ mod contexts;
 mod desk;
 mod giving;
 mod going_on;
-mod held;
 mod opening;
 mod station;
 mod taking;

@@ -1,20 +1,18 @@
-ghost use Rattle.std.specs.Prelude.{◌≡◌, ◌≤◌, ◌<◌, ◌^◌, [], length, IfOk, IfErr, vec_len, vec_capacity};
+ghost use Rattle.std.specs.Prelude.{◌≡◌, ◌≤◌, ◌<◌, ◌+◌, ◌^◌, [], length, IfOk, IfErr, vec_len, vec_capacity};
 ghost use Rattle.std.specs.Arc.{arc_value};
-ghost use Rattle.ww_rule.specs.Rule.{first_graph};
+ghost use Rattle.ww_rule.specs.Rule.{first_graph, places_for};
 ghost use Rattle.ww_table.specs.Made.{AreNew};
 ghost use Rattle.ww_desk.specs.Opened.{AreFresh, IsOpened, IsOpenFault};
 
 use crate::desk::Desk;
-use crate::held::Held;
 use crate::station::Station;
 use crate::turn::Turn;
 use std::alloc::{AllocError, Global};
 use std::sync::Arc;
-use ww_plain::{Graph, Node};
 use ww_queue::Kind;
-use ww_seat::{Memory, Wake};
+use ww_seat::Memory;
 use ww_table::{Board, Seat16};
-use ww_word::MAX_SEATS;
+use ww_word::wide::MANY_SEATS;
 
 /// How many locks a world has at most.
 pub const MAX_LOCKS: u32 = 65_536;
@@ -27,7 +25,7 @@ pub const MAX_CONTEXTS: u64 = (1 << 52) - 1;
 pub enum OpenFault {
     /// There would be no lock, or more than `MAX_LOCKS`.
     BadLocks,
-    /// There would be no seat, or more than `MAX_SEATS`.
+    /// There would be no seat, or more than `MANY_SEATS`.
     BadSeats,
     /// A desk might begin more than `MAX_CONTEXTS` contexts.
     BadContexts,
@@ -35,14 +33,14 @@ pub enum OpenFault {
     NoMemory,
 }
 
-/// Opens a world of so many locks, from 1 to `MAX_LOCKS`, and gives its desks, from 1 to `MAX_SEATS`, each of which may
+/// Opens a world of so many locks, from 1 to `MAX_LOCKS`, and gives its desks, from 1 to `MANY_SEATS`, each of which may
 /// begin so many contexts. The first of these numbers that is out of range is told. It takes time and memory by the
-/// number of locks times that of seats; calls of desks take none. The world goes with the last of its desks.
+/// number of locks and that of seats; calls of desks take none. The world goes with the last of its desks.
 pub fn open(
     alloc: Global,
     kind: Kind,
     locks: u32,
-    seats: u8,
+    seats: u16,
     left: u64,
 ) -> Result<Vec<Desk>, OpenFault>
     ensures ok { IfOk result (λ all. IsOpened kind locks seats left all.items) }
@@ -51,7 +49,7 @@ pub fn open(
     if locks == 0 || locks > MAX_LOCKS {
         return Err(OpenFault::BadLocks);
     }
-    if seats == 0 || usize::from(seats) > MAX_SEATS {
+    if seats == 0 || seats > MANY_SEATS {
         return Err(OpenFault::BadSeats);
     }
     if left > MAX_CONTEXTS {
@@ -63,60 +61,57 @@ pub fn open(
     }
 }
 
-/// Makes the table, and a desk for each of its seats. Its graph has one node, which is never read: the other locks guard
-/// none.
-fn lay(alloc: Global, kind: Kind, locks: u32, seats: u8, left: u64) -> Result<Vec<Desk>, AllocError>
+/// Makes the table, none of whose locks guards a node, and a desk for each of its seats.
+fn lay(
+    alloc: Global,
+    kind: Kind,
+    locks: u32,
+    seats: u16,
+    left: u64,
+) -> Result<Vec<Desk>, AllocError>
     requires locks { (1 ≤ locks) × (locks ≤ MAX_LOCKS) }
-    requires seats { (1 ≤ seats) × (seats ≤ 16) }
+    requires seats { (1 ≤ seats) × (seats ≤ MANY_SEATS) }
     requires left { left < 2 ^ 52 }
     ensures { IfOk result (λ all. IsOpened kind locks seats left all.items) }
 {
-    let node = Node {
-        value: 0,
-        ports: [None; 8],
-    };
-    let nodes = Vec::from_elem(alloc, node, 1)?;
     let room = Vec::with_capacity(alloc, usize::from(seats))?;
-    let Ok(graph) = Graph::new(nodes) else {
-        return Err(AllocError);
-    };
-    let Ok((board, made)) = Board::make(alloc, kind, graph, locks, seats) else {
-        return Err(AllocError);
-    };
+    let (board, made) = Board::make_bare(alloc, kind, locks, seats)?;
     let board = Arc::new(alloc, board)?;
-    fresh(&board, made, seats, left, room)
+    fresh(&board, made, locks, seats, left, room)
 }
 
 /// The desks of new seats.
 fn fresh(
     board: &Arc<Board, Global>,
     seats: Vec<Seat16>,
-    count: u8,
+    locks: u32,
+    count: u16,
     left: u64,
     mut all: Vec<Desk>,
 ) -> Result<Vec<Desk>, AllocError>
     requires seats { AreNew (arc_value board.now).table.shared.table_id (arc_value board.now).table.shared.key (length seats.items) seats.items }
-    requires few { length (first_graph (arc_value board.now).table.shared.key) ≤ 64 }
-    requires fits { length (first_graph (arc_value board.now).table.shared.key) ≤ (arc_value board.now).table.shared.key.locks }
-    requires count { (count ≡ length seats.items) × (count ≤ 16) }
+    requires bare { first_graph (arc_value board.now).table.shared.key ≡ [] }
+    requires locks { ((arc_value board.now).table.shared.key.locks ≡ locks) × (locks ≤ 65536) }
+    requires count { (count ≡ length seats.items) × (count < 4096) × ((arc_value board.now).table.shared.key.places ≡ places_for count) }
     requires left { left < 2 ^ 52 }
     requires room { (all.items ≡ []) × (vec_len all ≡ 0) × (length seats.items ≤ vec_capacity all) }
-    ensures { IfOk result (λ all. AreFresh all.items (arc_value board.now).table.shared.table_id (arc_value board.now).table.shared.key.locks count (arc_value board.now).table.shared.key.kind left (length seats.items)) }
+    ensures { IfOk result (λ all. AreFresh all.items (arc_value board.now).table.shared.table_id locks count (arc_value board.now).table.shared.key.kind left (length seats.items)) }
 {
     for seat in seats {
-        let held = Held::none(*all.allocator(), board.locks())?;
+        let wake = Vec::from_elem(*all.allocator(), 0, (usize::from(board.places()) + 63) / 64)?;
         let board = Arc::try_clone(board)?;
         let station = Station {
             board,
             seat,
-            seats: count,
-            left,
-            held,
+            count: 0,
+            locks,
             is_done: false,
+            seats: count,
             told: None,
             turn: Turn::Rests,
+            left,
             memory: Memory::new(),
-            wake: Wake::new(),
+            wake,
         };
         all.push_reserved(Desk { station });
     }

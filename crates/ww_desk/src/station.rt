@@ -1,38 +1,39 @@
-ghost use Rattle.std.specs.Prelude.{◌≡◌, ◌<◌, ◌++◌, ◌∷◌, [], false, None};
-ghost use Rattle.ww_plain.specs.Numbers.{is_among};
+ghost use Rattle.std.specs.Prelude.{◌≡◌, ◌<◌, ◌≤◌, ◌+◌, ◌&&◌, true, false, None};
 
-use crate::held::Held;
 use crate::turn::Turn;
 use std::alloc::Global;
 use std::sync::Arc;
-use ww_seat::{Memory, Wake};
+use ww_seat::Memory;
 use ww_table::{Board, Seat16};
 
 /// What a desk keeps: its seat at the table that it shares with others, and where its call stands. Contracts see it as
-/// a situation.
+/// a situation. Which locks it holds it doesn't keep: the owner words tell that.
 #[derive(Drop)]
 pub(crate) struct Station {
     pub(crate) board: Arc<Board, Global>,
     pub(crate) seat: Seat16,
-    /// How many seats the world has.
-    pub(crate) seats: u8,
-    /// How many contexts it may still begin.
-    pub(crate) left: u64,
-    pub(crate) held: Held,
+    /// How many locks it holds.
+    pub(crate) count: u32,
+    /// How many locks there are.
+    pub(crate) locks: u32,
     /// Its context has all its locks, as its caller said.
     pub(crate) is_done: bool,
+    /// How many seats the world has.
+    pub(crate) seats: u16,
     /// The lock for which it was told to back off.
     pub(crate) told: Option<u32>,
     pub(crate) turn: Turn,
+    /// How many contexts it may still begin.
+    pub(crate) left: u64,
     /// What it remembers of its first tries. No contract speaks of it.
     pub(crate) memory: Memory,
-    /// Whom to wake once it is outside the guard.
-    pub(crate) wake: Wake,
+    /// Whom to wake once it is outside the guard: a mark for each seat, 64 in a word.
+    pub(crate) wake: Vec<u64>,
 }
 
 impl Station {
-    ghost use Rattle.ww_desk.specs.Situations.{is_at_rest, can_want};
-    ghost use Rattle.ww_desk.specs.Stations.{situation_of, Keeps};
+    ghost use Rattle.ww_desk.specs.Situations.{is_at_rest};
+    ghost use Rattle.ww_desk.specs.Stations.{wants_now, wants_of};
 
     /// Whether it is between two calls.
     #[inline(always)]
@@ -45,31 +46,44 @@ impl Station {
         }
     }
 
-    /// Whether it may want a lock: its context isn't done, and where it holds locks it has a context, which wasn't told
-    /// to back off.
+    /// Whether it may want a lock once it is between two calls.
     #[inline(always)]
-    pub(crate) fn can_want(&self) -> bool
-        requires { Keeps self.now }
-        ensures { result ≡ can_want (situation_of self.now) }
+    fn can_want(&self) -> bool
+        ensures { result ≡ wants_of self.now }
     {
         if self.is_done {
             return false;
         }
-        if self.held.is_empty() {
+        if self.count == 0 {
             return true;
         }
         self.seat.stamp() != 0 && self.told.is_none()
     }
 
+    /// Whether it may want a lock now.
+    #[inline(always)]
+    pub(crate) fn wants(&self) -> bool
+        ensures { result ≡ wants_now self.now }
+    {
+        self.rests() && self.can_want()
+    }
+
+    /// Whether there is a lock of this number.
+    #[inline(always)]
+    pub(crate) fn is_lock(&self, lock: u32) -> bool
+        ensures there { result ≡ true → lock < self.now.locks }
+        ensures none { result ≡ false → self.now.locks ≤ lock }
+    {
+        lock < self.locks
+    }
+
     /// One lock more is held, and none is to be backed off from.
     #[inline(always)]
-    pub(crate) fn add(&mut self, lock: u32)
-        requires there { lock < self.old.held.locks }
-        requires lacks { is_among lock self.old.held.items ≡ false }
-        ensures held { self.new.held ≡ record (self.old.held) { items = self.old.held.items ++ lock ∷ [] } }
-        ensures same { self.new ≡ record self.old { held = self.new.held; told = None } }
+    pub(crate) fn add(&mut self)
+        requires few { self.old.count ≤ 65536 }
+        ensures { self.new ≡ record self.old { count = self.old.count + 1; told = None } }
     {
-        self.held.add(lock);
+        self.count += 1;
         self.told = None;
     }
 }

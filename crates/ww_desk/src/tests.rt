@@ -42,16 +42,16 @@ fn meets<R: Abort>(rt: &R, zero: &mut Desk, one: &mut Desk) {
     assert!(rt; zero.lock(0, ToTheEnd) == Answer::Done && one.lock(1, ToTheEnd) == Answer::Done);
     let answer = zero.lock(1, ToTheEnd);
     assert!(rt; turned(zero, answer) == Answer::Sleeps);
-    assert!(rt; zero.unlock_all() == Answer::Busy && zero.end() == Answer::Busy);
+    assert!(rt; zero.unlock(0) == Answer::Busy && zero.end() == Answer::Busy);
     let answer = one.lock(0, ToTheEnd);
     assert!(rt; turned(one, answer) == Answer::Deadlk(1));
     assert!(rt;
         one.lock(0, ToTheEnd) == Answer::Invalid && one.lock_slow(0, ToTheEnd) == Answer::Invalid
     );
     assert!(rt; one.unlock(0) == Answer::Invalid && one.lock(1, ToTheEnd) == Answer::Already);
-    let answer = one.unlock_all();
+    let answer = one.unlock(1);
     assert!(rt; turned(one, answer) == Answer::Done);
-    assert!(rt; one.take_wakes()[0] && !one.take_wakes()[0]);
+    assert!(rt; one.next_wake() == Some(0) && one.next_wake().is_none());
     assert!(rt; one.lock_slow(1, ToTheEnd) == Answer::Invalid);
     assert!(rt; zero.go_on() == Answer::Done && zero.done() == Answer::Done);
     assert!(rt; zero.done() == Answer::Invalid && zero.end() == Answer::Invalid);
@@ -62,12 +62,17 @@ fn meets<R: Abort>(rt: &R, zero: &mut Desk, one: &mut Desk) {
 /// The wait is called off, and nobody waits any more.
 fn is_called_off<R: Abort>(rt: &R, zero: &mut Desk, one: &mut Desk) {
     assert!(rt; zero.cancel(1) == Answer::Done && zero.cancel(1) == Answer::Already);
-    assert!(rt; zero.cancel(16) == Answer::Invalid && zero.take_wakes()[1]);
+    assert!(rt; zero.cancel(16) == Answer::Invalid && zero.next_wake() == Some(1));
     let answer = one.go_on();
     assert!(rt; turned(one, answer) == Answer::Interrupted(0));
     assert!(rt; one.go_on() == Answer::Invalid && one.try_lock(0) == Answer::Busy);
     assert!(rt; one.end() == Answer::Done && one.is_idle());
-    assert!(rt; zero.unlock_all() == Answer::Done && zero.end() == Answer::Done && zero.is_idle());
+    assert!(rt;
+        zero.unlock(1) == Answer::Done
+            && zero.unlock(0) == Answer::Done
+            && zero.end() == Answer::Done
+            && zero.is_idle()
+    );
     assert!(rt; zero.try_lock(0) == Answer::Done && zero.lock(1, ToTheEnd) == Answer::Invalid);
     assert!(rt;
         !zero.is_idle() && zero.begin() == Answer::Invalid && zero.unlock(0) == Answer::Done
@@ -98,16 +103,16 @@ fn owners_stay(rt: HostRuntime) -> Result<(), Fail> {
     assert!(rt; zero.lock(0, ToTheEnd) == Answer::Done && one.lock(0, ToTheEnd) == Answer::Again);
     assert!(rt; one.go_on() == moment && one.go_on() == shortly(16));
     assert!(rt; zero.unlock(0) == Answer::Done && one.go_on() == Answer::Again);
-    assert!(rt; one.go_on() == Answer::Done && one.unlock_all() == Answer::Done);
+    assert!(rt; one.go_on() == Answer::Done && one.unlock(0) == Answer::Done);
     assert!(rt; zero.begin() == Answer::Done && zero.lock(0, ToTheEnd) == Answer::Done);
     assert!(rt; one.lock(0, ToTheEnd) == Answer::Again && one.go_on() == moment);
     assert!(rt; one.go_on() == shortly(8) && one.go_on() == shortly(16));
     assert!(rt; zero.unlock(0) == Answer::Done && one.go_on() == Answer::Again);
-    assert!(rt; one.go_on() == Answer::Done && one.unlock_all() == Answer::Done);
+    assert!(rt; one.go_on() == Answer::Done && one.unlock(0) == Answer::Done);
     assert!(rt; zero.lock(0, ToTheEnd) == Answer::Done && one.lock(0, ToTheEnd) == Answer::Again);
     assert!(rt; one.go_on() == moment && zero.unlock(0) == Answer::Done);
     assert!(rt; one.go_on() == shortly(16) && one.go_on() == Answer::Again);
-    assert!(rt; one.go_on() == Answer::Done && one.unlock_all() == Answer::Done);
+    assert!(rt; one.go_on() == Answer::Done && one.unlock(0) == Answer::Done);
     Ok(())
 }
 

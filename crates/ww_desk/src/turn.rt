@@ -36,10 +36,35 @@ pub enum Answer {
     Invalid,
     /// The lock is held already; for a cancel: one is pending already.
     Already,
-    /// All contexts that the desk might begin were begun.
+    /// All contexts that the desk might begin were begun, or the world's stamps are spent.
     NoSpace,
     /// All locks are to be released, for an older context of this stamp.
     Deadlk(u64),
     /// This seat called the wait off.
-    Interrupted(u8),
+    Interrupted(u16),
+}
+
+/// Why a call doesn't try to take a lock. It is smaller than an answer.
+#[derive(Clone, Copy)]
+pub(crate) enum Refusal {
+    Busy,
+    Already,
+    Invalid,
+}
+
+impl Refusal {
+    ghost use Rattle.std.specs.Prelude.{◌≡◌};
+    ghost use Rattle.ww_desk.specs.Answers.{answer_of};
+
+    /// The answer that says so.
+    #[inline(always)]
+    pub(crate) fn answer(self) -> Answer
+        ensures { result ≡ answer_of self }
+    {
+        match self {
+            Refusal::Busy => Answer::Busy,
+            Refusal::Already => Answer::Already,
+            Refusal::Invalid => Answer::Invalid,
+        }
+    }
 }

@@ -1,5 +1,6 @@
 -- What a state carries, as the calls of its seat change that.
-use Rattle.std.proofs.Common.{◌≡◌, ◌≢◌, ℕ, suc, zero, ◌+◌, ◌-◌, ◌<◌, ◌≤◌, ◌^◌, eqb, ltb, true≢false, Bool, true, false, List, [], ◌∷◌, length, map, set, get_or, refl, sym, ap, subst, ◌∙◌, arith, inl, inr, Some, slice_get, length-set, get_or-set_same, get_or-set_other}
+use Rattle.std.proofs.Common.{◌≡◌, ◌≢◌, ℕ, suc, zero, ◌+◌, ◌-◌, ◌<◌, ◌≤◌, ◌^◌, eqb, ltb, true≢false, Bool, true, false, List, [], ◌∷◌, length, map, set, get_or, refl, sym, ap, subst, ◌∙◌, arith, inl, inr, Some, None, Option, slice_get, length-set, get_or-set_same, get_or-set_other}
+use Rattle.std.specs.Prelude.{IsSome, IfSome}
 use mathlib.Core.Option.{some}
 use lib.ListN.{get_elem?}
 use Rattle.atomic_table.specs.Seated.{TableId}
@@ -16,20 +17,26 @@ use Rattle.ww_model.specs.State.{any_below}
 use Rattle.ww_view.specs.View.{owns, IsBare}
 use Rattle.ww_view.specs.Made.{without}
 use Rattle.ww_table.specs.declared.seat.Seat16.{Seat16}
+use Rattle.ww_table.specs.Seat.{IsSeated}
 use Rattle.ww_rule.specs.Steps.{MayDraw}
 use Rattle.ww_seat.specs.Orderly.{IsSettled}
 use Rattle.ww_seat.specs.declared.waiting.Stop.{Stop}
 use Rattle.ww_seat.specs.declared.waiting.Stop.TheVariants.{Deadlk, Interrupted}
+use Rattle.ww_rule.specs.Rule.{Sat}
+use Rattle.ww_rule.specs.Cancels.{cancelling, finding_pending}
 use Rattle.ww_seat.specs.Accounts.{Account, account_of, having_tried, having_taken, having_given, having_died, having_stopped, having_begun, having_ended}
-use Rattle.ww_seat.specs.Calls.{HasTriedInVain, HasAdded, HasToDie, HasStopped, HasGiven, HasBegun, HasEnded, IsTurnedAway}
+use Rattle.ww_seat.specs.Calls.{HasTriedInVain, HasAdded, HasToDie, HasStopped, HasGiven, HasBegun, HasEnded, HasStayedOut, IsTurnedAway, MayStop}
+use Rattle.ww_seat.specs.declared.waits.Waits.{Waits}
+use Rattle.ww_seat.specs.declared.waits.Waits.TheVariants.{UntilCancelled}
 use Rattle.std.specs.Global.{Vec}
 use Rattle.std.specs.Vec.{with_items}
 use Rattle.std.proofs.lemmas.List.{length-map, with_items_is}
 use Rattle.ww_seat.specs.declared.bell.Bell.{Bell}
-use Rattle.ww_seat.specs.Bells.{rings_at, sleeps_at, ArePlacedAlike}
+use Rattle.ww_seat.specs.Bells.{heard, rings_at, sleeps_at, ArePaid, ArePlacedAlike, SleepsNot}
+use Rattle.ww_seat.proofs.Debts.{paid_still}
 use Rattle.ww_lock.specs.declared.hand.Hand.{Hand}
 use Rattle.ww_lock.specs.Holding.{Home, Holding, Setting, IsAtHome, AreHeld, by_of}
-use Rattle.ww_lock.specs.Carried.{holding_of, held_of, bells_of, Carries, CarriesFresh, IsPlacedAlike}
+use Rattle.ww_lock.specs.Carried.{holding_of, held_of, bells_of, Carries, CarriesFresh, HasFew, IsEven, IsPlacedAlike, met_of}
 use Rattle.ww_lock.specs.Moves.{tried, with_node, IsTaken, IsStop}
 
 pub settled_as : (a b : TableId) (m n : ℕ) (q : Seat16) → a ≡ b → m ≡ n → IsSettled a m q → IsSettled b n q
@@ -70,6 +77,61 @@ may_draw h c none idle few = record {
   fewer = omega (arith, few);
 }
 
+-- a seat of such a table has one of 16 numbers
+pub few_seats : (t : TableId) (s : Seat16) → IsSeated t s → HasFew t → (s.seats ≡ 16) × (s.who < 16)
+few_seats t s is few = let a = is.sized.0 in let b = is.sized.1 in let x = few.1.0 in let y = few.1.1 in let low = is.few in
+    let same : s.seats ≡ 16 = omega arith in (same, omega arith)
+
+pub its_number : (h : Hand) → Carries h → h.seat.who < 16
+its_number h c = (few_seats h.seat.seat.table_id h.seat c.settled.seated c.few).1
+
+-- ---- whom it woke, and how often it slept
+
+-- it stayed outside of all guards and set no cancel, and its bells and its parker are as they were
+pub even_still : (h g : Hand) (q : Seat16) → g.seat ≡ q → g.bells ≡ h.bells → SleepsNot h.patience g.patience
+    → q.seat.me.0.part.counts.cancelled ≡ h.seat.seat.me.0.part.counts.cancelled
+    → HasStayedOut h.seat.seat.me.0.part.core q.seat.me.0.part.core → IsEven h → IsEven g
+even_still h g q seat bells awake cancels out e = record {
+  paid = subst (λ (s : Seat16). ArePaid s.seat.me g.bells.items) (sym seat)
+      (subst (λ (v : Vec Bell). ArePaid q.seat.me v.items) (sym bells)
+      (paid_still h.seat.seat.me q.seat.me h.bells.items cancels out.debts e.paid));
+  slept = awake.heard ∙ e.slept ∙ sym (ap (λ (s : Seat16). s.seat.me.0.part.core.naps) seat ∙ out.naps);
+}
+
+-- a call had its bells as a slice, and its parker
+pub even_after : (h : Hand) (g : Hand) (q : Seat16) (was now : List Bell) → was ≡ h.bells.items → ArePlacedAlike was now
+    → g.seat ≡ q → g.bells ≡ with_items h.bells now → ArePaid q.seat.me now
+    → heard g.patience ≡ q.seat.me.0.part.core.naps → IsEven g
+even_after h g q was now is alike seat bells paid slept = record {
+  paid = subst (λ (s : Seat16). ArePaid s.seat.me g.bells.items) (sym seat)
+      (subst (λ (l : List Bell). ArePaid q.seat.me l) (sym (ap (λ (v : Vec Bell). v.items) bells
+      ∙ with_items_is h.bells now (omega (arith, alike.count, ap length is, h.bells.ok.0)))) paid);
+  slept = slept ∙ sym (ap (λ (s : Seat16). s.seat.me.0.part.core.naps) seat);
+}
+
+-- its bells are those that a call gets as a slice
+pub paid_slice : (h : Hand) (was : List Bell) → was ≡ h.bells.items → IsEven h → ArePaid h.seat.seat.me was
+paid_slice h was is e = subst (λ (l : List Bell). ArePaid h.seat.seat.me l) (sym is) e.paid
+
+-- once it has spent one of what was left it may still commit
+pub spent_fresh : (h : Hand) → Carries h → held_of h ≡ [] → 1 ≤ h.left → CarriesFresh (record h { left = h.left - 1 })
+spent_fresh h c none more = record {
+  carries = record {
+    settled = c.settled;
+    owned = c.owned;
+    marks = c.marks;
+    held = c.held;
+    placed = c.placed;
+    even = record { paid = c.even.paid; slept = c.even.slept };
+    answered = c.answered;
+    draws = omega (arith, c.draws);
+    commits = omega (arith, c.commits);
+    few = c.few;
+  };
+  seen = λ n among. absurd (true≢false (sym among ∙ ap (is_among n) none));
+  commits = omega (arith, c.commits, more);
+}
+
 -- ---- what a call of its seat makes of a state
 
 -- a state with a seat of this account is seen so, but for the nodes
@@ -89,6 +151,10 @@ seen_with h a = record (holding_of h) {
 pub seen_still : (h : Hand) → Carries h → seen_with h (account_of h.seat.seat.me) ≡ holding_of h
 seen_still h c = ap (λ (k : ℕ). let s : Holding = record (holding_of h) { stamp = k } in s) c.settled.seated.stamp
 
+-- how often it slept without having looked whether its wait was called off
+abbrev pub deaf_of : Hand → ℕ
+deaf_of h = h.seat.seat.me.0.part.core.deaf
+
 -- what it keeps beside its seat suits this account
 pub record Suits (g : Hand) (a : Account) : Type 0 where
   pub owned : (n : ℕ) → get_or a.owned n false ≡ is_among n a.locks
@@ -99,17 +165,20 @@ pub record Suits (g : Hand) (a : Account) : Type 0 where
 
 pub carries_with : (g : Hand) (a : Account) → account_of g.seat.seat.me ≡ a
     → IsSettled g.seat.seat.table_id (length g.seen) g.seat → Suits g a
-    → slice_get (bells_of g) g.seat.who ≡ Some (sleeps_at g.patience) → length g.seat.records.items + g.left < 2 ^ 32 → Carries g
-carries_with g a now settled suits placed commits = let s : Suits g (account_of g.seat.seat.me) = subst (Suits g) (sym now) suits in
+    → slice_get (bells_of g) g.seat.who ≡ Some (sleeps_at g.patience) → IsEven g
+    → length g.seat.records.items + g.left < 2 ^ 32 → HasFew g.seat.seat.table_id → Carries g
+carries_with g a now settled suits placed even commits few = let s : Suits g (account_of g.seat.seat.me) = subst (Suits g) (sym now) suits in
     record {
       settled = settled;
       owned = s.owned;
       marks = s.marks;
       held = s.held;
       placed = placed;
+      even = even;
       answered = s.answered;
       draws = s.draws;
       commits = commits;
+      few = few;
     }
 
 -- the seat that a state carries once a call of it has ended, with this account
@@ -122,40 +191,42 @@ record HasMoved (h : Hand) (p : Setting) (q : Seat16) (a : Account) : Type 0 whe
 -- the state that carries it
 record Moves (h g : Hand) (a : Account) : Type 0 where
   carries : Carries g
-  is : holding_of g ≡ record (seen_with h a) { seen = g.seen }
+  is : holding_of g ≡ record (seen_with h a) { seen = g.seen; deaf = deaf_of g }
 
 moves : (h g : Hand) (w p : Setting) (q : Seat16) (a : Account) → p ≡ w → IsAtHome (holding_of h) w → Carries h
-    → HasMoved h p q a → IsPlacedAlike h g → g.seat ≡ q → g.left ≡ h.left → length g.seen ≡ length h.seen
+    → HasMoved h p q a → IsPlacedAlike h g → IsEven g → g.seat ≡ q → g.left ≡ h.left → length g.seen ≡ length h.seen
     → Suits g a → Moves h g a
-moves h g w p q a is home c m alike seat left size suits =
+moves h g w p q a is home c m alike even seat left size suits =
     let t = at_table (holding_of h) w p is home in
     let table : q.seat.table_id ≡ h.seat.seat.table_id = m.settled.seated.home ∙ sym t.0 in
     let who : q.who ≡ h.seat.who = sym m.settled.seated.who ∙ ap (λ (x : Account). x.who) m.now ∙ m.who ∙ c.settled.seated.who in
     let many : length g.seat.records.items ≡ length h.seat.records.items =
     ap (λ (s : Seat16). length s.records.items) seat ∙ ap (λ r. length r.items) m.records in
-    let same : holding_of g ≡ record (seen_with h (account_of q.seat.me)) { seen = g.seen } =
+    let same : holding_of g ≡ record (seen_with h (account_of q.seat.me)) { seen = g.seen; deaf = deaf_of g } =
     rw (seat, left, table, who, m.records, alike.bells, sym m.settled.seated.stamp) refl in record {
       carries = carries_with g a (ap (λ (s : Seat16). account_of s.seat.me) seat ∙ m.now)
           (subst (λ (s : Seat16). IsSettled s.seat.table_id (length g.seen) s) (sym seat)
           (settled_as p.home.table q.seat.table_id (length p.first) (length g.seen) q
           (sym m.settled.seated.home) (sym t.1 ∙ sym size) m.settled))
-          suits (rw (alike.bells, alike.parker, seat, who) c.placed) (omega (arith, many, c.commits, left));
-      is = same ∙ ap (λ (x : Account). let s : Holding = record (seen_with h x) { seen = g.seen } in s) m.now;
+          suits (rw (alike.bells, alike.parker, seat, who) c.placed) even (omega (arith, many, c.commits, left))
+          (subst HasFew (sym (ap (λ (s : Seat16). s.seat.table_id) seat ∙ table)) c.few);
+      is = same ∙ ap (λ (x : Account). let s : Holding = record (seen_with h x) { seen = g.seen; deaf = deaf_of g } in s) m.now;
     }
 
 -- it holds what it held
 record Keeps (h g : Hand) (a : Account) : Type 0 where
   fresh : CarriesFresh g
-  is : holding_of g ≡ seen_with h a
+  is : holding_of g ≡ record (seen_with h a) { deaf = deaf_of g }
 
-keeps : (h : Hand) (w p : Setting) (q : Seat16) (v : Hand) (a : Account) → IsPlacedAlike h v → p ≡ w
+keeps : (h : Hand) (w p : Setting) (q : Seat16) (v : Hand) (a : Account) → IsPlacedAlike h v
+    → IsEven (record h { seat = q; patience = v.patience; bells = v.bells }) → p ≡ w
     → IsAtHome (holding_of h) w → CarriesFresh h → HasMoved h p q a → a.locks ≡ held_of h
     → a.held ≡ h.seat.seat.me.0.held
     → Suits (record h { seat = q; patience = v.patience; bells = v.bells }) a
     → Keeps h (record h { seat = q; patience = v.patience; bells = v.bells }) a
-keeps h w p q v a alike is home f m locks held suits =
+keeps h w p q v a alike even is home f m locks held suits =
     let k = moves h (record h { seat = q; patience = v.patience; bells = v.bells }) w p q a is home f.carries m
-    (record { bells = alike.bells; parker = alike.parker }) refl refl refl suits in
+    (record { bells = alike.bells; parker = alike.parker }) even refl refl refl suits in
     let many : length q.records.items ≡ length h.seat.records.items = ap (λ r. length r.items) m.records in record {
       fresh = record {
         carries = k.carries;
@@ -176,17 +247,31 @@ pub record Begins (h g : Hand) : Type 0 where
 pub begins : (h : Hand) (w p : Setting) (q : Seat16) (k : ℕ) → p ≡ w → IsAtHome (holding_of h) w → CarriesFresh h
     → h.seat.seat.me.0.part.counts.draws + h.left + 1 < 2 ^ 32
     → IsSettled p.home.table (length p.first) q → q.records ≡ h.seat.records → HasBegun h.seat.seat.me k q.seat.me
-    → 0 < k → Begins h (record h { seat = q })
-begins h w p q k is home f few settled records b pos =
+    → HasStayedOut h.seat.seat.me.0.part.core q.seat.me.0.part.core → 0 < k → Begins h (record h { seat = q })
+begins h w p q k is home f few settled records b out pos =
     let c = f.carries in
-    let v = keeps h w p q h (having_begun (account_of h.seat.seat.me) k) (record { bells = refl; parker = refl }) is
+    let v = keeps h w p q h (having_begun (account_of h.seat.seat.me) k) (record { bells = refl; parker = refl })
+    (even_still h (record h { seat = q }) q refl refl (record { parker = refl; heard = refl })
+    (ap (λ (x : Account). x.counts.cancelled) b.now) out c.even) is
     home f (record { settled = settled; records = records; now = b.now; who = refl }) refl refl
     (record { owned = c.owned; marks = c.marks; held = c.held; answered = c.answered; draws = omega (arith, few) }) in
     let stamp : k ≡ q.stamp = sym (ap (λ (x : Account). x.stamp) b.now) ∙ settled.seated.stamp in record {
       fresh = v.fresh;
-      is = v.is ∙ ap (λ (j : ℕ). let s : Holding = record (holding_of h) { draws = (holding_of h).draws + 1; stamp = j } in s) stamp;
+      is = v.is ∙ ap (λ (d : ℕ).
+          let s : Holding = record (holding_of h) { draws = (holding_of h).draws + 1; stamp = k; deaf = d } in s) out.deaf
+          ∙ ap (λ (j : ℕ). let s : Holding = record (holding_of h) { draws = (holding_of h).draws + 1; stamp = j } in s) stamp;
       stamped = omega (arith, pos, stamp);
     }
+
+pub begins_some : (h : Hand) (w p : Setting) (q : Seat16) (r : Option ℕ) → IsSome r → p ≡ w → IsAtHome (holding_of h) w → CarriesFresh h
+    → h.seat.seat.me.0.part.counts.draws + h.left + 1 < 2 ^ 32
+    → IsSettled p.home.table (length p.first) q → q.records ≡ h.seat.records
+    → IfSome r (λ k. HasBegun h.seat.seat.me k q.seat.me) → HasStayedOut h.seat.seat.me.0.part.core q.seat.me.0.part.core
+    → IfSome r (λ k. 0 < k)
+    → Begins h (record h { seat = q }) × (met_of (record h { seat = q }) ≡ None)
+begins_some h w p q None there is home f few settled records b out pos = absurd (true≢false (sym there))
+begins_some h w p q (Some k) there is home f few settled records b out pos =
+    (begins h w p q k is home f few settled records b out pos, b.unmet)
 
 pub record Ends (h g : Hand) : Type 0 where
   pub carries : Carries g
@@ -194,13 +279,15 @@ pub record Ends (h g : Hand) : Type 0 where
 
 pub ends : (h : Hand) (w p : Setting) (q : Seat16) → p ≡ w → IsAtHome (holding_of h) w → Carries h
     → IsSettled p.home.table (length p.first) q → q.records ≡ h.seat.records → HasEnded h.seat.seat.me q.seat.me
-    → Ends h (record h { seat = q })
-ends h w p q is home c settled records e =
+    → HasStayedOut h.seat.seat.me.0.part.core q.seat.me.0.part.core → Ends h (record h { seat = q })
+ends h w p q is home c settled records e out =
     let v = moves h (record h { seat = q }) w p q (having_ended (account_of h.seat.seat.me)) is home c
     (record { settled = settled; records = records; now = e; who = refl })
-    (record { bells = refl; parker = refl }) refl refl refl
+    (record { bells = refl; parker = refl })
+    (even_still h (record h { seat = q }) q refl refl (record { parker = refl; heard = refl })
+    (ap (λ (x : Account). x.counts.cancelled) e) out c.even) refl refl refl
     (record { owned = c.owned; marks = c.marks; held = c.held; answered = c.answered; draws = c.draws }) in
-    record { carries = v.carries; is = v.is }
+    record { carries = v.carries; is = v.is ∙ ap (λ (d : ℕ). let s : Holding = record (holding_of h) { stamp = 0; deaf = d } in s) out.deaf }
 
 -- ---- locks
 
@@ -220,14 +307,15 @@ elem_else (y ∷ ys) (suc n) (suc m) x isnt = elem_else ys n m x (λ e. isnt (ap
 -- one node more is held, after so many tries
 pub record Takes (h g : Hand) (tries n : ℕ) (x : Node) : Type 0 where
   pub fresh : CarriesFresh g
-  pub is : holding_of g ≡ with_node (record (holding_of h) { tries = tries; takes = (holding_of h).takes + 1 }) n x
+  pub is : holding_of g ≡ with_node (record (holding_of h) { tries = tries; takes = (holding_of h).takes + 1; deaf = deaf_of g }) n x
 
 pub takes : (h g : Hand) (w p : Setting) (q : Seat16) (tries n : ℕ) (x : Node) → p ≡ w → IsAtHome (holding_of h) w
     → CarriesFresh h → n < length h.seen → is_among n (held_of h) ≡ false
     → IsSettled p.home.table (length p.first) q → q.records ≡ h.seat.records
     → HasAdded (record (account_of h.seat.seat.me) { tries = tries }) n x q.seat.me
-    → IsPlacedAlike h g → g.seat ≡ q → g.left ≡ h.left → g.marks ≡ set h.marks n true → g.seen ≡ set h.seen n x → Takes h g tries n x
-takes h g w p q tries n x is home f lt new settled records t alike seat left marked read =
+    → IsPlacedAlike h g → IsEven g → g.seat ≡ q → g.left ≡ h.left → g.marks ≡ set h.marks n true
+    → g.seen ≡ set h.seen n x → Takes h g tries n x
+takes h g w p q tries n x is home f lt new settled records t alike even seat left marked read =
     let c = f.carries in
     let m = h.seat.seat.me in
     let a : Account = having_taken (record (account_of m) { tries = tries }) n x in
@@ -238,7 +326,7 @@ takes h g w p q tries n x is home f lt new settled records t alike seat left mar
     ap (λ (s : Seat16). length s.records.items) seat ∙ ap (λ r. length r.items) records in
     let now : account_of g.seat.seat.me ≡ a = ap (λ (s : Seat16). account_of s.seat.me) seat ∙ t.now in
     let v = moves h g w p q a is home c (record { settled = settled; records = records; now = t.now; who = refl })
-    alike seat left long (record {
+    alike even seat left long (record {
       owned = owns_more m.0.part.core.owned a.owned (held_of h) n wide refl c.owned;
       marks = marked ∙ ap (λ (os : List Bool). set os n true) c.marks;
       held = held_more (held_of h) h.seen g.seen n c.held lt new long;
@@ -263,8 +351,8 @@ takes h g w p q tries n x is home f lt new settled records t alike seat left mar
         ];
         commits = omega (arith, many, f.commits, left);
       };
-      is = v.is ∙ ap (λ (ns : List Node). let s : Holding = record (seen_with h a) { seen = ns } in s) read
-          ∙ ap (λ (s : Holding). with_node (record s { tries = tries; takes = s.takes + 1 }) n x) (seen_still h c);
+      is = v.is ∙ ap (λ (ns : List Node). let s : Holding = record (seen_with h a) { seen = ns; deaf = deaf_of g } in s) read
+          ∙ ap (λ (s : Holding). with_node (record s { tries = tries; takes = s.takes + 1; deaf = deaf_of g }) n x) (seen_still h c);
     }
 
 -- ... by one try
@@ -278,41 +366,47 @@ pub taken_late : (h g : Hand) (n : ℕ) (x : Node) (s : Holding) → is_among n 
 taken_late h g n x s new t was = record {
   new = sym (ap (λ (z : Holding). is_among n z.held) was) ∙ new;
   contents = x;
-  added = t.is ∙ ap (λ (z : Holding). with_node (record z { takes = z.takes + 1 }) n x) was;
+  added = t.is ∙ ap (λ (z : Holding). with_node (record z { takes = z.takes + 1; deaf = deaf_of g }) n x) was;
 }
 
 -- nothing more is held, and nothing less, after one try in vain
-pub missed : (h : Hand) (w p : Setting) (q : Seat16) (v : Hand) → IsPlacedAlike h v → p ≡ w
+pub missed : (h : Hand) (w p : Setting) (q : Seat16) (v : Hand) → IsPlacedAlike h v
+    → IsEven (record h { seat = q; patience = v.patience; bells = v.bells }) → p ≡ w
     → IsAtHome (holding_of h) w → CarriesFresh h → IsSettled p.home.table (length p.first) q
     → q.records ≡ h.seat.records
-    → HasTriedInVain h.seat.seat.me q.seat.me
+    → HasTriedInVain h.seat.seat.me q.seat.me → q.seat.me.0.part.core.deaf ≡ deaf_of h
     → CarriesFresh (record h { seat = q; patience = v.patience; bells = v.bells })
     × (holding_of (record h { seat = q; patience = v.patience; bells = v.bells }) ≡ tried (holding_of h))
-missed h w p q v alike is home f settled records b =
+missed h w p q v alike even is home f settled records b still =
     let c = f.carries in
-    let k = keeps h w p q v (having_tried (account_of h.seat.seat.me)) alike is home f
+    let k = keeps h w p q v (having_tried (account_of h.seat.seat.me)) alike even is home f
     (record { settled = settled; records = records; now = b; who = refl }) refl refl
-    (record { owned = c.owned; marks = c.marks; held = c.held; answered = c.answered; draws = c.draws }) in
-    (k.fresh, k.is ∙ ap tried (seen_still h c))
+    (record { owned = c.owned; marks = c.marks; held = c.held; answered = c.answered; draws = c.draws }) in (
+      k.fresh,
+      k.is
+          ∙ ap (λ (d : ℕ). let s : Holding = record (seen_with h (having_tried (account_of h.seat.seat.me))) { deaf = d } in s) still
+          ∙ ap tried (seen_still h c),
+    )
 
 -- ... and it had to back off
 record Dies (h g : Hand) : Type 0 where
   fresh : CarriesFresh g
-  is : holding_of g ≡ record (holding_of h) { deaths = (holding_of h).deaths + 1 }
+  is : holding_of g ≡ record (holding_of h) { deaths = (holding_of h).deaths + 1; deaf = deaf_of g }
 
-dies : (h : Hand) (w p : Setting) (q : Seat16) (v : Hand) (n k : ℕ) → IsPlacedAlike h v → p ≡ w
+dies : (h : Hand) (w p : Setting) (q : Seat16) (v : Hand) (n k : ℕ) → IsPlacedAlike h v
+    → IsEven (record h { seat = q; patience = v.patience; bells = v.bells }) → p ≡ w
     → IsAtHome (holding_of h) w → CarriesFresh h → IsSettled p.home.table (length p.first) q
     → q.records ≡ h.seat.records
     → HasToDie h.seat.seat.me n k q.seat.me → Dies h (record h { seat = q; patience = v.patience; bells = v.bells })
-dies h w p q v n k alike is home f settled records d =
+dies h w p q v n k alike even is home f settled records d =
     let c = f.carries in
-    let kept = keeps h w p q v (having_died (account_of h.seat.seat.me)) alike is home f
+    let kept = keeps h w p q v (having_died (account_of h.seat.seat.me)) alike even is home f
     (record { settled = settled; records = records; now = d.now; who = refl }) refl refl
     (record { owned = c.owned; marks = c.marks; held = c.held; answered = c.answered; draws = c.draws }) in
     record {
       fresh = kept.fresh;
       is = kept.is
-          ∙ ap (λ (s : Holding). record s { deaths = s.deaths + 1 }) (seen_still h c);
+          ∙ ap (λ (s : Holding). record s { deaths = s.deaths + 1; deaf = q.seat.me.0.part.core.deaf }) (seen_still h c);
     }
 
 -- its wait was called off, and it holds what it held
@@ -320,16 +414,23 @@ record Stops (h g : Hand) (n by : ℕ) : Type 0 where
   fresh : CarriesFresh g
   is : holding_of g ≡ record (holding_of h) { interrupted = (n, by) ∷ (holding_of h).interrupted }
 
-stops : (h : Hand) (w p : Setting) (q : Seat16) (v : Hand) (n by : ℕ) → IsPlacedAlike h v → p ≡ w
+stops : (h : Hand) (w p : Setting) (q : Seat16) (v : Hand) (n by : ℕ) → IsPlacedAlike h v
+    → IsEven (record h { seat = q; patience = v.patience; bells = v.bells }) → p ≡ w
     → IsAtHome (holding_of h) w → CarriesFresh h → IsSettled p.home.table (length p.first) q
     → q.records ≡ h.seat.records
-    → HasStopped h.seat.seat.me n by q.seat.me → Stops h (record h { seat = q; patience = v.patience; bells = v.bells }) n by
-stops h w p q v n by alike is home f settled records b =
+    → HasStopped h.seat.seat.me n by q.seat.me → q.seat.me.0.part.core.deaf ≡ deaf_of h
+    → Stops h (record h { seat = q; patience = v.patience; bells = v.bells }) n by
+stops h w p q v n by alike even is home f settled records b still =
     let c = f.carries in
-    let k = keeps h w p q v (having_stopped (account_of h.seat.seat.me) n by) alike is home f
+    let k = keeps h w p q v (having_stopped (account_of h.seat.seat.me) n by) alike even is home f
     (record { settled = settled; records = records; now = b.now; who = refl }) refl refl
     (record { owned = c.owned; marks = c.marks; held = c.held; answered = ap (λ (bs : List ℕ). by ∷ bs) c.answered; draws = c.draws }) in
-    record { fresh = k.fresh; is = k.is ∙ ap (λ (s : Holding). record s { interrupted = (n, by) ∷ s.interrupted }) (seen_still h c) }
+    record {
+      fresh = k.fresh;
+      is = k.is
+          ∙ ap (λ (d : ℕ). let s : Holding = record (seen_with h (having_stopped (account_of h.seat.seat.me) n by)) { deaf = d } in s) still
+          ∙ ap (λ (s : Holding). record s { interrupted = (n, by) ∷ s.interrupted }) (seen_still h c);
+    }
 
 -- what has to die holds a node
 holds_one : (h : Hand) → Carries h → (j : ℕ) × (owns h.seat.seat.me.0.part.core j ≡ true) → 1 ≤ length (held_of h)
@@ -340,35 +441,69 @@ holds_one h c one = some_among (held_of h) one.0 (sym (c.owned one.0) ∙ one.1)
     some_among (m ∷ ms) n e = omega arith
 
 -- it came without the lock, after one try in vain
-pub turned_away : (h : Hand) (w p : Setting) (q : Seat16) (v : Hand) (n : ℕ) (why : Stop) (s : Holding)
-    → IsPlacedAlike h v → p ≡ w → IsAtHome (holding_of h) w → CarriesFresh h → is_among n (held_of h) ≡ false
+pub turned_away : (places : ℕ) (h : Hand) (w p : Setting) (q : Seat16) (v : Hand) (n : ℕ) (waits : Waits) (why : Stop) (s : Holding)
+    → IsPlacedAlike h v → IsEven (record h { seat = q; patience = v.patience; bells = v.bells }) → p ≡ w
+    → IsAtHome (holding_of h) w → CarriesFresh h → is_among n (held_of h) ≡ false
     → IsSettled p.home.table (length p.first) q → q.records ≡ h.seat.records
-    → IsTurnedAway h.seat.seat.me n why q.seat.me → holding_of h ≡ tried s
+    → IsTurnedAway h.seat.seat.me n why q.seat.me → MayStop places waits why
+    → (waits ≡ UntilCancelled → q.seat.me.0.part.core.deaf ≡ deaf_of h) → holding_of h ≡ tried s
     → IsStop s n why (holding_of (record h { seat = q; patience = v.patience; bells = v.bells }))
-turned_away h w p q v n (Deadlk k) s alike is home f new settled records d was =
+turned_away places h w p q v n waits (Deadlk k) s alike even is home f new settled records d until still was =
     let stamp = ap (λ (x : Holding). x.stamp) was in
     let held = ap (λ (x : Holding). length x.held) was in
     let some = holds_one h f.carries d.one in (
-      (dies h w p q v n k alike is home f settled records d).is
-          ∙ ap (λ (x : Holding). record x { deaths = x.deaths + 1 }) was,
+      (dies h w p q v n k alike even is home f settled records d).is
+          ∙ ap (λ (x : Holding). record x { deaths = x.deaths + 1; deaf = q.seat.me.0.part.core.deaf }) was,
       d.context,
       omega
           (arith, d.older, f.carries.settled.seated.stamp, stamp),
       omega (arith, some, held),
     )
-turned_away h w p q v n (Interrupted by) s alike is home f new settled records d was = record {
+turned_away places h w p q v n waits (Interrupted by) s alike even is home f new settled records d until still was = record {
   new = sym (ap (λ (x : Holding). is_among n x.held) was) ∙ new;
-  told = (stops h w p q v n by alike is home f settled records d).is
+  told = (stops h w p q v n by alike even is home f settled records d (still until.0)).is
       ∙ ap (λ (x : Holding). record x { interrupted = (n, by) ∷ x.interrupted }) was;
 }
 
 -- ... and may still commit what it holds
-pub turned_fresh : (h : Hand) (w p : Setting) (q : Seat16) (v : Hand) (n : ℕ) (why : Stop) → IsPlacedAlike h v
-    → p ≡ w → IsAtHome (holding_of h) w → CarriesFresh h → IsSettled p.home.table (length p.first) q
+pub turned_fresh : (places : ℕ) (h : Hand) (w p : Setting) (q : Seat16) (v : Hand) (n : ℕ) (waits : Waits) (why : Stop) → IsPlacedAlike h v
+    → IsEven (record h { seat = q; patience = v.patience; bells = v.bells }) → p ≡ w → IsAtHome (holding_of h) w → CarriesFresh h → IsSettled p.home.table (length p.first) q
     → q.records ≡ h.seat.records
-    → IsTurnedAway h.seat.seat.me n why q.seat.me → CarriesFresh (record h { seat = q; patience = v.patience; bells = v.bells })
-turned_fresh h w p q v n (Deadlk k) alike is home f settled records d = (dies h w p q v n k alike is home f settled records d).fresh
-turned_fresh h w p q v n (Interrupted by) alike is home f settled records d = (stops h w p q v n by alike is home f settled records d).fresh
+    → IsTurnedAway h.seat.seat.me n why q.seat.me → MayStop places waits why
+    → (waits ≡ UntilCancelled → q.seat.me.0.part.core.deaf ≡ deaf_of h)
+    → CarriesFresh (record h { seat = q; patience = v.patience; bells = v.bells })
+turned_fresh places h w p q v n waits (Deadlk k) alike even is home f settled records d until still = (dies h w p q v n k alike even is home f settled records d).fresh
+turned_fresh places h w p q v n waits (Interrupted by) alike even is home f settled records d until still =
+    (stops h w p q v n by alike even is home f settled records d (still until.0)).fresh
+
+-- ---- calling a wait off
+
+-- it set the cancel of a seat, or found one pending; its bells are these now
+cancels_with : (h : Hand) (w p : Setting) (q : Seat16) (bells : Vec Bell) (a : Account) → account_of q.seat.me ≡ a
+    → a.who ≡ h.seat.seat.me.0.part.core.who → Suits (record h { seat = q; bells = bells }) a
+    → q.seat.me.0.part.core.naps ≡ h.seat.seat.me.0.part.core.naps
+    → map rings_at bells.items ≡ map rings_at h.bells.items → ArePaid q.seat.me bells.items → p ≡ w → IsAtHome (holding_of h) w
+    → Carries h → IsSettled p.home.table (length p.first) q → q.records ≡ h.seat.records
+    → Carries (record h { seat = q; bells = bells })
+cancels_with h w p q bells a now who suits naps alike paid is home c settled records =
+    (moves h (record h { seat = q; bells = bells }) w p q a is home c
+    (record { settled = settled; records = records; now = now; who = who }) (record { bells = alike; parker = refl })
+    (record { paid = paid; slept = c.even.slept ∙ sym naps }) refl refl refl suits).carries
+
+pub cancels : (h : Hand) (w p : Setting) (q : Seat16) (bells : Vec Bell) (done : Bool) (u : ℕ)
+    → (done ≡ true → q.seat.me ≡ (cancelling h.seat.seat.me.0 u, h.seat.seat.me.1))
+    → (done ≡ false → q.seat.me ≡ (finding_pending h.seat.seat.me.0, h.seat.seat.me.1))
+    → map rings_at bells.items ≡ map rings_at h.bells.items → ArePaid q.seat.me bells.items → p ≡ w → IsAtHome (holding_of h) w
+    → Carries h → IsSettled p.home.table (length p.first) q → q.records ≡ h.seat.records
+    → Carries (record h { seat = q; bells = bells })
+cancels h w p q bells true u set pending alike paid is home c settled records =
+    cancels_with h w p q bells _ (ap account_of (set refl)) refl
+    (record { owned = c.owned; marks = c.marks; held = c.held; answered = c.answered; draws = c.draws })
+    (ap (λ (m : Sat). m.0.part.core.naps) (set refl)) alike paid is home c settled records
+cancels h w p q bells false u set pending alike paid is home c settled records =
+    cancels_with h w p q bells _ (ap account_of (pending refl)) refl
+    (record { owned = c.owned; marks = c.marks; held = c.held; answered = c.answered; draws = c.draws })
+    (ap (λ (m : Sat). m.0.part.core.naps) (pending refl)) alike paid is home c settled records
 
 -- ---- releasing
 
@@ -407,14 +542,16 @@ pub record Gives (h g : Hand) : Type 0 where
 pub gives : (h g : Hand) (w p : Setting) (q : Seat16) (n : ℕ) → p ≡ w → IsAtHome (holding_of h) w → Carries h
     → owns h.seat.seat.me.0.part.core n ≡ true
     → IsSettled p.home.table (length p.first) q → q.records ≡ h.seat.records → HasGiven h.seat.seat.me n q.seat.me
-    → IsPlacedAlike h g → g.seat ≡ q → g.left ≡ h.left → g.marks ≡ set h.marks n false → g.seen ≡ h.seen → Gives h g
-gives h g w p q n is home c owned settled records b alike seat left marked seen =
+    → q.seat.me.0.part.core.deaf ≡ deaf_of h
+    → IsPlacedAlike h g → IsEven g → g.seat ≡ q → g.left ≡ h.left → g.marks ≡ set h.marks n false → g.seen ≡ h.seen
+    → Gives h g
+gives h g w p q n is home c owned settled records b still alike even seat left marked seen =
     let m = h.seat.seat.me in
     let a : Account = having_given (account_of m) n in
     let wide : n < length m.0.part.core.owned = let there = held_there h n c owned in
     omega (arith, there, c.held.few, c.settled.orderly.owned) in
     let v = moves h g w p q a is home c (record { settled = settled; records = records; now = b; who = refl }) alike
-    seat left (ap length seen) (record {
+    even seat left (ap length seen) (record {
       owned = owns_less m.0.part.core.owned a.owned (held_of h) n wide refl c.owned;
       marks = marked ∙ ap (λ (os : List Bool). set os n false) c.marks;
       held = held_less (held_of h) h.seen g.seen n c.held (ap length seen);
@@ -424,7 +561,9 @@ gives h g w p q n is home c owned settled records b alike seat left marked seen 
     let locks : without n (held_of h) ≡ held_of g =
     sym (ap (λ (s : Seat16). s.seat.me.0.part.core.locks) seat ∙ ap (λ (x : Account). x.locks) b) in record {
       carries = v.carries;
-      is = v.is ∙ ap (λ (ns : List Node). let s : Holding = record (seen_with h a) { seen = ns } in s) seen
+      is = v.is ∙ ap (λ (ns : List Node). let s : Holding = record (seen_with h a) { seen = ns; deaf = deaf_of g } in s) seen
+          ∙ ap (λ (d : ℕ). let s : Holding = record (seen_with h a) { deaf = d } in s)
+          (ap (λ (s : Seat16). s.seat.me.0.part.core.deaf) seat ∙ still)
           ∙ ap (λ (s : Holding). record s { held = without n (held_of h) }) (seen_still h c)
           ∙ ap (λ (ns : List ℕ). let s : Holding = record (holding_of h) { held = ns } in s) locks;
       fewer = subst (λ (ns : List ℕ). length ns < length (held_of h)) locks (shorter n (held_of h) (sym (c.owned n) ∙ owned));

@@ -16,13 +16,13 @@ use Rattle.ww_table.specs.declared.seat.Seat16.{Seat16}
 use Rattle.ww_view.specs.View.{owns}
 use Rattle.ww_seat.specs.Orderly.{IsSettled}
 use Rattle.ww_seat.specs.Accounts.{Account, account_of, having_committed}
-use Rattle.ww_seat.specs.Calls.{HoldsAll, HasCommitted}
+use Rattle.ww_seat.specs.Calls.{HoldsAll, HasCommitted, HasStayedOut}
 use Rattle.ww_lock.specs.declared.hand.Hand.{Hand}
 use Rattle.ww_lock.specs.declared.prepared.Receipt.{Receipt}
-use Rattle.ww_lock.specs.Carried.{holding_of, held_of, Carries, CarriesFresh}
+use Rattle.ww_lock.specs.Carried.{holding_of, held_of, Carries, CarriesFresh, HasFew}
 use Rattle.ww_lock.specs.Moves.{IsCommitted}
 use Rattle.ww_lock.proofs.Helds.{all_among}
-use Rattle.ww_lock.proofs.Carrying.{at_table, settled_as, seen_with, seen_still, carries_with}
+use Rattle.ww_lock.proofs.Carrying.{at_table, settled_as, seen_with, seen_still, carries_with, even_still}
 use Rattle.ww_plain.specs.declared.node.Node.{Node}
 use Rattle.ww_plain.specs.declared.history.Record.{Record}
 use Rattle.ww_plain.specs.Numbers.{is_among}
@@ -133,6 +133,7 @@ below_as place (r ∷ rs) all = (all.0, below_as place rs all.1)
 pub commits : (h : Hand) (w pl : Setting) (q : Seat16) (p : Change) (r : Record) (after : List Node) (ns : List ℕ)
     (told : Receipt) → pl ≡ w → IsAtHome (holding_of h) w → CarriesFresh h
     → IsSettled pl.home.table (length pl.first) q → HasCommitted h.seat.seat.me told.place r after ns q.seat.me
+    → HasStayedOut h.seat.seat.me.0.part.core q.seat.me.0.part.core
     → recorded_of r ≡ record {
       caller = h.seat.who;
       seq = length h.seat.records.items;
@@ -141,7 +142,7 @@ pub commits : (h : Hand) (w pl : Setting) (q : Seat16) (p : Change) (r : Record)
     }
     → told.seq ≡ length h.seat.records.items → answer_of told.reply ≡ p.answer
     → vec_capacity q.records ≡ vec_capacity h.seat.records → Commits h (record h { seat = q }) p told
-commits h w pl q p r after ns told is home f settled b same seq reply capacity =
+commits h w pl q p r after ns told is home f settled b out same seq reply capacity =
     let c = f.carries in
     let g : Hand = record h { seat = q } in
     let t = at_table (holding_of h) w pl is home in
@@ -183,16 +184,21 @@ commits h w pl q p r after ns told is home f settled b same seq reply capacity =
       },
     ) ∷ [] in
     let less : ℕ = vec_capacity h.seat.records - vec_len h.seat.records - 1 in
-    let same : holding_of g ≡ record (seen_with h (account_of q.seat.me)) { own = added; room = less } =
+    let same : holding_of g
+    ≡ record (seen_with h (account_of q.seat.me)) { own = added; room = less; deaf = q.seat.me.0.part.core.deaf } =
     rw (table, who, own, room, sym settled.seated.stamp) refl in
     record {
       carries = carries_with g a b.now (settled_as pl.home.table q.seat.table_id (length pl.first) (length h.seen) q
           (sym settled.seated.home) (sym t.1) settled)
           (record { owned = c.owned; marks = c.marks; held = c.held; answered = c.answered; draws = c.draws })
-          (rw who c.placed) (omega (arith, many, f.commits));
+          (rw who c.placed)
+          (even_still h g q refl refl (record { parker = refl; heard = refl })
+          (ap (λ (x : Account). x.counts.cancelled) b.now) out c.even) (omega (arith, many, f.commits))
+          (subst HasFew (sym table) c.few);
       is = record {
-        own = same ∙ ap (λ (x : Account). let s : Holding = record (seen_with h x) { own = added; room = less } in
-            s) b.now ∙ ap (λ (s : Holding). record s { own = added; room = less }) (seen_still h c);
+        own = same ∙ ap (λ (x : Account).
+            let s : Holding = record (seen_with h x) { own = added; room = less; deaf = q.seat.me.0.part.core.deaf } in s) b.now
+            ∙ ap (λ (d : ℕ). let s : Holding = record (seen_with h a) { own = added; room = less; deaf = d } in s) out.deaf ∙ ap (λ (s : Holding). record s { own = added; room = less }) (seen_still h c);
         above = below_as told.place h.seat.records.items
             (subst (AllByRecursion (λ x. x.0 < told.place)) (sym c.settled.seated.records) b.above);
         seq = seq ∙ sym size;

@@ -13,8 +13,10 @@ use Rattle.ww_table.specs.Seat.{IsNew}
 use Rattle.ww_plain.specs.Numbers.{is_among}
 use Rattle.ww_lock.specs.declared.hand.Hand.{Hand}
 use Rattle.ww_lock.specs.Holding.{Home, Holding, Setting, IsAtHome, AreAtHome, by_of, own_of}
-use Rattle.ww_seat.specs.Bells.{sleeps_at}
+use Rattle.ww_seat.specs.declared.bell.Bell.{Bell}
+use Rattle.ww_seat.specs.Bells.{heard, rung, rung_at, sleeps_at, wakes_owed}
 use Rattle.ww_lock.specs.Carried.{holding_of, held_of, bells_of, Carries}
+use Rattle.ww_rule.specs.Layout.{IsSized}
 use Rattle.ww_lock.specs.Opened.{fresh, AreFresh, AreRests}
 use Rattle.ww_lock.specs.declared.world.Rest.{Rest}
 use mathlib.Core.Option.{some}
@@ -27,11 +29,18 @@ use Rattle.ww_lock.proofs.Helds.{held_none}
 pub new_holds_nothing : (t : TableId) (key : Start) (k : ℕ) (h : Hand) → IsNew t key k h.seat → held_of h ≡ []
 new_holds_nothing t key k h new = ap (λ (m : Sat). m.0.part.core.locks) new.me
 
+-- a bell that has given no token
+silent_at : (bells : List Bell) (u : ℕ) → u < length bells → AllByRecursion (λ b. rung b ≡ 0) bells → rung_at bells u ≡ Some 0
+silent_at [] u low all = absurd (omega (arith, low))
+silent_at (b ∷ bs) zero low all = ap Some all.0
+silent_at (b ∷ bs) (suc u) low all = silent_at bs u (omega (arith, low)) all.1
+
 -- a seat that was made just now, in a state that has seen the graph
 pub new_carries : (t : TableId) (key : Start) (k : ℕ) (h : Hand) → IsNew t key k h.seat
-    → h.marks ≡ replicate 64 false → h.seen ≡ first_graph key → length (first_graph key) ≤ 64 → key.locks ≡ 64
-    → h.left < 2 ^ 32 → slice_get (bells_of h) k ≡ Some (sleeps_at h.patience) → Carries h
-new_carries t key k h new marks seen few locks left placed =
+    → h.marks ≡ replicate 64 false → h.seen ≡ first_graph key → length (first_graph key) ≤ 64 → key.locks ≡ 64 → key.places ≡ 16
+    → h.left < 2 ^ 32 → slice_get (bells_of h) k ≡ Some (sleeps_at h.patience)
+    → AllByRecursion (λ b. rung b ≡ 0) h.bells.items → heard h.patience ≡ 0 → Carries h
+new_carries t key k h new marks seen few locks places left placed silent awake =
     let me = new.me in
     let none : held_of h ≡ [] = new_holds_nothing t key k h new in
     let size : length h.seen ≡ length (first_graph key) = ap length seen in
@@ -39,13 +48,22 @@ new_carries t key k h new marks seen few locks left placed =
     record {
       settled = settled_as t h.seat.seat.table_id (length (first_graph key)) (length h.seen) h.seat
           (sym new.seated.home) (sym size) (new_settled t key k h.seat new few (omega (arith, few, locks)));
-      owned = λ n. ap (λ (m : Sat). owns m.0.part.core n) me ∙ bare_first key.kind key.locks k n ∙ sym (ap (is_among n) none);
+      owned = λ n. ap (λ (m : Sat). owns m.0.part.core n) me ∙ bare_first key.kind key.locks key.places k n ∙ sym (ap (is_among n) none);
       marks = marks ∙ sym (ap (λ (m : Sat). m.0.part.core.owned) me ∙ ap (λ (n : ℕ). replicate n false) locks);
       held = rw (none, seen) (held_none (first_graph key) few);
       placed = ap (slice_get (bells_of h)) new.number ∙ placed;
+      even = record {
+        paid = λ u low. silent_at h.bells.items u low silent ∙ sym (ap (λ (m : Sat). Some (wakes_owed m u)) me);
+        slept = awake ∙ sym (ap (λ (m : Sat). m.0.part.core.naps) me);
+      };
       answered = ap (λ (m : Sat). by_of m.0.part.core.stopped) me ∙ sym (ap (λ (m : Sat). m.0.part.counts.heeded) me);
       draws = omega (arith, left, ap (λ (m : Sat). m.0.part.counts.draws) me);
       commits = omega (arith, left, ap length list);
+      few = (
+        h.seat.room,
+        subst (λ (x : ℕ × TableId). IsSized h.seat.room x.0 x.1)
+            (λ i. ((sym new.seated.seats ∙ ap (λ (m : Sat). m.0.part.core.seats) me ∙ places) i, sym new.seated.home i)) new.seated.sized,
+      );
     }
 
 pub new_holding : (home : Home) (key : Start) (k : ℕ) (h : Hand) → IsNew home.table key k h.seat
@@ -63,7 +81,8 @@ new_holding home key k h new seen bells =
     let tries : h.seat.seat.me.0.part.core.tries ≡ 0 = ap (λ (m : Sat). m.0.part.core.tries) new.me in
     let takes : h.seat.seat.me.0.part.core.takes ≡ 0 = ap (λ (m : Sat). m.0.part.core.takes) new.me in
     let deaths : h.seat.seat.me.0.part.core.deaths ≡ 0 = ap (λ (m : Sat). m.0.part.core.deaths) new.me in
-    rw (new.seated.home, bells, new.number, counts, stopped, pendings, stamp, own, none, seen, tries, takes, deaths) refl
+    let deaf : h.seat.seat.me.0.part.core.deaf ≡ 0 = ap (λ (m : Sat). m.0.part.core.deaf) new.me in
+    rw (new.seated.home, bells, new.number, counts, stopped, pendings, stamp, own, none, seen, tries, takes, deaths, deaf) refl
 
 pub new_idle : (t : TableId) (key : Start) (k : ℕ) (q : Seat16) → IsNew t key k q → q.stamp ≡ 0
 new_idle t key k q new = sym new.seated.stamp ∙ ap (λ (m : Sat). m.0.part.core.stamp) new.me
@@ -103,24 +122,27 @@ record TakesRest (graph : List Node) (parkers : List TableId) (front : List Rest
   parkers_are : sleeps_at r.patience ∷ reverse (map (λ (x : Rest). sleeps_at x.patience) front) ≡ parkers
   rests : AreRests graph (reverse (map (λ (x : Rest). sleeps_at x.patience) front)) front
   seen : r.seen ≡ graph
+  awake : heard r.patience ≡ 0
 
 rests_less : (graph : List Node) (parkers : List TableId) (rests front : List Rest) (r : Rest)
     → AreRests graph parkers rests → rests ≡ front ++ r ∷ [] → TakesRest graph parkers front r
 rests_less graph parkers rests front r h is =
-    let split = last_of front r (subst (AllByRecursion (λ (x : Rest). x.seen ≡ graph)) is h.seen) in
+    let split = last_of (λ (x : Rest). x.seen ≡ graph) front r (subst (AllByRecursion (λ (x : Rest). x.seen ≡ graph)) is h.seen) in
+    let slept = last_of (λ (x : Rest). heard x.patience ≡ 0) front r
+    (subst (AllByRecursion (λ (x : Rest). heard x.patience ≡ 0)) is h.awake) in
     let at : Rest → TableId = λ x. sleeps_at x.patience in
     let turned : reverse (map at (front ++ r ∷ [])) ≡ at r ∷ reverse (map at front) =
     ap reverse (map-append at front (r ∷ [])) ∙ reverse-append (map at front) (at r ∷ []) in
     record {
       parkers_are = sym turned ∙ sym (ap (λ (rs : List Rest). reverse (map at rs)) is) ∙ h.parkers_are;
-      rests = record { parkers_are = refl; seen = split.0 };
+      rests = record { parkers_are = refl; seen = split.0; awake = slept.0 };
       seen = split.1;
+      awake = slept.1;
     }
   where
-    last_of : (front : List Rest) (r : Rest) → AllByRecursion (λ (x : Rest). x.seen ≡ graph) (front ++ r ∷ [])
-        → AllByRecursion (λ (x : Rest). x.seen ≡ graph) front × (r.seen ≡ graph)
-    last_of [] r all = (tt, all.0)
-    last_of (x ∷ xs) r all = let rest = last_of xs r all.1 in ((all.0, rest.0), rest.1)
+    last_of : (P : Rest → Type 0) (front : List Rest) (r : Rest) → AllByRecursion P (front ++ r ∷ []) → AllByRecursion P front × P r
+    last_of P [] r all = (tt, all.0)
+    last_of P (x ∷ xs) r all = let rest = last_of P xs r all.1 in ((all.0, rest.0), rest.1)
 
 -- what is read where the rest of a list begins
 front_read : (parkers rest : List TableId) (k : ℕ) (p : TableId) → p ∷ rest ≡ drop k parkers
@@ -138,6 +160,7 @@ pub record IsNext (t : TableId) (key : Start) (parkers : List TableId) (seats yi
   pub rests : AreRests (first_graph key) (drop (suc (length yielded)) parkers) front
   pub seen : r.seen ≡ first_graph key
   pub placed : slice_get parkers (length yielded) ≡ Some (sleeps_at r.patience)
+  pub awake : heard r.patience ≡ 0
 
 pub next_is : (t : TableId) (key : Start) (parkers : List TableId) (seats yielded rest more : List Seat16)
     (s : Seat16) (rests front : List Rest) (r : Rest)
@@ -155,4 +178,5 @@ next_is t key parkers seats yielded rest more s rests front r each whole step ar
       rests = subst (λ (ps : List TableId). AreRests (first_graph key) ps front) (sym read.1) less.rests;
       seen = less.seen;
       placed = read.0;
+      awake = less.awake;
     }

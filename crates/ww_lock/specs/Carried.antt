@@ -8,8 +8,9 @@ use Rattle.ww_view.specs.declared.view.Met.{Met}
 use Rattle.ww_view.specs.View.{owns}
 use Rattle.ww_view.specs.May.{WantsSigns}
 use Rattle.atomic_table.specs.Seated.{TableId}
+use Rattle.ww_rule.specs.Layout.{IsSized}
 use Rattle.ww_seat.specs.Orderly.{IsSettled}
-use Rattle.ww_seat.specs.Bells.{rings_at, sleeps_at}
+use Rattle.ww_seat.specs.Bells.{heard, rings_at, sleeps_at, ArePaid}
 use Rattle.ww_seat.specs.Calls.{HasMet}
 use Rattle.ww_seat.specs.declared.waiting.Stop.{Stop}
 use Rattle.ww_seat.specs.declared.waiting.Stop.TheVariants.{Deadlk, Interrupted}
@@ -40,6 +41,7 @@ holding_of h = record {
   tries = (view_of h.seat).tries;
   takes = (view_of h.seat).takes;
   deaths = (view_of h.seat).deaths;
+  deaf = (view_of h.seat).deaf;
   cancelled = h.seat.seat.me.0.part.counts.cancelled;
   pendings = (view_of h.seat).pendings;
   interrupted = (view_of h.seat).stopped;
@@ -49,18 +51,29 @@ holding_of h = record {
 abbrev pub met_of : Hand → Option Met
 met_of h = (view_of h.seat).met
 
+-- the table has room for 16 seats
+abbrev pub HasFew : TableId → Type 0
+HasFew table = (room : ℕ) × IsSized room 16 table
+
+-- Each of its bells gave as many tokens as it owed that pass wakes, and it slept as often as it left a guard as a waiter.
+pub record IsEven (h : Hand) : Type 0 where
+  pub paid : ArePaid h.seat.seat.me h.bells.items
+  pub slept : heard h.patience ≡ (view_of h.seat).naps
+
 -- The seat is between two calls, and owns just the locks of the nodes that are held, which have their marks. Its own
--- bell rings the parker that it sleeps on. Each cancel that it heeded was answered by an interruption. With what is left
--- it stays within what the table counts.
+-- bell rings the parker that it sleeps on. It has woken whom it had to wake, and slept each time that it had to (`even`). Each
+-- cancel that it heeded was answered by an interruption. With what is left it stays within what the table counts.
 pub record Carries (h : Hand) : Type 0 where
   pub settled : IsSettled h.seat.seat.table_id (length h.seen) h.seat
   pub owned : (n : ℕ) → owns (view_of h.seat) n ≡ is_among n (held_of h)
   pub marks : h.marks ≡ (view_of h.seat).owned
   pub held : AreHeld (held_of h) h.seen
   pub placed : slice_get (bells_of h) h.seat.who ≡ Some (sleeps_at h.patience)
+  pub even : IsEven h
   pub answered : by_of (view_of h.seat).stopped ≡ h.seat.seat.me.0.part.counts.heeded
   pub draws : h.seat.seat.me.0.part.counts.draws + h.left < 2 ^ 32
   pub commits : length h.seat.records.items + h.left < 2 ^ 32
+  pub few : HasFew h.seat.seat.table_id
 
 -- ... and it may still commit: each node that is held is as it was seen
 pub record CarriesFresh (h : Hand) : Type 0 where

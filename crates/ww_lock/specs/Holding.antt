@@ -21,7 +21,8 @@ pub record Home : Type 0 where
 -- each of which it drew a stamp; its stamp, 0 without a context; its log: all its commits with their places,
 -- oldest first, with room for so many more; the nodes that it holds, in the order in which it took them; the graph as
 -- it has seen it, of which the nodes held are as they were when they were locked; how often it tried to take a lock at
--- once, by one step that a free lock allows, how often it took a lock, and how often it had to back off; the callers
+-- once, by one step that a free lock allows, how often it took a lock, and how often it had to back off; how often it left
+-- a guard to sleep without having looked there whether its wait was called off; the callers
 -- whose wait it called off, the last one first, and how often it found a cancel pending where it would set one; and each
 -- time that its own wait was called off, the last one first: for which node, and by which caller.
 pub record Holding : Type 0 where
@@ -37,6 +38,7 @@ pub record Holding : Type 0 where
   pub tries : ℕ
   pub takes : ℕ
   pub deaths : ℕ
+  pub deaf : ℕ
   pub cancelled : List ℕ
   pub pendings : ℕ
   pub interrupted : List (ℕ × ℕ)

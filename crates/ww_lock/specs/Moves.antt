@@ -26,6 +26,14 @@ with_node s n x = record s { held = s.held ++ n ∷ []; seen = slice_set s.seen 
 abbrev pub emptied : Holding → Holding
 emptied s = record s { held = [] }
 
+-- it went to sleep in a wait without looking whether that was called off, until it had so often in all
+abbrev pub having_slept : Holding → ℕ → Holding
+having_slept s k = record s { deaf = k }
+
+-- only a wait to the end does so
+abbrev pub IsHeeding : Waits → Holding → Holding → Type 0
+IsHeeding waits s a = waits ≡ UntilCancelled → a.deaf ≡ s.deaf
+
 -- one context was started, with a stamp, for one of what was left; it holds nothing
 pub record IsBegun (s a : Holding) : Type 0 where
   pub some : 1 ≤ s.left
@@ -49,23 +57,23 @@ backed_off s = record s { tries = s.tries + 1; deaths = s.deaths + 1 }
 pub record IsSolo (s : Holding) (n : ℕ) (a : Holding) : Type 0 where
   pub some : 1 ≤ s.left
   pub contents : Node
-  pub rest : a ≡ with_node (taken (record s { left = s.left - 1 })) n contents
+  pub rest : a ≡ with_node (taken (record s { left = s.left - 1; deaf = a.deaf })) n contents
   pub alone : a.held ≡ n ∷ []
   pub no_context : a.stamp ≡ 0
 
 -- The node wasn't held, and now is, with some contents, after one try to take its lock at once. It is the one lock that
--- was taken, and the context didn't back off on the way.
+-- was taken, and the context didn't back off on the way. It may have slept meanwhile.
 pub record IsTaken (s : Holding) (n : ℕ) (a : Holding) : Type 0 where
   pub new : is_among n s.held ≡ false
   pub contents : Node
-  pub added : a ≡ with_node (taken s) n contents
+  pub added : a ≡ with_node (taken (having_slept s a.deaf)) n contents
 
 -- The node wasn't held, and for it an older context was met, whose stamp is told. The state still holds what it held,
 -- which is one node at least, took no lock on the way, and backed off once.
 pub record IsRefused (s : Holding) (n : ℕ) (b : Refused) : Type 0 where
   pub new : is_among n s.held ≡ false
   pub holds : 1 ≤ length s.held
-  pub told : b.holding ≡ backed_off s
+  pub told : b.holding ≡ backed_off (having_slept s b.holding.deaf)
   pub contended : b.contended ≡ n
   pub is_stamp : 1 ≤ b.met
   pub older : b.met < s.stamp
@@ -82,7 +90,7 @@ pub record IsInterrupted (s : Holding) (n by : ℕ) (a : Holding) : Type 0 where
 
 -- why a lock wasn't taken, told of a node that wasn't held
 abbrev pub IsStop : Holding → ℕ → Stop → Holding → Type 0
-IsStop s n (seat.Deadlk k) a = (a ≡ backed_off s) × (1 ≤ k) × (k < s.stamp) × (1 ≤ length s.held)
+IsStop s n (seat.Deadlk k) a = (a ≡ backed_off (having_slept s a.deaf)) × (1 ≤ k) × (k < s.stamp) × (1 ≤ length s.held)
 IsStop s n (seat.Interrupted by) a = IsInterrupted s n by a
 
 -- the wait of this caller was called off
@@ -111,17 +119,17 @@ going_on (Locked a) = Ok a
 going_on (Already a) = Ok a
 going_on (Deadlk b) = Err b
 
--- the answer of a lock call that may be called off
-abbrev pub IsInterruptibleAnswer : Holding → ℕ → Interruptible → Type 0
-IsInterruptibleAnswer s n (stop.Locked a) = IsTaken s n a
-IsInterruptibleAnswer s n (stop.Already a) = (is_among n s.held ≡ true) × (a ≡ s)
-IsInterruptibleAnswer s n (stop.Deadlk b) = IsRefused s n b
-IsInterruptibleAnswer s n (stop.Interrupted a by) = IsInterrupted s n by a
-
--- ... of a call that waits so: only a wait until a cancel is called off
+-- the answer of a lock call that waits so: only a wait until a cancel is called off, and such a wait looks for one each time
+-- before it sleeps
 abbrev pub IsAnswer : Waits → Holding → ℕ → Interruptible → Type 0
+IsAnswer waits s n (stop.Locked a) = IsTaken s n a × IsHeeding waits s a
+IsAnswer waits s n (stop.Already a) = (is_among n s.held ≡ true) × (a ≡ s)
+IsAnswer waits s n (stop.Deadlk b) = IsRefused s n b × IsHeeding waits s b.holding
 IsAnswer waits s n (stop.Interrupted a by) = (waits ≡ UntilCancelled) × IsInterrupted s n by a
-IsAnswer waits s n answer = IsInterruptibleAnswer s n answer
+
+-- ... of one that may be called off
+abbrev pub IsInterruptibleAnswer : Holding → ℕ → Interruptible → Type 0
+IsInterruptibleAnswer s n answer = IsAnswer UntilCancelled s n answer
 
 -- its error number, 0 without one
 abbrev pub interruptible_code_of : Interruptible → ℕ
@@ -139,7 +147,7 @@ going_on_or_halted (stop.Interrupted a by) = Err (halt.Interrupted a by)
 
 -- the answer of a trylock: a held node is busy too, and of another that is the answer of one try
 abbrev pub IsTryAnswer : Holding → ℕ → Try → Type 0
-IsTryAnswer s n (try.Locked a) = IsTaken s n a
+IsTryAnswer s n (try.Locked a) = IsTaken s n a × (a.deaf ≡ s.deaf)
 IsTryAnswer s n (try.Busy a) = (is_among n s.held ≡ true → a ≡ s) × (is_among n s.held ≡ false → a ≡ tried s)
 
 -- One record more in the log, of this caller and of the next number, with the transaction and the answer that were

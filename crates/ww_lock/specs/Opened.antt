@@ -5,7 +5,7 @@ use Rattle.ww_plain.specs.declared.node.Node.{Node}
 use Rattle.std.specs.List.{AllByRecursion}
 use Rattle.ww_table.specs.declared.board.Board.{Board}
 use Rattle.ww_seat.specs.declared.bell.Wire.{Wire}
-use Rattle.ww_seat.specs.Bells.{leads_to, sleeps_at}
+use Rattle.ww_seat.specs.Bells.{heard, leads_to, sleeps_at}
 use Rattle.ww_lock.specs.declared.world.OpenFault.{OpenFault}
 use Rattle.ww_lock.specs.declared.world.Rest.{Rest}
 use Rattle.ww_lock.specs.declared.world.OpenFault.TheVariants.{BadSize, NoMemory}
@@ -31,6 +31,7 @@ fresh home first budget caller room =
       tries = 0;
       takes = 0;
       deaths = 0;
+      deaf = 0;
       cancelled = [];
       pendings = 0;
       interrupted = [];
@@ -41,10 +42,12 @@ pub record AreFresh (all : List Holding) (first : List Node) (home : Home) (pass
   pub count : length all ≡ passes
   pub each : (i : ℕ) (d : Holding) → i < length all → slice_index_or all i d ≡ fresh home first budget i (slice_index_or all i d).room
 
--- the parts of passes that sleep on these parkers, the last one first, each of which has seen this graph
+-- the parts of passes that sleep on these parkers, the last one first, each of which has seen this graph, and hasn't slept
+-- yet
 pub record AreRests (graph : List Node) (parkers : List TableId) (rests : List Rest) : Type 0 where
   pub parkers_are : reverse (map (λ r. sleeps_at r.patience) rests) ≡ parkers
   pub seen : AllByRecursion (λ r. r.seen ≡ graph) rests
+  pub awake : AllByRecursion (λ r. heard r.patience ≡ 0) rests
 
 -- 1 to 16 passes, each of which may do something
 pub record IsWorldSize (passes budget : ℕ) : Type 0 where

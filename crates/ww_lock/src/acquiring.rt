@@ -138,7 +138,7 @@ impl Acquiring {
                 contended: n,
                 met,
             }),
-            Err(Stop::Interrupted(by)) => Interruptible::Interrupted(Acquiring { hand }, by),
+            Err(Stop::Interrupted(by)) => Interruptible::Interrupted(Acquiring { hand }, by as u8),
         }
     }
 

@@ -27,7 +27,7 @@ impl Model for Contended {
 impl Contended {
     ghost use Rattle.std.specs.Prelude.{◌≡◌, ◌∷◌, [], IfOk, IfErr};
     ghost use Rattle.ww_lock.specs.Holding.{IsAtHome};
-    ghost use Rattle.ww_lock.specs.Moves.{IsTaken, IsInterrupted};
+    ghost use Rattle.ww_lock.specs.Moves.{IsHeeding, IsTaken, IsInterrupted};
     ghost use Rattle.ww_seat.specs.declared.waits.Waits.TheVariants.{UntilCancelled};
 
     /// Takes the contended lock, however long that takes: the kernel's slow path. It holds no other lock, so nobody
@@ -53,6 +53,7 @@ impl Contended {
     ) -> Result<Acquiring, (Contended, u8)>
         requires home { IsAtHome self.holding world.now }
         ensures taken { IfOk result (IsTaken self.holding self.contended) }
+        ensures heeds { IfOk result (IsHeeding waits self.holding) }
         ensures alone { IfOk result (λ a. a.held ≡ self.contended ∷ []) }
         ensures waits { IfErr result (λ _. waits ≡ UntilCancelled) }
         ensures same { IfErr result (λ e. e.0.contended ≡ self.contended) }
@@ -64,7 +65,7 @@ impl Contended {
         } = self;
         match hand.take(rt, world, contended, waits) {
             Ok(()) => Ok(Acquiring { hand }),
-            Err(Stop::Interrupted(by)) => Err((Contended { hand, contended }, by)),
+            Err(Stop::Interrupted(by)) => Err((Contended { hand, contended }, by as u8)),
             Err(Stop::Deadlk(_)) => unreachable!(),
         }
     }

@@ -29,6 +29,16 @@ impl Hand {
     ghost use Rattle.ww_lock.specs.Carried.{holding_of, held_of, Carries, IsPlacedAlike};
     ghost use Rattle.ww_lock.specs.Making.{Covers};
 
+    /// Its number among the passes of its world.
+    #[inline(always)]
+    #[tactic(auto, using(crate::proofs::Carrying::its_number))]
+    pub(crate) fn caller(&self) -> u8
+        requires { Carries self.now }
+        ensures { result ≡ self.now.seat.who }
+    {
+        self.seat.who() as u8
+    }
+
     /// One node more is held, as it was found.
     pub(crate) fn add(&mut self, n: u8, node: Node)
         requires there { n < length self.old.seen }
@@ -39,6 +49,8 @@ impl Hand {
         ensures marks { self.new.marks ≡ slice_set self.old.marks n true }
         ensures seen { self.new.seen ≡ slice_set self.old.seen n node }
         ensures alike { IsPlacedAlike self.old self.new }
+        ensures bells { self.new.bells ≡ self.old.bells }
+        ensures patience { self.new.patience ≡ self.old.patience }
     {
         self.seen.put(n, node);
         self.marks[usize::from(n)] = true;

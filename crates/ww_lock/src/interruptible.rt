@@ -87,6 +87,7 @@ impl Contended {
     ) -> Result<Acquiring, (Contended, u8)>
         requires home { IsAtHome self.holding world.now }
         ensures taken { IfOk result (IsTaken self.holding self.contended) }
+        ensures heeds { IfOk result (λ a. a.deaf ≡ self.holding.deaf) }
         ensures alone { IfOk result (λ a. a.held ≡ self.contended ∷ []) }
         ensures same { IfErr result (λ e. e.0.contended ≡ self.contended) }
         ensures interrupted { IfErr result (λ e. IsInterrupted self.holding self.contended e.1 e.0.holding) }

@@ -11,7 +11,7 @@ impl Hand {
     ghost use Rattle.ww_seat.specs.Calls.{IsTurnedAway, MayStop};
     ghost use Rattle.ww_lock.specs.Holding.{Holding, IsAtHome};
     ghost use Rattle.ww_lock.specs.Carried.{holding_of, held_of, met_of, Carries, CarriesFresh, HasLost, HasMetSo};
-    ghost use Rattle.ww_lock.specs.Moves.{tried, found_pending, IsTaken, IsStop, IsCancelling, emptied};
+    ghost use Rattle.ww_lock.specs.Moves.{tried, found_pending, IsHeeding, IsTaken, IsStop, IsCancelling, emptied};
 
     /// Starts a context: it draws a stamp.
     pub(crate) fn begin(&mut self, world: &World)
@@ -25,7 +25,10 @@ impl Hand {
         ensures stamp { 0 < self.new.seat.stamp }
         ensures unmet { met_of self.new ≡ None }
     {
-        ww_seat::begin(&mut self.seat, &world.board);
+        match ww_seat::begin(&mut self.seat, &world.board) {
+            Some(_) => {}
+            None => unreachable!(),
+        }
     }
 
     /// Ends the context.
@@ -54,6 +57,7 @@ impl Hand {
         ensures lost { result ≡ false → HasLost self.new }
         ensures unmet { result ≡ true → met_of self.new ≡ None }
         ensures met { result ≡ false → met_of self.new ≡ met_of self.old }
+        ensures heeds { (holding_of self.new).deaf ≡ (holding_of self.old).deaf }
     {
         let holds = self.holds_some();
         match ww_seat::try_take_node(&mut self.seat, &world.board, u32::from(n), holds) {
@@ -86,7 +90,8 @@ impl Hand {
         ensures fresh { CarriesFresh self.new }
         ensures taken { IfOk result (λ _. (s : Holding) → holding_of self.old ≡ tried s → IsTaken s n (holding_of self.new)) }
         ensures stopped { IfErr result (λ why. (s : Holding) → holding_of self.old ≡ tried s → IsStop s n why (holding_of self.new)) }
-        ensures waits { IfErr result (MayStop waits) }
+        ensures waits { IfErr result (MayStop 16 waits) }
+        ensures heeds { IsHeeding waits (holding_of self.old) (holding_of self.new) }
         ensures turned_away { IfErr result (λ why. IsTurnedAway self.old.seat.seat.me n why self.new.seat.seat.me) }
         ensures unmet { IfOk result (λ _. met_of self.new ≡ None) }
     {
@@ -122,7 +127,8 @@ impl Hand {
         ensures fresh { CarriesFresh self.new }
         ensures taken { IfOk result (λ _. IsTaken (holding_of self.old) n (holding_of self.new)) }
         ensures stopped { IfErr result (λ why. IsStop (holding_of self.old) n why (holding_of self.new)) }
-        ensures waits { IfErr result (MayStop waits) }
+        ensures waits { IfErr result (MayStop 16 waits) }
+        ensures heeds { IsHeeding waits (holding_of self.old) (holding_of self.new) }
         ensures unmet { IfOk result (λ _. met_of self.new ≡ None) }
         ensures met { IfErr result (λ why. HasMetSo n why self.new) }
     {
@@ -141,7 +147,12 @@ impl Hand {
         ensures set { result ≡ true → IsCancelling (holding_of self.old) who (holding_of self.new) }
         ensures pending { result ≡ false → holding_of self.new ≡ found_pending (holding_of self.old) }
     {
-        ww_seat::cancel(&mut self.seat, &world.board, who, &mut self.bells)
+        ww_seat::cancel(
+            &mut self.seat,
+            &world.board,
+            u16::from(who),
+            &mut self.bells,
+        )
     }
 
     /// Takes a lock where nothing is held: nobody is told EDEADLK there.

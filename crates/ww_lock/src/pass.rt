@@ -36,7 +36,7 @@ impl Pass {
     pub fn caller(&self) -> u8
         ensures { result ≡ self.now.caller }
     {
-        self.hand.seat.who()
+        self.hand.caller()
     }
 
     /// How many contexts and solos it may still start.
@@ -59,6 +59,7 @@ impl Pass {
     }
 
     /// One context or solo less; a spent pass is returned.
+    #[tactic(auto, using(crate::proofs::Carrying::spent_fresh))]
     fn spend(self) -> Result<Box<Hand>, Pass>
         ensures ok { IfOk result (λ hand. IsSpent self hand.value) }
         ensures err { IfErr result (λ p. (self.left ≡ 0) × (p ≡ self)) }

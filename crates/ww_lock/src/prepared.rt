@@ -96,7 +96,7 @@ impl Hand {
         match self.change(alloc, &txn) {
             Ok((reply, copy, changes)) => Ok(Prepared {
                 record: Record {
-                    caller: self.seat.who(),
+                    caller: self.caller(),
                     seq: self.seat.commits(),
                     txn,
                     reply: copy,
@@ -161,7 +161,7 @@ impl Hand {
             before,
         } = prepared;
         let seq = self.seat.commits();
-        record.caller = self.seat.who();
+        record.caller = self.caller();
         record.seq = seq;
         let place = ww_seat::commit(&mut self.seat, &world.board, record, &before, &changes);
         Receipt { place, seq, reply }

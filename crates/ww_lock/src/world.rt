@@ -1,7 +1,8 @@
 ghost use Rattle.std.specs.Prelude.{◌≡◌, ◌≤◌, [], length, map, IfOk, IfErr, vec_len, vec_capacity};
 ghost use Rattle.ww_table.specs.Made.{AreNew};
 ghost use Rattle.ww_rule.specs.Rule.{first_graph};
-ghost use Rattle.ww_seat.specs.Bells.{leads_to, rings_at};
+ghost use Rattle.std.specs.List.{AllByRecursion};
+ghost use Rattle.ww_seat.specs.Bells.{leads_to, rings_at, rung};
 ghost use Rattle.ww_lock.specs.Opened.{home_at, AreFresh, AreRests};
 
 use crate::hand::Hand;
@@ -64,7 +65,7 @@ impl Model for World {
 
     ghost view = { λ w. record { home = home_at w.board w.wires.items; kind = w.board.table.shared.key.kind; first = first_graph w.board.table.shared.key; passes = length w.wires.items } };
 
-    ghost invariant = { λ w. (length w.wires.items ≤ 16) × (w.board.table.shared.key.seats ≡ length w.wires.items) };
+    ghost invariant = { λ w. (length w.wires.items ≤ 16) × (w.board.table.shared.key.seats ≡ length w.wires.items) × (w.board.table.shared.key.places ≡ 16) × (1 ≤ length (first_graph w.board.table.shared.key)) };
 }
 
 impl World {
@@ -95,7 +96,7 @@ impl World {
         };
         // Its contract says that this is a graph.
         let _size = graph.size();
-        let (board, seats) = match Board::make(alloc, kind, graph, LOCKS, passes) {
+        let (board, seats) = match Board::make(alloc, kind, graph, LOCKS, u16::from(passes)) {
             Ok(made) => made,
             Err((graph, _)) => return Err((graph, OpenFault::NoMemory)),
         };
@@ -145,9 +146,10 @@ fn rests(alloc: Global, graph: &Graph, passes: u8) -> Result<(Vec<Rest>, Vec<Wir
     Ok((rests, wires))
 }
 
-/// The bells of one pass: one of each pass's parker, in the order of the passes.
+/// The bells of one pass: one of each pass's parker, in the order of the passes. None has given a token yet.
 fn hung(alloc: Global, wires: &[Wire]) -> Result<Vec<Bell>, AllocError>
-    ensures { IfOk result (λ bells. map rings_at bells.items ≡ map leads_to wires.now) }
+    ensures placed { IfOk result (λ bells. map rings_at bells.items ≡ map leads_to wires.now) }
+    ensures silent { IfOk result (λ bells. AllByRecursion (λ b. rung b ≡ 0) bells.items) }
 {
     let mut bells = Vec::with_capacity(alloc, wires.len())?;
     for wire in wires {
@@ -167,6 +169,7 @@ fn fresh(
     mut all: Vec<Pass>,
 ) -> Result<Vec<Pass>, Graph>
     requires locks { board.now.table.shared.key.locks ≡ 64 }
+    requires places { board.now.table.shared.key.places ≡ 16 }
     requires seats { AreNew board.now.table.shared.table_id board.now.table.shared.key (length seats.items) seats.items }
     requires wires { length wires.now ≡ length seats.items }
     requires rests { AreRests (first_graph board.now.table.shared.key) (map leads_to wires.now) rests.items }

@@ -7,8 +7,10 @@ use Rattle.ww_rule.specs.Rule.{first_part}
 use Rattle.ww_rule.specs.Steps.{MayDraw}
 use Rattle.ww_rule.proofs.Seats.{bare_first}
 
-pub may_draw : (kind : Kind) (locks k : ℕ) → MayDraw (first_part kind locks k)
-may_draw kind locks k = record { away = (refl, refl); no_context = refl; bare = bare_first kind locks k; fewer = omega arith }
+pub may_draw : (kind : Kind) (locks places k : ℕ) → MayDraw (first_part kind locks places k)
+may_draw kind locks places k =
+    record { away = (refl, refl); no_context = refl; bare = bare_first kind locks places k; fewer = omega arith }
 
-pub may_fast : (kind : Kind) (locks k stamp : ℕ) → 0 < stamp → MayFast (begun (first_part kind locks k).core stamp)
-may_fast kind locks k stamp some = record { away = (refl, refl); base = inl some; signs = inr (inl refl) }
+pub may_fast : (kind : Kind) (locks places k stamp : ℕ) → 0 < stamp
+    → MayFast (begun (first_part kind locks places k).core stamp)
+may_fast kind locks places k stamp some = record { away = (refl, refl); base = inl some; signs = inr (inl refl) }

@@ -17,7 +17,7 @@ pub new_did : (board : Board) (k j : ℕ) (s : Seat16) → IsNew board.table.sha
 new_did board k j s new is = subst (λ (n : ℕ). Did board (at_first n) s) (sym new.number ∙ is) (record {
   seated = new.seated;
   stands = subst (Stands (size_of board) (at_first k)) (sym new.me)
-      (first_stands (size_of board) board.table.shared.key.kind (locks_of board) k board.fits);
+      (first_stands (size_of board) board.table.shared.key.kind (locks_of board) board.table.shared.key.places k board.fits);
 })
 
 pub who_did : (board : Board) (d : Deeds) (s : Seat16) → Did board d s → s.who ≡ d.who

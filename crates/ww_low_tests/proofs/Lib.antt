@@ -1,3 +1,4 @@
+pub mod Few
 pub mod FirstSteps
 pub mod Gathered
 pub mod Holding

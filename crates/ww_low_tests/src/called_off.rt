@@ -9,8 +9,8 @@ ghost use Rattle.ww_seat.specs.Bells.{AreBellsOf};
 ghost use Rattle.ww_low_tests.specs.Looking.{Owns, Holds, MayLook, just, none};
 
 use crate::rings::{
-    back_off, bells, compare, compare_cancelled, hold, holds_one, start, tied, two_seats, untie,
-    wait,
+    back_off, bells, compare, compare_cancelled, has_few, hold, holds_one, start, tied, two_seats,
+    untie, wait,
 };
 use std::alloc::{AllocError, Global};
 use std::process::Abort;
@@ -72,7 +72,7 @@ fn stop<R: Wait + Abort>(
     lock: u32,
     arrival: Arrival,
     bells: &mut [Bell],
-) -> u8
+) -> u16
     requires may { (o : List Bool) × MayLook board.now kind o lock arrival seat.old }
     requires lock { lock < size_of board.now }
     requires bells { AreBellsOf board.now bells.old }
@@ -80,6 +80,7 @@ fn stop<R: Wait + Abort>(
     ensures holds { (o : List Bool) → Owns board.now kind o seat.old → Holds board.now kind o seat.new }
 {
     let holds = holds_one(board, seat);
+    has_few(rt, board, seat);
     match visit(
         rt,
         seat,

@@ -1,11 +1,11 @@
 //! The ring of two contexts, by one thread with both seats of a board: each holds a lock and looks at the other's.
 //! After each call all words of the board are compared.
 
-ghost use Rattle.std.specs.Prelude.{ℕ, ◌≡◌, ◌<◌, Bool, List, false, true, length, slice_index_or, slice_set, IfOk};
+ghost use Rattle.std.specs.Prelude.{ℕ, ◌≡◌, ◌<◌, ◌≤◌, Bool, List, false, true, length, slice_index_or, slice_set, IfOk};
 ghost use Rattle.ww_queue.specs.declared.kind.Kind.{Kind};
 ghost use Rattle.ww_model.specs.State.{any_below};
 ghost use Rattle.ww_view.specs.View.{owns};
-ghost use Rattle.ww_table.specs.Seat.{IsNew, locks_of, size_of, view_of};
+ghost use Rattle.ww_table.specs.Seat.{IsNew, IsSeatOf, locks_of, size_of, view_of};
 ghost use Rattle.ww_seat.specs.declared.look.Arrival.{Arrival};
 ghost use Rattle.ww_seat.specs.declared.look.Arrival.TheVariants.{Woken};
 ghost use Rattle.ww_seat.specs.Bells.{AreBellsOf};
@@ -82,6 +82,7 @@ pub(crate) fn two_seats<R: Abort>(
     ensures size { IfOk result (λ r. size_of r.0 ≡ 2) }
     ensures locks { IfOk result (λ r. locks_of r.0 ≡ 64) }
     ensures count { IfOk result (λ r. r.0.table.shared.key.seats ≡ 2) }
+    ensures few { IfOk result (λ r. r.0.table.shared.key.places ≡ 16) }
     ensures kind { IfOk result (λ r. r.0.table.shared.key.kind ≡ kind) }
     ensures zero { IfOk result (λ r. (k : ℕ) × IsNew r.0.table.shared.table_id r.0.table.shared.key k r.1) }
     ensures one { IfOk result (λ r. (k : ℕ) × IsNew r.0.table.shared.table_id r.0.table.shared.key k r.2) }
@@ -113,7 +114,9 @@ pub(crate) fn start<R: Abort>(
     ensures same { board.new ≡ board.old }
     ensures holds { Holds board.new kind none seat.new }
 {
-    let stamp = begin(seat, board);
+    let Some(stamp) = begin(seat, board) else {
+        panic!(rt; "its stamps are spent");
+    };
     compare(rt, board, before, 0, [stamp, 0]);
 }
 
@@ -148,6 +151,18 @@ pub(crate) fn holds_one(_board: &Board, seat: &Seat16) -> bool
     seat.has_out()
 }
 
+/// Its table has room for 16 seats at most, as a call that parks requires.
+#[tactic(auto, using(crate::proofs::Few::few_there))]
+pub(crate) fn has_few<R: Abort>(rt: &R, board: &Board, seat: &Seat16)
+    requires { IsSeatOf board.now seat.now }
+    ensures { board.now.table.shared.key.places ≤ 16 }
+{
+    let _nodes = board.size();
+    if seat.seats() > 16 {
+        panic!(rt; "the table has more seats");
+    }
+}
+
 /// Looks at a lock, and comes to stand in its wait list, or still stands there. A pending cancel is looked for where the
 /// wait is until a cancel.
 pub(crate) fn wait<R: Wait + Abort>(
@@ -167,6 +182,7 @@ pub(crate) fn wait<R: Wait + Abort>(
     ensures may { (o : List Bool) → Owns board.now kind o seat.old → MayLook board.now kind o lock Woken seat.new }
 {
     let holds = holds_one(board, seat);
+    has_few(rt, board, seat);
     match visit(rt, seat, board, lock, arrival, waits, holds, bells) {
         Look::Waits => {}
         Look::Locked(_) | Look::Deadlk(_) | Look::Interrupted(_) => panic!(rt; "it has to wait"),
@@ -190,6 +206,7 @@ pub(crate) fn back_off<R: Wait + Abort>(
     ensures holds { (o : List Bool) → Owns board.now kind o seat.old → Holds board.now kind o seat.new }
 {
     let holds = holds_one(board, seat);
+    has_few(rt, board, seat);
     match visit(
         rt,
         seat,
@@ -219,6 +236,7 @@ fn take<R: Wait + Abort>(
     requires bells { AreBellsOf board.now bells.old }
 {
     let holds = holds_one(board, seat);
+    has_few(rt, board, seat);
     match visit(
         rt,
         seat,
@@ -242,6 +260,7 @@ pub(crate) fn tied<R: Abort>(
 ) -> Result<(Board, Seat16, Seat16), AllocError>
     ensures size { IfOk result (λ r. size_of r.0 ≡ 2) }
     ensures count { IfOk result (λ r. r.0.table.shared.key.seats ≡ 2) }
+    ensures few { IfOk result (λ r. r.0.table.shared.key.places ≡ 16) }
     ensures older { IfOk result (λ r. Holds r.0 kind (just 0) r.1) }
     ensures younger { IfOk result (λ r. Holds r.0 kind (just 1) r.2) }
 {

@@ -59,12 +59,13 @@ struct Work {
 /// All tries of a thread, each for two nodes that follow one another; nothing where one couldn't be ended.
 fn tries(board: &Board, alloc: Global, mut seat: Seat16) -> Option<Work>
     requires unused { IsUnused board.now seat }
+    requires few { board.now.table.shared.key.places ≡ 16 }
     ensures { IfSome result (λ w. Did board.now (at_rest w.tally) w.seat) }
 {
     let pairs = board.size().checked_sub(1)?;
     let mut made = Made::new(alloc);
     let mut tally = Tally {
-        who: seat.who(),
+        who: u8::try_from(seat.who()).ok()?,
         draws: 0,
         commits: 0,
     };
@@ -83,6 +84,7 @@ fn tries(board: &Board, alloc: Global, mut seat: Seat16) -> Option<Work>
 /// The same, where each try has to be ended.
 fn all_tries<R: Abort>(rt: &R, board: &Board, alloc: Global, seat: Seat16) -> Work
     requires unused { IsUnused board.now seat }
+    requires few { board.now.table.shared.key.places ≡ 16 }
     ensures { HasCome board.now.table.shared.table_id result.seat }
 {
     match tries(board, alloc, seat) {
@@ -186,7 +188,7 @@ fn crowd<R: Threads + Abort + Sync>(
         rt,
         seats,
         &|seat: Seat16| -> Work
-            requires { IsUnused shared.now seat }
+            requires { IsUnused shared.now seat × (shared.now.table.shared.key.places ≡ 16) }
             ensures { HasCome shared.entry.now.table.shared.table_id result.seat }
         { all_tries(rt, shared, alloc, seat) },
     )?;

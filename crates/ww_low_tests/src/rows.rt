@@ -19,6 +19,7 @@ use ww_table_loads::{begin, commit_one, end, give, take};
 /// Both begin a context, and each takes a node: seat 1 the second, as the first isn't free.
 fn take_one_each<R: Abort>(rt: &R, board: &mut Board, zero: &mut Seat16, one: &mut Seat16)
     requires size { size_of board.old ≡ 2 }
+    requires few { board.old.table.shared.key.places ≡ 16 }
     requires zero { Did board.old (at_first 0) zero.old }
     requires one { Did board.old (at_first 1) one.old }
     ensures same { board.new ≡ board.old }
@@ -43,16 +44,25 @@ fn take_one_each<R: Abort>(rt: &R, board: &mut Board, zero: &mut Seat16, one: &m
     compare(rt, board, [264, 528], 0, [2, 0]);
 }
 
+/// Makes room for a record, which changes nothing else of a seat.
+#[tactic(auto, using(ww_table_loads::proofs::Standing::reserved_did))]
+fn make_room(board: &Board, seat: &mut Seat16) -> Result<(), AllocError>
+    ensures did { (d : Deeds) → Did board.now d seat.old → Did board.now d seat.new }
+{
+    let _nodes = board.size();
+    seat.reserve()
+}
+
 /// Makes room for the record of a first commit. Where the growth is refused, the seat has neither a record nor room,
 /// and is asked once more.
 fn reserve<R: Abort>(rt: &R, board: &mut Board, seat: &mut Seat16) -> Result<(), AllocError>
     ensures same { board.new ≡ board.old }
     ensures did { (d : Deeds) → Did board.new d seat.old → Did board.new d seat.new }
 {
-    if seat.reserve().is_err() {
+    if make_room(board, seat).is_err() {
         assert!(rt; seat.commits() == 0 && !seat.is_reserved());
         compare(rt, board, [264, 528], 0, [2, 0]);
-        seat.reserve()?;
+        make_room(board, seat)?;
     }
     assert!(rt; seat.commits() == 0 && seat.is_reserved());
     Ok(())

@@ -32,6 +32,7 @@ pub(crate) fn made<R: Abort>(
     let copy = twice(|| graph.copy(alloc))?;
     // Its contract says that this is a graph.
     let _size = graph.size();
+    let seats = u16::from(seats);
     match Board::make(alloc, kind, graph, LOCKS, seats) {
         Ok(made) => Ok(made),
         Err((graph, _)) => {
@@ -58,6 +59,7 @@ pub(crate) fn closed<R: Abort>(
 ) -> Result<(Vec<Record>, Graph), AllocError>
     requires { HaveAllCome board.table.shared.table_id board.table.shared.key seats.items }
 {
+    assert!(rt; board.size() > 0);
     let before = counts(&board, &seats);
     match board.close(seats) {
         Ok(closed) => Ok(closed),
@@ -93,7 +95,9 @@ fn takes_once(board: &mut Board, seat: &mut Seat16) -> (u64, bool)
     requires node { 0 < length (first_graph board.old.table.shared.key) }
     requires new { (k : ℕ) × IsNew board.old.table.shared.table_id board.old.table.shared.key k seat.old }
 {
-    seat.draw(board);
+    let Some(_) = seat.draw(board) else {
+        return (0, false);
+    };
     if !seat.take_free(board, 0) {
         return (0, false);
     }

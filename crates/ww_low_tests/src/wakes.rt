@@ -10,7 +10,9 @@ ghost use Rattle.ww_low_tests.specs.Looking.{Holds, MayLook, just, none};
 
 use crate::growths::twice;
 use crate::plain::{graph_of, node};
-use crate::rings::{back_off, bells, compare, hand_over, hold, holds_one, start, tied, wait};
+use crate::rings::{
+    back_off, bells, compare, hand_over, has_few, hold, holds_one, start, tied, wait,
+};
 use crate::tables::made;
 use std::alloc::{AllocError, Global};
 use std::process::Abort;
@@ -92,7 +94,7 @@ fn asleep<R: Wait + Abort>(
 }
 
 /// Looks at a lock for the first time, and wakes whom it condemns.
-fn look<R: Wait>(
+fn look<R: Wait + Abort>(
     rt: &R,
     board: &Board,
     seat: &mut Seat16,
@@ -106,6 +108,7 @@ fn look<R: Wait>(
     ensures bells { length bells.new ≡ length bells.old }
 {
     let holds = holds_one(board, seat);
+    has_few(rt, board, seat);
     visit(
         rt,
         seat,

@@ -10,3 +10,4 @@ pub mod Rooms
 -- which waiter has to die
 pub mod Deaths
 pub mod Signs
+pub mod AnyLists

@@ -9,6 +9,7 @@ use Rattle.ww_queue.specs.declared.queue.TheConstants.{MAX_WAITERS}
 use Rattle.ww_queue.specs.Entry.{IsOlder, IsHolding}
 use Rattle.ww_queue.specs.Queue.{Has, Before, Stands, StandsNot, IsNewStamp, Once, Ascends, joined, left, entry_of, ahead_of}
 use Rattle.ww_queue.specs.Rules.{must_die, owed_signs}
+use Rattle.ww_queue.specs.AnySeats.{signs_past}
 
 -- no waiter is younger than the stamp
 abbrev pub NoneYounger : ℕ → List Entry → Type 0
@@ -142,3 +143,8 @@ abbrev pub SignIsWound : Type 0
 SignIsWound = (owner : Owner) (q : List Entry) (me : ℕ) →
     ((seat k : ℕ) → (owed_signs WoundWait owner q me ≡ (seat, k) ∷ []) ↔ IsWounded owner q seat k) ×
     (((seat k : ℕ) → ¬ IsWounded owner q seat k) → owed_signs WoundWait owner q me ≡ [])
+
+-- one walk along a list in which each seat waits once finds the signs that are owed
+abbrev pub OneWalkFindsAllSigns : Type 0
+OneWalkFindsAllSigns = (kind : Kind) (owner : Owner) (q : List Entry) (me : ℕ) → Once q →
+    signs_past kind owner q me 0 ≡ owed_signs kind owner q me

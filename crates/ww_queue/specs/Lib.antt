@@ -2,3 +2,4 @@ pub mod Entry
 pub mod Queue
 pub mod Rules
 pub mod Laws
+pub mod AnySeats

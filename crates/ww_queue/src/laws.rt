@@ -1,7 +1,7 @@
 //! Laws of wait lists and their rules: each function's contract is one.
 
 ghost use Rattle.std.specs.Prelude.{◌≡◌};
-ghost use Rattle.ww_queue.specs.Laws.{JoinTakesItsPosition, SoloJoinsLast, JoinKeepsEach, JoinKeepsOrder, LeaveTakesOneOut, LeaveKeepsOrder, EachSeatHasRoom, AheadIsFirstContext, WaitDieCondemns, WoundWaitCondemns, OnlyWaitersDie, DeathIsOfOlder, SignsAreDeaths, SignIsWound};
+ghost use Rattle.ww_queue.specs.Laws.{JoinTakesItsPosition, SoloJoinsLast, JoinKeepsEach, JoinKeepsOrder, LeaveTakesOneOut, LeaveKeepsOrder, EachSeatHasRoom, AheadIsFirstContext, WaitDieCondemns, WoundWaitCondemns, OnlyWaitersDie, DeathIsOfOlder, SignsAreDeaths, SignIsWound, OneWalkFindsAllSigns};
 
 use crate::queue::MAX_WAITERS;
 
@@ -78,4 +78,9 @@ pub fn signs_are_deaths()
 /// In Wound-Wait the owner alone is signed, iff it has taken the lock and an older waiter holds locks.
 pub fn sign_is_wound()
     ensures { SignIsWound }
+{}
+
+/// One walk along a list in which each seat waits once finds the signs that are owed.
+pub fn one_walk_finds_all_signs()
+    ensures { OneWalkFindsAllSigns }
 {}

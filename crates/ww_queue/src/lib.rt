@@ -6,6 +6,7 @@ mod kind;
 pub mod laws;
 mod queue;
 mod rules;
+pub mod wide;
 
 pub use entry::Entry;
 pub use kind::Kind;

@@ -98,7 +98,7 @@ fn least_holding(waiters: &[Entry]) -> Option<u64>
 }
 
 /// The smaller of two stamps.
-fn least_of(stamp: Option<u64>, other: Option<u64>) -> Option<u64>
+pub(crate) fn least_of(stamp: Option<u64>, other: Option<u64>) -> Option<u64>
     ensures { result ≡ least_of stamp other }
 {
     match (stamp, other) {

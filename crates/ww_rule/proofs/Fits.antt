@@ -104,7 +104,7 @@ module _ (key : Start) (c : State) (e : Event) (law : IsLawful c) (can : Possibl
       }
 
 -- another table with the same core: what the rule says of the core, of the commits and of the counts stays
-pub stays_as : (key : Start) (s s' : St) (r : Ruled key s) (at : ℕ → ℕ) → Shown key.locks r.core s'.words
+pub stays_as : (key : Start) (s s' : St) (r : Ruled key s) (at : ℕ → ℕ) → Shown key.locks key.places r.all r.core s'.words
     → AtHome key.locks (last_graph (first_graph key) r.log) r.core.owner r.core.queue r.core.guard s'.homes
     → ((j : ℕ) (v : Sight) → get_elem? s'.views j ≡ some v → v.seated ≡ true
     → Sits key r.core r.log at r.counts j v) → ((t : ℕ) → t < key.seats → IsThere s'.views (at t) t)
@@ -117,12 +117,15 @@ stays_as key s s' r at words homes seats there = record {
     log = r.log;
     at = at;
     counts = r.counts;
+    all = r.all;
     reached = r.reached;
     kind = r.kind;
     locks = r.locks;
     many = r.many;
     fits = r.fits;
     places = r.places;
+    sizes = r.sizes;
+    drawn = r.drawn;
     seats_there = r.seats_there;
     strangers = r.strangers;
     words = words;

@@ -1,5 +1,5 @@
 -- Each step at a guard, inside it, on a sign or on a cancel keeps the rule of the table, as the event that it is.
-use Rattle.std.proofs.Common.{◌≡◌, ◌≢◌, ℕ, suc, ◌+◌, ◌-◌, ◌*◌, ◌<◌, ◌≤◌, ◌^◌, ◌==◌, true, false, List, ◌∷◌, length, get_or, set, sym, refl, ap, ◌∙◌, subst, arith, true≢false, Some, None, length-set, get_or-set_other, get_or-set_same}
+use Rattle.std.proofs.Common.{◌≡◌, ◌≢◌, ℕ, suc, ◌+◌, ◌-◌, ◌*◌, ◌<◌, ◌≤◌, ◌^◌, ◌==◌, min, true, false, List, ◌∷◌, length, get_or, set, sym, refl, ap, ◌∙◌, subst, arith, true≢false, Some, None, length-set, get_or-set_other, get_or-set_same}
 use mathlib.Core.Logic.{dite}
 use mathlib.Core.Option.{none, some}
 use native.Mathlib.Decide.{ℕ_discrete}
@@ -7,7 +7,8 @@ use lib.ListN.{get_elem?}
 use Rattle.atomic_table.specs.Table.{Act, keeps, takes, gives, chain, stepped, homes_after, rest}
 use Rattle.atomic_table.proofs.Lists.{set_here, set_else}
 use Rattle.ww_word.specs.declared.owner.Owner.{Owner}
-use Rattle.ww_word.specs.Owner.{IsValid, packed, with_waiters}
+use Rattle.ww_word.specs.Owner.{with_waiters}
+use Rattle.ww_word.specs.AnySeats.{IsValid, packed, most_for}
 use Rattle.ww_queue.specs.declared.entry.Entry.{Entry}
 use Rattle.ww_queue.specs.Queue.{joined, left}
 use Rattle.ww_model.specs.declared.state.Holder.TheVariants.{Taken}
@@ -62,7 +63,7 @@ module _ (key : Start) (s : St) (r : Ruled key s) (id : ℕ) (me : Sat) (here : 
   pub mine : Sits key r.core r.log r.at r.counts id me.0
   mine = moves.mine key s r id me here seated
 
-  found : (n : ℕ) (o : Owner) → n < key.locks → IsValid o → get_or s.words (144 + 8 * n) 0 ≡ packed o → o ≡ word_of r.core n
+  found : (n : ℕ) (o : Owner) → n < key.locks → IsValid o → get_or s.words (16 + 8 * n) 0 ≡ packed o → o ≡ word_of r.core n
   found = moves.found key s r id me here seated
 
   pub inside_low : (n : ℕ) → me.0.part.core.inside ≡ suc n → n < key.locks
@@ -72,8 +73,9 @@ module _ (key : Start) (s : St) (r : Ruled key s) (id : ℕ) (me : Sat) (here : 
   makes : (e : Event) (i x : ℕ) (w : View) (a : Act Cell) → actor e ≡ me.0.part.core.who
       → w.who ≡ me.0.part.core.who → ((n : ℕ) → owns w n ≡ owns me.0.part.core n) → Possible r.core e
       → Knows (after r.core e) w
-      → Counted key (after r.core e).drawn (after r.core e).commits (after r.core e).cancel r.log r.counts
-      → Shown key.locks (after r.core e) (set s.words i x)
+      → min r.all (most_for key.places) ≡ (after r.core e).drawn
+      → Counted key r.all (after r.core e).commits (after r.core e).cancel r.log r.counts
+      → Shown key.locks key.places r.all (after r.core e) (set s.words i x)
       → AtHome key.locks graph (after r.core e).owner (after r.core e).queue (after r.core e).guard
       (homes_after s.homes me.1 a)
       → Makes key s r e (stepped s i x id me.1 (knowing me.0 w) a)
@@ -82,17 +84,17 @@ module _ (key : Start) (s : St) (r : Ruled key s) (id : ℕ) (me : Sat) (here : 
       (λ n own in_graph. mine.held n (sym (has n) ∙ own) in_graph)
 
   -- enter: the guard word was 0
-  pub enter_makes : (n : ℕ) → n < key.locks → MayEnter me.0.part.core n → get_or s.words (144 + 8 * n + 1) 0 ≡ 0
+  pub enter_makes : (n : ℕ) → n < key.locks → MayEnter me.0.part.core n → get_or s.words (16 + 8 * n + 1) 0 ≡ 0
       → Makes key s r (Guard me.0.part.core.who n)
-      (stepped s (144 + 8 * n + 1) (suc me.0.part.core.who) id me.1 (entering me.0 n (r.core.queue n))
+      (stepped s (16 + 8 * n + 1) (suc me.0.part.core.who) id me.1 (entering me.0 n (r.core.queue n))
       (takes (64 + n) (Line (r.core.queue n))))
   enter_makes n low may hit = let c = r.core in let v = me.0.part.core in let k = mine.part.knows in
       let free : c.guard n ≡ 0 = sym (r.words.guards n low) ∙ hit in
       let can = shows_guard c v law k n (signed_owns_outside c r.reached) may (let z = r.locks in omega arith)
       free in let deep = r.homes.deep in
-      makes (Guard v.who n) (144 + 8 * n + 1) (suc v.who) (entered v n (c.queue n))
-      (takes (64 + n) (Line (c.queue n))) refl refl (λ m. refl) can (mine_guard c v law k n can) r.counted
-      (guard_set c (Guard v.who n) can.base law.base key.locks s.words r.words n (suc v.who) low (λ m. tt) refl refl refl refl refl)
+      makes (Guard v.who n) (16 + 8 * n + 1) (suc v.who) (entered v n (c.queue n))
+      (takes (64 + n) (Line (c.queue n))) refl refl (λ m. refl) can (mine_guard c v law k n can) r.drawn r.counted
+      (guard_set c (Guard v.who n) can.base law.base key.locks key.places r.all s.words r.words n (suc v.who) low (λ m. tt) refl refl refl refl refl)
       (record {
         deep = length-set s.homes (64 + n) none ∙ r.homes.deep;
         nodes = λ m l clear. set_else s.homes (64 + n) m none
@@ -105,11 +107,11 @@ module _ (key : Start) (s : St) (r : Ruled key s) (id : ℕ) (me : Sat) (here : 
 
   -- exit: 0 is stored, and the list slot goes home as the view has it
   pub exit_makes : (n : ℕ) → MayExit me.0.part.core n → me.1 ≡ (64 + n, Line me.0.part.core.list) ∷ rest me.1
-      → Makes key s r (Unguard me.0.part.core.who n) (stepped s (144 + 8 * n + 1) 0 id me.1 (exiting me.0) gives)
+      → Makes key s r (Unguard me.0.part.core.who n) (stepped s (16 + 8 * n + 1) 0 id me.1 (exiting me.0) gives)
   exit_makes n may top = let c = r.core in let v = me.0.part.core in let k = mine.part.knows in let low = inside_low n may.inside in
       let can = shows_exit c v law k n (signed_owns_outside c r.reached) may in let deep = r.homes.deep in
-      makes (Unguard v.who n) (144 + 8 * n + 1) 0 (exited v) gives refl refl (λ m. refl) can (mine_unguard c v law k n can) r.counted
-      (guard_set c (Unguard v.who n) can.base law.base key.locks s.words r.words n 0 low (λ m. tt) refl refl refl refl refl)
+      makes (Unguard v.who n) (16 + 8 * n + 1) 0 (exited v) gives refl refl (λ m. refl) can (mine_unguard c v law k n can) r.drawn r.counted
+      (guard_set c (Unguard v.who n) can.base law.base key.locks key.places r.all s.words r.words n 0 low (λ m. tt) refl refl refl refl refl)
       (subst (λ (cs : List (ℕ × Cell)). AtHome key.locks graph c.owner c.queue (put c.guard n 0)
       (homes_after s.homes cs gives)) (sym top) (record {
         deep = length-set s.homes (64 + n) (some (Line v.list)) ∙ r.homes.deep;
@@ -124,51 +126,51 @@ module _ (key : Start) (s : St) (r : Ruled key s) (id : ℕ) (me : Sat) (here : 
       }))
 
   -- join: the owner word was another's, and has WAITERS now
-  pub join_makes : (n : ℕ) (o : Owner) → MayJoin me.0.part.core n o → IsValid o → get_or s.words (144 + 8 * n) 0 ≡ packed o
-      → Makes key s r (Join me.0.part.core.who n) (stepped s (144 + 8 * n) (packed (with_waiters o)) id me.1 (joining me.0 n o) keeps)
+  pub join_makes : (n : ℕ) (o : Owner) → MayJoin me.0.part.core n o → IsValid o → get_or s.words (16 + 8 * n) 0 ≡ packed o
+      → Makes key s r (Join me.0.part.core.who n) (stepped s (16 + 8 * n) (packed (with_waiters o)) id me.1 (joining me.0 n o) keeps)
   join_makes n o may valid hit = let c = r.core in let v = me.0.part.core in let k = mine.part.knows in
       let low = inside_low n may.inside in let is = found n o low valid hit in
       let can = shows_join c v law k n o (signed_owns_outside c r.reached) may is in
-      makes (Join v.who n) (144 + 8 * n) (packed (with_waiters o)) (queued v n o) keeps refl refl (λ m. refl) can
-      (mine_join c v law k n o may.inside may.not_waiting is can) r.counted
-      (owner_set c (Join v.who n) can.base law.base key.locks s.words r.words n (packed (with_waiters o)) low
+      makes (Join v.who n) (16 + 8 * n) (packed (with_waiters o)) (queued v n o) keeps refl refl (λ m. refl) can
+      (mine_join c v law k n o may.inside may.not_waiting is can) r.drawn r.counted
+      (owner_set c (Join v.who n) can.base law.base key.locks key.places r.all s.words r.words n (packed (with_waiters o)) low
       (λ m far. far) refl refl refl refl refl
       (ap (λ (x : Owner). packed (with_waiters x)) is ∙ ap packed (sym (word_join c v.who n law.base))))
       (list_inside key.locks graph c.owner c.queue c.guard s.homes v.who n (joined (c.queue n) (waiter_of c v.who))
       can.base.inside.guard r.homes)
 
   -- die: the owner word has no flag if nobody is left in the list
-  pub die_makes : (n : ℕ) (o : Owner) (j : ℕ) → MayDie me.0.part.core n o j → IsValid o → get_or s.words (144 + 8 * n) 0 ≡ packed o
+  pub die_makes : (n : ℕ) (o : Owner) (j : ℕ) → MayDie me.0.part.core n o j → IsValid o → get_or s.words (16 + 8 * n) 0 ≡ packed o
       → Makes key s r (Die me.0.part.core.who n)
-      (stepped s (144 + 8 * n) (packed (rest_word (left me.0.part.core.list me.0.part.core.who) o)) id me.1
+      (stepped s (16 + 8 * n) (packed (rest_word (left me.0.part.core.list me.0.part.core.who) o)) id me.1
       (dying me.0 o) keeps)
   die_makes n o j may valid hit = let c = r.core in let v = me.0.part.core in let k = mine.part.knows in
       let low = inside_low n may.inside in let is = found n o low valid hit in
       let can = shows_die c v law k n o j may is in let x = packed (rest_word (left v.list v.who) o) in
-      makes (Die v.who n) (144 + 8 * n) x (died v o) keeps refl refl (λ m. refl) can (mine_die c v law k n o may.inside is can) r.counted
-      (owner_set c (Die v.who n) can.base law.base key.locks s.words r.words n x low (λ m far. far) refl refl refl refl refl
+      makes (Die v.who n) (16 + 8 * n) x (died v o) keeps refl refl (λ m. refl) can (mine_die c v law k n o may.inside is can) r.drawn r.counted
+      (owner_set c (Die v.who n) can.base law.base key.locks key.places r.all s.words r.words n x low (λ m far. far) refl refl refl refl refl
       ((λ i. packed (rest_word (left (k.queues.list n may.inside i) v.who) (is i)))
       ∙ ap packed (sym (word_die c v.who n law.base can.base))))
       (list_inside key.locks graph c.owner c.queue c.guard s.homes v.who n (left (c.queue n) v.who) can.base.inside.guard r.homes)
 
   -- ask: HANDOFF stands beside WAITERS now
-  pub ask_makes : (n : ℕ) (o : Owner) → MayAsk me.0.part.core n o → IsValid o → get_or s.words (144 + 8 * n) 0 ≡ packed o
-      → Makes key s r (Ask me.0.part.core.who n) (stepped s (144 + 8 * n) (packed (asked_word o)) id me.1 (asking me.0 o) keeps)
+  pub ask_makes : (n : ℕ) (o : Owner) → MayAsk me.0.part.core n o → IsValid o → get_or s.words (16 + 8 * n) 0 ≡ packed o
+      → Makes key s r (Ask me.0.part.core.who n) (stepped s (16 + 8 * n) (packed (asked_word o)) id me.1 (asking me.0 o) keeps)
   ask_makes n o may valid hit = let c = r.core in let v = me.0.part.core in let k = mine.part.knows in
       let low = inside_low n may.inside in let is = found n o low valid hit in
       let can = shows_ask c v law k n o may is in
-      makes (Ask v.who n) (144 + 8 * n) (packed (asked_word o)) (has_asked v o) keeps refl refl (λ m. refl) can
-      (mine_ask c v law k n o may.inside is can) r.counted
-      (owner_set c (Ask v.who n) can.base law.base key.locks s.words r.words n (packed (asked_word o)) low
+      makes (Ask v.who n) (16 + 8 * n) (packed (asked_word o)) (has_asked v o) keeps refl refl (λ m. refl) can
+      (mine_ask c v law k n o may.inside is can) r.drawn r.counted
+      (owner_set c (Ask v.who n) can.base law.base key.locks key.places r.all s.words r.words n (packed (asked_word o)) low
       (λ m far. far) refl refl refl refl refl
       (ap (λ (x : Owner). packed (asked_word x)) is ∙ ap packed (sym (word_ask c v.who n can.base))))
       (record { deep = r.homes.deep; nodes = r.homes.nodes; lists = r.homes.lists })
 
   -- take: the lock was free, or handed to the seat; the node slot comes out below the list slot
   pub take_makes : (n : ℕ) (o : Owner) (y : Cell) (cs : List (ℕ × Cell)) → n < length (first_graph key)
-      → MayTake me.0.part.core n o → IsValid o → get_or s.words (144 + 8 * n) 0 ≡ packed o → me.1 ≡ (64 + n, y) ∷ cs
+      → MayTake me.0.part.core n o → IsValid o → get_or s.words (16 + 8 * n) 0 ≡ packed o → me.1 ≡ (64 + n, y) ∷ cs
       → Makes key s r (Take me.0.part.core.who n)
-      (stepped s (144 + 8 * n) (packed (taken_word me.0.part.core.who me.0.part.core.stamp
+      (stepped s (16 + 8 * n) (packed (taken_word me.0.part.core.who me.0.part.core.stamp
       (left me.0.part.core.list me.0.part.core.who))) id me.1
       (taking_inside me.0 n (node_at graph n)) (chain gives (chain (takes n (Content (node_at graph n))) (takes (64 + n) y))))
   take_makes n o y cs small may valid hit top = let c = r.core in let v = me.0.part.core in
@@ -177,15 +179,15 @@ module _ (key : Start) (s : St) (r : Ruled key s) (id : ℕ) (me : Sat) (here : 
       let q = left (c.queue n) v.who in let x = node_at graph n in let room = mine.room in
       let w = packed (taken_word v.who v.stamp (left v.list v.who)) in
       let act : Act Cell = chain gives (chain (takes n (Content x)) (takes (64 + n) y)) in
-      moves.makes key s r id me here seated (Take v.who n) (144 + 8 * n) w (taken v n) (set me.0.held n (Some x))
+      moves.makes key s r id me here seated (Take v.who n) (16 + 8 * n) w (taken v n) (set me.0.held n (Some x))
       act refl refl can (mine_take c v law k n may.inside can)
       (length-set me.0.held n (Some x) ∙ mine.room)
       (λ m own in_graph. dite (ℕ_discrete m n)
       (λ e. ap (get_elem? (set me.0.held n (Some x))) e ∙ set_here me.0.held n (Some x) (omega arith)
       ∙ ap (λ (j : ℕ). some (Some (node_at graph j))) (sym e))
       (λ isnt. set_else me.0.held n m (Some x) isnt ∙ mine.held m (sym (get_or-set_other v.owned n m true false isnt) ∙ own) in_graph))
-      r.counted
-      (owner_set c (Take v.who n) can.base law.base key.locks s.words r.words n w low (λ m far. far) refl refl refl refl refl
+      r.drawn r.counted
+      (owner_set c (Take v.who n) can.base law.base key.locks key.places r.all s.words r.words n w low (λ m far. far) refl refl refl refl refl
       ((λ i. packed (taken_word v.who (k.itself.stamp i) (left (k.queues.list n may.inside i) v.who)))
       ∙ ap packed (sym (word_take c v.who n))))
       (subst (λ (z : List (ℕ × Cell)). AtHome key.locks graph (put c.owner n (Taken v.who)) (put c.queue n q)
@@ -210,9 +212,9 @@ module _ (key : Start) (s : St) (r : Ruled key s) (id : ℕ) (me : Sat) (here : 
 
   -- give: the owner word was that of the seat, with the flags that the list and HANDOFF give
   pub give_makes : (n : ℕ) (o : Owner) (x : Node) → MayGive me.0.part.core n → get_elem? me.0.held n ≡ some (Some x)
-      → IsValid o → get_or s.words (144 + 8 * n) 0 ≡ packed o → me.1 ≡ (n, Content x) ∷ rest me.1
+      → IsValid o → get_or s.words (16 + 8 * n) 0 ≡ packed o → me.1 ≡ (n, Content x) ∷ rest me.1
       → Makes key s r (Give me.0.part.core.who n)
-      (stepped s (144 + 8 * n) (packed (given_word (o.flags == 3) me.0.part.core.list)) id me.1
+      (stepped s (16 + 8 * n) (packed (given_word (o.flags == 3) me.0.part.core.list)) id me.1
       (giving_inside me.0 n (o.flags == 3)) gives)
   give_makes n o x may has valid hit top = let c = r.core in let v = me.0.part.core in let k = mine.part.knows in
       let low = inside_low n may.inside in let b = o.flags == 3 in
@@ -221,15 +223,15 @@ module _ (key : Start) (s : St) (r : Ruled key s) (id : ℕ) (me : Sat) (here : 
       let value : x ≡ node_at graph n = (let p : some (Some x) ≡ some (Some (node_at graph n)) = sym has
       ∙ mine.held n may.owns (let room = mine.room in let low' = place_low me.0.held n (Some x) has in
       omega arith) in cc) in
-      moves.makes key s r id me here seated (Give v.who n) (144 + 8 * n) (packed (given_word b v.list))
+      moves.makes key s r id me here seated (Give v.who n) (16 + 8 * n) (packed (given_word b v.list))
       (given v n b) (set me.0.held n None) gives refl refl can (mine_give c v law k n b may.inside asked can)
       (length-set me.0.held n None ∙ mine.room)
       (λ m own' in_graph. dite (ℕ_discrete m n)
       (λ e. absurd (true≢false (sym own' ∙ ap (λ i. get_or (set v.owned n false) i false) e
       ∙ get_or-set_same v.owned n false false (let z = k.owned.room in let y = r.locks in omega arith))))
       (λ isnt. set_else me.0.held n m None isnt ∙ mine.held m (sym (get_or-set_other v.owned n m false false isnt) ∙ own') in_graph))
-      r.counted
-      (owner_set c (Give v.who n) can.base law.base key.locks s.words r.words n (packed (given_word b v.list)) low
+      r.drawn r.counted
+      (owner_set c (Give v.who n) can.base law.base key.locks key.places r.all s.words r.words n (packed (given_word b v.list)) low
       (λ m far. far) refl refl refl refl refl
       ((λ i. packed (given_word (asked i) (k.queues.list n may.inside i))) ∙ ap packed (sym (word_give c v.who n law.base))))
       (subst (λ (z : List (ℕ × Cell)). AtHome key.locks graph (put c.owner n g) c.queue c.guard
@@ -249,21 +251,21 @@ module _ (key : Start) (s : St) (r : Ruled key s) (id : ℕ) (me : Sat) (here : 
 
   -- take of a lock that guards no node: the list stays out, and nothing comes
   pub take_bare_makes : (n : ℕ) (o : Owner) → length (first_graph key) ≤ n → MayTake me.0.part.core n o → IsValid o
-      → get_or s.words (144 + 8 * n) 0 ≡ packed o
+      → get_or s.words (16 + 8 * n) 0 ≡ packed o
       → Makes key s r (Take me.0.part.core.who n)
-      (stepped s (144 + 8 * n) (packed (taken_word me.0.part.core.who me.0.part.core.stamp
+      (stepped s (16 + 8 * n) (packed (taken_word me.0.part.core.who me.0.part.core.stamp
       (left me.0.part.core.list me.0.part.core.who))) id me.1
       (knowing me.0 (taken me.0.part.core n)) keeps)
   take_bare_makes n o big may valid hit = let c = r.core in let v = me.0.part.core in let k = mine.part.knows in
       let low = inside_low n may.inside in let is = found n o low valid hit in
       let can = shows_take c v law k n o (signed_owns_outside c r.reached) may is in
       let q = left (c.queue n) v.who in let w = packed (taken_word v.who v.stamp (left v.list v.who)) in
-      moves.makes key s r id me here seated (Take v.who n) (144 + 8 * n) w (taken v n) me.0.held keeps refl refl can
+      moves.makes key s r id me here seated (Take v.who n) (16 + 8 * n) w (taken v n) me.0.held keeps refl refl can
       (mine_take c v law k n may.inside can)
       mine.room
       (λ m own in_graph. mine.held m (sym (get_or-set_other v.owned n m true false (λ z. omega arith)) ∙ own) in_graph)
-      r.counted
-      (owner_set c (Take v.who n) can.base law.base key.locks s.words r.words n w low (λ m far. far) refl refl refl refl refl
+      r.drawn r.counted
+      (owner_set c (Take v.who n) can.base law.base key.locks key.places r.all s.words r.words n w low (λ m far. far) refl refl refl refl refl
       ((λ i. packed (taken_word v.who (k.itself.stamp i) (left (k.queues.list n may.inside i) v.who)))
       ∙ ap packed (sym (word_take c v.who n))))
       (list_inside key.locks graph (put c.owner n (Taken v.who)) c.queue c.guard s.homes v.who n q can.base.inside.guard (record {
@@ -276,20 +278,20 @@ module _ (key : Start) (s : St) (r : Ruled key s) (id : ℕ) (me : Sat) (here : 
 
   -- give of a lock that guards no node
   pub give_bare_makes : (n : ℕ) (o : Owner) → length (first_graph key) ≤ n → MayGive me.0.part.core n → IsValid o
-      → get_or s.words (144 + 8 * n) 0 ≡ packed o
+      → get_or s.words (16 + 8 * n) 0 ≡ packed o
       → Makes key s r (Give me.0.part.core.who n)
-      (stepped s (144 + 8 * n) (packed (given_word (o.flags == 3) me.0.part.core.list)) id me.1
+      (stepped s (16 + 8 * n) (packed (given_word (o.flags == 3) me.0.part.core.list)) id me.1
       (knowing me.0 (given me.0.part.core n (o.flags == 3))) keeps)
   give_bare_makes n o big may valid hit = let c = r.core in let v = me.0.part.core in let k = mine.part.knows in
       let low = inside_low n may.inside in let b = o.flags == 3 in
       let asked : b ≡ c.asked n = asked_is c n o (found n o low valid hit) v.who law (k.owned.has n may.owns) in
       let can = shows_give c v law k n may in let g = given_to (c.asked n) (c.queue n) in
-      moves.makes key s r id me here seated (Give v.who n) (144 + 8 * n) (packed (given_word b v.list))
+      moves.makes key s r id me here seated (Give v.who n) (16 + 8 * n) (packed (given_word b v.list))
       (given v n b) me.0.held keeps refl refl can (mine_give c v law k n b may.inside asked can)
       mine.room
       (λ m own' in_graph. mine.held m (sym (get_or-set_other v.owned n m false false (λ z. omega arith)) ∙ own') in_graph)
-      r.counted
-      (owner_set c (Give v.who n) can.base law.base key.locks s.words r.words n (packed (given_word b v.list)) low
+      r.drawn r.counted
+      (owner_set c (Give v.who n) can.base law.base key.locks key.places r.all s.words r.words n (packed (given_word b v.list)) low
       (λ m far. far) refl refl refl refl refl
       ((λ i. packed (given_word (asked i) (k.queues.list n may.inside i))) ∙ ap packed (sym (word_give c v.who n law.base))))
       (record {
@@ -300,16 +302,16 @@ module _ (key : Start) (s : St) (r : Ruled key s) (id : ℕ) (me : Sat) (here : 
       })
 
   -- leave: the owner word has no flag if nobody is left in the list
-  pub leave_makes : (n : ℕ) (o : Owner) → MayStop me.0.part.core n → IsValid o → get_or s.words (144 + 8 * n) 0 ≡ packed o
+  pub leave_makes : (n : ℕ) (o : Owner) → MayStop me.0.part.core n → IsValid o → get_or s.words (16 + 8 * n) 0 ≡ packed o
       → Makes key s r (Leave me.0.part.core.who n)
-      (stepped s (144 + 8 * n) (packed (rest_word (left me.0.part.core.list me.0.part.core.who) o)) id me.1
+      (stepped s (16 + 8 * n) (packed (rest_word (left me.0.part.core.list me.0.part.core.who) o)) id me.1
       (stopping me.0 o) keeps)
   leave_makes n o may valid hit = let c = r.core in let v = me.0.part.core in let k = mine.part.knows in
       let low = inside_low n may.inside in let is = found n o low valid hit in
       let can = shows_leave c v law k n may in let x = packed (rest_word (left v.list v.who) o) in
-      makes (Leave v.who n) (144 + 8 * n) x (interrupted v o) keeps refl refl (λ m. refl) can
-      (mine_leave c v law k n o may.inside is can) r.counted
-      (owner_set c (Leave v.who n) can.base law.base key.locks s.words r.words n x low (λ m far. far) refl refl refl refl refl
+      makes (Leave v.who n) (16 + 8 * n) x (interrupted v o) keeps refl refl (λ m. refl) can
+      (mine_leave c v law k n o may.inside is can) r.drawn r.counted
+      (owner_set c (Leave v.who n) can.base law.base key.locks key.places r.all s.words r.words n x low (λ m far. far) refl refl refl refl refl
       ((λ i. packed (rest_word (left (k.queues.list n may.inside i) v.who) (is i)))
       ∙ ap packed (sym (word_leave c v.who n law.base can.base))))
       (list_inside key.locks graph c.owner c.queue c.guard s.homes v.who n (left (c.queue n) v.who) can.base.inside.guard r.homes)
@@ -319,7 +321,7 @@ module _ (key : Start) (s : St) (r : Ruled key s) (id : ℕ) (me : Sat) (here : 
   -- what is counted of the seat becomes this, with as many draws
   recounted : (cancel : ℕ → ℕ) (more : Counts) → more.draws ≡ (r.counts me.0.part.core.who).draws
       → Balanced cancel (put r.counts me.0.part.core.who more)
-      → Counted key r.core.drawn r.core.commits cancel r.log (put r.counts me.0.part.core.who more)
+      → Counted key r.all r.core.commits cancel r.log (put r.counts me.0.part.core.who more)
   recounted cancel more same balanced = let w = me.0.part.core.who in
       let same_draws = λ (t : ℕ). put_cases r.counts w more t (λ y. y.draws ≡ (r.counts t).draws)
       (λ is. same ∙ ap (λ (y : ℕ). (r.counts y).draws) (sym is)) (λ _. refl) in record {
@@ -327,7 +329,7 @@ module _ (key : Start) (s : St) (r : Ruled key s) (id : ℕ) (me : Sat) (here : 
         graph = r.counted.graph;
         size = r.counted.size;
         front = r.counted.front;
-        stamps = r.counted.stamps ∙ sym (total_alike 16 (λ t. (put r.counts w more t).draws) (λ t. (r.counts t).draws) same_draws);
+        stamps = r.counted.stamps ∙ sym (total_alike key.places (λ t. (put r.counts w more t).draws) (λ t. (r.counts t).draws) same_draws);
         balanced = balanced;
         strangers = λ t big. put_else r.counts w more t (λ e. let own = mine.part.number in omega arith) ∙ r.counted.strangers t big;
         few = λ t. subst (λ (y : ℕ). y < 2 ^ 52) (sym (same_draws t)) (r.counted.few t);
@@ -336,38 +338,38 @@ module _ (key : Start) (s : St) (r : Ruled key s) (id : ℕ) (me : Sat) (here : 
       }
 
   -- set_cancel: the cancel word was 0
-  pub cancel_makes : (u : ℕ) → IsAway me.0.part.core → u < 16 → get_or s.words (8 * u + 1) 0 ≡ 0
-      → Makes key s r (Cancel me.0.part.core.who u) (stepped s (8 * u + 1) (me.0.part.core.who + 1) id me.1 (cancelling me.0 u) keeps)
+  pub cancel_makes : (u : ℕ) → IsAway me.0.part.core → u < key.places → get_or s.words (16 + 8 * key.locks + 8 * u + 1) 0 ≡ 0
+      → Makes key s r (Cancel me.0.part.core.who u) (stepped s (16 + 8 * key.locks + 8 * u + 1) (me.0.part.core.who + 1) id me.1 (cancelling me.0 u) keeps)
   cancel_makes u away low hit = let c = r.core in let v = me.0.part.core in let k = mine.part.knows in
       let free : c.cancel u ≡ 0 = sym (r.words.cancels u low) ∙ hit in
       let can = shows_cancel c v law k u away (let z = r.places in omega arith) free in
       let more = with_cancelled c.cancel r.counts r.counted.balanced v.who u in
-      moves.makes_all key s r id me here seated (Cancel v.who u) (8 * u + 1) (v.who + 1)
+      moves.makes_all key s r id me here seated (Cancel v.who u) (16 + 8 * key.locks + 8 * u + 1) (v.who + 1)
       (record (me.0.part) { counts = record (me.0.part.counts) { cancelled = u ∷ me.0.part.counts.cancelled } })
       me.0.held keeps
-      r.log (put r.counts v.who more) refl refl can (mine_cancel c v law k u can)
+      r.log (put r.counts v.who more) r.all refl refl can (mine_cancel c v law k u can)
       (ap (λ (y : Counts). record y { cancelled = u ∷ y.cancelled }) mine.part.counted ∙ sym (put_here r.counts v.who more)) mine.part.own
       (record {
         counts_stay = λ t ne. put_else r.counts v.who more t ne;
         parts_stay = λ t _. refl;
         nodes_stay = λ t n _ _. refl;
       }) mine.room mine.held
-      (recounted (put c.cancel u (v.who + 1)) more refl (cancelled_on c.cancel r.counts r.counted.balanced v.who u free))
-      (cancel_set c (Cancel v.who u) can.base law.base key.locks s.words r.words u (v.who + 1) low (λ m. tt) refl refl refl refl refl)
+      r.drawn (recounted (put c.cancel u (v.who + 1)) more refl (cancelled_on c.cancel r.counts r.counted.balanced v.who u free))
+      (cancel_set c (Cancel v.who u) can.base law.base key.locks key.places r.all s.words r.words u (v.who + 1) low (λ m. tt) refl refl refl refl refl)
       (record { deep = r.homes.deep; nodes = r.homes.nodes; lists = r.homes.lists })
 
   -- heed: the own cancel word was this, and becomes 0
   pub heed_makes : (n mark : ℕ) → MayHeed me.0.part.core n → mark ≡ r.core.cancel me.0.part.core.who → mark ≢ 0
-      → Makes key s r (Heed me.0.part.core.who n) (stepped s (8 * me.0.part.core.who + 1) 0 id me.1 (heeding me.0 mark) keeps)
+      → Makes key s r (Heed me.0.part.core.who n) (stepped s (16 + 8 * key.locks + 8 * me.0.part.core.who + 1) 0 id me.1 (heeding me.0 mark) keeps)
   heed_makes n mark may is isnt = let c = r.core in let v = me.0.part.core in let k = mine.part.knows in
       let pending : c.cancel v.who ≢ 0 = λ z. isnt (is ∙ z) in
       let can = shows_heed c v law k n may pending in let more = with_heeded c.cancel r.counts r.counted.balanced v.who in
-      moves.makes_all key s r id me here seated (Heed v.who n) (8 * v.who + 1) 0
+      moves.makes_all key s r id me here seated (Heed v.who n) (16 + 8 * key.locks + 8 * v.who + 1) 0
       (record (me.0.part) {
         core = has_heeded v mark;
         counts = record (me.0.part.counts) { heeded = (mark - 1) ∷ me.0.part.counts.heeded };
       }) me.0.held keeps
-      r.log (put r.counts v.who more) refl refl can
+      r.log (put r.counts v.who more) r.all refl refl can
       (subst (λ (x : ℕ). Knows (after c (Heed v.who n)) (has_heeded v x)) (sym is) (mine_heed c v law k n can))
       (ap (λ (y : Counts). record y { heeded = (mark - 1) ∷ y.heeded }) mine.part.counted
       ∙ ap (λ (x : ℕ). record (r.counts v.who) { heeded = (x - 1) ∷ (r.counts v.who).heeded }) is
@@ -377,27 +379,27 @@ module _ (key : Start) (s : St) (r : Ruled key s) (id : ℕ) (me : Sat) (here : 
         parts_stay = λ t _. refl;
         nodes_stay = λ t m _ _. refl;
       }) mine.room mine.held
-      (recounted (put c.cancel v.who 0) more refl (heeded_on c.cancel r.counts r.counted.balanced v.who pending))
-      (cancel_set c (Heed v.who n) can.base law.base key.locks s.words r.words v.who 0
+      r.drawn (recounted (put c.cancel v.who 0) more refl (heeded_on c.cancel r.counts r.counted.balanced v.who pending))
+      (cancel_set c (Heed v.who n) can.base law.base key.locks key.places r.all s.words r.words v.who 0
       (let z = k.itself.seat in let y = r.places in omega arith) (λ m. tt) refl refl refl refl refl)
       (record { deep = r.homes.deep; nodes = r.homes.nodes; lists = r.homes.lists })
 
   -- sign: the sign word was 0
-  pub sign_makes : (n u j : ℕ) → MaySign me.0.part.core n u j → u < 16 → get_or s.words (8 * u) 0 ≡ 0
-      → Makes key s r (Sign me.0.part.core.who u) (stepped s (8 * u) j id me.1 (condemning me.0 u) keeps)
+  pub sign_makes : (n u j : ℕ) → MaySign me.0.part.core n u j → u < key.places → get_or s.words (16 + 8 * key.locks + 8 * u) 0 ≡ 0
+      → Makes key s r (Sign me.0.part.core.who u) (stepped s (16 + 8 * key.locks + 8 * u) j id me.1 (condemning me.0 u) keeps)
   sign_makes n u j may low hit = let c = r.core in let v = me.0.part.core in let k = mine.part.knows in
       let can = shows_sign c v law k n u j may (sym (r.words.signs u low) ∙ hit) in
-      makes (Sign v.who u) (8 * u) j (has_condemned v u) keeps refl refl (λ m. refl) can (mine_sign c v law k u can) r.counted
-      (sign_set c (Sign v.who u) can.base law.base key.locks s.words r.words u j low (λ m. tt) refl refl
+      makes (Sign v.who u) (16 + 8 * key.locks + 8 * u) j (has_condemned v u) keeps refl refl (λ m. refl) can (mine_sign c v law k u can) r.drawn r.counted
+      (sign_set c (Sign v.who u) can.base law.base key.locks key.places r.all s.words r.words u j low (λ m. tt) refl refl
       (ap (put c.sign u) (sign_is c v law k n u j may can)) refl refl)
       (record { deep = r.homes.deep; nodes = r.homes.nodes; lists = r.homes.lists })
 
   -- clear: 0 is stored in the own sign word
   pub clear_makes : MayClear me.0.part.core
       → Makes key s r (Clear me.0.part.core.who)
-      (stepped s (8 * me.0.part.core.who) 0 id me.1 (clearing me.0) keeps)
+      (stepped s (16 + 8 * key.locks + 8 * me.0.part.core.who) 0 id me.1 (clearing me.0) keeps)
   clear_makes may = let c = r.core in let v = me.0.part.core in let k = mine.part.knows in let can = shows_clear c v law k may in
-      makes (Clear v.who) (8 * v.who) 0 (cleared v) keeps refl refl (λ m. refl) can (mine_clear c v law k can (clear_quiet v may)) r.counted
-      (sign_set c (Clear v.who) can.base law.base key.locks s.words r.words v.who 0
+      makes (Clear v.who) (16 + 8 * key.locks + 8 * v.who) 0 (cleared v) keeps refl refl (λ m. refl) can (mine_clear c v law k can (clear_quiet v may)) r.drawn r.counted
+      (sign_set c (Clear v.who) can.base law.base key.locks key.places r.all s.words r.words v.who 0
       (let z = k.itself.seat in let y = r.places in omega arith) (λ m. tt) refl refl refl refl refl)
       (record { deep = r.homes.deep; nodes = r.homes.nodes; lists = r.homes.lists })

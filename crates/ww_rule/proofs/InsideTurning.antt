@@ -2,7 +2,8 @@
 use Rattle.std.proofs.Common.{◌≡◌, ℕ, ◌+◌, eqb, true, false, Bool, List, [], ◌∷◌, ◌++◌, length, sym, refl, ap, ◌∙◌, subst, arith, Some, None, slice_get, length-append, ◌≢◌, eq-eqb, ne_eqb, ⊎_elim, ◌⊎◌, inl, inr}
 use Rattle.std.proofs.lemmas.Bool.Decides.{eqb_tells}
 use Rattle.std.specs.Bool.{if◌then◌else◌}
-use Rattle.ww_word.specs.Owner.{IsValid, AreFlags}
+use Rattle.ww_word.specs.Owner.{AreFlags}
+use Rattle.ww_word.specs.AnySeats.{IsValid}
 use Rattle.atomic_table.specs.Table.{rest}
 use Rattle.ww_queue.specs.declared.entry.Entry.{Entry}
 use Rattle.ww_queue.specs.Queue.{left}
@@ -137,9 +138,9 @@ still_out slots m z others n y far a out =
 
 -- ---- the owner of a lock that is released
 
-pub given_valid : (b : Bool) (q : List Entry) → AreSeats q → IsValid (given_word b q)
-given_valid true [] seats = record { seating = (refl, omega arith); stamp = omega arith; flags = inl refl }
-given_valid true (e ∷ es) seats = let first = seats e (inl refl) in
-    record { seating = first.0; stamp = first.1; flags = inr (inr (inr refl)) }
-given_valid false [] seats = record { seating = (refl, omega arith); stamp = omega arith; flags = inl refl }
-given_valid false (e ∷ es) seats = record { seating = (refl, omega arith); stamp = omega arith; flags = inr (inl refl) }
+pub given_valid : (b : Bool) (seats : ℕ) (q : List Entry) → AreSeats seats q → IsValid (given_word b q)
+given_valid true n [] seats = record { seating = (refl, omega arith); flags = inl refl }
+given_valid true n (e ∷ es) seats = let first = seats e (inl refl) in
+    record { seating = first.1; flags = inr (inr (inr refl)) }
+given_valid false n [] seats = record { seating = (refl, omega arith); flags = inl refl }
+given_valid false n (e ∷ es) seats = record { seating = (refl, omega arith); flags = inr (inl refl) }

@@ -14,3 +14,4 @@ pub mod InsideTurning
 pub mod Slots
 pub mod Filling
 pub mod Paging
+pub mod NodesAfter

@@ -14,7 +14,7 @@ use Rattle.ww_model.specs.declared.event.Event.TheVariants.{Commit}
 use Rattle.ww_plain.specs.declared.node.Node.{Node}
 use Rattle.ww_plain.specs.declared.history.Record.{Record}
 use Rattle.ww_plain.specs.Numbers.{is_among}
-use Rattle.ww_plain.specs.Graph.{IsGraph, no_node, node_at}
+use Rattle.ww_plain.specs.Graph.{no_node, node_at}
 use Rattle.ww_plain.specs.Footprint.{footprint_of}
 use Rattle.ww_plain.specs.Transaction.{Fits, transaction_of}
 use Rattle.ww_plain.specs.Meaning.{graph_after}
@@ -23,12 +23,12 @@ use Rattle.ww_plain.specs.History.{Recorded, recorded_of, IsNext, last_graph, pa
 use Rattle.ww_plain.proofs.Members.{true_or_false}
 use Rattle.ww_plain.proofs.Frames.{outside, inside}
 use Rattle.ww_plain.proofs.Histories.{grows}
-use Rattle.ww_plain.proofs.Kept.{sized_after, keeps_graph}
+use Rattle.ww_rule.proofs.NodesAfter.{keeps_nodes}
 use Rattle.ww_view.specs.View.{owns}
 use Rattle.ww_view.proofs.Shows.{shows_commit}
 use Rattle.ww_view.proofs.Mine.{mine_commit}
 use Rattle.ww_rule.specs.declared.cells.Start.{Start}
-use Rattle.ww_rule.specs.Rule.{St, Sat, first_graph, own_of, Counted, Sits, Ruled, MakesWith}
+use Rattle.ww_rule.specs.Rule.{AreNodes, St, Sat, first_graph, own_of, Counted, Sits, Ruled, MakesWith}
 use Rattle.ww_rule.specs.Steps.{known, graph_of, renewed, MayPlace, placing, places_to}
 use Rattle.ww_rule.proofs.Totals.{total_below, parts_whole}
 use Rattle.ww_rule.proofs.Regions.{front_set}
@@ -135,16 +135,16 @@ module _ (key : Start) (s : St) (r : Ruled key s) (id : ℕ) (me : Sat) (here : 
       ∙ sym (outside graph (transaction_of x.txn) n (ap (is_among n) alike.footprint ∙ no)))
       (true_or_false (is_among n (footprint_of seen (transaction_of x.txn)))) ∙ ap (λ (g : List Node). node_at g n) (sym leads)
 
-  many : length r.log < 2 ^ 37
-  many = let whole = parts_whole 0 r.log
+  many : length r.log < 2 ^ 44
+  many = let whole = parts_whole key.places 0 r.log
       (λ k y e. let a = r.counted.callers k y e in let b = r.seats_there in omega arith) in
-      let most = total_below 16 (2 ^ 32) (λ t. length (part_of t r.log)) r.counted.brief in omega arith
+      let most = total_below key.places (2 ^ 32) (λ t. length (part_of t r.log)) r.counted.brief in ⊎_elim (λ is. omega arith) (λ is. let c = is.1 in omega arith) r.sizes
 
-  counted : Counted key r.core.drawn (r.core.commits + 1) r.core.cancel new r.counts
+  counted : Counted key r.all (r.core.commits + 1) r.core.cancel new r.counts
   counted = let g = grows (first_graph key) r.log (recorded_of x) in let more = length-append r.log (recorded_of x ∷ []) in record {
     legal = g.legal.1 (r.counted.legal, next);
-    graph = subst IsGraph (sym leads) (keeps_graph graph (transaction_of x.txn) r.counted.graph next.fits);
-    size = ap length leads ∙ (sized_after graph (transaction_of x.txn) r.counted.graph next.fits).length_is ∙ r.counted.size;
+    graph = subst AreNodes (sym leads) (keeps_nodes graph (transaction_of x.txn) r.counted.graph next.fits).0;
+    size = ap length leads ∙ (keeps_nodes graph (transaction_of x.txn) r.counted.graph next.fits).1 ∙ r.counted.size;
     front = let f = r.counted.front in omega arith;
     stamps = r.counted.stamps;
     balanced = r.counted.balanced;
@@ -166,16 +166,16 @@ module _ (key : Start) (s : St) (r : Ruled key s) (id : ℕ) (me : Sat) (here : 
   }
 
   pub place_makes : MakesWith key s r (Commit me.0.part.core.who) new
-      (stepped s 136 (get_or s.words 136 0 + 1) id me.1 (placing me.0 (get_or s.words 136 0) x) keeps)
+      (stepped s 8 (get_or s.words 8 0 + 1) id me.1 (placing me.0 (get_or s.words 8 0) x) keeps)
   place_makes = let c = r.core in let v = me.0.part.core in let k = sits.part.knows in let same = r.words.front in
       let was = r.counted.front in let few = many in let lawful = law key s r id me here seated in
       let can = shows_commit c v lawful k may.owner.0 may.away may.owner.1 (omega arith) in
       let g = grows (first_graph key) r.log (recorded_of x) in
-      makes_all key s r id me here seated (Commit v.who) 136 (get_or s.words 136 0 + 1)
-      (record (me.0.part) { own = me.0.part.own ++ (get_or s.words 136 0, x) ∷ [] })
-      (renewed 0 me.0.held (graph_after seen (transaction_of x.txn))) keeps new r.counts refl refl can
+      makes_all key s r id me here seated (Commit v.who) 8 (get_or s.words 8 0 + 1)
+      (record (me.0.part) { own = me.0.part.own ++ (get_or s.words 8 0, x) ∷ [] })
+      (renewed 0 me.0.held (graph_after seen (transaction_of x.txn))) keeps new r.counts r.all refl refl can
       (mine_commit c v lawful k can) sits.part.counted
-      (own_more me.0.part.own (get_or s.words 136 0) x
+      (own_more me.0.part.own (get_or s.words 8 0) x
       ∙ (λ i. sits.part.own i ++ ((same ∙ was) i, recorded_of x) ∷ [])
       ∙ sym (ap (λ (t : ℕ). part_of t new) (sym may.caller) ∙ g.own_part
       ∙ ap (λ (t : ℕ). part_of t r.log ++ (length r.log, recorded_of x) ∷ []) may.caller))
@@ -189,8 +189,9 @@ module _ (key : Start) (s : St) (r : Ruled key s) (id : ℕ) (me : Sat) (here : 
       (sits.held n own small) ∙ ap (λ (j : ℕ). some
       (Some (node_at (graph_after seen (transaction_of x.txn)) j))) (let z : 0 + n ≡ n = omega arith in z)
       ∙ ap (λ (y : Node). some (Some y)) (becomes n own))
+      r.drawn
       counted
-      (front_set c (Commit v.who) can.base lawful.base key.locks s.words r.words (get_or s.words 136 0 + 1)
+      (front_set c (Commit v.who) can.base lawful.base key.locks key.places r.all s.words r.words (get_or s.words 8 0 + 1)
       (λ m. tt) refl refl refl refl (ap (λ (y : ℕ). y + 1) (sym same)))
       (record {
         deep = r.homes.deep;
@@ -201,14 +202,14 @@ module _ (key : Start) (s : St) (r : Ruled key s) (id : ℕ) (me : Sat) (here : 
 
 pub places : (key : Start) (slots id : ℕ) (me : Sat) (about : Option Record) (x : Record) → me.0.seated ≡ true
     → about ≡ Some x → MayPlace me.0 (recorded_of x)
-    → Allows (Ruled key) slots id me 136 (λ z. (z + 1) % 2 ^ 64) (places_to about (step slots 136 1 0 none) me)
-places key slots id me about x seated is may s r deep at small = let n : ℕ = get_or s.words 136 0 in
+    → Allows (Ruled key) slots id me 8 (λ z. (z + 1) % 2 ^ 64) (places_to about (step slots 8 1 0 none) me)
+places key slots id me about x seated is may s r deep at small = let n : ℕ = get_or s.words 8 0 in
     let same = r.words.front in let was = r.counted.front in let few = many key s r id me at seated x may in
     let up : (n + 1) % 2 ^ 64 ≡ n + 1 = omega arith in (
       placing me.0 n x,
       keeps,
       tt,
-      subst (λ (y : ℕ). Ruled key (stepped s 136 y id me.1 (placing me.0 n x) keeps)) (sym up)
+      subst (λ (y : ℕ). Ruled key (stepped s 8 y id me.1 (placing me.0 n x) keeps)) (sym up)
           (place_makes key s r id me at seated x may).ruled,
       (λ y is'. let e : x ≡ y = (let z : Some x ≡ Some y = sym is ∙ is' in cc) in (
         ap (λ (w : Record). let m : Sat = (placing me.0 n w, me.1) in m) e,

@@ -2,7 +2,7 @@
 use Rattle.std.proofs.Common.{◌≡◌, ◌≢◌, ℕ, ◌+◌, ◌*◌, ◌<◌, List, get_or, set, sym, ap, ◌∙◌, arith, length-set, get_or-set_other, get_or-set_same}
 use mathlib.Core.Logic.{dite}
 use native.Mathlib.Decide.{ℕ_discrete}
-use Rattle.ww_word.specs.Owner.{packed}
+use Rattle.ww_word.specs.AnySeats.{packed}
 use Rattle.ww_model.specs.declared.event.Event.{Event}
 use Rattle.ww_model.specs.State.{State}
 use Rattle.ww_model.specs.Event.{BasePossible, after}
@@ -11,72 +11,85 @@ use Rattle.ww_model.specs.State.{word_of}
 use Rattle.ww_view.proofs.Written.{Leaves, word_else}
 use Rattle.ww_rule.specs.Rule.{Shown}
 
-module _ (c : State) (e : Event) (can : BasePossible c e) (l : IsBase c) (locks : ℕ) (words : List ℕ) (sh : Shown locks c words) where
+module _ (c : State) (e : Event) (can : BasePossible c e) (l : IsBase c) (locks places all : ℕ) (words : List ℕ) (sh : Shown locks places all c words) where
   pub owner_set : (n x : ℕ) → n < locks → ((m : ℕ) → m ≢ n → Leaves e m) → (after c e).cancel ≡ c.cancel
       → (after c e).guard ≡ c.guard → (after c e).sign ≡ c.sign → (after c e).drawn ≡ c.drawn
       → (after c e).commits ≡ c.commits
-      → x ≡ packed (word_of (after c e) n) → Shown locks (after c e) (set words (144 + 8 * n) x)
+      → x ≡ packed (word_of (after c e) n) → Shown locks places all (after c e) (set words (16 + 8 * n) x)
   owner_set n x small far cancels guards signs drawn commits here = let wide = sh.wide in record {
-    wide = length-set words (144 + 8 * n) x ∙ sh.wide;
+    wide = length-set words (16 + 8 * n) x ∙ sh.wide;
     owners = λ m low. dite (ℕ_discrete m n)
-        (λ is. ap (λ (k : ℕ). get_or (set words (144 + 8 * n) x) (144 + 8 * k) 0) is
-        ∙ get_or-set_same words (144 + 8 * n) x 0 (omega arith) ∙ here
+        (λ is. ap (λ (k : ℕ). get_or (set words (16 + 8 * n) x) (16 + 8 * k) 0) is
+        ∙ get_or-set_same words (16 + 8 * n) x 0 (omega arith) ∙ here
         ∙ ap (λ (k : ℕ). packed (word_of (after c e) k)) (sym is))
-        (λ isnt. get_or-set_other words (144 + 8 * n) (144 + 8 * m) x 0 (λ z. isnt (omega arith)) ∙ sh.owners m low
+        (λ isnt. get_or-set_other words (16 + 8 * n) (16 + 8 * m) x 0 (λ z. isnt (omega arith)) ∙ sh.owners m low
         ∙ ap packed (sym (word_else c e m can l (far m isnt))));
-    guards = λ m low. get_or-set_other words (144 + 8 * n) (144 + 8 * m + 1) x 0 (λ z. omega arith)
+    guards = λ m low. get_or-set_other words (16 + 8 * n) (16 + 8 * m + 1) x 0 (λ z. omega arith)
         ∙ sh.guards m low ∙ ap (λ (f : ℕ → ℕ). f m) (sym guards);
-    signs = λ s low. get_or-set_other words (144 + 8 * n) (8 * s) x 0 (λ z. omega arith) ∙ sh.signs s low
+    signs = λ s low. get_or-set_other words (16 + 8 * n) (16 + 8 * locks + 8 * s) x 0 (λ z. omega arith) ∙ sh.signs s low
         ∙ ap (λ (f : ℕ → ℕ). f s) (sym signs);
-    cancels = λ s low. get_or-set_other words (144 + 8 * n) (8 * s + 1) x 0 (λ z. omega arith) ∙ sh.cancels s low
+    cancels = λ s low. get_or-set_other words (16 + 8 * n) (16 + 8 * locks + 8 * s + 1) x 0 (λ z. omega arith) ∙ sh.cancels s low
         ∙ ap (λ (f : ℕ → ℕ). f s) (sym cancels);
-    drawn = get_or-set_other words (144 + 8 * n) 128 x 0 (λ z. omega arith) ∙ sh.drawn ∙ sym drawn;
-    front = get_or-set_other words (144 + 8 * n) 136 x 0 (λ z. omega arith) ∙ sh.front ∙ sym commits;
+    drawn = get_or-set_other words (16 + 8 * n) 0 x 0 (λ z. omega arith) ∙ sh.drawn;
+    front = get_or-set_other words (16 + 8 * n) 8 x 0 (λ z. omega arith) ∙ sh.front ∙ sym commits;
   }
 
   -- the two counts
   pub drawn_set : (x : ℕ) → ((m : ℕ) → Leaves e m) → (after c e).cancel ≡ c.cancel → (after c e).guard ≡ c.guard
-      → (after c e).sign ≡ c.sign → (after c e).drawn ≡ x → (after c e).commits ≡ c.commits
-      → Shown locks (after c e) (set words 128 x)
-  drawn_set x far cancels guards signs drawn commits = let wide = sh.wide in record {
-    wide = length-set words 128 x ∙ sh.wide;
-    owners = λ m low. get_or-set_other words 128 (144 + 8 * m) x 0 (λ z. omega arith) ∙ sh.owners m low
+      → (after c e).sign ≡ c.sign → (after c e).commits ≡ c.commits
+      → Shown locks places x (after c e) (set words 0 x)
+  drawn_set x far cancels guards signs commits = let wide = sh.wide in record {
+    wide = length-set words 0 x ∙ sh.wide;
+    owners = λ m low. get_or-set_other words 0 (16 + 8 * m) x 0 (λ z. omega arith) ∙ sh.owners m low
         ∙ ap packed (sym (word_else c e m can l (far m)));
-    guards = λ m low. get_or-set_other words 128 (144 + 8 * m + 1) x 0 (λ z. omega arith) ∙ sh.guards m low
+    guards = λ m low. get_or-set_other words 0 (16 + 8 * m + 1) x 0 (λ z. omega arith) ∙ sh.guards m low
         ∙ ap (λ (f : ℕ → ℕ). f m) (sym guards);
-    signs = λ s low. get_or-set_other words 128 (8 * s) x 0 (λ z. omega arith) ∙ sh.signs s low ∙ ap (λ (f : ℕ → ℕ). f s) (sym signs);
-    cancels = λ s low. get_or-set_other words 128 (8 * s + 1) x 0 (λ z. omega arith) ∙ sh.cancels s low
+    signs = λ s low. get_or-set_other words 0 (16 + 8 * locks + 8 * s) x 0 (λ z. omega arith) ∙ sh.signs s low ∙ ap (λ (f : ℕ → ℕ). f s) (sym signs);
+    cancels = λ s low. get_or-set_other words 0 (16 + 8 * locks + 8 * s + 1) x 0 (λ z. omega arith) ∙ sh.cancels s low
         ∙ ap (λ (f : ℕ → ℕ). f s) (sym cancels);
-    drawn = get_or-set_same words 128 x 0 (omega arith) ∙ sym drawn;
-    front = get_or-set_other words 128 136 x 0 (λ z. omega arith) ∙ sh.front ∙ sym commits;
+    drawn = get_or-set_same words 0 x 0 (omega arith);
+    front = get_or-set_other words 0 8 x 0 (λ z. omega arith) ∙ sh.front ∙ sym commits;
   }
 
   pub front_set : (x : ℕ) → ((m : ℕ) → Leaves e m) → (after c e).cancel ≡ c.cancel → (after c e).guard ≡ c.guard
       → (after c e).sign ≡ c.sign → (after c e).drawn ≡ c.drawn → (after c e).commits ≡ x
-      → Shown locks (after c e) (set words 136 x)
+      → Shown locks places all (after c e) (set words 8 x)
   front_set x far cancels guards signs drawn commits = let wide = sh.wide in record {
-    wide = length-set words 136 x ∙ sh.wide;
-    owners = λ m low. get_or-set_other words 136 (144 + 8 * m) x 0 (λ z. omega arith) ∙ sh.owners m low
+    wide = length-set words 8 x ∙ sh.wide;
+    owners = λ m low. get_or-set_other words 8 (16 + 8 * m) x 0 (λ z. omega arith) ∙ sh.owners m low
         ∙ ap packed (sym (word_else c e m can l (far m)));
-    guards = λ m low. get_or-set_other words 136 (144 + 8 * m + 1) x 0 (λ z. omega arith) ∙ sh.guards m low
+    guards = λ m low. get_or-set_other words 8 (16 + 8 * m + 1) x 0 (λ z. omega arith) ∙ sh.guards m low
         ∙ ap (λ (f : ℕ → ℕ). f m) (sym guards);
-    signs = λ s low. get_or-set_other words 136 (8 * s) x 0 (λ z. omega arith) ∙ sh.signs s low ∙ ap (λ (f : ℕ → ℕ). f s) (sym signs);
-    cancels = λ s low. get_or-set_other words 136 (8 * s + 1) x 0 (λ z. omega arith) ∙ sh.cancels s low
+    signs = λ s low. get_or-set_other words 8 (16 + 8 * locks + 8 * s) x 0 (λ z. omega arith) ∙ sh.signs s low ∙ ap (λ (f : ℕ → ℕ). f s) (sym signs);
+    cancels = λ s low. get_or-set_other words 8 (16 + 8 * locks + 8 * s + 1) x 0 (λ z. omega arith) ∙ sh.cancels s low
         ∙ ap (λ (f : ℕ → ℕ). f s) (sym cancels);
-    drawn = get_or-set_other words 136 128 x 0 (λ z. omega arith) ∙ sh.drawn ∙ sym drawn;
-    front = get_or-set_same words 136 x 0 (omega arith) ∙ sym commits;
+    drawn = get_or-set_other words 8 0 x 0 (λ z. omega arith) ∙ sh.drawn;
+    front = get_or-set_same words 8 x 0 (omega arith) ∙ sym commits;
   }
 
   -- no word changes
   pub none_set : ((m : ℕ) → Leaves e m) → (after c e).cancel ≡ c.cancel → (after c e).guard ≡ c.guard
       → (after c e).sign ≡ c.sign → (after c e).drawn ≡ c.drawn → (after c e).commits ≡ c.commits
-      → Shown locks (after c e) words
+      → Shown locks places all (after c e) words
   none_set far cancels guards signs drawn commits = record {
     wide = sh.wide;
     owners = λ m low. sh.owners m low ∙ ap packed (sym (word_else c e m can l (far m)));
     guards = λ m low. sh.guards m low ∙ ap (λ (f : ℕ → ℕ). f m) (sym guards);
     signs = λ s low. sh.signs s low ∙ ap (λ (f : ℕ → ℕ). f s) (sym signs);
     cancels = λ s low. sh.cancels s low ∙ ap (λ (f : ℕ → ℕ). f s) (sym cancels);
-    drawn = sh.drawn ∙ sym drawn;
+    drawn = sh.drawn;
     front = sh.front ∙ sym commits;
   }
+
+-- a stamp is drawn in vain
+pub spent_set : (c : State) (locks places all x : ℕ) (words : List ℕ) → Shown locks places all c words
+    → Shown locks places x c (set words 0 x)
+spent_set c locks places all x words sh = let wide = sh.wide in record {
+  wide = length-set words 0 x ∙ sh.wide;
+  owners = λ m low. get_or-set_other words 0 (16 + 8 * m) x 0 (λ z. omega arith) ∙ sh.owners m low;
+  guards = λ m low. get_or-set_other words 0 (16 + 8 * m + 1) x 0 (λ z. omega arith) ∙ sh.guards m low;
+  signs = λ s low. get_or-set_other words 0 (16 + 8 * locks + 8 * s) x 0 (λ z. omega arith) ∙ sh.signs s low;
+  cancels = λ s low. get_or-set_other words 0 (16 + 8 * locks + 8 * s + 1) x 0 (λ z. omega arith) ∙ sh.cancels s low;
+  drawn = get_or-set_same words 0 x 0 (omega arith);
+  front = get_or-set_other words 0 8 x 0 (λ z. omega arith) ∙ sh.front;
+}

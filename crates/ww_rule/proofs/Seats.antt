@@ -11,7 +11,7 @@ use Rattle.ww_model.specs.State.{State, put, pick, start}
 use Rattle.ww_model.specs.Run.{at_start}
 use Rattle.ww_model.proofs.Puts.{put_here, put_else}
 use Rattle.ww_model.proofs.Counts.{one_of_nobody}
-use Rattle.ww_plain.specs.Graph.{IsGraph, node_at}
+use Rattle.ww_plain.specs.Graph.{node_at}
 use Rattle.ww_plain.specs.History.{Recorded}
 use Rattle.ww_view.specs.View.{IsBare}
 use Rattle.ww_view.proofs.Starts.{knows_start, none_at}
@@ -21,7 +21,7 @@ use Rattle.ww_rule.specs.declared.cells.Counts.{Counts}
 use Rattle.ww_rule.specs.declared.cells.Part.{Part}
 use Rattle.ww_rule.specs.declared.cells.Sight.{Sight}
 use Rattle.ww_rule.specs.declared.cells.Start.{Start}
-use Rattle.ww_rule.specs.Rule.{St, first_graph, PartFits, Sits, Speaks, IsThere, Ruled, Stays, no_counts, first_part, first_parts, first_sight}
+use Rattle.ww_rule.specs.Rule.{St, first_graph, PartFits, Sits, Speaks, IsThere, Ruled, Stays, IsSize, no_counts, first_part, first_parts, first_sight, AreNodes}
 use Rattle.ww_rule.specs.Steps.{nobody, seat_of, rest_of, first_seat, without_first, with_seat}
 use Rattle.ww_rule.proofs.Totals.{total_zero}
 use Rattle.ww_rule.proofs.Fits.{stays_as, seats_stay, place_low, there_set, there_else, there_longer}
@@ -60,8 +60,8 @@ aimed_else from to at t ne = go (ℕ_discrete (at t) from)
     go (yes e) = absurd (ne e)
     go (no _) = refl
 
-pub bare_first : (kind : Kind) (locks s : ℕ) → IsBare (first_part kind locks s).core
-bare_first kind locks s = none_at locks
+pub bare_first : (kind : Kind) (locks places s : ℕ) → IsBare (first_part kind locks places s).core
+bare_first kind locks places s = none_at locks
 
 module _ (key : Start) (c : State) (log : List Recorded) (at to : ℕ → ℕ) (counts : ℕ → Counts) (j k : ℕ) where
   -- the same facts of a number, where its view stands elsewhere
@@ -264,35 +264,35 @@ all_zero zero i = refl
 all_zero (suc n) zero = refl
 all_zero (suc n) (suc i) = all_zero n i
 
-first_at : (kind : Kind) (locks s n k : ℕ) (p : Part) → get_elem? (first_parts kind locks s n) k ≡ some p
-    → (p ≡ first_part kind locks (s + k)) × (k < n)
-first_at kind locks s zero k p e = absurd (cc)
-first_at kind locks s (suc n) zero p e = (
-  sym (some-injective (first_part kind locks s) p e)
-      ∙ ap (first_part kind locks) (let z : s ≡ s + 0 = omega arith in z),
+first_at : (kind : Kind) (locks places s n k : ℕ) (p : Part) → get_elem? (first_parts kind locks places s n) k ≡ some p
+    → (p ≡ first_part kind locks places (s + k)) × (k < n)
+first_at kind locks places s zero k p e = absurd (cc)
+first_at kind locks places s (suc n) zero p e = (
+  sym (some-injective (first_part kind locks places s) p e)
+      ∙ ap (first_part kind locks places) (let z : s ≡ s + 0 = omega arith in z),
   omega arith,
 )
-first_at kind locks s (suc n) (suc k) p e = let t = first_at kind locks (s + 1) n k p e in (
-  t.0 ∙ ap (first_part kind locks) (let z : s + 1 + k ≡ s + suc k = omega arith in z),
+first_at kind locks places s (suc n) (suc k) p e = let t = first_at kind locks places (s + 1) n k p e in (
+  t.0 ∙ ap (first_part kind locks places) (let z : s + 1 + k ≡ s + suc k = omega arith in z),
   (let h = t.1 in omega arith),
 )
 
-parts_at : (kind : Kind) (locks s n k : ℕ) → k < n → get_elem? (first_parts kind locks s n) k ≡ some (first_part kind locks (s + k))
-parts_at kind locks s zero k low = absurd (omega arith)
-parts_at kind locks s (suc n) zero low = ap (λ (t : ℕ). some (first_part kind locks t)) (let z : s ≡ s + 0 = omega arith in z)
-parts_at kind locks s (suc n) (suc k) low = parts_at kind locks (s + 1) n k (omega arith)
-    ∙ ap (λ (t : ℕ). some (first_part kind locks t)) (let z : s + 1 + k ≡ s + suc k = omega arith in z)
+parts_at : (kind : Kind) (locks places s n k : ℕ) → k < n → get_elem? (first_parts kind locks places s n) k ≡ some (first_part kind locks places (s + k))
+parts_at kind locks places s zero k low = absurd (omega arith)
+parts_at kind locks places s (suc n) zero low = ap (λ (t : ℕ). some (first_part kind locks places t)) (let z : s ≡ s + 0 = omega arith in z)
+parts_at kind locks places s (suc n) (suc k) low = parts_at kind locks places (s + 1) n k (omega arith)
+    ∙ ap (λ (t : ℕ). some (first_part kind locks places t)) (let z : s + 1 + k ≡ s + suc k = omega arith in z)
 
-module _ (key : Start) (some_seat : 1 ≤ key.seats) (few : key.seats < 17) (many : key.locks ≤ 65536)
-    (fits : length (first_graph key) ≤ key.locks) (graph : IsGraph (first_graph key)) where
+module _ (key : Start) (some_seat : 1 ≤ key.seats) (few : key.seats ≤ key.places) (size : IsSize key.places) (many : key.locks ≤ 65536)
+    (fits : length (first_graph key) ≤ key.locks) (graph : AreNodes (first_graph key)) where
   abbrev first_core : State
-  first_core = start key.kind key.locks 16
+  first_core = start key.kind key.locks key.places
 
-  first_fits : (t : ℕ) → t < key.seats → PartFits key first_core [] (λ _. 0) (λ _. no_counts) 0 (first_part key.kind key.locks t)
+  first_fits : (t : ℕ) → t < key.seats → PartFits key first_core [] (λ _. 0) (λ _. no_counts) 0 (first_part key.kind key.locks key.places t)
   first_fits t small = record {
     place = refl;
     number = small;
-    knows = knows_start key.kind key.locks 16 t (omega arith);
+    knows = knows_start key.kind key.locks key.places t (omega arith);
     counted = refl;
     own = refl;
   }
@@ -301,15 +301,15 @@ module _ (key : Start) (some_seat : 1 ≤ key.seats) (few : key.seats < 17) (man
   first_sits = record {
     part = first_fits (key.seats - 1) (omega arith);
     room = length-replicate {A = Option _} (length (first_graph key)) None;
-    held = λ n own small. absurd (true≢false (sym own ∙ bare_first key.kind key.locks (key.seats - 1) n));
-    idle = λ k p e. let t = first_at key.kind key.locks 0 (key.seats - 1) k p e in
+    held = λ n own small. absurd (true≢false (sym own ∙ bare_first key.kind key.locks key.places (key.seats - 1) n));
+    idle = λ k p e. let t = first_at key.kind key.locks key.places 0 (key.seats - 1) k p e in
         subst (λ (q : Part). PartFits key first_core [] (λ _. 0) (λ _. no_counts) 0 q × IsBare q.core) (sym t.0)
-        (first_fits (0 + k) (let h = t.1 in omega arith), bare_first key.kind key.locks (0 + k));
-    apart = λ k p e is. let t = first_at key.kind key.locks 0 (key.seats - 1) k p e in let h = t.1 in
+        (first_fits (0 + k) (let h = t.1 in omega arith), bare_first key.kind key.locks key.places (0 + k));
+    apart = λ k p e is. let t = first_at key.kind key.locks key.places 0 (key.seats - 1) k p e in let h = t.1 in
         let w = ap (λ (q : Part). q.core.who) t.0 in omega arith;
     differ = λ k l p q a b is. let w = ap (λ (x : Part). x.core.who)
-        (first_at key.kind key.locks 0 (key.seats - 1) k p a).0 in
-        let y = ap (λ (x : Part). x.core.who) (first_at key.kind key.locks 0 (key.seats - 1) l q b).0 in
+        (first_at key.kind key.locks key.places 0 (key.seats - 1) k p a).0 in
+        let y = ap (λ (x : Part). x.core.who) (first_at key.kind key.locks key.places 0 (key.seats - 1) l q b).0 in
         omega arith;
   }
 
@@ -325,8 +325,8 @@ module _ (key : Start) (some_seat : 1 ≤ key.seats) (few : key.seats < 17) (man
     speaks = dite (ℕ_discrete (key.seats - 1) t) (λ is. inl is)
         (λ isnt. inr (
           t,
-          first_part key.kind key.locks (0 + t),
-          parts_at key.kind key.locks 0 (key.seats - 1) t
+          first_part key.kind key.locks key.places (0 + t),
+          parts_at key.kind key.locks key.places 0 (key.seats - 1) t
               (omega arith),
           omega arith,
         ));
@@ -335,19 +335,22 @@ module _ (key : Start) (some_seat : 1 ≤ key.seats) (few : key.seats < 17) (man
   pub opens : (xs : List Cell) → length xs ≡ 64 + key.locks
       → ((n : ℕ) → n < length (first_graph key) → get_elem? xs n ≡ some (Content (node_at (first_graph key) n)))
       → ((n : ℕ) → n < key.locks → get_elem? xs (64 + n) ≡ some (Line []))
-      → Ruled key (opening (replicate (144 + 8 * key.locks) 0) xs (first_sight key))
+      → Ruled key (opening (replicate (16 + 8 * key.locks + 8 * key.places) 0) xs (first_sight key))
   opens xs long nodes lists = record {
     core = first_core;
     log = [];
     at = λ _. 0;
     counts = λ _. no_counts;
-    reached = at_start key.kind key.locks 16;
+    all = 0;
+    reached = at_start key.kind key.locks key.places;
     kind = refl;
     locks = refl;
     many = many;
     fits = fits;
     places = refl;
+    sizes = size;
     seats_there = few;
+    drawn = omega arith;
     strangers = λ t big. record {
       stamp = refl;
       bare = λ n own. absurd cc;
@@ -355,13 +358,13 @@ module _ (key : Start) (some_seat : 1 ≤ key.seats) (few : key.seats < 17) (man
       waits = λ n e h. absurd h;
     };
     words = record {
-      wide = length-replicate {A = ℕ} (144 + 8 * key.locks) 0;
-      owners = λ n l. all_zero (144 + 8 * key.locks) (144 + 8 * n);
-      guards = λ n l. all_zero (144 + 8 * key.locks) (144 + 8 * n + 1);
-      signs = λ t l. all_zero (144 + 8 * key.locks) (8 * t);
-      cancels = λ t l. all_zero (144 + 8 * key.locks) (8 * t + 1);
-      drawn = all_zero (144 + 8 * key.locks) 128;
-      front = all_zero (144 + 8 * key.locks) 136;
+      wide = length-replicate {A = ℕ} (16 + 8 * key.locks + 8 * key.places) 0;
+      owners = λ n l. all_zero (16 + 8 * key.locks + 8 * key.places) (16 + 8 * n);
+      guards = λ n l. all_zero (16 + 8 * key.locks + 8 * key.places) (16 + 8 * n + 1);
+      signs = λ t l. all_zero (16 + 8 * key.locks + 8 * key.places) (16 + 8 * key.locks + 8 * t);
+      cancels = λ t l. all_zero (16 + 8 * key.locks + 8 * key.places) (16 + 8 * key.locks + 8 * t + 1);
+      drawn = all_zero (16 + 8 * key.locks + 8 * key.places) 0;
+      front = all_zero (16 + 8 * key.locks + 8 * key.places) 8;
     };
     homes = record {
       deep = length-map xs (λ (x : Cell). some x) ∙ long;
@@ -373,7 +376,7 @@ module _ (key : Start) (some_seat : 1 ≤ key.seats) (few : key.seats < 17) (man
       graph = graph;
       size = refl;
       front = refl;
-      stamps = sym (total_zero 16);
+      stamps = sym (total_zero key.places);
       balanced = λ t u. let z = one_of_nobody t u in omega arith;
       strangers = λ t big. refl;
       few = λ t. omega arith;

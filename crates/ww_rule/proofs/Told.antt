@@ -1,30 +1,36 @@
 -- What the words and lists that a seat finds tell it, by what its view knows.
-use Rattle.std.proofs.Common.{◌≡◌, length, inl, inr, ⊎_elim, ℕ, zero, suc, ◌<◌, Bool, true, false, true≢false, Some, refl, sym, ap, ◌∙◌, subst, arith}
+use Rattle.std.proofs.Common.{◌≡◌, ◌==◌, ◌⊎◌, length, inl, inr, ⊎_elim, ℕ, zero, suc, ◌<◌, Bool, true, false, true≢false, Option, Some, None, refl, sym, ap, ◌∙◌, subst, arith}
 use mathlib.Core.Logic.{dite}
 use native.Mathlib.Decide.{dec_le}
 use Rattle.ww_word.specs.declared.owner.Owner.{Owner}
 use Rattle.ww_word.specs.Owner.{is_handed}
+use Rattle.ww_word.specs.AnySeats.{IsValid, packed, packed_as, seat_word, unflagged}
+use Rattle.ww_word.proofs.AnyWords.{flags_apart, unflagged_tells}
 use Rattle.ww_queue.specs.declared.kind.Kind.{Kind}
 use Rattle.ww_queue.specs.declared.kind.Kind.TheVariants.{WoundWait, WaitDie}
 use Rattle.ww_queue.specs.declared.entry.Entry.{Entry}
 use Rattle.ww_queue.specs.Queue.{Has, Stands, Before, entry_of}
 use Rattle.ww_queue.specs.Rules.{must_die}
+use Rattle.ww_queue.proofs.Outcomes.{same_number}
 use Rattle.ww_queue.proofs.Leaves.{entry_when}
 use Rattle.ww_queue.proofs.Aheads.{before_older}
 use Rattle.ww_queue.proofs.Deaths.{dies_why}
-use Rattle.ww_model.specs.declared.state.Holder.TheVariants.{Taken}
+use Rattle.ww_model.specs.declared.state.Holder.TheVariants.{Taken, Handed}
 use Rattle.ww_model.specs.State.{State, any_below, owner_as, word_of}
 use Rattle.ww_model.specs.Lawful.{IsLawful}
-use Rattle.ww_model.proofs.Outcomes.{same_test}
+use Rattle.ww_model.proofs.Outcomes.{same_test, number_same}
 use Rattle.ww_model.proofs.Slots.{below_found, found_below}
 use Rattle.ww_model.proofs.Dues.{seat_from}
 use Rattle.ww_model.proofs.Words.{handed_same}
+use Rattle.ww_model.proofs.Ranges.{owners_are_seats}
+use Rattle.ww_model.specs.Run.{Reached}
 use Rattle.ww_view.specs.declared.view.View.{View}
-use Rattle.ww_view.specs.View.{owns, Knows}
+use Rattle.ww_view.specs.View.{owns, IsAway, Knows}
 use Rattle.ww_view.specs.May.{MayDie}
 use Rattle.ww_view.specs.Made.{entry_of_view}
 use Rattle.ww_view.proofs.Tells.{no_flags}
 use Rattle.ww_view.proofs.Deaths.{die_shows}
+use Rattle.ww_rule.specs.Steps.{taker, IsToldBy}
 use Rattle.ww_rule.specs.Guards.{StandsAs, IsSeenBy}
 use Rattle.ww_rule.specs.Waiting.{StandsIfWaiting}
 
@@ -73,8 +79,10 @@ module _ (c : State) (v : View) (l : IsLawful c) (k : Knows c v) where
           let here = l.base.guards.own_guard m n h.0 h.1 ((k.guard.guards n inside).1 ∙ ap suc (sym h.2)) in
           inr (subst (λ q. Stands q v.who) (ap c.queue here ∙ sym (k.queues.list n inside)) h)
 
-  pub seen_by : (n : ℕ) (o : Owner) → v.inside ≡ suc n → o ≡ word_of c n → IsSeenBy v n o
-  seen_by n o inside is = record {
+  pub seen_by : (n : ℕ) (o : Owner) → Reached c → v.inside ≡ suc n → o ≡ word_of c n → IsSeenBy v n o
+  seen_by n o run inside is = record {
+    there = λ u names. let low = owners_are_seats c run n u
+        (seat_from c (c.owner n) u (sym (ap (λ (x : Owner). x.seat) is) ∙ names)) in let same = k.itself.seats in omega arith;
     own = λ lacks names. ⊎_elim
         (λ taken. absurd (true≢false (sym (k.owned.lacks n taken) ∙ lacks)))
         (λ handed. ap is_handed is ∙ handed_same c (c.owner n) (c.asked n) (c.queue n) ∙ ap (λ h. is_handed (owner_as c h)) handed)
@@ -97,3 +105,31 @@ module _ (c : State) (v : View) (l : IsLawful c) (k : Knows c v) where
           (λ x. let older = before_older (c.queue n) x.0 d.0 at.ascends (subst (λ q. Before q x.0 d.0) list x.1) x.2
           d.3.0 in let same = x.3 in omega arith)
           d.4
+
+-- ---- an owner word tells whose the lock is
+
+module _ (c : State) (v : View) (l : IsLawful c) (k : Knows c v) (away : IsAway v) (n : ℕ)
+    (valid : IsValid (word_of c n)) (its : IsValid (taker v)) where
+  -- a seat that is away is handed nothing
+  taken_only : (c.owner n ≡ Taken v.who) ⊎ (c.owner n ≡ Handed v.who) → owns v n ≡ true
+  taken_only = ⊎_elim (λ own. k.owned.lacks n own)
+      (λ handed. absurd (let z = k.queues.waits n ((l.base.owners.at n).handed_stands v.who handed) in let y = away.1 in omega (arith, z, y)))
+
+  by_word : unflagged (packed (word_of c n)) ≡ unflagged (packed (taker v)) → owns v n ≡ true
+  by_word same = let e = unflagged_tells (word_of c n) v.who v.stamp valid its.seating same in
+      taken_only (seat_from c (c.owner n) v.who e.0)
+
+  by_view : owns v n ≡ true → unflagged (packed (word_of c n)) ≡ unflagged (packed (taker v))
+  by_view own =
+      let taken : c.owner n ≡ Taken v.who = k.owned.has n own in
+      let seat : (word_of c n).seat ≡ Some v.who = ap (λ o. (owner_as c o).seat) taken in
+      let stamp : (word_of c n).stamp ≡ v.stamp = ap (λ o. (owner_as c o).stamp) taken ∙ sym k.itself.stamp in
+      ap (λ (o : Option ℕ). unflagged (packed_as (word_of c n) o)) seat
+      ∙ ap (λ (t : ℕ). unflagged (seat_word (word_of c n).flags v.who t)) stamp
+      ∙ flags_apart (word_of c n).flags v.who v.stamp valid.flags
+
+  -- the word is the seat's own, but for its flags, just where the seat owns the lock
+  pub told_by : IsToldBy v n (packed (word_of c n))
+  told_by = same_test (owns v n) (unflagged (packed (word_of c n)) == unflagged (packed (taker v)))
+      (λ own. number_same (unflagged (packed (word_of c n))) (unflagged (packed (taker v))) (by_view own))
+      (λ same. by_word (same_number (unflagged (packed (word_of c n))) (unflagged (packed (taker v))) same))

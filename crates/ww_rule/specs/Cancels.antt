@@ -2,7 +2,7 @@
 use Rattle.std.specs.Prelude.{ℕ, ◌≡◌, ◌≢◌, ◌≤◌, ◌-◌, ◌∷◌, Some}
 use Rattle.atomic_table.specs.Table.{Step}
 use Rattle.ww_word.specs.declared.owner.Owner.{Owner}
-use Rattle.ww_word.specs.Owner.{packed}
+use Rattle.ww_word.specs.AnySeats.{packed}
 use Rattle.ww_view.specs.May.{MayStop}
 use Rattle.ww_view.specs.Made.{found_pending, found_uncancelled, has_heeded, interrupted}
 use Rattle.ww_rule.specs.declared.cells.Cell.{Cell}
@@ -23,7 +23,7 @@ abbrev pub finding_pending : Sight → Sight
 finding_pending v = knowing v (found_pending v.part.core)
 
 abbrev pub cancels_to : Step Cell → Sat → ℕ → Sat → Type 0
-cancels_to st m found m' = (u : ℕ) → st.word ≡ cancel_at u →
+cancels_to st m found m' = (u : ℕ) → st.word ≡ cancel_at m.0.part.core.room u →
     (found ≡ 0 → m' ≡ (cancelling m.0 u, m.1)) × (found ≢ 0 → m' ≡ (finding_pending m.0, m.1))
 
 -- ---- heed: the own cancel becomes 0, and if one was pending the seat has heeded it; else it has found none
@@ -40,8 +40,8 @@ heeding v mark = record v {
 }
 
 abbrev pub heeds_to : Step Cell → Sat → ℕ → Sat → Type 0
-heeds_to st m found m' = st.word ≡ cancel_at m.0.part.core.who →
-    (found ≡ 0 → m' ≡ (finding_uncancelled m.0, m.1)) × (found ≢ 0 → m' ≡ (heeding m.0 found, m.1)) × (found ≤ 16)
+heeds_to st m found m' = st.word ≡ cancel_at m.0.part.core.room m.0.part.core.who →
+    (found ≡ 0 → m' ≡ (finding_uncancelled m.0, m.1)) × (found ≢ 0 → m' ≡ (heeding m.0 found, m.1)) × (found ≤ m.0.part.core.seats)
 
 -- ---- leave: out of the wait list, for the cancel that was heeded
 

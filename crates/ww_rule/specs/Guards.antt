@@ -2,7 +2,8 @@
 use Rattle.std.specs.Prelude.{ℕ, suc, ◌≡◌, ◌≢◌, ◌<◌, ◌^◌, true, false, List, [], ◌∷◌, Some}
 use Rattle.atomic_table.specs.Table.{Step, rest}
 use Rattle.ww_word.specs.declared.owner.Owner.{Owner}
-use Rattle.ww_word.specs.Owner.{IsValid, packed, is_handed}
+use Rattle.ww_word.specs.Owner.{is_handed}
+use Rattle.ww_word.specs.AnySeats.{Fits, IsValid, packed}
 use Rattle.ww_queue.specs.declared.entry.Entry.{Entry}
 use Rattle.ww_queue.specs.Queue.{Has, entry_of, Once, StandsNot}
 use Rattle.ww_view.specs.declared.view.View.{View}
@@ -20,8 +21,8 @@ abbrev pub lost : Sight → Sight
 lost v = knowing v (stepped v.part.core)
 
 -- each waiter is one of the seats, and an owner word has room for its stamp
-abbrev pub AreSeats : List Entry → Type 0
-AreSeats q = (e : Entry) → Has q e → (e.seat < 16) × (e.stamp < 2 ^ 56)
+abbrev pub AreSeats : ℕ → List Entry → Type 0
+AreSeats seats q = (e : Entry) → Has q e → (e.seat < seats) × Fits e.seat e.stamp
 
 -- each waiter stands in the list once: the seat itself not where it waits for no lock, and where it waits for this one
 -- as its view has it
@@ -41,7 +42,7 @@ shutting_out v = knowing v (shut_out v.part.core)
 
 abbrev pub enters_to : Step Cell → Sat → ℕ → Sat → Type 0
 enters_to st m found m' = (n : ℕ) → st.word ≡ guard_at n →
-    (found ≡ 0 → (q : List Entry) × AreSeats q × StandsAs m.0.part.core n q
+    (found ≡ 0 → (q : List Entry) × AreSeats m.0.part.core.seats q × StandsAs m.0.part.core n q
     × (m' ≡ (entering m.0 n q, (list_at n, Line q) ∷ m.1))) × (found ≢ 0 → m' ≡ (shutting_out m.0, m.1))
 
 -- ---- exit: out of the guard, and the wait list goes home
@@ -57,9 +58,10 @@ exits_to st m stored m' = m' ≡ (exiting m.0, rest m.1)
 abbrev pub looking : Sight → Owner → Sight
 looking v o = knowing v (has_looked v.part.core o)
 
--- what the word tells a seat that has this view: it names the seat only where the lock is the seat's, or handed to it;
+-- what the word tells a seat that has this view: the owner is one of the seats; it names the seat only where the lock is the seat's, or handed to it;
 -- and a flag stands where somebody waits
 pub record IsSeenBy (v : View) (n : ℕ) (o : Owner) : Type 0 where
+  pub there : (u : ℕ) → o.seat ≡ Some u → u < v.seats
   pub own : owns v n ≡ false → o.seat ≡ Some v.who → is_handed o ≡ true
   pub flags : v.list ≢ [] → o.flags ≢ 0
 

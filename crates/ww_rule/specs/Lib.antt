@@ -8,4 +8,3 @@ pub mod Signs
 pub mod Cancels
 pub mod Homes
 pub mod Records
-pub mod Pages

@@ -1,11 +1,12 @@
 -- The rule of the table: there is a reached state of the core that the words, the lists and nodes at home, and the
 -- views show.
-use Rattle.std.specs.Prelude.{ℕ, zero, suc, ◌≡◌, ◌≢◌, ◌+◌, ◌-◌, ◌^◌, ◌<◌, ◌≤◌, ◌⊎◌, ◌==◌, true, List, [], ◌∷◌, length, map, replicate, slice_index, Some, None}
+use Rattle.std.specs.Prelude.{ℕ, zero, suc, ◌≡◌, ◌≢◌, ◌+◌, ◌-◌, ◌^◌, ◌<◌, ◌≤◌, ◌⊎◌, ◌==◌, min, nat_lt, if◌then◌else◌, true, List, [], ◌∷◌, length, map, replicate, slice_index, Some, None, Bool, false}
+use Rattle.std.specs.List.{AllByRecursion}
 use mathlib.Core.Option.{some}
 use mathlib.Core.Option as maybe
 use lib.ListN.{get_elem?}
 use Rattle.atomic_table.specs.Table.{State as TableState, Me}
-use Rattle.ww_word.specs.Owner.{packed}
+use Rattle.ww_word.specs.AnySeats.{packed, most_for}
 use Rattle.ww_queue.specs.declared.kind.Kind.{Kind}
 use Rattle.ww_queue.specs.declared.entry.Entry.{Entry}
 use Rattle.ww_queue.specs.Queue.{StandsNot}
@@ -18,7 +19,7 @@ use Rattle.ww_model.specs.Event.{Possible, after}
 use Rattle.ww_model.specs.Run.{Reached}
 use Rattle.ww_plain.specs.declared.node.Node.{Node}
 use Rattle.ww_plain.specs.declared.history.Record.{Record}
-use Rattle.ww_plain.specs.Graph.{IsGraph, node_at}
+use Rattle.ww_plain.specs.Graph.{IsNodeOf, node_at}
 use Rattle.ww_plain.specs.History.{Recorded, recorded_of, IsLegal, last_graph, part_of}
 use Rattle.ww_model.specs.State.{word_of}
 use Rattle.ww_view.specs.View.{Knows, IsBare, owns, first_view}
@@ -38,9 +39,19 @@ St = TableState Cell Sight
 abbrev pub Sat : Type 0
 Sat = Me Cell Sight
 
--- the graph that the table was made with
+-- the nodes of this graph; or none, of a table whose locks are bare
+abbrev pub nodes_of : Bool → List Node → List Node
+nodes_of true graph = []
+nodes_of false graph = graph
+
+-- the nodes that the table was made with
 abbrev pub first_graph : Start → List Node
-first_graph key = key.nodes.value
+first_graph key = nodes_of key.bare key.nodes.value
+
+-- 64 nodes at most, of which each port names one that is there
+pub record AreNodes (graph : List Node) : Type 0 where
+  pub few : length graph ≤ 64
+  pub closed : AllByRecursion (IsNodeOf (length graph)) graph
 
 -- a log, as the plain graph tells records
 abbrev pub own_of : List (ℕ × Record) → List (ℕ × Recorded)
@@ -51,14 +62,22 @@ abbrev pub total : ℕ → (ℕ → ℕ) → ℕ
 total zero f = 0
 total (suc n) f = f n + total n f
 
--- the words show the core
-pub record Shown (locks : ℕ) (c : State) (words : List ℕ) : Type 0 where
-  pub wide : length words ≡ words_for locks
+-- there are 16 seats, or more
+abbrev pub IsSize : ℕ → Type 0
+IsSize places = (places ≡ 16) ⊎ ((16 < places) × (places < 4096))
+
+-- how many seats the core has for so many seats of the table
+abbrev pub places_for : ℕ → ℕ
+places_for seats = if nat_lt 16 seats then seats else 16
+
+-- the words show the core, of so many locks and seats, and how often a stamp was drawn
+pub record Shown (locks places all : ℕ) (c : State) (words : List ℕ) : Type 0 where
+  pub wide : length words ≡ words_for locks places
   pub owners : (n : ℕ) → n < locks → slice_index words (owner_at n) ≡ packed (word_of c n)
   pub guards : (n : ℕ) → n < locks → slice_index words (guard_at n) ≡ c.guard n
-  pub signs : (s : ℕ) → s < 16 → slice_index words (sign_at s) ≡ c.sign s
-  pub cancels : (s : ℕ) → s < 16 → slice_index words (cancel_at s) ≡ c.cancel s
-  pub drawn : slice_index words stamp_at ≡ c.drawn
+  pub signs : (s : ℕ) → s < places → slice_index words (sign_at locks s) ≡ c.sign s
+  pub cancels : (s : ℕ) → s < places → slice_index words (cancel_at locks s) ≡ c.cancel s
+  pub drawn : slice_index words stamp_at ≡ all
   pub front : slice_index words front_at ≡ c.commits
 
 -- a node whose lock no seat has taken, and a list whose guard is free, is at home
@@ -84,12 +103,12 @@ no_counts = record { draws = 0; cancelled = []; heeded = [] }
 
 -- The commits so far are a legal history, as many as the front word says. Each seat drew fewer than 2^52 times and
 -- committed fewer than 2^32 times, and the draws make up the stamp word. Nothing is counted of a number that no seat has.
-pub record Counted (key : Start) (drawn commits : ℕ) (cancel : ℕ → ℕ) (log : List Recorded) (counts : ℕ → Counts) : Type 0 where
+pub record Counted (key : Start) (all commits : ℕ) (cancel : ℕ → ℕ) (log : List Recorded) (counts : ℕ → Counts) : Type 0 where
   pub legal : IsLegal (first_graph key) log
-  pub graph : IsGraph (last_graph (first_graph key) log)
+  pub graph : AreNodes (last_graph (first_graph key) log)
   pub size : length (last_graph (first_graph key) log) ≡ length (first_graph key)
   pub front : commits ≡ length log
-  pub stamps : drawn ≡ total 16 (λ t. (counts t).draws)
+  pub stamps : all ≡ total key.places (λ t. (counts t).draws)
   pub balanced : Balanced cancel counts
   pub strangers : (t : ℕ) → key.seats ≤ t → counts t ≡ no_counts
   pub few : (t : ℕ) → (counts t).draws < 2 ^ 52
@@ -137,17 +156,21 @@ pub record Ruled (key : Start) (s : St) : Type 0 where
   pub log : List Recorded
   pub at : ℕ → ℕ
   pub counts : ℕ → Counts
+  pub all : ℕ
   pub reached : Reached core
   pub kind : core.kind ≡ key.kind
   pub locks : core.locks ≡ key.locks
   pub many : key.locks ≤ 65536
   pub fits : length (first_graph key) ≤ key.locks
-  pub places : core.seats ≡ 16
-  pub seats_there : key.seats < 17
+  pub places : core.seats ≡ key.places
+  pub sizes : IsSize key.places
+  pub seats_there : key.seats ≤ key.places
+  -- a stamp that was drawn beyond the greatest one is that of no context
+  pub drawn : min all (most_for key.places) ≡ core.drawn
   pub strangers : (t : ℕ) → key.seats ≤ t → IsStranger core t
-  pub words : Shown key.locks core s.words
+  pub words : Shown key.locks key.places all core s.words
   pub homes : AtHome key.locks (last_graph (first_graph key) log) core.owner core.queue core.guard s.homes
-  pub counted : Counted key core.drawn core.commits core.cancel log counts
+  pub counted : Counted key all core.commits core.cancel log counts
   pub seats : (j : ℕ) (v : Sight) → get_elem? s.views j ≡ some v → v.seated ≡ true → Sits key core log at counts j v
   pub there : (t : ℕ) → t < key.seats → IsThere s.views (at t) t
 
@@ -170,20 +193,20 @@ pub record Stays (key : Start) (s : St) (r : Ruled key s) (s' : St) : Type 0 whe
 
 -- ---- at the start
 
--- a number that did nothing yet, at a table of so many locks
-abbrev pub first_part : Kind → ℕ → ℕ → Part
-first_part kind locks s = record { core = first_view kind locks s; counts = no_counts; own = [] }
+-- a number that did nothing yet, at a table of so many locks and seats
+abbrev pub first_part : Kind → ℕ → ℕ → ℕ → Part
+first_part kind locks places s = record { core = first_view kind locks places s; counts = no_counts; own = [] }
 
 -- the numbers s, s + 1 and so on, n of them
-abbrev pub first_parts : Kind → ℕ → ℕ → ℕ → List Part
-first_parts kind locks s zero = []
-first_parts kind locks s (suc n) = first_part kind locks s ∷ first_parts kind locks (s + 1) n
+abbrev pub first_parts : Kind → ℕ → ℕ → ℕ → ℕ → List Part
+first_parts kind locks places s zero = []
+first_parts kind locks places s (suc n) = first_part kind locks places s ∷ first_parts kind locks places (s + 1) n
 
 -- the seat from which the others are cut off: it has the last number
 abbrev pub first_sight : Start → Sight
 first_sight key = record {
   seated = true;
-  part = first_part key.kind key.locks (key.seats - 1);
+  part = first_part key.kind key.locks key.places (key.seats - 1);
   held = replicate (length (first_graph key)) None;
-  idle = first_parts key.kind key.locks 0 (key.seats - 1);
+  idle = first_parts key.kind key.locks key.places 0 (key.seats - 1);
 }

@@ -20,7 +20,7 @@ abbrev pub noting : Sight → ℕ → Sight
 noting v u = knowing v (noted v.part.core u)
 
 abbrev pub signs_to : Step Cell → Sat → ℕ → Sat → Type 0
-signs_to st m found m' = (u : ℕ) → st.word ≡ sign_at u →
+signs_to st m found m' = (u : ℕ) → st.word ≡ sign_at m.0.part.core.room u →
     (found ≡ 0 → m' ≡ (condemning m.0 u, m.1)) × (found ≢ 0 → m' ≡ (noting m.0 u, m.1))
 
 -- ---- own_sign: what the seat finds in its own sign stays so, unless it is 0 and others may sign the seat
@@ -32,7 +32,7 @@ abbrev pub finding_none : Sight → Sight
 finding_none v = knowing v (found_none v.part.core)
 
 abbrev pub reads_to : Step Cell → Sat → ℕ → Sat → Type 0
-reads_to st m found m' = st.word ≡ sign_at m.0.part.core.who →
+reads_to st m found m' = st.word ≡ sign_at m.0.part.core.room m.0.part.core.who →
     (found ≢ 0 → m' ≡ (reading m.0 found, m.1)) × (found ≡ 0 → IsQuiet m.0.part.core → m' ≡ (reading m.0 0, m.1))
     × (found ≡ 0 → ¬ IsQuiet m.0.part.core → m' ≡ (finding_none m.0, m.1))
 
@@ -42,4 +42,4 @@ abbrev pub clearing : Sight → Sight
 clearing v = knowing v (cleared v.part.core)
 
 abbrev pub clears_to : Step Cell → Sat → ℕ → Sat → Type 0
-clears_to st m stored m' = st.word ≡ sign_at m.0.part.core.who → m' ≡ (clearing m.0, m.1)
+clears_to st m stored m' = st.word ≡ sign_at m.0.part.core.room m.0.part.core.who → m' ≡ (clearing m.0, m.1)

@@ -1,8 +1,9 @@
 -- What each step asks of the seat, and what it makes of it.
-use Rattle.std.specs.Prelude.{ℕ, ◌≡◌, ◌≢◌, ◌<◌, ◌+◌, ◌-◌, ◌^◌, true, false, List, [], ◌∷◌, ◌++◌, length, map, replicate, slice_set, Option, Some, None, IsTrue}
+use Rattle.std.specs.Prelude.{ℕ, ◌≡◌, ◌≢◌, ◌<◌, ◌≤◌, ◌+◌, ◌-◌, ◌^◌, true, false, List, [], ◌∷◌, ◌++◌, length, map, replicate, slice_set, Option, Some, None, IsTrue, ◌==◌}
 use Rattle.std.specs.List.{AllByRecursion}
 use Rattle.atomic_table.specs.Table.{Step, rest}
 use Rattle.ww_word.specs.declared.owner.Owner.{Owner}
+use Rattle.ww_word.specs.AnySeats.{packed, most_for, unflagged}
 use Rattle.ww_queue.specs.declared.kind.Kind.TheVariants.{WoundWait}
 use Rattle.ww_plain.specs.declared.node.Node.{Node}
 use Rattle.ww_plain.specs.declared.history.Record.{Record}
@@ -47,8 +48,17 @@ drawing v stamp = record v {
   };
 }
 
+-- all stamps are spent: no context begins
+abbrev pub drawing_none : Sight → Sight
+drawing_none v = record v {
+  part = record (v.part) { counts = record (v.part.counts) { draws = v.part.counts.draws + 1 } };
+}
+
 abbrev pub draws_to : Step Cell → Sat → ℕ → Sat → Type 0
-draws_to st m found m' = st.word ≡ stamp_at → (found < 2 ^ 56 - 1) × (m' ≡ (drawing m.0 (found + 1), m.1))
+draws_to st m found m' = st.word ≡ stamp_at → (found < 2 ^ 64 - 1)
+    × (found < most_for m.0.part.core.seats → m' ≡ (drawing m.0 (found + 1), m.1))
+    × (most_for m.0.part.core.seats ≤ found → m' ≡ (drawing_none m.0, m.1))
+    × (m.0.part.core.seats ≡ 16 → found < most_for m.0.part.core.seats)
 
 -- ---- take_free: one try to take a lock at once
 
@@ -74,15 +84,30 @@ abbrev pub gives_to : Step Cell → Sat → ℕ → Sat → Type 0
 gives_to st m found m' = (n : ℕ) → st.word ≡ owner_at n →
     (found ≡ st.first → m' ≡ (giving m.0 n, rest m.1)) × (found ≢ st.first → m' ≡ (keeping m.0, m.1))
 
--- ---- the same of a lock that guards no node: no slot comes or goes
+-- ---- the same of a lock that guards no node: no slot comes or goes, and the word tells whether the seat owns it
 
+-- what an owner word tells a seat that is away: but for its flags it is the seat's own just where it owns the lock
+abbrev pub IsToldBy : View → ℕ → ℕ → Type 0
+IsToldBy v n found = owns v n ≡ (unflagged found == unflagged (packed (taker v)))
+
+-- it is taken where the word was 0; where the seat owns it nothing changes
 abbrev pub takes_bare_to : Step Cell → Sat → ℕ → Sat → Type 0
-takes_bare_to st m found m' = (n : ℕ) → st.word ≡ owner_at n →
-    (found ≡ 0 → m' ≡ (knowing m.0 (fast_taken m.0.part.core n), m.1)) × (found ≢ 0 → m' ≡ (knowing m.0 (fast_missed m.0.part.core), m.1))
+takes_bare_to st m found m' = (n : ℕ) → st.word ≡ owner_at n → IsToldBy m.0.part.core n found
+    × (found ≡ 0 → m' ≡ (knowing m.0 (fast_taken m.0.part.core n), m.1))
+    × (found ≢ 0 → owns m.0.part.core n ≡ true → m' ≡ m)
+    × (found ≢ 0 → owns m.0.part.core n ≡ false → m' ≡ (knowing m.0 (fast_missed m.0.part.core), m.1))
 
+-- it is released where the word was the seat's own without flags; where the seat doesn't own it nothing changes
 abbrev pub gives_bare_to : Step Cell → Sat → ℕ → Sat → Type 0
-gives_bare_to st m found m' = (n : ℕ) → st.word ≡ owner_at n →
-    (found ≡ st.first → m' ≡ (knowing m.0 (fast_given m.0.part.core n), m.1)) × (found ≢ st.first → m' ≡ (keeping m.0, m.1))
+gives_bare_to st m found m' = (n : ℕ) → st.word ≡ owner_at n → IsToldBy m.0.part.core n found
+    × (found ≡ st.first → m' ≡ (knowing m.0 (fast_given m.0.part.core n), m.1))
+    × (found ≢ st.first → owns m.0.part.core n ≡ true → m' ≡ (keeping m.0, m.1))
+    × (found ≢ st.first → owns m.0.part.core n ≡ false → m' ≡ m)
+
+-- ---- owns: the owner word of any lock, read by a seat that is away, which tells whether it owns the lock
+
+abbrev pub owns_to : Step Cell → Sat → ℕ → Sat → Type 0
+owns_to st m found m' = (m' ≡ m) × ((n : ℕ) → st.word ≡ owner_at n → IsToldBy m.0.part.core n found)
 
 -- ---- end: the context ends, where the own sign is 0
 
@@ -92,7 +117,7 @@ pub record MayEnd (v : View) : Type 0 where
   pub bare : IsBare v
 
 abbrev pub ends_to : Step Cell → Sat → ℕ → Sat → Type 0
-ends_to st m found m' = st.word ≡ sign_at m.0.part.core.who →
+ends_to st m found m' = st.word ≡ sign_at m.0.part.core.room m.0.part.core.who →
     (found ≡ 0 → m' ≡ (knowing m.0 (ended m.0.part.core), m.1)) × (found ≢ 0 → m' ≡ (knowing m.0 (has_read m.0.part.core found), m.1))
     × ((k : ℕ) → m.0.part.core.sign ≡ Some k → found ≡ k)
 
@@ -133,13 +158,13 @@ placing v place r = record v {
 -- its place is above all that it had
 abbrev pub places_to : Option Record → Step Cell → Sat → ℕ → Sat → Type 0
 places_to about st m found m' = (r : Record) → about ≡ Some r → (m' ≡ (placing m.0 found r, m.1))
-    × AllByRecursion (λ p. p.0 < found) m.0.part.own × (found < 2 ^ 37)
+    × AllByRecursion (λ p. p.0 < found) m.0.part.own × (found < 2 ^ 44)
 
 -- ---- splitting and joining seats
 
 -- nobody: what is left of a seat that was joined to another
 abbrev pub nobody : Sight
-nobody = record { seated = false; part = first_part WoundWait 0 0; held = []; idle = [] }
+nobody = record { seated = false; part = first_part WoundWait 0 0 0; held = []; idle = [] }
 
 abbrev pub seat_of : ℕ → Part → Sight
 seat_of size p = record { seated = true; part = p; held = replicate size None; idle = [] }

@@ -2,7 +2,7 @@
 use Rattle.std.specs.Prelude.{ℕ, suc, ◌≡◌, ◌≢◌, ◌<◌, ◌⊎◌, ◌==◌, Bool, List, [], ◌∷◌, length, slice_set, Some, None}
 use Rattle.atomic_table.specs.Table.{Step, rest}
 use Rattle.ww_word.specs.declared.owner.Owner.{Owner}
-use Rattle.ww_word.specs.Owner.{IsValid, packed}
+use Rattle.ww_word.specs.AnySeats.{IsValid, packed}
 use Rattle.ww_queue.specs.Queue.{Stands, StandsNot, IsNewStamp}
 use Rattle.ww_plain.specs.declared.node.Node.{Node}
 use Rattle.ww_plain.specs.Graph.{IsNodeOf}
@@ -50,7 +50,7 @@ StandsIfWaiting v = (v.waits ≡ 0) ⊎ Stands v.list v.who
 
 -- the list has room for the seat, which doesn't stand in it, and no waiter has its stamp
 pub record HasPlace (v : View) : Type 0 where
-  pub room : length v.list < 16
+  pub room : length v.list < 4096
   pub seat : StandsNot v.list v.who
   pub stamp : IsNewStamp v.list v.stamp
 

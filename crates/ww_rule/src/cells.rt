@@ -26,9 +26,9 @@ pub struct Counts {
     /// How often it drew a stamp.
     pub draws: u64,
     /// The seats whose cancel it set, the last one first.
-    pub cancelled: LinkedList<u8>,
+    pub cancelled: LinkedList<u16>,
     /// The seats whose cancel it heeded, the last one first.
-    pub heeded: LinkedList<u8>,
+    pub heeded: LinkedList<u16>,
 }
 
 /// What the table has of a seat. No value of it is made.
@@ -48,8 +48,12 @@ pub struct Start {
     pub kind: Kind,
     /// How many locks there are: the first ones guard the nodes, and the others nothing.
     pub locks: u32,
-    pub seats: u8,
+    pub seats: u16,
+    /// How many seats the core has: 16, or more.
+    pub places: u16,
     pub nodes: Snapshot<Graph>,
+    /// No lock guards a node, so the graph counts for nothing.
+    pub bare: bool,
 }
 
 pub struct Words;

@@ -7,6 +7,7 @@ ghost use Rattle.ww_plain.specs.declared.node.Node.{Node};
 ghost use Rattle.ww_plain.specs.Graph.{node_at};
 ghost use Rattle.ww_rule.specs.declared.cells.Cell.TheVariants.{Content, Line};
 ghost use Rattle.ww_rule.specs.Layout.{slots_for};
+ghost use Rattle.ww_rule.specs.Rule.{nodes_of};
 ghost use Rattle.ww_rule.specs.Homes.{AreSlots, AreTakenBelow};
 
 use crate::cells::Cell;
@@ -16,24 +17,27 @@ use atomic_table::Closed;
 use std::alloc::{AllocError, Global};
 use ww_plain::{Graph, Node};
 
-/// What the slots have at the start.
-pub fn slots(alloc: Global, graph: &Graph, locks: u32) -> Result<Vec<Cell>, AllocError>
+/// What the slots have at the start, where the locks guard the nodes of the graph, or none does.
+pub fn slots(alloc: Global, graph: &Graph, bare: bool, locks: u32) -> Result<Vec<Cell>, AllocError>
     requires { locks ≤ 65536 }
-    ensures { IfOk result (λ slots. AreSlots graph.now (slots_for locks) slots.items) }
+    ensures { IfOk result (λ slots. AreSlots (nodes_of bare graph.now) (slots_for locks) slots.items) }
 {
     let count = layout::slots(locks);
     let mut slots = Vec::with_capacity(alloc, count)?;
     for n in 0..count {
-        slots.push_reserved(cell(alloc, graph, n));
+        slots.push_reserved(cell(alloc, graph, bare, n));
     }
     Ok(slots)
 }
 
 /// What a slot has at the start.
-fn cell(alloc: Global, graph: &Graph, n: usize) -> Cell
-    ensures node { n < length graph.now → result ≡ Content (node_at graph.now n) }
-    ensures list { length graph.now ≤ n → result ≡ Line [] }
+fn cell(alloc: Global, graph: &Graph, bare: bool, n: usize) -> Cell
+    ensures node { n < length (nodes_of bare graph.now) → result ≡ Content (node_at (nodes_of bare graph.now) n) }
+    ensures list { length (nodes_of bare graph.now) ≤ n → result ≡ Line [] }
 {
+    if bare {
+        return Cell::Line(Waiters::new(alloc));
+    }
     if n < usize::from(graph.size()) {
         Cell::Content(graph.node(n as u8))
     } else {

@@ -2,18 +2,19 @@
 ghost use Rattle.std.specs.Prelude.{◌≡◌, ◌<◌, ◌≤◌};
 ghost use Rattle.ww_rule.specs.Layout.{owner_at, guard_at, sign_at, cancel_at, list_at, words_for, slots_for};
 
-/// The stamp drawn last.
-pub const STAMP: usize = 128;
+/// How often a stamp was drawn.
+pub const STAMP: usize = 0;
 
 /// The number of commits.
-pub const FRONT: usize = 136;
+pub const FRONT: usize = 8;
 
-/// How many words a table of so many locks has, most of them unused: they keep the others on cache lines of their own.
-pub fn words(locks: u32) -> usize
+/// How many words a table of so many locks and seats has, most of them unused: they keep the others on cache lines of
+/// their own.
+pub fn words(locks: u32, seats: u16) -> usize
     requires { locks ≤ 65536 }
-    ensures { result ≡ words_for locks }
+    ensures { result ≡ words_for locks seats }
 {
-    144 + 8 * locks as usize
+    16 + 8 * locks as usize + 8 * usize::from(seats)
 }
 
 /// How many slots a table of so many locks has.
@@ -29,7 +30,7 @@ pub fn owner_word(lock: u32) -> usize
     requires { lock < 65536 }
     ensures { result ≡ owner_at lock }
 {
-    144 + 8 * lock as usize
+    16 + 8 * lock as usize
 }
 
 /// The guard word of a lock.
@@ -37,23 +38,21 @@ pub fn guard_word(lock: u32) -> usize
     requires { lock < 65536 }
     ensures { result ≡ guard_at lock }
 {
-    144 + 8 * lock as usize + 1
+    16 + 8 * lock as usize + 1
 }
 
-/// The sign word of a seat.
-pub fn sign_word(seat: u8) -> usize
-    requires { seat < 16 }
-    ensures { result ≡ sign_at seat }
+/// The sign word of a seat, at a table of so many locks.
+pub fn sign_word(locks: u32, seat: u16) -> usize
+    ensures { result ≡ sign_at locks seat }
 {
-    8 * usize::from(seat)
+    16 + 8 * locks as usize + 8 * usize::from(seat)
 }
 
 /// The cancel word of a seat, on the cache line of its sign word: a waiter looks for both.
-pub fn cancel_word(seat: u8) -> usize
-    requires { seat < 16 }
-    ensures { result ≡ cancel_at seat }
+pub fn cancel_word(locks: u32, seat: u16) -> usize
+    ensures { result ≡ cancel_at locks seat }
 {
-    8 * usize::from(seat) + 1
+    16 + 8 * locks as usize + 8 * usize::from(seat) + 1
 }
 
 /// The slot of the wait list of a lock.

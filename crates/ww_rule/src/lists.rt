@@ -1,9 +1,10 @@
 //! The wait list that a seat took last, read and changed in its slot. None of this is a step: nobody else sees it.
-ghost use Rattle.std.specs.Prelude.{◌≡◌, ◌<◌, ◌↔◌, ◌⊎◌, ◌∷◌, List, length, slice_get, IsSome};
+ghost use Rattle.std.specs.Prelude.{◌≡◌, ◌<◌, ◌≤◌, ◌↔◌, ◌⊎◌, ◌∷◌, ◌++◌, List, length, slice_get, IsSome, IfSome, IfNone};
 ghost use Rattle.atomic_table.specs.Table.{rest};
 ghost use Rattle.ww_queue.specs.declared.entry.Entry.{Entry};
-ghost use Rattle.ww_queue.specs.Queue.{Stands, StandsNot, IsNewStamp, joined, left};
-ghost use Rattle.ww_queue.specs.Rules.{must_die, owed_signs};
+ghost use Rattle.ww_queue.specs.Queue.{Stands, joined, left};
+ghost use Rattle.ww_queue.specs.Rules.{must_die};
+ghost use Rattle.ww_queue.specs.AnySeats.{signs_past};
 ghost use Rattle.ww_model.specs.State.{waiting};
 ghost use Rattle.ww_view.specs.Word.{given_word};
 ghost use Rattle.ww_rule.specs.declared.cells.Cell.TheVariants.{Line};
@@ -11,64 +12,35 @@ ghost use Rattle.ww_rule.specs.declared.cells.Cell.TheVariants.{Line};
 use crate::cells::{Cell, TableSeat, Top};
 use crate::pages::{Page, Waiters};
 use arrayvec::ArrayVec;
-use ww_queue::{Entry, Kind, MAX_WAITERS, Queue, must_die, owed_signs};
-use ww_word::{Owner, WAITERS};
+use ww_queue::Kind;
+use ww_queue::wide::{Entry, SOME_SIGNS, must_die, signs_from};
+use ww_word::WAITERS;
+use ww_word::wide::Owner;
 
 /// The flag of the waiters that are left in a list once this seat has gone.
-fn flag_without(waiters: &Waiters, who: u8) -> u8
+fn flag_without(waiters: &Waiters, who: u16) -> u8
     ensures { result ≡ waiting (left waiters.now who) }
 {
-    let nobody = Queue::new();
-    let queue = waiters.queue_or(&nobody);
-    match queue.first() {
+    match waiters.first() {
         None => 0,
-        Some(first) if queue.entries().len() == 1 && first.seat == who => 0,
+        Some(first) if waiters.count() == 1 && first.seat() == who => 0,
         Some(_) => WAITERS,
     }
-}
-
-/// The first waiter.
-fn first_in(waiters: &Waiters) -> Option<Entry>
-    ensures { result ≡ slice_get waiters.now 0 }
-{
-    waiters.queue_or(&Queue::new()).first()
-}
-
-/// The stamp for which a seat has to die, by this wait list.
-fn death_in(waiters: &Waiters, kind: Kind, seen: Owner, who: u8, sign: u64) -> Option<u64>
-    ensures { result ≡ must_die kind seen waiters.now who sign }
-{
-    must_die(kind, seen, waiters.queue_or(&Queue::new()), who, sign)
-}
-
-/// Whom a seat owes a sign, by this wait list.
-fn owed_in(waiters: &Waiters, kind: Kind, seen: Owner, who: u8) -> ArrayVec<(u8, u64), MAX_WAITERS>
-    ensures { result.items ≡ owed_signs kind seen waiters.now who }
-{
-    owed_signs(kind, seen, waiters.queue_or(&Queue::new()), who)
 }
 
 /// The owner of a lock that is released, with this wait list.
 fn owner_after(waiters: &Waiters, is_asked: bool) -> Owner
     ensures { result ≡ given_word is_asked waiters.now }
 {
-    match first_in(waiters) {
-        None => Owner {
-            seat: None,
-            stamp: 0,
-            flags: 0,
-        },
-        Some(first) if is_asked => Owner::handed_to(first.seat, first.stamp),
-        Some(_) => Owner {
-            seat: None,
-            stamp: 0,
-            flags: WAITERS,
-        },
+    match waiters.first() {
+        None => Owner::of(None, 0, 0),
+        Some(first) if is_asked => Owner::handed_to(first.seat(), first.stamp()),
+        Some(_) => Owner::of(None, 0, WAITERS),
     }
 }
 
 /// The flag of the waiters that are left in the list that was taken last, once this seat has gone.
-pub fn flag_there(seat: &mut TableSeat, shared: &Top, slot: u32, who: u8) -> u8
+pub fn flag_there(seat: &mut TableSeat, shared: &Top, slot: u32, who: u16) -> u8
     requires home { seat.old.table_id ≡ shared.now.table_id }
     requires top { (q : List Entry) × (seat.old.me.1 ≡ (slot, Line q) ∷ rest seat.old.me.1) }
     ensures home { (seat.new.table_id ≡ seat.old.table_id) × (seat.new.id ≡ seat.old.id) }
@@ -81,11 +53,10 @@ pub fn flag_there(seat: &mut TableSeat, shared: &Top, slot: u32, who: u8) -> u8
     }
 }
 
-/// Puts a waiter with its page into the list that was taken last: one that doesn't stand there, and has a stamp of its
-/// own or none.
+/// Puts a waiter with its page into the list that was taken last.
 pub fn join_list(seat: &mut TableSeat, shared: &Top, slot: u32, page: Page, entry: Entry)
     requires home { seat.old.table_id ≡ shared.now.table_id }
-    requires top { (q : List Entry) × (seat.old.me.1 ≡ (slot, Line q) ∷ rest seat.old.me.1) × (length q < 16) × StandsNot q entry.seat × IsNewStamp q entry.stamp }
+    requires top { (q : List Entry) × (seat.old.me.1 ≡ (slot, Line q) ∷ rest seat.old.me.1) × (length q < 4096) }
     ensures home { (seat.new.table_id ≡ seat.old.table_id) × (seat.new.id ≡ seat.old.id) }
     ensures view { seat.new.me.0 ≡ seat.old.me.0 }
     ensures list { (q : List Entry) → seat.old.me.1 ≡ (slot, Line q) ∷ rest seat.old.me.1 → seat.new.me.1 ≡ (slot, Line (joined q entry)) ∷ rest seat.old.me.1 }
@@ -102,7 +73,7 @@ pub fn leave_list(
     seat: &mut TableSeat,
     shared: &Top,
     slot: u32,
-    who: u8,
+    who: u16,
     page: Option<Page>,
 ) -> Option<Page>
     requires home { seat.old.table_id ≡ shared.now.table_id }
@@ -139,7 +110,7 @@ pub fn death_there(
     slot: u32,
     kind: Kind,
     seen: Owner,
-    who: u8,
+    who: u16,
     sign: u64,
 ) -> Option<u64>
     requires home { seat.old.table_id ≡ shared.now.table_id }
@@ -149,28 +120,32 @@ pub fn death_there(
     ensures death { (q : List Entry) → seat.old.me.1 ≡ (slot, Line q) ∷ rest seat.old.me.1 → result ≡ must_die kind seen q who sign }
 {
     match seat.slot_mut(shared, slot as usize) {
-        Cell::Line(waiters) => death_in(waiters, kind, seen, who, sign),
+        Cell::Line(waiters) => must_die(kind, seen, waiters.entries(), who, sign),
         Cell::Content(_) => unreachable!(),
     }
 }
 
-/// Whom this seat owes a sign, by the list that was taken last.
+/// Some of those to whom this seat owes a sign, by the list that was taken last, of the waiters from a place on; and from
+/// which place on there are more.
 pub fn owed_there(
     seat: &mut TableSeat,
     shared: &Top,
     slot: u32,
     kind: Kind,
     seen: Owner,
-    who: u8,
-) -> ArrayVec<(u8, u64), MAX_WAITERS>
+    who: u16,
+    from: usize,
+) -> (ArrayVec<(u16, u64), SOME_SIGNS>, Option<usize>)
     requires home { seat.old.table_id ≡ shared.now.table_id }
     requires top { (q : List Entry) × (seat.old.me.1 ≡ (slot, Line q) ∷ rest seat.old.me.1) }
     ensures home { (seat.new.table_id ≡ seat.old.table_id) × (seat.new.id ≡ seat.old.id) }
     ensures same { seat.new.me ≡ seat.old.me }
-    ensures owed { (q : List Entry) → seat.old.me.1 ≡ (slot, Line q) ∷ rest seat.old.me.1 → result.items ≡ owed_signs kind seen q who }
+    ensures all { (q : List Entry) → seat.old.me.1 ≡ (slot, Line q) ∷ rest seat.old.me.1 → IfNone result.1 (result.0.items ≡ signs_past kind seen q who from) }
+    ensures some { (q : List Entry) → seat.old.me.1 ≡ (slot, Line q) ∷ rest seat.old.me.1 → IfSome result.1 (λ next. result.0.items ++ signs_past kind seen q who next ≡ signs_past kind seen q who from) }
+    ensures further { (q : List Entry) → seat.old.me.1 ≡ (slot, Line q) ∷ rest seat.old.me.1 → IfSome result.1 (λ next. (from < next) × (next ≤ length q)) }
 {
     match seat.slot_mut(shared, slot as usize) {
-        Cell::Line(waiters) => owed_in(waiters, kind, seen, who),
+        Cell::Line(waiters) => signs_from(kind, seen, waiters.entries(), who, from),
         Cell::Content(_) => unreachable!(),
     }
 }
@@ -184,7 +159,7 @@ pub fn first_there(seat: &mut TableSeat, shared: &Top, slot: u32) -> Option<Entr
     ensures first { (q : List Entry) → seat.old.me.1 ≡ (slot, Line q) ∷ rest seat.old.me.1 → result ≡ slice_get q 0 }
 {
     match seat.slot_mut(shared, slot as usize) {
-        Cell::Line(waiters) => first_in(waiters),
+        Cell::Line(waiters) => waiters.first(),
         Cell::Content(_) => unreachable!(),
     }
 }

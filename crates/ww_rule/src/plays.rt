@@ -46,6 +46,15 @@ impl Play<Cell, Sight> for GiveBare {
     ghost then = { gives_bare_to };
 }
 
+/// A look from outside whether the seat owns a lock.
+pub struct Owns;
+
+impl Play<Cell, Sight> for Owns {
+    ghost use Rattle.ww_rule.specs.Steps.{owns_to};
+
+    ghost then = { owns_to };
+}
+
 pub struct End;
 
 impl Play<Cell, Sight> for End {

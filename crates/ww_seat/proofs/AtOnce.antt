@@ -1,20 +1,26 @@
 -- A lock taken at once, by a seat that may have taken its sign back just before.
-use Rattle.std.proofs.Common.{◌≡◌, ℕ, ◌<◌, ◌≤◌, true, false, List, ◌∷◌, length, Some, refl, sym, ap, ◌∙◌, subst, arith}
+use Rattle.std.proofs.Common.{◌≡◌, ℕ, ◌<◌, ◌≤◌, Bool, true, false, List, ◌∷◌, length, get_or, Some, refl, sym, ap, ◌∙◌, subst, arith}
 use Rattle.ww_plain.specs.declared.node.Node.{Node}
-use Rattle.ww_plain.specs.Graph.{IsNodeOf}
-use Rattle.ww_view.specs.View.{owns}
+use Rattle.ww_model.specs.State.{any_below}
+use Rattle.ww_model.proofs.Slots.{found_below}
+use Rattle.ww_plain.specs.Graph.{IsNodeOf, no_node}
+use Rattle.ww_view.specs.View.{owns, IsAway}
+use Rattle.ww_view.specs.May.{WantsSigns}
 use Rattle.ww_rule.specs.declared.cells.Cell.{Cell}
 use Rattle.ww_rule.specs.declared.cells.Cell.TheVariants.{Content}
 use Rattle.ww_rule.specs.declared.cells.Sight.{Sight}
 use Rattle.ww_rule.specs.Rule.{Sat}
 use Rattle.ww_rule.specs.Out.{AreOthers, slot_of}
 use Rattle.ww_rule.specs.Steps.{knowing, taking}
-use Rattle.ww_view.specs.Made.{fast_taken}
+use Rattle.ww_view.specs.Made.{fast_taken, fast_missed}
+use Rattle.ww_table.specs.Seat.{HasTriedToTake}
+use Rattle.ww_table.specs.declared.seat.Taking.{Taking}
+use Rattle.ww_table.specs.declared.seat.Taking.TheVariants.{Took, Had, Missed}
 use Rattle.ww_seat.specs.Orderly.{IsOrderly}
-use Rattle.ww_seat.specs.Accounts.{account_of}
-use Rattle.ww_seat.specs.Calls.{HasTakenAtOnce}
+use Rattle.ww_seat.specs.Accounts.{Account, account_of, having_tried}
+use Rattle.ww_seat.specs.Calls.{HasAdded, HasTakenAtOnce, HasTriedOnce, HoldsAsBefore}
 use Rattle.ww_seat.proofs.Slots.{slot_here, same_cell, same_node, others_had}
-use Rattle.ww_seat.proofs.Outside.{orderly_taken, orderly_brought, orderly_bare, set_past}
+use Rattle.ww_seat.proofs.Outside.{orderly_taken, orderly_brought, orderly_bare, orderly_knowing, owned_low, set_past}
 
 -- the lock was won with a node, which was then read
 pub record IsWon (n : ℕ) (m m' : Sat) : Type 0 where
@@ -69,3 +75,45 @@ taken_bare_at_once size n y m now was big fits is = let wide = was.held in
       part = record (m.0.part) { core = fast_taken m.0.part.core n };
       held = sym (set_past m.0.held n (Some y) (omega arith)) i;
     }))
+
+-- ---- one try, of which the lock's word tells whether the seat had the lock
+
+pub tried_settled : (size n : ℕ) (m m' : Sat) (a : Taking) → IsOrderly size m → IsAway m.0.part.core → size ≤ n
+    → HasTriedToTake m n a m' → IsOrderly size m' × IsAway m'.0.part.core
+tried_settled size n m m' Took o away big t = let z = taken_bare_at_once size n no_node m m' o big tt t.1 in
+    (z.orderly, (z.inside ∙ away.0, z.waits ∙ away.1))
+tried_settled size n m m' Had o away big t =
+    (subst (IsOrderly size) (sym t.1) o, subst (λ (z : Sat). IsAway z.0.part.core) (sym t.1) away)
+tried_settled size n m m' Missed o away big t = (
+  orderly_knowing size m m' (fast_missed m.0.part.core) o t.1 refl refl refl refl,
+  subst (λ (z : Sat). IsAway z.0.part.core) (sym t.1) (away.0, away.1),
+)
+
+-- m is the seat as it came, and u as it is once it may have taken its sign back
+pub record IsReady (m u : Sat) (holds : Bool) : Type 0 where
+  pub same : HoldsAsBefore m u
+  pub met : u.0.part.core.met ≡ m.0.part.core.met
+  pub signs : WantsSigns u.0.part.core
+  pub idle : holds ≡ true → u ≡ m
+  pub some : any_below (length m.0.part.core.owned) (owns m.0.part.core) ≡ holds
+
+owned_alike : (m u : Sat) (n : ℕ) → HoldsAsBefore m u → owns m.0.part.core n ≡ owns u.0.part.core n
+owned_alike m u n same = ap (λ (a : Account). get_or a.owned n false) (sym same)
+
+pub tried_once : (size n : ℕ) (m u m' : Sat) (holds : Bool) (a : Taking) → IsOrderly size u → size ≤ n
+    → IsReady m u holds → HasTriedToTake u n a m' → HasTriedOnce m n a m'
+tried_once size n m u m' holds Took o big r t = (
+  owned_alike m u n r.same ∙ t.0,
+  subst (λ (a : Account). HasAdded (having_tried a) n no_node m') r.same (taken_bare_at_once size n no_node u m' o big tt t.1).taken,
+)
+tried_once size n m u m' holds Had o big r t = let own = owned_alike m u n r.same ∙ t.0 in (
+  own,
+  t.1 ∙ r.idle (sym r.some ∙ found_below (length m.0.part.core.owned) (owns m.0.part.core) n (owned_low m.0.part.core.owned n own) own),
+)
+tried_once size n m u m' holds Missed o big r t = record {
+  lacks = owned_alike m u n r.same ∙ t.0;
+  tried = ap account_of t.1 ∙ ap having_tried r.same;
+  met = ap (λ (z : Sat). z.0.part.core.met) t.1 ∙ r.met;
+  glances = ap (λ (z : Sat). z.0.part.core.glances) t.1;
+  signs = subst (λ (z : Sat). WantsSigns z.0.part.core) (sym t.1) r.signs;
+}

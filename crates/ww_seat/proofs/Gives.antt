@@ -16,9 +16,12 @@ use Rattle.ww_rule.specs.Out.{slot_of, AreOthers}
 use Rattle.ww_rule.specs.Steps.{knowing, giving, keeping}
 use Rattle.ww_rule.specs.Guards.{exiting, looking}
 use Rattle.ww_rule.specs.Waiting.{HasListOnTop, IsOut, giving_inside}
+use Rattle.ww_table.specs.Seat.{HasTriedToGive}
+use Rattle.ww_table.specs.declared.seat.Giving.{Giving}
+use Rattle.ww_table.specs.declared.seat.Giving.TheVariants.{Gave, Kept, Lacked}
 use Rattle.ww_seat.specs.Orderly.{IsOrderly}
 use Rattle.ww_seat.specs.Accounts.{Account, having_given}
-use Rattle.ww_seat.specs.Calls.{HoldsAsBefore, HasGiven}
+use Rattle.ww_seat.specs.Calls.{HoldsAsBefore, HasGiven, HasLetOnce}
 use Rattle.ww_seat.specs.Guards.{HasLet, IsGiving}
 use Rattle.ww_seat.proofs.Holds.{holds_then}
 use Rattle.ww_seat.proofs.Slots.{front_same, front_apart, is_out}
@@ -145,6 +148,8 @@ lets size m m' n asked g o view = let low = owned_low m.0.part.core.owned n g.ow
       waits = g.waits;
       given = refl;
       heir = refl;
+      debts = refl;
+      awake = record { naps = refl; deaf = refl };
     }) o
 
 pub let_go : (size : ℕ) (m m' : Sat) (n : ℕ) (x : Node) (others : List (ℕ × Cell)) (asked : Bool)
@@ -176,6 +181,22 @@ given_bare size m m' n o away big is = let wide = o.held in
 pub kept_bare : (size : ℕ) (m m' : Sat) → IsOrderly size m → m' ≡ (keeping m.0, m.1) → IsOrderly size m'
 kept_bare size m m' o is = subst (IsOrderly size) (sym is)
     (orderly_still size m (keeping m.0, m.1) o refl refl refl refl refl o.apart (λ k. refl))
+
+-- one try to release it, of which the lock's word tells whether the seat has it
+pub let_once : (size n : ℕ) (m m' : Sat) (a : Giving) → IsOrderly size m → IsAway m.0.part.core → size ≤ n
+    → HasTriedToGive m n a m' → IsOrderly size m' × IsAway m'.0.part.core × HasLetOnce m n a m'
+let_once size n m m' Gave o away big t = let z = given_bare size m m' n o away big t.1 in
+    (z.0, z.1, (t.0, z.2, ap (λ (w : Sat). w.0.part.core.kept) t.1))
+let_once size n m m' Kept o away big t = (
+  kept_bare size m m' o t.1,
+  subst (λ (w : Sat). IsAway w.0.part.core) (sym t.1) (away.0, away.1),
+  (t.0, still_kept m m' (ap (λ (w : Sat). w.0) t.1), ap (λ (w : Sat). w.0.part.core.kept) t.1),
+)
+let_once size n m m' Lacked o away big t = (
+  subst (IsOrderly size) (sym t.1) o,
+  subst (λ (w : Sat). IsAway w.0.part.core) (sym t.1) away,
+  t,
+)
 
 pub let_go_bare : (size : ℕ) (m m' : Sat) (n : ℕ) (others : List (ℕ × Cell)) (asked : Bool) → IsGiving size n m
     → size ≤ n → AreOthers m.1 (64 + n) (Line m.0.part.core.list) others

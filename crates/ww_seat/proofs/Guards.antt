@@ -26,7 +26,7 @@ low_outside size m o outside n high = let e : 64 + (n - 64) ≡ n = omega arith 
 -- the seat went inside, and found this wait list there
 pub record HasEntered (m : Sat) (n : ℕ) (m' : Sat) : Type 0 where
   pub list : List Entry
-  pub seats : AreSeats list
+  pub seats : AreSeats m.0.part.core.seats list
   pub stands : StandsAs m.0.part.core n list
   pub view : m'.0 ≡ entering m.0 n list
 

@@ -9,6 +9,7 @@ pub mod Waitings
 pub mod Glances
 pub mod Working
 pub mod Signing
+pub mod There
 pub mod Took
 pub mod Starts
 pub mod Stood
@@ -17,3 +18,6 @@ pub mod Stepwise
 pub mod Among
 pub mod Without
 pub mod Ringing
+pub mod Marking
+pub mod Naps
+pub mod Debts

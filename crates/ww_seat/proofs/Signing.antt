@@ -1,14 +1,14 @@
 -- Whom a seat inside a guard condemns, and whether it has to die.
-use Rattle.std.proofs.Common.{◌≡◌, ◌≢◌, ◌⊎◌, inl, inr, ⊎_elim, ℕ, zero, suc, ◌+◌, ◌<◌, ◌≤◌, Bool, true, false, true≢false, List, [], ◌∷◌, length, take, get_or, refl, sym, ap, ◌∙◌, subst, arith, Option, Some, None, IfSome, IfNone}
+use Rattle.std.proofs.Common.{◌≡◌, ◌≢◌, ◌⊎◌, inl, inr, ⊎_elim, ℕ, zero, suc, ◌+◌, ◌<◌, ◌≤◌, Bool, true, false, true≢false, List, [], ◌∷◌, ◌++◌, length, take, get_or, refl, sym, ap, ◌∙◌, subst, arith, Option, Some, None, IfSome, IfNone}
 use Rattle.std.specs.Option.{option_and_then}
 use Rattle.ww_word.specs.declared.owner.Owner.{Owner}
-use Rattle.ww_word.specs.Owner.{IsValid, IsSeating}
 use Rattle.ww_queue.specs.declared.entry.Entry.{Entry}
 use Rattle.ww_queue.specs.declared.kind.Kind.{Kind}
 use Rattle.ww_queue.specs.declared.kind.Kind.TheVariants.{WoundWait, WaitDie}
 use Rattle.ww_queue.specs.Entry.{IsHolding}
 use Rattle.ww_queue.specs.Queue.{Has, Once, entry_of}
 use Rattle.ww_queue.specs.Rules.{must_die, death_of, owed_signs}
+use Rattle.ww_queue.specs.AnySeats.{signs_past}
 use Rattle.ww_queue.proofs.Deaths.{death_why, must_die_why, wound_wait_condemns}
 use Rattle.ww_queue.proofs.Leaves.{entry_why}
 use Rattle.ww_queue.proofs.Signs.{signed_why, wounded_why}
@@ -16,14 +16,15 @@ use Rattle.ww_model.proofs.Slots.{below_found, found_below}
 use Rattle.ww_view.specs.declared.view.View.{View}
 use Rattle.ww_view.specs.View.{owns, IsQuiet}
 use Rattle.ww_view.specs.May.{MaySign, MayDie}
-use Rattle.ww_view.specs.Made.{entry_of_view, has_read}
+use Rattle.ww_view.specs.Made.{entry_of_view, has_read, with_condemned}
 use Rattle.ww_rule.specs.declared.cells.Sight.{Sight}
 use Rattle.ww_rule.specs.Rule.{Sat}
+use Rattle.ww_rule.specs.Steps.{knowing}
 use Rattle.ww_rule.specs.Guards.{AreSeats}
 use Rattle.ww_rule.specs.Signs.{condemning, noting, reading, finding_none}
 use Rattle.ww_rule.specs.Waiting.{HasListOnTop}
 use Rattle.ww_seat.specs.Orderly.{IsOrderly}
-use Rattle.ww_seat.specs.Work.{AreMarked, HasToWake, IsTold, IsTouched, IsWorking, SeesOther, HasNoted, MayStay}
+use Rattle.ww_seat.specs.Work.{touched, signing, debts_with, HasBooked, AreOwed, AreMarked, HasToWake, IsTold, IsTouched, IsWorking, SeesOther, HasNoted, MayStay}
 use Rattle.ww_seat.proofs.Outside.{orderly_knowing, owned_low}
 use Rattle.ww_seat.proofs.Working.{touched_read}
 
@@ -41,33 +42,37 @@ has_at [] i d low = absurd (omega arith)
 has_at (x ∷ xs) zero d low = inl refl
 has_at (x ∷ xs) (suc i) d low = inr (has_at xs i d (omega arith))
 
-seating_of : (o : Owner) (s : Option ℕ) (u : ℕ) → IsSeating o s → s ≡ Some u → u < 16
-seating_of o s u sits is = let z : IsSeating o (Some u) = subst (IsSeating o) is sits in z
-
-pub victim_small : (kind : Kind) (o : Owner) (q : List Entry) (me u k : ℕ) → IsValid o → AreSeats q
-    → Has (owed_signs kind o q me) (u, k) → u < 16
-victim_small WoundWait o q me u k valid seats has = seating_of o o.seat u valid.seating (wounded_why o q me u k has).owns
-victim_small WaitDie o q me u k valid seats has = let w =
+-- whoever is owed a sign is one of the seats
+pub victim_there : (kind : Kind) (o : Owner) (seats : ℕ) (q : List Entry) (me u k : ℕ) → ((v : ℕ) → o.seat ≡ Some v → v < seats)
+    → AreSeats seats q → Has (owed_signs kind o q me) (u, k) → u < seats
+victim_there WoundWait o n q me u k owns seats has = owns u (wounded_why o q me u k has).owns
+victim_there WaitDie o n q me u k owns seats has = let w =
     must_die_why WaitDie o q u 0 k (signed_why o q me u k has).1 in let small = (seats w.0 w.1).0 in
     let same = w.2 in omega arith
 
-pub may_sign : (size n : ℕ) (owed : List (ℕ × ℕ)) (m m1 : Sat) (o : Owner) (u k : ℕ) → m.0.part.core.inside ≡ suc n
-    → m.0.part.core.seen ≡ Some o
-    → HasNoted size owed m m1 → Has (owed_signs m.0.part.core.kind o m.0.part.core.list m.0.part.core.who) (u, k)
-    → MaySign m1.0.part.core n u k
-may_sign size n owed m m1 o u k inside seen h has =
+pub may_sign : (size n : ℕ) (done owed : List (ℕ × ℕ)) (m m1 : Sat) (u k : ℕ) → m.0.part.core.inside ≡ suc n
+    → HasNoted size done m m1 → AreOwed m.0.part.core owed → Has owed (u, k) → MaySign m1.0.part.core n u k
+may_sign size n done owed m m1 u k inside h are has =
     subst (λ (z : Sight). MaySign z.part.core n u k) (sym h.view)
-    (record { inside = inside; owes = (o, seen, has) })
+    (record { inside = inside; owes = (are u k has).1 })
 
-pub noted_none : (size : ℕ) (m m1 : Sat) → IsTouched size m m1 → m1.0 ≡ m.0 → HasNoted size [] m m1
-noted_none size m m1 t same = record {
-  orderly = t.orderly;
+pub victim_low : (size : ℕ) (done owed : List (ℕ × ℕ)) (m m1 : Sat) (u k : ℕ) → HasNoted size done m m1
+    → AreOwed m.0.part.core owed → Has owed (u, k) → u < m1.0.part.core.seats
+victim_low size done owed m m1 u k h are has =
+    subst (λ (z : Sight). u < z.part.core.seats) (sym h.view) (are u k has).0
+
+pub noted_none : (size : ℕ) (m m1 : Sat) → IsOrderly size m1 → m1.0 ≡ m.0 → HasNoted size [] m m1
+noted_none size m m1 orderly same = record {
+  orderly = orderly;
   signed = m.0.part.core.signed;
   condemned = m.0.part.core.condemned;
+  debts = m.0.part.core.debts;
   fresh = m.0.part.core.fresh;
   view = same;
   all = λ u k none. absurd none;
   more = λ u has. has;
+  kept = λ u has. has;
+  booked = λ before is. is;
 }
 
 -- another seat was found or made signed, as the step told
@@ -82,19 +87,25 @@ noted_more size xs ys m m1 m2 true u h is more = record {
   orderly = orderly_knowing size m1 m2 (condemning m1.0 u).part.core h.orderly is refl refl refl refl;
   signed = u ∷ h.signed;
   condemned = u ∷ h.condemned;
+  debts = with_condemned m.0.part.core.who h.condemned u h.debts;
   fresh = false;
   view = ap (λ (z : Sat). z.0) is ∙ ap (λ (z : Sight). condemning z u) h.view;
   all = λ v k has. ⊎_elim (λ old. inr (h.all v k old)) (λ e. inl e) (more v k has);
   more = λ v has. inr (h.more v has);
+  kept = λ v has. inr (h.kept v has);
+  booked = λ before is. ap (with_condemned m.0.part.core.who h.condemned u) (h.booked before is);
 }
 noted_more size xs ys m m1 m2 false u h is more = record {
   orderly = orderly_knowing size m1 m2 (noting m1.0 u).part.core h.orderly is refl refl refl refl;
   signed = u ∷ h.signed;
   condemned = h.condemned;
+  debts = h.debts;
   fresh = false;
   view = ap (λ (z : Sat). z.0) is ∙ ap (λ (z : Sight). noting z u) h.view;
   all = λ v k has. ⊎_elim (λ old. inr (h.all v k old)) (λ e. inl e) (more v k has);
   more = h.more;
+  kept = λ v has. inr (h.kept v has);
+  booked = h.booked;
 }
 
 pub noted_is : (won : Bool) (m1 m2 : Sat) (u : ℕ) → (won ≡ true → m2 ≡ (condemning m1.0 u, m1.1))
@@ -103,7 +114,7 @@ noted_is true m1 m2 u on off = on refl
 noted_is false m1 m2 u on off = off refl
 
 -- those condemned before are marked still, and another where the step condemned it
-pub marked_noted : (m1 m2 : Sat) (was mid now : List Bool) (won : Bool) (who u : ℕ) → who ≡ m1.0.part.core.who
+pub marked_noted : (m1 m2 : Sat) (was mid now : List ℕ) (won : Bool) (who u : ℕ) → who ≡ m1.0.part.core.who
     → m2 ≡ (noted_by won m1.0 u, m1.1) → AreMarked was (HasToWake m1.0.part.core) mid
     → AreMarked mid (λ t. (won ≡ true) × (u ≢ who) × (t ≡ u)) now → AreMarked was (HasToWake m2.0.part.core) now
 marked_noted m1 m2 was mid now won who u own is marked added =
@@ -285,22 +296,119 @@ has_taken [] i y all h = absurd h
 has_taken (x ∷ xs) zero y all h = absurd (omega arith)
 has_taken (x ∷ xs) (suc i) y all h = ⊎_elim (λ e. inl e) (λ z. inr (has_taken xs i y (omega arith) z)) h
 
-pub owed_is : (items owed : List (ℕ × ℕ)) (kind kind2 : Kind) (o : Owner) (q : List Entry) (who who2 : ℕ)
-    → items ≡ owed → owed ≡ owed_signs kind o q who → kind ≡ kind2 → who2 ≡ who → items ≡ owed_signs kind2 o q who2
-owed_is items owed kind kind2 o q who who2 a b c d = a ∙ b ∙ ap (λ (x : Kind). owed_signs x o q who) c ∙ ap (owed_signs kind2 o q) (sym d)
-
-pub noted_all : (size i : ℕ) (items owed : List (ℕ × ℕ)) (m m1 : Sat) → length items ≤ i → items ≡ owed
-    → HasNoted size (take i items) m m1 → HasNoted size owed m m1
-noted_all size i items owed m m1 all is h = record {
+pub noted_all : (size i : ℕ) (items : List (ℕ × ℕ)) (m m1 : Sat) → length items ≤ i
+    → HasNoted size (take i items) m m1 → HasNoted size items m m1
+noted_all size i items m m1 all h = record {
   orderly = h.orderly;
   signed = h.signed;
   condemned = h.condemned;
+  debts = h.debts;
   fresh = h.fresh;
   view = h.view;
-  all = λ u k has. h.all u k (has_taken items i (u, k) all (subst (λ (l : List (ℕ × ℕ)). Has l (u, k)) (sym is) has));
+  all = λ u k has. h.all u k (has_taken items i (u, k) all has);
   more = h.more;
+  kept = h.kept;
+  booked = h.booked;
 }
 
-pub owed_at : (items owed : List (ℕ × ℕ)) (i : ℕ) → i < length items → items ≡ owed
-    → Has owed ((get_or items i (0, 0)).0, (get_or items i (0, 0)).1)
-owed_at items owed i low is = subst (λ (l : List (ℕ × ℕ)). Has l (get_or items i (0, 0))) is (has_at items i (0, 0) low)
+pub owed_at : (items : List (ℕ × ℕ)) (i : ℕ) → i < length items → Has items ((get_or items i (0, 0)).0, (get_or items i (0, 0)).1)
+owed_at items i low = has_at items i (0, 0) low
+
+-- ---- some after others
+
+has_both : {A : Type 0} (xs ys : List A) (y : A) → Has (xs ++ ys) y → Has xs y ⊎ Has ys y
+has_both [] ys y h = inr h
+has_both (x ∷ xs) ys y h = ⊎_elim (λ e. inl (inl e)) (λ more. ⊎_elim (λ z. inl (inr z)) inr (has_both xs ys y more)) h
+
+pub noted_then : (size : ℕ) (done owed : List (ℕ × ℕ)) (m m1 m2 m3 : Sat) → HasNoted size done m m1 → m2.0 ≡ m1.0
+    → HasNoted size owed m2 m3 → HasNoted size (done ++ owed) m m3
+noted_then size done owed m m1 m2 m3 h same g = let is : m2.0 ≡ knowing m.0 (signing m.0.part.core h.signed h.condemned h.debts h.fresh) = same ∙ h.view in record {
+  orderly = g.orderly;
+  signed = g.signed;
+  condemned = g.condemned;
+  debts = g.debts;
+  fresh = g.fresh;
+  view = g.view ∙ ap (λ (z : Sight). knowing z (signing z.part.core g.signed g.condemned g.debts g.fresh)) is;
+  all = λ u k has. ⊎_elim
+      (λ old. g.kept u (subst (λ (z : Sight). Has z.part.core.signed u) (sym is) (h.all u k old)))
+      (λ new. g.all u k new) (has_both done owed (u, k) has);
+  more = λ u has. g.more u (subst (λ (z : Sight). Has z.part.core.condemned u) (sym is) (h.more u has));
+  kept = λ u has. g.kept u (subst (λ (z : Sight). Has z.part.core.signed u) (sym is) (h.kept u has));
+  booked = λ before was. g.booked before (subst (λ (z : Sight). HasBooked before z.part.core) (sym is) (h.booked before was))
+      ∙ ap (λ (z : Sight). debts_with z.part.core.who g.condemned before) is;
+}
+
+-- the seat owes what it owed, once it noted some
+pub still_owed : (size : ℕ) (done : List (ℕ × ℕ)) (m m1 m2 : Sat) (owed : List (ℕ × ℕ)) → HasNoted size done m m1
+    → m2.0 ≡ m1.0 → AreOwed m.0.part.core owed → AreOwed m2.0.part.core owed
+still_owed size done m m1 m2 owed h same are = subst (λ (z : Sight). AreOwed z.part.core owed) (sym (same ∙ h.view)) are
+
+has_front : {A : Type 0} (xs ys : List A) (y : A) → Has xs y → Has (xs ++ ys) y
+has_front [] ys y h = absurd h
+has_front (x ∷ xs) ys y h = ⊎_elim inl (λ more. inr (has_front xs ys y more)) h
+
+has_back : {A : Type 0} (xs ys : List A) (y : A) → Has ys y → Has (xs ++ ys) y
+has_back [] ys y h = h
+has_back (x ∷ xs) ys y h = inr (has_back xs ys y h)
+
+-- the next of the signs that are owed are owed
+pub part_owed : (v : View) (o : Owner) (done owed rest : List (ℕ × ℕ)) → ((u : ℕ) → o.seat ≡ Some u → u < v.seats)
+    → AreSeats v.seats v.list → v.seen ≡ Some o
+    → done ++ (owed ++ rest) ≡ owed_signs v.kind o v.list v.who → AreOwed v owed
+part_owed v o done owed rest owns seats seen whole u k has =
+    let all : Has (owed_signs v.kind o v.list v.who) (u, k) = subst (λ (l : List (ℕ × ℕ)). Has l (u, k)) whole
+    (has_back done (owed ++ rest) (u, k) (has_front owed rest (u, k) has)) in
+    (victim_there v.kind o v.seats v.list v.who u k owns seats all, (o, seen, all))
+
+++_end : {A : Type 0} (xs : List A) → xs ++ [] ≡ xs
+++_end [] = refl
+++_end (x ∷ xs) = ap (λ (l : List _). x ∷ l) (++_end xs)
+
+++_apart : {A : Type 0} (xs ys zs : List A) → (xs ++ ys) ++ zs ≡ xs ++ (ys ++ zs)
+++_apart [] ys zs = refl
+++_apart (x ∷ xs) ys zs = ap (λ (l : List _). x ∷ l) (++_apart xs ys zs)
+
+-- the signs that are left
+abbrev pub left_of : View → Owner → Option ℕ → List (ℕ × ℕ)
+left_of v o None = []
+left_of v o (Some n) = signs_past v.kind o v.list v.who n
+
+-- one walk's signs, and those that are left
+pub walked_is : (size : ℕ) (done owed : List (ℕ × ℕ)) (m m1 : Sat) (o : Owner) (from : ℕ) (more : Option ℕ) (kind : Kind) (who : ℕ)
+    → HasNoted size done m m1 → kind ≡ m1.0.part.core.kind → m1.0.part.core.who ≡ who
+    → IfNone more (owed ≡ signs_past kind o m1.0.part.core.list who from)
+    → IfSome more (λ next. owed ++ signs_past kind o m1.0.part.core.list who next ≡ signs_past kind o m1.0.part.core.list who from)
+    → owed ++ left_of m.0.part.core o more ≡ left_of m.0.part.core o (Some from)
+walked_is size done owed m m1 o from more kind who h same at all some =
+    let k : kind ≡ m.0.part.core.kind = same ∙ ap (λ (z : Sight). z.part.core.kind) h.view in
+    let w : who ≡ m.0.part.core.who = sym at ∙ ap (λ (z : Sight). z.part.core.who) h.view in
+    let l : m1.0.part.core.list ≡ m.0.part.core.list = ap (λ (z : Sight). z.part.core.list) h.view in go more k w l all some
+  where
+    go : (x : Option ℕ) → kind ≡ m.0.part.core.kind → who ≡ m.0.part.core.who → m1.0.part.core.list ≡ m.0.part.core.list
+        → IfNone x (owed ≡ signs_past kind o m1.0.part.core.list who from)
+        → IfSome x (λ next. owed ++ signs_past kind o m1.0.part.core.list who next ≡ signs_past kind o m1.0.part.core.list who from)
+        → owed ++ left_of m.0.part.core o x ≡ left_of m.0.part.core o (Some from)
+    go None k w l all some = ++_end owed ∙ all ∙ (λ i. signs_past (k i) o (l i) (w i) from)
+    go (Some next) k w l all some = (λ i. owed ++ signs_past (sym k i) o (sym l i) (sym w i) next) ∙ some
+        ∙ (λ i. signs_past (k i) o (l i) (w i) from)
+
+pub whole_is : (v : View) (o : Owner) (done owed : List (ℕ × ℕ)) (from : ℕ) (more : Option ℕ) (all : List (ℕ × ℕ))
+    → done ++ left_of v o (Some from) ≡ all → owed ++ left_of v o more ≡ left_of v o (Some from)
+    → done ++ (owed ++ left_of v o more) ≡ all
+whole_is v o done owed from more all whole part = ap (λ (l : List (ℕ × ℕ)). done ++ l) part ∙ whole
+
+pub further_is : (v : View) (o : Owner) (done owed : List (ℕ × ℕ)) (more : Option ℕ) (all : List (ℕ × ℕ))
+    → done ++ (owed ++ left_of v o more) ≡ all → (done ++ owed) ++ left_of v o more ≡ all
+further_is v o done owed more all whole = ++_apart done owed (left_of v o more) ∙ whole
+
+-- the signs that were set, those of one walk more, and those that are left
+pub walked_whole : (size : ℕ) (done owed all : List (ℕ × ℕ)) (m m1 : Sat) (o : Owner) (from : ℕ) (next more : Option ℕ) (kind : Kind) (who : ℕ)
+    → HasNoted size done m m1 → kind ≡ m1.0.part.core.kind → m1.0.part.core.who ≡ who
+    → IfNone more (owed ≡ signs_past kind o m1.0.part.core.list who from)
+    → IfSome more (λ n. owed ++ signs_past kind o m1.0.part.core.list who n ≡ signs_past kind o m1.0.part.core.list who from)
+    → next ≡ Some from → done ++ left_of m.0.part.core o next ≡ all
+    → done ++ (owed ++ left_of m.0.part.core o more) ≡ all
+walked_whole size done owed all m m1 o from next more kind who h same at none some is whole =
+    whole_is m.0.part.core o done owed from more all
+    (ap (λ (x : Option ℕ). done ++ left_of m.0.part.core o x) (sym is) ∙ whole)
+    (walked_is size done owed m m1 o from more kind who h same at none some)

@@ -13,13 +13,13 @@ use Rattle.ww_seat.specs.Orderly.{IsOrderly, IsSettled}
 
 new_orderly : (key : Start) (k : ℕ) → length (first_graph key) ≤ 64 → length (first_graph key) ≤ key.locks
     → IsOrderly (length (first_graph key))
-    (seat_of (length (first_graph key)) (first_part key.kind key.locks k), [])
+    (seat_of (length (first_graph key)) (first_part key.kind key.locks key.places k), [])
 new_orderly key k few fits = record {
   few = few;
   owned = omega (arith, fits, length-replicate key.locks false);
   held = length-replicate (length (first_graph key)) None;
   apart = tt;
-  nodes = λ n small owner. absurd (true≢false (sym owner ∙ bare_first key.kind key.locks k n));
+  nodes = λ n small owner. absurd (true≢false (sym owner ∙ bare_first key.kind key.locks key.places k n));
   others = λ n lt lacks. refl;
   list = λ n inside. absurd cc;
   lists = λ n outside. refl;

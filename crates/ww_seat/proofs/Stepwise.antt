@@ -35,11 +35,11 @@ outside_shut size n m m' o is = subst (IsOutside size n) (sym is) (record {
 pub still_shut : (m m' : Sat) → m' ≡ (shutting_out m.0, m.1) → HoldsAsBefore m m'
 still_shut m m' is = subst (HoldsAsBefore m) (sym is) refl
 
-pub has_entered : (m m' : Sat) (n : ℕ) (q : List Entry) → AreSeats q → StandsAs m.0.part.core n q
+pub has_entered : (m m' : Sat) (n : ℕ) (q : List Entry) → AreSeats m.0.part.core.seats q → StandsAs m.0.part.core n q
     → m' ≡ (entering m.0 n q, (64 + n, Line q) ∷ m.1) → HasEntered m n m'
 has_entered m m' n q seats stands is = record { list = q; seats = seats; stands = stands; view = ap (λ (x : Sat). x.0) is }
 
-pub now_at_work : (size n : ℕ) (m m' : Sat) (q : List Entry) → IsOutside size n m → AreSeats q
+pub now_at_work : (size n : ℕ) (m m' : Sat) (q : List Entry) → IsOutside size n m → AreSeats m.0.part.core.seats q
     → StandsAs m.0.part.core n q → m' ≡ (entering m.0 n q, (64 + n, Line q) ∷ m.1)
     → IsAtWork size n m (not (m.0.part.core.waits == 0)) (not (m.0.part.core.waits == 0)) m'
 now_at_work size n m m' q out seats stands is =

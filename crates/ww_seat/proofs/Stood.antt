@@ -1,7 +1,8 @@
 -- A seat in the wait list: it joins, asks, stays or backs off.
 use Rattle.std.proofs.Common.{◌≡◌, ◌≢◌, inl, inr, ⊎_elim, ℕ, suc, ◌+◌, ◌<◌, ◌^◌, Bool, true, false, true≢false, List, [], ◌∷◌, slice_get, refl, sym, ap, ◌∙◌, subst, arith, Option, Some, None}
 use Rattle.ww_word.specs.declared.owner.Owner.{Owner}
-use Rattle.ww_word.specs.Owner.{IsValid, IsSeating, with_waiters}
+use Rattle.ww_word.specs.Owner.{with_waiters}
+use Rattle.ww_word.specs.AnySeats.{Fits, IsValid, IsSeating}
 use Rattle.ww_queue.specs.declared.entry.Entry.{Entry}
 use Rattle.ww_queue.specs.declared.kind.Kind.{Kind}
 use Rattle.ww_queue.specs.declared.kind.Kind.TheVariants.{WoundWait, WaitDie}
@@ -28,7 +29,7 @@ use Rattle.ww_seat.specs.Orderly.{IsOrderly}
 use Rattle.ww_seat.specs.Accounts.{account_of}
 use Rattle.ww_seat.specs.Calls.{HoldsAsBefore, HasToDie}
 use Rattle.ww_seat.specs.Looks.{MayWant, IsOutside, IsLook, IfEnded, IfLost}
-use Rattle.ww_seat.specs.Work.{touched, told, IsTouched, IsTold, IsPlaced, IsWorking, IsAtWork, SeesOther, HasStood, HasAsked, HasSigned, MayGo, MayStay}
+use Rattle.ww_seat.specs.Work.{signing, told, IsTouched, IsTold, IsPlaced, IsWorking, IsAtWork, SeesOther, HasStood, HasAsked, HasSigned, MayGo, MayStay}
 use Rattle.ww_seat.specs.declared.look.Attempt.{Attempt}
 use Rattle.ww_seat.specs.declared.look.Attempt.TheVariants.{Lost, Ended}
 use Rattle.ww_seat.specs.declared.look.Look.TheVariants.{Deadlk}
@@ -49,20 +50,19 @@ may_join n l v o w sees = record {
   other = sees.other;
 }
 
-joined_seats : (q : List Entry) (e : Entry) → AreSeats q → e.seat < 16 → e.stamp < 2 ^ 56 → AreSeats (joined q e)
-joined_seats q e seats few small f h =
+joined_seats : (n : ℕ) (q : List Entry) (e : Entry) → AreSeats n q → e.seat < n → Fits e.seat e.stamp → AreSeats n (joined q e)
+joined_seats n q e seats few small f h =
     ⊎_elim (λ is. (
-      subst (λ (x : Entry). x.seat < 16) (sym is) few,
-      subst (λ (x : Entry). x.stamp < 2 ^ 56) (sym is)
-          small,
+      subst (λ (x : Entry). x.seat < n) (sym is) few,
+      subst (λ (x : Entry). Fits x.seat x.stamp) (sym is) small,
     )) (λ old. seats f old) (joined_has q e f h)
 
-working_queued : (n : ℕ) (l : Bool) (v : View) (o : Owner) → IsWorking n false l v → v.who < 16 → v.stamp < 2 ^ 56
+working_queued : (n : ℕ) (l : Bool) (v : View) (o : Owner) → IsWorking n false l v → v.who < v.seats → Fits v.who v.stamp
     → IsWorking n true l (queued v n o)
 working_queued n l v o w few small = let once = joined_once v.list (entry_of_view v) w.place.1 w.once in record {
   want = record { lacks = w.want.lacks; base = w.want.base; signs = w.want.signs };
   inside = w.inside;
-  seats = joined_seats v.list (entry_of_view v) w.seats few small;
+  seats = joined_seats v.seats v.list (entry_of_view v) w.seats few small;
   once = once;
   place = (refl, entry_when (joined v.list (entry_of_view v)) (entry_of_view v) once (joined_new v.list (entry_of_view v)), refl);
   later = w.later;
@@ -70,7 +70,7 @@ working_queued n l v o w few small = let once = joined_once v.list (entry_of_vie
 }
 
 pub has_stood : (size n : ℕ) (m m1 : Sat) (o p : Owner) (stands : Bool) → IsOrderly size m → stands ≡ false
-    → m.0.part.core.inside ≡ suc n → m.0.part.core.who < 16 → m.0.part.core.stamp < 2 ^ 56
+    → m.0.part.core.inside ≡ suc n → m.0.part.core.who < m.0.part.core.seats → Fits m.0.part.core.who m.0.part.core.stamp
     → SeesOther o m.0.part.core
     → (others : List (ℕ × Cell)) × AreOthers m.1 (64 + n) (Line m.0.part.core.list) others
     × (m1 ≡ (joining m.0 n o, (64 + n, Line (queued m.0.part.core n o).list) ∷ others))
@@ -83,7 +83,7 @@ has_stood size n m m1 o p stands ord off inside few small sees got is valid = re
   });
   sees = subst (λ (x : Owner). SeesOther x m1.0.part.core) (sym is)
       (subst (λ (z : Sat). SeesOther (with_waiters o) z.0.part.core) (sym got.2)
-      (record { seen = refl; valid = subst IsValid is valid; other = sees.other }));
+      (record { seen = refl; valid = subst IsValid is valid; there = sees.there; other = sees.other }));
   flags = λ on. absurd (true≢false (sym on ∙ off));
 }
 
@@ -136,7 +136,6 @@ asked_seating o t sits is = subst (IsSeating (asked_word o)) (sym is) (let z : I
 pub asked_sees : (v : View) (o : Owner) → SeesOther o v → IsValid (asked_word o)
 asked_sees v o sees = record {
   seating = asked_seating o sees.other.0 sees.valid.seating sees.other.1;
-  stamp = sees.valid.stamp;
   flags = inr (inr (inl refl));
 }
 
@@ -145,7 +144,7 @@ pub has_asked : (n : ℕ) (m m1 m2 : Sat) (o : Owner) (again : Bool) → SeesOth
 has_asked n m m1 m2 o again sees top is =
     subst (λ (z : Sight). HasAsked (asked_word o) again z.part.core)
     (sym (ap (λ (z : Sat). z.0) is ∙ ap (λ (z : Sat). asking z.0 o) top.now)) (record {
-      sees = record { seen = refl; valid = asked_sees m.0.part.core o sees; other = sees.other };
+      sees = record { seen = refl; valid = asked_sees m.0.part.core o sees; there = sees.there; other = sees.other };
       asked = λ _. (asked_word o, refl, inl refl);
     })
 
@@ -241,9 +240,9 @@ pub stays_goes : (size n : ℕ) (l : Bool) (m1 m2 m3 : Sat) (o : Owner) → IsWo
     → HasAsked o l m1.0.part.core → HasSigned size o m1 m2 → (t : IsTold size m2 m3) → MayStay o m3.0.part.core
     → MayGo n m3.0.part.core
 stays_goes size n l m1 m2 m3 o w asked h t stay =
-    let view : m3.0 ≡ knowing m1.0 (told (touched m1.0.part.core m1.0.part.core.seen h.signed h.condemned h.fresh)
+    let view : m3.0 ≡ knowing m1.0 (told (signing m1.0.part.core h.signed h.condemned h.debts h.fresh)
     t.sign t.fresh) = t.view ∙ ap (λ (z : Sight). knowing z (told z.part.core t.sign t.fresh)) h.view in
-    let stay2 : MayStay o (told (touched m1.0.part.core m1.0.part.core.seen h.signed h.condemned h.fresh) t.sign
+    let stay2 : MayStay o (told (signing m1.0.part.core h.signed h.condemned h.debts h.fresh) t.sign
     t.fresh) = subst (λ (z : Sight). MayStay o z.part.core) view stay in
     subst (λ (z : Sight). MayGo n z.part.core) (sym view) (record {
       inside = w.inside;

@@ -35,7 +35,7 @@ goes_on_none size m m' o is =
 
 pub goes_on_sees : (size : ℕ) (m m' : Sat) (o : Owner) → GoesOn size m m' → SeesOther o m.0.part.core → SeesOther o m'.0.part.core
 goes_on_sees size m m' o g sees = subst (λ (z : Sight). SeesOther o z.part.core) (sym g.view)
-    (record { seen = sees.seen; valid = sees.valid; other = sees.other })
+    (record { seen = sees.seen; valid = sees.valid; there = sees.there; other = sees.other })
 
 -- ---- one was
 

@@ -1,5 +1,5 @@
 -- A lock taken inside its guard.
-use Rattle.std.proofs.Common.{◌≡◌, ◌≢◌, ⊎_elim, inl, inr, ℕ, suc, ◌+◌, ◌<◌, ◌≤◌, Bool, true, false, true≢false, List, [], ◌∷◌, length, set, get_or, slice_get, refl, sym, ap, ◌∙◌, subst, arith, Option, Some, None, length-set}
+use Rattle.std.proofs.Common.{◌≡◌, ◌≢◌, ⊎_elim, inl, inr, ℕ, suc, ◌+◌, ◌<◌, ◌≤◌, Bool, true, false, true≢false, List, [], ◌∷◌, length, set, get_or, slice_get, refl, sym, ap, ◌∙◌, subst, arith, Option, Some, None, IfSome, length-set}
 use mathlib.Core.Option.{some}
 use mathlib.Core.Option as maybe
 use mathlib.Core.Logic.{dite}
@@ -9,9 +9,9 @@ use Rattle.atomic_table.proofs.Lists.{set_here, set_else}
 use Rattle.ww_word.specs.declared.owner.Owner.{Owner}
 use Rattle.ww_queue.specs.declared.entry.Entry.{Entry}
 use Rattle.ww_queue.specs.declared.kind.Kind.TheVariants.{WaitDie}
-use Rattle.ww_queue.specs.Queue.{Has, left}
+use Rattle.ww_queue.specs.Queue.{Has, Once, left}
 use Rattle.ww_queue.specs.Rules.{must_die, owed_signs}
-use Rattle.ww_queue.proofs.Leaves.{left_has, left_gone}
+use Rattle.ww_queue.proofs.Leaves.{left_has, left_once, left_gone}
 use Rattle.ww_queue.proofs.Deaths.{only_waiters_die}
 use Rattle.ww_model.specs.State.{waiting}
 use Rattle.ww_plain.specs.declared.node.Node.{Node}
@@ -32,7 +32,7 @@ use Rattle.ww_seat.specs.Orderly.{IsOrderly}
 use Rattle.ww_seat.specs.Accounts.{Account, account_of, having_taken}
 use Rattle.ww_seat.specs.Calls.{HasTaken}
 use Rattle.ww_seat.specs.Looks.{IsLook}
-use Rattle.ww_seat.specs.Work.{touched, IsWorking, MayGo, HasNoted, HasSigned, HasTakenInside}
+use Rattle.ww_seat.specs.Work.{signing, IsWorking, MayGo, HasNoted, HasSigned, HasTakenInside}
 use Rattle.ww_seat.specs.declared.look.Look.TheVariants.{Locked}
 use Rattle.ww_seat.proofs.Slots.{slot_here, slot_else, others_gone, others_else, others_apart}
 use Rattle.ww_seat.proofs.Outside.{orderly_brought, orderly_bare, set_past}
@@ -111,19 +111,24 @@ taken_read size n m m1 m2 x t top = record {
   node = t.node;
 }
 
-pub left_seats : (q : List Entry) (s : ℕ) → AreSeats q → AreSeats (left q s)
-left_seats q s seats e h = seats e (left_has q s e h)
+pub left_seats : (n : ℕ) (q : List Entry) (s : ℕ) → AreSeats n q → AreSeats n (left q s)
+left_seats n q s seats e h = seats e (left_has q s e h)
+
+-- the seat of the word that tells of the seat itself
+pub own_there : (o : Option ℕ) (w u n : ℕ) → o ≡ Some w → w < n → o ≡ Some u → u < n
+own_there o w u n is low same = subst (λ (x : Option ℕ). IfSome x (λ k. k < n)) (sym is ∙ same) low
 
 -- what the signs ask of a seat that took the lock
 pub record OwesAfter (n : ℕ) (w : View) : Type 0 where
   pub inside : w.inside ≡ suc n
-  pub seats : AreSeats w.list
+  pub seats : AreSeats w.seats w.list
+  pub once : Once w.list
   pub seen : w.seen ≡ Some (taken_word w.who w.stamp w.list)
 
 pub owes_after : (size n : ℕ) (s l : Bool) (m m2 : Sat) (x : Node) (o : Owner) → IsWorking n s l m.0.part.core
     → HasTakenInside size n m x m2 → OwesAfter n m2.0.part.core
 owes_after size n s l m m2 x o w t = subst (λ (z : Sight). OwesAfter n z.part.core) (sym t.view)
-    (record { inside = w.inside; seats = left_seats m.0.part.core.list m.0.part.core.who w.seats; seen = refl })
+    (record { inside = w.inside; seats = left_seats m.0.part.core.seats m.0.part.core.list m.0.part.core.who w.seats; once = left_once m.0.part.core.list m.0.part.core.who w.once; seen = refl })
 
 pub waiting_first : (q : List Entry) (e : Entry) → slice_get q 0 ≡ Some e → 1 ≡ waiting q
 waiting_first [] e is = absurd cc
@@ -150,10 +155,10 @@ word_read n m m1 o top is = is ∙ ap (λ (z : Sat). taken_word z.0.part.core.wh
 
 -- ---- on the way out
 
-go_taken : (n : ℕ) (s l : Bool) (v : View) (signed condemned : List ℕ) (fresh : Bool) → IsWorking n s l v
+go_taken : (n : ℕ) (s l : Bool) (v : View) (signed condemned debts : List ℕ) (fresh : Bool) → IsWorking n s l v
     → ((u k : ℕ) → Has (owed_signs v.kind (taken_word v.who v.stamp (left v.list v.who)) (left v.list v.who) v.who) (u, k) → Has signed u)
-    → MayGo n (touched (taken v n) (taken v n).seen signed condemned fresh)
-go_taken n s l v signed condemned fresh w all =
+    → MayGo n (signing (taken v n) signed condemned debts fresh)
+go_taken n s l v signed condemned debts fresh w all =
     let q : List Entry = left v.list v.who in let word : Owner = taken_word v.who v.stamp q in
     let lives : v.kind ≡ WaitDie → must_die v.kind word q v.who 0 ≡ None =
     λ _. only_waiters_die v.kind word q v.who 0 (left_gone v.list v.who w.once) in
@@ -172,8 +177,8 @@ pub taken_goes : (size n : ℕ) (s l : Bool) (m m2 m3 : Sat) (x : Node) (word : 
 taken_goes size n s l m m2 m3 x word w t is h =
     subst (λ (z : Sight). MayGo n z.part.core)
     (sym (h.view ∙ ap (λ (z : Sight). knowing z
-    (touched z.part.core z.part.core.seen h.signed h.condemned h.fresh)) t.view))
-    (go_taken n s l m.0.part.core h.signed h.condemned h.fresh w
+    (signing z.part.core h.signed h.condemned h.debts h.fresh)) t.view))
+    (go_taken n s l m.0.part.core h.signed h.condemned h.debts h.fresh w
     (λ u k has. h.all u k (subst (λ (o : Owner). Has
     (owed_signs m2.0.part.core.kind o m2.0.part.core.list m2.0.part.core.who) (u, k)) (sym is)
     (subst (λ (z : Sight). Has (owed_signs z.part.core.kind
@@ -188,10 +193,10 @@ named d maybe.none = d
 out_view : (size n : ℕ) (m m2 m3 m4 : Sat) (x : Node) (owed : List (ℕ × ℕ)) → HasTakenInside size n m x m2
     → (h : HasNoted size owed m2 m3) → m4.0 ≡ exiting m3.0
     → m4.0 ≡ exiting (knowing (taking_inside m.0 n x)
-    (touched (taken m.0.part.core n) (taken m.0.part.core n).seen h.signed h.condemned h.fresh))
+    (signing (taken m.0.part.core n) h.signed h.condemned h.debts h.fresh))
 out_view size n m m2 m3 m4 x owed t h out = out
     ∙ ap exiting (h.view ∙ ap (λ (z : Sight). knowing z
-    (touched z.part.core z.part.core.seen h.signed h.condemned h.fresh)) t.view)
+    (signing z.part.core h.signed h.condemned h.debts h.fresh)) t.view)
 
 -- the seat owns it then
 pub own_out : (size n : ℕ) (m m2 m3 m4 : Sat) (x : Node) (owed : List (ℕ × ℕ)) → IsOrderly size m

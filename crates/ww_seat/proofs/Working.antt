@@ -19,7 +19,7 @@ use Rattle.ww_rule.specs.Waiting.{HasListOnTop}
 use Rattle.ww_seat.specs.Orderly.{IsOrderly}
 use Rattle.ww_seat.specs.Calls.{HoldsAsBefore}
 use Rattle.ww_seat.specs.Looks.{MayWant}
-use Rattle.ww_seat.specs.Work.{AreWoken, AreOnlyWoken, StillHasToWake, AreMarked, HasToWake, HasCondemnedNone, touched, told, IsTouched, IsTold, IsPlaced, IsWorking, IsAtWork, IsCleared, MayGo, HasNoted}
+use Rattle.ww_seat.specs.Work.{AreWoken, AreOnlyWoken, StillHasToWake, AreMarked, HasToWake, HasBooked, debts_with, HasCondemnedNone, touched, signing, told, IsTouched, IsTold, IsPlaced, IsWorking, IsAtWork, IsCleared, MayGo, HasNoted}
 use Rattle.ww_seat.proofs.Holds.{holds_same, holds_then}
 use Rattle.ww_seat.proofs.Outside.{orderly_knowing, orderly_brought}
 use Rattle.ww_seat.proofs.Guards.{listed_orderly, exiting_orderly}
@@ -30,6 +30,10 @@ pub holds_touched : (m m' : Sat) (a : Option Owner) (b d : List ℕ) (c : Bool)
     → m'.0 ≡ knowing m.0 (touched m.0.part.core a b d c) → HoldsAsBefore m m'
 holds_touched m m' a b d c e = subst (λ (z : Sight). HoldsAsBefore m (z, m'.1)) (sym e) refl
 
+holds_signing : (m m' : Sat) (a b d : List ℕ) (c : Bool)
+    → m'.0 ≡ knowing m.0 (signing m.0.part.core a b d c) → HoldsAsBefore m m'
+holds_signing m m' a b d c e = subst (λ (z : Sight). HoldsAsBefore m (z, m'.1)) (sym e) refl
+
 pub holds_told : (m m' : Sat) (s : Option ℕ) (c : Bool) → m'.0 ≡ knowing m.0 (told m.0.part.core s c) → HoldsAsBefore m m'
 holds_told m m' s c e = subst (λ (z : Sight). HoldsAsBefore m (z, m'.1)) (sym e) refl
 
@@ -38,54 +42,70 @@ holds_told m m' s c e = subst (λ (z : Sight). HoldsAsBefore m (z, m'.1)) (sym e
 -- it condemned nobody, by what its view is then
 pub none_condemned : (m m' : Sat) (w : Sight) → m'.0 ≡ w → w.part.core.who ≡ m.0.part.core.who
     → w.part.core.attempts ≡ m.0.part.core.attempts → w.part.core.condemned ≡ m.0.part.core.condemned
-    → HasCondemnedNone m m'
-none_condemned m m' w view who attempts condemned =
+    → w.part.core.debts ≡ m.0.part.core.debts → HasCondemnedNone m m'
+none_condemned m m' w view who attempts condemned debts =
     record {
       who = ap (λ (z : Sight). z.part.core.who) view ∙ who;
       attempts = ap (λ (z : Sight). z.part.core.attempts) view ∙ attempts;
       condemned = ap (λ (z : Sight). z.part.core.condemned) view ∙ condemned;
+      debts = ap (λ (z : Sight). z.part.core.debts) view ∙ debts;
     }
 
-pub woken_still : (m m' : Sat) (wakes : List Bool) → HasCondemnedNone m m' → AreWoken m.0.part.core wakes → AreWoken m'.0.part.core wakes
+pub woken_still : (m m' : Sat) (wakes : List ℕ) → HasCondemnedNone m m' → AreWoken m.0.part.core wakes → AreWoken m'.0.part.core wakes
 woken_still m m' wakes none woken u has = woken u (subst (λ (l : List ℕ). Has l u) none.condemned has.0, λ e. has.1 (e ∙ sym none.who))
 
-pub woken_touched : (size : ℕ) (m m' : Sat) (wakes : List Bool) → IsTouched size m m' → AreWoken m.0.part.core wakes
+pub woken_touched : (size : ℕ) (m m' : Sat) (wakes : List ℕ) → IsTouched size m m' → AreWoken m.0.part.core wakes
     → AreWoken m'.0.part.core wakes
 woken_touched size m m' wakes t = woken_still m m' wakes
     (none_condemned m m' (knowing m.0 (touched m.0.part.core t.seen t.signed m.0.part.core.condemned t.fresh))
-    t.view refl refl refl)
+    t.view refl refl refl refl)
 
 -- it has nobody to wake that isn't marked yet
-pub marked_none : (m : Sat) (wakes : List Bool) → AreWoken m.0.part.core wakes → AreMarked wakes (HasToWake m.0.part.core) wakes
+pub marked_none : (m : Sat) (wakes : List ℕ) → AreWoken m.0.part.core wakes → AreMarked wakes (HasToWake m.0.part.core) wakes
 marked_none m wakes woken u = (inl, ⊎_elim (λ was. was) (woken u))
 
 -- nobody was condemned, so whoever had to be woken still has to be
 pub still_none : (m m' : Sat) → HasCondemnedNone m m' → StillHasToWake m.0.part.core m'.0.part.core
-still_none m m' none u has = (subst (λ (l : List ℕ). Has l u) (sym none.condemned) has.0, λ e. has.1 (e ∙ none.who))
+still_none m m' none = record {
+  still = λ u has. (subst (λ (l : List ℕ). Has l u) (sym none.condemned) has.0, λ e. has.1 (e ∙ none.who));
+  booked = λ before is. none.debts ∙ is ∙ sym (ap (λ (w : ℕ). debts_with w m'.0.part.core.condemned before) none.who
+      ∙ ap (λ (l : List ℕ). debts_with m.0.part.core.who l before) none.condemned);
+}
 
 pub still_touched : (size : ℕ) (m m' : Sat) → IsTouched size m m' → StillHasToWake m.0.part.core m'.0.part.core
 still_touched size m m' t = still_none m m'
     (none_condemned m m' (knowing m.0 (touched m.0.part.core t.seen t.signed m.0.part.core.condemned t.fresh))
-    t.view refl refl refl)
+    t.view refl refl refl refl)
 
 pub still_noted : (size : ℕ) (owed : List (ℕ × ℕ)) (m m' : Sat) → HasNoted size owed m m'
     → StillHasToWake m.0.part.core m'.0.part.core
-still_noted size owed m m' h u has = subst (λ (z : Sight). HasToWake z.part.core u) (sym h.view) (h.more u has.0, has.1)
+still_noted size owed m m' h = record {
+  still = λ u has. subst (λ (z : Sight). HasToWake z.part.core u) (sym h.view) (h.more u has.0, has.1);
+  booked = λ before is. subst (λ (z : Sight). HasBooked before z.part.core) (sym h.view) (h.booked before is);
+}
+
+pub still_then : (m m1 m2 : Sat) → StillHasToWake m.0.part.core m1.0.part.core
+    → StillHasToWake m1.0.part.core m2.0.part.core → StillHasToWake m.0.part.core m2.0.part.core
+still_then m m1 m2 x y = record {
+  still = λ u has. y.still u (x.still u has);
+  booked = λ before is. y.booked before (x.booked before is);
+}
 
 pub still_later : (size : ℕ) (owed : List (ℕ × ℕ)) (m m1 m2 m3 : Sat) → IsTouched size m m1 → HasNoted size owed m1 m2
     → HasCondemnedNone m2 m3 → StillHasToWake m.0.part.core m3.0.part.core
-still_later size owed m m1 m2 m3 t h none u has = still_none m2 m3 none u (still_noted size owed m1 m2 h u (still_touched size m m1 t u has))
+still_later size owed m m1 m2 m3 t h none =
+    still_then m m2 m3 (still_then m m1 m2 (still_touched size m m1 t) (still_noted size owed m1 m2 h)) (still_none m2 m3 none)
 
 -- whoever was marked alone is so still
-pub only_marked : (m m' : Sat) (was now : List Bool) → AreOnlyWoken m.0.part.core was
+pub only_marked : (m m' : Sat) (was now : List ℕ) → AreOnlyWoken m.0.part.core was
     → StillHasToWake m.0.part.core m'.0.part.core → AreMarked was (HasToWake m'.0.part.core) now
     → AreOnlyWoken m'.0.part.core now
-only_marked m m' was now only still marked u mark = ⊎_elim (λ before. still u (only u before)) (λ has. has) ((marked u).0 mark)
+only_marked m m' was now only still marked u mark = ⊎_elim (λ before. still.still u (only u before)) (λ has. has) ((marked u).0 mark)
 
-pub woken_marked : (m : Sat) (was now : List Bool) → AreMarked was (HasToWake m.0.part.core) now → AreWoken m.0.part.core now
+pub woken_marked : (m : Sat) (was now : List ℕ) → AreMarked was (HasToWake m.0.part.core) now → AreWoken m.0.part.core now
 woken_marked m was now marked u has = (marked u).1 (inr has)
 
-pub marked_still : (m m' : Sat) (was now : List Bool) → HasCondemnedNone m m'
+pub marked_still : (m m' : Sat) (was now : List ℕ) → HasCondemnedNone m m'
     → AreMarked was (HasToWake m.0.part.core) now → AreMarked was (HasToWake m'.0.part.core) now
 marked_still m m' was now none marked =
     subst (λ (l : List ℕ). AreMarked was (λ u. Has l u × (u ≢ m'.0.part.core.who)) now) (sym none.condemned)
@@ -106,6 +126,22 @@ working_touched n stands again v a b d c w = record {
   seats = w.seats;
   once = w.once;
   place = place_touched stands n v a b d c w.place;
+  later = w.later;
+  behind = w.behind;
+}
+
+place_signing : (stands : Bool) (n : ℕ) (v : View) (a b d : List ℕ) (c : Bool) → IsPlaced stands n v → IsPlaced stands n (signing v a b d c)
+place_signing true n v a b d c p = p
+place_signing false n v a b d c p = p
+
+working_signing : (n : ℕ) (stands again : Bool) (v : View) (a b d : List ℕ) (c : Bool)
+    → IsWorking n stands again v → IsWorking n stands again (signing v a b d c)
+working_signing n stands again v a b d c w = record {
+  want = record { lacks = w.want.lacks; base = w.want.base; signs = w.want.signs };
+  inside = w.inside;
+  seats = w.seats;
+  once = w.once;
+  place = place_signing stands n v a b d c w.place;
   later = w.later;
   behind = w.behind;
 }
@@ -189,12 +225,13 @@ work_looked size n stands again m m' o was w is = subst (IsAtWork size n m stand
 pub look_counts : (m m' : Sat) (o : Owner) → m' ≡ (looking m.0 o, m.1) → m'.0.part.core.attempts ≡ m.0.part.core.attempts + 1
 look_counts m m' o is = ap (λ (z : Sat). z.0.part.core.attempts) is
 
-pub woken_looked : (m m' : Sat) (o : Owner) (wakes : List Bool) → m' ≡ (looking m.0 o, m.1)
+pub woken_looked : (m m' : Sat) (o : Owner) (wakes : List ℕ) → m' ≡ (looking m.0 o, m.1)
     → AreWoken m.0.part.core wakes → AreWoken m'.0.part.core wakes
 woken_looked m m' o wakes is woken = subst (λ (z : Sat). AreWoken z.0.part.core wakes) (sym is) woken
 
 pub still_looked : (m m' : Sat) (o : Owner) → m' ≡ (looking m.0 o, m.1) → StillHasToWake m.0.part.core m'.0.part.core
-still_looked m m' o is = subst (λ (z : Sat). StillHasToWake m.0.part.core z.0.part.core) (sym is) (λ u has. has)
+still_looked m m' o is = subst (λ (z : Sat). StillHasToWake m.0.part.core z.0.part.core) (sym is)
+    (record { still = λ u has. has; booked = λ before e. e })
 
 -- a step that was lost
 pub touched_lost : (size : ℕ) (m m' : Sat) → IsOrderly size m → m' ≡ (lost m.0, m.1) → IsTouched size m m'
@@ -243,8 +280,8 @@ pub work_noted : (size n : ℕ) (before : Sat) (stands again : Bool) (owed : Lis
 work_noted size n before stands again owed m m' w h = record {
   orderly = h.orderly;
   working = subst (λ (z : Sight). IsWorking n stands again z.part.core) (sym h.view)
-      (working_touched n stands again m.0.part.core m.0.part.core.seen h.signed h.condemned h.fresh w.working);
-  holds = holds_then before m m' w.holds (holds_touched m m' m.0.part.core.seen h.signed h.condemned h.fresh h.view);
+      (working_signing n stands again m.0.part.core h.signed h.condemned h.debts h.fresh w.working);
+  holds = holds_then before m m' w.holds (holds_signing m m' h.signed h.condemned h.debts h.fresh h.view);
 }
 
 -- ---- out of the guard
@@ -322,7 +359,7 @@ pub record IsInside (size n : ℕ) (m : Sat) : Type 0 where
   pub want : MayWant n m.0.part.core
   pub inside : m.0.part.core.inside ≡ suc n
   pub place : (m.0.part.core.waits ≡ 0) ⊎ (m.0.part.core.waits ≡ suc n)
-  pub seats : AreSeats m.0.part.core.list
+  pub seats : AreSeats m.0.part.core.seats m.0.part.core.list
   pub once : Once m.0.part.core.list
   pub absent : m.0.part.core.waits ≡ 0 → StandsNot m.0.part.core.list m.0.part.core.who
   pub entry : m.0.part.core.waits ≡ suc n → entry_of m.0.part.core.list m.0.part.core.who ≡ Some (entry_of_view m.0.part.core)
@@ -354,3 +391,11 @@ work_inside size n again m i is = let p = place_inside again n m.0.part.core.wai
       later = sym is;
       behind = λ t. t;
     })
+
+-- marked by one after another
+pub marked_then : (v v' : View) (was mid now : List ℕ) → ((u : ℕ) → HasToWake v u → HasToWake v' u) → AreMarked was (HasToWake v) mid
+    → AreMarked mid (HasToWake v') now → AreMarked was (HasToWake v') now
+marked_then v v' was mid now still first then u = (
+  λ mark. ⊎_elim (λ before. ⊎_elim inl (λ has. inr (still u has)) ((first u).0 before)) inr ((then u).0 mark),
+  λ one. ⊎_elim (λ before. (then u).1 (inl ((first u).1 (inl before)))) (λ has. (then u).1 (inr has)) one,
+)

@@ -1,12 +1,14 @@
 -- Bells: which parker each of them rings, and whom a call wakes.
-use Rattle.std.specs.Prelude.{ℕ, ◌≡◌, ◌≢◌, ◌<◌, ◌+◌, Bool, true, false, List, length, map, Option, Some, slice_get}
+use Rattle.std.specs.Prelude.{ℕ, ◌≡◌, ◌≢◌, ◌<◌, ◌+◌, ◌==◌, Bool, true, false, List, [], ◌∷◌, length, map, Option, Some, slice_get}
 use Rattle.std.specs.Arc.{arc_value}
 use Rattle.std.specs.List.{slice_index_or}
 use Rattle.std.specs.Option.{option_map}
 use Rattle.atomic_table.specs.Seated.{TableId}
 use Rattle.ww_queue.specs.Queue.{Has}
 use Rattle.ww_view.specs.declared.view.View.{View}
+use Rattle.ww_rule.specs.Rule.{Sat}
 use Rattle.ww_table.specs.declared.board.Board.{Board}
+use Rattle.ww_seat.specs.Marks.{is_marked}
 use Rattle.ww_seat.specs.declared.bell.Bell.{Bell}
 use Rattle.ww_seat.specs.declared.bell.Parker.{Parker}
 use Rattle.ww_seat.specs.declared.bell.Wire.{Wire}
@@ -20,6 +22,19 @@ place_of p = p.pass.table_id
 -- the parker that a pass sleeps on
 abbrev pub sleeps_at : Patience → TableId
 sleeps_at p = place_of p.parker
+
+-- how many tokens were taken at a parker
+abbrev pub taken_at : Parker → ℕ
+taken_at p = p.pass.me.0
+
+-- how many tokens a pass took
+abbrev pub heard : Patience → ℕ
+heard p = taken_at p.parker
+
+-- it sleeps on the same parker as before, and didn't sleep meanwhile
+pub record SleepsNot (p p' : Patience) : Type 0 where
+  pub parker : sleeps_at p' ≡ sleeps_at p
+  pub heard : heard p' ≡ heard p
 
 -- the parker to which a wire leads
 abbrev pub leads_to : Wire → TableId
@@ -53,10 +68,24 @@ abbrev pub one_more : Bool → ℕ → ℕ
 one_more true k = k + 1
 one_more false k = k
 
+-- how often a number stands in a list
+abbrev pub times : ℕ → List ℕ → ℕ
+times u [] = 0
+times u (v ∷ vs) = one_more (v == u) (times u vs)
+
+-- How many wakes a seat owed another one so far: one each time that it set the cancel of that seat, and one for each of its
+-- debts to it.
+abbrev pub wakes_owed : Sat → ℕ → ℕ
+wakes_owed m u = times u m.0.part.counts.cancelled + times u m.0.part.core.debts
+
+-- each bell gave as many tokens as its seat was owed wakes
+abbrev pub ArePaid : Sat → List Bell → Type 0
+ArePaid m bells = (u : ℕ) → u < length bells → rung_at bells u ≡ Some (wakes_owed m u)
+
 -- each bell that has a mark gave one token more, and the others gave none
-abbrev pub AreRung : List Bool → List Bell → List Bell → Type 0
+abbrev pub AreRung : List ℕ → List Bell → List Bell → Type 0
 AreRung marks bells bells' = (u : ℕ) → u < length bells →
-    rung_at bells' u ≡ option_map (one_more (slice_index_or marks u false)) (rung_at bells u)
+    rung_at bells' u ≡ option_map (one_more (is_marked marks u)) (rung_at bells u)
 
 -- the bell of a seat gave one token more
 abbrev pub IsRung : ℕ → List Bell → List Bell → Type 0

@@ -1,5 +1,5 @@
 -- What the calls of the locks make of a seat.
-use Rattle.std.specs.Prelude.{ℕ, ◌≡◌, ◌<◌, List, true, false, length, Some, None, IsTrue}
+use Rattle.std.specs.Prelude.{ℕ, ◌≡◌, ◌<◌, ◌+◌, List, true, false, length, Some, None, IsTrue}
 use Rattle.std.specs.List.{AllByRecursion}
 use mathlib.Core.Option.{some}
 use lib.ListN.{get_elem?}
@@ -8,11 +8,15 @@ use Rattle.ww_queue.specs.declared.entry.Entry.{Entry}
 use Rattle.ww_plain.specs.declared.node.Node.{Node}
 use Rattle.ww_plain.specs.declared.history.Record.{Record}
 use Rattle.ww_plain.specs.Numbers.{is_among}
-use Rattle.ww_plain.specs.Graph.{IsNodeOf, node_at}
+use Rattle.ww_plain.specs.Graph.{IsNodeOf, no_node, node_at}
 use Rattle.ww_view.specs.declared.view.View.{View}
 use Rattle.ww_view.specs.View.{owns}
-use Rattle.ww_view.specs.May.{IsShownBy}
+use Rattle.ww_view.specs.May.{IsShownBy, WantsSigns}
 use Rattle.ww_rule.specs.Rule.{Sat}
+use Rattle.ww_table.specs.declared.seat.Taking.{Taking}
+use Rattle.ww_table.specs.declared.seat.Taking.TheVariants.{Took, Had, Missed}
+use Rattle.ww_table.specs.declared.seat.Giving.{Giving}
+use Rattle.ww_table.specs.declared.seat.Giving.TheVariants.{Gave, Kept, Lacked}
 use Rattle.ww_seat.specs.Accounts.{Account, account_of, having_tried, having_taken, having_given, having_died, having_stopped, having_begun, having_ended, having_committed}
 use Rattle.ww_seat.specs.declared.waiting.Stop.{Stop}
 use Rattle.ww_seat.specs.declared.waiting.Stop.TheVariants.{Deadlk, Interrupted}
@@ -42,9 +46,38 @@ HasTaken m n x m' = HasAdded (account_of m) n x m'
 abbrev pub HasTakenAtOnce : Sat → ℕ → Node → Sat → Type 0
 HasTakenAtOnce m n x m' = HasAdded (having_tried (account_of m)) n x m'
 
+-- It tried in vain to take lock n at once, which it doesn't own, and may go on to want it.
+pub record HasMissed (m : Sat) (n : ℕ) (m' : Sat) : Type 0 where
+  pub lacks : owns m.0.part.core n ≡ false
+  pub tried : HasTriedInVain m m'
+  pub met : m'.0.part.core.met ≡ m.0.part.core.met
+  pub glances : m'.0.part.core.glances ≡ 0
+  pub signs : WantsSigns m'.0.part.core
+
+-- What one try to take lock n came to, which guards no node: a blank node stands for that. If it had the lock, nothing has
+-- changed.
+abbrev pub HasTriedOnce : Sat → ℕ → Taking → Sat → Type 0
+HasTriedOnce m n Took m' = (owns m.0.part.core n ≡ false) × HasTakenAtOnce m n no_node m'
+HasTriedOnce m n Had m' = (owns m.0.part.core n ≡ true) × (m' ≡ m)
+HasTriedOnce m n Missed m' = HasMissed m n m'
+
+-- It went inside no guard: it tried to go into none, and looked at no owner word in one. So it has to wake nobody else, and
+-- left none in order to sleep.
+pub record HasStayedOut (v v' : View) : Type 0 where
+  pub attempts : v'.attempts ≡ v.attempts
+  pub debts : v'.debts ≡ v.debts
+  pub naps : v'.naps ≡ v.naps
+  pub deaf : v'.deaf ≡ v.deaf
+
 -- it owns one lock less
 abbrev pub HasGiven : Sat → ℕ → Sat → Type 0
 HasGiven m n m' = account_of m' ≡ having_given (account_of m) n
+
+-- What one try to release lock n came to, which guards no node. If it hadn't the lock, nothing has changed.
+abbrev pub HasLetOnce : Sat → ℕ → Giving → Sat → Type 0
+HasLetOnce m n Gave m' = (owns m.0.part.core n ≡ true) × HasGiven m n m' × (m'.0.part.core.kept ≡ m.0.part.core.kept)
+HasLetOnce m n Kept m' = (owns m.0.part.core n ≡ true) × HoldsAsBefore m m' × (m'.0.part.core.kept ≡ m.0.part.core.kept + 1)
+HasLetOnce m n Lacked m' = (owns m.0.part.core n ≡ false) × (m' ≡ m)
 
 -- Its view tells what it met as it backed off from lock n, and what it saw there: that shows an older context of stamp
 -- k. Only the step that the rules have for a context that has to back off makes a view tell so.
@@ -75,9 +108,9 @@ IsTurnedAway m n (Deadlk k) m' = HasToDie m n k m'
 IsTurnedAway m n (Interrupted by) m' = HasStopped m n by m'
 
 -- only a wait until a cancel is interrupted
-abbrev pub MayStop : Waits → Stop → Type 0
-MayStop waits (Deadlk k) = Unit {0}
-MayStop waits (Interrupted by) = waits ≡ UntilCancelled
+abbrev pub MayStop : ℕ → Waits → Stop → Type 0
+MayStop seats waits (Deadlk k) = Unit {0}
+MayStop seats waits (Interrupted by) = (waits ≡ UntilCancelled) × (by < seats)
 
 -- A context of stamp k started: the seat holds what it held, and has drawn once more.
 pub record HasBegun (m : Sat) (k : ℕ) (m' : Sat) : Type 0 where

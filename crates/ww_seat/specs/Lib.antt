@@ -5,5 +5,6 @@ pub mod Commits
 pub mod Looks
 pub mod Rests
 pub mod Guards
+pub mod Marks
 pub mod Work
 pub mod Bells

@@ -1,5 +1,5 @@
 -- A seat that wants a lock, on its way there.
-use Rattle.std.specs.Prelude.{ℕ, suc, ◌≡◌, ◌≤◌, ◌+◌, ◌⊎◌, true, false}
+use Rattle.std.specs.Prelude.{ℕ, suc, ◌≡◌, ◌<◌, ◌≤◌, ◌+◌, ◌⊎◌, true, false}
 use Rattle.ww_view.specs.declared.view.View.{View}
 use Rattle.ww_view.specs.View.{owns, IsAway}
 use Rattle.ww_view.specs.May.{WantsBase, WantsSigns}
@@ -44,6 +44,16 @@ IsLook size n m (look.Deadlk k) m' = IsOrderly size m' × IsAway m'.0.part.core 
 IsLook size n m (look.Interrupted by) m' = IsOrderly size m' × IsAway m'.0.part.core × HasStopped m n by m'
 IsLook size n m look.Waits m' = IsOutside size n m' × (m'.0.part.core.waits ≡ suc n) × HoldsAsBefore m m'
 
+-- it left no guard as a waiter
+pub record StaysAwake (v v' : View) : Type 0 where
+  pub naps : v'.naps ≡ v.naps
+  pub deaf : v'.deaf ≡ v.deaf
+
+-- a look that comes to waiting is one nap more, and not a deaf one if it found no cancel
+abbrev pub IsNap : View → Look → View → Type 0
+IsNap v look.Waits v' = (v'.naps ≡ v.naps + 1) × (v'.uncancelled ≡ true → v'.deaf ≡ v.deaf)
+IsNap v _ v' = StaysAwake v v'
+
 -- what is true of the look, if the attempt came to its end
 abbrev pub IfEnded : Attempt → (Look → Type 0) → Type 0
 IfEnded Lost P = Unit {0}
@@ -55,9 +65,9 @@ IfLost Lost P = P
 IfLost (Ended look) P = Unit {0}
 
 -- only a look of a wait until a cancel comes to an interruption
-abbrev pub MayLookSo : Waits → Look → Type 0
-MayLookSo waits (look.Interrupted by) = waits ≡ UntilCancelled
-MayLookSo waits _ = Unit {0}
+abbrev pub MayLookSo : ℕ → Waits → Look → Type 0
+MayLookSo seats waits (look.Interrupted by) = (waits ≡ UntilCancelled) × (by < seats)
+MayLookSo seats waits _ = Unit {0}
 
 -- a look of a wait until a cancel comes to waiting only once it found none
 abbrev pub MayWaitSo : Waits → View → Look → Type 0

@@ -1,8 +1,7 @@
 -- A seat at work inside the guard of a lock that it wants.
-use Rattle.std.specs.Prelude.{ℕ, suc, ◌≡◌, ◌≢◌, ◌<◌, ◌==◌, ◌⊎◌, ◌↔◌, not, Bool, true, false, List, length, Option, Some, None}
-use Rattle.std.specs.List.{slice_index_or}
+use Rattle.std.specs.Prelude.{ℕ, suc, ◌≡◌, ◌≢◌, ◌<◌, ◌==◌, ◌⊎◌, ◌↔◌, not, Bool, true, false, List, [], ◌∷◌, length, Option, Some, None}
 use Rattle.ww_word.specs.declared.owner.Owner.{Owner}
-use Rattle.ww_word.specs.Owner.{IsValid}
+use Rattle.ww_word.specs.AnySeats.{IsValid}
 use Rattle.ww_queue.specs.declared.kind.Kind.TheVariants.{WoundWait, WaitDie}
 use Rattle.ww_queue.specs.Queue.{Has, Once, StandsNot, entry_of}
 use Rattle.ww_queue.specs.Rules.{must_die, owed_signs}
@@ -12,7 +11,7 @@ use Rattle.ww_view.specs.declared.view.View.{View}
 use Rattle.ww_view.specs.Word.{TellsOther}
 use Rattle.ww_view.specs.View.{owns}
 use Rattle.ww_view.specs.May.{WantsSigns, LivesBySeen, HasPaid, NothingToAsk}
-use Rattle.ww_view.specs.Made.{entry_of_view}
+use Rattle.ww_view.specs.Made.{entry_of_view, with_condemned}
 use Rattle.ww_rule.specs.Rule.{Sat}
 use Rattle.ww_rule.specs.Steps.{knowing}
 use Rattle.ww_rule.specs.Guards.{AreSeats}
@@ -20,6 +19,7 @@ use Rattle.ww_rule.specs.Waiting.{taking_inside}
 use Rattle.ww_seat.specs.Orderly.{IsOrderly}
 use Rattle.ww_seat.specs.Calls.{HoldsAsBefore}
 use Rattle.ww_seat.specs.Looks.{MayWant}
+pub use Rattle.ww_seat.specs.Marks.{IsMarked, AreMarked}
 use Rattle.ww_seat.specs.declared.look.Arrival.{Arrival}
 use Rattle.ww_seat.specs.declared.look.Arrival.TheVariants.{Came, Joined, Woken}
 
@@ -28,6 +28,10 @@ use Rattle.ww_seat.specs.declared.look.Arrival.TheVariants.{Came, Joined, Woken}
 -- the owner word that it saw last, whom it found or made signed, and whom it condemned itself
 abbrev pub touched : View → Option Owner → List ℕ → List ℕ → Bool → View
 touched v seen signed condemned fresh = record v { seen = seen; signed = signed; condemned = condemned; fresh = fresh }
+
+-- ... and some of them made it have to wake them
+abbrev pub signing : View → List ℕ → List ℕ → List ℕ → Bool → View
+signing v signed condemned debts fresh = record v { signed = signed; condemned = condemned; debts = debts; fresh = fresh }
 
 -- what it knows of its own sign
 abbrev pub told : View → Option ℕ → Bool → View
@@ -54,31 +58,34 @@ pub record IsTold (size : ℕ) (m m' : Sat) : Type 0 where
 abbrev pub HasToWake : View → ℕ → Type 0
 HasToWake v u = Has v.condemned u × (u ≢ v.who)
 
--- it has a mark
-abbrev pub IsMarked : List Bool → ℕ → Type 0
-IsMarked wakes u = slice_index_or wakes u false ≡ true
-
 -- each seat that has to be woken has a mark
-abbrev pub AreWoken : View → List Bool → Type 0
+abbrev pub AreWoken : View → List ℕ → Type 0
 AreWoken v wakes = (u : ℕ) → HasToWake v u → IsMarked wakes u
 
 -- only a seat that has to be woken has a mark
-abbrev pub AreOnlyWoken : View → List Bool → Type 0
+abbrev pub AreOnlyWoken : View → List ℕ → Type 0
 AreOnlyWoken v wakes = (u : ℕ) → IsMarked wakes u → HasToWake v u
 
--- whoever had to be woken still has to be
-abbrev pub StillHasToWake : View → View → Type 0
-StillHasToWake v v' = (u : ℕ) → HasToWake v u → HasToWake v' u
+-- whom it has to wake, once it condemned these inside one guard; before that it had to wake those
+abbrev pub debts_with : ℕ → List ℕ → List ℕ → List ℕ
+debts_with who [] debts = debts
+debts_with who (u ∷ us) debts = with_condemned who us u (debts_with who us debts)
 
--- marked are those that were marked before, and these, and nobody else
-abbrev pub AreMarked : List Bool → (ℕ → Type 0) → List Bool → Type 0
-AreMarked was these now = (u : ℕ) → IsMarked now u ↔ (IsMarked was u ⊎ these u)
+-- its debts are those whom it condemned since it went inside the guard, and these from before
+abbrev pub HasBooked : List ℕ → View → Type 0
+HasBooked before v = v.debts ≡ debts_with v.who v.condemned before
 
--- the same seat, and it condemned nobody, nor did it look at an owner word
+-- whoever had to be woken still has to be, and whom it condemns is added to its debts, and nobody else
+pub record StillHasToWake (v v' : View) : Type 0 where
+  pub still : (u : ℕ) → HasToWake v u → HasToWake v' u
+  pub booked : (before : List ℕ) → HasBooked before v → HasBooked before v'
+
+-- the same seat, and it condemned nobody, nor did it look at an owner word; it has to wake nobody else
 pub record HasCondemnedNone (m m' : Sat) : Type 0 where
   pub who : m'.0.part.core.who ≡ m.0.part.core.who
   pub attempts : m'.0.part.core.attempts ≡ m.0.part.core.attempts
   pub condemned : m'.0.part.core.condemned ≡ m.0.part.core.condemned
+  pub debts : m'.0.part.core.debts ≡ m.0.part.core.debts
 
 -- ---- where it stands
 
@@ -107,7 +114,7 @@ IsPlaced false n v = (v.waits ≡ 0) × StandsNot v.list v.who
 pub record IsWorking (n : ℕ) (stands again : Bool) (v : View) : Type 0 where
   pub want : MayWant n v
   pub inside : v.inside ≡ suc n
-  pub seats : AreSeats v.list
+  pub seats : AreSeats v.seats v.list
   pub once : Once v.list
   pub place : IsPlaced stands n v
   pub later : v.later ≡ again
@@ -125,6 +132,7 @@ pub record IsAtWork (size n : ℕ) (before : Sat) (stands again : Bool) (m : Sat
 pub record SeesOther (o : Owner) (v : View) : Type 0 where
   pub seen : v.seen ≡ Some o
   pub valid : IsValid o
+  pub there : (u : ℕ) → o.seat ≡ Some u → u < v.seats
   pub other : TellsOther o v.who
 
 -- Nothing is changed, but that it may not have just looked for its own sign any more, and may have found no cancel.
@@ -134,15 +142,23 @@ pub record GoesOn (size : ℕ) (m m' : Sat) : Type 0 where
   pub uncancelled : Bool
   pub view : m'.0 ≡ knowing m.0 (record (m.0.part.core) { fresh = fresh; uncancelled = uncancelled })
 
+-- it owes these signs, to seats that there are
+abbrev pub AreOwed : View → List (ℕ × ℕ) → Type 0
+AreOwed v owed = (u k : ℕ) → Has owed (u, k) → (u < v.seats)
+    × ((o : Owner) × (v.seen ≡ Some o) × Has (owed_signs v.kind o v.list v.who) (u, k))
+
 -- It found or made signed each of these.
 pub record HasNoted (size : ℕ) (owed : List (ℕ × ℕ)) (m m' : Sat) : Type 0 where
   pub orderly : IsOrderly size m'
   pub signed : List ℕ
   pub condemned : List ℕ
+  pub debts : List ℕ
   pub fresh : Bool
-  pub view : m'.0 ≡ knowing m.0 (touched m.0.part.core m.0.part.core.seen signed condemned fresh)
+  pub view : m'.0 ≡ knowing m.0 (signing m.0.part.core signed condemned debts fresh)
   pub all : (u k : ℕ) → Has owed (u, k) → Has signed u
   pub more : (u : ℕ) → Has m.0.part.core.condemned u → Has condemned u
+  pub kept : (u : ℕ) → Has m.0.part.core.signed u → Has signed u
+  pub booked : (before : List ℕ) → HasBooked before m.0.part.core → debts ≡ debts_with m.0.part.core.who condemned before
 
 -- ... all whom it owes a sign by this word
 abbrev pub HasSigned : ℕ → Owner → Sat → Sat → Type 0

@@ -7,7 +7,7 @@ use crossbeam_utils::sync::parker::{Pass, RuledParker, RuledUnparker};
 use std::alloc::{AllocError, Global};
 use std::sync::Wait;
 
-/// Nothing is asked of a token. A pass counts the tokens that it gave.
+/// Nothing is asked of a token. A pass counts the tokens that it gave, or took.
 pub(crate) struct Rings;
 
 impl Protocol<bool, u64> for Rings {
@@ -23,11 +23,11 @@ impl Outcome<bool, u64> for Rang {
     ghost then = { λ v _ now w. (now ≡ true) × (w ≡ v + 1) };
 }
 
-/// A token was there, and was taken.
+/// A token was there, and was taken. The parker's pass counts those.
 struct Heard;
 
 impl Outcome<bool, u64> for Heard {
-    ghost then = { λ v was _ w. (was ≡ true) × (w ≡ v) };
+    ghost then = { λ v was _ w. (was ≡ true) × (w ≡ v + 1) };
 }
 
 /// What one thread sleeps on. Nobody else has it.
@@ -40,9 +40,13 @@ pub struct Parker {
 
 impl Parker {
     ghost use Rattle.std.specs.Prelude.{IfOk};
-    ghost use Rattle.ww_seat.specs.Bells.{leads_to, place_of};
+    ghost use Rattle.std.specs.Prelude.{◌≡◌, ◌+◌};
+    ghost use Rattle.ww_seat.specs.Bells.{leads_to, place_of, taken_at};
 
-    pub fn new(alloc: Global) -> Result<Parker, AllocError> {
+    /// No token was taken yet.
+    pub fn new(alloc: Global) -> Result<Parker, AllocError>
+        ensures { IfOk result (λ parker. taken_at parker ≡ 0) }
+    {
         let (parker, pass) = RuledParker::ruled(alloc)?;
         Ok(Parker { parker, pass })
     }
@@ -57,7 +61,8 @@ impl Parker {
 
     /// Sleeps until its token is there, and takes it.
     pub fn park<R: Wait>(&mut self, rt: &R)
-        ensures { place_of self.new ≡ place_of self.old }
+        ensures placed { place_of self.new ≡ place_of self.old }
+        ensures taken { taken_at self.new ≡ taken_at self.old + 1 }
     {
         self.parker.park_as::<Heard, R>(rt, &mut self.pass);
     }

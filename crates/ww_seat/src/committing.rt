@@ -10,7 +10,7 @@ ghost use Rattle.ww_plain.specs.History.{IsNext, recorded_of};
 ghost use Rattle.ww_view.specs.View.{owns};
 ghost use Rattle.ww_table.specs.Seat.{IsSeatOf, size_of, view_of};
 ghost use Rattle.ww_seat.specs.Orderly.{IsOrderly, IsSettledAt};
-ghost use Rattle.ww_seat.specs.Calls.{HoldsAll, HasCommitted};
+ghost use Rattle.ww_seat.specs.Calls.{HoldsAll, HasCommitted, HasStayedOut};
 ghost use Rattle.ww_seat.specs.Commits.{naming, change_at, changes_of, IsChanged};
 
 use std::snapshot::Snapshot;
@@ -64,6 +64,7 @@ pub fn commit(
     ensures seat { IsSettledAt board.now seat.new }
     ensures committed { let txn = transaction_of done.txn in
         HasCommitted seat.old.seat.me result done (graph_after before.now.value txn) (footprint_of before.now.value txn) seat.new.seat.me }
+    ensures stayed_out { HasStayedOut (view_of seat.old) (view_of seat.new) }
     ensures capacity { vec_capacity seat.new.records ≡ vec_capacity seat.old.records }
 {
     let place = seat.place(board, done);

@@ -3,7 +3,8 @@ ghost use Rattle.ww_view.specs.View.{owns};
 ghost use Rattle.ww_table.specs.Seat.{locks_of, view_of};
 ghost use Rattle.ww_seat.specs.Orderly.{IsSettledAt};
 ghost use Rattle.ww_seat.specs.Calls.{HasGiven};
-ghost use Rattle.ww_seat.specs.Bells.{AreBellsOf, ArePlacedAlike, HasRungHeir, OnlyRing};
+ghost use Rattle.ww_seat.specs.Bells.{AreBellsOf, ArePaid, ArePlacedAlike, HasRungHeir, OnlyRing};
+ghost use Rattle.ww_seat.specs.Looks.{StaysAwake};
 
 use crate::bell::Bell;
 use crate::guard::spin_into_owned;
@@ -26,6 +27,8 @@ pub fn give_waited<R: Wait>(rt: &R, seat: &mut Seat16, board: &Board, lock: u32,
     ensures rung { HasRungHeir (view_of seat.new) bells.old bells.new }
     ensures others { OnlyRing (λ u. (view_of seat.new).heir ≡ Some u) bells.old bells.new }
     ensures placed { ArePlacedAlike bells.old bells.new }
+    ensures paid { ArePaid seat.old.seat.me bells.old → ArePaid seat.new.seat.me bells.new }
+    ensures awake { StaysAwake (view_of seat.old) (view_of seat.new) }
 {
     spin_into_owned(rt, seat, board, lock);
     let first = give_on(seat, board, lock);

@@ -5,7 +5,7 @@ ghost use Rattle.ww_table.specs.Seat.{IsSeatOf, locks_of, size_of, view_of};
 ghost use Rattle.ww_seat.specs.Orderly.{IsSettledAt};
 ghost use Rattle.ww_seat.specs.Calls.{HoldsAsBefore};
 ghost use Rattle.ww_seat.specs.Guards.{IsGiving};
-ghost use Rattle.ww_seat.specs.Looks.{IsOutside};
+ghost use Rattle.ww_seat.specs.Looks.{IsOutside, StaysAwake};
 ghost use Rattle.ww_seat.specs.Work.{IsAtWork};
 
 use crate::turns::{enter_owned, enter_wanted};
@@ -22,6 +22,8 @@ pub(crate) fn spin_into_wanted<R: Wait>(rt: &R, seat: &mut Seat16, board: &Board
     ensures seat { IsSeatOf board.now seat.new }
     ensures inside { IsAtWork (size_of board.now) lock seat.old.seat.me (not ((view_of seat.old).waits == 0)) (not ((view_of seat.old).waits == 0)) seat.new.seat.me }
     ensures condemned { (view_of seat.new).condemned ≡ [] }
+    ensures debts { (view_of seat.new).debts ≡ (view_of seat.old).debts }
+    ensures awake { StaysAwake (view_of seat.old) (view_of seat.new) }
     ensures records { seat.new.records ≡ seat.old.records }
 {
     let pause = Pause::new();
@@ -43,6 +45,8 @@ pub(crate) fn spin_into_owned<R: Wait>(rt: &R, seat: &mut Seat16, board: &Board,
     ensures seat { IsSeatOf board.now seat.new }
     ensures giving { IsGiving (size_of board.now) lock seat.new.seat.me }
     ensures still { HoldsAsBefore seat.old.seat.me seat.new.seat.me }
+    ensures debts { (view_of seat.new).debts ≡ (view_of seat.old).debts }
+    ensures awake { StaysAwake (view_of seat.old) (view_of seat.new) }
     ensures records { seat.new.records ≡ seat.old.records }
 {
     let pause = Pause::new();

@@ -5,8 +5,8 @@ ghost use Rattle.ww_table.specs.Seat.{IsSeatOf, locks_of, size_of, view_of};
 ghost use Rattle.ww_seat.specs.declared.look.Look.TheVariants.{Interrupted};
 ghost use Rattle.ww_seat.specs.declared.waits.Waits.TheVariants.{UntilCancelled};
 ghost use Rattle.ww_seat.specs.Orderly.{IsOrderly, IsSettledAt};
-ghost use Rattle.ww_seat.specs.Looks.{IsLook};
-ghost use Rattle.ww_seat.specs.Bells.{AreBellsOf, ArePlacedAlike, IsRung, OnlyRing};
+ghost use Rattle.ww_seat.specs.Looks.{IsLook, StaysAwake};
+ghost use Rattle.ww_seat.specs.Bells.{AreBellsOf, ArePaid, ArePlacedAlike, IsRung, OnlyRing};
 ghost use Rattle.ww_seat.specs.Work.{HasCondemnedNone, IsWorking, SeesOther, GoesOn};
 
 use crate::bell::Bell;
@@ -15,14 +15,14 @@ use crate::turns::cancel_once;
 use crate::waits::Waits;
 use crate::wake::wake_seat;
 use ww_table::{Board, Seat16};
-use ww_word::Owner;
+use ww_word::wide::Owner;
 
 /// Sets the cancel of a seat and wakes it, so that it looks; false if one is pending already, which stays. A waiter
 /// reads its cancel before it parks: one that is set earlier is heeded in that look, and one that is set later wakes
 /// the seat.
-pub fn cancel(seat: &mut Seat16, board: &Board, victim: u8, bells: &mut [Bell]) -> bool
+pub fn cancel(seat: &mut Seat16, board: &Board, victim: u16, bells: &mut [Bell]) -> bool
     requires settled { IsSettledAt board.now seat.old }
-    requires victim { victim < 16 }
+    requires victim { victim < (view_of seat.old).seats }
     requires bells { AreBellsOf board.now bells.old }
     ensures settled { IsSettledAt board.now seat.new }
     ensures set { result ≡ true → seat.new.seat.me ≡ (cancelling seat.old.seat.me.0 victim, seat.old.seat.me.1) }
@@ -31,6 +31,7 @@ pub fn cancel(seat: &mut Seat16, board: &Board, victim: u8, bells: &mut [Bell]) 
     ensures rung { result ≡ true → IsRung victim bells.old bells.new }
     ensures others { OnlyRing (λ u. (result ≡ true) × (u ≡ victim)) bells.old bells.new }
     ensures placed { ArePlacedAlike bells.old bells.new }
+    ensures paid { ArePaid seat.old.seat.me bells.old → ArePaid seat.new.seat.me bells.new }
 {
     if !cancel_once(seat, board, victim) {
         return false;
@@ -48,7 +49,7 @@ pub(crate) fn stop_if_cancelled(
     lock: u32,
     seen: Owner,
     waits: Waits,
-) -> Option<u8>
+) -> Option<u16>
     requires seat { IsSeatOf board.now seat.old }
     requires lock { lock < locks_of board.now }
     requires orderly { IsOrderly (size_of board.now) seat.old.seat.me }
@@ -58,9 +59,11 @@ pub(crate) fn stop_if_cancelled(
     ensures records { seat.new.records ≡ seat.old.records }
     ensures stopped { IfSome result (λ by. IsLook (size_of board.now) lock seat.old.seat.me (Interrupted by) seat.new.seat.me) }
     ensures waits { IfSome result (λ _. waits ≡ UntilCancelled) }
+    ensures few { IfSome result (λ by. by < board.now.table.shared.key.places) }
     ensures goes_on { IfNone result (GoesOn (size_of board.now) seat.old.seat.me seat.new.seat.me) }
     ensures uncancelled { IfNone result (waits ≡ UntilCancelled → (view_of seat.new).uncancelled ≡ true) }
     ensures condemned { HasCondemnedNone seat.old.seat.me seat.new.seat.me }
+    ensures awake { StaysAwake (view_of seat.old) (view_of seat.new) }
 {
     match waits {
         Waits::ToTheEnd => return None,
@@ -74,5 +77,5 @@ pub(crate) fn stop_if_cancelled(
         unreachable!();
     }
     leave(seat, board, lock);
-    Some(mark as u8 - 1)
+    Some(mark as u16 - 1)
 }

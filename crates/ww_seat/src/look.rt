@@ -1,21 +1,20 @@
 //! One look at a lock: from just inside its guard to just outside.
-ghost use Rattle.std.specs.Prelude.{ℕ, ◌≡◌, ◌≢◌, ◌<◌, ◌+◌, ◌⊎◌, true, false, Some, None, length};
+ghost use Rattle.std.specs.Prelude.{ℕ, ◌≡◌, ◌≢◌, ◌<◌, ◌+◌, ◌⊎◌, true, false, Some, None, length, ◌≤◌, ◌*◌, List};
 ghost use Rattle.ww_model.specs.State.{any_below};
 ghost use Rattle.ww_view.specs.View.{owns};
 ghost use Rattle.ww_table.specs.Seat.{IsSeatOf, locks_of, size_of, view_of};
 ghost use Rattle.ww_seat.specs.Orderly.{IsOrderly};
-ghost use Rattle.ww_seat.specs.Looks.{IfEnded, IfLost, IsLook, MayLookSo, MayWaitSo};
-ghost use Rattle.ww_seat.specs.Work.{AreWoken, AreOnlyWoken, StillHasToWake, AreMarked, HasToWake, has_joined, looks_again, IsWorking, IsAtWork};
+ghost use Rattle.ww_seat.specs.Looks.{IfEnded, IfLost, IsLook, IsNap, StaysAwake, MayLookSo, MayWaitSo};
+ghost use Rattle.ww_seat.specs.Work.{AreWoken, AreOnlyWoken, HasBooked, StillHasToWake, AreMarked, HasToWake, has_joined, looks_again, IsWorking, IsAtWork};
 
 use crate::interrupting::stop_if_cancelled;
 use crate::standing::{stand, stay_or_back_off};
 use crate::taking::take_inside;
 use crate::waits::Waits;
-use crate::wake::Wake;
 use std::sync::Wait;
 use ww_plain::Node;
 use ww_table::{Board, Seat16};
-use ww_word::Owner;
+use ww_word::wide::Owner;
 
 /// How a seat came to look at a lock.
 #[derive(Clone, Copy, Debug, PartialEq, Eq)]
@@ -70,7 +69,7 @@ pub enum Look {
     /// The seat has left the wait list, for this older stamp.
     Deadlk(u64),
     /// The seat has left the wait list, since this seat called it off.
-    Interrupted(u8),
+    Interrupted(u16),
     /// The seat stands in the wait list, and may park.
     Waits,
 }
@@ -89,7 +88,7 @@ fn is_ours(seat: &Seat16, seen: Owner) -> bool
     ensures free { result ≡ true → (seen.seat ≡ None) ⊎ (seen.seat ≡ Some seat.now.who) }
     ensures other { result ≡ false → (t : ℕ) × (seen.seat ≡ Some t) × (t ≢ seat.now.who) }
 {
-    match seen.seat {
+    match seen.seat() {
         None => true,
         Some(owner) => owner == seat.who(),
     }
@@ -104,24 +103,28 @@ pub fn look_once(
     arrival: &mut Arrival,
     waits: Waits,
     holds: bool,
-    wake: &mut Wake,
+    wake: &mut [u64],
 ) -> Attempt
     requires holds { any_below (length (view_of seat.old).owned) (owns (view_of seat.old)) ≡ holds }
     requires seat { IsSeatOf board.now seat.old }
     requires lock { lock < locks_of board.now }
     requires orderly { IsOrderly (size_of board.now) seat.old.seat.me }
     requires work { IsWorking lock (has_joined arrival.old) (looks_again arrival.old) (view_of seat.old) }
-    requires woken { AreWoken (view_of seat.old) wake.old.seats }
+    requires woken { AreWoken (view_of seat.old) wake.old }
+    requires marks { (view_of seat.old).seats ≤ 64 * length wake.old }
     ensures seat { IsSeatOf board.now seat.new }
     ensures records { seat.new.records ≡ seat.old.records }
     ensures look { IfEnded result (λ look. IsLook (size_of board.now) lock seat.old.seat.me look seat.new.seat.me) }
-    ensures waits { IfEnded result (MayLookSo waits) }
+    ensures waits { IfEnded result (MayLookSo board.now.table.shared.key.places waits) }
     ensures uncancelled { IfEnded result (MayWaitSo waits (view_of seat.new)) }
     ensures lost { IfLost result (IsAtWork (size_of board.now) lock seat.old.seat.me (has_joined arrival.new) (looks_again arrival.new) seat.new.seat.me) }
     ensures again { looks_again arrival.new ≡ looks_again arrival.old }
     ensures attempted { (view_of seat.new).attempts ≡ (view_of seat.old).attempts + 1 }
-    ensures marked { AreMarked wake.old.seats (HasToWake (view_of seat.new)) wake.new.seats }
+    ensures marked { AreMarked wake.old (HasToWake (view_of seat.new)) wake.new }
+    ensures long { length wake.new ≡ length wake.old }
     ensures still { StillHasToWake (view_of seat.old) (view_of seat.new) }
+    ensures nap { IfEnded result (λ look. IsNap (view_of seat.old) look (view_of seat.new)) }
+    ensures awake { IfLost result (StaysAwake (view_of seat.old) (view_of seat.new)) }
 {
     let seen = seat.look(board, lock);
     if is_ours(seat, seen) {
@@ -150,22 +153,26 @@ pub(crate) fn look_at<R: Wait>(
     arrival: Arrival,
     waits: Waits,
     holds: bool,
-    wake: &mut Wake,
+    wake: &mut [u64],
 ) -> Look
     requires holds { any_below (length (view_of seat.old).owned) (owns (view_of seat.old)) ≡ holds }
     requires seat { IsSeatOf board.now seat.old }
     requires lock { lock < locks_of board.now }
     requires orderly { IsOrderly (size_of board.now) seat.old.seat.me }
     requires work { IsWorking lock (has_joined arrival) (looks_again arrival) (view_of seat.old) }
-    requires woken { AreWoken (view_of seat.old) wake.old.seats }
-    requires only { AreOnlyWoken (view_of seat.old) wake.old.seats }
+    requires woken { AreWoken (view_of seat.old) wake.old }
+    requires marks { (view_of seat.old).seats ≤ 64 * length wake.old }
+    requires only { AreOnlyWoken (view_of seat.old) wake.old }
     ensures seat { IsSeatOf board.now seat.new }
     ensures records { seat.new.records ≡ seat.old.records }
     ensures look { IsLook (size_of board.now) lock seat.old.seat.me result seat.new.seat.me }
-    ensures waits { MayLookSo waits result }
+    ensures waits { MayLookSo board.now.table.shared.key.places waits result }
     ensures uncancelled { MayWaitSo waits (view_of seat.new) result }
-    ensures woken { AreWoken (view_of seat.new) wake.new.seats }
-    ensures only { AreOnlyWoken (view_of seat.new) wake.new.seats }
+    ensures woken { AreWoken (view_of seat.new) wake.new }
+    ensures only { AreOnlyWoken (view_of seat.new) wake.new }
+    ensures long { length wake.new ≡ length wake.old }
+    ensures nap { IsNap (view_of seat.old) result (view_of seat.new) }
+    ensures booked { (before : List ℕ) → HasBooked before (view_of seat.old) → HasBooked before (view_of seat.new) }
 {
     let mut arrival = arrival;
     for _ in rt.forever() {

@@ -1,11 +1,11 @@
 //! How a pass waits for locks.
 
-use crate::bell::Parker;
+use crate::bell::{Bell, Parker};
 use crate::resting::{Memory, Rest, Stay};
 use crate::staying_away::pause_for;
 use std::sync::Wait;
 use ww_table::Seat16;
-use ww_word::Owner;
+use ww_word::wide::Owner;
 
 /// How many pauses a waiter gives the owner before it sleeps. It lets nobody else run for that: where others want its
 /// processor, it would lose a time slice.
@@ -34,13 +34,14 @@ pub struct Patience {
 }
 
 impl Patience {
-    ghost use Rattle.std.specs.Prelude.{◌≡◌, ◌≢◌, ◌≤◌, IfSome};
+    ghost use Rattle.std.specs.Prelude.{◌≡◌, ◌≢◌, ◌≤◌, ◌+◌, IfSome};
     ghost use Rattle.ww_table.specs.Seat.{view_of};
-    ghost use Rattle.ww_seat.specs.Bells.{place_of, sleeps_at};
+    ghost use Rattle.ww_seat.specs.Bells.{heard, place_of, sleeps_at, taken_at, ArePaid, SleepsNot};
     ghost use Rattle.ww_seat.specs.Rests.{Rests};
 
     pub fn new(parker: Parker) -> Patience
-        ensures { sleeps_at result ≡ place_of parker }
+        ensures parker { sleeps_at result ≡ place_of parker }
+        ensures heard { heard result ≡ taken_at parker }
     {
         let waited = Waited {
             lost: 0,
@@ -62,14 +63,14 @@ impl Patience {
     /// A first try has won.
     #[inline]
     pub fn win(&mut self)
-        ensures { sleeps_at self.new ≡ sleeps_at self.old }
+        ensures { SleepsNot self.old self.new }
     {
         self.memory.win();
     }
 
     /// A first try has lost.
     pub(crate) fn lose(&mut self)
-        ensures { sleeps_at self.new ≡ sleeps_at self.old }
+        ensures { SleepsNot self.old self.new }
     {
         self.waited.lost = self.waited.lost.saturating_add(1);
     }
@@ -78,30 +79,34 @@ impl Patience {
     pub(crate) fn next(&mut self, stay: &mut Stay, owner: Owner) -> Option<Rest>
         requires { 1 ≤ stay.old.glances }
         ensures rests { IfSome result (λ rest. Rests stay.old stay.new rest) }
-        ensures parker { sleeps_at self.new ≡ sleeps_at self.old }
+        ensures awake { SleepsNot self.old self.new }
     {
         stay.next(&mut self.memory, owner)
     }
 
     /// A lock is about to be looked at.
     pub(crate) fn look(&mut self)
-        ensures { sleeps_at self.new ≡ sleeps_at self.old }
+        ensures { SleepsNot self.old self.new }
     {
         self.waited.looks = self.waited.looks.saturating_add(1);
     }
 
     /// A look came to EDEADLK.
     pub(crate) fn back_off(&mut self)
-        ensures { sleeps_at self.new ≡ sleeps_at self.old }
+        ensures { SleepsNot self.old self.new }
     {
         self.waited.back_offs = self.waited.back_offs.saturating_add(1);
     }
 
-    /// Sleeps until somebody wakes the seat, which stands in a wait list. If the wake-up comes during the pauses before,
-    /// it costs no system call.
-    pub(crate) fn sleep<R: Wait>(&mut self, rt: &R, seat: &Seat16)
+    /// Sleeps until somebody wakes the seat, once for each time that it left a guard as a waiter. It is outside of all, and has
+    /// woken whom it has to. If the wake-up comes during the pauses before, it costs no system call.
+    pub(crate) fn sleep<R: Wait>(&mut self, rt: &R, seat: &Seat16, bells: &[Bell])
         requires stands { (view_of seat.now).waits ≢ 0 }
+        requires outside { (view_of seat.now).inside ≡ 0 }
+        requires paid { ArePaid seat.now.seat.me bells.now }
+        requires due { heard self.old + 1 ≡ (view_of seat.now).naps }
         ensures parker { sleeps_at self.new ≡ sleeps_at self.old }
+        ensures heard { heard self.new ≡ heard self.old + 1 }
     {
         self.waited.sleeps = self.waited.sleeps.saturating_add(1);
         pause_for(PAUSES);

@@ -5,7 +5,7 @@
 ghost use Rattle.std.specs.Prelude.{◌≡◌, ◌<◌, ◌≤◌, ◌+◌, ◌↔◌, nat_eq, if◌then◌else◌, true, false, IsTrue, None, IfSome};
 ghost use Rattle.ww_seat.specs.Rests.{EndsIfFree, EndsAfter, IsLate, first_with, Rests};
 
-use ww_word::Owner;
+use ww_word::wide::Owner;
 
 /// How many spin reads a call makes at most, of its lock and of the stamp word.
 pub const MOST_GLANCES: u8 = 16;
@@ -75,7 +75,7 @@ impl Memory {
         }
     }
 
-    #[cold]
+    #[inline(always)]
     fn calm_down(&mut self) {
         self.wins = self.wins.saturating_add(1);
         if self.wins >= CALM {
@@ -170,9 +170,9 @@ impl Stay {
         ensures rests { IfSome result (λ rest. Rests self.old self.new rest) }
     {
         self.glances -= 1;
-        let ends = match owner.seat {
+        let ends = match owner.seat() {
             None => self.seen.ends_if_free(),
-            Some(_) => self.is_late(owner.stamp) || self.seen.is_over(),
+            Some(_) => self.is_late(owner.stamp()) || self.seen.is_over(),
         };
         self.seen = self.seen.learned(memory, self.holds, owner);
         if ends || self.glances == 0 {
@@ -238,7 +238,7 @@ impl Seen {
                 Seen::planned(RESTS_HOLDING, 1, PAUSES_HOLDING)
             }
             Seen::Nothing => {
-                if owner.seat.is_none() {
+                if owner.seat().is_none() {
                     memory.lose();
                 }
                 Seen::Once(owner)
@@ -289,5 +289,5 @@ impl Plan {
 
 /// Whether it is still the same context that owns the lock. Without a context nobody can tell.
 fn is_same(before: Owner, now: Owner) -> bool {
-    now.stamp != 0 && before.seat == now.seat && before.stamp == now.stamp
+    now.stamp() != 0 && before.seat() == now.seat() && before.stamp() == now.stamp()
 }

@@ -1,22 +1,22 @@
 //! The lock is another's: the seat stands in its wait list, asks for it, and stays or dies there.
-ghost use Rattle.std.specs.Prelude.{ℕ, ◌≡◌, ◌≢◌, ◌<◌, Bool, true, false, Some, None, IfSome, IfNone, length};
+ghost use Rattle.std.specs.Prelude.{ℕ, ◌≡◌, ◌≢◌, ◌<◌, Bool, true, false, Some, None, IfSome, IfNone, length, ◌≤◌, ◌*◌};
 ghost use Rattle.ww_model.specs.State.{any_below};
 ghost use Rattle.ww_view.specs.View.{owns};
-ghost use Rattle.ww_word.specs.Owner.{IsValid};
+ghost use Rattle.ww_word.specs.AnySeats.{IsValid};
 ghost use Rattle.ww_view.specs.May.{MayDie};
 ghost use Rattle.ww_table.specs.Seat.{IsSeatOf, locks_of, size_of, view_of};
 ghost use Rattle.ww_seat.specs.declared.look.Look.TheVariants.{Deadlk};
 ghost use Rattle.ww_seat.specs.declared.waits.Waits.TheVariants.{ToTheEnd, UntilCancelled};
 ghost use Rattle.ww_seat.specs.Orderly.{IsOrderly};
-ghost use Rattle.ww_seat.specs.Looks.{IfEnded, IfLost, IsLook, MayLookSo, MayWaitSo};
+ghost use Rattle.ww_seat.specs.Looks.{IfEnded, IfLost, IsLook, IsNap, StaysAwake, MayLookSo, MayWaitSo};
 ghost use Rattle.ww_seat.specs.Work.{AreWoken, StillHasToWake, AreMarked, HasToWake, HasCondemnedNone, IsTouched, has_joined, looks_again, IsWorking, IsAtWork, SeesOther, HasStood, HasAsked};
 
 use crate::leaving::leave;
 use crate::look::{Arrival, Attempt, Look};
 use crate::signs::{death, sign_all};
-use crate::wake::Wake;
 use ww_table::{Board, Seat16};
-use ww_word::{HANDOFF, Owner, WAITERS};
+use ww_word::wide::Owner;
+use ww_word::{HANDOFF, WAITERS};
 
 /// Joins the wait list unless the seat stands in it, and gives the owner word afterwards; `None` if the word has
 /// changed.
@@ -39,6 +39,7 @@ pub(crate) fn stand(
     ensures stands { IfSome result (λ word. HasStood (size_of board.now) lock (has_joined arrival) seen seat.old.seat.me word seat.new.seat.me) }
     ensures lost { IfNone result (IsTouched (size_of board.now) seat.old.seat.me seat.new.seat.me) }
     ensures condemned { HasCondemnedNone seat.old.seat.me seat.new.seat.me }
+    ensures awake { StaysAwake (view_of seat.old) (view_of seat.new) }
 {
     if arrival.has_joined() {
         return Some(seen);
@@ -72,20 +73,17 @@ fn ask_if_first(
     if !arrival.looks_again() {
         return Some(seen);
     }
-    if seen.flags != WAITERS {
+    if seen.flags() != WAITERS {
         return Some(seen);
     }
     let first = seat.first(board, lock)?;
-    if first.seat != seat.who() {
+    if first.seat() != seat.who() {
         return Some(seen);
     }
     if !seat.ask(board, lock, seen) {
         return None;
     }
-    Some(Owner {
-        flags: WAITERS | HANDOFF,
-        ..seen
-    })
+    Some(seen.with_flags(WAITERS | HANDOFF))
 }
 
 /// Leaves the wait list and the guard, as the context has to back off, if the owner word is still the one seen.
@@ -101,6 +99,7 @@ fn back_off(seat: &mut Seat16, board: &Board, lock: u32, seen: Owner) -> bool
     ensures met { result ≡ true → (k : ℕ) → MayDie (view_of seat.old) lock seen k → IsLook (size_of board.now) lock seat.old.seat.me (Deadlk k) seat.new.seat.me }
     ensures lost { result ≡ false → IsTouched (size_of board.now) seat.old.seat.me seat.new.seat.me }
     ensures condemned { HasCondemnedNone seat.old.seat.me seat.new.seat.me }
+    ensures awake { StaysAwake (view_of seat.old) (view_of seat.new) }
 {
     if !seat.die(board, lock, seen) {
         return false;
@@ -117,7 +116,7 @@ pub(crate) fn stay_or_back_off(
     lock: u32,
     seen: Owner,
     arrival: Arrival,
-    wake: &mut Wake,
+    wake: &mut [u64],
 ) -> Attempt
     requires seat { IsSeatOf board.now seat.old }
     requires lock { lock < locks_of board.now }
@@ -125,16 +124,20 @@ pub(crate) fn stay_or_back_off(
     requires work { IsWorking lock true (looks_again arrival) (view_of seat.old) }
     requires seen { SeesOther seen (view_of seat.old) }
     requires flags { looks_again arrival ≡ true → seen.flags ≢ 0 }
-    requires woken { AreWoken (view_of seat.old) wake.old.seats }
+    requires woken { AreWoken (view_of seat.old) wake.old }
+    requires marks { (view_of seat.old).seats ≤ 64 * length wake.old }
     ensures seat { IsSeatOf board.now seat.new }
     ensures records { seat.new.records ≡ seat.old.records }
     ensures look { IfEnded result (λ look. IsLook (size_of board.now) lock seat.old.seat.me look seat.new.seat.me) }
-    ensures waits { IfEnded result (MayLookSo ToTheEnd) }
+    ensures waits { IfEnded result (MayLookSo board.now.table.shared.key.places ToTheEnd) }
     ensures uncancelled { (view_of seat.old).uncancelled ≡ true → IfEnded result (MayWaitSo UntilCancelled (view_of seat.new)) }
     ensures lost { IfLost result (IsAtWork (size_of board.now) lock seat.old.seat.me true (looks_again arrival) seat.new.seat.me) }
     ensures attempts { (view_of seat.new).attempts ≡ (view_of seat.old).attempts }
-    ensures marked { AreMarked wake.old.seats (HasToWake (view_of seat.new)) wake.new.seats }
+    ensures marked { AreMarked wake.old (HasToWake (view_of seat.new)) wake.new }
+    ensures long { length wake.new ≡ length wake.old }
     ensures still { StillHasToWake (view_of seat.old) (view_of seat.new) }
+    ensures nap { IfEnded result (λ look. IsNap (view_of seat.old) look (view_of seat.new)) }
+    ensures awake { IfLost result (StaysAwake (view_of seat.old) (view_of seat.new)) }
 {
     let Some(word) = ask_if_first(seat, board, lock, seen, arrival) else {
         return Attempt::Lost;

@@ -5,7 +5,7 @@ ghost use Rattle.std.specs.Prelude.{◌≡◌, ◌<◌, ◌≤◌, ◌+◌};
 ghost use Rattle.ww_view.specs.View.{IsAway};
 ghost use Rattle.ww_table.specs.Seat.{IsSeatOf, locks_of, view_of};
 ghost use Rattle.ww_seat.specs.Looks.{HasGlanced};
-ghost use Rattle.ww_seat.specs.Bells.{sleeps_at};
+ghost use Rattle.ww_seat.specs.Bells.{SleepsNot};
 
 use crate::patience::Patience;
 use crate::resting::{BREATH, MOST_GLANCES, Rest, Stay};
@@ -76,7 +76,7 @@ pub(crate) fn stay_away(
     ensures seat { IsSeatOf board.now seat.new }
     ensures glanced { HasGlanced seat.old.seat.me seat.new.seat.me }
     ensures records { seat.new.records ≡ seat.old.records }
-    ensures parker { sleeps_at patience.new ≡ sleeps_at patience.old }
+    ensures awake { SleepsNot patience.old patience.new }
 {
     patience.lose();
     let mut stay = Stay::new(holds);

@@ -1,8 +1,9 @@
 //! Taking a lock that is free or was handed to the seat.
-ghost use Rattle.std.specs.Prelude.{ℕ, ◌≡◌, ◌<◌, ◌≤◌, ◌⊎◌, Bool, true, false, Some, None, IfSome, IfNone};
+ghost use Rattle.std.specs.Prelude.{ℕ, ◌≡◌, ◌<◌, ◌≤◌, ◌⊎◌, Bool, true, false, Some, None, IfSome, IfNone, length, ◌*◌};
 ghost use lib.ListN.{get_elem?};
 ghost use mathlib.Core.Option.{some};
-ghost use Rattle.ww_word.specs.Owner.{IsValid, is_handed};
+ghost use Rattle.ww_word.specs.Owner.{is_handed};
+ghost use Rattle.ww_word.specs.AnySeats.{IsValid};
 ghost use Rattle.ww_plain.specs.declared.node.Node.{Node};
 ghost use Rattle.ww_plain.specs.Graph.{IsNodeOf};
 ghost use Rattle.ww_view.specs.View.{owns};
@@ -14,16 +15,16 @@ ghost use Rattle.ww_rule.specs.Out.{slot_of};
 ghost use Rattle.ww_rule.specs.declared.cells.Cell.TheVariants.{Line};
 ghost use Rattle.ww_seat.specs.declared.look.Look.TheVariants.{Locked};
 ghost use Rattle.ww_seat.specs.Orderly.{IsOrderly};
-ghost use Rattle.ww_seat.specs.Looks.{IsLook};
+ghost use Rattle.ww_seat.specs.Looks.{IsLook, StaysAwake};
 ghost use Rattle.ww_seat.specs.Work.{AreWoken, StillHasToWake, AreMarked, HasToWake, HasTakenInside, IsTouched, IsWorking};
 
 use crate::fast::blank;
 use crate::leaving::leave;
 use crate::signs::sign_all;
-use crate::wake::Wake;
 use ww_plain::Node;
 use ww_table::{Board, Seat16};
-use ww_word::{Owner, WAITERS};
+use ww_word::WAITERS;
+use ww_word::wide::Owner;
 
 /// The owner word of a lock that this seat took, with the wait list as it is.
 fn own_word(seat: &mut Seat16, board: &Board, lock: u32) -> Owner
@@ -40,11 +41,7 @@ fn own_word(seat: &mut Seat16, board: &Board, lock: u32) -> Owner
         Some(_) => WAITERS,
         None => 0,
     };
-    Owner {
-        seat: Some(seat.who()),
-        stamp: seat.stamp(),
-        flags,
-    }
+    Owner::of(Some(seat.who()), seat.stamp(), flags)
 }
 
 /// Takes the lock, if its owner word is still the one seen. The seat is inside the guard still.
@@ -92,7 +89,7 @@ pub(crate) fn take_inside(
     board: &Board,
     lock: u32,
     seen: Owner,
-    wake: &mut Wake,
+    wake: &mut [u64],
 ) -> Option<Node>
     requires seat { IsSeatOf board.now seat.old }
     requires lock { lock < locks_of board.now }
@@ -100,14 +97,17 @@ pub(crate) fn take_inside(
     requires work { (s l : Bool) × IsWorking lock s l (view_of seat.old) }
     requires valid { IsValid seen }
     requires free { (seen.seat ≡ None) ⊎ ((seen.seat ≡ Some (view_of seat.old).who) × (is_handed seen ≡ true)) }
-    requires woken { AreWoken (view_of seat.old) wake.old.seats }
+    requires woken { AreWoken (view_of seat.old) wake.old }
+    requires marks { (view_of seat.old).seats ≤ 64 * length wake.old }
     ensures seat { IsSeatOf board.now seat.new }
     ensures records { seat.new.records ≡ seat.old.records }
     ensures took { IfSome result (λ x. IsLook (size_of board.now) lock seat.old.seat.me (Locked x) seat.new.seat.me) }
     ensures lost { IfNone result (IsTouched (size_of board.now) seat.old.seat.me seat.new.seat.me) }
     ensures attempts { (view_of seat.new).attempts ≡ (view_of seat.old).attempts }
-    ensures marked { AreMarked wake.old.seats (HasToWake (view_of seat.new)) wake.new.seats }
+    ensures marked { AreMarked wake.old (HasToWake (view_of seat.new)) wake.new }
+    ensures long { length wake.new ≡ length wake.old }
     ensures still { StillHasToWake (view_of seat.old) (view_of seat.new) }
+    ensures awake { StaysAwake (view_of seat.old) (view_of seat.new) }
 {
     if !take_seen(seat, board, lock, seen) {
         return None;

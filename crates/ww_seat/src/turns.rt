@@ -1,22 +1,23 @@
 //! What one round of each loop of a call does: a few steps, and it waits for nobody. The calls that wait are loops over
 //! these steps; others make the steps themselves, and wait between them as they like.
-ghost use Rattle.std.specs.Prelude.{◌≡◌, ◌<◌, ◌+◌, ◌==◌, [], Some, not, true, false, slice_get};
+ghost use Rattle.std.specs.Prelude.{◌≡◌, ◌<◌, ◌≤◌, ◌+◌, ◌==◌, [], Some, not, true, false, slice_get};
 ghost use Rattle.std.specs.Option.{option_map};
-ghost use Rattle.ww_word.specs.Owner.{IsValid};
+ghost use Rattle.ww_word.specs.AnySeats.{IsValid};
 ghost use Rattle.ww_queue.specs.declared.entry.Entry.{Entry};
 ghost use Rattle.ww_view.specs.View.{owns};
+ghost use Rattle.ww_view.specs.Made.{with_heir};
 ghost use Rattle.ww_rule.specs.Cancels.{cancelling, finding_pending};
 ghost use Rattle.ww_rule.specs.Guards.{shutting_out};
-ghost use Rattle.ww_table.specs.Seat.{IsSeatOf, locks_of, size_of, view_of};
+ghost use Rattle.ww_table.specs.Seat.{IsSeatOf, giving_of, locks_of, size_of, view_of};
 ghost use Rattle.ww_seat.specs.Orderly.{IsSettledAt};
-ghost use Rattle.ww_seat.specs.Calls.{HoldsAsBefore, HasGiven};
+ghost use Rattle.ww_seat.specs.Calls.{HoldsAsBefore, HasGiven, HasLetOnce, HasStayedOut};
 ghost use Rattle.ww_seat.specs.Guards.{HasLet, IsGiving};
-ghost use Rattle.ww_seat.specs.Looks.{IsOutside};
+ghost use Rattle.ww_seat.specs.Looks.{IsOutside, StaysAwake};
 ghost use Rattle.ww_seat.specs.Work.{IsAtWork};
 
-use ww_queue::Entry;
-use ww_table::{Board, Seat16};
-use ww_word::Owner;
+use ww_queue::wide::Entry;
+use ww_table::{Board, Giving, Seat16, Tried};
+use ww_word::wide::Owner;
 
 /// One try to go inside the guard of a lock that the seat wants.
 pub fn enter_wanted(seat: &mut Seat16, board: &Board, lock: u32) -> bool
@@ -29,6 +30,8 @@ pub fn enter_wanted(seat: &mut Seat16, board: &Board, lock: u32) -> bool
     ensures outside { result ≡ false → IsOutside (size_of board.now) lock seat.new.seat.me }
     ensures shut_out { result ≡ false → seat.new.seat.me ≡ (shutting_out seat.old.seat.me.0, seat.old.seat.me.1) }
     ensures attempted { (view_of seat.new).attempts ≡ (view_of seat.old).attempts + 1 }
+    ensures debts { (view_of seat.new).debts ≡ (view_of seat.old).debts }
+    ensures awake { StaysAwake (view_of seat.old) (view_of seat.new) }
     ensures waits { result ≡ false → (view_of seat.new).waits ≡ (view_of seat.old).waits }
     ensures still { result ≡ false → HoldsAsBefore seat.old.seat.me seat.new.seat.me }
     ensures records { seat.new.records ≡ seat.old.records }
@@ -47,6 +50,7 @@ pub fn give_node_at_once(seat: &mut Seat16, board: &Board, lock: u32) -> bool
     ensures still { result ≡ false → HoldsAsBefore seat.old.seat.me seat.new.seat.me }
     ensures kept { result ≡ false → (view_of seat.new).kept ≡ (view_of seat.old).kept + 1 }
     ensures gone { result ≡ true → (view_of seat.new).kept ≡ (view_of seat.old).kept }
+    ensures stayed_out { HasStayedOut (view_of seat.old) (view_of seat.new) }
     ensures records { seat.new.records ≡ seat.old.records }
 {
     seat.give_free(board, lock)
@@ -63,13 +67,30 @@ pub fn give_at_once(seat: &mut Seat16, board: &Board, lock: u32) -> bool
     ensures still { result ≡ false → HoldsAsBefore seat.old.seat.me seat.new.seat.me }
     ensures kept { result ≡ false → (view_of seat.new).kept ≡ (view_of seat.old).kept + 1 }
     ensures gone { result ≡ true → (view_of seat.new).kept ≡ (view_of seat.old).kept }
+    ensures stayed_out { HasStayedOut (view_of seat.old) (view_of seat.new) }
     ensures records { seat.new.records ≡ seat.old.records }
 {
     if lock < u32::from(board.size()) {
-        give_node_at_once(seat, board, lock)
-    } else {
-        seat.give_bare(board, lock)
+        return give_node_at_once(seat, board, lock);
     }
+    match give_bare_at_once(seat, board, lock).giving() {
+        Giving::Gave => true,
+        Giving::Kept => false,
+        Giving::Lacked => unreachable!(),
+    }
+}
+
+/// One try to release a lock at once that guards no node. Whether the seat has it the lock's word tells.
+#[inline(always)]
+pub fn give_bare_at_once(seat: &mut Seat16, board: &Board, lock: u32) -> Tried
+    requires settled { IsSettledAt board.now seat.old }
+    requires lock { (size_of board.now ≤ lock) × (lock < locks_of board.now) }
+    ensures settled { IsSettledAt board.now seat.new }
+    ensures tried { HasLetOnce seat.old.seat.me lock (giving_of result) seat.new.seat.me }
+    ensures stayed_out { HasStayedOut (view_of seat.old) (view_of seat.new) }
+    ensures records { seat.new.records ≡ seat.old.records }
+{
+    seat.give_bare(board, lock)
 }
 
 /// One try to go inside the guard of a lock that the seat owns.
@@ -83,6 +104,8 @@ pub fn enter_owned(seat: &mut Seat16, board: &Board, lock: u32) -> bool
     ensures shut_out { result ≡ false → seat.new.seat.me ≡ (shutting_out seat.old.seat.me.0, seat.old.seat.me.1) }
     ensures still { HoldsAsBefore seat.old.seat.me seat.new.seat.me }
     ensures attempted { (view_of seat.new).attempts ≡ (view_of seat.old).attempts + 1 }
+    ensures debts { (view_of seat.new).debts ≡ (view_of seat.old).debts }
+    ensures awake { StaysAwake (view_of seat.old) (view_of seat.new) }
     ensures records { seat.new.records ≡ seat.old.records }
 {
     seat.enter(board, lock)
@@ -99,6 +122,7 @@ fn give_seen(seat: &mut Seat16, board: &Board, lock: u32, seen: Owner)
     ensures records { seat.new.records ≡ seat.old.records }
     ensures gave { HasLet (size_of board.now) lock seat.old.seat.me seat.new.seat.me }
     ensures attempts { (view_of seat.new).attempts ≡ (view_of seat.old).attempts }
+    ensures awake { StaysAwake (view_of seat.old) (view_of seat.new) }
 {
     if lock < u32::from(board.size()) {
         seat.give(board, lock, seen);
@@ -117,6 +141,8 @@ pub fn give_on(seat: &mut Seat16, board: &Board, lock: u32) -> Option<Entry>
     ensures first { result ≡ slice_get (view_of seat.old).list 0 }
     ensures heir { (view_of seat.new).heir ≡ option_map (λ (e : Entry). e.seat) result }
     ensures attempted { (view_of seat.new).attempts ≡ (view_of seat.old).attempts + 1 }
+    ensures debts { (view_of seat.new).debts ≡ with_heir (view_of seat.new).heir (view_of seat.old).debts }
+    ensures awake { StaysAwake (view_of seat.old) (view_of seat.new) }
     ensures records { seat.new.records ≡ seat.old.records }
 {
     let seen = seat.look(board, lock);
@@ -127,9 +153,9 @@ pub fn give_on(seat: &mut Seat16, board: &Board, lock: u32) -> Option<Entry>
 }
 
 /// Sets the cancel of a seat, which is to be woken then; false where one is pending, which stays.
-pub fn cancel_once(seat: &mut Seat16, board: &Board, victim: u8) -> bool
+pub fn cancel_once(seat: &mut Seat16, board: &Board, victim: u16) -> bool
     requires settled { IsSettledAt board.now seat.old }
-    requires victim { victim < 16 }
+    requires victim { victim < (view_of seat.old).seats }
     ensures settled { IsSettledAt board.now seat.new }
     ensures set { result ≡ true → seat.new.seat.me ≡ (cancelling seat.old.seat.me.0 victim, seat.old.seat.me.1) }
     ensures pending { result ≡ false → seat.new.seat.me ≡ (finding_pending seat.old.seat.me.0, seat.old.seat.me.1) }

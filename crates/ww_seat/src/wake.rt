@@ -1,57 +1,43 @@
-ghost use Rattle.std.specs.Prelude.{◌≡◌, ◌≢◌, ◌<◌, true, false, replicate, Some, IfSome};
+ghost use Rattle.std.specs.Prelude.{ℕ, ◌≡◌, ◌≢◌, ◌<◌, ◌≤◌, ◌*◌, true, length, Some, IfSome};
 ghost use Rattle.std.specs.Option.{option_map};
 ghost use Rattle.ww_queue.specs.declared.entry.Entry.{Entry};
 ghost use Rattle.ww_seat.specs.Bells.{ArePlacedAlike, AreRung, IsRung, OnlyRing};
-ghost use Rattle.ww_seat.specs.Work.{AreMarked};
+ghost use Rattle.ww_seat.specs.Marks.{is_marked, AreMarked, IsMarked};
 
 use crate::bell::Bell;
-use std::mem;
-use ww_queue::Entry;
-use ww_word::MAX_SEATS;
+use ww_queue::wide::Entry;
 
-/// Whom a seat wakes once it is outside the guard.
-#[derive(Drop)]
-pub struct Wake {
-    seats: [bool; MAX_SEATS],
+/// Gives a seat a mark.
+fn set_mark(marks: &mut [u64], u: u16)
+    requires there { u < 64 * length marks.old }
+    ensures here { IsMarked marks.new u }
+    ensures others { (t : ℕ) → t ≢ u → is_marked marks.new t ≡ is_marked marks.old t }
+    ensures long { length marks.new ≡ length marks.old }
+{
+    marks[usize::from(u / 64)] |= 1 << (u % 64);
 }
 
-impl Wake {
-    /// Nobody.
-    pub fn new() -> Wake
-        ensures { result.seats ≡ replicate 16 false }
-    {
-        Wake {
-            seats: [false; MAX_SEATS],
-        }
+/// Also wakes a seat that was condemned, but for the one that did so, and nobody else: the seats that are to be woken have
+/// marks, 64 in a word.
+pub fn mark(marks: &mut [u64], who: u16, victim: u16, is_condemned: bool)
+    requires victim { victim < 64 * length marks.old }
+    ensures marked { AreMarked marks.old (λ u. (is_condemned ≡ true) × (victim ≢ who) × (u ≡ victim)) marks.new }
+    ensures long { length marks.new ≡ length marks.old }
+{
+    if is_condemned && victim != who {
+        set_mark(marks, victim);
     }
+}
 
-    /// Also wakes a seat that was condemned, but for the one that did so, and nobody else.
-    pub fn add(&mut self, who: u8, victim: u8, is_condemned: bool)
-        requires victim { victim < 16 }
-        ensures { AreMarked self.old.seats (λ u. (is_condemned ≡ true) × (victim ≢ who) × (u ≡ victim)) self.new.seats }
-    {
-        if is_condemned && victim != who {
-            self.seats[usize::from(victim)] = true;
-        }
-    }
-
-    /// A mark for each seat that is to be woken; then none is any more.
-    pub fn take(&mut self) -> [bool; MAX_SEATS]
-        ensures told { result ≡ self.old.seats }
-        ensures none { self.new.seats ≡ replicate 16 false }
-    {
-        mem::replace(&mut self.seats, [false; MAX_SEATS])
-    }
-
-    /// Rings for each seat that is to be woken, and for nobody else.
-    pub(crate) fn deliver(self, bells: &mut [Bell])
-        ensures rung { AreRung self.seats bells.old bells.new }
-        ensures placed { ArePlacedAlike bells.old bells.new }
-    {
-        for u in 0..MAX_SEATS {
-            if self.seats[u] {
-                wake_seat(u as u8, bells);
-            }
+/// Rings for each seat that is to be woken, and for nobody else.
+pub(crate) fn deliver(marks: &[u64], bells: &mut [Bell])
+    requires few { length marks.now ≤ 64 }
+    ensures rung { AreRung marks.now bells.old bells.new }
+    ensures placed { ArePlacedAlike bells.old bells.new }
+{
+    for u in 0..64 * marks.len() {
+        if (marks[u / 64] >> (u % 64)) % 2 == 1 {
+            wake_seat(u as u16, bells);
         }
     }
 }
@@ -64,13 +50,13 @@ pub(crate) fn wake_first(first: Option<Entry>, bells: &mut [Bell])
     ensures placed { ArePlacedAlike bells.old bells.new }
 {
     if let Some(first) = first {
-        wake_seat(first.seat, bells);
+        wake_seat(first.seat(), bells);
     }
 }
 
 /// Wakes a seat. A number that no seat has has no bell.
 #[cold]
-pub(crate) fn wake_seat(seat: u8, bells: &mut [Bell])
+pub(crate) fn wake_seat(seat: u16, bells: &mut [Bell])
     ensures rung { IsRung seat bells.old bells.new }
     ensures others { OnlyRing (λ u. u ≡ seat) bells.old bells.new }
     ensures placed { ArePlacedAlike bells.old bells.new }

@@ -9,17 +9,18 @@ use Rattle.atomic_table.specs.Table.{Splits, opening}
 use Rattle.std.specs.List.{AllByRecursion}
 use Rattle.ww_plain.specs.declared.node.Node.{Node}
 use Rattle.ww_plain.specs.declared.history.Record.{Record}
-use Rattle.ww_plain.specs.Graph.{IsGraph, node_at}
+use Rattle.ww_plain.specs.Graph.{node_at}
 use Rattle.ww_rule.specs.declared.cells.Cell.{Cell}
 use Rattle.ww_rule.specs.declared.cells.Cell.TheVariants.{Content}
 use Rattle.ww_rule.specs.declared.cells.Part.{Part}
 use Rattle.ww_rule.specs.declared.cells.Sight.{Sight}
 use Rattle.ww_rule.specs.declared.cells.Start.{Start}
-use Rattle.ww_word.specs.Owner.{packed}
+use Rattle.ww_word.specs.AnySeats.{packed, most_for}
+use Rattle.ww_rule.specs.Layout.{IsSized, sign_at}
 use Rattle.ww_table.specs.declared.seat.Seat16.{Seat16}
-use Rattle.ww_rule.specs.Rule.{Sat, first_graph, first_part, first_parts, first_sight, Ruled}
+use Rattle.ww_rule.specs.Rule.{Sat, first_graph, first_part, first_parts, first_sight, Ruled, IsSize, AreNodes}
 use Rattle.ww_rule.specs.Steps.{seat_of, first_seat, rest_of, without_first}
-use Rattle.ww_table.specs.Seat.{IsNew}
+use Rattle.ww_table.specs.Seat.{IsNew, base_of, step_of}
 use Rattle.ww_rule.specs.Out.{numbers_of}
 use Rattle.ww_rule.specs.Homes.{AreSlots}
 use Rattle.ww_table.specs.Made.{AreNew, less}
@@ -30,23 +31,32 @@ use Rattle.ww_view.specs.View.{IsBare}
 use Rattle.ww_rule.proofs.Seats.{opens, opens_start, splits, at_end, bare_first}
 
 pub new_seat : (table : TableId) (key : Start) (k : ℕ) (s : Seat16) → s.seat.table_id ≡ table
-    → s.seat.me ≡ (seat_of (length (first_graph key)) (first_part key.kind key.locks k), []) → s.kind ≡ key.kind
-    → s.who ≡ k → k < 16 → s.stamp ≡ 0 → s.own ≡ packed (record { seat = Some s.who; stamp = s.stamp; flags = 0 })
+    → s.seat.me ≡ (seat_of (length (first_graph key)) (first_part key.kind key.locks key.places k), []) → s.kind ≡ key.kind
+    → s.who ≡ k → s.room ≡ key.locks → s.seats ≡ key.places → k < key.places → IsSize key.places
+    → s.most ≡ most_for s.seats → s.sign ≡ sign_at s.room s.who → IsSized key.locks key.places table → s.stamp ≡ 0 → s.base ≡ base_of s.who → s.step ≡ step_of s.who → s.own ≡ packed (record { seat = Some s.who; stamp = s.stamp; flags = 0 })
     → s.order.items ≡ [] → s.records.items ≡ [] → IsSome s.page → IsNew table key k s
-new_seat table key k s home me kind who few stamp own order records page = record {
+new_seat table key k s home me kind who room seats few size most sign sized stamp base step own order records page = record {
   seated = record {
     home = home;
     seated = ap (λ (m : Sat). m.0.seated) me;
     kind = kind ∙ sym (ap (λ (m : Sat). m.0.part.core.kind) me);
     who = ap (λ (m : Sat). m.0.part.core.who) me ∙ sym who;
-    few = subst (λ (t : ℕ). t < 16) (sym who) few;
+    few = subst (λ (x : ℕ × ℕ). x.0 < x.1) (λ i. (sym who i, sym seats i)) few;
+    room = ap (λ (m : Sat). m.0.part.core.room) me ∙ sym room;
+    seats = ap (λ (m : Sat). m.0.part.core.seats) me ∙ sym seats;
+    size = subst IsSize (sym seats) size;
+    most = most;
+    sign = sign;
+    sized = subst (λ (x : ℕ × ℕ). IsSized x.0 x.1 table) (λ i. (sym room i, sym seats i)) sized;
     stamp = ap (λ (m : Sat). m.0.part.core.stamp) me ∙ sym stamp;
-    small = omega arith;
+    fits = inr (⊎_elim (λ is. omega arith) (λ is. let z = is.1 in omega arith) size, omega arith);
+    base = base;
+    step = step;
     own = own;
     order = order ∙ sym (ap (λ (m : Sat). numbers_of m.1) me);
     records = records ∙ sym (ap (λ (m : Sat). m.0.part.own) me);
     alone = ap (λ (m : Sat). m.0.idle) me;
-    places = subst (AllByRecursion (λ (p : ℕ × Record). p.0 < 2 ^ 37)) (sym records) tt;
+    places = subst (AllByRecursion (λ (p : ℕ × Record). p.0 < 2 ^ 44)) (sym records) tt;
     page = λ _. page;
   };
   number = who;
@@ -63,12 +73,12 @@ news_more table key n seats s are new = record {
 }
 
 -- the idle numbers of the first seat begin with the next
-next_idle : (key : Start) (k : ℕ) → k < key.seats - 1 → (less key k).idle ≡ first_part key.kind key.locks k ∷ (less key (k + 1)).idle
-next_idle key k more = ap (first_parts key.kind key.locks k) (let z : key.seats - 1 - k ≡ suc (key.seats - 1 - (k + 1)) = omega arith in z)
+next_idle : (key : Start) (k : ℕ) → k < key.seats - 1 → (less key k).idle ≡ first_part key.kind key.locks key.places k ∷ (less key (k + 1)).idle
+next_idle key k more = ap (first_parts key.kind key.locks key.places k) (let z : key.seats - 1 - k ≡ suc (key.seats - 1 - (k + 1)) = omega arith in z)
 
 pub next_splits : (key : Start) (id k : ℕ) (v : Sight) → v ≡ less key k → k < key.seats - 1
     → Splits (Ruled key) id v (without_first v) (first_seat (length v.held) v.idle)
-next_splits key id k v is more = splits key id v (first_part key.kind key.locks k) (less key (k + 1)).idle
+next_splits key id k v is more = splits key id v (first_part key.kind key.locks key.places k) (less key (k + 1)).idle
     (ap (λ (w : Sight). w.seated) is) (ap (λ (w : Sight). w.idle) is ∙ next_idle key k more)
 
 pub next_left : (key : Start) (k : ℕ) (v : Sight) → v ≡ less key k → k < key.seats - 1 → without_first v ≡ less key (k + 1)
@@ -77,25 +87,25 @@ next_left key k v is more = ap without_first is
     (next_idle key k more)
 
 pub next_cut : (key : Start) (k : ℕ) (v : Sight) → v ≡ less key k → k < key.seats - 1
-    → first_seat (length v.held) v.idle ≡ seat_of (length (first_graph key)) (first_part key.kind key.locks k)
+    → first_seat (length v.held) v.idle ≡ seat_of (length (first_graph key)) (first_part key.kind key.locks key.places k)
 next_cut key k v is more = ap (λ (w : Sight). first_seat (length w.held) w.idle) is
     ∙ ap (first_seat (length (less key k).held)) (next_idle key k more)
-    ∙ ap (λ (n : ℕ). seat_of n (first_part key.kind key.locks k)) (length-replicate {A = _} (length (first_graph key)) None)
+    ∙ ap (λ (n : ℕ). seat_of n (first_part key.kind key.locks key.places k)) (length-replicate {A = _} (length (first_graph key)) None)
 
 -- with all numbers but the last cut off, the first seat is that of the last
 pub last_left : (key : Start) (k : ℕ) → k ≡ key.seats - 1
-    → less key k ≡ seat_of (length (first_graph key)) (first_part key.kind key.locks k)
+    → less key k ≡ seat_of (length (first_graph key)) (first_part key.kind key.locks key.places k)
 last_left key k is = (λ i. record (first_sight key) {
-  part = first_part key.kind key.locks (sym is i);
-  idle = first_parts key.kind key.locks k ((let z : key.seats - 1 - k ≡ 0 = omega arith in z) i);
+  part = first_part key.kind key.locks key.places (sym is i);
+  idle = first_parts key.kind key.locks key.places k ((let z : key.seats - 1 - k ≡ 0 = omega arith in z) i);
 })
 
 pub opens_made : (key : Start) (graph : List Node) (slots : List Cell) → first_graph key ≡ graph → 1 ≤ key.seats
-    → key.seats ≤ 16 → key.locks ≤ 65536 → length graph ≤ key.locks → IsGraph graph
+    → key.seats ≤ key.places → IsSize key.places → key.locks ≤ 65536 → length graph ≤ key.locks → AreNodes graph
     → AreSlots graph (64 + key.locks) slots
-    → Ruled key (opening (replicate (144 + 8 * key.locks) 0) slots (first_sight key))
-opens_made key graph slots same one few many fits is are =
-    opens key one (omega arith) many (let l = ap length same in omega arith) (subst IsGraph (sym same) is) slots
+    → Ruled key (opening (replicate (16 + 8 * key.locks + 8 * key.places) 0) slots (first_sight key))
+opens_made key graph slots same one few size many fits is are =
+    opens key one few size many (let l = ap length same in omega arith) (subst AreNodes (sym same) is) slots
     are.many
     (λ n low. are.nodes n (let m = is.few in let l = ap length same in omega arith)
     (let l = ap length same in omega arith)
@@ -103,12 +113,12 @@ opens_made key graph slots same one few many fits is are =
     (λ n low. are.lists (64 + n) (omega arith) (let m = is.few in omega arith))
 
 pub opens_made_start : (key : Start) (graph : List Node) (slots : List Cell) (same : first_graph key ≡ graph)
-    (one : 1 ≤ key.seats) (few : key.seats ≤ 16) (many : key.locks ≤ 65536) (fits : length graph ≤ key.locks)
-    (is : IsGraph graph) (are : AreSlots graph (64 + key.locks) slots)
-    → ((opens_made key graph slots same one few many fits is are).core ≡ start key.kind key.locks 16)
-    × ((opens_made key graph slots same one few many fits is are).log ≡ [])
+    (one : 1 ≤ key.seats) (few : key.seats ≤ key.places) (size : IsSize key.places) (many : key.locks ≤ 65536) (fits : length graph ≤ key.locks)
+    (is : AreNodes graph) (are : AreSlots graph (64 + key.locks) slots)
+    → ((opens_made key graph slots same one few size many fits is are).core ≡ start key.kind key.locks key.places)
+    × ((opens_made key graph slots same one few size many fits is are).log ≡ [])
 unfolding opens_made
-opens_made_start key graph slots same one few many fits is are = opens_start key _ _ _ _ _ slots _ _ _
+opens_made_start key graph slots same one few size many fits is are = opens_start key _ _ _ _ _ _ slots _ _ _
 
 all_from : {A : Type 0} (P : A → Type 0) (xs : List A) → ((k : ℕ) (x : A) → get_elem? xs k ≡ some x → P x) → AllByRecursion P xs
 all_from P [] each = tt
@@ -124,7 +134,7 @@ pub new_come : (table : TableId) (key : Start) (seats : List Seat16) → AreNew 
 new_come table key seats are = record {
   each = all_from (HasCome table) seats (λ k s e. let n = are.new k s e in record {
     seated = n.seated;
-    bare = subst (λ (m : Sat). IsBare m.0.part.core) (sym n.me) (bare_first key.kind key.locks k);
+    bare = subst (λ (m : Sat). IsBare m.0.part.core) (sym n.me) (bare_first key.kind key.locks key.places k);
     nothing = ap (λ (m : Sat). m.1) n.me;
   });
   all = λ k low. let m = are.many in let t = there seats k (omega arith) in (t.0, t.1, (are.new k t.0 t.2).number);

@@ -1,46 +1,76 @@
 -- What a seat is after a step that leaves the rest of it alone.
-use Rattle.std.proofs.Common.{◌≡◌, ℕ, ◌<◌, ◌^◌, Some, refl, sym, ap, ◌∙◌, subst}
+use Rattle.std.proofs.Common.{◌≡◌, ℕ, ◌+◌, ◌*◌, ◌<◌, ◌≤◌, ◌^◌, Some, refl, sym, ap, ◌∙◌, subst, ◌≢◌, true, false, inl, ⊎_elim, arith}
+use Rattle.std.proofs.lemmas.Grind.{common_steps}
+use mathlib.Core.Logic.{dite}
+use native.Mathlib.Decide.{dec_le}
+use Rattle.ww_word.proofs.AnyWords.{few_word, many_word}
 use Rattle.std.specs.Prelude.{IsSome}
 use Rattle.std.specs.List.{AllByRecursion}
 use Rattle.atomic_table.specs.Seated.{TableId}
 use Rattle.ww_plain.specs.declared.history.Record.{Record}
-use Rattle.ww_word.specs.Owner.{packed}
+use Rattle.ww_word.specs.AnySeats.{Fits, IsValid, packed, most_for, unflagged}
+use Rattle.ww_queue.specs.declared.kind.Kind.{Kind}
+use Rattle.ww_view.specs.declared.view.View.{View}
+use Rattle.ww_rule.specs.Layout.{IsSized, sign_at}
 use Rattle.ww_rule.specs.declared.cells.Sight.{Sight}
-use Rattle.ww_rule.specs.Rule.{Sat}
+use Rattle.ww_rule.specs.Rule.{Sat, IsSize}
 use Rattle.ww_rule.specs.Out.{numbers_of}
+use Rattle.ww_rule.specs.Steps.{taker, IsToldBy}
+use Rattle.ww_queue.proofs.Outcomes.{number_other}
+use Rattle.ww_model.proofs.Outcomes.{number_same}
+use Rattle.ww_view.specs.View.{owns}
 use Rattle.ww_table.specs.declared.seat.Seat16.{Seat16}
-use Rattle.ww_table.specs.Seat.{IsSeated}
+use Rattle.ww_table.specs.Seat.{IsSeated, base_of, step_of}
+
+-- what never changes of a view, and of a seat
+abbrev fixed_of : View → Kind × (ℕ × ℕ)
+fixed_of v = (v.kind, (v.room, v.seats))
+
+abbrev fixed : Seat16 → Kind × (ℕ × (ℕ × (ℕ × (ℕ × (ℕ × ℕ)))))
+fixed s = (s.kind, (s.room, (s.seats, (s.most, (s.sign, (s.base, s.step))))))
 
 -- the seat is as it was, but for its view, the slots that it has out, and its page
 pub seated_paged : (table : TableId) (s new : Seat16) (w : Sight) → IsSeated table s
     → new.seat.table_id ≡ s.seat.table_id → new.seat.me.0 ≡ w → w.seated ≡ s.seat.me.0.seated
-    → w.part.core.kind ≡ s.seat.me.0.part.core.kind → w.part.core.who ≡ s.seat.me.0.part.core.who
+    → fixed_of w.part.core ≡ fixed_of s.seat.me.0.part.core → w.part.core.who ≡ s.seat.me.0.part.core.who
     → w.part.core.stamp ≡ s.seat.me.0.part.core.stamp → w.part.own ≡ s.seat.me.0.part.own
-    → w.idle ≡ s.seat.me.0.idle → (w.part.core.waits ≡ 0 → IsSome new.page) → new.kind ≡ s.kind → new.who ≡ s.who
+    → w.idle ≡ s.seat.me.0.idle → (w.part.core.waits ≡ 0 → IsSome new.page) → fixed new ≡ fixed s → new.who ≡ s.who
     → new.stamp ≡ s.stamp → new.own ≡ s.own → new.records.items ≡ s.records.items
     → new.order.items ≡ numbers_of new.seat.me.1 → IsSeated table new
 seated_paged table s new w was home view seated kind who stamp own idle paged same_kind same_who same_stamp word records order = record {
   home = home ∙ was.home;
   seated = ap (λ (v : Sight). v.seated) view ∙ seated ∙ was.seated;
-  kind = same_kind ∙ was.kind ∙ sym kind ∙ ap (λ (v : Sight). v.part.core.kind) (sym view);
+  kind = ap (λ (x : Kind × (ℕ × (ℕ × (ℕ × (ℕ × (ℕ × ℕ)))))). x.0) same_kind ∙ was.kind ∙ sym (ap (λ (x : Kind × (ℕ × ℕ)). x.0) kind)
+      ∙ ap (λ (v : Sight). v.part.core.kind) (sym view);
   who = ap (λ (v : Sight). v.part.core.who) view ∙ who ∙ was.who ∙ sym same_who;
-  few = subst (λ (t : ℕ). t < 16) (sym same_who) was.few;
+  few = subst (λ (x : ℕ × ℕ). x.0 < x.1) (λ i. (sym same_who i, (sym same_kind i).1.1.0)) was.few;
+  room = ap (λ (v : Sight). v.part.core.room) view ∙ ap (λ (x : Kind × (ℕ × ℕ)). x.1.0) kind ∙ was.room
+      ∙ sym (ap (λ (x : Kind × (ℕ × (ℕ × (ℕ × (ℕ × (ℕ × ℕ)))))). x.1.0) same_kind);
+  seats = ap (λ (v : Sight). v.part.core.seats) view ∙ ap (λ (x : Kind × (ℕ × ℕ)). x.1.1) kind ∙ was.seats
+      ∙ sym (ap (λ (x : Kind × (ℕ × (ℕ × (ℕ × (ℕ × (ℕ × ℕ)))))). x.1.1.0) same_kind);
+  size = subst (λ (x : Kind × (ℕ × (ℕ × (ℕ × (ℕ × (ℕ × ℕ)))))). IsSize x.1.1.0) (sym same_kind) was.size;
+  most = subst (λ (x : Kind × (ℕ × (ℕ × (ℕ × (ℕ × (ℕ × ℕ)))))). x.1.1.1.0 ≡ most_for x.1.1.0) (sym same_kind) was.most;
+  sign = ap (λ (x : Kind × (ℕ × (ℕ × (ℕ × (ℕ × (ℕ × ℕ)))))). x.1.1.1.1.0) same_kind ∙ was.sign
+      ∙ (λ i. sign_at ((sym same_kind i).1.0) (sym same_who i));
+  sized = subst (λ (x : Kind × (ℕ × (ℕ × (ℕ × (ℕ × (ℕ × ℕ)))))). IsSized x.1.0 x.1.1.0 table) (sym same_kind) was.sized;
   stamp = ap (λ (v : Sight). v.part.core.stamp) view ∙ stamp ∙ was.stamp ∙ sym same_stamp;
-  small = subst (λ (t : ℕ). t < 2 ^ 56) (sym same_stamp) was.small;
+  fits = subst (λ (x : ℕ × ℕ). Fits x.0 x.1) (λ i. (sym same_who i, sym same_stamp i)) was.fits;
+  base = ap (λ (x : Kind × (ℕ × (ℕ × (ℕ × (ℕ × (ℕ × ℕ)))))). x.1.1.1.1.1.0) same_kind ∙ was.base ∙ ap base_of (sym same_who);
+  step = ap (λ (x : Kind × (ℕ × (ℕ × (ℕ × (ℕ × (ℕ × ℕ)))))). x.1.1.1.1.1.1) same_kind ∙ was.step ∙ ap step_of (sym same_who);
   own = word ∙ was.own ∙ (λ i. packed (record { seat = Some (sym same_who i); stamp = sym same_stamp i; flags = 0 }));
   order = order;
   records = records ∙ was.records ∙ sym own ∙ ap (λ (v : Sight). v.part.own) (sym view);
   alone = ap (λ (v : Sight). v.idle) view ∙ idle ∙ was.alone;
-  places = subst (AllByRecursion (λ (p : ℕ × Record). p.0 < 2 ^ 37)) (sym records) was.places;
+  places = subst (AllByRecursion (λ (p : ℕ × Record). p.0 < 2 ^ 44)) (sym records) was.places;
   page = λ out. paged (ap (λ (v : Sight). v.part.core.waits) (sym view) ∙ out);
 }
 
 -- ... and its page
 pub seated_as : (table : TableId) (s new : Seat16) (w : Sight) → IsSeated table s
     → new.seat.table_id ≡ s.seat.table_id → new.seat.me.0 ≡ w → w.seated ≡ s.seat.me.0.seated
-    → w.part.core.kind ≡ s.seat.me.0.part.core.kind → w.part.core.who ≡ s.seat.me.0.part.core.who
+    → fixed_of w.part.core ≡ fixed_of s.seat.me.0.part.core → w.part.core.who ≡ s.seat.me.0.part.core.who
     → w.part.core.stamp ≡ s.seat.me.0.part.core.stamp → w.part.own ≡ s.seat.me.0.part.own
-    → w.idle ≡ s.seat.me.0.idle → w.part.core.waits ≡ s.seat.me.0.part.core.waits → new.kind ≡ s.kind
+    → w.idle ≡ s.seat.me.0.idle → w.part.core.waits ≡ s.seat.me.0.part.core.waits → fixed new ≡ fixed s
     → new.who ≡ s.who → new.stamp ≡ s.stamp → new.own ≡ s.own → new.records.items ≡ s.records.items
     → new.page ≡ s.page → new.order.items ≡ numbers_of new.seat.me.1 → IsSeated table new
 seated_as table s new w was home view seated kind who stamp own idle waits same_kind same_who same_stamp word records page =
@@ -49,8 +79,18 @@ seated_as table s new w was home view seated kind who stamp own idle waits same_
 
 -- ... where these stay too
 pub seated_still : (table : TableId) (s new : Seat16) → IsSeated table s → new.seat.table_id ≡ s.seat.table_id
-    → new.seat.me ≡ s.seat.me → new.kind ≡ s.kind → new.who ≡ s.who → new.stamp ≡ s.stamp → new.own ≡ s.own
+    → new.seat.me ≡ s.seat.me → fixed new ≡ fixed s → new.who ≡ s.who → new.stamp ≡ s.stamp → new.own ≡ s.own
     → new.records.items ≡ s.records.items → new.page ≡ s.page → new.order.items ≡ s.order.items → IsSeated table new
 seated_still table s new was home same kind who stamp word records page order =
     seated_as table s new s.seat.me.0 was home (ap (λ (m : Sat). m.0) same) refl refl refl refl refl refl refl kind
     who stamp word records page (order ∙ was.order ∙ ap (λ (m : Sat). numbers_of m.1) (sym same))
+
+-- the word that it keeps is that of a lock that it has taken
+pub own_taker : (table : TableId) (s : Seat16) → IsSeated table s → s.own ≡ packed (taker s.seat.me.0.part.core)
+own_taker table s is = is.own ∙ (λ i. packed (record { seat = Some (sym is.who i); stamp = sym is.stamp i; flags = 0 }))
+
+pub taker_valid : (table : TableId) (s : Seat16) → IsSeated table s → IsValid (taker s.seat.me.0.part.core)
+taker_valid table s is = record {
+  seating = subst (λ (x : ℕ × ℕ). Fits x.0 x.1) (λ i. (sym is.who i, sym is.stamp i)) is.fits;
+  flags = inl refl;
+}

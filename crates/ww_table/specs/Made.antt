@@ -9,7 +9,7 @@ use Rattle.ww_rule.specs.declared.cells.Sight.{Sight}
 use Rattle.ww_rule.specs.declared.cells.Start.{Start}
 use Rattle.ww_table.specs.declared.seat.Seat16.{Seat16}
 use Rattle.ww_table.specs.declared.board.Board.{Board}
-use Rattle.ww_rule.specs.Rule.{first_graph, first_sight, first_parts}
+use Rattle.ww_rule.specs.Rule.{first_graph, first_sight, first_parts, places_for}
 use Rattle.ww_table.specs.Seat.{IsNew}
 
 -- seat k has the number k, and did nothing yet
@@ -23,8 +23,9 @@ pub record IsMade (kind : Kind) (graph : List Node) (locks count : ℕ) (board :
   pub graph_is : first_graph board.table.shared.key ≡ graph
   pub locks_are : board.table.shared.key.locks ≡ locks
   pub count_is : board.table.shared.key.seats ≡ count
+  pub places_are : board.table.shared.key.places ≡ places_for count
   pub seats_are : AreNew board.table.shared.table_id board.table.shared.key count seats
 
 -- the first seat, once so many numbers are cut off
 abbrev pub less : Start → ℕ → Sight
-less key k = record (first_sight key) { idle = first_parts key.kind key.locks k (key.seats - 1 - k) }
+less key k = record (first_sight key) { idle = first_parts key.kind key.locks key.places k (key.seats - 1 - k) }

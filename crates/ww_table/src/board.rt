@@ -7,18 +7,21 @@ use std::alloc::Global;
 use ww_rule::layout::{FRONT, STAMP, cancel_word, guard_word, owner_word, sign_word};
 use ww_rule::{Cell, Sight, Start, Words};
 
-/// A table of so many locks, 65,536 at most, of which the first ones guard the nodes of a graph, and of 16 seats.
+/// A table of so many locks, 65,536 at most, of which the first ones guard the nodes of a graph, and of 16 seats or more.
 #[derive(Drop)]
 pub struct Board {
     pub(crate) table: Table<Cell, Sight, Start, Words, Global>,
     pub(crate) size: u8,
     pub(crate) locks: u32,
-    ghost sized: { IsSized table.shared.key.locks table.shared.table_id },
+    pub(crate) places: u16,
+    ghost sized: { IsSized table.shared.key.locks table.shared.key.places table.shared.table_id },
     ghost locks_is: { locks ≡ table.shared.key.locks },
+    ghost places_are: { places ≡ table.shared.key.places },
     ghost many: { table.shared.key.locks ≤ 65536 },
     ghost fits: { length (first_graph table.shared.key) ≤ table.shared.key.locks },
     ghost size_is: { size ≡ length (first_graph table.shared.key) },
     ghost some: { 1 ≤ table.shared.key.seats },
+    ghost sixteen: { 16 ≤ table.shared.key.places },
     ghost few: { length (first_graph table.shared.key) ≤ 64 },
 }
 
@@ -39,6 +42,13 @@ impl Board {
         self.locks
     }
 
+    /// How many seats the core has: 16, or as many as the table if these are more.
+    pub fn places(&self) -> u16
+        ensures { result ≡ self.now.table.shared.key.places }
+    {
+        self.places
+    }
+
     /// Reads one word, for whoever has the board for itself, as tests do: a seat at work shares it, and reads by its
     /// steps alone. No clause says what the word has. The words are numbered: owner words from 0, guards from 64, signs
     /// from 128, the stamp word 144, the front word 145, cancels from 146. It gives 0 for a lock that isn't there.
@@ -52,10 +62,10 @@ impl Board {
         self.table.shared.peek(match word {
             0..=63 => owner_word(u32::from(word)),
             64..=127 => guard_word(u32::from(word) - 64),
-            128..=143 => sign_word(word - 128),
+            128..=143 => sign_word(self.locks, u16::from(word) - 128),
             144 => STAMP,
             145 => FRONT,
-            _ => cancel_word(word - 146),
+            _ => cancel_word(self.locks, u16::from(word) - 146),
         })
     }
 }

@@ -12,9 +12,9 @@ use ww_rule::plays_inside::{Heed, SetCancel};
 impl Seat16 {
     /// Sets the cancel of a seat, which may be the own one, and answers whether this call did so: a cancel that is
     /// pending stays as it is.
-    pub fn set_cancel(&mut self, board: &Board, victim: u8) -> bool
+    pub fn set_cancel(&mut self, board: &Board, victim: u16) -> bool
         requires seat { IsSeatOf board.now self.old }
-        requires victim { victim < 16 }
+        requires victim { victim < (view_of self.old).seats }
         requires away { IsAway (view_of self.old) }
         ensures seat { IsSeatOf board.now self.new }
         ensures records { self.new.records ≡ self.old.records }
@@ -23,7 +23,8 @@ impl Seat16 {
     {
         let own = u64::from(self.who) + 1;
         let shared = &board.table.shared;
-        shared.compare_exchange::<SetCancel>(&mut self.seat, cancel_word(victim), 0, own) == 0
+        shared.compare_exchange::<SetCancel>(&mut self.seat, cancel_word(self.room, victim), 0, own)
+            == 0
     }
 
     /// Takes the own cancel, which only a waiter inside the guard may do, while another seat has the lock. It gives the
@@ -34,11 +35,11 @@ impl Seat16 {
         requires may { MayHeed (view_of self.old) lock }
         ensures seat { IsSeatOf board.now self.new }
         ensures records { self.new.records ≡ self.old.records }
-        ensures few { result ≤ 16 }
+        ensures few { result ≤ (view_of self.old).seats }
         ensures none { result ≡ 0 → self.new.seat.me ≡ (finding_uncancelled self.old.seat.me.0, self.old.seat.me.1) }
         ensures heeded { result ≢ 0 → self.new.seat.me ≡ (heeding self.old.seat.me.0 result, self.old.seat.me.1) }
     {
         let shared = &board.table.shared;
-        shared.swap::<Heed>(&mut self.seat, cancel_word(self.who), 0)
+        shared.swap::<Heed>(&mut self.seat, cancel_word(self.room, self.who), 0)
     }
 }

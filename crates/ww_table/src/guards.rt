@@ -1,6 +1,7 @@
-ghost use Rattle.std.specs.Prelude.{◌≡◌, ◌≢◌, ◌<◌, ◌+◌, [], ◌∷◌, length, true, false, Some, List};
+ghost use Rattle.std.specs.Prelude.{ℕ, ◌≡◌, ◌≢◌, ◌<◌, ◌+◌, [], ◌∷◌, length, true, false, Some, List};
 ghost use Rattle.atomic_table.specs.Seated.{TableId};
-ghost use Rattle.ww_word.specs.Owner.{IsValid, is_handed};
+ghost use Rattle.ww_word.specs.Owner.{is_handed};
+ghost use Rattle.ww_word.specs.AnySeats.{IsValid};
 ghost use Rattle.ww_queue.specs.declared.entry.Entry.{Entry};
 ghost use Rattle.ww_view.specs.View.{owns};
 ghost use Rattle.ww_view.specs.May.{MayEnter, MayGlance, MayLeave};
@@ -16,7 +17,7 @@ use crate::seat::Seat16;
 use ww_rule::bring;
 use ww_rule::layout::{STAMP, guard_word, list_slot, owner_word};
 use ww_rule::plays_inside::{Count, Enter, Exit, Glance, Look};
-use ww_word::{Owner, unpack};
+use ww_word::wide::{Owner, unpack};
 
 impl Seat16 {
     /// Rotates the slots that are out until the wait list of the lock is the last taken, and gives the slot's number.
@@ -42,7 +43,7 @@ impl Seat16 {
         requires room { length self.old.seat.me.1 < 65 }
         ensures seat { IsSeatOf board.now self.new }
         ensures records { self.new.records ≡ self.old.records }
-        ensures entered { result ≡ true → (q : List Entry) × AreSeats q × StandsAs (view_of self.old) lock q × (self.new.seat.me ≡ (entering self.old.seat.me.0 lock q, (list_at lock, Line q) ∷ self.old.seat.me.1)) }
+        ensures entered { result ≡ true → (q : List Entry) × AreSeats (view_of self.old).seats q × StandsAs (view_of self.old) lock q × (self.new.seat.me ≡ (entering self.old.seat.me.0 lock q, (list_at lock, Line q) ∷ self.old.seat.me.1)) }
         ensures lost { result ≡ false → self.new.seat.me ≡ (shutting_out self.old.seat.me.0, self.old.seat.me.1) }
     {
         let own = u64::from(self.who) + 1;
@@ -81,6 +82,7 @@ impl Seat16 {
         ensures records { self.new.records ≡ self.old.records }
         ensures looked { self.new.seat.me ≡ (looking self.old.seat.me.0 result, self.old.seat.me.1) }
         ensures valid { IsValid result }
+        ensures there { (u : ℕ) → result.seat ≡ Some u → u < (view_of self.old).seats }
         ensures own { owns (view_of self.old) lock ≡ false → result.seat ≡ Some (view_of self.old).who → is_handed result ≡ true }
         ensures flags { (view_of self.old).list ≢ [] → result.flags ≢ 0 }
     {

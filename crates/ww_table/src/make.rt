@@ -1,8 +1,10 @@
 ghost use Rattle.std.specs.Prelude.{◌≡◌, ◌<◌, ◌≤◌, [], Some, length, IfOk, IfErr, IsSome, vec_len, vec_capacity};
-ghost use Rattle.ww_word.specs.Owner.{packed};
-ghost use Rattle.ww_rule.specs.Layout.{IsSized};
-ghost use Rattle.ww_rule.specs.Rule.{first_sight};
+ghost use Rattle.ww_word.specs.AnySeats.{packed, most_for};
+ghost use Rattle.ww_plain.specs.Graph.{IsGraph};
+ghost use Rattle.ww_rule.specs.Layout.{IsSized, sign_at};
+ghost use Rattle.ww_rule.specs.Rule.{first_sight, nodes_of, IsSize, places_for};
 ghost use Rattle.ww_table.specs.Made.{AreNew, IsMade};
+ghost use Rattle.ww_table.specs.Seat.{base_of, step_of};
 
 use crate::board::Board;
 use crate::seat::{Seat16, own_word};
@@ -10,12 +12,13 @@ use arrayvec::ArrayVec;
 use atomic_table::Table;
 use std::alloc::{AllocError, Global};
 use std::snapshot::Snapshot;
-use ww_plain::Graph;
+use ww_plain::{Graph, Node};
 use ww_queue::Kind;
 use ww_rule::homes::slots;
-use ww_rule::layout::words;
+use ww_rule::layout::{sign_word, words};
 use ww_rule::plays::Seats;
 use ww_rule::{Page, Start, TableSeat, Top};
+use ww_word::wide::most_stamp;
 
 impl Board {
     /// A table of so many locks of this kind, the first of them for the nodes of a graph, and so many seats; seat k has the number k. Where a
@@ -25,18 +28,46 @@ impl Board {
         kind: Kind,
         graph: Graph,
         locks: u32,
-        seats: u8,
+        seats: u16,
     ) -> Result<(Board, Vec<Seat16>), (Graph, AllocError)>
         requires locks { (length graph ≤ locks) × (locks ≤ 65536) }
-        requires seats { (1 ≤ seats) × (seats ≤ 16) }
+        requires seats { (1 ≤ seats) × (seats < 4096) }
         ensures ok { IfOk result (λ r. IsMade kind graph locks seats r.0 r.1.items) }
         ensures err { IfErr result (λ e. e.0 ≡ graph) }
     {
-        match lay(alloc, kind, &graph, locks, seats) {
+        match lay(alloc, kind, &graph, false, locks, seats) {
             Ok(made) => Ok(made),
             Err(error) => Err((graph, error)),
         }
     }
+
+    /// A table of so many locks, of which none guards a node.
+    pub fn make_bare(
+        alloc: Global,
+        kind: Kind,
+        locks: u32,
+        seats: u16,
+    ) -> Result<(Board, Vec<Seat16>), AllocError>
+        requires locks { locks ≤ 65536 }
+        requires seats { (1 ≤ seats) × (seats < 4096) }
+        ensures { IfOk result (λ r. IsMade kind [] locks seats r.0 r.1.items) }
+    {
+        let node = Node {
+            value: 0,
+            ports: [None; 8],
+        };
+        let Ok(graph) = Graph::new(Vec::from_elem(alloc, node, 1)?) else {
+            return Err(AllocError);
+        };
+        lay(alloc, kind, &graph, true, locks, seats)
+    }
+}
+
+/// How many seats the core has.
+fn places(seats: u16) -> u16
+    ensures { result ≡ places_for seats }
+{
+    if seats > 16 { seats } else { 16 }
 }
 
 /// Makes the table, and cuts off its seats.
@@ -44,31 +75,60 @@ fn lay(
     alloc: Global,
     kind: Kind,
     graph: &Graph,
+    bare: bool,
     locks: u32,
-    seats: u8,
+    seats: u16,
 ) -> Result<(Board, Vec<Seat16>), AllocError>
-    requires locks { (length graph.now ≤ locks) × (locks ≤ 65536) }
-    requires seats { (1 ≤ seats) × (seats ≤ 16) }
-    ensures { IfOk result (λ r. IsMade kind graph.now locks seats r.0 r.1.items) }
+    requires locks { (length (nodes_of bare graph.now) ≤ locks) × (locks ≤ 65536) }
+    requires seats { (1 ≤ seats) × (seats < 4096) }
+    ensures { IfOk result (λ r. IsMade kind (nodes_of bare graph.now) locks seats r.0 r.1.items) }
 {
-    let size = graph.size();
+    let size = size_of(graph, bare);
+    let places = places(seats);
     let room = Vec::with_capacity(alloc, usize::from(seats))?;
-    let slots = slots(alloc, graph, locks)?;
-    let zeros = Vec::from_elem(alloc, 0, words(locks))?;
+    let slots = slots(alloc, graph, bare, locks)?;
+    let zeros = Vec::from_elem(alloc, 0, words(locks, places))?;
     let about = Start {
         kind,
         locks,
         seats,
+        places,
         nodes: Snapshot::of(graph),
+        bare,
     };
     match Table::new(alloc, &zeros, slots, &about) {
         Ok((table, first)) => {
-            let board = Board { table, size, locks };
-            let made = cut(alloc, kind, &board.table.shared, first, seats, room)?;
+            let board = Board {
+                table,
+                size,
+                locks,
+                places,
+            };
+            let made = cut(
+                alloc,
+                kind,
+                &board.table.shared,
+                first,
+                (locks, places),
+                seats,
+                room,
+            )?;
             Ok((board, made))
         }
         Err(_) => Err(AllocError),
     }
+}
+
+/// How many nodes a table has.
+fn size_of(graph: &Graph, bare: bool) -> u8
+    ensures size { result ≡ length (nodes_of bare graph.now) }
+    ensures graph { IsGraph graph.now }
+{
+    let size = graph.size();
+    if bare {
+        return 0;
+    }
+    size
 }
 
 /// Splits off a seat for each number except the last, which the first seat keeps, and gives each its page.
@@ -77,29 +137,49 @@ fn cut(
     kind: Kind,
     shared: &Top,
     mut first: TableSeat,
-    seats: u8,
+    sizes: (u32, u16),
+    seats: u16,
     mut made: Vec<Seat16>,
 ) -> Result<Vec<Seat16>, AllocError>
-    requires sized { IsSized shared.now.key.locks shared.now.table_id }
+    requires sized { IsSized shared.now.key.locks shared.now.key.places shared.now.table_id }
+    requires sizes { (sizes.0 ≡ shared.now.key.locks) × (sizes.1 ≡ shared.now.key.places) × IsSize sizes.1 × (seats ≤ sizes.1) }
     requires home { first.table_id ≡ shared.now.table_id }
     requires view { first.me ≡ (first_sight shared.now.key, []) }
     requires kind { kind ≡ shared.now.key.kind }
-    requires seats { (seats ≡ shared.now.key.seats) × (1 ≤ seats) × (seats ≤ 16) }
+    requires seats { (seats ≡ shared.now.key.seats) × (1 ≤ seats) }
     requires room { (made.items ≡ []) × (vec_len made ≡ 0) × (seats ≤ vec_capacity made) }
     ensures { IfOk result (λ made. AreNew shared.now.table_id shared.now.key seats made.items) }
 {
     for who in 0..seats - 1 {
         let seat = shared.split_seat::<Seats>(&mut first);
-        made.push_reserved(seated(alloc, kind, seat, who, Page::new(alloc)?));
+        made.push_reserved(seated(alloc, kind, seat, who, sizes, Page::new(alloc)?));
     }
-    made.push_reserved(seated(alloc, kind, first, seats - 1, Page::new(alloc)?));
+    made.push_reserved(seated(alloc, kind, first, seats - 1, sizes, Page::new(alloc)?));
     Ok(made)
 }
 
+/// How much the owner word of a lock that it has taken grows with its stamp.
+fn step(who: u16) -> u64
+    ensures { result ≡ step_of who }
+{
+    if who < 16 { 256 } else { 32768 }
+}
+
 /// A seat that did nothing yet.
-fn seated(alloc: Global, kind: Kind, seat: TableSeat, who: u8, page: Page) -> Seat16
-    requires { who < 16 }
-    ensures same { result ≡ record { seat = seat; kind = kind; who = who; stamp = 0; own = result.own; order = result.order; records = result.records; page = result.page } }
+fn seated(
+    alloc: Global,
+    kind: Kind,
+    seat: TableSeat,
+    who: u16,
+    sizes: (u32, u16),
+    page: Page,
+) -> Seat16
+    requires { (who < sizes.1) × IsSize sizes.1 }
+    ensures same { result ≡ record { seat = seat; kind = kind; who = who; room = sizes.0; seats = sizes.1; most = result.most; sign = result.sign; stamp = 0; base = result.base; step = result.step; own = result.own; order = result.order; records = result.records; page = result.page } }
+    ensures most { result.most ≡ most_for sizes.1 }
+    ensures sign { result.sign ≡ sign_at sizes.0 who }
+    ensures base { result.base ≡ base_of result.who }
+    ensures step { result.step ≡ step_of result.who }
     ensures own { result.own ≡ packed (record { seat = Some result.who; stamp = result.stamp; flags = 0 }) }
     ensures order { result.order.items ≡ [] }
     ensures records { result.records.items ≡ [] }
@@ -109,7 +189,13 @@ fn seated(alloc: Global, kind: Kind, seat: TableSeat, who: u8, page: Page) -> Se
         seat,
         kind,
         who,
+        room: sizes.0,
+        seats: sizes.1,
+        most: most_stamp(sizes.1),
+        sign: sign_word(sizes.0, who),
         stamp: 0,
+        base: own_word(who, 0),
+        step: step(who),
         own: own_word(who, 0),
         order: ArrayVec::new(),
         records: Vec::new(alloc),

@@ -64,7 +64,7 @@ fn place_said<W: Said>(seat: &mut TableSeat, board: &Board, done: &Record) -> u6
     ensures home { (seat.new.table_id ≡ seat.old.table_id) × (seat.new.id ≡ seat.old.id) }
     ensures placed { seat.new.me ≡ (placing seat.old.me.0 result done.now, seat.old.me.1) }
     ensures above { AllByRecursion (λ p. p.0 < result) seat.old.me.0.part.own }
-    ensures few { result < 2 ^ 37 }
+    ensures few { result < 2 ^ 44 }
 {
     board.table.shared.fetch_add::<Commit<W>>(seat, FRONT, 1)
 }

@@ -1,10 +1,11 @@
 //! What a seat inside a guard reads in the wait list. None of this is a step: nobody else sees it.
-ghost use Rattle.std.specs.Prelude.{◌≡◌, ◌<◌, slice_get, Option, Some};
+ghost use Rattle.std.specs.Prelude.{◌≡◌, ◌<◌, ◌≤◌, ◌++◌, length, slice_get, Option, Some, IfSome, IfNone};
 ghost use Rattle.ww_queue.specs.declared.entry.Entry.{Entry};
 ghost use Rattle.ww_queue.specs.Queue.{left};
-ghost use Rattle.ww_queue.specs.Rules.{must_die, owed_signs};
+ghost use Rattle.ww_queue.specs.Rules.{must_die};
+ghost use Rattle.ww_queue.specs.AnySeats.{signs_past};
 ghost use Rattle.ww_model.specs.State.{waiting};
-ghost use Rattle.ww_word.specs.Owner.{IsValid};
+ghost use Rattle.ww_word.specs.AnySeats.{IsValid};
 ghost use Rattle.ww_view.specs.Word.{given_word, rest_word, taken_word};
 ghost use Rattle.ww_rule.specs.declared.cells.Cell.TheVariants.{Line};
 ghost use Rattle.ww_rule.specs.Layout.{list_at};
@@ -15,9 +16,9 @@ ghost use Rattle.ww_rule.specs.Waiting.{HasListOnTop};
 use crate::board::Board;
 use crate::seat::Seat16;
 use arrayvec::ArrayVec;
-use ww_queue::{Entry, MAX_WAITERS};
+use ww_queue::wide::{Entry, SOME_SIGNS};
 use ww_rule::lists::{death_there, first_there, flag_there, owed_there, owner_there};
-use ww_word::Owner;
+use ww_word::wide::Owner;
 
 impl Seat16 {
     /// The stamp for which the seat has to die, by the owner that it saw and the wait list.
@@ -42,19 +43,23 @@ impl Seat16 {
         )
     }
 
-    /// Whom the seat owes a sign, by the owner that it saw and the wait list.
+    /// Some of those to whom the seat owes a sign, by the owner that it saw and the wait list, of the waiters from a place
+    /// on; and from which place on there are more.
     pub fn owed_signs(
         &mut self,
         board: &Board,
         lock: u32,
         seen: Owner,
-    ) -> ArrayVec<(u8, u64), MAX_WAITERS>
+        from: usize,
+    ) -> (ArrayVec<(u16, u64), SOME_SIGNS>, Option<usize>)
         requires seat { IsSeatOf board.now self.old }
         requires lock { lock < locks_of board.now }
         requires list { slot_of self.old.seat.me.1 (list_at lock) ≡ Some (Line (view_of self.old).list) }
         ensures seat { IsSeatOf board.now self.new }
         ensures read { HasListOnTop self.old.seat.me lock self.new.seat.me }
-        ensures owed { result.items ≡ owed_signs self.old.kind seen (view_of self.old).list self.old.who }
+        ensures all { IfNone result.1 (result.0.items ≡ signs_past self.old.kind seen (view_of self.old).list self.old.who from) }
+        ensures some { IfSome result.1 (λ next. result.0.items ++ signs_past self.old.kind seen (view_of self.old).list self.old.who next ≡ signs_past self.old.kind seen (view_of self.old).list self.old.who from) }
+        ensures further { IfSome result.1 (λ next. (from < next) × (next ≤ length (view_of self.old).list)) }
         ensures records { self.new.records ≡ self.old.records }
     {
         let slot = self.bring_list(lock);
@@ -65,6 +70,7 @@ impl Seat16 {
             self.kind,
             seen,
             self.who,
+            from,
         )
     }
 
@@ -108,11 +114,7 @@ impl Seat16 {
         ensures same { self.new ≡ record self.old { seat = self.new.seat; order = self.new.order } }
     {
         let flags = self.flag_left(board, lock);
-        Owner {
-            seat: Some(self.who),
-            stamp: self.stamp,
-            flags,
-        }
+        Owner::of(Some(self.who), self.stamp, flags)
     }
 
     /// The owner word once the seat has gone, by the one that it saw: without flags if nobody waits then.
@@ -128,7 +130,7 @@ impl Seat16 {
         ensures same { self.new ≡ record self.old { seat = self.new.seat; order = self.new.order } }
     {
         if self.flag_left(board, lock) == 0 {
-            return Owner { flags: 0, ..seen };
+            return seen.with_flags(0);
         }
         seen
     }

@@ -1,28 +1,28 @@
-ghost use Rattle.std.specs.Prelude.{◌≡◌, ◌<◌, ◌≤◌, [], ◌∷◌, length, true, false, Some, IfSome, IfNone};
+ghost use Rattle.std.specs.Prelude.{◌≡◌, ◌<◌, ◌≤◌, [], ◌∷◌, length, true, false, Some, IfSome, IfNone, IsSome};
 ghost use lib.ListN.{get_elem?};
 ghost use mathlib.Core.Option.{some};
 ghost use Rattle.ww_plain.specs.declared.node.Node.{Node};
 ghost use Rattle.ww_plain.specs.Graph.{IsNodeOf};
 ghost use Rattle.ww_view.specs.View.{owns, IsAway};
 ghost use Rattle.ww_view.specs.May.{MayFast};
-ghost use Rattle.ww_view.specs.Made.{ended, fast_given, fast_missed, fast_taken, has_read};
+ghost use Rattle.ww_view.specs.Made.{ended, fast_missed, has_read};
 ghost use Rattle.ww_rule.specs.declared.cells.Cell.{Cell};
 ghost use Rattle.ww_rule.specs.declared.cells.Cell.TheVariants.{Content};
-ghost use Rattle.ww_table.specs.Seat.{IsSeatOf, locks_of, size_of, view_of};
+ghost use Rattle.ww_table.specs.Seat.{HasTriedToGive, HasTriedToTake, IsSeatOf, base_of, step_of, giving_of, locks_of, size_of, taking_of, view_of};
 ghost use Rattle.ww_rule.specs.Out.{AreOthers, slot_of, numbers_of};
 ghost use Rattle.std.specs.Prelude.{ℕ, ◌^◌, List, nat_lt};
-ghost use Rattle.ww_word.specs.Owner.{packed};
-ghost use Rattle.ww_rule.specs.Steps.{knowing, drawing, taking, giving, keeping, MayDraw, MayEnd};
+ghost use Rattle.ww_word.specs.AnySeats.{Fits, packed};
+ghost use Rattle.ww_rule.specs.Steps.{knowing, drawing, drawing_none, taking, giving, keeping, MayDraw, MayEnd};
 
 use crate::board::Board;
 use arrayvec::ArrayVec;
 use ww_plain::{Node, Record};
 use ww_queue::Kind;
-use ww_rule::layout::{STAMP, owner_word, sign_word};
+use ww_rule::layout::{STAMP, owner_word};
 use ww_rule::nodes::{node_there, swap_there};
-use ww_rule::plays::{Draw, End, GiveBare, GiveFree, TakeBare, TakeFree};
+use ww_rule::plays::{Draw, End, GiveBare, GiveFree, Owns, TakeBare, TakeFree};
 use ww_rule::{MAX_OUT, Page, TableSeat, bring};
-use ww_word::{Owner, pack};
+use ww_word::wide::{pack_seat, without_flags};
 
 /// A seat of a board. It may start one context after another. Each of its steps is one atomic operation on one word;
 /// its other calls look at what it has out.
@@ -30,8 +30,19 @@ use ww_word::{Owner, pack};
 pub struct Seat16 {
     pub(crate) seat: TableSeat,
     pub(crate) kind: Kind,
-    pub(crate) who: u8,
+    pub(crate) who: u16,
+    /// How many locks the table has.
+    pub(crate) room: u32,
+    /// How many seats the core has.
+    pub(crate) seats: u16,
+    /// The greatest stamp of a context.
+    pub(crate) most: u64,
+    /// Where its own sign word is.
+    pub(crate) sign: usize,
     pub(crate) stamp: u64,
+    /// The word below without its stamp, and how much that grows with the stamp.
+    pub(crate) base: u64,
+    pub(crate) step: u64,
     /// The owner word of a lock that it has taken, with nobody waiting.
     pub(crate) own: u64,
     /// The slots that it has out, the one taken last at the end.
@@ -41,17 +52,97 @@ pub struct Seat16 {
     pub(crate) page: Option<Page>,
 }
 
+/// What one try to take a lock at once came to.
+#[derive(Clone, Copy, Debug, PartialEq, Eq)]
+pub enum Taking {
+    /// The seat has the lock now.
+    Took,
+    /// It had the lock before.
+    Had,
+    /// Another seat has it, or somebody waits for it.
+    Missed,
+}
+
+/// What one try to release a lock at once came to.
+#[derive(Clone, Copy, Debug, PartialEq, Eq)]
+pub enum Giving {
+    /// The seat has the lock no more.
+    Gave,
+    /// Somebody may wait for the lock, and the seat has it still.
+    Kept,
+    /// The seat hasn't the lock.
+    Lacked,
+}
+
+/// What a try in vain found: the owner word of the lock, beside the seat's own.
+#[derive(Clone, Copy, Debug, PartialEq, Eq)]
+pub struct Found {
+    pub(crate) word: u64,
+    pub(crate) own: u64,
+}
+
+impl Found {
+    ghost use Rattle.std.specs.Prelude.{◌≡◌};
+    ghost use Rattle.ww_table.specs.Seat.{tells_own};
+
+    /// Whether that word tells that the seat has the lock.
+    #[inline(always)]
+    pub fn is_own(self) -> bool
+        ensures { result ≡ tells_own self }
+    {
+        without_flags(self.word) == without_flags(self.own)
+    }
+}
+
+/// What one try to take or to release a lock at once came to. What a word that was found tells is asked for only where it
+/// matters, so that who isn't in vain compares it once.
+#[derive(Clone, Copy, Debug, PartialEq, Eq)]
+pub enum Tried {
+    Did,
+    InVain(Found),
+}
+
+impl Tried {
+    ghost use Rattle.std.specs.Prelude.{◌≡◌};
+    ghost use Rattle.ww_table.specs.Seat.{giving_of, taking_of};
+
+    /// What a try to take a lock came to.
+    pub fn taking(self) -> Taking
+        ensures { result ≡ taking_of self }
+    {
+        match self {
+            Tried::Did => Taking::Took,
+            Tried::InVain(found) => {
+                if found.is_own() {
+                    return Taking::Had;
+                }
+                Taking::Missed
+            }
+        }
+    }
+
+    /// What a try to release one came to.
+    pub fn giving(self) -> Giving
+        ensures { result ≡ giving_of self }
+    {
+        match self {
+            Tried::Did => Giving::Gave,
+            Tried::InVain(found) => {
+                if found.is_own() {
+                    return Giving::Kept;
+                }
+                Giving::Lacked
+            }
+        }
+    }
+}
+
 /// The owner word of a lock that this seat has taken with this stamp, with nobody waiting.
-pub(crate) fn own_word(who: u8, stamp: u64) -> u64
-    requires few { who < 16 }
-    requires small { stamp < 2 ^ 56 }
+pub(crate) fn own_word(who: u16, stamp: u64) -> u64
+    requires { Fits who stamp }
     ensures { result ≡ packed (record { seat = Some who; stamp = stamp; flags = 0 }) }
 {
-    pack(Owner {
-        seat: Some(who),
-        stamp,
-        flags: 0,
-    })
+    pack_seat(0, who, stamp)
 }
 
 impl Seat16 {
@@ -63,10 +154,17 @@ impl Seat16 {
     }
 
     /// Its number.
-    pub fn who(&self) -> u8
+    pub fn who(&self) -> u16
         ensures { result ≡ self.now.who }
     {
         self.who
+    }
+
+    /// How many seats the core has.
+    pub fn seats(&self) -> u16
+        ensures { result ≡ self.now.seats }
+    {
+        self.seats
     }
 
     /// The stamp of its context, 0 without one.
@@ -94,23 +192,41 @@ impl Seat16 {
         self.order.last().copied()
     }
 
-    /// Starts a context, and gives its stamp: one more than the stamp drawn last.
-    pub fn draw(&mut self, board: &Board) -> u64
+    /// The owner word of a lock that it has taken with this stamp, with nobody waiting.
+    #[inline(always)]
+    fn own_with(&self, stamp: u64) -> u64
+        requires base { self.now.base ≡ base_of self.now.who }
+        requires step { self.now.step ≡ step_of self.now.who }
+        requires fits { Fits self.now.who stamp }
+        ensures { result ≡ packed (record { seat = Some self.now.who; stamp = stamp; flags = 0 }) }
+    {
+        self.base + self.step * stamp
+    }
+
+    /// Starts a context, and gives its stamp: one more than the stamp drawn last. None where all stamps are spent, which
+    /// can't be with 16 seats.
+    #[inline(always)]
+    pub fn draw(&mut self, board: &Board) -> Option<u64>
         requires seat { IsSeatOf board.now self.old }
         requires may { MayDraw self.old.seat.me.0.part }
         ensures seat { IsSeatOf board.now self.new }
         ensures records { self.new.records ≡ self.old.records }
-        ensures drew { self.new.seat.me ≡ (drawing self.old.seat.me.0 result, self.old.seat.me.1) }
-        ensures context { 0 < result }
+        ensures drew { IfSome result (λ stamp. self.new.seat.me ≡ (drawing self.old.seat.me.0 stamp, self.old.seat.me.1)) }
+        ensures spent { IfNone result (self.new.seat.me ≡ (drawing_none self.old.seat.me.0, self.old.seat.me.1)) }
+        ensures context { IfSome result (λ stamp. 0 < stamp) }
+        ensures few { self.old.seats ≡ 16 → IsSome result }
     {
         let stamp = board
             .table
             .shared
             .fetch_add::<Draw>(&mut self.seat, STAMP, 1)
             + 1;
+        if stamp > self.most {
+            return None;
+        }
         self.stamp = stamp;
-        self.own = own_word(self.who, stamp);
-        stamp
+        self.own = self.own_with(stamp);
+        Some(stamp)
     }
 
     /// One try to take a lock at once, which only a free one with an empty wait list allows.
@@ -157,35 +273,58 @@ impl Seat16 {
         true
     }
 
-    /// One try to take a lock at once that guards no node.
-    pub fn take_bare(&mut self, board: &Board, lock: u32) -> bool
+    /// One try to take a lock at once that guards no node. The word tells whether the seat had it before.
+    #[inline(always)]
+    pub fn take_bare(&mut self, board: &Board, lock: u32) -> Tried
         requires seat { IsSeatOf board.now self.old }
         requires lock { (size_of board.now ≤ lock) × (lock < locks_of board.now) }
         requires may { MayFast (view_of self.old) }
         ensures seat { IsSeatOf board.now self.new }
         ensures records { self.new.records ≡ self.old.records }
-        ensures took { result ≡ true → self.new.seat.me ≡ (knowing self.old.seat.me.0 (fast_taken (view_of self.old) lock), self.old.seat.me.1) }
-        ensures lost { result ≡ false → self.new.seat.me ≡ (knowing self.old.seat.me.0 (fast_missed (view_of self.old)), self.old.seat.me.1) }
+        ensures tried { HasTriedToTake self.old.seat.me lock (taking_of result) self.new.seat.me }
     {
         let own = self.own;
         let shared = &board.table.shared;
-        shared.compare_exchange::<TakeBare>(&mut self.seat, owner_word(lock), 0, own) == 0
+        let found = shared.compare_exchange::<TakeBare>(&mut self.seat, owner_word(lock), 0, own);
+        if found == 0 {
+            return Tried::Did;
+        }
+        Tried::InVain(Found { word: found, own })
     }
 
-    /// One try to release a lock at once that guards no node.
-    pub fn give_bare(&mut self, board: &Board, lock: u32) -> bool
+    /// One try to release a lock at once that guards no node. The word tells whether the seat has it.
+    #[inline(always)]
+    pub fn give_bare(&mut self, board: &Board, lock: u32) -> Tried
         requires seat { IsSeatOf board.now self.old }
         requires lock { (size_of board.now ≤ lock) × (lock < locks_of board.now) }
         requires away { IsAway (view_of self.old) }
-        requires owner { owns (view_of self.old) lock ≡ true }
         ensures seat { IsSeatOf board.now self.new }
         ensures records { self.new.records ≡ self.old.records }
-        ensures gave { result ≡ true → self.new.seat.me ≡ (knowing self.old.seat.me.0 (fast_given (view_of self.old) lock), self.old.seat.me.1) }
-        ensures kept { result ≡ false → self.new.seat.me ≡ (keeping self.old.seat.me.0, self.old.seat.me.1) }
+        ensures tried { HasTriedToGive self.old.seat.me lock (giving_of result) self.new.seat.me }
     {
         let own = self.own;
         let shared = &board.table.shared;
-        shared.compare_exchange::<GiveBare>(&mut self.seat, owner_word(lock), own, 0) == own
+        let found = shared.compare_exchange::<GiveBare>(&mut self.seat, owner_word(lock), own, 0);
+        if found != own {
+            return Tried::InVain(Found { word: found, own });
+        }
+        Tried::Did
+    }
+
+    /// Whether it owns a lock, by a look at the lock's word from outside its guard.
+    pub fn has(&mut self, board: &Board, lock: u32) -> bool
+        requires seat { IsSeatOf board.now self.old }
+        requires lock { lock < locks_of board.now }
+        requires away { IsAway (view_of self.old) }
+        ensures seat { IsSeatOf board.now self.new }
+        ensures same { self.new ≡ record self.old { seat = self.new.seat } }
+        ensures me { self.new.seat.me ≡ self.old.seat.me }
+        ensures owns { result ≡ owns (view_of self.old) lock }
+    {
+        let own = self.own;
+        let shared = &board.table.shared;
+        let found = shared.load::<Owns>(&mut self.seat, owner_word(lock));
+        without_flags(found) == without_flags(own)
     }
 
     /// Ends the context, if its own sign word is 0.
@@ -199,15 +338,12 @@ impl Seat16 {
         ensures known { (k : ℕ) → (view_of self.old).sign ≡ Some k → 0 < k → result ≡ false }
         ensures unsigned { (view_of self.old).sign ≡ Some 0 → result ≡ true }
     {
-        let sign = board
-            .table
-            .shared
-            .load::<End>(&mut self.seat, sign_word(self.who));
+        let sign = board.table.shared.load::<End>(&mut self.seat, self.sign);
         if sign != 0 {
             return false;
         }
         self.stamp = 0;
-        self.own = own_word(self.who, 0);
+        self.own = self.base;
         true
     }
 

@@ -12,9 +12,9 @@ use ww_rule::plays_inside::{Clear, OwnSign, Sign};
 impl Seat16 {
     /// Condemns another seat by the stamp of the older context that it meets here, and answers whether this call did
     /// so: a seat that has a sign keeps it. Either way the victim has one.
-    pub fn sign(&mut self, board: &Board, lock: u32, victim: u8, stamp: u64) -> bool
+    pub fn sign(&mut self, board: &Board, lock: u32, victim: u16, stamp: u64) -> bool
         requires seat { IsSeatOf board.now self.old }
-        requires victim { victim < 16 }
+        requires victim { victim < (view_of self.old).seats }
         requires may { MaySign (view_of self.old) lock victim stamp }
         ensures seat { IsSeatOf board.now self.new }
         ensures records { self.new.records ≡ self.old.records }
@@ -22,7 +22,7 @@ impl Seat16 {
         ensures noted { result ≡ false → self.new.seat.me ≡ (noting self.old.seat.me.0 victim, self.old.seat.me.1) }
     {
         let shared = &board.table.shared;
-        shared.compare_exchange::<Sign>(&mut self.seat, sign_word(victim), 0, stamp) == 0
+        shared.compare_exchange::<Sign>(&mut self.seat, sign_word(self.room, victim), 0, stamp) == 0
     }
 
     /// What the own sign says: 0, or the stamp of the older context that condemned the seat. Any sign but 0 stays; so
@@ -36,7 +36,7 @@ impl Seat16 {
         ensures unsigned { result ≡ 0 → ¬ IsQuiet (view_of self.old) → self.new.seat.me ≡ (finding_none self.old.seat.me.0, self.old.seat.me.1) }
     {
         let shared = &board.table.shared;
-        shared.load::<OwnSign>(&mut self.seat, sign_word(self.who))
+        shared.load::<OwnSign>(&mut self.seat, self.sign)
     }
 
     /// Takes the own sign back. A store costs as much as any other locked step, so it is for a seat that found a sign.
@@ -48,6 +48,6 @@ impl Seat16 {
         ensures cleared { self.new.seat.me ≡ (clearing self.old.seat.me.0, self.old.seat.me.1) }
     {
         let shared = &board.table.shared;
-        shared.store::<Clear>(&mut self.seat, sign_word(self.who), 0);
+        shared.store::<Clear>(&mut self.seat, self.sign, 0);
     }
 }

@@ -2,7 +2,7 @@ ghost use Rattle.std.specs.Prelude.{ℕ, ◌≡◌, ◌≢◌, ◌<◌, ◌≤�
 ghost use lib.ListN.{get_elem?};
 ghost use mathlib.Core.Option.{some};
 ghost use Rattle.atomic_table.specs.Table.{rest};
-ghost use Rattle.ww_word.specs.Owner.{IsValid};
+ghost use Rattle.ww_word.specs.AnySeats.{IsValid};
 ghost use Rattle.ww_queue.specs.declared.entry.Entry.{Entry};
 ghost use Rattle.ww_model.specs.State.{any_below};
 ghost use Rattle.ww_plain.specs.declared.node.Node.{Node};
@@ -22,12 +22,13 @@ ghost use Rattle.ww_rule.specs.Cancels.{stopping};
 
 use crate::board::Board;
 use crate::seat::Seat16;
-use ww_queue::Entry;
+use ww_queue::wide::Entry;
 use ww_rule::bring;
 use ww_rule::layout::{list_slot, owner_word};
 use ww_rule::lists::{join_list, leave_list};
 use ww_rule::plays_inside::{Ask, Die, Give, GiveBareInside, Join, Leave, Take, TakeBareInside};
-use ww_word::{HANDOFF, Owner, WAITERS, pack};
+use ww_word::wide::{Owner, pack};
+use ww_word::{HANDOFF, WAITERS};
 
 /// The steps on an owner word inside its guard. Each succeeds if the word is still the one expected. It is if the seat
 /// saw that word last and somebody waits (`sure`), since nobody else writes it then; and nobody but its owner writes the
@@ -54,11 +55,7 @@ impl Seat16 {
         if found != old {
             return false;
         }
-        let entry = Entry {
-            seat: self.who,
-            stamp: self.stamp,
-            holds,
-        };
+        let entry = Entry::of(self.who, self.stamp, holds);
         let slot = list_slot(lock);
         bring(&mut self.seat, &mut self.order, slot);
         let Some(page) = self.page.take() else {
@@ -81,10 +78,7 @@ impl Seat16 {
         ensures lost { result ≡ false → self.new.seat.me ≡ (lost self.old.seat.me.0, self.old.seat.me.1) }
     {
         let old = pack(seen);
-        let new = pack(Owner {
-            flags: WAITERS | HANDOFF,
-            ..seen
-        });
+        let new = pack(seen.with_flags(WAITERS | HANDOFF));
         let shared = &board.table.shared;
         shared.compare_exchange::<Ask>(&mut self.seat, owner_word(lock), old, new) == old
     }
@@ -161,12 +155,12 @@ impl Seat16 {
         requires valid { IsValid seen }
         requires seen { (view_of self.old).seen ≡ Some seen }
         requires list { slot_of self.old.seat.me.1 (list_at lock) ≡ Some (Line (view_of self.old).list) }
-        requires waiters { AreSeats (view_of self.old).list }
+        requires waiters { AreSeats (view_of self.old).seats (view_of self.old).list }
         ensures seat { IsSeatOf board.now self.new }
         ensures records { self.new.records ≡ self.old.records }
         ensures gave { (others : List (ℕ × Cell)) × AreOthers self.old.seat.me.1 (list_at lock) (Line (view_of self.old).list) others × (self.new.seat.me ≡ (knowing self.old.seat.me.0 (given (view_of self.old) lock (seen.flags == 3)), (list_at lock, Line (view_of self.old).list) ∷ others)) }
     {
-        let owner = self.next_owner(board, lock, seen.flags == WAITERS | HANDOFF);
+        let owner = self.next_owner(board, lock, seen.flags() == WAITERS | HANDOFF);
         let old = pack(seen);
         let new = pack(owner);
         let shared = &board.table.shared;
@@ -237,13 +231,13 @@ impl Seat16 {
         requires valid { IsValid seen }
         requires seen { (view_of self.old).seen ≡ Some seen }
         requires list { slot_of self.old.seat.me.1 (list_at lock) ≡ Some (Line (view_of self.old).list) }
-        requires waiters { AreSeats (view_of self.old).list }
+        requires waiters { AreSeats (view_of self.old).seats (view_of self.old).list }
         requires out { (x : Node) × IsOut self.old.seat.me.1 lock (Content x) × (get_elem? self.old.seat.me.0.held lock ≡ some (Some x)) }
         ensures seat { IsSeatOf board.now self.new }
         ensures records { self.new.records ≡ self.old.records }
         ensures gave { (x : Node) × (others : List (ℕ × Cell)) × (self.new.seat.me.0 ≡ giving_inside self.old.seat.me.0 lock (seen.flags == 3)) × AreOthers self.old.seat.me.1 (list_at lock) (Line (view_of self.old).list) others × AreOthers ((list_at lock, Line (view_of self.old).list) ∷ others) lock (Content x) self.new.seat.me.1 }
     {
-        let owner = self.next_owner(board, lock, seen.flags == WAITERS | HANDOFF);
+        let owner = self.next_owner(board, lock, seen.flags() == WAITERS | HANDOFF);
         bring(&mut self.seat, &mut self.order, lock);
         let old = pack(seen);
         let new = pack(owner);

@@ -100,8 +100,11 @@ fn work<const IS_DRAWN: bool>(board: &Board, mut seat: Seat16, rounds: u32) -> u
 fn work_of_commits(board: &Board, alloc: Global, mut seat: Seat16, rounds: u32) -> u64
     requires unused { IsUnused board.now seat }
     requires size { size_of board.now ≡ 64 }
+    requires few { board.now.table.shared.key.places ≡ 16 }
 {
-    let who = seat.who();
+    let Ok(who) = u8::try_from(seat.who()) else {
+        return 0;
+    };
     let mut tally = Tally {
         who,
         draws: 0,
@@ -125,7 +128,7 @@ pub(crate) fn go<R: Runtime + Threads + Sync>(rt: &R, alloc: Global, load: Load)
         Kind::WoundWait,
         graph(alloc)?,
         64,
-        load.threads,
+        u16::from(load.threads),
     ) {
         Ok(made) => made,
         Err((_, error)) => return Err(error.into()),
@@ -136,7 +139,7 @@ pub(crate) fn go<R: Runtime + Threads + Sync>(rt: &R, alloc: Global, load: Load)
         rt,
         seats,
         &|seat: Seat16| -> u64
-            requires { IsUnused shared.now seat × (size_of shared.now ≡ 64) }
+            requires { IsUnused shared.now seat × (size_of shared.now ≡ 64) × (shared.now.table.shared.key.places ≡ 16) }
         {
             match load.what {
                 What::Pairs => work::<false>(shared, seat, load.rounds),

@@ -1,12 +1,13 @@
 -- A table tells one core, and one history.
-use Rattle.std.proofs.Common.{◌≡◌, ⊎_elim, ℕ, zero, suc, ◌+◌, ◌*◌, ◌<◌, ◌≤◌, Bool, true, false, true≢false, List, [], ◌∷◌, length, refl, sym, ap, ◌∙◌, subst, arith}
+use Rattle.std.proofs.Common.{◌≡◌, ⊎_elim, ℕ, zero, suc, ◌+◌, ◌*◌, ◌<◌, ◌≤◌, Bool, true, false, true≢false, min, List, [], ◌∷◌, length, refl, sym, ap, ◌∙◌, subst, arith}
 use mathlib.Core.Logic.{dite}
 use mathlib.Core.Option.{some, some-injective}
 use native.Mathlib.Decide.{dec_le}
 use lib.ListN.{get_elem?}
 use Rattle.ww_word.specs.declared.owner.Owner.{Owner}
 use Rattle.ww_word.specs.Owner.{is_handed}
-use Rattle.ww_word.proofs.Words.{packing_is_injective}
+use Rattle.ww_word.specs.AnySeats.{most_for}
+use Rattle.ww_word.proofs.AnyWords.{packing_is_injective}
 use Rattle.ww_queue.specs.declared.entry.Entry.{Entry}
 use Rattle.ww_queue.specs.Queue.{Has}
 use Rattle.ww_model.specs.declared.state.Holder.{Holder}
@@ -18,7 +19,8 @@ use Rattle.ww_model.proofs.Words.{handed_same}
 use Rattle.ww_model.proofs.Beyond.{queues_beyond, guards_are, cancels_beyond}
 use Rattle.ww_model.proofs.Cancels.{away_unheeded}
 use Rattle.ww_plain.specs.History.{Recorded, part_of}
-use Rattle.ww_view.proofs.Written.{word_is_valid}
+use Rattle.ww_view.proofs.Written.{wide_word_is_valid}
+use Rattle.ww_rule.proofs.Moves.{have_room}
 use Rattle.ww_rule.specs.declared.cells.Cell.TheVariants.{Line}
 use Rattle.ww_rule.specs.declared.cells.Part.{Part}
 use Rattle.ww_rule.specs.declared.cells.Start.{Start}
@@ -121,8 +123,8 @@ module _ (key : Start) (s : St) (r r' : Ruled key s) where
 
   same_word : (n : ℕ) → n < key.locks → word_of r.core n ≡ word_of r'.core n
   same_word n low = packing_is_injective (word_of r.core n) (word_of r'.core n)
-      (word_is_valid r.core n r.reached (let places = r.places in omega arith))
-      (word_is_valid r'.core n r'.reached (let places = r'.places in omega arith))
+      (wide_word_is_valid r.core n r.reached (have_room key s r))
+      (wide_word_is_valid r'.core n r'.reached (have_room key s r'))
       (sym (r.words.owners n low) ∙ r'.words.owners n low)
 
   same_owner : (n : ℕ) → r.core.owner n ≡ r'.core.owner n
@@ -167,13 +169,13 @@ module _ (key : Start) (s : St) (r r' : Ruled key s) where
       ∙ x.there.1.knows.itself.stamp ∙ ap r'.core.stamp x.who)
 
   same_sign : (t : ℕ) → r.core.sign t ≡ r'.core.sign t
-  same_sign t = dite (dec_le 16 t)
+  same_sign t = dite (dec_le key.places t)
       (λ beyond. let few = r.seats_there in unsigned r.core (law key s r) t (r.strangers t (omega arith)).stamp
       ∙ sym (unsigned r'.core (law key s r') t (r'.strangers t (omega arith)).stamp))
       (λ below. sym (r.words.signs t (omega arith)) ∙ r'.words.signs t (omega arith))
 
   same_cancel : (t : ℕ) → r.core.cancel t ≡ r'.core.cancel t
-  same_cancel t = dite (dec_le 16 t)
+  same_cancel t = dite (dec_le key.places t)
       (λ beyond. cancels_beyond r.core r.reached t (let places = r.places in omega arith)
       ∙ sym (cancels_beyond r'.core r'.reached t (let places = r'.places in omega arith)))
       (λ below. sym (r.words.cancels t (omega arith)) ∙ r'.words.cancels t (omega arith))
@@ -190,7 +192,7 @@ module _ (key : Start) (s : St) (r r' : Ruled key s) where
     kind = (r.kind ∙ sym r'.kind) i;
     locks = (r.locks ∙ sym r'.locks) i;
     seats = (r.places ∙ sym r'.places) i;
-    drawn = (sym r.words.drawn ∙ r'.words.drawn) i;
+    drawn = (sym r.drawn ∙ ap (λ (a : ℕ). min a (most_for key.places)) (sym r.words.drawn ∙ r'.words.drawn) ∙ r'.drawn) i;
     commits = (sym r.words.front ∙ r'.words.front) i;
     stamp = λ t. same_stamp t i;
     sign = λ t. same_sign t i;

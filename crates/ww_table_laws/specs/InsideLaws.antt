@@ -5,7 +5,8 @@ use mathlib.Core.Option.{some}
 use lib.ListN.{get_elem?}
 use Rattle.atomic_table.specs.Table.{stepped, keeps, takes, gives, chain, rest}
 use Rattle.ww_word.specs.declared.owner.Owner.{Owner}
-use Rattle.ww_word.specs.Owner.{IsValid, packed, with_waiters}
+use Rattle.ww_word.specs.Owner.{with_waiters}
+use Rattle.ww_word.specs.AnySeats.{IsValid, packed}
 use Rattle.ww_queue.specs.declared.entry.Entry.{Entry}
 use Rattle.ww_queue.specs.Queue.{left}
 use Rattle.ww_model.specs.declared.event.Event.TheVariants.{Clear, Guard, Join, Sign, Take, Ask, Give, Die, Unguard, Cancel, Heed, Leave}
@@ -105,27 +106,27 @@ DieIsDie = (key : Start) (s : St) (r : Ruled key s) (id : ℕ) (me : Sat) (n : �
 -- a sign word 0 becomes the stamp that the view owes as Sign
 abbrev pub SignIsSign : Type 0
 SignIsSign = (key : Start) (s : St) (r : Ruled key s) (id : ℕ) (me : Sat) (n u k : ℕ) → Steps s id me →
-    MaySign me.0.part.core n u k → u < 16 → slice_index s.words (sign_at u) ≡ 0 →
-    Makes key s r (Sign me.0.part.core.who u) (stepped s (sign_at u) k id me.1 (condemning me.0 u) keeps)
+    MaySign me.0.part.core n u k → u < key.places → slice_index s.words (sign_at key.locks u) ≡ 0 →
+    Makes key s r (Sign me.0.part.core.who u) (stepped s (sign_at key.locks u) k id me.1 (condemning me.0 u) keeps)
 
 -- the own sign word becomes 0 as Clear
 abbrev pub ClearIsClear : Type 0
 ClearIsClear = (key : Start) (s : St) (r : Ruled key s) (id : ℕ) (me : Sat) → Steps s id me → MayClear me.0.part.core →
-    Makes key s r (Clear me.0.part.core.who) (stepped s (sign_at me.0.part.core.who) 0 id me.1 (clearing me.0) keeps)
+    Makes key s r (Clear me.0.part.core.who) (stepped s (sign_at key.locks me.0.part.core.who) 0 id me.1 (clearing me.0) keeps)
 
 -- a cancel word 0 becomes that of the seat as Cancel
 abbrev pub CancelIsCancel : Type 0
 CancelIsCancel = (key : Start) (s : St) (r : Ruled key s) (id : ℕ) (me : Sat) (u : ℕ) → Steps s id me →
-    IsAway me.0.part.core → u < 16 → slice_index s.words (cancel_at u) ≡ 0 →
+    IsAway me.0.part.core → u < key.places → slice_index s.words (cancel_at key.locks u) ≡ 0 →
     Makes key s r (Cancel me.0.part.core.who u)
-    (stepped s (cancel_at u) (me.0.part.core.who + 1) id me.1 (cancelling me.0 u) keeps)
+    (stepped s (cancel_at key.locks u) (me.0.part.core.who + 1) id me.1 (cancelling me.0 u) keeps)
 
 -- the own cancel word, if it isn't 0, becomes 0 as Heed
 abbrev pub HeedIsHeed : Type 0
 HeedIsHeed = (key : Start) (s : St) (r : Ruled key s) (id : ℕ) (me : Sat) (n : ℕ) → Steps s id me →
-    MayHeed me.0.part.core n → let mark : ℕ = slice_index s.words (cancel_at me.0.part.core.who) in mark ≢ 0 →
+    MayHeed me.0.part.core n → let mark : ℕ = slice_index s.words (cancel_at key.locks me.0.part.core.who) in mark ≢ 0 →
     Makes key s r (Heed me.0.part.core.who n)
-    (stepped s (cancel_at me.0.part.core.who) 0 id me.1 (heeding me.0 mark) keeps)
+    (stepped s (cancel_at key.locks me.0.part.core.who) 0 id me.1 (heeding me.0 mark) keeps)
 
 -- An owner word loses its flags as the last waiter leaves for a cancel, or stays, as Leave; and the core answers that
 -- it was interrupted by the seat that the view names.

@@ -3,16 +3,17 @@ use Rattle.std.specs.Prelude.{ℕ, ◌≡◌, ◌<◌, ◌≤◌, ◌+◌, [], �
 use mathlib.Core.Option.{some}
 use lib.ListN.{get_elem?}
 use Rattle.atomic_table.specs.Table.{stepped, keeps, takes, gives, rest, opening}
-use Rattle.ww_word.specs.Owner.{packed}
+use Rattle.ww_word.specs.Owner as narrow
+use Rattle.ww_word.specs.AnySeats.{packed, most_for}
 use Rattle.ww_model.specs.declared.event.Event.{Event}
 use Rattle.ww_model.specs.declared.event.Event.TheVariants.{Begin, Fast, FastGive, Commit, End}
-use Rattle.ww_model.specs.State.{State, start}
+use Rattle.ww_model.specs.State.{State, start, word_of}
 use Rattle.ww_model.specs.Event.{after}
 use Rattle.ww_model.specs.Lawful.{IsLawful}
 use Rattle.ww_model.specs.Waits.{IsCycle, AreContexts, IsOneOf, IsCondemned}
 use Rattle.ww_plain.specs.declared.node.Node.{Node}
 use Rattle.ww_plain.specs.declared.history.Record.{Record}
-use Rattle.ww_plain.specs.Graph.{IsGraph, node_at}
+use Rattle.ww_plain.specs.Graph.{node_at}
 use Rattle.ww_plain.specs.History.{Recorded, recorded_of, last_graph}
 use Rattle.ww_view.specs.View.{owns, IsAway}
 use Rattle.ww_view.specs.May.{MayFast}
@@ -26,8 +27,8 @@ use Rattle.ww_table.specs.Made.{AreNew}
 use Rattle.ww_table.specs.Closed.{HaveAllCome}
 use Rattle.ww_rule.specs.Layout.{owner_at, sign_at, stamp_at, front_at, words_for, slots_for}
 use Rattle.ww_rule.specs.Homes.{AreSlots}
-use Rattle.ww_rule.specs.Rule.{St, Sat, first_graph, first_sight, Ruled, MakesWith, Makes}
-use Rattle.ww_rule.specs.Steps.{MayDraw, MayEnd, MayPlace, taker, drawing, taking, giving, knowing, placing}
+use Rattle.ww_rule.specs.Rule.{St, Sat, first_graph, first_sight, Ruled, IsSize, MakesWith, Makes, Stays, AreNodes}
+use Rattle.ww_rule.specs.Steps.{MayDraw, MayEnd, MayPlace, taker, drawing, drawing_none, taking, giving, knowing, placing, IsToldBy}
 
 -- a seat of the table that steps: where its view stands, and the seat itself
 pub record Steps (s : St) (id : ℕ) (me : Sat) : Type 0 where
@@ -37,8 +38,23 @@ pub record Steps (s : St) (id : ℕ) (me : Sat) : Type 0 where
 -- the stamp word goes one up as Begin
 abbrev pub DrawIsBegin : Type 0
 DrawIsBegin = (key : Start) (s : St) (r : Ruled key s) (id : ℕ) (me : Sat) → Steps s id me → MayDraw me.0.part →
+    slice_index s.words stamp_at < most_for key.places →
     let stamp : ℕ = slice_index s.words stamp_at + 1 in
     Makes key s r (Begin me.0.part.core.who) (stepped s stamp_at stamp id me.1 (drawing me.0 stamp) keeps)
+
+-- where all stamps are spent, which can't be with 16 seats, no context begins
+abbrev pub SpentIsNoEvent : Type 0
+SpentIsNoEvent = (key : Start) (s : St) (r : Ruled key s) (id : ℕ) (me : Sat) → Steps s id me → MayDraw me.0.part →
+    most_for key.places ≤ slice_index s.words stamp_at →
+    Stays key s r (stepped s stamp_at (slice_index s.words stamp_at + 1) id me.1 (drawing_none me.0) keeps)
+
+abbrev pub FewSeatsSpendNone : Type 0
+FewSeatsSpendNone = (key : Start) (s : St) (r : Ruled key s) → key.places ≡ 16 → slice_index s.words stamp_at < most_for key.places
+
+-- with 16 seats each owner word is the one that `ww_word` packs without its second form
+abbrev pub FewSeatsHaveNarrowWords : Type 0
+FewSeatsHaveNarrowWords = (key : Start) (s : St) (r : Ruled key s) (n : ℕ) → key.places ≡ 16 → n < key.locks →
+    slice_index s.words (owner_at n) ≡ narrow.packed (word_of r.core n)
 
 -- outside a guard an owner word 0 becomes that of the seat as Fast, and the node that comes out has the fold's value
 abbrev pub TakeFreeIsFast : Type 0
@@ -70,11 +86,17 @@ GiveBareIsFastGive = (key : Start) (s : St) (r : Ruled key s) (id : ℕ) (me : S
     slice_index s.words (owner_at n) ≡ packed (taker me.0.part.core) →
     Makes key s r (FastGive me.0.part.core.who n) (stepped s (owner_at n) 0 id me.1 (knowing me.0 (fast_given me.0.part.core n)) keeps)
 
+-- Outside all guards and lists an owner word is the seat's own, but for its flags, just where the seat owns the lock: so a
+-- seat needs no list of what it holds.
+abbrev pub WordsTellOwners : Type 0
+WordsTellOwners = (key : Start) (s : St) (r : Ruled key s) (id : ℕ) (me : Sat) (n : ℕ) → Steps s id me → n < key.locks →
+    IsAway me.0.part.core → IsToldBy me.0.part.core n (slice_index s.words (owner_at n))
+
 -- the own sign word is found 0, and the context ends, as End
 abbrev pub EndIsEnd : Type 0
 EndIsEnd = (key : Start) (s : St) (r : Ruled key s) (id : ℕ) (me : Sat) → Steps s id me → MayEnd me.0.part.core
-    → slice_index s.words (sign_at me.0.part.core.who) ≡ 0 →
-    let i : ℕ = sign_at me.0.part.core.who in
+    → slice_index s.words (sign_at key.locks me.0.part.core.who) ≡ 0 →
+    let i : ℕ = sign_at key.locks me.0.part.core.who in
     Makes key s r (End me.0.part.core.who)
     (stepped s i (slice_index s.words i) id me.1 (knowing me.0 (ended me.0.part.core)) keeps)
 
@@ -107,11 +129,11 @@ StepsExtendTheRun = (key : Start) (s : St) (r : Ruled key s) (e : Event) (log : 
 
 -- the rule holds of a table made just now, and tells the start of the core and no commits
 abbrev pub NewTableShowsStart : Type 0
-NewTableShowsStart = (key : Start) (slots : List Cell) → 1 ≤ key.seats → key.seats ≤ 16 → key.locks ≤ 65536
-    → length (first_graph key) ≤ key.locks → IsGraph (first_graph key)
+NewTableShowsStart = (key : Start) (slots : List Cell) → 1 ≤ key.seats → key.seats ≤ key.places → IsSize key.places → key.locks ≤ 65536
+    → length (first_graph key) ≤ key.locks → AreNodes (first_graph key)
     → AreSlots (first_graph key) (slots_for key.locks) slots →
-    let s : St = opening (replicate (words_for key.locks) 0) slots (first_sight key) in
-    Ruled key s × ((r : Ruled key s) → (r.core ≡ start key.kind key.locks 16) × (r.log ≡ []))
+    let s : St = opening (replicate (words_for key.locks key.places) 0) slots (first_sight key) in
+    Ruled key s × ((r : Ruled key s) → (r.core ≡ start key.kind key.locks key.places) × (r.log ≡ []))
 
 -- seats that did nothing yet can be handed in to close the table
 abbrev pub NewSeatsCanClose : Type 0

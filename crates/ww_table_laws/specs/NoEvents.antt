@@ -4,7 +4,7 @@ use mathlib.Core.Option.{some}
 use lib.ListN.{get_elem?}
 use Rattle.atomic_table.specs.Table.{stepped, keeps}
 use Rattle.ww_word.specs.declared.owner.Owner.{Owner}
-use Rattle.ww_word.specs.Owner.{IsValid, packed}
+use Rattle.ww_word.specs.AnySeats.{IsValid, packed}
 use Rattle.ww_view.specs.View.{IsBare, IsQuiet}
 use Rattle.ww_view.specs.Made.{fast_missed}
 use Rattle.ww_rule.specs.declared.cells.Part.{Part}
@@ -33,6 +33,11 @@ abbrev pub GlanceIsNoEvent : Type 0
 GlanceIsNoEvent = (key : Start) (s : St) (r : Ruled key s) (id : ℕ) (me : Sat) (n : ℕ) → Steps s id me →
     Stays key s r (read s (owner_at n) id me (glancing me.0))
 
+-- a look from outside whether the seat owns a lock
+abbrev pub OwnsIsNoEvent : Type 0
+OwnsIsNoEvent = (key : Start) (s : St) (r : Ruled key s) (id : ℕ) (me : Sat) (n : ℕ) → Steps s id me →
+    Stays key s r (read s (owner_at n) id me me.0)
+
 -- a spin read of the stamp word
 abbrev pub CountIsNoEvent : Type 0
 CountIsNoEvent = (key : Start) (s : St) (r : Ruled key s) (id : ℕ) (me : Sat) → Steps s id me →
@@ -45,13 +50,15 @@ pub record IsNotedOnly (key : Start) (s : St) (r : Ruled key s) (id : ℕ) (me :
 
 abbrev pub OwnSignIsNoEvent : Type 0
 OwnSignIsNoEvent = (key : Start) (s : St) (r : Ruled key s) (id : ℕ) (me : Sat) → Steps s id me
-    → IsNotedOnly key s r id me (sign_at me.0.part.core.who)
+    → IsNotedOnly key s r id me (sign_at key.locks me.0.part.core.who)
 
--- A try that finds another word than the seat expected: to take a lock at once; to release it at once; to set a cancel
--- where one is pending; to go inside a guard; to heed a cancel where none is pending; or inside a guard.
+-- A try that finds another word than the seat expected: to take a lock at once; to release it at once; to take one at once
+-- that it has, or to release one that it hasn't, of those that guard no node; to set a cancel where one is pending; to go
+-- inside a guard; to heed a cancel where none is pending; or inside a guard.
 pub record IsLostOnly (key : Start) (s : St) (r : Ruled key s) (id : ℕ) (me : Sat) (i : ℕ) : Type 0 where
   pub taking : Stays key s r (read s i id me (knowing me.0 (fast_missed me.0.part.core)))
   pub giving : Stays key s r (read s i id me (keeping me.0))
+  pub nothing : Stays key s r (read s i id me me.0)
   pub cancelling : Stays key s r (read s i id me (finding_pending me.0))
   pub entering : Stays key s r (read s i id me (shutting_out me.0))
   pub heeding : Stays key s r (read s i id me (finding_uncancelled me.0))
@@ -63,7 +70,7 @@ LostIsNoEvent = (key : Start) (s : St) (r : Ruled key s) (id : ℕ) (me : Sat) (
 -- a sign for a seat that was signed already
 abbrev pub LostSignIsNoEvent : Type 0
 LostSignIsNoEvent = (key : Start) (s : St) (r : Ruled key s) (id : ℕ) (me : Sat) (u : ℕ) → Steps s id me →
-    u < 16 → slice_index s.words (sign_at u) ≢ 0 → Stays key s r (read s (sign_at u) id me (noting me.0 u))
+    u < key.places → slice_index s.words (sign_at key.locks u) ≢ 0 → Stays key s r (read s (sign_at key.locks u) id me (noting me.0 u))
 
 -- the first idle number of a seat is cut off
 abbrev pub SplitIsNoEvent : Type 0

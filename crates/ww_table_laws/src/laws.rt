@@ -1,10 +1,25 @@
 //! Laws of the table: each function's contract is one. A step's own call cites the lemma that its law does.
 
-ghost use Rattle.ww_table_laws.specs.Laws.{DrawIsBegin, TakeFreeIsFast, GiveFreeIsFastGive, TakeBareIsFast, GiveBareIsFastGive, EndIsEnd, PlaceIsCommit, RuledIsLawful, ShownIsOne, StepsExtendTheRun, NewTableShowsStart, NewSeatsCanClose};
+ghost use Rattle.ww_table_laws.specs.Laws.{DrawIsBegin, SpentIsNoEvent, FewSeatsSpendNone, FewSeatsHaveNarrowWords, TakeFreeIsFast, GiveFreeIsFastGive, TakeBareIsFast, GiveBareIsFastGive, EndIsEnd, PlaceIsCommit, RuledIsLawful, ShownIsOne, StepsExtendTheRun, NewTableShowsStart, NewSeatsCanClose, WordsTellOwners};
 
 /// From every table that the rule allows, a draw is the event Begin on what is shown.
 pub fn draw_is_begin()
     ensures { DrawIsBegin }
+{}
+
+/// Where all stamps are spent, a draw is no event.
+pub fn spent_is_no_event()
+    ensures { SpentIsNoEvent }
+{}
+
+/// With 16 seats stamps are never spent.
+pub fn few_seats_spend_none()
+    ensures { FewSeatsSpendNone }
+{}
+
+/// With 16 seats the owner words are those of `ww_word::pack`.
+pub fn few_seats_have_narrow_words()
+    ensures { FewSeatsHaveNarrowWords }
 {}
 
 /// A try that wins is the event Fast.
@@ -25,6 +40,11 @@ pub fn take_bare_is_fast()
 /// Releasing such a lock at once is the event FastGive.
 pub fn give_bare_is_fast_give()
     ensures { GiveBareIsFastGive }
+{}
+
+/// The word of a lock tells a seat that is away whether it owns the lock.
+pub fn words_tell_owners()
+    ensures { WordsTellOwners }
 {}
 
 /// Finding the own sign 0 is the event End.

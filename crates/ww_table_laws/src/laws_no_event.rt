@@ -1,7 +1,7 @@
 //! Laws of what is no event of the core: each function's contract is one. A step's own call rests on the lemma that its
 //! law does.
 
-ghost use Rattle.ww_table_laws.specs.NoEvents.{LookIsNoEvent, GlanceIsNoEvent, CountIsNoEvent, OwnSignIsNoEvent, LostIsNoEvent, LostSignIsNoEvent, SplitIsNoEvent, JoinIsNoEvent};
+ghost use Rattle.ww_table_laws.specs.NoEvents.{LookIsNoEvent, GlanceIsNoEvent, OwnsIsNoEvent, CountIsNoEvent, OwnSignIsNoEvent, LostIsNoEvent, LostSignIsNoEvent, SplitIsNoEvent, JoinIsNoEvent};
 
 /// A look at an owner word leaves core and commits as they are.
 pub fn look_is_no_event()
@@ -13,7 +13,12 @@ pub fn glance_is_no_event()
     ensures { GlanceIsNoEvent }
 {}
 
-/// So does one of the stamp word.
+/// So does a look whether the seat owns one.
+pub fn owns_is_no_event()
+    ensures { OwnsIsNoEvent }
+{}
+
+/// So does a spin read of the stamp word.
 pub fn count_is_no_event()
     ensures { CountIsNoEvent }
 {}

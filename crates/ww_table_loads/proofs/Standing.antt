@@ -31,6 +31,7 @@ use Rattle.ww_rule.specs.Out.{AreOthers, slot_of}
 use Rattle.ww_rule.specs.Steps.{MayPlace, known, graph_of, taking, giving, placing, seat_of}
 use Rattle.ww_rule.proofs.Places.{graph_at, renewed_long, renewed_at}
 use Rattle.ww_rule.proofs.Seats.{bare_first}
+use Rattle.ww_rule.proofs.Totals.{places_few}
 use Rattle.ww_table.specs.Made.{IsMade}
 use Rattle.ww_table_loads.specs.Standing.{Stage, resting, fresh, working, Deeds, IsAt, count_of, IsHeld, Stands, Did, at_first, IsUnused, took, gave, committed, CanTake, raised_one, HasRaised}
 use Rattle.ww_table_loads.proofs.Rounds.{all_from}
@@ -46,9 +47,9 @@ few_if : (b : Bool) (c : ℕ) → c ≡ one_if b → c ≤ 1
 few_if true c e = omega arith
 few_if false c e = omega arith
 
-pub first_stands : (size : ℕ) (kind : Kind) (locks k : ℕ) → size ≤ locks
-    → Stands size (at_first k) (seat_of size (first_part kind locks k), [])
-first_stands size kind locks k fits = record {
+pub first_stands : (size : ℕ) (kind : Kind) (locks places k : ℕ) → size ≤ locks
+    → Stands size (at_first k) (seat_of size (first_part kind locks places k), [])
+first_stands size kind locks places k fits = record {
   away = (refl, refl);
   who = refl;
   draws = refl;
@@ -56,7 +57,7 @@ first_stands size kind locks k fits = record {
   stage = refl;
   owned = omega (arith, fits, length-replicate locks false);
   held = length-replicate size None;
-  owns = bare_first kind locks k;
+  owns = bare_first kind locks places k;
   out = refl;
   once = λ n. refl;
   nodes = λ n e. absurd cc;
@@ -355,13 +356,21 @@ reserved_seated table s s' was is same = subst (IsSeated table) (sym is) (record
   kind = was.kind;
   who = was.who;
   few = was.few;
+  room = was.room;
+  seats = was.seats;
+  size = was.size;
+  most = was.most;
+  sign = was.sign;
+  sized = was.sized;
   stamp = was.stamp;
-  small = was.small;
+  fits = was.fits;
+  base = was.base;
+  step = was.step;
   own = was.own;
   order = was.order;
   records = same ∙ was.records;
   alone = was.alone;
-  places = subst (AllByRecursion (λ (p : ℕ × Record). p.0 < 2 ^ 37)) (sym same) was.places;
+  places = subst (AllByRecursion (λ (p : ℕ × Record). p.0 < 2 ^ 44)) (sym same) was.places;
   page = was.page;
 })
 
@@ -410,10 +419,16 @@ new_unused kind graph locks count board seats made = all_from (IsUnused board) s
   record {
     seated = new.seated;
     stands = subst (Stands (size_of board) (at_first k)) (sym new.me)
-        (first_stands (size_of board) board.table.shared.key.kind (locks_of board) k board.fits);
+        (first_stands (size_of board) board.table.shared.key.kind (locks_of board) board.table.shared.key.places k board.fits);
   },
 ))
 
--- and has its own number
-pub unused_did : (board : Board) (s : Seat16) → IsUnused board s → Did board (at_first s.who) s
-unused_did board s u = subst (λ (k : ℕ). Did board (at_first k) s) (sym u.1.stands.who ∙ u.1.seated.who) u.1
+-- a table with room for 16 seats has one more stamp
+pub draws_there : (b : Board) (d : Deeds) (s : Seat16) → Did b d s → b.table.shared.key.places ≡ 16 → s.seats ≡ 16
+draws_there b d s did few =
+    let x = did.seated.sized.0 in let y = b.sized.0 in let u = did.seated.sized.1 in let w = b.sized.1 in omega arith
+
+-- a table of at most 16 seats has room for 16
+pub few_places : (kind : Kind) (graph : List Node) (locks count : ℕ) (board : Board) (seats : List Seat16)
+    → IsMade kind graph locks count board seats → count ≤ 16 → board.table.shared.key.places ≡ 16
+few_places kind graph locks count board seats made few = made.places_are ∙ places_few count few

@@ -22,12 +22,17 @@ pub struct Tally {
 
 /// Starts a context, and gives its stamp.
 #[inline(always)]
+#[tactic(auto, using(crate::proofs::Standing::draws_there))]
 pub fn begin(board: &Board, seat: &mut Seat16) -> u64
     requires did { (d : Deeds) × Did board.now d seat.old × (d.stage ≡ resting) × (d.locks ≡ [])
         × (d.draws + 1 < 2 ^ 32) }
+    requires few { board.now.table.shared.key.places ≡ 16 }
     ensures { (d : Deeds) → Did board.now d seat.old → Did board.now (began d) seat.new }
 {
-    seat.draw(board)
+    match seat.draw(board) {
+        Some(stamp) => stamp,
+        None => unreachable!(),
+    }
 }
 
 /// One try to take a lock.
@@ -124,6 +129,7 @@ pub fn round_of_one(
 ) -> Option<Tally>
     requires did { Did board.now (at_rest tally) seat.old }
     requires lock { lock < size_of board.now }
+    requires few { board.now.table.shared.key.places ≡ 16 }
     requires fewer { (tally.draws + 1 < 2 ^ 32) × (tally.commits + 1 < 2 ^ 32) }
     ensures { IfSome result (λ t. Did board.now (at_rest t) seat.new × HasRounded tally t) }
 {

@@ -106,6 +106,7 @@ pub fn round_of_two(
     requires did { Did board.now (at_rest tally) seat.old }
     requires locks { (first < size_of board.now) × (second < size_of board.now) }
     requires apart { second ≢ first }
+    requires few { board.now.table.shared.key.places ≡ 16 }
     requires fewer { (tally.draws + 1 < 2 ^ 32) × (tally.commits + 1 < 2 ^ 32) }
     ensures { IfSome result (λ r. Did board.now (at_rest r.0) seat.new × HasRounded tally r.0) }
 {

@@ -359,6 +359,18 @@ fn take_turns<R: Wait + Abort>(
     Ok((zero, one))
 }
 
+/// These two passes.
+fn both(alloc: Global, _world: &World, zero: Pass, one: Pass) -> Result<Vec<Pass>, AllocError>
+    requires zero { IsAtHome zero _world.now }
+    requires one { IsAtHome one _world.now }
+    ensures { IfOk result (λ passes. AreAtHome passes.items _world.now) }
+{
+    let mut passes = Vec::new(alloc);
+    passes.push(zero)?;
+    passes.push(one)?;
+    Ok(passes)
+}
+
 /// What two passes made of this graph of two nodes.
 fn made_in_turns<R: Wait + Abort>(rt: &R, alloc: Global, graph: Graph) -> Result<History, Fail> {
     let (world, mut passes) = opened(rt, alloc, Kind::WaitDie, graph, 2, TURNS + 1);
@@ -366,8 +378,7 @@ fn made_in_turns<R: Wait + Abort>(rt: &R, alloc: Global, graph: Graph) -> Result
         return Err(Fail::from("there are two passes"));
     };
     let (zero, one) = take_turns(rt, alloc, &world, zero, one)?;
-    passes.push(zero)?;
-    passes.push(one)?;
+    let passes = both(alloc, &world, zero, one)?;
     Ok(closed(rt, world, passes))
 }
 

@@ -4,7 +4,7 @@
 ghost use Rattle.std.specs.Prelude.{◌≡◌, ◌≢◌, ◌<◌, length, IfOk, IfErr};
 ghost use Rattle.ww_plain.specs.Transaction.{move};
 ghost use Rattle.ww_lock.specs.Holding.{IsAtHome};
-ghost use Rattle.ww_lock.specs.Moves.{backed_off};
+ghost use Rattle.ww_lock.specs.Moves.{backed_off, having_slept};
 ghost use Rattle.ww_users.specs.Turns.{KeepsContext, IsTurn};
 ghost use Rattle.ww_transfer.specs.Caller.{IsLockedMore, HasBoth, HasRecord};
 
@@ -105,7 +105,7 @@ fn lock_one<R: Wait>(
     requires home { IsAtHome acquiring world.now }
     requires node { n < length world.now.first }
     ensures locked { IfOk result (IsLockedMore acquiring n) }
-    ensures refused { IfErr result (λ b. b.holding ≡ backed_off acquiring) }
+    ensures refused { IfErr result (λ b. b.holding ≡ backed_off (having_slept acquiring b.holding.deaf)) }
 {
     acquiring.lock(rt, world, n).going_on()
 }

@@ -73,6 +73,7 @@ pub record IsChanged (Decides : Deciding) (s : Holding) (list : List ℕ) (a : H
     tries = a.tries;
     takes = a.takes;
     deaths = a.deaths;
+    deaf = a.deaf;
   }
   pub counted : IsToldOfEach s a
   pub above : AreBelow told.place s.own

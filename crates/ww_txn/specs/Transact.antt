@@ -42,6 +42,7 @@ pub record IsTransacted (s a : Holding) (txn : Transaction) (told : Receipt) : T
     tries = a.tries;
     takes = a.takes;
     deaths = a.deaths;
+    deaf = a.deaf;
   }
   pub counted : IsToldOfEach s a
   pub above : AreBelow told.place s.own

@@ -1,7 +1,7 @@
 -- Contexts of a pass, through their tries.
 use Rattle.std.proofs.Common.{◌≡◌, ℕ, ◌+◌, ◌-◌, [], length, refl, sym, ap, subst, ◌∙◌, arith, length-set, Result, Ok, Err, IfErr}
 use Rattle.ww_lock.specs.Holding.{Holding, Wanting}
-use Rattle.ww_lock.specs.Moves.{with_node, taken, backed_off, interrupted_by, emptied, going_on_or_halted, IsTaken, IsInterrupted, IsAnswer}
+use Rattle.ww_lock.specs.Moves.{with_node, taken, backed_off, having_slept, interrupted_by, emptied, going_on_or_halted, IsTaken, IsInterrupted, IsAnswer}
 use Rattle.ww_lock.specs.Waits.{Waits}
 use Rattle.ww_lock.specs.Waits.TheVariants.{UntilCancelled}
 use Rattle.ww_lock.specs.declared.interruptible.Interruptible.{Interruptible}
@@ -32,23 +32,23 @@ one_more tries takes deaths tries' takes' deaths' h = omega (arith, h)
 pub same_later : (s a b : Holding) → IsSameContext s a → IsSameContext a b → IsSameContext s b
 same_later s a b h more = record {
   rest = more.rest ∙ ap (λ (c : Holding).
-      record c { held = b.held; seen = b.seen; tries = b.tries; takes = b.takes; deaths = b.deaths }) h.rest;
+      record c { held = b.held; seen = b.seen; tries = b.tries; takes = b.takes; deaths = b.deaths; deaf = b.deaf }) h.rest;
   told = told_later s a b h.told more.told;
   size = more.size ∙ h.size;
 }
 
 -- a state in which nothing but these parts of a context changed
 same_as : (s now a : Holding) → a ≡ now
-    → now ≡ record s { held = now.held; seen = now.seen; tries = now.tries; takes = now.takes; deaths = now.deaths }
+    → now ≡ record s { held = now.held; seen = now.seen; tries = now.tries; takes = now.takes; deaths = now.deaths; deaf = now.deaf }
     → IsToldOfEach s now → length now.seen ≡ length s.seen → IsSameContext s a
 same_as s now a is rest told size = subst (IsSameContext s) (sym is) (record { rest = rest; told = told; size = size })
 
 pub same_taken : (s a : Holding) (n : ℕ) → IsTaken s n a → IsSameContext s a
-same_taken s a n t = same_as s (with_node (taken s) n t.contents) a t.added refl (one_take s.tries s.takes s.deaths)
+same_taken s a n t = same_as s (with_node (taken (having_slept s a.deaf)) n t.contents) a t.added refl (one_take s.tries s.takes s.deaths)
     (length-set s.seen n t.contents)
 
-pub same_backed_off : (s a : Holding) → a ≡ backed_off s → IsSameContext s a
-same_backed_off s a is = same_as s (backed_off s) a is refl (one_death s.tries s.takes s.deaths) refl
+pub same_backed_off : (s a : Holding) → a ≡ backed_off (having_slept s a.deaf) → IsSameContext s a
+same_backed_off s a is = same_as s (backed_off (having_slept s a.deaf)) a is refl (one_death s.tries s.takes s.deaths) refl
 
 -- its wait was called off, before or after it took and gave locks
 pub same_interrupted : (s a : Holding) (n by : ℕ) → IsSameContext s a → IsSameContext (interrupted_by s n by) (interrupted_by a n by)
@@ -69,7 +69,7 @@ pub one_halted : (waits : Waits) (s : Holding) (n : ℕ) (told : Interruptible) 
     → IfErr (going_on_or_halted told) (IsHalt waits s)
 one_halted waits s n (answer.Locked a) h = tt
 one_halted waits s n (answer.Already a) h = tt
-one_halted waits s n (answer.Deadlk b) h = same_backed_off s b.holding h.told
+one_halted waits s n (answer.Deadlk b) h = same_backed_off s b.holding h.0.told
 one_halted waits s n (answer.Interrupted a by) h = (h.0, (n, same_told s a n by h.1))
 
 -- the slow lock was called off, once all locks were released
@@ -96,7 +96,7 @@ context_later s a b h more =
       some = h.some;
       stamped = rw stamps h.stamped;
       rest = more.rest ∙ ap (λ (c : Holding).
-          record c { held = b.held; seen = b.seen; tries = b.tries; takes = b.takes; deaths = b.deaths }) h.rest
+          record c { held = b.held; seen = b.seen; tries = b.tries; takes = b.takes; deaths = b.deaths; deaf = b.deaf }) h.rest
           ∙ ap (λ k. record s {
             left = s.left - 1;
             draws = s.draws + 1;
@@ -106,6 +106,7 @@ context_later s a b h more =
             tries = b.tries;
             takes = b.takes;
             deaths = b.deaths;
+            deaf = b.deaf;
           }) (sym stamps);
       told = told_later s a b h.told more.told;
       size = more.size ∙ h.size;
@@ -139,6 +140,7 @@ called_off waits s a b c by h halted is =
       tries = b.tries;
       takes = b.takes;
       deaths = b.deaths;
+      deaf = b.deaf;
     } =
     more.rest ∙ ap (λ (d : Holding). record (interrupted_by d n by) {
       held = b.held;
@@ -146,6 +148,7 @@ called_off waits s a b c by h halted is =
       tries = b.tries;
       takes = b.takes;
       deaths = b.deaths;
+      deaf = b.deaf;
     }) h.rest in
     let room : c.room ≡ s.room = ap (λ (d : Holding). d.room) (is ∙ ap (λ (d : Holding). record d { held = []; stamp = 0 }) rest) in (
       n,

@@ -179,7 +179,7 @@ keeps_home s a w h home = record {
 pub keeps_later : (s a b : Holding) → KeepsContext s a → KeepsContext a b → KeepsContext s b
 keeps_later s a b h more = record {
   rest = more.rest ∙ ap (λ (c : Holding).
-      record c { held = b.held; seen = b.seen; tries = b.tries; takes = b.takes; deaths = b.deaths }) h.rest;
+      record c { held = b.held; seen = b.seen; tries = b.tries; takes = b.takes; deaths = b.deaths; deaf = b.deaf }) h.rest;
   size = more.size ∙ h.size;
 }
 
@@ -221,6 +221,7 @@ halted_by waits s a by h =
             tries = a.tries;
             takes = a.takes;
             deaths = a.deaths;
+            deaf = a.deaf;
             interrupted = l;
           }) (sym more);
       told = subst (IsOneMore by s.interrupted) (sym more) (refl, refl);
@@ -236,6 +237,7 @@ halted_later_by s a b by h more = record {
         tries = b.tries;
         takes = b.takes;
         deaths = b.deaths;
+        deaf = b.deaf;
         interrupted = b.interrupted;
       }) h.rest;
   told = subst (λ (l : List (ℕ × ℕ)). IsOneMore by l b.interrupted) (ap (λ (c : Holding). c.interrupted) h.rest) more.told;

@@ -19,7 +19,7 @@ use Rattle.ww_users.specs.Ways.{IsToldOfEach, HoldsExactly, in_order}
 
 -- the same context, which may hold other locks; each try more to take one ended with the lock, or with EDEADLK
 pub record IsSameContext (s a : Holding) : Type 0 where
-  pub rest : a ≡ record s { held = a.held; seen = a.seen; tries = a.tries; takes = a.takes; deaths = a.deaths }
+  pub rest : a ≡ record s { held = a.held; seen = a.seen; tries = a.tries; takes = a.takes; deaths = a.deaths; deaf = a.deaf }
   pub told : IsToldOfEach s a
   pub size : length a.seen ≡ length s.seen
 

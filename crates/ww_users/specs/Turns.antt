@@ -15,7 +15,7 @@ use Rattle.ww_users.specs.Trips.{IsSameContext, IsHalted}
 
 -- the same context of the same pass, with the same stamp, budget and log, which may hold other locks
 pub record KeepsContext (s a : Holding) : Type 0 where
-  pub rest : a ≡ record s { held = a.held; seen = a.seen; tries = a.tries; takes = a.takes; deaths = a.deaths }
+  pub rest : a ≡ record s { held = a.held; seen = a.seen; tries = a.tries; takes = a.takes; deaths = a.deaths; deaf = a.deaf }
   pub size : length a.seen ≡ length s.seen
 
 -- a context that a round starts with: the given one; or, after a back-off, the same one with the contended lock alone
@@ -36,7 +36,7 @@ IsOneMore by before (last ∷ rest) = (last.1 ≡ by) × (rest ≡ before)
 
 -- its wait was called off by this caller; it is the same context otherwise, which may hold other locks
 pub record IsHaltedBy (s : Holding) (by : ℕ) (a : Holding) : Type 0 where
-  pub rest : a ≡ record s { held = a.held; seen = a.seen; tries = a.tries; takes = a.takes; deaths = a.deaths; interrupted = a.interrupted }
+  pub rest : a ≡ record s { held = a.held; seen = a.seen; tries = a.tries; takes = a.takes; deaths = a.deaths; deaf = a.deaf; interrupted = a.interrupted }
   pub told : IsOneMore by s.interrupted a.interrupted
   pub size : length a.seen ≡ length s.seen
 

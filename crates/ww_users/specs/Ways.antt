@@ -28,6 +28,7 @@ pub record IsReturned (s : Holding) (begun : ℕ) (a : Holding) : Type 0 where
     tries = a.tries;
     takes = a.takes;
     deaths = a.deaths;
+    deaf = a.deaf;
   }
   pub told : IsToldOfEach s a
   pub size : length a.seen ≡ length s.seen
@@ -49,6 +50,7 @@ pub record IsContext (s a : Holding) : Type 0 where
     tries = a.tries;
     takes = a.takes;
     deaths = a.deaths;
+    deaf = a.deaf;
   }
   pub told : IsToldOfEach s a
   pub size : length a.seen ≡ length s.seen

@@ -81,7 +81,7 @@ module _ (c : State) (v : View) (l : IsLawful c) (k : Knows c v) where
   not_inside : Away c v.who → (n : ℕ) → v.inside ≡ suc n → ⊥
   not_inside away n is = away.inside n (k.guard.guards n is).1
 
-  restamped : (j : ℕ) → KnowsItself c.kind c.seats (put c.stamp v.who j) v.kind v.who j
+  restamped : (j : ℕ) → KnowsItself c.kind c.locks c.seats (put c.stamp v.who j) v.kind v.room v.seats v.who j
   restamped j = assumption (sym (put_here c.stamp v.who j))
 
   pub mine_begin : Possible c (Begin v.who) → IsBare v → Knows (after c (Begin v.who)) (begun v (c.drawn + 1))

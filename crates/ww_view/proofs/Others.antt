@@ -63,6 +63,8 @@ others_know c e v l can other k = let t = v.who in let alone = others_are_left_a
   itself = record {
     kind = k.itself.kind ∙ sym (same_kind c e);
     seat = subst (λ x. t < x) (sym (same_seats c e)) k.itself.seat;
+    room = k.itself.room ∙ sym (same_locks c e);
+    seats = k.itself.seats ∙ sym (same_seats c e);
     stamp = k.itself.stamp ∙ sym alone.stamp;
   };
   owned = record {

@@ -16,7 +16,7 @@ none_at (suc k) (suc n) = none_at k n
 -- a seat of which the core says that it rests
 resting : (c : State) (s : ℕ) → s < c.seats → 0 ≡ c.stamp s → OwnsNone c s → InsideNone c s →
     InNoQueue c s → c.sign s ≡ 0 → c.heeded s ≡ 0 →
-    Knows c (first_view c.kind c.locks s)
+    Knows c (first_view c.kind c.locks c.seats s)
 resting c s seat solo bare outside away unsigned unheeded = record {
   itself = assumption;
   owned = record {
@@ -40,6 +40,6 @@ knows_start kind locks seats s seat =
 -- a seat that rests is as at the start, whatever it did before
 pub rests : RestsAsAtStart
 rests c v l k away solo bare = let a = is_away c v l k away in
-    subst (λ kind. Knows c (first_view kind c.locks v.who)) (sym k.itself.kind)
+    subst (λ kind. Knows c (first_view kind c.locks c.seats v.who)) (sym k.itself.kind)
     (resting c v.who k.itself.seat (sym solo ∙ k.itself.stamp) (bare_none c v l k bare)
     a.inside a.queue (solo_unsigned c v l k solo) (away_unheeded c l.base v.who a.queue))

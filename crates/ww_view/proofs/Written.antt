@@ -4,6 +4,8 @@ use Rattle.std.specs.Prelude.{bit_or}
 use Rattle.ww_word.specs.declared.owner.Owner.{Owner}
 use Rattle.ww_word.specs.Owner.{IsValid, AreFlags, idle, with_waiters, handed_to}
 use Rattle.ww_word.proofs.Words.{packing_is_injective}
+use Rattle.ww_word.specs.AnySeats as wide
+use Rattle.ww_word.proofs.AnyWords as wide_words
 use Rattle.ww_queue.specs.declared.entry.Entry.{Entry}
 use Rattle.ww_queue.specs.Entry.{is_older}
 use Rattle.ww_queue.specs.Queue.{Has, Stands, joined, left}
@@ -14,6 +16,7 @@ use Rattle.ww_model.specs.declared.state.Holder.TheVariants.{Nobody, Taken, Hand
 use Rattle.ww_model.specs.declared.event.Event.{Event}
 use Rattle.ww_model.specs.declared.event.Event.TheVariants.{Begin, Fast, FastGive, Join, Take, Ask, Give, Die, End, Leave}
 use Rattle.ww_model.specs.State.{State, put, HasOther, waiter_of, owner_as, waiting, one_if, pickup, word_from, word_of}
+use Rattle.ww_model.specs.Run.{Reached}
 use Rattle.ww_model.specs.Event.{BasePossible, after, given_to, still_asked, CanAsk, CanDie, CanLeave}
 use Rattle.ww_model.specs.Lawful.{OwnerAt, IsBase}
 use Rattle.ww_model.proofs.Puts.{put_here, put_else, put_cases}
@@ -249,3 +252,32 @@ word_is_valid c n run sixteen = go (c.owner n) refl ((reached_is_lawful c run).b
 -- a valid owner whose number was found is what the word tells
 pub found_is : WordsAreTold
 found_is c n o run sixteen valid same = packing_is_injective o (word_of c n) valid (word_is_valid c n run sixteen) same
+
+-- ---- of a table with any number of seats
+
+-- the words have room for each seat with its stamp
+abbrev pub HaveRoom : State → Type 0
+HaveRoom c = (s : ℕ) → s < c.seats → wide.Fits s (c.stamp s)
+
+pub wide_word_is_valid : (c : State) (n : ℕ) → Reached c → HaveRoom c → wide.IsValid (word_of c n)
+wide_word_is_valid c n run room = go (c.owner n) refl ((reached_is_lawful c run).base.owners.at n)
+  where
+    go : (o : Holder) → c.owner n ≡ o → OwnerAt o (c.asked n) (c.queue n) →
+        wide.IsValid (word_from c o (c.asked n) (c.queue n))
+    go Nobody is at = record {
+      seating = (refl, free_flags (c.asked n) (c.queue n) at);
+      flags = word_flags Nobody (c.asked n) (c.queue n) at;
+    }
+    go (Taken s) is at = record {
+      seating = room s (owners_are_seats c run n s (inl is));
+      flags = word_flags (Taken s) (c.asked n) (c.queue n) at;
+    }
+    go (Handed s) is at = record {
+      seating = room s (owners_are_seats c run n s (inr is));
+      flags = word_flags (Handed s) (c.asked n) (c.queue n) at;
+    }
+
+pub wide_found_is : (c : State) (n : ℕ) (o : Owner) → Reached c → HaveRoom c → wide.IsValid o →
+    wide.packed o ≡ wide.packed (word_of c n) → o ≡ word_of c n
+wide_found_is c n o run room valid same =
+    wide_words.packing_is_injective o (word_of c n) valid (wide_word_is_valid c n run room) same

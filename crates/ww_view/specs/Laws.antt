@@ -57,12 +57,12 @@ FoundIsKnown = (c : State) (v : View) → Knows c v → FindsMore c v
 -- at the start each seat knows what its first view says
 abbrev pub KnowsAtStart : Type 0
 KnowsAtStart = (kind : Kind) (locks seats s : ℕ) → s < seats →
-    Knows (start kind locks seats) (first_view kind locks s)
+    Knows (start kind locks seats) (first_view kind locks seats s)
 
 -- and so does a seat without a context that is away and owns nothing, whatever it did before
 abbrev pub RestsAsAtStart : Type 0
 RestsAsAtStart = (c : State) (v : View) → IsLawful c → Knows c v → IsAway v → v.stamp ≡ 0 → IsBare v →
-    Knows c (first_view v.kind c.locks v.who)
+    Knows c (first_view v.kind c.locks c.seats v.who)
 
 -- ---- what it shows
 

@@ -1,5 +1,5 @@
 -- What each step makes of the view.
-use Rattle.std.specs.Prelude.{ℕ, zero, suc, ◌+◌, ◌==◌, not, Bool, true, false, List, [], ◌∷◌, ◌++◌, filter, Option, Some, None, slice_get, slice_set, length}
+use Rattle.std.specs.Prelude.{ℕ, zero, suc, ◌+◌, ◌==◌, not, if◌then◌else◌, Bool, true, false, List, [], ◌∷◌, ◌++◌, filter, Option, Some, None, slice_get, slice_set, length}
 use Rattle.std.specs.Option.{option_map, unwrap_or}
 use Rattle.ww_word.specs.declared.owner.Owner.{Owner}
 use Rattle.ww_word.specs.Owner.{with_waiters}
@@ -19,6 +19,34 @@ use Rattle.ww_view.specs.View.{owns}
 -- the numbers but this one, in their order
 abbrev pub without : ℕ → List ℕ → List ℕ
 without n ns = filter (λ m. not (m == n)) ns
+
+-- ---- what is counted of waking and sleeping
+
+-- it is one of these
+abbrev pub is_one_of : ℕ → List ℕ → Bool
+is_one_of u [] = false
+is_one_of u (v ∷ vs) = if v == u then true else is_one_of u vs
+
+-- Seat u was condemned by the own sign, after these inside the same guard: it has to be woken, unless it is the seat itself
+-- or one of them.
+abbrev pub with_condemned : ℕ → List ℕ → ℕ → List ℕ → List ℕ
+with_condemned who condemned u debts = if u == who then debts else (if is_one_of u condemned then debts else u ∷ debts)
+
+-- the first waiter has to be woken, if somebody waits
+abbrev pub with_heir : Option ℕ → List ℕ → List ℕ
+with_heir None debts = debts
+with_heir (Some u) debts = u ∷ debts
+
+-- the seat left a guard: as a waiter, or not
+abbrev pub naps_after : ℕ → ℕ → ℕ
+naps_after zero naps = naps
+naps_after (suc n) naps = naps + 1
+
+-- ... and had found no cancel there, or hadn't
+abbrev pub deaf_after : ℕ → Bool → ℕ → ℕ
+deaf_after zero uncancelled deaf = deaf
+deaf_after (suc n) true deaf = deaf
+deaf_after (suc n) false deaf = deaf + 1
 
 -- ---- the own sign, as far as it is known
 
@@ -109,6 +137,8 @@ exited v = record v {
   later = false;
   acted = false;
   fresh = false;
+  naps = naps_after v.waits v.naps;
+  deaf = deaf_after v.waits v.uncancelled v.deaf;
 }
 
 -- ---- inside
@@ -156,6 +186,7 @@ given v n asked = record v {
   fresh = false;
   met = None;
   heir = option_map (λ (e : Entry). e.seat) (slice_get v.list 0);
+  debts = with_heir (option_map (λ (e : Entry). e.seat) (slice_get v.list 0)) v.debts;
   locks = without n v.locks;
 }
 
@@ -208,7 +239,7 @@ noted v u = record v { signed = u ∷ v.signed; fresh = false }
 
 -- ... by its own sign
 abbrev pub has_condemned : View → ℕ → View
-has_condemned v u = record (noted v u) { condemned = u ∷ v.condemned }
+has_condemned v u = record (noted v u) { condemned = u ∷ v.condemned; debts = with_condemned v.who v.condemned u v.debts }
 
 -- ---- the own sign
 

@@ -29,7 +29,7 @@ pub record MayFast (v : View) : Type 0 where
   pub base : WantsBase v
   pub signs : WantsSigns v
 
--- to make a spin read of an owner word: no waiter may, and others sixteen times at most between one try and the next
+-- to make a spin read: no waiter may, and others sixteen times at most between one try and the next
 pub record MayGlance (v : View) : Type 0 where
   pub away : IsAway v
   pub few : v.glances < 16

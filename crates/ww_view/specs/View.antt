@@ -29,11 +29,13 @@ IsAway v = (v.inside ≡ 0) × (v.waits ≡ 0)
 abbrev pub IsQuiet : View → Type 0
 IsQuiet v = IsBare v ⊎ ((v.kind ≡ WaitDie) × (v.inside ≢ 0))
 
--- the view of a seat that has done nothing yet, at a table of so many locks
-abbrev pub first_view : Kind → ℕ → ℕ → View
-first_view kind locks s = record {
+-- the view of a seat that has done nothing yet, at a table of so many locks and seats
+abbrev pub first_view : Kind → ℕ → ℕ → ℕ → View
+first_view kind locks seats s = record {
   kind = kind;
   who = s;
+  room = locks;
+  seats = seats;
   stamp = 0;
   owned = replicate locks false;
   inside = 0;
@@ -59,6 +61,9 @@ first_view kind locks s = record {
   pendings = 0;
   attempts = 0;
   heir = None;
+  debts = [];
+  naps = 0;
+  deaf = 0;
   locks = [];
 }
 
@@ -69,11 +74,13 @@ NobodyWrites v n = (v.list ≢ []) ⊎ (owns v n ≡ true)
 
 -- ---- what the seat knows, each part a definition over just what it reads of the core and of the view
 
--- of itself: the kind of the locks, that it is one of the seats, and its stamp
-pub record KnowsItself (core_kind : Kind) (core_seats : ℕ) (core_stamp : ℕ → ℕ) (own_kind : Kind)
-    (who own_stamp : ℕ) : Type 0 where
+-- of itself: the kind of the locks, how many locks and seats there are, that it is one of the seats, and its stamp
+pub record KnowsItself (core_kind : Kind) (core_locks core_seats : ℕ) (core_stamp : ℕ → ℕ) (own_kind : Kind)
+    (own_room own_seats who own_stamp : ℕ) : Type 0 where
   pub kind : own_kind ≡ core_kind
   pub seat : who < core_seats
+  pub room : own_room ≡ core_locks
+  pub seats : own_seats ≡ core_seats
   pub stamp : own_stamp ≡ core_stamp who
 
 -- which locks it has taken
@@ -98,7 +105,7 @@ pub record KnowsQueues (queue : ℕ → List Entry) (who own_inside : ℕ) (own_
 -- it; that whom it found signed there is so, as long as it owes that sign; and its own sign. That this is 0 it knows
 -- only while it is quiet.
 pub record Knows (c : State) (v : View) : Type 0 where
-  pub itself : KnowsItself c.kind c.seats c.stamp v.kind v.who v.stamp
+  pub itself : KnowsItself c.kind c.locks c.seats c.stamp v.kind v.room v.seats v.who v.stamp
   pub owned : KnowsOwned c.locks c.owner v.who v.owned
   pub guard : KnowsGuard c.locks c.guard v.who v.inside
   pub queues : KnowsQueues c.queue v.who v.inside v.list v.waits

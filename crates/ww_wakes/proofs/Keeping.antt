@@ -13,6 +13,7 @@ use Rattle.ww_model.specs.Run.{Reached, at_start, further}
 use Rattle.ww_model.proofs.Puts.{put_here, put_else, put_cases, put_was}
 use Rattle.ww_model.proofs.Kept.{reached_is_lawful}
 use Rattle.ww_model.proofs.Dues.{by_kind}
+use Rattle.ww_model.proofs.FreeGuards.{free_guards_owe_nothing}
 use Rattle.ww_model.proofs.Stays.{stands_stays, guard_stays}
 use Rattle.ww_wakes.specs.Scene.{Phase, acting, going_to_sleep, asleep, Scene, Step, performs, leaves_to_sleep, finds_no_sign, finds_no_cancel, wakes, falls_asleep, rises, MayPerform, MayLeaveToSleep, MayFallAsleep, May, next, woken_by, IsReached, begins, goes_on}
 use Rattle.ww_wakes.specs.Theorem.{IsDue, IsAlerted, HasToWait, NoWakeIsLost, GuardsAreHeldAwake}
@@ -263,6 +264,7 @@ orderly_sleep w o s slept = let c = w.core in let l = reached_is_lawful c o.reac
           not (subst (IsDue c s) same due);
       unsigned = quiet.0;
       not_condemned = λ condemned. let z = condemned.signed in let y = quiet.0 in omega arith;
+      needs_not_die = λ dying free must. let z = free_guards_owe_nothing c l dying x.lock s free must in let y = quiet.0 in omega arith;
       uncancelled = quiet.1;
     }))
     (due_or_not (c.owner x.lock) (c.queue x.lock) s))

@@ -3,4 +3,5 @@ pub mod Keeping
 pub mod Walks
 pub mod Endless
 pub mod Calls
+pub mod Rests
 pub mod Examples

@@ -1,9 +1,10 @@
 -- No wake-up is lost.
-use Rattle.std.specs.Prelude.{ℕ, suc, ◌≡◌, ◌≢◌, ◌≤◌, ◌⊎◌, true, false}
+use Rattle.std.specs.Prelude.{ℕ, suc, ◌≡◌, ◌≢◌, ◌≤◌, ◌⊎◌, true, false, IsSome}
 use Rattle.ww_queue.specs.declared.kind.Kind.{Kind}
+use Rattle.ww_queue.specs.declared.kind.Kind.TheVariants.{WaitDie}
 use Rattle.ww_queue.specs.Queue.{Stands}
 use Rattle.ww_model.specs.declared.state.Holder.TheVariants.{Nobody, Taken, Handed}
-use Rattle.ww_model.specs.State.{State, InsideNone, InNoQueue, OwnsSome}
+use Rattle.ww_model.specs.State.{State, InsideNone, InNoQueue, OwnsSome, dies}
 use Rattle.ww_model.specs.Snapshot.{IsFirst}
 use Rattle.ww_model.specs.Waits.{IsCondemned}
 use Rattle.ww_wakes.specs.Scene.{Scene, acting, asleep, Step, wakes, rises, May, next, IsReached}
@@ -22,7 +23,8 @@ module _ (w : Scene) where
   IsUp s = (w.phase s ≢ asleep) ⊎ IsAlerted s
 
   -- The seat has nothing to do but wait: it stands in the list of a lock, inside no guard; no lock is there for it;
-  -- nobody has signed it, so it isn't condemned; and no cancel is pending that it would heed.
+  -- nobody has signed it, so it isn't condemned; in Wait-Die it needn't die there either, unless somebody is inside the guard
+  -- of that lock, who has yet to tell it; and no cancel is pending that it would heed.
   pub record HasToWait (s : ℕ) : Type 0 where
     pub lock : ℕ
     pub stands : Stands (w.core.queue lock) s
@@ -30,6 +32,7 @@ module _ (w : Scene) where
     pub not_due : (n : ℕ) → ¬ IsDue w.core s n
     pub unsigned : w.core.sign s ≡ 0
     pub not_condemned : ¬ IsCondemned w.core s
+    pub needs_not_die : w.core.kind ≡ WaitDie → w.core.guard lock ≡ 0 → ¬ IsSome (dies w.core s lock)
     pub uncancelled : w.heeds s ≡ true → w.core.cancel s ≡ 0
 
 -- ---- at each moment

@@ -1,15 +1,18 @@
 -- How what a seat does at the table, by its view, is a step of the scene.
-use Rattle.std.specs.Prelude.{ℕ, suc, ◌≡◌, ◌≢◌, Bool, true, List, [], ◌∷◌, Option, Some, None}
+use Rattle.std.specs.Prelude.{ℕ, suc, ◌≡◌, ◌≢◌, ◌<◌, Bool, true, false, List, [], ◌∷◌, Option, Some, None}
 use Rattle.ww_queue.specs.Queue.{Has}
 use Rattle.ww_model.specs.declared.event.Event.{Event}
-use Rattle.ww_model.specs.declared.event.Event.TheVariants.{Give, Sign}
+use Rattle.ww_queue.specs.declared.kind.Kind.{Kind}
+use Rattle.ww_queue.specs.declared.kind.Kind.TheVariants.{WoundWait}
+use Rattle.ww_model.specs.declared.event.Event.TheVariants.{Give, Guard, Sign}
 use Rattle.ww_model.specs.State.{State}
 use Rattle.ww_model.specs.Event.{actor}
 use Rattle.ww_view.specs.declared.view.View.{View}
-use Rattle.ww_view.specs.View.{Knows, IsQuiet}
+use Rattle.ww_laws.specs.Condemned.{LooksCondemned}
+use Rattle.ww_view.specs.View.{Knows, IsQuiet, first_view}
 use Rattle.ww_view.specs.May.{MayLeave, Shows}
-use Rattle.ww_view.specs.Made.{view_after, has_read, found_none, found_uncancelled}
-use Rattle.ww_wakes.specs.Scene.{Scene, acting, going_to_sleep, Step, performs, leaves_to_sleep, finds_no_sign, finds_no_cancel, wakes, falls_asleep, rises, MayPerform, MayLeaveToSleep, MayFallAsleep, May, next, woken_by, IsReached}
+use Rattle.ww_view.specs.Made.{exited, view_after, has_read, found_none, found_uncancelled}
+use Rattle.ww_wakes.specs.Scene.{Scene, first_scene, acting, going_to_sleep, Step, performs, leaves_to_sleep, finds_no_sign, finds_no_cancel, wakes, falls_asleep, rises, MayPerform, MayLeaveToSleep, MayFallAsleep, May, next, woken_by, IsReached}
 
 -- The seat with this view is in a call: it knows the core by its view, and acts; where the view says inside a guard that
 -- it has just found no sign, or that it has found no cancel, it has; and whom it has yet to wake is one of these.
@@ -79,6 +82,52 @@ CancelLookIsAStep = (w : Scene) (v : View) (to_wake : List ℕ) → IsInCall w v
 abbrev pub OthersLeaveCallsAlone : Type 0
 OthersLeaveCallsAlone = (w : Scene) (x : Step) (v : View) (to_wake : List ℕ) → IsReached w → May w x →
     mover x ≢ v.who → IsInCall w v to_wake → IsInCall (next w x) v to_wake
+
+-- ---- from the start on, and from one call to the next
+
+-- at the start each seat is in its call, with the view of a seat that has done nothing yet
+abbrev pub StartIsInCall : Type 0
+StartIsInCall = (kind : Kind) (locks seats s : ℕ) → s < seats → IsInCall (first_scene kind locks seats) (first_view kind locks seats s) []
+
+-- The seat with this view has left a guard in order to sleep, or sleeps: it knows the core by its view, which says outside
+-- of all guards, and whom it has yet to wake is one of these.
+pub record IsResting (w : Scene) (v : View) (to_wake : List ℕ) : Type 0 where
+  pub knows : Knows w.core v
+  pub rests : w.phase v.who ≢ acting
+  pub outside : v.inside ≡ 0
+  pub debts : (u : ℕ) → w.owes v.who u ≡ true → Has to_wake u
+
+-- a seat that leaves a guard in order to sleep rests then, with the view that leaving makes of its own
+abbrev pub LeavingComesToRest : Type 0
+LeavingComesToRest = (w : Scene) (v : View) (n : ℕ) (heeds : Bool) (to_wake : List ℕ) → IsReached w →
+    IsInCall w v to_wake → MayLeave v n → IsResting (next w (leaves_to_sleep v.who n heeds)) (exited v) to_wake
+
+-- no step ends its rest but that by which it rises itself
+abbrev pub RestStays : Type 0
+RestStays = (w : Scene) (x : Step) (v : View) (to_wake : List ℕ) → IsReached w → May w x →
+    x ≢ rises v.who → IsResting w v to_wake → IsResting (next w x) v to_wake
+
+-- and that puts it into its call again
+abbrev pub RisingIsInCall : Type 0
+RisingIsInCall = (w : Scene) (v : View) (to_wake : List ℕ) → IsResting w v to_wake → IsInCall (next w (rises v.who)) v to_wake
+
+-- ---- a seat that has to give way
+
+-- A seat that goes inside a guard has found no sign there yet.
+abbrev pub GuardForgetsTheLook : Type 0
+GuardForgetsTheLook = (w : Scene) (s n : ℕ) → (next w (performs (Guard s n))).found_no_sign s ≡ false
+
+-- In Wound-Wait a seat that is at a lock where it has to give way finds no sign missing, whatever is done.
+abbrev pub CondemnedFindNone : Type 0
+CondemnedFindNone = (w : Scene) (x : Step) (s n : ℕ) → w.core.kind ≡ WoundWait → LooksCondemned w.core s n → May w x →
+    w.found_no_sign s ≡ false → (next w x).found_no_sign s ≡ false
+
+-- So the table doesn't let it out of the guard as a waiter.
+abbrev pub CondemnedMayNotLeave : Type 0
+CondemnedMayNotLeave = (w : Scene) (v : View) (n : ℕ) (to_wake : List ℕ) → IsReached w → IsInCall w v to_wake →
+    w.core.kind ≡ WoundWait → LooksCondemned w.core v.who n → w.found_no_sign v.who ≡ false → ¬ MayLeave v n
+
+-- ---- whom a seat has to wake
 
 -- Whom a seat has to wake is whom its view tells: of its signs those whom it condemned, itself excepted; and, where it
 -- released the lock, its heir.

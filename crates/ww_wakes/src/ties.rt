@@ -1,5 +1,5 @@
 //! What a seat does at the table, by its view, as steps of the scene.
-ghost use Rattle.ww_wakes.specs.Ties.{ShownIsAStep, LeavingIsAStep, SignLookIsAStep, CancelLookIsAStep, OthersLeaveCallsAlone, ViewsTellWhomToWake, WakersMaySleep};
+ghost use Rattle.ww_wakes.specs.Ties.{StartIsInCall, LeavingComesToRest, RestStays, RisingIsInCall, GuardForgetsTheLook, CondemnedFindNone, CondemnedMayNotLeave, ShownIsAStep, LeavingIsAStep, SignLookIsAStep, CancelLookIsAStep, OthersLeaveCallsAlone, ViewsTellWhomToWake, WakersMaySleep};
 
 /// Whatever event a view shows to be possible at the table is a step of the scene.
 pub fn shown_is_a_step()
@@ -25,6 +25,41 @@ pub fn cancel_look_is_a_step()
 /// What other seats do leaves a seat in its call, with its view.
 pub fn others_leave_calls_alone()
     ensures { OthersLeaveCallsAlone }
+{}
+
+/// At the start each seat is in its call, with the view of a seat that has done nothing yet.
+pub fn start_is_in_call()
+    ensures { StartIsInCall }
+{}
+
+/// A seat that leaves a guard in order to sleep rests then, and knows the core by its view.
+pub fn leaving_comes_to_rest()
+    ensures { LeavingComesToRest }
+{}
+
+/// It does so until it rises itself, whatever is done.
+pub fn rest_stays()
+    ensures { RestStays }
+{}
+
+/// Then it is in its call again.
+pub fn rising_is_in_call()
+    ensures { RisingIsInCall }
+{}
+
+/// A seat that goes inside a guard has found no sign there yet.
+pub fn guard_forgets_the_look()
+    ensures { GuardForgetsTheLook }
+{}
+
+/// In Wound-Wait a seat that looks at a lock where it has to give way doesn't come to find no sign, whatever is done.
+pub fn condemned_find_none()
+    ensures { CondemnedFindNone }
+{}
+
+/// So it may not leave the guard as a waiter.
+pub fn condemned_may_not_leave()
+    ensures { CondemnedMayNotLeave }
 {}
 
 /// Whom a seat has to wake is whom its view tells: the seats that its signs condemned, and its heir.

@@ -1,2 +1,4 @@
 pub mod Owner
 pub mod Laws
+pub mod AnySeats
+pub mod AnyLaws

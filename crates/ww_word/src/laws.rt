@@ -1,6 +1,7 @@
 //! Laws of owner words: each function's contract is one.
 
 ghost use Rattle.std.specs.Prelude.{◌≡◌, ◌+◌, ◌^◌};
+ghost use Rattle.ww_word.specs.AnyLaws.{AnyPackingFits, AnyPackingIsInjective, FewSeatsKeepTheirWords, WordsTellHolders};
 ghost use Rattle.ww_word.specs.Laws.{PackingFits, PackingIsInjective, UnpackingIsInverse, ReadingIsUnique, WaitersAddOne, HandingIsSeatAndStamp, HandingTellsPickup, ZeroIsIdle};
 
 use crate::owner::{HANDOFF, MAX_SEATS, MAX_STAMP, PICKUP, WAITERS};
@@ -56,4 +57,24 @@ pub fn handing_tells_pickup()
 /// The word 0 is the free lock with an empty wait list, and no other owner's.
 pub fn zero_is_idle()
     ensures { ZeroIsIdle }
+{}
+
+/// A valid owner of a table with any number of seats packs to 64 bits.
+pub fn any_packing_fits()
+    ensures { AnyPackingFits }
+{}
+
+/// No two valid owners of such a table pack to one word.
+pub fn any_packing_is_injective()
+    ensures { AnyPackingIsInjective }
+{}
+
+/// Seats below 16 have the same words in a table of more seats.
+pub fn few_seats_keep_their_words()
+    ensures { FewSeatsKeepTheirWords }
+{}
+
+/// Two words that differ in their flags alone tell the same holder, and no others do.
+pub fn words_tell_holders()
+    ensures { WordsTellHolders }
 {}

@@ -3,5 +3,6 @@
 
 pub mod laws;
 mod owner;
+pub mod wide;
 
 pub use owner::{HANDOFF, MAX_SEATS, MAX_STAMP, Owner, PICKUP, WAITERS, pack, unpack};

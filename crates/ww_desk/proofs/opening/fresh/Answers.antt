@@ -16,15 +16,17 @@ invariant_of-push_reserved c =
     let f : IsFirst b (length c.loop-seat.yielded) _ = record {
       board = search rules;
       new = next.0;
-      few = c.requires.few;
-      fits = c.requires.fits;
+      bare = c.requires.bare;
+      locks = sym c.requires.locks.0;
+      most = omega (arith, c.requires.locks.0, c.requires.locks.1);
       seats = c.requires.count.1;
+      places = c.requires.count.2;
       left = c.requires.left;
-      held = search rules;
+      count = refl;
       is_done = refl;
       told = refl;
       turn = refl;
-      wakes = c.new-in-loop-seat.ensures;
+      wakes = search rules;
     } in
     first_keeps b (length c.loop-seat.yielded) _ f
 
@@ -40,35 +42,38 @@ loop-seat-preserved c =
     let h : Station = record {
       board = c.in_ok-board.board;
       seat = c.in-Some.seat;
-      seats = c.args.count;
-      left = c.args.left;
-      held = c.in_ok-held.held;
+      count = 0;
+      locks = c.args.locks;
       is_done = false;
+      seats = c.args.count;
       told = None;
       turn = Rests;
+      left = c.args.left;
       memory = c.new.result;
-      wake = c.new-in-loop-seat.result;
+      wake = c.in_ok-wake.wake;
     } in
     let f : IsFirst b (length c.loop-seat.yielded) h = record {
       board = search rules;
       new = next.0;
-      few = c.requires.few;
-      fits = c.requires.fits;
+      bare = c.requires.bare;
+      locks = sym c.requires.locks.0;
+      most = omega (arith, c.requires.locks.0, c.requires.locks.1);
       seats = c.requires.count.1;
+      places = c.requires.count.2;
       left = c.requires.left;
-      held = search rules;
+      count = refl;
       is_done = refl;
       told = refl;
       turn = refl;
-      wakes = c.new-in-loop-seat.ensures;
+      wakes = search rules;
     } in (
       tt,
       tt,
       append_assoc c.loop-seat.yielded (c.in-Some.seat ∷ []) c.next.new.self.rest.items ∙ next.1,
-      subst (λ (k : ℕ). AreFresh c.push_reserved.new.self.items b.table.shared.table_id b.table.shared.key.locks
+      subst (λ (k : ℕ). AreFresh c.push_reserved.new.self.items b.table.shared.table_id c.args.locks
           c.args.count b.table.shared.key.kind c.args.left k) (sym more)
           (fresh_more c.loop-seat.all.items c.push_reserved.new.self.items _ b.table.shared.table_id
-          b.table.shared.key.locks c.args.count b.table.shared.key.kind c.args.left (length c.loop-seat.yielded)
+          c.args.locks c.args.count b.table.shared.key.kind c.args.left (length c.loop-seat.yielded)
           i.3 (first_seen b (length c.loop-seat.yielded) h f) c.push_reserved.ensures.items),
       omega (arith, more, i.4, c.push_reserved.ensures.len),
       omega (arith, i.5, c.push_reserved.ensures.capacity),

@@ -27,8 +27,9 @@ invariant_of-push_reserved c =
     } in
     subst (λ (h : Hand). Carries h × (h.seat.stamp ≡ 0) × (held_of h ≡ [])) (sym c.in-Ok-new.ensures.ok) (
       new_carries shared.table_id shared.key (length c.loop-seat.yielded) hand next.new refl next.seen
-          c.args.board.now.few c.requires.locks (omega (arith, c.ranges.budget.fits))
-          (ap (λ (ps : List TableId). slice_get ps (length c.loop-seat.yielded)) c.in-Ok.ensures ∙ next.placed),
+          c.args.board.now.few c.requires.locks c.requires.places (omega (arith, c.ranges.budget.fits))
+          (ap (λ (ps : List TableId). slice_get ps (length c.loop-seat.yielded)) c.in-Ok.ensures.placed ∙ next.placed)
+          c.in-Ok.ensures.silent next.awake,
       new_idle shared.table_id shared.key _ c.in-Some.seat next.new,
       new_holds_nothing shared.table_id shared.key
           (length c.loop-seat.yielded) hand next.new,
@@ -57,7 +58,7 @@ loop-seat-preserved c =
     ≡ fresh (home_at c.args.board.now c.args.wires.now) (first_graph shared.key) c.args.budget
     (length c.loop-seat.yielded) (holding_of h).room) (sym c.in-Ok-new.ensures.ok)
     (new_holding (home_at c.args.board.now c.args.wires.now) shared.key (length c.loop-seat.yielded) hand
-    next.new next.seen c.in-Ok.ensures) in (
+    next.new next.seen c.in-Ok.ensures.placed) in (
       tt,
       tt,
       append_assoc c.loop-seat.yielded (c.in-Some.seat ∷ []) c.next.new.self.rest.items ∙ next.whole,

@@ -4,14 +4,16 @@ use Rattle.ww_plain.proofs.GraphFacts.{all_item}
 use Rattle.ww_table.specs.declared.board.Board.{Board}
 use Rattle.ww_table.specs.Closed.{HaveAllCome}
 use Rattle.ww_table_loads.specs.Standing.{IsUnused}
-use Rattle.ww_table_loads.proofs.Standing.{new_unused}
+use Rattle.ww_table_loads.proofs.Standing.{few_places, new_unused}
 use Rattle.ww_low_tests.proofs.Gathered.{all_come}
 use Rattle.ww_low_tests.proofs.rounds.crowd.Goals as goal
 
 pub map_vec-requires-after_bounds : goal.map_vec-requires-after_bounds
-map_vec-requires-after_bounds g c = λ κs live i x lt is. let board = c.in_ok-board.board in
-    subst (IsUnused board) (sym is) (all_item (IsUnused board) c.in_ok-board.seats.items i x lt
-    (new_unused _ _ _ _ board c.in_ok-board.seats.items c.in_ok-board.ensures))
+map_vec-requires-after_bounds g c = λ κs live i x lt is. let board = c.in_ok-board.board in (
+  subst (IsUnused board) (sym is) (all_item (IsUnused board) c.in_ok-board.seats.items i x lt
+      (new_unused _ _ _ _ board c.in_ok-board.seats.items c.in_ok-board.ensures)),
+  few_places _ _ _ _ board c.in_ok-board.seats.items c.in_ok-board.ensures c.requires.1,
+)
 
 pub apart-requires : goal.apart-requires
 apart-requires g c = recursion_from_All _ c.in_ok-works.works.items (λ i d lt.

@@ -1,10 +1,14 @@
-use Rattle.std.proofs.Common.{refl, inl, ◌∙◌, arith}
+use Rattle.std.proofs.Common.{refl, ap, inl, ◌∙◌, arith}
+use Rattle.ww_table.specs.declared.board.Board.{Board}
 use Rattle.ww_table_loads.specs.Standing.{at_first, began}
 use Rattle.ww_low_tests.proofs.Still.{did_still}
 use Rattle.ww_low_tests.proofs.rows.take_one_each.Goals as goal
 
 pub begin-requires-2 : goal.begin-requires-2
-begin-requires-2 g c = record { did = (at_first 1, did_still c.compare.ensures c.requires.one, refl, refl, omega arith) }
+begin-requires-2 g c = record {
+  did = (at_first 1, did_still c.compare.ensures c.requires.one, refl, refl, omega arith);
+  few = ap (λ (b : Board). b.table.shared.key.places) c.compare.ensures ∙ c.requires.few;
+}
 
 pub take-requires-clause-did : goal.take-requires-clause-did
 take-requires-clause-did g c = let begun = c.begin.ensures (at_first 0) c.requires.zero in

@@ -1,4 +1,4 @@
-use Rattle.std.proofs.Common.{◌≡◌, ℕ, ◌<◌, true, List, ap, sym, subst, ◌∙◌}
+use Rattle.std.proofs.Common.{◌≡◌, ℕ, ◌<◌, true, List, ap, sym, subst, ◌∙◌, refl}
 use Rattle.std.specs.List.{AllByRecursion}
 use Rattle.ww_plain.specs.declared.node.Node.{Node}
 use Rattle.ww_plain.specs.Footprint.{footprint_of}
@@ -10,6 +10,7 @@ use Rattle.ww_rule.proofs.Fits.{place_low}
 use Rattle.ww_table.specs.Seat.{size_of}
 use Rattle.ww_seat.specs.declared.committing.NodeChange.{NodeChange}
 use Rattle.ww_seat.proofs.Changes.{may_place, all_change, start_orderly, end_orderly, has_committed, still_away}
+use Rattle.ww_seat.proofs.Naps.{out_by}
 use Rattle.ww_seat.proofs.committing.commit.Goals as goal
 
 pub place-place-requires-clause-may : goal.place-place-requires-clause-may
@@ -70,3 +71,8 @@ returns-clause-committed c = has_committed (size_of c.args.board.now) c.args.sea
     c.requires.seat.orderly c.requires.next c.requires.size c.requires.held
     c.place-place.result c.place-place.new.self.seat.me c.change.new.seat.seat.me c.place-place.ensures.placed
     c.change.ensures.view c.place-place.ensures.above
+
+pub returns-clause-stayed_out : goal.returns-clause-stayed_out
+returns-clause-stayed_out c = out_by c.args.seat.now.seat.me c.change.new.seat.seat.me _
+    (c.change.ensures.view ∙ ap (λ (z : Sat). z.0) c.place-place.ensures.placed)
+    (record { attempts = refl; debts = refl; naps = refl; deaf = refl })

@@ -2,6 +2,7 @@ use Rattle.std.proofs.Common.{◌≡◌, length}
 use Rattle.ww_rule.specs.Rule.{first_graph}
 use Rattle.ww_seat.specs.Calls.{HoldsAsBefore}
 use Rattle.ww_seat.specs.Orderly.{IsSettled}
+use Rattle.ww_seat.specs.Looks.{StaysAwake}
 use Rattle.ww_seat.proofs.guard.spin_into_owned.Given as goal
 
 abbrev pub invariant-loop : goal.invariant-loop
@@ -9,3 +10,5 @@ invariant-loop g l =
     (goal.iterator-loop g).can_next l.iterator' × (goal.iterator-loop g).is_finite l.iterator'
     × IsSettled l.board.table.shared.table_id (length (first_graph l.board.table.shared.key)) l.seat
     × HoldsAsBefore l.initial.seat.seat.me l.seat.seat.me × (l.seat.records ≡ l.initial.seat.records)
+    × (l.seat.seat.me.0.part.core.debts ≡ l.initial.seat.seat.me.0.part.core.debts)
+    × StaysAwake l.initial.seat.seat.me.0.part.core l.seat.seat.me.0.part.core

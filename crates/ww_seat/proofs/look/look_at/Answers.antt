@@ -5,6 +5,7 @@ use Rattle.ww_table.specs.Seat.{size_of}
 use Rattle.ww_seat.specs.Work.{has_joined, looks_again, IsAtWork}
 use Rattle.ww_seat.proofs.Holds.{look_then}
 use Rattle.ww_seat.proofs.Working.{work_same, work_then, woken_marked, only_marked}
+use Rattle.ww_seat.proofs.Naps.{awake_same, awake_then, nap_then}
 use Rattle.ww_seat.proofs.look.look_at.Goals as goal
 
 pub loop-init : goal.loop-init
@@ -15,6 +16,8 @@ loop-init g c = (
   refl,
   c.requires.woken,
   c.requires.only,
+  awake_same c.args.seat.now.seat.me.0.part.core,
+  λ before booked. booked,
 )
 
 pub loop-preserved : goal.loop-preserved
@@ -29,6 +32,9 @@ loop-preserved g c = (
   woken_marked c.look_once.new.seat.seat.me _ _ c.look_once.ensures.marked,
   only_marked c.loop.seat.seat.me c.look_once.new.seat.seat.me _ _ c.loop.invariant.4 c.look_once.ensures.still
       c.look_once.ensures.marked,
+  awake_then c.args.seat.now.seat.me.0.part.core c.loop.seat.seat.me.0.part.core
+      c.look_once.new.seat.seat.me.0.part.core c.loop.invariant.5 c.in-Lost.ensures.awake,
+  λ before booked. c.look_once.ensures.still.booked before (c.loop.invariant.6 before booked),
 )
 
 pub returns-in-Ended-clause-look : goal.returns-in-Ended-clause-look
@@ -49,3 +55,10 @@ look_once-requires-clause-woken g c = c.loop.invariant.3
 pub look_once-requires-clause-holds : goal.look_once-requires-clause-holds
 look_once-requires-clause-holds g c = ap (λ (a : Account). any_below (length a.owned) (λ n. get_or a.owned n false))
     c.loop.invariant.1.holds ∙ c.requires.holds
+
+pub returns-in-Ended-clause-nap : goal.returns-in-Ended-clause-nap
+returns-in-Ended-clause-nap g c = nap_then c.args.seat.now.seat.me.0.part.core c.loop.seat.seat.me.0.part.core
+    c.look_once.new.seat.seat.me.0.part.core c.in-Ended.look c.loop.invariant.5 c.in-Ended.ensures.nap
+
+pub returns-in-Ended-clause-booked : goal.returns-in-Ended-clause-booked
+returns-in-Ended-clause-booked g c = λ before booked. c.look_once.ensures.still.booked before (c.loop.invariant.6 before booked)

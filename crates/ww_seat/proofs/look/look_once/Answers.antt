@@ -4,10 +4,11 @@ use Rattle.ww_view.specs.View.{owns}
 use Rattle.ww_rule.specs.Rule.{Sat, first_graph}
 use Rattle.ww_seat.specs.Looks.{IfLost}
 use Rattle.ww_seat.specs.Work.{has_joined, looks_again, IsWorking, IsAtWork}
-use Rattle.ww_seat.proofs.Working.{woken_still, woken_looked, still_none, still_looked, marked_none, look_counts, work_touched, work_looked}
+use Rattle.ww_seat.proofs.Working.{woken_still, woken_looked, still_none, still_looked, still_then, marked_none, look_counts, work_touched, work_looked}
 use Rattle.ww_seat.proofs.Holds.{stopped_then}
 use Rattle.ww_seat.proofs.Stood.{work_stood, flags_later, look_later, work_later}
 use Rattle.ww_seat.proofs.Stopped.{work_goes_on, goes_on_sees, waits_so}
+use Rattle.ww_seat.proofs.Naps.{awake_then, awake_looked, awake_later, nap_later}
 use Rattle.ww_seat.proofs.look.look_once.Goals as goal
 
 pub take_inside-requires-clause-work : goal.take_inside-requires-clause-work
@@ -202,27 +203,70 @@ returns-clause-uncancelled c = waits_so c.args.waits c.stop_if_cancelled.new.sea
     c.in_default-stop_if_cancelled.ensures.uncancelled c.stay_or_back_off.ensures.uncancelled
 
 pub returns-in-Some-clause-still : goal.returns-in-Some-clause-still
-returns-in-Some-clause-still c = λ u has. c.take_inside.ensures.still u
-    (still_looked c.args.seat.now.seat.me c.look-seen.new.self.seat.me c.look-seen.result c.look-seen.ensures.looked u has)
+returns-in-Some-clause-still c = still_then c.args.seat.now.seat.me c.look-seen.new.self.seat.me
+    c.take_inside.new.seat.seat.me (still_looked c.args.seat.now.seat.me c.look-seen.new.self.seat.me
+    c.look-seen.result c.look-seen.ensures.looked) c.take_inside.ensures.still
 
 pub returns-in-None-clause-still : goal.returns-in-None-clause-still
-returns-in-None-clause-still c = λ u has. c.take_inside.ensures.still u
-    (still_looked c.args.seat.now.seat.me c.look-seen.new.self.seat.me c.look-seen.result c.look-seen.ensures.looked u has)
+returns-in-None-clause-still c = still_then c.args.seat.now.seat.me c.look-seen.new.self.seat.me
+    c.take_inside.new.seat.seat.me (still_looked c.args.seat.now.seat.me c.look-seen.new.self.seat.me
+    c.look-seen.result c.look-seen.ensures.looked) c.take_inside.ensures.still
 
 pub returns-in_default-clause-still : goal.returns-in_default-clause-still
-returns-in_default-clause-still c = let m1 = c.look-seen.new.self.seat.me in
-    λ u has. still_none m1 c.stand.new.seat.seat.me c.stand.ensures.condemned u
-    (still_looked c.args.seat.now.seat.me m1 c.look-seen.result c.look-seen.ensures.looked u has)
+returns-in_default-clause-still c = let m = c.args.seat.now.seat.me in let m1 = c.look-seen.new.self.seat.me in
+    let m2 = c.stand.new.seat.seat.me in
+    still_then m m1 m2 (still_looked m m1 c.look-seen.result c.look-seen.ensures.looked) (still_none m1 m2 c.stand.ensures.condemned)
 
 pub returns-in-Some-stop_if_cancelled-clause-still : goal.returns-in-Some-stop_if_cancelled-clause-still
-returns-in-Some-stop_if_cancelled-clause-still c = let m1 = c.look-seen.new.self.seat.me in let m2 = c.stand.new.seat.seat.me in
-    λ u has. still_none m2 c.stop_if_cancelled.new.seat.seat.me c.stop_if_cancelled.ensures.condemned u
-    (still_none m1 m2 c.stand.ensures.condemned u
-    (still_looked c.args.seat.now.seat.me m1 c.look-seen.result c.look-seen.ensures.looked u has))
+returns-in-Some-stop_if_cancelled-clause-still c = let m = c.args.seat.now.seat.me in let m1 = c.look-seen.new.self.seat.me in
+    let m2 = c.stand.new.seat.seat.me in let m3 = c.stop_if_cancelled.new.seat.seat.me in
+    still_then m m2 m3 (still_then m m1 m2 (still_looked m m1 c.look-seen.result c.look-seen.ensures.looked)
+    (still_none m1 m2 c.stand.ensures.condemned)) (still_none m2 m3 c.stop_if_cancelled.ensures.condemned)
 
 pub returns-clause-still : goal.returns-clause-still
-returns-clause-still c = let m1 = c.look-seen.new.self.seat.me in let m2 = c.stand.new.seat.seat.me in
-    λ u has. c.stay_or_back_off.ensures.still u
-    (still_none m2 c.stop_if_cancelled.new.seat.seat.me c.stop_if_cancelled.ensures.condemned u
-    (still_none m1 m2 c.stand.ensures.condemned u
-    (still_looked c.args.seat.now.seat.me m1 c.look-seen.result c.look-seen.ensures.looked u has)))
+returns-clause-still c = let m = c.args.seat.now.seat.me in let m1 = c.look-seen.new.self.seat.me in
+    let m2 = c.stand.new.seat.seat.me in let m3 = c.stop_if_cancelled.new.seat.seat.me in
+    still_then m m3 c.stay_or_back_off.new.seat.seat.me
+    (still_then m m2 m3 (still_then m m1 m2 (still_looked m m1 c.look-seen.result c.look-seen.ensures.looked)
+    (still_none m1 m2 c.stand.ensures.condemned)) (still_none m2 m3 c.stop_if_cancelled.ensures.condemned))
+    c.stay_or_back_off.ensures.still
+
+pub returns-in-Some-clause-nap : goal.returns-in-Some-clause-nap
+returns-in-Some-clause-nap c = let m = c.args.seat.now.seat.me in let m1 = c.look-seen.new.self.seat.me in
+    awake_then m.0.part.core m1.0.part.core c.take_inside.new.seat.seat.me.0.part.core
+    (awake_looked m m1 c.look-seen.result c.look-seen.ensures.looked) c.take_inside.ensures.awake
+
+pub returns-in-None-clause-awake : goal.returns-in-None-clause-awake
+returns-in-None-clause-awake c = let m = c.args.seat.now.seat.me in let m1 = c.look-seen.new.self.seat.me in
+    awake_then m.0.part.core m1.0.part.core c.take_inside.new.seat.seat.me.0.part.core
+    (awake_looked m m1 c.look-seen.result c.look-seen.ensures.looked) c.take_inside.ensures.awake
+
+pub returns-in_default-clause-awake : goal.returns-in_default-clause-awake
+returns-in_default-clause-awake c = let m = c.args.seat.now.seat.me in let m1 = c.look-seen.new.self.seat.me in
+    awake_then m.0.part.core m1.0.part.core c.stand.new.seat.seat.me.0.part.core
+    (awake_looked m m1 c.look-seen.result c.look-seen.ensures.looked) c.stand.ensures.awake
+
+pub returns-in-Some-stop_if_cancelled-clause-nap : goal.returns-in-Some-stop_if_cancelled-clause-nap
+returns-in-Some-stop_if_cancelled-clause-nap c = let m = c.args.seat.now.seat.me in let m1 = c.look-seen.new.self.seat.me in
+    let m2 = c.stand.new.seat.seat.me in
+    awake_then m.0.part.core m2.0.part.core c.stop_if_cancelled.new.seat.seat.me.0.part.core
+    (awake_then m.0.part.core m1.0.part.core m2.0.part.core
+    (awake_looked m m1 c.look-seen.result c.look-seen.ensures.looked) c.stand.ensures.awake) c.stop_if_cancelled.ensures.awake
+
+pub returns-clause-nap : goal.returns-clause-nap
+returns-clause-nap c = let m = c.args.seat.now.seat.me in let m1 = c.look-seen.new.self.seat.me in
+    let m2 = c.stand.new.seat.seat.me in let m3 = c.stop_if_cancelled.new.seat.seat.me in
+    nap_later m.0.part.core m3.0.part.core c.stay_or_back_off.new.seat.seat.me.0.part.core c.stay_or_back_off.result
+    (awake_then m.0.part.core m2.0.part.core m3.0.part.core
+    (awake_then m.0.part.core m1.0.part.core m2.0.part.core
+    (awake_looked m m1 c.look-seen.result c.look-seen.ensures.looked) c.stand.ensures.awake) c.stop_if_cancelled.ensures.awake)
+    c.stay_or_back_off.ensures.nap
+
+pub returns-clause-awake : goal.returns-clause-awake
+returns-clause-awake c = let m = c.args.seat.now.seat.me in let m1 = c.look-seen.new.self.seat.me in
+    let m2 = c.stand.new.seat.seat.me in let m3 = c.stop_if_cancelled.new.seat.seat.me in
+    awake_later m.0.part.core m3.0.part.core c.stay_or_back_off.new.seat.seat.me.0.part.core c.stay_or_back_off.result
+    (awake_then m.0.part.core m2.0.part.core m3.0.part.core
+    (awake_then m.0.part.core m1.0.part.core m2.0.part.core
+    (awake_looked m m1 c.look-seen.result c.look-seen.ensures.looked) c.stand.ensures.awake) c.stop_if_cancelled.ensures.awake)
+    c.stay_or_back_off.ensures.awake

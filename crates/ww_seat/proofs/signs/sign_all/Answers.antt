@@ -1,71 +1,58 @@
-use Rattle.std.proofs.Common.{ap, refl, sym, ◌∙◌}
+use Rattle.std.proofs.Common.{◌≡◌, ℕ, List, ◌++◌, Option, refl, sym, ap, ◌∙◌, [], subst, Some}
 use Rattle.ww_rule.specs.declared.cells.Sight.{Sight}
-use Rattle.ww_rule.specs.Rule.{Sat}
-use Rattle.ww_seat.proofs.Working.{touched_read, none_condemned, woken_still, marked_none}
-use Rattle.ww_seat.proofs.Signing.{noted_none, marked_noted, noted_step, noted_is, noted_all, owed_is, owed_at, victim_small, may_sign}
+use Rattle.ww_rule.specs.Rule.{Sat, first_graph}
+use Rattle.ww_queue.specs.Rules.{owed_signs}
+use Rattle.ww_queue.proofs.AnyLists.{signs_all}
+use Rattle.ww_seat.specs.Work.{AreOwed, HasToWake}
+use Rattle.ww_seat.proofs.Working.{touched_read, marked_none, marked_then, still_noted}
+use Rattle.ww_seat.proofs.Signing.{left_of, noted_none, noted_then, still_owed, part_owed, walked_whole, further_is}
 use Rattle.ww_seat.proofs.signs.sign_all.Goals as goal
 
-pub loop-pair-init : goal.loop-pair-init
-loop-pair-init c = (
-  c.owed_signs-owed.ensures.seat,
-  noted_none _ c.args.seat.now.seat.me _
-      (touched_read _ c.args.lock c.args.seat.now.seat.me _ c.requires.orderly c.owed_signs-owed.ensures.read)
-      (ap (λ (z : Sat). z.0) c.owed_signs-owed.ensures.read.now),
-  c.owed_signs-owed.ensures.records,
-  marked_none c.owed_signs-owed.new.self.seat.me _
-      (woken_still c.args.seat.now.seat.me c.owed_signs-owed.new.self.seat.me _
-      (none_condemned c.args.seat.now.seat.me _ c.args.seat.now.seat.me.0
-      (ap (λ (z : Sat). z.0) c.owed_signs-owed.ensures.read.now) refl refl refl) c.requires.woken),
+pub loop-next-init : goal.loop-next-init
+loop-next-init c = let v = c.args.seat.now.seat.me.0.part.core in (
+  c.requires.seat,
+  ([], noted_none _ c.args.seat.now.seat.me _ c.requires.orderly refl, signs_all v.kind c.args.seen v.list v.who c.requires.once),
+  refl,
+  marked_none c.args.seat.now.seat.me _ c.requires.woken,
+  refl,
 )
 
-pub sign-is_condemned-requires-clause-victim : goal.sign-is_condemned-requires-clause-victim
-sign-is_condemned-requires-clause-victim c = let v = c.args.seat.now.seat.me.0.part.core in let items = c.as_slice-pair-items.result.now in
-    let is = owed_is items _ c.args.seat.now.kind v.kind c.args.seen v.list _ v.who
-    c.as_slice-pair-items.ensures.value c.owed_signs-owed.ensures.owed c.requires.seat.kind
-    c.requires.seat.who in
-    victim_small v.kind c.args.seen v.list v.who _ _ c.requires.valid c.requires.seats
-    (owed_at items _ c.loop-pair.pair-index c.loop-pair-test.true is)
+pub sign_some-requires-clause-orderly : goal.sign_some-requires-clause-orderly
+sign_some-requires-clause-orderly c = (touched_read _ c.args.lock c.loop-next.seat.seat.me _ c.loop-next.invariant.1.1.orderly
+    c.owed_signs-owed.ensures.read).orderly
 
-pub sign-is_condemned-requires-clause-may : goal.sign-is_condemned-requires-clause-may
-sign-is_condemned-requires-clause-may c = let m = c.args.seat.now.seat.me in let v = m.0.part.core in
-    let items = c.as_slice-pair-items.result.now in
-    let is = owed_is items _ c.args.seat.now.kind v.kind c.args.seen v.list _ v.who
-    c.as_slice-pair-items.ensures.value c.owed_signs-owed.ensures.owed c.requires.seat.kind
-    c.requires.seat.who in
-    may_sign _ c.args.lock _ m c.loop-pair.seat.seat.me c.args.seen _ _ c.requires.inside c.requires.seen
-    c.loop-pair.invariant.1 (owed_at items _ c.loop-pair.pair-index c.loop-pair-test.true is)
+pub sign_some-requires-clause-owed : goal.sign_some-requires-clause-owed
+sign_some-requires-clause-owed c = let m = c.args.seat.now.seat.me in let i = c.loop-next.invariant in
+    subst (AreOwed c.owed_signs-owed.new.self.seat.me.0.part.core) (sym c.as_slice.ensures.value)
+    (still_owed _ i.1.0 m c.loop-next.seat.seat.me c.owed_signs-owed.new.self.seat.me c.owed_signs-owed.result.0.items i.1.1
+    (ap (λ (z : Sat). z.0) c.owed_signs-owed.ensures.read.now)
+    (part_owed m.0.part.core c.args.seen i.1.0 c.owed_signs-owed.result.0.items
+    (left_of m.0.part.core c.args.seen c.owed_signs-owed.result.1) c.requires.there c.requires.seats c.requires.seen
+    (walked_whole _ i.1.0 c.owed_signs-owed.result.0.items _ m c.loop-next.seat.seat.me c.args.seen c.in-Some.from
+    c.loop-next.next c.owed_signs-owed.result.1 c.loop-next.seat.kind c.loop-next.seat.who i.1.1 i.0.kind i.0.who
+    c.owed_signs-owed.ensures.all c.owed_signs-owed.ensures.some c.in-Some.is i.1.2)))
 
-pub loop-pair-preserved : goal.loop-pair-preserved
-loop-pair-preserved c = (
-  c.sign-is_condemned.ensures.seat,
-  noted_step _ c.loop-pair.pair-index c.as_slice-pair-items.result.now c.args.seat.now.seat.me
-      c.loop-pair.seat.seat.me c.sign-is_condemned.new.self.seat.me c.sign-is_condemned.result c.loop-pair-test.true
-      c.loop-pair.invariant.1
-      (noted_is c.sign-is_condemned.result c.loop-pair.seat.seat.me c.sign-is_condemned.new.self.seat.me _
-      c.sign-is_condemned.ensures.condemned c.sign-is_condemned.ensures.noted),
-  c.sign-is_condemned.ensures.records ∙ c.loop-pair.invariant.2,
-  marked_noted c.loop-pair.seat.seat.me c.sign-is_condemned.new.self.seat.me c.args.wake.now.seats
-      c.loop-pair.wake.seats c.add.new.self.seats c.sign-is_condemned.result _ _
-      (c.who-who.ensures ∙ sym c.requires.seat.who
-      ∙ sym (ap (λ (z : Sight). z.part.core.who) c.loop-pair.invariant.1.view))
-      (noted_is c.sign-is_condemned.result c.loop-pair.seat.seat.me c.sign-is_condemned.new.self.seat.me _
-      c.sign-is_condemned.ensures.condemned c.sign-is_condemned.ensures.noted) c.loop-pair.invariant.3
-      c.add.ensures,
-)
-
-pub returns-clause-signed : goal.returns-clause-signed
-returns-clause-signed c = let m = c.args.seat.now.seat.me in let v = m.0.part.core in let items = c.as_slice-pair-items.result.now in
-    let is = owed_is items _ c.args.seat.now.kind v.kind c.args.seen v.list _ v.who
-    c.as_slice-pair-items.ensures.value c.owed_signs-owed.ensures.owed c.requires.seat.kind
-    c.requires.seat.who in
-    noted_all _ c.loop-pair.pair-index items _ m c.loop-pair.seat.seat.me c.loop-pair-test.false is c.loop-pair.invariant.1
-
-pub add-requires : goal.add-requires
-add-requires c = let v = c.args.seat.now.seat.me.0.part.core in let items = c.as_slice-pair-items.result.now in
-    let is = owed_is items _ c.args.seat.now.kind v.kind c.args.seen v.list _ v.who
-    c.as_slice-pair-items.ensures.value c.owed_signs-owed.ensures.owed c.requires.seat.kind
-    c.requires.seat.who in
-    record {
-      victim = victim_small v.kind c.args.seen v.list v.who _ _ c.requires.valid c.requires.seats
-          (owed_at items _ c.loop-pair.pair-index c.loop-pair-test.true is);
-    }
+pub loop-next-preserved : goal.loop-next-preserved
+loop-next-preserved c = let m = c.args.seat.now.seat.me in let i = c.loop-next.invariant in
+    let m1 = c.loop-next.seat.seat.me in let m2 = c.owed_signs-owed.new.self.seat.me in
+    let m3 = c.sign_some.new.seat.seat.me in let items = c.owed_signs-owed.result.0.items in
+    let same : m2.0 ≡ m1.0 = ap (λ (z : Sat). z.0) c.owed_signs-owed.ensures.read.now in
+    let slice = c.as_slice.result.now in (
+      c.sign_some.ensures.seat,
+      (
+        i.1.0 ++ slice,
+        noted_then _ i.1.0 slice m m1 m2 m3 i.1.1 same c.sign_some.ensures.signed,
+        further_is m.0.part.core c.args.seen i.1.0 slice c.owed_signs-owed.result.1 _
+            (subst (λ (l : List (ℕ × ℕ)). i.1.0 ++ (l ++ left_of m.0.part.core c.args.seen c.owed_signs-owed.result.1)
+            ≡ owed_signs m.0.part.core.kind c.args.seen m.0.part.core.list m.0.part.core.who)
+            (sym c.as_slice.ensures.value) (walked_whole _ i.1.0 c.owed_signs-owed.result.0.items _ m c.loop-next.seat.seat.me c.args.seen c.in-Some.from
+            c.loop-next.next c.owed_signs-owed.result.1 c.loop-next.seat.kind c.loop-next.seat.who i.1.1 i.0.kind i.0.who
+            c.owed_signs-owed.ensures.all c.owed_signs-owed.ensures.some c.in-Some.is i.1.2)),
+      ),
+      c.sign_some.ensures.records ∙ c.owed_signs-owed.ensures.records ∙ i.2,
+      marked_then m1.0.part.core m3.0.part.core c.args.wake.now c.loop-next.wake c.sign_some.new.wake
+          (λ u has. (still_noted _ _ m2 m3 c.sign_some.ensures.signed).still u
+          (subst (λ (z : Sight). HasToWake z.part.core u) (sym same) has))
+          i.3 c.sign_some.ensures.marked,
+      c.sign_some.ensures.long ∙ i.4,
+    )

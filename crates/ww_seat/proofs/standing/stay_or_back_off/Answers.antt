@@ -6,8 +6,9 @@ use Rattle.ww_rule.specs.Guards.{exiting}
 use Rattle.ww_seat.specs.Work.{looks_again, told}
 use Rattle.ww_seat.specs.declared.look.Look.TheVariants.{Deadlk, Waits}
 use Rattle.ww_seat.proofs.Holds.{look_then}
-use Rattle.ww_seat.proofs.Working.{none_condemned, woken_touched, marked_none, marked_still, still_none, still_touched, still_later, work_same, work_touched, work_told, work_noted}
+use Rattle.ww_seat.proofs.Working.{none_condemned, woken_touched, marked_none, marked_still, still_none, still_touched, still_later, work_same, work_touched, work_told, work_noted, still_then}
 use Rattle.ww_seat.proofs.Stood.{stays_goes, stays_outside}
+use Rattle.ww_seat.proofs.Naps.{awake_then, awake_touched, awake_noted, awake_told, nap_left, nap_then}
 use Rattle.ww_seat.proofs.standing.stay_or_back_off.Goals as goal
 
 pub returns-in_default-clause-lost : goal.returns-in_default-clause-lost
@@ -92,21 +93,21 @@ pub returns-in-None-clause-marked : goal.returns-in-None-clause-marked
 returns-in-None-clause-marked c = let m2 = c.sign_all.new.seat.seat.me in let m4 = c.leave.new.seat.seat.me in
     let t = c.death.ensures.told in
     marked_still m2 m4 _ _ (none_condemned m2 m4 (exiting (knowing m2.0 (told m2.0.part.core t.sign t.fresh)))
-    (c.leave.ensures.view ∙ ap exiting t.view) refl refl refl) c.sign_all.ensures.marked
+    (c.leave.ensures.view ∙ ap exiting t.view) refl refl refl refl) c.sign_all.ensures.marked
 
 pub returns-then-not-back_off-clause-marked : goal.returns-then-not-back_off-clause-marked
 returns-then-not-back_off-clause-marked c = let m2 = c.sign_all.new.seat.seat.me in
     let m3 = c.death.new.seat.seat.me in let t = c.death.ensures.told in
     marked_still m3 c.back_off.new.seat.seat.me _ _ c.back_off.ensures.condemned
     (marked_still m2 m3 _ _ (none_condemned m2 m3 (knowing m2.0 (told m2.0.part.core t.sign t.fresh)) t.view
-    refl refl refl) c.sign_all.ensures.marked)
+    refl refl refl refl) c.sign_all.ensures.marked)
 
 pub returns-else-not-back_off-clause-marked : goal.returns-else-not-back_off-clause-marked
 returns-else-not-back_off-clause-marked c = let m2 = c.sign_all.new.seat.seat.me in
     let m3 = c.death.new.seat.seat.me in let t = c.death.ensures.told in
     marked_still m3 c.back_off.new.seat.seat.me _ _ c.back_off.ensures.condemned
     (marked_still m2 m3 _ _ (none_condemned m2 m3 (knowing m2.0 (told m2.0.part.core t.sign t.fresh)) t.view
-    refl refl refl) c.sign_all.ensures.marked)
+    refl refl refl refl) c.sign_all.ensures.marked)
 
 pub returns-in_default-clause-attempts : goal.returns-in_default-clause-attempts
 returns-in_default-clause-attempts c = ap (λ (z : Sight). z.part.core.attempts) c.ask_if_first.ensures.touched.view
@@ -146,20 +147,58 @@ returns-in-None-clause-still c = let m2 = c.sign_all.new.seat.seat.me in let m4 
     still_later _ _ c.args.seat.now.seat.me c.ask_if_first.new.seat.seat.me m2 m4 c.ask_if_first.ensures.touched
     c.sign_all.ensures.signed
     (none_condemned m2 m4 (exiting (knowing m2.0 (told m2.0.part.core t.sign t.fresh)))
-    (c.leave.ensures.view ∙ ap exiting t.view) refl refl refl)
+    (c.leave.ensures.view ∙ ap exiting t.view) refl refl refl refl)
 
 pub returns-then-not-back_off-clause-still : goal.returns-then-not-back_off-clause-still
 returns-then-not-back_off-clause-still c = let m2 = c.sign_all.new.seat.seat.me in let m3 = c.death.new.seat.seat.me in
     let t = c.death.ensures.told in
     let kept = still_later _ _ c.args.seat.now.seat.me c.ask_if_first.new.seat.seat.me m2 m3
     c.ask_if_first.ensures.touched c.sign_all.ensures.signed
-    (none_condemned m2 m3 (knowing m2.0 (told m2.0.part.core t.sign t.fresh)) t.view refl refl refl) in
-    λ u has. still_none m3 c.back_off.new.seat.seat.me c.back_off.ensures.condemned u (kept u has)
+    (none_condemned m2 m3 (knowing m2.0 (told m2.0.part.core t.sign t.fresh)) t.view refl refl refl refl) in
+    still_then c.args.seat.now.seat.me m3 c.back_off.new.seat.seat.me kept (still_none m3 c.back_off.new.seat.seat.me c.back_off.ensures.condemned)
 
 pub returns-else-not-back_off-clause-still : goal.returns-else-not-back_off-clause-still
 returns-else-not-back_off-clause-still c = let m2 = c.sign_all.new.seat.seat.me in let m3 = c.death.new.seat.seat.me in
     let t = c.death.ensures.told in
     let kept = still_later _ _ c.args.seat.now.seat.me c.ask_if_first.new.seat.seat.me m2 m3
     c.ask_if_first.ensures.touched c.sign_all.ensures.signed
-    (none_condemned m2 m3 (knowing m2.0 (told m2.0.part.core t.sign t.fresh)) t.view refl refl refl) in
-    λ u has. still_none m3 c.back_off.new.seat.seat.me c.back_off.ensures.condemned u (kept u has)
+    (none_condemned m2 m3 (knowing m2.0 (told m2.0.part.core t.sign t.fresh)) t.view refl refl refl refl) in
+    still_then c.args.seat.now.seat.me m3 c.back_off.new.seat.seat.me kept (still_none m3 c.back_off.new.seat.seat.me c.back_off.ensures.condemned)
+
+pub returns-in_default-clause-awake : goal.returns-in_default-clause-awake
+returns-in_default-clause-awake c = awake_touched (length (first_graph c.args.board.now.table.shared.key))
+    c.args.seat.now.seat.me c.ask_if_first.new.seat.seat.me c.ask_if_first.ensures.touched
+
+pub returns-in-None-clause-nap : goal.returns-in-None-clause-nap
+returns-in-None-clause-nap c = let size = length (first_graph c.args.board.now.table.shared.key) in
+    let n = c.args.lock in let later = looks_again c.args.arrival in let m = c.args.seat.now.seat.me in
+    let m1 = c.ask_if_first.new.seat.seat.me in let m2 = c.sign_all.new.seat.seat.me in
+    let m3 = c.death.new.seat.seat.me in let m4 = c.leave.new.seat.seat.me in
+    let w1 = work_touched size n m true later m m1
+    (work_same size n true later m c.requires.orderly c.requires.work) c.ask_if_first.ensures.touched in
+    let w2 = work_noted size n m true later _ m1 m2 w1 c.sign_all.ensures.signed in
+    let w3 = work_told size n m true later m2 m3 w2 c.death.ensures.told in
+    nap_then m.0.part.core m3.0.part.core m4.0.part.core Waits
+    (awake_then m.0.part.core m2.0.part.core m3.0.part.core
+    (awake_then m.0.part.core m1.0.part.core m2.0.part.core
+    (awake_touched size m m1 c.ask_if_first.ensures.touched) (awake_noted _ _ m1 m2 c.sign_all.ensures.signed))
+    (awake_told _ m2 m3 c.death.ensures.told))
+    (nap_left n m3 m4 w3.working.place.0 c.leave.ensures.view)
+
+pub returns-then-not-back_off-clause-awake : goal.returns-then-not-back_off-clause-awake
+returns-then-not-back_off-clause-awake c = let m = c.args.seat.now.seat.me in let m1 = c.ask_if_first.new.seat.seat.me in
+    let m2 = c.sign_all.new.seat.seat.me in let m3 = c.death.new.seat.seat.me in
+    awake_then m.0.part.core m3.0.part.core c.back_off.new.seat.seat.me.0.part.core
+    (awake_then m.0.part.core m2.0.part.core m3.0.part.core
+    (awake_then m.0.part.core m1.0.part.core m2.0.part.core
+    (awake_touched (length (first_graph c.args.board.now.table.shared.key)) m m1 c.ask_if_first.ensures.touched)
+    (awake_noted _ _ m1 m2 c.sign_all.ensures.signed)) (awake_told _ m2 m3 c.death.ensures.told)) c.back_off.ensures.awake
+
+pub returns-else-not-back_off-clause-nap : goal.returns-else-not-back_off-clause-nap
+returns-else-not-back_off-clause-nap c = let m = c.args.seat.now.seat.me in let m1 = c.ask_if_first.new.seat.seat.me in
+    let m2 = c.sign_all.new.seat.seat.me in let m3 = c.death.new.seat.seat.me in
+    awake_then m.0.part.core m3.0.part.core c.back_off.new.seat.seat.me.0.part.core
+    (awake_then m.0.part.core m2.0.part.core m3.0.part.core
+    (awake_then m.0.part.core m1.0.part.core m2.0.part.core
+    (awake_touched (length (first_graph c.args.board.now.table.shared.key)) m m1 c.ask_if_first.ensures.touched)
+    (awake_noted _ _ m1 m2 c.sign_all.ensures.signed)) (awake_told _ m2 m3 c.death.ensures.told)) c.back_off.ensures.awake

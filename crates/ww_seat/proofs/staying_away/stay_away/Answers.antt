@@ -1,4 +1,5 @@
 use Rattle.std.proofs.Common.{arith, ◌+◌, ◌∙◌}
+use Rattle.ww_seat.proofs.Ringing.{slept_not}
 use Rattle.ww_seat.proofs.Glances.{and_more, glanced_further, glances_of, once_more}
 use Rattle.ww_seat.proofs.staying_away.stay_away.Goals as goal
 
@@ -30,5 +31,5 @@ loop-preserved c = let before = c.loop.invariant.1 in let me = c.args.seat.now.s
       ),
       e.one,
       e.records ∙ c.glance-owner.ensures.records ∙ c.loop.invariant.3,
-      c.next.ensures.parker ∙ c.loop.invariant.4,
+      slept_not c.lose.new.self c.loop.patience c.next.new.self c.loop.invariant.4 c.next.ensures.awake,
     )

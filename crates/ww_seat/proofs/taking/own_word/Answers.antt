@@ -5,7 +5,7 @@ use Rattle.ww_seat.proofs.taking.own_word.Goals as goal
 
 pub returns-clause-word : goal.returns-clause-word
 returns-clause-word c = let m = c.args.seat.now.seat.me in let m1 = c.first.new.self.seat.me in
-    word_is m.0.part.core.list _ _ c.match-first.flags _ _
+    c.of.ensures ∙ word_is m.0.part.core.list _ _ c.match-first.flags _ _
     (c.who.ensures ∙ read_who c.args.lock m m1 _ c.first.ensures.read c.first.ensures.seat.who)
     (c.stamp.ensures ∙ read_stamp c.args.lock m m1 _ c.first.ensures.read c.first.ensures.seat.stamp)
     (elim c.match-first.branch [

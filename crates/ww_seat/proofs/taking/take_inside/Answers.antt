@@ -1,11 +1,15 @@
-use Rattle.std.proofs.Common.{◌≡◌, sym, ap, refl, ◌∙◌, Some}
+use Rattle.std.proofs.Common.{◌*◌, ◌≡◌, ◌≤◌, length, arith, subst, sym, ap, refl, ◌∙◌, Some}
+use Rattle.ww_word.specs.declared.owner.Owner.{Owner}
+use Rattle.ww_rule.specs.declared.cells.Sight.{Sight}
 use Rattle.ww_rule.specs.Guards.{exiting}
 use Rattle.ww_rule.specs.Waiting.{taking_inside}
 use Rattle.ww_table.specs.Seat.{size_of}
 use Rattle.ww_seat.specs.Looks.{IsLook}
 use Rattle.ww_seat.specs.declared.look.Look.TheVariants.{Locked}
-use Rattle.ww_seat.proofs.Working.{none_condemned, woken_still, woken_touched, marked_none, marked_still, still_none, still_touched, still_noted}
-use Rattle.ww_seat.proofs.Took.{taken_read, owes_after, taken_goes, own_out, look_taken, word_read}
+use Rattle.ww_seat.proofs.Working.{none_condemned, woken_still, woken_touched, marked_none, marked_still, still_none, still_touched, still_noted, still_then}
+use Rattle.ww_seat.proofs.Took.{taken_read, owes_after, taken_goes, own_out, look_taken, word_read, own_there}
+use Rattle.ww_seat.proofs.Naps.{awake_by, awake_then, awake_left, awake_noted, awake_touched}
+use Rattle.ww_rule.specs.declared.cells.Sight.{Sight}
 use Rattle.ww_seat.proofs.taking.take_inside.Goals as goal
 
 pub own_word-word-requires-clause-list : goal.own_word-word-requires-clause-list
@@ -24,8 +28,13 @@ sign_all-requires c = let m = c.args.seat.now.seat.me in let m1 = c.take_seen.ne
       orderly = t2.orderly;
       inside = owes.inside;
       seats = owes.seats;
-      valid = c.own_word-word.ensures.valid;
-      woken = woken_still m m2 _ (none_condemned m m2 (taking_inside m.0 c.args.lock t.0) t2.view refl refl refl) c.requires.woken;
+      once = owes.once;
+      there = λ u is. own_there c.own_word-word.result.seat m2.0.part.core.who u m2.0.part.core.seats
+          (ap (λ (o : Owner). o.seat) (word_read c.args.lock m1 m2 _ c.own_word-word.ensures.read c.own_word-word.ensures.word))
+          (let few = c.own_word-word.ensures.seat.few in let who = c.own_word-word.ensures.seat.who in
+          let seats = c.own_word-word.ensures.seat.seats in omega arith) is;
+      marks = subst (λ (z : Sight). z.part.core.seats ≤ 64 * length c.args.wake.now) (sym t2.view) c.requires.marks;
+      woken = woken_still m m2 _ (none_condemned m m2 (taking_inside m.0 c.args.lock t.0) t2.view refl refl refl refl) c.requires.woken;
       seen = owes.seen ∙ ap Some (sym (word_read c.args.lock m1 m2 _ c.own_word-word.ensures.read c.own_word-word.ensures.word));
     }
 
@@ -73,7 +82,7 @@ returns-then-not-take_seen-clause-marked c =
 pub returns-clause-marked : goal.returns-clause-marked
 returns-clause-marked c = let m3 = c.sign_all.new.seat.seat.me in let m5 = c.node_or_blank.new.seat.seat.me in
     marked_still m3 m5 _ _ (none_condemned m3 m5 (exiting m3.0)
-    (c.node_or_blank.ensures.view ∙ c.leave.ensures.view) refl refl refl) c.sign_all.ensures.marked
+    (c.node_or_blank.ensures.view ∙ c.leave.ensures.view) refl refl refl refl) c.sign_all.ensures.marked
 
 pub returns-then-not-take_seen-clause-still : goal.returns-then-not-take_seen-clause-still
 returns-then-not-take_seen-clause-still c = still_touched _ c.args.seat.now.seat.me c.take_seen.new.seat.seat.me
@@ -84,7 +93,23 @@ returns-clause-still c = let m = c.args.seat.now.seat.me in let m2 = c.own_word-
     let m3 = c.sign_all.new.seat.seat.me in let m5 = c.node_or_blank.new.seat.seat.me in
     let t = c.take_seen.ensures.took c.if-not-take_seen.false in
     let t2 = taken_read _ c.args.lock m c.take_seen.new.seat.seat.me m2 _ t.1 c.own_word-word.ensures.read in
-    let taken = still_none m m2 (none_condemned m m2 (taking_inside m.0 c.args.lock t.0) t2.view refl refl refl) in
+    let taken = still_none m m2 (none_condemned m m2 (taking_inside m.0 c.args.lock t.0) t2.view refl refl refl refl) in
     let left = still_none m3 m5 (none_condemned m3 m5 (exiting m3.0)
-    (c.node_or_blank.ensures.view ∙ c.leave.ensures.view) refl refl refl) in
-    λ u has. left u (still_noted _ _ m2 m3 c.sign_all.ensures.signed u (taken u has))
+    (c.node_or_blank.ensures.view ∙ c.leave.ensures.view) refl refl refl refl) in
+    still_then m m3 m5 (still_then m m2 m3 taken (still_noted _ _ m2 m3 c.sign_all.ensures.signed)) left
+
+pub returns-then-not-take_seen-clause-awake : goal.returns-then-not-take_seen-clause-awake
+returns-then-not-take_seen-clause-awake c = awake_touched _ c.args.seat.now.seat.me c.take_seen.new.seat.seat.me
+    (c.take_seen.ensures.lost c.if-not-take_seen.true)
+
+pub returns-clause-awake : goal.returns-clause-awake
+returns-clause-awake c = let m = c.args.seat.now.seat.me in let m2 = c.own_word-word.new.seat.seat.me in
+    let m3 = c.sign_all.new.seat.seat.me in let m5 = c.node_or_blank.new.seat.seat.me in
+    let t = c.take_seen.ensures.took c.if-not-take_seen.false in
+    let t2 = taken_read _ c.args.lock m c.take_seen.new.seat.seat.me m2 _ t.1 c.own_word-word.ensures.read in
+    let h = c.sign_all.ensures.signed in
+    let none = ap (λ (z : Sight). z.part.core.waits) h.view ∙ ap (λ (z : Sight). z.part.core.waits) t2.view in
+    awake_then m.0.part.core m3.0.part.core m5.0.part.core
+    (awake_then m.0.part.core m2.0.part.core m3.0.part.core
+    (awake_by m m2 (taking_inside m.0 c.args.lock t.0) t2.view (record { naps = refl; deaf = refl })) (awake_noted _ _ m2 m3 h))
+    (awake_left m3 m5 none (c.node_or_blank.ensures.view ∙ c.leave.ensures.view))

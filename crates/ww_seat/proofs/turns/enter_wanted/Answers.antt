@@ -37,3 +37,17 @@ returns-clause-attempted c = ⊎_elim
     (λ t. ap (λ (m : Sat). m.0.part.core.attempts) (c.enter.ensures.entered t).3)
     (λ f. ap (λ (m : Sat). m.0.part.core.attempts) (c.enter.ensures.lost f))
     (true_or_false c.enter.result)
+
+pub returns-clause-debts : goal.returns-clause-debts
+returns-clause-debts c = ⊎_elim
+    (λ t. ap (λ (m : Sat). m.0.part.core.debts) (c.enter.ensures.entered t).3)
+    (λ f. ap (λ (m : Sat). m.0.part.core.debts) (c.enter.ensures.lost f))
+    (true_or_false c.enter.result)
+
+pub returns-clause-awake : goal.returns-clause-awake
+returns-clause-awake c = ⊎_elim
+    (λ t. let is = (c.enter.ensures.entered t).3 in
+    record { naps = ap (λ (m : Sat). m.0.part.core.naps) is; deaf = ap (λ (m : Sat). m.0.part.core.deaf) is })
+    (λ f. let is = c.enter.ensures.lost f in
+    record { naps = ap (λ (m : Sat). m.0.part.core.naps) is; deaf = ap (λ (m : Sat). m.0.part.core.deaf) is })
+    (true_or_false c.enter.result)

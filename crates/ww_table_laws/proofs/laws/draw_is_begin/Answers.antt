@@ -1,5 +1,5 @@
-use Rattle.ww_rule.proofs.Moves.{draw_makes, draw_room}
+use Rattle.ww_rule.proofs.Moves.{draw_makes}
 use Rattle.ww_table_laws.proofs.laws.draw_is_begin.Goals as goal
 
 pub returns : goal.returns
-returns c = λ key s r id me t may. draw_makes key s r id me t.here t.seated may (draw_room key s r)
+returns c = λ key s r id me t may room. draw_makes key s r id me t.here t.seated may room

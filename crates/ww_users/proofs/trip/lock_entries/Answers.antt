@@ -18,7 +18,7 @@ returns-in-Already g c = (
 
 pub returns-in-Deadlk : goal.returns-in-Deadlk
 returns-in-Deadlk g c = way_contended _ _ _ _ c.args.list.now c.loop-position.position _ _ c.loop-position-test.true
-    refl c.loop-position.invariant c.in-Deadlk.ensures
+    refl c.loop-position.invariant c.in-Deadlk.ensures.0
 
 pub returns-in-Interrupted : goal.returns-in-Interrupted
 returns-in-Interrupted g c = let e = c.in-Interrupted.ensures in
@@ -26,7 +26,7 @@ returns-in-Interrupted g c = let e = c.in-Interrupted.ensures in
 
 pub loop-position-preserved : goal.loop-position-preserved
 loop-position-preserved g c = way_locks _ _ _ _ c.args.list.now c.loop-position.position _ _
-    c.loop-position-test.true refl c.loop-position.invariant c.in-Locked.ensures
+    c.loop-position-test.true refl c.loop-position.invariant c.in-Locked.ensures.0
 
 pub returns : goal.returns
 returns g c = way_ends _ _ _ c.args.list.now c.loop-position.position _ c.loop-position-test.false c.loop-position.invariant

@@ -1,4 +1,4 @@
-use Rattle.ww_lock.proofs.Carrying.{here, may_draw, begins}
+use Rattle.ww_lock.proofs.Carrying.{here, may_draw, begins_some}
 use Rattle.ww_lock.proofs.hand.Hand.begin.Goals as goal
 
 pub begin-requires-clause-seat : goal.begin-requires-clause-seat
@@ -10,6 +10,6 @@ begin-requires-clause-may c = may_draw c.args.self.now c.requires.fresh.carries 
 pub returns : goal.returns
 returns c =
     let e = c.begin.ensures in
-    let b = begins c.args.self.now c.args.world.now _ c.begin.new.seat c.begin.result c.world.view_is
-    c.requires.home c.requires.fresh c.requires.draws e.seat e.records e.begun e.context in
-    record { fresh = b.fresh; begun = b.is; stamp = b.stamped; unmet = e.begun.unmet }
+    let b = begins_some c.args.self.now c.args.world.now _ c.begin.new.seat c.begin.result (e.few c.world.invariant.2) c.world.view_is
+    c.requires.home c.requires.fresh c.requires.draws e.seat e.records e.begun e.stayed_out e.context in
+    record { fresh = b.0.fresh; begun = b.0.is; stamp = b.0.stamped; unmet = b.1 }

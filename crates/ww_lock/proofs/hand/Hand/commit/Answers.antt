@@ -21,9 +21,9 @@ commit-place-requires-clause-owner c =
       before = i.before.value;
       after = graph_after i.before.value t;
     } in
-    let r : Record = record (i.record) { caller = c.who.result; seq = c.commits-seq.result } in
+    let r : Record = record (i.record) { caller = c.caller.result; seq = c.commits-seq.result } in
     (may_commit c.args.self.now p r c.requires.fresh
-    (subst (IsMade (holding_of c.args.self.now)) (sym c.prepared.view_is) c.requires.made) c.who.ensures
+    (subst (IsMade (holding_of c.args.self.now)) (sym c.prepared.view_is) c.requires.made) c.caller.ensures
     c.commits-seq.ensures c.prepared.invariant.next.fits).owner
 
 pub commit-place-requires-clause-held : goal.commit-place-requires-clause-held
@@ -36,9 +36,9 @@ commit-place-requires-clause-held c =
       before = i.before.value;
       after = graph_after i.before.value t;
     } in
-    let r : Record = record (i.record) { caller = c.who.result; seq = c.commits-seq.result } in
+    let r : Record = record (i.record) { caller = c.caller.result; seq = c.commits-seq.result } in
     (may_commit c.args.self.now p r c.requires.fresh
-    (subst (IsMade (holding_of c.args.self.now)) (sym c.prepared.view_is) c.requires.made) c.who.ensures
+    (subst (IsMade (holding_of c.args.self.now)) (sym c.prepared.view_is) c.requires.made) c.caller.ensures
     c.commits-seq.ensures c.prepared.invariant.next.fits).held
 
 pub returns : goal.returns
@@ -51,13 +51,13 @@ returns c =
       before = i.before.value;
       after = graph_after i.before.value t;
     } in
-    let r : Record = record (i.record) { caller = c.who.result; seq = c.commits-seq.result } in
+    let r : Record = record (i.record) { caller = c.caller.result; seq = c.commits-seq.result } in
     let e = c.commit-place.ensures in
     let g : Hand = record (c.args.self.now) { seat = c.commit-place.new.seat } in
     let told : Receipt = record { place = c.commit-place.result; seq = c.commits-seq.result; reply = i.reply } in
     let b = commits c.args.self.now c.args.world.now _ c.commit-place.new.seat p r _ _ told c.world.view_is
-    c.requires.home c.requires.fresh e.seat e.committed
-    (rw (c.who.ensures, c.commits-seq.ensures) refl) c.commits-seq.ensures c.prepared.invariant.reply e.capacity in
+    c.requires.home c.requires.fresh e.seat e.committed e.stayed_out
+    (rw (c.caller.ensures, c.commits-seq.ensures) refl) c.commits-seq.ensures c.prepared.invariant.reply e.capacity in
     record {
       carries = b.carries;
       committed =

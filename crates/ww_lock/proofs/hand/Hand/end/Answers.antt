@@ -15,5 +15,5 @@ pub returns : goal.returns
 returns c =
     let e = c.end.ensures in
     let b = ends c.args.self.now c.args.world.now _ c.end.new.seat c.world.view_is c.requires.home
-    c.requires.carries e.seat e.records e.ended in
+    c.requires.carries e.seat e.records e.ended e.stayed_out in
     record { carries = b.carries; ended = b.is }

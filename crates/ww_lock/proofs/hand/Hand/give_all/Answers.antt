@@ -5,8 +5,9 @@ use Rattle.ww_lock.specs.Holding.{Holding}
 use Rattle.ww_lock.specs.Carried.{holding_of, held_of}
 use Rattle.ww_seat.specs.Accounts.{Account}
 use Rattle.ww_seat.proofs.Gives.{given_then}
+use Rattle.ww_seat.proofs.Debts.{paid_still}
 use Rattle.ww_seat.specs.Bells.{leads_to}
-use Rattle.ww_lock.proofs.Carrying.{here, at_table, bells_at, placed_after, top_held, held_there, none_held, gives, home_as}
+use Rattle.ww_lock.proofs.Carrying.{here, at_table, bells_at, placed_after, even_still, even_after, paid_slice, top_held, held_there, none_held, gives, home_as}
 use Rattle.ww_lock.proofs.hand.Hand.give_all.Goals as goal
 
 pub top-requires : goal.top-requires
@@ -65,7 +66,10 @@ loop-n-preserved g c =
     let v = gives h now c.args.world.now _ c.give_node_at_once.new.seat c.in-Some.n c.world.view_is
     (home_as c.args.self.now h c.args.world.now i.same c.requires.home) i.carries
     (top_held h c.in-Some.n t.0 t.1 i.carries t.2) e.settled e.records
-    (e.given c.if-not-give_node_at_once.false) (record { bells = refl; parker = refl }) refl refl refl refl in
+    (e.given c.if-not-give_node_at_once.false) e.stayed_out.deaf (record { bells = refl; parker = refl })
+    (even_still h now c.give_node_at_once.new.seat refl refl (record { parker = refl; heard = refl })
+    (ap (λ (a : Account). a.counts.cancelled) (e.given c.if-not-give_node_at_once.false)) e.stayed_out i.carries.even)
+    refl refl refl refl in
     record { carries = v.carries; same = v.is ∙ ap (λ (s : Holding). record s { held = held_of now }) i.same }
 
 pub loop-n-smaller : goal.loop-n-smaller
@@ -78,7 +82,10 @@ loop-n-smaller g c =
     let v = gives h now c.args.world.now _ c.give_node_at_once.new.seat c.in-Some.n c.world.view_is
     (home_as c.args.self.now h c.args.world.now i.same c.requires.home) i.carries
     (top_held h c.in-Some.n t.0 t.1 i.carries t.2) e.settled e.records
-    (e.given c.if-not-give_node_at_once.false) (record { bells = refl; parker = refl }) refl refl refl refl in
+    (e.given c.if-not-give_node_at_once.false) e.stayed_out.deaf (record { bells = refl; parker = refl })
+    (even_still h now c.give_node_at_once.new.seat refl refl (record { parker = refl; heard = refl })
+    (ap (λ (a : Account). a.counts.cancelled) (e.given c.if-not-give_node_at_once.false)) e.stayed_out i.carries.even)
+    refl refl refl refl in
     v.fewer
 
 pub loop-n-preserved-then-not-give_node_at_once : goal.loop-n-preserved-then-not-give_node_at_once
@@ -98,7 +105,13 @@ loop-n-preserved-then-not-give_node_at_once g c =
     let v = gives h now c.args.world.now _ c.give_waited.new.seat c.in-Some.n c.world.view_is
     (home_as c.args.self.now h c.args.world.now i.same c.requires.home) i.carries
     (top_held h c.in-Some.n t.0 t.1 i.carries t.2) w.settled (w.records ∙ e.records) given
-    (record { bells = placed_after h.bells _ _ c.deref_mut.ensures.value w.placed; parker = refl }) refl refl
+    (w.awake.deaf ∙ e.stayed_out.deaf)
+    (record { bells = placed_after h.bells _ _ c.deref_mut.ensures.value w.placed; parker = refl })
+    (even_after h now c.give_waited.new.seat _ c.give_waited.new.bells c.deref_mut.ensures.value w.placed refl refl
+    (w.paid (paid_still h.seat.seat.me c.give_node_at_once.new.seat.seat.me _
+    (ap (λ (a : Account). a.counts.cancelled) (e.still c.if-not-give_node_at_once.true)) e.stayed_out.debts
+    (paid_slice h _ c.deref_mut.ensures.value i.carries.even)))
+    (i.carries.even.slept ∙ sym (w.awake.naps ∙ e.stayed_out.naps))) refl refl
     refl refl in
     record { carries = v.carries; same = v.is ∙ ap (λ (s : Holding). record s { held = held_of now }) i.same }
 
@@ -119,7 +132,13 @@ loop-n-smaller-then-not-give_node_at_once g c =
     let v = gives h now c.args.world.now _ c.give_waited.new.seat c.in-Some.n c.world.view_is
     (home_as c.args.self.now h c.args.world.now i.same c.requires.home) i.carries
     (top_held h c.in-Some.n t.0 t.1 i.carries t.2) w.settled (w.records ∙ e.records) given
-    (record { bells = placed_after h.bells _ _ c.deref_mut.ensures.value w.placed; parker = refl }) refl refl
+    (w.awake.deaf ∙ e.stayed_out.deaf)
+    (record { bells = placed_after h.bells _ _ c.deref_mut.ensures.value w.placed; parker = refl })
+    (even_after h now c.give_waited.new.seat _ c.give_waited.new.bells c.deref_mut.ensures.value w.placed refl refl
+    (w.paid (paid_still h.seat.seat.me c.give_node_at_once.new.seat.seat.me _
+    (ap (λ (a : Account). a.counts.cancelled) (e.still c.if-not-give_node_at_once.true)) e.stayed_out.debts
+    (paid_slice h _ c.deref_mut.ensures.value i.carries.even)))
+    (i.carries.even.slept ∙ sym (w.awake.naps ∙ e.stayed_out.naps))) refl refl
     refl refl in
     v.fewer
 

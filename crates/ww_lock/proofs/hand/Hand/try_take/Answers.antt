@@ -1,7 +1,9 @@
 use Rattle.std.proofs.Common.{ℕ, ap, arith, inl, inr, refl, subst, sym, ◌∙◌, true≢false}
 use Rattle.ww_view.specs.View.{owns}
+use Rattle.ww_seat.specs.Accounts.{Account}
+use Rattle.ww_seat.specs.Bells.{heard}
 use Rattle.ww_seat.specs.Calls.{HasTakenAtOnce}
-use Rattle.ww_lock.proofs.Carrying.{here, at_table, bare_of, takes, taken_at_once, missed}
+use Rattle.ww_lock.proofs.Carrying.{here, at_table, bare_of, even_still, takes, taken_at_once, missed}
 use Rattle.ww_table.specs.declared.seat.Seat16.{Seat16}
 use Rattle.ww_lock.proofs.hand.Hand.try_take.Goals as goal
 
@@ -37,7 +39,12 @@ returns-in-Some c =
     let t = takes c.args.self.now now c.args.world.now _ c.try_take_node.new.seat _ c.args.n
     c.in-Some.node c.world.view_is c.requires.home c.requires.fresh c.requires.node c.requires.new e.seat
     e.records took
-    (record { bells = added.alike.bells; parker = c.win.ensures ∙ added.alike.parker }) added.seat added.same added.marks added.seen in
+    (record { bells = added.alike.bells; parker = c.win.ensures.parker ∙ added.alike.parker })
+    (even_still c.args.self.now now c.try_take_node.new.seat added.seat added.bells
+    (record {
+      parker = c.win.ensures.parker ∙ added.alike.parker;
+      heard = c.win.ensures.heard ∙ ap heard added.patience;
+    }) (ap (λ (a : Account). a.counts.cancelled) took.now) e.stayed_out c.requires.fresh.carries.even) added.seat added.same added.marks added.seen in
     record {
       fresh = t.fresh;
       taken = λ _. taken_at_once c.args.self.now now c.args.n c.in-Some.node c.requires.new t;
@@ -45,14 +52,19 @@ returns-in-Some c =
       lost = λ f. absurd (true≢false f);
       unmet = λ _. ap (λ (s : Seat16). s.seat.me.0.part.core.met) added.seat ∙ took.unmet;
       met = λ f. absurd (true≢false f);
+      heeds = ap (λ (s : Seat16). s.seat.me.0.part.core.deaf) added.seat ∙ e.stayed_out.deaf;
     }
 
 pub returns-in-None : goal.returns-in-None
 returns-in-None c =
     let e = c.try_take_node.ensures in
     let k = missed c.args.self.now c.args.world.now _ c.try_take_node.new.seat c.args.self.now
-    (record { bells = refl; parker = refl }) c.world.view_is c.requires.home c.requires.fresh e.seat e.records
-    c.in-None.ensures.none in
+    (record { bells = refl; parker = refl })
+    (even_still c.args.self.now (record (c.args.self.now) { seat = c.try_take_node.new.seat }) c.try_take_node.new.seat
+    refl refl (record { parker = refl; heard = refl })
+    (ap (λ (a : Account). a.counts.cancelled) c.in-None.ensures.none) e.stayed_out c.requires.fresh.carries.even)
+    c.world.view_is c.requires.home c.requires.fresh e.seat e.records
+    c.in-None.ensures.none e.stayed_out.deaf in
     record {
       fresh = k.0;
       taken = λ f. absurd (true≢false (sym f));
@@ -60,4 +72,5 @@ returns-in-None c =
       lost = λ _. record { tried = c.in-None.ensures.tried; signs = c.in-None.ensures.signs };
       unmet = λ f. absurd (true≢false (sym f));
       met = λ _. c.in-None.ensures.met;
+      heeds = e.stayed_out.deaf;
     }

@@ -1,13 +1,13 @@
-use Rattle.std.proofs.Common.{ℕ, ap, arith, inl, inr, subst, sym, length, ◌∙◌}
+use Rattle.std.proofs.Common.{ℕ, ap, arith, inl, inr, refl, subst, sym, length, ◌∙◌}
 use Rattle.std.specs.Vec.{with_items}
 use Rattle.std.proofs.lemmas.List.{length-map}
 use Rattle.std.proofs.lemmas.Result.{err_from_is_err_and}
 use Rattle.ww_view.specs.View.{owns}
 use Rattle.ww_table.specs.declared.seat.Seat16.{Seat16}
-use Rattle.ww_seat.specs.Calls.{HasTaken, IsTurnedAway}
-use Rattle.ww_seat.specs.Bells.{leads_to}
+use Rattle.ww_seat.specs.Calls.{HasTaken, IsTurnedAway, MayStop}
+use Rattle.ww_seat.specs.Bells.{heard, leads_to}
 use Rattle.ww_lock.specs.Carried.{IsPlacedAlike}
-use Rattle.ww_lock.proofs.Carrying.{here, at_table, bells_at, placed_after, bare_of, takes, taken_late, turned_away, turned_fresh}
+use Rattle.ww_lock.proofs.Carrying.{here, at_table, bells_at, placed_after, even_after, paid_slice, bare_of, takes, taken_late, turned_away, turned_fresh}
 use Rattle.ww_lock.proofs.hand.Hand.wait_for.Goals as goal
 
 pub wait_for-requires-clause-settled : goal.wait_for-requires-clause-settled
@@ -48,12 +48,15 @@ returns g c =
     (record {
       bells = added.alike.bells ∙ placed_after c.args.self.now.bells _ _ c.deref_mut.ensures.value e.placed;
       parker = added.alike.parker ∙ e.parker;
-    }) added.seat added.same added.marks added.seen in
+    })
+    (even_after c.args.self.now c.add.new.self c.wait_for.new.seat _ c.wait_for.new.bells c.deref_mut.ensures.value
+    e.placed added.seat added.bells e.paid (ap heard added.patience ∙ e.slept)) added.seat added.same added.marks added.seen in
     record {
       fresh = t.fresh;
       taken = λ s was. taken_late c.args.self.now c.add.new.self c.args.n c.in_ok-node.node s c.requires.new t was;
       stopped = tt;
       waits = tt;
+      heeds = λ until. ap (λ (s : Seat16). s.seat.me.0.part.core.deaf) added.seat ∙ e.deaf until;
       turned_away = tt;
       unmet = ap (λ (s : Seat16). s.seat.me.0.part.core.met) added.seat ∙ took.unmet;
     }
@@ -67,13 +70,22 @@ returns-in_err-node g c =
     let p = err_from_is_err_and c.from_residual.result c.from_residual.ensures.1 in
     let now = record h { patience = c.wait_for.new.patience; bells = with_items h.bells c.wait_for.new.bells } in
     let alike : IsPlacedAlike h now = record { bells = placed_after h.bells _ _ c.deref_mut.ensures.value e.placed; parker = e.parker } in
+    let even = even_after h (record now { seat = c.wait_for.new.seat }) c.wait_for.new.seat _ c.wait_for.new.bells
+    c.deref_mut.ensures.value e.placed refl refl e.paid e.slept in
     rw (p.1, p.2) (record {
-      fresh = turned_fresh h c.args.world.now _ c.wait_for.new.seat now c.args.n why alike c.world.view_is
-          c.requires.home c.requires.fresh e.settled e.records d;
+      fresh = turned_fresh _ h c.args.world.now _ c.wait_for.new.seat now c.args.n c.args.waits why alike even c.world.view_is
+          c.requires.home c.requires.fresh e.settled e.records d c.in_err-node.ensures.waits e.deaf;
       taken = tt;
-      stopped = λ s was. turned_away h c.args.world.now _ c.wait_for.new.seat now c.args.n why s alike
-          c.world.view_is c.requires.home c.requires.fresh c.requires.new e.settled e.records d was;
-      waits = c.in_err-node.ensures.waits;
+      stopped = λ s was. turned_away _ h c.args.world.now _ c.wait_for.new.seat now c.args.n c.args.waits why s alike even
+          c.world.view_is c.requires.home c.requires.fresh c.requires.new e.settled e.records d c.in_err-node.ensures.waits e.deaf was;
+      waits = subst (λ (n : ℕ). MayStop n c.args.waits why) c.world.invariant.2 c.in_err-node.ensures.waits;
+      heeds = e.deaf;
       turned_away = d;
       unmet = tt;
     })
+
+pub wait_for-requires-clause-paid : goal.wait_for-requires-clause-paid
+wait_for-requires-clause-paid g c = paid_slice c.args.self.now _ c.deref_mut.ensures.value c.requires.fresh.carries.even
+
+pub wait_for-requires-clause-slept : goal.wait_for-requires-clause-slept
+wait_for-requires-clause-slept g c = c.requires.fresh.carries.even.slept

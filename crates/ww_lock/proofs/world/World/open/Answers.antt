@@ -1,4 +1,4 @@
-use Rattle.std.proofs.Common.{ℕ, List, length, subst, arith}
+use Rattle.std.proofs.Common.{ℕ, List, length, subst, ◌∙◌, arith}
 use Rattle.ww_plain.specs.declared.node.Node.{Node}
 use Rattle.ww_rule.specs.Rule.{first_graph}
 use Rattle.ww_seat.specs.declared.bell.Wire.{Wire}
@@ -21,7 +21,7 @@ returns-in-Ok-fresh-clause-ok c =
     let count = c.in-Ok-rests.ensures.wires in
     let made = subst (λ (ws : List Wire). AreFresh all w.first (home_at c.in-Ok-make.made.0 ws)
     (length c.in-Ok-make.made.1.items) c.args.budget) c.deref.ensures.value c.in-Ok-fresh.ensures.ok in
-    let fresh = subst (λ (k : ℕ). AreFresh all w.first w.home k c.args.budget) m.seats_are.many made in record {
+    let fresh = subst (λ (k : ℕ). AreFresh all w.first w.home k c.args.budget) (m.seats_are.many ∙ c.from-2.ensures) made in record {
       sizes = record {
         some = omega (arith, c.if-passes-eq0.false);
         few = omega (arith, c.if-passes-gt-MAX_PASSES.false);

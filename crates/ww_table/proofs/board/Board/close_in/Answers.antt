@@ -18,7 +18,9 @@ unreachable-requires c = let f = c.close_with.ensures.values.2 in let size = c.a
     c.gather-token.result.id c.gather-token.result c.args.seats.items _ c.gather-token.new.places f.1.1
     c.requires.come c.gather-token.ensures
     (slots_items c.close_with.result.slots) c.nodes_of-nodes.result.items f.4 (n.many ∙ size) (λ k x low e. n.same k x (omega arith) e) in
-    true≢false (sym (c.in_default.ensures.ok.1 (subst IsGraph (sym are) f.1.0.counted.graph)))
+    let r = f.1.0.counted in
+    let is : IsGraph _ = record { some = omega (arith, c.requires.graph, r.size); few = r.graph.few; closed = r.graph.closed } in
+    true≢false (sym (c.in_default.ensures.ok.1 (subst IsGraph (sym are) is)))
 
 pub returns : goal.returns
 returns c = let f = c.close_with.ensures.values.2 in let size = c.args.self.size_is in

@@ -1,7 +1,7 @@
 use Rattle.std.proofs.Common.{arith, ap, sym, refl, ◌∙◌, eqb-true, eq-eqb, true≢false, inl}
 use mathlib.Core.Logic.{dite}
 use native.Mathlib.Decide.{ℕ_discrete}
-use Rattle.ww_word.specs.Owner.{packed}
+use Rattle.ww_word.specs.AnySeats.{packed}
 use Rattle.ww_rule.specs.Out.{numbers_of}
 use Rattle.ww_rule.proofs.InsideSteps.{asks_lock}
 use Rattle.ww_table.proofs.Seated.{seated_as}
@@ -14,7 +14,7 @@ compare_exchange-requires c = let s = c.requires.seat in let small = c.requires.
       s.home,
       (let z = c.args.board.now.sized.0 in let fits = c.args.board.now.fits in omega arith),
       asks_lock _ _ _
-          _ c.args.lock c.args.seen _ _ _ word c.pack-old.ensures c.pack-new.ensures s.seated c.requires.may
+          _ c.args.lock c.args.seen _ _ _ word c.pack-old.ensures (c.pack-new.ensures ∙ ap packed c.with_flags.ensures) s.seated c.requires.may
           c.requires.valid,
     )
 

@@ -1,8 +1,9 @@
-use Rattle.std.proofs.Common.{◌==◌, ◌+◌, arith, ap, sym, refl, ◌∙◌, subst, ◌∷◌, inr}
+use Rattle.std.proofs.Common.{ℕ, ◌==◌, ◌+◌, arith, ap, sym, refl, ◌∙◌, subst, ◌∷◌, inr}
 use Rattle.atomic_table.specs.Table.{rest}
-use Rattle.ww_word.specs.Owner.{IsValid}
+use Rattle.ww_word.specs.AnySeats.{IsValid}
 use Rattle.ww_rule.specs.declared.cells.Cell.TheVariants.{Content, Line}
 use Rattle.ww_rule.specs.declared.cells.Sight.{Sight}
+use Rattle.ww_view.specs.Word.{given_word}
 use Rattle.ww_rule.specs.Rule.{Sat}
 use Rattle.ww_rule.specs.Out.{numbers_of, AreOthers}
 use Rattle.ww_rule.specs.Waiting.{IsStillThere, giving_inside}
@@ -18,8 +19,8 @@ bring-requires-clause-out c = let out = c.requires.out in
     (Content out.0, node_out _ _ c.args.lock out.0 c.next_owner-owner.ensures.read out.1)
 
 pub pack-new-requires : goal.pack-new-requires
-pack-new-requires c = subst IsValid (sym c.next_owner-owner.ensures.owner)
-    (given_valid (c.args.seen.flags == 3) c.args.self.now.seat.me.0.part.core.list c.requires.waiters)
+pack-new-requires c = subst IsValid (sym (c.next_owner-owner.ensures.owner ∙ ap (λ (f : ℕ). given_word (f == 3) c.args.self.now.seat.me.0.part.core.list) c.flags.ensures))
+    (given_valid (c.args.seen.flags == 3) c.args.self.now.seat.me.0.part.core.seats c.args.self.now.seat.me.0.part.core.list c.requires.waiters)
 
 pub compare_exchange-requires : goal.compare_exchange-requires
 compare_exchange-requires c = let r = c.next_owner-owner.ensures in let b = c.bring.ensures in let out = c.requires.out in
@@ -30,7 +31,7 @@ compare_exchange-requires c = let r = c.next_owner-owner.ensures in let b = c.br
           omega arith),
       gives_with_list _ _ _ c.args.self.now.seat.me.0 _ c.args.lock c.args.seen c.next_owner-owner.result out.0
           b.slots.1 _ _ _ (b.view ∙ ap (λ (m : Sat). m.0) r.read.now) n.1 c.owner_word.ensures c.pack-old.ensures
-          c.pack-new.ensures r.owner c.requires.seat.seated c.requires.may out.2 c.requires.valid,
+          c.pack-new.ensures (c.next_owner-owner.ensures.owner ∙ ap (λ (f : ℕ). given_word (f == 3) c.args.self.now.seat.me.0.part.core.list) c.flags.ensures) c.requires.seat.seated c.requires.may out.2 c.requires.valid,
     )
 
 pub returns-clause-gave : goal.returns-clause-gave

@@ -1,7 +1,8 @@
-use Rattle.std.proofs.Common.{◌==◌, arith, ap, sym, refl, ◌∙◌, subst, inr}
-use Rattle.ww_word.specs.Owner.{IsValid}
+use Rattle.std.proofs.Common.{ℕ, ◌==◌, arith, ap, sym, refl, ◌∙◌, subst, inr}
+use Rattle.ww_word.specs.AnySeats.{IsValid}
 use Rattle.ww_view.specs.Made.{given}
 use Rattle.ww_rule.specs.declared.cells.Sight.{Sight}
+use Rattle.ww_view.specs.Word.{given_word}
 use Rattle.ww_rule.specs.Rule.{Sat}
 use Rattle.ww_rule.specs.Out.{numbers_of}
 use Rattle.ww_rule.specs.Steps.{knowing}
@@ -12,15 +13,15 @@ use Rattle.ww_table.proofs.Seated.{seated_as}
 use Rattle.ww_table.proofs.seat.Seat16.give_bare_inside.Goals as goal
 
 pub pack-new-requires : goal.pack-new-requires
-pack-new-requires c = subst IsValid (sym c.next_owner-owner.ensures.owner)
-    (given_valid (c.args.seen.flags == 3) c.args.self.now.seat.me.0.part.core.list c.requires.waiters)
+pack-new-requires c = subst IsValid (sym (c.next_owner-owner.ensures.owner ∙ ap (λ (f : ℕ). given_word (f == 3) c.args.self.now.seat.me.0.part.core.list) c.flags.ensures))
+    (given_valid (c.args.seen.flags == 3) c.args.self.now.seat.me.0.part.core.seats c.args.self.now.seat.me.0.part.core.list c.requires.waiters)
 
 pub compare_exchange-requires : goal.compare_exchange-requires
 compare_exchange-requires c = let r = c.next_owner-owner.ensures in (
   r.seat.home,
   (let z = c.args.board.now.sized.0 in let small = c.requires.lock.1 in let word = c.owner_word.ensures in omega arith),
   gives_bare_with_list _ _ _ c.args.self.now.seat.me.0 _ c.args.lock c.args.seen c.next_owner-owner.result _ _ _
-      (ap (λ (m : Sat). m.0) r.read.now) c.owner_word.ensures c.pack-old.ensures c.pack-new.ensures r.owner
+      (ap (λ (m : Sat). m.0) r.read.now) c.owner_word.ensures c.pack-old.ensures c.pack-new.ensures (c.next_owner-owner.ensures.owner ∙ ap (λ (f : ℕ). given_word (f == 3) c.args.self.now.seat.me.0.part.core.list) c.flags.ensures)
       c.requires.lock.0 c.requires.seat.seated c.requires.may c.requires.valid,
 )
 

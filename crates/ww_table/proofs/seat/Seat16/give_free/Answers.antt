@@ -19,7 +19,7 @@ compare_exchange-found-requires c = let s = c.requires.seat in let b = c.bring.e
       (let z = c.args.board.now.sized.0 in let fits = c.args.board.now.fits in omega arith),
       gives_brought _ _ _ c.args.self.now.seat.me.0 _ c.args.lock _ _ _ _ out.0 b.slots.1 b.view
           (b.slots.4 ∙ ap (λ (z : Cell). (c.args.lock, z) ∷ b.slots.1) y) word small s.seated c.requires.away
-          c.requires.owner out.2 s.who s.stamp s.few s.small s.own,
+          c.requires.owner out.2 s.who s.stamp s.fits s.own,
     )
 
 pub returns-then-found-own-clause-seat : goal.returns-then-found-own-clause-seat

@@ -1,9 +1,9 @@
 use Rattle.std.proofs.Common.{◌≡◌, true≢false, ℕ, suc, ◌+◌, arith, ap, sym, refl, ◌∙◌, subst, List, ◌∷◌, inl}
 use Rattle.std.specs.Prelude.{IsSome}
 use Rattle.atomic_table.specs.Table.{rest}
-use Rattle.ww_word.specs.Owner.{packed}
+use Rattle.ww_word.specs.AnySeats.{packed}
 use Rattle.ww_queue.specs.declared.entry.Entry.{Entry}
-use Rattle.ww_queue.specs.Queue.{StandsNot, IsNewStamp, joined}
+use Rattle.ww_queue.specs.Queue.{joined}
 use Rattle.ww_view.specs.Made.{entry_of_view}
 use Rattle.ww_rule.specs.declared.cells.Cell.{Cell}
 use Rattle.ww_rule.specs.declared.cells.Cell.TheVariants.{Line}
@@ -65,8 +65,6 @@ join_list-requires-clause-top c = let v = c.args.self.now.seat.me.0 in let b = c
       v.part.core.list,
       top,
       won.1.room,
-      subst (StandsNot v.part.core.list) c.requires.seat.who won.1.seat,
-      subst (IsNewStamp v.part.core.list) c.requires.seat.stamp won.1.stamp,
     )
 
 pub returns-clause-seat : goal.returns-clause-seat
@@ -101,7 +99,7 @@ returns-clause-joined c = let v = c.args.self.now.seat.me.0 in let b = c.bring.e
     }) (entry_of_view v.part.core) =
     (λ i. record { seat = sym s.who i; stamp = sym s.stamp i; holds = holds i }) in
     let others = ap (λ (k : List (ℕ × Cell)). rest k) l.1 in let list = g.list v.part.core.list top
-    ∙ (λ i. (c.list_slot-slot.ensures i, Line (joined v.part.core.list (entry i))) ∷ others i) in
+    ∙ (λ i. (c.list_slot-slot.ensures i, Line (joined v.part.core.list ((c.of-entry.ensures ∙ entry) i))) ∷ others i) in
     λ _. (b.slots.1, l.0, λ i. ((g.view ∙ b.view ∙ ap (λ (m : Sat). m.0) won.0) i, list i))
 
 pub returns-then-found-old-clause-sure : goal.returns-then-found-old-clause-sure

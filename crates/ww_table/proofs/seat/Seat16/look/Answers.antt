@@ -1,5 +1,5 @@
 use Rattle.std.proofs.Common.{arith, sym, ◌∙◌, subst}
-use Rattle.ww_word.proofs.Words.{packing_is_injective}
+use Rattle.ww_word.proofs.AnyWords.{packing_is_injective}
 use Rattle.ww_rule.specs.Guards.{IsSeenBy}
 use Rattle.ww_rule.proofs.InsideSteps.{looks_inside}
 use Rattle.ww_table.proofs.seat.Seat16.look.Goals as goal
@@ -25,3 +25,9 @@ returns-clause-flags c = let told = c.load-word.ensures.2 in let read = (c.unpac
     let same = packing_is_injective told.0 c.in-Some.owner told.1 read.0 (sym told.2 ∙ sym read.1) in
     (subst (IsSeenBy c.args.self.now.seat.me.0.part.core c.args.lock) same
     (told.4 c.args.lock c.owner_word.ensures)).flags
+
+pub returns-clause-there : goal.returns-clause-there
+returns-clause-there c = let told = c.load-word.ensures.2 in let read = (c.unpack.ensures c.in-Some.owner).0 c.in-Some.is in
+    let same = packing_is_injective told.0 c.in-Some.owner told.1 read.0 (sym told.2 ∙ sym read.1) in
+    (subst (IsSeenBy c.args.self.now.seat.me.0.part.core c.args.lock) same
+    (told.4 c.args.lock c.owner_word.ensures)).there

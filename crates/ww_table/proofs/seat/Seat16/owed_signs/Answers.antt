@@ -1,5 +1,5 @@
-use Rattle.std.proofs.Common.{ap, ◌∙◌, refl}
-use Rattle.ww_queue.specs.Rules.{owed_signs}
+use Rattle.std.proofs.Common.{◌≡◌, ◌++◌, subst, refl, IfSome, IfNone}
+use Rattle.ww_queue.specs.AnySeats.{signs_past}
 use Rattle.ww_table.specs.declared.seat.Seat16.{Seat16}
 use Rattle.ww_rule.proofs.InsideTurning.{list_on_top}
 use Rattle.ww_table.proofs.OnTop.{still_on_top}
@@ -12,10 +12,22 @@ owed_there-requires-clause-top c = let b = c.bring_list-slot.ensures in (_, list
 pub returns-clause-read : goal.returns-clause-read
 returns-clause-read c = still_on_top _ _ _ _ c.bring_list-slot.ensures.read c.owed_there.ensures.same
 
-pub returns-clause-owed : goal.returns-clause-owed
-returns-clause-owed c = let b = c.bring_list-slot.ensures in
-    c.owed_there.ensures.owed _ (list_on_top _ _ _ _ b.read b.slot)
-    ∙ ap (λ (s : Seat16). owed_signs s.kind c.args.seen c.args.self.now.seat.me.0.part.core.list s.who) b.same
+pub returns-clause-all : goal.returns-clause-all
+returns-clause-all c = let b = c.bring_list-slot.ensures in
+    subst (λ (s : Seat16). IfNone c.owed_there.result.1 (c.owed_there.result.0.items
+    ≡ signs_past s.kind c.args.seen c.args.self.now.seat.me.0.part.core.list s.who c.args.from)) b.same
+    (c.owed_there.ensures.all _ (list_on_top _ _ _ _ b.read b.slot))
+
+pub returns-clause-some : goal.returns-clause-some
+returns-clause-some c = let b = c.bring_list-slot.ensures in
+    subst (λ (s : Seat16). IfSome c.owed_there.result.1 (λ next. c.owed_there.result.0.items
+    ++ signs_past s.kind c.args.seen c.args.self.now.seat.me.0.part.core.list s.who next
+    ≡ signs_past s.kind c.args.seen c.args.self.now.seat.me.0.part.core.list s.who c.args.from)) b.same
+    (c.owed_there.ensures.some _ (list_on_top _ _ _ _ b.read b.slot))
+
+pub returns-clause-further : goal.returns-clause-further
+returns-clause-further c = let b = c.bring_list-slot.ensures in
+    c.owed_there.ensures.further _ (list_on_top _ _ _ _ b.read b.slot)
 
 pub returns-clause-seat : goal.returns-clause-seat
 returns-clause-seat c = seated_still _ _ _ (c.bring_list-slot.ensures.seat _ c.requires.seat)

@@ -1,5 +1,5 @@
 use Rattle.std.proofs.Common.{arith, ℕ, List, [], ◌∷◌, ◌++◌, length, Some, ap, sym, refl, ◌∙◌}
-use Rattle.ww_word.specs.Owner.{packed}
+use Rattle.ww_word.specs.AnySeats.{packed}
 use Rattle.ww_rule.proofs.Moves.{takes_free}
 use Rattle.ww_rule.specs.Out.{numbers_of}
 use Rattle.ww_rule.specs.Steps.{taking}

@@ -1,0 +1,478 @@
+"""What crates/ww_live asks of endless runs, of a few seats and locks: without each premise some run keeps the others
+and breaks a law, and where all are kept none does.
+
+A run through finitely many scenes comes to stay in some of them, each of which leads to each. So a search looks for
+such a part, in which the law's conclusion never comes, and each premise that asks for something there finds it there.
+Each seat has a context from the start, seat 0 the oldest. The runs at the end are too long to be searched for, and are
+followed step by step.
+"""
+import collections
+import functools
+
+from scenes import ACTING, ASLEEP, GOING_TO_SLEEP, Impossible, Scenes, core_of, told
+
+WOUND_WAIT, WAIT_DIE = KINDS = ("wound-wait", "wait-die")
+ENDS_OF_WAITS = ("take", "die", "leave")
+EVENTS = "clear fast fast-give guard join sign take ask give die unguard"
+
+# A scene, with the seats that stood in the list when they last went inside a guard, those that have owned a lock ever
+# since they died, and those that died in this context at a lock that they haven't taken since, each with the lock.
+Node = collections.namedtuple("Node", "scene looks_again has_died contended")
+
+
+def has_taken(w, s, n):
+    return core_of(w.state).has_taken(s, n)
+
+
+def stands(w, s, n):
+    return s in core_of(w.state).waiters[n]
+
+
+def waits(w, s):
+    return bool(core_of(w.state).lists(s))
+
+
+def is_inside(w, s, n):
+    return core_of(w.state).inside[n] == s
+
+
+# ---- the premises, as specs/Premises.antt has them
+
+# Whenever the one holds of a scene, the other comes in the end: a step, or the scene after it.
+Asked = collections.namedtuple("Asked", "whenever then")
+
+
+def made(s, n, seats):
+    for t in seats:
+        yield Asked(lambda w, t=t: (t, s) in w.owes, lambda step, w, t=t: step == ("wakes", t, s))
+
+
+def heard(s, n, seats):
+    yield Asked(lambda w: s in w.token and w.phase[s] == ASLEEP, lambda step, w: step == ("rises", s))
+
+
+def settled(s, n, seats):
+    yield Asked(lambda w: w.phase[s] == GOING_TO_SLEEP, lambda step, w: w.phase[s] != GOING_TO_SLEEP)
+
+
+def looks(s, n, seats):
+    yield Asked(lambda w: stands(w, s, n) and w.phase[s] == ACTING, lambda step, w: is_inside(w, s, n))
+
+
+def leaves(s, n, seats):
+    waits_inside = lambda w: stands(w, s, n) and is_inside(w, s, n)
+    yield Asked(waits_inside, lambda step, w: not waits_inside(w))
+
+
+def holders_go_on(s, n, seats):
+    holds = lambda w: has_taken(w, s, n) and not waits(w, s)
+    yield Asked(holds, lambda step, w: not holds(w))
+
+
+def holders_release(s, n, seats):
+    """In a part of scenes that a run stays in, whoever isn't always in the list of one lock is at some time in none."""
+    yield Asked(lambda w: has_taken(w, s, n) and not waits(w, s), lambda step, w: not has_taken(w, s, n))
+
+
+def contexts_end_or_die(s, n, seats):
+    goes_on = lambda w: core_of(w.state).stamp[s] > 0 and not waits(w, s)
+    yield Asked(goes_on, lambda step, w: step[0] in ("end", "die") and step[1] == s)
+
+
+def contexts_end(s, n, seats):
+    """The law asks it of the oldest alone."""
+    goes_on = lambda w: core_of(w.state).stamp[s] > 0 and not waits(w, s)
+    if s == 0:
+        yield Asked(goes_on, lambda step, w: step[0] in ("end", "die", "leave") and step[1] == s)
+
+
+# What is asked of each step, at the scene before it.
+
+
+def sleeps(node, step):
+    return step[0] != "unguard" or not stands(node.scene, *step[1:])
+
+
+def firsts_ask(node, step):
+    if step[0] != "leaves to sleep" or step[1] not in node.looks_again:
+        return True
+    core, (_, s, n) = core_of(node.scene.state), step
+    return core.waiters[n][0] != s or core.handoff[n] or core.is_handed[n]
+
+
+def backs_off(node, step):
+    return step[0] not in ("fast", "join", "take") or step[1] not in node.has_died
+
+
+def takes_contended_first(node, step):
+    return step[0] not in ("fast", "join", "take") or all(n == step[2] for s, n in node.contended if s == step[1])
+
+
+def waits_owning(node, step):
+    """The law asks it of the oldest alone."""
+    return not waits(node.scene, 0) or bool(core_of(node.scene.state).owned(0))
+
+
+OF_STEPS = (sleeps, firsts_ask, backs_off, takes_contended_first, waits_owning)
+WAITERS_GO_ON = (made, heard, settled, looks, leaves, sleeps)
+
+# What is kept in the place of a premise that is left out, since it says less.
+WEAKER = {holders_release: holders_go_on}
+
+
+# ---- the laws, as specs/Theorem.antt has them
+
+
+class Law:
+    """Of which scenes a law says that something comes, and by which steps; a law of a waiter is tried of each seat."""
+
+    def __init__(self, name, asked, concerns, comes, seats=(None,)):
+        self.name, self.asked, self.concerns, self.comes, self.seats = name, asked, concerns, comes, seats
+
+
+def deadlocked(w):
+    """The waiters without those that wait for nobody among them, again and again."""
+    core = core_of(w.state)
+    members = {s for waiters in core.waiters for s in waiters}
+    while True:
+        fewer = {s for s in members if any(core.has_taken(t, n) for n in core.lists(s) for t in members)}
+        if fewer == members:
+            return members
+        members = fewer
+
+
+def somebody_waits(w, s):
+    return any(core_of(w.state).waiters)
+
+
+def oldest_waits(w, s):
+    core = core_of(w.state)
+    return waits(w, 0) and not core.sign[0] and bool(core.owned(0))
+
+
+NO_DEADLOCK_LASTS = Law(
+    "no_deadlock_lasts",
+    WAITERS_GO_ON,
+    lambda w, s: bool(deadlocked(w)),
+    lambda w, step, s: step[0] in ("die", "leave") and step[1] in deadlocked(w),
+)
+SOMEBODY_GOES_ON = Law(
+    "somebody_goes_on",
+    (*WAITERS_GO_ON, holders_go_on),
+    somebody_waits,
+    lambda w, step, s: step[0] in ENDS_OF_WAITS,
+)
+WAITS_END = Law(
+    "waits_end",
+    (*WAITERS_GO_ON, holders_go_on, firsts_ask),
+    somebody_waits,
+    lambda w, step, s: step[0] in ENDS_OF_WAITS and stands(w, *step[1:]),
+)
+NO_LIVELOCK = Law(
+    "no_livelock",
+    (*WAITERS_GO_ON, holders_go_on, backs_off),
+    waits,
+    lambda w, step, s: step[0] in ("fast", "take", "leave") or step[:2] == ("die", s),
+    seats=(0, 1),
+)
+OLDEST_IS_SERVED = Law(
+    "oldest_is_served",
+    (*WAITERS_GO_ON, holders_release, firsts_ask),
+    oldest_waits,
+    lambda w, step, s: step[0] in ("take", "leave") and step[1] == 0,
+)
+OLDEST_ENDS = Law(
+    "oldest_ends",
+    (*WAITERS_GO_ON, holders_release, firsts_ask, contexts_end, waits_owning),
+    lambda w, s: core_of(w.state).stamp[0] > 0,
+    lambda w, step, s: step[0] in ("end", "leave") and step[1] == 0,
+)
+
+CONTEXTS_ARE_SERVED = Law(
+    "contexts_are_served",
+    (*WAITERS_GO_ON, holders_release, contexts_end_or_die, firsts_ask, backs_off, takes_contended_first),
+    lambda w, s: core_of(w.state).stamp[0] > 0 and waits(w, 0),
+    lambda w, step, s: step[0] in ENDS_OF_WAITS and step[1] == 0,
+)
+
+# For each law: the kind, locks, seats and events with which a run that breaks it is searched for, and which premises
+# are left out, one at a time.
+SEARCHES = [
+    (NO_DEADLOCK_LASTS, WOUND_WAIT, 2, 2, EVENTS, WAITERS_GO_ON),
+    (NO_DEADLOCK_LASTS, WAIT_DIE, 2, 2, EVENTS, (leaves,)),
+    (SOMEBODY_GOES_ON, WOUND_WAIT, 1, 2, EVENTS, (made, heard, settled, looks, leaves, holders_go_on)),
+    (SOMEBODY_GOES_ON, WAIT_DIE, 1, 2, EVENTS, (made, heard, settled, looks, leaves, holders_go_on)),
+    (WAITS_END, WOUND_WAIT, 1, 2, EVENTS, (sleeps, firsts_ask)),
+    (WAITS_END, WAIT_DIE, 1, 2, EVENTS, (sleeps, firsts_ask)),
+    (NO_LIVELOCK, WOUND_WAIT, 2, 2, EVENTS, (backs_off,)),
+    (NO_LIVELOCK, WAIT_DIE, 2, 2, EVENTS, (backs_off,)),
+    (OLDEST_IS_SERVED, WOUND_WAIT, 2, 2, EVENTS, (holders_release, firsts_ask)),
+    (OLDEST_ENDS, WOUND_WAIT, 1, 2, EVENTS + " end", (contexts_end,)),
+]
+
+
+# ---- the search
+
+
+def components(nodes, steps):
+    """The parts of these nodes of which each leads to each, by Tarjan's algorithm."""
+    number, low, waiting, is_waiting = {}, {}, [], set()
+    for root in nodes:
+        if root in number:
+            continue
+        work, enter = [], root
+        while enter is not None or work:
+            if enter is not None:
+                number[enter] = low[enter] = len(number)
+                waiting.append(enter)
+                is_waiting.add(enter)
+                work.append((enter, iter(steps[enter])))
+            (node, left), enter = work[-1], None
+            for _, after in left:
+                if after in nodes and after not in number:
+                    enter = after
+                    break
+                if after in is_waiting:
+                    low[node] = min(low[node], number[after])
+            if enter is not None:
+                continue
+            work.pop()
+            if work:
+                low[work[-1][0]] = min(low[work[-1][0]], low[node])
+            if low[node] == number[node]:
+                part = set()
+                while node not in part:
+                    part.add(waiting.pop())
+                is_waiting -= part
+                yield part
+
+
+class Runs:
+    """The nodes to which steps lead that keep these conditions, by number, and the steps from each."""
+
+    def __init__(self, kind, locks, seats, names, conditions):
+        self.scenes, self.locks = Scenes(kind, locks, seats, names, begun=True), range(locks)
+        self.conditions = conditions
+        self.nodes, self.steps, self.before = [self.start()], [], [None]
+        numbers = {self.nodes[0]: 0}
+        while len(self.steps) < len(self.nodes):
+            at, found = len(self.steps), []
+            for step, after in self.steps_of(self.nodes[at]):
+                if after not in numbers:
+                    numbers[after] = len(self.nodes)
+                    self.nodes.append(after)
+                    self.before.append((at, step))
+                found.append((step, numbers[after]))
+            self.steps.append(found)
+
+    def start(self):
+        return Node(self.scenes.start, frozenset(), frozenset(), frozenset())
+
+    def steps_of(self, node):
+        """A look at the own cancel is one of them, which finds none and changes nothing here."""
+        for step, w in self.scenes.steps_of(node.scene):
+            if all(may(node, step) for may in self.conditions):
+                yield step, Node(w, *self.memory(node, step, w))
+        for s in self.scenes.seats:
+            if node.scene.phase[s] == ACTING:
+                yield ("finds no cancel", s), node
+                return
+
+    def memory(self, node, step, w):
+        """What the conditions have to know of the steps before."""
+        name, s, again, died, contended = *step[:2], *node[1:]
+        if name == "guard" and firsts_ask in self.conditions:
+            again = again | {s} if stands(node.scene, *step[1:]) else again - {s}
+        if backs_off in self.conditions:
+            died = died | {s} if (name == "die" or s in died) and core_of(w.state).owned(s) else died - {s}
+        if takes_contended_first in self.conditions:
+            its = {it for it in contended if it[0] == s}
+            contended = contended | {step[1:]} if name == "die" else contended
+            contended = contended - (its if name == "end" else {step[1:]} if name in ("fast", "take") else set())
+        return again, died, contended
+
+    def scene(self, number):
+        return self.nodes[number].scene
+
+    def asked(self, premises):
+        """What these ask, of each seat and lock."""
+        every = [(s, n, self.scenes.seats) for s in self.scenes.seats for n in self.locks]
+        return [it for premise in premises if premise not in OF_STEPS for of in every for it in premise(*of)]
+
+    def part_to_stay_in(self, nodes, steps, asked):
+        """A part in which a run can stay, and whatever is asked there comes there; or None."""
+        ahead = [nodes]
+        while ahead:
+            for part in components(ahead.pop(), steps):
+                inner = [(step, after) for node in part for step, after in steps[node] if after in part]
+                if not inner:
+                    continue
+                missed = [it for it in asked if not any(it.then(step, self.scene(after)) for step, after in inner)]
+                left = {node for node in part if not any(it.whenever(self.scene(node)) for it in missed)}
+                if left == part:
+                    return part
+                if left:
+                    ahead.append(left)
+        return None
+
+    def way(self, start, goal, part, steps):
+        """The steps of a shortest way within the part by a step that is such, and where it ends."""
+        before, ahead = {start: None}, collections.deque([start])
+        while True:
+            at = ahead.popleft()
+            for step, after in steps[at]:
+                if after in part and goal(step, after):
+                    said = [step]
+                    while before[at]:
+                        at, step = before[at]
+                        said.append(step)
+                    return said[::-1], after
+                if after in part and after not in before:
+                    before[after] = (at, step)
+                    ahead.append(after)
+
+    def run_in(self, part, steps, asked):
+        """The steps to the part, and a round there in which all that is asked comes."""
+        first, to, again = min(part), [], []
+        node = at = first
+        while self.before[node]:
+            node, step = self.before[node]
+            to.append(step)
+        for it in asked:
+            if any(it.whenever(self.scene(node)) for node in part):
+                more, at = self.way(at, lambda step, after, it=it: it.then(step, self.scene(after)), part, steps)
+                again += more
+        if at != first or not again:
+            again += self.way(at, lambda step, after: after == first, part, steps)[0]
+        return to[::-1], again
+
+    def run_that_breaks(self, law, premises):
+        """Its steps to where it goes round and those of the round, or None; and of how many scenes the law speaks."""
+        asked, spoken_of = self.asked(premises), 0
+        for s in law.seats:
+            nodes = {number for number, node in enumerate(self.nodes) if law.concerns(node.scene, s)}
+            steps = {it: [go for go in self.steps[it] if not law.comes(self.scene(it), go[0], s)] for it in nodes}
+            spoken_of += len(nodes)
+            part = self.part_to_stay_in(nodes, steps, asked)
+            if part:
+                return self.run_in(part, steps, asked), spoken_of
+        return None, spoken_of
+
+
+def texts(steps):
+    return "; ".join(map(told, steps))
+
+
+# ---- the runs that are followed
+
+# In Wound-Wait the oldest, seat 0, waits for its first lock. Seat 3 has that, and waits for lock 1, which 1 and 2, both
+# older than it, pass to and fro. In Wait-Die the oldest has a lock and waits for one of seat 2, which waits for lock 1.
+# Whenever it would have to die there, since seat 1 is ahead of it, it looks too late: 3 has taken the lock past the
+# list. Nobody dies in the one run; in the other 1 and 3 do so again and again, at the lock where 0 waits.
+FOLLOWED = [
+    (
+        OLDEST_ENDS,
+        waits_owning,
+        WOUND_WAIT,
+        2,
+        4,
+        "fast 3 0; fast 1 1; guard 3 1; join 3 1; finds no sign 3; leaves to sleep 3 1; falls asleep 3; guard 0 0; "
+        "join 0 0; leaves to sleep 0 0; falls asleep 0",
+        "guard 2 1; join 2 1; leaves to sleep 2 1; falls asleep 2; guard 1 1; give 1 1; unguard 1 1; wakes 1 2; "
+        "rises 2; guard 2 1; take 2 1; unguard 2 1; guard 1 1; join 1 1; leaves to sleep 1 1; falls asleep 1; "
+        "guard 2 1; give 2 1; unguard 2 1; wakes 2 1; rises 1; guard 1 1; take 1 1; unguard 1 1",
+    ),
+    (
+        CONTEXTS_ARE_SERVED,
+        contexts_end_or_die,
+        WAIT_DIE,
+        3,
+        4,
+        "fast 0 2; fast 2 0; fast 3 1; guard 2 1; join 2 1; leaves to sleep 2 1; falls asleep 2; guard 0 0; join 0 0; "
+        "leaves to sleep 0 0; falls asleep 0",
+        "guard 1 1; join 1 1; sign 1 2; leaves to sleep 1 1; wakes 1 2; falls asleep 1; guard 3 1; give 3 1; "
+        "unguard 3 1; wakes 3 1; rises 1; guard 1 1; take 1 1; unguard 1 1; guard 1 1; give 1 1; unguard 1 1; "
+        "guard 3 1; take 3 1; unguard 3 1; wakes 1 2; rises 2; guard 2 1; clear 2; ask 2 1; leaves to sleep 2 1; "
+        "falls asleep 2",
+    ),
+    (
+        CONTEXTS_ARE_SERVED,
+        takes_contended_first,
+        WAIT_DIE,
+        3,
+        4,
+        "fast 0 2; fast 2 0; fast 3 1; guard 2 1; join 2 1; leaves to sleep 2 1; falls asleep 2; guard 0 0; join 0 0; "
+        "leaves to sleep 0 0; falls asleep 0",
+        "guard 1 1; join 1 1; sign 1 2; leaves to sleep 1 1; wakes 1 2; falls asleep 1; guard 3 1; give 3 1; "
+        "unguard 3 1; wakes 3 1; rises 1; guard 1 1; take 1 1; unguard 1 1; guard 1 0; join 1 0; die 1 0; unguard 1 0; "
+        "guard 1 1; give 1 1; unguard 1 1; wakes 1 2; guard 3 1; take 3 1; unguard 3 1; guard 3 0; join 3 0; die 3 0; "
+        "unguard 3 0; guard 3 1; give 3 1; unguard 3 1; wakes 3 2; guard 3 1; take 3 1; unguard 3 1; rises 2; "
+        "guard 2 1; clear 2; ask 2 1; leaves to sleep 2 1; falls asleep 2",
+    ),
+]
+
+
+class Followed(Runs):
+    """The nodes of one run that goes round in the end, and in the end only."""
+
+    def __init__(self, kind, locks, seats, names, conditions, to, again):
+        self.scenes, self.locks = Scenes(kind, locks, seats, names, begun=True), range(locks)
+        self.conditions, self.steps = conditions, []
+        self.nodes = [self.start()]
+        # Once round before the round that counts, so that what the conditions remember is what it is ever after.
+        for words in "; ".join((to, again)).split("; "):
+            self.nodes = [self.after(self.nodes[-1], words)[1]]
+        for words in again.split("; "):
+            step, after = self.after(self.nodes[-1], words)
+            self.steps.append([(step, len(self.nodes))])
+            self.nodes.append(after)
+        self.closes = self.nodes.pop() == self.nodes[0]
+        self.steps[-1] = [(step, 0)]
+
+    def after(self, node, words):
+        for step, after in self.steps_of(node):
+            if told(step) == words:
+                return step, after
+        raise Impossible(words)
+
+
+def breaks(law, premises, kind, locks, seats, to, again):
+    """Whether that is a run which keeps these premises, and the law's conclusion never comes in it."""
+    try:
+        runs = Followed(kind, locks, seats, EVENTS, of_steps(premises), to, again)
+    except Impossible:
+        return False
+    made = [(runs.scene(it), go[0][0]) for it, go in enumerate(runs.steps)]
+    is_silent = all(law.concerns(w, None) and not law.comes(w, step, None) for w, step in made)
+    nodes = set(range(len(runs.nodes)))
+    return runs.closes and is_silent and runs.part_to_stay_in(nodes, runs.steps, runs.asked(premises)) == nodes
+
+
+def of_steps(premises):
+    return tuple(it for it in OF_STEPS if it in premises)
+
+
+def all_but(premise, premises):
+    kept = [WEAKER.get(it) if it is premise else it for it in premises]
+    return tuple(it for it in kept if it)
+
+
+def premises_matter():
+    """Whether without each premise a run breaks a law, and with all of them none does."""
+    failed, runs_of = False, functools.lru_cache(maxsize=1)(Runs)
+    for law, kind, locks, seats, names, left_out in SEARCHES:
+        for premise in (None, *left_out):
+            kept = all_but(premise, law.asked)
+            found, spoken_of = runs_of(kind, locks, seats, names, of_steps(kept)).run_that_breaks(law, kept)
+            said = "no run breaks it" if not found else "{}; and then for ever: {}".format(*map(texts, found))
+            without = f" without {premise.__name__}" if premise else ""
+            print(f"{kind}, {locks} locks, {seats} seats, {law.name}{without}: {said} ({spoken_of} scenes)")
+            failed |= (found is None) != (premise is None) or not spoken_of
+    for law, premise, *run in FOLLOWED:
+        kind, locks, seats, to, again = run
+        whole, but_one = (breaks(law, it, *run) for it in (law.asked, all_but(premise, law.asked)))
+        is_broken = but_one and not whole
+        said = f"{to}; and then for ever: {again}" if is_broken else "THE RUN DOESN'T BREAK IT"
+        print(f"{kind}, {locks} locks, {seats} seats, {law.name} without {premise.__name__}: {said}")
+        failed |= not is_broken
+    return not failed

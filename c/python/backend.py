@@ -1,0 +1,67 @@
+"""Packs the module ww with its library as a wheel, for pip (build_wheel, by PEP 517), and for tools/dist:
+
+    backend.py FOLDER LIBRARY TAG [FILE..]
+
+writes the wheel for the platform TAG into FOLDER, with these files beside what a wheel says of itself, and prints its
+name. Where SOURCE_DATE_EPOCH is set its files are of that time.
+"""
+import base64
+import hashlib
+import os
+import re
+import subprocess
+import sys
+import sysconfig
+import tempfile
+import time
+import zipfile
+
+C = os.path.dirname(os.path.dirname(os.path.abspath(__file__)))
+NAME = "ww_locks"
+
+
+def read(path):
+    with open(path, "rb") as file:
+        return file.read()
+
+
+def version():
+    """That of the library, as ww.h has it."""
+    return ".".join(re.findall(r"#define WW_VERSION_[A-Z]+ (\d+)", read(f"{C}/ww.h").decode()))
+
+
+def pack(folder, library, platform, more=()):
+    """Writes the wheel of this library into the folder; its name."""
+    number, tag = version(), f"py3-none-{platform}"
+    info = f"{NAME}-{number}.dist-info"
+    metadata = f"Metadata-Version: 2.1\nName: {NAME}\nVersion: {number}\nSummary: proved wound/wait locks\nRequires-Python: >=3.9\n"
+    files = {
+        "ww/__init__.py": read(f"{C}/ww.py"),
+        f"ww/libww.so.{number.split('.', maxsplit=1)[0]}": read(library),
+        f"{info}/METADATA": metadata.encode(),
+        f"{info}/WHEEL": f"Wheel-Version: 1.0\nGenerator: {NAME}\nRoot-Is-Purelib: false\nTag: {tag}\n".encode(),
+    }
+    files |= {f"{info}/{os.path.basename(it)}": read(it) for it in more}
+    sums = {it: base64.urlsafe_b64encode(hashlib.sha256(text).digest()).rstrip(b"=").decode() for it, text in files.items()}
+    record = "".join(f"{it},sha256={sums[it]},{len(text)}\n" for it, text in files.items()) + f"{info}/RECORD,,\n"
+    name = f"{NAME}-{number}-{tag}.whl"
+    stamp = time.gmtime(int(os.environ.get("SOURCE_DATE_EPOCH", time.time())))[:6]
+    with zipfile.ZipFile(os.path.join(folder, name), "w", zipfile.ZIP_DEFLATED) as wheel:
+        for it, text in {**files, f"{info}/RECORD": record.encode()}.items():
+            entry = zipfile.ZipInfo(it, stamp)
+            entry.external_attr = 0o100644 << 16
+            entry.compress_type = zipfile.ZIP_DEFLATED
+            wheel.writestr(entry, text)
+    return name
+
+
+def build_wheel(wheel_directory, config_settings=None, metadata_directory=None):
+    """What pip calls."""
+    with tempfile.TemporaryDirectory() as out:
+        subprocess.run(["make", "-s", "-C", C, f"OUT={out}", f"{out}/libww.so"], check=True)
+        platform = re.sub(r"[-.]", "_", sysconfig.get_platform())
+        return pack(wheel_directory, f"{out}/libww.so", platform)
+
+
+if __name__ == "__main__":
+    print(pack(*sys.argv[1:4], sys.argv[4:]))

@@ -1,0 +1,455 @@
+/*
+ * Edges of ww_mutex.h: what a context in a loop may do after a back-off, who may destroy
+ * and free a mutex when, times that are none, a forked child, and a class that isn't freed.
+ * The step that releases a lock comes by a wrapper (ld --wrap).
+ */
+#include "mutex_test.h"
+#include <signal.h>
+#include <sys/wait.h>
+
+static DEFINE_WD_CLASS(wait_die);
+static struct ww_mutex a, b, d;
+static struct ww_acquire_ctx older, x;
+
+/* ---- a loop, told at `a` with `b` held, which has backed off ---- */
+
+static void begins(void)
+{
+	ww_mutex_init(&a, &wait_die);
+	ww_mutex_init(&b, &wait_die);
+	ww_mutex_init(&d, &wait_die);
+	ww_acquire_init(&older, &wait_die);
+	ww_acquire_init(&x, &wait_die);
+	MUST(!ww_mutex_lock(&a, &older));
+}
+
+static void ends(void)
+{
+	ww_acquire_unlock_all(&x);
+	MUST(!x.acquired && !ww_is_contended(&x));
+	ww_acquire_fini(&x);
+	ww_acquire_fini(&older);
+	MUST(!ww_mutex_destroy(&a) && !ww_mutex_destroy(&b) && !ww_mutex_destroy(&d));
+}
+
+/* In its second body, where nothing is held and the next lock call waits for `a` first. */
+static void in_second_body(void (*what)(void))
+{
+	unsigned bodies = 0;
+
+	begins();
+	ww_until_all_locked(&x) {
+		MUST(++bodies < 4);
+		if (bodies == 2) {
+			what();
+			break;
+		}
+		MUST(!ww_mutex_lock(&b, &x) && ww_mutex_lock(&a, &x) == -EDEADLK && ww_is_contended(&x));
+		ww_retry_on_contention(&x);
+	}
+	MUST(bodies == 2);
+	ends();
+}
+
+static void tries_first(void)
+{
+	MUST(ww_mutex_trylock(&d, &x) && !ww_mutex_trylock(&a, &x));
+	MUST(!ww_mutex_lock(&b, &x) && x.acquired == 2 && ww_mutex_lock(&b, &x) == -EALREADY);
+	ww_mutex_unlock(&a);
+	MUST(!ww_mutex_lock(&a, &x) && ww_mutex_lock(&a, &x) == -EALREADY);
+}
+
+static void tries_in_vain_first(void)
+{
+	MUST(!ww_mutex_trylock(&a, &x));
+	ww_mutex_unlock(&a);
+	MUST(!ww_mutex_lock(&b, &x) && x.acquired == 2);
+	MUST(ww_mutex_trylock(&a, &x) && !ww_mutex_trylock(&a, &x) && x.acquired == 2);
+}
+
+static void locks_slowly_first(void)
+{
+	MUST(ww_mutex_lock_slow_checked(&b, &x) == -EINVAL);
+	ww_mutex_unlock(&a);
+	ww_mutex_lock_slow(&a, &x);
+	MUST(x.acquired == 1 && ww_mutex_lock(&a, &x) == -EALREADY && !ww_mutex_lock(&b, &x));
+}
+
+static void locks_that_first(void)
+{
+	ww_mutex_unlock(&a);
+	MUST(!ww_mutex_lock(&a, &x) && x.acquired == 1 && ww_mutex_lock(&a, &x) == -EALREADY);
+}
+
+/* What was waited for, and released before its own call came, is a mutex like others. */
+static void releases_what_came_first(void)
+{
+	ww_mutex_unlock(&a);
+	MUST(!ww_mutex_lock(&b, &x) && x.acquired == 2);
+	ww_mutex_unlock(&a);
+	MUST(!ww_mutex_lock(&a, &x) && ww_mutex_lock(&a, &x) == -EALREADY);
+}
+
+static void has_a_time(void)
+{
+	struct timespec soon = in_ms(5);
+
+	MUST(ww_mutex_lock_until(&b, &x, &soon) == -ETIMEDOUT && !x.acquired);
+	MUST(ww_mutex_lock_until(&a, &x, &soon) == -ETIMEDOUT && !x.acquired);
+	MUST(!ww_acquire_cancel(&x) && ww_mutex_lock_interruptible(&b, &x) == -EINTR && !x.acquired);
+	ww_mutex_unlock(&a);
+	MUST(!ww_mutex_lock_interruptible(&b, &x) && x.acquired == 2);
+}
+
+static void locks_all(void)
+{
+	struct ww_mutex *list[] = { &b, &a, &d }, *twice[] = { &b, &a, &b };
+
+	ww_mutex_unlock(&a);
+	MUST(ww_mutex_lock_all(&x, twice, 3) == -EALREADY && !x.acquired);
+	MUST(!ww_mutex_lock_all(&x, list, 3) && x.acquired == 3);
+	MUST(ww_mutex_lock_all(&x, list, 1) == -EALREADY && x.acquired == 3);
+}
+
+/* As the kernel's documents have it, amid a loop: so the loop has nothing more to do. */
+static void backs_off_by_hand(void)
+{
+	unsigned bodies = 0;
+
+	begins();
+	ww_until_all_locked(&x) {
+		bodies++;
+		MUST(!ww_mutex_lock(&b, &x) && ww_mutex_lock(&a, &x) == -EDEADLK);
+		MUST(ww_mutex_lock(&d, &x) == -EINVAL && ww_is_contended(&x));
+		ww_mutex_unlock(&b);
+		ww_mutex_unlock(&a);
+		ww_mutex_lock_slow(&a, &x);
+		MUST(!ww_is_contended(&x) && !ww_mutex_lock(&b, &x));
+		ww_retry_on_contention(&x);
+	}
+	MUST(bodies == 1 && x.acquired == 2);
+	ends();
+}
+
+static void *lets_go(void *arg)
+{
+	(void)arg;
+	usleep(20000);
+	ww_mutex_unlock(&a);
+	return NULL;
+}
+
+/* Behind a loop, and amid one: it backs off by itself where nothing was held, and else releases what it took. */
+static void all_behind_a_loop(void)
+{
+	struct ww_mutex *list[] = { &b, &a };
+	pthread_t thread;
+
+	begins();
+	ww_until_all_locked(&x)
+		MUST(!ww_mutex_lock(&d, &x));
+	MUST(ww_mutex_lock_all(&x, list, 2) == -EDEADLK && x.acquired == 1 && !ww_mutex_is_locked(&b));
+	ww_acquire_unlock_all(&x);
+	thread = begin_thread(lets_go, NULL);
+	MUST(!ww_mutex_lock_all(&x, list, 2) && x.acquired == 2);
+	end_thread(thread);
+	ends();
+}
+
+/* ---- the end of a mutex ---- */
+
+static DEFINE_WW_CLASS(few);
+static DEFINE_WW_CLASS(one);
+static struct ww_mutex *shared;
+static bool holds, got;
+static unsigned way;
+enum { ROUNDS = 3000, WAYS = 3 };
+
+static void *uses(void *arg)
+{
+	(void)arg;
+	for (unsigned k = 0; k < ROUNDS; k++) {
+		struct ww_acquire_ctx y;
+		struct ww_mutex *m;
+
+		while (!(m = __atomic_load_n(&shared, __ATOMIC_SEQ_CST)))
+			sched_yield();
+		if (way < 2)
+			ww_acquire_init(&y, &few);
+		if (way == 1) {
+			ww_until_all_locked(&y)
+				MUST(!ww_mutex_lock(m, &y));
+		} else {
+			MUST(!ww_mutex_lock(m, way == 0 ? &y : NULL));
+		}
+		__atomic_store_n(&holds, true, __ATOMIC_SEQ_CST);
+		ww_mutex_unlock(m);
+		if (way < 2)
+			ww_acquire_fini(&y);
+		while (__atomic_load_n(&holds, __ATOMIC_SEQ_CST))
+			sched_yield();
+	}
+	return NULL;
+}
+
+/* Asked until nobody holds it, and then freed at once: whoever released it is through with it. */
+static void is_freed_at_once(void)
+{
+	pthread_t thread = begin_thread(uses, NULL);
+
+	for (unsigned k = 0; k < ROUNDS; k++) {
+		struct ww_mutex *m = malloc(sizeof *m);
+
+		MUST(m);
+		ww_mutex_init(m, &few);
+		__atomic_store_n(&shared, m, __ATOMIC_SEQ_CST);
+		while (!__atomic_load_n(&holds, __ATOMIC_SEQ_CST))
+			sched_yield();
+		__atomic_store_n(&shared, NULL, __ATOMIC_SEQ_CST);
+		while (ww_mutex_destroy(m) == -EBUSY)
+			sched_yield();
+		memset(m, 0xff, sizeof *m);
+		free(m);
+		__atomic_store_n(&holds, false, __ATOMIC_SEQ_CST);
+	}
+	end_thread(thread);
+}
+
+int32_t __real_ww_unlock_(ww_handle *seat, uint32_t lock);
+int32_t __wrap_ww_unlock_(ww_handle *seat, uint32_t lock);
+static __thread struct ww_mutex *freed_then;
+
+/* Until the release nobody can destroy the mutex; right behind it another thread could, and free it. */
+int32_t __wrap_ww_unlock_(ww_handle *seat, uint32_t lock)
+{
+	struct ww_mutex *m = freed_then;
+	int32_t r;
+
+	freed_then = NULL;
+	if (m)
+		MUST(ww_mutex_destroy(m) == -EBUSY);
+	r = __real_ww_unlock_(seat, lock);
+	if (m && r == 0) {
+		MUST(!ww_mutex_destroy(m));
+		memset(m, 0xff, sizeof *m);
+		free(m);
+	} else {
+		freed_then = m;
+	}
+	return r;
+}
+
+enum unlock { BY_CONTEXT, BY_CONTEXT_CHECKED, IN_A_LOOP, OLDER_IN_A_LOOP, ALL_OF_A_LOOP, ALONE, UNLOCKS };
+
+static void unlock_is_through(enum unlock how)
+{
+	struct ww_mutex *m = malloc(sizeof *m);
+
+	MUST(m);
+	ww_mutex_init(m, &few);
+	ww_mutex_init(&a, &few);
+	ww_acquire_init(&x, &few);
+	if (how == BY_CONTEXT || how == BY_CONTEXT_CHECKED || how == ALONE)
+		MUST(!ww_mutex_lock(m, how == ALONE ? NULL : &x));
+	else
+		ww_until_all_locked(&x) {
+			MUST(!ww_mutex_lock(m, &x));
+			if (how == OLDER_IN_A_LOOP)
+				MUST(!ww_mutex_lock(&a, &x));
+		}
+	freed_then = m;
+	if (how == BY_CONTEXT_CHECKED)
+		MUST(!ww_mutex_unlock_checked(m));
+	else if (how == ALL_OF_A_LOOP)
+		ww_acquire_unlock_all(&x);
+	else
+		ww_mutex_unlock(m);
+	MUST(!freed_then);
+	ww_acquire_unlock_all(&x);
+	ww_acquire_fini(&x);
+	MUST(!ww_mutex_destroy(&a));
+}
+
+static void *gets(void *m)
+{
+	MUST(!ww_mutex_lock(m, NULL));
+	__atomic_store_n(&got, true, __ATOMIC_SEQ_CST);
+	ww_mutex_unlock(m);
+	return NULL;
+}
+
+/* With the only context in use a thread waits for that first: it waits for the mutex all the same, until it has it. */
+static void waits_for_a_context(void)
+{
+	for (unsigned k = 0; k < 300; k++) {
+		struct ww_mutex m;
+		pthread_t thread;
+
+		got = false;
+		ww_mutex_init(&m, &one);
+		ww_acquire_init(&x, &one);
+		thread = begin_thread(gets, &m);
+		while (!__atomic_load_n(&m.waiters, __ATOMIC_SEQ_CST))
+			sched_yield();
+		MUST(ww_mutex_destroy(&m) == -EBUSY);
+		ww_acquire_fini(&x);
+		while (ww_mutex_destroy(&m) == -EBUSY)
+			;
+		MUST(__atomic_load_n(&got, __ATOMIC_SEQ_CST));
+		end_thread(thread);
+	}
+}
+
+/* ---- times ---- */
+
+static void times(void)
+{
+	struct timespec now = in_ms(0);
+
+	ww_mutex_init(&a, &few);
+	MUST(!ww_mutex_lock(&a, NULL));
+	for (unsigned k = 0; k < 3; k++) {
+		struct timespec at = { now.tv_sec + 100, k == 0 ? -1 : k == 1 ? 1000000000 : (long)(~0ul >> 1) };
+
+		MUST(ww_mutex_lock_until(&a, NULL, &at) == -EINVAL);
+	}
+	ww_mutex_unlock(&a);
+	MUST(!ww_mutex_destroy(&a));
+}
+
+/* ---- a forked child ---- */
+
+static pthread_barrier_t there;
+
+static void *keeps(void *arg)
+{
+	struct ww_acquire_ctx y;
+
+	(void)arg;
+	ww_acquire_init(&y, &few);
+	MUST(!ww_mutex_lock(&a, &y));
+	pthread_barrier_wait(&there);
+	pthread_barrier_wait(&there);
+	ww_mutex_unlock(&a);
+	ww_acquire_fini(&y);
+	return NULL;
+}
+
+/* What it would wait for isn't there, so its context is let go; and it gets no number of a mutex that it destroyed. */
+static void in_child(void)
+{
+	struct ww_mutex *list[] = { &a };
+
+	alarm(20);
+	MUST(ww_mutex_lock(&a, &x) == -EINVAL && ww_mutex_lock(&a, &x) == -EINVAL && !ww_mutex_trylock(&d, &x));
+	MUST(ww_mutex_lock_all(&x, list, 1) == -EINVAL);
+	ww_mutex_unlock(&b);
+	ww_acquire_fini(&x);
+	MUST(!ww_mutex_destroy(&d) && ww_mutex_init_checked(&d, &few) == -EINVAL);
+	MUST(ww_acquire_init_checked(&x, &few) == -EINVAL && !ww_class_free(&few));
+	ww_mutex_init(&d, &few);
+	ww_acquire_init(&x, &few);
+	MUST(!ww_mutex_lock(&d, &x));
+	ww_mutex_unlock(&d);
+	ww_acquire_fini(&x);
+	MUST(!ww_mutex_destroy(&d) && !ww_class_free(&few));
+	_exit(0);
+}
+
+static void forks(bool amid_a_loop)
+{
+	pthread_t thread;
+	pid_t child;
+	int status;
+
+	MUST(!pthread_barrier_init(&there, NULL, 2));
+	ww_mutex_init(&a, &few);
+	ww_mutex_init(&b, &few);
+	ww_mutex_init(&d, &few);
+	ww_acquire_init(&x, &few);
+	if (amid_a_loop) {
+		ww_until_all_locked(&x)
+			MUST(!ww_mutex_lock(&b, &x));
+	} else {
+		MUST(!ww_mutex_lock(&b, &x));
+	}
+	thread = begin_thread(keeps, NULL);
+	pthread_barrier_wait(&there);
+	MUST((child = fork()) >= 0);
+	if (!child)
+		in_child();
+	MUST(waitpid(child, &status, 0) == child && !status);
+	pthread_barrier_wait(&there);
+	end_thread(thread);
+	ww_mutex_unlock(&b);
+	ww_acquire_fini(&x);
+	MUST(!ww_mutex_destroy(&a) && !ww_mutex_destroy(&b) && !ww_mutex_destroy(&d));
+}
+
+/* ---- a class that isn't freed ---- */
+
+static bool over;
+static unsigned long begun;
+
+static void *begins_and_ends(void *arg)
+{
+	(void)arg;
+	while (!__atomic_load_n(&over, __ATOMIC_RELAXED)) {
+		struct ww_acquire_ctx y;
+
+		ww_acquire_init(&y, &few);
+		ww_acquire_fini(&y);
+		__atomic_fetch_add(&begun, 1, __ATOMIC_RELAXED);
+	}
+	return NULL;
+}
+
+/* While it asks whether nobody uses the class it has seats for a moment, for which others may wait. */
+static void isnt_freed(void)
+{
+	pthread_t threads[2];
+
+	ww_acquire_init(&x, &few);
+	for (unsigned k = 0; k < 2; k++)
+		threads[k] = begin_thread(begins_and_ends, NULL);
+	for (unsigned k = 0; k < 20; k++) {
+		unsigned long was;
+
+		for (unsigned i = 0; i < 1000; i++)
+			MUST(ww_class_free(&few) == -EBUSY);
+		was = __atomic_load_n(&begun, __ATOMIC_RELAXED);
+		for (unsigned i = 0; __atomic_load_n(&begun, __ATOMIC_RELAXED) == was; i++) {
+			MUST(i < 10000);
+			usleep(1000);
+		}
+	}
+	__atomic_store_n(&over, true, __ATOMIC_RELAXED);
+	for (unsigned k = 0; k < 2; k++)
+		end_thread(threads[k]);
+	ww_acquire_fini(&x);
+}
+
+int main(void)
+{
+	void (*const firsts[])(void) = { tries_first, tries_in_vain_first, locks_slowly_first, locks_that_first,
+					 releases_what_came_first, has_a_time, locks_all };
+
+	MUST(ww_class_limit(&wait_die, 8, WW_MAX_SEATS) == -EINVAL && !ww_class_limit(&wait_die, 8, 2));
+	MUST(!ww_class_limit(&few, 8, 3) && !ww_class_limit(&one, 2, 1));
+	for (unsigned k = 0; k < sizeof firsts / sizeof *firsts; k++)
+		in_second_body(firsts[k]);
+	backs_off_by_hand();
+	all_behind_a_loop();
+	for (way = 0; way < WAYS; way++)
+		is_freed_at_once();
+	for (unsigned how = 0; how < UNLOCKS; how++)
+		unlock_is_through((enum unlock)how);
+	waits_for_a_context();
+	times();
+	forks(false);
+	forks(true);
+	isnt_freed();
+	MUST(!ww_class_free(&wait_die) && !ww_class_free(&few) && !ww_class_free(&one));
+	puts("mutex_edges: loops, ends and children");
+	return 0;
+}

@@ -1,0 +1,37 @@
+// The debug library tells where the program made a wrong call through ww_mutex.hpp: `wrong` stands in each such line.
+#ifndef WW_DEBUG
+#define WW_DEBUG
+#endif
+#include "../ww_mutex.hpp"
+#include <cerrno>
+#include <cstdio>
+#include <cstdlib>
+#include <vector>
+
+using ww::kernel::context;
+using ww::kernel::mutex;
+using ww::kernel::mutex_class;
+
+static void must(bool fact)
+{
+	if (!fact)
+		std::abort();
+}
+
+int main()
+{
+	mutex_class c(mutex_class::wait_die, "c"), d(mutex_class::wait_die, "d");
+	mutex m(d);
+	std::vector<mutex *> list{ &m };
+	const timespec at{};
+	context x(c);
+
+	must(x.lock(m) == -EINVAL);	// wrong
+	must(x.lock_interruptible(m) == -EINVAL);	// wrong
+	must(x.lock_until(m, at) == -EINVAL);	// wrong
+	must(x.lock_all(list) == -EINVAL);	// wrong
+	must(!x.with_all(list, [] {}));	// wrong
+	must(!ww::kernel::lock_all(c, list, [] {}));	// wrong
+	must(ww_debug_faults() == 6);
+	return 0;
+}

@@ -1,0 +1,10 @@
+use Rattle.std.proofs.Common.{Some, refl, subst, pos, Option}
+use Rattle.ww_desk.specs.declared.turn.Answer.TheVariants.{Done}
+use Rattle.ww_desk.specs.Situations.{Situation}
+use Rattle.ww_desk.specs.Answers.{IsEndAnswer}
+use Rattle.ww_c.specs.Exports.{IsCall}
+use Rattle.ww_c.proofs.exports.ww_end_.Goals as goal
+
+pub returns : goal.returns
+returns c = subst (λ (o : Option Situation). IsCall IsEndAnswer o (pos 0) (Some c.end_bare.new.self))
+    c.lend.ensures.value (Done, c.end_bare.new.self, refl, c.end_bare.ensures, refl)

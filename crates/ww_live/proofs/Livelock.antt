@@ -1,0 +1,311 @@
+-- Nobody waits while others do nothing but die and try again.
+use Rattle.std.proofs.Common.{◌≡◌, ◌≢◌, ◌⊎◌, inl, inr, ⊎_elim, ℕ, zero, suc, ◌+◌, ◌-◌, ◌<◌, ◌≤◌, Bool, true, false, List, [], ◌∷◌, length, refl, sym, ap, ◌∙◌, subst, arith}
+use Rattle.std.proofs.lemmas.Bool.{cases_lt}
+use Rattle.ww_queue.specs.declared.entry.Entry.{Entry}
+use Rattle.ww_queue.specs.Queue.{Has, Stands, StandsNot, Once, joined, left}
+use Rattle.ww_queue.proofs.Joins.{joined_has}
+use Rattle.ww_queue.proofs.Leaves.{left_has}
+use Rattle.ww_queue.proofs.Rooms.{waiters_fit}
+use Rattle.ww_model.specs.declared.state.Holder.{Holder}
+use Rattle.ww_model.specs.declared.state.Holder.TheVariants.{Nobody, Taken}
+use Rattle.ww_model.specs.declared.event.Event.{Event}
+use Rattle.ww_model.specs.declared.event.Event.TheVariants.{Fast, FastGive, Join, Take, Give, Die, Leave}
+use Rattle.ww_model.specs.State.{State, InNoQueue, waiter_of, dies}
+use Rattle.ww_model.specs.Event.{Possible, after, given_to}
+use Rattle.ww_model.proofs.Puts.{put_here, put_else, put_cases}
+use Rattle.ww_model.proofs.Options.{some_of}
+use Rattle.ww_model.proofs.Dues.{dies_why}
+use Rattle.ww_wakes.specs.Scene.{Scene, Step, performs, leaves_to_sleep, finds_no_sign, finds_no_cancel, wakes, falls_asleep, rises, May, next}
+use Rattle.ww_wakes.specs.Theorem.{IsEndlessRun}
+use Rattle.ww_live.specs.Premises.{WaitersGoOn, HoldersGoOn, BacksOff}
+use Rattle.ww_live.specs.Theorem.{EndsWait, TakesOrIsCalledOff, NoLivelock}
+use Rattle.ww_live.proofs.Steps.{ends_or_not, entry_next}
+use Rattle.ww_live.proofs.Runs.{holds_at, changes, orderly_at, lawful_at, made_next, known_next, may_be, release_between}
+use Rattle.ww_live.proofs.Dues.{handed_takes, free_taken}
+use Rattle.ww_live.proofs.Leaves.{waits_or_not}
+use Rattle.ww_live.proofs.Progress.{GivenTo, to_first, to_none, given, somebody_goes_on}
+use Rattle.ww_live.proofs.Handoff.{locks_at}
+use Rattle.ww_live.proofs.Served.{gone}
+
+-- ---- of one step
+
+takes_or_not : (x : Step) → TakesOrIsCalledOff x ⊎ (TakesOrIsCalledOff x → ⊥)
+takes_or_not (performs (Fast t m)) = inl (t, m, inl refl)
+takes_or_not (performs (Take t m)) = inl (t, m, inr (inl refl))
+takes_or_not (performs (Leave t m)) = inl (t, m, inr (inr refl))
+takes_or_not _ = inr (λ r. ⊎_elim (λ is. cc) (⊎_elim (λ is. cc) (λ is. cc)) r.2)
+
+-- a free lock stays free while nobody takes one
+free_after : (c : State) (v : Event) (k : ℕ) → Possible c v → (TakesOrIsCalledOff (performs v) → ⊥) →
+    c.owner k ≡ Nobody →
+    (after c v).owner k ≡ Nobody
+free_after c (Fast t m) k can on free = absurd (on (t, m, inl refl))
+free_after c (Take t m) k can on free = absurd (on (t, m, inr (inl refl)))
+free_after c (FastGive t m) k can on free = put_cases c.owner m Nobody k (λ o. o ≡ Nobody) (λ _. refl) (λ _. free)
+free_after c (Give t m) k can on free = put_else c.owner m (given_to (c.asked m) (c.queue m)) k
+    (λ is. let z = ap c.owner is in let y = can.base.owns in cc) ∙ free
+free_after c _ k can on free = free
+
+free_next : (w : Scene) (x : Step) (k : ℕ) → May w x → (TakesOrIsCalledOff x → ⊥) → w.core.owner k ≡ Nobody →
+    (next w x).core.owner k ≡ Nobody
+free_next w (performs v) k may on free = free_after w.core v k may.possible on free
+free_next w (leaves_to_sleep s m heeds) k may on free = free
+free_next w (finds_no_sign s) k may on free = free
+free_next w (finds_no_cancel s) k may on free = free
+free_next w (wakes s v) k may on free = free
+free_next w (falls_asleep s) k may on free = free
+free_next w (rises s) k may on free = free
+
+-- who stands in a list after a step joined it by it, or stood there
+stood_after : (c : State) (v : Event) (t m : ℕ) → Stands ((after c v).queue m) t → Stands (c.queue m) t ⊎ (v ≡ Join t m)
+stood_after c (Join u k) t m h = put_cases c.queue k (joined (c.queue k) (waiter_of c u)) m (λ q. Stands q t →
+    Stands (c.queue m) t ⊎ (Join u k ≡ Join t m))
+    (λ is a. ⊎_elim (λ new. let own : u ≡ t = (sym (ap (λ (y : Entry). y.seat) new) ∙ a.2) in inr (cc))
+    (λ old. inl (a.0, subst (λ y. Has (c.queue y) a.0) (sym is) old, a.2))
+    (joined_has (c.queue k) (waiter_of c u) a.0 a.1))
+    (λ _. inl) h
+stood_after c (Take u k) t m h = inl (put_cases c.queue k (left (c.queue k) u) m (λ q. Stands q t →
+    Stands (c.queue m) t)
+    (λ is a. (a.0, subst (λ y. Has (c.queue y) a.0) (sym is) (left_has (c.queue k) u a.0 a.1), a.2)) (λ _ a. a) h)
+stood_after c (Die u k) t m h = inl (put_cases c.queue k (left (c.queue k) u) m (λ q. Stands q t → Stands (c.queue m) t)
+    (λ is a. (a.0, subst (λ y. Has (c.queue y) a.0) (sym is) (left_has (c.queue k) u a.0 a.1), a.2)) (λ _ a. a) h)
+stood_after c (Leave u k) t m h = inl (put_cases c.queue k (left (c.queue k) u) m (λ q. Stands q t →
+    Stands (c.queue m) t)
+    (λ is a. (a.0, subst (λ y. Has (c.queue y) a.0) (sym is) (left_has (c.queue k) u a.0 a.1), a.2)) (λ _ a. a) h)
+stood_after c _ t m h = inl h
+
+stood_next : (w : Scene) (x : Step) (t m : ℕ) → Stands ((next w x).core.queue m) t →
+    Stands (w.core.queue m) t ⊎ (x ≡ performs (Join t m))
+stood_next w (performs v) t m h = ⊎_elim inl (λ is. inr (ap performs is)) (stood_after w.core v t m h)
+stood_next w (leaves_to_sleep s k heeds) t m h = inl h
+stood_next w (finds_no_sign s) t m h = inl h
+stood_next w (finds_no_cancel s) t m h = inl h
+stood_next w (wakes s v) t m h = inl h
+stood_next w (falls_asleep s) t m h = inl h
+stood_next w (rises s) t m h = inl h
+
+-- ---- a search
+
+pub record FoundAt (P : ℕ → Type 0) (i j : ℕ) : Type 0 where
+  pub at : ℕ
+  pub from : i ≤ at
+  pub before : at < j
+  pub holds : P at
+
+search_within : (P : ℕ → Type 0) → ((k : ℕ) → P k ⊎ (P k → ⊥)) → (i gap : ℕ) →
+    FoundAt P i (i + gap) ⊎ ((k : ℕ) → i ≤ k → k < i + gap → P k → ⊥)
+search_within P dec i zero = inr (λ k a b. absurd (omega arith))
+search_within P dec i (suc gap) = ⊎_elim
+    (λ f. let a = f.from in let b = f.before in
+    inl (record { at = f.at; from = a; before = omega arith; holds = f.holds }))
+    (λ none. ⊎_elim
+    (λ here. inl (record { at = i + gap; from = omega arith; before = omega arith; holds = here }))
+    (λ not. inr (λ k a b. ⊎_elim (λ low. none k a low)
+    (λ high. let is : i + gap ≡ k = omega arith in subst (λ x. P x → ⊥) is not) (cases_lt k (i + gap))))
+    (dec (i + gap)))
+    (search_within P dec i gap)
+
+pub search_to : (P : ℕ → Type 0) → ((k : ℕ) → P k ⊎ (P k → ⊥)) → (i j : ℕ) → i ≤ j →
+    FoundAt P i j ⊎ ((k : ℕ) → i ≤ k → k < j → P k → ⊥)
+search_to P dec i j later = let gap : i + (j - i) ≡ j = omega arith in
+    subst (λ x. FoundAt P i x ⊎ ((k : ℕ) → i ≤ k → k < x → P k → ⊥)) gap (search_within P dec i (j - i))
+
+-- ---- who dies stands in no list
+
+module _ (scene : ℕ → Scene) (step : ℕ → Step) (run : IsEndlessRun scene step) where
+  idle_or_not : (t x : ℕ) → InNoQueue (scene x).core t ⊎ (InNoQueue (scene x).core t → ⊥)
+  idle_or_not t x = ⊎_elim (λ h. inr (λ none. let k = h.1 in none h.0 k.0 k.1 k.2)) inl
+      (waits_or_not (scene x).core (orderly_at scene step run x).reached t)
+
+  pub after_death : (j t m : ℕ) → step j ≡ performs (Die t m) → InNoQueue (scene (suc j)).core t
+  after_death j t m dies x f h is = let c = (scene j).core in let l = (lawful_at scene step run j).base in
+      let can = may_be scene step run j (performs (Die t m)) dies in let k = can.possible.base.waits in
+      let none : StandsNot ((scene (suc j)).core.queue m) t =
+      made_next scene step run (λ w. StandsNot (w.core.queue m) t) j
+      (gone (scene j) (step j) t m l (inr (inl dies))) in ⊎_elim
+      (λ old. let at : x ≡ m = l.queues.one_queue x m old.0 k.0 old.1 k.1 (old.2 ∙ sym k.2) in
+      none f (subst (λ y. Has ((scene (suc j)).core.queue y) f) at h) is)
+      (λ joins. let z = sym dies ∙ joins in cc)
+      (stood_next (scene j) (step j) t x (subst (λ (w : Scene). Stands (w.core.queue x) t) (run.goes_on j) (f, h, is)))
+
+  -- who stands in a list later has joined one in between
+  pub joined_between : (i j t : ℕ) → i ≤ j → InNoQueue (scene i).core t → (InNoQueue (scene j).core t → ⊥) →
+      (x : ℕ) × (i ≤ x) × (x < j) × ((m : ℕ) × (step x ≡ performs (Join t m)))
+  joined_between i j t later idle waits = let change = changes (λ x. InNoQueue (scene x).core t)
+      (λ x. idle_or_not t x) i j later idle waits in let x = change.at in
+      let before = change.held x change.from (omega arith) in (
+        x,
+        change.from,
+        change.before,
+        ⊎_elim
+            (λ there. ⊎_elim
+            (λ old. absurd (before there.0 old.0 old.1 old.2))
+            (λ joins. (there.0, joins))
+            (stood_next (scene x) (step x) t there.0
+            (subst (λ (w : Scene). Stands (w.core.queue there.0) t) (run.goes_on x) there.1)))
+            (λ none. absurd (change.gone none))
+            (waits_or_not (scene (suc x)).core (orderly_at scene step run (suc x)).reached t),
+      )
+
+-- ---- along a run
+
+module _ (scene : ℕ → Scene) (step : ℕ → Step) (run : IsEndlessRun scene step) (go : WaitersGoOn scene step)
+    (holders : HoldersGoOn scene step) (backs : BacksOff scene step) (e : Entry) (n : ℕ) where
+  abbrev Stop : ℕ → Type 0
+  Stop k = EndsWait e.seat n (step k) ⊎ TakesOrIsCalledOff (step k)
+
+  stop_or_not : (k : ℕ) → Stop k ⊎ (Stop k → ⊥)
+  stop_or_not k = ⊎_elim (λ ends. inl (inl ends))
+      (λ on. ⊎_elim (λ takes. inl (inr takes)) (λ none. inr (⊎_elim on none)) (takes_or_not (step k)))
+      (ends_or_not e.seat n (step k))
+
+  abbrev Goal : ℕ → Type 0
+  Goal i = (j : ℕ) × (i ≤ j) × Stop j
+
+  goal_from : (i j : ℕ) → i ≤ j → Goal j → Goal i
+  goal_from i j later g = let more = g.1 in (g.0, omega arith, g.2)
+
+  -- lock k is free from then on, at this time
+  abbrev Freed : ℕ → ℕ → Type 0
+  Freed i k = (j : ℕ) × (i ≤ j) × ((scene j).core.owner k ≡ Nobody)
+
+  freed_from : (i j k : ℕ) → i ≤ j → Goal j ⊎ Freed j k → Goal i ⊎ Freed i k
+  freed_from i j k later (inl g) = inl (goal_from i j later g)
+  freed_from i j k later (inr f) = let more = f.1 in inr (f.0, omega arith, f.2)
+
+  -- ---- who releases a lock frees it, or it is taken
+
+  by_given : (k i : ℕ) → GivenTo ((scene i).core.owner k) ((scene i).core.queue k) → Goal i
+  by_given k i (to_first f h own) = let t = handed_takes scene step run go f k i h own in
+      (t.0.at, t.0.later, inr (f.seat, k, inr (inl t.1)))
+  by_given k i (to_none f h first own) = let t = free_taken scene step run go f k i h first own in
+      (t.at, t.later, inr (t.seat, k, inr (inl t.takes)))
+
+  given_then : (i k : ℕ) (q : List Entry) (o : Holder) (b : Bool) → (scene i).core.queue k ≡ q →
+      (scene i).core.owner k ≡ given_to b q → Goal i ⊎ Freed i k
+  given_then i k [] o true list own = inr (i, omega arith, own)
+  given_then i k [] o false list own = inr (i, omega arith, own)
+  given_then i k (x ∷ xs) o b list own = inl (by_given k i (subst (λ p. GivenTo p ((scene i).core.queue k)) (sym own)
+      (subst (λ q. GivenTo (given_to b (x ∷ xs)) q) (sym list) (given b (x ∷ xs) x (inl refl)))))
+
+  releases : (i j t k : ℕ) → i ≤ j → (scene i).core.owner k ≡ Taken t → (scene j).core.owner k ≢ Taken t →
+      Goal i ⊎ Freed i k
+  releases i j t k later own gone = let r = release_between scene step run t k i j later own gone in let y = r.at in
+      let from = r.from in let c = (scene y).core in ⊎_elim
+      (λ fast. inr (
+        suc y,
+        omega arith,
+        known_next scene step run
+            (λ w. w.core.owner k ≡ Nobody) y (performs (FastGive t k)) fast (put_here c.owner k Nobody),
+      ))
+      (λ give. freed_from i (suc y) k (omega arith) (given_then (suc y) k (c.queue k) (c.owner k) (c.asked k)
+      (known_next scene step run (λ w. w.core.queue k ≡ c.queue k) y (performs (Give t k)) give refl)
+      (known_next scene step run (λ w. w.core.owner k ≡ given_to (c.asked k) (c.queue k)) y (performs (Give t k)) give
+      (put_here c.owner k (given_to (c.asked k) (c.queue k))))))
+      r.how
+
+  -- ---- who dies releases what it has
+
+  dead : (j t m k : ℕ) → step j ≡ performs (Die t m) → (scene j).core.owner k ≡ Taken t → Goal j ⊎ Freed j k
+  dead j t m k dies own = let own' : (scene (suc j)).core.owner k ≡ Taken t =
+      known_next scene step run (λ w. w.core.owner k ≡ Taken t) j (performs (Die t m)) dies own in
+      let idle = after_death scene step run j t m dies in let later = holders (suc j) t k own' idle in let y =
+      later.0 in
+      let after = later.1 in
+      freed_from j (suc j) k (omega arith) (⊎_elim
+      (λ none. releases (suc j) y t k after own' none)
+      (λ waits. let join = joined_between scene step run (suc j) y t after idle
+      (λ none. let h = waits.1 in none waits.0 h.0 h.1 h.2) in let x = join.0 in let from = join.1 in
+      let none = backs j x t m join.3.0 (omega arith) dies (inr (inl join.3.1)) in let more = none.1 in
+      releases (suc j) none.0 t k (omega arith) own' (none.3 k))
+      later.2)
+
+  -- ---- each death frees one lock more, while nobody takes one
+
+  AllFree : ℕ → List Entry → Type 0
+  AllFree i ls = (a : Entry) → Has ls a → ((scene i).core.owner a.seat ≡ Nobody) × (a.seat < (scene i).core.locks)
+
+  few_free : (i : ℕ) (ls : List Entry) → Once ls → AllFree i ls → length ls ≤ (scene i).core.locks
+  unfolding AllFree
+  few_free i ls once all = waiters_fit (scene i).core.locks ls once (λ a h. (all a h).1)
+
+  abbrev Calm : ℕ → ℕ → Type 0
+  Calm i j = (k : ℕ) → i ≤ k → k < j → Stop k → ⊥
+
+  free_on : (i j k : ℕ) → i ≤ j → Calm i j → (scene i).core.owner k ≡ Nobody → (scene j).core.owner k ≡ Nobody
+  free_on i j k later calm own = holds_at (λ x. (scene x).core.owner k ≡ Nobody) i j later own
+      (λ x a b free. made_next scene step run (λ w. w.core.owner k ≡ Nobody) x
+      (free_next (scene x) (step x) k (run.may x) (λ takes. calm x a b (inr takes)) free))
+
+  stay : (i j : ℕ) → i ≤ j → Calm i j → Has ((scene i).core.queue n) e → Has ((scene j).core.queue n) e
+  stay i j later calm h = holds_at (λ x. Has ((scene x).core.queue n) e) i j later h
+      (λ x a b there. made_next scene step run (λ w. Has (w.core.queue n) e) x
+      (entry_next (scene x) (step x) e n (λ ends. calm x a b (inl ends)) there))
+
+  -- a lock that somebody had is free at a later time
+  freed : (i j y t k : ℕ) (ls : List Entry) → Once ls → AllFree i ls → Has ((scene i).core.queue n) e → i ≤ j → j ≤ y →
+      (scene j).core.owner k ≡ Taken t → (scene y).core.owner k ≡ Nobody →
+      ((ls' : List Entry) → Once ls' → AllFree y ls' → suc (length ls) ≤ length ls' → Has ((scene y).core.queue n) e →
+      Goal y) → Goal i
+  unfolding AllFree
+  freed i j y t k ls once all h a b own free next = ⊎_elim
+      (λ f. (f.at, f.from, f.holds))
+      (λ calm. let x : Entry = record { seat = k; stamp = 0; holds = false } in
+      let same = locks_at scene step run i y (omega arith) in
+      let l = (lawful_at scene step run j).base in let same' = locks_at scene step run i j a in
+      let below : k < (scene i).core.locks = ⊎_elim (λ z. omega arith) (λ beyond. let none = l.owners.beyond k beyond in
+      absurd (cc)) (cases_lt k (scene j).core.locks) in
+      goal_from i y (omega arith) (next (x ∷ ls) (
+        (λ z hz is. let old = free_on i j z.seat a (λ q c d. calm q c (omega arith)) (all z hz).0 in
+            let o = ap (scene j).core.owner is in cc),
+        once,
+      )
+      (λ z. ⊎_elim
+      (λ is. let seat = ap (λ (u : Entry). u.seat) is in
+      (ap (scene y).core.owner seat ∙ free, let low = seat in omega arith))
+      (λ hz. (free_on i y z.seat (omega arith) calm (all z hz).0, let low = (all z hz).1 in omega arith)))
+      (omega arith) (stay i y (omega arith) calm h)))
+      (search_to Stop stop_or_not i y (omega arith))
+
+  died : (i j t m : ℕ) (ls : List Entry) → Once ls → AllFree i ls → Has ((scene i).core.queue n) e → i ≤ j →
+      step j ≡ performs (Die t m) →
+      ((y : ℕ) → i ≤ y → (ls' : List Entry) → Once ls' → AllFree y ls' → suc (length ls) ≤ length ls' →
+      Has ((scene y).core.queue n) e → Goal y) → Goal i
+  died i j t m ls once all h later die next = let c = (scene j).core in let l = (lawful_at scene step run j).base in
+      let can = may_be scene step run j (performs (Die t m)) die in
+      let cause = some_of (dies c t m) can.possible.signs in
+      let d = dies_why c t m cause.0 cause.1 in let own = (l.queues.at m).holds d.entry d.stands d.holds in
+      let k = own.0 in
+      let has : c.owner k ≡ Taken t = own.1 ∙ ap Taken d.seat in ⊎_elim
+      (λ g. goal_from i j later g)
+      (λ f. let y = f.0 in let after = f.1 in freed i j y t k ls once all h later after has f.2 (next y (omega arith)))
+      (dead j t m k die has)
+
+  on : (fuel i : ℕ) (ls : List Entry) → Once ls → AllFree i ls → (scene i).core.locks ≤ length ls + fuel →
+      Has ((scene i).core.queue n) e → Goal i
+  on zero i ls once all room h = let g = somebody_goes_on scene step run go holders i e.seat n (e, h, refl) in
+      let j = g.0 in
+      let later = g.1 in ⊎_elim
+      (λ take. (j, later, inr (g.2.0, take.0, inr (inl take.1))))
+      (λ up. ⊎_elim
+      (λ die. died i j g.2.0 up.0 ls once all h later die (λ y after ls' once' all' grown there.
+      let a = few_free y ls' once' all' in let same = locks_at scene step run i y after in absurd (omega arith)))
+      (λ leave. (j, later, inr (g.2.0, up.0, inr (inr leave)))) up.1)
+      g.2.1
+  on (suc fuel) i ls once all room h = let g = somebody_goes_on scene step run go holders i e.seat n (e, h, refl) in
+      let j = g.0 in let later = g.1 in ⊎_elim
+      (λ take. (j, later, inr (g.2.0, take.0, inr (inl take.1))))
+      (λ up. ⊎_elim
+      (λ die. died i j g.2.0 up.0 ls once all h later die (λ y after ls' once' all' grown there.
+      let same = locks_at scene step run i y after in on fuel y ls' once' all' (omega arith) there))
+      (λ leave. (j, later, inr (g.2.0, up.0, inr (inr leave)))) up.1)
+      g.2.1
+
+  pub ends_or_taken : (i : ℕ) → Has ((scene i).core.queue n) e → Goal i
+  unfolding AllFree
+  ends_or_taken i h = on (scene i).core.locks i [] tt (λ a none. absurd none) (omega arith) h
+
+pub no_livelock : NoLivelock
+no_livelock scene step run go holders backs i s n h = let g =
+    ends_or_taken scene step run go holders backs h.0 n i h.1 in
+    (g.0, g.1, ⊎_elim (λ ends. inl (subst (λ x. EndsWait x n (step g.0)) h.2 ends)) inr g.2)

@@ -1,0 +1,281 @@
+-- In each kind a run that comes to a deadlock, and from there one that keeps all that is asked.
+use Rattle.std.proofs.Common.{◌≡◌, ◌≢◌, inl, inr, ⊎_elim, ℕ, suc, Bool, true, false, List, [], ◌∷◌, refl, sym, ap, ◌∙◌, subst, arith, true≢false}
+use Rattle.std.proofs.lemmas.Bool.{cases_Bool, cases_lt}
+use native.Mathlib.Decide.{ℕ_discrete}
+use Rattle.ww_queue.specs.declared.kind.Kind.{Kind}
+use Rattle.ww_queue.specs.declared.kind.Kind.TheVariants.{WoundWait, WaitDie}
+use Rattle.ww_queue.specs.Queue.{Has}
+use Rattle.ww_model.specs.declared.state.Holder.TheVariants.{Nobody, Taken}
+use Rattle.ww_model.specs.declared.event.Event.TheVariants.{Begin, Fast, FastGive, Guard, Join, Sign, Take, Give, Die, Unguard, End, Clear}
+use Rattle.ww_model.specs.State.{put}
+use Rattle.ww_model.proofs.Puts.{put_else, put_cases}
+use Rattle.ww_model.proofs.Kept.{reached_is_lawful}
+use Rattle.ww_model.proofs.Beyond.{queues_beyond, guards_are}
+use Rattle.ww_laws.proofs.Tests.{passes, may}
+use Rattle.ww_wakes.specs.Scene.{acting, asleep, Scene, first_scene, Step, performs, leaves_to_sleep, finds_no_sign, wakes, falls_asleep, rises, MayLeaveToSleep, MayFallAsleep, put_debt, next, IsReached, begins, goes_on}
+use Rattle.ww_wakes.proofs.Woken.{debt_was, debt_here}
+use Rattle.ww_wakes.proofs.Keeping.{reached_is_orderly}
+use Rattle.ww_live.specs.Theorem.{AreDeadlocked, IsTheOldest, DeadlocksAreReached}
+use Rattle.ww_live.proofs.Runs.{phase_is}
+use Rattle.ww_live.proofs.Plain.{all_plain, all_owning, each_of_two, lead, reached_by, AtRest, goes_from, asks, backs, contended, ends_of}
+
+-- The first seat and the second take a lock each. The first joins the list of the second's lock, wounds it in
+-- Wound-Wait, and falls asleep. Then the second joins the list of the first's lock: the two are deadlocked.
+abbrev before : Kind → List Step
+before WoundWait = performs (Begin 0) ∷ performs (Begin 1) ∷ performs (Fast 0 0) ∷ performs (Fast 1 1)
+    ∷ performs (Guard 0 1) ∷ performs (Join 0 1) ∷ performs (Sign 0 1) ∷ wakes 0 1 ∷ finds_no_sign 0 ∷ []
+before WaitDie = performs (Begin 0) ∷ performs (Begin 1) ∷ performs (Fast 0 0) ∷ performs (Fast 1 1)
+    ∷ performs (Guard 0 1) ∷ performs (Join 0 1) ∷ finds_no_sign 0 ∷ []
+
+abbrev joins : List Step
+joins = performs (Guard 1 0) ∷ performs (Join 1 0) ∷ []
+
+-- The second dies, releases its lock and wakes the first, which takes the lock, releases both, and ends its context.
+-- Then the second ends its own.
+abbrev resolves : List Step
+resolves = performs (Die 1 0) ∷ performs (Unguard 1 0) ∷ performs (Guard 1 1) ∷ performs (Give 1 1)
+    ∷ performs (Unguard 1 1) ∷ wakes 1 0 ∷ rises 0 ∷ performs (Guard 0 1) ∷ performs (Take 0 1) ∷ performs (Unguard 0 1)
+    ∷ performs (FastGive 0 1) ∷ performs (FastGive 0 0) ∷ performs (End 0) ∷ performs (Clear 1) ∷ performs (End 1) ∷ []
+
+abbrev looked : Kind → Scene
+looked kind = lead (first_scene kind 2 2) (before kind)
+
+abbrev left : Kind → Scene
+left kind = next (looked kind) (leaves_to_sleep 0 1 false)
+
+abbrev sleeping : Kind → Scene
+sleeping kind = next (left kind) (falls_asleep 0)
+
+abbrev deadlocked : Kind → Scene
+deadlocked kind = lead (sleeping kind) joins
+
+abbrev over : Kind → Scene
+over kind = lead (deadlocked kind) resolves
+
+-- ---- the steps may be made
+
+plain_before : (kind : Kind) → all_plain (first_scene kind 2 2) (before kind) ≡ true
+unfolding put ℕ_discrete
+plain_before WoundWait = refl
+plain_before WaitDie = refl
+
+plain_joins : (kind : Kind) → all_plain (sleeping kind) joins ≡ true
+unfolding put ℕ_discrete
+plain_joins WoundWait = refl
+plain_joins WaitDie = refl
+
+plain_resolves : (kind : Kind) → all_plain (deadlocked kind) resolves ≡ true
+unfolding put ℕ_discrete
+plain_resolves WoundWait = refl
+plain_resolves WaitDie = refl
+
+owning_resolves : (kind : Kind) → all_owning (deadlocked kind) resolves ≡ true
+unfolding put ℕ_discrete
+owning_resolves WoundWait = refl
+owning_resolves WaitDie = refl
+
+passes_out : (kind : Kind) → passes (looked kind).core (Unguard 0 1) ≡ true
+unfolding put ℕ_discrete
+passes_out WoundWait = refl
+passes_out WaitDie = refl
+
+reached_looked : (kind : Kind) → IsReached (looked kind)
+reached_looked kind = reached_by (first_scene kind 2 2) (begins kind 2 2) (before kind) (plain_before kind)
+
+may_leave : (kind : Kind) → MayLeaveToSleep (looked kind) 0 1 false
+unfolding put ℕ_discrete
+may_leave WoundWait = record {
+  acts = refl;
+  possible = may (looked WoundWait).core (reached_is_orderly (looked WoundWait) (reached_looked WoundWait)).reached
+      (Unguard 0 1)
+      (passes_out WoundWait);
+  waits = (record { seat = 0; stamp = 1; holds = true }, inl refl, refl);
+  unsigned = λ _. refl;
+  uncancelled = λ heeds. absurd (true≢false (sym heeds));
+}
+may_leave WaitDie = record {
+  acts = refl;
+  possible = may (looked WaitDie).core (reached_is_orderly (looked WaitDie) (reached_looked WaitDie)).reached
+      (Unguard 0 1) (passes_out WaitDie);
+  waits = (record { seat = 0; stamp = 1; holds = true }, inl refl, refl);
+  unsigned = λ _. refl;
+  uncancelled = λ heeds. absurd (true≢false (sym heeds));
+}
+
+abbrev no_debts : ℕ → ℕ → Bool
+no_debts s v = false
+
+-- a debt that was made and paid
+abbrev paid_once : (ℕ → ℕ → Bool) → ℕ → ℕ → ℕ → ℕ → Bool
+paid_once owes s v = put_debt (put_debt owes s v true) s v false
+
+-- none is left then, if none was there before
+none_left : (owes : ℕ → ℕ → Bool) (s v : ℕ) → ((a b : ℕ) → owes a b ≢ true) → (a b : ℕ) → paid_once owes s v a b ≢ true
+none_left owes s v none a b is = ⊎_elim (λ paid. true≢false (sym paid.2))
+    (λ old. ⊎_elim
+    (λ new. true≢false (sym (subst (λ x. paid_once owes s v x v ≡ true) new.0 (subst
+    (λ y. paid_once owes s v a y ≡ true) new.1 is)) ∙ debt_here (put_debt owes s v true) s v false))
+    (λ older. none a b older) (debt_was owes s v true a b old))
+    (debt_was (put_debt owes s v true) s v false a b is)
+
+may_sleep : (kind : Kind) → MayFallAsleep (left kind) 0
+unfolding put ℕ_discrete
+may_sleep WoundWait = record {
+  ready = refl;
+  paid = λ v. ⊎_elim (λ is. absurd (none_left no_debts 0 1 (λ a b z. true≢false (sym z)) 0 v is))
+      (λ isnt. isnt) (cases_Bool ((left WoundWait).owes 0 v));
+}
+may_sleep WaitDie = record { ready = refl; paid = λ v. refl }
+
+reached_deadlocked : (kind : Kind) → IsReached (deadlocked kind)
+reached_deadlocked kind = reached_by (sleeping kind) (goes_on (left kind) (falls_asleep 0)
+    (goes_on (looked kind) (leaves_to_sleep 0 1 false) (reached_looked kind) (may_leave kind)) (may_sleep kind)) joins
+    (plain_joins kind)
+
+reached_over : (kind : Kind) → IsReached (over kind)
+reached_over kind = reached_by (deadlocked kind) (reached_deadlocked kind) resolves (plain_resolves kind)
+
+-- ---- the deadlock
+
+are_deadlocked : (kind : Kind) → AreDeadlocked (deadlocked kind).core (0 ∷ 1 ∷ [])
+unfolding put ℕ_discrete
+are_deadlocked WoundWait = record {
+  some = (0, inl refl);
+  stuck = λ s. ⊎_elim
+      (λ is. (1, inr (inl refl), (1, (record { seat = 0; stamp = 1; holds = true }, inl refl, sym is), refl)))
+      (⊎_elim (λ is. (0, inl refl, (0, (record { seat = 1; stamp = 2; holds = true }, inl refl, sym is), refl)))
+      (λ none. absurd none));
+}
+are_deadlocked WaitDie = record {
+  some = (0, inl refl);
+  stuck = λ s. ⊎_elim
+      (λ is. (1, inr (inl refl), (1, (record { seat = 0; stamp = 1; holds = true }, inl refl, sym is), refl)))
+      (⊎_elim (λ is. (0, inl refl, (0, (record { seat = 1; stamp = 2; holds = true }, inl refl, sym is), refl)))
+      (λ none. absurd none));
+}
+
+sleeps : (kind : Kind) → (deadlocked kind).phase 0 ≡ asleep
+unfolding put ℕ_discrete
+sleeps WoundWait = refl
+sleeps WaitDie = refl
+
+is_oldest : (kind : Kind) → IsTheOldest (deadlocked kind).core 0 1
+unfolding put ℕ_discrete
+is_oldest WoundWait = record {
+  oldest = record { oldest = record { context = omega arith; oldest = λ t some. some }; unsigned = λ _. refl };
+  owns = (0, refl);
+  waits = (record { seat = 0; stamp = 1; holds = true }, inl refl, refl);
+}
+is_oldest WaitDie = record {
+  oldest = record { oldest = record { context = omega arith; oldest = λ t some. some }; unsigned = λ _. refl };
+  owns = (0, refl);
+  waits = (record { seat = 0; stamp = 1; holds = true }, inl refl, refl);
+}
+
+-- ---- the rest
+
+abbrev no_context : ℕ → ℕ
+no_context s = 0
+
+-- two contexts began, and ended
+abbrev ended_both : ℕ → ℕ
+ended_both = put (put (put (put no_context 0 1) 1 2) 0 0) 1 0
+
+none_after : (s : ℕ) → ended_both s ≡ 0
+none_after s = put_cases (put (put (put no_context 0 1) 1 2) 0 0) 1 0 s (λ k. k ≡ 0) (λ _. refl)
+    (λ second. put_cases (put (put no_context 0 1) 1 2) 0 0 s (λ k. k ≡ 0) (λ _. refl)
+    (λ first. put_else (put no_context 0 1) 1 2 s second ∙ put_else no_context 0 1 s first))
+
+owners_over : (kind : Kind) → ((over kind).core.owner 0 ≡ Nobody) × ((over kind).core.owner 1 ≡ Nobody)
+unfolding put ℕ_discrete
+owners_over WoundWait = (refl, refl)
+owners_over WaitDie = (refl, refl)
+
+lists_over : (kind : Kind) → ((over kind).core.queue 0 ≡ []) × ((over kind).core.queue 1 ≡ [])
+unfolding put ℕ_discrete
+lists_over WoundWait = (refl, refl)
+lists_over WaitDie = (refl, refl)
+
+guards_over : (kind : Kind) → ((over kind).core.guard 0 ≡ 0) × ((over kind).core.guard 1 ≡ 0)
+unfolding put ℕ_discrete
+guards_over WoundWait = (refl, refl)
+guards_over WaitDie = (refl, refl)
+
+locks_over : (kind : Kind) → (over kind).core.locks ≡ 2
+locks_over WoundWait = refl
+locks_over WaitDie = refl
+
+sign_over : (kind : Kind) → (over kind).core.sign 0 ≡ 0
+unfolding put ℕ_discrete
+sign_over WoundWait = refl
+sign_over WaitDie = refl
+
+context_over : (kind : Kind) (s : ℕ) → (over kind).core.stamp s ≡ 0
+context_over WoundWait s = none_after s
+context_over WaitDie s = none_after s
+
+none_at_first : (a b : ℕ) → no_debts a b ≢ true
+none_at_first a b is = true≢false (sym is)
+
+debts_over : (kind : Kind) (s v : ℕ) → (over kind).owes s v ≢ true
+unfolding put ℕ_discrete
+debts_over WoundWait s v is = none_left (paid_once no_debts 0 1) 1 0 (none_left no_debts 0 1 none_at_first) s v is
+debts_over WaitDie s v is = none_left no_debts 1 0 none_at_first s v is
+
+at_rest : (kind : Kind) → AtRest (over kind)
+at_rest kind = let w = over kind in let c = w.core in let o = reached_is_orderly w (reached_over kind) in
+    let l = reached_is_lawful c o.reached in
+    let two = locks_over kind in record {
+      owner = λ n s own. ⊎_elim
+          (λ below. each_of_two (λ m. c.owner m ≢ Taken s) (λ z. let y = (owners_over kind).0 in cc)
+          (λ z. let y = (owners_over kind).1 in cc) n below own)
+          (λ beyond. let none = l.base.owners.beyond n (omega arith) in cc) (cases_lt n 2);
+      queue = empty kind;
+      guard = λ n s inside. let at = (guards_are c o.reached s n inside).lock in
+          each_of_two (λ m. c.guard m ≢ suc s) (λ z. let y = (guards_over kind).0 in omega arith)
+          (λ z. let y = (guards_over kind).1 in omega arith)
+          n (omega arith) inside;
+      phase = λ s. ⊎_elim (λ acts. acts) (λ other. absurd
+          (no_rest kind s (⊎_elim (λ z y. let q : ⊥ = cc in q) (λ z y. let q : ⊥ = cc in q) other)))
+          (phase_is (w.phase s));
+      debts = debts_over kind;
+      sign = sign_over kind;
+      context = context_over kind;
+    }
+  where
+    empty : (kind : Kind) (n : ℕ) → (over kind).core.queue n ≡ []
+    empty kind n = let c = (over kind).core in let o = reached_is_orderly (over kind) (reached_over kind) in
+        let two = locks_over kind in ⊎_elim
+        (λ below. each_of_two (λ m. c.queue m ≡ []) (lists_over kind).0 (lists_over kind).1 n below)
+        (λ beyond. queues_beyond c o.reached n (omega arith)) (cases_lt n 2)
+
+    no_rest : (kind : Kind) (s : ℕ) → (over kind).phase s ≢ acting → ⊥
+    no_rest kind s not = let r = (reached_is_orderly (over kind) (reached_over kind)).rests s not in let h = r.stands in
+        subst (λ q. Has q h.0) (empty kind r.lock) h.1
+
+pub deadlocks_are_reached : DeadlocksAreReached
+deadlocks_are_reached kind = let g = goes_from (deadlocked kind) (reached_deadlocked kind) resolves
+    (plain_resolves kind) refl
+    (owning_resolves kind) (at_rest kind) in record {
+      scene = g.scene;
+      step = g.step;
+      of_kind = ap (λ (w : Scene). w.core.kind) g.from ∙ of_kind kind;
+      run = g.goes.run;
+      waiters = g.goes.go;
+      holders = g.goes.holders;
+      release = g.goes.release;
+      backs = backs g.scene g.step g.goes;
+      asks = asks g.scene g.step g.goes;
+      seats = 0 ∷ 1 ∷ [];
+      deadlocked = subst (λ (w : Scene). AreDeadlocked w.core (0 ∷ 1 ∷ [])) (sym g.from) (are_deadlocked kind);
+      sleeper = (0, inl refl, ap (λ (w : Scene). w.phase 0) g.from ∙ sleeps kind);
+      oldest = subst (λ (w : Scene). IsTheOldest w.core 0 1) (sym g.from) (is_oldest kind);
+      each_ends = g.goes.ends;
+      contended = contended g.scene g.step g.goes;
+      ends = ends_of g.scene g.step g.goes.ends 0;
+      owning = g.goes.owning;
+    }
+  where
+    of_kind : (kind : Kind) → (deadlocked kind).core.kind ≡ kind
+    of_kind WoundWait = refl
+    of_kind WaitDie = refl

@@ -1,0 +1,4 @@
+pub mod Premises
+pub mod Theorem
+pub mod Ties
+pub mod Views

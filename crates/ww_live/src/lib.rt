@@ -1,0 +1,6 @@
+//! No deadlock lasts: each function's contract is a sentence of `specs/Theorem.antt`, `specs/Ties.antt` or
+//! `specs/Views.antt`, and there is no code.
+#![tactic(auto)]
+
+pub mod theorem;
+pub mod ties;

@@ -1,0 +1,47 @@
+-- Endless runs of threads.
+use Rattle.std.specs.Prelude.{ℕ, suc, ◌≡◌, ◌<◌, ◌≤◌, true, false, Option, Some, None}
+use Rattle.ww_rule.specs.declared.cells.Start.{Start}
+use Rattle.ww_wakes.specs.Scene.{Scene, Step, finds_no_sign, wakes, rises}
+use Rattle.ww_wakes.specs.Theorem.{IsEndlessRun}
+use Rattle.ww_runs.specs.Moment.{Moment, HasToWake}
+use Rattle.ww_runs.specs.Moves.{Follows}
+use Rattle.ww_runs.specs.Runs.{IsShownBy, IsOfRun, HasToWaitThere}
+
+-- an endless run of threads, with what leads from each moment to the next
+pub record IsEndless {key : Start} (moment : ℕ → Moment key) (move : ℕ → Option Step) : Type 0 where
+  pub begins : IsOfRun (moment 0)
+  pub goes_on : (i : ℕ) → Follows (moment i) (moment (suc i)) (move i)
+
+-- the step of the scene; where none is to be, that a number which no seat has finds no sign
+abbrev pub step_of : Start → Option Step → Step
+step_of key None = finds_no_sign key.seats
+step_of key (Some x) = x
+
+-- an endless run of the scene, by these steps, of which each moment shows the scene
+pub record RunsAlong {key : Start} (moment : ℕ → Moment key) (move : ℕ → Option Step) : Type 0 where
+  pub scene : ℕ → Scene
+  pub run : IsEndlessRun scene (λ i. step_of key (move i))
+  pub shown : (i : ℕ) → IsShownBy (moment i) (scene i)
+
+-- each endless run of threads shows an endless run of the scene
+abbrev pub EndlessRunsShowScenes : Type 0
+EndlessRunsShowScenes = (key : Start) (moment : ℕ → Moment key) (move : ℕ → Option Step) → IsEndless moment move →
+    RunsAlong moment move
+
+-- Whoever has yet to wake a seat does so in the end, and whoever sleeps with a token rises in the end.
+pub record WakesArriveThere {key : Start} (moment : ℕ → Moment key) (move : ℕ → Option Step) : Type 0 where
+  pub made : (i s u : ℕ) → HasToWake (moment i) s u → (j : ℕ) × (i ≤ j) × (move j ≡ Some (wakes s u))
+  pub heard : (i s : ℕ) → s < key.seats → (moment i).token s ≡ true → (moment i).asleep s ≡ true →
+      (j : ℕ) × (i ≤ j) × (move j ≡ Some (rises s))
+
+-- whichever thread sleeps without having to is awake later
+abbrev pub NobodySleepsInVainInRuns : Type 0
+NobodySleepsInVainInRuns = (key : Start) (moment : ℕ → Moment key) (move : ℕ → Option Step) → IsEndless moment move →
+    WakesArriveThere moment move → (i s : ℕ) → s < key.seats → (moment i).asleep s ≡ true →
+    ¬ HasToWaitThere (moment i) s → (j : ℕ) × (i ≤ j) × ((moment j).asleep s ≡ false)
+
+-- whichever thread sleeps for ever has to wait at each moment
+abbrev pub SleepForEverIsAWaitInRuns : Type 0
+SleepForEverIsAWaitInRuns = (key : Start) (moment : ℕ → Moment key) (move : ℕ → Option Step) → IsEndless moment move →
+    WakesArriveThere moment move → (i s : ℕ) → s < key.seats →
+    ((j : ℕ) → i ≤ j → (moment j).asleep s ≡ true) → (j : ℕ) → i ≤ j → HasToWaitThere (moment j) s

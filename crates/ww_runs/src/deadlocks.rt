@@ -1,0 +1,25 @@
+//! No deadlock of threads lasts.
+ghost use Rattle.ww_runs.specs.Deadlocks.{WaitersSleepInRuns, FirstsAskInRuns, NoDeadlockLastsInRuns, WaitsEndInRuns};
+
+/// Each waiter that leaves a guard does so in order to sleep.
+pub fn waiters_sleep_in_runs()
+    ensures { WaitersSleepInRuns }
+{}
+
+/// Whichever waiter has looked again, and is the first in its list, has asked for the lock when it goes to sleep, or
+/// the lock is handed to somebody.
+pub fn firsts_ask_in_runs()
+    ensures { FirstsAskInRuns }
+{}
+
+/// Whenever threads are deadlocked, and scheduled while they wait, one of them gets EDEADLK or is called off in the
+/// end.
+pub fn no_deadlock_lasts_in_runs()
+    ensures { NoDeadlockLastsInRuns }
+{}
+
+/// Whenever a thread waits, some wait ends later, if all threads are scheduled while they wait, and whoever has a lock
+/// and waits for none releases it in the end or comes to wait.
+pub fn waits_end_in_runs()
+    ensures { WaitsEndInRuns }
+{}

@@ -1,0 +1,18 @@
+//! Endless runs of threads, and the endless runs of the scene that they show.
+ghost use Rattle.ww_runs.specs.Endless.{EndlessRunsShowScenes, NobodySleepsInVainInRuns, SleepForEverIsAWaitInRuns};
+
+/// Each endless run of threads shows an endless run of the scene, so what holds of all those holds of threads.
+pub fn endless_runs_show_scenes()
+    ensures { EndlessRunsShowScenes }
+{}
+
+/// If each wake that is owed is made in the end, and each sleeper with a token rises in the end, whichever thread
+/// sleeps without having to is awake later.
+pub fn nobody_sleeps_in_vain_in_runs()
+    ensures { NobodySleepsInVainInRuns }
+{}
+
+/// Then whichever thread sleeps for ever has to wait at each moment.
+pub fn sleep_for_ever_is_a_wait_in_runs()
+    ensures { SleepForEverIsAWaitInRuns }
+{}

@@ -1,0 +1,144 @@
+/* engines.c - the transactions of main.rs in C: by ww_mutex.h, written out as the kernel's documents do, and by ww.h. */
+#include "ww.h"
+#include "ww_mutex.h"
+#include <stdlib.h>
+
+enum { MOST = 8, SEATS = 16 };
+
+struct object {
+	struct ww_mutex lock;
+	unsigned long value;
+} __attribute__((aligned(64)));
+
+struct plain {
+	unsigned long value;
+} __attribute__((aligned(64)));
+
+static DEFINE_WW_CLASS(wound);
+static DEFINE_WD_CLASS(die);
+static struct ww_class *class_;
+static struct object *objects;
+static ww_world *world;
+static struct plain *plains;
+
+/* So many objects of both interfaces. */
+void engines_open(int is_wait_die, unsigned count)
+{
+	class_ = is_wait_die ? &die : &wound;
+	objects = aligned_alloc(64, count * sizeof *objects);
+	plains = aligned_alloc(64, count * sizeof *plains);
+	if (!objects || !plains || ww_open(&world, is_wait_die, count, SEATS))
+		abort();
+	for (unsigned k = 0; k < count; k++) {
+		ww_mutex_init(&objects[k].lock, class_);
+		objects[k].value = plains[k].value = 0;
+	}
+}
+
+/* What both counted. */
+void engines_close(unsigned count, unsigned long sums[2])
+{
+	sums[0] = sums[1] = 0;
+	for (unsigned k = 0; k < count; k++) {
+		sums[0] += objects[k].value;
+		sums[1] += plains[k].value;
+		if (ww_mutex_destroy(&objects[k].lock))
+			abort();
+	}
+	if (ww_close(world) || ww_class_free(class_))
+		abort();
+	free(objects);
+	free(plains);
+}
+
+/* So many different ones of `count`: for all engines, so that it costs each the same. */
+__attribute__((noinline)) void engines_draw(unsigned long *x, unsigned takes, unsigned count, unsigned *list)
+{
+	for (unsigned k = 0; k < takes;) {
+		unsigned drawn, j = 0;
+
+		*x = *x * 6364136223846793005u + 1442695040888963407u;
+		drawn = (unsigned)((*x >> 33) % count);
+		while (j < k && list[j] != drawn)
+			j++;
+		if (j == k)
+			list[k++] = drawn;
+	}
+}
+
+static void by_mutexes(const unsigned *list, unsigned takes)
+{
+	struct ww_acquire_ctx x;
+	unsigned slow = takes, k;
+
+	ww_acquire_init(&x, class_);
+	for (;;) {
+		int r = 0;
+
+		for (k = 0; k < takes && !r; k++)
+			if (k != slow)
+				r = ww_mutex_lock(&objects[list[k]].lock, &x);
+		if (!r)
+			break;
+		k--;
+		for (unsigned j = 0; j < k; j++)
+			if (j != slow)
+				ww_mutex_unlock(&objects[list[j]].lock);
+		if (slow < takes)
+			ww_mutex_unlock(&objects[list[slow]].lock);
+		slow = k;
+		ww_mutex_lock_slow(&objects[list[slow]].lock, &x);
+	}
+	for (k = 0; k < takes; k++)
+		objects[list[k]].value++;
+	for (k = 0; k < takes; k++)
+		ww_mutex_unlock(&objects[list[k]].lock);
+	ww_acquire_fini(&x);
+}
+
+static void by_numbers(ww_seat *s, const unsigned *list, unsigned takes)
+{
+	unsigned slow = takes, k;
+
+	if (ww_begin(s))
+		abort();
+	for (;;) {
+		int r = 0;
+
+		for (k = 0; k < takes && !r; k++)
+			if (k != slow)
+				r = ww_lock(s, list[k]);
+		if (!r)
+			break;
+		ww_unlock_all(s);
+		slow = k - 1;
+		if (ww_lock_slow(s, list[slow]))
+			abort();
+	}
+	for (k = 0; k < takes; k++)
+		plains[list[k]].value++;
+	ww_unlock_all(s);
+	ww_end(s);
+}
+
+/* Until `stop` isn't 0, or so many if `most` isn't; how many it made. */
+unsigned long engines_go(int by_number, unsigned takes, unsigned count, unsigned long seed, const int *stop, unsigned long most)
+{
+	unsigned long x = seed, done = 0;
+	unsigned list[MOST];
+	ww_seat *s = by_number ? ww_seat_get(world) : NULL;
+
+	if (by_number && !s)
+		abort();
+	while (most ? done < most : !__atomic_load_n(stop, __ATOMIC_RELAXED)) {
+		engines_draw(&x, takes, count, list);
+		if (by_number)
+			by_numbers(s, list, takes);
+		else
+			by_mutexes(list, takes);
+		done++;
+	}
+	if (s)
+		ww_seat_put(s);
+	return done;
+}

@@ -1,0 +1,78 @@
+use crate::ffi;
+use crate::lock::Lock;
+use core::fmt;
+use core::sync::atomic::{AtomicBool, Ordering};
+use std::sync::Arc;
+
+/// Calls off the waits of contexts that run with it ([`Options::cancelled_by`](crate::Options::cancelled_by)), from any
+/// thread, and for good. Its clones are the same one.
+///
+/// ```
+/// # use ww_mutex::{class, Canceller, Class, Error, Mutex};
+/// # class!(struct Boxes: WoundWait);
+/// # static BOX: Mutex<Boxes, u64> = Mutex::new(0);
+/// let canceller = Canceller::new();
+/// let held = BOX.lock();
+/// std::thread::scope(|scope| {
+///     let waiting = scope.spawn(|| Boxes::options().cancelled_by(&canceller).run(|tx| tx.lock(&BOX).map(|value| *value)));
+///     canceller.cancel();
+///     assert_eq!(waiting.join().unwrap(), Err(Error::Cancelled));
+/// });
+/// # drop(held);
+/// ```
+#[derive(Clone, Default)]
+pub struct Canceller {
+    shared: Arc<Shared>,
+}
+
+#[derive(Default)]
+struct Shared {
+    is_cancelled: AtomicBool,
+    running: Lock<Vec<Running>>,
+}
+
+/// A context that has begun, and hasn't ended: it leaves before that, under the lock.
+struct Running(*mut ffi::ww_acquire_ctx);
+
+// SAFETY: whoever finds it under the lock may cancel it, from any thread.
+unsafe impl Send for Running {}
+
+impl Canceller {
+    /// One that hasn't called anything off.
+    #[must_use]
+    pub fn new() -> Self {
+        Self::default()
+    }
+
+    /// Each context that runs with it is told [`Cancelled`](crate::Error::Cancelled) from now on: at once where it
+    /// waits, and else by its next lock.
+    pub fn cancel(&self) {
+        self.shared.is_cancelled.store(true, Ordering::SeqCst);
+        for running in self.shared.running.lock().iter() {
+            // SAFETY: the context has begun, and doesn't end before it has left the list, which is locked. Where a
+            // cancel is pending that serves as well.
+            unsafe { ffi::ww_acquire_cancel(running.0) };
+        }
+    }
+
+    /// Whether it has.
+    #[must_use]
+    pub fn is_cancelled(&self) -> bool {
+        self.shared.is_cancelled.load(Ordering::SeqCst)
+    }
+
+    /// A context runs with it from now on.
+    pub(crate) fn joins(&self, context: *mut ffi::ww_acquire_ctx) {
+        self.shared.running.lock().push(Running(context));
+    }
+
+    pub(crate) fn leaves(&self, context: *mut ffi::ww_acquire_ctx) {
+        self.shared.running.lock().retain(|running| running.0 != context);
+    }
+}
+
+impl fmt::Debug for Canceller {
+    fn fmt(&self, f: &mut fmt::Formatter<'_>) -> fmt::Result {
+        f.debug_struct("Canceller").field("is_cancelled", &self.is_cancelled()).finish()
+    }
+}

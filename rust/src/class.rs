@@ -1,0 +1,265 @@
+use crate::cell::Cells;
+use crate::lock::Lock;
+use crate::{error, ffi, Error, Options, Tx};
+use core::cell::UnsafeCell;
+use core::ffi::{c_int, CStr};
+use core::fmt;
+use core::ops::DerefMut;
+
+/// How contexts that collide are told apart. In both kinds the older one goes first.
+#[derive(Clone, Copy, Debug, PartialEq, Eq, Hash)]
+pub enum Kind {
+    /// An older context wounds a younger one that holds what it wants; that one is told `Deadlock` when it next waits.
+    WoundWait,
+    /// A younger context doesn't wait for an older one while it holds something: it is told `Deadlock` at once.
+    WaitDie,
+}
+
+/// Mutexes among which deadlocks are detected: a type, so that a context of another class can't lock them.
+/// [`class!`](crate::class!) makes one.
+pub trait Class: Sized + 'static {
+    /// What the class has at run time: the same one at each call.
+    fn raw() -> &'static RawClass;
+
+    /// Runs the body in a new context, and releases all that it locked. Where a lock call was told
+    /// [`Deadlock`](Error::Deadlock) and the body fails, this waits for the contended mutex and runs the body again.
+    ///
+    /// So the body may run several times, and should change nothing before it has all its locks. What it returns is
+    /// handed on, unless that is a failure after `Deadlock`.
+    ///
+    /// ```
+    /// # use ww_mutex::{class, Class, Error, Mutex};
+    /// class!(struct Accounts: WoundWait);
+    /// static ONE: Mutex<Accounts, u64> = Mutex::new(70);
+    /// static OTHER: Mutex<Accounts, u64> = Mutex::new(0);
+    ///
+    /// Accounts::run(|tx| {
+    ///     let mut from = tx.lock(&ONE)?;
+    ///     let mut to = tx.lock(&OTHER)?;
+    ///     *from -= 30;
+    ///     *to += 30;
+    ///     Ok(())
+    /// })?;
+    /// assert_eq!((*ONE.lock(), *OTHER.lock()), (40, 30));
+    /// # Ok::<(), Error>(())
+    /// ```
+    ///
+    /// Where all contexts of the class are in use (1,024, unless [`class!`](crate::class!) said another number), it
+    /// waits for one first; no deadlock is detected in which that wait has a part.
+    ///
+    /// # Errors
+    ///
+    /// What the body fails with, but for [`Error::Deadlock`] that its context was told; [`Error::OutOfMemory`], where
+    /// this opens the class.
+    ///
+    /// # Panics
+    ///
+    /// In a forked child, for a class that was opened before.
+    #[inline]
+    fn run<R>(body: impl FnMut(&Tx<Self>) -> Result<R, Error>) -> Result<R, Error> {
+        Options::new().run(body)
+    }
+
+    /// The same with an error type of the caller's.
+    ///
+    /// ```
+    /// # use ww_mutex::{class, Class, Error, Mutex};
+    /// # class!(struct Accounts: WoundWait);
+    /// #[derive(Debug)]
+    /// enum Refusal {
+    ///     Short,
+    ///     Lock(Error),
+    /// }
+    ///
+    /// impl From<Error> for Refusal {
+    ///     fn from(error: Error) -> Self {
+    ///         Refusal::Lock(error)
+    ///     }
+    /// }
+    ///
+    /// fn transfer(from: &Mutex<Accounts, u64>, to: &Mutex<Accounts, u64>, amount: u64) -> Result<(), Refusal> {
+    ///     Accounts::try_run(|tx| {
+    ///         let mut from = tx.lock(from)?;
+    ///         let mut to = tx.lock(to)?;
+    ///         *from = from.checked_sub(amount).ok_or(Refusal::Short)?;
+    ///         *to += amount;
+    ///         Ok(())
+    ///     })
+    /// }
+    ///
+    /// let (one, other) = (Mutex::new(70), Mutex::new(0));
+    /// assert!(matches!(transfer(&one, &other, 71), Err(Refusal::Short)));
+    /// assert!(matches!(transfer(&one, &one, 1), Err(Refusal::Lock(Error::Duplicate))));
+    /// assert!(transfer(&one, &other, 70).is_ok());
+    /// ```
+    ///
+    /// # Errors
+    ///
+    /// As [`run`](Class::run).
+    ///
+    /// # Panics
+    ///
+    /// As [`run`](Class::run).
+    #[inline]
+    fn try_run<R, E: From<Error>>(body: impl FnMut(&Tx<Self>) -> Result<R, E>) -> Result<R, E> {
+        Options::new().try_run(body)
+    }
+
+    /// Contexts with a deadline, or which somebody may call off.
+    #[inline]
+    fn options<'c>() -> Options<'c, Self> {
+        Options::new()
+    }
+
+    /// Takes the class's memory now, and not at its first use: 104 bytes for each mutex that it may have, and 1 to 1.5
+    /// KB for each context. A mutex takes 64 bytes more at its first lock.
+    ///
+    /// # Errors
+    ///
+    /// [`Error::OutOfMemory`].
+    fn open() -> Result<(), Error> {
+        Self::raw().open()
+    }
+}
+
+/// What a [`Class`] has at run time: a static of its own, opened at its first use and never freed.
+pub struct RawClass {
+    raw: UnsafeCell<ffi::ww_class>,
+    kind: Kind,
+    name: &'static CStr,
+    cells: Lock<Cells>,
+}
+
+// SAFETY: any thread may call the library with a `ww_class`, and nothing else reads or writes `raw`.
+unsafe impl Sync for RawClass {}
+
+impl RawClass {
+    /// How many mutexes a class has at once at the most, and unless another number is said.
+    pub const MUTEXES: u32 = 65_536;
+    /// How many contexts a class has at once, unless another number is said.
+    pub const CONTEXTS: u32 = 1_024;
+    /// How many contexts a class has at once at the most.
+    pub const MOST_CONTEXTS: u32 = 4_094;
+
+    /// With [`MUTEXES`](Self::MUTEXES) and [`CONTEXTS`](Self::CONTEXTS) at once.
+    #[must_use]
+    pub const fn new(kind: Kind, name: &'static CStr) -> Self {
+        Self::with_limits(kind, name, Self::MUTEXES, Self::CONTEXTS)
+    }
+
+    /// With so many mutexes and contexts at once at the most. Memory is taken for as many.
+    ///
+    /// # Panics
+    ///
+    /// Where there are none, or more than [`MUTEXES`](Self::MUTEXES) and [`MOST_CONTEXTS`](Self::MOST_CONTEXTS): in a
+    /// `static`, as [`class!`](crate::class!) makes it, that doesn't compile.
+    #[must_use]
+    pub const fn with_limits(kind: Kind, name: &'static CStr, mutexes: u32, contexts: u32) -> Self {
+        assert!(mutexes >= 1 && mutexes <= Self::MUTEXES, "a class has 1 to 65,536 mutexes");
+        assert!(contexts >= 1 && contexts <= Self::MOST_CONTEXTS, "a class has 1 to 4,094 contexts");
+        RawClass {
+            raw: UnsafeCell::new(ffi::ww_class {
+                pool: core::ptr::null_mut(),
+                mutexes,
+                contexts,
+                is_wait_die: matches!(kind, Kind::WaitDie) as c_int,
+                name: name.as_ptr(),
+            }),
+            kind,
+            name,
+            cells: Lock::new(Cells::new()),
+        }
+    }
+
+    /// Wound-Wait or Wait-Die.
+    #[must_use]
+    pub const fn kind(&self) -> Kind {
+        self.kind
+    }
+
+    /// What it was called.
+    #[must_use]
+    pub const fn name(&self) -> &'static CStr {
+        self.name
+    }
+
+    pub(crate) fn get(&'static self) -> *mut ffi::ww_class {
+        self.raw.get()
+    }
+
+    pub(crate) fn cells(&'static self) -> impl DerefMut<Target = Cells> {
+        self.cells.lock()
+    }
+
+    pub(crate) fn open(&'static self) -> Result<(), Error> {
+        // SAFETY: the class is static.
+        match unsafe { ffi::ww_class_open(self.get()) } {
+            0 => Ok(()),
+            answer => Err(error::of_making(answer)),
+        }
+    }
+}
+
+impl fmt::Debug for RawClass {
+    fn fmt(&self, f: &mut fmt::Formatter<'_>) -> fmt::Result {
+        f.debug_struct("RawClass").field("name", &self.name()).field("kind", &self.kind()).finish_non_exhaustive()
+    }
+}
+
+/// Makes a [`Class`], or several: `class!(pub struct Buffers: WoundWait);`, with limits if need be.
+///
+/// ```
+/// ww_mutex::class! {
+///     /// The buffers of all devices.
+///     pub struct Buffers: WoundWait;
+///     struct Ports: WaitDie, mutexes = 64, contexts = 4;
+///     struct Sessions: WoundWait, contexts = 4000;
+/// }
+/// ```
+///
+/// Limits outside 1 to 65,536 mutexes and 1 to 4,094 contexts don't compile:
+///
+/// ```compile_fail,E0080
+/// ww_mutex::class!(struct Ports: WaitDie, mutexes = 65_537);
+/// ```
+///
+/// ```compile_fail,E0080
+/// ww_mutex::class!(struct Ports: WaitDie, contexts = 4_095);
+/// ```
+///
+/// ```compile_fail,E0080
+/// ww_mutex::class!(struct Ports: WaitDie, mutexes = 0, contexts = 4);
+/// ```
+#[macro_export]
+macro_rules! class {
+    ($(
+        $(#[$about:meta])*
+        $seen:vis struct $name:ident : $kind:ident $(, mutexes = $mutexes:expr)? $(, contexts = $contexts:expr)?
+    );+ $(;)?) => {
+        $(
+            $(#[$about])*
+            #[derive(Clone, Copy, Debug)]
+            $seen enum $name {}
+
+            impl $crate::Class for $name {
+                #[inline]
+                fn raw() -> &'static $crate::RawClass {
+                    const NAME: &::core::ffi::CStr =
+                        match ::core::ffi::CStr::from_bytes_with_nul(concat!(stringify!($name), "\0").as_bytes()) {
+                            Ok(name) => name,
+                            Err(_) => panic!("a name has no zero"),
+                        };
+                    static RAW: $crate::RawClass = $crate::RawClass::with_limits(
+                        $crate::Kind::$kind,
+                        NAME,
+                        $crate::class!(@limit MUTEXES $($mutexes)?),
+                        $crate::class!(@limit CONTEXTS $($contexts)?),
+                    );
+                    &RAW
+                }
+            }
+        )+
+    };
+    (@limit $usual:ident) => { $crate::RawClass::$usual };
+    (@limit $usual:ident $limit:expr) => { $limit };
+}

@@ -1,0 +1,360 @@
+//! A context of the library, as both forms of contexts here use it.
+
+use crate::cell::{self, CellRef, LockCell};
+use crate::class::RawClass;
+use crate::{clock, error, ffi, own, Canceller, Class, Error, Kind, Mutex, MutexGuard};
+use core::cell::{Cell, OnceCell, UnsafeCell};
+use core::ffi::c_int;
+use core::mem::MaybeUninit;
+use core::ptr;
+use std::thread;
+use std::time::{Duration, Instant};
+
+/// From `begin` to `end` it isn't moved or borrowed exclusively, since the library has its address.
+pub(crate) struct Context {
+    raw: UnsafeCell<MaybeUninit<ffi::ww_acquire_ctx>>,
+    class: &'static RawClass,
+    /// As long as there is none of it, a lock call is the library's and nothing else.
+    rare: OnceCell<Box<Rare>>,
+}
+
+/// What a context has with limits, or once it was told `Deadlock`.
+#[derive(Default)]
+struct Rare {
+    limits: Limits,
+    /// A lock call was told `Deadlock`, so that nothing is locked until all is released.
+    is_over: Cell<bool>,
+    /// Where that was: it comes first from then on, whatever happens to its mutex meanwhile.
+    contended: Cell<Option<CellRef>>,
+    /// It came first, and nobody has asked for it yet.
+    prelocked: Cell<Option<CellRef>>,
+}
+
+impl Rare {
+    /// Whether the context has it from its back-off, and no guard has.
+    fn comes_first(&self, cell: &LockCell) -> bool {
+        let prelocked = self.prelocked.take();
+        let is_it = prelocked.as_ref().is_some_and(|first| ptr::eq(first.get(), cell));
+        self.prelocked.set(prelocked);
+        is_it
+    }
+}
+
+/// What may end the waits of a context.
+#[derive(Default)]
+struct Limits {
+    until: Option<(Instant, ffi::timespec)>,
+    canceller: Option<Canceller>,
+}
+
+impl Limits {
+    fn is_cancelled(&self) -> bool {
+        self.canceller.as_ref().is_some_and(Canceller::is_cancelled)
+    }
+
+    /// For a wait in which the library looks at none of them.
+    fn check(&self) -> Result<(), Error> {
+        if self.is_cancelled() {
+            Err(Error::Cancelled)
+        } else if self.until.is_some_and(|(at, _)| at <= Instant::now()) {
+            Err(Error::TimedOut)
+        } else {
+            Ok(())
+        }
+    }
+}
+
+impl Context {
+    #[inline]
+    pub(crate) const fn new(class: &'static RawClass) -> Self {
+        Context { raw: UnsafeCell::new(MaybeUninit::uninit()), class, rare: OnceCell::new() }
+    }
+
+    #[cold]
+    pub(crate) fn with_limits(
+        class: &'static RawClass,
+        deadline: Option<Instant>,
+        canceller: Option<&Canceller>,
+    ) -> Self {
+        let until = deadline.map(|at| (at, clock::monotonic(at)));
+        let limits = Limits { until, canceller: canceller.cloned() };
+        Context { rare: Box::new(Rare { limits, ..Rare::default() }).into(), ..Self::new(class) }
+    }
+
+    #[inline]
+    fn raw(&self) -> *mut ffi::ww_acquire_ctx {
+        self.raw.get().cast()
+    }
+
+    /// How many mutexes it holds.
+    #[inline]
+    pub(crate) fn held(&self) -> u32 {
+        // SAFETY: the context has begun, and only its own thread, which is this one, writes that field.
+        unsafe { (*self.raw()).acquired }
+    }
+
+    #[inline]
+    fn rare(&self) -> Option<&Rare> {
+        self.rare.get().map(|rare| &**rare)
+    }
+
+    fn canceller(&self) -> Option<&Canceller> {
+        self.rare()?.limits.canceller.as_ref()
+    }
+
+    // ---- beginning and end ----
+
+    /// # Safety
+    ///
+    /// It stays where it is, and isn't borrowed exclusively, until `end`, which comes once.
+    #[inline]
+    pub(crate) unsafe fn begin(&self) -> Result<(), Error> {
+        // SAFETY: the call reads nothing of what stood there; the class is static.
+        let begin = || unsafe { ffi::ww_acquire_init_checked(self.raw(), self.class.get()) };
+        // SAFETY: as above. It waits for a context.
+        let wait = || unsafe { ffi::ww_acquire_init(self.raw(), self.class.get()) };
+        match begin() {
+            0 => {}
+            answer => self.begin_late(answer, begin, wait)?,
+        }
+        own::begun(self.raw());
+        if let Some(canceller) = self.canceller() {
+            canceller.joins(self.raw());
+        }
+        Ok(())
+    }
+
+    /// The library's wait for a context has no limits, so a context that has some looks again and again.
+    #[cold]
+    fn begin_late(&self, mut answer: c_int, begin: impl Fn() -> c_int, wait: impl FnOnce()) -> Result<(), Error> {
+        let mut pause = Duration::from_micros(20);
+        while answer == -ffi::EAGAIN {
+            let Some(rare) = self.rare() else {
+                wait();
+                return Ok(());
+            };
+            rare.limits.check()?;
+            thread::sleep(pause);
+            pause = (2 * pause).min(Duration::from_millis(1));
+            answer = begin();
+        }
+        match answer {
+            0 => Ok(()),
+            _ => Err(error::of_making(answer)),
+        }
+    }
+
+    /// # Safety
+    ///
+    /// It has begun, and hasn't ended; no guard of it is left that anybody could use.
+    #[inline]
+    pub(crate) unsafe fn end(&self) {
+        if self.held() != 0 {
+            // SAFETY: as asked for here.
+            unsafe { self.release_all() };
+        }
+        if let Some(canceller) = self.canceller() {
+            canceller.leaves(self.raw());
+        }
+        own::ended(self.raw());
+        // SAFETY: it has begun, hasn't ended, and holds nothing.
+        unsafe { ffi::ww_acquire_fini(self.raw()) };
+    }
+
+    // ---- locks ----
+
+    /// Acquires the mutex of this cell, which the caller borrows.
+    #[inline]
+    pub(crate) fn lock(&self, cell: &'static LockCell) -> Result<(), Error> {
+        self.lock_with(self.rare(), cell)
+    }
+
+    #[inline]
+    fn lock_with(&self, rare: Option<&Rare>, cell: &'static LockCell) -> Result<(), Error> {
+        if let Some(rare) = rare {
+            return self.lock_rarely(cell, rare);
+        }
+        match self.ask(cell) {
+            0 => Ok(()),
+            answer => self.refused(cell, answer),
+        }
+    }
+
+    #[cold]
+    fn lock_rarely(&self, cell: &'static LockCell, rare: &Rare) -> Result<(), Error> {
+        if rare.is_over.get() {
+            return Err(Error::Deadlock);
+        }
+        match self.ask_within(cell, &rare.limits) {
+            0 => Ok(()),
+            answer => self.refused(cell, answer),
+        }
+    }
+
+    #[inline]
+    fn ask(&self, cell: &'static LockCell) -> c_int {
+        // In Wait-Die one that holds something may be told to back off instead.
+        if cfg!(debug_assertions) && (self.held() == 0 || self.class.kind() == Kind::WoundWait) {
+            own::check_wait(cell, self.raw());
+        }
+        // SAFETY: the library's mutex lives for ever, and the context has begun, and hasn't ended.
+        unsafe { ffi::lock(cell.raw(), self.raw()) }
+    }
+
+    fn ask_within(&self, cell: &'static LockCell, limits: &Limits) -> c_int {
+        if limits.is_cancelled() {
+            return -ffi::EINTR;
+        }
+        match limits {
+            // SAFETY: as in `ask`; the time lives for the call.
+            Limits { until: Some((_, until)), .. } => unsafe {
+                ffi::ww_mutex_lock_until(cell.raw(), self.raw(), ptr::from_ref(until))
+            },
+            // SAFETY: as in `ask`.
+            Limits { canceller: Some(_), .. } => unsafe { ffi::ww_mutex_lock_interruptible(cell.raw(), self.raw()) },
+            Limits { .. } => self.ask(cell),
+        }
+    }
+
+    /// What another answer than 0 comes to.
+    #[cold]
+    fn refused(&self, cell: &'static LockCell, answer: c_int) -> Result<(), Error> {
+        match -answer {
+            ffi::EALREADY if self.take_first(cell) => Ok(()),
+            ffi::EALREADY => Err(Error::Duplicate),
+            ffi::EDEADLK => {
+                let rare = self.rare.get_or_init(Box::default);
+                rare.contended.set(Some(CellRef::of(cell)));
+                rare.is_over.set(true);
+                Err(Error::Deadlock)
+            }
+            ffi::EINTR => Err(Error::Cancelled),
+            ffi::ETIMEDOUT => Err(Error::TimedOut),
+            _ => {
+                self.check_class(cell);
+                error::in_child()
+            }
+        }
+    }
+
+    /// # Panics
+    ///
+    /// The cell is of another class.
+    fn check_class(&self, cell: &LockCell) {
+        assert!(ptr::eq(self.class, cell.class()), "`Class::raw` tells different classes");
+    }
+
+    /// Acquires all of them, in this order, for guards that live no longer than the context; or none of them. What it
+    /// has where a lock call panics is released like what was forgotten.
+    #[inline]
+    pub(crate) fn lock_all<'g, C: Class, T: ?Sized, const N: usize>(
+        &'g self,
+        list: [&'g Mutex<C, T>; N],
+    ) -> Result<[MutexGuard<'g, C, T>; N], Error> {
+        // It stays as it is until a lock call is refused.
+        let rare = self.rare();
+        for (count, mutex) in list.iter().enumerate() {
+            let told = match mutex.cell() {
+                Ok(cell) => self.lock_with(rare, cell),
+                Err(error) => Err(error),
+            };
+            if told.is_err() {
+                // SAFETY: these were locked here, and no other guards stand for that.
+                list[..count].iter().for_each(|mutex| drop(unsafe { MutexGuard::of(mutex) }));
+                told?;
+            }
+        }
+        // SAFETY: each was locked, for these guards.
+        Ok(list.map(|mutex| unsafe { MutexGuard::of(mutex) }))
+    }
+
+    /// Acquires it if nobody has it or waits for it.
+    pub(crate) fn try_lock(&self, cell: &'static LockCell) -> bool {
+        self.check_class(cell);
+        if self.is_over() {
+            return false;
+        }
+        // SAFETY: as in `ask`.
+        self.take_first(cell) || unsafe { ffi::ww_mutex_trylock(cell.raw(), self.raw()) == 1 }
+    }
+
+    /// Whether a guard of the context holds it.
+    pub(crate) fn holds(&self, cell: &LockCell) -> bool {
+        cell.holder() == self.raw() && !self.rare().is_some_and(|rare| rare.comes_first(cell))
+    }
+
+    /// Hands out what the context has from its back-off, if that is it.
+    fn take_first(&self, cell: &LockCell) -> bool {
+        let Some(rare) = self.rare().filter(|rare| rare.comes_first(cell)) else { return false };
+        rare.prelocked.take();
+        true
+    }
+
+    // ---- back-offs ----
+
+    /// Whether it was told `Deadlock`, and hasn't backed off since.
+    #[inline]
+    pub(crate) fn is_over(&self) -> bool {
+        self.rare().is_some_and(|rare| rare.is_over.get())
+    }
+
+    /// The mutex at which `Deadlock` was told.
+    pub(crate) fn take_contended(&self) -> Option<CellRef> {
+        self.rare()?.contended.take()
+    }
+
+    /// Releases all, so that anything can be locked.
+    ///
+    /// # Safety
+    ///
+    /// No guard of the context is left that anybody could use.
+    pub(crate) unsafe fn start(&self) {
+        if self.held() != 0 {
+            // SAFETY: as asked for here.
+            unsafe { self.release_all() };
+        }
+        if let Some(rare) = self.rare() {
+            rare.contended.take();
+            rare.is_over.set(false);
+        }
+    }
+
+    /// Releases all, and waits for this mutex, which it then has.
+    ///
+    /// # Safety
+    ///
+    /// No guard of the context is left that anybody could use.
+    #[cold]
+    pub(crate) unsafe fn back_off(&self, first: Option<CellRef>) -> Result<(), Error> {
+        // SAFETY: as asked for here.
+        unsafe { self.start() };
+        let Some(first) = first else { return Ok(()) };
+        let rare = self.rare.get_or_init(Box::default);
+        // A context that holds nothing is never told `Deadlock`. So a lock call like any other does for the slow one,
+        // and has the same limits.
+        match self.ask_within(first.get(), &rare.limits) {
+            0 => {
+                rare.prelocked.set(Some(first));
+                Ok(())
+            }
+            answer => self.refused(first.get(), answer),
+        }
+    }
+
+    /// What it has from its back-off, and what was forgotten.
+    ///
+    /// # Safety
+    ///
+    /// No guard of the context is left that anybody could use.
+    #[cold]
+    unsafe fn release_all(&self) {
+        if let Some(first) = self.rare().and_then(|rare| rare.prelocked.take()) {
+            // SAFETY: the context has it, and no guard stands for that.
+            unsafe { ffi::unlock(first.raw()) };
+        }
+        if self.held() != 0 {
+            // SAFETY: as asked for here.
+            unsafe { cell::release_forgotten(self.class, self.raw()) };
+        }
+    }
+}

@@ -1,0 +1,166 @@
+use crate::{Class, Mutex};
+use core::fmt;
+use core::marker::PhantomData;
+use core::ops::{Deref, DerefMut};
+use std::sync::Arc;
+
+/// A locked mutex, and the way to its value. Its drop releases the mutex, in the thread that locked it.
+///
+/// ```compile_fail,E0277
+/// # use ww_mutex::{class, Mutex};
+/// # class!(struct Boxes: WoundWait);
+/// # static BOX: Mutex<Boxes, u64> = Mutex::new(0);
+/// let guard = BOX.lock();
+/// std::thread::spawn(move || drop(guard)); // it isn't `Send`
+/// ```
+///
+/// A mutex is released once:
+///
+/// ```compile_fail,E0382
+/// # use ww_mutex::{class, Mutex};
+/// # class!(struct Boxes: WoundWait);
+/// # static BOX: Mutex<Boxes, u64> = Mutex::new(0);
+/// let guard = BOX.lock();
+/// drop(guard);
+/// drop(guard);
+/// ```
+///
+/// Threads share a guard only if they may share its value:
+///
+/// ```compile_fail,E0277
+/// # use ww_mutex::{class, Mutex};
+/// # use std::cell::Cell;
+/// # class!(struct Boxes: WoundWait);
+/// # static BOX: Mutex<Boxes, Cell<u64>> = Mutex::new(Cell::new(0));
+/// let guard = BOX.lock();
+/// std::thread::scope(|scope| { scope.spawn(|| guard.set(1)); });
+/// ```
+#[must_use = "the mutex is released at once where its guard is dropped"]
+#[clippy::has_significant_drop]
+pub struct MutexGuard<'g, C: Class, T: ?Sized> {
+    mutex: &'g Mutex<C, T>,
+    of_this_thread: PhantomData<*mut ()>,
+}
+
+// SAFETY: threads that share it get `&T`, and the mutex, which asks for `Send` of T.
+unsafe impl<C: Class, T: ?Sized + Send + Sync> Sync for MutexGuard<'_, C, T> {}
+
+impl<'g, C: Class, T: ?Sized> MutexGuard<'g, C, T> {
+    /// # Safety
+    ///
+    /// This thread has locked the mutex, and no other guard stands for that.
+    #[inline]
+    pub(crate) unsafe fn of(mutex: &'g Mutex<C, T>) -> Self {
+        MutexGuard { mutex, of_this_thread: PhantomData }
+    }
+
+    /// The mutex that it holds.
+    #[must_use]
+    pub fn mutex(guard: &Self) -> &'g Mutex<C, T> {
+        guard.mutex
+    }
+}
+
+impl<C: Class, T: ?Sized> Deref for MutexGuard<'_, C, T> {
+    type Target = T;
+
+    #[inline]
+    fn deref(&self) -> &T {
+        // SAFETY: the mutex is held, and the guard is borrowed.
+        unsafe { &*self.mutex.value() }
+    }
+}
+
+impl<C: Class, T: ?Sized> DerefMut for MutexGuard<'_, C, T> {
+    #[inline]
+    fn deref_mut(&mut self) -> &mut T {
+        // SAFETY: the mutex is held, and this is its one guard, borrowed exclusively.
+        unsafe { &mut *self.mutex.value() }
+    }
+}
+
+impl<C: Class, T: ?Sized> Drop for MutexGuard<'_, C, T> {
+    #[inline]
+    fn drop(&mut self) {
+        // SAFETY: a guard stands for a lock by this thread, and goes but once.
+        unsafe { self.mutex.release() };
+    }
+}
+
+impl<C: Class, T: ?Sized + fmt::Debug> fmt::Debug for MutexGuard<'_, C, T> {
+    fn fmt(&self, f: &mut fmt::Formatter<'_>) -> fmt::Result {
+        (**self).fmt(f)
+    }
+}
+
+impl<C: Class, T: ?Sized + fmt::Display> fmt::Display for MutexGuard<'_, C, T> {
+    fn fmt(&self, f: &mut fmt::Formatter<'_>) -> fmt::Result {
+        (**self).fmt(f)
+    }
+}
+
+/// As [`MutexGuard`], but it shares the mutex rather than borrowing it: one that was found on the way, and that nothing
+/// else in the body keeps. It lives no longer than the borrow of its context, `'x`.
+#[must_use = "the mutex is released at once where its guard is dropped"]
+#[clippy::has_significant_drop]
+pub struct ArcMutexGuard<'x, C: Class, T: ?Sized> {
+    mutex: Arc<Mutex<C, T>>,
+    of_this_context: PhantomData<(&'x (), *mut ())>,
+}
+
+// SAFETY: threads that share it get `&T`, and clones of the `Arc`, which asks for `Send` of T.
+unsafe impl<C: Class, T: ?Sized + Send + Sync> Sync for ArcMutexGuard<'_, C, T> {}
+
+impl<C: Class, T: ?Sized> ArcMutexGuard<'_, C, T> {
+    /// # Safety
+    ///
+    /// This thread has locked the mutex, and no other guard stands for that. `'x` ends before its context does.
+    #[inline]
+    pub(crate) unsafe fn of(mutex: Arc<Mutex<C, T>>) -> Self {
+        ArcMutexGuard { mutex, of_this_context: PhantomData }
+    }
+
+    /// The mutex that it holds.
+    #[must_use]
+    pub fn mutex(guard: &Self) -> &Arc<Mutex<C, T>> {
+        &guard.mutex
+    }
+}
+
+impl<C: Class, T: ?Sized> Deref for ArcMutexGuard<'_, C, T> {
+    type Target = T;
+
+    #[inline]
+    fn deref(&self) -> &T {
+        // SAFETY: the mutex is held, and the guard is borrowed.
+        unsafe { &*self.mutex.value() }
+    }
+}
+
+impl<C: Class, T: ?Sized> DerefMut for ArcMutexGuard<'_, C, T> {
+    #[inline]
+    fn deref_mut(&mut self) -> &mut T {
+        // SAFETY: the mutex is held, and this is its one guard, borrowed exclusively.
+        unsafe { &mut *self.mutex.value() }
+    }
+}
+
+impl<C: Class, T: ?Sized> Drop for ArcMutexGuard<'_, C, T> {
+    #[inline]
+    fn drop(&mut self) {
+        // SAFETY: a guard stands for a lock by this thread, and goes but once. The mutex may go with it, behind this.
+        unsafe { self.mutex.release() };
+    }
+}
+
+impl<C: Class, T: ?Sized + fmt::Debug> fmt::Debug for ArcMutexGuard<'_, C, T> {
+    fn fmt(&self, f: &mut fmt::Formatter<'_>) -> fmt::Result {
+        (**self).fmt(f)
+    }
+}
+
+impl<C: Class, T: ?Sized + fmt::Display> fmt::Display for ArcMutexGuard<'_, C, T> {
+    fn fmt(&self, f: &mut fmt::Formatter<'_>) -> fmt::Result {
+        (**self).fmt(f)
+    }
+}

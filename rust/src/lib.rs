@@ -1,0 +1,97 @@
+//! Wound/wait mutexes: a thread locks several values, in any order, and learns which ones as it goes. Where threads
+//! would wait for each other for ever, the youngest of them releases what it holds, and tries again.
+//!
+//! ```
+//! use ww_mutex::{class, Class, Error, Mutex};
+//!
+//! class!(struct Buffers: WoundWait);
+//!
+//! let list: Vec<Mutex<Buffers, u64>> = vec![Mutex::new(1), Mutex::new(2), Mutex::new(3)];
+//! let sum = Buffers::run(|tx| {
+//!     let mut first = tx.lock(&list[2])?;
+//!     let second = tx.lock(&list[0])?; // in any order
+//!     *first += *second;
+//!     Ok(*first)
+//! })?;
+//! assert_eq!(sum, 4);
+//! # Ok::<(), Error>(())
+//! ```
+//!
+//! - A [`Class`] is a type: the mutexes among which deadlocks are detected. It is Wound-Wait or Wait-Die, and has up to
+//!   65,536 mutexes at once, and 1,024 contexts, or as many as [`class!`] says.
+//! - A [`Mutex`] belongs to a class, and guards a value. It may be a `static`, and may be moved while nobody borrows
+//!   it.
+//! - [`Class::run`] runs a body with a context, [`Tx`], and runs it again after each [`Deadlock`](Error::Deadlock).
+//!   [`Options`] give it a deadline, or a [`Canceller`] for other threads.
+//! - [`Mutex::lock`] locks one mutex without a context, as std's does.
+//! - [`typed`] has contexts without closures: there the borrow checker keeps the order of the calls.
+//!
+//! # The body runs again
+//!
+//! After [`Deadlock`](Error::Deadlock) all guards go, and the body that [`Class::run`] was given runs from its
+//! beginning. What it changed before is still changed. So a body locks all that it needs, and changes something only
+//! then; what it has to do once, like sending a message, comes behind `run`.
+//!
+//! Such a mistake shows only where threads collide. The feature `debug-library` links a library that tells contexts
+//! `Deadlock` now and then without need: run the tests of a program with it.
+//!
+//! # What it doesn't do
+//!
+//! Deadlocks are detected among the mutexes of one class, and among contexts. A thread that has two contexts, or locks
+//! a mutex without its context inside a body, can wait for itself for ever; with debug assertions that is a panic where
+//! it is certain. No deadlock is detected in which another class, another kind of lock, a channel or a thread that is
+//! waited for has a part.
+//!
+//! Nothing says that a waiting call returns, or in which order; there is no fairness. Classes that were in use can't be
+//! used in a forked child: each use panics. None of it is for signal handlers, nor for `async`: a wait blocks its
+//! thread.
+//!
+//! # Panics and leaks
+//!
+//! There is no poison: a panic releases what its guards held on its way through the body, and ends the context. A value
+//! that it may leave half changed has to say so itself. As those of `parking_lot`, mutexes aren't `RefUnwindSafe`.
+//!
+//! A guard of a context that is forgotten ([`std::mem::forget`]) is released with the context's next attempt, or at its
+//! end: by then nothing can reach the value. One that was locked without a context keeps its mutex locked, and one of
+//! the contexts of the class in use, for ever.
+//!
+//! # What it is built on
+//!
+//! The locks are those of `libww`, whose core is proved: mutual exclusion, that each cycle of waits has a member that
+//! is told to back off, and that no context is told so but because of an older one. What `libww` adds to its core in C
+//! (waits, wake-ups, deadlines, cancels), and what this crate adds, is tested. It runs on Linux.
+
+mod cancel;
+mod cell;
+mod class;
+mod clock;
+mod context;
+mod error;
+mod ffi;
+mod guard;
+mod lock;
+mod mutex;
+mod options;
+mod own;
+mod tx;
+pub mod typed;
+
+pub use cancel::Canceller;
+pub use class::{Class, Kind, RawClass};
+pub use error::Error;
+pub use guard::{ArcMutexGuard, MutexGuard};
+pub use mutex::Mutex;
+pub use options::Options;
+pub use tx::Tx;
+
+/// The version of `libww`: 10,000 times its first number, 100 times the second one, and the third one.
+#[must_use]
+pub fn library_version() -> u32 {
+    // SAFETY: it takes nothing, and tells a constant.
+    unsafe { ffi::ww_version() }
+}
+
+/// The page for readers is tested, too.
+#[cfg(doctest)]
+#[doc = include_str!("../README.md")]
+struct Readme;

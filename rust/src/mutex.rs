@@ -1,0 +1,218 @@
+use crate::cell::{Handle, LockCell};
+use crate::{clock, error, ffi, own, Class, Error, MutexGuard};
+use core::cell::UnsafeCell;
+use core::fmt;
+use core::ptr;
+use std::time::{Duration, Instant};
+
+/// A mutex of a class, around a value.
+///
+/// A context locks it by [`Tx::lock`](crate::Tx::lock); [`lock`](Mutex::lock) does so without a context.
+///
+/// It may be a `static`, and may be moved while nobody borrows it. From its first lock until it is dropped it is one of
+/// the 65,536 mutexes that a class may have in use. There is no poison: a guard that a panic drops releases its mutex.
+///
+/// It isn't moved while it is locked:
+///
+/// ```compile_fail,E0505
+/// # use ww_mutex::{class, Mutex};
+/// # class!(struct Boxes: WoundWait);
+/// let mutex: Mutex<Boxes, u64> = Mutex::new(0);
+/// let guard = mutex.lock();
+/// let moved = mutex;
+/// drop(guard);
+/// ```
+///
+/// Threads share it only if its value is `Send`:
+///
+/// ```compile_fail,E0277
+/// # use ww_mutex::{class, Mutex};
+/// # class!(struct Boxes: WoundWait);
+/// fn shared<M: Sync>(_: &M) {}
+/// shared(&Mutex::<Boxes, _>::new(std::rc::Rc::new(1)));
+/// ```
+pub struct Mutex<C: Class, T: ?Sized> {
+    // This field has the `Drop`, so that mutexes may borrow each other in a cycle, as std's may.
+    handle: Handle<C>,
+    value: UnsafeCell<T>,
+}
+
+// SAFETY: from a shared mutex only a guard leads to the value, one thread at a time has one, and what was done under
+// one is seen under the next.
+unsafe impl<C: Class, T: ?Sized + Send> Sync for Mutex<C, T> {}
+// SAFETY: a mutex that is moved to another thread has no guard, and its value comes along.
+unsafe impl<C: Class, T: ?Sized + Send> Send for Mutex<C, T> {}
+
+impl<C: Class, T> Mutex<C, T> {
+    /// It takes nothing of its class yet: its first lock does.
+    #[inline]
+    #[must_use]
+    pub const fn new(value: T) -> Self {
+        Mutex { handle: Handle::new(), value: UnsafeCell::new(value) }
+    }
+
+    /// One that takes its place in the class at once, so that no lock of it is told `Exhausted`.
+    ///
+    /// # Errors
+    ///
+    /// `Exhausted` or `OutOfMemory`, with the value.
+    pub fn try_new(value: T) -> Result<Self, (T, Error)> {
+        let mutex = Self::new(value);
+        match mutex.handle.cell() {
+            Ok(_) => Ok(mutex),
+            Err(error) => Err((mutex.into_inner(), error)),
+        }
+    }
+
+    /// The value. Nobody holds the mutex, since nobody borrows it.
+    #[inline]
+    pub fn into_inner(self) -> T {
+        self.value.into_inner()
+    }
+}
+
+impl<C: Class, T: ?Sized> Mutex<C, T> {
+    /// Locks it without a context, and waits for it. Where all contexts of the class are in use it waits for one, too,
+    /// and keeps that until the guard goes.
+    ///
+    /// No deadlock is detected among mutexes that are locked so. A thread that holds something and needs more locks it
+    /// by a context.
+    ///
+    /// # Panics
+    ///
+    /// Where the class has all mutexes that it may have, or no memory to open ([`try_new`](Mutex::try_new) tells that);
+    /// in a forked child, for a class that was opened before; and, with debug assertions, where a context of this
+    /// thread holds it.
+    #[inline]
+    pub fn lock(&self) -> MutexGuard<'_, C, T> {
+        let cell = self.cell_or_panic();
+        own::check_wait(cell, ptr::null());
+        // SAFETY: the library's mutex lives for ever. Without a context nothing calls this off, and it answers where
+        // `ww_mutex_lock` would end the program.
+        match unsafe { ffi::ww_mutex_lock_interruptible(cell.raw(), ptr::null_mut()) } {
+            // SAFETY: it locked the mutex, for this guard.
+            0 => unsafe { MutexGuard::of(self) },
+            _ => error::in_child(),
+        }
+    }
+
+    /// Locks it without a context if nobody holds it or waits for it, and a context of the class is free.
+    ///
+    /// # Panics
+    ///
+    /// Where the class has all mutexes that it may have, or no memory to open.
+    #[inline]
+    pub fn try_lock(&self) -> Option<MutexGuard<'_, C, T>> {
+        let cell = self.cell_or_panic();
+        // SAFETY: the library's mutex lives for ever.
+        let is_locked = unsafe { ffi::ww_mutex_trylock(cell.raw(), ptr::null_mut()) } == 1;
+        // SAFETY: it locked the mutex, for this guard.
+        is_locked.then(|| unsafe { MutexGuard::of(self) })
+    }
+
+    /// As [`lock`](Mutex::lock), but waits until this time at the longest. A mutex that is free is locked, however late
+    /// it is, if a context of the class is free.
+    ///
+    /// # Panics
+    ///
+    /// Where the class has all mutexes that it may have, or no memory to open; in a forked child, for a class that was
+    /// opened before.
+    pub fn try_lock_until(&self, deadline: Instant) -> Option<MutexGuard<'_, C, T>> {
+        let cell = self.cell_or_panic();
+        let until = clock::monotonic(deadline);
+        // SAFETY: the library's mutex lives for ever, and `until` for the call.
+        match unsafe { ffi::ww_mutex_lock_until(cell.raw(), ptr::null_mut(), &raw const until) } {
+            // SAFETY: it locked the mutex, for this guard.
+            0 => Some(unsafe { MutexGuard::of(self) }),
+            answer if answer == -ffi::ETIMEDOUT => None,
+            _ => error::in_child(),
+        }
+    }
+
+    /// As [`try_lock_until`](Mutex::try_lock_until), so long from now on.
+    ///
+    /// # Panics
+    ///
+    /// As [`try_lock_until`](Mutex::try_lock_until).
+    pub fn try_lock_for(&self, timeout: Duration) -> Option<MutexGuard<'_, C, T>> {
+        match Instant::now().checked_add(timeout) {
+            Some(deadline) => self.try_lock_until(deadline),
+            None => Some(self.lock()),
+        }
+    }
+
+    /// Whether somebody holds it, at a glance.
+    #[must_use]
+    pub fn is_locked(&self) -> bool {
+        self.existing().is_some_and(LockCell::is_locked)
+    }
+
+    /// The value. Nobody holds the mutex, since nobody else borrows it.
+    #[inline]
+    pub fn get_mut(&mut self) -> &mut T {
+        self.value.get_mut()
+    }
+
+    /// For who has a guard.
+    #[inline]
+    pub(crate) fn value(&self) -> *mut T {
+        self.value.get()
+    }
+
+    #[inline]
+    pub(crate) fn cell(&self) -> Result<&'static LockCell, Error> {
+        self.handle.cell()
+    }
+
+    #[inline]
+    pub(crate) fn existing(&self) -> Option<&'static LockCell> {
+        self.handle.existing()
+    }
+
+    #[inline]
+    fn cell_or_panic(&self) -> &'static LockCell {
+        match self.cell() {
+            Ok(cell) => cell,
+            Err(error) => no_cell(error),
+        }
+    }
+
+    /// # Safety
+    ///
+    /// This thread has locked it, and does nothing more with that.
+    #[inline]
+    pub(crate) unsafe fn release(&self) {
+        let cell = self.existing();
+        // SAFETY: a mutex that was locked has a cell, and this thread locked it.
+        unsafe { ffi::unlock(cell.unwrap_unchecked().raw()) };
+    }
+}
+
+#[cold]
+fn no_cell(error: Error) -> ! {
+    panic!("a mutex can't be locked: {error}")
+}
+
+impl<C: Class, T: Default> Default for Mutex<C, T> {
+    fn default() -> Self {
+        Mutex::new(T::default())
+    }
+}
+
+impl<C: Class, T> From<T> for Mutex<C, T> {
+    fn from(value: T) -> Self {
+        Mutex::new(value)
+    }
+}
+
+impl<C: Class, T: ?Sized + fmt::Debug> fmt::Debug for Mutex<C, T> {
+    fn fmt(&self, f: &mut fmt::Formatter<'_>) -> fmt::Result {
+        let mut shown = f.debug_struct("Mutex");
+        // One that was never locked isn't given a place in its class for this.
+        match self.existing().and_then(|_| self.try_lock()) {
+            Some(guard) => shown.field("data", &&*guard),
+            None => shown.field("data", &format_args!("<locked>")),
+        };
+        shown.finish()
+    }
+}

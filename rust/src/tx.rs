@@ -1,0 +1,229 @@
+use crate::context::Context;
+use crate::{ArcMutexGuard, Class, Error, Mutex, MutexGuard};
+use core::cell::Cell;
+use core::fmt;
+use core::marker::PhantomData;
+use std::sync::Arc;
+
+/// The context of a body that [`Class::run`] runs: it locks mutexes of the class, in any order.
+///
+/// Guards borrow it, so none leaves the body:
+///
+/// ```compile_fail,E0521
+/// # use ww_mutex::{class, Class, Mutex};
+/// # class!(struct Boxes: WoundWait);
+/// # static BOX: Mutex<Boxes, u64> = Mutex::new(0);
+/// let mut kept = None;
+/// Boxes::run(|tx| {
+///     kept = Some(tx.lock(&BOX)?);
+///     Ok(())
+/// });
+/// ```
+///
+/// Nor does what was reached through one:
+///
+/// ```compile_fail,E0515
+/// # use ww_mutex::{class, Class, Mutex};
+/// # class!(struct Boxes: WoundWait);
+/// # static BOX: Mutex<Boxes, String> = Mutex::new(String::new());
+/// let kept: &str = Boxes::run(|tx| {
+///     let text = tx.lock(&BOX)?;
+///     Ok(text.as_str())
+/// }).unwrap();
+/// ```
+///
+/// A mutex of another class doesn't go with it:
+///
+/// ```compile_fail,E0308
+/// # use ww_mutex::{class, Class, Mutex};
+/// # class!(struct Boxes: WoundWait; struct Crates: WoundWait);
+/// # static BOX: Mutex<Boxes, u64> = Mutex::new(0);
+/// Crates::run(|tx| tx.lock(&BOX).map(|value| *value));
+/// ```
+///
+/// It belongs to its thread:
+///
+/// ```compile_fail,E0277
+/// # use ww_mutex::{class, Class, Mutex};
+/// # class!(struct Boxes: WoundWait);
+/// # static BOX: Mutex<Boxes, u64> = Mutex::new(0);
+/// Boxes::run(|tx| std::thread::scope(|scope| scope.spawn(|| tx.lock(&BOX).map(|value| *value)).join().unwrap()));
+/// ```
+pub struct Tx<C: Class> {
+    context: Context,
+    attempts: Cell<u32>,
+    class: PhantomData<fn() -> C>,
+}
+
+impl<C: Class> Tx<C> {
+    #[inline]
+    pub(crate) fn new(context: Context) -> Self {
+        Tx { context, attempts: Cell::new(1), class: PhantomData }
+    }
+
+    /// Locks it, and waits for it.
+    ///
+    /// After [`Deadlock`](Error::Deadlock) this attempt is over: each further lock call is told so at once, until the
+    /// body has returned and runs again. So hand it on by `?`.
+    ///
+    /// # Errors
+    ///
+    /// `Deadlock`; `Duplicate` for a mutex that it has a guard of; with [`Options`](crate::Options), `Cancelled` and
+    /// `TimedOut`; `Exhausted` at a mutex's first lock, where the class has all that it may have. But for `Deadlock`,
+    /// the context holds what it held, and may go on.
+    ///
+    /// # Panics
+    ///
+    /// In a forked child, for a class that was opened before; with debug assertions, where another context of this
+    /// thread holds it, and nothing would end the wait.
+    #[inline]
+    pub fn lock<'g, T: ?Sized>(&'g self, mutex: &'g Mutex<C, T>) -> Result<MutexGuard<'g, C, T>, Error> {
+        self.context.lock(mutex.cell()?)?;
+        // SAFETY: it locked the mutex, for this guard.
+        Ok(unsafe { MutexGuard::of(mutex) })
+    }
+
+    /// As [`lock`](Self::lock), for a mutex that the guard shares: one that was found on the way, and whose `Arc` goes
+    /// before the guard does.
+    ///
+    /// ```
+    /// # use ww_mutex::{class, Class, Error, Mutex};
+    /// # use std::sync::Arc;
+    /// class!(struct Nodes: WoundWait);
+    /// struct Node {
+    ///     value: u64,
+    ///     next: Option<Arc<Mutex<Nodes, Node>>>,
+    /// }
+    ///
+    /// fn sum(first: &Arc<Mutex<Nodes, Node>>) -> Result<u64, Error> {
+    ///     Nodes::run(|tx| {
+    ///         let mut held = vec![tx.lock_arc(first)?];
+    ///         while let Some(next) = held.last().and_then(|node| node.next.clone()) {
+    ///             held.push(tx.lock_arc(&next)?);
+    ///         }
+    ///         Ok(held.iter().map(|node| node.value).sum())
+    ///     })
+    /// }
+    /// # let last = Arc::new(Mutex::new(Node { value: 2, next: None }));
+    /// # assert_eq!(sum(&Arc::new(Mutex::new(Node { value: 40, next: Some(last) }))), Ok(42));
+    /// ```
+    ///
+    /// # Errors
+    ///
+    /// As [`lock`](Self::lock).
+    #[inline]
+    pub fn lock_arc<'g, T: ?Sized>(&'g self, mutex: &Arc<Mutex<C, T>>) -> Result<ArcMutexGuard<'g, C, T>, Error> {
+        self.context.lock(mutex.cell()?)?;
+        // SAFETY: it locked the mutex, for this guard, which doesn't outlive the context.
+        Ok(unsafe { ArcMutexGuard::of(Arc::clone(mutex)) })
+    }
+
+    /// Locks it if nobody has it or waits for it. `None` for one that it has a guard of, and after `Deadlock`.
+    pub fn try_lock<'g, T: ?Sized>(&'g self, mutex: &'g Mutex<C, T>) -> Option<MutexGuard<'g, C, T>> {
+        let is_locked = self.context.try_lock(mutex.cell().ok()?);
+        // SAFETY: it locked the mutex, for this guard.
+        is_locked.then(|| unsafe { MutexGuard::of(mutex) })
+    }
+
+    /// Locks all of them, in this order. Where one isn't locked it keeps none of them.
+    ///
+    /// ```
+    /// # use ww_mutex::{class, Class, Error, Mutex};
+    /// # class!(struct Boxes: WoundWait);
+    /// let (one, other) = (Mutex::new(1), Mutex::new(2));
+    /// Boxes::run(|tx| {
+    ///     let [mut one, mut other] = tx.lock_all([&one, &other])?;
+    ///     std::mem::swap(&mut *one, &mut *other);
+    ///     Ok(())
+    /// })?;
+    /// assert_eq!(one.into_inner(), 2);
+    /// # Ok::<(), Error>(())
+    /// ```
+    ///
+    /// # Errors
+    ///
+    /// As [`lock`](Self::lock).
+    #[inline]
+    pub fn lock_all<'g, T: ?Sized, const N: usize>(
+        &'g self,
+        list: [&'g Mutex<C, T>; N],
+    ) -> Result<[MutexGuard<'g, C, T>; N], Error> {
+        self.context.lock_all(list)
+    }
+
+    /// The same for a list of any length, as it comes.
+    ///
+    /// ```
+    /// # use ww_mutex::{class, Class, Error, Mutex};
+    /// # class!(struct Boxes: WoundWait);
+    /// let boxes: Vec<Mutex<Boxes, u64>> = (1..=4).map(Mutex::new).collect();
+    /// let sum = Boxes::run(|tx| Ok(tx.lock_each(&boxes)?.iter().map(|value| **value).sum::<u64>()))?;
+    /// assert_eq!(sum, 10);
+    /// # Ok::<(), Error>(())
+    /// ```
+    ///
+    /// # Errors
+    ///
+    /// As [`lock`](Self::lock).
+    pub fn lock_each<'g, 'm: 'g, T: ?Sized + 'm>(
+        &'g self,
+        list: impl IntoIterator<Item = &'m Mutex<C, T>>,
+    ) -> Result<Vec<MutexGuard<'g, C, T>>, Error> {
+        list.into_iter().map(|mutex| self.lock(mutex)).collect()
+    }
+
+    /// Whether it has a guard of this mutex, so that [`lock`](Self::lock) would be told `Duplicate`.
+    #[must_use]
+    pub fn holds<T: ?Sized>(&self, mutex: &Mutex<C, T>) -> bool {
+        mutex.existing().is_some_and(|cell| self.context.holds(cell))
+    }
+
+    /// How often the body has begun: 1 the first time.
+    #[must_use]
+    pub fn attempts(&self) -> u32 {
+        self.attempts.get()
+    }
+
+    /// Whether it was told `Deadlock` in this attempt.
+    #[inline]
+    pub(crate) fn is_over(&self) -> bool {
+        self.context.is_over()
+    }
+}
+
+impl<C: Class> fmt::Debug for Tx<C> {
+    fn fmt(&self, f: &mut fmt::Formatter<'_>) -> fmt::Result {
+        f.debug_struct("Tx").field("attempts", &self.attempts()).finish_non_exhaustive()
+    }
+}
+
+/// From the beginning of a context to its end, which also comes where the body panics. It is never forgotten, and while
+/// it is there the `Tx` is neither moved nor borrowed exclusively.
+pub(crate) struct Running<'t, C: Class>(&'t Tx<C>);
+
+impl<'t, C: Class> Running<'t, C> {
+    #[inline]
+    pub(crate) fn begin(tx: &'t Tx<C>) -> Result<Self, Error> {
+        // SAFETY: it is borrowed as long as this is there, and `end` comes once, with this, which `Options::try_run`,
+        // the only one that makes it, hands to nobody.
+        unsafe { tx.context.begin() }?;
+        Ok(Running(tx))
+    }
+
+    /// Once the body has returned.
+    pub(crate) fn back_off(&self) -> Result<(), Error> {
+        self.0.attempts.set(self.0.attempts.get().saturating_add(1));
+        let context = &self.0.context;
+        // SAFETY: a guard lives no longer than the borrow of the `Tx` with which the body was called, whose lifetime
+        // the body doesn't choose: so where one was forgotten, nothing can reach it any more.
+        unsafe { context.back_off(context.take_contended()) }
+    }
+}
+
+impl<C: Class> Drop for Running<'_, C> {
+    #[inline]
+    fn drop(&mut self) {
+        // SAFETY: as in `back_off`: the body has returned, or its panic has gone through it.
+        unsafe { self.0.context.end() };
+    }
+}

@@ -1,0 +1,144 @@
+//! What ends a wait: times and cancels, also where all contexts of the class are in use.
+
+use std::sync::mpsc::channel;
+use std::thread;
+use std::time::{Duration, Instant};
+use ww_mutex::typed::Context;
+use ww_mutex::{class, Canceller, Class, Error, Mutex};
+
+const SOON: Duration = Duration::from_millis(20);
+
+#[test]
+fn a_deadline_ends_each_wait() {
+    class!(struct Boxes: WoundWait, mutexes = 4, contexts = 3);
+    let m: Mutex<Boxes, u64> = Mutex::new(0);
+    let held = m.lock();
+    let begun = Instant::now();
+    let mut attempts = 0;
+    let told = Boxes::options().timeout(SOON).run(|tx| {
+        attempts += 1;
+        tx.lock(&m).map(|_| ())
+    });
+    assert_eq!((told, attempts), (Err(Error::TimedOut), 1));
+    assert!(begun.elapsed() >= SOON);
+    assert!(m.try_lock_for(SOON).is_none());
+    // A free one is locked, however late.
+    drop(held);
+    assert_eq!(Boxes::options().deadline(begun).run(|tx| tx.lock(&m).map(|v| *v)), Ok(0));
+    assert!(m.try_lock_until(begun).is_some());
+    // And the wait for a context.
+    let _all: Vec<_> = (0..3).map(|_| Context::<Boxes>::begin().unwrap()).collect();
+    let begun = Instant::now();
+    assert_eq!(Boxes::options().timeout(SOON).run(|_| Ok(())), Err(Error::TimedOut));
+    assert!(begun.elapsed() >= SOON);
+    assert!(m.try_lock_for(SOON).is_none());
+}
+
+/// Times beyond the clock's are for ever.
+#[test]
+fn a_timeout_may_be_endless() {
+    class!(struct Boxes: WoundWait);
+    let m: Mutex<Boxes, u64> = Mutex::new(3);
+    for timeout in [Duration::MAX, Duration::from_secs(u64::MAX / 4), Duration::from_secs(1 << 40)] {
+        assert_eq!(m.try_lock_for(timeout).map(|value| *value), Some(3));
+        assert_eq!(Boxes::options().timeout(timeout).run(|tx| Ok(*tx.lock(&m)?)), Ok(3));
+    }
+}
+
+/// With all contexts of the class in use, too: each of them waits.
+#[test]
+fn limits_hold_with_all_contexts_in_use() {
+    class!(struct Boxes: WoundWait, mutexes = 4, contexts = 4);
+    let m: Mutex<Boxes, u64> = Mutex::new(0);
+    let canceller = Canceller::new();
+    let held = m.lock();
+    thread::scope(|scope| {
+        let late = scope.spawn(|| Boxes::options().timeout(SOON).run(|tx| tx.lock(&m).map(|_| ())));
+        let waiting: Vec<_> = (0..2)
+            .map(|_| scope.spawn(|| Boxes::options().cancelled_by(&canceller).run(|tx| tx.lock(&m).map(|_| ()))))
+            .collect();
+        assert_eq!(late.join().unwrap(), Err(Error::TimedOut));
+        assert!(waiting.iter().all(|thread| !thread.is_finished()));
+        canceller.cancel();
+        for thread in waiting {
+            assert_eq!(thread.join().unwrap(), Err(Error::Cancelled));
+        }
+    });
+    drop(held);
+}
+
+#[test]
+fn a_canceller_calls_waits_off() {
+    class!(struct Boxes: WoundWait);
+    let m: Mutex<Boxes, u64> = Mutex::new(0);
+    let canceller = Canceller::new();
+    let held = m.lock();
+    thread::scope(|scope| {
+        let threads: Vec<_> = (0..3)
+            .map(|_| scope.spawn(|| Boxes::options().cancelled_by(&canceller).run(|tx| tx.lock(&m).map(|_| ()))))
+            .collect();
+        thread::sleep(SOON);
+        assert!(threads.iter().all(|t| !t.is_finished()));
+        canceller.cancel();
+        for waiting in threads {
+            assert_eq!(waiting.join().unwrap(), Err(Error::Cancelled));
+        }
+    });
+    drop(held);
+    // For good: also where the mutex is free.
+    assert!(canceller.is_cancelled());
+    assert_eq!(Boxes::options().cancelled_by(&canceller).run(|tx| tx.lock(&m).map(|_| ())), Err(Error::Cancelled));
+    assert_eq!(Boxes::run(|tx| tx.lock(&m).map(|_| ())), Ok(()));
+}
+
+/// The wait for a context, too.
+#[test]
+fn a_canceller_calls_off_the_wait_for_a_context() {
+    class!(struct Boxes: WoundWait, contexts = 1);
+    let canceller = Canceller::new();
+    let context = Context::<Boxes>::begin().unwrap();
+    thread::scope(|scope| {
+        let waiting = scope.spawn(|| Boxes::options().cancelled_by(&canceller).run(|_| Ok(())));
+        thread::sleep(SOON);
+        assert!(!waiting.is_finished());
+        canceller.cancel();
+        assert_eq!(waiting.join().unwrap(), Err(Error::Cancelled));
+    });
+    drop(context);
+}
+
+/// The wait of a back-off, too.
+#[test]
+fn a_back_off_is_called_off() {
+    class!(struct Boxes: WaitDie);
+    let (a, b): (Mutex<Boxes, u64>, Mutex<Boxes, u64>) = (Mutex::new(0), Mutex::new(0));
+    let canceller = Canceller::new();
+    let mut older = Context::begin().unwrap();
+    let tx = older.start();
+    let (begun, begins) = channel();
+    let (goes, go) = channel::<()>();
+    thread::scope(|scope| {
+        let waiting = scope.spawn({
+            let (a, b, canceller) = (&a, &b, &canceller);
+            move || {
+                let mut attempts = 0;
+                let told = Boxes::options().cancelled_by(canceller).run(|tx| {
+                    attempts += 1;
+                    let _b = tx.lock(b)?;
+                    begun.send(()).unwrap();
+                    go.recv().unwrap();
+                    tx.lock(a).map(|_| ())
+                });
+                (told, attempts)
+            }
+        });
+        begins.recv().unwrap();
+        let Ok((_, held)) = tx.lock(&a) else { panic!() };
+        goes.send(()).unwrap();
+        thread::sleep(SOON);
+        canceller.cancel();
+        assert_eq!(waiting.join().unwrap(), (Err(Error::Cancelled), 1));
+        drop(held);
+    });
+    assert!(!a.is_locked() && !b.is_locked());
+}

@@ -1,0 +1,270 @@
+//! What each misuse meets that compiles. Those that don't are shown by the documents of `Tx`, `Mutex`, `MutexGuard`,
+//! `class!` and `typed`, which are tests, too.
+
+use std::mem;
+use std::panic::{catch_unwind, AssertUnwindSafe};
+use std::sync::atomic::{AtomicBool, Ordering};
+use std::sync::mpsc::channel;
+use std::sync::Barrier;
+use std::thread;
+use std::time::{Duration, Instant};
+use ww_mutex::typed::{Context, Refused};
+use ww_mutex::{class, Class, Error, Mutex, MutexGuard, RawClass, Tx};
+
+const SOON: Duration = Duration::from_millis(20);
+
+fn panics<R>(what: impl FnOnce() -> R) -> bool {
+    catch_unwind(AssertUnwindSafe(|| drop(what()))).is_err()
+}
+
+/// A younger context, which is told `Deadlock` in its first attempt, does this with what it is told.
+fn told_deadlock<C: Class, R>(
+    mut then: impl FnMut(&Tx<C>, MutexGuard<'_, C, u64>, Error) -> Result<R, Error>,
+) -> Result<R, Error> {
+    let (a, b): (Mutex<C, u64>, Mutex<C, u64>) = (Mutex::new(1), Mutex::new(2));
+    let mut older = Context::begin().unwrap();
+    let mut tx = Some(older.start());
+    let told = C::run(|younger| {
+        let held = younger.lock(&b)?;
+        let Ok((_, held_by_older)) = tx.take().expect("the body runs once").lock(&a) else { panic!() };
+        let error = younger.lock(&a).map(|_| ()).unwrap_err();
+        drop(held_by_older);
+        then(younger, held, error)
+    });
+    assert!(!a.is_locked() && !b.is_locked());
+    told
+}
+
+#[test]
+fn a_lock_after_deadlock_is_told_so_again() {
+    class!(struct Boxes: WaitDie);
+    let other: Mutex<Boxes, u64> = Mutex::new(0);
+    let told = told_deadlock::<Boxes, _>(|tx, held, error| {
+        assert_eq!(error, Error::Deadlock);
+        assert_eq!(tx.lock(&other).map(|_| ()), Err(Error::Deadlock));
+        assert_eq!(tx.lock(MutexGuard::mutex(&held)).map(|_| ()), Err(Error::Deadlock));
+        assert!(tx.try_lock(&other).is_none());
+        // Though it holds nothing.
+        drop(held);
+        assert_eq!(tx.lock(&other).map(|_| ()), Err(Error::Deadlock));
+        assert!(tx.try_lock(&other).is_none());
+        Ok(5)
+    });
+    assert_eq!(told, Ok(5));
+}
+
+#[test]
+fn success_after_deadlock_is_handed_on() {
+    class!(struct Boxes: WaitDie);
+    assert_eq!(told_deadlock::<Boxes, _>(|_, _, error| Ok(error)), Ok(Error::Deadlock));
+}
+
+#[test]
+fn the_deadlock_of_another_context_does_no_harm() {
+    class!(struct Boxes: WaitDie);
+    let (a, b): (Mutex<Boxes, u64>, Mutex<Boxes, u64>) = (Mutex::new(1), Mutex::new(2));
+    let mut older = Context::begin().unwrap();
+    let mut younger = Context::begin().unwrap();
+    let Ok((_, held_by_older)) = older.start().lock(&a) else { panic!() };
+    let Ok((tx, held)) = younger.start().lock(&b) else { panic!() };
+    let Err(Refused::Deadlock(lost)) = tx.lock(&a) else { panic!() };
+    drop((held, held_by_older));
+    // Nor does one of which nobody makes use.
+    drop(younger.start().lock(&b));
+    let Ok((_, first)) = older.back_off(lost).lock(&a) else { panic!() };
+    assert_eq!(*first, 1);
+}
+
+#[test]
+fn a_duplicate_is_told() {
+    class!(struct Boxes: WoundWait);
+    let m: Mutex<Boxes, u64> = Mutex::new(0);
+    let told = Boxes::run(|tx| {
+        let _held = tx.lock(&m)?;
+        assert!(tx.try_lock(&m).is_none());
+        tx.lock(&m).map(|_| ())
+    });
+    assert_eq!(told, Err(Error::Duplicate));
+    let other: Mutex<Boxes, u64> = Mutex::new(0);
+    let told = Boxes::run(|tx| {
+        let told = tx.lock_all([&m, &other, &m]).map(|_| ());
+        assert!(told == Err(Error::Deadlock) || !tx.holds(&m) && !tx.holds(&other) && !other.is_locked());
+        // And the context goes on.
+        let _both = tx.lock_all([&m, &other])?;
+        assert!(tx.holds(&m) && tx.holds(&other));
+        told
+    });
+    assert_eq!(told, Err(Error::Duplicate));
+    assert!(!m.is_locked());
+}
+
+#[test]
+fn a_forgotten_guard_is_released_by_its_context() {
+    class!(struct Boxes: WaitDie, mutexes = 2, contexts = 2);
+    let m: Mutex<Boxes, u64> = Mutex::new(0);
+    for _ in 0..10 {
+        Boxes::run(|tx| {
+            mem::forget(tx.lock(&m)?);
+            // A mutex that goes while it is locked.
+            let gone: Mutex<Boxes, u64> = Mutex::new(1);
+            mem::forget(tx.lock(&gone)?);
+            Ok(())
+        })
+        .unwrap();
+        assert!(!m.is_locked());
+    }
+    let mut context = Context::begin().unwrap();
+    let Ok((tx, guard)) = context.start().lock(&m) else { panic!() };
+    mem::forget((tx, guard));
+    let mut moved = context;
+    let Ok((_, guard)) = moved.start().lock(&m) else { panic!() };
+    mem::forget(guard);
+    drop(moved);
+    assert!(!m.is_locked());
+}
+
+/// Its place in the class is free once after that, whichever of the two comes first.
+#[test]
+fn a_mutex_may_go_while_its_context_releases_it() {
+    class!(struct Boxes: WoundWait, mutexes = 1, contexts = 1);
+    let (gives, gone) = channel::<Mutex<Boxes, u64>>();
+    let drops = thread::spawn(move || gone.into_iter().for_each(drop));
+    for _ in 0..2_000 {
+        let mut context = Context::begin().unwrap();
+        let begun = Instant::now();
+        let mutex = loop {
+            if let Ok(mutex) = Mutex::try_new(0) {
+                break mutex;
+            }
+            assert!(begun.elapsed() < Duration::from_secs(60), "its place is lost");
+            thread::yield_now();
+        };
+        assert!(Mutex::<Boxes, u64>::try_new(1).is_err());
+        let Ok((_, guard)) = context.start().lock(&mutex) else { panic!() };
+        mem::forget(guard);
+        gives.send(mutex).unwrap();
+        drop(context);
+    }
+    drop(gives);
+    drops.join().unwrap();
+}
+
+#[test]
+fn a_forgotten_context_keeps_what_was_forgotten_with_it() {
+    class!(struct Boxes: WoundWait, mutexes = 3, contexts = 2);
+    let m: Mutex<Boxes, u64> = Mutex::new(0);
+    let mut context = Context::begin().unwrap();
+    let Ok((tx, guard)) = context.start().lock(&m) else { panic!() };
+    mem::forget((tx, guard));
+    mem::forget(context);
+    // All others go on.
+    for _ in 0..10 {
+        let other: Mutex<Boxes, u64> = Mutex::try_new(0).unwrap();
+        Boxes::run(|tx| tx.lock(&other).map(|mut value| *value += 1)).unwrap();
+    }
+    drop(Context::<Boxes>::begin());
+    assert!(m.is_locked() && m.try_lock().is_none() && m.try_lock_for(SOON).is_none());
+}
+
+#[test]
+fn a_forgotten_lone_guard_keeps_its_mutex_locked() {
+    class!(struct Boxes: WoundWait, mutexes = 3, contexts = 2);
+    let other: Mutex<Boxes, u64> = Mutex::new(0);
+    mem::forget(other.lock());
+    let moved = other;
+    assert!(moved.is_locked() && moved.try_lock().is_none() && moved.try_lock_for(SOON).is_none());
+    assert_eq!(moved.into_inner(), 0);
+    // Its place and its context are lost, and no others.
+    let kept: Vec<_> = (0..2).map(|value| Mutex::<Boxes, u64>::try_new(value).unwrap()).collect();
+    assert!(Mutex::<Boxes, u64>::try_new(2).is_err());
+    let context = Context::<Boxes>::begin().unwrap();
+    assert!(kept[0].try_lock().is_none());
+    drop(context);
+    assert!(kept[0].try_lock().is_some());
+}
+
+#[cfg(debug_assertions)]
+#[test]
+fn waiting_for_oneself_panics() {
+    class!(struct Boxes: WoundWait);
+    let m: Mutex<Boxes, u64> = Mutex::new(0);
+    assert!(panics(|| Boxes::run(|tx| {
+        let _held = tx.lock(&m)?;
+        drop(m.lock());
+        Ok(())
+    })));
+    assert!(panics(|| Boxes::run(|tx| {
+        let _held = tx.lock(&m)?;
+        Boxes::run(|inner| inner.lock(&m).map(|_| ()))
+    })));
+    assert!(!m.is_locked());
+}
+
+#[test]
+fn more_mutexes_than_there_may_be_are_told() {
+    class!(struct Few: WoundWait, mutexes = 2, contexts = 1);
+    let a: Mutex<Few, u64> = Mutex::try_new(1).unwrap();
+    for k in 0..100 {
+        let b: Mutex<Few, u64> = Mutex::try_new(k).unwrap();
+        assert_eq!(*b.lock(), k);
+        let (value, error) = Mutex::<Few, u64>::try_new(7).unwrap_err();
+        assert_eq!((value, error), (7, Error::Exhausted));
+        let c: Mutex<Few, u64> = Mutex::new(8);
+        assert_eq!(Few::run(|tx| tx.lock(&c).map(|_| ())), Err(Error::Exhausted));
+        assert!(Few::run(|tx| Ok(tx.try_lock(&c).is_none())).unwrap());
+        assert!(panics(|| drop(c.lock())) && panics(|| drop(c.try_lock())));
+        // Its place is free again once it is gone.
+        assert_eq!(b.into_inner(), k);
+    }
+    assert_eq!(*a.lock(), 1);
+}
+
+/// Also where two threads lock it first at once, of which one made what isn't needed.
+#[test]
+fn a_mutex_takes_one_place() {
+    class!(struct Two: WoundWait, mutexes = 2, contexts = 4);
+    for _ in 0..300 {
+        let m: Mutex<Two, u64> = Mutex::new(0);
+        let met = Barrier::new(2);
+        let add = || {
+            met.wait();
+            *m.lock() += 1;
+        };
+        thread::scope(|scope| {
+            scope.spawn(add);
+            add();
+        });
+        assert_eq!(m.into_inner(), 2);
+    }
+}
+
+#[test]
+fn a_class_has_65536_mutexes() {
+    class!(struct Boxes: WoundWait);
+    let all: Vec<Mutex<Boxes, ()>> = (0..65_536).map(|_| Mutex::try_new(()).unwrap()).collect();
+    assert!(matches!(Mutex::<Boxes, _>::try_new(()), Err(((), Error::Exhausted))));
+    drop(all);
+    assert!(Mutex::<Boxes, _>::try_new(()).is_ok());
+}
+
+/// `Class::raw` is safe to write, so a wrong one may do no harm.
+#[test]
+fn a_class_that_is_another_one_at_each_call_panics() {
+    class!(struct One: WoundWait; struct Other: WoundWait);
+    enum Both {}
+    static TURN: AtomicBool = AtomicBool::new(false);
+    impl Class for Both {
+        fn raw() -> &'static RawClass {
+            if TURN.fetch_xor(true, Ordering::Relaxed) {
+                One::raw()
+            } else {
+                Other::raw()
+            }
+        }
+    }
+    let m: Mutex<Both, u64> = Mutex::new(0);
+    assert!(panics(|| Both::run(|tx| tx.lock(&m).map(|_| ()))));
+    let _turned = Both::raw();
+    let m: Mutex<Both, u64> = Mutex::new(0);
+    assert!(panics(|| Both::run(|tx| Ok(tx.try_lock(&m).is_some()))));
+}
