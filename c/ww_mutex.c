@@ -131,7 +131,7 @@ COLD static int release_further(ww_seat *s, int r)
  * releases it.  An unlock's last access to the mutex comes before the step that releases
  * its lock; so whoever had it is through with it, and what they wrote is seen here.
  */
-static bool is_released(struct ww_pool *p, struct ww_mutex *m)
+bool ww_is_released(struct ww_pool *p, struct ww_mutex *m)
 {
 	ww_seat *s = borrow_spare(p);
 	bool released = ww_try_(&s->handle, m->number) == 0;
@@ -158,7 +158,7 @@ int ww_mutex_destroy(struct ww_mutex *m)
 		*m = (struct ww_mutex){ 0 };
 		return 0;
 	}
-	if (__atomic_load_n(&m->waiters, __ATOMIC_SEQ_CST) || ww_mutex_is_locked(m) || !is_released(p, m)) {
+	if (__atomic_load_n(&m->waiters, __ATOMIC_SEQ_CST) || ww_mutex_is_locked(m) || !ww_is_released(p, m)) {
 		ww_debug_fault("ww_mutex_destroy", "somebody holds the mutex, or waits for it");
 		return -EBUSY;
 	}
