@@ -747,27 +747,39 @@ int ww_mutex_lock_until(struct ww_mutex *m, struct ww_acquire_ctx *x, const stru
  * In a loop it is the wait that comes first itself, or isn't due.  After an -EDEADLK that the
  * debug library made up the proved one doesn't know that it is.
  */
-static int lock_slowly(struct ww_mutex *m, struct ww_acquire_ctx *x, enum way way, enum way plain)
+static int lock_slowly(struct ww_mutex *m, struct ww_acquire_ctx *x, enum way way, enum way plain, const struct timespec *until)
 {
 	if (!x || !goes_together(m, x))
 		return -EINVAL;
-	return ww_debug_told(m, x, lock_now(m, x, ww_debug_injected(m, x) ? plain : way, NULL), false);
+	return ww_debug_told(m, x, lock_now(m, x, ww_debug_injected(m, x) ? plain : way, until), false);
 }
 
-int ww_mutex_lock_slow_checked(struct ww_mutex *m, struct ww_acquire_ctx *x) { return lock_slowly(m, x, SLOWLY, STAYS); }
+int ww_mutex_lock_slow_checked(struct ww_mutex *m, struct ww_acquire_ctx *x) { return lock_slowly(m, x, SLOWLY, STAYS, NULL); }
+
+static int lock_slowly_heeding(const char *call, struct ww_mutex *m, struct ww_acquire_ctx *x, const struct timespec *until)
+{
+	int r = lock_slowly(m, x, SLOWLY_HEEDS, HEEDS, until);
+
+	if (r == -EINVAL)
+		ww_debug_fault(call, not_due);
+	return r;
+}
 
 int ww_mutex_lock_slow_interruptible(struct ww_mutex *m, struct ww_acquire_ctx *x)
 {
-	int r = lock_slowly(m, x, SLOWLY_HEEDS, HEEDS);
+	return lock_slowly_heeding("ww_mutex_lock_slow_interruptible", m, x, NULL);
+}
 
-	if (r == -EINVAL)
-		ww_debug_fault("ww_mutex_lock_slow_interruptible", not_due);
-	return r;
+int ww_mutex_lock_slow_until(struct ww_mutex *m, struct ww_acquire_ctx *x, const struct timespec *until)
+{
+	if (UNLIKELY(until->tv_nsec < 0 || until->tv_nsec >= 1000000000))
+		return -EINVAL;
+	return lock_slowly_heeding("ww_mutex_lock_slow_until", m, x, until);
 }
 
 void ww_mutex_lock_slow(struct ww_mutex *m, struct ww_acquire_ctx *x)
 {
-	if (UNLIKELY(lock_slowly(m, x, SLOWLY, STAYS)))
+	if (UNLIKELY(lock_slowly(m, x, SLOWLY, STAYS, NULL)))
 		end("ww_mutex_lock_slow", not_due);
 }
 
@@ -815,6 +827,11 @@ int ww_mutex_trylock(struct ww_mutex *m, struct ww_acquire_ctx *x)
 	own(m, x, NULL);
 	ww_debug_told(m, x, 0, false);
 	return 1;
+}
+
+int ww_mutex_trylock_checked(struct ww_mutex *m, struct ww_acquire_ctx *x)
+{
+	return !m->pool || (x && !goes_together(m, x)) ? faulty("ww_mutex_trylock", m, x) : ww_mutex_trylock(m, x);
 }
 
 /*
