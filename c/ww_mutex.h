@@ -181,6 +181,11 @@ WW_MUST_CHECK int ww_class_open(struct ww_class *ww_class);
  */
 int ww_class_free(struct ww_class *ww_class);
 
+/* How many bytes each of the three structures takes in this library, for languages that don't read this header. */
+size_t ww_class_size(void);
+size_t ww_mutex_size(void);
+size_t ww_acquire_size(void);
+
 /*
  * As ww_mutex_lock_interruptible, but waits until this time of the monotonic clock at
  * the longest: -ETIMEDOUT, and what was held still is.  A mutex that is free is
