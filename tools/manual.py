@@ -8,7 +8,8 @@ import re
 LONGEST = 100
 COMMENT = re.compile(r"^/\*.*?\*/$", re.DOTALL | re.MULTILINE)
 # A call, a macro that takes arguments, and a value with what it is for.
-CALL = re.compile(r"^(?:WW_MUST_CHECK )?((?:\w+[ *]+)+)(\w*[a-z\d])\(([^()]*)\);", re.MULTILINE)
+ARGUMENTS = r"((?:[^()]|\([^()]*\))*)"
+CALL = re.compile(rf"^(?:WW_MUST_CHECK )?((?:\w+[ *]+)+)(\w*[a-z\d])\({ARGUMENTS}\)(?: [^;{{}}]*)?;", re.MULTILINE)
 MACRO = re.compile(r"^#define (DEFINE_\w+|ww_\w*[a-z])\(([\w, ]+)\)", re.MULTILINE)
 VALUE = re.compile(r"^\t(WW_\w+) = \d+,\s*/\* (.*?) \*/$", re.MULTILINE)
 NAME = re.compile(r"(?<![/\w])((?:ww_|DEFINE_W)\w*[a-zA-Z]|WW_[A-Z_]+[A-Z])\b(?!\.h)")
@@ -56,17 +57,18 @@ def declared(kind, name, arguments):
     """A declaration, with its arguments slanted; in two lines if it is long."""
     if arguments == "void":
         return [f".B {kind}{name}(void);"]
-    parts = [re.fullmatch(r"(.*?)(\w+)", it).groups() for it in arguments.split(", ")]
-    lines, before, width = [[]], f"{kind}{name}(", len(kind + name)
-    for at, (of, argument) in enumerate(parts):
-        width += len(of + argument)
-        if at and width > LONGEST - 10:
-            lines[-1].append(",")
-            lines.append([])
-            before, width = " " * 8, 0
-        lines[-1] += [before + of, argument]
-        before = ", "
-    lines[-1].append(");" if kind else ")")
+    # An argument may be a function's address, whose name stands within.
+    each = re.split(r", (?![^()]*\))", " ".join(arguments.split()))
+    parts = [re.fullmatch(r"(.*?)(\w+)(\[.*\]|\).*|)", it).groups() for it in each]
+    lines, before, width = [[f"{kind}{name}("]], "", len(kind + name)
+    for of, argument, after in parts:
+        width += len(of + argument + after)
+        if before and width > LONGEST - 10:
+            lines.append([" " * 8])
+            before, width = "", 0
+        lines[-1][-1] += before + of
+        lines[-1] += [argument, after + ("," if (of, argument, after) != parts[-1] else ");" if kind else ")")]
+        before = " "
     return [".BI " + " ".join(f'"{it}"' for it in line) for line in lines]
 
 
@@ -97,6 +99,9 @@ def page(header, version):
     """The page of a header."""
     (head, *_), *parts = parts_of(header)
     name, _, what = head[0].rstrip(".").partition(".h - ")
+    left = {it for _, it, _ in CALL.findall(header.split(END)[0])} - {it for _, calls, *_ in parts for _, it, _ in calls}
+    if left:
+        raise SystemExit(f"pages: {name}.h has no comment right above {', '.join(sorted(left))}")
     made = [f'.TH {name.upper()} 3 "" "libww {version}" "Wound/wait locks"']
     made += ['.\\" Written by tools/pages from the header: change its comments, not this page.', ".nh"]
     made += [".SH NAME", f"{name} \\- {what}", ".SH SYNOPSIS", ".nf", f".B #include <{name}.h>", ".PP"]
