@@ -804,12 +804,15 @@ COLD static int try_specially(struct ww_mutex *m, struct ww_acquire_ctx *x)
 	return looped(m, x, 0) == 0;
 }
 
+int ww_mutex_trylock_else_(struct ww_mutex *m, struct ww_acquire_ctx *x)
+{
+	return x ? try_specially(m, x) : try_alone(m);
+}
+
 int ww_mutex_trylock(struct ww_mutex *m, struct ww_acquire_ctx *x)
 {
-	if (!x)
-		return try_alone(m);
-	if (UNLIKELY(m->pool != x->pool))
-		return try_specially(m, x);
+	if (UNLIKELY(!x || m->pool != x->pool))
+		return ww_mutex_trylock_else_(m, x);
 	if (UNLIKELY(ww_try_(&x->own->handle, m->number)))
 		return 0;
 	own(m, x, NULL);
