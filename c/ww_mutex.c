@@ -824,14 +824,13 @@ int ww_mutex_trylock(struct ww_mutex *m, struct ww_acquire_ctx *x)
  * Where somebody may wait for it, or the context keeps a list of what it acquired; r is what
  * the first step answered.  In a loop that did nothing, so the mutex is there still.
  */
-static int unlock_on(struct ww_acquire_ctx *x, int r)
+static inline int unlock_on(struct ww_mutex *m, struct ww_acquire_ctx *x, int r)
 {
 	if (is_loop(x)) {
-		uint32_t number;
+		uint32_t number = m->number;
 
-		unlink_from(x, x->called);
-		number = x->called->number;
-		__tsan_release(x->called);
+		unlink_from(x, m);
+		__tsan_release(m);
 		r = ww_unlock_(&x->own->handle, number);
 		if (LIKELY(!r))
 			return 0;
@@ -882,7 +881,7 @@ static inline int unlock(struct ww_mutex *m)
 	__atomic_store_n(&m->ctx, NULL, __ATOMIC_RELAXED);
 	__tsan_release(m);
 	r = ww_unlock_(&x->gives->handle, number);
-	return LIKELY(!r) ? 0 : unlock_on(x, r);
+	return LIKELY(!r) ? 0 : unlock_on(x->called, x, r);
 }
 
 int ww_mutex_unlock_checked(struct ww_mutex *m) { return unlock(m); }
@@ -903,8 +902,7 @@ void ww_mutex_unlock_else_(struct ww_mutex *m)
 
 void ww_mutex_unlock_further_(struct ww_mutex *m, struct ww_acquire_ctx *x, int r)
 {
-	x->called = m;
-	if (unlock_on(x, r))
+	if (unlock_on(m, x, r))
 		end_unheld();
 }
 
