@@ -950,8 +950,10 @@ COLD static int lock_more(struct ww_acquire_ctx *x, struct ww_mutex *const *lock
 }
 
 /* From the k-th on, to which the first turn answered r; or all of them, where none was tried. */
-COLD static int lock_all_on(struct ww_acquire_ctx *x, struct ww_mutex *const *locks, size_t count, size_t k, int r, bool held)
+COLD static int lock_all_on(struct ww_acquire_ctx *x, struct ww_mutex *const *locks, size_t count, size_t k, int r)
 {
+	bool held = x->acquired > k;
+
 	begin_loop(x);
 	if (r) {
 		x->called = locks[k];
@@ -977,21 +979,20 @@ int ww_mutex_lock_all(struct ww_acquire_ctx *x, struct ww_mutex *const *locks, s
 		return -EINVAL;
 	if (is_loop(x))
 		return lock_more(x, locks, count);
-	bool held = x->acquired, heeds = x->flags & WW_INTERRUPTIBLE;
-
 	x->newest = NULL;
 #ifndef WW_DEBUG
+	bool heeds = x->flags & WW_INTERRUPTIBLE;
+
 	for (size_t k = 0; k < count; k++) {
 		struct ww_mutex *m = locks[k];
 		int r = LIKELY(m->pool == x->pool) ? ww_lock_(&x->own->handle, m->number, heeds) : -EINVAL;
 
 		if (UNLIKELY(r))
-			return lock_all_on(x, locks, count, k, r, held);
+			return lock_all_on(x, locks, count, k, r);
 		own(m, x, NULL);
 	}
 	return 0;
 #else
-	(void)heeds;
-	return lock_all_on(x, locks, count, 0, 0, held);
+	return lock_all_on(x, locks, count, 0, 0);
 #endif
 }
