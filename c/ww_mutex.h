@@ -9,8 +9,18 @@
  *
  * A class has 65,536 mutexes and 1,024 contexts at once, or as many as ww_class_limit
  * said; a mutex that is held without a context (NULL) counts as one of these as
- * long as it is held.
- * ww_mutex(3) says what is promised, and what a program owes.
+ * long as it is held.  Opening a class takes all its memory.
+ *
+ * A context is used by one thread at a time, and a mutex is unlocked by the thread that
+ * acquired it; neither is used in a signal handler.  In a forked child a class that was
+ * open before gives nothing more (-EINVAL), until ww_class_free lets it go there; where a
+ * context that was begun before would have to wait, it has let go all that it held.
+ * Deadlocks are detected among the contexts of one class alone.  Each copy of the shared
+ * library takes 200 bytes of static thread-local storage: a process can load some eight.
+ *
+ * Otherwise than in the kernel a context acquires nothing after ww_acquire_done, also
+ * without debugging; nothing is acquired after -EDEADLK while something is held; and
+ * ww_mutex_destroy answers.  The locks below are proved; what this header adds is tested.
  */
 #ifndef WW_MUTEX_H
 #define WW_MUTEX_H
@@ -171,6 +181,11 @@ WW_MUST_CHECK int ww_class_open(struct ww_class *ww_class);
  */
 int ww_class_free(struct ww_class *ww_class);
 
+/* How many bytes each of the three structures takes in this library, for languages that don't read this header. */
+size_t ww_class_size(void);
+size_t ww_mutex_size(void);
+size_t ww_acquire_size(void);
+
 /*
  * As ww_mutex_lock_interruptible, but waits until this time of the monotonic clock at
  * the longest: -ETIMEDOUT, and what was held still is.  A mutex that is free is
@@ -246,12 +261,15 @@ void ww_tries_begin_(struct ww_acquire_ctx *ctx);
 bool ww_tries_more_(struct ww_acquire_ctx *ctx);
 
 #ifdef WW_DEBUG
+/* ---- the debug library ---- */
+
 /*
  * With -DWW_DEBUG, and -lww_debug in place of -lww: a call that is wrong is told on
  * standard error, with its line and the calls by which the program came there, besides
  * what it answers; and now and then a context that holds a mutex is told -EDEADLK
  * without need, so that the way back is tried.
  */
+
 #include <stdio.h>
 #ifdef __cplusplus
 extern "C" {
