@@ -98,7 +98,7 @@ int ww_mutex_destroy(struct ww_mutex *lock);
 /*
  * Begins a context.  Where all contexts of the class are in use it waits for one
  * to end, behind those who wait already: threads that hold something by one context and wait for another can wait
- * for each other for ever, which nobody detects.
+ * for each other for ever, which only the debug library tells.
  */
 void ww_acquire_init(struct ww_acquire_ctx *ctx, struct ww_class *ww_class);
 /* The context has all its locks: from now on it acquires none. The program ends where it was said before. */
@@ -260,6 +260,17 @@ extern "C" {
 void ww_class_print(struct ww_class *ww_class, FILE *to);
 /* How many calls were told to be wrong. */
 unsigned long ww_debug_faults(void);
+/*
+ * How many dangers were told, each once a line and class: a second context that a thread begins, a lock with NULL by a
+ * thread that holds a mutex of the class, a wait for a context by one that has anything, a class that can't be freed; and
+ * each deadlock that no class detects, once.
+ */
+unsigned long ww_debug_dangers(void);
+/*
+ * A wait that begins from now on looks for such a deadlock after each so many milliseconds, and tells it at the second
+ * look: 1,000 by default; 0: none looks.
+ */
+void ww_debug_patience(unsigned int milliseconds);
 void ww_debug_at_(const char *file, int line);
 #ifdef __cplusplus
 }
@@ -272,6 +283,7 @@ void ww_debug_at_(const char *file, int line);
 #define ww_mutex_init(...) (WW_HERE_, ww_mutex_init(__VA_ARGS__))
 #define ww_mutex_destroy(...) (WW_HERE_, ww_mutex_destroy(__VA_ARGS__))
 #define ww_acquire_init(...) (WW_HERE_, ww_acquire_init(__VA_ARGS__))
+#define ww_acquire_init_checked(...) (WW_HERE_, ww_acquire_init_checked(__VA_ARGS__))
 #define ww_acquire_done(...) (WW_HERE_, ww_acquire_done(__VA_ARGS__))
 #define ww_acquire_fini(...) (WW_HERE_, ww_acquire_fini(__VA_ARGS__))
 #define ww_mutex_lock(...) (WW_HERE_, ww_mutex_lock(__VA_ARGS__))
@@ -282,6 +294,7 @@ void ww_debug_at_(const char *file, int line);
 #define ww_mutex_lock_all(...) (WW_HERE_, ww_mutex_lock_all(__VA_ARGS__))
 #define ww_mutex_trylock(...) (WW_HERE_, ww_mutex_trylock(__VA_ARGS__))
 #define ww_mutex_unlock(...) (WW_HERE_, ww_mutex_unlock(__VA_ARGS__))
+#define ww_class_free(...) (WW_HERE_, ww_class_free(__VA_ARGS__))
 #endif
 #endif
 
