@@ -360,18 +360,27 @@ static void print_waiters(const struct view *v, uint32_t number, FILE *to)
 	}
 }
 
+static uint32_t used_seats(const struct ww_pool *p)
+{
+	uint32_t used = 0;
+
+	for (uint32_t k = 0; k < p->contexts; k++)
+		used += __atomic_load_n(&p->debug->seats[k].thread, __ATOMIC_RELAXED) != NULL;
+	return used;
+}
+
+static uint32_t used_mutexes(const struct ww_pool *p) { return p->mutexes - ww_free_numbers(&p->numbers); }
+
 /* How much of a class is in use, by what, and who waits for a context. */
 static void write_uses(const struct ww_pool *p, FILE *to)
 {
-	uint32_t used = 0, waiting = 0;
+	uint32_t waiting = 0;
 
 	pthread_mutex_lock(&listing);
-	for (uint32_t k = 0; k < p->contexts; k++)
-		used += __atomic_load_n(&p->debug->seats[k].thread, __ATOMIC_RELAXED) != NULL;
 	for (const struct waiter *w = sleepers; w; w = w->next)
 		waiting += w->pool == p && !w->seat;
 	fprintf(to, "class \"%s\": %u of %u mutexes and %u of %u contexts in use, threads that wait for a context: %u\n", name_of(p),
-		p->mutexes - ww_free_numbers(&p->numbers), p->mutexes, used, p->contexts, waiting);
+		used_mutexes(p), p->mutexes, used_seats(p), p->contexts, waiting);
 	for (uint32_t k = 0; k < p->contexts; k++) {
 		const struct standing *s = &p->debug->seats[k];
 		unsigned long stamp = __atomic_load_n(&s->stamp, __ATOMIC_RELAXED);
@@ -390,11 +399,12 @@ static void write_uses(const struct ww_pool *p, FILE *to)
 	pthread_mutex_unlock(&listing);
 }
 
+/* Whoever ended the last context may not be through with that; then the class is as good as free. */
 char *ww_debug_left(const struct ww_pool *p)
 {
 	struct text text;
 
-	if (!ww_debug_is_new(STAYS_OPEN, p))
+	if (!(used_mutexes(p) || used_seats(p)) || !ww_debug_is_new(STAYS_OPEN, p))
 		return NULL;
 	if (begin_text(&text))
 		write_uses(p, text.to);
