@@ -7,8 +7,12 @@
  * releases all that it holds, and tries again.  The calls are those of the
  * kernel's ww_mutex.h, and answer 0 or a negative errno.
  *
- * A seat is used by one thread at a time.  c/README.md says what is promised,
- * and what the caller owes.
+ * Without a context a seat holds one lock at most.  A seat is used by one thread at a
+ * time; a world, its seats and its locks neither in a signal handler nor in a forked
+ * child.  The calls that seldom wait are compiled into their callers, unless WW_NO_INLINE
+ * is defined before.  A function whose name ends with _ is a single step, for callers
+ * with a scheduler of their own.  c/README.md says what is promised, and what the caller
+ * owes.
  */
 #ifndef WW_H
 #define WW_H

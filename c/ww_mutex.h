@@ -9,8 +9,18 @@
  *
  * A class has 65,536 mutexes and 1,024 contexts at once, or as many as ww_class_limit
  * said; a mutex that is held without a context (NULL) counts as one of these as
- * long as it is held.
- * ww_mutex(3) says what is promised, and what a program owes.
+ * long as it is held.  Opening a class takes all its memory.
+ *
+ * A context is used by one thread at a time, and a mutex is unlocked by the thread that
+ * acquired it; neither is used in a signal handler.  In a forked child a class that was
+ * open before gives nothing more (-EINVAL), until ww_class_free lets it go there; where a
+ * context that was begun before would have to wait, it has let go all that it held.
+ * Deadlocks are detected among the contexts of one class alone.  Each copy of the shared
+ * library takes 200 bytes of static thread-local storage: a process can load some eight.
+ *
+ * Otherwise than in the kernel a context acquires nothing after ww_acquire_done, also
+ * without debugging; nothing is acquired after -EDEADLK while something is held; and
+ * ww_mutex_destroy answers.  The locks below are proved; what this header adds is tested.
  */
 #ifndef WW_MUTEX_H
 #define WW_MUTEX_H
@@ -171,6 +181,11 @@ WW_MUST_CHECK int ww_class_open(struct ww_class *ww_class);
  */
 int ww_class_free(struct ww_class *ww_class);
 
+/* How many bytes each of the three structures takes in this library, for languages that don't read this header. */
+size_t ww_class_size(void);
+size_t ww_mutex_size(void);
+size_t ww_acquire_size(void);
+
 /*
  * As ww_mutex_lock_interruptible, but waits until this time of the monotonic clock at
  * the longest: -ETIMEDOUT, and what was held still is.  A mutex that is free is
@@ -246,29 +261,43 @@ void ww_tries_begin_(struct ww_acquire_ctx *ctx);
 bool ww_tries_more_(struct ww_acquire_ctx *ctx);
 
 #ifdef WW_DEBUG
+/* ---- the debug library ---- */
+
 /*
  * With -DWW_DEBUG, and -lww_debug in place of -lww: a call that is wrong is told on
  * standard error, with its line and the calls by which the program came there, besides
  * what it answers; and now and then a context that holds a mutex is told -EDEADLK
  * without need, so that the way back is tried.
+ *
+ * What is right and dangerous is told there too, once for each line and class: a second
+ * context that a thread begins while it runs one; a lock with NULL by a thread that holds
+ * a mutex of the class; a wait for a context by a thread that has a context or a mutex of
+ * any class; and what is in use, where that keeps ww_class_free from freeing it.  A context
+ * is that of the thread that acquired by it last, or began it.  A wait with a time is no
+ * danger; one that a cancel can end may be.
+ *
+ * A thread that sleeps looks now and then whether it will for ever: because of several
+ * classes, of locks with NULL, or of contexts that are all in use.  Such a deadlock, which
+ * no class detects, is told once, with all of its threads, what each waits for, and where.
  */
+
 #include <stdio.h>
 #ifdef __cplusplus
 extern "C" {
 #endif
-/* Writes who holds what and who waits for whom, at a glance, in the form that tools/picture draws. */
+/*
+ * Writes how much of a class is in use, which contexts run and where they began, who waits
+ * for a context, who holds what and who waits for whom, at a glance, in the form that
+ * tools/picture draws.
+ */
 void ww_class_print(struct ww_class *ww_class, FILE *to);
 /* How many calls were told to be wrong. */
 unsigned long ww_debug_faults(void);
-/*
- * How many dangers were told, each once a line and class: a second context that a thread begins, a lock with NULL by a
- * thread that holds a mutex of the class, a wait for a context by one that has anything, a class that can't be freed; and
- * each deadlock that no class detects, once.
- */
+/* How many dangers and deadlocks were told. */
 unsigned long ww_debug_dangers(void);
 /*
- * A wait that begins from now on looks for such a deadlock after each so many milliseconds, and tells it at the second
- * look: 1,000 by default; 0: none looks.
+ * Whoever waits from now on looks for a deadlock after each so many milliseconds, and tells it
+ * at the second look that finds it: 1,000, if nothing else is said; 0: nobody looks.
  */
 void ww_debug_patience(unsigned int milliseconds);
 void ww_debug_at_(const char *file, int line);
