@@ -139,7 +139,7 @@ void ww_debug_seeks(struct ww_pool *p, const struct timespec *until)
 	pthread_mutex_unlock(&listing);
 	if (s)
 		ww_debug_warn(WAIT_FOR_CONTEXT, p, "a wait for a context",
-				"all are in use, and nobody detects a deadlock by this; the thread has what began at", s);
+			      "all are in use, and nobody detects a deadlock by this; the thread has what began at", s);
 	ww_debug_begin_wait(p, NULL, 0, until);
 }
 
