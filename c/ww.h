@@ -183,14 +183,10 @@ typedef struct {
 void ww_keep_(ww_seat *seat, uint32_t lock);
 #define WW_KEEP_(seat, front, lock) \
 	do { \
-		size_t top_ = (front)->top; \
-\
-		if (__builtin_expect(top_ < WW_KEPT_, 1)) { \
-			(front)->last[top_ + 1] = (lock); \
-			(front)->top = (uint32_t)top_ + 1; \
-		} else { \
+		if (__builtin_expect((front)->top < WW_KEPT_, 1)) \
+			(front)->last[++(front)->top] = (lock); \
+		else \
 			ww_keep_(seat, lock); \
-		} \
 	} while (0)
 /* Releases a lock; and the same, where the lock acquired last was to be released and the first turn answered r. */
 int ww_unlock_other_(ww_seat *seat, uint32_t lock);

@@ -341,6 +341,7 @@ void ww_debug_at_(const char *file, int line);
 int ww_mutex_lock_alone_(struct ww_mutex *lock);
 int ww_mutex_lock_else_(struct ww_mutex *lock, struct ww_acquire_ctx *ctx);
 int ww_mutex_lock_further_(struct ww_mutex *lock, struct ww_acquire_ctx *ctx, int r);
+int ww_mutex_trylock_else_(struct ww_mutex *lock, struct ww_acquire_ctx *ctx);
 void ww_mutex_unlock_else_(struct ww_mutex *lock);
 void ww_mutex_unlock_further_(struct ww_mutex *lock, struct ww_acquire_ctx *ctx, int r);
 bool ww_tries_else_(struct ww_acquire_ctx *ctx);
@@ -348,10 +349,19 @@ enum { WW_IS_TRYING_ = 1, WW_HAS_TO_BACK_OFF_ = 2 }; /* of a context's state */
 #if defined(__GNUC__) && !defined(WW_NO_INLINE) && !defined(WW_DEBUG)
 /* A seat begins with its handle. */
 int32_t ww_first_of_lock_(struct ww_seat *seat, uint32_t lock, bool heeds) __asm__("ww_lock_");
+int32_t ww_only_of_try_(struct ww_seat *seat, uint32_t lock) __asm__("ww_try_");
 int32_t ww_first_of_unlock_(struct ww_seat *seat, uint32_t lock) __asm__("ww_unlock_");
 #define WW_INLINE_ extern __inline __attribute__((__gnu_inline__))
 
 /* What is stored relaxed, here and below, is the holder's alone: the lock orders it from holder to holder. */
+#define WW_HOLDS_(ctx_, lock) \
+	do { \
+		(lock)->older = (ctx_)->newest; \
+		(ctx_)->newest = (lock); \
+		(ctx_)->acquired++; \
+		__atomic_store_n(&(lock)->ctx, (ctx_), __ATOMIC_RELAXED); \
+	} while (0)
+
 WW_INLINE_ int ww_mutex_lock(struct ww_mutex *lock, struct ww_acquire_ctx *ctx)
 {
 	int r;
@@ -363,11 +373,18 @@ WW_INLINE_ int ww_mutex_lock(struct ww_mutex *lock, struct ww_acquire_ctx *ctx)
 	r = ww_first_of_lock_(ctx->own, lock->number, false);
 	if (__builtin_expect(r != 0, 0))
 		return ww_mutex_lock_further_(lock, ctx, r);
-	lock->older = ctx->newest;
-	ctx->newest = lock;
-	ctx->acquired++;
-	__atomic_store_n(&lock->ctx, ctx, __ATOMIC_RELAXED);
+	WW_HOLDS_(ctx, lock);
 	return 0;
+}
+
+WW_INLINE_ int ww_mutex_trylock(struct ww_mutex *lock, struct ww_acquire_ctx *ctx)
+{
+	if (__builtin_expect(!ctx || lock->pool != ctx->pool, 0))
+		return ww_mutex_trylock_else_(lock, ctx);
+	if (ww_only_of_try_(ctx->own, lock->number))
+		return 0;
+	WW_HOLDS_(ctx, lock);
+	return 1;
 }
 
 /* From the first turn on the mutex is another's, who may destroy it, unless the turn did nothing. */
@@ -405,6 +422,7 @@ WW_INLINE_ bool ww_tries_more_(struct ww_acquire_ctx *ctx)
 	}
 	return ww_tries_else_(ctx);
 }
+#undef WW_HOLDS_
 #undef WW_INLINE_
 #endif
 
