@@ -131,7 +131,7 @@ COLD static int release_further(ww_seat *s, int r)
  * releases it.  An unlock's last access to the mutex comes before the step that releases
  * its lock; so whoever had it is through with it, and what they wrote is seen here.
  */
-static bool is_released(struct ww_pool *p, struct ww_mutex *m)
+bool ww_is_released(struct ww_pool *p, struct ww_mutex *m)
 {
 	ww_seat *s = borrow_spare(p);
 	bool released = ww_try_(&s->handle, m->number) == 0;
@@ -158,7 +158,7 @@ int ww_mutex_destroy(struct ww_mutex *m)
 		*m = (struct ww_mutex){ 0 };
 		return 0;
 	}
-	if (__atomic_load_n(&m->waiters, __ATOMIC_SEQ_CST) || ww_mutex_is_locked(m) || !is_released(p, m)) {
+	if (__atomic_load_n(&m->waiters, __ATOMIC_SEQ_CST) || ww_mutex_is_locked(m) || !ww_is_released(p, m)) {
 		ww_debug_fault("ww_mutex_destroy", "somebody holds the mutex, or waits for it");
 		return -EBUSY;
 	}
@@ -748,27 +748,39 @@ int ww_mutex_lock_until(struct ww_mutex *m, struct ww_acquire_ctx *x, const stru
  * In a loop it is the wait that comes first itself, or isn't due.  After an -EDEADLK that the
  * debug library made up the proved one doesn't know that it is.
  */
-static int lock_slowly(struct ww_mutex *m, struct ww_acquire_ctx *x, enum way way, enum way plain)
+static int lock_slowly(struct ww_mutex *m, struct ww_acquire_ctx *x, enum way way, enum way plain, const struct timespec *until)
 {
 	if (!x || !goes_together(m, x))
 		return -EINVAL;
-	return ww_debug_told(m, x, lock_now(m, x, ww_debug_injected(m, x) ? plain : way, NULL), false);
+	return ww_debug_told(m, x, lock_now(m, x, ww_debug_injected(m, x) ? plain : way, until), false);
 }
 
-int ww_mutex_lock_slow_checked(struct ww_mutex *m, struct ww_acquire_ctx *x) { return lock_slowly(m, x, SLOWLY, STAYS); }
+int ww_mutex_lock_slow_checked(struct ww_mutex *m, struct ww_acquire_ctx *x) { return lock_slowly(m, x, SLOWLY, STAYS, NULL); }
+
+static int lock_slowly_heeding(const char *call, struct ww_mutex *m, struct ww_acquire_ctx *x, const struct timespec *until)
+{
+	int r = lock_slowly(m, x, SLOWLY_HEEDS, HEEDS, until);
+
+	if (r == -EINVAL)
+		ww_debug_fault(call, not_due);
+	return r;
+}
 
 int ww_mutex_lock_slow_interruptible(struct ww_mutex *m, struct ww_acquire_ctx *x)
 {
-	int r = lock_slowly(m, x, SLOWLY_HEEDS, HEEDS);
+	return lock_slowly_heeding("ww_mutex_lock_slow_interruptible", m, x, NULL);
+}
 
-	if (r == -EINVAL)
-		ww_debug_fault("ww_mutex_lock_slow_interruptible", not_due);
-	return r;
+int ww_mutex_lock_slow_until(struct ww_mutex *m, struct ww_acquire_ctx *x, const struct timespec *until)
+{
+	if (UNLIKELY(until->tv_nsec < 0 || until->tv_nsec >= 1000000000))
+		return -EINVAL;
+	return lock_slowly_heeding("ww_mutex_lock_slow_until", m, x, until);
 }
 
 void ww_mutex_lock_slow(struct ww_mutex *m, struct ww_acquire_ctx *x)
 {
-	if (UNLIKELY(lock_slowly(m, x, SLOWLY, STAYS)))
+	if (UNLIKELY(lock_slowly(m, x, SLOWLY, STAYS, NULL)))
 		end("ww_mutex_lock_slow", not_due);
 }
 
@@ -819,6 +831,11 @@ int ww_mutex_trylock(struct ww_mutex *m, struct ww_acquire_ctx *x)
 	own(m, x, NULL);
 	ww_debug_told(m, x, 0, false);
 	return 1;
+}
+
+int ww_mutex_trylock_checked(struct ww_mutex *m, struct ww_acquire_ctx *x)
+{
+	return !m->pool || (x && !goes_together(m, x)) ? faulty("ww_mutex_trylock", m, x) : ww_mutex_trylock(m, x);
 }
 
 /*

@@ -56,7 +56,10 @@ struct ww_class {
 	const char *name;
 };
 
-/* What the fields below are for is the library's business, except ctx and acquired, which may be read. */
+/*
+ * What the fields below are for is the library's business, except ctx and acquired, which may be read.  These structs
+ * belong to the binary interface (ww_version): their sizes and places don't change without its first number.
+ */
 struct ww_acquire_ctx;
 
 struct ww_mutex {
@@ -161,6 +164,7 @@ WW_MUST_CHECK int ww_acquire_init_checked(struct ww_acquire_ctx *ctx, struct ww_
 WW_MUST_CHECK int ww_acquire_done_checked(struct ww_acquire_ctx *ctx);
 WW_MUST_CHECK int ww_acquire_fini_checked(struct ww_acquire_ctx *ctx);
 WW_MUST_CHECK int ww_mutex_lock_slow_checked(struct ww_mutex *lock, struct ww_acquire_ctx *ctx);
+WW_MUST_CHECK int ww_mutex_trylock_checked(struct ww_mutex *lock, struct ww_acquire_ctx *ctx);
 WW_MUST_CHECK int ww_mutex_unlock_checked(struct ww_mutex *lock);
 
 /* A class in memory of the program's own, as DEFINE_WW_CLASS (0) or DEFINE_WD_CLASS (1) makes it. */
@@ -192,11 +196,14 @@ size_t ww_acquire_size(void);
  * acquired, however late it is.  -EINVAL, too: tv_nsec isn't 0 to 999,999,999.
  */
 WW_MUST_CHECK int ww_mutex_lock_until(struct ww_mutex *lock, struct ww_acquire_ctx *ctx, const struct timespec *monotonic);
+/* The same of ww_mutex_lock_slow_interruptible: it ends at a time, too. */
+WW_MUST_CHECK int ww_mutex_lock_slow_until(struct ww_mutex *lock, struct ww_acquire_ctx *ctx, const struct timespec *monotonic);
 /*
  * Calls off the interruptible wait of a context, this one or the next: as a signal
  * does in the kernel.  -EALREADY: that is pending; -EINVAL: the context has ended.
- * It may be called by any thread as long as the context is there, from the end of its
- * ww_acquire_init on.  A cancel that found no wait ends with its context.
+ * Any thread may call it from the end of ww_acquire_init to the beginning of ww_acquire_fini,
+ * which its callers see to, by a lock of theirs for instance: a later one meets whichever
+ * context begins next in this memory.  A cancel that found no wait ends with its context.
  * A wait ends so also where all contexts of the class are in use, and at a time that has come.
  */
 int ww_acquire_cancel(struct ww_acquire_ctx *ctx);
@@ -320,8 +327,10 @@ void ww_debug_at_(const char *file, int line);
 #define ww_mutex_lock_slow(...) (WW_HERE_, ww_mutex_lock_slow(__VA_ARGS__))
 #define ww_mutex_lock_slow_interruptible(...) (WW_HERE_, ww_mutex_lock_slow_interruptible(__VA_ARGS__))
 #define ww_mutex_lock_until(...) (WW_HERE_, ww_mutex_lock_until(__VA_ARGS__))
+#define ww_mutex_lock_slow_until(...) (WW_HERE_, ww_mutex_lock_slow_until(__VA_ARGS__))
 #define ww_mutex_lock_all(...) (WW_HERE_, ww_mutex_lock_all(__VA_ARGS__))
 #define ww_mutex_trylock(...) (WW_HERE_, ww_mutex_trylock(__VA_ARGS__))
+#define ww_mutex_trylock_checked(...) (WW_HERE_, ww_mutex_trylock_checked(__VA_ARGS__))
 #define ww_mutex_unlock(...) (WW_HERE_, ww_mutex_unlock(__VA_ARGS__))
 #define ww_class_free(...) (WW_HERE_, ww_class_free(__VA_ARGS__))
 #endif

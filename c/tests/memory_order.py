@@ -269,7 +269,8 @@ def arm_model(events, sb, rf, mo, lse):
 
 # ---- the sources ----
 
-SOURCES = ["ww.c", "ww_pool.h", "ww_pool.c", "ww_mutex.h", "ww_mutex.c", "ww_inside.h", "ww_debug.h", "ww_debug.c", "ww_debug_waits.c"]
+SOURCES = ["ww.c", "ww_pool.h", "ww_pool.c", "ww_mutex.h", "ww_mutex.c", "ww_number.h", "ww_number.c", "ww_inside.h",
+           "ww_debug.h", "ww_debug.c", "ww_debug_waits.c"]
 SHORT = {"RELAXED": "rlx", "ACQUIRE": "acq", "RELEASE": "rel", "ACQ_REL": "ar", "SEQ_CST": "sc"}
 
 # Of each field, in each source: its accesses there, and what orders them. Of a compare-exchange that fails the second order.
