@@ -406,7 +406,7 @@ COLD static int lock_on(struct ww_mutex *m, struct ww_acquire_ctx *x, ww_seat *s
 	bool heeds = way == HEEDS || way == SLOWLY_HEEDS, waits = r > 0;
 
 	if (waits) {
-		ww_debug_waits(m->pool, s, m);
+		ww_debug_waits(s, m, until);
 		__atomic_fetch_add(&m->waiters, 1, __ATOMIC_SEQ_CST);
 	}
 	for (;;) {
@@ -424,7 +424,7 @@ COLD static int lock_on(struct ww_mutex *m, struct ww_acquire_ctx *x, ww_seat *s
 	if (r == -EINTR && !(x && __atomic_exchange_n(&x->cancelled, 0, __ATOMIC_SEQ_CST)))
 		r = -ETIMEDOUT;
 	if (waits) {
-		ww_debug_waits(m->pool, s, NULL);
+		ww_debug_waits(s, NULL, NULL);
 		__atomic_fetch_sub(&m->waiters, 1, __ATOMIC_SEQ_CST);
 	}
 	return r;
@@ -702,6 +702,7 @@ static inline int lock_alone(struct ww_mutex *m, enum way way, const struct time
 	struct ww_pool *p = m->pool;
 	ww_seat *s = ww_mine.seats[0].seat;
 
+	ww_debug_alone(m, until);
 	if (UNLIKELY(!p || !has_at_hand(p)))
 		return lock_by_any(m, NULL, way, until);
 	return LIKELY(use_kept(p, s)) ? lock_by_seat(m, s, way, until) : lock_by_any(m, s, way, until);

@@ -111,7 +111,7 @@ int ww_mutex_destroy(struct ww_mutex *lock);
 /*
  * Begins a context.  Where all contexts of the class are in use it waits for one
  * to end, behind those who wait already: threads that hold something by one context and wait for another can wait
- * for each other for ever, which nobody detects.
+ * for each other for ever, which only the debug library tells.
  */
 void ww_acquire_init(struct ww_acquire_ctx *ctx, struct ww_class *ww_class);
 /* The context has all its locks: from now on it acquires none. The program ends where it was said before. */
@@ -275,16 +275,38 @@ bool ww_tries_more_(struct ww_acquire_ctx *ctx);
  * standard error, with its line and the calls by which the program came there, besides
  * what it answers; and now and then a context that holds a mutex is told -EDEADLK
  * without need, so that the way back is tried.
+ *
+ * What is right and dangerous is told there too, once for each line and class: a second
+ * context that a thread begins while it runs one; a lock with NULL by a thread that holds
+ * a mutex of the class; a wait for a context by a thread that has a context or a mutex of
+ * any class; and what is in use, where that keeps ww_class_free from freeing it.  A context
+ * is that of the thread that acquired by it last, or began it.  A wait with a time is no
+ * danger; one that a cancel can end may be.
+ *
+ * A thread that sleeps looks now and then whether it will for ever: because of several
+ * classes, of locks with NULL, or of contexts that are all in use.  Such a deadlock, which
+ * no class detects, is told once, with all of its threads, what each waits for, and where.
  */
 
 #include <stdio.h>
 #ifdef __cplusplus
 extern "C" {
 #endif
-/* Writes who holds what and who waits for whom, at a glance, in the form that tools/picture draws. */
+/*
+ * Writes how much of a class is in use, which contexts run and where they began, who waits
+ * for a context, who holds what and who waits for whom, at a glance, in the form that
+ * tools/picture draws.
+ */
 void ww_class_print(struct ww_class *ww_class, FILE *to);
 /* How many calls were told to be wrong. */
 unsigned long ww_debug_faults(void);
+/* How many dangers and deadlocks were told. */
+unsigned long ww_debug_dangers(void);
+/*
+ * Whoever waits from now on looks for a deadlock after each so many milliseconds, and tells it
+ * at the second look that finds it: 1,000, if nothing else is said; 0: nobody looks.
+ */
+void ww_debug_patience(unsigned int milliseconds);
 void ww_debug_at_(const char *file, int line);
 #ifdef __cplusplus
 }
@@ -297,6 +319,7 @@ void ww_debug_at_(const char *file, int line);
 #define ww_mutex_init(...) (WW_HERE_, ww_mutex_init(__VA_ARGS__))
 #define ww_mutex_destroy(...) (WW_HERE_, ww_mutex_destroy(__VA_ARGS__))
 #define ww_acquire_init(...) (WW_HERE_, ww_acquire_init(__VA_ARGS__))
+#define ww_acquire_init_checked(...) (WW_HERE_, ww_acquire_init_checked(__VA_ARGS__))
 #define ww_acquire_done(...) (WW_HERE_, ww_acquire_done(__VA_ARGS__))
 #define ww_acquire_fini(...) (WW_HERE_, ww_acquire_fini(__VA_ARGS__))
 #define ww_mutex_lock(...) (WW_HERE_, ww_mutex_lock(__VA_ARGS__))
@@ -309,6 +332,7 @@ void ww_debug_at_(const char *file, int line);
 #define ww_mutex_trylock(...) (WW_HERE_, ww_mutex_trylock(__VA_ARGS__))
 #define ww_mutex_trylock_checked(...) (WW_HERE_, ww_mutex_trylock_checked(__VA_ARGS__))
 #define ww_mutex_unlock(...) (WW_HERE_, ww_mutex_unlock(__VA_ARGS__))
+#define ww_class_free(...) (WW_HERE_, ww_class_free(__VA_ARGS__))
 #endif
 #endif
 
