@@ -37,6 +37,7 @@ extern "C" {
 
 struct ww_pool; /* what an open class has */
 struct ww_seat;
+struct timespec; /* which <time.h> has not by -std=c99 */
 
 /* A class of mutexes: a context belongs to one, and locks the mutexes of that class alone. */
 struct ww_class {
@@ -49,8 +50,16 @@ struct ww_class {
 /* What the fields below are for is the library's business, except ctx and acquired, which may be read. */
 struct ww_acquire_ctx;
 
+/* For code that names the kernel's lock in a mutex (lockdep_assert_held(&object->lock.base)): its address is all that it is for. */
+struct ww_mutex_base {
+	void *address_;
+};
+
 struct ww_mutex {
-	struct ww_acquire_ctx *ctx;	/* the context that holds it; NULL: none does. Others read it atomically */
+	__extension__ union {
+		struct ww_mutex_base base;
+		struct ww_acquire_ctx *ctx; /* the context that holds it; NULL: none does. Others read it atomically */
+	};
 	struct ww_pool *pool;
 	struct ww_seat *alone;		/* by which it is held without a context */
 	uint32_t number;
