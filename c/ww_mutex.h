@@ -193,6 +193,12 @@ WW_MUST_CHECK int ww_class_open(struct ww_class *ww_class);
 int ww_class_free(struct ww_class *ww_class);
 
 /*
+ * As ww_acquire_init, but waits for a context until this time of the monotonic clock at
+ * the longest: -ETIMEDOUT.  One that is free is begun, however late it is.  Else it
+ * answers as ww_acquire_init_checked, and as the next call does for a time that is none.
+ */
+WW_MUST_CHECK int ww_acquire_init_until(struct ww_acquire_ctx *ctx, struct ww_class *ww_class, const struct timespec *monotonic);
+/*
  * As ww_mutex_lock_interruptible, but waits until this time of the monotonic clock at
  * the longest: -ETIMEDOUT, and what was held still is.  A mutex that is free is
  * acquired, however late it is.  -EINVAL, too: tv_nsec isn't 0 to 999,999,999.
@@ -293,6 +299,7 @@ void ww_debug_at_(const char *file, int line);
 #define ww_mutex_init(...) (WW_HERE_, ww_mutex_init(__VA_ARGS__))
 #define ww_mutex_destroy(...) (WW_HERE_, ww_mutex_destroy(__VA_ARGS__))
 #define ww_acquire_init(...) (WW_HERE_, ww_acquire_init(__VA_ARGS__))
+#define ww_acquire_init_until(...) (WW_HERE_, ww_acquire_init_until(__VA_ARGS__))
 #define ww_acquire_done(...) (WW_HERE_, ww_acquire_done(__VA_ARGS__))
 #define ww_acquire_fini(...) (WW_HERE_, ww_acquire_fini(__VA_ARGS__))
 #define ww_mutex_lock(...) (WW_HERE_, ww_mutex_lock(__VA_ARGS__))
