@@ -36,8 +36,10 @@ static inline int begin_with(struct ww_acquire_ctx *x, struct ww_pool *p, ww_sea
 	return 0;
 }
 
-/* Where there is no seat: -EAGAIN, or it waits, until a time if that isn't NULL. */
-COLD static int begin_anyhow(struct ww_acquire_ctx *x, struct ww_class *c, bool waits, const struct timespec *until)
+/* Until then a begin waits that doesn't wait: -EAGAIN. NULL is for ever. */
+static const struct timespec at_once;
+
+COLD static int begin_anyhow(struct ww_acquire_ctx *x, struct ww_class *c, const struct timespec *until)
 {
 	struct ww_pool *p;
 	ww_seat *s;
@@ -47,39 +49,39 @@ COLD static int begin_anyhow(struct ww_acquire_ctx *x, struct ww_class *c, bool 
 		return r;
 	s = seat_at_once(p);
 	if (!s)
-		r = waits ? ww_seek_seat(p, until, &s) : p->gone ? -EINVAL : -EAGAIN;
+		r = until != &at_once ? ww_seek_seat(p, until, &s) : p->gone ? -EINVAL : -EAGAIN;
 	return r ? r : begin_with(x, p, s);
 }
 
 /* The seat was at hand, but came to be shared. */
-COLD static int begin_late(struct ww_acquire_ctx *x, struct ww_class *c, ww_seat *s, bool waits, const struct timespec *until)
+COLD static int begin_late(struct ww_acquire_ctx *x, struct ww_class *c, ww_seat *s, const struct timespec *until)
 {
 	s = ww_late_seat(c->pool, s);
-	return s ? begin_with(x, c->pool, s) : begin_anyhow(x, c, waits, until);
+	return s ? begin_with(x, c->pool, s) : begin_anyhow(x, c, until);
 }
 
-static inline int begin(struct ww_acquire_ctx *x, struct ww_class *c, bool waits, const struct timespec *until)
+static inline int begin(struct ww_acquire_ctx *x, struct ww_class *c, const struct timespec *until)
 {
 	struct ww_pool *p = __atomic_load_n(&c->pool, __ATOMIC_ACQUIRE);
 	ww_seat *s = ww_mine.seats[0].seat;
 
 	if (UNLIKELY(!p || !has_at_hand(p)))
-		return begin_anyhow(x, c, waits, until);
+		return begin_anyhow(x, c, until);
 	if (UNLIKELY(!use_kept(p, s)))
-		return begin_late(x, c, s, waits, until);
+		return begin_late(x, c, s, until);
 	return begin_with(x, p, s);
 }
 
-int ww_acquire_init_checked(struct ww_acquire_ctx *x, struct ww_class *c) { return begin(x, c, false, NULL); }
+int ww_acquire_init_checked(struct ww_acquire_ctx *x, struct ww_class *c) { return begin(x, c, &at_once); }
 
 int ww_acquire_init_until(struct ww_acquire_ctx *x, struct ww_class *c, const struct timespec *until)
 {
-	return is_time(until) ? begin(x, c, true, until) : -EINVAL;
+	return is_time(until) ? begin(x, c, until) : -EINVAL;
 }
 
 COLD static void init_else(struct ww_acquire_ctx *x, struct ww_class *c, ww_seat *late)
 {
-	int r = late ? begin_late(x, c, late, true, NULL) : begin_anyhow(x, c, true, NULL);
+	int r = late ? begin_late(x, c, late, NULL) : begin_anyhow(x, c, NULL);
 
 	if (r)
 		end("ww_acquire_init", told_at_begin(r));
