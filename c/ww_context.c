@@ -1,4 +1,4 @@
-/* ww_context.c - the contexts of ww_mutex.h: how they begin, end, and are called off. */
+/* ww_context.c - the contexts of ww_mutex.h: how they begin and end, are called off, and what they hold. */
 #define _GNU_SOURCE
 #define WW_NO_INLINE /* As ww_mutex.c. */
 #include "ww_pool.h"
@@ -173,4 +173,27 @@ int ww_acquire_cancel(struct ww_acquire_ctx *x)
 		return -EALREADY;
 	ww_unpark(s);
 	return 0;
+}
+
+/* ---- what they hold ---- */
+
+bool ww_mutex_is_held_by(const struct ww_mutex *m, const struct ww_acquire_ctx *x)
+{
+	const ww_seat *s;
+
+	if (x)
+		return __atomic_load_n(&m->ctx, __ATOMIC_RELAXED) == x;
+	s = __atomic_load_n(&m->alone, __ATOMIC_ACQUIRE);
+	return s && __atomic_load_n(&s->user, __ATOMIC_RELAXED) == &ww_mine;
+}
+
+size_t ww_acquire_mark(const struct ww_acquire_ctx *x) { return x->acquired; }
+
+/* Only in a loop, or behind it, the list of what it acquired is exact. */
+void ww_acquire_unlock_to(struct ww_acquire_ctx *x, size_t mark)
+{
+	if (x->gives == x->own)
+		return;
+	while (x->acquired > mark)
+		ww_mutex_unlock(x->newest);
 }

@@ -84,7 +84,7 @@ void ww_mutex_init(struct ww_mutex *m, struct ww_class *c)
 
 /*
  * `ctx` and `alone` are written by the mutex's holder alone, relaxed: one holder's accesses are ordered before
- * the next one's by the lock, and to all others they are a glance.
+ * the next one's by the lock, and to all others they are a glance.  By `alone` others look into the seat.
  */
 static inline struct ww_acquire_ctx *holder(const struct ww_mutex *m) { return __atomic_load_n(&m->ctx, __ATOMIC_RELAXED); }
 
@@ -225,7 +225,7 @@ static inline void own(struct ww_mutex *m, struct ww_acquire_ctx *x, ww_seat *s)
 		x->acquired++;
 		__atomic_store_n(&m->ctx, x, __ATOMIC_RELAXED);
 	} else {
-		__atomic_store_n(&m->alone, s, __ATOMIC_RELAXED);
+		__atomic_store_n(&m->alone, s, __ATOMIC_RELEASE);
 	}
 }
 

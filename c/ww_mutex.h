@@ -213,6 +213,12 @@ WW_MUST_CHECK int ww_mutex_lock_until(struct ww_mutex *lock, struct ww_acquire_c
  */
 int ww_acquire_cancel(struct ww_acquire_ctx *ctx);
 
+/*
+ * Whether this context holds the mutex; with NULL: whether this thread acquired it without
+ * one.  Certain for who asks of what is its own, and else at a glance.
+ */
+bool ww_mutex_is_held_by(const struct ww_mutex *lock, const struct ww_acquire_ctx *ctx);
+
 /* Of a context, for ww_mutex_lock_all and between ww_until_all_locked and its end. */
 enum {
 	WW_IGNORE_DUPLICATES = 1,	/* a mutex that the context holds is no error */
@@ -233,6 +239,14 @@ WW_MUST_CHECK int ww_mutex_lock_all(struct ww_acquire_ctx *ctx, struct ww_mutex 
  * ww_mutex_lock_all: for it this call releases nothing.
  */
 void ww_acquire_unlock_all(struct ww_acquire_ctx *ctx);
+/*
+ * The same to a mark, which is how many mutexes the context held then: it releases the
+ * newest until it holds so many.  So what was acquired before the mark stays, and where
+ * some of that was released since, as many of what came later stay too.  A back-off
+ * releases all, and the body marks anew.
+ */
+WW_MUST_CHECK size_t ww_acquire_mark(const struct ww_acquire_ctx *ctx);
+void ww_acquire_unlock_to(struct ww_acquire_ctx *ctx, size_t mark);
 
 /*
  * The same for mutexes that are found on the way, as drm_exec has it:

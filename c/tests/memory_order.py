@@ -289,8 +289,10 @@ TABLE = {
     # A canceller may look while a context begins or ends: a cancel that isn't ordered after ww_acquire_init is no right call.
     "own": {"ww_context.c": "load rlx, store rlx rlx"},
     # A mutex's holder alone writes these, and the lock orders holders; whoever else looks has only a glance, or takes the lock.
-    "ctx": {"ww_mutex.c": "load rlx, store rlx rlx rlx", "ww_mutex.h": "load rlx, store rlx rlx"},
-    "alone": {"ww_mutex.c": "load rlx, store rlx rlx"},
+    "ctx": {"ww_context.c": "load rlx", "ww_mutex.c": "load rlx, store rlx rlx rlx", "ww_mutex.h": "load rlx, store rlx rlx"},
+    # By it others look who uses the seat, which was said before.
+    "alone": {"ww_context.c": "load acq", "ww_mutex.c": "load rlx, store rel rlx"},
+    "user": {"ww_context.c": "load rlx", "ww_pool.c": "store rlx"},
     # A waiter says first that it holds the mutex, and then that it waits no more; who destroys looks the other way round.
     "waiters": {"ww_mutex.c": "fetch_add sc sc, fetch_sub sc sc, load sc"},
     # All of an open class; and of a mutex the number, which its first lock may just have given it.
@@ -552,6 +554,10 @@ def ours():
         [W("id", 5), W("pool", 1, "rel")],
         [R("p", "pool", "acq"), IF("p", 1, R("i", "id"))],
     ], lambda r, f: r[1].get("i") == 0
+    yield "a seat by which a mutex is held has another user now", [
+        [W("user", 1, "rlx"), W("busy", 0, "rel"), R("m", "alone", "acq"), IF("m", 1, R("u", "user", "rlx"))],
+        [R("b", "busy", "acq"), IF("b", 0, W("user", 2, "rlx"), W("alone", 1, "rel"))],
+    ], lambda r, f: r[0].get("u") == 1, {"busy": 1}
     yield "a mutex gets its number at its first lock, by another thread", [
         [W("number", 5), W("pool", 1, "rel"), X("l", "lock", swap(0, 2), "sc"), W("newer", 3)],
         [R("p", "pool", "acq"), IF("p", 1, R("n", "number"), X("l", "lock", swap(0, 2), "sc"))],
