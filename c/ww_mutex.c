@@ -236,6 +236,7 @@ COLD static int lock_on(struct ww_mutex *m, struct ww_acquire_ctx *x, ww_seat *s
 	bool heeds = way == HEEDS || way == SLOWLY_HEEDS, waits = r > 0;
 
 	if (waits) {
+		count(&s->waits);
 		ww_debug_waits(m->pool, s, m);
 		__atomic_fetch_add(&m->waiters, 1, __ATOMIC_SEQ_CST);
 	}
@@ -249,8 +250,10 @@ COLD static int lock_on(struct ww_mutex *m, struct ww_acquire_ctx *x, ww_seat *s
 	}
 	if (r == 0)
 		own(m, x, s);
-	if (r == -EDEADLK)
+	if (r == -EDEADLK) {
+		count(&s->back_offs);
 		x->contending_lock = m;
+	}
 	if (r == -EINTR && !(x && __atomic_exchange_n(&x->cancelled, 0, __ATOMIC_SEQ_CST)))
 		r = -ETIMEDOUT;
 	if (waits) {

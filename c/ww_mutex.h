@@ -191,6 +191,14 @@ WW_MUST_CHECK int ww_class_open(struct ww_class *ww_class);
  * class then; one that is amid the end of its last context may be.
  */
 int ww_class_free(struct ww_class *ww_class);
+/* What happened in a class since it was opened, as counts. */
+struct ww_class_stats {
+	uint64_t back_offs;	/* locks that were told -EDEADLK, but for those that the debug library told without need */
+	uint64_t lock_waits;	/* locks that met others, and waited, be it for a moment */
+	uint64_t context_waits;	/* calls that waited for a context */
+};
+/* At a glance, since others go on meanwhile; 0 where it isn't open. */
+void ww_class_stats(struct ww_class *ww_class, struct ww_class_stats *stats);
 
 /*
  * As ww_acquire_init, but waits for a context until this time of the monotonic clock at

@@ -404,6 +404,8 @@ COLD int ww_seek_seat(struct ww_pool *p, const struct timespec *until, ww_seat *
 		p->first = &me;
 	p->last = &me;
 	serve(p);
+	if (!me.seat)
+		count(&p->sought);
 	pthread_mutex_unlock(&p->queue);
 	while (!__atomic_load_n(&me.served, __ATOMIC_ACQUIRE)) {
 		if (until && ww_has_come(until) && leave(p, &me))
@@ -496,6 +498,7 @@ static int make_pool(struct ww_class *c, struct ww_pool **made)
 			world->seats[k].pool = p;
 		p->mutexes = mutexes;
 		p->contexts = contexts;
+		__atomic_store_n(&p->sought, 0, __ATOMIC_RELAXED);
 		set_out(&p->numbers, mutexes, below);
 		set_out(&p->loose, contexts, below + mutexes);
 		r = ww_debug_open(p);
@@ -626,4 +629,21 @@ int ww_class_free(struct ww_class *c)
 	}
 	pthread_mutex_unlock(&opening);
 	return r;
+}
+
+/* A seat that was never given counts nothing. */
+void ww_class_stats(struct ww_class *c, struct ww_class_stats *stats)
+{
+	struct ww_pool *p;
+
+	*stats = (struct ww_class_stats){ 0 };
+	pthread_mutex_lock(&opening);
+	p = c->pool;
+	if (p)
+		stats->context_waits = __atomic_load_n(&p->sought, __ATOMIC_RELAXED);
+	for (uint32_t k = 0; p && k < __atomic_load_n(&p->loose.fresh, __ATOMIC_RELAXED); k++) {
+		stats->lock_waits += __atomic_load_n(&p->world->seats[k].waits, __ATOMIC_RELAXED);
+		stats->back_offs += __atomic_load_n(&p->world->seats[k].back_offs, __ATOMIC_RELAXED);
+	}
+	pthread_mutex_unlock(&opening);
 }

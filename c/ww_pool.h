@@ -42,6 +42,7 @@ struct ww_pool {
 	uint32_t seekers __attribute__((aligned(64))); /* so many threads wait for a seat; others take none meanwhile */
 	struct ww_seeker *first, *last;                /* of these, in the order in which they came */
 	pthread_mutex_t queue;                         /* for both */
+	uint64_t sought;                               /* how many waited, in all */
 	/* Whoever has it uses the seat behind those of the contexts, and waits for nobody. */
 	pthread_mutex_t spare __attribute__((aligned(64)));
 };
@@ -95,6 +96,12 @@ static inline int pool_of(struct ww_class *c, struct ww_pool **p)
 
 	*p = __atomic_load_n(&c->pool, __ATOMIC_ACQUIRE);
 	return r;
+}
+
+/* One more: by whoever may write it alone, while others read it. */
+static inline void count(uint64_t *counted)
+{
+	__atomic_store_n(counted, __atomic_load_n(counted, __ATOMIC_RELAXED) + 1, __ATOMIC_RELAXED);
 }
 
 static inline int number_of_pool(struct ww_pool *p, uint32_t *number)
