@@ -122,7 +122,10 @@ int ww_mutex_destroy(struct ww_mutex *lock);
  * for each other for ever, which nobody detects.
  */
 void ww_acquire_init(struct ww_acquire_ctx *ctx, struct ww_class *ww_class);
-/* The context has all its locks: from now on it acquires none. The program ends where it was said before. */
+/*
+ * The context has all its locks; a lock that comes then is told by the debug library
+ * alone.  The program ends where it was said before, or the context has ended.
+ */
 void ww_acquire_done(struct ww_acquire_ctx *ctx);
 /* Ends it. The program ends with a message where it still holds a mutex, or had ended. */
 void ww_acquire_fini(struct ww_acquire_ctx *ctx);
@@ -130,7 +133,7 @@ void ww_acquire_fini(struct ww_acquire_ctx *ctx);
 /*
  * Acquires the mutex, and waits for it.  -EDEADLK: release all that the context
  * holds, then ww_mutex_lock_slow of this mutex; -EALREADY: the context holds it.
- * -EINVAL: the context is done or has ended, it was told -EDEADLK and still holds a
+ * -EINVAL: the context has ended, it was told -EDEADLK and still holds a
  * mutex, it is of another class, or the mutex isn't initialized.
  * The first lock of a context is never refused.
  *

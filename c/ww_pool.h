@@ -177,7 +177,7 @@ enum {
 	HAS_TO_BACK_OFF = WW_HAS_TO_BACK_OFF_,
 	WAITS_FIRST = 4,
 	TRIES = 7,
-	IS_DONE = 8,
+	IS_DONE = 8, /* which no call but ww_acquire_done itself refuses */
 	WAS_TOLD = 16,
 	WAS_INJECTED = 32,
 	HEEDS_IN_LOOPS = 64,
@@ -187,7 +187,6 @@ enum {
 WW_HIDDEN int ww_debug_open(struct ww_pool *p);
 WW_HIDDEN void ww_debug_free(struct ww_pool *p);
 WW_HIDDEN void ww_debug_begun(struct ww_acquire_ctx *x);
-WW_HIDDEN void ww_debug_done(struct ww_acquire_ctx *x);
 WW_HIDDEN void ww_debug_ended(struct ww_acquire_ctx *x);
 /* The seat waits for the mutex, or for none any more. */
 WW_HIDDEN void ww_debug_waits(struct ww_pool *p, ww_seat *s, const struct ww_mutex *m);
@@ -205,7 +204,6 @@ WW_HIDDEN bool ww_debug_injected(const struct ww_mutex *m, const struct ww_acqui
 static inline int ww_debug_open(struct ww_pool *p) { return (void)p, 0; }
 static inline void ww_debug_free(struct ww_pool *p) { (void)p; }
 static inline void ww_debug_begun(struct ww_acquire_ctx *x) { (void)x; }
-static inline void ww_debug_done(struct ww_acquire_ctx *x) { (void)x; }
 static inline void ww_debug_ended(struct ww_acquire_ctx *x) { (void)x; }
 static inline void ww_debug_waits(struct ww_pool *p, ww_seat *s, const struct ww_mutex *m) { (void)p, (void)s, (void)m; }
 static inline void ww_debug_acquired(const struct ww_mutex *m, const struct ww_acquire_ctx *x, ww_seat *s)
