@@ -237,6 +237,7 @@ COLD static int lock_on(struct ww_mutex *m, struct ww_acquire_ctx *x, ww_seat *s
 
 	if (waits) {
 		count(&s->waits);
+		PROBE_CONTENTION_BEGIN(m, x);
 		ww_debug_waits(m->pool, s, m);
 		__atomic_fetch_add(&m->waiters, 1, __ATOMIC_SEQ_CST);
 	}
@@ -252,11 +253,13 @@ COLD static int lock_on(struct ww_mutex *m, struct ww_acquire_ctx *x, ww_seat *s
 		own(m, x, s);
 	if (r == -EDEADLK) {
 		count(&s->back_offs);
+		PROBE_BACK_OFF(m, x);
 		x->contending_lock = m;
 	}
 	if (r == -EINTR && !(x && __atomic_exchange_n(&x->cancelled, 0, __ATOMIC_SEQ_CST)))
 		r = -ETIMEDOUT;
 	if (waits) {
+		PROBE_CONTENTION_END(m, x, r);
 		ww_debug_waits(m->pool, s, NULL);
 		__atomic_fetch_sub(&m->waiters, 1, __ATOMIC_SEQ_CST);
 	}

@@ -404,8 +404,10 @@ COLD int ww_seek_seat(struct ww_pool *p, const struct timespec *until, ww_seat *
 		p->first = &me;
 	p->last = &me;
 	serve(p);
-	if (!me.seat)
+	if (!me.seat) {
 		count(&p->sought);
+		PROBE_CONTEXT_WAIT(p->class_);
+	}
 	pthread_mutex_unlock(&p->queue);
 	while (!__atomic_load_n(&me.served, __ATOMIC_ACQUIRE)) {
 		if (until && ww_has_come(until) && leave(p, &me))

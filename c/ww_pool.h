@@ -7,6 +7,27 @@
 #include <stdio.h>
 #include <stdlib.h>
 
+/*
+ * What perf and bpftrace may be told, where SystemTap's header is here: each is an instruction that does nothing, where
+ * a call waits anyway.
+ */
+#ifdef __has_include
+#if __has_include(<sys/sdt.h>)
+#include <sys/sdt.h>
+#define PROBES(probe) probe
+#ifdef __clang__
+#pragma clang diagnostic ignored "-Wgnu-zero-variadic-macro-arguments" /* of that header */
+#endif
+#endif
+#endif
+#ifndef PROBES
+#define PROBES(probe) ((void)0)
+#endif
+#define PROBE_CONTENTION_BEGIN(lock, ctx) PROBES(DTRACE_PROBE2(ww, contention_begin, lock, ctx))
+#define PROBE_CONTENTION_END(lock, ctx, answer) PROBES(DTRACE_PROBE3(ww, contention_end, lock, ctx, answer))
+#define PROBE_BACK_OFF(lock, ctx) PROBES(DTRACE_PROBE2(ww, back_off, lock, ctx))
+#define PROBE_CONTEXT_WAIT(of_class) PROBES(DTRACE_PROBE1(ww, context_wait, of_class))
+
 struct debug;
 
 /*
