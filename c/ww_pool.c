@@ -566,6 +566,10 @@ COLD int ww_number_at_first(struct ww_mutex *m)
 	return r;
 }
 
+size_t ww_class_size(void) { return sizeof(struct ww_class); }
+size_t ww_mutex_size(void) { return sizeof(struct ww_mutex); }
+size_t ww_acquire_size(void) { return sizeof(struct ww_acquire_ctx); }
+
 void ww_class_init(struct ww_class *c, int is_wait_die, const char *name)
 {
 	*c = (struct ww_class){ .is_wait_die = is_wait_die, .name = name };

@@ -298,7 +298,7 @@ TABLE = {
     # All of an open class; and of a mutex the number, which its first lock may just have given it.
     "pool": {
         "ww_context.c": "load acq acq",
-        "ww_mutex.h": "load acq",
+        "ww_mutex.h": "load acq acq",
         "ww_pool.h": "load acq acq acq",
         "ww_pool.c": "store rel rel rel",
         "ww_debug.c": "load acq",
