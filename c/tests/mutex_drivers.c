@@ -55,10 +55,12 @@ static void first_call(unsigned by)
 	case 5: MUST(ww_mutex_trylock(&m, &x)); break;
 	case 6: MUST(ww_mutex_trylock(&m, NULL)); break;
 	case 7: MUST(ww_mutex_lock_all(&x, both, 2) == -EALREADY && !ww_mutex_lock_all(&x, both + 1, 1)); break;
-	case 8: MUST(ww_mutex_lock_slow_checked(&m, &x) == -EINVAL); break;
+	case 8: MUST(ww_mutex_trylock_checked(&m, &x) == 1); break;
+	case 9: MUST(ww_mutex_trylock_checked(&m, NULL) == 1); break;
+	case 10: MUST(ww_mutex_lock_slow_checked(&m, &x) == -EINVAL); break;
 	}
-	MUST(ww_mutex_is_locked(&m) == (by < 8));
-	if (by < 8)
+	MUST(ww_mutex_is_locked(&m) == (by < 10));
+	if (by < 10)
 		ww_mutex_unlock(&m);
 	ww_mutex_unlock(&held);
 	ww_acquire_fini(&x);
@@ -193,7 +195,7 @@ static void no_number_is_left(void)
 	MUST(!ww_class_limit(c, 1, 2));
 	ww_mutex_init(&only, c);
 	ww_acquire_init(&x, c);
-	MUST(ww_mutex_lock(&m, &x) == -ENOSPC && ww_mutex_lock_interruptible(&m, NULL) == -ENOSPC && !x.acquired);
+	MUST(ww_mutex_lock(&m, &x) == -ENOSPC && ww_mutex_trylock_checked(&m, NULL) == -ENOSPC && ww_mutex_lock_interruptible(&m, NULL) == -ENOSPC && !x.acquired);
 	MUST(!ww_mutex_destroy(&only) && !ww_mutex_lock(&m, &x));
 	ww_mutex_unlock(&m);
 	ww_acquire_fini(&x);
@@ -529,7 +531,7 @@ int main(void)
 		c = classes[kind];
 		there_before_any_call(kind ? &of_wait_die : &of_wound_wait);
 		base_has_an_address();
-		for (unsigned by = 0; by < 9; by++)
+		for (unsigned by = 0; by < 11; by++)
 			first_call(by);
 		locked_first_just_then();
 		rolls_back();
