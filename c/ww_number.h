@@ -77,6 +77,14 @@ WW_INLINE_ int ww_number_lock(uint32_t number, struct ww_acquire_ctx *ctx)
 	return 0;
 }
 
+WW_INLINE_ int ww_number_trylock(uint32_t number, struct ww_acquire_ctx *ctx)
+{
+	if (__builtin_expect(!ctx->own, 0) || ww_only_of_try_(ctx->gives, number))
+		return 0;
+	ctx->acquired++;
+	return 1;
+}
+
 WW_INLINE_ int ww_number_unlock(uint32_t number, struct ww_acquire_ctx *ctx)
 {
 	int r = __builtin_expect(!ctx->own, 0) ? -EINVAL : ww_first_of_unlock_(ctx->gives, number);
