@@ -151,8 +151,6 @@ void ww_debug_begun(struct ww_acquire_ctx *x)
 	use(s);
 }
 
-void ww_debug_done(struct ww_acquire_ctx *x) { x->state |= IS_DONE; }
-
 void ww_debug_ended(struct ww_acquire_ctx *x)
 {
 	struct standing *s = standing_of(x->own);
@@ -253,9 +251,11 @@ int ww_debug_told(struct ww_mutex *m, struct ww_acquire_ctx *x, int r, bool inje
 	if (r == -EDEADLK)
 		x->state |= WAS_TOLD;
 	if (r == -EINVAL && injects)
-		fault_in(m->pool, "ww_mutex_lock", !x->own ? "the context has ended" : x->state & IS_DONE ? "the context is done" : not_released);
+		fault_in(m->pool, "ww_mutex_lock", !x->own ? "the context has ended" : not_released);
 	if (r)
 		return r;
+	if (anew && x->state & IS_DONE)
+		fault_in(m->pool, "ww_mutex_lock", "the context is done");
 	if (x->state & WAS_TOLD && x->contending_lock != m)
 		fault_in(m->pool, "ww_mutex_lock", "after -EDEADLK another mutex comes first");
 	x->state &= ~(unsigned)(WAS_TOLD | WAS_INJECTED);

@@ -5,7 +5,9 @@
  * that runs it.  Names, signatures and answers are those of the kernel's
  * <linux/ww_mutex.h>, so code that is written for that compiles as it stands; its
  * document ww-mutex-design says what the calls are for.  What the kernel hasn't
- * stands behind it, and is marked so.
+ * stands behind it, and is marked so.  Of a mutex ctx may be read, the context that holds
+ * it (atomically by others), and base has an address, for lockdep_assert_held; of a
+ * context acquired may be read.
  *
  * A class has 65,536 mutexes and 1,024 contexts at once, or as many as ww_class_limit
  * said; a mutex that is held without a context (NULL) counts as one of these as
@@ -18,9 +20,9 @@
  * Deadlocks are detected among the contexts of one class alone.  Each copy of the shared
  * library takes 200 bytes of static thread-local storage: a process can load some eight.
  *
- * Otherwise than in the kernel a context acquires nothing after ww_acquire_done, also
- * without debugging; nothing is acquired after -EDEADLK while something is held; and
- * ww_mutex_destroy answers.  The locks below are proved; what this header adds is tested.
+ * Otherwise than in the kernel nothing is acquired after -EDEADLK while something is
+ * held, also without debugging, and ww_mutex_destroy answers.  The locks below are
+ * proved; what this header adds is tested.
  */
 #ifndef WW_MUTEX_H
 #define WW_MUTEX_H
@@ -47,6 +49,7 @@ extern "C" {
 
 struct ww_pool; /* what an open class has */
 struct ww_seat;
+struct timespec; /* which <time.h> has not by -std=c99 */
 
 /* A class of mutexes: a context belongs to one, and locks the mutexes of that class alone. */
 struct ww_class {
@@ -57,18 +60,29 @@ struct ww_class {
 };
 
 /*
- * What the fields below are for is the library's business, except ctx and acquired, which may be read.  These structs
+ * What the fields below are for is the library's business, but for those that stand above.  These structs
  * belong to the binary interface (ww_version): their sizes and places don't change without its first number.
  */
 struct ww_acquire_ctx;
 
+struct ww_mutex_base {
+	void *address_;
+};
+
 struct ww_mutex {
-	struct ww_acquire_ctx *ctx;	/* the context that holds it; NULL: none does. Others read it atomically */
-	struct ww_pool *pool;
+	__extension__ union {
+		struct ww_mutex_base base;
+		struct ww_acquire_ctx *ctx; /* NULL: no context holds it */
+	};
+	struct ww_pool *pool;		/* NULL: it has no number */
 	struct ww_seat *alone;		/* by which it is held without a context */
 	uint32_t number;
 	uint32_t waiters;
-	struct ww_mutex *newer, *older;	/* what its context acquired after it and before it, where that is kept */
+	__extension__ union {
+		struct ww_class *class_; /* as long as it has no number: what WW_MUTEX_INIT said */
+		struct ww_mutex *newer;	/* what its context acquired after it, and before it, where that is kept */
+	};
+	struct ww_mutex *older;
 };
 
 struct ww_acquire_ctx {
@@ -95,6 +109,14 @@ struct ww_acquire_ctx {
 #define DEFINE_WD_CLASS(classname) struct ww_class classname = { NULL, 0, 0, 1, #classname }
 
 /*
+ * A mutex of this class, static or not, in place of ww_mutex_init:
+ *	static struct ww_mutex lock = WW_MUTEX_INIT(&boxes);
+ * Its first lock, by whichever thread, gives it its number, and is -ENOSPC or -ENOMEM
+ * where ww_mutex_init_checked would be; with NULL, and by ww_mutex_trylock, the program ends then.
+ */
+#define WW_MUTEX_INIT(of_class) { { { NULL } }, NULL, NULL, 0, 0, { of_class }, NULL }
+
+/*
  * Gives the mutex a number of its class.  It reads nothing of what stood there: a
  * mutex that wasn't destroyed keeps its number for ever.  The program ends with a
  * message where all numbers are given, or the class can't be opened.
@@ -114,7 +136,10 @@ int ww_mutex_destroy(struct ww_mutex *lock);
  * for each other for ever, which only the debug library tells.
  */
 void ww_acquire_init(struct ww_acquire_ctx *ctx, struct ww_class *ww_class);
-/* The context has all its locks: from now on it acquires none. The program ends where it was said before. */
+/*
+ * The context has all its locks; a lock that comes then is told by the debug library
+ * alone.  The program ends where it was said before, or the context has ended.
+ */
 void ww_acquire_done(struct ww_acquire_ctx *ctx);
 /* Ends it. The program ends with a message where it still holds a mutex, or had ended. */
 void ww_acquire_fini(struct ww_acquire_ctx *ctx);
@@ -122,7 +147,7 @@ void ww_acquire_fini(struct ww_acquire_ctx *ctx);
 /*
  * Acquires the mutex, and waits for it.  -EDEADLK: release all that the context
  * holds, then ww_mutex_lock_slow of this mutex; -EALREADY: the context holds it.
- * -EINVAL: the context is done or has ended, it was told -EDEADLK and still holds a
+ * -EINVAL: the context has ended, it was told -EDEADLK and still holds a
  * mutex, it is of another class, or the mutex isn't initialized.
  * The first lock of a context is never refused.
  *
@@ -184,12 +209,27 @@ WW_MUST_CHECK int ww_class_open(struct ww_class *ww_class);
  * class then; one that is amid the end of its last context may be.
  */
 int ww_class_free(struct ww_class *ww_class);
+struct ww_class_stats {
+	uint64_t back_offs, lock_waits, context_waits;
+};
+/*
+ * How many locks of the class were told -EDEADLK since it was opened (back_offs; not what
+ * the debug library made up), and waited for others, be it for a moment (lock_waits), and
+ * how many calls waited for a context (context_waits).  All are 0 where it isn't open.
+ */
+void ww_class_stats(struct ww_class *ww_class, struct ww_class_stats *stats);
 
 /* How many bytes each of the three structures takes in this library, for languages that don't read this header. */
 size_t ww_class_size(void);
 size_t ww_mutex_size(void);
 size_t ww_acquire_size(void);
 
+/*
+ * As ww_acquire_init, but waits for a context until this time of the monotonic clock at
+ * the longest: -ETIMEDOUT.  One that is free is begun, however late it is.  -EINVAL as
+ * ww_mutex_lock_until, and all else as ww_acquire_init_checked.
+ */
+WW_MUST_CHECK int ww_acquire_init_until(struct ww_acquire_ctx *ctx, struct ww_class *ww_class, const struct timespec *monotonic);
 /*
  * As ww_mutex_lock_interruptible, but waits until this time of the monotonic clock at
  * the longest: -ETIMEDOUT, and what was held still is.  A mutex that is free is
@@ -207,6 +247,12 @@ WW_MUST_CHECK int ww_mutex_lock_slow_until(struct ww_mutex *lock, struct ww_acqu
  * A wait ends so also where all contexts of the class are in use, and at a time that has come.
  */
 int ww_acquire_cancel(struct ww_acquire_ctx *ctx);
+
+/*
+ * Whether this context holds the mutex; with NULL: whether this thread acquired it without
+ * one.  Certain for who asks of what is its own, and else at a glance.
+ */
+bool ww_mutex_is_held_by(const struct ww_mutex *lock, const struct ww_acquire_ctx *ctx);
 
 /* Of a context, for ww_mutex_lock_all and between ww_until_all_locked and its end. */
 enum {
@@ -228,7 +274,6 @@ WW_MUST_CHECK int ww_mutex_lock_all(struct ww_acquire_ctx *ctx, struct ww_mutex 
  * ww_mutex_lock_all: for it this call releases nothing.
  */
 void ww_acquire_unlock_all(struct ww_acquire_ctx *ctx);
-
 /*
  * The same for mutexes that are found on the way, as drm_exec has it:
  *
@@ -264,6 +309,14 @@ void ww_acquire_unlock_all(struct ww_acquire_ctx *ctx);
 	} while (0)
 /* Whether the last lock call of the context answered -EDEADLK, and it hasn't backed off since. */
 bool ww_is_contended(const struct ww_acquire_ctx *ctx);
+/*
+ * As ww_acquire_unlock_all, but to a mark, which is how many mutexes the context held as
+ * it was taken: it releases the newest until it holds so many.  So what was acquired
+ * before the mark stays, and where some of that was released since, as many of what came
+ * later stay too.  A back-off releases all, and the body marks anew.
+ */
+WW_MUST_CHECK size_t ww_acquire_mark(const struct ww_acquire_ctx *ctx);
+void ww_acquire_unlock_to(struct ww_acquire_ctx *ctx, size_t mark);
 void ww_tries_begin_(struct ww_acquire_ctx *ctx);
 bool ww_tries_more_(struct ww_acquire_ctx *ctx);
 
@@ -320,6 +373,7 @@ void ww_debug_at_(const char *file, int line);
 #define ww_mutex_destroy(...) (WW_HERE_, ww_mutex_destroy(__VA_ARGS__))
 #define ww_acquire_init(...) (WW_HERE_, ww_acquire_init(__VA_ARGS__))
 #define ww_acquire_init_checked(...) (WW_HERE_, ww_acquire_init_checked(__VA_ARGS__))
+#define ww_acquire_init_until(...) (WW_HERE_, ww_acquire_init_until(__VA_ARGS__))
 #define ww_acquire_done(...) (WW_HERE_, ww_acquire_done(__VA_ARGS__))
 #define ww_acquire_fini(...) (WW_HERE_, ww_acquire_fini(__VA_ARGS__))
 #define ww_mutex_lock(...) (WW_HERE_, ww_mutex_lock(__VA_ARGS__))
@@ -362,7 +416,10 @@ int32_t ww_only_of_try_(struct ww_seat *seat, uint32_t lock) __asm__("ww_try_");
 int32_t ww_first_of_unlock_(struct ww_seat *seat, uint32_t lock) __asm__("ww_unlock_");
 #define WW_INLINE_ extern __inline __attribute__((__gnu_inline__))
 
-/* What is stored relaxed, here and below, is the holder's alone: the lock orders it from holder to holder. */
+/*
+ * What is stored relaxed, here and below, is the holder's alone: the lock orders it from holder to holder.  The pool is
+ * loaded acquiring, since another thread may just have given the mutex its number, and then its pool.
+ */
 #define WW_HOLDS_(ctx_, lock) \
 	do { \
 		(lock)->older = (ctx_)->newest; \
@@ -377,7 +434,7 @@ WW_INLINE_ int ww_mutex_lock(struct ww_mutex *lock, struct ww_acquire_ctx *ctx)
 
 	if (__builtin_expect(!ctx, 0))
 		return ww_mutex_lock_alone_(lock);
-	if (__builtin_expect(lock->pool != ctx->pool, 0))
+	if (__builtin_expect(__atomic_load_n(&lock->pool, __ATOMIC_ACQUIRE) != ctx->pool, 0))
 		return ww_mutex_lock_else_(lock, ctx);
 	r = ww_first_of_lock_(ctx->own, lock->number, false);
 	if (__builtin_expect(r != 0, 0))
@@ -388,7 +445,7 @@ WW_INLINE_ int ww_mutex_lock(struct ww_mutex *lock, struct ww_acquire_ctx *ctx)
 
 WW_INLINE_ int ww_mutex_trylock(struct ww_mutex *lock, struct ww_acquire_ctx *ctx)
 {
-	if (__builtin_expect(!ctx || lock->pool != ctx->pool, 0))
+	if (__builtin_expect(!ctx || __atomic_load_n(&lock->pool, __ATOMIC_ACQUIRE) != ctx->pool, 0))
 		return ww_mutex_trylock_else_(lock, ctx);
 	if (ww_only_of_try_(ctx->own, lock->number))
 		return 0;

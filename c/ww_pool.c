@@ -145,6 +145,9 @@ static void fence_others(void) { syscall(SYS_membarrier, MEMBARRIER_CMD_PRIVATE_
 /* At a glance: whoever goes on by it waits until all are. */
 static bool is_shared(const struct ww_pool *p) { return __atomic_load_n(&p->own_id, __ATOMIC_RELAXED) >= SHARING; }
 
+/* This thread took the seat. Nobody looks at it but by a mutex that is held with the seat, later. */
+static inline void is_user(ww_seat *s) { __atomic_store_n(&s->user, &ww_mine, __ATOMIC_RELAXED); }
+
 static inline uint32_t number_of(const struct ww_pool *p, const ww_seat *s) { return (uint32_t)(s - p->world->seats); }
 
 /* The class that has this number, if it is open. Opening is locked. */
@@ -232,6 +235,7 @@ static ww_seat *put_first(struct ww_kept first, uint32_t others)
 static void keep(struct ww_pool *p, ww_seat *s)
 {
 	s->kept = true;
+	is_user(s);
 	if (ww_mine.seats[KEPT - 1].seat)
 		let_loose(&ww_mine.seats[KEPT - 1]);
 	if (!ww_mine.told)
@@ -364,7 +368,11 @@ COLD ww_seat *ww_other_seat(struct ww_pool *p)
 	if (s || p->gone)
 		return s;
 	await_shared(p);
-	return !has_seekers(p) && ww_take_number(&p->loose, &number) ? use_loose(&p->world->seats[number]) : NULL;
+	if (has_seekers(p) || !ww_take_number(&p->loose, &number))
+		return NULL;
+	s = use_loose(&p->world->seats[number]);
+	is_user(s);
+	return s;
 }
 
 /* It waits no more, if it has no seat yet. */
@@ -403,6 +411,10 @@ COLD int ww_seek_seat(struct ww_pool *p, const struct timespec *until, ww_seat *
 		p->first = &me;
 	p->last = &me;
 	serve(p);
+	if (!me.seat) {
+		count(&p->sought);
+		PROBE_CONTEXT_WAIT(p->class_);
+	}
 	pthread_mutex_unlock(&p->queue);
 	while (!__atomic_load_n(&me.served, __ATOMIC_ACQUIRE)) {
 		if (until && ww_has_come(until) && leave(p, &me))
@@ -411,7 +423,10 @@ COLD int ww_seek_seat(struct ww_pool *p, const struct timespec *until, ww_seat *
 	}
 	ww_debug_seeks_no_more();
 	*s = me.seat;
-	return me.seat ? 0 : -ETIMEDOUT;
+	if (!me.seat)
+		return -ETIMEDOUT;
+	is_user(me.seat);
+	return 0;
 }
 
 /* ---- classes ---- */
@@ -496,6 +511,7 @@ static int make_pool(struct ww_class *c, struct ww_pool **made)
 			world->seats[k].pool = p;
 		p->mutexes = mutexes;
 		p->contexts = contexts;
+		__atomic_store_n(&p->sought, 0, __ATOMIC_RELAXED);
 		set_out(&p->numbers, mutexes, below);
 		set_out(&p->loose, contexts, below + mutexes);
 		r = ww_debug_open(p);
@@ -512,17 +528,51 @@ static int make_pool(struct ww_class *c, struct ww_pool **made)
 	return 0;
 }
 
-COLD int ww_class_open(struct ww_class *c)
+/* Opening is locked. */
+static int open_now(struct ww_class *c)
 {
 	struct ww_pool *p = NULL;
 	int r = 0;
 
-	pthread_mutex_lock(&opening);
 	if (!c->pool && !(r = prepare()) && !(r = make_pool(c, &p))) {
 		p->next = pools;
 		pools = p;
 		__atomic_store_n(&c->pool, p, __ATOMIC_RELEASE);
 	}
+	return r;
+}
+
+COLD int ww_class_open(struct ww_class *c)
+{
+	int r;
+
+	pthread_mutex_lock(&opening);
+	r = open_now(c);
+	pthread_mutex_unlock(&opening);
+	return r;
+}
+
+/* Opening is locked, and the mutex has no number. */
+static int number_now(struct ww_mutex *m)
+{
+	struct ww_class *c = m->class_;
+	int r = c ? open_now(c) : -EINVAL;
+
+	if (!r)
+		r = number_of_pool(c->pool, &m->number);
+	if (!r)
+		__atomic_store_n(&m->pool, c->pool, __ATOMIC_RELEASE);
+	return r;
+}
+
+/* Others may lock it first as well: one of them gives it its number, and whatever lay in the place of its class is theirs then. */
+COLD int ww_number_at_first(struct ww_mutex *m)
+{
+	int r = 0;
+
+	pthread_mutex_lock(&opening);
+	if (!pool_at(m))
+		r = number_now(m);
 	pthread_mutex_unlock(&opening);
 	return r;
 }
@@ -599,4 +649,21 @@ int ww_class_free(struct ww_class *c)
 	pthread_mutex_unlock(&opening);
 	ww_debug_busy(left);
 	return r;
+}
+
+/* A seat that was never given counts nothing. */
+void ww_class_stats(struct ww_class *c, struct ww_class_stats *stats)
+{
+	struct ww_pool *p;
+
+	*stats = (struct ww_class_stats){ 0 };
+	pthread_mutex_lock(&opening);
+	p = c->pool;
+	if (p)
+		stats->context_waits = __atomic_load_n(&p->sought, __ATOMIC_RELAXED);
+	for (uint32_t k = 0; p && k < __atomic_load_n(&p->loose.fresh, __ATOMIC_RELAXED); k++) {
+		stats->lock_waits += __atomic_load_n(&p->world->seats[k].waits, __ATOMIC_RELAXED);
+		stats->back_offs += __atomic_load_n(&p->world->seats[k].back_offs, __ATOMIC_RELAXED);
+	}
+	pthread_mutex_unlock(&opening);
 }

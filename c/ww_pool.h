@@ -4,6 +4,29 @@
 #include "ww_inside.h"
 #include "ww_mutex.h"
 #include <pthread.h>
+#include <stdio.h>
+#include <stdlib.h>
+
+/*
+ * What perf and bpftrace may be told, where SystemTap's header is here: each is an instruction that does nothing, where
+ * a call waits anyway.
+ */
+#ifdef __has_include
+#if __has_include(<sys/sdt.h>)
+#include <sys/sdt.h>
+#define PROBES(probe) probe
+#ifdef __clang__
+#pragma clang diagnostic ignored "-Wgnu-zero-variadic-macro-arguments" /* of that header */
+#endif
+#endif
+#endif
+#ifndef PROBES
+#define PROBES(probe) ((void)0)
+#endif
+#define PROBE_CONTENTION_BEGIN(lock, ctx) PROBES(DTRACE_PROBE2(ww, contention_begin, lock, ctx))
+#define PROBE_CONTENTION_END(lock, ctx, answer) PROBES(DTRACE_PROBE3(ww, contention_end, lock, ctx, answer))
+#define PROBE_BACK_OFF(lock, ctx) PROBES(DTRACE_PROBE2(ww, back_off, lock, ctx))
+#define PROBE_CONTEXT_WAIT(of_class) PROBES(DTRACE_PROBE1(ww, context_wait, of_class))
 
 struct debug;
 
@@ -40,6 +63,7 @@ struct ww_pool {
 	uint32_t seekers __attribute__((aligned(64))); /* so many threads wait for a seat; others take none meanwhile */
 	struct ww_seeker *first, *last;                /* of these, in the order in which they came */
 	pthread_mutex_t queue;                         /* for both */
+	uint64_t sought;                               /* how many waited, in all */
 	/* Whoever has it uses the seat behind those of the contexts, and waits for nobody. */
 	pthread_mutex_t spare __attribute__((aligned(64)));
 };
@@ -70,6 +94,8 @@ struct ww_mine {
 };
 WW_HIDDEN extern __thread struct ww_mine ww_mine __attribute__((tls_model("initial-exec")));
 
+/* A number for a mutex that WW_MUTEX_INIT made, unless it has one: 0, or as ww_mutex_init_checked. */
+WW_HIDDEN int ww_number_at_first(struct ww_mutex *m);
 /* A number that is free, if there is one. */
 WW_HIDDEN bool ww_take_number(struct ww_numbers *of, uint32_t *number);
 WW_HIDDEN void ww_give_number(struct ww_numbers *of, uint32_t number);
@@ -96,6 +122,20 @@ static inline int pool_of(struct ww_class *c, struct ww_pool **p)
 	*p = __atomic_load_n(&c->pool, __ATOMIC_ACQUIRE);
 	return r;
 }
+
+/* One more: by whoever may write it alone, while others read it. */
+static inline void count(uint64_t *counted)
+{
+	__atomic_store_n(counted, __atomic_load_n(counted, __ATOMIC_RELAXED) + 1, __ATOMIC_RELAXED);
+}
+
+static inline int number_of_pool(struct ww_pool *p, uint32_t *number)
+{
+	return LIKELY(ww_take_number(&p->numbers, number)) ? 0 : p->gone ? -EINVAL : -ENOSPC;
+}
+
+/* NULL: it has no number.  Where it has one its number is to be seen, whoever gave it. */
+static inline struct ww_pool *pool_at(const struct ww_mutex *m) { return __atomic_load_n(&m->pool, __ATOMIC_ACQUIRE); }
 
 /*
  * Whether this thread keeps the seat that it had last, of this class, and nobody uses it: a context that was begun here may
@@ -162,7 +202,7 @@ enum {
 	HAS_TO_BACK_OFF = WW_HAS_TO_BACK_OFF_,
 	WAITS_FIRST = 4,
 	TRIES = 7,
-	IS_DONE = 8,
+	IS_DONE = 8, /* which no call but ww_acquire_done itself refuses */
 	WAS_TOLD = 16,
 	WAS_INJECTED = 32,
 	HEEDS_IN_LOOPS = 64,
@@ -172,7 +212,6 @@ enum {
 WW_HIDDEN int ww_debug_open(struct ww_pool *p);
 WW_HIDDEN void ww_debug_free(struct ww_pool *p);
 WW_HIDDEN void ww_debug_begun(struct ww_acquire_ctx *x);
-WW_HIDDEN void ww_debug_done(struct ww_acquire_ctx *x);
 WW_HIDDEN void ww_debug_ended(struct ww_acquire_ctx *x);
 /* The seat waits for the mutex, until a time if that isn't NULL; or for none any more. */
 WW_HIDDEN void ww_debug_waits(ww_seat *s, const struct ww_mutex *m, const struct timespec *until);
@@ -200,7 +239,6 @@ WW_HIDDEN bool ww_debug_injected(const struct ww_mutex *m, const struct ww_acqui
 static inline int ww_debug_open(struct ww_pool *p) { return (void)p, 0; }
 static inline void ww_debug_free(struct ww_pool *p) { (void)p; }
 static inline void ww_debug_begun(struct ww_acquire_ctx *x) { (void)x; }
-static inline void ww_debug_done(struct ww_acquire_ctx *x) { (void)x; }
 static inline void ww_debug_ended(struct ww_acquire_ctx *x) { (void)x; }
 static inline void ww_debug_waits(ww_seat *s, const struct ww_mutex *m, const struct timespec *until)
 {
@@ -228,4 +266,28 @@ static inline bool ww_debug_injected(const struct ww_mutex *m, const struct ww_a
 	return (void)m, (void)x, false;
 }
 #endif
+
+__attribute__((noreturn, cold)) static inline void end(const char *call, const char *why)
+{
+	ww_debug_fault(call, why);
+	fprintf(stderr, "%s: %s\n", call, why);
+	abort();
+}
+
+/* Why no number or no seat was given, in words. */
+static inline const char *told(int r)
+{
+	switch (r) {
+	case -ENOMEM: return "there is no memory to open the class";
+	case -ENOSPC: return "the class has all mutexes that it may have (one that isn't destroyed stays)";
+	case -EAGAIN: return "all contexts of the class are in use";
+	default: return "the class was opened before a fork, of which this is the child";
+	}
+}
+
+/* In a forked child, by go_on of ww_mutex.c. */
+static inline bool is_let_go(const ww_seat *s) { return !s->handle.at; }
+
+/* By which a thread can sleep. */
+static inline bool is_time(const struct timespec *at) { return at->tv_nsec >= 0 && at->tv_nsec < 1000000000; }
 #endif

@@ -10,7 +10,7 @@ COMMENT = re.compile(r"^/\*.*?\*/$", re.DOTALL | re.MULTILINE)
 # A call, a macro that takes arguments, and a value with what it is for.
 ARGUMENTS = r"((?:[^()]|\([^()]*\))*)"
 CALL = re.compile(rf"^(?:WW_MUST_CHECK )?((?:\w+[ *]+)+)(\w*[a-z\d])\({ARGUMENTS}\)(?: [^;{{}}]*)?;", re.MULTILINE)
-MACRO = re.compile(r"^#define (DEFINE_\w+|ww_\w*[a-z])\(([\w, ]+)\)", re.MULTILINE)
+MACRO = re.compile(r"^#define (DEFINE_\w+|WW_[A-Z_]*[A-Z]|ww_\w*[a-z])\(([\w, ]+)\)", re.MULTILINE)
 VALUE = re.compile(r"^\t(WW_\w+) = \d+,\s*/\* (.*?) \*/$", re.MULTILINE)
 NAME = re.compile(r"(?<![/\w])((?:ww_|DEFINE_W)\w*[a-zA-Z]|WW_[A-Z_]+[A-Z])\b(?!\.h)")
 END = "#define WW_NO_INLINE\n"

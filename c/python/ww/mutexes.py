@@ -263,7 +263,7 @@ class Context:
         return mutex in self._held
 
     def done(self):
-        """It has all its mutexes: from now on it acquires none."""
+        """It has all its mutexes. EINVAL: this was said before."""
         self._check()
         told(self._library.ww_acquire_done_checked(self._at))
 
