@@ -3,6 +3,7 @@
 #ifndef WW_MUTEX_HPP
 #define WW_MUTEX_HPP
 #include "ww_mutex.h"
+#include <cassert>
 #include <cstdint>
 #include <cstdio>
 #include <cstdlib>
@@ -89,6 +90,8 @@ public:
 	}
 	void unlock(WW_FROM_) noexcept WW_SAFETY_(release_capability()) { ww_mutex_unlock(&it_); }
 	bool is_locked() noexcept { return ww_mutex_is_locked(&it_); }
+	// Tells clang's analysis that it is held here.
+	void assert_held() noexcept WW_SAFETY_(assert_capability()) { assert(is_locked()); }
 	struct ww_mutex *get() noexcept { return &it_; }
 };
 
@@ -130,22 +133,50 @@ public:
 class context {
 	ww_acquire_ctx it_;
 
-	template <class List> int acquire_all(const List &list WW_AND_FROM_) WW_SAFETY_(no_thread_safety_analysis)
+	struct releases {
+		context *x;
+		~releases()
+		{
+			if (x)
+				x->unlock_all();
+		}
+	};
+
+	// Acquires by `locks`, which answers the first error of a lock call, and again after each -EDEADLK. After another
+	// error, and where a callable throws, it holds nothing.
+	template <class Locks> int acquire(Locks &&locks)
 	{
 		int r = 0;
 
+		if (it_.acquired)
+			return -EINVAL;
+		releases unless_all{ this };
+
+		ww_tries_begin_(&it_);
 		while (ww_tries_more_(&it_)) {
-			for (mutex *m : list) {
-				r = ww_mutex_lock(m->get(), &it_);
-				if (r)
-					break;
-			}
+			r = locks();
 			if (r && !ww_is_contended(&it_))
 				break;
 		}
-		if (r)
-			unlock_all();
+		if (!r)
+			unless_all.x = nullptr;
 		return r;
+	}
+
+	// Calls fn under what was acquired with this answer, and releases all.
+	template <class Fn> WW_SAFETY_(no_thread_safety_analysis) auto under(int answer, Fn &&fn) -> result<std::invoke_result_t<Fn>>
+	{
+		using value = std::invoke_result_t<Fn>;
+
+		if (answer)
+			return result<value>(answer);
+		releases at_end{ this };
+		if constexpr (std::is_void_v<value>) {
+			std::forward<Fn>(fn)();
+			return result<void>();
+		} else {
+			return result<value>(std::in_place, std::forward<Fn>(fn)());
+		}
 	}
 
 public:
@@ -201,38 +232,50 @@ public:
 	// 0, or an error for which it holds nothing: -EALREADY for one that stands there twice, -EINTR, -EINVAL.
 	template <class List> [[nodiscard]] int lock_all(const List &list WW_AND_FROM_)
 	{
-		if (it_.acquired)
-			return -EINVAL;
-		ww_tries_begin_(&it_);
-		return acquire_all(list WW_AND_THERE_);
+		return acquire([&] {
+			for (mutex *m : list)
+				if (int r = ww_mutex_lock(m->get(), &it_))
+					return r;
+			return 0;
+		});
 	}
 
-	// The same, and then calls fn and releases all, also where fn throws. It gives what fn returns.
-	template <class List, class Fn> auto with_all(const List &list, Fn &&fn WW_AND_FROM_) -> result<std::invoke_result_t<Fn>>
+	// The same for mutexes that are found on the way: next(starts) tells the next one, or nullptr behind the last. It may
+	// read what those guard that it told since it was last called with starts, and tell one of these again. After a
+	// back-off it starts again, and holds the mutex at which that came, whose memory has to be there still.
+	template <class Next> [[nodiscard]] int lock_walk(Next &&next WW_AND_FROM_)
 	{
-		using value = std::invoke_result_t<Fn>;
-		struct releases {
-			context &x;
-			~releases() { x.unlock_all(); }
-		};
+		return acquire([&] {
+			for (mutex *m = next(true); m; m = next(false)) {
+				const int r = ww_mutex_lock(m->get(), &it_);
 
-		if (int r = lock_all(list WW_AND_THERE_))
-			return result<value>(r);
-		releases at_end{ *this };
-		if constexpr (std::is_void_v<value>) {
-			std::forward<Fn>(fn)();
-			return result<void>();
-		} else {
-			return result<value>(std::in_place, std::forward<Fn>(fn)());
-		}
+				if (r && r != -EALREADY)
+					return r;
+			}
+			return 0;
+		});
+	}
+
+	// Both, and then they call fn and release all, also where a callable throws. They give what fn returns. clang's analysis
+	// doesn't see what is held there: fn says it by WW_REQUIRES, or for each mutex by assert_held, as next does.
+	template <class List, class Fn> auto with_all(const List &list, Fn &&fn WW_AND_FROM_)
+	{
+		return under(lock_all(list WW_AND_THERE_), std::forward<Fn>(fn));
+	}
+	template <class Next, class Fn> auto with_walk(Next &&next, Fn &&fn WW_AND_FROM_)
+	{
+		return under(lock_walk(std::forward<Next>(next) WW_AND_THERE_), std::forward<Fn>(fn));
 	}
 };
 
 // By a context of its own.
-template <class List, class Fn>
-auto lock_all(struct ww_class &c, const List &list, Fn &&fn, unsigned flags = 0 WW_AND_FROM_) -> result<std::invoke_result_t<Fn>>
+template <class List, class Fn> auto lock_all(struct ww_class &c, const List &list, Fn &&fn, unsigned flags = 0 WW_AND_FROM_)
 {
 	return context(c, flags WW_AND_THERE_).with_all(list, std::forward<Fn>(fn) WW_AND_THERE_);
+}
+template <class Next, class Fn> auto lock_walk(struct ww_class &c, Next &&next, Fn &&fn, unsigned flags = 0 WW_AND_FROM_)
+{
+	return context(c, flags WW_AND_THERE_).with_walk(std::forward<Next>(next), std::forward<Fn>(fn) WW_AND_THERE_);
 }
 
 } // namespace ww::kernel

@@ -130,6 +130,53 @@ static void backs_off(struct ww_class &c) WW_SAFETY_(no_thread_safety_analysis)
 	MUST(x.try_lock(d) && !x.try_lock(a) && !x.lock(b) && x.held() == 2);
 }
 
+// What is found on the way may be told twice. After a back-off a walk starts again; where it fails it holds nothing.
+static void walks(struct ww_class &c)
+{
+	mutex_class other(mutex_class::wait_die, "other");
+	mutex a(c), b(c), d(c), strange(other);
+	mutex *way[] = { &a, &b, &a, &d, nullptr };
+	context older(c), x(c);
+	unsigned at = 0, begun = 0;
+	auto next = [&](bool starts) {
+		if (starts) {
+			at = 0;
+			begun++;
+			older.unlock_all();
+		}
+		return way[at++];
+	};
+
+	MUST(*x.with_walk(next, [&] { return x.held(); }) == 3 && !x.held() && begun == 1);
+	MUST(ww::kernel::lock_walk(c, next, [&] { MUST(a.is_locked() && b.is_locked() && d.is_locked()); }) && !d.is_locked());
+	MUST(!x.lock_walk(next) && x.held() == 3 && x.lock_walk(next) == -EINVAL && x.held() == 3 && begun == 3);
+	x.unlock_all();
+	way[3] = &strange;
+	MUST(x.lock_walk(next) == -EINVAL && !x.held() && x.with_walk(next, [] { return 1; }).error() == -EINVAL);
+#ifdef __cpp_exceptions
+	try {
+		(void)x.lock_walk([&](bool starts) { return starts ? &b : throw 7; });
+		MUST(false);
+	} catch (int it) {
+		MUST(it == 7 && !x.held() && !b.is_locked());
+	}
+#endif
+	way[3] = &d;
+	way[0] = nullptr;
+	MUST(!x.lock_walk(next) && !x.held());
+	way[0] = &a;
+	if (!c.is_wait_die)
+		return;
+	begun = 0;
+	auto takes_before = [&](bool starts) WW_SAFETY_(no_thread_safety_analysis) {
+		mutex *told = next(starts);
+
+		MUST(!starts || begun > 1 || !older.lock(d));
+		return told;
+	};
+	MUST(*x.with_walk(takes_before, [&] { return x.held(); }) == 3 && begun == 2);
+}
+
 static mutex_class lasting(mutex_class::wait_die, "lasting");
 static mutex held_at_a_fork(lasting);
 
@@ -162,7 +209,7 @@ static void storm(struct ww_class &c)
 				x = x * 1664525u + 1013904223u;
 				account &from = *accounts[x >> 8 & 7], &to = *accounts[x >> 16 & 7], &third = *accounts[x >> 24 & 7];
 				mutex *list[] = { &from.lock, &to.lock, &third.lock };
-				auto moves = [&]() WW_SAFETY_(no_thread_safety_analysis) {
+				auto moves = [&]() WW_REQUIRES(from.lock, to.lock, third.lock) {
 					from.sum -= 3;
 					to.sum += 2;
 					return ++third.sum;
@@ -196,6 +243,7 @@ int main()
 			MUST(a.lock.is_locked() && !a.lock.try_lock());
 		}
 		lists(own);
+		walks(own);
 		storm(own);
 	}
 	lists(ww_class);
