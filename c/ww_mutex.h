@@ -302,6 +302,7 @@ int ww_mutex_lock_further_(struct ww_mutex *lock, struct ww_acquire_ctx *ctx, in
 void ww_mutex_unlock_else_(struct ww_mutex *lock);
 void ww_mutex_unlock_further_(struct ww_mutex *lock, struct ww_acquire_ctx *ctx, int r);
 bool ww_tries_else_(struct ww_acquire_ctx *ctx);
+bool ww_is_static_(const void *object);
 enum { WW_IS_TRYING_ = 1, WW_HAS_TO_BACK_OFF_ = 2 }; /* of a context's state */
 #if defined(__GNUC__) && !defined(WW_NO_INLINE) && !defined(WW_DEBUG)
 /* A seat begins with its handle. */

@@ -40,19 +40,27 @@
 // In the kernel's form; the numbered locks of ww.hpp are in ww.
 namespace ww::kernel {
 
-// A class that is gone with its scope. It has no mutex then, and no context.
+// At its end something was still in use. A static object stays there, and may be, since other threads may go on beside the
+// end of the program.
+inline void left_(const char *what, const void *object) noexcept
+{
+	if (ww_is_static_(object))
+		return;
+	std::fputs(what, stderr);
+	std::abort();
+}
+
+// A class that is gone with its scope. It has no mutex then, and no context. A static one is there before anything runs.
 class mutex_class {
 	struct ww_class it_;
 
 public:
 	enum kind { wound_wait, wait_die };
-	explicit mutex_class(kind k, const char *name = "") noexcept { ww_class_init(&it_, k == wait_die, name); }
+	constexpr explicit mutex_class(kind k, const char *name = "") noexcept : it_{ nullptr, 0, 0, k == wait_die, name } {}
 	~mutex_class()
 	{
-		if (ww_class_free(&it_)) {
-			std::fputs("ww::kernel::mutex_class: a mutex or a context is left\n", stderr);
-			std::abort();
-		}
+		if (ww_class_free(&it_))
+			left_("ww::kernel::mutex_class: a mutex or a context is left\n", this);
 	}
 	mutex_class(const mutex_class &) = delete;
 	mutex_class &operator=(const mutex_class &) = delete;
@@ -76,10 +84,8 @@ public:
 	~mutex()
 	{
 		WW_NOWHERE_;
-		if (ww_mutex_destroy(&it_)) {
-			std::fputs("ww::kernel::mutex: somebody holds it, or waits for it\n", stderr);
-			std::abort();
-		}
+		if (ww_mutex_destroy(&it_))
+			left_("ww::kernel::mutex: somebody holds it, or waits for it\n", this);
 	}
 	mutex(const mutex &) = delete;
 	mutex &operator=(const mutex &) = delete;

@@ -1,6 +1,7 @@
 /* ww_pool.c - classes of mutexes: their opening and freeing, numbers that are handed out and put back, and seats. */
 #define _GNU_SOURCE
 #include "ww_pool.h"
+#include <link.h>
 #include <linux/membarrier.h>
 #include <pthread.h>
 #include <stdlib.h>
@@ -583,4 +584,23 @@ int ww_class_free(struct ww_class *c)
 	}
 	pthread_mutex_unlock(&opening);
 	return r;
+}
+
+static int has_place(struct dl_phdr_info *of, size_t size, void *place)
+{
+	uintptr_t at = *(const uintptr_t *)place - of->dlpi_addr;
+
+	(void)size;
+	for (unsigned k = 0; k < of->dlpi_phnum; k++)
+		if (of->dlpi_phdr[k].p_type == PT_LOAD && at - of->dlpi_phdr[k].p_vaddr < of->dlpi_phdr[k].p_memsz)
+			return 1;
+	return 0;
+}
+
+/* Whether it lies in the program itself or in a library, and not where memory is given and taken. */
+bool ww_is_static_(const void *object)
+{
+	uintptr_t at = (uintptr_t)object;
+
+	return dl_iterate_phdr(has_place, &at);
 }

@@ -3,6 +3,8 @@
 #include "../ww.hpp"
 #include "../ww_mutex.hpp"
 #include <array>
+#include <atomic>
+#include <csignal>
 #include <ctime>
 #include <memory>
 #include <mutex>
@@ -180,17 +182,67 @@ static void walks(struct ww_class &c)
 static mutex_class lasting(mutex_class::wait_die, "lasting");
 static mutex held_at_a_fork(lasting);
 
-// A child ends as others do, whatever threads held that aren't there.
-static void forks()
+template <class Runs> static int status_of_child(Runs &&runs)
 {
 	int status = 1;
-
-	held_at_a_fork.lock();
 	const pid_t child = fork();
-	if (!child)
+
+	if (!child) {
+		runs();
 		std::exit(0);
-	MUST(child > 0 && waitpid(child, &status, 0) == child && !status);
+	}
+	MUST(child > 0 && waitpid(child, &status, 0) == child);
+	return status;
+}
+
+static void leaves_a_held_one() WW_SAFETY_(no_thread_safety_analysis)
+{
+	mutex_class c(mutex_class::wait_die, "of a child");
+	mutex left(c);
+
+	std::fclose(stderr);
+	left.lock();
+}
+
+// A child ends as others do, whatever threads held that aren't there; not so where memory goes that is held.
+static void forks()
+{
+	held_at_a_fork.lock();
+	MUST(!status_of_child([] {}));
 	held_at_a_fork.unlock();
+	const int status = status_of_child(leaves_a_held_one);
+	MUST(WIFSIGNALED(status) && WTERMSIG(status) == SIGABRT);
+}
+
+// Made before its class, and gone behind it, as the order of files may have it.
+namespace {
+extern mutex_class later;
+mutex of_later(later);
+mutex_class later(mutex_class::wait_die, "later");
+} // namespace
+
+static void in_any_order()
+{
+	context x(later);
+
+	MUST(!x.lock_all(std::array<mutex *, 1>{ &of_later }) && x.held() == 1);
+}
+
+// As the program ends, another thread holds this one, and goes on.
+static mutex held_at_the_end(later);
+
+static void goes_on()
+{
+	std::atomic<bool> holds{ false };
+
+	std::thread([&] {
+		held_at_the_end.lock();
+		holds = true;
+		for (;;)
+			pause();
+	}).detach();
+	while (!holds)
+		std::this_thread::yield();
 }
 
 static void storm(struct ww_class &c)
@@ -249,6 +301,8 @@ int main()
 	lists(ww_class);
 	backs_off(ww_class);
 	forks();
+	in_any_order();
+	goes_on();
 	MUST(!ww_class_free(&ww_class));
 	std::puts("mutex_own: each released itself");
 }
