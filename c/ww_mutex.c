@@ -66,8 +66,8 @@ int ww_mutex_init_checked(struct ww_mutex *m, struct ww_class *c)
 	uint32_t number;
 	int r = pool_of(c, &p);
 
-	if (!r && !ww_take_number(&p->numbers, &number))
-		r = p->gone ? -EINVAL : -ENOSPC;
+	if (!r)
+		r = number_of_pool(p, &number);
 	if (r)
 		return r;
 	*m = (struct ww_mutex){ .pool = p, .number = number };
@@ -84,6 +84,15 @@ static const char *told(int r)
 	default: return "the class was opened before a fork, of which this is the child";
 	}
 }
+
+/* Why the first lock of a mutex gave it no number, or its class gave no seat. */
+static const char *told_of(const struct ww_mutex *m, int r)
+{
+	return m->pool || m->class_ ? told(r) : "the mutex isn't initialized";
+}
+
+/* One that WW_MUTEX_INIT made gets its number here, before it is locked first. */
+static inline int numbered(struct ww_mutex *m) { return LIKELY(pool_at(m)) ? 0 : ww_number_at_first(m); }
 
 static const char *told_at_begin(int r) { return r == -ENOSPC ? "the class has begun as many contexts as it may" : told(r); }
 
@@ -147,8 +156,12 @@ static bool is_released(struct ww_pool *p, struct ww_mutex *m)
 /* A waiter that got it says so first, and then that it waits no more. */
 int ww_mutex_destroy(struct ww_mutex *m)
 {
-	struct ww_pool *p = m->pool;
+	struct ww_pool *p = pool_at(m);
 
+	if (!p && m->class_) {
+		m->class_ = NULL;
+		return 0;
+	}
 	if (!p) {
 		ww_debug_fault("ww_mutex_destroy", "the mutex isn't initialized");
 		return -EINVAL;
@@ -163,6 +176,7 @@ int ww_mutex_destroy(struct ww_mutex *m)
 		return -EBUSY;
 	}
 	m->pool = NULL;
+	m->class_ = NULL;
 	ww_give_number(&p->numbers, m->number);
 	return 0;
 }
@@ -593,7 +607,7 @@ void ww_acquire_unlock_all(struct ww_acquire_ctx *x)
 /* What is wrong with a context and a mutex that don't go together. */
 static const char *fault_of(const struct ww_mutex *m, const struct ww_acquire_ctx *x)
 {
-	return !m->pool ? "the mutex isn't initialized" : !x->own ? "the context has ended" : "the context is of another class";
+	return !pool_at(m) ? "the mutex isn't initialized" : !x->own ? "the context has ended" : "the context is of another class";
 }
 
 COLD static int faulty(const char *call, const struct ww_mutex *m, const struct ww_acquire_ctx *x)
@@ -615,11 +629,17 @@ COLD static int lock_further(struct ww_acquire_ctx *x, int r, enum way way)
 /* Whether a context whose pool isn't the mutex's may lock it all the same: it has only more to do. */
 static inline bool goes_together(const struct ww_mutex *m, const struct ww_acquire_ctx *x)
 {
-	return m->pool && x->own && m->pool == x->own->pool;
+	return x->own && pool_at(m) == x->own->pool;
 }
 
 COLD static int lock_specially(const char *call, struct ww_mutex *m, struct ww_acquire_ctx *x, enum way way, const struct timespec *until)
 {
+	int r = numbered(m);
+
+	if (r)
+		ww_debug_fault(call, told_of(m, r));
+	if (r)
+		return r;
 	if (!goes_together(m, x))
 		return faulty(call, m, x);
 	if (ww_debug_refuses(x))
@@ -632,7 +652,7 @@ static inline int lock(struct ww_mutex *m, struct ww_acquire_ctx *x, enum way wa
 {
 	int r;
 
-	if (UNLIKELY(m->pool != x->pool))
+	if (UNLIKELY(pool_at(m) != x->pool))
 		return lock_specially("ww_mutex_lock", m, x, way, NULL);
 	if (ww_debug_refuses(x))
 		return -EINVAL;
@@ -689,9 +709,10 @@ COLD static int seek_and_lock(struct ww_mutex *m, enum way way, const struct tim
 COLD static int lock_by_any(struct ww_mutex *m, ww_seat *late, enum way way, const struct timespec *until)
 {
 	ww_seat *s;
+	int r = numbered(m);
 
-	if (!m->pool)
-		return -EINVAL;
+	if (r)
+		return r;
 	s = late ? ww_late_seat(m->pool, late) : ww_other_seat(m->pool);
 	return s ? lock_by_seat(m, s, way, until) : seek_and_lock(m, way, until);
 }
@@ -699,7 +720,7 @@ COLD static int lock_by_any(struct ww_mutex *m, ww_seat *late, enum way way, con
 /* Without a context: by a seat of its own, for which it may have to wait. */
 static inline int lock_alone(struct ww_mutex *m, enum way way, const struct timespec *until)
 {
-	struct ww_pool *p = m->pool;
+	struct ww_pool *p = pool_at(m);
 	ww_seat *s = ww_mine.seats[0].seat;
 
 	if (UNLIKELY(!p || !has_at_hand(p)))
@@ -707,16 +728,15 @@ static inline int lock_alone(struct ww_mutex *m, enum way way, const struct time
 	return LIKELY(use_kept(p, s)) ? lock_by_seat(m, s, way, until) : lock_by_any(m, s, way, until);
 }
 
-COLD __attribute__((noreturn)) static void end_alone(const struct ww_mutex *m)
-{
-	end("ww_mutex_lock", m->pool ? told(-EINVAL) : "the mutex isn't initialized");
-}
+COLD __attribute__((noreturn)) static void end_alone(const struct ww_mutex *m, int r) { end("ww_mutex_lock", told_of(m, r)); }
 
 /* Nobody looks at what it would answer. */
 int ww_mutex_lock_alone_(struct ww_mutex *m)
 {
-	if (UNLIKELY(lock_alone(m, STAYS, NULL)))
-		end_alone(m);
+	int r = lock_alone(m, STAYS, NULL);
+
+	if (UNLIKELY(r))
+		end_alone(m, r);
 	return 0;
 }
 
@@ -771,14 +791,23 @@ void ww_mutex_lock_slow(struct ww_mutex *m, struct ww_acquire_ctx *x)
 		end("ww_mutex_lock_slow", not_due);
 }
 
+/* It answers nothing by which it could say why there is no number. */
+static void number_or_end(struct ww_mutex *m)
+{
+	int r = numbered(m);
+
+	if (UNLIKELY(r))
+		end("ww_mutex_trylock", told_of(m, r));
+}
+
 /* No seat is waited for. */
 static int try_alone(struct ww_mutex *m)
 {
-	struct ww_pool *p = m->pool;
+	struct ww_pool *p;
 	ww_seat *s;
 
-	if (!p)
-		end("ww_mutex_trylock", "the mutex isn't initialized");
+	number_or_end(m);
+	p = m->pool;
 	if (ww_mutex_is_locked(m) || !(s = seat_at_once(p)))
 		return 0;
 	if (ww_try_(&s->handle, m->number)) {
@@ -794,6 +823,7 @@ COLD static int try_specially(struct ww_mutex *m, struct ww_acquire_ctx *x)
 {
 	int r;
 
+	number_or_end(m);
 	if (!goes_together(m, x))
 		end("ww_mutex_trylock", fault_of(m, x));
 	r = ww_try_(&x->own->handle, m->number);
@@ -808,7 +838,7 @@ int ww_mutex_trylock(struct ww_mutex *m, struct ww_acquire_ctx *x)
 {
 	if (!x)
 		return try_alone(m);
-	if (UNLIKELY(m->pool != x->pool))
+	if (UNLIKELY(pool_at(m) != x->pool))
 		return try_specially(m, x);
 	if (UNLIKELY(ww_try_(&x->own->handle, m->number)))
 		return 0;
@@ -948,7 +978,7 @@ COLD static int lock_more(struct ww_acquire_ctx *x, struct ww_mutex *const *lock
 	return r;
 }
 
-/* From the k-th on, to which the first turn answered r; or all of them, where none was tried. */
+/* From the k-th on, to which the first turn answered r; or 0, where it has none yet. */
 COLD static int lock_all_on(struct ww_acquire_ctx *x, struct ww_mutex *const *locks, size_t count, size_t k, int r, bool held)
 {
 	begin_loop(x);
@@ -982,8 +1012,11 @@ int ww_mutex_lock_all(struct ww_acquire_ctx *x, struct ww_mutex *const *locks, s
 #ifndef WW_DEBUG
 	for (size_t k = 0; k < count; k++) {
 		struct ww_mutex *m = locks[k];
-		int r = LIKELY(m->pool == x->pool) ? ww_lock_(&x->own->handle, m->number, heeds) : -EINVAL;
+		int r;
 
+		if (UNLIKELY(pool_at(m) != x->pool))
+			return lock_all_on(x, locks, count, k, 0, held);
+		r = ww_lock_(&x->own->handle, m->number, heeds);
 		if (UNLIKELY(r))
 			return lock_all_on(x, locks, count, k, r, held);
 		own(m, x, NULL);

@@ -37,6 +37,7 @@ extern "C" {
 
 struct ww_pool; /* what an open class has */
 struct ww_seat;
+struct timespec; /* which <time.h> has not by -std=c99 */
 
 /* A class of mutexes: a context belongs to one, and locks the mutexes of that class alone. */
 struct ww_class {
@@ -49,13 +50,25 @@ struct ww_class {
 /* What the fields below are for is the library's business, except ctx and acquired, which may be read. */
 struct ww_acquire_ctx;
 
+/* For code that names the kernel's lock in a mutex (lockdep_assert_held(&object->lock.base)): its address is all that it is for. */
+struct ww_mutex_base {
+	void *address_;
+};
+
 struct ww_mutex {
-	struct ww_acquire_ctx *ctx;	/* the context that holds it; NULL: none does. Others read it atomically */
-	struct ww_pool *pool;
+	__extension__ union {
+		struct ww_mutex_base base;
+		struct ww_acquire_ctx *ctx; /* the context that holds it; NULL: none does. Others read it atomically */
+	};
+	struct ww_pool *pool;		/* NULL: it has no number */
 	struct ww_seat *alone;		/* by which it is held without a context */
 	uint32_t number;
 	uint32_t waiters;
-	struct ww_mutex *newer, *older;	/* what its context acquired after it and before it, where that is kept */
+	__extension__ union {
+		struct ww_class *class_; /* as long as it has no number: what WW_MUTEX_INIT said */
+		struct ww_mutex *newer;	/* what its context acquired after it, and before it, where that is kept */
+	};
+	struct ww_mutex *older;
 };
 
 struct ww_acquire_ctx {
@@ -80,6 +93,14 @@ struct ww_acquire_ctx {
  */
 #define DEFINE_WW_CLASS(classname) struct ww_class classname = { NULL, 0, 0, 0, #classname }
 #define DEFINE_WD_CLASS(classname) struct ww_class classname = { NULL, 0, 0, 1, #classname }
+
+/*
+ * A mutex of this class, static or not, in place of ww_mutex_init:
+ *	static struct ww_mutex lock = WW_MUTEX_INIT(&boxes);
+ * Its first lock, by whichever thread, gives it its number, and is -ENOSPC or -ENOMEM
+ * where ww_mutex_init_checked would be; with NULL, and by ww_mutex_trylock, the program ends then.
+ */
+#define WW_MUTEX_INIT(of_class) { { { NULL } }, NULL, NULL, 0, 0, { of_class }, NULL }
 
 /*
  * Gives the mutex a number of its class.  It reads nothing of what stood there: a
@@ -310,14 +331,17 @@ int32_t ww_first_of_lock_(struct ww_seat *seat, uint32_t lock, bool heeds) __asm
 int32_t ww_first_of_unlock_(struct ww_seat *seat, uint32_t lock) __asm__("ww_unlock_");
 #define WW_INLINE_ extern __inline __attribute__((__gnu_inline__))
 
-/* What is stored relaxed, here and below, is the holder's alone: the lock orders it from holder to holder. */
+/*
+ * What is stored relaxed, here and below, is the holder's alone: the lock orders it from holder to holder.  Another thread
+ * may just have given the mutex its number, and then its pool.
+ */
 WW_INLINE_ int ww_mutex_lock(struct ww_mutex *lock, struct ww_acquire_ctx *ctx)
 {
 	int r;
 
 	if (__builtin_expect(!ctx, 0))
 		return ww_mutex_lock_alone_(lock);
-	if (__builtin_expect(lock->pool != ctx->pool, 0))
+	if (__builtin_expect(__atomic_load_n(&lock->pool, __ATOMIC_ACQUIRE) != ctx->pool, 0))
 		return ww_mutex_lock_else_(lock, ctx);
 	r = ww_first_of_lock_(ctx->own, lock->number, false);
 	if (__builtin_expect(r != 0, 0))

@@ -504,17 +504,51 @@ static int make_pool(struct ww_class *c, struct ww_pool **made)
 	return 0;
 }
 
-COLD int ww_class_open(struct ww_class *c)
+/* Opening is locked. */
+static int open_now(struct ww_class *c)
 {
 	struct ww_pool *p = NULL;
 	int r = 0;
 
-	pthread_mutex_lock(&opening);
 	if (!c->pool && !(r = prepare()) && !(r = make_pool(c, &p))) {
 		p->next = pools;
 		pools = p;
 		__atomic_store_n(&c->pool, p, __ATOMIC_RELEASE);
 	}
+	return r;
+}
+
+COLD int ww_class_open(struct ww_class *c)
+{
+	int r;
+
+	pthread_mutex_lock(&opening);
+	r = open_now(c);
+	pthread_mutex_unlock(&opening);
+	return r;
+}
+
+/* Opening is locked, and the mutex has no number. */
+static int number_now(struct ww_mutex *m)
+{
+	struct ww_class *c = m->class_;
+	int r = c ? open_now(c) : -EINVAL;
+
+	if (!r)
+		r = number_of_pool(c->pool, &m->number);
+	if (!r)
+		__atomic_store_n(&m->pool, c->pool, __ATOMIC_RELEASE);
+	return r;
+}
+
+/* Others may lock it first as well: one of them gives it its number, and whatever lay in the place of its class is theirs then. */
+COLD int ww_number_at_first(struct ww_mutex *m)
+{
+	int r = 0;
+
+	pthread_mutex_lock(&opening);
+	if (!pool_at(m))
+		r = number_now(m);
 	pthread_mutex_unlock(&opening);
 	return r;
 }

@@ -70,6 +70,8 @@ struct ww_mine {
 };
 WW_HIDDEN extern __thread struct ww_mine ww_mine __attribute__((tls_model("initial-exec")));
 
+/* A number for a mutex that WW_MUTEX_INIT made, unless it has one: 0, or as ww_mutex_init_checked. */
+WW_HIDDEN int ww_number_at_first(struct ww_mutex *m);
 /* A number that is free, if there is one. */
 WW_HIDDEN bool ww_take_number(struct ww_numbers *of, uint32_t *number);
 WW_HIDDEN void ww_give_number(struct ww_numbers *of, uint32_t number);
@@ -92,6 +94,14 @@ static inline int pool_of(struct ww_class *c, struct ww_pool **p)
 	*p = __atomic_load_n(&c->pool, __ATOMIC_ACQUIRE);
 	return r;
 }
+
+static inline int number_of_pool(struct ww_pool *p, uint32_t *number)
+{
+	return LIKELY(ww_take_number(&p->numbers, number)) ? 0 : p->gone ? -EINVAL : -ENOSPC;
+}
+
+/* NULL: it has no number.  Where it has one its number is to be seen, whoever gave it. */
+static inline struct ww_pool *pool_at(const struct ww_mutex *m) { return __atomic_load_n(&m->pool, __ATOMIC_ACQUIRE); }
 
 /*
  * Whether this thread keeps the seat that it had last, of this class, and nobody uses it: a context that was begun here may

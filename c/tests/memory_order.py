@@ -293,8 +293,14 @@ TABLE = {
     "alone": {"ww_mutex.c": "load rlx, store rlx rlx"},
     # A waiter says first that it holds the mutex, and then that it waits no more; who destroys looks the other way round.
     "waiters": {"ww_mutex.c": "fetch_add sc sc, fetch_sub sc sc, load sc"},
-    # All of an open class.
-    "pool": {"ww_mutex.c": "load acq acq", "ww_pool.h": "load acq acq", "ww_pool.c": "store rel rel", "ww_debug.c": "load acq"},
+    # All of an open class; and of a mutex the number, which its first lock may just have given it.
+    "pool": {
+        "ww_mutex.c": "load acq acq",
+        "ww_mutex.h": "load acq",
+        "ww_pool.h": "load acq acq acq",
+        "ww_pool.c": "store rel rel rel",
+        "ww_debug.c": "load acq",
+    },
     # Of seats that aren't shared: what their user wrote goes with busy, to its keeper and to whoever shares them.
     "busy": {"ww_pool.h": "load acq, store rel rlx", "ww_pool.c": "load acq acq acq acq, store rlx"},
     # Its keeper looks after it stored busy: membarrier(2) orders these. Whoever waits until the seats are shared acquires.
@@ -546,6 +552,10 @@ def ours():
         [W("id", 5), W("pool", 1, "rel")],
         [R("p", "pool", "acq"), IF("p", 1, R("i", "id"))],
     ], lambda r, f: r[1].get("i") == 0
+    yield "a mutex gets its number at its first lock, by another thread", [
+        [W("number", 5), W("pool", 1, "rel"), X("l", "lock", swap(0, 2), "sc"), W("newer", 3)],
+        [R("p", "pool", "acq"), IF("p", 1, R("n", "number"), X("l", "lock", swap(0, 2), "sc"))],
+    ], lambda r, f: r[1].get("n") == 0
     yield "a class is freed, and opened anew, behind its last context", [
         [R("i", "id"), W("busy", 0, "rel"), R("o", "own_id", "rlx")],
         [R("b", "busy", "acq"), IF("b", 0, W("own_id", 9, "rlx"), W("id", 6), W("own_id", 6, "rlx"))],

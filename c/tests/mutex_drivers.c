@@ -1,0 +1,177 @@
+/*
+ * What code that was written for the kernel's mutexes names of ww_mutex.h besides its
+ * calls: `base`, as Linux asserts that a mutex is held; and a mutex that is there before
+ * any call, whose number its first lock gives it.
+ */
+#include "mutex_test.h"
+#include <stddef.h>
+
+static DEFINE_WW_CLASS(wound_wait);
+static DEFINE_WD_CLASS(wait_die);
+static struct ww_class *c;
+
+/* As in a kernel without lockdep: it evaluates its argument, and does nothing. */
+#define lockdep_assert_held(lock) \
+	do { \
+		(void)(lock); \
+	} while (0)
+
+static void base_has_an_address(void)
+{
+	struct object {
+		struct ww_mutex lock;
+	} it, *object = &it;
+	struct ww_mutex_base *base = &it.lock.base;
+
+	ww_mutex_init(&it.lock, c);
+	MUST(!ww_mutex_lock(&it.lock, NULL));
+	lockdep_assert_held(&object->lock.base);
+	MUST((void *)base == (void *)&it.lock && sizeof it.lock == 48);
+	ww_mutex_unlock(&it.lock);
+	MUST(!ww_mutex_destroy(&it.lock));
+}
+
+/* ---- WW_MUTEX_INIT ---- */
+
+static struct ww_mutex of_wound_wait = WW_MUTEX_INIT(&wound_wait), of_wait_die = WW_MUTEX_INIT(&wait_die);
+
+/* Each call may be the first one, also a destroy, which then takes no number back. */
+static void first_call(unsigned by)
+{
+	struct ww_mutex m = WW_MUTEX_INIT(c), held = WW_MUTEX_INIT(c), *both[] = { &held, &m };
+	struct ww_acquire_ctx x;
+	struct timespec at = in_ms(0);
+
+	MUST(!ww_mutex_is_locked(&m) && ww_mutex_unlock_checked(&m) == -EINVAL);
+	ww_acquire_init(&x, c);
+	MUST(!ww_mutex_lock(&held, &x));
+	switch (by) {
+	case 0: MUST(!ww_mutex_lock(&m, &x)); break;
+	case 1: MUST(!ww_mutex_lock(&m, NULL)); break;
+	case 2: MUST(!ww_mutex_lock_interruptible(&m, &x)); break;
+	case 3: MUST(!ww_mutex_lock_until(&m, &x, &at)); break;
+	case 4: MUST(!ww_mutex_lock_until(&m, NULL, &at)); break;
+	case 5: MUST(ww_mutex_trylock(&m, &x)); break;
+	case 6: MUST(ww_mutex_trylock(&m, NULL)); break;
+	case 7: MUST(ww_mutex_lock_all(&x, both, 2) == -EALREADY && !ww_mutex_lock_all(&x, both + 1, 1)); break;
+	case 8: MUST(ww_mutex_lock_slow_checked(&m, &x) == -EINVAL); break;
+	}
+	MUST(ww_mutex_is_locked(&m) == (by < 8));
+	if (by < 8)
+		ww_mutex_unlock(&m);
+	ww_mutex_unlock(&held);
+	ww_acquire_fini(&x);
+	MUST(!ww_mutex_destroy(&m) && ww_mutex_destroy(&m) == -EINVAL && !ww_mutex_destroy(&held));
+}
+
+enum { THREADS = 4, STATIC = 6, ROUNDS = 2000 };
+static struct ww_mutex shared[STATIC];
+static unsigned counts[STATIC];
+static pthread_barrier_t begin, finish;
+
+static void lock_one(struct ww_mutex *m, struct ww_acquire_ctx *x, unsigned by)
+{
+	if (by == 0)
+		MUST(!ww_mutex_lock(m, NULL));
+	else if (by == 1)
+		MUST(!ww_mutex_lock(m, x));
+	else if (by == 2)
+		MUST(!ww_mutex_lock_all(x, &m, 1));
+	else
+		while (!ww_mutex_trylock(m, x))
+			sched_yield();
+}
+
+static void *locks_first(void *arg)
+{
+	unsigned me = (unsigned)(size_t)arg;
+
+	for (unsigned round = 0; round < ROUNDS; round++) {
+		pthread_barrier_wait(&begin);
+		for (unsigned k = 0; k < STATIC; k++) {
+			unsigned at = (k + me / 2) % STATIC;
+			struct ww_acquire_ctx x;
+
+			ww_acquire_init(&x, c);
+			lock_one(&shared[at], &x, (me + round) % 4);
+			counts[at]++;
+			ww_mutex_unlock(&shared[at]);
+			ww_acquire_fini(&x);
+		}
+		pthread_barrier_wait(&finish);
+	}
+	return NULL;
+}
+
+/* Several threads lock a mutex first, all at once: it gets one number, and there are no more of these than mutexes. */
+static void locked_first_by_several(void)
+{
+	pthread_t threads[THREADS];
+
+	MUST(!ww_class_limit(c, STATIC, 2 * THREADS));
+	pthread_barrier_init(&begin, NULL, THREADS + 1);
+	pthread_barrier_init(&finish, NULL, THREADS + 1);
+	for (size_t k = 0; k < THREADS; k++)
+		threads[k] = begin_thread(locks_first, (void *)k);
+	for (unsigned round = 0; round < ROUNDS; round++) {
+		for (unsigned k = 0; k < STATIC; k++) {
+			shared[k] = (struct ww_mutex)WW_MUTEX_INIT(c);
+			counts[k] = 0;
+		}
+		pthread_barrier_wait(&begin);
+		pthread_barrier_wait(&finish);
+		for (unsigned k = 0; k < STATIC; k++) {
+			MUST(counts[k] == THREADS && shared[k].number < STATIC);
+			for (unsigned j = 0; j < k; j++)
+				MUST(shared[j].number != shared[k].number);
+		}
+		for (unsigned k = 0; k < STATIC; k++)
+			MUST(!ww_mutex_destroy(&shared[k]));
+	}
+	for (unsigned k = 0; k < THREADS; k++)
+		end_thread(threads[k]);
+	pthread_barrier_destroy(&begin);
+	pthread_barrier_destroy(&finish);
+	MUST(!ww_class_free(c));
+}
+
+/* Where all numbers are given a lock says so, and may succeed later. */
+static void no_number_is_left(void)
+{
+	struct ww_mutex only, m = WW_MUTEX_INIT(c);
+	struct ww_acquire_ctx x;
+
+	MUST(!ww_class_limit(c, 1, 2));
+	ww_mutex_init(&only, c);
+	ww_acquire_init(&x, c);
+	MUST(ww_mutex_lock(&m, &x) == -ENOSPC && ww_mutex_lock_interruptible(&m, NULL) == -ENOSPC && !x.acquired);
+	MUST(!ww_mutex_destroy(&only) && !ww_mutex_lock(&m, &x));
+	ww_mutex_unlock(&m);
+	ww_acquire_fini(&x);
+	MUST(!ww_mutex_destroy(&m) && !ww_class_free(c));
+}
+
+static void there_before_any_call(struct ww_mutex *m)
+{
+	MUST(!c->pool && !ww_mutex_lock(m, NULL) && c->pool && ww_class_free(c) == -EBUSY);
+	ww_mutex_unlock(m);
+	MUST(!ww_mutex_destroy(m) && !ww_class_free(c));
+}
+
+int main(void)
+{
+	struct ww_class *classes[] = { &wound_wait, &wait_die };
+
+	for (unsigned kind = 0; kind < 2; kind++) {
+		c = classes[kind];
+		there_before_any_call(kind ? &of_wait_die : &of_wound_wait);
+		base_has_an_address();
+		for (unsigned by = 0; by < 9; by++)
+			first_call(by);
+		MUST(!ww_class_free(c));
+		no_number_is_left();
+		locked_first_by_several();
+	}
+	puts("mutex_drivers: what the kernel's callers ask for");
+	return 0;
+}
