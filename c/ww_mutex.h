@@ -244,18 +244,34 @@ void ww_acquire_unlock_all(struct ww_acquire_ctx *ctx);
  * the body begins again; the next lock call first waits for the mutex at which
  * -EDEADLK came, by its own time and for its own cancel, and the lock call of that one
  * answers 0 (a trylock 1).  A trylock that succeeds before, or a slow lock of that mutex,
- * is instead of that wait.  So that mutex has to be there still, though nothing is held:
- * where another thread could destroy it then, keep a reference to its object.  The body
- * may also release all by itself and go on by ww_mutex_lock_slow.  The context holds
- * nothing when the loop begins.  In C++ no object with a destructor may lie between
- * both, and in C none with __attribute__((cleanup)).
+ * is instead of that wait.  The body may also release all by itself and go on by
+ * ww_mutex_lock_slow.  The context holds nothing when the loop begins.
+ *
+ * So that mutex has to be there still, though nothing is held.  Where another thread could
+ * destroy it then, take a reference to its object before ww_retry_on_contention, where
+ * ww_is_contended, and keep it until all is released.
+ *
+ * The jump runs no destructor of C++ and no __attribute__((cleanup)) of what was made in the
+ * body.  In the body's own block, not in a loop of its own, this does the same and runs them:
+ *	if (ww_is_contended(&ctx))
+ *		continue;
+ * clang compiles one ww_retry_on_contention loop in a function of C++, and no second.
  */
 #define WW_PASTE__(a, b) a##b
 #define WW_PASTE_(a, b) WW_PASTE__(a, b)
+/* g++ forgets in a template that a label's address is an __extension__. */
+#if defined(__cplusplus) && defined(__GNUC__) && !defined(__clang__)
+#define WW_EXTENDS_ _Pragma("GCC diagnostic push") _Pragma("GCC diagnostic ignored \"-Wpedantic\"")
+#define WW_EXTENDED_ _Pragma("GCC diagnostic pop")
+#else
+#define WW_EXTENDS_
+#define WW_EXTENDED_
+#endif
 #define ww_until_all_locked(ctx)                                                                       \
+	WW_EXTENDS_                                                                                    \
 	for (void *ww_again_ = (ww_tries_begin_(ctx), __extension__ && WW_PASTE_(ww_again_at_, __LINE__)); \
 	     ww_again_; ww_again_ = NULL)                                                              \
-	WW_PASTE_(ww_again_at_, __LINE__) : while (ww_tries_more_(ctx))
+	WW_EXTENDED_ WW_PASTE_(ww_again_at_, __LINE__) : while (ww_tries_more_(ctx))
 #define ww_retry_on_contention(ctx)                                                                    \
 	do {                                                                                           \
 		if (ww_is_contended(ctx))                                                              \

@@ -2,6 +2,9 @@
 // exceptions. clang's -Wthread-safety knows what each call acquires.
 #ifndef WW_MUTEX_HPP
 #define WW_MUTEX_HPP
+#if __cplusplus < 201703L
+#error "ww_mutex.hpp needs C++17: compile with -std=c++17 or a later one"
+#endif
 #include "ww_mutex.h"
 #include <cassert>
 #include <cstdint>

@@ -66,6 +66,22 @@ static int by_context(struct ww_class &c, account &a)
 	return 0;
 }
 
+// The loop of ww_mutex.h in a template, of which no compiler warns.
+template <class List> static int in_a_loop(ww_acquire_ctx *x, const List &list)
+{
+	int r = 0;
+
+	ww_until_all_locked(x) {
+		for (mutex *m : list) {
+			r = ww_mutex_lock(m->get(), x);
+			ww_retry_on_contention(x);
+			if (r)
+				break;
+		}
+	}
+	return r;
+}
+
 static void lists(struct ww_class &c)
 {
 	account a(c), b(c), d(c);
@@ -82,6 +98,8 @@ static void lists(struct ww_class &c)
 	MUST(ww::kernel::lock_all(c, twice, [] { return 1; }).error() == -EALREADY);
 	MUST(*ww::kernel::lock_all(c, twice, [] { return 5; }, WW_IGNORE_DUPLICATES) == 5);
 	MUST(ww::kernel::lock_all(c, list, [] {}));
+	MUST(in_a_loop(x.get(), twice) == -EALREADY && x.held() == 1);
+	x.unlock_all();
 	MUST(!x.lock_all(list) && x.lock_all(list) == -EINVAL && x.held() == 3);
 	x.unlock_all();
 #ifdef __cpp_exceptions
