@@ -153,32 +153,43 @@ static bool is_released(struct ww_pool *p, struct ww_mutex *m)
 	return released;
 }
 
-/* A waiter that got it says so first, and then that it waits no more. */
-int ww_mutex_destroy(struct ww_mutex *m)
+/* A waiter that got it says so first, and then that it waits no more. What it is `then` is said before it has no pool. */
+static int end_mutex(struct ww_mutex *m, struct ww_pool *p, struct ww_class *then)
 {
-	struct ww_pool *p = pool_at(m);
-
-	if (!p && m->class_) {
-		m->class_ = NULL;
-		return 0;
-	}
-	if (!p) {
-		ww_debug_fault("ww_mutex_destroy", "the mutex isn't initialized");
-		return -EINVAL;
-	}
 	/* In a forked child nobody uses it any more, and its number isn't given. */
 	if (UNLIKELY(p->gone)) {
-		*m = (struct ww_mutex){ 0 };
+		*m = (struct ww_mutex){ .class_ = then };
 		return 0;
 	}
 	if (__atomic_load_n(&m->waiters, __ATOMIC_SEQ_CST) || ww_mutex_is_locked(m) || !is_released(p, m)) {
 		ww_debug_fault("ww_mutex_destroy", "somebody holds the mutex, or waits for it");
 		return -EBUSY;
 	}
-	m->pool = NULL;
-	m->class_ = NULL;
+	m->class_ = then;
+	__atomic_store_n(&m->pool, NULL, __ATOMIC_RELEASE);
 	ww_give_number(&p->numbers, m->number);
 	return 0;
+}
+
+int ww_mutex_destroy(struct ww_mutex *m)
+{
+	struct ww_pool *p = pool_at(m);
+
+	if (p)
+		return end_mutex(m, p, NULL);
+	if (m->class_) {
+		m->class_ = NULL;
+		return 0;
+	}
+	ww_debug_fault("ww_mutex_destroy", "the mutex isn't initialized");
+	return -EINVAL;
+}
+
+int ww_mutex_end_(struct ww_mutex *m)
+{
+	struct ww_pool *p = pool_at(m);
+
+	return p ? end_mutex(m, p, p->class_) : 0;
 }
 
 /* ---- contexts ---- */

@@ -281,6 +281,8 @@ void ww_acquire_unlock_all(struct ww_acquire_ctx *ctx);
 bool ww_is_contended(const struct ww_acquire_ctx *ctx);
 void ww_tries_begin_(struct ww_acquire_ctx *ctx);
 bool ww_tries_more_(struct ww_acquire_ctx *ctx);
+/* Of C++: as ww_mutex_destroy, but behind it the mutex is as WW_MUTEX_INIT makes one of its class. */
+int ww_mutex_end_(struct ww_mutex *lock);
 
 #ifdef WW_DEBUG
 /*
@@ -308,6 +310,7 @@ void ww_debug_at_(const char *file, int line);
 #define WW_HERE_ ww_debug_at_(__FILE__, __LINE__)
 #define ww_mutex_init(...) (WW_HERE_, ww_mutex_init(__VA_ARGS__))
 #define ww_mutex_destroy(...) (WW_HERE_, ww_mutex_destroy(__VA_ARGS__))
+#define ww_mutex_end_(...) (WW_HERE_, ww_mutex_end_(__VA_ARGS__))
 #define ww_acquire_init(...) (WW_HERE_, ww_acquire_init(__VA_ARGS__))
 #define ww_acquire_done(...) (WW_HERE_, ww_acquire_done(__VA_ARGS__))
 #define ww_acquire_fini(...) (WW_HERE_, ww_acquire_fini(__VA_ARGS__))
@@ -339,7 +342,9 @@ int ww_mutex_lock_further_(struct ww_mutex *lock, struct ww_acquire_ctx *ctx, in
 void ww_mutex_unlock_else_(struct ww_mutex *lock);
 void ww_mutex_unlock_further_(struct ww_mutex *lock, struct ww_acquire_ctx *ctx, int r);
 bool ww_tries_else_(struct ww_acquire_ctx *ctx);
-bool ww_is_static_(const void *object);
+/* Where an object lies: where memory is given and taken, in the program itself, or (else) in a library. */
+enum { WW_MEMORY_ = 0, WW_PROGRAM_ = 1 };
+int ww_place_(const void *object);
 enum { WW_IS_TRYING_ = 1, WW_HAS_TO_BACK_OFF_ = 2 }; /* of a context's state */
 #if defined(__GNUC__) && !defined(WW_NO_INLINE) && !defined(WW_DEBUG)
 /* A seat begins with its handle. */

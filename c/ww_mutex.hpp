@@ -47,22 +47,24 @@ namespace ww::kernel {
 // end of the program.
 inline void left_(const char *what, const void *object) noexcept
 {
-	if (ww_is_static_(object))
+	if (ww_place_(object) != WW_MEMORY_)
 		return;
 	std::fputs(what, stderr);
 	std::abort();
 }
 
-// A class that is gone with its scope. It has no mutex then, and no context. A static one is there before anything runs.
+// A class that is gone with its scope. It has no mutex then, and no context. A static one is there before anything runs, and
+// that of a program as long as the program.
 class mutex_class {
 	struct ww_class it_;
+	friend class mutex;
 
 public:
 	enum kind { wound_wait, wait_die };
 	constexpr explicit mutex_class(kind k, const char *name = "") noexcept : it_{ nullptr, 0, 0, k == wait_die, name } {}
 	~mutex_class()
 	{
-		if (ww_class_free(&it_))
+		if (ww_place_(this) != WW_PROGRAM_ && ww_class_free(&it_))
 			left_("ww::kernel::mutex_class: a mutex or a context is left\n", this);
 	}
 	mutex_class(const mutex_class &) = delete;
@@ -78,16 +80,18 @@ public:
 };
 
 // A member of the object that it guards. It stays where it is, and nobody holds it or waits for it at its end. Its own
-// calls are those without a context, so std::lock_guard and std::unique_lock take it.
+// calls are those without a context, so std::lock_guard and std::unique_lock take it. It gets its number at its first lock,
+// so a static one is there before anything runs; and it may be locked behind its end, beside that of the program.
 class WW_SAFETY_(capability("mutex")) mutex {
 	struct ww_mutex it_;
 
 public:
-	explicit mutex(struct ww_class &c WW_AND_FROM_) noexcept { ww_mutex_init(&it_, &c); }
+	constexpr explicit mutex(struct ww_class &c) noexcept : it_ WW_MUTEX_INIT(&c) {}
+	constexpr explicit mutex(mutex_class &c) noexcept : mutex(c.it_) {}
 	~mutex()
 	{
 		WW_NOWHERE_;
-		if (ww_mutex_destroy(&it_))
+		if (ww_mutex_end_(&it_))
 			left_("ww::kernel::mutex: somebody holds it, or waits for it\n", this);
 	}
 	mutex(const mutex &) = delete;

@@ -620,21 +620,30 @@ int ww_class_free(struct ww_class *c)
 	return r;
 }
 
-static int has_place(struct dl_phdr_info *of, size_t size, void *place)
+/* An object of a program, and how many parts of that were looked through: itself first, and then its libraries. */
+struct place {
+	uintptr_t at;
+	int parts;
+};
+
+static int has_place(struct dl_phdr_info *of, size_t size, void *searched)
 {
-	uintptr_t at = *(const uintptr_t *)place - of->dlpi_addr;
+	struct place *place = searched;
 
 	(void)size;
-	for (unsigned k = 0; k < of->dlpi_phnum; k++)
-		if (of->dlpi_phdr[k].p_type == PT_LOAD && at - of->dlpi_phdr[k].p_vaddr < of->dlpi_phdr[k].p_memsz)
-			return 1;
+	place->parts++;
+	for (unsigned k = 0; k < of->dlpi_phnum; k++) {
+		const ElfW(Phdr) *it = &of->dlpi_phdr[k];
+
+		if (it->p_type == PT_LOAD && place->at - of->dlpi_addr - it->p_vaddr < it->p_memsz)
+			return place->parts;
+	}
 	return 0;
 }
 
-/* Whether it lies in the program itself or in a library, and not where memory is given and taken. */
-bool ww_is_static_(const void *object)
+int ww_place_(const void *object)
 {
-	uintptr_t at = (uintptr_t)object;
+	struct place place = { .at = (uintptr_t)object };
 
-	return dl_iterate_phdr(has_place, &at);
+	return dl_iterate_phdr(has_place, &place);
 }

@@ -295,7 +295,7 @@ TABLE = {
     "waiters": {"ww_mutex.c": "fetch_add sc sc, fetch_sub sc sc, load sc"},
     # All of an open class; and of a mutex the number, which its first lock may just have given it.
     "pool": {
-        "ww_mutex.c": "load acq acq",
+        "ww_mutex.c": "load acq acq, store rel",
         "ww_mutex.h": "load acq",
         "ww_pool.h": "load acq acq acq",
         "ww_pool.c": "store rel rel rel",

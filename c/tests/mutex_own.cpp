@@ -232,18 +232,37 @@ static void forks()
 	MUST(WIFSIGNALED(status) && WTERMSIG(status) == SIGABRT);
 }
 
-// Made before its class, and gone behind it, as the order of files may have it.
+// Files may be initialized in any order, and end in any: the first constructor and the last destructor use what others have.
 namespace {
-extern mutex_class later;
+extern mutex_class later, of_program;
+extern mutex of_later;
+
+struct first_and_last {
+	const pid_t program = getpid(); // a forked child may lock none of them
+	const bool tried;
+	first_and_last() : tried(of_later.try_lock())
+	{
+		if (tried)
+			of_later.unlock();
+	}
+	~first_and_last()
+	{
+		if (getpid() == program)
+			guard held(of_later);
+		if (!static_cast<struct ww_class &>(of_program).pool)
+			std::abort();
+	}
+} first_and_last;
+
 mutex of_later(later);
-mutex_class later(mutex_class::wait_die, "later");
+mutex_class later(mutex_class::wait_die, "later"), of_program(mutex_class::wait_die, "of the program");
 } // namespace
 
 static void in_any_order()
 {
 	context x(later);
 
-	MUST(!x.lock_all(std::array<mutex *, 1>{ &of_later }) && x.held() == 1);
+	MUST(first_and_last.tried && !x.lock_all(std::array<mutex *, 1>{ &of_later }) && x.held() == 1);
 }
 
 // As the program ends, another thread holds this one, and goes on.
@@ -318,6 +337,7 @@ int main()
 	}
 	lists(ww_class);
 	backs_off(ww_class);
+	MUST(!of_program.open());
 	forks();
 	in_any_order();
 	goes_on();
