@@ -1,5 +1,5 @@
 /*
- * ww_mutex.c - the kernel's ww_mutex over numbered locks: mutexes, contexts, and loops of these that back off by themselves.
+ * ww_mutex.c - the kernel's ww_mutex over numbered locks: mutexes, and loops of contexts that back off by themselves.
  *
  * What a context has to do, amid a loop (ww_until_all_locked) and behind it, is one of six states.  `it` is the mutex at
  * which it was told -EDEADLK last; OWES: it waited for `it` before that was asked for, which is to come.
@@ -36,8 +36,6 @@
 #define _GNU_SOURCE
 #define WW_NO_INLINE /* Here are the functions that may be called in place of those that ww_mutex.h compiles into its callers. */
 #include "ww_pool.h"
-#include <stdio.h>
-#include <stdlib.h>
 
 /*
  * Calls by the handle of this seat answer -EINVAL, and change nothing.  All threads have it,
@@ -50,13 +48,6 @@ static const char not_due[] = "no -EDEADLK of this mutex came before, or the con
 
 /* How a mutex is asked for. */
 enum way { STAYS, HEEDS, SLOWLY, SLOWLY_HEEDS };
-
-COLD __attribute__((noreturn)) static void end(const char *call, const char *why)
-{
-	ww_debug_fault(call, why);
-	fprintf(stderr, "%s: %s\n", call, why);
-	abort();
-}
 
 /* ---- mutexes ---- */
 
@@ -74,17 +65,6 @@ int ww_mutex_init_checked(struct ww_mutex *m, struct ww_class *c)
 	return 0;
 }
 
-/* Why no number or no seat was given, in words. */
-static const char *told(int r)
-{
-	switch (r) {
-	case -ENOMEM: return "there is no memory to open the class";
-	case -ENOSPC: return "the class has all mutexes that it may have (one that isn't destroyed stays)";
-	case -EAGAIN: return "all contexts of the class are in use";
-	default: return "the class was opened before a fork, of which this is the child";
-	}
-}
-
 /* Why the first lock of a mutex gave it no number, or its class gave no seat. */
 static const char *told_of(const struct ww_mutex *m, int r)
 {
@@ -93,8 +73,6 @@ static const char *told_of(const struct ww_mutex *m, int r)
 
 /* One that WW_MUTEX_INIT made gets its number here, before it is locked first. */
 static inline int numbered(struct ww_mutex *m) { return LIKELY(pool_at(m)) ? 0 : ww_number_at_first(m); }
-
-static const char *told_at_begin(int r) { return r == -ENOSPC ? "the class has begun as many contexts as it may" : told(r); }
 
 void ww_mutex_init(struct ww_mutex *m, struct ww_class *c)
 {
@@ -106,7 +84,7 @@ void ww_mutex_init(struct ww_mutex *m, struct ww_class *c)
 
 /*
  * `ctx` and `alone` are written by the mutex's holder alone, relaxed: one holder's accesses are ordered before
- * the next one's by the lock, and to all others they are a glance.
+ * the next one's by the lock, and to all others they are a glance.  By `alone` others look into the seat.
  */
 static inline struct ww_acquire_ctx *holder(const struct ww_mutex *m) { return __atomic_load_n(&m->ctx, __ATOMIC_RELAXED); }
 
@@ -124,8 +102,6 @@ COLD static int go_on(ww_seat *s, struct ww_stop *stop)
 	s->handle = (ww_handle){ 0 };
 	return -EINVAL;
 }
-
-static inline bool is_let_go(const ww_seat *s) { return !s->handle.at; }
 
 /* The same of a release, whose first step answered r, not 0. */
 COLD static int release_further(ww_seat *s, int r)
@@ -192,151 +168,7 @@ int ww_mutex_end_(struct ww_mutex *m)
 	return p ? end_mutex(m, p, p->class_) : 0;
 }
 
-/* ---- contexts ---- */
-
-/* Relaxed: whoever cancels the context that was here before may look meanwhile, and nothing is ordered by what it sees. */
-static inline void of_seat(struct ww_acquire_ctx *x, struct ww_pool *p, ww_seat *s)
-{
-	x->pool = p;
-	x->gives = s;
-	__atomic_store_n(&x->own, s, __ATOMIC_RELAXED);
-	__atomic_store_n(&x->cancelled, 0, __ATOMIC_RELAXED);
-	x->acquired = x->flags = x->state = 0;
-}
-
-static inline void no_more(struct ww_acquire_ctx *x)
-{
-	x->pool = NO_POOL;
-	__atomic_store_n(&x->own, NULL, __ATOMIC_RELAXED);
-}
-
-static inline int begin_with(struct ww_acquire_ctx *x, struct ww_pool *p, ww_seat *s)
-{
-	int r;
-
-	of_seat(x, p, s);
-	r = ww_begin_(&s->handle);
-	if (UNLIKELY(r)) {
-		no_more(x);
-		give_seat(p, s, s->was_loose);
-		return r;
-	}
-	ww_debug_begun(x);
-	return 0;
-}
-
-COLD static int begin_anyhow(struct ww_acquire_ctx *x, struct ww_class *c, bool waits)
-{
-	struct ww_pool *p;
-	ww_seat *s;
-	int r = pool_of(c, &p);
-
-	if (r)
-		return r;
-	s = seat_at_once(p);
-	if (!s)
-		r = waits ? ww_seek_seat(p, NULL, &s) : p->gone ? -EINVAL : -EAGAIN;
-	return r ? r : begin_with(x, p, s);
-}
-
-/* The seat was at hand, but came to be shared. */
-COLD static int begin_late(struct ww_acquire_ctx *x, struct ww_class *c, ww_seat *s, bool waits)
-{
-	s = ww_late_seat(c->pool, s);
-	return s ? begin_with(x, c->pool, s) : begin_anyhow(x, c, waits);
-}
-
-int ww_acquire_init_checked(struct ww_acquire_ctx *x, struct ww_class *c)
-{
-	struct ww_pool *p = __atomic_load_n(&c->pool, __ATOMIC_ACQUIRE);
-	ww_seat *s = ww_mine.seats[0].seat;
-
-	if (UNLIKELY(!p || !has_at_hand(p)))
-		return begin_anyhow(x, c, false);
-	if (UNLIKELY(!use_kept(p, s)))
-		return begin_late(x, c, s, false);
-	return begin_with(x, p, s);
-}
-
-COLD static void init_else(struct ww_acquire_ctx *x, struct ww_class *c, ww_seat *late)
-{
-	int r = late ? begin_late(x, c, late, true) : begin_anyhow(x, c, true);
-
-	if (r)
-		end("ww_acquire_init", told_at_begin(r));
-}
-
-/*
- * A seat that nobody uses begins a context for certain, unless as many were begun as may be: then this is none,
- * by which no second lock is acquired, and ww_acquire_fini ends the program.
- */
-void ww_acquire_init(struct ww_acquire_ctx *x, struct ww_class *c)
-{
-	struct ww_pool *p = __atomic_load_n(&c->pool, __ATOMIC_ACQUIRE);
-	ww_seat *s = ww_mine.seats[0].seat;
-
-	if (UNLIKELY(!p || !has_at_hand(p))) {
-		init_else(x, c, NULL);
-		return;
-	}
-	if (UNLIKELY(!use_kept(p, s))) {
-		init_else(x, c, s);
-		return;
-	}
-	of_seat(x, p, s);
-	ww_debug_begun(x);
-	(void)!ww_begin_(&s->handle);
-}
-
-int ww_acquire_done_checked(struct ww_acquire_ctx *x)
-{
-	int r = x->own ? ww_done_(&x->own->handle) : -EINVAL;
-
-	if (!r)
-		ww_debug_done(x);
-	return r;
-}
-
-void ww_acquire_done(struct ww_acquire_ctx *x)
-{
-	if (UNLIKELY(ww_acquire_done_checked(x)))
-		end("ww_acquire_done", "the context is done, or has ended");
-}
-
-int ww_acquire_fini_checked(struct ww_acquire_ctx *x)
-{
-	ww_seat *s = x->own;
-	int r = s ? ww_end_(&s->handle) : -EINVAL;
-
-	if (r && !(s && is_let_go(s)))
-		return r;
-	ww_debug_ended(x);
-	no_more(x);
-	give_seat(s->pool, s, s->was_loose);
-	return 0;
-}
-
-COLD static void fini_else(struct ww_acquire_ctx *x)
-{
-	if (ww_acquire_fini_checked(x))
-		end("ww_acquire_fini", !x->own ? "the context has ended" : x->acquired ? "the context still holds a mutex" :
-			told_at_begin(-ENOSPC));
-}
-
-void ww_acquire_fini(struct ww_acquire_ctx *x)
-{
-	ww_seat *s = x->own;
-
-	/* A context that has released all ends for certain. */
-	if (UNLIKELY(!s || s->handle.standing != WW_BARE_)) {
-		fini_else(x);
-		return;
-	}
-	ww_debug_ended(x);
-	no_more(x);
-	ww_end_(&s->handle);
-	give_seat(s->pool, s, s->was_loose);
-}
+/* ---- what a loop has to do ---- */
 
 /* Amid ww_until_all_locked, or behind it. */
 static inline bool is_loop(const struct ww_acquire_ctx *x) { return x->gives == NOBODY; }
@@ -372,22 +204,6 @@ void ww_acquire_flags(struct ww_acquire_ctx *x, unsigned int flags)
 		close_or_open(x);
 }
 
-/*
- * The thread that waits does the rest, since only it knows when the wait is over.  Relaxed: that its own begin of the
- * context came before is the caller's to see to.
- */
-int ww_acquire_cancel(struct ww_acquire_ctx *x)
-{
-	ww_seat *s = __atomic_load_n(&x->own, __ATOMIC_RELAXED);
-
-	if (!s)
-		return -EINVAL;
-	if (__atomic_exchange_n(&x->cancelled, 1, __ATOMIC_SEQ_CST))
-		return -EALREADY;
-	ww_unpark(s);
-	return 0;
-}
-
 /* ---- waiting ---- */
 
 /* A call by the spare seat cancels the wait of this one. */
@@ -420,7 +236,7 @@ static inline void own(struct ww_mutex *m, struct ww_acquire_ctx *x, ww_seat *s)
 		x->acquired++;
 		__atomic_store_n(&m->ctx, x, __ATOMIC_RELAXED);
 	} else {
-		__atomic_store_n(&m->alone, s, __ATOMIC_RELAXED);
+		__atomic_store_n(&m->alone, s, __ATOMIC_RELEASE);
 	}
 }
 
@@ -768,8 +584,7 @@ int ww_mutex_lock_interruptible(struct ww_mutex *m, struct ww_acquire_ctx *x)
 
 int ww_mutex_lock_until(struct ww_mutex *m, struct ww_acquire_ctx *x, const struct timespec *until)
 {
-	/* No time, by which a thread couldn't sleep. */
-	if (UNLIKELY(until->tv_nsec < 0 || until->tv_nsec >= 1000000000))
+	if (UNLIKELY(!is_time(until)))
 		return -EINVAL;
 	return x ? lock_specially("ww_mutex_lock_until", m, x, HEEDS, until) : lock_alone(m, HEEDS, until);
 }

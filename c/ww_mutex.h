@@ -193,6 +193,12 @@ WW_MUST_CHECK int ww_class_open(struct ww_class *ww_class);
 int ww_class_free(struct ww_class *ww_class);
 
 /*
+ * As ww_acquire_init, but waits for a context until this time of the monotonic clock at
+ * the longest: -ETIMEDOUT.  One that is free is begun, however late it is.  Else it
+ * answers as ww_acquire_init_checked, and as the next call does for a time that is none.
+ */
+WW_MUST_CHECK int ww_acquire_init_until(struct ww_acquire_ctx *ctx, struct ww_class *ww_class, const struct timespec *monotonic);
+/*
  * As ww_mutex_lock_interruptible, but waits until this time of the monotonic clock at
  * the longest: -ETIMEDOUT, and what was held still is.  A mutex that is free is
  * acquired, however late it is.  -EINVAL, too: tv_nsec isn't 0 to 999,999,999.
@@ -206,6 +212,12 @@ WW_MUST_CHECK int ww_mutex_lock_until(struct ww_mutex *lock, struct ww_acquire_c
  * A wait ends so also where all contexts of the class are in use, and at a time that has come.
  */
 int ww_acquire_cancel(struct ww_acquire_ctx *ctx);
+
+/*
+ * Whether this context holds the mutex; with NULL: whether this thread acquired it without
+ * one.  Certain for who asks of what is its own, and else at a glance.
+ */
+bool ww_mutex_is_held_by(const struct ww_mutex *lock, const struct ww_acquire_ctx *ctx);
 
 /* Of a context, for ww_mutex_lock_all and between ww_until_all_locked and its end. */
 enum {
@@ -227,6 +239,14 @@ WW_MUST_CHECK int ww_mutex_lock_all(struct ww_acquire_ctx *ctx, struct ww_mutex 
  * ww_mutex_lock_all: for it this call releases nothing.
  */
 void ww_acquire_unlock_all(struct ww_acquire_ctx *ctx);
+/*
+ * The same to a mark, which is how many mutexes the context held then: it releases the
+ * newest until it holds so many.  So what was acquired before the mark stays, and where
+ * some of that was released since, as many of what came later stay too.  A back-off
+ * releases all, and the body marks anew.
+ */
+WW_MUST_CHECK size_t ww_acquire_mark(const struct ww_acquire_ctx *ctx);
+void ww_acquire_unlock_to(struct ww_acquire_ctx *ctx, size_t mark);
 
 /*
  * The same for mutexes that are found on the way, as drm_exec has it:
@@ -312,6 +332,7 @@ void ww_debug_at_(const char *file, int line);
 #define ww_mutex_destroy(...) (WW_HERE_, ww_mutex_destroy(__VA_ARGS__))
 #define ww_mutex_end_(...) (WW_HERE_, ww_mutex_end_(__VA_ARGS__))
 #define ww_acquire_init(...) (WW_HERE_, ww_acquire_init(__VA_ARGS__))
+#define ww_acquire_init_until(...) (WW_HERE_, ww_acquire_init_until(__VA_ARGS__))
 #define ww_acquire_done(...) (WW_HERE_, ww_acquire_done(__VA_ARGS__))
 #define ww_acquire_fini(...) (WW_HERE_, ww_acquire_fini(__VA_ARGS__))
 #define ww_mutex_lock(...) (WW_HERE_, ww_mutex_lock(__VA_ARGS__))

@@ -140,6 +140,9 @@ static void fence_others(void) { syscall(SYS_membarrier, MEMBARRIER_CMD_PRIVATE_
 /* At a glance: whoever goes on by it waits until all are. */
 static bool is_shared(const struct ww_pool *p) { return __atomic_load_n(&p->own_id, __ATOMIC_RELAXED) >= SHARING; }
 
+/* This thread took the seat. Nobody looks at it but by a mutex that is held with the seat, later. */
+static inline void is_user(ww_seat *s) { __atomic_store_n(&s->user, &ww_mine, __ATOMIC_RELAXED); }
+
 static inline uint32_t number_of(const struct ww_pool *p, const ww_seat *s) { return (uint32_t)(s - p->world->seats); }
 
 /* The class that has this number, if it is open. Opening is locked. */
@@ -227,6 +230,7 @@ static ww_seat *put_first(struct ww_kept first, uint32_t others)
 static void keep(struct ww_pool *p, ww_seat *s)
 {
 	s->kept = true;
+	is_user(s);
 	if (ww_mine.seats[KEPT - 1].seat)
 		let_loose(&ww_mine.seats[KEPT - 1]);
 	if (!ww_mine.told)
@@ -359,7 +363,11 @@ COLD ww_seat *ww_other_seat(struct ww_pool *p)
 	if (s || p->gone)
 		return s;
 	await_shared(p);
-	return !has_seekers(p) && ww_take_number(&p->loose, &number) ? use_loose(&p->world->seats[number]) : NULL;
+	if (has_seekers(p) || !ww_take_number(&p->loose, &number))
+		return NULL;
+	s = use_loose(&p->world->seats[number]);
+	is_user(s);
+	return s;
 }
 
 /* It waits no more, if it has no seat yet. */
@@ -404,6 +412,7 @@ COLD int ww_seek_seat(struct ww_pool *p, const struct timespec *until, ww_seat *
 		ww_futex_wait(&me.served, 0, until);
 	}
 	*s = me.seat;
+	is_user(me.seat);
 	return 0;
 }
 

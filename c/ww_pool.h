@@ -4,6 +4,8 @@
 #include "ww_inside.h"
 #include "ww_mutex.h"
 #include <pthread.h>
+#include <stdio.h>
+#include <stdlib.h>
 
 struct debug;
 
@@ -215,4 +217,28 @@ static inline bool ww_debug_injected(const struct ww_mutex *m, const struct ww_a
 	return (void)m, (void)x, false;
 }
 #endif
+
+__attribute__((noreturn, cold)) static inline void end(const char *call, const char *why)
+{
+	ww_debug_fault(call, why);
+	fprintf(stderr, "%s: %s\n", call, why);
+	abort();
+}
+
+/* Why no number or no seat was given, in words. */
+static inline const char *told(int r)
+{
+	switch (r) {
+	case -ENOMEM: return "there is no memory to open the class";
+	case -ENOSPC: return "the class has all mutexes that it may have (one that isn't destroyed stays)";
+	case -EAGAIN: return "all contexts of the class are in use";
+	default: return "the class was opened before a fork, of which this is the child";
+	}
+}
+
+/* In a forked child, by go_on of ww_mutex.c. */
+static inline bool is_let_go(const ww_seat *s) { return !s->handle.at; }
+
+/* By which a thread can sleep. */
+static inline bool is_time(const struct timespec *at) { return at->tv_nsec >= 0 && at->tv_nsec < 1000000000; }
 #endif

@@ -269,7 +269,7 @@ def arm_model(events, sb, rf, mo, lse):
 
 # ---- the sources ----
 
-SOURCES = ["ww.c", "ww_pool.h", "ww_pool.c", "ww_mutex.h", "ww_mutex.c", "ww_inside.h", "ww_debug.c"]
+SOURCES = ["ww.c", "ww_pool.h", "ww_pool.c", "ww_context.c", "ww_mutex.h", "ww_mutex.c", "ww_inside.h", "ww_debug.c"]
 SHORT = {"RELAXED": "rlx", "ACQUIRE": "acq", "RELEASE": "rel", "ACQ_REL": "ar", "SEQ_CST": "sc"}
 
 # Of each field, in each source: its accesses there, and what orders them. Of a compare-exchange that fails the second order.
@@ -285,17 +285,20 @@ TABLE = {
     "turn": {"ww.c": "fetch_add rlx"},
     # Said before the waiter is woken, which looks at it after it took its token away.
     "asked": {"ww.c": "load sc"},
-    "cancelled": {"ww_mutex.c": "exchange sc sc, store rlx"},
+    "cancelled": {"ww_context.c": "exchange sc, store rlx", "ww_mutex.c": "exchange sc"},
     # A canceller may look while a context begins or ends: a cancel that isn't ordered after ww_acquire_init is no right call.
-    "own": {"ww_mutex.c": "load rlx, store rlx rlx"},
+    "own": {"ww_context.c": "load rlx, store rlx rlx"},
     # A mutex's holder alone writes these, and the lock orders holders; whoever else looks has only a glance, or takes the lock.
-    "ctx": {"ww_mutex.c": "load rlx, store rlx rlx rlx", "ww_mutex.h": "load rlx, store rlx rlx"},
-    "alone": {"ww_mutex.c": "load rlx, store rlx rlx"},
+    "ctx": {"ww_context.c": "load rlx", "ww_mutex.c": "load rlx, store rlx rlx rlx", "ww_mutex.h": "load rlx, store rlx rlx"},
+    # By it others look who uses the seat, which was said before.
+    "alone": {"ww_context.c": "load acq", "ww_mutex.c": "load rlx, store rel rlx"},
+    "user": {"ww_context.c": "load rlx", "ww_pool.c": "store rlx"},
     # A waiter says first that it holds the mutex, and then that it waits no more; who destroys looks the other way round.
     "waiters": {"ww_mutex.c": "fetch_add sc sc, fetch_sub sc sc, load sc"},
     # All of an open class; and of a mutex the number, which its first lock may just have given it.
     "pool": {
-        "ww_mutex.c": "load acq acq, store rel",
+        "ww_mutex.c": "store rel",
+        "ww_context.c": "load acq acq",
         "ww_mutex.h": "load acq",
         "ww_pool.h": "load acq acq acq",
         "ww_pool.c": "store rel rel rel",
@@ -552,6 +555,10 @@ def ours():
         [W("id", 5), W("pool", 1, "rel")],
         [R("p", "pool", "acq"), IF("p", 1, R("i", "id"))],
     ], lambda r, f: r[1].get("i") == 0
+    yield "a seat by which a mutex is held has another user now", [
+        [W("user", 1, "rlx"), W("busy", 0, "rel"), R("m", "alone", "acq"), IF("m", 1, R("u", "user", "rlx"))],
+        [R("b", "busy", "acq"), IF("b", 0, W("user", 2, "rlx"), W("alone", 1, "rel"))],
+    ], lambda r, f: r[0].get("u") == 1, {"busy": 1}
     yield "a mutex gets its number at its first lock, by another thread", [
         [W("number", 5), W("pool", 1, "rel"), X("l", "lock", swap(0, 2), "sc"), W("newer", 3)],
         [R("p", "pool", "acq"), IF("p", 1, R("n", "number"), X("l", "lock", swap(0, 2), "sc"))],

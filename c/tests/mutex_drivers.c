@@ -1,7 +1,7 @@
 /*
  * What code that was written for the kernel's mutexes names of ww_mutex.h besides its
  * calls: `base`, as Linux asserts that a mutex is held; and a mutex that is there before
- * any call, whose number its first lock gives it.
+ * any call, whose number its first lock gives it; who holds one; and locks to a mark.
  */
 #include "mutex_test.h"
 #include <stddef.h>
@@ -158,6 +158,195 @@ static void there_before_any_call(struct ww_mutex *m)
 	MUST(!ww_mutex_destroy(m) && !ww_class_free(c));
 }
 
+/* ---- who holds it ---- */
+
+static struct ww_mutex asked;
+static bool has_it, may_release;
+
+static void *holds_it(void *arg)
+{
+	(void)arg;
+	MUST(!ww_mutex_is_held_by(&asked, NULL) && !ww_mutex_lock(&asked, NULL) && ww_mutex_is_held_by(&asked, NULL));
+	__atomic_store_n(&has_it, true, __ATOMIC_SEQ_CST);
+	while (!__atomic_load_n(&may_release, __ATOMIC_SEQ_CST))
+		usleep(100);
+	ww_mutex_unlock(&asked);
+	MUST(!ww_mutex_is_held_by(&asked, NULL));
+	return NULL;
+}
+
+/* The only seat was handed to another thread, which is through with it: it is loose. */
+static void held_by_another_first(void)
+{
+	struct ww_acquire_ctx x;
+	pthread_t thread;
+
+	MUST(!ww_class_limit(c, 1, 1));
+	ww_mutex_init(&asked, c);
+	ww_acquire_init(&x, c);
+	may_release = true;
+	thread = begin_thread(holds_it, NULL);
+	awaits_waiter(&asked);
+	ww_acquire_fini(&x);
+	end_thread(thread);
+	MUST(!ww_mutex_lock(&asked, NULL) && ww_mutex_is_held_by(&asked, NULL));
+	ww_mutex_unlock(&asked);
+	MUST(!ww_mutex_destroy(&asked) && !ww_class_free(c));
+}
+
+/* By a seat that its thread keeps, and by one that was handed over. */
+static void held_by_a_thread(void)
+{
+	struct ww_acquire_ctx x, y;
+
+	MUST(!ww_class_limit(c, 1, 2));
+	ww_mutex_init(&asked, c);
+	for (unsigned k = 0; k < 4; k++) {
+		pthread_t thread;
+
+		MUST(!ww_mutex_lock(&asked, NULL) && ww_mutex_is_held_by(&asked, NULL));
+		ww_mutex_unlock(&asked);
+		has_it = may_release = false;
+		ww_acquire_init(&x, c);
+		if (k > 1)
+			ww_acquire_init(&y, c);
+		thread = begin_thread(holds_it, NULL);
+		if (k > 1) {
+			awaits_waiter(&asked);
+			ww_acquire_fini(&y);
+		}
+		while (!__atomic_load_n(&has_it, __ATOMIC_SEQ_CST))
+			usleep(100);
+		MUST(!ww_mutex_is_held_by(&asked, NULL) && !ww_mutex_is_held_by(&asked, &x) && ww_mutex_is_locked(&asked));
+		__atomic_store_n(&may_release, true, __ATOMIC_SEQ_CST);
+		end_thread(thread);
+		MUST(!ww_mutex_lock(&asked, &x) && ww_mutex_is_held_by(&asked, &x));
+		MUST(!ww_mutex_is_held_by(&asked, &y) && !ww_mutex_is_held_by(&asked, NULL));
+		ww_mutex_unlock(&asked);
+		MUST(!ww_mutex_is_held_by(&asked, &x));
+		ww_acquire_fini(&x);
+	}
+	MUST(!ww_mutex_destroy(&asked) && !ww_class_free(c));
+}
+
+/* ---- marks ---- */
+
+enum { LIST = 6 };
+static struct ww_mutex list[LIST];
+static uint32_t released[LIST];
+static unsigned releases;
+int32_t __real_ww_unlock_(ww_handle *seat, uint32_t lock);
+int32_t __wrap_ww_unlock_(ww_handle *seat, uint32_t lock);
+
+int32_t __wrap_ww_unlock_(ww_handle *seat, uint32_t lock)
+{
+	int32_t r = __real_ww_unlock_(seat, lock);
+
+	if (r == 0 && releases < LIST)
+		released[releases++] = lock;
+	return r;
+}
+
+/* Whether these were released, in this order, as digits of a number, and no other. */
+static bool were_released(const char *digits)
+{
+	size_t count = strlen(digits);
+	bool so = releases == count;
+
+	for (size_t k = 0; k < count && so; k++)
+		so = released[k] == list[digits[k] - '0'].number;
+	releases = 0;
+	return so;
+}
+
+static void lock_those(struct ww_acquire_ctx *x, unsigned from, unsigned to)
+{
+	for (unsigned k = from; k < to; k++)
+		MUST(!ww_mutex_lock(&list[k], x));
+}
+
+/* What was acquired since a mark is released, the newest first; what came before isn't. */
+static void rolls_back(void)
+{
+	struct ww_acquire_ctx x;
+	size_t mark, earlier;
+
+	for (unsigned k = 0; k < LIST; k++)
+		ww_mutex_init(&list[k], c);
+	ww_acquire_init(&x, c);
+	ww_until_all_locked(&x) {
+		releases = 0;
+		lock_those(&x, 0, 1);
+		earlier = ww_acquire_mark(&x);
+		lock_those(&x, 1, 3);
+		mark = ww_acquire_mark(&x);
+		MUST(earlier == 1 && mark == 3);
+		lock_those(&x, 3, 6);
+		ww_acquire_unlock_to(&x, mark);
+		MUST(were_released("543") && x.acquired == 3 && ww_mutex_is_held_by(&list[2], &x));
+		ww_acquire_unlock_to(&x, mark);
+		MUST(were_released(""));
+		/* One that came since the mark was released amid the others, and then one of before it. */
+		lock_those(&x, 3, 6);
+		ww_mutex_unlock(&list[4]);
+		ww_acquire_unlock_to(&x, mark);
+		MUST(were_released("453") && x.acquired == 3);
+		lock_those(&x, 3, 6);
+		ww_mutex_unlock(&list[1]);
+		ww_acquire_unlock_to(&x, mark);
+		MUST(were_released("154") && x.acquired == 3 && ww_mutex_is_held_by(&list[3], &x));
+		ww_acquire_unlock_to(&x, earlier);
+		MUST(were_released("32") && x.acquired == 1 && ww_mutex_is_held_by(&list[0], &x));
+	}
+	ww_acquire_unlock_to(&x, 0);
+	MUST(were_released("0") && !x.acquired);
+	ww_acquire_fini(&x);
+	/* Without a loop nothing tells what was acquired. */
+	ww_acquire_init(&x, c);
+	lock_those(&x, 0, 2);
+	releases = 0;
+	ww_acquire_unlock_to(&x, 0);
+	MUST(were_released("") && x.acquired == 2);
+	ww_mutex_unlock(&list[0]);
+	ww_mutex_unlock(&list[1]);
+	ww_acquire_fini(&x);
+	for (unsigned k = 0; k < LIST; k++)
+		MUST(!ww_mutex_destroy(&list[k]));
+}
+
+/* In a loop that was told to back off: the mutex that it waited for first goes with what came since the mark. */
+static void rolls_back_after_a_wait(void)
+{
+	struct ww_acquire_ctx older, x;
+	unsigned bodies = 0;
+	int r;
+
+	for (unsigned k = 0; k < LIST; k++)
+		ww_mutex_init(&list[k], c);
+	ww_acquire_init(&older, c);
+	MUST(!ww_mutex_lock(&list[2], &older));
+	ww_acquire_init(&x, c);
+	ww_until_all_locked(&x) {
+		if (bodies++)
+			ww_mutex_unlock(&list[2]);
+		MUST(!ww_acquire_mark(&x));
+		lock_those(&x, 0, 1);
+		r = bodies == 1 ? ww_mutex_lock(&list[2], &x) : 0;
+		ww_retry_on_contention(&x);
+		MUST(!r && x.acquired == 2 && ww_mutex_is_held_by(&list[2], &x));
+		ww_acquire_unlock_to(&x, 0);
+		MUST(!x.acquired && !ww_mutex_is_locked(&list[2]));
+		lock_those(&x, 1, 3);
+		MUST(x.acquired == 2);
+	}
+	MUST(bodies == 2);
+	ww_acquire_unlock_all(&x);
+	ww_acquire_fini(&x);
+	ww_acquire_fini(&older);
+	for (unsigned k = 0; k < LIST; k++)
+		MUST(!ww_mutex_destroy(&list[k]));
+}
+
 int main(void)
 {
 	struct ww_class *classes[] = { &wound_wait, &wait_die };
@@ -168,7 +357,12 @@ int main(void)
 		base_has_an_address();
 		for (unsigned by = 0; by < 9; by++)
 			first_call(by);
+		rolls_back();
+		if (c == &wait_die)
+			rolls_back_after_a_wait();
 		MUST(!ww_class_free(c));
+		held_by_another_first();
+		held_by_a_thread();
 		no_number_is_left();
 		locked_first_by_several();
 	}

@@ -111,8 +111,14 @@ impl Context {
     pub(crate) unsafe fn begin(&self) -> Result<(), Error> {
         // SAFETY: the call reads nothing of what stood there; the class is static.
         let begin = || unsafe { ffi::ww_acquire_init_checked(self.raw(), self.class.get()) };
-        // SAFETY: as above. It waits for a context.
-        let wait = || unsafe { ffi::ww_acquire_init(self.raw(), self.class.get()) };
+        // SAFETY: as above; the time lives for the call. It waits for a context.
+        let wait = |until: Option<&ffi::timespec>| unsafe {
+            match until {
+                Some(until) => return ffi::ww_acquire_init_until(self.raw(), self.class.get(), ptr::from_ref(until)),
+                None => ffi::ww_acquire_init(self.raw(), self.class.get()),
+            }
+            0
+        };
         match begin() {
             0 => {}
             answer => self.begin_late(answer, begin, wait)?,
@@ -124,22 +130,28 @@ impl Context {
         Ok(())
     }
 
-    /// The library's wait for a context has no limits, so a context that has some looks again and again.
+    /// The library's wait for a context heeds a time, but no canceller: a context that has one looks again and again.
     #[cold]
-    fn begin_late(&self, mut answer: c_int, begin: impl Fn() -> c_int, wait: impl FnOnce()) -> Result<(), Error> {
+    fn begin_late(
+        &self,
+        mut answer: c_int,
+        begin: impl Fn() -> c_int,
+        wait: impl FnOnce(Option<&ffi::timespec>) -> c_int,
+    ) -> Result<(), Error> {
+        let limits = self.rare().map(|rare| &rare.limits);
         let mut pause = Duration::from_micros(20);
+        if answer == -ffi::EAGAIN && self.canceller().is_none() {
+            answer = wait(limits.and_then(|limits| limits.until.as_ref()).map(|(_, until)| until));
+        }
         while answer == -ffi::EAGAIN {
-            let Some(rare) = self.rare() else {
-                wait();
-                return Ok(());
-            };
-            rare.limits.check()?;
+            limits.map_or(Ok(()), Limits::check)?;
             thread::sleep(pause);
             pause = (2 * pause).min(Duration::from_millis(1));
             answer = begin();
         }
-        match answer {
+        match -answer {
             0 => Ok(()),
+            ffi::ETIMEDOUT => Err(Error::TimedOut),
             _ => Err(error::of_making(answer)),
         }
     }

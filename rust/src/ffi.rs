@@ -85,6 +85,7 @@ extern "C" {
 
     pub fn ww_acquire_init(ctx: *mut ww_acquire_ctx, class: *mut ww_class);
     pub fn ww_acquire_init_checked(ctx: *mut ww_acquire_ctx, class: *mut ww_class) -> c_int;
+    pub fn ww_acquire_init_until(ctx: *mut ww_acquire_ctx, class: *mut ww_class, monotonic: *const timespec) -> c_int;
     pub fn ww_acquire_fini(ctx: *mut ww_acquire_ctx);
     pub fn ww_acquire_cancel(ctx: *mut ww_acquire_ctx) -> c_int;
 
