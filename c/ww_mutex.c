@@ -65,11 +65,16 @@ int ww_mutex_init_checked(struct ww_mutex *m, struct ww_class *c)
 	return 0;
 }
 
-/* Why the first lock of a mutex gave it no number, or its class gave no seat. */
-static const char *told_of(const struct ww_mutex *m, int r)
+/* The class of a mutex, if that is initialized. */
+static struct ww_class *class_of(const struct ww_mutex *m)
 {
-	return m->pool || m->class_ ? told(r) : "the mutex isn't initialized";
+	struct ww_pool *p = pool_at(m);
+
+	return p ? p->class_ : m->class_;
 }
+
+/* Why the first lock of a mutex gave it no number, or its class gave no seat. */
+static const char *told_of(const struct ww_mutex *m, int r) { return class_of(m) ? told(r) : "the mutex isn't initialized"; }
 
 /* One that WW_MUTEX_INIT made gets its number here, before it is locked first. */
 static inline int numbered(struct ww_mutex *m) { return LIKELY(pool_at(m)) ? 0 : ww_number_at_first(m); }
@@ -79,7 +84,7 @@ void ww_mutex_init(struct ww_mutex *m, struct ww_class *c)
 	int r = ww_mutex_init_checked(m, c);
 
 	if (UNLIKELY(r))
-		end("ww_mutex_init", told(r));
+		end_of(c, "ww_mutex_init", told(r));
 }
 
 /*
@@ -165,7 +170,7 @@ int ww_mutex_end_(struct ww_mutex *m)
 {
 	struct ww_pool *p = pool_at(m);
 
-	return p ? end_mutex(m, p, p->class_) : 0;
+	return p ? end_mutex(m, p, class_of(m)) : 0;
 }
 
 /* ---- what a loop has to do ---- */
@@ -555,7 +560,10 @@ static inline int lock_alone(struct ww_mutex *m, enum way way, const struct time
 	return LIKELY(use_kept(p, s)) ? lock_by_seat(m, s, way, until) : lock_by_any(m, s, way, until);
 }
 
-COLD __attribute__((noreturn)) static void end_alone(const struct ww_mutex *m, int r) { end("ww_mutex_lock", told_of(m, r)); }
+COLD __attribute__((noreturn)) static void end_alone(const struct ww_mutex *m, int r)
+{
+	end_of(class_of(m), "ww_mutex_lock", told_of(m, r));
+}
 
 /* Nobody looks at what it would answer. */
 int ww_mutex_lock_alone_(struct ww_mutex *m)
@@ -614,7 +622,7 @@ int ww_mutex_lock_slow_interruptible(struct ww_mutex *m, struct ww_acquire_ctx *
 void ww_mutex_lock_slow(struct ww_mutex *m, struct ww_acquire_ctx *x)
 {
 	if (UNLIKELY(lock_slowly(m, x, SLOWLY, STAYS)))
-		end("ww_mutex_lock_slow", not_due);
+		end_of(class_of(m), "ww_mutex_lock_slow", not_due);
 }
 
 /* It answers nothing by which it could say why there is no number. */
@@ -623,7 +631,7 @@ static void number_or_end(struct ww_mutex *m)
 	int r = numbered(m);
 
 	if (UNLIKELY(r))
-		end("ww_mutex_trylock", told_of(m, r));
+		end_of(class_of(m), "ww_mutex_trylock", told_of(m, r));
 }
 
 /* No seat is waited for. */
@@ -651,7 +659,7 @@ COLD static int try_specially(struct ww_mutex *m, struct ww_acquire_ctx *x)
 
 	number_or_end(m);
 	if (!goes_together(m, x))
-		end("ww_mutex_trylock", fault_of(m, x));
+		end_of(class_of(m), "ww_mutex_trylock", fault_of(m, x));
 	r = ww_try_(&x->own->handle, m->number);
 	if (r)
 		return r == -EALREADY && was_prelocked(x, m);
