@@ -2,6 +2,7 @@
 // -DUNGUARDED clang has to warn.
 #include "../ww.hpp"
 #include "../ww_mutex.hpp"
+#include <algorithm>
 #include <array>
 #include <atomic>
 #include <csignal>
@@ -197,6 +198,47 @@ static void walks(struct ww_class &c)
 	MUST(*x.with_walk(takes_before, [&] { return x.held(); }) == 3 && begun == 2);
 }
 
+// Each scope releases what it acquired, though a mutex amid these was released before, and an exception passes.
+static void scopes(struct ww_class &c) WW_SAFETY_(no_thread_safety_analysis)
+{
+	constexpr unsigned count = 20;
+	std::vector<std::unique_ptr<mutex>> all;
+	std::vector<mutex *> list;
+	auto are_locked = [&] { return std::count_if(all.begin(), all.end(), [](auto &it) { return it->is_locked(); }); };
+	auto holds_all_but_one = [&]() WW_SAFETY_(no_thread_safety_analysis) {
+		context x(c);
+
+		for (mutex *m : list)
+			MUST(!x.lock(*m));
+		x.unlock(*all[count / 2]);
+		MUST(are_locked() == count - 1);
+#ifdef __cpp_exceptions
+		throw 7;
+#endif
+	};
+
+	for (unsigned k = 0; k < count; k++)
+		list.push_back(all.emplace_back(std::make_unique<mutex>(c)).get());
+#ifdef __cpp_exceptions
+	try {
+		holds_all_but_one();
+	} catch (int it) {
+		MUST(it == 7);
+	}
+#else
+	holds_all_but_one();
+#endif
+	MUST(!are_locked());
+	{
+		std::scoped_lock two(*all[0], *all[1]);
+		std::unique_lock<mutex> third(*all[2], std::try_to_lock), in_vain(*all[1], std::try_to_lock);
+		MUST(third && !in_vain && are_locked() == 3);
+	}
+	MUST(!are_locked() && *ww::kernel::lock_all(c, std::vector<mutex *>(), [&] { return are_locked(); }) == 0);
+	list.push_back(list[0]);
+	MUST(*ww::kernel::lock_all(c, list, [&] { return are_locked(); }, WW_IGNORE_DUPLICATES) == count && !are_locked());
+}
+
 static mutex_class lasting(mutex_class::wait_die, "lasting");
 static mutex held_at_a_fork(lasting);
 
@@ -333,6 +375,7 @@ int main()
 		}
 		lists(own);
 		walks(own);
+		scopes(own);
 		storm(own);
 	}
 	lists(ww_class);
