@@ -109,13 +109,13 @@ void ww_acquire_init(struct ww_acquire_ctx *x, struct ww_class *c)
 	(void)!ww_begin_(&s->handle);
 }
 
+/* The proved library isn't told: a lock that comes then is as any other, as in the kernel, and the debug library tells of it. */
 int ww_acquire_done_checked(struct ww_acquire_ctx *x)
 {
-	int r = x->own ? ww_done_(&x->own->handle) : -EINVAL;
-
-	if (!r)
-		ww_debug_done(x);
-	return r;
+	if (UNLIKELY(!x->own || x->state & IS_DONE))
+		return -EINVAL;
+	x->state |= IS_DONE;
+	return 0;
 }
 
 static const struct ww_class *class_of(const struct ww_acquire_ctx *x) { return x->own ? x->own->pool->class_ : NULL; }

@@ -78,8 +78,6 @@ void ww_debug_begun(struct ww_acquire_ctx *x)
 	__atomic_store_n(&x->own->pool->debug->seats[number_of(x->own->pool, x->own)].stamp, x->stamp, __ATOMIC_RELAXED);
 }
 
-void ww_debug_done(struct ww_acquire_ctx *x) { x->state |= IS_DONE; }
-
 void ww_debug_ended(struct ww_acquire_ctx *x)
 {
 	__atomic_store_n(&x->own->pool->debug->seats[number_of(x->own->pool, x->own)].stamp, 0, __ATOMIC_RELAXED);
@@ -147,9 +145,11 @@ int ww_debug_told(struct ww_mutex *m, struct ww_acquire_ctx *x, int r, bool inje
 	if (r == -EDEADLK)
 		x->state |= WAS_TOLD;
 	if (r == -EINVAL && injects)
-		ww_debug_fault("ww_mutex_lock", !x->own ? "the context has ended" : x->state & IS_DONE ? "the context is done" : not_released);
+		ww_debug_fault("ww_mutex_lock", !x->own ? "the context has ended" : not_released);
 	if (r)
 		return r;
+	if (anew && x->state & IS_DONE)
+		ww_debug_fault("ww_mutex_lock", "the context is done");
 	if (x->state & WAS_TOLD && x->contending_lock != m)
 		ww_debug_fault("ww_mutex_lock", "after -EDEADLK another mutex comes first");
 	x->state &= ~(unsigned)(WAS_TOLD | WAS_INJECTED);

@@ -50,6 +50,7 @@ struct ww_seat {
 	uint32_t listed;	/* of the locks that are listed the one acquired last */
 	struct ww_pool *pool;	/* the class of ww_mutex.h that has it, if any */
 	const struct ww_mine *user; /* there: the thread that took it last */
+	uint64_t waits, back_offs; /* of its users, in all */
 } __attribute__((aligned(64)));
 
 /* Behind the seats lies what the thread sanitizer is told of, where it is in use. */

@@ -252,6 +252,8 @@ COLD static int lock_on(struct ww_mutex *m, struct ww_acquire_ctx *x, ww_seat *s
 	bool heeds = way == HEEDS || way == SLOWLY_HEEDS, waits = r > 0;
 
 	if (waits) {
+		count(&s->waits);
+		PROBE_CONTENTION_BEGIN(m, x);
 		ww_debug_waits(m->pool, s, m);
 		__atomic_fetch_add(&m->waiters, 1, __ATOMIC_SEQ_CST);
 	}
@@ -265,11 +267,15 @@ COLD static int lock_on(struct ww_mutex *m, struct ww_acquire_ctx *x, ww_seat *s
 	}
 	if (r == 0)
 		own(m, x, s);
-	if (r == -EDEADLK)
+	if (r == -EDEADLK) {
+		count(&s->back_offs);
+		PROBE_BACK_OFF(m, x);
 		x->contending_lock = m;
+	}
 	if (r == -EINTR && !(x && __atomic_exchange_n(&x->cancelled, 0, __ATOMIC_SEQ_CST)))
 		r = -ETIMEDOUT;
 	if (waits) {
+		PROBE_CONTENTION_END(m, x, r);
 		ww_debug_waits(m->pool, s, NULL);
 		__atomic_fetch_sub(&m->waiters, 1, __ATOMIC_SEQ_CST);
 	}
@@ -668,12 +674,15 @@ COLD static int try_specially(struct ww_mutex *m, struct ww_acquire_ctx *x)
 	return looped(m, x, 0) == 0;
 }
 
+int ww_mutex_trylock_else_(struct ww_mutex *m, struct ww_acquire_ctx *x)
+{
+	return x ? try_specially(m, x) : try_alone(m);
+}
+
 int ww_mutex_trylock(struct ww_mutex *m, struct ww_acquire_ctx *x)
 {
-	if (!x)
-		return try_alone(m);
-	if (UNLIKELY(pool_at(m) != x->pool))
-		return try_specially(m, x);
+	if (UNLIKELY(!x || pool_at(m) != x->pool))
+		return ww_mutex_trylock_else_(m, x);
 	if (UNLIKELY(ww_try_(&x->own->handle, m->number)))
 		return 0;
 	own(m, x, NULL);
@@ -685,14 +694,13 @@ int ww_mutex_trylock(struct ww_mutex *m, struct ww_acquire_ctx *x)
  * Where somebody may wait for it, or the context keeps a list of what it acquired; r is what
  * the first step answered.  In a loop that did nothing, so the mutex is there still.
  */
-static int unlock_on(struct ww_acquire_ctx *x, int r)
+static inline int unlock_on(struct ww_mutex *m, struct ww_acquire_ctx *x, int r)
 {
 	if (is_loop(x)) {
-		uint32_t number;
+		uint32_t number = m->number;
 
-		unlink_from(x, x->called);
-		number = x->called->number;
-		__tsan_release(x->called);
+		unlink_from(x, m);
+		__tsan_release(m);
 		r = ww_unlock_(&x->own->handle, number);
 		if (LIKELY(!r))
 			return 0;
@@ -743,7 +751,7 @@ static inline int unlock(struct ww_mutex *m)
 	__atomic_store_n(&m->ctx, NULL, __ATOMIC_RELAXED);
 	__tsan_release(m);
 	r = ww_unlock_(&x->gives->handle, number);
-	return LIKELY(!r) ? 0 : unlock_on(x, r);
+	return LIKELY(!r) ? 0 : unlock_on(x->called, x, r);
 }
 
 int ww_mutex_unlock_checked(struct ww_mutex *m) { return unlock(m); }
@@ -764,8 +772,7 @@ void ww_mutex_unlock_else_(struct ww_mutex *m)
 
 void ww_mutex_unlock_further_(struct ww_mutex *m, struct ww_acquire_ctx *x, int r)
 {
-	x->called = m;
-	if (unlock_on(x, r))
+	if (unlock_on(m, x, r))
 		end_unheld();
 }
 
@@ -813,8 +820,10 @@ COLD static int lock_more(struct ww_acquire_ctx *x, struct ww_mutex *const *lock
 }
 
 /* From the k-th on, to which the first turn answered r; or 0, where it has none yet. */
-COLD static int lock_all_on(struct ww_acquire_ctx *x, struct ww_mutex *const *locks, size_t count, size_t k, int r, bool held)
+COLD static int lock_all_on(struct ww_acquire_ctx *x, struct ww_mutex *const *locks, size_t count, size_t k, int r)
 {
+	bool held = x->acquired > k;
+
 	begin_loop(x);
 	if (r) {
 		x->called = locks[k];
@@ -840,24 +849,23 @@ int ww_mutex_lock_all(struct ww_acquire_ctx *x, struct ww_mutex *const *locks, s
 		return -EINVAL;
 	if (is_loop(x))
 		return lock_more(x, locks, count);
-	bool held = x->acquired, heeds = x->flags & WW_INTERRUPTIBLE;
-
 	x->newest = NULL;
 #ifndef WW_DEBUG
+	bool heeds = x->flags & WW_INTERRUPTIBLE;
+
 	for (size_t k = 0; k < count; k++) {
 		struct ww_mutex *m = locks[k];
 		int r;
 
 		if (UNLIKELY(pool_at(m) != x->pool))
-			return lock_all_on(x, locks, count, k, 0, held);
+			return lock_all_on(x, locks, count, k, 0);
 		r = ww_lock_(&x->own->handle, m->number, heeds);
 		if (UNLIKELY(r))
-			return lock_all_on(x, locks, count, k, r, held);
+			return lock_all_on(x, locks, count, k, r);
 		own(m, x, NULL);
 	}
 	return 0;
 #else
-	(void)heeds;
-	return lock_all_on(x, locks, count, 0, 0, held);
+	return lock_all_on(x, locks, count, 0, 0);
 #endif
 }

@@ -9,8 +9,18 @@
  *
  * A class has 65,536 mutexes and 1,024 contexts at once, or as many as ww_class_limit
  * said; a mutex that is held without a context (NULL) counts as one of these as
- * long as it is held.
- * ww_mutex(3) says what is promised, and what a program owes.
+ * long as it is held.  Opening a class takes all its memory.
+ *
+ * A context is used by one thread at a time, and a mutex is unlocked by the thread that
+ * acquired it; neither is used in a signal handler.  In a forked child a class that was
+ * open before gives nothing more (-EINVAL), until ww_class_free lets it go there; where a
+ * context that was begun before would have to wait, it has let go all that it held.
+ * Deadlocks are detected among the contexts of one class alone.  Each copy of the shared
+ * library takes 200 bytes of static thread-local storage: a process can load some eight.
+ *
+ * Otherwise than in the kernel nothing is acquired after -EDEADLK while something is
+ * held, also without debugging, and ww_mutex_destroy answers.  The locks below are
+ * proved; what this header adds is tested.
  */
 #ifndef WW_MUTEX_H
 #define WW_MUTEX_H
@@ -122,7 +132,10 @@ int ww_mutex_destroy(struct ww_mutex *lock);
  * for each other for ever, which nobody detects.
  */
 void ww_acquire_init(struct ww_acquire_ctx *ctx, struct ww_class *ww_class);
-/* The context has all its locks: from now on it acquires none. The program ends where it was said before. */
+/*
+ * The context has all its locks; a lock that comes then is told by the debug library
+ * alone.  The program ends where it was said before, or the context has ended.
+ */
 void ww_acquire_done(struct ww_acquire_ctx *ctx);
 /* Ends it. The program ends with a message where it still holds a mutex, or had ended. */
 void ww_acquire_fini(struct ww_acquire_ctx *ctx);
@@ -130,7 +143,7 @@ void ww_acquire_fini(struct ww_acquire_ctx *ctx);
 /*
  * Acquires the mutex, and waits for it.  -EDEADLK: release all that the context
  * holds, then ww_mutex_lock_slow of this mutex; -EALREADY: the context holds it.
- * -EINVAL: the context is done or has ended, it was told -EDEADLK and still holds a
+ * -EINVAL: the context has ended, it was told -EDEADLK and still holds a
  * mutex, it is of another class, or the mutex isn't initialized.
  * The first lock of a context is never refused.
  *
@@ -191,11 +204,25 @@ WW_MUST_CHECK int ww_class_open(struct ww_class *ww_class);
  * class then; one that is amid the end of its last context may be.
  */
 int ww_class_free(struct ww_class *ww_class);
+struct ww_class_stats {
+	uint64_t back_offs, lock_waits, context_waits;
+};
+/*
+ * How many locks of the class were told -EDEADLK since it was opened (back_offs; not what
+ * the debug library made up), and waited for others, be it for a moment (lock_waits), and
+ * how many calls waited for a context (context_waits).  All are 0 where it isn't open.
+ */
+void ww_class_stats(struct ww_class *ww_class, struct ww_class_stats *stats);
+
+/* How many bytes each of the three structures takes in this library, for languages that don't read this header. */
+size_t ww_class_size(void);
+size_t ww_mutex_size(void);
+size_t ww_acquire_size(void);
 
 /*
  * As ww_acquire_init, but waits for a context until this time of the monotonic clock at
- * the longest: -ETIMEDOUT.  One that is free is begun, however late it is.  Else it
- * answers as ww_acquire_init_checked, and as the next call does for a time that is none.
+ * the longest: -ETIMEDOUT.  One that is free is begun, however late it is.  -EINVAL as
+ * ww_mutex_lock_until, and all else as ww_acquire_init_checked.
  */
 WW_MUST_CHECK int ww_acquire_init_until(struct ww_acquire_ctx *ctx, struct ww_class *ww_class, const struct timespec *monotonic);
 /*
@@ -239,15 +266,6 @@ WW_MUST_CHECK int ww_mutex_lock_all(struct ww_acquire_ctx *ctx, struct ww_mutex 
  * ww_mutex_lock_all: for it this call releases nothing.
  */
 void ww_acquire_unlock_all(struct ww_acquire_ctx *ctx);
-/*
- * The same to a mark, which is how many mutexes the context held then: it releases the
- * newest until it holds so many.  So what was acquired before the mark stays, and where
- * some of that was released since, as many of what came later stay too.  A back-off
- * releases all, and the body marks anew.
- */
-WW_MUST_CHECK size_t ww_acquire_mark(const struct ww_acquire_ctx *ctx);
-void ww_acquire_unlock_to(struct ww_acquire_ctx *ctx, size_t mark);
-
 /*
  * The same for mutexes that are found on the way, as drm_exec has it:
  *
@@ -299,18 +317,29 @@ void ww_acquire_unlock_to(struct ww_acquire_ctx *ctx, size_t mark);
 	} while (0)
 /* Whether the last lock call of the context answered -EDEADLK, and it hasn't backed off since. */
 bool ww_is_contended(const struct ww_acquire_ctx *ctx);
+/*
+ * As ww_acquire_unlock_all, but to a mark, which is how many mutexes the context held as
+ * it was taken: it releases the newest until it holds so many.  So what was acquired
+ * before the mark stays, and where some of that was released since, as many of what came
+ * later stay too.  A back-off releases all, and the body marks anew.
+ */
+WW_MUST_CHECK size_t ww_acquire_mark(const struct ww_acquire_ctx *ctx);
+void ww_acquire_unlock_to(struct ww_acquire_ctx *ctx, size_t mark);
 void ww_tries_begin_(struct ww_acquire_ctx *ctx);
 bool ww_tries_more_(struct ww_acquire_ctx *ctx);
 /* Of C++: as ww_mutex_destroy, but behind it the mutex is as WW_MUTEX_INIT makes one of its class. */
 int ww_mutex_end_(struct ww_mutex *lock);
 
 #ifdef WW_DEBUG
+/* ---- the debug library ---- */
+
 /*
  * With -DWW_DEBUG, and -lww_debug in place of -lww: a call that is wrong is told on
  * standard error, with its line and the calls by which the program came there, besides
  * what it answers; and now and then a context that holds a mutex is told -EDEADLK
  * without need, so that the way back is tried.
  */
+
 #include <stdio.h>
 #ifdef __cplusplus
 extern "C" {
@@ -360,6 +389,7 @@ void ww_debug_at_(const char *file, int line);
 int ww_mutex_lock_alone_(struct ww_mutex *lock);
 int ww_mutex_lock_else_(struct ww_mutex *lock, struct ww_acquire_ctx *ctx);
 int ww_mutex_lock_further_(struct ww_mutex *lock, struct ww_acquire_ctx *ctx, int r);
+int ww_mutex_trylock_else_(struct ww_mutex *lock, struct ww_acquire_ctx *ctx);
 void ww_mutex_unlock_else_(struct ww_mutex *lock);
 void ww_mutex_unlock_further_(struct ww_mutex *lock, struct ww_acquire_ctx *ctx, int r);
 bool ww_tries_else_(struct ww_acquire_ctx *ctx);
@@ -370,13 +400,22 @@ enum { WW_IS_TRYING_ = 1, WW_HAS_TO_BACK_OFF_ = 2 }; /* of a context's state */
 #if defined(__GNUC__) && !defined(WW_NO_INLINE) && !defined(WW_DEBUG)
 /* A seat begins with its handle. */
 int32_t ww_first_of_lock_(struct ww_seat *seat, uint32_t lock, bool heeds) __asm__("ww_lock_");
+int32_t ww_only_of_try_(struct ww_seat *seat, uint32_t lock) __asm__("ww_try_");
 int32_t ww_first_of_unlock_(struct ww_seat *seat, uint32_t lock) __asm__("ww_unlock_");
 #define WW_INLINE_ extern __inline __attribute__((__gnu_inline__))
 
 /*
- * What is stored relaxed, here and below, is the holder's alone: the lock orders it from holder to holder.  Another thread
- * may just have given the mutex its number, and then its pool.
+ * What is stored relaxed, here and below, is the holder's alone: the lock orders it from holder to holder.  The pool is
+ * loaded acquiring, since another thread may just have given the mutex its number, and then its pool.
  */
+#define WW_HOLDS_(ctx_, lock) \
+	do { \
+		(lock)->older = (ctx_)->newest; \
+		(ctx_)->newest = (lock); \
+		(ctx_)->acquired++; \
+		__atomic_store_n(&(lock)->ctx, (ctx_), __ATOMIC_RELAXED); \
+	} while (0)
+
 WW_INLINE_ int ww_mutex_lock(struct ww_mutex *lock, struct ww_acquire_ctx *ctx)
 {
 	int r;
@@ -388,11 +427,18 @@ WW_INLINE_ int ww_mutex_lock(struct ww_mutex *lock, struct ww_acquire_ctx *ctx)
 	r = ww_first_of_lock_(ctx->own, lock->number, false);
 	if (__builtin_expect(r != 0, 0))
 		return ww_mutex_lock_further_(lock, ctx, r);
-	lock->older = ctx->newest;
-	ctx->newest = lock;
-	ctx->acquired++;
-	__atomic_store_n(&lock->ctx, ctx, __ATOMIC_RELAXED);
+	WW_HOLDS_(ctx, lock);
 	return 0;
+}
+
+WW_INLINE_ int ww_mutex_trylock(struct ww_mutex *lock, struct ww_acquire_ctx *ctx)
+{
+	if (__builtin_expect(!ctx || __atomic_load_n(&lock->pool, __ATOMIC_ACQUIRE) != ctx->pool, 0))
+		return ww_mutex_trylock_else_(lock, ctx);
+	if (ww_only_of_try_(ctx->own, lock->number))
+		return 0;
+	WW_HOLDS_(ctx, lock);
+	return 1;
 }
 
 /* From the first turn on the mutex is another's, who may destroy it, unless the turn did nothing. */
@@ -430,6 +476,7 @@ WW_INLINE_ bool ww_tries_more_(struct ww_acquire_ctx *ctx)
 	}
 	return ww_tries_else_(ctx);
 }
+#undef WW_HOLDS_
 #undef WW_INLINE_
 #endif
 

@@ -405,6 +405,10 @@ COLD int ww_seek_seat(struct ww_pool *p, const struct timespec *until, ww_seat *
 		p->first = &me;
 	p->last = &me;
 	serve(p);
+	if (!me.seat) {
+		count(&p->sought);
+		PROBE_CONTEXT_WAIT(p->class_);
+	}
 	pthread_mutex_unlock(&p->queue);
 	while (!__atomic_load_n(&me.served, __ATOMIC_ACQUIRE)) {
 		if (until && ww_has_come(until) && leave(p, &me))
@@ -497,6 +501,7 @@ static int make_pool(struct ww_class *c, struct ww_pool **made)
 			world->seats[k].pool = p;
 		p->mutexes = mutexes;
 		p->contexts = contexts;
+		__atomic_store_n(&p->sought, 0, __ATOMIC_RELAXED);
 		set_out(&p->numbers, mutexes, below);
 		set_out(&p->loose, contexts, below + mutexes);
 		r = ww_debug_open(p);
@@ -561,6 +566,10 @@ COLD int ww_number_at_first(struct ww_mutex *m)
 	pthread_mutex_unlock(&opening);
 	return r;
 }
+
+size_t ww_class_size(void) { return sizeof(struct ww_class); }
+size_t ww_mutex_size(void) { return sizeof(struct ww_mutex); }
+size_t ww_acquire_size(void) { return sizeof(struct ww_acquire_ctx); }
 
 void ww_class_init(struct ww_class *c, int is_wait_die, const char *name)
 {
@@ -655,4 +664,21 @@ int ww_place_(const void *object)
 	struct place place = { .at = (uintptr_t)object };
 
 	return dl_iterate_phdr(has_place, &place);
+}
+
+/* A seat that was never given counts nothing. */
+void ww_class_stats(struct ww_class *c, struct ww_class_stats *stats)
+{
+	struct ww_pool *p;
+
+	*stats = (struct ww_class_stats){ 0 };
+	pthread_mutex_lock(&opening);
+	p = c->pool;
+	if (p)
+		stats->context_waits = __atomic_load_n(&p->sought, __ATOMIC_RELAXED);
+	for (uint32_t k = 0; p && k < __atomic_load_n(&p->loose.fresh, __ATOMIC_RELAXED); k++) {
+		stats->lock_waits += __atomic_load_n(&p->world->seats[k].waits, __ATOMIC_RELAXED);
+		stats->back_offs += __atomic_load_n(&p->world->seats[k].back_offs, __ATOMIC_RELAXED);
+	}
+	pthread_mutex_unlock(&opening);
 }

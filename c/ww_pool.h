@@ -7,6 +7,27 @@
 #include <stdio.h>
 #include <stdlib.h>
 
+/*
+ * What perf and bpftrace may be told, where SystemTap's header is here: each is an instruction that does nothing, where
+ * a call waits anyway.
+ */
+#ifdef __has_include
+#if __has_include(<sys/sdt.h>)
+#include <sys/sdt.h>
+#define PROBES(probe) probe
+#ifdef __clang__
+#pragma clang diagnostic ignored "-Wgnu-zero-variadic-macro-arguments" /* of that header */
+#endif
+#endif
+#endif
+#ifndef PROBES
+#define PROBES(probe) ((void)0)
+#endif
+#define PROBE_CONTENTION_BEGIN(lock, ctx) PROBES(DTRACE_PROBE2(ww, contention_begin, lock, ctx))
+#define PROBE_CONTENTION_END(lock, ctx, answer) PROBES(DTRACE_PROBE3(ww, contention_end, lock, ctx, answer))
+#define PROBE_BACK_OFF(lock, ctx) PROBES(DTRACE_PROBE2(ww, back_off, lock, ctx))
+#define PROBE_CONTEXT_WAIT(of_class) PROBES(DTRACE_PROBE1(ww, context_wait, of_class))
+
 struct debug;
 
 /*
@@ -42,6 +63,7 @@ struct ww_pool {
 	uint32_t seekers __attribute__((aligned(64))); /* so many threads wait for a seat; others take none meanwhile */
 	struct ww_seeker *first, *last;                /* of these, in the order in which they came */
 	pthread_mutex_t queue;                         /* for both */
+	uint64_t sought;                               /* how many waited, in all */
 	/* Whoever has it uses the seat behind those of the contexts, and waits for nobody. */
 	pthread_mutex_t spare __attribute__((aligned(64)));
 };
@@ -95,6 +117,12 @@ static inline int pool_of(struct ww_class *c, struct ww_pool **p)
 
 	*p = __atomic_load_n(&c->pool, __ATOMIC_ACQUIRE);
 	return r;
+}
+
+/* One more: by whoever may write it alone, while others read it. */
+static inline void count(uint64_t *counted)
+{
+	__atomic_store_n(counted, __atomic_load_n(counted, __ATOMIC_RELAXED) + 1, __ATOMIC_RELAXED);
 }
 
 static inline int number_of_pool(struct ww_pool *p, uint32_t *number)
@@ -170,7 +198,7 @@ enum {
 	HAS_TO_BACK_OFF = WW_HAS_TO_BACK_OFF_,
 	WAITS_FIRST = 4,
 	TRIES = 7,
-	IS_DONE = 8,
+	IS_DONE = 8, /* which no call but ww_acquire_done itself refuses */
 	WAS_TOLD = 16,
 	WAS_INJECTED = 32,
 	HEEDS_IN_LOOPS = 64,
@@ -180,7 +208,6 @@ enum {
 WW_HIDDEN int ww_debug_open(struct ww_pool *p);
 WW_HIDDEN void ww_debug_free(struct ww_pool *p);
 WW_HIDDEN void ww_debug_begun(struct ww_acquire_ctx *x);
-WW_HIDDEN void ww_debug_done(struct ww_acquire_ctx *x);
 WW_HIDDEN void ww_debug_ended(struct ww_acquire_ctx *x);
 /* The seat waits for the mutex, or for none any more. */
 WW_HIDDEN void ww_debug_waits(struct ww_pool *p, ww_seat *s, const struct ww_mutex *m);
@@ -198,7 +225,6 @@ WW_HIDDEN bool ww_debug_injected(const struct ww_mutex *m, const struct ww_acqui
 static inline int ww_debug_open(struct ww_pool *p) { return (void)p, 0; }
 static inline void ww_debug_free(struct ww_pool *p) { (void)p; }
 static inline void ww_debug_begun(struct ww_acquire_ctx *x) { (void)x; }
-static inline void ww_debug_done(struct ww_acquire_ctx *x) { (void)x; }
 static inline void ww_debug_ended(struct ww_acquire_ctx *x) { (void)x; }
 static inline void ww_debug_waits(struct ww_pool *p, ww_seat *s, const struct ww_mutex *m) { (void)p, (void)s, (void)m; }
 static inline void ww_debug_acquired(const struct ww_mutex *m, const struct ww_acquire_ctx *x, ww_seat *s)

@@ -299,7 +299,7 @@ TABLE = {
     "pool": {
         "ww_mutex.c": "store rel",
         "ww_context.c": "load acq acq",
-        "ww_mutex.h": "load acq",
+        "ww_mutex.h": "load acq acq",
         "ww_pool.h": "load acq acq acq",
         "ww_pool.c": "store rel rel rel",
         "ww_debug.c": "load acq",
@@ -314,11 +314,15 @@ TABLE = {
     # Written before its number is given, read before it is taken: top orders both, and counts its changes.
     "below": {"ww_pool.c": "load rlx rlx, store rlx"},
     # A number that nobody had has no history.
-    "fresh": {"ww_pool.c": "compare_exchange rlx/rlx, load rlx rlx rlx rlx"},
+    "fresh": {"ww_pool.c": "compare_exchange rlx/rlx, load rlx rlx rlx rlx rlx"},
     # The seat that is handed over, and all that goes with it.
     "served": {"ww_pool.c": "load acq, store rel"},
     # Counts, which order nothing; and glances of the debug library.
     "threads": {"ww_pool.c": "fetch_add rlx"},
+    "sought": {"ww_pool.c": "load rlx, store rlx"},
+    "waits": {"ww_pool.c": "load rlx"},
+    "back_offs": {"ww_pool.c": "load rlx"},
+    "counted": {"ww_pool.h": "load rlx, store rlx"},
     "faults": {"ww_debug.c": "fetch_add rlx, load rlx"},
     "stamps": {"ww_debug.c": "add_fetch rlx"},
     "stamp": {"ww_debug.c": "load rlx, store rlx rlx"},

@@ -22,7 +22,14 @@ static void wrong_class(void) { MUST(HERE(ww_mutex_lock(&its, &x)) == -EINVAL); 
 static void after_done(void)
 {
 	ww_acquire_done(&x);
-	MUST(HERE(ww_mutex_lock(&b, &x)) == -EINVAL);
+	ww_mutex_unlock(&b);
+	MUST(!HERE(ww_mutex_lock(&b, &x)) && x.acquired == 2);
+}
+static void tries_after_done(void)
+{
+	ww_acquire_done(&x);
+	ww_mutex_unlock(&b);
+	MUST(HERE(ww_mutex_trylock(&b, &x)) && x.acquired == 2);
 }
 static void done_twice(void)
 {
@@ -261,6 +268,7 @@ int main(int count, char **words)
 	}
 	tells(wrong_class, "ww_mutex_lock: the context is of another class");
 	tells(after_done, "ww_mutex_lock: the context is done");
+	tells(tries_after_done, "ww_mutex_lock: the context is done");
 	tells(done_twice, "ww_acquire_done: the context is done, or has ended");
 	tells(fini_with_a_mutex, "ww_acquire_fini: the context still holds a mutex");
 	tells(another_after_deadlk, "ww_mutex_lock: the context is of another class");

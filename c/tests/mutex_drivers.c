@@ -1,7 +1,7 @@
 /*
  * What code that was written for the kernel's mutexes names of ww_mutex.h besides its
  * calls: `base`, as Linux asserts that a mutex is held; and a mutex that is there before
- * any call, whose number its first lock gives it; who holds one; and locks to a mark.
+ * any call, whose number its first lock gives it; who holds one; marks; counts.
  */
 #include "mutex_test.h"
 #include <stddef.h>
@@ -347,6 +347,106 @@ static void rolls_back_after_a_wait(void)
 		MUST(!ww_mutex_destroy(&list[k]));
 }
 
+/* ---- counts ---- */
+
+static bool are_counted(uint64_t back_offs, uint64_t context_waits)
+{
+	struct ww_class_stats s;
+
+	ww_class_stats(c, &s);
+	return s.back_offs == back_offs && s.context_waits == context_waits;
+}
+
+static uint64_t lock_waits(void)
+{
+	struct ww_class_stats s;
+
+	ww_class_stats(c, &s);
+	return s.lock_waits;
+}
+
+static struct ww_acquire_ctx waiting;
+
+static void *waits_for_it(void *arg)
+{
+	(void)arg;
+	MUST(!ww_mutex_lock(&asked, &waiting));
+	ww_mutex_unlock(&asked);
+	return NULL;
+}
+
+static void *waits_for_a_context(void *arg)
+{
+	struct ww_acquire_ctx x;
+
+	(void)arg;
+	ww_acquire_init(&x, c);
+	ww_acquire_fini(&x);
+	return NULL;
+}
+
+/* Nothing is counted where nobody waits. */
+static void without_contention(void)
+{
+	struct ww_mutex *locks[] = { &list[0], &list[1] };
+	struct ww_acquire_ctx x;
+
+	for (unsigned k = 0; k < 3; k++) {
+		ww_acquire_init(&x, c);
+		MUST(!ww_mutex_lock_all(&x, locks, 2) && !ww_mutex_trylock(&list[0], NULL));
+		MUST(ww_mutex_lock(&list[0], &x) == -EALREADY);
+		ww_mutex_unlock(&list[0]);
+		ww_mutex_unlock(&list[1]);
+		ww_acquire_fini(&x);
+		MUST(!ww_mutex_lock(&list[0], NULL));
+		ww_mutex_unlock(&list[0]);
+	}
+	MUST(are_counted(0, 0) && !lock_waits());
+}
+
+/* One waits, for another that is told to back off; that may take it more than a step, too. */
+static void with_contention(struct ww_acquire_ctx *younger)
+{
+	pthread_t thread;
+
+	MUST(!ww_mutex_lock(&asked, younger) && !ww_mutex_lock(&list[0], &waiting));
+	thread = begin_thread(waits_for_it, NULL);
+	awaits_waiter(&asked);
+	MUST(are_counted(0, 0) && lock_waits() == 1);
+	MUST(ww_mutex_lock(&list[0], younger) == -EDEADLK && are_counted(1, 0));
+	ww_mutex_unlock(&asked);
+	end_thread(thread);
+	ww_mutex_unlock(&list[0]);
+	MUST(are_counted(1, 0) && lock_waits() - 1 <= 1);
+}
+
+static void are_right(void)
+{
+	struct ww_acquire_ctx younger;
+	struct timespec past = in_ms(0);
+	pthread_t thread;
+
+	MUST(are_counted(0, 0) && !lock_waits() && !ww_class_limit(c, 3, 2));
+	ww_mutex_init(&asked, c);
+	ww_mutex_init(&list[0], c);
+	ww_mutex_init(&list[1], c);
+	without_contention();
+	ww_acquire_init(&waiting, c);
+	ww_acquire_init(&younger, c);
+	with_contention(&younger);
+	MUST(ww_acquire_init_until(&younger, c, &past) == -ETIMEDOUT && are_counted(1, 1));
+	thread = begin_thread(waits_for_a_context, NULL);
+	while (are_counted(1, 1))
+		usleep(100);
+	ww_acquire_fini(&younger);
+	end_thread(thread);
+	MUST(are_counted(1, 2));
+	ww_acquire_fini(&waiting);
+	MUST(!ww_mutex_destroy(&asked) && !ww_mutex_destroy(&list[0]) && !ww_mutex_destroy(&list[1]));
+	MUST(!ww_class_free(c) && are_counted(0, 0) && !lock_waits());
+	MUST(!ww_class_open(c) && are_counted(0, 0) && !lock_waits() && !ww_class_free(c));
+}
+
 int main(void)
 {
 	struct ww_class *classes[] = { &wound_wait, &wait_die };
@@ -363,6 +463,7 @@ int main(void)
 		MUST(!ww_class_free(c));
 		held_by_another_first();
 		held_by_a_thread();
+		are_right();
 		no_number_is_left();
 		locked_first_by_several();
 	}

@@ -262,7 +262,9 @@ static void takes_all(void)
 	for (k = 0; k < 8; k++)
 		ww_mutex_unlock(locks[k]);
 	ww_acquire_done(&x);
-	MUST(ww_mutex_lock_all(&x, locks, 8) == -EINVAL && ww_mutex_lock_all(NULL, locks, 8) == -EINVAL);
+	MUST(!ww_mutex_lock_all(&x, locks, 8) && x.acquired == 8 && ww_mutex_lock_all(NULL, locks, 8) == -EINVAL);
+	for (k = 0; k < 8; k++)
+		ww_mutex_unlock(locks[k]);
 	ww_acquire_fini(&x);
 	ww_acquire_fini(&older);
 	MUST(ww_mutex_lock_all(&x, locks, 8) == -EINVAL);
