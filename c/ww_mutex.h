@@ -266,6 +266,15 @@ WW_MUST_CHECK int ww_mutex_lock_all(struct ww_acquire_ctx *ctx, struct ww_mutex 
  * ww_mutex_lock_all: for it this call releases nothing.
  */
 void ww_acquire_unlock_all(struct ww_acquire_ctx *ctx);
+/* g++ forgets in a template that a label's address is an __extension__. */
+#if defined(__cplusplus) && defined(__GNUC__) && !defined(__clang__)
+#define WW_EXTENDS_ _Pragma("GCC diagnostic push") _Pragma("GCC diagnostic ignored \"-Wpedantic\"")
+#define WW_EXTENDED_ _Pragma("GCC diagnostic pop")
+#else
+#define WW_EXTENDS_
+#define WW_EXTENDED_
+#endif
+
 /*
  * The same for mutexes that are found on the way, as drm_exec has it:
  *
@@ -285,9 +294,9 @@ void ww_acquire_unlock_all(struct ww_acquire_ctx *ctx);
  * is instead of that wait.  The body may also release all by itself and go on by
  * ww_mutex_lock_slow.  The context holds nothing when the loop begins.
  *
- * So that mutex has to be there still, though nothing is held.  Where another thread could
- * destroy it then, take a reference to its object before ww_retry_on_contention, where
- * ww_is_contended, and keep it until all is released.
+ * The mutex at which -EDEADLK came has to be there still when the body begins again, though
+ * nothing is held then.  Where another thread could destroy it, take a reference to its object
+ * before ww_retry_on_contention, if ww_is_contended, and keep it until all is released.
  *
  * The jump runs no destructor of C++ and no __attribute__((cleanup)) of what was made in the
  * body.  In the body's own block, not in a loop of its own, this does the same and runs them:
@@ -297,14 +306,6 @@ void ww_acquire_unlock_all(struct ww_acquire_ctx *ctx);
  */
 #define WW_PASTE__(a, b) a##b
 #define WW_PASTE_(a, b) WW_PASTE__(a, b)
-/* g++ forgets in a template that a label's address is an __extension__. */
-#if defined(__cplusplus) && defined(__GNUC__) && !defined(__clang__)
-#define WW_EXTENDS_ _Pragma("GCC diagnostic push") _Pragma("GCC diagnostic ignored \"-Wpedantic\"")
-#define WW_EXTENDED_ _Pragma("GCC diagnostic pop")
-#else
-#define WW_EXTENDS_
-#define WW_EXTENDED_
-#endif
 #define ww_until_all_locked(ctx)                                                                       \
 	WW_EXTENDS_                                                                                    \
 	for (void *ww_again_ = (ww_tries_begin_(ctx), __extension__ && WW_PASTE_(ww_again_at_, __LINE__)); \
