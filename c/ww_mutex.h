@@ -5,7 +5,9 @@
  * that runs it.  Names, signatures and answers are those of the kernel's
  * <linux/ww_mutex.h>, so code that is written for that compiles as it stands; its
  * document ww-mutex-design says what the calls are for.  What the kernel hasn't
- * stands behind it, and is marked so.
+ * stands behind it, and is marked so.  Of a mutex ctx may be read, the context that holds
+ * it (atomically by others), and base has an address, for lockdep_assert_held; of a
+ * context acquired may be read.
  *
  * A class has 65,536 mutexes and 1,024 contexts at once, or as many as ww_class_limit
  * said; a mutex that is held without a context (NULL) counts as one of these as
@@ -57,10 +59,9 @@ struct ww_class {
 	const char *name;
 };
 
-/* What the fields below are for is the library's business, except ctx and acquired, which may be read. */
+/* What the fields below are for is the library's business, but for those that stand above. */
 struct ww_acquire_ctx;
 
-/* For code that names the kernel's lock in a mutex (lockdep_assert_held(&object->lock.base)): its address is all that it is for. */
 struct ww_mutex_base {
 	void *address_;
 };
@@ -68,7 +69,7 @@ struct ww_mutex_base {
 struct ww_mutex {
 	__extension__ union {
 		struct ww_mutex_base base;
-		struct ww_acquire_ctx *ctx; /* the context that holds it; NULL: none does. Others read it atomically */
+		struct ww_acquire_ctx *ctx; /* NULL: no context holds it */
 	};
 	struct ww_pool *pool;		/* NULL: it has no number */
 	struct ww_seat *alone;		/* by which it is held without a context */

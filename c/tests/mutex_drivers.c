@@ -5,6 +5,7 @@
  */
 #include "mutex_test.h"
 #include <stddef.h>
+#include <sys/wait.h>
 
 static DEFINE_WW_CLASS(wound_wait);
 static DEFINE_WD_CLASS(wait_die);
@@ -135,6 +136,54 @@ static void locked_first_by_several(void)
 	MUST(!ww_class_free(c));
 }
 
+int __real_pthread_mutex_lock(pthread_mutex_t *m);
+int __wrap_pthread_mutex_lock(pthread_mutex_t *m);
+static void (*just_then)(void);
+
+int __wrap_pthread_mutex_lock(pthread_mutex_t *m)
+{
+	void (*now)(void) = just_then;
+
+	if (now) {
+		just_then = NULL;
+		now();
+	}
+	return __real_pthread_mutex_lock(m);
+}
+
+static uint32_t given;
+
+/* So that another mutex lies in the place of its class. */
+static void locks_it_in_a_loop(void)
+{
+	struct ww_acquire_ctx x;
+
+	ww_acquire_init(&x, c);
+	ww_until_all_locked(&x)
+		MUST(!ww_mutex_lock(&shared[0], &x) && !ww_mutex_lock(&shared[1], &x));
+	given = shared[0].number;
+	ww_mutex_unlock(&shared[0]);
+	ww_mutex_unlock(&shared[1]);
+	ww_acquire_fini(&x);
+	MUST(shared[0].newer == &shared[1]);
+}
+
+/* It got its number just after this lock found none. */
+static void locked_first_just_then(void)
+{
+	struct ww_acquire_ctx x;
+
+	ww_acquire_init(&x, c);
+	for (unsigned k = 0; k < 2; k++) {
+		shared[0] = shared[1] = (struct ww_mutex)WW_MUTEX_INIT(c);
+		just_then = locks_it_in_a_loop;
+		MUST(!ww_mutex_lock(&shared[0], k ? &x : NULL) && !just_then && shared[0].number == given);
+		ww_mutex_unlock(&shared[0]);
+		MUST(!ww_mutex_destroy(&shared[0]) && !ww_mutex_destroy(&shared[1]));
+	}
+	ww_acquire_fini(&x);
+}
+
 /* Where all numbers are given a lock says so, and may succeed later. */
 static void no_number_is_left(void)
 {
@@ -146,6 +195,31 @@ static void no_number_is_left(void)
 	ww_acquire_init(&x, c);
 	MUST(ww_mutex_lock(&m, &x) == -ENOSPC && ww_mutex_lock_interruptible(&m, NULL) == -ENOSPC && !x.acquired);
 	MUST(!ww_mutex_destroy(&only) && !ww_mutex_lock(&m, &x));
+	ww_mutex_unlock(&m);
+	ww_acquire_fini(&x);
+	MUST(!ww_mutex_destroy(&m) && !ww_class_free(c));
+}
+
+/* In a child of a fork its class, which was open before, has no number for it, until it is opened anew. */
+static void in_a_child(void)
+{
+	struct ww_mutex m = WW_MUTEX_INIT(c);
+	struct ww_acquire_ctx x;
+	int status;
+	pid_t child;
+
+	MUST(!ww_class_open(c));
+	ww_acquire_init(&x, c);
+	child = fork();
+	MUST(child >= 0);
+	if (!child) {
+		MUST(ww_mutex_lock(&m, &x) == -EINVAL && ww_mutex_lock_interruptible(&m, NULL) == -EINVAL);
+		MUST(!ww_class_free(c) && !ww_mutex_lock(&m, NULL));
+		ww_mutex_unlock(&m);
+		_exit(0);
+	}
+	MUST(waitpid(child, &status, 0) == child && !status);
+	MUST(!ww_mutex_lock(&m, &x));
 	ww_mutex_unlock(&m);
 	ww_acquire_fini(&x);
 	MUST(!ww_mutex_destroy(&m) && !ww_class_free(c));
@@ -457,6 +531,7 @@ int main(void)
 		base_has_an_address();
 		for (unsigned by = 0; by < 9; by++)
 			first_call(by);
+		locked_first_just_then();
 		rolls_back();
 		if (c == &wait_die)
 			rolls_back_after_a_wait();
@@ -465,6 +540,7 @@ int main(void)
 		held_by_a_thread();
 		are_right();
 		no_number_is_left();
+		in_a_child();
 		locked_first_by_several();
 	}
 	puts("mutex_drivers: what the kernel's callers ask for");
