@@ -82,6 +82,14 @@ WW_HIDDEN void ww_futex_wait(uint32_t *word, uint32_t is, const struct timespec 
 WW_HIDDEN void ww_futex_wake(uint32_t *word);
 /* Whether this time of the monotonic clock has come. */
 WW_HIDDEN bool ww_has_come(const struct timespec *until);
+#ifdef WW_DEBUG
+/* This thread is to sleep until a time, or NULL: what is looked at before, and until when it is to sleep at the longest. */
+WW_HIDDEN const struct timespec *ww_debug_sleeps(const struct timespec *until);
+/* Whether its thread sleeps, and nobody has woken it. */
+WW_HIDDEN bool ww_is_parked(const ww_seat *s);
+#else
+static inline const struct timespec *ww_debug_sleeps(const struct timespec *until) { return until; }
+#endif
 
 /*
  * Takes away a cancel that met no wait of the seat's user, by its thread.  The

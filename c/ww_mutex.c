@@ -121,7 +121,7 @@ COLD static int release_further(ww_seat *s, int r)
  * releases it.  An unlock's last access to the mutex comes before the step that releases
  * its lock; so whoever had it is through with it, and what they wrote is seen here.
  */
-static bool is_released(struct ww_pool *p, struct ww_mutex *m)
+bool ww_is_released(struct ww_pool *p, struct ww_mutex *m)
 {
 	ww_seat *s = borrow_spare(p);
 	bool released = ww_try_(&s->handle, m->number) == 0;
@@ -142,7 +142,7 @@ static int end_mutex(struct ww_mutex *m, struct ww_pool *p, struct ww_class *the
 		*m = (struct ww_mutex){ .class_ = then };
 		return 0;
 	}
-	if (__atomic_load_n(&m->waiters, __ATOMIC_SEQ_CST) || ww_mutex_is_locked(m) || !is_released(p, m)) {
+	if (__atomic_load_n(&m->waiters, __ATOMIC_SEQ_CST) || ww_mutex_is_locked(m) || !ww_is_released(p, m)) {
 		ww_debug_fault("ww_mutex_destroy", "somebody holds the mutex, or waits for it");
 		return -EBUSY;
 	}
@@ -254,7 +254,7 @@ COLD static int lock_on(struct ww_mutex *m, struct ww_acquire_ctx *x, ww_seat *s
 	if (waits) {
 		count(&s->waits);
 		PROBE_CONTENTION_BEGIN(m, x);
-		ww_debug_waits(m->pool, s, m);
+		ww_debug_waits(s, m, until);
 		__atomic_fetch_add(&m->waiters, 1, __ATOMIC_SEQ_CST);
 	}
 	for (;;) {
@@ -276,7 +276,7 @@ COLD static int lock_on(struct ww_mutex *m, struct ww_acquire_ctx *x, ww_seat *s
 		r = -ETIMEDOUT;
 	if (waits) {
 		PROBE_CONTENTION_END(m, x, r);
-		ww_debug_waits(m->pool, s, NULL);
+		ww_debug_waits(s, NULL, NULL);
 		__atomic_fetch_sub(&m->waiters, 1, __ATOMIC_SEQ_CST);
 	}
 	return r;
@@ -561,6 +561,7 @@ static inline int lock_alone(struct ww_mutex *m, enum way way, const struct time
 	struct ww_pool *p = pool_at(m);
 	ww_seat *s = ww_mine.seats[0].seat;
 
+	ww_debug_alone(m, until);
 	if (UNLIKELY(!p || !has_at_hand(p)))
 		return lock_by_any(m, NULL, way, until);
 	return LIKELY(use_kept(p, s)) ? lock_by_seat(m, s, way, until) : lock_by_any(m, s, way, until);
@@ -607,27 +608,39 @@ int ww_mutex_lock_until(struct ww_mutex *m, struct ww_acquire_ctx *x, const stru
  * In a loop it is the wait that comes first itself, or isn't due.  After an -EDEADLK that the
  * debug library made up the proved one doesn't know that it is.
  */
-static int lock_slowly(struct ww_mutex *m, struct ww_acquire_ctx *x, enum way way, enum way plain)
+static int lock_slowly(struct ww_mutex *m, struct ww_acquire_ctx *x, enum way way, enum way plain, const struct timespec *until)
 {
 	if (!x || !goes_together(m, x))
 		return -EINVAL;
-	return ww_debug_told(m, x, lock_now(m, x, ww_debug_injected(m, x) ? plain : way, NULL), false);
+	return ww_debug_told(m, x, lock_now(m, x, ww_debug_injected(m, x) ? plain : way, until), false);
 }
 
-int ww_mutex_lock_slow_checked(struct ww_mutex *m, struct ww_acquire_ctx *x) { return lock_slowly(m, x, SLOWLY, STAYS); }
+int ww_mutex_lock_slow_checked(struct ww_mutex *m, struct ww_acquire_ctx *x) { return lock_slowly(m, x, SLOWLY, STAYS, NULL); }
+
+static int lock_slowly_heeding(const char *call, struct ww_mutex *m, struct ww_acquire_ctx *x, const struct timespec *until)
+{
+	int r = lock_slowly(m, x, SLOWLY_HEEDS, HEEDS, until);
+
+	if (r == -EINVAL)
+		ww_debug_fault(call, not_due);
+	return r;
+}
 
 int ww_mutex_lock_slow_interruptible(struct ww_mutex *m, struct ww_acquire_ctx *x)
 {
-	int r = lock_slowly(m, x, SLOWLY_HEEDS, HEEDS);
+	return lock_slowly_heeding("ww_mutex_lock_slow_interruptible", m, x, NULL);
+}
 
-	if (r == -EINVAL)
-		ww_debug_fault("ww_mutex_lock_slow_interruptible", not_due);
-	return r;
+int ww_mutex_lock_slow_until(struct ww_mutex *m, struct ww_acquire_ctx *x, const struct timespec *until)
+{
+	if (UNLIKELY(until->tv_nsec < 0 || until->tv_nsec >= 1000000000))
+		return -EINVAL;
+	return lock_slowly_heeding("ww_mutex_lock_slow_until", m, x, until);
 }
 
 void ww_mutex_lock_slow(struct ww_mutex *m, struct ww_acquire_ctx *x)
 {
-	if (UNLIKELY(lock_slowly(m, x, SLOWLY, STAYS)))
+	if (UNLIKELY(lock_slowly(m, x, SLOWLY, STAYS, NULL)))
 		end_of(class_of(m), "ww_mutex_lock_slow", not_due);
 }
 
@@ -688,6 +701,11 @@ int ww_mutex_trylock(struct ww_mutex *m, struct ww_acquire_ctx *x)
 	own(m, x, NULL);
 	ww_debug_told(m, x, 0, false);
 	return 1;
+}
+
+int ww_mutex_trylock_checked(struct ww_mutex *m, struct ww_acquire_ctx *x)
+{
+	return !m->pool || (x && !goes_together(m, x)) ? faulty("ww_mutex_trylock", m, x) : ww_mutex_trylock(m, x);
 }
 
 /*

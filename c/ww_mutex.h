@@ -59,7 +59,10 @@ struct ww_class {
 	const char *name;
 };
 
-/* What the fields below are for is the library's business, but for those that stand above. */
+/*
+ * What the fields below are for is the library's business, but for those that stand above.  These structs
+ * belong to the binary interface (ww_version): their sizes and places don't change without its first number.
+ */
 struct ww_acquire_ctx;
 
 struct ww_mutex_base {
@@ -130,7 +133,7 @@ int ww_mutex_destroy(struct ww_mutex *lock);
 /*
  * Begins a context.  Where all contexts of the class are in use it waits for one
  * to end, behind those who wait already: threads that hold something by one context and wait for another can wait
- * for each other for ever, which nobody detects.
+ * for each other for ever, which only the debug library tells.
  */
 void ww_acquire_init(struct ww_acquire_ctx *ctx, struct ww_class *ww_class);
 /*
@@ -186,6 +189,7 @@ WW_MUST_CHECK int ww_acquire_init_checked(struct ww_acquire_ctx *ctx, struct ww_
 WW_MUST_CHECK int ww_acquire_done_checked(struct ww_acquire_ctx *ctx);
 WW_MUST_CHECK int ww_acquire_fini_checked(struct ww_acquire_ctx *ctx);
 WW_MUST_CHECK int ww_mutex_lock_slow_checked(struct ww_mutex *lock, struct ww_acquire_ctx *ctx);
+WW_MUST_CHECK int ww_mutex_trylock_checked(struct ww_mutex *lock, struct ww_acquire_ctx *ctx);
 WW_MUST_CHECK int ww_mutex_unlock_checked(struct ww_mutex *lock);
 
 /* A class in memory of the program's own, as DEFINE_WW_CLASS (0) or DEFINE_WD_CLASS (1) makes it. */
@@ -232,11 +236,14 @@ WW_MUST_CHECK int ww_acquire_init_until(struct ww_acquire_ctx *ctx, struct ww_cl
  * acquired, however late it is.  -EINVAL, too: tv_nsec isn't 0 to 999,999,999.
  */
 WW_MUST_CHECK int ww_mutex_lock_until(struct ww_mutex *lock, struct ww_acquire_ctx *ctx, const struct timespec *monotonic);
+/* The same of ww_mutex_lock_slow_interruptible: it ends at a time, too. */
+WW_MUST_CHECK int ww_mutex_lock_slow_until(struct ww_mutex *lock, struct ww_acquire_ctx *ctx, const struct timespec *monotonic);
 /*
  * Calls off the interruptible wait of a context, this one or the next: as a signal
  * does in the kernel.  -EALREADY: that is pending; -EINVAL: the context has ended.
- * It may be called by any thread as long as the context is there, from the end of its
- * ww_acquire_init on.  A cancel that found no wait ends with its context.
+ * Any thread may call it from the end of ww_acquire_init to the beginning of ww_acquire_fini,
+ * which its callers see to, by a lock of theirs for instance: a later one meets whichever
+ * context begins next in this memory.  A cancel that found no wait ends with its context.
  * A wait ends so also where all contexts of the class are in use, and at a time that has come.
  */
 int ww_acquire_cancel(struct ww_acquire_ctx *ctx);
@@ -340,16 +347,38 @@ int ww_mutex_end_(struct ww_mutex *lock);
  * standard error, with its line and the calls by which the program came there, besides
  * what it answers; and now and then a context that holds a mutex is told -EDEADLK
  * without need, so that the way back is tried.
+ *
+ * What is right and dangerous is told there too, once for each line and class: a second
+ * context that a thread begins while it runs one; a lock with NULL by a thread that holds
+ * a mutex of the class; a wait for a context by a thread that has a context or a mutex of
+ * any class; and what is in use, where that keeps ww_class_free from freeing it.  A context
+ * is that of the thread that acquired by it last, or began it.  A wait with a time is no
+ * danger; one that a cancel can end may be.
+ *
+ * A thread that sleeps looks now and then whether it will for ever: because of several
+ * classes, of locks with NULL, or of contexts that are all in use.  Such a deadlock, which
+ * no class detects, is told once, with all of its threads, what each waits for, and where.
  */
 
 #include <stdio.h>
 #ifdef __cplusplus
 extern "C" {
 #endif
-/* Writes who holds what and who waits for whom, at a glance, in the form that tools/picture draws. */
+/*
+ * Writes how much of a class is in use, which contexts run and where they began, who waits
+ * for a context, who holds what and who waits for whom, at a glance, in the form that
+ * tools/picture draws.
+ */
 void ww_class_print(struct ww_class *ww_class, FILE *to);
 /* How many calls were told to be wrong. */
 unsigned long ww_debug_faults(void);
+/* How many dangers and deadlocks were told. */
+unsigned long ww_debug_dangers(void);
+/*
+ * Whoever waits from now on looks for a deadlock after each so many milliseconds, and tells it
+ * at the second look that finds it: 1,000, if nothing else is said; 0: nobody looks.
+ */
+void ww_debug_patience(unsigned int milliseconds);
 void ww_debug_at_(const char *file, int line);
 #ifdef __cplusplus
 }
@@ -364,6 +393,7 @@ void ww_debug_at_(const char *file, int line);
 #define ww_mutex_end_(...) (WW_HERE_, ww_mutex_end_(__VA_ARGS__))
 #define ww_acquire_init(...) (WW_HERE_, ww_acquire_init(__VA_ARGS__))
 #define ww_acquire_init_until(...) (WW_HERE_, ww_acquire_init_until(__VA_ARGS__))
+#define ww_acquire_init_checked(...) (WW_HERE_, ww_acquire_init_checked(__VA_ARGS__))
 #define ww_acquire_done(...) (WW_HERE_, ww_acquire_done(__VA_ARGS__))
 #define ww_acquire_fini(...) (WW_HERE_, ww_acquire_fini(__VA_ARGS__))
 #define ww_mutex_lock(...) (WW_HERE_, ww_mutex_lock(__VA_ARGS__))
@@ -371,9 +401,12 @@ void ww_debug_at_(const char *file, int line);
 #define ww_mutex_lock_slow(...) (WW_HERE_, ww_mutex_lock_slow(__VA_ARGS__))
 #define ww_mutex_lock_slow_interruptible(...) (WW_HERE_, ww_mutex_lock_slow_interruptible(__VA_ARGS__))
 #define ww_mutex_lock_until(...) (WW_HERE_, ww_mutex_lock_until(__VA_ARGS__))
+#define ww_mutex_lock_slow_until(...) (WW_HERE_, ww_mutex_lock_slow_until(__VA_ARGS__))
 #define ww_mutex_lock_all(...) (WW_HERE_, ww_mutex_lock_all(__VA_ARGS__))
 #define ww_mutex_trylock(...) (WW_HERE_, ww_mutex_trylock(__VA_ARGS__))
+#define ww_mutex_trylock_checked(...) (WW_HERE_, ww_mutex_trylock_checked(__VA_ARGS__))
 #define ww_mutex_unlock(...) (WW_HERE_, ww_mutex_unlock(__VA_ARGS__))
+#define ww_class_free(...) (WW_HERE_, ww_class_free(__VA_ARGS__))
 #endif
 #endif
 

@@ -64,6 +64,7 @@ public:
 	constexpr explicit mutex_class(kind k, const char *name = "") noexcept : it_{ nullptr, 0, 0, k == wait_die, name } {}
 	~mutex_class()
 	{
+		WW_NOWHERE_;
 		if (ww_place_(this) != WW_PROGRAM_ && ww_class_free(&it_))
 			left_("ww::kernel::mutex_class: a mutex or a context is left\n", this);
 	}

@@ -99,10 +99,8 @@ void ww_give_number(struct ww_numbers *of, uint32_t number)
 	while (!__atomic_compare_exchange_n(&to->top, &top, changed(top, number + 1), true, __ATOMIC_SEQ_CST, __ATOMIC_RELAXED));
 }
 
-/* Whether all are free, and nobody took or gave one meanwhile: then all that was looked at relaxed is as the tops tell. */
-static bool all_free(const struct ww_numbers *of)
+uint32_t ww_free_numbers(const struct ww_numbers *of)
 {
-	uint64_t before = changes(of);
 	uint32_t count = of->count - __atomic_load_n(&of->fresh, __ATOMIC_RELAXED);
 
 	for (uint32_t k = 0; k < STACKS; k++) {
@@ -111,7 +109,15 @@ static bool all_free(const struct ww_numbers *of)
 		for (; n && count <= of->count; n = __atomic_load_n(&of->below[n - 1], __ATOMIC_RELAXED))
 			count++;
 	}
-	return count == of->count && changes(of) == before;
+	return count < of->count ? count : of->count;
+}
+
+/* Whether all are free, and nobody took or gave one meanwhile: then all that was looked at relaxed is as the tops tell. */
+static bool all_free(const struct ww_numbers *of)
+{
+	uint64_t before = changes(of);
+
+	return ww_free_numbers(of) == of->count && changes(of) == before;
 }
 
 static void set_out(struct ww_numbers *of, uint32_t count, uint32_t *below)
@@ -397,6 +403,7 @@ COLD int ww_seek_seat(struct ww_pool *p, const struct timespec *until, ww_seat *
 
 	if (p->gone)
 		return -EINVAL;
+	ww_debug_seeks(p, until);
 	pthread_mutex_lock(&p->queue);
 	__atomic_fetch_add(&p->seekers, 1, __ATOMIC_SEQ_CST);
 	if (p->first)
@@ -412,12 +419,14 @@ COLD int ww_seek_seat(struct ww_pool *p, const struct timespec *until, ww_seat *
 	pthread_mutex_unlock(&p->queue);
 	while (!__atomic_load_n(&me.served, __ATOMIC_ACQUIRE)) {
 		if (until && ww_has_come(until) && leave(p, &me))
-			return -ETIMEDOUT;
+			break;
 		ww_futex_wait(&me.served, 0, until);
 	}
+	ww_debug_seeks_no_more();
 	*s = me.seat;
-	is_user(me.seat);
-	return 0;
+	if (me.seat)
+		is_user(me.seat);
+	return me.seat ? 0 : -ETIMEDOUT;
 }
 
 /* ---- classes ---- */
@@ -437,6 +446,7 @@ static void in_child(void)
 		set_out(&p->numbers, 0, p->numbers.below);
 		set_out(&p->loose, 0, p->loose.below);
 	}
+	ww_debug_in_child();
 	pthread_mutex_unlock(&opening);
 }
 
@@ -619,12 +629,14 @@ static void free_pool(struct ww_pool *p)
 int ww_class_free(struct ww_class *c)
 {
 	struct ww_pool **at = &pools, *p;
+	char *left = NULL;
 	int r = 0;
 
 	pthread_mutex_lock(&opening);
 	p = c->pool;
 	if (p && !p->gone && (!all_free(&p->numbers) || !is_idle(p))) {
 		r = -EBUSY;
+		left = ww_debug_left(p);
 	} else if (p) {
 		while (*at != p)
 			at = &(*at)->next;
@@ -635,6 +647,7 @@ int ww_class_free(struct ww_class *c)
 			free_pool(p);
 	}
 	pthread_mutex_unlock(&opening);
+	ww_debug_busy(left);
 	return r;
 }
 

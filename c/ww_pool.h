@@ -99,6 +99,8 @@ WW_HIDDEN int ww_number_at_first(struct ww_mutex *m);
 /* A number that is free, if there is one. */
 WW_HIDDEN bool ww_take_number(struct ww_numbers *of, uint32_t *number);
 WW_HIDDEN void ww_give_number(struct ww_numbers *of, uint32_t number);
+/* How many are free, at a glance. */
+WW_HIDDEN uint32_t ww_free_numbers(const struct ww_numbers *of);
 /* Where the seat that this thread had last isn't at hand: any other that it may use now; or NULL. */
 WW_HIDDEN ww_seat *ww_other_seat(struct ww_pool *p);
 /* The keeper of this seat began to use it while they came to be shared. */
@@ -107,6 +109,8 @@ WW_HIDDEN ww_seat *ww_late_seat(struct ww_pool *p, ww_seat *s);
 WW_HIDDEN void ww_give_shared(struct ww_pool *p, ww_seat *s, uint64_t id, bool was_loose);
 /* Waits for a seat behind all who wait already, until a time if that isn't NULL: -ETIMEDOUT; -EINVAL in a child. */
 WW_HIDDEN int ww_seek_seat(struct ww_pool *p, const struct timespec *until, ww_seat **s);
+/* Whether the mutex could be acquired at once; a glance, for all but who knows that nobody uses it. */
+WW_HIDDEN bool ww_is_released(struct ww_pool *p, struct ww_mutex *m);
 
 static inline int pool_of(struct ww_class *c, struct ww_pool **p)
 {
@@ -209,10 +213,20 @@ WW_HIDDEN int ww_debug_open(struct ww_pool *p);
 WW_HIDDEN void ww_debug_free(struct ww_pool *p);
 WW_HIDDEN void ww_debug_begun(struct ww_acquire_ctx *x);
 WW_HIDDEN void ww_debug_ended(struct ww_acquire_ctx *x);
-/* The seat waits for the mutex, or for none any more. */
-WW_HIDDEN void ww_debug_waits(struct ww_pool *p, ww_seat *s, const struct ww_mutex *m);
+/* The seat waits for the mutex, until a time if that isn't NULL; or for none any more. */
+WW_HIDDEN void ww_debug_waits(ww_seat *s, const struct ww_mutex *m, const struct timespec *until);
+/* This thread waits for a seat, likewise; and no more. */
+WW_HIDDEN void ww_debug_seeks(struct ww_pool *p, const struct timespec *until);
+WW_HIDDEN void ww_debug_seeks_no_more(void);
+/* The mutex is asked for without a context. */
+WW_HIDDEN void ww_debug_alone(const struct ww_mutex *m, const struct timespec *until);
 WW_HIDDEN void ww_debug_acquired(const struct ww_mutex *m, const struct ww_acquire_ctx *x, ww_seat *s);
 WW_HIDDEN void ww_debug_released(const struct ww_mutex *m);
+/* What keeps a class from being freed, or NULL if that was told before; and tells it. */
+WW_HIDDEN char *ww_debug_left(const struct ww_pool *p);
+WW_HIDDEN void ww_debug_busy(char *left);
+/* Of a fork. */
+WW_HIDDEN void ww_debug_in_child(void);
 /* Tells what is wrong, where, and by which calls the program came there. */
 WW_HIDDEN void ww_debug_fault(const char *call, const char *why);
 /* Whether a lock call may be made, as far as the proved library doesn't know. */
@@ -226,7 +240,16 @@ static inline int ww_debug_open(struct ww_pool *p) { return (void)p, 0; }
 static inline void ww_debug_free(struct ww_pool *p) { (void)p; }
 static inline void ww_debug_begun(struct ww_acquire_ctx *x) { (void)x; }
 static inline void ww_debug_ended(struct ww_acquire_ctx *x) { (void)x; }
-static inline void ww_debug_waits(struct ww_pool *p, ww_seat *s, const struct ww_mutex *m) { (void)p, (void)s, (void)m; }
+static inline void ww_debug_waits(ww_seat *s, const struct ww_mutex *m, const struct timespec *until)
+{
+	(void)s, (void)m, (void)until;
+}
+static inline void ww_debug_seeks(struct ww_pool *p, const struct timespec *until) { (void)p, (void)until; }
+static inline void ww_debug_seeks_no_more(void) {}
+static inline void ww_debug_alone(const struct ww_mutex *m, const struct timespec *until) { (void)m, (void)until; }
+static inline char *ww_debug_left(const struct ww_pool *p) { return (void)p, (char *)0; }
+static inline void ww_debug_busy(char *left) { (void)left; }
+static inline void ww_debug_in_child(void) {}
 static inline void ww_debug_acquired(const struct ww_mutex *m, const struct ww_acquire_ctx *x, ww_seat *s)
 {
 	(void)m, (void)x, (void)s;

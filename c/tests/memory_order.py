@@ -269,13 +269,14 @@ def arm_model(events, sb, rf, mo, lse):
 
 # ---- the sources ----
 
-SOURCES = ["ww.c", "ww_pool.h", "ww_pool.c", "ww_context.c", "ww_mutex.h", "ww_mutex.c", "ww_inside.h", "ww_debug.c"]
+SOURCES = ["ww.c", "ww_pool.h", "ww_pool.c", "ww_context.c", "ww_mutex.h", "ww_mutex.c", "ww_number.h", "ww_number.c", "ww_inside.h",
+           "ww_debug.h", "ww_debug.c", "ww_debug_waits.c"]
 SHORT = {"RELAXED": "rlx", "ACQUIRE": "acq", "RELEASE": "rel", "ACQ_REL": "ar", "SEQ_CST": "sc"}
 
 # Of each field, in each source: its accesses there, and what orders them. Of a compare-exchange that fails the second order.
 TABLE = {
     # A token that was given is taken away before its thread looks at the state again, which the giver changed before.
-    "token": {"ww.c": "compare_exchange sc/sc, exchange sc, load sc sc, store sc"},
+    "token": {"ww.c": "compare_exchange sc/sc, exchange sc, load sc sc sc, store sc"},
     # Counted after a cancel's step; put in order with the seat's next user by `taken`.
     "cancels": {"ww.c": "fetch_add sc", "ww_inside.h": "load sc"},
     "stale": {"ww.c": "exchange sc sc, load sc", "ww_inside.h": "store sc"},
@@ -302,7 +303,7 @@ TABLE = {
         "ww_mutex.h": "load acq acq",
         "ww_pool.h": "load acq acq acq",
         "ww_pool.c": "store rel rel rel",
-        "ww_debug.c": "load acq",
+        "ww_debug_waits.c": "load acq",
     },
     # Of seats that aren't shared: what their user wrote goes with busy, to its keeper and to whoever shares them.
     "busy": {"ww_pool.h": "load acq, store rel rlx", "ww_pool.c": "load acq acq acq acq, store rlx"},
@@ -314,21 +315,27 @@ TABLE = {
     # Written before its number is given, read before it is taken: top orders both, and counts its changes.
     "below": {"ww_pool.c": "load rlx rlx, store rlx"},
     # A number that nobody had has no history.
-    "fresh": {"ww_pool.c": "compare_exchange rlx/rlx, load rlx rlx rlx rlx rlx"},
+    "fresh": {"ww_pool.c": "compare_exchange rlx/rlx, load rlx rlx rlx rlx rlx", "ww_debug.c": "load rlx"},
     # The seat that is handed over, and all that goes with it.
     "served": {"ww_pool.c": "load acq, store rel"},
-    # Counts, which order nothing; and glances of the debug library.
+    # Counts, which order nothing; and glances of the debug library. What a waiter in its list did before is ordered by its lock.
     "threads": {"ww_pool.c": "fetch_add rlx"},
     "sought": {"ww_pool.c": "load rlx, store rlx"},
     "waits": {"ww_pool.c": "load rlx"},
     "back_offs": {"ww_pool.c": "load rlx"},
     "counted": {"ww_pool.h": "load rlx, store rlx"},
     "faults": {"ww_debug.c": "fetch_add rlx, load rlx"},
+    "dangers": {"ww_debug.c": "fetch_add rlx rlx, load rlx"},
+    "told_of": {"ww_debug.c": "compare_exchange rlx/rlx"},
+    "patience": {"ww_debug_waits.c": "load rlx, store rlx"},
     "stamps": {"ww_debug.c": "add_fetch rlx"},
-    "stamp": {"ww_debug.c": "load rlx, store rlx rlx"},
-    "wants": {"ww_debug.c": "load rlx, store rlx"},
-    "seat": {"ww_debug.c": "load rlx, store rlx rlx"},
-    "thread": {"ww_debug.c": "load rlx, store rlx"},
+    "stamp": {"ww_debug.c": "load rlx rlx rlx, store rlx rlx", "ww_debug_waits.c": "load rlx rlx"},
+    "wants": {"ww_debug.c": "store rlx", "ww_debug_waits.c": "load rlx"},
+    "held": {"ww_debug.c": "load rlx rlx rlx rlx, store rlx rlx rlx"},
+    "file": {"ww_debug.h": "load rlx", "ww_debug.c": "store rlx"},
+    "line": {"ww_debug.h": "load rlx", "ww_debug.c": "store rlx"},
+    "seat": {"ww_debug.c": "load rlx, store rlx rlx", "ww_debug_waits.c": "load rlx"},
+    "thread": {"ww_debug.c": "load rlx rlx, store rlx rlx rlx rlx rlx", "ww_debug_waits.c": "load rlx rlx rlx rlx"},
 }
 
 
