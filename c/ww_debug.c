@@ -1,6 +1,7 @@
 /* ww_debug.c - what libww_debug does beside each call of ww_mutex.h. */
 #define _GNU_SOURCE
 #include "ww_debug.h"
+#ifdef WW_DEBUG /* all sources may be named at once */
 #include <limits.h>
 #include <stdarg.h>
 #include <unistd.h>
@@ -200,12 +201,13 @@ void ww_debug_released(const struct ww_mutex *m)
 {
 	struct holding *h = &m->pool->debug->mutexes[m->number];
 	uint32_t seat = __atomic_load_n(&h->seat, __ATOMIC_RELAXED);
-	struct standing *by = &m->pool->debug->seats[seat - 1];
+	struct standing *by;
 
 	if (__atomic_load_n(&h->thread, __ATOMIC_RELAXED) != &ww_here)
 		fault_in(m->pool, "ww_mutex_unlock", "another thread acquired the mutex");
 	if (!seat)
 		return; /* that one is amid its own unlock */
+	by = &m->pool->debug->seats[seat - 1];
 	__atomic_store_n(&h->thread, NULL, __ATOMIC_RELAXED);
 	__atomic_store_n(&h->seat, 0, __ATOMIC_RELAXED);
 	__atomic_store_n(&by->held, __atomic_load_n(&by->held, __ATOMIC_RELAXED) - 1, __ATOMIC_RELAXED);
@@ -267,3 +269,4 @@ bool ww_debug_injected(const struct ww_mutex *m, const struct ww_acquire_ctx *x)
 {
 	return x->state & WAS_INJECTED && x->contending_lock == m && !x->acquired;
 }
+#endif

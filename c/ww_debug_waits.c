@@ -1,6 +1,7 @@
 /* ww_debug_waits.c - who waits for whom, as libww_debug has it: at a call, and where a wait lasts long. */
 #define _GNU_SOURCE
 #include "ww_debug.h"
+#ifdef WW_DEBUG
 #include <stdlib.h>
 #include <sys/syscall.h>
 #include <unistd.h>
@@ -445,14 +446,12 @@ static void print_seats(const struct view *v, FILE *to)
 	}
 }
 
-void ww_class_print(struct ww_class *c, FILE *to)
+char *ww_debug_seen(const struct ww_pool *p)
 {
-	struct ww_pool *p = __atomic_load_n(&c->pool, __ATOMIC_ACQUIRE);
 	struct view v = { .pool = p };
 	struct text text;
+	bool is_whole;
 
-	if (!p)
-		return;
 	v.seats = calloc(p->contexts, sizeof *v.seats);
 	v.first = calloc(p->mutexes + (size_t)1, sizeof *v.first);
 	if (begin_text(&text) && v.seats && v.first) {
@@ -462,9 +461,9 @@ void ww_class_print(struct ww_class *c, FILE *to)
 		print_locks(&v, text.to);
 		print_seats(&v, text.to);
 	}
-	if (end_text(&text))
-		fputs(text.words, to);
-	free(text.words);
+	is_whole = end_text(&text);
 	free(v.seats);
 	free(v.first);
+	return is_whole ? text.words : NULL;
 }
+#endif

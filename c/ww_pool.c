@@ -696,3 +696,19 @@ void ww_class_stats(struct ww_class *c, struct ww_class_stats *stats)
 	}
 	pthread_mutex_unlock(&opening);
 }
+
+#ifdef WW_DEBUG
+/* Nobody frees the class meanwhile; in a forked child nothing is to be seen of one that was open before. */
+void ww_class_print(struct ww_class *c, FILE *to)
+{
+	char *seen = NULL;
+
+	pthread_mutex_lock(&opening);
+	if (c->pool && !c->pool->gone)
+		seen = ww_debug_seen(c->pool);
+	pthread_mutex_unlock(&opening);
+	if (seen)
+		fputs(seen, to);
+	free(seen);
+}
+#endif

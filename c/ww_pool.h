@@ -229,6 +229,8 @@ WW_HIDDEN void ww_debug_busy(char *left);
 WW_HIDDEN void ww_debug_in_child(void);
 /* Tells what is wrong, where, and by which calls the program came there. */
 WW_HIDDEN void ww_debug_fault(const char *call, const char *why);
+/* What ww_class_print writes of an open class, or NULL; whoever has it frees it. */
+WW_HIDDEN char *ww_debug_seen(const struct ww_pool *p);
 /* Whether a lock call may be made, as far as the proved library doesn't know. */
 WW_HIDDEN bool ww_debug_refuses(const struct ww_acquire_ctx *x);
 /* What a lock call answers in place of this. */

@@ -303,7 +303,6 @@ TABLE = {
         "ww_mutex.h": "load acq acq",
         "ww_pool.h": "load acq acq acq",
         "ww_pool.c": "store rel rel rel",
-        "ww_debug_waits.c": "load acq",
     },
     # Of seats that aren't shared: what their user wrote goes with busy, to its keeper and to whoever shares them.
     "busy": {"ww_pool.h": "load acq, store rel rlx", "ww_pool.c": "load acq acq acq acq, store rlx"},

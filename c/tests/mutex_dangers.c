@@ -565,6 +565,31 @@ static void prints_what_is(void)
 	MUST(!ww_mutex_destroy(&a) && !ww_class_free(&c) && !ww_debug_dangers() && !ww_debug_faults());
 }
 
+static bool is_over;
+
+static void *prints_on(void *arg)
+{
+	while (!__atomic_load_n(&is_over, __ATOMIC_RELAXED))
+		free(printed());
+	return arg;
+}
+
+/* The class is opened and freed meanwhile; it has so many mutexes that there is much to look at. */
+static void prints_beside_its_end(void)
+{
+	pthread_t thread = begin_thread(prints_on, NULL);
+
+	MUST(!ww_class_limit(&c, 20000, 4));
+	for (unsigned k = 0; k < 100; k++) {
+		ww_mutex_init(&a, &c);
+		ww_mutex_lock(&a, NULL);
+		ww_mutex_unlock(&a);
+		MUST(!ww_mutex_destroy(&a) && !ww_class_free(&c));
+	}
+	__atomic_store_n(&is_over, true, __ATOMIC_RELAXED);
+	end_thread(thread);
+}
+
 int main(void)
 {
 	seen = mmap(NULL, sizeof *seen, PROT_READ | PROT_WRITE, MAP_SHARED | MAP_ANONYMOUS, -1, 0);
@@ -578,6 +603,7 @@ int main(void)
 	hear(4, 2, no_deadlock);
 	MUST(!strstr(said, "no class detects this deadlock"));
 	prints_what_is();
+	prints_beside_its_end();
 	puts("mutex_dangers: each danger and each deadlock is told, and no other");
 	return 0;
 }
