@@ -100,6 +100,7 @@ struct ww_acquire_ctx {
 	unsigned int deadlock_inject_interval, deadlock_inject_countdown; /* of the debug library */
 	unsigned long stamp;		/* likewise */
 };
+	void *reserved_[2];		/* not looked at */
 
 /*
  * A class, static or not, opened at its first use:
@@ -209,15 +210,16 @@ WW_MUST_CHECK int ww_class_open(struct ww_class *ww_class);
  * class then; one that is amid the end of its last context may be.
  */
 int ww_class_free(struct ww_class *ww_class);
-struct ww_class_stats {
+struct ww_class_counts {
 	uint64_t back_offs, lock_waits, context_waits;
 };
+	uint64_t reserved_[4]; /* 0 */
 /*
  * How many locks of the class were told -EDEADLK since it was opened (back_offs; not what
  * the debug library made up), and waited for others, be it for a moment (lock_waits), and
  * how many calls waited for a context (context_waits).  All are 0 where it isn't open.
  */
-void ww_class_stats(struct ww_class *ww_class, struct ww_class_stats *stats);
+void ww_class_stats(struct ww_class *ww_class, struct ww_class_counts *counts);
 
 /* How many bytes each of the three structures takes in this library, for languages that don't read this header. */
 size_t ww_class_size(void);
@@ -316,9 +318,10 @@ void ww_acquire_unlock_all(struct ww_acquire_ctx *ctx);
 #define WW_PASTE_(a, b) WW_PASTE__(a, b)
 #define ww_until_all_locked(ctx)                                                                       \
 	WW_EXTENDS_                                                                                    \
-	for (void *ww_again_ = (ww_tries_begin_(ctx), __extension__ && WW_PASTE_(ww_again_at_, __LINE__)); \
+	for (struct ww_acquire_ctx *ww_of_ = (ctx); ww_of_; ww_of_ = NULL)                             \
+	for (void *ww_again_ = (ww_tries_begin_(ww_of_), __extension__ && WW_PASTE_(ww_again_at_, __LINE__)); \
 	     ww_again_; ww_again_ = NULL)                                                              \
-	WW_EXTENDED_ WW_PASTE_(ww_again_at_, __LINE__) : while (ww_tries_more_(ctx))
+	WW_EXTENDED_ WW_PASTE_(ww_again_at_, __LINE__) : while (ww_tries_more_(ww_of_))
 #define ww_retry_on_contention(ctx)                                                                    \
 	do {                                                                                           \
 		if (ww_is_contended(ctx))                                                              \
@@ -453,6 +456,9 @@ int32_t ww_first_of_unlock_(struct ww_seat *seat, uint32_t lock) __asm__("ww_unl
 	} while (0)
 
 WW_INLINE_ int ww_mutex_lock(struct ww_mutex *lock, struct ww_acquire_ctx *ctx)
+/* A macro, since clang warns of NULL in C++ (-Wzero-as-null-pointer-constant) outside of one. */
+#define WW_HOLDS_NO_MORE_(lock) __atomic_store_n(&(lock)->ctx, NULL, __ATOMIC_RELAXED)
+
 {
 	int r;
 
@@ -489,7 +495,7 @@ WW_INLINE_ void ww_mutex_unlock(struct ww_mutex *lock)
 		return;
 	}
 	ctx->acquired--;
-	__atomic_store_n(&lock->ctx, (struct ww_acquire_ctx *)0, __ATOMIC_RELAXED);
+	WW_HOLDS_NO_MORE_(lock);
 	r = ww_first_of_unlock_(ctx->gives, number);
 	if (__builtin_expect(r != 0, 0))
 		ww_mutex_unlock_further_(lock, ctx, r);
@@ -514,6 +520,7 @@ WW_INLINE_ bool ww_tries_more_(struct ww_acquire_ctx *ctx)
 }
 #undef WW_HOLDS_
 #undef WW_INLINE_
+#undef WW_HOLDS_NO_MORE_
 #endif
 
 #ifdef __cplusplus

@@ -681,18 +681,18 @@ int ww_place_(const void *object)
 }
 
 /* A seat that was never given counts nothing. */
-void ww_class_stats(struct ww_class *c, struct ww_class_stats *stats)
+void ww_class_stats(struct ww_class *c, struct ww_class_counts *counts)
 {
 	struct ww_pool *p;
 
-	*stats = (struct ww_class_stats){ 0 };
+	*counts = (struct ww_class_counts){ 0 };
 	pthread_mutex_lock(&opening);
 	p = c->pool;
 	if (p)
-		stats->context_waits = __atomic_load_n(&p->sought, __ATOMIC_RELAXED);
+		counts->context_waits = __atomic_load_n(&p->sought, __ATOMIC_RELAXED);
 	for (uint32_t k = 0; p && k < __atomic_load_n(&p->loose.fresh, __ATOMIC_RELAXED); k++) {
-		stats->lock_waits += __atomic_load_n(&p->world->seats[k].waits, __ATOMIC_RELAXED);
-		stats->back_offs += __atomic_load_n(&p->world->seats[k].back_offs, __ATOMIC_RELAXED);
+		counts->lock_waits += __atomic_load_n(&p->world->seats[k].waits, __ATOMIC_RELAXED);
+		counts->back_offs += __atomic_load_n(&p->world->seats[k].back_offs, __ATOMIC_RELAXED);
 	}
 	pthread_mutex_unlock(&opening);
 }

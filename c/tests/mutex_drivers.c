@@ -427,7 +427,7 @@ static void rolls_back_after_a_wait(void)
 
 static bool are_counted(uint64_t back_offs, uint64_t context_waits)
 {
-	struct ww_class_stats s;
+	struct ww_class_counts s;
 
 	ww_class_stats(c, &s);
 	return s.back_offs == back_offs && s.context_waits == context_waits;
@@ -435,7 +435,7 @@ static bool are_counted(uint64_t back_offs, uint64_t context_waits)
 
 static uint64_t lock_waits(void)
 {
-	struct ww_class_stats s;
+	struct ww_class_counts s;
 
 	ww_class_stats(c, &s);
 	return s.lock_waits;
@@ -493,6 +493,7 @@ static void with_contention(struct ww_acquire_ctx *younger)
 	ww_mutex_unlock(&asked);
 	end_thread(thread);
 	ww_mutex_unlock(&list[0]);
+	memset(&s, 255, sizeof s);
 	MUST(are_counted(1, 0) && lock_waits() - 1 <= 1);
 }
 

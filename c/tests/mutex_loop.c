@@ -227,6 +227,28 @@ static void walks(const struct row *row)
 	ww_acquire_fini(&older);
 }
 
+/* What is told to a loop is evaluated once. */
+static void is_told_once(void)
+{
+	unsigned times = 0, bodies = 0;
+
+	ww_acquire_init(&older, &wait_die);
+	MUST(!ww_mutex_lock(&it, &older));
+	ww_acquire_init(&x, &wait_die);
+	ww_until_all_locked((times++, &x)) {
+		MUST(!ww_mutex_lock(&held, &x));
+		if (!bodies++) {
+			MUST(ww_mutex_lock(&it, &x) == -EDEADLK);
+			ww_mutex_unlock(&it);
+		}
+		ww_retry_on_contention(&x);
+	}
+	MUST(times == 1 && bodies == 2);
+	ww_acquire_unlock_all(&x);
+	ww_acquire_fini(&x);
+	ww_acquire_fini(&older);
+}
+
 int main(void)
 {
 	struct ww_mutex *all[] = { &it, &held, &owed, &unheld, &taken };
@@ -236,6 +258,7 @@ int main(void)
 		ww_mutex_init(all[k], &wait_die);
 	for (unsigned k = 0; k < sizeof rows / sizeof *rows; k++)
 		walks(&rows[k]);
+	is_told_once();
 	for (unsigned k = 0; k < 5; k++)
 		MUST(!ww_mutex_destroy(all[k]));
 	MUST(!ww_class_free(&wait_die));

@@ -2,7 +2,7 @@
 
 #![allow(non_camel_case_types, reason = "the names are those of the header")]
 
-use core::ffi::{c_char, c_int, c_long, c_uint, c_ulong};
+use core::ffi::{c_char, c_int, c_long, c_uint, c_ulong, c_void};
 
 /// The first number of the library's version, which changes with its binary interface.
 pub const INTERFACE: u32 = 3;
@@ -48,6 +48,7 @@ pub struct ww_acquire_ctx {
     pub deadlock_inject_interval: c_uint,
     pub deadlock_inject_countdown: c_uint,
     pub stamp: c_ulong,
+    pub reserved_: [*mut c_void; 2],
 }
 
 /// As 64-bit Linux has it.
@@ -180,7 +181,7 @@ mod tests {
         let (asked, here) = layouts! {
             ww_class: pool mutexes contexts is_wait_die name;
             ww_acquire_ctx: pool own gives acquired cancelled called contending_lock newest linked prelocked flags state
-                deadlock_inject_interval deadlock_inject_countdown stamp;
+                deadlock_inject_interval deadlock_inject_countdown stamp reserved_;
             timespec: tv_sec tv_nsec;
         };
         let source = format!(
