@@ -186,7 +186,7 @@ bool ww_mutex_is_held_by(const struct ww_mutex *m, const struct ww_acquire_ctx *
 	if (x)
 		return __atomic_load_n(&m->ctx, __ATOMIC_RELAXED) == x;
 	s = __atomic_load_n(&m->alone, __ATOMIC_ACQUIRE);
-	return s && __atomic_load_n(&s->user, __ATOMIC_RELAXED) == &ww_mine;
+	return s && __atomic_load_n(&s->user, __ATOMIC_RELAXED) == ww_mine.thread;
 }
 
 size_t ww_acquire_mark(const struct ww_acquire_ctx *x) { return x->acquired; }

@@ -29,7 +29,6 @@ struct ww_link {
 };
 
 struct ww_pool;
-struct ww_mine;
 
 /* It has two cache lines of its own. The first is what ww.h says, which its thread alone uses. */
 struct ww_seat {
@@ -49,7 +48,7 @@ struct ww_seat {
 	bool was_loose;		/* its user took it when they were shared */
 	uint32_t listed;	/* of the locks that are listed the one acquired last */
 	struct ww_pool *pool;	/* the class of ww_mutex.h that has it, if any */
-	const struct ww_mine *user; /* there: the thread that took it last */
+	uint32_t user;		/* there: the number of the thread that took it last */
 	uint64_t waits, back_offs; /* of its users, in all */
 } __attribute__((aligned(64)));
 

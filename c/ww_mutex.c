@@ -472,6 +472,12 @@ static inline bool goes_together(const struct ww_mutex *m, const struct ww_acqui
 	return x->own && pool_at(m) == x->own->pool;
 }
 
+/* In a forked child, once the mutex has another number. */
+COLD static bool goes_anew(struct ww_mutex *m, const struct ww_acquire_ctx *x)
+{
+	return pool_at(m)->gone && !ww_number_at_first(m) && goes_together(m, x);
+}
+
 /* One that WW_MUTEX_INIT made gets its number here, before it is locked first. */
 static int numbered_or_told(const char *call, struct ww_mutex *m)
 {
@@ -488,7 +494,7 @@ COLD static int lock_specially(const char *call, struct ww_mutex *m, struct ww_a
 
 	if (r)
 		return r;
-	if (!goes_together(m, x))
+	if (!goes_together(m, x) && !goes_anew(m, x))
 		return faulty(call, m, x);
 	if (ww_debug_refuses(x))
 		return -EINVAL;
@@ -562,7 +568,13 @@ COLD static int lock_by_any(struct ww_mutex *m, ww_seat *late, enum way way, con
 	if (r)
 		return r;
 	s = late ? ww_late_seat(m->pool, late) : ww_other_seat(m->pool);
-	return s ? lock_by_seat(m, s, way, until) : seek_and_lock(m, way, until);
+	if (s)
+		return lock_by_seat(m, s, way, until);
+	if (UNLIKELY(m->pool->gone)) {
+		r = ww_number_at_first(m);
+		return r ? r : lock_by_any(m, NULL, way, until);
+	}
+	return seek_and_lock(m, way, until);
 }
 
 /* Without a context: by a seat of its own, for which it may have to wait. */
@@ -671,8 +683,11 @@ static int try_alone(struct ww_mutex *m)
 
 	number_or_end(m);
 	p = m->pool;
-	if (ww_mutex_is_locked(m) || !(s = seat_at_once(p)))
+	if (ww_mutex_is_locked(m))
 		return 0;
+	s = seat_at_once(p);
+	if (UNLIKELY(!s))
+		return p->gone && !ww_number_at_first(m) && try_alone(m);
 	if (ww_try_(&s->handle, m->number)) {
 		give_seat(p, s, s->was_loose);
 		return 0;
@@ -687,7 +702,7 @@ COLD static int try_specially(struct ww_mutex *m, struct ww_acquire_ctx *x)
 	int r;
 
 	number_or_end(m);
-	if (!goes_together(m, x))
+	if (!goes_together(m, x) && !goes_anew(m, x))
 		end_of(class_of(m), "ww_mutex_trylock", fault_of(m, x));
 	r = ww_try_(&x->own->handle, m->number);
 	if (r)
@@ -719,7 +734,7 @@ int ww_mutex_trylock_checked(struct ww_mutex *m, struct ww_acquire_ctx *x)
 
 	if (r)
 		return r;
-	return x && !goes_together(m, x) ? faulty("ww_mutex_trylock", m, x) : ww_mutex_trylock(m, x);
+	return x && !goes_together(m, x) && !goes_anew(m, x) ? faulty("ww_mutex_trylock", m, x) : ww_mutex_trylock(m, x);
 }
 
 /*

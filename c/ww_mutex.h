@@ -15,7 +15,8 @@
  *
  * A context is used by one thread at a time, and a mutex is unlocked by the thread that
  * acquired it; neither is used in a signal handler.  In a forked child a class that was
- * open before gives nothing more (-EINVAL), until ww_class_free lets it go there; where a
+ * open before gives nothing more (-EINVAL), until ww_class_free lets it go there, and a mutex
+ * that was held as the program forked, until it is destroyed and initialized; where a
  * context that was begun before would have to wait, it has let go all that it held.
  * Deadlocks are detected among the contexts of one class alone.  Each copy of the shared
  * library takes 200 bytes of static thread-local storage: a process can load some eight.
@@ -99,8 +100,8 @@ struct ww_acquire_ctx {
 	unsigned int flags, state;
 	unsigned int deadlock_inject_interval, deadlock_inject_countdown; /* of the debug library */
 	unsigned long stamp;		/* likewise */
-};
 	void *reserved_[2];		/* not looked at */
+};
 
 /*
  * A class, static or not, opened at its first use:
@@ -212,8 +213,8 @@ WW_MUST_CHECK int ww_class_open(struct ww_class *ww_class);
 int ww_class_free(struct ww_class *ww_class);
 struct ww_class_counts {
 	uint64_t back_offs, lock_waits, context_waits;
-};
 	uint64_t reserved_[4]; /* 0 */
+};
 /*
  * How many locks of the class were told -EDEADLK since it was opened (back_offs; not what
  * the debug library made up), and waited for others, be it for a moment (lock_waits), and
@@ -317,8 +318,8 @@ void ww_acquire_unlock_all(struct ww_acquire_ctx *ctx);
 #define WW_PASTE__(a, b) a##b
 #define WW_PASTE_(a, b) WW_PASTE__(a, b)
 #define ww_until_all_locked(ctx)                                                                       \
-	WW_EXTENDS_                                                                                    \
 	for (struct ww_acquire_ctx *ww_of_ = (ctx); ww_of_; ww_of_ = NULL)                             \
+	WW_EXTENDS_                                                                                    \
 	for (void *ww_again_ = (ww_tries_begin_(ww_of_), __extension__ && WW_PASTE_(ww_again_at_, __LINE__)); \
 	     ww_again_; ww_again_ = NULL)                                                              \
 	WW_EXTENDED_ WW_PASTE_(ww_again_at_, __LINE__) : while (ww_tries_more_(ww_of_))
@@ -455,10 +456,10 @@ int32_t ww_first_of_unlock_(struct ww_seat *seat, uint32_t lock) __asm__("ww_unl
 		__atomic_store_n(&(lock)->ctx, (ctx_), __ATOMIC_RELAXED); \
 	} while (0)
 
-WW_INLINE_ int ww_mutex_lock(struct ww_mutex *lock, struct ww_acquire_ctx *ctx)
 /* A macro, since clang warns of NULL in C++ (-Wzero-as-null-pointer-constant) outside of one. */
 #define WW_HOLDS_NO_MORE_(lock) __atomic_store_n(&(lock)->ctx, NULL, __ATOMIC_RELAXED)
 
+WW_INLINE_ int ww_mutex_lock(struct ww_mutex *lock, struct ww_acquire_ctx *ctx)
 {
 	int r;
 
@@ -519,8 +520,8 @@ WW_INLINE_ bool ww_tries_more_(struct ww_acquire_ctx *ctx)
 	return ww_tries_else_(ctx);
 }
 #undef WW_HOLDS_
-#undef WW_INLINE_
 #undef WW_HOLDS_NO_MORE_
+#undef WW_INLINE_
 #endif
 
 #ifdef __cplusplus

@@ -82,7 +82,8 @@ public:
 
 // A member of the object that it guards. It stays where it is, and nobody holds it or waits for it at its end. Its own
 // calls are those without a context, so std::lock_guard and std::unique_lock take it. It gets its number at its first lock,
-// so a static one is there before anything runs; and it may be locked behind its end, beside that of the program.
+// so a static one is there before anything runs; and it may be locked behind its end, beside that of the program. Its class
+// stays as long: the end of a class tells of no mutex that was never locked, whose first lock would open what isn't there.
 class WW_SAFETY_(capability("mutex")) mutex {
 	struct ww_mutex it_;
 

@@ -25,8 +25,10 @@ static uint32_t my_stack(void)
 {
 	static uint32_t threads;
 
-	if (UNLIKELY(!ww_mine.stack))
-		ww_mine.stack = 1 + __atomic_fetch_add(&threads, 1, __ATOMIC_RELAXED) % STACKS;
+	if (UNLIKELY(!ww_mine.stack)) {
+		ww_mine.thread = 1 + __atomic_fetch_add(&threads, 1, __ATOMIC_RELAXED);
+		ww_mine.stack = 1 + ww_mine.thread % STACKS;
+	}
 	return ww_mine.stack - 1;
 }
 
@@ -146,8 +148,8 @@ static void fence_others(void) { syscall(SYS_membarrier, MEMBARRIER_CMD_PRIVATE_
 /* At a glance: whoever goes on by it waits until all are. */
 static bool is_shared(const struct ww_pool *p) { return __atomic_load_n(&p->own_id, __ATOMIC_RELAXED) >= SHARING; }
 
-/* This thread took the seat. Nobody looks at it but by a mutex that is held with the seat, later. */
-static inline void is_user(ww_seat *s) { __atomic_store_n(&s->user, &ww_mine, __ATOMIC_RELAXED); }
+/* This thread took the seat by its number. Nobody looks at it but by a mutex that is held with the seat, later. */
+static inline void is_user(ww_seat *s) { __atomic_store_n(&s->user, ww_mine.thread, __ATOMIC_RELAXED); }
 
 static inline uint32_t number_of(const struct ww_pool *p, const ww_seat *s) { return (uint32_t)(s - p->world->seats); }
 
@@ -553,10 +555,9 @@ COLD int ww_class_open(struct ww_class *c)
 	return r;
 }
 
-/* Opening is locked, and the mutex has no number. */
-static int number_now(struct ww_mutex *m)
+/* Opening is locked, and the mutex has no number that is of any use. */
+static int number_now(struct ww_mutex *m, struct ww_class *c)
 {
-	struct ww_class *c = m->class_;
 	int r = c ? open_now(c) : -EINVAL;
 
 	if (!r)
@@ -566,14 +567,27 @@ static int number_now(struct ww_mutex *m)
 	return r;
 }
 
+/* In a forked child, once ww_class_free has let the class go there; whoever waited for it isn't there. Opening is locked. */
+static int number_anew(struct ww_mutex *m, const struct ww_pool *p)
+{
+	if (open_pool(p->id) || ww_mutex_is_locked(m))
+		return -EINVAL;
+	__atomic_store_n(&m->waiters, 0, __ATOMIC_RELAXED);
+	return number_now(m, p->class_);
+}
+
 /* Others may lock it first as well: one of them gives it its number, and whatever lay in the place of its class is theirs then. */
 COLD int ww_number_at_first(struct ww_mutex *m)
 {
+	struct ww_pool *p;
 	int r = 0;
 
 	pthread_mutex_lock(&opening);
-	if (!pool_at(m))
-		r = number_now(m);
+	p = pool_at(m);
+	if (!p)
+		r = number_now(m, m->class_);
+	else if (p->gone)
+		r = number_anew(m, p);
 	pthread_mutex_unlock(&opening);
 	return r;
 }

@@ -88,13 +88,17 @@ struct ww_mine {
 	struct ww_kept {
 		uint64_t id;
 		ww_seat *seat;
-	} seats[KEPT];  /* the last one first */
-	uint32_t stack; /* its number plus one, once it has one */
-	bool told;      /* that the thread ends */
+	} seats[KEPT];   /* the last one first */
+	uint32_t thread; /* a number that no thread before had, of 2^32; 0 until it takes a number or a seat */
+	uint8_t stack;   /* the number of its own one plus one, from then on */
+	bool told;       /* that the thread ends */
 };
 WW_HIDDEN extern __thread struct ww_mine ww_mine __attribute__((tls_model("initial-exec")));
 
-/* A number for a mutex that WW_MUTEX_INIT made, unless it has one: 0, or as ww_mutex_init_checked. */
+/*
+ * A number for a mutex that WW_MUTEX_INIT made, unless it has one, or in a forked child for one whose class was let go there:
+ * 0, or as ww_mutex_init_checked.
+ */
 WW_HIDDEN int ww_number_at_first(struct ww_mutex *m);
 /* A number that is free, if there is one. */
 WW_HIDDEN bool ww_take_number(struct ww_numbers *of, uint32_t *number);
@@ -225,12 +229,12 @@ WW_HIDDEN void ww_debug_released(const struct ww_mutex *m);
 /* What keeps a class from being freed, or NULL if that was told before; and tells it. */
 WW_HIDDEN char *ww_debug_left(const struct ww_pool *p);
 WW_HIDDEN void ww_debug_busy(char *left);
+/* What ww_class_print writes of an open class, or NULL; whoever has it frees it. */
+WW_HIDDEN char *ww_debug_seen(const struct ww_pool *p);
 /* Of a fork. */
 WW_HIDDEN void ww_debug_in_child(void);
 /* Tells what is wrong, where, and by which calls the program came there. */
 WW_HIDDEN void ww_debug_fault(const char *call, const char *why);
-/* What ww_class_print writes of an open class, or NULL; whoever has it frees it. */
-WW_HIDDEN char *ww_debug_seen(const struct ww_pool *p);
 /* Whether a lock call may be made, as far as the proved library doesn't know. */
 WW_HIDDEN bool ww_debug_refuses(const struct ww_acquire_ctx *x);
 /* What a lock call answers in place of this. */

@@ -295,7 +295,8 @@ TABLE = {
     "alone": {"ww_context.c": "load acq", "ww_mutex.c": "load rlx, store rel rlx"},
     "user": {"ww_context.c": "load rlx", "ww_pool.c": "store rlx"},
     # A waiter says first that it holds the mutex, and then that it waits no more; who destroys looks the other way round.
-    "waiters": {"ww_mutex.c": "fetch_add sc sc, fetch_sub sc sc, load sc"},
+    # In a forked child those that waited aren't there; its number goes with `pool`.
+    "waiters": {"ww_mutex.c": "fetch_add sc sc, fetch_sub sc sc, load sc", "ww_pool.c": "store rlx"},
     # All of an open class; and of a mutex the number, which its first lock may just have given it.
     "pool": {
         "ww_mutex.c": "store rel",

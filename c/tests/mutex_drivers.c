@@ -202,29 +202,69 @@ static void no_number_is_left(void)
 	MUST(!ww_mutex_destroy(&m) && !ww_class_free(c));
 }
 
-/* In a child of a fork its class, which was open before, has no number for it, until it is opened anew. */
+/* By each way to lock it first, and it may be destroyed then. */
+static void locked_anew(struct ww_mutex m[4])
+{
+	struct timespec past = in_ms(0);
+	struct ww_acquire_ctx x;
+
+	ww_acquire_init(&x, c);
+	MUST(!ww_mutex_lock(&m[0], &x) && ww_mutex_trylock(&m[1], &x) == 1 && !ww_mutex_lock_until(&m[2], &x, &past));
+	for (unsigned k = 0; k < 3; k++) {
+		MUST(ww_mutex_is_held_by(&m[k], &x));
+		ww_mutex_unlock(&m[k]);
+	}
+	ww_acquire_fini(&x);
+	MUST(ww_mutex_trylock(&m[3], NULL) == 1 && ww_mutex_is_held_by(&m[3], NULL));
+	ww_mutex_unlock(&m[3]);
+	for (unsigned k = 0; k < 4; k++)
+		MUST(!ww_mutex_destroy(&m[k]));
+}
+
+/* It is of a class that was open before the fork; the last one is held. */
+static void child_of(struct ww_mutex m[7], struct ww_acquire_ctx *x)
+{
+	MUST(ww_mutex_lock(&m[5], x) == -EINVAL && ww_mutex_lock_interruptible(&m[5], NULL) == -EINVAL);
+	MUST(ww_mutex_lock_interruptible(&m[0], NULL) == -EINVAL && !ww_mutex_trylock(&m[0], NULL));
+	MUST(!ww_class_free(c) && !ww_mutex_lock(&m[5], NULL) && !ww_mutex_lock(&m[4], NULL));
+	ww_mutex_unlock(&m[5]);
+	ww_mutex_unlock(&m[4]);
+	locked_anew(m);
+	MUST(ww_mutex_lock_interruptible(&m[6], NULL) == -EINVAL && !ww_mutex_destroy(&m[6]));
+	ww_mutex_init(&m[6], c);
+	MUST(!ww_mutex_lock(&m[6], NULL));
+	ww_mutex_unlock(&m[6]);
+	MUST(!ww_mutex_destroy(&m[4]) && !ww_mutex_destroy(&m[5]) && !ww_mutex_destroy(&m[6]) && !ww_class_free(c));
+	_exit(0);
+}
+
+/* A class that was open before has nothing for the child of a fork, until it is opened anew; then all but what is held gets numbers. */
 static void in_a_child(void)
 {
-	struct ww_mutex m = WW_MUTEX_INIT(c);
+	struct ww_mutex of_class = WW_MUTEX_INIT(c), m[7] = { of_class, of_class, of_class, of_class, of_class, of_class, of_class };
 	struct ww_acquire_ctx x;
 	int status;
 	pid_t child;
 
-	MUST(!ww_class_open(c));
+	MUST(!ww_class_limit(c, 7, 4));
+	for (unsigned k = 0; k < 5; k++) {
+		MUST(!ww_mutex_lock(&m[k], NULL));
+		ww_mutex_unlock(&m[k]);
+	}
+	MUST(!ww_mutex_lock(&m[6], NULL));
 	ww_acquire_init(&x, c);
 	child = fork();
 	MUST(child >= 0);
-	if (!child) {
-		MUST(ww_mutex_lock(&m, &x) == -EINVAL && ww_mutex_lock_interruptible(&m, NULL) == -EINVAL);
-		MUST(!ww_class_free(c) && !ww_mutex_lock(&m, NULL));
-		ww_mutex_unlock(&m);
-		_exit(0);
-	}
+	if (!child)
+		child_of(m, &x);
 	MUST(waitpid(child, &status, 0) == child && !status);
-	MUST(!ww_mutex_lock(&m, &x));
-	ww_mutex_unlock(&m);
+	MUST(!ww_mutex_lock(&m[5], &x));
+	ww_mutex_unlock(&m[5]);
+	ww_mutex_unlock(&m[6]);
 	ww_acquire_fini(&x);
-	MUST(!ww_mutex_destroy(&m) && !ww_class_free(c));
+	for (unsigned k = 0; k < 7; k++)
+		MUST(!ww_mutex_destroy(&m[k]));
+	MUST(!ww_class_free(c));
 }
 
 static void there_before_any_call(struct ww_mutex *m)
@@ -302,6 +342,30 @@ static void held_by_a_thread(void)
 		MUST(!ww_mutex_is_held_by(&asked, &x));
 		ww_acquire_fini(&x);
 	}
+	MUST(!ww_mutex_destroy(&asked) && !ww_class_free(c));
+}
+
+static void *leaves_it_held(void *arg)
+{
+	(void)arg;
+	MUST(!ww_mutex_lock(&asked, NULL));
+	return NULL;
+}
+
+/* Though it may have the memory of the one that is over. */
+static void *holds_nothing(void *arg)
+{
+	(void)arg;
+	MUST(!ww_mutex_is_held_by(&asked, NULL));
+	return NULL;
+}
+
+static void held_by_a_thread_that_is_over(void)
+{
+	ww_mutex_init(&asked, c);
+	end_thread(begin_thread(leaves_it_held, NULL));
+	end_thread(begin_thread(holds_nothing, NULL));
+	ww_mutex_unlock(&asked);
 	MUST(!ww_mutex_destroy(&asked) && !ww_class_free(c));
 }
 
@@ -429,7 +493,10 @@ static bool are_counted(uint64_t back_offs, uint64_t context_waits)
 {
 	struct ww_class_counts s;
 
+	memset(&s, 255, sizeof s);
 	ww_class_stats(c, &s);
+	for (unsigned k = 0; k < 4; k++)
+		MUST(!s.reserved_[k]);
 	return s.back_offs == back_offs && s.context_waits == context_waits;
 }
 
@@ -493,7 +560,6 @@ static void with_contention(struct ww_acquire_ctx *younger)
 	ww_mutex_unlock(&asked);
 	end_thread(thread);
 	ww_mutex_unlock(&list[0]);
-	memset(&s, 255, sizeof s);
 	MUST(are_counted(1, 0) && lock_waits() - 1 <= 1);
 }
 
@@ -541,6 +607,7 @@ int main(void)
 		MUST(!ww_class_free(c));
 		held_by_another_first();
 		held_by_a_thread();
+		held_by_a_thread_that_is_over();
 		are_right();
 		no_number_is_left();
 		in_a_child();
