@@ -1,5 +1,5 @@
 -- The account of wakes: each step marks whom it comes to owe a wake.
-use Rattle.std.proofs.Common.{◌≡◌, ◌≢◌, ℕ, ◌+◌, ◌<◌, ◌≤◌, Bool, true, false, true≢false, cond, not, eqb, List, [], ◌∷◌, ◌==◌, Option, Some, None, inl, inr, ⊎_elim, ◌⊎◌, refl, sym, ap, ◌∙◌, subst, arith}
+use Rattle.std.proofs.Common.{◌≡◌, ◌≢◌, ℕ, ◌+◌, Bool, true, false, true≢false, cond, not, eqb, List, [], ◌∷◌, ◌==◌, Option, Some, None, inl, inr, ⊎_elim, ◌⊎◌, refl, sym, ap, ◌∙◌, subst, arith}
 use Rattle.std.proofs.lemmas.Bool.{cases_lt}
 use Rattle.ww_queue.specs.Queue.{Has}
 use Rattle.ww_plain.proofs.Members.{true_or_false, same_from_eqb, eqb_same}
@@ -24,7 +24,7 @@ use Rattle.ww_desk.specs.declared.turn.Turn.TheVariants.{Wants, Looks}
 use Rattle.ww_desk.specs.declared.station.Station.{Station}
 use Rattle.ww_desk.specs.Stations.{table_of, situation_of, IsAt, Keeps}
 use Rattle.ww_desk.proofs.Keeping.{kept}
-use Rattle.ww_desk.specs.declared.turn.Answer.TheVariants.{Done, Again, Awaits, Stays, Sleeps, Busy, Invalid, Already, NoSpace, Deadlk, Interrupted}
+use Rattle.ww_desk.specs.declared.turn.Answer.TheVariants.{Done, Again, Awaits, Stays, Sleeps, Deadlk, Interrupted}
 use Rattle.ww_desk.specs.Situations.{Situation}
 use Rattle.ww_desk.specs.Answers.{Balances, BooksWakes, HasTurned, IsGiveAnswer, IsStayAnswer, IsWaitAnswer, WakesAlso, WakesCondemned, WakesHeir, wakes_owed}
 
