@@ -10,7 +10,7 @@
 #include <string_view>
 #include <vector>
 #include <ww.hpp>
-#include <ww_mutex.h>
+#include <ww_number.h>
 #if __has_include(<peer.h>)
 #include <peer.h>
 #define HAS_PEER
@@ -197,6 +197,22 @@ void plain_tried(unsigned k, unsigned times)
 		[k](ww_acquire_ctx *) { unlock_newest_first(k); });
 }
 
+// The same mutexes, by their numbers.
+void numbered(unsigned k, unsigned times)
+{
+	open_class();
+	by_mutex(
+		times,
+		[k](ww_acquire_ctx *x) {
+			for (unsigned n = 0; n < k; n++)
+				must(!ww_number_lock(mutexes[n].number, x));
+		},
+		[k](ww_acquire_ctx *x) {
+			for (unsigned n = k; n--;)
+				ww_number_unlock(mutexes[n].number, x);
+		});
+}
+
 // A function that takes the address of a label isn't compiled into another, so the whole context is here.
 void by_loop(unsigned k, unsigned times, bool at_once)
 {
@@ -323,6 +339,7 @@ constexpr way ways[]{
 	{ "plain_done", plain_done },
 	{ "plain_shared", plain_shared },
 	{ "plain_try", plain_tried },
+	{ "numbered", numbered },
 	{ "loop", loop },
 	{ "loop_each", loop_one_by_one },
 	{ "lock_all", lock_all },

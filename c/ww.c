@@ -55,7 +55,7 @@ static inline void pause_for(unsigned count)
 
 void ww_futex_wait(uint32_t *word, uint32_t is, const struct timespec *until)
 {
-	syscall(SYS_futex, word, FUTEX_WAIT_BITSET_PRIVATE, is, until, NULL, FUTEX_BITSET_MATCH_ANY);
+	syscall(SYS_futex, word, FUTEX_WAIT_BITSET_PRIVATE, is, ww_debug_sleeps(until), NULL, FUTEX_BITSET_MATCH_ANY);
 }
 
 void ww_futex_wake(uint32_t *word) { syscall(SYS_futex, word, FUTEX_WAKE_PRIVATE, 1, NULL, NULL, 0); }
@@ -146,6 +146,10 @@ void ww_unpark(ww_seat *s)
 	if (__atomic_exchange_n(&s->token, TOKEN, __ATOMIC_SEQ_CST) == ASLEEP)
 		ww_futex_wake(&s->token);
 }
+
+#ifdef WW_DEBUG
+bool ww_is_parked(const ww_seat *s) { return __atomic_load_n(&s->token, __ATOMIC_SEQ_CST) == ASLEEP; }
+#endif
 
 static void wake(ww_seat *s)
 {

@@ -7,8 +7,12 @@
  * releases all that it holds, and tries again.  The calls are those of the
  * kernel's ww_mutex.h, and answer 0 or a negative errno.
  *
- * A seat is used by one thread at a time.  c/README.md says what is promised,
- * and what the caller owes.
+ * Without a context a seat holds one lock at most.  A seat is used by one thread at a
+ * time; a world, its seats and its locks neither in a signal handler nor in a forked
+ * child.  The calls that seldom wait are compiled into their callers, unless WW_NO_INLINE
+ * is defined before.  A function whose name ends with _ is a single step, for callers
+ * with a scheduler of their own.  c/README.md says what is promised, and what the caller
+ * owes.
  */
 #ifndef WW_H
 #define WW_H
@@ -179,14 +183,10 @@ typedef struct {
 void ww_keep_(ww_seat *seat, uint32_t lock);
 #define WW_KEEP_(seat, front, lock) \
 	do { \
-		size_t top_ = (front)->top; \
-\
-		if (__builtin_expect(top_ < WW_KEPT_, 1)) { \
-			(front)->last[top_ + 1] = (lock); \
-			(front)->top = (uint32_t)top_ + 1; \
-		} else { \
+		if (__builtin_expect((front)->top < WW_KEPT_, 1)) \
+			(front)->last[++(front)->top] = (lock); \
+		else \
 			ww_keep_(seat, lock); \
-		} \
 	} while (0)
 /* Releases a lock; and the same, where the lock acquired last was to be released and the first turn answered r. */
 int ww_unlock_other_(ww_seat *seat, uint32_t lock);

@@ -1,101 +1,196 @@
 /* ww_debug.c - what libww_debug does beside each call of ww_mutex.h. */
 #define _GNU_SOURCE
-#include "ww_pool.h"
-#include <execinfo.h>
+#include "ww_debug.h"
 #include <limits.h>
-#include <stdlib.h>
+#include <stdarg.h>
 #include <unistd.h>
+/* Not each C library has it. */
+#ifdef __has_include
+#if __has_include(<execinfo.h>)
+#include <execinfo.h>
+#define HAS_BACKTRACE
+#endif
+#endif
 
-/*
- * What others look at meanwhile is stored and read relaxed: nothing is ordered by it, and ww_class_print tells
- * what was so at a glance.
- */
-
-/* Of a mutex, by its number: the seat that holds it, plus one, and the thread that acquired it. */
-struct holding {
-	uint32_t seat;
-	const void *thread;
-};
-
-/* Of a seat: its context's place in the order in which they began, and the number that it waits for, plus one. */
-struct standing {
-	unsigned long stamp;
-	uint32_t wants;
-};
-
-struct debug {
-	unsigned long stamps;
-	struct standing *seats;
-	struct holding mutexes[];
-};
-
-static unsigned long faults;
-static __thread const char *at_file; /* its address is that of the thread */
-static __thread int at_line;
+static unsigned long faults, dangers;
+__thread struct place ww_here;
 static __thread const struct ww_mutex *acquired; /* by the lock call of a context that is on its way */
 
-void ww_debug_at_(const char *file, int line)
-{
-	at_file = file;
-	at_line = line;
-}
+/* ---- what is told ---- */
+
+void ww_debug_at_(const char *file, int line) { ww_here = (struct place){ file, line }; }
 
 unsigned long ww_debug_faults(void) { return __atomic_load_n(&faults, __ATOMIC_RELAXED); }
 
-void ww_debug_fault(const char *call, const char *why)
+unsigned long ww_debug_dangers(void) { return __atomic_load_n(&dangers, __ATOMIC_RELAXED); }
+
+/* Of a class, if that isn't NULL. Nothing is locked then but standard error. */
+__attribute__((format(printf, 3, 4))) static void tell(const struct ww_pool *p, const char *call, const char *format, ...)
 {
+	va_list words;
+
+	flockfile(stderr);
+	if (ww_here.file)
+		fprintf(stderr, "%s:%d: ", ww_here.file, ww_here.line);
+	fprintf(stderr, "%s: ", call);
+	if (p)
+		fprintf(stderr, "class \"%s\": ", name_of(p));
+	va_start(words, format);
+	vfprintf(stderr, format, words);
+	va_end(words);
+	fflush(stderr);
+#ifdef HAS_BACKTRACE
 	enum { DEPTH = 32 };
 	void *calls[DEPTH];
 
-	__atomic_fetch_add(&faults, 1, __ATOMIC_RELAXED);
-	if (at_file)
-		fprintf(stderr, "%s:%d: ", at_file, at_line);
-	fprintf(stderr, "%s: %s\n", call, why);
-	fflush(stderr);
 	backtrace_symbols_fd(calls, backtrace(calls, DEPTH), STDERR_FILENO);
+#endif
+	funlockfile(stderr);
 }
 
-int ww_debug_open(struct ww_pool *p)
+static void fault_in(const struct ww_pool *p, const char *call, const char *why)
 {
-	size_t size = sizeof *p->debug + p->mutexes * sizeof(struct holding);
-
-	p->debug = calloc(1, size + p->contexts * sizeof(struct standing));
-	if (!p->debug)
-		return -ENOMEM;
-	p->debug->seats = (struct standing *)(void *)((char *)p->debug + size);
-	return 0;
+	__atomic_fetch_add(&faults, 1, __ATOMIC_RELAXED);
+	tell(p, call, "%s\n", why);
 }
 
-void ww_debug_free(struct ww_pool *p) { free(p->debug); }
+void ww_debug_fault(const char *call, const char *why) { fault_in(NULL, call, why); }
 
-static inline uint32_t number_of(const struct ww_pool *p, const ww_seat *s) { return (uint32_t)(s - p->world->seats); }
+bool ww_debug_is_new(enum danger kind, const struct ww_pool *p)
+{
+	enum { PLACES = 4096 };
+	static uint64_t told_of[PLACES];
+	uint64_t key = 14695981039346656037u;
+
+	for (const char *at = file_of(ww_here); *at; at++)
+		key = (key ^ (unsigned char)*at) * MIX;
+	key = (key ^ (unsigned)ww_here.line) * MIX;
+	key = (key ^ kind) * MIX;
+	key = (key ^ (uintptr_t)p->class_) * MIX | 1;
+	for (unsigned k = 0; k < PLACES; k++) {
+		uint64_t is = 0;
+
+		if (__atomic_compare_exchange_n(&told_of[(key / PLACES + k) % PLACES], &is, key, false, __ATOMIC_RELAXED, __ATOMIC_RELAXED))
+			return true;
+		if (is == key)
+			return false;
+	}
+	return false;
+}
+
+void ww_debug_danger(const char *call, const char *words)
+{
+	tell(NULL, call, "%s", words);
+	__atomic_fetch_add(&dangers, 1, __ATOMIC_RELAXED);
+}
+
+void ww_debug_warn(enum danger kind, const struct ww_pool *p, const char *call, const char *why, const struct standing *earlier)
+{
+	struct place at = place_of(&earlier->began);
+
+	if (!ww_debug_is_new(kind, p))
+		return;
+	tell(p, call, "%s %s:%d\n", why, file_of(at), at.line);
+	__atomic_fetch_add(&dangers, 1, __ATOMIC_RELAXED);
+}
+
+/* ---- what each seat does ---- */
+
+static void set_began(struct standing *s)
+{
+	__atomic_store_n(&s->began.file, ww_here.file, __ATOMIC_RELAXED);
+	__atomic_store_n(&s->began.line, ww_here.line, __ATOMIC_RELAXED);
+}
+
+/* This thread calls by it; a lock with NULL begins with that. */
+static void use(struct standing *s)
+{
+	if (!__atomic_load_n(&s->stamp, __ATOMIC_RELAXED))
+		set_began(s);
+	__atomic_store_n(&s->thread, &ww_here, __ATOMIC_RELAXED);
+}
+
+/* A seat without a context is given once it holds nothing and waits for nothing. */
+static void unuse_if_free(struct standing *s)
+{
+	if (!__atomic_load_n(&s->stamp, __ATOMIC_RELAXED) && !__atomic_load_n(&s->held, __ATOMIC_RELAXED))
+		__atomic_store_n(&s->thread, NULL, __ATOMIC_RELAXED);
+}
+
+const struct standing *ww_debug_own_seat(const struct ww_pool *p, enum has what)
+{
+	uint32_t count = __atomic_load_n(&p->loose.fresh, __ATOMIC_RELAXED);
+
+	for (uint32_t k = 0; k < count; k++) {
+		const struct standing *s = &p->debug->seats[k];
+
+		if (__atomic_load_n(&s->thread, __ATOMIC_RELAXED) != &ww_here)
+			continue;
+		if (what == ANYTHING || (what == A_CONTEXT ? __atomic_load_n(&s->stamp, __ATOMIC_RELAXED) != 0 :
+							     __atomic_load_n(&s->held, __ATOMIC_RELAXED) != 0))
+			return s;
+	}
+	return NULL;
+}
 
 void ww_debug_begun(struct ww_acquire_ctx *x)
 {
-	x->stamp = __atomic_add_fetch(&x->own->pool->debug->stamps, 1, __ATOMIC_RELAXED);
+	struct ww_pool *p = x->own->pool;
+	struct standing *s = standing_of(x->own);
+	const struct standing *first = ww_debug_own_seat(p, A_CONTEXT);
+
+	if (first)
+		ww_debug_warn(SECOND_CONTEXT, p, "ww_acquire_init",
+			      "two contexts of a thread can wait for each other for ever; its other one began at", first);
+	x->stamp = __atomic_add_fetch(&p->debug->stamps, 1, __ATOMIC_RELAXED);
 	x->deadlock_inject_interval = 1;
 	x->deadlock_inject_countdown = x->stamp & 15;
-	__atomic_store_n(&x->own->pool->debug->seats[number_of(x->own->pool, x->own)].stamp, x->stamp, __ATOMIC_RELAXED);
+	set_began(s);
+	__atomic_store_n(&s->held, 0, __ATOMIC_RELAXED);
+	__atomic_store_n(&s->stamp, x->stamp, __ATOMIC_RELAXED);
+	use(s);
 }
-
-void ww_debug_done(struct ww_acquire_ctx *x) { x->state |= IS_DONE; }
 
 void ww_debug_ended(struct ww_acquire_ctx *x)
 {
-	__atomic_store_n(&x->own->pool->debug->seats[number_of(x->own->pool, x->own)].stamp, 0, __ATOMIC_RELAXED);
+	struct standing *s = standing_of(x->own);
+
+	__atomic_store_n(&s->thread, NULL, __ATOMIC_RELAXED);
+	__atomic_store_n(&s->stamp, 0, __ATOMIC_RELAXED);
 }
 
-void ww_debug_waits(struct ww_pool *p, ww_seat *s, const struct ww_mutex *m)
+void ww_debug_alone(const struct ww_mutex *m, const struct timespec *until)
 {
-	__atomic_store_n(&p->debug->seats[number_of(p, s)].wants, m ? m->number + 1 : 0, __ATOMIC_RELAXED);
+	const struct standing *s = m->pool && !until ? ww_debug_own_seat(m->pool, A_MUTEX) : NULL;
+
+	if (s)
+		ww_debug_warn(WITHOUT_CONTEXT, m->pool, "ww_mutex_lock",
+			      "nobody detects a deadlock by a lock without a context; the thread holds a mutex by what began at", s);
+}
+
+void ww_debug_waits(ww_seat *s, const struct ww_mutex *m, const struct timespec *until)
+{
+	struct standing *it = standing_of(s);
+
+	__atomic_store_n(&it->wants, m ? m->number + 1 : 0, __ATOMIC_RELAXED);
+	if (m) {
+		use(it);
+		ww_debug_begin_wait(s->pool, s, m->number, until);
+	} else {
+		ww_debug_end_wait();
+		unuse_if_free(it);
+	}
 }
 
 void ww_debug_acquired(const struct ww_mutex *m, const struct ww_acquire_ctx *x, ww_seat *s)
 {
 	struct holding *h = &m->pool->debug->mutexes[m->number];
+	struct standing *by = standing_of(x ? x->own : s);
 
+	use(by);
+	__atomic_store_n(&by->held, __atomic_load_n(&by->held, __ATOMIC_RELAXED) + 1, __ATOMIC_RELAXED);
 	__atomic_store_n(&h->seat, number_of(m->pool, x ? x->own : s) + 1, __ATOMIC_RELAXED);
-	__atomic_store_n(&h->thread, &at_file, __ATOMIC_RELAXED);
+	__atomic_store_n(&h->thread, &ww_here, __ATOMIC_RELAXED);
 	if (x)
 		acquired = m;
 }
@@ -103,11 +198,20 @@ void ww_debug_acquired(const struct ww_mutex *m, const struct ww_acquire_ctx *x,
 void ww_debug_released(const struct ww_mutex *m)
 {
 	struct holding *h = &m->pool->debug->mutexes[m->number];
+	uint32_t seat = __atomic_load_n(&h->seat, __ATOMIC_RELAXED);
+	struct standing *by = &m->pool->debug->seats[seat - 1];
 
-	if (__atomic_load_n(&h->thread, __ATOMIC_RELAXED) != &at_file)
-		ww_debug_fault("ww_mutex_unlock", "another thread acquired the mutex");
+	if (__atomic_load_n(&h->thread, __ATOMIC_RELAXED) != &ww_here)
+		fault_in(m->pool, "ww_mutex_unlock", "another thread acquired the mutex");
+	if (!seat)
+		return; /* that one is amid its own unlock */
+	__atomic_store_n(&h->thread, NULL, __ATOMIC_RELAXED);
 	__atomic_store_n(&h->seat, 0, __ATOMIC_RELAXED);
+	__atomic_store_n(&by->held, __atomic_load_n(&by->held, __ATOMIC_RELAXED) - 1, __ATOMIC_RELAXED);
+	unuse_if_free(by);
 }
+
+/* ---- -EDEADLK ---- */
 
 static const char not_released[] = "the context was told -EDEADLK, and still holds a mutex";
 
@@ -115,7 +219,7 @@ bool ww_debug_refuses(const struct ww_acquire_ctx *x)
 {
 	if (!(x->state & WAS_INJECTED) || !x->acquired)
 		return false;
-	ww_debug_fault("ww_mutex_lock", not_released);
+	fault_in(x->own->pool, "ww_mutex_lock", not_released);
 	return true;
 }
 
@@ -147,11 +251,13 @@ int ww_debug_told(struct ww_mutex *m, struct ww_acquire_ctx *x, int r, bool inje
 	if (r == -EDEADLK)
 		x->state |= WAS_TOLD;
 	if (r == -EINVAL && injects)
-		ww_debug_fault("ww_mutex_lock", !x->own ? "the context has ended" : x->state & IS_DONE ? "the context is done" : not_released);
+		fault_in(m->pool, "ww_mutex_lock", !x->own ? "the context has ended" : not_released);
 	if (r)
 		return r;
+	if (anew && x->state & IS_DONE)
+		fault_in(m->pool, "ww_mutex_lock", "the context is done");
 	if (x->state & WAS_TOLD && x->contending_lock != m)
-		ww_debug_fault("ww_mutex_lock", "after -EDEADLK another mutex comes first");
+		fault_in(m->pool, "ww_mutex_lock", "after -EDEADLK another mutex comes first");
 	x->state &= ~(unsigned)(WAS_TOLD | WAS_INJECTED);
 	return injects && anew && x->acquired > 1 ? injected(m, x) : 0;
 }
@@ -159,132 +265,4 @@ int ww_debug_told(struct ww_mutex *m, struct ww_acquire_ctx *x, int r, bool inje
 bool ww_debug_injected(const struct ww_mutex *m, const struct ww_acquire_ctx *x)
 {
 	return x->state & WAS_INJECTED && x->contending_lock == m && !x->acquired;
-}
-
-/* ---- who waits for whom ---- */
-
-/* Of a seat: what it is, the seat that holds what it waits for, plus one, and another that waits for the same, plus one. */
-struct seen {
-	struct standing is;
-	uint32_t awaits, next;
-	bool holds, is_told;
-};
-
-/* What can be seen at once, though others go on meanwhile. */
-struct view {
-	const struct ww_pool *pool;
-	struct seen *seats;
-	uint32_t *first; /* of each mutex a seat that waits for it, plus one */
-};
-
-static uint32_t holder_of(const struct ww_pool *p, uint32_t number)
-{
-	return __atomic_load_n(&p->debug->mutexes[number].seat, __ATOMIC_RELAXED);
-}
-
-/* The seat that holds a mutex, plus one: of one that is waited for, as it was seen first, so that all lines agree. */
-static uint32_t seen_holder(const struct view *v, uint32_t number)
-{
-	return v->first[number] ? v->seats[v->first[number] - 1].awaits : holder_of(v->pool, number);
-}
-
-static void look(const struct view *v)
-{
-	const struct ww_pool *p = v->pool;
-
-	for (uint32_t k = 0; k < p->contexts; k++) {
-		struct seen *s = &v->seats[k];
-		uint32_t wants = __atomic_load_n(&p->debug->seats[k].wants, __ATOMIC_RELAXED);
-		uint32_t holder = wants ? seen_holder(v, wants - 1) : 0;
-
-		s->is.stamp = __atomic_load_n(&p->debug->seats[k].stamp, __ATOMIC_RELAXED);
-		/* One that has just acquired what it waited for waits no more. */
-		if (wants && holder != k + 1) {
-			s->is.wants = wants;
-			s->awaits = holder;
-			s->next = v->first[wants - 1];
-			v->first[wants - 1] = k + 1;
-		}
-	}
-	for (uint32_t n = 0; n < p->mutexes; n++) {
-		uint32_t holder = holder_of(p, n);
-
-		if (holder)
-			v->seats[holder - 1].holds = true;
-	}
-}
-
-/* From each seat along what it waits for, at most once around. */
-static void print_ring(const struct view *v, FILE *to)
-{
-	for (uint32_t k = 0; k < v->pool->contexts; k++) {
-		uint32_t at = k, youngest = k, steps = 0;
-
-		while (v->seats[at].awaits && steps++ < v->pool->contexts) {
-			at = v->seats[at].awaits - 1;
-			youngest = v->seats[at].is.stamp > v->seats[youngest].is.stamp ? at : youngest;
-			if (at == k)
-				break;
-		}
-		if (!steps || at != k)
-			continue;
-		fputs("ring", to);
-		do {
-			fprintf(to, " %u", at);
-			at = v->seats[at].awaits - 1;
-		} while (at != k);
-		fprintf(to, "\ncondemned %u\n", youngest);
-		return;
-	}
-	fputs("ring -\ncondemned -\n", to);
-}
-
-/* Those with a context first, the oldest one before the others. */
-static void print_waiters(const struct view *v, uint32_t number, FILE *to)
-{
-	for (;;) {
-		struct seen *first = NULL;
-
-		for (uint32_t k = v->first[number]; k; k = v->seats[k - 1].next) {
-			struct seen *s = &v->seats[k - 1];
-
-			if (!s->is_told && (!first || s->is.stamp - 1 <= first->is.stamp - 1))
-				first = s;
-		}
-		if (!first)
-			return;
-		first->is_told = true;
-		fprintf(to, " %u/%lu%s", (uint32_t)(first - v->seats), first->is.stamp, first->holds ? "+" : "");
-	}
-}
-
-void ww_class_print(struct ww_class *c, FILE *to)
-{
-	struct ww_pool *p = __atomic_load_n(&c->pool, __ATOMIC_ACQUIRE);
-	struct view v = { .pool = p };
-
-	if (!p)
-		return;
-	v.seats = calloc(p->contexts, sizeof *v.seats);
-	v.first = calloc(p->mutexes + (size_t)1, sizeof *v.first);
-	if (v.seats && v.first) {
-		look(&v);
-		print_ring(&v, to);
-		for (uint32_t n = 0; n < p->mutexes; n++) {
-			uint32_t holder = seen_holder(&v, n);
-
-			if (!holder && !v.first[n])
-				continue;
-			if (holder)
-				fprintf(to, "lock %u %u/%lu :", n, holder - 1, v.seats[holder - 1].is.stamp);
-			else
-				fprintf(to, "lock %u - :", n);
-			print_waiters(&v, n, to);
-			fputc('\n', to);
-		}
-		for (uint32_t k = 0; k < p->contexts; k++)
-			fprintf(to, "seat %u %lu 0\n", k, v.seats[k].is.stamp);
-	}
-	free(v.seats);
-	free(v.first);
 }

@@ -29,6 +29,7 @@ struct ww_link {
 };
 
 struct ww_pool;
+struct ww_mine;
 
 /* It has two cache lines of its own. The first is what ww.h says, which its thread alone uses. */
 struct ww_seat {
@@ -48,6 +49,8 @@ struct ww_seat {
 	bool was_loose;		/* its user took it when they were shared */
 	uint32_t listed;	/* of the locks that are listed the one acquired last */
 	struct ww_pool *pool;	/* the class of ww_mutex.h that has it, if any */
+	const struct ww_mine *user; /* there: the thread that took it last */
+	uint64_t waits, back_offs; /* of its users, in all */
 } __attribute__((aligned(64)));
 
 /* Behind the seats lies what the thread sanitizer is told of, where it is in use. */
@@ -79,6 +82,14 @@ WW_HIDDEN void ww_futex_wait(uint32_t *word, uint32_t is, const struct timespec 
 WW_HIDDEN void ww_futex_wake(uint32_t *word);
 /* Whether this time of the monotonic clock has come. */
 WW_HIDDEN bool ww_has_come(const struct timespec *until);
+#ifdef WW_DEBUG
+/* This thread is to sleep until a time, or NULL: what is looked at before, and until when it is to sleep at the longest. */
+WW_HIDDEN const struct timespec *ww_debug_sleeps(const struct timespec *until);
+/* Whether its thread sleeps, and nobody has woken it. */
+WW_HIDDEN bool ww_is_parked(const ww_seat *s);
+#else
+static inline const struct timespec *ww_debug_sleeps(const struct timespec *until) { return until; }
+#endif
 
 /*
  * Takes away a cancel that met no wait of the seat's user, by its thread.  The

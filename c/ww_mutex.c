@@ -1,5 +1,5 @@
 /*
- * ww_mutex.c - the kernel's ww_mutex over numbered locks: mutexes, contexts, and loops of these that back off by themselves.
+ * ww_mutex.c - the kernel's ww_mutex over numbered locks: mutexes, and loops of contexts that back off by themselves.
  *
  * What a context has to do, amid a loop (ww_until_all_locked) and behind it, is one of six states.  `it` is the mutex at
  * which it was told -EDEADLK last; OWES: it waited for `it` before that was asked for, which is to come.
@@ -36,8 +36,6 @@
 #define _GNU_SOURCE
 #define WW_NO_INLINE /* Here are the functions that may be called in place of those that ww_mutex.h compiles into its callers. */
 #include "ww_pool.h"
-#include <stdio.h>
-#include <stdlib.h>
 
 /*
  * Calls by the handle of this seat answer -EINVAL, and change nothing.  All threads have it,
@@ -51,13 +49,6 @@ static const char not_due[] = "no -EDEADLK of this mutex came before, or the con
 /* How a mutex is asked for. */
 enum way { STAYS, HEEDS, SLOWLY, SLOWLY_HEEDS };
 
-COLD __attribute__((noreturn)) static void end(const char *call, const char *why)
-{
-	ww_debug_fault(call, why);
-	fprintf(stderr, "%s: %s\n", call, why);
-	abort();
-}
-
 /* ---- mutexes ---- */
 
 int ww_mutex_init_checked(struct ww_mutex *m, struct ww_class *c)
@@ -66,26 +57,21 @@ int ww_mutex_init_checked(struct ww_mutex *m, struct ww_class *c)
 	uint32_t number;
 	int r = pool_of(c, &p);
 
-	if (!r && !ww_take_number(&p->numbers, &number))
-		r = p->gone ? -EINVAL : -ENOSPC;
+	if (!r)
+		r = number_of_pool(p, &number);
 	if (r)
 		return r;
 	*m = (struct ww_mutex){ .pool = p, .number = number };
 	return 0;
 }
 
-/* Why no number or no seat was given, in words. */
-static const char *told(int r)
+/* Why the first lock of a mutex gave it no number, or its class gave no seat. */
+static const char *told_of(const struct ww_mutex *m, int r)
 {
-	switch (r) {
-	case -ENOMEM: return "there is no memory to open the class";
-	case -ENOSPC: return "the class has all mutexes that it may have (one that isn't destroyed stays)";
-	case -EAGAIN: return "all contexts of the class are in use";
-	default: return "the class was opened before a fork, of which this is the child";
-	}
+	return m->pool || m->class_ ? told(r) : "the mutex isn't initialized";
 }
 
-static const char *told_at_begin(int r) { return r == -ENOSPC ? "the class has begun as many contexts as it may" : told(r); }
+static inline int numbered(struct ww_mutex *m) { return LIKELY(pool_at(m)) ? 0 : ww_number_at_first(m); }
 
 void ww_mutex_init(struct ww_mutex *m, struct ww_class *c)
 {
@@ -97,7 +83,7 @@ void ww_mutex_init(struct ww_mutex *m, struct ww_class *c)
 
 /*
  * `ctx` and `alone` are written by the mutex's holder alone, relaxed: one holder's accesses are ordered before
- * the next one's by the lock, and to all others they are a glance.
+ * the next one's by the lock, and to all others they are a glance.  By `alone` others look into the seat.
  */
 static inline struct ww_acquire_ctx *holder(const struct ww_mutex *m) { return __atomic_load_n(&m->ctx, __ATOMIC_RELAXED); }
 
@@ -116,8 +102,6 @@ COLD static int go_on(ww_seat *s, struct ww_stop *stop)
 	return -EINVAL;
 }
 
-static inline bool is_let_go(const ww_seat *s) { return !s->handle.at; }
-
 /* The same of a release, whose first step answered r, not 0. */
 COLD static int release_further(ww_seat *s, int r)
 {
@@ -131,7 +115,7 @@ COLD static int release_further(ww_seat *s, int r)
  * releases it.  An unlock's last access to the mutex comes before the step that releases
  * its lock; so whoever had it is through with it, and what they wrote is seen here.
  */
-static bool is_released(struct ww_pool *p, struct ww_mutex *m)
+bool ww_is_released(struct ww_pool *p, struct ww_mutex *m)
 {
 	ww_seat *s = borrow_spare(p);
 	bool released = ww_try_(&s->handle, m->number) == 0;
@@ -147,8 +131,12 @@ static bool is_released(struct ww_pool *p, struct ww_mutex *m)
 /* A waiter that got it says so first, and then that it waits no more. */
 int ww_mutex_destroy(struct ww_mutex *m)
 {
-	struct ww_pool *p = m->pool;
+	struct ww_pool *p = pool_at(m);
 
+	if (!p && m->class_) {
+		m->class_ = NULL;
+		return 0;
+	}
 	if (!p) {
 		ww_debug_fault("ww_mutex_destroy", "the mutex isn't initialized");
 		return -EINVAL;
@@ -158,160 +146,17 @@ int ww_mutex_destroy(struct ww_mutex *m)
 		*m = (struct ww_mutex){ 0 };
 		return 0;
 	}
-	if (__atomic_load_n(&m->waiters, __ATOMIC_SEQ_CST) || ww_mutex_is_locked(m) || !is_released(p, m)) {
+	if (__atomic_load_n(&m->waiters, __ATOMIC_SEQ_CST) || ww_mutex_is_locked(m) || !ww_is_released(p, m)) {
 		ww_debug_fault("ww_mutex_destroy", "somebody holds the mutex, or waits for it");
 		return -EBUSY;
 	}
 	m->pool = NULL;
+	m->class_ = NULL;
 	ww_give_number(&p->numbers, m->number);
 	return 0;
 }
 
-/* ---- contexts ---- */
-
-/* Relaxed: whoever cancels the context that was here before may look meanwhile, and nothing is ordered by what it sees. */
-static inline void of_seat(struct ww_acquire_ctx *x, struct ww_pool *p, ww_seat *s)
-{
-	x->pool = p;
-	x->gives = s;
-	__atomic_store_n(&x->own, s, __ATOMIC_RELAXED);
-	__atomic_store_n(&x->cancelled, 0, __ATOMIC_RELAXED);
-	x->acquired = x->flags = x->state = 0;
-}
-
-static inline void no_more(struct ww_acquire_ctx *x)
-{
-	x->pool = NO_POOL;
-	__atomic_store_n(&x->own, NULL, __ATOMIC_RELAXED);
-}
-
-static inline int begin_with(struct ww_acquire_ctx *x, struct ww_pool *p, ww_seat *s)
-{
-	int r;
-
-	of_seat(x, p, s);
-	r = ww_begin_(&s->handle);
-	if (UNLIKELY(r)) {
-		no_more(x);
-		give_seat(p, s, s->was_loose);
-		return r;
-	}
-	ww_debug_begun(x);
-	return 0;
-}
-
-COLD static int begin_anyhow(struct ww_acquire_ctx *x, struct ww_class *c, bool waits)
-{
-	struct ww_pool *p;
-	ww_seat *s;
-	int r = pool_of(c, &p);
-
-	if (r)
-		return r;
-	s = seat_at_once(p);
-	if (!s)
-		r = waits ? ww_seek_seat(p, NULL, &s) : p->gone ? -EINVAL : -EAGAIN;
-	return r ? r : begin_with(x, p, s);
-}
-
-/* The seat was at hand, but came to be shared. */
-COLD static int begin_late(struct ww_acquire_ctx *x, struct ww_class *c, ww_seat *s, bool waits)
-{
-	s = ww_late_seat(c->pool, s);
-	return s ? begin_with(x, c->pool, s) : begin_anyhow(x, c, waits);
-}
-
-int ww_acquire_init_checked(struct ww_acquire_ctx *x, struct ww_class *c)
-{
-	struct ww_pool *p = __atomic_load_n(&c->pool, __ATOMIC_ACQUIRE);
-	ww_seat *s = ww_mine.seats[0].seat;
-
-	if (UNLIKELY(!p || !has_at_hand(p)))
-		return begin_anyhow(x, c, false);
-	if (UNLIKELY(!use_kept(p, s)))
-		return begin_late(x, c, s, false);
-	return begin_with(x, p, s);
-}
-
-COLD static void init_else(struct ww_acquire_ctx *x, struct ww_class *c, ww_seat *late)
-{
-	int r = late ? begin_late(x, c, late, true) : begin_anyhow(x, c, true);
-
-	if (r)
-		end("ww_acquire_init", told_at_begin(r));
-}
-
-/*
- * A seat that nobody uses begins a context for certain, unless as many were begun as may be: then this is none,
- * by which no second lock is acquired, and ww_acquire_fini ends the program.
- */
-void ww_acquire_init(struct ww_acquire_ctx *x, struct ww_class *c)
-{
-	struct ww_pool *p = __atomic_load_n(&c->pool, __ATOMIC_ACQUIRE);
-	ww_seat *s = ww_mine.seats[0].seat;
-
-	if (UNLIKELY(!p || !has_at_hand(p))) {
-		init_else(x, c, NULL);
-		return;
-	}
-	if (UNLIKELY(!use_kept(p, s))) {
-		init_else(x, c, s);
-		return;
-	}
-	of_seat(x, p, s);
-	ww_debug_begun(x);
-	(void)!ww_begin_(&s->handle);
-}
-
-int ww_acquire_done_checked(struct ww_acquire_ctx *x)
-{
-	int r = x->own ? ww_done_(&x->own->handle) : -EINVAL;
-
-	if (!r)
-		ww_debug_done(x);
-	return r;
-}
-
-void ww_acquire_done(struct ww_acquire_ctx *x)
-{
-	if (UNLIKELY(ww_acquire_done_checked(x)))
-		end("ww_acquire_done", "the context is done, or has ended");
-}
-
-int ww_acquire_fini_checked(struct ww_acquire_ctx *x)
-{
-	ww_seat *s = x->own;
-	int r = s ? ww_end_(&s->handle) : -EINVAL;
-
-	if (r && !(s && is_let_go(s)))
-		return r;
-	ww_debug_ended(x);
-	no_more(x);
-	give_seat(s->pool, s, s->was_loose);
-	return 0;
-}
-
-COLD static void fini_else(struct ww_acquire_ctx *x)
-{
-	if (ww_acquire_fini_checked(x))
-		end("ww_acquire_fini", !x->own ? "the context has ended" : x->acquired ? "the context still holds a mutex" :
-			told_at_begin(-ENOSPC));
-}
-
-void ww_acquire_fini(struct ww_acquire_ctx *x)
-{
-	ww_seat *s = x->own;
-
-	/* A context that has released all ends for certain. */
-	if (UNLIKELY(!s || s->handle.standing != WW_BARE_)) {
-		fini_else(x);
-		return;
-	}
-	ww_debug_ended(x);
-	no_more(x);
-	ww_end_(&s->handle);
-	give_seat(s->pool, s, s->was_loose);
-}
+/* ---- what a loop has to do ---- */
 
 /* Amid ww_until_all_locked, or behind it. */
 static inline bool is_loop(const struct ww_acquire_ctx *x) { return x->gives == NOBODY; }
@@ -347,22 +192,6 @@ void ww_acquire_flags(struct ww_acquire_ctx *x, unsigned int flags)
 		close_or_open(x);
 }
 
-/*
- * The thread that waits does the rest, since only it knows when the wait is over.  Relaxed: that its own begin of the
- * context came before is the caller's to see to.
- */
-int ww_acquire_cancel(struct ww_acquire_ctx *x)
-{
-	ww_seat *s = __atomic_load_n(&x->own, __ATOMIC_RELAXED);
-
-	if (!s)
-		return -EINVAL;
-	if (__atomic_exchange_n(&x->cancelled, 1, __ATOMIC_SEQ_CST))
-		return -EALREADY;
-	ww_unpark(s);
-	return 0;
-}
-
 /* ---- waiting ---- */
 
 /* A call by the spare seat cancels the wait of this one. */
@@ -395,7 +224,7 @@ static inline void own(struct ww_mutex *m, struct ww_acquire_ctx *x, ww_seat *s)
 		x->acquired++;
 		__atomic_store_n(&m->ctx, x, __ATOMIC_RELAXED);
 	} else {
-		__atomic_store_n(&m->alone, s, __ATOMIC_RELAXED);
+		__atomic_store_n(&m->alone, s, __ATOMIC_RELEASE);
 	}
 }
 
@@ -406,7 +235,9 @@ COLD static int lock_on(struct ww_mutex *m, struct ww_acquire_ctx *x, ww_seat *s
 	bool heeds = way == HEEDS || way == SLOWLY_HEEDS, waits = r > 0;
 
 	if (waits) {
-		ww_debug_waits(m->pool, s, m);
+		count(&s->waits);
+		PROBE_CONTENTION_BEGIN(m, x);
+		ww_debug_waits(s, m, until);
 		__atomic_fetch_add(&m->waiters, 1, __ATOMIC_SEQ_CST);
 	}
 	for (;;) {
@@ -419,12 +250,16 @@ COLD static int lock_on(struct ww_mutex *m, struct ww_acquire_ctx *x, ww_seat *s
 	}
 	if (r == 0)
 		own(m, x, s);
-	if (r == -EDEADLK)
+	if (r == -EDEADLK) {
+		count(&s->back_offs);
+		PROBE_BACK_OFF(m, x);
 		x->contending_lock = m;
+	}
 	if (r == -EINTR && !(x && __atomic_exchange_n(&x->cancelled, 0, __ATOMIC_SEQ_CST)))
 		r = -ETIMEDOUT;
 	if (waits) {
-		ww_debug_waits(m->pool, s, NULL);
+		PROBE_CONTENTION_END(m, x, r);
+		ww_debug_waits(s, NULL, NULL);
 		__atomic_fetch_sub(&m->waiters, 1, __ATOMIC_SEQ_CST);
 	}
 	return r;
@@ -593,7 +428,7 @@ void ww_acquire_unlock_all(struct ww_acquire_ctx *x)
 /* What is wrong with a context and a mutex that don't go together. */
 static const char *fault_of(const struct ww_mutex *m, const struct ww_acquire_ctx *x)
 {
-	return !m->pool ? "the mutex isn't initialized" : !x->own ? "the context has ended" : "the context is of another class";
+	return !pool_at(m) ? "the mutex isn't initialized" : !x->own ? "the context has ended" : "the context is of another class";
 }
 
 COLD static int faulty(const char *call, const struct ww_mutex *m, const struct ww_acquire_ctx *x)
@@ -615,11 +450,25 @@ COLD static int lock_further(struct ww_acquire_ctx *x, int r, enum way way)
 /* Whether a context whose pool isn't the mutex's may lock it all the same: it has only more to do. */
 static inline bool goes_together(const struct ww_mutex *m, const struct ww_acquire_ctx *x)
 {
-	return m->pool && x->own && m->pool == x->own->pool;
+	return x->own && pool_at(m) == x->own->pool;
+}
+
+/* One that WW_MUTEX_INIT made gets its number here, before it is locked first. */
+static int numbered_or_told(const char *call, struct ww_mutex *m)
+{
+	int r = numbered(m);
+
+	if (UNLIKELY(r))
+		ww_debug_fault(call, told_of(m, r));
+	return r;
 }
 
 COLD static int lock_specially(const char *call, struct ww_mutex *m, struct ww_acquire_ctx *x, enum way way, const struct timespec *until)
 {
+	int r = numbered_or_told(call, m);
+
+	if (r)
+		return r;
 	if (!goes_together(m, x))
 		return faulty(call, m, x);
 	if (ww_debug_refuses(x))
@@ -632,7 +481,7 @@ static inline int lock(struct ww_mutex *m, struct ww_acquire_ctx *x, enum way wa
 {
 	int r;
 
-	if (UNLIKELY(m->pool != x->pool))
+	if (UNLIKELY(pool_at(m) != x->pool))
 		return lock_specially("ww_mutex_lock", m, x, way, NULL);
 	if (ww_debug_refuses(x))
 		return -EINVAL;
@@ -689,9 +538,10 @@ COLD static int seek_and_lock(struct ww_mutex *m, enum way way, const struct tim
 COLD static int lock_by_any(struct ww_mutex *m, ww_seat *late, enum way way, const struct timespec *until)
 {
 	ww_seat *s;
+	int r = numbered(m);
 
-	if (!m->pool)
-		return -EINVAL;
+	if (r)
+		return r;
 	s = late ? ww_late_seat(m->pool, late) : ww_other_seat(m->pool);
 	return s ? lock_by_seat(m, s, way, until) : seek_and_lock(m, way, until);
 }
@@ -699,24 +549,24 @@ COLD static int lock_by_any(struct ww_mutex *m, ww_seat *late, enum way way, con
 /* Without a context: by a seat of its own, for which it may have to wait. */
 static inline int lock_alone(struct ww_mutex *m, enum way way, const struct timespec *until)
 {
-	struct ww_pool *p = m->pool;
+	struct ww_pool *p = pool_at(m);
 	ww_seat *s = ww_mine.seats[0].seat;
 
+	ww_debug_alone(m, until);
 	if (UNLIKELY(!p || !has_at_hand(p)))
 		return lock_by_any(m, NULL, way, until);
 	return LIKELY(use_kept(p, s)) ? lock_by_seat(m, s, way, until) : lock_by_any(m, s, way, until);
 }
 
-COLD __attribute__((noreturn)) static void end_alone(const struct ww_mutex *m)
-{
-	end("ww_mutex_lock", m->pool ? told(-EINVAL) : "the mutex isn't initialized");
-}
+COLD __attribute__((noreturn)) static void end_alone(const struct ww_mutex *m, int r) { end("ww_mutex_lock", told_of(m, r)); }
 
 /* Nobody looks at what it would answer. */
 int ww_mutex_lock_alone_(struct ww_mutex *m)
 {
-	if (UNLIKELY(lock_alone(m, STAYS, NULL)))
-		end_alone(m);
+	int r = lock_alone(m, STAYS, NULL);
+
+	if (UNLIKELY(r))
+		end_alone(m, r);
 	return 0;
 }
 
@@ -737,8 +587,7 @@ int ww_mutex_lock_interruptible(struct ww_mutex *m, struct ww_acquire_ctx *x)
 
 int ww_mutex_lock_until(struct ww_mutex *m, struct ww_acquire_ctx *x, const struct timespec *until)
 {
-	/* No time, by which a thread couldn't sleep. */
-	if (UNLIKELY(until->tv_nsec < 0 || until->tv_nsec >= 1000000000))
+	if (UNLIKELY(!is_time(until)))
 		return -EINVAL;
 	return x ? lock_specially("ww_mutex_lock_until", m, x, HEEDS, until) : lock_alone(m, HEEDS, until);
 }
@@ -747,38 +596,59 @@ int ww_mutex_lock_until(struct ww_mutex *m, struct ww_acquire_ctx *x, const stru
  * In a loop it is the wait that comes first itself, or isn't due.  After an -EDEADLK that the
  * debug library made up the proved one doesn't know that it is.
  */
-static int lock_slowly(struct ww_mutex *m, struct ww_acquire_ctx *x, enum way way, enum way plain)
+static int lock_slowly(struct ww_mutex *m, struct ww_acquire_ctx *x, enum way way, enum way plain, const struct timespec *until)
 {
 	if (!x || !goes_together(m, x))
 		return -EINVAL;
-	return ww_debug_told(m, x, lock_now(m, x, ww_debug_injected(m, x) ? plain : way, NULL), false);
+	return ww_debug_told(m, x, lock_now(m, x, ww_debug_injected(m, x) ? plain : way, until), false);
 }
 
-int ww_mutex_lock_slow_checked(struct ww_mutex *m, struct ww_acquire_ctx *x) { return lock_slowly(m, x, SLOWLY, STAYS); }
+int ww_mutex_lock_slow_checked(struct ww_mutex *m, struct ww_acquire_ctx *x) { return lock_slowly(m, x, SLOWLY, STAYS, NULL); }
+
+static int lock_slowly_heeding(const char *call, struct ww_mutex *m, struct ww_acquire_ctx *x, const struct timespec *until)
+{
+	int r = lock_slowly(m, x, SLOWLY_HEEDS, HEEDS, until);
+
+	if (r == -EINVAL)
+		ww_debug_fault(call, not_due);
+	return r;
+}
 
 int ww_mutex_lock_slow_interruptible(struct ww_mutex *m, struct ww_acquire_ctx *x)
 {
-	int r = lock_slowly(m, x, SLOWLY_HEEDS, HEEDS);
+	return lock_slowly_heeding("ww_mutex_lock_slow_interruptible", m, x, NULL);
+}
 
-	if (r == -EINVAL)
-		ww_debug_fault("ww_mutex_lock_slow_interruptible", not_due);
-	return r;
+int ww_mutex_lock_slow_until(struct ww_mutex *m, struct ww_acquire_ctx *x, const struct timespec *until)
+{
+	if (UNLIKELY(!is_time(until)))
+		return -EINVAL;
+	return lock_slowly_heeding("ww_mutex_lock_slow_until", m, x, until);
 }
 
 void ww_mutex_lock_slow(struct ww_mutex *m, struct ww_acquire_ctx *x)
 {
-	if (UNLIKELY(lock_slowly(m, x, SLOWLY, STAYS)))
+	if (UNLIKELY(lock_slowly(m, x, SLOWLY, STAYS, NULL)))
 		end("ww_mutex_lock_slow", not_due);
+}
+
+/* It answers nothing by which it could say why there is no number. */
+static void number_or_end(struct ww_mutex *m)
+{
+	int r = numbered(m);
+
+	if (UNLIKELY(r))
+		end("ww_mutex_trylock", told_of(m, r));
 }
 
 /* No seat is waited for. */
 static int try_alone(struct ww_mutex *m)
 {
-	struct ww_pool *p = m->pool;
+	struct ww_pool *p;
 	ww_seat *s;
 
-	if (!p)
-		end("ww_mutex_trylock", "the mutex isn't initialized");
+	number_or_end(m);
+	p = m->pool;
 	if (ww_mutex_is_locked(m) || !(s = seat_at_once(p)))
 		return 0;
 	if (ww_try_(&s->handle, m->number)) {
@@ -794,6 +664,7 @@ COLD static int try_specially(struct ww_mutex *m, struct ww_acquire_ctx *x)
 {
 	int r;
 
+	number_or_end(m);
 	if (!goes_together(m, x))
 		end("ww_mutex_trylock", fault_of(m, x));
 	r = ww_try_(&x->own->handle, m->number);
@@ -804,12 +675,15 @@ COLD static int try_specially(struct ww_mutex *m, struct ww_acquire_ctx *x)
 	return looped(m, x, 0) == 0;
 }
 
+int ww_mutex_trylock_else_(struct ww_mutex *m, struct ww_acquire_ctx *x)
+{
+	return x ? try_specially(m, x) : try_alone(m);
+}
+
 int ww_mutex_trylock(struct ww_mutex *m, struct ww_acquire_ctx *x)
 {
-	if (!x)
-		return try_alone(m);
-	if (UNLIKELY(m->pool != x->pool))
-		return try_specially(m, x);
+	if (UNLIKELY(!x || pool_at(m) != x->pool))
+		return ww_mutex_trylock_else_(m, x);
 	if (UNLIKELY(ww_try_(&x->own->handle, m->number)))
 		return 0;
 	own(m, x, NULL);
@@ -817,18 +691,26 @@ int ww_mutex_trylock(struct ww_mutex *m, struct ww_acquire_ctx *x)
 	return 1;
 }
 
+int ww_mutex_trylock_checked(struct ww_mutex *m, struct ww_acquire_ctx *x)
+{
+	int r = numbered_or_told("ww_mutex_trylock", m);
+
+	if (r)
+		return r;
+	return x && !goes_together(m, x) ? faulty("ww_mutex_trylock", m, x) : ww_mutex_trylock(m, x);
+}
+
 /*
  * Where somebody may wait for it, or the context keeps a list of what it acquired; r is what
  * the first step answered.  In a loop that did nothing, so the mutex is there still.
  */
-static int unlock_on(struct ww_acquire_ctx *x, int r)
+static inline int unlock_on(struct ww_mutex *m, struct ww_acquire_ctx *x, int r)
 {
 	if (is_loop(x)) {
-		uint32_t number;
+		uint32_t number = m->number;
 
-		unlink_from(x, x->called);
-		number = x->called->number;
-		__tsan_release(x->called);
+		unlink_from(x, m);
+		__tsan_release(m);
 		r = ww_unlock_(&x->own->handle, number);
 		if (LIKELY(!r))
 			return 0;
@@ -879,7 +761,7 @@ static inline int unlock(struct ww_mutex *m)
 	__atomic_store_n(&m->ctx, NULL, __ATOMIC_RELAXED);
 	__tsan_release(m);
 	r = ww_unlock_(&x->gives->handle, number);
-	return LIKELY(!r) ? 0 : unlock_on(x, r);
+	return LIKELY(!r) ? 0 : unlock_on(x->called, x, r);
 }
 
 int ww_mutex_unlock_checked(struct ww_mutex *m) { return unlock(m); }
@@ -900,8 +782,7 @@ void ww_mutex_unlock_else_(struct ww_mutex *m)
 
 void ww_mutex_unlock_further_(struct ww_mutex *m, struct ww_acquire_ctx *x, int r)
 {
-	x->called = m;
-	if (unlock_on(x, r))
+	if (unlock_on(m, x, r))
 		end_unheld();
 }
 
@@ -948,9 +829,11 @@ COLD static int lock_more(struct ww_acquire_ctx *x, struct ww_mutex *const *lock
 	return r;
 }
 
-/* From the k-th on, to which the first turn answered r; or all of them, where none was tried. */
-COLD static int lock_all_on(struct ww_acquire_ctx *x, struct ww_mutex *const *locks, size_t count, size_t k, int r, bool held)
+/* From the k-th on, to which the first turn answered r; or 0, where it has none yet. */
+COLD static int lock_all_on(struct ww_acquire_ctx *x, struct ww_mutex *const *locks, size_t count, size_t k, int r)
 {
+	bool held = x->acquired > k;
+
 	begin_loop(x);
 	if (r) {
 		x->called = locks[k];
@@ -976,21 +859,23 @@ int ww_mutex_lock_all(struct ww_acquire_ctx *x, struct ww_mutex *const *locks, s
 		return -EINVAL;
 	if (is_loop(x))
 		return lock_more(x, locks, count);
-	bool held = x->acquired, heeds = x->flags & WW_INTERRUPTIBLE;
-
 	x->newest = NULL;
 #ifndef WW_DEBUG
+	bool heeds = x->flags & WW_INTERRUPTIBLE;
+
 	for (size_t k = 0; k < count; k++) {
 		struct ww_mutex *m = locks[k];
-		int r = LIKELY(m->pool == x->pool) ? ww_lock_(&x->own->handle, m->number, heeds) : -EINVAL;
+		int r;
 
+		if (UNLIKELY(pool_at(m) != x->pool))
+			return lock_all_on(x, locks, count, k, 0);
+		r = ww_lock_(&x->own->handle, m->number, heeds);
 		if (UNLIKELY(r))
-			return lock_all_on(x, locks, count, k, r, held);
+			return lock_all_on(x, locks, count, k, r);
 		own(m, x, NULL);
 	}
 	return 0;
 #else
-	(void)heeds;
-	return lock_all_on(x, locks, count, 0, 0, held);
+	return lock_all_on(x, locks, count, 0, 0);
 #endif
 }

@@ -5,12 +5,24 @@
  * that runs it.  Names, signatures and answers are those of the kernel's
  * <linux/ww_mutex.h>, so code that is written for that compiles as it stands; its
  * document ww-mutex-design says what the calls are for.  What the kernel hasn't
- * stands behind it, and is marked so.
+ * stands behind it, and is marked so.  Of a mutex ctx may be read, the context that holds
+ * it (atomically by others), and base has an address, for lockdep_assert_held; of a
+ * context acquired may be read.
  *
  * A class has 65,536 mutexes and 1,024 contexts at once, or as many as ww_class_limit
  * said; a mutex that is held without a context (NULL) counts as one of these as
- * long as it is held.
- * ww_mutex(3) says what is promised, and what a program owes.
+ * long as it is held.  Opening a class takes all its memory.
+ *
+ * A context is used by one thread at a time, and a mutex is unlocked by the thread that
+ * acquired it; neither is used in a signal handler.  In a forked child a class that was
+ * open before gives nothing more (-EINVAL), until ww_class_free lets it go there; where a
+ * context that was begun before would have to wait, it has let go all that it held.
+ * Deadlocks are detected among the contexts of one class alone.  Each copy of the shared
+ * library takes 200 bytes of static thread-local storage: a process can load some eight.
+ *
+ * Otherwise than in the kernel nothing is acquired after -EDEADLK while something is
+ * held, also without debugging, and ww_mutex_destroy answers.  The locks below are
+ * proved; what this header adds is tested.
  */
 #ifndef WW_MUTEX_H
 #define WW_MUTEX_H
@@ -37,6 +49,7 @@ extern "C" {
 
 struct ww_pool; /* what an open class has */
 struct ww_seat;
+struct timespec; /* which <time.h> has not by -std=c99 */
 
 /* A class of mutexes: a context belongs to one, and locks the mutexes of that class alone. */
 struct ww_class {
@@ -46,16 +59,30 @@ struct ww_class {
 	const char *name;
 };
 
-/* What the fields below are for is the library's business, except ctx and acquired, which may be read. */
+/*
+ * What the fields below are for is the library's business, but for those that stand above.  These structs
+ * belong to the binary interface (ww_version): their sizes and places don't change without its first number.
+ */
 struct ww_acquire_ctx;
 
+struct ww_mutex_base {
+	void *address_;
+};
+
 struct ww_mutex {
-	struct ww_acquire_ctx *ctx;	/* the context that holds it; NULL: none does. Others read it atomically */
-	struct ww_pool *pool;
+	__extension__ union {
+		struct ww_mutex_base base;
+		struct ww_acquire_ctx *ctx; /* NULL: no context holds it */
+	};
+	struct ww_pool *pool;		/* NULL: it has no number */
 	struct ww_seat *alone;		/* by which it is held without a context */
 	uint32_t number;
 	uint32_t waiters;
-	struct ww_mutex *newer, *older;	/* what its context acquired after it and before it, where that is kept */
+	__extension__ union {
+		struct ww_class *class_; /* as long as it has no number: what WW_MUTEX_INIT said */
+		struct ww_mutex *newer;	/* what its context acquired after it, and before it, where that is kept */
+	};
+	struct ww_mutex *older;
 };
 
 struct ww_acquire_ctx {
@@ -82,6 +109,14 @@ struct ww_acquire_ctx {
 #define DEFINE_WD_CLASS(classname) struct ww_class classname = { NULL, 0, 0, 1, #classname }
 
 /*
+ * A mutex of this class, static or not, in place of ww_mutex_init:
+ *	static struct ww_mutex lock = WW_MUTEX_INIT(&boxes);
+ * Its first lock, by whichever thread, gives it its number, and is -ENOSPC or -ENOMEM
+ * where ww_mutex_init_checked would be; with NULL, and by ww_mutex_trylock, the program ends then.
+ */
+#define WW_MUTEX_INIT(of_class) { { { NULL } }, NULL, NULL, 0, 0, { of_class }, NULL }
+
+/*
  * Gives the mutex a number of its class.  It reads nothing of what stood there: a
  * mutex that wasn't destroyed keeps its number for ever.  The program ends with a
  * message where all numbers are given, or the class can't be opened.
@@ -98,10 +133,13 @@ int ww_mutex_destroy(struct ww_mutex *lock);
 /*
  * Begins a context.  Where all contexts of the class are in use it waits for one
  * to end, behind those who wait already: threads that hold something by one context and wait for another can wait
- * for each other for ever, which nobody detects.
+ * for each other for ever, which only the debug library tells.
  */
 void ww_acquire_init(struct ww_acquire_ctx *ctx, struct ww_class *ww_class);
-/* The context has all its locks: from now on it acquires none. The program ends where it was said before. */
+/*
+ * The context has all its locks; a lock that comes then is told by the debug library
+ * alone.  The program ends where it was said before, or the context has ended.
+ */
 void ww_acquire_done(struct ww_acquire_ctx *ctx);
 /* Ends it. The program ends with a message where it still holds a mutex, or had ended. */
 void ww_acquire_fini(struct ww_acquire_ctx *ctx);
@@ -109,7 +147,7 @@ void ww_acquire_fini(struct ww_acquire_ctx *ctx);
 /*
  * Acquires the mutex, and waits for it.  -EDEADLK: release all that the context
  * holds, then ww_mutex_lock_slow of this mutex; -EALREADY: the context holds it.
- * -EINVAL: the context is done or has ended, it was told -EDEADLK and still holds a
+ * -EINVAL: the context has ended, it was told -EDEADLK and still holds a
  * mutex, it is of another class, or the mutex isn't initialized.
  * The first lock of a context is never refused.
  *
@@ -151,6 +189,7 @@ WW_MUST_CHECK int ww_acquire_init_checked(struct ww_acquire_ctx *ctx, struct ww_
 WW_MUST_CHECK int ww_acquire_done_checked(struct ww_acquire_ctx *ctx);
 WW_MUST_CHECK int ww_acquire_fini_checked(struct ww_acquire_ctx *ctx);
 WW_MUST_CHECK int ww_mutex_lock_slow_checked(struct ww_mutex *lock, struct ww_acquire_ctx *ctx);
+WW_MUST_CHECK int ww_mutex_trylock_checked(struct ww_mutex *lock, struct ww_acquire_ctx *ctx);
 WW_MUST_CHECK int ww_mutex_unlock_checked(struct ww_mutex *lock);
 
 /* A class in memory of the program's own, as DEFINE_WW_CLASS (0) or DEFINE_WD_CLASS (1) makes it. */
@@ -170,21 +209,50 @@ WW_MUST_CHECK int ww_class_open(struct ww_class *ww_class);
  * class then; one that is amid the end of its last context may be.
  */
 int ww_class_free(struct ww_class *ww_class);
+struct ww_class_stats {
+	uint64_t back_offs, lock_waits, context_waits;
+};
+/*
+ * How many locks of the class were told -EDEADLK since it was opened (back_offs; not what
+ * the debug library made up), and waited for others, be it for a moment (lock_waits), and
+ * how many calls waited for a context (context_waits).  All are 0 where it isn't open.
+ */
+void ww_class_stats(struct ww_class *ww_class, struct ww_class_stats *stats);
 
+/* How many bytes each of the three structures takes in this library, for languages that don't read this header. */
+size_t ww_class_size(void);
+size_t ww_mutex_size(void);
+size_t ww_acquire_size(void);
+
+/*
+ * As ww_acquire_init, but waits for a context until this time of the monotonic clock at
+ * the longest: -ETIMEDOUT.  One that is free is begun, however late it is.  -EINVAL as
+ * ww_mutex_lock_until, and all else as ww_acquire_init_checked.
+ */
+WW_MUST_CHECK int ww_acquire_init_until(struct ww_acquire_ctx *ctx, struct ww_class *ww_class, const struct timespec *monotonic);
 /*
  * As ww_mutex_lock_interruptible, but waits until this time of the monotonic clock at
  * the longest: -ETIMEDOUT, and what was held still is.  A mutex that is free is
  * acquired, however late it is.  -EINVAL, too: tv_nsec isn't 0 to 999,999,999.
  */
 WW_MUST_CHECK int ww_mutex_lock_until(struct ww_mutex *lock, struct ww_acquire_ctx *ctx, const struct timespec *monotonic);
+/* The same of ww_mutex_lock_slow_interruptible: it ends at a time, too. */
+WW_MUST_CHECK int ww_mutex_lock_slow_until(struct ww_mutex *lock, struct ww_acquire_ctx *ctx, const struct timespec *monotonic);
 /*
  * Calls off the interruptible wait of a context, this one or the next: as a signal
  * does in the kernel.  -EALREADY: that is pending; -EINVAL: the context has ended.
- * It may be called by any thread as long as the context is there, from the end of its
- * ww_acquire_init on.  A cancel that found no wait ends with its context.
+ * Any thread may call it from the end of ww_acquire_init to the beginning of ww_acquire_fini,
+ * which its callers see to, by a lock of theirs for instance: a later one meets whichever
+ * context begins next in this memory.  A cancel that found no wait ends with its context.
  * A wait ends so also where all contexts of the class are in use, and at a time that has come.
  */
 int ww_acquire_cancel(struct ww_acquire_ctx *ctx);
+
+/*
+ * Whether this context holds the mutex; with NULL: whether this thread acquired it without
+ * one.  Certain for who asks of what is its own, and else at a glance.
+ */
+bool ww_mutex_is_held_by(const struct ww_mutex *lock, const struct ww_acquire_ctx *ctx);
 
 /* Of a context, for ww_mutex_lock_all and between ww_until_all_locked and its end. */
 enum {
@@ -206,7 +274,6 @@ WW_MUST_CHECK int ww_mutex_lock_all(struct ww_acquire_ctx *ctx, struct ww_mutex 
  * ww_mutex_lock_all: for it this call releases nothing.
  */
 void ww_acquire_unlock_all(struct ww_acquire_ctx *ctx);
-
 /*
  * The same for mutexes that are found on the way, as drm_exec has it:
  *
@@ -242,24 +309,57 @@ void ww_acquire_unlock_all(struct ww_acquire_ctx *ctx);
 	} while (0)
 /* Whether the last lock call of the context answered -EDEADLK, and it hasn't backed off since. */
 bool ww_is_contended(const struct ww_acquire_ctx *ctx);
+/*
+ * As ww_acquire_unlock_all, but to a mark, which is how many mutexes the context held as
+ * it was taken: it releases the newest until it holds so many.  So what was acquired
+ * before the mark stays, and where some of that was released since, as many of what came
+ * later stay too.  A back-off releases all, and the body marks anew.
+ */
+WW_MUST_CHECK size_t ww_acquire_mark(const struct ww_acquire_ctx *ctx);
+void ww_acquire_unlock_to(struct ww_acquire_ctx *ctx, size_t mark);
 void ww_tries_begin_(struct ww_acquire_ctx *ctx);
 bool ww_tries_more_(struct ww_acquire_ctx *ctx);
 
 #ifdef WW_DEBUG
+/* ---- the debug library ---- */
+
 /*
  * With -DWW_DEBUG, and -lww_debug in place of -lww: a call that is wrong is told on
  * standard error, with its line and the calls by which the program came there, besides
  * what it answers; and now and then a context that holds a mutex is told -EDEADLK
  * without need, so that the way back is tried.
+ *
+ * What is right and dangerous is told there too, once for each line and class: a second
+ * context that a thread begins while it runs one; a lock with NULL by a thread that holds
+ * a mutex of the class; a wait for a context by a thread that has a context or a mutex of
+ * any class; and what is in use, where that keeps ww_class_free from freeing it.  A context
+ * is that of the thread that acquired by it last, or began it.  A wait with a time is no
+ * danger; one that a cancel can end may be.
+ *
+ * A thread that sleeps looks now and then whether it will for ever: because of several
+ * classes, of locks with NULL, or of contexts that are all in use.  Such a deadlock, which
+ * no class detects, is told once, with all of its threads, what each waits for, and where.
  */
+
 #include <stdio.h>
 #ifdef __cplusplus
 extern "C" {
 #endif
-/* Writes who holds what and who waits for whom, at a glance, in the form that tools/picture draws. */
+/*
+ * Writes how much of a class is in use, which contexts run and where they began, who waits
+ * for a context, who holds what and who waits for whom, at a glance, in the form that
+ * tools/picture draws.
+ */
 void ww_class_print(struct ww_class *ww_class, FILE *to);
 /* How many calls were told to be wrong. */
 unsigned long ww_debug_faults(void);
+/* How many dangers and deadlocks were told. */
+unsigned long ww_debug_dangers(void);
+/*
+ * Whoever waits from now on looks for a deadlock after each so many milliseconds, and tells it
+ * at the second look that finds it: 1,000, if nothing else is said; 0: nobody looks.
+ */
+void ww_debug_patience(unsigned int milliseconds);
 void ww_debug_at_(const char *file, int line);
 #ifdef __cplusplus
 }
@@ -272,6 +372,8 @@ void ww_debug_at_(const char *file, int line);
 #define ww_mutex_init(...) (WW_HERE_, ww_mutex_init(__VA_ARGS__))
 #define ww_mutex_destroy(...) (WW_HERE_, ww_mutex_destroy(__VA_ARGS__))
 #define ww_acquire_init(...) (WW_HERE_, ww_acquire_init(__VA_ARGS__))
+#define ww_acquire_init_checked(...) (WW_HERE_, ww_acquire_init_checked(__VA_ARGS__))
+#define ww_acquire_init_until(...) (WW_HERE_, ww_acquire_init_until(__VA_ARGS__))
 #define ww_acquire_done(...) (WW_HERE_, ww_acquire_done(__VA_ARGS__))
 #define ww_acquire_fini(...) (WW_HERE_, ww_acquire_fini(__VA_ARGS__))
 #define ww_mutex_lock(...) (WW_HERE_, ww_mutex_lock(__VA_ARGS__))
@@ -279,9 +381,12 @@ void ww_debug_at_(const char *file, int line);
 #define ww_mutex_lock_slow(...) (WW_HERE_, ww_mutex_lock_slow(__VA_ARGS__))
 #define ww_mutex_lock_slow_interruptible(...) (WW_HERE_, ww_mutex_lock_slow_interruptible(__VA_ARGS__))
 #define ww_mutex_lock_until(...) (WW_HERE_, ww_mutex_lock_until(__VA_ARGS__))
+#define ww_mutex_lock_slow_until(...) (WW_HERE_, ww_mutex_lock_slow_until(__VA_ARGS__))
 #define ww_mutex_lock_all(...) (WW_HERE_, ww_mutex_lock_all(__VA_ARGS__))
 #define ww_mutex_trylock(...) (WW_HERE_, ww_mutex_trylock(__VA_ARGS__))
+#define ww_mutex_trylock_checked(...) (WW_HERE_, ww_mutex_trylock_checked(__VA_ARGS__))
 #define ww_mutex_unlock(...) (WW_HERE_, ww_mutex_unlock(__VA_ARGS__))
+#define ww_class_free(...) (WW_HERE_, ww_class_free(__VA_ARGS__))
 #endif
 #endif
 
@@ -299,6 +404,7 @@ void ww_debug_at_(const char *file, int line);
 int ww_mutex_lock_alone_(struct ww_mutex *lock);
 int ww_mutex_lock_else_(struct ww_mutex *lock, struct ww_acquire_ctx *ctx);
 int ww_mutex_lock_further_(struct ww_mutex *lock, struct ww_acquire_ctx *ctx, int r);
+int ww_mutex_trylock_else_(struct ww_mutex *lock, struct ww_acquire_ctx *ctx);
 void ww_mutex_unlock_else_(struct ww_mutex *lock);
 void ww_mutex_unlock_further_(struct ww_mutex *lock, struct ww_acquire_ctx *ctx, int r);
 bool ww_tries_else_(struct ww_acquire_ctx *ctx);
@@ -306,26 +412,45 @@ enum { WW_IS_TRYING_ = 1, WW_HAS_TO_BACK_OFF_ = 2 }; /* of a context's state */
 #if defined(__GNUC__) && !defined(WW_NO_INLINE) && !defined(WW_DEBUG)
 /* A seat begins with its handle. */
 int32_t ww_first_of_lock_(struct ww_seat *seat, uint32_t lock, bool heeds) __asm__("ww_lock_");
+int32_t ww_only_of_try_(struct ww_seat *seat, uint32_t lock) __asm__("ww_try_");
 int32_t ww_first_of_unlock_(struct ww_seat *seat, uint32_t lock) __asm__("ww_unlock_");
 #define WW_INLINE_ extern __inline __attribute__((__gnu_inline__))
 
-/* What is stored relaxed, here and below, is the holder's alone: the lock orders it from holder to holder. */
+/*
+ * What is stored relaxed, here and below, is the holder's alone: the lock orders it from holder to holder.  The pool is
+ * loaded acquiring, since another thread may just have given the mutex its number, and then its pool.
+ */
+#define WW_HOLDS_(ctx_, lock) \
+	do { \
+		(lock)->older = (ctx_)->newest; \
+		(ctx_)->newest = (lock); \
+		(ctx_)->acquired++; \
+		__atomic_store_n(&(lock)->ctx, (ctx_), __ATOMIC_RELAXED); \
+	} while (0)
+
 WW_INLINE_ int ww_mutex_lock(struct ww_mutex *lock, struct ww_acquire_ctx *ctx)
 {
 	int r;
 
 	if (__builtin_expect(!ctx, 0))
 		return ww_mutex_lock_alone_(lock);
-	if (__builtin_expect(lock->pool != ctx->pool, 0))
+	if (__builtin_expect(__atomic_load_n(&lock->pool, __ATOMIC_ACQUIRE) != ctx->pool, 0))
 		return ww_mutex_lock_else_(lock, ctx);
 	r = ww_first_of_lock_(ctx->own, lock->number, false);
 	if (__builtin_expect(r != 0, 0))
 		return ww_mutex_lock_further_(lock, ctx, r);
-	lock->older = ctx->newest;
-	ctx->newest = lock;
-	ctx->acquired++;
-	__atomic_store_n(&lock->ctx, ctx, __ATOMIC_RELAXED);
+	WW_HOLDS_(ctx, lock);
 	return 0;
+}
+
+WW_INLINE_ int ww_mutex_trylock(struct ww_mutex *lock, struct ww_acquire_ctx *ctx)
+{
+	if (__builtin_expect(!ctx || __atomic_load_n(&lock->pool, __ATOMIC_ACQUIRE) != ctx->pool, 0))
+		return ww_mutex_trylock_else_(lock, ctx);
+	if (ww_only_of_try_(ctx->own, lock->number))
+		return 0;
+	WW_HOLDS_(ctx, lock);
+	return 1;
 }
 
 /* From the first turn on the mutex is another's, who may destroy it, unless the turn did nothing. */
@@ -363,6 +488,7 @@ WW_INLINE_ bool ww_tries_more_(struct ww_acquire_ctx *ctx)
 	}
 	return ww_tries_else_(ctx);
 }
+#undef WW_HOLDS_
 #undef WW_INLINE_
 #endif
 

@@ -48,6 +48,7 @@ public:
 	explicit mutex_class(kind k, const char *name = "") noexcept { ww_class_init(&it_, k == wait_die, name); }
 	~mutex_class()
 	{
+		WW_NOWHERE_;
 		if (ww_class_free(&it_)) {
 			std::fputs("ww::kernel::mutex_class: a mutex or a context is left\n", stderr);
 			std::abort();

@@ -98,10 +98,8 @@ void ww_give_number(struct ww_numbers *of, uint32_t number)
 	while (!__atomic_compare_exchange_n(&to->top, &top, changed(top, number + 1), true, __ATOMIC_SEQ_CST, __ATOMIC_RELAXED));
 }
 
-/* Whether all are free, and nobody took or gave one meanwhile: then all that was looked at relaxed is as the tops tell. */
-static bool all_free(const struct ww_numbers *of)
+uint32_t ww_free_numbers(const struct ww_numbers *of)
 {
-	uint64_t before = changes(of);
 	uint32_t count = of->count - __atomic_load_n(&of->fresh, __ATOMIC_RELAXED);
 
 	for (uint32_t k = 0; k < STACKS; k++) {
@@ -110,7 +108,15 @@ static bool all_free(const struct ww_numbers *of)
 		for (; n && count <= of->count; n = __atomic_load_n(&of->below[n - 1], __ATOMIC_RELAXED))
 			count++;
 	}
-	return count == of->count && changes(of) == before;
+	return count < of->count ? count : of->count;
+}
+
+/* Whether all are free, and nobody took or gave one meanwhile: then all that was looked at relaxed is as the tops tell. */
+static bool all_free(const struct ww_numbers *of)
+{
+	uint64_t before = changes(of);
+
+	return ww_free_numbers(of) == of->count && changes(of) == before;
 }
 
 static void set_out(struct ww_numbers *of, uint32_t count, uint32_t *below)
@@ -138,6 +144,9 @@ static void fence_others(void) { syscall(SYS_membarrier, MEMBARRIER_CMD_PRIVATE_
 
 /* At a glance: whoever goes on by it waits until all are. */
 static bool is_shared(const struct ww_pool *p) { return __atomic_load_n(&p->own_id, __ATOMIC_RELAXED) >= SHARING; }
+
+/* This thread took the seat. Nobody looks at it but by a mutex that is held with the seat, later. */
+static inline void is_user(ww_seat *s) { __atomic_store_n(&s->user, &ww_mine, __ATOMIC_RELAXED); }
 
 static inline uint32_t number_of(const struct ww_pool *p, const ww_seat *s) { return (uint32_t)(s - p->world->seats); }
 
@@ -226,6 +235,7 @@ static ww_seat *put_first(struct ww_kept first, uint32_t others)
 static void keep(struct ww_pool *p, ww_seat *s)
 {
 	s->kept = true;
+	is_user(s);
 	if (ww_mine.seats[KEPT - 1].seat)
 		let_loose(&ww_mine.seats[KEPT - 1]);
 	if (!ww_mine.told)
@@ -358,7 +368,11 @@ COLD ww_seat *ww_other_seat(struct ww_pool *p)
 	if (s || p->gone)
 		return s;
 	await_shared(p);
-	return !has_seekers(p) && ww_take_number(&p->loose, &number) ? use_loose(&p->world->seats[number]) : NULL;
+	if (has_seekers(p) || !ww_take_number(&p->loose, &number))
+		return NULL;
+	s = use_loose(&p->world->seats[number]);
+	is_user(s);
+	return s;
 }
 
 /* It waits no more, if it has no seat yet. */
@@ -388,6 +402,7 @@ COLD int ww_seek_seat(struct ww_pool *p, const struct timespec *until, ww_seat *
 
 	if (p->gone)
 		return -EINVAL;
+	ww_debug_seeks(p, until);
 	pthread_mutex_lock(&p->queue);
 	__atomic_fetch_add(&p->seekers, 1, __ATOMIC_SEQ_CST);
 	if (p->first)
@@ -396,13 +411,21 @@ COLD int ww_seek_seat(struct ww_pool *p, const struct timespec *until, ww_seat *
 		p->first = &me;
 	p->last = &me;
 	serve(p);
+	if (!me.seat) {
+		count(&p->sought);
+		PROBE_CONTEXT_WAIT(p->class_);
+	}
 	pthread_mutex_unlock(&p->queue);
 	while (!__atomic_load_n(&me.served, __ATOMIC_ACQUIRE)) {
 		if (until && ww_has_come(until) && leave(p, &me))
-			return -ETIMEDOUT;
+			break;
 		ww_futex_wait(&me.served, 0, until);
 	}
+	ww_debug_seeks_no_more();
 	*s = me.seat;
+	if (!me.seat)
+		return -ETIMEDOUT;
+	is_user(me.seat);
 	return 0;
 }
 
@@ -423,6 +446,7 @@ static void in_child(void)
 		set_out(&p->numbers, 0, p->numbers.below);
 		set_out(&p->loose, 0, p->loose.below);
 	}
+	ww_debug_in_child();
 	pthread_mutex_unlock(&opening);
 }
 
@@ -487,6 +511,7 @@ static int make_pool(struct ww_class *c, struct ww_pool **made)
 			world->seats[k].pool = p;
 		p->mutexes = mutexes;
 		p->contexts = contexts;
+		__atomic_store_n(&p->sought, 0, __ATOMIC_RELAXED);
 		set_out(&p->numbers, mutexes, below);
 		set_out(&p->loose, contexts, below + mutexes);
 		r = ww_debug_open(p);
@@ -503,20 +528,58 @@ static int make_pool(struct ww_class *c, struct ww_pool **made)
 	return 0;
 }
 
-COLD int ww_class_open(struct ww_class *c)
+/* Opening is locked. */
+static int open_now(struct ww_class *c)
 {
 	struct ww_pool *p = NULL;
 	int r = 0;
 
-	pthread_mutex_lock(&opening);
 	if (!c->pool && !(r = prepare()) && !(r = make_pool(c, &p))) {
 		p->next = pools;
 		pools = p;
 		__atomic_store_n(&c->pool, p, __ATOMIC_RELEASE);
 	}
+	return r;
+}
+
+COLD int ww_class_open(struct ww_class *c)
+{
+	int r;
+
+	pthread_mutex_lock(&opening);
+	r = open_now(c);
 	pthread_mutex_unlock(&opening);
 	return r;
 }
+
+/* Opening is locked, and the mutex has no number. */
+static int number_now(struct ww_mutex *m)
+{
+	struct ww_class *c = m->class_;
+	int r = c ? open_now(c) : -EINVAL;
+
+	if (!r)
+		r = number_of_pool(c->pool, &m->number);
+	if (!r)
+		__atomic_store_n(&m->pool, c->pool, __ATOMIC_RELEASE);
+	return r;
+}
+
+/* Others may lock it first as well: one of them gives it its number, and whatever lay in the place of its class is theirs then. */
+COLD int ww_number_at_first(struct ww_mutex *m)
+{
+	int r = 0;
+
+	pthread_mutex_lock(&opening);
+	if (!pool_at(m))
+		r = number_now(m);
+	pthread_mutex_unlock(&opening);
+	return r;
+}
+
+size_t ww_class_size(void) { return sizeof(struct ww_class); }
+size_t ww_mutex_size(void) { return sizeof(struct ww_mutex); }
+size_t ww_acquire_size(void) { return sizeof(struct ww_acquire_ctx); }
 
 void ww_class_init(struct ww_class *c, int is_wait_die, const char *name)
 {
@@ -566,12 +629,14 @@ static void free_pool(struct ww_pool *p)
 int ww_class_free(struct ww_class *c)
 {
 	struct ww_pool **at = &pools, *p;
+	char *left = NULL;
 	int r = 0;
 
 	pthread_mutex_lock(&opening);
 	p = c->pool;
 	if (p && !p->gone && (!all_free(&p->numbers) || !is_idle(p))) {
 		r = -EBUSY;
+		left = ww_debug_left(p);
 	} else if (p) {
 		while (*at != p)
 			at = &(*at)->next;
@@ -582,5 +647,23 @@ int ww_class_free(struct ww_class *c)
 			free_pool(p);
 	}
 	pthread_mutex_unlock(&opening);
+	ww_debug_busy(left);
 	return r;
+}
+
+/* A seat that was never given counts nothing. */
+void ww_class_stats(struct ww_class *c, struct ww_class_stats *stats)
+{
+	struct ww_pool *p;
+
+	*stats = (struct ww_class_stats){ 0 };
+	pthread_mutex_lock(&opening);
+	p = c->pool;
+	if (p)
+		stats->context_waits = __atomic_load_n(&p->sought, __ATOMIC_RELAXED);
+	for (uint32_t k = 0; p && k < __atomic_load_n(&p->loose.fresh, __ATOMIC_RELAXED); k++) {
+		stats->lock_waits += __atomic_load_n(&p->world->seats[k].waits, __ATOMIC_RELAXED);
+		stats->back_offs += __atomic_load_n(&p->world->seats[k].back_offs, __ATOMIC_RELAXED);
+	}
+	pthread_mutex_unlock(&opening);
 }

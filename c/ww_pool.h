@@ -4,6 +4,29 @@
 #include "ww_inside.h"
 #include "ww_mutex.h"
 #include <pthread.h>
+#include <stdio.h>
+#include <stdlib.h>
+
+/*
+ * What perf and bpftrace may be told, where SystemTap's header is here: each is an instruction that does nothing, where
+ * a call waits anyway.
+ */
+#ifdef __has_include
+#if __has_include(<sys/sdt.h>)
+#include <sys/sdt.h>
+#define PROBES(probe) probe
+#ifdef __clang__
+#pragma clang diagnostic ignored "-Wgnu-zero-variadic-macro-arguments" /* of that header */
+#endif
+#endif
+#endif
+#ifndef PROBES
+#define PROBES(probe) ((void)0)
+#endif
+#define PROBE_CONTENTION_BEGIN(lock, ctx) PROBES(DTRACE_PROBE2(ww, contention_begin, lock, ctx))
+#define PROBE_CONTENTION_END(lock, ctx, answer) PROBES(DTRACE_PROBE3(ww, contention_end, lock, ctx, answer))
+#define PROBE_BACK_OFF(lock, ctx) PROBES(DTRACE_PROBE2(ww, back_off, lock, ctx))
+#define PROBE_CONTEXT_WAIT(of_class) PROBES(DTRACE_PROBE1(ww, context_wait, of_class))
 
 struct debug;
 
@@ -40,6 +63,7 @@ struct ww_pool {
 	uint32_t seekers __attribute__((aligned(64))); /* so many threads wait for a seat; others take none meanwhile */
 	struct ww_seeker *first, *last;                /* of these, in the order in which they came */
 	pthread_mutex_t queue;                         /* for both */
+	uint64_t sought;                               /* how many waited, in all */
 	/* Whoever has it uses the seat behind those of the contexts, and waits for nobody. */
 	pthread_mutex_t spare __attribute__((aligned(64)));
 };
@@ -70,9 +94,13 @@ struct ww_mine {
 };
 WW_HIDDEN extern __thread struct ww_mine ww_mine __attribute__((tls_model("initial-exec")));
 
+/* A number for a mutex that WW_MUTEX_INIT made, unless it has one: 0, or as ww_mutex_init_checked. */
+WW_HIDDEN int ww_number_at_first(struct ww_mutex *m);
 /* A number that is free, if there is one. */
 WW_HIDDEN bool ww_take_number(struct ww_numbers *of, uint32_t *number);
 WW_HIDDEN void ww_give_number(struct ww_numbers *of, uint32_t number);
+/* How many are free, at a glance. */
+WW_HIDDEN uint32_t ww_free_numbers(const struct ww_numbers *of);
 /* Where the seat that this thread had last isn't at hand: any other that it may use now; or NULL. */
 WW_HIDDEN ww_seat *ww_other_seat(struct ww_pool *p);
 /* The keeper of this seat began to use it while they came to be shared. */
@@ -81,6 +109,8 @@ WW_HIDDEN ww_seat *ww_late_seat(struct ww_pool *p, ww_seat *s);
 WW_HIDDEN void ww_give_shared(struct ww_pool *p, ww_seat *s, uint64_t id, bool was_loose);
 /* Waits for a seat behind all who wait already, until a time if that isn't NULL: -ETIMEDOUT; -EINVAL in a child. */
 WW_HIDDEN int ww_seek_seat(struct ww_pool *p, const struct timespec *until, ww_seat **s);
+/* Whether the mutex could be acquired at once; a glance, for all but who knows that nobody uses it. */
+WW_HIDDEN bool ww_is_released(struct ww_pool *p, struct ww_mutex *m);
 
 static inline int pool_of(struct ww_class *c, struct ww_pool **p)
 {
@@ -92,6 +122,20 @@ static inline int pool_of(struct ww_class *c, struct ww_pool **p)
 	*p = __atomic_load_n(&c->pool, __ATOMIC_ACQUIRE);
 	return r;
 }
+
+/* One more: by whoever may write it alone, while others read it. */
+static inline void count(uint64_t *counted)
+{
+	__atomic_store_n(counted, __atomic_load_n(counted, __ATOMIC_RELAXED) + 1, __ATOMIC_RELAXED);
+}
+
+static inline int number_of_pool(struct ww_pool *p, uint32_t *number)
+{
+	return LIKELY(ww_take_number(&p->numbers, number)) ? 0 : p->gone ? -EINVAL : -ENOSPC;
+}
+
+/* NULL: it has no number.  Where it has one its number is to be seen, whoever gave it. */
+static inline struct ww_pool *pool_at(const struct ww_mutex *m) { return __atomic_load_n(&m->pool, __ATOMIC_ACQUIRE); }
 
 /*
  * Whether this thread keeps the seat that it had last, of this class, and nobody uses it: a context that was begun here may
@@ -158,7 +202,7 @@ enum {
 	HAS_TO_BACK_OFF = WW_HAS_TO_BACK_OFF_,
 	WAITS_FIRST = 4,
 	TRIES = 7,
-	IS_DONE = 8,
+	IS_DONE = 8, /* which no call but ww_acquire_done itself refuses */
 	WAS_TOLD = 16,
 	WAS_INJECTED = 32,
 	HEEDS_IN_LOOPS = 64,
@@ -168,12 +212,21 @@ enum {
 WW_HIDDEN int ww_debug_open(struct ww_pool *p);
 WW_HIDDEN void ww_debug_free(struct ww_pool *p);
 WW_HIDDEN void ww_debug_begun(struct ww_acquire_ctx *x);
-WW_HIDDEN void ww_debug_done(struct ww_acquire_ctx *x);
 WW_HIDDEN void ww_debug_ended(struct ww_acquire_ctx *x);
-/* The seat waits for the mutex, or for none any more. */
-WW_HIDDEN void ww_debug_waits(struct ww_pool *p, ww_seat *s, const struct ww_mutex *m);
+/* The seat waits for the mutex, until a time if that isn't NULL; or for none any more. */
+WW_HIDDEN void ww_debug_waits(ww_seat *s, const struct ww_mutex *m, const struct timespec *until);
+/* This thread waits for a seat, likewise; and no more. */
+WW_HIDDEN void ww_debug_seeks(struct ww_pool *p, const struct timespec *until);
+WW_HIDDEN void ww_debug_seeks_no_more(void);
+/* The mutex is asked for without a context. */
+WW_HIDDEN void ww_debug_alone(const struct ww_mutex *m, const struct timespec *until);
 WW_HIDDEN void ww_debug_acquired(const struct ww_mutex *m, const struct ww_acquire_ctx *x, ww_seat *s);
 WW_HIDDEN void ww_debug_released(const struct ww_mutex *m);
+/* What keeps a class from being freed, or NULL if that was told before; and tells it. */
+WW_HIDDEN char *ww_debug_left(const struct ww_pool *p);
+WW_HIDDEN void ww_debug_busy(char *left);
+/* Of a fork. */
+WW_HIDDEN void ww_debug_in_child(void);
 /* Tells what is wrong, where, and by which calls the program came there. */
 WW_HIDDEN void ww_debug_fault(const char *call, const char *why);
 /* Whether a lock call may be made, as far as the proved library doesn't know. */
@@ -186,9 +239,17 @@ WW_HIDDEN bool ww_debug_injected(const struct ww_mutex *m, const struct ww_acqui
 static inline int ww_debug_open(struct ww_pool *p) { return (void)p, 0; }
 static inline void ww_debug_free(struct ww_pool *p) { (void)p; }
 static inline void ww_debug_begun(struct ww_acquire_ctx *x) { (void)x; }
-static inline void ww_debug_done(struct ww_acquire_ctx *x) { (void)x; }
 static inline void ww_debug_ended(struct ww_acquire_ctx *x) { (void)x; }
-static inline void ww_debug_waits(struct ww_pool *p, ww_seat *s, const struct ww_mutex *m) { (void)p, (void)s, (void)m; }
+static inline void ww_debug_waits(ww_seat *s, const struct ww_mutex *m, const struct timespec *until)
+{
+	(void)s, (void)m, (void)until;
+}
+static inline void ww_debug_seeks(struct ww_pool *p, const struct timespec *until) { (void)p, (void)until; }
+static inline void ww_debug_seeks_no_more(void) {}
+static inline void ww_debug_alone(const struct ww_mutex *m, const struct timespec *until) { (void)m, (void)until; }
+static inline char *ww_debug_left(const struct ww_pool *p) { return (void)p, (char *)0; }
+static inline void ww_debug_busy(char *left) { (void)left; }
+static inline void ww_debug_in_child(void) {}
 static inline void ww_debug_acquired(const struct ww_mutex *m, const struct ww_acquire_ctx *x, ww_seat *s)
 {
 	(void)m, (void)x, (void)s;
@@ -205,4 +266,28 @@ static inline bool ww_debug_injected(const struct ww_mutex *m, const struct ww_a
 	return (void)m, (void)x, false;
 }
 #endif
+
+__attribute__((noreturn, cold)) static inline void end(const char *call, const char *why)
+{
+	ww_debug_fault(call, why);
+	fprintf(stderr, "%s: %s\n", call, why);
+	abort();
+}
+
+/* Why no number or no seat was given, in words. */
+static inline const char *told(int r)
+{
+	switch (r) {
+	case -ENOMEM: return "there is no memory to open the class";
+	case -ENOSPC: return "the class has all mutexes that it may have (one that isn't destroyed stays)";
+	case -EAGAIN: return "all contexts of the class are in use";
+	default: return "the class was opened before a fork, of which this is the child";
+	}
+}
+
+/* In a forked child, by go_on of ww_mutex.c. */
+static inline bool is_let_go(const ww_seat *s) { return !s->handle.at; }
+
+/* By which a thread can sleep. */
+static inline bool is_time(const struct timespec *at) { return at->tv_nsec >= 0 && at->tv_nsec < 1000000000; }
 #endif

@@ -100,7 +100,8 @@ fn build(is_debug: bool, name: &str) -> Answer<()> {
     }
     let mut objects = vec![compiler.compile(&core, &out, &[])?];
     for source in c_files(&sources)? {
-        if source.ends_with("ww_debug.c") && !is_debug {
+        let is_of_debug = source.file_name().is_some_and(|it| it.to_string_lossy().starts_with("ww_debug"));
+        if is_of_debug && !is_debug {
             continue;
         }
         objects.push(compiler.compile(&source, &out, &words)?);

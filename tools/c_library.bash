@@ -77,7 +77,13 @@ assembly_of() {
  * proof:   $proof
  */
 HEAD
-    sed -E '/^\t\.(file|ident)\t/d'
+    sed -E '/^\t\.(file|ident)\t/d' | plain_names
+}
+
+# A name in quotes, as "std_alloc::vec::Vec::drop::<#12>", becomes one of letters, digits, dots and underscores, since
+# older assemblers take such quotes for less (binutils 2.35 no #). Two names that became one it would refuse.
+plain_names() {
+    LC_ALL=C sed -E 's/"([^"]*::[^"]*)"/\x01\1\x02/g; :next; s/\x01([A-Za-z0-9_.]*)[^A-Za-z0-9_.\x02]/\x01\1_/; t next; s/[\x01\x02]//g'
 }
 
 # A checksum of all that is proved for the library: the sources of its crates, with their specs and proofs.

@@ -13,27 +13,21 @@ static struct account bank[8];
 /* 0, or -EALREADY where both are the same account. */
 static int transfer(struct account *from, struct account *to, long money)
 {
-	struct account *a = from, *b = to;
 	struct ww_acquire_ctx ctx;
-	int err;
+	int err = 0;
 
 	ww_acquire_init(&ctx, &accounts);
-	err = ww_mutex_lock(&a->lock, &ctx);
-	while (!err && (err = ww_mutex_lock(&b->lock, &ctx)) == -EDEADLK) {
-		struct account *was = a;
-
-		ww_mutex_unlock(&a->lock); /* an older context wants it */
-		ww_mutex_lock_slow(&b->lock, &ctx); /* waits with nothing held */
-		a = b;
-		b = was;
-		err = 0;
+	ww_until_all_locked(&ctx) {
+		err = ww_mutex_lock(&from->lock, &ctx);
+		if (!err)
+			err = ww_mutex_lock(&to->lock, &ctx);
+		ww_retry_on_contention(&ctx); /* after -EDEADLK it begins again, with nothing held */
 	}
 	if (!err) {
 		from->money -= money;
 		to->money += money;
-		ww_mutex_unlock(&b->lock);
 	}
-	ww_mutex_unlock(&a->lock);
+	ww_acquire_unlock_all(&ctx);
 	ww_acquire_fini(&ctx);
 	return err;
 }

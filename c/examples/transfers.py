@@ -3,7 +3,7 @@ import os
 import sys
 import threading
 
-sys.path.insert(0, os.path.join(os.path.dirname(os.path.abspath(__file__)), ".."))  # where it isn't installed
+sys.path.insert(0, os.path.join(os.path.dirname(os.path.abspath(__file__)), "../python"))  # where it isn't installed
 import ww
 
 accounts = [0, 0]

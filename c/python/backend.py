@@ -1,4 +1,4 @@
-"""Packs the module ww with its library as a wheel, for pip (build_wheel, by PEP 517), and for tools/dist:
+"""Packs the package ww with its library as a wheel, for pip (build_wheel, by PEP 517), and for tools/dist:
 
     backend.py FOLDER LIBRARY TAG [FILE..]
 
@@ -6,6 +6,7 @@ writes the wheel for the platform TAG into FOLDER, with these files beside what 
 name. Where SOURCE_DATE_EPOCH is set its files are of that time.
 """
 import base64
+import glob
 import hashlib
 import os
 import re
@@ -35,8 +36,9 @@ def pack(folder, library, platform, more=()):
     number, tag = version(), f"py3-none-{platform}"
     info = f"{NAME}-{number}.dist-info"
     metadata = f"Metadata-Version: 2.1\nName: {NAME}\nVersion: {number}\nSummary: proved wound/wait locks\nRequires-Python: >=3.9\n"
-    files = {
-        "ww/__init__.py": read(f"{C}/ww.py"),
+    modules = sorted(glob.glob(f"{C}/python/ww/*.py"))
+    files = {f"ww/{os.path.basename(it)}": read(it) for it in modules}
+    files |= {
         f"ww/libww.so.{number.split('.', maxsplit=1)[0]}": read(library),
         f"{info}/METADATA": metadata.encode(),
         f"{info}/WHEEL": f"Wheel-Version: 1.0\nGenerator: {NAME}\nRoot-Is-Purelib: false\nTag: {tag}\n".encode(),

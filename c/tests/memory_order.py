@@ -269,13 +269,14 @@ def arm_model(events, sb, rf, mo, lse):
 
 # ---- the sources ----
 
-SOURCES = ["ww.c", "ww_pool.h", "ww_pool.c", "ww_mutex.h", "ww_mutex.c", "ww_inside.h", "ww_debug.c"]
+SOURCES = ["ww.c", "ww_pool.h", "ww_pool.c", "ww_context.c", "ww_mutex.h", "ww_mutex.c", "ww_number.h", "ww_number.c", "ww_inside.h",
+           "ww_debug.h", "ww_debug.c", "ww_debug_waits.c"]
 SHORT = {"RELAXED": "rlx", "ACQUIRE": "acq", "RELEASE": "rel", "ACQ_REL": "ar", "SEQ_CST": "sc"}
 
 # Of each field, in each source: its accesses there, and what orders them. Of a compare-exchange that fails the second order.
 TABLE = {
     # A token that was given is taken away before its thread looks at the state again, which the giver changed before.
-    "token": {"ww.c": "compare_exchange sc/sc, exchange sc, load sc sc, store sc"},
+    "token": {"ww.c": "compare_exchange sc/sc, exchange sc, load sc sc sc, store sc"},
     # Counted after a cancel's step; put in order with the seat's next user by `taken`.
     "cancels": {"ww.c": "fetch_add sc", "ww_inside.h": "load sc"},
     "stale": {"ww.c": "exchange sc sc, load sc", "ww_inside.h": "store sc"},
@@ -285,16 +286,24 @@ TABLE = {
     "turn": {"ww.c": "fetch_add rlx"},
     # Said before the waiter is woken, which looks at it after it took its token away.
     "asked": {"ww.c": "load sc"},
-    "cancelled": {"ww_mutex.c": "exchange sc sc, store rlx"},
+    "cancelled": {"ww_context.c": "exchange sc, store rlx", "ww_mutex.c": "exchange sc"},
     # A canceller may look while a context begins or ends: a cancel that isn't ordered after ww_acquire_init is no right call.
-    "own": {"ww_mutex.c": "load rlx, store rlx rlx"},
+    "own": {"ww_context.c": "load rlx, store rlx rlx"},
     # A mutex's holder alone writes these, and the lock orders holders; whoever else looks has only a glance, or takes the lock.
-    "ctx": {"ww_mutex.c": "load rlx, store rlx rlx rlx", "ww_mutex.h": "load rlx, store rlx rlx"},
-    "alone": {"ww_mutex.c": "load rlx, store rlx rlx"},
+    "ctx": {"ww_context.c": "load rlx", "ww_mutex.c": "load rlx, store rlx rlx rlx", "ww_mutex.h": "load rlx, store rlx rlx"},
+    # By it others look who uses the seat, which was said before.
+    "alone": {"ww_context.c": "load acq", "ww_mutex.c": "load rlx, store rel rlx"},
+    "user": {"ww_context.c": "load rlx", "ww_pool.c": "store rlx"},
     # A waiter says first that it holds the mutex, and then that it waits no more; who destroys looks the other way round.
     "waiters": {"ww_mutex.c": "fetch_add sc sc, fetch_sub sc sc, load sc"},
-    # All of an open class.
-    "pool": {"ww_mutex.c": "load acq acq", "ww_pool.h": "load acq acq", "ww_pool.c": "store rel rel", "ww_debug.c": "load acq"},
+    # All of an open class; and of a mutex the number, which its first lock may just have given it.
+    "pool": {
+        "ww_context.c": "load acq acq",
+        "ww_mutex.h": "load acq acq",
+        "ww_pool.h": "load acq acq acq",
+        "ww_pool.c": "store rel rel rel",
+        "ww_debug_waits.c": "load acq",
+    },
     # Of seats that aren't shared: what their user wrote goes with busy, to its keeper and to whoever shares them.
     "busy": {"ww_pool.h": "load acq, store rel rlx", "ww_pool.c": "load acq acq acq acq, store rlx"},
     # Its keeper looks after it stored busy: membarrier(2) orders these. Whoever waits until the seats are shared acquires.
@@ -305,17 +314,27 @@ TABLE = {
     # Written before its number is given, read before it is taken: top orders both, and counts its changes.
     "below": {"ww_pool.c": "load rlx rlx, store rlx"},
     # A number that nobody had has no history.
-    "fresh": {"ww_pool.c": "compare_exchange rlx/rlx, load rlx rlx rlx rlx"},
+    "fresh": {"ww_pool.c": "compare_exchange rlx/rlx, load rlx rlx rlx rlx rlx", "ww_debug.c": "load rlx"},
     # The seat that is handed over, and all that goes with it.
     "served": {"ww_pool.c": "load acq, store rel"},
-    # Counts, which order nothing; and glances of the debug library.
+    # Counts, which order nothing; and glances of the debug library. What a waiter in its list did before is ordered by its lock.
     "threads": {"ww_pool.c": "fetch_add rlx"},
+    "sought": {"ww_pool.c": "load rlx, store rlx"},
+    "waits": {"ww_pool.c": "load rlx"},
+    "back_offs": {"ww_pool.c": "load rlx"},
+    "counted": {"ww_pool.h": "load rlx, store rlx"},
     "faults": {"ww_debug.c": "fetch_add rlx, load rlx"},
+    "dangers": {"ww_debug.c": "fetch_add rlx rlx, load rlx"},
+    "told_of": {"ww_debug.c": "compare_exchange rlx/rlx"},
+    "patience": {"ww_debug_waits.c": "load rlx, store rlx"},
     "stamps": {"ww_debug.c": "add_fetch rlx"},
-    "stamp": {"ww_debug.c": "load rlx, store rlx rlx"},
-    "wants": {"ww_debug.c": "load rlx, store rlx"},
-    "seat": {"ww_debug.c": "load rlx, store rlx rlx"},
-    "thread": {"ww_debug.c": "load rlx, store rlx"},
+    "stamp": {"ww_debug.c": "load rlx rlx rlx, store rlx rlx", "ww_debug_waits.c": "load rlx rlx"},
+    "wants": {"ww_debug.c": "store rlx", "ww_debug_waits.c": "load rlx"},
+    "held": {"ww_debug.c": "load rlx rlx rlx rlx, store rlx rlx rlx"},
+    "file": {"ww_debug.h": "load rlx", "ww_debug.c": "store rlx"},
+    "line": {"ww_debug.h": "load rlx", "ww_debug.c": "store rlx"},
+    "seat": {"ww_debug.c": "load rlx, store rlx rlx", "ww_debug_waits.c": "load rlx"},
+    "thread": {"ww_debug.c": "load rlx rlx, store rlx rlx rlx rlx rlx", "ww_debug_waits.c": "load rlx rlx rlx rlx"},
 }
 
 
@@ -546,6 +565,14 @@ def ours():
         [W("id", 5), W("pool", 1, "rel")],
         [R("p", "pool", "acq"), IF("p", 1, R("i", "id"))],
     ], lambda r, f: r[1].get("i") == 0
+    yield "a seat by which a mutex is held has another user now", [
+        [W("user", 1, "rlx"), W("busy", 0, "rel"), R("m", "alone", "acq"), IF("m", 1, R("u", "user", "rlx"))],
+        [R("b", "busy", "acq"), IF("b", 0, W("user", 2, "rlx"), W("alone", 1, "rel"))],
+    ], lambda r, f: r[0].get("u") == 1, {"busy": 1}
+    yield "a mutex gets its number at its first lock, by another thread", [
+        [W("number", 5), W("pool", 1, "rel"), X("l", "lock", swap(0, 2), "sc"), W("newer", 3)],
+        [R("p", "pool", "acq"), IF("p", 1, R("n", "number"), X("l", "lock", swap(0, 2), "sc"))],
+    ], lambda r, f: r[1].get("n") == 0
     yield "a class is freed, and opened anew, behind its last context", [
         [R("i", "id"), W("busy", 0, "rel"), R("o", "own_id", "rlx")],
         [R("b", "busy", "acq"), IF("b", 0, W("own_id", 9, "rlx"), W("id", 6), W("own_id", 6, "rlx"))],

@@ -43,7 +43,7 @@ static int refusal(const struct mine *m, unsigned n)
 {
 	if (m->own[n])
 		return -EALREADY;
-	return !m->runs || m->done || (m->count && m->told != NONE) ? -EINVAL : 0;
+	return !m->runs || (m->count && m->told != NONE) ? -EINVAL : 0;
 }
 
 /* heeds: it may be called off; until: and have its time. */
@@ -69,7 +69,7 @@ static void ends(struct mine *m, unsigned n, int refused, bool heeds, bool until
 
 static void locks_one(struct mine *m, unsigned n, unsigned way)
 {
-	int refused = refusal(m, n), due = m->told == n && !m->count && m->runs && !m->done ? 0 : -EINVAL;
+	int refused = refusal(m, n), due = m->told == n && !m->count && m->runs ? 0 : -EINVAL;
 	struct timespec soon = in_ms(0);
 
 	switch (way) {
@@ -104,7 +104,7 @@ static void locks_all(struct mine *m, unsigned n)
 		refused |= m->own[(n + k) % LOCKS];
 	}
 	r = ww_mutex_lock_all(&m->x, list, 4);
-	if (!m->runs || m->done || (held && m->told != NONE)) {
+	if (!m->runs || (held && m->told != NONE)) {
 		MUST(r == -EINVAL || r == -EALREADY);
 	} else if (r == -EDEADLK) {
 		MUST(held);

@@ -28,7 +28,11 @@ static void answers(struct ww_class *c)
 	MUST(!a.ctx && !ww_mutex_is_locked(&a) && x.acquired == 1);
 	ww_acquire_done(&x);
 	MUST(ww_acquire_done_checked(&x) == -EINVAL);
-	MUST(ww_mutex_lock(&a, &x) == -EINVAL && !ww_mutex_trylock(&a, &x) && !ww_mutex_is_locked(&a));
+	/* Only the debug library tells of what comes then. */
+	MUST(!ww_mutex_lock(&a, &x) && x.acquired == 2);
+	ww_mutex_unlock(&a);
+	MUST(ww_mutex_trylock(&a, &x));
+	ww_mutex_unlock(&a);
 	ww_mutex_unlock(&b);
 	MUST(ww_mutex_unlock_checked(&b) == -EINVAL);
 	ww_acquire_fini(&x);
@@ -120,7 +124,10 @@ static void another_class(struct ww_class *c)
 	ww_acquire_init(&x, c);
 	MUST(ww_mutex_lock(&its, &x) == -EINVAL && ww_mutex_lock_interruptible(&its, &x) == -EINVAL);
 	MUST(ww_mutex_lock_slow_interruptible(&its, &x) == -EINVAL && ww_mutex_lock_until(&its, &x, &at) == -EINVAL);
+	MUST(ww_mutex_trylock_checked(&its, &x) == -EINVAL && ww_mutex_trylock_checked(&zero, NULL) == -EINVAL);
 	MUST(!ww_mutex_is_locked(&its) && !ww_mutex_is_locked(&mine) && !x.acquired);
+	MUST(ww_mutex_trylock_checked(&mine, &x) == 1 && !ww_mutex_trylock_checked(&mine, NULL) && !ww_mutex_trylock_checked(&mine, &x));
+	ww_mutex_unlock(&mine);
 	MUST(ww_mutex_lock(&zero, &x) == -EINVAL && ww_mutex_lock_interruptible(&zero, NULL) == -EINVAL);
 	MUST(ww_mutex_destroy(&zero) == -EINVAL && ww_mutex_unlock_checked(&zero) == -EINVAL);
 	MUST(!ww_mutex_lock(&its, NULL) && !ww_mutex_lock(&mine, &x));

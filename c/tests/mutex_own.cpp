@@ -114,7 +114,6 @@ static void lists(struct ww_class &c)
 	MUST(!x.try_lock(d.lock));
 	x.unlock_all();
 	x.done();
-	MUST(x.lock(d.lock) == -EINVAL);
 }
 
 // After a back-off, in Wait-Die: whatever is acquired first is instead of the wait, and that has its time.

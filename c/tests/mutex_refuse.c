@@ -3,7 +3,7 @@
  * key too: the class isn't open, nothing is left but the one piece of memory that the
  * next class has, and the same call does it later.
  * No other call allocates.  This heap stands in for that of the library, and what
- * ww.c and ww_mutex.c ask for comes by the wrappers (ld --wrap).
+ * the library's sources ask for comes by the wrappers (ld --wrap).
  */
 #include "mutex_test.h"
 

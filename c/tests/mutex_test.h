@@ -6,6 +6,16 @@
 #include <string.h>
 #include <unistd.h>
 
+/* Whether the debug library tells by which calls a program came somewhere. */
+#ifdef __has_include
+#if __has_include(<execinfo.h>)
+#define HAS_BACKTRACE true
+#endif
+#endif
+#ifndef HAS_BACKTRACE
+#define HAS_BACKTRACE false
+#endif
+
 /* So many milliseconds from now, on the monotonic clock. */
 static inline struct timespec in_ms(long ms)
 {

@@ -8,7 +8,7 @@
 #include <stdarg.h>
 #include <sys/syscall.h>
 
-enum { WAITERS = 12, LATE = 5 };
+enum { WAITERS = 14, LATE = 5, LATE_TOO = 6 };
 
 static DEFINE_WW_CLASS(wound_wait);
 static DEFINE_WD_CLASS(wait_die);
@@ -24,30 +24,34 @@ static void awaits_seekers(uint32_t count)
 		usleep(100);
 }
 
+static bool is_late(size_t waiter) { return waiter == LATE || waiter == LATE_TOO; }
+
 static void *waits_its_turn(void *arg)
 {
 	size_t me = (size_t)arg;
 	struct timespec soon = in_ms(200), late = in_ms(100000);
 	struct ww_acquire_ctx x;
 
-	if (me == LATE) {
-		MUST(ww_mutex_lock_until(&alone[me], NULL, &soon) == -ETIMEDOUT);
-		__atomic_store_n(&gone, 1, __ATOMIC_SEQ_CST);
+	if (is_late(me)) {
+		MUST((me == LATE ? ww_mutex_lock_until(&alone[me], NULL, &soon) : ww_acquire_init_until(&x, c, &soon)) == -ETIMEDOUT);
+		__atomic_fetch_add(&gone, 1, __ATOMIC_SEQ_CST);
 		return NULL;
 	}
-	if (me % 3 == 0)
+	if (me % 4 == 0)
 		ww_acquire_init(&x, c);
+	else if (me % 4 == 1)
+		MUST(!ww_acquire_init_until(&x, c, &late));
 	else
-		MUST(!(me % 3 == 1 ? ww_mutex_lock(&alone[me], NULL) : ww_mutex_lock_until(&alone[me], NULL, &late)));
+		MUST(!(me % 4 == 2 ? ww_mutex_lock(&alone[me], NULL) : ww_mutex_lock_until(&alone[me], NULL, &late)));
 	order[come++] = (unsigned)me;
-	if (me % 3 == 0)
+	if (me % 4 < 2)
 		ww_acquire_fini(&x);
 	else
 		ww_mutex_unlock(&alone[me]);
 	return NULL;
 }
 
-/* One context; they come one after another, and one of them goes before its turn. */
+/* One context; they come one after another, and two of them go before their turn. */
 static void in_order(void)
 {
 	pthread_t threads[WAITERS];
@@ -63,15 +67,16 @@ static void in_order(void)
 		awaits_seekers((uint32_t)k + 1);
 	}
 	end_thread(threads[LATE]);
+	end_thread(threads[LATE_TOO]);
 	awaits_seekers(WAITERS);
 	gone = 0;
 	ww_acquire_fini(&x);
 	for (unsigned k = 0; k < WAITERS; k++)
-		if (k != LATE)
+		if (!is_late(k))
 			end_thread(threads[k]);
-	MUST(come == WAITERS - 1 && !c->pool->seekers);
+	MUST(come == WAITERS - 2 && !c->pool->seekers);
 	for (unsigned k = 0; k < come; k++)
-		MUST(order[k] == k + (k >= LATE));
+		MUST(order[k] == (k < LATE ? k : k + 2));
 	for (unsigned k = 0; k < WAITERS; k++)
 		MUST(!ww_mutex_destroy(&alone[k]));
 	MUST(!ww_class_free(c));
@@ -126,12 +131,13 @@ static void nobody_barges(void)
 int __real_pthread_mutex_lock(pthread_mutex_t *m);
 int __wrap_pthread_mutex_lock(pthread_mutex_t *m);
 static struct ww_acquire_ctx *ends_then;
+static unsigned before_that; /* so often the queue is locked */
 
 int __wrap_pthread_mutex_lock(pthread_mutex_t *m)
 {
 	struct ww_acquire_ctx *x = ends_then;
 
-	if (x && m == &c->pool->queue) {
+	if (x && m == &c->pool->queue && !before_that--) {
 		ends_then = NULL;
 		ww_acquire_fini(x);
 	}
@@ -147,11 +153,39 @@ static void ends_just_then(void)
 	for (unsigned k = 0; k < 3; k++) {
 		ww_acquire_init(&x, c);
 		ends_then = &x;
+		before_that = 0;
 		ww_acquire_init(&y, c);
 		MUST(!ends_then && !c->pool->seekers && ww_acquire_init_checked(&x, c) == -EAGAIN);
 		ww_acquire_fini(&y);
 	}
 	MUST(!ww_class_free(c));
+}
+
+/*
+ * The only context ends just as this one gives up: what was handed to it then it has, and nobody lost.  A context that is
+ * free is begun, however late it is.
+ */
+static void gives_up_just_then(void)
+{
+	struct timespec past = in_ms(0), none = past;
+	struct ww_acquire_ctx x, y;
+
+	MUST(!ww_class_limit(c, 1, 1));
+	ww_acquire_init(&x, c);
+	for (unsigned k = 0; k < 3; k++) {
+		MUST(ww_acquire_init_until(&y, c, &past) == -ETIMEDOUT && !c->pool->seekers);
+		ends_then = &x;
+		before_that = 1;
+		MUST(!ww_acquire_init_until(&y, c, &past) && !ends_then && !c->pool->seekers);
+		MUST(ww_acquire_init_checked(&x, c) == -EAGAIN);
+		ww_acquire_fini(&y);
+		MUST(!ww_acquire_init_until(&x, c, &past));
+	}
+	ww_acquire_fini(&x);
+	none.tv_nsec = 1000000000;
+	MUST(ww_acquire_init_until(&x, c, &none) == -EINVAL);
+	none.tv_nsec = -1;
+	MUST(ww_acquire_init_until(&x, c, &none) == -EINVAL && !ww_class_free(c));
 }
 
 static void *begins_and_ends(void *arg)
@@ -301,7 +335,7 @@ static void *takes_both(void *arg)
 }
 
 /* A keeper begins to use its seat, and only then sees that others have it; or that it was left to it. */
-static void is_late(void)
+static void comes_late(void)
 {
 	struct ww_acquire_ctx x, both[2];
 	ww_seat *s;
@@ -420,13 +454,14 @@ int main(int count, char **words)
 			in_order();
 		nobody_barges();
 		ends_just_then();
+		gives_up_just_then();
 		comes_just_then();
 		if (stay_unshared()) {
 			for (unsigned k = 0; k < 2 * KEEPERS; k++) {
 				keeper = (enum keeper)(k % KEEPERS);
 				come_to_be_shared();
 			}
-			is_late();
+			comes_late();
 		}
 		each_end_wakes();
 		for (unsigned k = 0; k < 4; k++)

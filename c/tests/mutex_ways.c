@@ -202,9 +202,10 @@ static void forgets_cancels(void)
 	end_thread(thread);
 }
 
-/* A slow lock is called off too, and then asked for again. */
+/* A slow lock is called off too, or ends at a time, and is then asked for again. */
 static void slowly(void)
 {
+	struct timespec past = { 0, 0 }, none = { 0, -1 };
 	struct ww_acquire_ctx older, x;
 
 	if (!c->is_wait_die)
@@ -215,8 +216,11 @@ static void slowly(void)
 	ww_mutex_unlock(&b);
 	for (unsigned k = 0; k < 3; k++)
 		MUST(!ww_acquire_cancel(&x) && ww_mutex_lock_slow_interruptible(&a, &x) == -EINTR);
+	MUST(ww_mutex_lock_slow_until(&a, &x, &past) == -ETIMEDOUT && ww_mutex_lock_slow_until(&a, &x, &none) == -EINVAL);
+	MUST(!ww_acquire_cancel(&x) && ww_mutex_lock_slow_until(&a, &x, &past) == -EINTR);
+	MUST(ww_mutex_lock_slow_until(&b, &x, &past) == -EINVAL && !x.acquired);
 	ww_mutex_unlock(&a);
-	MUST(!ww_mutex_lock_slow_interruptible(&a, &x));
+	MUST(!ww_mutex_lock_slow_until(&a, &x, &past) && ww_mutex_lock_slow_until(&a, &x, &past) == -EINVAL);
 	ww_mutex_unlock(&a);
 	ww_acquire_fini(&x);
 	ww_acquire_fini(&older);
@@ -262,7 +266,9 @@ static void takes_all(void)
 	for (k = 0; k < 8; k++)
 		ww_mutex_unlock(locks[k]);
 	ww_acquire_done(&x);
-	MUST(ww_mutex_lock_all(&x, locks, 8) == -EINVAL && ww_mutex_lock_all(NULL, locks, 8) == -EINVAL);
+	MUST(!ww_mutex_lock_all(&x, locks, 8) && x.acquired == 8 && ww_mutex_lock_all(NULL, locks, 8) == -EINVAL);
+	for (k = 0; k < 8; k++)
+		ww_mutex_unlock(locks[k]);
 	ww_acquire_fini(&x);
 	ww_acquire_fini(&older);
 	MUST(ww_mutex_lock_all(&x, locks, 8) == -EINVAL);

@@ -1,4 +1,4 @@
-"""What ww.py refuses, tries and calls off: refusals.py libww.so"""
+"""What the numbered locks of Python refuse, tries and calls off: refusals.py libww.so"""
 import contextlib
 import ctypes
 import errno
@@ -6,7 +6,7 @@ import os
 import sys
 import threading
 
-sys.path.insert(0, os.path.join(os.path.dirname(os.path.abspath(__file__)), ".."))
+sys.path.insert(0, os.path.join(os.path.dirname(os.path.abspath(__file__)), "../python"))
 import ww
 
 LOCKS = 65536

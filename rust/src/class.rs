@@ -1,10 +1,10 @@
-use crate::cell::Cells;
 use crate::lock::Lock;
-use crate::{error, ffi, Error, Options, Tx};
+use crate::number::Number;
+use crate::{error, ffi, library_version, Error, Options, Tx};
 use core::cell::UnsafeCell;
 use core::ffi::{c_int, CStr};
 use core::fmt;
-use core::ops::DerefMut;
+use core::sync::atomic::{AtomicU32, Ordering::Relaxed};
 
 /// How contexts that collide are told apart. In both kinds the older one goes first.
 #[derive(Clone, Copy, Debug, PartialEq, Eq, Hash)]
@@ -112,7 +112,7 @@ pub trait Class: Sized + 'static {
     }
 
     /// Takes the class's memory now, and not at its first use: 104 bytes for each mutex that it may have, and 1 to 1.5
-    /// KB for each context. A mutex takes 64 bytes more at its first lock.
+    /// KB for each context.
     ///
     /// # Errors
     ///
@@ -127,8 +127,16 @@ pub struct RawClass {
     raw: UnsafeCell<ffi::ww_class>,
     kind: Kind,
     name: &'static CStr,
-    cells: Lock<Cells>,
+    /// No other class has the same one; `NO_TAG` until its first mutex has a number.
+    tag: AtomicU32,
+    /// Numbers whose mutexes went while a context held them, by guards that were forgotten or as what comes first.
+    unreturned: Lock<Vec<Number>>,
 }
+
+/// That of no number.
+const NO_TAG: u32 = u32::MAX;
+/// As many classes have mutexes.
+const MOST_TAGS: u32 = 65_535;
 
 // SAFETY: any thread may call the library with a `ww_class`, and nothing else reads or writes `raw`.
 unsafe impl Sync for RawClass {}
@@ -167,7 +175,8 @@ impl RawClass {
             }),
             kind,
             name,
-            cells: Lock::new(Cells::new()),
+            tag: AtomicU32::new(NO_TAG),
+            unreturned: Lock::new(Vec::new()),
         }
     }
 
@@ -187,8 +196,57 @@ impl RawClass {
         self.raw.get()
     }
 
-    pub(crate) fn cells(&'static self) -> impl DerefMut<Target = Cells> {
-        self.cells.lock()
+    // ---- numbers ----
+
+    #[inline]
+    pub(crate) fn tag(&self) -> u32 {
+        self.tag.load(Relaxed)
+    }
+
+    /// # Panics
+    ///
+    /// The number is of another class.
+    pub(crate) fn check(&self, number: Number) {
+        assert!(number.tag() == self.tag(), "`Class::raw` tells different classes");
+    }
+
+    fn first_tag(&self) -> u32 {
+        static LAST: AtomicU32 = AtomicU32::new(0);
+        assert_eq!(library_version() / 10_000, ffi::INTERFACE, "this is a library of another interface");
+        let last = LAST.fetch_update(Relaxed, Relaxed, |last| (last < MOST_TAGS).then_some(last + 1));
+        let tag = last.expect("there are more than 65,535 classes") + 1;
+        self.tag.compare_exchange(NO_TAG, tag, Relaxed, Relaxed).map_or_else(|other| other, |_| tag)
+    }
+
+    /// One that no mutex has.
+    pub(crate) fn take(&'static self) -> Result<Number, Error> {
+        let tag = if self.tag() == NO_TAG { self.first_tag() } else { self.tag() };
+        let mut index = 0;
+        // SAFETY: the class is static, and `index` lives for the call.
+        let mut take = || unsafe { ffi::ww_number_take(&raw mut index, self.get()) };
+        let mut answer = take();
+        if answer == -ffi::ENOSPC {
+            self.unreturned.lock().retain(|&number| self.put(number) == -ffi::EBUSY);
+            answer = take();
+        }
+        match answer {
+            0 => Ok(Number::new(tag, index)),
+            answer => Err(error::of_making(answer)),
+        }
+    }
+
+    /// Of a mutex that is gone. Where it is locked that waits until numbers are wanted. Whoever was told `Deadlock` at
+    /// it may wait for it still, holding nothing, and has then waited for the mutex that gets the number next.
+    pub(crate) fn give(&'static self, number: Number) {
+        // One of another class is lost.
+        if number.tag() == self.tag() && self.put(number) == -ffi::EBUSY {
+            self.unreturned.lock().push(number);
+        }
+    }
+
+    fn put(&'static self, number: Number) -> c_int {
+        // SAFETY: the class is static; no mutex has the number, which was taken, and is put back once.
+        unsafe { ffi::ww_number_put(number.index(), self.get()) }
     }
 
     pub(crate) fn open(&'static self) -> Result<(), Error> {

@@ -1,7 +1,8 @@
 //! A context of the library, as both forms of contexts here use it.
 
-use crate::cell::{self, CellRef, LockCell};
 use crate::class::RawClass;
+use crate::guard::Holder;
+use crate::number::Number;
 use crate::{clock, error, ffi, own, Canceller, Class, Error, Kind, Mutex, MutexGuard};
 use core::cell::{Cell, OnceCell, UnsafeCell};
 use core::ffi::c_int;
@@ -25,18 +26,15 @@ struct Rare {
     /// A lock call was told `Deadlock`, so that nothing is locked until all is released.
     is_over: Cell<bool>,
     /// Where that was: it comes first from then on, whatever happens to its mutex meanwhile.
-    contended: Cell<Option<CellRef>>,
+    contended: Cell<Option<Number>>,
     /// It came first, and nobody has asked for it yet.
-    prelocked: Cell<Option<CellRef>>,
+    prelocked: Cell<Option<Number>>,
 }
 
 impl Rare {
     /// Whether the context has it from its back-off, and no guard has.
-    fn comes_first(&self, cell: &LockCell) -> bool {
-        let prelocked = self.prelocked.take();
-        let is_it = prelocked.as_ref().is_some_and(|first| ptr::eq(first.get(), cell));
-        self.prelocked.set(prelocked);
-        is_it
+    fn comes_first(&self, number: Number) -> bool {
+        self.prelocked.get() == Some(number)
     }
 }
 
@@ -111,35 +109,47 @@ impl Context {
     pub(crate) unsafe fn begin(&self) -> Result<(), Error> {
         // SAFETY: the call reads nothing of what stood there; the class is static.
         let begin = || unsafe { ffi::ww_acquire_init_checked(self.raw(), self.class.get()) };
-        // SAFETY: as above. It waits for a context.
-        let wait = || unsafe { ffi::ww_acquire_init(self.raw(), self.class.get()) };
+        // SAFETY: as above; the time lives for the call. It waits for a context.
+        let wait = |until: Option<&ffi::timespec>| unsafe {
+            match until {
+                Some(until) => return ffi::ww_acquire_init_until(self.raw(), self.class.get(), ptr::from_ref(until)),
+                None => ffi::ww_acquire_init(self.raw(), self.class.get()),
+            }
+            0
+        };
         match begin() {
             0 => {}
             answer => self.begin_late(answer, begin, wait)?,
         }
-        own::begun(self.raw());
+        own::begun(self.raw(), self.class);
         if let Some(canceller) = self.canceller() {
             canceller.joins(self.raw());
         }
         Ok(())
     }
 
-    /// The library's wait for a context has no limits, so a context that has some looks again and again.
+    /// The library's wait for a context heeds a time, but no canceller: a context that has one looks again and again.
     #[cold]
-    fn begin_late(&self, mut answer: c_int, begin: impl Fn() -> c_int, wait: impl FnOnce()) -> Result<(), Error> {
+    fn begin_late(
+        &self,
+        mut answer: c_int,
+        begin: impl Fn() -> c_int,
+        wait: impl FnOnce(Option<&ffi::timespec>) -> c_int,
+    ) -> Result<(), Error> {
+        let limits = self.rare().map(|rare| &rare.limits);
         let mut pause = Duration::from_micros(20);
+        if answer == -ffi::EAGAIN && self.canceller().is_none() {
+            answer = wait(limits.and_then(|limits| limits.until.as_ref()).map(|(_, until)| until));
+        }
         while answer == -ffi::EAGAIN {
-            let Some(rare) = self.rare() else {
-                wait();
-                return Ok(());
-            };
-            rare.limits.check()?;
+            limits.map_or(Ok(()), Limits::check)?;
             thread::sleep(pause);
             pause = (2 * pause).min(Duration::from_millis(1));
             answer = begin();
         }
-        match answer {
+        match -answer {
             0 => Ok(()),
+            ffi::ETIMEDOUT => Err(Error::TimedOut),
             _ => Err(error::of_making(answer)),
         }
     }
@@ -163,85 +173,78 @@ impl Context {
 
     // ---- locks ----
 
-    /// Acquires the mutex of this cell, which the caller borrows.
+    /// Whose lock it is that it has acquired.
     #[inline]
-    pub(crate) fn lock(&self, cell: &'static LockCell) -> Result<(), Error> {
-        self.lock_with(self.rare(), cell)
+    pub(crate) fn holder(&self) -> Holder {
+        Holder::context(self.raw())
+    }
+
+    /// Acquires the mutex, which the caller borrows.
+    #[inline]
+    pub(crate) fn lock<C: Class, T: ?Sized>(&self, mutex: &Mutex<C, T>) -> Result<(), Error> {
+        self.lock_with(self.rare(), mutex.number(self.class)?)
     }
 
     #[inline]
-    fn lock_with(&self, rare: Option<&Rare>, cell: &'static LockCell) -> Result<(), Error> {
+    fn lock_with(&self, rare: Option<&Rare>, number: Number) -> Result<(), Error> {
         if let Some(rare) = rare {
-            return self.lock_rarely(cell, rare);
+            return self.lock_rarely(number, rare);
         }
-        match self.ask(cell) {
+        match self.ask(number) {
             0 => Ok(()),
-            answer => self.refused(cell, answer),
+            answer => self.refused(number, answer),
         }
     }
 
     #[cold]
-    fn lock_rarely(&self, cell: &'static LockCell, rare: &Rare) -> Result<(), Error> {
+    fn lock_rarely(&self, number: Number, rare: &Rare) -> Result<(), Error> {
         if rare.is_over.get() {
             return Err(Error::Deadlock);
         }
-        match self.ask_within(cell, &rare.limits) {
+        match self.ask_within(number, &rare.limits) {
             0 => Ok(()),
-            answer => self.refused(cell, answer),
+            answer => self.refused(number, answer),
         }
     }
 
     #[inline]
-    fn ask(&self, cell: &'static LockCell) -> c_int {
+    fn ask(&self, number: Number) -> c_int {
         // In Wait-Die one that holds something may be told to back off instead.
         if cfg!(debug_assertions) && (self.held() == 0 || self.class.kind() == Kind::WoundWait) {
-            own::check_wait(cell, self.raw());
+            own::check_wait(number, self.raw());
         }
-        // SAFETY: the library's mutex lives for ever, and the context has begun, and hasn't ended.
-        unsafe { ffi::lock(cell.raw(), self.raw()) }
+        // SAFETY: the context has begun, and hasn't ended; the number is one of its class.
+        unsafe { ffi::lock(number.index(), self.raw()) }
     }
 
-    fn ask_within(&self, cell: &'static LockCell, limits: &Limits) -> c_int {
+    fn ask_within(&self, number: Number, limits: &Limits) -> c_int {
         if limits.is_cancelled() {
             return -ffi::EINTR;
         }
-        match limits {
-            // SAFETY: as in `ask`; the time lives for the call.
-            Limits { until: Some((_, until)), .. } => unsafe {
-                ffi::ww_mutex_lock_until(cell.raw(), self.raw(), ptr::from_ref(until))
-            },
-            // SAFETY: as in `ask`.
-            Limits { canceller: Some(_), .. } => unsafe { ffi::ww_mutex_lock_interruptible(cell.raw(), self.raw()) },
-            Limits { .. } => self.ask(cell),
+        if limits.until.is_none() && limits.canceller.is_none() {
+            return self.ask(number);
         }
+        let until = limits.until.as_ref().map_or(ptr::null(), |(_, until)| ptr::from_ref(until));
+        // SAFETY: as in `ask`; the time lives for the call.
+        unsafe { ffi::ww_number_lock_until(number.index(), self.raw(), until) }
     }
 
     /// What another answer than 0 comes to.
     #[cold]
-    fn refused(&self, cell: &'static LockCell, answer: c_int) -> Result<(), Error> {
+    fn refused(&self, number: Number, answer: c_int) -> Result<(), Error> {
         match -answer {
-            ffi::EALREADY if self.take_first(cell) => Ok(()),
+            ffi::EALREADY if self.take_first(number) => Ok(()),
             ffi::EALREADY => Err(Error::Duplicate),
             ffi::EDEADLK => {
                 let rare = self.rare.get_or_init(Box::default);
-                rare.contended.set(Some(CellRef::of(cell)));
+                rare.contended.set(Some(number));
                 rare.is_over.set(true);
                 Err(Error::Deadlock)
             }
             ffi::EINTR => Err(Error::Cancelled),
             ffi::ETIMEDOUT => Err(Error::TimedOut),
-            _ => {
-                self.check_class(cell);
-                error::in_child()
-            }
+            _ => error::in_child(),
         }
-    }
-
-    /// # Panics
-    ///
-    /// The cell is of another class.
-    fn check_class(&self, cell: &LockCell) {
-        assert!(ptr::eq(self.class, cell.class()), "`Class::raw` tells different classes");
     }
 
     /// Acquires all of them, in this order, for guards that live no longer than the context; or none of them. What it
@@ -254,38 +257,38 @@ impl Context {
         // It stays as it is until a lock call is refused.
         let rare = self.rare();
         for (count, mutex) in list.iter().enumerate() {
-            let told = match mutex.cell() {
-                Ok(cell) => self.lock_with(rare, cell),
-                Err(error) => Err(error),
-            };
+            let told = mutex.number(self.class).and_then(|number| self.lock_with(rare, number));
             if told.is_err() {
                 // SAFETY: these were locked here, and no other guards stand for that.
-                list[..count].iter().for_each(|mutex| drop(unsafe { MutexGuard::of(mutex) }));
+                list[..count].iter().for_each(|mutex| drop(unsafe { MutexGuard::of(mutex, self.holder()) }));
                 told?;
             }
         }
         // SAFETY: each was locked, for these guards.
-        Ok(list.map(|mutex| unsafe { MutexGuard::of(mutex) }))
+        Ok(list.map(|mutex| unsafe { MutexGuard::of(mutex, self.holder()) }))
     }
 
     /// Acquires it if nobody has it or waits for it.
-    pub(crate) fn try_lock(&self, cell: &'static LockCell) -> bool {
-        self.check_class(cell);
+    pub(crate) fn try_lock<C: Class, T: ?Sized>(&self, mutex: &Mutex<C, T>) -> bool {
+        let Ok(number) = mutex.number(self.class) else { return false };
         if self.is_over() {
             return false;
         }
         // SAFETY: as in `ask`.
-        self.take_first(cell) || unsafe { ffi::ww_mutex_trylock(cell.raw(), self.raw()) == 1 }
+        self.take_first(number) || unsafe { ffi::ww_number_trylock(number.index(), self.raw()) == 1 }
     }
 
     /// Whether a guard of the context holds it.
-    pub(crate) fn holds(&self, cell: &LockCell) -> bool {
-        cell.holder() == self.raw() && !self.rare().is_some_and(|rare| rare.comes_first(cell))
+    pub(crate) fn holds<C: Class, T: ?Sized>(&self, mutex: &Mutex<C, T>) -> bool {
+        let Some(number) = mutex.existing().filter(|number| number.tag() == self.class.tag()) else { return false };
+        // SAFETY: as in `ask`.
+        let is_held = unsafe { ffi::ww_number_is_held(number.index(), self.raw()) };
+        is_held && !self.rare().is_some_and(|rare| rare.comes_first(number))
     }
 
     /// Hands out what the context has from its back-off, if that is it.
-    fn take_first(&self, cell: &LockCell) -> bool {
-        let Some(rare) = self.rare().filter(|rare| rare.comes_first(cell)) else { return false };
+    fn take_first(&self, number: Number) -> bool {
+        let Some(rare) = self.rare().filter(|rare| rare.comes_first(number)) else { return false };
         rare.prelocked.take();
         true
     }
@@ -299,7 +302,7 @@ impl Context {
     }
 
     /// The mutex at which `Deadlock` was told.
-    pub(crate) fn take_contended(&self) -> Option<CellRef> {
+    pub(crate) fn take_contended(&self) -> Option<Number> {
         self.rare()?.contended.take()
     }
 
@@ -325,23 +328,24 @@ impl Context {
     ///
     /// No guard of the context is left that anybody could use.
     #[cold]
-    pub(crate) unsafe fn back_off(&self, first: Option<CellRef>) -> Result<(), Error> {
+    pub(crate) unsafe fn back_off(&self, first: Option<Number>) -> Result<(), Error> {
         // SAFETY: as asked for here.
         unsafe { self.start() };
         let Some(first) = first else { return Ok(()) };
+        self.class.check(first);
         let rare = self.rare.get_or_init(Box::default);
         // A context that holds nothing is never told `Deadlock`. So a lock call like any other does for the slow one,
         // and has the same limits.
-        match self.ask_within(first.get(), &rare.limits) {
+        match self.ask_within(first, &rare.limits) {
             0 => {
                 rare.prelocked.set(Some(first));
                 Ok(())
             }
-            answer => self.refused(first.get(), answer),
+            answer => self.refused(first, answer),
         }
     }
 
-    /// What it has from its back-off, and what was forgotten.
+    /// What it has from its back-off; and what was forgotten, for which the library asks for each number of the class.
     ///
     /// # Safety
     ///
@@ -350,11 +354,11 @@ impl Context {
     unsafe fn release_all(&self) {
         if let Some(first) = self.rare().and_then(|rare| rare.prelocked.take()) {
             // SAFETY: the context has it, and no guard stands for that.
-            unsafe { ffi::unlock(first.raw()) };
+            unsafe { ffi::unlock(first.index(), self.raw()) };
         }
         if self.held() != 0 {
             // SAFETY: as asked for here.
-            unsafe { cell::release_forgotten(self.class, self.raw()) };
+            unsafe { ffi::ww_number_unlock_all(self.raw()) };
         }
     }
 }

@@ -1,10 +1,8 @@
-//! What `c/ww_mutex.h` declares, as far as it is called here. The test below compares it with what a C compiler says.
+//! What `c/ww_number.h` and `c/ww_mutex.h` declare, as far as it is called here. The test below compares it with what a C compiler says.
 
 #![allow(non_camel_case_types, reason = "the names are those of the header")]
 
 use core::ffi::{c_char, c_int, c_long, c_uint, c_ulong};
-use core::ptr;
-use core::sync::atomic::{AtomicPtr, Ordering::Relaxed};
 
 /// The first number of the library's version, which changes with its binary interface.
 pub const INTERFACE: u32 = 3;
@@ -30,13 +28,7 @@ pub struct ww_class {
 
 #[repr(C)]
 pub struct ww_mutex {
-    pub ctx: *mut ww_acquire_ctx,
-    pub pool: *mut ww_pool,
-    pub alone: *mut ww_seat,
-    pub number: u32,
-    pub waiters: u32,
-    pub newer: *mut ww_mutex,
-    pub older: *mut ww_mutex,
+    _inside: [u8; 0],
 }
 
 #[repr(C)]
@@ -71,6 +63,7 @@ pub const CLOCK_MONOTONIC: c_int = 1;
 pub const EINTR: c_int = 4;
 pub const EAGAIN: c_int = 11;
 pub const ENOMEM: c_int = 12;
+pub const EBUSY: c_int = 16;
 pub const ENOSPC: c_int = 28;
 pub const EDEADLK: c_int = 35;
 pub const ETIMEDOUT: c_int = 110;
@@ -81,89 +74,86 @@ extern "C" {
 
     pub fn ww_class_open(class: *mut ww_class) -> c_int;
 
-    pub fn ww_mutex_init_checked(lock: *mut ww_mutex, class: *mut ww_class) -> c_int;
-
     pub fn ww_acquire_init(ctx: *mut ww_acquire_ctx, class: *mut ww_class);
     pub fn ww_acquire_init_checked(ctx: *mut ww_acquire_ctx, class: *mut ww_class) -> c_int;
+    pub fn ww_acquire_init_until(ctx: *mut ww_acquire_ctx, class: *mut ww_class, monotonic: *const timespec) -> c_int;
     pub fn ww_acquire_fini(ctx: *mut ww_acquire_ctx);
     pub fn ww_acquire_cancel(ctx: *mut ww_acquire_ctx) -> c_int;
 
-    fn ww_mutex_lock(lock: *mut ww_mutex, ctx: *mut ww_acquire_ctx) -> c_int;
-    pub fn ww_mutex_lock_interruptible(lock: *mut ww_mutex, ctx: *mut ww_acquire_ctx) -> c_int;
-    pub fn ww_mutex_lock_until(lock: *mut ww_mutex, ctx: *mut ww_acquire_ctx, monotonic: *const timespec) -> c_int;
-    pub fn ww_mutex_trylock(lock: *mut ww_mutex, ctx: *mut ww_acquire_ctx) -> c_int;
-    fn ww_mutex_unlock(lock: *mut ww_mutex);
-    pub fn ww_mutex_is_locked(lock: *mut ww_mutex) -> bool;
+    pub fn ww_number_take(number: *mut u32, class: *mut ww_class) -> c_int;
+    pub fn ww_number_put(number: u32, class: *mut ww_class) -> c_int;
+    fn ww_number_lock(number: u32, ctx: *mut ww_acquire_ctx) -> c_int;
+    pub fn ww_number_lock_until(number: u32, ctx: *mut ww_acquire_ctx, monotonic: *const timespec) -> c_int;
+    pub fn ww_number_trylock(number: u32, ctx: *mut ww_acquire_ctx) -> c_int;
+    fn ww_number_unlock(number: u32, ctx: *mut ww_acquire_ctx) -> c_int;
+    pub fn ww_number_unlock_all(ctx: *mut ww_acquire_ctx);
+    pub fn ww_number_is_held(number: u32, ctx: *const ww_acquire_ctx) -> bool;
+    pub fn ww_number_is_locked(number: u32, class: *mut ww_class) -> bool;
+    pub fn ww_number_lock_alone(
+        number: u32,
+        class: *mut ww_class,
+        monotonic: *const timespec,
+        by: *mut *mut ww_seat,
+    ) -> c_int;
+    pub fn ww_number_trylock_alone(number: u32, class: *mut ww_class, by: *mut *mut ww_seat) -> c_int;
+    pub fn ww_number_unlock_alone(number: u32, by: *mut ww_seat);
 
     // What the calls that the header compiles into its callers are made of.
     fn ww_lock_(seat: *mut ww_seat, lock: u32, heeds: bool) -> i32;
     fn ww_unlock_(seat: *mut ww_seat, lock: u32) -> i32;
-    fn ww_mutex_lock_else_(lock: *mut ww_mutex, ctx: *mut ww_acquire_ctx) -> c_int;
-    fn ww_mutex_lock_further_(lock: *mut ww_mutex, ctx: *mut ww_acquire_ctx, r: c_int) -> c_int;
-    fn ww_mutex_unlock_else_(lock: *mut ww_mutex);
-    fn ww_mutex_unlock_further_(lock: *mut ww_mutex, ctx: *mut ww_acquire_ctx, r: c_int);
+    fn ww_number_lock_further_(number: u32, ctx: *mut ww_acquire_ctx, r: c_int) -> c_int;
+    fn ww_number_unlock_further_(number: u32, ctx: *mut ww_acquire_ctx, r: c_int) -> c_int;
 
     /// Of the C library, which std links.
     pub fn clock_gettime(clock: c_int, at: *mut timespec) -> c_int;
 }
 
-/// `ww_mutex_lock`, as the header compiles it into its callers: of a mutex that is free, and by a context.
+/// `ww_number_lock`, as the header compiles it into its callers, by a context that has begun, and hasn't ended.
 ///
 /// # Safety
 ///
-/// That of `ww_mutex_lock`, and the context isn't null.
+/// That of `ww_number_lock`; nothing else is done with the context meanwhile.
 #[inline]
-pub unsafe fn lock(lock: *mut ww_mutex, ctx: *mut ww_acquire_ctx) -> c_int {
-    // SAFETY: the caller's. What is read of the mutex was written when it was made; what is written, but for its `ctx`,
-    // is the holder's.
+pub unsafe fn lock(number: u32, ctx: *mut ww_acquire_ctx) -> c_int {
+    // SAFETY: the caller's. What is read and written of the context is its own thread's.
     unsafe {
         if cfg!(ww_no_inline) {
-            return ww_mutex_lock(lock, ctx);
+            return ww_number_lock(number, ctx);
         }
-        if (*lock).pool != (*ctx).pool {
-            return ww_mutex_lock_else_(lock, ctx);
-        }
-        let r = ww_lock_((*ctx).own, (*lock).number, false);
+        let r = ww_lock_((*ctx).own, number, false);
         if r != 0 {
-            return ww_mutex_lock_further_(lock, ctx, r);
+            return ww_number_lock_further_(number, ctx, r);
         }
-        (*lock).older = (*ctx).newest;
-        (*ctx).newest = lock;
         (*ctx).acquired += 1;
-        AtomicPtr::from_ptr(&raw mut (*lock).ctx).store(ctx, Relaxed);
     }
     0
 }
 
-/// `ww_mutex_unlock`, likewise.
+/// `ww_number_unlock`, likewise.
 ///
 /// # Safety
 ///
-/// This thread has locked it.
+/// The context holds it.
 #[inline]
-pub unsafe fn unlock(lock: *mut ww_mutex) {
-    // SAFETY: the caller's. The context that holds it is this thread's. From the first turn on the mutex is another's.
+pub unsafe fn unlock(number: u32, ctx: *mut ww_acquire_ctx) {
+    // SAFETY: as above.
     unsafe {
         if cfg!(ww_no_inline) {
-            return ww_mutex_unlock(lock);
+            ww_number_unlock(number, ctx);
+            return;
         }
-        let ctx = AtomicPtr::from_ptr(&raw mut (*lock).ctx).load(Relaxed);
-        let number = (*lock).number;
-        if ctx.is_null() {
-            return ww_mutex_unlock_else_(lock);
+        let r = ww_unlock_((*ctx).own, number);
+        if r != 0 {
+            ww_number_unlock_further_(number, ctx, r);
+            return;
         }
         (*ctx).acquired -= 1;
-        AtomicPtr::from_ptr(&raw mut (*lock).ctx).store(ptr::null_mut(), Relaxed);
-        let r = ww_unlock_((*ctx).gives, number);
-        if r != 0 {
-            ww_mutex_unlock_further_(lock, ctx, r);
-        }
     }
 }
 
 #[cfg(test)]
 mod tests {
-    use super::{timespec, ww_acquire_ctx, ww_class, ww_mutex, INTERFACE};
+    use super::{timespec, ww_acquire_ctx, ww_class, INTERFACE};
     use std::mem::{align_of, offset_of, size_of};
     use std::process::Command;
     use std::{env, fs};
@@ -189,7 +179,6 @@ mod tests {
     fn the_layouts_are_those_of_the_header() {
         let (asked, here) = layouts! {
             ww_class: pool mutexes contexts is_wait_die name;
-            ww_mutex: ctx pool alone number waiters newer older;
             ww_acquire_ctx: pool own gives acquired cancelled called contending_lock newest linked prelocked flags state
                 deadlock_inject_interval deadlock_inject_countdown stamp;
             timespec: tv_sec tv_nsec;

@@ -1,8 +1,41 @@
+use crate::ffi::{self, ww_acquire_ctx, ww_seat};
 use crate::{Class, Mutex};
 use core::fmt;
 use core::marker::PhantomData;
 use core::ops::{Deref, DerefMut};
 use std::sync::Arc;
+
+/// Whose a lock is: a context's, or that of a place in the class without one, whose address is one more then.
+#[derive(Clone, Copy)]
+pub(crate) struct Holder(*mut ww_acquire_ctx);
+
+impl Holder {
+    #[inline]
+    pub(crate) fn context(context: *mut ww_acquire_ctx) -> Self {
+        Holder(context)
+    }
+
+    #[inline]
+    pub(crate) fn alone(seat: *mut ww_seat) -> Self {
+        Holder(seat.cast::<ww_acquire_ctx>().wrapping_byte_add(1))
+    }
+
+    /// # Safety
+    ///
+    /// It holds this mutex, and is this thread's.
+    #[inline]
+    unsafe fn release(self, index: u32) {
+        let is_alone = self.0 as usize & 1 == 1;
+        // SAFETY: as asked for here.
+        unsafe {
+            if is_alone {
+                ffi::ww_number_unlock_alone(index, self.0.wrapping_byte_sub(1).cast());
+            } else {
+                ffi::unlock(index, self.0);
+            }
+        }
+    }
+}
 
 /// A locked mutex, and the way to its value. Its drop releases the mutex, in the thread that locked it.
 ///
@@ -39,7 +72,8 @@ use std::sync::Arc;
 #[clippy::has_significant_drop]
 pub struct MutexGuard<'g, C: Class, T: ?Sized> {
     mutex: &'g Mutex<C, T>,
-    of_this_thread: PhantomData<*mut ()>,
+    /// By its pointer the guard stays in this thread.
+    holder: Holder,
 }
 
 // SAFETY: threads that share it get `&T`, and the mutex, which asks for `Send` of T.
@@ -48,10 +82,11 @@ unsafe impl<C: Class, T: ?Sized + Send + Sync> Sync for MutexGuard<'_, C, T> {}
 impl<'g, C: Class, T: ?Sized> MutexGuard<'g, C, T> {
     /// # Safety
     ///
-    /// This thread has locked the mutex, and no other guard stands for that.
+    /// This thread has locked the mutex, by this holder, and no other guard stands for that. `'g` ends before a context
+    /// that holds it does.
     #[inline]
-    pub(crate) unsafe fn of(mutex: &'g Mutex<C, T>) -> Self {
-        MutexGuard { mutex, of_this_thread: PhantomData }
+    pub(crate) unsafe fn of(mutex: &'g Mutex<C, T>, holder: Holder) -> Self {
+        MutexGuard { mutex, holder }
     }
 
     /// The mutex that it holds.
@@ -82,8 +117,8 @@ impl<C: Class, T: ?Sized> DerefMut for MutexGuard<'_, C, T> {
 impl<C: Class, T: ?Sized> Drop for MutexGuard<'_, C, T> {
     #[inline]
     fn drop(&mut self) {
-        // SAFETY: a guard stands for a lock by this thread, and goes but once.
-        unsafe { self.mutex.release() };
+        // SAFETY: a guard stands for a lock by its holder, and goes but once.
+        unsafe { self.holder.release(self.mutex.index()) };
     }
 }
 
@@ -105,7 +140,8 @@ impl<C: Class, T: ?Sized + fmt::Display> fmt::Display for MutexGuard<'_, C, T> {
 #[clippy::has_significant_drop]
 pub struct ArcMutexGuard<'x, C: Class, T: ?Sized> {
     mutex: Arc<Mutex<C, T>>,
-    of_this_context: PhantomData<(&'x (), *mut ())>,
+    holder: Holder,
+    of_this_context: PhantomData<&'x ()>,
 }
 
 // SAFETY: threads that share it get `&T`, and clones of the `Arc`, which asks for `Send` of T.
@@ -114,10 +150,10 @@ unsafe impl<C: Class, T: ?Sized + Send + Sync> Sync for ArcMutexGuard<'_, C, T> 
 impl<C: Class, T: ?Sized> ArcMutexGuard<'_, C, T> {
     /// # Safety
     ///
-    /// This thread has locked the mutex, and no other guard stands for that. `'x` ends before its context does.
+    /// As that of [`MutexGuard::of`], for `'x`.
     #[inline]
-    pub(crate) unsafe fn of(mutex: Arc<Mutex<C, T>>) -> Self {
-        ArcMutexGuard { mutex, of_this_context: PhantomData }
+    pub(crate) unsafe fn of(mutex: Arc<Mutex<C, T>>, holder: Holder) -> Self {
+        ArcMutexGuard { mutex, holder, of_this_context: PhantomData }
     }
 
     /// The mutex that it holds.
@@ -148,8 +184,8 @@ impl<C: Class, T: ?Sized> DerefMut for ArcMutexGuard<'_, C, T> {
 impl<C: Class, T: ?Sized> Drop for ArcMutexGuard<'_, C, T> {
     #[inline]
     fn drop(&mut self) {
-        // SAFETY: a guard stands for a lock by this thread, and goes but once. The mutex may go with it, behind this.
-        unsafe { self.mutex.release() };
+        // SAFETY: a guard stands for a lock by its holder, and goes but once. The mutex may go with it, behind this.
+        unsafe { self.holder.release(self.mutex.index()) };
     }
 }
 

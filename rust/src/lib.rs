@@ -62,7 +62,6 @@
 //! (waits, wake-ups, deadlines, cancels), and what this crate adds, is tested. It runs on Linux.
 
 mod cancel;
-mod cell;
 mod class;
 mod clock;
 mod context;
@@ -71,6 +70,7 @@ mod ffi;
 mod guard;
 mod lock;
 mod mutex;
+mod number;
 mod options;
 mod own;
 mod tx;

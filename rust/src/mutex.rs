@@ -1,6 +1,9 @@
-use crate::cell::{Handle, LockCell};
+use crate::class::RawClass;
+use crate::guard::Holder;
+use crate::number::{Handle, Number};
 use crate::{clock, error, ffi, own, Class, Error, MutexGuard};
 use core::cell::UnsafeCell;
+use core::ffi::c_int;
 use core::fmt;
 use core::ptr;
 use std::time::{Duration, Instant};
@@ -58,7 +61,7 @@ impl<C: Class, T> Mutex<C, T> {
     /// `Exhausted` or `OutOfMemory`, with the value.
     pub fn try_new(value: T) -> Result<Self, (T, Error)> {
         let mutex = Self::new(value);
-        match mutex.handle.cell() {
+        match mutex.number(C::raw()) {
             Ok(_) => Ok(mutex),
             Err(error) => Err((mutex.into_inner(), error)),
         }
@@ -85,15 +88,11 @@ impl<C: Class, T: ?Sized> Mutex<C, T> {
     /// thread holds it.
     #[inline]
     pub fn lock(&self) -> MutexGuard<'_, C, T> {
-        let cell = self.cell_or_panic();
-        own::check_wait(cell, ptr::null());
-        // SAFETY: the library's mutex lives for ever. Without a context nothing calls this off, and it answers where
-        // `ww_mutex_lock` would end the program.
-        match unsafe { ffi::ww_mutex_lock_interruptible(cell.raw(), ptr::null_mut()) } {
-            // SAFETY: it locked the mutex, for this guard.
-            0 => unsafe { MutexGuard::of(self) },
-            _ => error::in_child(),
-        }
+        let class = C::raw();
+        let number = self.number_or_panic(class);
+        own::check_wait(number, ptr::null());
+        // Nothing calls this off.
+        self.lock_alone(number, class, None).unwrap_or_else(|_| error::in_child())
     }
 
     /// Locks it without a context if nobody holds it or waits for it, and a context of the class is free.
@@ -103,11 +102,13 @@ impl<C: Class, T: ?Sized> Mutex<C, T> {
     /// Where the class has all mutexes that it may have, or no memory to open.
     #[inline]
     pub fn try_lock(&self) -> Option<MutexGuard<'_, C, T>> {
-        let cell = self.cell_or_panic();
-        // SAFETY: the library's mutex lives for ever.
-        let is_locked = unsafe { ffi::ww_mutex_trylock(cell.raw(), ptr::null_mut()) } == 1;
+        let class = C::raw();
+        let number = self.number_or_panic(class);
+        let mut by = ptr::null_mut();
+        // SAFETY: the class is static, and the number is one of it; `by` lives for the call.
+        let is_locked = unsafe { ffi::ww_number_trylock_alone(number.index(), class.get(), &raw mut by) } == 1;
         // SAFETY: it locked the mutex, for this guard.
-        is_locked.then(|| unsafe { MutexGuard::of(self) })
+        is_locked.then(|| unsafe { MutexGuard::of(self, Holder::alone(by)) })
     }
 
     /// As [`lock`](Mutex::lock), but waits until this time at the longest. A mutex that is free is locked, however late
@@ -118,14 +119,12 @@ impl<C: Class, T: ?Sized> Mutex<C, T> {
     /// Where the class has all mutexes that it may have, or no memory to open; in a forked child, for a class that was
     /// opened before.
     pub fn try_lock_until(&self, deadline: Instant) -> Option<MutexGuard<'_, C, T>> {
-        let cell = self.cell_or_panic();
-        let until = clock::monotonic(deadline);
-        // SAFETY: the library's mutex lives for ever, and `until` for the call.
-        match unsafe { ffi::ww_mutex_lock_until(cell.raw(), ptr::null_mut(), &raw const until) } {
-            // SAFETY: it locked the mutex, for this guard.
-            0 => Some(unsafe { MutexGuard::of(self) }),
-            answer if answer == -ffi::ETIMEDOUT => None,
-            _ => error::in_child(),
+        let class = C::raw();
+        let number = self.number_or_panic(class);
+        match self.lock_alone(number, class, Some(&clock::monotonic(deadline))) {
+            Ok(guard) => Some(guard),
+            Err(answer) if answer == -ffi::ETIMEDOUT => None,
+            Err(_) => error::in_child(),
         }
     }
 
@@ -141,10 +140,14 @@ impl<C: Class, T: ?Sized> Mutex<C, T> {
         }
     }
 
-    /// Whether somebody holds it, at a glance.
+    /// Whether somebody holds it, at a glance. One that is free isn't for that moment, in which a
+    /// [`try_lock`](Mutex::try_lock) may miss it.
     #[must_use]
     pub fn is_locked(&self) -> bool {
-        self.existing().is_some_and(LockCell::is_locked)
+        let class = C::raw();
+        let number = self.existing().filter(|number| number.tag() == class.tag());
+        // SAFETY: the class is static.
+        number.is_some_and(|number| unsafe { ffi::ww_number_is_locked(number.index(), class.get()) })
     }
 
     /// The value. Nobody holds the mutex, since nobody else borrows it.
@@ -160,36 +163,49 @@ impl<C: Class, T: ?Sized> Mutex<C, T> {
     }
 
     #[inline]
-    pub(crate) fn cell(&self) -> Result<&'static LockCell, Error> {
-        self.handle.cell()
+    pub(crate) fn number(&self, class: &'static RawClass) -> Result<Number, Error> {
+        self.handle.number(class)
     }
 
     #[inline]
-    pub(crate) fn existing(&self) -> Option<&'static LockCell> {
+    pub(crate) fn existing(&self) -> Option<Number> {
         self.handle.existing()
     }
 
+    /// For who has a guard.
     #[inline]
-    fn cell_or_panic(&self) -> &'static LockCell {
-        match self.cell() {
-            Ok(cell) => cell,
-            Err(error) => no_cell(error),
+    pub(crate) fn index(&self) -> u32 {
+        self.handle.index()
+    }
+
+    #[inline]
+    fn number_or_panic(&self, class: &'static RawClass) -> Number {
+        match self.number(class) {
+            Ok(number) => number,
+            Err(error) => no_number(error),
         }
     }
 
-    /// # Safety
-    ///
-    /// This thread has locked it, and does nothing more with that.
-    #[inline]
-    pub(crate) unsafe fn release(&self) {
-        let cell = self.existing();
-        // SAFETY: a mutex that was locked has a cell, and this thread locked it.
-        unsafe { ffi::unlock(cell.unwrap_unchecked().raw()) };
+    /// Without a context; what the library answers where it isn't 0.
+    fn lock_alone(
+        &self,
+        number: Number,
+        class: &'static RawClass,
+        until: Option<&ffi::timespec>,
+    ) -> Result<MutexGuard<'_, C, T>, c_int> {
+        let until = until.map_or(ptr::null(), ptr::from_ref);
+        let mut by = ptr::null_mut();
+        // SAFETY: the class is static, and the number is one of it; the time, if there is one, and `by` live for the call.
+        match unsafe { ffi::ww_number_lock_alone(number.index(), class.get(), until, &raw mut by) } {
+            // SAFETY: it locked the mutex, for this guard.
+            0 => Ok(unsafe { MutexGuard::of(self, Holder::alone(by)) }),
+            answer => Err(answer),
+        }
     }
 }
 
 #[cold]
-fn no_cell(error: Error) -> ! {
+fn no_number(error: Error) -> ! {
     panic!("a mutex can't be locked: {error}")
 }
 

@@ -1,30 +1,33 @@
 //! The contexts that this thread has, so that one which would wait for itself for ever is told. With debug assertions
 //! alone.
 
-use crate::cell::LockCell;
-use crate::ffi::ww_acquire_ctx;
+use crate::class::RawClass;
+use crate::ffi::{self, ww_acquire_ctx};
+use crate::number::Number;
 use core::cell::RefCell;
 
+type Own = (*const ww_acquire_ctx, &'static RawClass);
+
 std::thread_local! {
-    static OWN: RefCell<Vec<*const ww_acquire_ctx>> = const { RefCell::new(Vec::new()) };
+    static OWN: RefCell<Vec<Own>> = const { RefCell::new(Vec::new()) };
 }
 
 /// What runs while a thread ends, when its list is gone, isn't looked at.
-fn with_own<R>(with: impl FnOnce(&mut Vec<*const ww_acquire_ctx>) -> R) -> Option<R> {
+fn with_own<R>(with: impl FnOnce(&mut Vec<Own>) -> R) -> Option<R> {
     OWN.try_with(|own| with(&mut own.borrow_mut())).ok()
 }
 
 #[inline]
-pub(crate) fn begun(context: *const ww_acquire_ctx) {
+pub(crate) fn begun(context: *const ww_acquire_ctx, class: &'static RawClass) {
     if cfg!(debug_assertions) {
-        with_own(|own| own.push(context));
+        with_own(|own| own.push((context, class)));
     }
 }
 
 #[inline]
 pub(crate) fn ended(context: *const ww_acquire_ctx) {
     if cfg!(debug_assertions) {
-        with_own(|own| own.retain(|&other| other != context));
+        with_own(|own| own.retain(|&(other, _)| other != context));
     }
 }
 
@@ -34,11 +37,13 @@ pub(crate) fn ended(context: *const ww_acquire_ctx) {
 ///
 /// Another context of this thread holds it.
 #[inline]
-pub(crate) fn check_wait(cell: &LockCell, context: *const ww_acquire_ctx) {
+pub(crate) fn check_wait(number: Number, context: *const ww_acquire_ctx) {
     if cfg!(debug_assertions) {
-        let holder = cell.holder().cast_const();
-        let is_other = !holder.is_null() && holder != context;
-        let is_own = is_other && with_own(|own| own.contains(&holder)).unwrap_or(false);
+        let holds = |&(other, class): &Own| {
+            // SAFETY: it has begun, hasn't ended, and is of this thread.
+            other != context && class.tag() == number.tag() && unsafe { ffi::ww_number_is_held(number.index(), other) }
+        };
+        let is_own = with_own(|own| own.iter().any(holds)).unwrap_or(false);
         assert!(!is_own, "another context of this thread holds the mutex, so this would wait for ever");
     }
 }

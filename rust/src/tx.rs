@@ -78,9 +78,9 @@ impl<C: Class> Tx<C> {
     /// thread holds it, and nothing would end the wait.
     #[inline]
     pub fn lock<'g, T: ?Sized>(&'g self, mutex: &'g Mutex<C, T>) -> Result<MutexGuard<'g, C, T>, Error> {
-        self.context.lock(mutex.cell()?)?;
+        self.context.lock(mutex)?;
         // SAFETY: it locked the mutex, for this guard.
-        Ok(unsafe { MutexGuard::of(mutex) })
+        Ok(unsafe { MutexGuard::of(mutex, self.context.holder()) })
     }
 
     /// As [`lock`](Self::lock), for a mutex that the guard shares: one that was found on the way, and whose `Arc` goes
@@ -113,16 +113,16 @@ impl<C: Class> Tx<C> {
     /// As [`lock`](Self::lock).
     #[inline]
     pub fn lock_arc<'g, T: ?Sized>(&'g self, mutex: &Arc<Mutex<C, T>>) -> Result<ArcMutexGuard<'g, C, T>, Error> {
-        self.context.lock(mutex.cell()?)?;
+        self.context.lock(mutex)?;
         // SAFETY: it locked the mutex, for this guard, which doesn't outlive the context.
-        Ok(unsafe { ArcMutexGuard::of(Arc::clone(mutex)) })
+        Ok(unsafe { ArcMutexGuard::of(Arc::clone(mutex), self.context.holder()) })
     }
 
     /// Locks it if nobody has it or waits for it. `None` for one that it has a guard of, and after `Deadlock`.
     pub fn try_lock<'g, T: ?Sized>(&'g self, mutex: &'g Mutex<C, T>) -> Option<MutexGuard<'g, C, T>> {
-        let is_locked = self.context.try_lock(mutex.cell().ok()?);
+        let is_locked = self.context.try_lock(mutex);
         // SAFETY: it locked the mutex, for this guard.
-        is_locked.then(|| unsafe { MutexGuard::of(mutex) })
+        is_locked.then(|| unsafe { MutexGuard::of(mutex, self.context.holder()) })
     }
 
     /// Locks all of them, in this order. Where one isn't locked it keeps none of them.
@@ -175,7 +175,7 @@ impl<C: Class> Tx<C> {
     /// Whether it has a guard of this mutex, so that [`lock`](Self::lock) would be told `Duplicate`.
     #[must_use]
     pub fn holds<T: ?Sized>(&self, mutex: &Mutex<C, T>) -> bool {
-        mutex.existing().is_some_and(|cell| self.context.holds(cell))
+        self.context.holds(mutex)
     }
 
     /// How often the body has begun: 1 the first time.

@@ -167,8 +167,8 @@
 //! std::thread::spawn(move || drop(context));
 //! ```
 
-use crate::cell::CellRef;
 use crate::context::Context as Inner;
+use crate::number::Number;
 use crate::{Class, Error, Mutex, MutexGuard};
 use core::fmt;
 use core::marker::PhantomData;
@@ -197,7 +197,7 @@ pub type Locked<'x, C, G> = (Acquiring<'x, C>, G);
 /// An older context goes first: the context has to release all, and to wait for the mutex at which it was told so.
 #[must_use = "`Context::back_off` waits for the mutex at which this was told"]
 pub struct Deadlock<C: Class> {
-    contended: Option<CellRef>,
+    contended: Option<Number>,
     class: PhantomData<fn() -> C>,
 }
 
@@ -216,6 +216,13 @@ impl<C: Class> From<Refused<'_, C>> for Error {
             Refused::Deadlock(_) => Error::Deadlock,
             Refused::Other(error, _) => error,
         }
+    }
+}
+
+impl<C: Class> Deadlock<C> {
+    /// It serves once.
+    fn contended(self) -> Option<Number> {
+        self.contended
     }
 }
 
@@ -259,7 +266,7 @@ impl<C: Class> Context<C> {
     /// the lock call that asks for it returns at once.
     pub fn back_off(&mut self, lost: Deadlock<C>) -> Acquiring<'_, C> {
         // SAFETY: as in `start`.
-        let told = unsafe { self.inner().back_off(lost.contended) };
+        let told = unsafe { self.inner().back_off(lost.contended()) };
         debug_assert!(told.is_ok(), "a wait without limits ends with the mutex");
         Acquiring { inner: self.inner(), class: PhantomData }
     }
@@ -309,9 +316,12 @@ impl<'x, C: Class> Acquiring<'x, C> {
     where
         'x: 'g,
     {
-        match mutex.cell().and_then(|cell| self.inner.lock(cell)) {
-            // SAFETY: it locked the mutex, for this guard, which lives no longer than the context's borrow.
-            Ok(()) => Ok((self, unsafe { MutexGuard::of(mutex) })),
+        match self.inner.lock(mutex) {
+            Ok(()) => {
+                // SAFETY: it locked the mutex, for this guard, which lives no longer than the context's borrow.
+                let guard = unsafe { MutexGuard::of(mutex, self.inner.holder()) };
+                Ok((self, guard))
+            }
             Err(Error::Deadlock) => {
                 Err(Refused::Deadlock(Deadlock { contended: self.inner.take_contended(), class: PhantomData }))
             }
@@ -324,9 +334,9 @@ impl<'x, C: Class> Acquiring<'x, C> {
     where
         'x: 'g,
     {
-        let is_locked = self.inner.try_lock(mutex.cell().ok()?);
+        let is_locked = self.inner.try_lock(mutex);
         // SAFETY: it locked the mutex, for this guard, which lives no longer than the context's borrow.
-        is_locked.then(|| unsafe { MutexGuard::of(mutex) })
+        is_locked.then(|| unsafe { MutexGuard::of(mutex, self.inner.holder()) })
     }
 }
 

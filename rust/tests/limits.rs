@@ -34,6 +34,24 @@ fn a_deadline_ends_each_wait() {
     assert!(m.try_lock_for(SOON).is_none());
 }
 
+/// How often this thread went to sleep.
+fn sleeps() -> u64 {
+    let status = std::fs::read_to_string("/proc/thread-self/status").unwrap();
+    let line = status.lines().find_map(|line| line.strip_prefix("voluntary_ctxt_switches:"));
+    line.unwrap().trim().parse().unwrap()
+}
+
+/// Where all contexts of the class are in use one with a deadline waits as others do: it doesn't look again and again.
+#[test]
+fn the_wait_for_a_context_is_one_sleep() {
+    class!(struct Boxes: WoundWait, contexts = 1);
+    let context = Context::<Boxes>::begin().unwrap();
+    let before = sleeps();
+    assert_eq!(Boxes::options().timeout(10 * SOON).run(|_| Ok(())), Err(Error::TimedOut));
+    assert!(sleeps() < before + 10);
+    drop(context);
+}
+
 /// Times beyond the clock's are for ever.
 #[test]
 fn a_timeout_may_be_endless() {

@@ -123,14 +123,18 @@ fn a_contended_mutex_may_go() {
             drop(guard);
             return told;
         }
-        // Its place is still that of the mutex that is gone: there are but three.
-        let one = Mutex::try_new(1).unwrap();
+        // Its place is free at once. Whoever gets that has what the context waited for, and no guard of it is there.
+        let (one, other) = (Mutex::try_new(1).unwrap(), Mutex::try_new(3).unwrap());
         assert!(Mutex::<Boxes, u64>::try_new(2).is_err());
-        let _one = younger.lock(&one)?;
+        assert!(one.is_locked() != other.is_locked() && !younger.holds(&one) && !younger.holds(&other));
+        let both = younger.lock_all([&one, &other])?;
+        assert!(younger.holds(&one) && younger.holds(&other) && one.is_locked() && other.is_locked());
+        assert_eq!(both.map(|value| *value), [1, 3]);
+        assert!(!one.is_locked() && !other.is_locked());
         Ok(younger.attempts())
     });
     assert_eq!(attempts, Ok(2));
-    // And now it is free again.
+    // And now all are free again.
     let _all: Vec<Mutex<Boxes, u64>> = (0..2).map(|v| Mutex::try_new(v).unwrap()).collect();
 }
 

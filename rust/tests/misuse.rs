@@ -268,3 +268,28 @@ fn a_class_that_is_another_one_at_each_call_panics() {
     let m: Mutex<Both, u64> = Mutex::new(0);
     assert!(panics(|| Both::run(|tx| Ok(tx.try_lock(&m).is_some()))));
 }
+
+/// Nor at the end of a mutex: its number isn't that of another class, which has the same one in use.
+#[test]
+fn a_number_goes_back_to_its_class_alone() {
+    class!(struct One: WoundWait, mutexes = 1; struct Other: WoundWait, mutexes = 1);
+    enum Either {}
+    static IS_OTHER: AtomicBool = AtomicBool::new(false);
+    impl Class for Either {
+        fn raw() -> &'static RawClass {
+            if IS_OTHER.load(Ordering::Relaxed) {
+                Other::raw()
+            } else {
+                One::raw()
+            }
+        }
+    }
+    let other: Mutex<Other, u64> = Mutex::try_new(1).unwrap();
+    let m: Mutex<Either, u64> = Mutex::try_new(2).unwrap();
+    IS_OTHER.store(true, Ordering::Relaxed);
+    let held = other.lock();
+    assert!(!m.is_locked() && panics(|| m.try_lock().is_some()));
+    drop(held);
+    drop(m);
+    assert!(Mutex::<Other, u64>::try_new(3).is_err());
+}

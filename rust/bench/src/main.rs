@@ -2,7 +2,7 @@
 //! many objects, and adds one to each; each sum is compared in the end.
 //!
 //!     bench time SECONDS ROUNDS THREADS..     nanoseconds of a transaction: medians, all engines in turn in each round
-//!     bench alone ENGINE LOCKS TIMES          so many transactions by one engine, for who counts instructions
+//!     bench alone ENGINE LOCKS OBJECTS TIMES  so many transactions by one engine, for who counts instructions or misses
 
 use std::array;
 use std::env;
@@ -48,9 +48,10 @@ impl<C: Class> Objects<C> {
         &self.own[k as usize].0
     }
 
+    /// As in C, each mutex has its number from the beginning.
     fn new(count: usize) -> Self {
         Objects {
-            own: (0..count).map(|_| Line(Mutex::new(0))).collect(),
+            own: (0..count).map(|_| Line(Mutex::try_new(0).unwrap())).collect(),
             plain: (0..count).map(|_| Line(Plain::new(0))).collect(),
         }
     }
@@ -245,10 +246,10 @@ fn print_table(how: &How) {
     rows!(1 of 64  2 of 64  4 of 64  8 of 64  2 of 4  2 of 60_000  8 of 60_000);
 }
 
-fn go_alone<const N: usize>(engine: Engine, times: u64) {
-    let objects = Objects::<Wound>::new(64);
+fn go_alone<const N: usize>(engine: Engine, count: usize, times: u64) {
+    let objects = Objects::<Wound>::new(count);
     // SAFETY: nobody uses them now.
-    unsafe { engines_open(0, 64) };
+    unsafe { engines_open(0, count as c_uint) };
     engine.go::<Wound, N>(&objects, 7, &AtomicI32::new(0), times);
 }
 
@@ -261,16 +262,16 @@ fn main() {
                 print_table(&How { threads: threads.parse().unwrap(), time, rounds });
             }
         }
-        ["alone", name, locks, times] => {
+        ["alone", name, locks, objects, times] => {
             let (engine, _) = Engine::ALL.into_iter().find(|(_, it)| *it == name).expect("an engine's name");
-            let times = times.parse().unwrap();
+            let (count, times) = (objects.parse().unwrap(), times.parse().unwrap());
             match locks {
-                "1" => go_alone::<1>(engine, times),
-                "2" => go_alone::<2>(engine, times),
-                "8" => go_alone::<8>(engine, times),
+                "1" => go_alone::<1>(engine, count, times),
+                "2" => go_alone::<2>(engine, count, times),
+                "8" => go_alone::<8>(engine, count, times),
                 _ => panic!("1, 2 or 8 locks"),
             }
         }
-        _ => panic!("usage: bench time SECONDS ROUNDS THREADS.. | bench alone ENGINE LOCKS TIMES"),
+        _ => panic!("usage: bench time SECONDS ROUNDS THREADS.. | bench alone ENGINE LOCKS OBJECTS TIMES"),
     }
 }

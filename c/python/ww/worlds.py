@@ -1,67 +1,20 @@
-"""The wound/wait locks of ww.h, by ctypes over libww.so.
+"""The numbered locks of ww.h.
 
-An answer that isn't 0 comes as an OSError with its errno. A lock is a number; one that no lock has is EINVAL, however wide
-it is. An interrupt from the keyboard is met once the lock is there.
+A lock is a number; one that no lock has is EINVAL, however wide it is. An interrupt from the keyboard is met once the
+lock is there.
 """
 import contextlib
 import ctypes
 import errno
-import operator
-import os
 
-WOUND_WAIT, WAIT_DIE = 0, 1
-_VERSION = 3
-_NAME = f"libww.so.{_VERSION}"
-_LARGEST = 2**32 - 1
-
-
-class _Number:
-    """A number of 32 bits. What is wider, or below 0, becomes the largest one, which no world has."""
-
-    @classmethod
-    def from_param(cls, number):
-        number = operator.index(number)
-        return ctypes.c_uint32(number if 0 <= number <= _LARGEST else _LARGEST)
-
-
-_SEAT = ctypes.c_void_p
-_CALLS = {
-    "ww_open": (ctypes.c_int, ctypes.POINTER(ctypes.c_void_p), _Number, _Number, _Number),
-    "ww_close": (ctypes.c_int, ctypes.c_void_p),
-    "ww_seat_get": (ctypes.c_void_p, ctypes.c_void_p),
-    "ww_cancel": (ctypes.c_int, _SEAT, _SEAT),
-    "ww_held": (ctypes.c_uint32, _SEAT),
-    "ww_version": (ctypes.c_uint32,),
-}
-_CALLS |= {f"ww_{it}": (ctypes.c_int, _SEAT) for it in ("seat_put", "begin", "done", "end", "unlock_all")}
-_LOCKS = ("lock", "lock_interruptible", "lock_slow", "lock_slow_interruptible", "trylock", "unlock")
-_CALLS |= {f"ww_{it}": (ctypes.c_int, _SEAT, _Number) for it in _LOCKS}
-
-
-def _found():
-    """Where libww.so is: beside this module, below the prefix that both were installed in, or where the loader looks."""
-    here = os.path.dirname(os.path.realpath(__file__))
-    near = [os.path.join(here, up, _NAME) for up in ("", "../..")]
-    return next((path for path in near if os.path.exists(path)), _NAME)
-
-
-def _library(path):
-    """The library, with the types of its calls."""
-    path = path or _found()
-    library = ctypes.CDLL(path)
-    for name, (result, *words) in _CALLS.items():
-        call = getattr(library, name)
-        call.restype, call.argtypes = result, words
-    if library.ww_version() // 10000 != _VERSION:
-        raise OSError(errno.ELIBACC, f"{path} has another interface")
-    return library
+from .library import opened, told
 
 
 class World:
     """A world of locks; each thread takes a seat of it. `library` is the path of another libww.so than the installed one."""
 
     def __init__(self, kind, locks, seats, library=None):
-        self._library, self._at = _library(library), ctypes.c_void_p()
+        self._library, self._at = opened(library), ctypes.c_void_p()
         told(self._library.ww_open(ctypes.byref(self._at), kind, locks, seats))
 
     def close(self):
@@ -163,9 +116,3 @@ class Seat:
         finally:
             self.unlock_all()
             self.end()
-
-
-def told(code):
-    """Raises what a call answered, if that isn't 0."""
-    if code:
-        raise OSError(-code, os.strerror(-code))

@@ -1,0 +1,61 @@
+"""Threads move money between accounts, each an object with a mutex of its own: between two of them, and by calls that
+find on the way who pays. objects.py [libww.so]"""
+import os
+import random
+import sys
+import threading
+
+sys.path.insert(0, os.path.join(os.path.dirname(os.path.abspath(__file__)), "../python"))  # where it isn't installed
+import ww
+
+accounts = ww.Class(ww.WOUND_WAIT, 16, 4, *sys.argv[1:])
+
+
+class Account:
+    def __init__(self, backer=None):
+        self.mutex = ww.Mutex(accounts)
+        self.money, self.backer = 100, backer  # under the mutex
+
+
+def transfer(source, target, money):
+    with accounts.context() as context:
+        context.lock(source.mutex, target.mutex)
+        source.money -= money
+        target.money += money
+
+
+def pay(account, target, money):
+    """By the first of the account and its backers that has so much; whether one had."""
+
+    def body(context):
+        payer = account
+        context.lock(target.mutex)
+        while payer and payer is not target:
+            context.lock(payer.mutex)
+            if payer.money >= money:
+                payer.money -= money
+                target.money += money
+                return True
+            payer = payer.backer
+        return False
+
+    return accounts.run(body)
+
+
+def work(seed):
+    draw = random.Random(seed)
+    for _ in range(1000):
+        source, target = draw.sample(bank, 2)
+        draw.choice((transfer, pay))(source, target, draw.randrange(20))
+
+
+bank = []
+for _ in range(8):
+    bank.append(Account(bank[-1] if bank else None))
+threads = [threading.Thread(target=work, args=(seed,)) for seed in range(4)]
+for thread in threads:
+    thread.start()
+for thread in threads:
+    thread.join()
+print("objects in Python: the sum is", sum(account.money for account in bank))
+assert sum(account.money for account in bank) == 800

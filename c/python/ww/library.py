@@ -1,0 +1,82 @@
+"""libww.so by ctypes: where it is, the types of its calls, and what their answers become."""
+import ctypes
+import errno
+import functools
+import operator
+import os
+
+WOUND_WAIT, WAIT_DIE = 0, 1
+_VERSION = 3
+_NAME = f"libww.so.{_VERSION}"
+_LARGEST = 2**32 - 1
+
+
+class Deadlock(OSError):
+    """EDEADLK: an older context goes first, so this one has to release all that it holds."""
+
+
+class Time(ctypes.Structure):
+    """struct timespec, on processors of 64 bits."""
+
+    _fields_ = [("seconds", ctypes.c_int64), ("nanoseconds", ctypes.c_int64)]
+
+
+class _Number:
+    """A number of 32 bits. What is wider, or below 0, becomes the largest one, which no world has."""
+
+    @classmethod
+    def from_param(cls, number):
+        number = operator.index(number)
+        return ctypes.c_uint32(number if 0 <= number <= _LARGEST else _LARGEST)
+
+
+_AT = ctypes.c_void_p
+_CALLS = {
+    "ww_version": (ctypes.c_uint32,),
+    "ww_open": (ctypes.c_int, ctypes.POINTER(_AT), _Number, _Number, _Number),
+    "ww_close": (ctypes.c_int, _AT),
+    "ww_seat_get": (_AT, _AT),
+    "ww_cancel": (ctypes.c_int, _AT, _AT),
+    "ww_held": (ctypes.c_uint32, _AT),
+    "ww_class_init": (None, _AT, ctypes.c_int, ctypes.c_char_p),
+    "ww_class_limit": (ctypes.c_int, _AT, _Number, _Number),
+    "ww_mutex_is_locked": (ctypes.c_bool, _AT),
+    "ww_is_contended": (ctypes.c_bool, _AT),
+    "ww_tries_more_": (ctypes.c_bool, _AT),
+    "ww_mutex_lock_until": (ctypes.c_int, _AT, _AT, ctypes.POINTER(Time)),
+}
+_CALLS |= {f"ww_{it}": (ctypes.c_int, _AT) for it in ("seat_put", "begin", "done", "end", "unlock_all")}
+_LOCKS = ("lock", "lock_interruptible", "lock_slow", "lock_slow_interruptible", "trylock", "unlock")
+_CALLS |= {f"ww_{it}": (ctypes.c_int, _AT, _Number) for it in _LOCKS}
+_CALLS |= {f"ww_{it}_size": (ctypes.c_size_t,) for it in ("class", "mutex", "acquire")}
+_ALONE = ("class_free", "mutex_destroy", "acquire_done_checked", "acquire_fini_checked", "acquire_cancel", "mutex_unlock_checked")
+_CALLS |= {f"ww_{it}": (ctypes.c_int, _AT) for it in _ALONE}
+_PAIRS = ("mutex_init_checked", "acquire_init_checked", "mutex_lock_interruptible", "mutex_trylock")
+_CALLS |= {f"ww_{it}": (ctypes.c_int, _AT, _AT) for it in _PAIRS}
+_CALLS |= {"ww_acquire_init": (None, _AT, _AT), "ww_tries_begin_": (None, _AT), "ww_acquire_unlock_all": (None, _AT)}
+
+
+def _found():
+    """Where libww.so is: beside this module, below the prefix that both were installed in, or where the loader looks."""
+    here = os.path.dirname(os.path.realpath(__file__))
+    near = [os.path.join(here, up, _NAME) for up in ("", "../../..")]
+    return next((path for path in near if os.path.exists(path)), _NAME)
+
+
+@functools.lru_cache(maxsize=None)
+def opened(path):
+    """The library at this path, or the installed one (None), with the types of its calls."""
+    path = path or _found()
+    library = ctypes.CDLL(path)
+    for name, (result, *words) in _CALLS.items():
+        call = getattr(library, name)
+        call.restype, call.argtypes = result, words
+    if library.ww_version() // 10000 != _VERSION:
+        raise OSError(errno.ELIBACC, f"{path} has another interface")
+    return library
+
+
+def told(code):
+    """Raises what a call answered, if that isn't 0."""
+    if code:
+        raise (Deadlock if code == -errno.EDEADLK else OSError)(-code, os.strerror(-code))

@@ -1,0 +1,273 @@
+"""The mutexes of ww_mutex.h: a Class of them, a Mutex in each object, and a Context, which acquires what one change needs.
+
+Their structures are opaque here: the library says how large each is. Each object keeps alive what the library knows of
+it, so nothing has to be closed: a mutex that nobody refers to gives its number back, and then its class its memory.
+"""
+import contextlib
+import ctypes
+import errno
+import threading
+import time
+
+from .library import WAIT_DIE, WOUND_WAIT, Deadlock, Time, opened, told
+
+# Python runs the handler of a signal in the main thread, between two calls of C: it could cancel no wait in which that
+# thread is. So a wait there is made of calls that end after so many nanoseconds; other threads wait by one call. Waiters
+# with a context are in the order of their stamps, so no place in it is lost by that.
+_SLICE = 100_000_000
+# What the library may still read: classes of which some mutex or context was never ended.
+_left = []
+
+
+def _memory(size):
+    """So many bytes, all 0, and laid out for words."""
+    return (ctypes.c_uint64 * -(-size // 8))()
+
+
+def _wrong(why):
+    return OSError(errno.EINVAL, why)
+
+
+def _is_main():
+    return threading.get_ident() == threading.main_thread().ident
+
+
+class Class:
+    """A class of mutexes, among which deadlocks are detected. It may have so many mutexes and contexts at once (0: 65,536
+    and 1,024), and takes memory for as many. A forked child makes a class of its own: each call of this one is EINVAL there.
+    `library` is the path of another libww.so than the installed one."""
+
+    _at = None
+
+    def __init__(self, kind=WOUND_WAIT, mutexes=0, contexts=0, library=None):
+        if kind not in (WOUND_WAIT, WAIT_DIE):
+            raise _wrong("a class is WOUND_WAIT or WAIT_DIE")
+        self._library = opened(library)
+        self._at = _memory(self._library.ww_class_size())
+        self._library.ww_class_init(self._at, kind, None)
+        told(self._library.ww_class_limit(self._at, mutexes, contexts))
+
+    def __del__(self):
+        if self._at and self._library.ww_class_free(self._at):
+            _left.append(self._at)
+
+    @contextlib.contextmanager
+    def context(self):
+        """A context, until the end of the block, where it releases all that it holds."""
+        context = Context(self)
+        context._begin()
+        try:
+            yield context
+        finally:
+            context._end()
+
+    def run(self, body):
+        """What body(context) returns. Where that was told Deadlock, all is released, and it is called again: so up to its
+        last lock call it changes nothing that it doesn't set anew."""
+        with self.context() as context:
+            while True:
+                try:
+                    result = body(context)
+                    if not context._is_contended():
+                        return result
+                except Deadlock:
+                    if not context._is_contended():
+                        raise
+                context.unlock_all()
+
+
+class Mutex:
+    """A mutex of a class. `with mutex:` holds it alone, by a context of its own."""
+
+    _at = None
+
+    def __init__(self, of):
+        if not isinstance(of, Class):
+            raise TypeError("a mutex is of a ww.Class")
+        self._class, self._library, self._alone = of, of._library, None
+        self._at = _memory(self._library.ww_mutex_size())
+        told(self._library.ww_mutex_init_checked(self._at, of._at))
+
+    def __del__(self):
+        if self._at:
+            self._library.ww_mutex_destroy(self._at)
+
+    def __enter__(self):
+        with contextlib.ExitStack() as stack:
+            stack.enter_context(self._class.context()).lock(self)
+            self._alone = stack.pop_all()
+        return self
+
+    def __exit__(self, *_):
+        alone, self._alone = self._alone, None
+        alone.close()
+
+    def locked(self):
+        """Whether somebody holds it, at a glance."""
+        return self._library.ww_mutex_is_locked(self._at)
+
+
+class Context:
+    """A context, for one thread: Class.context() begins it. In each other thread, and once it has ended, its calls but
+    cancel are EINVAL."""
+
+    _at = None
+
+    def __init__(self, of):
+        self._class, self._library = of, of._library
+        self._ending = threading.RLock()  # A cancel comes before the end or behind it; from a handler, maybe amid it.
+        self._thread = None
+        # What the library may still read, and what it said that the context holds. An interrupt may come between
+        # two lines: so a mutex is in the first before it can be held, and leaves the second before it is released.
+        self._near, self._held = set(), set()
+        self._at = _memory(self._library.ww_acquire_size())
+
+    def __del__(self):
+        if self._at:
+            self._end()
+
+    def _begin(self):
+        code = self._library.ww_acquire_init_checked(self._at, self._class._at)
+        if code == -errno.EAGAIN:
+            self._begin_in_turn()
+        else:
+            told(code)
+        # All of it is a loop of ww_until_all_locked.
+        self._library.ww_tries_begin_(self._at)
+        self._library.ww_tries_more_(self._at)
+        self._thread = threading.get_ident()
+
+    def _begin_in_turn(self):
+        """Waits until one of the class's contexts is free. No time ends that call, so another thread makes it for the
+        main one; where that waits no more, the context ends as soon as it has begun."""
+        begun, left = threading.Event(), threading.Event()
+
+        def begin():
+            self._library.ww_acquire_init(self._at, self._class._at)
+            begun.set()
+            if left.is_set():
+                self._end()
+
+        if not _is_main():
+            begin()
+            return
+        try:
+            threading.Thread(target=begin, daemon=True).start()
+            begun.wait()
+        except BaseException:
+            left.set()
+            if begun.is_set():
+                self._end()
+            raise
+
+    def _end(self):
+        """Ends it, if it has begun, which the library knows best."""
+        with self._ending:
+            self._thread = None
+            self._library.ww_acquire_unlock_all(self._at)
+            self._library.ww_acquire_fini_checked(self._at)
+        self._held.clear()
+        self._near.clear()
+
+    def _check(self, *mutexes):
+        """What would be wrong with a call of this thread."""
+        if self._thread != threading.get_ident():
+            raise _wrong("the context has ended, or is another thread's")
+        for mutex in mutexes:
+            if not isinstance(mutex, Mutex):
+                raise TypeError(f"{mutex!r} is no ww.Mutex")
+            if mutex._class is not self._class:
+                raise _wrong("the mutex is of another class")
+
+    def _is_contended(self):
+        """Whether it was told Deadlock, and hasn't backed off since."""
+        return self._library.ww_is_contended(self._at)
+
+    def _answer(self, mutex, until):
+        """What the lock call answers at last."""
+        while until is not None or _is_main():
+            end = time.monotonic_ns() + _SLICE if _is_main() else until
+            end = end if until is None else min(end, until)
+            code = self._library.ww_mutex_lock_until(mutex._at, self._at, Time(*divmod(end, 10**9)))
+            if code != -errno.ETIMEDOUT or end == until:
+                return code
+        return self._library.ww_mutex_lock_interruptible(mutex._at, self._at)
+
+    def _lock_each(self, mutexes, until):
+        """Acquires them in this order; where that fails it has released what it acquired."""
+        acquired = []
+        try:
+            for mutex in mutexes:
+                self._near.add(mutex)
+                told(self._answer(mutex, until))
+                self._held.add(mutex)
+                acquired.append(mutex)
+        except BaseException:
+            for mutex in reversed(acquired):
+                self.unlock(mutex)
+            raise
+
+    def lock(self, *mutexes, timeout=None):
+        """Acquires all of them, and waits for them; at the longest for so many seconds (TimeoutError), or until it is called
+        off (InterruptedError). One that is free is acquired, however late it is. A context that held nothing before
+        backs off by itself; any other one may be told Deadlock, and releases all. EALREADY: it holds one of them.
+        Where it fails, it has released what it acquired here."""
+        self._check(*mutexes)
+        until = None
+        if timeout is not None:
+            until = max(0, time.monotonic_ns() + int(max(-1, min(timeout, threading.TIMEOUT_MAX)) * 10**9))
+        held_nothing = not self._held
+        while True:
+            try:
+                return self._lock_each(mutexes, until)
+            except Deadlock:
+                if not held_nothing:
+                    raise
+                self.unlock_all()
+            except BaseException:
+                # It may have one that it waited for first, and hasn't been asked for yet.
+                if held_nothing:
+                    self.unlock_all()
+                raise
+
+    def try_lock(self, mutex):
+        """Acquires it if nobody has it or waits for it; whether it did."""
+        self._check(mutex)
+        self._near.add(mutex)
+        if not self._library.ww_mutex_trylock(mutex._at, self._at):
+            return False
+        self._held.add(mutex)
+        return True
+
+    def unlock(self, mutex):
+        """Releases it."""
+        self._check(mutex)
+        if mutex not in self._held:
+            raise _wrong("the context doesn't hold it")
+        self._held.discard(mutex)
+        told(self._library.ww_mutex_unlock_checked(mutex._at))
+        self._near.discard(mutex)
+
+    def unlock_all(self):
+        """Releases all. After a Deadlock the next lock call first waits for the mutex at which that came."""
+        self._check()
+        held, self._held = self._held, set()
+        if self._is_contended():
+            self._library.ww_tries_more_(self._at)
+        else:
+            self._library.ww_acquire_unlock_all(self._at)
+        self._near -= held
+
+    def __contains__(self, mutex):
+        """Whether it holds this mutex."""
+        return mutex in self._held
+
+    def done(self):
+        """It has all its mutexes. EINVAL: this was said before."""
+        self._check()
+        told(self._library.ww_acquire_done_checked(self._at))
+
+    def cancel(self):
+        """Calls its wait off, this one or the next, by any thread. EALREADY: that is pending; EINVAL: it has ended."""
+        with self._ending:
+            told(self._library.ww_acquire_cancel(self._at))

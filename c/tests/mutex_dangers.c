@@ -1,0 +1,583 @@
+/*
+ * What libww_debug tells of calls that are right by themselves: each danger once a call, each deadlock that no class
+ * detects with all of its threads, and none where there is none; and what ww_class_print writes as things come and go.
+ */
+#ifndef WW_DEBUG
+#define WW_DEBUG
+#endif
+#include "mutex_test.h"
+#include <sys/mman.h>
+#include <sys/syscall.h>
+#include <sys/wait.h>
+
+static DEFINE_WW_CLASS(c);
+static DEFINE_WD_CLASS(d);
+static struct ww_mutex a, b, other; /* other is of d */
+static struct ww_acquire_ctx x, y;
+static pthread_barrier_t all_hold;
+
+/* Where calls were made, and by which threads: as the child knows it. */
+static struct seen {
+	int lines[4];
+	long threads[2];
+} *seen;
+#define AT(k, call) (__atomic_store_n(&seen->lines[k], __LINE__, __ATOMIC_RELAXED), (call))
+
+static void is_thread(size_t k) { seen->threads[k] = syscall(SYS_gettid); }
+
+static void awaits_dangers(unsigned long count)
+{
+	while (ww_debug_dangers() < count)
+		usleep(1000);
+}
+
+/* ---- dangers ---- */
+
+static void *begins_and_ends(void *class)
+{
+	struct ww_acquire_ctx z;
+
+	ww_acquire_init(&z, class);
+	ww_acquire_fini(&z);
+	return NULL;
+}
+
+static void second_context(void)
+{
+	AT(0, ww_acquire_init(&x, &c));
+	for (unsigned k = 0; k < 2; k++) {
+		AT(1, ww_acquire_init(&y, &c));
+		ww_acquire_fini(&y);
+	}
+	begins_and_ends(&d);
+	end_thread(begin_thread(begins_and_ends, &c));
+	MUST(!AT(2, ww_acquire_init_checked(&y, &c)));
+	ww_acquire_fini(&x);
+	ww_acquire_fini(&y);
+	begins_and_ends(&c);
+	MUST(ww_debug_dangers() == 2);
+}
+
+static void without_context(void)
+{
+	struct timespec late = in_ms(600000);
+
+	ww_acquire_init(&x, &c);
+	ww_mutex_lock(&b, NULL);
+	ww_mutex_unlock(&b);
+	MUST(!ww_mutex_lock(&a, &x) && !ww_mutex_lock(&other, NULL));
+	MUST(ww_mutex_trylock(&b, NULL));
+	ww_mutex_unlock(&b);
+	MUST(!ww_mutex_lock_until(&b, NULL, &late));
+	ww_mutex_unlock(&b);
+	MUST(!ww_debug_dangers());
+	ww_mutex_unlock(&a);
+	ww_acquire_fini(&x);
+	AT(1, ww_mutex_lock(&a, NULL));
+	for (unsigned k = 0; k < 2; k++) {
+		AT(2, ww_mutex_lock(&b, NULL));
+		ww_mutex_unlock(&b);
+	}
+	MUST(ww_debug_dangers() == 1);
+}
+
+static void without_context_beside_one(void)
+{
+	AT(0, ww_acquire_init(&x, &c));
+	MUST(!ww_mutex_lock(&a, &x));
+	MUST(!AT(1, ww_mutex_lock_interruptible(&b, NULL)));
+}
+
+/* What ww_class_print writes of c; its caller frees it. */
+static char *printed(void)
+{
+	size_t size;
+	char *text;
+	FILE *to = open_memstream(&text, &size);
+
+	MUST(to);
+	ww_class_print(&c, to);
+	MUST(!fclose(to));
+	return text;
+}
+
+static void *waits_for_a(void *arg)
+{
+	(void)arg;
+	ww_mutex_lock(&a, NULL);
+	return NULL;
+}
+
+/* A thread sleeps because no context is left. */
+static void awaits_seeker(void)
+{
+	for (bool is_there = false; !is_there;) {
+		char *text = printed();
+
+		is_there = strstr(text, "threads that wait for a context: 1\n") && strstr(text, " waits for a context at ");
+		free(text);
+		usleep(1000);
+	}
+}
+
+static void *waits_for_context(void *holds)
+{
+	struct timespec now = in_ms(0);
+	struct ww_acquire_ctx z;
+
+	if (holds)
+		AT(0, ww_mutex_lock(&other, NULL));
+	MUST(ww_mutex_lock_until(&a, NULL, &now) == -ETIMEDOUT && !ww_debug_dangers());
+	AT(1, ww_acquire_init(&z, &c));
+	ww_acquire_fini(&z);
+	if (holds)
+		ww_mutex_unlock(&other);
+	return NULL;
+}
+
+/* Both contexts are in use, until the other thread waits for one. */
+static void wait_for_context(void)
+{
+	pthread_t thread;
+
+	for (size_t holds = 0; holds < 2; holds++) {
+		ww_acquire_init(&x, &c);
+		ww_mutex_lock(&b, NULL);
+		thread = begin_thread(waits_for_context, (void *)holds);
+		awaits_seeker();
+		ww_mutex_unlock(&b);
+		ww_acquire_fini(&x);
+		end_thread(thread);
+		MUST(ww_debug_dangers() == holds);
+	}
+}
+
+static void stays_open(void)
+{
+	AT(0, ww_acquire_init(&x, &c));
+	AT(1, ww_mutex_lock(&a, NULL));
+	for (unsigned k = 0; k < 2; k++)
+		MUST(AT(2, ww_class_free(&c)) == -EBUSY);
+	MUST(ww_debug_dangers() == 1);
+}
+
+/* ---- deadlocks ---- */
+
+/* At one line, since any of them may be the one that tells. */
+static void locks_at_last(struct ww_mutex *m, struct ww_acquire_ctx *ctx)
+{
+	pthread_barrier_wait(&all_hold);
+	AT(1, (void)!ww_mutex_lock(m, ctx));
+}
+
+static void *by_two_classes(void *second)
+{
+	struct ww_acquire_ctx of_c, of_d;
+
+	is_thread((size_t)second);
+	ww_acquire_init(&of_c, &c);
+	ww_acquire_init(&of_d, &d);
+	MUST(!ww_mutex_lock(second ? &other : &a, second ? &of_d : &of_c));
+	locks_at_last(second ? &a : &other, second ? &of_c : &of_d);
+	return NULL;
+}
+
+static void *without(void *second)
+{
+	is_thread((size_t)second);
+	AT(0, ww_mutex_lock(second ? &b : &a, NULL));
+	locks_at_last(second ? &a : &b, NULL);
+	return NULL;
+}
+
+static void *by_context_and_without(void *second)
+{
+	struct ww_acquire_ctx z;
+
+	if (!second)
+		return without(NULL);
+	is_thread(1);
+	ww_acquire_init(&z, &c);
+	MUST(!ww_mutex_lock(&b, &z));
+	locks_at_last(&a, &z);
+	return NULL;
+}
+
+static void *for_itself(void *second)
+{
+	if (second) {
+		pthread_barrier_wait(&all_hold);
+		return NULL;
+	}
+	is_thread(0);
+	AT(0, ww_mutex_lock(&a, NULL));
+	locks_at_last(&a, NULL);
+	return NULL;
+}
+
+static void deadlocked(void *(*work)(void *), unsigned long dangers)
+{
+	ww_debug_patience(20);
+	MUST(!pthread_barrier_init(&all_hold, NULL, 2));
+	for (size_t k = 0; k < 2; k++)
+		MUST(!pthread_detach(begin_thread(work, (void *)k)));
+	awaits_dangers(dangers);
+}
+
+static void two_classes(void) { deadlocked(by_two_classes, 1); }
+static void two_without(void) { deadlocked(without, 2); }
+static void one_without(void) { deadlocked(by_context_and_without, 2); }
+static void itself(void) { deadlocked(for_itself, 2); }
+static void no_context_left(void) { deadlocked(without, 3); }
+
+/* A thread waits for one of them, and isn't one. */
+static void behind(void)
+{
+	two_without();
+	MUST(!pthread_detach(begin_thread(waits_for_a, NULL)));
+	awaits_waiter(&a);
+	usleep(200000);
+	MUST(ww_debug_dangers() == 2);
+}
+
+/* ---- none ---- */
+
+/* As two_without, but one of them waits for a while. */
+static void *without_for_a_while(void *second)
+{
+	struct timespec then;
+
+	if (!second) {
+		without(NULL);
+		return NULL;
+	}
+	ww_mutex_lock(&b, NULL);
+	pthread_barrier_wait(&all_hold);
+	then = in_ms(300);
+	MUST(ww_mutex_lock_until(&a, NULL, &then) == -ETIMEDOUT);
+	ww_mutex_unlock(&b);
+	return NULL;
+}
+
+static void for_a_while(void)
+{
+	ww_debug_patience(5);
+	MUST(!pthread_barrier_init(&all_hold, NULL, 2));
+	in_threads(2, without_for_a_while);
+	MUST(ww_debug_dangers() == 1);
+}
+
+/* The thread has one of the two contexts that it waits for, and another, which doesn't wait, has the other one. */
+static void one_is_awake(void)
+{
+	pthread_t thread;
+
+	ww_debug_patience(5);
+	MUST(!pthread_barrier_init(&all_hold, NULL, 1));
+	ww_acquire_init(&x, &c);
+	thread = begin_thread(without, NULL);
+	awaits_seeker();
+	usleep(200000);
+	ww_acquire_fini(&x);
+	end_thread(thread);
+	MUST(ww_debug_dangers() == 2);
+}
+
+/* Linked in place of the proved library's further steps: a thread that sleeps is woken, and for a while does nothing. */
+static bool is_slow;
+static __thread bool is_younger;
+int32_t __real_ww_go_on_(ww_handle *handle, uint32_t *rest);
+int32_t __wrap_ww_go_on_(ww_handle *handle, uint32_t *rest)
+{
+	if (is_younger && __atomic_load_n(&is_slow, __ATOMIC_RELAXED))
+		usleep(200000);
+	return __real_ww_go_on_(handle, rest);
+}
+
+static void *is_wounded(void *arg)
+{
+	(void)arg;
+	is_younger = true;
+	ww_acquire_init(&y, &c);
+	y.deadlock_inject_countdown = ~0u;
+	MUST(!ww_mutex_lock(&b, &y) && ww_mutex_lock(&a, &y) == -EDEADLK);
+	ww_mutex_unlock(&b);
+	ww_acquire_fini(&y);
+	return NULL;
+}
+
+/* Both sleep, and so wait for each other, until the younger one goes on, which was woken to be told -EDEADLK. */
+static void one_is_woken(void)
+{
+	struct ww_mutex further;
+	pthread_t thread;
+
+	ww_debug_patience(5);
+	ww_mutex_init(&further, &c);
+	ww_acquire_init(&x, &c);
+	x.deadlock_inject_countdown = ~0u;
+	MUST(!ww_mutex_lock(&further, &x) && !ww_mutex_lock(&a, &x));
+	thread = begin_thread(is_wounded, NULL);
+	awaits_waiter(&a);
+	usleep(100000);
+	__atomic_store_n(&is_slow, true, __ATOMIC_RELAXED);
+	MUST(!ww_mutex_lock(&b, &x));
+	__atomic_store_n(&is_slow, false, __ATOMIC_RELAXED);
+	end_thread(thread);
+	MUST(!ww_debug_dangers());
+}
+
+static struct ww_mutex firsts[3], seconds[3], outside[2];
+
+/* Takes two of three and then two of three others, now and then amid a lock without a context: long enough that others look. */
+static void *goes_on(void *arg)
+{
+	unsigned draws = 1 + (unsigned)(size_t)arg;
+
+	for (unsigned k = 0; k < 60; k++) {
+		struct ww_acquire_ctx in, further;
+		struct ww_mutex *lone = next(&draws) % 2 ? &outside[next(&draws) % 2] : NULL;
+		unsigned n = next(&draws) % 3, m = next(&draws) % 3;
+
+		if (lone)
+			ww_mutex_lock(lone, NULL);
+		ww_acquire_init(&in, &c);
+		MUST(!ww_mutex_lock_all(&in, (struct ww_mutex *[]){ &firsts[n], &firsts[(n + 1) % 3] }, 2));
+		ww_acquire_init(&further, &d);
+		MUST(!ww_mutex_lock_all(&further, (struct ww_mutex *[]){ &seconds[m], &seconds[(m + 2) % 3] }, 2));
+		usleep(next(&draws) % 3000);
+		ww_mutex_unlock(&seconds[m]);
+		ww_mutex_unlock(&seconds[(m + 2) % 3]);
+		ww_acquire_fini(&further);
+		ww_mutex_unlock(&firsts[n]);
+		ww_mutex_unlock(&firsts[(n + 1) % 3]);
+		ww_acquire_fini(&in);
+		if (lone)
+			ww_mutex_unlock(lone);
+	}
+	return NULL;
+}
+
+static DEFINE_WW_CLASS(beyond);
+
+static void no_deadlock(void)
+{
+	ww_debug_patience(1);
+	for (unsigned k = 0; k < 3; k++) {
+		ww_mutex_init(&firsts[k], &c);
+		ww_mutex_init(&seconds[k], &d);
+	}
+	for (unsigned k = 0; k < 2; k++)
+		ww_mutex_init(&outside[k], &beyond);
+	in_threads(8, goes_on);
+	MUST(!ww_debug_faults());
+}
+
+/* ---- what each of them says ---- */
+
+/* The limits of c and d, and what runs. */
+static void in_child(uint32_t contexts, uint32_t others, void (*what)(void))
+{
+	alarm(300);
+	MUST(!ww_class_limit(&c, 8, contexts) && !ww_class_limit(&d, 8, others));
+	ww_mutex_init(&a, &c);
+	ww_mutex_init(&b, &c);
+	ww_mutex_init(&other, &d);
+	what();
+	_exit(0);
+}
+
+static int by_words(const void *one, const void *two) { return strcmp(*(char *const *)one, *(char *const *)two); }
+
+/* Its lines in order, without the folders of sources, and without those of backtraces. */
+static void put_in_order(char *said, char *to)
+{
+	char *lines[64];
+	unsigned count = 0;
+
+	for (char *line = strtok(said, "\n"); line && count < 64; line = strtok(NULL, "\n"))
+		if (!strstr(line, "[0x"))
+			lines[count++] = line;
+	qsort(lines, count, sizeof *lines, by_words);
+	for (unsigned k = 0; k < count; k++)
+		for (char *at = lines[k]; *at || !(*to++ = '\n');)
+			if (!strncmp(at, "tests/", 6))
+				at += 6;
+			else
+				*to++ = *at++;
+	*to = 0;
+}
+
+static char said[65536];
+
+static void hear(uint32_t contexts, uint32_t others, void (*what)(void))
+{
+	int ends[2], status;
+	ssize_t count, all = 0;
+	pid_t child;
+
+	MUST(!pipe(ends) && (child = fork()) >= 0);
+	if (!child) {
+		dup2(ends[1], 2);
+		in_child(contexts, others, what);
+	}
+	close(ends[1]);
+	while ((count = read(ends[0], said + all, sizeof said - 1 - (size_t)all)) > 0)
+		all += count;
+	said[all] = 0;
+	close(ends[0]);
+	MUST(waitpid(child, &status, 0) == child);
+	if (status) {
+		fprintf(stderr, "a child ended by %d: %s\n", status, said);
+		exit(1);
+	}
+}
+
+/* In these words $ is the place of this file whose line AT has seen, and ~ a thread. */
+static void fill_in(char *to, const char *words)
+{
+	for (; *words; words++)
+		if (*words == '$')
+			to += sprintf(to, "mutex_dangers.c:%d", seen->lines[*++words - '0']);
+		else if (*words == '~')
+			to += sprintf(to, "thread %ld", seen->threads[*++words - '0']);
+		else
+			*to++ = *words;
+	*to = 0;
+}
+
+/* What it says, in any order. */
+static void tells(uint32_t contexts, uint32_t others, void (*what)(void), const char *words)
+{
+	static char expected[8192], wanted[8192], heard[65536];
+
+	hear(contexts, others, what);
+	fill_in(expected, words);
+	put_in_order(expected, wanted);
+	MUST(!HAS_BACKTRACE || strstr(said, "[0x"));
+	put_in_order(said, heard);
+	if (strcmp(heard, wanted)) {
+		fprintf(stderr, "said is\n%sin place of\n%s", heard, wanted);
+		exit(1);
+	}
+}
+
+#define OTHER_CONTEXT "two contexts of a thread can wait for each other for ever; its other one began at "
+#define BESIDE "nobody detects a deadlock by a lock without a context; the thread holds a mutex by what began at "
+#define NONE_LEFT "all are in use, and nobody detects a deadlock by this; the thread has what began at "
+
+static void tells_dangers(void)
+{
+	tells(4, 4, second_context, "$1: ww_acquire_init: class \"c\": " OTHER_CONTEXT "$0\n"
+				    "$2: ww_acquire_init: class \"c\": " OTHER_CONTEXT "$0\n");
+	tells(4, 4, without_context, "$2: ww_mutex_lock: class \"c\": " BESIDE "$1\n");
+	tells(4, 4, without_context_beside_one, "$1: ww_mutex_lock: class \"c\": " BESIDE "$0\n");
+	tells(2, 2, wait_for_context, "$1: a wait for a context: class \"c\": " NONE_LEFT "$0\n");
+	tells(2, 2, stays_open,
+	      "$2: ww_class_free: class \"c\": 2 of 8 mutexes and 2 of 2 contexts in use, threads that wait for a context: 0\n"
+	      "context 0/1 began at $0\na lock without a context, by seat 1, began at $1\n");
+}
+
+static void tells_deadlocks(void)
+{
+	tells(2, 2, two_classes, "$1: a wait: no class detects this deadlock of 2 threads\n"
+				 "~0 waits at $1 for mutex 0 of class \"d\", which ~1 holds\n"
+				 "~1 waits at $1 for mutex 0 of class \"c\", which ~0 holds\n");
+	tells(4, 2, two_without, "$1: ww_mutex_lock: class \"c\": " BESIDE "$0\n"
+				 "$1: a wait: no class detects this deadlock of 2 threads\n"
+				 "~0 waits at $1 for mutex 1 of class \"c\", which ~1 holds\n"
+				 "~1 waits at $1 for mutex 0 of class \"c\", which ~0 holds\n");
+	tells(4, 2, behind, "$1: ww_mutex_lock: class \"c\": " BESIDE "$0\n"
+			    "$1: a wait: no class detects this deadlock of 2 threads\n"
+			    "~0 waits at $1 for mutex 1 of class \"c\", which ~1 holds\n"
+			    "~1 waits at $1 for mutex 0 of class \"c\", which ~0 holds\n");
+	tells(4, 2, one_without, "$1: ww_mutex_lock: class \"c\": " BESIDE "$0\n"
+				 "$1: a wait: no class detects this deadlock of 2 threads\n"
+				 "~0 waits at $1 for mutex 1 of class \"c\", which ~1 holds\n"
+				 "~1 waits at $1 for mutex 0 of class \"c\", which ~0 holds\n");
+	tells(4, 2, itself, "$1: ww_mutex_lock: class \"c\": " BESIDE "$0\n"
+			    "$1: a wait: no class detects this deadlock of 1 thread\n"
+			    "~0 waits at $1 for mutex 0 of class \"c\", which ~0 holds\n");
+	tells(2, 2, no_context_left, "$1: ww_mutex_lock: class \"c\": " BESIDE "$0\n"
+				     "$1: a wait for a context: class \"c\": " NONE_LEFT "$0\n"
+				     "$1: a wait: no class detects this deadlock of 2 threads\n"
+				     "~0 waits at $1 for a context of class \"c\": all 2 are in use\n"
+				     "~1 waits at $1 for a context of class \"c\": all 2 are in use\n");
+}
+
+/* ---- what ww_class_print writes ---- */
+
+static void *acquires(void *arg)
+{
+	(void)arg;
+	AT(1, ww_mutex_lock(&a, NULL));
+	pthread_barrier_wait(&all_hold);
+	pthread_barrier_wait(&all_hold);
+	ww_mutex_unlock(&a);
+	return NULL;
+}
+
+static void prints(unsigned mutexes, unsigned contexts, const char *words)
+{
+	static char expected[8192], bare[8192];
+	char *to = bare, *text = printed();
+	int count = sprintf(expected, "class \"c\": %u of 8 mutexes and %u of 4 contexts in use, threads that wait for a context: 0\n",
+			    mutexes, contexts);
+
+	fill_in(expected + count, words);
+	for (const char *at = text; *at; *to++ = *at++)
+		if (!strncmp(at, "tests/", 6))
+			at += 6;
+	*to = 0;
+	if (strcmp(bare, expected)) {
+		fprintf(stderr, "printed is\n%sin place of\n%s", bare, expected);
+		exit(1);
+	}
+	free(text);
+}
+
+static void prints_what_is(void)
+{
+	struct timespec now = in_ms(0);
+	pthread_t thread;
+
+	MUST(!ww_class_limit(&c, 8, 4) && !pthread_barrier_init(&all_hold, NULL, 2));
+	ww_mutex_init(&a, &c);
+	ww_mutex_init(&b, &c);
+	prints(2, 0, "ring -\ncondemned -\nseat 0 0 0\n");
+	AT(0, ww_acquire_init(&x, &c));
+	MUST(!ww_mutex_lock(&a, &x));
+	thread = begin_thread(acquires, NULL);
+	awaits_waiter(&a);
+	prints(2, 2, "context 0/1 began at $0\na lock without a context, by seat 1, began at $1\n"
+		     "ring -\ncondemned -\nlock 0 0/1 : 1/0\nseat 0 1 0\nseat 1 0 0\n");
+	ww_mutex_unlock(&a);
+	pthread_barrier_wait(&all_hold);
+	prints(2, 2, "context 0/1 began at $0\na lock without a context, by seat 1, began at $1\n"
+		     "ring -\ncondemned -\nlock 0 1/0 :\nseat 0 1 0\nseat 1 0 0\n");
+	MUST(ww_mutex_lock_until(&a, &x, &now) == -ETIMEDOUT && ww_mutex_lock_until(&a, NULL, &now) == -ETIMEDOUT);
+	pthread_barrier_wait(&all_hold);
+	end_thread(thread);
+	prints(2, 1, "context 0/1 began at $0\nring -\ncondemned -\nseat 0 1 0\n");
+	ww_acquire_fini(&x);
+	MUST(!ww_mutex_destroy(&b));
+	prints(1, 0, "ring -\ncondemned -\nseat 0 0 0\n");
+	MUST(!ww_mutex_destroy(&a) && !ww_class_free(&c) && !ww_debug_dangers() && !ww_debug_faults());
+}
+
+int main(void)
+{
+	seen = mmap(NULL, sizeof *seen, PROT_READ | PROT_WRITE, MAP_SHARED | MAP_ANONYMOUS, -1, 0);
+	MUST(seen != MAP_FAILED);
+	tells_dangers();
+	tells_deadlocks();
+	tells(4, 2, for_a_while, "$1: ww_mutex_lock: class \"c\": " BESIDE "$0\n");
+	tells(2, 2, one_is_awake, "$1: ww_mutex_lock: class \"c\": " BESIDE "$0\n"
+				  "$1: a wait for a context: class \"c\": " NONE_LEFT "$0\n");
+	hear(4, 2, one_is_woken);
+	hear(4, 2, no_deadlock);
+	MUST(!strstr(said, "no class detects this deadlock"));
+	prints_what_is();
+	puts("mutex_dangers: each danger and each deadlock is told, and no other");
+	return 0;
+}

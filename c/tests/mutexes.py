@@ -1,0 +1,351 @@
+"""What Python's objects refuse, and how their waits end: by Deadlock, a time, a cancel, an interrupt: mutexes.py libww.so"""
+import contextlib
+import errno
+import gc
+import os
+import signal
+import sys
+import threading
+import time
+
+sys.path.insert(0, os.path.join(os.path.dirname(os.path.abspath(__file__)), "../python"))
+import ww
+
+KINDS = (ww.WOUND_WAIT, ww.WAIT_DIE)
+
+
+def made(kind=ww.WOUND_WAIT, mutexes=8, contexts=4):
+    return ww.Class(kind, mutexes, contexts, sys.argv[1])
+
+
+def fault_of(call, *words, **named):
+    """The errno of a call that fails, or 0."""
+    try:
+        call(*words, **named)
+    except OSError as error:
+        return error.errno
+    return 0
+
+
+def is_raised(kind, call, *words, **named):
+    try:
+        call(*words, **named)
+    except kind:
+        return True
+    return False
+
+
+def begins(of):
+    with of.context():
+        pass
+
+
+def beside(call):
+    """What the call returns in another thread."""
+    answers = []
+    thread = threading.Thread(target=lambda: answers.append(call()))
+    thread.start()
+    thread.join()
+    return answers[0]
+
+
+def wait_for(thread, name, ended=threading.Event()):
+    """Until the thread is in the function of this name, and most likely asleep there, or has ended what it was to do."""
+    is_there = False
+    while not is_there and not ended.is_set():
+        time.sleep(0.01)
+        frame = sys._current_frames().get(thread)
+        while frame and frame.f_code.co_name != name:
+            frame = frame.f_back
+        is_there = frame is not None
+    time.sleep(0.1)
+
+
+def refuses_classes():
+    for words in ((2, 8, 4), (-1, 8, 4), (ww.WAIT_DIE, 65537, 4), (ww.WAIT_DIE, -1, 4), (ww.WAIT_DIE, 8, 4095), (ww.WAIT_DIE, 8, 2**32)):
+        assert fault_of(made, *words) == errno.EINVAL
+    assert is_raised(TypeError, ww.Mutex, None)
+
+
+def refuses_mutexes(kind):
+    """Of another class, not held, held twice, held by another; what is no mutex; `done` twice."""
+    buffers, others = made(kind), made(kind)
+    a, b, strange = ww.Mutex(buffers), ww.Mutex(buffers), ww.Mutex(others)
+    with buffers.context() as one, buffers.context() as two:
+        for call in (one.lock, one.try_lock, one.unlock):
+            assert fault_of(call, strange) == errno.EINVAL and is_raised(TypeError, call, None)
+        assert fault_of(one.lock, a, b, a) == errno.EALREADY and a not in one and not a.locked() and not b.locked()
+        one.lock(a)
+        assert fault_of(one.lock, b, a) == errno.EALREADY and a in one and b not in one and not b.locked()
+        assert not two.try_lock(a) and fault_of(two.unlock, a) == errno.EINVAL and a in one and a.locked()
+        one.done()
+        assert fault_of(one.done) == errno.EINVAL
+        one.unlock(a)
+        assert two.try_lock(a) and fault_of(one.unlock, a) == errno.EINVAL and a in two
+
+
+def refuses_others():
+    """A context is its thread's, and only as long as its block."""
+    buffers = made()
+    a = ww.Mutex(buffers)
+    with buffers.context() as context:
+        context.lock(a)
+        calls = (lambda: context.lock(a), lambda: context.try_lock(a), lambda: context.unlock(a), context.unlock_all, context.done)
+        for call in calls:
+            assert beside(lambda: fault_of(call)) == errno.EINVAL
+        assert a in context and a.locked()
+    assert a not in context and not a.locked()
+    for call in (*calls, context.cancel):
+        assert fault_of(call) == errno.EINVAL
+
+
+def gives_numbers_back():
+    """A mutex stays as long as a context may hold it, or has to wait for it first; then its class has room for another."""
+    buffers = made(ww.WAIT_DIE, mutexes=2)
+    a, b = ww.Mutex(buffers), ww.Mutex(buffers)
+    with buffers.context() as older, buffers.context() as younger:
+        older.lock(a)
+        younger.lock(b)
+        assert is_raised(ww.Deadlock, younger.lock, a)
+        del a
+        gc.collect()
+        assert fault_of(ww.Mutex, buffers) == errno.ENOSPC
+        older.unlock_all()
+        assert fault_of(ww.Mutex, buffers) == errno.ENOSPC
+        younger.unlock_all()
+        younger.lock(b)
+    with buffers.context() as context:
+        for release in (context.unlock, lambda _: context.unlock_all(), lambda _: None):
+            mutex = ww.Mutex(buffers)
+            context.lock(mutex)
+            release(mutex)
+            del mutex
+    with ww.Mutex(buffers) as mutex:
+        assert mutex.locked()
+
+
+def ends_in_time(kind):
+    """What was held still is, and nothing else; a mutex that is free is acquired at any time."""
+    buffers = made(kind)
+    a, b, c = (ww.Mutex(buffers) for _ in range(3))
+
+    def tries():
+        with buffers.context() as older, buffers.context() as younger:
+            younger.lock(a)
+            older.lock(b, timeout=-1)
+            began = time.monotonic()
+            is_late = is_raised(TimeoutError, older.lock, c, a, timeout=0.25) and time.monotonic() - began >= 0.25
+            return is_late and is_raised(TimeoutError, older.lock, a, timeout=-1) and b in older and not c.locked()
+
+    assert tries() and beside(tries)
+
+
+def is_called_off(kind):
+    """Before the wait, while it goes on, and by the handler of a signal."""
+    buffers = made(kind)
+    a, b = ww.Mutex(buffers), ww.Mutex(buffers)
+    told = []
+
+    def waits(context):
+        told.append(is_raised(InterruptedError, context.lock, a))
+
+    def works():
+        with buffers.context() as context:
+            context.lock(b)
+            context.unlock(b)
+            context.cancel()
+            assert fault_of(context.cancel) == errno.EALREADY
+            waits(context)
+            waiting.append(context)
+            waits(context)
+
+    with buffers.context() as holder:
+        holder.lock(a)
+        waiting = []
+        thread = threading.Thread(target=works)
+        thread.start()
+        while not waiting:
+            time.sleep(0.01)
+        wait_for(thread.ident, "_answer")
+        waiting[0].cancel()
+        thread.join()
+        with buffers.context() as mine:
+            signal.signal(signal.SIGUSR1, lambda *_: mine.cancel())
+            interrupts(signal.SIGUSR1, "_answer", lambda: waits(mine))
+    assert told == [True, True, True]
+
+
+def interrupts(number, name, call):
+    """Calls it in the main thread, which has this signal once it waits in the function of this name."""
+    main = threading.get_ident()
+    thread = threading.Thread(target=lambda: (wait_for(main, name), os.kill(os.getpid(), number)))
+    thread.start()
+    try:
+        call()
+    finally:
+        thread.join()
+
+
+def hears_interrupts(kind):
+    """While it waits for a mutex, which then isn't held, or for a context, which is free once the holder ends."""
+    buffers = made(kind, contexts=2)
+    a = ww.Mutex(buffers)
+    heard = []
+
+    def waits_in_context():
+        with buffers.context() as context:
+            context.lock(a)
+
+    def holds(contexts):
+        with contextlib.ExitStack() as stack:
+            for _ in range(contexts):
+                context = stack.enter_context(buffers.context())
+            context.lock(a)
+            has.set()
+            goes.wait()
+
+    for contexts, name, call in ((1, "_answer", waits_in_context), (1, "_answer", a.__enter__), (2, "_begin_in_turn", a.__enter__)):
+        has, goes = threading.Event(), threading.Event()
+        holder = threading.Thread(target=holds, args=(contexts,))
+        holder.start()
+        has.wait()
+        try:
+            interrupts(signal.SIGINT, name, call)
+        except KeyboardInterrupt as error:
+            heard.append(error)  # As an interactive session keeps it, with all that its frames refer to.
+        goes.set()
+        holder.join()
+        assert not a.locked()
+        with a, buffers.context():
+            assert a.locked()
+        assert not a.locked()
+    assert len(heard) == 3
+
+
+def waits_in_turn():
+    """More threads than contexts."""
+    buffers = made(contexts=2)
+    a = ww.Mutex(buffers)
+    count = [0]
+
+    def counts():
+        for _ in range(50):
+            with a:
+                count[0] += 1
+
+    threads = [threading.Thread(target=counts) for _ in range(8)]
+    for thread in threads:
+        thread.start()
+    counts()
+    for thread in threads:
+        thread.join()
+    assert count == [450]
+
+
+def resolves(kind):
+    """Two threads that hold what the other wants: the younger one backs off, once; by itself and by hand."""
+    buffers = made(kind)
+    a, b = ww.Mutex(buffers), ww.Mutex(buffers)
+    for by_hand in (False, True):
+        told, older_began, both_hold = [], threading.Event(), threading.Barrier(2)
+
+        def takes(context, mine, others, name):
+            told.append(name)
+            context.lock(mine)
+            if told.count(name) == 1:
+                older_began.set()
+                both_hold.wait()
+            context.lock(others)
+            return name if mine in context and others in context else None
+
+        def younger():
+            older_began.wait()
+            if not by_hand:
+                return buffers.run(lambda context: takes(context, b, a, "younger"))
+            with buffers.context() as context:
+                assert is_raised(ww.Deadlock, takes, context, b, a, "younger")
+                assert fault_of(context.lock, a) == errno.EINVAL
+                context.unlock_all()
+                return takes(context, a, b, "younger")
+
+        answers = []
+        thread = threading.Thread(target=lambda: answers.append(younger()))
+        thread.start()
+        answers.append(buffers.run(lambda context: takes(context, a, b, "older")))
+        thread.join()
+        assert sorted(answers) == ["older", "younger"] and sorted(told) == ["older", "younger", "younger"]
+        assert not a.locked() and not b.locked()
+
+
+def backs_off_by_itself(kind):
+    """One call for several mutexes of a context that held nothing."""
+    buffers = made(kind)
+    a, b = ww.Mutex(buffers), ww.Mutex(buffers)
+    answers = []
+
+    def younger():
+        with buffers.context() as context:
+            context.lock(b, a)
+            answers.append(a in context and b in context)
+
+    with buffers.context() as context:
+        context.lock(a)
+        thread = threading.Thread(target=younger)
+        thread.start()
+        wait_for(thread.ident, "_answer")
+        context.lock(b)
+        assert not answers
+    thread.join()
+    assert answers == [True]
+
+
+def keeps_nothing(kind):
+    """Where its time comes at the second mutex, after a back-off for which it waited for the first."""
+    buffers = made(kind)
+    a, b = ww.Mutex(buffers), ww.Mutex(buffers)
+    answers, ended, goes = [], threading.Event(), threading.Event()
+
+    def younger():
+        with buffers.context() as context:
+            answers.append(is_raised(TimeoutError, context.lock, b, a, timeout=1))
+            ended.set()
+            goes.wait()
+
+    with buffers.context() as context:
+        context.lock(a)
+        thread = threading.Thread(target=younger)
+        thread.start()
+        wait_for(thread.ident, "_answer", ended)
+        context.lock(b)
+        context.unlock(a)
+        ended.wait()
+        answers.append(a.locked())
+        goes.set()
+    thread.join()
+    assert answers == [True, False]
+
+
+def forks():
+    """A child has none of it, and makes its own."""
+    buffers = made()
+    a = ww.Mutex(buffers)
+    with a:
+        child = os.fork()
+        if child == 0:
+            refused = fault_of(begins, buffers) == fault_of(ww.Mutex, buffers) == errno.EINVAL
+            mine = made()
+            with ww.Mutex(mine) as mutex:
+                os._exit(not (refused and mutex.locked()))
+        assert os.waitpid(child, 0)[1] == 0 and a.locked()
+
+
+signal.signal(signal.SIGINT, signal.default_int_handler)
+refuses_classes()
+refuses_others()
+gives_numbers_back()
+waits_in_turn()
+forks()
+for each in KINDS:
+    for test in (refuses_mutexes, ends_in_time, is_called_off, hears_interrupts, resolves, backs_off_by_itself, keeps_nothing):
+        test(each)
+print("mutexes in Python: each refusal is told, and each wait ends as it should")

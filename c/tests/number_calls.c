@@ -1,0 +1,404 @@
+/*
+ * Mutexes by their numbers: what each call of ww_number.h answers, where they stand beside those of ww_mutex.h, who is
+ * told -EDEADLK, and sums by threads.  Compiled with -DWW_DEBUG, over the debug library: which calls that tells.
+ */
+#include "mutex_test.h"
+#include "../ww_number.h"
+#include <sys/wait.h>
+
+static DEFINE_WW_CLASS(wound_wait);
+static DEFINE_WD_CLASS(wait_die);
+static struct ww_class *c;
+enum { COUNT = 4 };
+static uint32_t n[COUNT];
+static struct ww_acquire_ctx x, y;
+static const struct timespec past = { 0, 0 };
+
+/* So that the debug library makes nothing up. */
+static void begins(struct ww_acquire_ctx *ctx)
+{
+	ww_acquire_init(ctx, c);
+	ctx->deadlock_inject_countdown = ~0u;
+}
+
+static void takes(void)
+{
+	for (unsigned k = 0; k < COUNT; k++)
+		MUST(!ww_number_take(&n[k], c));
+}
+
+static void puts_back(void)
+{
+	for (unsigned k = 0; k < COUNT; k++)
+		MUST(!ww_number_put(n[k], c));
+}
+
+/* ---- numbers ---- */
+
+static void are_of_one_pool(void)
+{
+	struct ww_mutex m;
+	uint32_t other;
+
+	takes();
+	for (unsigned k = 0; k < COUNT; k++)
+		for (unsigned j = 0; j < k; j++)
+			MUST(n[j] != n[k]);
+	MUST(ww_number_take(&other, c) == -ENOSPC && ww_mutex_init_checked(&m, c) == -ENOSPC);
+	MUST(ww_class_free(c) == -EBUSY && !ww_number_put(n[0], c));
+	MUST(!ww_mutex_init_checked(&m, c) && m.number == n[0] && ww_number_take(&other, c) == -ENOSPC);
+	MUST(!ww_mutex_destroy(&m) && !ww_number_take(&n[0], c));
+	puts_back();
+	MUST(!ww_class_free(c));
+}
+
+/* ---- one context ---- */
+
+static void by_a_context(void)
+{
+	begins(&x);
+	MUST(!ww_number_is_held(n[0], &x) && !ww_number_is_locked(n[0], c));
+	MUST(!ww_number_lock(n[0], &x) && x.acquired == 1 && ww_number_is_held(n[0], &x) && ww_number_is_locked(n[0], c));
+	MUST(ww_number_lock(n[0], &x) == -EALREADY && !ww_number_trylock(n[0], &x) && x.acquired == 1);
+	MUST(ww_number_put(n[0], c) == -EBUSY && ww_number_is_held(n[0], &x));
+	MUST(!ww_number_lock_until(n[1], &x, &past) && !ww_number_lock_until(n[2], &x, NULL));
+	MUST(ww_number_trylock(n[3], &x) == 1 && x.acquired == 4);
+	MUST(!ww_number_unlock(n[1], &x) && x.acquired == 3 && !ww_number_is_locked(n[1], c));
+	ww_acquire_done(&x);
+	ww_number_unlock_all(&x);
+	MUST(!x.acquired && !ww_number_is_locked(n[0], c));
+	ww_number_unlock_all(&x);
+	ww_acquire_fini(&x);
+}
+
+/* Each of these is told by the debug library, and changes nothing. */
+static void refuses(void)
+{
+	struct timespec none = { 0, -1 };
+
+	MUST(ww_number_put(COUNT, c) == -EINVAL && !ww_number_is_locked(COUNT, c));
+	begins(&x);
+	MUST(ww_number_lock(COUNT, &x) == -EINVAL && ww_number_lock_until(n[0], &x, &none) == -EINVAL);
+	MUST(ww_number_unlock(n[0], &x) == -EINVAL && ww_number_unlock(COUNT, &x) == -EINVAL && !x.acquired);
+	ww_acquire_fini(&x);
+	MUST(ww_number_lock(n[0], &x) == -EINVAL && ww_number_lock_until(n[0], &x, NULL) == -EINVAL);
+	MUST(!ww_number_trylock(n[0], &x) && ww_number_unlock(n[0], &x) == -EINVAL && !ww_number_is_held(n[0], &x));
+	ww_number_unlock_all(&x);
+	MUST(!ww_number_is_locked(n[0], c));
+}
+
+/* A loop knows addresses alone; behind it, too. */
+static void is_no_loop(void)
+{
+	struct ww_mutex m;
+
+	MUST(!ww_number_put(n[3], c));
+	ww_mutex_init(&m, c);
+	begins(&x);
+	ww_until_all_locked(&x) {
+		MUST(!ww_mutex_lock(&m, &x));
+		ww_retry_on_contention(&x);
+		MUST(ww_number_lock(n[0], &x) == -EINVAL && ww_number_lock_until(n[0], &x, &past) == -EINVAL);
+		MUST(!ww_number_trylock(n[0], &x) && ww_number_unlock(m.number, &x) == -EINVAL && x.acquired == 1);
+	}
+	MUST(ww_number_lock(n[0], &x) == -EINVAL && !ww_number_is_locked(n[0], c));
+	ww_acquire_unlock_all(&x);
+	ww_acquire_fini(&x);
+	MUST(!ww_mutex_destroy(&m) && !ww_number_take(&n[3], c));
+}
+
+/* Outside a loop they stand beside each other, and one may begin then: it sees nothing of the numbers. */
+static void goes_with_addresses(void)
+{
+	struct ww_mutex m, other;
+
+	MUST(!ww_number_put(n[2], c) && !ww_number_put(n[3], c));
+	ww_mutex_init(&m, c);
+	ww_mutex_init(&other, c);
+	begins(&x);
+	MUST(!ww_number_lock(n[0], &x) && !ww_mutex_lock(&m, &x) && ww_number_trylock(n[1], &x) && x.acquired == 3);
+	MUST(!ww_number_unlock(n[0], &x));
+	ww_mutex_unlock(&m);
+	MUST(!ww_number_unlock(n[1], &x) && !x.acquired);
+	ww_until_all_locked(&x) {
+		MUST(!ww_mutex_lock(&m, &x) && !ww_mutex_lock(&other, &x));
+		ww_mutex_unlock(&m);
+	}
+	ww_acquire_unlock_all(&x);
+	MUST(!x.acquired && !ww_mutex_lock_all(&x, (struct ww_mutex *[]){ &m, &other }, 2));
+	ww_mutex_unlock(&other);
+	ww_mutex_unlock(&m);
+	ww_acquire_fini(&x);
+	MUST(!ww_mutex_destroy(&m) && !ww_mutex_destroy(&other) && !ww_number_take(&n[2], c) && !ww_number_take(&n[3], c));
+}
+
+/* ---- without a context ---- */
+
+static void without_one(void)
+{
+	struct ww_seat *by, *other;
+
+	MUST(!ww_number_lock_alone(n[0], c, NULL, &by) && ww_number_is_locked(n[0], c) && ww_number_put(n[0], c) == -EBUSY);
+	MUST(!ww_number_trylock_alone(n[0], c, &other) && ww_number_lock_alone(n[0], c, &past, &other) == -ETIMEDOUT);
+	MUST(ww_number_trylock_alone(n[1], c, &other) == 1 && other != by);
+	/* All contexts are in use. */
+	MUST(ww_acquire_init_checked(&x, c) == -EAGAIN && !ww_number_trylock_alone(n[2], c, &by));
+	ww_number_unlock_alone(n[0], by);
+	begins(&x);
+	MUST(!ww_number_lock(n[0], &x) && !ww_number_trylock(n[1], &x));
+	MUST(ww_number_lock_until(n[1], &x, &past) == -ETIMEDOUT && x.acquired == 1);
+	ww_number_unlock_alone(n[1], other);
+	MUST(!ww_number_lock_until(n[1], &x, &past) && x.acquired == 2);
+	ww_number_unlock_all(&x);
+	ww_acquire_fini(&x);
+}
+
+/* ---- waits ---- */
+
+/* It waits for n[0], which another holds, with n[1] held. */
+static void *waits(void *arg)
+{
+	long *told = arg;
+
+	ww_acquire_init(&y, c);
+	y.deadlock_inject_countdown = ~0u;
+	MUST(!ww_number_lock(n[1], &y));
+	__atomic_store_n(told, 1, __ATOMIC_SEQ_CST);
+	MUST(ww_number_lock_until(n[0], &y, NULL) == -EINTR && y.acquired == 1 && ww_number_is_held(n[1], &y));
+	__atomic_store_n(told, 2, __ATOMIC_SEQ_CST);
+	MUST(!ww_number_lock(n[0], &y) && !ww_number_unlock(n[0], &y) && !ww_number_unlock(n[1], &y));
+	ww_acquire_fini(&y);
+	return NULL;
+}
+
+/* A lone lock is nobody's elder, so that the context waits in both kinds; the cancel meets its wait, or is there before. */
+static void is_called_off(void)
+{
+	struct ww_seat *by;
+	long told = 0;
+
+	MUST(!ww_number_lock_alone(n[0], c, NULL, &by));
+	pthread_t thread = begin_thread(waits, &told);
+
+	while (!__atomic_load_n(&told, __ATOMIC_SEQ_CST))
+		usleep(100);
+	MUST(!ww_acquire_cancel(&y));
+	while (__atomic_load_n(&told, __ATOMIC_SEQ_CST) < 2)
+		usleep(100);
+	ww_number_unlock_alone(n[0], by);
+	end_thread(thread);
+}
+
+/* After -EDEADLK another comes first, which the debug library tells. */
+static void another_comes_first(void)
+{
+	begins(&y);
+	begins(&x);
+	MUST(!ww_number_lock(n[0], &y) && !ww_number_lock(n[1], &x) && ww_number_lock(n[0], &x) == -EDEADLK);
+	MUST(!ww_number_unlock(n[1], &x) && !ww_number_lock(n[1], &x) && !ww_number_unlock(n[1], &x));
+	ww_acquire_fini(&x);
+	ww_number_unlock_all(&y);
+	ww_acquire_fini(&y);
+}
+
+/* Each holds what the other wants next: the younger one is told so, and waits for that one first. */
+static pthread_barrier_t both;
+static void *goes_against(void *arg)
+{
+	unsigned me = (unsigned)(size_t)arg;
+	struct ww_acquire_ctx mine;
+	long backs = 0;
+
+	begins(&mine);
+	MUST(!ww_number_lock(n[me], &mine));
+	pthread_barrier_wait(&both);
+	int r = ww_number_lock(n[!me], &mine);
+
+	if (r) {
+		MUST(r == -EDEADLK && mine.acquired == 1);
+		MUST(!ww_number_trylock(n[2 + me], &mine) && !ww_number_unlock(n[me], &mine));
+		/* By a call like any other, and one that may end early. */
+		MUST(!(me ? ww_number_lock(n[!me], &mine) : ww_number_lock_until(n[!me], &mine, NULL)));
+		MUST(!ww_number_lock(n[me], &mine));
+		backs++;
+	}
+	MUST(mine.acquired == 2);
+	ww_number_unlock_all(&mine);
+	ww_acquire_fini(&mine);
+	return (void *)backs;
+}
+
+static void has_one_victim(void)
+{
+	for (unsigned k = 0; k < 50; k++) {
+		pthread_t threads[2];
+		void *told[2];
+
+		MUST(!pthread_barrier_init(&both, NULL, 2));
+		for (size_t me = 0; me < 2; me++)
+			threads[me] = begin_thread(goes_against, (void *)me);
+		for (unsigned me = 0; me < 2; me++)
+			MUST(!pthread_join(threads[me], &told[me]));
+		MUST((told[0] == NULL) != (told[1] == NULL));
+		MUST(!pthread_barrier_destroy(&both));
+	}
+}
+
+/* ---- sums ---- */
+
+enum { THREADS = 4, TIMES = 3000 };
+static unsigned long sums[COUNT], added[THREADS];
+
+static int acquires(unsigned *drawn, struct ww_acquire_ctx *mine, uint32_t number)
+{
+	struct timespec soon = in_ms(0);
+
+	switch (next(drawn) % 4) {
+	case 0: return ww_number_lock_until(number, mine, &soon);
+	case 1: return ww_number_trylock(number, mine) ? 0 : ww_number_lock(number, mine);
+	default: return ww_number_lock(number, mine);
+	}
+}
+
+/* Two of them, in any order. */
+static void transacts(unsigned *drawn, unsigned long *count)
+{
+	unsigned one = next(drawn) % COUNT, other = (one + 1 + next(drawn) % (COUNT - 1)) % COUNT;
+	struct ww_acquire_ctx mine;
+	int r;
+
+	ww_acquire_init(&mine, c);
+	MUST(!(r = ww_number_lock(n[one], &mine)));
+	while ((r = acquires(drawn, &mine, n[other])) == -EDEADLK) {
+		unsigned first = other;
+
+		MUST(!ww_number_unlock(n[one], &mine));
+		other = one;
+		one = first;
+		MUST(!ww_number_lock(n[one], &mine));
+	}
+	sums[one]++;
+	(*count)++;
+	if (!r) {
+		sums[other]++;
+		(*count)++;
+		MUST(!ww_number_unlock(n[other], &mine));
+	} else {
+		MUST(r == -ETIMEDOUT);
+	}
+	ww_number_unlock_all(&mine);
+	ww_acquire_fini(&mine);
+}
+
+static void adds_alone(unsigned *drawn, unsigned long *count)
+{
+	unsigned one = next(drawn) % COUNT;
+	struct ww_seat *by;
+
+	if (next(drawn) % 2) {
+		if (!ww_number_trylock_alone(n[one], c, &by))
+			return;
+	} else {
+		MUST(!ww_number_lock_alone(n[one], c, NULL, &by));
+	}
+	sums[one]++;
+	(*count)++;
+	ww_number_unlock_alone(n[one], by);
+}
+
+static void *adds(void *arg)
+{
+	size_t me = (size_t)arg;
+	unsigned drawn = (unsigned)me + 1;
+
+	for (unsigned k = 0; k < TIMES; k++)
+		(next(&drawn) % 4 ? transacts : adds_alone)(&drawn, &added[me]);
+	return NULL;
+}
+
+static void sums_are_exact(void)
+{
+	unsigned long all = 0, seen = 0;
+
+	memset(sums, 0, sizeof sums);
+	memset(added, 0, sizeof added);
+	in_threads(THREADS, adds);
+	for (unsigned k = 0; k < THREADS; k++)
+		all += added[k];
+	for (unsigned k = 0; k < COUNT; k++)
+		seen += sums[k];
+	MUST(all == seen && all >= THREADS * TIMES / 2);
+}
+
+/* ---- a forked child ---- */
+
+static void in_a_child(void)
+{
+	struct ww_seat *by, *held;
+	uint32_t number;
+	pid_t child;
+	int status;
+
+	begins(&x);
+	MUST(!ww_number_lock(n[0], &x) && !ww_number_lock(n[1], &x) && !ww_number_lock_alone(n[2], c, NULL, &held));
+	MUST((child = fork()) >= 0);
+	if (!child) {
+		MUST(ww_number_take(&number, c) == -EINVAL && !ww_number_put(n[3], c) && !ww_number_is_locked(n[0], c));
+		MUST(ww_number_lock_alone(n[3], c, NULL, &by) == -EINVAL && !ww_number_trylock_alone(n[3], c, &by));
+		MUST(!ww_number_unlock(n[1], &x) && x.acquired == 1);
+		/* It would have to wait, and lets go what it holds. */
+		MUST(ww_number_lock(n[2], &x) == -EINVAL && !ww_number_is_held(n[0], &x));
+		MUST(!ww_number_unlock(n[0], &x) && !x.acquired && !ww_acquire_fini_checked(&x));
+		ww_number_unlock_alone(n[2], held);
+		_exit(0);
+	}
+	MUST(waitpid(child, &status, 0) == child && WIFEXITED(status) && !WEXITSTATUS(status));
+	ww_number_unlock_alone(n[2], held);
+	ww_number_unlock_all(&x);
+	ww_acquire_fini(&x);
+}
+
+/* How many calls of `what` are told to be wrong. */
+static void tells(void (*what)(void), unsigned long count)
+{
+#ifdef WW_DEBUG
+	unsigned long before = ww_debug_faults();
+
+	what();
+	MUST(ww_debug_faults() - before == count);
+#else
+	(void)count;
+	what();
+#endif
+}
+
+static void all_of(struct ww_class *class_)
+{
+	c = class_;
+	MUST(!ww_class_limit(c, COUNT, 2));
+	tells(are_of_one_pool, 0);
+	takes();
+	tells(by_a_context, 0);
+	tells(refuses, 8);
+	tells(is_no_loop, 5);
+	tells(goes_with_addresses, 0);
+	tells(without_one, 0);
+	tells(is_called_off, 0);
+	tells(has_one_victim, 0);
+	if (c == &wait_die)
+		tells(another_comes_first, 1);
+	tells(in_a_child, 0);
+	puts_back();
+	MUST(!ww_class_free(c) && !ww_class_limit(c, COUNT, THREADS));
+	takes();
+	tells(sums_are_exact, 0);
+	puts_back();
+	MUST(!ww_class_free(c));
+}
+
+int main(void)
+{
+	all_of(&wound_wait);
+	all_of(&wait_die);
+	return 0;
+}

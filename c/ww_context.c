@@ -1,0 +1,199 @@
+/* ww_context.c - the contexts of ww_mutex.h: how they begin and end, are called off, and what they hold. */
+#define _GNU_SOURCE
+#define WW_NO_INLINE /* As ww_mutex.c. */
+#include "ww_pool.h"
+
+static const char *told_at_begin(int r) { return r == -ENOSPC ? "the class has begun as many contexts as it may" : told(r); }
+
+/* Relaxed: whoever cancels the context that was here before may look meanwhile, and nothing is ordered by what it sees. */
+static inline void of_seat(struct ww_acquire_ctx *x, struct ww_pool *p, ww_seat *s)
+{
+	x->pool = p;
+	x->gives = s;
+	__atomic_store_n(&x->own, s, __ATOMIC_RELAXED);
+	__atomic_store_n(&x->cancelled, 0, __ATOMIC_RELAXED);
+	x->acquired = x->flags = x->state = 0;
+}
+
+static inline void no_more(struct ww_acquire_ctx *x)
+{
+	x->pool = NO_POOL;
+	__atomic_store_n(&x->own, NULL, __ATOMIC_RELAXED);
+}
+
+static inline int begin_with(struct ww_acquire_ctx *x, struct ww_pool *p, ww_seat *s)
+{
+	int r;
+
+	of_seat(x, p, s);
+	r = ww_begin_(&s->handle);
+	if (UNLIKELY(r)) {
+		no_more(x);
+		give_seat(p, s, s->was_loose);
+		return r;
+	}
+	ww_debug_begun(x);
+	return 0;
+}
+
+/* Until then a begin waits that doesn't wait: -EAGAIN. NULL is for ever. */
+static const struct timespec at_once;
+
+COLD static int begin_anyhow(struct ww_acquire_ctx *x, struct ww_class *c, const struct timespec *until)
+{
+	struct ww_pool *p;
+	ww_seat *s;
+	int r = pool_of(c, &p);
+
+	if (r)
+		return r;
+	s = seat_at_once(p);
+	if (!s)
+		r = until != &at_once ? ww_seek_seat(p, until, &s) : p->gone ? -EINVAL : -EAGAIN;
+	return r ? r : begin_with(x, p, s);
+}
+
+/* The seat was at hand, but came to be shared. */
+COLD static int begin_late(struct ww_acquire_ctx *x, struct ww_class *c, ww_seat *s, const struct timespec *until)
+{
+	s = ww_late_seat(c->pool, s);
+	return s ? begin_with(x, c->pool, s) : begin_anyhow(x, c, until);
+}
+
+static inline int begin(struct ww_acquire_ctx *x, struct ww_class *c, const struct timespec *until)
+{
+	struct ww_pool *p = __atomic_load_n(&c->pool, __ATOMIC_ACQUIRE);
+	ww_seat *s = ww_mine.seats[0].seat;
+
+	if (UNLIKELY(!p || !has_at_hand(p)))
+		return begin_anyhow(x, c, until);
+	if (UNLIKELY(!use_kept(p, s)))
+		return begin_late(x, c, s, until);
+	return begin_with(x, p, s);
+}
+
+int ww_acquire_init_checked(struct ww_acquire_ctx *x, struct ww_class *c) { return begin(x, c, &at_once); }
+
+int ww_acquire_init_until(struct ww_acquire_ctx *x, struct ww_class *c, const struct timespec *until)
+{
+	return is_time(until) ? begin(x, c, until) : -EINVAL;
+}
+
+COLD static void init_else(struct ww_acquire_ctx *x, struct ww_class *c, ww_seat *late)
+{
+	int r = late ? begin_late(x, c, late, NULL) : begin_anyhow(x, c, NULL);
+
+	if (r)
+		end("ww_acquire_init", told_at_begin(r));
+}
+
+/*
+ * A seat that nobody uses begins a context for certain, unless as many were begun as may be: then this is none,
+ * by which no second lock is acquired, and ww_acquire_fini ends the program.
+ */
+void ww_acquire_init(struct ww_acquire_ctx *x, struct ww_class *c)
+{
+	struct ww_pool *p = __atomic_load_n(&c->pool, __ATOMIC_ACQUIRE);
+	ww_seat *s = ww_mine.seats[0].seat;
+
+	if (UNLIKELY(!p || !has_at_hand(p))) {
+		init_else(x, c, NULL);
+		return;
+	}
+	if (UNLIKELY(!use_kept(p, s))) {
+		init_else(x, c, s);
+		return;
+	}
+	of_seat(x, p, s);
+	ww_debug_begun(x);
+	(void)!ww_begin_(&s->handle);
+}
+
+/* The proved library isn't told: a lock that comes then is as any other, as in the kernel, and the debug library tells of it. */
+int ww_acquire_done_checked(struct ww_acquire_ctx *x)
+{
+	if (UNLIKELY(!x->own || x->state & IS_DONE))
+		return -EINVAL;
+	x->state |= IS_DONE;
+	return 0;
+}
+
+void ww_acquire_done(struct ww_acquire_ctx *x)
+{
+	if (UNLIKELY(ww_acquire_done_checked(x)))
+		end("ww_acquire_done", "the context is done, or has ended");
+}
+
+int ww_acquire_fini_checked(struct ww_acquire_ctx *x)
+{
+	ww_seat *s = x->own;
+	int r = s ? ww_end_(&s->handle) : -EINVAL;
+
+	if (r && !(s && is_let_go(s)))
+		return r;
+	ww_debug_ended(x);
+	no_more(x);
+	give_seat(s->pool, s, s->was_loose);
+	return 0;
+}
+
+COLD static void fini_else(struct ww_acquire_ctx *x)
+{
+	if (ww_acquire_fini_checked(x))
+		end("ww_acquire_fini", !x->own ? "the context has ended" : x->acquired ? "the context still holds a mutex" :
+			told_at_begin(-ENOSPC));
+}
+
+void ww_acquire_fini(struct ww_acquire_ctx *x)
+{
+	ww_seat *s = x->own;
+
+	/* A context that has released all ends for certain. */
+	if (UNLIKELY(!s || s->handle.standing != WW_BARE_)) {
+		fini_else(x);
+		return;
+	}
+	ww_debug_ended(x);
+	no_more(x);
+	ww_end_(&s->handle);
+	give_seat(s->pool, s, s->was_loose);
+}
+
+/*
+ * The thread that waits does the rest, since only it knows when the wait is over.  Relaxed: that its own begin of the
+ * context came before is the caller's to see to.
+ */
+int ww_acquire_cancel(struct ww_acquire_ctx *x)
+{
+	ww_seat *s = __atomic_load_n(&x->own, __ATOMIC_RELAXED);
+
+	if (!s)
+		return -EINVAL;
+	if (__atomic_exchange_n(&x->cancelled, 1, __ATOMIC_SEQ_CST))
+		return -EALREADY;
+	ww_unpark(s);
+	return 0;
+}
+
+/* ---- what they hold ---- */
+
+bool ww_mutex_is_held_by(const struct ww_mutex *m, const struct ww_acquire_ctx *x)
+{
+	const ww_seat *s;
+
+	if (x)
+		return __atomic_load_n(&m->ctx, __ATOMIC_RELAXED) == x;
+	s = __atomic_load_n(&m->alone, __ATOMIC_ACQUIRE);
+	return s && __atomic_load_n(&s->user, __ATOMIC_RELAXED) == &ww_mine;
+}
+
+size_t ww_acquire_mark(const struct ww_acquire_ctx *x) { return x->acquired; }
+
+/* Only in a loop, or behind it, the list of what it acquired is exact. */
+void ww_acquire_unlock_to(struct ww_acquire_ctx *x, size_t mark)
+{
+	if (x->gives == x->own)
+		return;
+	while (x->acquired > mark)
+		ww_mutex_unlock(x->newest);
+}

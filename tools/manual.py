@@ -1,0 +1,113 @@
+"""The pages of the manual, told from the headers: what a header says at its head, and of each call that it declares.
+
+A call whose name ends with _ isn't told, and the part of a header that is compiled into callers isn't read.
+"""
+import itertools
+import re
+
+LONGEST = 100
+COMMENT = re.compile(r"^/\*.*?\*/$", re.DOTALL | re.MULTILINE)
+# A call, a macro that takes arguments, and a value with what it is for.
+ARGUMENTS = r"((?:[^()]|\([^()]*\))*)"
+CALL = re.compile(rf"^(?:WW_MUST_CHECK )?((?:\w+[ *]+)+)(\w*[a-z\d])\({ARGUMENTS}\)(?: [^;{{}}]*)?;", re.MULTILINE)
+MACRO = re.compile(r"^#define (DEFINE_\w+|WW_[A-Z_]*[A-Z]|ww_\w*[a-z])\(([\w, ]+)\)", re.MULTILINE)
+VALUE = re.compile(r"^\t(WW_\w+) = \d+,\s*/\* (.*?) \*/$", re.MULTILINE)
+NAME = re.compile(r"(?<![/\w])((?:ww_|DEFINE_W)\w*[a-zA-Z]|WW_[A-Z_]+[A-Z])\b(?!\.h)")
+END = "#define WW_NO_INLINE\n"
+
+
+def said_by(comment):
+    """A comment's lines, without what marks them as one."""
+    return [re.sub(r"^ ?\* ?", "", line).rstrip() for line in comment[2:-2].strip().split("\n")]
+
+
+def roff(text):
+    """A line of text: names are bold, and a minus sign is one."""
+    text = re.sub(r"(?<![\w-])-(?=[A-Z\dlpD])", r"\\-", text.replace("\\", r"\e"))
+    return re.sub(r"^(?=[.'])", r"\\&", NAME.sub(r"\\fB\1\\fP", text))
+
+
+def filled(text):
+    """Words in lines that aren't too long."""
+    line = ""
+    for word in " ".join(text).split():
+        if line and len(line) + len(word) >= LONGEST:
+            yield roff(line)
+            line = ""
+        line = f"{line} {word}".strip()
+    if line:
+        yield roff(line)
+
+
+def told(lines, between):
+    """A comment with its paragraphs, which what is given stands between, and the code in it, as it is."""
+    made = []
+    for kind, run in itertools.groupby(lines, lambda line: "code" if line.startswith("\t") else bool(line)):
+        if not kind:
+            continue
+        made += [between] if made else []
+        if kind == "code":
+            made += [".nf", *(line.replace("\\", r"\e").expandtabs(4) for line in run), ".fi"]
+        else:
+            made += filled(run)
+    return made
+
+
+def declared(kind, name, arguments):
+    """A declaration, with its arguments slanted; in two lines if it is long."""
+    if arguments == "void":
+        return [f".B {kind}{name}(void);"]
+    # An argument may be a function's address, whose name stands within.
+    each = re.split(r", (?![^()]*\))", " ".join(arguments.split()))
+    parts = [re.fullmatch(r"(.*?)(\w+)(\[.*\]|\).*|)", it).groups() for it in each]
+    lines, before, width = [[f"{kind}{name}("]], "", len(kind + name)
+    for of, argument, after in parts:
+        width += len(of + argument + after)
+        if before and width > LONGEST - 10:
+            lines.append([" " * 8])
+            before, width = "", 0
+        lines[-1][-1] += before + of
+        lines[-1] += [argument, after + ("," if (of, argument, after) != parts[-1] else ");" if kind else ")")]
+        before = " "
+    return [".BI " + " ".join(f'"{it}"' for it in line) for line in lines]
+
+
+def parts_of(header):
+    """Each comment of a header, with the calls and values below it, up to the next comment or blank line."""
+    text = header.split(END)[0]
+    for comment in COMMENT.finditer(text):
+        below = text[comment.end() + 1 :].split("\n\n")[0]
+        below = "" if text.startswith("\n\n", comment.end()) else COMMENT.split(below)[0]
+        calls = [("", *it) for it in MACRO.findall(below)] + CALL.findall(below)
+        stands_alone = text.startswith("\n\n", comment.end())
+        yield said_by(comment[0]), calls, VALUE.findall(below), stands_alone
+
+
+def entries(parts):
+    for said, calls, values, stands_alone in parts:
+        if calls:
+            yield from [".TP", ".B " + ", ".join(f"{name}()" for _, name, _ in calls), *told(said, ".IP")]
+            for value, what in values:
+                yield from [".RS", ".TP", f".B {value}", *filled([what]), ".RE"]
+        elif said[0].startswith("----"):
+            yield f".SS {said[0].strip('- ').capitalize()}"
+        elif stands_alone:
+            yield from [".PP", *told(said, ".PP")]
+
+
+def page(header, version):
+    """The page of a header."""
+    (head, *_), *parts = parts_of(header)
+    name, _, what = head[0].rstrip(".").partition(".h - ")
+    left = {it for _, it, _ in CALL.findall(header.split(END)[0])} - {it for _, calls, *_ in parts for _, it, _ in calls}
+    if left:
+        raise SystemExit(f"pages: {name}.h has no comment right above {', '.join(sorted(left))}")
+    made = [f'.TH {name.upper()} 3 "" "libww {version}" "Wound/wait locks"']
+    made += ['.\\" Written by tools/pages from the header: change its comments, not this page.', ".nh"]
+    made += [".SH NAME", f"{name} \\- {what}", ".SH SYNOPSIS", ".nf", f".B #include <{name}.h>", ".PP"]
+    made += [line for _, calls, *_ in parts for call in calls for line in declared(*call)]
+    made += [".fi", ".PP", r"Link with \fI\-lww \-pthread\fP.", ".SH DESCRIPTION", *told(head[2:], ".PP")]
+    made += [".SH CALLS", "If nothing else is said, 0 is success, and an error a negative number of", ".BR errno (3)."]
+    made += entries(parts)
+    other = "ww" if name == "ww_mutex" else "ww_mutex"
+    return "\n".join([*made, ".SH SEE ALSO", f".BR {other} (3)", ""])
