@@ -1,6 +1,9 @@
 // ww.hpp - the wound/wait locks of ww.h for C++17. Nothing here throws, or needs exceptions.
 #ifndef WW_HPP
 #define WW_HPP
+#if __cplusplus < 201703L
+#error "ww.hpp needs C++17: compile with -std=c++17 or a later one"
+#endif
 #include "ww.h"
 #include <algorithm>
 #include <cerrno>

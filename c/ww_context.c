@@ -3,7 +3,7 @@
 #define WW_NO_INLINE /* As ww_mutex.c. */
 #include "ww_pool.h"
 
-static const char *told_at_begin(int r) { return r == -ENOSPC ? "the class has begun as many contexts as it may" : told(r); }
+static const char *told_at_begin(int r) { return r == -ENOSPC ? "it has begun as many contexts as it may" : told(r); }
 
 /* Relaxed: whoever cancels the context that was here before may look meanwhile, and nothing is ordered by what it sees. */
 static inline void of_seat(struct ww_acquire_ctx *x, struct ww_pool *p, ww_seat *s)
@@ -84,7 +84,7 @@ COLD static void init_else(struct ww_acquire_ctx *x, struct ww_class *c, ww_seat
 	int r = late ? begin_late(x, c, late, NULL) : begin_anyhow(x, c, NULL);
 
 	if (r)
-		end("ww_acquire_init", told_at_begin(r));
+		end_of(c, "ww_acquire_init", told_at_begin(r));
 }
 
 /*
@@ -118,10 +118,12 @@ int ww_acquire_done_checked(struct ww_acquire_ctx *x)
 	return 0;
 }
 
+static const struct ww_class *class_of(const struct ww_acquire_ctx *x) { return x->own ? x->own->pool->class_ : NULL; }
+
 void ww_acquire_done(struct ww_acquire_ctx *x)
 {
 	if (UNLIKELY(ww_acquire_done_checked(x)))
-		end("ww_acquire_done", "the context is done, or has ended");
+		end_of(class_of(x), "ww_acquire_done", "the context is done, or has ended");
 }
 
 int ww_acquire_fini_checked(struct ww_acquire_ctx *x)
@@ -140,7 +142,7 @@ int ww_acquire_fini_checked(struct ww_acquire_ctx *x)
 COLD static void fini_else(struct ww_acquire_ctx *x)
 {
 	if (ww_acquire_fini_checked(x))
-		end("ww_acquire_fini", !x->own ? "the context has ended" : x->acquired ? "the context still holds a mutex" :
+		end_of(class_of(x), "ww_acquire_fini", !x->own ? "the context has ended" : x->acquired ? "the context still holds a mutex" :
 			told_at_begin(-ENOSPC));
 }
 

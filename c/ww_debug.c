@@ -161,10 +161,11 @@ void ww_debug_ended(struct ww_acquire_ctx *x)
 
 void ww_debug_alone(const struct ww_mutex *m, const struct timespec *until)
 {
-	const struct standing *s = m->pool && !until ? ww_debug_own_seat(m->pool, A_MUTEX) : NULL;
+	struct ww_pool *p = pool_at(m);
+	const struct standing *s = p && !until ? ww_debug_own_seat(p, A_MUTEX) : NULL;
 
 	if (s)
-		ww_debug_warn(WITHOUT_CONTEXT, m->pool, "ww_mutex_lock",
+		ww_debug_warn(WITHOUT_CONTEXT, p, "ww_mutex_lock",
 			      "nobody detects a deadlock by a lock without a context; the thread holds a mutex by what began at", s);
 }
 

@@ -65,12 +65,18 @@ int ww_mutex_init_checked(struct ww_mutex *m, struct ww_class *c)
 	return 0;
 }
 
-/* Why the first lock of a mutex gave it no number, or its class gave no seat. */
-static const char *told_of(const struct ww_mutex *m, int r)
+/* The class of a mutex, if that is initialized. */
+static struct ww_class *class_of(const struct ww_mutex *m)
 {
-	return m->pool || m->class_ ? told(r) : "the mutex isn't initialized";
+	struct ww_pool *p = pool_at(m);
+
+	return p ? p->class_ : m->class_;
 }
 
+/* Why the first lock of a mutex gave it no number, or its class gave no seat. */
+static const char *told_of(const struct ww_mutex *m, int r) { return class_of(m) ? told(r) : "the mutex isn't initialized"; }
+
+/* One that WW_MUTEX_INIT made gets its number here, before it is locked first. */
 static inline int numbered(struct ww_mutex *m) { return LIKELY(pool_at(m)) ? 0 : ww_number_at_first(m); }
 
 void ww_mutex_init(struct ww_mutex *m, struct ww_class *c)
@@ -78,7 +84,7 @@ void ww_mutex_init(struct ww_mutex *m, struct ww_class *c)
 	int r = ww_mutex_init_checked(m, c);
 
 	if (UNLIKELY(r))
-		end("ww_mutex_init", told(r));
+		end_of(c, "ww_mutex_init", told(r));
 }
 
 /*
@@ -128,32 +134,43 @@ bool ww_is_released(struct ww_pool *p, struct ww_mutex *m)
 	return released;
 }
 
-/* A waiter that got it says so first, and then that it waits no more. */
-int ww_mutex_destroy(struct ww_mutex *m)
+/* A waiter that got it says so first, and then that it waits no more. What it is `then` is said before it has no pool. */
+static int end_mutex(struct ww_mutex *m, struct ww_pool *p, struct ww_class *then)
 {
-	struct ww_pool *p = pool_at(m);
-
-	if (!p && m->class_) {
-		m->class_ = NULL;
-		return 0;
-	}
-	if (!p) {
-		ww_debug_fault("ww_mutex_destroy", "the mutex isn't initialized");
-		return -EINVAL;
-	}
 	/* In a forked child nobody uses it any more, and its number isn't given. */
 	if (UNLIKELY(p->gone)) {
-		*m = (struct ww_mutex){ 0 };
+		*m = (struct ww_mutex){ .class_ = then };
 		return 0;
 	}
 	if (__atomic_load_n(&m->waiters, __ATOMIC_SEQ_CST) || ww_mutex_is_locked(m) || !ww_is_released(p, m)) {
 		ww_debug_fault("ww_mutex_destroy", "somebody holds the mutex, or waits for it");
 		return -EBUSY;
 	}
-	m->pool = NULL;
-	m->class_ = NULL;
+	m->class_ = then;
+	__atomic_store_n(&m->pool, NULL, __ATOMIC_RELEASE);
 	ww_give_number(&p->numbers, m->number);
 	return 0;
+}
+
+int ww_mutex_destroy(struct ww_mutex *m)
+{
+	struct ww_pool *p = pool_at(m);
+
+	if (p)
+		return end_mutex(m, p, NULL);
+	if (m->class_) {
+		m->class_ = NULL;
+		return 0;
+	}
+	ww_debug_fault("ww_mutex_destroy", "the mutex isn't initialized");
+	return -EINVAL;
+}
+
+int ww_mutex_end_(struct ww_mutex *m)
+{
+	struct ww_pool *p = pool_at(m);
+
+	return p ? end_mutex(m, p, class_of(m)) : 0;
 }
 
 /* ---- what a loop has to do ---- */
@@ -561,7 +578,10 @@ static inline int lock_alone(struct ww_mutex *m, enum way way, const struct time
 	return LIKELY(use_kept(p, s)) ? lock_by_seat(m, s, way, until) : lock_by_any(m, s, way, until);
 }
 
-COLD __attribute__((noreturn)) static void end_alone(const struct ww_mutex *m, int r) { end("ww_mutex_lock", told_of(m, r)); }
+COLD __attribute__((noreturn)) static void end_alone(const struct ww_mutex *m, int r)
+{
+	end_of(class_of(m), "ww_mutex_lock", told_of(m, r));
+}
 
 /* Nobody looks at what it would answer. */
 int ww_mutex_lock_alone_(struct ww_mutex *m)
@@ -632,7 +652,7 @@ int ww_mutex_lock_slow_until(struct ww_mutex *m, struct ww_acquire_ctx *x, const
 void ww_mutex_lock_slow(struct ww_mutex *m, struct ww_acquire_ctx *x)
 {
 	if (UNLIKELY(lock_slowly(m, x, SLOWLY, STAYS, NULL)))
-		end("ww_mutex_lock_slow", not_due);
+		end_of(class_of(m), "ww_mutex_lock_slow", not_due);
 }
 
 /* It answers nothing by which it could say why there is no number. */
@@ -641,7 +661,7 @@ static void number_or_end(struct ww_mutex *m)
 	int r = numbered(m);
 
 	if (UNLIKELY(r))
-		end("ww_mutex_trylock", told_of(m, r));
+		end_of(class_of(m), "ww_mutex_trylock", told_of(m, r));
 }
 
 /* No seat is waited for. */
@@ -670,7 +690,7 @@ COLD static int try_specially(struct ww_mutex *m, struct ww_acquire_ctx *x)
 
 	number_or_end(m);
 	if (!goes_together(m, x))
-		end("ww_mutex_trylock", fault_of(m, x));
+		end_of(class_of(m), "ww_mutex_trylock", fault_of(m, x));
 	r = ww_try_(&x->own->handle, m->number);
 	if (r)
 		return r == -EALREADY && was_prelocked(x, m);

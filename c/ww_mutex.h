@@ -274,6 +274,15 @@ WW_MUST_CHECK int ww_mutex_lock_all(struct ww_acquire_ctx *ctx, struct ww_mutex 
  * ww_mutex_lock_all: for it this call releases nothing.
  */
 void ww_acquire_unlock_all(struct ww_acquire_ctx *ctx);
+/* g++ forgets in a template that a label's address is an __extension__. */
+#if defined(__cplusplus) && defined(__GNUC__) && !defined(__clang__)
+#define WW_EXTENDS_ _Pragma("GCC diagnostic push") _Pragma("GCC diagnostic ignored \"-Wpedantic\"")
+#define WW_EXTENDED_ _Pragma("GCC diagnostic pop")
+#else
+#define WW_EXTENDS_
+#define WW_EXTENDED_
+#endif
+
 /*
  * The same for mutexes that are found on the way, as drm_exec has it:
  *
@@ -290,18 +299,26 @@ void ww_acquire_unlock_all(struct ww_acquire_ctx *ctx);
  * the body begins again; the next lock call first waits for the mutex at which
  * -EDEADLK came, by its own time and for its own cancel, and the lock call of that one
  * answers 0 (a trylock 1).  A trylock that succeeds before, or a slow lock of that mutex,
- * is instead of that wait.  So that mutex has to be there still, though nothing is held:
- * where another thread could destroy it then, keep a reference to its object.  The body
- * may also release all by itself and go on by ww_mutex_lock_slow.  The context holds
- * nothing when the loop begins.  In C++ no object with a destructor may lie between
- * both, and in C none with __attribute__((cleanup)).
+ * is instead of that wait.  The body may also release all by itself and go on by
+ * ww_mutex_lock_slow.  The context holds nothing when the loop begins.
+ *
+ * The mutex at which -EDEADLK came has to be there still when the body begins again, though
+ * nothing is held then.  Where another thread could destroy it, take a reference to its object
+ * before ww_retry_on_contention, if ww_is_contended, and keep it until all is released.
+ *
+ * The jump runs no destructor of C++ and no __attribute__((cleanup)) of what was made in the
+ * body.  In the body's own block, not in a loop of its own, this does the same and runs them:
+ *	if (ww_is_contended(&ctx))
+ *		continue;
+ * clang compiles one ww_retry_on_contention loop in a function of C++, and no second.
  */
 #define WW_PASTE__(a, b) a##b
 #define WW_PASTE_(a, b) WW_PASTE__(a, b)
 #define ww_until_all_locked(ctx)                                                                       \
+	WW_EXTENDS_                                                                                    \
 	for (void *ww_again_ = (ww_tries_begin_(ctx), __extension__ && WW_PASTE_(ww_again_at_, __LINE__)); \
 	     ww_again_; ww_again_ = NULL)                                                              \
-	WW_PASTE_(ww_again_at_, __LINE__) : while (ww_tries_more_(ctx))
+	WW_EXTENDED_ WW_PASTE_(ww_again_at_, __LINE__) : while (ww_tries_more_(ctx))
 #define ww_retry_on_contention(ctx)                                                                    \
 	do {                                                                                           \
 		if (ww_is_contended(ctx))                                                              \
@@ -319,6 +336,8 @@ WW_MUST_CHECK size_t ww_acquire_mark(const struct ww_acquire_ctx *ctx);
 void ww_acquire_unlock_to(struct ww_acquire_ctx *ctx, size_t mark);
 void ww_tries_begin_(struct ww_acquire_ctx *ctx);
 bool ww_tries_more_(struct ww_acquire_ctx *ctx);
+/* Of C++: as ww_mutex_destroy, but behind it the mutex is as WW_MUTEX_INIT makes one of its class. */
+int ww_mutex_end_(struct ww_mutex *lock);
 
 #ifdef WW_DEBUG
 /* ---- the debug library ---- */
@@ -371,6 +390,7 @@ void ww_debug_at_(const char *file, int line);
 #define WW_HERE_ ww_debug_at_(__FILE__, __LINE__)
 #define ww_mutex_init(...) (WW_HERE_, ww_mutex_init(__VA_ARGS__))
 #define ww_mutex_destroy(...) (WW_HERE_, ww_mutex_destroy(__VA_ARGS__))
+#define ww_mutex_end_(...) (WW_HERE_, ww_mutex_end_(__VA_ARGS__))
 #define ww_acquire_init(...) (WW_HERE_, ww_acquire_init(__VA_ARGS__))
 #define ww_acquire_init_checked(...) (WW_HERE_, ww_acquire_init_checked(__VA_ARGS__))
 #define ww_acquire_init_until(...) (WW_HERE_, ww_acquire_init_until(__VA_ARGS__))
@@ -408,6 +428,9 @@ int ww_mutex_trylock_else_(struct ww_mutex *lock, struct ww_acquire_ctx *ctx);
 void ww_mutex_unlock_else_(struct ww_mutex *lock);
 void ww_mutex_unlock_further_(struct ww_mutex *lock, struct ww_acquire_ctx *ctx, int r);
 bool ww_tries_else_(struct ww_acquire_ctx *ctx);
+/* Where an object lies: where memory is given and taken, in the program itself, or (else) in a library. */
+enum { WW_MEMORY_ = 0, WW_PROGRAM_ = 1 };
+int ww_place_(const void *object);
 enum { WW_IS_TRYING_ = 1, WW_HAS_TO_BACK_OFF_ = 2 }; /* of a context's state */
 #if defined(__GNUC__) && !defined(WW_NO_INLINE) && !defined(WW_DEBUG)
 /* A seat begins with its handle. */

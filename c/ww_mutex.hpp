@@ -2,7 +2,11 @@
 // exceptions. clang's -Wthread-safety knows what each call acquires.
 #ifndef WW_MUTEX_HPP
 #define WW_MUTEX_HPP
+#if __cplusplus < 201703L
+#error "ww_mutex.hpp needs C++17: compile with -std=c++17 or a later one"
+#endif
 #include "ww_mutex.h"
+#include <cassert>
 #include <cstdint>
 #include <cstdio>
 #include <cstdlib>
@@ -39,20 +43,30 @@
 // In the kernel's form; the numbered locks of ww.hpp are in ww.
 namespace ww::kernel {
 
-// A class that is gone with its scope. It has no mutex then, and no context.
+// At its end something was still in use. A static object stays there, and may be, since other threads may go on beside the
+// end of the program.
+inline void left_(const char *what, const void *object) noexcept
+{
+	if (ww_place_(object) != WW_MEMORY_)
+		return;
+	std::fputs(what, stderr);
+	std::abort();
+}
+
+// A class that is gone with its scope. It has no mutex then, and no context. A static one is there before anything runs, and
+// that of a program as long as the program.
 class mutex_class {
 	struct ww_class it_;
+	friend class mutex;
 
 public:
 	enum kind { wound_wait, wait_die };
-	explicit mutex_class(kind k, const char *name = "") noexcept { ww_class_init(&it_, k == wait_die, name); }
+	constexpr explicit mutex_class(kind k, const char *name = "") noexcept : it_{ nullptr, 0, 0, k == wait_die, name } {}
 	~mutex_class()
 	{
 		WW_NOWHERE_;
-		if (ww_class_free(&it_)) {
-			std::fputs("ww::kernel::mutex_class: a mutex or a context is left\n", stderr);
-			std::abort();
-		}
+		if (ww_place_(this) != WW_PROGRAM_ && ww_class_free(&it_))
+			left_("ww::kernel::mutex_class: a mutex or a context is left\n", this);
 	}
 	mutex_class(const mutex_class &) = delete;
 	mutex_class &operator=(const mutex_class &) = delete;
@@ -67,19 +81,19 @@ public:
 };
 
 // A member of the object that it guards. It stays where it is, and nobody holds it or waits for it at its end. Its own
-// calls are those without a context, so std::lock_guard and std::unique_lock take it.
+// calls are those without a context, so std::lock_guard and std::unique_lock take it. It gets its number at its first lock,
+// so a static one is there before anything runs; and it may be locked behind its end, beside that of the program.
 class WW_SAFETY_(capability("mutex")) mutex {
 	struct ww_mutex it_;
 
 public:
-	explicit mutex(struct ww_class &c WW_AND_FROM_) noexcept { ww_mutex_init(&it_, &c); }
+	constexpr explicit mutex(struct ww_class &c) noexcept : it_ WW_MUTEX_INIT(&c) {}
+	constexpr explicit mutex(mutex_class &c) noexcept : mutex(c.it_) {}
 	~mutex()
 	{
 		WW_NOWHERE_;
-		if (ww_mutex_destroy(&it_)) {
-			std::fputs("ww::kernel::mutex: somebody holds it, or waits for it\n", stderr);
-			std::abort();
-		}
+		if (ww_mutex_end_(&it_))
+			left_("ww::kernel::mutex: somebody holds it, or waits for it\n", this);
 	}
 	mutex(const mutex &) = delete;
 	mutex &operator=(const mutex &) = delete;
@@ -90,6 +104,8 @@ public:
 	}
 	void unlock(WW_FROM_) noexcept WW_SAFETY_(release_capability()) { ww_mutex_unlock(&it_); }
 	bool is_locked() noexcept { return ww_mutex_is_locked(&it_); }
+	// Tells clang's analysis that it is held here.
+	void assert_held() noexcept WW_SAFETY_(assert_capability()) { assert(is_locked()); }
 	struct ww_mutex *get() noexcept { return &it_; }
 };
 
@@ -131,22 +147,50 @@ public:
 class context {
 	ww_acquire_ctx it_;
 
-	template <class List> int acquire_all(const List &list WW_AND_FROM_) WW_SAFETY_(no_thread_safety_analysis)
+	struct releases {
+		context *x;
+		~releases()
+		{
+			if (x)
+				x->unlock_all();
+		}
+	};
+
+	// Acquires by `locks`, which answers the first error of a lock call, and again after each -EDEADLK. After another
+	// error, and where a callable throws, it holds nothing.
+	template <class Locks> int acquire(Locks &&locks)
 	{
 		int r = 0;
 
+		if (it_.acquired)
+			return -EINVAL;
+		releases unless_all{ this };
+
+		ww_tries_begin_(&it_);
 		while (ww_tries_more_(&it_)) {
-			for (mutex *m : list) {
-				r = ww_mutex_lock(m->get(), &it_);
-				if (r)
-					break;
-			}
+			r = locks();
 			if (r && !ww_is_contended(&it_))
 				break;
 		}
-		if (r)
-			unlock_all();
+		if (!r)
+			unless_all.x = nullptr;
 		return r;
+	}
+
+	// Calls fn under what was acquired with this answer, and releases all.
+	template <class Fn> WW_SAFETY_(no_thread_safety_analysis) auto under(int answer, Fn &&fn) -> result<std::invoke_result_t<Fn>>
+	{
+		using value = std::invoke_result_t<Fn>;
+
+		if (answer)
+			return result<value>(answer);
+		releases at_end{ this };
+		if constexpr (std::is_void_v<value>) {
+			std::forward<Fn>(fn)();
+			return result<void>();
+		} else {
+			return result<value>(std::in_place, std::forward<Fn>(fn)());
+		}
 	}
 
 public:
@@ -202,38 +246,50 @@ public:
 	// 0, or an error for which it holds nothing: -EALREADY for one that stands there twice, -EINTR, -EINVAL.
 	template <class List> [[nodiscard]] int lock_all(const List &list WW_AND_FROM_)
 	{
-		if (it_.acquired)
-			return -EINVAL;
-		ww_tries_begin_(&it_);
-		return acquire_all(list WW_AND_THERE_);
+		return acquire([&] {
+			for (mutex *m : list)
+				if (int r = ww_mutex_lock(m->get(), &it_))
+					return r;
+			return 0;
+		});
 	}
 
-	// The same, and then calls fn and releases all, also where fn throws. It gives what fn returns.
-	template <class List, class Fn> auto with_all(const List &list, Fn &&fn WW_AND_FROM_) -> result<std::invoke_result_t<Fn>>
+	// The same for mutexes that are found on the way: next(starts) tells the next one, or nullptr behind the last. It may
+	// read what those guard that it told since it was last called with starts, and tell one of these again. After a
+	// back-off it starts again, and holds the mutex at which that came, whose memory has to be there still.
+	template <class Next> [[nodiscard]] int lock_walk(Next &&next WW_AND_FROM_)
 	{
-		using value = std::invoke_result_t<Fn>;
-		struct releases {
-			context &x;
-			~releases() { x.unlock_all(); }
-		};
+		return acquire([&] {
+			for (mutex *m = next(true); m; m = next(false)) {
+				const int r = ww_mutex_lock(m->get(), &it_);
 
-		if (int r = lock_all(list WW_AND_THERE_))
-			return result<value>(r);
-		releases at_end{ *this };
-		if constexpr (std::is_void_v<value>) {
-			std::forward<Fn>(fn)();
-			return result<void>();
-		} else {
-			return result<value>(std::in_place, std::forward<Fn>(fn)());
-		}
+				if (r && r != -EALREADY)
+					return r;
+			}
+			return 0;
+		});
+	}
+
+	// Both, and then they call fn and release all, also where a callable throws. They give what fn returns. clang's analysis
+	// doesn't see what is held there: fn says it by WW_REQUIRES, or for each mutex by assert_held, as next does.
+	template <class List, class Fn> auto with_all(const List &list, Fn &&fn WW_AND_FROM_)
+	{
+		return under(lock_all(list WW_AND_THERE_), std::forward<Fn>(fn));
+	}
+	template <class Next, class Fn> auto with_walk(Next &&next, Fn &&fn WW_AND_FROM_)
+	{
+		return under(lock_walk(std::forward<Next>(next) WW_AND_THERE_), std::forward<Fn>(fn));
 	}
 };
 
 // By a context of its own.
-template <class List, class Fn>
-auto lock_all(struct ww_class &c, const List &list, Fn &&fn, unsigned flags = 0 WW_AND_FROM_) -> result<std::invoke_result_t<Fn>>
+template <class List, class Fn> auto lock_all(struct ww_class &c, const List &list, Fn &&fn, unsigned flags = 0 WW_AND_FROM_)
 {
 	return context(c, flags WW_AND_THERE_).with_all(list, std::forward<Fn>(fn) WW_AND_THERE_);
+}
+template <class Next, class Fn> auto lock_walk(struct ww_class &c, Next &&next, Fn &&fn, unsigned flags = 0 WW_AND_FROM_)
+{
+	return context(c, flags WW_AND_THERE_).with_walk(std::forward<Next>(next), std::forward<Fn>(fn) WW_AND_THERE_);
 }
 
 } // namespace ww::kernel

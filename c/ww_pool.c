@@ -1,6 +1,7 @@
 /* ww_pool.c - classes of mutexes: their opening and freeing, numbers that are handed out and put back, and seats. */
 #define _GNU_SOURCE
 #include "ww_pool.h"
+#include <link.h>
 #include <linux/membarrier.h>
 #include <pthread.h>
 #include <stdlib.h>
@@ -642,6 +643,34 @@ int ww_class_free(struct ww_class *c)
 	pthread_mutex_unlock(&opening);
 	ww_debug_busy(left);
 	return r;
+}
+
+/* An object of a program, and how many parts of that were looked through: itself first, and then its libraries. */
+struct place {
+	uintptr_t at;
+	int parts;
+};
+
+static int has_place(struct dl_phdr_info *of, size_t size, void *searched)
+{
+	struct place *place = searched;
+
+	(void)size;
+	place->parts++;
+	for (unsigned k = 0; k < of->dlpi_phnum; k++) {
+		const ElfW(Phdr) *it = &of->dlpi_phdr[k];
+
+		if (it->p_type == PT_LOAD && place->at - of->dlpi_addr - it->p_vaddr < it->p_memsz)
+			return place->parts;
+	}
+	return 0;
+}
+
+int ww_place_(const void *object)
+{
+	struct place place = { .at = (uintptr_t)object };
+
+	return dl_iterate_phdr(has_place, &place);
 }
 
 /* A seat that was never given counts nothing. */

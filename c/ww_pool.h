@@ -273,21 +273,27 @@ static inline bool ww_debug_injected(const struct ww_mutex *m, const struct ww_a
 }
 #endif
 
-__attribute__((noreturn, cold)) static inline void end(const char *call, const char *why)
+/* Ends the program, and says of which class, where that isn't NULL. */
+__attribute__((noreturn, cold)) static inline void end_of(const struct ww_class *c, const char *call, const char *why)
 {
 	ww_debug_fault(call, why);
-	fprintf(stderr, "%s: %s\n", call, why);
+	fprintf(stderr, "%s: ", call);
+	if (c && c->name)
+		fprintf(stderr, "class \"%s\": ", c->name);
+	fprintf(stderr, "%s\n", why);
 	abort();
 }
 
-/* Why no number or no seat was given, in words. */
+__attribute__((noreturn, cold)) static inline void end(const char *call, const char *why) { end_of(NULL, call, why); }
+
+/* Why a class gave no number or no seat, in words. */
 static inline const char *told(int r)
 {
 	switch (r) {
-	case -ENOMEM: return "there is no memory to open the class";
-	case -ENOSPC: return "the class has all mutexes that it may have (one that isn't destroyed stays)";
-	case -EAGAIN: return "all contexts of the class are in use";
-	default: return "the class was opened before a fork, of which this is the child";
+	case -ENOMEM: return "there is no memory to open it";
+	case -ENOSPC: return "it has all mutexes that it may have (one that isn't destroyed stays)";
+	case -EAGAIN: return "all its contexts are in use";
+	default: return "it was opened before a fork, of which this is the child";
 	}
 }
 

@@ -19,7 +19,14 @@ struct buffer {
 static DEFINE_WW_CLASS(buffers);
 static struct buffer all[BUFFERS];
 
-/* A buffer and its origins, at most so many; err is what the last lock call answered. */
+/*
+ * A buffer and its origins, at most so many; err is what the last lock call answered.
+ * If buffers were destroyed by threads that take them out of their chains, each would count
+ * its references, and behind the lock call would stand
+ *	if (ww_is_contended(ctx))
+ *		get(b);
+ * with a put(b) of each of these behind ww_acquire_unlock_all.
+ */
 static int lock_chain(struct ww_acquire_ctx *ctx, struct buffer *first, struct buffer **chain, unsigned most, unsigned *count)
 {
 	int err = 0;

@@ -298,6 +298,7 @@ TABLE = {
     "waiters": {"ww_mutex.c": "fetch_add sc sc, fetch_sub sc sc, load sc"},
     # All of an open class; and of a mutex the number, which its first lock may just have given it.
     "pool": {
+        "ww_mutex.c": "store rel",
         "ww_context.c": "load acq acq",
         "ww_mutex.h": "load acq acq",
         "ww_pool.h": "load acq acq acq",

@@ -156,6 +156,85 @@ static void all_behind_a_loop(void)
 	ends();
 }
 
+static void cleans(unsigned **live) { (**live)--; }
+
+/* Where the body ends by `continue` it is tried again as well, and what it made is cleaned up. */
+static void goes_on_by_continue(void)
+{
+	static unsigned live;
+	unsigned bodies = 0;
+
+	begins();
+	ww_until_all_locked(&x) {
+		__attribute__((cleanup(cleans))) unsigned *one = &live;
+
+		(*one)++;
+		if (++bodies == 2)
+			ww_mutex_unlock(&a);
+		MUST(live == 1 && !ww_mutex_lock(&b, &x));
+		MUST(ww_mutex_lock(&a, &x) == (bodies == 1 ? -EDEADLK : 0));
+		if (ww_is_contended(&x))
+			continue;
+		MUST(bodies == 2 && x.acquired == 2);
+	}
+	MUST(!live && bodies == 2);
+	ends();
+}
+
+/* What is found under `b`. */
+static struct child {
+	struct ww_mutex lock;
+	unsigned references;
+} *child;
+
+static void drop(struct child *it)
+{
+	if (--it->references)
+		return;
+	MUST(!ww_mutex_destroy(&it->lock));
+	free(it);
+}
+
+static void takes_child_out(struct child *it)
+{
+	MUST(!ww_mutex_lock(&b, &older));
+	child = NULL;
+	ww_mutex_unlock(&b);
+	ww_mutex_unlock(&it->lock);
+	drop(it);
+}
+
+/* What it was told at is taken out before the body begins again: it waits for that one all the same, which a reference keeps. */
+static void waits_for_what_is_out(void)
+{
+	struct child *kept = NULL;
+	int err = 0;
+
+	begins();
+	child = calloc(1, sizeof *child);
+	MUST(child);
+	child->references = 1;
+	ww_mutex_init(&child->lock, &wait_die);
+	MUST(!ww_mutex_lock(&child->lock, &older));
+	ww_until_all_locked(&x) {
+		if (kept)
+			takes_child_out(kept);
+		MUST(!ww_mutex_lock(&b, &x));
+		if (child)
+			err = ww_mutex_lock(&child->lock, &x);
+		if (ww_is_contended(&x)) {
+			kept = child;
+			kept->references++;
+		}
+		ww_retry_on_contention(&x);
+	}
+	MUST(err == -EDEADLK && kept && !child && x.acquired == 2);
+	ww_acquire_unlock_all(&x);
+	drop(kept);
+	ww_mutex_unlock(&a);
+	ends();
+}
+
 /* ---- the end of a mutex ---- */
 
 static DEFINE_WW_CLASS(few);
@@ -440,6 +519,8 @@ int main(void)
 		in_second_body(firsts[k]);
 	backs_off_by_hand();
 	all_behind_a_loop();
+	goes_on_by_continue();
+	waits_for_what_is_out();
 	for (way = 0; way < WAYS; way++)
 		is_freed_at_once();
 	for (unsigned how = 0; how < UNLOCKS; how++)

@@ -176,7 +176,7 @@ static void forks(void)
 
 		MUST(!status && !said[0]);
 	}
-	ends(locks_in_a_child, "ww_mutex_lock: the class was opened before a fork");
+	ends(locks_in_a_child, "ww_mutex_lock: class \"other\": it was opened before a fork");
 	__atomic_store_n(&stop, true, __ATOMIC_RELAXED);
 	for (unsigned k = 0; k < 4; k++)
 		end_thread(threads[k]);
@@ -190,22 +190,22 @@ int main(void)
 	ww_acquire_init(&x, &c);
 	ww_acquire_init(&y, &c);
 	MUST(!ww_mutex_lock(&a, &x));
-	ends(fini_with_a_mutex, "ww_acquire_fini: the context still holds a mutex");
+	ends(fini_with_a_mutex, "ww_acquire_fini: class \"c\": the context still holds a mutex");
 	ends(fini_twice, "ww_acquire_fini: the context has ended");
-	ends(done_twice, "ww_acquire_done: the context is done, or has ended");
+	ends(done_twice, "ww_acquire_done: class \"c\": the context is done, or has ended");
 	ends(unlocks_in_vain, "ww_mutex_unlock: nobody holds the mutex");
-	ends(slow_without_cause, "ww_mutex_lock_slow: no -EDEADLK of this mutex came before");
-	ends(slow_without_context, "ww_mutex_lock_slow: no -EDEADLK of this mutex came before");
-	ends(tries_another_class, "ww_mutex_trylock: the context is of another class");
+	ends(slow_without_cause, "ww_mutex_lock_slow: class \"other\": no -EDEADLK of this mutex came before");
+	ends(slow_without_context, "ww_mutex_lock_slow: class \"c\": no -EDEADLK of this mutex came before");
+	ends(tries_another_class, "ww_mutex_trylock: class \"other\": the context is of another class");
 	ends(tries_nothing, "ww_mutex_trylock: the mutex isn't initialized");
 	ends(locks_what_is_destroyed, "ww_mutex_lock: the mutex isn't initialized");
-	ends(one_mutex_too_many, "ww_mutex_init: the class has all mutexes that it may have");
+	ends(one_mutex_too_many, "ww_mutex_init: class \"small\": it has all mutexes that it may have");
 	ends(loop_while_it_holds, "ww_until_all_locked: the context holds a mutex");
-	ends(inits_in_a_child, "ww_mutex_init: the class was opened before a fork");
-	ends(begins_in_a_child, "ww_acquire_init: the class was opened before a fork");
-	ends(locks_in_a_child, "ww_mutex_lock: the class was opened before a fork");
+	ends(inits_in_a_child, "ww_mutex_init: class \"c\": it was opened before a fork");
+	ends(begins_in_a_child, "ww_acquire_init: class \"c\": it was opened before a fork");
+	ends(locks_in_a_child, "ww_mutex_lock: class \"other\": it was opened before a fork");
 	MUST(!ww_mutex_lock(&b, &y) && ww_mutex_lock(&a, &y) == -EDEADLK);
-	ends(slow_while_it_holds, "ww_mutex_lock_slow: no -EDEADLK of this mutex came before");
+	ends(slow_while_it_holds, "ww_mutex_lock_slow: class \"c\": no -EDEADLK of this mutex came before");
 	forks();
 	ww_mutex_unlock(&a);
 	ww_mutex_unlock(&b);

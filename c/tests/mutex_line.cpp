@@ -24,6 +24,7 @@ int main()
 	mutex m(d);
 	std::vector<mutex *> list{ &m };
 	const timespec at{};
+	auto next = [&](bool starts) { return starts ? &m : nullptr; };
 	context x(c);
 
 	must(x.lock(m) == -EINVAL);	// wrong
@@ -32,6 +33,9 @@ int main()
 	must(x.lock_all(list) == -EINVAL);	// wrong
 	must(!x.with_all(list, [] {}));	// wrong
 	must(!ww::kernel::lock_all(c, list, [] {}));	// wrong
-	must(ww_debug_faults() == 6);
+	must(x.lock_walk(next) == -EINVAL);	// wrong
+	must(!x.with_walk(next, [] {}));	// wrong
+	must(!ww::kernel::lock_walk(c, next, [] {}));	// wrong
+	must(ww_debug_faults() == 9);
 	return 0;
 }

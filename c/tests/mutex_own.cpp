@@ -2,7 +2,10 @@
 // -DUNGUARDED clang has to warn.
 #include "../ww.hpp"
 #include "../ww_mutex.hpp"
+#include <algorithm>
 #include <array>
+#include <atomic>
+#include <csignal>
 #include <ctime>
 #include <memory>
 #include <mutex>
@@ -64,6 +67,22 @@ static int by_context(struct ww_class &c, account &a)
 	return 0;
 }
 
+// The loop of ww_mutex.h in a template, of which no compiler warns.
+template <class List> static int in_a_loop(ww_acquire_ctx *x, const List &list)
+{
+	int r = 0;
+
+	ww_until_all_locked(x) {
+		for (mutex *m : list) {
+			r = ww_mutex_lock(m->get(), x);
+			ww_retry_on_contention(x);
+			if (r)
+				break;
+		}
+	}
+	return r;
+}
+
 static void lists(struct ww_class &c)
 {
 	account a(c), b(c), d(c);
@@ -80,6 +99,8 @@ static void lists(struct ww_class &c)
 	MUST(ww::kernel::lock_all(c, twice, [] { return 1; }).error() == -EALREADY);
 	MUST(*ww::kernel::lock_all(c, twice, [] { return 5; }, WW_IGNORE_DUPLICATES) == 5);
 	MUST(ww::kernel::lock_all(c, list, [] {}));
+	MUST(in_a_loop(x.get(), twice) == -EALREADY && x.held() == 1);
+	x.unlock_all();
 	MUST(!x.lock_all(list) && x.lock_all(list) == -EINVAL && x.held() == 3);
 	x.unlock_all();
 #ifdef __cpp_exceptions
@@ -129,20 +150,177 @@ static void backs_off(struct ww_class &c) WW_SAFETY_(no_thread_safety_analysis)
 	MUST(x.try_lock(d) && !x.try_lock(a) && !x.lock(b) && x.held() == 2);
 }
 
+// What is found on the way may be told twice. After a back-off a walk starts again; where it fails it holds nothing.
+static void walks(struct ww_class &c)
+{
+	mutex_class other(mutex_class::wait_die, "other");
+	mutex a(c), b(c), d(c), strange(other);
+	mutex *way[] = { &a, &b, &a, &d, nullptr };
+	context older(c), x(c);
+	unsigned at = 0, begun = 0;
+	auto next = [&](bool starts) {
+		if (starts) {
+			at = 0;
+			begun++;
+			older.unlock_all();
+		}
+		return way[at++];
+	};
+
+	MUST(*x.with_walk(next, [&] { return x.held(); }) == 3 && !x.held() && begun == 1);
+	MUST(ww::kernel::lock_walk(c, next, [&] { MUST(a.is_locked() && b.is_locked() && d.is_locked()); }) && !d.is_locked());
+	MUST(!x.lock_walk(next) && x.held() == 3 && x.lock_walk(next) == -EINVAL && x.held() == 3 && begun == 3);
+	x.unlock_all();
+	way[3] = &strange;
+	MUST(x.lock_walk(next) == -EINVAL && !x.held() && x.with_walk(next, [] { return 1; }).error() == -EINVAL);
+#ifdef __cpp_exceptions
+	try {
+		(void)x.lock_walk([&](bool starts) { return starts ? &b : throw 7; });
+		MUST(false);
+	} catch (int it) {
+		MUST(it == 7 && !x.held() && !b.is_locked());
+	}
+#endif
+	way[3] = &d;
+	way[0] = nullptr;
+	MUST(!x.lock_walk(next) && !x.held());
+	way[0] = &a;
+	if (!c.is_wait_die)
+		return;
+	begun = 0;
+	auto takes_before = [&](bool starts) WW_SAFETY_(no_thread_safety_analysis) {
+		mutex *told = next(starts);
+
+		MUST(!starts || begun > 1 || !older.lock(d));
+		return told;
+	};
+	MUST(*x.with_walk(takes_before, [&] { return x.held(); }) == 3 && begun == 2);
+}
+
+// Each scope releases what it acquired, though a mutex amid these was released before, and an exception passes.
+static void scopes(struct ww_class &c) WW_SAFETY_(no_thread_safety_analysis)
+{
+	constexpr unsigned count = 20;
+	std::vector<std::unique_ptr<mutex>> all;
+	std::vector<mutex *> list;
+	auto are_locked = [&] { return std::count_if(all.begin(), all.end(), [](auto &it) { return it->is_locked(); }); };
+	auto holds_all_but_one = [&]() WW_SAFETY_(no_thread_safety_analysis) {
+		context x(c);
+
+		for (mutex *m : list)
+			MUST(!x.lock(*m));
+		x.unlock(*all[count / 2]);
+		MUST(are_locked() == count - 1);
+#ifdef __cpp_exceptions
+		throw 7;
+#endif
+	};
+
+	for (unsigned k = 0; k < count; k++)
+		list.push_back(all.emplace_back(std::make_unique<mutex>(c)).get());
+#ifdef __cpp_exceptions
+	try {
+		holds_all_but_one();
+	} catch (int it) {
+		MUST(it == 7);
+	}
+#else
+	holds_all_but_one();
+#endif
+	MUST(!are_locked());
+	{
+		std::scoped_lock two(*all[0], *all[1]);
+		std::unique_lock<mutex> third(*all[2], std::try_to_lock), in_vain(*all[1], std::try_to_lock);
+		MUST(third && !in_vain && are_locked() == 3);
+	}
+	MUST(!are_locked() && *ww::kernel::lock_all(c, std::vector<mutex *>(), [&] { return are_locked(); }) == 0);
+	list.push_back(list[0]);
+	MUST(*ww::kernel::lock_all(c, list, [&] { return are_locked(); }, WW_IGNORE_DUPLICATES) == count && !are_locked());
+}
+
 static mutex_class lasting(mutex_class::wait_die, "lasting");
 static mutex held_at_a_fork(lasting);
 
-// A child ends as others do, whatever threads held that aren't there.
-static void forks()
+template <class Runs> static int status_of_child(Runs &&runs)
 {
 	int status = 1;
-
-	held_at_a_fork.lock();
 	const pid_t child = fork();
-	if (!child)
+
+	if (!child) {
+		runs();
 		std::exit(0);
-	MUST(child > 0 && waitpid(child, &status, 0) == child && !status);
+	}
+	MUST(child > 0 && waitpid(child, &status, 0) == child);
+	return status;
+}
+
+static void leaves_a_held_one() WW_SAFETY_(no_thread_safety_analysis)
+{
+	mutex_class c(mutex_class::wait_die, "of a child");
+	mutex left(c);
+
+	std::fclose(stderr);
+	left.lock();
+}
+
+// A child ends as others do, whatever threads held that aren't there; not so where memory goes that is held.
+static void forks()
+{
+	held_at_a_fork.lock();
+	MUST(!status_of_child([] {}));
 	held_at_a_fork.unlock();
+	const int status = status_of_child(leaves_a_held_one);
+	MUST(WIFSIGNALED(status) && WTERMSIG(status) == SIGABRT);
+}
+
+// Files may be initialized in any order, and end in any: the first constructor and the last destructor use what others have.
+namespace {
+extern mutex_class later, of_program;
+extern mutex of_later;
+
+struct first_and_last {
+	const pid_t program = getpid(); // a forked child may lock none of them
+	const bool tried;
+	first_and_last() : tried(of_later.try_lock())
+	{
+		if (tried)
+			of_later.unlock();
+	}
+	~first_and_last()
+	{
+		if (getpid() == program)
+			guard held(of_later);
+		if (!static_cast<struct ww_class &>(of_program).pool)
+			std::abort();
+	}
+} first_and_last;
+
+mutex of_later(later);
+mutex_class later(mutex_class::wait_die, "later"), of_program(mutex_class::wait_die, "of the program");
+} // namespace
+
+static void in_any_order()
+{
+	context x(later);
+
+	MUST(first_and_last.tried && !x.lock_all(std::array<mutex *, 1>{ &of_later }) && x.held() == 1);
+}
+
+// As the program ends, another thread holds this one, and goes on.
+static mutex held_at_the_end(later);
+
+static void goes_on()
+{
+	std::atomic<bool> holds{ false };
+
+	std::thread([&] {
+		held_at_the_end.lock();
+		holds = true;
+		for (;;)
+			pause();
+	}).detach();
+	while (!holds)
+		std::this_thread::yield();
 }
 
 static void storm(struct ww_class &c)
@@ -161,7 +339,7 @@ static void storm(struct ww_class &c)
 				x = x * 1664525u + 1013904223u;
 				account &from = *accounts[x >> 8 & 7], &to = *accounts[x >> 16 & 7], &third = *accounts[x >> 24 & 7];
 				mutex *list[] = { &from.lock, &to.lock, &third.lock };
-				auto moves = [&]() WW_SAFETY_(no_thread_safety_analysis) {
+				auto moves = [&]() WW_REQUIRES(from.lock, to.lock, third.lock) {
 					from.sum -= 3;
 					to.sum += 2;
 					return ++third.sum;
@@ -195,11 +373,16 @@ int main()
 			MUST(a.lock.is_locked() && !a.lock.try_lock());
 		}
 		lists(own);
+		walks(own);
+		scopes(own);
 		storm(own);
 	}
 	lists(ww_class);
 	backs_off(ww_class);
+	MUST(!of_program.open());
 	forks();
+	in_any_order();
+	goes_on();
 	MUST(!ww_class_free(&ww_class));
 	std::puts("mutex_own: each released itself");
 }

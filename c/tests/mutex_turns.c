@@ -133,6 +133,19 @@ int __wrap_pthread_mutex_lock(pthread_mutex_t *m);
 static struct ww_acquire_ctx *ends_then;
 static unsigned before_that; /* so often the queue is locked */
 
+/* By this thread: it asks whether the class can be freed wherever it comes to lock something, or has unlocked all. */
+static __thread bool asks;
+static __thread unsigned locked;
+
+static void asks_while_unlocked(void)
+{
+	if (!asks || locked)
+		return;
+	asks = false;
+	MUST(ww_class_free(c) == -EBUSY);
+	asks = true;
+}
+
 int __wrap_pthread_mutex_lock(pthread_mutex_t *m)
 {
 	struct ww_acquire_ctx *x = ends_then;
@@ -141,6 +154,8 @@ int __wrap_pthread_mutex_lock(pthread_mutex_t *m)
 		ends_then = NULL;
 		ww_acquire_fini(x);
 	}
+	asks_while_unlocked();
+	locked += asks;
 	return __real_pthread_mutex_lock(m);
 }
 
@@ -207,6 +222,8 @@ int __wrap_pthread_mutex_unlock(pthread_mutex_t *m)
 {
 	int r = __real_pthread_mutex_unlock(m);
 
+	locked -= asks;
+	asks_while_unlocked();
 	if (comes_then && m == &c->pool->queue) {
 		comes_then = false;
 		newcomer = begin_thread(begins_and_ends, NULL);
@@ -235,6 +252,32 @@ static void comes_just_then(void)
 		ww_acquire_init(&x, c);
 	}
 	ww_acquire_fini(&x);
+	MUST(!ww_class_free(c));
+}
+
+static void *begins_and_stays(void *x)
+{
+	ww_acquire_init(x, c);
+	return NULL;
+}
+
+/* What ends goes from hand to hand: while somebody waits, no moment is there at which nobody has the only context. */
+static void is_never_idle(void)
+{
+	struct ww_acquire_ctx both[2];
+
+	MUST(!ww_class_limit(c, 1, 1));
+	ww_acquire_init(&both[0], c);
+	for (unsigned k = 0; k < 4; k++) {
+		pthread_t thread = begin_thread(begins_and_stays, &both[!(k % 2)]);
+
+		awaits_seekers(1);
+		asks = true;
+		ww_acquire_fini(&both[k % 2]);
+		asks = false;
+		end_thread(thread);
+	}
+	ww_acquire_fini(&both[0]);
 	MUST(!ww_class_free(c));
 }
 
@@ -456,6 +499,7 @@ int main(int count, char **words)
 		ends_just_then();
 		gives_up_just_then();
 		comes_just_then();
+		is_never_idle();
 		if (stay_unshared()) {
 			for (unsigned k = 0; k < 2 * KEEPERS; k++) {
 				keeper = (enum keeper)(k % KEEPERS);

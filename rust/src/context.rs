@@ -345,7 +345,7 @@ impl Context {
         }
     }
 
-    /// What it has from its back-off, and what was forgotten.
+    /// What it has from its back-off; and what was forgotten, for which the library asks for each number of the class.
     ///
     /// # Safety
     ///
