@@ -438,6 +438,8 @@ void ww_acquire_unlock_all(struct ww_acquire_ctx *x)
 {
 	if (LIKELY(is_loop(x)))
 		release_all(x);
+	else if (x->acquired)
+		ww_debug_fault("ww_acquire_unlock_all", "the context is of no ww_until_all_locked, so all that it holds it holds still");
 }
 
 /* ---- locks ---- */

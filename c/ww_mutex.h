@@ -271,7 +271,7 @@ WW_MUST_CHECK int ww_mutex_lock_all(struct ww_acquire_ctx *ctx, struct ww_mutex 
 /*
  * Releases all that the context acquired since ww_until_all_locked, the newest first.
  * A context without such a loop releases each mutex by ww_mutex_unlock, also after
- * ww_mutex_lock_all: for it this call releases nothing.
+ * ww_mutex_lock_all: for it this call releases nothing, and the debug library tells.
  */
 void ww_acquire_unlock_all(struct ww_acquire_ctx *ctx);
 /* g++ forgets in a template that a label's address is an __extension__. */
@@ -395,6 +395,7 @@ void ww_debug_at_(const char *file, int line);
 #define ww_acquire_init_checked(...) (WW_HERE_, ww_acquire_init_checked(__VA_ARGS__))
 #define ww_acquire_init_until(...) (WW_HERE_, ww_acquire_init_until(__VA_ARGS__))
 #define ww_acquire_done(...) (WW_HERE_, ww_acquire_done(__VA_ARGS__))
+#define ww_acquire_unlock_all(...) (WW_HERE_, ww_acquire_unlock_all(__VA_ARGS__))
 #define ww_acquire_fini(...) (WW_HERE_, ww_acquire_fini(__VA_ARGS__))
 #define ww_mutex_lock(...) (WW_HERE_, ww_mutex_lock(__VA_ARGS__))
 #define ww_mutex_lock_interruptible(...) (WW_HERE_, ww_mutex_lock_interruptible(__VA_ARGS__))

@@ -234,7 +234,7 @@ public:
 	{
 		ww_mutex_unlock(m.get());
 	}
-	void unlock_all() noexcept { ww_acquire_unlock_all(&it_); }
+	void unlock_all(WW_FROM_) noexcept { ww_acquire_unlock_all(&it_); }
 	// After -EDEADLK: releases all. The next lock call first waits for the mutex at which that came.
 	void back_off() noexcept { ww_tries_more_(&it_); }
 	void done(WW_FROM_) noexcept { ww_acquire_done(&it_); }

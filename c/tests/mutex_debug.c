@@ -37,6 +37,11 @@ static void done_twice(void)
 	HERE(ww_acquire_done(&x));
 }
 static void fini_with_a_mutex(void) { HERE(ww_acquire_fini(&x)); }
+static void releases_all_without_a_loop(void)
+{
+	HERE(ww_acquire_unlock_all(&x));
+	MUST(x.acquired == 1);
+}
 static void is_told(void)
 {
 	y.deadlock_inject_countdown = ~0u;
@@ -278,6 +283,8 @@ int main(int count, char **words)
 	tells(tries_after_done, "ww_mutex_lock: class \"c\": the context is done");
 	tells(done_twice, "ww_acquire_done: the context is done, or has ended");
 	tells(fini_with_a_mutex, "ww_acquire_fini: the context still holds a mutex");
+	tells(releases_all_without_a_loop,
+	      "ww_acquire_unlock_all: the context is of no ww_until_all_locked, so all that it holds it holds still");
 	tells(another_after_deadlk, "ww_mutex_lock: the context is of another class");
 	tells(holds_after_deadlk, "ww_mutex_lock: class \"c\": the context was told -EDEADLK, and still holds a mutex");
 	tells(told_without_need, "ww_mutex_lock: class \"c\": the context was told -EDEADLK, and still holds a mutex");
