@@ -300,6 +300,6 @@ static inline const char *told(int r)
 /* In a forked child, by go_on of ww_mutex.c. */
 static inline bool is_let_go(const ww_seat *s) { return !s->handle.at; }
 
-/* By which a thread can sleep. */
-static inline bool is_time(const struct timespec *at) { return at->tv_nsec >= 0 && at->tv_nsec < 1000000000; }
+/* By which a thread can sleep; NULL is for ever. */
+static inline bool is_time(const struct timespec *at) { return !at || (at->tv_nsec >= 0 && at->tv_nsec < 1000000000); }
 #endif
