@@ -21,6 +21,15 @@ static inline void no_more(struct ww_acquire_ctx *x)
 	__atomic_store_n(&x->own, NULL, __ATOMIC_RELAXED);
 }
 
+/* A begin that failed: no call but one that begins does anything with it. */
+COLD static int begun_not(struct ww_acquire_ctx *x, int r)
+{
+	no_more(x);
+	x->gives = NULL;
+	x->acquired = x->flags = x->state = 0;
+	return r;
+}
+
 static inline int begin_with(struct ww_acquire_ctx *x, struct ww_pool *p, ww_seat *s)
 {
 	int r;
@@ -46,11 +55,11 @@ COLD static int begin_anyhow(struct ww_acquire_ctx *x, struct ww_class *c, const
 	int r = pool_of(c, &p);
 
 	if (r)
-		return r;
+		return begun_not(x, r);
 	s = seat_at_once(p);
 	if (!s)
 		r = until != &at_once ? ww_seek_seat(p, until, &s) : p->gone ? -EINVAL : -EAGAIN;
-	return r ? r : begin_with(x, p, s);
+	return r ? begun_not(x, r) : begin_with(x, p, s);
 }
 
 /* The seat was at hand, but came to be shared. */
@@ -76,7 +85,7 @@ int ww_acquire_init_checked(struct ww_acquire_ctx *x, struct ww_class *c) { retu
 
 int ww_acquire_init_until(struct ww_acquire_ctx *x, struct ww_class *c, const struct timespec *until)
 {
-	return is_time(until) ? begin(x, c, until) : -EINVAL;
+	return is_time(until) ? begin(x, c, until) : begun_not(x, -EINVAL);
 }
 
 COLD static void init_else(struct ww_acquire_ctx *x, struct ww_class *c, ww_seat *late)
@@ -189,13 +198,26 @@ bool ww_mutex_is_held_by(const struct ww_mutex *m, const struct ww_acquire_ctx *
 	return s && __atomic_load_n(&s->user, __ATOMIC_RELAXED) == ww_mine.thread;
 }
 
-size_t ww_acquire_mark(const struct ww_acquire_ctx *x) { return x->acquired; }
-
 /* Only in a loop, or behind it, the list of what it acquired is exact. */
+static bool has_list(const struct ww_acquire_ctx *x) { return x->gives != x->own; }
+
+/* Of what it holds, whether one wasn't asked for yet: it waited for that after a back-off, and has it for the longest. */
+static bool owes(const struct ww_acquire_ctx *x)
+{
+	const struct ww_mutex *m = has_list(x) && x->prelocked ? x->newest : NULL;
+
+	while (m && m != x->prelocked)
+		m = m->older;
+	return m;
+}
+
+size_t ww_acquire_mark(const struct ww_acquire_ctx *x) { return x->acquired - owes(x); }
+
 void ww_acquire_unlock_to(struct ww_acquire_ctx *x, size_t mark)
 {
-	if (x->gives == x->own)
-		return;
-	while (x->acquired > mark)
-		ww_mutex_unlock(x->newest);
+	if (!mark)
+		ww_acquire_unlock_all(x);
+	else if (has_list(x))
+		for (size_t left = mark + owes(x); x->acquired > left;)
+			ww_mutex_unlock(x->newest);
 }

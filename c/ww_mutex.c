@@ -28,6 +28,7 @@
  *			a slow lock of another		-EINVAL			FIRST
  *			a trylock			1			EASE
  *							0			FIRST
+ *			ww_acquire_unlock_all					EASE
  *			any of these			-EINTR, -ETIMEDOUT	FIRST, or OWES if that came at the other one
  *	any		ww_mutex_lock_all		as its locks one by one, and it backs off by itself if nothing was held
  *
@@ -305,11 +306,16 @@ static void unlink_from(struct ww_acquire_ctx *x, struct ww_mutex *m)
 		m->older->newer = m->newer;
 }
 
-/* Whether it waited for this mutex before the call for it came, which comes now. */
-static bool was_prelocked(struct ww_acquire_ctx *x, const struct ww_mutex *m)
+/* Whether it waited for this mutex before the call for it came, which comes now: so it is the newest now. */
+static bool was_prelocked(struct ww_acquire_ctx *x, struct ww_mutex *m)
 {
 	if (x->prelocked != m)
 		return false;
+	if (x->newest != m) {
+		unlink_from(x, m);
+		m->older = x->newest;
+		x->newest = m;
+	}
 	x->prelocked = NULL;
 	close_or_open(x);
 	return true;
@@ -433,13 +439,23 @@ COLD bool ww_tries_else_(struct ww_acquire_ctx *x)
 
 bool ww_tries_more_(struct ww_acquire_ctx *x) { return ww_tries_else_(x); }
 
+/* It waits first for none any more: the mutex may be gone. */
+COLD static void forget_first(struct ww_acquire_ctx *x)
+{
+	x->state &= ~(unsigned)WAITS_FIRST;
+	close_or_open(x);
+}
+
 /* Without ww_until_all_locked nothing tells what was acquired, so nothing is released. */
 void ww_acquire_unlock_all(struct ww_acquire_ctx *x)
 {
-	if (LIKELY(is_loop(x)))
+	if (LIKELY(is_loop(x))) {
 		release_all(x);
-	else if (x->acquired)
+		if (UNLIKELY(x->state & WAITS_FIRST))
+			forget_first(x);
+	} else if (x->acquired) {
 		ww_debug_fault("ww_acquire_unlock_all", "the context is of no ww_until_all_locked, so all that it holds it holds still");
+	}
 }
 
 /* ---- locks ---- */
@@ -568,8 +584,10 @@ COLD static int lock_by_any(struct ww_mutex *m, ww_seat *late, enum way way, con
 	if (r)
 		return r;
 	s = late ? ww_late_seat(m->pool, late) : ww_other_seat(m->pool);
-	if (s)
+	if (s) {
+		is_user(s);
 		return lock_by_seat(m, s, way, until);
+	}
 	if (UNLIKELY(m->pool->gone)) {
 		r = ww_number_at_first(m);
 		return r ? r : lock_by_any(m, NULL, way, until);
@@ -692,6 +710,7 @@ static int try_alone(struct ww_mutex *m)
 		give_seat(p, s, s->was_loose);
 		return 0;
 	}
+	is_user(s);
 	own(m, NULL, s);
 	return 1;
 }

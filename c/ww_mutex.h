@@ -114,7 +114,8 @@ struct ww_acquire_ctx {
  * A mutex of this class, static or not, in place of ww_mutex_init:
  *	static struct ww_mutex lock = WW_MUTEX_INIT(&boxes);
  * Its first lock, by whichever thread, gives it its number, and is -ENOSPC or -ENOMEM
- * where ww_mutex_init_checked would be; with NULL, and by ww_mutex_trylock, the program ends then.
+ * where ww_mutex_init_checked would be; the program ends then in ww_mutex_lock with NULL, and in
+ * ww_mutex_trylock.
  */
 #define WW_MUTEX_INIT(of_class) { { { NULL } }, NULL, NULL, 0, 0, { of_class }, NULL }
 
@@ -236,7 +237,8 @@ WW_MUST_CHECK int ww_acquire_init_until(struct ww_acquire_ctx *ctx, struct ww_cl
 /*
  * As ww_mutex_lock_interruptible, but waits until this time of the monotonic clock at
  * the longest: -ETIMEDOUT, and what was held still is.  A mutex that is free is
- * acquired, however late it is.  -EINVAL, too: tv_nsec isn't 0 to 999,999,999.
+ * acquired, however late it is.  NULL is no limit.  -EINVAL, too: tv_nsec isn't 0 to
+ * 999,999,999.
  */
 WW_MUST_CHECK int ww_mutex_lock_until(struct ww_mutex *lock, struct ww_acquire_ctx *ctx, const struct timespec *monotonic);
 /* The same of ww_mutex_lock_slow_interruptible: it ends at a time, too. */
@@ -267,8 +269,8 @@ void ww_acquire_flags(struct ww_acquire_ctx *ctx, unsigned int flags);
 /*
  * Acquires all of them, in any order, and backs off by itself.  Where it answers an
  * error it has released what it had acquired: -EALREADY, a mutex stands there twice or
- * is held before; -EINTR; -EINVAL; -EDEADLK only to a context that held a mutex before,
- * and has to release it.  All this goes for a context in a loop as well, below.
+ * is held before; -EINTR; -EINVAL, -ENOSPC, -ENOMEM; -EDEADLK only to a context that held
+ * a mutex before, and has to release it.  All this goes for a context in a loop as well, below.
  */
 WW_MUST_CHECK int ww_mutex_lock_all(struct ww_acquire_ctx *ctx, struct ww_mutex *const *locks, size_t count);
 /*
@@ -306,8 +308,15 @@ void ww_acquire_unlock_all(struct ww_acquire_ctx *ctx);
  * ww_mutex_lock_slow.  The context holds nothing when the loop begins.
  *
  * The mutex at which -EDEADLK came has to be there still when the body begins again, though
- * nothing is held then.  Where another thread could destroy it, take a reference to its object
- * before ww_retry_on_contention, if ww_is_contended, and keep it until all is released.
+ * nothing is held then.  Where another thread could destroy it, the body keeps a reference to
+ * its object until all is released again:
+ *		if (ww_is_contended(&ctx)) {
+ *			get(object);
+ *			ww_acquire_unlock_all(&ctx);
+ *			put(kept); the one of the back-off before, if any
+ *			kept = object;
+ *		}
+ *		ww_retry_on_contention(&ctx);
  *
  * The jump runs no destructor of C++ and no __attribute__((cleanup)) of what was made in the
  * body.  In the body's own block, not in a loop of its own, this does the same and runs them:
@@ -332,9 +341,10 @@ void ww_acquire_unlock_all(struct ww_acquire_ctx *ctx);
 bool ww_is_contended(const struct ww_acquire_ctx *ctx);
 /*
  * As ww_acquire_unlock_all, but to a mark, which is how many mutexes the context held as
- * it was taken: it releases the newest until it holds so many.  So what was acquired
- * before the mark stays, and where some of that was released since, as many of what came
- * later stay too.  A back-off releases all, and the body marks anew.
+ * it was taken, without one that it waited for and didn't ask for since: it releases the
+ * newest until it holds so many.  So what was acquired before the mark stays, and where
+ * some of that was released since, as many of what came later stay too.  A back-off
+ * releases all, and the body marks anew.
  */
 WW_MUST_CHECK size_t ww_acquire_mark(const struct ww_acquire_ctx *ctx);
 void ww_acquire_unlock_to(struct ww_acquire_ctx *ctx, size_t mark);

@@ -82,8 +82,8 @@ public:
 
 // A member of the object that it guards. It stays where it is, and nobody holds it or waits for it at its end. Its own
 // calls are those without a context, so std::lock_guard and std::unique_lock take it. It gets its number at its first lock,
-// so a static one is there before anything runs; and it may be locked behind its end, beside that of the program. Its class
-// stays as long: the end of a class tells of no mutex that was never locked, whose first lock would open what isn't there.
+// so a static one is there before anything runs; and threads that go on beside the end of the program may lock it behind
+// its own end, though not amid that. Its class outlives it: the end of a class tells of no mutex that was never locked.
 class WW_SAFETY_(capability("mutex")) mutex {
 	struct ww_mutex it_;
 
@@ -211,7 +211,7 @@ public:
 	context(const context &) = delete;
 	context &operator=(const context &) = delete;
 
-	// 0, or -EDEADLK, -EALREADY, -EINVAL, as ww_mutex_lock; after -EDEADLK comes back_off().
+	// 0, or -EDEADLK, -EALREADY, -EINVAL, -ENOSPC, -ENOMEM, as ww_mutex_lock; after -EDEADLK comes back_off().
 	[[nodiscard]] int lock(mutex &m WW_AND_FROM_) noexcept WW_SAFETY_(try_acquire_capability(false, m))
 	{
 		return ww_mutex_lock(m.get(), &it_);

@@ -22,10 +22,7 @@ static struct buffer all[BUFFERS];
 /*
  * A buffer and its origins, at most so many; err is what the last lock call answered.
  * If buffers were destroyed by threads that take them out of their chains, each would count
- * its references, and behind the lock call would stand
- *	if (ww_is_contended(ctx))
- *		get(b);
- * with a put(b) of each of these behind ww_acquire_unlock_all.
+ * its references, as ww_until_all_locked says in ww_mutex.h.
  */
 static int lock_chain(struct ww_acquire_ctx *ctx, struct buffer *first, struct buffer **chain, unsigned most, unsigned *count)
 {
@@ -57,9 +54,9 @@ static void *work(void *arg)
 		/* A ring of buffers ends where it comes back to the first. */
 		int err = lock_chain(&ctx, &all[(x >> 8) % BUFFERS], chain, 5, &count);
 
-		ww_acquire_done(&ctx);
 		if (err && err != -EALREADY)
 			abort();
+		ww_acquire_done(&ctx);
 		for (unsigned j = 0; j < count; j++)
 			chain[j]->count++;
 		chain[count - 1]->origin = &all[(x >> 20) % BUFFERS];

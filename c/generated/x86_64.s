@@ -1,7 +1,7 @@
 /*
  * The proved library for C on x86_64, as the kit's compiler (LLVM) makes it.  Written by ./build c --assembly.
  *
- * sources: 5a11d05eebf47bf1c934e0f7bc486b72a07e4d36d57718945f9519ad7e64746e
+ * sources: 5e250fd453532ab9a25235ccd49724ce3292057364aeb75f8e3f206d6cd5abde
  * kit:     rattle-kit-13b logic dac8208d650f15bf
  * proof:   logic=proved functions=56 axioms=3 target=x86_64-unknown-linux-gnu sum=dac8208d650f15bf
  */

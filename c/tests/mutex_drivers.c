@@ -292,7 +292,7 @@ static void *holds_it(void *arg)
 }
 
 /* The only seat was handed to another thread, which is through with it: it is loose. */
-static void held_by_another_first(void)
+static void held_by_another_first(bool tries)
 {
 	struct ww_acquire_ctx x;
 	pthread_t thread;
@@ -305,7 +305,8 @@ static void held_by_another_first(void)
 	awaits_waiter(&asked);
 	ww_acquire_fini(&x);
 	end_thread(thread);
-	MUST(!ww_mutex_lock(&asked, NULL) && ww_mutex_is_held_by(&asked, NULL));
+	MUST(tries ? ww_mutex_trylock(&asked, NULL) : !ww_mutex_lock(&asked, NULL));
+	MUST(ww_mutex_is_held_by(&asked, NULL));
 	ww_mutex_unlock(&asked);
 	MUST(!ww_mutex_destroy(&asked) && !ww_class_free(c));
 }
@@ -317,6 +318,8 @@ static void held_by_a_thread(void)
 
 	MUST(!ww_class_limit(c, 1, 2));
 	ww_mutex_init(&asked, c);
+	ww_acquire_init(&x, c);
+	ww_acquire_fini(&x);
 	for (unsigned k = 0; k < 4; k++) {
 		pthread_t thread;
 
@@ -454,6 +457,38 @@ static void rolls_back(void)
 		MUST(!ww_mutex_destroy(&list[k]));
 }
 
+/* The same body does the same after a back-off, when it has waited for the mutex of index 1 before it asks for it. */
+static void rolls_back_what_it_owed(void)
+{
+	struct ww_acquire_ctx older, x;
+	unsigned bodies = 0;
+
+	for (unsigned k = 0; k < LIST; k++)
+		ww_mutex_init(&list[k], c);
+	ww_acquire_init(&older, c);
+	MUST(!ww_mutex_lock(&list[1], &older));
+	ww_acquire_init(&x, c);
+	ww_until_all_locked(&x) {
+		if (bodies++)
+			ww_mutex_unlock(&list[1]);
+		lock_those(&x, 0, 1);
+		MUST(ww_acquire_mark(&x) == 1);
+		ww_acquire_unlock_to(&x, 1);
+		MUST(x.acquired == bodies);
+		int r = ww_mutex_lock(&list[1], &x);
+		ww_retry_on_contention(&x);
+		MUST(!r && ww_acquire_mark(&x) == 2);
+		ww_acquire_unlock_to(&x, 1);
+		MUST(ww_mutex_is_held_by(&list[0], &x) && !ww_mutex_is_locked(&list[1]));
+	}
+	MUST(bodies == 2);
+	ww_acquire_unlock_all(&x);
+	ww_acquire_fini(&x);
+	ww_acquire_fini(&older);
+	for (unsigned k = 0; k < LIST; k++)
+		MUST(!ww_mutex_destroy(&list[k]));
+}
+
 /* In a loop that was told to back off: the mutex that it waited for first goes with what came since the mark. */
 static void rolls_back_after_a_wait(void)
 {
@@ -565,7 +600,7 @@ static void with_contention(struct ww_acquire_ctx *younger)
 
 static void are_right(void)
 {
-	struct ww_acquire_ctx younger;
+	struct ww_acquire_ctx younger, none;
 	struct timespec past = in_ms(0);
 	pthread_t thread;
 
@@ -577,7 +612,9 @@ static void are_right(void)
 	ww_acquire_init(&waiting, c);
 	ww_acquire_init(&younger, c);
 	with_contention(&younger);
-	MUST(ww_acquire_init_until(&younger, c, &past) == -ETIMEDOUT && are_counted(1, 1));
+	memset(&none, 0xff, sizeof none);
+	MUST(ww_acquire_init_until(&none, c, &past) == -ETIMEDOUT && are_counted(1, 1));
+	MUST(ww_acquire_fini_checked(&none) == -EINVAL && ww_mutex_lock(&asked, &none) == -EINVAL);
 	thread = begin_thread(waits_for_a_context, NULL);
 	while (are_counted(1, 1))
 		usleep(100);
@@ -602,10 +639,13 @@ int main(void)
 			first_call(by);
 		locked_first_just_then();
 		rolls_back();
-		if (c == &wait_die)
+		if (c == &wait_die) {
 			rolls_back_after_a_wait();
+			rolls_back_what_it_owed();
+		}
 		MUST(!ww_class_free(c));
-		held_by_another_first();
+		held_by_another_first(false);
+		held_by_another_first(true);
 		held_by_a_thread();
 		held_by_a_thread_that_is_over();
 		are_right();

@@ -102,7 +102,7 @@ static const struct row rows[] = {
 	{ FIRST, TRY, IT, true, 1, EASE, 0 },
 	{ FIRST, TRY, IT, false, 0, FIRST, 0 },
 	{ FIRST, TRY, FREE, false, 1, EASE, 0 },
-	{ FIRST, UNLOCK_ALL, IT, false, 0, FIRST, 0 },
+	{ FIRST, UNLOCK_ALL, IT, false, 0, EASE, 0 },
 	{ FIRST, ALL, IT, true, 0, EASE, 0 },
 	{ FIRST, ALL, FREE, true, 0, OWES, 0 },
 };

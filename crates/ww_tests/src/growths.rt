@@ -359,15 +359,18 @@ fn take_turns<R: Wait + Abort>(
     Ok((zero, one))
 }
 
-/// These two passes.
+/// These two passes. A growth that is refused is asked for once more.
 fn both(alloc: Global, _world: &World, zero: Pass, one: Pass) -> Result<Vec<Pass>, AllocError>
     requires zero { IsAtHome zero _world.now }
     requires one { IsAtHome one _world.now }
     ensures { IfOk result (λ passes. AreAtHome passes.items _world.now) }
 {
     let mut passes = Vec::new(alloc);
-    passes.push(zero)?;
-    passes.push(one)?;
+    if passes.reserve(2).is_err() {
+        passes.reserve(2)?;
+    }
+    passes.push_reserved(zero);
+    passes.push_reserved(one);
     Ok(passes)
 }
 
