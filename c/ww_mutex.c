@@ -853,11 +853,21 @@ static int lock_each(struct ww_acquire_ctx *x, struct ww_mutex *const *locks, si
 	return r;
 }
 
-/* What it acquired after this mutex is released. */
-static void release_after(struct ww_acquire_ctx *x, const struct ww_mutex *before)
+/* What it waited for first, if it holds that still: else its memory may be another's. */
+static const struct ww_mutex *owed_and_held(const struct ww_acquire_ctx *x)
 {
-	while (x->newest != before)
-		ww_mutex_unlock(x->newest);
+	const struct ww_mutex *m = x->prelocked ? x->newest : NULL;
+
+	while (m && m != x->prelocked)
+		m = m->older;
+	return m;
+}
+
+/* Until it holds so many, the newest first: but not what it owed, which it held before, and which is new where it was asked for. */
+static void release_but(struct ww_acquire_ctx *x, const struct ww_mutex *owed, unsigned int before)
+{
+	while (x->acquired > before)
+		ww_mutex_unlock(x->newest == owed ? owed->older : x->newest);
 }
 
 /* Tries until no -EDEADLK comes; r is what the first time answered. */
@@ -875,13 +885,14 @@ static int lock_until_all_are(struct ww_acquire_ctx *x, struct ww_mutex *const *
 /* In a loop, or behind one: it backs off by itself if nothing was held, and else what was is left to its caller. */
 COLD static int lock_more(struct ww_acquire_ctx *x, struct ww_mutex *const *locks, size_t count)
 {
-	struct ww_mutex *before = x->newest;
+	const struct ww_mutex *owed = owed_and_held(x);
+	unsigned int before = x->acquired;
 	int r = lock_each(x, locks, count);
 
 	if (!before)
 		return lock_until_all_are(x, locks, count, r);
 	if (r)
-		release_after(x, before);
+		release_but(x, owed, before);
 	return r;
 }
 
