@@ -49,7 +49,7 @@ struct ww_seat {
 	bool was_loose;		/* its user took it when they were shared */
 	uint32_t listed;	/* of the locks that are listed the one acquired last */
 	struct ww_pool *pool;	/* the class of ww_mutex.h that has it, if any */
-	const struct ww_mine *user; /* there: the thread that took it last */
+	const struct ww_mine *user; /* there: the thread that locked by it last, without a context */
 	uint64_t waits, back_offs; /* of its users, in all */
 } __attribute__((aligned(64)));
 

@@ -562,7 +562,10 @@ COLD static int lock_by_any(struct ww_mutex *m, ww_seat *late, enum way way, con
 	if (r)
 		return r;
 	s = late ? ww_late_seat(m->pool, late) : ww_other_seat(m->pool);
-	return s ? lock_by_seat(m, s, way, until) : seek_and_lock(m, way, until);
+	if (!s)
+		return seek_and_lock(m, way, until);
+	is_user(s);
+	return lock_by_seat(m, s, way, until);
 }
 
 /* Without a context: by a seat of its own, for which it may have to wait. */
@@ -677,6 +680,7 @@ static int try_alone(struct ww_mutex *m)
 		give_seat(p, s, s->was_loose);
 		return 0;
 	}
+	is_user(s);
 	own(m, NULL, s);
 	return 1;
 }

@@ -146,9 +146,6 @@ static void fence_others(void) { syscall(SYS_membarrier, MEMBARRIER_CMD_PRIVATE_
 /* At a glance: whoever goes on by it waits until all are. */
 static bool is_shared(const struct ww_pool *p) { return __atomic_load_n(&p->own_id, __ATOMIC_RELAXED) >= SHARING; }
 
-/* This thread took the seat. Nobody looks at it but by a mutex that is held with the seat, later. */
-static inline void is_user(ww_seat *s) { __atomic_store_n(&s->user, &ww_mine, __ATOMIC_RELAXED); }
-
 static inline uint32_t number_of(const struct ww_pool *p, const ww_seat *s) { return (uint32_t)(s - p->world->seats); }
 
 /* The class that has this number, if it is open. Opening is locked. */
@@ -369,11 +366,7 @@ COLD ww_seat *ww_other_seat(struct ww_pool *p)
 	if (s || p->gone)
 		return s;
 	await_shared(p);
-	if (has_seekers(p) || !ww_take_number(&p->loose, &number))
-		return NULL;
-	s = use_loose(&p->world->seats[number]);
-	is_user(s);
-	return s;
+	return !has_seekers(p) && ww_take_number(&p->loose, &number) ? use_loose(&p->world->seats[number]) : NULL;
 }
 
 /* It waits no more, if it has no seat yet. */

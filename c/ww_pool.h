@@ -138,6 +138,12 @@ static inline int number_of_pool(struct ww_pool *p, uint32_t *number)
 static inline struct ww_pool *pool_at(const struct ww_mutex *m) { return __atomic_load_n(&m->pool, __ATOMIC_ACQUIRE); }
 
 /*
+ * This thread has the seat: said as it keeps it, and by each lock without a context that takes another one.  Nobody looks
+ * but by a mutex that is held with it, later.
+ */
+static inline void is_user(ww_seat *s) { __atomic_store_n(&s->user, &ww_mine, __ATOMIC_RELAXED); }
+
+/*
  * Whether this thread keeps the seat that it had last, of this class, and nobody uses it: a context that was begun here may
  * go on elsewhere.  own_id is read relaxed: if it was another's just before, use_kept finds that.
  */

@@ -293,7 +293,7 @@ TABLE = {
     "ctx": {"ww_context.c": "load rlx", "ww_mutex.c": "load rlx, store rlx rlx rlx", "ww_mutex.h": "load rlx, store rlx rlx"},
     # By it others look who uses the seat, which was said before.
     "alone": {"ww_context.c": "load acq", "ww_mutex.c": "load rlx, store rel rlx"},
-    "user": {"ww_context.c": "load rlx", "ww_pool.c": "store rlx"},
+    "user": {"ww_context.c": "load rlx", "ww_pool.h": "store rlx"},
     # A waiter says first that it holds the mutex, and then that it waits no more; who destroys looks the other way round.
     "waiters": {"ww_mutex.c": "fetch_add sc sc, fetch_sub sc sc, load sc"},
     # All of an open class; and of a mutex the number, which its first lock may just have given it.

@@ -252,7 +252,7 @@ static void *holds_it(void *arg)
 }
 
 /* The only seat was handed to another thread, which is through with it: it is loose. */
-static void held_by_another_first(void)
+static void held_by_another_first(bool tries)
 {
 	struct ww_acquire_ctx x;
 	pthread_t thread;
@@ -265,7 +265,8 @@ static void held_by_another_first(void)
 	awaits_waiter(&asked);
 	ww_acquire_fini(&x);
 	end_thread(thread);
-	MUST(!ww_mutex_lock(&asked, NULL) && ww_mutex_is_held_by(&asked, NULL));
+	MUST(tries ? ww_mutex_trylock(&asked, NULL) : !ww_mutex_lock(&asked, NULL));
+	MUST(ww_mutex_is_held_by(&asked, NULL));
 	ww_mutex_unlock(&asked);
 	MUST(!ww_mutex_destroy(&asked) && !ww_class_free(c));
 }
@@ -277,6 +278,8 @@ static void held_by_a_thread(void)
 
 	MUST(!ww_class_limit(c, 1, 2));
 	ww_mutex_init(&asked, c);
+	ww_acquire_init(&x, c);
+	ww_acquire_fini(&x);
 	for (unsigned k = 0; k < 4; k++) {
 		pthread_t thread;
 
@@ -538,7 +541,8 @@ int main(void)
 		if (c == &wait_die)
 			rolls_back_after_a_wait();
 		MUST(!ww_class_free(c));
-		held_by_another_first();
+		held_by_another_first(false);
+		held_by_another_first(true);
 		held_by_a_thread();
 		are_right();
 		no_number_is_left();

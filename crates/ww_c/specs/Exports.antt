@@ -3,7 +3,7 @@ use Rattle.std.specs.Prelude.{ℕ, zero, suc, ◌≡◌, ◌≤◌, ◌⊎◌, �
 use Rattle.std.specs.Global.{Global}
 use Rattle.ww_desk.specs.declared.turn.Answer.{Answer}
 use Rattle.ww_desk.specs.Situations.{Situation}
-use Rattle.ww_desk.specs.Answers.{IsEachAnswer, IsNextAnswer, IsCancelAnswer, IsWakeAnswer, IsIdle}
+use Rattle.ww_desk.specs.Answers.{BooksWakes, IsEachAnswer, IsNextAnswer, IsCancelAnswer, IsWakeAnswer, IsIdle}
 use Rattle.ww_desk.specs.Opened.{IsWorldSize, IsOpened}
 use Rattle.ww_queue.specs.declared.kind.Kind.{Kind}
 use Rattle.ww_queue.specs.declared.kind.Kind.TheVariants.{WoundWait, WaitDie}
@@ -24,8 +24,9 @@ abbrev pub IsWakeCall : Option Situation → ℤ → Option Situation → Type 0
 IsWakeCall None code after = (code ≡ negsuc 21) × (after ≡ None)
 IsWakeCall (Some s) code after = (who : Option ℕ) × (s' : Situation) × (after ≡ Some s') × IsWakeAnswer s who s' × (code ≡ wake_code who)
 
+-- ... and its account of wakes balances
 abbrev pub goes_on : Situation → Answer → Situation → Type 0
-goes_on s a s' = IsNextAnswer s.turn s a s'
+goes_on s a s' = IsNextAnswer s.turn s a s' × BooksWakes s s'
 
 -- the next step, which also tells how many pauses to rest
 abbrev pub IsTurnCall : Option Situation → ℤ → ℕ → Option Situation → Type 0
@@ -34,7 +35,7 @@ IsTurnCall (Some s) code pauses after = (a : Answer) × (s' : Situation) × (aft
     × (code ≡ code_of a) × (pauses ≡ pauses_of a)
 
 abbrev pub cancels : ℕ → Situation → Answer → Situation → Type 0
-cancels u s a s' = IsCancelAnswer s u a s'
+cancels u s a s' = IsCancelAnswer s u a s' × BooksWakes s s'
 
 -- which locks of a list it has released, from the end on; an empty handle none
 abbrev pub IsEachCall : Option Situation → List ℕ → ℕ → Option Situation → Type 0

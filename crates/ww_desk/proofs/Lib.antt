@@ -2,3 +2,4 @@ pub mod Locks
 pub mod Keeping
 pub mod Fresh
 pub mod Marks
+pub mod Account

@@ -4,6 +4,7 @@ use Rattle.ww_plain.specs.Numbers.{is_among}
 use Rattle.ww_view.specs.Made.{found_pending, shut_out, without}
 use Rattle.ww_table.specs.declared.seat.Taking.{Taking}
 use Rattle.ww_table.specs.declared.seat.Taking.TheVariants as try
+use Rattle.ww_seat.specs.Bells.{times}
 use Rattle.ww_seat.specs.Calls.{HasMet, HasStayedOut}
 use Rattle.ww_seat.specs.Work.{HasToWake}
 use Rattle.ww_seat.specs.Marks.{is_marked, IsMarked, AreMarked}
@@ -75,6 +76,22 @@ WakesHeir s s' = AreMarked s.wakes (λ u. (s'.view.heir ≡ Some u) × (u ≢ s.
 -- also this seat, unless it is itself, and nobody else
 abbrev pub WakesAlso : Situation → ℕ → Situation → Type 0
 WakesAlso s u s' = AreMarked s.wakes (λ t. (u ≢ s.caller) × (t ≡ u)) s'.wakes
+
+-- How many wakes it has owed this seat so far: one each time that it set the cancel of that seat, and one for each of its
+-- debts to it.
+abbrev pub wakes_owed : Situation → ℕ → ℕ
+wakes_owed s u = times u s.cancelled + times u s.view.debts
+
+-- The account of wakes since an earlier time: it owes each seat what it owed then, or more; and marked are those who were, and
+-- each other seat that it owes more now, and nobody else.
+pub record Balances (first s : Situation) : Type 0 where
+  pub caller : s.caller ≡ first.caller
+  pub owed : (u : ℕ) → wakes_owed first u ≤ wakes_owed s u
+  pub marks : AreMarked first.wakes (λ u. (wakes_owed first u < wakes_owed s u) × (u ≢ first.caller)) s.wakes
+
+-- since whatever time its account balanced, it still does
+abbrev pub BooksWakes : Situation → Situation → Type 0
+BooksWakes s s' = (first : Situation) → Balances first s → Balances first s'
 
 -- ---- where a call may go on
 

@@ -11,7 +11,7 @@ use Rattle.ww_seat.specs.Orderly.{IsOrderly, IsSettled}
 use Rattle.ww_seat.specs.Looks.{IsOutside}
 use Rattle.ww_seat.specs.declared.resting.Stay.{Stay}
 use Rattle.ww_seat.specs.declared.waits.Waits.{Waits}
-use Rattle.ww_seat.specs.Work.{AreWoken, has_joined, looks_again, ComesOutside, IsWorking}
+use Rattle.ww_seat.specs.Work.{AreWoken, HasBooked, has_joined, looks_again, ComesOutside, IsWorking}
 use Rattle.ww_desk.specs.declared.turn.Turn.{Turn}
 use Rattle.ww_desk.specs.declared.turn.Turn.TheVariants.{Rests, Stays, Wants, Looks, Gives}
 use Rattle.ww_desk.specs.declared.station.Station.{Station}
@@ -47,7 +47,8 @@ situation_of d = record {
   view = view_of d.seat;
 }
 
--- Where the seat is at each step of a call, and whom it has to wake then.
+-- Where the seat is at each step of a call, and whom it has to wake then: inside a guard its debts are those from before and
+-- whom it condemned there.
 abbrev pub IsAt : TableId → ℕ → ℕ → List ℕ → Turn → Seat16 → Type 0
 IsAt table size locks wakes Rests s = IsSettled table size s
 IsAt table size locks wakes (Stays n stay waits) s = IsSeated table s × (n < locks) × IsOutside size n s.seat.me
@@ -56,6 +57,7 @@ IsAt table size locks wakes (Wants n arrival waits) s = IsSeated table s × (n <
     × ComesOutside arrival (view_of s)
 IsAt table size locks wakes (Looks n arrival waits) s = IsSeated table s × (n < locks) × IsOrderly size s.seat.me
     × IsWorking n (has_joined arrival) (looks_again arrival) (view_of s) × AreWoken (view_of s) wakes
+    × ((before : List ℕ) × HasBooked before (view_of s))
 IsAt table size locks wakes (Gives n) s = IsSettled table size s × (n < locks) × (owns (view_of s) n ≡ true)
 
 -- whether it may want a lock once it is between two calls, by what it keeps

@@ -26,7 +26,7 @@ impl Desk {
     ghost use Rattle.std.specs.Prelude.{◌≡◌, ◌≢◌, ◌<◌, ◌↔◌, IsTrue, length, [], true, Some};
     ghost use Rattle.ww_desk.specs.declared.turn.Answer.TheVariants.{Done};
     ghost use Rattle.ww_desk.specs.Situations.{is_at_rest, IsReady, IsPlain, IsBare};
-    ghost use Rattle.ww_desk.specs.Answers.{IsBeginAnswer, IsDoneAnswer, IsEndAnswer, IsLockAnswer, IsTryAnswer, IsSlowAnswer, IsUnlockAnswer, IsEachAnswer, HasSomeHeld, IsHasAnswer, IsNextAnswer, IsWakeAnswer, IsCancelAnswer, IsIdle};
+    ghost use Rattle.ww_desk.specs.Answers.{BooksWakes, IsBeginAnswer, IsDoneAnswer, IsEndAnswer, IsLockAnswer, IsTryAnswer, IsSlowAnswer, IsUnlockAnswer, IsEachAnswer, HasSomeHeld, IsHasAnswer, IsNextAnswer, IsWakeAnswer, IsCancelAnswer, IsIdle};
 
     /// Starts a context, with a stamp of its own. `Invalid` where there is one, or a lock is held; `NoSpace` where all
     /// that were allowed were begun, or the world's stamps are spent.
@@ -191,7 +191,8 @@ impl Desk {
 
     /// The next step of the call that is on its way. `Invalid` where none is.
     pub fn go_on(&mut self) -> Answer
-        ensures { IsNextAnswer self.old.turn self.old result self.new }
+        ensures answer { IsNextAnswer self.old.turn self.old result self.new }
+        ensures books { BooksWakes self.old self.new }
     {
         self.station.go_on()
     }
@@ -199,7 +200,8 @@ impl Desk {
     /// Calls off the wait of the seat of this number, if its call lets it. `Already` where that is pending, which
     /// stays; `Invalid` for a seat that the world hasn't.
     pub fn cancel(&mut self, victim: u16) -> Answer
-        ensures { IsCancelAnswer self.old victim result self.new }
+        ensures answer { IsCancelAnswer self.old victim result self.new }
+        ensures books { BooksWakes self.old self.new }
     {
         self.station.cancel(victim)
     }

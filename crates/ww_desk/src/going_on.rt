@@ -2,9 +2,12 @@
 ghost use Rattle.std.specs.Prelude.{◌≡◌, ◌≢◌, ◌<◌, ◌≤◌, ◌*◌, ◌/◌, ◌%◌, ◌^◌, length, Some, IfSome};
 ghost use Rattle.std.specs.Option.{option_map};
 ghost use Rattle.ww_queue.specs.declared.entry.Entry.{Entry};
-ghost use Rattle.ww_seat.specs.Work.{AreMarked};
+ghost use Rattle.ww_view.specs.Made.{with_heir};
+ghost use Rattle.ww_table.specs.Seat.{view_of};
+ghost use Rattle.ww_seat.specs.Work.{AreMarked, StillHasToWake};
 ghost use Rattle.ww_desk.specs.Answers.{IsTaken};
 ghost use Rattle.ww_desk.specs.declared.turn.Turn.TheVariants.{Stays, Looks, Gives};
+ghost use Rattle.ww_desk.specs.declared.turn.Answer.TheVariants.{Done};
 
 use crate::station::Station;
 use crate::turn::{Answer, Turn};
@@ -16,13 +19,14 @@ use ww_seat::{
 
 impl Station {
     ghost use Rattle.ww_desk.specs.Stations.{situation_of, Keeps};
-    ghost use Rattle.ww_desk.specs.Answers.{IsNextAnswer, IsStayAnswer, IsWaitAnswer, IsGiveAnswer, IsCancelAnswer, IsWakeAnswer};
+    ghost use Rattle.ww_desk.specs.Answers.{BooksWakes, IsNextAnswer, IsStayAnswer, IsWaitAnswer, IsGiveAnswer, IsCancelAnswer, IsWakeAnswer};
 
     /// The next step of the call that is on its way.
     pub(crate) fn go_on(&mut self) -> Answer
         requires keeps { Keeps self.old }
         ensures keeps { Keeps self.new }
         ensures answer { IsNextAnswer self.old.turn (situation_of self.old) result (situation_of self.new) }
+        ensures books { BooksWakes (situation_of self.old) (situation_of self.new) }
     {
         match self.turn {
             Turn::Rests => Answer::Invalid,
@@ -60,6 +64,7 @@ impl Station {
         requires keeps { Keeps (record self.old { turn = Looks lock arrival waits }) }
         ensures keeps { Keeps self.new }
         ensures answer { IsWaitAnswer (situation_of self.old) lock waits result (situation_of self.new) }
+        ensures still { StillHasToWake (view_of self.old.seat) (view_of self.new.seat) }
     {
         let mut arrival = arrival;
         let attempt = look_once(
@@ -103,6 +108,7 @@ impl Station {
         requires turn { self.old.turn ≡ Gives lock }
         ensures keeps { Keeps self.new }
         ensures answer { IsGiveAnswer (situation_of self.old) lock result (situation_of self.new) }
+        ensures debts { result ≡ Done → (view_of self.new.seat).debts ≡ with_heir (view_of self.new.seat).heir (view_of self.old.seat).debts }
     {
         if !enter_owned(&mut self.seat, &self.board, lock) {
             return Answer::Awaits;
@@ -119,6 +125,7 @@ impl Station {
         requires keeps { Keeps self.old }
         ensures keeps { Keeps self.new }
         ensures answer { IsCancelAnswer (situation_of self.old) victim result (situation_of self.new) }
+        ensures books { BooksWakes (situation_of self.old) (situation_of self.new) }
     {
         if !self.rests() {
             return Answer::Busy;
