@@ -35,8 +35,8 @@ def is_raised(kind, call, *words, **named):
     return False
 
 
-def begins(of):
-    with of.context():
+def begins(of, timeout=None):
+    with of.context(timeout):
         pass
 
 
@@ -78,10 +78,26 @@ def refuses_mutexes(kind):
         one.lock(a)
         assert fault_of(one.lock, b, a) == errno.EALREADY and a in one and b not in one and not b.locked()
         assert not two.try_lock(a) and fault_of(two.unlock, a) == errno.EINVAL and a in one and a.locked()
+        assert is_raised(ValueError, one.lock, b, timeout=float("nan")) and fault_of(b.__exit__) == errno.EINVAL
         one.done()
         assert fault_of(one.done) == errno.EINVAL
         one.unlock(a)
         assert two.try_lock(a) and fault_of(one.unlock, a) == errno.EINVAL and a in two
+
+
+def refuses_again(kind):
+    """What this thread holds already, by whichever way, and a second cancel."""
+    buffers = made(kind)
+    a, b = ww.Mutex(buffers), ww.Mutex(buffers)
+    with buffers.context() as context, b:
+        context.lock(a)
+        for call in (lambda: context.lock(a), a.__enter__, b.__enter__):
+            assert is_raised(ww.Already, call)
+        assert beside(lambda: a.locked() and is_raised(TimeoutError, buffers.run, lambda other: other.lock(a, timeout=0)))
+        context.cancel()
+        assert is_raised(ww.Already, context.cancel)
+    with a, b:
+        assert a.locked() and b.locked()
 
 
 def refuses_others():
@@ -106,7 +122,7 @@ def gives_numbers_back():
     with buffers.context() as older, buffers.context() as younger:
         older.lock(a)
         younger.lock(b)
-        assert is_raised(ww.Deadlock, younger.lock, a)
+        assert is_raised(ww.Deadlock, younger.lock, a) and not younger.try_lock(a)
         del a
         gc.collect()
         assert fault_of(ww.Mutex, buffers) == errno.ENOSPC
@@ -114,7 +130,13 @@ def gives_numbers_back():
         assert fault_of(ww.Mutex, buffers) == errno.ENOSPC
         younger.unlock_all()
         younger.lock(b)
-    with buffers.context() as context:
+    with buffers.context() as context, buffers.context() as other:
+        for is_told, tries in enumerate((context.try_lock, lambda it: is_raised(TimeoutError, context.lock, it, timeout=0))):
+            mutex = ww.Mutex(buffers)
+            other.lock(mutex)
+            assert tries(mutex) == is_told
+            other.unlock(mutex)
+            del mutex
         for release in (context.unlock, lambda _: context.unlock_all(), lambda _: None):
             mutex = ww.Mutex(buffers)
             context.lock(mutex)
@@ -122,6 +144,73 @@ def gives_numbers_back():
             del mutex
     with ww.Mutex(buffers) as mutex:
         assert mutex.locked()
+
+
+def frees_cycles():
+    """A class that refers to its mutexes, and to a context that holds them."""
+
+    def mapped():
+        gc.collect()
+        with open("/proc/self/statm") as pages:
+            return int(pages.read().split()[0])
+
+    def drops():
+        buffers = ww.Class(library=sys.argv[1])
+        buffers.all = [ww.Mutex(buffers) for _ in range(3)]
+        buffers.block = buffers.context()
+        buffers.block.__enter__().lock(*buffers.all)
+
+    for count in (1, 20):
+        before = mapped()
+        for _ in range(count):
+            drops()
+            gc.collect()
+    assert mapped() - before < 20 * 128
+
+
+def loses_nothing():
+    """An exception at the beginning of any function, as a signal's handler raises it, but of the end of a mutex's block."""
+    buffers = made(contexts=2)
+    a = ww.Mutex(buffers)
+
+    class Hit(Exception):
+        pass
+
+    def works():
+        with a:
+            pass
+        with buffers.context() as context:
+            context.lock(a)
+        dropped = ww.Context(buffers)
+        dropped._begin()
+        dropped.lock(a)
+        del dropped
+
+    def is_hit(at):
+        left = at
+
+        def counts(frame, event, _):
+            nonlocal left
+            if event == "call" and frame.f_code is not ww.Mutex.__exit__.__code__:
+                left -= 1
+                if left == 0:
+                    raise Hit
+
+        try:
+            sys.setprofile(counts)
+            works()
+        except Hit:
+            pass
+        sys.setprofile(None)
+        return left <= 0
+
+    at = 1
+    while is_hit(at):
+        gc.collect()
+        assert not a.locked(), at
+        with buffers.context(timeout=0), buffers.context(timeout=0):
+            at += 1
+    assert at > 10
 
 
 def ends_in_time(kind):
@@ -137,7 +226,16 @@ def ends_in_time(kind):
             is_late = is_raised(TimeoutError, older.lock, c, a, timeout=0.25) and time.monotonic() - began >= 0.25
             return is_late and is_raised(TimeoutError, older.lock, a, timeout=-1) and b in older and not c.locked()
 
+    def begins_late():
+        began = time.monotonic()
+        return is_raised(TimeoutError, begins, buffers, timeout=0.25) and time.monotonic() - began >= 0.25
+
     assert tries() and beside(tries)
+    with contextlib.ExitStack() as stack:
+        for _ in range(4):
+            stack.enter_context(buffers.context(timeout=-1))
+        assert begins_late() and beside(begins_late) and is_raised(TimeoutError, buffers.run, bool, timeout=0)
+    begins(buffers)
 
 
 def is_called_off(kind):
@@ -343,9 +441,11 @@ signal.signal(signal.SIGINT, signal.default_int_handler)
 refuses_classes()
 refuses_others()
 gives_numbers_back()
+frees_cycles()
+loses_nothing()
 waits_in_turn()
 forks()
 for each in KINDS:
-    for test in (refuses_mutexes, ends_in_time, is_called_off, hears_interrupts, resolves, backs_off_by_itself, keeps_nothing):
+    for test in (refuses_mutexes, refuses_again, ends_in_time, is_called_off, hears_interrupts, resolves, backs_off_by_itself, keeps_nothing):
         test(each)
 print("mutexes in Python: each refusal is told, and each wait ends as it should")

@@ -15,6 +15,10 @@ class Deadlock(OSError):
     """EDEADLK: an older context goes first, so this one has to release all that it holds."""
 
 
+class Already(OSError):
+    """EALREADY: the lock is held already by who asks for it; or that wait is called off already."""
+
+
 class Time(ctypes.Structure):
     """struct timespec, on processors of 64 bits."""
 
@@ -44,6 +48,7 @@ _CALLS = {
     "ww_is_contended": (ctypes.c_bool, _AT),
     "ww_tries_more_": (ctypes.c_bool, _AT),
     "ww_mutex_lock_until": (ctypes.c_int, _AT, _AT, ctypes.POINTER(Time)),
+    "ww_acquire_init_until": (ctypes.c_int, _AT, _AT, ctypes.POINTER(Time)),
 }
 _CALLS |= {f"ww_{it}": (ctypes.c_int, _AT) for it in ("seat_put", "begin", "done", "end", "unlock_all")}
 _LOCKS = ("lock", "lock_interruptible", "lock_slow", "lock_slow_interruptible", "trylock", "unlock")
@@ -53,7 +58,7 @@ _ALONE = ("class_free", "mutex_destroy", "acquire_done_checked", "acquire_fini_c
 _CALLS |= {f"ww_{it}": (ctypes.c_int, _AT) for it in _ALONE}
 _PAIRS = ("mutex_init_checked", "acquire_init_checked", "mutex_lock_interruptible", "mutex_trylock")
 _CALLS |= {f"ww_{it}": (ctypes.c_int, _AT, _AT) for it in _PAIRS}
-_CALLS |= {"ww_acquire_init": (None, _AT, _AT), "ww_tries_begin_": (None, _AT), "ww_acquire_unlock_all": (None, _AT)}
+_CALLS |= {"ww_tries_begin_": (None, _AT), "ww_acquire_unlock_all": (None, _AT)}
 
 
 def _found():
@@ -79,4 +84,6 @@ def opened(path):
 def told(code):
     """Raises what a call answered, if that isn't 0."""
     if code:
+        if code == -errno.EALREADY:
+            raise Already(-code, "it is held, or called off, already")
         raise (Deadlock if code == -errno.EDEADLK else OSError)(-code, os.strerror(-code))

@@ -6,22 +6,67 @@ it, so nothing has to be closed: a mutex that nobody refers to gives its number 
 import contextlib
 import ctypes
 import errno
+import functools
+import itertools
 import threading
 import time
+import weakref
 
-from .library import WAIT_DIE, WOUND_WAIT, Deadlock, Time, opened, told
+from .library import WAIT_DIE, WOUND_WAIT, Already, Deadlock, Time, opened, told
 
 # Python runs the handler of a signal in the main thread, between two calls of C: it could cancel no wait in which that
 # thread is. So a wait there is made of calls that end after so many nanoseconds; other threads wait by one call. Waiters
 # with a context are in the order of their stamps, so no place in it is lost by that.
 _SLICE = 100_000_000
-# What the library may still read: classes of which some mutex or context was never ended.
-_left = []
+_NEVER = 2**62  # A time of the clock, in nanoseconds too.
+# By its number, the call by which each structure of the library ends. They are made to the program's last moment.
+_ends, _numbers = {}, itertools.count()
+ctypes.pythonapi.Py_IncRef(ctypes.py_object(_ends))
+
+
+class _End(int):
+    """The number of a call that is made once nothing refers to this. What that call keeps is reached from `_ends`: so it
+    goes behind it, whatever cycle their owners were in. No line of Python is run, at which a signal could break in."""
+
+    __slots__ = ()
+    __del__ = property(_ends.pop)
+
+
+def _ending(call, at, *kept):
+    """An end of this memory by this call, which keeps what may go behind it."""
+    number, end = next(_numbers), functools.partial(call, at)
+    end.kept = kept
+    _ends[number] = end
+    return _End(number)
 
 
 def _memory(size):
     """So many bytes, all 0, and laid out for words."""
     return (ctypes.c_uint64 * -(-size // 8))()
+
+
+def _until(timeout):
+    """The time of the monotonic clock so many seconds from now, in nanoseconds."""
+    if timeout is None:
+        return None
+    if timeout != timeout:
+        raise ValueError("a timeout is a number of seconds")
+    return max(0, time.monotonic_ns() + int(max(-1, min(timeout, threading.TIMEOUT_MAX)) * 10**9))
+
+
+class _Thread(threading.local):
+    """Contexts that a thread began. Without callbacks: what a signal raises there is lost."""
+
+    contexts = ()
+
+    def begins(self, context):
+        self.contexts = [it for it in self.contexts if it()] + [weakref.ref(context)]
+
+    def holds(self, mutex):
+        return any(mutex in (it() or ()) for it in self.contexts)
+
+
+_mine = _Thread()
 
 
 def _wrong(why):
@@ -37,34 +82,31 @@ class Class:
     and 1,024), and takes memory for as many. A forked child makes a class of its own: each call of this one is EINVAL there.
     `library` is the path of another libww.so than the installed one."""
 
-    _at = None
-
     def __init__(self, kind=WOUND_WAIT, mutexes=0, contexts=0, library=None):
         if kind not in (WOUND_WAIT, WAIT_DIE):
             raise _wrong("a class is WOUND_WAIT or WAIT_DIE")
         self._library = opened(library)
         self._at = _memory(self._library.ww_class_size())
+        self._its_end = _ending(self._library.ww_class_free, self._at)
         self._library.ww_class_init(self._at, kind, None)
         told(self._library.ww_class_limit(self._at, mutexes, contexts))
 
-    def __del__(self):
-        if self._at and self._library.ww_class_free(self._at):
-            _left.append(self._at)
-
     @contextlib.contextmanager
-    def context(self):
-        """A context, until the end of the block, where it releases all that it holds."""
+    def context(self, timeout=None):
+        """A context, until the end of the block, where it releases all that it holds. Where all are in use it waits for
+        one; at the longest for so many seconds (TimeoutError)."""
         context = Context(self)
-        context._begin()
+        context._begin(_until(timeout))
         try:
             yield context
         finally:
             context._end()
 
-    def run(self, body):
+    def run(self, body, timeout=None):
         """What body(context) returns. Where that was told Deadlock, all is released, and it is called again: so up to its
-        last lock call it changes nothing that it doesn't set anew."""
-        with self.context() as context:
+        last lock call it changes nothing that it doesn't set anew. It may catch other errors, but after Deadlock it
+        returns or raises. The time is that of context()."""
+        with self.context(timeout) as context:
             while True:
                 try:
                     result = body(context)
@@ -77,30 +119,35 @@ class Class:
 
 
 class Mutex:
-    """A mutex of a class. `with mutex:` holds it alone, by a context of its own."""
-
-    _at = None
+    """A mutex of a class. `with mutex:` holds it alone, by a context of its own. Already: this thread holds it. Where the
+    handler of a signal raises just as that block ends, it may stay held: a block of Class.context() always releases."""
 
     def __init__(self, of):
         if not isinstance(of, Class):
             raise TypeError("a mutex is of a ww.Class")
         self._class, self._library, self._alone = of, of._library, None
         self._at = _memory(self._library.ww_mutex_size())
+        self._its_end = _ending(self._library.ww_mutex_destroy, self._at, of._its_end)
         told(self._library.ww_mutex_init_checked(self._at, of._at))
 
-    def __del__(self):
-        if self._at:
-            self._library.ww_mutex_destroy(self._at)
-
     def __enter__(self):
-        with contextlib.ExitStack() as stack:
-            stack.enter_context(self._class.context()).lock(self)
-            self._alone = stack.pop_all()
+        if _mine.holds(self):
+            raise Already(errno.EALREADY, "this thread holds it already")
+        context = Context(self._class)
+        context._begin()
+        try:
+            context.lock(self)
+        except BaseException:
+            context._end()
+            raise
+        self._alone = context  # Behind the last call no signal is heard before the block.
         return self
 
     def __exit__(self, *_):
         alone, self._alone = self._alone, None
-        alone.close()
+        if not alone:
+            raise _wrong("no block holds it")
+        alone._end()
 
     def locked(self):
         """Whether somebody holds it, at a glance."""
@@ -111,8 +158,6 @@ class Context:
     """A context, for one thread: Class.context() begins it. In each other thread, and once it has ended, its calls but
     cancel are EINVAL."""
 
-    _at = None
-
     def __init__(self, of):
         self._class, self._library = of, of._library
         self._ending = threading.RLock()  # A cancel comes before the end or behind it; from a handler, maybe amid it.
@@ -121,36 +166,34 @@ class Context:
         # two lines: so a mutex is in the first before it can be held, and leaves the second before it is released.
         self._near, self._held = set(), set()
         self._at = _memory(self._library.ww_acquire_size())
+        fini = _ending(self._library.ww_acquire_fini_checked, self._at, of._its_end, self._near)
+        self._its_end = _ending(self._library.ww_acquire_unlock_all, self._at, fini)
 
-    def __del__(self):
-        if self._at:
-            self._end()
-
-    def _begin(self):
+    def _begin(self, until=None):
         code = self._library.ww_acquire_init_checked(self._at, self._class._at)
-        if code == -errno.EAGAIN:
-            self._begin_in_turn()
-        else:
-            told(code)
+        told(self._begin_in_turn(until) if code == -errno.EAGAIN else code)
         # All of it is a loop of ww_until_all_locked.
         self._library.ww_tries_begin_(self._at)
         self._library.ww_tries_more_(self._at)
         self._thread = threading.get_ident()
+        _mine.begins(self)
 
-    def _begin_in_turn(self):
-        """Waits until one of the class's contexts is free. No time ends that call, so another thread makes it for the
-        main one; where that waits no more, the context ends as soon as it has begun."""
-        begun, left = threading.Event(), threading.Event()
+    def _begin_in_turn(self, until):
+        """Waits until one of the class's contexts is free. By calls of a slice the main thread would lose its place in
+        that queue each time: so another one waits for it; where the main one waits no more, the context ends as soon
+        as it has begun."""
+        begun, left, codes = threading.Event(), threading.Event(), []
+        end = Time(*divmod(_NEVER if until is None else until, 10**9))
 
         def begin():
-            self._library.ww_acquire_init(self._at, self._class._at)
+            codes.append(self._library.ww_acquire_init_until(self._at, self._class._at, end))
             begun.set()
             if left.is_set():
                 self._end()
 
         if not _is_main():
             begin()
-            return
+            return codes[0]
         try:
             threading.Thread(target=begin, daemon=True).start()
             begun.wait()
@@ -159,6 +202,7 @@ class Context:
             if begun.is_set():
                 self._end()
             raise
+        return codes[0]
 
     def _end(self):
         """Ends it, if it has begun, which the library knows best."""
@@ -193,14 +237,23 @@ class Context:
                 return code
         return self._library.ww_mutex_lock_interruptible(mutex._at, self._at)
 
+    def _asks(self, mutex, call):
+        """What the call answers by which it may acquire this mutex."""
+        was_near = mutex._its_end in self._near
+        self._near.add(mutex._its_end)
+        code = call()
+        if code == 0:
+            self._held.add(mutex._its_end)
+        elif code != -errno.EDEADLK and not was_near:
+            self._near.discard(mutex._its_end)
+        return code
+
     def _lock_each(self, mutexes, until):
         """Acquires them in this order; where that fails it has released what it acquired."""
         acquired = []
         try:
             for mutex in mutexes:
-                self._near.add(mutex)
-                told(self._answer(mutex, until))
-                self._held.add(mutex)
+                told(self._asks(mutex, lambda: self._answer(mutex, until)))
                 acquired.append(mutex)
         except BaseException:
             for mutex in reversed(acquired):
@@ -210,12 +263,10 @@ class Context:
     def lock(self, *mutexes, timeout=None):
         """Acquires all of them, and waits for them; at the longest for so many seconds (TimeoutError), or until it is called
         off (InterruptedError). One that is free is acquired, however late it is. A context that held nothing before
-        backs off by itself; any other one may be told Deadlock, and releases all. EALREADY: it holds one of them.
+        backs off by itself; any other one may be told Deadlock, and releases all. Already: it holds one of them.
         Where it fails, it has released what it acquired here."""
         self._check(*mutexes)
-        until = None
-        if timeout is not None:
-            until = max(0, time.monotonic_ns() + int(max(-1, min(timeout, threading.TIMEOUT_MAX)) * 10**9))
+        until = _until(timeout)
         held_nothing = not self._held
         while True:
             try:
@@ -233,20 +284,16 @@ class Context:
     def try_lock(self, mutex):
         """Acquires it if nobody has it or waits for it; whether it did."""
         self._check(mutex)
-        self._near.add(mutex)
-        if not self._library.ww_mutex_trylock(mutex._at, self._at):
-            return False
-        self._held.add(mutex)
-        return True
+        return self._asks(mutex, lambda: -errno.EBUSY * (not self._library.ww_mutex_trylock(mutex._at, self._at))) == 0
 
     def unlock(self, mutex):
         """Releases it."""
         self._check(mutex)
-        if mutex not in self._held:
+        if mutex not in self:
             raise _wrong("the context doesn't hold it")
-        self._held.discard(mutex)
+        self._held.discard(mutex._its_end)
         told(self._library.ww_mutex_unlock_checked(mutex._at))
-        self._near.discard(mutex)
+        self._near.discard(mutex._its_end)
 
     def unlock_all(self):
         """Releases all. After a Deadlock the next lock call first waits for the mutex at which that came."""
@@ -260,7 +307,7 @@ class Context:
 
     def __contains__(self, mutex):
         """Whether it holds this mutex."""
-        return mutex in self._held
+        return isinstance(mutex, Mutex) and mutex._its_end in self._held
 
     def done(self):
         """It has all its mutexes. EINVAL: this was said before."""
@@ -268,6 +315,6 @@ class Context:
         told(self._library.ww_acquire_done_checked(self._at))
 
     def cancel(self):
-        """Calls its wait off, this one or the next, by any thread. EALREADY: that is pending; EINVAL: it has ended."""
+        """Calls its wait off, this one or the next, by any thread. Already: that is pending; EINVAL: it has ended."""
         with self._ending:
             told(self._library.ww_acquire_cancel(self._at))
