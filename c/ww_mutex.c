@@ -289,7 +289,7 @@ COLD static int lock_on(struct ww_mutex *m, struct ww_acquire_ctx *x, ww_seat *s
  * What such a context acquired is a list, the newest first.  An unlock takes one out,
  * for which each has to know the one acquired after it: from `linked` on they do.
  */
-static void unlink_from(struct ww_acquire_ctx *x, struct ww_mutex *m)
+static inline __attribute__((always_inline)) void unlink_from(struct ww_acquire_ctx *x, struct ww_mutex *m)
 {
 	if (x->newest == m) {
 		x->newest = m->older;
