@@ -10,12 +10,12 @@ use Rattle.ww_model.specs.Event.{Possible, actor}
 use Rattle.ww_model.specs.Run.{IsRun, at_start}
 use Rattle.ww_laws.proofs.Tests.{all_pass, a_run}
 use Rattle.ww_wakes.specs.Scene.{acting, Scene, first_scene, performs, leaves_to_sleep, finds_no_sign, finds_no_cancel, falls_asleep, MayLeaveToSleep, next, IsReached, begins, goes_on}
-use Rattle.ww_wakes.specs.Theorem.{IsAlerted, HasSleeper, HasOwedSleeper, SleepersAreReached}
+use Rattle.ww_wakes.specs.Theorem.{IsDue, IsAlerted, HasSleeper, HasOwedSleeper, SleepersAreReached}
 use Rattle.ww_wakes.proofs.Keeping.{no_wake_is_lost}
 
 -- a reached scene from which these events are a run
-record Goes (w : Scene) (es : List Event) : Type 0 where
-  reached : IsReached w
+pub record Goes (w : Scene) (es : List Event) : Type 0 where
+  pub reached : IsReached w
   run : IsRun w.core es
 
 go_on : {w : Scene} {e : Event} {es : List Event} → Goes w (e ∷ es) → w.phase (actor e) ≡ acting →
@@ -51,10 +51,10 @@ looked kind = next (next (joined kind) (finds_no_cancel 1)) (finds_no_sign 1)
 abbrev left : Kind → Scene
 left kind = next (looked kind) (leaves_to_sleep 1 0 true)
 
-abbrev sleeping : Kind → Scene
+abbrev pub sleeping : Kind → Scene
 sleeping kind = next (left kind) (falls_asleep 1)
 
-abbrev given : Kind → Scene
+abbrev pub given : Kind → Scene
 given kind = next (next (sleeping kind) (performs (Guard 0 0))) (performs (Give 0 0))
 
 from_start : (kind : Kind) → Goes (first_scene kind 1 2) events
@@ -78,12 +78,12 @@ from_left kind = leave true (from_looked kind) (λ can. record {
   uncancelled = λ _. refl;
 })
 
-from_sleeping : (kind : Kind) → Goes (sleeping kind) (Guard 0 0 ∷ Give 0 0 ∷ [])
+pub from_sleeping : (kind : Kind) → Goes (sleeping kind) (Guard 0 0 ∷ Give 0 0 ∷ [])
 unfolding put ℕ_discrete
 from_sleeping kind = let g = from_left kind in
     record { reached = goes_on (left kind) (falls_asleep 1) g.reached (record { ready = refl; paid = λ _. refl }); run = g.run }
 
-from_given : (kind : Kind) → Goes (given kind) []
+pub from_given : (kind : Kind) → Goes (given kind) []
 unfolding put ℕ_discrete
 from_given kind = go_on (go_on (from_sleeping kind) refl) refl
 
@@ -99,6 +99,10 @@ has_sleeper kind = let lonely : ¬ IsAlerted (sleeping kind) 1 = ⊎_elim (λ h.
           (no_wake_is_lost (sleeping kind) (from_sleeping kind).reached 1 refl);
     }
 
+pub due : (kind : Kind) → IsDue (given kind).core 1 0
+unfolding put ℕ_discrete
+due kind = inr (refl, (record { seat = 1; stamp = 2; holds = false }, [], refl, refl))
+
 has_owed : (kind : Kind) → HasOwedSleeper (given kind)
 unfolding put ℕ_discrete
 has_owed kind = record {
@@ -106,7 +110,7 @@ has_owed kind = record {
   lock = 0;
   sleeps = refl;
   no_token = refl;
-  due = inr (refl, (record { seat = 1; stamp = 2; holds = false }, [], refl, refl));
+  due = due kind;
 }
 
 pub sleepers_are_reached : SleepersAreReached

@@ -5,3 +5,4 @@ pub mod Endless
 pub mod Calls
 pub mod Rests
 pub mod Examples
+pub mod EndlessExamples

@@ -131,3 +131,26 @@ pub record HasOwedSleeper (w : Scene) : Type 0 where
 
 abbrev pub SleepersAreReached : Type 0
 SleepersAreReached = (kind : Kind) → IsReachedInKind kind HasSleeper × IsReachedInKind kind HasOwedSleeper
+
+-- an endless run of the kind, in which wakes arrive, and a seat are like this
+pub record IsEndlessInKind (kind : Kind) (P : (ℕ → Scene) → ℕ → Type 0) : Type 0 where
+  pub scene : ℕ → Scene
+  pub step : ℕ → Step
+  pub seat : ℕ
+  pub of_kind : (scene 0).core.kind ≡ kind
+  pub run : IsEndlessRun scene step
+  pub arrive : WakesArrive scene step
+  pub holds : P scene seat
+
+-- the seat sleeps at each moment, in a call that heeds cancels
+pub record SleepsForEver (scene : ℕ → Scene) (s : ℕ) : Type 0 where
+  pub sleeps : (i : ℕ) → (scene i).phase s ≡ asleep
+  pub heeds : (i : ℕ) → (scene i).heeds s ≡ true
+
+-- the seat sleeps at the first moment without having to
+pub record SleepsInVain (scene : ℕ → Scene) (s : ℕ) : Type 0 where
+  pub sleeps : (scene 0).phase s ≡ asleep
+  pub needs_not : ¬ HasToWait (scene 0) s
+
+abbrev pub EndlessRunsHaveSleepers : Type 0
+EndlessRunsHaveSleepers = (kind : Kind) → IsEndlessInKind kind SleepsForEver × IsEndlessInKind kind SleepsInVain

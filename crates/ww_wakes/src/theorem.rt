@@ -1,5 +1,5 @@
 //! Whoever sleeps has to.
-ghost use Rattle.ww_wakes.specs.Theorem.{NoWakeIsLost, GuardsAreHeldAwake, SleepersAwaitSomebodyUp, SleepersAwaitAHolder, NobodySleepsInVain, SleepForEverIsAWait, SleepersAreReached};
+ghost use Rattle.ww_wakes.specs.Theorem.{NoWakeIsLost, GuardsAreHeldAwake, SleepersAwaitSomebodyUp, SleepersAwaitAHolder, NobodySleepsInVain, SleepForEverIsAWait, SleepersAreReached, EndlessRunsHaveSleepers};
 
 /// Whoever sleeps, and neither was woken nor is about to be by a seat that doesn't sleep, has to wait: no lock is there
 /// for it, and it is neither condemned nor called off.
@@ -38,4 +38,10 @@ pub fn sleep_for_ever_is_a_wait()
 /// about to be woken.
 pub fn sleepers_are_reached()
     ensures { SleepersAreReached }
+{}
+
+/// In each kind there is an endless run, in which wakes arrive, with a seat that sleeps for ever, and another with one
+/// that sleeps without having to: so the two laws of endless runs speak of some.
+pub fn endless_runs_have_sleepers()
+    ensures { EndlessRunsHaveSleepers }
 {}
