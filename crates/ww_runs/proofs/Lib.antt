@@ -5,3 +5,5 @@ pub mod Seating
 pub mod Playing
 pub mod Ends
 pub mod Unlocking
+pub mod Small
+pub mod Sleepers

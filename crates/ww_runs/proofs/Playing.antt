@@ -94,28 +94,37 @@ module _ {key : Start} (m : Moment key) where
   wakes_none : (o : Option ℕ) → o ≡ None → (u : ℕ) → o ≡ Some u → u < key.seats
   wakes_none o none u is = absurd (cc)
 
+module _ {key : Start} (m : Moment key) (id : ℕ) (v : Sight) (here : get_elem? m.table.views id ≡ some v)
+    (seated : v.seated ≡ true) where
+  sits_there : Sits key (core m) m.ruled.log m.ruled.at m.ruled.counts id v
+  sits_there = m.ruled.seats id v here seated
+
+  same_view : (place : ℕ) (w : Sight) → get_elem? m.table.views place ≡ some w → place ≡ id → w ≡ v
+  same_view place w stands is = some-injective w v (sym stands ∙ ap (get_elem? m.table.views) is ∙ here)
+
+  -- what the table tells of the seat is what its view says
+  pub told_there : v.part.core.who < key.seats → v.part ≡ m.part v.part.core.who
+  told_there low = let who = v.part.core.who in let h = m.told who low in
+      let sits = m.ruled.seats h.place h.view h.stands h.seated in ⊎_elim
+      (λ is. let place : h.place ≡ id =
+      (sym sits.part.place ∙ ap m.ruled.at (ap (λ (p : Part). p.core.who) is ∙ h.who) ∙ sits_there.part.place) in
+      ap (λ (w : Sight). w.part) (sym (same_view h.place h.view h.stands place)) ∙ is)
+      (λ idle. let fits = (sits.idle idle.0 (m.part who) idle.1).0 in
+      let place : h.place ≡ id = (sym fits.place ∙ ap m.ruled.at h.who ∙ sits_there.part.place) in
+      absurd (sits.apart idle.0 (m.part who) idle.1
+      (h.who ∙ ap (λ (w : Sight). w.part.core.who) (sym (same_view h.place h.view h.stands place)))))
+      h.tells
+
 module _ {key : Start} (m : Moment key) (id : ℕ) (me : Sat) (here : get_elem? m.table.views id ≡ some me.0)
     (seated : me.0.seated ≡ true) (acts : Acts m me.0.part.core.who) where
   abbrev who : ℕ
   who = me.0.part.core.who
 
   mine : Sits key (core m) m.ruled.log m.ruled.at m.ruled.counts id me.0
-  mine = m.ruled.seats id me.0 here seated
+  mine = sits_there m id me.0 here seated
 
-  same_view : (place : ℕ) (v : Sight) → get_elem? m.table.views place ≡ some v → place ≡ id → v ≡ me.0
-  same_view place v stands is = some-injective v me.0 (sym stands ∙ ap (get_elem? m.table.views) is ∙ here)
-
-  -- what the table tells of the seat is what its view says
   told_here : me.0.part ≡ m.part who
-  told_here = let h = m.told who acts.seat in let sits = m.ruled.seats h.place h.view h.stands h.seated in ⊎_elim
-      (λ is. let place : h.place ≡ id =
-      (sym sits.part.place ∙ ap m.ruled.at (ap (λ (p : Part). p.core.who) is ∙ h.who) ∙ mine.part.place) in
-      ap (λ (v : Sight). v.part) (sym (same_view h.place h.view h.stands place)) ∙ is)
-      (λ idle. let fits = (sits.idle idle.0 (m.part who) idle.1).0 in
-      let place : h.place ≡ id = (sym fits.place ∙ ap m.ruled.at h.who ∙ mine.part.place) in
-      absurd (sits.apart idle.0 (m.part who) idle.1
-      (h.who ∙ ap (λ (v : Sight). v.part.core.who) (sym (same_view h.place h.view h.stands place)))))
-      h.tells
+  told_here = told_there m id me.0 here seated acts.seat
 
   -- ---- the moment after a step by which the seat's view became w
 
@@ -138,7 +147,7 @@ module _ {key : Start} (m : Moment key) (id : ℕ) (me : Sat) (here : get_elem? 
               ∙ sym is;
         })
         (λ isnt. let h = m.told u low in dite (ℕ_discrete h.place id)
-        (λ at. let same = same_view h.place h.view h.stands at in ⊎_elim
+        (λ at. let same = same_view m id me.0 here seated h.place h.view h.stands at in ⊎_elim
         (λ is. absurd (isnt (sym h.who ∙ ap (λ (p : Part). p.core.who) (sym is)
         ∙ ap (λ (v : Sight). v.part.core.who) same)))
         (λ k. record {

@@ -1,5 +1,6 @@
 -- Endless runs of threads.
 use Rattle.std.specs.Prelude.{ℕ, suc, ◌≡◌, ◌<◌, ◌≤◌, true, false, Option, Some, None}
+use Rattle.ww_queue.specs.declared.kind.Kind.{Kind}
 use Rattle.ww_rule.specs.declared.cells.Start.{Start}
 use Rattle.ww_wakes.specs.Scene.{Scene, Step, finds_no_sign, wakes, rises}
 use Rattle.ww_wakes.specs.Theorem.{IsEndlessRun}
@@ -45,3 +46,32 @@ abbrev pub SleepForEverIsAWaitInRuns : Type 0
 SleepForEverIsAWaitInRuns = (key : Start) (moment : ℕ → Moment key) (move : ℕ → Option Step) → IsEndless moment move →
     WakesArriveThere moment move → (i s : ℕ) → s < key.seats →
     ((j : ℕ) → i ≤ j → (moment j).asleep s ≡ true) → (j : ℕ) → i ≤ j → HasToWaitThere (moment j) s
+
+-- ---- none of this speaks of nothing
+
+-- an endless run of threads at a table of the kind, in which wakes arrive, and a thread of it are like this
+pub record IsEndlessThere (kind : Kind) (P : (key : Start) → (ℕ → Moment key) → ℕ → Type 0) : Type 0 where
+  pub key : Start
+  pub moment : ℕ → Moment key
+  pub move : ℕ → Option Step
+  pub seat : ℕ
+  pub of_kind : key.kind ≡ kind
+  pub low : seat < key.seats
+  pub endless : IsEndless moment move
+  pub arrive : WakesArriveThere moment move
+  pub holds : P key moment seat
+
+-- the thread sleeps at each moment, in a call that heeds cancels
+pub record SleepsForEverThere (key : Start) (moment : ℕ → Moment key) (s : ℕ) : Type 0 where
+  pub sleeps : (i : ℕ) → (moment i).asleep s ≡ true
+  pub heeds : (i : ℕ) → (moment i).heeds s ≡ true
+
+-- the thread sleeps at the first moment without having to
+pub record SleepsInVainThere (key : Start) (moment : ℕ → Moment key) (s : ℕ) : Type 0 where
+  pub sleeps : (moment 0).asleep s ≡ true
+  pub needs_not : ¬ HasToWaitThere (moment 0) s
+
+-- so what is said of endless runs, and of who sleeps in them, is said of some
+abbrev pub SleepersAreInEndlessRuns : Type 0
+SleepersAreInEndlessRuns = (kind : Kind) →
+    IsEndlessThere kind SleepsForEverThere × IsEndlessThere kind SleepsInVainThere

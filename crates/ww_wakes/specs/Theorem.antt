@@ -152,5 +152,6 @@ pub record SleepsInVain (scene : ℕ → Scene) (s : ℕ) : Type 0 where
   pub sleeps : (scene 0).phase s ≡ asleep
   pub needs_not : ¬ HasToWait (scene 0) s
 
+-- so what is said of endless runs, and of who sleeps in them, is said of some
 abbrev pub EndlessRunsHaveSleepers : Type 0
 EndlessRunsHaveSleepers = (kind : Kind) → IsEndlessInKind kind SleepsForEver × IsEndlessInKind kind SleepsInVain
