@@ -12,6 +12,7 @@ mod leaving;
 mod look;
 mod patience;
 mod resting;
+mod seats;
 mod signs;
 mod standing;
 mod staying_away;
@@ -30,6 +31,7 @@ pub use interrupting::cancel;
 pub use look::{Arrival, Attempt, Look, look_once};
 pub use patience::{Patience, Waited};
 pub use resting::{MOST_GLANCES, MOST_PAUSES, Memory, Rest, Stay, limits};
+pub use seats::Seat;
 pub use turns::{
     cancel_once, enter_owned, enter_wanted, give_at_once, give_bare_at_once, give_node_at_once,
     give_on,
