@@ -22,7 +22,7 @@ use Rattle.ww_table.specs.declared.board.Board.{Board}
 use Rattle.ww_table.specs.declared.seat.Seat16.{Seat16}
 use Rattle.ww_table.specs.declared.seat.Taking.{Taking}
 use Rattle.ww_table.specs.declared.seat.Giving.{Giving}
-use Rattle.ww_table.specs.Seat.{IsSeated, locks_of, size_of, view_of}
+use Rattle.ww_table.specs.Seat.{IsSeated, locks_of, size_of}
 use Rattle.ww_queue.specs.declared.kind.Kind.TheVariants.{WaitDie}
 use Rattle.ww_seat.specs.declared.bell.Bell.{Bell}
 use Rattle.ww_seat.specs.declared.committing.NodeChange.{NodeChange}
@@ -38,9 +38,10 @@ use Rattle.ww_seat.specs.declared.waits.Waits.TheVariants.{UntilCancelled}
 use Rattle.ww_seat.specs.Bells.{sleeps_at, AreBellsOf, ArePaid, ArePlacedAlike, HasRungHeir, HaveRung, IsRung, OnlyRing, heard}
 use Rattle.ww_seat.specs.Calls.{HoldsAsBefore, HasTaken, HasTakenAtOnce, HasMissed, HasTriedOnce, HasStayedOut, HasGiven, HasLetOnce, HasToDie, HasStopped, IsTurnedAway, MayStop, HasBegun, HasEnded, HoldsAll, HasCommitted}
 use Rattle.ww_seat.specs.Commits.{changes_of}
-use Rattle.ww_seat.specs.Looks.{MayWant, IsNap, StaysAwake, MayLookSo, MayWaitSo}
+use Rattle.ww_seat.specs.declared.resting.Stay.{Stay}
+use Rattle.ww_seat.specs.Looks.{HasGlanced, MayWant, IsNap, StaysAwake, MayLookSo, MayWaitSo}
 use Rattle.ww_seat.specs.Orderly.{IsOrderly}
-use Rattle.ww_seat.specs.Work.{AreWoken, AreMarked, HasToWake, HasBooked, StillHasToWake, has_joined, looks_again, ComesOutside, IsWorking}
+use Rattle.ww_seat.specs.Work.{AreWoken, AreOnlyWoken, AreMarked, HasToWake, HasBooked, StillHasToWake, has_joined, looks_again, IsWorking}
 
 -- Its table; for how many more records it has room; and what it has out and knows.
 pub record Standing : Type 0 where
@@ -100,6 +101,14 @@ IsEnd s s' = IsBackAtOnce s s' × HasEnded s.me s'.me
 
 -- ---- taking a lock at once
 
+-- Only its own sign may have changed, which doesn't forbid it to want a lock now; where it holds one nothing has.
+pub record IsUnsigned (s : Standing) (holds : Bool) (s' : Standing) : Type 0 where
+  pub back : IsBackAtOnce s s'
+  pub same : HoldsAsBefore s.me s'.me
+  pub met : (view_in s').met ≡ (view_in s).met
+  pub signs : WantsSigns (view_in s')
+  pub idle : holds ≡ true → s'.me ≡ s.me
+
 -- it may try to take lock n, which guards a node, and as its caller says it holds a lock or none
 pub record MayTry (board : Board) (n : ℕ) (holds : Bool) (s : Standing) : Type 0 where
   pub there : n < size_of board
@@ -108,7 +117,13 @@ pub record MayTry (board : Board) (n : ℕ) (holds : Bool) (s : Standing) : Type
   pub base : WantsBase (view_in s)
   pub any : owns_any (view_in s) ≡ holds
 
--- ... one that guards none, which it may own
+-- ... and no sign forbids it
+pub record MayTake (board : Board) (n : ℕ) (s : Standing) : Type 0 where
+  pub there : n < size_of board
+  pub lacks : owns (view_in s) n ≡ false
+  pub may : MayFast (view_in s)
+
+-- it may try to take lock n, which guards none, and which it may own
 pub record MayTryBare (board : Board) (n : ℕ) (holds : Bool) (s : Standing) : Type 0 where
   pub bare : size_of board ≤ n
   pub there : n < locks_of board
@@ -171,6 +186,24 @@ pub record IsWait (board : Board) (s : Standing) (n : ℕ) (waits : Waits) (r : 
   pub came : HasWaited board.table.shared.key.places s.me n waits r s'.me
   pub deaf : waits ≡ UntilCancelled → (view_in s').deaf ≡ (view_in s).deaf
 
+-- it sleeps as a waiter, outside of all guards, for the last time that it left one so, and has made all wakes that it owed
+pub record MaySleep (patience : Patience) (bells : List Bell) (s : Standing) : Type 0 where
+  pub stands : (view_in s).waits ≢ 0
+  pub outside : (view_in s).inside ≡ 0
+  pub paid : ArePaid s.me bells
+  pub due : heard patience + 1 ≡ (view_in s).naps
+
+-- it has made some spin reads, and is otherwise as it was
+pub record HasStayedAway (s s' : Standing) : Type 0 where
+  pub now : s' ≡ record s { me = s'.me }
+  pub glanced : HasGlanced s.me s'.me
+
+-- it stays away, and has so many spin reads left
+pub record MayGlanceOn (stay : Stay) (v : View) : Type 0 where
+  pub away : IsAway v
+  pub one : 1 ≤ stay.glances
+  pub few : v.glances + stay.glances ≤ 16
+
 -- ---- releasing a lock
 
 -- it owns lock n
@@ -215,9 +248,9 @@ pub record IsGiven (s : Standing) (n : ℕ) (bells : List Bell) (s' : Standing) 
 -- ---- calling off a wait
 
 -- there is such a seat
-pub record MayCancel (victim : ℕ) (s : Standing) : Type 0 where
+pub record MayCancel (board : Board) (victim : ℕ) (s : Standing) : Type 0 where
   pub away : IsAway (view_in s)
-  pub there : victim < (view_in s).seats
+  pub there : victim < board.table.shared.key.places
 
 -- its cancel is set, or was pending
 abbrev pub HasCancelled : Standing → ℕ → Bool → Standing → Type 0
@@ -274,14 +307,18 @@ WasShutOut s s' = s' ≡ record s { me = (shutting_out s.me.0, s.me.1) }
 pub record HasGoneIn (s s' : Standing) : Type 0 where
   pub same : IsSame s s'
   pub holds : HoldsAsBefore s.me s'.me
-  pub attempted : (view_in s').attempts ≡ (view_in s).attempts + 1
   pub debts : (view_in s').debts ≡ (view_in s).debts
   pub awake : StaysAwake (view_in s) (view_in s')
 
 -- ... of lock n, which it wants, and has condemned nobody yet
+pub record IsIn (s : Standing) (n : ℕ) (s' : Standing) : Type 0 where
+  pub gone : HasGoneIn s s'
+  pub condemned : (view_in s').condemned ≡ []
+  pub working : IsWorking n (not ((view_in s).waits == 0)) (not ((view_in s).waits == 0)) (view_in s')
+
+-- one try to go in
 abbrev pub IsGoneIn : Standing → ℕ → Bool → Standing → Type 0
-IsGoneIn s n true s' = HasGoneIn s s' × ((view_in s').condemned ≡ [])
-    × IsWorking n (not ((view_in s).waits == 0)) (not ((view_in s).waits == 0)) (view_in s')
+IsGoneIn s n true s' = IsIn s n s' × ((view_in s').attempts ≡ (view_in s).attempts + 1)
 IsGoneIn s n false s' = WasShutOut s s'
 
 -- it is at work inside the guard of lock n, where it came so, and whom it condemned there has a mark
@@ -290,7 +327,7 @@ pub record IsAtWorkThere (board : Board) (n : ℕ) (arrival : Arrival) (holds : 
   pub working : IsWorking n (has_joined arrival) (looks_again arrival) (view_in s)
   pub any : owns_any (view_in s) ≡ holds
   pub woken : AreWoken (view_in s) wake
-  pub marks : (view_in s).seats ≤ 64 * length wake
+  pub marks : board.table.shared.key.places ≤ 64 * length wake
 
 -- outside again a look came to this
 abbrev pub CameTo : Standing → ℕ → Look → Standing → Type 0
@@ -317,6 +354,19 @@ pub record HasAttempted (seats : ℕ) (s : Standing) (n : ℕ) (waits : Waits) (
   pub long : length wake' ≡ length wake
   pub still : StillHasToWake (view_in s) (view_in s')
 
+-- a whole look, from inside the guard to outside; marks have just those whom it condemned
+pub record HasLooked (seats : ℕ) (s : Standing) (n : ℕ) (waits : Waits) (wake : List ℕ) (l : Look) (s' : Standing)
+    (wake' : List ℕ) : Type 0 where
+  pub same : IsSame s s'
+  pub came : CameTo s n l s'
+  pub may : MayLookSo seats waits l
+  pub uncancelled : MayWaitSo waits (view_in s') l
+  pub nap : IsNap (view_in s) l (view_in s')
+  pub booked : (before : List ℕ) → HasBooked before (view_in s) → HasBooked before (view_in s')
+  pub woken : AreWoken (view_in s') wake'
+  pub only : AreOnlyWoken (view_in s') wake'
+  pub long : length wake' ≡ length wake
+
 -- a whole look, from outside to outside; it woke whom it condemned, and nobody else
 pub record IsVisit (seats : ℕ) (s : Standing) (n : ℕ) (waits : Waits) (bells : List Bell) (l : Look) (s' : Standing)
     (bells' : List Bell) : Type 0 where
@@ -342,7 +392,7 @@ pub record IsGivingThere (n : ℕ) (v : View) : Type 0 where
   pub unsigned : v.kind ≡ WaitDie → v.sign ≡ Some 0
 
 abbrev pub IsGoneInToGive : Standing → ℕ → Bool → Standing → Type 0
-IsGoneInToGive s n true s' = HasGoneIn s s' × IsGivingThere n (view_in s')
+IsGoneInToGive s n true s' = HasGoneIn s s' × IsGivingThere n (view_in s') × ((view_in s').attempts ≡ (view_in s).attempts + 1)
 IsGoneInToGive s n false s' = WasShutOut s s'
 
 -- it released the lock and is outside; this was the first waiter, whom it has to wake
