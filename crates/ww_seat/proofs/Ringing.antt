@@ -1,5 +1,5 @@
 -- Whose bells ring.
-use Rattle.std.proofs.Common.{◌≡◌, ℕ, Bool, true, false, true≢false, List, length, replicate, Option, Some, None, inl, inr, refl, sym, ap, ◌∙◌, arith}
+use Rattle.std.proofs.Common.{◌≡◌, ℕ, Bool, true, false, List, length, Option, Some, None, inl, inr, refl, sym, ap, ◌∙◌, arith}
 use Rattle.std.proofs.lemmas.Bool.{cases_lt}
 use Rattle.std.proofs.lemmas.Option.{slice_get_past}
 use Rattle.std.specs.Option.{option_map}
@@ -8,12 +8,7 @@ use Rattle.ww_seat.specs.declared.bell.Bell.{Bell}
 use Rattle.ww_seat.specs.Bells.{rung, rung_at, one_more, ArePlacedAlike, AreRung, HaveRung, OnlyRing, SleepsNot}
 use Rattle.ww_seat.specs.declared.patience.Patience.{Patience}
 use Rattle.ww_seat.specs.Marks.{is_marked, IsMarked}
-use Rattle.ww_seat.specs.Work.{AreWoken, AreOnlyWoken}
-use Rattle.ww_seat.proofs.Marking.{none_marked}
-
--- nobody has a mark at first
-pub only_new : (v : View) (marks : List ℕ) → marks ≡ replicate 1 0 → AreOnlyWoken v marks
-only_new v marks is u mark = absurd (true≢false (sym mark ∙ ap (λ (l : List ℕ). is_marked l u) is ∙ none_marked 1 u))
+use Rattle.ww_seat.specs.Work.{AreWoken}
 
 -- a bell without a mark gave no token
 pub only_ring : (these : ℕ → Type 0) (marks : List ℕ) (bells bells' : List Bell)

@@ -24,23 +24,6 @@ use Rattle.ww_seat.proofs.Working.{work_inside}
 pub orderly_shut : (size : ℕ) (m m' : Sat) → IsOrderly size m → m' ≡ (shutting_out m.0, m.1) → IsOrderly size m'
 orderly_shut size m m' o is = orderly_knowing size m m' (shutting_out m.0).part.core o is refl refl refl refl
 
-pub away_shut : (m m' : Sat) → IsAway m.0.part.core → m' ≡ (shutting_out m.0, m.1) → IsAway m'.0.part.core
-away_shut m m' away is = subst (λ (x : Sat). IsAway x.0.part.core) (sym is) (away.0, away.1)
-
-pub waits_shut : (m m' : Sat) → m' ≡ (shutting_out m.0, m.1) → m'.0.part.core.waits ≡ m.0.part.core.waits
-waits_shut m m' is = ap (λ (x : Sat). x.0.part.core.waits) is
-
-pub outside_shut : (size n : ℕ) (m m' : Sat) → IsOutside size n m → m' ≡ (shutting_out m.0, m.1) → IsOutside size n m'
-outside_shut size n m m' o is = subst (IsOutside size n) (sym is) (record {
-  orderly = orderly_shut size m (shutting_out m.0, m.1) o.orderly refl;
-  want = record { lacks = o.want.lacks; base = o.want.base; signs = o.want.signs };
-  outside = o.outside;
-  place = o.place;
-})
-
-pub still_shut : (m m' : Sat) → m' ≡ (shutting_out m.0, m.1) → HoldsAsBefore m m'
-still_shut m m' is = subst (HoldsAsBefore m) (sym is) refl
-
 pub has_entered : (m m' : Sat) (n : ℕ) (q : List Entry) → AreSeats m.0.part.core.seats q → StandsAs m.0.part.core n q
     → m' ≡ (entering m.0 n q, (64 + n, Line q) ∷ m.1) → HasEntered m n m'
 has_entered m m' n q seats stands is = record { list = q; seats = seats; stands = stands; view = ap (λ (x : Sat). x.0) is }
