@@ -1,11 +1,11 @@
 -- A seat that makes a spin read of a lock is otherwise as it was.
-use Rattle.std.proofs.Common.{◌≡◌, ℕ, ◌+◌, ◌≤◌, Bool, inl, length, refl, sym, ap, ◌∙◌, subst, arith}
+use Rattle.std.proofs.Common.{◌≡◌, ℕ, ◌+◌, ◌≤◌, inl, length, refl, sym, ap, ◌∙◌, subst, arith}
 use Rattle.ww_rule.specs.Steps.{knowing}
 use Rattle.ww_rule.specs.Rule.{Sat}
 use Rattle.ww_rule.specs.Guards.{glancing}
 use Rattle.ww_seat.specs.Looks.{HasGlanced, having_glanced}
 use Rattle.ww_table.specs.declared.board.Board.{Board}
-use Rattle.ww_seat.specs.Standings.{Standing, view_in, IsAt, HasStayedAway, MayGlanceOn, MayWait, MayGoIn, owns_any}
+use Rattle.ww_seat.specs.Standings.{Standing, view_in, IsAt, HasStayedAway, MayGlanceOn, MayWait, MayGoIn, OwnsNodes}
 use Rattle.ww_seat.specs.declared.resting.Stay.{Stay}
 
 pub and_more : (m a b : Sat) (k l : ℕ) → a ≡ having_glanced m k → b ≡ having_glanced a l → b ≡ having_glanced m (k + l)
@@ -59,10 +59,10 @@ stayed_more first s u stay stayed may is = let more = ap (λ (x : Standing). (vi
     stayed_further first s u stayed (stayed_once s u is) (omega (arith, more, may.few, may.one))
 
 -- so it may still wait for the lock
-pub still_waits : (b : Board) (n : ℕ) (holds : Bool) (s s' : Standing) → MayWait b n holds s → HasStayedAway s s'
-    → MayGoIn b n s' × ((view_in s').waits ≡ 0) × (owns_any (view_in s') ≡ holds)
-still_waits b n holds s s' may stayed = subst
-    (λ (m : Sat). let x : Standing = record s' { me = m } in MayGoIn b n x × ((view_in x).waits ≡ 0) × (owns_any (view_in x) ≡ holds))
+pub still_waits : (b : Board) (n : ℕ) (s s' : Standing) → MayWait b n s → HasStayedAway s s'
+    → MayGoIn b n s' × ((view_in s').waits ≡ 0) × OwnsNodes s'
+still_waits b n s s' may stayed = subst
+    (λ (m : Sat). let x : Standing = record s' { me = m } in MayGoIn b n x × ((view_in x).waits ≡ 0) × OwnsNodes x)
     (sym stayed.glanced.now) (
       record {
         there = may.there;
@@ -71,5 +71,5 @@ still_waits b n holds s s' may stayed = subst
         place = inl may.away.1;
       },
       may.away.1,
-      may.any,
+      may.nodes,
     )

@@ -13,7 +13,7 @@ use Rattle.ww_table.specs.declared.board.Board.{Board}
 use Rattle.ww_table.specs.Seat.{IsSeated, IsSeatOf, size_of, view_of}
 use Rattle.ww_seat.specs.Orderly.{IsOrderly}
 use Rattle.ww_seat.specs.Calls.{HasStayedOut}
-use Rattle.ww_seat.specs.Standings.{Standing, standing_of, view_in, size_in, owns_any, IsAt, IsKept, IsSame, IsBackAtOnce}
+use Rattle.ww_seat.specs.Standings.{Standing, standing_of, view_in, size_in, owns_any, OwnsNodes, IsAt, IsKept, IsSame, IsBackAtOnce}
 use Rattle.ww_seat.proofs.Naps.{out_then}
 use Rattle.ww_seat.proofs.Slots.{slot_here, not_both}
 use Rattle.ww_seat.proofs.Outside.{owner_of_first, holds_outside, high_list}
@@ -62,11 +62,11 @@ at_once_then s u s' a b = record {
 }
 
 -- whether it owns a lock its slots tell
-pub holds_kept : (q : Seat16) (s : Standing) → standing_of q ≡ s → IsKept q → IsAway (view_in s)
-    → ((n : ℕ) → owns (view_in s) n ≡ true → n < size_in s) → owns_any (view_in s) ≡ ltb 0 (length q.seat.me.1)
+pub holds_kept : (q : Seat16) (s : Standing) → standing_of q ≡ s → IsKept q → (view_in s).inside ≡ 0
+    → OwnsNodes s → owns_any (view_in s) ≡ ltb 0 (length q.seat.me.1)
 holds_kept q s is k = subst
-    (λ (x : Standing). IsAway (view_in x) → ((n : ℕ) → owns (view_in x) n ≡ true → n < size_in x) → owns_any (view_in x) ≡ ltb 0 (length q.seat.me.1))
-    is (λ away nodes. holds_outside (length q.seat.me.0.held) q.seat.me k.orderly away.0 nodes)
+    (λ (x : Standing). (view_in x).inside ≡ 0 → OwnsNodes x → owns_any (view_in x) ≡ ltb 0 (length q.seat.me.1))
+    is (λ outside nodes. holds_outside (length q.seat.me.0.held) q.seat.me k.orderly outside nodes)
 
 -- outside every guard the slot on top is that of a node
 first_is_node : (size : ℕ) (m : Sat) (n : ℕ) (y : Cell) (others : List (ℕ × Cell)) → IsOrderly size m

@@ -89,6 +89,10 @@ pub record IsBackAtOnce (s s' : Standing) : Type 0 where
 abbrev pub owns_any : View → Bool
 owns_any v = any_below (length v.owned) (owns v)
 
+-- each lock that it owns guards a node
+abbrev pub OwnsNodes : Standing → Type 0
+OwnsNodes s = (n : ℕ) → owns (view_in s) n ≡ true → n < size_in s
+
 -- ---- contexts
 
 -- a context of this stamp began, which nobody has signed; or all stamps are spent, which those of 16 seats never are
@@ -109,13 +113,13 @@ pub record IsUnsigned (s : Standing) (holds : Bool) (s' : Standing) : Type 0 whe
   pub signs : WantsSigns (view_in s')
   pub idle : holds ≡ true → s'.me ≡ s.me
 
--- it may try to take lock n, which guards a node, and as its caller says it holds a lock or none
-pub record MayTry (board : Board) (n : ℕ) (holds : Bool) (s : Standing) : Type 0 where
+-- it may try to take lock n, which guards a node, as does each that it owns
+pub record MayTry (board : Board) (n : ℕ) (s : Standing) : Type 0 where
   pub there : n < size_of board
   pub away : IsAway (view_in s)
   pub lacks : owns (view_in s) n ≡ false
   pub base : WantsBase (view_in s)
-  pub any : owns_any (view_in s) ≡ holds
+  pub nodes : OwnsNodes s
 
 -- ... and no sign forbids it
 pub record MayTake (board : Board) (n : ℕ) (s : Standing) : Type 0 where
@@ -123,7 +127,7 @@ pub record MayTake (board : Board) (n : ℕ) (s : Standing) : Type 0 where
   pub lacks : owns (view_in s) n ≡ false
   pub may : MayFast (view_in s)
 
--- it may try to take lock n, which guards none, and which it may own
+-- it may try to take lock n, which guards none, and which it may own; as its caller says it owns a lock or none
 pub record MayTryBare (board : Board) (n : ℕ) (holds : Bool) (s : Standing) : Type 0 where
   pub bare : size_of board ≤ n
   pub there : n < locks_of board
@@ -156,11 +160,11 @@ pub record IsEven (m : Sat) (patience : Patience) (bells : List Bell) : Type 0 w
   pub slept : heard patience ≡ m.0.part.core.naps
 
 -- it has just tried in vain to take lock n, and may wait for it
-pub record MayWait (board : Board) (n : ℕ) (holds : Bool) (s : Standing) : Type 0 where
+pub record MayWait (board : Board) (n : ℕ) (s : Standing) : Type 0 where
   pub there : n < locks_of board
   pub away : IsAway (view_in s)
   pub want : MayWant n (view_in s)
-  pub any : owns_any (view_in s) ≡ holds
+  pub nodes : OwnsNodes s
   pub tried : (view_in s).glances ≡ 0
 
 -- with these it may wait for others: there is a bell for each of at most 16 seats, and no wake or sleep is owed

@@ -62,13 +62,14 @@ impl Seat {
     }
 
     /// One try to take a lock that guards a node, which it gives then. It is the first try of every call that takes a lock:
-    /// where it fails the seat may go on to wait for the lock. Whether the seat holds a lock its caller knows.
+    /// where it fails the seat may go on to wait for the lock.
     #[inline(always)]
-    pub fn try_take(&mut self, board: &Board, lock: u32, holds: bool) -> Option<Node>
+    pub fn try_take(&mut self, board: &Board, lock: u32) -> Option<Node>
         requires at { IsAt board.now self.old }
-        requires may { MayTry board.now lock holds self.old }
+        requires may { MayTry board.now lock self.old }
         ensures { IsTry self.old lock result self.new }
     {
+        let holds = self.holds();
         self.unsign(board, holds);
         self.take(board, lock)
     }

@@ -46,7 +46,7 @@ impl Seat {
     ghost use Rattle.ww_table.specs.Seat.{IsNew, locks_of, size_of, taking_of, giving_of};
     ghost use Rattle.ww_seat.specs.Bells.{AreBellsOf};
     ghost use Rattle.ww_seat.specs.Work.{ComesOutside};
-    ghost use Rattle.ww_seat.specs.Standings.{Standing, standing_of, view_in, size_in, owns_any, IsAt, IsKept, IsBegin, IsEnd, MayTry, MayTryBare, MayTakeBare, IsTry, IsTryBare, MayWait, MayWaitWith, IsWait, StaysEven, MayRelease, MayReleaseNode, MayReleaseBare, IsGive, IsGiveBare, IsGiven, MayCancel, HasCancelled, IsCancel, MayCommit, IsCommit, MayGoIn, IsGoneIn, IsAtWorkThere, HasAttempted, IsVisit, IsGivingThere, IsGoneInToGive, HasGivenOn};
+    ghost use Rattle.ww_seat.specs.Standings.{Standing, standing_of, view_in, size_in, owns_any, OwnsNodes, IsAt, IsKept, IsBegin, IsEnd, MayTry, MayTryBare, MayTakeBare, IsTry, IsTryBare, MayWait, MayWaitWith, IsWait, StaysEven, MayRelease, MayReleaseNode, MayReleaseBare, IsGive, IsGiveBare, IsGiven, MayCancel, HasCancelled, IsCancel, MayCommit, IsCommit, MayGoIn, IsGoneIn, IsAtWorkThere, HasAttempted, IsVisit, IsGivingThere, IsGoneInToGive, HasGivenOn};
 
     /// A seat that has done nothing yet.
     pub fn new(seat: Seat16) -> Seat
@@ -116,8 +116,8 @@ impl Seat {
     /// Whether it owns a lock, where each that it owns guards a node.
     #[inline(always)]
     pub fn holds(&self) -> bool
-        requires away { IsAway (view_in self.now) }
-        requires nodes { (n : ℕ) → owns (view_in self.now) n ≡ true → n < size_in self.now }
+        requires outside { (view_in self.now).inside ≡ 0 }
+        requires nodes { OwnsNodes self.now }
         ensures { owns_any (view_in self.now) ≡ result }
     {
         self.seat.has_out()

@@ -14,11 +14,8 @@ pub(crate) fn pause_for(pauses: u32) {
 }
 
 impl Seat {
-    ghost use Rattle.std.specs.Prelude.{◌≡◌, ◌<◌};
-    ghost use Rattle.ww_view.specs.View.{IsAway};
-    ghost use Rattle.ww_table.specs.Seat.{locks_of};
     ghost use Rattle.ww_seat.specs.Bells.{SleepsNot};
-    ghost use Rattle.ww_seat.specs.Standings.{view_in, IsAt, HasStayedAway, MayGlanceOn};
+    ghost use Rattle.ww_seat.specs.Standings.{view_in, IsAt, MayWait, HasStayedAway, MayGlanceOn};
 
     /// Whether the call sees that it is late, once it has let other threads run.
     fn sees_late(&mut self, board: &Board, stay: &mut Stay) -> bool
@@ -54,19 +51,13 @@ impl Seat {
     }
 
     /// Stays away from a lock that it has just tried in vain, until nobody owns it, or for as long as its patience says.
-    pub(crate) fn stay_away(
-        &mut self,
-        board: &Board,
-        lock: u32,
-        holds: bool,
-        patience: &mut Patience,
-    )
-        requires at { IsAt board.now self.old × (lock < locks_of board.now) }
-        requires may { IsAway (view_in self.old) × ((view_in self.old).glances ≡ 0) }
+    pub(crate) fn stay_away(&mut self, board: &Board, lock: u32, patience: &mut Patience)
+        requires at { IsAt board.now self.old }
+        requires may { MayWait board.now lock self.old }
         ensures { HasStayedAway self.old self.new × SleepsNot patience.old patience.new }
     {
         patience.lose();
-        let mut stay = Stay::new(holds);
+        let mut stay = Stay::new(self.holds());
         for _ in 0..MOST_GLANCES {
             let owner = self.glance(board, lock);
             let Some(rest) = patience.next(&mut stay, owner) else {

@@ -21,7 +21,7 @@ impl Seat {
     ghost use Rattle.std.specs.Prelude.{◌≡◌, ◌≤◌};
     ghost use Rattle.ww_seat.specs.Bells.{AreBellsOf};
     ghost use Rattle.ww_seat.specs.Work.{AreOnlyWoken, ComesOutside};
-    ghost use Rattle.ww_seat.specs.Standings.{view_in, owns_any, IsAt, MayGoIn, MayWait, MayWaitWith, IsWait, StaysEven, IsVisit, IsAtWorkThere, HasLooked};
+    ghost use Rattle.ww_seat.specs.Standings.{view_in, OwnsNodes, IsAt, MayGoIn, MayWait, MayWaitWith, IsWait, StaysEven, IsVisit, IsAtWorkThere, HasLooked};
 
     /// Waits for a lock after a try has failed, and gives its node; or else the older stamp that was met, or, if the
     /// call heeds its cancel, the seat that called the wait off. It stays away for a while, and then looks and parks until
@@ -33,17 +33,16 @@ impl Seat {
         board: &Board,
         lock: u32,
         waits: Waits,
-        holds: bool,
         patience: &mut Patience,
         bells: &mut [Bell],
     ) -> Result<Node, Stop>
         requires at { IsAt board.now self.old × MayWaitWith board.now self.old patience.old bells.old }
-        requires may { MayWait board.now lock holds self.old }
+        requires may { MayWait board.now lock self.old }
         ensures waited { IsWait board.now self.old lock waits result self.new }
         ensures even { StaysEven patience.old bells.old self.new patience.new bells.new }
     {
-        self.stay_away(board, lock, holds, patience);
-        self.wait(rt, board, lock, waits, holds, patience, bells)
+        self.stay_away(board, lock, patience);
+        self.wait(rt, board, lock, waits, patience, bells)
     }
 
     /// Waits for a lock: it looks, and sleeps, until a look ends its waiting. It reads no word outside the guard, and its
@@ -54,19 +53,18 @@ impl Seat {
         board: &Board,
         lock: u32,
         waits: Waits,
-        holds: bool,
         patience: &mut Patience,
         bells: &mut [Bell],
     ) -> Result<Node, Stop>
         requires at { IsAt board.now self.old × MayWaitWith board.now self.old patience.old bells.old }
-        requires may { MayGoIn board.now lock self.old × ((view_in self.old).waits ≡ 0) × (owns_any (view_in self.old) ≡ holds) }
+        requires may { MayGoIn board.now lock self.old × ((view_in self.old).waits ≡ 0) × OwnsNodes self.old }
         ensures waited { IsWait board.now self.old lock waits result self.new }
         ensures even { StaysEven patience.old bells.old self.new patience.new bells.new }
     {
         let mut arrival = Arrival::Came;
         for _ in rt.forever() {
             patience.look();
-            match self.visit(rt, board, lock, arrival, waits, holds, bells) {
+            match self.visit(rt, board, lock, arrival, waits, bells) {
                 Look::Locked(node) => return Ok(node),
                 Look::Deadlk(met) => {
                     patience.back_off();
@@ -90,13 +88,13 @@ impl Seat {
         lock: u32,
         arrival: Arrival,
         waits: Waits,
-        holds: bool,
         bells: &mut [Bell],
     ) -> Look
         requires at { IsAt board.now self.old × AreBellsOf board.now bells.old × (board.now.table.shared.key.places ≤ 16) }
-        requires may { MayGoIn board.now lock self.old × ComesOutside arrival (view_in self.old) × (owns_any (view_in self.old) ≡ holds) }
+        requires may { MayGoIn board.now lock self.old × ComesOutside arrival (view_in self.old) × OwnsNodes self.old }
         ensures { IsVisit board.now.table.shared.key.places self.old lock waits bells.old result self.new bells.new }
     {
+        let holds = self.holds();
         self.spin_into_wanted(rt, board, lock);
         let mut wake = [0; 1];
         let look = self.look_at(rt, board, lock, arrival, waits, holds, &mut wake);

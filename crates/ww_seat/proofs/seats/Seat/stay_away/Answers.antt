@@ -24,7 +24,7 @@ loop-preserved c = let i = c.loop.invariant in let s = c.args.self.now in
     let stayed = stayed_further s c.glance-owner.new.self c.take_rest.new.self
     (stayed_more s c.loop.self c.glance-owner.new.self c.loop.stay i.1 i.2 c.glance-owner.ensures)
     c.take_rest.ensures.stayed (omega (arith, c.take_rest.ensures.may.few)) in (
-      stayed_at c.args.board.now s c.take_rest.new.self c.requires.at.0 stayed,
+      stayed_at c.args.board.now s c.take_rest.new.self c.requires.at stayed,
       stayed,
       c.take_rest.ensures.may,
       slept_not c.lose.new.self c.loop.patience c.next.new.self i.3 c.next.ensures.awake,
