@@ -22,3 +22,4 @@ pub mod Marking
 pub mod Naps
 pub mod Debts
 pub mod Kept
+pub mod Coming

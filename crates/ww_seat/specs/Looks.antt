@@ -7,8 +7,6 @@ use Rattle.ww_rule.specs.Rule.{Sat}
 use Rattle.ww_rule.specs.Steps.{knowing}
 use Rattle.ww_seat.specs.Orderly.{IsOrderly}
 use Rattle.ww_seat.specs.Calls.{HoldsAsBefore, HasTaken, HasToDie, HasStopped}
-use Rattle.ww_seat.specs.declared.look.Attempt.{Attempt}
-use Rattle.ww_seat.specs.declared.look.Attempt.TheVariants.{Lost, Ended}
 use Rattle.ww_seat.specs.declared.look.Look.{Look}
 use Rattle.ww_seat.specs.declared.look.Look.TheVariants as look
 use Rattle.ww_seat.specs.declared.waits.Waits.{Waits}
@@ -53,16 +51,6 @@ pub record StaysAwake (v v' : View) : Type 0 where
 abbrev pub IsNap : View → Look → View → Type 0
 IsNap v look.Waits v' = (v'.naps ≡ v.naps + 1) × (v'.uncancelled ≡ true → v'.deaf ≡ v.deaf)
 IsNap v _ v' = StaysAwake v v'
-
--- what is true of the look, if the attempt came to its end
-abbrev pub IfEnded : Attempt → (Look → Type 0) → Type 0
-IfEnded Lost P = Unit {0}
-IfEnded (Ended look) P = P look
-
--- what is true if it was lost
-abbrev pub IfLost : Attempt → Type 0 → Type 0
-IfLost Lost P = P
-IfLost (Ended look) P = Unit {0}
 
 -- only a look of a wait until a cancel comes to an interruption
 abbrev pub MayLookSo : ℕ → Waits → Look → Type 0

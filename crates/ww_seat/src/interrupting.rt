@@ -1,11 +1,7 @@
 //! A wait is called off.
-ghost use Rattle.std.specs.Prelude.{◌≡◌, ◌<◌, Bool, true, false, IfSome, IfNone};
-ghost use Rattle.ww_table.specs.Seat.{IsSeatOf, locks_of, size_of, view_of};
-ghost use Rattle.ww_seat.specs.declared.look.Look.TheVariants.{Interrupted};
-ghost use Rattle.ww_seat.specs.declared.waits.Waits.TheVariants.{UntilCancelled};
-ghost use Rattle.ww_seat.specs.Orderly.{IsOrderly};
-ghost use Rattle.ww_seat.specs.Looks.{IsLook, StaysAwake};
-ghost use Rattle.ww_seat.specs.Work.{HasCondemnedNone, IsWorking, SeesOther, GoesOn};
+ghost use Rattle.std.specs.Prelude.{◌≡◌, ◌<◌, true, false};
+ghost use Rattle.ww_table.specs.Seat.{size_of, view_of};
+ghost use Rattle.ww_seat.specs.Work.{IsSameSeat, IsStop, SeesOther, StandsHere};
 
 use crate::bell::Bell;
 use crate::leaving::leave;
@@ -45,20 +41,10 @@ pub(crate) fn stop_if_cancelled(
     seen: Owner,
     waits: Waits,
 ) -> Option<u16>
-    requires seat { IsSeatOf board.now seat.old }
-    requires lock { lock < locks_of board.now }
-    requires orderly { IsOrderly (size_of board.now) seat.old.seat.me }
-    requires work { (l : Bool) × IsWorking lock true l (view_of seat.old) }
+    requires at { StandsHere board.now lock seat.old }
     requires seen { SeesOther seen (view_of seat.old) }
-    ensures seat { IsSeatOf board.now seat.new }
-    ensures records { seat.new.records ≡ seat.old.records }
-    ensures stopped { IfSome result (λ by. IsLook (size_of board.now) lock seat.old.seat.me (Interrupted by) seat.new.seat.me) }
-    ensures waits { IfSome result (λ _. waits ≡ UntilCancelled) }
-    ensures few { IfSome result (λ by. by < board.now.table.shared.key.places) }
-    ensures goes_on { IfNone result (GoesOn (size_of board.now) seat.old.seat.me seat.new.seat.me) }
-    ensures uncancelled { IfNone result (waits ≡ UntilCancelled → (view_of seat.new).uncancelled ≡ true) }
-    ensures condemned { HasCondemnedNone seat.old.seat.me seat.new.seat.me }
-    ensures awake { StaysAwake (view_of seat.old) (view_of seat.new) }
+    ensures same { IsSameSeat board.now seat.old seat.new }
+    ensures stopped { IsStop board.now.table.shared.key.places (size_of board.now) lock waits seat.old.seat.me result seat.new.seat.me }
 {
     match waits {
         Waits::ToTheEnd => return None,
