@@ -1,5 +1,5 @@
 -- What a seat at work inside a guard comes to, step by step.
-use Rattle.std.proofs.Common.{◌≡◌, ℕ, ◌+◌, ◌-◌, Bool, List, refl, sym, ap, ◌∙◌, subst, inr, true, vec_capacity, vec_len}
+use Rattle.std.proofs.Common.{◌≡◌, ℕ, ◌+◌, ◌-◌, Bool, List, refl, sym, ap, ◌∙◌, subst, true, vec_capacity, vec_len}
 use Rattle.ww_word.specs.declared.owner.Owner.{Owner}
 use Rattle.ww_rule.specs.declared.cells.Sight.{Sight}
 use Rattle.ww_rule.specs.Rule.{Sat}
@@ -195,13 +195,6 @@ came_to board n q q' (look.Locked y) x = (x.1, x.2)
 came_to board n q q' (look.Deadlk k) x = (x.1, x.2)
 came_to board n q q' (look.Interrupted by) x = (x.1, x.2)
 came_to board n q q' look.Waits x = (x.0.want, x.0.outside, x.1, x.2)
-
-pub look_of : (size n : ℕ) (q q' : Seat16) (l : Look) → IsOrderly size q'.seat.me → CameTo (standing_of q) n l (standing_of q')
-    → IsLook size n q.seat.me l q'.seat.me
-look_of size n q q' (look.Locked y) o x = (o, x.0, x.1)
-look_of size n q q' (look.Deadlk k) o x = (o, x.0, x.1)
-look_of size n q q' (look.Interrupted by) o x = (o, x.0, x.1)
-look_of size n q q' look.Waits o x = (record { orderly = o; want = x.0; outside = x.1; place = inr x.2 }, x.2, x.3)
 
 is_attempt : (board : Board) (n : ℕ) (arrival : Arrival) (waits : Waits) (q q' : Seat16) (a : Attempt)
     → CameInside board n (has_joined arrival) (looks_again arrival) waits q.seat.me a q'.seat.me

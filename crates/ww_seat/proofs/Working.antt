@@ -18,7 +18,7 @@ use Rattle.ww_rule.specs.Waiting.{HasListOnTop}
 use Rattle.ww_seat.specs.Orderly.{IsOrderly}
 use Rattle.ww_seat.specs.Calls.{HoldsAsBefore}
 use Rattle.ww_seat.specs.Looks.{MayWant}
-use Rattle.ww_seat.specs.Work.{AreWoken, AreOnlyWoken, StillHasToWake, AreMarked, HasToWake, HasBooked, debts_with, Deeds, deeds_of, HasCondemnedNone, touched, signing, told, IsTouched, IsTold, IsPlaced, IsWorking, IsAtWork, IsCleared, MayGo, HasNoted}
+use Rattle.ww_seat.specs.Work.{AreWoken, StillHasToWake, AreMarked, HasToWake, HasBooked, debts_with, Deeds, deeds_of, HasCondemnedNone, touched, signing, told, IsTouched, IsTold, IsPlaced, IsWorking, IsAtWork, IsCleared, MayGo, HasNoted}
 use Rattle.ww_seat.proofs.Holds.{holds_same, holds_then}
 use Rattle.ww_seat.proofs.Outside.{orderly_knowing, orderly_brought}
 use Rattle.ww_seat.proofs.Guards.{listed_orderly, exiting_orderly}
@@ -87,7 +87,6 @@ still_then m m1 m2 x y = record {
   still = λ u has. y.still u (x.still u has);
   booked = λ before is. y.booked before (x.booked before is);
 }
-
 
 -- whoever has to be woken has a mark
 pub woken_marked : (m : Sat) (was now : List ℕ) → AreMarked was (HasToWake m.0.part.core) now → AreWoken m.0.part.core now
