@@ -1,12 +1,8 @@
 //! A commit: the record takes its place, and the nodes change.
 
-ghost use Rattle.std.specs.Prelude.{ℕ, ◌≡◌, ◌<◌, map, true, List, Option};
-ghost use Rattle.std.specs.List.{AllByRecursion};
-ghost use Rattle.ww_plain.specs.declared.node.Node.{Node};
-ghost use Rattle.ww_view.specs.View.{owns};
-ghost use Rattle.ww_table.specs.Seat.{IsSeatOf, size_of, view_of};
-ghost use Rattle.ww_seat.specs.Orderly.{IsOrderly};
-ghost use Rattle.ww_seat.specs.Commits.{naming, change_at, IsChanged};
+ghost use Rattle.ww_table.specs.Seat.{IsSeatOf};
+ghost use Rattle.ww_seat.specs.Commits.{MayChange, HasChanged};
+ghost use Rattle.ww_seat.specs.Work.{IsSameSeat};
 
 use crate::seats::Seat;
 use std::snapshot::Snapshot;
@@ -23,14 +19,10 @@ pub struct NodeChange {
 
 /// Writes these nodes as they are afterwards, the last one first: it was taken last, so fewer slots are turned.
 fn change(seat: &mut Seat16, board: &Board, changes: &[NodeChange])
-    requires seat { IsSeatOf board.now seat.old }
-    requires changes { (before : List Node) × (after : List Node) × (ns : List ℕ) × (changes.now ≡ map (change_at before after) ns) }
-    requires out { (held : List (Option Node)) × IsOrderly (size_of board.now) (naming seat.old.seat.me held) }
-    requires owned { AllByRecursion (λ c. (c.number < size_of board.now) × (owns (view_of seat.old) c.number ≡ true)) changes.now }
-    ensures seat { IsSeatOf board.now seat.new }
-    ensures view { seat.new.seat.me.0 ≡ seat.old.seat.me.0 }
-    ensures records { seat.new.records ≡ seat.old.records }
-    ensures changed { (held : List (Option Node)) (before after : List Node) (ns : List ℕ) → changes.now ≡ map (change_at before after) ns → IsOrderly (size_of board.now) (naming seat.old.seat.me held) → IsChanged (size_of board.now) held after ns seat.new.seat.me }
+    requires at { IsSeatOf board.now seat.old }
+    requires may { MayChange board.now changes.now seat.old }
+    ensures same { IsSameSeat board.now seat.old seat.new }
+    ensures changed { HasChanged board.now changes.now seat.old seat.new }
 {
     for at in (0..changes.len()).rev() {
         let change = changes[at];
