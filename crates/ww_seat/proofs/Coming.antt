@@ -11,13 +11,12 @@ use Rattle.ww_seat.specs.declared.look.Arrival.{Arrival}
 use Rattle.ww_seat.specs.declared.look.Attempt.{Attempt}
 use Rattle.ww_seat.specs.declared.look.Attempt.TheVariants.{Lost, Ended}
 use Rattle.ww_seat.specs.declared.look.Look.{Look}
-use Rattle.ww_seat.specs.declared.look.Look.TheVariants as look
 use Rattle.ww_seat.specs.declared.waits.Waits.{Waits}
 use Rattle.ww_seat.specs.Looks.{IsLook, IsNap, MayLookSo, MayWaitSo}
 use Rattle.ww_seat.specs.Orderly.{IsOrderly}
-use Rattle.ww_seat.specs.Standings.{standing_of, CameTo, HasAttempted, IsAt, IsAtWorkThere, IsAttempt, IsKept}
+use Rattle.ww_seat.specs.Standings.{standing_of, HasAttempted, IsAt, IsAtWorkThere, IsAttempt, IsKept}
 use Rattle.ww_seat.specs.Work.{has_joined, looks_again, AreWoken, AreMarksOf, CameInside, Deeds, deeds_of, GoesOn, HasCome, HasCondemnedNone, HasMarked, HasNoted, HasStood, IsAtWork, IsAtWorkHere, IsSameSeat, IsTold, IsTouched, IsWorking}
-use Rattle.ww_seat.proofs.Holds.{look_then}
+use Rattle.ww_seat.proofs.Holds.{came_then as holding_then}
 use Rattle.ww_seat.proofs.Naps.{awake_same, awake_then, awake_looked, awake_noted, nap_then}
 use Rattle.ww_seat.proofs.Stood.{work_stood}
 use Rattle.ww_seat.proofs.Stopped.{work_goes_on}
@@ -122,7 +121,7 @@ pub come_out : {board : Board} {n : ℕ} {stands again : Bool} {waits : Waits} {
     → HasCome board n stands again waits m wake looks (Ended l) m2 wake1
 come_out {board} {n} {m = m} {m1 = m1} x m2 l look so may nap same = record {
   came = (
-    look_then (size_of board) n m m1 m2 l x.came.0.holds look,
+    (look.0, holding_then n m m1 m2 l x.came.0.holds look.1),
     so,
     may,
     nap_then m.0.part.core m1.0.part.core m2.0.part.core l x.came.1 nap,
@@ -140,7 +139,7 @@ came_then board n s1 s2 again waits m m1 m2 Lost x y = (
   awake_then m.0.part.core m1.0.part.core m2.0.part.core x.1 y.1,
 )
 came_then board n s1 s2 again waits m m1 m2 (Ended l) x y = (
-  look_then (size_of board) n m m1 m2 l x.0.holds y.0,
+  (y.0.0, holding_then n m m1 m2 l x.0.holds y.0.1),
   y.1,
   y.2,
   nap_then m.0.part.core m1.0.part.core m2.0.part.core l x.1 y.3,
@@ -183,24 +182,13 @@ come_looked {board} {n} {arrival} {wake = wake} {q = q} {m = m} {o = o} kept at 
 came_orderly : (board : Board) (n : ℕ) (stands again : Bool) (waits : Waits) (m m' : Sat) (a : Attempt)
     → CameInside board n stands again waits m a m' → IsOrderly (size_of board) m'
 came_orderly board n stands again waits m m' Lost x = x.0.orderly
-came_orderly board n stands again waits m m' (Ended (look.Locked y)) x = x.0.0
-came_orderly board n stands again waits m m' (Ended (look.Deadlk k)) x = x.0.0
-came_orderly board n stands again waits m m' (Ended (look.Interrupted by)) x = x.0.0
-came_orderly board n stands again waits m m' (Ended look.Waits) x = x.0.0.orderly
-
--- what a look came to is the same, whoever sees it
-pub came_to : (board : Board) (n : ℕ) (q q' : Seat16) (l : Look) → IsLook (size_of board) n q.seat.me l q'.seat.me
-    → CameTo (standing_of q) n l (standing_of q')
-came_to board n q q' (look.Locked y) x = (x.1, x.2)
-came_to board n q q' (look.Deadlk k) x = (x.1, x.2)
-came_to board n q q' (look.Interrupted by) x = (x.1, x.2)
-came_to board n q q' look.Waits x = (x.0.want, x.0.outside, x.1, x.2)
+came_orderly board n stands again waits m m' (Ended l) x = x.0.0
 
 is_attempt : (board : Board) (n : ℕ) (arrival : Arrival) (waits : Waits) (q q' : Seat16) (a : Attempt)
     → CameInside board n (has_joined arrival) (looks_again arrival) waits q.seat.me a q'.seat.me
     → IsAttempt board.table.shared.key.places (standing_of q) n waits arrival a (standing_of q')
 is_attempt board n arrival waits q q' Lost x = (x.0.working, x.0.holds, x.1)
-is_attempt board n arrival waits q q' (Ended l) x = (came_to board n q q' l x.0, x.1, x.2, x.3)
+is_attempt board n arrival waits q q' (Ended l) x = (x.0.1, x.1, x.2, x.3)
 
 -- the answer of an attempt
 pub attempted : {board : Board} {n : ℕ} {stands again : Bool} {waits : Waits} {wake wake' : List ℕ} {a : Attempt} (q q' : Seat16)

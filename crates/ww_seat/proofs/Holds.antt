@@ -7,8 +7,7 @@ use Rattle.ww_seat.specs.declared.look.Look.{Look}
 use Rattle.ww_seat.specs.declared.look.Look.TheVariants.{Locked, Deadlk, Interrupted, Waits}
 use Rattle.ww_seat.specs.Accounts.{Account, having_taken, having_died, having_stopped}
 use Rattle.ww_seat.specs.Calls.{HoldsAsBefore, HasTaken, HasToDie, HasStopped}
-use Rattle.ww_seat.specs.Looks.{IsLook}
-use Rattle.ww_seat.specs.Standings.{Standing, CameTo}
+use Rattle.ww_seat.specs.Looks.{CameTo}
 
 pub holds_same : (m : Sat) → HoldsAsBefore m m
 holds_same m = refl
@@ -37,22 +36,16 @@ die_then a b c n k h d = record {
 pub stopped_then : (a b c : Sat) (n by : ℕ) → HoldsAsBefore a b → HasStopped b n by c → HasStopped a n by c
 stopped_then a b c n by h s = record { now = s.now ∙ ap (λ (y : Account). having_stopped y n by) h; unmet = s.unmet }
 
-pub look_then : (size n : ℕ) (a b c : Sat) (look : Look) → HoldsAsBefore a b → IsLook size n b look c → IsLook size n a look c
-look_then size n a b c (Locked x) h l = (l.0, l.1, taken_then a b c n x h l.2)
-look_then size n a b c (Deadlk k) h l = (l.0, l.1, die_then a b c n k h l.2)
-look_then size n a b c (Interrupted by) h l = (l.0, l.1, stopped_then a b c n by h l.2)
-look_then size n a b c Waits h l = (l.0, l.1, holds_then a b c h l.2)
-
-pub came_then : (s u s' : Standing) (n : ℕ) (look : Look) → HoldsAsBefore s.me u.me → CameTo u n look s' → CameTo s n look s'
-came_then s u s' n (Locked x) h l = (l.0, taken_then s.me u.me s'.me n x h l.1)
-came_then s u s' n (Deadlk k) h l = (l.0, die_then s.me u.me s'.me n k h l.1)
-came_then s u s' n (Interrupted by) h l = (l.0, stopped_then s.me u.me s'.me n by h l.1)
-came_then s u s' n Waits h l = (l.0, l.1, l.2, holds_then s.me u.me s'.me h l.3)
+pub came_then : (n : ℕ) (a b c : Sat) (look : Look) → HoldsAsBefore a b → CameTo n b look c → CameTo n a look c
+came_then n a b c (Locked x) h l = (l.0, taken_then a b c n x h l.1)
+came_then n a b c (Deadlk k) h l = (l.0, die_then a b c n k h l.1)
+came_then n a b c (Interrupted by) h l = (l.0, stopped_then a b c n by h l.1)
+came_then n a b c Waits h l = (l.0, l.1, l.2, holds_then a b c h l.3)
 
 -- it set no cancel
-pub came_cancels : (s s' : Standing) (n : ℕ) (look : Look) → CameTo s n look s'
-    → s'.me.0.part.counts.cancelled ≡ s.me.0.part.counts.cancelled
-came_cancels s s' n (Locked x) l = ap (λ (a : Account). a.counts.cancelled) l.1.now
-came_cancels s s' n (Deadlk k) l = ap (λ (a : Account). a.counts.cancelled) l.1.now
-came_cancels s s' n (Interrupted by) l = ap (λ (a : Account). a.counts.cancelled) l.1.now
-came_cancels s s' n Waits l = ap (λ (a : Account). a.counts.cancelled) l.3
+pub came_cancels : (n : ℕ) (m m' : Sat) (look : Look) → CameTo n m look m'
+    → m'.0.part.counts.cancelled ≡ m.0.part.counts.cancelled
+came_cancels n m m' (Locked x) l = ap (λ (a : Account). a.counts.cancelled) l.1.now
+came_cancels n m m' (Deadlk k) l = ap (λ (a : Account). a.counts.cancelled) l.1.now
+came_cancels n m m' (Interrupted by) l = ap (λ (a : Account). a.counts.cancelled) l.1.now
+came_cancels n m m' Waits l = ap (λ (a : Account). a.counts.cancelled) l.3

@@ -28,9 +28,9 @@ use Rattle.ww_rule.specs.Waiting.{HasListOnTop, joining, asking, dying}
 use Rattle.ww_seat.specs.Orderly.{IsOrderly}
 use Rattle.ww_seat.specs.Accounts.{account_of}
 use Rattle.ww_seat.specs.Calls.{HoldsAsBefore, HasToDie}
-use Rattle.ww_seat.specs.Looks.{MayWant, IsOutside, IsLook}
+use Rattle.ww_seat.specs.Looks.{MayWant, IsLook}
 use Rattle.ww_seat.specs.Work.{signing, told, IsTouched, IsTold, IsPlaced, IsWorking, IsAtWork, SeesOther, HasStood, HasAsked, HasSigned, MayGo, MayStay}
-use Rattle.ww_seat.specs.declared.look.Look.TheVariants.{Deadlk}
+use Rattle.ww_seat.specs.declared.look.Look.TheVariants.{Deadlk, Waits}
 use Rattle.ww_seat.proofs.Guards.{listed_orderly}
 use Rattle.ww_seat.proofs.Outside.{orderly_knowing}
 use Rattle.ww_seat.proofs.Working.{none_condemned, work_then}
@@ -193,7 +193,7 @@ look_died size n l m m1 m2 o k w may older is out ord =
             (shown_outside m.0.part.core.kind m.0.part.core.sign m.0.part.core.list m.0.part.core.who o k
             (die_shows m.0.part.core n o k may));
       };
-    } in (ord, (ap (λ (z : Sight). z.part.core.inside) view, ap (λ (z : Sight). z.part.core.waits) view), met)
+    } in (ord, ((ap (λ (z : Sight). z.part.core.inside) view, ap (λ (z : Sight). z.part.core.waits) view), met))
 
 -- ---- it stays
 
@@ -203,17 +203,16 @@ wants_outside WoundWait v is wants = ⊎_elim (λ z. inl z)
 wants_outside WaitDie v is wants = inr (inr (inr is))
 
 pub stays_outside : (size n : ℕ) (l : Bool) (m m' : Sat) → IsWorking n true l m.0.part.core → m'.0 ≡ exiting m.0
-    → IsOrderly size m' → IsOutside size n m' × (m'.0.part.core.waits ≡ suc n) × HoldsAsBefore m m'
+    → IsOrderly size m' → IsLook size n m Waits m'
 stays_outside size n l m m' w out ord = let v : View = m.0.part.core in (
-  record {
-    orderly = ord;
-    want = subst (λ (z : Sight). MayWant n z.part.core) (sym out)
-        (record { lacks = w.want.lacks; base = w.want.base; signs = wants_outside v.kind v refl w.want.signs });
-    outside = ap (λ (z : Sight). z.part.core.inside) out;
-    place = inr (ap (λ (z : Sight). z.part.core.waits) out ∙ w.place.0);
-  },
-  ap (λ (z : Sight). z.part.core.waits) out ∙ w.place.0,
-  subst (λ (z : Sight). HoldsAsBefore m (z, m'.1)) (sym out) refl,
+  ord,
+  (
+    subst (λ (z : Sight). MayWant n z.part.core) (sym out)
+        (record { lacks = w.want.lacks; base = w.want.base; signs = wants_outside v.kind v refl w.want.signs }),
+    ap (λ (z : Sight). z.part.core.inside) out,
+    ap (λ (z : Sight). z.part.core.waits) out ∙ w.place.0,
+    subst (λ (z : Sight). HoldsAsBefore m (z, m'.1)) (sym out) refl,
+  ),
 )
 
 -- who found nothing to ask for, signed all that it owes and doesn't have to die may go: m1 once it asked, m2 once it signed

@@ -239,7 +239,7 @@ look_taken size n m m2 m3 m4 m5 x r owed o t h out o5 still node blank =
       node = fits.1;
       unmet = refl;
     }) in (
-      (o5, (ap (λ (z : Sight). z.part.core.inside) view, ap (λ (z : Sight). z.part.core.waits) view), took),
+      (o5, ((ap (λ (z : Sight). z.part.core.inside) view, ap (λ (z : Sight). z.part.core.waits) view), took)),
       ap
           (λ (z : Sight). z.part.core.attempts) view,
     )

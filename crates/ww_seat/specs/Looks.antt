@@ -36,11 +36,15 @@ pub record HasGlanced (m m' : Sat) : Type 0 where
   pub now : m' ≡ having_glanced m times
 
 -- what a look came to, once the seat is outside again
+abbrev pub CameTo : ℕ → Sat → Look → Sat → Type 0
+CameTo n m (look.Locked x) m' = IsAway m'.0.part.core × HasTaken m n x m'
+CameTo n m (look.Deadlk k) m' = IsAway m'.0.part.core × HasToDie m n k m'
+CameTo n m (look.Interrupted by) m' = IsAway m'.0.part.core × HasStopped m n by m'
+CameTo n m look.Waits m' = MayWant n m'.0.part.core × (m'.0.part.core.inside ≡ 0) × (m'.0.part.core.waits ≡ suc n)
+    × HoldsAsBefore m m'
+
 abbrev pub IsLook : ℕ → ℕ → Sat → Look → Sat → Type 0
-IsLook size n m (look.Locked x) m' = IsOrderly size m' × IsAway m'.0.part.core × HasTaken m n x m'
-IsLook size n m (look.Deadlk k) m' = IsOrderly size m' × IsAway m'.0.part.core × HasToDie m n k m'
-IsLook size n m (look.Interrupted by) m' = IsOrderly size m' × IsAway m'.0.part.core × HasStopped m n by m'
-IsLook size n m look.Waits m' = IsOutside size n m' × (m'.0.part.core.waits ≡ suc n) × HoldsAsBefore m m'
+IsLook size n m l m' = IsOrderly size m' × CameTo n m l m'
 
 -- it left no guard as a waiter
 pub record StaysAwake (v v' : View) : Type 0 where

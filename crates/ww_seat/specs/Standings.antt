@@ -30,16 +30,15 @@ use Rattle.ww_seat.specs.declared.look.Arrival.{Arrival}
 use Rattle.ww_seat.specs.declared.look.Attempt.{Attempt}
 use Rattle.ww_seat.specs.declared.look.Attempt.TheVariants.{Lost, Ended}
 use Rattle.ww_seat.specs.declared.look.Look.{Look}
-use Rattle.ww_seat.specs.declared.look.Look.TheVariants as look
 use Rattle.ww_seat.specs.declared.patience.Patience.{Patience}
 use Rattle.ww_seat.specs.declared.waiting.Stop.{Stop}
 use Rattle.ww_seat.specs.declared.waits.Waits.{Waits}
 use Rattle.ww_seat.specs.declared.waits.Waits.TheVariants.{UntilCancelled}
 use Rattle.ww_seat.specs.Bells.{sleeps_at, AreBellsOf, ArePaid, ArePlacedAlike, HasRungHeir, HaveRung, IsRung, OnlyRing, heard}
-use Rattle.ww_seat.specs.Calls.{HoldsAsBefore, HasTaken, HasTakenAtOnce, HasMissed, HasTriedOnce, HasStayedOut, HasGiven, HasLetOnce, HasToDie, HasStopped, IsTurnedAway, MayStop, HasBegun, HasEnded, HoldsAll, HasCommitted}
+use Rattle.ww_seat.specs.Calls.{HoldsAsBefore, HasTaken, HasTakenAtOnce, HasMissed, HasTriedOnce, HasStayedOut, HasGiven, HasLetOnce, IsTurnedAway, MayStop, HasBegun, HasEnded, HoldsAll, HasCommitted}
 use Rattle.ww_seat.specs.Commits.{changes_of}
 use Rattle.ww_seat.specs.declared.resting.Stay.{Stay}
-use Rattle.ww_seat.specs.Looks.{HasGlanced, MayWant, IsNap, StaysAwake, MayLookSo, MayWaitSo}
+use Rattle.ww_seat.specs.Looks.{CameTo, HasGlanced, MayWant, IsNap, StaysAwake, MayLookSo, MayWaitSo}
 use Rattle.ww_seat.specs.Orderly.{IsOrderly}
 use Rattle.ww_seat.specs.Work.{AreWoken, AreOnlyWoken, AreMarked, HasToWake, HasBooked, StillHasToWake, has_joined, looks_again, IsWorking}
 
@@ -333,16 +332,9 @@ pub record IsAtWorkThere (board : Board) (n : ℕ) (arrival : Arrival) (holds : 
   pub woken : AreWoken (view_in s) wake
   pub marks : board.table.shared.key.places ≤ 64 * length wake
 
--- outside again a look came to this
-abbrev pub CameTo : Standing → ℕ → Look → Standing → Type 0
-CameTo s n (look.Locked x) s' = IsAway (view_in s') × HasTaken s.me n x s'.me
-CameTo s n (look.Deadlk k) s' = IsAway (view_in s') × HasToDie s.me n k s'.me
-CameTo s n (look.Interrupted by) s' = IsAway (view_in s') × HasStopped s.me n by s'.me
-CameTo s n look.Waits s' = MayWant n (view_in s') × ((view_in s').inside ≡ 0) × ((view_in s').waits ≡ suc n) × HoldsAsBefore s.me s'.me
-
 -- the look is at its end; or another owner word was found than was seen, and the seat is still at work
 abbrev pub IsAttempt : ℕ → Standing → ℕ → Waits → Arrival → Attempt → Standing → Type 0
-IsAttempt seats s n waits arrival (Ended l) s' = CameTo s n l s' × MayLookSo seats waits l × MayWaitSo waits (view_in s') l
+IsAttempt seats s n waits arrival (Ended l) s' = CameTo n s.me l s'.me × MayLookSo seats waits l × MayWaitSo waits (view_in s') l
     × IsNap (view_in s) l (view_in s')
 IsAttempt seats s n waits arrival Lost s' = IsWorking n (has_joined arrival) (looks_again arrival) (view_in s')
     × HoldsAsBefore s.me s'.me × StaysAwake (view_in s) (view_in s')
@@ -362,7 +354,7 @@ pub record HasAttempted (seats : ℕ) (s : Standing) (n : ℕ) (waits : Waits) (
 pub record HasLooked (seats : ℕ) (s : Standing) (n : ℕ) (waits : Waits) (wake : List ℕ) (l : Look) (s' : Standing)
     (wake' : List ℕ) : Type 0 where
   pub same : IsSame s s'
-  pub came : CameTo s n l s'
+  pub came : CameTo n s.me l s'.me
   pub may : MayLookSo seats waits l
   pub uncancelled : MayWaitSo waits (view_in s') l
   pub nap : IsNap (view_in s) l (view_in s')
@@ -375,7 +367,7 @@ pub record HasLooked (seats : ℕ) (s : Standing) (n : ℕ) (waits : Waits) (wak
 pub record IsVisit (seats : ℕ) (s : Standing) (n : ℕ) (waits : Waits) (bells : List Bell) (l : Look) (s' : Standing)
     (bells' : List Bell) : Type 0 where
   pub same : IsSame s s'
-  pub came : CameTo s n l s'
+  pub came : CameTo n s.me l s'.me
   pub may : MayLookSo seats waits l
   pub uncancelled : MayWaitSo waits (view_in s') l
   pub nap : IsNap (view_in s) l (view_in s')

@@ -19,7 +19,7 @@ pub returns : goal.returns
 returns g c = let s = c.args.self.now in let u = c.spin_into_wanted.new.self in let s' = c.look_at-look.new.self in
     let i = c.spin_into_wanted.ensures in let e = c.look_at-look.ensures in let d = c.deliver.ensures in record {
       same = same_then s u s' i.gone.same e.same;
-      came = came_then s u s' c.args.lock c.look_at-look.result i.gone.holds e.came;
+      came = came_then c.args.lock s.me u.me s'.me c.look_at-look.result i.gone.holds e.came;
       may = e.may;
       uncancelled = e.uncancelled;
       nap = nap_then (view_in s) (view_in u) (view_in s') c.look_at-look.result i.gone.awake e.nap;
@@ -28,6 +28,6 @@ returns g c = let s = c.args.self.now in let u = c.spin_into_wanted.new.self in 
       others = only_ring _ _ _ _ e.only d.rung d.placed;
       placed = d.placed;
       paid = λ paid. paid_look s.me s'.me c.look_at-look.new.wake c.args.bells.now c.deliver.new.bells
-          (came_cancels u s' c.args.lock c.look_at-look.result e.came ∙ ap (λ (a : Account). a.counts.cancelled) i.gone.holds)
+          (came_cancels c.args.lock u.me s'.me c.look_at-look.result e.came ∙ ap (λ (a : Account). a.counts.cancelled) i.gone.holds)
           (booked s u s' c.args.lock i e.booked) e.woken e.only d.rung d.placed.count paid;
     }
