@@ -22,7 +22,7 @@ use Rattle.ww_desk.specs.declared.turn.Answer.{Answer}
 use Rattle.ww_desk.specs.declared.turn.Turn.{Turn}
 use Rattle.ww_desk.specs.declared.turn.Turn.TheVariants.{Wants, Looks}
 use Rattle.ww_desk.specs.declared.station.Station.{Station}
-use Rattle.ww_desk.specs.Stations.{table_of, situation_of, IsAt, Keeps}
+use Rattle.ww_desk.specs.Stations.{table_of, situation_of, IsWhere, Keeps}
 use Rattle.ww_desk.proofs.Keeping.{kept}
 use Rattle.ww_desk.specs.declared.turn.Answer.TheVariants.{Done, Again, Awaits, Stays, Sleeps, Deadlk, Interrupted}
 use Rattle.ww_desk.specs.Situations.{Situation}
@@ -253,9 +253,8 @@ step_books s s' step first b = balances_then first s s' b step
 
 -- where the seat is, by where its call stands
 pub at_turn : (h : Station) (turn : Turn) → Keeps h → h.turn ≡ turn
-    → IsAt (table_of (arc_value h.board)) (size_of (arc_value h.board)) (locks_of (arc_value h.board)) h.wake.items turn h.seat
-at_turn h turn keeps is = subst (λ (t : Turn). IsAt (table_of (arc_value h.board)) (size_of (arc_value h.board))
-    (locks_of (arc_value h.board)) h.wake.items t h.seat) is keeps.at
+    → IsWhere (arc_value h.board) h.wake.items turn h.seat
+at_turn h turn keeps is = subst (λ (t : Turn). IsWhere (arc_value h.board) h.wake.items t h.seat) is keeps.at
 
 -- it went inside just now
 pub record HasEntered (h : Station) (b : Board) (n : ℕ) (q : Seat16) : Type 0 where

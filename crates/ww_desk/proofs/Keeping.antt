@@ -1,5 +1,5 @@
 -- What a desk keeps, as the calls of its seat change that.
-use Rattle.std.proofs.Common.{◌≡◌, ℕ, ◌+◌, ◌-◌, ◌<◌, ◌≤◌, ◌≢◌, ◌==◌, ◌&&◌, Bool, not, true, false, true≢false, List, [], ◌∷◌, ◌++◌, length, set, get_or, refl, sym, ap, subst, ◌∙◌, arith, eqb, inl, inr, ⊎_elim, is_none, if◌then◌else◌, get_or-set_other, length-set, length-append, Some, None, slice_get, Option, append_assoc, ◌⊎◌}
+use Rattle.std.proofs.Common.{rules, ◌≡◌, ℕ, ◌+◌, ◌-◌, ◌<◌, ◌≤◌, ◌≢◌, ◌==◌, ◌&&◌, Bool, not, true, false, true≢false, List, [], ◌∷◌, ◌++◌, length, set, get_or, refl, sym, ap, subst, ◌∙◌, arith, eqb, inl, inr, ⊎_elim, is_none, if◌then◌else◌, get_or-set_other, length-set, length-append, Some, None, slice_get, Option, append_assoc, ◌⊎◌}
 use Rattle.std.specs.Prelude.{unwrap_or, IfSome}
 use Rattle.std.specs.Arc.{arc_value}
 use Rattle.ww_queue.specs.declared.entry.Entry.{Entry}
@@ -16,7 +16,7 @@ use Rattle.ww_table.specs.declared.seat.Seat16.{Seat16}
 use Rattle.ww_table.specs.Seat.{IsSeatOf, giving_of, locks_of, size_of, tells_own, view_of}
 use Rattle.ww_seat.specs.Orderly.{IsSettled, IsSettledAt}
 use Rattle.ww_seat.specs.Accounts.{Account, account_of, having_tried}
-use Rattle.ww_seat.specs.Calls.{HasAdded, HasGiven, HasTaken, HasLetOnce, HasTriedOnce}
+use Rattle.ww_seat.specs.Calls.{HasAdded, HasGiven, HasTaken, HasLetOnce, HasStayedOut, HasTriedOnce}
 use Rattle.ww_table.specs.declared.seat.Taking.{Taking}
 use Rattle.ww_table.specs.declared.seat.Taking.TheVariants.{Took, Had, Missed}
 use Rattle.ww_table.specs.declared.seat.Giving.TheVariants.{Gave, Kept, Lacked}
@@ -33,16 +33,16 @@ use Rattle.ww_seat.specs.declared.look.Arrival.TheVariants.{Came}
 use Rattle.ww_desk.specs.declared.turn.Turn.{Turn}
 use Rattle.ww_desk.specs.declared.turn.Turn.TheVariants.{Rests, Stays, Wants, Gives}
 use Rattle.ww_desk.specs.declared.station.Station.{Station}
-use Rattle.ww_desk.specs.Situations.{Situation, is_at_rest, IsPlain}
-use Rattle.ww_desk.specs.Answers.{HasGivenBack, HasReleased, HasSomeHeld, StaysOut}
+use Rattle.ww_desk.specs.Situations.{Situation, is_at_rest, wants_now, IsPlain}
+use Rattle.ww_desk.specs.Answers.{HasGivenBack, HasJustLost, HasTriedAsIs, HasReleased, HasSomeHeld, StaysOut}
 use Rattle.ww_seat.proofs.Naps.{out_then}
 use Rattle.ww_view.specs.Made.{without}
-use Rattle.ww_desk.specs.Stations.{table_of, situation_of, wants_now, IsAt, Keeps, MayStay}
+use Rattle.ww_desk.specs.Stations.{table_of, situation_of, IsWhere, Keeps}
 use Rattle.ww_seat.proofs.Outside.{orderly_knowing, owned_low}
 use Rattle.std.specs.Global.{Vec}
 use Rattle.ww_seat.proofs.Among.{owns_more}
 use Rattle.ww_seat.proofs.Without.{owns_less, different_without}
-use Rattle.ww_desk.proofs.Locks.{few_held, one_less, rest_of, some_held, wanting}
+use Rattle.ww_desk.proofs.Locks.{few_held, one_less, rest_of, some_held, wanting_plainly, IsWanting}
 
 -- the same desk, with a seat of the same table that has this account
 pub record IsOf (h g : Station) (a : Account) : Type 0 where
@@ -87,12 +87,10 @@ seen_ended h q told wakes a now = let g : Station = record h { seat = q; told = 
     ap (λ (s : Situation). let t : Situation = record s { wakes = wakes } in t)
     (seen_as h g a (record { board = refl; locks = refl; seats = refl; left = refl; marks = refl; now = now }))
 
-abbrev IsWhere : Station → Type 0
-IsWhere g = IsAt (table_of (arc_value g.board)) (size_of (arc_value g.board)) (locks_of (arc_value g.board)) g.wake.items g.turn g.seat
-
 -- it holds what it held
 pub kept : (h g : Station) → Keeps h → IsOf h g (account_of h.seat.seat.me) → g.count ≡ h.count
-    → g.seat.seat.me.0.part.core.stamp ≡ g.seat.stamp → IsWhere g → Keeps g
+    → g.seat.seat.me.0.part.core.stamp ≡ g.seat.stamp → IsWhere (arc_value g.board) g.wake.items g.turn g.seat
+    → Keeps g
 kept h g k is count stamp at = record {
   at = at;
   stamp = stamp;
@@ -119,7 +117,8 @@ record HoldsNow (h : Station) (a : Account) (many : ℕ) : Type 0 where
   pub counts : a.counts ≡ h.seat.seat.me.0.part.counts
 
 kept_but : (h g : Station) (a : Account) → Keeps h → IsOf h g a → HoldsNow h a g.count
-    → g.seat.seat.me.0.part.core.stamp ≡ g.seat.stamp → IsWhere g → Keeps g
+    → g.seat.seat.me.0.part.core.stamp ≡ g.seat.stamp → IsWhere (arc_value g.board) g.wake.items g.turn g.seat
+    → Keeps g
 kept_but h g a k is now stamp at = record {
   at = at;
   stamp = stamp;
@@ -195,68 +194,47 @@ gave h g b n q w k long e has settled t is =
 
 -- ---- one try at a lock
 
--- what became of it, by what its try came to
-abbrev pub after_try : Station → Seat16 → Taking → Station
-after_try h q Took = record h { seat = q; count = h.count + 1; told = None }
-after_try h q Had = record h { seat = q }
-after_try h q Missed = record h { seat = q }
-
-still_where : (h : Station) (b : Board) (q : Seat16) → Keeps h → h.turn ≡ Rests → b ≡ arc_value h.board → IsSettledAt b q
-    → IsAt (table_of (arc_value h.board)) (size_of (arc_value h.board)) (locks_of (arc_value h.board)) h.wake.items h.turn q
-still_where h b q k rests e settled =
-    subst (λ (t : Turn). IsAt (table_of (arc_value h.board)) (size_of (arc_value h.board)) (locks_of (arc_value h.board)) h.wake.items t q)
-    (sym rests) (settled_here (arc_value h.board) b q e settled)
-
-pub tried_keeps : (h : Station) (b : Board) (q : Seat16) (n : ℕ) (t : Taking) → Keeps h → wants_now h ≡ true
-    → b ≡ arc_value h.board → n < h.locks → IsSettledAt b q → HasTriedOnce h.seat.seat.me n t q.seat.me
-    → Keeps (after_try h q t)
-tried_keeps h b q n Took k wants e there settled t =
-    let w = wanting h k wants in
-    took h (after_try h q Took) b _ n no_node q h.wake k refl e there (sym (k.owned n) ∙ t.0) settled t.1
-    (λ i. record h { seat = q; count = h.count + 1; told = None; turn = w.rests i })
-tried_keeps h b q n Had k wants e there settled t =
-    let w = wanting h k wants in
-    kept h (after_try h q Had) k
-    (record { board = refl; locks = refl; seats = refl; left = refl; marks = refl; now = ap account_of t.1 }) refl settled.seated.stamp
-    (still_where h b q k w.rests e settled)
-tried_keeps h b q n Missed k wants e there settled t =
-    let w = wanting h k wants in
-    kept_but h (after_try h q Missed) (having_tried (account_of h.seat.seat.me)) k
-    (record { board = refl; locks = refl; seats = refl; left = refl; marks = refl; now = t.tried })
-    (record { owned = k.owned; room = refl; differ = k.differ; count = k.count; counts = refl })
-    settled.seated.stamp
-    (still_where h b q k w.rests e settled)
-
--- the same, where nothing was told before
-pub took_plainly : (h : Station) (b : Board) (q : Seat16) (n : ℕ) → Keeps h → IsPlain (situation_of h)
-    → b ≡ arc_value h.board → n < h.locks → IsSettledAt b q → HasTriedOnce h.seat.seat.me n Took q.seat.me
-    → Keeps (record h { seat = q; count = h.count + 1 })
-took_plainly h b q n k plain e there settled t =
-    let rests = rest_of h.turn plain.rests in let untold = plain.untold in
-    took h (record h { seat = q; count = h.count + 1 }) b _ n no_node q h.wake k refl e there (sym (k.owned n) ∙ t.0) settled t.1
-    (λ i. record h { seat = q; count = h.count + 1; told = untold i; turn = rests i })
+pub tried_keeps : (h g : Station) (b : Board) (q : Seat16) (n : ℕ) → Keeps h → IsWanting h → b ≡ arc_value h.board → n < h.locks
+    → IsSettledAt b q → HasTriedOnce h.seat.seat.me n Took q.seat.me
+    → g ≡ record h { seat = q; count = h.count + 1; told = None } → Keeps g
+tried_keeps h g b q n k w e there settled t is =
+    took h g b _ n no_node q h.wake k refl e there (sym (k.owned n) ∙ t.0) settled t.1
+    (is ∙ (λ i. record h { seat = q; count = h.count + 1; told = None; turn = w.rests i }))
 
 -- it may stay away from a lock that it has just missed
-pub missed_stays : (h : Station) (b : Board) (q : Seat16) (n : ℕ) → Keeps h → wants_now h ≡ true → b ≡ arc_value h.board
-    → IsSettledAt b q → HasTriedOnce h.seat.seat.me n Missed q.seat.me → MayStay n (record h { seat = q })
-missed_stays h b q n k wants e settled t =
-    let w = wanting h k wants in
+missed_stays : (h : Station) (q : Seat16) (n : ℕ) → Keeps h → IsWanting h → n < h.locks
+    → HasTriedOnce h.seat.seat.me n Missed q.seat.me → HasJustLost n (situation_of (record h { seat = q }))
+missed_stays h q n k w there t =
     let v : View = h.seat.seat.me.0.part.core in let v' : View = q.seat.me.0.part.core in
-    let here = settled_here (arc_value h.board) b q e settled in
-    let owned : (m : ℕ) → owns v' m ≡ owns v m = λ m. ap (λ (a : Account). get_or a.owned m false) t.tried in (
-      record {
-        orderly = here.orderly;
-        want = record {
-          lacks = owned n ∙ t.lacks;
-          base = ⊎_elim (λ context. inl (omega (arith, context, ap (λ (a : Account). a.stamp) t.tried)))
-              (λ bare. inr (λ m. owned m ∙ bare m)) w.base;
-          signs = t.signs;
-        };
-        outside = here.away.0;
-        place = inl here.away.1;
-      },
-      t.glances,
-    )
+    let owned : (m : ℕ) → owns v' m ≡ owns v m = λ m. ap (λ (a : Account). get_or a.owned m false) t.tried in record {
+      rests = ap is_at_rest w.rests;
+      there = there;
+      want = record {
+        lacks = owned n ∙ t.lacks;
+        base = ⊎_elim (λ context. inl (omega (arith, context, ap (λ (a : Account). a.stamp) t.tried)))
+            (λ bare. inr (λ m. owned m ∙ bare m)) w.base;
+        signs = t.signs;
+      };
+      unseen = t.glances;
+    }
+
+-- what is seen of a try in vain, of a lock that it has or hasn't
+pub tried_in_vain : (h : Station) (q : Seat16) (n : ℕ) (own : Bool) → Keeps h → IsPlain (situation_of h) → n < h.locks
+    → HasTriedOnce h.seat.seat.me n (if own then Had else Missed) q.seat.me → HasStayedOut (view_of h.seat) (view_of q)
+    → HasTriedAsIs (situation_of h) n (if own then Had else Missed) (situation_of (record h { seat = q }))
+tried_in_vain h q n true k plain there t out = (
+  record { rests = plain.rests; holds = sym (k.owned n) ∙ t.0 },
+  search rules,
+)
+tried_in_vain h q n false k plain there t out = (
+  record { rests = plain.rests; lacks = sym (k.owned n) ∙ t.lacks; there = there; wants = plain.wants },
+  (
+    out,
+    seen_as h (record h { seat = q }) (having_tried (account_of h.seat.seat.me))
+        (record { board = refl; locks = refl; seats = refl; left = refl; marks = refl; now = t.tried }),
+  ),
+  missed_stays h q n k (wanting_plainly h k plain) there t,
+)
 
 -- ---- one try to release a lock
 
@@ -267,36 +245,6 @@ gave_keeps h g b q n k rests e settled t is =
     let still = rest_of h.turn rests in
     gave h g b n q h.wake k refl e (sym (k.owned n) ∙ t.0) settled t.1
     (is ∙ (λ i. record h { seat = q; count = h.count - 1; turn = still i }))
-
--- a try in vain leaves what the seat has
-pub vain_same : (m m' : Sat) (n : ℕ) (f : Found) → HasLetOnce m n (giving_of (InVain f)) m' → account_of m' ≡ account_of m
-vain_same m m' n f t = elim (true_or_false (tells_own f)) [
-  | inl own ↦ (subst (λ (b : Bool). HasLetOnce m n (if b then Kept else Lacked) m') own t).1
-  | inr other ↦ ap account_of (subst (λ (b : Bool). HasLetOnce m n (if b then Kept else Lacked) m') other t).1
-]
-
-pub vain_keeps : (h : Station) (b : Board) (q : Seat16) → Keeps h → is_at_rest h.turn ≡ true → b ≡ arc_value h.board
-    → IsSettledAt b q → account_of q.seat.me ≡ account_of h.seat.seat.me → Keeps (record h { seat = q })
-vain_keeps h b q k rests e settled same =
-    kept h (record h { seat = q }) k
-    (record { board = refl; locks = refl; seats = refl; left = refl; marks = refl; now = same }) refl
-    settled.seated.stamp
-    (still_where h b q k (rest_of h.turn rests) e settled)
-
-pub vain_seen : (h : Station) (q : Seat16) → account_of q.seat.me ≡ account_of h.seat.seat.me
-    → situation_of (record h { seat = q }) ≡ record (situation_of h) { view = q.seat.me.0.part.core }
-vain_seen h q same = seen_as h (record h { seat = q }) (account_of h.seat.seat.me)
-    (record { board = refl; locks = refl; seats = refl; left = refl; marks = refl; now = same })
-
--- why a try to release was in vain
-pub vain_why : (h : Station) (q : Seat16) (n : ℕ) (f : Found) → Keeps h
-    → HasLetOnce h.seat.seat.me n (giving_of (InVain f)) q.seat.me
-    → (is_among n (view_of h.seat).locks ≡ false) ⊎ ((view_of q).kept ≡ (view_of h.seat).kept + 1)
-vain_why h q n f k t = elim (true_or_false (tells_own f)) [
-  | inl own ↦ inr (subst (λ (b : Bool). HasLetOnce h.seat.seat.me n (if b then Kept else Lacked) q.seat.me) own t).2
-  | inr other ↦ inl (sym (k.owned n)
-      ∙ (subst (λ (b : Bool). HasLetOnce h.seat.seat.me n (if b then Kept else Lacked) q.seat.me) other t).0)
-]
 
 -- ---- several releases
 
@@ -347,11 +295,9 @@ came_outside v none = let off = sym (ap (λ (w : ℕ). not (w == 0)) none) in (o
 
 -- where the seat is that stays away
 staying : (h : Station) (n : ℕ) (stay : Stay) (waits : Waits) → Keeps h → h.turn ≡ Stays n stay waits
-    → IsAt (table_of (arc_value h.board)) (size_of (arc_value h.board)) (locks_of (arc_value h.board)) h.wake.items
-    (Stays n stay waits) h.seat
+    → IsWhere (arc_value h.board) h.wake.items (Stays n stay waits) h.seat
 staying h n stay waits keeps turn =
-    subst (λ (t : Turn). IsAt (table_of (arc_value h.board)) (size_of (arc_value h.board))
-    (locks_of (arc_value h.board)) h.wake.items t h.seat) turn keeps.at
+    subst (λ (t : Turn). IsWhere (arc_value h.board) h.wake.items t h.seat) turn keeps.at
 
 -- it made a spin read, and stays away
 pub glanced_stays : (h : Station) (b : Board) (q : Seat16) (memory : Memory) (n : ℕ) (stay next : Stay)

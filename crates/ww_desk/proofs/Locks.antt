@@ -19,8 +19,8 @@ use Rattle.ww_seat.proofs.Without.{without_same, without_else}
 use Rattle.ww_desk.specs.declared.turn.Turn.{Turn}
 use Rattle.ww_desk.specs.declared.turn.Turn.TheVariants.{Rests, Stays, Wants, Looks, Gives}
 use Rattle.ww_desk.specs.declared.station.Station.{Station}
-use Rattle.ww_desk.specs.Situations.{is_at_rest, is_empty, can_want, IsPlain}
-use Rattle.ww_desk.specs.Stations.{table_of, situation_of, wants_now, wants_of, IsAt, Keeps}
+use Rattle.ww_desk.specs.Situations.{is_at_rest, is_empty, can_want, wants_now, IsPlain}
+use Rattle.ww_desk.specs.Stations.{table_of, situation_of, IsWhere, Keeps}
 
 pub none_of : (xs : List ℕ) → length xs ≤ 0 → xs ≡ []
 none_of [] none = refl
@@ -86,16 +86,9 @@ some_held (m ∷ ms) n e = omega arith
 
 -- ---- whether one may be wanted
 
-is_none_left : (held : List ℕ) → is_empty held ≡ eqb (length held) 0
+pub is_none_left : (held : List ℕ) → is_empty held ≡ eqb (length held) 0
 is_none_left [] = refl
 is_none_left (n ∷ ns) = sym (number_other (suc (length ns)) 0 (λ z. omega (arith, z)))
-
--- what a contract sees of that is what the desk keeps
-pub want_seen : (d : Station) → Keeps d → can_want (situation_of d) ≡ wants_of d
-want_seen d k =
-    let none : is_empty d.seat.seat.me.0.part.core.locks ≡ eqb d.count 0 =
-    is_none_left d.seat.seat.me.0.part.core.locks ∙ ap (λ (n : ℕ). eqb n 0) (sym k.count) in
-    (λ i. if d.is_done then false else (if none i then true else (if eqb (k.stamp i) 0 then false else is_none d.told)))
 
 record WantsWhy (done none zero : Bool) (told : Option ℕ) : Type 0 where
   pub undone : done ≡ false
@@ -116,10 +109,10 @@ pub record IsWanting (d : Station) : Type 0 where
   pub settled : IsSettled (table_of (arc_value d.board)) (size_of (arc_value d.board)) d.seat
   pub undone : d.is_done ≡ false
   pub base : WantsBase d.seat.seat.me.0.part.core
-  pub seen : can_want (situation_of d) ≡ true
 
-pub bare_counted : (d : Station) → Keeps d → d.count ≡ 0 → IsBare d.seat.seat.me.0.part.core
-bare_counted d k none n = k.owned n ∙ ap (is_among n) (none_of d.seat.seat.me.0.part.core.locks (omega (arith, none, k.count)))
+bare_empty : (d : Station) → Keeps d → is_empty d.seat.seat.me.0.part.core.locks ≡ true → IsBare d.seat.seat.me.0.part.core
+bare_empty d k none n = k.owned n ∙ ap (is_among n)
+    (none_of d.seat.seat.me.0.part.core.locks (let z = same_number _ 0 (sym (is_none_left d.seat.seat.me.0.part.core.locks) ∙ none) in omega (arith, z)))
 
 pub rest_of : (t : Turn) → is_at_rest t ≡ true → t ≡ Rests
 rest_of Rests e = refl
@@ -128,27 +121,26 @@ rest_of (Wants n arrival waits) e = absurd (true≢false (sym e))
 rest_of (Looks n arrival waits) e = absurd (true≢false (sym e))
 rest_of (Gives n) e = absurd (true≢false (sym e))
 
-pub wanting_at_rest : (d : Station) → Keeps d → is_at_rest d.turn ≡ true → wants_of d ≡ true → IsWanting d
+wanting_at_rest : (d : Station) → Keeps d → is_at_rest d.turn ≡ true → can_want (situation_of d) ≡ true → IsWanting d
 wanting_at_rest d k rests wants =
-    let w = wants_why d.is_done (eqb d.count 0) (eqb d.seat.stamp 0) d.told wants in
+    let v : View = d.seat.seat.me.0.part.core in
+    let w = wants_why d.is_done (is_empty v.locks) (eqb v.stamp 0) d.told wants in
     let still = rest_of d.turn rests in record {
       rests = still;
-      settled = subst (λ (t : Turn). IsAt (table_of (arc_value d.board)) (size_of (arc_value d.board))
-          (locks_of (arc_value d.board)) d.wake.items t d.seat) still k.at;
+      settled = subst (λ (t : Turn). IsWhere (arc_value d.board) d.wake.items t d.seat) still k.at;
       undone = w.undone;
-      base = ⊎_elim (λ none. inr (bare_counted d k (same_number d.count 0 none)))
-          (λ some. inl (let z = some_of d.seat.stamp (other_number d.seat.stamp 0 some.0) in omega (arith, z, k.stamp)))
+      base = ⊎_elim (λ none. inr (bare_empty d k none))
+          (λ some. inl (let z = some_of v.stamp (other_number v.stamp 0 some.0) in omega (arith, z)))
           w.why;
-      seen = want_seen d k ∙ wants;
     }
 
-pub wanting : (d : Station) → Keeps d → wants_now d ≡ true → IsWanting d
-wanting d k wants = let b = both_true (is_at_rest d.turn) (wants_of d) wants in wanting_at_rest d k b.0 b.1
+pub wanting : (d : Station) → Keeps d → wants_now (situation_of d) ≡ true → IsWanting d
+wanting d k wants = let b = both_true (is_at_rest d.turn) (can_want (situation_of d)) wants in wanting_at_rest d k b.0 b.1
 
 -- ---- one that may want a lock, as the caller knows
 
 pub wanting_plainly : (d : Station) → Keeps d → IsPlain (situation_of d) → IsWanting d
-wanting_plainly d k plain = wanting_at_rest d k plain.rests (sym (want_seen d k) ∙ plain.wants)
+wanting_plainly d k plain = wanting_at_rest d k plain.rests plain.wants
 
 pub signs_of : (v : View) (held : List ℕ) → ((n : ℕ) → owns v n ≡ is_among n held)
     → (held ≡ [] → (v.stamp ≡ 0) ⊎ (v.sign ≡ Some 0)) → WantsSigns v

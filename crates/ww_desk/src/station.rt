@@ -1,4 +1,4 @@
-ghost use Rattle.std.specs.Prelude.{◌≡◌, ◌<◌, ◌≤◌, ◌+◌, ◌&&◌, true, false, None};
+ghost use Rattle.std.specs.Prelude.{◌≡◌, ◌<◌, ◌≤◌, ◌+◌, true, false, None};
 
 use crate::turn::Turn;
 use std::alloc::Global;
@@ -33,7 +33,6 @@ pub(crate) struct Station {
 
 impl Station {
     ghost use Rattle.ww_desk.specs.Situations.{is_at_rest};
-    ghost use Rattle.ww_desk.specs.Stations.{wants_now, wants_of};
 
     /// Whether it is between two calls.
     #[inline(always)]
@@ -44,28 +43,6 @@ impl Station {
             Turn::Rests => true,
             _ => false,
         }
-    }
-
-    /// Whether it may want a lock once it is between two calls.
-    #[inline(always)]
-    fn can_want(&self) -> bool
-        ensures { result ≡ wants_of self.now }
-    {
-        if self.is_done {
-            return false;
-        }
-        if self.count == 0 {
-            return true;
-        }
-        self.seat.stamp() != 0 && self.told.is_none()
-    }
-
-    /// Whether it may want a lock now.
-    #[inline(always)]
-    pub(crate) fn wants(&self) -> bool
-        ensures { result ≡ wants_now self.now }
-    {
-        self.rests() && self.can_want()
     }
 
     /// Whether there is a lock of this number.
