@@ -74,10 +74,6 @@ IsAlike s t = (t.caller ≡ s.caller) × (t.cancelled ≡ s.cancelled) × (t.vie
 alike_balances : (s s' t : Situation) → s' ≡ t → IsAlike s t → Balances s s'
 alike_balances s s' t is alike = subst (Balances s) (sym is) (balances_same s t alike.0 alike.1 alike.2 alike.3)
 
-turned_balances : (s s' : Situation) (turn : Turn) → HasTurned s turn s' → Balances s s'
-turned_balances s s' turn h = balances_same s s' (ap (λ (x : Situation). x.caller) h.1) (ap (λ (x : Situation). x.cancelled) h.1)
-    h.0.debts (ap (λ (x : Situation). x.wakes) h.1)
-
 -- ---- one after the other
 
 pub balances_then : (s t u : Situation) → Balances s t → Balances t u → Balances s u
@@ -222,11 +218,6 @@ looked_balances s s' t is alike b marks = balances_look s s' (ap (λ (x : Situat
     (ap (λ (x : Situation). x.cancelled) is ∙ alike.1) b marks
 
 -- ---- by what a step came to
-
-pub stay_balances : (s s' : Situation) (n : ℕ) (stay : Stay) (waits : Waits) (a : Answer) → IsStayAnswer s n stay waits a s' → Balances s s'
-stay_balances s s' n stay waits (Stays rest) h = turned_balances s s' _ h.1.2
-stay_balances s s' n stay waits Again h = turned_balances s s' _ h.1
-stay_balances s s' n stay waits _ h = absurd h
 
 pub wait_balances : (s s' : Situation) (n : ℕ) (waits : Waits) (a : Answer) → IsWaitAnswer s n waits a s' → IsBooking s s'
     → Balances s s'

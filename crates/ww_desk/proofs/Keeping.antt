@@ -266,19 +266,6 @@ released_on s t u (n ∷ ns) r out is = (
   ),
 )
 
-pub split_more : (front rest others : List ℕ) (n : ℕ) (all : List ℕ) → all ≡ front ++ rest → front ≡ others ++ n ∷ []
-    → all ≡ others ++ n ∷ rest
-split_more front rest others n all is step = is ∙ ap (λ (l : List ℕ). l ++ rest) step ∙ append_assoc others (n ∷ []) rest
-
-pub seen_alone : (s t u : Situation) → HasSomeHeld s t → u ≡ record t { view = u.view } → HasSomeHeld s u
-seen_alone s t u r is = is ∙ ap (λ (x : Situation). let y : Situation = record x { view = u.view } in y) r
-    ∙ ap (λ (held : List ℕ). let y : Situation = record s { held = held; view = u.view } in y) (sym (ap (λ (x : Situation). x.held) is))
-
-pub given_alone : (s t u : Situation) (n : ℕ) → HasSomeHeld s t → HasGivenBack t n u → HasSomeHeld s u
-given_alone s t u n r is =
-    is.1 ∙ ap (λ (x : Situation). let y : Situation = record x { held = without n t.held; view = u.view } in y) r
-    ∙ ap (λ (held : List ℕ). let y : Situation = record s { held = held; view = u.view } in y) (sym (ap (λ (x : Situation). x.held) is.1))
-
 -- ---- spin reads
 
 glanced_outside : (size n : ℕ) (m m' : Sat) → IsOutside size n m → m' ≡ (glancing m.0, m.1) → IsOutside size n m'

@@ -1,6 +1,6 @@
 //! The first step of releasing a lock, and a look whether one is held.
 use crate::desk::Desk;
-use crate::turn::{Answer, Turn};
+use crate::turn::Answer;
 use ww_seat::give_bare_at_once;
 use ww_table::Tried;
 
@@ -38,7 +38,7 @@ impl Desk {
                 if !found.is_own() {
                     return Answer::Invalid;
                 }
-                self.station.turn = Turn::Gives(lock);
+                self.station.goes_on_giving(lock);
                 Answer::Again
             }
         }

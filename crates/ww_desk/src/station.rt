@@ -32,6 +32,7 @@ pub(crate) struct Station {
 }
 
 impl Station {
+    ghost use Rattle.ww_desk.specs.declared.turn.Turn.TheVariants.{Gives};
     ghost use Rattle.ww_desk.specs.Situations.{is_at_rest};
 
     /// Whether it is between two calls.
@@ -62,5 +63,13 @@ impl Station {
     {
         self.count += 1;
         self.told = None;
+    }
+
+    /// Further turns release this lock.
+    #[inline(always)]
+    pub(crate) fn goes_on_giving(&mut self, lock: u32)
+        ensures { self.new ≡ record self.old { turn = Gives lock } }
+    {
+        self.turn = Turn::Gives(lock);
     }
 }

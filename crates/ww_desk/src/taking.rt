@@ -79,7 +79,15 @@ impl Desk {
 
     /// Takes a lock, or begins to wait for it. `Invalid` for a lock that isn't there, for a context that is done, for
     /// one that was told to back off and hasn't, and for a second lock without a context.
+    #[inline(always)]
     pub fn lock(&mut self, lock: u32, waits: Waits) -> Answer
+        ensures { IsLockAnswer self.old lock waits result self.new }
+    {
+        self.lock_here(lock, waits)
+    }
+
+    /// The same, in a frame of its own: so a caller of `lock` has room for the answer only where it needs it.
+    fn lock_here(&mut self, lock: u32, waits: Waits) -> Answer
         ensures { IsLockAnswer self.old lock waits result self.new }
     {
         if !self.wants() || !self.station.is_lock(lock) {
@@ -155,6 +163,6 @@ impl Desk {
         if self.station.rests() && (self.station.told != Some(lock) || self.station.count != 0) {
             return Answer::Invalid;
         }
-        self.lock(lock, waits)
+        self.lock_here(lock, waits)
     }
 }
