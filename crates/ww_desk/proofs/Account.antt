@@ -9,24 +9,23 @@ use Rattle.ww_seat.specs.Bells.{one_more, times}
 use Rattle.std.specs.Arc.{arc_value}
 use Rattle.ww_table.specs.declared.board.Board.{Board}
 use Rattle.ww_table.specs.declared.seat.Seat16.{Seat16}
-use Rattle.ww_table.specs.Seat.{IsSeatOf, locks_of, size_of, view_of}
+use Rattle.ww_table.specs.Seat.{IsSeatOf, size_of, view_of}
 use Rattle.ww_seat.specs.Accounts.{Account}
 use Rattle.ww_seat.specs.Orderly.{IsOrderly}
 use Rattle.ww_seat.specs.declared.look.Arrival.{Arrival}
 use Rattle.ww_seat.specs.Work.{AreWoken, HasBooked, HasToWake, IsAtWork, IsMarked, IsWorking, StillHasToWake, debts_with}
 use Rattle.ww_seat.proofs.Debts.{more_cancelled, more_owed, times_booked}
 use Rattle.ww_seat.proofs.Without.{another}
-use Rattle.ww_seat.specs.declared.resting.Stay.{Stay}
 use Rattle.ww_seat.specs.declared.waits.Waits.{Waits}
 use Rattle.ww_desk.specs.declared.turn.Answer.{Answer}
 use Rattle.ww_desk.specs.declared.turn.Turn.{Turn}
 use Rattle.ww_desk.specs.declared.turn.Turn.TheVariants.{Wants, Looks}
 use Rattle.ww_desk.specs.declared.station.Station.{Station}
-use Rattle.ww_desk.specs.Stations.{table_of, situation_of, IsWhere, Keeps}
+use Rattle.ww_desk.specs.Stations.{situation_of, IsWhere, Keeps}
 use Rattle.ww_desk.proofs.Keeping.{kept}
-use Rattle.ww_desk.specs.declared.turn.Answer.TheVariants.{Done, Again, Awaits, Stays, Sleeps, Deadlk, Interrupted}
+use Rattle.ww_desk.specs.declared.turn.Answer.TheVariants.{Done, Again, Awaits, Sleeps, Deadlk, Interrupted}
 use Rattle.ww_desk.specs.Situations.{Situation}
-use Rattle.ww_desk.specs.Answers.{Balances, BooksWakes, HasTurned, IsGiveAnswer, IsStayAnswer, IsWaitAnswer, WakesAlso, WakesCondemned, WakesHeir, wakes_owed}
+use Rattle.ww_desk.specs.Answers.{Balances, BooksWakes, IsGiveAnswer, IsWaitAnswer, WakesAlso, WakesCondemned, WakesHeir, wakes_owed}
 
 -- it owes one wake more to each of these, and marks each but itself
 record MarksThese (s : Situation) (these : ℕ → Bool) (s' : Situation) : Type 0 where

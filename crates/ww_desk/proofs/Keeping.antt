@@ -1,28 +1,23 @@
 -- What a desk keeps, as the calls of its seat change that.
-use Rattle.std.proofs.Common.{rules, ◌≡◌, ℕ, ◌+◌, ◌-◌, ◌<◌, ◌≤◌, ◌≢◌, ◌==◌, ◌&&◌, Bool, not, true, false, true≢false, List, [], ◌∷◌, ◌++◌, length, set, get_or, refl, sym, ap, subst, ◌∙◌, arith, eqb, inl, inr, ⊎_elim, is_none, if◌then◌else◌, get_or-set_other, length-set, length-append, Some, None, slice_get, Option, append_assoc, ◌⊎◌}
+use Rattle.std.proofs.Common.{rules, ◌≡◌, ℕ, ◌+◌, ◌-◌, ◌<◌, ◌≤◌, ◌==◌, Bool, not, true, false, List, [], ◌∷◌, length, set, get_or, refl, sym, ap, subst, ◌∙◌, arith, inl, if◌then◌else◌, length-set, length-append, Some, None, slice_get, Option}
 use Rattle.std.specs.Prelude.{unwrap_or, IfSome}
 use Rattle.std.specs.Arc.{arc_value}
 use Rattle.ww_queue.specs.declared.entry.Entry.{Entry}
 use Rattle.ww_plain.specs.declared.node.Node.{Node}
 use Rattle.ww_plain.specs.Numbers.{is_among, AreDifferent}
-use Rattle.ww_plain.proofs.Members.{different_push, true_or_false}
+use Rattle.ww_plain.proofs.Members.{different_push}
 use Rattle.ww_view.specs.declared.view.View.{View}
-use Rattle.ww_view.specs.View.{owns}
 use Rattle.ww_rule.specs.declared.cells.Counts.{Counts}
 use Rattle.ww_rule.specs.Rule.{Sat}
 use Rattle.ww_rule.specs.Guards.{AreSeats, glancing}
 use Rattle.ww_table.specs.declared.board.Board.{Board}
 use Rattle.ww_table.specs.declared.seat.Seat16.{Seat16}
-use Rattle.ww_table.specs.Seat.{IsSeatOf, giving_of, locks_of, size_of, tells_own, view_of}
+use Rattle.ww_table.specs.Seat.{IsSeatOf, locks_of, size_of, view_of}
 use Rattle.ww_seat.specs.Orderly.{IsSettled, IsSettledAt}
-use Rattle.ww_seat.specs.Accounts.{Account, account_of, having_tried}
-use Rattle.ww_seat.specs.Calls.{HasAdded, HasGiven, HasTaken, HasLetOnce, HasStayedOut, HasTriedOnce}
-use Rattle.ww_table.specs.declared.seat.Taking.{Taking}
+use Rattle.ww_seat.specs.Accounts.{Account, account_of}
+use Rattle.ww_seat.specs.Calls.{HasAdded, HasGiven, HasLetOnce, HasStayedOut, HasTriedOnce}
 use Rattle.ww_table.specs.declared.seat.Taking.TheVariants.{Took, Had, Missed}
-use Rattle.ww_table.specs.declared.seat.Giving.TheVariants.{Gave, Kept, Lacked}
-use Rattle.ww_table.specs.declared.seat.Found.{Found}
-use Rattle.ww_table.specs.declared.seat.Tried.TheVariants.{InVain}
-use Rattle.ww_queue.proofs.Outcomes.{both_true, number_other}
+use Rattle.ww_table.specs.declared.seat.Giving.TheVariants.{Gave}
 use Rattle.ww_plain.specs.Graph.{no_node}
 use Rattle.ww_seat.specs.Looks.{IsOutside}
 use Rattle.ww_seat.specs.Work.{ComesOutside}
@@ -31,18 +26,17 @@ use Rattle.ww_seat.specs.declared.resting.Stay.{Stay}
 use Rattle.ww_seat.specs.declared.waits.Waits.{Waits}
 use Rattle.ww_seat.specs.declared.look.Arrival.TheVariants.{Came}
 use Rattle.ww_desk.specs.declared.turn.Turn.{Turn}
-use Rattle.ww_desk.specs.declared.turn.Turn.TheVariants.{Rests, Stays, Wants, Gives}
+use Rattle.ww_desk.specs.declared.turn.Turn.TheVariants.{Rests, Stays, Wants}
 use Rattle.ww_desk.specs.declared.station.Station.{Station}
-use Rattle.ww_desk.specs.Situations.{Situation, is_at_rest, wants_now, IsPlain}
-use Rattle.ww_desk.specs.Answers.{HasGivenBack, HasJustLost, HasTriedAsIs, HasReleased, HasSomeHeld, StaysOut}
+use Rattle.ww_desk.specs.Situations.{Situation, is_at_rest, IsPlain}
+use Rattle.ww_desk.specs.Answers.{HasTriedAsIs, HasReleased, StaysOut}
 use Rattle.ww_seat.proofs.Naps.{out_then}
-use Rattle.ww_view.specs.Made.{without}
 use Rattle.ww_desk.specs.Stations.{table_of, situation_of, IsWhere, Keeps}
 use Rattle.ww_seat.proofs.Outside.{orderly_knowing, owned_low}
 use Rattle.std.specs.Global.{Vec}
 use Rattle.ww_seat.proofs.Among.{owns_more}
 use Rattle.ww_seat.proofs.Without.{owns_less, different_without}
-use Rattle.ww_desk.proofs.Locks.{few_held, one_less, rest_of, some_held, wanting_plainly, IsWanting}
+use Rattle.ww_desk.proofs.Locks.{few_held, one_less, rest_of, IsWanting}
 
 -- the same desk, with a seat of the same table that has this account
 pub record IsOf (h g : Station) (a : Account) : Type 0 where
@@ -52,40 +46,6 @@ pub record IsOf (h g : Station) (a : Account) : Type 0 where
   pub left : g.left ≡ h.left
   pub marks : length g.wake.items ≡ length h.wake.items
   pub now : account_of g.seat.seat.me ≡ a
-
--- what is seen of it then
-abbrev pub seen_with : Station → Station → Account → Situation
-seen_with h g a = record (situation_of h) {
-  kind = a.kind;
-  caller = a.who;
-  draws = a.counts.draws;
-  stamp = a.stamp;
-  is_done = g.is_done;
-  held = a.locks;
-  told = g.told;
-  turn = g.turn;
-  wakes = g.wake.items;
-  tries = a.tries;
-  takes = a.takes;
-  deaths = a.deaths;
-  cancelled = a.counts.cancelled;
-  pendings = a.pendings;
-  interrupted = a.stopped;
-  view = g.seat.seat.me.0.part.core;
-}
-
-pub seen_as : (h g : Station) (a : Account) → IsOf h g a → situation_of g ≡ seen_with h g a
-seen_as h g a is = let same : situation_of g ≡ seen_with h g (account_of g.seat.seat.me) =
-    rw (is.board, is.locks, is.seats, is.left) refl in same ∙ ap (seen_with h g) is.now
-
--- what is seen of it where its call ended, with these marks
-pub seen_ended : (h : Station) (q : Seat16) (told : Option ℕ) (wakes : List ℕ) (a : Account) → account_of q.seat.me ≡ a →
-    let g : Station = record h { seat = q; told = told; turn = Rests } in
-    let s : Situation = record (situation_of g) { wakes = wakes } in
-    let t : Situation = record (seen_with h g a) { wakes = wakes } in s ≡ t
-seen_ended h q told wakes a now = let g : Station = record h { seat = q; told = told; turn = Rests } in
-    ap (λ (s : Situation). let t : Situation = record s { wakes = wakes } in t)
-    (seen_as h g a (record { board = refl; locks = refl; seats = refl; left = refl; marks = refl; now = now }))
 
 -- it holds what it held
 pub kept : (h g : Station) → Keeps h → IsOf h g (account_of h.seat.seat.me) → g.count ≡ h.count
@@ -201,40 +161,12 @@ tried_keeps h g b q n k w e there settled t is =
     took h g b _ n no_node q h.wake k refl e there (sym (k.owned n) ∙ t.0) settled t.1
     (is ∙ (λ i. record h { seat = q; count = h.count + 1; told = None; turn = w.rests i }))
 
--- it may stay away from a lock that it has just missed
-missed_stays : (h : Station) (q : Seat16) (n : ℕ) → Keeps h → IsWanting h → n < h.locks
-    → HasTriedOnce h.seat.seat.me n Missed q.seat.me → HasJustLost n (situation_of (record h { seat = q }))
-missed_stays h q n k w there t =
-    let v : View = h.seat.seat.me.0.part.core in let v' : View = q.seat.me.0.part.core in
-    let owned : (m : ℕ) → owns v' m ≡ owns v m = λ m. ap (λ (a : Account). get_or a.owned m false) t.tried in record {
-      rests = ap is_at_rest w.rests;
-      there = there;
-      want = record {
-        lacks = owned n ∙ t.lacks;
-        base = ⊎_elim (λ context. inl (omega (arith, context, ap (λ (a : Account). a.stamp) t.tried)))
-            (λ bare. inr (λ m. owned m ∙ bare m)) w.base;
-        signs = t.signs;
-      };
-      unseen = t.glances;
-    }
-
 -- what is seen of a try in vain, of a lock that it has or hasn't
 pub tried_in_vain : (h : Station) (q : Seat16) (n : ℕ) (own : Bool) → Keeps h → IsPlain (situation_of h) → n < h.locks
     → HasTriedOnce h.seat.seat.me n (if own then Had else Missed) q.seat.me → HasStayedOut (view_of h.seat) (view_of q)
     → HasTriedAsIs (situation_of h) n (if own then Had else Missed) (situation_of (record h { seat = q }))
-tried_in_vain h q n true k plain there t out = (
-  record { rests = plain.rests; holds = sym (k.owned n) ∙ t.0 },
-  search rules,
-)
-tried_in_vain h q n false k plain there t out = (
-  record { rests = plain.rests; lacks = sym (k.owned n) ∙ t.lacks; there = there; wants = plain.wants },
-  (
-    out,
-    seen_as h (record h { seat = q }) (having_tried (account_of h.seat.seat.me))
-        (record { board = refl; locks = refl; seats = refl; left = refl; marks = refl; now = t.tried }),
-  ),
-  missed_stays h q n k (wanting_plainly h k plain) there t,
-)
+tried_in_vain h q n true k plain there t out = search rules
+tried_in_vain h q n false k plain there t out = search rules
 
 -- ---- one try to release a lock
 
@@ -333,29 +265,3 @@ first_waiter n q (Some e) seats is = first_seat n q e seats is
 pub first_below : (first : Option Entry) (m n : ℕ) → m ≤ n → IfSome first (λ e. e.seat < m) → IfSome first (λ e. e.seat < n)
 first_below None m n le is = tt
 first_below (Some e) m n le is = omega (arith, le, is)
-
--- what is seen of a desk whose seat took a lock
-pub took_seen : (h g : Station) (n : ℕ) (x : Node) (q : Seat16) (w : Vec ℕ) → length w.items ≡ length h.wake.items
-    → HasTaken h.seat.seat.me n x q.seat.me
-    → g ≡ record h { seat = q; count = h.count + 1; told = None; turn = Rests; wake = w }
-    → situation_of g ≡ record (situation_of h) {
-      held = h.seat.seat.me.0.part.core.locks ++ n ∷ [];
-      told = None;
-      turn = Rests;
-      wakes = g.wake.items;
-      tries = h.seat.seat.me.0.part.core.tries;
-      takes = h.seat.seat.me.0.part.core.takes + 1;
-      view = g.seat.seat.me.0.part.core;
-    }
-took_seen h g n x q w long t is =
-    let now : Station = record h { seat = q; count = h.count + 1; told = None; turn = Rests; wake = w } in
-    ap situation_of is ∙ seen_as h now _ (record { board = refl; locks = refl; seats = refl; left = refl; marks = long; now = t.now })
-    ∙ (λ i. record (situation_of h) {
-      held = h.seat.seat.me.0.part.core.locks ++ n ∷ [];
-      told = None;
-      turn = Rests;
-      wakes = (sym is i).wake.items;
-      tries = h.seat.seat.me.0.part.core.tries;
-      takes = h.seat.seat.me.0.part.core.takes + 1;
-      view = (sym is i).seat.seat.me.0.part.core;
-    })

@@ -12,7 +12,7 @@ use Rattle.ww_view.specs.declared.view.View.{View}
 use Rattle.ww_view.specs.View.{owns, IsBare}
 use Rattle.ww_view.specs.May.{WantsBase, WantsSigns}
 use Rattle.ww_view.specs.Made.{without}
-use Rattle.ww_table.specs.Seat.{locks_of, size_of}
+use Rattle.ww_table.specs.Seat.{size_of}
 use Rattle.ww_seat.specs.Orderly.{IsSettled}
 use Rattle.ww_seat.proofs.Outside.{owned_low}
 use Rattle.ww_seat.proofs.Without.{without_same, without_else}
@@ -78,11 +78,6 @@ pub few_held : (v : View) (held : List ℕ) (locks : ℕ) → ((n : ℕ) → own
     → length v.owned ≡ locks → AreDifferent held → length held ≤ locks
 few_held v held locks same room d = few_different locks held d
     (all_low (λ m. m < locks) held (λ n e. let low = owned_low v.owned n (same n ∙ e) in omega (arith, low, room)))
-
--- whoever owns one has one at least
-pub some_held : (held : List ℕ) (n : ℕ) → is_among n held ≡ true → 1 ≤ length held
-some_held [] n e = absurd (true≢false (sym e))
-some_held (m ∷ ms) n e = omega arith
 
 -- ---- whether one may be wanted
 

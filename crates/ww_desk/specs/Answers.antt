@@ -1,5 +1,5 @@
 -- What became of a call of a desk, by its answer. A call may learn something of the locks, which its view tells then.
-use Rattle.std.specs.Prelude.{ℕ, suc, ◌≡◌, ◌≢◌, ◌<◌, ◌≤◌, ◌+◌, ◌-◌, ◌⊎◌, ◌∷◌, ◌++◌, [], slice_set, Option, Bool, true, false, List, Some, None, length}
+use Rattle.std.specs.Prelude.{ℕ, suc, ◌≡◌, ◌≢◌, ◌<◌, ◌≤◌, ◌+◌, ◌-◌, ◌⊎◌, ◌∷◌, ◌++◌, [], Option, Bool, true, false, List, Some, None, length}
 use Rattle.ww_plain.specs.Numbers.{is_among}
 use Rattle.ww_view.specs.Made.{found_pending, shut_out, without}
 use Rattle.ww_table.specs.declared.seat.Taking.{Taking}

@@ -9,13 +9,7 @@ use Rattle.ww_desk.proofs.desk.Desk.go_on.Goals as goal
 pub look-requires : goal.look-requires
 look-requires c = let h = c.self.inside.station in let q = c.enter_wanted.new.seat in let in_guard = c.if-not-enter_wanted.false in
     let turn : h.turn ≡ Wants c.in-Wants.lock c.in-Wants.arrival c.in-Wants.waits = search rules in
-    let e : HasEntered h c.deref.result.now c.in-Wants.lock q = record {
-      board = c.deref.ensures;
-      seat = c.enter_wanted.ensures.seat;
-      work = c.enter_wanted.ensures.inside in_guard;
-      condemned = c.enter_wanted.ensures.condemned in_guard;
-      debts = c.enter_wanted.ensures.debts;
-    } in record { keeps = entered_keeps h c.deref.result.now c.in-Wants.lock c.in-Wants.arrival c.in-Wants.waits q c.self.invariant turn e }
+    let e : HasEntered h c.deref.result.now c.in-Wants.lock q = search rules in record { keeps = entered_keeps h c.deref.result.now c.in-Wants.lock c.in-Wants.arrival c.in-Wants.waits q c.self.invariant turn e }
 
 pub returns-else-not-enter_wanted-clause-answer : goal.returns-else-not-enter_wanted-clause-answer
 returns-else-not-enter_wanted-clause-answer c = rw (← c.self.view_is) (search rules)
@@ -23,13 +17,7 @@ returns-else-not-enter_wanted-clause-answer c = rw (← c.self.view_is) (search 
 pub returns-else-not-enter_wanted-clause-books : goal.returns-else-not-enter_wanted-clause-books
 returns-else-not-enter_wanted-clause-books c = let h = c.self.inside.station in let q = c.enter_wanted.new.seat in
     let in_guard = c.if-not-enter_wanted.false in
-    let e : HasEntered h c.deref.result.now c.in-Wants.lock q = record {
-      board = c.deref.ensures;
-      seat = c.enter_wanted.ensures.seat;
-      work = c.enter_wanted.ensures.inside in_guard;
-      condemned = c.enter_wanted.ensures.condemned in_guard;
-      debts = c.enter_wanted.ensures.debts;
-    } in subst (λ (s : Situation). BooksWakes s (situation_of c.look.new.self)) c.self.view_is
+    let e : HasEntered h c.deref.result.now c.in-Wants.lock q = search rules in subst (λ (s : Situation). BooksWakes s (situation_of c.look.new.self)) c.self.view_is
     (step_books (situation_of h) (situation_of c.look.new.self)
     (entered_balances h c.deref.result.now c.in-Wants.lock q c.in-Wants.waits c.look.result c.look.new.self e
     c.look.ensures.answer c.look.ensures.still))

@@ -1,7 +1,5 @@
-use Rattle.std.proofs.Common.{rules, ℕ, ◌*◌, List, Option, Some, length, ◌<◌, ◌≡◌, ◌≢◌, ◌-◌, subst, IfSome, refl, sym, ap, ◌∙◌, arith}
-use Rattle.std.specs.Arc.{arc_value}
+use Rattle.std.proofs.Common.{length, refl, sym, ap, ◌∙◌, arith}
 use Rattle.ww_table.specs.declared.board.Board.{Board}
-use Rattle.ww_table.specs.Seat.{locks_of, size_of, view_of}
 use Rattle.ww_seat.proofs.There.{seats_there}
 use Rattle.ww_desk.specs.declared.turn.Turn.TheVariants.{Gives}
 use Rattle.ww_desk.specs.Situations.{Situation}

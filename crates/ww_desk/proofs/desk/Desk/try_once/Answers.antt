@@ -1,4 +1,4 @@
-use Rattle.std.proofs.Common.{rules, ◌≡◌, ◌<◌, true, subst, sym, ap, ◌∙◌}
+use Rattle.std.proofs.Common.{rules, ◌<◌, subst, sym, ap, ◌∙◌}
 use Rattle.ww_table.specs.declared.seat.Taking.TheVariants.{Took}
 use Rattle.ww_seat.specs.Calls.{HasTriedOnce}
 use Rattle.ww_desk.specs.Situations.{Situation, wants_now}
