@@ -20,9 +20,6 @@ use Rattle.ww_seat.specs.declared.look.Attempt.TheVariants.{Lost, Ended}
 use Rattle.ww_seat.specs.declared.look.Look.{Look}
 use Rattle.ww_seat.specs.declared.look.Look.TheVariants.{Locked, Deadlk, Interrupted, Waits}
 
-pub awake_same : (v : View) → StaysAwake v v
-awake_same v = record { naps = refl; deaf = refl }
-
 pub awake_then : (u v w : View) → StaysAwake u v → StaysAwake v w → StaysAwake u w
 awake_then u v w a b = record { naps = b.naps ∙ a.naps; deaf = b.deaf ∙ a.deaf }
 

@@ -19,7 +19,7 @@ use Rattle.ww_rule.specs.Waiting.{HasListOnTop}
 use Rattle.ww_seat.specs.Orderly.{IsOrderly}
 use Rattle.ww_seat.specs.Calls.{HoldsAsBefore}
 use Rattle.ww_seat.specs.Looks.{MayWant}
-use Rattle.ww_seat.specs.Work.{AreWoken, AreOnlyWoken, StillHasToWake, AreMarked, HasToWake, HasBooked, debts_with, HasCondemnedNone, touched, signing, told, IsTouched, IsTold, IsPlaced, IsWorking, IsAtWork, IsCleared, MayGo, HasNoted}
+use Rattle.ww_seat.specs.Work.{AreWoken, StillHasToWake, AreMarked, HasToWake, HasBooked, debts_with, HasCondemnedNone, touched, signing, told, IsTouched, IsTold, IsPlaced, IsWorking, IsAtWork, IsCleared, MayGo, HasNoted}
 use Rattle.ww_seat.proofs.Holds.{holds_same, holds_then}
 use Rattle.ww_seat.proofs.Outside.{orderly_knowing, orderly_brought}
 use Rattle.ww_seat.proofs.Guards.{listed_orderly, exiting_orderly}
@@ -95,15 +95,6 @@ pub still_later : (size : ℕ) (owed : List (ℕ × ℕ)) (m m1 m2 m3 : Sat) →
     → HasCondemnedNone m2 m3 → StillHasToWake m.0.part.core m3.0.part.core
 still_later size owed m m1 m2 m3 t h none =
     still_then m m2 m3 (still_then m m1 m2 (still_touched size m m1 t) (still_noted size owed m1 m2 h)) (still_none m2 m3 none)
-
--- whoever was marked alone is so still
-pub only_marked : (m m' : Sat) (was now : List ℕ) → AreOnlyWoken m.0.part.core was
-    → StillHasToWake m.0.part.core m'.0.part.core → AreMarked was (HasToWake m'.0.part.core) now
-    → AreOnlyWoken m'.0.part.core now
-only_marked m m' was now only still marked u mark = ⊎_elim (λ before. still.still u (only u before)) (λ has. has) ((marked u).0 mark)
-
-pub woken_marked : (m : Sat) (was now : List ℕ) → AreMarked was (HasToWake m.0.part.core) now → AreWoken m.0.part.core now
-woken_marked m was now marked u has = (marked u).1 (inr has)
 
 pub marked_still : (m m' : Sat) (was now : List ℕ) → HasCondemnedNone m m'
     → AreMarked was (HasToWake m.0.part.core) now → AreMarked was (HasToWake m'.0.part.core) now
