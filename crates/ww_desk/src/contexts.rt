@@ -25,7 +25,7 @@ impl Desk {
             return Answer::NoSpace;
         }
         self.station.left -= 1;
-        if ww_seat::begin(&mut self.station.seat, &self.station.board).is_none() {
+        if self.station.seat.begin(&self.station.board).is_none() {
             return Answer::NoSpace;
         }
         self.station.is_done = false;
@@ -40,7 +40,7 @@ impl Desk {
         ensures answer { IsBeginAnswer self.old result self.new }
         ensures unsigned { result ≡ Done → self.new.view.sign ≡ Some 0 }
     {
-        let drawn = ww_seat::begin(&mut self.station.seat, &self.station.board);
+        let drawn = self.station.seat.begin(&self.station.board);
         self.station.left -= 1;
         if drawn.is_none() {
             return Answer::NoSpace;
@@ -75,7 +75,7 @@ impl Desk {
         if self.station.seat.stamp() == 0 || self.station.count != 0 {
             return Answer::Invalid;
         }
-        ww_seat::end(&mut self.station.seat, &self.station.board);
+        self.station.seat.end(&self.station.board);
         self.station.is_done = false;
         self.station.told = None;
         Answer::Done
@@ -87,6 +87,6 @@ impl Desk {
         requires { IsBare self.old }
         ensures { IsEndAnswer self.old Done self.new }
     {
-        ww_seat::end(&mut self.station.seat, &self.station.board);
+        self.station.seat.end(&self.station.board);
     }
 }

@@ -1,7 +1,6 @@
 //! The first step of releasing a lock, and a look whether one is held.
 use crate::desk::Desk;
 use crate::turn::Answer;
-use ww_seat::give_bare_at_once;
 use ww_table::Tried;
 
 impl Desk {
@@ -29,7 +28,7 @@ impl Desk {
         requires there { lock < self.old.size }
         ensures { IsUnlockAnswer self.old lock result self.new }
     {
-        match give_bare_at_once(&mut self.station.seat, &self.station.board, lock) {
+        match self.station.seat.give_bare(&self.station.board, lock) {
             Tried::Did => {
                 self.station.count -= 1;
                 Answer::Done
@@ -53,7 +52,7 @@ impl Desk {
         if !self.station.is_lock(lock) {
             return false;
         }
-        match give_bare_at_once(&mut self.station.seat, &self.station.board, lock) {
+        match self.station.seat.give_bare(&self.station.board, lock) {
             Tried::Did => {
                 self.station.count -= 1;
                 true

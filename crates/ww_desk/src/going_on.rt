@@ -3,8 +3,8 @@ ghost use Rattle.std.specs.Prelude.{◌≡◌, ◌≢◌, ◌<◌, ◌≤◌, �
 ghost use Rattle.std.specs.Option.{option_map};
 ghost use Rattle.ww_queue.specs.declared.entry.Entry.{Entry};
 ghost use Rattle.ww_view.specs.Made.{with_heir};
-ghost use Rattle.ww_table.specs.Seat.{view_of};
 ghost use Rattle.ww_seat.specs.Work.{AreMarked, StillHasToWake};
+ghost use Rattle.ww_seat.specs.Standings.{view_in};
 ghost use Rattle.ww_desk.specs.Answers.{IsTaken};
 ghost use Rattle.ww_desk.specs.declared.turn.Turn.TheVariants.{Stays, Looks, Gives};
 ghost use Rattle.ww_desk.specs.declared.turn.Answer.TheVariants.{Done};
@@ -13,10 +13,7 @@ use crate::desk::Desk;
 use crate::station::Station;
 use crate::turn::{Answer, Turn};
 use ww_queue::wide::Entry;
-use ww_seat::{
-    Arrival, Attempt, Look, Stay, Waits, cancel_once, enter_owned, enter_wanted, give_on,
-    look_once, mark,
-};
+use ww_seat::{Arrival, Attempt, Look, Stay, Waits, mark};
 
 impl Desk {
     ghost use Rattle.ww_desk.specs.Answers.{BooksWakes, IsNextAnswer, IsStayAnswer, IsGiveAnswer, IsCancelAnswer, IsWakeAnswer};
@@ -30,7 +27,7 @@ impl Desk {
             Turn::Rests => Answer::Invalid,
             Turn::Stays(lock, stay, waits) => self.stay(lock, stay, waits),
             Turn::Wants(lock, arrival, waits) => {
-                if !enter_wanted(&mut self.station.seat, &self.station.board, lock) {
+                if !self.station.seat.enter_wanted(&self.station.board, lock) {
                     return Answer::Awaits;
                 }
                 self.station.look(lock, arrival, waits)
@@ -61,10 +58,10 @@ impl Desk {
         ensures answer { IsGiveAnswer self.old lock result self.new }
         ensures debts { result ≡ Done → self.new.view.debts ≡ with_heir self.new.view.heir self.old.view.debts }
     {
-        if !enter_owned(&mut self.station.seat, &self.station.board, lock) {
+        if !self.station.seat.enter_owned(&self.station.board, lock) {
             return Answer::Awaits;
         }
-        let first = give_on(&mut self.station.seat, &self.station.board, lock);
+        let first = self.station.seat.give_on(&self.station.board, lock);
         add_first(&mut self.station.wake, self.station.seat.who(), first);
         self.station.count -= 1;
         self.station.turn = Turn::Rests;
@@ -83,7 +80,7 @@ impl Desk {
         if victim >= self.station.seats {
             return Answer::Invalid;
         }
-        if !cancel_once(&mut self.station.seat, &self.station.board, victim) {
+        if !self.station.seat.cancel_once(&self.station.board, victim) {
             return Answer::Already;
         }
         mark(
@@ -115,11 +112,10 @@ impl Station {
         requires keeps { Keeps (record self.old { turn = Looks lock arrival waits }) }
         ensures keeps { Keeps self.new }
         ensures answer { IsWaitAnswer (situation_of self.old) lock waits result (situation_of self.new) }
-        ensures still { StillHasToWake (view_of self.old.seat) (view_of self.new.seat) }
+        ensures still { StillHasToWake (view_in self.old.seat) (view_in self.new.seat) }
     {
         let mut arrival = arrival;
-        let attempt = look_once(
-            &mut self.seat,
+        let attempt = self.seat.look_once(
             &self.board,
             lock,
             &mut arrival,

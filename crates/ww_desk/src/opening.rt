@@ -10,7 +10,7 @@ use crate::turn::Turn;
 use std::alloc::{AllocError, Global};
 use std::sync::Arc;
 use ww_queue::Kind;
-use ww_seat::Memory;
+use ww_seat::{Memory, Seat};
 use ww_table::{Board, Seat16};
 use ww_word::wide::MANY_SEATS;
 
@@ -100,7 +100,7 @@ fn fresh(
         let board = Arc::try_clone(board)?;
         let station = Station {
             board,
-            seat,
+            seat: Seat::new(seat),
             count: 0,
             locks,
             is_done: false,

@@ -3,15 +3,15 @@ ghost use Rattle.std.specs.Prelude.{◌≡◌, ◌<◌, ◌≤◌, ◌+◌, true
 use crate::turn::Turn;
 use std::alloc::Global;
 use std::sync::Arc;
-use ww_seat::Memory;
-use ww_table::{Board, Seat16};
+use ww_seat::{Memory, Seat};
+use ww_table::Board;
 
 /// What a desk keeps: its seat at the table that it shares with others, and where its call stands. Contracts see it as
 /// a situation. Which locks it holds it doesn't keep: the owner words tell that.
 #[derive(Drop)]
 pub(crate) struct Station {
     pub(crate) board: Arc<Board, Global>,
-    pub(crate) seat: Seat16,
+    pub(crate) seat: Seat,
     /// How many locks it holds.
     pub(crate) count: u32,
     /// How many locks there are.

@@ -1,7 +1,7 @@
 //! The first step of taking a lock.
 use crate::desk::Desk;
 use crate::turn::{Answer, Refusal, Turn};
-use ww_seat::{Stay, Waits, take_bare_at_once, try_take_bare};
+use ww_seat::{Stay, Waits};
 use ww_table::{Taking, Tried};
 
 impl Desk {
@@ -33,12 +33,12 @@ impl Desk {
         requires there { lock < self.old.size }
         ensures { HasTriedAsIs self.old lock result self.new }
     {
-        match try_take_bare(
-            &mut self.station.seat,
-            &self.station.board,
-            lock,
-            self.station.count != 0,
-        ) {
+        let holds = self.station.count != 0;
+        match self
+            .station
+            .seat
+            .try_take_bare(&self.station.board, lock, holds)
+        {
             Taking::Took => {
                 self.station.add();
                 Taking::Took
@@ -55,7 +55,7 @@ impl Desk {
         requires there { lock < self.old.size }
         ensures { HasTriedAsIs self.old lock (taking_of result) self.new }
     {
-        let tried = take_bare_at_once(&mut self.station.seat, &self.station.board, lock);
+        let tried = self.station.seat.take_bare(&self.station.board, lock);
         match tried {
             Tried::Did => self.station.count += 1,
             Tried::InVain(_) => {}

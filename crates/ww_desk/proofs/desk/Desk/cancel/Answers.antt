@@ -11,7 +11,7 @@ use Rattle.ww_desk.proofs.desk.Desk.cancel.Goals as goal
 
 pub returns-clause-books : goal.returns-clause-books
 returns-clause-books c = let h = c.self.inside.station in let s = c.args.self.now in
-    let g : Station = record h { seat = c.cancel_once.new.seat; wake = with_items h.wake c.mark.new.marks } in
+    let g : Station = record h { seat = c.cancel_once.new.self; wake = with_items h.wake c.mark.new.marks } in
     let answer : IsCancelAnswer s c.args.victim Done (situation_of g) = grind (arith, common_steps) in
     step_books s (situation_of g) (balances_cancel s (situation_of g) c.args.victim (ap (λ (x : Situation). x.caller) answer.3)
     (ap (λ (x : Situation). x.cancelled) answer.3) (ap (λ (x : Situation). x.view.debts) answer.3) answer.2)
