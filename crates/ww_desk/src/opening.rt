@@ -2,7 +2,7 @@ ghost use Rattle.std.specs.Prelude.{◌≡◌, ◌≤◌, ◌<◌, ◌+◌, ◌^
 ghost use Rattle.std.specs.Arc.{arc_value};
 ghost use Rattle.ww_rule.specs.Rule.{first_graph, places_for};
 ghost use Rattle.ww_table.specs.Made.{AreNew};
-ghost use Rattle.ww_desk.specs.Opened.{AreFresh, IsOpened, IsOpenFault};
+ghost use Rattle.ww_desk.specs.Opened.{AreFresh, IsOpened, IsOpenFault, IsWorldSize};
 
 use crate::desk::Desk;
 use crate::station::Station;
@@ -10,7 +10,7 @@ use crate::turn::Turn;
 use std::alloc::{AllocError, Global};
 use std::sync::Arc;
 use ww_queue::Kind;
-use ww_seat::Memory;
+use ww_seat::{Memory, Seat};
 use ww_table::{Board, Seat16};
 use ww_word::wide::MANY_SEATS;
 
@@ -69,9 +69,7 @@ fn lay(
     seats: u16,
     left: u64,
 ) -> Result<Vec<Desk>, AllocError>
-    requires locks { (1 ≤ locks) × (locks ≤ MAX_LOCKS) }
-    requires seats { (1 ≤ seats) × (seats ≤ MANY_SEATS) }
-    requires left { left < 2 ^ 52 }
+    requires { IsWorldSize locks seats left }
     ensures { IfOk result (λ all. IsOpened kind locks seats left all.items) }
 {
     let room = Vec::with_capacity(alloc, usize::from(seats))?;
@@ -102,7 +100,7 @@ fn fresh(
         let board = Arc::try_clone(board)?;
         let station = Station {
             board,
-            seat,
+            seat: Seat::new(seat),
             count: 0,
             locks,
             is_done: false,

@@ -49,6 +49,7 @@ impl Seat {
     ghost use Rattle.ww_seat.specs.Standings.{Standing, standing_of, view_in, size_in, owns_any, OwnsNodes, IsAt, IsKept, IsBegin, IsEnd, MayTry, MayTryBare, MayTakeBare, IsTry, IsTryBare, MayWait, MayWaitWith, IsWait, StaysEven, MayRelease, MayReleaseNode, MayReleaseBare, IsGive, IsGiveBare, IsGiven, MayCancel, HasCancelled, IsCancel, MayCommit, IsCommit, MayGoIn, IsGoneIn, IsAtWorkThere, HasAttempted, IsVisit, IsGivingThere, IsGoneInToGive, HasGivenOn};
 
     /// A seat that has done nothing yet.
+    #[inline(always)]
     pub fn new(seat: Seat16) -> Seat
         requires new { (table : TableId) × (key : Start) × (k : ℕ) × IsNew table key k seat × (length (first_graph key) ≤ 64) × (length (first_graph key) ≤ key.locks) }
         ensures { result ≡ standing_of seat }

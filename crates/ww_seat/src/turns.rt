@@ -11,7 +11,7 @@ use ww_table::{Board, Seat16, Tried};
 use ww_word::wide::Owner;
 
 impl Seat {
-    ghost use Rattle.std.specs.Prelude.{◌<◌};
+    ghost use Rattle.std.specs.Prelude.{◌<◌, IfSome};
     ghost use Rattle.ww_table.specs.Seat.{giving_of, locks_of};
     ghost use Rattle.ww_seat.specs.Standings.{view_in, IsAt, MayGoIn, IsGoneIn, MayReleaseNode, IsGive, MayReleaseBare, IsGiveBare, MayRelease, IsGoneInToGive, IsGivingThere, HasGivenOn, MayCancel, HasCancelled};
 
@@ -57,7 +57,8 @@ impl Seat {
     pub fn give_on(&mut self, board: &Board, lock: u32) -> Option<Entry>
         requires at { IsAt board.now self.old }
         requires may { (lock < locks_of board.now) × IsGivingThere lock (view_in self.old) }
-        ensures { HasGivenOn self.old lock result self.new }
+        ensures on { HasGivenOn self.old lock result self.new }
+        ensures few { IfSome result (λ first. first.seat < board.now.table.shared.key.places) }
     {
         let seen = self.seat.look(board, lock);
         let first = self.seat.first(board, lock);

@@ -1,4 +1,4 @@
-use Rattle.std.proofs.Common.{refl}
+use Rattle.std.proofs.Common.{rules, refl}
 use Rattle.ww_view.specs.View.{IsAway}
 use Rattle.ww_table.specs.Seat.{size_of}
 use Rattle.ww_seat.specs.Calls.{HasGiven}
@@ -6,6 +6,7 @@ use Rattle.ww_seat.specs.Orderly.{IsOrderly}
 use Rattle.ww_seat.proofs.Gives.{read_still, still_view, looked_giving, read_giving, has_let}
 use Rattle.ww_seat.proofs.Kept.{kept}
 use Rattle.ww_seat.proofs.Stepwise.{giving_of}
+use Rattle.ww_seat.proofs.There.{first_there}
 use Rattle.ww_seat.proofs.seats.Seat.give_on.Goals.{After-exit}
 use Rattle.ww_seat.proofs.seats.Seat.give_on.Goals as goal
 
@@ -24,6 +25,10 @@ out c = let m = c.self.inside.seat.seat.me in
     (read_still m m c.look-seen.new.self.seat.me c.first-first.new.self.seat.me c.args.lock c.look-seen.result
     (still_view m m refl) c.look-seen.ensures.looked c.first-first.ensures.read)
     c.give_seen.ensures.gave c.exit.ensures.view c.exit.ensures.home
+
+pub returns-clause-few : goal.returns-clause-few
+returns-clause-few c = first_there c.args.board.now c.look-seen.new.self _ c.first-first.result c.look-seen.ensures.seat
+    (search rules) c.first-first.ensures.first
 
 pub invariant_of-self : goal.invariant_of-self
 invariant_of-self c = kept _ _ c.exit.new.self c.exit.ensures.seat (out c).0
