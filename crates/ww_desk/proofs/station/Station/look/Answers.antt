@@ -1,5 +1,5 @@
 use Rattle.std.proofs.Common.{rules, refl, ap, sym, subst, length, ◌∙◌, arith}
-use Rattle.ww_seat.specs.Standings.{CameTo}
+use Rattle.ww_seat.specs.Looks.{CameTo}
 use Rattle.ww_seat.specs.declared.look.Look.TheVariants.{Locked}
 use Rattle.ww_desk.specs.declared.turn.Turn.TheVariants.{Rests, Looks}
 use Rattle.ww_desk.specs.declared.station.Station.{Station}
@@ -23,7 +23,7 @@ pub returns-in-Ended-Locked-clause-keeps : goal.returns-in-Ended-Locked-clause-k
 returns-in-Ended-Locked-clause-keeps c = let k = c.requires.keeps in
     let h : Station = record (c.args.self.now) { turn = Looks c.args.lock c.args.arrival c.args.waits } in
     let q = c.look_once-attempt.new.self in
-    let came : CameTo h.seat c.args.lock (Locked c.in-Ended-Locked.field-0-0) q = search rules in
+    let came : CameTo c.args.lock h.seat.me (Locked c.in-Ended-Locked.field-0-0) q.me = search rules in
     subst Keeps (ap (λ (d : Station). let e : Station = record d { turn = Rests } in e) (sym c.add.ensures))
     (took h q _ c.args.lock c.in-Ended-Locked.field-0-0 _ k
     (ap length (written c.look_once-attempt.new.wake _ h.wake.len
