@@ -1,5 +1,5 @@
 -- What a desk keeps, as the calls of its seat change that.
-use Rattle.std.proofs.Common.{rules, ◌≡◌, ℕ, ◌+◌, ◌-◌, ◌<◌, ◌≤◌, Bool, true, false, List, [], ◌∷◌, ◌++◌, length, set, refl, sym, ap, subst, ◌∙◌, arith, if◌then◌else◌, length-set, length-append, None, Option}
+use Rattle.std.proofs.Common.{◌≡◌, ℕ, ◌+◌, ◌-◌, ◌<◌, ◌≤◌, Bool, true, false, List, [], ◌∷◌, ◌++◌, length, set, refl, sym, ap, subst, ◌∙◌, arith, length-set, length-append, None, Option}
 use Rattle.std.specs.Arc.{arc_value}
 use Rattle.std.specs.Global.{Vec}
 use Rattle.ww_plain.specs.declared.node.Node.{Node}
@@ -7,11 +7,11 @@ use Rattle.ww_plain.specs.Graph.{no_node}
 use Rattle.ww_plain.specs.Numbers.{is_among}
 use Rattle.ww_plain.proofs.Members.{different_push}
 use Rattle.ww_view.specs.Made.{without}
-use Rattle.ww_table.specs.declared.seat.Taking.TheVariants.{Took, Had, Missed}
+use Rattle.ww_table.specs.declared.seat.Taking.TheVariants.{Took}
 use Rattle.ww_table.specs.declared.seat.Giving.TheVariants.{Gave}
 use Rattle.ww_table.specs.Seat.{locks_of}
 use Rattle.ww_seat.specs.Accounts.{Account, account_of}
-use Rattle.ww_seat.specs.Calls.{HasAdded, HasGiven, HasLetOnce, HasStayedOut, HasTriedOnce}
+use Rattle.ww_seat.specs.Calls.{HasAdded, HasGiven, HasLetOnce, HasTriedOnce}
 use Rattle.ww_seat.specs.Standings.{Standing, view_in, CameTo, HasGoneIn, IsBack, IsSame}
 use Rattle.ww_seat.specs.declared.look.Arrival.{Arrival}
 use Rattle.ww_seat.specs.declared.look.Look.TheVariants.{Locked}
@@ -25,9 +25,9 @@ use Rattle.ww_seat.proofs.Without.{owns_less, different_without}
 use Rattle.ww_desk.specs.declared.turn.Turn.{Turn}
 use Rattle.ww_desk.specs.declared.turn.Turn.TheVariants.{Rests, Looks, Gives}
 use Rattle.ww_desk.specs.declared.station.Station.{Station}
-use Rattle.ww_desk.specs.Situations.{Situation, is_at_rest, IsPlain}
-use Rattle.ww_desk.specs.Answers.{HasTriedAsIs, HasReleased, StaysOut}
-use Rattle.ww_desk.specs.Stations.{situation_of, IsWhere, OwnsJust, Keeps}
+use Rattle.ww_desk.specs.Situations.{Situation, is_at_rest}
+use Rattle.ww_desk.specs.Answers.{HasReleased, StaysOut}
+use Rattle.ww_desk.specs.Stations.{IsWhere, OwnsJust, Keeps}
 use Rattle.ww_desk.proofs.Locks.{at_turn, few_owned, one_less, rest_of}
 
 -- it counts no more than there are, wherever its call stands
@@ -111,14 +111,6 @@ pub gave_at_once : (h : Station) (q : Standing) (n : ℕ) → Keeps h → is_at_
 gave_at_once h q n k rests there back t = subst (λ (r : Turn). Keeps (record h { seat = q; count = h.count - 1; turn = r }))
     (sym (rest_of h.turn rests))
     (gave h q n h.wake k refl (omega (arith, there, k.world.locks_are)) (sym (k.owns.same n) ∙ t.0) back t.1)
-
--- what is seen of a try in vain, of a lock that it has or hasn't
-pub tried_in_vain : (h : Station) (q : Standing) (n : ℕ) (own : Bool) → Keeps h → IsPlain (situation_of h) → n < h.locks
-    → HasTriedOnce h.seat.me n (if own then Had else Missed) q.me → HasStayedOut (view_in h.seat) (view_in q)
-    → q ≡ record (h.seat) { me = q.me }
-    → HasTriedAsIs (situation_of h) n (if own then Had else Missed) (situation_of (record h { seat = q }))
-tried_in_vain h q n true k plain there t out same = search rules
-tried_in_vain h q n false k plain there t out same = search rules
 
 -- ---- several releases
 
