@@ -18,7 +18,6 @@ use Rattle.ww_seat.proofs.Debts.{more_cancelled, more_owed, times_booked}
 use Rattle.ww_seat.proofs.Without.{another}
 use Rattle.ww_seat.specs.declared.waits.Waits.{Waits}
 use Rattle.ww_desk.specs.declared.turn.Answer.{Answer}
-use Rattle.ww_desk.specs.declared.turn.Turn.{Turn}
 use Rattle.ww_desk.specs.declared.turn.Turn.TheVariants.{Stays, Wants, Looks}
 use Rattle.ww_desk.specs.declared.station.Station.{Station}
 use Rattle.ww_desk.specs.Stations.{situation_of, Keeps}

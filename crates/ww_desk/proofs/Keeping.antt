@@ -1,21 +1,21 @@
 -- What a desk keeps, as the calls of its seat change that.
-use Rattle.std.proofs.Common.{rules, ◌≡◌, ℕ, ◌+◌, ◌-◌, ◌<◌, ◌≤◌, ◌==◌, Bool, not, true, false, List, [], ◌∷◌, ◌++◌, length, set, refl, sym, ap, subst, ◌∙◌, arith, inl, if◌then◌else◌, length-set, length-append, None, Option}
+use Rattle.std.proofs.Common.{◌≡◌, ℕ, ◌+◌, ◌-◌, ◌<◌, ◌≤◌, Bool, true, false, List, [], ◌∷◌, ◌++◌, length, set, refl, sym, ap, subst, ◌∙◌, arith, length-set, length-append, None, Option}
 use Rattle.std.specs.Arc.{arc_value}
 use Rattle.std.specs.Global.{Vec}
 use Rattle.ww_plain.specs.declared.node.Node.{Node}
 use Rattle.ww_plain.specs.Graph.{no_node}
 use Rattle.ww_plain.specs.Numbers.{is_among}
 use Rattle.ww_plain.proofs.Members.{different_push}
-use Rattle.ww_view.specs.declared.view.View.{View}
-use Rattle.ww_view.specs.View.{IsAway}
 use Rattle.ww_view.specs.Made.{without}
-use Rattle.ww_table.specs.declared.board.Board.{Board}
-use Rattle.ww_table.specs.declared.seat.Taking.TheVariants.{Took, Had, Missed}
+use Rattle.ww_table.specs.declared.seat.Taking.TheVariants.{Took}
 use Rattle.ww_table.specs.declared.seat.Giving.TheVariants.{Gave}
 use Rattle.ww_table.specs.Seat.{locks_of}
 use Rattle.ww_seat.specs.Accounts.{Account, account_of}
-use Rattle.ww_seat.specs.Calls.{HasAdded, HasGiven, HasLetOnce, HasStayedOut, HasTriedOnce, HoldsAsBefore}
-use Rattle.ww_seat.specs.Standings.{Standing, view_in, HasGoneIn, IsBack, IsSame}
+use Rattle.ww_seat.specs.Calls.{HasAdded, HasGiven, HasLetOnce, HasTriedOnce}
+use Rattle.ww_seat.specs.Standings.{Standing, view_in, CameTo, HasGoneIn, IsBack, IsSame}
+use Rattle.ww_seat.specs.declared.look.Arrival.{Arrival}
+use Rattle.ww_seat.specs.declared.look.Look.TheVariants.{Locked}
+use Rattle.ww_seat.specs.declared.waits.Waits.{Waits}
 use Rattle.ww_seat.specs.declared.resting.Memory.{Memory}
 use Rattle.ww_seat.proofs.Among.{owns_more}
 use Rattle.ww_seat.proofs.Gives.{given_then}
@@ -23,16 +23,16 @@ use Rattle.ww_seat.proofs.Kept.{same_then}
 use Rattle.ww_seat.proofs.Naps.{out_then}
 use Rattle.ww_seat.proofs.Without.{owns_less, different_without}
 use Rattle.ww_desk.specs.declared.turn.Turn.{Turn}
-use Rattle.ww_desk.specs.declared.turn.Turn.TheVariants.{Rests, Gives}
+use Rattle.ww_desk.specs.declared.turn.Turn.TheVariants.{Rests, Looks, Gives}
 use Rattle.ww_desk.specs.declared.station.Station.{Station}
-use Rattle.ww_desk.specs.Situations.{Situation, is_at_rest, IsPlain}
-use Rattle.ww_desk.specs.Answers.{HasTriedAsIs, HasReleased, StaysOut}
-use Rattle.ww_desk.specs.Stations.{situation_of, IsWhere, OwnsJust, Keeps}
+use Rattle.ww_desk.specs.Situations.{Situation, is_at_rest}
+use Rattle.ww_desk.specs.Answers.{HasReleased, StaysOut}
+use Rattle.ww_desk.specs.Stations.{IsWhere, OwnsJust, Keeps}
 use Rattle.ww_desk.proofs.Locks.{at_turn, few_owned, one_less, rest_of}
 
--- it counts no more than there are
-pub few_counted : (h : Station) → Keeps h → h.count ≤ 65536
-few_counted h k = let few = few_owned h.count _ _ _ k.owns in omega (arith, few, k.world.most)
+-- it counts no more than there are, wherever its call stands
+pub few_counted : (h : Station) (turn : Turn) → Keeps (record h { turn = turn }) → h.count ≤ 65536
+few_counted h turn k = let few = few_owned h.count _ _ _ k.owns in omega (arith, few, k.world.most)
 
 -- ---- what it owns
 
@@ -69,12 +69,19 @@ kept h q a count told turn memory w k same now draws long owns at = record {
 }
 
 -- it took a lock
-pub took : (h : Station) (q : Standing) (tries n : ℕ) (x : Node) (w : Vec ℕ) → Keeps h → length w.items ≡ length h.wake.items
+took : (h : Station) (q : Standing) (tries n : ℕ) (x : Node) (w : Vec ℕ) → Keeps h → length w.items ≡ length h.wake.items
     → n < locks_of (arc_value h.board) → is_among n (view_in h.seat).locks ≡ false → IsBack h.seat q
     → HasAdded (record (account_of h.seat.me) { tries = tries }) n x q.me
     → Keeps (record h { seat = q; count = h.count + 1; told = None; turn = Rests; wake = w })
 took h q tries n x w k long there lacks back t = kept h q _ (h.count + 1) None Rests h.memory w k back.same t.now refl long
     (one_more h.count _ n _ _ k.owns there lacks) back.away
+
+-- ... inside the guard
+pub took_inside : (h : Station) (q : Standing) (n : ℕ) (arrival : Arrival) (waits : Waits) (x : Node) (w : Vec ℕ)
+    → Keeps (record h { turn = Looks n arrival waits }) → length w.items ≡ length h.wake.items → IsSame h.seat q → CameTo h.seat n (Locked x) q
+    → Keeps (record h { seat = q; count = h.count + 1; told = None; turn = Rests; wake = w })
+took_inside h q n arrival waits x w k long same came = took (record h { turn = Looks n arrival waits }) q _ n x w k long k.stands.0
+    (sym (k.owns.same n) ∙ k.stands.1.want.lacks) (record { same = same; away = came.0 }) came.1
 
 -- it released a lock
 pub gave : (h : Station) (q : Standing) (n : ℕ) (w : Vec ℕ) → Keeps h → length w.items ≡ length h.wake.items
@@ -104,14 +111,6 @@ pub gave_at_once : (h : Station) (q : Standing) (n : ℕ) → Keeps h → is_at_
 gave_at_once h q n k rests there back t = subst (λ (r : Turn). Keeps (record h { seat = q; count = h.count - 1; turn = r }))
     (sym (rest_of h.turn rests))
     (gave h q n h.wake k refl (omega (arith, there, k.world.locks_are)) (sym (k.owns.same n) ∙ t.0) back t.1)
-
--- what is seen of a try in vain, of a lock that it has or hasn't
-pub tried_in_vain : (h : Station) (q : Standing) (n : ℕ) (own : Bool) → Keeps h → IsPlain (situation_of h) → n < h.locks
-    → HasTriedOnce h.seat.me n (if own then Had else Missed) q.me → HasStayedOut (view_in h.seat) (view_in q)
-    → q ≡ record (h.seat) { me = q.me }
-    → HasTriedAsIs (situation_of h) n (if own then Had else Missed) (situation_of (record h { seat = q }))
-tried_in_vain h q n true k plain there t out same = search rules
-tried_in_vain h q n false k plain there t out same = search rules
 
 -- ---- several releases
 

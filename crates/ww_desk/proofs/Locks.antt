@@ -9,7 +9,7 @@ use Rattle.ww_queue.proofs.Outcomes.{same_number, other_number, number_other, bo
 use Rattle.ww_model.specs.State.{any_below}
 use Rattle.ww_model.proofs.Slots.{below_found, found_below}
 use Rattle.ww_view.specs.declared.view.View.{View}
-use Rattle.ww_view.specs.View.{owns, IsBare}
+use Rattle.ww_view.specs.View.{owns}
 use Rattle.ww_view.specs.May.{WantsBase, WantsSigns}
 use Rattle.ww_view.specs.Made.{without}
 use Rattle.ww_table.specs.declared.board.Board.{Board}
@@ -147,13 +147,13 @@ may_try d b n k wants there is = let may = both_true (is_at_rest d.turn) (can_wa
   any = holds_told (view_in d.seat) d.count _ k.owns;
 })
 
-pub may_look : (d : Station) (b : Board) (wake : List ℕ) (n : ℕ) (arrival : Arrival) (waits : Waits) → Keeps d
-    → d.turn ≡ Looks n arrival waits → b ≡ arc_value d.board → wake ≡ d.wake.items
+pub may_look : (d : Station) (b : Board) (wake : List ℕ) (n : ℕ) (arrival : Arrival) (waits : Waits)
+    → Keeps (record d { turn = Looks n arrival waits }) → b ≡ arc_value d.board → wake ≡ d.wake.items
     → IsAtWorkThere b n arrival (not (eqb d.count 0)) wake d.seat
-may_look d b wake n arrival waits k turn is same = let at = at_turn d (Looks n arrival waits) k turn in rw (is, same) (record {
-  there = at.0;
-  working = at.1;
+may_look d b wake n arrival waits k is same = rw (is, same) (record {
+  there = k.stands.0;
+  working = k.stands.1;
   any = holds_told (view_in d.seat) d.count _ k.owns;
-  woken = at.2;
+  woken = k.stands.2;
   marks = omega (arith, k.world.words_are);
 })

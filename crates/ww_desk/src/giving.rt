@@ -23,6 +23,7 @@ impl Desk {
 
     /// Releases a lock, or begins to, between two calls.
     #[inline(always)]
+    #[tactic(auto, using(crate::proofs::Keeping::gave_at_once))]
     pub fn unlock_at_rest(&mut self, lock: u32) -> Answer
         requires rests { is_at_rest self.old.turn ≡ true }
         requires there { lock < self.old.size }
@@ -45,6 +46,7 @@ impl Desk {
 
     /// One try to release a lock, between two calls; whether it did. Whether the lock is held its word tells.
     #[inline(always)]
+    #[tactic(auto, using(crate::proofs::Keeping::gave_at_once))]
     fn releases(&mut self, lock: u32) -> bool
         requires rests { is_at_rest self.old.turn ≡ true }
         ensures { IsGivenOrKept self.old lock result self.new }

@@ -19,6 +19,7 @@ impl Desk {
     ghost use Rattle.ww_desk.specs.Answers.{BooksWakes, IsNextAnswer, IsStayAnswer, IsGiveAnswer, IsCancelAnswer, IsWakeAnswer};
 
     /// The next step of the call that is on its way. `Invalid` where none is.
+    #[tactic(auto, using(crate::proofs::Account::entered_keeps, crate::proofs::Account::give_balances, crate::proofs::Account::step_books))]
     pub fn go_on(&mut self) -> Answer
         ensures answer { IsNextAnswer self.old.turn self.old result self.new }
         ensures books { BooksWakes self.old self.new }
@@ -53,6 +54,7 @@ impl Desk {
     }
 
     /// One try to go inside the guard of a lock that it releases; inside, the lock is released for certain.
+    #[tactic(auto, using(crate::proofs::Keeping::gave_inside, crate::proofs::Marks::written))]
     fn let_go(&mut self, lock: u32) -> Answer
         requires turn { self.old.turn ≡ Gives lock }
         ensures answer { IsGiveAnswer self.old lock result self.new }
@@ -70,6 +72,7 @@ impl Desk {
 
     /// Calls off the wait of the seat of this number, if its call lets it. `Already` where that is pending, which
     /// stays; `Invalid` for a seat that the world hasn't.
+    #[tactic(auto, using(crate::proofs::Account::balances_cancel, crate::proofs::Account::step_books))]
     pub fn cancel(&mut self, victim: u16) -> Answer
         ensures answer { IsCancelAnswer self.old victim result self.new }
         ensures books { BooksWakes self.old self.new }

@@ -1,8 +1,7 @@
 ghost use Rattle.std.specs.Prelude.{◌≡◌, ◌≤◌, ◌<◌, ◌+◌, ◌^◌, [], length, IfOk, IfErr, vec_len, vec_capacity};
 ghost use Rattle.std.specs.Arc.{arc_value};
-ghost use Rattle.ww_rule.specs.Rule.{first_graph, places_for};
 ghost use Rattle.ww_table.specs.Made.{AreNew};
-ghost use Rattle.ww_desk.specs.Opened.{AreFresh, IsOpened, IsOpenFault, IsWorldSize};
+ghost use Rattle.ww_desk.specs.Opened.{AreFresh, IsBareTable, IsOpened, IsOpenFault, IsWorldSize};
 
 use crate::desk::Desk;
 use crate::station::Station;
@@ -88,9 +87,7 @@ fn fresh(
     mut all: Vec<Desk>,
 ) -> Result<Vec<Desk>, AllocError>
     requires seats { AreNew (arc_value board.now).table.shared.table_id (arc_value board.now).table.shared.key (length seats.items) seats.items }
-    requires bare { first_graph (arc_value board.now).table.shared.key ≡ [] }
-    requires locks { ((arc_value board.now).table.shared.key.locks ≡ locks) × (locks ≤ 65536) }
-    requires count { (count ≡ length seats.items) × (count < 4096) × ((arc_value board.now).table.shared.key.places ≡ places_for count) }
+    requires table { IsBareTable (arc_value board.now) locks count × (count ≡ length seats.items) }
     requires left { left < 2 ^ 52 }
     requires room { (all.items ≡ []) × (vec_len all ≡ 0) × (length seats.items ≤ vec_capacity all) }
     ensures { IfOk result (λ all. AreFresh all.items (arc_value board.now).table.shared.table_id locks count (arc_value board.now).table.shared.key.kind left (length seats.items)) }

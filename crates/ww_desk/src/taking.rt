@@ -28,16 +28,16 @@ impl Desk {
     }
 
     /// One try to take a lock, while it may want one. Whether it holds it the lock's word tells.
+    #[tactic(auto, using(crate::proofs::Locks::may_try, crate::proofs::Keeping::few_counted, crate::proofs::Keeping::took_at_once))]
     fn try_once(&mut self, lock: u32) -> Taking
         requires wants { wants_now self.old ≡ true }
         requires there { lock < self.old.size }
         ensures { HasTriedAsIs self.old lock result self.new }
     {
-        let holds = self.station.count != 0;
         match self
             .station
             .seat
-            .try_take_bare(&self.station.board, lock, holds)
+            .try_take_bare(&self.station.board, lock, self.station.count != 0)
         {
             Taking::Took => {
                 self.station.add();
@@ -50,6 +50,7 @@ impl Desk {
 
     /// The same where it may want a lock, as the caller knows: no sign is looked for.
     #[inline(always)]
+    #[tactic(auto, using(crate::proofs::Locks::may_take, crate::proofs::Keeping::few_counted, crate::proofs::Keeping::took_at_once))]
     fn try_plainly(&mut self, lock: u32) -> Tried
         requires plain { IsPlain self.old }
         requires there { lock < self.old.size }

@@ -11,7 +11,7 @@ new-requires c = let b = arc_value c.args.board.now in
     let next = next_is b.table.shared.table_id b.table.shared.key c.args.seats.items c.loop-seat.yielded
     c.loop-seat.seat-iterator.rest.items c.next.new.self.rest.items c.in-Some.seat c.requires.seats.new c.loop-seat.invariant.2
     (search rules) in
-    let none = ap length c.requires.bare in record {
+    let none = ap length c.requires.table.0.bare in record {
       new = (b.table.shared.table_id, b.table.shared.key, length c.loop-seat.yielded, next.0, omega (arith, none), omega (arith, none));
     }
 
@@ -26,11 +26,7 @@ invariant_of-push_reserved c =
       board = search rules;
       new = next.0;
       seat = c.new.ensures;
-      bare = c.requires.bare;
-      locks = sym c.requires.locks.0;
-      most = omega (arith, c.requires.locks.0, c.requires.locks.1);
-      seats = c.requires.count.1;
-      places = c.requires.count.2;
+      table = c.requires.table.0;
       left = c.requires.left;
       count = refl;
       is_done = refl;
@@ -66,11 +62,7 @@ loop-seat-preserved c =
       board = search rules;
       new = next.0;
       seat = c.new.ensures;
-      bare = c.requires.bare;
-      locks = sym c.requires.locks.0;
-      most = omega (arith, c.requires.locks.0, c.requires.locks.1);
-      seats = c.requires.count.1;
-      places = c.requires.count.2;
+      table = c.requires.table.0;
       left = c.requires.left;
       count = refl;
       is_done = refl;

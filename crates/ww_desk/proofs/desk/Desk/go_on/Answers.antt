@@ -1,20 +1,12 @@
 use Rattle.std.proofs.Common.{rules, ◌≡◌, refl, subst}
 use Rattle.ww_seat.specs.Standings.{IsIn}
-use Rattle.ww_desk.specs.declared.turn.Turn.TheVariants.{Wants, Looks}
+use Rattle.ww_desk.specs.declared.turn.Turn.TheVariants.{Looks}
 use Rattle.ww_desk.specs.Situations.{Situation}
 use Rattle.ww_desk.specs.Stations.{situation_of}
 use Rattle.ww_desk.specs.Answers.{BooksWakes}
-use Rattle.ww_desk.proofs.Account.{entered_balances, entered_keeps, give_balances, step_books, wait_balances}
+use Rattle.ww_desk.proofs.Account.{entered_balances, step_books, wait_balances}
 use Rattle.ww_desk.proofs.Locks.{at_turn}
 use Rattle.ww_desk.proofs.desk.Desk.go_on.Goals as goal
-
-pub look-requires : goal.look-requires
-look-requires c = let h = c.self.inside.station in let q = c.enter_wanted.new.self in let in_guard = c.if-not-enter_wanted.false in
-    let turn : h.turn ≡ Wants c.in-Wants.lock c.in-Wants.arrival c.in-Wants.waits = search rules in
-    let e : IsIn h.seat c.in-Wants.lock q = search rules in record { keeps = entered_keeps h c.in-Wants.lock c.in-Wants.arrival c.in-Wants.waits q c.self.invariant turn e }
-
-pub returns-else-not-enter_wanted-clause-answer : goal.returns-else-not-enter_wanted-clause-answer
-returns-else-not-enter_wanted-clause-answer c = rw (← c.self.view_is) (search rules)
 
 pub returns-else-not-enter_wanted-clause-books : goal.returns-else-not-enter_wanted-clause-books
 returns-else-not-enter_wanted-clause-books c = let h = c.self.inside.station in let q = c.enter_wanted.new.self in
@@ -38,7 +30,3 @@ returns-in-Looks-clause-books c = let h = c.self.inside.station in let s' = situ
       still = c.look-in-Looks.ensures.still;
       woken = at.2;
     })))
-
-pub returns-in-Gives-clause-books : goal.returns-in-Gives-clause-books
-returns-in-Gives-clause-books c = let s = c.args.self.now in let s' = c.let_go.new.self in
-    step_books s s' (give_balances s s' c.in-Gives.lock c.let_go.result c.let_go.ensures.answer c.let_go.ensures.debts)
