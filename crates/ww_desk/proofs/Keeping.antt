@@ -12,7 +12,8 @@ use Rattle.ww_table.specs.declared.seat.Giving.TheVariants.{Gave}
 use Rattle.ww_table.specs.Seat.{locks_of}
 use Rattle.ww_seat.specs.Accounts.{Account, account_of}
 use Rattle.ww_seat.specs.Calls.{HasAdded, HasGiven, HasLetOnce, HasTriedOnce}
-use Rattle.ww_seat.specs.Standings.{Standing, view_in, CameTo, HasGoneIn, IsBack, IsSame}
+use Rattle.ww_seat.specs.Standings.{Standing, view_in, HasGoneIn, IsBack, IsSame}
+use Rattle.ww_seat.specs.Looks.{CameTo}
 use Rattle.ww_seat.specs.declared.look.Arrival.{Arrival}
 use Rattle.ww_seat.specs.declared.look.Look.TheVariants.{Locked}
 use Rattle.ww_seat.specs.declared.waits.Waits.{Waits}
@@ -78,7 +79,7 @@ took h q tries n x w k long there lacks back t = kept h q _ (h.count + 1) None R
 
 -- ... inside the guard
 pub took_inside : (h : Station) (q : Standing) (n : ℕ) (arrival : Arrival) (waits : Waits) (x : Node) (w : Vec ℕ)
-    → Keeps (record h { turn = Looks n arrival waits }) → length w.items ≡ length h.wake.items → IsSame h.seat q → CameTo h.seat n (Locked x) q
+    → Keeps (record h { turn = Looks n arrival waits }) → length w.items ≡ length h.wake.items → IsSame h.seat q → CameTo n h.seat.me (Locked x) q.me
     → Keeps (record h { seat = q; count = h.count + 1; told = None; turn = Rests; wake = w })
 took_inside h q n arrival waits x w k long same came = took (record h { turn = Looks n arrival waits }) q _ n x w k long k.stands.0
     (sym (k.owns.same n) ∙ k.stands.1.want.lacks) (record { same = same; away = came.0 }) came.1
