@@ -22,7 +22,7 @@ use Rattle.ww_lock.specs.declared.hand.Hand.{Hand}
 use Rattle.ww_lock.specs.declared.close.History.{History}
 use Rattle.ww_lock.specs.Holding.{Home, Holding, Setting, AreAtHome, AreBelow, by_of, own_of}
 use Rattle.ww_lock.specs.Carried.{holding_of, held_of, Carries}
-use Rattle.ww_lock.specs.Closed.{has_pass, missing_of, IsSeatOf, AreSeatsOf, AreAllBelow, AreParts, IsBalanced, AreBalanced, IsClosed}
+use Rattle.ww_lock.specs.Closed.{has_pass, missing_of, WasSeatOf, AreSeatsOf, AreAllBelow, AreParts, IsBalanced, AreBalanced, IsClosed}
 use Rattle.ww_lock.proofs.Carrying.{bare_of, top_held}
 
 -- a seat between two calls that owns no lock has nothing out
@@ -33,8 +33,8 @@ nothing_out h c bare = go h.seat.seat.me.1 refl
     go [] out = refl
     go (x ∷ xs) out = absurd (true≢false (sym (top_held h x.0 x.1 xs c out) ∙ bare x.0))
 
-pub seat_of_pass : (h : Hand) (s : Holding) → holding_of h ≡ s → Carries h → held_of h ≡ [] → IsSeatOf s h.seat
-seat_of_pass h s is c none = subst (λ (t : Holding). IsSeatOf t h.seat) is (record {
+pub seat_of_pass : (h : Hand) (s : Holding) → holding_of h ≡ s → Carries h → held_of h ≡ [] → WasSeatOf s h.seat
+seat_of_pass h s is c none = subst (λ (t : Holding). WasSeatOf t h.seat) is (record {
   come = record { seated = c.settled.seated; bare = bare_of h c none; nothing = nothing_out h c (bare_of h c none) };
   number = refl;
   own = refl;
@@ -127,7 +127,7 @@ parts history (s ∷ ss) (q ∷ qs) are each = (
 
 -- what holds of each seat, told of its pass
 of_each : (passes : List Holding) (seats : List Seat16) (P : Holding → Type 0) → AreSeatsOf passes seats
-    → ((s : Holding) (q : Seat16) → IsSeatOf s q → Has seats q → P s) → AllByRecursion P passes
+    → ((s : Holding) (q : Seat16) → WasSeatOf s q → Has seats q → P s) → AllByRecursion P passes
 of_each [] [] P are each = tt
 of_each [] (q ∷ qs) P are each = absurd are
 of_each (s ∷ ss) [] P are each = absurd are
@@ -168,7 +168,7 @@ closed key w passes seats h first count none are c = let history : List Recorded
 }
 
 pub seats_push : (passes : List Holding) (seats : List Seat16) (s : Holding) (q : Seat16) → AreSeatsOf passes seats
-    → IsSeatOf s q → AreSeatsOf (passes ++ s ∷ []) (seats ++ q ∷ [])
+    → WasSeatOf s q → AreSeatsOf (passes ++ s ∷ []) (seats ++ q ∷ [])
 seats_push [] [] s q are is = (is, tt)
 seats_push [] (r ∷ rs) s q are is = absurd are
 seats_push (t ∷ ts) [] s q are is = absurd are
