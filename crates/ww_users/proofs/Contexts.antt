@@ -152,39 +152,6 @@ pub called_off_room : (waits : Waits) (s a b p : Holding) (by : ℕ) → IsConte
 called_off_room waits s a b p by h halted is = ap (λ (d : Holding). d.room) is
     ∙ ap (λ (d : Holding). d.room) halted.1.1.rest ∙ ap (λ (d : Holding). d.room) h.rest
 
--- ---- where it is at home
-
--- the context that a pass began
-pub begun_context : (s a : Holding) → IsBegun s a → IsContext s a
-begun_context s a h = subst (IsContext s) (sym h.rest)
-    (record { some = h.some; stamped = h.is_stamped; rest = refl; told = refl; size = refl })
-
-pub context_home : (s a : Holding) (w : Setting) → IsContext s a → IsAtHome s w → IsAtHome a w
-context_home s a w h home = record {
-  home = ap (λ (c : Holding). c.home) h.rest ∙ home.home;
-  size = h.size ∙ home.size;
-  number = rw (ap (λ (c : Holding). c.caller) h.rest) home.number;
-}
-
-same_home : (s a : Holding) (w : Setting) → IsSameContext s a → IsAtHome s w → IsAtHome a w
-same_home s a w h home = record {
-  home = ap (λ (c : Holding). c.home) h.rest ∙ home.home;
-  size = h.size ∙ home.size;
-  number = rw (ap (λ (c : Holding). c.caller) h.rest) home.number;
-}
-
-pub halted_home : (waits : Waits) (s a : Holding) (by : ℕ) (w : Setting) → IsHalted waits s by a → IsAtHome s w → IsAtHome a w
-halted_home waits s a by w halted home =
-    same_home (interrupted_by s halted.1.0 by) a w halted.1.1
-    (record { home = home.home; size = home.size; number = home.number })
-
--- the context of a trip that failed
-pub failed_home : (waits : Waits) (s a : Holding) (list : List ℕ) (kept : Option ℕ) (fault : UserFault) (w : Setting)
-    → IsTrip waits s list kept (Failed a fault) → IsAtHome s w → IsAtHome a w
-failed_home waits s a list kept PassSpent w h home = absurd h
-failed_home waits s a list kept (Already n) w h home = same_home s a w h.0 home
-failed_home waits s a list kept (fault.Interrupted by) w h home = halted_home waits s a by w h home
-
 -- ---- why it comes back as a pass
 
 pub halted_fault : (waits : Waits) (s a b p : Holding) (by : ℕ) → IsContext s a → IsHalted waits a by b

@@ -72,9 +72,6 @@ double_before ms ks n (Some m) different h =
           absurd (no_double_is_none (n ∷ ms) (Some m) first refl head_first)
     ]
 
-pub order_begins : (list : List ℕ) → IsReordered list list
-order_begins list = record { moved = IsPermutation-refl list; double = λ d h. h }
-
 -- the entry of this position is moved to the head, and all up to it differ
 order_later : (list order : List ℕ) (position n : ℕ) → position < length order → n ≡ get_or order position n
     → AreDifferent (take (position + 1) order) → IsReordered list order

@@ -5,28 +5,21 @@ use Rattle.ww_lock.specs.Moves.{IsTaken, IsInterrupted, emptied}
 use Rattle.ww_users.specs.Turns.{KeepsContext, StartsTurn, IsOneMore, IsHaltedBy}
 use Rattle.ww_users.proofs.Contexts.{same_taken}
 
-pub keeps_home : (s a : Holding) (w : Setting) → KeepsContext s a → IsAtHome s w → IsAtHome a w
+keeps_home : (s a : Holding) (w : Setting) → KeepsContext s a → IsAtHome s w → IsAtHome a w
 keeps_home s a w h home = record {
   home = ap (λ (c : Holding). c.home) h.rest ∙ home.home;
   size = h.size ∙ home.size;
   number = rw (ap (λ (c : Holding). c.caller) h.rest) home.number;
 }
 
-pub keeps_later : (s a b : Holding) → KeepsContext s a → KeepsContext a b → KeepsContext s b
+keeps_later : (s a b : Holding) → KeepsContext s a → KeepsContext a b → KeepsContext s b
 keeps_later s a b h more = record {
   rest = more.rest ∙ ap (λ (c : Holding).
       record c { held = b.held; seen = b.seen; tries = b.tries; takes = b.takes; deaths = b.deaths; deaf = b.deaf }) h.rest;
   size = more.size ∙ h.size;
 }
 
-pub keeps_at_once : (s : Holding) → KeepsContext s s
-keeps_at_once s = record { rest = refl; size = refl }
-
--- the first round starts so
-pub starts_at_once : (s : Holding) (w : Setting) → IsAtHome s w → StartsTurn s w s
-starts_at_once s w home = record { home = home; same = keeps_at_once s; held = inl refl }
-
--- ... and each round after a back-off, with the contended lock alone
+-- a round after a back-off starts with the contended lock alone
 pub starts_again : (s a b c : Holding) (n : ℕ) (w : Setting) → StartsTurn s w a → KeepsContext a b
     → IsTaken (emptied b) n c → c.held ≡ n ∷ [] → StartsTurn s w c
 starts_again s a b c n w starts turn taken alone =
