@@ -1,5 +1,5 @@
 -- What the calls say of a seat, one after another.
-use Rattle.std.proofs.Common.{ℕ, ◌<◌, false, length, get_or, refl, sym, ap, ◌∙◌, subst}
+use Rattle.std.proofs.Common.{◌≡◌, ℕ, ◌<◌, false, length, get_or, refl, sym, ap, ◌∙◌, subst}
 use Rattle.ww_plain.specs.declared.node.Node.{Node}
 use Rattle.ww_plain.specs.Graph.{IsNodeOf}
 use Rattle.ww_rule.specs.Rule.{Sat}
@@ -8,6 +8,7 @@ use Rattle.ww_seat.specs.declared.look.Look.TheVariants.{Locked, Deadlk, Interru
 use Rattle.ww_seat.specs.Accounts.{Account, having_taken, having_died, having_stopped}
 use Rattle.ww_seat.specs.Calls.{HoldsAsBefore, HasTaken, HasToDie, HasStopped}
 use Rattle.ww_seat.specs.Looks.{IsLook}
+use Rattle.ww_seat.specs.Standings.{Standing, CameTo}
 
 pub holds_same : (m : Sat) → HoldsAsBefore m m
 holds_same m = refl
@@ -41,3 +42,17 @@ look_then size n a b c (Locked x) h l = (l.0, l.1, taken_then a b c n x h l.2)
 look_then size n a b c (Deadlk k) h l = (l.0, l.1, die_then a b c n k h l.2)
 look_then size n a b c (Interrupted by) h l = (l.0, l.1, stopped_then a b c n by h l.2)
 look_then size n a b c Waits h l = (l.0, l.1, holds_then a b c h l.2)
+
+pub came_then : (s u s' : Standing) (n : ℕ) (look : Look) → HoldsAsBefore s.me u.me → CameTo u n look s' → CameTo s n look s'
+came_then s u s' n (Locked x) h l = (l.0, taken_then s.me u.me s'.me n x h l.1)
+came_then s u s' n (Deadlk k) h l = (l.0, die_then s.me u.me s'.me n k h l.1)
+came_then s u s' n (Interrupted by) h l = (l.0, stopped_then s.me u.me s'.me n by h l.1)
+came_then s u s' n Waits h l = (l.0, l.1, l.2, holds_then s.me u.me s'.me h l.3)
+
+-- it set no cancel
+pub came_cancels : (s s' : Standing) (n : ℕ) (look : Look) → CameTo s n look s'
+    → s'.me.0.part.counts.cancelled ≡ s.me.0.part.counts.cancelled
+came_cancels s s' n (Locked x) l = ap (λ (a : Account). a.counts.cancelled) l.1.now
+came_cancels s s' n (Deadlk k) l = ap (λ (a : Account). a.counts.cancelled) l.1.now
+came_cancels s s' n (Interrupted by) l = ap (λ (a : Account). a.counts.cancelled) l.1.now
+came_cancels s s' n Waits l = ap (λ (a : Account). a.counts.cancelled) l.3

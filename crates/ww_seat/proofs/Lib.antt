@@ -21,3 +21,4 @@ pub mod Ringing
 pub mod Marking
 pub mod Naps
 pub mod Debts
+pub mod Kept

@@ -1,12 +1,12 @@
 -- One mark is set or taken away, and the others stay.
-use Rattle.std.proofs.Common.{◌≡◌, ◌≢◌, ℕ, ◌+◌, ◌-◌, ◌*◌, ◌/◌, ◌%◌, ◌^◌, ◌==◌, ◌<◌, ◌≤◌, ◌⊎◌, ◌↔◌, true, false, List, length, set, get_or, replicate, refl, sym, ap, ◌∙◌, inl, inr, ⊎_elim, arith, bit_or, bit_and, w64, get_or-set_other, get_or-set_same}
+use Rattle.std.proofs.Common.{◌≡◌, ◌≢◌, ℕ, ◌-◌, ◌*◌, ◌/◌, ◌%◌, ◌^◌, ◌==◌, ◌<◌, false, List, length, set, get_or, replicate, sym, ap, ◌∙◌, inl, inr, arith, bit_or, bit_and, w64, get_or-set_other, get_or-set_same}
 use Rattle.std.proofs.lemmas.Bool.{cases_lt}
 use Rattle.std.proofs.lemmas.List.{get_or-replicate, get_or_past, length-replicate}
 use Rattle.std.proofs.lemmas.Nat.Bits.{bit_at-zero, bit_at_set_same, bit_at_set_other, bit_at_clear_same, bit_at_clear_other}
 use mathlib.Core.Logic.{dite}
 use native.Mathlib.Decide.{ℕ_discrete}
 use Rattle.ww_model.proofs.Outcomes.{number_same}
-use Rattle.ww_seat.specs.Marks.{is_marked, IsMarked, AreMarked}
+use Rattle.ww_seat.specs.Marks.{is_marked, IsMarked}
 
 -- the bit k of a word
 abbrev bit_at : ℕ → ℕ → ℕ

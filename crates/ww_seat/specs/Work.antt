@@ -1,5 +1,5 @@
 -- A seat at work inside the guard of a lock that it wants.
-use Rattle.std.specs.Prelude.{ℕ, suc, ◌≡◌, ◌≢◌, ◌<◌, ◌==◌, ◌⊎◌, ◌↔◌, not, Bool, true, false, List, [], ◌∷◌, length, Option, Some, None}
+use Rattle.std.specs.Prelude.{ℕ, suc, ◌≡◌, ◌≢◌, ◌<◌, ◌==◌, ◌⊎◌, not, Bool, true, false, List, [], ◌∷◌, length, Option, Some, None}
 use Rattle.ww_word.specs.declared.owner.Owner.{Owner}
 use Rattle.ww_word.specs.AnySeats.{IsValid}
 use Rattle.ww_queue.specs.declared.kind.Kind.TheVariants.{WoundWait, WaitDie}

@@ -11,7 +11,6 @@ use crate::interrupting::stop_if_cancelled;
 use crate::standing::{stand, stay_or_back_off};
 use crate::taking::take_inside;
 use crate::waits::Waits;
-use std::sync::Wait;
 use ww_plain::Node;
 use ww_table::{Board, Seat16};
 use ww_word::wide::Owner;
@@ -141,45 +140,4 @@ pub fn look_once(
         return Attempt::Ended(Look::Interrupted(by));
     }
     stay_or_back_off(seat, board, lock, word, *arrival, wake)
-}
-
-/// One look at a lock whose guard the seat has just entered, until it is outside again. A compare-exchange that finds
-/// another word makes the seat look at the word again.
-pub(crate) fn look_at<R: Wait>(
-    rt: &R,
-    seat: &mut Seat16,
-    board: &Board,
-    lock: u32,
-    arrival: Arrival,
-    waits: Waits,
-    holds: bool,
-    wake: &mut [u64],
-) -> Look
-    requires holds { any_below (length (view_of seat.old).owned) (owns (view_of seat.old)) ≡ holds }
-    requires seat { IsSeatOf board.now seat.old }
-    requires lock { lock < locks_of board.now }
-    requires orderly { IsOrderly (size_of board.now) seat.old.seat.me }
-    requires work { IsWorking lock (has_joined arrival) (looks_again arrival) (view_of seat.old) }
-    requires woken { AreWoken (view_of seat.old) wake.old }
-    requires marks { (view_of seat.old).seats ≤ 64 * length wake.old }
-    requires only { AreOnlyWoken (view_of seat.old) wake.old }
-    ensures seat { IsSeatOf board.now seat.new }
-    ensures records { seat.new.records ≡ seat.old.records }
-    ensures look { IsLook (size_of board.now) lock seat.old.seat.me result seat.new.seat.me }
-    ensures waits { MayLookSo board.now.table.shared.key.places waits result }
-    ensures uncancelled { MayWaitSo waits (view_of seat.new) result }
-    ensures woken { AreWoken (view_of seat.new) wake.new }
-    ensures only { AreOnlyWoken (view_of seat.new) wake.new }
-    ensures long { length wake.new ≡ length wake.old }
-    ensures nap { IsNap (view_of seat.old) result (view_of seat.new) }
-    ensures booked { (before : List ℕ) → HasBooked before (view_of seat.old) → HasBooked before (view_of seat.new) }
-{
-    let mut arrival = arrival;
-    for _ in rt.forever() {
-        match look_once(seat, board, lock, &mut arrival, waits, holds, wake) {
-            Attempt::Ended(look) => return look,
-            Attempt::Lost => {}
-        }
-    }
-    unreachable!()
 }

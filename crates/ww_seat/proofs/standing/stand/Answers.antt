@@ -1,4 +1,4 @@
-use Rattle.std.proofs.Common.{sym, ap, refl, subst, ◌∙◌, Bool, ℕ, ◌<◌, ◌^◌}
+use Rattle.std.proofs.Common.{sym, ap, refl, subst, ◌∙◌, Bool, ℕ, ◌<◌}
 use Rattle.ww_word.specs.AnySeats.{Fits}
 use Rattle.ww_rule.specs.Rule.{Sat}
 use Rattle.ww_rule.specs.Guards.{lost}
