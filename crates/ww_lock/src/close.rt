@@ -125,13 +125,13 @@ impl Pass {
         ensures all { AreBelow result self.now.own }
         ensures exact { (n : ℕ) → least ≤ n → AreBelow n self.now.own → result ≤ n }
     {
-        self.hand.seat.reach(least)
+        self.hand.reach(least)
     }
 
     fn into_seat(self) -> Seat16
         ensures { WasSeatOf self result }
     {
         let Pass { hand } = self;
-        Box::into_inner(hand).seat
+        Box::into_inner(hand).into_seat()
     }
 }
