@@ -357,14 +357,14 @@ gives_late h s s' n was now c among b still is w =
 
 -- ---- what it asks of its seat
 
-pub may_try : (h : Inside) (v : Carried) (b : Board) (n m : ℕ) (holds : Bool) → carried_of h ≡ v → Carries h → IsAt b h.seat
-    → MayLock n v → m ≡ n → owns_any (known_of v) ≡ holds → MayTry b m holds h.seat
-may_try h v b n m holds is c at may same any = let mine = subst (MayLock n) (sym is) may in record {
+pub may_try : (h : Inside) (v : Carried) (b : Board) (n m : ℕ) → carried_of h ≡ v → Carries h → IsAt b h.seat
+    → MayLock n v → m ≡ n → MayTry b m h.seat
+may_try h v b n m is c at may same = let mine = subst (MayLock n) (sym is) may in record {
   there = omega (arith, mine.there, same, c.size, at.size);
   away = c.away;
   lacks = ap (owns (view_in h.seat)) same ∙ c.suits.owned n ∙ mine.new;
   base = elim mine.want [ inl has ↦ inl has | inr none ↦ inr (bare_of h c none) ];
-  any = ap (λ (x : Carried). owns_any (known_of x)) is ∙ any;
+  nodes = λ k owned. omega (arith, held_there h k c owned, c.size);
 }
 
 -- it tried in vain, and may go on to wait

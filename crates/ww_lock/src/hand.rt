@@ -49,9 +49,8 @@ impl Hand {
     ghost use Rattle.ww_plain.specs.Graph.{IsNodeOf};
     ghost use Rattle.ww_plain.specs.Numbers.{is_among};
     ghost use Rattle.ww_plain.specs.Transaction.{transaction_of, Fits};
-    ghost use Rattle.ww_seat.specs.Standings.{owns_any};
     ghost use Rattle.ww_lock.specs.Holding.{Holds, AreBelow, reads};
-    ghost use Rattle.ww_lock.specs.Carried.{holding_of, held_of, known_of, stamp_of, MayBegin};
+    ghost use Rattle.ww_lock.specs.Carried.{holding_of, held_of, stamp_of, MayBegin};
     ghost use Rattle.ww_lock.specs.Closed.{WasSeatOf};
     ghost use Rattle.ww_lock.specs.Making.{Covers};
 
@@ -129,13 +128,6 @@ impl Hand {
         ensures { result ≡ is_among n (held_of self.now) }
     {
         self.marks[usize::from(n)]
-    }
-
-    /// Whether any node is held: then its seat owns a lock.
-    pub(crate) fn holds_some(&self) -> bool
-        ensures { owns_any (known_of self.now) ≡ result }
-    {
-        self.seat.holds()
     }
 
     /// A node as it was when it was locked; nothing where it isn't held.

@@ -40,8 +40,7 @@ impl Hand {
         requires may { MayLock n self.old }
         ensures { IsTried self.old n result self.new }
     {
-        let holds = self.holds_some();
-        match self.seat.try_take(&world.board, u32::from(n), holds) {
+        match self.seat.try_take(&world.board, u32::from(n)) {
             Some(node) => {
                 add(&mut self.marks, &mut self.seen, n, node);
                 self.patience.win();
@@ -66,13 +65,11 @@ impl Hand {
         requires may { HasLost n self.old }
         ensures { (s : Holding) → holding_of self.old ≡ tried s → HasCome s n waits result self.new }
     {
-        let holds = self.holds_some();
         let node = self.seat.wait_for(
             rt,
             &world.board,
             u32::from(n),
             waits,
-            holds,
             &mut self.patience,
             &mut self.bells,
         )?;

@@ -13,8 +13,8 @@ pub try_take-requires-clause-may : goal.try_take-requires-clause-may
 try_take-requires-clause-may c = let h = c.self.inside in
     let at = at_board h c.args.self.now c.world.inside.board c.world.inside.wires.items c.args.world.now c.self.view_is
     c.world.view_is c.requires.home c.self.invariant in
-    may_try h c.args.self.now c.world.inside.board c.args.n c.from.result c.holds_some-holds.result c.self.view_is
-    c.self.invariant at c.requires.may c.from.ensures c.holds_some-holds.ensures
+    may_try h c.args.self.now c.world.inside.board c.args.n c.from.result c.self.view_is
+    c.self.invariant at c.requires.may c.from.ensures
 
 abbrev taken : After-win → Inside
 taken c = record (c.self.inside) { seat = c.try_take.new.self; marks = c.add.new.marks; seen = c.add.new.seen; patience = c.win.new.self }

@@ -27,12 +27,12 @@ wait_for-requires-clause-may g c = let h = c.self.inside in
     let at = at_board h c.args.self.now c.world.inside.board c.world.inside.wires.items c.args.world.now c.self.view_is
     c.world.view_is c.requires.home c.self.invariant in
     let may = subst (HasLost c.args.n) (sym c.self.view_is) c.requires.may in
-    let t = may_try h c.args.self.now c.world.inside.board c.args.n c.from.result c.holds_some-holds.result c.self.view_is
-    c.self.invariant at c.requires.may.may c.from.ensures c.holds_some-holds.ensures in record {
+    let t = may_try h c.args.self.now c.world.inside.board c.args.n c.from.result c.self.view_is
+    c.self.invariant at c.requires.may.may c.from.ensures in record {
       there = omega (arith, t.there, c.world.inside.board.fits);
       away = t.away;
       want = record { lacks = t.lacks; base = t.base; signs = may.signs };
-      any = t.any;
+      nodes = t.nodes;
       tried = may.glances;
     }
 
