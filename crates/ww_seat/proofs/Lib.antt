@@ -11,7 +11,6 @@ pub mod Working
 pub mod Signing
 pub mod There
 pub mod Took
-pub mod Starts
 pub mod Stood
 pub mod Stopped
 pub mod Stepwise
