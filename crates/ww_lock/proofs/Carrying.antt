@@ -1,5 +1,5 @@
 -- What a pass carries, as the calls of its seat change that.
-use Rattle.std.proofs.Common.{◌≡◌, ◌≢◌, ℕ, suc, zero, ◌+◌, ◌<◌, ◌≤◌, ◌^◌, eqb, get_or, true≢false, Bool, true, false, List, [], ◌∷◌, length, map, set, refl, sym, ap, subst, ◌∙◌, arith, inl, inr, Err, Some, slice_get, length-set, get_or-set_same, get_or-set_other}
+use Rattle.std.proofs.Common.{◌≡◌, ◌≢◌, ℕ, suc, zero, ◌+◌, ◌<◌, ◌≤◌, ◌^◌, eqb, get_or, true≢false, Bool, true, false, List, [], ◌∷◌, length, map, set, refl, sym, ap, subst, ◌∙◌, arith, inl, inr, Err, Ok, Some, slice_get, length-set, get_or-set_same, get_or-set_other}
 use Rattle.std.specs.List.{AllByRecursion}
 use mathlib.Core.Option.{some}
 use lib.ListN.{get_elem?}
@@ -16,8 +16,8 @@ use Rattle.ww_rule.specs.Rule.{Sat}
 use Rattle.ww_table.specs.declared.board.Board.{Board}
 use Rattle.ww_seat.specs.Accounts.{Account, account_of, having_tried, having_taken, having_given, having_died, having_stopped}
 use Rattle.ww_seat.specs.Bells.{heard, rings_at, leads_to, sleeps_at, AreBellsOf, ArePlacedAlike}
-use Rattle.ww_seat.specs.Calls.{HoldsAsBefore, HasAdded, HasMissed, HasGiven, HasStayedOut, IsTurnedAway, MayStop}
-use Rattle.ww_seat.specs.Standings.{Standing, view_in, size_in, IsAt, IsBack, IsBackAtOnce, IsEven, IsGive, IsGiven, MayTry}
+use Rattle.ww_seat.specs.Calls.{HoldsAsBefore, HasAdded, HasTaken, HasMissed, HasGiven, HasStayedOut, IsTurnedAway, MayStop}
+use Rattle.ww_seat.specs.Standings.{Standing, view_in, size_in, owns_any, IsAt, IsBack, IsBackAtOnce, IsEven, IsGive, IsGiven, IsWait, MayTry, StaysEven}
 use Rattle.ww_seat.specs.declared.bell.Bell.{Bell}
 use Rattle.ww_seat.specs.declared.bell.Wire.{Wire}
 use Rattle.ww_seat.specs.declared.patience.Patience.{Patience}
@@ -300,6 +300,42 @@ turned_away h s' p bells n waits (Interrupted by) c f new b alike d may still =
         },
         d.unmet,
         may,
+      );
+    }
+
+-- ... as its seat tells it, which had its bells as a slice
+pub waits_in_vain : (h : Inside) (b : Board) (s : Standing) (p : Patience) (was now : List Bell) (n m : ℕ) (waits : Waits) (why : Stop)
+    → Carries h → MayLock n (carried_of h) → IsWait b h.seat m waits (Err why) s → StaysEven h.patience was s p now
+    → was ≡ h.bells.items → m ≡ n → b.table.shared.key.places ≡ 16
+    → TurnsAway h (record h { seat = s; patience = p; bells = with_items h.bells now }) n waits why
+waits_in_vain h b s p was now n m waits why c may e even is same places =
+    turned_away h s p (with_items h.bells now) n waits why c may.fresh may.new e.back
+    (alike_after h (record h { seat = s; patience = p; bells = with_items h.bells now }) was now is even.placed refl even.parker even.even)
+    (subst (λ (k : ℕ). IsTurnedAway h.seat.me k why s.me) same e.came.0) (subst (λ (k : ℕ). MayStop k waits why) places e.came.1) e.deaf
+
+-- it has the lock, after one try in vain
+pub record Gets (h g : Inside) (n : ℕ) (waits : Waits) : Type 0 where
+  pub carries : Carries g
+  pub came : (s : Holding) → holding_of (carried_of h) ≡ tried s → HasCome s n waits (Ok tt) (carried_of g)
+
+pub waits_out : (h g : Inside) (b : Board) (was now : List Bell) (n m : ℕ) (waits : Waits) (x : Node) → Carries h
+    → MayLock n (carried_of h) → IsWait b h.seat m waits (Ok x) g.seat → StaysEven h.patience was g.seat g.patience now
+    → was ≡ h.bells.items → g.bells ≡ with_items h.bells now → m ≡ n → g.left ≡ h.left → g.marks ≡ set h.marks n true
+    → g.seen ≡ set h.seen n x → Gets h g n waits
+waits_out h g b was now n m waits x c may e even is bells same left marked read =
+    let t = takes h g h.seat.me.0.part.core.tries n x c may.fresh may.there may.new e.back
+    (subst (λ (k : ℕ). HasTaken h.seat.me k x g.seat.me) same e.came)
+    (alike_after h g was now is even.placed bells even.parker even.even) left marked read in record {
+      carries = t.carries;
+      came = λ s tried_once. (
+        t.fresh,
+        λ until. e.deaf until ∙ ap (λ (y : Holding). y.deaf) tried_once,
+        record {
+          new = sym (ap (λ (y : Holding). is_among n y.held) tried_once) ∙ may.new;
+          contents = x;
+          added = t.is ∙ ap (λ (y : Holding). with_node (record y { takes = y.takes + 1; deaf = (view_in g.seat).deaf }) n x) tried_once;
+        },
+        e.came.unmet,
       );
     }
 

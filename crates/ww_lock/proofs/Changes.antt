@@ -7,8 +7,8 @@ use Rattle.ww_plain.specs.Numbers.{joined, distinct_of}
 use Rattle.ww_plain.specs.Graph.{node_at}
 use Rattle.ww_plain.specs.Walk.{BeginsWith, walk_of, stop_of}
 use Rattle.ww_plain.specs.Footprint.{with_target, walked}
-use Rattle.ww_plain.specs.Transaction.{get, add, move, link, sum, reverse, peek, Fits}
-use Rattle.ww_plain.specs.Meaning.{answer_of}
+use Rattle.ww_plain.specs.Transaction.{get, add, move, link, sum, reverse, peek, Fits, transaction_of}
+use Rattle.ww_plain.specs.Meaning.{answer_of, graph_after}
 use Rattle.ww_plain.proofs.Members.{true_or_false, is_among-append, is_among-head}
 use Rattle.ww_plain.proofs.Walks.{gives_walk}
 use Rattle.ww_view.specs.View.{owns}
@@ -16,6 +16,7 @@ use Rattle.ww_seat.specs.Accounts.{Account, account_of, having_committed}
 use Rattle.ww_seat.specs.Calls.{HoldsAll}
 use Rattle.ww_seat.specs.Standings.{Standing, view_in, IsCommit}
 use Rattle.ww_lock.specs.declared.hand.Hand.TheInside.{Inside}
+use Rattle.ww_lock.specs.declared.prepared.Prepared.TheInside as prepared
 use Rattle.ww_lock.specs.declared.prepared.Receipt.{Receipt}
 use Rattle.ww_lock.specs.Carried.{held_of, seen_with, holding_of, IsFresh}
 use Rattle.ww_lock.specs.Hands.{carried_of, Carries}
@@ -92,6 +93,15 @@ some_footprint graph (reverse start port length) size fits = some_walk graph sta
 some_footprint graph (peek node) size fits = (node, is_among-head node [])
 
 -- ---- a commit
+
+-- what contracts see of a transaction that was prepared
+abbrev pub change_of : prepared.Inside → Change
+change_of p = record {
+  transaction = transaction_of p.record.txn;
+  answer = answer_of p.record.reply;
+  before = p.before.value;
+  after = graph_after p.before.value (transaction_of p.record.txn);
+}
 
 -- what a seat is asked for a commit, by what is carried
 pub record MaySettle (h : Inside) (p : Change) (r : Record) : Type 0 where

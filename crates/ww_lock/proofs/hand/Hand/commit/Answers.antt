@@ -1,7 +1,6 @@
 use Rattle.std.proofs.Common.{ap, length, sym, subst, ◌∙◌}
 use Rattle.ww_plain.specs.declared.history.Record.{Record}
-use Rattle.ww_plain.specs.Transaction.{transaction_of}
-use Rattle.ww_plain.specs.Meaning.{answer_of, graph_after}
+use Rattle.ww_lock.specs.declared.hand.Hand.TheInside.{Inside}
 use Rattle.ww_lock.specs.declared.prepared.Receipt.{Receipt}
 use Rattle.ww_lock.specs.Holding.{Change}
 use Rattle.ww_lock.specs.Carried.{Carried, holding_of, IsFresh}
@@ -9,19 +8,14 @@ use Rattle.ww_lock.specs.Hands.{carried_of}
 use Rattle.ww_lock.specs.Making.{IsMade}
 use Rattle.ww_lock.specs.Moves.{IsCommitted}
 use Rattle.ww_lock.proofs.Carrying.{at_board}
-use Rattle.ww_lock.proofs.Changes.{may_settle, commits}
+use Rattle.ww_lock.proofs.Changes.{Commits, change_of, may_settle, commits}
+use Rattle.ww_lock.proofs.hand.Hand.commit.Goals.{After-drop-changes}
 use Rattle.ww_lock.proofs.hand.Hand.commit.Goals as goal
 
 pub commit-place-requires-clause-may : goal.commit-place-requires-clause-may
 commit-place-requires-clause-may c = let h = c.self.inside in
     let i = c.prepared.inside in
-    let t = transaction_of i.record.txn in
-    let p : Change = record {
-      transaction = t;
-      answer = answer_of i.record.reply;
-      before = i.before.value;
-      after = graph_after i.before.value t;
-    } in
+    let p = change_of i in
     let r : Record = record (i.record) { caller = c.caller.result; seq = c.commits-seq.result } in
     let fresh = subst IsFresh (sym c.self.view_is) c.requires.may.0 in
     let who = c.caller.ensures ∙ sym (ap (λ (v : Carried). (holding_of v).caller) c.self.view_is) in
@@ -43,41 +37,28 @@ commit-place-requires-clause-may c = let h = c.self.inside in
       reserved = mine.room;
     }
 
-pub invariant_of-self : goal.invariant_of-self
-invariant_of-self c = let h = c.self.inside in
+abbrev after : After-drop-changes → Inside
+after c = record (c.self.inside) { seat = c.commit-place.new.self }
+
+abbrev told : After-drop-changes → Receipt
+told c = record { place = c.commit-place.result; seq = c.commits-seq.result; reply = c.prepared.inside.reply }
+
+done : (c : After-drop-changes) → Commits c.self.inside (after c) (change_of c.prepared.inside) (told c)
+done c =
+    let h = c.self.inside in
     let i = c.prepared.inside in
-    let t = transaction_of i.record.txn in
-    let p : Change = record {
-      transaction = t;
-      answer = answer_of i.record.reply;
-      before = i.before.value;
-      after = graph_after i.before.value t;
-    } in
     let r : Record = record (i.record) { caller = c.caller.result; seq = c.commits-seq.result } in
-    let fresh = subst IsFresh (sym c.self.view_is) c.requires.may.0 in
     let who = c.caller.ensures ∙ sym (ap (λ (v : Carried). (holding_of v).caller) c.self.view_is) in
     let seq = c.commits-seq.ensures ∙ sym (ap (λ (v : Carried). length (holding_of v).own) c.self.view_is) in
-    let told : Receipt = record { place = c.commit-place.result; seq = c.commits-seq.result; reply = i.reply } in
-    (commits h c.commit-place.new.self p r i.before.value told c.self.invariant fresh c.commit-place.ensures
-    (λ j. record { caller = who j; seq = seq j; transaction = t; answer = p.answer }) seq c.prepared.invariant.reply).carries
+    commits h c.commit-place.new.self (change_of i) r i.before.value (told c) c.self.invariant
+    (subst IsFresh (sym c.self.view_is) c.requires.may.0) c.commit-place.ensures
+    (λ j. record { caller = who j; seq = seq j; transaction = (change_of i).transaction; answer = (change_of i).answer }) seq
+    c.prepared.invariant.reply
+
+pub invariant_of-self : goal.invariant_of-self
+invariant_of-self c = (done c).carries
 
 pub returns : goal.returns
-returns c = let h = c.self.inside in
-    let i = c.prepared.inside in
-    let t = transaction_of i.record.txn in
-    let p : Change = record {
-      transaction = t;
-      answer = answer_of i.record.reply;
-      before = i.before.value;
-      after = graph_after i.before.value t;
-    } in
-    let r : Record = record (i.record) { caller = c.caller.result; seq = c.commits-seq.result } in
-    let fresh = subst IsFresh (sym c.self.view_is) c.requires.may.0 in
-    let who = c.caller.ensures ∙ sym (ap (λ (v : Carried). (holding_of v).caller) c.self.view_is) in
-    let seq = c.commits-seq.ensures ∙ sym (ap (λ (v : Carried). length (holding_of v).own) c.self.view_is) in
-    let told : Receipt = record { place = c.commit-place.result; seq = c.commits-seq.result; reply = i.reply } in
-    let b = commits h c.commit-place.new.self p r i.before.value told c.self.invariant fresh c.commit-place.ensures
-    (λ j. record { caller = who j; seq = seq j; transaction = t; answer = p.answer }) seq c.prepared.invariant.reply in
-    let now = holding_of (carried_of (record h { seat = c.commit-place.new.self })) in
-    subst (λ (q : Change). IsCommitted (holding_of c.args.self.now) q now told) c.prepared.view_is
-    (subst (λ (v : Carried). IsCommitted (holding_of v) p now told) c.self.view_is b.is)
+returns c = subst (λ (q : Change). IsCommitted (holding_of c.args.self.now) q (holding_of (carried_of (after c))) (told c)) c.prepared.view_is
+    (subst (λ (v : Carried). IsCommitted (holding_of v) (change_of c.prepared.inside) (holding_of (carried_of (after c))) (told c))
+    c.self.view_is (done c).is)

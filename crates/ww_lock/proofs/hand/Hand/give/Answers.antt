@@ -1,11 +1,8 @@
-use Rattle.std.proofs.Common.{Bool, false, get_or, set, ap, subst, arith, ◌∙◌}
-use Rattle.std.specs.Vec.{with_items}
+use Rattle.std.proofs.Common.{Bool, false, get_or, ap, subst, arith, ◌∙◌}
 use Rattle.ww_plain.specs.Numbers.{is_among}
 use Rattle.ww_seat.specs.Accounts.{Account}
 use Rattle.ww_seat.specs.Standings.{IsGive}
 use Rattle.ww_lock.specs.Carried.{Carried, held_of}
-use Rattle.ww_lock.specs.Hands.{carried_of}
-use Rattle.ww_lock.specs.Moves.{HasLetGo}
 use Rattle.ww_lock.proofs.Carrying.{at_board, held_there, gives_at_once, gives_late}
 use Rattle.ww_lock.proofs.hand.Hand.give.Goals as goal
 
@@ -37,19 +34,15 @@ invariant_of-self-else-not-give g c = let h = c.self.inside in (gives_at_once h 
     (subst (λ (r : Bool). IsGive h.seat c.args.n r c.give.new.self) c.if-not-give.false c.give.ensures)).carries
 
 pub returns-then-not-give : goal.returns-then-not-give
-returns-then-not-give g c = let h = c.self.inside in
-    let v = gives_late h c.give.new.self c.give_waited.new.self c.args.n c.deref_mut.result.now
+returns-then-not-give g c = rw (← c.self.view_is) (
+    let v = gives_late c.self.inside c.give.new.self c.give_waited.new.self c.args.n c.deref_mut.result.now
     c.give_waited.new.bells c.self.invariant (ap (λ (v : Carried). is_among c.args.n (held_of v)) c.self.view_is ∙ c.requires.held)
-    c.give.ensures.0 c.if-not-give.ensures.1.0 c.deref_mut.ensures.value c.give_waited.ensures in
-    subst (λ (x : Carried). HasLetGo x (carried_of (record h {
-      seat = c.give_waited.new.self;
-      marks = set h.marks c.args.n false;
-      bells = with_items h.bells c.give_waited.new.bells;
-    }))) c.self.view_is (record { rest = v.is; fewer = v.fewer })
+    c.give.ensures.0 c.if-not-give.ensures.1.0 c.deref_mut.ensures.value c.give_waited.ensures in record { rest = v.is; fewer = v.fewer }
+    )
 
 pub returns-else-not-give : goal.returns-else-not-give
-returns-else-not-give g c = let h = c.self.inside in
-    let v = gives_at_once h c.give.new.self c.args.n c.self.invariant (ap (λ (v : Carried). is_among c.args.n (held_of v)) c.self.view_is ∙ c.requires.held)
-    (subst (λ (r : Bool). IsGive h.seat c.args.n r c.give.new.self) c.if-not-give.false c.give.ensures) in
-    subst (λ (x : Carried). HasLetGo x (carried_of (record h { seat = c.give.new.self; marks = set h.marks c.args.n false })))
-    c.self.view_is (record { rest = v.is; fewer = v.fewer })
+returns-else-not-give g c = rw (← c.self.view_is) (
+    let v = gives_at_once c.self.inside c.give.new.self c.args.n c.self.invariant (ap (λ (v : Carried). is_among c.args.n (held_of v)) c.self.view_is ∙ c.requires.held)
+    (subst (λ (r : Bool). IsGive c.self.inside.seat c.args.n r c.give.new.self) c.if-not-give.false c.give.ensures) in
+    record { rest = v.is; fewer = v.fewer }
+    )
