@@ -17,7 +17,7 @@ use Rattle.ww_table.specs.declared.board.Board.{Board}
 use Rattle.ww_seat.specs.Accounts.{Account, account_of, having_tried, having_taken, having_given, having_died, having_stopped}
 use Rattle.ww_seat.specs.Bells.{heard, rings_at, leads_to, sleeps_at, AreBellsOf, ArePlacedAlike}
 use Rattle.ww_seat.specs.Calls.{HoldsAsBefore, HasAdded, HasTaken, HasMissed, HasGiven, HasStayedOut, IsTurnedAway, MayStop}
-use Rattle.ww_seat.specs.Standings.{Standing, view_in, size_in, owns_any, IsAt, IsBack, IsBackAtOnce, IsEven, IsGive, IsGiven, IsWait, MayTry, StaysEven}
+use Rattle.ww_seat.specs.Standings.{Standing, view_in, size_in, IsAt, IsBack, IsBackAtOnce, IsEven, IsGive, IsGiven, IsWait, MayTry, StaysEven}
 use Rattle.ww_seat.specs.declared.bell.Bell.{Bell}
 use Rattle.ww_seat.specs.declared.bell.Wire.{Wire}
 use Rattle.ww_seat.specs.declared.patience.Patience.{Patience}

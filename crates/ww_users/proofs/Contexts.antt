@@ -1,7 +1,7 @@
 -- Contexts of a pass, through their tries.
 use Rattle.std.proofs.Common.{◌≡◌, ℕ, ◌+◌, ◌-◌, [], length, refl, sym, ap, subst, ◌∙◌, arith, length-set, List, Option, IfErr}
-use Rattle.ww_lock.specs.Holding.{Holding, Setting, IsAtHome}
-use Rattle.ww_lock.specs.Moves.{with_node, taken, backed_off, having_slept, interrupted_by, emptied, going_on_or_halted, IsBegun, IsTaken, IsInterrupted, IsAnswer}
+use Rattle.ww_lock.specs.Holding.{Holding}
+use Rattle.ww_lock.specs.Moves.{with_node, taken, backed_off, having_slept, interrupted_by, emptied, going_on_or_halted, IsTaken, IsInterrupted, IsAnswer}
 use Rattle.ww_lock.specs.Waits.{Waits}
 use Rattle.ww_lock.specs.Waits.TheVariants.{UntilCancelled}
 use Rattle.ww_lock.specs.declared.interruptible.Interruptible.{Interruptible}

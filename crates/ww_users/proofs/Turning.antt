@@ -1,5 +1,5 @@
 -- What holds of each round of a body, and of what its rounds come to.
-use Rattle.std.proofs.Common.{◌≡◌, ℕ, ◌∷◌, [], List, refl, sym, ap, subst, ◌∙◌, inl, inr}
+use Rattle.std.proofs.Common.{◌≡◌, ℕ, ◌∷◌, [], List, refl, sym, ap, subst, ◌∙◌, inr}
 use Rattle.ww_lock.specs.Holding.{Holding, Setting, IsAtHome}
 use Rattle.ww_lock.specs.Moves.{IsTaken, IsInterrupted, emptied}
 use Rattle.ww_users.specs.Turns.{KeepsContext, StartsTurn, IsOneMore, IsHaltedBy}
