@@ -1,9 +1,9 @@
 /*
  * The proved library for C on aarch64, as the kit's compiler (LLVM) makes it.  Written by ./build c --assembly.
  *
- * sources: 5e250fd453532ab9a25235ccd49724ce3292057364aeb75f8e3f206d6cd5abde
- * kit:     rattle-kit-13b logic dac8208d650f15bf
- * proof:   logic=proved functions=56 axioms=3 target=aarch64-unknown-linux-gnu sum=dac8208d650f15bf
+ * sources: 12b7ce9cfc0b6947b7e6c03e7ec94971b4b5088900276fa00a9394546fd7ad72
+ * kit:     rattle-kit-13f logic dac8208d650f15bf
+ * proof:   logic=proved functions=57 axioms=3 target=aarch64-unknown-linux-gnu sum=dac8208d650f15bf
  */
 	.section	.rodata.cst8,"aM",@progbits,8
 	.p2align	3, 0x0
@@ -2592,7 +2592,7 @@ ww_c__exports__lock_anyhow:
 	stp	xzr, xzr, [sp]
 	str	d0, [x0, #8]
 	mov	x0, sp
-	bl	ww_desk__station__Station__lock
+	bl	ww_desk__desk__Desk__lock_here
 	ldrb	w0, [sp]
 	adrp	x9, .LJTI8_0
 	add	x9, x9, :lo12:.LJTI8_0
@@ -2702,10 +2702,10 @@ ww_c__exports__lock_anyhow:
 	.byte	(.LBB8_8-.LBB8_2)>>2
 	.byte	(.LBB8_13-.LBB8_2)>>2
 
-	.section	.text.ww_desk__station__Station__lock,"ax",@progbits
+	.section	.text.ww_desk__desk__Desk__lock_here,"ax",@progbits
 	.p2align	2
-	.type	ww_desk__station__Station__lock,@function
-ww_desk__station__Station__lock:
+	.type	ww_desk__desk__Desk__lock_here,@function
+ww_desk__desk__Desk__lock_here:
 	stp	x29, x30, [sp, #-48]!
 	ldrb	w8, [x1, #424]
 	stp	x22, x21, [sp, #16]
@@ -2731,7 +2731,7 @@ ww_desk__station__Station__lock:
 	b.hs	.LBB9_13
 	mov	x0, x20
 	mov	w1, w22
-	bl	ww_desk__station__Station__try_once
+	bl	ww_desk__desk__Desk__try_once
 	and	w8, w0, #0xff
 	cmp	w8, #2
 	b.eq	.LBB9_9
@@ -2778,7 +2778,7 @@ ww_desk__station__Station__lock:
 .LBB9_13:
 	mov	x0, x20
 	mov	w1, w22
-	bl	ww_desk__station__Station__refuses
+	bl	ww_desk__desk__Desk__refuses
 	and	w8, w0, #0xff
 	mov	w9, #1797
 	stur	xzr, [x19, #2]
@@ -2803,12 +2803,12 @@ ww_desk__station__Station__lock:
 	ldp	x29, x30, [sp], #48
 	ret
 .Lfunc_end9:
-	.size	ww_desk__station__Station__lock, .Lfunc_end9-ww_desk__station__Station__lock
+	.size	ww_desk__desk__Desk__lock_here, .Lfunc_end9-ww_desk__desk__Desk__lock_here
 
-	.section	.text.unlikely.ww_desk__station__Station__refuses,"ax",@progbits
+	.section	.text.unlikely.ww_desk__desk__Desk__refuses,"ax",@progbits
 	.p2align	2
-	.type	ww_desk__station__Station__refuses,@function
-ww_desk__station__Station__refuses:
+	.type	ww_desk__desk__Desk__refuses,@function
+ww_desk__desk__Desk__refuses:
 	ldrb	w8, [x0, #424]
 	cbz	w8, .LBB10_2
 	mov	w0, wzr
@@ -2854,12 +2854,12 @@ ww_desk__station__Station__refuses:
 	mov	w0, #2
 	ret
 .Lfunc_end10:
-	.size	ww_desk__station__Station__refuses, .Lfunc_end10-ww_desk__station__Station__refuses
+	.size	ww_desk__desk__Desk__refuses, .Lfunc_end10-ww_desk__desk__Desk__refuses
 
-	.section	.text.ww_desk__station__Station__try_once,"ax",@progbits
+	.section	.text.ww_desk__desk__Desk__try_once,"ax",@progbits
 	.p2align	2
-	.type	ww_desk__station__Station__try_once,@function
-ww_desk__station__Station__try_once:
+	.type	ww_desk__desk__Desk__try_once,@function
+ww_desk__desk__Desk__try_once:
 	ldr	w9, [x0, #400]
 	ldr	x8, [x0]
 	cbnz	w9, .LBB11_2
@@ -2935,7 +2935,7 @@ ww_desk__station__Station__try_once:
 	cinc	w0, w8, ne
 	ret
 .Lfunc_end11:
-	.size	ww_desk__station__Station__try_once, .Lfunc_end11-ww_desk__station__Station__try_once
+	.size	ww_desk__desk__Desk__try_once, .Lfunc_end11-ww_desk__desk__Desk__try_once
 
 	.section	.text.ww_table__make__cut,"ax",@progbits
 	.p2align	2
@@ -3620,7 +3620,7 @@ ww_c__exports__try_anyhow:
 	b.hs	.LBB19_15
 	mov	x20, x0
 	mov	x0, x19
-	bl	ww_desk__station__Station__try_once
+	bl	ww_desk__desk__Desk__try_once
 	ands	w8, w0, #0xff
 	b.eq	.LBB19_11
 	cmp	w8, #1
@@ -3651,7 +3651,7 @@ ww_c__exports__try_anyhow:
 	ret
 .LBB19_15:
 	mov	x0, x19
-	bl	ww_desk__station__Station__refuses
+	bl	ww_desk__desk__Desk__refuses
 	and	w8, w0, #0xff
 	adrp	x9, .Lswitch.table.ww_c__exports__try_anyhow
 	add	x9, x9, :lo12:.Lswitch.table.ww_c__exports__try_anyhow
@@ -5055,16 +5055,21 @@ ww_go_on_:
 	.type	ww_has_,@function
 ww_has_:
 	ldr	w8, [x0, #8]
-	cbz	w8, .LBB28_6
+	cbz	w8, .LBB28_3
 	ldr	x8, [x0]
 	ldrb	w9, [x8, #424]
-	cbz	w9, .LBB28_3
+	cbz	w9, .LBB28_5
 	mov	w0, #-16
 	ret
 .LBB28_3:
+	mov	w0, #-22
+.LBB28_4:
+	ret
+.LBB28_5:
 	ldr	w9, [x8, #404]
+	mov	w0, #-22
 	cmp	w1, w9
-	b.hs	.LBB28_6
+	b.hs	.LBB28_4
 	ldr	x9, [x8]
 	mov	w10, w1
 	ldr	x8, [x8, #64]
@@ -5095,11 +5100,7 @@ ww_has_:
 	and	x8, x8, #0x3ffffffffffffffe
 	csel	x8, x10, x8, eq
 	cmp	x9, x8
-	b.ne	.LBB28_6
-	mov	w0, wzr
-	ret
-.LBB28_6:
-	mov	w0, #-22
+	csel	w0, wzr, w0, eq
 	ret
 .Lfunc_end28:
 	.size	ww_has_, .Lfunc_end28-ww_has_
@@ -5289,7 +5290,7 @@ ww_lock_slow_:
 	and	w3, w2, #0x1
 	mov	x1, x19
 	mov	w2, w8
-	bl	ww_desk__station__Station__lock
+	bl	ww_desk__desk__Desk__lock_here
 	ldrb	w0, [sp]
 	adrp	x9, .LJTI32_0
 	add	x9, x9, :lo12:.LJTI32_0

@@ -1,9 +1,9 @@
 /*
  * The proved library for C on x86_64, as the kit's compiler (LLVM) makes it.  Written by ./build c --assembly.
  *
- * sources: 5e250fd453532ab9a25235ccd49724ce3292057364aeb75f8e3f206d6cd5abde
- * kit:     rattle-kit-13b logic dac8208d650f15bf
- * proof:   logic=proved functions=56 axioms=3 target=x86_64-unknown-linux-gnu sum=dac8208d650f15bf
+ * sources: 12b7ce9cfc0b6947b7e6c03e7ec94971b4b5088900276fa00a9394546fd7ad72
+ * kit:     rattle-kit-13f logic dac8208d650f15bf
+ * proof:   logic=proved functions=57 axioms=3 target=x86_64-unknown-linux-gnu sum=dac8208d650f15bf
  */
 	.section	.text.unlikely.ww_c__exports__begin_anyhow,"ax",@progbits
 	.p2align	4
@@ -2737,7 +2737,7 @@ ww_c__exports__lock_anyhow:
 	movq	%rsp, %rdi
 	movq	%rbx, %rsi
 	movl	%r8d, %edx
-	callq	ww_desk__station__Station__lock
+	callq	ww_desk__desk__Desk__lock_here
 	movzbl	(%rsp), %eax
 	leaq	.LJTI8_0(%rip), %rcx
 	movslq	(%rcx,%rax,4), %rdx
@@ -2810,10 +2810,10 @@ ww_c__exports__lock_anyhow:
 	.long	.LBB8_14-.LJTI8_0
 	.long	.LBB8_15-.LJTI8_0
 
-	.section	.text.ww_desk__station__Station__lock,"ax",@progbits
+	.section	.text.ww_desk__desk__Desk__lock_here,"ax",@progbits
 	.p2align	4
-	.type	ww_desk__station__Station__lock,@function
-ww_desk__station__Station__lock:
+	.type	ww_desk__desk__Desk__lock_here,@function
+ww_desk__desk__Desk__lock_here:
 	pushq	%rbp
 	pushq	%r15
 	pushq	%r14
@@ -2838,7 +2838,7 @@ ww_desk__station__Station__lock:
 	jae	.LBB9_12
 	movq	%r14, %rdi
 	movl	%r15d, %esi
-	callq	ww_desk__station__Station__try_once
+	callq	ww_desk__desk__Desk__try_once
 	cmpb	$2, %al
 	je	.LBB9_11
 	movzbl	%al, %ecx
@@ -2883,7 +2883,7 @@ ww_desk__station__Station__lock:
 .LBB9_12:
 	movq	%r14, %rdi
 	movl	%r15d, %esi
-	callq	ww_desk__station__Station__refuses
+	callq	ww_desk__desk__Desk__refuses
 	shlb	$4, %al
 	movabsq	$25770262533, %rdx
 	movl	%eax, %ecx
@@ -2899,12 +2899,12 @@ ww_desk__station__Station__lock:
 	popq	%rbp
 	retq
 .Lfunc_end9:
-	.size	ww_desk__station__Station__lock, .Lfunc_end9-ww_desk__station__Station__lock
+	.size	ww_desk__desk__Desk__lock_here, .Lfunc_end9-ww_desk__desk__Desk__lock_here
 
-	.section	.text.unlikely.ww_desk__station__Station__refuses,"ax",@progbits
+	.section	.text.unlikely.ww_desk__desk__Desk__refuses,"ax",@progbits
 	.p2align	4
-	.type	ww_desk__station__Station__refuses,@function
-ww_desk__station__Station__refuses:
+	.type	ww_desk__desk__Desk__refuses,@function
+ww_desk__desk__Desk__refuses:
 	cmpb	$0, 424(%rdi)
 	je	.LBB10_3
 	xorl	%eax, %eax
@@ -2952,12 +2952,12 @@ ww_desk__station__Station__refuses:
 	movb	$2, %al
 	retq
 .Lfunc_end10:
-	.size	ww_desk__station__Station__refuses, .Lfunc_end10-ww_desk__station__Station__refuses
+	.size	ww_desk__desk__Desk__refuses, .Lfunc_end10-ww_desk__desk__Desk__refuses
 
-	.section	.text.ww_desk__station__Station__try_once,"ax",@progbits
+	.section	.text.ww_desk__desk__Desk__try_once,"ax",@progbits
 	.p2align	4
-	.type	ww_desk__station__Station__try_once,@function
-ww_desk__station__Station__try_once:
+	.type	ww_desk__desk__Desk__try_once,@function
+ww_desk__desk__Desk__try_once:
 	movq	(%rdi), %rax
 	cmpl	$0, 400(%rdi)
 	jne	.LBB11_5
@@ -3029,7 +3029,7 @@ ww_desk__station__Station__try_once:
 	#NO_APP
 	jmp	.LBB11_5
 .Lfunc_end11:
-	.size	ww_desk__station__Station__try_once, .Lfunc_end11-ww_desk__station__Station__try_once
+	.size	ww_desk__desk__Desk__try_once, .Lfunc_end11-ww_desk__desk__Desk__try_once
 
 	.section	.text.ww_table__make__cut,"ax",@progbits
 	.p2align	4
@@ -3778,7 +3778,7 @@ ww_c__exports__try_anyhow:
 	jae	.LBB19_9
 	movq	%rdi, %r14
 	movq	%rbx, %rdi
-	callq	ww_desk__station__Station__try_once
+	callq	ww_desk__desk__Desk__try_once
 	cmpb	$2, %al
 	je	.LBB19_16
 	movzbl	%al, %ecx
@@ -3809,7 +3809,7 @@ ww_c__exports__try_anyhow:
 	retq
 .LBB19_9:
 	movq	%rbx, %rdi
-	callq	ww_desk__station__Station__refuses
+	callq	ww_desk__desk__Desk__refuses
 	movzbl	%al, %eax
 	leaq	.Lswitch.table.ww_c__exports__try_anyhow(%rip), %rcx
 	movl	(%rcx,%rax,4), %eax
@@ -5354,7 +5354,7 @@ ww_lock_slow_:
 	movq	%rsp, %rdi
 	movq	%r14, %rsi
 	movl	%eax, %edx
-	callq	ww_desk__station__Station__lock
+	callq	ww_desk__desk__Desk__lock_here
 	movzbl	(%rsp), %eax
 	leaq	.LJTI32_0(%rip), %rcx
 	movslq	(%rcx,%rax,4), %rdx

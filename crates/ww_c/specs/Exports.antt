@@ -3,7 +3,7 @@ use Rattle.std.specs.Prelude.{ℕ, zero, suc, ◌≡◌, ◌≤◌, ◌⊎◌, �
 use Rattle.std.specs.Global.{Global}
 use Rattle.ww_desk.specs.declared.turn.Answer.{Answer}
 use Rattle.ww_desk.specs.Situations.{Situation}
-use Rattle.ww_desk.specs.Answers.{BooksWakes, IsEachAnswer, IsNextAnswer, IsCancelAnswer, IsWakeAnswer, IsIdle}
+use Rattle.ww_desk.specs.Answers.{BooksWakes, IsEachAnswer, IsNextAnswer, IsCancelAnswer, IsWakeAnswer, HasNothing}
 use Rattle.ww_desk.specs.Opened.{IsWorldSize, IsOpened}
 use Rattle.ww_queue.specs.declared.kind.Kind.{Kind}
 use Rattle.ww_queue.specs.declared.kind.Kind.TheVariants.{WoundWait, WaitDie}
@@ -45,7 +45,7 @@ IsEachCall (Some s) ns left after = (s' : Situation) × (after ≡ Some s') × I
 -- whether the desk is idle, which an empty handle counts as
 abbrev pub IsIdleCall : Option Situation → ℤ → Option Situation → Type 0
 IsIdleCall None code after = (code ≡ pos 0) × (after ≡ None)
-IsIdleCall (Some s) code after = (after ≡ Some s) × ((IsIdle s × (code ≡ pos 0)) ⊎ ((¬ IsIdle s) × (code ≡ negsuc 15)))
+IsIdleCall (Some s) code after = (after ≡ Some s) × ((HasNothing s × (code ≡ pos 0)) ⊎ ((¬ HasNothing s) × (code ≡ negsuc 15)))
 
 -- how many locks the desk holds, which are none for an empty handle
 abbrev pub IsHeldCall : Option Situation → ℕ → Option Situation → Type 0
@@ -55,7 +55,7 @@ IsHeldCall (Some s) count after = (after ≡ Some s) × (count ≡ length s.held
 -- an idle desk is closed, and any other is left as it is
 abbrev pub IsCloseCall : Option Situation → ℤ → Option Situation → Type 0
 IsCloseCall None code after = (code ≡ pos 0) × (after ≡ None)
-IsCloseCall (Some s) code after = (IsIdle s × (code ≡ pos 0) × (after ≡ None)) ⊎ ((¬ IsIdle s) × (code ≡ negsuc 15) × (after ≡ Some s))
+IsCloseCall (Some s) code after = (HasNothing s × (code ≡ pos 0) × (after ≡ None)) ⊎ ((¬ HasNothing s) × (code ≡ negsuc 15) × (after ≡ Some s))
 
 -- 1 to 65,536 locks and 1 to 4,095 seats, each of which may begin fewer than 2 ^ 52 contexts, of one of two kinds
 pub record IsWorld (kind locks left seats : ℕ) : Type 0 where

@@ -1,32 +1,31 @@
 -- The account of wakes: each step marks whom it comes to owe a wake.
-use Rattle.std.proofs.Common.{◌≡◌, ◌≢◌, ℕ, ◌+◌, Bool, true, false, true≢false, cond, not, eqb, List, [], ◌∷◌, ◌==◌, Option, Some, None, inl, inr, ⊎_elim, ◌⊎◌, refl, sym, ap, ◌∙◌, subst, arith}
+use Rattle.std.proofs.Common.{◌≡◌, ◌≢◌, ℕ, ◌+◌, ◌<◌, ◌≤◌, Bool, true, false, true≢false, cond, not, eqb, List, [], ◌∷◌, ◌==◌, Option, Some, None, inl, inr, ⊎_elim, ◌⊎◌, refl, sym, ap, ◌∙◌, subst, arith}
 use Rattle.std.proofs.lemmas.Bool.{cases_lt}
 use Rattle.ww_queue.specs.Queue.{Has}
 use Rattle.ww_plain.proofs.Members.{true_or_false, same_from_eqb, eqb_same}
 use Rattle.ww_view.specs.declared.view.View.{View}
 use Rattle.ww_view.specs.Made.{is_one_of, with_heir}
 use Rattle.ww_seat.specs.Bells.{one_more, times}
-use Rattle.std.specs.Arc.{arc_value}
-use Rattle.ww_table.specs.declared.board.Board.{Board}
-use Rattle.ww_table.specs.declared.seat.Seat16.{Seat16}
-use Rattle.ww_table.specs.Seat.{IsSeatOf, locks_of, size_of, view_of}
-use Rattle.ww_seat.specs.Accounts.{Account}
-use Rattle.ww_seat.specs.Orderly.{IsOrderly}
+use Rattle.ww_rule.specs.Guards.{glancing}
+use Rattle.ww_seat.specs.Accounts.{Account, account_of}
+use Rattle.ww_seat.specs.Standings.{Standing, view_in, IsIn}
+use Rattle.ww_seat.specs.declared.look.Arrival.TheVariants.{Came}
+use Rattle.ww_seat.specs.declared.resting.Memory.{Memory}
+use Rattle.ww_seat.specs.declared.resting.Stay.{Stay}
 use Rattle.ww_seat.specs.declared.look.Arrival.{Arrival}
-use Rattle.ww_seat.specs.Work.{AreWoken, HasBooked, HasToWake, IsAtWork, IsMarked, IsWorking, StillHasToWake, debts_with}
+use Rattle.ww_seat.specs.Work.{AreWoken, HasBooked, HasToWake, IsMarked, IsWorking, StillHasToWake, debts_with}
 use Rattle.ww_seat.proofs.Debts.{more_cancelled, more_owed, times_booked}
 use Rattle.ww_seat.proofs.Without.{another}
-use Rattle.ww_seat.specs.declared.resting.Stay.{Stay}
 use Rattle.ww_seat.specs.declared.waits.Waits.{Waits}
 use Rattle.ww_desk.specs.declared.turn.Answer.{Answer}
-use Rattle.ww_desk.specs.declared.turn.Turn.{Turn}
-use Rattle.ww_desk.specs.declared.turn.Turn.TheVariants.{Wants, Looks}
+use Rattle.ww_desk.specs.declared.turn.Turn.TheVariants.{Stays, Wants, Looks}
 use Rattle.ww_desk.specs.declared.station.Station.{Station}
-use Rattle.ww_desk.specs.Stations.{table_of, situation_of, IsAt, Keeps}
+use Rattle.ww_desk.specs.Stations.{situation_of, Keeps}
+use Rattle.ww_desk.proofs.Locks.{at_turn}
 use Rattle.ww_desk.proofs.Keeping.{kept}
-use Rattle.ww_desk.specs.declared.turn.Answer.TheVariants.{Done, Again, Awaits, Stays, Sleeps, Deadlk, Interrupted}
+use Rattle.ww_desk.specs.declared.turn.Answer.TheVariants.{Done, Again, Awaits, Sleeps, Deadlk, Interrupted}
 use Rattle.ww_desk.specs.Situations.{Situation}
-use Rattle.ww_desk.specs.Answers.{Balances, BooksWakes, HasTurned, IsGiveAnswer, IsStayAnswer, IsWaitAnswer, WakesAlso, WakesCondemned, WakesHeir, wakes_owed}
+use Rattle.ww_desk.specs.Answers.{Balances, BooksWakes, IsGiveAnswer, IsWaitAnswer, WakesAlso, WakesCondemned, WakesHeir, wakes_owed}
 
 -- it owes one wake more to each of these, and marks each but itself
 record MarksThese (s : Situation) (these : ℕ → Bool) (s' : Situation) : Type 0 where
@@ -73,10 +72,6 @@ IsAlike s t = (t.caller ≡ s.caller) × (t.cancelled ≡ s.cancelled) × (t.vie
 
 alike_balances : (s s' t : Situation) → s' ≡ t → IsAlike s t → Balances s s'
 alike_balances s s' t is alike = subst (Balances s) (sym is) (balances_same s t alike.0 alike.1 alike.2 alike.3)
-
-turned_balances : (s s' : Situation) (turn : Turn) → HasTurned s turn s' → Balances s s'
-turned_balances s s' turn h = balances_same s s' (ap (λ (x : Situation). x.caller) h.1) (ap (λ (x : Situation). x.cancelled) h.1)
-    h.0.debts (ap (λ (x : Situation). x.wakes) h.1)
 
 -- ---- one after the other
 
@@ -223,11 +218,6 @@ looked_balances s s' t is alike b marks = balances_look s s' (ap (λ (x : Situat
 
 -- ---- by what a step came to
 
-pub stay_balances : (s s' : Situation) (n : ℕ) (stay : Stay) (waits : Waits) (a : Answer) → IsStayAnswer s n stay waits a s' → Balances s s'
-stay_balances s s' n stay waits (Stays rest) h = turned_balances s s' _ h.1.2
-stay_balances s s' n stay waits Again h = turned_balances s s' _ h.1
-stay_balances s s' n stay waits _ h = absurd h
-
 pub wait_balances : (s s' : Situation) (n : ℕ) (waits : Waits) (a : Answer) → IsWaitAnswer s n waits a s' → IsBooking s s'
     → Balances s s'
 wait_balances s s' n waits Awaits h b = alike_balances s s' _ h.now (refl, refl, refl, refl)
@@ -249,21 +239,40 @@ give_balances s s' n _ h debts = absurd h
 pub step_books : (s s' : Situation) → Balances s s' → BooksWakes s s'
 step_books s s' step first b = balances_then first s s' b step
 
--- ---- inside a guard
+-- ---- further steps
 
--- where the seat is, by where its call stands
-pub at_turn : (h : Station) (turn : Turn) → Keeps h → h.turn ≡ turn
-    → IsAt (table_of (arc_value h.board)) (size_of (arc_value h.board)) (locks_of (arc_value h.board)) h.wake.items turn h.seat
-at_turn h turn keeps is = subst (λ (t : Turn). IsAt (table_of (arc_value h.board)) (size_of (arc_value h.board))
-    (locks_of (arc_value h.board)) h.wake.items t h.seat) is keeps.at
+-- after a spin read
+abbrev glanced : Standing → Standing
+glanced s = record s { me = (glancing s.me.0, s.me.1) }
 
--- it went inside just now
-pub record HasEntered (h : Station) (b : Board) (n : ℕ) (q : Seat16) : Type 0 where
-  pub board : b ≡ arc_value h.board
-  pub seat : IsSeatOf b q
-  pub work : IsAtWork (size_of b) n h.seat.seat.me (not ((view_of h.seat).waits == 0)) (not ((view_of h.seat).waits == 0)) q.seat.me
-  pub condemned : (view_of q).condemned ≡ []
-  pub debts : (view_of q).debts ≡ (view_of h.seat).debts
+-- it made a spin read, and stays away
+pub glanced_stays : (h : Station) (q : Standing) (memory : Memory) (n : ℕ) (stay next : Stay) (waits : Waits) → Keeps h
+    → h.turn ≡ Stays n stay waits → next.glances < stay.glances → 1 ≤ next.glances → q ≡ glanced h.seat
+    → Keeps (record h { seat = q; turn = Stays n next waits; memory = memory })
+glanced_stays h q memory n stay next waits k turn fewer some is = let at = at_turn h (Stays n stay waits) k turn in
+    rw is (kept h (glanced h.seat) (account_of h.seat.me) h.count h.told (Stays n next waits) memory h.wake k
+    (record { now = refl; size = refl }) refl refl refl k.owns (
+      at.0,
+      record { lacks = at.1.lacks; base = at.1.base; signs = at.1.signs },
+      record { away = at.2.away; one = some; few = omega (arith, at.2.few, fewer) },
+    ))
+
+-- ... or wants the lock now
+pub glanced_wants : (h : Station) (q : Standing) (memory : Memory) (n : ℕ) (stay : Stay) (waits : Waits) → Keeps h
+    → h.turn ≡ Stays n stay waits → q ≡ glanced h.seat
+    → Keeps (record h { seat = q; turn = Wants n Came waits; memory = memory })
+glanced_wants h q memory n stay waits k turn is = let at = at_turn h (Stays n stay waits) k turn in
+    let off = sym (ap (λ (w : ℕ). not (w == 0)) at.2.away.1) in
+    rw is (kept h (glanced h.seat) (account_of h.seat.me) h.count h.told (Wants n Came waits) memory h.wake k
+    (record { now = refl; size = refl }) refl refl refl k.owns (
+      record {
+        there = at.0;
+        want = record { lacks = at.1.lacks; base = at.1.base; signs = at.1.signs };
+        outside = at.2.away.0;
+        place = inl (at.2.away.1);
+      },
+      (off, off),
+    ))
 
 entered_booked : (v : View) → v.condemned ≡ [] → HasBooked v.debts v
 entered_booked v none = ap (λ (l : List ℕ). debts_with v.who l v.debts) (sym none)
@@ -271,32 +280,30 @@ entered_booked v none = ap (λ (l : List ℕ). debts_with v.who l v.debts) (sym 
 entered_woken : (v : View) (marks : List ℕ) → v.condemned ≡ [] → AreWoken v marks
 entered_woken v marks none u has = absurd (subst (λ (l : List ℕ). Has l u) none has.0)
 
-pub entered_keeps : (h : Station) (b : Board) (n : ℕ) (arrival : Arrival) (waits : Waits) (q : Seat16) → Keeps h
-    → h.turn ≡ Wants n arrival waits → HasEntered h b n q → Keeps (record h { seat = q; turn = Looks n arrival waits })
-entered_keeps h b n arrival waits q keeps turn e = let at = at_turn h (Wants n arrival waits) keeps turn in let v : View = q.seat.me.0.part.core in
-    kept h (record h { seat = q; turn = Looks n arrival waits }) keeps
-    (record { board = refl; locks = refl; seats = refl; left = refl; marks = refl; now = e.work.holds }) refl e.seat.stamp (
-      subst (λ (x : Board). IsSeatOf x q) e.board e.seat,
-      at.1,
-      subst (λ (x : Board). IsOrderly (size_of x) q.seat.me) e.board e.work.orderly,
-      subst (λ (x : Bool × Bool). IsWorking n x.0 x.1 v) (λ i. (sym at.3.0 i, sym at.3.1 i)) e.work.working,
+-- it went inside just now
+pub entered_keeps : (h : Station) (n : ℕ) (arrival : Arrival) (waits : Waits) (q : Standing) → Keeps h
+    → h.turn ≡ Wants n arrival waits → IsIn h.seat n q → Keeps (record h { seat = q; turn = Looks n arrival waits })
+entered_keeps h n arrival waits q k turn e = let at = at_turn h (Wants n arrival waits) k turn in let v = view_in q in
+    kept h q (account_of h.seat.me) h.count h.told (Looks n arrival waits) h.memory h.wake k e.gone.same e.gone.holds refl refl k.owns (
+      at.0.there,
+      subst (λ (x : Bool × Bool). IsWorking n x.0 x.1 v) (λ i. (sym at.1.0 i, sym at.1.1 i)) e.working,
       entered_woken v h.wake.items e.condemned,
       (v.debts, entered_booked v e.condemned),
     )
 
 -- it looked just after it went inside
-pub entered_balances : (h : Station) (b : Board) (n : ℕ) (q : Seat16) (waits : Waits) (a : Answer) (g : Station) → HasEntered h b n q
-    → IsWaitAnswer (situation_of (record h { seat = q })) n waits a (situation_of g) → StillHasToWake (view_of q) (view_of g.seat)
+pub entered_balances : (h : Station) (n : ℕ) (q : Standing) (waits : Waits) (a : Answer) (g : Station) → IsIn h.seat n q
+    → IsWaitAnswer (situation_of (record h { seat = q })) n waits a (situation_of g) → StillHasToWake (view_in q) (view_in g.seat)
     → Balances (situation_of h) (situation_of g)
-entered_balances h b n q waits a g e answer still = let t : Station = record h { seat = q } in
+entered_balances h n q waits a g e answer still = let t : Station = record h { seat = q } in
     balances_then (situation_of h) (situation_of t) (situation_of g)
-    (balances_same (situation_of h) (situation_of t) (ap (λ (x : Account). x.who) e.work.holds)
-    (ap (λ (x : Account). x.counts.cancelled) e.work.holds) e.debts refl)
+    (balances_same (situation_of h) (situation_of t) (ap (λ (x : Account). x.who) e.gone.holds)
+    (ap (λ (x : Account). x.counts.cancelled) e.gone.holds) e.gone.debts refl)
     (wait_balances (situation_of t) (situation_of g) n waits a answer (record {
       own = refl;
       still_own = refl;
-      before = (view_of q).debts;
-      booked = entered_booked (view_of q) e.condemned;
+      before = (view_in q).debts;
+      booked = entered_booked (view_in q) e.condemned;
       still = still;
-      woken = entered_woken (view_of q) h.wake.items e.condemned;
+      woken = entered_woken (view_in q) h.wake.items e.condemned;
     }))

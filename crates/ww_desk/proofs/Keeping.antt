@@ -1,302 +1,117 @@
 -- What a desk keeps, as the calls of its seat change that.
-use Rattle.std.proofs.Common.{◌≡◌, ℕ, ◌+◌, ◌-◌, ◌<◌, ◌≤◌, ◌≢◌, ◌==◌, ◌&&◌, Bool, not, true, false, true≢false, List, [], ◌∷◌, ◌++◌, length, set, get_or, refl, sym, ap, subst, ◌∙◌, arith, eqb, inl, inr, ⊎_elim, is_none, if◌then◌else◌, get_or-set_other, length-set, length-append, Some, None, slice_get, Option, append_assoc, ◌⊎◌}
-use Rattle.std.specs.Prelude.{unwrap_or, IfSome}
+use Rattle.std.proofs.Common.{◌≡◌, ℕ, ◌+◌, ◌-◌, ◌<◌, ◌≤◌, Bool, true, false, List, [], ◌∷◌, ◌++◌, length, set, refl, sym, ap, subst, ◌∙◌, arith, length-set, length-append, None, Option}
 use Rattle.std.specs.Arc.{arc_value}
-use Rattle.ww_queue.specs.declared.entry.Entry.{Entry}
-use Rattle.ww_plain.specs.declared.node.Node.{Node}
-use Rattle.ww_plain.specs.Numbers.{is_among, AreDifferent}
-use Rattle.ww_plain.proofs.Members.{different_push, true_or_false}
-use Rattle.ww_view.specs.declared.view.View.{View}
-use Rattle.ww_view.specs.View.{owns}
-use Rattle.ww_rule.specs.declared.cells.Counts.{Counts}
-use Rattle.ww_rule.specs.Rule.{Sat}
-use Rattle.ww_rule.specs.Guards.{AreSeats, glancing}
-use Rattle.ww_table.specs.declared.board.Board.{Board}
-use Rattle.ww_table.specs.declared.seat.Seat16.{Seat16}
-use Rattle.ww_table.specs.Seat.{IsSeatOf, giving_of, locks_of, size_of, tells_own, view_of}
-use Rattle.ww_seat.specs.Orderly.{IsSettled, IsSettledAt}
-use Rattle.ww_seat.specs.Accounts.{Account, account_of, having_tried}
-use Rattle.ww_seat.specs.Calls.{HasAdded, HasGiven, HasTaken, HasLetOnce, HasTriedOnce}
-use Rattle.ww_table.specs.declared.seat.Taking.{Taking}
-use Rattle.ww_table.specs.declared.seat.Taking.TheVariants.{Took, Had, Missed}
-use Rattle.ww_table.specs.declared.seat.Giving.TheVariants.{Gave, Kept, Lacked}
-use Rattle.ww_table.specs.declared.seat.Found.{Found}
-use Rattle.ww_table.specs.declared.seat.Tried.TheVariants.{InVain}
-use Rattle.ww_queue.proofs.Outcomes.{both_true, number_other}
-use Rattle.ww_plain.specs.Graph.{no_node}
-use Rattle.ww_seat.specs.Looks.{IsOutside}
-use Rattle.ww_seat.specs.Work.{ComesOutside}
-use Rattle.ww_seat.specs.declared.resting.Memory.{Memory}
-use Rattle.ww_seat.specs.declared.resting.Stay.{Stay}
-use Rattle.ww_seat.specs.declared.waits.Waits.{Waits}
-use Rattle.ww_seat.specs.declared.look.Arrival.TheVariants.{Came}
-use Rattle.ww_desk.specs.declared.turn.Turn.{Turn}
-use Rattle.ww_desk.specs.declared.turn.Turn.TheVariants.{Rests, Stays, Wants, Gives}
-use Rattle.ww_desk.specs.declared.station.Station.{Station}
-use Rattle.ww_desk.specs.Situations.{Situation, is_at_rest, IsPlain}
-use Rattle.ww_desk.specs.Answers.{HasGivenBack, HasReleased, HasSomeHeld, StaysOut}
-use Rattle.ww_seat.proofs.Naps.{out_then}
-use Rattle.ww_view.specs.Made.{without}
-use Rattle.ww_desk.specs.Stations.{table_of, situation_of, wants_now, IsAt, Keeps, MayStay}
-use Rattle.ww_seat.proofs.Outside.{orderly_knowing, owned_low}
 use Rattle.std.specs.Global.{Vec}
+use Rattle.ww_plain.specs.declared.node.Node.{Node}
+use Rattle.ww_plain.specs.Graph.{no_node}
+use Rattle.ww_plain.specs.Numbers.{is_among}
+use Rattle.ww_plain.proofs.Members.{different_push}
+use Rattle.ww_view.specs.Made.{without}
+use Rattle.ww_table.specs.declared.seat.Taking.TheVariants.{Took}
+use Rattle.ww_table.specs.declared.seat.Giving.TheVariants.{Gave}
+use Rattle.ww_table.specs.Seat.{locks_of}
+use Rattle.ww_seat.specs.Accounts.{Account, account_of}
+use Rattle.ww_seat.specs.Calls.{HasAdded, HasGiven, HasLetOnce, HasTriedOnce}
+use Rattle.ww_seat.specs.Standings.{Standing, view_in, HasGoneIn, IsBack, IsSame}
+use Rattle.ww_seat.specs.Looks.{CameTo}
+use Rattle.ww_seat.specs.declared.look.Arrival.{Arrival}
+use Rattle.ww_seat.specs.declared.look.Look.TheVariants.{Locked}
+use Rattle.ww_seat.specs.declared.waits.Waits.{Waits}
+use Rattle.ww_seat.specs.declared.resting.Memory.{Memory}
 use Rattle.ww_seat.proofs.Among.{owns_more}
+use Rattle.ww_seat.proofs.Gives.{given_then}
+use Rattle.ww_seat.proofs.Kept.{same_then}
+use Rattle.ww_seat.proofs.Naps.{out_then}
 use Rattle.ww_seat.proofs.Without.{owns_less, different_without}
-use Rattle.ww_desk.proofs.Locks.{few_held, one_less, rest_of, some_held, wanting}
+use Rattle.ww_desk.specs.declared.turn.Turn.{Turn}
+use Rattle.ww_desk.specs.declared.turn.Turn.TheVariants.{Rests, Looks, Gives}
+use Rattle.ww_desk.specs.declared.station.Station.{Station}
+use Rattle.ww_desk.specs.Situations.{Situation, is_at_rest}
+use Rattle.ww_desk.specs.Answers.{HasReleased, StaysOut}
+use Rattle.ww_desk.specs.Stations.{IsWhere, OwnsJust, Keeps}
+use Rattle.ww_desk.proofs.Locks.{at_turn, few_owned, one_less, rest_of}
 
--- the same desk, with a seat of the same table that has this account
-pub record IsOf (h g : Station) (a : Account) : Type 0 where
-  pub board : g.board ≡ h.board
-  pub locks : g.locks ≡ h.locks
-  pub seats : g.seats ≡ h.seats
-  pub left : g.left ≡ h.left
-  pub marks : length g.wake.items ≡ length h.wake.items
-  pub now : account_of g.seat.seat.me ≡ a
+-- it counts no more than there are, wherever its call stands
+pub few_counted : (h : Station) (turn : Turn) → Keeps (record h { turn = turn }) → h.count ≤ 65536
+few_counted h turn k = let few = few_owned h.count _ _ _ k.owns in omega (arith, few, k.world.most)
 
--- what is seen of it then
-abbrev pub seen_with : Station → Station → Account → Situation
-seen_with h g a = record (situation_of h) {
-  kind = a.kind;
-  caller = a.who;
-  draws = a.counts.draws;
-  stamp = a.stamp;
-  is_done = g.is_done;
-  held = a.locks;
-  told = g.told;
-  turn = g.turn;
-  wakes = g.wake.items;
-  tries = a.tries;
-  takes = a.takes;
-  deaths = a.deaths;
-  cancelled = a.counts.cancelled;
-  pendings = a.pendings;
-  interrupted = a.stopped;
-  view = g.seat.seat.me.0.part.core;
+-- ---- what it owns
+
+one_more : (count locks n : ℕ) (held : List ℕ) (owned : List Bool) → OwnsJust count locks held owned → n < locks
+    → is_among n held ≡ false → OwnsJust (count + 1) locks (held ++ n ∷ []) (set owned n true)
+one_more count locks n held owned o there lacks = record {
+  counted = omega (arith, o.counted, length-append held (n ∷ []));
+  differ = different_push held n o.differ lacks;
+  same = owns_more owned (set owned n true) held n (omega (arith, there, o.room)) refl o.same;
+  room = length-set owned n true ∙ o.room;
 }
 
-pub seen_as : (h g : Station) (a : Account) → IsOf h g a → situation_of g ≡ seen_with h g a
-seen_as h g a is = let same : situation_of g ≡ seen_with h g (account_of g.seat.seat.me) =
-    rw (is.board, is.locks, is.seats, is.left) refl in same ∙ ap (seen_with h g) is.now
-
--- what is seen of it where its call ended, with these marks
-pub seen_ended : (h : Station) (q : Seat16) (told : Option ℕ) (wakes : List ℕ) (a : Account) → account_of q.seat.me ≡ a →
-    let g : Station = record h { seat = q; told = told; turn = Rests } in
-    let s : Situation = record (situation_of g) { wakes = wakes } in
-    let t : Situation = record (seen_with h g a) { wakes = wakes } in s ≡ t
-seen_ended h q told wakes a now = let g : Station = record h { seat = q; told = told; turn = Rests } in
-    ap (λ (s : Situation). let t : Situation = record s { wakes = wakes } in t)
-    (seen_as h g a (record { board = refl; locks = refl; seats = refl; left = refl; marks = refl; now = now }))
-
-abbrev IsWhere : Station → Type 0
-IsWhere g = IsAt (table_of (arc_value g.board)) (size_of (arc_value g.board)) (locks_of (arc_value g.board)) g.wake.items g.turn g.seat
-
--- it holds what it held
-pub kept : (h g : Station) → Keeps h → IsOf h g (account_of h.seat.seat.me) → g.count ≡ h.count
-    → g.seat.seat.me.0.part.core.stamp ≡ g.seat.stamp → IsWhere g → Keeps g
-kept h g k is count stamp at = record {
-  at = at;
-  stamp = stamp;
-  bare = rw is.board k.bare;
-  locks = rw is.board (omega (arith, is.locks, k.locks));
-  most = rw is.board k.most;
-  count = count ∙ k.count ∙ sym (ap (λ (a : Account). length a.locks) is.now);
-  differ = subst AreDifferent (sym (ap (λ (a : Account). a.locks) is.now)) k.differ;
-  owned = λ n. ap (λ (a : Account). get_or a.owned n false) is.now ∙ k.owned n
-      ∙ sym (ap (λ (a : Account). is_among n a.locks) is.now);
-  room = rw is.board (ap (λ (a : Account). length a.owned) is.now ∙ k.room);
-  seats = rw (is.board, is.seats) k.seats;
-  few = rw (is.board, is.seats) k.few;
-  marks = rw is.board (is.marks ∙ k.marks);
-  draws = omega (arith, k.draws, is.left, ap (λ (a : Account). a.counts.draws) is.now);
+one_fewer : (count locks n : ℕ) (held : List ℕ) (owned : List Bool) → OwnsJust count locks held owned → n < locks
+    → is_among n held ≡ true → OwnsJust (count - 1) locks (without n held) (set owned n false)
+one_fewer count locks n held owned o there has = record {
+  counted = omega (arith, o.counted, one_less n held o.differ has);
+  differ = different_without n held o.differ;
+  same = owns_less owned (set owned n false) held n (omega (arith, there, o.room)) refl o.same;
+  room = length-set owned n false ∙ o.room;
 }
 
--- it holds one lock more, or less
-record HoldsNow (h : Station) (a : Account) (many : ℕ) : Type 0 where
-  pub owned : (n : ℕ) → get_or a.owned n false ≡ is_among n a.locks
-  pub room : length a.owned ≡ length h.seat.seat.me.0.part.core.owned
-  pub differ : AreDifferent a.locks
-  pub count : many ≡ length a.locks
-  pub counts : a.counts ≡ h.seat.seat.me.0.part.counts
-
-kept_but : (h g : Station) (a : Account) → Keeps h → IsOf h g a → HoldsNow h a g.count
-    → g.seat.seat.me.0.part.core.stamp ≡ g.seat.stamp → IsWhere g → Keeps g
-kept_but h g a k is now stamp at = record {
-  at = at;
-  stamp = stamp;
-  bare = rw is.board k.bare;
-  locks = rw is.board (omega (arith, is.locks, k.locks));
-  most = rw is.board k.most;
-  count = now.count ∙ sym (ap (λ (x : Account). length x.locks) is.now);
-  differ = subst AreDifferent (sym (ap (λ (x : Account). x.locks) is.now)) now.differ;
-  owned = λ n. ap (λ (x : Account). get_or x.owned n false) is.now ∙ now.owned n
-      ∙ sym (ap (λ (x : Account). is_among n x.locks) is.now);
-  room = rw is.board (ap (λ (x : Account). length x.owned) is.now ∙ now.room ∙ k.room);
-  seats = rw (is.board, is.seats) k.seats;
-  few = rw (is.board, is.seats) k.few;
-  marks = rw is.board (is.marks ∙ k.marks);
-  draws = omega (arith, k.draws, is.left, ap (λ (x : Account). x.counts.draws) is.now, ap (λ (c : Counts). c.draws) now.counts);
+-- the same desk, whose seat has this account
+pub kept : (h : Station) (q : Standing) (a : Account) (count : ℕ) (told : Option ℕ) (turn : Turn) (memory : Memory) (w : Vec ℕ)
+    → Keeps h → IsSame h.seat q → account_of q.me ≡ a → a.counts.draws ≡ h.seat.me.0.part.counts.draws
+    → length w.items ≡ length h.wake.items → OwnsJust count (locks_of (arc_value h.board)) a.locks a.owned
+    → IsWhere (arc_value h.board) w.items turn q
+    → Keeps (record h { seat = q; count = count; told = told; turn = turn; memory = memory; wake = w })
+kept h q a count told turn memory w k same now draws long owns at = record {
+  at = record { home = ap (λ (s : Standing). s.home) same.now ∙ k.at.home; size = same.size ∙ k.at.size };
+  stands = at;
+  world = rw long k.world;
+  owns = subst (λ (a : Account). OwnsJust count (locks_of (arc_value h.board)) a.locks a.owned) (sym now) owns;
+  draws = omega (arith, k.draws, draws, ap (λ (a : Account). a.counts.draws) now);
 }
-
--- what is held is a lock of the world
-pub there_held : (h : Station) (n : ℕ) → Keeps h → is_among n h.seat.seat.me.0.part.core.locks ≡ true → n < locks_of (arc_value h.board)
-there_held h n k has = let low = owned_low h.seat.seat.me.0.part.core.owned n (k.owned n ∙ has) in omega (arith, low, k.room)
-
--- ---- a desk whose seat is settled again
-
--- the seat that was settled at the board is settled at the one that the desk shares
-pub settled_here : (a b : Board) (q : Seat16) → b ≡ a → IsSettledAt b q → IsSettled (table_of a) (size_of a) q
-settled_here a b q e s = subst (λ (x : Board). IsSettledAt x q) e s
-
--- it counts no more than there are
-pub few_counted : (h : Station) → Keeps h → h.count ≤ 65536
-few_counted h k =
-    let few = few_held h.seat.seat.me.0.part.core h.seat.seat.me.0.part.core.locks (locks_of (arc_value h.board))
-    k.owned k.room k.differ in omega (arith, few, k.count, k.most)
 
 -- it took a lock
-pub took : (h g : Station) (b : Board) (tries n : ℕ) (x : Node) (q : Seat16) (w : Vec ℕ) → Keeps h
-    → length w.items ≡ length h.wake.items → b ≡ arc_value h.board → n < h.locks → is_among n h.seat.seat.me.0.part.core.locks ≡ false
-    → IsSettledAt b q → HasAdded (record (account_of h.seat.seat.me) { tries = tries }) n x q.seat.me
-    → g ≡ record h { seat = q; count = h.count + 1; told = None; turn = Rests; wake = w } → Keeps g
-took h g b tries n x q w k long e there lacks settled t is =
-    let now : Station = record h { seat = q; count = h.count + 1; told = None; turn = Rests; wake = w } in
-    let v : View = h.seat.seat.me.0.part.core in
-    let wide : n < length v.owned = omega (arith, there, k.locks, k.room) in
-    subst Keeps (sym is) (kept_but h now _ k
-    (record { board = refl; locks = refl; seats = refl; left = refl; marks = long; now = t.now })
-    (record {
-      owned = owns_more v.owned (set v.owned n true) v.locks n wide refl k.owned;
-      room = length-set v.owned n true;
-      differ = different_push v.locks n k.differ lacks;
-      count = omega (arith, k.count, length-append v.locks (n ∷ []));
-      counts = refl;
-    }) settled.seated.stamp
-    (settled_here (arc_value h.board) b q e settled))
+took : (h : Station) (q : Standing) (tries n : ℕ) (x : Node) (w : Vec ℕ) → Keeps h → length w.items ≡ length h.wake.items
+    → n < locks_of (arc_value h.board) → is_among n (view_in h.seat).locks ≡ false → IsBack h.seat q
+    → HasAdded (record (account_of h.seat.me) { tries = tries }) n x q.me
+    → Keeps (record h { seat = q; count = h.count + 1; told = None; turn = Rests; wake = w })
+took h q tries n x w k long there lacks back t = kept h q _ (h.count + 1) None Rests h.memory w k back.same t.now refl long
+    (one_more h.count _ n _ _ k.owns there lacks) back.away
+
+-- ... inside the guard
+pub took_inside : (h : Station) (q : Standing) (n : ℕ) (arrival : Arrival) (waits : Waits) (x : Node) (w : Vec ℕ)
+    → Keeps (record h { turn = Looks n arrival waits }) → length w.items ≡ length h.wake.items → IsSame h.seat q → CameTo n h.seat.me (Locked x) q.me
+    → Keeps (record h { seat = q; count = h.count + 1; told = None; turn = Rests; wake = w })
+took_inside h q n arrival waits x w k long same came = took (record h { turn = Looks n arrival waits }) q _ n x w k long k.stands.0
+    (sym (k.owns.same n) ∙ k.stands.1.want.lacks) (record { same = same; away = came.0 }) came.1
 
 -- it released a lock
-pub gave : (h g : Station) (b : Board) (n : ℕ) (q : Seat16) (w : Vec ℕ) → Keeps h → length w.items ≡ length h.wake.items
-    → b ≡ arc_value h.board
-    → is_among n h.seat.seat.me.0.part.core.locks ≡ true → IsSettledAt b q
-    → HasGiven h.seat.seat.me n q.seat.me
-    → g ≡ record h { seat = q; count = h.count - 1; turn = Rests; wake = w } → Keeps g
-gave h g b n q w k long e has settled t is =
-    let now : Station = record h { seat = q; count = h.count - 1; turn = Rests; wake = w } in
-    let v : View = h.seat.seat.me.0.part.core in
-    let wide : n < length v.owned = (let low = there_held h n k has in omega (arith, low, k.room)) in
-    subst Keeps (sym is) (kept_but h now _ k
-    (record { board = refl; locks = refl; seats = refl; left = refl; marks = long; now = t })
-    (record {
-      owned = owns_less v.owned (set v.owned n false) v.locks n wide refl k.owned;
-      room = length-set v.owned n false;
-      differ = different_without n v.locks k.differ;
-      count = omega (arith, k.count, one_less n v.locks k.differ has);
-      counts = refl;
-    }) settled.seated.stamp (settled_here (arc_value h.board) b q e settled))
+pub gave : (h : Station) (q : Standing) (n : ℕ) (w : Vec ℕ) → Keeps h → length w.items ≡ length h.wake.items
+    → n < locks_of (arc_value h.board) → is_among n (view_in h.seat).locks ≡ true → IsBack h.seat q → HasGiven h.seat.me n q.me
+    → Keeps (record h { seat = q; count = h.count - 1; turn = Rests; wake = w })
+gave h q n w k long there has back t = kept h q _ (h.count - 1) h.told Rests h.memory w k back.same t refl long
+    (one_fewer h.count _ n _ _ k.owns there has) back.away
 
--- ---- one try at a lock
+-- ... inside its guard
+pub gave_inside : (h : Station) (u q : Standing) (n : ℕ) (w : Vec ℕ) → Keeps h → h.turn ≡ Gives n → length w.items ≡ length h.wake.items
+    → HasGoneIn h.seat u → IsBack u q → HasGiven u.me n q.me
+    → Keeps (record h { seat = q; count = h.count - 1; turn = Rests; wake = w })
+gave_inside h u q n w k turn long gone back t = let at = at_turn h (Gives n) k turn in
+    gave h q n w k long at.there (sym (k.owns.same n) ∙ at.owner) (record { same = same_then h.seat u q gone.same back.same; away = back.away })
+    (given_then h.seat.me u.me q.me n gone.holds t)
 
--- what became of it, by what its try came to
-abbrev pub after_try : Station → Seat16 → Taking → Station
-after_try h q Took = record h { seat = q; count = h.count + 1; told = None }
-after_try h q Had = record h { seat = q }
-after_try h q Missed = record h { seat = q }
+-- ---- one try at a lock, and to release one
 
-still_where : (h : Station) (b : Board) (q : Seat16) → Keeps h → h.turn ≡ Rests → b ≡ arc_value h.board → IsSettledAt b q
-    → IsAt (table_of (arc_value h.board)) (size_of (arc_value h.board)) (locks_of (arc_value h.board)) h.wake.items h.turn q
-still_where h b q k rests e settled =
-    subst (λ (t : Turn). IsAt (table_of (arc_value h.board)) (size_of (arc_value h.board)) (locks_of (arc_value h.board)) h.wake.items t q)
-    (sym rests) (settled_here (arc_value h.board) b q e settled)
+pub took_at_once : (h : Station) (q : Standing) (n : ℕ) → Keeps h → is_at_rest h.turn ≡ true → n < h.locks → IsBack h.seat q
+    → HasTriedOnce h.seat.me n Took q.me → Keeps (record h { seat = q; count = h.count + 1; told = None })
+took_at_once h q n k rests there back t = subst (λ (r : Turn). Keeps (record h { seat = q; count = h.count + 1; told = None; turn = r }))
+    (sym (rest_of h.turn rests))
+    (took h q _ n no_node h.wake k refl (omega (arith, there, k.world.locks_are)) (sym (k.owns.same n) ∙ t.0) back t.1)
 
-pub tried_keeps : (h : Station) (b : Board) (q : Seat16) (n : ℕ) (t : Taking) → Keeps h → wants_now h ≡ true
-    → b ≡ arc_value h.board → n < h.locks → IsSettledAt b q → HasTriedOnce h.seat.seat.me n t q.seat.me
-    → Keeps (after_try h q t)
-tried_keeps h b q n Took k wants e there settled t =
-    let w = wanting h k wants in
-    took h (after_try h q Took) b _ n no_node q h.wake k refl e there (sym (k.owned n) ∙ t.0) settled t.1
-    (λ i. record h { seat = q; count = h.count + 1; told = None; turn = w.rests i })
-tried_keeps h b q n Had k wants e there settled t =
-    let w = wanting h k wants in
-    kept h (after_try h q Had) k
-    (record { board = refl; locks = refl; seats = refl; left = refl; marks = refl; now = ap account_of t.1 }) refl settled.seated.stamp
-    (still_where h b q k w.rests e settled)
-tried_keeps h b q n Missed k wants e there settled t =
-    let w = wanting h k wants in
-    kept_but h (after_try h q Missed) (having_tried (account_of h.seat.seat.me)) k
-    (record { board = refl; locks = refl; seats = refl; left = refl; marks = refl; now = t.tried })
-    (record { owned = k.owned; room = refl; differ = k.differ; count = k.count; counts = refl })
-    settled.seated.stamp
-    (still_where h b q k w.rests e settled)
-
--- the same, where nothing was told before
-pub took_plainly : (h : Station) (b : Board) (q : Seat16) (n : ℕ) → Keeps h → IsPlain (situation_of h)
-    → b ≡ arc_value h.board → n < h.locks → IsSettledAt b q → HasTriedOnce h.seat.seat.me n Took q.seat.me
-    → Keeps (record h { seat = q; count = h.count + 1 })
-took_plainly h b q n k plain e there settled t =
-    let rests = rest_of h.turn plain.rests in let untold = plain.untold in
-    took h (record h { seat = q; count = h.count + 1 }) b _ n no_node q h.wake k refl e there (sym (k.owned n) ∙ t.0) settled t.1
-    (λ i. record h { seat = q; count = h.count + 1; told = untold i; turn = rests i })
-
--- it may stay away from a lock that it has just missed
-pub missed_stays : (h : Station) (b : Board) (q : Seat16) (n : ℕ) → Keeps h → wants_now h ≡ true → b ≡ arc_value h.board
-    → IsSettledAt b q → HasTriedOnce h.seat.seat.me n Missed q.seat.me → MayStay n (record h { seat = q })
-missed_stays h b q n k wants e settled t =
-    let w = wanting h k wants in
-    let v : View = h.seat.seat.me.0.part.core in let v' : View = q.seat.me.0.part.core in
-    let here = settled_here (arc_value h.board) b q e settled in
-    let owned : (m : ℕ) → owns v' m ≡ owns v m = λ m. ap (λ (a : Account). get_or a.owned m false) t.tried in (
-      record {
-        orderly = here.orderly;
-        want = record {
-          lacks = owned n ∙ t.lacks;
-          base = ⊎_elim (λ context. inl (omega (arith, context, ap (λ (a : Account). a.stamp) t.tried)))
-              (λ bare. inr (λ m. owned m ∙ bare m)) w.base;
-          signs = t.signs;
-        };
-        outside = here.away.0;
-        place = inl here.away.1;
-      },
-      t.glances,
-    )
-
--- ---- one try to release a lock
-
-pub gave_keeps : (h g : Station) (b : Board) (q : Seat16) (n : ℕ) → Keeps h → is_at_rest h.turn ≡ true
-    → b ≡ arc_value h.board → IsSettledAt b q → HasLetOnce h.seat.seat.me n Gave q.seat.me
-    → g ≡ record h { seat = q; count = h.count - 1 } → Keeps g
-gave_keeps h g b q n k rests e settled t is =
-    let still = rest_of h.turn rests in
-    gave h g b n q h.wake k refl e (sym (k.owned n) ∙ t.0) settled t.1
-    (is ∙ (λ i. record h { seat = q; count = h.count - 1; turn = still i }))
-
--- a try in vain leaves what the seat has
-pub vain_same : (m m' : Sat) (n : ℕ) (f : Found) → HasLetOnce m n (giving_of (InVain f)) m' → account_of m' ≡ account_of m
-vain_same m m' n f t = elim (true_or_false (tells_own f)) [
-  | inl own ↦ (subst (λ (b : Bool). HasLetOnce m n (if b then Kept else Lacked) m') own t).1
-  | inr other ↦ ap account_of (subst (λ (b : Bool). HasLetOnce m n (if b then Kept else Lacked) m') other t).1
-]
-
-pub vain_keeps : (h : Station) (b : Board) (q : Seat16) → Keeps h → is_at_rest h.turn ≡ true → b ≡ arc_value h.board
-    → IsSettledAt b q → account_of q.seat.me ≡ account_of h.seat.seat.me → Keeps (record h { seat = q })
-vain_keeps h b q k rests e settled same =
-    kept h (record h { seat = q }) k
-    (record { board = refl; locks = refl; seats = refl; left = refl; marks = refl; now = same }) refl
-    settled.seated.stamp
-    (still_where h b q k (rest_of h.turn rests) e settled)
-
-pub vain_seen : (h : Station) (q : Seat16) → account_of q.seat.me ≡ account_of h.seat.seat.me
-    → situation_of (record h { seat = q }) ≡ record (situation_of h) { view = q.seat.me.0.part.core }
-vain_seen h q same = seen_as h (record h { seat = q }) (account_of h.seat.seat.me)
-    (record { board = refl; locks = refl; seats = refl; left = refl; marks = refl; now = same })
-
--- why a try to release was in vain
-pub vain_why : (h : Station) (q : Seat16) (n : ℕ) (f : Found) → Keeps h
-    → HasLetOnce h.seat.seat.me n (giving_of (InVain f)) q.seat.me
-    → (is_among n (view_of h.seat).locks ≡ false) ⊎ ((view_of q).kept ≡ (view_of h.seat).kept + 1)
-vain_why h q n f k t = elim (true_or_false (tells_own f)) [
-  | inl own ↦ inr (subst (λ (b : Bool). HasLetOnce h.seat.seat.me n (if b then Kept else Lacked) q.seat.me) own t).2
-  | inr other ↦ inl (sym (k.owned n)
-      ∙ (subst (λ (b : Bool). HasLetOnce h.seat.seat.me n (if b then Kept else Lacked) q.seat.me) other t).0)
-]
+pub gave_at_once : (h : Station) (q : Standing) (n : ℕ) → Keeps h → is_at_rest h.turn ≡ true → n < h.locks → IsBack h.seat q
+    → HasLetOnce h.seat.me n Gave q.me → Keeps (record h { seat = q; count = h.count - 1 })
+gave_at_once h q n k rests there back t = subst (λ (r : Turn). Keeps (record h { seat = q; count = h.count - 1; turn = r }))
+    (sym (rest_of h.turn rests))
+    (gave h q n h.wake k refl (omega (arith, there, k.world.locks_are)) (sym (k.owns.same n) ∙ t.0) back t.1)
 
 -- ---- several releases
 
@@ -317,112 +132,3 @@ released_on s t u (n ∷ ns) r out is = (
     ),
   ),
 )
-
-pub split_more : (front rest others : List ℕ) (n : ℕ) (all : List ℕ) → all ≡ front ++ rest → front ≡ others ++ n ∷ []
-    → all ≡ others ++ n ∷ rest
-split_more front rest others n all is step = is ∙ ap (λ (l : List ℕ). l ++ rest) step ∙ append_assoc others (n ∷ []) rest
-
-pub seen_alone : (s t u : Situation) → HasSomeHeld s t → u ≡ record t { view = u.view } → HasSomeHeld s u
-seen_alone s t u r is = is ∙ ap (λ (x : Situation). let y : Situation = record x { view = u.view } in y) r
-    ∙ ap (λ (held : List ℕ). let y : Situation = record s { held = held; view = u.view } in y) (sym (ap (λ (x : Situation). x.held) is))
-
-pub given_alone : (s t u : Situation) (n : ℕ) → HasSomeHeld s t → HasGivenBack t n u → HasSomeHeld s u
-given_alone s t u n r is =
-    is.1 ∙ ap (λ (x : Situation). let y : Situation = record x { held = without n t.held; view = u.view } in y) r
-    ∙ ap (λ (held : List ℕ). let y : Situation = record s { held = held; view = u.view } in y) (sym (ap (λ (x : Situation). x.held) is.1))
-
--- ---- spin reads
-
-glanced_outside : (size n : ℕ) (m m' : Sat) → IsOutside size n m → m' ≡ (glancing m.0, m.1) → IsOutside size n m'
-glanced_outside size n m m' o is = subst (IsOutside size n) (sym is) (record {
-  orderly = orderly_knowing size m (glancing m.0, m.1) (glancing m.0).part.core o.orderly refl refl refl refl refl;
-  want = record { lacks = o.want.lacks; base = o.want.base; signs = o.want.signs };
-  outside = o.outside;
-  place = o.place;
-})
-
--- who came just now, and stands in no list
-came_outside : (v : View) → v.waits ≡ 0 → ComesOutside Came v
-came_outside v none = let off = sym (ap (λ (w : ℕ). not (w == 0)) none) in (off, off)
-
--- where the seat is that stays away
-staying : (h : Station) (n : ℕ) (stay : Stay) (waits : Waits) → Keeps h → h.turn ≡ Stays n stay waits
-    → IsAt (table_of (arc_value h.board)) (size_of (arc_value h.board)) (locks_of (arc_value h.board)) h.wake.items
-    (Stays n stay waits) h.seat
-staying h n stay waits keeps turn =
-    subst (λ (t : Turn). IsAt (table_of (arc_value h.board)) (size_of (arc_value h.board))
-    (locks_of (arc_value h.board)) h.wake.items t h.seat) turn keeps.at
-
--- it made a spin read, and stays away
-pub glanced_stays : (h : Station) (b : Board) (q : Seat16) (memory : Memory) (n : ℕ) (stay next : Stay)
-    (waits : Waits) → Keeps h → h.turn ≡ Stays n stay waits
-    → next.glances < stay.glances → 1 ≤ next.glances → b ≡ arc_value h.board → IsSeatOf b q
-    → q.seat.me ≡ (glancing h.seat.seat.me.0, h.seat.seat.me.1)
-    → Keeps (record h { seat = q; turn = Stays n next waits; memory = memory })
-glanced_stays h b q memory n stay next waits keeps turn fewer some e seated is = let at = staying h n stay waits keeps turn in
-    let more : q.seat.me.0.part.core.glances ≡ h.seat.seat.me.0.part.core.glances + 1 = ap (λ (m : Sat). m.0.part.core.glances) is in
-    kept h (record h { seat = q; turn = Stays n next waits; memory = memory }) keeps
-    (record { board = refl; locks = refl; seats = refl; left = refl; marks = refl; now = ap account_of is }) refl seated.stamp (
-      subst (λ (x : Board). IsSeatOf x q) e seated,
-      at.1,
-      glanced_outside _ n h.seat.seat.me q.seat.me at.2 is,
-      ap
-          (λ (m : Sat). m.0.part.core.waits) is ∙ at.3,
-      some,
-      omega (arith, at.5, more, fewer),
-    )
-
--- ... or wants the lock now
-pub glanced_wants : (h : Station) (b : Board) (q : Seat16) (memory : Memory) (n : ℕ) (stay : Stay) (waits : Waits)
-    → Keeps h → h.turn ≡ Stays n stay waits
-    → b ≡ arc_value h.board → IsSeatOf b q → q.seat.me ≡ (glancing h.seat.seat.me.0, h.seat.seat.me.1)
-    → Keeps (record h { seat = q; turn = Wants n Came waits; memory = memory })
-glanced_wants h b q memory n stay waits keeps turn e seated is = let at = staying h n stay waits keeps turn in
-    kept h (record h { seat = q; turn = Wants n Came waits; memory = memory }) keeps
-    (record { board = refl; locks = refl; seats = refl; left = refl; marks = refl; now = ap account_of is }) refl seated.stamp (
-      subst (λ (x : Board). IsSeatOf x q) e seated,
-      at.1,
-      glanced_outside _ n h.seat.seat.me q.seat.me at.2 is,
-      came_outside q.seat.me.0.part.core (ap (λ (m : Sat). m.0.part.core.waits) is ∙ at.3),
-    )
-
--- ---- the first waiter
-
-pub first_seat : (n : ℕ) (q : List Entry) (e : Entry) → AreSeats n q → Some e ≡ slice_get q 0 → e.seat < n
-first_seat n [] e seats is = absurd cc
-first_seat n (x ∷ xs) e seats is = subst (λ (y : Entry). y.seat < n)
-    (sym (ap (λ (o : Option Entry). unwrap_or o x) is)) (seats x (inl refl)).0
-
-pub first_waiter : (n : ℕ) (q : List Entry) (first : Option Entry) → AreSeats n q → first ≡ slice_get q 0 → IfSome first (λ e. e.seat < n)
-first_waiter n q None seats is = tt
-first_waiter n q (Some e) seats is = first_seat n q e seats is
-
-pub first_below : (first : Option Entry) (m n : ℕ) → m ≤ n → IfSome first (λ e. e.seat < m) → IfSome first (λ e. e.seat < n)
-first_below None m n le is = tt
-first_below (Some e) m n le is = omega (arith, le, is)
-
--- what is seen of a desk whose seat took a lock
-pub took_seen : (h g : Station) (n : ℕ) (x : Node) (q : Seat16) (w : Vec ℕ) → length w.items ≡ length h.wake.items
-    → HasTaken h.seat.seat.me n x q.seat.me
-    → g ≡ record h { seat = q; count = h.count + 1; told = None; turn = Rests; wake = w }
-    → situation_of g ≡ record (situation_of h) {
-      held = h.seat.seat.me.0.part.core.locks ++ n ∷ [];
-      told = None;
-      turn = Rests;
-      wakes = g.wake.items;
-      tries = h.seat.seat.me.0.part.core.tries;
-      takes = h.seat.seat.me.0.part.core.takes + 1;
-      view = g.seat.seat.me.0.part.core;
-    }
-took_seen h g n x q w long t is =
-    let now : Station = record h { seat = q; count = h.count + 1; told = None; turn = Rests; wake = w } in
-    ap situation_of is ∙ seen_as h now _ (record { board = refl; locks = refl; seats = refl; left = refl; marks = long; now = t.now })
-    ∙ (λ i. record (situation_of h) {
-      held = h.seat.seat.me.0.part.core.locks ++ n ∷ [];
-      told = None;
-      turn = Rests;
-      wakes = (sym is i).wake.items;
-      tries = h.seat.seat.me.0.part.core.tries;
-      takes = h.seat.seat.me.0.part.core.takes + 1;
-      view = (sym is i).seat.seat.me.0.part.core;
-    })

@@ -1,17 +1,9 @@
 -- How many marks a desk has.
-use Rattle.std.proofs.Common.{◌≡◌, ◌≢◌, ◌≤◌, ◌<◌, ◌+◌, ◌*◌, ◌/◌, ◌%◌, ◌^◌, ◌==◌, ◌∙◌, ℕ, List, [], ◌∷◌, ◌++◌, Some, true, false, true≢false, set, get_or, take, refl, sym, ap, subst, inl, inr, length, arith}
-use Rattle.std.proofs.lemmas.Bool.{cases_lt}
-use Rattle.std.proofs.lemmas.List.{get_or_past}
-use Rattle.std.proofs.lemmas.Nat.Bits.{bit_at-zero}
+use Rattle.std.proofs.Common.{◌≡◌, ◌<◌, ◌+◌, ◌*◌, ◌/◌, ◌%◌, ◌^◌, ◌==◌, ◌∙◌, ℕ, List, [], ◌∷◌, ◌++◌, Some, set, get_or, take, refl, ap, subst, length, arith}
 use Rattle.ww_model.proofs.Outcomes.{number_same}
-use Rattle.ww_seat.specs.Marks.{is_marked, IsMarked}
+use Rattle.ww_seat.specs.Marks.{IsMarked}
 use Rattle.ww_seat.proofs.Marking.{without_bit, cleared_here, cleared_others}
 use Rattle.ww_desk.specs.Answers.{IsTaken}
-use Rattle.std.specs.Arc.{arc_value}
-use Rattle.ww_table.specs.Seat.{IsSeatOf, view_of}
-use Rattle.ww_seat.proofs.There.{seats_there}
-use Rattle.ww_desk.specs.declared.station.Station.{Station}
-use Rattle.ww_desk.specs.Stations.{Keeps}
 
 -- what a slice that was lent wrote back
 front : {A : Type 0} (xs ys : List A) → take (length xs) (xs ++ ys) ≡ xs

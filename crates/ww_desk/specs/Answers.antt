@@ -1,11 +1,12 @@
 -- What became of a call of a desk, by its answer. A call may learn something of the locks, which its view tells then.
-use Rattle.std.specs.Prelude.{ℕ, suc, ◌≡◌, ◌≢◌, ◌<◌, ◌≤◌, ◌+◌, ◌-◌, ◌⊎◌, ◌∷◌, ◌++◌, [], slice_set, Option, Bool, true, false, List, Some, None, length}
+use Rattle.std.specs.Prelude.{ℕ, suc, ◌≡◌, ◌≢◌, ◌<◌, ◌≤◌, ◌+◌, ◌-◌, ◌⊎◌, ◌∷◌, ◌++◌, [], Option, Bool, true, false, List, Some, None, length}
 use Rattle.ww_plain.specs.Numbers.{is_among}
 use Rattle.ww_view.specs.Made.{found_pending, shut_out, without}
 use Rattle.ww_table.specs.declared.seat.Taking.{Taking}
 use Rattle.ww_table.specs.declared.seat.Taking.TheVariants as try
 use Rattle.ww_seat.specs.Bells.{times}
 use Rattle.ww_seat.specs.Calls.{HasMet, HasStayedOut}
+use Rattle.ww_seat.specs.Looks.{MayWant}
 use Rattle.ww_seat.specs.Work.{HasToWake}
 use Rattle.ww_seat.specs.Marks.{is_marked, IsMarked, AreMarked}
 use Rattle.ww_seat.specs.declared.look.Arrival.TheVariants.{Came, Woken}
@@ -19,7 +20,7 @@ use Rattle.ww_desk.specs.declared.turn.Refusal.{Refusal}
 use Rattle.ww_desk.specs.declared.turn.Refusal.TheVariants as no
 use Rattle.ww_desk.specs.declared.turn.Answer.{Answer}
 use Rattle.ww_desk.specs.declared.turn.Answer.TheVariants.{Done, Again, Awaits, Stays, Sleeps, Busy, Invalid, Already, NoSpace, Deadlk, Interrupted}
-use Rattle.ww_desk.specs.Situations.{Situation, is_at_rest, is_inside, can_want}
+use Rattle.ww_desk.specs.Situations.{Situation, is_at_rest, is_inside, can_want, wants_now}
 
 -- ---- what a call makes of a desk
 
@@ -33,8 +34,8 @@ HasLock s n s' = StaysOut s s'
     × (s' ≡ record s { held = s.held ++ n ∷ []; told = None; tries = s.tries + 1; takes = s.takes + 1; view = s'.view })
 
 -- it tried once to take the lock at once, in vain
-abbrev pub HasTried : Situation → Situation → Type 0
-HasTried s s' = StaysOut s s' × (s' ≡ record s { tries = s.tries + 1; view = s'.view })
+abbrev pub TriedInVain : Situation → Situation → Type 0
+TriedInVain s s' = StaysOut s s' × (s' ≡ record s { tries = s.tries + 1; view = s'.view })
 
 -- this lock is held no more; it was released at once
 abbrev pub HasGivenBack : Situation → ℕ → Situation → Type 0
@@ -45,16 +46,16 @@ abbrev pub HasTurned : Situation → Turn → Situation → Type 0
 HasTurned s turn s' = StaysOut s s' × (s' ≡ record s { turn = turn; view = s'.view })
 
 -- it tried to go inside a guard, or looked at an owner word there
-abbrev pub HasWorked : Situation → Situation → Type 0
-HasWorked s s' = s.view.attempts < s'.view.attempts
+abbrev pub MadeProgress : Situation → Situation → Type 0
+MadeProgress s s' = s.view.attempts < s'.view.attempts
 
 -- it tried once to release a lock at once, in vain: the lock's word told more than its owner
 abbrev pub HasKept : Situation → Situation → Type 0
 HasKept s s' = s'.view.kept ≡ s.view.kept + 1
 
 -- it made a spin read of an owner word
-abbrev pub HasGlanced : Situation → Situation → Type 0
-HasGlanced s s' = s'.view.glances ≡ s.view.glances + 1
+abbrev pub HasGlancedOnce : Situation → Situation → Type 0
+HasGlancedOnce s s' = s'.view.glances ≡ s.view.glances + 1
 
 -- Another seat is inside the guard that it wants to go into. It has learned nothing else, is inside no guard, and has changed
 -- nothing.
@@ -117,6 +118,10 @@ pub record IsHeldAtRest (s : Situation) (n : ℕ) : Type 0 where
   pub rests : is_at_rest s.turn ≡ true
   pub holds : is_among n s.held ≡ true
 
+-- it may want no lock now, or there is none of this number
+abbrev pub CanNotTry : Situation → ℕ → Type 0
+CanNotTry s n = (wants_now s ≡ false) ⊎ (s.size ≤ n)
+
 abbrev pub answer_of : Refusal → Answer
 answer_of no.Busy = Busy
 answer_of no.Already = Already
@@ -129,11 +134,18 @@ IsRefusal s n Already = IsHeldAtRest s n
 IsRefusal s n Invalid = IsBarred s n
 IsRefusal s n _ = ⊥
 
+-- it has just tried this lock in vain, and may stay away from it
+pub record HasJustLost (n : ℕ) (s : Situation) : Type 0 where
+  pub rests : is_at_rest s.turn ≡ true
+  pub there : IsThere s n
+  pub want : MayWant n s.view
+  pub unseen : s.view.glances ≡ 0
+
 -- what one try came to, of a lock that it may want if it doesn't hold it
 abbrev pub HasTriedAsIs : Situation → ℕ → Taking → Situation → Type 0
 HasTriedAsIs s n try.Took s' = IsTryable s n × HasLock s n s'
 HasTriedAsIs s n try.Had s' = IsHeldAtRest s n × (s' ≡ s)
-HasTriedAsIs s n try.Missed s' = IsTryable s n × HasTried s s'
+HasTriedAsIs s n try.Missed s' = IsTryable s n × TriedInVain s s' × HasJustLost n s'
 
 -- it is told to back off: by its own step, for an older context of stamp k, which its view shows; and it holds a lock
 pub record HasToBackOff (s : Situation) (n k : ℕ) (s' : Situation) : Type 0 where
@@ -173,6 +185,10 @@ IsEndAnswer s _ s' = ⊥
 abbrev pub IsWholeStay : Stay → Type 0
 IsWholeStay stay = (stay.glances ≡ 16) × (stay.pauses ≡ 12416)
 
+-- its call stays away from this lock
+abbrev pub HasTurnedAway : Situation → ℕ → Waits → Situation → Type 0
+HasTurnedAway s n waits s' = (stay : Stay) × IsWholeStay stay × (s' ≡ record s { turn = at.Stays n stay waits })
+
 -- the first step: it has the lock, or stays away from it
 abbrev pub IsLockAnswer : Situation → ℕ → Waits → Answer → Situation → Type 0
 IsLockAnswer s n waits Done s' = IsTryable s n × HasLock s n s'
@@ -187,7 +203,7 @@ IsLockAnswer s n waits _ s' = ⊥
 -- one try
 abbrev pub IsTryAnswer : Situation → ℕ → Answer → Situation → Type 0
 IsTryAnswer s n Done s' = IsTryable s n × HasLock s n s'
-IsTryAnswer s n Busy s' = ((is_at_rest s.turn ≡ false) × (s' ≡ s)) ⊎ (IsTryable s n × HasTried s s')
+IsTryAnswer s n Busy s' = ((is_at_rest s.turn ≡ false) × (s' ≡ s)) ⊎ (IsTryable s n × TriedInVain s s')
 IsTryAnswer s n Already s' = IsHeldAtRest s n × (s' ≡ s)
 IsTryAnswer s n Invalid s' = IsBarred s n × (s' ≡ s)
 IsTryAnswer s n _ s' = ⊥
@@ -209,18 +225,18 @@ IsLooking n waits _ = ⊥
 
 -- a spin read, and then a rest or the wish for the lock
 abbrev pub IsStayAnswer : Situation → ℕ → Stay → Waits → Answer → Situation → Type 0
-IsStayAnswer s n stay waits (Stays rest) s' = HasGlanced s s'
+IsStayAnswer s n stay waits (Stays rest) s' = HasGlancedOnce s s'
     × ((next : Stay) × Rests stay next rest × HasTurned s (at.Stays n next waits) s')
-IsStayAnswer s n stay waits Again s' = HasGlanced s s' × HasTurned s (at.Wants n Came waits) s'
+IsStayAnswer s n stay waits Again s' = HasGlancedOnce s s' × HasTurned s (at.Wants n Came waits) s'
 IsStayAnswer s n stay waits _ s' = ⊥
 
 -- a look, after which it may be inside the guard still; or a try in vain to go inside. A call that waits until a cancel is
 -- told to sleep only once it found none inside that guard.
 abbrev pub IsWaitAnswer : Situation → ℕ → Waits → Answer → Situation → Type 0
 IsWaitAnswer s n waits Awaits s' = IsShutOut s s'
-IsWaitAnswer s n waits Again s' = IsLooking n waits s'.turn × (s'.view.inside ≡ suc n) × HasWorked s s'
+IsWaitAnswer s n waits Again s' = IsLooking n waits s'.turn × (s'.view.inside ≡ suc n) × MadeProgress s s'
     × WakesCondemned s s' × (s' ≡ record s { turn = s'.turn; wakes = s'.wakes; view = s'.view })
-IsWaitAnswer s n waits Sleeps s' = WakesCondemned s s' × HasWorked s s'
+IsWaitAnswer s n waits Sleeps s' = WakesCondemned s s' × MadeProgress s s'
     × (waits ≡ UntilCancelled → s'.view.uncancelled ≡ true)
     × (s' ≡ record s { turn = at.Wants n Woken waits; wakes = s'.wakes; view = s'.view })
 IsWaitAnswer s n waits Done s' = WakesCondemned s s'
@@ -245,6 +261,11 @@ IsUnlockAnswer s n Again s' = IsHeldAtRest s n × HasKept s s' × HasTurned s (a
 IsUnlockAnswer s n Busy s' = (is_at_rest s.turn ≡ false) × (s' ≡ s)
 IsUnlockAnswer s n Invalid s' = (is_at_rest s.turn ≡ true) × (is_among n s.held ≡ false) × (s' ≡ s)
 IsUnlockAnswer s n _ s' = ⊥
+
+-- one try to release a lock: it is released; or it isn't held, or its word told more than its owner
+abbrev pub IsGivenOrKept : Situation → ℕ → Bool → Situation → Type 0
+IsGivenOrKept s n true s' = IsUnlockAnswer s n Done s' × (s'.view.kept ≡ s.view.kept)
+IsGivenOrKept s n false s' = StaysOut s s' × (s' ≡ record s { view = s'.view }) × ((is_among n s.held ≡ false) ⊎ HasKept s s')
 
 -- it has released these, the last one first, each by one step
 abbrev pub HasReleased : Situation → List ℕ → Situation → Type 0
@@ -313,5 +334,5 @@ IsCancelAnswer s u Invalid s' = (is_at_rest s.turn ≡ true) × (s.seats ≤ u) 
 IsCancelAnswer s u _ s' = ⊥
 
 -- nothing is on its way, it has no context and holds nothing
-abbrev pub IsIdle : Situation → Type 0
-IsIdle s = (is_at_rest s.turn ≡ true) × (s.stamp ≡ 0) × (s.held ≡ [])
+abbrev pub HasNothing : Situation → Type 0
+HasNothing s = (is_at_rest s.turn ≡ true) × (s.stamp ≡ 0) × (s.held ≡ [])

@@ -4,7 +4,8 @@ use Rattle.atomic_table.specs.Seated.{TableId}
 use Rattle.ww_word.specs.declared.wide.TheConstants.{MANY_SEATS}
 use Rattle.ww_queue.specs.declared.kind.Kind.{Kind}
 use Rattle.ww_view.specs.View.{first_view}
-use Rattle.ww_rule.specs.Rule.{places_for}
+use Rattle.ww_rule.specs.Rule.{first_graph, places_for}
+use Rattle.ww_table.specs.declared.board.Board.{Board}
 use Rattle.ww_desk.specs.declared.turn.Turn.TheVariants.{Rests}
 use Rattle.ww_desk.specs.declared.opening.TheConstants.{MAX_LOCKS}
 use Rattle.ww_desk.specs.declared.opening.OpenFault.{OpenFault}
@@ -51,6 +52,14 @@ pub record IsWorldSize (locks seats left : ℕ) : Type 0 where
   pub locks_are : IsCount locks MAX_LOCKS
   pub seats_are : IsCount seats MANY_SEATS
   pub few_contexts : left < 2 ^ 52
+
+-- a table of so many locks, none of which guards a node, and of so many seats
+pub record IsBareTable (b : Board) (locks seats : ℕ) : Type 0 where
+  pub bare : first_graph b.table.shared.key ≡ []
+  pub locks_are : b.table.shared.key.locks ≡ locks
+  pub few_locks : locks ≤ 65536
+  pub places_are : b.table.shared.key.places ≡ places_for seats
+  pub few_seats : seats < 4096
 
 pub record IsOpened (kind : Kind) (locks seats left : ℕ) (all : List Situation) : Type 0 where
   pub sizes : IsWorldSize locks seats left

@@ -1,5 +1,5 @@
 -- What a contract sees of a desk.
-use Rattle.std.specs.Prelude.{ℕ, ◌≡◌, ◌≢◌, ◌==◌, ◌⊎◌, ◌∷◌, [], Bool, true, false, List, Option, Some, None, is_none, if◌then◌else◌}
+use Rattle.std.specs.Prelude.{ℕ, ◌≡◌, ◌≢◌, ◌==◌, ◌&&◌, ◌⊎◌, ◌∷◌, [], Bool, true, false, List, Option, Some, None, is_none, if◌then◌else◌}
 use Rattle.atomic_table.specs.Seated.{TableId}
 use Rattle.ww_queue.specs.declared.kind.Kind.{Kind}
 use Rattle.ww_view.specs.declared.view.View.{View}
@@ -57,6 +57,10 @@ is_empty (n ∷ ns) = false
 -- It may want a lock: its context isn't done; and where it holds locks it has a context, which wasn't told to back off.
 abbrev pub can_want : Situation → Bool
 can_want s = if s.is_done then false else (if is_empty s.held then true else (if s.stamp == 0 then false else is_none s.told))
+
+-- ... and it is between two calls
+abbrev pub wants_now : Situation → Bool
+wants_now s = is_at_rest s.turn && can_want s
 
 -- ---- what a caller may know of it, so that its next call looks at nothing else
 

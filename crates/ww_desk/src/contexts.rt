@@ -1,102 +1,92 @@
 //! Contexts: one is begun with a stamp, has all its locks, and ends.
-use crate::station::Station;
+use crate::desk::Desk;
 use crate::turn::Answer;
 
-impl Station {
+impl Desk {
     ghost use Rattle.std.specs.Prelude.{◌≡◌, Some};
-    ghost use Rattle.ww_table.specs.Seat.{view_of};
     ghost use Rattle.ww_desk.specs.declared.turn.Answer.TheVariants.{Done};
     ghost use Rattle.ww_desk.specs.Situations.{IsReady, IsBare};
-    ghost use Rattle.ww_desk.specs.Stations.{situation_of, Keeps};
     ghost use Rattle.ww_desk.specs.Answers.{IsBeginAnswer, IsDoneAnswer, IsEndAnswer};
 
-    /// Starts a context.
+    /// Starts a context, with a stamp of its own. `Invalid` where there is one, or a lock is held; `NoSpace` where all
+    /// that were allowed were begun, or the world's stamps are spent.
     #[inline(always)]
-    pub(crate) fn begin(&mut self) -> Answer
-        requires keeps { Keeps self.old }
-        ensures keeps { Keeps self.new }
-        ensures answer { IsBeginAnswer (situation_of self.old) result (situation_of self.new) }
-        ensures unsigned { result ≡ Done → (view_of self.new.seat).sign ≡ Some 0 }
+    pub fn begin(&mut self) -> Answer
+        ensures answer { IsBeginAnswer self.old result self.new }
+        ensures unsigned { result ≡ Done → self.new.view.sign ≡ Some 0 }
     {
-        if !self.rests() {
+        if !self.station.rests() {
             return Answer::Busy;
         }
-        if self.seat.stamp() != 0 || self.count != 0 {
+        if self.station.seat.stamp() != 0 || self.station.count != 0 {
             return Answer::Invalid;
         }
-        if self.left == 0 {
+        if self.station.left == 0 {
             return Answer::NoSpace;
         }
-        self.left -= 1;
-        if ww_seat::begin(&mut self.seat, &self.board).is_none() {
+        self.station.left -= 1;
+        if self.station.seat.begin(&self.station.board).is_none() {
             return Answer::NoSpace;
         }
-        self.is_done = false;
-        self.told = None;
+        self.station.is_done = false;
+        self.station.told = None;
         Answer::Done
     }
 
-    /// The same where nothing but spent stamps forbids it, as the caller knows.
+    /// Starts a context, where the desk is ready; `NoSpace` where the world's stamps are spent.
     #[inline(always)]
-    pub(crate) fn begin_ready(&mut self) -> Answer
-        requires keeps { Keeps self.old }
-        requires ready { IsReady (situation_of self.old) }
-        ensures keeps { Keeps self.new }
-        ensures answer { IsBeginAnswer (situation_of self.old) result (situation_of self.new) }
-        ensures unsigned { result ≡ Done → (view_of self.new.seat).sign ≡ Some 0 }
+    pub fn begin_ready(&mut self) -> Answer
+        requires { IsReady self.old }
+        ensures answer { IsBeginAnswer self.old result self.new }
+        ensures unsigned { result ≡ Done → self.new.view.sign ≡ Some 0 }
     {
-        let drawn = ww_seat::begin(&mut self.seat, &self.board);
-        self.left -= 1;
+        let drawn = self.station.seat.begin(&self.station.board);
+        self.station.left -= 1;
         if drawn.is_none() {
             return Answer::NoSpace;
         }
         Answer::Done
     }
 
-    /// The context has all its locks.
+    /// The context has all its locks: from now on it takes none, as if there were none to take. `Invalid` without a
+    /// context, and the second time.
     #[inline(always)]
-    pub(crate) fn done(&mut self) -> Answer
-        requires keeps { Keeps self.old }
-        ensures keeps { Keeps self.new }
-        ensures answer { IsDoneAnswer (situation_of self.old) result (situation_of self.new) }
+    pub fn done(&mut self) -> Answer
+        ensures { IsDoneAnswer self.old result self.new }
     {
-        if !self.rests() {
+        if !self.station.rests() {
             return Answer::Busy;
         }
-        if self.seat.stamp() == 0 || self.is_done {
+        if self.station.seat.stamp() == 0 || self.station.is_done {
             return Answer::Invalid;
         }
-        self.is_done = true;
+        self.station.is_done = true;
         Answer::Done
     }
 
-    /// Ends the context.
+    /// Ends the context. `Invalid` where there is none, or a lock is held.
     #[inline(always)]
-    pub(crate) fn end(&mut self) -> Answer
-        requires keeps { Keeps self.old }
-        ensures keeps { Keeps self.new }
-        ensures answer { IsEndAnswer (situation_of self.old) result (situation_of self.new) }
+    pub fn end(&mut self) -> Answer
+        ensures { IsEndAnswer self.old result self.new }
     {
-        if !self.rests() {
+        if !self.station.rests() {
             return Answer::Busy;
         }
-        if self.seat.stamp() == 0 || self.count != 0 {
+        if self.station.seat.stamp() == 0 || self.station.count != 0 {
             return Answer::Invalid;
         }
-        ww_seat::end(&mut self.seat, &self.board);
-        self.is_done = false;
-        self.told = None;
+        self.station.seat.end(&self.station.board);
+        self.station.is_done = false;
+        self.station.told = None;
         Answer::Done
     }
 
-    /// The same where nothing forbids it, as the caller knows.
+    /// Ends a context that has released all that it held.
     #[inline(always)]
-    pub(crate) fn end_bare(&mut self)
-        requires keeps { Keeps self.old }
-        requires bare { IsBare (situation_of self.old) }
-        ensures keeps { Keeps self.new }
-        ensures answer { IsEndAnswer (situation_of self.old) Done (situation_of self.new) }
+    pub fn end_bare(&mut self)
+        requires { IsBare self.old }
+        ensures { IsEndAnswer self.old Done self.new }
     {
-        ww_seat::end(&mut self.seat, &self.board);
+        self.station.seat.end(&self.station.board);
     }
 }

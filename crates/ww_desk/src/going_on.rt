@@ -3,72 +3,122 @@ ghost use Rattle.std.specs.Prelude.{◌≡◌, ◌≢◌, ◌<◌, ◌≤◌, �
 ghost use Rattle.std.specs.Option.{option_map};
 ghost use Rattle.ww_queue.specs.declared.entry.Entry.{Entry};
 ghost use Rattle.ww_view.specs.Made.{with_heir};
-ghost use Rattle.ww_table.specs.Seat.{view_of};
 ghost use Rattle.ww_seat.specs.Work.{AreMarked, StillHasToWake};
+ghost use Rattle.ww_seat.specs.Standings.{view_in};
 ghost use Rattle.ww_desk.specs.Answers.{IsTaken};
 ghost use Rattle.ww_desk.specs.declared.turn.Turn.TheVariants.{Stays, Looks, Gives};
 ghost use Rattle.ww_desk.specs.declared.turn.Answer.TheVariants.{Done};
 
+use crate::desk::Desk;
 use crate::station::Station;
 use crate::turn::{Answer, Turn};
 use ww_queue::wide::Entry;
-use ww_seat::{
-    Arrival, Attempt, Look, Stay, Waits, cancel_once, enter_owned, enter_wanted, give_on,
-    look_once, mark,
-};
+use ww_seat::{Arrival, Attempt, Look, Stay, Waits, mark};
 
-impl Station {
-    ghost use Rattle.ww_desk.specs.Stations.{situation_of, Keeps};
-    ghost use Rattle.ww_desk.specs.Answers.{BooksWakes, IsNextAnswer, IsStayAnswer, IsWaitAnswer, IsGiveAnswer, IsCancelAnswer, IsWakeAnswer};
+impl Desk {
+    ghost use Rattle.ww_desk.specs.Answers.{BooksWakes, IsNextAnswer, IsStayAnswer, IsGiveAnswer, IsCancelAnswer, IsWakeAnswer};
 
-    /// The next step of the call that is on its way.
-    pub(crate) fn go_on(&mut self) -> Answer
-        requires keeps { Keeps self.old }
-        ensures keeps { Keeps self.new }
-        ensures answer { IsNextAnswer self.old.turn (situation_of self.old) result (situation_of self.new) }
-        ensures books { BooksWakes (situation_of self.old) (situation_of self.new) }
+    /// The next step of the call that is on its way. `Invalid` where none is.
+    #[tactic(auto, using(crate::proofs::Account::entered_keeps, crate::proofs::Account::give_balances, crate::proofs::Account::step_books))]
+    pub fn go_on(&mut self) -> Answer
+        ensures answer { IsNextAnswer self.old.turn self.old result self.new }
+        ensures books { BooksWakes self.old self.new }
     {
-        match self.turn {
+        match self.station.turn {
             Turn::Rests => Answer::Invalid,
             Turn::Stays(lock, stay, waits) => self.stay(lock, stay, waits),
             Turn::Wants(lock, arrival, waits) => {
-                if !enter_wanted(&mut self.seat, &self.board, lock) {
+                if !self.station.seat.enter_wanted(&self.station.board, lock) {
                     return Answer::Awaits;
                 }
-                self.look(lock, arrival, waits)
+                self.station.look(lock, arrival, waits)
             }
-            Turn::Looks(lock, arrival, waits) => self.look(lock, arrival, waits),
+            Turn::Looks(lock, arrival, waits) => self.station.look(lock, arrival, waits),
             Turn::Gives(lock) => self.let_go(lock),
         }
     }
 
     /// One spin read of a lock that it tried in vain; then it rests, or wants the lock.
     fn stay(&mut self, lock: u32, stay: Stay, waits: Waits) -> Answer
-        requires keeps { Keeps self.old }
         requires turn { self.old.turn ≡ Stays lock stay waits }
-        ensures keeps { Keeps self.new }
-        ensures answer { IsStayAnswer (situation_of self.old) lock stay waits result (situation_of self.new) }
+        ensures { IsStayAnswer self.old lock stay waits result self.new }
     {
-        let owner = self.seat.glance(&self.board, lock);
+        let owner = self.station.seat.glance(&self.station.board, lock);
         let mut stay = stay;
-        let Some(rest) = stay.next(&mut self.memory, owner) else {
-            self.turn = Turn::Wants(lock, Arrival::Came, waits);
+        let Some(rest) = stay.next(&mut self.station.memory, owner) else {
+            self.station.turn = Turn::Wants(lock, Arrival::Came, waits);
             return Answer::Again;
         };
-        self.turn = Turn::Stays(lock, stay, waits);
+        self.station.turn = Turn::Stays(lock, stay, waits);
         Answer::Stays(rest)
     }
 
-    /// One look at a lock, inside its guard.
+    /// One try to go inside the guard of a lock that it releases; inside, the lock is released for certain.
+    #[tactic(auto, using(crate::proofs::Keeping::gave_inside, crate::proofs::Marks::written))]
+    fn let_go(&mut self, lock: u32) -> Answer
+        requires turn { self.old.turn ≡ Gives lock }
+        ensures answer { IsGiveAnswer self.old lock result self.new }
+        ensures debts { result ≡ Done → self.new.view.debts ≡ with_heir self.new.view.heir self.old.view.debts }
+    {
+        if !self.station.seat.enter_owned(&self.station.board, lock) {
+            return Answer::Awaits;
+        }
+        let first = self.station.seat.give_on(&self.station.board, lock);
+        add_first(&mut self.station.wake, self.station.seat.who(), first);
+        self.station.count -= 1;
+        self.station.turn = Turn::Rests;
+        Answer::Done
+    }
+
+    /// Calls off the wait of the seat of this number, if its call lets it. `Already` where that is pending, which
+    /// stays; `Invalid` for a seat that the world hasn't.
+    #[tactic(auto, using(crate::proofs::Account::balances_cancel, crate::proofs::Account::step_books))]
+    pub fn cancel(&mut self, victim: u16) -> Answer
+        ensures answer { IsCancelAnswer self.old victim result self.new }
+        ensures books { BooksWakes self.old self.new }
+    {
+        if !self.station.rests() {
+            return Answer::Busy;
+        }
+        if victim >= self.station.seats {
+            return Answer::Invalid;
+        }
+        if !self.station.seat.cancel_once(&self.station.board, victim) {
+            return Answer::Already;
+        }
+        mark(
+            &mut self.station.wake,
+            self.station.seat.who(),
+            victim,
+            true,
+        );
+        Answer::Done
+    }
+
+    /// One of those to wake now, if there are any. Each is told once.
+    pub fn next_wake(&mut self) -> Option<u16>
+        ensures { IsWakeAnswer self.old result self.new }
+    {
+        match self.station.turn {
+            Turn::Looks(..) => None,
+            _ => take_mark(&mut self.station.wake),
+        }
+    }
+}
+
+impl Station {
+    ghost use Rattle.ww_desk.specs.Stations.{situation_of, Keeps};
+    ghost use Rattle.ww_desk.specs.Answers.{IsWaitAnswer};
+
+    /// One look at a lock, inside its guard, of a call that is about to look there.
     fn look(&mut self, lock: u32, arrival: Arrival, waits: Waits) -> Answer
         requires keeps { Keeps (record self.old { turn = Looks lock arrival waits }) }
         ensures keeps { Keeps self.new }
         ensures answer { IsWaitAnswer (situation_of self.old) lock waits result (situation_of self.new) }
-        ensures still { StillHasToWake (view_of self.old.seat) (view_of self.new.seat) }
+        ensures still { StillHasToWake (view_in self.old.seat) (view_in self.new.seat) }
     {
         let mut arrival = arrival;
-        let attempt = look_once(
-            &mut self.seat,
+        let attempt = self.seat.look_once(
             &self.board,
             lock,
             &mut arrival,
@@ -99,56 +149,6 @@ impl Station {
                 self.turn = Turn::Rests;
                 Answer::Interrupted(by)
             }
-        }
-    }
-
-    /// One try to go inside the guard of a lock that it releases; inside, the lock is released for certain.
-    fn let_go(&mut self, lock: u32) -> Answer
-        requires keeps { Keeps self.old }
-        requires turn { self.old.turn ≡ Gives lock }
-        ensures keeps { Keeps self.new }
-        ensures answer { IsGiveAnswer (situation_of self.old) lock result (situation_of self.new) }
-        ensures debts { result ≡ Done → (view_of self.new.seat).debts ≡ with_heir (view_of self.new.seat).heir (view_of self.old.seat).debts }
-    {
-        if !enter_owned(&mut self.seat, &self.board, lock) {
-            return Answer::Awaits;
-        }
-        let first = give_on(&mut self.seat, &self.board, lock);
-        add_first(&mut self.wake, self.seat.who(), first);
-        self.count -= 1;
-        self.turn = Turn::Rests;
-        Answer::Done
-    }
-
-    /// Calls off the wait of a seat, which is to be woken then.
-    pub(crate) fn cancel(&mut self, victim: u16) -> Answer
-        requires keeps { Keeps self.old }
-        ensures keeps { Keeps self.new }
-        ensures answer { IsCancelAnswer (situation_of self.old) victim result (situation_of self.new) }
-        ensures books { BooksWakes (situation_of self.old) (situation_of self.new) }
-    {
-        if !self.rests() {
-            return Answer::Busy;
-        }
-        if victim >= self.seats {
-            return Answer::Invalid;
-        }
-        if !cancel_once(&mut self.seat, &self.board, victim) {
-            return Answer::Already;
-        }
-        mark(&mut self.wake, self.seat.who(), victim, true);
-        Answer::Done
-    }
-
-    /// One of those to wake, while this one is outside every guard. Each is told once.
-    pub(crate) fn next_wake(&mut self) -> Option<u16>
-        requires keeps { Keeps self.old }
-        ensures keeps { Keeps self.new }
-        ensures answer { IsWakeAnswer (situation_of self.old) result (situation_of self.new) }
-    {
-        match self.turn {
-            Turn::Looks(..) => None,
-            _ => take_mark(&mut self.wake),
         }
     }
 }

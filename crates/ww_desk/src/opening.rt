@@ -1,8 +1,7 @@
 ghost use Rattle.std.specs.Prelude.{◌≡◌, ◌≤◌, ◌<◌, ◌+◌, ◌^◌, [], length, IfOk, IfErr, vec_len, vec_capacity};
 ghost use Rattle.std.specs.Arc.{arc_value};
-ghost use Rattle.ww_rule.specs.Rule.{first_graph, places_for};
 ghost use Rattle.ww_table.specs.Made.{AreNew};
-ghost use Rattle.ww_desk.specs.Opened.{AreFresh, IsOpened, IsOpenFault};
+ghost use Rattle.ww_desk.specs.Opened.{AreFresh, IsBareTable, IsOpened, IsOpenFault, IsWorldSize};
 
 use crate::desk::Desk;
 use crate::station::Station;
@@ -10,7 +9,7 @@ use crate::turn::Turn;
 use std::alloc::{AllocError, Global};
 use std::sync::Arc;
 use ww_queue::Kind;
-use ww_seat::Memory;
+use ww_seat::{Memory, Seat};
 use ww_table::{Board, Seat16};
 use ww_word::wide::MANY_SEATS;
 
@@ -69,9 +68,7 @@ fn lay(
     seats: u16,
     left: u64,
 ) -> Result<Vec<Desk>, AllocError>
-    requires locks { (1 ≤ locks) × (locks ≤ MAX_LOCKS) }
-    requires seats { (1 ≤ seats) × (seats ≤ MANY_SEATS) }
-    requires left { left < 2 ^ 52 }
+    requires { IsWorldSize locks seats left }
     ensures { IfOk result (λ all. IsOpened kind locks seats left all.items) }
 {
     let room = Vec::with_capacity(alloc, usize::from(seats))?;
@@ -90,9 +87,7 @@ fn fresh(
     mut all: Vec<Desk>,
 ) -> Result<Vec<Desk>, AllocError>
     requires seats { AreNew (arc_value board.now).table.shared.table_id (arc_value board.now).table.shared.key (length seats.items) seats.items }
-    requires bare { first_graph (arc_value board.now).table.shared.key ≡ [] }
-    requires locks { ((arc_value board.now).table.shared.key.locks ≡ locks) × (locks ≤ 65536) }
-    requires count { (count ≡ length seats.items) × (count < 4096) × ((arc_value board.now).table.shared.key.places ≡ places_for count) }
+    requires table { IsBareTable (arc_value board.now) locks count × (count ≡ length seats.items) }
     requires left { left < 2 ^ 52 }
     requires room { (all.items ≡ []) × (vec_len all ≡ 0) × (length seats.items ≤ vec_capacity all) }
     ensures { IfOk result (λ all. AreFresh all.items (arc_value board.now).table.shared.table_id locks count (arc_value board.now).table.shared.key.kind left (length seats.items)) }
@@ -102,7 +97,7 @@ fn fresh(
         let board = Arc::try_clone(board)?;
         let station = Station {
             board,
-            seat,
+            seat: Seat::new(seat),
             count: 0,
             locks,
             is_done: false,

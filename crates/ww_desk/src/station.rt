@@ -1,17 +1,17 @@
-ghost use Rattle.std.specs.Prelude.{◌≡◌, ◌<◌, ◌≤◌, ◌+◌, ◌&&◌, true, false, None};
+ghost use Rattle.std.specs.Prelude.{◌≡◌, ◌<◌, ◌≤◌, ◌+◌, true, false, None};
 
 use crate::turn::Turn;
 use std::alloc::Global;
 use std::sync::Arc;
-use ww_seat::Memory;
-use ww_table::{Board, Seat16};
+use ww_seat::{Memory, Seat};
+use ww_table::Board;
 
 /// What a desk keeps: its seat at the table that it shares with others, and where its call stands. Contracts see it as
 /// a situation. Which locks it holds it doesn't keep: the owner words tell that.
 #[derive(Drop)]
 pub(crate) struct Station {
     pub(crate) board: Arc<Board, Global>,
-    pub(crate) seat: Seat16,
+    pub(crate) seat: Seat,
     /// How many locks it holds.
     pub(crate) count: u32,
     /// How many locks there are.
@@ -32,8 +32,8 @@ pub(crate) struct Station {
 }
 
 impl Station {
+    ghost use Rattle.ww_desk.specs.declared.turn.Turn.TheVariants.{Gives};
     ghost use Rattle.ww_desk.specs.Situations.{is_at_rest};
-    ghost use Rattle.ww_desk.specs.Stations.{wants_now, wants_of};
 
     /// Whether it is between two calls.
     #[inline(always)]
@@ -44,28 +44,6 @@ impl Station {
             Turn::Rests => true,
             _ => false,
         }
-    }
-
-    /// Whether it may want a lock once it is between two calls.
-    #[inline(always)]
-    fn can_want(&self) -> bool
-        ensures { result ≡ wants_of self.now }
-    {
-        if self.is_done {
-            return false;
-        }
-        if self.count == 0 {
-            return true;
-        }
-        self.seat.stamp() != 0 && self.told.is_none()
-    }
-
-    /// Whether it may want a lock now.
-    #[inline(always)]
-    pub(crate) fn wants(&self) -> bool
-        ensures { result ≡ wants_now self.now }
-    {
-        self.rests() && self.can_want()
     }
 
     /// Whether there is a lock of this number.
@@ -85,5 +63,13 @@ impl Station {
     {
         self.count += 1;
         self.told = None;
+    }
+
+    /// Further turns release this lock.
+    #[inline(always)]
+    pub(crate) fn goes_on_giving(&mut self, lock: u32)
+        ensures { self.new ≡ record self.old { turn = Gives lock } }
+    {
+        self.turn = Turn::Gives(lock);
     }
 }

@@ -1,48 +1,46 @@
 //! The first step of taking a lock.
-use crate::station::Station;
+use crate::desk::Desk;
 use crate::turn::{Answer, Refusal, Turn};
-use ww_seat::{Stay, Waits, take_bare_at_once, try_take_bare};
+use ww_seat::{Stay, Waits};
 use ww_table::{Taking, Tried};
 
-impl Station {
-    ghost use Rattle.std.specs.Prelude.{◌≡◌, ◌<◌, ◌≤◌, true};
-    ghost use Rattle.ww_table.specs.declared.seat.Taking.TheVariants.{Missed};
+impl Desk {
+    ghost use Rattle.std.specs.Prelude.{◌≡◌, ◌<◌, true};
     ghost use Rattle.ww_table.specs.Seat.{taking_of};
-    ghost use Rattle.ww_desk.specs.Situations.{IsPlain};
-    ghost use Rattle.ww_desk.specs.Stations.{situation_of, Keeps, CanNotTry, HasTurnedAway, MayStay, wants_now};
-    ghost use Rattle.ww_desk.specs.Answers.{answer_of, IsRefusal, IsTryAnswer, IsLockAnswer, IsSlowAnswer, HasTriedAsIs};
+    ghost use Rattle.ww_desk.specs.Situations.{is_at_rest, wants_now, IsPlain};
+    ghost use Rattle.ww_desk.specs.Answers.{answer_of, CanNotTry, IsRefusal, IsTryAnswer, IsLockAnswer, IsSlowAnswer, HasJustLost, HasTriedAsIs, HasTurnedAway};
 
     /// Why it doesn't try to take this lock. Whether it holds it the lock's word tells.
     #[cold]
     #[inline(never)]
     fn refuses(&mut self, lock: u32) -> Refusal
-        requires keeps { Keeps self.old }
-        requires why { CanNotTry lock self.old }
-        ensures keeps { Keeps self.new }
-        ensures same { situation_of self.new ≡ situation_of self.old }
-        ensures why { IsRefusal (situation_of self.old) lock (answer_of result) }
+        requires { CanNotTry self.old lock }
+        ensures same { self.new ≡ self.old }
+        ensures why { IsRefusal self.old lock (answer_of result) }
     {
-        if !self.rests() {
+        if !self.station.rests() {
             return Refusal::Busy;
         }
-        if self.is_lock(lock) && self.seat.has(&self.board, lock) {
+        if self.station.is_lock(lock) && self.station.seat.has(&self.station.board, lock) {
             return Refusal::Already;
         }
         Refusal::Invalid
     }
 
     /// One try to take a lock, while it may want one. Whether it holds it the lock's word tells.
+    #[tactic(auto, using(crate::proofs::Locks::may_try, crate::proofs::Keeping::few_counted, crate::proofs::Keeping::took_at_once))]
     fn try_once(&mut self, lock: u32) -> Taking
-        requires keeps { Keeps self.old }
         requires wants { wants_now self.old ≡ true }
-        requires there { lock < self.old.locks }
-        ensures keeps { Keeps self.new }
-        ensures tried { HasTriedAsIs (situation_of self.old) lock result (situation_of self.new) }
-        ensures stays { result ≡ Missed → MayStay lock self.new }
+        requires there { lock < self.old.size }
+        ensures { HasTriedAsIs self.old lock result self.new }
     {
-        match try_take_bare(&mut self.seat, &self.board, lock, self.count != 0) {
+        match self
+            .station
+            .seat
+            .try_take_bare(&self.station.board, lock, self.station.count != 0)
+        {
             Taking::Took => {
-                self.add();
+                self.station.add();
                 Taking::Took
             }
             Taking::Had => Taking::Had,
@@ -52,29 +50,25 @@ impl Station {
 
     /// The same where it may want a lock, as the caller knows: no sign is looked for.
     #[inline(always)]
+    #[tactic(auto, using(crate::proofs::Locks::may_take, crate::proofs::Keeping::few_counted, crate::proofs::Keeping::took_at_once))]
     fn try_plainly(&mut self, lock: u32) -> Tried
-        requires keeps { Keeps self.old }
-        requires plain { IsPlain (situation_of self.old) }
-        requires there { lock < self.old.locks }
-        ensures keeps { Keeps self.new }
-        ensures tried { HasTriedAsIs (situation_of self.old) lock (taking_of result) (situation_of self.new) }
-        ensures stays { taking_of result ≡ Missed → MayStay lock self.new }
+        requires plain { IsPlain self.old }
+        requires there { lock < self.old.size }
+        ensures { HasTriedAsIs self.old lock (taking_of result) self.new }
     {
-        let tried = take_bare_at_once(&mut self.seat, &self.board, lock);
+        let tried = self.station.seat.take_bare(&self.station.board, lock);
         match tried {
-            Tried::Did => self.count += 1,
+            Tried::Did => self.station.count += 1,
             Tried::InVain(_) => {}
         }
         tried
     }
 
-    /// One try to take a lock, and no waiting.
-    pub(crate) fn try_lock(&mut self, lock: u32) -> Answer
-        requires keeps { Keeps self.old }
-        ensures keeps { Keeps self.new }
-        ensures answer { IsTryAnswer (situation_of self.old) lock result (situation_of self.new) }
+    /// Takes a lock if nobody has it or waits for it, and else answers `Busy`.
+    pub fn try_lock(&mut self, lock: u32) -> Answer
+        ensures { IsTryAnswer self.old lock result self.new }
     {
-        if !self.wants() || !self.is_lock(lock) {
+        if !self.wants() || !self.station.is_lock(lock) {
             return self.refuses(lock).answer();
         }
         match self.try_once(lock) {
@@ -84,18 +78,25 @@ impl Station {
         }
     }
 
-    /// Takes a lock: one try, after which it stays away for a while and then waits.
-    pub(crate) fn lock(&mut self, lock: u32, waits: Waits) -> Answer
-        requires keeps { Keeps self.old }
-        ensures keeps { Keeps self.new }
-        ensures answer { IsLockAnswer (situation_of self.old) lock waits result (situation_of self.new) }
+    /// Takes a lock, or begins to wait for it. `Invalid` for a lock that isn't there, for a context that is done, for
+    /// one that was told to back off and hasn't, and for a second lock without a context.
+    #[inline(always)]
+    pub fn lock(&mut self, lock: u32, waits: Waits) -> Answer
+        ensures { IsLockAnswer self.old lock waits result self.new }
     {
-        if !self.wants() || !self.is_lock(lock) {
+        self.lock_here(lock, waits)
+    }
+
+    /// The same, in a frame of its own: so a caller of `lock` has room for the answer only where it needs it.
+    fn lock_here(&mut self, lock: u32, waits: Waits) -> Answer
+        ensures { IsLockAnswer self.old lock waits result self.new }
+    {
+        if !self.wants() || !self.station.is_lock(lock) {
             return self.refuses(lock).answer();
         }
         match self.try_once(lock) {
             Taking::Took => {
-                self.memory.win();
+                self.station.memory.win();
                 Answer::Done
             }
             Taking::Had => Answer::Already,
@@ -106,18 +107,16 @@ impl Station {
         }
     }
 
-    /// The same where it may want a lock, as the caller knows.
+    /// Takes a lock, or begins to wait for it, where it may want one.
     #[inline(always)]
-    pub(crate) fn lock_plainly(&mut self, lock: u32, waits: Waits) -> Answer
-        requires keeps { Keeps self.old }
-        requires plain { IsPlain (situation_of self.old) }
-        requires there { lock < (situation_of self.old).size }
-        ensures keeps { Keeps self.new }
-        ensures answer { IsLockAnswer (situation_of self.old) lock waits result (situation_of self.new) }
+    pub fn lock_plainly(&mut self, lock: u32, waits: Waits) -> Answer
+        requires plain { IsPlain self.old }
+        requires there { lock < self.old.size }
+        ensures { IsLockAnswer self.old lock waits result self.new }
     {
         match self.try_plainly(lock) {
             Tried::Did => {
-                self.memory.win();
+                self.station.memory.win();
                 Answer::Done
             }
             Tried::InVain(found) => {
@@ -130,14 +129,12 @@ impl Station {
         }
     }
 
-    /// One try to take a lock, and no waiting, where it may want one, as the caller knows.
+    /// Takes a lock if nobody has it or waits for it, where it may want one.
     #[inline(always)]
-    pub(crate) fn try_lock_plainly(&mut self, lock: u32) -> Answer
-        requires keeps { Keeps self.old }
-        requires plain { IsPlain (situation_of self.old) }
-        requires there { lock < (situation_of self.old).size }
-        ensures keeps { Keeps self.new }
-        ensures answer { IsTryAnswer (situation_of self.old) lock result (situation_of self.new) }
+    pub fn try_lock_plainly(&mut self, lock: u32) -> Answer
+        requires plain { IsPlain self.old }
+        requires there { lock < self.old.size }
+        ensures { IsTryAnswer self.old lock result self.new }
     {
         match self.try_plainly(lock) {
             Tried::Did => Answer::Done,
@@ -153,20 +150,20 @@ impl Station {
     /// Further steps take this lock, which it has just tried in vain.
     #[inline(always)]
     fn stays_away(&mut self, lock: u32, waits: Waits)
-        ensures { HasTurnedAway lock waits self.old self.new }
+        requires { HasJustLost lock self.old }
+        ensures { HasTurnedAway self.old lock waits self.new }
     {
-        self.turn = Turn::Stays(lock, Stay::new(self.count != 0), waits);
+        self.station.turn = Turn::Stays(lock, Stay::new(self.station.count != 0), waits);
     }
 
-    /// Takes the lock for which it was told to back off, once it has.
-    pub(crate) fn lock_slow(&mut self, lock: u32, waits: Waits) -> Answer
-        requires keeps { Keeps self.old }
-        ensures keeps { Keeps self.new }
-        ensures answer { IsSlowAnswer (situation_of self.old) lock waits result (situation_of self.new) }
+    /// Takes the lock for which the context was told to back off, once it has. `Invalid` for any other lock, or while
+    /// one is held.
+    pub fn lock_slow(&mut self, lock: u32, waits: Waits) -> Answer
+        ensures { IsSlowAnswer self.old lock waits result self.new }
     {
-        if self.rests() && (self.told != Some(lock) || self.count != 0) {
+        if self.station.rests() && (self.station.told != Some(lock) || self.station.count != 0) {
             return Answer::Invalid;
         }
-        self.lock(lock, waits)
+        self.lock_here(lock, waits)
     }
 }

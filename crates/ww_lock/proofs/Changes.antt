@@ -1,6 +1,5 @@
 -- What is prepared, and what its commit makes of a state.
-use Rattle.std.proofs.Common.{◌≡◌, ℕ, zero, suc, ◌+◌, ◌-◌, ◌<◌, ◌≤◌, ◌^◌, ◌||◌, ◌∙◌, Bool, List, [], ◌∷◌, ◌++◌, length, length-append, map, fold, true, inl, inr, Option, Some, None, slice_get, refl, sym, ap, subst, arith}
-use Rattle.std.specs.Prelude.{vec_len, vec_capacity}
+use Rattle.std.proofs.Common.{◌≡◌, ℕ, zero, suc, ◌+◌, ◌-◌, ◌<◌, ◌≤◌, ◌^◌, ◌||◌, ◌∙◌, Bool, List, [], ◌∷◌, ◌++◌, length, length-append, map, fold, true, inl, inr, Option, Some, None, slice_get, refl, sym, ap, arith}
 use Rattle.std.specs.List.{AllByRecursion}
 use Rattle.std.proofs.lemmas.List.{length-map, map-append}
 use mathlib.Core.Option.{some}
@@ -8,28 +7,29 @@ use Rattle.ww_plain.specs.Numbers.{joined, distinct_of}
 use Rattle.ww_plain.specs.Graph.{node_at}
 use Rattle.ww_plain.specs.Walk.{BeginsWith, walk_of, stop_of}
 use Rattle.ww_plain.specs.Footprint.{with_target, walked}
-use Rattle.ww_plain.specs.Transaction.{get, add, move, link, sum, reverse, peek, Fits}
-use Rattle.ww_plain.specs.Meaning.{answer_of}
+use Rattle.ww_plain.specs.Transaction.{get, add, move, link, sum, reverse, peek, Fits, transaction_of}
+use Rattle.ww_plain.specs.Meaning.{answer_of, graph_after}
 use Rattle.ww_plain.proofs.Members.{true_or_false, is_among-append, is_among-head}
 use Rattle.ww_plain.proofs.Walks.{gives_walk}
-use Rattle.ww_table.specs.declared.seat.Seat16.{Seat16}
 use Rattle.ww_view.specs.View.{owns}
-use Rattle.ww_seat.specs.Orderly.{IsSettled}
 use Rattle.ww_seat.specs.Accounts.{Account, account_of, having_committed}
-use Rattle.ww_seat.specs.Calls.{HoldsAll, HasCommitted, HasStayedOut}
-use Rattle.ww_lock.specs.declared.hand.Hand.{Hand}
+use Rattle.ww_seat.specs.Calls.{HoldsAll}
+use Rattle.ww_seat.specs.Standings.{Standing, view_in, IsCommit}
+use Rattle.ww_lock.specs.declared.hand.Hand.TheInside.{Inside}
+use Rattle.ww_lock.specs.declared.prepared.Prepared.TheInside as prepared
 use Rattle.ww_lock.specs.declared.prepared.Receipt.{Receipt}
-use Rattle.ww_lock.specs.Carried.{holding_of, held_of, Carries, CarriesFresh, HasFew}
+use Rattle.ww_lock.specs.Carried.{held_of, seen_with, holding_of, IsFresh}
+use Rattle.ww_lock.specs.Hands.{carried_of, Carries}
 use Rattle.ww_lock.specs.Moves.{IsCommitted}
 use Rattle.ww_lock.proofs.Helds.{all_among}
-use Rattle.ww_lock.proofs.Carrying.{at_table, settled_as, seen_with, seen_still, carries_with, even_still}
+use Rattle.ww_lock.proofs.Carrying.{carries_as, even_still}
 use Rattle.ww_plain.specs.declared.node.Node.{Node}
 use Rattle.ww_plain.specs.declared.history.Record.{Record}
 use Rattle.ww_plain.specs.Numbers.{is_among}
 use Rattle.ww_plain.specs.Footprint.{footprint_of}
 use Rattle.ww_plain.specs.Transaction.{Transaction}
 use Rattle.ww_plain.specs.History.{Recorded, recorded_of}
-use Rattle.ww_lock.specs.Holding.{Holding, Change, Setting, IsAtHome, Holds, SameAt, AreBelow, own_of}
+use Rattle.ww_lock.specs.Holding.{Holding, Change, Holds, SameAt, AreBelow, own_of}
 use Rattle.ww_lock.specs.Making.{IsMade, Finds}
 use Rattle.ww_seat.specs.Commits.{change_at}
 
@@ -94,114 +94,89 @@ some_footprint graph (peek node) size fits = (node, is_among-head node [])
 
 -- ---- a commit
 
--- what a seat is asked for a commit, by what its state carries
-pub record MayCommit (h : Hand) (p : Change) (r : Record) : Type 0 where
-  pub owner : (n : ℕ) × (owns h.seat.seat.me.0.part.core n ≡ true)
-  pub caller : r.caller ≡ h.seat.seat.me.0.part.core.who
-  pub seq : r.seq ≡ length h.seat.seat.me.0.part.own
-  pub held : HoldsAll h.seat.seat.me p.before (footprint_of p.before p.transaction)
-  pub fewer : length h.seat.seat.me.0.part.own + 1 < 2 ^ 32
+-- what contracts see of a transaction that was prepared
+abbrev pub change_of : prepared.Inside → Change
+change_of p = record {
+  transaction = transaction_of p.record.txn;
+  answer = answer_of p.record.reply;
+  before = p.before.value;
+  after = graph_after p.before.value (transaction_of p.record.txn);
+}
 
-pub may_commit : (h : Hand) (p : Change) (r : Record) → CarriesFresh h → IsMade (holding_of h) p
-    → r.caller ≡ h.seat.who → r.seq ≡ length h.seat.records.items → Fits (length p.before) p.transaction
-    → MayCommit h p r
-may_commit h p r f made caller seq fits =
-    let c = f.carries in
+-- what a seat is asked for a commit, by what is carried
+pub record MaySettle (h : Inside) (p : Change) (r : Record) : Type 0 where
+  pub owner : (n : ℕ) × (owns (view_in h.seat) n ≡ true)
+  pub seq : r.seq ≡ length h.seat.me.0.part.own
+  pub held : HoldsAll h.seat.me p.before (footprint_of p.before p.transaction)
+  pub fewer : length h.seat.me.0.part.own + 1 < 2 ^ 32
+
+pub many : (own : List (ℕ × Record)) → length (own_of own) ≡ length own
+many own = length-map own (λ (x : ℕ × Record). (x.0, recorded_of x.1))
+
+pub may_settle : (h : Inside) (p : Change) (r : Record) → Carries h → IsFresh (carried_of h) → IsMade (holding_of (carried_of h)) p
+    → r.seq ≡ length (own_of h.seat.me.0.part.own) → Fits (length p.before) p.transaction → MaySettle h p r
+may_settle h p r c f made seq fits =
     let ns : List ℕ = footprint_of p.before p.transaction in
     let held : (n : ℕ) → is_among n ns ≡ true
-    → is_among n (held_of h) ≡ true = λ n e. all_among (λ m. is_among m (held_of h) ≡ true) ns n made.holds e in
+    → is_among n (held_of (carried_of h)) ≡ true =
+    λ n e. all_among (λ m. is_among m (held_of (carried_of h)) ≡ true) ns n made.holds e in
     let as_seen : (n : ℕ) → is_among n ns ≡ true
     → node_at p.before n ≡ node_at h.seen n =
     λ n e. all_among (λ m. node_at p.before m ≡ node_at h.seen m) ns n made.contents e in
     let one = some_footprint p.before p.transaction (length p.before) fits in
     record {
-      owner = (one.0, c.owned one.0 ∙ held one.0 one.1);
-      caller = caller ∙ sym c.settled.seated.who;
-      seq = seq ∙ ap length c.settled.seated.records;
-      held = λ n e. (c.owned n ∙ held n e, f.seen n (held n e) ∙ ap (λ (x : Node). some (Some x)) (sym (as_seen n e)));
-      fewer = omega (arith, f.commits, ap length c.settled.seated.records);
+      owner = (one.0, c.suits.owned one.0 ∙ held one.0 one.1);
+      seq = seq ∙ many h.seat.me.0.part.own;
+      held = λ n e. (c.suits.owned n ∙ held n e, f.seen n (held n e) ∙ ap (λ (x : Node). some (Some x)) (sym (as_seen n e)));
+      fewer = omega (arith, f.commits);
     }
 
-pub record Commits (h g : Hand) (p : Change) (told : Receipt) : Type 0 where
+pub record Commits (h g : Inside) (p : Change) (told : Receipt) : Type 0 where
   pub carries : Carries g
-  pub is : IsCommitted (holding_of h) p (holding_of g) told
+  pub is : IsCommitted (holding_of (carried_of h)) p (holding_of (carried_of g)) told
 
 below_as : (place : ℕ) (records : List (ℕ × Record)) → AllByRecursion (λ q. q.0 < place) records → AreBelow place (own_of records)
 below_as place [] all = tt
 below_as place (r ∷ rs) all = (all.0, below_as place rs all.1)
 
-pub commits : (h : Hand) (w pl : Setting) (q : Seat16) (p : Change) (r : Record) (after : List Node) (ns : List ℕ)
-    (told : Receipt) → pl ≡ w → IsAtHome (holding_of h) w → CarriesFresh h
-    → IsSettled pl.home.table (length pl.first) q → HasCommitted h.seat.seat.me told.place r after ns q.seat.me
-    → HasStayedOut h.seat.seat.me.0.part.core q.seat.me.0.part.core
+pub commits : (h : Inside) (s' : Standing) (p : Change) (r : Record) (before : List Node) (told : Receipt) → Carries h
+    → IsFresh (carried_of h) → IsCommit h.seat r before told.place s'
     → recorded_of r ≡ record {
-      caller = h.seat.who;
-      seq = length h.seat.records.items;
+      caller = (view_in h.seat).who;
+      seq = length (own_of h.seat.me.0.part.own);
       transaction = p.transaction;
       answer = p.answer;
     }
-    → told.seq ≡ length h.seat.records.items → answer_of told.reply ≡ p.answer
-    → vec_capacity q.records ≡ vec_capacity h.seat.records → Commits h (record h { seat = q }) p told
-commits h w pl q p r after ns told is home f settled b out same seq reply capacity =
-    let c = f.carries in
-    let g : Hand = record h { seat = q } in
-    let t = at_table (holding_of h) w pl is home in
-    let records : q.records.items ≡ h.seat.records.items ++ (told.place, r) ∷ [] = settled.seated.records
-    ∙ ap (λ (x : Account). x.own) b.now ∙ ap (λ l. l ++ (told.place, r) ∷ []) (sym c.settled.seated.records) in
-    let many : length q.records.items ≡ length h.seat.records.items + 1 = ap length records
-    ∙ length-append h.seat.records.items ((told.place, r) ∷ []) in
-    let room : vec_capacity q.records - vec_len q.records
-    ≡ vec_capacity h.seat.records - vec_len h.seat.records - 1 = omega (arith, many, capacity) in
-    let table : q.seat.table_id ≡ h.seat.seat.table_id = settled.seated.home ∙ sym t.0 in
-    let who : q.who ≡ h.seat.who = sym settled.seated.who ∙ ap (λ (x : Account). x.who) b.now ∙ c.settled.seated.who in
-    let size : length (own_of h.seat.records.items) ≡ length h.seat.records.items =
-    length-map h.seat.records.items (λ (x : ℕ × Record). (x.0, recorded_of x.1)) in
-    let own : own_of q.records.items ≡ own_of h.seat.records.items ++ (
-      told.place,
-      record {
-        caller = h.seat.who;
-        seq = length (own_of h.seat.records.items);
-        transaction = p.transaction;
-        answer = p.answer;
-      },
-    ) ∷ [] =
-    ap own_of records ∙ map-append (λ (x : ℕ × Record). (x.0, recorded_of x.1)) h.seat.records.items ((told.place, r) ∷ [])
-    ∙ ap (λ (d : Recorded). own_of h.seat.records.items ++ (told.place, d) ∷ [])
-    (same ∙ ap (λ (k : ℕ). record {
-      caller = h.seat.who;
-      seq = k;
-      transaction = p.transaction;
-      answer = p.answer;
-    }) (sym size)) in
-    let a : Account = having_committed (account_of h.seat.seat.me) told.place r q.seat.me.0.held in
-    let added : List (ℕ × Recorded) = own_of h.seat.records.items ++ (
-      told.place,
-      record {
-        caller = h.seat.who;
-        seq = length (own_of h.seat.records.items);
-        transaction = p.transaction;
-        answer = p.answer;
-      },
-    ) ∷ [] in
-    let less : ℕ = vec_capacity h.seat.records - vec_len h.seat.records - 1 in
-    let same : holding_of g
-    ≡ record (seen_with h (account_of q.seat.me)) { own = added; room = less; deaf = q.seat.me.0.part.core.deaf } =
-    rw (table, who, own, room, sym settled.seated.stamp) refl in
+    → told.seq ≡ length (own_of h.seat.me.0.part.own) → answer_of told.reply ≡ p.answer → Commits h (record h { seat = s' }) p told
+commits h s' p r before told c f b same seq reply =
+    let g : Inside = record h { seat = s' } in
+    let own : List (ℕ × Record) = h.seat.me.0.part.own in
+    let a : Account = having_committed (account_of h.seat.me) told.place r s'.me.0.held in
     record {
-      carries = carries_with g a b.now (settled_as pl.home.table q.seat.table_id (length pl.first) (length h.seen) q
-          (sym settled.seated.home) (sym t.1) settled)
-          (record { owned = c.owned; marks = c.marks; held = c.held; answered = c.answered; draws = c.draws })
-          (rw who c.placed)
-          (even_still h g q refl refl (record { parker = refl; heard = refl })
-          (ap (λ (x : Account). x.counts.cancelled) b.now) out c.even) (omega (arith, many, f.commits))
-          (subst HasFew (sym table) c.few);
+      carries = carries_as h g a c (b.size ∙ c.size) b.away
+          (record {
+            bells = refl;
+            parker = refl;
+            even = even_still h.seat.me s'.me h.patience h.patience h.bells.items b.out
+                (ap (λ (x : Account). x.counts.cancelled) b.committed.now) refl c.even;
+          }) b.committed.now refl (record {
+            owned = c.suits.owned;
+            marked = c.suits.marked;
+            wide = c.suits.wide;
+            held = c.suits.held;
+            answered = c.suits.answered;
+            draws = c.suits.draws;
+            commits = omega (arith, f.commits, length-append own ((told.place, r) ∷ []));
+            few = c.suits.few;
+          });
       is = record {
-        own = same ∙ ap (λ (x : Account).
-            let s : Holding = record (seen_with h x) { own = added; room = less; deaf = q.seat.me.0.part.core.deaf } in s) b.now
-            ∙ ap (λ (d : ℕ). let s : Holding = record (seen_with h a) { own = added; room = less; deaf = d } in s) out.deaf ∙ ap (λ (s : Holding). record s { own = added; room = less }) (seen_still h c);
-        above = below_as told.place h.seat.records.items
-            (subst (AllByRecursion (λ x. x.0 < told.place)) (sym c.settled.seated.records) b.above);
-        seq = seq ∙ sym size;
+        own = (λ i. seen_with (record { seat = b.now i; parkers = (carried_of h).parkers; left = h.left; seen = h.seen })
+            (b.committed.now i) (b.out.deaf i))
+            ∙ ap (λ (os : List (ℕ × Recorded)). let s : Holding = record (holding_of (carried_of h)) { own = os; room = h.seat.room - 1 } in s)
+            (map-append (λ (x : ℕ × Record). (x.0, recorded_of x.1)) own ((told.place, r) ∷ [])
+            ∙ ap (λ (d : Recorded). own_of own ++ (told.place, d) ∷ []) same);
+        above = below_as told.place own b.committed.above;
+        seq = seq;
         reply = reply;
       };
     }

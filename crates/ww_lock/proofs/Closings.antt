@@ -9,7 +9,7 @@ use Rattle.ww_plain.specs.declared.node.Node.{Node}
 use Rattle.ww_plain.specs.declared.history.Record.{Record}
 use Rattle.ww_plain.specs.History.{Recorded, history_of, part_of, IsLegal, last_graph}
 use Rattle.ww_plain.proofs.Members.{eqb_same, true_or_false, same_from_eqb, or_cases}
-use Rattle.ww_view.specs.View.{IsBare}
+use Rattle.ww_view.specs.View.{IsAway, IsBare}
 use Rattle.ww_rule.specs.declared.cells.Cell.{Cell}
 use Rattle.ww_rule.specs.declared.cells.Start.{Start}
 use Rattle.ww_table.specs.declared.seat.Seat16.{Seat16}
@@ -18,29 +18,38 @@ use Rattle.ww_rule.specs.Rule.{first_graph, times}
 use Rattle.ww_table.specs.Closed.{HasCome, HaveAllCome, HasPlaces}
 use Rattle.ww_table.specs.Closed as table
 use Rattle.atomic_table.specs.Seated.{TableId}
-use Rattle.ww_lock.specs.declared.hand.Hand.{Hand}
+use Rattle.ww_seat.specs.Standings.{Standing, standing_of, view_in, IsKept}
+use Rattle.ww_seat.proofs.Outside.{owner_of_first}
+use Rattle.ww_table.specs.Seat.{IsSeated, view_of}
+use Rattle.ww_lock.specs.declared.hand.Hand.TheInside.{Inside}
 use Rattle.ww_lock.specs.declared.close.History.{History}
 use Rattle.ww_lock.specs.Holding.{Home, Holding, Setting, AreAtHome, AreBelow, by_of, own_of}
-use Rattle.ww_lock.specs.Carried.{holding_of, held_of, Carries}
-use Rattle.ww_lock.specs.Closed.{has_pass, missing_of, IsSeatOf, AreSeatsOf, AreAllBelow, AreParts, IsBalanced, AreBalanced, IsClosed}
-use Rattle.ww_lock.proofs.Carrying.{bare_of, top_held}
+use Rattle.ww_lock.specs.Carried.{held_of, holding_of}
+use Rattle.ww_lock.specs.Hands.{carried_of, Carries}
+use Rattle.ww_lock.specs.Closed.{has_pass, missing_of, WasSeatOf, AreSeatsOf, AreAllBelow, AreParts, IsBalanced, AreBalanced, IsClosed}
+use Rattle.ww_lock.proofs.Carrying.{bare_of}
 
 -- a seat between two calls that owns no lock has nothing out
-nothing_out : (h : Hand) → Carries h → IsBare h.seat.seat.me.0.part.core → h.seat.seat.me.1 ≡ []
-nothing_out h c bare = go h.seat.seat.me.1 refl
+nothing_out : (q : Seat16) → IsKept q → IsAway (view_of q) → IsBare (view_of q) → q.seat.me.1 ≡ []
+nothing_out q k away bare = go q.seat.me.1 refl
   where
-    go : (slots : List (ℕ × Cell)) → h.seat.seat.me.1 ≡ slots → slots ≡ []
+    go : (slots : List (ℕ × Cell)) → q.seat.me.1 ≡ slots → slots ≡ []
     go [] out = refl
-    go (x ∷ xs) out = absurd (true≢false (sym (top_held h x.0 x.1 xs c out) ∙ bare x.0))
+    go (x ∷ xs) out = absurd (true≢false
+        (sym (owner_of_first (length q.seat.me.0.held) q.seat.me x.0 x.1 xs k.orderly away.0 out) ∙ bare x.0))
 
-pub seat_of_pass : (h : Hand) (s : Holding) → holding_of h ≡ s → Carries h → held_of h ≡ [] → IsSeatOf s h.seat
-seat_of_pass h s is c none = subst (λ (t : Holding). IsSeatOf t h.seat) is (record {
-  come = record { seated = c.settled.seated; bare = bare_of h c none; nothing = nothing_out h c (bare_of h c none) };
-  number = refl;
-  own = refl;
-  cancelled = refl;
-  heeded = sym c.answered;
-})
+pub seat_of_pass : (h : Inside) (q : Seat16) → Carries h → held_of (carried_of h) ≡ [] → standing_of q ≡ h.seat → IsKept q
+    → WasSeatOf (holding_of (carried_of h)) q
+seat_of_pass h q c none is k =
+    let home = ap (λ (s : Standing). s.home) is in
+    let bare = subst (λ (s : Standing). IsBare (view_in s)) (sym is) (bare_of h c none) in
+    let away = subst (λ (s : Standing). IsAway (view_in s)) (sym is) c.away in record {
+      come = record { seated = subst (λ (t : TableId). IsSeated t q) home k.seated; bare = bare; nothing = nothing_out q k away bare };
+      number = sym k.seated.who ∙ ap (λ (s : Standing). (view_in s).who) is;
+      own = ap own_of k.seated.records ∙ ap (λ (s : Standing). own_of s.me.0.part.own) is;
+      cancelled = ap (λ (s : Standing). s.me.0.part.counts.cancelled) is;
+      heeded = ap (λ (s : Standing). s.me.0.part.counts.heeded) is ∙ sym c.suits.answered;
+    }
 
 pub below_own : (place : ℕ) (records : List (ℕ × Record)) → AllByRecursion (λ q. q.0 < place) records → AreBelow place (own_of records)
 below_own place [] all = tt
@@ -127,7 +136,7 @@ parts history (s ∷ ss) (q ∷ qs) are each = (
 
 -- what holds of each seat, told of its pass
 of_each : (passes : List Holding) (seats : List Seat16) (P : Holding → Type 0) → AreSeatsOf passes seats
-    → ((s : Holding) (q : Seat16) → IsSeatOf s q → Has seats q → P s) → AllByRecursion P passes
+    → ((s : Holding) (q : Seat16) → WasSeatOf s q → Has seats q → P s) → AllByRecursion P passes
 of_each [] [] P are each = tt
 of_each [] (q ∷ qs) P are each = absurd are
 of_each (s ∷ ss) [] P are each = absurd are
@@ -168,7 +177,7 @@ closed key w passes seats h first count none are c = let history : List Recorded
 }
 
 pub seats_push : (passes : List Holding) (seats : List Seat16) (s : Holding) (q : Seat16) → AreSeatsOf passes seats
-    → IsSeatOf s q → AreSeatsOf (passes ++ s ∷ []) (seats ++ q ∷ [])
+    → WasSeatOf s q → AreSeatsOf (passes ++ s ∷ []) (seats ++ q ∷ [])
 seats_push [] [] s q are is = (is, tt)
 seats_push [] (r ∷ rs) s q are is = absurd are
 seats_push (t ∷ ts) [] s q are is = absurd are

@@ -4,4 +4,3 @@ pub mod Carrying
 pub mod Changes
 pub mod Openings
 pub mod Closings
-pub mod Taking

@@ -1,33 +1,30 @@
 -- Passes that have done nothing yet.
-use Rattle.std.proofs.Common.{◌≡◌, ℕ, zero, suc, ◌+◌, ◌<◌, ◌≤◌, ◌^◌, false, replicate, List, [], ◌∷◌, ◌++◌, length, map, reverse, drop, Some, refl, sym, ap, subst, ◌∙◌, arith, length-append, get_or, below_more}
+use Rattle.std.proofs.Common.{◌≡◌, ℕ, zero, suc, ◌+◌, ◌<◌, ◌≤◌, ◌^◌, false, replicate, List, [], ◌∷◌, ◌++◌, length, map, reverse, drop, None, Some, refl, sym, ap, subst, ◌∙◌, arith, length-append, get_or, below_more}
 use Rattle.std.specs.Prelude.{slice_get}
 use Rattle.std.specs.List.{AllByRecursion}
-use Rattle.std.proofs.lemmas.List.{get_or_append_left, get_or_push, map-append, reverse-append}
+use Rattle.std.proofs.lemmas.List.{get_or_append_left, get_or_push, length-replicate, map-append, reverse-append}
 use Rattle.atomic_table.specs.Seated.{TableId}
 use Rattle.ww_plain.specs.declared.node.Node.{Node}
-use Rattle.ww_view.specs.View.{owns}
+use Rattle.ww_view.specs.View.{owns, IsAway}
 use Rattle.ww_rule.specs.declared.cells.Start.{Start}
 use Rattle.ww_table.specs.declared.seat.Seat16.{Seat16}
-use Rattle.ww_rule.specs.Rule.{Sat, first_graph, no_counts}
+use Rattle.ww_rule.specs.Rule.{Sat, first_graph}
 use Rattle.ww_table.specs.Seat.{IsNew}
 use Rattle.ww_plain.specs.Numbers.{is_among}
-use Rattle.ww_lock.specs.declared.hand.Hand.{Hand}
-use Rattle.ww_lock.specs.Holding.{Home, Holding, Setting, IsAtHome, AreAtHome, by_of, own_of}
+use Rattle.ww_lock.specs.declared.hand.Hand.TheInside.{Inside}
+use Rattle.ww_lock.specs.Holding.{Home, Holding, Setting, IsAtHome, AreAtHome, by_of}
 use Rattle.ww_seat.specs.declared.bell.Bell.{Bell}
-use Rattle.ww_seat.specs.Bells.{heard, rung, rung_at, sleeps_at, wakes_owed}
-use Rattle.ww_lock.specs.Carried.{holding_of, held_of, bells_of, Carries}
-use Rattle.ww_rule.specs.Layout.{IsSized}
+use Rattle.ww_seat.specs.Accounts.{account_of}
+use Rattle.ww_seat.specs.Bells.{heard, rings_at, rung, rung_at, sleeps_at, wakes_owed}
+use Rattle.ww_seat.specs.Standings.{Standing, standing_of, view_in}
+use Rattle.ww_lock.specs.Carried.{held_of, seen_with, holding_of}
+use Rattle.ww_lock.specs.Hands.{carried_of, Carries}
 use Rattle.ww_lock.specs.Opened.{fresh, AreFresh, AreRests}
 use Rattle.ww_lock.specs.declared.world.Rest.{Rest}
 use mathlib.Core.Option.{some}
 use lib.ListN.{get_elem?}
 use Rattle.ww_rule.proofs.Seats.{bare_first}
-use Rattle.ww_seat.proofs.Starts.{new_settled}
-use Rattle.ww_lock.proofs.Carrying.{settled_as}
 use Rattle.ww_lock.proofs.Helds.{held_none}
-
-pub new_holds_nothing : (t : TableId) (key : Start) (k : ℕ) (h : Hand) → IsNew t key k h.seat → held_of h ≡ []
-new_holds_nothing t key k h new = ap (λ (m : Sat). m.0.part.core.locks) new.me
 
 -- a bell that has given no token
 silent_at : (bells : List Bell) (u : ℕ) → u < length bells → AllByRecursion (λ b. rung b ≡ 0) bells → rung_at bells u ≡ Some 0
@@ -35,57 +32,52 @@ silent_at [] u low all = absurd (omega (arith, low))
 silent_at (b ∷ bs) zero low all = ap Some all.0
 silent_at (b ∷ bs) (suc u) low all = silent_at bs u (omega (arith, low)) all.1
 
--- a seat that was made just now, in a state that has seen the graph
-pub new_carries : (t : TableId) (key : Start) (k : ℕ) (h : Hand) → IsNew t key k h.seat
+-- what a pass carries whose seat was made just now, and that has seen the graph
+pub new_carries : (t : TableId) (key : Start) (k : ℕ) (q : Seat16) (h : Inside) → IsNew t key k q → h.seat ≡ standing_of q
     → h.marks ≡ replicate 64 false → h.seen ≡ first_graph key → length (first_graph key) ≤ 64 → key.locks ≡ 64 → key.places ≡ 16
-    → h.left < 2 ^ 32 → slice_get (bells_of h) k ≡ Some (sleeps_at h.patience)
+    → h.left < 2 ^ 32 → slice_get (map rings_at h.bells.items) k ≡ Some (sleeps_at h.patience)
     → AllByRecursion (λ b. rung b ≡ 0) h.bells.items → heard h.patience ≡ 0 → Carries h
-new_carries t key k h new marks seen few locks places left placed silent awake =
-    let me = new.me in
-    let none : held_of h ≡ [] = new_holds_nothing t key k h new in
-    let size : length h.seen ≡ length (first_graph key) = ap length seen in
-    let list : h.seat.records.items ≡ [] = new.seated.records ∙ ap (λ (m : Sat). m.0.part.own) me in
+new_carries t key k q h new is marks seen few locks places left placed silent awake =
+    let me = ap (λ (s : Standing). s.me) is ∙ new.me in
+    let none : held_of (carried_of h) ≡ [] = ap (λ (m : Sat). m.0.part.core.locks) me in
+    let who : (view_in h.seat).who ≡ k = ap (λ (s : Standing). (view_in s).who) is ∙ new.seated.who ∙ new.number in
+    let seats : q.seats ≡ 16 = sym new.seated.seats ∙ ap (λ (m : Sat). m.0.part.core.seats) new.me ∙ places in
+    let owned : h.seat.me.0.part.core.owned ≡ replicate 64 false = ap (λ (m : Sat). m.0.part.core.owned) me
+    ∙ ap (λ (n : ℕ). replicate n false) locks in
     record {
-      settled = settled_as t h.seat.seat.table_id (length (first_graph key)) (length h.seen) h.seat
-          (sym new.seated.home) (sym size) (new_settled t key k h.seat new few (omega (arith, few, locks)));
-      owned = λ n. ap (λ (m : Sat). owns m.0.part.core n) me ∙ bare_first key.kind key.locks key.places k n ∙ sym (ap (is_among n) none);
-      marks = marks ∙ sym (ap (λ (m : Sat). m.0.part.core.owned) me ∙ ap (λ (n : ℕ). replicate n false) locks);
-      held = rw (none, seen) (held_none (first_graph key) few);
-      placed = ap (slice_get (bells_of h)) new.number ∙ placed;
+      away = subst (λ (m : Sat). IsAway m.0.part.core) (sym me) (refl, refl);
+      size = ap (λ (m : Sat). length m.0.held) me ∙ length-replicate (length (first_graph key)) None ∙ sym (ap length seen);
+      suits = record {
+        owned = λ n. ap (λ (m : Sat). owns m.0.part.core n) me ∙ bare_first key.kind key.locks key.places k n ∙ sym (ap (is_among n) none);
+        marked = marks ∙ sym owned;
+        wide = ap length owned ∙ length-replicate 64 false;
+        held = rw (none, seen) (held_none (first_graph key) few);
+        answered = ap (λ (m : Sat). by_of m.0.part.core.stopped) me ∙ sym (ap (λ (m : Sat). m.0.part.counts.heeded) me);
+        draws = omega (arith, left, ap (λ (m : Sat). m.0.part.counts.draws) me);
+        commits = omega (arith, left, ap (λ (m : Sat). length m.0.part.own) me);
+        few = omega (arith, who, new.number, new.seated.few, seats);
+      };
+      placed = ap (slice_get (map rings_at h.bells.items)) who ∙ placed;
       even = record {
         paid = λ u low. silent_at h.bells.items u low silent ∙ sym (ap (λ (m : Sat). Some (wakes_owed m u)) me);
         slept = awake ∙ sym (ap (λ (m : Sat). m.0.part.core.naps) me);
       };
-      answered = ap (λ (m : Sat). by_of m.0.part.core.stopped) me ∙ sym (ap (λ (m : Sat). m.0.part.counts.heeded) me);
-      draws = omega (arith, left, ap (λ (m : Sat). m.0.part.counts.draws) me);
-      commits = omega (arith, left, ap length list);
-      few = (
-        h.seat.room,
-        subst (λ (x : ℕ × TableId). IsSized h.seat.room x.0 x.1)
-            (λ i. ((sym new.seated.seats ∙ ap (λ (m : Sat). m.0.part.core.seats) me ∙ places) i, sym new.seated.home i)) new.seated.sized,
-      );
     }
 
-pub new_holding : (home : Home) (key : Start) (k : ℕ) (h : Hand) → IsNew home.table key k h.seat
-    → h.seen ≡ first_graph key → bells_of h ≡ home.parkers
-    → holding_of h ≡ fresh home (first_graph key) h.left k (holding_of h).room
-new_holding home key k h new seen bells =
-    let t = home.table in
-    let none : held_of h ≡ [] = new_holds_nothing t key k h new in
-    let list : h.seat.records.items ≡ [] = new.seated.records ∙ ap (λ (m : Sat). m.0.part.own) new.me in
-    let stamp : h.seat.stamp ≡ 0 = sym new.seated.stamp ∙ ap (λ (m : Sat). m.0.part.core.stamp) new.me in
-    let own : own_of h.seat.records.items ≡ [] = ap own_of list in
-    let counts : h.seat.seat.me.0.part.counts ≡ no_counts = ap (λ (m : Sat). m.0.part.counts) new.me in
-    let stopped : h.seat.seat.me.0.part.core.stopped ≡ [] = ap (λ (m : Sat). m.0.part.core.stopped) new.me in
-    let pendings : h.seat.seat.me.0.part.core.pendings ≡ 0 = ap (λ (m : Sat). m.0.part.core.pendings) new.me in
-    let tries : h.seat.seat.me.0.part.core.tries ≡ 0 = ap (λ (m : Sat). m.0.part.core.tries) new.me in
-    let takes : h.seat.seat.me.0.part.core.takes ≡ 0 = ap (λ (m : Sat). m.0.part.core.takes) new.me in
-    let deaths : h.seat.seat.me.0.part.core.deaths ≡ 0 = ap (λ (m : Sat). m.0.part.core.deaths) new.me in
-    let deaf : h.seat.seat.me.0.part.core.deaf ≡ 0 = ap (λ (m : Sat). m.0.part.core.deaf) new.me in
-    rw (new.seated.home, bells, new.number, counts, stopped, pendings, stamp, own, none, seen, tries, takes, deaths, deaf) refl
+pub new_holding : (home : Home) (key : Start) (k : ℕ) (q : Seat16) (h : Inside) → IsNew home.table key k q → h.seat ≡ standing_of q
+    → h.seen ≡ first_graph key → map rings_at h.bells.items ≡ home.parkers
+    → holding_of (carried_of h) ≡ fresh home (first_graph key) h.left k h.seat.room
+new_holding home key k q h new is seen bells =
+    let me = ap (λ (s : Standing). s.me) is ∙ new.me in
+    let table = ap (λ (s : Standing). s.home) is ∙ new.seated.home in
+    λ i. seen_with (record { seat = record (h.seat) { home = table i }; parkers = bells i; left = h.left; seen = seen i })
+    (account_of (me i)) (me i).0.part.core.deaf
 
-pub new_idle : (t : TableId) (key : Start) (k : ℕ) (q : Seat16) → IsNew t key k q → q.stamp ≡ 0
-new_idle t key k q new = sym new.seated.stamp ∙ ap (λ (m : Sat). m.0.part.core.stamp) new.me
+-- it holds nothing, and has no context
+pub new_idle : (t : TableId) (key : Start) (k : ℕ) (q : Seat16) (s : Standing) → IsNew t key k q → s ≡ standing_of q
+    → ((view_in s).stamp ≡ 0) × ((view_in s).locks ≡ [])
+new_idle t key k q s new is = let me = ap (λ (x : Standing). x.me) is ∙ new.me in
+    (ap (λ (m : Sat). m.0.part.core.stamp) me, ap (λ (m : Sat). m.0.part.core.locks) me)
 
 pub fresh_more : (all new : List Holding) (s : Holding) (first : List Node) (home : Home) (n budget : ℕ)
     → AreFresh all first home n budget → s ≡ fresh home first budget n s.room → new ≡ all ++ s ∷ []

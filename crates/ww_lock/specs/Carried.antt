@@ -1,107 +1,101 @@
--- What a state carries: the seat at the table, and what it keeps beside that.
-use Rattle.std.specs.Prelude.{ℕ, List, ◌≡◌, ◌<◌, ◌≤◌, ◌+◌, ◌-◌, ◌^◌, [], true, length, map, Option, Some, None, slice_get, vec_len, vec_capacity}
+-- What a pass carries through all its states, as contracts see it.
+use Rattle.std.specs.Prelude.{ℕ, List, ◌≡◌, ◌<◌, ◌≤◌, ◌+◌, ◌-◌, ◌^◌, ◌⊎◌, [], true, false, length, Option, Some, None}
 use mathlib.Core.Option.{some}
 use lib.ListN.{get_elem?}
+use Rattle.atomic_table.specs.Seated.{TableId}
+use Rattle.ww_plain.specs.declared.node.Node.{Node}
 use Rattle.ww_plain.specs.Numbers.{is_among}
 use Rattle.ww_plain.specs.Graph.{node_at}
+use Rattle.ww_view.specs.declared.view.View.{View}
 use Rattle.ww_view.specs.declared.view.Met.{Met}
-use Rattle.ww_view.specs.View.{owns}
-use Rattle.ww_view.specs.May.{WantsSigns}
-use Rattle.atomic_table.specs.Seated.{TableId}
-use Rattle.ww_rule.specs.Layout.{IsSized}
-use Rattle.ww_seat.specs.Orderly.{IsSettled}
-use Rattle.ww_seat.specs.Bells.{heard, rings_at, sleeps_at, ArePaid}
+use Rattle.ww_seat.specs.Accounts.{Account, account_of}
 use Rattle.ww_seat.specs.Calls.{HasMet}
+use Rattle.ww_seat.specs.Standings.{Standing, view_in}
 use Rattle.ww_seat.specs.declared.waiting.Stop.{Stop}
 use Rattle.ww_seat.specs.declared.waiting.Stop.TheVariants.{Deadlk, Interrupted}
-use Rattle.ww_lock.specs.declared.hand.Hand.{Hand}
-use Rattle.ww_lock.specs.Holding.{Holding, AreHeld, by_of, own_of}
-use Rattle.ww_table.specs.Seat.{view_of}
+use Rattle.ww_lock.specs.Holding.{Holding, own_of}
 
--- the nodes that it holds, in the order in which it took them, as its view keeps them
-abbrev pub held_of : Hand → List ℕ
-held_of h = (view_of h.seat).locks
+-- Its seat; the parkers that its bells ring, in their order; how many contexts and solos it may still start; and the graph
+-- as it was seen.
+pub record Carried : Type 0 where
+  pub seat : Standing
+  pub parkers : List TableId
+  pub left : ℕ
+  pub seen : List Node
 
--- the parkers that its bells ring
-abbrev pub bells_of : Hand → List TableId
-bells_of h = map rings_at h.bells.items
+-- what its seat knows
+abbrev pub known_of : Carried → View
+known_of c = view_in c.seat
 
--- what a contract sees of it
-abbrev pub holding_of : Hand → Holding
-holding_of h = record {
-  home = record { table = h.seat.seat.table_id; parkers = bells_of h };
-  caller = h.seat.who;
-  left = h.left;
-  draws = h.seat.seat.me.0.part.counts.draws;
-  stamp = h.seat.stamp;
-  own = own_of h.seat.records.items;
-  room = vec_capacity h.seat.records - vec_len h.seat.records;
-  held = held_of h;
-  seen = h.seen;
-  tries = (view_of h.seat).tries;
-  takes = (view_of h.seat).takes;
-  deaths = (view_of h.seat).deaths;
-  deaf = (view_of h.seat).deaf;
-  cancelled = h.seat.seat.me.0.part.counts.cancelled;
-  pendings = (view_of h.seat).pendings;
-  interrupted = (view_of h.seat).stopped;
+-- the nodes that it holds, in the order in which it took them
+abbrev pub held_of : Carried → List ℕ
+held_of c = (known_of c).locks
+
+-- its stamp, 0 without a context
+abbrev pub stamp_of : Carried → ℕ
+stamp_of c = (known_of c).stamp
+
+-- what its seat met as it had to back off, until it takes or gives a lock
+abbrev pub met_of : Carried → Option Met
+met_of c = (known_of c).met
+
+-- what a contract sees of it where its seat has this account, and slept so often without a look at its cancel
+abbrev pub seen_with : Carried → Account → ℕ → Holding
+seen_with c a deaf = record {
+  home = record { table = c.seat.home; parkers = c.parkers };
+  caller = a.who;
+  left = c.left;
+  draws = a.counts.draws;
+  stamp = a.stamp;
+  own = own_of a.own;
+  room = c.seat.room;
+  held = a.locks;
+  seen = c.seen;
+  tries = a.tries;
+  takes = a.takes;
+  deaths = a.deaths;
+  deaf = deaf;
+  cancelled = a.counts.cancelled;
+  pendings = a.pendings;
+  interrupted = a.stopped;
 }
 
--- what its seat met as it had to back off, as its view keeps it until it takes or gives a lock
-abbrev pub met_of : Hand → Option Met
-met_of h = (view_of h.seat).met
+abbrev pub holding_of : Carried → Holding
+holding_of c = seen_with c (account_of c.seat.me) (known_of c).deaf
 
--- the table has room for 16 seats
-abbrev pub HasFew : TableId → Type 0
-HasFew table = (room : ℕ) × IsSized room 16 table
+-- it may still commit: each node that is held is as it was seen, and one commit more can be counted
+pub record IsFresh (c : Carried) : Type 0 where
+  pub seen : (n : ℕ) → is_among n (held_of c) ≡ true → get_elem? c.seat.me.0.held n ≡ some (Some (node_at c.seen n))
+  pub commits : length c.seat.me.0.part.own + c.left + 1 < 2 ^ 32
 
--- Each of its bells gave as many tokens as it owed that pass wakes, and it slept as often as it left a guard as a waiter.
-pub record IsEven (h : Hand) : Type 0 where
-  pub paid : ArePaid h.seat.seat.me h.bells.items
-  pub slept : heard h.patience ≡ (view_of h.seat).naps
+-- it may begin a context: it has none, holds nothing, and may draw once more
+pub record MayBegin (c : Carried) : Type 0 where
+  pub fresh : IsFresh c
+  pub idle : stamp_of c ≡ 0
+  pub nothing : held_of c ≡ []
+  pub draws : (holding_of c).draws + c.left + 1 < 2 ^ 32
 
--- The seat is between two calls, and owns just the locks of the nodes that are held, which have their marks. Its own
--- bell rings the parker that it sleeps on. It has woken whom it had to wake, and slept each time that it had to (`even`). Each
--- cancel that it heeded was answered by an interruption. With what is left it stays within what the table counts.
-pub record Carries (h : Hand) : Type 0 where
-  pub settled : IsSettled h.seat.seat.table_id (length h.seen) h.seat
-  pub owned : (n : ℕ) → owns (view_of h.seat) n ≡ is_among n (held_of h)
-  pub marks : h.marks ≡ (view_of h.seat).owned
-  pub held : AreHeld (held_of h) h.seen
-  pub placed : slice_get (bells_of h) h.seat.who ≡ Some (sleeps_at h.patience)
-  pub even : IsEven h
-  pub answered : by_of (view_of h.seat).stopped ≡ h.seat.seat.me.0.part.counts.heeded
-  pub draws : h.seat.seat.me.0.part.counts.draws + h.left < 2 ^ 32
-  pub commits : length h.seat.records.items + h.left < 2 ^ 32
-  pub few : HasFew h.seat.seat.table_id
-
--- ... and it may still commit: each node that is held is as it was seen
-pub record CarriesFresh (h : Hand) : Type 0 where
-  pub carries : Carries h
-  pub seen : (n : ℕ) → is_among n (held_of h) ≡ true → get_elem? h.seat.seat.me.0.held n ≡ some (Some (node_at h.seen n))
-  pub commits : length h.seat.records.items + h.left + 1 < 2 ^ 32
-
--- the bells of one ring the same parkers as those of the other, and both sleep on the same one
-pub record IsPlacedAlike (h g : Hand) : Type 0 where
-  pub bells : bells_of g ≡ bells_of h
-  pub parker : sleeps_at g.patience ≡ sleeps_at h.patience
-
--- it has just lost its first try for a lock, hasn't made a spin read of it yet, and may go on to wait for it
-pub record HasLost (h : Hand) : Type 0 where
-  pub tried : (view_of h.seat).glances ≡ 0
-  pub signs : WantsSigns (view_of h.seat)
-
--- what a pass carries once it has spent one of what was left: it holds nothing, has no context, and may draw once more
-pub record IsSpent (s : Holding) (h : Hand) : Type 0 where
+-- what a pass carries once it has spent one of what was left
+pub record IsSpent (s : Holding) (c : Carried) : Type 0 where
   pub some : 1 ≤ s.left
-  pub now : holding_of h ≡ record s { left = s.left - 1 }
-  pub fresh : CarriesFresh h
-  pub nothing : held_of h ≡ []
-  pub idle : h.seat.stamp ≡ 0
-  pub draws : h.seat.seat.me.0.part.counts.draws + h.left + 1 < 2 ^ 32
+  pub now : holding_of c ≡ record s { left = s.left - 1 }
+  pub may : MayBegin c
+
+-- it may take the lock of node n, which it doesn't hold: it has a context, or holds nothing
+pub record MayLock (n : ℕ) (c : Carried) : Type 0 where
+  pub fresh : IsFresh c
+  pub want : (0 < stamp_of c) ⊎ (held_of c ≡ [])
+  pub there : n < length c.seen
+  pub new : is_among n (held_of c) ≡ false
+
+-- ... and nothing else
+pub record MayLockAlone (n : ℕ) (c : Carried) : Type 0 where
+  pub fresh : IsFresh c
+  pub nothing : held_of c ≡ []
+  pub there : n < length c.seen
 
 -- what its seat has met where it came without lock n: an older context of the stamp that it tells; or nothing, where its
 -- wait was called off
-abbrev pub HasMetSo : ℕ → Stop → Hand → Type 0
-HasMetSo n (Deadlk k) h = HasMet n k (view_of h.seat)
-HasMetSo n (Interrupted by) h = met_of h ≡ None
+abbrev pub HasMetSo : ℕ → Stop → Carried → Type 0
+HasMetSo n (Deadlk k) c = HasMet n k (known_of c)
+HasMetSo n (Interrupted by) c = met_of c ≡ None

@@ -58,7 +58,7 @@ close_number (Missing k) = 5
 close_number NoMemory = 6
 
 -- the seat of a pass that holds nothing, with its number, its commits, and what is counted of its cancels
-pub record IsSeatOf (s : Holding) (q : Seat16) : Type 0 where
+pub record WasSeatOf (s : Holding) (q : Seat16) : Type 0 where
   pub come : HasCome s.home.table q
   pub number : q.who ≡ s.caller
   pub own : own_of q.records.items ≡ s.own
@@ -70,7 +70,7 @@ abbrev pub AreSeatsOf : List Holding → List Seat16 → Type 0
 AreSeatsOf [] [] = Unit {0}
 AreSeatsOf [] (q ∷ qs) = ⊥
 AreSeatsOf (s ∷ ss) [] = ⊥
-AreSeatsOf (s ∷ ss) (q ∷ qs) = IsSeatOf s q × AreSeatsOf ss qs
+AreSeatsOf (s ∷ ss) (q ∷ qs) = WasSeatOf s q × AreSeatsOf ss qs
 
 -- all places of their logs are below this one
 abbrev pub AreAllBelow : ℕ → List Holding → Type 0

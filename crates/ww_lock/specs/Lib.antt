@@ -1,5 +1,6 @@
 pub mod Holding
 pub mod Carried
+pub mod Hands
 pub mod Making
 pub mod Moves
 pub mod Opened

@@ -1,8 +1,9 @@
 -- How one state becomes another.
-use Rattle.std.specs.Prelude.{ℕ, ◌≡◌, ◌<◌, ◌≤◌, ◌+◌, ◌-◌, ◌∷◌, ◌++◌, [], length, true, false, slice_set, Result, Ok, Err}
+use Rattle.std.specs.Prelude.{ℕ, ◌≡◌, ◌<◌, ◌≤◌, ◌+◌, ◌-◌, ◌∷◌, ◌++◌, [], length, Bool, true, false, slice_set, Result, Ok, Err, None}
 use Rattle.ww_plain.specs.declared.node.Node.{Node}
 use Rattle.ww_plain.specs.Numbers.{is_among}
 use Rattle.ww_plain.specs.Meaning.{answer_of}
+use Rattle.ww_plain.specs.Transaction.{Transaction, Fits, HasNoDouble}
 use Rattle.ww_lock.specs.declared.prepared.Receipt.{Receipt}
 use Rattle.ww_lock.specs.declared.acquiring.Lock.{Lock}
 use Rattle.ww_lock.specs.declared.acquiring.Lock.TheVariants.{Locked, Already, Deadlk}
@@ -16,7 +17,11 @@ use Rattle.ww_seat.specs.declared.waiting.Stop.{Stop}
 use Rattle.ww_seat.specs.declared.waiting.Stop.TheVariants as seat
 use Rattle.ww_seat.specs.declared.waits.Waits.{Waits}
 use Rattle.ww_seat.specs.declared.waits.Waits.TheVariants.{UntilCancelled}
+use Rattle.ww_view.specs.May.{WantsSigns}
+use Rattle.ww_seat.specs.Calls.{MayStop}
 use Rattle.ww_lock.specs.Holding.{Holding, Refused, Change, AreBelow}
+use Rattle.ww_lock.specs.Making.{Covers}
+use Rattle.ww_lock.specs.Carried.{Carried, known_of, held_of, stamp_of, met_of, holding_of, IsFresh, MayLock, HasMetSo}
 
 -- one node more is held, with these contents
 abbrev pub with_node : Holding → ℕ → Node → Holding
@@ -160,3 +165,49 @@ pub record IsCommitted (s : Holding) (p : Change) (a : Holding) (told : Receipt)
   pub above : AreBelow told.place s.own
   pub seq : told.seq ≡ length s.own
   pub reply : answer_of told.reply ≡ p.answer
+
+-- ---- what a pass carries
+
+-- it has begun a context, and met nothing
+pub record HasBegun (c c' : Carried) : Type 0 where
+  pub fresh : IsFresh c'
+  pub begun : holding_of c' ≡ record (holding_of c) { draws = (holding_of c).draws + 1; stamp = stamp_of c' }
+  pub stamp : 0 < stamp_of c'
+  pub unmet : met_of c' ≡ None
+
+-- it may prepare this transaction, which fits it and names no node twice: it holds all that this depends on and may change
+pub record MayPrepare (txn : Transaction) (c : Carried) : Type 0 where
+  pub fresh : IsFresh c
+  pub fits : Fits (length c.seen) txn
+  pub no_double : HasNoDouble txn
+  pub covers : Covers (holding_of c) txn
+
+-- it may have more room for records, and is otherwise as it was
+pub record HasReserved (c c' : Carried) : Type 0 where
+  pub fresh : IsFresh c'
+  pub same : holding_of c' ≡ record (holding_of c) { room = (holding_of c').room }
+
+-- it has just lost its first try for lock n, hasn't made a spin read of it yet, and may go on to wait for it
+pub record HasLost (n : ℕ) (c : Carried) : Type 0 where
+  pub may : MayLock n c
+  pub before : Holding
+  pub tried : holding_of c ≡ tried before
+  pub glances : (known_of c).glances ≡ 0
+  pub signs : WantsSigns (known_of c)
+
+-- what one try to take lock n came to: it has the lock; or it may go on to wait for it
+abbrev pub IsTried : Carried → ℕ → Bool → Carried → Type 0
+IsTried c n true c' = IsFresh c' × IsTaken (holding_of c) n (holding_of c') × (met_of c' ≡ None)
+    × ((holding_of c').deaf ≡ (holding_of c).deaf)
+IsTried c n false c' = HasLost n c' × (holding_of c' ≡ tried (holding_of c)) × (met_of c' ≡ met_of c)
+
+-- what a call that takes lock n came to, from a state that hadn't tried yet: it has the lock; or why not
+abbrev pub HasCome : Holding → ℕ → Waits → Result (Unit {0}) Stop → Carried → Type 0
+HasCome s n waits (Ok _) c' = IsFresh c' × IsHeeding waits s (holding_of c') × IsTaken s n (holding_of c') × (met_of c' ≡ None)
+HasCome s n waits (Err why) c' = IsFresh c' × IsHeeding waits s (holding_of c') × IsStop s n why (holding_of c')
+    × HasMetSo n why c' × MayStop 16 waits why
+
+-- it holds one node less
+pub record HasLetGo (c c' : Carried) : Type 0 where
+  pub rest : holding_of c' ≡ record (holding_of c) { held = held_of c' }
+  pub fewer : length (held_of c') < length (held_of c)

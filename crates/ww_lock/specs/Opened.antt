@@ -3,6 +3,7 @@ use Rattle.std.specs.Prelude.{ℕ, ◌≡◌, ◌≤◌, ◌<◌, ◌⊎◌, Lis
 use Rattle.atomic_table.specs.Seated.{TableId}
 use Rattle.ww_plain.specs.declared.node.Node.{Node}
 use Rattle.std.specs.List.{AllByRecursion}
+use Rattle.ww_rule.specs.Rule.{first_graph}
 use Rattle.ww_table.specs.declared.board.Board.{Board}
 use Rattle.ww_seat.specs.declared.bell.Wire.{Wire}
 use Rattle.ww_seat.specs.Bells.{heard, leads_to, sleeps_at}
@@ -14,6 +15,15 @@ use Rattle.ww_lock.specs.Holding.{Home, Holding, Setting, AreAtHome}
 -- the world with this board, to whose passes these wires lead
 abbrev pub home_at : Board → List Wire → Home
 home_at board wires = record { table = board.table.shared.table_id; parkers = map leads_to wires }
+
+-- what contracts see of it
+abbrev pub setting_of : Board → List Wire → Setting
+setting_of board wires = record {
+  home = home_at board wires;
+  kind = board.table.shared.key.kind;
+  first = first_graph board.table.shared.key;
+  passes = length wires;
+}
 
 -- the pass of this number, which has done nothing yet
 abbrev pub fresh : Home → List Node → ℕ → ℕ → ℕ → Holding

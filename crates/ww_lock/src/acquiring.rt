@@ -17,13 +17,13 @@ pub struct Acquiring {
 impl Model for Acquiring {
     ghost use Rattle.std.specs.Prelude.{◌≡◌, ◌<◌, None};
     ghost use Rattle.ww_lock.specs.Holding.{Holding};
-    ghost use Rattle.ww_lock.specs.Carried.{holding_of, met_of, CarriesFresh};
+    ghost use Rattle.ww_lock.specs.Carried.{holding_of, stamp_of, met_of, IsFresh};
 
     ghost Value = { Holding };
 
     ghost view = { λ s. holding_of s.hand.value };
 
-    ghost invariant = { λ s. CarriesFresh s.hand.value × (0 < s.hand.value.seat.stamp) × (met_of s.hand.value ≡ None) };
+    ghost invariant = { λ s. IsFresh s.hand.value × (0 < stamp_of s.hand.value) × (met_of s.hand.value ≡ None) };
 }
 
 /// What a lock call answers.
@@ -71,18 +71,18 @@ pub enum Try {
 }
 
 impl Acquiring {
-    ghost use Rattle.std.specs.Prelude.{◌≡◌, ◌<◌, ◌∷◌, [], false, length, IfSome};
+    ghost use Rattle.std.specs.Prelude.{◌≡◌, ◌<◌, ◌∷◌, [], length, IfSome};
     ghost use Rattle.ww_plain.specs.Graph.{IsNodeOf};
     ghost use Rattle.ww_plain.specs.Numbers.{is_among};
     ghost use Rattle.ww_lock.specs.Holding.{Holding, IsAtHome, reads};
-    ghost use Rattle.ww_lock.specs.Carried.{holding_of, held_of, CarriesFresh, HasLost};
-    ghost use Rattle.ww_lock.specs.Moves.{IsAnswer, IsLockAnswer, IsTaken, IsTryAnswer, emptied, tried};
+    ghost use Rattle.ww_lock.specs.Carried.{holding_of, stamp_of};
+    ghost use Rattle.ww_lock.specs.Moves.{HasLost, IsAnswer, IsLockAnswer, IsTaken, IsTryAnswer, emptied, tried};
 
     /// The context's stamp: the smaller of two is that of the older context.
     pub fn stamp(&self) -> u64
         ensures { result ≡ self.now.stamp }
     {
-        self.hand.seat.stamp()
+        self.hand.stamp()
     }
 
     /// Whether the node is held.
@@ -97,12 +97,7 @@ impl Acquiring {
     #[cold]
     fn wait_to_the_end<R: Wait>(rt: &R, world: &World, hand: Box<Hand>, n: u8) -> Lock
         requires home { IsAtHome (holding_of hand.value) world.now }
-        requires fresh { CarriesFresh hand.value }
-        requires context { 0 < hand.value.seat.stamp }
-        requires node { n < length world.now.first }
-        requires new { is_among n (held_of hand.value) ≡ false }
-        requires lost { HasLost hand.value }
-        requires tried { (s : Holding) × (holding_of hand.value ≡ tried s) }
+        requires may { HasLost n hand.value × (0 < stamp_of hand.value) }
         ensures { (s : Holding) → holding_of hand.value ≡ tried s → IsLockAnswer s n result }
     {
         match Self::wait_as(rt, world, hand, n, Waits::ToTheEnd) {
@@ -123,12 +118,7 @@ impl Acquiring {
         waits: Waits,
     ) -> Interruptible
         requires home { IsAtHome (holding_of hand.value) world.now }
-        requires fresh { CarriesFresh hand.value }
-        requires context { 0 < hand.value.seat.stamp }
-        requires node { n < length world.now.first }
-        requires new { is_among n (held_of hand.value) ≡ false }
-        requires lost { HasLost hand.value }
-        requires tried { (s : Holding) × (holding_of hand.value ≡ tried s) }
+        requires may { HasLost n hand.value × (0 < stamp_of hand.value) }
         ensures { (s : Holding) → holding_of hand.value ≡ tried s → IsAnswer waits s n result }
     {
         match hand.wait_for(rt, world, n, waits) {

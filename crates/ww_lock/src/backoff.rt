@@ -16,16 +16,15 @@ pub struct Backoff {
 
 impl Model for Backoff {
     ghost use Rattle.std.specs.Prelude.{◌<◌, length};
-    ghost use Rattle.ww_table.specs.Seat.{view_of};
     ghost use Rattle.ww_seat.specs.Calls.{HasMet};
     ghost use Rattle.ww_lock.specs.Holding.{Refused};
-    ghost use Rattle.ww_lock.specs.Carried.{holding_of, CarriesFresh};
+    ghost use Rattle.ww_lock.specs.Carried.{holding_of, known_of, stamp_of, IsFresh};
 
     ghost Value = { Refused };
 
     ghost view = { λ s. record { holding = holding_of s.hand.value; contended = s.contended; met = s.met } };
 
-    ghost invariant = { λ s. CarriesFresh s.hand.value × HasMet s.contended s.met (view_of s.hand.value.seat) × (0 < s.met) × (s.met < s.hand.value.seat.stamp) × (s.contended < length s.hand.value.seen) };
+    ghost invariant = { λ s. IsFresh s.hand.value × HasMet s.contended s.met (known_of s.hand.value) × (0 < s.met) × (s.met < stamp_of s.hand.value) × (s.contended < length s.hand.value.seen) };
 }
 
 impl Backoff {

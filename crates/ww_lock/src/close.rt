@@ -1,5 +1,5 @@
 ghost use Rattle.std.specs.Prelude.{ℕ, ◌≡◌, ◌≤◌, ◌^◌, [], length, vec_len, vec_capacity};
-ghost use Rattle.ww_lock.specs.Closed.{has_pass, missing_of, IsSeatOf, AreSeatsOf, AreAllBelow};
+ghost use Rattle.ww_lock.specs.Closed.{has_pass, missing_of, WasSeatOf, AreSeatsOf, AreAllBelow};
 
 use crate::pass::Pass;
 use crate::world::World;
@@ -117,7 +117,7 @@ fn seats_of(passes: Vec<Pass>, mut seats: Vec<Seat16>) -> Vec<Seat16>
 impl Pass {
     ghost use Rattle.std.specs.Prelude.{ℕ, ◌≤◌};
     ghost use Rattle.ww_lock.specs.Holding.{AreBelow};
-    ghost use Rattle.ww_lock.specs.Closed.{IsSeatOf};
+    ghost use Rattle.ww_lock.specs.Closed.{WasSeatOf};
 
     /// The larger of `least` and one more than the greatest place of its commits.
     fn reach(&self, least: usize) -> usize
@@ -125,13 +125,13 @@ impl Pass {
         ensures all { AreBelow result self.now.own }
         ensures exact { (n : ℕ) → least ≤ n → AreBelow n self.now.own → result ≤ n }
     {
-        self.hand.seat.reach(least)
+        self.hand.reach(least)
     }
 
     fn into_seat(self) -> Seat16
-        ensures { IsSeatOf self result }
+        ensures { WasSeatOf self result }
     {
         let Pass { hand } = self;
-        Box::into_inner(hand).seat
+        Box::into_inner(hand).into_seat()
     }
 }

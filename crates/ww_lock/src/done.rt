@@ -19,13 +19,13 @@ pub struct Empty {
 impl Model for Empty {
     ghost use Rattle.std.specs.Prelude.{◌≡◌, ◌<◌, []};
     ghost use Rattle.ww_lock.specs.Holding.{Holding};
-    ghost use Rattle.ww_lock.specs.Carried.{holding_of, held_of, Carries};
+    ghost use Rattle.ww_lock.specs.Carried.{holding_of, held_of, stamp_of};
 
     ghost Value = { Holding };
 
     ghost view = { λ s. holding_of s.hand.value };
 
-    ghost invariant = { λ s. Carries s.hand.value × (0 < s.hand.value.seat.stamp) × (held_of s.hand.value ≡ []) };
+    ghost invariant = { λ s. (0 < stamp_of s.hand.value) × (held_of s.hand.value ≡ []) };
 }
 
 impl Done {

@@ -39,13 +39,13 @@ pub struct Held<H: Holder> {
 
 impl<H: Holder> Model for Held<H> {
     ghost use Rattle.ww_lock.specs.Holding.{Holding};
-    ghost use Rattle.ww_lock.specs.Carried.{holding_of, CarriesFresh};
+    ghost use Rattle.ww_lock.specs.Carried.{holding_of, stamp_of, IsFresh};
 
     ghost Value = { Holding };
 
     ghost view = { λ s. holding_of s.hand.value };
 
-    ghost invariant = { λ s. CarriesFresh s.hand.value × H.is_stamp s.hand.value.seat.stamp };
+    ghost invariant = { λ s. IsFresh s.hand.value × H.is_stamp (stamp_of s.hand.value) };
 }
 
 /// The locks that are still held after the commit.
@@ -56,13 +56,13 @@ pub struct Kept<H: Holder> {
 
 impl<H: Holder> Model for Kept<H> {
     ghost use Rattle.ww_lock.specs.Holding.{Holding};
-    ghost use Rattle.ww_lock.specs.Carried.{holding_of, Carries};
+    ghost use Rattle.ww_lock.specs.Carried.{holding_of, stamp_of};
 
     ghost Value = { Holding };
 
     ghost view = { λ s. holding_of s.hand.value };
 
-    ghost invariant = { λ s. Carries s.hand.value × H.is_stamp s.hand.value.seat.stamp };
+    ghost invariant = { λ s. H.is_stamp (stamp_of s.hand.value) };
 }
 
 impl<H: Holder> Held<H> {

@@ -17,13 +17,13 @@ pub struct Pass {
 impl Model for Pass {
     ghost use Rattle.std.specs.Prelude.{◌≡◌, []};
     ghost use Rattle.ww_lock.specs.Holding.{Holding};
-    ghost use Rattle.ww_lock.specs.Carried.{holding_of, held_of, Carries};
+    ghost use Rattle.ww_lock.specs.Carried.{holding_of, held_of, stamp_of};
 
     ghost Value = { Holding };
 
     ghost view = { λ s. holding_of s.hand.value };
 
-    ghost invariant = { λ s. Carries s.hand.value × (s.hand.value.seat.stamp ≡ 0) × (held_of s.hand.value ≡ []) };
+    ghost invariant = { λ s. (stamp_of s.hand.value ≡ 0) × (held_of s.hand.value ≡ []) };
 }
 
 impl Pass {
@@ -43,32 +43,31 @@ impl Pass {
     pub fn left(&self) -> u32
         ensures { result ≡ self.now.left }
     {
-        self.hand.left
+        self.hand.left()
     }
 
     /// How many commits it has made, which is the number of its next one.
     pub fn commits(&self) -> u64
         ensures { result ≡ length self.now.own }
     {
-        self.hand.seat.commits()
+        self.hand.commits()
     }
 
     /// How it waited since its world was opened, in plain numbers that no clause speaks of.
     pub fn waited(&self) -> Waited {
-        self.hand.patience.waited()
+        self.hand.waited()
     }
 
     /// One context or solo less; a spent pass is returned.
-    #[tactic(auto, using(crate::proofs::Carrying::spent_fresh))]
     fn spend(self) -> Result<Box<Hand>, Pass>
         ensures ok { IfOk result (λ hand. IsSpent self hand.value) }
         ensures err { IfErr result (λ p. (self.left ≡ 0) × (p ≡ self)) }
     {
-        if self.hand.left == 0 {
+        if self.hand.left() == 0 {
             return Err(self);
         }
         let Pass { mut hand } = self;
-        hand.left -= 1;
+        hand.spend();
         Ok(hand)
     }
 

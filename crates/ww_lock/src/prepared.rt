@@ -46,15 +46,15 @@ pub struct Receipt {
 }
 
 impl Hand {
-    ghost use Rattle.std.specs.Prelude.{◌≡◌, ◌≤◌, ◌↔◌, length, IsTrue, IfOk, IfErr, OnErr};
+    ghost use Rattle.std.specs.Prelude.{◌≡◌, ◌≤◌, ◌↔◌, IsTrue, IfOk, IfErr, OnErr};
     ghost use Rattle.std.specs.List.{AllByRecursion};
-    ghost use Rattle.ww_plain.specs.Transaction.{transaction_of, Fits, HasNoDouble};
+    ghost use Rattle.ww_plain.specs.Transaction.{transaction_of};
     ghost use Rattle.ww_plain.specs.Meaning.{answer_of, answer_to};
     ghost use Rattle.ww_seat.specs.Commits.{changes_of};
     ghost use Rattle.ww_lock.specs.Holding.{IsAtHome};
-    ghost use Rattle.ww_lock.specs.Carried.{holding_of, Carries, CarriesFresh};
-    ghost use Rattle.ww_lock.specs.Making.{Covers, IsMade, IsMadeOf, Finds};
-    ghost use Rattle.ww_lock.specs.Moves.{IsCommitted};
+    ghost use Rattle.ww_lock.specs.Carried.{holding_of, IsFresh};
+    ghost use Rattle.ww_lock.specs.Making.{IsMade, IsMadeOf, Finds};
+    ghost use Rattle.ww_lock.specs.Moves.{IsCommitted, MayPrepare, HasReserved};
 
     /// The transaction's answer, twice, and its changes of the nodes as they were seen, with the room in the log
     /// that its commit needs.
@@ -63,17 +63,11 @@ impl Hand {
         alloc: Global,
         txn: &Txn,
     ) -> Result<(Reply, Reply, Vec<NodeChange>), AllocError>
-        requires fresh { CarriesFresh self.old }
-        requires fits { Fits (length self.old.seen) (transaction_of txn.now) }
-        requires no_double { HasNoDouble (transaction_of txn.now) }
-        requires covers { Covers (holding_of self.old) (transaction_of txn.now) }
-        ensures fresh { CarriesFresh self.new }
-        ensures same { holding_of self.new ≡ record (holding_of self.old) { room = (holding_of self.new).room } }
-        ensures reply { IfOk result (λ r. answer_of r.0 ≡ answer_to self.old.seen (transaction_of txn.now)) }
-        ensures copy { IfOk result (λ r. answer_of r.1 ≡ answer_to self.old.seen (transaction_of txn.now)) }
-        ensures changes { IfOk result (λ r. r.2.items ≡ changes_of self.old.seen (transaction_of txn.now)) }
-        ensures room { IfOk result (λ _. 1 ≤ (holding_of self.new).room) }
-        ensures refused { OnErr result (holding_of self.new ≡ holding_of self.old) }
+        requires may { MayPrepare (transaction_of txn.now) self.old }
+        ensures same { HasReserved self.old self.new }
+        ensures replies { IfOk result (λ r. (answer_of r.0 ≡ answer_to self.old.seen (transaction_of txn.now)) × (answer_of r.1 ≡ answer_to self.old.seen (transaction_of txn.now))) }
+        ensures changes { IfOk result (λ r. (r.2.items ≡ changes_of self.old.seen (transaction_of txn.now)) × (1 ≤ (holding_of self.new).room)) }
+        ensures refused { OnErr result (self.new ≡ self.old) }
     {
         let (reply, changes) = changes(alloc, &mut self.seen, txn)?;
         let copy = reply.copy(alloc)?;
@@ -83,21 +77,17 @@ impl Hand {
 
     /// Prepares a transaction: makes every growth that its commit needs.
     pub(crate) fn prepare(&mut self, alloc: Global, txn: Txn) -> Result<Prepared, (Txn, AllocError)>
-        requires fresh { CarriesFresh self.old }
-        requires fits { Fits (length self.old.seen) (transaction_of txn) }
-        requires no_double { HasNoDouble (transaction_of txn) }
-        requires covers { Covers (holding_of self.old) (transaction_of txn) }
-        ensures fresh { CarriesFresh self.new }
-        ensures same { holding_of self.new ≡ record (holding_of self.old) { room = (holding_of self.new).room } }
+        requires may { MayPrepare (transaction_of txn) self.old }
+        ensures same { HasReserved self.old self.new }
         ensures ok { IfOk result (λ p. IsMadeOf (holding_of self.new) p (transaction_of txn)) }
         ensures err { IfErr result (λ e. e.0 ≡ txn) }
-        ensures refused { OnErr result (holding_of self.new ≡ holding_of self.old) }
+        ensures refused { OnErr result (self.new ≡ self.old) }
     {
         match self.change(alloc, &txn) {
             Ok((reply, copy, changes)) => Ok(Prepared {
                 record: Record {
                     caller: self.caller(),
-                    seq: self.seat.commits(),
+                    seq: self.commits(),
                     txn,
                     reply: copy,
                 },
@@ -112,7 +102,6 @@ impl Hand {
 
     /// Whether this node is held, as it was before.
     fn finds(&self, change: &NodeChange) -> bool
-        requires { Carries self.now }
         ensures { IsTrue result ↔ Finds (holding_of self.now) change.now }
     {
         self.holds(change.number) && self.seen.node(change.number).is_same(&change.before)
@@ -120,7 +109,6 @@ impl Hand {
 
     /// Whether all these nodes are held, as they were before.
     fn finds_all(&self, changes: &[NodeChange]) -> bool
-        requires { Carries self.now }
         ensures { IsTrue result ↔ AllByRecursion (Finds (holding_of self.now)) changes.now }
     {
         for change in changes {
@@ -133,7 +121,6 @@ impl Hand {
 
     /// Whether what was prepared can be committed here.
     pub(crate) fn made(&self, prepared: &Prepared) -> bool
-        requires { Carries self.now }
         ensures { IsTrue result ↔ IsMade (holding_of self.now) prepared.now }
     {
         if prepared.size != self.seen.size() {
@@ -148,10 +135,8 @@ impl Hand {
     /// Commits what was prepared: it takes the next place of the one history, and the nodes change.
     pub(crate) fn commit(&mut self, world: &World, prepared: Prepared) -> Receipt
         requires home { IsAtHome (holding_of self.old) world.now }
-        requires fresh { CarriesFresh self.old }
-        requires made { IsMade (holding_of self.old) prepared }
-        ensures carries { Carries self.new }
-        ensures committed { IsCommitted (holding_of self.old) prepared (holding_of self.new) result }
+        requires may { IsFresh self.old × IsMade (holding_of self.old) prepared }
+        ensures { IsCommitted (holding_of self.old) prepared (holding_of self.new) result }
     {
         let Prepared {
             mut record,
@@ -160,10 +145,10 @@ impl Hand {
             changes,
             before,
         } = prepared;
-        let seq = self.seat.commits();
+        let seq = self.commits();
         record.caller = self.caller();
         record.seq = seq;
-        let place = ww_seat::commit(&mut self.seat, &world.board, record, &before, &changes);
+        let place = self.seat.commit(&world.board, record, &before, &changes);
         Receipt { place, seq, reply }
     }
 }

@@ -12,7 +12,7 @@ use std::marker::Model;
 use thiserror::Error;
 use ww_plain::{Graph, MAX_NODES};
 use ww_queue::Kind;
-use ww_seat::{Bell, Parker, Patience, Wire};
+use ww_seat::{Bell, Parker, Patience, Seat, Wire};
 use ww_table::{Board, Seat16};
 use ww_word::MAX_SEATS;
 
@@ -61,9 +61,9 @@ impl Model for World {
 
     ghost use Rattle.std.specs.Prelude.{◌≡◌, ◌≤◌, length};
     ghost use Rattle.ww_rule.specs.Rule.{first_graph};
-    ghost use Rattle.ww_lock.specs.Opened.{home_at};
+    ghost use Rattle.ww_lock.specs.Opened.{setting_of};
 
-    ghost view = { λ w. record { home = home_at w.board w.wires.items; kind = w.board.table.shared.key.kind; first = first_graph w.board.table.shared.key; passes = length w.wires.items } };
+    ghost view = { λ w. setting_of w.board w.wires.items };
 
     ghost invariant = { λ w. (length w.wires.items ≤ 16) × (w.board.table.shared.key.seats ≡ length w.wires.items) × (w.board.table.shared.key.places ≡ 16) × (1 ≤ length (first_graph w.board.table.shared.key)) };
 }
@@ -185,7 +185,7 @@ fn fresh(
             return Err(seen);
         };
         let hand = Hand {
-            seat,
+            seat: Seat::new(seat),
             left: budget,
             marks: [false; MAX_NODES],
             seen,

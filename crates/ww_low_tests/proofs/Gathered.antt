@@ -1,24 +1,24 @@
 -- Seats that come together again to be closed.
-use Rattle.std.proofs.Common.{◌≡◌, ℕ, ◌≤◌, inl, inr, List, [], ◌∷◌, ◌++◌, length, refl, sym, subst, ◌∙◌, arith, length-append}
+use Rattle.std.proofs.Common.{◌≡◌, ℕ, inl, inr, List, [], ◌∷◌, ◌++◌, length, refl, sym, subst, ◌∙◌, arith, length-append}
 use Rattle.std.specs.List.{AllByRecursion}
 use Rattle.std.proofs.lemmas.Bool.{cases_lt}
 use Rattle.ww_queue.specs.Queue.{Has}
 use Rattle.ww_table.specs.declared.board.Board.{Board}
 use Rattle.ww_table.specs.declared.seat.Seat16.{Seat16}
-use Rattle.ww_table.specs.Seat.{IsNew, locks_of, size_of}
+use Rattle.ww_table.specs.Seat.{locks_of, size_of}
 use Rattle.ww_table.specs.Closed.{HasCome, HaveAllCome}
 use Rattle.ww_table_loads.specs.Standing.{Deeds, Did, Stands, at_first}
 use Rattle.ww_table_loads.proofs.Standing.{bare, first_stands, nothing_out}
 use Rattle.ww_low_tests.specs.Gathered.{HaveCome}
+use Rattle.ww_low_tests.specs.Looking.{IsUnused}
 
 -- a seat that was made just now did nothing yet
-pub new_did : (board : Board) (k j : ℕ) (s : Seat16) → IsNew board.table.shared.table_id board.table.shared.key k s
-    → s.who ≡ j → Did board (at_first j) s
-new_did board k j s new is = subst (λ (n : ℕ). Did board (at_first n) s) (sym new.number ∙ is) (record {
+pub new_did : (board : Board) (k : ℕ) (s : Seat16) → IsUnused board k s → Did board (at_first k) s
+new_did board k s new = record {
   seated = new.seated;
   stands = subst (Stands (size_of board) (at_first k)) (sym new.me)
       (first_stands (size_of board) board.table.shared.key.kind (locks_of board) board.table.shared.key.places k board.fits);
-})
+}
 
 pub who_did : (board : Board) (d : Deeds) (s : Seat16) → Did board d s → s.who ≡ d.who
 who_did board d s did = sym did.seated.who ∙ did.stands.who

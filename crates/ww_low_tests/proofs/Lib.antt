@@ -1,4 +1,3 @@
-pub mod Few
 pub mod FirstSteps
 pub mod Gathered
 pub mod Holding

@@ -1,14 +1,23 @@
 -- A seat in a ring: what it holds, and where it stands.
-use Rattle.std.specs.Prelude.{ℕ, ◌≡◌, ◌<◌, Bool, List, false, replicate, slice_index_or, slice_set, true}
-use Rattle.ww_queue.specs.declared.kind.Kind.{Kind}
+use Rattle.std.specs.Prelude.{ℕ, suc, ◌≡◌, ◌<◌, ◌⊎◌, Bool, List, false, replicate, slice_set, true}
 use Rattle.ww_view.specs.View.{IsAway}
 use Rattle.ww_table.specs.declared.board.Board.{Board}
 use Rattle.ww_table.specs.declared.seat.Seat16.{Seat16}
-use Rattle.ww_table.specs.Seat.{IsSeatOf, size_of, view_of}
-use Rattle.ww_seat.specs.Orderly.{IsOrderly}
+use Rattle.ww_table.specs.Seat.{IsNew, locks_of, size_of}
 use Rattle.ww_seat.specs.declared.look.Arrival.{Arrival}
-use Rattle.ww_seat.specs.Looks.{IsOutside}
+use Rattle.ww_seat.specs.Looks.{MayWant}
+use Rattle.ww_seat.specs.Standings.{Standing, view_in, OwnsNodes, IsAt}
 use Rattle.ww_seat.specs.Work.{ComesOutside}
+
+-- a board of two nodes and 64 locks, with room for 16 seats
+pub record IsSmall (board : Board) : Type 0 where
+  pub two : size_of board ≡ 2
+  pub locks : locks_of board ≡ 64
+  pub few : board.table.shared.key.places ≡ 16
+
+-- seat k of this board, which did nothing yet
+abbrev pub IsUnused : Board → ℕ → Seat16 → Type 0
+IsUnused board k s = IsNew board.table.shared.table_id board.table.shared.key k s
 
 -- which locks a seat owns: none, or just this one
 abbrev pub none : List Bool
@@ -17,22 +26,27 @@ none = replicate 64 false
 abbrev pub just : ℕ → List Bool
 just n = slice_set none n true
 
--- a seat of this board, outside each guard, that owns just these locks in a context, each of which guards a node
-pub record Owns (board : Board) (k : Kind) (locks : List Bool) (s : Seat16) : Type 0 where
-  pub seated : IsSeatOf board s
-  pub orderly : IsOrderly (size_of board) s.seat.me
-  pub kind : (view_of s).kind ≡ k
-  pub context : 0 < (view_of s).stamp
-  pub owned : (view_of s).owned ≡ locks
-  pub nodes : (n : ℕ) → slice_index_or locks n false ≡ true → n < size_of board
+-- those that it owns
+abbrev pub owned_in : Standing → List Bool
+owned_in s = (view_in s).owned
 
--- ... and waits for no lock
-pub record Holds (board : Board) (k : Kind) (locks : List Bool) (s : Seat16) : Type 0 where
-  pub owns : Owns board k locks s
-  pub away : IsAway (view_of s)
+-- a seat of this board, which is small, owns just these locks in a context, and waits for no lock
+pub record Holds (board : Board) (locks : List Bool) (s : Standing) : Type 0 where
+  pub small : IsSmall board
+  pub at : IsAt board s
+  pub context : 0 < (view_in s).stamp
+  pub owned : owned_in s ≡ locks
+  pub away : IsAway (view_in s)
 
--- ... or may look at this lock: it stands in the wait list, or in none
-pub record MayLook (board : Board) (k : Kind) (locks : List Bool) (n : ℕ) (arrival : Arrival) (s : Seat16) : Type 0 where
-  pub owns : Owns board k locks s
-  pub outside : IsOutside (size_of board) n s.seat.me
-  pub comes : ComesOutside arrival (view_of s)
+-- ... or may look at lock n: each lock that it owns guards a node, and it stands in the wait list of lock n, or in none
+pub record MayLook (board : Board) (locks : List Bool) (n : ℕ) (arrival : Arrival) (s : Standing) : Type 0 where
+  pub small : IsSmall board
+  pub at : IsAt board s
+  pub context : 0 < (view_in s).stamp
+  pub owned : owned_in s ≡ locks
+  pub nodes : OwnsNodes s
+  pub there : n < 2
+  pub want : MayWant n (view_in s)
+  pub outside : (view_in s).inside ≡ 0
+  pub place : ((view_in s).waits ≡ 0) ⊎ ((view_in s).waits ≡ suc n)
+  pub comes : ComesOutside arrival (view_in s)

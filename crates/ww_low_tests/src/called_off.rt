@@ -1,64 +1,46 @@
 //! A waiter is called off, by one thread with both seats of a board. After each call all words of the board are
 //! compared, its cancel among them.
 
-ghost use Rattle.std.specs.Prelude.{ℕ, ◌≡◌, ◌<◌, List, Bool, false, length, IfOk};
-ghost use Rattle.ww_queue.specs.declared.kind.Kind.{Kind};
-ghost use Rattle.ww_table.specs.Seat.{IsNew, locks_of, size_of};
+ghost use Rattle.std.specs.Prelude.{◌≡◌, length, IfOk};
 ghost use Rattle.ww_seat.specs.declared.look.Arrival.TheVariants.{Came};
 ghost use Rattle.ww_seat.specs.Bells.{AreBellsOf};
-ghost use Rattle.ww_low_tests.specs.Looking.{Owns, Holds, MayLook, just, none};
+ghost use Rattle.ww_low_tests.specs.Looking.{Holds, MayLook, owned_in, just, none};
 
 use crate::rings::{
-    back_off, bells, compare, compare_cancelled, has_few, hold, holds_one, start, tied, two_seats,
-    untie, wait,
+    back_off, bells, compare, compare_cancelled, hold, miss, start, tied, two_seats, untie, wait,
 };
 use std::alloc::{AllocError, Global};
 use std::process::Abort;
 use std::sync::Wait;
 use std::test::Fail;
 use ww_queue::Kind;
-use ww_seat::{Arrival, Bell, Look, Waits, cancel, give_at_once, try_take, visit};
-use ww_table::{Board, Seat16};
+use ww_seat::{Arrival, Bell, Look, Seat, Waits};
+use ww_table::Board;
 
 const KINDS: [Kind; 2] = [Kind::WoundWait, Kind::WaitDie];
 
-/// Begins a context that tries for lock 0, which isn't free.
-fn ask<R: Abort>(rt: &R, board: &mut Board, seat: &mut Seat16, kind: Kind)
-    requires size { size_of board.old ≡ 2 }
-    requires locks { locks_of board.old ≡ 64 }
-    requires kind { board.old.table.shared.key.kind ≡ kind }
-    requires new { (k : ℕ) × IsNew board.old.table.shared.table_id board.old.table.shared.key k seat.old }
-    ensures same { board.new ≡ board.old }
-    ensures may { MayLook board.new kind none 0 Came seat.new }
-{
-    start(rt, board, seat, kind, [264, 0]);
-    if try_take(seat, board, 0, false).is_some() {
-        panic!(rt; "the lock was taken");
-    }
-}
-
 /// Seat 0 has lock 0, and seat 1 wants it and has none.
-fn asked<R: Abort>(rt: &R, alloc: Global, kind: Kind) -> Result<(Board, Seat16, Seat16), AllocError>
-    ensures size { IfOk result (λ r. size_of r.0 ≡ 2) }
+fn asked<R: Abort>(rt: &R, alloc: Global, kind: Kind) -> Result<(Board, Seat, Seat), AllocError>
     ensures count { IfOk result (λ r. r.0.table.shared.key.seats ≡ 2) }
-    ensures owner { IfOk result (λ r. Holds r.0 kind (just 0) r.1) }
-    ensures asking { IfOk result (λ r. MayLook r.0 kind none 0 Came r.2) }
+    ensures owner { IfOk result (λ r. Holds r.0 (just 0) r.1) }
+    ensures asking { IfOk result (λ r. MayLook r.0 none 0 Came r.2) }
 {
-    let (mut board, mut owner, mut asking) = two_seats(rt, alloc, kind)?;
-    hold(rt, &mut board, &mut owner, kind, 0, [0, 0]);
-    ask(rt, &mut board, &mut asking, kind);
+    let (mut board, zero, one) = two_seats(rt, alloc, kind)?;
+    let owner = hold(rt, &mut board, zero, 0, [0, 0]);
+    let mut asking = start(rt, &mut board, one, [264, 0]);
+    miss(rt, &board, &mut asking);
     compare(rt, &mut board, [264, 0], 0, [2, 0]);
     Ok((board, owner, asking))
 }
 
 /// Sets the cancel of seat 1, or finds it set.
-fn call_off<R: Abort>(rt: &R, board: &Board, by: &mut Seat16, is_pending: bool, bells: &mut [Bell])
-    requires holds { (k : Kind) × (o : List Bool) × Holds board.now k o by.old }
+fn call_off<R: Abort>(rt: &R, board: &Board, by: &mut Seat, is_pending: bool, bells: &mut [Bell])
+    requires holds { Holds board.now (just 0) by.old }
     requires bells { AreBellsOf board.now bells.old }
-    ensures holds { (k : Kind) (o : List Bool) → Holds board.now k o by.old → Holds board.now k o by.new }
+    ensures holds { Holds board.now (just 0) by.new }
     ensures bells { length bells.new ≡ length bells.old }
 {
-    if cancel(by, board, 1, bells) == is_pending {
+    if by.cancel(board, 1, bells) == is_pending {
         panic!(rt; "the cancel was pending, or it wasn't");
     }
 }
@@ -67,53 +49,33 @@ fn call_off<R: Abort>(rt: &R, board: &Board, by: &mut Seat16, is_pending: bool, 
 fn stop<R: Wait + Abort>(
     rt: &R,
     board: &Board,
-    seat: &mut Seat16,
-    kind: Kind,
+    seat: &mut Seat,
     lock: u32,
     arrival: Arrival,
     bells: &mut [Bell],
 ) -> u16
-    requires may { (o : List Bool) × MayLook board.now kind o lock arrival seat.old }
-    requires lock { lock < size_of board.now }
+    requires may { MayLook board.now (owned_in seat.old) lock arrival seat.old }
     requires bells { AreBellsOf board.now bells.old }
     ensures bells { length bells.new ≡ length bells.old }
-    ensures holds { (o : List Bool) → Owns board.now kind o seat.old → Holds board.now kind o seat.new }
+    ensures holds { Holds board.now (owned_in seat.old) seat.new }
 {
-    let holds = holds_one(board, seat);
-    has_few(rt, board, seat);
-    match visit(
-        rt,
-        seat,
-        board,
-        lock,
-        arrival,
-        Waits::UntilCancelled,
-        holds,
-        bells,
-    ) {
+    match seat.visit(rt, board, lock, arrival, Waits::UntilCancelled, bells) {
         Look::Interrupted(by) => by,
         Look::Locked(_) | Look::Deadlk(_) | Look::Waits => panic!(rt; "it is called off"),
     }
 }
 
 /// Seat 1 was called off, and nobody waits: the lock is released, and a try takes it.
-fn taken_at_once<R: Wait + Abort>(
-    rt: &R,
-    board: &mut Board,
-    kind: Kind,
-    owner: &mut Seat16,
-    stopped: &mut Seat16,
-)
-    requires size { size_of board.old ≡ 2 }
-    requires owner { Holds board.old kind (just 0) owner.old }
-    requires stopped { Holds board.old kind none stopped.old }
+fn taken_at_once<R: Wait + Abort>(rt: &R, board: &mut Board, owner: &mut Seat, stopped: &mut Seat)
+    requires owner { Holds board.old (just 0) owner.old }
+    requires stopped { Holds board.old none stopped.old }
 {
     compare(rt, board, [264, 0], 0, [2, 0]);
-    if !give_at_once(owner, board, 0) {
+    if !owner.give(board, 0) {
         panic!(rt; "nobody waits for the lock");
     }
     compare(rt, board, [0, 0], 0, [2, 0]);
-    if try_take(stopped, board, 0, false).is_none() {
+    if stopped.try_take(board, 0).is_none() {
         panic!(rt; "the lock was free");
     }
     compare(rt, board, [528, 0], 0, [2, 0]);
@@ -127,7 +89,6 @@ fn while_it_waits<R: Wait + Abort>(rt: &R, alloc: Global, kind: Kind) -> Result<
         rt,
         &board,
         &mut asking,
-        kind,
         0,
         Arrival::Came,
         Waits::UntilCancelled,
@@ -139,10 +100,10 @@ fn while_it_waits<R: Wait + Abort>(rt: &R, alloc: Global, kind: Kind) -> Result<
     call_off(rt, &board, &mut owner, true, &mut bells);
     compare_cancelled(rt, &mut board, [265, 0], 0, [2, 0], 1);
     assert_eq!(rt;
-        stop(rt, &board, &mut asking, kind, 0, Arrival::Woken, &mut bells),
+        stop(rt, &board, &mut asking, 0, Arrival::Woken, &mut bells),
         0
     );
-    taken_at_once(rt, &mut board, kind, &mut owner, &mut asking);
+    taken_at_once(rt, &mut board, &mut owner, &mut asking);
     Ok(())
 }
 
@@ -161,10 +122,10 @@ fn before_it_waits<R: Wait + Abort>(rt: &R, alloc: Global, kind: Kind) -> Result
     call_off(rt, &board, &mut owner, false, &mut bells);
     compare_cancelled(rt, &mut board, [264, 0], 0, [2, 0], 1);
     assert_eq!(rt;
-        stop(rt, &board, &mut asking, kind, 0, Arrival::Came, &mut bells),
+        stop(rt, &board, &mut asking, 0, Arrival::Came, &mut bells),
         0
     );
-    taken_at_once(rt, &mut board, kind, &mut owner, &mut asking);
+    taken_at_once(rt, &mut board, &mut owner, &mut asking);
     Ok(())
 }
 
@@ -187,7 +148,6 @@ fn after_plain_looks<R: Wait + Abort>(rt: &R, alloc: Global, kind: Kind) -> Resu
         rt,
         &board,
         &mut asking,
-        kind,
         0,
         Arrival::Came,
         Waits::ToTheEnd,
@@ -198,7 +158,6 @@ fn after_plain_looks<R: Wait + Abort>(rt: &R, alloc: Global, kind: Kind) -> Resu
         rt,
         &board,
         &mut asking,
-        kind,
         0,
         Arrival::Woken,
         Waits::ToTheEnd,
@@ -206,10 +165,10 @@ fn after_plain_looks<R: Wait + Abort>(rt: &R, alloc: Global, kind: Kind) -> Resu
     );
     compare_cancelled(rt, &mut board, [267, 0], 0, [2, 0], 1);
     assert_eq!(rt;
-        stop(rt, &board, &mut asking, kind, 0, Arrival::Woken, &mut bells),
+        stop(rt, &board, &mut asking, 0, Arrival::Woken, &mut bells),
         0
     );
-    taken_at_once(rt, &mut board, kind, &mut owner, &mut asking);
+    taken_at_once(rt, &mut board, &mut owner, &mut asking);
     Ok(())
 }
 
@@ -236,7 +195,6 @@ fn called_off_then_dies<R: Wait + Abort>(
         rt,
         &board,
         &mut older,
-        kind,
         1,
         Arrival::Came,
         Waits::ToTheEnd,
@@ -244,23 +202,15 @@ fn called_off_then_dies<R: Wait + Abort>(
     );
     compare_cancelled(rt, &mut board, [264, 529], sign, [2, 0], 1);
     assert_eq!(rt;
-        stop(rt, &board, &mut younger, kind, 0, Arrival::Came, &mut bells),
+        stop(rt, &board, &mut younger, 0, Arrival::Came, &mut bells),
         0
     );
     compare(rt, &mut board, [264, 529], sign, [2, 0]);
     assert_eq!(rt;
-        back_off(rt, &board, &mut younger, kind, 0, Arrival::Came, &mut bells),
+        back_off(rt, &board, &mut younger, 0, Arrival::Came, &mut bells),
         1
     );
-    untie(
-        rt,
-        &mut board,
-        kind,
-        &mut older,
-        &mut younger,
-        sign,
-        &mut bells,
-    );
+    untie(rt, &mut board, &mut older, &mut younger, sign, &mut bells);
     Ok(())
 }
 
@@ -279,15 +229,13 @@ fn a_younger_context_is_called_off_first(rt: HostRuntime) -> Result<(), Fail> {
 /// Whoever is called off is woken: else this would never end.
 #[test]
 fn a_cancel_wakes_the_waiter(rt: HostRuntime) -> Result<(), Fail> {
-    let kind = Kind::WoundWait;
     let alloc = rt.alloc();
-    let (mut board, mut owner, mut asking) = asked(&rt, alloc, kind)?;
+    let (mut board, mut owner, mut asking) = asked(&rt, alloc, Kind::WoundWait)?;
     let (mut parker, mut bells) = bells(alloc, 2)?;
     wait(
         &rt,
         &board,
         &mut asking,
-        kind,
         0,
         Arrival::Came,
         Waits::UntilCancelled,
@@ -297,17 +245,9 @@ fn a_cancel_wakes_the_waiter(rt: HostRuntime) -> Result<(), Fail> {
     compare_cancelled(&rt, &mut board, [265, 0], 0, [2, 0], 1);
     parker.park(&rt);
     assert_eq!(rt;
-        stop(
-            &rt,
-            &board,
-            &mut asking,
-            kind,
-            0,
-            Arrival::Woken,
-            &mut bells
-        ),
+        stop(&rt, &board, &mut asking, 0, Arrival::Woken, &mut bells),
         0
     );
-    taken_at_once(&rt, &mut board, kind, &mut owner, &mut asking);
+    taken_at_once(&rt, &mut board, &mut owner, &mut asking);
     Ok(())
 }

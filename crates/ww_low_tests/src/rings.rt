@@ -1,15 +1,10 @@
 //! The ring of two contexts, by one thread with both seats of a board: each holds a lock and looks at the other's.
 //! After each call all words of the board are compared.
 
-ghost use Rattle.std.specs.Prelude.{ℕ, ◌≡◌, ◌<◌, ◌≤◌, Bool, List, false, true, length, slice_index_or, slice_set, IfOk};
-ghost use Rattle.ww_queue.specs.declared.kind.Kind.{Kind};
-ghost use Rattle.ww_model.specs.State.{any_below};
-ghost use Rattle.ww_view.specs.View.{owns};
-ghost use Rattle.ww_table.specs.Seat.{IsNew, IsSeatOf, locks_of, size_of, view_of};
-ghost use Rattle.ww_seat.specs.declared.look.Arrival.{Arrival};
-ghost use Rattle.ww_seat.specs.declared.look.Arrival.TheVariants.{Woken};
+ghost use Rattle.std.specs.Prelude.{ℕ, ◌≡◌, ◌<◌, length, IfOk};
+ghost use Rattle.ww_seat.specs.declared.look.Arrival.TheVariants.{Came, Woken};
 ghost use Rattle.ww_seat.specs.Bells.{AreBellsOf};
-ghost use Rattle.ww_low_tests.specs.Looking.{Owns, Holds, MayLook, just, none};
+ghost use Rattle.ww_low_tests.specs.Looking.{IsSmall, IsUnused, Holds, MayLook, owned_in, just, none};
 
 use crate::growths::twice;
 use crate::plain::{graph_of, node};
@@ -19,7 +14,7 @@ use std::process::Abort;
 use std::sync::Wait;
 use std::test::Fail;
 use ww_queue::Kind;
-use ww_seat::{Arrival, Bell, Look, Parker, Waits, begin, end, give_waited, try_take, visit};
+use ww_seat::{Arrival, Bell, Look, Parker, Seat, Waits};
 use ww_table::{Board, Seat16};
 
 /// The words that two locks and two seats use: owners, guards, signs, the stamp word and the front word.
@@ -79,14 +74,10 @@ pub(crate) fn two_seats<R: Abort>(
     alloc: Global,
     kind: Kind,
 ) -> Result<(Board, Seat16, Seat16), AllocError>
-    ensures size { IfOk result (λ r. size_of r.0 ≡ 2) }
-    ensures locks { IfOk result (λ r. locks_of r.0 ≡ 64) }
+    ensures small { IfOk result (λ r. IsSmall r.0) }
     ensures count { IfOk result (λ r. r.0.table.shared.key.seats ≡ 2) }
-    ensures few { IfOk result (λ r. r.0.table.shared.key.places ≡ 16) }
-    ensures kind { IfOk result (λ r. r.0.table.shared.key.kind ≡ kind) }
-    ensures zero { IfOk result (λ r. (k : ℕ) × IsNew r.0.table.shared.table_id r.0.table.shared.key k r.1) }
-    ensures one { IfOk result (λ r. (k : ℕ) × IsNew r.0.table.shared.table_id r.0.table.shared.key k r.2) }
-    ensures numbers { IfOk result (λ r. (r.1.who ≡ 0) × (r.2.who ≡ 1)) }
+    ensures zero { IfOk result (λ r. IsUnused r.0 0 r.1) }
+    ensures one { IfOk result (λ r. IsUnused r.0 1 r.2) }
 {
     let graph = twice(|| graph_of(alloc, &[node(0, None); 2]))?;
     let (board, mut seats) = made(rt, alloc, kind, graph, 2)?;
@@ -99,67 +90,49 @@ pub(crate) fn two_seats<R: Abort>(
     Ok((board, zero, one))
 }
 
-/// Begins a context.
-pub(crate) fn start<R: Abort>(
-    rt: &R,
-    board: &mut Board,
-    seat: &mut Seat16,
-    kind: Kind,
-    before: [u64; 2],
-)
-    requires size { size_of board.old ≡ 2 }
-    requires locks { locks_of board.old ≡ 64 }
-    requires kind { board.old.table.shared.key.kind ≡ kind }
-    requires new { (k : ℕ) × IsNew board.old.table.shared.table_id board.old.table.shared.key k seat.old }
+/// Begins a context on a seat that did nothing yet.
+pub(crate) fn start<R: Abort>(rt: &R, board: &mut Board, seat: Seat16, before: [u64; 2]) -> Seat
+    requires small { IsSmall board.old }
+    requires unused { (k : ℕ) × IsUnused board.old k seat }
     ensures same { board.new ≡ board.old }
-    ensures holds { Holds board.new kind none seat.new }
+    ensures holds { Holds board.new none result }
 {
-    let Some(stamp) = begin(seat, board) else {
+    let mut seat = Seat::new(seat);
+    let Some(stamp) = seat.begin(board) else {
         panic!(rt; "its stamps are spent");
     };
     compare(rt, board, before, 0, [stamp, 0]);
+    seat
 }
 
 /// Begins a context, and takes a lock that is free.
 pub(crate) fn hold<R: Abort>(
     rt: &R,
     board: &mut Board,
-    seat: &mut Seat16,
-    kind: Kind,
+    seat: Seat16,
     lock: u32,
     before: [u64; 2],
-)
-    requires size { size_of board.old ≡ 2 }
-    requires locks { locks_of board.old ≡ 64 }
-    requires kind { board.old.table.shared.key.kind ≡ kind }
-    requires new { (k : ℕ) × IsNew board.old.table.shared.table_id board.old.table.shared.key k seat.old }
+) -> Seat
+    requires small { IsSmall board.old }
+    requires unused { (k : ℕ) × IsUnused board.old k seat }
     requires lock { lock < 2 }
     ensures same { board.new ≡ board.old }
-    ensures holds { Holds board.new kind (just lock) seat.new }
+    ensures holds { Holds board.new (just lock) result }
 {
-    start(rt, board, seat, kind, before);
-    if try_take(seat, board, lock, false).is_none() {
+    let mut seat = start(rt, board, seat, before);
+    if seat.try_take(board, lock).is_none() {
         panic!(rt; "the lock was free");
     }
+    seat
 }
 
-/// Whether the seat holds a lock: then it has the node out.
-pub(crate) fn holds_one(_board: &Board, seat: &Seat16) -> bool
-    requires may { (k : Kind) × (o : List Bool) × (n : ℕ) × (arrival : Arrival) × MayLook _board.now k o n arrival seat.now }
-    ensures { any_below (length (view_of seat.now).owned) (owns (view_of seat.now)) ≡ result }
+/// Tries for lock 0, which isn't free.
+pub(crate) fn miss<R: Abort>(rt: &R, board: &Board, seat: &mut Seat)
+    requires { Holds board.now none seat.old }
+    ensures { MayLook board.now none 0 Came seat.new }
 {
-    seat.has_out()
-}
-
-/// Its table has room for 16 seats at most, as a call that parks requires.
-#[tactic(auto, using(crate::proofs::Few::few_there))]
-pub(crate) fn has_few<R: Abort>(rt: &R, board: &Board, seat: &Seat16)
-    requires { IsSeatOf board.now seat.now }
-    ensures { board.now.table.shared.key.places ≤ 16 }
-{
-    let _nodes = board.size();
-    if seat.seats() > 16 {
-        panic!(rt; "the table has more seats");
+    if seat.try_take(board, 0).is_some() {
+        panic!(rt; "the lock was taken");
     }
 }
 
@@ -168,22 +141,18 @@ pub(crate) fn has_few<R: Abort>(rt: &R, board: &Board, seat: &Seat16)
 pub(crate) fn wait<R: Wait + Abort>(
     rt: &R,
     board: &Board,
-    seat: &mut Seat16,
-    kind: Kind,
+    seat: &mut Seat,
     lock: u32,
     arrival: Arrival,
     waits: Waits,
     bells: &mut [Bell],
 )
-    requires may { (o : List Bool) × MayLook board.now kind o lock arrival seat.old }
-    requires lock { lock < size_of board.now }
+    requires may { MayLook board.now (owned_in seat.old) lock arrival seat.old }
     requires bells { AreBellsOf board.now bells.old }
     ensures bells { length bells.new ≡ length bells.old }
-    ensures may { (o : List Bool) → Owns board.now kind o seat.old → MayLook board.now kind o lock Woken seat.new }
+    ensures may { MayLook board.now (owned_in seat.old) lock Woken seat.new }
 {
-    let holds = holds_one(board, seat);
-    has_few(rt, board, seat);
-    match visit(rt, seat, board, lock, arrival, waits, holds, bells) {
+    match seat.visit(rt, board, lock, arrival, waits, bells) {
         Look::Waits => {}
         Look::Locked(_) | Look::Deadlk(_) | Look::Interrupted(_) => panic!(rt; "it has to wait"),
     }
@@ -193,60 +162,28 @@ pub(crate) fn wait<R: Wait + Abort>(
 pub(crate) fn back_off<R: Wait + Abort>(
     rt: &R,
     board: &Board,
-    seat: &mut Seat16,
-    kind: Kind,
+    seat: &mut Seat,
     lock: u32,
     arrival: Arrival,
     bells: &mut [Bell],
 ) -> u64
-    requires may { (o : List Bool) × MayLook board.now kind o lock arrival seat.old }
-    requires lock { lock < size_of board.now }
+    requires may { MayLook board.now (owned_in seat.old) lock arrival seat.old }
     requires bells { AreBellsOf board.now bells.old }
     ensures bells { length bells.new ≡ length bells.old }
-    ensures holds { (o : List Bool) → Owns board.now kind o seat.old → Holds board.now kind o seat.new }
+    ensures holds { Holds board.now (owned_in seat.old) seat.new }
 {
-    let holds = holds_one(board, seat);
-    has_few(rt, board, seat);
-    match visit(
-        rt,
-        seat,
-        board,
-        lock,
-        arrival,
-        Waits::ToTheEnd,
-        holds,
-        bells,
-    ) {
+    match seat.visit(rt, board, lock, arrival, Waits::ToTheEnd, bells) {
         Look::Deadlk(met) => met,
         Look::Locked(_) | Look::Interrupted(_) | Look::Waits => panic!(rt; "it has to die"),
     }
 }
 
 /// Looks again at a lock, and takes it.
-fn take<R: Wait + Abort>(
-    rt: &R,
-    board: &Board,
-    seat: &mut Seat16,
-    kind: Kind,
-    lock: u32,
-    bells: &mut [Bell],
-)
-    requires may { (o : List Bool) × MayLook board.now kind o lock Woken seat.old }
-    requires lock { lock < size_of board.now }
+fn take<R: Wait + Abort>(rt: &R, board: &Board, seat: &mut Seat, lock: u32, bells: &mut [Bell])
+    requires may { MayLook board.now (owned_in seat.old) lock Woken seat.old }
     requires bells { AreBellsOf board.now bells.old }
 {
-    let holds = holds_one(board, seat);
-    has_few(rt, board, seat);
-    match visit(
-        rt,
-        seat,
-        board,
-        lock,
-        Arrival::Woken,
-        Waits::ToTheEnd,
-        holds,
-        bells,
-    ) {
+    match seat.visit(rt, board, lock, Arrival::Woken, Waits::ToTheEnd, bells) {
         Look::Locked(_) => {}
         Look::Deadlk(_) | Look::Interrupted(_) | Look::Waits => panic!(rt; "the lock is free"),
     }
@@ -257,18 +194,16 @@ pub(crate) fn tied<R: Abort>(
     rt: &R,
     alloc: Global,
     kind: Kind,
-) -> Result<(Board, Seat16, Seat16), AllocError>
-    ensures size { IfOk result (λ r. size_of r.0 ≡ 2) }
+) -> Result<(Board, Seat, Seat), AllocError>
     ensures count { IfOk result (λ r. r.0.table.shared.key.seats ≡ 2) }
-    ensures few { IfOk result (λ r. r.0.table.shared.key.places ≡ 16) }
-    ensures older { IfOk result (λ r. Holds r.0 kind (just 0) r.1) }
-    ensures younger { IfOk result (λ r. Holds r.0 kind (just 1) r.2) }
+    ensures older { IfOk result (λ r. Holds r.0 (just 0) r.1) }
+    ensures younger { IfOk result (λ r. Holds r.0 (just 1) r.2) }
 {
-    let (mut board, mut older, mut younger) = two_seats(rt, alloc, kind)?;
+    let (mut board, zero, one) = two_seats(rt, alloc, kind)?;
     compare(rt, &mut board, [0, 0], 0, [0, 0]);
-    hold(rt, &mut board, &mut older, kind, 0, [0, 0]);
+    let older = hold(rt, &mut board, zero, 0, [0, 0]);
     compare(rt, &mut board, [264, 0], 0, [1, 0]);
-    hold(rt, &mut board, &mut younger, kind, 1, [264, 0]);
+    let younger = hold(rt, &mut board, one, 1, [264, 0]);
     compare(rt, &mut board, [264, 528], 0, [2, 0]);
     Ok((board, older, younger))
 }
@@ -277,23 +212,21 @@ pub(crate) fn tied<R: Abort>(
 fn hand_back<R: Wait + Abort>(
     rt: &R,
     board: &mut Board,
-    kind: Kind,
-    older: &mut Seat16,
-    younger: &mut Seat16,
+    older: &mut Seat,
+    younger: &mut Seat,
     sign: u64,
     bells: &mut [Bell],
 )
-    requires size { size_of board.old ≡ 2 }
-    requires older { MayLook board.old kind (just 0) 1 Woken older.old }
-    requires younger { Holds board.old kind (just 1) younger.old }
+    requires older { MayLook board.old (owned_in older.old) 1 Woken older.old }
+    requires younger { Holds board.old (just 1) younger.old }
     requires bells { AreBellsOf board.old bells.old }
     ensures same { board.new ≡ board.old }
-    ensures holds { Holds board.new kind none younger.new }
+    ensures holds { Holds board.new none younger.new }
 {
     compare(rt, board, [264, 529], sign, [2, 0]);
-    give_waited(rt, younger, board, 1, bells);
+    younger.give_waited(rt, board, 1, bells);
     compare(rt, board, [264, 1], sign, [2, 0]);
-    take(rt, board, older, kind, 1, bells);
+    take(rt, board, older, 1, bells);
     compare(rt, board, [264, 264], sign, [2, 0]);
 }
 
@@ -301,26 +234,25 @@ fn hand_back<R: Wait + Abort>(
 pub(crate) fn untie<R: Wait + Abort>(
     rt: &R,
     board: &mut Board,
-    kind: Kind,
-    older: &mut Seat16,
-    younger: &mut Seat16,
+    older: &mut Seat,
+    younger: &mut Seat,
     sign: u64,
     bells: &mut [Bell],
 )
-    requires size { size_of board.old ≡ 2 }
-    requires older { MayLook board.old kind (just 0) 1 Woken older.old }
-    requires younger { Holds board.old kind (just 1) younger.old }
+    requires older { MayLook board.old (owned_in older.old) 1 Woken older.old }
+    requires younger { Holds board.old (just 1) younger.old }
     requires bells { AreBellsOf board.old bells.old }
 {
-    hand_back(rt, board, kind, older, younger, sign, bells);
-    end(younger, board);
+    hand_back(rt, board, older, younger, sign, bells);
+    younger.end(board);
     compare(rt, board, [264, 264], 0, [2, 0]);
 }
 
 /// A seat that holds nothing takes its sign back, and ends with none.
-fn clear_and_end<R: Abort>(rt: &R, board: &mut Board, seat: &mut Seat16, kind: Kind)
-    requires holds { Holds board.old kind none seat.old }
+fn clear_and_end<R: Abort>(rt: &R, board: &mut Board, seat: Seat)
+    requires holds { Holds board.old none seat }
 {
+    let mut seat = seat.into_inner();
     seat.clear(board);
     compare(rt, board, [264, 264], 0, [2, 0]);
     if !seat.end(board) {
@@ -342,7 +274,6 @@ fn older_first<R: Wait + Abort>(
         rt,
         &board,
         &mut older,
-        kind,
         1,
         Arrival::Came,
         Waits::ToTheEnd,
@@ -350,32 +281,22 @@ fn older_first<R: Wait + Abort>(
     );
     compare(rt, &mut board, [264, 529], sign, [2, 0]);
     assert_eq!(rt;
-        back_off(rt, &board, &mut younger, kind, 0, Arrival::Came, &mut bells),
+        back_off(rt, &board, &mut younger, 0, Arrival::Came, &mut bells),
         1
     );
-    untie(
-        rt,
-        &mut board,
-        kind,
-        &mut older,
-        &mut younger,
-        sign,
-        &mut bells,
-    );
+    untie(rt, &mut board, &mut older, &mut younger, sign, &mut bells);
     Ok(())
 }
 
 /// Both come to wait, and the older, which comes last, signs the younger: it has to die at its second look.
 #[test]
 fn a_ring_is_undone_by_a_sign(rt: HostRuntime) -> Result<(), Fail> {
-    let kind = Kind::WoundWait;
-    let (mut board, mut older, mut younger) = tied(&rt, rt.alloc(), kind)?;
+    let (mut board, mut older, mut younger) = tied(&rt, rt.alloc(), Kind::WoundWait)?;
     let (_, mut bells) = bells(rt.alloc(), 2)?;
     wait(
         &rt,
         &board,
         &mut younger,
-        kind,
         0,
         Arrival::Came,
         Waits::ToTheEnd,
@@ -386,33 +307,16 @@ fn a_ring_is_undone_by_a_sign(rt: HostRuntime) -> Result<(), Fail> {
         &rt,
         &board,
         &mut older,
-        kind,
         1,
         Arrival::Came,
         Waits::ToTheEnd,
         &mut bells,
     );
     compare(&rt, &mut board, [265, 529], 1, [2, 0]);
-    let met = back_off(
-        &rt,
-        &board,
-        &mut younger,
-        kind,
-        0,
-        Arrival::Woken,
-        &mut bells,
-    );
+    let met = back_off(&rt, &board, &mut younger, 0, Arrival::Woken, &mut bells);
     assert_eq!(rt; met, 1);
-    hand_back(
-        &rt,
-        &mut board,
-        kind,
-        &mut older,
-        &mut younger,
-        1,
-        &mut bells,
-    );
-    clear_and_end(&rt, &mut board, &mut younger, kind);
+    hand_back(&rt, &mut board, &mut older, &mut younger, 1, &mut bells);
+    clear_and_end(&rt, &mut board, younger);
     Ok(())
 }
 
@@ -446,34 +350,25 @@ pub(crate) fn bells(alloc: Global, seats: u8) -> Result<(Parker, Vec<Bell>), All
 }
 
 /// Releases lock 0, where somebody waits for it.
-pub(crate) fn hand_over<R: Wait>(
-    rt: &R,
-    board: &Board,
-    kind: Kind,
-    owner: &mut Seat16,
-    bells: &mut [Bell],
-)
-    requires size { size_of board.now ≡ 2 }
-    requires owner { Holds board.now kind (just 0) owner.old }
+pub(crate) fn hand_over<R: Wait>(rt: &R, board: &Board, owner: &mut Seat, bells: &mut [Bell])
+    requires owner { Holds board.now (just 0) owner.old }
     requires bells { AreBellsOf board.now bells.old }
     ensures bells { length bells.new ≡ length bells.old }
 {
-    give_waited(rt, owner, board, 0, bells);
+    owner.give_waited(rt, board, 0, bells);
 }
 
 /// A waiter asks for the lock at its second look. So the lock is handed to it, and it is woken: else this would never
 /// end.
 #[test]
 fn a_lock_is_handed_over(rt: HostRuntime) -> Result<(), Fail> {
-    let kind = Kind::WoundWait;
     let alloc = rt.alloc();
-    let (mut board, mut older, mut younger) = tied(&rt, alloc, kind)?;
+    let (mut board, mut older, mut younger) = tied(&rt, alloc, Kind::WoundWait)?;
     let (mut parker, mut bells) = bells(alloc, 2)?;
     wait(
         &rt,
         &board,
         &mut younger,
-        kind,
         0,
         Arrival::Came,
         Waits::ToTheEnd,
@@ -484,17 +379,16 @@ fn a_lock_is_handed_over(rt: HostRuntime) -> Result<(), Fail> {
         &rt,
         &board,
         &mut younger,
-        kind,
         0,
         Arrival::Woken,
         Waits::ToTheEnd,
         &mut bells,
     );
     compare(&rt, &mut board, [267, 528], 0, [2, 0]);
-    hand_over(&rt, &board, kind, &mut older, &mut bells);
+    hand_over(&rt, &board, &mut older, &mut bells);
     compare(&rt, &mut board, [533, 528], 0, [2, 0]);
     parker.park(&rt);
-    take(&rt, &board, &mut younger, kind, 0, &mut bells);
+    take(&rt, &board, &mut younger, 0, &mut bells);
     compare(&rt, &mut board, [528, 528], 0, [2, 0]);
     Ok(())
 }

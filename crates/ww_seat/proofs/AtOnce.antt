@@ -89,31 +89,41 @@ tried_settled size n m m' Missed o away big t = (
   subst (λ (z : Sat). IsAway z.0.part.core) (sym t.1) (away.0, away.1),
 )
 
+pub tried_once : (size n : ℕ) (m m' : Sat) (a : Taking) → IsOrderly size m → size ≤ n → WantsSigns m.0.part.core
+    → HasTriedToTake m n a m' → HasTriedOnce m n a m'
+tried_once size n m m' Took o big signs t = (t.0, (taken_bare_at_once size n no_node m m' o big tt t.1).taken)
+tried_once size n m m' Had o big signs t = t
+tried_once size n m m' Missed o big signs t = record {
+  lacks = t.0;
+  tried = ap account_of t.1;
+  met = ap (λ (z : Sat). z.0.part.core.met) t.1;
+  glances = ap (λ (z : Sat). z.0.part.core.glances) t.1;
+  signs = subst (λ (z : Sat). WantsSigns z.0.part.core) (sym t.1) signs;
+}
+
 -- m is the seat as it came, and u as it is once it may have taken its sign back
 pub record IsReady (m u : Sat) (holds : Bool) : Type 0 where
   pub same : HoldsAsBefore m u
   pub met : u.0.part.core.met ≡ m.0.part.core.met
-  pub signs : WantsSigns u.0.part.core
   pub idle : holds ≡ true → u ≡ m
   pub some : any_below (length m.0.part.core.owned) (owns m.0.part.core) ≡ holds
 
 owned_alike : (m u : Sat) (n : ℕ) → HoldsAsBefore m u → owns m.0.part.core n ≡ owns u.0.part.core n
 owned_alike m u n same = ap (λ (a : Account). get_or a.owned n false) (sym same)
 
-pub tried_once : (size n : ℕ) (m u m' : Sat) (holds : Bool) (a : Taking) → IsOrderly size u → size ≤ n
-    → IsReady m u holds → HasTriedToTake u n a m' → HasTriedOnce m n a m'
-tried_once size n m u m' holds Took o big r t = (
+pub tried_then : (n : ℕ) (m u m' : Sat) (holds : Bool) (a : Taking) → IsReady m u holds → HasTriedOnce u n a m' → HasTriedOnce m n a m'
+tried_then n m u m' holds Took r t = (
   owned_alike m u n r.same ∙ t.0,
-  subst (λ (a : Account). HasAdded (having_tried a) n no_node m') r.same (taken_bare_at_once size n no_node u m' o big tt t.1).taken,
+  subst (λ (a : Account). HasAdded (having_tried a) n no_node m') r.same t.1,
 )
-tried_once size n m u m' holds Had o big r t = let own = owned_alike m u n r.same ∙ t.0 in (
+tried_then n m u m' holds Had r t = let own = owned_alike m u n r.same ∙ t.0 in (
   own,
   t.1 ∙ r.idle (sym r.some ∙ found_below (length m.0.part.core.owned) (owns m.0.part.core) n (owned_low m.0.part.core.owned n own) own),
 )
-tried_once size n m u m' holds Missed o big r t = record {
-  lacks = owned_alike m u n r.same ∙ t.0;
-  tried = ap account_of t.1 ∙ ap having_tried r.same;
-  met = ap (λ (z : Sat). z.0.part.core.met) t.1 ∙ r.met;
-  glances = ap (λ (z : Sat). z.0.part.core.glances) t.1;
-  signs = subst (λ (z : Sat). WantsSigns z.0.part.core) (sym t.1) r.signs;
+tried_then n m u m' holds Missed r t = record {
+  lacks = owned_alike m u n r.same ∙ t.lacks;
+  tried = t.tried ∙ ap having_tried r.same;
+  met = t.met ∙ r.met;
+  glances = t.glances;
+  signs = t.signs;
 }

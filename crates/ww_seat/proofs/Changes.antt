@@ -1,6 +1,12 @@
 -- A commit: what the transaction makes of the nodes held is what it makes of them in the graph that it was prepared on.
-use Rattle.std.proofs.Common.{◌≡◌, ℕ, zero, suc, ◌+◌, ◌<◌, ◌≤◌, true, false, eqb, List, [], ◌∷◌, length, map, drop, get_or, set, ◌^◌, refl, sym, ap, ◌∙◌, subst, ⊎_elim, inl, inr, arith, Option, Some}
-use Rattle.std.proofs.lemmas.List.{length-map}
+use Rattle.std.proofs.Common.{◌≡◌, ℕ, zero, suc, ◌+◌, ◌-◌, ◌++◌, ◌<◌, ◌≤◌, true, false, eqb, List, [], ◌∷◌, length, map, drop, get_or, set, ◌^◌, refl, sym, ap, ◌∙◌, subst, ⊎_elim, inl, inr, arith, Option, Some}
+use Rattle.std.proofs.lemmas.List.{length-map, length-append}
+use Rattle.std.specs.Prelude.{vec_len, vec_capacity}
+use Rattle.atomic_table.specs.Seated.{TableId}
+use Rattle.ww_table.specs.declared.board.Board.{Board}
+use Rattle.ww_table.specs.declared.seat.Seat16.{Seat16}
+use Rattle.ww_table.specs.Seat.{IsSeated}
+use Rattle.ww_seat.specs.Standings.{Standing, standing_of, MayCommit}
 use Rattle.std.specs.List.{AllByRecursion}
 use mathlib.Core.Logic.{dite}
 use mathlib.Core.Option.{none, some}
@@ -199,3 +205,21 @@ module _ (size : ℕ) (m : Sat) (r : Record) (before : List Node) (was : IsOrder
   pub still_away : (place : ℕ) (m1 m2 : Sat) → m1 ≡ placed place → m2.0 ≡ m1.0 → IsAway m.0.part.core → IsAway m2.0.part.core
   still_away place m1 m2 is view away = let v : m2.0 ≡ placing m.0 place r = view ∙ ap (λ (z : Sat). z.0) is in
       subst (λ (w : Sight). IsAway w.part.core) (sym v) away
+
+-- ---- of a seat as its caller has it
+
+-- what the caller says, of the seat itself
+pub may_commit : (b : Board) (r : Record) (before : List Node) (changes : List NodeChange) (q : Seat16) (s : Standing)
+    → standing_of q ≡ s → MayCommit b r before changes s → MayCommit b r before changes (standing_of q)
+may_commit b r before changes q s is may = subst (MayCommit b r before changes) (sym is) may
+
+-- there is room for one record fewer
+pub less_room : (t : TableId) (q q' : Seat16) (place : ℕ) (r : Record) → IsSeated t q → IsSeated t q'
+    → q'.seat.me.0.part.own ≡ q.seat.me.0.part.own ++ (place, r) ∷ [] → vec_capacity q'.records ≡ vec_capacity q.records
+    → standing_of q' ≡ record (standing_of q) { room = (standing_of q).room - 1; me = q'.seat.me }
+less_room t q q' place r seated seated' own capacity =
+    let many : length q'.records.items ≡ length q.records.items + 1 = ap length (seated'.records ∙ own)
+    ∙ length-append q.seat.me.0.part.own ((place, r) ∷ []) ∙ ap (λ (l : List (ℕ × Record)). length l + 1) (sym seated.records) in
+    let room : vec_capacity q'.records - vec_len q'.records ≡ vec_capacity q.records - vec_len q.records - 1 = omega (arith, many, capacity) in
+    let home : q'.seat.table_id ≡ q.seat.table_id = seated'.home ∙ sym seated.home in
+    λ i. record { home = home i; room = room i; me = q'.seat.me }

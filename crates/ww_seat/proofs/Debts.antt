@@ -1,19 +1,14 @@
 -- How often a seat has to be woken, and that its bell rang as often.
-use Rattle.std.proofs.Common.{◌≡◌, ℕ, ◌+◌, ◌<◌, Bool, true, false, true≢false, cond, eqb, List, [], ◌∷◌, length, Option, Some, None, IfSome, inl, inr, ⊎_elim, refl, sym, ap, ◌∙◌, subst, arith}
+use Rattle.std.proofs.Common.{◌≡◌, ℕ, ◌+◌, ◌<◌, Bool, true, false, true≢false, cond, eqb, List, [], ◌∷◌, length, Some, inl, inr, ⊎_elim, refl, sym, ap, ◌∙◌, arith}
 use Rattle.std.specs.Option.{option_map}
-use Rattle.ww_queue.specs.declared.entry.Entry.{Entry}
 use Rattle.ww_queue.specs.Queue.{Has}
 use Rattle.ww_plain.proofs.Members.{true_or_false, same_from_eqb, eqb_same}
 use Rattle.ww_view.specs.declared.view.View.{View}
-use Rattle.ww_view.specs.Made.{is_one_of, with_condemned, with_heir}
+use Rattle.ww_view.specs.Made.{is_one_of, with_condemned}
 use Rattle.ww_rule.specs.Rule.{Sat}
 use Rattle.ww_seat.specs.declared.bell.Bell.{Bell}
-use Rattle.ww_seat.specs.declared.look.Look.{Look}
-use Rattle.ww_seat.specs.declared.look.Look.TheVariants.{Locked, Deadlk, Interrupted, Waits}
-use Rattle.ww_seat.specs.Accounts.{Account}
-use Rattle.ww_seat.specs.Looks.{IsLook}
 use Rattle.ww_seat.specs.Marks.{is_marked}
-use Rattle.ww_seat.specs.Bells.{rung_at, one_more, times, ArePaid, AreRung, IsRung, OnlyRing}
+use Rattle.ww_seat.specs.Bells.{rung_at, one_more, times, ArePaid, AreRung}
 use Rattle.ww_seat.specs.Work.{HasToWake, AreWoken, AreOnlyWoken, HasBooked, debts_with}
 use Rattle.ww_seat.proofs.Without.{another}
 
@@ -112,14 +107,6 @@ pub more_cancelled : (b : Bool) (c t : ℕ) → one_more b (c + t) ≡ one_more 
 more_cancelled true c t = omega arith
 more_cancelled false c t = refl
 
--- the cancels that it set are those of before, whatever a look came to
-pub look_cancels : (size n : ℕ) (m m' : Sat) (look : Look) → IsLook size n m look m'
-    → m'.0.part.counts.cancelled ≡ m.0.part.counts.cancelled
-look_cancels size n m m' (Locked x) l = ap (λ (a : Account). a.counts.cancelled) l.2.now
-look_cancels size n m m' (Deadlk k) l = ap (λ (a : Account). a.counts.cancelled) l.2.now
-look_cancels size n m m' (Interrupted by) l = ap (λ (a : Account). a.counts.cancelled) l.2.now
-look_cancels size n m m' Waits l = ap (λ (a : Account). a.counts.cancelled) l.2
-
 -- it woke whom it condemned in a look
 pub paid_look : (m m' : Sat) (marks : List ℕ) (bells bells' : List Bell)
     → m'.0.part.counts.cancelled ≡ m.0.part.counts.cancelled → HasBooked m.0.part.core.debts m'.0.part.core
@@ -136,53 +123,9 @@ paid_look m m' marks bells bells' cancels booked woken only rang count paid u lo
     ∙ sym (ap (times u) booked))
     ∙ ap (λ (l : List ℕ). times u l + times u v.debts) (sym cancels))
 
--- the bell of one seat rang, and no other
-pub one_rang : (w : ℕ) (bells bells' : List Bell) → IsRung w bells bells' → OnlyRing (λ u. u ≡ w) bells bells'
-    → (u : ℕ) → u < length bells → rung_at bells' u ≡ option_map (one_more (eqb w u)) (rung_at bells u)
-one_rang w bells bells' rang only u low = elim (true_or_false (eqb w u)) [
-  | inl this ↦ subst (λ (x : ℕ). rung_at bells' x ≡ option_map (one_more true) (rung_at bells x)) (same_from_eqb w u this)
-      (rang (omega (arith, low, same_from_eqb w u this)))
-      ∙ ap (λ (b : Bool). option_map (one_more b) (rung_at bells u)) (sym this)
-  | inr other ↦ only u (another w u other) ∙ none (rung_at bells u)
-      ∙ ap (λ (b : Bool). option_map (one_more b) (rung_at bells u)) (sym other)
-]
-  where
-    none : (o : Option ℕ) → o ≡ option_map (one_more false) o
-    none None = refl
-    none (Some k) = refl
-
--- it woke whom it cancelled
-pub paid_cancel : (m m' : Sat) (w : ℕ) (bells bells' : List Bell)
-    → m'.0.part.counts.cancelled ≡ w ∷ m.0.part.counts.cancelled → m'.0.part.core.debts ≡ m.0.part.core.debts
-    → IsRung w bells bells' → OnlyRing (λ u. u ≡ w) bells bells' → length bells' ≡ length bells
-    → ArePaid m bells → ArePaid m' bells'
-paid_cancel m m' w bells bells' cancels debts rang only count paid u low =
-    let lt : u < length bells = omega (arith, low, count) in
-    one_rang w bells bells' rang only u lt ∙ ap (option_map (one_more (eqb w u))) (paid u lt)
-    ∙ ap Some (more_cancelled (eqb w u) (times u m.0.part.counts.cancelled) (times u m.0.part.core.debts)
-    ∙ ap (λ (l : List ℕ). times u l + times u m.0.part.core.debts) (sym cancels)
-    ∙ ap (λ (l : List ℕ). times u m'.0.part.counts.cancelled + times u l) (sym debts))
-
 -- nothing is owed that wasn't owed before
 pub paid_still : (m m' : Sat) (bells : List Bell) → m'.0.part.counts.cancelled ≡ m.0.part.counts.cancelled
     → m'.0.part.core.debts ≡ m.0.part.core.debts → ArePaid m bells → ArePaid m' bells
 paid_still m m' bells cancels debts paid u low = paid u low
     ∙ ap (λ (l : List ℕ). Some (times u l + times u m.0.part.core.debts)) (sym cancels)
     ∙ ap (λ (l : List ℕ). Some (times u m'.0.part.counts.cancelled + times u l)) (sym debts)
-
--- it woke the first waiter, if somebody waits
-pub paid_heir : (m m' : Sat) (first : Option Entry) (bells bells' : List Bell)
-    → m'.0.part.counts.cancelled ≡ m.0.part.counts.cancelled
-    → m'.0.part.core.debts ≡ with_heir (option_map (λ (e : Entry). e.seat) first) m.0.part.core.debts
-    → IfSome first (λ e. IsRung e.seat bells bells')
-    → OnlyRing (λ u. option_map (λ (e : Entry). e.seat) first ≡ Some u) bells bells' → length bells' ≡ length bells
-    → ArePaid m bells → ArePaid m' bells'
-paid_heir m m' None bells bells' cancels debts rang only count paid u low =
-    only u (λ none. absurd cc) ∙ paid_still m m' bells cancels debts paid u (omega (arith, low, count))
-paid_heir m m' (Some e) bells bells' cancels debts rang only count paid u low =
-    let lt : u < length bells = omega (arith, low, count) in
-    one_rang e.seat bells bells' rang (λ t differ. only t (λ same. differ (let z : Some e.seat ≡ Some t = same in cc))) u lt
-    ∙ ap (option_map (one_more (eqb e.seat u))) (paid u lt)
-    ∙ ap Some (more_owed (eqb e.seat u) (times u m.0.part.counts.cancelled) (times u m.0.part.core.debts)
-    ∙ ap (λ (l : List ℕ). times u m.0.part.counts.cancelled + times u l) (sym debts)
-    ∙ ap (λ (l : List ℕ). times u l + times u m'.0.part.core.debts) (sym cancels))

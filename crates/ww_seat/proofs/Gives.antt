@@ -21,8 +21,10 @@ use Rattle.ww_table.specs.declared.seat.Giving.{Giving}
 use Rattle.ww_table.specs.declared.seat.Giving.TheVariants.{Gave, Kept, Lacked}
 use Rattle.ww_seat.specs.Orderly.{IsOrderly}
 use Rattle.ww_seat.specs.Accounts.{Account, having_given}
-use Rattle.ww_seat.specs.Calls.{HoldsAsBefore, HasGiven, HasLetOnce}
+use Rattle.ww_seat.specs.Calls.{HasStayedOut, HoldsAsBefore, HasGiven, HasLetOnce}
 use Rattle.ww_seat.specs.Guards.{HasLet, IsGiving}
+use Rattle.ww_seat.specs.Standings.{HasLetNode}
+use Rattle.ww_seat.proofs.Naps.{out_by}
 use Rattle.ww_seat.proofs.Holds.{holds_then}
 use Rattle.ww_seat.proofs.Slots.{front_same, front_apart, is_out}
 use Rattle.ww_seat.proofs.Outside.{orderly_still, orderly_bare, set_past, owned_low, owns_here}
@@ -149,6 +151,7 @@ lets size m m' n asked g o view = let low = owned_low m.0.part.core.owned n g.ow
       given = refl;
       heir = refl;
       debts = refl;
+      attempts = refl;
       awake = record { naps = refl; deaf = refl };
     }) o
 
@@ -223,3 +226,24 @@ has_let size a b c m' n before l view home = (
   subst (λ (w : Sight). IsAway w.part.core) (sym view) (refl, l.waits),
   then_given a c m' n (given_then a b c n before l.given) (still_exited c m' view),
 )
+
+-- one try to release a lock at once that guards a node
+pub gave_or_kept : (size n : ℕ) (r : Bool) (m m' : Sat) → IsOrderly size m → IsAway m.0.part.core → n < size
+    → (r ≡ true → (x : Node) × (m'.0 ≡ giving m.0 n) × AreOthers m.1 n (Content x) m'.1)
+    → (r ≡ false → (x : Node) × (others : List (ℕ × Cell)) × AreOthers m.1 n (Content x) others
+    × (m' ≡ (keeping m.0, (n, Content x) ∷ others)))
+    → IsOrderly size m' × IsAway m'.0.part.core × HasStayedOut m.0.part.core m'.0.part.core × HasLetNode m n r m'
+gave_or_kept size n true m m' o away small gave kept = let e = gave refl in
+    let z = given_free size m m' n e.0 o away small e.1 e.2 in (
+      z.0,
+      z.1,
+      out_by m m' (giving m.0 n) e.1 (record { attempts = refl; debts = refl; naps = refl; deaf = refl }),
+      (z.2, ap (λ (w : Sight). w.part.core.kept) e.1),
+    )
+gave_or_kept size n false m m' o away small gave kept = let e = kept refl in
+    let view : m'.0 ≡ keeping m.0 = ap (λ (z : Sat). z.0) e.3 in (
+      kept_free size m m' n e.0 e.1 o e.2 e.3,
+      subst (λ (w : Sight). IsAway w.part.core) (sym view) (away.0, away.1),
+      out_by m m' (keeping m.0) view (record { attempts = refl; debts = refl; naps = refl; deaf = refl }),
+      (still_kept m m' view, ap (λ (w : Sight). w.part.core.kept) view),
+    )

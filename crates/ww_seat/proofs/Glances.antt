@@ -1,11 +1,12 @@
 -- A seat that makes a spin read of a lock is otherwise as it was.
-use Rattle.std.proofs.Common.{◌≡◌, ℕ, ◌+◌, ◌≤◌, refl, sym, ap, ◌∙◌, subst, arith}
+use Rattle.std.proofs.Common.{◌≡◌, ℕ, ◌+◌, ◌≤◌, inl, length, refl, sym, ap, ◌∙◌, subst, arith}
 use Rattle.ww_rule.specs.Steps.{knowing}
 use Rattle.ww_rule.specs.Rule.{Sat}
 use Rattle.ww_rule.specs.Guards.{glancing}
-use Rattle.ww_seat.specs.Calls.{HoldsAsBefore}
-use Rattle.ww_seat.specs.Looks.{IsOutside, HasGlanced, having_glanced}
-use Rattle.ww_seat.proofs.Outside.{orderly_knowing}
+use Rattle.ww_seat.specs.Looks.{HasGlanced, having_glanced}
+use Rattle.ww_table.specs.declared.board.Board.{Board}
+use Rattle.ww_seat.specs.Standings.{Standing, view_in, IsAt, HasStayedAway, MayGlanceOn, MayWait, MayGoIn, OwnsNodes}
+use Rattle.ww_seat.specs.declared.resting.Stay.{Stay}
 
 pub and_more : (m a b : Sat) (k l : ℕ) → a ≡ having_glanced m k → b ≡ having_glanced a l → b ≡ having_glanced m (k + l)
 and_more m a b k l is then = let v = m.0.part.core in
@@ -13,9 +14,6 @@ and_more m a b k l is then = let v = m.0.part.core in
     let all : v.all_glances + k + l ≡ v.all_glances + (k + l) = omega arith in
     then ∙ ap (λ (w : Sat). having_glanced w l) is
     ∙ (λ j. (knowing m.0 (record v { glances = now j; all_glances = all j }), m.1))
-
-pub once_more : (m a b : Sat) (k : ℕ) → a ≡ having_glanced m k → b ≡ (glancing a.0, a.1) → b ≡ having_glanced m (k + 1)
-once_more m a b k is then = and_more m a b k 1 is then
 
 pub glances_of : (m a : Sat) (k : ℕ) → a ≡ having_glanced m k → a.0.part.core.glances ≡ m.0.part.core.glances + k
 glances_of m a k is = ap (λ (w : Sat). w.0.part.core.glances) is
@@ -25,16 +23,53 @@ pub glanced_further : (m a b : Sat) (k : ℕ) → a ≡ having_glanced m k → H
 glanced_further m a b k is g few = let now = and_more m a b k g.times is g.now in
     record { times = k + g.times; few = omega (arith, few, glances_of m b (k + g.times) now); now = now }
 
-pub outside_still : (size n : ℕ) (m m' : Sat) → IsOutside size n m → HasGlanced m m' → IsOutside size n m'
-outside_still size n m m' o g = subst (IsOutside size n) (sym g.now) (record {
-  orderly = orderly_knowing size m (having_glanced m g.times) _ o.orderly refl refl refl refl refl;
-  want = record { lacks = o.want.lacks; base = o.want.base; signs = o.want.signs };
-  outside = o.outside;
-  place = o.place;
-})
+-- ---- of a seat as its caller has it
 
-pub holds_glanced : (m m' : Sat) → HasGlanced m m' → HoldsAsBefore m m'
-holds_glanced m m' g = subst (HoldsAsBefore m) (sym g.now) refl
+pub stayed_none : (s : Standing) → HasStayedAway s s
+stayed_none s = let m = s.me in let v = m.0.part.core in
+    let now : v.glances ≡ v.glances + 0 = omega arith in let all : v.all_glances ≡ v.all_glances + 0 = omega arith in record {
+      now = refl;
+      glanced = record {
+        times = 0;
+        few = omega arith;
+        now = λ i. (knowing m.0 (record v { glances = now i; all_glances = all i }), m.1);
+      };
+    }
 
-pub waits_still : (m m' : Sat) → HasGlanced m m' → m.0.part.core.waits ≡ 0 → m'.0.part.core.waits ≡ 0
-waits_still m m' g e = ap (λ (w : Sat). w.0.part.core.waits) g.now ∙ e
+pub stayed_further : (s u s' : Standing) → HasStayedAway s u → HasStayedAway u s' → (view_in s').glances ≤ 16 → HasStayedAway s s'
+stayed_further s u s' a b few = record {
+  now = b.now ∙ ap (λ (x : Standing). let y : Standing = record x { me = s'.me } in y) a.now;
+  glanced = glanced_further s.me u.me s'.me a.glanced.times a.glanced.now b.glanced few;
+}
+
+pub stayed_at : (b : Board) (s s' : Standing) → IsAt b s → HasStayedAway s s' → IsAt b s'
+stayed_at b s s' at a = record {
+  home = ap (λ (x : Standing). x.home) a.now ∙ at.home;
+  size = ap (λ (m : Sat). length m.0.held) a.glanced.now ∙ at.size;
+}
+
+-- one spin read
+pub stayed_once : (s s' : Standing) → s' ≡ record s { me = (glancing s.me.0, s.me.1) } → HasStayedAway s s'
+stayed_once s s' is = subst (HasStayedAway s) (sym is) (record { now = refl; glanced = record { times = 1; few = omega arith; now = refl } })
+
+-- one more, by a seat that has some left
+pub stayed_more : (first s u : Standing) (stay : Stay) → HasStayedAway first s → MayGlanceOn stay (view_in s)
+    → u ≡ record s { me = (glancing s.me.0, s.me.1) } → HasStayedAway first u
+stayed_more first s u stay stayed may is = let more = ap (λ (x : Standing). (view_in x).glances) is in
+    stayed_further first s u stayed (stayed_once s u is) (omega (arith, more, may.few, may.one))
+
+-- so it may still wait for the lock
+pub still_waits : (b : Board) (n : ℕ) (s s' : Standing) → MayWait b n s → HasStayedAway s s'
+    → MayGoIn b n s' × ((view_in s').waits ≡ 0) × OwnsNodes s'
+still_waits b n s s' may stayed = subst
+    (λ (m : Sat). let x : Standing = record s' { me = m } in MayGoIn b n x × ((view_in x).waits ≡ 0) × OwnsNodes x)
+    (sym stayed.glanced.now) (
+      record {
+        there = may.there;
+        want = record { lacks = may.want.lacks; base = may.want.base; signs = may.want.signs };
+        outside = may.away.0;
+        place = inl may.away.1;
+      },
+      may.away.1,
+      may.nodes,
+    )

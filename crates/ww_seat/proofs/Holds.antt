@@ -1,5 +1,5 @@
 -- What the calls say of a seat, one after another.
-use Rattle.std.proofs.Common.{ℕ, ◌<◌, false, length, get_or, refl, sym, ap, ◌∙◌, subst}
+use Rattle.std.proofs.Common.{◌≡◌, ℕ, ◌<◌, false, length, get_or, refl, sym, ap, ◌∙◌, subst}
 use Rattle.ww_plain.specs.declared.node.Node.{Node}
 use Rattle.ww_plain.specs.Graph.{IsNodeOf}
 use Rattle.ww_rule.specs.Rule.{Sat}
@@ -7,7 +7,7 @@ use Rattle.ww_seat.specs.declared.look.Look.{Look}
 use Rattle.ww_seat.specs.declared.look.Look.TheVariants.{Locked, Deadlk, Interrupted, Waits}
 use Rattle.ww_seat.specs.Accounts.{Account, having_taken, having_died, having_stopped}
 use Rattle.ww_seat.specs.Calls.{HoldsAsBefore, HasTaken, HasToDie, HasStopped}
-use Rattle.ww_seat.specs.Looks.{IsLook}
+use Rattle.ww_seat.specs.Looks.{CameTo}
 
 pub holds_same : (m : Sat) → HoldsAsBefore m m
 holds_same m = refl
@@ -36,8 +36,16 @@ die_then a b c n k h d = record {
 pub stopped_then : (a b c : Sat) (n by : ℕ) → HoldsAsBefore a b → HasStopped b n by c → HasStopped a n by c
 stopped_then a b c n by h s = record { now = s.now ∙ ap (λ (y : Account). having_stopped y n by) h; unmet = s.unmet }
 
-pub look_then : (size n : ℕ) (a b c : Sat) (look : Look) → HoldsAsBefore a b → IsLook size n b look c → IsLook size n a look c
-look_then size n a b c (Locked x) h l = (l.0, l.1, taken_then a b c n x h l.2)
-look_then size n a b c (Deadlk k) h l = (l.0, l.1, die_then a b c n k h l.2)
-look_then size n a b c (Interrupted by) h l = (l.0, l.1, stopped_then a b c n by h l.2)
-look_then size n a b c Waits h l = (l.0, l.1, holds_then a b c h l.2)
+pub came_then : (n : ℕ) (a b c : Sat) (look : Look) → HoldsAsBefore a b → CameTo n b look c → CameTo n a look c
+came_then n a b c (Locked x) h l = (l.0, taken_then a b c n x h l.1)
+came_then n a b c (Deadlk k) h l = (l.0, die_then a b c n k h l.1)
+came_then n a b c (Interrupted by) h l = (l.0, stopped_then a b c n by h l.1)
+came_then n a b c Waits h l = (l.0, l.1, l.2, holds_then a b c h l.3)
+
+-- it set no cancel
+pub came_cancels : (n : ℕ) (m m' : Sat) (look : Look) → CameTo n m look m'
+    → m'.0.part.counts.cancelled ≡ m.0.part.counts.cancelled
+came_cancels n m m' (Locked x) l = ap (λ (a : Account). a.counts.cancelled) l.1.now
+came_cancels n m m' (Deadlk k) l = ap (λ (a : Account). a.counts.cancelled) l.1.now
+came_cancels n m m' (Interrupted by) l = ap (λ (a : Account). a.counts.cancelled) l.1.now
+came_cancels n m m' Waits l = ap (λ (a : Account). a.counts.cancelled) l.3

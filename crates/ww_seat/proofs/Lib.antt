@@ -11,7 +11,6 @@ pub mod Working
 pub mod Signing
 pub mod There
 pub mod Took
-pub mod Starts
 pub mod Stood
 pub mod Stopped
 pub mod Stepwise
@@ -21,3 +20,5 @@ pub mod Ringing
 pub mod Marking
 pub mod Naps
 pub mod Debts
+pub mod Kept
+pub mod Coming

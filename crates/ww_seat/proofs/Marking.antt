@@ -1,23 +1,14 @@
 -- One mark is set or taken away, and the others stay.
-use Rattle.std.proofs.Common.{◌≡◌, ◌≢◌, ℕ, ◌+◌, ◌-◌, ◌*◌, ◌/◌, ◌%◌, ◌^◌, ◌==◌, ◌<◌, ◌≤◌, ◌⊎◌, ◌↔◌, true, false, List, length, set, get_or, replicate, refl, sym, ap, ◌∙◌, inl, inr, ⊎_elim, arith, bit_or, bit_and, w64, get_or-set_other, get_or-set_same}
-use Rattle.std.proofs.lemmas.Bool.{cases_lt}
-use Rattle.std.proofs.lemmas.List.{get_or-replicate, get_or_past, length-replicate}
-use Rattle.std.proofs.lemmas.Nat.Bits.{bit_at-zero, bit_at_set_same, bit_at_set_other, bit_at_clear_same, bit_at_clear_other}
+use Rattle.std.proofs.Common.{◌≡◌, ◌≢◌, ℕ, ◌-◌, ◌*◌, ◌/◌, ◌%◌, ◌^◌, ◌==◌, ◌<◌, false, List, length, set, get_or, sym, ap, ◌∙◌, arith, bit_or, bit_and, w64, get_or-set_other, get_or-set_same}
+use Rattle.std.proofs.lemmas.Nat.Bits.{bit_at_set_same, bit_at_set_other, bit_at_clear_same, bit_at_clear_other}
 use mathlib.Core.Logic.{dite}
 use native.Mathlib.Decide.{ℕ_discrete}
 use Rattle.ww_model.proofs.Outcomes.{number_same}
-use Rattle.ww_seat.specs.Marks.{is_marked, IsMarked, AreMarked}
+use Rattle.ww_seat.specs.Marks.{is_marked, IsMarked}
 
 -- the bit k of a word
 abbrev bit_at : ℕ → ℕ → ℕ
 bit_at w k = w / 2 ^ k % 2
-
--- words without a mark
-pub none_marked : (n u : ℕ) → is_marked (replicate n 0) u ≡ false
-none_marked n u = ap (λ (w : ℕ). w / 2 ^ (u % 64) % 2 == 1) (elim (cases_lt (u / 64) n) [
-  | inl lt ↦ get_or-replicate n (u / 64) 0 0 lt
-  | inr le ↦ get_or_past (replicate n 0) (u / 64) 0 (omega (arith, le, length-replicate {A = ℕ} n 0))
-]) ∙ ap (λ (b : ℕ). b == 1) (bit_at-zero (u % 64))
 
 -- the word of a seat, and that of another
 here : (marks : List ℕ) (u w : ℕ) → u < 64 * length marks → get_or (set marks (u / 64) w) (u / 64) 0 ≡ w

@@ -13,10 +13,8 @@ use Rattle.ww_table.specs.declared.seat.Taking.TheVariants.{Took, Had, Missed}
 use Rattle.ww_table.specs.declared.seat.Giving.{Giving}
 use Rattle.ww_table.specs.declared.seat.Giving.TheVariants.{Gave, Kept, Lacked}
 use Rattle.ww_seat.specs.Calls.{HasStayedOut}
-use Rattle.ww_seat.specs.Looks.{IfEnded, IfLost, IsNap, StaysAwake}
-use Rattle.ww_seat.specs.Work.{IsTouched, IsTold, HasNoted}
-use Rattle.ww_seat.specs.declared.look.Attempt.{Attempt}
-use Rattle.ww_seat.specs.declared.look.Attempt.TheVariants.{Lost, Ended}
+use Rattle.ww_seat.specs.Looks.{IsNap, StaysAwake}
+use Rattle.ww_seat.specs.Work.{HasNoted}
 use Rattle.ww_seat.specs.declared.look.Look.{Look}
 use Rattle.ww_seat.specs.declared.look.Look.TheVariants.{Locked, Deadlk, Interrupted, Waits}
 
@@ -30,14 +28,8 @@ awake_then u v w a b = record { naps = b.naps ∙ a.naps; deaf = b.deaf ∙ a.de
 pub awake_by : (m m' : Sat) (w : Sight) → m'.0 ≡ w → StaysAwake m.0.part.core w.part.core → StaysAwake m.0.part.core m'.0.part.core
 awake_by m m' w view a = subst (λ (z : Sight). StaysAwake m.0.part.core z.part.core) (sym view) a
 
-pub awake_touched : (size : ℕ) (m m' : Sat) → IsTouched size m m' → StaysAwake m.0.part.core m'.0.part.core
-awake_touched size m m' t = awake_by m m' _ t.view (record { naps = refl; deaf = refl })
-
 pub awake_noted : (size : ℕ) (owed : List (ℕ × ℕ)) (m m' : Sat) → HasNoted size owed m m' → StaysAwake m.0.part.core m'.0.part.core
 awake_noted size owed m m' h = awake_by m m' _ h.view (record { naps = refl; deaf = refl })
-
-pub awake_told : (size : ℕ) (m m' : Sat) → IsTold size m m' → StaysAwake m.0.part.core m'.0.part.core
-awake_told size m m' t = awake_by m m' _ t.view (record { naps = refl; deaf = refl })
 
 pub awake_looked : (m m' : Sat) (o : Owner) → m' ≡ (looking m.0 o, m.1) → StaysAwake m.0.part.core m'.0.part.core
 awake_looked m m' o is = awake_by m m' _ (ap (λ (z : Sat). z.0) is) (record { naps = refl; deaf = refl })
@@ -63,15 +55,6 @@ nap_then u v w (Locked x) a n = awake_then u v w a n
 nap_then u v w (Deadlk k) a n = awake_then u v w a n
 nap_then u v w (Interrupted by) a n = awake_then u v w a n
 nap_then u v w Waits a n = (n.0 ∙ ap (λ (k : ℕ). k + 1) a.naps, λ found. n.1 found ∙ a.deaf)
-
-pub nap_later : (u v w : View) (a : Attempt) → StaysAwake u v → IfEnded a (λ look. IsNap v look w)
-    → IfEnded a (λ look. IsNap u look w)
-nap_later u v w Lost awake n = tt
-nap_later u v w (Ended look) awake n = nap_then u v w look awake n
-
-pub awake_later : (u v w : View) (a : Attempt) → StaysAwake u v → IfLost a (StaysAwake v w) → IfLost a (StaysAwake u w)
-awake_later u v w Lost awake n = awake_then u v w awake n
-awake_later u v w (Ended look) awake n = tt
 
 -- it went inside no guard, by what its view is then
 pub out_by : (m m' : Sat) (w : Sight) → m'.0 ≡ w → HasStayedOut m.0.part.core w.part.core → HasStayedOut m.0.part.core m'.0.part.core

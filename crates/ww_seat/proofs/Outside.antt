@@ -162,7 +162,7 @@ orderly_named size m m' was slots owned inside list heeded long named = record {
 
 -- ---- what the steps ask
 
-high_list : (n : ℕ) → 64 ≤ n → (k : ℕ) × (n ≡ list_at k)
+pub high_list : (n : ℕ) → 64 ≤ n → (k : ℕ) × (n ≡ list_at k)
 high_list n high = (n - 64, omega arith)
 
 -- outside every guard at most all nodes are out

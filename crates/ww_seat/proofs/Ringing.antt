@@ -1,21 +1,14 @@
 -- Whose bells ring.
-use Rattle.std.proofs.Common.{◌≡◌, ℕ, Bool, true, false, true≢false, List, length, replicate, Option, Some, None, inl, inr, refl, sym, ap, ◌∙◌, arith}
+use Rattle.std.proofs.Common.{◌≡◌, ℕ, Bool, true, false, List, length, Option, Some, None, inl, inr, refl, sym, ap, ◌∙◌, arith}
 use Rattle.std.proofs.lemmas.Bool.{cases_lt}
-use Rattle.std.proofs.lemmas.List.{get_or-replicate, get_or_past, length-replicate}
 use Rattle.std.proofs.lemmas.Option.{slice_get_past}
-use Rattle.std.specs.List.{slice_index_or}
 use Rattle.std.specs.Option.{option_map}
 use Rattle.ww_view.specs.declared.view.View.{View}
 use Rattle.ww_seat.specs.declared.bell.Bell.{Bell}
-use Rattle.ww_seat.specs.Bells.{rung, rung_at, one_more, ArePlacedAlike, AreRung, OnlyRing, SleepsNot}
+use Rattle.ww_seat.specs.Bells.{rung, rung_at, one_more, ArePlacedAlike, AreRung, HaveRung, OnlyRing, SleepsNot}
 use Rattle.ww_seat.specs.declared.patience.Patience.{Patience}
 use Rattle.ww_seat.specs.Marks.{is_marked, IsMarked}
-use Rattle.ww_seat.specs.Work.{AreOnlyWoken}
-use Rattle.ww_seat.proofs.Marking.{none_marked}
-
--- nobody has a mark at first
-pub only_new : (v : View) (marks : List ℕ) → marks ≡ replicate 1 0 → AreOnlyWoken v marks
-only_new v marks is u mark = absurd (true≢false (sym mark ∙ ap (λ (l : List ℕ). is_marked l u) is ∙ none_marked 1 u))
+use Rattle.ww_seat.specs.Work.{AreWoken}
 
 -- a bell without a mark gave no token
 pub only_ring : (these : ℕ → Type 0) (marks : List ℕ) (bells bells' : List Bell)
@@ -34,3 +27,9 @@ only_ring these marks bells bells' only rang alike u others = elim (cases_lt u (
 -- who waits with it doesn't sleep, and doesn't sleep again
 pub slept_not : (p q r : Patience) → SleepsNot p q → SleepsNot q r → SleepsNot p r
 slept_not p q r a b = record { parker = b.parker ∙ a.parker; heard = b.heard ∙ a.heard }
+
+-- each seat that has to be woken has a mark, and the bell of each that has one gave a token
+pub woken_ring : (v : View) (marks : List ℕ) (bells bells' : List Bell) → AreWoken v marks → AreRung marks bells bells'
+    → HaveRung v bells bells'
+woken_ring v marks bells bells' woken rang u condemned other low = rang u low
+    ∙ ap (λ (b : Bool). option_map (one_more b) (rung_at bells u)) (woken u (condemned, other))

@@ -24,7 +24,7 @@ use Rattle.ww_rule.specs.Guards.{AreSeats}
 use Rattle.ww_rule.specs.Signs.{condemning, noting, reading, finding_none}
 use Rattle.ww_rule.specs.Waiting.{HasListOnTop}
 use Rattle.ww_seat.specs.Orderly.{IsOrderly}
-use Rattle.ww_seat.specs.Work.{touched, signing, debts_with, HasBooked, AreOwed, AreMarked, HasToWake, IsTold, IsTouched, IsWorking, SeesOther, HasNoted, MayStay}
+use Rattle.ww_seat.specs.Work.{signing, debts_with, HasBooked, AreOwed, AreMarked, HasToWake, IsTold, IsWorking, SeesOther, HasNoted, MayStay}
 use Rattle.ww_seat.proofs.Outside.{orderly_knowing, owned_low}
 use Rattle.ww_seat.proofs.Working.{touched_read}
 

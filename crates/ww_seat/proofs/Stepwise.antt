@@ -1,15 +1,21 @@
 -- A step that found another inside, or that went inside.
-use Rattle.std.proofs.Common.{◌≡◌, ℕ, ◌+◌, ◌==◌, not, ◌∷◌, List, refl, sym, ap, subst}
+use Rattle.std.proofs.Common.{◌≡◌, ℕ, ◌+◌, ◌==◌, not, ◌∷◌, List, Bool, true, false, length, refl, sym, ap, subst, ◌∙◌}
 use Rattle.ww_queue.specs.declared.entry.Entry.{Entry}
-use Rattle.ww_view.specs.View.{IsAway}
+use Rattle.ww_view.specs.View.{owns, IsAway}
 use Rattle.ww_rule.specs.declared.cells.Cell.TheVariants.{Line}
 use Rattle.ww_rule.specs.Rule.{Sat}
 use Rattle.ww_rule.specs.Guards.{AreSeats, StandsAs, shutting_out, entering}
 use Rattle.ww_seat.specs.Orderly.{IsOrderly}
 use Rattle.ww_seat.specs.Calls.{HoldsAsBefore}
+use Rattle.ww_seat.specs.Guards.{IsGiving}
 use Rattle.ww_seat.specs.Looks.{IsOutside}
 use Rattle.ww_seat.specs.Work.{IsAtWork}
-use Rattle.ww_seat.proofs.Gives.{still_entered}
+use Rattle.ww_table.specs.declared.board.Board.{Board}
+use Rattle.ww_table.specs.declared.seat.Seat16.{Seat16}
+use Rattle.ww_table.specs.Seat.{IsSeatOf, size_of, view_of}
+use Rattle.ww_seat.specs.Standings.{Standing, standing_of, view_in, IsAt, IsKept, IsGivingThere, MayGoIn, HasGoneIn, WasShutOut, IsGoneIn, IsGoneInToGive}
+use Rattle.ww_seat.proofs.Kept.{same_seat, orderly_at}
+use Rattle.ww_seat.proofs.Gives.{entered_giving, still_entered}
 use Rattle.ww_seat.proofs.Guards.{HasEntered, entering_orderly}
 use Rattle.ww_seat.proofs.Outside.{orderly_knowing}
 use Rattle.ww_seat.proofs.Waitings.{entered_inside, entered_later}
@@ -17,23 +23,6 @@ use Rattle.ww_seat.proofs.Working.{work_inside}
 
 pub orderly_shut : (size : ℕ) (m m' : Sat) → IsOrderly size m → m' ≡ (shutting_out m.0, m.1) → IsOrderly size m'
 orderly_shut size m m' o is = orderly_knowing size m m' (shutting_out m.0).part.core o is refl refl refl refl
-
-pub away_shut : (m m' : Sat) → IsAway m.0.part.core → m' ≡ (shutting_out m.0, m.1) → IsAway m'.0.part.core
-away_shut m m' away is = subst (λ (x : Sat). IsAway x.0.part.core) (sym is) (away.0, away.1)
-
-pub waits_shut : (m m' : Sat) → m' ≡ (shutting_out m.0, m.1) → m'.0.part.core.waits ≡ m.0.part.core.waits
-waits_shut m m' is = ap (λ (x : Sat). x.0.part.core.waits) is
-
-pub outside_shut : (size n : ℕ) (m m' : Sat) → IsOutside size n m → m' ≡ (shutting_out m.0, m.1) → IsOutside size n m'
-outside_shut size n m m' o is = subst (IsOutside size n) (sym is) (record {
-  orderly = orderly_shut size m (shutting_out m.0, m.1) o.orderly refl;
-  want = record { lacks = o.want.lacks; base = o.want.base; signs = o.want.signs };
-  outside = o.outside;
-  place = o.place;
-})
-
-pub still_shut : (m m' : Sat) → m' ≡ (shutting_out m.0, m.1) → HoldsAsBefore m m'
-still_shut m m' is = subst (HoldsAsBefore m) (sym is) refl
 
 pub has_entered : (m m' : Sat) (n : ℕ) (q : List Entry) → AreSeats m.0.part.core.seats q → StandsAs m.0.part.core n q
     → m' ≡ (entering m.0 n q, (64 + n, Line q) ∷ m.1) → HasEntered m n m'
@@ -49,3 +38,99 @@ now_at_work size n m m' q out seats stands is =
     (entered_inside size n m m' out e (entering_orderly size m m' n q out.orderly out.outside is))
     (sym (entered_later n m m' e)) in
     record { orderly = w.orderly; working = w.working; holds = s }
+
+-- ---- of a seat as its caller has it
+
+-- outside the guard of a lock that it wants
+pub outside_of : (b : Board) (n : ℕ) (q : Seat16) (s : Standing) → standing_of q ≡ s → IsKept q → MayGoIn b n s
+    → IsOutside (length q.seat.me.0.held) n q.seat.me
+outside_of b n q s is k may = subst (λ (x : Standing). MayGoIn b n x → IsOutside (length q.seat.me.0.held) n q.seat.me) is
+    (λ may. record { orderly = k.orderly; want = may.want; outside = may.outside; place = may.place }) may
+
+-- what one try to go inside a guard made of it
+pub record HasTriedToEnter (b : Board) (n : ℕ) (r : Bool) (q q' : Seat16) : Type 0 where
+  pub seated : IsSeatOf b q
+  pub seat : IsSeatOf b q'
+  pub records : q'.records ≡ q.records
+  pub entered : r ≡ true → (list : List Entry) × AreSeats (view_of q).seats list × StandsAs (view_of q) n list
+      × (q'.seat.me ≡ (entering q.seat.me.0 n list, (64 + n, Line list) ∷ q.seat.me.1))
+  pub lost : r ≡ false → q'.seat.me ≡ (shutting_out q.seat.me.0, q.seat.me.1)
+
+entered_by : (size n : ℕ) (q q' : Seat16) (b : Board) (list : List Entry) → HasTriedToEnter b n true q q' → IsOrderly size q.seat.me
+    → IsOrderly size q'.seat.me → HoldsAsBefore q.seat.me q'.seat.me
+    → q'.seat.me ≡ (entering q.seat.me.0 n list, (64 + n, Line list) ∷ q.seat.me.1)
+    → HasGoneIn (standing_of q) (standing_of q')
+entered_by size n q q' b list t o o' holds is = record {
+  same = same_seat b.table.shared.table_id size q q' t.seated t.seat t.records o o';
+  holds = holds;
+  debts = ap (λ (m : Sat). m.0.part.core.debts) is;
+  awake = record { naps = ap (λ (m : Sat). m.0.part.core.naps) is; deaf = ap (λ (m : Sat). m.0.part.core.deaf) is };
+}
+
+shut_by : (size n : ℕ) (q q' : Seat16) (b : Board) → HasTriedToEnter b n false q q' → IsOrderly size q.seat.me
+    → IsOrderly size q'.seat.me × WasShutOut (standing_of q) (standing_of q')
+shut_by size n q q' b t o = let is = t.lost refl in let o' = orderly_shut size q.seat.me q'.seat.me o is in (
+  o',
+  (same_seat b.table.shared.table_id size q q' t.seated t.seat t.records o o').now
+      ∙ ap (λ (m : Sat). let s : Standing = record (standing_of q) { me = m } in s) is,
+)
+
+pub gone_in : (size n : ℕ) (r : Bool) (q q' : Seat16) (b : Board) → HasTriedToEnter b n r q q' → IsOutside size n q.seat.me
+    → IsOrderly size q'.seat.me × IsGoneIn (standing_of q) n r (standing_of q')
+gone_in size n true q q' b t out = let e = t.entered refl in
+    let w = now_at_work size n q.seat.me q'.seat.me e.0 out e.1 e.2 e.3 in (
+      w.orderly,
+      (
+        record {
+          gone = entered_by size n q q' b e.0 t out.orderly w.orderly w.holds e.3;
+          condemned = ap (λ (m : Sat). m.0.part.core.condemned) e.3;
+          working = w.working;
+        },
+        ap (λ (m : Sat). m.0.part.core.attempts) e.3,
+      ),
+    )
+gone_in size n false q q' b t out = shut_by size n q q' b t out.orderly
+
+pub gone_in_to_give : (size n : ℕ) (r : Bool) (q q' : Seat16) (b : Board) → HasTriedToEnter b n r q q' → IsOrderly size q.seat.me
+    → IsAway (view_of q) → owns (view_of q) n ≡ true
+    → IsOrderly size q'.seat.me × IsGoneInToGive (standing_of q) n r (standing_of q')
+gone_in_to_give size n true q q' b t o away own = let e = t.entered refl in
+    let was = has_entered q.seat.me q'.seat.me n e.0 e.1 e.2 e.3 in
+    let g = entered_giving size q.seat.me q'.seat.me n was (entering_orderly size q.seat.me q'.seat.me n e.0 o away.0 e.3) away.1 own in (
+      g.orderly,
+      (
+        entered_by size n q q' b e.0 t o g.orderly (still_entered q.seat.me q'.seat.me n was) e.3,
+        record { inside = g.inside; waits = g.waits; owner = g.owner; seats = g.seats; unsigned = g.unsigned },
+        ap (λ (m : Sat). m.0.part.core.attempts) e.3,
+      ),
+    )
+gone_in_to_give size n false q q' b t o away own = shut_by size n q q' b t o
+
+-- another was inside, so it is where it was
+pub shut_stays : (b : Board) (n : ℕ) (first s s' : Standing) → IsAt b s → MayGoIn b n s → HasGoneIn first s
+    → (view_in s).waits ≡ (view_in first).waits → WasShutOut s s'
+    → IsAt b s' × MayGoIn b n s' × HasGoneIn first s' × ((view_in s').waits ≡ (view_in first).waits)
+shut_stays b n first s s' at may gone waits is = subst
+    (λ (x : Standing). IsAt b x × MayGoIn b n x × HasGoneIn first x × ((view_in x).waits ≡ (view_in first).waits)) (sym is) (
+      record { home = at.home; size = at.size },
+      record { there = may.there; want = record { lacks = may.want.lacks; base = may.want.base; signs = may.want.signs }; outside = may.outside; place = may.place },
+      record {
+        same = record { now = ap (λ (x : Standing). let y : Standing = record x { me = (shutting_out s.me.0, s.me.1) } in y) gone.same.now; size = gone.same.size };
+        holds = gone.holds;
+        debts = gone.debts;
+        awake = record { naps = gone.awake.naps; deaf = gone.awake.deaf };
+      },
+      waits,
+    )
+
+-- inside, as the owner that releases the lock
+pub giving_of : (b : Board) (n : ℕ) (q : Seat16) (s : Standing) → standing_of q ≡ s → IsKept q → IsAt b s
+    → IsGivingThere n (view_in s) → IsGiving (size_of b) n q.seat.me
+giving_of b n q s is k at giving = let g = subst (λ (x : Standing). IsGivingThere n (view_in x)) (sym is) giving in record {
+  orderly = orderly_at b q s is k at;
+  inside = g.inside;
+  waits = g.waits;
+  owner = g.owner;
+  seats = g.seats;
+  unsigned = g.unsigned;
+}

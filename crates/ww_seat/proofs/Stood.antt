@@ -1,5 +1,5 @@
 -- A seat in the wait list: it joins, asks, stays or backs off.
-use Rattle.std.proofs.Common.{◌≡◌, ◌≢◌, inl, inr, ⊎_elim, ℕ, suc, ◌+◌, ◌<◌, ◌^◌, Bool, true, false, true≢false, List, [], ◌∷◌, slice_get, refl, sym, ap, ◌∙◌, subst, arith, Option, Some, None}
+use Rattle.std.proofs.Common.{◌≡◌, ◌≢◌, inl, inr, ⊎_elim, ℕ, suc, ◌+◌, ◌<◌, Bool, true, false, true≢false, List, [], ◌∷◌, slice_get, refl, sym, ap, ◌∙◌, subst, arith, Option, Some, None}
 use Rattle.ww_word.specs.declared.owner.Owner.{Owner}
 use Rattle.ww_word.specs.Owner.{with_waiters}
 use Rattle.ww_word.specs.AnySeats.{Fits, IsValid, IsSeating}
@@ -14,7 +14,7 @@ use Rattle.ww_model.specs.Snapshot.{IsFirst}
 use Rattle.ww_view.specs.declared.view.Met.{Met}
 use Rattle.ww_view.specs.declared.view.View.{View}
 use Rattle.ww_view.specs.Word.{asked_word, rest_word}
-use Rattle.ww_view.specs.May.{MayJoin, MayAsk, MayDie, WantsSigns, NothingToAsk, IsShownBy}
+use Rattle.ww_view.specs.May.{MayAsk, MayDie, WantsSigns, NothingToAsk, IsShownBy}
 use Rattle.ww_view.specs.Made.{entry_of_view, queued, died, exited, once_outside}
 use Rattle.ww_view.proofs.Deaths.{die_shows, die_notes}
 use Rattle.ww_rule.specs.declared.cells.Cell.{Cell}
@@ -28,27 +28,15 @@ use Rattle.ww_rule.specs.Waiting.{HasListOnTop, joining, asking, dying}
 use Rattle.ww_seat.specs.Orderly.{IsOrderly}
 use Rattle.ww_seat.specs.Accounts.{account_of}
 use Rattle.ww_seat.specs.Calls.{HoldsAsBefore, HasToDie}
-use Rattle.ww_seat.specs.Looks.{MayWant, IsOutside, IsLook, IfEnded, IfLost}
+use Rattle.ww_seat.specs.Looks.{MayWant, IsLook}
 use Rattle.ww_seat.specs.Work.{signing, told, IsTouched, IsTold, IsPlaced, IsWorking, IsAtWork, SeesOther, HasStood, HasAsked, HasSigned, MayGo, MayStay}
-use Rattle.ww_seat.specs.declared.look.Attempt.{Attempt}
-use Rattle.ww_seat.specs.declared.look.Attempt.TheVariants.{Lost, Ended}
-use Rattle.ww_seat.specs.declared.look.Look.TheVariants.{Deadlk}
+use Rattle.ww_seat.specs.declared.look.Look.TheVariants.{Deadlk, Waits}
 use Rattle.ww_seat.proofs.Guards.{listed_orderly}
 use Rattle.ww_seat.proofs.Outside.{orderly_knowing}
-use Rattle.ww_seat.proofs.Holds.{look_then}
-use Rattle.ww_seat.proofs.Working.{work_same, work_then}
+use Rattle.ww_seat.proofs.Working.{none_condemned, work_then}
 use Rattle.ww_seat.proofs.Signing.{dying_holds, owns_one}
 
 -- ---- it joins
-
-pub may_join : (n : ℕ) (l : Bool) (v : View) (o : Owner) → IsWorking n false l v → SeesOther o v → MayJoin v n o
-may_join n l v o w sees = record {
-  inside = w.inside;
-  not_waiting = w.place.0;
-  base = w.want.base;
-  signs = w.want.signs;
-  other = sees.other;
-}
 
 joined_seats : (n : ℕ) (q : List Entry) (e : Entry) → AreSeats n q → e.seat < n → Fits e.seat e.stamp → AreSeats n (joined q e)
 joined_seats n q e seats few small f h =
@@ -85,14 +73,7 @@ has_stood size n m m1 o p stands ord off inside few small sees got is valid = re
       (subst (λ (z : Sat). SeesOther (with_waiters o) z.0.part.core) (sym got.2)
       (record { seen = refl; valid = subst IsValid is valid; there = sees.there; other = sees.other }));
   flags = λ on. absurd (true≢false (sym on ∙ off));
-}
-
-pub stood_already : (size n : ℕ) (m : Sat) (o : Owner) (stands : Bool) → IsOrderly size m → stands ≡ true
-    → SeesOther o m.0.part.core → HasStood size n stands o m o m
-stood_already size n m o stands ord on sees = record {
-  work = λ l w. work_same size n true l m ord (subst (λ (b : Bool). IsWorking n b l m.0.part.core) on w);
-  sees = sees;
-  flags = λ _. refl;
+  idle = none_condemned m m1 (joining m.0 n o) (ap (λ (z : Sat). z.0) got.2) refl refl refl;
 }
 
 pub work_stood : (size n : ℕ) (before : Sat) (stands again : Bool) (m m' : Sat) (o p : Owner)
@@ -212,7 +193,7 @@ look_died size n l m m1 m2 o k w may older is out ord =
             (shown_outside m.0.part.core.kind m.0.part.core.sign m.0.part.core.list m.0.part.core.who o k
             (die_shows m.0.part.core n o k may));
       };
-    } in (ord, (ap (λ (z : Sight). z.part.core.inside) view, ap (λ (z : Sight). z.part.core.waits) view), met)
+    } in (ord, ((ap (λ (z : Sight). z.part.core.inside) view, ap (λ (z : Sight). z.part.core.waits) view), met))
 
 -- ---- it stays
 
@@ -222,17 +203,16 @@ wants_outside WoundWait v is wants = ⊎_elim (λ z. inl z)
 wants_outside WaitDie v is wants = inr (inr (inr is))
 
 pub stays_outside : (size n : ℕ) (l : Bool) (m m' : Sat) → IsWorking n true l m.0.part.core → m'.0 ≡ exiting m.0
-    → IsOrderly size m' → IsOutside size n m' × (m'.0.part.core.waits ≡ suc n) × HoldsAsBefore m m'
+    → IsOrderly size m' → IsLook size n m Waits m'
 stays_outside size n l m m' w out ord = let v : View = m.0.part.core in (
-  record {
-    orderly = ord;
-    want = subst (λ (z : Sight). MayWant n z.part.core) (sym out)
-        (record { lacks = w.want.lacks; base = w.want.base; signs = wants_outside v.kind v refl w.want.signs });
-    outside = ap (λ (z : Sight). z.part.core.inside) out;
-    place = inr (ap (λ (z : Sight). z.part.core.waits) out ∙ w.place.0);
-  },
-  ap (λ (z : Sight). z.part.core.waits) out ∙ w.place.0,
-  subst (λ (z : Sight). HoldsAsBefore m (z, m'.1)) (sym out) refl,
+  ord,
+  (
+    subst (λ (z : Sight). MayWant n z.part.core) (sym out)
+        (record { lacks = w.want.lacks; base = w.want.base; signs = wants_outside v.kind v refl w.want.signs }),
+    ap (λ (z : Sight). z.part.core.inside) out,
+    ap (λ (z : Sight). z.part.core.waits) out ∙ w.place.0,
+    subst (λ (z : Sight). HoldsAsBefore m (z, m'.1)) (sym out) refl,
+  ),
 )
 
 -- who found nothing to ask for, signed all that it owes and doesn't have to die may go: m1 once it asked, m2 once it signed
@@ -263,17 +243,6 @@ flags_later n stands again v o p w flags same later =
     let some : v.list ≢ [] = λ e. let none : entry_of v.list v.who ≡ None =
     ap (λ (q : List Entry). entry_of q v.who) e in let is = place.1 in absurd cc in
     subst (λ (x : Owner). x.flags ≢ 0) (sym (same on)) (flags some)
-
-pub look_later : (size n : ℕ) (before m m' : Sat) (a : Attempt) → HoldsAsBefore before m
-    → IfEnded a (λ look. IsLook size n m look m') → IfEnded a (λ look. IsLook size n before look m')
-look_later size n before m m' Lost h l = tt
-look_later size n before m m' (Ended look) h l = look_then size n before m m' look h l
-
-pub work_later : (size n : ℕ) (before : Sat) (stands again : Bool) (m m' : Sat) (a : Attempt)
-    → IsAtWork size n before stands again m → IfLost a (IsAtWork size n m true again m')
-    → IfLost a (IsAtWork size n before true again m')
-work_later size n before stands again m m' Lost w l = work_then size n before stands true again m m' w l
-work_later size n before stands again m m' (Ended look) w l = tt
 
 pub later_work : (n : ℕ) (again : Bool) (v : View) → again ≡ true → IsWorking n true again v → IsWorking n true true v
 later_work n again v is w = subst (λ (b : Bool). IsWorking n true b v) is w

@@ -1,37 +1,20 @@
 -- A seat that heeds its cancel, and leaves the wait list for it.
-use Rattle.std.proofs.Common.{◌≡◌, ◌≢◌, ℕ, ◌+◌, Bool, true, false, List, ◌∷◌, refl, sym, ap, ◌∙◌, subst, Some, None}
+use Rattle.std.proofs.Common.{◌≡◌, ◌≢◌, ℕ, ◌+◌, Bool, true, List, ◌∷◌, refl, sym, ap, ◌∙◌, subst, None}
 use Rattle.ww_word.specs.declared.owner.Owner.{Owner}
-use Rattle.ww_view.specs.declared.view.View.{View}
 use Rattle.ww_view.specs.Made.{interrupted}
 use Rattle.ww_rule.specs.declared.cells.Cell.{Cell}
 use Rattle.ww_rule.specs.declared.cells.Cell.TheVariants.{Line}
 use Rattle.ww_rule.specs.declared.cells.Sight.{Sight}
 use Rattle.ww_rule.specs.Rule.{Sat}
-use Rattle.ww_rule.specs.Out.{AreOthers, slot_of}
-use Rattle.ww_rule.specs.Cancels.{finding_uncancelled, heeding, stopping}
+use Rattle.ww_rule.specs.Out.{AreOthers}
+use Rattle.ww_rule.specs.Cancels.{heeding, stopping}
 use Rattle.ww_seat.specs.Orderly.{IsOrderly}
 use Rattle.ww_seat.specs.Accounts.{account_of}
-use Rattle.ww_seat.specs.declared.look.Attempt.{Attempt}
-use Rattle.ww_seat.specs.declared.look.Attempt.TheVariants.{Lost, Ended}
-use Rattle.ww_seat.specs.declared.look.Look.TheVariants as look
-use Rattle.ww_seat.specs.declared.waits.Waits.{Waits}
-use Rattle.ww_seat.specs.declared.waits.Waits.TheVariants.{UntilCancelled}
-use Rattle.ww_seat.specs.Looks.{IfEnded, MayWaitSo}
 use Rattle.ww_seat.specs.Work.{IsWorking, IsAtWork, SeesOther, MayGo, GoesOn}
 use Rattle.ww_seat.proofs.Guards.{listed_orderly}
-use Rattle.ww_seat.proofs.Outside.{orderly_knowing}
 use Rattle.ww_seat.proofs.Stood.{gone_goes}
 
 -- ---- no cancel was pending
-
-pub goes_on_none : (size : ℕ) (m m' : Sat) → IsOrderly size m → m' ≡ (finding_uncancelled m.0, m.1) → GoesOn size m m'
-goes_on_none size m m' o is =
-    record {
-      orderly = orderly_knowing size m m' (finding_uncancelled m.0).part.core o is refl refl refl refl;
-      fresh = false;
-      uncancelled = true;
-      view = ap (λ (z : Sat). z.0) is;
-    }
 
 pub goes_on_sees : (size : ℕ) (m m' : Sat) (o : Owner) → GoesOn size m m' → SeesOther o m.0.part.core → SeesOther o m'.0.part.core
 goes_on_sees size m m' o g sees = subst (λ (z : Sight). SeesOther o z.part.core) (sym g.view)
@@ -41,9 +24,6 @@ goes_on_sees size m m' o g sees = subst (λ (z : Sight). SeesOther o z.part.core
 
 module _ (size n mark : ℕ) (l : Bool) (m m1 : Sat) (ord : IsOrderly size m) (w : IsWorking n true l m.0.part.core)
     (is : m1 ≡ (heeding m.0 mark, m.1)) (some : mark ≢ 0) where
-  pub list_there : slot_of m1.1 (64 + n) ≡ Some (Line m1.0.part.core.list)
-  list_there = subst (λ (z : Sat). slot_of z.1 (64 + n) ≡ Some (Line z.0.part.core.list)) (sym is) (ord.list n w.inside)
-
   -- what is out once it left the list
   pub record HasLeft (o : Owner) (m2 : Sat) : Type 0 where
     pub orderly : IsOrderly size m2
@@ -83,12 +63,3 @@ work_goes_on size n before again m m' x g = record {
   });
   holds = ap (λ (z : Sight). account_of (z, m'.1)) g.view ∙ x.holds;
 }
-
--- where it found no cancel before, or need not look, it still has once it comes to waiting
-pub waits_so : (waits : Waits) (found : Bool) (v : View) (a : Attempt) → (waits ≡ UntilCancelled → found ≡ true)
-    → (found ≡ true → IfEnded a (MayWaitSo UntilCancelled v)) → IfEnded a (MayWaitSo waits v)
-waits_so waits found v Lost first then = tt
-waits_so waits found v (Ended look.Waits) first then = λ is. then (first is) refl
-waits_so waits found v (Ended (look.Locked x)) first then = tt
-waits_so waits found v (Ended (look.Deadlk k)) first then = tt
-waits_so waits found v (Ended (look.Interrupted by)) first then = tt

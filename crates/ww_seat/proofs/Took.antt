@@ -198,13 +198,6 @@ out_view size n m m2 m3 m4 x owed t h out = out
     ∙ ap exiting (h.view ∙ ap (λ (z : Sight). knowing z
     (signing z.part.core h.signed h.condemned h.debts h.fresh)) t.view)
 
--- the seat owns it then
-pub own_out : (size n : ℕ) (m m2 m3 m4 : Sat) (x : Node) (owed : List (ℕ × ℕ)) → IsOrderly size m
-    → HasTakenInside size n m x m2 → HasNoted size owed m2 m3 → m4.0 ≡ exiting m3.0 → n < size
-    → owns m4.0.part.core n ≡ true
-own_out size n m m2 m3 m4 x owed o t h out low = let long = o.owned in
-    ap (λ (z : Sight). owns z.part.core n) (out_view size n m m2 m3 m4 x owed t h out) ∙ owns_here m.0.part.core.owned n true (omega arith)
-
 -- a lock that guards no node comes with none
 pub is_taken_bare : (size n : ℕ) (m m1 : Sat) → IsOrderly size m → size ≤ n → m.0.part.core.inside ≡ suc n
     → (got : (others : List (ℕ × Cell)) × AreOthers m.1 (64 + n) (Line m.0.part.core.list) others
@@ -246,7 +239,7 @@ look_taken size n m m2 m3 m4 m5 x r owed o t h out o5 still node blank =
       node = fits.1;
       unmet = refl;
     }) in (
-      (o5, (ap (λ (z : Sight). z.part.core.inside) view, ap (λ (z : Sight). z.part.core.waits) view), took),
+      (o5, ((ap (λ (z : Sight). z.part.core.inside) view, ap (λ (z : Sight). z.part.core.waits) view), took)),
       ap
           (λ (z : Sight). z.part.core.attempts) view,
     )

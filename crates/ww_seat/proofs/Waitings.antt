@@ -1,19 +1,13 @@
 -- A seat waits for a lock.
-use Rattle.std.proofs.Common.{◌≡◌, ℕ, zero, suc, ◌==◌, not, false, refl, sym, ap, subst, ⊎_elim, inl, inr, Option, Some, Result, Ok, Err, IfOk, IfErr}
+use Rattle.std.proofs.Common.{◌≡◌, ℕ, zero, suc, ◌==◌, not, refl, sym, ap, subst, ⊎_elim, inl, inr, Option, Some}
 use Rattle.ww_queue.specs.declared.kind.Kind.{Kind}
 use Rattle.ww_queue.specs.declared.kind.Kind.TheVariants.{WoundWait, WaitDie}
-use Rattle.ww_plain.specs.declared.node.Node.{Node}
-use Rattle.ww_view.specs.View.{owns, IsAway}
-use Rattle.ww_view.specs.May.{MayEnter, WantsBase, WantsSigns}
+use Rattle.ww_view.specs.May.{MayEnter}
 use Rattle.ww_view.specs.Made.{once_inside}
 use Rattle.ww_rule.specs.declared.cells.Sight.{Sight}
 use Rattle.ww_rule.specs.Rule.{Sat}
 use Rattle.ww_seat.specs.Orderly.{IsOrderly}
-use Rattle.ww_seat.specs.declared.waiting.Stop.{Stop}
-use Rattle.ww_seat.specs.declared.waiting.Stop.TheVariants.{Deadlk, Interrupted}
-use Rattle.ww_seat.specs.Calls.{HoldsAsBefore, HasTaken, IsTurnedAway}
 use Rattle.ww_seat.specs.Looks.{IsOutside}
-use Rattle.ww_seat.proofs.Holds.{taken_then, die_then, stopped_then}
 use Rattle.ww_seat.proofs.Guards.{HasEntered}
 use Rattle.ww_seat.proofs.Working.{IsInside}
 
@@ -53,27 +47,3 @@ entered_inside size n m m' out e o = subst (λ (w : Sight). IsOrderly size (w, m
 
 pub entered_later : (n : ℕ) (m m' : Sat) → HasEntered m n m' → m'.0.part.core.later ≡ not (m.0.part.core.waits == 0)
 entered_later n m m' e = ap (λ (w : Sight). w.part.core.later) e.view
-
-pub ok_then : (a b c : Sat) (n : ℕ) (r : Result Node Stop) → HoldsAsBefore a b → IfOk r (λ x. HasTaken b n x c)
-    → IfOk r (λ x. HasTaken a n x c)
-ok_then a b c n (Ok x) h t = taken_then a b c n x h t
-ok_then a b c n (Err why) h t = t
-
-turned_then : (a b c : Sat) (n : ℕ) (why : Stop) → HoldsAsBefore a b → IsTurnedAway b n why c → IsTurnedAway a n why c
-turned_then a b c n (Deadlk k) h d = die_then a b c n k h d
-turned_then a b c n (Interrupted by) h s = stopped_then a b c n by h s
-
-pub err_then : (a b c : Sat) (n : ℕ) (r : Result Node Stop) → HoldsAsBefore a b
-    → IfErr r (λ why. IsTurnedAway b n why c) → IfErr r (λ why. IsTurnedAway a n why c)
-err_then a b c n (Ok x) h t = t
-err_then a b c n (Err why) h t = turned_then a b c n why h t
-
--- the first try failed
-pub wanting : (size n : ℕ) (m : Sat) → owns m.0.part.core n ≡ false → WantsBase m.0.part.core
-    → WantsSigns m.0.part.core → IsOrderly size m → IsAway m.0.part.core → IsOutside size n m
-wanting size n m lacks base signs o away = record {
-  orderly = o;
-  want = record { lacks = lacks; base = base; signs = signs };
-  outside = away.0;
-  place = inl away.1;
-}

@@ -1,11 +1,11 @@
 -- What the steps of a seat inside a guard keep of its work there.
-use Rattle.std.proofs.Common.{◌≡◌, ◌≢◌, ◌⊎◌, inl, inr, ⊎_elim, ℕ, zero, suc, ◌+◌, ◌<◌, ◌==◌, Bool, true, false, true≢false, not, eqb, ne_eqb, List, ◌∷◌, refl, sym, ap, ◌∙◌, subst, arith, Option, Some}
+use Rattle.std.proofs.Common.{◌≡◌, ◌⊎◌, inl, inr, ⊎_elim, ℕ, zero, suc, ◌+◌, ◌==◌, Bool, true, false, true≢false, not, eqb, ne_eqb, List, ◌∷◌, refl, sym, ap, ◌∙◌, subst, arith, Option, Some}
 use Rattle.ww_word.specs.declared.owner.Owner.{Owner}
 use Rattle.ww_queue.specs.declared.kind.Kind.{Kind}
 use Rattle.ww_queue.specs.declared.kind.Kind.TheVariants.{WoundWait, WaitDie}
 use Rattle.ww_queue.specs.Queue.{Has, Once, StandsNot, entry_of}
 use Rattle.ww_view.specs.declared.view.View.{View}
-use Rattle.ww_view.specs.May.{WantsSigns, HasPaid, MayLeave, MayClear, LivesBySeen}
+use Rattle.ww_view.specs.May.{WantsSigns, HasPaid, MayLeave}
 use Rattle.ww_view.specs.Made.{once_outside, exited, entry_of_view, has_looked}
 use Rattle.ww_rule.specs.declared.cells.Cell.{Cell}
 use Rattle.ww_rule.specs.declared.cells.Cell.TheVariants.{Line}
@@ -14,12 +14,11 @@ use Rattle.ww_rule.specs.Rule.{Sat}
 use Rattle.ww_rule.specs.Out.{AreOthers}
 use Rattle.ww_rule.specs.Steps.{knowing}
 use Rattle.ww_rule.specs.Guards.{AreSeats, exiting, looking, lost}
-use Rattle.ww_rule.specs.Signs.{reading, clearing}
 use Rattle.ww_rule.specs.Waiting.{HasListOnTop}
 use Rattle.ww_seat.specs.Orderly.{IsOrderly}
 use Rattle.ww_seat.specs.Calls.{HoldsAsBefore}
 use Rattle.ww_seat.specs.Looks.{MayWant}
-use Rattle.ww_seat.specs.Work.{AreWoken, AreOnlyWoken, StillHasToWake, AreMarked, HasToWake, HasBooked, debts_with, HasCondemnedNone, touched, signing, told, IsTouched, IsTold, IsPlaced, IsWorking, IsAtWork, IsCleared, MayGo, HasNoted}
+use Rattle.ww_seat.specs.Work.{AreWoken, StillHasToWake, AreMarked, HasToWake, HasBooked, debts_with, Deeds, deeds_of, HasCondemnedNone, touched, signing, told, IsTouched, IsTold, IsPlaced, IsWorking, IsAtWork, IsCleared, MayGo, HasNoted}
 use Rattle.ww_seat.proofs.Holds.{holds_same, holds_then}
 use Rattle.ww_seat.proofs.Outside.{orderly_knowing, orderly_brought}
 use Rattle.ww_seat.proofs.Guards.{listed_orderly, exiting_orderly}
@@ -40,42 +39,40 @@ holds_told m m' s c e = subst (λ (z : Sight). HoldsAsBefore m (z, m'.1)) (sym e
 -- ---- whom it has to wake
 
 -- it condemned nobody, by what its view is then
-pub none_condemned : (m m' : Sat) (w : Sight) → m'.0 ≡ w → w.part.core.who ≡ m.0.part.core.who
-    → w.part.core.attempts ≡ m.0.part.core.attempts → w.part.core.condemned ≡ m.0.part.core.condemned
-    → w.part.core.debts ≡ m.0.part.core.debts → HasCondemnedNone m m'
-none_condemned m m' w view who attempts condemned debts =
-    record {
-      who = ap (λ (z : Sight). z.part.core.who) view ∙ who;
-      attempts = ap (λ (z : Sight). z.part.core.attempts) view ∙ attempts;
-      condemned = ap (λ (z : Sight). z.part.core.condemned) view ∙ condemned;
-      debts = ap (λ (z : Sight). z.part.core.debts) view ∙ debts;
-    }
+pub none_condemned : (m m' : Sat) (w : Sight) → m'.0 ≡ w → deeds_of w.part.core ≡ deeds_of m.0.part.core
+    → w.part.core.naps ≡ m.0.part.core.naps → w.part.core.deaf ≡ m.0.part.core.deaf → HasCondemnedNone m m'
+none_condemned m m' w view deeds naps deaf = record {
+  deeds = ap (λ (z : Sight). deeds_of z.part.core) view ∙ deeds;
+  awake = record {
+    naps = ap (λ (z : Sight). z.part.core.naps) view ∙ naps;
+    deaf = ap (λ (z : Sight). z.part.core.deaf) view ∙ deaf;
+  };
+}
 
-pub woken_still : (m m' : Sat) (wakes : List ℕ) → HasCondemnedNone m m' → AreWoken m.0.part.core wakes → AreWoken m'.0.part.core wakes
-woken_still m m' wakes none woken u has = woken u (subst (λ (l : List ℕ). Has l u) none.condemned has.0, λ e. has.1 (e ∙ sym none.who))
+pub none_touched : (size : ℕ) (m m' : Sat) → IsTouched size m m' → HasCondemnedNone m m'
+none_touched size m m' t = none_condemned m m' _ t.view refl refl refl
 
-pub woken_touched : (size : ℕ) (m m' : Sat) (wakes : List ℕ) → IsTouched size m m' → AreWoken m.0.part.core wakes
-    → AreWoken m'.0.part.core wakes
-woken_touched size m m' wakes t = woken_still m m' wakes
-    (none_condemned m m' (knowing m.0 (touched m.0.part.core t.seen t.signed m.0.part.core.condemned t.fresh))
-    t.view refl refl refl refl)
+pub none_told : (size : ℕ) (m m' : Sat) → IsTold size m m' → HasCondemnedNone m m'
+none_told size m m' t = none_condemned m m' _ t.view refl refl refl
+
+pub woken_still : (m m' : Sat) (wakes : List ℕ) → deeds_of m'.0.part.core ≡ deeds_of m.0.part.core
+    → AreWoken m.0.part.core wakes → AreWoken m'.0.part.core wakes
+woken_still m m' wakes same woken u has = woken u (
+  subst (λ (d : Deeds). Has d.condemned u) same has.0,
+  λ e. has.1 (e ∙ sym (ap (λ (d : Deeds). d.who) same)),
+)
 
 -- it has nobody to wake that isn't marked yet
 pub marked_none : (m : Sat) (wakes : List ℕ) → AreWoken m.0.part.core wakes → AreMarked wakes (HasToWake m.0.part.core) wakes
 marked_none m wakes woken u = (inl, ⊎_elim (λ was. was) (woken u))
 
 -- nobody was condemned, so whoever had to be woken still has to be
-pub still_none : (m m' : Sat) → HasCondemnedNone m m' → StillHasToWake m.0.part.core m'.0.part.core
-still_none m m' none = record {
-  still = λ u has. (subst (λ (l : List ℕ). Has l u) (sym none.condemned) has.0, λ e. has.1 (e ∙ none.who));
-  booked = λ before is. none.debts ∙ is ∙ sym (ap (λ (w : ℕ). debts_with w m'.0.part.core.condemned before) none.who
-      ∙ ap (λ (l : List ℕ). debts_with m.0.part.core.who l before) none.condemned);
+pub still_none : (m m' : Sat) → deeds_of m'.0.part.core ≡ deeds_of m.0.part.core → StillHasToWake m.0.part.core m'.0.part.core
+still_none m m' same = record {
+  still = λ u has. (subst (λ (d : Deeds). Has d.condemned u) (sym same) has.0, λ e. has.1 (e ∙ ap (λ (d : Deeds). d.who) same));
+  booked = λ before is. ap (λ (d : Deeds). d.debts) same ∙ is
+      ∙ sym (ap (λ (d : Deeds). debts_with d.who d.condemned before) same);
 }
-
-pub still_touched : (size : ℕ) (m m' : Sat) → IsTouched size m m' → StillHasToWake m.0.part.core m'.0.part.core
-still_touched size m m' t = still_none m m'
-    (none_condemned m m' (knowing m.0 (touched m.0.part.core t.seen t.signed m.0.part.core.condemned t.fresh))
-    t.view refl refl refl refl)
 
 pub still_noted : (size : ℕ) (owed : List (ℕ × ℕ)) (m m' : Sat) → HasNoted size owed m m'
     → StillHasToWake m.0.part.core m'.0.part.core
@@ -91,25 +88,9 @@ still_then m m1 m2 x y = record {
   booked = λ before is. y.booked before (x.booked before is);
 }
 
-pub still_later : (size : ℕ) (owed : List (ℕ × ℕ)) (m m1 m2 m3 : Sat) → IsTouched size m m1 → HasNoted size owed m1 m2
-    → HasCondemnedNone m2 m3 → StillHasToWake m.0.part.core m3.0.part.core
-still_later size owed m m1 m2 m3 t h none =
-    still_then m m2 m3 (still_then m m1 m2 (still_touched size m m1 t) (still_noted size owed m1 m2 h)) (still_none m2 m3 none)
-
--- whoever was marked alone is so still
-pub only_marked : (m m' : Sat) (was now : List ℕ) → AreOnlyWoken m.0.part.core was
-    → StillHasToWake m.0.part.core m'.0.part.core → AreMarked was (HasToWake m'.0.part.core) now
-    → AreOnlyWoken m'.0.part.core now
-only_marked m m' was now only still marked u mark = ⊎_elim (λ before. still.still u (only u before)) (λ has. has) ((marked u).0 mark)
-
+-- whoever has to be woken has a mark
 pub woken_marked : (m : Sat) (was now : List ℕ) → AreMarked was (HasToWake m.0.part.core) now → AreWoken m.0.part.core now
 woken_marked m was now marked u has = (marked u).1 (inr has)
-
-pub marked_still : (m m' : Sat) (was now : List ℕ) → HasCondemnedNone m m'
-    → AreMarked was (HasToWake m.0.part.core) now → AreMarked was (HasToWake m'.0.part.core) now
-marked_still m m' was now none marked =
-    subst (λ (l : List ℕ). AreMarked was (λ u. Has l u × (u ≢ m'.0.part.core.who)) now) (sym none.condemned)
-    (subst (λ (w : ℕ). AreMarked was (λ u. Has m.0.part.core.condemned u × (u ≢ w)) now) (sym none.who) marked)
 
 -- ---- its work goes on
 
@@ -222,17 +203,6 @@ work_looked size n stands again m m' o was w is = subst (IsAtWork size n m stand
   holds = refl;
 })
 
-pub look_counts : (m m' : Sat) (o : Owner) → m' ≡ (looking m.0 o, m.1) → m'.0.part.core.attempts ≡ m.0.part.core.attempts + 1
-look_counts m m' o is = ap (λ (z : Sat). z.0.part.core.attempts) is
-
-pub woken_looked : (m m' : Sat) (o : Owner) (wakes : List ℕ) → m' ≡ (looking m.0 o, m.1)
-    → AreWoken m.0.part.core wakes → AreWoken m'.0.part.core wakes
-woken_looked m m' o wakes is woken = subst (λ (z : Sat). AreWoken z.0.part.core wakes) (sym is) woken
-
-pub still_looked : (m m' : Sat) (o : Owner) → m' ≡ (looking m.0 o, m.1) → StillHasToWake m.0.part.core m'.0.part.core
-still_looked m m' o is = subst (λ (z : Sat). StillHasToWake m.0.part.core z.0.part.core) (sym is)
-    (record { still = λ u has. has; booked = λ before e. e })
-
 -- a step that was lost
 pub touched_lost : (size : ℕ) (m m' : Sat) → IsOrderly size m → m' ≡ (lost m.0, m.1) → IsTouched size m m'
 touched_lost size m m' was is = record {
@@ -286,12 +256,6 @@ work_noted size n before stands again owed m m' w h = record {
 
 -- ---- out of the guard
 
-pub may_clear : (m m1 : Sat) (k : ℕ) → m1 ≡ (reading m.0 k, m.1) → 0 < m.0.part.core.stamp
-    → m.0.part.core.kind ≡ WaitDie → (n : ℕ) × (m.0.part.core.inside ≡ suc n) → LivesBySeen m.0.part.core
-    → MayClear m1.0.part.core
-may_clear m m1 k is pos kind at lives =
-    subst (λ (z : Sat). MayClear z.0.part.core) (sym is) (record { context = pos; why = inr (kind, at, lives) })
-
 pub cleared_same : (m : Sat) → (m.0.part.core.kind ≡ WaitDie → m.0.part.core.stamp ≡ 0) → IsCleared m m
 cleared_same m none = record {
   sign = m.0.part.core.sign;
@@ -299,20 +263,6 @@ cleared_same m none = record {
   now = refl;
   same = λ _. (refl, refl);
   unsigned = λ d. inl (none d);
-}
-
-pub cleared_zero : (m m1 : Sat) → m.0.part.core.kind ≡ WaitDie → m1 ≡ (reading m.0 0, m.1) → IsCleared m m1
-cleared_zero m m1 kind is = record { sign = Some 0; fresh = true; now = is; same = λ w. absurd (cc); unsigned = λ _. inr refl }
-
-pub cleared_now : (m m1 m2 : Sat) (k : ℕ) → m.0.part.core.kind ≡ WaitDie → m1 ≡ (reading m.0 k, m.1)
-    → m2 ≡ (clearing m1.0, m1.1) → IsCleared m m2
-cleared_now m m1 m2 k kind is then = record {
-  sign = Some 0;
-  fresh = false;
-  now = then
-      ∙ ap (λ (z : Sat). (clearing z.0, z.1)) is;
-  same = λ w. absurd (cc);
-  unsigned = λ _. inr refl;
 }
 
 paid_told : (v : View) (s : Option ℕ) (c : Bool) → HasPaid v → HasPaid (told v s c)

@@ -1,7 +1,6 @@
 -- Bells: which parker each of them rings, and whom a call wakes.
 use Rattle.std.specs.Prelude.{ℕ, ◌≡◌, ◌≢◌, ◌<◌, ◌+◌, ◌==◌, Bool, true, false, List, [], ◌∷◌, length, map, Option, Some, slice_get}
 use Rattle.std.specs.Arc.{arc_value}
-use Rattle.std.specs.List.{slice_index_or}
 use Rattle.std.specs.Option.{option_map}
 use Rattle.atomic_table.specs.Seated.{TableId}
 use Rattle.ww_queue.specs.Queue.{Has}

@@ -1,5 +1,6 @@
 -- What a commit writes, and a seat in the middle of one.
-use Rattle.std.specs.Prelude.{ℕ, ◌≡◌, false, List, map, Option, Some, IsTrue}
+use Rattle.std.specs.Prelude.{ℕ, ◌≡◌, ◌<◌, true, false, List, map, Option, Some, IsTrue}
+use Rattle.std.specs.List.{AllByRecursion}
 use mathlib.Core.Option.{some}
 use lib.ListN.{get_elem?}
 use Rattle.ww_plain.specs.declared.node.Node.{Node}
@@ -8,7 +9,11 @@ use Rattle.ww_plain.specs.Graph.{node_at}
 use Rattle.ww_plain.specs.Footprint.{footprint_of}
 use Rattle.ww_plain.specs.Transaction.{Transaction}
 use Rattle.ww_plain.specs.Meaning.{graph_after}
+use Rattle.ww_view.specs.View.{owns}
 use Rattle.ww_rule.specs.Rule.{Sat}
+use Rattle.ww_table.specs.declared.board.Board.{Board}
+use Rattle.ww_table.specs.declared.seat.Seat16.{Seat16}
+use Rattle.ww_table.specs.Seat.{size_of, view_of}
 use Rattle.ww_seat.specs.declared.committing.NodeChange.{NodeChange}
 use Rattle.ww_seat.specs.Orderly.{IsOrderly}
 
@@ -30,3 +35,16 @@ pub record IsChanged (size : ℕ) (held : List (Option Node)) (after : List Node
   pub orderly : IsOrderly size (naming m now)
   pub named : (n : ℕ) → IsTrue (is_among n ns) → get_elem? now n ≡ some (Some (node_at after n))
   pub others : (n : ℕ) → is_among n ns ≡ false → get_elem? now n ≡ get_elem? held n
+
+-- These nodes may be changed: each is one that the seat owns, and out are nodes as some view names them.
+pub record MayChange (board : Board) (changes : List NodeChange) (s : Seat16) : Type 0 where
+  pub changes_are : (before : List Node) × (after : List Node) × (ns : List ℕ) × (changes ≡ map (change_at before after) ns)
+  pub out : (held : List (Option Node)) × IsOrderly (size_of board) (naming s.seat.me held)
+  pub owned : AllByRecursion (λ c. (c.number < size_of board) × (owns (view_of s) c.number ≡ true)) changes
+
+-- its view is as it was, and out are the nodes as they are afterwards
+pub record HasChanged (board : Board) (changes : List NodeChange) (s s' : Seat16) : Type 0 where
+  pub view : s'.seat.me.0 ≡ s.seat.me.0
+  pub changed : (held : List (Option Node)) (before after : List Node) (ns : List ℕ)
+      → changes ≡ map (change_at before after) ns → IsOrderly (size_of board) (naming s.seat.me held)
+      → IsChanged (size_of board) held after ns s'.seat.me

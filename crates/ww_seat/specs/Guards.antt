@@ -22,6 +22,7 @@ pub record HasLet (size n : ℕ) (m m' : Sat) : Type 0 where
   pub given : HasGiven m n m'
   pub heir : m'.0.part.core.heir ≡ option_map (λ (e : Entry). e.seat) (slice_get m.0.part.core.list 0)
   pub debts : m'.0.part.core.debts ≡ with_heir m'.0.part.core.heir m.0.part.core.debts
+  pub attempts : m'.0.part.core.attempts ≡ m.0.part.core.attempts
   pub awake : StaysAwake m.0.part.core m'.0.part.core
 
 -- It is inside, as the owner that releases the lock, and waits for none: its sign is then its own to tell.

@@ -6,5 +6,6 @@ pub mod Looks
 pub mod Rests
 pub mod Guards
 pub mod Marks
+pub mod Standings
 pub mod Work
 pub mod Bells

@@ -7,8 +7,6 @@ use Rattle.ww_rule.specs.Rule.{Sat}
 use Rattle.ww_rule.specs.Steps.{knowing}
 use Rattle.ww_seat.specs.Orderly.{IsOrderly}
 use Rattle.ww_seat.specs.Calls.{HoldsAsBefore, HasTaken, HasToDie, HasStopped}
-use Rattle.ww_seat.specs.declared.look.Attempt.{Attempt}
-use Rattle.ww_seat.specs.declared.look.Attempt.TheVariants.{Lost, Ended}
 use Rattle.ww_seat.specs.declared.look.Look.{Look}
 use Rattle.ww_seat.specs.declared.look.Look.TheVariants as look
 use Rattle.ww_seat.specs.declared.waits.Waits.{Waits}
@@ -38,11 +36,15 @@ pub record HasGlanced (m m' : Sat) : Type 0 where
   pub now : m' ≡ having_glanced m times
 
 -- what a look came to, once the seat is outside again
+abbrev pub CameTo : ℕ → Sat → Look → Sat → Type 0
+CameTo n m (look.Locked x) m' = IsAway m'.0.part.core × HasTaken m n x m'
+CameTo n m (look.Deadlk k) m' = IsAway m'.0.part.core × HasToDie m n k m'
+CameTo n m (look.Interrupted by) m' = IsAway m'.0.part.core × HasStopped m n by m'
+CameTo n m look.Waits m' = MayWant n m'.0.part.core × (m'.0.part.core.inside ≡ 0) × (m'.0.part.core.waits ≡ suc n)
+    × HoldsAsBefore m m'
+
 abbrev pub IsLook : ℕ → ℕ → Sat → Look → Sat → Type 0
-IsLook size n m (look.Locked x) m' = IsOrderly size m' × IsAway m'.0.part.core × HasTaken m n x m'
-IsLook size n m (look.Deadlk k) m' = IsOrderly size m' × IsAway m'.0.part.core × HasToDie m n k m'
-IsLook size n m (look.Interrupted by) m' = IsOrderly size m' × IsAway m'.0.part.core × HasStopped m n by m'
-IsLook size n m look.Waits m' = IsOutside size n m' × (m'.0.part.core.waits ≡ suc n) × HoldsAsBefore m m'
+IsLook size n m l m' = IsOrderly size m' × CameTo n m l m'
 
 -- it left no guard as a waiter
 pub record StaysAwake (v v' : View) : Type 0 where
@@ -53,16 +55,6 @@ pub record StaysAwake (v v' : View) : Type 0 where
 abbrev pub IsNap : View → Look → View → Type 0
 IsNap v look.Waits v' = (v'.naps ≡ v.naps + 1) × (v'.uncancelled ≡ true → v'.deaf ≡ v.deaf)
 IsNap v _ v' = StaysAwake v v'
-
--- what is true of the look, if the attempt came to its end
-abbrev pub IfEnded : Attempt → (Look → Type 0) → Type 0
-IfEnded Lost P = Unit {0}
-IfEnded (Ended look) P = P look
-
--- what is true if it was lost
-abbrev pub IfLost : Attempt → Type 0 → Type 0
-IfLost Lost P = P
-IfLost (Ended look) P = Unit {0}
 
 -- only a look of a wait until a cancel comes to an interruption
 abbrev pub MayLookSo : ℕ → Waits → Look → Type 0

@@ -2,16 +2,12 @@
 use Rattle.std.specs.Prelude.{ℕ, suc, ◌≡◌, ◌≢◌, ◌<◌, ◌≤◌, ◌⊎◌, ◌∷◌, [], List, true, false, length, Some, None}
 use mathlib.Core.Option.{some}
 use lib.ListN.{get_elem?}
-use Rattle.atomic_table.specs.Seated.{TableId}
 use Rattle.ww_plain.specs.declared.node.Node.{Node}
-use Rattle.ww_view.specs.View.{owns, IsAway}
+use Rattle.ww_view.specs.View.{owns}
 use Rattle.ww_rule.specs.declared.cells.Cell.{Cell}
 use Rattle.ww_rule.specs.declared.cells.Cell.TheVariants.{Content, Line}
-use Rattle.ww_table.specs.declared.board.Board.{Board}
-use Rattle.ww_table.specs.declared.seat.Seat16.{Seat16}
 use Rattle.ww_rule.specs.Layout.{list_at}
 use Rattle.ww_rule.specs.Rule.{Sat}
-use Rattle.ww_table.specs.Seat.{IsSeated, size_of, view_of}
 use Rattle.ww_rule.specs.Out.{slot_of}
 
 -- no slot is out twice
@@ -32,13 +28,3 @@ pub record IsOrderly (size : ℕ) (m : Sat) : Type 0 where
   pub list : (n : ℕ) → m.0.part.core.inside ≡ suc n → slot_of m.1 (list_at n) ≡ Some (Line m.0.part.core.list)
   pub lists : (n : ℕ) → m.0.part.core.inside ≢ suc n → slot_of m.1 (list_at n) ≡ None
   pub unheeded : m.0.part.core.heeded ≡ 0
-
--- A seat of this table between two calls: inside no guard and in no wait list, with just its nodes out.
-pub record IsSettled (table : TableId) (size : ℕ) (s : Seat16) : Type 0 where
-  pub seated : IsSeated table s
-  pub orderly : IsOrderly size s.seat.me
-  pub away : IsAway (view_of s)
-
--- ... of this board
-abbrev pub IsSettledAt : Board → Seat16 → Type 0
-IsSettledAt board s = IsSettled board.table.shared.table_id (size_of board) s

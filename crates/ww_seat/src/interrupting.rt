@@ -1,43 +1,34 @@
 //! A wait is called off.
-ghost use Rattle.std.specs.Prelude.{◌≡◌, ◌<◌, Bool, true, false, IfSome, IfNone};
-ghost use Rattle.ww_rule.specs.Cancels.{cancelling, finding_pending};
-ghost use Rattle.ww_table.specs.Seat.{IsSeatOf, locks_of, size_of, view_of};
-ghost use Rattle.ww_seat.specs.declared.look.Look.TheVariants.{Interrupted};
-ghost use Rattle.ww_seat.specs.declared.waits.Waits.TheVariants.{UntilCancelled};
-ghost use Rattle.ww_seat.specs.Orderly.{IsOrderly, IsSettledAt};
-ghost use Rattle.ww_seat.specs.Looks.{IsLook, StaysAwake};
-ghost use Rattle.ww_seat.specs.Bells.{AreBellsOf, ArePaid, ArePlacedAlike, IsRung, OnlyRing};
-ghost use Rattle.ww_seat.specs.Work.{HasCondemnedNone, IsWorking, SeesOther, GoesOn};
+ghost use Rattle.std.specs.Prelude.{◌≡◌, ◌<◌, true, false};
+ghost use Rattle.ww_table.specs.Seat.{size_of, view_of};
+ghost use Rattle.ww_seat.specs.Work.{IsSameSeat, IsStop, SeesOther, StandsHere};
 
 use crate::bell::Bell;
 use crate::leaving::leave;
-use crate::turns::cancel_once;
+use crate::seats::Seat;
 use crate::waits::Waits;
 use crate::wake::wake_seat;
 use ww_table::{Board, Seat16};
 use ww_word::wide::Owner;
 
-/// Sets the cancel of a seat and wakes it, so that it looks; false if one is pending already, which stays. A waiter
-/// reads its cancel before it parks: one that is set earlier is heeded in that look, and one that is set later wakes
-/// the seat.
-pub fn cancel(seat: &mut Seat16, board: &Board, victim: u16, bells: &mut [Bell]) -> bool
-    requires settled { IsSettledAt board.now seat.old }
-    requires victim { victim < (view_of seat.old).seats }
-    requires bells { AreBellsOf board.now bells.old }
-    ensures settled { IsSettledAt board.now seat.new }
-    ensures set { result ≡ true → seat.new.seat.me ≡ (cancelling seat.old.seat.me.0 victim, seat.old.seat.me.1) }
-    ensures pending { result ≡ false → seat.new.seat.me ≡ (finding_pending seat.old.seat.me.0, seat.old.seat.me.1) }
-    ensures records { seat.new.records ≡ seat.old.records }
-    ensures rung { result ≡ true → IsRung victim bells.old bells.new }
-    ensures others { OnlyRing (λ u. (result ≡ true) × (u ≡ victim)) bells.old bells.new }
-    ensures placed { ArePlacedAlike bells.old bells.new }
-    ensures paid { ArePaid seat.old.seat.me bells.old → ArePaid seat.new.seat.me bells.new }
-{
-    if !cancel_once(seat, board, victim) {
-        return false;
+impl Seat {
+    ghost use Rattle.ww_seat.specs.Bells.{AreBellsOf};
+    ghost use Rattle.ww_seat.specs.Standings.{IsAt, MayCancel, IsCancel};
+
+    /// Sets the cancel of a seat and wakes it, so that it looks; false if one is pending already, which stays. A waiter
+    /// reads its cancel before it parks: one that is set earlier is heeded in that look, and one that is set later wakes
+    /// the seat.
+    pub fn cancel(&mut self, board: &Board, victim: u16, bells: &mut [Bell]) -> bool
+        requires at { IsAt board.now self.old × AreBellsOf board.now bells.old }
+        requires may { MayCancel board.now victim self.old }
+        ensures { IsCancel self.old victim bells.old result self.new bells.new }
+    {
+        if !self.cancel_once(board, victim) {
+            return false;
+        }
+        wake_seat(victim, bells);
+        true
     }
-    wake_seat(victim, bells);
-    true
 }
 
 /// Leaves the wait list and the guard where a cancel of the seat is pending and its wait is one that a cancel calls off, and tells whose it
@@ -50,20 +41,10 @@ pub(crate) fn stop_if_cancelled(
     seen: Owner,
     waits: Waits,
 ) -> Option<u16>
-    requires seat { IsSeatOf board.now seat.old }
-    requires lock { lock < locks_of board.now }
-    requires orderly { IsOrderly (size_of board.now) seat.old.seat.me }
-    requires work { (l : Bool) × IsWorking lock true l (view_of seat.old) }
+    requires at { StandsHere board.now lock seat.old }
     requires seen { SeesOther seen (view_of seat.old) }
-    ensures seat { IsSeatOf board.now seat.new }
-    ensures records { seat.new.records ≡ seat.old.records }
-    ensures stopped { IfSome result (λ by. IsLook (size_of board.now) lock seat.old.seat.me (Interrupted by) seat.new.seat.me) }
-    ensures waits { IfSome result (λ _. waits ≡ UntilCancelled) }
-    ensures few { IfSome result (λ by. by < board.now.table.shared.key.places) }
-    ensures goes_on { IfNone result (GoesOn (size_of board.now) seat.old.seat.me seat.new.seat.me) }
-    ensures uncancelled { IfNone result (waits ≡ UntilCancelled → (view_of seat.new).uncancelled ≡ true) }
-    ensures condemned { HasCondemnedNone seat.old.seat.me seat.new.seat.me }
-    ensures awake { StaysAwake (view_of seat.old) (view_of seat.new) }
+    ensures same { IsSameSeat board.now seat.old seat.new }
+    ensures stopped { IsStop board.now.table.shared.key.places (size_of board.now) lock waits seat.old.seat.me result seat.new.seat.me }
 {
     match waits {
         Waits::ToTheEnd => return None,

@@ -1,11 +1,8 @@
 //! Out of the guard.
-ghost use Rattle.std.specs.Prelude.{ℕ, suc, ◌≡◌, ◌<◌};
+ghost use Rattle.std.specs.Prelude.{◌≡◌};
 ghost use Rattle.ww_queue.specs.declared.kind.Kind.TheVariants.{WaitDie};
-ghost use Rattle.ww_view.specs.May.{LivesBySeen};
-ghost use Rattle.ww_table.specs.Seat.{IsSeatOf, locks_of, size_of, view_of};
-ghost use Rattle.ww_rule.specs.Guards.{exiting};
-ghost use Rattle.ww_seat.specs.Orderly.{IsOrderly};
-ghost use Rattle.ww_seat.specs.Work.{MayGo, IsCleared};
+ghost use Rattle.ww_table.specs.Seat.{IsSeatOf, size_of, view_of};
+ghost use Rattle.ww_seat.specs.Work.{IsCleared, IsHere, IsOut, IsSameSeat, MayGo, MayTakeSignBack};
 
 use ww_queue::Kind;
 use ww_table::{Board, Seat16};
@@ -13,10 +10,8 @@ use ww_table::{Board, Seat16};
 /// In Wait-Die a context takes its own sign back, where it has one. Inside a guard nobody can sign it again.
 fn take_sign_back(seat: &mut Seat16, board: &Board)
     requires seat { IsSeatOf board.now seat.old }
-    requires inside { (n : ℕ) × ((view_of seat.old).inside ≡ suc n) }
-    requires lives { (view_of seat.old).kind ≡ WaitDie → LivesBySeen (view_of seat.old) }
-    ensures seat { IsSeatOf board.now seat.new }
-    ensures records { seat.new.records ≡ seat.old.records }
+    requires may { MayTakeSignBack (view_of seat.old) }
+    ensures same { IsSameSeat board.now seat.old seat.new }
     ensures cleared { IsCleared seat.old.seat.me seat.new.seat.me }
 {
     match seat.kind() {
@@ -29,10 +24,8 @@ fn take_sign_back(seat: &mut Seat16, board: &Board)
 fn clear_if_signed(seat: &mut Seat16, board: &Board)
     requires seat { IsSeatOf board.now seat.old }
     requires kind { (view_of seat.old).kind ≡ WaitDie }
-    requires inside { (n : ℕ) × ((view_of seat.old).inside ≡ suc n) }
-    requires lives { LivesBySeen (view_of seat.old) }
-    ensures seat { IsSeatOf board.now seat.new }
-    ensures records { seat.new.records ≡ seat.old.records }
+    requires may { MayTakeSignBack (view_of seat.old) }
+    ensures same { IsSameSeat board.now seat.old seat.new }
     ensures cleared { IsCleared seat.old.seat.me seat.new.seat.me }
 {
     if seat.stamp() == 0 {
@@ -46,14 +39,10 @@ fn clear_if_signed(seat: &mut Seat16, board: &Board)
 
 /// Leaves the guard. In Wait-Die the seat takes back its own sign first: whoever condemned it was met.
 pub(crate) fn leave(seat: &mut Seat16, board: &Board, lock: u32)
-    requires seat { IsSeatOf board.now seat.old }
-    requires lock { lock < locks_of board.now }
-    requires orderly { IsOrderly (size_of board.now) seat.old.seat.me }
+    requires at { IsHere board.now lock seat.old }
     requires may { MayGo lock (view_of seat.old) }
-    ensures seat { IsSeatOf board.now seat.new }
-    ensures records { seat.new.records ≡ seat.old.records }
-    ensures orderly { IsOrderly (size_of board.now) seat.new.seat.me }
-    ensures view { seat.new.seat.me.0 ≡ exiting seat.old.seat.me.0 }
+    ensures same { IsSameSeat board.now seat.old seat.new }
+    ensures out { IsOut (size_of board.now) seat.old.seat.me seat.new.seat.me }
 {
     take_sign_back(seat, board);
     seat.exit(board, lock);

@@ -1,17 +1,17 @@
 //! One look at a lock: from just inside its guard to just outside.
-ghost use Rattle.std.specs.Prelude.{ℕ, ◌≡◌, ◌≢◌, ◌<◌, ◌+◌, ◌⊎◌, true, false, Some, None, length, ◌≤◌, ◌*◌, List};
+ghost use Rattle.std.specs.Prelude.{ℕ, ◌≡◌, ◌≢◌, ◌<◌, ◌⊎◌, true, false, Some, None, length, ◌≤◌, ◌*◌, List};
 ghost use Rattle.ww_model.specs.State.{any_below};
 ghost use Rattle.ww_view.specs.View.{owns};
 ghost use Rattle.ww_table.specs.Seat.{IsSeatOf, locks_of, size_of, view_of};
 ghost use Rattle.ww_seat.specs.Orderly.{IsOrderly};
-ghost use Rattle.ww_seat.specs.Looks.{IfEnded, IfLost, IsLook, IsNap, StaysAwake, MayLookSo, MayWaitSo};
-ghost use Rattle.ww_seat.specs.Work.{AreWoken, AreOnlyWoken, HasBooked, StillHasToWake, AreMarked, HasToWake, has_joined, looks_again, IsWorking, IsAtWork};
+ghost use Rattle.ww_seat.specs.Looks.{IsLook, IsNap, MayLookSo, MayWaitSo};
+ghost use Rattle.ww_seat.specs.Standings.{standing_of, HasAttempted, IsAt, IsAtWorkThere, IsKept};
+ghost use Rattle.ww_seat.specs.Work.{AreWoken, AreOnlyWoken, HasBooked, has_joined, looks_again, IsSameSeat, IsWorking};
 
 use crate::interrupting::stop_if_cancelled;
 use crate::standing::{stand, stay_or_back_off};
 use crate::taking::take_inside;
 use crate::waits::Waits;
-use std::sync::Wait;
 use ww_plain::Node;
 use ww_table::{Board, Seat16};
 use ww_word::wide::Owner;
@@ -105,26 +105,10 @@ pub fn look_once(
     holds: bool,
     wake: &mut [u64],
 ) -> Attempt
-    requires holds { any_below (length (view_of seat.old).owned) (owns (view_of seat.old)) ≡ holds }
-    requires seat { IsSeatOf board.now seat.old }
-    requires lock { lock < locks_of board.now }
-    requires orderly { IsOrderly (size_of board.now) seat.old.seat.me }
-    requires work { IsWorking lock (has_joined arrival.old) (looks_again arrival.old) (view_of seat.old) }
-    requires woken { AreWoken (view_of seat.old) wake.old }
-    requires marks { (view_of seat.old).seats ≤ 64 * length wake.old }
-    ensures seat { IsSeatOf board.now seat.new }
-    ensures records { seat.new.records ≡ seat.old.records }
-    ensures look { IfEnded result (λ look. IsLook (size_of board.now) lock seat.old.seat.me look seat.new.seat.me) }
-    ensures waits { IfEnded result (MayLookSo board.now.table.shared.key.places waits) }
-    ensures uncancelled { IfEnded result (MayWaitSo waits (view_of seat.new)) }
-    ensures lost { IfLost result (IsAtWork (size_of board.now) lock seat.old.seat.me (has_joined arrival.new) (looks_again arrival.new) seat.new.seat.me) }
-    ensures again { looks_again arrival.new ≡ looks_again arrival.old }
-    ensures attempted { (view_of seat.new).attempts ≡ (view_of seat.old).attempts + 1 }
-    ensures marked { AreMarked wake.old (HasToWake (view_of seat.new)) wake.new }
-    ensures long { length wake.new ≡ length wake.old }
-    ensures still { StillHasToWake (view_of seat.old) (view_of seat.new) }
-    ensures nap { IfEnded result (λ look. IsNap (view_of seat.old) look (view_of seat.new)) }
-    ensures awake { IfLost result (StaysAwake (view_of seat.old) (view_of seat.new)) }
+    requires at { IsKept seat.old × IsAt board.now (standing_of seat.old) }
+    requires may { IsAtWorkThere board.now lock arrival.old holds wake.old (standing_of seat.old) }
+    ensures same { IsSameSeat board.now seat.old seat.new }
+    ensures came { IsOrderly (size_of board.now) seat.new.seat.me × HasAttempted board.now.table.shared.key.places (standing_of seat.old) lock waits arrival.old wake.old result (standing_of seat.new) arrival.new wake.new }
 {
     let seen = seat.look(board, lock);
     if is_ours(seat, seen) {
@@ -141,45 +125,4 @@ pub fn look_once(
         return Attempt::Ended(Look::Interrupted(by));
     }
     stay_or_back_off(seat, board, lock, word, *arrival, wake)
-}
-
-/// One look at a lock whose guard the seat has just entered, until it is outside again. A compare-exchange that finds
-/// another word makes the seat look at the word again.
-pub(crate) fn look_at<R: Wait>(
-    rt: &R,
-    seat: &mut Seat16,
-    board: &Board,
-    lock: u32,
-    arrival: Arrival,
-    waits: Waits,
-    holds: bool,
-    wake: &mut [u64],
-) -> Look
-    requires holds { any_below (length (view_of seat.old).owned) (owns (view_of seat.old)) ≡ holds }
-    requires seat { IsSeatOf board.now seat.old }
-    requires lock { lock < locks_of board.now }
-    requires orderly { IsOrderly (size_of board.now) seat.old.seat.me }
-    requires work { IsWorking lock (has_joined arrival) (looks_again arrival) (view_of seat.old) }
-    requires woken { AreWoken (view_of seat.old) wake.old }
-    requires marks { (view_of seat.old).seats ≤ 64 * length wake.old }
-    requires only { AreOnlyWoken (view_of seat.old) wake.old }
-    ensures seat { IsSeatOf board.now seat.new }
-    ensures records { seat.new.records ≡ seat.old.records }
-    ensures look { IsLook (size_of board.now) lock seat.old.seat.me result seat.new.seat.me }
-    ensures waits { MayLookSo board.now.table.shared.key.places waits result }
-    ensures uncancelled { MayWaitSo waits (view_of seat.new) result }
-    ensures woken { AreWoken (view_of seat.new) wake.new }
-    ensures only { AreOnlyWoken (view_of seat.new) wake.new }
-    ensures long { length wake.new ≡ length wake.old }
-    ensures nap { IsNap (view_of seat.old) result (view_of seat.new) }
-    ensures booked { (before : List ℕ) → HasBooked before (view_of seat.old) → HasBooked before (view_of seat.new) }
-{
-    let mut arrival = arrival;
-    for _ in rt.forever() {
-        match look_once(seat, board, lock, &mut arrival, waits, holds, wake) {
-            Attempt::Ended(look) => return look,
-            Attempt::Lost => {}
-        }
-    }
-    unreachable!()
 }

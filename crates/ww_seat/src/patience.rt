@@ -2,9 +2,9 @@
 
 use crate::bell::{Bell, Parker};
 use crate::resting::{Memory, Rest, Stay};
+use crate::seats::Seat;
 use crate::staying_away::pause_for;
 use std::sync::Wait;
-use ww_table::Seat16;
 use ww_word::wide::Owner;
 
 /// How many pauses a waiter gives the owner before it sleeps. It lets nobody else run for that: where others want its
@@ -34,9 +34,9 @@ pub struct Patience {
 }
 
 impl Patience {
-    ghost use Rattle.std.specs.Prelude.{◌≡◌, ◌≢◌, ◌≤◌, ◌+◌, IfSome};
-    ghost use Rattle.ww_table.specs.Seat.{view_of};
-    ghost use Rattle.ww_seat.specs.Bells.{heard, place_of, sleeps_at, taken_at, ArePaid, SleepsNot};
+    ghost use Rattle.std.specs.Prelude.{◌≡◌, ◌≤◌, ◌+◌, IfSome};
+    ghost use Rattle.ww_seat.specs.Bells.{heard, place_of, sleeps_at, taken_at, SleepsNot};
+    ghost use Rattle.ww_seat.specs.Standings.{MaySleep};
     ghost use Rattle.ww_seat.specs.Rests.{Rests};
 
     pub fn new(parker: Parker) -> Patience
@@ -100,11 +100,8 @@ impl Patience {
 
     /// Sleeps until somebody wakes the seat, once for each time that it left a guard as a waiter. It is outside of all, and has
     /// woken whom it has to. If the wake-up comes during the pauses before, it costs no system call.
-    pub(crate) fn sleep<R: Wait>(&mut self, rt: &R, seat: &Seat16, bells: &[Bell])
-        requires stands { (view_of seat.now).waits ≢ 0 }
-        requires outside { (view_of seat.now).inside ≡ 0 }
-        requires paid { ArePaid seat.now.seat.me bells.now }
-        requires due { heard self.old + 1 ≡ (view_of seat.now).naps }
+    pub(crate) fn sleep<R: Wait>(&mut self, rt: &R, seat: &Seat, bells: &[Bell])
+        requires { MaySleep self.old bells.now seat.now }
         ensures parker { sleeps_at self.new ≡ sleeps_at self.old }
         ensures heard { heard self.new ≡ heard self.old + 1 }
     {

@@ -1,15 +1,11 @@
 //! The lock is another's: the seat stands in its wait list, asks for it, and stays or dies there.
-ghost use Rattle.std.specs.Prelude.{ℕ, ◌≡◌, ◌≢◌, ◌<◌, Bool, true, false, Some, None, IfSome, IfNone, length, ◌≤◌, ◌*◌};
+ghost use Rattle.std.specs.Prelude.{ℕ, ◌≡◌, Bool, true, length};
 ghost use Rattle.ww_model.specs.State.{any_below};
 ghost use Rattle.ww_view.specs.View.{owns};
 ghost use Rattle.ww_word.specs.AnySeats.{IsValid};
 ghost use Rattle.ww_view.specs.May.{MayDie};
-ghost use Rattle.ww_table.specs.Seat.{IsSeatOf, locks_of, size_of, view_of};
-ghost use Rattle.ww_seat.specs.declared.look.Look.TheVariants.{Deadlk};
-ghost use Rattle.ww_seat.specs.declared.waits.Waits.TheVariants.{ToTheEnd, UntilCancelled};
-ghost use Rattle.ww_seat.specs.Orderly.{IsOrderly};
-ghost use Rattle.ww_seat.specs.Looks.{IfEnded, IfLost, IsLook, IsNap, StaysAwake, MayLookSo, MayWaitSo};
-ghost use Rattle.ww_seat.specs.Work.{AreWoken, StillHasToWake, AreMarked, HasToWake, HasCondemnedNone, IsTouched, has_joined, looks_again, IsWorking, IsAtWork, SeesOther, HasStood, HasAsked};
+ghost use Rattle.ww_table.specs.Seat.{size_of, view_of};
+ghost use Rattle.ww_seat.specs.Work.{has_joined, looks_again, AreMarksOf, HasAskedIfFirst, HasBackedOff, IsAtWorkHere, IsSameSeat, IsStand, IsStay, SeesOther, SeesWaited, StandsHere};
 
 use crate::leaving::leave;
 use crate::look::{Arrival, Attempt, Look};
@@ -28,18 +24,11 @@ pub(crate) fn stand(
     arrival: Arrival,
     holds: bool,
 ) -> Option<Owner>
-    requires seat { IsSeatOf board.now seat.old }
-    requires lock { lock < locks_of board.now }
-    requires orderly { IsOrderly (size_of board.now) seat.old.seat.me }
-    requires work { (l : Bool) × IsWorking lock (has_joined arrival) l (view_of seat.old) }
+    requires at { (l : Bool) × IsAtWorkHere board.now lock (has_joined arrival) l seat.old }
     requires holds { any_below (length (view_of seat.old).owned) (owns (view_of seat.old)) ≡ holds }
     requires seen { SeesOther seen (view_of seat.old) }
-    ensures seat { IsSeatOf board.now seat.new }
-    ensures records { seat.new.records ≡ seat.old.records }
-    ensures stands { IfSome result (λ word. HasStood (size_of board.now) lock (has_joined arrival) seen seat.old.seat.me word seat.new.seat.me) }
-    ensures lost { IfNone result (IsTouched (size_of board.now) seat.old.seat.me seat.new.seat.me) }
-    ensures condemned { HasCondemnedNone seat.old.seat.me seat.new.seat.me }
-    ensures awake { StaysAwake (view_of seat.old) (view_of seat.new) }
+    ensures same { IsSameSeat board.now seat.old seat.new }
+    ensures stands { IsStand (size_of board.now) lock (has_joined arrival) seen seat.old.seat.me result seat.new.seat.me }
 {
     if arrival.has_joined() {
         return Some(seen);
@@ -59,16 +48,10 @@ fn ask_if_first(
     seen: Owner,
     arrival: Arrival,
 ) -> Option<Owner>
-    requires seat { IsSeatOf board.now seat.old }
-    requires lock { lock < locks_of board.now }
-    requires orderly { IsOrderly (size_of board.now) seat.old.seat.me }
-    requires work { IsWorking lock true (looks_again arrival) (view_of seat.old) }
-    requires seen { SeesOther seen (view_of seat.old) }
-    requires flags { looks_again arrival ≡ true → seen.flags ≢ 0 }
-    ensures seat { IsSeatOf board.now seat.new }
-    ensures records { seat.new.records ≡ seat.old.records }
-    ensures touched { IsTouched (size_of board.now) seat.old.seat.me seat.new.seat.me }
-    ensures asked { IfSome result (λ word. HasAsked word (looks_again arrival) (view_of seat.new)) }
+    requires at { IsAtWorkHere board.now lock true (looks_again arrival) seat.old }
+    requires seen { SeesWaited seen (looks_again arrival) (view_of seat.old) }
+    ensures same { IsSameSeat board.now seat.old seat.new }
+    ensures asked { HasAskedIfFirst (size_of board.now) (looks_again arrival) seat.old.seat.me result seat.new.seat.me }
 {
     if !arrival.looks_again() {
         return Some(seen);
@@ -88,18 +71,10 @@ fn ask_if_first(
 
 /// Leaves the wait list and the guard, as the context has to back off, if the owner word is still the one seen.
 fn back_off(seat: &mut Seat16, board: &Board, lock: u32, seen: Owner) -> bool
-    requires seat { IsSeatOf board.now seat.old }
-    requires lock { lock < locks_of board.now }
-    requires orderly { IsOrderly (size_of board.now) seat.old.seat.me }
-    requires work { (l : Bool) × IsWorking lock true l (view_of seat.old) }
-    requires valid { IsValid seen }
-    requires may { (k : ℕ) × MayDie (view_of seat.old) lock seen k }
-    ensures seat { IsSeatOf board.now seat.new }
-    ensures records { seat.new.records ≡ seat.old.records }
-    ensures met { result ≡ true → (k : ℕ) → MayDie (view_of seat.old) lock seen k → IsLook (size_of board.now) lock seat.old.seat.me (Deadlk k) seat.new.seat.me }
-    ensures lost { result ≡ false → IsTouched (size_of board.now) seat.old.seat.me seat.new.seat.me }
-    ensures condemned { HasCondemnedNone seat.old.seat.me seat.new.seat.me }
-    ensures awake { StaysAwake (view_of seat.old) (view_of seat.new) }
+    requires at { StandsHere board.now lock seat.old }
+    requires may { IsValid seen × ((k : ℕ) × MayDie (view_of seat.old) lock seen k) }
+    ensures same { IsSameSeat board.now seat.old seat.new }
+    ensures backed_off { HasBackedOff (size_of board.now) lock seen seat.old.seat.me result seat.new.seat.me }
 {
     if !seat.die(board, lock, seen) {
         return false;
@@ -118,26 +93,11 @@ pub(crate) fn stay_or_back_off(
     arrival: Arrival,
     wake: &mut [u64],
 ) -> Attempt
-    requires seat { IsSeatOf board.now seat.old }
-    requires lock { lock < locks_of board.now }
-    requires orderly { IsOrderly (size_of board.now) seat.old.seat.me }
-    requires work { IsWorking lock true (looks_again arrival) (view_of seat.old) }
-    requires seen { SeesOther seen (view_of seat.old) }
-    requires flags { looks_again arrival ≡ true → seen.flags ≢ 0 }
-    requires woken { AreWoken (view_of seat.old) wake.old }
-    requires marks { (view_of seat.old).seats ≤ 64 * length wake.old }
-    ensures seat { IsSeatOf board.now seat.new }
-    ensures records { seat.new.records ≡ seat.old.records }
-    ensures look { IfEnded result (λ look. IsLook (size_of board.now) lock seat.old.seat.me look seat.new.seat.me) }
-    ensures waits { IfEnded result (MayLookSo board.now.table.shared.key.places ToTheEnd) }
-    ensures uncancelled { (view_of seat.old).uncancelled ≡ true → IfEnded result (MayWaitSo UntilCancelled (view_of seat.new)) }
-    ensures lost { IfLost result (IsAtWork (size_of board.now) lock seat.old.seat.me true (looks_again arrival) seat.new.seat.me) }
-    ensures attempts { (view_of seat.new).attempts ≡ (view_of seat.old).attempts }
-    ensures marked { AreMarked wake.old (HasToWake (view_of seat.new)) wake.new }
-    ensures long { length wake.new ≡ length wake.old }
-    ensures still { StillHasToWake (view_of seat.old) (view_of seat.new) }
-    ensures nap { IfEnded result (λ look. IsNap (view_of seat.old) look (view_of seat.new)) }
-    ensures awake { IfLost result (StaysAwake (view_of seat.old) (view_of seat.new)) }
+    requires at { IsAtWorkHere board.now lock true (looks_again arrival) seat.old }
+    requires seen { SeesWaited seen (looks_again arrival) (view_of seat.old) }
+    requires marks { AreMarksOf (view_of seat.old) wake.old }
+    ensures same { IsSameSeat board.now seat.old seat.new }
+    ensures came { IsStay board.now lock (looks_again arrival) seat.old.seat.me wake.old result seat.new.seat.me wake.new }
 {
     let Some(word) = ask_if_first(seat, board, lock, seen, arrival) else {
         return Attempt::Lost;

@@ -16,6 +16,7 @@ use ww_users::{UserFault, lock_list_as, lock_order_as, lock_walk_as};
 
 /// Takes a transaction's locks in a context. Get and Add name their way, Sum and Reverse use the walk, all others the
 /// fixed list.
+#[tactic(auto, using(ww_plain::proofs::Members::different_none))]
 pub(crate) fn lock_all<R: Wait>(
     world: &World,
     pass: Pass,

@@ -1,15 +1,17 @@
 -- Contexts of a pass, through their tries.
-use Rattle.std.proofs.Common.{◌≡◌, ℕ, ◌+◌, ◌-◌, [], length, refl, sym, ap, subst, ◌∙◌, arith, length-set, Result, Ok, Err, IfErr}
-use Rattle.ww_lock.specs.Holding.{Holding, Wanting}
+use Rattle.std.proofs.Common.{◌≡◌, ℕ, ◌+◌, ◌-◌, [], length, refl, sym, ap, subst, ◌∙◌, arith, length-set, List, Option, IfErr}
+use Rattle.ww_lock.specs.Holding.{Holding}
 use Rattle.ww_lock.specs.Moves.{with_node, taken, backed_off, having_slept, interrupted_by, emptied, going_on_or_halted, IsTaken, IsInterrupted, IsAnswer}
 use Rattle.ww_lock.specs.Waits.{Waits}
 use Rattle.ww_lock.specs.Waits.TheVariants.{UntilCancelled}
 use Rattle.ww_lock.specs.declared.interruptible.Interruptible.{Interruptible}
 use Rattle.ww_lock.specs.declared.interruptible.Interruptible.TheVariants as answer
-use Rattle.ww_lock.specs.declared.interruptible.Halt.{Halt}
-use Rattle.ww_lock.specs.declared.interruptible.Halt.TheVariants.{Deadlk, Interrupted}
-use Rattle.ww_users.specs.Ways.{IsToldOfEach, IsReturned, IsContext, IsCalledOff}
-use Rattle.ww_users.specs.Trips.{IsSameContext, IsHalted, IsHalt}
+use Rattle.ww_users.specs.declared.fault.UserFault.{UserFault}
+use Rattle.ww_users.specs.declared.fault.UserFault.TheVariants as fault
+use Rattle.ww_users.specs.declared.fault.UserFault.TheVariants.{PassSpent, Already}
+use Rattle.ww_users.specs.declared.trip.Trip.TheVariants.{Failed}
+use Rattle.ww_users.specs.Ways.{IsToldOfEach, IsReturned, IsContext, IsCalledOff, IsUserFault}
+use Rattle.ww_users.specs.Trips.{IsSameContext, IsHalted, IsHalt, IsTrip, IsWayFault}
 
 -- ---- each try is told of
 
@@ -71,22 +73,6 @@ one_halted waits s n (answer.Locked a) h = tt
 one_halted waits s n (answer.Already a) h = tt
 one_halted waits s n (answer.Deadlk b) h = same_backed_off s b.holding h.0.told
 one_halted waits s n (answer.Interrupted a by) h = (h.0, (n, same_told s a n by h.1))
-
--- the slow lock was called off, once all locks were released
-pub slow_halted : (waits : Waits) (s a : Holding) (n : ℕ) (r : Result Holding (Wanting × ℕ))
-    → IfErr r (λ _. waits ≡ UntilCancelled) → a ≡ emptied s → IfErr r (λ e. IsInterrupted a n e.1 e.0.holding)
-    → IfErr r (λ e. IsHalted waits s e.1 e.0.holding)
-slow_halted waits s a n (Ok b) on is told = tt
-slow_halted waits s a n (Err e) on is told = let emptied_same : IsSameContext s (emptied s) =
-    record { rest = refl; told = refl; size = refl } in (
-      on,
-      (
-        n,
-        same_later _ _ _ (same_interrupted s (emptied s) n e.1 emptied_same)
-            (same_told (emptied s) e.0.holding n e.1
-            (subst (λ (b : Holding). IsInterrupted b n e.1 e.0.holding) is told)),
-      ),
-    )
 
 -- whichever locks it takes, it is a context of the same pass
 pub context_later : (s a b : Holding) → IsContext s a → IsSameContext a b → IsContext s b
@@ -165,3 +151,35 @@ pub called_off_room : (waits : Waits) (s a b p : Holding) (by : ℕ) → IsConte
     → p ≡ record b { held = []; stamp = 0 } → p.room ≡ s.room
 called_off_room waits s a b p by h halted is = ap (λ (d : Holding). d.room) is
     ∙ ap (λ (d : Holding). d.room) halted.1.1.rest ∙ ap (λ (d : Holding). d.room) h.rest
+
+-- ---- why it comes back as a pass
+
+pub halted_fault : (waits : Waits) (s a b p : Holding) (by : ℕ) → IsContext s a → IsHalted waits a by b
+    → p ≡ record b { held = []; stamp = 0 } → IsWayFault waits s p (fault.Interrupted by)
+halted_fault waits s a b p by h halted is =
+    record { why = (halted.0, called_off waits s a b p by h halted is); room = called_off_room waits s a b p by h halted is }
+
+-- the slow lock was called off, once all locks were released
+pub slow_fault : (waits : Waits) (s a b p : Holding) (n by : ℕ) → IsContext s a → waits ≡ UntilCancelled
+    → IsInterrupted (emptied a) n by b → p ≡ record b { stamp = 0 } → IsWayFault waits s p (fault.Interrupted by)
+slow_fault waits s a b p n by h on told is =
+    let empty : IsSameContext a (emptied a) = record { rest = refl; told = refl; size = refl } in
+    let same = same_later _ _ _ (same_interrupted a (emptied a) n by empty) (same_told (emptied a) b n by told) in
+    halted_fault waits s a b p by h (on, (n, same))
+    (is ∙ ap (λ (ns : List ℕ). record b { held = ns; stamp = 0 }) (ap (λ (c : Holding). c.held) told.told))
+
+-- of a list, in which something may be named twice
+pub list_fault : (waits : Waits) (s p : Holding) (list : List ℕ) (fault : UserFault) → IsWayFault waits s p fault
+    → IsUserFault waits s list p fault
+list_fault waits s p list PassSpent h = h.why
+list_fault waits s p list (Already n) h = absurd h.why
+list_fault waits s p list (fault.Interrupted by) h = h.why
+
+pub failed_fault : (waits : Waits) (s a b p : Holding) (list : List ℕ) (kept : Option ℕ) (fault : UserFault)
+    → IsContext s a → IsTrip waits a list kept (Failed b fault) → p ≡ record b { held = []; stamp = 0 }
+    → IsUserFault waits s list p fault × (p.room ≡ s.room)
+failed_fault waits s a b p list kept PassSpent h told is = absurd told
+failed_fault waits s a b p list kept (Already n) h told is =
+    let back = comes_back s b p (context_later s a b h told.0) is in ((told.1, back.0), back.1)
+failed_fault waits s a b p list kept (fault.Interrupted by) h told is =
+    let back = halted_fault waits s a b p by h told is in (back.why, back.room)

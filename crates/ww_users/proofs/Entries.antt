@@ -10,7 +10,7 @@ use Rattle.std.proofs.lemmas.List.Sorted.{IsPermutation-to_front, list_any-IsPer
 use Rattle.std.proofs.lemmas.Map.Keys.{any_passes_from_place}
 use Rattle.ww_plain.specs.Numbers.{is_among, AreDifferent}
 use Rattle.ww_plain.specs.Transaction.{IsFirstDouble, FirstDouble}
-use Rattle.ww_plain.proofs.Members.{or_cases, or_false, same_from_eqb, eqb_same, eqb_comm, is_among-append, different_push, different_head, different_tail}
+use Rattle.ww_plain.proofs.Members.{or_cases, or_false, same_from_eqb, eqb_same, eqb_comm, is_among-append, different_none, different_push, different_head, different_tail}
 use Rattle.ww_lock.specs.Holding.{Holding, Refused}
 use Rattle.ww_lock.specs.Moves.{IsTaken, IsRefused}
 use Rattle.ww_users.specs.Ways.{HoldsExactly, in_order}
@@ -46,6 +46,24 @@ pub record IsOnTheWay (first : Option ℕ) (s a : Holding) (list : List ℕ) (po
   pub held : (n : ℕ) → is_among n a.held ≡ is_among n (kept_nodes kept ++ take position list)
   pub once : AreDifferent (kept_nodes kept ++ take position list)
   pub listed : IfSome kept (λ n. is_among n list ≡ true)
+
+pub way_begins : (kept : Option ℕ) (s : Holding) (list : List ℕ) → HoldsKept kept list s → IsOnTheWay kept s s list 0 kept
+way_begins None s list h = record {
+  same = record { rest = refl; told = refl; size = refl };
+  order = h.held;
+  left = inl refl;
+  held = λ n. ap (is_among n) h.held;
+  once = different_none;
+  listed = tt;
+}
+way_begins (Some k) s list h = record {
+  same = record { rest = refl; told = refl; size = refl };
+  order = h.held;
+  left = inl refl;
+  held = λ n. ap (is_among n) h.held;
+  once = different_push [] k different_none refl;
+  listed = h.listed;
+}
 
 -- the entry is the node that was kept
 pub way_skips : (first : Option ℕ) (s a : Holding) (list : List ℕ) (position n : ℕ) (kept : Option ℕ)

@@ -4,7 +4,7 @@ use Rattle.std.specs.List.{AllByRecursion, remove}
 use Rattle.std.specs.List.Sorted.{IsPermutation}
 use Rattle.std.proofs.lemmas.List.{take_more, take-append-drop}
 use Rattle.std.proofs.lemmas.Option.{get_or_from_slice_get}
-use Rattle.std.proofs.lemmas.List.Sorted.{IsPermutation-refl, IsPermutation-sym, IsPermutation-trans, IsPermutation-middle, IsPermutation-remove, IsPermutation-to_front, All-permutation, list_any-IsPermutation}
+use Rattle.std.proofs.lemmas.List.Sorted.{IsPermutation-sym, IsPermutation-trans, IsPermutation-middle, IsPermutation-remove, IsPermutation-to_front, All-permutation, list_any-IsPermutation}
 use Rattle.std.proofs.lemmas.List.Elements.{recursion_from_All, All-from_recursion}
 use Rattle.std.proofs.lemmas.Bool.Decides.{nat_tests}
 use Rattle.std.proofs.lemmas.Map.Keys.{IsDistinct-IsPermutation}
@@ -13,6 +13,10 @@ use Rattle.ww_plain.specs.Transaction.{IsFirstDouble, FirstDouble}
 use Rattle.ww_plain.proofs.Doubles.{no_double_is_none}
 use Rattle.ww_plain.proofs.Members.{is_among-head}
 use Rattle.ww_lock.specs.Holding.{Holding, Refused}
+use Rattle.ww_lock.specs.Waits.{Waits}
+use Rattle.ww_users.specs.declared.fault.UserFault.{UserFault}
+use Rattle.ww_users.specs.declared.fault.UserFault.TheVariants.{PassSpent, Already, Interrupted}
+use Rattle.ww_users.specs.Ways.{IsUserFault}
 use Rattle.ww_users.specs.Trips.{HoldsKept, IsContended, IsReordered}
 
 different_moved : (ns ms : List ℕ) → IsPermutation ns ms → AreDifferent ns → AreDifferent ms
@@ -68,9 +72,6 @@ double_before ms ks n (Some m) different h =
           absurd (no_double_is_none (n ∷ ms) (Some m) first refl head_first)
     ]
 
-pub order_begins : (list : List ℕ) → IsReordered list list
-order_begins list = record { moved = IsPermutation-refl list; double = λ d h. h }
-
 -- the entry of this position is moved to the head, and all up to it differ
 order_later : (list order : List ℕ) (position n : ℕ) → position < length order → n ≡ get_or order position n
     → AreDifferent (take (position + 1) order) → IsReordered list order
@@ -90,19 +91,25 @@ order_later list order position n lt is different h =
 
 -- so the trip goes on behind it
 pub order_goes_on : (list order new : List ℕ) (position n : ℕ) (b : Refused) (a : Holding) → IsReordered list order
-    → IsContended order b position → n ≡ get_or order position n → new ≡ n ∷ remove order position
+    → IsContended order b position → n ≡ b.contended → new ≡ n ∷ remove order position
     → a.held ≡ b.contended ∷ []
     → HoldsKept (Some n) new a × IsReordered list new
 order_goes_on list order new position n b a h met is moved alone =
-    let contended : b.contended ≡ n = sym (get_or_from_slice_get order position b.contended n met.entry) ∙ sym is in
+    let there : n ≡ get_or order position n = is ∙ sym (get_or_from_slice_get order position b.contended n met.entry) in
     rw moved (
       record {
-        held = alone ∙ ap (λ m. m ∷ []) contended;
+        held = alone ∙ ap (λ m. m ∷ []) (sym is);
         listed = is_among-head n (remove order position);
       },
-      order_later list order position n met.there is
-          met.different h,
+      order_later list order position n met.there there met.different h,
     )
+
+-- why the nodes of the reordered list weren't locked is why those of the list weren't
+pub order_fault : (waits : Waits) (s p : Holding) (list order : List ℕ) (fault : UserFault) → IsReordered list order
+    → IsUserFault waits s order p fault → IsUserFault waits s list p fault
+order_fault waits s p list order PassSpent h why = why
+order_fault waits s p list order (Already n) h why = (h.double (Some n) why.0, why.1)
+order_fault waits s p list order (Interrupted by) h why = why
 
 pub order_among : (list order : List ℕ) (n : ℕ) → IsReordered list order → is_among n order ≡ is_among n list
 order_among list order n h = sym (list_any-IsPermutation (λ m. eqb m n) list order h.moved)

@@ -1,5 +1,5 @@
 -- What one trip through a list, or along a walk, does to the context that makes it.
-use Rattle.std.specs.Prelude.{ℕ, ◌≡◌, ◌<◌, ◌+◌, ◌∷◌, [], List, length, take, slice_get, remove, Option, Some, None, IfSome, IsTrue, Result, Ok, Err}
+use Rattle.std.specs.Prelude.{ℕ, ◌≡◌, ◌<◌, ◌+◌, ◌∷◌, [], List, length, take, slice_get, Option, Some, None, IfSome, IsTrue}
 use Rattle.std.specs.List.Sorted.{IsPermutation}
 use Rattle.ww_plain.specs.Numbers.{is_among, AreDifferent}
 use Rattle.ww_plain.specs.Graph.{Agree}
@@ -13,9 +13,10 @@ use Rattle.ww_lock.specs.Moves.{interrupted_by}
 use Rattle.ww_lock.specs.declared.interruptible.Halt.{Halt}
 use Rattle.ww_lock.specs.declared.interruptible.Halt.TheVariants as halt
 use Rattle.ww_users.specs.declared.trip.Trip.{Trip}
-use Rattle.ww_users.specs.declared.trip.Trip.TheVariants.{Through, Already, Interrupted}
-use Rattle.ww_users.specs.declared.reordered_list.Ordered.{Ordered}
-use Rattle.ww_users.specs.Ways.{IsToldOfEach, HoldsExactly, in_order}
+use Rattle.ww_users.specs.declared.trip.Trip.TheVariants.{Through, Deadlk, Failed}
+use Rattle.ww_users.specs.declared.fault.UserFault.{UserFault}
+use Rattle.ww_users.specs.declared.fault.UserFault.TheVariants.{PassSpent, Already, Interrupted}
+use Rattle.ww_users.specs.Ways.{IsToldOfEach, IsWalkFault, HoldsExactly, in_order}
 
 -- the same context, which may hold other locks; each try more to take one ended with the lock, or with EDEADLK
 pub record IsSameContext (s a : Holding) : Type 0 where
@@ -55,12 +56,18 @@ abbrev pub IsHalt : Waits → Holding → Halt → Type 0
 IsHalt waits s (halt.Deadlk b) = IsSameContext s b.holding
 IsHalt waits s (halt.Interrupted a by) = IsHalted waits s by a
 
--- How a trip through a list ended: with all of it locked in order, at its first duplicate, called off, or with EDEADLK.
-abbrev pub IsTrip : Waits → Holding → List ℕ → Option ℕ → Result Trip (Refused × ℕ) → Type 0
-IsTrip waits s list kept (Ok (Through a)) = IsSameContext s a × HoldsExactly list a × FirstDouble list None × (a.held ≡ in_order kept list)
-IsTrip waits s list kept (Ok (Already a n)) = IsSameContext s a × FirstDouble list (Some n)
-IsTrip waits s list kept (Ok (Interrupted a by)) = IsHalted waits s by a
-IsTrip waits s list kept (Err e) = IsSameContext s e.0.holding × IsContended list e.0 e.1
+-- How a trip through a list ended: with all of it locked in order, with EDEADLK, at its first duplicate, or called off.
+abbrev pub IsTrip : Waits → Holding → List ℕ → Option ℕ → Trip → Type 0
+IsTrip waits s list kept (Through a) = IsSameContext s a × HoldsExactly list a × FirstDouble list None × (a.held ≡ in_order kept list)
+IsTrip waits s list kept (Deadlk b position) = IsSameContext s b.holding × IsContended list b position
+IsTrip waits s list kept (Failed a PassSpent) = ⊥
+IsTrip waits s list kept (Failed a (Already n)) = IsSameContext s a × FirstDouble list (Some n)
+IsTrip waits s list kept (Failed a (Interrupted by)) = IsHalted waits s by a
+
+-- why a context of this pass came back as a pass, with the room that it had, where nothing was named twice
+pub record IsWayFault (waits : Waits) (s p : Holding) (fault : UserFault) : Type 0 where
+  pub why : IsWalkFault waits s p fault
+  pub room : p.room ≡ s.room
 
 -- the same entries in another order, with the same first duplicate
 pub record IsReordered (list order : List ℕ) : Type 0 where
@@ -70,31 +77,3 @@ pub record IsReordered (list order : List ℕ) : Type 0 where
 -- it holds the walk and its stop, in the graph as it has seen it
 abbrev pub HoldsWalk : ℕ → ℕ → ℕ → Holding → Type 0
 HoldsWalk start port most a = Holds a (walked a.seen port (walk_of a.seen start port most))
-
--- ---- rounds of the three ways
-
--- a round of any way keeps the context, or was called off
-abbrev pub IsWayTurn : {S : Type 0} → Waits → Holding → Result Trip (Refused × S) → Type 0
-IsWayTurn waits s (Ok (Through a)) = IsSameContext s a
-IsWayTurn waits s (Ok (Already a n)) = IsSameContext s a
-IsWayTurn waits s (Ok (Interrupted a by)) = IsHalted waits s by a
-IsWayTurn waits s (Err e) = IsSameContext s e.0.holding
-
--- the fixed list: the next round is told which node was contended
-abbrev pub IsListTurn : Waits → Holding → List ℕ → Option ℕ → Result Trip (Refused × Option ℕ) → Type 0
-IsListTurn waits s list kept (Ok trip) = IsTrip waits s list kept (Ok trip)
-IsListTurn waits s list kept (Err e) = IsSameContext s e.0.holding
-    × ((position : ℕ) × IsContended list e.0 position) × (e.1 ≡ Some e.0.contended)
-
--- the reordered list: the next round also has the contended entry at the head
-abbrev pub IsOrderTurn : Waits → Holding → Ordered → Result Trip (Refused × Ordered) → Type 0
-IsOrderTurn waits s o (Ok trip) = IsTrip waits s o.order.items o.kept (Ok trip)
-IsOrderTurn waits s o (Err e) = IsSameContext s e.0.holding × (e.1.kept ≡ Some e.0.contended)
-    × ((position : ℕ) × IsContended o.order.items e.0 position × (e.1.order.items ≡ e.0.contended ∷ remove o.order.items position))
-
--- the walk
-abbrev pub IsWalkTurn : Waits → Holding → ℕ → ℕ → ℕ → Result Trip (Refused × Unit {0}) → Type 0
-IsWalkTurn waits s start port most (Ok (Through a)) = IsSameContext s a × HoldsWalk start port most a
-IsWalkTurn waits s start port most (Ok (Already a n)) = ⊥
-IsWalkTurn waits s start port most (Ok (Interrupted a by)) = IsHalted waits s by a
-IsWalkTurn waits s start port most (Err e) = IsSameContext s e.0.holding

@@ -4,13 +4,12 @@ ghost use Rattle.ww_plain.specs.Transaction.{FirstDouble};
 ghost use Rattle.ww_lock.specs.Holding.{IsAtHome};
 ghost use Rattle.ww_lock.specs.Waits.TheVariants.{ToTheEnd, UntilCancelled};
 ghost use Rattle.ww_users.specs.Ways.{IsContext, HoldsExactly, TookInOrder, IsUserFault};
-ghost use Rattle.ww_users.specs.Trips.{HoldsKept, IsListTurn};
 
+use crate::context::{back_off, begin, give_up};
 use crate::fault::UserFault;
 use crate::trip::{Trip, lock_entries};
-use crate::turns::take_turns;
 use std::sync::Wait;
-use ww_lock::{Acquiring, Backoff, Done, Pass, Waits, World};
+use ww_lock::{Done, Pass, Waits, World};
 
 /// Method 1: locks the nodes in the order of the list. On EDEADLK it releases all, takes the contended lock by
 /// the slow path, and starts again with that entry skipped once. A list that names a node twice is refused with the
@@ -73,25 +72,17 @@ pub fn lock_list_as<R: Wait>(
     ensures err { IfErr result (λ e. IsUserFault waits pass list.now e.0 e.1) }
     ensures room { IfErr result (λ e. e.0.room ≡ pass.room) }
 {
-    take_turns(
-        world,
-        pass,
-        rt,
-        None,
-        waits,
-        |acquiring: Acquiring, kept: Option<u8>| -> Result<Trip, (Backoff, Option<u8>)>
-            requires home { IsAtHome acquiring world.now }
-            requires nodes { AllByRecursion (λ n. n < length world.now.first) list.now }
-            requires kept { HoldsKept kept list.now acquiring }
-            ensures { IsListTurn waits acquiring list.entry.now kept result }
-        {
-            match lock_entries(world, acquiring, rt, list, kept, waits) {
-                Ok(trip) => Ok(trip),
-                Err((backoff, _)) => {
-                    let contended = backoff.contended();
-                    Err((backoff, Some(contended)))
-                }
+    let mut acquiring = begin(world, pass)?;
+    let mut kept = None;
+    for _ in rt.forever() {
+        match lock_entries(world, acquiring, rt, list, kept, waits) {
+            Trip::Through(acquiring) => return Ok(acquiring.done()),
+            Trip::Failed(acquiring, fault) => return Err((give_up(world, acquiring, rt), fault)),
+            Trip::Deadlk(backoff, _) => {
+                kept = Some(backoff.contended());
+                acquiring = back_off(world, backoff, rt, waits)?;
             }
-        },
-    )
+        }
+    }
+    unreachable!()
 }

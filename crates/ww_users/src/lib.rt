@@ -7,7 +7,6 @@ mod fault;
 mod fixed_list;
 mod reordered_list;
 mod trip;
-mod turns;
 mod until;
 mod walk;
 

@@ -4,22 +4,14 @@ ghost use Rattle.ww_plain.specs.Transaction.{FirstDouble};
 ghost use Rattle.ww_lock.specs.Holding.{IsAtHome};
 ghost use Rattle.ww_lock.specs.Waits.TheVariants.{ToTheEnd, UntilCancelled};
 ghost use Rattle.ww_users.specs.Ways.{IsContext, HoldsExactly, IsUserFault};
-ghost use Rattle.ww_users.specs.Trips.{HoldsKept, IsOrderTurn};
 
+use crate::context::{back_off, begin, give_up};
 use crate::fault::UserFault;
 use crate::trip::{Trip, lock_entries};
-use crate::turns::take_turns;
 use arrayvec::ArrayVec;
 use std::sync::Wait;
-use ww_lock::{Acquiring, Backoff, Done, Pass, Waits, World};
+use ww_lock::{Done, Pass, Waits, World};
 use ww_plain::MAX_NODES;
-
-/// What a round hands on to the next one: the node that it kept, and the list as it stands now.
-#[derive(Drop)]
-pub(crate) struct Ordered {
-    pub(crate) kept: Option<u8>,
-    pub(crate) order: ArrayVec<u8, MAX_NODES>,
-}
 
 /// Method 2: as method 1, but after the slow lock the contended entry is moved to the head of the list, and the
 /// trip goes on behind it. So an entry that was contended is locked first from then on. The duplicate that a refusal
@@ -80,32 +72,23 @@ pub fn lock_order_as<R: Wait>(
     ensures err { IfErr result (λ e. IsUserFault waits pass list.now e.0 e.1) }
     ensures room { IfErr result (λ e. e.0.room ≡ pass.room) }
 {
-    let Ok(order) = ArrayVec::try_from(list) else {
+    let Ok(mut order) = ArrayVec::<u8, MAX_NODES>::try_from(list) else {
         unreachable!()
     };
-    take_turns(
-        world,
-        pass,
-        rt,
-        Ordered { kept: None, order },
-        waits,
-        |acquiring: Acquiring, handed: Ordered| -> Result<Trip, (Backoff, Ordered)>
-            requires home { IsAtHome acquiring world.now }
-            requires nodes { AllByRecursion (λ n. n < length world.now.first) handed.order.items }
-            requires kept { HoldsKept handed.kept handed.order.items acquiring }
-            ensures { IsOrderTurn waits acquiring handed result }
-        {
-            let Ordered { kept, mut order } = handed;
-            match lock_entries(world, acquiring, rt, &order, kept, waits) {
-                Ok(trip) => Ok(trip),
-                Err((backoff, position)) => {
-                    let contended = backoff.contended();
-                    order.remove(position);
-                    order.insert(0, contended);
-                    let kept = Some(contended);
-                    Err((backoff, Ordered { kept, order }))
-                }
+    let mut acquiring = begin(world, pass)?;
+    let mut kept = None;
+    for _ in rt.forever() {
+        match lock_entries(world, acquiring, rt, &order, kept, waits) {
+            Trip::Through(acquiring) => return Ok(acquiring.done()),
+            Trip::Failed(acquiring, fault) => return Err((give_up(world, acquiring, rt), fault)),
+            Trip::Deadlk(backoff, position) => {
+                let contended = backoff.contended();
+                order.remove(position);
+                order.insert(0, contended);
+                kept = Some(contended);
+                acquiring = back_off(world, backoff, rt, waits)?;
             }
-        },
-    )
+        }
+    }
+    unreachable!()
 }

@@ -5,21 +5,21 @@ ghost use Rattle.std.specs.List.{AllByRecursion};
 ghost use Rattle.ww_lock.specs.Holding.{IsAtHome};
 ghost use Rattle.ww_users.specs.Trips.{HoldsKept, IsTrip};
 
+use crate::fault::UserFault;
 use std::sync::Wait;
 use ww_lock::{Acquiring, Backoff, Interruptible, Waits, World};
 
-/// How a trip ended that isn't made again.
+/// How a trip ended.
 pub(crate) enum Trip {
     /// All of it is locked.
     Through(Acquiring),
-    /// An entry named a node that an earlier entry had locked: the kernel's EALREADY.
-    Already(Acquiring, u8),
-    /// The wait for a lock was called off by this caller.
-    Interrupted(Acquiring, u8),
+    /// The context was told EDEADLK at the entry of this position.
+    Deadlk(Backoff, usize),
+    /// An entry named a node that an earlier entry had locked, or the wait for a lock was called off.
+    Failed(Acquiring, UserFault),
 }
 
-/// Locks the entries in the order of the list. The node that was kept from a slow lock is skipped once. An `Err` has
-/// the position of the entry at which the context was told EDEADLK.
+/// Locks the entries in the order of the list. The node that was kept from a slow lock is skipped once.
 pub(crate) fn lock_entries<R: Wait>(
     world: &World,
     acquiring: Acquiring,
@@ -27,7 +27,7 @@ pub(crate) fn lock_entries<R: Wait>(
     list: &[u8],
     kept: Option<u8>,
     waits: Waits,
-) -> Result<Trip, (Backoff, usize)>
+) -> Trip
     requires home { IsAtHome acquiring world.now }
     requires nodes { AllByRecursion (λ n. n < length world.now.first) list.now }
     requires kept { HoldsKept kept list.now acquiring }
@@ -42,12 +42,14 @@ pub(crate) fn lock_entries<R: Wait>(
         }
         acquiring = match acquiring.lock_as(rt, world, *n, waits) {
             Interruptible::Locked(acquiring) => acquiring,
-            Interruptible::Already(acquiring) => return Ok(Trip::Already(acquiring, *n)),
-            Interruptible::Deadlk(backoff) => return Err((backoff, position)),
+            Interruptible::Already(acquiring) => {
+                return Trip::Failed(acquiring, UserFault::Already(*n));
+            }
+            Interruptible::Deadlk(backoff) => return Trip::Deadlk(backoff, position),
             Interruptible::Interrupted(acquiring, by) => {
-                return Ok(Trip::Interrupted(acquiring, by));
+                return Trip::Failed(acquiring, UserFault::Interrupted(by));
             }
         };
     }
-    Ok(Trip::Through(acquiring))
+    Trip::Through(acquiring)
 }

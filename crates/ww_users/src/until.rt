@@ -1,11 +1,10 @@
-ghost use Rattle.std.specs.Prelude.{◌≡◌, [], Ok, Err, IfOk, IfErr};
+ghost use Rattle.std.specs.Prelude.{◌≡◌, [], Ok, IfOk, IfErr};
 ghost use Rattle.ww_lock.specs.Holding.{IsAtHome};
-ghost use Rattle.ww_users.specs.Turns.{KeepsContext, StartsTurn, IsTurn, IsHaltingTurn, IsHaltedBy, ended_with};
+ghost use Rattle.ww_users.specs.Turns.{KeepsContext, StartsTurn, IsTurn, IsHaltingTurn, IsHaltedBy};
 
 use crate::context::give_up;
-use crate::turns::run_turns;
 use std::sync::Wait;
-use ww_lock::{Acquiring, Backoff, Halt, Pass, Waits, World};
+use ww_lock::{Acquiring, Backoff, Halt, Pass, World};
 
 /// Runs a body that takes locks until it gets no EDEADLK. After EDEADLK all locks are released and the contended
 /// one is taken, and the body runs again: it finds that lock held, and is to take the others again. A body that takes a
@@ -23,27 +22,14 @@ pub fn lock_until<R: Wait, F: Fn(Acquiring) -> Result<Acquiring, Backoff>>(
     ensures same { KeepsContext acquiring result }
     ensures taken { (a : _) × StartsTurn acquiring world.now a × F.post body a (Ok result) }
 {
-    let ended = run_turns(
-        rt,
-        world,
-        acquiring,
-        (),
-        Waits::ToTheEnd,
-        |acquiring: Acquiring, _: ()| -> Result<Acquiring, (Backoff, ())>
-            requires { F.pre body acquiring }
-            ensures ok { IfOk result (λ a. F.post body acquiring (Ok a)) }
-            ensures err { IfErr result (λ e. F.post body acquiring (Err e.0)) }
-        {
-            match body(acquiring) {
-                Ok(acquiring) => Ok(acquiring),
-                Err(backoff) => Err((backoff, ())),
-            }
-        },
-    );
-    match ended {
-        Ok(acquiring) => acquiring,
-        Err(_) => unreachable!(),
+    let mut acquiring = acquiring;
+    for _ in rt.forever() {
+        match body(acquiring) {
+            Ok(acquiring) => return acquiring,
+            Err(backoff) => acquiring = backoff.back_off(rt, world),
+        }
     }
+    unreachable!()
 }
 
 /// Runs a body as `lock_until` does, but each wait may be called off: those of the body, which tells so by `going_on`,
@@ -64,26 +50,21 @@ pub fn lock_until_interruptible<R: Wait, F: Fn(Acquiring) -> Result<Acquiring, H
     ensures halted { IfErr result (λ e. IsHaltedBy (record acquiring { stamp = 0 }) e.1 e.0) }
     ensures nothing { IfErr result (λ e. e.0.held ≡ []) }
 {
-    let outcome = run_turns(
-        rt,
-        world,
-        acquiring,
-        (),
-        Waits::UntilCancelled,
-        |acquiring: Acquiring, _: ()| -> Result<Result<Acquiring, (Acquiring, u8)>, (Backoff, ())>
-            requires { F.pre body acquiring }
-            ensures { F.post body acquiring (ended_with result) }
-        {
-            match body(acquiring) {
-                Ok(acquiring) => Ok(Ok(acquiring)),
-                Err(Halt::Interrupted(acquiring, by)) => Ok(Err((acquiring, by))),
-                Err(Halt::Deadlk(backoff)) => Err((backoff, ())),
+    let mut acquiring = acquiring;
+    for _ in rt.forever() {
+        match body(acquiring) {
+            Ok(acquiring) => return Ok(acquiring),
+            Err(Halt::Interrupted(acquiring, by)) => {
+                return Err((give_up(world, acquiring, rt), by));
             }
-        },
-    );
-    match outcome {
-        Ok(Ok(acquiring)) => Ok(acquiring),
-        Ok(Err((acquiring, by))) => Err((give_up(world, acquiring, rt), by)),
-        Err((contended, by)) => Err((contended.fini(world), by)),
+            Err(Halt::Deadlk(backoff)) => {
+                let contended = backoff.unlock_all(rt, world);
+                match contended.lock_slow_interruptible(rt, world) {
+                    Ok(again) => acquiring = again,
+                    Err((contended, by)) => return Err((contended.fini(world), by)),
+                }
+            }
+        }
     }
+    unreachable!()
 }

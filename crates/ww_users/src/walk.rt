@@ -7,15 +7,13 @@ ghost use Rattle.ww_lock.specs.Holding.{IsAtHome};
 ghost use Rattle.ww_lock.specs.Waits.TheVariants.{UntilCancelled};
 ghost use Rattle.ww_lock.specs.Making.{Covers};
 ghost use Rattle.ww_users.specs.Ways.{IsContext, IsWalkFault};
-ghost use Rattle.ww_users.specs.Trips.{IsSameContext, HoldsWalk, IsHalt, IsWalkTurn};
+ghost use Rattle.ww_users.specs.Trips.{IsSameContext, HoldsWalk, IsHalt};
 
-use crate::context::lock_one;
+use crate::context::{back_off, begin, give_up, lock_one};
 use crate::fault::UserFault;
-use crate::trip::Trip;
-use crate::turns::take_turns;
 use arrayvec::ArrayVec;
 use std::sync::Wait;
-use ww_lock::{Acquiring, Backoff, Done, Halt, Pass, Waits, World};
+use ww_lock::{Acquiring, Done, Halt, Pass, Waits, World};
 use ww_plain::{MAX_NODES, PORTS};
 
 /// Method 3: locks the walk from a node along a port, of at most so many nodes, and its stop, as it finds them. On
@@ -79,24 +77,17 @@ pub fn lock_walk_as<R: Wait>(
     ensures reverse { IfOk result (λ d. Covers d (reverse start port most)) }
     ensures err { IfErr result (λ e. IsWalkFault waits pass e.0 e.1) }
 {
-    take_turns(
-        world,
-        pass,
-        rt,
-        (),
-        waits,
-        |acquiring: Acquiring, _: ()| -> Result<Trip, (Backoff, ())>
-            requires home { IsAtHome acquiring world.now }
-            requires course { IsCourse (length world.now.first) start port most }
-            ensures { IsWalkTurn waits acquiring start port most result }
-        {
-            match lock_along(world, acquiring, rt, start, port, most, waits) {
-                Ok(acquiring) => Ok(Trip::Through(acquiring)),
-                Err(Halt::Deadlk(backoff)) => Err((backoff, ())),
-                Err(Halt::Interrupted(acquiring, by)) => Ok(Trip::Interrupted(acquiring, by)),
+    let mut acquiring = begin(world, pass)?;
+    for _ in rt.forever() {
+        match lock_along(world, acquiring, rt, start, port, most, waits) {
+            Ok(acquiring) => return Ok(acquiring.done()),
+            Err(Halt::Interrupted(acquiring, by)) => {
+                return Err((give_up(world, acquiring, rt), UserFault::Interrupted(by)));
             }
-        },
-    )
+            Err(Halt::Deadlk(backoff)) => acquiring = back_off(world, backoff, rt, waits)?,
+        }
+    }
+    unreachable!()
 }
 
 /// One walk, with the stop, or as far as it gets. A node that is held already ends it where that is one of the

@@ -1,10 +1,19 @@
-use Rattle.std.proofs.Common.{◌≡◌, [], ◌∷◌, ◌++◌, ℕ, ◌+◌, false, length, length-append, append_assoc, refl, sym, subst, ◌∙◌, rules, arith, None}
+use Rattle.std.proofs.Common.{◌≡◌, [], ◌∷◌, ◌++◌, ℕ, ◌+◌, false, length, length-append, append_assoc, refl, sym, ap, subst, ◌∙◌, rules, arith, None}
 use Rattle.std.specs.Arc.{arc_value}
 use Rattle.ww_desk.specs.declared.turn.Turn.TheVariants.{Rests}
 use Rattle.ww_desk.specs.declared.station.Station.{Station}
 use Rattle.ww_desk.specs.Opened.{AreFresh}
 use Rattle.ww_desk.proofs.Fresh.{IsFirst, first_keeps, first_seen, fresh_more, next_is}
 use Rattle.ww_desk.proofs.opening.fresh.Goals as goal
+
+pub new-requires : goal.new-requires
+new-requires c = let b = arc_value c.args.board.now in
+    let next = next_is b.table.shared.table_id b.table.shared.key c.args.seats.items c.loop-seat.yielded
+    c.loop-seat.seat-iterator.rest.items c.next.new.self.rest.items c.in-Some.seat c.requires.seats.new c.loop-seat.invariant.2
+    (search rules) in
+    let none = ap length c.requires.table.0.bare in record {
+      new = (b.table.shared.table_id, b.table.shared.key, length c.loop-seat.yielded, next.0, omega (arith, none), omega (arith, none));
+    }
 
 pub invariant_of-push_reserved : goal.invariant_of-push_reserved
 invariant_of-push_reserved c =
@@ -13,14 +22,11 @@ invariant_of-push_reserved c =
     let next = next_is b.table.shared.table_id b.table.shared.key c.args.seats.items c.loop-seat.yielded
     c.loop-seat.seat-iterator.rest.items c.next.new.self.rest.items c.in-Some.seat c.requires.seats.new i.2
     (search rules) in
-    let f : IsFirst b (length c.loop-seat.yielded) _ = record {
+    let f : IsFirst b (length c.loop-seat.yielded) c.in-Some.seat _ = record {
       board = search rules;
       new = next.0;
-      bare = c.requires.bare;
-      locks = sym c.requires.locks.0;
-      most = omega (arith, c.requires.locks.0, c.requires.locks.1);
-      seats = c.requires.count.1;
-      places = c.requires.count.2;
+      seat = c.new.ensures;
+      table = c.requires.table.0;
       left = c.requires.left;
       count = refl;
       is_done = refl;
@@ -28,7 +34,7 @@ invariant_of-push_reserved c =
       turn = refl;
       wakes = search rules;
     } in
-    first_keeps b (length c.loop-seat.yielded) _ f
+    first_keeps b (length c.loop-seat.yielded) c.in-Some.seat _ f
 
 pub loop-seat-preserved : goal.loop-seat-preserved
 loop-seat-preserved c =
@@ -41,7 +47,7 @@ loop-seat-preserved c =
     length-append c.loop-seat.yielded (c.in-Some.seat ∷ []) in
     let h : Station = record {
       board = c.in_ok-board.board;
-      seat = c.in-Some.seat;
+      seat = c.new.result;
       count = 0;
       locks = c.args.locks;
       is_done = false;
@@ -49,17 +55,14 @@ loop-seat-preserved c =
       told = None;
       turn = Rests;
       left = c.args.left;
-      memory = c.new.result;
+      memory = c.new-in-loop-seat.result;
       wake = c.in_ok-wake.wake;
     } in
-    let f : IsFirst b (length c.loop-seat.yielded) h = record {
+    let f : IsFirst b (length c.loop-seat.yielded) c.in-Some.seat h = record {
       board = search rules;
       new = next.0;
-      bare = c.requires.bare;
-      locks = sym c.requires.locks.0;
-      most = omega (arith, c.requires.locks.0, c.requires.locks.1);
-      seats = c.requires.count.1;
-      places = c.requires.count.2;
+      seat = c.new.ensures;
+      table = c.requires.table.0;
       left = c.requires.left;
       count = refl;
       is_done = refl;
@@ -74,7 +77,7 @@ loop-seat-preserved c =
           c.args.count b.table.shared.key.kind c.args.left k) (sym more)
           (fresh_more c.loop-seat.all.items c.push_reserved.new.self.items _ b.table.shared.table_id
           c.args.locks c.args.count b.table.shared.key.kind c.args.left (length c.loop-seat.yielded)
-          i.3 (first_seen b (length c.loop-seat.yielded) h f) c.push_reserved.ensures.items),
+          i.3 (first_seen b (length c.loop-seat.yielded) c.in-Some.seat h f) c.push_reserved.ensures.items),
       omega (arith, more, i.4, c.push_reserved.ensures.len),
       omega (arith, i.5, c.push_reserved.ensures.capacity),
     )

@@ -1,13 +1,53 @@
 use Rattle.std.proofs.Common.{◌≡◌, [], ◌∷◌, ◌++◌, ℕ, suc, ◌+◌, false, replicate, List, length, map, drop, ap, length-append, append_assoc, refl, sym, subst, ◌∙◌, rules, arith}
 use Rattle.ww_rule.specs.Rule.{first_graph}
-use Rattle.ww_lock.specs.declared.hand.Hand.{Hand}
-use Rattle.ww_lock.specs.Carried.{holding_of, held_of, Carries}
+use Rattle.ww_lock.specs.declared.hand.Hand.TheInside.{Inside}
+use Rattle.ww_lock.specs.Carried.{Carried, holding_of, held_of, stamp_of}
 use Rattle.atomic_table.specs.Seated.{TableId}
 use Rattle.std.specs.Prelude.{slice_get}
 use Rattle.ww_seat.specs.Bells.{leads_to}
 use Rattle.ww_lock.specs.Opened.{fresh, home_at, AreFresh, AreRests}
-use Rattle.ww_lock.proofs.Openings.{next_is, new_carries, new_holding, new_idle, new_holds_nothing, fresh_more}
+use Rattle.ww_lock.proofs.Openings.{next_is, new_carries, new_holding, new_idle, fresh_more}
 use Rattle.ww_lock.proofs.world.fresh.Goals as goal
+
+pub new-requires : goal.new-requires
+new-requires c =
+    let i = c.loop-seat.invariant in
+    let shared = c.args.board.now.table.shared in
+    let next = next_is shared.table_id shared.key (map leads_to c.args.wires.now) c.args.seats.items
+    c.loop-seat.yielded c.loop-seat.seat-iterator.rest.items c.next.new.self.rest.items c.in-Some.seat
+    c.loop-seat.rests.items c.pop.new.self.items c.in-Some-pop.field-0
+    c.requires.seats.new i.2 (search rules) i.3 (search rules) in
+    record {
+      new = (
+        shared.table_id,
+        shared.key,
+        length c.loop-seat.yielded,
+        next.new,
+        c.args.board.now.few,
+        omega (arith, c.args.board.now.few, c.requires.locks),
+      );
+    }
+
+pub invariant_of-hand : goal.invariant_of-hand
+invariant_of-hand c =
+    let i = c.loop-seat.invariant in
+    let shared = c.args.board.now.table.shared in
+    let next = next_is shared.table_id shared.key (map leads_to c.args.wires.now) c.args.seats.items
+    c.loop-seat.yielded c.loop-seat.seat-iterator.rest.items c.next.new.self.rest.items c.in-Some.seat
+    c.loop-seat.rests.items c.pop.new.self.items c.in-Some-pop.field-0
+    c.requires.seats.new i.2 (search rules) i.3 (search rules) in
+    let hand : Inside = record {
+      seat = c.new.result;
+      left = c.args.budget;
+      marks = replicate 64 false;
+      seen = c.in-Some-pop.field-0.seen;
+      patience = c.in-Some-pop.field-0.patience;
+      bells = c.in-Ok.bells;
+    } in
+    new_carries shared.table_id shared.key (length c.loop-seat.yielded) c.in-Some.seat hand next.new c.new.ensures refl next.seen
+    c.args.board.now.few c.requires.locks c.requires.places (omega (arith, c.ranges.budget.fits))
+    (ap (λ (ps : List TableId). slice_get ps (length c.loop-seat.yielded)) c.in-Ok.ensures.placed ∙ next.placed)
+    c.in-Ok.ensures.silent next.awake
 
 pub invariant_of-push_reserved : goal.invariant_of-push_reserved
 invariant_of-push_reserved c =
@@ -17,23 +57,8 @@ invariant_of-push_reserved c =
     c.loop-seat.yielded c.loop-seat.seat-iterator.rest.items c.next.new.self.rest.items c.in-Some.seat
     c.loop-seat.rests.items c.pop.new.self.items c.in-Some-pop.field-0
     c.requires.seats.new i.2 (search rules) i.3 (search rules) in
-    let hand : Hand = record {
-      seat = c.in-Some.seat;
-      left = c.args.budget;
-      marks = replicate 64 false;
-      seen = c.in-Some-pop.field-0.seen;
-      patience = c.in-Some-pop.field-0.patience;
-      bells = c.in-Ok.bells;
-    } in
-    subst (λ (h : Hand). Carries h × (h.seat.stamp ≡ 0) × (held_of h ≡ [])) (sym c.in-Ok-new.ensures.ok) (
-      new_carries shared.table_id shared.key (length c.loop-seat.yielded) hand next.new refl next.seen
-          c.args.board.now.few c.requires.locks c.requires.places (omega (arith, c.ranges.budget.fits))
-          (ap (λ (ps : List TableId). slice_get ps (length c.loop-seat.yielded)) c.in-Ok.ensures.placed ∙ next.placed)
-          c.in-Ok.ensures.silent next.awake,
-      new_idle shared.table_id shared.key _ c.in-Some.seat next.new,
-      new_holds_nothing shared.table_id shared.key
-          (length c.loop-seat.yielded) hand next.new,
-    )
+    subst (λ (v : Carried). (stamp_of v ≡ 0) × (held_of v ≡ [])) (sym c.in-Ok-new.ensures.ok)
+    (new_idle shared.table_id shared.key (length c.loop-seat.yielded) c.in-Some.seat c.new.result next.new c.new.ensures)
 
 pub loop-seat-preserved : goal.loop-seat-preserved
 loop-seat-preserved c =
@@ -46,19 +71,19 @@ loop-seat-preserved c =
     let more : length (c.loop-seat.yielded ++ c.in-Some.seat ∷ []) ≡ length c.loop-seat.yielded + 1 =
     length-append c.loop-seat.yielded (c.in-Some.seat ∷ []) in
     let after : suc (length c.loop-seat.yielded) ≡ length (c.loop-seat.yielded ++ c.in-Some.seat ∷ []) = omega (arith, more) in
-    let hand : Hand = record {
-      seat = c.in-Some.seat;
+    let hand : Inside = record {
+      seat = c.new.result;
       left = c.args.budget;
       marks = replicate 64 false;
       seen = c.in-Some-pop.field-0.seen;
       patience = c.in-Some-pop.field-0.patience;
       bells = c.in-Ok.bells;
     } in
-    let holding = subst (λ (h : Hand). holding_of h
+    let holding = subst (λ (v : Carried). holding_of v
     ≡ fresh (home_at c.args.board.now c.args.wires.now) (first_graph shared.key) c.args.budget
-    (length c.loop-seat.yielded) (holding_of h).room) (sym c.in-Ok-new.ensures.ok)
-    (new_holding (home_at c.args.board.now c.args.wires.now) shared.key (length c.loop-seat.yielded) hand
-    next.new next.seen c.in-Ok.ensures.placed) in (
+    (length c.loop-seat.yielded) (holding_of v).room) (sym c.in-Ok-new.ensures.ok)
+    (new_holding (home_at c.args.board.now c.args.wires.now) shared.key (length c.loop-seat.yielded) c.in-Some.seat hand
+    next.new c.new.ensures next.seen c.in-Ok.ensures.placed) in (
       tt,
       tt,
       append_assoc c.loop-seat.yielded (c.in-Some.seat ∷ []) c.next.new.self.rest.items ∙ next.whole,
@@ -71,3 +96,13 @@ loop-seat-preserved c =
       omega (arith, more, i.5, c.push_reserved.ensures.len),
       omega (arith, i.6, c.push_reserved.ensures.capacity),
     )
+
+pub returns-in-Err-clause-err : goal.returns-in-Err-clause-err
+returns-in-Err-clause-err c =
+    let i = c.loop-seat.invariant in
+    let shared = c.args.board.now.table.shared in
+    let next = next_is shared.table_id shared.key (map leads_to c.args.wires.now) c.args.seats.items
+    c.loop-seat.yielded c.loop-seat.seat-iterator.rest.items c.next.new.self.rest.items c.in-Some.seat
+    c.loop-seat.rests.items c.pop.new.self.items c.in-Some-pop.field-0
+    c.requires.seats.new i.2 (search rules) i.3 (search rules) in
+    ap (λ (v : Carried). v.seen) (c.hand.view_is ∙ c.in-Err.ensures.value_returned) ∙ next.seen

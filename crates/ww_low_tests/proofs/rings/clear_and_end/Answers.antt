@@ -1,13 +1,16 @@
 use Rattle.std.proofs.Common.{inl, sym, subst}
 use Rattle.ww_rule.specs.Rule.{Sat}
 use Rattle.ww_rule.specs.Steps.{MayEnd}
-use Rattle.ww_low_tests.proofs.Holding.{bare_with_none}
+use Rattle.ww_seat.specs.Standings.{Standing, view_in}
+use Rattle.ww_low_tests.proofs.Holding.{may_end}
 use Rattle.ww_low_tests.proofs.rings.clear_and_end.Goals as goal
 
 pub clear-requires-clause-may : goal.clear-requires-clause-may
-clear-requires-clause-may g c = let h = c.requires.holds in record { context = h.owns.context; why = inl (h.away, bare_with_none _ _ _ h) }
+clear-requires-clause-may g c = let m = subst (λ (s : Standing). MayEnd (view_in s)) (sym c.into_inner-seat.ensures.is)
+    (may_end c.args.board.now c.args.seat c.requires.holds) in record { context = m.context; why = inl (m.away, m.bare) }
 
 pub end-requires-clause-may : goal.end-requires-clause-may
-end-requires-clause-may g c = let h = c.requires.holds in
+end-requires-clause-may g c = let m = subst (λ (s : Standing). MayEnd (view_in s)) (sym c.into_inner-seat.ensures.is)
+    (may_end c.args.board.now c.args.seat c.requires.holds) in
     subst (λ (m : Sat). MayEnd m.0.part.core) (sym c.clear.ensures.cleared)
-    (record { away = h.away; context = h.owns.context; bare = bare_with_none _ _ _ h })
+    (record { away = m.away; context = m.context; bare = m.bare })

@@ -1,5 +1,5 @@
-use Rattle.ww_low_tests.proofs.Holding.{bare_with_none}
+use Rattle.ww_low_tests.proofs.Holding.{may_end}
 use Rattle.ww_low_tests.proofs.rings.untie.Goals as goal
 
-pub end-requires-clause-bare : goal.end-requires-clause-bare
-end-requires-clause-bare g c = bare_with_none _ _ _ c.hand_back.ensures.holds
+pub end-requires-clause-may : goal.end-requires-clause-may
+end-requires-clause-may g c = may_end c.hand_back.new.board c.hand_back.new.younger c.hand_back.ensures.holds

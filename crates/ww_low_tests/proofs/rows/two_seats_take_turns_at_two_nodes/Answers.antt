@@ -1,4 +1,4 @@
-use Rattle.std.proofs.Common.{◌≡◌, [], ◌∷◌, refl, sym, subst, ap, ◌∙◌, arith}
+use Rattle.std.proofs.Common.{◌≡◌, [], ◌∷◌, refl, sym, subst, ap, ◌∙◌}
 use Rattle.ww_table.specs.declared.board.Board.{Board}
 use Rattle.ww_table.specs.Closed.{HaveAllCome}
 use Rattle.ww_table_loads.specs.Standing.{Deeds, at_first, began, took, committed, gave, ended}
@@ -7,12 +7,10 @@ use Rattle.ww_low_tests.proofs.Still.{did_still}
 use Rattle.ww_low_tests.proofs.rows.two_seats_take_turns_at_two_nodes.Goals as goal
 
 pub take_one_each-requires-clause-zero : goal.take_one_each-requires-clause-zero
-take_one_each-requires-clause-zero g c = let made = c.in_ok-board.ensures in
-    did_still c.compare.ensures (new_did c.in_ok-board.board made.zero.0 0 c.in_ok-board.zero made.zero.1 made.numbers.0)
+take_one_each-requires-clause-zero g c = did_still c.compare.ensures (new_did c.in_ok-board.board 0 c.in_ok-board.zero c.in_ok-board.ensures.zero)
 
 pub take_one_each-requires-clause-one : goal.take_one_each-requires-clause-one
-take_one_each-requires-clause-one g c = let made = c.in_ok-board.ensures in
-    did_still c.compare.ensures (new_did c.in_ok-board.board made.one.0 1 c.in_ok-board.one made.one.1 made.numbers.1)
+take_one_each-requires-clause-one g c = did_still c.compare.ensures (new_did c.in_ok-board.board 1 c.in_ok-board.one c.in_ok-board.ensures.one)
 
 pub take_both-requires-clause-one : goal.take_both-requires-clause-one
 take_both-requires-clause-one g c = did_still c.in_ok-commit_and_give.ensures.same c.take_one_each.ensures.one

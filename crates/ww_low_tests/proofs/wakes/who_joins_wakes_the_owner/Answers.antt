@@ -1,12 +1,8 @@
-use Rattle.std.proofs.Common.{refl}
-use Rattle.ww_queue.specs.declared.kind.Kind.TheVariants.{WoundWait}
-use Rattle.ww_low_tests.specs.Looking.{just}
-use Rattle.ww_low_tests.proofs.Holding.{looks_first}
-use Rattle.ww_low_tests.proofs.Still.{looks_still}
+use Rattle.ww_low_tests.proofs.Holding.{looks_at_zero, looks_at_one}
 use Rattle.ww_low_tests.proofs.wakes.who_joins_wakes_the_owner.Goals as goal
 
 pub wait-requires-clause-may : goal.wait-requires-clause-may
-wait-requires-clause-may g c = (just 1, looks_first _ WoundWait (just 1) 0 1 c.in_ok-board.younger c.in_ok-board.ensures.younger refl refl)
+wait-requires-clause-may g c = looks_at_zero c.in_ok-board.board c.in_ok-board.younger c.in_ok-board.ensures.younger
 
-pub back_off-requires-clause-may : goal.back_off-requires-clause-may
-back_off-requires-clause-may g c = (just 1, looks_still c.compare.ensures (c.wait.ensures.may (just 1) c.in_ok-board.ensures.younger.owns))
+pub look-requires-clause-may : goal.look-requires-clause-may
+look-requires-clause-may g c = looks_at_one c.in_ok-board.board c.in_ok-board.older c.in_ok-board.ensures.older

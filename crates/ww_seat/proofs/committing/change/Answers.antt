@@ -29,10 +29,10 @@ own_next size v w changes i lt same owned = let t =
 
 pub swap_node-requires-clause-out : goal.swap_node-requires-clause-out
 swap_node-requires-clause-out c =
-    let g = c.requires.changes in
-    let is = c.loop-at.invariant.changed c.requires.out.0 g.0 g.1 g.2 g.3 c.requires.out.1 in
+    let g = c.requires.may.changes_are in
+    let is = c.loop-at.invariant.changed c.requires.may.out.0 g.0 g.1 g.2 g.3 c.requires.may.out.1 in
     let mine = own_next (size_of c.args.board.now) c.loop-at.seat.seat.me.0 c.args.seat.now.seat.me.0
-    c.args.changes.now (c.loop-at.at - 1) (omega arith) c.loop-at.invariant.view c.requires.owned in
+    c.args.changes.now (c.loop-at.at - 1) (omega arith) c.loop-at.invariant.view c.requires.may.owned in
     subst (λ (n : ℕ). (x : Node) × (slot_of c.loop-at.seat.seat.me.1 n ≡ Some (Content x))) (sym c.from.ensures)
     (out_there _ _ _ _ c.loop-at.seat.seat.me (get_or c.args.changes.now (c.loop-at.at - 1) none).number is mine.0 mine.1)
 
@@ -46,7 +46,7 @@ loop-at-preserved c =
     c.swap_node.ensures.swapped in
     let up : c.loop-at.at ≡ suc i = omega arith in
     let mine = own_next (size_of c.args.board.now) c.loop-at.seat.seat.me.0 c.args.seat.now.seat.me.0
-    c.args.changes.now i (omega arith) c.loop-at.invariant.view c.requires.owned in
+    c.args.changes.now i (omega arith) c.loop-at.invariant.view c.requires.may.owned in
     record {
       seated = c.swap_node.ensures.seat;
       view = ap (λ (z : Sat). z.0) t.2 ∙ c.loop-at.invariant.view;
@@ -62,7 +62,9 @@ loop-at-preserved c =
     }
 
 pub returns-clause-changed : goal.returns-clause-changed
-returns-clause-changed c = λ held before after ns are was.
-    let all : c.loop-at.at ≡ 0 = omega arith in
-    subst (λ (k : ℕ). IsChanged (size_of c.args.board.now) held after (drop k ns) c.loop-at.seat.seat.me) all
-    (c.loop-at.invariant.changed held before after ns are was)
+returns-clause-changed c = let all : c.loop-at.at ≡ 0 = omega arith in record {
+  view = c.loop-at.invariant.view;
+  changed = λ held before after ns are was.
+      subst (λ (k : ℕ). IsChanged (size_of c.args.board.now) held after (drop k ns) c.loop-at.seat.seat.me) all
+      (c.loop-at.invariant.changed held before after ns are was);
+}

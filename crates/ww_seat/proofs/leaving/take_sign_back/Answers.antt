@@ -3,12 +3,6 @@ use Rattle.ww_queue.specs.declared.kind.Kind.TheVariants.{WoundWait, WaitDie}
 use Rattle.ww_seat.proofs.Working.{cleared_same}
 use Rattle.ww_seat.proofs.leaving.take_sign_back.Goals as goal
 
-pub clear_if_signed-requires-clause-kind : goal.clear_if_signed-requires-clause-kind
-clear_if_signed-requires-clause-kind c = sym c.requires.seat.kind ∙ sym c.kind.ensures ∙ c.in-WaitDie.is
-
-pub clear_if_signed-requires-clause-lives : goal.clear_if_signed-requires-clause-lives
-clear_if_signed-requires-clause-lives c = c.requires.lives (sym c.requires.seat.kind ∙ sym c.kind.ensures ∙ c.in-WaitDie.is)
-
 pub returns-in-WoundWait-clause-cleared : goal.returns-in-WoundWait-clause-cleared
 returns-in-WoundWait-clause-cleared c =
     cleared_same c.args.seat.now.seat.me (λ d. absurd

@@ -1,272 +1,129 @@
-use Rattle.std.proofs.Common.{Bool, true, length, sym, ap, subst, ◌∙◌}
+use Rattle.std.proofs.Common.{Bool, true, length, sym, ap, refl, subst, ◌+◌, ◌∙◌}
 use Rattle.ww_model.specs.State.{any_below}
 use Rattle.ww_view.specs.View.{owns}
-use Rattle.ww_rule.specs.Rule.{Sat, first_graph}
-use Rattle.ww_seat.specs.Looks.{IfLost}
-use Rattle.ww_seat.specs.Work.{has_joined, looks_again, IsWorking, IsAtWork}
-use Rattle.ww_seat.proofs.Working.{woken_still, woken_looked, still_none, still_looked, still_then, marked_none, look_counts, work_touched, work_looked}
-use Rattle.ww_seat.proofs.Holds.{stopped_then}
-use Rattle.ww_seat.proofs.Stood.{work_stood, flags_later, look_later, work_later}
-use Rattle.ww_seat.proofs.Stopped.{work_goes_on, goes_on_sees, waits_so}
-use Rattle.ww_seat.proofs.Naps.{awake_then, awake_looked, awake_later, nap_later}
+use Rattle.ww_rule.specs.Rule.{Sat}
+use Rattle.ww_table.specs.Seat.{size_of}
+use Rattle.ww_seat.specs.declared.look.Attempt.TheVariants.{Lost}
+use Rattle.ww_seat.specs.declared.look.Look.TheVariants.{Interrupted}
+use Rattle.ww_seat.specs.Work.{has_joined, looks_again, HasCome, IsWorking}
+use Rattle.ww_seat.proofs.Coming.{attempted, come_goes_on, come_looked, come_out, come_stood, come_then, come_touched}
+use Rattle.ww_seat.proofs.Stood.{flags_later}
+use Rattle.ww_seat.proofs.Stopped.{goes_on_sees}
+use Rattle.ww_seat.proofs.look.look_once.Goals.{In_default-stop_if_cancelled}
 use Rattle.ww_seat.proofs.look.look_once.Goals as goal
 
-pub take_inside-requires-clause-work : goal.take_inside-requires-clause-work
-take_inside-requires-clause-work c = let size = length (first_graph c.args.board.now.table.shared.key) in
-    let n = c.args.lock in let later = looks_again c.args.arrival.now in
-    let stands = has_joined c.args.arrival.now in let m = c.args.seat.now.seat.me in
-    let m1 = c.look-seen.new.self.seat.me in
-    let w1 = work_looked size n stands later m m1 c.look-seen.result c.requires.orderly c.requires.work c.look-seen.ensures.looked in
-    (stands, later, w1.working)
-
-pub stand-requires-clause-work : goal.stand-requires-clause-work
-stand-requires-clause-work c = let size = length (first_graph c.args.board.now.table.shared.key) in
-    let n = c.args.lock in let later = looks_again c.args.arrival.now in
-    let stands = has_joined c.args.arrival.now in let m = c.args.seat.now.seat.me in
-    let m1 = c.look-seen.new.self.seat.me in
-    let w1 = work_looked size n stands later m m1 c.look-seen.result c.requires.orderly c.requires.work c.look-seen.ensures.looked in
-    (later, w1.working)
-
-pub returns-in_default-clause-lost : goal.returns-in_default-clause-lost
-returns-in_default-clause-lost c = let size = length (first_graph c.args.board.now.table.shared.key) in
-    let n = c.args.lock in let later = looks_again c.args.arrival.now in
-    let stands = has_joined c.args.arrival.now in let m = c.args.seat.now.seat.me in
-    let m1 = c.look-seen.new.self.seat.me in
-    let w1 = work_looked size n stands later m m1 c.look-seen.result c.requires.orderly c.requires.work c.look-seen.ensures.looked in
-    work_touched size n m stands later m1 c.stand.new.seat.seat.me w1 c.in_default.ensures.lost
-
-pub stop_if_cancelled-requires-clause-orderly : goal.stop_if_cancelled-requires-clause-orderly
-stop_if_cancelled-requires-clause-orderly c = let size = length (first_graph c.args.board.now.table.shared.key) in
-    let n = c.args.lock in let later = looks_again c.args.arrival.now in
-    let stands = has_joined c.args.arrival.now in let m = c.args.seat.now.seat.me in
-    let m1 = c.look-seen.new.self.seat.me in
-    let w1 = work_looked size n stands later m m1 c.look-seen.result c.requires.orderly c.requires.work c.look-seen.ensures.looked in
-    let m2 = c.stand.new.seat.seat.me in let w2 =
-    work_stood size n m stands later m1 m2 c.look-seen.result c.in-Some-stand.word w1
-    c.in-Some-stand.ensures.stands in
-    w2.orderly
-
-pub stop_if_cancelled-requires-clause-work : goal.stop_if_cancelled-requires-clause-work
-stop_if_cancelled-requires-clause-work c = let size = length (first_graph c.args.board.now.table.shared.key) in
-    let n = c.args.lock in let later = looks_again c.args.arrival.now in
-    let stands = has_joined c.args.arrival.now in let m = c.args.seat.now.seat.me in
-    let m1 = c.look-seen.new.self.seat.me in
-    let w1 = work_looked size n stands later m m1 c.look-seen.result c.requires.orderly c.requires.work c.look-seen.ensures.looked in
-    let m2 = c.stand.new.seat.seat.me in let w2 =
-    work_stood size n m stands later m1 m2 c.look-seen.result c.in-Some-stand.word w1
-    c.in-Some-stand.ensures.stands in
-    (later, w2.working)
-
-pub returns-in-Some-stop_if_cancelled-clause-look : goal.returns-in-Some-stop_if_cancelled-clause-look
-returns-in-Some-stop_if_cancelled-clause-look c = let size =
-    length (first_graph c.args.board.now.table.shared.key) in let n = c.args.lock in
-    let later = looks_again c.args.arrival.now in let stands = has_joined c.args.arrival.now in
-    let m = c.args.seat.now.seat.me in let m1 = c.look-seen.new.self.seat.me in
-    let w1 = work_looked size n stands later m m1 c.look-seen.result c.requires.orderly c.requires.work c.look-seen.ensures.looked in
-    let m2 = c.stand.new.seat.seat.me in let w2 =
-    work_stood size n m stands later m1 m2 c.look-seen.result c.in-Some-stand.word w1
-    c.in-Some-stand.ensures.stands in
-    let l = c.in-Some-stop_if_cancelled.ensures.stopped in (
-      l.0,
-      l.1,
-      stopped_then m m2 c.stop_if_cancelled.new.seat.seat.me n c.in-Some-stop_if_cancelled.by w2.holds
-          l.2,
+pub take_inside-requires-clause-at : goal.take_inside-requires-clause-at
+take_inside-requires-clause-at c =
+    let w = (come_looked c.requires.at.0 c.requires.at.1 c.requires.may c.args.waits c.look-seen.ensures.looked).came.0 in (
+      has_joined c.args.arrival.now,
+      looks_again c.args.arrival.now,
+      record {
+        seat = c.look-seen.ensures.seat;
+        lock = c.requires.may.there;
+        orderly = w.orderly;
+        working = w.working;
+      },
     )
 
-pub stay_or_back_off-requires-clause-orderly : goal.stay_or_back_off-requires-clause-orderly
-stay_or_back_off-requires-clause-orderly c = let size = length (first_graph c.args.board.now.table.shared.key) in
-    let n = c.args.lock in let later = looks_again c.args.arrival.now in
-    let stands = has_joined c.args.arrival.now in let m = c.args.seat.now.seat.me in
-    let m1 = c.look-seen.new.self.seat.me in
-    let w1 = work_looked size n stands later m m1 c.look-seen.result c.requires.orderly c.requires.work c.look-seen.ensures.looked in
-    let m2 = c.stand.new.seat.seat.me in let w2 =
-    work_stood size n m stands later m1 m2 c.look-seen.result c.in-Some-stand.word w1
-    c.in-Some-stand.ensures.stands in
-    let m3 = c.stop_if_cancelled.new.seat.seat.me in let w3 = work_goes_on size n m later m2 m3 w2 c.in_default-stop_if_cancelled.ensures.goes_on in
-    w3.orderly
+pub returns-in-Some-clause-came : goal.returns-in-Some-clause-came
+returns-in-Some-clause-came c = let same = c.take_inside.ensures.same in
+    let looked = come_looked c.requires.at.0 c.requires.at.1 c.requires.may c.args.waits c.look-seen.ensures.looked in
+    attempted c.args.seat.now c.take_inside.new.seat c.args.arrival.now c.args.arrival.now c.requires.at.0 c.requires.at.1
+    (record { seat = same.seat; records = same.records ∙ c.look-seen.ensures.records }) refl refl refl
+    (come_then looked (c.in-Some.ensures.came (has_joined c.args.arrival.now) (looks_again c.args.arrival.now) c.args.waits
+    looked.came.0.working))
 
-pub stay_or_back_off-requires-clause-work : goal.stay_or_back_off-requires-clause-work
-stay_or_back_off-requires-clause-work c = let size = length (first_graph c.args.board.now.table.shared.key) in
-    let n = c.args.lock in let later = looks_again c.args.arrival.now in
-    let stands = has_joined c.args.arrival.now in let m = c.args.seat.now.seat.me in
-    let m1 = c.look-seen.new.self.seat.me in
-    let w1 = work_looked size n stands later m m1 c.look-seen.result c.requires.orderly c.requires.work c.look-seen.ensures.looked in
-    let m2 = c.stand.new.seat.seat.me in let w2 =
-    work_stood size n m stands later m1 m2 c.look-seen.result c.in-Some-stand.word w1
-    c.in-Some-stand.ensures.stands in
-    let m3 = c.stop_if_cancelled.new.seat.seat.me in let w3 = work_goes_on size n m later m2 m3 w2 c.in_default-stop_if_cancelled.ensures.goes_on in
-    subst (λ (b : Bool). IsWorking n true b m3.0.part.core) (sym c.joining.ensures.again) w3.working
+pub returns-in-None-clause-came : goal.returns-in-None-clause-came
+returns-in-None-clause-came c = let same = c.take_inside.ensures.same in
+    let looked = come_looked c.requires.at.0 c.requires.at.1 c.requires.may c.args.waits c.look-seen.ensures.looked in
+    attempted c.args.seat.now c.take_inside.new.seat c.args.arrival.now c.args.arrival.now c.requires.at.0 c.requires.at.1
+    (record { seat = same.seat; records = same.records ∙ c.look-seen.ensures.records }) refl refl refl
+    (come_then looked (c.in-None.ensures.came (has_joined c.args.arrival.now) (looks_again c.args.arrival.now) c.args.waits
+    looked.came.0.working))
 
-pub stay_or_back_off-requires-clause-seen : goal.stay_or_back_off-requires-clause-seen
-stay_or_back_off-requires-clause-seen c = let size = length (first_graph c.args.board.now.table.shared.key) in
-    let n = c.args.lock in let later = looks_again c.args.arrival.now in
-    let stands = has_joined c.args.arrival.now in let m = c.args.seat.now.seat.me in
-    let m1 = c.look-seen.new.self.seat.me in
-    let w1 = work_looked size n stands later m m1 c.look-seen.result c.requires.orderly c.requires.work c.look-seen.ensures.looked in
-    let m2 = c.stand.new.seat.seat.me in let w2 =
-    work_stood size n m stands later m1 m2 c.look-seen.result c.in-Some-stand.word w1
-    c.in-Some-stand.ensures.stands in
-    let m3 = c.stop_if_cancelled.new.seat.seat.me in let w3 = work_goes_on size n m later m2 m3 w2 c.in_default-stop_if_cancelled.ensures.goes_on in
-    goes_on_sees size m2 m3 c.in-Some-stand.word c.in_default-stop_if_cancelled.ensures.goes_on c.in-Some-stand.ensures.stands.sees
-
-pub stay_or_back_off-requires-clause-flags : goal.stay_or_back_off-requires-clause-flags
-stay_or_back_off-requires-clause-flags c =
-    λ again. flags_later c.args.lock (has_joined c.args.arrival.now) (looks_again c.args.arrival.now)
-    c.args.seat.now.seat.me.0.part.core c.look-seen.result c.in-Some-stand.word c.requires.work
-    c.look-seen.ensures.flags c.in-Some-stand.ensures.stands.flags (sym c.joining.ensures.again ∙ again)
-
-pub returns-clause-look : goal.returns-clause-look
-returns-clause-look c = let size = length (first_graph c.args.board.now.table.shared.key) in let n = c.args.lock in
-    let later = looks_again c.args.arrival.now in let stands = has_joined c.args.arrival.now in
-    let m = c.args.seat.now.seat.me in let m1 = c.look-seen.new.self.seat.me in
-    let w1 = work_looked size n stands later m m1 c.look-seen.result c.requires.orderly c.requires.work c.look-seen.ensures.looked in
-    let m2 = c.stand.new.seat.seat.me in let w2 =
-    work_stood size n m stands later m1 m2 c.look-seen.result c.in-Some-stand.word w1
-    c.in-Some-stand.ensures.stands in
-    let m3 = c.stop_if_cancelled.new.seat.seat.me in let w3 = work_goes_on size n m later m2 m3 w2 c.in_default-stop_if_cancelled.ensures.goes_on in
-    look_later size n m m3 c.stay_or_back_off.new.seat.seat.me c.stay_or_back_off.result w3.holds c.stay_or_back_off.ensures.look
-
-pub returns-clause-lost : goal.returns-clause-lost
-returns-clause-lost c = let size = length (first_graph c.args.board.now.table.shared.key) in let n = c.args.lock in
-    let later = looks_again c.args.arrival.now in let stands = has_joined c.args.arrival.now in
-    let m = c.args.seat.now.seat.me in let m1 = c.look-seen.new.self.seat.me in
-    let w1 = work_looked size n stands later m m1 c.look-seen.result c.requires.orderly c.requires.work c.look-seen.ensures.looked in
-    let m2 = c.stand.new.seat.seat.me in let w2 =
-    work_stood size n m stands later m1 m2 c.look-seen.result c.in-Some-stand.word w1
-    c.in-Some-stand.ensures.stands in
-    let m3 = c.stop_if_cancelled.new.seat.seat.me in let w3 = work_goes_on size n m later m2 m3 w2 c.in_default-stop_if_cancelled.ensures.goes_on in
-    let now = looks_again c.joining.result in let m4 = c.stay_or_back_off.new.seat.seat.me in
-    subst (λ (b : Bool). IfLost c.stay_or_back_off.result (IsAtWork size n m b now m4)) (sym c.joining.ensures.joined)
-    (work_later size n m true now m3 m4 c.stay_or_back_off.result
-    (subst (λ (b : Bool). IsAtWork size n m true b m3) (sym c.joining.ensures.again) w3)
-    c.stay_or_back_off.ensures.lost)
-
-pub take_inside-requires-clause-woken : goal.take_inside-requires-clause-woken
-take_inside-requires-clause-woken c = woken_looked c.args.seat.now.seat.me c.look-seen.new.self.seat.me
-    c.look-seen.result _ c.look-seen.ensures.looked c.requires.woken
-
-pub returns-in_default-clause-marked : goal.returns-in_default-clause-marked
-returns-in_default-clause-marked c = let m1 = c.look-seen.new.self.seat.me in
-    marked_none c.stand.new.seat.seat.me _ (woken_still m1 c.stand.new.seat.seat.me _ c.stand.ensures.condemned
-    (woken_looked c.args.seat.now.seat.me m1 c.look-seen.result _ c.look-seen.ensures.looked c.requires.woken))
-
-pub returns-in-Some-stop_if_cancelled-clause-marked : goal.returns-in-Some-stop_if_cancelled-clause-marked
-returns-in-Some-stop_if_cancelled-clause-marked c = let m1 = c.look-seen.new.self.seat.me in let m2 = c.stand.new.seat.seat.me in
-    marked_none c.stop_if_cancelled.new.seat.seat.me _
-    (woken_still m2 c.stop_if_cancelled.new.seat.seat.me _ c.stop_if_cancelled.ensures.condemned
-    (woken_still m1 m2 _ c.stand.ensures.condemned
-    (woken_looked c.args.seat.now.seat.me m1 c.look-seen.result _ c.look-seen.ensures.looked c.requires.woken)))
-
-pub stay_or_back_off-requires-clause-woken : goal.stay_or_back_off-requires-clause-woken
-stay_or_back_off-requires-clause-woken c = let m1 = c.look-seen.new.self.seat.me in let m2 = c.stand.new.seat.seat.me in
-    woken_still m2 c.stop_if_cancelled.new.seat.seat.me _ c.stop_if_cancelled.ensures.condemned
-    (woken_still m1 m2 _ c.stand.ensures.condemned
-    (woken_looked c.args.seat.now.seat.me m1 c.look-seen.result _ c.look-seen.ensures.looked c.requires.woken))
-
-pub returns-in-Some-clause-attempted : goal.returns-in-Some-clause-attempted
-returns-in-Some-clause-attempted c = c.take_inside.ensures.attempts
-    ∙ look_counts c.args.seat.now.seat.me c.look-seen.new.self.seat.me c.look-seen.result c.look-seen.ensures.looked
-
-pub returns-in-None-clause-attempted : goal.returns-in-None-clause-attempted
-returns-in-None-clause-attempted c = c.take_inside.ensures.attempts
-    ∙ look_counts c.args.seat.now.seat.me c.look-seen.new.self.seat.me c.look-seen.result c.look-seen.ensures.looked
-
-pub returns-in_default-clause-attempted : goal.returns-in_default-clause-attempted
-returns-in_default-clause-attempted c = c.stand.ensures.condemned.attempts
-    ∙ look_counts c.args.seat.now.seat.me c.look-seen.new.self.seat.me c.look-seen.result c.look-seen.ensures.looked
-
-pub returns-in-Some-stop_if_cancelled-clause-attempted : goal.returns-in-Some-stop_if_cancelled-clause-attempted
-returns-in-Some-stop_if_cancelled-clause-attempted c = c.stop_if_cancelled.ensures.condemned.attempts
-    ∙ c.stand.ensures.condemned.attempts ∙ look_counts c.args.seat.now.seat.me c.look-seen.new.self.seat.me
-    c.look-seen.result c.look-seen.ensures.looked
-
-pub returns-clause-attempted : goal.returns-clause-attempted
-returns-clause-attempted c = c.stay_or_back_off.ensures.attempts ∙ c.stop_if_cancelled.ensures.condemned.attempts
-    ∙ c.stand.ensures.condemned.attempts ∙ look_counts c.args.seat.now.seat.me c.look-seen.new.self.seat.me
-    c.look-seen.result c.look-seen.ensures.looked
+pub stand-requires-clause-at : goal.stand-requires-clause-at
+stand-requires-clause-at c =
+    let w = (come_looked c.requires.at.0 c.requires.at.1 c.requires.may c.args.waits c.look-seen.ensures.looked).came.0 in (
+      looks_again c.args.arrival.now,
+      record {
+        seat = c.look-seen.ensures.seat;
+        lock = c.requires.may.there;
+        orderly = w.orderly;
+        working = w.working;
+      },
+    )
 
 pub stand-requires-clause-holds : goal.stand-requires-clause-holds
 stand-requires-clause-holds c = ap (λ (z : Sat). any_below (length z.0.part.core.owned) (owns z.0.part.core))
-    c.look-seen.ensures.looked ∙ c.requires.holds
+    c.look-seen.ensures.looked ∙ c.requires.may.any
 
-pub returns-in-None-clause-lost : goal.returns-in-None-clause-lost
-returns-in-None-clause-lost c = let size = length (first_graph c.args.board.now.table.shared.key) in
-    let n = c.args.lock in let later = looks_again c.args.arrival.now in
-    let stands = has_joined c.args.arrival.now in let m = c.args.seat.now.seat.me in
-    let m1 = c.look-seen.new.self.seat.me in
-    let w1 = work_looked size n stands later m m1 c.look-seen.result c.requires.orderly c.requires.work c.look-seen.ensures.looked in
-    work_touched size n m stands later m1 c.take_inside.new.seat.seat.me w1 c.in-None.ensures.lost
+pub returns-in_default-clause-came : goal.returns-in_default-clause-came
+returns-in_default-clause-came c = let same = c.stand.ensures.same in
+    attempted c.args.seat.now c.stand.new.seat c.args.arrival.now c.args.arrival.now c.requires.at.0 c.requires.at.1
+    (record { seat = same.seat; records = same.records ∙ c.look-seen.ensures.records }) refl refl refl
+    (come_touched (come_looked c.requires.at.0 c.requires.at.1 c.requires.may c.args.waits c.look-seen.ensures.looked)
+    c.in_default.ensures.stands)
 
-pub returns-clause-uncancelled : goal.returns-clause-uncancelled
-returns-clause-uncancelled c = waits_so c.args.waits c.stop_if_cancelled.new.seat.seat.me.0.part.core.uncancelled
-    c.stay_or_back_off.new.seat.seat.me.0.part.core c.stay_or_back_off.result
-    c.in_default-stop_if_cancelled.ensures.uncancelled c.stay_or_back_off.ensures.uncancelled
+pub stop_if_cancelled-requires-clause-at : goal.stop_if_cancelled-requires-clause-at
+stop_if_cancelled-requires-clause-at c = let w = (come_stood
+    (come_looked c.requires.at.0 c.requires.at.1 c.requires.may c.args.waits c.look-seen.ensures.looked)
+    c.in-Some-stand.ensures.stands).came.0 in (
+      looks_again c.args.arrival.now,
+      record {
+        seat = c.stand.ensures.same.seat;
+        lock = c.requires.may.there;
+        orderly = w.orderly;
+        working = w.working;
+      },
+    )
 
-pub returns-in-Some-clause-still : goal.returns-in-Some-clause-still
-returns-in-Some-clause-still c = still_then c.args.seat.now.seat.me c.look-seen.new.self.seat.me
-    c.take_inside.new.seat.seat.me (still_looked c.args.seat.now.seat.me c.look-seen.new.self.seat.me
-    c.look-seen.result c.look-seen.ensures.looked) c.take_inside.ensures.still
+pub returns-in-Some-stop_if_cancelled-clause-came : goal.returns-in-Some-stop_if_cancelled-clause-came
+returns-in-Some-stop_if_cancelled-clause-came c = let same = c.stop_if_cancelled.ensures.same in
+    let stopped = c.in-Some-stop_if_cancelled.ensures.stopped in
+    attempted c.args.seat.now c.stop_if_cancelled.new.seat c.args.arrival.now c.joining.result c.requires.at.0 c.requires.at.1
+    (record { seat = same.seat; records = same.records ∙ c.stand.ensures.same.records ∙ c.look-seen.ensures.records })
+    c.joining.ensures.joined refl c.joining.ensures.again
+    (come_out (come_stood (come_looked c.requires.at.0 c.requires.at.1 c.requires.may c.args.waits c.look-seen.ensures.looked)
+    c.in-Some-stand.ensures.stands) c.stop_if_cancelled.new.seat.seat.me (Interrupted c.in-Some-stop_if_cancelled.by)
+    stopped.0 stopped.1 tt stopped.2.awake stopped.2.deeds)
 
-pub returns-in-None-clause-still : goal.returns-in-None-clause-still
-returns-in-None-clause-still c = still_then c.args.seat.now.seat.me c.look-seen.new.self.seat.me
-    c.take_inside.new.seat.seat.me (still_looked c.args.seat.now.seat.me c.look-seen.new.self.seat.me
-    c.look-seen.result c.look-seen.ensures.looked) c.take_inside.ensures.still
+-- it stands in the wait list, and goes on
+went_on : (c : In_default-stop_if_cancelled) → HasCome c.args.board.now c.args.lock true (looks_again c.args.arrival.now)
+    c.args.waits c.args.seat.now.seat.me c.args.wake.now (c.args.seat.now.seat.me.0.part.core.attempts + 1) Lost
+    c.stop_if_cancelled.new.seat.seat.me c.args.wake.now
+went_on c = let stopped = c.in_default-stop_if_cancelled.ensures.stopped in
+    come_goes_on (come_stood
+    (come_looked c.requires.at.0 c.requires.at.1 c.requires.may c.args.waits c.look-seen.ensures.looked)
+    c.in-Some-stand.ensures.stands) stopped.0 stopped.2
 
-pub returns-in_default-clause-still : goal.returns-in_default-clause-still
-returns-in_default-clause-still c = let m = c.args.seat.now.seat.me in let m1 = c.look-seen.new.self.seat.me in
-    let m2 = c.stand.new.seat.seat.me in
-    still_then m m1 m2 (still_looked m m1 c.look-seen.result c.look-seen.ensures.looked) (still_none m1 m2 c.stand.ensures.condemned)
+pub stay_or_back_off-requires-clause-at : goal.stay_or_back_off-requires-clause-at
+stay_or_back_off-requires-clause-at c =
+    let w = (went_on (goal.at.stay_or_back_off-requires-clause-at c).In_default-stop_if_cancelled).came.0 in record {
+      seat = c.stop_if_cancelled.ensures.same.seat;
+      lock = c.requires.may.there;
+      orderly = w.orderly;
+      working = subst (λ (b : Bool). IsWorking c.args.lock true b c.stop_if_cancelled.new.seat.seat.me.0.part.core)
+          (sym c.joining.ensures.again) w.working;
+    }
 
-pub returns-in-Some-stop_if_cancelled-clause-still : goal.returns-in-Some-stop_if_cancelled-clause-still
-returns-in-Some-stop_if_cancelled-clause-still c = let m = c.args.seat.now.seat.me in let m1 = c.look-seen.new.self.seat.me in
-    let m2 = c.stand.new.seat.seat.me in let m3 = c.stop_if_cancelled.new.seat.seat.me in
-    still_then m m2 m3 (still_then m m1 m2 (still_looked m m1 c.look-seen.result c.look-seen.ensures.looked)
-    (still_none m1 m2 c.stand.ensures.condemned)) (still_none m2 m3 c.stop_if_cancelled.ensures.condemned)
+pub stay_or_back_off-requires-clause-seen : goal.stay_or_back_off-requires-clause-seen
+stay_or_back_off-requires-clause-seen c = let stands = c.in-Some-stand.ensures.stands in record {
+  sees = goes_on_sees (size_of c.args.board.now) c.stand.new.seat.seat.me c.stop_if_cancelled.new.seat.seat.me
+      c.in-Some-stand.word c.in_default-stop_if_cancelled.ensures.stopped.0 stands.sees;
+  flags = λ again. flags_later c.args.lock (has_joined c.args.arrival.now) (looks_again c.args.arrival.now)
+      c.args.seat.now.seat.me.0.part.core c.look-seen.result c.in-Some-stand.word c.requires.may.working
+      c.look-seen.ensures.flags stands.flags (sym c.joining.ensures.again ∙ again);
+}
 
-pub returns-clause-still : goal.returns-clause-still
-returns-clause-still c = let m = c.args.seat.now.seat.me in let m1 = c.look-seen.new.self.seat.me in
-    let m2 = c.stand.new.seat.seat.me in let m3 = c.stop_if_cancelled.new.seat.seat.me in
-    still_then m m3 c.stay_or_back_off.new.seat.seat.me
-    (still_then m m2 m3 (still_then m m1 m2 (still_looked m m1 c.look-seen.result c.look-seen.ensures.looked)
-    (still_none m1 m2 c.stand.ensures.condemned)) (still_none m2 m3 c.stop_if_cancelled.ensures.condemned))
-    c.stay_or_back_off.ensures.still
-
-pub returns-in-Some-clause-nap : goal.returns-in-Some-clause-nap
-returns-in-Some-clause-nap c = let m = c.args.seat.now.seat.me in let m1 = c.look-seen.new.self.seat.me in
-    awake_then m.0.part.core m1.0.part.core c.take_inside.new.seat.seat.me.0.part.core
-    (awake_looked m m1 c.look-seen.result c.look-seen.ensures.looked) c.take_inside.ensures.awake
-
-pub returns-in-None-clause-awake : goal.returns-in-None-clause-awake
-returns-in-None-clause-awake c = let m = c.args.seat.now.seat.me in let m1 = c.look-seen.new.self.seat.me in
-    awake_then m.0.part.core m1.0.part.core c.take_inside.new.seat.seat.me.0.part.core
-    (awake_looked m m1 c.look-seen.result c.look-seen.ensures.looked) c.take_inside.ensures.awake
-
-pub returns-in_default-clause-awake : goal.returns-in_default-clause-awake
-returns-in_default-clause-awake c = let m = c.args.seat.now.seat.me in let m1 = c.look-seen.new.self.seat.me in
-    awake_then m.0.part.core m1.0.part.core c.stand.new.seat.seat.me.0.part.core
-    (awake_looked m m1 c.look-seen.result c.look-seen.ensures.looked) c.stand.ensures.awake
-
-pub returns-in-Some-stop_if_cancelled-clause-nap : goal.returns-in-Some-stop_if_cancelled-clause-nap
-returns-in-Some-stop_if_cancelled-clause-nap c = let m = c.args.seat.now.seat.me in let m1 = c.look-seen.new.self.seat.me in
-    let m2 = c.stand.new.seat.seat.me in
-    awake_then m.0.part.core m2.0.part.core c.stop_if_cancelled.new.seat.seat.me.0.part.core
-    (awake_then m.0.part.core m1.0.part.core m2.0.part.core
-    (awake_looked m m1 c.look-seen.result c.look-seen.ensures.looked) c.stand.ensures.awake) c.stop_if_cancelled.ensures.awake
-
-pub returns-clause-nap : goal.returns-clause-nap
-returns-clause-nap c = let m = c.args.seat.now.seat.me in let m1 = c.look-seen.new.self.seat.me in
-    let m2 = c.stand.new.seat.seat.me in let m3 = c.stop_if_cancelled.new.seat.seat.me in
-    nap_later m.0.part.core m3.0.part.core c.stay_or_back_off.new.seat.seat.me.0.part.core c.stay_or_back_off.result
-    (awake_then m.0.part.core m2.0.part.core m3.0.part.core
-    (awake_then m.0.part.core m1.0.part.core m2.0.part.core
-    (awake_looked m m1 c.look-seen.result c.look-seen.ensures.looked) c.stand.ensures.awake) c.stop_if_cancelled.ensures.awake)
-    c.stay_or_back_off.ensures.nap
-
-pub returns-clause-awake : goal.returns-clause-awake
-returns-clause-awake c = let m = c.args.seat.now.seat.me in let m1 = c.look-seen.new.self.seat.me in
-    let m2 = c.stand.new.seat.seat.me in let m3 = c.stop_if_cancelled.new.seat.seat.me in
-    awake_later m.0.part.core m3.0.part.core c.stay_or_back_off.new.seat.seat.me.0.part.core c.stay_or_back_off.result
-    (awake_then m.0.part.core m2.0.part.core m3.0.part.core
-    (awake_then m.0.part.core m1.0.part.core m2.0.part.core
-    (awake_looked m m1 c.look-seen.result c.look-seen.ensures.looked) c.stand.ensures.awake) c.stop_if_cancelled.ensures.awake)
-    c.stay_or_back_off.ensures.awake
+pub returns-clause-came : goal.returns-clause-came
+returns-clause-came c = let m3 = c.stop_if_cancelled.new.seat.seat.me in
+    attempted c.args.seat.now c.stay_or_back_off.new.seat c.args.arrival.now c.joining.result c.requires.at.0 c.requires.at.1
+    (record {
+      seat = c.stay_or_back_off.ensures.same.seat;
+      records = c.stay_or_back_off.ensures.same.records ∙ c.stop_if_cancelled.ensures.same.records
+          ∙ c.stand.ensures.same.records ∙ c.look-seen.ensures.records;
+    }) c.joining.ensures.joined refl c.joining.ensures.again
+    (come_then (went_on (goal.at.returns-clause-came c).In_default-stop_if_cancelled)
+    (subst (λ (b : Bool). HasCome c.args.board.now c.args.lock true b c.args.waits m3 c.args.wake.now m3.0.part.core.attempts
+    c.stay_or_back_off.result c.stay_or_back_off.new.seat.seat.me c.stay_or_back_off.new.wake) c.joining.ensures.again
+    (c.stay_or_back_off.ensures.came c.args.waits c.in_default-stop_if_cancelled.ensures.stopped.1)))

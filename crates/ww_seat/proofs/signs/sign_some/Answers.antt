@@ -1,15 +1,15 @@
 use Rattle.std.proofs.Common.{ap, refl, sym, ◌∙◌, arith}
 use Rattle.ww_rule.specs.declared.cells.Sight.{Sight}
-use Rattle.ww_seat.proofs.Working.{marked_none}
+use Rattle.ww_seat.proofs.Working.{marked_none, still_noted}
 use Rattle.ww_seat.proofs.Signing.{noted_none, marked_noted, noted_step, noted_is, noted_all, owed_at, victim_low, may_sign}
 use Rattle.ww_seat.proofs.signs.sign_some.Goals as goal
 
 pub loop-pair-init : goal.loop-pair-init
 loop-pair-init c = (
-  c.requires.seat,
-  noted_none _ c.args.seat.now.seat.me _ c.requires.orderly refl,
+  c.requires.at.seat,
+  noted_none _ c.args.seat.now.seat.me _ c.requires.at.orderly refl,
   refl,
-  marked_none c.args.seat.now.seat.me _ c.requires.woken,
+  marked_none c.args.seat.now.seat.me _ c.requires.marks.woken,
   refl,
 )
 
@@ -20,12 +20,12 @@ sign-is_condemned-requires-clause-victim c =
 
 pub sign-is_condemned-requires-clause-may : goal.sign-is_condemned-requires-clause-may
 sign-is_condemned-requires-clause-may c =
-    may_sign _ c.args.lock _ c.args.owed.now c.args.seat.now.seat.me c.loop-pair.seat.seat.me _ _ c.requires.inside
+    may_sign _ c.args.lock _ c.args.owed.now c.args.seat.now.seat.me c.loop-pair.seat.seat.me _ _ c.requires.at.inside
     c.loop-pair.invariant.1 c.requires.owed (owed_at c.args.owed.now c.loop-pair.pair-index c.loop-pair-test.true)
 
 pub mark-requires : goal.mark-requires
 mark-requires c = let low = (c.requires.owed _ _ (owed_at c.args.owed.now c.loop-pair.pair-index c.loop-pair-test.true)).0 in
-    let room = c.requires.marks in let long = c.loop-pair.invariant.4 in omega arith
+    let room = c.requires.marks.room in let long = c.loop-pair.invariant.4 in omega arith
 
 pub loop-pair-preserved : goal.loop-pair-preserved
 loop-pair-preserved c = (
@@ -38,7 +38,7 @@ loop-pair-preserved c = (
   c.sign-is_condemned.ensures.records ∙ c.loop-pair.invariant.2,
   marked_noted c.loop-pair.seat.seat.me c.sign-is_condemned.new.self.seat.me c.args.wake.now
       c.loop-pair.wake c.mark.new.marks c.sign-is_condemned.result _ _
-      (c.who-who.ensures ∙ sym c.requires.seat.who
+      (c.who-who.ensures ∙ sym c.requires.at.seat.who
       ∙ sym (ap (λ (z : Sight). z.part.core.who) c.loop-pair.invariant.1.view))
       (noted_is c.sign-is_condemned.result c.loop-pair.seat.seat.me c.sign-is_condemned.new.self.seat.me _
       c.sign-is_condemned.ensures.condemned c.sign-is_condemned.ensures.noted) c.loop-pair.invariant.3
@@ -47,5 +47,6 @@ loop-pair-preserved c = (
 )
 
 pub returns-clause-signed : goal.returns-clause-signed
-returns-clause-signed c = noted_all _ c.loop-pair.pair-index c.args.owed.now c.args.seat.now.seat.me
-    c.loop-pair.seat.seat.me c.loop-pair-test.false c.loop-pair.invariant.1
+returns-clause-signed c = let m = c.args.seat.now.seat.me in let m1 = c.loop-pair.seat.seat.me in let i = c.loop-pair.invariant in
+    let h = noted_all _ c.loop-pair.pair-index c.args.owed.now m m1 c.loop-pair-test.false i.1 in
+    (h, record { marked = i.3; long = i.4; still = still_noted _ _ m m1 h })

@@ -1,115 +1,76 @@
-use Rattle.std.proofs.Common.{◌*◌, ◌≡◌, ◌≤◌, length, arith, subst, sym, ap, refl, ◌∙◌, Some}
+use Rattle.std.proofs.Common.{ap, arith, refl, sym, ◌∙◌, Some}
 use Rattle.ww_word.specs.declared.owner.Owner.{Owner}
 use Rattle.ww_rule.specs.declared.cells.Sight.{Sight}
-use Rattle.ww_rule.specs.Guards.{exiting}
 use Rattle.ww_rule.specs.Waiting.{taking_inside}
 use Rattle.ww_table.specs.Seat.{size_of}
-use Rattle.ww_seat.specs.Looks.{IsLook}
-use Rattle.ww_seat.specs.declared.look.Look.TheVariants.{Locked}
-use Rattle.ww_seat.proofs.Working.{none_condemned, woken_still, woken_touched, marked_none, marked_still, still_none, still_touched, still_noted, still_then}
-use Rattle.ww_seat.proofs.Took.{taken_read, owes_after, taken_goes, own_out, look_taken, word_read, own_there}
-use Rattle.ww_seat.proofs.Naps.{awake_by, awake_then, awake_left, awake_noted, awake_touched}
-use Rattle.ww_rule.specs.declared.cells.Sight.{Sight}
+use Rattle.ww_plain.specs.declared.node.Node.{Node}
+use Rattle.ww_seat.specs.Work.{deeds_of, HasTakenInside}
+use Rattle.ww_seat.proofs.Coming.{come_same, come_touched, marks_idle, marks_idle_then, marks_then}
+use Rattle.ww_seat.proofs.Working.{none_condemned}
+use Rattle.ww_seat.proofs.Took.{taken_read, owes_after, taken_goes, look_taken, word_read, own_there}
+use Rattle.ww_seat.proofs.Naps.{awake_then, awake_left, awake_noted}
+use Rattle.ww_seat.proofs.taking.take_inside.Goals.{After-own_word-word}
 use Rattle.ww_seat.proofs.taking.take_inside.Goals as goal
 
-pub own_word-word-requires-clause-list : goal.own_word-word-requires-clause-list
-own_word-word-requires-clause-list c = let t = c.take_seen.ensures.took c.if-not-take_seen.false in
-    t.1.orderly.list c.args.lock (owes_after _ c.args.lock c.requires.work.0 c.requires.work.1
-    c.args.seat.now.seat.me c.take_seen.new.seat.seat.me _ c.args.seen c.requires.work.2 t.1).inside
+pub returns-then-not-take_seen-clause-came : goal.returns-then-not-take_seen-clause-came
+returns-then-not-take_seen-clause-came c = λ stands again waits working.
+    come_touched (come_same c.args.board.now c.args.lock stands again waits c.args.seat.now.seat.me c.args.wake.now
+    c.requires.at.2.orderly working c.requires.marks.woken) (c.take_seen.ensures.tried.lost c.if-not-take_seen.true)
 
-pub sign_all-requires : goal.sign_all-requires
-sign_all-requires c = let m = c.args.seat.now.seat.me in let m1 = c.take_seen.new.seat.seat.me in
-    let m2 = c.own_word-word.new.seat.seat.me in
-    let t = c.take_seen.ensures.took c.if-not-take_seen.false in
-    let t2 = taken_read _ c.args.lock m m1 m2 _ t.1 c.own_word-word.ensures.read in
-    let owes = owes_after _ c.args.lock c.requires.work.0 c.requires.work.1 m m2 _ c.args.seen c.requires.work.2 t2 in record {
-      seat = c.own_word-word.ensures.seat;
-      lock = c.requires.lock;
-      orderly = t2.orderly;
-      inside = owes.inside;
+-- it has the lock, and has read its own word: m2 then
+has_it : (c : After-own_word-word) → (x : Node) × HasTakenInside (size_of c.args.board.now) c.args.lock c.args.seat.now.seat.me x c.own_word-word.new.seat.seat.me
+has_it c = let t = c.take_seen.ensures.tried.took c.if-not-take_seen.false in (
+  t.0,
+  taken_read (size_of c.args.board.now) c.args.lock
+      c.args.seat.now.seat.me c.take_seen.new.seat.seat.me c.own_word-word.new.seat.seat.me t.0 t.1 c.own_word-word.ensures.word.read,
+)
+
+pub sign_all-requires-clause-at : goal.sign_all-requires-clause-at
+sign_all-requires-clause-at c = let t = has_it (goal.at.sign_all-requires-clause-at c).After-own_word-word in record {
+  seat = c.own_word-word.ensures.same.seat;
+  lock = c.requires.at.2.lock;
+  orderly = t.1.orderly;
+  inside = ap (λ (z : Sight). z.part.core.inside) t.1.view ∙ c.requires.at.2.working.inside;
+}
+
+pub sign_all-requires-clause-seen : goal.sign_all-requires-clause-seen
+sign_all-requires-clause-seen c = let m2 = c.own_word-word.new.seat.seat.me in let seat = c.own_word-word.ensures.same.seat in
+    let owes = owes_after _ c.args.lock c.requires.at.0 c.requires.at.1 c.args.seat.now.seat.me m2 _ c.args.seen
+    c.requires.at.2.working (has_it (goal.at.sign_all-requires-clause-seen c).After-own_word-word).1 in
+    let word = word_read c.args.lock c.take_seen.new.seat.seat.me m2 _ c.own_word-word.ensures.word.read
+    c.own_word-word.ensures.word.word in record {
+      seen = owes.seen ∙ ap Some (sym word);
+      there = λ u is. own_there c.own_word-word.result.seat m2.0.part.core.who u m2.0.part.core.seats
+          (ap (λ (o : Owner). o.seat) word) (omega (arith, seat.few, seat.who, seat.seats)) is;
       seats = owes.seats;
       once = owes.once;
-      there = λ u is. own_there c.own_word-word.result.seat m2.0.part.core.who u m2.0.part.core.seats
-          (ap (λ (o : Owner). o.seat) (word_read c.args.lock m1 m2 _ c.own_word-word.ensures.read c.own_word-word.ensures.word))
-          (let few = c.own_word-word.ensures.seat.few in let who = c.own_word-word.ensures.seat.who in
-          let seats = c.own_word-word.ensures.seat.seats in omega arith) is;
-      marks = subst (λ (z : Sight). z.part.core.seats ≤ 64 * length c.args.wake.now) (sym t2.view) c.requires.marks;
-      woken = woken_still m m2 _ (none_condemned m m2 (taking_inside m.0 c.args.lock t.0) t2.view refl refl refl refl) c.requires.woken;
-      seen = owes.seen ∙ ap Some (sym (word_read c.args.lock m1 m2 _ c.own_word-word.ensures.read c.own_word-word.ensures.word));
     }
 
-pub leave-requires : goal.leave-requires
-leave-requires c = let m = c.args.seat.now.seat.me in let m1 = c.take_seen.new.seat.seat.me in let m2 = c.own_word-word.new.seat.seat.me in
-    let t2 = taken_read _ c.args.lock m m1 m2 _ (c.take_seen.ensures.took c.if-not-take_seen.false).1 c.own_word-word.ensures.read in
-    let h = c.sign_all.ensures.signed in record {
-      seat = c.sign_all.ensures.seat;
-      lock = c.requires.lock;
-      orderly = h.orderly;
-      may = taken_goes _ c.args.lock c.requires.work.0 c.requires.work.1 m m2 c.sign_all.new.seat.seat.me _
-          c.own_word-word.result c.requires.work.2 t2
-          (word_read c.args.lock m1 m2 _ c.own_word-word.ensures.read c.own_word-word.ensures.word) h;
+pub leave-requires-clause-may : goal.leave-requires-clause-may
+leave-requires-clause-may c = let m2 = c.own_word-word.new.seat.seat.me in
+    taken_goes _ c.args.lock c.requires.at.0 c.requires.at.1 c.args.seat.now.seat.me m2 c.sign_all.new.seat.seat.me _
+    c.own_word-word.result c.requires.at.2.working (has_it (goal.at.leave-requires-clause-may c).After-own_word-word).1
+    (word_read c.args.lock c.take_seen.new.seat.seat.me m2 _ c.own_word-word.ensures.word.read c.own_word-word.ensures.word.word)
+    c.sign_all.ensures.signed.0
+
+pub returns-clause-came : goal.returns-clause-came
+returns-clause-came c = λ stands again waits working. let m = c.args.seat.now.seat.me in
+    let m2 = c.own_word-word.new.seat.seat.me in let m3 = c.sign_all.new.seat.seat.me in
+    let m5 = c.node_or_blank.new.seat.seat.me in let n = c.node_or_blank.ensures.read in
+    let t = has_it (goal.at.returns-clause-came c).After-own_word-word in let h = c.sign_all.ensures.signed.0 in
+    let took = none_condemned m m2 (taking_inside m.0 c.args.lock t.0) t.1.view refl refl refl in
+    let out = n.view ∙ c.leave.ensures.out.view in
+    let look = look_taken _ c.args.lock m m2 m3 c.leave.new.seat.seat.me m5 _ c.node_or_blank.result _ c.requires.at.2.orderly
+    t.1 h c.leave.ensures.out.view n.orderly n.view n.node n.blank in record {
+      came = (
+        look.0,
+        tt,
+        tt,
+        awake_then m.0.part.core m3.0.part.core m5.0.part.core
+            (awake_then m.0.part.core m2.0.part.core m3.0.part.core took.awake (awake_noted _ _ m2 m3 h))
+            (awake_left m3 m5 (ap (λ (z : Sight). z.part.core.waits) h.view ∙ ap (λ (z : Sight). z.part.core.waits) t.1.view) out),
+      );
+      attempts = look.1;
+      marked = marks_idle_then m m3 m5 (marks_then m m2 m3 (marks_idle m m2 c.args.wake.now took.deeds c.requires.marks.woken)
+          c.sign_all.ensures.signed.1) (ap (λ (z : Sight). deeds_of z.part.core) out);
     }
-
-pub node_or_blank-requires-clause-owner : goal.node_or_blank-requires-clause-owner
-node_or_blank-requires-clause-owner c = let m = c.args.seat.now.seat.me in let m2 = c.own_word-word.new.seat.seat.me in
-    let t2 = taken_read _ c.args.lock m c.take_seen.new.seat.seat.me m2 _
-    (c.take_seen.ensures.took c.if-not-take_seen.false).1 c.own_word-word.ensures.read in
-    own_out _ c.args.lock m m2 c.sign_all.new.seat.seat.me c.leave.new.seat.seat.me _ _ c.requires.orderly t2
-    c.sign_all.ensures.signed c.leave.ensures.view
-
--- what the look came to
-came : (c : goal.After-node_or_blank) → let m = c.args.seat.now.seat.me in let m5 = c.node_or_blank.new.seat.seat.me in
-    IsLook (size_of c.args.board.now) c.args.lock m (Locked c.node_or_blank.result) m5 × (m5.0.part.core.attempts ≡ m.0.part.core.attempts)
-came c = let m = c.args.seat.now.seat.me in let m2 = c.own_word-word.new.seat.seat.me in let n = c.node_or_blank.ensures in
-    let t2 = taken_read _ c.args.lock m c.take_seen.new.seat.seat.me m2 _
-    (c.take_seen.ensures.took c.if-not-take_seen.false).1 c.own_word-word.ensures.read in
-    look_taken _ c.args.lock m m2 c.sign_all.new.seat.seat.me c.leave.new.seat.seat.me
-    c.node_or_blank.new.seat.seat.me _ c.node_or_blank.result _ c.requires.orderly t2 c.sign_all.ensures.signed
-    c.leave.ensures.view n.orderly n.view n.node n.blank
-
-pub returns-clause-took : goal.returns-clause-took
-returns-clause-took c = (came c).0
-
-pub returns-clause-attempts : goal.returns-clause-attempts
-returns-clause-attempts c = (came c).1
-
-pub returns-then-not-take_seen-clause-marked : goal.returns-then-not-take_seen-clause-marked
-returns-then-not-take_seen-clause-marked c =
-    marked_none c.take_seen.new.seat.seat.me _
-    (woken_touched _ c.args.seat.now.seat.me c.take_seen.new.seat.seat.me _
-    (c.take_seen.ensures.lost c.if-not-take_seen.true) c.requires.woken)
-
-pub returns-clause-marked : goal.returns-clause-marked
-returns-clause-marked c = let m3 = c.sign_all.new.seat.seat.me in let m5 = c.node_or_blank.new.seat.seat.me in
-    marked_still m3 m5 _ _ (none_condemned m3 m5 (exiting m3.0)
-    (c.node_or_blank.ensures.view ∙ c.leave.ensures.view) refl refl refl refl) c.sign_all.ensures.marked
-
-pub returns-then-not-take_seen-clause-still : goal.returns-then-not-take_seen-clause-still
-returns-then-not-take_seen-clause-still c = still_touched _ c.args.seat.now.seat.me c.take_seen.new.seat.seat.me
-    (c.take_seen.ensures.lost c.if-not-take_seen.true)
-
-pub returns-clause-still : goal.returns-clause-still
-returns-clause-still c = let m = c.args.seat.now.seat.me in let m2 = c.own_word-word.new.seat.seat.me in
-    let m3 = c.sign_all.new.seat.seat.me in let m5 = c.node_or_blank.new.seat.seat.me in
-    let t = c.take_seen.ensures.took c.if-not-take_seen.false in
-    let t2 = taken_read _ c.args.lock m c.take_seen.new.seat.seat.me m2 _ t.1 c.own_word-word.ensures.read in
-    let taken = still_none m m2 (none_condemned m m2 (taking_inside m.0 c.args.lock t.0) t2.view refl refl refl refl) in
-    let left = still_none m3 m5 (none_condemned m3 m5 (exiting m3.0)
-    (c.node_or_blank.ensures.view ∙ c.leave.ensures.view) refl refl refl refl) in
-    still_then m m3 m5 (still_then m m2 m3 taken (still_noted _ _ m2 m3 c.sign_all.ensures.signed)) left
-
-pub returns-then-not-take_seen-clause-awake : goal.returns-then-not-take_seen-clause-awake
-returns-then-not-take_seen-clause-awake c = awake_touched _ c.args.seat.now.seat.me c.take_seen.new.seat.seat.me
-    (c.take_seen.ensures.lost c.if-not-take_seen.true)
-
-pub returns-clause-awake : goal.returns-clause-awake
-returns-clause-awake c = let m = c.args.seat.now.seat.me in let m2 = c.own_word-word.new.seat.seat.me in
-    let m3 = c.sign_all.new.seat.seat.me in let m5 = c.node_or_blank.new.seat.seat.me in
-    let t = c.take_seen.ensures.took c.if-not-take_seen.false in
-    let t2 = taken_read _ c.args.lock m c.take_seen.new.seat.seat.me m2 _ t.1 c.own_word-word.ensures.read in
-    let h = c.sign_all.ensures.signed in
-    let none = ap (λ (z : Sight). z.part.core.waits) h.view ∙ ap (λ (z : Sight). z.part.core.waits) t2.view in
-    awake_then m.0.part.core m3.0.part.core m5.0.part.core
-    (awake_then m.0.part.core m2.0.part.core m3.0.part.core
-    (awake_by m m2 (taking_inside m.0 c.args.lock t.0) t2.view (record { naps = refl; deaf = refl })) (awake_noted _ _ m2 m3 h))
-    (awake_left m3 m5 none (c.node_or_blank.ensures.view ∙ c.leave.ensures.view))

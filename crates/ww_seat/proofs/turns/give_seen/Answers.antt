@@ -16,9 +16,3 @@ pub returns-else-lock-from-clause-gave : goal.returns-else-lock-from-clause-gave
 returns-else-lock-from-clause-gave c = let e = c.give_bare_inside.ensures.gave in
     let_go_bare (size_of c.args.board.now) c.args.seat.now.seat.me c.give_bare_inside.new.self.seat.me c.args.lock
     e.0 _ c.requires.giving (omega (arith, c.if-lock-from.false, c.from.ensures, c.size.ensures)) e.1 e.2
-
-pub returns-then-lock-from-clause-awake : goal.returns-then-lock-from-clause-awake
-returns-then-lock-from-clause-awake c = (returns-then-lock-from-clause-gave c).awake
-
-pub returns-else-lock-from-clause-awake : goal.returns-else-lock-from-clause-awake
-returns-else-lock-from-clause-awake c = (returns-else-lock-from-clause-gave c).awake

@@ -1,4 +1,4 @@
-use Rattle.std.proofs.Common.{ℕ, ◌≡◌, ◌≤◌, ◌<◌, false, length}
+use Rattle.std.proofs.Common.{ℕ, ◌≡◌, ◌≤◌, ◌<◌, length}
 use Rattle.std.specs.Option.{option_map}
 use Rattle.ww_seat.specs.Marks.{is_marked}
 use Rattle.ww_seat.specs.Bells.{rung_at, one_more, ArePlacedAlike}

@@ -1,4 +1,4 @@
-use Rattle.std.proofs.Common.{ℕ, ◌≡◌, ◌≢◌, ◌%◌, set, get_or, List, sym, subst}
+use Rattle.std.proofs.Common.{ℕ, ◌≡◌, ◌≢◌, ◌%◌, set, get_or, sym, subst}
 use Rattle.ww_seat.specs.Marks.{is_marked, IsMarked}
 use Rattle.ww_seat.proofs.Marking.{with_bit, marked_here, marked_others}
 use Rattle.ww_seat.proofs.wake.set_mark.Goals as goal

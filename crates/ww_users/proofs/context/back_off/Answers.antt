@@ -1,8 +1,11 @@
-use Rattle.std.proofs.Common.{ap}
-use Rattle.ww_lock.specs.Holding.{Wanting}
-use Rattle.ww_users.proofs.Contexts.{slow_halted}
+use Rattle.std.proofs.Common.{ap, subst}
+use Rattle.ww_lock.specs.Holding.{Holding, Wanting}
+use Rattle.ww_lock.specs.Moves.{IsInterrupted}
+use Rattle.ww_users.proofs.Contexts.{slow_fault}
 use Rattle.ww_users.proofs.context.back_off.Goals as goal
 
-pub returns-clause-halted : goal.returns-clause-halted
-returns-clause-halted g c = slow_halted c.args.waits c.args.backoff.holding _ _ _ c.lock_slow_as.ensures.waits
-    (ap (λ (w : Wanting). w.holding) c.unlock_all.ensures) c.lock_slow_as.ensures.interrupted
+pub returns-in-Err-clause-halted : goal.returns-in-Err-clause-halted
+returns-in-Err-clause-halted g c = λ pass context.
+    slow_fault c.args.waits pass c.args.backoff.holding _ _ _ c.in-Err.by context c.in-Err.ensures.waits
+    (subst (λ (b : Holding). IsInterrupted b c.unlock_all.result.contended c.in-Err.by c.in-Err.contended.holding)
+    (ap (λ (w : Wanting). w.holding) c.unlock_all.ensures) c.in-Err.ensures.interrupted) c.fini.ensures

@@ -1,34 +1,43 @@
-use Rattle.std.proofs.Common.{refl, None}
-use Rattle.ww_lock.specs.Holding.{Holding}
-use Rattle.ww_users.specs.declared.fault.UserFault.{UserFault}
-use Rattle.ww_users.specs.declared.reordered_list.Ordered.{Ordered}
-use Rattle.ww_users.proofs.Orders.{order_below}
-use Rattle.ww_users.proofs.Turning.{order_keeps, order_through, order_fault, if_ok, if_err}
+use Rattle.std.proofs.Common.{◌∙◌, ℕ, List, ◌∷◌, ap}
+use Rattle.std.proofs.lemmas.Result.{err_from_is_err_and}
+use Rattle.ww_plain.specs.Numbers.{is_among}
+use Rattle.ww_users.proofs.Contexts.{same_later, context_later, list_fault, failed_fault}
+use Rattle.ww_users.proofs.Orders.{order_below, order_among, order_goes_on, order_fault}
 use Rattle.ww_users.proofs.reordered_list.lock_order_as.Goals as goal
 
-pub take_turns-requires-clause-callable : goal.take_turns-requires-clause-callable
-take_turns-requires-clause-callable g c = λ a o home comes.
-    let first : Ordered = record { kept = None; order = c.in-Ok.order } in
-    let keeps = order_keeps _ c.args.pass c.args.list.now first c.args.waits a o comes (λ b m r turn. turn.1) refl c.in-Ok.ensures.0 in
-    (home, (order_below _ _ _ keeps.1 c.requires.nodes, keeps.0))
+pub returns-in_err-acquiring-clause-err : goal.returns-in_err-acquiring-clause-err
+returns-in_err-acquiring-clause-err g c =
+    let p = err_from_is_err_and c.from_residual.result c.from_residual.ensures.1 in
+    rw (p.1, p.2) (list_fault c.args.waits c.args.pass _ c.args.list.now _ (c.in_err-acquiring.ensures.spent c.args.waits))
 
-pub returns-clause-holds : goal.returns-clause-holds
-returns-clause-holds g c =
-    let first : Ordered = record { kept = None; order = c.in-Ok.order } in
-    if_ok _ _ _ c.take_turns.ensures.through
-    (λ d through. (order_through _ c.args.pass c.args.list.now first c.args.waits d through
-    (λ b m r turn. turn.1) refl c.in-Ok.ensures.0).0)
+pub returns-in_err-acquiring-clause-room : goal.returns-in_err-acquiring-clause-room
+returns-in_err-acquiring-clause-room g c =
+    let p = err_from_is_err_and c.from_residual.result c.from_residual.ensures.1 in
+    rw (p.1, p.2) (c.in_err-acquiring.ensures.spent c.args.waits).room
 
-pub returns-clause-no_double : goal.returns-clause-no_double
-returns-clause-no_double g c =
-    let first : Ordered = record { kept = None; order = c.in-Ok.order } in
-    if_ok _ _ _ c.take_turns.ensures.through
-    (λ d through. (order_through _ c.args.pass c.args.list.now first c.args.waits d through
-    (λ b m r turn. turn.1) refl c.in-Ok.ensures.0).1)
+pub lock_entries-requires-clause-nodes : goal.lock_entries-requires-clause-nodes
+lock_entries-requires-clause-nodes g c =
+    rw c.deref.ensures.0 (order_below c.args.list.now c.loop.order.items _ c.loop.invariant.4 c.requires.nodes)
 
-pub returns-clause-err : goal.returns-clause-err
-returns-clause-err g c =
-    let first : Ordered = record { kept = None; order = c.in-Ok.order } in
-    if_err _ _ _ c.take_turns.ensures.err
-    (λ (e : Holding × UserFault) told. order_fault _ c.args.pass c.args.list.now first c.args.waits e.0 e.1 told
-    (λ b m r turn. turn.1) refl c.in-Ok.ensures.0)
+pub returns-in-Through-clause-holds : goal.returns-in-Through-clause-holds
+returns-in-Through-clause-holds g c = rw c.done.ensures
+    (λ n. c.in-Through.ensures.1 n ∙ ap (is_among n) c.deref.ensures.0
+    ∙ order_among c.args.list.now c.loop.order.items n c.loop.invariant.4)
+
+pub returns-in-Failed-clause-err : goal.returns-in-Failed-clause-err
+returns-in-Failed-clause-err g c =
+    let failed = failed_fault c.args.waits c.args.pass _ _ _ _ c.loop.kept _ c.loop.invariant.2 c.in-Failed.ensures c.give_up.ensures in
+    order_fault c.args.waits c.args.pass _ c.args.list.now c.loop.order.items _ c.loop.invariant.4 (rw c.deref.ensures.0 at failed.0)
+
+pub loop-preserved : goal.loop-preserved
+loop-preserved g c =
+    let again = c.in_ok-acquiring-in-Deadlk.ensures in
+    let moved = c.insert.ensures.items ∙ ap (λ (ns : List ℕ). c.contended-contended.result ∷ ns) c.remove.ensures.items in
+    let goes_on = order_goes_on _ c.loop.order.items _ c.in-Deadlk.position _ c.in-Deadlk.backoff _ c.loop.invariant.4
+    (rw c.deref.ensures.0 at c.in-Deadlk.ensures.1) c.contended-contended.ensures moved again.alone in (
+      tt,
+      tt,
+      context_later _ _ _ c.loop.invariant.2 (same_later _ _ _ c.in-Deadlk.ensures.0 again.same),
+      goes_on.0,
+      goes_on.1,
+    )

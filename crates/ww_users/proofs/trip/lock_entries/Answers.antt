@@ -2,8 +2,11 @@ use Rattle.std.proofs.Common.{◌∙◌, refl, sym, subst}
 use Rattle.ww_lock.specs.Holding.{Holding}
 use Rattle.ww_users.specs.Trips.{IsSameContext}
 use Rattle.ww_users.proofs.Contexts.{same_told, halted_later}
-use Rattle.ww_users.proofs.Entries.{way_skips, way_locks, way_doubles, way_contended, way_ends}
+use Rattle.ww_users.proofs.Entries.{way_begins, way_skips, way_locks, way_doubles, way_contended, way_ends}
 use Rattle.ww_users.proofs.trip.lock_entries.Goals as goal
+
+pub loop-position-init : goal.loop-position-init
+loop-position-init g c = way_begins c.args.kept c.args.acquiring c.args.list.now c.requires.kept
 
 pub loop-position-preserved-then-eq : goal.loop-position-preserved-then-eq
 loop-position-preserved-then-eq g c = way_skips _ _ _ c.args.list.now c.loop-position.position _ _

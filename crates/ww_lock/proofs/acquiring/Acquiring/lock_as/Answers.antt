@@ -3,9 +3,6 @@ use Rattle.ww_lock.specs.Carried.{holding_of}
 use Rattle.ww_lock.specs.Moves.{tried}
 use Rattle.ww_lock.proofs.acquiring.Acquiring.lock_as.Goals as goal
 
-pub wait_as-requires-clause-tried : goal.wait_as-requires-clause-tried
-wait_as-requires-clause-tried g c = (_, c.try_take.ensures.busy c.if-try_take.false)
-
 pub returns : goal.returns
 returns g c = c.wait_as.ensures c.args.self
-    (c.try_take.ensures.busy c.if-try_take.false ∙ ap tried (ap holding_of c.deref_mut.ensures.value ∙ c.self.view_is))
+    (c.if-try_take.ensures.1 ∙ ap tried (ap holding_of c.deref_mut.ensures.value ∙ c.self.view_is))

@@ -1,42 +1,64 @@
-use Rattle.std.proofs.Common.{◌≡◌, ℕ, List, ap, arith, false, refl, subst, ◌∙◌}
+use Rattle.std.proofs.Common.{◌≡◌, ℕ, List, ap, arith, Err, false, length, refl, subst, ◌∙◌}
 use Rattle.ww_plain.specs.Numbers.{is_among}
 use Rattle.ww_seat.specs.declared.waiting.Stop.{Stop}
-use Rattle.ww_seat.specs.Calls.{MayStop}
 use Rattle.ww_lock.specs.Holding.{Holding}
 use Rattle.ww_lock.specs.Carried.{holding_of}
-use Rattle.ww_lock.specs.Moves.{IsStop}
+use Rattle.ww_lock.specs.Moves.{HasCome}
 use Rattle.ww_lock.proofs.acquiring.Acquiring.wait_as.Goals as goal
 
 pub invariant_of-result : goal.invariant_of-result
-invariant_of-result g c = let e = c.in-Ok.ensures in
-    let was = c.requires.tried.1 in
-    let t = e.taken c.requires.tried.0 (ap holding_of c.deref_mut.ensures.value ∙ was) in
-    (e.fresh, omega (arith, c.requires.context, ap (λ (s : Holding). s.stamp) was, ap (λ (s : Holding). s.stamp) t.added), e.unmet)
+invariant_of-result g c = let l = c.requires.may.0 in
+    let e = c.in-Ok.ensures l.before (ap holding_of c.deref_mut.ensures.value ∙ l.tried) in (
+      e.0,
+      omega (arith, c.requires.may.1, ap (λ (s : Holding). s.stamp) l.tried, ap (λ (s : Holding). s.stamp) e.2.added),
+      e.3,
+    )
+
+pub invariant_of-result-in-Err-Deadlk : goal.invariant_of-result-in-Err-Deadlk
+invariant_of-result-in-Err-Deadlk g c = let l = c.requires.may.0 in
+    let e = subst (λ (why : Stop). HasCome l.before c.args.n c.args.waits (Err why) c.wait_for.new.self) c.in-Err-Deadlk.field-0-is
+    (c.in-Err-Deadlk.ensures l.before (ap holding_of c.deref_mut.ensures.value ∙ l.tried)) in (
+      e.0,
+      e.3,
+      e.2.1,
+      omega (arith, e.2.2, ap (λ (s : Holding). s.stamp) e.2.0),
+      omega (arith, l.may.there, ap (λ (s : Holding). length s.seen) l.tried, ap (λ (s : Holding). length s.seen) e.2.0),
+    )
+
+pub overflow_cast-result : goal.overflow_cast-result
+overflow_cast-result g c = let l = c.requires.may.0 in
+    let e = subst (λ (why : Stop). HasCome l.before c.args.n c.args.waits (Err why) c.wait_for.new.self) c.in-Err-Interrupted.field-0-is
+    (c.in-Err-Interrupted.ensures l.before (ap holding_of c.deref_mut.ensures.value ∙ l.tried)) in
+    let few = e.4.1 in omega (arith, few)
+
+pub invariant_of-result-in-Err-Interrupted : goal.invariant_of-result-in-Err-Interrupted
+invariant_of-result-in-Err-Interrupted g c = let l = c.requires.may.0 in
+    let e = subst (λ (why : Stop). HasCome l.before c.args.n c.args.waits (Err why) c.wait_for.new.self) c.in-Err-Interrupted.field-0-is
+    (c.in-Err-Interrupted.ensures l.before (ap holding_of c.deref_mut.ensures.value ∙ l.tried)) in (
+      e.0,
+      omega (arith, c.requires.may.1, ap (λ (s : Holding). s.stamp) l.tried, ap (λ (s : Holding). s.stamp) e.2.told),
+      e.3,
+    )
 
 pub returns-in-Ok : goal.returns-in-Ok
-returns-in-Ok g c = λ s was. (
-  c.in-Ok.ensures.taken s (ap holding_of c.deref_mut.ensures.value ∙ was),
-  λ until. c.wait_for.ensures.heeds until ∙ ap (λ (x : Holding). x.deaf) (ap holding_of c.deref_mut.ensures.value ∙ was),
-)
+returns-in-Ok g c = λ s was. let e = c.in-Ok.ensures s (ap holding_of c.deref_mut.ensures.value ∙ was) in (e.2, e.1)
 
 pub returns-in-Err-Deadlk : goal.returns-in-Err-Deadlk
 returns-in-Err-Deadlk g c = λ s was.
-    let told = subst (λ (why : Stop). IsStop s c.args.n why (holding_of c.wait_for.new.self)) c.in-Err-Deadlk.field-0-is
-    (c.in-Err-Deadlk.ensures.stopped s (ap holding_of c.deref_mut.ensures.value ∙ was)) in (
+    let e = subst (λ (why : Stop). HasCome s c.args.n c.args.waits (Err why) c.wait_for.new.self) c.in-Err-Deadlk.field-0-is
+    (c.in-Err-Deadlk.ensures s (ap holding_of c.deref_mut.ensures.value ∙ was)) in (
       record {
-        new = subst (λ (ns : List ℕ). is_among c.args.n ns ≡ false) (ap (λ (a : Holding). a.held) was) c.requires.new;
-        holds = told.3;
-        told = told.0;
+        new = subst (λ (ns : List ℕ). is_among c.args.n ns ≡ false) (ap (λ (a : Holding). a.held) was) c.requires.may.0.may.new;
+        holds = e.2.3;
+        told = e.2.0;
         contended = refl;
-        is_stamp = told.1;
-        older = told.2;
+        is_stamp = e.2.1;
+        older = e.2.2;
       },
-      λ until. c.wait_for.ensures.heeds until ∙ ap (λ (x : Holding). x.deaf) (ap holding_of c.deref_mut.ensures.value ∙ was),
+      e.1,
     )
 
 pub returns-in-Err-Interrupted : goal.returns-in-Err-Interrupted
-returns-in-Err-Interrupted g c = λ s was. (
-  (subst (λ (why : Stop). MayStop 16 c.args.waits why) c.in-Err-Interrupted.field-0-is c.in-Err-Interrupted.ensures.waits).0,
-  subst (λ (why : Stop). IsStop s c.args.n why (holding_of c.wait_for.new.self)) c.in-Err-Interrupted.field-0-is
-      (c.in-Err-Interrupted.ensures.stopped s (ap holding_of c.deref_mut.ensures.value ∙ was)),
-)
+returns-in-Err-Interrupted g c = λ s was.
+    let e = subst (λ (why : Stop). HasCome s c.args.n c.args.waits (Err why) c.wait_for.new.self) c.in-Err-Interrupted.field-0-is
+    (c.in-Err-Interrupted.ensures s (ap holding_of c.deref_mut.ensures.value ∙ was)) in (e.4.0, e.2)

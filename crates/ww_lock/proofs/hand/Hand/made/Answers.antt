@@ -1,13 +1,12 @@
-use Rattle.std.proofs.Common.{◌≡◌, ◌∙◌, ◌≤◌, length, IsTrue, sym, subst, arith}
+use Rattle.std.proofs.Common.{◌≡◌, ◌∙◌, ◌≤◌, length, IsTrue, sym, ap, subst, arith}
 use Rattle.std.specs.List.{AllByRecursion}
 use Rattle.ww_plain.specs.Footprint.{footprint_of}
-use Rattle.ww_plain.specs.Transaction.{transaction_of}
-use Rattle.ww_plain.specs.Meaning.{answer_of, graph_after}
+use Rattle.ww_plain.specs.Meaning.{graph_after}
 use Rattle.ww_seat.specs.Commits.{changes_of}
 use Rattle.ww_lock.specs.Holding.{Holding, Change}
 use Rattle.ww_lock.specs.Making.{IsMade, Finds}
-use Rattle.ww_lock.specs.Carried.{holding_of}
-use Rattle.ww_lock.proofs.Changes.{found}
+use Rattle.ww_lock.specs.Carried.{Carried, holding_of}
+use Rattle.ww_lock.proofs.Changes.{change_of, found}
 use Rattle.ww_lock.proofs.hand.Hand.made.Goals as goal
 
 -- whose changes are found, with room, can be committed
@@ -25,20 +24,16 @@ pub returns : goal.returns
 returns c =
     let h = c.args.self.now in
     let i = c.prepared.inside in
-    let t = transaction_of i.record.txn in
-    let p : Change = record {
-      transaction = t;
-      answer = answer_of i.record.reply;
-      before = i.before.value;
-      after = graph_after i.before.value t;
-    } in
-    let are : c.deref.result.now ≡ changes_of i.before.value t = c.deref.ensures.value ∙ c.prepared.invariant.changes in
-    let all : AllByRecursion (Finds (holding_of h)) (changes_of i.before.value t) =
+    let p = change_of i in
+    let are : c.deref.result.now ≡ changes_of p.before p.transaction = c.deref.ensures.value ∙ c.prepared.invariant.changes in
+    let all : AllByRecursion (Finds (holding_of h)) (changes_of p.before p.transaction) =
     subst (AllByRecursion (Finds (holding_of h))) are (c.finds_all.ensures.0 c.if-not-finds_all.false) in
-    let sizes : length i.before.value ≡ length h.seen = sym c.prepared.invariant.size ∙ c.if-prepared-size.false ∙ c.size.ensures.size in
+    let sizes : length i.before.value ≡ length h.seen = sym c.prepared.invariant.size ∙ c.if-prepared-size.false ∙ c.size.ensures.size
+    ∙ ap (λ (v : Carried). length v.seen) c.self.view_is in
+    let roomy = ap (λ (v : Carried). v.seat.room) c.self.view_is in
     let both : (IsTrue c.is_reserved.result → IsMade (holding_of h) p) × (IsMade (holding_of h) p → IsTrue c.is_reserved.result) = (
-      λ yes. made_if_found (holding_of h) p sizes all (let room = c.is_reserved.ensures.0 yes in omega (arith, room)),
-      λ made. c.is_reserved.ensures.1 (let room = made.room in omega (arith, room)),
+      λ yes. made_if_found (holding_of h) p sizes all (let room = c.is_reserved.ensures.0 yes in omega (arith, room, roomy)),
+      λ made. c.is_reserved.ensures.1 (let room = made.room in omega (arith, room, roomy)),
     ) in
     subst (λ (q : Change). (IsTrue c.is_reserved.result → IsMade (holding_of h) q)
     × (IsMade (holding_of h) q → IsTrue c.is_reserved.result)) c.prepared.view_is both
@@ -47,14 +42,8 @@ pub returns-then-not-finds_all : goal.returns-then-not-finds_all
 returns-then-not-finds_all c =
     let h = c.args.self.now in
     let i = c.prepared.inside in
-    let t = transaction_of i.record.txn in
-    let p : Change = record {
-      transaction = t;
-      answer = answer_of i.record.reply;
-      before = i.before.value;
-      after = graph_after i.before.value t;
-    } in
-    let are : changes_of i.before.value t ≡ c.deref.result.now = sym (c.deref.ensures.value ∙ c.prepared.invariant.changes) in (
+    let p = change_of i in
+    let are : changes_of p.before p.transaction ≡ c.deref.result.now = sym (c.deref.ensures.value ∙ c.prepared.invariant.changes) in (
       λ no. absurd (let never = no in cc),
       λ made. let all : AllByRecursion (Finds (holding_of h)) c.deref.result.now =
           subst (AllByRecursion (Finds (holding_of h))) are

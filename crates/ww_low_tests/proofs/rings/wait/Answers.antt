@@ -1,4 +1,0 @@
-use Rattle.ww_low_tests.proofs.rings.wait.Goals as goal
-
-pub holds_one-holds-requires : goal.holds_one-holds-requires
-holds_one-holds-requires g c = record { may = (c.args.kind, c.requires.may.0, c.args.lock, c.args.arrival, c.requires.may.1) }

@@ -1,5 +1,0 @@
-use Rattle.ww_low_tests.proofs.Holding.{holds_none}
-use Rattle.ww_low_tests.proofs.wakes.miss.Goals as goal
-
-pub try_take-requires-clause-holds : goal.try_take-requires-clause-holds
-try_take-requires-clause-holds g c = holds_none _ _ _ c.requires.holds

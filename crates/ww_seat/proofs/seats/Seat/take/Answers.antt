@@ -1,0 +1,26 @@
+use Rattle.std.proofs.Common.{ℕ, ◌<◌, ap, sym, subst, length, ◌∙◌, append-nil, []}
+use Rattle.ww_view.specs.View.{owns}
+use Rattle.ww_seat.specs.Standings.{Standing, view_in, size_in}
+use Rattle.ww_seat.proofs.AtOnce.{IsTaken, taken_at_once}
+use Rattle.ww_seat.proofs.Kept.{kept}
+use Rattle.ww_seat.proofs.Outside.{room_outside}
+use Rattle.ww_seat.proofs.seats.Seat.take.Goals.{After-top_node}
+use Rattle.ww_seat.proofs.seats.Seat.take.Goals as goal
+
+pub take_free-requires-clause-room : goal.take_free-requires-clause-room
+take_free-requires-clause-room c = room_outside _ c.self.inside.seat.seat.me c.self.invariant.orderly
+    (ap (λ (s : Standing). (view_in s).inside) c.self.view_is ∙ c.requires.may.may.away.0)
+
+taken : (c : After-top_node) → IsTaken (length c.self.inside.seat.seat.me.0.held) c.args.lock c.top_node.result
+    c.self.inside.seat.seat.me c.top_node.new.self.seat.me
+taken c = let won = c.take_free.ensures.took c.if-not-take_free.false in let read = c.top_node.ensures.read in
+    let m = c.self.inside.seat.seat.me in
+    taken_at_once (length m.0.held) c.args.lock c.top_node.result m
+    c.take_free.new.self.seat.me c.top_node.new.self.seat.me c.self.invariant.orderly
+    (subst (λ (k : ℕ). c.args.lock < k) (sym (ap (λ (s : Standing). size_in s) c.self.view_is ∙ c.requires.at.size)) c.requires.may.there)
+    (ap (λ (s : Standing). owns (view_in s) c.args.lock) c.self.view_is ∙ c.requires.may.lacks)
+    (record { node = won.0; fits = won.1; now = won.2 })
+    (record { others = read.0; are = record { front = []; back = read.0; parts = read.1; rest = sym (append-nil read.0) }; now = read.2 })
+
+pub invariant_of-self-2 : goal.invariant_of-self-2
+invariant_of-self-2 c = kept _ _ c.top_node.new.self c.top_node.ensures.seat (taken c).orderly

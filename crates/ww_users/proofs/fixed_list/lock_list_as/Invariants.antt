@@ -1,0 +1,8 @@
+use Rattle.ww_users.specs.Ways.{IsContext}
+use Rattle.ww_users.specs.Trips.{HoldsKept}
+use Rattle.ww_users.proofs.fixed_list.lock_list_as.Given as goal
+
+abbrev pub invariant-loop : goal.invariant-loop
+invariant-loop g l =
+    (goal.iterator-loop g).can_next l.iterator' × (goal.iterator-loop g).is_finite l.iterator'
+    × IsContext l.fn.pass l.acquiring × HoldsKept l.kept l.list l.acquiring

@@ -1,0 +1,7 @@
+use Rattle.ww_users.specs.Ways.{IsContext}
+use Rattle.ww_users.proofs.walk.lock_walk_as.Given as goal
+
+abbrev pub invariant-loop : goal.invariant-loop
+invariant-loop g l =
+    (goal.iterator-loop g).can_next l.iterator' × (goal.iterator-loop g).is_finite l.iterator'
+    × IsContext l.fn.pass l.acquiring
