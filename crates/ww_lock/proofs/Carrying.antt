@@ -16,8 +16,8 @@ use Rattle.ww_rule.specs.Rule.{Sat}
 use Rattle.ww_table.specs.declared.board.Board.{Board}
 use Rattle.ww_seat.specs.Accounts.{Account, account_of, having_tried, having_taken, having_given, having_died, having_stopped}
 use Rattle.ww_seat.specs.Bells.{heard, rings_at, leads_to, sleeps_at, AreBellsOf, ArePlacedAlike}
-use Rattle.ww_seat.specs.Calls.{HoldsAsBefore, HasAdded, HasTaken, HasMissed, HasGiven, HasStayedOut, IsTurnedAway, MayStop}
-use Rattle.ww_seat.specs.Standings.{Standing, view_in, size_in, IsAt, IsBack, IsBackAtOnce, IsEven, IsGive, IsGiven, IsWait, MayTry, StaysEven}
+use Rattle.ww_seat.specs.Calls.{HasAdded, HasTaken, HasMissed, HasGiven, HasStayedOut, IsTurnedAway, MayStop}
+use Rattle.ww_seat.specs.Standings.{Standing, view_in, size_in, IsAt, IsBack, IsBackAtOnce, IsEven, IsGive, IsGiven, IsWait, MayTry, StaysEven, MayReleaseNode}
 use Rattle.ww_seat.specs.declared.bell.Bell.{Bell}
 use Rattle.ww_seat.specs.declared.bell.Wire.{Wire}
 use Rattle.ww_seat.specs.declared.patience.Patience.{Patience}
@@ -27,8 +27,6 @@ use Rattle.ww_seat.specs.declared.waits.Waits.{Waits}
 use Rattle.ww_seat.specs.declared.waits.Waits.TheVariants.{UntilCancelled}
 use Rattle.ww_seat.proofs.Among.{others_among, owns_more}
 use Rattle.ww_seat.proofs.Debts.{paid_still}
-use Rattle.ww_seat.proofs.Gives.{given_then}
-use Rattle.ww_seat.proofs.Kept.{same_then}
 use Rattle.ww_seat.proofs.Without.{another, owns_less, shorter}
 use Rattle.ww_lock.specs.declared.hand.Hand.TheInside.{Inside}
 use Rattle.ww_lock.specs.Holding.{Home, Holding, Setting, IsAtHome, AreHeld, by_of}
@@ -379,19 +377,23 @@ gives_at_once h s n c among e =
     gives h (record h { seat = s; marks = set h.marks n false }) n c among e.0.back e.1.0 e.0.out.deaf
     (record { bells = refl; parker = refl; even = alike.even }) refl refl refl
 
-pub gives_late : (h : Inside) (s s' : Standing) (n : ℕ) (was now : List Bell) → Carries h → is_among n (held_of (carried_of h)) ≡ true
-    → IsBackAtOnce h.seat s → HoldsAsBefore h.seat.me s.me → was ≡ h.bells.items → IsGiven s n was s' now
-    → Gives h (record h { seat = s'; marks = set h.marks n false; bells = with_items h.bells now })
-gives_late h s s' n was now c among b still is w =
-    let even : IsEven s.me h.patience was = even_still h.seat.me s.me h.patience h.patience was b.out
-    (ap (λ (a : Account). a.counts.cancelled) still) refl (even_slice h.seat.me h.patience was h.bells.items is c.even) in
-    let g : Inside = record h { seat = s'; marks = set h.marks n false; bells = with_items h.bells now } in
-    gives h g n c among (record { same = same_then h.seat s s' b.back.same w.back.same; away = w.back.away })
-    (given_then h.seat.me s.me s'.me n still w.given) (w.awake.deaf ∙ b.out.deaf)
+pub gives_late : (h : Inside) (s : Standing) (n : ℕ) (was now : List Bell) → Carries h → is_among n (held_of (carried_of h)) ≡ true
+    → was ≡ h.bells.items → IsGiven h.seat n was s now
+    → Gives h (record h { seat = s; marks = set h.marks n false; bells = with_items h.bells now })
+gives_late h s n was now c among is w =
+    let even : IsEven h.seat.me h.patience was = even_slice h.seat.me h.patience was h.bells.items is c.even in
+    let g : Inside = record h { seat = s; marks = set h.marks n false; bells = with_items h.bells now } in
+    gives h g n c among w.back w.given w.awake.deaf
     (alike_after h g was now is w.placed refl refl (record { paid = w.paid even.paid; slept = even.slept ∙ sym w.awake.naps }))
     refl refl refl
 
 -- ---- what it asks of its seat
+
+-- it may release what it holds
+pub may_give : (h : Inside) (b : Board) (n : ℕ) → Carries h → is_among n (held_of (carried_of h)) ≡ true → IsAt b h.seat
+    → MayReleaseNode b n h.seat
+may_give h b n c among at = let owner = c.suits.owned n ∙ among in
+    record { there = omega (arith, held_there h n c owner, c.size, at.size); away = c.away; owner = owner }
 
 pub may_try : (h : Inside) (v : Carried) (b : Board) (n m : ℕ) → carried_of h ≡ v → Carries h → IsAt b h.seat
     → MayLock n v → m ≡ n → MayTry b m h.seat

@@ -211,3 +211,8 @@ HasCome s n waits (Err why) c' = IsFresh c' × IsHeeding waits s (holding_of c')
 pub record HasLetGo (c c' : Carried) : Type 0 where
   pub rest : holding_of c' ≡ record (holding_of c) { held = held_of c' }
   pub fewer : length (held_of c') < length (held_of c)
+
+-- ... or still what it held
+abbrev pub HasLet : Carried → Bool → Carried → Type 0
+HasLet c true c' = HasLetGo c c'
+HasLet c false c' = holding_of c' ≡ holding_of c

@@ -10,7 +10,7 @@ impl Hand {
     ghost use Rattle.ww_plain.specs.Numbers.{is_among};
     ghost use Rattle.ww_lock.specs.Holding.{Holding, IsAtHome};
     ghost use Rattle.ww_lock.specs.Carried.{holding_of, held_of, stamp_of, met_of, IsFresh, MayBegin, MayLock, MayLockAlone};
-    ghost use Rattle.ww_lock.specs.Moves.{tried, found_pending, emptied, IsTaken, IsCancelling, HasBegun, HasLost, IsTried, HasCome, HasLetGo};
+    ghost use Rattle.ww_lock.specs.Moves.{tried, found_pending, emptied, IsTaken, IsCancelling, HasBegun, HasLost, IsTried, HasCome, HasLet, HasLetGo};
 
     /// Starts a context: it draws a stamp.
     pub(crate) fn begin(&mut self, world: &World)
@@ -119,17 +119,29 @@ impl Hand {
         }
     }
 
-    /// Releases the lock of a node that is held.
+    /// One try to release the lock of a node that is held, without waiting. Where it fails the lock is still held.
     #[inline(always)]
-    fn give<R: Wait>(&mut self, rt: &R, world: &World, n: u32)
+    fn give(&mut self, world: &World, n: u32) -> bool
+        requires home { IsAtHome (holding_of self.old) world.now }
+        requires held { is_among n (held_of self.old) ≡ true }
+        ensures { HasLet self.old result self.new }
+    {
+        let gave = self.seat.give(&world.board, n);
+        if gave {
+            self.marks[n as usize] = false;
+        }
+        gave
+    }
+
+    /// Releases the lock of a node that is held, where somebody may wait for it.
+    #[cold]
+    fn give_waited<R: Wait>(&mut self, rt: &R, world: &World, n: u32)
         requires home { IsAtHome (holding_of self.old) world.now }
         requires held { is_among n (held_of self.old) ≡ true }
         ensures { HasLetGo self.old self.new }
     {
         self.marks[n as usize] = false;
-        if !self.seat.give(&world.board, n) {
-            self.seat.give_waited(rt, &world.board, n, &mut self.bells);
-        }
+        self.seat.give_waited(rt, &world.board, n, &mut self.bells);
     }
 
     /// Releases all locks, the one whose node lies on top of what the seat has out first.
@@ -140,7 +152,9 @@ impl Hand {
         ensures fresh { IsFresh self.old → IsFresh self.new }
     {
         while let Some(n) = self.seat.top() {
-            self.give(rt, world, n);
+            if !self.give(world, n) {
+                self.give_waited(rt, world, n);
+            }
         }
     }
 }
