@@ -384,12 +384,13 @@ static void begin_loop(struct ww_acquire_ctx *x)
 	}
 }
 
-void ww_tries_begin_(struct ww_acquire_ctx *x)
+struct ww_acquire_ctx *ww_tries_begin_(struct ww_acquire_ctx *x)
 {
 	if (!x->own || x->acquired)
 		end("ww_until_all_locked", "the context holds a mutex, or has ended");
 	x->newest = NULL;
 	begin_loop(x);
+	return x;
 }
 
 COLD static void give_on(ww_seat *s, int r)
