@@ -181,7 +181,7 @@ __attribute__((noinline, cold)) int ww_go_on(ww_seat *s, struct ww_stop *stop)
 		int r;
 
 		if (stop && !stop->sent && is_due(stop)) {
-			stop->call_off(stop->pool, s);
+			ww_call_off(s);
 			stop->sent = true;
 		}
 		r = ww_go_on_(&s->handle, &pauses);

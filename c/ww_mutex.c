@@ -213,8 +213,9 @@ void ww_acquire_flags(struct ww_acquire_ctx *x, unsigned int flags)
 /* ---- waiting ---- */
 
 /* A call by the spare seat cancels the wait of this one. */
-static void call_off(struct ww_pool *p, ww_seat *victim)
+void ww_call_off(ww_seat *victim)
 {
+	struct ww_pool *p = victim->pool;
 	ww_seat *s = borrow_spare(p);
 
 	/* One that is pending does as well. It wakes nobody but this thread, which is awake. */
@@ -249,7 +250,7 @@ static inline void own(struct ww_mutex *m, struct ww_acquire_ctx *x, ww_seat *s)
 /* From the second step of a lock call to its end; r is what the first one answered. */
 COLD static int lock_on(struct ww_mutex *m, struct ww_acquire_ctx *x, ww_seat *s, int r, enum way way, const struct timespec *until)
 {
-	struct ww_stop stop = { .asked = x ? &x->cancelled : NULL, .until = until, .pool = m->pool, .call_off = call_off };
+	struct ww_stop stop = { .asked = x ? &x->cancelled : NULL, .until = until };
 	bool heeds = way == HEEDS || way == SLOWLY_HEEDS, waits = r > 0;
 
 	if (waits) {
