@@ -59,8 +59,12 @@ struct ww_world {
 	char *orders;		/* an address for each lock, by which the thread sanitizer knows it */
 	uint64_t *marks;	/* for each seat a bit a lock: it is held */
 	struct ww_link *links;	/* one a lock, for whoever holds it and has listed it */
+	uint32_t *numbered;	/* for ww_number.h, a word a lock: IS_TAKEN, and how many wait for it by its number */
 	ww_seat seats[];
 };
+
+#define IS_TAKEN ((uint32_t)1 << 31)
+#define BY_NUMBER UINT32_MAX /* the `waiters` of a struct ww_mutex that stands for a number as long as a call of that */
 
 /* Why a wait may end before its time: then another seat cancels it, which call_off does. */
 struct ww_stop {

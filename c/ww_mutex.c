@@ -246,17 +246,26 @@ static inline void own(struct ww_mutex *m, struct ww_acquire_ctx *x, ww_seat *s)
 	}
 }
 
+/* How many wait for the mutex: for one that stands for a number, and is its caller's alone, all that wait by that. */
+static uint32_t *waiters_of(struct ww_mutex *m)
+{
+	bool has_number = __atomic_load_n(&m->waiters, __ATOMIC_RELAXED) == BY_NUMBER && m->number < m->pool->world->locks;
+
+	return has_number ? &m->pool->world->numbered[m->number] : &m->waiters;
+}
+
 /* From the second step of a lock call to its end; r is what the first one answered. */
 COLD static int lock_on(struct ww_mutex *m, struct ww_acquire_ctx *x, ww_seat *s, int r, enum way way, const struct timespec *until)
 {
 	struct ww_stop stop = { .asked = x ? &x->cancelled : NULL, .until = until, .pool = m->pool, .call_off = call_off };
 	bool heeds = way == HEEDS || way == SLOWLY_HEEDS, waits = r > 0;
+	uint32_t *waiters = waiters_of(m);
 
 	if (waits) {
 		count(&s->waits);
 		PROBE_CONTENTION_BEGIN(m, x);
 		ww_debug_waits(s, m, until);
-		__atomic_fetch_add(&m->waiters, 1, __ATOMIC_SEQ_CST);
+		__atomic_fetch_add(waiters, 1, __ATOMIC_SEQ_CST);
 	}
 	for (;;) {
 		if (r > 0)
@@ -278,7 +287,7 @@ COLD static int lock_on(struct ww_mutex *m, struct ww_acquire_ctx *x, ww_seat *s
 	if (waits) {
 		PROBE_CONTENTION_END(m, x, r);
 		ww_debug_waits(s, NULL, NULL);
-		__atomic_fetch_sub(&m->waiters, 1, __ATOMIC_SEQ_CST);
+		__atomic_fetch_sub(waiters, 1, __ATOMIC_SEQ_CST);
 	}
 	return r;
 }
@@ -564,14 +573,15 @@ static inline int lock_by_seat(struct ww_mutex *m, ww_seat *s, enum way way, con
 /* It waits for a seat, and for the mutex from the first on, until it holds that. */
 COLD static int seek_and_lock(struct ww_mutex *m, enum way way, const struct timespec *until)
 {
+	uint32_t *waiters = waiters_of(m);
 	ww_seat *s;
 	int r;
 
-	__atomic_fetch_add(&m->waiters, 1, __ATOMIC_SEQ_CST);
+	__atomic_fetch_add(waiters, 1, __ATOMIC_SEQ_CST);
 	r = ww_seek_seat(m->pool, until, &s);
 	if (!r)
 		r = lock_by_seat(m, s, way, until);
-	__atomic_fetch_sub(&m->waiters, 1, __ATOMIC_SEQ_CST);
+	__atomic_fetch_sub(waiters, 1, __ATOMIC_SEQ_CST);
 	return r;
 }
 

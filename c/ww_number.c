@@ -9,7 +9,7 @@
 
 static inline struct ww_mutex of_number(uint32_t number, struct ww_pool *p)
 {
-	return (struct ww_mutex){ .pool = p, .number = number };
+	return (struct ww_mutex){ .pool = p, .number = number, .waiters = BY_NUMBER };
 }
 
 /* The thread sanitizer knows a number by an address of its own. */
@@ -19,35 +19,48 @@ static const char no_such[] = "the class hasn't so many mutexes";
 
 /* ---- numbers ---- */
 
+/* Relaxed: nobody asks for a number that wasn't taken. */
 int ww_number_take(uint32_t *number, struct ww_class *c)
 {
 	struct ww_mutex m;
 	int r = ww_mutex_init_checked(&m, c);
 
-	if (!r)
-		*number = m.number;
-	return r;
+	if (r)
+		return r;
+	__atomic_store_n(&m.pool->world->numbered[m.number], IS_TAKEN, __ATOMIC_RELAXED);
+	*number = m.number;
+	return 0;
 }
 
-/* In a forked child nobody uses it any more, and it isn't given. */
+/*
+ * Who waits for it says so first, and that it holds it before it says that it waits no more.  Of several threads that put
+ * it back one does.  In a forked child nobody uses it any more, and it isn't given.
+ */
 int ww_number_put(uint32_t number, struct ww_class *c)
 {
 	struct ww_pool *p;
+	uint32_t taken = 0;
 	int r = pool_of(c, &p);
 
 	if (r || p->gone)
 		return r;
-	if (number >= p->world->locks) {
-		ww_debug_fault("ww_number_put", no_such);
-		return -EINVAL;
-	}
-	struct ww_mutex m = of_number(number, p);
+	if (number < p->world->locks)
+		taken = __atomic_load_n(&p->world->numbered[number], __ATOMIC_SEQ_CST);
+	if (taken == IS_TAKEN) {
+		struct ww_mutex m = of_number(number, p);
 
-	if (!ww_is_released(p, &m))
+		if (!ww_is_released(p, &m))
+			return -EBUSY;
+		if (__atomic_compare_exchange_n(&p->world->numbered[number], &taken, 0, false, __ATOMIC_SEQ_CST, __ATOMIC_SEQ_CST)) {
+			__tsan_acquire(order_of(number, p));
+			ww_give_number(&p->numbers, number);
+			return 0;
+		}
+	}
+	if (taken & IS_TAKEN)
 		return -EBUSY;
-	__tsan_acquire(order_of(number, p));
-	ww_give_number(&p->numbers, number);
-	return 0;
+	ww_debug_fault("ww_number_put", "nobody has taken the number, or it was put back before");
+	return -EINVAL;
 }
 
 bool ww_number_is_locked(uint32_t number, struct ww_class *c)

@@ -296,7 +296,9 @@ TABLE = {
     "user": {"ww_context.c": "load rlx", "ww_pool.h": "store rlx"},
     # A waiter says first that it holds the mutex, and then that it waits no more; who destroys looks the other way round.
     # In a forked child those that waited aren't there; its number goes with `pool`.
-    "waiters": {"ww_mutex.c": "fetch_add sc sc, fetch_sub sc sc, load sc", "ww_pool.c": "store rlx"},
+    "waiters": {"ww_mutex.c": "fetch_add sc sc, fetch_sub sc sc, load rlx sc", "ww_pool.c": "store rlx"},
+    # The same of a mutex that is known by its number; and that this is taken, which nobody asks for before.
+    "numbered": {"ww_number.c": "compare_exchange sc/sc, load sc, store rlx"},
     # All of an open class; and of a mutex the number, which its first lock may just have given it.
     "pool": {
         "ww_mutex.c": "store rel",

@@ -20,6 +20,7 @@ static __thread struct {
 	unsigned seen; /* a bit for each answer */
 } at;
 static __thread struct ww_acquire_ctx *cancelled_amid; /* behind each step that answers WW_AGAIN, as by another thread */
+static void (*behind_a_stay)(void); /* as another thread would, once */
 
 static bool has_to_ask(int32_t answer) { return answer <= 0 || answer == WW_SLEEPS; }
 static void does_anything_else(void) { MUST(at.answer != WW_AGAIN); }
@@ -38,6 +39,12 @@ int32_t __wrap_ww_go_on_(ww_handle *seat, uint32_t *rest)
 	at.answer = r;
 	at.asked = false;
 	at.seen |= r > 0 ? 1u << r : 1;
+	if (r == WW_STAYS && behind_a_stay) {
+		void (*what)(void) = behind_a_stay;
+
+		behind_a_stay = NULL;
+		what();
+	}
 	return r;
 }
 
@@ -117,6 +124,26 @@ static void waits_in_vain(void)
 	ww_acquire_fini(&older);
 }
 
+static uint32_t number;
+static struct ww_acquire_ctx holder;
+
+static void is_released_just_then(void) { MUST(!ww_number_unlock(number, &holder) && ww_number_put(number, c) == -EBUSY); }
+
+/* Whoever waits for a number, and hasn't seen yet that it is free, gets it: it isn't put back meanwhile. */
+static void is_awaited(void)
+{
+	struct ww_acquire_ctx x;
+
+	ww_acquire_init(&holder, c);
+	ww_acquire_init(&x, c);
+	MUST(!ww_number_take(&number, c) && !ww_number_lock(number, &holder));
+	behind_a_stay = is_released_just_then;
+	MUST(!ww_number_lock(number, &x) && !behind_a_stay);
+	MUST(ww_number_put(number, c) == -EBUSY && !ww_number_unlock(number, &x) && !ww_number_put(number, c));
+	ww_acquire_fini(&x);
+	ww_acquire_fini(&holder);
+}
+
 /* ---- by several threads, where a step is made in vain inside a guard ---- */
 
 enum { WAITERS = 2, ROUNDS = 1000, LOCKS = 50 };
@@ -162,8 +189,6 @@ static void *tries(void *arg)
 /* It has the lock that a cancel takes for most of the time. */
 static void *asks(void *arg)
 {
-	uint32_t number;
-
 	MUST(!ww_number_take(&number, c));
 	while (are_waiting())
 		MUST(!ww_number_is_locked(number, c));
@@ -188,6 +213,7 @@ int main(void)
 		c = kind ? &wait_die : &wound_wait;
 		ww_mutex_init(&m, c);
 		waits_in_vain();
+		is_awaited();
 		in_a_storm();
 		MUST(!ww_mutex_destroy(&m) && !ww_class_free(c));
 	}
