@@ -299,6 +299,8 @@ TABLE = {
     "waiters": {"ww_mutex.c": "fetch_add sc sc, fetch_sub sc sc, load rlx sc", "ww_pool.c": "store rlx"},
     # The same of a mutex that is known by its number; and that this is taken, which nobody asks for before.
     "numbered": {"ww_number.c": "compare_exchange sc/sc, load sc, store rlx"},
+    # Before a mutex has a pool; then its holder writes another thing there, by which its pool is seen too.
+    "class_": {"ww_mutex.c": "load acq"},
     # All of an open class; and of a mutex the number, which its first lock may just have given it.
     "pool": {
         "ww_mutex.c": "store rel",
