@@ -28,8 +28,9 @@
  *			a slow lock of another		-EINVAL			FIRST
  *			a trylock			1			EASE
  *							0			FIRST
- *			ww_acquire_unlock_all					EASE
+ *			ww_acquire_unlock_all					EASE, holding nothing
  *			any of these			-EINTR, -ETIMEDOUT	FIRST, or OWES if that came at the other one
+ *	EASE, holding nothing: behind FIRST a slow lock of it is 0, having waited for it
  *	any		ww_mutex_lock_all		as its locks one by one, and it backs off by itself if nothing was held
  *
  * tests/mutex_loop.c walks through all of it.
@@ -69,9 +70,11 @@ int ww_mutex_init_checked(struct ww_mutex *m, struct ww_class *c)
 /* The class of a mutex, if that is initialized. */
 static struct ww_class *class_of(const struct ww_mutex *m)
 {
+	/* First: once it has a pool, its holder may write another thing there. */
+	struct ww_class *c = __atomic_load_n(&m->class_, __ATOMIC_ACQUIRE);
 	struct ww_pool *p = pool_at(m);
 
-	return p ? p->class_ : m->class_;
+	return p ? p->class_ : c;
 }
 
 /* Why the first lock of a mutex gave it no number, or its class gave no seat. */

@@ -8,7 +8,7 @@
 #include "ww_pool.h" /* before the next one: here no call tells its line */
 #include "ww_number.h"
 
-static const char no_such[] = "the class has no mutex of this number", not_held[] = "the context doesn't hold the mutex";
+static const char no_such[] = "the class has no mutex of this number";
 
 /* ---- numbers ---- */
 
@@ -35,6 +35,10 @@ static struct ww_mutex *mutex_at(const struct ww_pool *p, uint32_t number)
 	return all && pool_at(&all[number]) ? &all[number] : NULL;
 }
 
+/* Of its `waiters`, beside their number. */
+#define IS_TAKEN ((uint32_t)1 << 31)
+
+/* A thread that was told of the number before may wait for it still.  Relaxed: nobody puts it back before it was taken. */
 int ww_number_take(uint32_t *number, struct ww_class *c)
 {
 	struct ww_mutex *all = NULL;
@@ -47,32 +51,41 @@ int ww_number_take(uint32_t *number, struct ww_class *c)
 		r = number_of_pool(p, number);
 	if (r)
 		return r;
-	/* Nobody knew it before the first time; and whoever did, and waits for it still, is counted there. */
 	if (!pool_at(&all[*number])) {
 		all[*number].number = *number;
 		__atomic_store_n(&all[*number].pool, p, __ATOMIC_RELEASE);
 	}
+	__atomic_fetch_or(&all[*number].waiters, IS_TAKEN, __ATOMIC_RELAXED);
 	return 0;
 }
 
-/* In a forked child nobody uses it any more, and it isn't given. */
+/*
+ * Who waits for it says so first, and that it holds it before it says that it waits no more.  Of several threads that put
+ * it back one does.  In a forked child nobody uses it any more, and it isn't given.
+ */
 int ww_number_put(uint32_t number, struct ww_class *c)
 {
 	struct ww_mutex *m;
 	struct ww_pool *p;
+	uint32_t taken;
 	int r = pool_of(c, &p);
 
 	if (r || p->gone)
 		return r;
 	m = mutex_at(p, number);
-	if (!m) {
-		ww_debug_fault("ww_number_put", no_such);
-		return -EINVAL;
+	taken = m ? __atomic_load_n(&m->waiters, __ATOMIC_SEQ_CST) : 0;
+	if (taken == IS_TAKEN) {
+		if (!ww_is_released(p, m))
+			return -EBUSY;
+		if (__atomic_compare_exchange_n(&m->waiters, &taken, 0, false, __ATOMIC_SEQ_CST, __ATOMIC_SEQ_CST)) {
+			ww_give_number(&p->numbers, number);
+			return 0;
+		}
 	}
-	if (__atomic_load_n(&m->waiters, __ATOMIC_SEQ_CST) || !ww_is_released(p, m))
+	if (taken & IS_TAKEN)
 		return -EBUSY;
-	ww_give_number(&p->numbers, number);
-	return 0;
+	ww_debug_fault("ww_number_put", "nobody has taken the number, or it was put back before");
+	return -EINVAL;
 }
 
 bool ww_number_is_locked(uint32_t number, struct ww_class *c)
@@ -153,7 +166,7 @@ int ww_number_unlock(uint32_t number, struct ww_acquire_ctx *x)
 	if (!m)
 		return -EINVAL;
 	if (!ww_number_is_held(number, x) && !is_let_go(x->own)) {
-		ww_debug_fault("ww_number_unlock", not_held);
+		ww_debug_fault("ww_number_unlock", "the context doesn't hold the mutex");
 		return -EINVAL;
 	}
 	__atomic_store_n(&m->ctx, x, __ATOMIC_RELAXED);

@@ -17,8 +17,8 @@ extern "C" {
 /* A mutex that nobody else has. -ENOSPC, -ENOMEM and -EINVAL as ww_mutex_init_checked: the first one takes memory for all. */
 WW_MUST_CHECK int ww_number_take(uint32_t *number, struct ww_class *ww_class);
 /*
- * Puts back one that was taken, once.  -EBUSY: somebody holds it or waits for it, and nothing has changed; -EINVAL: it was
- * never taken.  Once it answers 0, whoever held the mutex is through with it.
+ * Puts back one that was taken, once.  -EBUSY: somebody holds it or waits for it, and nothing has changed; -EINVAL: it
+ * isn't taken.  Once it answers 0, whoever held the mutex is through with it.
  */
 int ww_number_put(uint32_t number, struct ww_class *ww_class);
 

@@ -301,7 +301,14 @@ TABLE = {
     "user": {"ww_context.c": "load rlx", "ww_pool.h": "store rlx"},
     # A waiter says first that it holds the mutex, and then that it waits no more; who destroys looks the other way round.
     # In a forked child those that waited aren't there; its number goes with `pool`.
-    "waiters": {"ww_mutex.c": "fetch_add sc sc, fetch_sub sc sc, load sc", "ww_number.c": "load sc", "ww_pool.c": "store rlx"},
+    # Of one that is known by its number also that this is taken, which nobody asks for before.
+    "waiters": {
+        "ww_mutex.c": "fetch_add sc sc, fetch_sub sc sc, load sc",
+        "ww_number.c": "compare_exchange sc/sc, fetch_or rlx, load sc",
+        "ww_pool.c": "store rlx",
+    },
+    # Before a mutex has a pool; then its holder writes another thing there, by which its pool is seen too.
+    "class_": {"ww_mutex.c": "load acq"},
     # All of an open class; and of a mutex the number, which its first lock may just have given it.
     "pool": {
         "ww_mutex.c": "store rel",

@@ -71,6 +71,22 @@ static void by_a_context(void)
 	ww_acquire_fini(&x);
 }
 
+/* A number that was never taken, was put back before, or is a mutex's with an address: nobody gets any of these twice. */
+static void puts_no_other_back(void)
+{
+	struct ww_mutex m;
+
+	MUST(ww_number_put(0, c) == -EINVAL && ww_number_put(COUNT - 1, c) == -EINVAL);
+	takes();
+	MUST(!ww_number_put(n[0], c) && ww_number_put(n[0], c) == -EINVAL);
+	ww_mutex_init(&m, c);
+	MUST(m.number == n[0] && ww_number_put(m.number, c) == -EINVAL);
+	MUST(!ww_mutex_lock(&m, NULL) && ww_number_put(m.number, c) == -EINVAL);
+	ww_mutex_unlock(&m);
+	MUST(!ww_mutex_destroy(&m) && ww_number_put(n[0], c) == -EINVAL && !ww_number_take(&n[0], c));
+	puts_back();
+}
+
 /* Each of these is told by the debug library, and changes nothing. */
 static void refuses(void)
 {
@@ -222,6 +238,41 @@ static void is_called_off(void)
 	end_thread(thread);
 }
 
+static void *waits_for_a_context(void *arg)
+{
+	struct ww_seat *by;
+
+	MUST(!ww_number_lock_alone(n[0], c, NULL, &by));
+	ww_number_unlock_alone(n[0], by);
+	return arg;
+}
+
+static uint64_t context_waits(void)
+{
+	struct ww_class_counts counts;
+
+	ww_class_stats(c, &counts);
+	return counts.context_waits;
+}
+
+/* All contexts are in use, and a thread waits for one, for this number: nobody else gets that meanwhile. */
+static void is_awaited_without_a_context(void)
+{
+	uint64_t before = context_waits();
+	pthread_t thread;
+
+	ww_acquire_init(&x, c);
+	ww_acquire_init(&y, c);
+	thread = begin_thread(waits_for_a_context, NULL);
+	while (context_waits() == before)
+		usleep(100);
+	MUST(!ww_number_is_locked(n[0], c) && ww_number_put(n[0], c) == -EBUSY && !ww_number_put(n[1], c));
+	ww_acquire_fini(&y);
+	end_thread(thread);
+	ww_acquire_fini(&x);
+	MUST(!ww_number_take(&n[1], c) && !ww_number_put(n[0], c) && !ww_number_take(&n[0], c));
+}
+
 /* After -EDEADLK another comes first, which the debug library tells. */
 static void another_comes_first(void)
 {
@@ -248,11 +299,19 @@ static void *goes_against(void *arg)
 	int r = ww_number_lock(n[!me], &mine);
 
 	if (r) {
+		unsigned first = !me;
+
 		MUST(r == -EDEADLK && mine.acquired == 1);
 		MUST(!ww_number_trylock(n[2 + me], &mine) && !ww_number_unlock(n[me], &mine));
 		/* By a call like any other, and one that may end early. */
-		MUST(!(me ? ww_number_lock(n[!me], &mine) : ww_number_lock_until(n[!me], &mine, NULL)));
-		MUST(!ww_number_lock(n[me], &mine));
+		MUST(!(me ? ww_number_lock(n[first], &mine) : ww_number_lock_until(n[first], &mine, NULL)));
+		/* The older one may still be releasing the other. */
+		while ((r = ww_number_lock(n[!first], &mine)) == -EDEADLK) {
+			MUST(!ww_number_unlock(n[first], &mine));
+			first = !first;
+			MUST(!ww_number_lock(n[first], &mine));
+		}
+		MUST(!r);
 		backs++;
 	}
 	MUST(mine.acquired == 2);
@@ -409,6 +468,7 @@ static void all_of(struct ww_class *class_)
 {
 	c = class_;
 	MUST(!ww_class_limit(c, COUNT, 2));
+	tells(puts_no_other_back, 6);
 	tells(are_of_one_pool, 0);
 	takes();
 	tells(by_a_context, 0);
@@ -418,6 +478,7 @@ static void all_of(struct ww_class *class_)
 	tells(goes_with_addresses, 0);
 	tells(without_one, 0);
 	tells(is_called_off, 0);
+	tells(is_awaited_without_a_context, 0);
 	tells(has_one_victim, 0);
 	if (c == &wait_die)
 		tells(another_comes_first, 1);
