@@ -357,7 +357,7 @@ int ww_mutex_end_(struct ww_mutex *lock);
 /* ---- the debug library ---- */
 
 /*
- * With -DWW_DEBUG, and -lww_debug in place of -lww: a call that is wrong is told on
+ * With -DWW_DEBUG in each of its files, and -lww_debug in place of -lww: a call that is wrong is told on
  * standard error, with its line and the calls by which the program came there, besides
  * what it answers; and now and then a context that holds a mutex is told -EDEADLK
  * without need, so that the way back is tried.
