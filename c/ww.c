@@ -176,7 +176,7 @@ static void stop_if_due(ww_seat *s, struct ww_stop *stop)
 {
 	if (!stop || stop->sent || !is_due(stop))
 		return;
-	stop->call_off(stop->pool, s);
+	ww_call_off(s);
 	stop->sent = true;
 }
 
@@ -239,11 +239,6 @@ static ww_world *lay_out(uint32_t locks, uint32_t seats, const ww_handle *handle
 		return NULL;
 	/* A link is written before it is read, and most never are. */
 	memset(w, 0, links);
-	w->numbered = calloc(locks, sizeof *w->numbered);
-	if (!w->numbered) {
-		free(w);
-		return NULL;
-	}
 	w->locks = locks;
 	w->count = seats;
 	w->marks = (uint64_t *)(void *)((char *)w + at);
@@ -289,7 +284,6 @@ int ww_close(ww_world *w)
 			return -EBUSY;
 	for (uint32_t k = 0; k < w->count; k++)
 		ww_close_(&w->seats[k].handle);
-	free(w->numbered);
 	free(w);
 	return 0;
 }

@@ -216,8 +216,9 @@ void ww_acquire_flags(struct ww_acquire_ctx *x, unsigned int flags)
 /* ---- waiting ---- */
 
 /* A call by the spare seat cancels the wait of this one. */
-static void call_off(struct ww_pool *p, ww_seat *victim)
+void ww_call_off(ww_seat *victim)
 {
+	struct ww_pool *p = victim->pool;
 	ww_seat *s = borrow_spare(p);
 
 	/* One that is pending does as well. It wakes nobody but this thread, which is awake. */
@@ -249,26 +250,17 @@ static inline void own(struct ww_mutex *m, struct ww_acquire_ctx *x, ww_seat *s)
 	}
 }
 
-/* How many wait for the mutex: for one that stands for a number, and is its caller's alone, all that wait by that. */
-static uint32_t *waiters_of(struct ww_mutex *m)
-{
-	bool has_number = __atomic_load_n(&m->waiters, __ATOMIC_RELAXED) == BY_NUMBER && m->number < m->pool->world->locks;
-
-	return has_number ? &m->pool->world->numbered[m->number] : &m->waiters;
-}
-
 /* From the second step of a lock call to its end; r is what the first one answered. */
 COLD static int lock_on(struct ww_mutex *m, struct ww_acquire_ctx *x, ww_seat *s, int r, enum way way, const struct timespec *until)
 {
-	struct ww_stop stop = { .asked = x ? &x->cancelled : NULL, .until = until, .pool = m->pool, .call_off = call_off };
+	struct ww_stop stop = { .asked = x ? &x->cancelled : NULL, .until = until };
 	bool heeds = way == HEEDS || way == SLOWLY_HEEDS, waits = r > 0;
-	uint32_t *waiters = waiters_of(m);
 
 	if (waits) {
 		count(&s->waits);
 		PROBE_CONTENTION_BEGIN(m, x);
 		ww_debug_waits(s, m, until);
-		__atomic_fetch_add(waiters, 1, __ATOMIC_SEQ_CST);
+		__atomic_fetch_add(&m->waiters, 1, __ATOMIC_SEQ_CST);
 	}
 	for (;;) {
 		if (r > 0)
@@ -290,7 +282,7 @@ COLD static int lock_on(struct ww_mutex *m, struct ww_acquire_ctx *x, ww_seat *s
 	if (waits) {
 		PROBE_CONTENTION_END(m, x, r);
 		ww_debug_waits(s, NULL, NULL);
-		__atomic_fetch_sub(waiters, 1, __ATOMIC_SEQ_CST);
+		__atomic_fetch_sub(&m->waiters, 1, __ATOMIC_SEQ_CST);
 	}
 	return r;
 }
@@ -396,12 +388,13 @@ static void begin_loop(struct ww_acquire_ctx *x)
 	}
 }
 
-void ww_tries_begin_(struct ww_acquire_ctx *x)
+struct ww_acquire_ctx *ww_tries_begin_(struct ww_acquire_ctx *x)
 {
 	if (!x->own || x->acquired)
 		end("ww_until_all_locked", "the context holds a mutex, or has ended");
 	x->newest = NULL;
 	begin_loop(x);
+	return x;
 }
 
 COLD static void give_on(ww_seat *s, int r)
@@ -576,15 +569,14 @@ static inline int lock_by_seat(struct ww_mutex *m, ww_seat *s, enum way way, con
 /* It waits for a seat, and for the mutex from the first on, until it holds that. */
 COLD static int seek_and_lock(struct ww_mutex *m, enum way way, const struct timespec *until)
 {
-	uint32_t *waiters = waiters_of(m);
 	ww_seat *s;
 	int r;
 
-	__atomic_fetch_add(waiters, 1, __ATOMIC_SEQ_CST);
+	__atomic_fetch_add(&m->waiters, 1, __ATOMIC_SEQ_CST);
 	r = ww_seek_seat(m->pool, until, &s);
 	if (!r)
 		r = lock_by_seat(m, s, way, until);
-	__atomic_fetch_sub(waiters, 1, __ATOMIC_SEQ_CST);
+	__atomic_fetch_sub(&m->waiters, 1, __ATOMIC_SEQ_CST);
 	return r;
 }
 

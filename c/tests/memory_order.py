@@ -290,15 +290,23 @@ TABLE = {
     # A canceller may look while a context begins or ends: a cancel that isn't ordered after ww_acquire_init is no right call.
     "own": {"ww_context.c": "load rlx, store rlx rlx"},
     # A mutex's holder alone writes these, and the lock orders holders; whoever else looks has only a glance, or takes the lock.
-    "ctx": {"ww_context.c": "load rlx", "ww_mutex.c": "load rlx, store rlx rlx rlx", "ww_mutex.h": "load rlx, store rlx rlx"},
+    "ctx": {
+        "ww_context.c": "load rlx",
+        "ww_mutex.c": "load rlx, store rlx rlx rlx",
+        "ww_mutex.h": "load rlx, store rlx rlx",
+        "ww_number.c": "load rlx, store rlx rlx",
+    },
     # By it others look who uses the seat, which was said before.
-    "alone": {"ww_context.c": "load acq", "ww_mutex.c": "load rlx, store rel rlx"},
+    "alone": {"ww_context.c": "load acq", "ww_mutex.c": "load rlx, store rel rlx", "ww_number.c": "load rlx"},
     "user": {"ww_context.c": "load rlx", "ww_pool.h": "store rlx"},
     # A waiter says first that it holds the mutex, and then that it waits no more; who destroys looks the other way round.
     # In a forked child those that waited aren't there; its number goes with `pool`.
-    "waiters": {"ww_mutex.c": "fetch_add sc sc, fetch_sub sc sc, load rlx sc", "ww_pool.c": "store rlx"},
-    # The same of a mutex that is known by its number; and that this is taken, which nobody asks for before.
-    "numbered": {"ww_number.c": "compare_exchange sc/sc, load sc, store rlx"},
+    # Of one that is known by its number also that this is taken, which nobody asks for before.
+    "waiters": {
+        "ww_mutex.c": "fetch_add sc sc, fetch_sub sc sc, load sc",
+        "ww_number.c": "compare_exchange sc/sc, fetch_or rlx, load sc",
+        "ww_pool.c": "store rlx",
+    },
     # Before a mutex has a pool; then its holder writes another thing there, by which its pool is seen too.
     "class_": {"ww_mutex.c": "load acq"},
     # All of an open class; and of a mutex the number, which its first lock may just have given it.
@@ -308,7 +316,10 @@ TABLE = {
         "ww_mutex.h": "load acq acq",
         "ww_pool.h": "load acq acq acq",
         "ww_pool.c": "store rel rel rel",
+        "ww_number.c": "store rel",
     },
+    # The mutexes of numbers, which are empty then.
+    "numbered": {"ww_number.c": "compare_exchange ar/acq, load acq acq"},
     # Of seats that aren't shared: what their user wrote goes with busy, to its keeper and to whoever shares them.
     "busy": {"ww_pool.h": "load acq, store rel rlx", "ww_pool.c": "load acq acq acq acq, store rlx"},
     # Its keeper looks after it stored busy: membarrier(2) orders these. Whoever waits until the seats are shared acquires.

@@ -103,27 +103,60 @@ static void refuses(void)
 	MUST(!ww_number_is_locked(n[0], c));
 }
 
-/* A loop knows addresses alone; behind it, too. */
-static void is_no_loop(void)
+/* In a loop they are listed with the others: duplicates, trylocks, releases one by one, marks, and what is left behind it. */
+static void in_a_loop(void)
 {
 	struct ww_mutex m;
+	size_t mark;
 
 	MUST(!ww_number_put(n[3], c));
 	ww_mutex_init(&m, c);
 	begins(&x);
 	ww_until_all_locked(&x) {
-		MUST(!ww_mutex_lock(&m, &x));
+		MUST(!ww_number_lock(n[0], &x) && ww_number_lock(n[0], &x) == -EALREADY && !ww_number_trylock(n[0], &x));
+		mark = ww_acquire_mark(&x);
+		MUST(!ww_mutex_lock(&m, &x) && ww_number_trylock(n[1], &x) == 1 && !ww_number_lock_until(n[2], &x, &past));
 		ww_retry_on_contention(&x);
-		MUST(ww_number_lock(n[0], &x) == -EINVAL && ww_number_lock_until(n[0], &x, &past) == -EINVAL);
-		MUST(!ww_number_trylock(n[0], &x) && ww_number_unlock(m.number, &x) == -EINVAL && x.acquired == 1);
+		MUST(x.acquired == 4 && ww_number_is_held(n[1], &x) && ww_number_is_locked(n[2], c));
+		MUST(!ww_number_unlock(n[1], &x) && ww_number_unlock(n[1], &x) == -EINVAL && x.acquired == 3);
+		MUST(!ww_number_lock(n[1], &x) && ww_number_put(n[1], c) == -EBUSY);
+		ww_acquire_unlock_to(&x, mark);
+		MUST(x.acquired == 1 && ww_number_is_held(n[0], &x) && !ww_mutex_is_locked(&m) && !ww_number_is_locked(n[1], c));
+		ww_acquire_flags(&x, WW_IGNORE_DUPLICATES);
+		MUST(!ww_number_lock(n[1], &x) && !ww_mutex_lock(&m, &x) && !ww_number_lock(n[0], &x) && x.acquired == 3);
 	}
-	MUST(ww_number_lock(n[0], &x) == -EINVAL && !ww_number_is_locked(n[0], c));
-	ww_acquire_unlock_all(&x);
+	MUST(!ww_number_lock(n[2], &x) && !ww_number_unlock(n[0], &x) && x.acquired == 3);
+	ww_number_unlock_all(&x);
+	MUST(!x.acquired && !ww_number_is_locked(n[2], c) && !ww_mutex_is_locked(&m));
 	ww_acquire_fini(&x);
 	MUST(!ww_mutex_destroy(&m) && !ww_number_take(&n[3], c));
 }
 
-/* Outside a loop they stand beside each other, and one may begin then: it sees nothing of the numbers. */
+/* The context that is in its way ends, and the loop goes back: the number at which that was comes first. */
+static void backs_off_in_a_loop(void)
+{
+	unsigned bodies = 0;
+
+	begins(&y);
+	begins(&x);
+	MUST(!ww_number_lock(n[0], &y));
+	if (c != &wait_die)
+		ww_number_unlock_all(&y);
+	ww_until_all_locked(&x) {
+		bodies++;
+		MUST(!ww_number_lock(n[1], &x) && ww_number_is_held(n[0], &x) == (bodies == 2));
+		if (ww_number_lock(n[0], &x))
+			MUST(ww_is_contended(&x) && ww_number_lock(n[2], &x) == -EINVAL && !ww_number_unlock(n[0], &y));
+		ww_retry_on_contention(&x);
+		MUST(!ww_number_trylock(n[0], &x) && !ww_number_lock(n[2], &x));
+	}
+	MUST(bodies == (c == &wait_die ? 2 : 1) && x.acquired == 3);
+	ww_acquire_unlock_all(&x);
+	ww_acquire_fini(&x);
+	ww_acquire_fini(&y);
+}
+
+/* Outside a loop they stand beside each other, and one may begin then. */
 static void goes_with_addresses(void)
 {
 	struct ww_mutex m, other;
@@ -198,7 +231,7 @@ static void is_called_off(void)
 
 	while (!__atomic_load_n(&told, __ATOMIC_SEQ_CST))
 		usleep(100);
-	MUST(!ww_acquire_cancel(&y));
+	MUST(ww_number_put(n[0], c) == -EBUSY && !ww_acquire_cancel(&y));
 	while (__atomic_load_n(&told, __ATOMIC_SEQ_CST) < 2)
 		usleep(100);
 	ww_number_unlock_alone(n[0], by);
@@ -440,7 +473,8 @@ static void all_of(struct ww_class *class_)
 	takes();
 	tells(by_a_context, 0);
 	tells(refuses, 8);
-	tells(is_no_loop, 5);
+	tells(in_a_loop, 1);
+	tells(backs_off_in_a_loop, c == &wait_die);
 	tells(goes_with_addresses, 0);
 	tells(without_one, 0);
 	tells(is_called_off, 0);
