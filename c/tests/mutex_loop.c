@@ -29,6 +29,7 @@ static const struct row rows[] = {
 	{ EASE, TRY, HELD, true, 0, EASE, 0 },
 	{ EASE, LOCK, TAKEN, true, -EDEADLK, TOLD, 0 },
 	{ EASE, HEED, TAKEN, true, -EINTR, EASE, 0 },
+	{ EASE, LOCK, TAKEN, true, -EINTR, EASE, WW_INTERRUPTIBLE },
 	{ EASE, LOCK, HELD, true, -EALREADY, EASE, 0 },
 	{ EASE, LOCK, HELD, true, 0, EASE, WW_IGNORE_DUPLICATES },
 	{ EASE, SLOW, FREE, true, -EINVAL, EASE, 0 },
