@@ -10,15 +10,16 @@
  *	?	the next lock is tried; t: until a time; i: interruptible; where it has none, all up to its unlock is left out
  *	n	the next lock is without a context; !: it has to fail; .: it must not
  *	Lab;	locks these in a loop	U	unlocks all of it	&ab;	locks these as a list
+ *	Kab;	as L, but once told to back off it unlocks what it holds one by one, and locks that one before it begins anew
  *	+	adds to what each mutex guards that is held
  *	-	under m: one user less	D	whoever was the last one destroys m, and its memory goes
  *	d	destroys m where nobody has it or waits for it, and makes it anew
  *	c	cancels			1-9	something has happened	~1	waits for that, which orders	_1	which doesn't	=1	it has
  *	s w	waits until somebody waits for a context, unless 4 has happened; until somebody waits for m
  *	F	frees the class, asking until it is free	v	looks at its counts
- *	T G g	takes a number, if one is free; puts back that taken last, or first	p	puts the number of m, which is to be -EBUSY
+ *	T G g	takes a number, if one is free (.: one is); puts back that taken last, or first	p	puts the number of m, which is to be -EBUSY
  *	Where a program is NUMBERED all mutexes are known by their numbers.
- *	%0	of a world: worlds.c; @: the thread's stack of numbers is the first one
+ *	@1	the thread's stack of numbers is this one	%0	of a world: worlds.c
  */
 #define _GNU_SOURCE
 #include "interleave.h"
@@ -115,6 +116,11 @@ void il_check(const struct il_program *p)
 			MUST(!ww_mutex_destroy(&mutexes[k]));
 	}
 	MUST(met <= cancels);
+#ifdef WW_DEBUG
+	/* Of these, each call is right, and none is dangerous. */
+	if (!names(p, 'n') && !names(p, '>') && !names(p, 'L') && !names(p, 'K') && !names(p, 'd') && !names(p, 'D') && !names(p, 'F'))
+		MUST(!ww_debug_faults() && !ww_debug_dangers());
+#endif
 	if (p->flags & GIVEN)
 		MUST(!ww_number_put(2, &c));
 	for (unsigned k = 0; numbered && k < 3; k++)
@@ -165,7 +171,7 @@ static void unlock(struct user *u, char letter)
 	u->held[k] = FREE;
 }
 
-static int lock_plainly(struct user *u, unsigned k) { return numbered ? ww_number_lock(numbers[k], u->x) : ww_mutex_lock(&mutexes[k], u->x); }
+static int lock_plainly(const struct user *u, unsigned k) { return numbered ? ww_number_lock(numbers[k], u->x) : ww_mutex_lock(&mutexes[k], u->x); }
 
 /* All that it held by its context it holds again, and this one. */
 static void back_off(struct user *u, char letter)
@@ -250,14 +256,43 @@ static const char *past(const char *at, char closes)
 	return *at ? at : at - 1;
 }
 
-static const char *loop(struct user *u, const char *at)
+/* Told to back off, it is refused all of these, as the table in ww_mutex.c says. */
+static void is_refused(const struct user *u, const char *at)
+{
+	MUST(ww_is_contended(u->x));
+	for (; *at != ';'; at++) {
+		unsigned k = index_of(*at);
+		int r = lock_plainly(u, k);
+
+		MUST(numbered ? r == -EALREADY || r == -EINVAL : r == (ww_mutex_is_held_by(&mutexes[k], u->x) ? -EALREADY : -EINVAL));
+		MUST(numbered ? !ww_number_trylock(numbers[k], u->x) : !ww_mutex_trylock(&mutexes[k], u->x));
+	}
+}
+
+/* What it was told holds no longer once it holds nothing, and waits for that mutex by itself. */
+static void back_off_by_hand(const struct user *u, const char *at, struct ww_mutex *contended)
+{
+	for (; *at != ';'; at++)
+		if (ww_mutex_is_held_by(mutex_of(*at), u->x))
+			ww_mutex_unlock(mutex_of(*at));
+	MUST(!ww_mutex_lock(contended, u->x) && !ww_is_contended(u->x));
+	ww_acquire_unlock_all(u->x);
+}
+
+static const char *loop(struct user *u, const char *at, bool by_hand)
 {
 	ww_until_all_locked(u->x) {
 		for (const char *k = at; *k != ';'; k++) {
 			int r = lock_plainly(u, index_of(*k));
 
+			MUST(!r || r == -EDEADLK);
+			if (r)
+				is_refused(u, at);
+			if (r && by_hand) {
+				back_off_by_hand(u, at, mutex_of(*k));
+				k = at - 1;
+			}
 			ww_retry_on_contention(u->x);
-			MUST(!r);
 		}
 	}
 	for (; *at != ';'; at++)
@@ -315,11 +350,11 @@ static void free_class(void)
 	MUST(!r);
 }
 
-static void take_number(struct user *u)
+static void take_number(struct user *u, bool is_there)
 {
 	int r = ww_number_take(&u->number[u->numbers], &c);
 
-	MUST(!r || r == -ENOSPC);
+	MUST(!r || (r == -ENOSPC && !is_there));
 	if (!r)
 		MUST(u->number[u->numbers] < 3 && !ADD(owner[u->number[u->numbers++]], 1));
 }
@@ -337,7 +372,7 @@ static void give_number(struct user *u, bool first)
 	MUST(!ww_number_put(given, &c));
 }
 
-static void act(struct user *u, char what)
+static void act(struct user *u, char what, const char *how)
 {
 	struct ww_class_counts counts;
 
@@ -356,8 +391,7 @@ static void act(struct user *u, char what)
 	case 'w': while (!SEEN(mutex_of('m')->waiters)) il_yield(); break;
 	case 'F': free_class(); break;
 	case 'v': ww_class_stats(&c, &counts); MUST(counts.context_waits <= 8); break;
-	case '@': ww_mine.thread = 1, ww_mine.stack = 2; break;
-	case 'T': take_number(u); break;
+	case 'T': take_number(u, strchr(how, '.')); break;
 	case 'G': give_number(u, false); break;
 	case 'g': give_number(u, true); break;
 	case 'p': MUST(ww_number_put(numbers[2], &c) == -EBUSY); break;
@@ -386,10 +420,12 @@ void il_thread(const char *at)
 			at = lock(&u, *at, how) ? past(at, (char)toupper(*at)) : at;
 		else if (strchr("ABM", *at))
 			unlock(&u, *at);
-		else if (*at == 'L')
-			at = loop(&u, at + 1);
+		else if (*at == 'L' || *at == 'K')
+			at = loop(&u, at + 1, *at == 'K');
 		else if (*at == '&')
 			at = list(&u, at + 1);
+		else if (*at == '@')
+			ww_mine.thread = 1, ww_mine.stack = (uint8_t)(*++at - '0' + 1);
 		else if (*at == '%')
 			il_world(*++at);
 		else if (*at == '~')
@@ -402,7 +438,7 @@ void il_thread(const char *at)
 		else if (isdigit(*at))
 			il_set(&happened[*at - '0']);
 		else
-			act(&u, *at);
+			act(&u, *at, how);
 		*how = 0;
 	}
 }
@@ -420,6 +456,8 @@ const struct il_program il_programs[] = {
 	{ "slow", { "(ab+AB)", "(ba+BA)" }, CONTEXTS(4), 3 },
 	{ "slow-die", { "(ab+AB)", "(ba+BA)" }, CONTEXTS(4) | WAIT_DIE, 3 },
 	{ "loop", { "(Lab;+U)", "(Lba;+U)" }, CONTEXTS(4), 3 },
+	{ "loop-by-hand", { "(Kab;+U)", "(Lba;+U)" }, CONTEXTS(4), 3 },
+	{ "loop-by-hand-die", { "(Kab;+U)", "(Lba;+U)" }, CONTEXTS(4) | WAIT_DIE, 3 },
 	{ "list", { "(&ab;+AB)", "(&ba;+AB)" }, CONTEXTS(4), 3 },
 	{ "slow-loop", { "(ab+AB)", "(Lba;+U)" }, CONTEXTS(4), 3 },
 	{ "number", { "(a+A)", "na+A" }, CONTEXTS(4) | NUMBERED, 3 },
@@ -478,12 +516,16 @@ const struct il_program il_programs[] = {
 	{ "deadline-asleep", { "na1~2A", "~1(!taA2)" }, CONTEXTS(2), 3 },
 	{ "deadline-asleep-alone", { "na1~2A", "~1!tnaA2" }, CONTEXTS(2), 3 },
 	{ "deadline-seeking", { "(1~2)", "~1!tnaA2", "()" }, CONTEXTS(1), 2 },
+	{ "deadline-handed-on", { "(ab+A+B)", "(ta+ib+BA)" }, CONTEXTS(4), 2 },
+	{ "cancel-inside", { "(a3~4A)", "~3$(1ia+A~2)", "~1c4TG2" }, CONTEXTS(4) | IL_INSIDE, 2 },
 	{ "static", { "(m+M)", "(m+M)" }, CONTEXTS(4) | STATIC, 2 },
 	{ "static-alone", { "nm+M", "nm+M" }, CONTEXTS(4) | STATIC, 2 },
 	{ "static-both", { "nm+M", "(m+M)" }, CONTEXTS(4) | STATIC, 2 },
 	{ "static-try", { "?nm+M", "(Lm;+U)" }, CONTEXTS(4) | STATIC, 2 },
 	{ "numbers", { "TGTG", "TGTG" }, CONTEXTS(4), 3 },
-	{ "numbers-aba", { "@TTGG", "@TTgG" }, CONTEXTS(4) | GIVEN, 3 },
+	{ "numbers-aba", { "@1TTGG", "@1TTgG" }, CONTEXTS(4) | GIVEN, 3 },
+	{ "numbers-4", { "TG", "TG", "TG", "TG" }, CONTEXTS(4), 1 },
+	{ "numbers-scan", { "@3T1~2G3", "~12@2.TG", "~3@4TG" }, CONTEXTS(4) | GIVEN, 1 },
 	{ "number-put", { "(1~2)", "~1nmM", "~1sp2" }, CONTEXTS(1) | NUMBERED, 2 },
 	{ "number-deadline", { "(a+A)(a+A)", "(ta+A)" }, CONTEXTS(4) | NUMBERED, 3 },
 	{ "free", { "(8)", "(9)", "_8_9F()" }, CONTEXTS(2), 2 },
