@@ -20,7 +20,7 @@ use Rattle.ww_wakes.proofs.Woken.{owing_was, debt_was, debt_here}
 use Rattle.ww_wakes.proofs.Keeping.{guards_are_held_awake}
 use Rattle.ww_wakes.proofs.Calls.{leaving_is_a_step}
 use Rattle.ww_runs.specs.Moment.{Moment, wakes_owed, core, view, HasToWake, Acts}
-use Rattle.ww_runs.specs.Moves.{cancelled_after, StepsThere, MakesEvent, Performs, LeavesToSleep, Looks, FindsNoSign, FindsNoCancel, StaysThere, Rings, Parks, Rises}
+use Rattle.ww_runs.specs.Moves.{cancelled_after, StepsThere, MakesEvent, Performs, LeavesToSleep, Looks, FindsNoSign, FindsNoCancel, Notes, StaysThere, Rings, Parks, Rises, StandsStill}
 use Rattle.ww_runs.specs.Runs.{IsPhase, IsShownBy, GoesAlong, MovesAreSteps, OthersAreNone}
 use Rattle.std.proofs.lemmas.Bool.{cases_Bool}
 use Rattle.ww_runs.proofs.Owed.{owed_grows, newly_owed, condemned_owed, not_fresh, still_uncancelled, others_uncancelled}
@@ -367,10 +367,8 @@ finds_no_cancel_on m m' w s shown p = let v = view m s in let acts = p.looks.the
       (λ u isnt had. put_else w.found_no_cancel s true u isnt ∙ had);
 }
 
-pub others_are_none : OthersAreNone
-others_are_none key m m' w shown follows = let t = follows.0 in let p = follows.1 in let seat =
-    p.looks.there.acts.seat in
-    let n = p.view in
+notes_on : {key : Start} (m m' : Moment key) (w : Scene) (t : ℕ) → IsShownBy m w → Notes m m' t → IsShownBy m' w
+notes_on m m' w t shown p = let seat = p.looks.there.acts.seat in let n = p.view in
     looked m m' w t shown p.looks n.inside n.condemned n.debts n.naps w refl refl refl refl refl
     (λ i fresh. shown.fresh t seat (λ out. i (n.inside ∙ out)) (n.fresh fresh))
     (λ i none. shown.uncancelled t seat (λ out. i (n.inside ∙ out)) (n.uncancelled none))
@@ -456,6 +454,27 @@ parks_on m m' w s shown p = let r = p.ready in record {
     condemned = condemned_are m m' w shown p.stays p.rung;
   };
 }
+
+-- ---- nothing
+
+stands_on : {key : Start} (m m' : Moment key) (w : Scene) → IsShownBy m w → StandsStill m m' → IsShownBy m' w
+stands_on m m' w shown p = record {
+  core = shown.core ∙ sym p.stays.core;
+  token = shown.token ∙ sym p.token;
+  heeds = shown.heeds ∙ sym p.stays.heeds;
+  phase = λ t low. phase_as (w.phase t) _ _ _ _ _ _ (ap (λ (f : ℕ → Bool). f t) p.asleep)
+      (ap (λ (f : ℕ → ℕ). f t) p.risen) (naps_are m m' w shown p.stays t low) (shown.phase t low);
+  strangers = shown.strangers;
+  owes = λ x u owed. owes_is m m' w shown p.stays p.rung x u (shown.owes x u owed);
+  fresh = fresh_is m m' w shown p.stays;
+  uncancelled = none_is m m' w shown p.stays;
+  even = even_is m m' w shown p.stays p.rung;
+  condemned = condemned_are m m' w shown p.stays p.rung;
+}
+
+pub others_are_none : OthersAreNone
+others_are_none key m m' w shown follows =
+    ⊎_elim (λ still. stands_on m m' w shown still) (λ noted. notes_on m m' w noted.0 shown noted.1) follows
 
 -- ---- a rise
 

@@ -5,5 +5,6 @@ pub mod Seating
 pub mod Playing
 pub mod Ends
 pub mod Unlocking
+pub mod Standstill
 pub mod Small
 pub mod Sleepers

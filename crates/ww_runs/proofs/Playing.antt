@@ -282,7 +282,7 @@ module _ {key : Start} (m : Moment key) (id : ℕ) (me : Sat) (here : get_elem? 
     noted_moved noted = record {
       moment = after_it;
       table = refl;
-      follows = (
+      follows = inr (
         who,
         record {
           looks = looks_there;
@@ -333,7 +333,7 @@ module _ {key : Start} (m : Moment key) (id : ℕ) (me : Sat) (here : get_elem? 
       heeds = m.heeds;
     };
     table = refl;
-    follows = (
+    follows = inr (
       who,
       record {
         looks = record {

@@ -7,38 +7,15 @@ use Rattle.ww_model.specs.State.{State, put}
 use Rattle.ww_model.specs.Event.{after}
 use Rattle.ww_model.proofs.Puts.{put_was}
 use Rattle.ww_rule.specs.declared.cells.Part.{Part}
-use Rattle.ww_rule.specs.declared.cells.Start.{Start}
 use Rattle.ww_wakes.specs.Scene.{Step, wakes, rises}
 use Rattle.ww_wakes.specs.Theorem.{IsDue}
-use Rattle.ww_runs.specs.Moment.{Moment, wakes_owed, HasToWake, Acts}
+use Rattle.ww_runs.specs.Moment.{Moment, wakes_owed, HasToWake}
 use Rattle.ww_runs.specs.Moves.{Follows}
 use Rattle.ww_runs.specs.Endless.{IsEndlessThere, SleepsForEverThere, SleepsInVainThere, SleepersAreInEndlessRuns}
-use Rattle.ww_runs.proofs.Small.{small, at_rest, at_11, part_there, acts_there, holder_2, holder_5, waiter_5, core_10, second}
+use Rattle.ww_runs.proofs.Standstill.{idles}
+use Rattle.ww_runs.proofs.Small.{small, at_rest, at_11, part_there, holder_2, holder_5, waiter_5, core_10, second}
 
 -- ---- a thread that sleeps for ever
-
--- a moment follows itself, as a seat that acts does nothing that its view tells
-idles : {key : Start} (m : Moment key) (t : ℕ) → Acts m t → Follows m m None
-idles m t acts = (
-  t,
-  record {
-    looks = record {
-      there = record { acts = acts; others = λ u low isnt. refl; rung = refl; risen = refl; token = refl; asleep = refl };
-      core = refl;
-      cancelled = refl;
-      heeds = refl;
-    };
-    view = record {
-      inside = refl;
-      later = refl;
-      condemned = refl;
-      debts = refl;
-      naps = refl;
-      fresh = λ f. f;
-      uncancelled = λ u. u;
-    };
-  },
-)
 
 nothing_owed : (kind : Kind) (s u : ℕ) → ¬ HasToWake (at_rest kind).moment s u
 nothing_owed kind zero u has = let a = at_rest kind in
@@ -60,7 +37,7 @@ sleeps_on kind = let a = at_rest kind in let m = a.moment in record {
   low = omega arith;
   endless = record {
     begins = a.run;
-    goes_on = λ i. idles m 0 (acts_there a 1 (holder_2 kind, []) refl refl (omega arith) refl refl);
+    goes_on = λ i. idles m;
   };
   arrive = record {
     made = λ i s u has. absurd (nothing_owed kind s u has);
@@ -159,9 +136,6 @@ module _ (kind : Kind) where
   first_outside : (given_up.part 0).core.inside ≡ 0
   first_outside = ap (λ (p : Part). p.core.inside) (sym first_part)
 
-  first_risen : given_up.risen 0 ≡ (given_up.part 0).core.naps
-  first_risen = ap (λ (f : ℕ → ℕ). f 0) (at_11 kind).risen ∙ ap (λ (p : Part). p.core.naps) first_part
-
   second_due : given_up.risen 1 + 1 ≡ (given_up.part 1).core.naps
   second_due = ap (λ (f : ℕ → ℕ). f 1 + 1) (at_11 kind).risen ∙ ap (λ (p : Part). p.core.naps) second_part
 
@@ -185,7 +159,7 @@ module _ (kind : Kind) where
     token = refl;
     rung = refl;
   }
-  follows (suc (suc i)) = idles up 0 (record { seat = omega arith; awake = first_awake; risen = first_risen })
+  follows (suc (suc i)) = idles up
 
   made : (i s u : ℕ) → HasToWake (waking i) s u → (j : ℕ) × (i ≤ j) × (waking_move j ≡ Some (wakes s u))
   made zero s u has = let who = only_owed s u has in

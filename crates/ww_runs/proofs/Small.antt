@@ -1,6 +1,6 @@
 -- A run of two threads at a table with one lock, play by play: the one takes the lock, the other sleeps for it, and
 -- then the lock is released.
-use Rattle.std.proofs.Common.{◌≡◌, inl, inr, ℕ, zero, suc, ◌+◌, ◌<◌, Bool, true, false, true≢false, List, [], ◌∷◌, Option, Some, None, refl, sym, ap, ◌∙◌, subst, arith}
+use Rattle.std.proofs.Common.{◌≡◌, ⊎_elim, inl, inr, ℕ, zero, suc, ◌+◌, ◌<◌, Bool, true, false, true≢false, List, [], ◌∷◌, Option, Some, None, refl, sym, ap, ◌∙◌, subst, arith}
 use mathlib.Core.Option.{some}
 use native.Mathlib.Decide.{ℕ_discrete}
 use lib.ListN.{get_elem?}
@@ -35,7 +35,7 @@ use Rattle.ww_rule.specs.Waiting.{joining}
 use Rattle.ww_rule.proofs.Seats.{opens, opens_start}
 use Rattle.ww_wakes.specs.Scene.{Step, performs, leaves_to_sleep, finds_no_cancel, falls_asleep}
 use Rattle.ww_runs.specs.Moment.{Moment, wakes_owed, Acts}
-use Rattle.ww_runs.specs.Moves.{MakesEvent, Looks}
+use Rattle.ww_runs.specs.Moves.{MakesEvent, Looks, StandsStill}
 use Rattle.ww_runs.specs.Runs.{IsOfRun, goes_on}
 use Rattle.ww_runs.specs.Runs as runs
 use Rattle.ww_runs.specs.Plays as play
@@ -138,6 +138,21 @@ module _ {key : Start} {table : St} {core : State} {sleeps heeds : ℕ → Bool}
     heeding = looks.heeds ∙ a.heeding;
   }
 
+  -- ... or without any change
+  after_none : (x : Option Step) (then : St) (s : St) (moved : Moved a.moment x s) → s ≡ then →
+      StandsStill a.moment moved.moment → At key then core sleeps heeds
+  after_none x then s moved is still = record {
+    moment = moved.moment;
+    run = runs.goes_on a.moment moved.moment x a.run moved.follows;
+    is_table = moved.table ∙ is;
+    is_core = still.stays.core ∙ a.is_core;
+    rung = still.rung ∙ a.rung;
+    risen = still.risen ∙ a.risen;
+    token = still.token ∙ a.token;
+    asleep = still.asleep ∙ a.asleep;
+    heeding = still.stays.heeds ∙ a.heeding;
+  }
+
   -- what a word is
   word_there : (i k : ℕ) → slice_index table.words i ≡ k → slice_index a.moment.table.words i ≡ k
   word_there i k is = ap (λ (t : St). slice_index t.words i) a.is_table ∙ is
@@ -182,8 +197,9 @@ module _ {key : Start} {table : St} {core : State} {sleeps heeds : ℕ → Bool}
           after_look t (Some (finds_no_cancel t)) then s moved is moved.follows.looks
 
       others_there : (then : St) (s : St) → s ≡ then → Plays a.moment id me None s → At key then core sleeps heeds
-      others_there then s is plays = let moved = moves_there None s plays in
-          after_look moved.follows.0 None then s moved is moved.follows.1.looks
+      others_there then s is plays = let moved = moves_there None s plays in ⊎_elim
+          (λ still. after_none None then s moved is still)
+          (λ noted. after_look noted.0 None then s moved is noted.1.looks) moved.follows
 
 -- ---- what the two know after each play
 

@@ -99,7 +99,8 @@ other_later m m' t s low there mine = dite (ℕ_discrete s t) mine (λ isnt. ap 
 
 later_kept : {key : Start} (m m' : Moment key) (x : Option Step) (s : ℕ) → s < key.seats → (view m s).inside ≢ 0 →
     (view m' s).inside ≢ 0 → Follows m m' x → (view m' s).later ≡ (view m s).later
-later_kept m m' None s low inside still f = other_later m m' f.0 s low f.1.looks.there
+later_kept m m' None s low inside still (inl f) = ap (λ (p : Part). p.core.later) (f.stays.parts s low)
+later_kept m m' None s low inside still (inr f) = other_later m m' f.0 s low f.1.looks.there
     (λ is. subst (λ x. (view m' x).later ≡ (view m x).later) (sym is) f.1.view.later)
 later_kept m m' (Some (performs e)) s low inside still f = other_later m m' (actor e) s low f.makes.there
     (λ is. let at = f.makes.there.acts.seat in

@@ -8,6 +8,7 @@ use Rattle.ww_wakes.specs.Scene.{Step, performs, wakes, rises}
 use Rattle.ww_live.specs.Premises.{InTheEnd, LeavesToSleep, FirstsAsk}
 use Rattle.ww_live.specs.Theorem.{AreDeadlocked}
 use Rattle.ww_runs.specs.Moment.{Moment, core, view, HasToWake, Acts, Rests}
+use Rattle.ww_runs.specs.Runs.{IsOfRun}
 use Rattle.ww_runs.specs.Endless.{IsEndless, step_of, RunsAlong}
 
 -- ---- what need not be asked
@@ -46,6 +47,20 @@ NoDeadlockLastsInRuns = (key : Start) (moment : ℕ → Moment key) (move : ℕ 
     AreDeadlocked (core (moment i)) seats →
     InTheEnd i (λ j. (s : ℕ) × IsOneOf s seats × ((n : ℕ) ×
     ((move j ≡ Some (performs (Die s n))) ⊎ (move j ≡ Some (performs (Leave s n))))))
+
+-- ---- where all sleep
+
+-- The thread sleeps, and nothing is on its way to it: it has no token, and nobody has yet to wake it.
+pub record SleepsUndisturbed {key : Start} (m : Moment key) (s : ℕ) : Type 0 where
+  pub sleeps : m.asleep s ≡ true
+  pub no_token : m.token s ≡ false
+  pub unowed : (t : ℕ) → ¬ HasToWake m t s
+
+-- So threads that all sleep undisturbed aren't deadlocked, at any moment of any run: a program that stands still for ever
+-- does so for another reason.
+abbrev pub NoStandstillInRuns : Type 0
+NoStandstillInRuns = (key : Start) (m : Moment key) → IsOfRun m → (seats : List ℕ) →
+    ((s : ℕ) → IsOneOf s seats → SleepsUndisturbed m s) → ¬ AreDeadlocked (core m) seats
 
 -- ---- waits end
 

@@ -126,6 +126,14 @@ module _ {key : Start} (m m' : Moment key) where
     pub token : m'.token ≡ put m.token s false
     pub rung : m'.rung ≡ m.rung
 
+  -- nothing happens, whether any seat acts or not: so each run goes on for ever, also where all sleep
+  pub record StandsStill : Type 0 where
+    pub stays : StaysThere
+    pub rung : m'.rung ≡ m.rung
+    pub risen : m'.risen ≡ m.risen
+    pub token : m'.token ≡ m.token
+    pub asleep : m'.asleep ≡ m.asleep
+
   -- ---- all of it
 
   -- the moment follows by what is to be this step of the scene, or none
@@ -137,4 +145,4 @@ module _ {key : Start} (m m' : Moment key) where
   Follows (Some (wakes s u)) = Rings s u
   Follows (Some (falls_asleep s)) = Parks s
   Follows (Some (rises s)) = Rises s
-  Follows None = (t : ℕ) × Notes t
+  Follows None = StandsStill ⊎ ((t : ℕ) × Notes t)

@@ -1,5 +1,5 @@
 //! No deadlock of threads lasts.
-ghost use Rattle.ww_runs.specs.Deadlocks.{WaitersSleepInRuns, FirstsAskInRuns, NoDeadlockLastsInRuns, WaitsEndInRuns};
+ghost use Rattle.ww_runs.specs.Deadlocks.{WaitersSleepInRuns, FirstsAskInRuns, NoDeadlockLastsInRuns, NoStandstillInRuns, WaitsEndInRuns};
 
 /// Each waiter that leaves a guard does so in order to sleep.
 pub fn waiters_sleep_in_runs()
@@ -16,6 +16,11 @@ pub fn firsts_ask_in_runs()
 /// end.
 pub fn no_deadlock_lasts_in_runs()
     ensures { NoDeadlockLastsInRuns }
+{}
+
+/// Threads that all sleep, have no token and are owed no wake aren't deadlocked.
+pub fn no_standstill_in_runs()
+    ensures { NoStandstillInRuns }
 {}
 
 /// Whenever a thread waits, some wait ends later, if all threads are scheduled while they wait, and whoever has a lock
