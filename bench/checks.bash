@@ -90,6 +90,22 @@ observe_apart() {
     observe "$@" >"$work/output" 2>"$work/errors"
 }
 
+# Runs a program on an input, and leaves in `differs` how it ended otherwise than is stored, or nothing: its status, what it
+# printed, and that standard error is empty.
+try_input() {
+    local input=$1
+    shift
+    differs=''
+    observe_apart "$@" <"$input"
+    if [ "$status" != "$(status_for "$input")" ]; then
+        differs="the status is $status and not $(status_for "$input")"
+    elif ! cmp -s "$work/output" "$input.stdout"; then
+        differs="standard output is another: $(diff "$input.stdout" "$work/output" | head -n 4 || true)"
+    elif [ -s "$work/errors" ]; then
+        differs="standard error isn't empty: $(head -c 300 "$work/errors")"
+    fi
+}
+
 # What must have come of it: the status, the standard output, and words that stand on standard error, or nothing.
 checks=0
 must_end() {
@@ -104,10 +120,11 @@ must_end() {
     fi
 }
 
-# Starts a command in the background, once fewer run than there are processors. How it ended it has to leave in a file.
+# Starts a command in the background, once fewer run than `most`, or than there are processors. How it ended it has to
+# leave in a file.
 running=0
 start() {
-    if [ "$running" -ge "$(nproc)" ]; then
+    if [ "$running" -ge "${most-$(nproc)}" ]; then
         wait -n || true
         running=$((running - 1))
     fi

@@ -55,7 +55,7 @@ int ww_number_take(uint32_t *number, struct ww_class *c)
 		all[*number].number = *number;
 		__atomic_store_n(&all[*number].pool, p, __ATOMIC_RELEASE);
 	}
-	__atomic_fetch_or(&all[*number].waiters, IS_TAKEN, __ATOMIC_RELAXED);
+	__atomic_fetch_add(&all[*number].waiters, IS_TAKEN, __ATOMIC_RELAXED);
 	return 0;
 }
 

@@ -1,4 +1,5 @@
-"""The pages of the manual, told from the headers: what a header says at its head, and of each call that it declares.
+"""The pages of the manual. That of a header is told by what it says at its head, and of each call that it declares; that
+of the program by the page of what it reads and prints.
 
 A call whose name ends with _ isn't told, and the part of a header that is compiled into callers isn't read.
 """
@@ -111,3 +112,28 @@ def page(header, version):
     made += entries(parts)
     other = "ww" if name == "ww_mutex" else "ww_mutex"
     return "\n".join([*made, ".SH SEE ALSO", f".BR {other} (3)", ""])
+
+
+# ---- the program
+
+
+def prose(text):
+    """A paragraph of a page: what is code there is bold, and links are their words."""
+    text = re.sub(r"\[([^\]]*)\]\([^)]*\)", r"\1", text.replace("\\", r"\e"))
+    return re.sub(r"`([^`]*)`", r"\\fB\1\\fP", re.sub(r"\*([^*]+)\*", r"\\fI\1\\fP", text))
+
+
+def program(formats, version):
+    """The page of the program, told from the head of a page, its section on the input, and its table of statuses."""
+    head = formats.split("\n## ")[0].split("\n\n", 1)[1].strip()
+    reads = re.search(r"^## The input\n\n(.*?)\n\n", formats, re.DOTALL | re.MULTILINE)[1]
+    status = re.search(r"^## The exit status\n\n(.*?)\n\n(.*?)\n\n## ", formats, re.DOTALL | re.MULTILINE)
+    rows = [[cell.strip() for cell in row.strip("|").split("|")] for row in status[1].splitlines()[2:]]
+    made = [f'.TH WW_RUN 1 "" "libww {version}" "Wound/wait locks"']
+    made += ['.\\" Written by tools/pages from docs/FORMATS.md, which says more: change that, not this page.', ".nh"]
+    made += [".SH NAME", r"ww_run \- run transactions under wound/wait locks, or replay a schedule of lock events"]
+    made += [".SH SYNOPSIS", r"\fBww_run\fP < \fIINPUT\fP", ".SH DESCRIPTION", prose(head), ".PP", prose(reads)]
+    made += [".PP", r"FORMATS.md in \fIshare/doc/ww\fP says what an input may have, and what is printed.", ".SH EXIT STATUS"]
+    for number, when, written in rows:
+        made += [".TP", f".B {number}", prose(f"{when}: {written}.")]
+    return "\n".join([*made, ".PP", prose(" ".join(status[2].split())), ".SH SEE ALSO", ".BR ww_mutex (3)", ""])

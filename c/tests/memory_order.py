@@ -1,14 +1,15 @@
 #!/usr/bin/env python3
 """Whether what orders the accesses of the C sources that threads share is enough: memory_order.py [FOLDER]
 
-It reads each access by __atomic_* in the sources of FOLDER, c/ by itself, and holds it against the table below: so an
-order can't change unseen, nor an access come or go. Who changes the table changes the programs that have the field. Then
-it draws all executions of small programs (which write each read reads, in which order the writes of each place come), and
-asks of each whether a memory model allows it: C's, as RC11 repairs it, with the release sequences of C++20, which tells
-data races too; and AArch64's, the axiomatic one, over the code that gcc and clang make, with load and store exclusive
-and with single instructions (LSE). First come programs whose answers are well known, and such that have to be found
-wrong. What the models don't have is membarrier(2), by which whoever shares the seats of a class sees what their keepers
-stored; and the steps of the proved library are read-modify-writes of one sequentially consistent order here.
+It reads each access by __atomic_* in the sources of FOLDER, c/ by itself, and holds it against the table below, which has
+them by field and function: so an order can't change unseen, nor an access come or go, nor two change places. A second table
+says what covers the plain accesses of what threads share: a lock, or that one thread alone writes. Who changes a table changes
+the programs that have the field. Then it draws all executions of small programs (which write each read reads, in which order
+the writes of each place come), and asks of each whether a memory model allows it: C's, as RC11 repairs it, with the release
+sequences of C++20, which tells data races too; and AArch64's, the axiomatic one, over the code that gcc and clang make, with
+load and store exclusive and with single instructions (LSE). First come programs whose answers are well known, and such that
+have to be found wrong. What the models don't have is membarrier(2), by which whoever shares the seats of a class sees what
+their keepers stored; and the steps of the proved library are read-modify-writes of one sequentially consistent order here.
 """
 import itertools
 import os
@@ -273,85 +274,175 @@ SOURCES = ["ww.c", "ww_pool.h", "ww_pool.c", "ww_context.c", "ww_mutex.h", "ww_m
            "ww_debug.h", "ww_debug.c", "ww_debug_waits.c"]
 SHORT = {"RELAXED": "rlx", "ACQUIRE": "acq", "RELEASE": "rel", "ACQ_REL": "ar", "SEQ_CST": "sc"}
 
-# Of each field, in each source: its accesses there, and what orders them. Of a compare-exchange that fails the second order.
+# Of each field, in each function that has it, in the order of the text: its accesses, and what orders them. Of a
+# compare-exchange that fails the second order.
 TABLE = {
     # A token that was given is taken away before its thread looks at the state again, which the giver changed before.
-    "token": {"ww.c": "compare_exchange sc/sc, exchange sc, load sc sc sc, store sc"},
+    "token": {
+        "park": "load sc, compare_exchange sc/sc, load sc, store sc", "ww_unpark": "exchange sc", "ww_is_parked": "load sc",
+    },
     # Counted after a cancel's step; put in order with the seat's next user by `taken`.
-    "cancels": {"ww.c": "fetch_add sc", "ww_inside.h": "load sc"},
-    "stale": {"ww.c": "exchange sc sc, load sc", "ww_inside.h": "store sc"},
+    "cancels": {"cancelled": "fetch_add sc", "drop_cancel": "load sc"},
+    "stale": {"was_stale": "exchange sc", "cancelled": "load sc, exchange sc", "drop_cancel": "store sc"},
     # Of a seat of ww.h: all that its user wrote goes with it.
-    "taken": {"ww.c": "exchange acq rel, load acq acq"},
+    "taken": {"ww_close": "load acq", "ww_seat_get": "exchange acq", "ww_seat_put": "exchange rel", "ww_cancel": "load acq"},
     # A hint, from where on a seat is looked for.
-    "turn": {"ww.c": "fetch_add rlx"},
+    "turn": {"ww_seat_get": "fetch_add rlx"},
     # Said before the waiter is woken, which looks at it after it took its token away.
-    "asked": {"ww.c": "load sc"},
-    "cancelled": {"ww_context.c": "exchange sc, store rlx", "ww_mutex.c": "exchange sc"},
+    "asked": {"is_due": "load sc"},
+    "cancelled": {"of_seat": "store rlx", "ww_acquire_cancel": "exchange sc", "lock_on": "exchange sc"},
     # A canceller may look while a context begins or ends: a cancel that isn't ordered after ww_acquire_init is no right call.
-    "own": {"ww_context.c": "load rlx, store rlx rlx"},
+    "own": {"of_seat": "store rlx", "no_more": "store rlx", "ww_acquire_cancel": "load rlx"},
     # A mutex's holder alone writes these, and the lock orders holders; whoever else looks has only a glance, or takes the lock.
     "ctx": {
-        "ww_context.c": "load rlx",
-        "ww_mutex.c": "load rlx, store rlx rlx rlx",
-        "ww_mutex.h": "load rlx, store rlx rlx",
-        "ww_number.c": "load rlx, store rlx rlx",
+        "ww_mutex_is_held_by": "load rlx", "WW_HOLDS_": "store rlx", "WW_HOLDS_NO_MORE_": "store rlx",
+        "ww_mutex_unlock": "load rlx", "holder": "load rlx", "own": "store rlx", "release_all": "store rlx",
+        "unlock": "store rlx", "answer": "load rlx, store rlx", "ww_number_unlock": "store rlx",
     },
     # By it others look who uses the seat, which was said before.
-    "alone": {"ww_context.c": "load acq", "ww_mutex.c": "load rlx, store rel rlx", "ww_number.c": "load rlx"},
-    "user": {"ww_context.c": "load rlx", "ww_pool.h": "store rlx"},
+    "alone": {
+        "ww_mutex_is_held_by": "load acq", "ww_mutex_is_locked": "load rlx", "own": "store rel", "unlock_alone": "store rlx",
+        "ww_number_unlock_alone": "load rlx",
+    },
+    "user": {"is_user": "store rlx", "ww_mutex_is_held_by": "load rlx"},
     # A waiter says first that it holds the mutex, and then that it waits no more; who destroys looks the other way round.
     # In a forked child those that waited aren't there; its number goes with `pool`.
     # Of one that is known by its number also that this is taken, which nobody asks for before.
     "waiters": {
-        "ww_mutex.c": "fetch_add sc sc, fetch_sub sc sc, load sc",
-        "ww_number.c": "compare_exchange sc/sc, fetch_or rlx, load sc",
-        "ww_pool.c": "store rlx",
+        "number_anew": "store rlx", "end_mutex": "load sc", "lock_on": "fetch_add sc, fetch_sub sc",
+        "seek_and_lock": "fetch_add sc, fetch_sub sc", "ww_number_put": "load sc, compare_exchange sc/sc",
+        "ww_number_take": "fetch_add rlx",
     },
     # Before a mutex has a pool; then its holder writes another thing there, by which its pool is seen too.
-    "class_": {"ww_mutex.c": "load acq"},
+    "class_": {"class_of": "load acq"},
     # All of an open class; and of a mutex the number, which its first lock may just have given it.
     "pool": {
-        "ww_mutex.c": "store rel",
-        "ww_context.c": "load acq acq",
-        "ww_mutex.h": "load acq acq",
-        "ww_pool.h": "load acq acq acq",
-        "ww_pool.c": "store rel rel rel",
-        "ww_number.c": "store rel",
+        "pool_of": "load acq, load acq", "pool_at": "load acq", "open_now": "store rel", "number_now": "store rel",
+        "ww_class_free": "store rel", "begin": "load acq", "ww_acquire_init": "load acq", "ww_mutex_lock": "load acq",
+        "ww_mutex_trylock": "load acq", "end_mutex": "store rel", "ww_number_take": "store rel",
     },
     # The mutexes of numbers, which are empty then.
-    "numbered": {"ww_number.c": "compare_exchange ar/acq, load acq acq"},
+    "numbered": {"mutex_at": "load acq", "mutexes_of": "load acq, compare_exchange ar/acq"},
     # Of seats that aren't shared: what their user wrote goes with busy, to its keeper and to whoever shares them.
-    "busy": {"ww_pool.h": "load acq, store rel rlx", "ww_pool.c": "load acq acq acq acq, store rlx"},
+    "busy": {
+        "has_at_hand": "load acq", "use_kept": "store rlx", "give_seat": "store rel", "share": "load acq",
+        "let_loose": "load acq", "unshared": "load acq, store rlx", "is_idle": "load acq",
+    },
     # Its keeper looks after it stored busy: membarrier(2) orders these. Whoever waits until the seats are shared acquires.
-    "own_id": {"ww_pool.h": "load rlx rlx rlx", "ww_pool.c": "load acq rlx, store rel rlx rlx sc"},
+    "own_id": {
+        "has_at_hand": "load rlx", "use_kept": "load rlx", "give_seat": "load rlx", "is_shared": "load rlx",
+        "share": "store sc, store rel", "await_shared": "load acq", "make_pool": "store rlx", "free_pool": "store rlx",
+    },
     # Whoever gives a seat looks for seekers then; a seeker has said so before it looks for a seat.
-    "seekers": {"ww_pool.c": "fetch_add sc, fetch_sub sc sc, load sc"},
-    "top": {"ww_pool.c": "compare_exchange sc/rlx sc/sc, load rlx sc sc sc"},
+    "seekers": {
+        "has_seekers": "load sc", "hand_over": "fetch_sub sc", "leave": "fetch_sub sc", "ww_seek_seat": "fetch_add sc",
+    },
+    "top": {
+        "pop": "load sc, compare_exchange sc/sc", "changes": "load sc",
+        "ww_give_number": "load rlx, compare_exchange sc/rlx", "ww_free_numbers": "load sc",
+    },
     # Written before its number is given, read before it is taken: top orders both, and counts its changes.
-    "below": {"ww_pool.c": "load rlx rlx, store rlx"},
+    "below": {"pop": "load rlx", "ww_give_number": "store rlx", "ww_free_numbers": "load rlx"},
     # A number that nobody had has no history.
-    "fresh": {"ww_pool.c": "compare_exchange rlx/rlx, load rlx rlx rlx rlx rlx", "ww_debug.c": "load rlx"},
+    "fresh": {
+        "take_fresh": "load rlx, compare_exchange rlx/rlx", "ww_free_numbers": "load rlx", "share": "load rlx",
+        "is_idle": "load rlx", "ww_class_stats": "load rlx", "ww_debug_own_seat": "load rlx",
+    },
     # The seat that is handed over, and all that goes with it.
-    "served": {"ww_pool.c": "load acq, store rel"},
+    "served": {"hand_over": "store rel", "ww_seek_seat": "load acq"},
     # Counts, which order nothing; and glances of the debug library. What a waiter in its list did before is ordered by its lock.
-    "threads": {"ww_pool.c": "fetch_add rlx"},
-    "sought": {"ww_pool.c": "load rlx, store rlx"},
-    "waits": {"ww_pool.c": "load rlx"},
-    "back_offs": {"ww_pool.c": "load rlx"},
-    "counted": {"ww_pool.h": "load rlx, store rlx"},
-    "faults": {"ww_debug.c": "fetch_add rlx, load rlx"},
-    "dangers": {"ww_debug.c": "fetch_add rlx rlx, load rlx"},
-    "told_of": {"ww_debug.c": "compare_exchange rlx/rlx"},
-    "patience": {"ww_debug_waits.c": "load rlx, store rlx"},
-    "stamps": {"ww_debug.c": "add_fetch rlx"},
-    "stamp": {"ww_debug.c": "load rlx rlx rlx, store rlx rlx", "ww_debug_waits.c": "load rlx rlx"},
-    "wants": {"ww_debug.c": "store rlx", "ww_debug_waits.c": "load rlx"},
-    "held": {"ww_debug.c": "load rlx rlx rlx rlx, store rlx rlx rlx"},
-    "file": {"ww_debug.h": "load rlx", "ww_debug.c": "store rlx"},
-    "line": {"ww_debug.h": "load rlx", "ww_debug.c": "store rlx"},
-    "seat": {"ww_debug.c": "load rlx, store rlx rlx", "ww_debug_waits.c": "load rlx"},
-    "thread": {"ww_debug.c": "load rlx rlx, store rlx rlx rlx rlx rlx", "ww_debug_waits.c": "load rlx rlx rlx rlx"},
+    "threads": {"my_stack": "fetch_add rlx"},
+    "sought": {"make_pool": "store rlx", "ww_class_stats": "load rlx"},
+    "waits": {"ww_class_stats": "load rlx"},
+    "back_offs": {"ww_class_stats": "load rlx"},
+    "counted": {"count": "store rlx, load rlx"},
+    "faults": {"ww_debug_faults": "load rlx", "fault_in": "fetch_add rlx"},
+    "dangers": {"ww_debug_dangers": "load rlx", "ww_debug_danger": "fetch_add rlx", "ww_debug_warn": "fetch_add rlx"},
+    "told_of": {"ww_debug_is_new": "compare_exchange rlx/rlx"},
+    "patience": {"ww_debug_patience": "store rlx", "ww_debug_sleeps": "load rlx"},
+    "stamps": {"ww_debug_begun": "add_fetch rlx"},
+    "stamp": {
+        "use": "load rlx", "unuse_if_free": "load rlx", "ww_debug_own_seat": "load rlx", "ww_debug_begun": "store rlx",
+        "ww_debug_ended": "store rlx", "look": "load rlx", "write_uses": "load rlx",
+    },
+    "wants": {"ww_debug_waits": "store rlx", "look": "load rlx"},
+    "held": {
+        "unuse_if_free": "load rlx", "ww_debug_own_seat": "load rlx", "ww_debug_begun": "store rlx",
+        "ww_debug_acquired": "store rlx, load rlx", "ww_debug_released": "store rlx, load rlx",
+    },
+    "file": {"place_of": "load rlx", "set_began": "store rlx"},
+    "line": {"place_of": "load rlx", "set_began": "store rlx"},
+    "seat": {"ww_debug_acquired": "store rlx", "ww_debug_released": "load rlx, store rlx", "holder_of": "load rlx"},
+    "thread": {
+        "use": "store rlx", "unuse_if_free": "store rlx", "ww_debug_own_seat": "load rlx", "ww_debug_ended": "store rlx",
+        "ww_debug_acquired": "store rlx", "ww_debug_released": "load rlx, store rlx", "awaited": "load rlx, load rlx",
+        "used_seats": "load rlx", "write_uses": "load rlx",
+    },
 }
+
+
+# What threads share and reach without __atomic_* too, in the library that programs run, and what covers that. Either a
+# lock: whoever reaches it takes that, or says above that it is taken, or stands behind the colon. Or these functions
+# alone write it, for the reason given, and others read what was written before.
+LOCKS = {
+    "opening": ("pthread_mutex_lock(&opening)", "pening is locked"),
+    "queue": ("pthread_mutex_lock(&p->queue)", "queue is locked"),
+}
+PLAIN = {
+    "c->mutexes": "opening: make_pool",
+    "c->contexts": "opening: make_pool",
+    # begin_late found it open, and nobody frees a class meanwhile.
+    "c->pool": "opening: begin_late",
+    "p->next": "opening: in_child keep_memory memory_of_pool",
+    "s->kept": "opening: ",
+    # ww_late_seat waited until the seats are shared.
+    "s->left": "opening: ww_late_seat",
+    # Of seekers; put_first has another `first`. One that was served reads its own: `served` orders that.
+    "p->first": "queue: ",
+    "p->last": "queue: ",
+    "me->next": "queue: ",
+    "first->next": "queue: ",
+    "before->next": "queue: ",
+    "me->seat": "queue: ",
+    "first->seat": "queue: put_first",
+    # Before others see the class, by its pool, or the world.
+    "p->world": "by: make_pool",
+    "p->class_": "by: make_pool",
+    "pool->class_": "by: ",
+    "p->contexts": "by: make_pool",
+    "s->pool": "by: make_pool",
+    "s->world": "by: lay_out",
+    # That, and in a forked child, where nobody else is. Whoever has a seat of the class reads `id`, so it isn't freed.
+    "p->id": "by: in_child make_pool",
+    "p->mutexes": "by: in_child make_pool",
+    "p->gone": "by: in_child",
+    "p->numbered": "by: free_pool",
+    "p->own_id": "by: in_child",
+    "p->seekers": "by: in_child",
+    # By whoever has the seat.
+    "s->was_loose": "by: use_loose",
+    "s->stops": "by: was_stale",
+    "s->listed": "by: come_back list unlist",
+    # By whoever holds the mutex, which its lock orders, or makes or destroys it.
+    "m->older": "by: own unlink_from was_prelocked",
+    "m->newer": "by: unlink_from",
+    "m->class_": "by: end_mutex ww_mutex_destroy",
+    "m->alone": "by: ",
+    # By nobody, so by __atomic_* alone; but for number, which is given before `pool` is stored.
+    "m->pool": "by: ",
+    "m->number": "by: ",
+    "x->own": "by: ",
+    # By the context's own thread, and of a class before others see it, or in a forked child.
+    "x->pool": "by: close_or_open no_more of_seat",
+    "of->fresh": "by: set_out",
+    "of->below": "by: set_out",
+    "stacks->top": "by: set_out",
+    "numbers->below": "by: ",
+    "loose->below": "by: ",
+}
+# What a thread has for itself, under names of fields that others share; and names under which others stand for the same.
+OWN = ["stop", "front", "f", "ww_mine", "kept", "counts", "s->seat"]
+SAME = {"lock": "m", "owed": "m", "older": "m", "newer": "m", "ctx": "x", "victim": "s", "by": "s", "own": "s", "seat": "s", "seats": "s"}
 
 
 def arguments(text):
@@ -372,30 +463,81 @@ def field_of(pointer):
     return re.findall(r"\w+", re.sub(r"\[[^\]]*(\[[^\]]*\][^\]]*)*\]", "", pointer))[-1]
 
 
-def accesses(folder):
-    """By field and source, as the table has them."""
-    found = {}
-    for source in SOURCES:
+def functions(text):
+    """The name of each function and macro that a source defines, its code without comments, and the comment above it."""
+    code = re.sub(r"/\*.*?\*/", lambda it: re.sub(r"[^\n]", " ", it[0]), text, flags=re.DOTALL)
+    begins = []
+    for line in re.finditer(r"^(#define )?[A-Za-z_][^\n]*\([^\n]*(?<!;)$", code, re.MULTILINE):
+        name = re.search(r"(\w+)\(", re.sub(r"__attribute__\(\(.*?\)\)+", "", line[0].removeprefix("#define ")))
+        begins.append((line.start(), name[1] if name else ""))
+    for (at, name), (end, _) in zip(begins, begins[1:] + [(len(code), "")]):
+        above = re.search(r"/\*(?:(?!\*/).)*\*/\n$", text[:at], re.DOTALL)
+        yield name, code[at:end], above[0] if above else ""
+
+
+def functions_of(folder, sources):
+    for source in sources:
         with open(os.path.join(folder, source), encoding="utf-8") as file:
-            text = file.read()
-        for call in re.finditer(r"__atomic_(\w+?)(_n)?\(", text):
+            yield from functions(file.read())
+
+
+def accesses(folder):
+    """By field and function, as the table has them."""
+    found = {}
+    for name, code, _ in functions_of(folder, SOURCES):
+        for call in re.finditer(r"__atomic_(\w+?)(_n)?\(", code):
             if call[1] == "signal_fence":
                 continue
-            words = arguments(text[call.end() :])
+            words = arguments(code[call.end() :])
             orders = "/".join(SHORT[it.removeprefix("__ATOMIC_")] for it in words if it.startswith("__ATOMIC_"))
-            field = found.setdefault(field_of(words[0]), {}).setdefault(source, {})
-            field.setdefault(call[1], []).append(orders)
-    return {
-        field: {source: ", ".join(" ".join([kind, *sorted(it)]) for kind, it in sorted(kinds.items())) for source, kinds in by.items()}
-        for field, by in found.items()
-    }
+            found.setdefault(field_of(words[0]), {}).setdefault(name, []).append(f"{call[1]} {orders}")
+    return {field: {name: ", ".join(it) for name, it in by.items()} for field, by in found.items()}
+
+
+def plain_accesses(code):
+    """Of each field that this code reads or writes without __atomic_*: the field, and whether it is written."""
+    for it in re.finditer(r"(&|\+\+|--)?((?:\w+(?:\[[^][]*\])?(?:->|\.))+\w+)\b(?!\()", code):
+        names = [re.sub(r"\[.*", "", name) for name in re.split(r"->|\.", it[2])]
+        behind = re.match(r"(?:\[[^][]*\])?\s*(?:[-+|&^]?=(?!=)|\+\+|--)", code[it.end() :])
+        for k, (of, field) in enumerate(zip(names, names[1:])):
+            is_last = k == len(names) - 2
+            if not (is_last and it[1] == "&"):
+                yield f"{SAME.get(of, of)}->{field}", is_last and bool(behind or it[1])
+
+
+def is_under(lock, code, above):
+    taken, said = LOCKS[lock]
+    return taken in code or said in above
+
+
+def uncovered(folder):
+    """Plain accesses of what PLAIN has that it doesn't cover, what it says and isn't so, and shared fields that it lacks."""
+    seen, lacking = {}, {}
+    for name, code, above in functions_of(folder, [it for it in SOURCES if not it.startswith("ww_debug")]):
+        for field, writes in plain_accesses(code):
+            lock, _, others = PLAIN.get(field, "").partition(": ")
+            if lock in LOCKS and not is_under(lock, code, above) or lock == "by" and writes:
+                seen.setdefault(field, set()).add(name)
+            elif field in PLAIN:
+                seen.setdefault(field, set())
+            elif field.partition("->")[2] in TABLE and not {field, field.partition("->")[0]} & {*OWN}:
+                lacking.setdefault(field, set()).add(name)
+    for field, names in lacking.items():
+        yield f"{field} is reached without __atomic_* in {' '.join(sorted(names))}, and not in the table of that"
+    for field, due in PLAIN.items():
+        lock, _, others = due.partition(": ")
+        if field not in seen or seen[field] != set(others.split()):
+            what = "is written" if lock == "by" else f"is reached, and not under the lock {lock}"
+            yield f"{field} {what} in {' '.join(sorted(seen.get(field, ['nothing'])))}, and in the table: {due}"
 
 
 def differences(folder):
     found = accesses(folder)
     for field in sorted(set(found) | set(TABLE)):
-        if found.get(field) != TABLE.get(field):
-            yield f"{field}: {found.get(field)}, and in the table {TABLE.get(field)}"
+        of, due = found.get(field, {}), TABLE.get(field, {})
+        for name in sorted(set(of) | set(due)):
+            if of.get(name) != due.get(name):
+                yield f"{field}, in {name}: {of.get(name)}, and in the table {due.get(name)}"
 
 
 # ---- questions ----
@@ -540,6 +682,19 @@ def loose(push, pop):
     )
 
 
+def scan(looks):
+    """Whoever seeks a number looks at two stacks, and at the first again; meanwhile one comes to the first and goes from the
+    second. Bad: it saw none, and that nothing changed."""
+    return (
+        [
+            [X("g", "first", put(1), "sc"), X("t", "second", swap(1, 2), "sc")],
+            [R("a", "first", looks), R("b", "second", looks), R("c", "first", looks)],
+        ],
+        lambda r, f: r[1]["a"] == 0 and r[1]["b"] == 2 and r[1]["c"] == 0,
+        {"second": 1},
+    )
+
+
 def wrong():
     """What has to be found wrong: so these questions can be answered so."""
     yield "a seeker looks relaxed", seek("sc", "sc", "sc", "rlx")
@@ -548,6 +703,7 @@ def wrong():
     yield "an unlock reads the number behind the release", destroy(True, True)
     yield "the state is looked at relaxed behind a token", token("rlx")
     yield "a seat is pushed relaxed", loose("rlx", "sc")
+    yield "stacks are looked at relaxed", scan("rlx")
 
 
 def ours():
@@ -577,6 +733,11 @@ def ours():
         [R("t", "top", "rlx"), IF("t", 1, W("below2", 8, "rlx"), X("a", "top", swap(1, 2), "sc"))],
         [R("t", "top", "sc"), IF("t", 2, R("b", "below2", "rlx"), R("c", "below1", "rlx"))],
     ], lambda r, f: r[2]["t"] == 2 and (r[2]["b"] == 0 or r[2]["c"] == 0)
+    yield "no number is free, and no stack changed", *scan("sc")
+    yield "a seat of a world goes from user to user", [
+        [W("handle", 1), X("p", "taken", put(0), "rel")],
+        [X("t", "taken", put(1), "acq"), IF("t", 0, R("h", "handle"))],
+    ], lambda r, f: r[1].get("h") == 0, {"taken": 1}
     yield "a class is opened by another thread", [
         [W("id", 5), W("pool", 1, "rel")],
         [R("p", "pool", "acq"), IF("p", 1, R("i", "id"))],
@@ -628,7 +789,7 @@ def ours():
 
 def main():
     folder = sys.argv[1] if len(sys.argv) > 1 else os.path.join(os.path.dirname(os.path.abspath(__file__)), "..")
-    failed = list(differences(folder))
+    failed = [*differences(folder), *uncovered(folder)]
     failed += [f"{name}: another answer than is known" for name, due, *words in known() if asks(*words) != due]
     failed += [f"{name}: this isn't found wrong" for name, words in wrong() if asks(*words) == RIGHT]
     count = 0
@@ -639,7 +800,7 @@ def main():
                 failed.append(f"{name}: may go wrong by {model}")
     if failed:
         sys.exit("memory_order: " + "\nmemory_order: ".join(failed))
-    print(f"memory_order: {count} programs, and {len(TABLE)} fields as the table says")
+    print(f"memory_order: {count} programs, and {len(TABLE)} fields and {len(PLAIN)} plain ones as the tables say")
 
 
 if __name__ == "__main__":

@@ -1,2 +1,3 @@
+pub mod Exclusion
 mod NoEvents
 mod One

@@ -92,6 +92,13 @@ abbrev pub WordsTellOwners : Type 0
 WordsTellOwners = (key : Start) (s : St) (r : Ruled key s) (id : ℕ) (me : Sat) (n : ℕ) → Steps s id me → n < key.locks →
     IsAway me.0.part.core → IsToldBy me.0.part.core n (slice_index s.words (owner_at n))
 
+-- Mutual exclusion: at each moment a lock is owned by one seat of the table at most. Who owns it stands where any other does
+-- that owns it, and so has its number.
+abbrev pub OwnersExclude : Type 0
+OwnersExclude = (key : Start) (s : St) (r : Ruled key s) (id other : ℕ) (me it : Sat) (n : ℕ) → Steps s id me → Steps s other it →
+    owns me.0.part.core n ≡ true → owns it.0.part.core n ≡ true →
+    (id ≡ other) × (me.0.part.core.who ≡ it.0.part.core.who)
+
 -- the own sign word is found 0, and the context ends, as End
 abbrev pub EndIsEnd : Type 0
 EndIsEnd = (key : Start) (s : St) (r : Ruled key s) (id : ℕ) (me : Sat) → Steps s id me → MayEnd me.0.part.core

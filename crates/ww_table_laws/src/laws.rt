@@ -1,6 +1,6 @@
 //! Laws of the table: each function's contract is one. A step's own call cites the lemma that its law does.
 
-ghost use Rattle.ww_table_laws.specs.Laws.{DrawIsBegin, SpentIsNoEvent, FewSeatsSpendNone, FewSeatsHaveNarrowWords, TakeFreeIsFast, GiveFreeIsFastGive, TakeBareIsFast, GiveBareIsFastGive, EndIsEnd, PlaceIsCommit, RuledIsLawful, ShownIsOne, StepsExtendTheRun, NewTableShowsStart, NewSeatsCanClose, WordsTellOwners};
+ghost use Rattle.ww_table_laws.specs.Laws.{DrawIsBegin, SpentIsNoEvent, FewSeatsSpendNone, FewSeatsHaveNarrowWords, TakeFreeIsFast, GiveFreeIsFastGive, TakeBareIsFast, GiveBareIsFastGive, EndIsEnd, PlaceIsCommit, RuledIsLawful, ShownIsOne, StepsExtendTheRun, NewTableShowsStart, NewSeatsCanClose, WordsTellOwners, OwnersExclude};
 
 /// From every table that the rule allows, a draw is the event Begin on what is shown.
 pub fn draw_is_begin()
@@ -45,6 +45,11 @@ pub fn give_bare_is_fast_give()
 /// The word of a lock tells a seat that is away whether it owns the lock.
 pub fn words_tell_owners()
     ensures { WordsTellOwners }
+{}
+
+/// At each moment one seat at most owns a lock, whether that guards a node or not.
+pub fn owners_exclude()
+    ensures { OwnersExclude }
 {}
 
 /// Finding the own sign 0 is the event End.

@@ -1,39 +1,46 @@
-# How the library for C is proved and made over the libraries of the crates below it, which stand in crates/NAME/out/rlib.
-# To be sourced at the top of the repository, behind tools/crates.bash.
+# How the library for C and the program are proved and made over the libraries of the crates below them, which stand in
+# crates/NAME/out/rlib, and how their assembly is kept, of which anybody makes them with a C compiler alone. To be sourced
+# at the top of the repository, behind tools/crates.bash.
 # shellcheck shell=bash disable=SC2034
 
-# The processors for which its assembly is in c/generated.
-c_processors=(x86_64 aarch64)
+# The processors for which assembly is kept, and the crates of which it is.
+processors=(x86_64 aarch64)
+assembled=(ww_c ww_run)
 
-# make_c_library PROCESSOR ARCHIVE TEXT [WORD..]: proves ww_c, and writes the archive and its assembly. The words are for
-# rattle besides; what it says is printed.
-make_c_library() {
-    local processor=$1 archive=$2 text=$3 top=$PWD status=0 kit made crate library words used below
-    shift 3
+# Where the assembly of such a crate is kept, and the command that writes it.
+kept_in() { [ "$1" = ww_c ] && echo c/generated || echo generated; }
+written_by() { [ "$1" = ww_c ] && echo './build c --assembly' || echo './build --assembly'; }
+
+# make_assembly CRATE PROCESSOR MADE TEXT [WORD..]: proves the crate, and writes what the compiler makes of it, which is an
+# archive of ww_c and an object of ww_run, and its assembly. The words are for rattle besides; what it says is printed.
+make_assembly() {
+    local it=$1 processor=$2 result=$3 text=$4 top=$PWD status=0 kit made crate library words used below
+    shift 4
     kit=$(dirname "$(rt doc)")
     made=$(mktemp -d)
     make_toolchain "$kit/toolchain" "$made/toolchain" "$made/text"
     words=(--extern "std=$kit/rlibs/std.rlib" -L "dependency=$kit/rlibs")
-    read -ra used <<<"$(sed -n 's/#.*//; s/^ww_c[^:]*://p' crates.txt)"
+    read -ra used <<<"$(sed -nE "s/#.*//; s/^$it( [^:]*)?://p" crates.txt)"
     for crate in "${used[@]}"; do
         library=$kit/rlibs/$crate.rlib
         [ ! -d "crates/$crate" ] || library=$top/crates/$crate/out/rlib/$crate.rlib
         words+=(--extern "$crate=$library")
     done
-    mapfile -t below < <(crates_of ww_c crates.txt | grep -vx ww_c)
+    mapfile -t below < <(crates_of "$it" crates.txt | grep -vx "$it")
     for crate in "${below[@]}"; do
         words+=(-L "dependency=$top/crates/$crate/out/rlib")
     done
-    # As `rt lib` says it, but for all processors of the kind.
-    words+=(--antt-project "$kit/rattle/logic/antt-project.json" --logic-built "$kit/logic_built" --links ww_c=)
-    words+=(--jobs 2 --crate-type staticlib --toolchain "$made/toolchain" --backend llvm --target "$processor-unknown-linux-gnu")
+    # As `rt lib` and `rt run` say it, but for all processors of the kind.
+    words+=(--antt-project "$kit/rattle/logic/antt-project.json" --logic-built "$kit/logic_built" --links "$it=")
+    words+=(--jobs 2 --toolchain "$made/toolchain" --backend llvm --target "$processor-unknown-linux-gnu")
     [ "$processor" != x86_64 ] || words+=(--cpu x86-64)
-    mkdir -p "$(dirname "$archive")" "$(dirname "$text")"
-    rm -f "$archive" "$text"
-    (cd crates/ww_c && "$kit/bin/rattle" build --crate-name ww_c src/lib.rt "${words[@]}" "$@" -o "$made/archive") 2>&1 |
+    if [ "$it" = ww_c ]; then words+=(--crate-type staticlib src/lib.rt); else words+=(src/main.rt); fi
+    mkdir -p "$(dirname "$result")" "$(dirname "$text")"
+    rm -f "$result" "$text"
+    (cd "crates/$it" && "$kit/bin/rattle" build --crate-name "$it" "${words[@]}" "$@" -o "$made/result") 2>&1 |
         tee "$made/log" || status=$?
     if [ "$status" = 0 ]; then
-        assembly_of "$processor" "$made/log" <"$made/text" >"$text" && mv "$made/archive" "$archive" || status=$?
+        assembly_of "$it" "$processor" "$made/log" <"$made/text" >"$text" && mv "$made/result" "$result" || status=$?
     fi
     rm -rf "$made"
     return "$status"
@@ -65,14 +72,15 @@ CLANG
 # The assembly as it is kept, with a head that says of which sources it is, and by which proof. Of rattle's words on what
 # it took from earlier runs there is none in it, since these depend on the machine: the gate proves all from nothing.
 assembly_of() {
-    local processor=$1 log=$2 proof
+    local it=$1 processor=$2 log=$3 what='library for C' proof
+    [ "$it" = ww_c ] || what=program
     proof=$(sed -n 's/^\(logic=proved .* sum=[0-9a-f]*\) .*/\1/p' "$log" | tail -n 1)
     [ -n "$proof" ] || return 1
     cat <<HEAD
 /*
- * The proved library for C on $processor, as the kit's compiler (LLVM) makes it.  Written by ./build c --assembly.
+ * The proved $what on $processor, as the kit's compiler (LLVM) makes it.  Written by $(written_by "$it").
  *
- * sources: $(sum_of_c_sources)
+ * sources: $(sum_of_sources "$it")
  * kit:     $(rt version)
  * proof:   $proof
  */
@@ -86,13 +94,16 @@ plain_names() {
     LC_ALL=C sed -E 's/"([^"]*::[^"]*)"/\x01\1\x02/g; :next; s/\x01([A-Za-z0-9_.]*)[^A-Za-z0-9_.\x02]/\x01\1_/; t next; s/[\x01\x02]//g'
 }
 
-# A checksum of all that is proved for the library: the sources of its crates, with their specs and proofs.
-sum_of_c_sources() {
+# A checksum of all that is proved for the crate: the sources of it and of those below it, with their specs and proofs.
+sum_of_sources() {
     local crate folder folders=()
-    for crate in $(crates_of ww_c crates.txt); do
+    for crate in $(crates_of "$1" crates.txt); do
         for folder in "crates/$crate"/{src,specs,proofs}; do
             [ ! -d "$folder" ] || folders+=("$folder")
         done
     done
     find "${folders[@]}" -type f | LC_ALL=C sort | xargs sha256sum | sha256sum | cut -d' ' -f1
 }
+
+# The checksum in the head of this assembly.
+sources_of() { sed -n '1,/\*\//s/^ \* sources: //p' "$1"; }

@@ -1,0 +1,68 @@
+# make: the program ww_run and the library for C, of the proved assembly in generated/ and c/generated, in seconds, with a
+# C compiler alone (gcc or clang). The program stands at out/ww_run, where ./run finds it, and the library in c/out.
+#
+# make check: what was made gives what is stored for each input of cases/ and examples/, with its exit status, and passes
+# each test and example in C and C++ that needs no sanitizer.  make install: the program, the library, the pages, below
+# PREFIX (and DESTDIR).  make clean: what was made goes.
+#
+# ./build proves these again, and writes the assembly anew; it needs the Rattle kit. CC, CXX, CPPFLAGS, CFLAGS, CXXFLAGS and
+# LDFLAGS are those of whoever builds. For another processor than this one: CROSS=aarch64-linux-gnu-, and what runs its
+# programs here, RUN='qemu-aarch64 -L /usr/aarch64-linux-gnu'.
+CFLAGS ?= -O2
+CROSS =
+RUN =
+ifneq ($(CROSS),)
+CC := $(CROSS)gcc
+endif
+PROCESSOR := $(firstword $(subst -, ,$(shell $(CC) -dumpmachine)))
+OUT = out$(if $(CROSS),/$(PROCESSOR))
+PROGRAM = $(OUT)/ww_run
+ASSEMBLY = generated/$(PROCESSOR).s
+AS_C = -std=c11 -Wall -Wextra -Wpedantic $(CPPFLAGS) $(CFLAGS)
+PREFIX = /usr/local
+MANDIR = $(PREFIX)/share/man
+DOCDIR = $(PREFIX)/share/doc/ww
+PAGES = README.md docs/FORMATS.md docs/RULES.md docs/GLOSSARY.md
+MAKES_C = $(MAKE) --no-print-directory -C c CROSS='$(CROSS)' RUN='$(RUN)' PREFIX='$(abspath $(PREFIX))'
+
+all: $(PROGRAM) library
+
+library:
+	@$(MAKES_C) all
+
+generated/%.s:
+	@echo 'there is no $@: the proved program is there for x86_64 and aarch64 alone' >&2 && false
+
+# The checksum of the sources of which this program is stands beside it, for ./run and ./test.
+$(PROGRAM): $(ASSEMBLY) c/heap.c c/program.c
+	@mkdir -p $(OUT)
+	@rm -f $@ $@.sources
+	$(CC) $(AS_C) $(ASSEMBLY) c/heap.c c/program.c $(LDFLAGS) -pthread -o $@
+	@sed -n 's/^ \* sources: //p' $(ASSEMBLY) >$@.sources
+	@tools/is_of_sources $@ || true
+
+check: all
+	@bench/check_made $(PROGRAM) '$(CROSS)' $(RUN)
+
+# As programs of another processor are run.
+check-program: $(PROGRAM)
+	@bench/check_made --program $(PROGRAM) '$(CROSS)' $(RUN)
+
+install: all
+	install -d $(DESTDIR)$(PREFIX)/bin $(DESTDIR)$(MANDIR)/man1 $(DESTDIR)$(DOCDIR)
+	install -m 755 $(PROGRAM) $(DESTDIR)$(PREFIX)/bin
+	install -m 644 docs/ww_run.1 $(DESTDIR)$(MANDIR)/man1
+	install -m 644 $(PAGES) $(DESTDIR)$(DOCDIR)
+	$(MAKES_C) install
+
+uninstall:
+	rm -f $(DESTDIR)$(PREFIX)/bin/ww_run $(DESTDIR)$(MANDIR)/man1/ww_run.1
+	cd $(DESTDIR)$(DOCDIR) && rm -f $(notdir $(PAGES))
+	rmdir $(DESTDIR)$(DOCDIR)
+	$(MAKES_C) uninstall
+
+clean:
+	rm -rf $(PROGRAM) $(PROGRAM).sources
+	$(MAKES_C) clean
+
+.PHONY: all library check check-program install uninstall clean

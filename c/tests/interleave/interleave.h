@@ -1,0 +1,56 @@
+/* interleave.h - what a program gives to be run by every schedule, and what it may ask. */
+#ifndef INTERLEAVE_H
+#define INTERLEAVE_H
+#include <stdbool.h>
+#include <stddef.h>
+#include <stdint.h>
+#include <time.h>
+
+enum { IL_THREADS = 4 };
+
+/* What schedules may do besides switching threads, each for one of the bound. */
+enum {
+	IL_SPURIOUS = 1,	/* a futex wakes its thread though nobody asked */
+	IL_DELAYS = 2,		/* a store that isn't sequentially consistent comes later than what its thread does next */
+	IL_NO_FENCES = 4,	/* membarrier(2) isn't there */
+	IL_INSIDE = 8,		/* threads are switched inside steps of the proved library, too (x86_64) */
+};
+
+/* A text for each thread, in the words of programs.c. */
+struct il_program {
+	const char *name, *threads[IL_THREADS];
+	unsigned flags, most;	/* of the above and of programs.c; the bound, where no other is asked for */
+};
+extern const struct il_program il_programs[];
+/* Those that fail because of what is known to be wrong; one of these that doesn't fail is told too. */
+extern const char *const il_fail_yet[];
+void il_setup(const struct il_program *p);
+void il_thread(const char *text);
+/* Once all threads have ended. */
+void il_check(const struct il_program *p);
+/* The programs' part in worlds.c. */
+void il_open_world(void);
+void il_world(char what);
+void il_close_world(void);
+
+/* Memory that each run finds as zeros, and at the same address. */
+void *il_new(size_t size);
+/* Whoever touches this later fails, and whoever did so before without being ordered before this. */
+void il_gone(void *at, size_t size);
+/* So many nanoseconds from now: schedules may let this time come at each look at the clock. */
+struct timespec il_in(long nanoseconds);
+/* Another thread has to do something before this one can go on. */
+void il_yield(void);
+/* Sleeps until the word isn't 0, and sets it, which orders what came before. */
+void il_await(uint32_t *word);
+void il_set(uint32_t *word);
+/* Which thread this is, from 1; 0 sets up and checks. */
+unsigned il_me(void);
+__attribute__((noreturn, format(printf, 1, 2))) void il_fail(const char *format, ...);
+
+#define MUST(fact)                                                                                     \
+	do {                                                                                           \
+		if (!(fact))                                                                           \
+			il_fail("%s:%d: not so: %s", __FILE__, __LINE__, #fact);                       \
+	} while (0)
+#endif
