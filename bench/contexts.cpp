@@ -213,32 +213,31 @@ void numbered(unsigned k, unsigned times)
 		});
 }
 
-// A function that takes the address of a label isn't compiled into another, so the whole context is here.
-void by_loop(unsigned k, unsigned times, bool at_once)
+auto looping(unsigned k)
 {
-	open_class();
-	while (times--) {
-		ww_acquire_ctx x;
-
-		ww_acquire_init(&x, &objects);
-		ww_until_all_locked(&x) {
+	return [k](ww_acquire_ctx *x) {
+		ww_until_all_locked(x) {
 			for (unsigned n = 0; n < k; n++) {
-				const int answer = ww_mutex_lock(&mutexes[n], &x);
+				const int answer = ww_mutex_lock(&mutexes[n], x);
 
-				ww_retry_on_contention(&x);
+				ww_retry_on_contention(x);
 				must(!answer);
 			}
 		}
-		if (at_once)
-			ww_acquire_unlock_all(&x);
-		else
-			unlock_newest_first(k);
-		ww_acquire_fini(&x);
-	}
+	};
 }
 
-void loop(unsigned k, unsigned times) { by_loop(k, times, true); }
-void loop_one_by_one(unsigned k, unsigned times) { by_loop(k, times, false); }
+void loop(unsigned k, unsigned times)
+{
+	open_class();
+	by_mutex(times, looping(k), [](ww_acquire_ctx *x) { ww_acquire_unlock_all(x); });
+}
+
+void loop_one_by_one(unsigned k, unsigned times)
+{
+	open_class();
+	by_mutex(times, looping(k), [k](ww_acquire_ctx *) { unlock_newest_first(k); });
+}
 
 void lock_all(unsigned k, unsigned times)
 {

@@ -39,6 +39,7 @@
 #include <vector>
 #include <ww.h>
 #include <ww_mutex.h>
+#include <ww_number.h>
 #if __has_include(<peer.h>)
 #include <peer.h>
 #define HAS_PEER
@@ -196,6 +197,66 @@ public:
 		fn();
 		ww_unlock_all(seat);
 		ww_end(seat);
+	}
+};
+
+// ww_number.h
+template <ww_kind kind> class numbered {
+	ww_class its;
+	std::vector<std::uint32_t> numbers;
+
+public:
+	using lock = no_lock;
+	explicit numbered(nodes<lock> &) : numbers(all_locks())
+	{
+		ww_class_init(&its, kind, "bench");
+		if (ww_class_limit(&its, all_locks(), now.threads) || ww_class_open(&its))
+			std::exit(cant_open);
+		for (auto &it : numbers)
+			must(ww_number_take(&it, &its));
+	}
+	numbered(const numbered &) = delete;
+	~numbered()
+	{
+		for (auto it : numbers)
+			must(ww_number_put(it, &its));
+		must(ww_class_free(&its));
+	}
+
+	struct thread {
+		thread(numbered &, unsigned) {}
+	};
+
+	template <class Fn> void transact(thread &, nodes<lock> &, list &it, Fn &&fn)
+	{
+		ww_acquire_ctx x;
+		unsigned slow = none;
+
+		ww_acquire_init(&x, &its);
+		for (;;) {
+			int answer = slow == none ? 0 : ww_number_lock(numbers[slow], &x);
+			unsigned k = 0;
+
+			for (; k < now.takes && !answer; k++)
+				if (it[k] != slow)
+					answer = ww_number_lock(numbers[it[k]], &x);
+			if (!answer)
+				break;
+			if (answer != -EDEADLK)
+				std::exit(wrong_answer);
+			const unsigned contended = it[--k];
+
+			while (k-- > 0)
+				if (it[k] != slow)
+					ww_number_unlock(numbers[it[k]], &x);
+			if (slow != none)
+				ww_number_unlock(numbers[slow], &x);
+			slow = contended;
+		}
+		fn();
+		for (unsigned k = now.takes; k-- > 0;)
+			ww_number_unlock(numbers[it[k]], &x);
+		ww_acquire_fini(&x);
 	}
 };
 
@@ -491,6 +552,8 @@ constexpr named engines[]{
 	as<scoped_lock>("scoped_lock"),
 	as<numbers<wound_wait>>("ww.h wound-wait"),
 	as<numbers<wait_die>>("ww.h wait-die"),
+	as<numbered<wound_wait>>("numbered wound-wait"),
+	as<numbered<wait_die>>("numbered wait-die"),
 	as<mutexes<wound_wait, plainly>>("plain wound-wait"),
 	as<mutexes<wait_die, plainly>>("plain wait-die"),
 	as<mutexes<wound_wait, by_loop>>("loop wound-wait"),

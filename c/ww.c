@@ -171,28 +171,40 @@ static void rest(struct stay *stay, uint32_t pauses, bool yields)
 	}
 }
 
+/* Asks for the end of the wait, once, where that is due. */
+static void stop_if_due(ww_seat *s, struct ww_stop *stop)
+{
+	if (!stop || stop->sent || !is_due(stop))
+		return;
+	ww_call_off(s);
+	stop->sent = true;
+}
+
+/*
+ * Behind WW_AGAIN the next step comes at once and nothing else, since the seat may be inside a guard, where it holds up
+ * everybody else: to call its wait off, too, takes a lock for which it might have to wait.  What asks for that meanwhile
+ * ends the sleep to which these steps lead.
+ *
+ * Whom to wake is asked where somebody can be due: a call stays away from its lock before it goes inside a guard for the
+ * first time, and who is shut out of one has learned nothing.
+ */
 __attribute__((noinline, cold)) int ww_go_on(ww_seat *s, struct ww_stop *stop)
 {
 	struct stay stay = { 0 };
 	unsigned step = 0;
 
+	stop_if_due(s, stop);
 	for (;;) {
 		uint32_t pauses;
-		int r;
+		int r = ww_go_on_(&s->handle, &pauses);
 
-		if (stop && !stop->sent && is_due(stop)) {
-			stop->call_off(stop->pool, s);
-			stop->sent = true;
-		}
-		r = ww_go_on_(&s->handle, &pauses);
-		if (r != WW_AWAITS && r != WW_AGAIN)
+		if (r <= 0 || r == WW_SLEEPS)
 			wake(s);
 		switch (r) {
+		case WW_AGAIN:
+			continue;
 		case WW_AWAITS:
 			await_guard(&stay, &step);
-			continue;
-		case WW_AGAIN:
-			/* It may be inside a guard, where it holds up everybody else. */
 			break;
 		case WW_STAYS:
 		case WW_YIELDS:
@@ -200,11 +212,12 @@ __attribute__((noinline, cold)) int ww_go_on(ww_seat *s, struct ww_stop *stop)
 			break;
 		case WW_SLEEPS:
 			park(s, stop);
+			step = 0;
 			break;
 		default:
 			return r;
 		}
-		step = 0;
+		stop_if_due(s, stop);
 	}
 }
 

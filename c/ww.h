@@ -133,10 +133,9 @@ typedef struct {
  * after a pause, and after a short sleep if that lasts (WW_AWAITS); after as many
  * pauses of the processor as stand in rest (WW_STAYS), amid which other threads are
  * best let run (WW_YIELDS), or once somebody has woken the seat (WW_SLEEPS).
- * After each answer but WW_AGAIN and WW_AWAITS, and after ww_cancel_, whoever
- * ww_next_wake_ names, each once, has to be woken, and nobody else; -EINVAL: nobody
- * more.  Until a call has come to its end any other is told -EBUSY, and ww_go_on_
- * without one -EINVAL.
+ * After WW_SLEEPS, 0 and an error, and after ww_cancel_, whoever ww_next_wake_ names,
+ * each once, has to be woken, and nobody else; -EINVAL: nobody more.  Until a call has
+ * come to its end any other is told -EBUSY, and ww_go_on_ without one -EINVAL.
  * ww_has_ answers 0 where the seat holds the lock, and else -EINVAL.  ww_unlock_each_
  * releases the first `count` locks of an array, the last one first, each by the first step
  * of ww_unlock_, up to one for which that isn't enough, or that isn't held, and answers

@@ -25,11 +25,16 @@ unsigned long ww_debug_faults(void) { return __atomic_load_n(&faults, __ATOMIC_R
 
 unsigned long ww_debug_dangers(void) { return __atomic_load_n(&dangers, __ATOMIC_RELAXED); }
 
-/* Of a class, if that isn't NULL. Nothing is locked then but standard error. */
+/*
+ * Of a class, if that isn't NULL.  Nothing is locked then but standard error.  A thread that pthread_cancel told to end
+ * doesn't amid the message: it would keep that locked, and whatever its call had acquired.
+ */
 __attribute__((format(printf, 3, 4))) static void tell(const struct ww_pool *p, const char *call, const char *format, ...)
 {
 	va_list words;
+	int may_end;
 
+	pthread_setcancelstate(PTHREAD_CANCEL_DISABLE, &may_end);
 	flockfile(stderr);
 	if (ww_here.file)
 		fprintf(stderr, "%s:%d: ", ww_here.file, ww_here.line);
@@ -47,6 +52,7 @@ __attribute__((format(printf, 3, 4))) static void tell(const struct ww_pool *p, 
 	backtrace_symbols_fd(calls, backtrace(calls, DEPTH), STDERR_FILENO);
 #endif
 	funlockfile(stderr);
+	pthread_setcancelstate(may_end, NULL);
 }
 
 static void fault_in(const struct ww_pool *p, const char *call, const char *why)

@@ -62,18 +62,18 @@ struct ww_world {
 	ww_seat seats[];
 };
 
-/* Why a wait may end before its time: then another seat cancels it, which call_off does. */
+/* Why a wait may end before its time: then another seat cancels it, which ww_call_off does. */
 struct ww_stop {
 	const uint32_t *asked;		/* not 0: somebody asks for it; or NULL */
 	const struct timespec *until;	/* on the monotonic clock; or NULL */
-	struct ww_pool *pool;
-	void (*call_off)(struct ww_pool *, ww_seat *);
 	bool sent;
 };
 
 #define WW_HIDDEN __attribute__((visibility("hidden")))
 /* All steps of a call but the first. */
 WW_HIDDEN int ww_go_on(ww_seat *s, struct ww_stop *stop);
+/* Cancels the wait of this seat, by one that no context has. */
+WW_HIDDEN void ww_call_off(ww_seat *victim);
 /* Wakes its thread, or leaves it a token. */
 WW_HIDDEN void ww_unpark(ww_seat *s);
 /* Sleeps as long as the word is this, until a time of the monotonic clock at the longest, if that isn't NULL. */

@@ -28,8 +28,9 @@
  *			a slow lock of another		-EINVAL			FIRST
  *			a trylock			1			EASE
  *							0			FIRST
- *			ww_acquire_unlock_all					EASE
+ *			ww_acquire_unlock_all					EASE, holding nothing
  *			any of these			-EINTR, -ETIMEDOUT	FIRST, or OWES if that came at the other one
+ *	EASE, holding nothing: behind FIRST a slow lock of it is 0, having waited for it
  *	any		ww_mutex_lock_all		as its locks one by one, and it backs off by itself if nothing was held
  *
  * tests/mutex_loop.c walks through all of it.
@@ -69,9 +70,11 @@ int ww_mutex_init_checked(struct ww_mutex *m, struct ww_class *c)
 /* The class of a mutex, if that is initialized. */
 static struct ww_class *class_of(const struct ww_mutex *m)
 {
+	/* First: once it has a pool, its holder may write another thing there. */
+	struct ww_class *c = __atomic_load_n(&m->class_, __ATOMIC_ACQUIRE);
 	struct ww_pool *p = pool_at(m);
 
-	return p ? p->class_ : m->class_;
+	return p ? p->class_ : c;
 }
 
 /* Why the first lock of a mutex gave it no number, or its class gave no seat. */
@@ -213,8 +216,9 @@ void ww_acquire_flags(struct ww_acquire_ctx *x, unsigned int flags)
 /* ---- waiting ---- */
 
 /* A call by the spare seat cancels the wait of this one. */
-static void call_off(struct ww_pool *p, ww_seat *victim)
+void ww_call_off(ww_seat *victim)
 {
+	struct ww_pool *p = victim->pool;
 	ww_seat *s = borrow_spare(p);
 
 	/* One that is pending does as well. It wakes nobody but this thread, which is awake. */
@@ -249,7 +253,7 @@ static inline void own(struct ww_mutex *m, struct ww_acquire_ctx *x, ww_seat *s)
 /* From the second step of a lock call to its end; r is what the first one answered. */
 COLD static int lock_on(struct ww_mutex *m, struct ww_acquire_ctx *x, ww_seat *s, int r, enum way way, const struct timespec *until)
 {
-	struct ww_stop stop = { .asked = x ? &x->cancelled : NULL, .until = until, .pool = m->pool, .call_off = call_off };
+	struct ww_stop stop = { .asked = x ? &x->cancelled : NULL, .until = until };
 	bool heeds = way == HEEDS || way == SLOWLY_HEEDS, waits = r > 0;
 
 	if (waits) {
@@ -384,12 +388,13 @@ static void begin_loop(struct ww_acquire_ctx *x)
 	}
 }
 
-void ww_tries_begin_(struct ww_acquire_ctx *x)
+struct ww_acquire_ctx *ww_tries_begin_(struct ww_acquire_ctx *x)
 {
 	if (!x->own || x->acquired)
 		end("ww_until_all_locked", "the context holds a mutex, or has ended");
 	x->newest = NULL;
 	begin_loop(x);
+	return x;
 }
 
 COLD static void give_on(ww_seat *s, int r)

@@ -279,15 +279,6 @@ WW_MUST_CHECK int ww_mutex_lock_all(struct ww_acquire_ctx *ctx, struct ww_mutex 
  * ww_mutex_lock_all: for it this call releases nothing, and the debug library tells.
  */
 void ww_acquire_unlock_all(struct ww_acquire_ctx *ctx);
-/* g++ forgets in a template that a label's address is an __extension__. */
-#if defined(__cplusplus) && defined(__GNUC__) && !defined(__clang__)
-#define WW_EXTENDS_ _Pragma("GCC diagnostic push") _Pragma("GCC diagnostic ignored \"-Wpedantic\"")
-#define WW_EXTENDED_ _Pragma("GCC diagnostic pop")
-#else
-#define WW_EXTENDS_
-#define WW_EXTENDED_
-#endif
-
 /*
  * The same for mutexes that are found on the way, as drm_exec has it:
  *
@@ -318,24 +309,27 @@ void ww_acquire_unlock_all(struct ww_acquire_ctx *ctx);
  *		}
  *		ww_retry_on_contention(&ctx);
  *
- * The jump runs no destructor of C++ and no __attribute__((cleanup)) of what was made in the
- * body.  In the body's own block, not in a loop of its own, this does the same and runs them:
- *	if (ww_is_contended(&ctx))
- *		continue;
- * clang compiles one ww_retry_on_contention loop in a function of C++, and no second.
+ * ww_retry_on_contention is a goto to the loop's label, which leaves blocks as any other.  A function has one such label:
+ * where it has more loops, one in another or one after another, all but one name their label, which is any word:
+ *	ww_until_all_locked(&ctx, second) {
+ *		err = ww_mutex_lock(&object->lock, &ctx);
+ *		ww_retry_on_contention(&ctx, second);
+ *	}
  */
-#define WW_PASTE__(a, b) a##b
-#define WW_PASTE_(a, b) WW_PASTE__(a, b)
-#define ww_until_all_locked(ctx)                                                                       \
-	for (struct ww_acquire_ctx *ww_of_ = (ctx); ww_of_; ww_of_ = NULL)                             \
-	WW_EXTENDS_                                                                                    \
-	for (void *ww_again_ = (ww_tries_begin_(ww_of_), __extension__ && WW_PASTE_(ww_again_at_, __LINE__)); \
-	     ww_again_; ww_again_ = NULL)                                                              \
-	WW_EXTENDED_ WW_PASTE_(ww_again_at_, __LINE__) : while (ww_tries_more_(ww_of_))
-#define ww_retry_on_contention(ctx)                                                                    \
+#define ww_until_all_locked(...) WW_UNTIL_ALL_LOCKED_(__VA_ARGS__, ww_again_, )
+#define ww_retry_on_contention(...) WW_RETRY_ON_CONTENTION_(__VA_ARGS__, ww_again_, )
+/* What is named stands before what is meant otherwise.  The goto that is never made is for a body that makes none. */
+#define WW_UNTIL_ALL_LOCKED_(ctx, again, ...)                                                          \
+	for (struct ww_acquire_ctx *again##_of_ = ww_tries_begin_(ctx); again##_of_; again##_of_ = NULL) \
+	again:                                                                                         \
+		while (ww_tries_more_(again##_of_))                                                    \
+			if (0)                                                                         \
+				goto again;                                                            \
+			else
+#define WW_RETRY_ON_CONTENTION_(ctx, again, ...)                                                       \
 	do {                                                                                           \
 		if (ww_is_contended(ctx))                                                              \
-			__extension__({ goto *ww_again_; });                                           \
+			goto again;                                                                    \
 	} while (0)
 /* Whether the last lock call of the context answered -EDEADLK, and it hasn't backed off since. */
 bool ww_is_contended(const struct ww_acquire_ctx *ctx);
@@ -348,7 +342,7 @@ bool ww_is_contended(const struct ww_acquire_ctx *ctx);
  */
 WW_MUST_CHECK size_t ww_acquire_mark(const struct ww_acquire_ctx *ctx);
 void ww_acquire_unlock_to(struct ww_acquire_ctx *ctx, size_t mark);
-void ww_tries_begin_(struct ww_acquire_ctx *ctx);
+struct ww_acquire_ctx *ww_tries_begin_(struct ww_acquire_ctx *ctx) __attribute__((__returns_nonnull__));
 bool ww_tries_more_(struct ww_acquire_ctx *ctx);
 /* Of C++: as ww_mutex_destroy, but behind it the mutex is as WW_MUTEX_INIT makes one of its class. */
 int ww_mutex_end_(struct ww_mutex *lock);

@@ -1,176 +1,187 @@
 /*
- * ww_number.c - mutexes by their numbers: each call but the quickest is one of ww_mutex.h, of a mutex that is there only
- * as long as the call.  Outside loops a context knows the mutexes that it holds by their numbers alone.
+ * ww_number.c - mutexes by their numbers.  The library has a struct ww_mutex for each number that was ever taken, and a
+ * call that isn't quick is one of ww_mutex.h, of that mutex: so it waits, backs off and is listed as any other.  A quick
+ * call knows the number alone.  Outside loops that mutex doesn't say who holds it, therefore: its lock does.
  */
 #define _GNU_SOURCE
 #define WW_NO_INLINE /* Here are the functions that may be called in place of those that ww_number.h compiles into its callers. */
 #include "ww_pool.h" /* before the next one: here no call tells its line */
 #include "ww_number.h"
 
-static inline struct ww_mutex of_number(uint32_t number, struct ww_pool *p)
-{
-	return (struct ww_mutex){ .pool = p, .number = number };
-}
-
-/* The thread sanitizer knows a number by an address of its own. */
-static inline char *order_of(uint32_t number, const struct ww_pool *p) { return &p->world->orders[number]; }
-
-static const char no_such[] = "the class hasn't so many mutexes";
+static const char no_such[] = "the class has no mutex of this number";
 
 /* ---- numbers ---- */
 
-int ww_number_take(uint32_t *number, struct ww_class *c)
+/* The mutexes of a class, or NULL: memory is taken for them as the first number is. */
+static struct ww_mutex *mutexes_of(struct ww_pool *p)
 {
-	struct ww_mutex m;
-	int r = ww_mutex_init_checked(&m, c);
+	struct ww_mutex *all = __atomic_load_n(&p->numbered, __ATOMIC_ACQUIRE), *made;
 
-	if (!r)
-		*number = m.number;
-	return r;
+	if (LIKELY(all))
+		return all;
+	made = calloc(p->mutexes, sizeof *made);
+	/* Released, and acquired here and in mutex_at: whoever has the address sees that the memory is empty. */
+	if (made && __atomic_compare_exchange_n(&p->numbered, &all, made, false, __ATOMIC_ACQ_REL, __ATOMIC_ACQUIRE))
+		return made;
+	free(made);
+	return all;
 }
 
-/* In a forked child nobody uses it any more, and it isn't given. */
+/* That of a number, which stays what it is once the number is put back; NULL where it was never taken. */
+static struct ww_mutex *mutex_at(const struct ww_pool *p, uint32_t number)
+{
+	struct ww_mutex *all = number < p->world->locks ? __atomic_load_n(&p->numbered, __ATOMIC_ACQUIRE) : NULL;
+
+	return all && pool_at(&all[number]) ? &all[number] : NULL;
+}
+
+/* Of its `waiters`, beside their number. */
+#define IS_TAKEN ((uint32_t)1 << 31)
+
+/* A thread that was told of the number before may wait for it still.  Relaxed: nobody puts it back before it was taken. */
+int ww_number_take(uint32_t *number, struct ww_class *c)
+{
+	struct ww_mutex *all = NULL;
+	struct ww_pool *p;
+	int r = pool_of(c, &p);
+
+	if (!r && !p->gone && !(all = mutexes_of(p)))
+		r = -ENOMEM;
+	if (!r)
+		r = number_of_pool(p, number);
+	if (r)
+		return r;
+	if (!pool_at(&all[*number])) {
+		all[*number].number = *number;
+		__atomic_store_n(&all[*number].pool, p, __ATOMIC_RELEASE);
+	}
+	__atomic_fetch_add(&all[*number].waiters, IS_TAKEN, __ATOMIC_RELAXED);
+	return 0;
+}
+
+/*
+ * Who waits for it says so first, and that it holds it before it says that it waits no more.  Of several threads that put
+ * it back one does.  In a forked child nobody uses it any more, and it isn't given.
+ */
 int ww_number_put(uint32_t number, struct ww_class *c)
 {
+	struct ww_mutex *m;
 	struct ww_pool *p;
+	uint32_t taken;
 	int r = pool_of(c, &p);
 
 	if (r || p->gone)
 		return r;
-	if (number >= p->world->locks) {
-		ww_debug_fault("ww_number_put", no_such);
-		return -EINVAL;
+	m = mutex_at(p, number);
+	taken = m ? __atomic_load_n(&m->waiters, __ATOMIC_SEQ_CST) : 0;
+	if (taken == IS_TAKEN) {
+		if (!ww_is_released(p, m))
+			return -EBUSY;
+		if (__atomic_compare_exchange_n(&m->waiters, &taken, 0, false, __ATOMIC_SEQ_CST, __ATOMIC_SEQ_CST)) {
+			ww_give_number(&p->numbers, number);
+			return 0;
+		}
 	}
-	struct ww_mutex m = of_number(number, p);
-
-	if (!ww_is_released(p, &m))
+	if (taken & IS_TAKEN)
 		return -EBUSY;
-	__tsan_acquire(order_of(number, p));
-	ww_give_number(&p->numbers, number);
-	return 0;
+	ww_debug_fault("ww_number_put", "nobody has taken the number, or it was put back before");
+	return -EINVAL;
 }
 
 bool ww_number_is_locked(uint32_t number, struct ww_class *c)
 {
 	struct ww_pool *p;
+	struct ww_mutex *m = pool_of(c, &p) || p->gone ? NULL : mutex_at(p, number);
 
-	if (pool_of(c, &p) || p->gone || number >= p->world->locks)
-		return false;
-	struct ww_mutex m = of_number(number, p);
-
-	return !ww_is_released(p, &m);
+	return m && !ww_is_released(p, m);
 }
 
 /* ---- by a context ---- */
 
-/* Whether this context may ask for this number. */
-static bool fits(const char *call, uint32_t number, const struct ww_acquire_ctx *x)
-{
-	const char *fault = !x->own			    ? "the context has ended" :
-			    x->gives != x->own		    ? "ww_until_all_locked knows no numbers" :
-			    number >= x->own->world->locks ? no_such :
-							      NULL;
+static bool is_loop(const struct ww_acquire_ctx *x) { return x->gives != x->own; }
 
-	if (fault)
-		ww_debug_fault(call, fault);
-	return !fault;
+/* That of a context's class.  A first step that wasn't enough can't be left as it is, so the program ends with it. */
+static struct ww_mutex *asked(const char *call, uint32_t number, const struct ww_acquire_ctx *x, int r)
+{
+	struct ww_mutex *m = x->own ? mutex_at(x->own->pool, number) : NULL;
+
+	if (!m && r > 0)
+		end(call, no_such);
+	if (!m)
+		ww_debug_fault(call, x->own ? no_such : "the context has ended");
+	return m;
 }
 
-/* Stands for the address of the mutex at which -EDEADLK came: the debug library compares it with that of a later call. */
-static struct ww_mutex *mark_of(uint32_t number) { return (struct ww_mutex *)(2 * (uintptr_t)number + 1); }
-
-static void stand_in(struct ww_mutex *m, uint32_t number, struct ww_acquire_ctx *x)
+/* What a lock call answered; only in a loop the mutex says on who holds it. */
+static int answer(struct ww_mutex *m, const struct ww_acquire_ctx *x, int r)
 {
-	*m = of_number(number, x->own->pool);
-	if (x->state & WAS_TOLD && x->contending_lock == mark_of(number))
-		x->contending_lock = m;
-}
-
-/* What a lock call answered goes to its caller. */
-static int answer(const struct ww_mutex *m, struct ww_acquire_ctx *x, int r)
-{
-	if (m->ctx)
-		__tsan_acquire(order_of(m->number, m->pool));
-	if (r == -EDEADLK || (x->state & WAS_TOLD && x->contending_lock == m))
-		x->contending_lock = mark_of(m->number);
+	if (!is_loop(x) && __atomic_load_n(&m->ctx, __ATOMIC_RELAXED) == x)
+		__atomic_store_n(&m->ctx, NULL, __ATOMIC_RELAXED);
 	return r;
 }
 
 int ww_number_lock_further_(uint32_t number, struct ww_acquire_ctx *x, int r)
 {
-	struct ww_mutex m;
+	struct ww_mutex *m = asked("ww_number_lock", number, x, r);
 
-	if (!fits("ww_number_lock", number, x))
+	if (!m)
 		return -EINVAL;
-	stand_in(&m, number, x);
-	return answer(&m, x, ww_mutex_lock_further_(&m, x, r));
+	return answer(m, x, is_loop(x) ? ww_mutex_lock(m, x) : ww_mutex_lock_further_(m, x, r));
 }
 
 int ww_number_lock(uint32_t number, struct ww_acquire_ctx *x)
 {
-	struct ww_mutex m;
+	struct ww_mutex *m = asked("ww_number_lock", number, x, 0);
 
-	if (!fits("ww_number_lock", number, x))
-		return -EINVAL;
-	stand_in(&m, number, x);
-	return answer(&m, x, ww_mutex_lock(&m, x));
+	return m ? answer(m, x, ww_mutex_lock(m, x)) : -EINVAL;
 }
 
 int ww_number_lock_until(uint32_t number, struct ww_acquire_ctx *x, const struct timespec *until)
 {
-	struct ww_mutex m;
+	struct ww_mutex *m = asked("ww_number_lock_until", number, x, 0);
 
-	if (!fits("ww_number_lock_until", number, x))
+	if (!m)
 		return -EINVAL;
-	stand_in(&m, number, x);
-	return answer(&m, x, until ? ww_mutex_lock_until(&m, x, until) : ww_mutex_lock_interruptible(&m, x));
+	return answer(m, x, until ? ww_mutex_lock_until(m, x, until) : ww_mutex_lock_interruptible(m, x));
 }
 
 int ww_number_trylock(uint32_t number, struct ww_acquire_ctx *x)
 {
-	struct ww_mutex m;
+	struct ww_mutex *m = asked("ww_number_trylock", number, x, 0);
 
-	if (!fits("ww_number_trylock", number, x))
-		return 0;
-	stand_in(&m, number, x);
-	return answer(&m, x, ww_mutex_trylock(&m, x));
+	return m ? answer(m, x, ww_mutex_trylock(m, x)) : 0;
 }
+
+int ww_number_trylock_else_(uint32_t number, struct ww_acquire_ctx *x) { return ww_number_trylock(number, x); }
 
 bool ww_number_is_held(uint32_t number, const struct ww_acquire_ctx *x)
 {
 	return x->own && ww_has_(&x->own->handle, number) == 0;
 }
 
-/* In a forked child all that the seat held may have been let go, which its handle shows: that counts as released. */
-int ww_number_unlock_further_(uint32_t number, struct ww_acquire_ctx *x, int r)
+int ww_number_unlock(uint32_t number, struct ww_acquire_ctx *x)
 {
-	if (!fits("ww_number_unlock", number, x))
+	struct ww_mutex *m = asked("ww_number_unlock", number, x, 0);
+
+	if (!m)
 		return -EINVAL;
-	if (r < 0 && x->own->handle.at) {
+	if (!ww_number_is_held(number, x) && !is_let_go(x->own)) {
 		ww_debug_fault("ww_number_unlock", "the context doesn't hold the mutex");
 		return -EINVAL;
 	}
-	struct ww_mutex m = of_number(number, x->own->pool);
-
-	x->acquired--;
-	ww_mutex_unlock_further_(&m, x, r);
-	return 0;
+	__atomic_store_n(&m->ctx, x, __ATOMIC_RELAXED);
+	return ww_mutex_unlock_checked(m);
 }
 
-int ww_number_unlock(uint32_t number, struct ww_acquire_ctx *x)
+int ww_number_unlock_further_(uint32_t number, struct ww_acquire_ctx *x, int r)
 {
-	int r = -EINVAL;
+	struct ww_mutex *m;
 
-	if (ww_number_is_held(number, x) && x->gives == x->own) {
-		struct ww_mutex m = of_number(number, x->own->pool);
-
-		ww_debug_released(&m);
-		__tsan_release(order_of(number, m.pool));
-		r = ww_unlock_(&x->own->handle, number);
-	}
-	if (r)
-		return ww_number_unlock_further_(number, x, r);
+	if (r < 0) /* in a loop, or wrong: then nothing was done yet */
+		return ww_number_unlock(number, x);
+	m = asked("ww_number_unlock", number, x, r);
 	x->acquired--;
+	ww_mutex_unlock_further_(m, x, r);
 	return 0;
 }
 
@@ -178,6 +189,10 @@ void ww_number_unlock_all(struct ww_acquire_ctx *x)
 {
 	ww_seat *s = x->own;
 
+	if (s && is_loop(x)) {
+		ww_acquire_unlock_all(x);
+		return;
+	}
 	for (uint32_t n = 0; s && ww_held_(&s->handle) && n < s->world->locks; n++)
 		if (ww_number_is_held(n, x))
 			ww_number_unlock(n, x);
@@ -187,41 +202,39 @@ void ww_number_unlock_all(struct ww_acquire_ctx *x)
 
 int ww_number_lock_alone(uint32_t number, struct ww_class *c, const struct timespec *until, struct ww_seat **by)
 {
+	struct ww_mutex *m;
 	struct ww_pool *p;
 	int r = pool_of(c, &p);
 
 	if (r)
 		return r;
-	struct ww_mutex m = of_number(number, p);
-
-	r = until ? ww_mutex_lock_until(&m, NULL, until) : ww_mutex_lock_interruptible(&m, NULL);
-	if (!r) {
-		__tsan_acquire(order_of(number, p));
-		*by = m.alone;
+	m = mutex_at(p, number);
+	if (!m) {
+		ww_debug_fault("ww_number_lock_alone", no_such);
+		return -EINVAL;
 	}
+	r = until ? ww_mutex_lock_until(m, NULL, until) : ww_mutex_lock_interruptible(m, NULL);
+	if (!r)
+		*by = m->alone;
 	return r;
 }
 
 int ww_number_trylock_alone(uint32_t number, struct ww_class *c, struct ww_seat **by)
 {
 	struct ww_pool *p;
+	struct ww_mutex *m = pool_of(c, &p) ? NULL : mutex_at(p, number);
 
-	if (pool_of(c, &p))
+	if (!m || !ww_mutex_trylock(m, NULL))
 		return 0;
-	struct ww_mutex m = of_number(number, p);
-
-	if (!ww_mutex_trylock(&m, NULL))
-		return 0;
-	__tsan_acquire(order_of(number, p));
-	*by = m.alone;
+	*by = m->alone;
 	return 1;
 }
 
 void ww_number_unlock_alone(uint32_t number, struct ww_seat *by)
 {
-	struct ww_mutex m = of_number(number, by->pool);
+	struct ww_mutex *m = mutex_at(by->pool, number);
 
-	m.alone = by;
-	__tsan_release(order_of(number, m.pool));
-	ww_mutex_unlock(&m);
+	if (!m || __atomic_load_n(&m->alone, __ATOMIC_RELAXED) != by)
+		end("ww_number_unlock_alone", "nobody holds the mutex so");
+	ww_mutex_unlock(m);
 }

@@ -631,6 +631,8 @@ static void free_pool(struct ww_pool *p)
 	if (ww_close(p->world))
 		abort(); /* nobody has a seat of it */
 	free(p->numbers.below);
+	free(p->numbered);
+	p->numbered = NULL;
 	keep_memory(p);
 }
 

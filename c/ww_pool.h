@@ -59,6 +59,7 @@ struct ww_pool {
 	struct ww_pool *next;
 	struct debug *debug;
 	struct ww_numbers numbers; /* of mutexes */
+	struct ww_mutex *numbered; /* of ww_number.h: one for each number, from the first on that is taken */
 	struct ww_numbers loose;   /* of the seats that no thread keeps and nobody uses */
 	uint32_t seekers __attribute__((aligned(64))); /* so many threads wait for a seat; others take none meanwhile */
 	struct ww_seeker *first, *last;                /* of these, in the order in which they came */
@@ -113,7 +114,7 @@ WW_HIDDEN ww_seat *ww_late_seat(struct ww_pool *p, ww_seat *s);
 WW_HIDDEN void ww_give_shared(struct ww_pool *p, ww_seat *s, uint64_t id, bool was_loose);
 /* Waits for a seat behind all who wait already, until a time if that isn't NULL: -ETIMEDOUT; -EINVAL in a child. */
 WW_HIDDEN int ww_seek_seat(struct ww_pool *p, const struct timespec *until, ww_seat **s);
-/* Whether the mutex could be acquired at once; a glance, for all but who knows that nobody uses it. */
+/* Whether the mutex could be acquired at once; at a glance, for all but who knows that nobody uses it. */
 WW_HIDDEN bool ww_is_released(struct ww_pool *p, struct ww_mutex *m);
 
 static inline int pool_of(struct ww_class *c, struct ww_pool **p)

@@ -10,7 +10,7 @@ COMMENT = re.compile(r"^/\*.*?\*/$", re.DOTALL | re.MULTILINE)
 # A call, a macro that takes arguments, and a value with what it is for.
 ARGUMENTS = r"((?:[^()]|\([^()]*\))*)"
 CALL = re.compile(rf"^(?:WW_MUST_CHECK )?((?:\w+[ *]+)+)(\w*[a-z\d])\({ARGUMENTS}\)(?: [^;{{}}]*)?;", re.MULTILINE)
-MACRO = re.compile(r"^#define (DEFINE_\w+|WW_[A-Z_]*[A-Z]|ww_\w*[a-z])\(([\w, ]+)\)", re.MULTILINE)
+MACRO = re.compile(r"^#define (DEFINE_\w+|WW_[A-Z_]*[A-Z]|ww_\w*[a-z])\(([\w, ]+|\.\.\.)\)", re.MULTILINE)
 VALUE = re.compile(r"^\t(WW_\w+) = \d+,\s*/\* (.*?) \*/$", re.MULTILINE)
 NAME = re.compile(r"(?<![/\w])((?:ww_|DEFINE_W)\w*[a-zA-Z]|WW_[A-Z_]+[A-Z])\b(?!\.h)")
 END = "#define WW_NO_INLINE\n"
@@ -55,8 +55,8 @@ def told(lines, between):
 
 def declared(kind, name, arguments):
     """A declaration, with its arguments slanted; in two lines if it is long."""
-    if arguments == "void":
-        return [f".B {kind}{name}(void);"]
+    if arguments in ("void", "..."):
+        return [f".B {kind}{name}({arguments}){';' if kind else ''}"]
     # An argument may be a function's address, whose name stands within.
     each = re.split(r", (?![^()]*\))", " ".join(arguments.split()))
     parts = [re.fullmatch(r"(.*?)(\w+)(\[.*\]|\).*|)", it).groups() for it in each]

@@ -297,25 +297,32 @@ TABLE = {
     "ctx": {
         "ww_mutex_is_held_by": "load rlx", "WW_HOLDS_": "store rlx", "WW_HOLDS_NO_MORE_": "store rlx",
         "ww_mutex_unlock": "load rlx", "holder": "load rlx", "own": "store rlx", "release_all": "store rlx",
-        "unlock": "store rlx",
+        "unlock": "store rlx", "answer": "load rlx, store rlx", "ww_number_unlock": "store rlx",
     },
     # By it others look who uses the seat, which was said before.
     "alone": {
         "ww_mutex_is_held_by": "load acq", "ww_mutex_is_locked": "load rlx", "own": "store rel", "unlock_alone": "store rlx",
+        "ww_number_unlock_alone": "load rlx",
     },
     "user": {"is_user": "store rlx", "ww_mutex_is_held_by": "load rlx"},
     # A waiter says first that it holds the mutex, and then that it waits no more; who destroys looks the other way round.
     # In a forked child those that waited aren't there; its number goes with `pool`.
+    # Of one that is known by its number also that this is taken, which nobody asks for before.
     "waiters": {
         "number_anew": "store rlx", "end_mutex": "load sc", "lock_on": "fetch_add sc, fetch_sub sc",
-        "seek_and_lock": "fetch_add sc, fetch_sub sc",
+        "seek_and_lock": "fetch_add sc, fetch_sub sc", "ww_number_put": "load sc, compare_exchange sc/sc",
+        "ww_number_take": "fetch_add rlx",
     },
+    # Before a mutex has a pool; then its holder writes another thing there, by which its pool is seen too.
+    "class_": {"class_of": "load acq"},
     # All of an open class; and of a mutex the number, which its first lock may just have given it.
     "pool": {
         "pool_of": "load acq, load acq", "pool_at": "load acq", "open_now": "store rel", "number_now": "store rel",
         "ww_class_free": "store rel", "begin": "load acq", "ww_acquire_init": "load acq", "ww_mutex_lock": "load acq",
-        "ww_mutex_trylock": "load acq", "end_mutex": "store rel",
+        "ww_mutex_trylock": "load acq", "end_mutex": "store rel", "ww_number_take": "store rel",
     },
+    # The mutexes of numbers, which are empty then.
+    "numbered": {"mutex_at": "load acq", "mutexes_of": "load acq, compare_exchange ar/acq"},
     # Of seats that aren't shared: what their user wrote goes with busy, to its keeper and to whoever shares them.
     "busy": {
         "has_at_hand": "load acq", "use_kept": "store rlx", "give_seat": "store rel", "share": "load acq",
@@ -401,6 +408,7 @@ PLAIN = {
     # Before others see the class, by its pool, or the world.
     "p->world": "by: make_pool",
     "p->class_": "by: make_pool",
+    "pool->class_": "by: ",
     "p->contexts": "by: make_pool",
     "s->pool": "by: make_pool",
     "s->world": "by: lay_out",
@@ -408,19 +416,19 @@ PLAIN = {
     "p->id": "by: in_child make_pool",
     "p->mutexes": "by: in_child make_pool",
     "p->gone": "by: in_child",
+    "p->numbered": "by: free_pool",
     "p->own_id": "by: in_child",
     "p->seekers": "by: in_child",
     # By whoever has the seat.
     "s->was_loose": "by: use_loose",
     "s->stops": "by: was_stale",
     "s->listed": "by: come_back list unlist",
-    # By whoever holds the mutex, which its lock orders, or makes or destroys it; ww_number.c's are on its own stack.
+    # By whoever holds the mutex, which its lock orders, or makes or destroys it.
     "m->older": "by: own unlink_from was_prelocked",
     "m->newer": "by: unlink_from",
     "m->class_": "by: end_mutex ww_mutex_destroy",
-    "m->alone": "by: ww_number_unlock_alone",
+    "m->alone": "by: ",
     # By nobody, so by __atomic_* alone; but for number, which is given before `pool` is stored.
-    "m->ctx": "by: ",
     "m->pool": "by: ",
     "m->number": "by: ",
     "x->own": "by: ",

@@ -94,6 +94,29 @@ static void told_without_need(void)
 	MUST(HERE(ww_mutex_lock(&its, &x)) == -EINVAL);
 }
 
+static void *is_to_end(void *arg)
+{
+	bool *comes_back = arg;
+
+	MUST(!pthread_cancel(pthread_self()) && HERE(ww_mutex_destroy(&a)) == -EBUSY);
+	*comes_back = true;
+	pthread_testcancel();
+	return NULL;
+}
+
+/* A thread that pthread_cancel told to end doesn't amid a message: the call comes back, and others may write. */
+static void told_by_a_thread_that_ends(void)
+{
+	bool comes_back = false;
+	void *how;
+
+	MUST(!pthread_join(begin_thread(is_to_end, &comes_back), &how));
+	if (ftrylockfile(stderr))
+		_exit(1);
+	funlockfile(stderr);
+	MUST(comes_back && how == PTHREAD_CANCELED);
+}
+
 static void *begins_y(void *arg)
 {
 	(void)arg;
@@ -294,6 +317,7 @@ int main(int count, char **words)
 	      "ww_mutex_lock_slow_interruptible: no -EDEADLK of this mutex came before, or the context still holds a mutex");
 	tells(slow_ends, "ww_mutex_lock_slow: no -EDEADLK of this mutex came before, or the context still holds a mutex");
 	tells(destroys_held, "ww_mutex_destroy: somebody holds the mutex, or waits for it");
+	tells(told_by_a_thread_that_ends, "ww_mutex_destroy: somebody holds the mutex, or waits for it");
 	tells(destroys_twice, "ww_mutex_destroy: the mutex isn't initialized");
 	tells(unlocks_in_vain, "ww_mutex_unlock: nobody holds the mutex");
 	tells(unlocked_by_another, "ww_mutex_unlock: class \"c\": another thread acquired the mutex");

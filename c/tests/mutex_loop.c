@@ -5,11 +5,11 @@
 #include "mutex_test.h"
 #include "../ww_pool.h"
 
-enum state { EASE, OWES, TOLD, TOLD_OWES, TOLD_BARE, FIRST };
+enum state { EASE, OWES, TOLD, TOLD_OWES, TOLD_BARE, FIRST, EASE_BARE };
 enum call { LOCK, HEED, UNTIL, SLOW, TRY, UNLOCK, UNLOCK_ALL, BACK_OFF, ALL };
 /* `it` is where -EDEADLK came last, or what is owed; `held` is another that the context holds, where it holds one. */
 enum which { IT, HELD, FREE, TAKEN, OWED };
-static const char *const states[] = { "ease", "owes", "told", "told, owes", "told, bare", "first" };
+static const char *const states[] = { "ease", "owes", "told", "told, owes", "told, bare", "first", "ease, bare" };
 
 struct row {
 	enum state from;
@@ -32,8 +32,8 @@ static const struct row rows[] = {
 	{ EASE, LOCK, HELD, true, -EALREADY, EASE, 0 },
 	{ EASE, LOCK, HELD, true, 0, EASE, WW_IGNORE_DUPLICATES },
 	{ EASE, SLOW, FREE, true, -EINVAL, EASE, 0 },
-	{ EASE, UNLOCK, HELD, true, 0, EASE, 0 },
-	{ EASE, UNLOCK_ALL, IT, true, 0, EASE, 0 },
+	{ EASE, UNLOCK, HELD, true, 0, EASE_BARE, 0 },
+	{ EASE, UNLOCK_ALL, IT, true, 0, EASE_BARE, 0 },
 	{ EASE, ALL, FREE, true, 0, EASE, 0 },
 	{ EASE, ALL, TAKEN, true, -EDEADLK, TOLD, 0 },
 
@@ -49,7 +49,7 @@ static const struct row rows[] = {
 	{ OWES, HEED, TAKEN, true, -EINTR, OWES, 0 },
 	{ OWES, SLOW, IT, true, -EINVAL, OWES, 0 },
 	{ OWES, UNLOCK, IT, true, 0, OWES, 0 },
-	{ OWES, UNLOCK_ALL, IT, true, 0, EASE, 0 },
+	{ OWES, UNLOCK_ALL, IT, true, 0, EASE_BARE, 0 },
 	{ OWES, ALL, FREE, true, 0, OWES, 0 },
 	{ OWES, ALL, IT, true, 0, EASE, 0 },
 
@@ -102,9 +102,15 @@ static const struct row rows[] = {
 	{ FIRST, TRY, IT, true, 1, EASE, 0 },
 	{ FIRST, TRY, IT, false, 0, FIRST, 0 },
 	{ FIRST, TRY, FREE, false, 1, EASE, 0 },
-	{ FIRST, UNLOCK_ALL, IT, false, 0, EASE, 0 },
+	{ FIRST, UNLOCK_ALL, IT, false, 0, EASE_BARE, 0 },
 	{ FIRST, ALL, IT, true, 0, EASE, 0 },
 	{ FIRST, ALL, FREE, true, 0, OWES, 0 },
+
+	{ EASE_BARE, LOCK, FREE, false, 0, EASE, 0 },
+	{ EASE_BARE, UNTIL, IT, false, -ETIMEDOUT, EASE_BARE, 0 },
+	{ EASE_BARE, SLOW, IT, true, 0, EASE, 0 },
+	{ EASE_BARE, SLOW, FREE, false, -EINVAL, EASE_BARE, 0 },
+	{ EASE_BARE, TRY, IT, false, 0, EASE_BARE, 0 },
 };
 
 static DEFINE_WD_CLASS(wait_die);
@@ -141,8 +147,10 @@ static void comes_to(enum state state)
 	is_told_at(&it);
 	if (state == TOLD_BARE)
 		ww_mutex_unlock(&held);
-	if (state == FIRST)
+	if (state == FIRST || state == EASE_BARE)
 		backs_off();
+	if (state == EASE_BARE)
+		ww_acquire_unlock_all(&x);
 }
 
 static enum state state_of(void)
@@ -152,7 +160,7 @@ static enum state state_of(void)
 	MUST(told + first < 2 && told == ww_is_contended(&x) && !(first && (owes || x.acquired)));
 	if (told)
 		return !x.acquired ? TOLD_BARE : owes ? TOLD_OWES : TOLD;
-	return first ? FIRST : owes ? OWES : EASE;
+	return first ? FIRST : owes ? OWES : x.acquired ? EASE : EASE_BARE;
 }
 
 static int makes(const struct row *row, struct ww_mutex *m)

@@ -315,13 +315,13 @@ static void tries_again(void)
 	if (c->is_wait_die)
 		end_thread(thread);
 
-	/* Two loops in one function; flags; a body that is left, and goes on where it likes. */
+	/* Flags; a body that is left, and goes on where it likes. */
 	ww_acquire_flags(&x, WW_IGNORE_DUPLICATES | WW_INTERRUPTIBLE);
-	ww_until_all_locked(&x) {
+	ww_until_all_locked(&x, second) {
 		struct ww_mutex *locks[] = { &list[1], &list[2], &list[1] };
 
 		MUST(!ww_mutex_lock(&list[1], &x) && !ww_mutex_lock(&list[1], &x) && !ww_mutex_lock_all(&x, locks, 3));
-		ww_retry_on_contention(&x);
+		ww_retry_on_contention(&x, second);
 		ww_acquire_flags(&x, 0);
 		MUST(ww_mutex_lock_all(&x, locks, 2) == -EALREADY && x.acquired == 2);
 		break;

@@ -213,6 +213,51 @@ def loses_nothing():
     assert at > 10
 
 
+def ends_each_block():
+    """An exception before any instruction of the functions that `with` comes to, as a signal's handler may raise it there:
+    the block's end releases all, though the context has a name that lives on."""
+    buffers = made(contexts=2)
+    a = ww.Mutex(buffers)
+    named = [None]
+    files = {ww.Context.lock.__code__.co_filename, contextlib.__file__}
+
+    class Hit(Exception):
+        pass
+
+    def works():
+        with buffers.context() as named[0]:
+            named[0].lock(a)
+
+    def is_hit(at):
+        left = at
+
+        def counts(frame, event, _):
+            nonlocal left
+            if frame.f_code.co_filename not in files:
+                return None
+            frame.f_trace_opcodes = True
+            left -= event == "opcode"
+            if left == 0:
+                raise Hit
+            return counts
+
+        try:
+            sys.settrace(counts)
+            works()
+        except Hit:
+            pass
+        finally:
+            sys.settrace(None)
+        return left <= 0
+
+    at = 1
+    while is_hit(at):
+        assert not a.locked(), at
+        with buffers.context(timeout=0), buffers.context(timeout=0):
+            at += 1
+    assert at > 100
+
+
 def ends_in_time(kind):
     """What was held still is, and nothing else; a mutex that is free is acquired at any time."""
     buffers = made(kind)
@@ -443,6 +488,7 @@ refuses_others()
 gives_numbers_back()
 frees_cycles()
 loses_nothing()
+ends_each_block()
 waits_in_turn()
 forks()
 for each in KINDS:

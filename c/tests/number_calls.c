@@ -71,6 +71,22 @@ static void by_a_context(void)
 	ww_acquire_fini(&x);
 }
 
+/* A number that was never taken, was put back before, or is a mutex's with an address: nobody gets any of these twice. */
+static void puts_no_other_back(void)
+{
+	struct ww_mutex m;
+
+	MUST(ww_number_put(0, c) == -EINVAL && ww_number_put(COUNT - 1, c) == -EINVAL);
+	takes();
+	MUST(!ww_number_put(n[0], c) && ww_number_put(n[0], c) == -EINVAL);
+	ww_mutex_init(&m, c);
+	MUST(m.number == n[0] && ww_number_put(m.number, c) == -EINVAL);
+	MUST(!ww_mutex_lock(&m, NULL) && ww_number_put(m.number, c) == -EINVAL);
+	ww_mutex_unlock(&m);
+	MUST(!ww_mutex_destroy(&m) && ww_number_put(n[0], c) == -EINVAL && !ww_number_take(&n[0], c));
+	puts_back();
+}
+
 /* Each of these is told by the debug library, and changes nothing. */
 static void refuses(void)
 {
@@ -87,27 +103,60 @@ static void refuses(void)
 	MUST(!ww_number_is_locked(n[0], c));
 }
 
-/* A loop knows addresses alone; behind it, too. */
-static void is_no_loop(void)
+/* In a loop they are listed with the others: duplicates, trylocks, releases one by one, marks, and what is left behind it. */
+static void in_a_loop(void)
 {
 	struct ww_mutex m;
+	size_t mark;
 
 	MUST(!ww_number_put(n[3], c));
 	ww_mutex_init(&m, c);
 	begins(&x);
 	ww_until_all_locked(&x) {
-		MUST(!ww_mutex_lock(&m, &x));
+		MUST(!ww_number_lock(n[0], &x) && ww_number_lock(n[0], &x) == -EALREADY && !ww_number_trylock(n[0], &x));
+		mark = ww_acquire_mark(&x);
+		MUST(!ww_mutex_lock(&m, &x) && ww_number_trylock(n[1], &x) == 1 && !ww_number_lock_until(n[2], &x, &past));
 		ww_retry_on_contention(&x);
-		MUST(ww_number_lock(n[0], &x) == -EINVAL && ww_number_lock_until(n[0], &x, &past) == -EINVAL);
-		MUST(!ww_number_trylock(n[0], &x) && ww_number_unlock(m.number, &x) == -EINVAL && x.acquired == 1);
+		MUST(x.acquired == 4 && ww_number_is_held(n[1], &x) && ww_number_is_locked(n[2], c));
+		MUST(!ww_number_unlock(n[1], &x) && ww_number_unlock(n[1], &x) == -EINVAL && x.acquired == 3);
+		MUST(!ww_number_lock(n[1], &x) && ww_number_put(n[1], c) == -EBUSY);
+		ww_acquire_unlock_to(&x, mark);
+		MUST(x.acquired == 1 && ww_number_is_held(n[0], &x) && !ww_mutex_is_locked(&m) && !ww_number_is_locked(n[1], c));
+		ww_acquire_flags(&x, WW_IGNORE_DUPLICATES);
+		MUST(!ww_number_lock(n[1], &x) && !ww_mutex_lock(&m, &x) && !ww_number_lock(n[0], &x) && x.acquired == 3);
 	}
-	MUST(ww_number_lock(n[0], &x) == -EINVAL && !ww_number_is_locked(n[0], c));
-	ww_acquire_unlock_all(&x);
+	MUST(!ww_number_lock(n[2], &x) && !ww_number_unlock(n[0], &x) && x.acquired == 3);
+	ww_number_unlock_all(&x);
+	MUST(!x.acquired && !ww_number_is_locked(n[2], c) && !ww_mutex_is_locked(&m));
 	ww_acquire_fini(&x);
 	MUST(!ww_mutex_destroy(&m) && !ww_number_take(&n[3], c));
 }
 
-/* Outside a loop they stand beside each other, and one may begin then: it sees nothing of the numbers. */
+/* The context that is in its way ends, and the loop goes back: the number at which that was comes first. */
+static void backs_off_in_a_loop(void)
+{
+	unsigned bodies = 0;
+
+	begins(&y);
+	begins(&x);
+	MUST(!ww_number_lock(n[0], &y));
+	if (c != &wait_die)
+		ww_number_unlock_all(&y);
+	ww_until_all_locked(&x) {
+		bodies++;
+		MUST(!ww_number_lock(n[1], &x) && ww_number_is_held(n[0], &x) == (bodies == 2));
+		if (ww_number_lock(n[0], &x))
+			MUST(ww_is_contended(&x) && ww_number_lock(n[2], &x) == -EINVAL && !ww_number_unlock(n[0], &y));
+		ww_retry_on_contention(&x);
+		MUST(!ww_number_trylock(n[0], &x) && !ww_number_lock(n[2], &x));
+	}
+	MUST(bodies == (c == &wait_die ? 2 : 1) && x.acquired == 3);
+	ww_acquire_unlock_all(&x);
+	ww_acquire_fini(&x);
+	ww_acquire_fini(&y);
+}
+
+/* Outside a loop they stand beside each other, and one may begin then. */
 static void goes_with_addresses(void)
 {
 	struct ww_mutex m, other;
@@ -182,11 +231,46 @@ static void is_called_off(void)
 
 	while (!__atomic_load_n(&told, __ATOMIC_SEQ_CST))
 		usleep(100);
-	MUST(!ww_acquire_cancel(&y));
+	MUST(ww_number_put(n[0], c) == -EBUSY && !ww_acquire_cancel(&y));
 	while (__atomic_load_n(&told, __ATOMIC_SEQ_CST) < 2)
 		usleep(100);
 	ww_number_unlock_alone(n[0], by);
 	end_thread(thread);
+}
+
+static void *waits_for_a_context(void *arg)
+{
+	struct ww_seat *by;
+
+	MUST(!ww_number_lock_alone(n[0], c, NULL, &by));
+	ww_number_unlock_alone(n[0], by);
+	return arg;
+}
+
+static uint64_t context_waits(void)
+{
+	struct ww_class_counts counts;
+
+	ww_class_stats(c, &counts);
+	return counts.context_waits;
+}
+
+/* All contexts are in use, and a thread waits for one, for this number: nobody else gets that meanwhile. */
+static void is_awaited_without_a_context(void)
+{
+	uint64_t before = context_waits();
+	pthread_t thread;
+
+	ww_acquire_init(&x, c);
+	ww_acquire_init(&y, c);
+	thread = begin_thread(waits_for_a_context, NULL);
+	while (context_waits() == before)
+		usleep(100);
+	MUST(!ww_number_is_locked(n[0], c) && ww_number_put(n[0], c) == -EBUSY && !ww_number_put(n[1], c));
+	ww_acquire_fini(&y);
+	end_thread(thread);
+	ww_acquire_fini(&x);
+	MUST(!ww_number_take(&n[1], c) && !ww_number_put(n[0], c) && !ww_number_take(&n[0], c));
 }
 
 /* After -EDEADLK another comes first, which the debug library tells. */
@@ -215,11 +299,19 @@ static void *goes_against(void *arg)
 	int r = ww_number_lock(n[!me], &mine);
 
 	if (r) {
+		unsigned first = !me;
+
 		MUST(r == -EDEADLK && mine.acquired == 1);
 		MUST(!ww_number_trylock(n[2 + me], &mine) && !ww_number_unlock(n[me], &mine));
 		/* By a call like any other, and one that may end early. */
-		MUST(!(me ? ww_number_lock(n[!me], &mine) : ww_number_lock_until(n[!me], &mine, NULL)));
-		MUST(!ww_number_lock(n[me], &mine));
+		MUST(!(me ? ww_number_lock(n[first], &mine) : ww_number_lock_until(n[first], &mine, NULL)));
+		/* The older one may still be releasing the other. */
+		while ((r = ww_number_lock(n[!first], &mine)) == -EDEADLK) {
+			MUST(!ww_number_unlock(n[first], &mine));
+			first = !first;
+			MUST(!ww_number_lock(n[first], &mine));
+		}
+		MUST(!r);
 		backs++;
 	}
 	MUST(mine.acquired == 2);
@@ -376,14 +468,17 @@ static void all_of(struct ww_class *class_)
 {
 	c = class_;
 	MUST(!ww_class_limit(c, COUNT, 2));
+	tells(puts_no_other_back, 6);
 	tells(are_of_one_pool, 0);
 	takes();
 	tells(by_a_context, 0);
 	tells(refuses, 8);
-	tells(is_no_loop, 5);
+	tells(in_a_loop, 1);
+	tells(backs_off_in_a_loop, c == &wait_die);
 	tells(goes_with_addresses, 0);
 	tells(without_one, 0);
 	tells(is_called_off, 0);
+	tells(is_awaited_without_a_context, 0);
 	tells(has_one_victim, 0);
 	if (c == &wait_die)
 		tells(another_comes_first, 1);

@@ -59,6 +59,8 @@ _CALLS |= {f"ww_{it}": (ctypes.c_int, _AT) for it in _ALONE}
 _PAIRS = ("mutex_init_checked", "acquire_init_checked", "mutex_lock_interruptible", "mutex_trylock")
 _CALLS |= {f"ww_{it}": (ctypes.c_int, _AT, _AT) for it in _PAIRS}
 _CALLS |= {"ww_tries_begin_": (None, _AT), "ww_acquire_unlock_all": (None, _AT)}
+# Amid these no other thread of Python runs: so a context isn't cancelled amid its end.
+_ALONE_IN_PYTHON = ("ww_acquire_cancel", "ww_acquire_fini_checked")
 
 
 def _found():
@@ -76,6 +78,8 @@ def opened(path):
     for name, (result, *words) in _CALLS.items():
         call = getattr(library, name)
         call.restype, call.argtypes = result, words
+    for name in _ALONE_IN_PYTHON:
+        setattr(library, name, ctypes.PYFUNCTYPE(*_CALLS[name])((name, library)))
     if library.ww_version() // 10000 != _VERSION:
         raise OSError(errno.ELIBACC, f"{path} has another interface")
     return library

@@ -3,7 +3,7 @@
 Their structures are opaque here: the library says how large each is. Each object keeps alive what the library knows of
 it, so nothing has to be closed: a mutex that nobody refers to gives its number back, and then its class its memory.
 """
-import contextlib
+import collections
 import ctypes
 import errno
 import functools
@@ -38,6 +38,25 @@ def _ending(call, at, *kept):
     end.kept = kept
     _ends[number] = end
     return _End(number)
+
+
+def _once(*calls):
+    """What makes these calls, in this order and each once, whatever it is called with, and tells nothing; and what is true
+    once it was called. str.format looks for 0 in each dictionary, which hasn't that, and so has it made by its call: no line
+    of Python is run, at which a signal could break in."""
+    made = [collections.defaultdict(call) for call in calls]
+    return functools.partial("".join(f"{{{k}[0]!s:.0}}" for k in range(len(made))).format, *made), made[0]
+
+
+class _Exit:
+    """How a context ends: `with` asks the context for that before it begins it, and what it calls at the end of its block is
+    no function of Python. Others, as contextlib.ExitStack, ask the class."""
+
+    def __get__(self, context, _=None):
+        return self if context is None else context._end
+
+    def __call__(self, context, *_):
+        return context._end()
 
 
 def _memory(size):
@@ -91,16 +110,10 @@ class Class:
         self._library.ww_class_init(self._at, kind, None)
         told(self._library.ww_class_limit(self._at, mutexes, contexts))
 
-    @contextlib.contextmanager
     def context(self, timeout=None):
-        """A context, until the end of the block, where it releases all that it holds. Where all are in use it waits for
-        one; at the longest for so many seconds (TimeoutError)."""
-        context = Context(self)
-        context._begin(_until(timeout))
-        try:
-            yield context
-        finally:
-            context._end()
+        """A context, which `with` begins, and ends where its block ends, however that does: then it releases all that it
+        holds. Where all are in use it waits for one; at the longest for so many seconds (TimeoutError)."""
+        return Context(self, timeout)
 
     def run(self, body, timeout=None):
         """What body(context) returns. Where that was told Deadlock, all is released, and it is called again: so up to its
@@ -120,7 +133,8 @@ class Class:
 
 class Mutex:
     """A mutex of a class. `with mutex:` holds it alone, by a context of its own. Already: this thread holds it. Where the
-    handler of a signal raises just as that block ends, it may stay held: a block of Class.context() always releases."""
+    handler of a signal raises just as that block ends, it may stay held: a block of Class.context() always releases (but for
+    Python 3.9, which itself may raise between the block and its end)."""
 
     def __init__(self, of):
         if not isinstance(of, Class):
@@ -155,19 +169,34 @@ class Mutex:
 
 
 class Context:
-    """A context, for one thread: Class.context() begins it. In each other thread, and once it has ended, its calls but
-    cancel are EINVAL."""
+    """A context, for one thread: `with Class.context() as context`. In each other thread, and outside the block, its calls
+    are EINVAL; but cancel is for any thread."""
 
-    def __init__(self, of):
-        self._class, self._library = of, of._library
-        self._ending = threading.RLock()  # A cancel comes before the end or behind it; from a handler, maybe amid it.
+    def __init__(self, of, timeout=None):
+        self._class, self._library, self._timeout = of, of._library, timeout
         self._thread = None
+        self._begun = None  # An event, where another thread begins it: that it has.
         # What the library may still read, and what it said that the context holds. An interrupt may come between
         # two lines: so a mutex is in the first before it can be held, and leaves the second before it is released.
         self._near, self._held = set(), set()
         self._at = _memory(self._library.ww_acquire_size())
         fini = _ending(self._library.ww_acquire_fini_checked, self._at, of._its_end, self._near)
         self._its_end = _ending(self._library.ww_acquire_unlock_all, self._at, fini)
+        release, end = (functools.partial(call, self._at) for call in (self._library.ww_acquire_unlock_all, self._library.ww_acquire_fini_checked))
+        self._end, self._is_over = _once(release, end, self._held.clear, self._near.clear)
+
+    __exit__ = _Exit()
+
+    def __enter__(self):
+        if self._thread is not None:
+            raise _wrong("a context begins once")
+        try:
+            self._begin(_until(self._timeout))
+        except BaseException:
+            if not self._begun or self._begun.is_set():
+                self._end()
+            raise
+        return self  # Behind the last call no signal is heard before the block.
 
     def _begin(self, until=None):
         code = self._library.ww_acquire_init_checked(self._at, self._class._at)
@@ -189,34 +218,24 @@ class Context:
             codes.append(self._library.ww_acquire_init_until(self._at, self._class._at, end))
             begun.set()
             if left.is_set():
-                self._end()
+                self._library.ww_acquire_fini_checked(self._at)
 
         if not _is_main():
             begin()
             return codes[0]
+        self._begun = begun
         try:
             threading.Thread(target=begin, daemon=True).start()
             begun.wait()
         except BaseException:
             left.set()
-            if begun.is_set():
-                self._end()
             raise
         return codes[0]
 
-    def _end(self):
-        """Ends it, if it has begun, which the library knows best."""
-        with self._ending:
-            self._thread = None
-            self._library.ww_acquire_unlock_all(self._at)
-            self._library.ww_acquire_fini_checked(self._at)
-        self._held.clear()
-        self._near.clear()
-
     def _check(self, *mutexes):
         """What would be wrong with a call of this thread."""
-        if self._thread != threading.get_ident():
-            raise _wrong("the context has ended, or is another thread's")
+        if self._is_over or self._thread != threading.get_ident():
+            raise _wrong("the context is of another thread, or of no `with` block that goes on")
         for mutex in mutexes:
             if not isinstance(mutex, Mutex):
                 raise TypeError(f"{mutex!r} is no ww.Mutex")
@@ -298,7 +317,8 @@ class Context:
     def unlock_all(self):
         """Releases all. After a Deadlock the next lock call first waits for the mutex at which that came."""
         self._check()
-        held, self._held = self._held, set()
+        held = self._held.copy()
+        self._held.clear()
         if self._is_contended():
             self._library.ww_tries_more_(self._at)
         else:
@@ -316,5 +336,4 @@ class Context:
 
     def cancel(self):
         """Calls its wait off, this one or the next, by any thread. Already: that is pending; EINVAL: it has ended."""
-        with self._ending:
-            told(self._library.ww_acquire_cancel(self._at))
+        told(self._library.ww_acquire_cancel(self._at))  # Before the end or behind it: no other thread of Python runs amid either.

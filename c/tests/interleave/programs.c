@@ -8,7 +8,7 @@
  *	> <	gives the context away, and goes on with a second one; takes one	^	goes on with the second one
  *	a b m	locks, and backs off	A B M	unlocks
  *	?	the next lock is tried; t: until a time; i: interruptible; where it has none, all up to its unlock is left out
- *	n	the next lock is without a context; #: by its number; !: it has to fail; .: it must not
+ *	n	the next lock is without a context; !: it has to fail; .: it must not
  *	Lab;	locks these in a loop	U	unlocks all of it	&ab;	locks these as a list
  *	Kab;	as L, but once told to back off it unlocks what it holds one by one, and locks that one before it begins anew
  *	+	adds to what each mutex guards that is held
@@ -17,8 +17,9 @@
  *	c	cancels			1-9	something has happened	~1	waits for that, which orders	_1	which doesn't	=1	it has
  *	s w	waits until somebody waits for a context, unless 4 has happened; until somebody waits for m
  *	F	frees the class, asking until it is free	v	looks at its counts
- *	T G g	takes a number, if one is free (.: one is); puts back that taken last, or first	p	puts the number of m, which is to be -EBUSY
- *	@1	the thread's stack of numbers is this one	%0	of a world: worlds.c
+ *	T G g	takes a number, if one is free (.: one is); puts back that taken last, or first
+ *	p P	puts the number of m, which is to be -EBUSY; which one thread is to have done	@1	the thread's stack of numbers is this one
+ *	Where a program is NUMBERED all mutexes are known by their numbers.	%0	of a world: worlds.c
  */
 #define _GNU_SOURCE
 #include "interleave.h"
@@ -29,9 +30,9 @@
 #include <string.h>
 
 #define CONTEXTS(n) ((n) << 4)
-enum { WAIT_DIE = 1 << 8, STATIC = 1 << 9, GIVEN = 1 << 10 };
+enum { WAIT_DIE = 1 << 8, STATIC = 1 << 9, GIVEN = 1 << 10, NUMBERED = 1 << 11 };
 
-enum way { FREE, BY_CONTEXT, ALONE, BY_LOOP, BY_NUMBER };
+enum way { FREE, BY_CONTEXT, ALONE, BY_LOOP };
 struct user {
 	struct ww_acquire_ctx *own, *x; /* two, the second once the first is another's */
 	enum way held[3];
@@ -43,21 +44,26 @@ struct user {
 
 static struct ww_class c;
 static struct ww_mutex *mutexes;
+static bool numbered;
+static uint32_t numbers[3];
 static struct ww_acquire_ctx contexts[IL_THREADS + 1][2], *shared, *given;
 static unsigned long sum[3], added[3][IL_THREADS + 1];
+static bool put[IL_THREADS + 1];
 static uint32_t inside, most, happened[10], refs, owner[4], cancels, met;
 static struct timespec soon;
 
 #define SEEN(word) __atomic_load_n(&(word), __ATOMIC_RELAXED)
 #define ADD(word, by) __atomic_fetch_add(&(word), by, __ATOMIC_RELAXED)
 
+static const char letters[] = "abm";
 static unsigned index_of(char letter) { return tolower(letter) == 'm' ? 2 : (unsigned)(tolower(letter) - 'a'); }
 static struct ww_mutex *mutex_of(char letter) { return &mutexes[index_of(letter)]; }
 
-static bool names(const struct il_program *p, char letter)
+/* Whether the text of a thread has one of these letters. */
+static bool names(const struct il_program *p, const char *some)
 {
 	for (unsigned k = 0; k < IL_THREADS && p->threads[k]; k++)
-		if (strchr(p->threads[k], letter))
+		if (strpbrk(p->threads[k], some))
 			return true;
 	return false;
 }
@@ -77,9 +83,12 @@ void il_setup(const struct il_program *p)
 	MUST(!ww_class_limit(&c, 3, most));
 	mutexes = il_new(3 * sizeof *mutexes);
 	shared = il_new(sizeof *shared);
-	for (const char *at = p->flags & STATIC ? "" : "abm"; *at; at++)
-		if (names(p, *at))
+	numbered = p->flags & NUMBERED;
+	for (const char *at = p->flags & (STATIC | NUMBERED) ? "" : "abm"; *at; at++)
+		if (names(p, (char[]){ *at, 0 }))
 			ww_mutex_init(mutex_of(*at), &c);
+	for (unsigned k = 0; numbered && k < 3; k++)
+		MUST(!ww_number_take(&numbers[k], &c));
 	if (p->flags & STATIC)
 		*mutex_of('m') = (struct ww_mutex)WW_MUTEX_INIT(&c);
 	else
@@ -89,13 +98,12 @@ void il_setup(const struct il_program *p)
 		MUST(!ww_number_take(&owner[3], &c));
 	for (unsigned k = 0; p->flags & GIVEN && k < 2; k++)
 		MUST(!ww_number_put(k, &c));
-	if (names(p, '%'))
+	if (names(p, "%"))
 		il_open_world();
 	for (unsigned k = 0; k < IL_THREADS && p->threads[k]; k++)
 		refs += !!strchr(p->threads[k], '-');
-	for (unsigned k = 0; k < IL_THREADS && p->threads[k]; k++)
-		if (strpbrk(p->threads[k], "[tl") && !soon.tv_sec)
-			soon = il_in(1000000);
+	if (names(p, "[t"))
+		soon = il_in(1000000);
 }
 
 /* All that was taken was put back. */
@@ -105,18 +113,19 @@ void il_check(const struct il_program *p)
 
 	for (unsigned k = 0; k < 3; k++) {
 		MUST(sum[k] == added[k][1] + added[k][2] + added[k][3] + added[k][4]);
-		if ((k < 2 || !names(p, 'D')) && mutexes[k].pool)
+		if ((k < 2 || !names(p, "D")) && mutexes[k].pool)
 			MUST(!ww_mutex_destroy(&mutexes[k]));
 	}
-	MUST(met <= cancels);
+	MUST(met <= cancels && put[1] + put[2] == names(p, "P"));
 #ifdef WW_DEBUG
 	/* Of these, each call is right, and none is dangerous. */
-	if (!names(p, 'n') && !names(p, '>') && !names(p, 'L') && !names(p, 'K') && !names(p, 'd') && !names(p, 'D') && !names(p, 'F'))
-		MUST(!ww_debug_faults() && !ww_debug_dangers());
+	MUST(names(p, "n>LKdDFP") || (!ww_debug_faults() && !ww_debug_dangers()));
 #endif
 	if (p->flags & GIVEN)
 		MUST(!ww_number_put(2, &c));
-	if (names(p, '%'))
+	for (unsigned k = 0; numbered && k < 3; k++)
+		MUST(ww_number_put(numbers[k], &c) == (k == 2 && names(p, "P") ? -EINVAL : 0));
+	if (names(p, "%"))
 		il_close_world();
 	if (c.pool) {
 		MUST(!c.pool->seekers && !c.pool->first);
@@ -151,16 +160,20 @@ static int begin(struct user *u, char how)
 
 static void unlock(struct user *u, char letter)
 {
-	struct ww_mutex *m = mutex_of(letter);
-	enum way *held = &u->held[index_of(letter)];
+	unsigned k = index_of(letter);
 
-	if (*held != BY_NUMBER)
-		ww_mutex_unlock(m);
-	else if (u->by[index_of(letter)])
-		ww_number_unlock_alone(m->number, u->by[index_of(letter)]);
+	if (!numbered)
+		ww_mutex_unlock(&mutexes[k]);
+	else if (u->held[k] == ALONE)
+		ww_number_unlock_alone(numbers[k], u->by[k]);
 	else
-		MUST(!ww_number_unlock(m->number, u->x));
-	*held = FREE;
+		MUST(!ww_number_unlock(numbers[k], u->x));
+	u->held[k] = FREE;
+}
+
+static int lock_plainly(const struct user *u, unsigned k)
+{
+	return numbered ? ww_number_lock(numbers[k], u->x) : ww_mutex_lock(&mutexes[k], u->x);
 }
 
 /* All that it held by its context it holds again, and this one. */
@@ -171,23 +184,35 @@ static void back_off(struct user *u, char letter)
 
 	for (unsigned k = 0; k < 3; k++)
 		if ((again[k] = u->held[k] == BY_CONTEXT))
-			ww_mutex_unlock(&mutexes[k]);
+			unlock(u, letters[k]);
 	again[index_of(letter)] = true;
 	for (unsigned slow = index_of(letter); r == -EDEADLK;) {
 		unsigned k;
 
-		ww_mutex_lock_slow(&mutexes[slow], u->x);
+		if (numbered)
+			MUST(!lock_plainly(u, slow));
+		else
+			ww_mutex_lock_slow(&mutexes[slow], u->x);
 		for (k = 0, r = 0; k < 3 && !r; k++)
 			if (again[k] && k != slow)
-				r = ww_mutex_lock(&mutexes[k], u->x);
+				r = lock_plainly(u, k);
 		MUST(!r || r == -EDEADLK);
 		for (unsigned i = 0; r && i < 3; i++)
 			if (again[i] && (i < k - 1 || i == slow))
-				ww_mutex_unlock(&mutexes[i]);
+				unlock(u, letters[i]);
 		slow = k - 1;
 	}
 	for (unsigned k = 0; k < 3; k++)
 		u->held[k] = again[k] ? BY_CONTEXT : u->held[k];
+}
+
+static int lock_number(struct user *u, unsigned k, const struct timespec *until, bool alone, bool tries)
+{
+	if (alone && tries)
+		return !ww_number_trylock_alone(numbers[k], &c, &u->by[k]);
+	if (alone)
+		return ww_number_lock_alone(numbers[k], &c, until, &u->by[k]);
+	return tries ? !ww_number_trylock(numbers[k], u->x) : ww_number_lock_until(numbers[k], u->x, until);
 }
 
 /* By which words it is asked for stands before it. */
@@ -195,16 +220,15 @@ static int lock(struct user *u, char letter, const char *how)
 {
 	struct ww_mutex *m = mutex_of(letter);
 	unsigned k = index_of(letter);
-	bool alone = strchr(how, 'n'), numbered = strchr(how, '#'), tries = strchr(how, '?'), ends = strchr(how, 't');
+	bool alone = strchr(how, 'n'), tries = strchr(how, '?'), ends = strchr(how, 't');
 	struct ww_acquire_ctx *x = alone ? NULL : u->x;
 	const struct timespec *until = ends ? &soon : NULL;
 	int r;
 
-	u->by[k] = NULL;
-	if (numbered && alone)
-		r = ww_number_lock_alone(m->number, &c, until, &u->by[k]);
+	if (numbered && !alone && !tries && !ends && !strchr(how, 'i'))
+		r = lock_plainly(u, k);
 	else if (numbered)
-		r = ww_number_lock_until(m->number, x, until);
+		r = lock_number(u, k, until, alone, tries);
 	else if (tries)
 		r = !ww_mutex_trylock(m, x);
 	else if (ends)
@@ -222,7 +246,7 @@ static int lock(struct user *u, char letter, const char *how)
 		ADD(met, 1);
 	if (!r) {
 		MUST(numbered || ww_mutex_is_held_by(m, x));
-		u->held[k] = numbered ? BY_NUMBER : alone ? ALONE : BY_CONTEXT;
+		u->held[k] = alone ? ALONE : BY_CONTEXT;
 	}
 	return r;
 }
@@ -235,24 +259,30 @@ static const char *past(const char *at, char closes)
 	return *at ? at : at - 1;
 }
 
+static bool has(const struct user *u, unsigned k)
+{
+	return numbered ? ww_number_is_held(numbers[k], u->x) : ww_mutex_is_held_by(&mutexes[k], u->x);
+}
+
 /* Told to back off, it is refused all of these, as the table in ww_mutex.c says. */
 static void is_refused(const struct user *u, const char *at)
 {
 	MUST(ww_is_contended(u->x));
 	for (; *at != ';'; at++) {
-		struct ww_mutex *m = mutex_of(*at);
+		unsigned k = index_of(*at);
 
-		MUST(ww_mutex_lock(m, u->x) == (ww_mutex_is_held_by(m, u->x) ? -EALREADY : -EINVAL) && !ww_mutex_trylock(m, u->x));
+		MUST(lock_plainly(u, k) == (has(u, k) ? -EALREADY : -EINVAL));
+		MUST(!(numbered ? ww_number_trylock(numbers[k], u->x) : ww_mutex_trylock(&mutexes[k], u->x)));
 	}
 }
 
 /* What it was told holds no longer once it holds nothing, and waits for that mutex by itself. */
-static void back_off_by_hand(const struct user *u, const char *at, struct ww_mutex *contended)
+static void back_off_by_hand(struct user *u, const char *at, unsigned contended)
 {
 	for (; *at != ';'; at++)
-		if (ww_mutex_is_held_by(mutex_of(*at), u->x))
-			ww_mutex_unlock(mutex_of(*at));
-	MUST(!ww_mutex_lock(contended, u->x) && !ww_is_contended(u->x));
+		if (has(u, index_of(*at)))
+			unlock(u, *at);
+	MUST(!lock_plainly(u, contended) && !ww_is_contended(u->x));
 	ww_acquire_unlock_all(u->x);
 }
 
@@ -260,13 +290,13 @@ static const char *loop(struct user *u, const char *at, bool by_hand)
 {
 	ww_until_all_locked(u->x) {
 		for (const char *k = at; *k != ';'; k++) {
-			int r = ww_mutex_lock(mutex_of(*k), u->x);
+			int r = lock_plainly(u, index_of(*k));
 
 			MUST(!r || r == -EDEADLK);
 			if (r)
 				is_refused(u, at);
 			if (r && by_hand) {
-				back_off_by_hand(u, at, mutex_of(*k));
+				back_off_by_hand(u, at, index_of(*k));
 				k = at - 1;
 			}
 			ww_retry_on_contention(u->x);
@@ -371,7 +401,8 @@ static void act(struct user *u, char what, const char *how)
 	case 'T': take_number(u, strchr(how, '.')); break;
 	case 'G': give_number(u, false); break;
 	case 'g': give_number(u, true); break;
-	case 'p': MUST(ww_number_put(mutex_of('m')->number, &c) == -EBUSY); break;
+	case 'P': put[il_me()] = !ww_number_put(numbers[2], &c); break;
+	case 'p': MUST(ww_number_put(numbers[2], &c) == -EBUSY); break;
 	case '+':
 		for (unsigned k = 0; k < 3; k++)
 			if (u->held[k])
@@ -387,7 +418,7 @@ void il_thread(const char *at)
 	char how[4] = "";
 
 	for (; *at; at++) {
-		if (strchr("?tin#!.", *at)) {
+		if (strchr("?tin!.", *at)) {
 			strncat(how, at, 1);
 			continue;
 		}
@@ -420,11 +451,8 @@ void il_thread(const char *at)
 	}
 }
 
-/*
- * A seat that two contexts have; a number that is put back while a thread waits for a seat to lock it; a thread that is
- * called off waits for the spare seat's mutex inside a guard.
- */
-const char *const il_fail_yet[] = { "handed-on", "number-put", "cancel-inside", NULL };
+/* A seat that two contexts have. */
+const char *const il_fail_yet[] = { "handed-on", NULL };
 
 const struct il_program il_programs[] = {
 	{ "lock", { "(a+A)", "(a+A)" }, CONTEXTS(4), 3 },
@@ -440,7 +468,13 @@ const struct il_program il_programs[] = {
 	{ "loop-by-hand-die", { "(Kab;+U)", "(Lba;+U)" }, CONTEXTS(4) | WAIT_DIE, 3 },
 	{ "list", { "(&ab;+AB)", "(&ba;+AB)" }, CONTEXTS(4), 3 },
 	{ "slow-loop", { "(ab+AB)", "(Lba;+U)" }, CONTEXTS(4), 3 },
-	{ "number", { "(#a+A)", "n#a+A" }, CONTEXTS(4), 3 },
+	{ "number", { "(a+A)", "na+A" }, CONTEXTS(4) | NUMBERED, 3 },
+	{ "number-try", { "(a+A)", "(?a+A)" }, CONTEXTS(4) | NUMBERED, 3 },
+	{ "number-slow", { "(ab+AB)", "(ba+BA)" }, CONTEXTS(4) | NUMBERED, 3 },
+	{ "number-slow-die", { "(ab+AB)", "(ba+BA)" }, CONTEXTS(4) | WAIT_DIE | NUMBERED, 3 },
+	{ "number-loop", { "(Lab;+U)", "(Lba;+U)" }, CONTEXTS(4) | NUMBERED, 3 },
+	{ "number-by-hand", { "(Kab;+U)", "(Lba;+U)" }, CONTEXTS(4) | NUMBERED, 2 },
+	{ "number-slow-loop", { "(ab+AB)", "(Lba;+U)" }, CONTEXTS(4) | NUMBERED, 3 },
 	{ "lock-spurious", { "(a+A)", "(a+A)" }, CONTEXTS(4) | IL_SPURIOUS, 3 },
 	{ "lock-few", { "(a+A)", "(ab+AB)" }, CONTEXTS(1), 3 },
 	{ "lock-few-3", { "na+A", "(a+A)", "nb+B" }, CONTEXTS(1), 2 },
@@ -501,7 +535,9 @@ const struct il_program il_programs[] = {
 	{ "numbers-aba", { "@1TTGG", "@1TTgG" }, CONTEXTS(4) | GIVEN, 3 },
 	{ "numbers-4", { "TG", "TG", "TG", "TG" }, CONTEXTS(4), 1 },
 	{ "numbers-scan", { "@3T1~2G3", "~12@2.TG", "~3@4TG" }, CONTEXTS(4) | GIVEN, 1 },
-	{ "number-put", { "(1~2)", "~1n#mM", "~1sp2" }, CONTEXTS(1), 1 },
+	{ "number-put", { "(1~2)", "~1nmM", "~1sp2" }, CONTEXTS(1) | NUMBERED, 2 },
+	{ "number-puts", { "(m+M)1P", "~1P" }, CONTEXTS(4) | NUMBERED, 3 },
+	{ "number-deadline", { "(a+A)(a+A)", "(ta+A)" }, CONTEXTS(4) | NUMBERED, 3 },
 	{ "free", { "(8)", "(9)", "_8_9F()" }, CONTEXTS(2), 2 },
 	{ "free-one", { "(8)", "(9)", "_8_9F()" }, CONTEXTS(1), 2 },
 	{ "free-seeker", { "(1~2)", "~1()", "~1s2F()" }, CONTEXTS(1), 2 },

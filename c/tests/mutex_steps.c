@@ -1,0 +1,222 @@
+/*
+ * What a call does between its steps, as ww.h asks it of whoever makes them: behind WW_AGAIN, when its seat may be inside a
+ * guard, it makes the next step and nothing else; and it asks whom to wake where somebody can be due, each time until nobody
+ * is.  The steps, what the library locks and what it asks the system for come by wrappers (ld --wrap).
+ */
+#include "mutex_test.h"
+#include "../ww_number.h"
+#include <stdarg.h>
+
+static DEFINE_WW_CLASS(wound_wait);
+static DEFINE_WD_CLASS(wait_die);
+static struct ww_class *c;
+static struct ww_mutex m;
+
+/* The call of this thread that was on its way last: its seat, what its last step answered, and whether it then asked to the end. */
+static __thread struct {
+	const ww_handle *seat;
+	int32_t answer;
+	bool asked;
+	unsigned seen; /* a bit for each answer */
+} at;
+static __thread struct ww_acquire_ctx *cancelled_amid; /* behind each step that answers WW_AGAIN, as by another thread */
+static void (*behind_a_stay)(void); /* as another thread would, once */
+
+static bool has_to_ask(int32_t answer) { return answer <= 0 || answer == WW_SLEEPS; }
+static void does_anything_else(void) { MUST(at.answer != WW_AGAIN); }
+
+int32_t __real_ww_go_on_(ww_handle *seat, uint32_t *rest);
+int32_t __wrap_ww_go_on_(ww_handle *seat, uint32_t *rest);
+int32_t __wrap_ww_go_on_(ww_handle *seat, uint32_t *rest)
+{
+	int32_t r;
+
+	MUST(!at.seat || at.asked == has_to_ask(at.answer));
+	r = __real_ww_go_on_(seat, rest);
+	if (r == WW_AGAIN && cancelled_amid)
+		ww_acquire_cancel(cancelled_amid);
+	at.seat = seat;
+	at.answer = r;
+	at.asked = false;
+	at.seen |= r > 0 ? 1u << r : 1;
+	if (r == WW_STAYS && behind_a_stay) {
+		void (*what)(void) = behind_a_stay;
+
+		behind_a_stay = NULL;
+		what();
+	}
+	return r;
+}
+
+int32_t __real_ww_next_wake_(ww_handle *seat);
+int32_t __wrap_ww_next_wake_(ww_handle *seat);
+int32_t __wrap_ww_next_wake_(ww_handle *seat)
+{
+	int32_t r;
+
+	does_anything_else();
+	r = __real_ww_next_wake_(seat);
+	if (seat == at.seat) {
+		MUST(has_to_ask(at.answer) && !at.asked);
+		at.asked = r < 0;
+	}
+	return r;
+}
+
+int32_t __real_ww_cancel_(ww_handle *seat, uint16_t victim);
+int32_t __wrap_ww_cancel_(ww_handle *seat, uint16_t victim);
+int32_t __wrap_ww_cancel_(ww_handle *seat, uint16_t victim)
+{
+	does_anything_else();
+	return __real_ww_cancel_(seat, victim);
+}
+
+int __real_pthread_mutex_lock(pthread_mutex_t *mutex);
+int __wrap_pthread_mutex_lock(pthread_mutex_t *mutex);
+int __wrap_pthread_mutex_lock(pthread_mutex_t *mutex)
+{
+	does_anything_else();
+	return __real_pthread_mutex_lock(mutex);
+}
+
+int __real_sched_yield(void);
+int __wrap_sched_yield(void);
+int __wrap_sched_yield(void)
+{
+	does_anything_else();
+	return __real_sched_yield();
+}
+
+long __real_syscall(long number, ...);
+long __wrap_syscall(long number, ...);
+long __wrap_syscall(long number, ...)
+{
+	long words[6];
+	va_list list;
+
+	va_start(list, number);
+	for (unsigned k = 0; k < 6; k++)
+		words[k] = va_arg(list, long);
+	va_end(list);
+	does_anything_else();
+	return __real_syscall(number, words[0], words[1], words[2], words[3], words[4], words[5]);
+}
+
+/* An older context of this thread holds the mutex, so each of these waits until it is called off, or until its time. */
+static void waits_in_vain(void)
+{
+	struct ww_acquire_ctx older, x;
+	struct timespec soon = in_ms(20);
+	unsigned stays = 1u << WW_STAYS | 1u << WW_YIELDS;
+
+	ww_acquire_init(&older, c);
+	ww_acquire_init(&x, c);
+	MUST(!ww_mutex_lock(&m, &older));
+	at.seen = 0;
+	MUST(ww_mutex_lock_until(&m, &x, &soon) == -ETIMEDOUT && at.asked);
+	MUST(at.seen & stays && at.seen & 1u << WW_AGAIN && at.seen & 1u << WW_SLEEPS);
+	cancelled_amid = &x;
+	for (unsigned k = 0; k < 3; k++)
+		MUST(ww_mutex_lock_interruptible(&m, &x) == -EINTR && at.asked);
+	cancelled_amid = NULL;
+	ww_mutex_unlock(&m);
+	ww_acquire_fini(&x);
+	ww_acquire_fini(&older);
+}
+
+static uint32_t number;
+static struct ww_acquire_ctx holder;
+
+static void is_released_just_then(void) { MUST(!ww_number_unlock(number, &holder) && ww_number_put(number, c) == -EBUSY); }
+
+/* Whoever waits for a number, and hasn't seen yet that it is free, gets it: it isn't put back meanwhile. */
+static void is_awaited(void)
+{
+	struct ww_acquire_ctx x;
+
+	ww_acquire_init(&holder, c);
+	ww_acquire_init(&x, c);
+	MUST(!ww_number_take(&number, c) && !ww_number_lock(number, &holder));
+	behind_a_stay = is_released_just_then;
+	MUST(!ww_number_lock(number, &x) && !behind_a_stay);
+	MUST(ww_number_put(number, c) == -EBUSY && !ww_number_unlock(number, &x) && !ww_number_put(number, c));
+	ww_acquire_fini(&x);
+	ww_acquire_fini(&holder);
+}
+
+/* ---- by several threads, where a step is made in vain inside a guard ---- */
+
+enum { WAITERS = 2, ROUNDS = 1000, LOCKS = 50 };
+static unsigned waiting;
+
+static bool are_waiting(void) { return __atomic_load_n(&waiting, __ATOMIC_SEQ_CST); }
+
+static void *waits(void *arg)
+{
+	for (unsigned k = 0; k < ROUNDS; k++) {
+		struct ww_acquire_ctx x;
+
+		ww_acquire_init(&x, c);
+		cancelled_amid = &x;
+		for (unsigned j = 0; j < LOCKS; j++) {
+			int r = ww_mutex_lock_interruptible(&m, &x);
+
+			MUST(!r || r == -EINTR);
+			if (!r)
+				ww_mutex_unlock(&m);
+		}
+		cancelled_amid = NULL;
+		ww_acquire_fini(&x);
+	}
+	__atomic_fetch_sub(&waiting, 1, __ATOMIC_SEQ_CST);
+	return arg;
+}
+
+static void *tries(void *arg)
+{
+	while (are_waiting()) {
+		struct ww_acquire_ctx x;
+
+		ww_acquire_init(&x, c);
+		for (unsigned k = 0; k < LOCKS; k++)
+			if (ww_mutex_trylock(&m, &x))
+				ww_mutex_unlock(&m);
+		ww_acquire_fini(&x);
+	}
+	return arg;
+}
+
+/* It has the lock that a cancel takes for most of the time. */
+static void *asks(void *arg)
+{
+	MUST(!ww_number_take(&number, c));
+	while (are_waiting())
+		MUST(!ww_number_is_locked(number, c));
+	MUST(!ww_number_put(number, c));
+	return arg;
+}
+
+static void in_a_storm(void)
+{
+	pthread_t threads[WAITERS + 2];
+
+	waiting = WAITERS;
+	for (unsigned k = 0; k < WAITERS + 2; k++)
+		threads[k] = begin_thread(k < WAITERS ? waits : k == WAITERS ? tries : asks, NULL);
+	for (unsigned k = 0; k < WAITERS + 2; k++)
+		end_thread(threads[k]);
+}
+
+int main(void)
+{
+	for (unsigned kind = 0; kind < 2; kind++) {
+		c = kind ? &wait_die : &wound_wait;
+		ww_mutex_init(&m, c);
+		waits_in_vain();
+		is_awaited();
+		in_a_storm();
+		MUST(!ww_mutex_destroy(&m) && !ww_class_free(c));
+	}
+	puts("mutex_steps: behind WW_AGAIN the next step, and nobody is asked for in vain");
+	return 0;
+}
