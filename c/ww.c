@@ -228,7 +228,7 @@ uint32_t ww_version(void) { return 10000 * WW_VERSION_MAJOR + 100 * WW_VERSION_M
 /* So many words have a bit for each lock. Without the thread sanitizer nobody asks which locks a seat holds. */
 static inline size_t words_for(uint32_t locks) { return SANITIZES_THREADS ? (locks + (size_t)63) / 64 : 0; }
 
-/* A world of seats that have done nothing yet, or NULL. */
+/* A world of seats that have done nothing yet, to which these handles are moved; or NULL. */
 static ww_world *lay_out(uint32_t locks, uint32_t seats, const ww_handle *handles)
 {
 	size_t words = seats * words_for(locks), at = sizeof(ww_world) + seats * sizeof(ww_seat);

@@ -119,7 +119,10 @@ uint32_t ww_held(const ww_seat *seat);
  */
 int ww_cancel(ww_seat *seat, ww_seat *victim);
 
-/* What the steps write: nobody else does, and nobody copies it. { 0 } is an empty one. */
+/*
+ * What the steps write: nobody else does, and nobody copies it.  Before the first step by it it may be moved, once ww_open_
+ * has filled it: then nobody looks at its old place again.  { 0 } is an empty one.
+ */
 typedef struct {
 	void *at;
 	uint32_t standing, below;

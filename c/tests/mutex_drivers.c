@@ -238,6 +238,43 @@ static void child_of(struct ww_mutex m[7], struct ww_acquire_ctx *x)
 	_exit(0);
 }
 
+static struct ww_mutex awaited = WW_MUTEX_INIT(&wound_wait);
+
+static void *waits_for_awaited(void *arg)
+{
+	MUST(!ww_mutex_lock(&awaited, NULL));
+	ww_mutex_unlock(&awaited);
+	return arg;
+}
+
+/* A thread waited for the mutex as the program forked: the child isn't told that somebody does, once its class is freed there. */
+static void whoever_waited_is_not_in_the_child(void)
+{
+	struct ww_acquire_ctx x;
+	pthread_t thread;
+	pid_t child;
+	int status;
+
+	ww_acquire_init(&x, &wound_wait);
+	MUST(!ww_mutex_lock(&awaited, &x));
+	thread = begin_thread(waits_for_awaited, NULL);
+	awaits_waiter(&awaited);
+	MUST((child = fork()) >= 0);
+	if (!child) {
+		ww_mutex_unlock(&awaited);
+		ww_acquire_fini(&x);
+		MUST(!ww_class_free(&wound_wait) && !ww_mutex_lock(&awaited, NULL));
+		ww_mutex_unlock(&awaited);
+		MUST(!ww_mutex_destroy(&awaited));
+		_exit(0);
+	}
+	MUST(waitpid(child, &status, 0) == child && !status);
+	ww_mutex_unlock(&awaited);
+	end_thread(thread);
+	ww_acquire_fini(&x);
+	MUST(!ww_mutex_destroy(&awaited) && !ww_class_free(&wound_wait));
+}
+
 /* A class that was open before has nothing for the child of a fork, until it is opened anew; then all but what is held gets numbers. */
 static void in_a_child(void)
 {
@@ -355,6 +392,7 @@ static void *leaves_it_held(void *arg)
 	return NULL;
 }
 
+/* Though it may have the memory of the one that is over, and has taken nothing yet. */
 static void *holds_nothing(void *arg)
 {
 	(void)arg;
@@ -362,21 +400,12 @@ static void *holds_nothing(void *arg)
 	return NULL;
 }
 
-/* By that which came first of all, and not by one that never called. */
-static void held_by_the_first_thread(void)
+static void held_by_a_thread_that_is_over(void)
 {
 	ww_mutex_init(&asked, c);
 	MUST(!ww_mutex_lock(&asked, NULL));
 	end_thread(begin_thread(holds_nothing, NULL));
-	MUST(ww_mutex_is_held_by(&asked, NULL));
 	ww_mutex_unlock(&asked);
-	MUST(!ww_mutex_destroy(&asked) && !ww_class_free(c));
-}
-
-/* Another may have the memory of the one that is over. */
-static void held_by_a_thread_that_is_over(void)
-{
-	ww_mutex_init(&asked, c);
 	end_thread(begin_thread(leaves_it_held, NULL));
 	end_thread(begin_thread(holds_nothing, NULL));
 	ww_mutex_unlock(&asked);
@@ -644,7 +673,6 @@ int main(void)
 
 	for (unsigned kind = 0; kind < 2; kind++) {
 		c = classes[kind];
-		held_by_the_first_thread();
 		there_before_any_call(kind ? &of_wait_die : &of_wound_wait);
 		base_has_an_address();
 		for (unsigned by = 0; by < 11; by++)
@@ -665,6 +693,7 @@ int main(void)
 		in_a_child();
 		locked_first_by_several();
 	}
+	whoever_waited_is_not_in_the_child();
 	puts("mutex_drivers: what the kernel's callers ask for");
 	return 0;
 }

@@ -414,14 +414,18 @@ static void *keeps(void *arg)
 	return NULL;
 }
 
-/* What it would wait for isn't there, so its context is let go; and it gets no number of a mutex that it destroyed. */
+/*
+ * What it would wait for isn't there, so its context acquires nothing more, and may release what it holds.  What the proved
+ * library has of its seat nobody else writes.  And it gets no number of a mutex that it destroyed.
+ */
 static void in_child(void)
 {
 	struct ww_mutex *list[] = { &a };
 
 	alarm(20);
 	MUST(ww_mutex_lock(&a, &x) == -EINVAL && ww_mutex_lock(&a, &x) == -EINVAL && !ww_mutex_trylock(&d, &x));
-	MUST(ww_mutex_lock_all(&x, list, 1) == -EINVAL);
+	MUST(ww_mutex_lock_all(&x, list, 1) == -EINVAL && ww_mutex_lock_slow_checked(&a, &x) == -EINVAL);
+	MUST(x.own->handle.at && ww_held_(&x.own->handle) == 1);
 	ww_mutex_unlock(&b);
 	ww_acquire_fini(&x);
 	MUST(!ww_mutex_destroy(&d) && ww_mutex_init_checked(&d, &few) == -EINVAL);
@@ -465,7 +469,7 @@ static void forks(bool amid_a_loop)
 	MUST(!ww_mutex_destroy(&a) && !ww_mutex_destroy(&b) && !ww_mutex_destroy(&d));
 }
 
-/* Though its thread had a seat at hand. */
+/* Of a thread that had just ended a context, and would begin the next one by the same seat: the child can't. */
 static void forks_with_a_seat_at_hand(void)
 {
 	pid_t child;

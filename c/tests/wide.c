@@ -62,12 +62,61 @@ static void each_seat_has_its_own(int kind, uint32_t count)
 	free(all);
 }
 
+/* What a seat holds, in the order in which it acquired it. */
+struct held {
+	ww_seat *seat;
+	unsigned count;
+	uint32_t locks[64];
+};
+
+static void releases(struct held *of, unsigned at)
+{
+	MUST(!ww_unlock(of->seat, of->locks[at]));
+	of->count--;
+	for (unsigned k = at; k < of->count; k++)
+		of->locks[k] = of->locks[k + 1];
+}
+
+/* Two seats acquire more locks than are at hand for each, and release the newest, or others between: each has its own. */
+static void keeps_long_lists(int kind)
+{
+	enum { LOCKS = 64, TURNS = 300, TIMES = 12000 };
+	struct held both[2] = { 0 };
+	ww_world *world;
+	unsigned drawn = 1;
+
+	MUST(!ww_open(&world, kind, LOCKS, 2));
+	for (unsigned k = 0; k < 2; k++)
+		MUST((both[k].seat = ww_seat_get(world)));
+	for (unsigned j = 0; j < TIMES * TURNS; j++) {
+		struct held *one = &both[next(&drawn) % 2];
+		bool grows = next(&drawn) % 8 < (j / 50 % 2 ? 1 : 6);
+		uint32_t n = next(&drawn) % LOCKS;
+
+		if (j % TURNS == 0)
+			MUST(!ww_begin(both[0].seat) && !ww_begin(both[1].seat));
+		if (grows && !ww_trylock(one->seat, n))
+			one->locks[one->count++] = n;
+		else if (!grows && one->count)
+			releases(one, next(&drawn) % 4 ? one->count - 1 : next(&drawn) % one->count);
+		for (unsigned k = 0; k < 2; k++) {
+			MUST(ww_held(both[k].seat) == both[k].count);
+			if (j % TURNS == TURNS - 1) {
+				MUST(!ww_unlock_all(both[k].seat) && !ww_held(both[k].seat) && !ww_end(both[k].seat));
+				both[k].count = 0;
+			}
+		}
+	}
+	MUST(!ww_seat_put(both[0].seat) && !ww_seat_put(both[1].seat) && !ww_close(world));
+}
+
 int main(void)
 {
 	for (int kind = 0; kind < 2; kind++) {
 		neither_has_the_others_locks(kind);
 		each_seat_has_its_own(kind, 17);
 		each_seat_has_its_own(kind, WW_MAX_SEATS);
+		keeps_long_lists(kind);
 	}
 	printf("wide words: a seat has what it acquired, and nothing else\n");
 	return 0;
