@@ -10,5 +10,6 @@ void shake(void);
 #define __atomic_exchange_n(...) (shake(), __atomic_exchange_n(__VA_ARGS__))
 #define __atomic_compare_exchange_n(...) (shake(), __atomic_compare_exchange_n(__VA_ARGS__))
 #define __atomic_fetch_add(...) (shake(), __atomic_fetch_add(__VA_ARGS__))
+#define __atomic_fetch_or(...) (shake(), __atomic_fetch_or(__VA_ARGS__))
 #define __atomic_fetch_sub(...) (shake(), __atomic_fetch_sub(__VA_ARGS__))
 #endif

@@ -652,7 +652,7 @@ static void store(volatile void *at, unsigned size, uint64_t value, int order, c
 	release(o, order, false);
 }
 
-enum change { EXCHANGES, ADDS, SUBTRACTS };
+enum change { EXCHANGES, ADDS, SUBTRACTS, ORS };
 
 static uint64_t change(volatile void *at, unsigned size, enum change how, uint64_t by, int order, const void *pc)
 {
@@ -662,7 +662,7 @@ static uint64_t change(volatile void *at, unsigned size, enum change how, uint64
 	commit(me());
 	check(at, size, WRITES_ATOMICALLY, pc);
 	old = get(at, size);
-	put(at, size, how == EXCHANGES ? by : how == ADDS ? old + by : old - by);
+	put(at, size, how == EXCHANGES ? by : how == ADDS ? old + by : how == ORS ? old | by : old - by);
 	happens(o, true);
 	acquire(o, order);
 	release(o, order, true);
@@ -698,7 +698,7 @@ static bool compare_exchange(volatile void *at, unsigned size, void *expected, u
 	type __tsan_atomic##n##_load(const volatile type *at, int order) { return (type)load(at, sizeof *at, order, PC); } \
 	void __tsan_atomic##n##_store(volatile type *at, type value, int order) { store(at, sizeof *at, value, order, PC); } \
 	CHANGE(n, type, exchange, EXCHANGES) CHANGE(n, type, fetch_add, ADDS) CHANGE(n, type, fetch_sub, SUBTRACTS) \
-	COMPARE(n, type, compare_exchange_strong) COMPARE(n, type, compare_exchange_weak)
+	CHANGE(n, type, fetch_or, ORS) COMPARE(n, type, compare_exchange_strong) COMPARE(n, type, compare_exchange_weak)
 HOOKS(8, uint8_t)
 HOOKS(32, uint32_t)
 HOOKS(64, uint64_t)

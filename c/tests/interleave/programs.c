@@ -17,9 +17,9 @@
  *	c	cancels			1-9	something has happened	~1	waits for that, which orders	_1	which doesn't	=1	it has
  *	s w	waits until somebody waits for a context, unless 4 has happened; until somebody waits for m
  *	F	frees the class, asking until it is free	v	looks at its counts
- *	T G g	takes a number, if one is free (.: one is); puts back that taken last, or first	p	puts the number of m, which is to be -EBUSY
- *	Where a program is NUMBERED all mutexes are known by their numbers.
- *	@1	the thread's stack of numbers is this one	%0	of a world: worlds.c
+ *	T G g	takes a number, if one is free (.: one is); puts back that taken last, or first
+ *	p P	puts the number of m, which is to be -EBUSY; which one thread is to have done	@1	the thread's stack of numbers is this one
+ *	Where a program is NUMBERED all mutexes are known by their numbers.	%0	of a world: worlds.c
  */
 #define _GNU_SOURCE
 #include "interleave.h"
@@ -48,6 +48,7 @@ static bool numbered;
 static uint32_t numbers[3];
 static struct ww_acquire_ctx contexts[IL_THREADS + 1][2], *shared, *given;
 static unsigned long sum[3], added[3][IL_THREADS + 1];
+static bool put[IL_THREADS + 1];
 static uint32_t inside, most, happened[10], refs, owner[4], cancels, met;
 static struct timespec soon;
 
@@ -58,10 +59,11 @@ static const char letters[] = "abm";
 static unsigned index_of(char letter) { return tolower(letter) == 'm' ? 2 : (unsigned)(tolower(letter) - 'a'); }
 static struct ww_mutex *mutex_of(char letter) { return &mutexes[index_of(letter)]; }
 
-static bool names(const struct il_program *p, char letter)
+/* Whether the text of a thread has one of these letters. */
+static bool names(const struct il_program *p, const char *some)
 {
 	for (unsigned k = 0; k < IL_THREADS && p->threads[k]; k++)
-		if (strchr(p->threads[k], letter))
+		if (strpbrk(p->threads[k], some))
 			return true;
 	return false;
 }
@@ -83,7 +85,7 @@ void il_setup(const struct il_program *p)
 	shared = il_new(sizeof *shared);
 	numbered = p->flags & NUMBERED;
 	for (const char *at = p->flags & (STATIC | NUMBERED) ? "" : "abm"; *at; at++)
-		if (names(p, *at))
+		if (names(p, (char[]){ *at, 0 }))
 			ww_mutex_init(mutex_of(*at), &c);
 	for (unsigned k = 0; numbered && k < 3; k++)
 		MUST(!ww_number_take(&numbers[k], &c));
@@ -96,13 +98,12 @@ void il_setup(const struct il_program *p)
 		MUST(!ww_number_take(&owner[3], &c));
 	for (unsigned k = 0; p->flags & GIVEN && k < 2; k++)
 		MUST(!ww_number_put(k, &c));
-	if (names(p, '%'))
+	if (names(p, "%"))
 		il_open_world();
 	for (unsigned k = 0; k < IL_THREADS && p->threads[k]; k++)
 		refs += !!strchr(p->threads[k], '-');
-	for (unsigned k = 0; k < IL_THREADS && p->threads[k]; k++)
-		if (strpbrk(p->threads[k], "[tl") && !soon.tv_sec)
-			soon = il_in(1000000);
+	if (names(p, "[t"))
+		soon = il_in(1000000);
 }
 
 /* All that was taken was put back. */
@@ -112,20 +113,19 @@ void il_check(const struct il_program *p)
 
 	for (unsigned k = 0; k < 3; k++) {
 		MUST(sum[k] == added[k][1] + added[k][2] + added[k][3] + added[k][4]);
-		if ((k < 2 || !names(p, 'D')) && mutexes[k].pool)
+		if ((k < 2 || !names(p, "D")) && mutexes[k].pool)
 			MUST(!ww_mutex_destroy(&mutexes[k]));
 	}
-	MUST(met <= cancels);
+	MUST(met <= cancels && put[1] + put[2] == names(p, "P"));
 #ifdef WW_DEBUG
 	/* Of these, each call is right, and none is dangerous. */
-	if (!names(p, 'n') && !names(p, '>') && !names(p, 'L') && !names(p, 'K') && !names(p, 'd') && !names(p, 'D') && !names(p, 'F'))
-		MUST(!ww_debug_faults() && !ww_debug_dangers());
+	MUST(names(p, "n>LKdDFP") || (!ww_debug_faults() && !ww_debug_dangers()));
 #endif
 	if (p->flags & GIVEN)
 		MUST(!ww_number_put(2, &c));
 	for (unsigned k = 0; numbered && k < 3; k++)
-		MUST(!ww_number_put(numbers[k], &c));
-	if (names(p, '%'))
+		MUST(ww_number_put(numbers[k], &c) == (k == 2 && names(p, "P") ? -EINVAL : 0));
+	if (names(p, "%"))
 		il_close_world();
 	if (c.pool) {
 		MUST(!c.pool->seekers && !c.pool->first);
@@ -171,7 +171,10 @@ static void unlock(struct user *u, char letter)
 	u->held[k] = FREE;
 }
 
-static int lock_plainly(const struct user *u, unsigned k) { return numbered ? ww_number_lock(numbers[k], u->x) : ww_mutex_lock(&mutexes[k], u->x); }
+static int lock_plainly(const struct user *u, unsigned k)
+{
+	return numbered ? ww_number_lock(numbers[k], u->x) : ww_mutex_lock(&mutexes[k], u->x);
+}
 
 /* All that it held by its context it holds again, and this one. */
 static void back_off(struct user *u, char letter)
@@ -256,26 +259,30 @@ static const char *past(const char *at, char closes)
 	return *at ? at : at - 1;
 }
 
+static bool has(const struct user *u, unsigned k)
+{
+	return numbered ? ww_number_is_held(numbers[k], u->x) : ww_mutex_is_held_by(&mutexes[k], u->x);
+}
+
 /* Told to back off, it is refused all of these, as the table in ww_mutex.c says. */
 static void is_refused(const struct user *u, const char *at)
 {
 	MUST(ww_is_contended(u->x));
 	for (; *at != ';'; at++) {
 		unsigned k = index_of(*at);
-		int r = lock_plainly(u, k);
 
-		MUST(numbered ? r == -EALREADY || r == -EINVAL : r == (ww_mutex_is_held_by(&mutexes[k], u->x) ? -EALREADY : -EINVAL));
-		MUST(numbered ? !ww_number_trylock(numbers[k], u->x) : !ww_mutex_trylock(&mutexes[k], u->x));
+		MUST(lock_plainly(u, k) == (has(u, k) ? -EALREADY : -EINVAL));
+		MUST(!(numbered ? ww_number_trylock(numbers[k], u->x) : ww_mutex_trylock(&mutexes[k], u->x)));
 	}
 }
 
 /* What it was told holds no longer once it holds nothing, and waits for that mutex by itself. */
-static void back_off_by_hand(const struct user *u, const char *at, struct ww_mutex *contended)
+static void back_off_by_hand(struct user *u, const char *at, unsigned contended)
 {
 	for (; *at != ';'; at++)
-		if (ww_mutex_is_held_by(mutex_of(*at), u->x))
-			ww_mutex_unlock(mutex_of(*at));
-	MUST(!ww_mutex_lock(contended, u->x) && !ww_is_contended(u->x));
+		if (has(u, index_of(*at)))
+			unlock(u, *at);
+	MUST(!lock_plainly(u, contended) && !ww_is_contended(u->x));
 	ww_acquire_unlock_all(u->x);
 }
 
@@ -289,7 +296,7 @@ static const char *loop(struct user *u, const char *at, bool by_hand)
 			if (r)
 				is_refused(u, at);
 			if (r && by_hand) {
-				back_off_by_hand(u, at, mutex_of(*k));
+				back_off_by_hand(u, at, index_of(*k));
 				k = at - 1;
 			}
 			ww_retry_on_contention(u->x);
@@ -394,6 +401,7 @@ static void act(struct user *u, char what, const char *how)
 	case 'T': take_number(u, strchr(how, '.')); break;
 	case 'G': give_number(u, false); break;
 	case 'g': give_number(u, true); break;
+	case 'P': put[il_me()] = !ww_number_put(numbers[2], &c); break;
 	case 'p': MUST(ww_number_put(numbers[2], &c) == -EBUSY); break;
 	case '+':
 		for (unsigned k = 0; k < 3; k++)
@@ -465,6 +473,7 @@ const struct il_program il_programs[] = {
 	{ "number-slow", { "(ab+AB)", "(ba+BA)" }, CONTEXTS(4) | NUMBERED, 3 },
 	{ "number-slow-die", { "(ab+AB)", "(ba+BA)" }, CONTEXTS(4) | WAIT_DIE | NUMBERED, 3 },
 	{ "number-loop", { "(Lab;+U)", "(Lba;+U)" }, CONTEXTS(4) | NUMBERED, 3 },
+	{ "number-by-hand", { "(Kab;+U)", "(Lba;+U)" }, CONTEXTS(4) | NUMBERED, 2 },
 	{ "number-slow-loop", { "(ab+AB)", "(Lba;+U)" }, CONTEXTS(4) | NUMBERED, 3 },
 	{ "lock-spurious", { "(a+A)", "(a+A)" }, CONTEXTS(4) | IL_SPURIOUS, 3 },
 	{ "lock-few", { "(a+A)", "(ab+AB)" }, CONTEXTS(1), 3 },
@@ -527,6 +536,7 @@ const struct il_program il_programs[] = {
 	{ "numbers-4", { "TG", "TG", "TG", "TG" }, CONTEXTS(4), 1 },
 	{ "numbers-scan", { "@3T1~2G3", "~12@2.TG", "~3@4TG" }, CONTEXTS(4) | GIVEN, 1 },
 	{ "number-put", { "(1~2)", "~1nmM", "~1sp2" }, CONTEXTS(1) | NUMBERED, 2 },
+	{ "number-puts", { "(m+M)1P", "~1P" }, CONTEXTS(4) | NUMBERED, 3 },
 	{ "number-deadline", { "(a+A)(a+A)", "(ta+A)" }, CONTEXTS(4) | NUMBERED, 3 },
 	{ "free", { "(8)", "(9)", "_8_9F()" }, CONTEXTS(2), 2 },
 	{ "free-one", { "(8)", "(9)", "_8_9F()" }, CONTEXTS(1), 2 },
