@@ -97,7 +97,7 @@ impl Hand {
         self.patience.waited()
     }
 
-    /// One context or solo less.
+    /// One context or solo less. Where its contexts met others, it rests first.
     #[inline(always)]
     pub(crate) fn spend(&mut self)
         requires some { 1 ≤ self.old.left }
@@ -106,6 +106,7 @@ impl Hand {
         ensures may { MayBegin self.new }
     {
         self.left -= 1;
+        self.patience.pace();
     }
 
     /// What it is at its table, where it holds nothing.

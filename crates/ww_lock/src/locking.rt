@@ -43,7 +43,6 @@ impl Hand {
         match self.seat.try_take(&world.board, u32::from(n)) {
             Some(node) => {
                 add(&mut self.marks, &mut self.seen, n, node);
-                self.patience.win();
                 true
             }
             None => false,

@@ -59,6 +59,7 @@ impl Pass {
     }
 
     /// One context or solo less; a spent pass is returned.
+    #[inline(always)]
     fn spend(self) -> Result<Box<Hand>, Pass>
         ensures ok { IfOk result (λ hand. IsSpent self hand.value) }
         ensures err { IfErr result (λ p. (self.left ≡ 0) × (p ≡ self)) }

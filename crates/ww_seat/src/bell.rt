@@ -2,10 +2,18 @@
 ghost use Rattle.std.specs.Prelude.{◌≡◌, ◌+◌, true};
 ghost use Rattle.std.specs.Arc.{arc_value};
 
+use crate::staying_away::pause_for;
 use crossbeam_utils::rule::{Outcome, Protocol};
 use crossbeam_utils::sync::parker::{Pass, RuledParker, RuledUnparker};
 use std::alloc::{AllocError, Global};
-use std::sync::Wait;
+use std::sync::atomic::{AtomicBool, Ordering};
+use std::sync::{Arc, Wait};
+
+/// How often a waiter listens before it sleeps, and for how many pauses before it listens again. It lets nobody else run
+/// for that: where others want its processor, it would lose a time slice.
+const LISTENS: u32 = 256;
+
+const PAUSES: u32 = 8;
 
 /// Nothing is asked of a token. A pass counts the tokens that it gave, or took.
 pub(crate) struct Rings;
@@ -35,6 +43,8 @@ impl Outcome<bool, u64> for Heard {
 pub struct Parker {
     parker: RuledParker<u64, Rings>,
     pass: Pass<u64>,
+    /// Whether a bell rang since it last listened. No contract speaks of it: it only ends the pauses before a sleep.
+    rang: Arc<AtomicBool, Global>,
     ghost own: { pass.table_id ≡ (arc_value parker.unparker.state).shared.table_id },
 }
 
@@ -48,7 +58,8 @@ impl Parker {
         ensures { IfOk result (λ parker. taken_at parker ≡ 0) }
     {
         let (parker, pass) = RuledParker::ruled(alloc)?;
-        Ok(Parker { parker, pass })
+        let rang = Arc::new(alloc, AtomicBool::new(false))?;
+        Ok(Parker { parker, pass, rang })
     }
 
     /// A wire that leads to it.
@@ -56,7 +67,19 @@ impl Parker {
         ensures { IfOk result (λ wire. leads_to wire ≡ place_of self.now) }
     {
         let unparker = self.parker.unparker().clone()?;
-        Ok(Wire { unparker })
+        let rang = Arc::try_clone(&self.rang)?;
+        Ok(Wire { unparker, rang })
+    }
+
+    /// Gives others a while to ring: a sleep behind that costs no system call.
+    pub(crate) fn listen(&self) {
+        for _ in 0..LISTENS {
+            if self.rang.load(Ordering::SeqCst) {
+                break;
+            }
+            pause_for(PAUSES);
+        }
+        self.rang.store(false, Ordering::SeqCst);
     }
 
     /// Sleeps until its token is there, and takes it.
@@ -72,6 +95,7 @@ impl Parker {
 #[derive(Drop)]
 pub struct Wire {
     unparker: RuledUnparker<u64, Rings>,
+    rang: Arc<AtomicBool, Global>,
 }
 
 /// Wakes whoever sleeps on one parker, by its token. It counts the tokens that it gave.
@@ -79,6 +103,7 @@ pub struct Wire {
 pub struct Bell {
     unparker: RuledUnparker<u64, Rings>,
     pass: Pass<u64>,
+    rang: Arc<AtomicBool, Global>,
     ghost own: { pass.table_id ≡ (arc_value unparker.state).shared.table_id },
 }
 
@@ -93,7 +118,12 @@ impl Bell {
     {
         let unparker = wire.unparker.clone()?;
         let pass = unparker.pass();
-        Ok(Bell { unparker, pass })
+        let rang = Arc::try_clone(&wire.rang)?;
+        Ok(Bell {
+            unparker,
+            pass,
+            rang,
+        })
     }
 
     /// Gives the token, and wakes whoever sleeps there.
@@ -102,5 +132,6 @@ impl Bell {
         ensures placed { rings_at self.new ≡ rings_at self.old }
     {
         self.unparker.unpark_as::<Rang>(&mut self.pass);
+        self.rang.store(true, Ordering::SeqCst);
     }
 }

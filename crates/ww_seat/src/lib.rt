@@ -10,6 +10,7 @@ mod guard;
 mod interrupting;
 mod leaving;
 mod look;
+mod pacing;
 mod patience;
 mod resting;
 mod seats;

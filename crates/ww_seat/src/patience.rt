@@ -1,15 +1,12 @@
 //! How a pass waits for locks.
 
 use crate::bell::{Bell, Parker};
+use crate::pacing::Pace;
 use crate::resting::{Memory, Rest, Stay};
 use crate::seats::Seat;
-use crate::staying_away::pause_for;
+use crate::staying_away::rest_for;
 use std::sync::Wait;
 use ww_word::wide::Owner;
-
-/// How many pauses a waiter gives the owner before it sleeps. It lets nobody else run for that: where others want its
-/// processor, it would lose a time slice.
-const PAUSES: u32 = 512;
 
 /// How a pass waited since its world was opened. Each count stops at the greatest number.
 #[derive(Clone, Copy, Debug, PartialEq, Eq)]
@@ -30,6 +27,7 @@ pub struct Patience {
     /// Only the pass's own thread parks on it.
     parker: Parker,
     memory: Memory,
+    pace: Pace,
     waited: Waited,
 }
 
@@ -51,7 +49,8 @@ impl Patience {
         };
         Patience {
             parker,
-            memory: Memory::new(),
+            memory: Memory::of_pass(),
+            pace: Pace::new(),
             waited,
         }
     }
@@ -60,18 +59,29 @@ impl Patience {
         self.waited
     }
 
-    /// A first try has won.
-    #[inline]
-    pub fn win(&mut self)
+    /// A context is about to begin, of a seat that holds nothing.
+    #[inline(always)]
+    pub fn pace(&mut self)
         ensures { SleepsNot self.old self.new }
     {
-        self.memory.win();
+        if !self.pace.is_clear() {
+            self.rest();
+        }
+    }
+
+    /// Rests before a context, where the last ones met others.
+    #[cold]
+    fn rest(&mut self)
+        ensures { SleepsNot self.old self.new }
+    {
+        rest_for(self.pace.rest());
     }
 
     /// A first try has lost.
     pub(crate) fn lose(&mut self)
         ensures { SleepsNot self.old self.new }
     {
+        self.pace.meet();
         self.waited.lost = self.waited.lost.saturating_add(1);
     }
 
@@ -106,7 +116,7 @@ impl Patience {
         ensures heard { heard self.new ≡ heard self.old + 1 }
     {
         self.waited.sleeps = self.waited.sleeps.saturating_add(1);
-        pause_for(PAUSES);
+        self.parker.listen();
         self.parker.park(rt);
     }
 }

@@ -13,19 +13,38 @@ pub const MOST_GLANCES: u8 = 16;
 /// How many pauses a call rests at most, all its rests together.
 pub const MOST_PAUSES: u32 = 12_416;
 
-/// A context that still owns the lock after so many pauses works for longer.
-const MOMENT: u32 = 128;
-
 /// A call joins once so many contexts have begun since the first that it saw, however few pauses that took: on busy
 /// processors other programs may have run meanwhile.
 const LATE: u64 = 4096;
 
-/// A seat that holds locks rests shortly, since others may wait for these: so often, and for so many pauses at most.
-const RESTS_HOLDING: u8 = 8;
+/// In what seats of desks and of passes differ.
+#[derive(Clone, Copy, Debug, PartialEq, Eq)]
+struct Manner {
+    /// A context that still owns the lock after so many pauses works for longer.
+    moment: u32,
+    /// A seat that holds locks rests shortly, since others may wait for these: so often, and for so many pauses at most.
+    rests_holding: u8,
+    pauses_holding: u32,
+    /// Whether a first try that it loses then counts as lost to an owner who is quick.
+    counts_holding: bool,
+}
 
-const PAUSES_HOLDING: u32 = 8;
+const OF_DESKS: Manner = Manner {
+    moment: 128,
+    rests_holding: 8,
+    pauses_holding: 8,
+    counts_holding: true,
+};
 
-/// The same for a seat that holds nothing, if the owner is quick.
+/// A pass rests between its contexts too, where they keep meeting others (`Pace`).
+const OF_PASSES: Manner = Manner {
+    moment: 12,
+    rests_holding: 12,
+    pauses_holding: 32,
+    counts_holding: false,
+};
+
+/// How often a seat that holds nothing rests, and for how many pauses at most, if the owner is quick.
 const RESTS_QUICK: u8 = 2;
 
 const PAUSES_QUICK: u32 = 6144;
@@ -56,15 +75,35 @@ pub fn limits()
 /// What a seat remembers of its first tries, from call to call. No contract speaks of it.
 #[derive(Drop)]
 pub struct Memory {
-    /// Grows with each first try that is lost to an owner who is quick, and shrinks again where they win.
+    /// Grows with each first try that is lost to an owner who is quick, and shrinks again where owners work; of a desk also
+    /// where first tries win.
     losses: u32,
     /// The first tries that won since `losses` last shrank.
     wins: u32,
+    is_pass: bool,
 }
 
 impl Memory {
+    /// Of a desk.
     pub fn new() -> Memory {
-        Memory { losses: 0, wins: 0 }
+        Memory {
+            losses: 0,
+            wins: 0,
+            is_pass: false,
+        }
+    }
+
+    /// Of a pass, which doesn't tell when it wins: that would cost each of its locks a test.
+    pub(crate) fn of_pass() -> Memory {
+        Memory {
+            losses: 0,
+            wins: 0,
+            is_pass: true,
+        }
+    }
+
+    fn manner(&self) -> Manner {
+        if self.is_pass { OF_PASSES } else { OF_DESKS }
     }
 
     /// A first try has won.
@@ -178,7 +217,7 @@ impl Stay {
         if ends || self.glances == 0 {
             return None;
         }
-        let wanted = self.seen.pauses();
+        let wanted = self.seen.pauses(memory.manner().moment);
         let pauses = wanted.min(self.pauses);
         self.pauses -= pauses;
         Some(Rest {
@@ -234,8 +273,11 @@ impl Seen {
     fn learned(self, memory: &mut Memory, holds: bool, owner: Owner) -> Seen {
         match self {
             Seen::Nothing if holds => {
-                memory.lose();
-                Seen::planned(RESTS_HOLDING, 1, PAUSES_HOLDING)
+                let manner = memory.manner();
+                if manner.counts_holding {
+                    memory.lose();
+                }
+                Seen::planned(manner.rests_holding, 1, manner.pauses_holding)
             }
             Seen::Nothing => {
                 if owner.seat().is_none() {
@@ -268,11 +310,11 @@ impl Seen {
         matches!(self, Seen::Enough(plan) if plan.rests == 0)
     }
 
-    /// The pauses of the next rest.
-    fn pauses(&mut self) -> u32 {
+    /// The pauses of the next rest; how many make a moment.
+    fn pauses(&mut self, moment: u32) -> u32 {
         match self {
             Seen::Enough(plan) => plan.rest(),
-            _ => MOMENT,
+            _ => moment,
         }
     }
 }

@@ -6,7 +6,7 @@ use Rattle.ww_lock.specs.Hands.{carried_of}
 use Rattle.ww_lock.specs.Moves.{IsTried}
 use Rattle.ww_lock.specs.declared.hand.Hand.TheInside.{Inside}
 use Rattle.ww_lock.proofs.Carrying.{Takes, at_board, may_try, even_still, takes, missed}
-use Rattle.ww_lock.proofs.hand.Hand.try_take.Goals.{After-win}
+use Rattle.ww_lock.proofs.hand.Hand.try_take.Goals.{After-add}
 use Rattle.ww_lock.proofs.hand.Hand.try_take.Goals as goal
 
 pub try_take-requires-clause-may : goal.try_take-requires-clause-may
@@ -16,10 +16,10 @@ try_take-requires-clause-may c = let h = c.self.inside in
     may_try h c.args.self.now c.world.inside.board c.args.n c.from.result c.self.view_is
     c.self.invariant at c.requires.may c.from.ensures
 
-abbrev taken : After-win → Inside
-taken c = record (c.self.inside) { seat = c.try_take.new.self; marks = c.add.new.marks; seen = c.add.new.seen; patience = c.win.new.self }
+abbrev taken : After-add → Inside
+taken c = record (c.self.inside) { seat = c.try_take.new.self; marks = c.add.new.marks; seen = c.add.new.seen }
 
-took : (c : After-win) → Takes c.self.inside (taken c) (c.self.inside.seat.me.0.part.core.tries + 1) c.args.n c.in-Some.node
+took : (c : After-add) → Takes c.self.inside (taken c) (c.self.inside.seat.me.0.part.core.tries + 1) c.args.n c.in-Some.node
 took c =
     let h = c.self.inside in
     let may = subst (MayLock c.args.n) (sym c.self.view_is) c.requires.may in
@@ -28,9 +28,9 @@ took c =
     c.in-Some.ensures.0.back e
     (record {
       bells = refl;
-      parker = c.win.ensures.parker;
-      even = even_still h.seat.me c.try_take.new.self.me h.patience c.win.new.self h.bells.items c.in-Some.ensures.0.out
-          (ap (λ (a : Account). a.counts.cancelled) e.now) c.win.ensures.heard c.self.invariant.even;
+      parker = refl;
+      even = even_still h.seat.me c.try_take.new.self.me h.patience h.patience h.bells.items c.in-Some.ensures.0.out
+          (ap (λ (a : Account). a.counts.cancelled) e.now) refl c.self.invariant.even;
     })
     refl c.add.ensures.marks c.add.ensures.seen
 
