@@ -7,4 +7,6 @@ pub mod Ends
 pub mod Unlocking
 pub mod Standstill
 pub mod Small
+pub mod Deadlocked
+pub mod Doomed
 pub mod Sleepers

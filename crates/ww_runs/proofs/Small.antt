@@ -33,7 +33,7 @@ use Rattle.ww_rule.specs.Steps.{drawing, knowing, first_seat, without_first}
 use Rattle.ww_rule.specs.Guards.{entering, exiting}
 use Rattle.ww_rule.specs.Waiting.{joining}
 use Rattle.ww_rule.proofs.Seats.{opens, opens_start}
-use Rattle.ww_wakes.specs.Scene.{Step, performs, leaves_to_sleep, finds_no_cancel, falls_asleep}
+use Rattle.ww_wakes.specs.Scene.{Step, performs, leaves_to_sleep, finds_no_sign, finds_no_cancel, falls_asleep}
 use Rattle.ww_runs.specs.Moment.{Moment, wakes_owed, Acts}
 use Rattle.ww_runs.specs.Moves.{MakesEvent, Looks, StandsStill}
 use Rattle.ww_runs.specs.Runs.{IsOfRun, goes_on}
@@ -73,21 +73,28 @@ ruled_0 kind = let none : AreNodes [] = record { few = omega arith; closed = tt 
       (λ n low. absurd (omega arith)) line_there).0,
 )
 
--- ---- a moment of a run with this table, and these locks, at which no token was given yet
+-- ---- a moment of a run with this table, and these locks, at which so many tokens were given, and nobody has risen yet
 
-pub record At (key : Start) (table : St) (core : State) (sleeps heeds : ℕ → Bool) : Type 0 where
+pub record AtWith (key : Start) (table : St) (core : State) (given : ℕ → ℕ → ℕ) (has sleeps heeds : ℕ → Bool) : Type 0 where
   pub moment : Moment key
   pub run : IsOfRun moment
   pub is_table : moment.table ≡ table
   pub is_core : moment.ruled.core ≡ core
-  pub rung : moment.rung ≡ (λ _ _. 0)
+  pub rung : moment.rung ≡ given
   pub risen : moment.risen ≡ (λ _. 0)
-  pub token : moment.token ≡ (λ _. false)
+  pub token : moment.token ≡ has
   pub asleep : moment.asleep ≡ sleeps
   pub heeding : moment.heeds ≡ heeds
 
-abbrev nobody : ℕ → Bool
+abbrev pub nobody : ℕ → Bool
 nobody _ = false
+
+abbrev pub nothing : ℕ → ℕ → ℕ
+nothing _ _ = 0
+
+-- ... no token was given
+abbrev pub At : Start → St → State → (ℕ → Bool) → (ℕ → Bool) → Type 0
+At key table core sleeps heeds = AtWith key table core nothing nobody sleeps heeds
 
 -- the second alone
 abbrev one : ℕ → Bool
@@ -106,11 +113,12 @@ at_0 kind = let r = ruled_0 kind in let b = new_tables_begin (small kind) (table
   heeding = b.first.heeds;
 }
 
-module _ {key : Start} {table : St} {core : State} {sleeps heeds : ℕ → Bool} (a : At key table core sleeps heeds) where
+module _ {key : Start} {table : St} {core : State} {given : ℕ → ℕ → ℕ} {has sleeps heeds : ℕ → Bool}
+    (a : AtWith key table core given has sleeps heeds) where
   -- ... and one that follows it by an event
-  after_event : (e : Event) (x : Option Step) (then : St) (s : St) (moved : Moved a.moment x s) → s ≡ then →
+  unfoldable pub after_event : (e : Event) (x : Option Step) (then : St) (s : St) (moved : Moved a.moment x s) → s ≡ then →
       MakesEvent a.moment moved.moment e → (now : ℕ → Bool) → moved.moment.heeds ≡ now →
-      At key then (after core e) sleeps now
+      AtWith key then (after core e) given has sleeps now
   after_event e x then s moved is makes now heeding = record {
     moment = moved.moment;
     run = runs.goes_on a.moment moved.moment x a.run moved.follows;
@@ -124,8 +132,8 @@ module _ {key : Start} {table : St} {core : State} {sleeps heeds : ℕ → Bool}
   }
 
   -- ... or by none
-  after_look : (t : ℕ) (x : Option Step) (then : St) (s : St) (moved : Moved a.moment x s) → s ≡ then →
-      Looks a.moment moved.moment t → At key then core sleeps heeds
+  pub after_look : (t : ℕ) (x : Option Step) (then : St) (s : St) (moved : Moved a.moment x s) → s ≡ then →
+      Looks a.moment moved.moment t → AtWith key then core given has sleeps heeds
   after_look t x then s moved is looks = record {
     moment = moved.moment;
     run = runs.goes_on a.moment moved.moment x a.run moved.follows;
@@ -139,8 +147,8 @@ module _ {key : Start} {table : St} {core : State} {sleeps heeds : ℕ → Bool}
   }
 
   -- ... or without any change
-  after_none : (x : Option Step) (then : St) (s : St) (moved : Moved a.moment x s) → s ≡ then →
-      StandsStill a.moment moved.moment → At key then core sleeps heeds
+  pub after_none : (x : Option Step) (then : St) (s : St) (moved : Moved a.moment x s) → s ≡ then →
+      StandsStill a.moment moved.moment → AtWith key then core given has sleeps heeds
   after_none x then s moved is still = record {
     moment = moved.moment;
     run = runs.goes_on a.moment moved.moment x a.run moved.follows;
@@ -154,7 +162,7 @@ module _ {key : Start} {table : St} {core : State} {sleeps heeds : ℕ → Bool}
   }
 
   -- what a word is
-  word_there : (i k : ℕ) → slice_index table.words i ≡ k → slice_index a.moment.table.words i ≡ k
+  pub word_there : (i k : ℕ) → slice_index table.words i ≡ k → slice_index a.moment.table.words i ≡ k
   word_there i k is = ap (λ (t : St). slice_index t.words i) a.is_table ∙ is
 
   module _ (id : ℕ) (me : Sat) (here : get_elem? table.views id ≡ some me.0) (seated : me.0.seated ≡ true)
@@ -174,29 +182,34 @@ module _ {key : Start} {table : St} {core : State} {sleeps heeds : ℕ → Bool}
             ∙ ap (λ (p : Part). p.core.naps) part_there;
       }
 
-      moves_there : (x : Option Step) (s : St) → Plays a.moment id me x s → Moved a.moment x s
+      pub moves_there : (x : Option Step) (s : St) → Plays a.moment id me x s → Moved a.moment x s
       moves_there x s plays = plays_are_moves key a.moment id me x s here_there seated acts_there plays
 
       -- ... after a play: an event, an exit in order to sleep, a look for the own cancel, or none of these
-      performs_there : (e : Event) (then : St) (s : St) → s ≡ then → Plays a.moment id me (Some (performs e)) s →
-          At key then (after core e) sleeps heeds
+      pub performs_there : (e : Event) (then : St) (s : St) → s ≡ then → Plays a.moment id me (Some (performs e)) s →
+          AtWith key then (after core e) given has sleeps heeds
       performs_there e then s is plays = let moved = moves_there (Some (performs e)) s plays in
           after_event e (Some (performs e)) then s moved is moved.follows.makes heeds
           (moved.follows.heeds ∙ a.heeding)
 
-      leaves_there : (t n : ℕ) (then : St) (s : St) → s ≡ then →
-          Plays a.moment id me (Some (leaves_to_sleep t n true)) s →
-          At key then (after core (Unguard t n)) sleeps (put heeds t true)
-      leaves_there t n then s is plays = let moved = moves_there (Some (leaves_to_sleep t n true)) s plays in
-          after_event (Unguard t n) (Some (leaves_to_sleep t n true)) then s moved is moved.follows.makes
-          (put heeds t true) (moved.follows.noted ∙ ap (λ (f : ℕ → Bool). put f t true) a.heeding)
+      pub leaves_there : (t n : ℕ) (h : Bool) (then : St) (s : St) → s ≡ then →
+          Plays a.moment id me (Some (leaves_to_sleep t n h)) s →
+          AtWith key then (after core (Unguard t n)) given has sleeps (put heeds t h)
+      leaves_there t n h then s is plays = let moved = moves_there (Some (leaves_to_sleep t n h)) s plays in
+          after_event (Unguard t n) (Some (leaves_to_sleep t n h)) then s moved is moved.follows.makes
+          (put heeds t h) (moved.follows.noted ∙ ap (λ (f : ℕ → Bool). put f t h) a.heeding)
 
-      finds_there : (t : ℕ) (then : St) (s : St) → s ≡ then → Plays a.moment id me (Some (finds_no_cancel t)) s →
-          At key then core sleeps heeds
+      pub finds_there : (t : ℕ) (then : St) (s : St) → s ≡ then → Plays a.moment id me (Some (finds_no_cancel t)) s →
+          AtWith key then core given has sleeps heeds
       finds_there t then s is plays = let moved = moves_there (Some (finds_no_cancel t)) s plays in
           after_look t (Some (finds_no_cancel t)) then s moved is moved.follows.looks
 
-      others_there : (then : St) (s : St) → s ≡ then → Plays a.moment id me None s → At key then core sleeps heeds
+      pub unsigned_there : (t : ℕ) (then : St) (s : St) → s ≡ then → Plays a.moment id me (Some (finds_no_sign t)) s →
+          AtWith key then core given has sleeps heeds
+      unsigned_there t then s is plays = let moved = moves_there (Some (finds_no_sign t)) s plays in
+          after_look t (Some (finds_no_sign t)) then s moved is moved.follows.looks
+
+      pub others_there : (then : St) (s : St) → s ≡ then → Plays a.moment id me None s → AtWith key then core given has sleeps heeds
       others_there then s is plays = let moved = moves_there None s plays in ⊎_elim
           (λ still. after_none None then s moved is still)
           (λ noted. after_look noted.0 None then s moved is noted.1.looks) moved.follows
@@ -401,7 +414,7 @@ has_paid kind = record {
 
 at_8 : (kind : Kind) → At (small kind) (table_8 kind) (core_6 kind) nobody one
 at_8 kind = let a = at_7 kind in let me : Sat = (waiter_4 kind, out line) in
-    leaves_there a 0 me refl refl (omega arith) refl refl 1 0 (table_8 kind) _
+    leaves_there a 0 me refl refl (omega arith) refl refl 1 0 true (table_8 kind) _
     (λ i. stepped (a.is_table i) (guard_at 0) 0 0 (out line) (waiter_5 kind) gives)
     (play.exits_to_sleep 0 true
     (record {

@@ -1,5 +1,6 @@
 -- What endless runs of threads are asked, and that no deadlock lasts in them.
 use Rattle.std.specs.Prelude.{ℕ, suc, ◌≡◌, ◌≢◌, ◌<◌, ◌⊎◌, true, false, List, Option, Some}
+use Rattle.ww_queue.specs.declared.kind.Kind.{Kind}
 use Rattle.ww_model.specs.declared.event.Event.TheVariants.{Take, Die, Leave}
 use Rattle.ww_model.specs.Waits.{IsOneOf}
 use Rattle.ww_view.specs.View.{owns}
@@ -85,3 +86,20 @@ WaitsEndInRuns = (key : Start) (moment : ℕ → Moment key) (move : ℕ → Opt
     ((s : ℕ) → s < key.seats → IsScheduledThere moment move s) → HoldersGoOnThere moment →
     (i s n : ℕ) → s < key.seats → (view (moment i) s).waits ≡ suc n →
     InTheEnd i (λ j. EndsSomeWaitThere (moment j) (move j))
+
+-- ---- none of this speaks of nothing
+
+-- an endless run of threads at a table of the kind begins with a deadlock, of threads that are scheduled
+pub record HasDeadlockThere (kind : Kind) : Type 0 where
+  pub key : Start
+  pub moment : ℕ → Moment key
+  pub move : ℕ → Option Step
+  pub seats : List ℕ
+  pub of_kind : key.kind ≡ kind
+  pub endless : IsEndless moment move
+  pub scheduled : (s : ℕ) → IsOneOf s seats → IsScheduledThere moment move s
+  pub deadlocked : AreDeadlocked (core (moment 0)) seats
+
+-- There is such a run in each kind.
+abbrev pub DeadlocksAreInEndlessRuns : Type 0
+DeadlocksAreInEndlessRuns = (kind : Kind) → HasDeadlockThere kind

@@ -1,5 +1,5 @@
 //! No deadlock of threads lasts.
-ghost use Rattle.ww_runs.specs.Deadlocks.{WaitersSleepInRuns, FirstsAskInRuns, NoDeadlockLastsInRuns, NoStandstillInRuns, WaitsEndInRuns};
+ghost use Rattle.ww_runs.specs.Deadlocks.{WaitersSleepInRuns, FirstsAskInRuns, NoDeadlockLastsInRuns, NoStandstillInRuns, WaitsEndInRuns, DeadlocksAreInEndlessRuns};
 
 /// Each waiter that leaves a guard does so in order to sleep.
 pub fn waiters_sleep_in_runs()
@@ -27,4 +27,10 @@ pub fn no_standstill_in_runs()
 /// and waits for none releases it in the end or comes to wait.
 pub fn waits_end_in_runs()
     ensures { WaitsEndInRuns }
+{}
+
+/// In each kind an endless run of threads begins with a deadlock, of threads that are scheduled: so these laws speak of
+/// some.
+pub fn deadlocks_are_in_endless_runs()
+    ensures { DeadlocksAreInEndlessRuns }
 {}
