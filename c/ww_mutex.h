@@ -33,7 +33,7 @@
 #include <stdint.h>
 #include <time.h>
 
-/* As in ww.h: an answer that can't be dropped without a word. */
+/* As in ww_steps.h: an answer that can't be dropped without a word. */
 #ifndef WW_MUST_CHECK
 #if defined(__cplusplus) && __cplusplus >= 201703L
 #define WW_MUST_CHECK [[nodiscard]]
@@ -420,8 +420,10 @@ void ww_debug_at_(const char *file, int line);
 #endif
 
 /*
- * The calls of a mutex that is free are compiled into their callers, as those of
- * ww.h: each is its first turn by the proved library, and the library does the rest.
+ * The calls of a mutex that is free are compiled into their callers: each is its first
+ * step by the proved library, and the library does the rest.  The thread sanitizer is told
+ * what a lock orders by the library's own functions of the same names, which are called
+ * there, and wherever WW_NO_INLINE is defined.
  */
 #ifdef __has_feature
 #if __has_feature(thread_sanitizer) && !defined(WW_NO_INLINE)

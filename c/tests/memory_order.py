@@ -281,13 +281,6 @@ TABLE = {
     "token": {
         "park": "load sc, compare_exchange sc/sc, load sc, store sc", "ww_unpark": "exchange sc", "ww_is_parked": "load sc",
     },
-    # Counted after a cancel's step; put in order with the seat's next user by `taken`.
-    "cancels": {"cancelled": "fetch_add sc", "drop_cancel": "load sc"},
-    "stale": {"was_stale": "exchange sc", "cancelled": "load sc, exchange sc", "drop_cancel": "store sc"},
-    # Of a seat of ww.h: all that its user wrote goes with it.
-    "taken": {"ww_close": "load acq", "ww_seat_get": "exchange acq", "ww_seat_put": "exchange rel", "ww_cancel": "load acq"},
-    # A hint, from where on a seat is looked for.
-    "turn": {"ww_seat_get": "fetch_add rlx"},
     # Said before the waiter is woken, which looks at it after it took its token away.
     "asked": {"is_due": "load sc"},
     "cancelled": {"of_seat": "store rlx", "ww_acquire_cancel": "exchange sc", "lock_on": "exchange sc"},
@@ -421,8 +414,6 @@ PLAIN = {
     "p->seekers": "by: in_child",
     # By whoever has the seat.
     "s->was_loose": "by: use_loose",
-    "s->stops": "by: was_stale",
-    "s->listed": "by: come_back list unlist",
     # By whoever holds the mutex, which its lock orders, or makes or destroys it.
     "m->older": "by: own unlink_from was_prelocked",
     "m->newer": "by: unlink_from",
@@ -780,11 +771,6 @@ def ours():
         [X("c", "cancelled", put(1), "sc"), X("t", "token", put(1), "sc")],
         [W("token", 0, "sc"), R("c", "cancelled", "sc")],
     ], lambda r, f: f["token"] == 0 and r[1]["c"] == 0
-    yield "a cancel that met nothing is told to the seat's next user", [
-        [X("p", "pending", put(1), "sc"), X("c", "cancels", add(1), "sc"), W("told", 1, "rel")],
-        [R("t", "told", "acq"), IF("t", 1, R("c", "cancels", "sc"), IF("c", 1, W("stale", 1, "sc")), X("u", "taken", put(0), "rel"))],
-        [X("u", "taken", put(1), "acq"), IF("u", 0, R("s", "stale", "sc"))],
-    ], lambda r, f: r[1]["t"] == 1 and r[2]["u"] == 0 and r[2].get("s") == 0, {"taken": 1}
 
 
 def main():

@@ -1,5 +1,5 @@
 /*
- * What a call does between its steps, as ww.h asks it of whoever makes them: behind WW_AGAIN, when its seat may be inside a
+ * What a call does between its steps, as ww_steps.h asks it of whoever makes them: behind WW_AGAIN, when its seat may be inside a
  * guard, it makes the next step and nothing else; and it asks whom to wake where somebody can be due, each time until nobody
  * is.  The steps, what the library locks and what it asks the system for come by wrappers (ld --wrap).
  */

@@ -28,10 +28,6 @@ void il_setup(const struct il_program *p);
 void il_thread(const char *text);
 /* Once all threads have ended. */
 void il_check(const struct il_program *p);
-/* The programs' part in worlds.c. */
-void il_open_world(void);
-void il_world(char what);
-void il_close_world(void);
 
 /* Memory that each run finds as zeros, and at the same address. */
 void *il_new(size_t size);

@@ -18,7 +18,7 @@
  *	F	frees the class, asking until it is free	v	looks at its counts
  *	T G g	takes a number, if one is free; puts back that taken last, or first	p	puts the number of m, which is to be -EBUSY
  *	Where a program is NUMBERED all mutexes are known by their numbers.
- *	%0	of a world: worlds.c; @: the thread's stack of numbers is the first one
+ *	@	the thread's stack of numbers is the first one
  */
 #define _GNU_SOURCE
 #include "interleave.h"
@@ -95,8 +95,6 @@ void il_setup(const struct il_program *p)
 		MUST(!ww_number_take(&owner[3], &c));
 	for (unsigned k = 0; p->flags & GIVEN && k < 2; k++)
 		MUST(!ww_number_put(k, &c));
-	if (names(p, '%'))
-		il_open_world();
 	for (unsigned k = 0; k < IL_THREADS && p->threads[k]; k++)
 		refs += !!strchr(p->threads[k], '-');
 	for (unsigned k = 0; k < IL_THREADS && p->threads[k]; k++)
@@ -119,8 +117,6 @@ void il_check(const struct il_program *p)
 		MUST(!ww_number_put(2, &c));
 	for (unsigned k = 0; numbered && k < 3; k++)
 		MUST(!ww_number_put(numbers[k], &c));
-	if (names(p, '%'))
-		il_close_world();
 	if (c.pool) {
 		MUST(!c.pool->seekers && !c.pool->first);
 		for (uint32_t k = 0; k < most; k++)
@@ -390,8 +386,6 @@ void il_thread(const char *at)
 			at = loop(&u, at + 1);
 		else if (*at == '&')
 			at = list(&u, at + 1);
-		else if (*at == '%')
-			il_world(*++at);
 		else if (*at == '~')
 			il_await(&happened[*++at - '0']);
 		else if (*at == '=')
@@ -491,10 +485,5 @@ const struct il_program il_programs[] = {
 	{ "free-seeker", { "(1~2)", "~1()", "~1s2F()" }, CONTEXTS(1), 2 },
 	{ "free-3", { "(7)", "(8)", "(9)", "_7_8_9F()" }, CONTEXTS(2), 1 },
 	{ "free-and-use", { "(8)", "(9)", "_8_9F(3)", "~3()" }, CONTEXTS(1), 1 },
-	{ "world-cancel", { "%0%0", "%1", "%2" }, CONTEXTS(1), 2 },
-	{ "world-cancel-twice", { "%0%0", "%1", "%2%3" }, CONTEXTS(1), 2 },
-	{ "world-cancel-asleep", { "%6", "%7", "%9%2%3" }, CONTEXTS(1), 2 },
-	{ "world-cancel-stale", { "%6", "%8", "%9%2%3" }, CONTEXTS(1), 2 },
-	{ "world-seats", { "%4", "%5" }, CONTEXTS(1), 3 },
 	{ 0 },
 };
