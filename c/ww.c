@@ -219,7 +219,7 @@ __attribute__((noinline, cold)) int ww_go_on(ww_seat *s, struct ww_stop *stop)
 
 uint32_t ww_version(void) { return 10000 * WW_VERSION_MAJOR + 100 * WW_VERSION_MINOR + WW_VERSION_PATCH; }
 
-/* A world of seats that have done nothing yet, or NULL. */
+/* A world of seats that have done nothing yet, to which these handles are moved; or NULL. */
 static ww_world *lay_out(uint32_t locks, uint32_t seats, const ww_handle *handles)
 {
 	size_t size = sizeof(ww_world) + seats * sizeof(ww_seat);

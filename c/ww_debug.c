@@ -166,10 +166,16 @@ void ww_debug_ended(struct ww_acquire_ctx *x)
 	__atomic_store_n(&s->stamp, 0, __ATOMIC_RELAXED);
 }
 
+/*
+ * Whether all calls of this thread are seen.  What isn't compiled with WW_DEBUG has the quick ones compiled in, of which
+ * nothing is known here, and names no line.
+ */
+static bool is_seen(void) { return ww_here.file; }
+
 void ww_debug_alone(const struct ww_mutex *m, const struct timespec *until)
 {
 	struct ww_pool *p = pool_at(m);
-	const struct standing *s = p && !until ? ww_debug_own_seat(p, A_MUTEX) : NULL;
+	const struct standing *s = p && !until && is_seen() ? ww_debug_own_seat(p, A_MUTEX) : NULL;
 
 	if (s)
 		ww_debug_warn(WITHOUT_CONTEXT, p, "ww_mutex_lock",
@@ -209,7 +215,7 @@ void ww_debug_released(const struct ww_mutex *m)
 	uint32_t seat = __atomic_load_n(&h->seat, __ATOMIC_RELAXED);
 	struct standing *by;
 
-	if (__atomic_load_n(&h->thread, __ATOMIC_RELAXED) != &ww_here)
+	if (is_seen() && __atomic_load_n(&h->thread, __ATOMIC_RELAXED) != &ww_here)
 		fault_in(m->pool, "ww_mutex_unlock", "another thread acquired the mutex");
 	if (!seat)
 		return; /* that one is amid its own unlock */

@@ -39,12 +39,8 @@
 #define WW_NO_INLINE /* Here are the functions that may be called in place of those that ww_mutex.h compiles into its callers. */
 #include "ww_pool.h"
 
-/*
- * Calls by the handle of this seat answer -EINVAL, and change nothing.  All threads have it,
- * though a handle is one caller's: so it lies where nobody can write.
- */
-static const ww_seat no_seat;
-#define NOBODY ((ww_seat *)(uintptr_t)&no_seat)
+/* A call by an empty handle answers -EINVAL, and changes nothing. */
+_Static_assert(sizeof(((struct ww_acquire_ctx *)0)->empty_) == sizeof(ww_handle), "a context has room for one");
 
 static const char not_due[] = "no -EDEADLK of this mutex came before, or the context still holds a mutex";
 
@@ -100,24 +96,17 @@ static inline struct ww_acquire_ctx *holder(const struct ww_mutex *m) { return _
 bool ww_mutex_is_locked(struct ww_mutex *m) { return holder(m) || __atomic_load_n(&m->alone, __ATOMIC_RELAXED); }
 
 /*
- * All steps of a call but the first.  In a forked child one by a seat that was taken before
- * would wait for threads that aren't there: so the seat has an empty handle from then on, what
- * it held is let go, and each call by it is -EINVAL.
+ * All steps of a call but the first.  In a forked child one by a seat that was taken before would wait for threads that
+ * aren't there: so it makes none.  Then that call stays on its way, and any other by the seat changes nothing: -EBUSY.
  */
-COLD static int go_on(ww_seat *s, struct ww_stop *stop)
-{
-	if (LIKELY(!s->pool->gone))
-		return ww_go_on(s, stop);
-	s->handle = (ww_handle){ 0 };
-	return -EINVAL;
-}
+COLD static int go_on(ww_seat *s, struct ww_stop *stop) { return LIKELY(!s->pool->gone) ? ww_go_on(s, stop) : -EBUSY; }
 
-/* The same of a release, whose first step answered r, not 0. */
+/* The same of a release, whose first step answered r, not 0: in a child, where nobody else has the mutex, it is released. */
 COLD static int release_further(ww_seat *s, int r)
 {
 	if (r > 0)
 		r = go_on(s, NULL);
-	return is_let_go(s) ? 0 : r;
+	return r == -EBUSY && s->pool->gone ? 0 : r;
 }
 
 /*
@@ -180,7 +169,7 @@ int ww_mutex_end_(struct ww_mutex *m)
 /* ---- what a loop has to do ---- */
 
 /* Amid ww_until_all_locked, or behind it. */
-static inline bool is_loop(const struct ww_acquire_ctx *x) { return x->gives == NOBODY; }
+static inline bool is_loop(const struct ww_acquire_ctx *x) { return x->gives == x->empty_; }
 
 /*
  * HAS_TO_BACK_OFF is TOLD of the table above, WAITS_FIRST is FIRST, and `prelocked` what it OWES.  As long as one of these
@@ -270,6 +259,8 @@ COLD static int lock_on(struct ww_mutex *m, struct ww_acquire_ctx *x, ww_seat *s
 		/* It was called off by a cancel that another wait of the seat had left. */
 		r = first_turn(s, m->number, way);
 	}
+	if (r == -EBUSY && m->pool->gone)
+		r = -EINVAL;
 	if (r == 0)
 		own(m, x, s);
 	if (r == -EDEADLK) {
@@ -378,22 +369,32 @@ static int lock_by(struct ww_mutex *m, struct ww_acquire_ctx *x, enum way way, c
 bool ww_is_contended(const struct ww_acquire_ctx *x) { return x->state & HAS_TO_BACK_OFF; }
 
 /* A loop begins: what is acquired from now on is kept, and an unlock takes it out. */
-static void begin_loop(struct ww_acquire_ctx *x)
+static inline void begin_loop(struct ww_acquire_ctx *x)
 {
 	x->linked = x->prelocked = NULL;
-	x->gives = NOBODY;
-	if (UNLIKELY(x->state)) {
-		x->state &= ~(unsigned)TRIES;
-		close_or_open(x);
-	}
+	x->empty_[0] = x->empty_[1] = NULL;
+	x->gives = x->empty_;
+}
+
+static void forget_tries(struct ww_acquire_ctx *x)
+{
+	x->state &= ~(unsigned)TRIES;
+	close_or_open(x);
+}
+
+COLD static void begin_loop_else(struct ww_acquire_ctx *x)
+{
+	if (!x->own || x->acquired)
+		end("ww_until_all_locked", "the context holds a mutex, or has ended");
+	forget_tries(x);
 }
 
 struct ww_acquire_ctx *ww_tries_begin_(struct ww_acquire_ctx *x)
 {
-	if (!x->own || x->acquired)
-		end("ww_until_all_locked", "the context holds a mutex, or has ended");
 	x->newest = NULL;
 	begin_loop(x);
+	if (UNLIKELY(!x->own || x->acquired | x->state))
+		begin_loop_else(x);
 	return x;
 }
 
@@ -821,7 +822,7 @@ static inline int unlock(struct ww_mutex *m)
 	x->acquired--;
 	__atomic_store_n(&m->ctx, NULL, __ATOMIC_RELAXED);
 	__tsan_release(m);
-	r = ww_unlock_(&x->gives->handle, number);
+	r = ww_unlock_(x->gives, number);
 	return LIKELY(!r) ? 0 : unlock_on(x->called, x, r);
 }
 
@@ -907,6 +908,7 @@ COLD static int lock_all_on(struct ww_acquire_ctx *x, struct ww_mutex *const *lo
 	bool held = x->acquired > k;
 
 	begin_loop(x);
+	forget_tries(x);
 	if (r) {
 		x->called = locks[k];
 		r = lock_further(x, r, x->flags & WW_INTERRUPTIBLE ? HEEDS : STAYS);
@@ -918,10 +920,9 @@ COLD static int lock_all_on(struct ww_acquire_ctx *x, struct ww_mutex *const *lo
 		r = lock_until_all_are(x, locks, count, r);
 	else if (r)
 		release_all(x);
-	x->state &= ~(unsigned)TRIES;
 	x->prelocked = NULL;
 	x->gives = x->own;
-	close_or_open(x);
+	forget_tries(x);
 	return r;
 }
 

@@ -16,8 +16,9 @@
  * A context is used by one thread at a time, and a mutex is unlocked by the thread that
  * acquired it; neither is used in a signal handler.  In a forked child a class that was
  * open before gives nothing more (-EINVAL), until ww_class_free lets it go there, and a mutex
- * that was held as the program forked, until it is destroyed and initialized; where a
- * context that was begun before would have to wait, it has let go all that it held.
+ * that was held as the program forked, until it is destroyed and initialized; a context that
+ * was begun before holds what it held, and once it would have to wait each lock by it is
+ * -EINVAL, though it may release and end.
  * Deadlocks are detected among the contexts of one class alone.  Each copy of the shared
  * library takes 200 bytes of static thread-local storage: a process can load some eight.
  *
@@ -89,7 +90,7 @@ struct ww_mutex {
 struct ww_acquire_ctx {
 	struct ww_pool *pool;		/* what it may lock at once; no class's once it has ended, or where a call has more to do */
 	struct ww_seat *own;		/* NULL once it has ended */
-	struct ww_seat *gives;		/* the same; or that of nobody, where an unlock has more to do */
+	void *gives;			/* the same; or empty_, where an unlock has more to do */
 	unsigned int acquired;		/* how many mutexes it holds */
 	unsigned int cancelled;
 	struct ww_mutex *called;	/* by the call that is on its way */
@@ -100,7 +101,7 @@ struct ww_acquire_ctx {
 	unsigned int flags, state;
 	unsigned int deadlock_inject_interval, deadlock_inject_countdown; /* of the debug library */
 	unsigned long stamp;		/* likewise */
-	void *reserved_[2];		/* not looked at */
+	void *empty_[2];		/* a seat's handle that has none: by it an unlock answers that it has more to do */
 };
 
 /*
@@ -351,7 +352,7 @@ int ww_mutex_end_(struct ww_mutex *lock);
 /* ---- the debug library ---- */
 
 /*
- * With -DWW_DEBUG, and -lww_debug in place of -lww: a call that is wrong is told on
+ * With -DWW_DEBUG in each of its files, and -lww_debug in place of -lww: a call that is wrong is told on
  * standard error, with its line and the calls by which the program came there, besides
  * what it answers; and now and then a context that holds a mutex is told -EDEADLK
  * without need, so that the way back is tried.
@@ -444,10 +445,10 @@ enum { WW_MEMORY_ = 0, WW_PROGRAM_ = 1 };
 int ww_place_(const void *object);
 enum { WW_IS_TRYING_ = 1, WW_HAS_TO_BACK_OFF_ = 2 }; /* of a context's state */
 #if defined(__GNUC__) && !defined(WW_NO_INLINE) && !defined(WW_DEBUG)
-/* A seat begins with its handle. */
-int32_t ww_first_of_lock_(struct ww_seat *seat, uint32_t lock, bool heeds) __asm__("ww_lock_");
-int32_t ww_only_of_try_(struct ww_seat *seat, uint32_t lock) __asm__("ww_try_");
-int32_t ww_first_of_unlock_(struct ww_seat *seat, uint32_t lock) __asm__("ww_unlock_");
+/* By a handle, with which a seat begins. */
+int32_t ww_first_of_lock_(void *seat, uint32_t lock, bool heeds) __asm__("ww_lock_");
+int32_t ww_only_of_try_(void *seat, uint32_t lock) __asm__("ww_try_");
+int32_t ww_first_of_unlock_(void *seat, uint32_t lock) __asm__("ww_unlock_");
 #define WW_INLINE_ extern __inline __attribute__((__gnu_inline__))
 
 /*

@@ -304,8 +304,8 @@ static inline const char *told(int r)
 	}
 }
 
-/* In a forked child, by go_on of ww_mutex.c. */
-static inline bool is_let_go(const ww_seat *s) { return !s->handle.at; }
+/* In a forked child a call by the seat stays on its way, by go_on of ww_mutex.c. */
+static inline bool is_let_go(ww_seat *s) { return s->pool->gone && ww_has_(&s->handle, 0) == -EBUSY; }
 
 /* By which a thread can sleep; NULL is for ever. */
 static inline bool is_time(const struct timespec *at) { return !at || (at->tv_nsec >= 0 && at->tv_nsec < 1000000000); }

@@ -38,7 +38,10 @@ enum { WW_MAX_LOCKS = 65536, WW_MAX_SEATS = 4095 };
 /* 10000 times the first number, 100 times the second one, and the third one. */
 uint32_t ww_version(void);
 
-/* What the steps write: nobody else does, and nobody copies it. { 0 } is an empty one. */
+/*
+ * What the steps write: nobody else does, and nobody copies it.  Before the first step by it it may be moved, once ww_open_
+ * has filled it: then nobody looks at its old place again.  { 0 } is an empty one.
+ */
 typedef struct {
 	void *at;
 	uint32_t standing, below;

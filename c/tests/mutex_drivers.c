@@ -238,6 +238,43 @@ static void child_of(struct ww_mutex m[7], struct ww_acquire_ctx *x)
 	_exit(0);
 }
 
+static struct ww_mutex awaited = WW_MUTEX_INIT(&wound_wait);
+
+static void *waits_for_awaited(void *arg)
+{
+	MUST(!ww_mutex_lock(&awaited, NULL));
+	ww_mutex_unlock(&awaited);
+	return arg;
+}
+
+/* A thread waited for the mutex as the program forked: the child isn't told that somebody does, once its class is freed there. */
+static void whoever_waited_is_not_in_the_child(void)
+{
+	struct ww_acquire_ctx x;
+	pthread_t thread;
+	pid_t child;
+	int status;
+
+	ww_acquire_init(&x, &wound_wait);
+	MUST(!ww_mutex_lock(&awaited, &x));
+	thread = begin_thread(waits_for_awaited, NULL);
+	awaits_waiter(&awaited);
+	MUST((child = fork()) >= 0);
+	if (!child) {
+		ww_mutex_unlock(&awaited);
+		ww_acquire_fini(&x);
+		MUST(!ww_class_free(&wound_wait) && !ww_mutex_lock(&awaited, NULL));
+		ww_mutex_unlock(&awaited);
+		MUST(!ww_mutex_destroy(&awaited));
+		_exit(0);
+	}
+	MUST(waitpid(child, &status, 0) == child && !status);
+	ww_mutex_unlock(&awaited);
+	end_thread(thread);
+	ww_acquire_fini(&x);
+	MUST(!ww_mutex_destroy(&awaited) && !ww_class_free(&wound_wait));
+}
+
 /* A class that was open before has nothing for the child of a fork, until it is opened anew; then all but what is held gets numbers. */
 static void in_a_child(void)
 {
@@ -355,7 +392,7 @@ static void *leaves_it_held(void *arg)
 	return NULL;
 }
 
-/* Though it may have the memory of the one that is over. */
+/* Though it may have the memory of the one that is over, and has taken nothing yet. */
 static void *holds_nothing(void *arg)
 {
 	(void)arg;
@@ -366,6 +403,9 @@ static void *holds_nothing(void *arg)
 static void held_by_a_thread_that_is_over(void)
 {
 	ww_mutex_init(&asked, c);
+	MUST(!ww_mutex_lock(&asked, NULL));
+	end_thread(begin_thread(holds_nothing, NULL));
+	ww_mutex_unlock(&asked);
 	end_thread(begin_thread(leaves_it_held, NULL));
 	end_thread(begin_thread(holds_nothing, NULL));
 	ww_mutex_unlock(&asked);
@@ -653,6 +693,7 @@ int main(void)
 		in_a_child();
 		locked_first_by_several();
 	}
+	whoever_waited_is_not_in_the_child();
 	puts("mutex_drivers: what the kernel's callers ask for");
 	return 0;
 }

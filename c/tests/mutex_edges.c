@@ -414,14 +414,18 @@ static void *keeps(void *arg)
 	return NULL;
 }
 
-/* What it would wait for isn't there, so its context is let go; and it gets no number of a mutex that it destroyed. */
+/*
+ * What it would wait for isn't there, so its context acquires nothing more, and may release what it holds.  What the proved
+ * library has of its seat nobody else writes.  And it gets no number of a mutex that it destroyed.
+ */
 static void in_child(void)
 {
 	struct ww_mutex *list[] = { &a };
 
 	alarm(20);
 	MUST(ww_mutex_lock(&a, &x) == -EINVAL && ww_mutex_lock(&a, &x) == -EINVAL && !ww_mutex_trylock(&d, &x));
-	MUST(ww_mutex_lock_all(&x, list, 1) == -EINVAL);
+	MUST(ww_mutex_lock_all(&x, list, 1) == -EINVAL && ww_mutex_lock_slow_checked(&a, &x) == -EINVAL);
+	MUST(x.own->handle.at && ww_held_(&x.own->handle) == 1);
 	ww_mutex_unlock(&b);
 	ww_acquire_fini(&x);
 	MUST(!ww_mutex_destroy(&d) && ww_mutex_init_checked(&d, &few) == -EINVAL);
@@ -463,6 +467,20 @@ static void forks(bool amid_a_loop)
 	ww_mutex_unlock(&b);
 	ww_acquire_fini(&x);
 	MUST(!ww_mutex_destroy(&a) && !ww_mutex_destroy(&b) && !ww_mutex_destroy(&d));
+}
+
+/* Of a thread that had just ended a context, and would begin the next one by the same seat: the child can't. */
+static void forks_with_a_seat_at_hand(void)
+{
+	pid_t child;
+	int status;
+
+	ww_acquire_init(&x, &few);
+	ww_acquire_fini(&x);
+	MUST((child = fork()) >= 0);
+	if (!child)
+		_exit(ww_acquire_init_checked(&x, &few) != -EINVAL);
+	MUST(waitpid(child, &status, 0) == child && !status);
 }
 
 /* ---- a class that isn't freed ---- */
@@ -529,6 +547,7 @@ int main(void)
 	times();
 	forks(false);
 	forks(true);
+	forks_with_a_seat_at_hand();
 	isnt_freed();
 	MUST(!ww_class_free(&wait_die) && !ww_class_free(&few) && !ww_class_free(&one));
 	puts("mutex_edges: loops, ends and children");

@@ -29,6 +29,7 @@ static const struct row rows[] = {
 	{ EASE, TRY, HELD, true, 0, EASE, 0 },
 	{ EASE, LOCK, TAKEN, true, -EDEADLK, TOLD, 0 },
 	{ EASE, HEED, TAKEN, true, -EINTR, EASE, 0 },
+	{ EASE, LOCK, TAKEN, true, -EINTR, EASE, WW_INTERRUPTIBLE },
 	{ EASE, LOCK, HELD, true, -EALREADY, EASE, 0 },
 	{ EASE, LOCK, HELD, true, 0, EASE, WW_IGNORE_DUPLICATES },
 	{ EASE, SLOW, FREE, true, -EINVAL, EASE, 0 },
@@ -136,7 +137,8 @@ static void comes_to_owe(struct ww_mutex *m)
 static void comes_to(enum state state)
 {
 	ww_tries_begin_(&x);
-	MUST(ww_tries_more_(&x));
+	/* The empty handle by which its unlocks are answered is its own. */
+	MUST(x.gives == x.empty_ && ww_tries_more_(&x));
 	switch (state) {
 	case EASE: MUST(!ww_mutex_lock(&held, &x)); return;
 	case OWES: comes_to_owe(&it); return;

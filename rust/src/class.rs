@@ -25,7 +25,8 @@ pub trait Class: Sized + 'static {
     /// [`Deadlock`](Error::Deadlock) and the body fails, this waits for the contended mutex and runs the body again.
     ///
     /// So the body may run several times, and should change nothing before it has all its locks. What it returns is
-    /// handed on, unless that is a failure after `Deadlock`.
+    /// handed on, unless it was told `Deadlock`: to return `Ok` then is a mistake, which is
+    /// [`Swallowed`](Error::Swallowed).
     ///
     /// ```
     /// # use ww_mutex::{class, Class, Error, Mutex};
@@ -50,7 +51,7 @@ pub trait Class: Sized + 'static {
     /// # Errors
     ///
     /// What the body fails with, but for [`Error::Deadlock`] that its context was told; [`Error::OutOfMemory`], where
-    /// this opens the class.
+    /// this opens the class; [`Error::Swallowed`].
     ///
     /// # Panics
     ///

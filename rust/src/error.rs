@@ -19,6 +19,9 @@ pub enum Error {
     Exhausted,
     /// There is no memory to open the class, of which this was the first use.
     OutOfMemory,
+    /// A lock call of the body was told [`Deadlock`](Error::Deadlock), and the body returned `Ok` all the same, without
+    /// what it was to lock. It has to fail then, so that it runs again.
+    Swallowed,
 }
 
 impl Error {
@@ -38,6 +41,7 @@ impl fmt::Display for Error {
             Error::TimedOut => "the deadline came before the mutex",
             Error::Exhausted => "the class has all mutexes that it may have",
             Error::OutOfMemory => "there is no memory to open the class",
+            Error::Swallowed => "the body was told Deadlock, and returned Ok",
         })
     }
 }

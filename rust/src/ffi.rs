@@ -35,7 +35,7 @@ pub struct ww_mutex {
 pub struct ww_acquire_ctx {
     pub pool: *mut ww_pool,
     pub own: *mut ww_seat,
-    pub gives: *mut ww_seat,
+    pub gives: *mut c_void,
     pub acquired: c_uint,
     pub cancelled: c_uint,
     pub called: *mut ww_mutex,
@@ -48,7 +48,7 @@ pub struct ww_acquire_ctx {
     pub deadlock_inject_interval: c_uint,
     pub deadlock_inject_countdown: c_uint,
     pub stamp: c_ulong,
-    pub reserved_: [*mut c_void; 2],
+    pub empty_: [*mut c_void; 2],
 }
 
 /// As 64-bit Linux has it.
@@ -181,7 +181,7 @@ mod tests {
         let (asked, here) = layouts! {
             ww_class: pool mutexes contexts is_wait_die name;
             ww_acquire_ctx: pool own gives acquired cancelled called contending_lock newest linked prelocked flags state
-                deadlock_inject_interval deadlock_inject_countdown stamp reserved_;
+                deadlock_inject_interval deadlock_inject_countdown stamp empty_;
             timespec: tv_sec tv_nsec;
         };
         let source = format!(

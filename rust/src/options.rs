@@ -88,8 +88,11 @@ impl<'c, C: Class> Options<'c, C> {
         let running = Running::begin(&tx)?;
         loop {
             let result = body(&tx);
-            if result.is_ok() || !tx.is_over() {
+            if !tx.is_over() {
                 return result;
+            }
+            if result.is_ok() {
+                return Err(Error::Swallowed.into());
             }
             drop(result);
             running.back_off()?;

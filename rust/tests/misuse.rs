@@ -50,13 +50,7 @@ fn a_lock_after_deadlock_is_told_so_again() {
         assert!(tx.try_lock(&other).is_none());
         Ok(5)
     });
-    assert_eq!(told, Ok(5));
-}
-
-#[test]
-fn success_after_deadlock_is_handed_on() {
-    class!(struct Boxes: WaitDie);
-    assert_eq!(told_deadlock::<Boxes, _>(|_, _, error| Ok(error)), Ok(Error::Deadlock));
+    assert_eq!(told, Err(Error::Swallowed));
 }
 
 #[test]
@@ -96,6 +90,23 @@ fn a_duplicate_is_told() {
     });
     assert_eq!(told, Err(Error::Duplicate));
     assert!(!m.is_locked());
+}
+
+#[test]
+fn a_deadlock_that_a_body_swallows_is_an_error() {
+    class!(struct Boxes: WaitDie);
+    let (a, b): (Mutex<Boxes, u64>, Mutex<Boxes, u64>) = (Mutex::new(1), Mutex::new(2));
+    let mut older = Context::begin().unwrap();
+    let Ok((_, held)) = older.start().lock(&a) else { panic!() };
+    let mut runs = 0;
+    let told = Boxes::run(|tx| {
+        runs += 1;
+        let _first = tx.lock(&b)?;
+        Ok(tx.lock(&a).is_ok())
+    });
+    assert_eq!((told, runs, b.is_locked()), (Err(Error::Swallowed), 1, false));
+    drop(held);
+    assert_eq!(Boxes::run(|tx| Ok(tx.lock_all([&a, &b]).is_ok())), Ok(true));
 }
 
 #[test]
