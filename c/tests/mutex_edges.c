@@ -465,6 +465,20 @@ static void forks(bool amid_a_loop)
 	MUST(!ww_mutex_destroy(&a) && !ww_mutex_destroy(&b) && !ww_mutex_destroy(&d));
 }
 
+/* Though its thread had a seat at hand. */
+static void forks_with_a_seat_at_hand(void)
+{
+	pid_t child;
+	int status;
+
+	ww_acquire_init(&x, &few);
+	ww_acquire_fini(&x);
+	MUST((child = fork()) >= 0);
+	if (!child)
+		_exit(ww_acquire_init_checked(&x, &few) != -EINVAL);
+	MUST(waitpid(child, &status, 0) == child && !status);
+}
+
 /* ---- a class that isn't freed ---- */
 
 static bool over;
@@ -529,6 +543,7 @@ int main(void)
 	times();
 	forks(false);
 	forks(true);
+	forks_with_a_seat_at_hand();
 	isnt_freed();
 	MUST(!ww_class_free(&wait_die) && !ww_class_free(&few) && !ww_class_free(&one));
 	puts("mutex_edges: loops, ends and children");

@@ -10,14 +10,15 @@
  *	?	the next lock is tried; t: until a time; i: interruptible; where it has none, all up to its unlock is left out
  *	n	the next lock is without a context; #: by its number; !: it has to fail; .: it must not
  *	Lab;	locks these in a loop	U	unlocks all of it	&ab;	locks these as a list
+ *	Kab;	as L, but once told to back off it unlocks what it holds one by one, and locks that one before it begins anew
  *	+	adds to what each mutex guards that is held
  *	-	under m: one user less	D	whoever was the last one destroys m, and its memory goes
  *	d	destroys m where nobody has it or waits for it, and makes it anew
  *	c	cancels			1-9	something has happened	~1	waits for that, which orders	_1	which doesn't	=1	it has
  *	s w	waits until somebody waits for a context, unless 4 has happened; until somebody waits for m
  *	F	frees the class, asking until it is free	v	looks at its counts
- *	T G g	takes a number, if one is free; puts back that taken last, or first	p	puts the number of m, which is to be -EBUSY
- *	%0	of a world: worlds.c; @: the thread's stack of numbers is the first one
+ *	T G g	takes a number, if one is free (.: one is); puts back that taken last, or first	p	puts the number of m, which is to be -EBUSY
+ *	@1	the thread's stack of numbers is this one	%0	of a world: worlds.c
  */
 #define _GNU_SOURCE
 #include "interleave.h"
@@ -111,6 +112,11 @@ void il_check(const struct il_program *p)
 			MUST(!ww_mutex_destroy(&mutexes[k]));
 	}
 	MUST(met <= cancels);
+#ifdef WW_DEBUG
+	/* Of these, each call is right, and none is dangerous. */
+	if (!names(p, 'n') && !names(p, '>') && !names(p, 'L') && !names(p, 'K') && !names(p, 'd') && !names(p, 'D') && !names(p, 'F'))
+		MUST(!ww_debug_faults() && !ww_debug_dangers());
+#endif
 	if (p->flags & GIVEN)
 		MUST(!ww_number_put(2, &c));
 	if (names(p, '%'))
@@ -244,14 +250,41 @@ static const char *past(const char *at, char closes)
 	return *at ? at : at - 1;
 }
 
-static const char *loop(struct user *u, const char *at)
+/* Told to back off, it is refused all of these, as the table in ww_mutex.c says. */
+static void is_refused(const struct user *u, const char *at)
+{
+	MUST(ww_is_contended(u->x));
+	for (; *at != ';'; at++) {
+		struct ww_mutex *m = mutex_of(*at);
+
+		MUST(ww_mutex_lock(m, u->x) == (ww_mutex_is_held_by(m, u->x) ? -EALREADY : -EINVAL) && !ww_mutex_trylock(m, u->x));
+	}
+}
+
+/* What it was told holds no longer once it holds nothing, and waits for that mutex by itself. */
+static void back_off_by_hand(const struct user *u, const char *at, struct ww_mutex *contended)
+{
+	for (; *at != ';'; at++)
+		if (ww_mutex_is_held_by(mutex_of(*at), u->x))
+			ww_mutex_unlock(mutex_of(*at));
+	MUST(!ww_mutex_lock(contended, u->x) && !ww_is_contended(u->x));
+	ww_acquire_unlock_all(u->x);
+}
+
+static const char *loop(struct user *u, const char *at, bool by_hand)
 {
 	ww_until_all_locked(u->x) {
 		for (const char *k = at; *k != ';'; k++) {
 			int r = ww_mutex_lock(mutex_of(*k), u->x);
 
+			MUST(!r || r == -EDEADLK);
+			if (r)
+				is_refused(u, at);
+			if (r && by_hand) {
+				back_off_by_hand(u, at, mutex_of(*k));
+				k = at - 1;
+			}
 			ww_retry_on_contention(u->x);
-			MUST(!r);
 		}
 	}
 	for (; *at != ';'; at++)
@@ -310,11 +343,11 @@ static void free_class(void)
 	keep = 0; /* of the class that is opened next */
 }
 
-static void take_number(struct user *u)
+static void take_number(struct user *u, bool is_there)
 {
 	int r = ww_number_take(&u->number[u->numbers], &c);
 
-	MUST(!r || r == -ENOSPC);
+	MUST(!r || (r == -ENOSPC && !is_there));
 	if (!r)
 		MUST(u->number[u->numbers] < 3 && !ADD(owner[u->number[u->numbers++]], 1));
 }
@@ -332,7 +365,7 @@ static void give_number(struct user *u, bool first)
 	MUST(!ww_number_put(given, &c));
 }
 
-static void act(struct user *u, char what)
+static void act(struct user *u, char what, const char *how)
 {
 	struct ww_class_counts counts;
 
@@ -351,8 +384,7 @@ static void act(struct user *u, char what)
 	case 'w': while (!SEEN(mutex_of('m')->waiters)) il_yield(); break;
 	case 'F': free_class(); break;
 	case 'v': ww_class_stats(&c, &counts); MUST(counts.context_waits <= 8); break;
-	case '@': ww_mine.thread = 1; break;
-	case 'T': take_number(u); break;
+	case 'T': take_number(u, strchr(how, '.')); break;
 	case 'G': give_number(u, false); break;
 	case 'g': give_number(u, true); break;
 	case 'p': MUST(ww_number_put(mutex_of('m')->number, &c) == -EBUSY); break;
@@ -381,10 +413,12 @@ void il_thread(const char *at)
 			at = lock(&u, *at, how) ? past(at, (char)toupper(*at)) : at;
 		else if (strchr("ABM", *at))
 			unlock(&u, *at);
-		else if (*at == 'L')
-			at = loop(&u, at + 1);
+		else if (*at == 'L' || *at == 'K')
+			at = loop(&u, at + 1, *at == 'K');
 		else if (*at == '&')
 			at = list(&u, at + 1);
+		else if (*at == '@')
+			ww_mine.thread = STACKS + (uint64_t)(*++at - '0');
 		else if (*at == '%')
 			il_world(*++at);
 		else if (*at == '~')
@@ -397,13 +431,16 @@ void il_thread(const char *at)
 		else if (isdigit(*at))
 			il_set(&happened[*at - '0']);
 		else
-			act(&u, *at);
+			act(&u, *at, how);
 		*how = 0;
 	}
 }
 
-/* A number that is put back while a thread waits for a seat to lock it. */
-const char *const il_fail_yet[] = { "number-put", NULL };
+/*
+ * A number that is put back while a thread waits for a seat to lock it; a thread that is called off waits for the spare seat's
+ * mutex inside a guard.
+ */
+const char *const il_fail_yet[] = { "number-put", "cancel-inside", NULL };
 
 const struct il_program il_programs[] = {
 	{ "lock", { "(a+A)", "(a+A)" }, CONTEXTS(4), 3 },
@@ -415,6 +452,8 @@ const struct il_program il_programs[] = {
 	{ "slow", { "(ab+AB)", "(ba+BA)" }, CONTEXTS(4), 3 },
 	{ "slow-die", { "(ab+AB)", "(ba+BA)" }, CONTEXTS(4) | WAIT_DIE, 3 },
 	{ "loop", { "(Lab;+U)", "(Lba;+U)" }, CONTEXTS(4), 3 },
+	{ "loop-by-hand", { "(Kab;+U)", "(Lba;+U)" }, CONTEXTS(4), 3 },
+	{ "loop-by-hand-die", { "(Kab;+U)", "(Lba;+U)" }, CONTEXTS(4) | WAIT_DIE, 3 },
 	{ "list", { "(&ab;+AB)", "(&ba;+AB)" }, CONTEXTS(4), 3 },
 	{ "slow-loop", { "(ab+AB)", "(Lba;+U)" }, CONTEXTS(4), 3 },
 	{ "number", { "(#a+A)", "n#a+A" }, CONTEXTS(4), 3 },
@@ -479,12 +518,16 @@ const struct il_program il_programs[] = {
 	{ "deadline-asleep", { "na1~2A", "~1(!taA2)" }, CONTEXTS(2), 3 },
 	{ "deadline-asleep-alone", { "na1~2A", "~1!tnaA2" }, CONTEXTS(2), 3 },
 	{ "deadline-seeking", { "(1~2)", "~1!tnaA2", "()" }, CONTEXTS(1), 2 },
+	{ "deadline-handed-on", { "(ab+A+B)", "(ta+ib+BA)" }, CONTEXTS(4), 2 },
+	{ "cancel-inside", { "(a3~4A)", "~3$(1ia+A~2)", "~1c4TG2" }, CONTEXTS(4) | IL_INSIDE, 2 },
 	{ "static", { "(m+M)", "(m+M)" }, CONTEXTS(4) | STATIC, 2 },
 	{ "static-alone", { "nm+M", "nm+M" }, CONTEXTS(4) | STATIC, 2 },
 	{ "static-both", { "nm+M", "(m+M)" }, CONTEXTS(4) | STATIC, 2 },
 	{ "static-try", { "?nm+M", "(Lm;+U)" }, CONTEXTS(4) | STATIC, 2 },
 	{ "numbers", { "TGTG", "TGTG" }, CONTEXTS(4), 3 },
-	{ "numbers-aba", { "@TTGG", "@TTgG" }, CONTEXTS(4) | GIVEN, 3 },
+	{ "numbers-aba", { "@1TTGG", "@1TTgG" }, CONTEXTS(4) | GIVEN, 3 },
+	{ "numbers-4", { "TG", "TG", "TG", "TG" }, CONTEXTS(4), 1 },
+	{ "numbers-scan", { "@3T1~2G3", "~12@2.TG", "~3@4TG" }, CONTEXTS(4) | GIVEN, 1 },
 	{ "number-put", { "(1~2)", "~1n#mM", "~1sp2" }, CONTEXTS(1), 1 },
 	{ "free", { "(8)", "(9)", "_8_9F()" }, CONTEXTS(2), 2 },
 	{ "free-one", { "(8)", "(9)", "_8_9F()" }, CONTEXTS(1), 2 },
