@@ -9,7 +9,8 @@
 #include <sys/syscall.h>
 #include <unistd.h>
 
-_Static_assert(sizeof(ww_seat) == 64 && offsetof(ww_seat, handle) == 0, "a seat has one cache line, and begins with its handle");
+_Static_assert(sizeof(ww_seat) == 128 && offsetof(ww_seat, waits) == 64, "a seat has two cache lines");
+_Static_assert(offsetof(ww_seat, handle) == 0, "a seat begins with its handle");
 
 enum { NOTHING, TOKEN, ASLEEP };
 

@@ -26,17 +26,16 @@ static inline void __tsan_release(void *at) { (void)at; }
 struct ww_pool;
 typedef struct ww_world ww_world;
 
-/* It has a cache line of its own, and begins with its handle, which ww_mutex.h knows. */
+/* It has two cache lines of its own, the second for its counts, and begins with its handle, which ww_mutex.h knows. */
 typedef struct ww_seat {
 	ww_handle handle;
 	ww_world *world;
 	uint32_t token;		/* one futex word: nothing, a token, or its thread sleeps */
-	bool busy;		/* where its class's seats aren't shared: its keeper uses it */
-	bool kept;		/* by a thread, while they aren't shared; under the lock of opening */
-	bool left;		/* it was busy as they came to be shared; written once, by whoever shared them */
-	bool was_loose;		/* its user took it when they were shared */
+	uint8_t busy;		/* see ww_pool.c */
 	struct ww_pool *pool;	/* the class that has it */
-	uint32_t user;		/* the number of the thread that locked by it last, without a context */
+	uint64_t keeper;	/* the number of the thread that keeps it, or NO_THREAD */
+	uint64_t user;		/* of the thread that locked by it last, without a context */
+	struct ww_seat *next;	/* where it may be kept: another one of these */
 	uint64_t waits, back_offs; /* of its users, in all */
 } __attribute__((aligned(64))) ww_seat;
 

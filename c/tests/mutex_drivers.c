@@ -392,7 +392,6 @@ static void *leaves_it_held(void *arg)
 	return NULL;
 }
 
-/* Though it may have the memory of the one that is over, and has taken nothing yet. */
 static void *holds_nothing(void *arg)
 {
 	(void)arg;
@@ -400,6 +399,18 @@ static void *holds_nothing(void *arg)
 	return NULL;
 }
 
+/* By that which came first of all, and not by one that never called. */
+static void held_by_the_first_thread(void)
+{
+	ww_mutex_init(&asked, c);
+	MUST(!ww_mutex_lock(&asked, NULL));
+	end_thread(begin_thread(holds_nothing, NULL));
+	MUST(ww_mutex_is_held_by(&asked, NULL));
+	ww_mutex_unlock(&asked);
+	MUST(!ww_mutex_destroy(&asked) && !ww_class_free(c));
+}
+
+/* Another may have the memory of the one that is over. */
 static void held_by_a_thread_that_is_over(void)
 {
 	ww_mutex_init(&asked, c);
@@ -673,6 +684,7 @@ int main(void)
 
 	for (unsigned kind = 0; kind < 2; kind++) {
 		c = classes[kind];
+		held_by_the_first_thread();
 		there_before_any_call(kind ? &of_wait_die : &of_wound_wait);
 		base_has_an_address();
 		for (unsigned by = 0; by < 11; by++)

@@ -469,7 +469,7 @@ static void forks(bool amid_a_loop)
 	MUST(!ww_mutex_destroy(&a) && !ww_mutex_destroy(&b) && !ww_mutex_destroy(&d));
 }
 
-/* Of a thread that had just ended a context, and would begin the next one by the same seat: the child can't. */
+/* Though its thread had a seat at hand. */
 static void forks_with_a_seat_at_hand(void)
 {
 	pid_t child;

@@ -259,6 +259,28 @@ static void is_told_once(void)
 	ww_acquire_fini(&older);
 }
 
+/* Flags that are given amid a loop: from the next lock on a cancel ends its wait. */
+static void is_interruptible_from_then_on(void)
+{
+	int r = 0;
+
+	alarm(60);
+	ww_acquire_init(&older, &wait_die);
+	MUST(!ww_mutex_lock(&it, &older));
+	ww_acquire_init(&x, &wait_die);
+	ww_until_all_locked(&x) {
+		ww_acquire_flags(&x, WW_INTERRUPTIBLE);
+		MUST(!ww_acquire_cancel(&x));
+		r = ww_mutex_lock(&it, &x);
+		ww_retry_on_contention(&x);
+	}
+	MUST(r == -EINTR && !x.acquired);
+	ww_acquire_fini(&x);
+	ww_mutex_unlock(&it);
+	ww_acquire_fini(&older);
+	alarm(0);
+}
+
 int main(void)
 {
 	struct ww_mutex *all[] = { &it, &held, &owed, &unheld, &taken };
@@ -269,6 +291,7 @@ int main(void)
 	for (unsigned k = 0; k < sizeof rows / sizeof *rows; k++)
 		walks(&rows[k]);
 	is_told_once();
+	is_interruptible_from_then_on();
 	for (unsigned k = 0; k < 5; k++)
 		MUST(!ww_mutex_destroy(all[k]));
 	MUST(!ww_class_free(&wait_die));

@@ -106,7 +106,7 @@ long __wrap_syscall(long number, ...)
 static void waits_in_vain(void)
 {
 	struct ww_acquire_ctx older, x;
-	struct timespec soon = in_ms(20);
+	struct timespec soon = in_ms(300); /* for a busy machine: by then it sleeps */
 	unsigned stays = 1u << WW_STAYS | 1u << WW_YIELDS;
 
 	ww_acquire_init(&older, c);

@@ -10,15 +10,16 @@
  *	?	the next lock is tried; t: until a time; i: interruptible; where it has none, all up to its unlock is left out
  *	n	the next lock is without a context; !: it has to fail; .: it must not
  *	Lab;	locks these in a loop	U	unlocks all of it	&ab;	locks these as a list
+ *	Kab;	as L, but once told to back off it unlocks what it holds one by one, and locks that one before it begins anew
  *	+	adds to what each mutex guards that is held
  *	-	under m: one user less	D	whoever was the last one destroys m, and its memory goes
  *	d	destroys m where nobody has it or waits for it, and makes it anew
  *	c	cancels			1-9	something has happened	~1	waits for that, which orders	_1	which doesn't	=1	it has
  *	s w	waits until somebody waits for a context, unless 4 has happened; until somebody waits for m
  *	F	frees the class, asking until it is free	v	looks at its counts
- *	T G g	takes a number, if one is free; puts back that taken last, or first	p	puts the number of m, which is to be -EBUSY
+ *	T G g	takes a number, if one is free (.: one is); puts back that taken last, or first	p	puts the number of m, which is to be -EBUSY
  *	Where a program is NUMBERED all mutexes are known by their numbers.
- *	@	the thread's stack of numbers is the first one
+ *	@1	the thread's stack of numbers is this one
  */
 #define _GNU_SOURCE
 #include "interleave.h"
@@ -29,7 +30,8 @@
 #include <string.h>
 
 #define CONTEXTS(n) ((n) << 4)
-enum { WAIT_DIE = 1 << 8, STATIC = 1 << 9, GIVEN = 1 << 10, NUMBERED = 1 << 11 };
+#define KEEP(n) ((n) << 11) /* so many threads keep a seat besides */
+enum { WAIT_DIE = 1 << 8, STATIC = 1 << 9, GIVEN = 1 << 10, NUMBERED = 1 << 15 };
 
 enum way { FREE, BY_CONTEXT, ALONE, BY_LOOP };
 struct user {
@@ -47,7 +49,7 @@ static bool numbered;
 static uint32_t numbers[3];
 static struct ww_acquire_ctx contexts[IL_THREADS + 1][2], *shared, *given;
 static unsigned long sum[3], added[3][IL_THREADS + 1];
-static uint32_t inside, most, happened[10], refs, owner[4], cancels, met;
+static uint32_t inside, most, keep, users[8], happened[10], refs, owner[4], cancels, met;
 static struct timespec soon;
 
 #define SEEN(word) __atomic_load_n(&(word), __ATOMIC_RELAXED)
@@ -77,7 +79,8 @@ void il_setup(const struct il_program *p)
 {
 	ww_class_init(&c, !!(p->flags & WAIT_DIE), "c");
 	most = p->flags >> 4 & 15;
-	MUST(!ww_class_limit(&c, 3, most));
+	keep = p->flags >> 11 & 3;
+	MUST(!ww_class_limit(&c, 3, most) && (!keep || !ww_class_open_kept(&c, keep)));
 	mutexes = il_new(3 * sizeof *mutexes);
 	shared = il_new(sizeof *shared);
 	numbered = p->flags & NUMBERED;
@@ -106,6 +109,7 @@ void il_setup(const struct il_program *p)
 void il_check(const struct il_program *p)
 {
 	struct ww_acquire_ctx x[8];
+	uint32_t kept = 0;
 
 	for (unsigned k = 0; k < 3; k++) {
 		MUST(sum[k] == added[k][1] + added[k][2] + added[k][3] + added[k][4]);
@@ -113,12 +117,21 @@ void il_check(const struct il_program *p)
 			MUST(!ww_mutex_destroy(&mutexes[k]));
 	}
 	MUST(met <= cancels);
+#ifdef WW_DEBUG
+	/* Of these, each call is right, and none is dangerous. */
+	if (!names(p, 'n') && !names(p, '>') && !names(p, 'L') && !names(p, 'K') && !names(p, 'd') && !names(p, 'D') && !names(p, 'F'))
+		MUST(!ww_debug_faults() && !ww_debug_dangers());
+#endif
 	if (p->flags & GIVEN)
 		MUST(!ww_number_put(2, &c));
 	for (unsigned k = 0; numbered && k < 3; k++)
 		MUST(!ww_number_put(numbers[k], &c));
 	if (c.pool) {
 		MUST(!c.pool->seekers && !c.pool->first);
+		for (const ww_seat *it = c.pool->unkept; it; it = it->next)
+			kept++;
+		MUST(kept == keep);
+		most += !!keep; /* one is this thread's */
 		for (uint32_t k = 0; k < most; k++)
 			MUST(!ww_acquire_init_checked(&x[k], &c));
 		MUST(ww_acquire_init_checked(&x[most], &c) == -EAGAIN);
@@ -129,8 +142,16 @@ void il_check(const struct il_program *p)
 	MUST(!ww_class_free(&c));
 }
 
-static void enter(void) { MUST(ADD(inside, 1) < most); }
-static void leave(void) { ADD(inside, -1u); }
+static uint32_t *user_of(const ww_seat *s) { return &users[s - c.pool->world->seats]; }
+
+/* A context has a seat of its own. */
+static void enter(const ww_seat *s) { MUST(ADD(inside, 1) < most + keep && !ADD(*user_of(s), 1)); }
+
+static void leave(const ww_seat *s)
+{
+	ADD(inside, -1u);
+	ADD(*user_of(s), -1u);
+}
 
 static int begin(struct user *u, char how)
 {
@@ -144,7 +165,7 @@ static int begin(struct user *u, char how)
 		r = ww_acquire_init_checked(u->x, &c);
 	MUST(!r || r == (how == '[' ? -ETIMEDOUT : -EAGAIN));
 	if (!r)
-		enter();
+		enter(u->x->own);
 	return r;
 }
 
@@ -161,7 +182,12 @@ static void unlock(struct user *u, char letter)
 	u->held[k] = FREE;
 }
 
-static int lock_plainly(struct user *u, unsigned k) { return numbered ? ww_number_lock(numbers[k], u->x) : ww_mutex_lock(&mutexes[k], u->x); }
+static int lock_plainly(const struct user *u, unsigned k) { return numbered ? ww_number_lock(numbers[k], u->x) : ww_mutex_lock(&mutexes[k], u->x); }
+
+static bool is_held(const struct user *u, unsigned k)
+{
+	return numbered ? ww_number_is_held(numbers[k], u->x) : ww_mutex_is_held_by(&mutexes[k], u->x);
+}
 
 /* All that it held by its context it holds again, and this one. */
 static void back_off(struct user *u, char letter)
@@ -246,14 +272,42 @@ static const char *past(const char *at, char closes)
 	return *at ? at : at - 1;
 }
 
-static const char *loop(struct user *u, const char *at)
+/* Told to back off, it is refused all of these, as the table in ww_mutex.c says. */
+static void is_refused(const struct user *u, const char *at)
+{
+	MUST(ww_is_contended(u->x));
+	for (; *at != ';'; at++) {
+		unsigned k = index_of(*at);
+
+		MUST(lock_plainly(u, k) == (is_held(u, k) ? -EALREADY : -EINVAL));
+		MUST(numbered ? !ww_number_trylock(numbers[k], u->x) : !ww_mutex_trylock(&mutexes[k], u->x));
+	}
+}
+
+/* What it was told holds no longer once it holds nothing, and waits for that mutex by itself. */
+static void back_off_by_hand(const struct user *u, const char *at, struct ww_mutex *contended)
+{
+	for (; *at != ';'; at++)
+		if (ww_mutex_is_held_by(mutex_of(*at), u->x))
+			ww_mutex_unlock(mutex_of(*at));
+	MUST(!ww_mutex_lock(contended, u->x) && !ww_is_contended(u->x));
+	ww_acquire_unlock_all(u->x);
+}
+
+static const char *loop(struct user *u, const char *at, bool by_hand)
 {
 	ww_until_all_locked(u->x) {
 		for (const char *k = at; *k != ';'; k++) {
 			int r = lock_plainly(u, index_of(*k));
 
+			MUST(!r || r == -EDEADLK);
+			if (r)
+				is_refused(u, at);
+			if (r && by_hand) {
+				back_off_by_hand(u, at, mutex_of(*k));
+				k = at - 1;
+			}
 			ww_retry_on_contention(u->x);
-			MUST(!r);
 		}
 	}
 	for (; *at != ';'; at++)
@@ -309,13 +363,14 @@ static void free_class(void)
 	while ((r = ww_class_free(&c)) == -EBUSY)
 		il_yield();
 	MUST(!r);
+	keep = 0; /* of the class that is opened next */
 }
 
-static void take_number(struct user *u)
+static void take_number(struct user *u, bool is_there)
 {
 	int r = ww_number_take(&u->number[u->numbers], &c);
 
-	MUST(!r || r == -ENOSPC);
+	MUST(!r || (r == -ENOSPC && !is_there));
 	if (!r)
 		MUST(u->number[u->numbers] < 3 && !ADD(owner[u->number[u->numbers++]], 1));
 }
@@ -333,7 +388,7 @@ static void give_number(struct user *u, bool first)
 	MUST(!ww_number_put(given, &c));
 }
 
-static void act(struct user *u, char what)
+static void act(struct user *u, char what, const char *how)
 {
 	struct ww_class_counts counts;
 
@@ -342,7 +397,7 @@ static void act(struct user *u, char what)
 	case '>': given = u->x; u->x = &u->own[1]; break;
 	case '^': u->x = &u->own[1]; break;
 	case '<': u->x = given; break;
-	case ')': leave(); ww_acquire_fini(u->x); u->x = &u->own[u->x == &u->own[1]]; break;
+	case ')': leave(u->x->own); ww_acquire_fini(u->x); u->x = &u->own[u->x == &u->own[1]]; break;
 	case 'U': unlock_loop(u); break;
 	case '-': u->last = !--refs; break;
 	case 'D': if (u->last) destroy_last(); break;
@@ -352,8 +407,7 @@ static void act(struct user *u, char what)
 	case 'w': while (!SEEN(mutex_of('m')->waiters)) il_yield(); break;
 	case 'F': free_class(); break;
 	case 'v': ww_class_stats(&c, &counts); MUST(counts.context_waits <= 8); break;
-	case '@': ww_mine.thread = 1, ww_mine.stack = 2; break;
-	case 'T': take_number(u); break;
+	case 'T': take_number(u, strchr(how, '.')); break;
 	case 'G': give_number(u, false); break;
 	case 'g': give_number(u, true); break;
 	case 'p': MUST(ww_number_put(numbers[2], &c) == -EBUSY); break;
@@ -382,10 +436,12 @@ void il_thread(const char *at)
 			at = lock(&u, *at, how) ? past(at, (char)toupper(*at)) : at;
 		else if (strchr("ABM", *at))
 			unlock(&u, *at);
-		else if (*at == 'L')
-			at = loop(&u, at + 1);
+		else if (*at == 'L' || *at == 'K')
+			at = loop(&u, at + 1, *at == 'K');
 		else if (*at == '&')
 			at = list(&u, at + 1);
+		else if (*at == '@')
+			ww_mine.thread = STACKS + (uint64_t)(*++at - '0');
 		else if (*at == '~')
 			il_await(&happened[*++at - '0']);
 		else if (*at == '=')
@@ -396,13 +452,12 @@ void il_thread(const char *at)
 		else if (isdigit(*at))
 			il_set(&happened[*at - '0']);
 		else
-			act(&u, *at);
+			act(&u, *at, how);
 		*how = 0;
 	}
 }
 
-/* A seat that two contexts have. */
-const char *const il_fail_yet[] = { "handed-on", NULL };
+const char *const il_fail_yet[] = { NULL };
 
 const struct il_program il_programs[] = {
 	{ "lock", { "(a+A)", "(a+A)" }, CONTEXTS(4), 3 },
@@ -414,6 +469,8 @@ const struct il_program il_programs[] = {
 	{ "slow", { "(ab+AB)", "(ba+BA)" }, CONTEXTS(4), 3 },
 	{ "slow-die", { "(ab+AB)", "(ba+BA)" }, CONTEXTS(4) | WAIT_DIE, 3 },
 	{ "loop", { "(Lab;+U)", "(Lba;+U)" }, CONTEXTS(4), 3 },
+	{ "loop-by-hand", { "(Kab;+U)", "(Lba;+U)" }, CONTEXTS(4), 3 },
+	{ "loop-by-hand-die", { "(Kab;+U)", "(Lba;+U)" }, CONTEXTS(4) | WAIT_DIE, 3 },
 	{ "list", { "(&ab;+AB)", "(&ba;+AB)" }, CONTEXTS(4), 3 },
 	{ "slow-loop", { "(ab+AB)", "(Lba;+U)" }, CONTEXTS(4), 3 },
 	{ "number", { "(a+A)", "na+A" }, CONTEXTS(4) | NUMBERED, 3 },
@@ -435,8 +492,6 @@ const struct il_program il_programs[] = {
 	{ "contexts-2-of-3", { "()", "()", "()" }, CONTEXTS(2), 2 },
 	{ "contexts-delayed", { "()()", "()" }, CONTEXTS(1) | IL_DELAYS, 3 },
 	{ "contexts-3-delayed", { "()()", "()", "()" }, CONTEXTS(2) | IL_DELAYS, 2 },
-	{ "contexts-shared", { "()", "()()" }, CONTEXTS(1) | IL_NO_FENCES, 3 },
-	{ "contexts-3-shared", { "()", "()", "()" }, CONTEXTS(2) | IL_NO_FENCES, 2 },
 	{ "contexts-spurious", { "()", "()", "()" }, CONTEXTS(1) | IL_SPURIOUS, 2 },
 	{ "contexts-soon", { "()", "[)" }, CONTEXTS(1), 3 },
 	{ "contexts-soon-3", { "()", "[)", "[)" }, CONTEXTS(1), 2 },
@@ -453,6 +508,19 @@ const struct il_program il_programs[] = {
 	{ "handed-on", { "(>1()", "~1<)", "()" }, CONTEXTS(1), 2 },
 	{ "handed-on-2", { "(>1()", "~1<)", "()" }, CONTEXTS(2), 2 },
 	{ "handed-on-end", { "(>1", "~1<)()", "()" }, CONTEXTS(1), 2 },
+	{ "kept", { "()()", "()()" }, CONTEXTS(1) | KEEP(1), 3 },
+	{ "kept-2", { "()()", "()()", "()" }, CONTEXTS(1) | KEEP(2), 2 },
+	{ "kept-3", { "()()", "()", "()" }, CONTEXTS(1) | KEEP(1), 2 },
+	{ "kept-amid", { "(>()(<)^)", "()()" }, CONTEXTS(2) | KEEP(1), 3 },
+	{ "kept-alone", { "na+A()", "(nb+B)" }, CONTEXTS(2) | KEEP(1), 3 },
+	{ "kept-on", { "(>1()()", "~1<)" }, CONTEXTS(1) | KEEP(1), 3 },
+	{ "kept-on-delayed", { "(>1()()", "~1<)" }, CONTEXTS(1) | KEEP(1) | IL_DELAYS, 3 },
+	{ "kept-on-3", { "(>1()", "~1<)", "()" }, CONTEXTS(1) | KEEP(1), 2 },
+	{ "kept-end", { "(>1", "~1<)()" }, CONTEXTS(1) | KEEP(1), 3 },
+	{ "kept-end-delayed", { "(>1", "~1<)()" }, CONTEXTS(1) | KEEP(1) | IL_DELAYS, 3 },
+	{ "kept-end-3", { "(>1", "~1<)", "()()" }, CONTEXTS(1) | KEEP(1), 3 },
+	{ "kept-end-2-of-3", { "(>1", "~1()<)", "()" }, CONTEXTS(1) | KEEP(2), 2 },
+	{ "kept-free", { "(>8", "~8<)9", "_8_9F()" }, CONTEXTS(1) | KEEP(1), 2 },
 	{ "destroy", { "(m-M)D", "(m-M)D" }, CONTEXTS(4), 3 },
 	{ "destroy-alone", { "nm-MD", "nm-MD" }, CONTEXTS(4), 3 },
 	{ "destroy-both", { "(m-M)D", "nm-MD" }, CONTEXTS(4), 2 },
@@ -472,12 +540,16 @@ const struct il_program il_programs[] = {
 	{ "deadline-asleep", { "na1~2A", "~1(!taA2)" }, CONTEXTS(2), 3 },
 	{ "deadline-asleep-alone", { "na1~2A", "~1!tnaA2" }, CONTEXTS(2), 3 },
 	{ "deadline-seeking", { "(1~2)", "~1!tnaA2", "()" }, CONTEXTS(1), 2 },
+	{ "deadline-handed-on", { "(ab+A+B)", "(ta+ib+BA)" }, CONTEXTS(4), 2 },
+	{ "cancel-inside", { "(a3~4A)", "~3$(1ia+A~2)", "~1c4TG2" }, CONTEXTS(4) | IL_INSIDE, 2 },
 	{ "static", { "(m+M)", "(m+M)" }, CONTEXTS(4) | STATIC, 2 },
 	{ "static-alone", { "nm+M", "nm+M" }, CONTEXTS(4) | STATIC, 2 },
 	{ "static-both", { "nm+M", "(m+M)" }, CONTEXTS(4) | STATIC, 2 },
 	{ "static-try", { "?nm+M", "(Lm;+U)" }, CONTEXTS(4) | STATIC, 2 },
 	{ "numbers", { "TGTG", "TGTG" }, CONTEXTS(4), 3 },
-	{ "numbers-aba", { "@TTGG", "@TTgG" }, CONTEXTS(4) | GIVEN, 3 },
+	{ "numbers-aba", { "@1TTGG", "@1TTgG" }, CONTEXTS(4) | GIVEN, 3 },
+	{ "numbers-4", { "TG", "TG", "TG", "TG" }, CONTEXTS(4), 1 },
+	{ "numbers-scan", { "@3T1~2G3", "~12@2.TG", "~3@4TG" }, CONTEXTS(4) | GIVEN, 1 },
 	{ "number-put", { "(1~2)", "~1nmM", "~1sp2" }, CONTEXTS(1) | NUMBERED, 2 },
 	{ "number-deadline", { "(a+A)(a+A)", "(ta+A)" }, CONTEXTS(4) | NUMBERED, 3 },
 	{ "free", { "(8)", "(9)", "_8_9F()" }, CONTEXTS(2), 2 },
