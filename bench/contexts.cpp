@@ -5,12 +5,14 @@
  */
 #include <algorithm>
 #include <array>
+#include <cstdint>
 #include <cstdlib>
 #include <mutex>
 #include <string_view>
 #include <vector>
-#include <ww.hpp>
+#include <ww_mutex.h>
 #include <ww_number.h>
+#include <ww_steps.h>
 #if __has_include(<peer.h>)
 #include <peer.h>
 #define HAS_PEER
@@ -18,7 +20,7 @@
 
 namespace {
 
-constexpr unsigned most = 64, far_apart = WW_MAX_LOCKS / most;
+constexpr unsigned most = 64;
 
 void must(bool fact)
 {
@@ -26,98 +28,15 @@ void must(bool fact)
 		std::abort();
 }
 
-// ---- ww.h ----
-
-template <class Release> void by_number(unsigned k, unsigned times, Release release)
-{
-	ww::world world(ww::kind::wound_wait, most, 1);
-	ww::seat of_world(world);
-	ww_seat *const seat = of_world.get();
-
-	while (times--) {
-		must(!ww_begin(seat));
-		for (unsigned n = 0; n < k; n++)
-			must(!ww_lock(seat, n));
-		release(seat);
-		ww_end(seat);
-	}
-}
-
-void at_once(unsigned k, unsigned times)
-{
-	by_number(k, times, [](ww_seat *seat) { ww_unlock_all(seat); });
-}
-
-void newest_first(unsigned k, unsigned times)
-{
-	by_number(k, times, [k](ww_seat *seat) {
-		for (unsigned n = k; n--;)
-			ww_unlock(seat, n);
-	});
-}
-
-void oldest_first(unsigned k, unsigned times)
-{
-	by_number(k, times, [k](ww_seat *seat) {
-		for (unsigned n = 0; n < k; n++)
-			ww_unlock(seat, n);
-	});
-}
-
-void tried(unsigned k, unsigned times)
-{
-	ww::world world(ww::kind::wound_wait, most, 1);
-	ww::seat of_world(world);
-	ww_seat *const seat = of_world.get();
-
-	while (times--) {
-		must(!ww_begin(seat));
-		for (unsigned n = 0; n < k; n++)
-			must(!ww_trylock(seat, n));
-		ww_unlock_all(seat);
-		ww_end(seat);
-	}
-}
-
-void of_many(unsigned k, unsigned times)
-{
-	ww::world world(ww::kind::wound_wait, WW_MAX_LOCKS, 1);
-	ww::seat of_world(world);
-	ww_seat *const seat = of_world.get();
-
-	while (times--) {
-		must(!ww_begin(seat));
-		for (unsigned n = 0; n < k; n++)
-			must(!ww_lock(seat, n * far_apart));
-		ww_unlock_all(seat);
-		ww_end(seat);
-	}
-}
-
-void by_list(unsigned k, unsigned times)
-{
-	ww::world world(ww::kind::wound_wait, most, 1);
-	ww::seat of_world(world);
-	std::vector<unsigned> list(k);
-
-	for (unsigned n = 0; n < k; n++)
-		list[n] = n;
-	while (times--) {
-		ww::context context(of_world);
-
-		must(!context.lock_all(list, [] {}));
-	}
-}
-
 // ---- ww_mutex.h ----
 
 ww_class objects;
 std::array<ww_mutex, most> mutexes;
 
-void open_class()
+void open_class(unsigned contexts = 0)
 {
 	ww_class_init(&objects, WW_WOUND_WAIT, "objects");
-	must(!ww_class_limit(&objects, most, 1));
+	must(!ww_class_limit(&objects, most, contexts));
 	for (ww_mutex &it : mutexes)
 		ww_mutex_init(&it, &objects);
 }
@@ -173,15 +92,10 @@ void plain_done(unsigned k, unsigned times)
 	});
 }
 
-// A context more than there are was asked for.
-void plain_shared(unsigned k, unsigned times)
+// It says how many contexts it has.
+void plain_limited(unsigned k, unsigned times)
 {
-	ww_acquire_ctx x, refused;
-
-	open_class();
-	ww_acquire_init(&x, &objects);
-	must(ww_acquire_init_checked(&refused, &objects) == -EAGAIN);
-	ww_acquire_fini(&x);
+	open_class(1);
 	by_mutex(times, locking(k), [k](ww_acquire_ctx *) { unlock_newest_first(k); });
 }
 
@@ -197,21 +111,86 @@ void plain_tried(unsigned k, unsigned times)
 		[k](ww_acquire_ctx *) { unlock_newest_first(k); });
 }
 
-// The same mutexes, by their numbers.
-void numbered(unsigned k, unsigned times)
+// ---- ww_number.h ----
+
+// So many mutexes of a class, of which these are used, far apart.
+std::array<std::uint32_t, most> open_numbers(unsigned locks = most)
 {
-	open_class();
+	std::array<std::uint32_t, most> used{};
+
+	ww_class_init(&objects, WW_WOUND_WAIT, "objects");
+	must(!ww_class_limit(&objects, locks, 1));
+	for (unsigned n = 0; n < locks; n++)
+		must(!ww_number_take(&used[n / (locks / most)], &objects));
+	return used;
+}
+
+template <class Release> void by_number(unsigned k, unsigned times, unsigned locks, Release release)
+{
+	const auto numbers = open_numbers(locks);
+
 	by_mutex(
 		times,
-		[k](ww_acquire_ctx *x) {
+		[k, &numbers](ww_acquire_ctx *x) {
 			for (unsigned n = 0; n < k; n++)
-				must(!ww_number_lock(mutexes[n].number, x));
+				must(!ww_number_lock(numbers[n], x));
 		},
-		[k](ww_acquire_ctx *x) {
-			for (unsigned n = k; n--;)
-				ww_number_unlock(mutexes[n].number, x);
-		});
+		[k, &numbers, release](ww_acquire_ctx *x) { release(k, numbers, x); });
 }
+
+// As if they stood where they are called.
+struct newest_first {
+	[[gnu::always_inline]] void operator()(unsigned k, const std::array<std::uint32_t, most> &numbers, ww_acquire_ctx *x) const
+	{
+		while (k--)
+			ww_number_unlock(numbers[k], x);
+	}
+};
+
+void numbered(unsigned k, unsigned times) { by_number(k, times, most, newest_first()); }
+void numbered_of_many(unsigned k, unsigned times) { by_number(k, times, WW_MAX_LOCKS, newest_first()); }
+
+void numbered_oldest_first(unsigned k, unsigned times)
+{
+	by_number(k, times, most, [](unsigned count, const auto &numbers, ww_acquire_ctx *x) {
+		for (unsigned n = 0; n < count; n++)
+			ww_number_unlock(numbers[n], x);
+	});
+}
+
+void numbered_tried(unsigned k, unsigned times)
+{
+	const auto numbers = open_numbers();
+
+	by_mutex(
+		times,
+		[k, &numbers](ww_acquire_ctx *x) {
+			for (unsigned n = 0; n < k; n++)
+				must(ww_number_trylock(numbers[n], x));
+		},
+		[k, &numbers](ww_acquire_ctx *x) { newest_first()(k, numbers, x); });
+}
+
+void numbered_loop(unsigned k, unsigned times)
+{
+	const auto numbers = open_numbers();
+
+	by_mutex(
+		times,
+		[k, &numbers](ww_acquire_ctx *x) {
+			ww_until_all_locked(x) {
+				for (unsigned n = 0; n < k; n++) {
+					const int answer = ww_number_lock(numbers[n], x);
+
+					ww_retry_on_contention(x);
+					must(!answer);
+				}
+			}
+		},
+		[](ww_acquire_ctx *x) { ww_acquire_unlock_all(x); });
+}
+
+// ---- ww_mutex.h, in loops ----
 
 auto looping(unsigned k)
 {
@@ -327,18 +306,16 @@ struct way {
 	void (*contexts)(unsigned k, unsigned times);
 };
 constexpr way ways[]{
-	{ "all", at_once },
-	{ "newest", newest_first },
-	{ "oldest", oldest_first },
-	{ "try", tried },
-	{ "many", of_many },
-	{ "list", by_list },
 	{ "plain", plain },
 	{ "plain_oldest", plain_oldest_first },
 	{ "plain_done", plain_done },
-	{ "plain_shared", plain_shared },
+	{ "plain_limited", plain_limited },
 	{ "plain_try", plain_tried },
 	{ "numbered", numbered },
+	{ "numbered_oldest", numbered_oldest_first },
+	{ "numbered_try", numbered_tried },
+	{ "numbered_many", numbered_of_many },
+	{ "numbered_loop", numbered_loop },
 	{ "loop", loop },
 	{ "loop_each", loop_one_by_one },
 	{ "lock_all", lock_all },

@@ -37,9 +37,9 @@
 #include <unistd.h>
 #include <utility>
 #include <vector>
-#include <ww.h>
 #include <ww_mutex.h>
 #include <ww_number.h>
+#include <ww_steps.h>
 #if __has_include(<peer.h>)
 #include <peer.h>
 #define HAS_PEER
@@ -150,56 +150,6 @@ public:
 	}
 };
 
-// ww.h
-template <ww_kind kind> class numbers {
-	ww_world *world = nullptr;
-
-public:
-	using lock = no_lock;
-	explicit numbers(nodes<lock> &)
-	{
-		if (ww_open(&world, kind, all_locks(), now.threads))
-			std::exit(cant_open);
-	}
-	numbers(const numbers &) = delete;
-	~numbers() { must(ww_close(world)); }
-
-	struct thread {
-		ww_seat *seat;
-
-		thread(numbers &of, unsigned) : seat(ww_seat_get(of.world)) {}
-		thread(const thread &) = delete;
-		~thread() { must(ww_seat_put(seat)); }
-	};
-
-	template <class Fn> void transact(thread &me, nodes<lock> &, list &it, Fn &&fn)
-	{
-		ww_seat *const seat = me.seat;
-		unsigned slow = none;
-
-		must(ww_begin(seat));
-		for (;;) {
-			int answer = 0;
-			unsigned k = 0;
-
-			if (slow != none)
-				must(ww_lock_slow(seat, slow));
-			for (; k < now.takes && !answer; k++)
-				if (it[k] != slow)
-					answer = ww_lock(seat, it[k]);
-			if (!answer)
-				break;
-			if (answer != -EDEADLK)
-				std::exit(wrong_answer);
-			ww_unlock_all(seat);
-			slow = it[k - 1];
-		}
-		fn();
-		ww_unlock_all(seat);
-		ww_end(seat);
-	}
-};
-
 // ww_number.h
 template <ww_kind kind> class numbered {
 	ww_class its;
@@ -267,10 +217,11 @@ struct here {
 	using context = ww_acquire_ctx;
 
 	static void begin_thread() {}
-	static void open(class_ &c, int is_wait_die, unsigned mutexes, unsigned contexts)
+	// As a program that doesn't say how many contexts there are.
+	static void open(class_ &c, int is_wait_die, unsigned mutexes, unsigned)
 	{
 		ww_class_init(&c, is_wait_die, "bench");
-		if (ww_class_limit(&c, mutexes, contexts) || ww_class_open(&c))
+		if (ww_class_limit(&c, mutexes, 0) || ww_class_open(&c))
 			std::exit(cant_open);
 	}
 	static void close(class_ &c) { must(ww_class_free(&c)); }
@@ -550,8 +501,6 @@ constexpr named engines[]{
 	as<one_mutex>("one mutex"),
 	as<sorted_mutexes>("sorted"),
 	as<scoped_lock>("scoped_lock"),
-	as<numbers<wound_wait>>("ww.h wound-wait"),
-	as<numbers<wait_die>>("ww.h wait-die"),
 	as<numbered<wound_wait>>("numbered wound-wait"),
 	as<numbered<wait_die>>("numbered wait-die"),
 	as<mutexes<wound_wait, plainly>>("plain wound-wait"),

@@ -1,7 +1,7 @@
 /* ww_inside.h - what a world and a seat are, for the library's own sources and its tests. No program includes it. */
 #ifndef WW_INSIDE_H
 #define WW_INSIDE_H
-#include "ww.h"
+#include "ww_steps.h"
 #include <time.h>
 
 #define LIKELY(fact) __builtin_expect(!!(fact), 1)
@@ -23,42 +23,25 @@ static inline void __tsan_acquire(void *at) { (void)at; }
 static inline void __tsan_release(void *at) { (void)at; }
 #endif
 
-/* Two locks of a list: that acquired before this one, and after it. */
-struct ww_link {
-	uint32_t before, after;
-};
-
 struct ww_pool;
+typedef struct ww_world ww_world;
 
-/* It has two cache lines of its own. The first is what ww.h says, which its thread alone uses. */
-struct ww_seat {
-	union {
-		ww_handle handle;
-		ww_front_ front;
-	};
+/* It has two cache lines of its own, the second for its counts, and begins with its handle, which ww_mutex.h knows. */
+typedef struct ww_seat {
+	ww_handle handle;
 	ww_world *world;
 	uint32_t token;		/* one futex word: nothing, a token, or its thread sleeps */
-	uint32_t cancels;	/* how often it was cancelled, by others */
-	uint32_t stops;		/* how many waits that called off */
-	bool stale;		/* a cancel is pending that was meant for a user before this one */
-	bool taken;		/* by ww_seat_get */
-	bool busy;		/* for ww_mutex.h, where its class's seats aren't shared: its keeper uses it */
-	bool kept;		/* by a thread, while they aren't shared; under the lock of opening */
-	bool left;		/* it was busy as they came to be shared; written once, by whoever shared them */
-	bool was_loose;		/* its user took it when they were shared */
-	uint32_t listed;	/* of the locks that are listed the one acquired last */
-	struct ww_pool *pool;	/* the class of ww_mutex.h that has it, if any */
-	uint32_t user;		/* there: the number of the thread that locked by it last, without a context */
+	uint8_t busy;		/* see ww_pool.c */
+	struct ww_pool *pool;	/* the class that has it */
+	uint64_t keeper;	/* the number of the thread that keeps it, or NO_THREAD */
+	uint64_t user;		/* of the thread that locked by it last, without a context */
+	struct ww_seat *next;	/* where it may be kept: another one of these */
 	uint64_t waits, back_offs; /* of its users, in all */
-} __attribute__((aligned(64)));
+} __attribute__((aligned(64))) ww_seat;
 
-/* Behind the seats lies what the thread sanitizer is told of, where it is in use. */
+/* What a class has of the proved library: as many locks and seats as it was opened with. */
 struct ww_world {
 	uint32_t locks, count;	/* of its seats */
-	uint32_t turn;		/* where ww_seat_get looks first */
-	char *orders;		/* an address for each lock, by which the thread sanitizer knows it */
-	uint64_t *marks;	/* for each seat a bit a lock: it is held */
-	struct ww_link *links;	/* one a lock, for whoever holds it and has listed it */
 	ww_seat seats[];
 };
 
@@ -70,6 +53,10 @@ struct ww_stop {
 };
 
 #define WW_HIDDEN __attribute__((visibility("hidden")))
+/* -EINVAL, -ENOMEM. Afterwards *world is NULL then. */
+WW_HIDDEN int ww_open(ww_world **world, int kind, uint32_t locks, uint32_t seats);
+/* -EBUSY: a seat has a context, or holds a lock. It may be NULL. */
+WW_HIDDEN int ww_close(ww_world *world);
 /* All steps of a call but the first. */
 WW_HIDDEN int ww_go_on(ww_seat *s, struct ww_stop *stop);
 /* Cancels the wait of this seat, by one that no context has. */
@@ -90,14 +77,4 @@ WW_HIDDEN bool ww_is_parked(const ww_seat *s);
 static inline const struct timespec *ww_debug_sleeps(const struct timespec *until) { return until; }
 #endif
 
-/*
- * Takes away a cancel that met no wait of the seat's user, by its thread.  The
- * proved library can't drop one outside a wait, so it stays, marked, and the first
- * wait that it calls off begins anew.
- */
-static inline void drop_cancel(ww_seat *s)
-{
-	if ((int32_t)(__atomic_load_n(&s->cancels, __ATOMIC_SEQ_CST) - s->stops) > 0)
-		__atomic_store_n(&s->stale, true, __ATOMIC_SEQ_CST);
-}
 #endif

@@ -40,8 +40,7 @@
 #define WW_NOWHERE_
 #endif
 
-// In the kernel's form; the numbered locks of ww.hpp are in ww.
-namespace ww::kernel {
+namespace ww {
 
 // At its end something was still in use. A static object stays there, and may be, since other threads may go on beside the
 // end of the program.
@@ -66,7 +65,7 @@ public:
 	{
 		WW_NOWHERE_;
 		if (ww_place_(this) != WW_PROGRAM_ && ww_class_free(&it_))
-			left_("ww::kernel::mutex_class: a mutex or a context is left\n", this);
+			left_("ww::mutex_class: a mutex or a context is left\n", this);
 	}
 	mutex_class(const mutex_class &) = delete;
 	mutex_class &operator=(const mutex_class &) = delete;
@@ -94,7 +93,7 @@ public:
 	{
 		WW_NOWHERE_;
 		if (ww_mutex_end_(&it_))
-			left_("ww::kernel::mutex: somebody holds it, or waits for it\n", this);
+			left_("ww::mutex: somebody holds it, or waits for it\n", this);
 	}
 	mutex(const mutex &) = delete;
 	mutex &operator=(const mutex &) = delete;
@@ -293,7 +292,10 @@ template <class Next, class Fn> auto lock_walk(struct ww_class &c, Next &&next, 
 	return context(c, flags WW_AND_THERE_).with_walk(std::forward<Next>(next), std::forward<Fn>(fn) WW_AND_THERE_);
 }
 
-} // namespace ww::kernel
+// As it was called before version 4.
+namespace kernel = ::ww;
+
+} // namespace ww
 
 #undef WW_FROM_
 #undef WW_AND_FROM_

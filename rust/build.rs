@@ -10,7 +10,7 @@ use std::process::Command;
 use std::{env, fs};
 
 /// The first number of `ww_version`, with which the binary interface changes.
-const INTERFACE: u32 = 3;
+const INTERFACE: u32 = 4;
 
 type Answer<T> = Result<T, String>;
 

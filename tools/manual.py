@@ -1,7 +1,7 @@
 """The pages of the manual. That of a header is told by what it says at its head, and of each call that it declares; that
 of the program by the page of what it reads and prints.
 
-A call whose name ends with _ isn't told, and the part of a header that is compiled into callers isn't read.
+A call whose name ends with _ is told of the steps alone, and the part of a header that is compiled into callers isn't read.
 """
 import itertools
 import re
@@ -11,9 +11,10 @@ COMMENT = re.compile(r"^/\*.*?\*/$", re.DOTALL | re.MULTILINE)
 # A call, a macro that takes arguments, and a value with what it is for.
 ARGUMENTS = r"((?:[^()]|\([^()]*\))*)"
 CALL = re.compile(rf"^(?:WW_MUST_CHECK )?((?:\w+[ *]+)+)(\w*[a-z\d])\({ARGUMENTS}\)(?: [^;{{}}]*)?;", re.MULTILINE)
+STEP = re.compile(CALL.pattern.replace(r"[a-z\d])", r"[a-z\d]_?)"), re.MULTILINE)
 MACRO = re.compile(r"^#define (DEFINE_\w+|WW_[A-Z_]*[A-Z]|ww_\w*[a-z])\(([\w, ]+|\.\.\.)\)", re.MULTILINE)
 VALUE = re.compile(r"^\t(WW_\w+) = \d+,\s*/\* (.*?) \*/$", re.MULTILINE)
-NAME = re.compile(r"(?<![/\w])((?:ww_|DEFINE_W)\w*[a-zA-Z]|WW_[A-Z_]+[A-Z])\b(?!\.h)")
+NAME = re.compile(r"(?<![/\w])((?:ww_|DEFINE_W)\w*[a-zA-Z]_?|WW_[A-Z_]+[A-Z])\b(?!\.h)")
 END = "#define WW_NO_INLINE\n"
 
 
@@ -73,13 +74,13 @@ def declared(kind, name, arguments):
     return [".BI " + " ".join(f'"{it}"' for it in line) for line in lines]
 
 
-def parts_of(header):
+def parts_of(header, call):
     """Each comment of a header, with the calls and values below it, up to the next comment or blank line."""
     text = header.split(END)[0]
     for comment in COMMENT.finditer(text):
         below = text[comment.end() + 1 :].split("\n\n")[0]
         below = "" if text.startswith("\n\n", comment.end()) else COMMENT.split(below)[0]
-        calls = [("", *it) for it in MACRO.findall(below)] + CALL.findall(below)
+        calls = [("", *it) for it in MACRO.findall(below)] + call.findall(below)
         stands_alone = text.startswith("\n\n", comment.end())
         yield said_by(comment[0]), calls, VALUE.findall(below), stands_alone
 
@@ -92,25 +93,28 @@ def entries(parts):
                 yield from [".RS", ".TP", f".B {value}", *filled([what]), ".RE"]
         elif said[0].startswith("----"):
             yield f".SS {said[0].strip('- ').capitalize()}"
-        elif stands_alone:
+        elif stands_alone or values:
             yield from [".PP", *told(said, ".PP")]
+            for value, what in values:
+                yield from [".TP", f".B {value}", *filled([what])]
 
 
 def page(header, version):
     """The page of a header."""
-    (head, *_), *parts = parts_of(header)
+    call = STEP if header.startswith("/*\n * ww_steps.h") else CALL
+    (head, *_), *parts = parts_of(header, call)
     name, _, what = head[0].rstrip(".").partition(".h - ")
-    left = {it for _, it, _ in CALL.findall(header.split(END)[0])} - {it for _, calls, *_ in parts for _, it, _ in calls}
+    left = {it for _, it, _ in call.findall(header.split(END)[0])} - {it for _, calls, *_ in parts for _, it, _ in calls}
     if left:
         raise SystemExit(f"pages: {name}.h has no comment right above {', '.join(sorted(left))}")
     made = [f'.TH {name.upper()} 3 "" "libww {version}" "Wound/wait locks"']
     made += ['.\\" Written by tools/pages from the header: change its comments, not this page.', ".nh"]
     made += [".SH NAME", f"{name} \\- {what}", ".SH SYNOPSIS", ".nf", f".B #include <{name}.h>", ".PP"]
-    made += [line for _, calls, *_ in parts for call in calls for line in declared(*call)]
+    made += [line for _, calls, *_ in parts for it in calls for line in declared(*it)]
     made += [".fi", ".PP", r"Link with \fI\-lww \-pthread\fP.", ".SH DESCRIPTION", *told(head[2:], ".PP")]
     made += [".SH CALLS", "If nothing else is said, 0 is success, and an error a negative number of", ".BR errno (3)."]
     made += entries(parts)
-    other = "ww" if name == "ww_mutex" else "ww_mutex"
+    other = "ww_number" if name == "ww_mutex" else "ww_mutex"
     return "\n".join([*made, ".SH SEE ALSO", f".BR {other} (3)", ""])
 
 

@@ -8,13 +8,13 @@
 
 namespace {
 
-using ww::kernel::mutex;
+using ww::mutex;
 
 struct buffer {
 	mutex lock;
 	buffer *origin WW_GUARDED_BY(lock) = nullptr;
 	unsigned long count WW_GUARDED_BY(lock) = 0;
-	explicit buffer(ww::kernel::mutex_class &c) : lock(c) {}
+	explicit buffer(ww::mutex_class &c) : lock(c) {}
 };
 
 // Tells the mutexes of a buffer and its origins, at most five, and keeps these. A ring ends where it comes back to the first.
@@ -43,13 +43,13 @@ public:
 	const std::vector<buffer *> &found() const { return found_; }
 };
 
-bool works(ww::kernel::mutex_class &c, std::deque<buffer> &all, unsigned x)
+bool works(ww::mutex_class &c, std::deque<buffer> &all, unsigned x)
 {
 	for (int k = 0; k < 5000; k++) {
 		x = x * 1664525u + 1013904223u;
 		chain from(&all[(x >> 8) % all.size()]);
 
-		auto done = ww::kernel::lock_walk(c, from, [&] {
+		auto done = ww::lock_walk(c, from, [&] {
 			for (buffer *it : from.found()) {
 				it->lock.assert_held();
 				it->count++;
@@ -67,7 +67,7 @@ bool works(ww::kernel::mutex_class &c, std::deque<buffer> &all, unsigned x)
 
 int main()
 {
-	ww::kernel::mutex_class c(ww::kernel::mutex_class::wound_wait, "buffers");
+	ww::mutex_class c(ww::mutex_class::wound_wait, "buffers");
 	std::deque<buffer> all;
 	std::vector<std::thread> threads;
 	bool right[4];
@@ -80,7 +80,7 @@ int main()
 	for (auto &it : threads)
 		it.join();
 	for (auto &it : all) {
-		ww::kernel::guard held(it.lock);
+		ww::guard held(it.lock);
 		sum += it.count;
 	}
 	for (bool it : right)

@@ -27,8 +27,8 @@ def read(path):
 
 
 def version():
-    """That of the library, as ww.h has it."""
-    return ".".join(re.findall(r"#define WW_VERSION_[A-Z]+ (\d+)", read(f"{C}/ww.h").decode()))
+    """That of the library, as ww_steps.h has it."""
+    return ".".join(re.findall(r"#define WW_VERSION_[A-Z]+ (\d+)", read(f"{C}/ww_steps.h").decode()))
 
 
 def pack(folder, library, platform, more=()):

@@ -60,8 +60,7 @@ static void one_mutex_too_many(void)
 }
 static void loop_while_it_holds(void)
 {
-	ww_until_all_locked(&x) {
-	}
+	ww_until_all_locked(&x) {}
 }
 
 /* Of a class that was opened before the fork a child gets nothing. */

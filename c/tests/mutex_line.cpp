@@ -8,9 +8,9 @@
 #include <cstdlib>
 #include <vector>
 
-using ww::kernel::context;
-using ww::kernel::mutex;
-using ww::kernel::mutex_class;
+using ww::context;
+using ww::mutex;
+using ww::mutex_class;
 
 static void must(bool fact)
 {
@@ -32,10 +32,10 @@ int main()
 	must(x.lock_until(m, at) == -EINVAL);	// wrong
 	must(x.lock_all(list) == -EINVAL);	// wrong
 	must(!x.with_all(list, [] {}));	// wrong
-	must(!ww::kernel::lock_all(c, list, [] {}));	// wrong
+	must(!ww::lock_all(c, list, [] {}));	// wrong
 	must(x.lock_walk(next) == -EINVAL);	// wrong
 	must(!x.with_walk(next, [] {}));	// wrong
-	must(!ww::kernel::lock_walk(c, next, [] {}));	// wrong
+	must(!ww::lock_walk(c, next, [] {}));	// wrong
 	must(ww_debug_faults() == 9);
 	return 0;
 }

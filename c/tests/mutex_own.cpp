@@ -1,6 +1,5 @@
 // Mutexes and contexts of C++: each releases itself, also where a callable throws, and results are passed on. With
 // -DUNGUARDED clang has to warn.
-#include "../ww.hpp"
 #include "../ww_mutex.hpp"
 #include <algorithm>
 #include <array>
@@ -23,10 +22,10 @@
 		}                                                                                      \
 	} while (0)
 
-using ww::kernel::context;
-using ww::kernel::guard;
-using ww::kernel::mutex;
-using ww::kernel::mutex_class;
+using ww::context;
+using ww::guard;
+using ww::mutex;
+using ww::mutex_class;
 
 static DEFINE_WD_CLASS(ww_class);
 
@@ -96,9 +95,9 @@ static void lists(struct ww_class &c)
 	});
 	MUST(text && **text == "all" && text->get()->size() == 3 && !x.held());
 	MUST(x.lock_all(twice) == -EALREADY && !x.held());
-	MUST(ww::kernel::lock_all(c, twice, [] { return 1; }).error() == -EALREADY);
-	MUST(*ww::kernel::lock_all(c, twice, [] { return 5; }, WW_IGNORE_DUPLICATES) == 5);
-	MUST(ww::kernel::lock_all(c, list, [] {}));
+	MUST(ww::lock_all(c, twice, [] { return 1; }).error() == -EALREADY);
+	MUST(*ww::lock_all(c, twice, [] { return 5; }, WW_IGNORE_DUPLICATES) == 5);
+	MUST(ww::lock_all(c, list, [] {}));
 	MUST(in_a_loop(x.get(), twice) == -EALREADY && x.held() == 1);
 	x.unlock_all();
 	MUST(!x.lock_all(list) && x.lock_all(list) == -EINVAL && x.held() == 3);
@@ -168,7 +167,7 @@ static void walks(struct ww_class &c)
 	};
 
 	MUST(*x.with_walk(next, [&] { return x.held(); }) == 3 && !x.held() && begun == 1);
-	MUST(ww::kernel::lock_walk(c, next, [&] { MUST(a.is_locked() && b.is_locked() && d.is_locked()); }) && !d.is_locked());
+	MUST(ww::lock_walk(c, next, [&] { MUST(a.is_locked() && b.is_locked() && d.is_locked()); }) && !d.is_locked());
 	MUST(!x.lock_walk(next) && x.held() == 3 && x.lock_walk(next) == -EINVAL && x.held() == 3 && begun == 3);
 	x.unlock_all();
 	way[3] = &strange;
@@ -233,9 +232,9 @@ static void scopes(struct ww_class &c) WW_SAFETY_(no_thread_safety_analysis)
 		std::unique_lock<mutex> third(*all[2], std::try_to_lock), in_vain(*all[1], std::try_to_lock);
 		MUST(third && !in_vain && are_locked() == 3);
 	}
-	MUST(!are_locked() && *ww::kernel::lock_all(c, std::vector<mutex *>(), [&] { return are_locked(); }) == 0);
+	MUST(!are_locked() && *ww::lock_all(c, std::vector<mutex *>(), [&] { return are_locked(); }) == 0);
 	list.push_back(list[0]);
-	MUST(*ww::kernel::lock_all(c, list, [&] { return are_locked(); }, WW_IGNORE_DUPLICATES) == count && !are_locked());
+	MUST(*ww::lock_all(c, list, [&] { return are_locked(); }, WW_IGNORE_DUPLICATES) == count && !are_locked());
 }
 
 static mutex_class lasting(mutex_class::wait_die, "lasting");
@@ -345,7 +344,7 @@ static void storm(struct ww_class &c)
 					return ++third.sum;
 				};
 
-				MUST(ww::kernel::lock_all(c, list, moves, WW_IGNORE_DUPLICATES));
+				MUST(ww::lock_all(c, list, moves, WW_IGNORE_DUPLICATES));
 			}
 		});
 	for (auto &it : workers)

@@ -1,5 +1,5 @@
 /*
- * What a call does between its steps, as ww.h asks it of whoever makes them: behind WW_AGAIN, when its seat may be inside a
+ * What a call does between its steps, as ww_steps.h asks it of whoever makes them: behind WW_AGAIN, when its seat may be inside a
  * guard, it makes the next step and nothing else; and it asks whom to wake where somebody can be due, each time until nobody
  * is.  The steps, what the library locks and what it asks the system for come by wrappers (ld --wrap).
  */
@@ -106,7 +106,7 @@ long __wrap_syscall(long number, ...)
 static void waits_in_vain(void)
 {
 	struct ww_acquire_ctx older, x;
-	struct timespec soon = in_ms(20);
+	struct timespec soon = in_ms(300); /* for a busy machine: by then it sleeps */
 	unsigned stays = 1u << WW_STAYS | 1u << WW_YIELDS;
 
 	ww_acquire_init(&older, c);

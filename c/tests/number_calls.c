@@ -273,6 +273,30 @@ static void is_awaited_without_a_context(void)
 	MUST(!ww_number_take(&n[1], c) && !ww_number_put(n[0], c) && !ww_number_take(&n[0], c));
 }
 
+/* Told to end by pthread_cancel before: so it would end at the first call at which such a thread ends. */
+static void *is_told_to_end(void *arg)
+{
+	ww_acquire_init(&y, c);
+	MUST(!pthread_cancel(pthread_self()));
+	MUST(!ww_number_lock(n[0], &y) && !ww_number_unlock(n[0], &y));
+	ww_acquire_fini(&y);
+	return arg;
+}
+
+/* It ends behind its calls, though it sleeps amid one. */
+static void is_no_end_of_thread(void)
+{
+	struct ww_seat *by;
+	pthread_t thread;
+	void *ended;
+
+	MUST(!ww_number_lock_alone(n[0], c, NULL, &by));
+	thread = begin_thread(is_told_to_end, n);
+	usleep(20000);
+	ww_number_unlock_alone(n[0], by);
+	MUST(!pthread_join(thread, &ended) && ended == n);
+}
+
 /* After -EDEADLK another comes first, which the debug library tells. */
 static void another_comes_first(void)
 {
@@ -479,6 +503,7 @@ static void all_of(struct ww_class *class_)
 	tells(without_one, 0);
 	tells(is_called_off, 0);
 	tells(is_awaited_without_a_context, 0);
+	tells(is_no_end_of_thread, 0);
 	tells(has_one_victim, 0);
 	if (c == &wait_die)
 		tells(another_comes_first, 1);

@@ -1,7 +1,6 @@
 /*
- * Each allocation of opening is refused in turn: no handle is written, the world
- * isn't open, and nothing is left.  This heap stands in for that of the library,
- * and what ww.c itself asks for comes by the wrappers (ld --wrap).
+ * Each allocation of opening is refused in turn: no handle is written, and nothing is left.  This heap stands in for that of
+ * the library; mutex_refuse.c has that of a class.
  */
 #include "test.h"
 
@@ -36,26 +35,10 @@ struct tried rattle_realloc(void *p, size_t kept, size_t size, size_t align)
 	return told(made++ == refused ? NULL : realloc(p, size ? size : align));
 }
 
-void rattle_dealloc(void *p) { free(p); }
-
-void *__real_aligned_alloc(size_t align, size_t size);
-void *__real_calloc(size_t count, size_t size);
-void __real_free(void *p);
-void *__wrap_aligned_alloc(size_t align, size_t size);
-void *__wrap_calloc(size_t count, size_t size);
-void __wrap_free(void *p);
-
-void *__wrap_aligned_alloc(size_t align, size_t size)
-{
-	return asked(made++ == refused ? NULL : __real_aligned_alloc(align, size));
-}
-
-void *__wrap_calloc(size_t count, size_t size) { return asked(made++ == refused ? NULL : __real_calloc(count, size)); }
-
-void __wrap_free(void *p)
+void rattle_dealloc(void *p)
 {
 	live -= p != NULL;
-	__real_free(p);
+	free(p);
 }
 
 /* By the call that opens handles. Afterwards no other call takes memory. */
@@ -91,35 +74,12 @@ static void opens_handles(uint32_t kind, uint32_t locks)
 	printf("%ld allocations to open %u locks with 16 seats, each refused in turn; none by the calls\n", all, locks);
 }
 
-/* By the call of the header. */
-static void opens_world(int kind, uint32_t locks)
-{
-	ww_world *world;
-	ww_seat *s;
-	int r;
-
-	for (refused = 0;; refused++) {
-		made = 0;
-		r = ww_open(&world, kind, locks, 2);
-		if (!r)
-			break;
-		MUST(r == -ENOMEM && !live && !world);
-	}
-	MUST(made && made == refused && live && (s = ww_seat_get(world)));
-	made = 0;
-	refused = -1;
-	MUST(!ww_begin(s) && !ww_lock(s, 0) && !ww_lock(s, locks - 1) && !ww_unlock_all(s) && !ww_end(s) && !made);
-	MUST(!ww_seat_put(s) && !ww_close(world) && !live);
-}
-
 int main(void)
 {
 	const uint32_t sizes[] = { 64, 4096, WW_MAX_LOCKS };
 
 	for (int kind = 0; kind < 2; kind++)
-		for (unsigned k = 0; k < sizeof sizes / sizeof *sizes; k++) {
+		for (unsigned k = 0; k < sizeof sizes / sizeof *sizes; k++)
 			opens_handles((uint32_t)kind, sizes[k]);
-			opens_world(kind, sizes[k]);
-		}
 	return 0;
 }

@@ -19,29 +19,6 @@
 
 static inline unsigned next(unsigned *x) { return (*x = *x * 1664525u + 1013904223u) >> 8; }
 
-/* Takes these locks, in this order but for the one that was told, and backs off until it has them all. */
-static inline unsigned long lock_all(ww_seat *s, const uint32_t *list, uint32_t count)
-{
-	unsigned long backs = 0;
-	uint32_t slow = WW_MAX_LOCKS;
-
-	for (;;) {
-		int r = slow < WW_MAX_LOCKS ? ww_lock_slow(s, slow) : 0;
-		uint32_t k;
-
-		MUST(!r);
-		for (k = 0; k < count && !r; k++)
-			if (list[k] != slow)
-				r = ww_lock(s, list[k]);
-		if (!r)
-			return backs;
-		MUST(r == -EDEADLK && ww_held(s));
-		slow = list[k - 1];
-		MUST(!ww_unlock_all(s));
-		backs++;
-	}
-}
-
 /* The next step of a call, which wakes nobody and rests for nothing. */
 static inline int turn(ww_handle *h)
 {

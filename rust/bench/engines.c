@@ -1,9 +1,8 @@
-/* engines.c - the transactions of main.rs in C: by ww_mutex.h, written out as the kernel's documents do, and by ww.h. */
-#include "ww.h"
-#include "ww_mutex.h"
+/* engines.c - the transactions of main.rs in C: by ww_mutex.h, written out as the kernel's documents do, and by ww_number.h. */
+#include "ww_number.h"
 #include <stdlib.h>
 
-enum { MOST = 8, SEATS = 16 };
+enum { MOST = 8 };
 
 struct object {
 	struct ww_mutex lock;
@@ -11,26 +10,32 @@ struct object {
 } __attribute__((aligned(64)));
 
 struct plain {
+	uint32_t lock;
 	unsigned long value;
 } __attribute__((aligned(64)));
 
+/* One for mutexes, and one for numbers. */
 static DEFINE_WW_CLASS(wound);
 static DEFINE_WD_CLASS(die);
-static struct ww_class *class_;
+static DEFINE_WW_CLASS(wound_numbers);
+static DEFINE_WD_CLASS(die_numbers);
+static struct ww_class *class_, *numbers;
 static struct object *objects;
-static ww_world *world;
 static struct plain *plains;
 
 /* So many objects of both interfaces. */
 void engines_open(int is_wait_die, unsigned count)
 {
 	class_ = is_wait_die ? &die : &wound;
+	numbers = is_wait_die ? &die_numbers : &wound_numbers;
 	objects = aligned_alloc(64, count * sizeof *objects);
 	plains = aligned_alloc(64, count * sizeof *plains);
-	if (!objects || !plains || ww_open(&world, is_wait_die, count, SEATS))
+	if (!objects || !plains)
 		abort();
 	for (unsigned k = 0; k < count; k++) {
 		ww_mutex_init(&objects[k].lock, class_);
+		if (ww_number_take(&plains[k].lock, numbers))
+			abort();
 		objects[k].value = plains[k].value = 0;
 	}
 }
@@ -42,10 +47,10 @@ void engines_close(unsigned count, unsigned long sums[2])
 	for (unsigned k = 0; k < count; k++) {
 		sums[0] += objects[k].value;
 		sums[1] += plains[k].value;
-		if (ww_mutex_destroy(&objects[k].lock))
+		if (ww_mutex_destroy(&objects[k].lock) || ww_number_put(plains[k].lock, numbers))
 			abort();
 	}
-	if (ww_close(world) || ww_class_free(class_))
+	if (ww_class_free(numbers) || ww_class_free(class_))
 		abort();
 	free(objects);
 	free(plains);
@@ -96,29 +101,35 @@ static void by_mutexes(const unsigned *list, unsigned takes)
 	ww_acquire_fini(&x);
 }
 
-static void by_numbers(ww_seat *s, const unsigned *list, unsigned takes)
+static void by_numbers(const unsigned *list, unsigned takes)
 {
+	struct ww_acquire_ctx x;
 	unsigned slow = takes, k;
 
-	if (ww_begin(s))
-		abort();
+	ww_acquire_init(&x, numbers);
 	for (;;) {
 		int r = 0;
 
 		for (k = 0; k < takes && !r; k++)
 			if (k != slow)
-				r = ww_lock(s, list[k]);
+				r = ww_number_lock(plains[list[k]].lock, &x);
 		if (!r)
 			break;
-		ww_unlock_all(s);
-		slow = k - 1;
-		if (ww_lock_slow(s, list[slow]))
+		k--;
+		for (unsigned j = 0; j < k; j++)
+			if (j != slow)
+				ww_number_unlock(plains[list[j]].lock, &x);
+		if (slow < takes)
+			ww_number_unlock(plains[list[slow]].lock, &x);
+		slow = k;
+		if (ww_number_lock(plains[list[slow]].lock, &x))
 			abort();
 	}
 	for (k = 0; k < takes; k++)
 		plains[list[k]].value++;
-	ww_unlock_all(s);
-	ww_end(s);
+	for (k = 0; k < takes; k++)
+		ww_number_unlock(plains[list[k]].lock, &x);
+	ww_acquire_fini(&x);
 }
 
 /* Until `stop` isn't 0, or so many if `most` isn't; how many it made. */
@@ -126,19 +137,14 @@ unsigned long engines_go(int by_number, unsigned takes, unsigned count, unsigned
 {
 	unsigned long x = seed, done = 0;
 	unsigned list[MOST];
-	ww_seat *s = by_number ? ww_seat_get(world) : NULL;
 
-	if (by_number && !s)
-		abort();
 	while (most ? done < most : !__atomic_load_n(stop, __ATOMIC_RELAXED)) {
 		engines_draw(&x, takes, count, list);
 		if (by_number)
-			by_numbers(s, list, takes);
+			by_numbers(list, takes);
 		else
 			by_mutexes(list, takes);
 		done++;
 	}
-	if (s)
-		ww_seat_put(s);
 	return done;
 }

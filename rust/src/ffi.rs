@@ -5,7 +5,7 @@
 use core::ffi::{c_char, c_int, c_long, c_uint, c_ulong, c_void};
 
 /// The first number of the library's version, which changes with its binary interface.
-pub const INTERFACE: u32 = 3;
+pub const INTERFACE: u32 = 4;
 
 #[repr(C)]
 pub struct ww_pool {

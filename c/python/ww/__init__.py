@@ -5,12 +5,10 @@
     with buffers.context() as context:
         context.lock(one, other)
 
-Class, Mutex and Context are those of ww_mutex.h; World and Seat, with locks by their numbers, those of ww.h. An answer
-that isn't 0 comes as an OSError with its errno: of these Deadlock is EDEADLK, Already EALREADY, TimeoutError a time that
-has come, and InterruptedError a wait that was called off.
+Class, Mutex and Context are those of ww_mutex.h. An answer that isn't 0 comes as an OSError with its errno: of these
+Deadlock is EDEADLK, Already EALREADY, TimeoutError a time that has come, and InterruptedError a wait that was called off.
 """
 from .library import WAIT_DIE, WOUND_WAIT, Already, Deadlock
 from .mutexes import Class, Context, Mutex
-from .worlds import Seat, World
 
-__all__ = ["WOUND_WAIT", "WAIT_DIE", "Class", "Mutex", "Context", "Already", "Deadlock", "World", "Seat"]
+__all__ = ["WOUND_WAIT", "WAIT_DIE", "Class", "Mutex", "Context", "Already", "Deadlock"]

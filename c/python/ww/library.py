@@ -6,7 +6,7 @@ import operator
 import os
 
 WOUND_WAIT, WAIT_DIE = 0, 1
-_VERSION = 3
+_VERSION = 4
 _NAME = f"libww.so.{_VERSION}"
 _LARGEST = 2**32 - 1
 
@@ -26,7 +26,7 @@ class Time(ctypes.Structure):
 
 
 class _Number:
-    """A number of 32 bits. What is wider, or below 0, becomes the largest one, which no world has."""
+    """A number of 32 bits. What is wider, or below 0, becomes the largest one, which no class may have."""
 
     @classmethod
     def from_param(cls, number):
@@ -37,11 +37,6 @@ class _Number:
 _AT = ctypes.c_void_p
 _CALLS = {
     "ww_version": (ctypes.c_uint32,),
-    "ww_open": (ctypes.c_int, ctypes.POINTER(_AT), _Number, _Number, _Number),
-    "ww_close": (ctypes.c_int, _AT),
-    "ww_seat_get": (_AT, _AT),
-    "ww_cancel": (ctypes.c_int, _AT, _AT),
-    "ww_held": (ctypes.c_uint32, _AT),
     "ww_class_init": (None, _AT, ctypes.c_int, ctypes.c_char_p),
     "ww_class_limit": (ctypes.c_int, _AT, _Number, _Number),
     "ww_mutex_is_locked": (ctypes.c_bool, _AT),
@@ -50,9 +45,6 @@ _CALLS = {
     "ww_mutex_lock_until": (ctypes.c_int, _AT, _AT, ctypes.POINTER(Time)),
     "ww_acquire_init_until": (ctypes.c_int, _AT, _AT, ctypes.POINTER(Time)),
 }
-_CALLS |= {f"ww_{it}": (ctypes.c_int, _AT) for it in ("seat_put", "begin", "done", "end", "unlock_all")}
-_LOCKS = ("lock", "lock_interruptible", "lock_slow", "lock_slow_interruptible", "trylock", "unlock")
-_CALLS |= {f"ww_{it}": (ctypes.c_int, _AT, _Number) for it in _LOCKS}
 _CALLS |= {f"ww_{it}_size": (ctypes.c_size_t,) for it in ("class", "mutex", "acquire")}
 _ALONE = ("class_free", "mutex_destroy", "acquire_done_checked", "acquire_fini_checked", "acquire_cancel", "mutex_unlock_checked")
 _CALLS |= {f"ww_{it}": (ctypes.c_int, _AT) for it in _ALONE}

@@ -12,7 +12,6 @@ enum { IL_THREADS = 4 };
 enum {
 	IL_SPURIOUS = 1,	/* a futex wakes its thread though nobody asked */
 	IL_DELAYS = 2,		/* a store that isn't sequentially consistent comes later than what its thread does next */
-	IL_NO_FENCES = 4,	/* membarrier(2) isn't there */
 	IL_INSIDE = 8,		/* threads are switched inside steps of the proved library, too (x86_64) */
 };
 
@@ -28,10 +27,6 @@ void il_setup(const struct il_program *p);
 void il_thread(const char *text);
 /* Once all threads have ended. */
 void il_check(const struct il_program *p);
-/* The programs' part in worlds.c. */
-void il_open_world(void);
-void il_world(char what);
-void il_close_world(void);
 
 /* Memory that each run finds as zeros, and at the same address. */
 void *il_new(size_t size);
