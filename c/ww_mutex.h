@@ -367,6 +367,10 @@ int ww_mutex_end_(struct ww_mutex *lock);
  * A thread that sleeps looks now and then whether it will for ever: because of several
  * classes, of locks with NULL, or of contexts that are all in use.  Such a deadlock, which
  * no class detects, is told once, with all of its threads, what each waits for, and where.
+ * One that has waited for ten seconds is told as well, once for each line and class, with the
+ * place where what holds the mutex began, or the oldest of the contexts: it may have been left by
+ * a return or a throw, without ww_acquire_fini.  Where another context begins in the memory of
+ * such a one, that is told as a wrong call.
  */
 
 #include <stdio.h>

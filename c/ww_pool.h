@@ -298,9 +298,9 @@ static inline const char *told(int r)
 {
 	switch (r) {
 	case -ENOMEM: return "there is no memory to open it";
-	case -ENOSPC: return "it has all mutexes that it may have (one that isn't destroyed stays)";
+	case -ENOSPC: return "all its mutexes are in use (one that is freed without ww_mutex_destroy keeps its place)";
 	case -EAGAIN: return "all its contexts are in use";
-	default: return "it was opened before a fork, of which this is the child";
+	default: return "it was opened before a fork, of which this is the child, or was never initialized";
 	}
 }
 
