@@ -82,7 +82,6 @@ struct ww_mine {
 	} seats[KEPT],	 /* that it keeps, one of a class; the one that it used last first */
 	  last;		 /* that it had last, of a class of which threads keep none */
 	uint64_t thread; /* a number that no other has, also of another copy; 0 until it takes a number or a seat */
-	bool told;	 /* the library will be, when it ends */
 	bool ends;	 /* so it keeps no seat any more */
 };
 WW_HIDDEN extern __thread struct ww_mine ww_mine __attribute__((tls_model("initial-exec")));
