@@ -114,10 +114,10 @@ void by_list(unsigned k, unsigned times)
 ww_class objects;
 std::array<ww_mutex, most> mutexes;
 
-void open_class()
+void open_class(unsigned contexts = 0)
 {
 	ww_class_init(&objects, WW_WOUND_WAIT, "objects");
-	must(!ww_class_limit(&objects, most, 1));
+	must(!ww_class_limit(&objects, most, contexts));
 	for (ww_mutex &it : mutexes)
 		ww_mutex_init(&it, &objects);
 }
@@ -173,15 +173,10 @@ void plain_done(unsigned k, unsigned times)
 	});
 }
 
-// A context more than there are was asked for.
-void plain_shared(unsigned k, unsigned times)
+// It says how many contexts it has.
+void plain_limited(unsigned k, unsigned times)
 {
-	ww_acquire_ctx x, refused;
-
-	open_class();
-	ww_acquire_init(&x, &objects);
-	must(ww_acquire_init_checked(&refused, &objects) == -EAGAIN);
-	ww_acquire_fini(&x);
+	open_class(1);
 	by_mutex(times, locking(k), [k](ww_acquire_ctx *) { unlock_newest_first(k); });
 }
 
@@ -336,7 +331,7 @@ constexpr way ways[]{
 	{ "plain", plain },
 	{ "plain_oldest", plain_oldest_first },
 	{ "plain_done", plain_done },
-	{ "plain_shared", plain_shared },
+	{ "plain_limited", plain_limited },
 	{ "plain_try", plain_tried },
 	{ "numbered", numbered },
 	{ "loop", loop },

@@ -267,10 +267,11 @@ struct here {
 	using context = ww_acquire_ctx;
 
 	static void begin_thread() {}
-	static void open(class_ &c, int is_wait_die, unsigned mutexes, unsigned contexts)
+	// As a program that doesn't say how many contexts there are.
+	static void open(class_ &c, int is_wait_die, unsigned mutexes, unsigned)
 	{
 		ww_class_init(&c, is_wait_die, "bench");
-		if (ww_class_limit(&c, mutexes, contexts) || ww_class_open(&c))
+		if (ww_class_limit(&c, mutexes, 0) || ww_class_open(&c))
 			std::exit(cant_open);
 	}
 	static void close(class_ &c) { must(ww_class_free(&c)); }

@@ -38,7 +38,7 @@ static inline int begin_with(struct ww_acquire_ctx *x, struct ww_pool *p, ww_sea
 	r = ww_begin_(&s->handle);
 	if (UNLIKELY(r)) {
 		no_more(x);
-		give_seat(p, s, s->was_loose);
+		give_seat(s);
 		return r;
 	}
 	ww_debug_begun(x);
@@ -56,29 +56,18 @@ COLD static int begin_anyhow(struct ww_acquire_ctx *x, struct ww_class *c, const
 
 	if (r)
 		return begun_not(x, r);
-	s = seat_at_once(p);
+	s = ww_other_seat(p);
 	if (!s)
 		r = until != &at_once ? ww_seek_seat(p, until, &s) : p->gone ? -EINVAL : -EAGAIN;
 	return r ? begun_not(x, r) : begin_with(x, p, s);
 }
 
-/* The seat was at hand, but came to be shared. */
-COLD static int begin_late(struct ww_acquire_ctx *x, struct ww_class *c, ww_seat *s, const struct timespec *until)
-{
-	s = ww_late_seat(c->pool, s);
-	return s ? begin_with(x, c->pool, s) : begin_anyhow(x, c, until);
-}
-
 static inline int begin(struct ww_acquire_ctx *x, struct ww_class *c, const struct timespec *until)
 {
 	struct ww_pool *p = __atomic_load_n(&c->pool, __ATOMIC_ACQUIRE);
-	ww_seat *s = ww_mine.seats[0].seat;
+	ww_seat *s = LIKELY(p) ? seat_at_hand(p) : NULL;
 
-	if (UNLIKELY(!p || !has_at_hand(p)))
-		return begin_anyhow(x, c, until);
-	if (UNLIKELY(!use_kept(p, s)))
-		return begin_late(x, c, s, until);
-	return begin_with(x, p, s);
+	return LIKELY(s) ? begin_with(x, p, s) : begin_anyhow(x, c, until);
 }
 
 int ww_acquire_init_checked(struct ww_acquire_ctx *x, struct ww_class *c) { return begin(x, c, &at_once); }
@@ -88,34 +77,37 @@ int ww_acquire_init_until(struct ww_acquire_ctx *x, struct ww_class *c, const st
 	return is_time(until) ? begin(x, c, until) : begun_not(x, -EINVAL);
 }
 
-COLD static void init_else(struct ww_acquire_ctx *x, struct ww_class *c, ww_seat *late)
-{
-	int r = late ? begin_late(x, c, late, NULL) : begin_anyhow(x, c, NULL);
-
-	if (r)
-		end_of(c, "ww_acquire_init", told_at_begin(r));
-}
-
 /*
  * A seat that nobody uses begins a context for certain, unless as many were begun as may be: then this is none,
  * by which no second lock is acquired, and ww_acquire_fini ends the program.
  */
-void ww_acquire_init(struct ww_acquire_ctx *x, struct ww_class *c)
+static inline void begin_for_certain(struct ww_acquire_ctx *x, struct ww_pool *p, ww_seat *s)
 {
-	struct ww_pool *p = __atomic_load_n(&c->pool, __ATOMIC_ACQUIRE);
-	ww_seat *s = ww_mine.seats[0].seat;
-
-	if (UNLIKELY(!p || !has_at_hand(p))) {
-		init_else(x, c, NULL);
-		return;
-	}
-	if (UNLIKELY(!use_kept(p, s))) {
-		init_else(x, c, s);
-		return;
-	}
 	of_seat(x, p, s);
 	ww_debug_begun(x);
 	(void)!ww_begin_(&s->handle);
+}
+
+static __attribute__((noinline)) void init_else(struct ww_acquire_ctx *x, struct ww_class *c, struct ww_pool *p)
+{
+	ww_seat *s = LIKELY(p) ? ww_other_seat(p) : NULL;
+	int r;
+
+	if (LIKELY(s))
+		begin_for_certain(x, p, s);
+	else if ((r = begin_anyhow(x, c, NULL)))
+		end_of(c, "ww_acquire_init", told_at_begin(r));
+}
+
+void ww_acquire_init(struct ww_acquire_ctx *x, struct ww_class *c)
+{
+	struct ww_pool *p = __atomic_load_n(&c->pool, __ATOMIC_ACQUIRE);
+	ww_seat *s = LIKELY(p) ? seat_at_hand(p) : NULL;
+
+	if (LIKELY(s))
+		begin_for_certain(x, p, s);
+	else
+		init_else(x, c, p);
 }
 
 /* The proved library isn't told: a lock that comes then is as any other, as in the kernel, and the debug library tells of it. */
@@ -144,7 +136,7 @@ int ww_acquire_fini_checked(struct ww_acquire_ctx *x)
 		return r;
 	ww_debug_ended(x);
 	no_more(x);
-	give_seat(s->pool, s, s->was_loose);
+	give_seat(s);
 	return 0;
 }
 
@@ -167,7 +159,7 @@ void ww_acquire_fini(struct ww_acquire_ctx *x)
 	ww_debug_ended(x);
 	no_more(x);
 	ww_end_(&s->handle);
-	give_seat(s->pool, s, s->was_loose);
+	give_seat(s);
 }
 
 /*

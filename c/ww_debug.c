@@ -126,9 +126,7 @@ static void unuse_if_free(struct standing *s)
 
 const struct standing *ww_debug_own_seat(const struct ww_pool *p, enum has what)
 {
-	uint32_t count = __atomic_load_n(&p->loose.fresh, __ATOMIC_RELAXED);
-
-	for (uint32_t k = 0; k < count; k++) {
+	for (uint32_t k = 0; k < seats_of(p); k++) {
 		const struct standing *s = &p->debug->seats[k];
 
 		if (__atomic_load_n(&s->thread, __ATOMIC_RELAXED) != &ww_here)
@@ -143,9 +141,7 @@ const struct standing *ww_debug_own_seat(const struct ww_pool *p, enum has what)
 /* Where this context begins another one began, of this class, which hasn't ended: its memory is another's by now. */
 static void tell_what_was_left(struct ww_pool *p, const struct ww_acquire_ctx *x)
 {
-	uint32_t count = __atomic_load_n(&p->loose.fresh, __ATOMIC_RELAXED);
-
-	for (uint32_t k = 0; k < count; k++) {
+	for (uint32_t k = 0; k < seats_of(p); k++) {
 		struct standing *s = &p->debug->seats[k];
 		struct place at = place_of(&s->began);
 

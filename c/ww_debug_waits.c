@@ -57,7 +57,7 @@ int ww_debug_open(struct ww_pool *p)
 	size_t size = sizeof *p->debug + p->mutexes * sizeof(struct holding);
 
 	size = (size + _Alignof(struct standing) - 1) / _Alignof(struct standing) * _Alignof(struct standing);
-	p->debug = calloc(1, size + p->contexts * sizeof(struct standing));
+	p->debug = calloc(1, size + seats_of(p) * sizeof(struct standing));
 	if (!p->debug)
 		return -ENOMEM;
 	p->debug->pool = p;
@@ -164,7 +164,7 @@ void ww_debug_seeks_no_more(void) { ww_debug_end_wait(); }
 
 void ww_debug_patience(unsigned milliseconds) { __atomic_store_n(&patience, milliseconds, __ATOMIC_RELAXED); }
 
-/* It waits for one thread; or, for a context, until any of these ends what it has. */
+/* It waits for one thread; or, for a context, until any of these ends what it has by a loose seat. */
 static uint32_t awaited_by(const struct waiter *w) { return w->seat ? 1 : w->pool->contexts; }
 
 static struct waiter *awaited(const struct waiter *w, uint32_t k)
@@ -172,7 +172,7 @@ static struct waiter *awaited(const struct waiter *w, uint32_t k)
 	const struct debug *d = w->pool->debug;
 
 	return waiter_of(w->seat ? __atomic_load_n(&d->mutexes[w->number].thread, __ATOMIC_RELAXED) :
-				   __atomic_load_n(&d->seats[k].thread, __ATOMIC_RELAXED));
+				   __atomic_load_n(&d->seats[w->pool->kept + k].thread, __ATOMIC_RELAXED));
 }
 
 /*
@@ -246,13 +246,13 @@ static void look_for_deadlock(void)
 	free(text.words);
 }
 
-/* Of the class's contexts the one that began first; or a lock without one, where there are only such. */
+/* Of the contexts by loose seats the one that began first; or a lock without one, where there are only such. */
 static const struct standing *oldest(const struct ww_pool *p)
 {
 	const struct standing *first = NULL;
 
 	for (uint32_t k = 0; k < p->contexts; k++) {
-		const struct standing *s = &p->debug->seats[k];
+		const struct standing *s = &p->debug->seats[p->kept + k];
 
 		if (!__atomic_load_n(&s->thread, __ATOMIC_RELAXED))
 			continue;
@@ -339,7 +339,7 @@ static void look(const struct view *v)
 {
 	const struct ww_pool *p = v->pool;
 
-	for (uint32_t k = 0; k < p->contexts; k++) {
+	for (uint32_t k = 0; k < seats_of(p); k++) {
 		struct seen *s = &v->seats[k];
 		uint32_t wants = __atomic_load_n(&p->debug->seats[k].wants, __ATOMIC_RELAXED);
 		uint32_t holder = wants ? seen_holder(v, wants - 1) : 0;
@@ -364,10 +364,10 @@ static void look(const struct view *v)
 /* From each seat along what it waits for, at most once around. */
 static void print_ring(const struct view *v, FILE *to)
 {
-	for (uint32_t k = 0; k < v->pool->contexts; k++) {
+	for (uint32_t k = 0; k < seats_of(v->pool); k++) {
 		uint32_t at = k, youngest = k, steps = 0;
 
-		while (v->seats[at].awaits && steps++ < v->pool->contexts) {
+		while (v->seats[at].awaits && steps++ < seats_of(v->pool)) {
 			at = v->seats[at].awaits - 1;
 			youngest = v->seats[at].is.stamp > v->seats[youngest].is.stamp ? at : youngest;
 			if (at == k)
@@ -409,7 +409,7 @@ static uint32_t used_seats(const struct ww_pool *p)
 {
 	uint32_t used = 0;
 
-	for (uint32_t k = 0; k < p->contexts; k++)
+	for (uint32_t k = 0; k < seats_of(p); k++)
 		used += __atomic_load_n(&p->debug->seats[k].thread, __ATOMIC_RELAXED) != NULL;
 	return used;
 }
@@ -425,8 +425,8 @@ static void write_uses(const struct ww_pool *p, FILE *to)
 	for (const struct waiter *w = sleepers; w; w = w->next)
 		waiting += w->pool == p && !w->seat;
 	fprintf(to, "class \"%s\": %u of %u mutexes and %u of %u contexts in use, threads that wait for a context: %u\n", name_of(p),
-		used_mutexes(p), p->mutexes, used_seats(p), p->contexts, waiting);
-	for (uint32_t k = 0; k < p->contexts; k++) {
+		used_mutexes(p), p->mutexes, used_seats(p), seats_of(p), waiting);
+	for (uint32_t k = 0; k < seats_of(p); k++) {
 		const struct standing *s = &p->debug->seats[k];
 		unsigned long stamp = __atomic_load_n(&s->stamp, __ATOMIC_RELAXED);
 		struct place at = place_of(&s->began);
@@ -482,7 +482,7 @@ static void print_locks(const struct view *v, FILE *to)
 /* Those that have anything to show, and one at least. */
 static void print_seats(const struct view *v, FILE *to)
 {
-	for (uint32_t k = 0; k < v->pool->contexts; k++) {
+	for (uint32_t k = 0; k < seats_of(v->pool); k++) {
 		const struct seen *s = &v->seats[k];
 
 		if (!k || s->is.stamp || s->is.wants || s->holds)
@@ -496,7 +496,7 @@ char *ww_debug_seen(const struct ww_pool *p)
 	struct text text;
 	bool is_whole;
 
-	v.seats = calloc(p->contexts, sizeof *v.seats);
+	v.seats = calloc(seats_of(p), sizeof *v.seats);
 	v.first = calloc(p->mutexes + (size_t)1, sizeof *v.first);
 	if (begin_text(&text) && v.seats && v.first) {
 		write_uses(p, text.to);

@@ -38,17 +38,20 @@ struct ww_seat {
 	};
 	ww_world *world;
 	uint32_t token;		/* one futex word: nothing, a token, or its thread sleeps */
-	uint32_t cancels;	/* how often it was cancelled, by others */
-	uint32_t stops;		/* how many waits that called off */
+	uint32_t listed;	/* of the locks that are listed the one acquired last */
+	union {
+		struct {	/* for ww.h */
+			uint32_t cancels; /* how often it was cancelled, by others */
+			uint32_t stops;	/* how many waits that called off */
+		};
+		uint64_t keeper; /* for ww_mutex.h: the number of the thread that keeps it, or NO_THREAD */
+		ww_seat *next;	/* there, where it may be kept: another one of these */
+	};
 	bool stale;		/* a cancel is pending that was meant for a user before this one */
 	bool taken;		/* by ww_seat_get */
-	bool busy;		/* for ww_mutex.h, where its class's seats aren't shared: its keeper uses it */
-	bool kept;		/* by a thread, while they aren't shared; under the lock of opening */
-	bool left;		/* it was busy as they came to be shared; written once, by whoever shared them */
-	bool was_loose;		/* its user took it when they were shared */
-	uint32_t listed;	/* of the locks that are listed the one acquired last */
+	uint8_t busy;		/* for ww_mutex.h: see ww_pool.c */
 	struct ww_pool *pool;	/* the class of ww_mutex.h that has it, if any */
-	uint32_t user;		/* there: the number of the thread that locked by it last, without a context */
+	uint64_t user;		/* there: the number of the thread that locked by it last, without a context */
 	uint64_t waits, back_offs; /* of its users, in all */
 } __attribute__((aligned(64)));
 

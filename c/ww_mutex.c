@@ -549,11 +549,9 @@ int ww_mutex_lock_further_(struct ww_mutex *m, struct ww_acquire_ctx *x, int r)
 /* From the second step on by this seat, which is given where that fails. */
 COLD static int lock_on_by_seat(struct ww_mutex *m, ww_seat *s, int r, enum way way, const struct timespec *until)
 {
-	struct ww_pool *p = m->pool;
-
 	r = lock_on(m, NULL, s, r, way, until);
 	if (r)
-		give_seat(p, s, s->was_loose);
+		give_seat(s);
 	return r;
 }
 
@@ -581,22 +579,21 @@ COLD static int seek_and_lock(struct ww_mutex *m, enum way way, const struct tim
 	return r;
 }
 
-/* By any seat: `late`, which was at hand but came to be shared, if that is one, or another. */
-COLD static int lock_by_any(struct ww_mutex *m, ww_seat *late, enum way way, const struct timespec *until)
+COLD static int lock_by_any(struct ww_mutex *m, enum way way, const struct timespec *until)
 {
 	ww_seat *s;
 	int r = numbered(m);
 
 	if (r)
 		return r;
-	s = late ? ww_late_seat(m->pool, late) : ww_other_seat(m->pool);
+	s = ww_other_seat(m->pool);
 	if (s) {
 		is_user(s);
 		return lock_by_seat(m, s, way, until);
 	}
 	if (UNLIKELY(m->pool->gone)) {
 		r = ww_number_at_first(m);
-		return r ? r : lock_by_any(m, NULL, way, until);
+		return r ? r : lock_by_any(m, way, until);
 	}
 	return seek_and_lock(m, way, until);
 }
@@ -605,12 +602,11 @@ COLD static int lock_by_any(struct ww_mutex *m, ww_seat *late, enum way way, con
 static inline int lock_alone(struct ww_mutex *m, enum way way, const struct timespec *until)
 {
 	struct ww_pool *p = pool_at(m);
-	ww_seat *s = ww_mine.seats[0].seat;
+	ww_seat *s;
 
 	ww_debug_alone(m, until);
-	if (UNLIKELY(!p || !has_at_hand(p)))
-		return lock_by_any(m, NULL, way, until);
-	return LIKELY(use_kept(p, s)) ? lock_by_seat(m, s, way, until) : lock_by_any(m, s, way, until);
+	s = LIKELY(p) ? seat_at_hand(p) : NULL;
+	return LIKELY(s) ? lock_by_seat(m, s, way, until) : lock_by_any(m, way, until);
 }
 
 COLD __attribute__((noreturn)) static void end_alone(const struct ww_mutex *m, int r)
@@ -713,7 +709,7 @@ static int try_alone(struct ww_mutex *m)
 	if (UNLIKELY(!s))
 		return p->gone && !ww_number_at_first(m) && try_alone(m);
 	if (ww_try_(&s->handle, m->number)) {
-		give_seat(p, s, s->was_loose);
+		give_seat(s);
 		return 0;
 	}
 	is_user(s);
@@ -783,7 +779,7 @@ static inline int unlock_on(struct ww_mutex *m, struct ww_acquire_ctx *x, int r)
 COLD static int unlock_alone_on(ww_seat *s, int r)
 {
 	r = release_further(s, r);
-	give_seat(s->pool, s, s->was_loose);
+	give_seat(s);
 	return r;
 }
 
@@ -801,7 +797,7 @@ static inline int unlock_alone(struct ww_mutex *m)
 	r = ww_unlock_(&s->handle, number);
 	if (UNLIKELY(r))
 		return unlock_alone_on(s, r);
-	give_seat(s->pool, s, s->was_loose);
+	give_seat(s);
 	return 0;
 }
 

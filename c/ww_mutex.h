@@ -9,18 +9,23 @@
  * it (atomically by others), and base has an address, for lockdep_assert_held; of a
  * context acquired may be read.
  *
- * A class has 65,536 mutexes and 1,024 contexts at once, or as many as ww_class_limit
- * said; a mutex that is held without a context (NULL) counts as one of these as
- * long as it is held.  Opening a class takes all its memory.
+ * A class has 65,536 mutexes and at least 1,024 contexts at once, or exactly as many as
+ * ww_class_limit said; a mutex that is held without a context (NULL) counts as one of these
+ * as long as it is held.  Opening a class takes all its memory.
  *
- * A context is used by one thread at a time, and a mutex is unlocked by the thread that
- * acquired it; neither is used in a signal handler.  In a forked child a class that was
- * open before gives nothing more (-EINVAL), until ww_class_free lets it go there, and a mutex
- * that was held as the program forked, until it is destroyed and initialized; a context that
- * was begun before holds what it held, and once it would have to wait each lock by it is
- * -EINVAL, though it may release and end.
- * Deadlocks are detected among the contexts of one class alone.  Each copy of the shared
- * library takes 200 bytes of static thread-local storage: a process can load some eight.
+ * A context is used by one thread at a time, which may change: it goes on, or ends, in
+ * another thread than it began in, also once that one has ended, where the program orders the
+ * calls of the two, by a lock of its own for instance.  A mutex is unlocked by the thread that
+ * acquired it, whoever has the context by then; so a thread that ends holds none.  Neither is
+ * used in a signal handler.
+ *
+ * In a forked child a class that was open before gives nothing more (-EINVAL), until ww_class_free
+ * lets it go there, and a mutex that was held as the program forked, until it is destroyed and
+ * initialized; a context that was begun before holds what it held, and once it would have to
+ * wait each lock by it is -EINVAL, though it may release and end.  Deadlocks are detected among the contexts of one class alone.  Each copy of
+ * the library, as a plugin has it that is linked with the archive, has classes of its own: the
+ * program ends with a message where it uses one that another copy opened.  Each copy of the
+ * shared one takes 192 bytes of static thread-local storage: a process can load some eight.
  *
  * Otherwise than in the kernel nothing is acquired after -EDEADLK while something is
  * held, also without debugging, and ww_mutex_destroy answers.  The locks below are
@@ -56,7 +61,7 @@ struct timespec; /* which <time.h> has not by -std=c99 */
 /* A class of mutexes: a context belongs to one, and locks the mutexes of that class alone. */
 struct ww_class {
 	struct ww_pool *pool;		/* once it is open */
-	uint32_t mutexes, contexts;	/* as many at once; 0: 65,536 and 1,024 */
+	uint32_t mutexes, contexts;	/* as many at once; 0: 65,536, and 1,024 or more */
 	int is_wait_die;
 	const char *name;
 };
@@ -200,8 +205,9 @@ WW_MUST_CHECK int ww_mutex_unlock_checked(struct ww_mutex *lock);
 void ww_class_init(struct ww_class *ww_class, int is_wait_die, const char *name);
 /*
  * How many mutexes and contexts there may be at once, said before its first use;
- * memory is taken for as many.  0: 65,536, and 1,024.  -EINVAL: more than 65,536, or than
- * 4,094 contexts; -EBUSY: it is open.
+ * memory is taken for as many.  0: 65,536 mutexes; and 1,024 contexts for whoever comes,
+ * besides which each of 256 threads has one for itself, which is begun and ended at less cost.
+ * -EINVAL: more than 65,536, or than 4,094 contexts; -EBUSY: it is open.
  */
 WW_MUST_CHECK int ww_class_limit(struct ww_class *ww_class, uint32_t mutexes, uint32_t contexts);
 /* Opens the class now, where it isn't open: it takes all its memory. -ENOMEM. */

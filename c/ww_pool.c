@@ -1,41 +1,67 @@
-/* ww_pool.c - classes of mutexes: their opening and freeing, numbers that are handed out and put back, and seats. */
+/*
+ * ww_pool.c - classes of mutexes: their opening and freeing, numbers that are handed out and put back, and seats.
+ *
+ * A seat is kept, by one thread after another, or loose; the first ones of a class are kept ones.  What `busy` of it is, and
+ * what comes next:
+ *
+ *	seat	busy	whose			what comes next, and by what
+ *	kept	IDLE	its keeper's		BUSY: the keeper uses it, by a store
+ *						ORPHAN: the keeper ends, by an exchange that finds IDLE, so it puts it back
+ *	kept	BUSY	its user's		IDLE: the user is through, by a store if it is the keeper, and else by an exchange
+ *						ORPHAN: the keeper ends, by an exchange that finds BUSY
+ *	kept	ORPHAN	its user's		IDLE: the user is through, by an exchange that finds ORPHAN, so it puts it back
+ *	unkept	IDLE	nobody's		BUSY: a thread comes to keep it, under the lock of opening, as it was put back
+ *	loose	IDLE	nobody's		BUSY: any thread uses it, by an exchange that finds IDLE
+ *	loose	BUSY	its user's		IDLE: the user is through, by a store
+ *
+ * So no seat is in two hands.  A kept one: its keeper alone sets BUSY, and its user alone IDLE, so between the keeper's look
+ * that finds IDLE and its store nothing changes.  One whose keeper changes: keeper and user both exchange, so one of the
+ * two comes second, and that one alone puts it back.  A loose one: of the exchanges that find IDLE one is the first, be it
+ * made for another thread, which is taken out of the queue for it (serve).
+ *
+ * What a user wrote in the seat goes to the next one.  Kept: IDLE is a release, by store or exchange, and the keeper's look
+ * (seat_at_hand), the exchange for ORPHAN and the look of whoever frees the class acquire; the lock of opening orders who
+ * puts it back and who comes to keep it.  Loose: all is sequentially consistent, since whoever is through stores IDLE and
+ * then looks for seekers, and a seeker counts itself and then looks at all seats: so one of the two sees the other.
+ */
 #define _GNU_SOURCE
 #include "ww_pool.h"
 #include <link.h>
-#include <linux/membarrier.h>
 #include <pthread.h>
 #include <stdlib.h>
 #include <string.h>
-#include <sys/syscall.h>
 #include <unistd.h>
 
-/* As many contexts has a class at once that says no other number. */
-enum { MANY_CONTEXTS = 1024 };
+/* As many contexts has a class at once that says no number, and so many threads besides keep a seat of it. */
+enum { MANY_CONTEXTS = 1024, MANY_KEPT = 256 };
 /* And a seat that no context has: see borrow_spare. */
 enum { SPARE = 1 };
 
 __thread struct ww_mine ww_mine __attribute__((tls_model("initial-exec")));
 
+static uint64_t last_id; /* of a class; its address names this copy of the library, of which a process may have several */
+
+/* Each copy counts in a range of its own. */
+static uint64_t of_this_copy(uint64_t n) { return ((uint64_t)(uintptr_t)&last_id << 16) + n; }
+
+/* Relaxed: it is a count. */
+static uint64_t my_thread(void)
+{
+	static uint64_t threads;
+
+	if (UNLIKELY(!ww_mine.thread))
+		ww_mine.thread = of_this_copy(__atomic_add_fetch(&threads, 1, __ATOMIC_RELAXED));
+	return ww_mine.thread;
+}
+
 /* ---- numbers ---- */
 
 static inline uint64_t changed(uint64_t top, uint32_t to) { return ((top >> 32) + 1) << 32 | to; }
 
-/* Relaxed: it is a count, and any stack would do. */
-static uint32_t my_stack(void)
-{
-	static uint32_t threads;
+/* Any stack would do. */
+static uint32_t my_stack(void) { return my_thread() % STACKS; }
 
-	if (UNLIKELY(!ww_mine.stack)) {
-		ww_mine.thread = 1 + __atomic_fetch_add(&threads, 1, __ATOMIC_RELAXED);
-		ww_mine.stack = 1 + ww_mine.thread % STACKS;
-	}
-	return ww_mine.stack - 1;
-}
-
-/*
- * What stands below is right if the top hasn't changed meanwhile; whoever gave the number wrote it before.  Whoever seeks a
- * seat has said so before, and looks in the order in which others give one and then look for seekers.
- */
+/* What stands below is right if the top hasn't changed meanwhile; whoever gave the number wrote it before. */
 static bool pop(struct ww_numbers *of, struct ww_stack *from, uint32_t *number)
 {
 	uint64_t top = __atomic_load_n(&from->top, __ATOMIC_SEQ_CST);
@@ -136,19 +162,16 @@ static void set_out(struct ww_numbers *of, uint32_t count, uint32_t *below)
 static pthread_mutex_t opening = PTHREAD_MUTEX_INITIALIZER;
 static struct ww_pool *pools; /* all that are open */
 static struct ww_pool *freed; /* the memory of others */
-static uint64_t last_id;
 static pthread_key_t ending;
 static bool is_prepared;
 
-/* Where the system can't tell all other threads of the program, seats are shared from the start. */
-static bool prepares_fences(void) { return !syscall(SYS_membarrier, MEMBARRIER_CMD_REGISTER_PRIVATE_EXPEDITED, 0, 0); }
-
-static void fence_others(void) { syscall(SYS_membarrier, MEMBARRIER_CMD_PRIVATE_EXPEDITED, 0, 0); }
-
-/* At a glance: whoever goes on by it waits until all are. */
-static bool is_shared(const struct ww_pool *p) { return __atomic_load_n(&p->own_id, __ATOMIC_RELAXED) >= SHARING; }
-
-static inline uint32_t number_of(const struct ww_pool *p, const ww_seat *s) { return (uint32_t)(s - p->world->seats); }
+/* The copy that opened a class has its lock, and knows which threads keep its seats. */
+static struct ww_pool *of_this_copy_alone(struct ww_pool *p)
+{
+	if (UNLIKELY(p && p->copy != &last_id))
+		end_of(p->class_, "ww_class", "another copy of the library opened it, and a class is of one copy alone");
+	return p;
+}
 
 /* The class that has this number, if it is open. Opening is locked. */
 static struct ww_pool *open_pool(uint64_t id)
@@ -160,55 +183,28 @@ static struct ww_pool *open_pool(uint64_t id)
 	return p;
 }
 
-/*
- * Once in the life of a class.  What its keeper wrote last in a seat goes with `busy`; `fresh` is read relaxed, since
- * it changes under the same lock as long as they aren't shared.  Opening is locked.
- */
-static void share(struct ww_pool *p)
+static bool is_kept(const struct ww_pool *p, const ww_seat *s) { return p->kept && s < &p->world->seats[p->kept]; }
+
+/* The seat's keeper and its user are both through with it. Opening is locked; others look at `unkept` at a glance. */
+static void put_back(struct ww_pool *p, ww_seat *s)
 {
-	uint32_t fresh = __atomic_load_n(&p->loose.fresh, __ATOMIC_RELAXED);
-
-	if (is_shared(p))
-		return;
-	__atomic_store_n(&p->own_id, SHARING, __ATOMIC_SEQ_CST);
-	fence_others();
-	for (uint32_t k = 0; k < fresh; k++) {
-		ww_seat *s = &p->world->seats[k];
-
-		if (!s->kept)
-			continue;
-		s->kept = false;
-		if (__atomic_load_n(&s->busy, __ATOMIC_ACQUIRE))
-			s->left = true;
-		else
-			ww_give_number(&p->loose, k);
-	}
-	__atomic_store_n(&p->own_id, SHARED, __ATOMIC_RELEASE);
+	s->next = p->unkept;
+	__atomic_store_n(&p->unkept, s, __ATOMIC_RELAXED);
 }
 
-/* Whoever came amid the sharing waits until all seats were looked at. */
-static void await_shared(struct ww_pool *p)
-{
-	if (LIKELY(__atomic_load_n(&p->own_id, __ATOMIC_ACQUIRE) != SHARING))
-		return;
-	pthread_mutex_lock(&opening);
-	pthread_mutex_unlock(&opening);
-}
-
-/* This thread keeps it no more; where it is in use, its class's seats are shared, so that its user gives it. Opening is locked. */
-static void let_loose(struct ww_kept *kept)
+/* This thread keeps it no more, and by that isn't its keeper either where it uses it still. Opening is locked. */
+static void let_go(struct ww_known *kept)
 {
 	struct ww_pool *p = open_pool(kept->id);
 	ww_seat *s = kept->seat;
 
-	*kept = (struct ww_kept){ 0 };
-	if (!p || is_shared(p))
+	*kept = (struct ww_known){ 0 };
+	if (!p)
 		return;
-	if (__atomic_load_n(&s->busy, __ATOMIC_ACQUIRE)) {
-		share(p);
-	} else {
-		s->kept = false;
-		ww_give_number(&p->loose, number_of(p, s));
+	__atomic_store_n(&s->keeper, NO_THREAD, __ATOMIC_RELAXED);
+	if (__atomic_exchange_n(&s->busy, ORPHAN, __ATOMIC_ACQ_REL) == IDLE) {
+		__atomic_store_n(&s->busy, IDLE, __ATOMIC_RELAXED);
+		put_back(p, s);
 	}
 }
 
@@ -218,63 +214,56 @@ static void forget(void *mine)
 	(void)mine;
 	pthread_mutex_lock(&opening);
 	for (uint32_t k = 0; k < KEPT; k++)
-		let_loose(&ww_mine.seats[k]);
-	ww_mine.told = false;
+		let_go(&ww_mine.seats[k]);
+	ww_mine.ends = true;
 	pthread_mutex_unlock(&opening);
 }
 
 /* The next context of this thread looks there first; so many others move on by one. */
-static ww_seat *put_first(struct ww_kept first, uint32_t others)
+static void put_first(struct ww_known first, uint32_t others)
 {
 	memmove(&ww_mine.seats[1], &ww_mine.seats[0], others * sizeof ww_mine.seats[0]);
 	ww_mine.seats[0] = first;
-	return first.seat;
 }
 
-/* Where this thread keeps as many as it may, it lets go the one that it hasn't used for the longest. Opening is locked. */
-static void keep(struct ww_pool *p, ww_seat *s)
-{
-	s->kept = true;
-	is_user(s);
-	if (ww_mine.seats[KEPT - 1].seat)
-		let_loose(&ww_mine.seats[KEPT - 1]);
-	if (!ww_mine.told)
-		ww_mine.told = !pthread_setspecific(ending, &ww_mine);
-	put_first((struct ww_kept){ .id = p->id, .seat = s }, KEPT - 1);
-}
-
-/* Where seats aren't shared: one that this thread keeps, or that nobody does; where there is none they are shared then. */
-static ww_seat *unshared(struct ww_pool *p)
+/*
+ * If the library will be told when this thread ends.  Where it keeps as many as it may, it lets go the one that it hasn't used
+ * for the longest.
+ */
+static ww_seat *keep(struct ww_pool *p)
 {
 	ww_seat *s = NULL;
-	uint32_t number;
 
-	for (uint32_t k = 0; k < KEPT; k++)
-		if (ww_mine.seats[k].id == p->id && !__atomic_load_n(&ww_mine.seats[k].seat->busy, __ATOMIC_ACQUIRE)) {
-			s = put_first(ww_mine.seats[k], k);
-			return use_kept(p, s) ? s : ww_late_seat(p, s);
-		}
 	pthread_mutex_lock(&opening);
-	if (!is_shared(p) && ww_take_number(&p->loose, &number)) {
-		s = &p->world->seats[number];
-		__atomic_store_n(&s->busy, true, __ATOMIC_RELAXED); /* seen by whoever locks opening */
-		keep(p, s);
-	} else {
-		share(p);
+	if (p->unkept && is_prepared && !ww_mine.ends && !pthread_setspecific(ending, &ww_mine)) {
+		s = p->unkept;
+		__atomic_store_n(&p->unkept, s->next, __ATOMIC_RELAXED);
+		__atomic_store_n(&s->keeper, ww_mine.thread, __ATOMIC_RELAXED);
+		__atomic_store_n(&s->busy, BUSY, __ATOMIC_RELAXED);
+		is_user(s);
+		let_go(&ww_mine.seats[KEPT - 1]);
+		put_first((struct ww_known){ .id = p->id, .seat = s }, KEPT - 1);
 	}
 	pthread_mutex_unlock(&opening);
 	return s;
 }
 
-COLD ww_seat *ww_late_seat(struct ww_pool *p, ww_seat *s)
+/* The seat of the class that this thread keeps, or comes to keep, if nobody uses it. */
+static ww_seat *kept_seat(struct ww_pool *p)
 {
-	await_shared(p);
-	return s->left ? s : ww_other_seat(p);
+	uint32_t k = 0;
+
+	while (k < KEPT && ww_mine.seats[k].id != p->id)
+		k++;
+	if (k == KEPT)
+		return __atomic_load_n(&p->unkept, __ATOMIC_RELAXED) ? keep(p) : NULL;
+	put_first(ww_mine.seats[k], k);
+	return seat_at_hand(p);
 }
 
-/* ---- seats that are shared ---- */
+/* ---- loose seats ---- */
 
-/* On the stack of a thread that waits for a seat. */
+/* On the stack of a thread that waits for a seat; under the lock of the queue, but for `served`. */
 struct ww_seeker {
 	struct ww_seeker *next;
 	ww_seat *seat;
@@ -283,113 +272,136 @@ struct ww_seeker {
 
 static bool has_seekers(const struct ww_pool *p) { return __atomic_load_n(&p->seekers, __ATOMIC_SEQ_CST); }
 
-static inline ww_seat *use_loose(ww_seat *s)
+/* A look before spares an exchange where it is in use. */
+static inline bool claim(ww_seat *s)
 {
-	s->was_loose = true;
-	return s;
+	return !__atomic_load_n(&s->busy, __ATOMIC_SEQ_CST) && !__atomic_exchange_n(&s->busy, BUSY, __ATOMIC_SEQ_CST);
 }
 
-/* The one that waits longest has this seat now, if anybody waits. The queue is locked. */
-static bool hand_over(struct ww_pool *p, ww_seat *s)
+/* Any that is free, at first the one that this thread had last; where threads keep seats, one that others don't begin with. */
+static ww_seat *claim_any(struct ww_pool *p)
 {
-	struct ww_seeker *first = p->first;
+	ww_seat *loose = &p->world->seats[p->kept], *s = &loose[p->kept ? ww_mine.thread % p->contexts : 0];
 
-	if (!first)
-		return false;
-	p->first = first->next;
+	if (ww_mine.last.id == p->id)
+		s = ww_mine.last.seat;
+	for (uint32_t k = 0; k < p->contexts; k++) {
+		if (claim(s)) {
+			if (!p->kept)
+				ww_mine.last = (struct ww_known){ .id = p->id, .seat = s };
+			return s;
+		}
+		s = s + 1 < &loose[p->contexts] ? s + 1 : loose;
+	}
+	return NULL;
+}
+
+COLD static ww_seat *any_seat(struct ww_pool *p)
+{
+	ww_seat *s = NULL;
+
+	of_this_copy_alone(p);
+	my_thread();
+	if (p->gone)
+		return NULL;
+	if (p->kept)
+		s = kept_seat(p);
+	return s || has_seekers(p) ? s : claim_any(p);
+}
+
+ww_seat *ww_other_seat(struct ww_pool *p)
+{
+	ww_seat *s = ww_mine.last.seat;
+
+	return LIKELY(ww_mine.last.id == p->id) && LIKELY(!has_seekers(p)) && LIKELY(claim(s)) ? s : any_seat(p);
+}
+
+/* The one that stands there waits no more. The queue is locked. */
+static void take_out(struct ww_pool *p, struct ww_seeker **at)
+{
+	*at = (*at)->next;
+	if (!*at)
+		p->end = at;
 	__atomic_fetch_sub(&p->seekers, 1, __ATOMIC_SEQ_CST);
-	first->seat = use_loose(s);
-	__atomic_store_n(&first->served, 1, __ATOMIC_RELEASE);
-	ww_futex_wake(&first->served); /* by its address alone: it may be gone */
-	return true;
 }
 
-/* Whoever waits gets what is loose. The queue is locked. */
-static void serve(struct ww_pool *p)
+/* Whoever waits longest gets the seat.  Others may have freed the class since it was given; and in a forked child nobody waits. */
+COLD static void serve(struct ww_pool *p, uint64_t id, ww_seat *s)
 {
-	uint32_t number;
+	struct ww_seeker *first;
 
-	while (p->first && ww_take_number(&p->loose, &number))
-		hand_over(p, &p->world->seats[number]);
-}
-
-/* Others may have freed the class since the last seat of it was loose. */
-COLD static void serve_if_open(uint64_t id)
-{
-	struct ww_pool *p;
-
-	pthread_mutex_lock(&opening);
-	p = open_pool(id);
-	if (p) {
-		pthread_mutex_lock(&p->queue);
-		serve(p);
-		pthread_mutex_unlock(&p->queue);
-	}
-	pthread_mutex_unlock(&opening);
-}
-
-/* Whether a seat that was in use before its class's seats were shared is left to whoever used it. */
-static bool was_left(uint64_t id, const ww_seat *s)
-{
-	struct ww_pool *p;
-	bool left;
-
-	pthread_mutex_lock(&opening);
-	p = open_pool(id);
-	left = p && !p->gone && s->left;
-	pthread_mutex_unlock(&opening);
-	return left;
-}
-
-/* Nobody frees the class as long as this seat is neither loose nor another's. */
-COLD void ww_give_shared(struct ww_pool *p, ww_seat *s, uint64_t id, bool was_loose)
-{
-	if (was_loose ? p->gone : !was_left(id, s))
+	if (p->gone)
 		return;
-	if (has_seekers(p)) {
-		bool handed;
-
-		pthread_mutex_lock(&p->queue);
-		handed = hand_over(p, s);
-		pthread_mutex_unlock(&p->queue);
-		if (handed)
-			return;
+	pthread_mutex_lock(&p->queue);
+	first = __atomic_load_n(&p->id, __ATOMIC_RELAXED) == id ? p->first : NULL;
+	if (first && claim(s)) {
+		take_out(p, &p->first);
+		first->seat = s;
+		__atomic_store_n(&first->served, 1, __ATOMIC_RELEASE);
+		ww_futex_wake(&first->served); /* by its address alone: it may be gone */
 	}
-	ww_give_number(&p->loose, number_of(p, s));
-	if (UNLIKELY(has_seekers(p)))
-		serve_if_open(id);
+	pthread_mutex_unlock(&p->queue);
 }
 
-COLD ww_seat *ww_other_seat(struct ww_pool *p)
+/* The keeper isn't this thread, and may have come to its end. */
+COLD static void give_kept(uint64_t id, ww_seat *s)
 {
-	ww_seat *s = is_shared(p) ? NULL : unshared(p);
-	uint32_t number;
+	struct ww_pool *p;
 
-	if (s || p->gone)
-		return s;
-	await_shared(p);
-	return !has_seekers(p) && ww_take_number(&p->loose, &number) ? use_loose(&p->world->seats[number]) : NULL;
+	if (__atomic_exchange_n(&s->busy, IDLE, __ATOMIC_ACQ_REL) != ORPHAN)
+		return;
+	pthread_mutex_lock(&opening);
+	p = open_pool(id);
+	if (p)
+		put_back(p, s);
+	pthread_mutex_unlock(&opening);
+}
+
+void ww_give_seat(ww_seat *s)
+{
+	struct ww_pool *p = s->pool;
+	uint64_t id = p->id;
+
+	if (UNLIKELY(is_kept(p, s))) {
+		give_kept(id, s);
+		return;
+	}
+	__atomic_store_n(&s->busy, IDLE, __ATOMIC_SEQ_CST);
+	if (UNLIKELY(has_seekers(p)))
+		serve(p, id, s);
 }
 
 /* It waits no more, if it has no seat yet. */
 static bool leave(struct ww_pool *p, struct ww_seeker *me)
 {
-	struct ww_seeker *before = NULL;
+	struct ww_seeker **at = &p->first;
 
 	pthread_mutex_lock(&p->queue);
-	for (struct ww_seeker *at = p->first; at != me && at; at = at->next)
-		before = at;
-	if (!me->seat) {
-		if (before)
-			before->next = me->next;
-		else
-			p->first = me->next;
-		if (p->last == me)
-			p->last = before;
-		__atomic_fetch_sub(&p->seekers, 1, __ATOMIC_SEQ_CST);
-	}
+	while (*at && *at != me)
+		at = &(*at)->next;
+	if (*at)
+		take_out(p, at);
 	pthread_mutex_unlock(&p->queue);
 	return !me->seat;
+}
+
+/* Where others wait already none is free, but for those of which whoever is through with them is about to serve the first. */
+static void queue_up(struct ww_pool *p, struct ww_seeker *me)
+{
+	pthread_mutex_lock(&p->queue);
+	__atomic_fetch_add(&p->seekers, 1, __ATOMIC_SEQ_CST);
+	*p->end = me;
+	p->end = &me->next;
+	if (p->first == me)
+		me->seat = claim_any(p);
+	if (me->seat) {
+		take_out(p, &p->first);
+		me->served = 1;
+	} else {
+		count(&p->sought);
+		PROBE_CONTEXT_WAIT(p->class_);
+	}
+	pthread_mutex_unlock(&p->queue);
 }
 
 COLD int ww_seek_seat(struct ww_pool *p, const struct timespec *until, ww_seat **s)
@@ -399,19 +411,7 @@ COLD int ww_seek_seat(struct ww_pool *p, const struct timespec *until, ww_seat *
 	if (p->gone)
 		return -EINVAL;
 	ww_debug_seeks(p, until);
-	pthread_mutex_lock(&p->queue);
-	__atomic_fetch_add(&p->seekers, 1, __ATOMIC_SEQ_CST);
-	if (p->first)
-		p->last->next = &me;
-	else
-		p->first = &me;
-	p->last = &me;
-	serve(p);
-	if (!me.seat) {
-		count(&p->sought);
-		PROBE_CONTEXT_WAIT(p->class_);
-	}
-	pthread_mutex_unlock(&p->queue);
+	queue_up(p, &me);
 	while (!__atomic_load_n(&me.served, __ATOMIC_ACQUIRE)) {
 		if (until && ww_has_come(until) && leave(p, &me))
 			break;
@@ -430,18 +430,20 @@ COLD int ww_seek_seat(struct ww_pool *p, const struct timespec *until, ww_seat *
 static void before_fork(void) { pthread_mutex_lock(&opening); }
 static void in_parent(void) { pthread_mutex_unlock(&opening); }
 
-/* Other threads were amid their calls, and aren't there: no seat and no number of these classes is given any more. */
+/*
+ * Other threads were amid their calls, and aren't there: no seat and no number of these classes is given any more.  One that
+ * had been freed is used again, though a thread may have been amid the end of its last context.
+ */
 static void in_child(void)
 {
 	for (struct ww_pool *p = pools; p; p = p->next) {
 		p->gone = true;
-		p->own_id = SHARED;
 		p->mutexes = 0;
-		p->id = ++last_id; /* so no thread has a seat of it at hand */
-		p->seekers = 0;
+		p->id = of_this_copy(++last_id); /* so no thread has a seat of it at hand */
 		set_out(&p->numbers, 0, p->numbers.below);
-		set_out(&p->loose, 0, p->loose.below);
 	}
+	for (struct ww_pool *p = freed; p; p = p->next)
+		p->queue = p->spare = (pthread_mutex_t)PTHREAD_MUTEX_INITIALIZER;
 	ww_debug_in_child();
 	pthread_mutex_unlock(&opening);
 }
@@ -451,17 +453,27 @@ static int prepare(void)
 {
 	if (is_prepared)
 		return 0;
-	if (pthread_key_create(&ending, forget) || pthread_atfork(before_fork, in_parent, in_child))
+	if (pthread_key_create(&ending, forget))
 		return -ENOMEM;
+	if (pthread_atfork(before_fork, in_parent, in_child)) {
+		pthread_key_delete(ending);
+		return -ENOMEM;
+	}
 	is_prepared = true;
 	return 0;
 }
 
-/* Where the library is closed (dlclose), threads that used it go on, and end without it. */
+/*
+ * Where the library is closed (dlclose), threads that used it go on, and end without it; at the end of the program they may
+ * go on as well, and whoever makes a key then may have that one.
+ */
 __attribute__((destructor)) static void unprepare(void)
 {
+	pthread_mutex_lock(&opening);
 	if (is_prepared)
 		pthread_key_delete(ending);
+	is_prepared = false;
+	pthread_mutex_unlock(&opening);
 }
 
 /* Of a class that was freed, or else new. */
@@ -478,6 +490,7 @@ static struct ww_pool *memory_of_pool(void)
 		return NULL;
 	memset(p, 0, sizeof *p);
 	p->queue = p->spare = (pthread_mutex_t)PTHREAD_MUTEX_INITIALIZER;
+	p->end = &p->first;
 	return p;
 }
 
@@ -487,29 +500,34 @@ static void keep_memory(struct ww_pool *p)
 	freed = p;
 }
 
-/*
- * Whoever gave a seat of a class that was freed may still look at own_id: it is written here and below relaxed, since any
- * value but the number of that class makes them ask, under the lock, whether that one is open.
- */
-static int make_pool(struct ww_class *c, struct ww_pool **made)
+/* Relaxed: whoever gave a seat of a class that was freed since may look still (serve), and anything but its number will do. */
+static void set_id(struct ww_pool *p, uint64_t id) { __atomic_store_n(&p->id, id, __ATOMIC_RELAXED); }
+
+static int make_pool(struct ww_class *c, uint32_t kept, struct ww_pool **made)
 {
 	uint32_t mutexes = c->mutexes ? c->mutexes : WW_MAX_LOCKS, contexts = c->contexts ? c->contexts : MANY_CONTEXTS;
 	struct ww_pool *p = memory_of_pool();
-	uint32_t *below = calloc((size_t)mutexes + contexts, sizeof *below);
+	uint32_t *below = calloc(mutexes, sizeof *below);
 	ww_world *world = NULL;
-	int r = p && below ? ww_open(&world, !!c->is_wait_die, mutexes, contexts + SPARE) : -ENOMEM;
+	int r = p && below ? ww_open(&world, !!c->is_wait_die, mutexes, kept + contexts + SPARE) : -ENOMEM;
 
 	if (!r) {
 		p->world = world;
 		p->class_ = c;
-		p->id = ++last_id;
-		for (uint32_t k = 0; k < world->count; k++)
+		set_id(p, of_this_copy(++last_id));
+		p->copy = &last_id;
+		for (uint32_t k = 0; k < world->count; k++) {
 			world->seats[k].pool = p;
+			world->seats[k].keeper = NO_THREAD;
+		}
 		p->mutexes = mutexes;
+		p->kept = kept;
 		p->contexts = contexts;
+		p->unkept = NULL;
+		for (uint32_t k = kept; k; k--)
+			put_back(p, &world->seats[k - 1]);
 		__atomic_store_n(&p->sought, 0, __ATOMIC_RELAXED);
 		set_out(&p->numbers, mutexes, below);
-		set_out(&p->loose, contexts, below + mutexes);
 		r = ww_debug_open(p);
 	}
 	if (r) {
@@ -519,18 +537,17 @@ static int make_pool(struct ww_class *c, struct ww_pool **made)
 			keep_memory(p);
 		return r;
 	}
-	__atomic_store_n(&p->own_id, prepares_fences() ? p->id : SHARED, __ATOMIC_RELAXED);
 	*made = p;
 	return 0;
 }
 
 /* Opening is locked. */
-static int open_now(struct ww_class *c)
+static int open_now(struct ww_class *c, uint32_t kept)
 {
 	struct ww_pool *p = NULL;
 	int r = 0;
 
-	if (!c->pool && !(r = prepare()) && !(r = make_pool(c, &p))) {
+	if (!of_this_copy_alone(c->pool) && !(r = prepare()) && !(r = make_pool(c, kept, &p))) {
 		p->next = pools;
 		pools = p;
 		__atomic_store_n(&c->pool, p, __ATOMIC_RELEASE);
@@ -538,20 +555,25 @@ static int open_now(struct ww_class *c)
 	return r;
 }
 
-COLD int ww_class_open(struct ww_class *c)
+/* Where a class says how many contexts it has, there are as many, and no more by seats that threads keep. */
+static uint32_t kept_of(const struct ww_class *c) { return c->contexts ? 0 : MANY_KEPT; }
+
+COLD int ww_class_open_kept(struct ww_class *c, uint32_t kept)
 {
 	int r;
 
 	pthread_mutex_lock(&opening);
-	r = open_now(c);
+	r = open_now(c, kept);
 	pthread_mutex_unlock(&opening);
 	return r;
 }
 
+int ww_class_open(struct ww_class *c) { return ww_class_open_kept(c, kept_of(c)); }
+
 /* Opening is locked, and the mutex has no number that is of any use. */
 static int number_now(struct ww_mutex *m, struct ww_class *c)
 {
-	int r = c ? open_now(c) : -EINVAL;
+	int r = c ? open_now(c, kept_of(c)) : -EINVAL;
 
 	if (!r)
 		r = number_of_pool(c->pool, &m->number);
@@ -611,22 +633,22 @@ int ww_class_limit(struct ww_class *c, uint32_t mutexes, uint32_t contexts)
 	return r;
 }
 
-/* Whether nobody uses a seat. `fresh` as above. Opening is locked. */
+/* Whether nobody uses a seat. Opening is locked. */
 static bool is_idle(const struct ww_pool *p)
 {
-	uint32_t fresh = __atomic_load_n(&p->loose.fresh, __ATOMIC_RELAXED);
+	bool idle = !has_seekers(p);
 
-	if (is_shared(p))
-		return all_free(&p->loose);
-	for (uint32_t k = 0; k < fresh; k++)
-		if (__atomic_load_n(&p->world->seats[k].busy, __ATOMIC_ACQUIRE))
-			return false;
-	return true;
+	for (uint32_t k = 0; k < seats_of(p) && idle; k++)
+		idle = !__atomic_load_n(&p->world->seats[k].busy, __ATOMIC_ACQUIRE);
+	return idle;
 }
 
+/* Nobody serves by its seats any more. */
 static void free_pool(struct ww_pool *p)
 {
-	__atomic_store_n(&p->own_id, SHARED, __ATOMIC_RELAXED);
+	pthread_mutex_lock(&p->queue);
+	set_id(p, 0);
+	pthread_mutex_unlock(&p->queue);
 	ww_debug_free(p);
 	if (ww_close(p->world))
 		abort(); /* nobody has a seat of it */
@@ -643,7 +665,7 @@ int ww_class_free(struct ww_class *c)
 	int r = 0;
 
 	pthread_mutex_lock(&opening);
-	p = c->pool;
+	p = of_this_copy_alone(c->pool);
 	if (p && !p->gone && (!all_free(&p->numbers) || !is_idle(p))) {
 		r = -EBUSY;
 		left = ww_debug_left(p);
@@ -696,10 +718,10 @@ void ww_class_stats(struct ww_class *c, struct ww_class_counts *counts)
 
 	*counts = (struct ww_class_counts){ 0 };
 	pthread_mutex_lock(&opening);
-	p = c->pool;
+	p = of_this_copy_alone(c->pool);
 	if (p)
 		counts->context_waits = __atomic_load_n(&p->sought, __ATOMIC_RELAXED);
-	for (uint32_t k = 0; p && k < __atomic_load_n(&p->loose.fresh, __ATOMIC_RELAXED); k++) {
+	for (uint32_t k = 0; p && k < seats_of(p); k++) {
 		counts->lock_waits += __atomic_load_n(&p->world->seats[k].waits, __ATOMIC_RELAXED);
 		counts->back_offs += __atomic_load_n(&p->world->seats[k].back_offs, __ATOMIC_RELAXED);
 	}
@@ -713,7 +735,7 @@ void ww_class_print(struct ww_class *c, FILE *to)
 	char *seen = NULL;
 
 	pthread_mutex_lock(&opening);
-	if (c->pool && !c->pool->gone)
+	if (of_this_copy_alone(c->pool) && !c->pool->gone)
 		seen = ww_debug_seen(c->pool);
 	pthread_mutex_unlock(&opening);
 	if (seen)

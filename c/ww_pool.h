@@ -47,52 +47,43 @@ struct ww_numbers {
 
 /*
  * Once its class is freed its memory stays, for a class that is opened later: whoever gave a
- * seat looks at `own_id`, or at `seekers`, once more, though others may have freed the class by then.
+ * loose seat looks at `seekers` then, and may lock the queue, though others may have freed the class.
  */
 struct ww_pool {
 	ww_world *world;
 	struct ww_class *class_;
-	uint64_t id; /* no other class that is or was open has the same */
-	uint64_t own_id; /* the same, as long as its seats aren't shared; then SHARING, and SHARED once they are */
-	uint32_t mutexes, contexts;
+	uint64_t id;	  /* no other class that is or was open has the same, also of another copy of the library */
+	const void *copy; /* of the library: the one that opened it */
+	uint32_t mutexes;
+	uint32_t kept, contexts; /* of its seats so many are kept, and behind these so many loose: see ww_pool.c */
 	bool gone; /* it was opened before a fork, of which this is the child */
 	struct ww_pool *next;
 	struct debug *debug;
 	struct ww_numbers numbers; /* of mutexes */
 	struct ww_mutex *numbered; /* of ww_number.h: one for each number, from the first on that is taken */
-	struct ww_numbers loose;   /* of the seats that no thread keeps and nobody uses */
+	ww_seat *unkept; /* the kept ones that have no keeper; changed where opening is locked */
 	uint32_t seekers __attribute__((aligned(64))); /* so many threads wait for a seat; others take none meanwhile */
-	struct ww_seeker *first, *last;                /* of these, in the order in which they came */
+	struct ww_seeker *first, **end;                /* of these, in the order in which they came, and where that ends */
 	pthread_mutex_t queue;                         /* for both */
 	uint64_t sought;                               /* how many waited, in all */
 	/* Whoever has it uses the seat behind those of the contexts, and waits for nobody. */
 	pthread_mutex_t spare __attribute__((aligned(64)));
 };
 
-/*
- * A seat is kept by the thread that took it, and nobody else takes it, until some
- * thread finds none: from then on the class's seats are shared, and each is loose while
- * it isn't used.  Before, its keeper says that it is busy, and only then looks whether
- * they are shared; whoever shares them says so first, makes each thread see that by
- * membarrier(2), and only then looks which of them are busy: those are left to whoever
- * uses them, and the others are loose.
- *
- * Whoever ends the use of a seat that it had before the seats were shared asks whether
- * the seat was left to it; one that was taken later is always given by who used it.
- */
-#define SHARING (UINT64_MAX - 1)
-#define SHARED UINT64_MAX
+/* What `busy` of a seat is: see ww_pool.c; and who keeps one that is loose, or whose keeper ended. */
+enum { IDLE, BUSY, ORPHAN };
+#define NO_THREAD UINT64_MAX
 
-/* The seats that this thread keeps. */
-enum { KEPT = 12 };
+/* What a thread has of its own. */
+enum { KEPT = 10 };
 struct ww_mine {
-	struct ww_kept {
+	struct ww_known {
 		uint64_t id;
 		ww_seat *seat;
-	} seats[KEPT];   /* the last one first */
-	uint32_t thread; /* a number that no thread before had, of 2^32; 0 until it takes a number or a seat */
-	uint8_t stack;   /* the number of its own one plus one, from then on */
-	bool told;       /* that the thread ends */
+	} seats[KEPT],	 /* that it keeps, one of a class; the one that it used last first */
+	  last;		 /* that it had last, of a class of which threads keep none */
+	uint64_t thread; /* a number that no other has, also of another copy; 0 until it takes a number or a seat */
+	bool ends;	 /* so it keeps no seat any more */
 };
 WW_HIDDEN extern __thread struct ww_mine ww_mine __attribute__((tls_model("initial-exec")));
 
@@ -106,12 +97,12 @@ WW_HIDDEN bool ww_take_number(struct ww_numbers *of, uint32_t *number);
 WW_HIDDEN void ww_give_number(struct ww_numbers *of, uint32_t number);
 /* How many are free, at a glance. */
 WW_HIDDEN uint32_t ww_free_numbers(const struct ww_numbers *of);
+/* Opens the class, where it isn't, and so many threads keep a seat of it. */
+WW_HIDDEN int ww_class_open_kept(struct ww_class *c, uint32_t kept);
 /* Where the seat that this thread had last isn't at hand: any other that it may use now; or NULL. */
 WW_HIDDEN ww_seat *ww_other_seat(struct ww_pool *p);
-/* The keeper of this seat began to use it while they came to be shared. */
-WW_HIDDEN ww_seat *ww_late_seat(struct ww_pool *p, ww_seat *s);
-/* The seats of the class that had this number are shared, or it is open no more. */
-WW_HIDDEN void ww_give_shared(struct ww_pool *p, ww_seat *s, uint64_t id, bool was_loose);
+/* By whoever isn't its keeper. */
+WW_HIDDEN void ww_give_seat(ww_seat *s);
 /* Waits for a seat behind all who wait already, until a time if that isn't NULL: -ETIMEDOUT; -EINVAL in a child. */
 WW_HIDDEN int ww_seek_seat(struct ww_pool *p, const struct timespec *until, ww_seat **s);
 /* Whether the mutex could be acquired at once; at a glance, for all but who knows that nobody uses it. */
@@ -139,6 +130,9 @@ static inline int number_of_pool(struct ww_pool *p, uint32_t *number)
 	return LIKELY(ww_take_number(&p->numbers, number)) ? 0 : p->gone ? -EINVAL : -ENOSPC;
 }
 
+/* Those that contexts may have. */
+static inline uint32_t seats_of(const struct ww_pool *p) { return p->kept + p->contexts; }
+
 /* NULL: it has no number.  Where it has one its number is to be seen, whoever gave it. */
 static inline struct ww_pool *pool_at(const struct ww_mutex *m) { return __atomic_load_n(&m->pool, __ATOMIC_ACQUIRE); }
 
@@ -149,48 +143,37 @@ static inline struct ww_pool *pool_at(const struct ww_mutex *m) { return __atomi
 static inline void is_user(ww_seat *s) { __atomic_store_n(&s->user, ww_mine.thread, __ATOMIC_RELAXED); }
 
 /*
- * Whether this thread keeps the seat that it had last, of this class, and nobody uses it: a context that was begun here may
- * go on elsewhere.  own_id is read relaxed: if it was another's just before, use_kept finds that.
+ * The seat that this thread used last, if it keeps it, it is of this class, and nobody uses it: a context that was begun here
+ * may go on elsewhere, and what that thread wrote in the seat goes with `busy` (ww_give_seat).  Nobody else sets it then,
+ * so the store is relaxed.
  */
-static inline bool has_at_hand(const struct ww_pool *p)
+static inline ww_seat *seat_at_hand(const struct ww_pool *p)
 {
-	return LIKELY(ww_mine.seats[0].id == __atomic_load_n(&p->own_id, __ATOMIC_RELAXED)) &&
-	       LIKELY(!__atomic_load_n(&ww_mine.seats[0].seat->busy, __ATOMIC_ACQUIRE));
-}
+	ww_seat *s = ww_mine.seats[0].seat;
 
-/*
- * By its keeper; whether it isn't shared yet, or else ww_late_seat says what is to be done.  Relaxed, both: what
- * orders them, for whoever shares the seats, is its membarrier.
- */
-static inline bool use_kept(struct ww_pool *p, ww_seat *s)
-{
-	__atomic_store_n(&s->busy, true, __ATOMIC_RELAXED);
-	__atomic_signal_fence(__ATOMIC_SEQ_CST);
-	return LIKELY(__atomic_load_n(&p->own_id, __ATOMIC_RELAXED) < SHARING);
+	if (UNLIKELY(ww_mine.seats[0].id != p->id) || UNLIKELY(__atomic_load_n(&s->busy, __ATOMIC_ACQUIRE)))
+		return NULL;
+	__atomic_store_n(&s->busy, BUSY, __ATOMIC_RELAXED);
+	return s;
 }
 
 static inline ww_seat *seat_at_once(struct ww_pool *p)
 {
-	ww_seat *s = ww_mine.seats[0].seat;
+	ww_seat *s = seat_at_hand(p);
 
-	if (UNLIKELY(!has_at_hand(p)))
-		return ww_other_seat(p);
-	return LIKELY(use_kept(p, s)) ? s : ww_late_seat(p, s);
+	return LIKELY(s) ? s : ww_other_seat(p);
 }
 
 /*
- * was_loose: it was taken when its class's seats were shared; only its user knows, since once it isn't busy
- * somebody else may take it, and free the class.  Where they aren't shared, it is free once it isn't busy.
+ * Nobody but its user may free the class until then.  The keeper changes while nobody uses it, but that whoever keeps it no
+ * more says so first (let_go): to all who aren't that thread it makes no difference, so it is relaxed.
  */
-static inline void give_seat(struct ww_pool *p, ww_seat *s, bool was_loose)
+static inline void give_seat(ww_seat *s)
 {
-	uint64_t id = p->id;
-
-	__atomic_store_n(&s->busy, false, __ATOMIC_RELEASE);
-	__atomic_signal_fence(__ATOMIC_SEQ_CST);
-	/* Relaxed: as in use_kept; where it changed because the class was freed, nothing of that is looked at any more. */
-	if (UNLIKELY(__atomic_load_n(&p->own_id, __ATOMIC_RELAXED) != id))
-		ww_give_shared(p, s, id, was_loose);
+	if (LIKELY(__atomic_load_n(&s->keeper, __ATOMIC_RELAXED) == ww_mine.thread))
+		__atomic_store_n(&s->busy, IDLE, __ATOMIC_RELEASE);
+	else
+		ww_give_seat(s);
 }
 
 /*
@@ -200,7 +183,7 @@ static inline void give_seat(struct ww_pool *p, ww_seat *s, bool was_loose)
 static inline ww_seat *borrow_spare(struct ww_pool *p)
 {
 	pthread_mutex_lock(&p->spare);
-	return &p->world->seats[p->contexts];
+	return &p->world->seats[seats_of(p)];
 }
 static inline void put_spare(struct ww_pool *p) { pthread_mutex_unlock(&p->spare); }
 

@@ -8,8 +8,7 @@ the programs that have the field. Then it draws all executions of small programs
 the writes of each place come), and asks of each whether a memory model allows it: C's, as RC11 repairs it, with the release
 sequences of C++20, which tells data races too; and AArch64's, the axiomatic one, over the code that gcc and clang make, with
 load and store exclusive and with single instructions (LSE). First come programs whose answers are well known, and such that
-have to be found wrong. What the models don't have is membarrier(2), by which whoever shares the seats of a class sees what
-their keepers stored; and the steps of the proved library are read-modify-writes of one sequentially consistent order here.
+have to be found wrong. The steps of the proved library are read-modify-writes of one sequentially consistent order here.
 """
 import itertools
 import os
@@ -323,20 +322,20 @@ TABLE = {
     },
     # The mutexes of numbers, which are empty then.
     "numbered": {"mutex_at": "load acq", "mutexes_of": "load acq, compare_exchange ar/acq"},
-    # Of seats that aren't shared: what their user wrote goes with busy, to its keeper and to whoever shares them.
+    # What the user of a seat wrote goes with busy: of a kept one to its keeper, of a loose one to whoever claims it, of both to
+    # whoever frees the class. A loose one is given before its giver looks for seekers.
     "busy": {
-        "has_at_hand": "load acq", "use_kept": "store rlx", "give_seat": "store rel", "share": "load acq",
-        "let_loose": "load acq", "unshared": "load acq, store rlx", "is_idle": "load acq",
+        "seat_at_hand": "load acq, store rlx", "give_seat": "store rel", "give_kept": "exchange ar",
+        "let_go": "exchange ar, store rlx", "keep": "store rlx", "claim": "load sc, exchange sc", "ww_give_seat": "store sc",
+        "is_idle": "load acq",
     },
-    # Its keeper looks after it stored busy: membarrier(2) orders these. Whoever waits until the seats are shared acquires.
-    "own_id": {
-        "has_at_hand": "load rlx", "use_kept": "load rlx", "give_seat": "load rlx", "is_shared": "load rlx",
-        "share": "store sc, store rel", "await_shared": "load acq", "make_pool": "store rlx", "free_pool": "store rlx",
-    },
-    # Whoever gives a seat looks for seekers then; a seeker has said so before it looks for a seat.
-    "seekers": {
-        "has_seekers": "load sc", "hand_over": "fetch_sub sc", "leave": "fetch_sub sc", "ww_seek_seat": "fetch_add sc",
-    },
+    # To all threads but the one that it names, or named, it is the same. Who may be the next keeper is a glance before the lock.
+    "keeper": {"give_seat": "load rlx", "let_go": "store rlx", "keep": "store rlx"},
+    "unkept": {"put_back": "store rlx", "keep": "store rlx", "kept_seat": "load rlx"},
+    # Written before others see the class; where it is freed under the queue's lock, and whoever serves late sees that.
+    "id": {"set_id": "store rlx", "serve": "load rlx"},
+    # Whoever gives a loose seat looks for seekers then; a seeker has said so before it looks for a seat.
+    "seekers": {"has_seekers": "load sc", "take_out": "fetch_sub sc", "queue_up": "fetch_add sc"},
     "top": {
         "pop": "load sc, compare_exchange sc/sc", "changes": "load sc",
         "ww_give_number": "load rlx, compare_exchange sc/rlx", "ww_free_numbers": "load sc",
@@ -345,13 +344,12 @@ TABLE = {
     "below": {"pop": "load rlx", "ww_give_number": "store rlx", "ww_free_numbers": "load rlx"},
     # A number that nobody had has no history.
     "fresh": {
-        "take_fresh": "load rlx, compare_exchange rlx/rlx", "ww_free_numbers": "load rlx", "share": "load rlx",
-        "is_idle": "load rlx", "ww_class_stats": "load rlx", "ww_debug_own_seat": "load rlx", "tell_what_was_left": "load rlx",
+        "take_fresh": "load rlx, compare_exchange rlx/rlx", "ww_free_numbers": "load rlx",
     },
     # The seat that is handed over, and all that goes with it.
-    "served": {"hand_over": "store rel", "ww_seek_seat": "load acq"},
+    "served": {"serve": "store rel", "ww_seek_seat": "load acq"},
     # Counts, which order nothing; and glances of the debug library. What a waiter in its list did before is ordered by its lock.
-    "threads": {"my_stack": "fetch_add rlx"},
+    "threads": {"my_thread": "add_fetch rlx"},
     "sought": {"make_pool": "store rlx", "ww_class_stats": "load rlx"},
     "waits": {"ww_class_stats": "load rlx"},
     "back_offs": {"ww_class_stats": "load rlx"},
@@ -394,21 +392,18 @@ LOCKS = {
 }
 PLAIN = {
     "c->mutexes": "opening: make_pool",
-    "c->contexts": "opening: make_pool",
-    # begin_late found it open, and nobody frees a class meanwhile.
-    "c->pool": "opening: begin_late",
+    "c->contexts": "opening: kept_of make_pool",
+    "c->pool": "opening: ",
     "p->next": "opening: in_child keep_memory memory_of_pool",
-    "s->kept": "opening: ",
-    # ww_late_seat waited until the seats are shared.
-    "s->left": "opening: ww_late_seat",
-    # Of seekers; put_first has another `first`. One that was served reads its own: `served` orders that.
+    # Of seats that nobody keeps; make_pool gives them back before others see the class.
+    "s->next": "opening: ",
+    "p->unkept": "opening: make_pool",
+    # Of seekers; memory_of_pool has an empty queue. One that was served, by another or by itself, reads its own.
     "p->first": "queue: ",
-    "p->last": "queue: ",
-    "me->next": "queue: ",
-    "first->next": "queue: ",
-    "before->next": "queue: ",
-    "me->seat": "queue: ",
-    "first->seat": "queue: put_first",
+    "p->end": "queue: memory_of_pool",
+    "me->seat": "queue: ww_seek_seat",
+    "me->served": "queue: ",
+    "first->seat": "queue: ",
     # Before others see the class, by its pool, or the world.
     "p->world": "by: make_pool",
     "p->class_": "by: make_pool",
@@ -417,14 +412,14 @@ PLAIN = {
     "s->pool": "by: make_pool",
     "s->world": "by: lay_out",
     # That, and in a forked child, where nobody else is. Whoever has a seat of the class reads `id`, so it isn't freed.
-    "p->id": "by: in_child make_pool",
+    "p->id": "by: in_child",
+    "p->copy": "by: make_pool",
+    "p->kept": "by: make_pool",
+    "s->keeper": "by: make_pool",
     "p->mutexes": "by: in_child make_pool",
     "p->gone": "by: in_child",
     "p->numbered": "by: free_pool",
-    "p->own_id": "by: in_child",
-    "p->seekers": "by: in_child",
     # By whoever has the seat.
-    "s->was_loose": "by: use_loose",
     "s->stops": "by: was_stale",
     "s->listed": "by: come_back list unlist",
     # By whoever holds the mutex, which its lock orders, or makes or destroys it.
@@ -442,10 +437,9 @@ PLAIN = {
     "of->below": "by: set_out",
     "stacks->top": "by: set_out",
     "numbers->below": "by: ",
-    "loose->below": "by: ",
 }
 # What a thread has for itself, under names of fields that others share; and names under which others stand for the same.
-OWN = ["stop", "front", "f", "ww_mine", "kept", "counts", "s->seat"]
+OWN = ["stop", "front", "f", "ww_mine", "kept", "counts", "s->seat", "s->id", "last"]
 SAME = {"lock": "m", "owed": "m", "older": "m", "newer": "m", "ctx": "x", "victim": "s", "by": "s", "own": "s", "seat": "s", "seats": "s"}
 
 
@@ -648,11 +642,12 @@ def known():
     ], lambda r, f: r[2].get("b") == 0
 
 
-def seek(push, look, says, looks):
-    """Whoever gives a seat, and then looks for seekers, against one that seeks. Bad: it is left asleep, with a seat loose."""
+def seek(give, look, says, looks):
+    """Whoever gives a seat, and then looks for seekers, against one that seeks. Bad: it is left asleep, with a seat free."""
     return (
-        [[X("p", "top", put(1), push), R("a", "seekers", look)], [X("i", "seekers", add(1), says), R("b", "top", looks)]],
-        lambda r, f: r[0]["a"] == 0 and r[1]["b"] == 0,
+        [[W("busy", 0, give), R("a", "seekers", look)], [X("i", "seekers", add(1), says), R("b", "busy", looks)]],
+        lambda r, f: r[0]["a"] == 0 and r[1]["b"] == 1,
+        {"busy": 1},
     )
 
 
@@ -678,11 +673,37 @@ def token(looks):
     )
 
 
-def loose(push, pop):
-    """A seat goes by a stack from one user to the next, with what the first one wrote in it."""
+def loose(give, claim):
+    """A loose seat goes from one user to the next, with what the first one wrote in it."""
     return (
-        [[W("handle", 1), X("p", "top", put(1), push)], [X("t", "top", swap(1, 0), pop), IF("t", 1, R("h", "handle"))]],
+        [[W("handle", 1), W("busy", 0, give)], [X("t", "busy", put(1), claim), IF("t", 0, R("h", "handle"))]],
         lambda r, f: r[1].get("h") == 0,
+        {"busy": 1},
+    )
+
+
+def kept(ends, looks):
+    """Another thread ends a context on a kept seat, which its keeper uses next."""
+    return (
+        [
+            [W("handle", 1), X("b", "busy", put(0), ends)],
+            [R("b", "busy", looks), IF("b", 0, W("busy", 1, "rlx"), R("h", "handle"))],
+        ],
+        lambda r, f: r[1].get("h") == 0,
+        {"busy": 1},
+    )
+
+
+def orphan(ends, leaves):
+    """The user (0 for 1) and the keeper (2) are both through with a kept seat. Bad: neither puts it back, or both; or who does
+    doesn't see what the other wrote."""
+    return (
+        [
+            [W("handle", 1), X("b", "busy", put(0), ends), IF("b", 2, R("k", "keeper"))],
+            [W("keeper", 1), X("b", "busy", put(2), leaves), IF("b", 0, R("h", "handle"))],
+        ],
+        lambda r, f: (r[0]["b"] == 2) == (r[1]["b"] == 0) or r[0].get("k") == 0 or r[1].get("h") == 0,
+        {"busy": 1},
     )
 
 
@@ -706,32 +727,39 @@ def wrong():
     yield "destroy doesn't take the lock", destroy(False, False)
     yield "an unlock reads the number behind the release", destroy(True, True)
     yield "the state is looked at relaxed behind a token", token("rlx")
-    yield "a seat is pushed relaxed", loose("rlx", "sc")
+    yield "a seat is given by a release", seek("rel", "sc", "sc", "sc")
+    yield "a loose seat is given relaxed", loose("rlx", "sc")
+    yield "a kept seat is given relaxed", kept("rlx", "acq")
+    yield "a keeper looks relaxed", kept("ar", "rlx")
+    yield "whoever comes second acquires nothing", orphan("rel", "rel")
     yield "stacks are looked at relaxed", scan("rlx")
 
 
 def ours():
     """What the sources do, by the orders of the table. No execution may end so, nor have a race."""
     yield "a seat is given, and sought", *seek("sc", "sc", "sc", "sc")
-    yield "a seat goes from user to user", *loose("sc", "sc")
-    yield "a seat goes from user to user, over a third", [
-        [W("handle", 1), X("p", "top", put(1), "sc")],
-        [X("t", "top", swap(1, 0), "sc"), IF("t", 1, X("p", "top", put(2), "sc"))],
-        [X("t", "top", swap(2, 0), "sc"), IF("t", 2, R("h", "handle"))],
-    ], lambda r, f: r[2].get("h") == 0
-    yield "a seat is handed to whoever waits", [
-        [W("handle", 1), W("seat", 1), W("served", 1, "rel")],
+    yield "a loose seat goes from user to user", *loose("sc", "sc")
+    yield "a loose seat goes from user to user, over a third", [
+        [W("handle", 1), W("busy", 0, "sc")],
+        [X("t", "busy", put(1), "sc"), IF("t", 0, W("busy", 0, "sc"))],
+        [X("t", "busy", put(2), "sc"), IF("t", 0, R("h", "handle"))],
+    ], lambda r, f: r[1]["t"] == 0 and r[2]["t"] == 0 and f["busy"] == 2 and r[2].get("h") == 0, {"busy": 1}
+    yield "a loose seat is claimed for whoever waits", [
+        [W("handle", 1), W("busy", 0, "sc")],
+        [X("t", "busy", put(1), "sc"), IF("t", 0, W("seat", 1), W("served", 1, "rel"))],
         [R("s", "served", "acq"), IF("s", 1, R("q", "seat"), R("h", "handle"))],
-    ], lambda r, f: r[1].get("q") == 0 or r[1].get("h") == 0
-    yield "a seat whose context ended elsewhere is its keeper's again", [
+    ], lambda r, f: r[2].get("q") == 0 or r[2].get("h") == 0, {"busy": 1}
+    yield "a kept seat whose context ended elsewhere is its keeper's again", *kept("ar", "acq")
+    yield "a kept seat whose context its keeper ended is its keeper's again, once another one's ended", [
+        [W("handle", 1), X("b", "busy", put(0), "ar")],
+        [R("b", "busy", "acq"), IF("b", 0, W("handle", 2), W("busy", 1, "rlx"), W("busy", 0, "rel"), R("h", "handle"))],
+    ], lambda r, f: r[1].get("h") == 1, {"busy": 1}
+    yield "a kept seat is put back by whoever comes second, and kept by the next", *orphan("ar", "ar")
+    yield "a class is freed once its seats aren't busy", [
         [W("handle", 1), W("busy", 0, "rel")],
-        [R("b", "busy", "acq"), IF("b", 0, R("h", "handle"), W("busy", 1, "rlx"))],
-    ], lambda r, f: r[1].get("h") == 0, {"busy": 1}
-    yield "a kept seat is shared", [
-        [W("handle", 1), W("busy", 0, "rel")],
-        [R("b", "busy", "acq"), IF("b", 0, X("p", "top", put(1), "sc"))],
-        [X("t", "top", swap(1, 0), "sc"), IF("t", 1, R("h", "handle"))],
-    ], lambda r, f: r[2].get("h") == 0, {"busy": 1}
+        [X("t", "other", put(0), "ar"), W("there", 2)],
+        [R("b", "busy", "acq"), R("o", "other", "acq"), IF("b", 0, IF("o", 0, R("h", "handle"), W("handle", 9)))],
+    ], lambda r, f: r[2].get("h") == 0, {"busy": 1, "other": 1}
     yield "a number's below is that of its top, over a second push", [
         [W("below1", 7, "rlx"), X("a", "top", swap(0, 1), "sc")],
         [R("t", "top", "rlx"), IF("t", 1, W("below2", 8, "rlx"), X("a", "top", swap(1, 2), "sc"))],
@@ -743,7 +771,7 @@ def ours():
         [X("t", "taken", put(1), "acq"), IF("t", 0, R("h", "handle"))],
     ], lambda r, f: r[1].get("h") == 0, {"taken": 1}
     yield "a class is opened by another thread", [
-        [W("id", 5), W("pool", 1, "rel")],
+        [W("id", 5, "rlx"), W("pool", 1, "rel")],
         [R("p", "pool", "acq"), IF("p", 1, R("i", "id"))],
     ], lambda r, f: r[1].get("i") == 0
     yield "a seat by which a mutex is held has another user now", [
@@ -755,13 +783,9 @@ def ours():
         [R("p", "pool", "acq"), IF("p", 1, R("n", "number"), X("l", "lock", swap(0, 2), "sc"))],
     ], lambda r, f: r[1].get("n") == 0
     yield "a class is freed, and opened anew, behind its last context", [
-        [R("i", "id"), W("busy", 0, "rel"), R("o", "own_id", "rlx")],
-        [R("b", "busy", "acq"), IF("b", 0, W("own_id", 9, "rlx"), W("id", 6), W("own_id", 6, "rlx"))],
-    ], lambda r, f: r[0]["i"] == 6, {"busy": 1, "id": 5, "own_id": 5}
-    yield "the same, where seats are shared", [
-        [R("i", "id"), X("p", "top", put(1), "sc"), R("s", "seekers", "sc")],
-        [R("t", "top", "sc"), IF("t", 1, W("id", 6))],
-    ], lambda r, f: r[0]["i"] == 6, {"id": 5}
+        [R("i", "id"), W("busy", 0, "sc"), X("l", "queue", put(1), "ar"), R("j", "id", "rlx")],
+        [R("b", "busy", "acq"), IF("b", 0, W("id", 0, "rlx"), X("l", "queue", put(2), "ar"), W("id", 6, "rlx"))],
+    ], lambda r, f: r[0]["i"] != 5 or (r[0]["l"] == 2 and r[0]["j"] == 5), {"busy": 1, "id": 5}
     yield "a mutex is destroyed, and its memory is another's", *destroy(True, False)
     yield "destroy sees a waiter that got it", [
         [W("ctx", 1, "rlx"), X("i", "waiters", add(-1), "sc")],

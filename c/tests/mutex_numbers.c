@@ -28,7 +28,7 @@ static void *pops_and_pushes(void *arg)
 		unsigned count = 1 + next(&x) % 2, taken = 0;
 		uint32_t n[2];
 
-		ww_mine.stack = bare.count == FEW ? 1 : 1 + next(&x) % STACKS;
+		ww_mine.thread = bare.count == FEW ? 1 : 1 + next(&x) % STACKS; /* by which a thread has its stack */
 		while (taken < count && ww_take_number(&bare, &n[taken]))
 			MUST(!__atomic_exchange_n(&own[n[taken++]], true, __ATOMIC_SEQ_CST));
 		MUST(taken == count || bare.count == FEW);

@@ -1,7 +1,7 @@
 /*
- * Each allocation of a class's opening is refused in turn, that of the thread-local
- * key too: the class isn't open, nothing is left but the one piece of memory that the
- * next class has, and the same call does it later.
+ * Each allocation of a class's opening is refused in turn, those of the thread-local
+ * key and of what a fork calls too: the class isn't open, nothing is left but the one piece of
+ * memory that the next class has, and the same call does it later.
  * No other call allocates.  This heap stands in for that of the library, and what
  * the library's sources ask for comes by the wrappers (ld --wrap).
  */
@@ -12,7 +12,7 @@ struct tried {
 	void *p;
 };
 
-static long made, live, refused = -1;
+static long made, live, keys, refused = -1;
 static char nothing[16];
 
 static struct tried told(void *p) { return (struct tried){ p != NULL, p ? p : nothing }; }
@@ -34,6 +34,10 @@ void *__wrap_aligned_alloc(size_t align, size_t size);
 void *__wrap_calloc(size_t count, size_t size);
 void __wrap_free(void *p);
 int __wrap_pthread_key_create(pthread_key_t *key, void (*end)(void *));
+int __real_pthread_key_delete(pthread_key_t key);
+int __wrap_pthread_key_delete(pthread_key_t key);
+int __real_pthread_atfork(void (*before)(void), void (*parent)(void), void (*child)(void));
+int __wrap_pthread_atfork(void (*before)(void), void (*parent)(void), void (*child)(void));
 
 struct tried rattle_alloc(size_t size, size_t align)
 {
@@ -57,7 +61,21 @@ void *__wrap_calloc(size_t count, size_t size) { return asked(made++ == refused 
 
 int __wrap_pthread_key_create(pthread_key_t *key, void (*end)(void *))
 {
-	return made++ == refused ? EAGAIN : __real_pthread_key_create(key, end);
+	if (made++ == refused)
+		return EAGAIN;
+	keys++;
+	return __real_pthread_key_create(key, end);
+}
+
+int __wrap_pthread_key_delete(pthread_key_t key)
+{
+	keys--;
+	return __real_pthread_key_delete(key);
+}
+
+int __wrap_pthread_atfork(void (*before)(void), void (*parent)(void), void (*child)(void))
+{
+	return made++ == refused ? ENOMEM : __real_pthread_atfork(before, parent, child);
 }
 
 void __wrap_free(void *p)
@@ -118,7 +136,7 @@ int main(void)
 				r = opens(way);
 				if (!r)
 					break;
-				MUST(r == -ENOMEM && live <= 1 && !c->pool && !ww_class_free(c));
+				MUST(r == -ENOMEM && live <= 1 && keys <= 1 && !c->pool && !ww_class_free(c));
 			}
 			MUST(made == refused && live > 1);
 			printf("%ld allocations to open a class, each refused in turn; none by the other calls\n", made);

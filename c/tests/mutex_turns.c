@@ -1,12 +1,13 @@
 /*
  * Contexts are handed out in order: whoever waits longest for one of the class gets the
  * next one, nobody takes one meanwhile, and each wait is ended by one end of a context.
- * What the library locks, and what it asks the system for, comes by wrappers (ld --wrap).
+ * A seat that a thread keeps is its own, whoever ends a context there, until its life ends.
+ * What the library locks comes by wrappers (ld --wrap).
  */
 #include "mutex_test.h"
 #include "../ww_pool.h"
-#include <stdarg.h>
-#include <sys/syscall.h>
+#include <semaphore.h>
+#include <sys/wait.h>
 
 enum { WAITERS = 14, LATE = 5, LATE_TOO = 6 };
 
@@ -133,6 +134,20 @@ int __wrap_pthread_mutex_lock(pthread_mutex_t *m);
 static struct ww_acquire_ctx *ends_then;
 static unsigned before_that; /* so often the queue is locked */
 
+/* This thread stops before it locks this, and before it unlocks it. */
+static __thread unsigned stops;
+static pthread_mutex_t *queue;
+static sem_t stopped, goes_on;
+
+static void stop_at(pthread_mutex_t *m, unsigned when)
+{
+	if (stops != when || m != queue)
+		return;
+	stops--;
+	sem_post(&stopped);
+	sem_wait(&goes_on);
+}
+
 /* By this thread: it asks whether the class can be freed wherever it comes to lock something, or has unlocked all. */
 static __thread bool asks;
 static __thread unsigned locked;
@@ -154,9 +169,24 @@ int __wrap_pthread_mutex_lock(pthread_mutex_t *m)
 		ends_then = NULL;
 		ww_acquire_fini(x);
 	}
+	stop_at(m, 2);
 	asks_while_unlocked();
 	locked += asks;
 	return __real_pthread_mutex_lock(m);
+}
+
+int __real_pthread_mutex_unlock(pthread_mutex_t *m);
+int __wrap_pthread_mutex_unlock(pthread_mutex_t *m);
+
+int __wrap_pthread_mutex_unlock(pthread_mutex_t *m)
+{
+	int r;
+
+	stop_at(m, 1);
+	r = __real_pthread_mutex_unlock(m);
+	locked -= asks;
+	asks_while_unlocked();
+	return r;
 }
 
 /* The only context ends just after this one found none, and before it said that it waits. */
@@ -203,58 +233,6 @@ static void gives_up_just_then(void)
 	MUST(ww_acquire_init_until(&x, c, &none) == -EINVAL && !ww_class_free(c));
 }
 
-static void *begins_and_ends(void *arg)
-{
-	struct ww_acquire_ctx x;
-
-	(void)arg;
-	ww_acquire_init(&x, c);
-	ww_acquire_fini(&x);
-	return NULL;
-}
-
-int __real_pthread_mutex_unlock(pthread_mutex_t *m);
-int __wrap_pthread_mutex_unlock(pthread_mutex_t *m);
-static bool comes_then;
-static pthread_t newcomer;
-
-int __wrap_pthread_mutex_unlock(pthread_mutex_t *m)
-{
-	int r = __real_pthread_mutex_unlock(m);
-
-	locked -= asks;
-	asks_while_unlocked();
-	if (comes_then && m == &c->pool->queue) {
-		comes_then = false;
-		newcomer = begin_thread(begins_and_ends, NULL);
-		awaits_seekers(2);
-		usleep(1000);
-	}
-	return r;
-}
-
-/* A thread comes to wait just after the only context's end found nobody who waits, and before its seat is loose. */
-static void comes_just_then(void)
-{
-	struct ww_acquire_ctx x, y;
-
-	MUST(!ww_class_limit(c, 1, 1));
-	ww_acquire_init(&x, c);
-	MUST(ww_acquire_init_checked(&y, c) == -EAGAIN);
-	for (unsigned k = 0; k < 2; k++) {
-		/* As if another one had waited, and gone. */
-		c->pool->seekers++;
-		comes_then = true;
-		ww_acquire_fini(&x);
-		MUST(!comes_then);
-		end_thread(newcomer);
-		__atomic_fetch_sub(&c->pool->seekers, 1, __ATOMIC_SEQ_CST);
-		ww_acquire_init(&x, c);
-	}
-	ww_acquire_fini(&x);
-	MUST(!ww_class_free(c));
-}
-
 static void *begins_and_stays(void *x)
 {
 	ww_acquire_init(x, c);
@@ -281,139 +259,270 @@ static void is_never_idle(void)
 	MUST(!ww_class_free(c));
 }
 
-/* ---- as the seats of a class come to be shared ---- */
+/* ---- a class that is freed beside the end of its last context, and a fork then ---- */
 
-enum keeper { ENDS_AMID, BEGINS_AMID, ENDS_LATER, KEEPERS };
-static enum keeper keeper;
-static bool is_there, goes_on, finishes, amid_sharing;
-static ww_seat *kept;
-
-static void awaits(bool *fact)
+static void *gives_up(void *arg)
 {
-	while (!__atomic_load_n(fact, __ATOMIC_SEQ_CST))
-		usleep(100);
-}
-
-static void *keeps(void *arg)
-{
-	struct ww_acquire_ctx y;
+	struct timespec soon = in_ms(100);
+	struct ww_acquire_ctx x;
 
 	(void)arg;
-	ww_acquire_init(&y, c);
-	kept = y.own;
-	if (keeper == BEGINS_AMID)
-		ww_acquire_fini(&y);
-	__atomic_store_n(&is_there, true, __ATOMIC_SEQ_CST);
-	awaits(&goes_on);
-	if (keeper == BEGINS_AMID)
-		ww_acquire_init(&y, c);
-	if (keeper == ENDS_AMID)
-		ww_acquire_fini(&y);
-	awaits(&finishes);
-	if (keeper != ENDS_AMID)
-		ww_acquire_fini(&y);
+	MUST(ww_acquire_init_until(&x, c, &soon) == -ETIMEDOUT);
 	return NULL;
 }
 
-long __real_syscall(long number, ...);
-long __wrap_syscall(long number, ...);
-
-/* By membarrier(2) whoever shares the seats waits for all others; then it looks which of them are busy. */
-long __wrap_syscall(long number, ...)
+static void *ends_and_stops(void *x)
 {
-	long words[6];
-	va_list list;
-
-	va_start(list, number);
-	for (unsigned k = 0; k < 6; k++)
-		words[k] = va_arg(list, long);
-	va_end(list);
-	if (number == SYS_membarrier && amid_sharing) {
-		amid_sharing = false;
-		__atomic_store_n(&goes_on, true, __ATOMIC_SEQ_CST);
-		while (keeper == ENDS_AMID && __atomic_load_n(&kept->busy, __ATOMIC_SEQ_CST))
-			usleep(100);
-	}
-	return __real_syscall(number, words[0], words[1], words[2], words[3], words[4], words[5]);
+	stops = 2;
+	ww_acquire_fini(x);
+	return NULL;
 }
 
-/* Two contexts; a thread keeps the seat of one, and uses it amid that: whatever it does, neither is lost or there twice. */
-static void come_to_be_shared(void)
+static bool goes_well_in_child(void)
 {
-	struct ww_acquire_ctx x, y, z;
-	struct ww_pool *p;
-	pthread_t thread;
-	int r;
+	struct ww_class next;
+	struct ww_acquire_ctx x, y;
+	struct timespec past = in_ms(0);
 
-	is_there = goes_on = finishes = false;
-	MUST(!ww_class_limit(c, 1, 2));
+	ww_class_init(&next, 0, "next");
+	return !ww_class_limit(&next, 4, 1) && !ww_acquire_init_checked(&x, &next) && &next.pool->queue == queue &&
+	       ww_acquire_init_until(&y, &next, &past) == -ETIMEDOUT && !ww_acquire_fini_checked(&x) && !ww_class_free(&next);
+}
+
+/*
+ * Whoever ended the only context saw somebody wait, who gives up before it is served: when it locks the queue the class is
+ * freed.  Then the program forks, and the child's next class has that memory.
+ */
+static void freed_and_forked(void)
+{
+	struct ww_acquire_ctx x;
+	pthread_t ends, waits;
+	int status;
+
+	MUST(!ww_class_limit(c, 1, 1));
 	ww_acquire_init(&x, c);
-	thread = begin_thread(keeps, NULL);
-	awaits(&is_there);
-	amid_sharing = true;
-	r = ww_acquire_init_checked(&y, c);
-	MUST(!amid_sharing && c->pool->own_id == SHARED && r == (keeper == ENDS_LATER ? -EAGAIN : 0));
-	if (!r)
-		ww_acquire_fini(&y);
-	__atomic_store_n(&finishes, true, __ATOMIC_SEQ_CST);
-	end_thread(thread);
-	MUST(!ww_acquire_init_checked(&y, c));
-	MUST(ww_acquire_init_checked(&z, c) == -EAGAIN && ww_class_free(c) == -EBUSY);
+	queue = &c->pool->queue;
+	waits = begin_thread(gives_up, NULL);
+	awaits_seekers(1);
+	ends = begin_thread(ends_and_stops, &x);
+	sem_wait(&stopped);
+	end_thread(waits);
+	MUST(!ww_class_free(c));
+	sem_post(&goes_on);
+	sem_wait(&stopped);
+	if (!fork()) {
+		alarm(20);
+		_exit(!goes_well_in_child());
+	}
+	sem_post(&goes_on);
+	end_thread(ends);
+	MUST(wait(&status) > 0 && WIFEXITED(status) && !WEXITSTATUS(status));
+}
+
+/* ---- seats that threads keep ---- */
+
+static void opens(uint32_t contexts, uint32_t kept) { MUST(!ww_class_limit(c, 1, contexts) && !ww_class_open_kept(c, kept)); }
+
+static bool is_kept(const struct ww_acquire_ctx *x) { return x->own - c->pool->world->seats < c->pool->kept; }
+
+static uint32_t may_be_kept(void)
+{
+	uint32_t count = 0;
+
+	for (const ww_seat *s = c->pool->unkept; s; s = s->next)
+		count++;
+	return count;
+}
+
+static void *ends(void *x)
+{
+	ww_acquire_fini(x);
+	return NULL;
+}
+
+static void *keeps_for_life(void *arg)
+{
+	struct ww_acquire_ctx x, y;
+	const ww_seat *mine;
+
+	(void)arg;
+	ww_acquire_init(&x, c);
+	mine = x.own;
+	MUST(is_kept(&x) && !may_be_kept());
+	ww_acquire_init(&y, c);
+	MUST(!is_kept(&y));
 	ww_acquire_fini(&x);
-	MUST(!ww_acquire_init_checked(&x, c) && ww_acquire_init_checked(&z, c) == -EAGAIN);
+	ww_acquire_init(&x, c);
+	MUST(x.own == mine);
+	ww_acquire_fini(&y);
+	/* One is gone on with elsewhere; until that ends the next ones aren't by its seat. */
+	for (unsigned k = 0; k < 2; k++) {
+		ww_acquire_init(&y, c);
+		MUST(!is_kept(&y));
+		ww_acquire_fini(&y);
+	}
+	end_thread(begin_thread(ends, &x));
+	MUST(!ww_acquire_init_checked(&x, c) && x.own == mine);
+	ww_acquire_fini(&x);
+	sem_post(&stopped);
+	sem_wait(&goes_on);
+	return NULL;
+}
+
+/* As many contexts as were asked for are anybody's, and the seat of whoever keeps one nobody else's, used or not. */
+static void are_kept_for_life(void)
+{
+	struct ww_acquire_ctx x, y;
+	pthread_t thread;
+
+	opens(1, 1);
+	thread = begin_thread(keeps_for_life, NULL);
+	sem_wait(&stopped);
+	ww_acquire_init(&x, c);
+	MUST(!is_kept(&x) && ww_acquire_init_checked(&y, c) == -EAGAIN);
+	sem_post(&goes_on);
+	end_thread(thread);
+	MUST(may_be_kept() == 1 && !ww_acquire_init_checked(&y, c) && is_kept(&y));
 	ww_acquire_fini(&x);
 	ww_acquire_fini(&y);
-	p = c->pool;
-	/* Whoever ended the last context may look at it still. */
-	MUST(!ww_class_free(c) && p->own_id == SHARED && !p->seekers);
+	MUST(!ww_class_free(c));
 }
 
-static void *takes_both(void *arg)
+static void *begins_and_lives(void *x)
 {
-	struct ww_acquire_ctx *both = arg;
-
-	ww_acquire_init(&both[0], c);
-	ww_acquire_init(&both[1], c);
+	ww_acquire_init(x, c);
+	sem_post(&stopped);
+	sem_wait(&goes_on);
 	return NULL;
 }
 
-/* A keeper begins to use its seat, and only then sees that others have it; or that it was left to it. */
-static void comes_late(void)
+/* A thread's life ends, and a context that it began ends elsewhere: whichever comes second, the next thread keeps that seat. */
+static void outlive_their_keepers(bool thread_first)
 {
-	struct ww_acquire_ctx x, both[2];
-	ww_seat *s;
+	struct ww_acquire_ctx x;
+	pthread_t thread;
 
-	for (unsigned uses = 0; uses < 2; uses++) {
-		MUST(!ww_class_limit(c, 1, 2));
-		ww_acquire_init(&x, c);
-		s = x.own;
-		if (uses) {
-			ww_acquire_init(&both[0], c);
-			MUST(ww_acquire_init_checked(&both[1], c) == -EAGAIN && ww_late_seat(c->pool, s) == s);
-			ww_acquire_fini(&x);
-		} else {
-			ww_acquire_fini(&x);
-			end_thread(begin_thread(takes_both, both));
-			MUST(!ww_late_seat(c->pool, s));
-			ww_acquire_fini(&both[1]);
-		}
-		ww_acquire_fini(&both[0]);
+	opens(1, 1);
+	thread = begin_thread(begins_and_lives, &x);
+	sem_wait(&stopped);
+	MUST(is_kept(&x));
+	if (!thread_first)
+		ww_acquire_fini(&x);
+	sem_post(&goes_on);
+	end_thread(thread);
+	if (thread_first) {
+		MUST(!may_be_kept() && x.own->busy == ORPHAN && ww_class_free(c) == -EBUSY);
+		end_thread(begin_thread(ends, &x));
+	}
+	MUST(may_be_kept() == 1 && !ww_acquire_init_checked(&x, c) && is_kept(&x));
+	ww_acquire_fini(&x);
+	MUST(!ww_class_free(c));
+}
+
+/* A class is freed while threads keep seats of it, which are nothing to the next class, though it has that memory. */
+static void are_freed(void)
+{
+	struct ww_acquire_ctx x;
+	pthread_t thread;
+
+	opens(1, 1);
+	thread = begin_thread(begins_and_lives, &x);
+	sem_wait(&stopped);
+	ww_acquire_fini(&x);
+	MUST(!ww_class_free(c));
+	opens(1, 1);
+	MUST(may_be_kept() == 1);
+	sem_post(&goes_on);
+	end_thread(thread);
+	MUST(may_be_kept() == 1 && !ww_class_free(c));
+}
+
+/* Of more classes than a thread keeps seats of: it lets one go while it uses it. */
+static void are_let_go(void)
+{
+	struct ww_class all[KEPT + 1], *first = c;
+	struct ww_acquire_ctx x, y;
+
+	for (unsigned k = 0; k < KEPT + 1; k++) {
+		c = &all[k];
+		ww_class_init(c, 0, "one of many");
+		opens(1, 1);
+		ww_acquire_init(k ? &y : &x, c);
+		if (k)
+			ww_acquire_fini(&y);
+		MUST(!may_be_kept());
+	}
+	c = &all[0];
+	MUST(x.own->busy == ORPHAN);
+	ww_acquire_fini(&x);
+	MUST(may_be_kept() == 1);
+	for (unsigned k = 0; k < KEPT + 1; k++)
+		MUST(!ww_class_free(&all[k]));
+	c = first;
+}
+
+static pthread_key_t last_words;
+
+static void says_last_words(void *again)
+{
+	struct ww_acquire_ctx x;
+
+	ww_acquire_init(&x, c);
+	ww_acquire_fini(&x);
+	if (again)
+		pthread_setspecific(last_words, NULL);
+}
+
+static void *has_last_words(void *arg)
+{
+	says_last_words(NULL);
+	pthread_setspecific(last_words, &last_words);
+	return arg;
+}
+
+/* A thread uses the class amid its end: it keeps no seat beyond that. */
+static void are_used_to_the_end(void)
+{
+	opens(1, 1);
+	MUST(!pthread_key_create(&last_words, says_last_words));
+	for (unsigned k = 0; k < 3; k++) {
+		end_thread(begin_thread(has_last_words, NULL));
+		MUST(may_be_kept() == 1);
+	}
+	MUST(!pthread_key_delete(last_words) && !ww_class_free(c));
+}
+
+/* A class that says how many contexts it has has as many; one that says nothing has 1,024, and seats that threads keep besides. */
+static void as_is_said(void)
+{
+	struct ww_acquire_ctx all[1025], more;
+
+	for (unsigned said = 0; said < 2; said++) {
+		MUST(!ww_class_limit(c, 1, said ? 1024 : 0));
+		for (unsigned k = 0; k < 1025 - said; k++)
+			MUST(!ww_acquire_init_checked(&all[k], c));
+		MUST(c->pool->kept == (said ? 0 : 256) && ww_acquire_init_checked(&more, c) == -EAGAIN);
+		for (unsigned k = 0; k < 1025 - said; k++)
+			ww_acquire_fini(&all[k]);
 		MUST(!ww_class_free(c));
 	}
 }
 
-/* Threads that end leave their seats to others, which aren't shared for that; or all are from the start, without membarrier(2). */
-static bool stay_unshared(void)
+static void *asks_whether_it_holds(void *m)
 {
-	bool unshared;
+	MUST(!ww_mutex_is_held_by(m, NULL));
+	return NULL;
+}
 
-	MUST(!ww_class_limit(c, 1, 2) && !ww_class_open(c));
-	unshared = c->pool->own_id == c->pool->id;
-	for (unsigned k = 0; k < 10; k++)
-		end_thread(begin_thread(begins_and_ends, NULL));
-	MUST(!unshared || c->pool->own_id == c->pool->id);
-	MUST(!ww_class_free(c));
-	return unshared;
+/* Whoever took nothing holds nothing. */
+static void by_its_thread_alone(void)
+{
+	MUST(!ww_class_limit(c, 1, 1) && sizeof ww_mine.thread == 8);
+	ww_mutex_init(&alone[0], c);
+	MUST(!ww_mutex_lock(&alone[0], NULL) && ww_mutex_is_held_by(&alone[0], NULL));
+	end_thread(begin_thread(asks_whether_it_holds, &alone[0]));
+	ww_mutex_unlock(&alone[0]);
+	MUST(!ww_mutex_destroy(&alone[0]) && !ww_class_free(c));
 }
 
 /* ---- one context and two threads ---- */
@@ -491,6 +600,7 @@ int main(int count, char **words)
 
 	if (count > 1)
 		pairs = (unsigned)atoi(words[1]);
+	MUST(!sem_init(&stopped, 0, 0) && !sem_init(&goes_on, 0, 0));
 	for (unsigned kind = 0; kind < 2; kind++) {
 		c = classes[kind];
 		for (unsigned k = 0; k < 3; k++)
@@ -498,20 +608,21 @@ int main(int count, char **words)
 		nobody_barges();
 		ends_just_then();
 		gives_up_just_then();
-		comes_just_then();
 		is_never_idle();
-		if (stay_unshared()) {
-			for (unsigned k = 0; k < 2 * KEEPERS; k++) {
-				keeper = (enum keeper)(k % KEEPERS);
-				come_to_be_shared();
-			}
-			comes_late();
-		}
+		freed_and_forked();
+		are_kept_for_life();
+		outlive_their_keepers(false);
+		outlive_their_keepers(true);
+		are_freed();
+		are_let_go();
+		are_used_to_the_end();
+		as_is_said();
+		by_its_thread_alone();
 		each_end_wakes();
 		for (unsigned k = 0; k < 4; k++)
 			at_once(counts[k]);
 	}
 	MUST(ww_class_limit(c, 1, WW_MAX_SEATS) == -EINVAL);
-	puts("mutex_turns: contexts in order, and up to 4094 at once");
+	puts("mutex_turns: contexts in order, up to 4094 at once, and seats that threads keep");
 	return 0;
 }

@@ -145,7 +145,8 @@ unsafe impl Sync for RawClass {}
 impl RawClass {
     /// How many mutexes a class has at once at the most, and unless another number is said.
     pub const MUTEXES: u32 = 65_536;
-    /// How many contexts a class has at once, unless another number is said.
+    /// How many contexts a class has at once at the least. Where another number is said it has exactly as many, and each
+    /// costs more.
     pub const CONTEXTS: u32 = 1_024;
     /// How many contexts a class has at once at the most.
     pub const MOST_CONTEXTS: u32 = 4_094;
@@ -170,7 +171,8 @@ impl RawClass {
             raw: UnsafeCell::new(ffi::ww_class {
                 pool: core::ptr::null_mut(),
                 mutexes,
-                contexts,
+                // 0: as many as is usual, besides which threads keep contexts of their own.
+                contexts: if contexts == Self::CONTEXTS { 0 } else { contexts },
                 is_wait_die: matches!(kind, Kind::WaitDie) as c_int,
                 name: name.as_ptr(),
             }),

@@ -18,7 +18,7 @@
 //! ```
 //!
 //! - A [`Class`] is a type: the mutexes among which deadlocks are detected. It is Wound-Wait or Wait-Die, and has up to
-//!   65,536 mutexes at once, and 1,024 contexts, or as many as [`class!`] says.
+//!   65,536 mutexes at once, and at least 1,024 contexts, or as many as [`class!`] says.
 //! - A [`Mutex`] belongs to a class, and guards a value. It may be a `static`, and may be moved while nobody borrows
 //!   it.
 //! - [`Class::run`] runs a body with a context, [`Tx`], and runs it again after each [`Deadlock`](Error::Deadlock).

@@ -97,8 +97,8 @@ def _is_main():
 
 
 class Class:
-    """A class of mutexes, among which deadlocks are detected. It may have so many mutexes and contexts at once (0: 65,536
-    and 1,024), and takes memory for as many. A forked child makes a class of its own: each call of this one is EINVAL there.
+    """A class of mutexes, among which deadlocks are detected. It may have so many mutexes and contexts at once (0: 65,536,
+    and 1,024 or more), and takes memory for as many. A forked child makes a class of its own: each call of this one is EINVAL there.
     `library` is the path of another libww.so than the installed one."""
 
     def __init__(self, kind=WOUND_WAIT, mutexes=0, contexts=0, library=None):

@@ -16,7 +16,6 @@
 #include <errno.h>
 #include <link.h>
 #include <linux/futex.h>
-#include <linux/membarrier.h>
 #include <pthread.h>
 #include <signal.h>
 #include <stdarg.h>
@@ -826,18 +825,6 @@ static long futex_wake(uint32_t *word)
 	return 0;
 }
 
-static long membarrier(int command)
-{
-	if (il.flags & IL_NO_FENCES)
-		return -1;
-	if (command == MEMBARRIER_CMD_PRIVATE_EXPEDITED) {
-		happens(before(&core, true, "membarrier", PC), true);
-		for (unsigned t = 0; t <= il.count; t++)
-			commit(&il.threads[t]);
-	}
-	return 0;
-}
-
 long __wrap_syscall(long number, ...)
 {
 	va_list list;
@@ -847,8 +834,6 @@ long __wrap_syscall(long number, ...)
 	if (number == SYS_gettid)
 		return (long)il.current;
 	va_start(list, number);
-	if (number == SYS_membarrier)
-		return membarrier(va_arg(list, int));
 	if (number != SYS_futex)
 		il_fail("another call of the system");
 	word = va_arg(list, uint32_t *);

@@ -12,7 +12,6 @@ enum { IL_THREADS = 4 };
 enum {
 	IL_SPURIOUS = 1,	/* a futex wakes its thread though nobody asked */
 	IL_DELAYS = 2,		/* a store that isn't sequentially consistent comes later than what its thread does next */
-	IL_NO_FENCES = 4,	/* membarrier(2) isn't there */
 	IL_INSIDE = 8,		/* threads are switched inside steps of the proved library, too (x86_64) */
 };
 

@@ -30,6 +30,7 @@
 #include <string.h>
 
 #define CONTEXTS(n) ((n) << 4)
+#define KEEP(n) ((n) << 12) /* so many threads keep a seat besides */
 enum { WAIT_DIE = 1 << 8, STATIC = 1 << 9, GIVEN = 1 << 10, NUMBERED = 1 << 11 };
 
 enum way { FREE, BY_CONTEXT, ALONE, BY_LOOP };
@@ -48,7 +49,7 @@ static bool numbered;
 static uint32_t numbers[3];
 static struct ww_acquire_ctx contexts[IL_THREADS + 1][2], *shared, *given;
 static unsigned long sum[3], added[3][IL_THREADS + 1];
-static uint32_t inside, most, happened[10], refs, owner[4], cancels, met;
+static uint32_t inside, most, keep, users[8], happened[10], refs, owner[4], cancels, met;
 static struct timespec soon;
 
 #define SEEN(word) __atomic_load_n(&(word), __ATOMIC_RELAXED)
@@ -78,7 +79,8 @@ void il_setup(const struct il_program *p)
 {
 	ww_class_init(&c, !!(p->flags & WAIT_DIE), "c");
 	most = p->flags >> 4 & 15;
-	MUST(!ww_class_limit(&c, 3, most));
+	keep = p->flags >> 12 & 3;
+	MUST(!ww_class_limit(&c, 3, most) && (!keep || !ww_class_open_kept(&c, keep)));
 	mutexes = il_new(3 * sizeof *mutexes);
 	shared = il_new(sizeof *shared);
 	numbered = p->flags & NUMBERED;
@@ -109,6 +111,7 @@ void il_setup(const struct il_program *p)
 void il_check(const struct il_program *p)
 {
 	struct ww_acquire_ctx x[8];
+	uint32_t kept = 0;
 
 	for (unsigned k = 0; k < 3; k++) {
 		MUST(sum[k] == added[k][1] + added[k][2] + added[k][3] + added[k][4]);
@@ -129,6 +132,10 @@ void il_check(const struct il_program *p)
 		il_close_world();
 	if (c.pool) {
 		MUST(!c.pool->seekers && !c.pool->first);
+		for (const ww_seat *it = c.pool->unkept; it; it = it->next)
+			kept++;
+		MUST(kept == keep);
+		most += !!keep; /* one is this thread's */
 		for (uint32_t k = 0; k < most; k++)
 			MUST(!ww_acquire_init_checked(&x[k], &c));
 		MUST(ww_acquire_init_checked(&x[most], &c) == -EAGAIN);
@@ -139,8 +146,16 @@ void il_check(const struct il_program *p)
 	MUST(!ww_class_free(&c));
 }
 
-static void enter(void) { MUST(ADD(inside, 1) < most); }
-static void leave(void) { ADD(inside, -1u); }
+static uint32_t *user_of(const ww_seat *s) { return &users[s - c.pool->world->seats]; }
+
+/* A context has a seat of its own. */
+static void enter(const ww_seat *s) { MUST(ADD(inside, 1) < most + keep && !ADD(*user_of(s), 1)); }
+
+static void leave(const ww_seat *s)
+{
+	ADD(inside, -1u);
+	ADD(*user_of(s), -1u);
+}
 
 static int begin(struct user *u, char how)
 {
@@ -154,7 +169,7 @@ static int begin(struct user *u, char how)
 		r = ww_acquire_init_checked(u->x, &c);
 	MUST(!r || r == (how == '[' ? -ETIMEDOUT : -EAGAIN));
 	if (!r)
-		enter();
+		enter(u->x->own);
 	return r;
 }
 
@@ -348,6 +363,7 @@ static void free_class(void)
 	while ((r = ww_class_free(&c)) == -EBUSY)
 		il_yield();
 	MUST(!r);
+	keep = 0; /* of the class that is opened next */
 }
 
 static void take_number(struct user *u, bool is_there)
@@ -381,7 +397,7 @@ static void act(struct user *u, char what, const char *how)
 	case '>': given = u->x; u->x = &u->own[1]; break;
 	case '^': u->x = &u->own[1]; break;
 	case '<': u->x = given; break;
-	case ')': leave(); ww_acquire_fini(u->x); u->x = &u->own[u->x == &u->own[1]]; break;
+	case ')': leave(u->x->own); ww_acquire_fini(u->x); u->x = &u->own[u->x == &u->own[1]]; break;
 	case 'U': unlock_loop(u); break;
 	case '-': u->last = !--refs; break;
 	case 'D': if (u->last) destroy_last(); break;
@@ -425,7 +441,7 @@ void il_thread(const char *at)
 		else if (*at == '&')
 			at = list(&u, at + 1);
 		else if (*at == '@')
-			ww_mine.thread = 1, ww_mine.stack = (uint8_t)(*++at - '0' + 1);
+			ww_mine.thread = STACKS + (uint64_t)(*++at - '0');
 		else if (*at == '%')
 			il_world(*++at);
 		else if (*at == '~')
@@ -443,8 +459,8 @@ void il_thread(const char *at)
 	}
 }
 
-/* A seat that two contexts have. */
-const char *const il_fail_yet[] = { "handed-on", NULL };
+/* None. */
+const char *const il_fail_yet[] = { NULL };
 
 const struct il_program il_programs[] = {
 	{ "lock", { "(a+A)", "(a+A)" }, CONTEXTS(4), 3 },
@@ -479,8 +495,6 @@ const struct il_program il_programs[] = {
 	{ "contexts-2-of-3", { "()", "()", "()" }, CONTEXTS(2), 2 },
 	{ "contexts-delayed", { "()()", "()" }, CONTEXTS(1) | IL_DELAYS, 3 },
 	{ "contexts-3-delayed", { "()()", "()", "()" }, CONTEXTS(2) | IL_DELAYS, 2 },
-	{ "contexts-shared", { "()", "()()" }, CONTEXTS(1) | IL_NO_FENCES, 3 },
-	{ "contexts-3-shared", { "()", "()", "()" }, CONTEXTS(2) | IL_NO_FENCES, 2 },
 	{ "contexts-spurious", { "()", "()", "()" }, CONTEXTS(1) | IL_SPURIOUS, 2 },
 	{ "contexts-soon", { "()", "[)" }, CONTEXTS(1), 3 },
 	{ "contexts-soon-3", { "()", "[)", "[)" }, CONTEXTS(1), 2 },
@@ -497,6 +511,19 @@ const struct il_program il_programs[] = {
 	{ "handed-on", { "(>1()", "~1<)", "()" }, CONTEXTS(1), 2 },
 	{ "handed-on-2", { "(>1()", "~1<)", "()" }, CONTEXTS(2), 2 },
 	{ "handed-on-end", { "(>1", "~1<)()", "()" }, CONTEXTS(1), 2 },
+	{ "kept", { "()()", "()()" }, CONTEXTS(1) | KEEP(1), 3 },
+	{ "kept-2", { "()()", "()()", "()" }, CONTEXTS(1) | KEEP(2), 2 },
+	{ "kept-3", { "()()", "()", "()" }, CONTEXTS(1) | KEEP(1), 2 },
+	{ "kept-amid", { "(>()(<)^)", "()()" }, CONTEXTS(2) | KEEP(1), 3 },
+	{ "kept-alone", { "na+A()", "(nb+B)" }, CONTEXTS(2) | KEEP(1), 3 },
+	{ "kept-on", { "(>1()()", "~1<)" }, CONTEXTS(1) | KEEP(1), 3 },
+	{ "kept-on-delayed", { "(>1()()", "~1<)" }, CONTEXTS(1) | KEEP(1) | IL_DELAYS, 3 },
+	{ "kept-on-3", { "(>1()", "~1<)", "()" }, CONTEXTS(1) | KEEP(1), 2 },
+	{ "kept-end", { "(>1", "~1<)()" }, CONTEXTS(1) | KEEP(1), 3 },
+	{ "kept-end-delayed", { "(>1", "~1<)()" }, CONTEXTS(1) | KEEP(1) | IL_DELAYS, 3 },
+	{ "kept-end-3", { "(>1", "~1<)", "()()" }, CONTEXTS(1) | KEEP(1), 3 },
+	{ "kept-end-2-of-3", { "(>1", "~1()<)", "()" }, CONTEXTS(1) | KEEP(2), 2 },
+	{ "kept-free", { "(>8", "~8<)9", "_8_9F()" }, CONTEXTS(1) | KEEP(1), 2 },
 	{ "destroy", { "(m-M)D", "(m-M)D" }, CONTEXTS(4), 3 },
 	{ "destroy-alone", { "nm-MD", "nm-MD" }, CONTEXTS(4), 3 },
 	{ "destroy-both", { "(m-M)D", "nm-MD" }, CONTEXTS(4), 2 },

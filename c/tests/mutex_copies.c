@@ -1,0 +1,125 @@
+/*
+ * Two copies of the library in one program, as two plugins have it that are linked with the archive.  Each has classes of its
+ * own, whose contexts are lawful; of one that the other copy opened each call that takes a seat or all of it ends the
+ * program, and says why.  mutex_copies LIBRARY LIBRARY
+ */
+#include "mutex_test.h"
+#include <dlfcn.h>
+#include <sys/wait.h>
+
+static struct copy {
+	__typeof__(ww_mutex_init) *make;
+	__typeof__(ww_mutex_destroy) *destroy;
+	__typeof__(ww_mutex_lock) *lock;
+	__typeof__(ww_mutex_unlock) *unlock;
+	__typeof__(ww_acquire_init) *begin;
+	__typeof__(ww_acquire_fini) *end;
+	__typeof__(ww_class_open) *open;
+	__typeof__(ww_class_free) *free;
+	__typeof__(ww_class_stats) *stats;
+} copies[2];
+
+static struct own {
+	struct ww_class c;
+	struct ww_mutex m;
+} owns[2];
+
+static void *named(void *handle, const char *name)
+{
+	void *it = dlsym(handle, name);
+
+	MUST(it);
+	return it;
+}
+
+static void load(struct copy *it, const char *library)
+{
+	void *handle = dlopen(library, RTLD_NOW | RTLD_LOCAL);
+
+	MUST(handle);
+	*(void **)&it->make = named(handle, "ww_mutex_init");
+	*(void **)&it->destroy = named(handle, "ww_mutex_destroy");
+	*(void **)&it->lock = named(handle, "ww_mutex_lock");
+	*(void **)&it->unlock = named(handle, "ww_mutex_unlock");
+	*(void **)&it->begin = named(handle, "ww_acquire_init");
+	*(void **)&it->end = named(handle, "ww_acquire_fini");
+	*(void **)&it->open = named(handle, "ww_class_open");
+	*(void **)&it->free = named(handle, "ww_class_free");
+	*(void **)&it->stats = named(handle, "ww_class_stats");
+}
+
+/* Each call by the second copy of what is the first one's: where it isn't refused it may find the mutex free, which is held. */
+static void does(unsigned what)
+{
+	const struct copy *it = &copies[1];
+	struct own *other = &owns[0];
+	struct ww_class_counts counts;
+	struct ww_acquire_ctx x;
+
+	switch (what) {
+	case 0:
+		it->begin(&x, &other->c);
+		it->lock(&other->m, &x);
+		break;
+	case 1: it->lock(&other->m, NULL); break;
+	case 2: MUST(!it->open(&other->c)); break;
+	case 3: it->free(&other->c); break;
+	case 4: it->stats(&other->c, &counts); break;
+	}
+}
+
+static void is_refused(unsigned what)
+{
+	char told[200] = "";
+	int ends[2], status;
+	pid_t child;
+
+	MUST(!pipe(ends));
+	child = fork();
+	if (!child) {
+		struct ww_acquire_ctx x;
+
+		dup2(ends[1], 2);
+		for (unsigned k = 0; k < 2; k++) {
+			owns[k].c = (struct ww_class){ .name = "one" };
+			copies[k].make(&owns[k].m, &owns[k].c);
+			copies[k].begin(&x, &owns[k].c); /* so the thread keeps a seat of each */
+			copies[k].end(&x);
+		}
+		copies[0].begin(&x, &owns[0].c);
+		MUST(!copies[0].lock(&owns[0].m, &x));
+		does(what);
+		_exit(0);
+	}
+	close(ends[1]);
+	MUST(waitpid(child, &status, 0) == child && read(ends[0], told, sizeof told - 1) > 0);
+	close(ends[0]);
+	MUST(WIFSIGNALED(status) && WTERMSIG(status) == SIGABRT && strstr(told, "class \"one\": another copy of the library opened it"));
+}
+
+int main(int count, char **words)
+{
+	MUST(count == 3);
+	for (unsigned k = 0; k < 2; k++)
+		load(&copies[k], words[1 + k]);
+	MUST(copies[0].begin != copies[1].begin);
+	for (unsigned what = 0; what < 5; what++)
+		is_refused(what);
+	/* A context that one copy began may be used, and ended, by the other. */
+	for (unsigned k = 0; k < 2; k++) {
+		struct own *own = &owns[k];
+		struct ww_acquire_ctx x;
+
+		own->c = (struct ww_class){ .name = "one" };
+		copies[k].make(&own->m, &own->c);
+		for (unsigned again = 0; again < 3; again++) {
+			copies[k].begin(&x, &own->c);
+			MUST(!copies[!k].lock(&own->m, &x));
+			copies[k].unlock(&own->m);
+			copies[!k].end(&x);
+		}
+		MUST(!copies[k].destroy(&own->m) && !copies[k].free(&own->c));
+	}
+	puts("mutex_copies: a class is of one copy of the library alone");
+	return 0;
+}
