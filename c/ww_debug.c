@@ -138,15 +138,34 @@ const struct standing *ww_debug_own_seat(const struct ww_pool *p, enum has what)
 	return NULL;
 }
 
+/* Where this context begins another one began, of this class, which hasn't ended: its memory is another's by now. */
+static void tell_what_was_left(struct ww_pool *p, const struct ww_acquire_ctx *x)
+{
+	for (uint32_t k = 0; k < seats_of(p); k++) {
+		struct standing *s = &p->debug->seats[k];
+		struct place at = place_of(&s->began);
+
+		if (__atomic_load_n(&s->context, __ATOMIC_RELAXED) != x)
+			continue;
+		__atomic_store_n(&s->context, NULL, __ATOMIC_RELAXED);
+		__atomic_fetch_add(&faults, 1, __ATOMIC_RELAXED);
+		tell(p, "ww_acquire_init", "the context that was here before was left without ww_acquire_fini; it began at %s:%d\n",
+		     file_of(at), at.line);
+	}
+}
+
 void ww_debug_begun(struct ww_acquire_ctx *x)
 {
 	struct ww_pool *p = x->own->pool;
 	struct standing *s = standing_of(x->own);
 	const struct standing *first = ww_debug_own_seat(p, A_CONTEXT);
 
+	tell_what_was_left(p, x);
 	if (first)
 		ww_debug_warn(SECOND_CONTEXT, p, "ww_acquire_init",
-			      "two contexts of a thread can wait for each other for ever; its other one began at", first);
+			      "two contexts of a thread can wait for each other for ever; its other one, if it wasn't left without "
+			      "ww_acquire_fini, began at", first);
+	__atomic_store_n(&s->context, x, __ATOMIC_RELAXED);
 	x->stamp = __atomic_add_fetch(&p->debug->stamps, 1, __ATOMIC_RELAXED);
 	x->deadlock_inject_interval = 1;
 	x->deadlock_inject_countdown = x->stamp & 15;
@@ -160,6 +179,7 @@ void ww_debug_ended(struct ww_acquire_ctx *x)
 {
 	struct standing *s = standing_of(x->own);
 
+	__atomic_store_n(&s->context, NULL, __ATOMIC_RELAXED);
 	__atomic_store_n(&s->thread, NULL, __ATOMIC_RELAXED);
 	__atomic_store_n(&s->stamp, 0, __ATOMIC_RELAXED);
 }
@@ -177,7 +197,7 @@ void ww_debug_alone(const struct ww_mutex *m, const struct timespec *until)
 
 	if (s)
 		ww_debug_warn(WITHOUT_CONTEXT, p, "ww_mutex_lock",
-			      "nobody detects a deadlock by a lock without a context; the thread holds a mutex by what began at", s);
+			      "deadlocks through locks without a context are not detected; the thread holds a mutex by what began at", s);
 }
 
 void ww_debug_waits(ww_seat *s, const struct ww_mutex *m, const struct timespec *until)

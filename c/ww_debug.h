@@ -21,11 +21,12 @@ struct holding {
 };
 
 /*
- * Of a seat: its context's place in the order in which they began, 0 without one; the number that it waits for, plus one;
- * how many mutexes it holds; and as long as a context or a lock with NULL uses it, the thread that called by it last, and
- * where that began.
+ * Of a seat: its context, and the place of that in the order in which they began, 0 without one; the number that it waits
+ * for, plus one; how many mutexes it holds; and as long as a context or a lock with NULL uses it, the thread that called by
+ * it last, and where that began.
  */
 struct standing {
+	const struct ww_acquire_ctx *context;
 	unsigned long stamp;
 	uint32_t wants, held;
 	const void *thread;
@@ -61,7 +62,7 @@ static inline struct standing *standing_of(const ww_seat *s) { return &s->pool->
 #define MIX 1099511628211u
 
 /* What no answer tells, since the call is right by itself. */
-enum danger { SECOND_CONTEXT, WITHOUT_CONTEXT, WAIT_FOR_CONTEXT, STAYS_OPEN };
+enum danger { SECOND_CONTEXT, WITHOUT_CONTEXT, WAIT_FOR_CONTEXT, STAYS_OPEN, LONG_WAIT };
 /* Whether this kind of danger wasn't told yet of this call of the program, for this class. */
 WW_HIDDEN bool ww_debug_is_new(enum danger kind, const struct ww_pool *p);
 /* Tells it, if it is new; the words end before the place of what this thread began earlier. */

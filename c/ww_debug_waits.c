@@ -37,12 +37,14 @@ struct waiter {
 	struct place at;
 	uint64_t turn;	       /* no other wait has the same */
 	struct timespec looks; /* then it looks whether it sleeps for ever */
+	struct timespec is_long; /* from then on it has waited for long */
 	uint64_t seen;	       /* by its last look */
 	unsigned long look;    /* the last one that came to it */
 	struct waiter *then;   /* whom that came to next */
 };
 
 static unsigned patience = 1000; /* in milliseconds */
+enum { LONG = 10000 };		 /* likewise */
 static pthread_mutex_t listing = PTHREAD_MUTEX_INITIALIZER; /* locked after `opening` of ww_pool.c */
 static struct waiter *sleepers;
 static struct debug *all;
@@ -108,9 +110,21 @@ void ww_debug_end_wait(void)
 	mine.pool = NULL;
 }
 
+static void in_milliseconds(struct timespec *at, unsigned count)
+{
+	clock_gettime(CLOCK_MONOTONIC, at);
+	at->tv_sec += count / 1000;
+	at->tv_nsec += (long)(count % 1000) * 1000000;
+	if (at->tv_nsec >= 1000000000) {
+		at->tv_nsec -= 1000000000;
+		at->tv_sec++;
+	}
+}
+
 static void list(void)
 {
 	mine.id = syscall(SYS_gettid);
+	in_milliseconds(&mine.is_long, LONG);
 	mine.is_listed = true;
 	pthread_mutex_lock(&listing);
 	mine.turn = ++turns;
@@ -140,7 +154,7 @@ void ww_debug_seeks(struct ww_pool *p, const struct timespec *until)
 	pthread_mutex_unlock(&listing);
 	if (s)
 		ww_debug_warn(WAIT_FOR_CONTEXT, p, "a wait for a context",
-			      "all are in use, and nobody detects a deadlock by this; the thread has what began at", s);
+			      "all are in use, and deadlocks through this wait are not detected; the thread has what began at", s);
 	ww_debug_begin_wait(p, NULL, 0, until);
 }
 
@@ -232,15 +246,44 @@ static void look_for_deadlock(void)
 	free(text.words);
 }
 
-static void in_milliseconds(struct timespec *at, unsigned count)
+/* Of the contexts by loose seats the one that began first; or a lock without one, where there are only such. */
+static const struct standing *oldest(const struct ww_pool *p)
 {
-	clock_gettime(CLOCK_MONOTONIC, at);
-	at->tv_sec += count / 1000;
-	at->tv_nsec += (long)(count % 1000) * 1000000;
-	if (at->tv_nsec >= 1000000000) {
-		at->tv_nsec -= 1000000000;
-		at->tv_sec++;
+	const struct standing *first = NULL;
+
+	for (uint32_t k = 0; k < p->contexts; k++) {
+		const struct standing *s = &p->debug->seats[p->kept + k];
+
+		if (!__atomic_load_n(&s->thread, __ATOMIC_RELAXED))
+			continue;
+		if (!first || __atomic_load_n(&s->stamp, __ATOMIC_RELAXED) - 1 < __atomic_load_n(&first->stamp, __ATOMIC_RELAXED) - 1)
+			first = s;
 	}
+	return first;
+}
+
+/* What it waits for is held: by a thread that does something else for long, or by a context that was left and never ends. */
+static void look_for_long_wait(void)
+{
+	const struct ww_pool *p = mine.pool;
+	uint32_t holder = mine.seat ? __atomic_load_n(&p->debug->mutexes[mine.number].seat, __ATOMIC_RELAXED) : 0;
+	const struct standing *by = mine.seat ? holder ? &p->debug->seats[holder - 1] : NULL : oldest(p);
+	struct text text = { 0 };
+	struct place at;
+
+	if (!by || mine.is_timed || mine.is_told || !ww_has_come(&mine.is_long) || !ww_debug_is_new(LONG_WAIT, p))
+		return;
+	at = place_of(&by->began);
+	if (begin_text(&text)) {
+		fprintf(text.to, "class \"%s\": it has lasted %d seconds; ", name_of(p), LONG / 1000);
+		if (mine.seat)
+			fprintf(text.to, "mutex %u is held by what began at %s:%d\n", mine.number, file_of(at), at.line);
+		else
+			fprintf(text.to, "all contexts are in use, and the oldest began at %s:%d\n", file_of(at), at.line);
+	}
+	if (end_text(&text))
+		ww_debug_danger("a wait", text.words);
+	free(text.words);
 }
 
 static bool is_before(const struct timespec *a, const struct timespec *b)
@@ -259,6 +302,7 @@ const struct timespec *ww_debug_sleeps(const struct timespec *until)
 		in_milliseconds(&mine.looks, most);
 	} else if (most && ww_has_come(&mine.looks)) {
 		look_for_deadlock();
+		look_for_long_wait();
 		in_milliseconds(&mine.looks, most);
 	}
 	return !most || (until && is_before(until, &mine.looks)) ? until : &mine.looks;

@@ -460,7 +460,7 @@ void ww_acquire_unlock_all(struct ww_acquire_ctx *x)
 		if (UNLIKELY(x->state & WAITS_FIRST))
 			forget_first(x);
 	} else if (x->acquired) {
-		ww_debug_fault("ww_acquire_unlock_all", "the context is of no ww_until_all_locked, so all that it holds it holds still");
+		ww_debug_fault("ww_acquire_unlock_all", "outside ww_until_all_locked this call releases nothing");
 	}
 }
 

@@ -21,11 +21,13 @@
  *
  * In a forked child a class that was open before gives nothing more (-EINVAL), until ww_class_free
  * lets it go there, and a mutex that was held as the program forked, until it is destroyed and
- * initialized; a context that was begun before holds what it held, and once it would have
- * to wait each lock by it is -EINVAL, though it may release and end.  Deadlocks are detected among the contexts of one class alone.  Each copy of
- * the library, as a plugin has it that is linked with the archive, has classes of its own: the
- * program ends with a message where it uses one that another copy opened.  Each copy of the
- * shared one takes 192 bytes of static thread-local storage: a process can load some eight.
+ * initialized; a context that was begun before holds what it held, and once it would have to
+ * wait each lock by it is -EINVAL, though it may release and end.
+ *
+ * Deadlocks are detected among the contexts of one class alone.  Each copy of the library, as
+ * a plugin has it that is linked with the archive, has classes of its own: the program ends
+ * with a message where it uses one that another copy opened.  Each copy of the shared one
+ * takes 192 bytes of static thread-local storage: a process can load some eight.
  *
  * Otherwise than in the kernel nothing is acquired after -EDEADLK while something is
  * held, also without debugging, and ww_mutex_destroy answers.  The locks below are
@@ -373,6 +375,10 @@ int ww_mutex_end_(struct ww_mutex *lock);
  * A thread that sleeps looks now and then whether it will for ever: because of several
  * classes, of locks with NULL, or of contexts that are all in use.  Such a deadlock, which
  * no class detects, is told once, with all of its threads, what each waits for, and where.
+ * One that has waited for ten seconds is told as well, once for each line and class, with the
+ * place where what holds the mutex began, or the oldest of the contexts: it may have been left by
+ * a return or a throw, without ww_acquire_fini.  Where another context begins in the memory of
+ * such a one, that is told as a wrong call.
  */
 
 #include <stdio.h>

@@ -219,14 +219,6 @@ static void forget(void *mine)
 	pthread_mutex_unlock(&opening);
 }
 
-/* Whether the library will be told when this thread ends. Opening is locked. */
-static bool is_told(void)
-{
-	if (!ww_mine.told)
-		ww_mine.told = is_prepared && !pthread_setspecific(ending, &ww_mine);
-	return ww_mine.told && !ww_mine.ends;
-}
-
 /* The next context of this thread looks there first; so many others move on by one. */
 static void put_first(struct ww_known first, uint32_t others)
 {
@@ -234,13 +226,16 @@ static void put_first(struct ww_known first, uint32_t others)
 	ww_mine.seats[0] = first;
 }
 
-/* Where this thread keeps as many as it may, it lets go the one that it hasn't used for the longest. */
+/*
+ * If the library will be told when this thread ends.  Where it keeps as many as it may, it lets go the one that it hasn't used
+ * for the longest.
+ */
 static ww_seat *keep(struct ww_pool *p)
 {
 	ww_seat *s = NULL;
 
 	pthread_mutex_lock(&opening);
-	if (p->unkept && is_told()) {
+	if (p->unkept && is_prepared && !ww_mine.ends && !pthread_setspecific(ending, &ww_mine)) {
 		s = p->unkept;
 		__atomic_store_n(&p->unkept, s->next, __ATOMIC_RELAXED);
 		__atomic_store_n(&s->keeper, ww_mine.thread, __ATOMIC_RELAXED);

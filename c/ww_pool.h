@@ -83,7 +83,6 @@ struct ww_mine {
 	} seats[KEPT],	 /* that it keeps, one of a class; the one that it used last first */
 	  last;		 /* that it had last, of a class of which threads keep none */
 	uint64_t thread; /* a number that no other has, also of another copy; 0 until it takes a number or a seat */
-	bool told;	 /* the library will be, when it ends */
 	bool ends;	 /* so it keeps no seat any more */
 };
 WW_HIDDEN extern __thread struct ww_mine ww_mine __attribute__((tls_model("initial-exec")));
@@ -282,9 +281,9 @@ static inline const char *told(int r)
 {
 	switch (r) {
 	case -ENOMEM: return "there is no memory to open it";
-	case -ENOSPC: return "it has all mutexes that it may have (one that isn't destroyed stays)";
+	case -ENOSPC: return "all its mutexes are in use (one that is freed without ww_mutex_destroy keeps its place)";
 	case -EAGAIN: return "all its contexts are in use";
-	default: return "it was opened before a fork, of which this is the child";
+	default: return "it was opened before a fork, of which this is the child, or was never initialized";
 	}
 }
 

@@ -347,14 +347,15 @@ TABLE = {
     "waits": {"ww_class_stats": "load rlx"},
     "back_offs": {"ww_class_stats": "load rlx"},
     "counted": {"count": "store rlx, load rlx"},
-    "faults": {"ww_debug_faults": "load rlx", "fault_in": "fetch_add rlx"},
+    "faults": {"ww_debug_faults": "load rlx", "fault_in": "fetch_add rlx", "tell_what_was_left": "fetch_add rlx"},
+    "context": {"tell_what_was_left": "load rlx, store rlx", "ww_debug_begun": "store rlx", "ww_debug_ended": "store rlx"},
     "dangers": {"ww_debug_dangers": "load rlx", "ww_debug_danger": "fetch_add rlx", "ww_debug_warn": "fetch_add rlx"},
     "told_of": {"ww_debug_is_new": "compare_exchange rlx/rlx"},
     "patience": {"ww_debug_patience": "store rlx", "ww_debug_sleeps": "load rlx"},
     "stamps": {"ww_debug_begun": "add_fetch rlx"},
     "stamp": {
         "use": "load rlx", "unuse_if_free": "load rlx", "ww_debug_own_seat": "load rlx", "ww_debug_begun": "store rlx",
-        "ww_debug_ended": "store rlx", "look": "load rlx", "write_uses": "load rlx",
+        "ww_debug_ended": "store rlx", "look": "load rlx", "write_uses": "load rlx", "oldest": "load rlx, load rlx",
     },
     "wants": {"ww_debug_waits": "store rlx", "look": "load rlx"},
     "held": {
@@ -363,10 +364,13 @@ TABLE = {
     },
     "file": {"place_of": "load rlx", "set_began": "store rlx"},
     "line": {"place_of": "load rlx", "set_began": "store rlx"},
-    "seat": {"ww_debug_acquired": "store rlx", "ww_debug_released": "load rlx, store rlx", "holder_of": "load rlx"},
+    "seat": {
+        "ww_debug_acquired": "store rlx", "ww_debug_released": "load rlx, store rlx", "holder_of": "load rlx",
+        "look_for_long_wait": "load rlx",
+    },
     "thread": {
         "use": "store rlx", "unuse_if_free": "store rlx", "ww_debug_own_seat": "load rlx", "ww_debug_ended": "store rlx",
-        "ww_debug_acquired": "store rlx", "ww_debug_released": "load rlx, store rlx", "awaited": "load rlx, load rlx",
+        "ww_debug_acquired": "store rlx", "ww_debug_released": "load rlx, store rlx", "awaited": "load rlx, load rlx", "oldest": "load rlx",
         "used_seats": "load rlx", "write_uses": "load rlx",
     },
 }

@@ -283,6 +283,59 @@ static void one_is_awake(void)
 	MUST(ww_debug_dangers() == 2);
 }
 
+/* Linked in place of the system's clock, which goes on by so much at once. */
+static time_t ahead;
+int __real_clock_gettime(clockid_t clock, struct timespec *at);
+int __wrap_clock_gettime(clockid_t clock, struct timespec *at);
+int __wrap_clock_gettime(clockid_t clock, struct timespec *at)
+{
+	int r = __real_clock_gettime(clock, at);
+
+	at->tv_sec += __atomic_load_n(&ahead, __ATOMIC_RELAXED);
+	return r;
+}
+
+static void *waits_long(void *for_context)
+{
+	struct ww_acquire_ctx z;
+
+	if (for_context)
+		AT(1, ww_acquire_init(&z, &c));
+	else
+		AT(1, ww_mutex_lock(&a, NULL));
+	return NULL;
+}
+
+/* A context that holds a mutex is left, as by a throw: who waits for that, or for a context, says after ten seconds where it began. */
+static void waits_for_what_was_left(bool for_context)
+{
+	ww_debug_patience(20);
+	AT(0, ww_acquire_init(&x, &c));
+	MUST(!ww_mutex_lock(&a, &x));
+	MUST(!pthread_detach(begin_thread(waits_long, for_context ? &x : NULL)));
+	if (for_context)
+		awaits_seeker();
+	else
+		awaits_waiter(&a);
+	usleep(100000);
+	MUST(!ww_debug_dangers());
+	__atomic_store_n(&ahead, 11, __ATOMIC_RELAXED);
+	awaits_dangers(1);
+}
+static void for_a_mutex(void) { waits_for_what_was_left(false); }
+static void for_a_context(void) { waits_for_what_was_left(true); }
+
+/* A context is left by a return, and the next one lies in its memory. */
+static void in_the_same_memory(void)
+{
+	AT(0, ww_acquire_init(&x, &c));
+	AT(1, ww_acquire_init(&x, &c));
+	MUST(ww_debug_faults() == 1);
+	ww_acquire_fini(&x);
+	AT(2, ww_acquire_init(&x, &c));
+	MUST(ww_debug_faults() == 1);
+}
+
 /* Linked in place of the proved library's further steps: a thread that sleeps is woken, and for a while does nothing. */
 static bool is_slow;
 static __thread bool is_younger;
@@ -462,9 +515,9 @@ static void tells(uint32_t contexts, uint32_t others, void (*what)(void), const 
 	}
 }
 
-#define OTHER_CONTEXT "two contexts of a thread can wait for each other for ever; its other one began at "
-#define BESIDE "nobody detects a deadlock by a lock without a context; the thread holds a mutex by what began at "
-#define NONE_LEFT "all are in use, and nobody detects a deadlock by this; the thread has what began at "
+#define OTHER_CONTEXT "two contexts of a thread can wait for each other for ever; its other one, if it wasn't left without ww_acquire_fini, began at "
+#define BESIDE "deadlocks through locks without a context are not detected; the thread holds a mutex by what began at "
+#define NONE_LEFT "all are in use, and deadlocks through this wait are not detected; the thread has what began at "
 
 static void tells_dangers(void)
 {
@@ -473,6 +526,12 @@ static void tells_dangers(void)
 	tells(4, 4, without_context, "$2: ww_mutex_lock: class \"c\": " BESIDE "$1\n");
 	tells(4, 4, without_context_beside_one, "$1: ww_mutex_lock: class \"c\": " BESIDE "$0\n");
 	tells(2, 2, wait_for_context, "$1: a wait for a context: class \"c\": " NONE_LEFT "$0\n");
+	tells(2, 2, for_a_mutex, "$1: a wait: class \"c\": it has lasted 10 seconds; mutex 0 is held by what began at $0\n");
+	tells(1, 2, for_a_context, "$1: a wait: class \"c\": it has lasted 10 seconds; all contexts are in use, and the oldest began at $0\n");
+	tells(4, 2, in_the_same_memory,
+	      "$1: ww_acquire_init: class \"c\": the context that was here before was left without ww_acquire_fini; it began at $0\n"
+	      "$1: ww_acquire_init: class \"c\": " OTHER_CONTEXT "$0\n"
+	      "$2: ww_acquire_init: class \"c\": " OTHER_CONTEXT "$0\n");
 	tells(2, 2, stays_open,
 	      "$2: ww_class_free: class \"c\": 2 of 8 mutexes and 2 of 2 contexts in use, threads that wait for a context: 0\n"
 	      "context 0/1 began at $0\na lock without a context, by seat 1, began at $1\n");

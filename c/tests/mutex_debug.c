@@ -307,7 +307,7 @@ int main(int count, char **words)
 	tells(done_twice, "ww_acquire_done: the context is done, or has ended");
 	tells(fini_with_a_mutex, "ww_acquire_fini: the context still holds a mutex");
 	tells(releases_all_without_a_loop,
-	      "ww_acquire_unlock_all: the context is of no ww_until_all_locked, so all that it holds it holds still");
+	      "ww_acquire_unlock_all: outside ww_until_all_locked this call releases nothing");
 	tells(another_after_deadlk, "ww_mutex_lock: the context is of another class");
 	tells(holds_after_deadlk, "ww_mutex_lock: class \"c\": the context was told -EDEADLK, and still holds a mutex");
 	tells(told_without_need, "ww_mutex_lock: class \"c\": the context was told -EDEADLK, and still holds a mutex");

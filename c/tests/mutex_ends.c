@@ -58,6 +58,14 @@ static void one_mutex_too_many(void)
 	for (unsigned k = 0; k < 3; k++)
 		ww_mutex_init(&list[k], &small);
 }
+static void class_of_nothing(void)
+{
+	static struct ww_class none = { .mutexes = WW_MAX_LOCKS + 1, .contexts = 4, .name = "none" };
+	struct ww_acquire_ctx z;
+
+	MUST(ww_acquire_init_checked(&z, &none) == -EINVAL);
+	ww_acquire_init(&z, &none);
+}
 static void loop_while_it_holds(void)
 {
 	ww_until_all_locked(&x) {}
@@ -198,7 +206,8 @@ int main(void)
 	ends(tries_another_class, "ww_mutex_trylock: class \"other\": the context is of another class");
 	ends(tries_nothing, "ww_mutex_trylock: the mutex isn't initialized");
 	ends(locks_what_is_destroyed, "ww_mutex_lock: the mutex isn't initialized");
-	ends(one_mutex_too_many, "ww_mutex_init: class \"small\": it has all mutexes that it may have");
+	ends(one_mutex_too_many, "ww_mutex_init: class \"small\": all its mutexes are in use (one that is freed without ww_mutex_destroy");
+	ends(class_of_nothing, "ww_acquire_init: class \"none\": it was opened before a fork, of which this is the child, or was never");
 	ends(loop_while_it_holds, "ww_until_all_locked: the context holds a mutex");
 	ends(inits_in_a_child, "ww_mutex_init: class \"c\": it was opened before a fork");
 	ends(begins_in_a_child, "ww_acquire_init: class \"c\": it was opened before a fork");

@@ -106,15 +106,19 @@ long __wrap_syscall(long number, ...)
 static void waits_in_vain(void)
 {
 	struct ww_acquire_ctx older, x;
-	struct timespec soon = in_ms(300); /* for a busy machine: by then it sleeps */
 	unsigned stays = 1u << WW_STAYS | 1u << WW_YIELDS;
 
 	ww_acquire_init(&older, c);
 	ww_acquire_init(&x, c);
 	MUST(!ww_mutex_lock(&m, &older));
 	at.seen = 0;
-	MUST(ww_mutex_lock_until(&m, &x, &soon) == -ETIMEDOUT && at.asked);
-	MUST(at.seen & stays && at.seen & 1u << WW_AGAIN && at.seen & 1u << WW_SLEEPS);
+	/* Where processors are short its time may come before it sleeps. */
+	for (long ms = 20; !(at.seen & 1u << WW_SLEEPS); ms *= 2) {
+		struct timespec soon = in_ms(ms);
+
+		MUST(ms < 100000 && ww_mutex_lock_until(&m, &x, &soon) == -ETIMEDOUT && at.asked);
+	}
+	MUST(at.seen & stays && at.seen & 1u << WW_AGAIN);
 	cancelled_amid = &x;
 	for (unsigned k = 0; k < 3; k++)
 		MUST(ww_mutex_lock_interruptible(&m, &x) == -EINTR && at.asked);

@@ -30,8 +30,8 @@
 #include <string.h>
 
 #define CONTEXTS(n) ((n) << 4)
-#define KEEP(n) ((n) << 11) /* so many threads keep a seat besides */
-enum { WAIT_DIE = 1 << 8, STATIC = 1 << 9, GIVEN = 1 << 10, NUMBERED = 1 << 15 };
+#define KEEP(n) ((n) << 12) /* so many threads keep a seat besides */
+enum { WAIT_DIE = 1 << 8, STATIC = 1 << 9, GIVEN = 1 << 10, NUMBERED = 1 << 11 };
 
 enum way { FREE, BY_CONTEXT, ALONE, BY_LOOP };
 struct user {
@@ -81,7 +81,7 @@ void il_setup(const struct il_program *p)
 {
 	ww_class_init(&c, !!(p->flags & WAIT_DIE), "c");
 	most = p->flags >> 4 & 15;
-	keep = p->flags >> 11 & 3;
+	keep = p->flags >> 12 & 3;
 	MUST(!ww_class_limit(&c, 3, most) && (!keep || !ww_class_open_kept(&c, keep)));
 	mutexes = il_new(3 * sizeof *mutexes);
 	shared = il_new(sizeof *shared);
