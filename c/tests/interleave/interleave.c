@@ -2,9 +2,9 @@
  * interleave.c - runs threads one at a time, by every schedule up to a bound.
  *
  * The sources under test are compiled for the thread sanitizer and linked with this in its place: each atomic access, and each
- * call that the linker wraps, comes here before it happens, and here it is chosen who goes on.  Threads are contexts on stacks
- * of their own, and each run begins with the same memory.  A bound is for switches away from a thread that could go on, and for
- * whatever else interleave.h names.
+ * call that the linker wraps, comes here before it happens, and here it is chosen who goes on.  Threads have stacks of their
+ * own, between which this switches as x86_64 does, and each run begins with the same memory.  A bound is for switches away
+ * from a thread that could go on, and for whatever else interleave.h names.
  *
  * Not every point has to be tried.  A thread is preempted only before what several threads access and one writes, as seen in
  * any run; if a pass sees more, it begins anew.  And each thread has a hash of all that its next step depends on: where the
@@ -17,6 +17,7 @@
 #include <link.h>
 #include <linux/futex.h>
 #include <pthread.h>
+#include <setjmp.h>
 #include <signal.h>
 #include <stdarg.h>
 #include <stdio.h>
@@ -24,7 +25,6 @@
 #include <string.h>
 #include <sys/syscall.h>
 #include <sys/time.h>
-#include <ucontext.h>
 #include <unistd.h>
 
 enum { ALL = IL_THREADS + 1 }; /* thread 0 sets up and checks */
@@ -38,7 +38,7 @@ struct clocks {
 };
 
 struct thread {
-	ucontext_t at;
+	void *stack; /* where it stopped */
 	enum { READY, SLEEPS, BLOCKED, ENDED } state;
 	uint32_t *word, is; /* it sleeps as long as the word is this, and until a time; or is blocked by a mutex there */
 	const struct timespec *until;
@@ -87,7 +87,7 @@ struct option {
 static struct {
 	const struct il_program *program;
 	unsigned flags, count; /* of its threads */
-	ucontext_t explorer;
+	jmp_buf explorer;
 	struct thread threads[ALL];
 	unsigned current;
 	bool running, failed, given_up, grown;
@@ -147,8 +147,7 @@ static inline uint64_t mix(uint64_t a, uint64_t b)
 __attribute__((noreturn)) static void leave(void)
 {
 	il.running = false;
-	setcontext(&il.explorer);
-	_exit(3);
+	_longjmp(il.explorer, 1);
 }
 
 void il_fail(const char *format, ...)
@@ -166,10 +165,10 @@ static void on_signal(int signal)
 {
 	static uint32_t last, same;
 
-	same = signal == SIGALRM && last == il.run ? same + 1 : 0;
+	same = signal == SIGVTALRM && last == il.run ? same + 1 : 0;
 	last = il.run;
-	if (signal != SIGALRM || same == 5)
-		il_fail("%s", signal == SIGALRM ? "it computes for ever" : strsignal(signal));
+	if (signal != SIGVTALRM || same == 5)
+		il_fail("%s", signal == SIGVTALRM ? "it computes for ever" : strsignal(signal));
 }
 
 __attribute__((noreturn)) void __wrap_abort(void) { il_fail("the library ended the program (its message stands above)"); }
@@ -434,6 +433,26 @@ static void let_time_pass(long long to)
 			il.threads[t].state = READY;
 }
 
+/*
+ * Goes on where a thread stopped: what a call has to keep is on the stacks.  swapcontext would ask the system each time which
+ * signals are blocked.
+ */
+void il_switch(void **from, void *to);
+__asm__(".text\n.globl il_switch\nil_switch:\n"
+	"	push %rbp\n	push %rbx\n	push %r12\n	push %r13\n	push %r14\n	push %r15\n"
+	"	movq %rsp, (%rdi)\n	movq %rsi, %rsp\n"
+	"	pop %r15\n	pop %r14\n	pop %r13\n	pop %r12\n	pop %rbx\n	pop %rbp\n	ret\n");
+
+/* A stack on which a thread stopped before it began: above what il_switch pops stands where it returns to. */
+static void *new_stack(unsigned thread, void (*begins)(void))
+{
+	uintptr_t *top = (uintptr_t *)(void *)&memory[ARENA + thread * STACK];
+
+	memset(top - 8, 0, 8 * sizeof *top);
+	top[-2] = (uintptr_t)begins;
+	return top - 8;
+}
+
 static void take(struct option o)
 {
 	struct thread *from = me(), *to = &il.threads[o.thread];
@@ -449,7 +468,7 @@ static void take(struct option o)
 	memcpy(from->own, own, own_size);
 	il.current = o.thread;
 	memcpy(own, to->own, own_size);
-	swapcontext(&from->at, &to->at);
+	il_switch(&from->stack, to->stack);
 }
 
 /* What costs one of the bound. */
@@ -778,11 +797,10 @@ int __wrap_pthread_key_create(pthread_key_t *key, void (*destructor)(void *))
 	il.destructor = destructor;
 	return 0;
 }
-int __wrap_pthread_key_delete(pthread_key_t key) { return (int)(key - key); }
+int __wrap_pthread_key_delete(pthread_key_t key) { return (void)key, 0; }
 int __wrap_pthread_setspecific(pthread_key_t key, const void *value)
 {
-	me()->specific = (void *)(uintptr_t)value;
-	return (int)(key - key);
+	return (void)key, me()->specific = (void *)(uintptr_t)value, 0;
 }
 int __wrap_pthread_atfork(void (*first)(void), void (*second)(void), void (*third)(void)) { return !first && !second && !third; }
 
@@ -843,7 +861,7 @@ long __wrap_syscall(long number, ...)
 }
 
 /* How the debug library came to what it tells. */
-int __wrap_backtrace(void **calls, int most) { return (void)calls, most - most; }
+int __wrap_backtrace(void **calls, int most) { return (void)calls, (void)most, 0; }
 void __wrap_backtrace_symbols_fd(void *const *calls, int count, int to) { (void)calls, (void)count, (void)to; }
 
 /* A thread that rests since the library said so needn't switch: whatever waits at a guard does as its step answers that. */
@@ -869,7 +887,7 @@ int __wrap_clock_gettime(clockid_t id, struct timespec *at)
 	happens(object_of(&clock_object), ticks);
 	now = il.now + me()->skew;
 	*at = (struct timespec){ .tv_sec = now / 1000000000, .tv_nsec = now % 1000000000 };
-	return (int)(id - id);
+	return (void)id, 0;
 }
 
 /* ---- the proved library, of which each call is one step ---- */
@@ -891,7 +909,6 @@ void il_inside(const void *pc)
 	if (il.running && il.flags & IL_INSIDE)
 		step("inside", pc);
 }
-#ifdef __x86_64__
 __asm__(".text\n.globl il_inside_\nil_inside_:\n"
 	"	pushfq\n	push %rax\n	push %rcx\n	push %rdx\n	push %rsi\n	push %rdi\n"
 	"	push %r8\n	push %r9\n	push %r10\n	push %r11\n	movq 80(%rsp), %rdi\n"
@@ -899,7 +916,6 @@ __asm__(".text\n.globl il_inside_\nil_inside_:\n"
 	"	call il_inside\n	fxrstor (%rsp)\n	movq %rbp, %rsp\n	pop %rbp\n"
 	"	pop %r11\n	pop %r10\n	pop %r9\n	pop %r8\n"
 	"	pop %rdi\n	pop %rsi\n	pop %rdx\n	pop %rcx\n	pop %rax\n	popfq\n	ret\n");
-#endif
 
 /* What a lock orders. */
 static struct object *order_of(const ww_handle *h, uint32_t lock)
@@ -1042,7 +1058,7 @@ static void reset(void)
 	for (unsigned t = 0; t < ALL; t++) {
 		struct thread *it = &il.threads[t];
 
-		memset((char *)it + sizeof it->at, 0, sizeof *it - sizeof it->at);
+		memset(it, 0, sizeof *it);
 		it->state = t && t <= il.count ? READY : ENDED;
 		it->hash = mix(t, 99);
 		it->wants = UINT32_MAX;
@@ -1055,20 +1071,12 @@ static void reset(void)
 /* Once, by the choices so far. Whoever leaves comes back here. */
 static void run(void)
 {
-	volatile bool begun = false;
-
 	reset();
 	il.runs++;
-	getcontext(&il.explorer);
-	if (!begun) {
-		begun = true;
+	if (!_setjmp(il.explorer)) {
 		il_setup(il.program);
-		for (unsigned t = 1; t <= il.count; t++) {
-			getcontext(&il.threads[t].at);
-			il.threads[t].at.uc_stack.ss_sp = &memory[ARENA + (t - 1) * STACK];
-			il.threads[t].at.uc_stack.ss_size = STACK;
-			makecontext(&il.threads[t].at, body, 0);
-		}
+		for (unsigned t = 1; t <= il.count; t++)
+			il.threads[t].stack = new_stack(t, body);
 		il.running = true;
 		switch_away();
 	} else if (!il.failed && !il.given_up) {
@@ -1208,7 +1216,7 @@ int main(int argc, char **argv)
 {
 	static char stack[1 << 16];
 	const struct sigaction action = { .sa_handler = on_signal, .sa_flags = SA_ONSTACK | SA_NODEFER };
-	const int signals[] = { SIGSEGV, SIGBUS, SIGILL, SIGFPE, SIGALRM };
+	const int signals[] = { SIGSEGV, SIGBUS, SIGILL, SIGFPE, SIGVTALRM };
 	size_t data = (size_t)(__stop_il_data - __start_il_data);
 	const char *schedule = NULL;
 	unsigned count = 0, failed = 0, flags = 0;
@@ -1233,7 +1241,7 @@ int main(int argc, char **argv)
 	sigaltstack(&(stack_t){ .ss_sp = stack, .ss_size = sizeof stack }, NULL);
 	for (unsigned k = 0; k < sizeof signals / sizeof *signals; k++)
 		sigaction(signals[k], &action, NULL);
-	setitimer(ITIMER_REAL, &(struct itimerval){ { 1, 0 }, { 1, 0 } }, NULL);
+	setitimer(ITIMER_VIRTUAL, &(struct itimerval){ { 1, 0 }, { 1, 0 } }, NULL);
 	for (const struct il_program *p = il_programs; p->name && !(stops && failed); p++) {
 		bool asked = optind == argc;
 
