@@ -542,7 +542,9 @@ void open(unsigned contexts, unsigned locks)
 	const std::size_t heap_before = heap(), resident_before = resident();
 	const auto from = steady::now();
 
-	here::open(its, WW_WOUND_WAIT, locks, contexts);
+	ww_class_init(&its, WW_WOUND_WAIT, "bench");
+	if (ww_class_limit(&its, locks, contexts) || ww_class_open(&its))
+		std::exit(cant_open);
 	const std::chrono::duration<double, std::milli> took = steady::now() - from;
 	std::printf("%zu %zu %.4f\n", heap() - heap_before, resident() - resident_before, took.count());
 	here::close(its);
