@@ -119,7 +119,7 @@ std::array<std::uint32_t, most> open_numbers(unsigned locks = most)
 	std::array<std::uint32_t, most> used{};
 
 	ww_class_init(&objects, WW_WOUND_WAIT, "objects");
-	must(!ww_class_limit(&objects, locks, 1));
+	must(!ww_class_limit(&objects, locks, 0));
 	for (unsigned n = 0; n < locks; n++)
 		must(!ww_number_take(&used[n / (locks / most)], &objects));
 	return used;

@@ -160,7 +160,7 @@ public:
 	explicit numbered(nodes<lock> &) : numbers(all_locks())
 	{
 		ww_class_init(&its, kind, "bench");
-		if (ww_class_limit(&its, all_locks(), now.threads) || ww_class_open(&its))
+		if (ww_class_limit(&its, all_locks(), 0) || ww_class_open(&its))
 			std::exit(cant_open);
 		for (auto &it : numbers)
 			must(ww_number_take(&it, &its));

@@ -9,10 +9,10 @@
 #define COLD __attribute__((noinline, cold))
 
 /* The proved library isn't built for the thread sanitizer, so that is told what orders the accesses under a lock. */
-#ifdef __has_feature
-#define SANITIZES_THREADS __has_feature(thread_sanitizer)
-#elif defined(__SANITIZE_THREAD__)
+#ifdef __SANITIZE_THREAD__
 #define SANITIZES_THREADS 1
+#elif defined(__has_feature)
+#define SANITIZES_THREADS __has_feature(thread_sanitizer)
 #else
 #define SANITIZES_THREADS 0
 #endif

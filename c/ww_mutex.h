@@ -438,12 +438,13 @@ void ww_debug_at_(const char *file, int line);
  * what a lock orders by the library's own functions of the same names, which are called
  * there, and wherever WW_NO_INLINE is defined.
  */
-#ifdef __has_feature
+#if defined(__SANITIZE_THREAD__) && !defined(WW_NO_INLINE)
+#define WW_NO_INLINE
+#endif
+#ifdef __has_feature /* headers of the sanitizers have it for gcc too, and answer 0 */
 #if __has_feature(thread_sanitizer) && !defined(WW_NO_INLINE)
 #define WW_NO_INLINE
 #endif
-#elif defined(__SANITIZE_THREAD__) && !defined(WW_NO_INLINE)
-#define WW_NO_INLINE
 #endif
 int ww_mutex_lock_alone_(struct ww_mutex *lock);
 int ww_mutex_lock_else_(struct ww_mutex *lock, struct ww_acquire_ctx *ctx);
