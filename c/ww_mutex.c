@@ -432,18 +432,13 @@ static void back_off(struct ww_acquire_ctx *x)
 	close_or_open(x);
 }
 
-COLD bool ww_tries_else_(struct ww_acquire_ctx *x)
-{
-	if (x->state & HAS_TO_BACK_OFF) {
-		back_off(x);
-		x->state |= IS_TRYING;
-		return true;
-	}
-	x->state ^= IS_TRYING;
-	return x->state & IS_TRYING;
-}
+COLD void ww_back_off_now_(struct ww_acquire_ctx *x) { back_off(x); }
 
-bool ww_tries_more_(struct ww_acquire_ctx *x) { return ww_tries_else_(x); }
+void ww_back_off_(struct ww_acquire_ctx *x)
+{
+	if (x->state & HAS_TO_BACK_OFF)
+		back_off(x);
+}
 
 /* It waits first for none any more: the mutex may be gone. */
 COLD static void forget_first(struct ww_acquire_ctx *x)

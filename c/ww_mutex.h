@@ -327,14 +327,17 @@ void ww_acquire_unlock_all(struct ww_acquire_ctx *ctx);
  */
 #define ww_until_all_locked(...) WW_UNTIL_ALL_LOCKED_(__VA_ARGS__, ww_again_, )
 #define ww_retry_on_contention(...) WW_RETRY_ON_CONTENTION_(__VA_ARGS__, ww_again_, )
-/* What is named stands before what is meant otherwise.  The goto that is never made is for a body that makes none. */
+/*
+ * What is named stands before what is meant otherwise.  The body runs once for certain, so what it sets is set behind it; and
+ * the goto that is never made is for a body that makes none.
+ */
 #define WW_UNTIL_ALL_LOCKED_(ctx, again, ...)                                                          \
-	for (struct ww_acquire_ctx *again##_of_ = ww_tries_begin_(ctx); again##_of_; again##_of_ = NULL) \
+	for (struct ww_acquire_ctx *again##_of_ = ww_tries_begin_(ctx); again##_of_;                   \
+	     again##_of_ = ww_is_contended(again##_of_) ? again##_of_ : NULL)                          \
 	again:                                                                                         \
-		while (ww_tries_more_(again##_of_))                                                    \
-			if (0)                                                                         \
-				goto again;                                                            \
-			else
+		if (ww_back_off_(again##_of_), 0)                                                      \
+			goto again;                                                                    \
+		else
 #define WW_RETRY_ON_CONTENTION_(ctx, again, ...)                                                       \
 	do {                                                                                           \
 		if (ww_is_contended(ctx))                                                              \
@@ -352,7 +355,8 @@ bool ww_is_contended(const struct ww_acquire_ctx *ctx);
 WW_MUST_CHECK size_t ww_acquire_mark(const struct ww_acquire_ctx *ctx);
 void ww_acquire_unlock_to(struct ww_acquire_ctx *ctx, size_t mark);
 struct ww_acquire_ctx *ww_tries_begin_(struct ww_acquire_ctx *ctx) __attribute__((__returns_nonnull__));
-bool ww_tries_more_(struct ww_acquire_ctx *ctx);
+/* Backs off, where the context has to. */
+void ww_back_off_(struct ww_acquire_ctx *ctx);
 /* Of C++: as ww_mutex_destroy, but behind it the mutex is as WW_MUTEX_INIT makes one of its class. */
 int ww_mutex_end_(struct ww_mutex *lock);
 
@@ -452,11 +456,11 @@ int ww_mutex_lock_further_(struct ww_mutex *lock, struct ww_acquire_ctx *ctx, in
 int ww_mutex_trylock_else_(struct ww_mutex *lock, struct ww_acquire_ctx *ctx);
 void ww_mutex_unlock_else_(struct ww_mutex *lock);
 void ww_mutex_unlock_further_(struct ww_mutex *lock, struct ww_acquire_ctx *ctx, int r);
-bool ww_tries_else_(struct ww_acquire_ctx *ctx);
+void ww_back_off_now_(struct ww_acquire_ctx *ctx);
 /* Where an object lies: where memory is given and taken, in the program itself, or (else) in a library. */
 enum { WW_MEMORY_ = 0, WW_PROGRAM_ = 1 };
 int ww_place_(const void *object);
-enum { WW_IS_TRYING_ = 1, WW_HAS_TO_BACK_OFF_ = 2 }; /* of a context's state */
+enum { WW_HAS_TO_BACK_OFF_ = 2 }; /* of a context's state */
 #if defined(__GNUC__) && !defined(WW_NO_INLINE) && !defined(WW_DEBUG)
 /* By a handle, with which a seat begins. */
 int32_t ww_first_of_lock_(void *seat, uint32_t lock, bool heeds) __asm__("ww_lock_");
@@ -527,17 +531,10 @@ WW_INLINE_ bool ww_is_contended(const struct ww_acquire_ctx *ctx)
 	return ctx->state & WW_HAS_TO_BACK_OFF_;
 }
 
-WW_INLINE_ bool ww_tries_more_(struct ww_acquire_ctx *ctx)
+WW_INLINE_ void ww_back_off_(struct ww_acquire_ctx *ctx)
 {
-	if (__builtin_expect(ctx->state == 0, 1)) {
-		ctx->state = WW_IS_TRYING_;
-		return true;
-	}
-	if (__builtin_expect(ctx->state == WW_IS_TRYING_, 1)) {
-		ctx->state = 0;
-		return false;
-	}
-	return ww_tries_else_(ctx);
+	if (__builtin_expect(ctx->state & WW_HAS_TO_BACK_OFF_, 0))
+		ww_back_off_now_(ctx);
 }
 #undef WW_HOLDS_
 #undef WW_HOLDS_NO_MORE_

@@ -167,11 +167,10 @@ class context {
 		releases unless_all{ this };
 
 		ww_tries_begin_(&it_);
-		while (ww_tries_more_(&it_)) {
+		do {
+			ww_back_off_(&it_);
 			r = locks();
-			if (r && !ww_is_contended(&it_))
-				break;
-		}
+		} while (ww_is_contended(&it_));
 		if (!r)
 			unless_all.x = nullptr;
 		return r;
@@ -236,7 +235,7 @@ public:
 	}
 	void unlock_all(WW_FROM_) noexcept { ww_acquire_unlock_all(&it_); }
 	// After -EDEADLK: releases all. The next lock call first waits for the mutex at which that came.
-	void back_off() noexcept { ww_tries_more_(&it_); }
+	void back_off() noexcept { ww_back_off_(&it_); }
 	void done(WW_FROM_) noexcept { ww_acquire_done(&it_); }
 	int cancel() noexcept { return ww_acquire_cancel(&it_); }
 	unsigned held() const noexcept { return it_.acquired; }

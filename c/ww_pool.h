@@ -192,10 +192,9 @@ static inline void put_spare(struct ww_pool *p) { pthread_mutex_unlock(&p->spare
 
 /* Of a context: it backs off by itself; and what only the debug library asks for. */
 enum {
-	IS_TRYING = WW_IS_TRYING_,
 	HAS_TO_BACK_OFF = WW_HAS_TO_BACK_OFF_,
 	WAITS_FIRST = 4,
-	TRIES = 7,
+	TRIES = HAS_TO_BACK_OFF | WAITS_FIRST,
 	IS_DONE = 8, /* which no call but ww_acquire_done itself refuses */
 	WAS_TOLD = 16,
 	WAS_INJECTED = 32,

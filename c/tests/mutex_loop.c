@@ -119,7 +119,12 @@ static struct ww_mutex it, held, owed, unheld, taken;
 static struct ww_acquire_ctx older, x;
 
 /* As a loop's end, or ww_retry_on_contention, has it. */
-static void backs_off(void) { MUST(ww_is_contended(&x) && ww_tries_more_(&x) && !x.acquired); }
+static void backs_off(void)
+{
+	MUST(ww_is_contended(&x));
+	ww_back_off_(&x);
+	MUST(!x.acquired);
+}
 
 static void is_told_at(struct ww_mutex *m) { MUST(ww_mutex_lock(m, &x) == -EDEADLK && ww_is_contended(&x)); }
 
@@ -138,7 +143,7 @@ static void comes_to(enum state state)
 {
 	ww_tries_begin_(&x);
 	/* The empty handle by which its unlocks are answered is its own. */
-	MUST(x.gives == x.empty_ && ww_tries_more_(&x));
+	MUST(x.gives == x.empty_);
 	switch (state) {
 	case EASE: MUST(!ww_mutex_lock(&held, &x)); return;
 	case OWES: comes_to_owe(&it); return;

@@ -41,7 +41,6 @@ _CALLS = {
     "ww_class_limit": (ctypes.c_int, _AT, _Number, _Number),
     "ww_mutex_is_locked": (ctypes.c_bool, _AT),
     "ww_is_contended": (ctypes.c_bool, _AT),
-    "ww_tries_more_": (ctypes.c_bool, _AT),
     "ww_mutex_lock_until": (ctypes.c_int, _AT, _AT, ctypes.POINTER(Time)),
     "ww_acquire_init_until": (ctypes.c_int, _AT, _AT, ctypes.POINTER(Time)),
 }
@@ -50,7 +49,7 @@ _ALONE = ("class_free", "mutex_destroy", "acquire_done_checked", "acquire_fini_c
 _CALLS |= {f"ww_{it}": (ctypes.c_int, _AT) for it in _ALONE}
 _PAIRS = ("mutex_init_checked", "acquire_init_checked", "mutex_lock_interruptible", "mutex_trylock")
 _CALLS |= {f"ww_{it}": (ctypes.c_int, _AT, _AT) for it in _PAIRS}
-_CALLS |= {"ww_tries_begin_": (None, _AT), "ww_acquire_unlock_all": (None, _AT)}
+_CALLS |= {f"ww_{it}": (None, _AT) for it in ("tries_begin_", "back_off_", "acquire_unlock_all")}
 # Amid these no other thread of Python runs: so a context isn't cancelled amid its end.
 _ALONE_IN_PYTHON = ("ww_acquire_cancel", "ww_acquire_fini_checked")
 

@@ -203,7 +203,6 @@ class Context:
         told(self._begin_in_turn(until) if code == -errno.EAGAIN else code)
         # All of it is a loop of ww_until_all_locked.
         self._library.ww_tries_begin_(self._at)
-        self._library.ww_tries_more_(self._at)
         self._thread = threading.get_ident()
         _mine.begins(self)
 
@@ -320,7 +319,7 @@ class Context:
         held = self._held.copy()
         self._held.clear()
         if self._is_contended():
-            self._library.ww_tries_more_(self._at)
+            self._library.ww_back_off_(self._at)
         else:
             self._library.ww_acquire_unlock_all(self._at)
         self._near -= held
