@@ -37,7 +37,8 @@ generated/%.s:
 $(PROGRAM): $(ASSEMBLY) c/heap.c c/program.c
 	@mkdir -p $(OUT)
 	@rm -f $@ $@.sources
-	$(CC) $(AS_C) $(ASSEMBLY) c/heap.c c/program.c $(LDFLAGS) -pthread -o $@
+	$(CC) -c $(ASSEMBLY) -o $@.o
+	$(CC) $(AS_C) $@.o c/heap.c c/program.c $(LDFLAGS) -pthread -o $@
 	@sed -n 's/^ \* sources: //p' $(ASSEMBLY) >$@.sources
 	@tools/is_of_sources $@ || true
 
@@ -62,7 +63,7 @@ uninstall:
 	$(MAKES_C) uninstall
 
 clean:
-	rm -rf $(PROGRAM) $(PROGRAM).sources
+	rm -f $(PROGRAM) $(PROGRAM).o $(PROGRAM).sources
 	$(MAKES_C) clean
 
 .PHONY: all library check check-program install uninstall clean
