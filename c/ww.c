@@ -220,8 +220,8 @@ __attribute__((noinline, cold)) int ww_go_on(ww_seat *s, struct ww_stop *stop)
 
 uint32_t ww_version(void) { return 10000 * WW_VERSION_MAJOR + 100 * WW_VERSION_MINOR + WW_VERSION_PATCH; }
 
-/* A world of seats that have done nothing yet, to which these handles are moved; or NULL. */
-static ww_world *lay_out(uint32_t locks, uint32_t seats, const ww_handle *handles)
+/* A world of seats that have done nothing yet, whose handles change places with these; or NULL. */
+static ww_world *lay_out(uint32_t locks, uint32_t seats, ww_handle *handles)
 {
 	size_t size = sizeof(ww_world) + seats * sizeof(ww_seat);
 	ww_world *w = aligned_alloc(_Alignof(ww_world), size);
@@ -232,7 +232,7 @@ static ww_world *lay_out(uint32_t locks, uint32_t seats, const ww_handle *handle
 	w->locks = locks;
 	w->count = seats;
 	for (uint32_t k = 0; k < seats; k++) {
-		w->seats[k].handle = handles[k];
+		ww_swap_(&w->seats[k].handle, &handles[k]);
 		w->seats[k].world = w;
 	}
 	return w;

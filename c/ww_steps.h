@@ -38,10 +38,7 @@ enum { WW_MAX_LOCKS = 65536, WW_MAX_SEATS = 4095 };
 /* 10000 times the first number, 100 times the second one, and the third one. */
 uint32_t ww_version(void);
 
-/*
- * What the steps write: nobody else does, and nobody copies it.  Before the first step by it it may be moved, once ww_open_
- * has filled it: then nobody looks at its old place again.  { 0 } is an empty one.
- */
+/* What the steps write: nobody else does, and nobody copies it; ww_swap_ moves it.  { 0 } is an empty one. */
 typedef struct {
 	void *at;
 	uint32_t standing, below;
@@ -64,6 +61,8 @@ enum {
  * than 16 seats 2^49 - 1.  -EINVAL: another kind, no lock or no seat, or too many; -ENOMEM: no handle is written.
  */
 WW_MUST_CHECK int32_t ww_open_(uint32_t kind, uint32_t locks, uint64_t left, ww_handle *seats, size_t count);
+/* Two handles exchange what they have. */
+void ww_swap_(ww_handle *one, ww_handle *other);
 /* Whether a seat may be closed: -EBUSY as long as it holds a lock, has a context or waits. */
 int32_t ww_idle_(ww_handle *seat);
 /* Closes one seat, whose handle is empty then; the world's memory goes with the last one. -EBUSY as ww_idle_. */

@@ -1,9 +1,9 @@
 /*
  * The proved library for C on aarch64, as the kit's compiler (LLVM) makes it.  Written by ./build c --assembly.
  *
- * sources: d275edf164bf481eab3e2bf70f1fa26cb6409855b3e1d21c0001c9559847ad70
+ * sources: cb08a0a7c64887385e53084e3301fa1dcfc5590ade52a7bfa8cf83dc3408ce8e
  * kit:     rattle-kit-13f logic dac8208d650f15bf
- * proof:   logic=proved functions=57 axioms=3 target=aarch64-unknown-linux-gnu sum=dac8208d650f15bf
+ * proof:   logic=proved functions=58 axioms=3 target=aarch64-unknown-linux-gnu sum=dac8208d650f15bf
  */
 	.section	.rodata.cst8,"aM",@progbits,8
 	.p2align	3, 0x0
@@ -6548,9 +6548,24 @@ ww_open_:
 .Lfunc_end34:
 	.size	ww_open_, .Lfunc_end34-ww_open_
 
+	.section	.text.ww_swap_,"ax",@progbits
+	.globl	ww_swap_
+	.p2align	2
+	.type	ww_swap_,@function
+ww_swap_:
+	sub	sp, sp, #16
+	ldr	q0, [x1]
+	ldr	q1, [x0]
+	str	q0, [x0]
+	str	q1, [x1]
+	add	sp, sp, #16
+	ret
+.Lfunc_end35:
+	.size	ww_swap_, .Lfunc_end35-ww_swap_
+
 	.section	.rodata.cst8,"aM",@progbits,8
 	.p2align	3, 0x0
-.LCPI35_0:
+.LCPI36_0:
 	.word	1
 	.word	0
 	.section	.text.ww_try_,"ax",@progbits
@@ -6560,7 +6575,7 @@ ww_open_:
 ww_try_:
 	ldr	w8, [x0, #12]
 	cmp	w8, w1
-	b.ls	.LBB35_5
+	b.ls	.LBB36_5
 	ldr	x9, [x0]
 	mov	w11, w1
 	ldr	x8, [x9]
@@ -6570,11 +6585,11 @@ ww_try_:
 	//NO_APP
 	add	x10, x10, x11, lsl #6
 	add	x11, x10, #128
-.LBB35_2:
+.LBB36_2:
 	ldaxr	x10, [x11]
-	cbnz	x10, .LBB35_6
+	cbnz	x10, .LBB36_6
 	stlxr	w10, x8, [x11]
-	cbnz	w10, .LBB35_2
+	cbnz	w10, .LBB36_2
 	//APP
 	//NO_APP
 	mov	w0, wzr
@@ -6582,9 +6597,9 @@ ww_try_:
 	add	w8, w8, #1
 	str	w8, [x9, #400]
 	ret
-.LBB35_5:
+.LBB36_5:
 	b	ww_c__exports__try_alone
-.LBB35_6:
+.LBB36_6:
 	and	x9, x10, #0x7
 	lsr	x10, x10, #2
 	clrex
@@ -6605,24 +6620,24 @@ ww_try_:
 	orr	x9, x8, #0x1
 	and	x8, x8, #0x3ffffffffffffffe
 	ccmp	x11, #0, #4, ls
-	adrp	x11, .LCPI35_0
+	adrp	x11, .LCPI36_0
 	csel	x8, x9, x8, eq
-	ldr	d0, [x11, :lo12:.LCPI35_0]
+	ldr	d0, [x11, :lo12:.LCPI36_0]
 	mov	w9, #-114
 	cmp	x10, x8
 	mov	w8, #-16
 	str	d0, [x0, #8]
 	csel	w0, w9, w8, eq
 	ret
-.Lfunc_end35:
-	.size	ww_try_, .Lfunc_end35-ww_try_
+.Lfunc_end36:
+	.size	ww_try_, .Lfunc_end36-ww_try_
 
 	.section	.rodata.cst8,"aM",@progbits,8
 	.p2align	3, 0x0
-.LCPI36_0:
+.LCPI37_0:
 	.word	1
 	.word	0
-.LCPI36_1:
+.LCPI37_1:
 	.word	4
 	.word	0
 	.section	.text.ww_unlock_,"ax",@progbits
@@ -6632,7 +6647,7 @@ ww_try_:
 ww_unlock_:
 	ldr	w8, [x0, #12]
 	cmp	w8, w1
-	b.ls	.LBB36_6
+	b.ls	.LBB37_6
 	ldr	x8, [x0]
 	mov	w11, w1
 	ldr	x9, [x8]
@@ -6642,30 +6657,30 @@ ww_unlock_:
 	//NO_APP
 	add	x10, x10, x11, lsl #6
 	add	x11, x10, #128
-.LBB36_2:
+.LBB37_2:
 	ldaxr	x10, [x11]
 	cmp	x10, x9
-	b.ne	.LBB36_8
+	b.ne	.LBB37_8
 	stlxr	w10, xzr, [x11]
-	cbnz	w10, .LBB36_2
+	cbnz	w10, .LBB37_2
 	//APP
 	//NO_APP
 	ldr	w9, [x8, #400]
 	subs	w9, w9, #1
 	str	w9, [x8, #400]
 	mov	w8, wzr
-	b.eq	.LBB36_7
+	b.eq	.LBB37_7
 	mov	w0, w8
 	ret
-.LBB36_6:
+.LBB37_6:
 	b	ww_c__exports__unlock_alone
-.LBB36_7:
-	adrp	x9, .LCPI36_1
-	ldr	d0, [x9, :lo12:.LCPI36_1]
+.LBB37_7:
+	adrp	x9, .LCPI37_1
+	ldr	d0, [x9, :lo12:.LCPI37_1]
 	str	d0, [x0, #8]
 	mov	w0, w8
 	ret
-.LBB36_8:
+.LBB37_8:
 	and	x11, x10, #0x7
 	lsr	x10, x10, #2
 	clrex
@@ -6688,33 +6703,33 @@ ww_unlock_:
 	ccmp	x12, #0, #4, ls
 	csel	x9, x11, x9, eq
 	cmp	x10, x9
-	b.ne	.LBB36_10
+	b.ne	.LBB37_10
 	movi	v0.2d, #0000000000000000
 	mov	w9, #4
 	str	w1, [x8, #428]
 	str	w9, [x8, #424]
-	adrp	x9, .LCPI36_0
+	adrp	x9, .LCPI37_0
 	strb	wzr, [x8, #496]
 	stp	q0, q0, [x8, #432]
 	stp	q0, q0, [x8, #464]
-	ldr	d0, [x9, :lo12:.LCPI36_0]
+	ldr	d0, [x9, :lo12:.LCPI37_0]
 	mov	w8, #1
 	str	d0, [x0, #8]
 	mov	w0, w8
 	ret
-.LBB36_10:
-	adrp	x8, .LCPI36_0
-	ldr	d0, [x8, :lo12:.LCPI36_0]
+.LBB37_10:
+	adrp	x8, .LCPI37_0
+	ldr	d0, [x8, :lo12:.LCPI37_0]
 	mov	w8, #-22
 	str	d0, [x0, #8]
 	mov	w0, w8
 	ret
-.Lfunc_end36:
-	.size	ww_unlock_, .Lfunc_end36-ww_unlock_
+.Lfunc_end37:
+	.size	ww_unlock_, .Lfunc_end37-ww_unlock_
 
 	.section	.rodata.cst8,"aM",@progbits,8
 	.p2align	3, 0x0
-.LCPI37_0:
+.LCPI38_0:
 	.word	4
 	.word	0
 	.section	.text.ww_unlock_each_,"ax",@progbits
@@ -6723,17 +6738,17 @@ ww_unlock_:
 	.type	ww_unlock_each_,@function
 ww_unlock_each_:
 	cmp	x2, #9
-	b.hi	.LBB37_9
+	b.hi	.LBB38_9
 	ldr	w8, [x0, #12]
-	cbz	w8, .LBB37_9
+	cbz	w8, .LBB38_9
 	ldr	x8, [x0]
-	cbz	x2, .LBB37_8
-.LBB37_3:
+	cbz	x2, .LBB38_8
+.LBB38_3:
 	sub	x9, x2, #1
 	ldr	w10, [x8, #404]
 	ldr	w11, [x1, x9, lsl #2]
 	cmp	w11, w10
-	b.hs	.LBB37_8
+	b.hs	.LBB38_8
 	ldr	x10, [x8]
 	ldr	x12, [x10, #8]
 	ldr	x10, [x8, #64]
@@ -6741,39 +6756,39 @@ ww_unlock_each_:
 	//NO_APP
 	add	x11, x12, x11, lsl #6
 	add	x11, x11, #128
-.LBB37_5:
+.LBB38_5:
 	ldaxr	x12, [x11]
 	cmp	x12, x10
-	b.ne	.LBB37_10
+	b.ne	.LBB38_10
 	stlxr	w12, xzr, [x11]
-	cbnz	w12, .LBB37_5
+	cbnz	w12, .LBB38_5
 	//APP
 	//NO_APP
 	mov	x2, x9
 	ldr	w10, [x8, #400]
 	sub	w10, w10, #1
 	str	w10, [x8, #400]
-	cbnz	x9, .LBB37_3
-.LBB37_8:
+	cbnz	x9, .LBB38_3
+.LBB38_8:
 	ldr	w8, [x8, #400]
-	cbz	w8, .LBB37_11
-.LBB37_9:
+	cbz	w8, .LBB38_11
+.LBB38_9:
 	mov	x0, x2
 	ret
-.LBB37_10:
+.LBB38_10:
 	clrex
 	//APP
 	//NO_APP
 	ldr	w8, [x8, #400]
-	cbnz	w8, .LBB37_9
-.LBB37_11:
-	adrp	x8, .LCPI37_0
-	ldr	d0, [x8, :lo12:.LCPI37_0]
+	cbnz	w8, .LBB38_9
+.LBB38_11:
+	adrp	x8, .LCPI38_0
+	ldr	d0, [x8, :lo12:.LCPI38_0]
 	str	d0, [x0, #8]
 	mov	x0, x2
 	ret
-.Lfunc_end37:
-	.size	ww_unlock_each_, .Lfunc_end37-ww_unlock_each_
+.Lfunc_end38:
+	.size	ww_unlock_each_, .Lfunc_end38-ww_unlock_each_
 
 	.type	.Lswitch.table.ww_c__exports__try_anyhow,@object
 	.section	.rodata..Lswitch.table.ww_c__exports__try_anyhow,"a",@progbits

@@ -1,9 +1,9 @@
 /*
  * The proved library for C on x86_64, as the kit's compiler (LLVM) makes it.  Written by ./build c --assembly.
  *
- * sources: d275edf164bf481eab3e2bf70f1fa26cb6409855b3e1d21c0001c9559847ad70
+ * sources: cb08a0a7c64887385e53084e3301fa1dcfc5590ade52a7bfa8cf83dc3408ce8e
  * kit:     rattle-kit-13f logic dac8208d650f15bf
- * proof:   logic=proved functions=57 axioms=3 target=x86_64-unknown-linux-gnu sum=dac8208d650f15bf
+ * proof:   logic=proved functions=58 axioms=3 target=x86_64-unknown-linux-gnu sum=dac8208d650f15bf
  */
 	.section	.text.unlikely.ww_c__exports__begin_anyhow,"ax",@progbits
 	.p2align	4
@@ -6731,6 +6731,21 @@ ww_open_:
 .Lfunc_end34:
 	.size	ww_open_, .Lfunc_end34-ww_open_
 
+	.section	.text.ww_swap_,"ax",@progbits
+	.globl	ww_swap_
+	.p2align	4
+	.type	ww_swap_,@function
+ww_swap_:
+	movups	(%rdi), %xmm0
+	movaps	%xmm0, -24(%rsp)
+	movups	(%rsi), %xmm0
+	movups	%xmm0, (%rdi)
+	movaps	-24(%rsp), %xmm0
+	movups	%xmm0, (%rsi)
+	retq
+.Lfunc_end35:
+	.size	ww_swap_, .Lfunc_end35-ww_swap_
+
 	.section	.text.ww_try_,"ax",@progbits
 	.globl	ww_try_
 	.p2align	4
@@ -6751,11 +6766,11 @@ ww_try_:
 	lock		cmpxchgq	%rdx, 128(%r9,%rsi)
 	#APP
 	#NO_APP
-	jne	.LBB35_3
+	jne	.LBB36_3
 	incl	400(%r8)
 	movl	%ecx, %eax
 	retq
-.LBB35_3:
+.LBB36_3:
 	movl	%eax, %ecx
 	andl	$7, %ecx
 	shrq	$2, %rax
@@ -6785,8 +6800,8 @@ ww_try_:
 	cmovel	%eax, %ecx
 	movl	%ecx, %eax
 	retq
-.Lfunc_end35:
-	.size	ww_try_, .Lfunc_end35-ww_try_
+.Lfunc_end36:
+	.size	ww_try_, .Lfunc_end36-ww_try_
 
 	.section	.text.ww_unlock_,"ax",@progbits
 	.globl	ww_unlock_
@@ -6808,12 +6823,12 @@ ww_unlock_:
 	lock		cmpxchgq	%rdx, 128(%r10,%r9)
 	#APP
 	#NO_APP
-	jne	.LBB36_2
+	jne	.LBB37_2
 	decl	400(%r8)
-	je	.LBB36_5
+	je	.LBB37_5
 	movl	%edx, %eax
 	retq
-.LBB36_2:
+.LBB37_2:
 	movl	%eax, %edx
 	andl	$7, %edx
 	leaq	-2(%rdx), %r9
@@ -6837,7 +6852,7 @@ ww_unlock_:
 	testq	$-3, %r9
 	cmoveq	%r10, %rcx
 	cmpq	%rcx, %rax
-	jne	.LBB36_6
+	jne	.LBB37_6
 	movl	$4, 424(%r8)
 	movl	%esi, 428(%r8)
 	xorps	%xmm0, %xmm0
@@ -6850,17 +6865,17 @@ ww_unlock_:
 	movl	$1, %edx
 	movl	%edx, %eax
 	retq
-.LBB36_6:
+.LBB37_6:
 	movq	$1, 8(%rdi)
 	movl	$-22, %edx
 	movl	%edx, %eax
 	retq
-.LBB36_5:
+.LBB37_5:
 	movq	$4, 8(%rdi)
 	movl	%edx, %eax
 	retq
-.Lfunc_end36:
-	.size	ww_unlock_, .Lfunc_end36-ww_unlock_
+.Lfunc_end37:
+	.size	ww_unlock_, .Lfunc_end37-ww_unlock_
 
 	.section	.text.ww_unlock_each_,"ax",@progbits
 	.globl	ww_unlock_each_
@@ -6868,17 +6883,17 @@ ww_unlock_:
 	.type	ww_unlock_each_,@function
 ww_unlock_each_:
 	cmpq	$9, %rdx
-	ja	.LBB37_10
+	ja	.LBB38_10
 	cmpl	$0, 12(%rdi)
-	je	.LBB37_10
+	je	.LBB38_10
 	movq	(%rdi), %rcx
 	testq	%rdx, %rdx
-	je	.LBB37_7
+	je	.LBB38_7
 	.p2align	4
-.LBB37_4:
+.LBB38_4:
 	movl	-4(%rsi,%rdx,4), %r8d
 	cmpl	404(%rcx), %r8d
-	jae	.LBB37_8
+	jae	.LBB38_8
 	movq	(%rcx), %r9
 	movq	64(%rcx), %rax
 	shlq	$6, %r8
@@ -6889,25 +6904,25 @@ ww_unlock_each_:
 	lock		cmpxchgq	%r10, 128(%r9,%r8)
 	#APP
 	#NO_APP
-	jne	.LBB37_8
+	jne	.LBB38_8
 	decq	%rdx
 	decl	400(%rcx)
 	testq	%rdx, %rdx
-	jne	.LBB37_4
-.LBB37_7:
+	jne	.LBB38_4
+.LBB38_7:
 	xorl	%edx, %edx
-.LBB37_8:
+.LBB38_8:
 	cmpl	$0, 400(%rcx)
-	je	.LBB37_9
-.LBB37_10:
+	je	.LBB38_9
+.LBB38_10:
 	movq	%rdx, %rax
 	retq
-.LBB37_9:
+.LBB38_9:
 	movq	$4, 8(%rdi)
 	movq	%rdx, %rax
 	retq
-.Lfunc_end37:
-	.size	ww_unlock_each_, .Lfunc_end37-ww_unlock_each_
+.Lfunc_end38:
+	.size	ww_unlock_each_, .Lfunc_end38-ww_unlock_each_
 
 	.type	.Lswitch.table.ww_c__exports__try_anyhow,@object
 	.section	.rodata..Lswitch.table.ww_c__exports__try_anyhow,"a",@progbits

@@ -159,7 +159,7 @@ int main(int count, char **words)
 	if (count > 1)
 		times = strtoul(words[1], NULL, 10);
 	for (uint32_t kind = 0; kind < 2; kind++) {
-		ww_handle one = { 0 };
+		ww_handle one = { 0 }, other = { 0 };
 
 		empty_handles(&one);
 		MUST(ww_open_(2, 8, 9, handles, 4) == -EINVAL && ww_open_(kind, 0, 9, handles, 4) == -EINVAL);
@@ -168,6 +168,11 @@ int main(int count, char **words)
 		MUST(ww_open_(kind, 8, (uint64_t)1 << 52, handles, 4) == -EINVAL);
 		MUST(!ww_open_(kind, 1, 1, &one, 1) && !ww_begin_(&one) && ww_close_(&one) == -EBUSY && !ww_end_(&one));
 		MUST(ww_begin_(&one) == -ENOSPC && !ww_lock_(&one, 0, false));
+		ww_swap_(&one, &other);
+		empty_handles(&one);
+		MUST(!ww_has_(&other, 0));
+		ww_swap_(&one, &other);
+		empty_handles(&other);
 		MUST(ww_idle_(&one) == -EBUSY && ww_close_(&one) == -EBUSY);
 		MUST(!ww_unlock_(&one, 0) && !ww_idle_(&one) && !ww_close_(&one) && !ww_close_(&one));
 		empty_handles(&one);

@@ -1,4 +1,4 @@
-//! What C calls. Each is one call of a desk by its handle, and waits for nobody: `c/ww.h` says what C has to do.
+//! What C calls. Each is one call of a desk by its handle, and waits for nobody: `c/ww_steps.h` says what C has to do.
 ghost use Rattle.std.specs.Prelude.{◌≡◌, ◌<◌, ◌≤◌, ◌⊎◌, take};
 ghost use Rattle.ww_desk.specs.Answers.{IsBeginAnswer, IsDoneAnswer, IsEndAnswer, IsLockAnswer, IsSlowAnswer, IsTryAnswer, IsUnlockAnswer, IsHasAnswer};
 ghost use Rattle.ww_c.specs.Codes.{waits_of};
@@ -7,6 +7,7 @@ ghost use Rattle.ww_c.specs.Exports.{IsCall, IsCloseCall, IsEachCall, IsHeldCall
 use crate::codes::{EBUSY, EINVAL, code, pauses, waits};
 use crate::slot::{ALONE, BARE, FULL, Handle, PLAIN, READY};
 use std::alloc::Global;
+use std::mem;
 use ww_desk::Answer;
 
 /// So many locks C keeps in the array of a seat.
@@ -446,4 +447,13 @@ pub extern "C" fn ww_close_(alloc: Global, seat: &mut Handle) -> i32
     }
     seat.put(desk);
     EBUSY
+}
+
+/// Two handles exchange what they have: so a seat is moved to where C keeps it.
+#[unsafe(no_mangle)]
+pub extern "C" fn ww_swap_(one: &mut Handle, other: &mut Handle)
+    ensures one { one.new.slot.desk ≡ other.old.slot.desk }
+    ensures other { other.new.slot.desk ≡ one.old.slot.desk }
+{
+    mem::swap(one, other);
 }
