@@ -31,7 +31,7 @@ typedef struct ww_seat {
 	ww_handle handle;
 	ww_world *world;
 	uint32_t token;		/* one futex word: nothing, a token, or its thread sleeps */
-	uint8_t busy;		/* see ww_pool.c */
+	uint32_t busy;		/* see ww_pool.c */
 	struct ww_pool *pool;	/* the class that has it */
 	uint64_t keeper;	/* the number of the thread that keeps it, or NO_THREAD */
 	uint64_t user;		/* of the thread that locked by it last, without a context */

@@ -12,7 +12,7 @@
  *	kept	ORPHAN	its user's		IDLE: the user is through, by an exchange that finds ORPHAN, so it puts it back
  *	unkept	IDLE	nobody's		BUSY: a thread comes to keep it, under the lock of opening, as it was put back
  *	loose	IDLE	nobody's		BUSY: any thread uses it, by an exchange that finds IDLE
- *	loose	BUSY	its user's		IDLE: the user is through, by a store
+ *	loose	BUSY	its user's		IDLE: the user is through, by a store, which counts it as given (GIVEN_ONCE)
  *
  * So no seat is in two hands.  A kept one: its keeper alone sets BUSY, and its user alone IDLE, so between the keeper's look
  * that finds IDLE and its store nothing changes.  One whose keeper changes: keeper and user both exchange, so one of the
@@ -272,27 +272,41 @@ struct ww_seeker {
 
 static bool has_seekers(const struct ww_pool *p) { return __atomic_load_n(&p->seekers, __ATOMIC_SEQ_CST); }
 
-/* A look before spares an exchange where it is in use. */
-static inline bool claim(ww_seat *s)
+/* Where it is in use, what `busy` of it is then is added to `seen`. */
+static inline bool claim(ww_seat *s, uint64_t *seen)
 {
-	return !__atomic_load_n(&s->busy, __ATOMIC_SEQ_CST) && !__atomic_exchange_n(&s->busy, BUSY, __ATOMIC_SEQ_CST);
+	uint32_t was = __atomic_load_n(&s->busy, __ATOMIC_SEQ_CST);
+
+	while (!(was & BUSY))
+		if (__atomic_compare_exchange_n(&s->busy, &was, was | BUSY, false, __ATOMIC_SEQ_CST, __ATOMIC_SEQ_CST))
+			return true;
+	*seen += was;
+	return false;
 }
 
-/* Any that is free, at first the one that this thread had last; where threads keep seats, one that others don't begin with. */
+/*
+ * Any that is free, at first the one that this thread had last; where threads keep seats, one that others don't begin with.
+ * NULL only if at some moment amid the call none was: each was in use at one look and at the next, and given to nobody between.
+ */
 static ww_seat *claim_any(struct ww_pool *p)
 {
 	ww_seat *loose = &p->world->seats[p->kept], *s = &loose[p->kept ? ww_mine.thread % p->contexts : 0];
+	uint64_t before, seen = 0;
 
 	if (ww_mine.last.id == p->id)
 		s = ww_mine.last.seat;
-	for (uint32_t k = 0; k < p->contexts; k++) {
-		if (claim(s)) {
-			if (!p->kept)
-				ww_mine.last = (struct ww_known){ .id = p->id, .seat = s };
-			return s;
+	do {
+		before = seen;
+		seen = 0;
+		for (uint32_t k = 0; k < p->contexts; k++) {
+			if (claim(s, &seen)) {
+				if (!p->kept)
+					ww_mine.last = (struct ww_known){ .id = p->id, .seat = s };
+				return s;
+			}
+			s = s + 1 < &loose[p->contexts] ? s + 1 : loose;
 		}
-		s = s + 1 < &loose[p->contexts] ? s + 1 : loose;
-	}
+	} while (seen != before);
 	return NULL;
 }
 
@@ -312,8 +326,9 @@ COLD static ww_seat *any_seat(struct ww_pool *p)
 ww_seat *ww_other_seat(struct ww_pool *p)
 {
 	ww_seat *s = ww_mine.last.seat;
+	uint64_t seen = 0;
 
-	return LIKELY(ww_mine.last.id == p->id) && LIKELY(!has_seekers(p)) && LIKELY(claim(s)) ? s : any_seat(p);
+	return LIKELY(ww_mine.last.id == p->id) && LIKELY(!has_seekers(p)) && LIKELY(claim(s, &seen)) ? s : any_seat(p);
 }
 
 /* The one that stands there waits no more. The queue is locked. */
@@ -329,12 +344,13 @@ static void take_out(struct ww_pool *p, struct ww_seeker **at)
 COLD static void serve(struct ww_pool *p, uint64_t id, ww_seat *s)
 {
 	struct ww_seeker *first;
+	uint64_t seen = 0;
 
 	if (p->gone)
 		return;
 	pthread_mutex_lock(&p->queue);
 	first = __atomic_load_n(&p->id, __ATOMIC_RELAXED) == id ? p->first : NULL;
-	if (first && claim(s)) {
+	if (first && claim(s, &seen)) {
 		take_out(p, &p->first);
 		first->seat = s;
 		__atomic_store_n(&first->served, 1, __ATOMIC_RELEASE);
@@ -366,7 +382,7 @@ void ww_give_seat(ww_seat *s)
 		give_kept(id, s);
 		return;
 	}
-	__atomic_store_n(&s->busy, IDLE, __ATOMIC_SEQ_CST);
+	__atomic_store_n(&s->busy, __atomic_load_n(&s->busy, __ATOMIC_RELAXED) + GIVEN_ONCE - BUSY, __ATOMIC_SEQ_CST);
 	if (UNLIKELY(has_seekers(p)))
 		serve(p, id, s);
 }
@@ -639,7 +655,7 @@ static bool is_idle(const struct ww_pool *p)
 	bool idle = !has_seekers(p);
 
 	for (uint32_t k = 0; k < seats_of(p) && idle; k++)
-		idle = !__atomic_load_n(&p->world->seats[k].busy, __ATOMIC_ACQUIRE);
+		idle = __atomic_load_n(&p->world->seats[k].busy, __ATOMIC_ACQUIRE) % GIVEN_ONCE == IDLE;
 	return idle;
 }
 

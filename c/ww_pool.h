@@ -72,6 +72,7 @@ struct ww_pool {
 
 /* What `busy` of a seat is: see ww_pool.c; and who keeps one that is loose, or whose keeper ended. */
 enum { IDLE, BUSY, ORPHAN };
+#define GIVEN_ONCE 4u /* that much more each time that a loose one is given */
 #define NO_THREAD UINT64_MAX
 
 /* What a thread has of its own. */

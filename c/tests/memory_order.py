@@ -319,8 +319,8 @@ TABLE = {
     # whoever frees the class. A loose one is given before its giver looks for seekers.
     "busy": {
         "seat_at_hand": "load acq, store rlx", "give_seat": "store rel", "give_kept": "exchange ar",
-        "let_go": "exchange ar, store rlx", "keep": "store rlx", "claim": "load sc, exchange sc", "ww_give_seat": "store sc",
-        "is_idle": "load acq",
+        "let_go": "exchange ar, store rlx", "keep": "store rlx", "claim": "load sc, compare_exchange sc/sc",
+        "ww_give_seat": "store sc, load rlx", "is_idle": "load acq",
     },
     # To all threads but the one that it names, or named, it is the same. Who may be the next keeper is a glance before the lock.
     "keeper": {"give_seat": "load rlx", "let_go": "store rlx", "keep": "store rlx"},

@@ -503,6 +503,7 @@ const struct il_program il_programs[] = {
 	{ "contexts-soon-first", { "()", "[)", "()" }, CONTEXTS(1), 2 },
 	{ "contexts-at-once", { "()", "{)", "{)" }, CONTEXTS(2), 2 },
 	{ "contexts-alone", { "()", "nb+B" }, CONTEXTS(1), 3 },
+	{ "seat-tried", { "(na)(A)", "?.nb+B" }, CONTEXTS(3), 3 },
 	{ "contexts-alone-3", { "()()", "nb+B", "()" }, CONTEXTS(2), 2 },
 	{ "contexts-alone-soon", { "()", "tnb+B", "()" }, CONTEXTS(1), 2 },
 	{ "contexts-soon-again", { "()", "()", "[)()" }, CONTEXTS(1), 2 },
