@@ -5,7 +5,7 @@
 const FEWEST: u32 = 8;
 
 /// At most so many doublings of that.
-const MOST_JAMS: u32 = 11;
+const MOST_JAMS: u32 = 12;
 
 /// So few contexts that met others make no jam.
 const FEW: u32 = 3;

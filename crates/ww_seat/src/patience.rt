@@ -4,7 +4,7 @@ use crate::bell::{Bell, Parker};
 use crate::pacing::Pace;
 use crate::resting::{Memory, Rest, Stay};
 use crate::seats::Seat;
-use crate::staying_away::rest_for;
+use crate::staying_away::pause_for;
 use std::sync::Wait;
 use ww_word::wide::Owner;
 
@@ -69,12 +69,13 @@ impl Patience {
         }
     }
 
-    /// Rests before a context, where the last ones met others.
+    /// Rests before a context, where the last ones met others. It lets nobody else run for that: on busy processors each
+    /// time may cost a time slice.
     #[cold]
     fn rest(&mut self)
         ensures { SleepsNot self.old self.new }
     {
-        rest_for(self.pace.rest());
+        pause_for(self.pace.rest());
     }
 
     /// A first try has lost.

@@ -13,15 +13,6 @@ pub(crate) fn pause_for(pauses: u32) {
     }
 }
 
-/// Rests, and lets other threads run meanwhile.
-pub(crate) fn rest_for(pauses: u32) {
-    for _ in 0..pauses / BREATH {
-        pause_for(BREATH);
-        thread::yield_now();
-    }
-    pause_for(pauses % BREATH);
-}
-
 impl Seat {
     ghost use Rattle.ww_seat.specs.Bells.{SleepsNot};
     ghost use Rattle.ww_seat.specs.Standings.{view_in, IsAt, MayWait, HasStayedAway, MayGlanceOn};
