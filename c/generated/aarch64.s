@@ -1,7 +1,7 @@
 /*
  * The proved library for C on aarch64, as the kit's compiler (LLVM) makes it.  Written by ./build c --assembly.
  *
- * sources: cb08a0a7c64887385e53084e3301fa1dcfc5590ade52a7bfa8cf83dc3408ce8e
+ * sources: d27bf38b09d3cddcd3fed03daaaffe56ebcb9a6ed5ddf3b9851a0b8a905ce385
  * kit:     rattle-kit-13f logic dac8208d650f15bf
  * proof:   logic=proved functions=58 axioms=3 target=aarch64-unknown-linux-gnu sum=dac8208d650f15bf
  */
