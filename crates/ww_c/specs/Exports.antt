@@ -57,7 +57,7 @@ abbrev pub IsCloseCall : Option Situation → ℤ → Option Situation → Type 
 IsCloseCall None code after = (code ≡ pos 0) × (after ≡ None)
 IsCloseCall (Some s) code after = (HasNothing s × (code ≡ pos 0) × (after ≡ None)) ⊎ ((¬ HasNothing s) × (code ≡ negsuc 15) × (after ≡ Some s))
 
--- 1 to 65,536 locks and 1 to 4,095 seats, each of which may begin fewer than 2 ^ 52 contexts, of one of two kinds
+-- 1 to 2^24 locks and 1 to 4,095 seats, each of which may begin fewer than 2 ^ 52 contexts, of one of two kinds
 pub record IsWorld (kind locks left seats : ℕ) : Type 0 where
   pub kinds : kind ≤ 1
   pub sizes : IsWorldSize locks seats left

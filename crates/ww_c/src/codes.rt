@@ -1,3 +1,5 @@
+//! The numbers by which C knows an answer, how long it rests after one, and how a lock call waits.
+
 ghost use Rattle.std.specs.Prelude.{◌≡◌};
 ghost use Rattle.ww_c.specs.Codes.{code_of, pauses_of, waits_of};
 

@@ -116,6 +116,9 @@ pub extern "C" fn ww_lock_(seat: &mut Handle, lock: u32, heeds: bool) -> i32
     ensures { IsCall (λ s a t. IsLockAnswer s lock (waits_of heeds) a t) seat.old.slot.desk result seat.new.slot.desk }
 {
     if lock >= seat.below {
+        if seat.standing == BARE {
+            return lock_bare(seat, lock, heeds);
+        }
         return lock_alone(seat, lock, heeds);
     }
     match seat.slot.lend().lock_plainly(lock, waits(heeds)) {
@@ -143,6 +146,30 @@ fn lock_alone(seat: &mut Handle, lock: u32, heeds: bool) -> i32
     match desk.lock_plainly(lock, waits(heeds)) {
         Answer::Done => {
             seat.standing = ALONE;
+            0
+        }
+        answer => {
+            seat.standing = FULL;
+            code(answer)
+        }
+    }
+}
+
+/// The same by a context that has released all that it held.
+#[inline(always)]
+fn lock_bare(seat: &mut Handle, lock: u32, heeds: bool) -> i32
+    requires { seat.old.standing ≡ 4 }
+    ensures { IsCall (λ s a t. IsLockAnswer s lock (waits_of heeds) a t) seat.old.slot.desk result seat.new.slot.desk }
+{
+    let desk = seat.slot.lend();
+    let locks = desk.locks();
+    if lock >= locks {
+        return lock_anyhow(seat, lock, heeds);
+    }
+    match desk.lock_bare(lock, waits(heeds)) {
+        Answer::Done => {
+            seat.below = locks;
+            seat.standing = PLAIN;
             0
         }
         answer => {

@@ -1,3 +1,5 @@
+//! A world is opened for C: all memory is had first, and then the desks go into the caller's handles.
+
 ghost use Rattle.std.specs.Prelude.{◌≡◌, length, map, Some, IfOk};
 ghost use Rattle.ww_c.specs.Exports.{desks_in, desks_of, IsOpenCall};
 

@@ -13,9 +13,8 @@ use Rattle.ww_seat.specs.declared.look.Arrival.TheVariants.{Came}
 use Rattle.ww_seat.specs.declared.resting.Memory.{Memory}
 use Rattle.ww_seat.specs.declared.resting.Stay.{Stay}
 use Rattle.ww_seat.specs.declared.look.Arrival.{Arrival}
-use Rattle.ww_seat.specs.Work.{AreWoken, HasBooked, HasToWake, IsMarked, IsWorking, StillHasToWake, debts_with}
-use Rattle.ww_seat.proofs.Debts.{more_cancelled, more_owed, times_booked}
-use Rattle.ww_seat.proofs.Without.{another}
+use Rattle.ww_seat.specs.Work.{AreWoken, HasBooked, IsMarked, IsWorking, StillHasToWake, debts_with}
+use Rattle.ww_seat.proofs.Debts.{has_wakes, wakes_has, more_cancelled, more_owed, times_booked}
 use Rattle.ww_seat.specs.declared.waits.Waits.{Waits}
 use Rattle.ww_desk.specs.declared.turn.Answer.{Answer}
 use Rattle.ww_desk.specs.declared.turn.Turn.TheVariants.{Stays, Wants, Looks}
@@ -133,38 +132,8 @@ balances_heir s s' (Some w) is caller cancelled debts marks = marks_balances s s
 
 -- ---- whom it condemned inside a guard
 
-one_has : (x : ℕ) (us : List ℕ) → is_one_of x us ≡ true → Has us x
-one_has x [] is = true≢false (sym is)
-one_has x (u ∷ us) is = elim (true_or_false (eqb u x)) [
-  | inl this ↦ inl (sym (same_from_eqb u x this))
-  | inr other ↦ inr (one_has x us (sym (ap (λ (b : Bool). cond b true (is_one_of x us)) other) ∙ is))
-]
-
-has_one : (x : ℕ) (us : List ℕ) → Has us x → is_one_of x us ≡ true
-has_one x [] has = absurd has
-has_one x (u ∷ us) has = elim (true_or_false (eqb u x)) [
-  | inl this ↦ ap (λ (b : Bool). cond b true (is_one_of x us)) this
-  | inr other ↦ ap (λ (b : Bool). cond b true (is_one_of x us)) other
-      ∙ ⊎_elim (λ e. absurd (another u x other e)) (λ later. has_one x us later) has
-]
-
 abbrev wakes : View → ℕ → Bool
 wakes v u = cond (eqb u v.who) false (is_one_of u v.condemned)
-
-has_wakes : (v : View) (u : ℕ) → HasToWake v u → wakes v u ≡ true
-has_wakes v u has = elim (true_or_false (eqb u v.who)) [
-  | inl own ↦ absurd (has.1 (same_from_eqb u v.who own))
-  | inr other ↦ ap (λ (b : Bool). cond b false (is_one_of u v.condemned)) other ∙ has_one u v.condemned has.0
-]
-
-wakes_has : (v : View) (u : ℕ) → wakes v u ≡ true → HasToWake v u
-wakes_has v u is = elim (true_or_false (eqb u v.who)) [
-  | inl own ↦ absurd (true≢false (sym is ∙ ap (λ (b : Bool). cond b false (is_one_of u v.condemned)) own))
-  | inr other ↦ (
-    one_has u v.condemned (sym (ap (λ (b : Bool). cond b false (is_one_of u v.condemned)) other) ∙ is),
-    λ e. true≢false (sym (ap (λ (w : ℕ). eqb w v.who) e ∙ eqb_same v.who) ∙ other),
-  )
-]
 
 -- those that have to be woken now and hadn't before
 abbrev newly : Bool → Bool → Bool

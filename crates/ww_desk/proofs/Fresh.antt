@@ -47,6 +47,7 @@ first_keeps b k q h f = let me = ap (λ (s : Standing). s.me) f.seat ∙ f.new.m
   world = record {
     bare = rw f.board (ap length f.table.bare);
     locks_are = rw f.board (sym f.table.locks_are);
+    packed = rw f.board (omega (arith, f.table.locks_are, f.table.packed));
     most = rw f.board (omega (arith, f.table.locks_are, f.table.few_locks));
     seats_are = rw (f.board, f.table.places_are) ((is_size h.seats f.table.few_seats).1);
     few = λ low. rw (f.board, f.table.places_are) (places_few h.seats low);

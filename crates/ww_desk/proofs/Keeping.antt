@@ -32,7 +32,7 @@ use Rattle.ww_desk.specs.Stations.{IsWhere, OwnsJust, Keeps}
 use Rattle.ww_desk.proofs.Locks.{at_turn, few_owned, one_less, rest_of}
 
 -- it counts no more than there are, wherever its call stands
-pub few_counted : (h : Station) (turn : Turn) → Keeps (record h { turn = turn }) → h.count ≤ 65536
+pub few_counted : (h : Station) (turn : Turn) → Keeps (record h { turn = turn }) → h.count ≤ 16777216
 few_counted h turn k = let few = few_owned h.count _ _ _ k.owns in omega (arith, few, k.world.most)
 
 -- ---- what it owns

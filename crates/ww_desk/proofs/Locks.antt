@@ -130,6 +130,7 @@ pub may_take : (d : Station) (b : Board) (n : ℕ) → Keeps d → IsPlain (situ
 may_take d b n k plain there is = rw is (record {
   bare = omega (arith, k.world.bare);
   there = omega (arith, there, k.world.locks_are);
+  packed = k.world.packed;
   may = record {
     away = at_turn d Rests k (rest_of d.turn plain.rests);
     base = wants_base d k plain.wants;
@@ -142,6 +143,7 @@ pub may_try : (d : Station) (b : Board) (n : ℕ) → Keeps d → wants_now (sit
 may_try d b n k wants there is = let may = both_true (is_at_rest d.turn) (can_want (situation_of d)) wants in rw is (record {
   bare = omega (arith, k.world.bare);
   there = omega (arith, there, k.world.locks_are);
+  packed = k.world.packed;
   away = at_turn d Rests k (rest_of d.turn may.0);
   base = wants_base d k may.1;
   any = holds_told (view_in d.seat) d.count _ k.owns;

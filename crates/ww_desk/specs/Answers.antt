@@ -94,6 +94,17 @@ pub record Balances (first s : Situation) : Type 0 where
 abbrev pub BooksWakes : Situation → Situation → Type 0
 BooksWakes s s' = (first : Situation) → Balances first s → Balances first s'
 
+-- ---- when it has to sleep
+
+-- how often it left a guard as a waiter, after a step that answers this: once more if it is told to sleep
+abbrev pub naps_then : Answer → ℕ → ℕ
+naps_then Sleeps naps = naps + 1
+naps_then _ naps = naps
+
+-- it left a guard as a waiter once, if it is told to sleep, and else not
+abbrev pub CountsNaps : Situation → Answer → Situation → Type 0
+CountsNaps s a s' = s'.view.naps ≡ naps_then a s.view.naps
+
 -- ---- where a call may go on
 
 -- there is a lock of this number

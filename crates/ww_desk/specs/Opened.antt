@@ -1,5 +1,5 @@
 -- What opening a world gives.
-use Rattle.std.specs.Prelude.{ℕ, ◌≡◌, ◌<◌, ◌≤◌, ◌+◌, ◌/◌, ◌^◌, ◌⊎◌, [], List, false, replicate, length, slice_index_or, None}
+use Rattle.std.specs.Prelude.{ℕ, max, ◌≡◌, ◌<◌, ◌≤◌, ◌+◌, ◌/◌, ◌^◌, ◌⊎◌, [], List, false, replicate, length, slice_index_or, None}
 use Rattle.atomic_table.specs.Seated.{TableId}
 use Rattle.ww_word.specs.declared.wide.TheConstants.{MANY_SEATS}
 use Rattle.ww_queue.specs.declared.kind.Kind.{Kind}
@@ -53,18 +53,25 @@ pub record IsWorldSize (locks seats left : ℕ) : Type 0 where
   pub seats_are : IsCount seats MANY_SEATS
   pub few_contexts : left < 2 ^ 52
 
--- a table of so many locks, none of which guards a node, and of so many seats
+-- a table of so many locks, none of which guards a node, and of which it packs the words, and of so many seats
 pub record IsBareTable (b : Board) (locks seats : ℕ) : Type 0 where
   pub bare : first_graph b.table.shared.key ≡ []
   pub locks_are : b.table.shared.key.locks ≡ locks
-  pub few_locks : locks ≤ 65536
+  pub packed : 64 < locks
+  pub few_locks : locks ≤ 16777216
   pub places_are : b.table.shared.key.places ≡ places_for seats
   pub few_seats : seats < 4096
+
+-- how many locks a world has that is to have so many: more than 64, so that its table packs their words
+abbrev pub locks_for : ℕ → ℕ
+locks_for locks = max locks 65
 
 pub record IsOpened (kind : Kind) (locks seats left : ℕ) (all : List Situation) : Type 0 where
   pub sizes : IsWorldSize locks seats left
   pub home : TableId
-  pub fresh : AreFresh all home locks seats kind left seats
+  pub size : ℕ
+  pub size_is : size ≡ locks_for locks
+  pub fresh : AreFresh all home size seats kind left seats
 
 -- which number is out of range, the first one; or none is
 abbrev pub IsOpenFault : ℕ → ℕ → ℕ → OpenFault → Type 0

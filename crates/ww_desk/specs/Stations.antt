@@ -57,11 +57,13 @@ pub record OwnsJust (count locks : ℕ) (held : List ℕ) (owned : List Bool) : 
   pub same : (n : ℕ) → slice_index_or owned n false ≡ is_among n held
   pub room : length owned ≡ locks
 
--- a world of so many locks, none of which guards a node, and so many seats, for which there are so many words of marks
+-- a world of so many locks, none of which guards a node, at a table that packs their words, and so many seats, for which
+-- there are so many words of marks
 pub record IsWorld (b : Board) (locks seats words : ℕ) : Type 0 where
   pub bare : size_of b ≡ 0
   pub locks_are : locks ≡ locks_of b
-  pub most : locks_of b ≤ 65536
+  pub packed : 64 < locks_of b
+  pub most : locks_of b ≤ 16777216
   pub seats_are : seats ≤ b.table.shared.key.places
   pub few : seats ≤ 16 → b.table.shared.key.places ≡ 16
   pub many : b.table.shared.key.places < 4096

@@ -1,3 +1,5 @@
+//! A desk, and what can be asked of it between two calls.
+
 use crate::station::Station;
 use std::marker::Model;
 

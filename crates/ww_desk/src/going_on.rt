@@ -16,13 +16,14 @@ use ww_queue::wide::Entry;
 use ww_seat::{Arrival, Attempt, Look, Stay, Waits, mark};
 
 impl Desk {
-    ghost use Rattle.ww_desk.specs.Answers.{BooksWakes, IsNextAnswer, IsStayAnswer, IsGiveAnswer, IsCancelAnswer, IsWakeAnswer};
+    ghost use Rattle.ww_desk.specs.Answers.{BooksWakes, CountsNaps, IsNextAnswer, IsStayAnswer, IsGiveAnswer, IsCancelAnswer, IsWakeAnswer};
 
     /// The next step of the call that is on its way. `Invalid` where none is.
     #[tactic(auto, using(crate::proofs::Account::entered_keeps, crate::proofs::Account::give_balances, crate::proofs::Account::step_books))]
     pub fn go_on(&mut self) -> Answer
         ensures answer { IsNextAnswer self.old.turn self.old result self.new }
         ensures books { BooksWakes self.old self.new }
+        ensures naps { CountsNaps self.old result self.new }
     {
         match self.station.turn {
             Turn::Rests => Answer::Invalid,
@@ -59,6 +60,7 @@ impl Desk {
         requires turn { self.old.turn ≡ Gives lock }
         ensures answer { IsGiveAnswer self.old lock result self.new }
         ensures debts { result ≡ Done → self.new.view.debts ≡ with_heir self.new.view.heir self.old.view.debts }
+        ensures naps { CountsNaps self.old result self.new }
     {
         if !self.station.seat.enter_owned(&self.station.board, lock) {
             return Answer::Awaits;
@@ -108,7 +110,7 @@ impl Desk {
 
 impl Station {
     ghost use Rattle.ww_desk.specs.Stations.{situation_of, Keeps};
-    ghost use Rattle.ww_desk.specs.Answers.{IsWaitAnswer};
+    ghost use Rattle.ww_desk.specs.Answers.{CountsNaps, IsWaitAnswer};
 
     /// One look at a lock, inside its guard, of a call that is about to look there.
     fn look(&mut self, lock: u32, arrival: Arrival, waits: Waits) -> Answer
@@ -116,6 +118,7 @@ impl Station {
         ensures keeps { Keeps self.new }
         ensures answer { IsWaitAnswer (situation_of self.old) lock waits result (situation_of self.new) }
         ensures still { StillHasToWake (view_in self.old.seat) (view_in self.new.seat) }
+        ensures naps { CountsNaps (situation_of self.old) result (situation_of self.new) }
     {
         let mut arrival = arrival;
         let attempt = self.seat.look_once(

@@ -1,7 +1,9 @@
+//! A world of locks is opened, and its desks are handed out.
+
 ghost use Rattle.std.specs.Prelude.{◌≡◌, ◌≤◌, ◌<◌, ◌+◌, ◌^◌, [], length, IfOk, IfErr, vec_len, vec_capacity};
 ghost use Rattle.std.specs.Arc.{arc_value};
 ghost use Rattle.ww_table.specs.Made.{AreNew};
-ghost use Rattle.ww_desk.specs.Opened.{AreFresh, IsBareTable, IsOpened, IsOpenFault, IsWorldSize};
+ghost use Rattle.ww_desk.specs.Opened.{locks_for, AreFresh, IsBareTable, IsOpened, IsOpenFault, IsWorldSize};
 
 use crate::desk::Desk;
 use crate::station::Station;
@@ -14,7 +16,7 @@ use ww_table::{Board, Seat16};
 use ww_word::wide::MANY_SEATS;
 
 /// How many locks a world has at most.
-pub const MAX_LOCKS: u32 = 65_536;
+pub const MAX_LOCKS: u32 = 16_777_216;
 
 /// How many contexts a desk may begin. Those of sixteen fit into the stamps that there are.
 pub const MAX_CONTEXTS: u64 = (1 << 52) - 1;
@@ -32,9 +34,10 @@ pub enum OpenFault {
     NoMemory,
 }
 
-/// Opens a world of so many locks, from 1 to `MAX_LOCKS`, and gives its desks, from 1 to `MANY_SEATS`, each of which may
-/// begin so many contexts. The first of these numbers that is out of range is told. It takes time and memory by the
-/// number of locks and that of seats; calls of desks take none. The world goes with the last of its desks.
+/// Opens a world of so many locks, from 1 to `MAX_LOCKS`, or of 65 if these are fewer, and gives its desks, from 1 to
+/// `MANY_SEATS`, each of which may begin so many contexts. The first of these numbers that is out of range is told. It
+/// takes time and memory by the number of locks and that of seats; calls of desks take none. The world goes with the last
+/// of its desks.
 pub fn open(
     alloc: Global,
     kind: Kind,
@@ -60,6 +63,13 @@ pub fn open(
     }
 }
 
+/// How many locks the world has: so many that the table packs their words.
+fn packed_locks(locks: u32) -> u32
+    ensures { result ≡ locks_for locks }
+{
+    if locks < 65 { 65 } else { locks }
+}
+
 /// Makes the table, none of whose locks guards a node, and a desk for each of its seats.
 fn lay(
     alloc: Global,
@@ -72,6 +82,7 @@ fn lay(
     ensures { IfOk result (λ all. IsOpened kind locks seats left all.items) }
 {
     let room = Vec::with_capacity(alloc, usize::from(seats))?;
+    let locks = packed_locks(locks);
     let (board, made) = Board::make_bare(alloc, kind, locks, seats)?;
     let board = Arc::new(alloc, board)?;
     fresh(&board, made, locks, seats, left, room)

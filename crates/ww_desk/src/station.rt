@@ -1,3 +1,5 @@
+//! What a desk keeps between two calls: its seat, its counts, and where its call stands.
+
 ghost use Rattle.std.specs.Prelude.{◌≡◌, ◌<◌, ◌≤◌, ◌+◌, true, false, None};
 
 use crate::turn::Turn;
@@ -58,7 +60,7 @@ impl Station {
     /// One lock more is held, and none is to be backed off from.
     #[inline(always)]
     pub(crate) fn add(&mut self)
-        requires few { self.old.count ≤ 65536 }
+        requires few { self.old.count ≤ 16777216 }
         ensures { self.new ≡ record self.old { count = self.old.count + 1; told = None } }
     {
         self.count += 1;

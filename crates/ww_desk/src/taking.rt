@@ -5,9 +5,9 @@ use ww_seat::{Stay, Waits};
 use ww_table::{Taking, Tried};
 
 impl Desk {
-    ghost use Rattle.std.specs.Prelude.{◌≡◌, ◌<◌, true};
+    ghost use Rattle.std.specs.Prelude.{◌≡◌, ◌<◌, not, true};
     ghost use Rattle.ww_table.specs.Seat.{taking_of};
-    ghost use Rattle.ww_desk.specs.Situations.{is_at_rest, wants_now, IsPlain};
+    ghost use Rattle.ww_desk.specs.Situations.{is_at_rest, is_empty, wants_now, IsBare, IsPlain};
     ghost use Rattle.ww_desk.specs.Answers.{answer_of, CanNotTry, IsRefusal, IsTryAnswer, IsLockAnswer, IsSlowAnswer, HasJustLost, HasTriedAsIs, HasTurnedAway};
 
     /// Why it doesn't try to take this lock. Whether it holds it the lock's word tells.
@@ -27,17 +27,20 @@ impl Desk {
         Refusal::Invalid
     }
 
-    /// One try to take a lock, while it may want one. Whether it holds it the lock's word tells.
+    /// One try to take a lock, while it may want one, by a desk that holds others or none. Whether it holds this one the
+    /// lock's word tells.
+    #[inline(always)]
     #[tactic(auto, using(crate::proofs::Locks::may_try, crate::proofs::Keeping::few_counted, crate::proofs::Keeping::took_at_once))]
-    fn try_once(&mut self, lock: u32) -> Taking
+    fn try_once(&mut self, lock: u32, holds: bool) -> Taking
         requires wants { wants_now self.old ≡ true }
         requires there { lock < self.old.size }
+        requires holds { holds ≡ not (is_empty self.old.held) }
         ensures { HasTriedAsIs self.old lock result self.new }
     {
         match self
             .station
             .seat
-            .try_take_bare(&self.station.board, lock, self.station.count != 0)
+            .try_take_bare(&self.station.board, lock, holds)
         {
             Taking::Took => {
                 self.station.add();
@@ -71,7 +74,7 @@ impl Desk {
         if !self.wants() || !self.station.is_lock(lock) {
             return self.refuses(lock).answer();
         }
-        match self.try_once(lock) {
+        match self.try_once(lock, !self.holds_none()) {
             Taking::Took => Answer::Done,
             Taking::Had => Answer::Already,
             Taking::Missed => Answer::Busy,
@@ -94,7 +97,18 @@ impl Desk {
         if !self.wants() || !self.station.is_lock(lock) {
             return self.refuses(lock).answer();
         }
-        match self.try_once(lock) {
+        self.lock_wanted(lock, !self.holds_none(), waits)
+    }
+
+    /// The same while it may want a lock, by a desk that holds others or none.
+    #[inline(always)]
+    fn lock_wanted(&mut self, lock: u32, holds: bool, waits: Waits) -> Answer
+        requires wants { wants_now self.old ≡ true }
+        requires there { lock < self.old.size }
+        requires holds { holds ≡ not (is_empty self.old.held) }
+        ensures { IsLockAnswer self.old lock waits result self.new }
+    {
+        match self.try_once(lock, holds) {
             Taking::Took => {
                 self.station.memory.win();
                 Answer::Done
@@ -105,6 +119,16 @@ impl Desk {
                 Answer::Again
             }
         }
+    }
+
+    /// Takes a lock, or begins to wait for it, by a context that has released all that it held.
+    #[inline(always)]
+    pub fn lock_bare(&mut self, lock: u32, waits: Waits) -> Answer
+        requires bare { IsBare self.old }
+        requires there { lock < self.old.size }
+        ensures { IsLockAnswer self.old lock waits result self.new }
+    {
+        self.lock_wanted(lock, false, waits)
     }
 
     /// Takes a lock, or begins to wait for it, where it may want one.

@@ -1,3 +1,5 @@
+//! The faults of an input, and the line that tells each.
+
 ghost use Rattle.std.specs.Prelude.{◌≡◌, ◌≤◌};
 ghost use Rattle.ww_json.specs.Fault.{refusal_text};
 ghost use Rattle.ww_json.specs.declared.fault.InputFault.TheVariants.{NoMemory};

@@ -1,3 +1,5 @@
+//! How an input writes the kind of its locks.
+
 ghost use Rattle.serde_json.specs.View.{view};
 ghost use Rattle.ww_json.specs.Parts.{Says};
 ghost use Rattle.ww_json.specs.Kinds.{kind_in};

@@ -17,6 +17,7 @@ pub fn keeps_lawful()
 
 /// Wait-Die: that a seat with a sign owns a lock whose guard it isn't inside of is kept by each possible event of a
 /// lawful state.
+#[tactic(auto, using(ww_model::proofs::Outside::keeps_outside))]
 pub fn outside_is_kept()
     ensures { OutsideIsKept }
 {}
@@ -28,31 +29,37 @@ pub fn others_are_left_alone()
 {}
 
 /// The sign of another seat changes only from 0, and by Sign.
+#[tactic(auto, using(ww_model::proofs::Stays::others_are_signed_once))]
 pub fn others_are_signed_once()
     ensures { OthersAreSignedOnce }
 {}
 
 /// The cancel of another seat changes only where none is pending, and by Cancel.
+#[tactic(auto, using(ww_model::proofs::Stays::others_are_cancelled_once))]
 pub fn others_are_cancelled_once()
     ensures { OthersAreCancelledOnce }
 {}
 
 /// An owner that has taken a lock leaves it only by its own FastGive or Give there.
+#[tactic(auto, using(ww_model::proofs::Leaving::taken_leaves_by_giving))]
 pub fn taken_leaves_by_giving()
     ensures { TakenLeavesByGiving }
 {}
 
 /// A lock that was handed to a seat leaves it only by its own Take there.
+#[tactic(auto, using(ww_model::proofs::Leaving::handed_leaves_by_taking))]
 pub fn handed_leaves_by_taking()
     ensures { HandedLeavesByTaking }
 {}
 
 /// Only the first waiter of a lock can ask that it be handed over.
+#[tactic(auto, using(ww_model::proofs::Leaving::only_the_first_asks))]
 pub fn only_the_first_asks()
     ensures { OnlyTheFirstAsks }
 {}
 
 /// A lock that is handed over goes to the first waiter of that moment.
+#[tactic(auto, using(ww_model::proofs::Leaving::handed_to_the_first))]
 pub fn handed_to_the_first()
     ensures { HandedToTheFirst }
 {}

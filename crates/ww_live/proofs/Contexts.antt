@@ -13,16 +13,14 @@ use Rattle.ww_model.specs.declared.event.Event.TheVariants.{Fast, FastGive, Take
 use Rattle.ww_model.specs.State.{State, OwnsNone, dies}
 use Rattle.ww_model.specs.Event.{after, given_to}
 use Rattle.ww_model.specs.Run.{Reached}
-use Rattle.ww_model.specs.Oldest.{IsOldest}
 use Rattle.ww_model.proofs.Puts.{put_here, put_was}
 use Rattle.ww_model.proofs.Holders.{not_given}
 use Rattle.ww_model.proofs.Options.{some_of}
 use Rattle.ww_model.proofs.Dues.{dies_why}
 use Rattle.ww_model.proofs.Beyond.{stamps_beyond}
-use Rattle.ww_laws.proofs.Oldest.{oldest_lives}
 use Rattle.ww_wakes.specs.Scene.{Scene, Step, performs, leaves_to_sleep, finds_no_sign, finds_no_cancel, wakes, falls_asleep, rises, next}
 use Rattle.ww_wakes.specs.Theorem.{IsEndlessRun}
-use Rattle.ww_live.specs.Premises.{WaitersGoOn, HoldersRelease, WaitsForEver, FirstsAsk, BacksOff, TakesContendedFirst, ContextsEndOrDie}
+use Rattle.ww_live.specs.Premises.{WaitersGoOn, HoldersRelease, WaitsForEver, RestsOn, IsOldestActive, IsOver, FirstsAsk, BacksOff, TakesContendedFirst, ContextsEndOrDie}
 use Rattle.ww_live.specs.Theorem.{EndsWait, ContextsAreServed, OldestWaitDieIsServed}
 use Rattle.ww_live.proofs.Steps.{taken_next}
 use Rattle.ww_live.proofs.Runs.{holds_at, Ended, ended_from, until_at, orderly_at, lawful_at, kind_at, made_next, known_next, may_be}
@@ -31,6 +29,7 @@ use Rattle.ww_live.proofs.Climbs.{owner_holds}
 use Rattle.ww_live.proofs.Dues.{handed_takes}
 use Rattle.ww_live.proofs.Progress.{seats_at, few}
 use Rattle.ww_live.proofs.Livelock.{after_death, joined_between}
+use Rattle.ww_live.proofs.Rests.{lives, rests_on, rests_stands_not, is_up}
 use Rattle.ww_live.proofs.Served.{same_context, drawn_on, never_ends, Locked, wait_ends}
 use Rattle.ww_live.proofs.Oldest.{oldest_on}
 
@@ -49,7 +48,7 @@ gained_after c (Give t m) s n not has = ⊎_elim (λ a. absurd (not_given (c.ask
     (put_was c.owner m (given_to (c.asked m) (c.queue m)) n (λ o. o ≡ Taken s) has)
 gained_after c _ s n not has = absurd (not has)
 
-gained_next : (w : Scene) (x : Step) (s n : ℕ) → w.core.owner n ≢ Taken s → (next w x).core.owner n ≡ Taken s →
+pub gained_next : (w : Scene) (x : Step) (s n : ℕ) → w.core.owner n ≢ Taken s → (next w x).core.owner n ≡ Taken s →
     (x ≡ performs (Fast s n)) ⊎ (x ≡ performs (Take s n))
 gained_next w (performs v) s n not has =
     ⊎_elim (λ is. inl (ap performs is)) (λ is. inr (ap performs is)) (gained_after w.core v s n not has)
@@ -133,7 +132,7 @@ module _ (scene : ℕ → Scene) (step : ℕ → Step) (run : IsEndlessRun scene
         (λ k a b none n has. gains k n (omega arith) (omega arith) (gained_next (scene k) (step k) u n (none n)
         (subst (λ (v : Scene). v.core.owner n ≡ Taken u) (run.goes_on k) has)))) own.0 (own.1 ∙ ap Taken d.seat)
 
-  -- ---- older contexts wait for ever, or are there no more
+  -- ---- older contexts wait for ever, rest, or are there no more
 
   -- the seat waits for ever, and another keeps the lock
   record IsFixed (t k : ℕ) : Type 0 where
@@ -155,9 +154,13 @@ module _ (scene : ℕ → Scene) (step : ℕ → Step) (run : IsEndlessRun scene
   fixed_there t k n h f = let g = f.stands k (omega arith) in
       (lawful_at scene step run k).base.queues.one_queue f.lock n g.0 h.0 g.1 h.1 (g.2 ∙ sym h.2)
 
-  -- each context with a stamp below this one is fixed
+  -- it is fixed, or rests
+  abbrev IsSettled : ℕ → ℕ → Type 0
+  IsSettled t k = IsFixed t k ⊎ RestsOn scene step t k
+
+  -- each context with a stamp below this one is settled
   abbrev Settled : ℕ → ℕ → Type 0
-  Settled b k = (t : ℕ) → 0 < stamp_at k t → stamp_at k t < b → IsFixed t k
+  Settled b k = (t : ℕ) → 0 < stamp_at k t → stamp_at k t < b → IsSettled t k
 
   record SettledFrom (b k : ℕ) : Type 0 where
     at : ℕ
@@ -167,15 +170,16 @@ module _ (scene : ℕ → Scene) (step : ℕ → Step) (run : IsEndlessRun scene
   settled_on : (b k j : ℕ) → k ≤ j → b ≤ (scene k).core.drawn → Settled b k → Settled b j
   settled_on b k j later drawn settled t some less =
       let same = same_context scene step run k j t b later drawn some (omega arith) in
-      fixed_on t k j later (settled t (omega arith) (omega arith))
+      ⊎_elim (λ f. inl (fixed_on t k j later f)) (λ r. inr (rests_on scene step t k j later same r))
+      (settled t (omega arith) (omega arith))
 
-  -- so is the one with this stamp, if its seat is fixed, or has that context no more
+  -- so is the one with this stamp, if its seat is settled, or has that context no more
   settle : (b k j u : ℕ) → k ≤ j → 0 < b → b ≤ (scene k).core.drawn → Settled b k → stamp_at k u ≡ b →
-      (stamp_at j u ≡ b → IsFixed u j) → Settled (suc b) j
+      (stamp_at j u ≡ b → IsSettled u j) → Settled (suc b) j
   settle b k j u later some drawn settled its fix t there less = dite (ℕ_discrete (stamp_at j t) b)
       (λ is. let same = same_context scene step run k j t b later drawn there (omega arith) in
       let who = (lawful_at scene step run k).base.stamps.differ t u (omega arith) (same ∙ is ∙ sym its) in
-      subst (λ s. IsFixed s j) (sym who) (fix (ap (scene j).core.stamp (sym who) ∙ is)))
+      subst (λ s. IsSettled s j) (sym who) (fix (ap (scene j).core.stamp (sym who) ∙ is)))
       (λ isnt. settled_on b k j later drawn settled t there (omega arith))
 
   -- the lock where a waiter waits is locked up, or its wait ends
@@ -184,7 +188,7 @@ module _ (scene : ℕ → Scene) (step : ℕ → Step) (run : IsEndlessRun scene
   locked_for e n k h some settled = wait_ends scene step run go release asks e n k (record {
     here = h;
     context = some;
-    older = λ t there less. let f = settled t there less in (f.lock, f.stands);
+    older = λ t there less. ⊎_elim (λ f. inl (f.lock, f.stands)) inr (settled t there less);
   })
 
   by_ever : (b k u : ℕ) → 0 < b → b ≤ (scene k).core.drawn → Settled b k → stamp_at k u ≡ b →
@@ -197,22 +201,27 @@ module _ (scene : ℕ → Scene) (step : ℕ → Step) (run : IsEndlessRun scene
       (λ l. let later = l.later in record {
         at = l.at;
         from = l.later;
-        settled = settle b k l.at u l.later some drawn settled its (λ _. record {
+        settled = settle b k l.at u l.later some drawn settled its (λ _. inl (record {
           lock = m;
           stands = λ x from. ever.1 x (omega arith);
           owner = l.owner;
           owns = l.owns;
-        });
+        }));
       })
       (locked_for h.0 m k h.1 (omega arith) (subst (λ y. Settled y k) (sym stamp) settled))
 
   settled_from : (b k j : ℕ) → k ≤ j → SettledFrom b j → SettledFrom b k
   settled_from b k j later s = let more = s.from in record { at = s.at; from = omega arith; settled = s.settled }
 
-  -- its context ends, or it waits for ever
+  -- its context ends, or rests, or it waits for ever
   by_end : (b k j u : ℕ) → k ≤ j → 0 < b → b ≤ (scene k).core.drawn → Settled b k → stamp_at k u ≡ b →
-      (step j ≡ performs (End u)) ⊎ WaitsForEver scene step u j → SettledFrom (suc b) k
-  by_end b k j u later some drawn settled its (inl over) = record {
+      IsOver scene step u j ⊎ WaitsForEver scene step u j → SettledFrom (suc b) k
+  by_end b k j u later some drawn settled its (inl (inr rests)) = record {
+    at = j;
+    from = later;
+    settled = settle b k j u later some drawn settled its (λ _. inr rests);
+  }
+  by_end b k j u later some drawn settled its (inl (inl over)) = record {
     at = suc j;
     from = omega arith;
     settled = settle b k (suc j) u (omega arith) some drawn settled its
@@ -236,7 +245,8 @@ module _ (scene : ℕ → Scene) (step : ℕ → Step) (run : IsEndlessRun scene
       let cause = some_of (dies c u x) can.possible.signs in let d = dies_why c u x cause.0 cause.1 in
       let stamp = (l.queues.at x).stamps d.entry d.stands ∙ ap c.stamp d.seat ∙ its in ⊎_elim
       (λ owner. let t = owner.0 in let a = owner.2 in let a' = owner.3 in let a'' = owner.4 in
-      let f = settled t (omega arith) (omega arith) in ⊎_elim
+      ⊎_elim
+      (λ f. ⊎_elim
       (λ own. (t, kept t x f.lock k own f.stands))
       (λ own. let h = (l.owners.at x).handed_stands t own in
       let there = fixed_there t k x h f in absurd (never_ends scene step run h.0 x k
@@ -244,12 +254,17 @@ module _ (scene : ℕ → Scene) (step : ℕ → Step) (run : IsEndlessRun scene
       (subst (λ m. Stands ((scene y).core.queue m) t) there (f.stands y after)))
       (handed_takes scene step run go h.0 x k h.1 (own ∙ ap Handed (sym h.2))).0))
       owner.1)
+      (λ r. ⊎_elim (λ own. absurd ((r k (omega arith) refl).0 x own))
+      (λ own. absurd (rests_stands_not scene step k t x r ((l.owners.at x).handed_stands t own))) owner.1)
+      (settled t (omega arith) (omega arith)))
       (λ ahead. let e = ahead.0 in let there = before_first (c.queue x) e d.entry ahead.1 in
       let older = before_older (c.queue x) e d.entry (l.queues.at x).ascends ahead.1 ahead.2 d.context in
       let mine = (l.queues.at x).stamps e there in let some = ahead.2 in
-      let f = settled e.seat (omega arith) (omega arith) in
-      let at = fixed_there e.seat k x (e, there, refl) f in
+      ⊎_elim
+      (λ f. let at = fixed_there e.seat k x (e, there, refl) f in
       (f.owner, λ y after. subst (λ m. (scene y).core.owner m ≡ Taken f.owner) at (f.owns y after)))
+      (λ r. absurd (rests_stands_not scene step k e.seat x r (e, there, refl)))
+      (settled e.seat (omega arith) (omega arith)))
       (d.older (dying_at k from))
 
   -- it dies
@@ -418,7 +433,7 @@ contexts_are_served scene step run go release ends asks backs tries i s n dying 
 pub oldest_wait_die_is_served : OldestWaitDieIsServed
 oldest_wait_die_is_served scene step run go release ends asks backs tries i s n dying old h =
     let e = h.0 in let l = (lawful_at scene step run i).base in let mine = (l.queues.at n).stamps e h.1 in
-    let old' = subst (IsOldest (scene i).core) (sym h.2) old in let some = old'.context in
+    let old' = subst (λ u. IsOldestActive scene step u i) (sym h.2) old in let some = old'.context in
     let end = context_ends scene step run go release asks backs tries ends i dying e n i (omega arith) h.1
     (omega arith) in
     let j = end.at in let c = (scene j).core in (
@@ -428,8 +443,8 @@ oldest_wait_die_is_served scene step run go release ends asks backs tries i s n 
           (⊎_elim
           (λ die. let can = may_be scene step run j (performs (Die e.seat n)) die in
           let cause = some_of (dies c e.seat n) can.possible.signs in
-          absurd (oldest_lives c (lawful_at scene step run j).base e.seat
-          (oldest_on scene step run go e n i j end.later end.stays old')
+          absurd (lives c (lawful_at scene step run j).base e.seat
+          (is_up scene step e.seat j (oldest_on scene step run go e n i j end.later end.stays old'))
           (kind_at scene step run i j end.later ∙ dying) n cause.0 (dies_why c e.seat n cause.0 cause.1)))
           (λ leaves. inr (leaves ∙ ap (λ u. performs (Leave u n)) h.2)))
           end.ends,

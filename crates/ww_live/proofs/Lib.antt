@@ -10,6 +10,7 @@ pub mod Handoff
 pub mod Plain
 pub mod Witness
 pub mod Ahead
+pub mod Rests
 pub mod Served
 pub mod Oldest
 pub mod Livelock
@@ -17,3 +18,4 @@ pub mod Asked
 pub mod Ending
 pub mod Viewed
 pub mod Contexts
+pub mod Idle

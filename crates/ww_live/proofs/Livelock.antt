@@ -74,7 +74,7 @@ stood_after c (Leave u k) t m h = inl (put_cases c.queue k (left (c.queue k) u) 
     (λ is a. (a.0, subst (λ y. Has (c.queue y) a.0) (sym is) (left_has (c.queue k) u a.0 a.1), a.2)) (λ _ a. a) h)
 stood_after c _ t m h = inl h
 
-stood_next : (w : Scene) (x : Step) (t m : ℕ) → Stands ((next w x).core.queue m) t →
+pub stood_next : (w : Scene) (x : Step) (t m : ℕ) → Stands ((next w x).core.queue m) t →
     Stands (w.core.queue m) t ⊎ (x ≡ performs (Join t m))
 stood_next w (performs v) t m h = ⊎_elim inl (λ is. inr (ap performs is)) (stood_after w.core v t m h)
 stood_next w (leaves_to_sleep s k heeds) t m h = inl h

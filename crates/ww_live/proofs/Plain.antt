@@ -23,7 +23,7 @@ use Rattle.ww_wakes.specs.Scene.{Phase, acting, going_to_sleep, asleep, Scene, S
 use Rattle.ww_wakes.specs.Theorem.{IsEndlessRun}
 use Rattle.ww_wakes.proofs.Woken.{owing_more, debt_else}
 use Rattle.ww_wakes.proofs.Keeping.{reached_is_orderly}
-use Rattle.ww_live.specs.Premises.{WaitersGoOn, HoldersGoOn, HoldersRelease, ContextsEnd, WaitsOwning, FirstsAsk, Wants, BacksOff, TakesContendedFirst, ContextsEndOrDie}
+use Rattle.ww_live.specs.Premises.{WaitersGoOn, HoldersGoOn, HoldersRelease, RestsOn, IsOver, ContextsEnd, WaitsOwning, FirstsAsk, Wants, BacksOff, TakesContendedFirst, ContextsEndOrDie}
 use Rattle.ww_live.proofs.Steps.{entry_after, taken_or_not}
 use Rattle.ww_live.proofs.Runs.{phase_is, number_is}
 use Rattle.ww_live.proofs.Leaves.{stands_or_not, waits_or_not}
@@ -127,11 +127,16 @@ owning_by w r is n h = ⊎_elim (λ own. (0, taken_true 0 (w.core.owner 0) own))
     ((w.core.locks == 2) && (none_waits (w.core.queue 0) && none_waits (w.core.queue 1))) is)
 
 -- nobody dies by it but the second seat, and that wants no lock
+abbrev pub fits_event : Event → Bool
+fits_event (Die s n) = s == 1
+fits_event (Fast s n) = not (s == 1)
+fits_event (Join s n) = not (s == 1)
+fits_event (Take s n) = not (s == 1)
+fits_event _ = true
+
+-- and it is no event of the third seat
 abbrev pub fits : Step → Bool
-fits (performs (Die s n)) = s == 1
-fits (performs (Fast s n)) = not (s == 1)
-fits (performs (Join s n)) = not (s == 1)
-fits (performs (Take s n)) = not (s == 1)
+fits (performs e) = not (actor e == 2) && fits_event e
 fits _ = true
 
 -- ---- what is asked of a run, all together
@@ -154,11 +159,16 @@ asks scene step g i j s n heeds later enters h inside leaves first = absurd (g.u
 wants_none : (scene : ℕ → Scene) (step : ℕ → Step) → Goes scene step → (i j s m n : ℕ) →
     step i ≡ performs (Die s m) → Wants s n (step j) → ⊥
 wants_none scene step g i j s m n dies wants = let fit = g.fit j in
-    let same : s ≡ 1 = same_number s 1 (subst (λ x. fits x ≡ true) dies (g.fit i)) in ⊎_elim
-    (λ is. second s same (subst (λ x. fits x ≡ true) is fit)) (⊎_elim
-    (λ is. second s same (subst (λ x. fits x ≡ true) is fit)) (λ is. second s same (subst (λ x. fits x ≡ true) is fit)))
+    let same : s ≡ 1 = same_number s 1
+    (both_true (not (s == 2)) (s == 1) (subst (λ x. fits x ≡ true) dies (g.fit i))).1 in ⊎_elim
+    (λ is. second s same (both s (subst (λ x. fits x ≡ true) is fit))) (⊎_elim
+    (λ is. second s same (both s (subst (λ x. fits x ≡ true) is fit)))
+    (λ is. second s same (both s (subst (λ x. fits x ≡ true) is fit))))
     wants
   where
+    both : (s : ℕ) → (not (s == 2) && not (s == 1)) ≡ true → not (s == 1) ≡ true
+    both s is = (both_true (not (s == 2)) (not (s == 1)) is).1
+
     second : (s : ℕ) → s ≡ 1 → not (s == 1) ≡ true → ⊥
     second s same is = true≢false (sym is ∙ ap (λ k. not (k == 1)) same)
 
@@ -389,18 +399,23 @@ module _ (w : Scene) (x : Step) (reached : IsReached w) (plain : is_plain w x �
   stamp_next (falls_asleep t) s some = inr some
   stamp_next (rises t) s some = inr some
 
-  ends_later : (i s : ℕ) → 0 < (scene i).core.stamp s → (j : ℕ) × (suc i ≤ j) × ((with_first x step j ≡ performs
-      (End s))
+  rests_first : (s j : ℕ) → RestsOn scene step s j → RestsOn (with_first w scene) (with_first x step) s (suc j)
+  rests_first s j rests zero after = absurd (omega arith)
+  rests_first s j rests (suc k) after = rests k (omega arith)
+
+  ends_later : (i s : ℕ) → 0 < (scene i).core.stamp s → (j : ℕ) × (suc i ≤ j) ×
+      (IsOver (with_first w scene) (with_first x step) s j
       ⊎ (((m : ℕ) × ((k : ℕ) → j ≤ k → Stands ((with_first w scene k).core.queue m) s))
       ⊎ ((m : ℕ) × (with_first x step j ≡ performs (Die s m)))))
   ends_later i s some = let later = g.ends i s some in let a = later.1 in (
     suc later.0,
     omega arith,
-    ⊎_elim inl (λ rest. inr (⊎_elim (λ waits. inl (waits.0, shifted later.0 s waits.0 waits.1)) inr rest)) later.2,
+    ⊎_elim (λ over. inl (⊎_elim inl (λ rests. inr (rests_first s later.0 rests)) over))
+        (λ rest. inr (⊎_elim (λ waits. inl (waits.0, shifted later.0 s waits.0 waits.1)) inr rest)) later.2,
   )
 
   ends_first : ContextsEndOrDie (with_first w scene) (with_first x step)
-  ends_first zero s some = ⊎_elim (λ is. (0, omega arith, inl is))
+  ends_first zero s some = ⊎_elim (λ is. (0, omega arith, inl (inl is)))
       (λ still. let later = ends_later 0 s (at_first (λ y. 0 < y.core.stamp s) still) in
       (later.0, omega arith, later.2))
       (stamp_next x s some)
@@ -441,7 +456,6 @@ pub record AtRest (w : Scene) : Type 0 where
   pub phase : (s : ℕ) → w.phase s ≡ acting
   pub debts : (s v : ℕ) → w.owes s v ≢ true
   pub sign : w.core.sign 0 ≡ 0
-  pub context : (s : ℕ) → w.core.stamp s ≡ 0
 
 -- the first seat looks at its sign again and again
 abbrev pub rest : Scene → ℕ → Scene
@@ -457,7 +471,6 @@ rest_at w r (suc i) = let q = rest_at w r i in record {
   phase = q.phase;
   debts = q.debts;
   sign = q.sign;
-  context = q.context;
 }
 
 pub goes_at_rest : (w : Scene) → IsReached w → AtRest w → Goes (rest w) (λ _. finds_no_sign 0)
@@ -477,7 +490,14 @@ goes_at_rest w reached r = record {
   release = λ i s n own. absurd ((rest_at w r i).owner n s own);
   up = λ i s n heeds is. cc;
   fit = λ i. refl;
-  ends = λ i s some. let none = (rest_at w r i).context s in absurd (omega arith);
+  ends = λ i s some. (
+    i,
+    omega arith,
+    inl (inr (λ k from same. (
+      λ n. (rest_at w r k).owner n s,
+      λ n e h own. subst (λ q. Has q e) ((rest_at w r k).queue n) h,
+    ))),
+  );
   owning = λ i n later h. absurd (subst (λ q. Has q h.0) ((rest_at w r i).queue n) h.1);
 }
 

@@ -20,11 +20,12 @@ use Rattle.ww_model.proofs.Cancels.{not_free}
 use Rattle.ww_model.proofs.Holders.{not_given}
 use Rattle.ww_wakes.specs.Scene.{Scene, Step, performs, leaves_to_sleep, finds_no_sign, finds_no_cancel, wakes, falls_asleep, rises, May, next}
 use Rattle.ww_wakes.specs.Theorem.{IsEndlessRun}
-use Rattle.ww_live.specs.Premises.{WaitersGoOn, HoldersRelease, WaitsForEver, FirstsAsk}
+use Rattle.ww_live.specs.Premises.{WaitersGoOn, HoldersRelease, WaitsForEver, RestsOn, FirstsAsk}
 use Rattle.ww_live.specs.Theorem.{EndsWait}
 use Rattle.ww_live.proofs.Steps.{by_event, taken_or_not, taken_next}
 use Rattle.ww_live.proofs.Runs.{holds_at, number_is, Stays, Ended, Comes, Sleeps, stays_more, stays_less, ended_from, until_at, lawful_at, made_next, known_next, may_be, enters, release_between, comes_in, goes_out}
 use Rattle.ww_live.proofs.Dues.{due_called, handed_ends, handed_takes, held_free}
+use Rattle.ww_live.proofs.Rests.{rests_on, rests_stands_not, rests_joins_none}
 use Rattle.ww_live.proofs.Ahead.{ahead, Leads, ahead_left, ahead_less, before_left, leads_left, ahead_joined, before_joined, leads_joined, none_older}
 
 -- ---- of one step
@@ -280,11 +281,12 @@ module _ (scene : ℕ → Scene) (step : ℕ → Step) (run : IsEndlessRun scene
   abbrev pub Out : ℕ → Type 0
   Out k = Ended scene step e n k ⊎ Locked k
 
-  -- the waiter has a context, and stands in the list; and each older context waits for ever
+  -- the waiter has a context, and stands in the list; and each older context waits for ever, or rests on
   pub record Waits (k : ℕ) : Type 0 where
     pub here : Has ((scene k).core.queue n) e
     pub context : 0 < e.stamp
-    pub older : (t : ℕ) → 0 < (scene k).core.stamp t → (scene k).core.stamp t < e.stamp → WaitsForEver scene step t k
+    pub older : (t : ℕ) → 0 < (scene k).core.stamp t → (scene k).core.stamp t < e.stamp →
+        WaitsForEver scene step t k ⊎ RestsOn scene step t k
 
   abbrev ahead_at : ℕ → ℕ
   ahead_at k = ahead ((scene k).core.queue n) e.seat
@@ -309,17 +311,19 @@ module _ (scene : ℕ → Scene) (step : ℕ → Step) (run : IsEndlessRun scene
       let bound = l.stamps.below e.seat in omega arith
 
   older_on : (k j : ℕ) → k ≤ j → Waits k → (t : ℕ) → 0 < (scene j).core.stamp t →
-      (scene j).core.stamp t < e.stamp → WaitsForEver scene step t j
+      (scene j).core.stamp t < e.stamp → WaitsForEver scene step t j ⊎ RestsOn scene step t j
   older_on k j later w t some old =
       let same = same_context scene step run k j t e.stamp later (old_drawn k w) some (omega arith) in
-      ever_on scene step run t k j later (w.older t (omega arith) (omega arith))
+      ⊎_elim (λ ever. inl (ever_on scene step run t k j later ever))
+      (λ rests. inr (rests_on scene step t k j later same rests)) (w.older t (omega arith) (omega arith))
 
   -- no seat joins the list as an older context
   joins_younger : (k : ℕ) (f : Entry) → Waits k → f.stamp ≤ e.stamp → (t : ℕ) → step k ≡ performs (Join t n) →
       is_older ((scene k).core.stamp t) f.stamp ≡ false
   joins_younger k f w old t is = ⊎_elim
       (λ older. let o = older_true ((scene k).core.stamp t) f.stamp older in let a = o.0 in let b = o.1 in
-      absurd (joins_none scene step run k t n (w.older t a (omega arith)) is)) (λ not. not)
+      absurd (⊎_elim (λ ever. joins_none scene step run k t n ever is)
+      (λ rests. rests_joins_none scene step run k t n rests is) (w.older t a (omega arith)))) (λ not. not)
       (cases_Bool (is_older ((scene k).core.stamp t) f.stamp))
 
   still_at : (k j : ℕ) → k ≤ j → Waits k → Stays scene step e n k j → Still k j
@@ -388,7 +392,12 @@ module _ (scene : ℕ → Scene) (step : ℕ → Step) (run : IsEndlessRun scene
               inr (dite (ℕ_discrete f.stamp 0)
               (λ none. inl (none, subst (λ q. Before q f e) (sym is) (inl (refl, later))))
               (λ one. let less = order.0 e later (omega arith) (omega arith) in
-              inr (less, ever_here f there (w.older f.seat (omega arith) (omega arith)))))) h;
+              inr (
+                less,
+                ⊎_elim (ever_here f there)
+                    (λ rests. absurd (rests_stands_not scene step k f.seat n rests (f, there, refl)))
+                    (w.older f.seat (omega arith) (omega arith)),
+              )))) h;
         },
       )
 

@@ -1,30 +1,39 @@
 -- In each kind a run that comes to a deadlock, and from there one that keeps all that is asked.
-use Rattle.std.proofs.Common.{◌≡◌, ◌≢◌, inl, inr, ⊎_elim, ℕ, suc, Bool, true, false, List, [], ◌∷◌, refl, sym, ap, ◌∙◌, subst, arith, true≢false}
+use Rattle.std.proofs.Common.{◌≡◌, ◌≢◌, inl, inr, ⊎_elim, ℕ, suc, ◌<◌, ◌==◌, Bool, true, false, not, List, [], ◌∷◌, refl, sym, ap, ◌∙◌, subst, arith, true≢false}
 use Rattle.std.proofs.lemmas.Bool.{cases_Bool, cases_lt}
 use native.Mathlib.Decide.{ℕ_discrete}
 use Rattle.ww_queue.specs.declared.kind.Kind.{Kind}
 use Rattle.ww_queue.specs.declared.kind.Kind.TheVariants.{WoundWait, WaitDie}
-use Rattle.ww_queue.specs.Queue.{Has}
+use Rattle.ww_queue.specs.declared.entry.Entry.{Entry}
+use Rattle.ww_queue.specs.Queue.{Has, Stands}
+use Rattle.ww_queue.proofs.Outcomes.{both_true}
 use Rattle.ww_model.specs.declared.state.Holder.TheVariants.{Nobody, Taken}
+use Rattle.ww_model.specs.declared.event.Event.{Event}
 use Rattle.ww_model.specs.declared.event.Event.TheVariants.{Begin, Fast, FastGive, Guard, Join, Sign, Take, Give, Die, Unguard, End, Clear}
-use Rattle.ww_model.specs.State.{put}
-use Rattle.ww_model.proofs.Puts.{put_else, put_cases}
+use Rattle.ww_model.specs.State.{put, OwnsNone, InNoQueue}
+use Rattle.ww_model.specs.Event.{actor}
+use Rattle.ww_model.proofs.Puts.{put_cases}
 use Rattle.ww_model.proofs.Kept.{reached_is_lawful}
 use Rattle.ww_model.proofs.Beyond.{queues_beyond, guards_are}
 use Rattle.ww_laws.proofs.Tests.{passes, may}
 use Rattle.ww_wakes.specs.Scene.{acting, asleep, Scene, first_scene, Step, performs, leaves_to_sleep, finds_no_sign, wakes, falls_asleep, rises, MayLeaveToSleep, MayFallAsleep, put_debt, next, IsReached, begins, goes_on}
 use Rattle.ww_wakes.proofs.Woken.{debt_was, debt_here}
 use Rattle.ww_wakes.proofs.Keeping.{reached_is_orderly}
-use Rattle.ww_live.specs.Theorem.{AreDeadlocked, IsTheOldest, DeadlocksAreReached}
+use Rattle.ww_live.specs.Premises.{RestsOn}
+use Rattle.ww_live.specs.Theorem.{AreDeadlocked, IsTheOldest, RestsForEver, DeadlocksAreReached}
 use Rattle.ww_live.proofs.Runs.{phase_is}
-use Rattle.ww_live.proofs.Plain.{all_plain, all_owning, each_of_two, lead, reached_by, AtRest, goes_from, asks, backs, contended, ends_of}
+use Rattle.ww_live.proofs.Ending.{same_on}
+use Rattle.ww_live.proofs.Idle.{who_wants_none_rests}
+use Rattle.ww_live.proofs.Plain.{all_plain, all_owning, each_of_two, lead, reached_by, fits, fits_event, Goes, AtRest, goes_from, asks, backs, contended, ends_of}
 
--- The first seat and the second take a lock each. The first joins the list of the second's lock, wounds it in
+-- The third seat begins, takes a lock and releases it, and then rests. The first and the second take a lock each. The first joins the list of the second's lock, wounds it in
 -- Wound-Wait, and falls asleep. Then the second joins the list of the first's lock: the two are deadlocked.
 abbrev before : Kind → List Step
-before WoundWait = performs (Begin 0) ∷ performs (Begin 1) ∷ performs (Fast 0 0) ∷ performs (Fast 1 1)
+before WoundWait = performs (Begin 2) ∷ performs (Fast 2 0) ∷ performs (FastGive 2 0) ∷ performs (Begin 0)
+    ∷ performs (Begin 1) ∷ performs (Fast 0 0) ∷ performs (Fast 1 1)
     ∷ performs (Guard 0 1) ∷ performs (Join 0 1) ∷ performs (Sign 0 1) ∷ wakes 0 1 ∷ finds_no_sign 0 ∷ []
-before WaitDie = performs (Begin 0) ∷ performs (Begin 1) ∷ performs (Fast 0 0) ∷ performs (Fast 1 1)
+before WaitDie = performs (Begin 2) ∷ performs (Fast 2 0) ∷ performs (FastGive 2 0) ∷ performs (Begin 0)
+    ∷ performs (Begin 1) ∷ performs (Fast 0 0) ∷ performs (Fast 1 1)
     ∷ performs (Guard 0 1) ∷ performs (Join 0 1) ∷ finds_no_sign 0 ∷ []
 
 abbrev joins : List Step
@@ -38,7 +47,7 @@ resolves = performs (Die 1 0) ∷ performs (Unguard 1 0) ∷ performs (Guard 1 1
     ∷ performs (FastGive 0 1) ∷ performs (FastGive 0 0) ∷ performs (End 0) ∷ performs (Clear 1) ∷ performs (End 1) ∷ []
 
 abbrev looked : Kind → Scene
-looked kind = lead (first_scene kind 2 2) (before kind)
+looked kind = lead (first_scene kind 2 3) (before kind)
 
 abbrev left : Kind → Scene
 left kind = next (looked kind) (leaves_to_sleep 0 1 false)
@@ -54,7 +63,7 @@ over kind = lead (deadlocked kind) resolves
 
 -- ---- the steps may be made
 
-plain_before : (kind : Kind) → all_plain (first_scene kind 2 2) (before kind) ≡ true
+plain_before : (kind : Kind) → all_plain (first_scene kind 2 3) (before kind) ≡ true
 unfolding put ℕ_discrete
 plain_before WoundWait = refl
 plain_before WaitDie = refl
@@ -80,7 +89,7 @@ passes_out WoundWait = refl
 passes_out WaitDie = refl
 
 reached_looked : (kind : Kind) → IsReached (looked kind)
-reached_looked kind = reached_by (first_scene kind 2 2) (begins kind 2 2) (before kind) (plain_before kind)
+reached_looked kind = reached_by (first_scene kind 2 3) (begins kind 2 3) (before kind) (plain_before kind)
 
 may_leave : (kind : Kind) → MayLeaveToSleep (looked kind) 0 1 false
 unfolding put ℕ_discrete
@@ -89,7 +98,7 @@ may_leave WoundWait = record {
   possible = may (looked WoundWait).core (reached_is_orderly (looked WoundWait) (reached_looked WoundWait)).reached
       (Unguard 0 1)
       (passes_out WoundWait);
-  waits = (record { seat = 0; stamp = 1; holds = true }, inl refl, refl);
+  waits = (record { seat = 0; stamp = 2; holds = true }, inl refl, refl);
   unsigned = λ _. refl;
   uncancelled = λ heeds. absurd (true≢false (sym heeds));
 }
@@ -97,7 +106,7 @@ may_leave WaitDie = record {
   acts = refl;
   possible = may (looked WaitDie).core (reached_is_orderly (looked WaitDie) (reached_looked WaitDie)).reached
       (Unguard 0 1) (passes_out WaitDie);
-  waits = (record { seat = 0; stamp = 1; holds = true }, inl refl, refl);
+  waits = (record { seat = 0; stamp = 2; holds = true }, inl refl, refl);
   unsigned = λ _. refl;
   uncancelled = λ heeds. absurd (true≢false (sym heeds));
 }
@@ -142,15 +151,15 @@ unfolding put ℕ_discrete
 are_deadlocked WoundWait = record {
   some = (0, inl refl);
   stuck = λ s. ⊎_elim
-      (λ is. (1, inr (inl refl), (1, (record { seat = 0; stamp = 1; holds = true }, inl refl, sym is), refl)))
-      (⊎_elim (λ is. (0, inl refl, (0, (record { seat = 1; stamp = 2; holds = true }, inl refl, sym is), refl)))
+      (λ is. (1, inr (inl refl), (1, (record { seat = 0; stamp = 2; holds = true }, inl refl, sym is), refl)))
+      (⊎_elim (λ is. (0, inl refl, (0, (record { seat = 1; stamp = 3; holds = true }, inl refl, sym is), refl)))
       (λ none. absurd none));
 }
 are_deadlocked WaitDie = record {
   some = (0, inl refl);
   stuck = λ s. ⊎_elim
-      (λ is. (1, inr (inl refl), (1, (record { seat = 0; stamp = 1; holds = true }, inl refl, sym is), refl)))
-      (⊎_elim (λ is. (0, inl refl, (0, (record { seat = 1; stamp = 2; holds = true }, inl refl, sym is), refl)))
+      (λ is. (1, inr (inl refl), (1, (record { seat = 0; stamp = 2; holds = true }, inl refl, sym is), refl)))
+      (⊎_elim (λ is. (0, inl refl, (0, (record { seat = 1; stamp = 3; holds = true }, inl refl, sym is), refl)))
       (λ none. absurd none));
 }
 
@@ -159,32 +168,112 @@ unfolding put ℕ_discrete
 sleeps WoundWait = refl
 sleeps WaitDie = refl
 
-is_oldest : (kind : Kind) → IsTheOldest (deadlocked kind).core 0 1
+-- ---- the oldest, and the one that rests
+
+abbrev stamps : ℕ → ℕ
+stamps = put (put (put (λ _. 0) 2 1) 0 2) 1 3
+
+stamps_are : (kind : Kind) (t : ℕ) → (deadlocked kind).core.stamp t ≡ stamps t
+stamps_are WoundWait t = refl
+stamps_are WaitDie t = refl
+
+stamps_of : (stamps 0 ≡ 2) × (stamps 2 ≡ 1)
 unfolding put ℕ_discrete
-is_oldest WoundWait = record {
-  oldest = record { oldest = record { context = omega arith; oldest = λ t some. some }; unsigned = λ _. refl };
-  owns = (0, refl);
-  waits = (record { seat = 0; stamp = 1; holds = true }, inl refl, refl);
-}
-is_oldest WaitDie = record {
-  oldest = record { oldest = record { context = omega arith; oldest = λ t some. some }; unsigned = λ _. refl };
-  owns = (0, refl);
-  waits = (record { seat = 0; stamp = 1; holds = true }, inl refl, refl);
-}
+stamps_of = (refl, refl)
+
+-- only the third is older than the first
+older_is : (t : ℕ) → 0 < stamps t → stamps t < 2 → t ≡ 2
+older_is t = put_cases (put (put (λ _. 0) 2 1) 0 2) 1 3 t (λ k. 0 < k → k < 2 → t ≡ 2)
+    (λ _ some less. absurd (omega arith)) (λ _.
+    put_cases (put (λ _. 0) 2 1) 0 2 t (λ k. 0 < k → k < 2 → t ≡ 2) (λ _ some less. absurd (omega arith)) (λ _.
+    put_cases (λ _. 0) 2 1 t (λ k. 0 < k → k < 2 → t ≡ 2) (λ is _ _. is) (λ _ some. absurd (omega arith))))
+
+owners_of : (kind : Kind) → ((deadlocked kind).core.owner 0 ≡ Taken 0) × ((deadlocked kind).core.owner 1 ≡ Taken 1)
+unfolding put ℕ_discrete
+owners_of WoundWait = (refl, refl)
+owners_of WaitDie = (refl, refl)
+
+lists_of : (kind : Kind) → ((deadlocked kind).core.queue 0 ≡ record { seat = 1; stamp = 3; holds = true } ∷ [])
+    × ((deadlocked kind).core.queue 1 ≡ record { seat = 0; stamp = 2; holds = true } ∷ [])
+unfolding put ℕ_discrete
+lists_of WoundWait = (refl, refl)
+lists_of WaitDie = (refl, refl)
+
+locks_of : (kind : Kind) → (deadlocked kind).core.locks ≡ 2
+locks_of WoundWait = refl
+locks_of WaitDie = refl
+
+sign_of : (kind : Kind) → (deadlocked kind).core.sign 0 ≡ 0
+unfolding put ℕ_discrete
+sign_of WoundWait = refl
+sign_of WaitDie = refl
+
+third_owns_none : (kind : Kind) → OwnsNone (deadlocked kind).core 2
+third_owns_none kind n own = let c = (deadlocked kind).core in
+    let o = reached_is_orderly (deadlocked kind) (reached_deadlocked kind) in let two = locks_of kind in ⊎_elim
+    (λ below. each_of_two (λ m. c.owner m ≢ Taken 2) (λ z. let y = (owners_of kind).0 in cc)
+    (λ z. let y = (owners_of kind).1 in cc) n below own)
+    (λ beyond. let none = (reached_is_lawful c o.reached).base.owners.beyond n (omega arith) in cc) (cases_lt n 2)
+
+alone : (q : List Entry) (x e : Entry) → q ≡ x ∷ [] → Has q e → e.seat ≡ x.seat
+alone q x e is h = ⊎_elim (λ same. ap (λ (y : Entry). y.seat) same) (λ none. absurd none)
+    (subst (λ p. Has p e) is h)
+
+third_waits_not : (kind : Kind) → InNoQueue (deadlocked kind).core 2
+third_waits_not kind n e h is = let c = (deadlocked kind).core in
+    let o = reached_is_orderly (deadlocked kind) (reached_deadlocked kind) in let two = locks_of kind in ⊎_elim
+    (λ below. each_of_two (λ m. Has (c.queue m) e → ⊥)
+    (λ a. let own = alone (c.queue 0) (record { seat = 1; stamp = 3; holds = true }) e (lists_of kind).0 a in
+    omega arith)
+    (λ a. let own = alone (c.queue 1) (record { seat = 0; stamp = 2; holds = true }) e (lists_of kind).1 a in
+    omega arith) n below h)
+    (λ beyond. subst (λ q. Has q e) (queues_beyond c o.reached n (omega arith)) h) (cases_lt n 2)
+
+-- a run that begins there, in which the third does nothing
+module _ (kind : Kind) (scene : ℕ → Scene) (step : ℕ → Step) (from : scene 0 ≡ deadlocked kind)
+    (g : Goes scene step) where
+  stamp_is : (t : ℕ) → (scene 0).core.stamp t ≡ stamps t
+  stamp_is t = ap (λ (w : Scene). w.core.stamp t) from ∙ stamps_are kind t
+
+  third_not : (i : ℕ) (e : Event) → step i ≡ performs e → actor e ≢ 2
+  third_not i e is own = let fit = subst (λ x. fits x ≡ true) is (g.fit i) in
+      true≢false (sym (both_true (not (actor e == 2)) (fits_event e) fit).0 ∙ ap (λ k. not (k == 2)) own)
+
+  third_rests : RestsOn scene step 2 0
+  third_rests = let mine = stamp_is 2 in let its = stamps_of.1 in
+      who_wants_none_rests scene step g.run 2 0 (omega arith)
+      (subst (λ (w : Scene). OwnsNone w.core 2) (sym from) (third_owns_none kind))
+      (subst (λ (w : Scene). InNoQueue w.core 2) (sym from) (third_waits_not kind))
+      (λ j n _ _. ⊎_elim (λ is. third_not j (Fast 2 n) is refl)
+      (⊎_elim (λ is. third_not j (Join 2 n) is refl) (λ is. third_not j (Take 2 n) is refl)))
+
+  rests_for_ever : RestsForEver scene step 2 0
+  rests_for_ever = let mine = stamp_is 2 in let its = stamps_of.1 in let a = stamp_is 0 in let b = stamps_of.0 in
+      record {
+        context = λ i. same_on scene step g.run 2 0 i (omega arith) (omega arith)
+            (λ k _ _ is. third_not k (End 2) is refl);
+        some = omega arith;
+        older = omega arith;
+        rests = third_rests;
+      }
+
+  is_oldest : IsTheOldest scene step 0 1
+  is_oldest = let a = stamp_is 0 in let b = stamps_of.0 in record {
+    oldest = record {
+      context = omega arith;
+      older = λ t some less. let its = stamp_is t in
+          subst (λ u. RestsOn scene step u 0) (sym (older_is t (omega arith) (omega arith))) third_rests;
+    };
+    unsigned = ap (λ (w : Scene). w.core.sign 0) from ∙ sign_of kind;
+    owns = (0, ap (λ (w : Scene). w.core.owner 0) from ∙ (owners_of kind).0);
+    waits = subst (λ (w : Scene). Stands (w.core.queue 1) 0) (sym from) (
+      record { seat = 0; stamp = 2; holds = true },
+      subst (λ q. Has q (record { seat = 0; stamp = 2; holds = true })) (sym (lists_of kind).1) (inl refl),
+      refl,
+    );
+  }
 
 -- ---- the rest
-
-abbrev no_context : ℕ → ℕ
-no_context s = 0
-
--- two contexts began, and ended
-abbrev ended_both : ℕ → ℕ
-ended_both = put (put (put (put no_context 0 1) 1 2) 0 0) 1 0
-
-none_after : (s : ℕ) → ended_both s ≡ 0
-none_after s = put_cases (put (put (put no_context 0 1) 1 2) 0 0) 1 0 s (λ k. k ≡ 0) (λ _. refl)
-    (λ second. put_cases (put (put no_context 0 1) 1 2) 0 0 s (λ k. k ≡ 0) (λ _. refl)
-    (λ first. put_else (put no_context 0 1) 1 2 s second ∙ put_else no_context 0 1 s first))
 
 owners_over : (kind : Kind) → ((over kind).core.owner 0 ≡ Nobody) × ((over kind).core.owner 1 ≡ Nobody)
 unfolding put ℕ_discrete
@@ -209,10 +298,6 @@ sign_over : (kind : Kind) → (over kind).core.sign 0 ≡ 0
 unfolding put ℕ_discrete
 sign_over WoundWait = refl
 sign_over WaitDie = refl
-
-context_over : (kind : Kind) (s : ℕ) → (over kind).core.stamp s ≡ 0
-context_over WoundWait s = none_after s
-context_over WaitDie s = none_after s
 
 none_at_first : (a b : ℕ) → no_debts a b ≢ true
 none_at_first a b is = true≢false (sym is)
@@ -240,7 +325,6 @@ at_rest kind = let w = over kind in let c = w.core in let o = reached_is_orderly
           (phase_is (w.phase s));
       debts = debts_over kind;
       sign = sign_over kind;
-      context = context_over kind;
     }
   where
     empty : (kind : Kind) (n : ℕ) → (over kind).core.queue n ≡ []
@@ -269,7 +353,8 @@ deadlocks_are_reached kind = let g = goes_from (deadlocked kind) (reached_deadlo
       seats = 0 ∷ 1 ∷ [];
       deadlocked = subst (λ (w : Scene). AreDeadlocked w.core (0 ∷ 1 ∷ [])) (sym g.from) (are_deadlocked kind);
       sleeper = (0, inl refl, ap (λ (w : Scene). w.phase 0) g.from ∙ sleeps kind);
-      oldest = subst (λ (w : Scene). IsTheOldest w.core 0 1) (sym g.from) (is_oldest kind);
+      oldest = is_oldest kind g.scene g.step g.from g.goes;
+      rester = rests_for_ever kind g.scene g.step g.from g.goes;
       each_ends = g.goes.ends;
       contended = contended g.scene g.step g.goes;
       ends = ends_of g.scene g.step g.goes.ends 0;

@@ -57,10 +57,25 @@ module _ (scene : ℕ → Scene) (step : ℕ → Step) where
   HoldersRelease = (i s n : ℕ) → (scene i).core.owner n ≡ Taken s →
       InTheEnd i (λ j. ((scene j).core.owner n ≢ Taken s) ⊎ WaitsForEver s j)
 
-  -- The program of the seat comes to an end: a context of it ends later, unless it comes to wait for ever, dies, or is
-  -- called off.
+  -- From i on the context of the seat rests: as long as it goes on, which may be for ever, the seat owns no lock and
+  -- waits for none.
+  abbrev pub RestsOn : ℕ → ℕ → Type 0
+  RestsOn s i = (j : ℕ) → i ≤ j → (scene j).core.stamp s ≡ (scene i).core.stamp s →
+      OwnsNone (scene j).core s × InNoQueue (scene j).core s
+
+  -- The seat has a context at i, and each older one rests from then on: so of those that don't it is the oldest.
+  pub record IsOldestActive (s i : ℕ) : Type 0 where
+    pub context : 0 < (scene i).core.stamp s
+    pub older : (t : ℕ) → 0 < (scene i).core.stamp t → (scene i).core.stamp t < (scene i).core.stamp s → RestsOn t i
+
+  -- the context of the seat is over: it ends, or rests from then on
+  abbrev pub IsOver : ℕ → ℕ → Type 0
+  IsOver s j = (step j ≡ performs (End s)) ⊎ RestsOn s j
+
+  -- The program of the seat comes to an end: a context of it is over later, unless it comes to wait for ever, dies, or
+  -- is called off.
   abbrev pub ContextsEnd : ℕ → Type 0
-  ContextsEnd s = (i : ℕ) → 0 < (scene i).core.stamp s → InTheEnd i (λ j. (step j ≡ performs (End s)) ⊎
+  ContextsEnd s = (i : ℕ) → 0 < (scene i).core.stamp s → InTheEnd i (λ j. IsOver s j ⊎
       (WaitsForEver s j ⊎ ((m : ℕ) × ((step j ≡ performs (Die s m)) ⊎ (step j ≡ performs (Leave s m))))))
 
   -- From i on the seat waits only while it owns a lock.
@@ -86,8 +101,8 @@ module _ (scene : ℕ → Scene) (step : ℕ → Step) where
       ((k : ℕ) → i < k → k ≤ j →
       ((scene k).core.owner m ≢ Taken s) × ((scene k).core.stamp s ≡ (scene i).core.stamp s)) → n ≡ m
 
-  -- Programs come to an end, also where they are called off: each context ends later, unless it comes to wait for ever,
-  -- or dies.
+  -- Programs come to an end, also where they are called off: each context is over later, unless it comes to wait for
+  -- ever, or dies.
   abbrev pub ContextsEndOrDie : Type 0
-  ContextsEndOrDie = (i s : ℕ) → 0 < (scene i).core.stamp s → InTheEnd i (λ j. (step j ≡ performs (End s)) ⊎
+  ContextsEndOrDie = (i s : ℕ) → 0 < (scene i).core.stamp s → InTheEnd i (λ j. IsOver s j ⊎
       (WaitsForEver s j ⊎ ((m : ℕ) × (step j ≡ performs (Die s m)))))

@@ -1,16 +1,15 @@
 -- No deadlock lasts.
-use Rattle.std.specs.Prelude.{ℕ, ◌≡◌, ◌<◌, ◌⊎◌, List}
+use Rattle.std.specs.Prelude.{ℕ, ◌≡◌, ◌≢◌, ◌<◌, ◌≤◌, ◌⊎◌, List}
 use Rattle.ww_queue.specs.declared.kind.Kind.{Kind}
 use Rattle.ww_queue.specs.declared.kind.Kind.TheVariants.{WoundWait, WaitDie}
 use Rattle.ww_queue.specs.Queue.{Stands}
 use Rattle.ww_model.specs.declared.state.Holder.TheVariants.{Taken, Handed}
-use Rattle.ww_model.specs.declared.event.Event.TheVariants.{Fast, Take, Die, End, Leave}
-use Rattle.ww_model.specs.State.{State, OwnsSome}
-use Rattle.ww_model.specs.Oldest.{IsOldest, IsOldestUnsigned}
+use Rattle.ww_model.specs.declared.event.Event.TheVariants.{Fast, Sign, Take, Die, Leave}
+use Rattle.ww_model.specs.State.{State, OwnsNone, OwnsSome, InNoQueue}
 use Rattle.ww_model.specs.Waits.{IsOneOf, IsCycle}
 use Rattle.ww_wakes.specs.Scene.{asleep, Scene, Step, performs}
 use Rattle.ww_wakes.specs.Theorem.{IsDue, IsEndlessRun}
-use Rattle.ww_live.specs.Premises.{InTheEnd, WaiterGoesOn, WaitersGoOn, HoldersGoOn, HoldersRelease, ContextsEnd, WaitsOwning, FirstsAsk, BacksOff, TakesContendedFirst, ContextsEndOrDie}
+use Rattle.ww_live.specs.Premises.{InTheEnd, Wants, WaiterGoesOn, WaitersGoOn, HoldersGoOn, HoldersRelease, IsOver, RestsOn, IsOldestActive, ContextsEnd, WaitsOwning, FirstsAsk, BacksOff, TakesContendedFirst, ContextsEndOrDie}
 
 -- the seat gives up waiting: it dies, which is EDEADLK, or it leaves the list since it was called off
 abbrev pub GivesUp : ℕ → Step → Type 0
@@ -90,22 +89,42 @@ NoLivelock = (scene : ℕ → Scene) (step : ℕ → Step) → IsEndlessRun scen
     HoldersGoOn scene step → BacksOff scene step → (i s n : ℕ) → Stands ((scene i).core.queue n) s →
     InTheEnd i (λ j. EndsWait s n (step j) ⊎ TakesOrIsCalledOff (step j))
 
+-- ---- who rests
+
+-- A context that has no lock and waits for none rests from then on, if its seat wants no lock as long as it goes on,
+-- whatever others do.
+abbrev pub WhoWantsNoneRests : Type 0
+WhoWantsNoneRests = (scene : ℕ → Scene) (step : ℕ → Step) → IsEndlessRun scene step → (s i : ℕ) →
+    0 < (scene i).core.stamp s → OwnsNone (scene i).core s → InNoQueue (scene i).core s →
+    ((j n : ℕ) → i ≤ j → (scene j).core.stamp s ≡ (scene i).core.stamp s → ¬ Wants s n (step j)) →
+    RestsOn scene step s i
+
 -- ---- the oldest is served
 
--- In Wound-Wait the oldest context, if it has no sign, and has a lock already, gets each lock that it waits for, unless
--- it is called off: if whoever has a lock releases it in the end, unless it waits for ever, and the first waiters ask.
+-- The oldest context of those that don't rest on, if it has no sign in Wound-Wait, is never signed and never dies, as long
+-- as it goes on.
+abbrev pub OldestNeverGivesWay : Type 0
+OldestNeverGivesWay = (scene : ℕ → Scene) (step : ℕ → Step) → IsEndlessRun scene step → (i j s : ℕ) → i ≤ j →
+    IsOldestActive scene step s i → ((scene i).core.kind ≡ WoundWait → (scene i).core.sign s ≡ 0) →
+    (scene j).core.stamp s ≡ (scene i).core.stamp s →
+    ((t : ℕ) → step j ≢ performs (Sign t s)) × ((n : ℕ) → step j ≢ performs (Die s n))
+
+-- In Wound-Wait the oldest of those, if it has no sign, and has a lock already, gets each lock
+-- that it waits for, unless it is called off: if whoever has a lock releases it in the end, unless it waits for ever, and
+-- the first waiters ask.
 abbrev pub OldestIsServed : Type 0
 OldestIsServed = (scene : ℕ → Scene) (step : ℕ → Step) → IsEndlessRun scene step → WaitersGoOn scene step →
     HoldersRelease scene step → FirstsAsk scene step → (i s n : ℕ) → (scene i).core.kind ≡ WoundWait →
-    IsOldestUnsigned (scene i).core s → OwnsSome (scene i).core s → Stands ((scene i).core.queue n) s →
-    InTheEnd i (λ j. (step j ≡ performs (Take s n)) ⊎ (step j ≡ performs (Leave s n)))
+    IsOldestActive scene step s i → (scene i).core.sign s ≡ 0 → OwnsSome (scene i).core s →
+    Stands ((scene i).core.queue n) s → InTheEnd i (λ j. (step j ≡ performs (Take s n)) ⊎ (step j ≡ performs (Leave s n)))
 
--- So it comes to its end, unless it is called off, if its program does, and it waits only while it owns a lock.
+-- So it ends, or comes to rest, unless it is called off, if its program comes to an end, and it waits only while it owns a
+-- lock.
 abbrev pub OldestEnds : Type 0
 OldestEnds = (scene : ℕ → Scene) (step : ℕ → Step) → IsEndlessRun scene step → WaitersGoOn scene step →
     HoldersRelease scene step → FirstsAsk scene step → (i s : ℕ) → (scene i).core.kind ≡ WoundWait →
-    IsOldestUnsigned (scene i).core s → ContextsEnd scene step s → WaitsOwning scene step s i →
-    InTheEnd i (λ j. (step j ≡ performs (End s)) ⊎ ((n : ℕ) × (step j ≡ performs (Leave s n))))
+    IsOldestActive scene step s i → (scene i).core.sign s ≡ 0 → ContextsEnd scene step s → WaitsOwning scene step s i →
+    InTheEnd i (λ j. IsOver scene step s j ⊎ ((n : ℕ) × (step j ≡ performs (Leave s n))))
 
 -- In Wait-Die each context gets each lock that it waits for, unless it dies or is called off: if programs come to an
 -- end, the first waiters ask, and whoever dies releases all that it has and then takes the contended lock first.
@@ -115,11 +134,11 @@ ContextsAreServed = (scene : ℕ → Scene) (step : ℕ → Step) → IsEndlessR
     TakesContendedFirst scene step → (i s n : ℕ) → (scene i).core.kind ≡ WaitDie → 0 < (scene i).core.stamp s →
     Stands ((scene i).core.queue n) s → InTheEnd i (λ j. EndsWait s n (step j))
 
--- The oldest, which never has to die there, gets each of them, unless it is called off.
+-- The oldest of those that don't rest on, which never has to die there, gets each of them, unless it is called off.
 abbrev pub OldestWaitDieIsServed : Type 0
 OldestWaitDieIsServed = (scene : ℕ → Scene) (step : ℕ → Step) → IsEndlessRun scene step → WaitersGoOn scene step →
     HoldersRelease scene step → ContextsEndOrDie scene step → FirstsAsk scene step → BacksOff scene step →
-    TakesContendedFirst scene step → (i s n : ℕ) → (scene i).core.kind ≡ WaitDie → IsOldest (scene i).core s →
+    TakesContendedFirst scene step → (i s n : ℕ) → (scene i).core.kind ≡ WaitDie → IsOldestActive scene step s i →
     Stands ((scene i).core.queue n) s →
     InTheEnd i (λ j. (step j ≡ performs (Take s n)) ⊎ (step j ≡ performs (Leave s n)))
 
@@ -143,14 +162,23 @@ WoundedWaitNoMore = (scene : ℕ → Scene) (step : ℕ → Step) → IsEndlessR
 
 -- ---- none of this speaks of nothing
 
--- the laws of the oldest speak of this seat, which waits for this lock
-pub record IsTheOldest (c : State) (seat lock : ℕ) : Type 0 where
-  pub oldest : IsOldestUnsigned c seat
-  pub owns : OwnsSome c seat
-  pub waits : Stands (c.queue lock) seat
+-- the laws of the oldest speak of this seat, which waits for this lock at first
+pub record IsTheOldest (scene : ℕ → Scene) (step : ℕ → Step) (seat lock : ℕ) : Type 0 where
+  pub oldest : IsOldestActive scene step seat 0
+  pub unsigned : (scene 0).core.sign seat ≡ 0
+  pub owns : OwnsSome (scene 0).core seat
+  pub waits : Stands ((scene 0).core.queue lock) seat
 
--- In this kind some endless run keeps all that is asked. In its first scene seats are deadlocked; one of them sleeps,
--- and seat 0 has the oldest context, whose program comes to an end.
+-- the context of one seat is older than that of the other, and never ends, but rests from the first scene on
+pub record RestsForEver (scene : ℕ → Scene) (step : ℕ → Step) (rester seat : ℕ) : Type 0 where
+  pub context : (i : ℕ) → (scene i).core.stamp rester ≡ (scene 0).core.stamp rester
+  pub some : 0 < (scene 0).core.stamp rester
+  pub older : (scene 0).core.stamp rester < (scene 0).core.stamp seat
+  pub rests : RestsOn scene step rester 0
+
+-- In this kind some endless run keeps all that is asked. In its first scene seats are deadlocked; one of them sleeps; seat
+-- 0 has the oldest context that doesn't rest on, whose program comes to an end; and seat 2 has an older one, which never
+-- ends.
 pub record HasDeadlockedRun (kind : Kind) : Type 0 where
   pub scene : ℕ → Scene
   pub step : ℕ → Step
@@ -166,7 +194,8 @@ pub record HasDeadlockedRun (kind : Kind) : Type 0 where
   pub seats : List ℕ
   pub deadlocked : AreDeadlocked (scene 0).core seats
   pub sleeper : (s : ℕ) × IsOneOf s seats × ((scene 0).phase s ≡ asleep)
-  pub oldest : IsTheOldest (scene 0).core 0 1
+  pub oldest : IsTheOldest scene step 0 1
+  pub rester : RestsForEver scene step 2 0
   pub ends : ContextsEnd scene step 0
   pub owning : WaitsOwning scene step 0 0
 

@@ -1,5 +1,5 @@
 //! Threads go on.
-ghost use Rattle.ww_live.specs.Theorem.{NoDeadlockLasts, CyclesAreBroken, SomebodyGoesOn, WaitsEnd, NoLivelock, DueLocksAreTaken, WoundedWaitNoMore, OldestIsServed, OldestEnds, ContextsAreServed, OldestWaitDieIsServed, DeadlocksAreReached};
+ghost use Rattle.ww_live.specs.Theorem.{NoDeadlockLasts, CyclesAreBroken, SomebodyGoesOn, WaitsEnd, NoLivelock, DueLocksAreTaken, WoundedWaitNoMore, WhoWantsNoneRests, OldestNeverGivesWay, OldestIsServed, OldestEnds, ContextsAreServed, OldestWaitDieIsServed, DeadlocksAreReached};
 
 /// Whenever seats are deadlocked, one of them gives up waiting in the end: it is told EDEADLK, or was called off.
 pub fn no_deadlock_lasts()
@@ -40,13 +40,24 @@ pub fn wounded_wait_no_more()
     ensures { WoundedWaitNoMore }
 {}
 
-/// In Wound-Wait the oldest context, which has no sign, gets each lock that it waits for once it has one, unless it is
-/// called off.
+/// A context that has no lock and waits for none rests, if its seat wants no lock any more.
+pub fn who_wants_none_rests()
+    ensures { WhoWantsNoneRests }
+{}
+
+/// The oldest context of those that don't rest on, if it has no sign in Wound-Wait, is never signed and never dies.
+pub fn oldest_never_gives_way()
+    ensures { OldestNeverGivesWay }
+{}
+
+/// In Wound-Wait the oldest context of those that don't rest on, if it has no sign, gets each lock that it waits for once
+/// it has one, unless it is called off.
 pub fn oldest_is_served()
     ensures { OldestIsServed }
 {}
 
-/// So it comes to its end, unless it is called off, if its program does, and it waits only while it owns a lock.
+/// So it comes to its end, or to rest, unless it is called off, if its program does, and it waits only while it owns a
+/// lock.
 pub fn oldest_ends()
     ensures { OldestEnds }
 {}
@@ -57,12 +68,13 @@ pub fn contexts_are_served()
     ensures { ContextsAreServed }
 {}
 
-/// And the oldest context, which never has to die, gets each of them, unless it is called off.
+/// And the oldest of those that don't rest on, which never has to die, gets each of them, unless it is called off.
 pub fn oldest_wait_die_is_served()
     ensures { OldestWaitDieIsServed }
 {}
 
-/// In each kind an endless run keeps all that is asked of it, and begins with a deadlock.
+/// In each kind an endless run keeps all that is asked of it, and begins with a deadlock, and with an older context that
+/// rests for ever.
 pub fn deadlocks_are_reached()
     ensures { DeadlocksAreReached }
 {}

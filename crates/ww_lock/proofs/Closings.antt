@@ -1,7 +1,5 @@
 -- The seats of passes, as a world is closed.
 use Rattle.std.proofs.Common.{◌≡◌, ℕ, zero, suc, ◌<◌, ◌≤◌, eqb, true, true≢false, inl, inr, List, [], ◌∷◌, ◌++◌, length, refl, sym, ap, subst, ◌∙◌, arith}
-use mathlib.Core.Option.{some}
-use lib.ListN.{get_elem?}
 use Rattle.std.specs.List.{AllByRecursion}
 use Rattle.std.proofs.lemmas.Bool.{cases_lt}
 use Rattle.ww_queue.specs.Queue.{Has}
@@ -10,17 +8,17 @@ use Rattle.ww_plain.specs.declared.history.Record.{Record}
 use Rattle.ww_plain.specs.History.{Recorded, history_of, part_of, IsLegal, last_graph}
 use Rattle.ww_plain.proofs.Members.{eqb_same, true_or_false, same_from_eqb, or_cases}
 use Rattle.ww_view.specs.View.{IsAway, IsBare}
-use Rattle.ww_rule.specs.declared.cells.Cell.{Cell}
 use Rattle.ww_rule.specs.declared.cells.Start.{Start}
 use Rattle.ww_table.specs.declared.seat.Seat16.{Seat16}
 use Rattle.ww_model.specs.State.{one_if}
 use Rattle.ww_rule.specs.Rule.{first_graph, times}
 use Rattle.ww_table.specs.Closed.{HasCome, HaveAllCome, HasPlaces}
 use Rattle.ww_table.specs.Closed as table
+use Rattle.ww_table.proofs.Making.{all_from}
 use Rattle.atomic_table.specs.Seated.{TableId}
 use Rattle.ww_seat.specs.Standings.{Standing, standing_of, view_in, IsKept}
-use Rattle.ww_seat.proofs.Outside.{owner_of_first}
-use Rattle.ww_table.specs.Seat.{IsSeated, view_of}
+use Rattle.ww_seat.proofs.Outside.{nothing_out}
+use Rattle.ww_table.specs.Seat.{IsSeated}
 use Rattle.ww_lock.specs.declared.hand.Hand.TheInside.{Inside}
 use Rattle.ww_lock.specs.declared.close.History.{History}
 use Rattle.ww_lock.specs.Holding.{Home, Holding, Setting, AreAtHome, AreBelow, by_of, own_of}
@@ -29,22 +27,13 @@ use Rattle.ww_lock.specs.Hands.{carried_of, Carries}
 use Rattle.ww_lock.specs.Closed.{has_pass, missing_of, WasSeatOf, AreSeatsOf, AreAllBelow, AreParts, IsBalanced, AreBalanced, IsClosed}
 use Rattle.ww_lock.proofs.Carrying.{bare_of}
 
--- a seat between two calls that owns no lock has nothing out
-nothing_out : (q : Seat16) → IsKept q → IsAway (view_of q) → IsBare (view_of q) → q.seat.me.1 ≡ []
-nothing_out q k away bare = go q.seat.me.1 refl
-  where
-    go : (slots : List (ℕ × Cell)) → q.seat.me.1 ≡ slots → slots ≡ []
-    go [] out = refl
-    go (x ∷ xs) out = absurd (true≢false
-        (sym (owner_of_first (length q.seat.me.0.held) q.seat.me x.0 x.1 xs k.orderly away.0 out) ∙ bare x.0))
-
 pub seat_of_pass : (h : Inside) (q : Seat16) → Carries h → held_of (carried_of h) ≡ [] → standing_of q ≡ h.seat → IsKept q
     → WasSeatOf (holding_of (carried_of h)) q
 seat_of_pass h q c none is k =
     let home = ap (λ (s : Standing). s.home) is in
     let bare = subst (λ (s : Standing). IsBare (view_in s)) (sym is) (bare_of h c none) in
     let away = subst (λ (s : Standing). IsAway (view_in s)) (sym is) c.away in record {
-      come = record { seated = subst (λ (t : TableId). IsSeated t q) home k.seated; bare = bare; nothing = nothing_out q k away bare };
+      come = record { seated = subst (λ (t : TableId). IsSeated t q) home k.seated; bare = bare; nothing = nothing_out _ _ k.orderly away.0 bare };
       number = sym k.seated.who ∙ ap (λ (s : Standing). (view_in s).who) is;
       own = ap own_of k.seated.records ∙ ap (λ (s : Standing). own_of s.me.0.part.own) is;
       cancelled = ap (λ (s : Standing). s.me.0.part.counts.cancelled) is;
@@ -119,10 +108,6 @@ as_many [] (q ∷ qs) are = absurd are
 as_many (s ∷ ss) [] are = absurd are
 as_many (s ∷ ss) (q ∷ qs) are = ap suc (as_many ss qs are.1)
 
-all_elems : {A : Type 0} (P : A → Type 0) (xs : List A) → ((k : ℕ) (x : A) → get_elem? xs k ≡ some x → P x) → AllByRecursion P xs
-all_elems P [] each = tt
-all_elems P (x ∷ xs) each = (each 0 x refl, all_elems P xs (λ k y e. each (suc k) y e))
-
 parts : (history : List Recorded) (passes : List Holding) (seats : List Seat16) → AreSeatsOf passes seats
     → ((q : Seat16) → Has seats q → part_of q.who history ≡ own_of q.records.items) → AreParts passes history
 parts history [] [] are each = tt
@@ -171,7 +156,7 @@ closed key w passes seats h first count none are c = let history : List Recorded
   fold = c.fold ∙ ap (λ (g : List Node). last_graph g history) first;
   count = as_many passes seats are ∙ c.few ∙ count;
   all_there = none;
-  callers = all_elems (λ r. r.caller < w.passes) history (λ k r e. omega (arith, c.callers k r e, count));
+  callers = all_from (λ r. r.caller < w.passes) history (λ k r e. omega (arith, c.callers k r e, count));
   parts = parts history passes seats are c.parts;
   balanced = balances key w passes seats h.records.items h.graph count are c;
 }

@@ -1,3 +1,5 @@
+//! The state in which a context takes locks, its calls, and what they answer.
+
 use crate::backoff::Backoff;
 use crate::done::{Done, Empty};
 use crate::hand::Hand;

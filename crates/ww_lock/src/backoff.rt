@@ -1,3 +1,5 @@
+//! The state of a context that was told EDEADLK and still holds its locks.
+
 use crate::acquiring::Acquiring;
 use crate::contended::Contended;
 use crate::hand::Hand;

@@ -1,3 +1,5 @@
+//! A world is closed: its passes come back, and give one history of all commits.
+
 ghost use Rattle.std.specs.Prelude.{ℕ, ◌≡◌, ◌≤◌, ◌^◌, [], length, vec_len, vec_capacity};
 ghost use Rattle.ww_lock.specs.Closed.{has_pass, missing_of, WasSeatOf, AreSeatsOf, AreAllBelow};
 

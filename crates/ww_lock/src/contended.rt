@@ -1,3 +1,5 @@
+//! The state behind a back-off: nothing is held, and the contended lock comes first.
+
 use crate::acquiring::Acquiring;
 use crate::hand::Hand;
 use crate::pass::Pass;

@@ -1,3 +1,5 @@
+//! The states of a context that takes no more locks: before its commit, behind it, and with all released.
+
 use crate::hand::Hand;
 use crate::held::{Held, InContext, Kept};
 use crate::pass::Pass;

@@ -1,3 +1,5 @@
+//! What a pass keeps through all of its states, under the types that tell these apart.
+
 ghost use Rattle.std.specs.Prelude.{◌≡◌, ◌<◌, ◌≤◌, length, slice_set, true};
 ghost use Rattle.ww_plain.specs.Graph.{IsNodeOf};
 

@@ -1,3 +1,5 @@
+//! Locks that are held, by a context or without one: read, prepared, committed.
+
 ghost use Rattle.std.specs.Prelude.{ℕ};
 
 use crate::hand::Hand;

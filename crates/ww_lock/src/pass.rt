@@ -1,3 +1,5 @@
+//! The state of a thread that has neither a context nor a lock, from which all others begin.
+
 use crate::acquiring::Acquiring;
 use crate::hand::Hand;
 use crate::held::Held;

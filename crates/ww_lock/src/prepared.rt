@@ -1,3 +1,5 @@
+//! A transaction between its preparation, which needs memory, and its commit, which needs none.
+
 use crate::effects::changes;
 use crate::hand::Hand;
 use crate::world::World;

@@ -1,3 +1,5 @@
+//! The states of whoever takes one lock without a context.
+
 use crate::held::{Alone, Held, Kept};
 use crate::pass::Pass;
 use crate::world::World;

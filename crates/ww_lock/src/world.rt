@@ -1,3 +1,5 @@
+//! A world: a graph whose nodes are locked. It is opened here, and asked what it has.
+
 ghost use Rattle.std.specs.Prelude.{◌≡◌, ◌≤◌, [], length, map, IfOk, IfErr, vec_len, vec_capacity};
 ghost use Rattle.ww_table.specs.Made.{AreNew};
 ghost use Rattle.ww_rule.specs.Rule.{first_graph};

@@ -47,8 +47,8 @@ pub looks_at_one : (board : Board) (s : Standing) → Holds board (just 0) s →
 looks_at_one board s h = looks_at_other board 1 0 s (omega arith) (omega arith) refl refl h
 
 -- it holds nothing
-bare_with_none : (board : Board) (s : Standing) → Holds board none s → IsBare (view_in s)
-bare_with_none board s h n = ap (λ (l : List Bool). get_or l n false) h.owned ∙ none_at 64 n
+pub bare_with : (s : Standing) → owned_in s ≡ none → IsBare (view_in s)
+bare_with s is n = ap (λ (l : List Bool). get_or l n false) is ∙ none_at 64 n
 
 pub none_owns : (s : Standing) → owned_in s ≡ none → OwnsNodes s
 none_owns s is n own = absurd (true≢false (sym own ∙ ap (λ (l : List Bool). get_or l n false) is ∙ none_at 64 n))
@@ -58,10 +58,10 @@ pub may_try : (board : Board) (n : ℕ) (s : Standing) → n < 2 → Holds board
 may_try board n s there h = record {
   there = omega (arith, there, h.small.two);
   away = h.away;
-  lacks = bare_with_none board s h n;
+  lacks = bare_with s h.owned n;
   base = inl h.context;
   nodes = none_owns s h.owned;
 }
 
 pub may_end : (board : Board) (s : Standing) → Holds board none s → MayEnd (view_in s)
-may_end board s h = record { away = h.away; context = h.context; bare = bare_with_none board s h }
+may_end board s h = record { away = h.away; context = h.context; bare = bare_with s h.owned }

@@ -2,4 +2,4 @@ pub mod FirstSteps
 pub mod Gathered
 pub mod Holding
 pub mod Popped
-pub mod Still
+pub mod Trying

@@ -1,3 +1,5 @@
+//! The core: a ring of two contexts, event by event.
+
 ghost use Rattle.std.specs.Prelude.{◌≡◌, IfOk};
 ghost use Rattle.ww_model.specs.Snapshot.{state_of};
 

@@ -1,3 +1,7 @@
+//! The plain graph: what is no graph, footprints, and histories.
+
+ghost use Rattle.std.specs.Prelude.{◌≡◌, IfOk};
+
 use std::alloc::{AllocError, Global};
 use std::test::Fail;
 use ww_plain::{By, Graph, Node, PORTS, Record, Reply, Txn, footprint, replays};
@@ -10,7 +14,9 @@ pub(crate) fn node(value: u64, target: Option<u8>) -> Node {
 }
 
 /// The graph of these nodes.
-pub(crate) fn graph_of(alloc: Global, nodes: &[Node]) -> Result<Graph, AllocError> {
+pub(crate) fn graph_of(alloc: Global, nodes: &[Node]) -> Result<Graph, AllocError>
+    ensures { IfOk result (λ g. g ≡ nodes.now) }
+{
     Graph::new(Vec::from_slice(alloc, nodes)?)
         .ok()
         .ok_or(AllocError)

@@ -1,3 +1,5 @@
+//! Wait lists: where a waiter stands, which waiter has to die, and which is signed.
+
 ghost use Rattle.std.specs.Prelude.{◌≡◌, ◌==◌, ◌&&◌, ◌||◌, not};
 ghost use Rattle.std.specs.List.{list_all};
 

@@ -1,23 +1,25 @@
-//! Threads that try for two nodes of one table at once. What is asked at the end is the same whatever the schedule.
+//! Threads that try for both nodes of one table at once. What is asked at the end is the same whatever the schedule.
 
-ghost use Rattle.std.specs.Prelude.{◌≡◌, ◌≤◌, IfOk, IfSome};
+ghost use Rattle.std.specs.Prelude.{ℕ, ◌≡◌, ◌≤◌, ◌+◌, IfOk, IfSome};
 ghost use Rattle.std.specs.List.{AllByRecursion};
-ghost use Rattle.ww_table_loads.specs.Standing.{Did, IsUnused, at_rest};
 ghost use Rattle.ww_table.specs.Closed.{HasCome};
 ghost use Rattle.ww_low_tests.specs.Gathered.{HaveCome};
+ghost use Rattle.ww_low_tests.specs.Looking.{IsSmall, IsUnused};
+ghost use Rattle.ww_low_tests.specs.Trying.{Rests, draws_in};
 
 use crate::plain::{graph_of, node};
 use crate::rings::compare;
+use crate::rows::{come_back, commit, end, give, take};
 use crate::tables::{closed, made};
 use std::alloc::{AllocError, Global};
 use std::process::Abort;
 use std::test::Fail;
 use std::thread;
 use std::thread::Threads;
-use ww_plain::{Graph, Node};
+use ww_plain::Graph;
 use ww_queue::Kind;
+use ww_seat::Seat;
 use ww_table::{Board, Seat16};
-use ww_table_loads::{Tally, round_of_two};
 
 const TRIES: u32 = 1_000;
 
@@ -25,14 +27,14 @@ const TRIES: u32 = 1_000;
 #[derive(Drop)]
 struct Made {
     places: Vec<u64>,
-    added: [u64; 8],
+    added: [u64; 2],
 }
 
 impl Made {
     fn new(alloc: Global) -> Made {
         Made {
             places: Vec::new(alloc),
-            added: [0; 8],
+            added: [0; 2],
         }
     }
 
@@ -52,39 +54,57 @@ impl Made {
 #[derive(Drop)]
 struct Work {
     seat: Seat16,
-    tally: Tally,
     made: Made,
 }
 
-/// All tries of a thread, each for two nodes that follow one another; nothing where one couldn't be ended.
-fn tries(board: &Board, alloc: Global, mut seat: Seat16) -> Option<Work>
-    requires unused { IsUnused board.now seat }
-    requires few { board.now.table.shared.key.places ≡ 16 }
-    ensures { IfSome result (λ w. Did board.now (at_rest w.tally) w.seat) }
+/// A context of a seat that began so many before: it tries to take both locks, and commits where it has them. The place of its
+/// commit, if there was one; nothing where it can't be ended.
+fn try_both(board: &Board, alloc: Global, seat: &mut Seat, _before: u32) -> Option<Option<u64>>
+    requires rests { Rests board.now seat.old }
+    requires draws { draws_in seat.old ≡ _before }
+    ensures rests { IfSome result (λ _. Rests board.now seat.new) }
+    ensures draws { IfSome result (λ _. draws_in seat.new ≡ _before + 1) }
 {
-    let pairs = board.size().checked_sub(1)?;
-    let mut made = Made::new(alloc);
-    let mut tally = Tally {
-        who: u8::try_from(seat.who()).ok()?,
-        draws: 0,
-        commits: 0,
+    seat.begin(board)?;
+    let Some(x) = take(board, seat, 0) else {
+        end(board, seat);
+        return Some(None);
     };
-    for at in 0..TRIES {
-        let first = at.checked_rem(u32::from(pairs))? as u8;
-        let second = first + 1;
-        let tried = round_of_two(board, &mut seat, alloc, tally, first, second)?;
-        tally = tried.0;
-        if let Some(place) = tried.1 {
-            made.note(place, first, second).ok()?;
+    let mut place = None;
+    if let Some(y) = take(board, seat, 1) {
+        place = Some(commit(board, alloc, seat, x, y).ok()?);
+        if !give(board, seat, 1) {
+            return None;
         }
     }
-    Some(Work { seat, tally, made })
+    if !give(board, seat, 0) {
+        return None;
+    }
+    end(board, seat);
+    Some(place)
+}
+
+/// All tries of a thread; nothing where one couldn't be ended.
+fn tries(board: &Board, alloc: Global, seat: Seat16) -> Option<Work>
+    requires small { IsSmall board.now }
+    requires unused { (k : ℕ) × IsUnused board.now k seat }
+    ensures { IfSome result (λ w. HasCome board.now.table.shared.table_id w.seat) }
+{
+    let mut made = Made::new(alloc);
+    let mut seat = Seat::new(seat);
+    for at in 0..TRIES {
+        if let Some(place) = try_both(board, alloc, &mut seat, at)? {
+            made.note(place, 0, 1).ok()?;
+        }
+    }
+    let seat = come_back(board, seat);
+    Some(Work { seat, made })
 }
 
 /// The same, where each try has to be ended.
 fn all_tries<R: Abort>(rt: &R, board: &Board, alloc: Global, seat: Seat16) -> Work
-    requires unused { IsUnused board.now seat }
-    requires few { board.now.table.shared.key.places ≡ 16 }
+    requires small { IsSmall board.now }
+    requires unused { (k : ℕ) × IsUnused board.now k seat }
     ensures { HasCome board.now.table.shared.table_id result.seat }
 {
     match tries(board, alloc, seat) {
@@ -94,7 +114,7 @@ fn all_tries<R: Abort>(rt: &R, board: &Board, alloc: Global, seat: Seat16) -> Wo
 }
 
 /// The next seat comes back.
-fn come<R: Abort>(
+pub(crate) fn come<R: Abort>(
     rt: &R,
     _board: &Board,
     seats: &mut Vec<Seat16>,
@@ -123,11 +143,7 @@ fn apart<R: Abort>(
 {
     let mut seats = Vec::new(alloc);
     let mut all = Vec::new(alloc);
-    for Work {
-        seat,
-        tally: _,
-        made,
-    } in works {
+    for Work { seat, made } in works {
         come(rt, board, &mut seats, seat)?;
         all.push(made)?;
     }
@@ -172,23 +188,19 @@ fn has_sums(graph: &Graph, all: &[Made]) -> bool {
     true
 }
 
-/// So many threads at once, with a seat each, on these nodes.
-fn crowd<R: Threads + Abort + Sync>(
-    rt: &R,
-    alloc: Global,
-    threads: u8,
-    nodes: &[Node],
-) -> Result<(), Fail>
+/// So many threads at once, with a seat each.
+fn crowd<R: Threads + Abort + Sync>(rt: &R, alloc: Global, threads: u8) -> Result<(), Fail>
     requires { (1 ≤ threads) × (threads ≤ 16) }
 {
-    let graph = graph_of(alloc, nodes)?;
+    let graph = graph_of(alloc, &[node(0, None); 2])?;
     let (mut board, seats) = made(rt, alloc, Kind::WoundWait, graph, threads)?;
+    assert!(rt; board.size() == 2);
     let shared = &board;
     let works = thread::map_vec(
         rt,
         seats,
         &|seat: Seat16| -> Work
-            requires { IsUnused shared.now seat × (shared.now.table.shared.key.places ≡ 16) }
+            requires { ((k : ℕ) × IsUnused shared.now k seat) × IsSmall shared.now }
             ensures { HasCome shared.entry.now.table.shared.table_id result.seat }
         { all_tries(rt, shared, alloc, seat) },
     )?;
@@ -205,10 +217,10 @@ fn crowd<R: Threads + Abort + Sync>(
 
 #[test]
 fn two_threads_on_two_nodes(rt: HostRuntime) -> Result<(), Fail> {
-    crowd(&rt, rt.alloc(), 2, &[node(0, None); 2])
+    crowd(&rt, rt.alloc(), 2)
 }
 
 #[test]
-fn four_threads_on_eight_nodes(rt: HostRuntime) -> Result<(), Fail> {
-    crowd(&rt, rt.alloc(), 4, &[node(0, None); 8])
+fn four_threads_on_two_nodes(rt: HostRuntime) -> Result<(), Fail> {
+    crowd(&rt, rt.alloc(), 4)
 }

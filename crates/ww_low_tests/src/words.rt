@@ -1,3 +1,5 @@
+//! Owner words: which owner each is, and which words are none.
+
 use std::test::Fail;
 use ww_word::{HANDOFF, Owner, WAITERS, pack, unpack};
 

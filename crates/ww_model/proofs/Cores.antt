@@ -62,34 +62,47 @@ module _ (s : Snapshot) where
       ≡ record (state_of s) { heeded = put (state_of s).heeded i a }
   heeded_set i a within = ap (λ (f : ℕ → ℕ). record (state_of s) { heeded = f }) (stored s.heeded i a 0 within)
 
--- the lists after writes that keep their lengths
-pub record HasLengths (s t : Snapshot) : Type 0 where
-  pub stamps : length t.stamps ≡ length s.stamps
-  pub signs : length t.signs ≡ length s.signs
-  pub owners : length t.owners ≡ length s.owners
-  pub asked : length t.asked ≡ length s.asked
-  pub queues : length t.queues ≡ length s.queues
-  pub guards : length t.guards ≡ length s.guards
-  pub cancels : length t.cancels ≡ length s.cancels
-  pub heeded : length t.heeded ≡ length s.heeded
+-- how long the lists are
+pub record Lengths : Type 0 where
+  pub stamps : ℕ
+  pub signs : ℕ
+  pub owners : ℕ
+  pub asked : ℕ
+  pub queues : ℕ
+  pub guards : ℕ
+  pub cancels : ℕ
+  pub heeded : ℕ
 
-pub resized : (s t : Snapshot) → HasSizes s → HasLengths s t → HasSizes t
-resized s t h l = record {
-  some_lock = omega (arith, h.some_lock, l.owners);
-  locks = omega (arith, h.locks, l.owners);
-  asked = l.asked ∙ h.asked ∙ sym l.owners;
-  queues = l.queues ∙ h.queues ∙ sym l.owners;
-  guards = l.guards ∙ h.guards ∙ sym l.owners;
-  some_seat = omega (arith, h.some_seat, l.stamps);
-  seats = omega (arith, h.seats, l.stamps);
-  signs = l.signs ∙ h.signs ∙ sym l.stamps;
-  cancels = l.cancels ∙ h.cancels ∙ sym l.stamps;
-  heeded = l.heeded ∙ h.heeded ∙ sym l.stamps;
+abbrev pub lengths_of : Snapshot → Lengths
+lengths_of s = record {
+  stamps = length s.stamps;
+  signs = length s.signs;
+  owners = length s.owners;
+  asked = length s.asked;
+  queues = length s.queues;
+  guards = length s.guards;
+  cancels = length s.cancels;
+  heeded = length s.heeded;
+}
+
+-- the lists after writes that keep their lengths
+resized : (s t : Snapshot) → HasSizes s → lengths_of t ≡ lengths_of s → HasSizes t
+resized s t h l = let owners = ap (λ (x : Lengths). x.owners) l in let stamps = ap (λ (x : Lengths). x.stamps) l in record {
+  some_lock = omega (arith, h.some_lock, owners);
+  locks = omega (arith, h.locks, owners);
+  asked = ap (λ (x : Lengths). x.asked) l ∙ h.asked ∙ sym owners;
+  queues = ap (λ (x : Lengths). x.queues) l ∙ h.queues ∙ sym owners;
+  guards = ap (λ (x : Lengths). x.guards) l ∙ h.guards ∙ sym owners;
+  some_seat = omega (arith, h.some_seat, stamps);
+  seats = omega (arith, h.seats, stamps);
+  signs = ap (λ (x : Lengths). x.signs) l ∙ h.signs ∙ sym stamps;
+  cancels = ap (λ (x : Lengths). x.cancels) l ∙ h.cancels ∙ sym stamps;
+  heeded = ap (λ (x : Lengths). x.heeded) l ∙ h.heeded ∙ sym stamps;
 }
 
 -- the lists t show what the event makes of the lists s
 pub record Makes (s : Snapshot) (e : Event) (t : Snapshot) : Type 0 where
-  pub lengths : HasLengths s t
+  pub lengths : lengths_of t ≡ lengths_of s
   pub state : state_of t ≡ after (state_of s) e
 
 -- a possible event keeps a core what it is

@@ -13,7 +13,7 @@ use Rattle.ww_model.specs.State.{State, put, waiter_of, owes, place_of, dies}
 use Rattle.ww_model.specs.Event.{Possible, after, answer, owed_to, given_to, giving, still_asked}
 use Rattle.ww_model.specs.Snapshot.{Snapshot, state_of, IsCore}
 use Rattle.ww_model.specs.Step.{Steps}
-use Rattle.ww_model.proofs.Cores.{Makes, kept, stepped, stamp_set, sign_set, owner_set, asked_set, queue_set, guard_set, cancel_set, heeded_set}
+use Rattle.ww_model.proofs.Cores.{lengths_of, Makes, kept, stepped, stamp_set, sign_set, owner_set, asked_set, queue_set, guard_set, cancel_set, heeded_set}
 
 -- the lists keep what a core is, and are what the step is to show
 pub record Does (old : Snapshot) (e : Event) (t : Snapshot) (a : Answer) : Type 0 where
@@ -35,16 +35,7 @@ module _ (old s : Snapshot) (is : s ≡ old) (core : IsCore s) where
       (told.Stamp (s.drawn + 1))
   did_begin v can = did (event.Begin v) (record s { drawn = s.drawn + 1; stamps = set s.stamps v (s.drawn + 1) })
       (told.Stamp (s.drawn + 1)) can refl (record {
-        lengths = record {
-          stamps = length-set s.stamps v (s.drawn + 1);
-          signs = refl;
-          owners = refl;
-          asked = refl;
-          queues = refl;
-          guards = refl;
-          cancels = refl;
-          heeded = refl;
-        };
+        lengths = λ i. record (lengths_of s) { stamps = (length-set s.stamps v (s.drawn + 1)) i };
         state = ap (λ (x : State). record x { drawn = s.drawn + 1 })
             (stamp_set s v (s.drawn + 1) (here (event.Begin v) can).base.away.seat);
       })
@@ -52,80 +43,35 @@ module _ (old s : Snapshot) (is : s ≡ old) (core : IsCore s) where
   pub did_clear : (v : ℕ) → v < length s.signs → Possible (state_of old) (event.Clear v)
       → Does old (event.Clear v) (record s { signs = set s.signs v 0 }) told.Done
   did_clear v within can = did (event.Clear v) (record s { signs = set s.signs v 0 }) told.Done can refl (record {
-    lengths = record {
-      stamps = refl;
-      signs = length-set s.signs v 0;
-      owners = refl;
-      asked = refl;
-      queues = refl;
-      guards = refl;
-      cancels = refl;
-      heeded = refl;
-    };
+    lengths = λ i. record (lengths_of s) { signs = (length-set s.signs v 0) i };
     state = sign_set s v 0 within;
   })
 
   pub did_fast : (v n : ℕ) → Possible (state_of old) (event.Fast v n)
       → Does old (event.Fast v n) (record s { owners = set s.owners n (Taken v) }) told.Locked
   did_fast v n can = did (event.Fast v n) (record s { owners = set s.owners n (Taken v) }) told.Locked can refl (record {
-    lengths = record {
-      stamps = refl;
-      signs = refl;
-      owners = length-set s.owners n (Taken v);
-      asked = refl;
-      queues = refl;
-      guards = refl;
-      cancels = refl;
-      heeded = refl;
-    };
+    lengths = λ i. record (lengths_of s) { owners = (length-set s.owners n (Taken v)) i };
     state = owner_set s n (Taken v) (here (event.Fast v n) can).base.idle.lock;
   })
 
   pub did_fast_give : (v n : ℕ) → Possible (state_of old) (event.FastGive v n)
       → Does old (event.FastGive v n) (record s { owners = set s.owners n Nobody }) told.Done
   did_fast_give v n can = did (event.FastGive v n) (record s { owners = set s.owners n Nobody }) told.Done can refl (record {
-    lengths = record {
-      stamps = refl;
-      signs = refl;
-      owners = length-set s.owners n Nobody;
-      asked = refl;
-      queues = refl;
-      guards = refl;
-      cancels = refl;
-      heeded = refl;
-    };
+    lengths = λ i. record (lengths_of s) { owners = (length-set s.owners n Nobody) i };
     state = owner_set s n Nobody (here (event.FastGive v n) can).base.lock;
   })
 
   pub did_guard : (v n : ℕ) → Possible (state_of old) (event.Guard v n)
       → Does old (event.Guard v n) (record s { guards = set s.guards n (Some v) }) told.Done
   did_guard v n can = did (event.Guard v n) (record s { guards = set s.guards n (Some v) }) told.Done can refl (record {
-    lengths = record {
-      stamps = refl;
-      signs = refl;
-      owners = refl;
-      asked = refl;
-      queues = refl;
-      guards = length-set s.guards n (Some v);
-      cancels = refl;
-      heeded = refl;
-    };
+    lengths = λ i. record (lengths_of s) { guards = (length-set s.guards n (Some v)) i };
     state = guard_set s n (Some v) (let within = (here (event.Guard v n) can).base.lock in omega (arith, core.sizes.guards));
   })
 
   pub did_unguard : (v n : ℕ) → Possible (state_of old) (event.Unguard v n)
       → Does old (event.Unguard v n) (record s { guards = set s.guards n None }) told.Done
   did_unguard v n can = did (event.Unguard v n) (record s { guards = set s.guards n None }) told.Done can refl (record {
-    lengths = record {
-      stamps = refl;
-      signs = refl;
-      owners = refl;
-      asked = refl;
-      queues = refl;
-      guards = length-set s.guards n None;
-      cancels = refl;
-      heeded = refl;
-    };
+    lengths = λ i. record (lengths_of s) { guards = (length-set s.guards n None) i };
     state = guard_set s n None (let within = (here (event.Unguard v n) can).base.inside.lock in omega (arith, core.sizes.guards));
   })
 
@@ -133,16 +79,7 @@ module _ (old s : Snapshot) (is : s ≡ old) (core : IsCore s) where
       → Possible (state_of old) (event.Join v n) →
       Does old (event.Join v n) (record s { queues = set s.queues n q }) told.Done
   did_join v n q is_joined can = did (event.Join v n) (record s { queues = set s.queues n q }) told.Done can refl (record {
-    lengths = record {
-      stamps = refl;
-      signs = refl;
-      owners = refl;
-      asked = refl;
-      queues = length-set s.queues n q;
-      guards = refl;
-      cancels = refl;
-      heeded = refl;
-    };
+    lengths = λ i. record (lengths_of s) { queues = (length-set s.queues n q) i };
     state = queue_set s n q (let within = (here (event.Join v n) can).base.inside.lock in omega (arith, core.sizes.queues))
         ∙ ap (λ (x : List Entry). record (state_of s) { queue = put (state_of s).queue n x }) is_joined;
   })
@@ -151,16 +88,7 @@ module _ (old s : Snapshot) (is : s ≡ old) (core : IsCore s) where
       → v < length s.signs → Possible (state_of old) (event.Sign u v) →
       Does old (event.Sign u v) (record s { signs = set s.signs v k }) (told.Met k)
   did_sign u v k owed within can = did (event.Sign u v) (record s { signs = set s.signs v k }) (told.Met k) can (ap told.Met owed) (record {
-    lengths = record {
-      stamps = refl;
-      signs = length-set s.signs v k;
-      owners = refl;
-      asked = refl;
-      queues = refl;
-      guards = refl;
-      cancels = refl;
-      heeded = refl;
-    };
+    lengths = λ i. record (lengths_of s) { signs = (length-set s.signs v k) i };
     state = sign_set s v k within ∙ ap (λ (x : ℕ). record (state_of s) { sign = put (state_of s).sign v x }) owed;
   })
 
@@ -173,16 +101,7 @@ module _ (old s : Snapshot) (is : s ≡ old) (core : IsCore s) where
   did_take v n q has_left can = did (event.Take v n)
       (record s { owners = set s.owners n (Taken v); asked = set s.asked n false; queues = set s.queues n q })
       told.Locked can refl (record {
-        lengths = record {
-          stamps = refl;
-          signs = refl;
-          owners = length-set s.owners n (Taken v);
-          asked = length-set s.asked n false;
-          queues = length-set s.queues n q;
-          guards = refl;
-          cancels = refl;
-          heeded = refl;
-        };
+        lengths = λ i. record (lengths_of s) { owners = (length-set s.owners n (Taken v)) i; asked = (length-set s.asked n false) i; queues = (length-set s.queues n q) i };
         state = let within = (here (event.Take v n) can).base.inside.lock in
             queue_set (record s { owners = set s.owners n (Taken v); asked = set s.asked n false }) n q (omega (arith, core.sizes.queues))
             ∙ ap (λ (x : State). record x { queue = put x.queue n q })
@@ -194,16 +113,7 @@ module _ (old s : Snapshot) (is : s ≡ old) (core : IsCore s) where
   pub did_ask : (v n : ℕ) → Possible (state_of old) (event.Ask v n)
       → Does old (event.Ask v n) (record s { asked = set s.asked n true }) told.Done
   did_ask v n can = did (event.Ask v n) (record s { asked = set s.asked n true }) told.Done can refl (record {
-    lengths = record {
-      stamps = refl;
-      signs = refl;
-      owners = refl;
-      asked = length-set s.asked n true;
-      queues = refl;
-      guards = refl;
-      cancels = refl;
-      heeded = refl;
-    };
+    lengths = λ i. record (lengths_of s) { asked = (length-set s.asked n true) i };
     state = asked_set s n true (let within = (here (event.Ask v n) can).base.inside.lock in omega (arith, core.sizes.asked));
   })
 
@@ -212,16 +122,7 @@ module _ (old s : Snapshot) (is : s ≡ old) (core : IsCore s) where
       Does old (event.Give v n) (record s { owners = set s.owners n h; asked = set s.asked n false }) a
   did_give v n h a given said can = did (event.Give v n)
       (record s { owners = set s.owners n h; asked = set s.asked n false }) a can (said ∙ ap giving given) (record {
-        lengths = record {
-          stamps = refl;
-          signs = refl;
-          owners = length-set s.owners n h;
-          asked = length-set s.asked n false;
-          queues = refl;
-          guards = refl;
-          cancels = refl;
-          heeded = refl;
-        };
+        lengths = λ i. record (lengths_of s) { owners = (length-set s.owners n h) i; asked = (length-set s.asked n false) i };
         state = let within = (here (event.Give v n) can).base.inside.lock in
             asked_set (record s { owners = set s.owners n h }) n false (omega (arith, core.sizes.asked))
             ∙ ap (λ (x : State). record x { asked = put x.asked n false }) (owner_set s n h within)
@@ -247,64 +148,27 @@ module _ (old s : Snapshot) (is : s ≡ old) (core : IsCore s) where
       Does old (event.Die v n) (record s { asked = bs; queues = qs }) (told.Deadlk k)
   did_die v n qs bs k lists flags cause can = let q = left ((state_of s).queue n) v in let b = still_asked q ((state_of s).asked n) in
       did (event.Die v n) (record s { asked = bs; queues = qs }) (told.Deadlk k) can (ap told.Deadlk cause) (record {
-        lengths = record {
-          stamps = refl;
-          signs = refl;
-          owners = refl;
-          asked = ap length flags
-              ∙ length-set s.asked n b;
-          queues = ap length lists ∙ length-set s.queues n q;
-          guards = refl;
-          cancels = refl;
-          heeded = refl;
-        };
+        lengths = λ i. record (lengths_of s) { asked = (ap length flags ∙ length-set s.asked n b) i; queues = (ap length lists ∙ length-set s.queues n q) i };
         state = departed v n qs bs (here (event.Die v n) can).base.inside.lock lists flags;
       })
 
   pub did_commit : (v : ℕ) → Possible (state_of old) (event.Commit v)
       → Does old (event.Commit v) (record s { commits = s.commits + 1 }) (told.Place s.commits)
   did_commit v can = did (event.Commit v) (record s { commits = s.commits + 1 }) (told.Place s.commits) can refl (record {
-    lengths = record {
-      stamps = refl;
-      signs = refl;
-      owners = refl;
-      asked = refl;
-      queues = refl;
-      guards = refl;
-      cancels = refl;
-      heeded = refl;
-    };
+    lengths = refl;
     state = refl;
   })
 
   pub did_end : (v : ℕ) → Possible (state_of old) (event.End v) → Does old (event.End v) (record s { stamps = set s.stamps v 0 }) told.Done
   did_end v can = did (event.End v) (record s { stamps = set s.stamps v 0 }) told.Done can refl (record {
-    lengths = record {
-      stamps = length-set s.stamps v 0;
-      signs = refl;
-      owners = refl;
-      asked = refl;
-      queues = refl;
-      guards = refl;
-      cancels = refl;
-      heeded = refl;
-    };
+    lengths = λ i. record (lengths_of s) { stamps = (length-set s.stamps v 0) i };
     state = stamp_set s v 0 (here (event.End v) can).base.away.seat;
   })
 
   pub did_cancel : (u v : ℕ) → Possible (state_of old) (event.Cancel u v)
       → Does old (event.Cancel u v) (record s { cancels = set s.cancels v (u + 1) }) told.Done
   did_cancel u v can = did (event.Cancel u v) (record s { cancels = set s.cancels v (u + 1) }) told.Done can refl (record {
-    lengths = record {
-      stamps = refl;
-      signs = refl;
-      owners = refl;
-      asked = refl;
-      queues = refl;
-      guards = refl;
-      cancels = length-set s.cancels v (u + 1);
-      heeded = refl;
-    };
+    lengths = λ i. record (lengths_of s) { cancels = (length-set s.cancels v (u + 1)) i };
     state = cancel_set s v (u + 1) (let within = (here (event.Cancel u v) can).base.seat in omega (arith, core.sizes.cancels));
   })
 
@@ -312,16 +176,7 @@ module _ (old s : Snapshot) (is : s ≡ old) (core : IsCore s) where
       Does old (event.Heed v n) (record s { cancels = set s.cancels v 0; heeded = set s.heeded v k }) told.Done
   did_heed v n k found can = did (event.Heed v n)
       (record s { cancels = set s.cancels v 0; heeded = set s.heeded v k }) told.Done can refl (record {
-        lengths = record {
-          stamps = refl;
-          signs = refl;
-          owners = refl;
-          asked = refl;
-          queues = refl;
-          guards = refl;
-          cancels = length-set s.cancels v 0;
-          heeded = length-set s.heeded v k;
-        };
+        lengths = λ i. record (lengths_of s) { cancels = (length-set s.cancels v 0) i; heeded = (length-set s.heeded v k) i };
         state = let within = (here (event.Heed v n) can).base.inside.seat in
             heeded_set (record s { cancels = set s.cancels v 0 }) v k (omega (arith, core.sizes.heeded))
             ∙ ap (λ (x : State). record x { heeded = put x.heeded v k }) (cancel_set s v 0 (omega (arith, core.sizes.cancels)))
@@ -335,17 +190,7 @@ module _ (old s : Snapshot) (is : s ≡ old) (core : IsCore s) where
   did_leave v n qs bs k lists flags by can = let q = left ((state_of s).queue n) v in let b = still_asked q ((state_of s).asked n) in
       did (event.Leave v n) (record s { asked = bs; queues = qs; heeded = set s.heeded v 0 }) (told.Interrupted k)
       can (ap told.Interrupted by) (record {
-        lengths = record {
-          stamps = refl;
-          signs = refl;
-          owners = refl;
-          asked = ap length flags
-              ∙ length-set s.asked n b;
-          queues = ap length lists ∙ length-set s.queues n q;
-          guards = refl;
-          cancels = refl;
-          heeded = length-set s.heeded v 0;
-        };
+        lengths = λ i. record (lengths_of s) { asked = (ap length flags ∙ length-set s.asked n b) i; queues = (ap length lists ∙ length-set s.queues n q) i; heeded = (length-set s.heeded v 0) i };
         state = let inside = (here (event.Leave v n) can).base.inside in
             heeded_set (record s { asked = bs; queues = qs }) v 0 (let within = inside.seat in omega (arith, core.sizes.heeded))
             ∙ ap (λ (x : State). record x { heeded = put x.heeded v 0 }) (departed v n qs bs inside.lock lists flags);

@@ -1,3 +1,5 @@
+//! A list of events, from the start to the first that isn't possible.
+
 ghost use Rattle.std.specs.Prelude.{◌≡◌, ◌≤◌, IfOk, IfErr};
 ghost use Rattle.ww_word.specs.declared.owner.TheConstants.{MAX_SEATS};
 ghost use Rattle.ww_model.specs.declared.state.TheConstants.{MAX_LOCKS};

@@ -1,3 +1,5 @@
+//! The state of the core, and what can be asked of it.
+
 ghost use Rattle.std.specs.Prelude.{◌≡◌, IfOk, [], replicate};
 
 use std::alloc::{AllocError, Global};

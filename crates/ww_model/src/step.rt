@@ -1,3 +1,5 @@
+//! One event: whether it is possible, and then its effect.
+
 use crate::event::{Answer, Event, NotPossible};
 use crate::state::Core;
 

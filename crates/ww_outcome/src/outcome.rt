@@ -1,3 +1,5 @@
+//! What came of scripts, as values, and two laws of it.
+
 ghost use Rattle.ww_outcome.specs.Cancels.{CancelsAreAnsweredOnce};
 ghost use Rattle.ww_outcome.specs.CutOff.{VersionsAgree};
 
@@ -46,6 +48,7 @@ pub fn cancels_are_answered_once()
 
 /// A law over all scripts of version 1: as scripts of version 2 they have the same outcomes, and the text of each is that
 /// of version 2 with the ports cut off that version 1 lacks, which are empty.
+#[tactic(auto, using(crate::proofs::CutOff::versions_agree))]
 pub fn versions_agree()
     ensures { VersionsAgree }
 {}

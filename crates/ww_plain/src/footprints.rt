@@ -1,3 +1,5 @@
+//! Which nodes a transaction depends on and may change: those whose locks it needs.
+
 ghost use Rattle.std.specs.Prelude.{◌≡◌, ◌≤◌, length, map};
 ghost use Rattle.ww_plain.specs.Numbers.{joined, distinct_of};
 ghost use Rattle.ww_plain.specs.Transaction.{transaction_of, Fits, IsCourse};

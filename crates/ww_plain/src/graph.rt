@@ -1,3 +1,5 @@
+//! Graphs, each port of which leads to a node that is there.
+
 ghost use Rattle.std.specs.Prelude.{◌≡◌, ◌≤◌, ◌<◌, ◌↔◌, length, IsTrue, IsOk, IfOk, IfErr, slice_get, slice_set, Some};
 
 use crate::node::Node;

@@ -1,3 +1,5 @@
+//! Histories of committed transactions, and whether one is legal from a graph.
+
 ghost use Rattle.std.specs.Prelude.{◌≡◌, ◌↔◌, IsTrue, IfOk, MatchBool};
 ghost use Rattle.std.specs.Option.{SomeIff};
 ghost use Rattle.ww_plain.specs.Meaning.{graph_after};

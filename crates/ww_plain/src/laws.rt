@@ -18,11 +18,13 @@ pub fn walk_is_the_one()
 {}
 
 /// A transaction that fits leaves a graph of the same size.
+#[tactic(auto, using(crate::proofs::Kept::keeps_graph, crate::proofs::Kept::sized_after))]
 pub fn transaction_keeps_graph()
     ensures { TransactionKeepsGraph }
 {}
 
 /// No node outside a transaction's footprint changes.
+#[tactic(auto, using(crate::proofs::Frames::outside))]
 pub fn only_footprint_changes()
     ensures { OnlyFootprintChanges }
 {}
@@ -35,6 +37,7 @@ pub fn only_footprint_matters()
 
 /// A footprint names each node that concerns its transaction once: those of the list, a link's node and its target,
 /// those of the walk and its stop, or the node of a peek.
+#[tactic(auto, using(crate::proofs::Frames::different_footprint, crate::proofs::Frames::concerns))]
 pub fn footprint_is_what_concerns()
     ensures { FootprintIsWhatConcerns }
 {}
@@ -46,6 +49,7 @@ pub fn reverse_turns_the_walk()
 {}
 
 /// Where all ports from some number on are empty, a transaction that names none of them leaves them empty.
+#[tactic(auto, using(crate::proofs::Unused::unused_after))]
 pub fn unused_ports_stay_empty()
     ensures { UnusedPortsStayEmpty }
 {}

@@ -1,3 +1,5 @@
+//! What each transaction does to a graph, alone and at once: all else is measured by this.
+
 ghost use Rattle.std.specs.Prelude.{◌≡◌, ◌≢◌, ◌<◌, ◌≤◌, length, map, fold, IfOk, OnErr};
 ghost use Rattle.std.specs.List.{AllByRecursion};
 ghost use Rattle.ww_plain.specs.Walk.{stop_of};

@@ -1,3 +1,5 @@
+//! A node: a value, and ports that name other nodes.
+
 /// How many ports a node has.
 pub const PORTS: usize = 8;
 

@@ -1,3 +1,5 @@
+//! The answers of transactions.
+
 ghost use Rattle.std.specs.Prelude.{◌≡◌, ◌↔◌, IsTrue, IfOk};
 ghost use Rattle.ww_plain.specs.Meaning.{answer_of};
 

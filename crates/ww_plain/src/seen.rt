@@ -1,3 +1,5 @@
+//! A set of node numbers, by a flag for each.
+
 ghost use Rattle.std.specs.Prelude.{◌≡◌, ℕ, List, [], ◌++◌, ◌∷◌, not};
 ghost use Rattle.ww_plain.specs.Numbers.{is_among};
 ghost use Rattle.ww_plain.specs.Seen.{Marks};
@@ -12,6 +14,7 @@ pub(crate) struct Seen {
 }
 
 impl Seen {
+    #[tactic(auto, using(crate::proofs::Seens::none_marked))]
     pub(crate) fn new() -> Seen
         ensures { Marks result.came [] }
     {

@@ -1,3 +1,5 @@
+//! Transactions: what they ask for, and which of them a graph admits.
+
 ghost use Rattle.std.specs.Prelude.{◌≡◌, ◌<◌, ◌≤◌, ◌↔◌, ℕ, map, IsTrue};
 ghost use Rattle.ww_plain.specs.Transaction.{transaction_of, listed, FirstDouble};
 

@@ -1,3 +1,5 @@
+//! Walks along one port from node to node, until one comes again.
+
 ghost use Rattle.std.specs.Prelude.{◌≡◌, ◌<◌, length, MatchOption};
 ghost use Rattle.std.specs.List.{AllByRecursion};
 ghost use Rattle.ww_plain.specs.Graph.{port_of, IsGraph};

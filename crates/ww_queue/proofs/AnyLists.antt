@@ -1,20 +1,18 @@
 -- One walk along a wait list finds the signs that are owed.
-use Rattle.std.proofs.Common.{ℕ, zero, suc, ◌≡◌, ◌≢◌, ◌+◌, ◌==◌, ◌⊎◌, inl, inr, ⊎_elim, Bool, true, false, cond, List, [], ◌∷◌, ◌++◌, Option, Some, None, refl, sym, ap, ◌∙◌, subst, arith, append_assoc}
+use Rattle.std.proofs.Common.{ℕ, zero, suc, ◌≡◌, ◌+◌, ◌==◌, ◌⊎◌, inl, inr, ⊎_elim, Bool, true, false, cond, List, [], ◌∷◌, ◌++◌, Option, Some, None, refl, sym, ap, ◌∙◌, subst, arith, append_assoc}
 use Rattle.std.proofs.lemmas.Grind.{common_steps}
-use Rattle.std.specs.Option.{option_map, option_or, option_and_then}
-use Rattle.std.specs.List.{cons_option, filter_map}
+use Rattle.std.specs.Option.{option_map, option_or}
+use Rattle.std.specs.List.{cons_option}
 use Rattle.ww_word.specs.declared.owner.Owner.{Owner}
 use Rattle.ww_queue.specs.declared.kind.Kind.{Kind}
 use Rattle.ww_queue.specs.declared.kind.Kind.TheVariants.{WoundWait, WaitDie}
 use Rattle.ww_queue.specs.declared.entry.Entry.{Entry}
 use Rattle.ww_queue.specs.Entry.{has_context, is_holding}
-use Rattle.ww_queue.specs.Queue.{Has, StandsNot, Once, entry_of, first_before}
-use Rattle.ww_queue.specs.Rules.{must_die, death_of, cause_of, older_owner, owed_death, owed_deaths, owed_signs}
+use Rattle.ww_queue.specs.Queue.{Has, StandsNot, Once, first_before}
+use Rattle.ww_queue.specs.Rules.{must_die, older_owner, owed_death, owed_deaths, owed_signs}
 use Rattle.ww_queue.specs.AnySeats.{ahead_with, owed_behind, owed_past, signs_past}
 use Rattle.ww_queue.proofs.Outcomes.{by_test, true_picks, false_picks, number_other}
-use Rattle.ww_queue.proofs.Leaves.{entry_when}
 use Rattle.ww_queue.proofs.Deaths.{must_die_of_entry}
-use Rattle.ww_queue.proofs.Members.{cons_has}
 
 -- the stamp of the first context of a front
 ahead_in : List Entry → Option ℕ → Option ℕ

@@ -1,3 +1,5 @@
+//! One waiter, as the wait list has it.
+
 /// A waiter in the list of a lock.
 #[derive(Clone, Copy, Debug, Default, PartialEq, Eq)]
 pub struct Entry {

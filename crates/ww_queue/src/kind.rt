@@ -1,3 +1,5 @@
+//! The two ways of the kernel's classes, Wound-Wait and Wait-Die.
+
 /// How a class of locks treats a deadlock. Both are the kernel's, and a wait list never mixes them: each of its
 /// contexts is of the one class.
 #[derive(Clone, Copy, Debug, PartialEq, Eq)]

@@ -11,26 +11,31 @@ pub fn limits()
 {}
 
 /// Whoever joins stands immediately before the first younger context, else last, and nobody else moves.
+#[tactic(auto, using(crate::proofs::Joins::takes_its_position))]
 pub fn join_takes_its_position()
     ensures { JoinTakesItsPosition }
 {}
 
 /// A waiter without a context goes last.
+#[tactic(auto, using(crate::proofs::Joins::joined_last))]
 pub fn solo_joins_last()
     ensures { SoloJoinsLast }
 {}
 
 /// After a join the list has those that were there and the new one, in the order in which they were.
+#[tactic(auto, using(crate::proofs::Joins::joined_each, crate::proofs::Joins::before_joined))]
 pub fn join_keeps_each()
     ensures { JoinKeepsEach }
 {}
 
 /// A join keeps the contexts in the order of their stamps, and no seat waits twice after it.
+#[tactic(auto, using(crate::proofs::Joins::joined_ascends, crate::proofs::Joins::joined_once))]
 pub fn join_keeps_order()
     ensures { JoinKeepsOrder }
 {}
 
 /// Whoever leaves is taken out and nobody else moves; where the seat doesn't wait, the list stays.
+#[tactic(auto, using(crate::proofs::Leaves::takes_one_out))]
 pub fn leave_takes_one_out()
     ensures { LeaveTakesOneOut }
 {}
@@ -61,16 +66,19 @@ pub fn wound_wait_condemns()
 {}
 
 /// A seat that doesn't wait doesn't have to die.
+#[tactic(auto, using(crate::proofs::Deaths::only_waiters_die))]
 pub fn only_waiters_die()
     ensures { OnlyWaitersDie }
 {}
 
 /// In Wait-Die a waiter dies of an older context only.
+#[tactic(auto, using(crate::proofs::Deaths::death_is_of_older))]
 pub fn death_is_of_older()
     ensures { DeathIsOfOlder }
 {}
 
 /// In Wait-Die exactly those that have to die are signed, but for the seat inside.
+#[tactic(auto, using(crate::proofs::Signs::signs_are_deaths))]
 pub fn signs_are_deaths()
     ensures { SignsAreDeaths }
 {}
@@ -81,6 +89,7 @@ pub fn sign_is_wound()
 {}
 
 /// One walk along a list in which each seat waits once finds the signs that are owed.
+#[tactic(auto, using(crate::proofs::AnyLists::signs_all))]
 pub fn one_walk_finds_all_signs()
     ensures { OneWalkFindsAllSigns }
 {}

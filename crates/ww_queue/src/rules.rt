@@ -1,3 +1,5 @@
+//! The two rules of a lock's state: which waiter has to die, and which signs the seat inside the guard owes.
+
 ghost use Rattle.std.specs.Prelude.{◌≡◌};
 ghost use Rattle.ww_queue.specs.Rules.{must_die, cause_of, older_owner, taker_of, least_holding, least_of, holding_stamp, owed_signs, owed_death, owed_deaths, owed_wound};
 

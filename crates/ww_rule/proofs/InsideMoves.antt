@@ -40,6 +40,7 @@ use Rattle.ww_rule.specs.declared.cells.Cell.{Cell}
 use Rattle.ww_rule.specs.declared.cells.Cell.TheVariants.{Content, Line}
 use Rattle.ww_rule.specs.declared.cells.Start.{Start}
 use Rattle.ww_rule.specs.declared.cells.Counts.{Counts}
+use Rattle.ww_rule.specs.Layout.{lock_at}
 use Rattle.ww_rule.specs.Rule.{St, Sat, first_graph, Balanced, Shown, AtHome, Counted, Sits, Ruled, Makes}
 use Rattle.ww_rule.specs.Steps.{knowing}
 use Rattle.ww_rule.specs.Guards.{entering, exiting}
@@ -63,7 +64,7 @@ module _ (key : Start) (s : St) (r : Ruled key s) (id : ℕ) (me : Sat) (here : 
   pub mine : Sits key r.core r.log r.at r.counts id me.0
   mine = moves.mine key s r id me here seated
 
-  found : (n : ℕ) (o : Owner) → n < key.locks → IsValid o → get_or s.words (16 + 8 * n) 0 ≡ packed o → o ≡ word_of r.core n
+  found : (n : ℕ) (o : Owner) → n < key.locks → IsValid o → get_or s.words (lock_at key.locks n) 0 ≡ packed o → o ≡ word_of r.core n
   found = moves.found key s r id me here seated
 
   pub inside_low : (n : ℕ) → me.0.part.core.inside ≡ suc n → n < key.locks
@@ -84,15 +85,15 @@ module _ (key : Start) (s : St) (r : Ruled key s) (id : ℕ) (me : Sat) (here : 
       (λ n own in_graph. mine.held n (sym (has n) ∙ own) in_graph)
 
   -- enter: the guard word was 0
-  pub enter_makes : (n : ℕ) → n < key.locks → MayEnter me.0.part.core n → get_or s.words (16 + 8 * n + 1) 0 ≡ 0
+  pub enter_makes : (n : ℕ) → n < key.locks → MayEnter me.0.part.core n → get_or s.words (lock_at key.locks n + 1) 0 ≡ 0
       → Makes key s r (Guard me.0.part.core.who n)
-      (stepped s (16 + 8 * n + 1) (suc me.0.part.core.who) id me.1 (entering me.0 n (r.core.queue n))
+      (stepped s (lock_at key.locks n + 1) (suc me.0.part.core.who) id me.1 (entering me.0 n (r.core.queue n))
       (takes (64 + n) (Line (r.core.queue n))))
   enter_makes n low may hit = let c = r.core in let v = me.0.part.core in let k = mine.part.knows in
       let free : c.guard n ≡ 0 = sym (r.words.guards n low) ∙ hit in
       let can = shows_guard c v law k n (signed_owns_outside c r.reached) may (let z = r.locks in omega arith)
       free in let deep = r.homes.deep in
-      makes (Guard v.who n) (16 + 8 * n + 1) (suc v.who) (entered v n (c.queue n))
+      makes (Guard v.who n) (lock_at key.locks n + 1) (suc v.who) (entered v n (c.queue n))
       (takes (64 + n) (Line (c.queue n))) refl refl (λ m. refl) can (mine_guard c v law k n can) r.drawn r.counted
       (guard_set c (Guard v.who n) can.base law.base key.locks key.places r.all s.words r.words n (suc v.who) low (λ m. tt) refl refl refl refl refl)
       (record {
@@ -107,10 +108,10 @@ module _ (key : Start) (s : St) (r : Ruled key s) (id : ℕ) (me : Sat) (here : 
 
   -- exit: 0 is stored, and the list slot goes home as the view has it
   pub exit_makes : (n : ℕ) → MayExit me.0.part.core n → me.1 ≡ (64 + n, Line me.0.part.core.list) ∷ rest me.1
-      → Makes key s r (Unguard me.0.part.core.who n) (stepped s (16 + 8 * n + 1) 0 id me.1 (exiting me.0) gives)
+      → Makes key s r (Unguard me.0.part.core.who n) (stepped s (lock_at key.locks n + 1) 0 id me.1 (exiting me.0) gives)
   exit_makes n may top = let c = r.core in let v = me.0.part.core in let k = mine.part.knows in let low = inside_low n may.inside in
       let can = shows_exit c v law k n (signed_owns_outside c r.reached) may in let deep = r.homes.deep in
-      makes (Unguard v.who n) (16 + 8 * n + 1) 0 (exited v) gives refl refl (λ m. refl) can (mine_unguard c v law k n can) r.drawn r.counted
+      makes (Unguard v.who n) (lock_at key.locks n + 1) 0 (exited v) gives refl refl (λ m. refl) can (mine_unguard c v law k n can) r.drawn r.counted
       (guard_set c (Unguard v.who n) can.base law.base key.locks key.places r.all s.words r.words n 0 low (λ m. tt) refl refl refl refl refl)
       (subst (λ (cs : List (ℕ × Cell)). AtHome key.locks graph c.owner c.queue (put c.guard n 0)
       (homes_after s.homes cs gives)) (sym top) (record {
@@ -126,12 +127,12 @@ module _ (key : Start) (s : St) (r : Ruled key s) (id : ℕ) (me : Sat) (here : 
       }))
 
   -- join: the owner word was another's, and has WAITERS now
-  pub join_makes : (n : ℕ) (o : Owner) → MayJoin me.0.part.core n o → IsValid o → get_or s.words (16 + 8 * n) 0 ≡ packed o
-      → Makes key s r (Join me.0.part.core.who n) (stepped s (16 + 8 * n) (packed (with_waiters o)) id me.1 (joining me.0 n o) keeps)
+  pub join_makes : (n : ℕ) (o : Owner) → MayJoin me.0.part.core n o → IsValid o → get_or s.words (lock_at key.locks n) 0 ≡ packed o
+      → Makes key s r (Join me.0.part.core.who n) (stepped s (lock_at key.locks n) (packed (with_waiters o)) id me.1 (joining me.0 n o) keeps)
   join_makes n o may valid hit = let c = r.core in let v = me.0.part.core in let k = mine.part.knows in
       let low = inside_low n may.inside in let is = found n o low valid hit in
       let can = shows_join c v law k n o (signed_owns_outside c r.reached) may is in
-      makes (Join v.who n) (16 + 8 * n) (packed (with_waiters o)) (queued v n o) keeps refl refl (λ m. refl) can
+      makes (Join v.who n) (lock_at key.locks n) (packed (with_waiters o)) (queued v n o) keeps refl refl (λ m. refl) can
       (mine_join c v law k n o may.inside may.not_waiting is can) r.drawn r.counted
       (owner_set c (Join v.who n) can.base law.base key.locks key.places r.all s.words r.words n (packed (with_waiters o)) low
       (λ m far. far) refl refl refl refl refl
@@ -140,26 +141,26 @@ module _ (key : Start) (s : St) (r : Ruled key s) (id : ℕ) (me : Sat) (here : 
       can.base.inside.guard r.homes)
 
   -- die: the owner word has no flag if nobody is left in the list
-  pub die_makes : (n : ℕ) (o : Owner) (j : ℕ) → MayDie me.0.part.core n o j → IsValid o → get_or s.words (16 + 8 * n) 0 ≡ packed o
+  pub die_makes : (n : ℕ) (o : Owner) (j : ℕ) → MayDie me.0.part.core n o j → IsValid o → get_or s.words (lock_at key.locks n) 0 ≡ packed o
       → Makes key s r (Die me.0.part.core.who n)
-      (stepped s (16 + 8 * n) (packed (rest_word (left me.0.part.core.list me.0.part.core.who) o)) id me.1
+      (stepped s (lock_at key.locks n) (packed (rest_word (left me.0.part.core.list me.0.part.core.who) o)) id me.1
       (dying me.0 o) keeps)
   die_makes n o j may valid hit = let c = r.core in let v = me.0.part.core in let k = mine.part.knows in
       let low = inside_low n may.inside in let is = found n o low valid hit in
       let can = shows_die c v law k n o j may is in let x = packed (rest_word (left v.list v.who) o) in
-      makes (Die v.who n) (16 + 8 * n) x (died v o) keeps refl refl (λ m. refl) can (mine_die c v law k n o may.inside is can) r.drawn r.counted
+      makes (Die v.who n) (lock_at key.locks n) x (died v o) keeps refl refl (λ m. refl) can (mine_die c v law k n o may.inside is can) r.drawn r.counted
       (owner_set c (Die v.who n) can.base law.base key.locks key.places r.all s.words r.words n x low (λ m far. far) refl refl refl refl refl
       ((λ i. packed (rest_word (left (k.queues.list n may.inside i) v.who) (is i)))
       ∙ ap packed (sym (word_die c v.who n law.base can.base))))
       (list_inside key.locks graph c.owner c.queue c.guard s.homes v.who n (left (c.queue n) v.who) can.base.inside.guard r.homes)
 
   -- ask: HANDOFF stands beside WAITERS now
-  pub ask_makes : (n : ℕ) (o : Owner) → MayAsk me.0.part.core n o → IsValid o → get_or s.words (16 + 8 * n) 0 ≡ packed o
-      → Makes key s r (Ask me.0.part.core.who n) (stepped s (16 + 8 * n) (packed (asked_word o)) id me.1 (asking me.0 o) keeps)
+  pub ask_makes : (n : ℕ) (o : Owner) → MayAsk me.0.part.core n o → IsValid o → get_or s.words (lock_at key.locks n) 0 ≡ packed o
+      → Makes key s r (Ask me.0.part.core.who n) (stepped s (lock_at key.locks n) (packed (asked_word o)) id me.1 (asking me.0 o) keeps)
   ask_makes n o may valid hit = let c = r.core in let v = me.0.part.core in let k = mine.part.knows in
       let low = inside_low n may.inside in let is = found n o low valid hit in
       let can = shows_ask c v law k n o may is in
-      makes (Ask v.who n) (16 + 8 * n) (packed (asked_word o)) (has_asked v o) keeps refl refl (λ m. refl) can
+      makes (Ask v.who n) (lock_at key.locks n) (packed (asked_word o)) (has_asked v o) keeps refl refl (λ m. refl) can
       (mine_ask c v law k n o may.inside is can) r.drawn r.counted
       (owner_set c (Ask v.who n) can.base law.base key.locks key.places r.all s.words r.words n (packed (asked_word o)) low
       (λ m far. far) refl refl refl refl refl
@@ -168,9 +169,9 @@ module _ (key : Start) (s : St) (r : Ruled key s) (id : ℕ) (me : Sat) (here : 
 
   -- take: the lock was free, or handed to the seat; the node slot comes out below the list slot
   pub take_makes : (n : ℕ) (o : Owner) (y : Cell) (cs : List (ℕ × Cell)) → n < length (first_graph key)
-      → MayTake me.0.part.core n o → IsValid o → get_or s.words (16 + 8 * n) 0 ≡ packed o → me.1 ≡ (64 + n, y) ∷ cs
+      → MayTake me.0.part.core n o → IsValid o → get_or s.words (lock_at key.locks n) 0 ≡ packed o → me.1 ≡ (64 + n, y) ∷ cs
       → Makes key s r (Take me.0.part.core.who n)
-      (stepped s (16 + 8 * n) (packed (taken_word me.0.part.core.who me.0.part.core.stamp
+      (stepped s (lock_at key.locks n) (packed (taken_word me.0.part.core.who me.0.part.core.stamp
       (left me.0.part.core.list me.0.part.core.who))) id me.1
       (taking_inside me.0 n (node_at graph n)) (chain gives (chain (takes n (Content (node_at graph n))) (takes (64 + n) y))))
   take_makes n o y cs small may valid hit top = let c = r.core in let v = me.0.part.core in
@@ -179,7 +180,7 @@ module _ (key : Start) (s : St) (r : Ruled key s) (id : ℕ) (me : Sat) (here : 
       let q = left (c.queue n) v.who in let x = node_at graph n in let room = mine.room in
       let w = packed (taken_word v.who v.stamp (left v.list v.who)) in
       let act : Act Cell = chain gives (chain (takes n (Content x)) (takes (64 + n) y)) in
-      moves.makes key s r id me here seated (Take v.who n) (16 + 8 * n) w (taken v n) (set me.0.held n (Some x))
+      moves.makes key s r id me here seated (Take v.who n) (lock_at key.locks n) w (taken v n) (set me.0.held n (Some x))
       act refl refl can (mine_take c v law k n may.inside can)
       (length-set me.0.held n (Some x) ∙ mine.room)
       (λ m own in_graph. dite (ℕ_discrete m n)
@@ -212,9 +213,9 @@ module _ (key : Start) (s : St) (r : Ruled key s) (id : ℕ) (me : Sat) (here : 
 
   -- give: the owner word was that of the seat, with the flags that the list and HANDOFF give
   pub give_makes : (n : ℕ) (o : Owner) (x : Node) → MayGive me.0.part.core n → get_elem? me.0.held n ≡ some (Some x)
-      → IsValid o → get_or s.words (16 + 8 * n) 0 ≡ packed o → me.1 ≡ (n, Content x) ∷ rest me.1
+      → IsValid o → get_or s.words (lock_at key.locks n) 0 ≡ packed o → me.1 ≡ (n, Content x) ∷ rest me.1
       → Makes key s r (Give me.0.part.core.who n)
-      (stepped s (16 + 8 * n) (packed (given_word (o.flags == 3) me.0.part.core.list)) id me.1
+      (stepped s (lock_at key.locks n) (packed (given_word (o.flags == 3) me.0.part.core.list)) id me.1
       (giving_inside me.0 n (o.flags == 3)) gives)
   give_makes n o x may has valid hit top = let c = r.core in let v = me.0.part.core in let k = mine.part.knows in
       let low = inside_low n may.inside in let b = o.flags == 3 in
@@ -223,7 +224,7 @@ module _ (key : Start) (s : St) (r : Ruled key s) (id : ℕ) (me : Sat) (here : 
       let value : x ≡ node_at graph n = (let p : some (Some x) ≡ some (Some (node_at graph n)) = sym has
       ∙ mine.held n may.owns (let room = mine.room in let low' = place_low me.0.held n (Some x) has in
       omega arith) in cc) in
-      moves.makes key s r id me here seated (Give v.who n) (16 + 8 * n) (packed (given_word b v.list))
+      moves.makes key s r id me here seated (Give v.who n) (lock_at key.locks n) (packed (given_word b v.list))
       (given v n b) (set me.0.held n None) gives refl refl can (mine_give c v law k n b may.inside asked can)
       (length-set me.0.held n None ∙ mine.room)
       (λ m own' in_graph. dite (ℕ_discrete m n)
@@ -251,16 +252,16 @@ module _ (key : Start) (s : St) (r : Ruled key s) (id : ℕ) (me : Sat) (here : 
 
   -- take of a lock that guards no node: the list stays out, and nothing comes
   pub take_bare_makes : (n : ℕ) (o : Owner) → length (first_graph key) ≤ n → MayTake me.0.part.core n o → IsValid o
-      → get_or s.words (16 + 8 * n) 0 ≡ packed o
+      → get_or s.words (lock_at key.locks n) 0 ≡ packed o
       → Makes key s r (Take me.0.part.core.who n)
-      (stepped s (16 + 8 * n) (packed (taken_word me.0.part.core.who me.0.part.core.stamp
+      (stepped s (lock_at key.locks n) (packed (taken_word me.0.part.core.who me.0.part.core.stamp
       (left me.0.part.core.list me.0.part.core.who))) id me.1
       (knowing me.0 (taken me.0.part.core n)) keeps)
   take_bare_makes n o big may valid hit = let c = r.core in let v = me.0.part.core in let k = mine.part.knows in
       let low = inside_low n may.inside in let is = found n o low valid hit in
       let can = shows_take c v law k n o (signed_owns_outside c r.reached) may is in
       let q = left (c.queue n) v.who in let w = packed (taken_word v.who v.stamp (left v.list v.who)) in
-      moves.makes key s r id me here seated (Take v.who n) (16 + 8 * n) w (taken v n) me.0.held keeps refl refl can
+      moves.makes key s r id me here seated (Take v.who n) (lock_at key.locks n) w (taken v n) me.0.held keeps refl refl can
       (mine_take c v law k n may.inside can)
       mine.room
       (λ m own in_graph. mine.held m (sym (get_or-set_other v.owned n m true false (λ z. omega arith)) ∙ own) in_graph)
@@ -278,15 +279,15 @@ module _ (key : Start) (s : St) (r : Ruled key s) (id : ℕ) (me : Sat) (here : 
 
   -- give of a lock that guards no node
   pub give_bare_makes : (n : ℕ) (o : Owner) → length (first_graph key) ≤ n → MayGive me.0.part.core n → IsValid o
-      → get_or s.words (16 + 8 * n) 0 ≡ packed o
+      → get_or s.words (lock_at key.locks n) 0 ≡ packed o
       → Makes key s r (Give me.0.part.core.who n)
-      (stepped s (16 + 8 * n) (packed (given_word (o.flags == 3) me.0.part.core.list)) id me.1
+      (stepped s (lock_at key.locks n) (packed (given_word (o.flags == 3) me.0.part.core.list)) id me.1
       (knowing me.0 (given me.0.part.core n (o.flags == 3))) keeps)
   give_bare_makes n o big may valid hit = let c = r.core in let v = me.0.part.core in let k = mine.part.knows in
       let low = inside_low n may.inside in let b = o.flags == 3 in
       let asked : b ≡ c.asked n = asked_is c n o (found n o low valid hit) v.who law (k.owned.has n may.owns) in
       let can = shows_give c v law k n may in let g = given_to (c.asked n) (c.queue n) in
-      moves.makes key s r id me here seated (Give v.who n) (16 + 8 * n) (packed (given_word b v.list))
+      moves.makes key s r id me here seated (Give v.who n) (lock_at key.locks n) (packed (given_word b v.list))
       (given v n b) me.0.held keeps refl refl can (mine_give c v law k n b may.inside asked can)
       mine.room
       (λ m own' in_graph. mine.held m (sym (get_or-set_other v.owned n m false false (λ z. omega arith)) ∙ own') in_graph)
@@ -302,14 +303,14 @@ module _ (key : Start) (s : St) (r : Ruled key s) (id : ℕ) (me : Sat) (here : 
       })
 
   -- leave: the owner word has no flag if nobody is left in the list
-  pub leave_makes : (n : ℕ) (o : Owner) → MayStop me.0.part.core n → IsValid o → get_or s.words (16 + 8 * n) 0 ≡ packed o
+  pub leave_makes : (n : ℕ) (o : Owner) → MayStop me.0.part.core n → IsValid o → get_or s.words (lock_at key.locks n) 0 ≡ packed o
       → Makes key s r (Leave me.0.part.core.who n)
-      (stepped s (16 + 8 * n) (packed (rest_word (left me.0.part.core.list me.0.part.core.who) o)) id me.1
+      (stepped s (lock_at key.locks n) (packed (rest_word (left me.0.part.core.list me.0.part.core.who) o)) id me.1
       (stopping me.0 o) keeps)
   leave_makes n o may valid hit = let c = r.core in let v = me.0.part.core in let k = mine.part.knows in
       let low = inside_low n may.inside in let is = found n o low valid hit in
       let can = shows_leave c v law k n may in let x = packed (rest_word (left v.list v.who) o) in
-      makes (Leave v.who n) (16 + 8 * n) x (interrupted v o) keeps refl refl (λ m. refl) can
+      makes (Leave v.who n) (lock_at key.locks n) x (interrupted v o) keeps refl refl (λ m. refl) can
       (mine_leave c v law k n o may.inside is can) r.drawn r.counted
       (owner_set c (Leave v.who n) can.base law.base key.locks key.places r.all s.words r.words n x low (λ m far. far) refl refl refl refl refl
       ((λ i. packed (rest_word (left (k.queues.list n may.inside i) v.who) (is i)))
@@ -338,13 +339,13 @@ module _ (key : Start) (s : St) (r : Ruled key s) (id : ℕ) (me : Sat) (here : 
       }
 
   -- set_cancel: the cancel word was 0
-  pub cancel_makes : (u : ℕ) → IsAway me.0.part.core → u < key.places → get_or s.words (16 + 8 * key.locks + 8 * u + 1) 0 ≡ 0
-      → Makes key s r (Cancel me.0.part.core.who u) (stepped s (16 + 8 * key.locks + 8 * u + 1) (me.0.part.core.who + 1) id me.1 (cancelling me.0 u) keeps)
+  pub cancel_makes : (u : ℕ) → IsAway me.0.part.core → u < key.places → get_or s.words (lock_at key.locks key.locks + 8 * u + 1) 0 ≡ 0
+      → Makes key s r (Cancel me.0.part.core.who u) (stepped s (lock_at key.locks key.locks + 8 * u + 1) (me.0.part.core.who + 1) id me.1 (cancelling me.0 u) keeps)
   cancel_makes u away low hit = let c = r.core in let v = me.0.part.core in let k = mine.part.knows in
       let free : c.cancel u ≡ 0 = sym (r.words.cancels u low) ∙ hit in
       let can = shows_cancel c v law k u away (let z = r.places in omega arith) free in
       let more = with_cancelled c.cancel r.counts r.counted.balanced v.who u in
-      moves.makes_all key s r id me here seated (Cancel v.who u) (16 + 8 * key.locks + 8 * u + 1) (v.who + 1)
+      moves.makes_all key s r id me here seated (Cancel v.who u) (lock_at key.locks key.locks + 8 * u + 1) (v.who + 1)
       (record (me.0.part) { counts = record (me.0.part.counts) { cancelled = u ∷ me.0.part.counts.cancelled } })
       me.0.held keeps
       r.log (put r.counts v.who more) r.all refl refl can (mine_cancel c v law k u can)
@@ -360,11 +361,11 @@ module _ (key : Start) (s : St) (r : Ruled key s) (id : ℕ) (me : Sat) (here : 
 
   -- heed: the own cancel word was this, and becomes 0
   pub heed_makes : (n mark : ℕ) → MayHeed me.0.part.core n → mark ≡ r.core.cancel me.0.part.core.who → mark ≢ 0
-      → Makes key s r (Heed me.0.part.core.who n) (stepped s (16 + 8 * key.locks + 8 * me.0.part.core.who + 1) 0 id me.1 (heeding me.0 mark) keeps)
+      → Makes key s r (Heed me.0.part.core.who n) (stepped s (lock_at key.locks key.locks + 8 * me.0.part.core.who + 1) 0 id me.1 (heeding me.0 mark) keeps)
   heed_makes n mark may is isnt = let c = r.core in let v = me.0.part.core in let k = mine.part.knows in
       let pending : c.cancel v.who ≢ 0 = λ z. isnt (is ∙ z) in
       let can = shows_heed c v law k n may pending in let more = with_heeded c.cancel r.counts r.counted.balanced v.who in
-      moves.makes_all key s r id me here seated (Heed v.who n) (16 + 8 * key.locks + 8 * v.who + 1) 0
+      moves.makes_all key s r id me here seated (Heed v.who n) (lock_at key.locks key.locks + 8 * v.who + 1) 0
       (record (me.0.part) {
         core = has_heeded v mark;
         counts = record (me.0.part.counts) { heeded = (mark - 1) ∷ me.0.part.counts.heeded };
@@ -385,11 +386,11 @@ module _ (key : Start) (s : St) (r : Ruled key s) (id : ℕ) (me : Sat) (here : 
       (record { deep = r.homes.deep; nodes = r.homes.nodes; lists = r.homes.lists })
 
   -- sign: the sign word was 0
-  pub sign_makes : (n u j : ℕ) → MaySign me.0.part.core n u j → u < key.places → get_or s.words (16 + 8 * key.locks + 8 * u) 0 ≡ 0
-      → Makes key s r (Sign me.0.part.core.who u) (stepped s (16 + 8 * key.locks + 8 * u) j id me.1 (condemning me.0 u) keeps)
+  pub sign_makes : (n u j : ℕ) → MaySign me.0.part.core n u j → u < key.places → get_or s.words (lock_at key.locks key.locks + 8 * u) 0 ≡ 0
+      → Makes key s r (Sign me.0.part.core.who u) (stepped s (lock_at key.locks key.locks + 8 * u) j id me.1 (condemning me.0 u) keeps)
   sign_makes n u j may low hit = let c = r.core in let v = me.0.part.core in let k = mine.part.knows in
       let can = shows_sign c v law k n u j may (sym (r.words.signs u low) ∙ hit) in
-      makes (Sign v.who u) (16 + 8 * key.locks + 8 * u) j (has_condemned v u) keeps refl refl (λ m. refl) can (mine_sign c v law k u can) r.drawn r.counted
+      makes (Sign v.who u) (lock_at key.locks key.locks + 8 * u) j (has_condemned v u) keeps refl refl (λ m. refl) can (mine_sign c v law k u can) r.drawn r.counted
       (sign_set c (Sign v.who u) can.base law.base key.locks key.places r.all s.words r.words u j low (λ m. tt) refl refl
       (ap (put c.sign u) (sign_is c v law k n u j may can)) refl refl)
       (record { deep = r.homes.deep; nodes = r.homes.nodes; lists = r.homes.lists })
@@ -397,9 +398,9 @@ module _ (key : Start) (s : St) (r : Ruled key s) (id : ℕ) (me : Sat) (here : 
   -- clear: 0 is stored in the own sign word
   pub clear_makes : MayClear me.0.part.core
       → Makes key s r (Clear me.0.part.core.who)
-      (stepped s (16 + 8 * key.locks + 8 * me.0.part.core.who) 0 id me.1 (clearing me.0) keeps)
+      (stepped s (lock_at key.locks key.locks + 8 * me.0.part.core.who) 0 id me.1 (clearing me.0) keeps)
   clear_makes may = let c = r.core in let v = me.0.part.core in let k = mine.part.knows in let can = shows_clear c v law k may in
-      makes (Clear v.who) (16 + 8 * key.locks + 8 * v.who) 0 (cleared v) keeps refl refl (λ m. refl) can (mine_clear c v law k can (clear_quiet v may)) r.drawn r.counted
+      makes (Clear v.who) (lock_at key.locks key.locks + 8 * v.who) 0 (cleared v) keeps refl refl (λ m. refl) can (mine_clear c v law k can (clear_quiet v may)) r.drawn r.counted
       (sign_set c (Clear v.who) can.base law.base key.locks key.places r.all s.words r.words v.who 0
       (let z = k.itself.seat in let y = r.places in omega arith) (λ m. tt) refl refl refl refl refl)
       (record { deep = r.homes.deep; nodes = r.homes.nodes; lists = r.homes.lists })

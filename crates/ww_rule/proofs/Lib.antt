@@ -1,3 +1,4 @@
+pub mod Lies
 pub mod Totals
 pub mod Regions
 pub mod Fits

@@ -1,5 +1,5 @@
 -- Each step keeps the rule of the table, as the event that it is.
-use Rattle.std.proofs.Common.{◌≡◌, ◌≢◌, ℕ, ◌+◌, ◌*◌, ◌<◌, ◌≤◌, ◌%◌, eqb, true, false, List, ◌∷◌, length, get_or, set, sym, refl, ap, ◌∙◌, subst, inl, inr, ⊎_elim, min, arith, true≢false, ◌-◌, ◌^◌, Option, Some, None, length-set, get_or-set_other, get_or-set_same, ◌/◌, ◌==◌}
+use Rattle.std.proofs.Common.{◌≡◌, ◌≢◌, ℕ, ◌+◌, ◌*◌, ◌<◌, ◌≤◌, ◌%◌, eqb, true, false, List, ◌∷◌, length, get_or, set, sym, refl, ap, ◌∙◌, subst, inl, inr, ⊎_elim, min, arith, true≢false, ◌-◌, ◌^◌, Option, Some, None, length-set, get_or-set_other, get_or-set_same, ◌==◌}
 use mathlib.Core.Logic.{dite}
 use mathlib.Core.Option.{none, some}
 use native.Mathlib.Decide.{ℕ_discrete, dec_le}
@@ -48,6 +48,8 @@ use Rattle.ww_rule.specs.declared.cells.Counts.{Counts}
 use Rattle.ww_rule.specs.declared.cells.Part.{Part}
 use Rattle.ww_rule.specs.declared.cells.Sight.{Sight}
 use Rattle.ww_rule.specs.declared.cells.Start.{Start}
+use Rattle.ww_rule.specs.Layout.{lock_at}
+use Rattle.ww_rule.proofs.Lies.{lock_same}
 use Rattle.ww_rule.specs.Rule.{St, Sat, first_graph, own_of, times, Shown, AtHome, Counted, PartFits, Sits, Ruled, MakesWith, Makes, Stays}
 use Rattle.ww_rule.specs.Steps.{knowing, taker, taking, giving, drawing, drawing_none, takes_to, gives_to, takes_bare_to, gives_bare_to, ends_to, draws_to, MayDraw, MayEnd, owns_to, IsToldBy}
 use Rattle.ww_rule.proofs.Totals.{total_one, total_under}
@@ -89,7 +91,7 @@ module _ (key : Start) (s : St) (r : Ruled key s) (id : ℕ) (me : Sat) (here : 
   mine = r.seats id me.0 here seated
 
   -- what the found number tells
-  pub found : (n : ℕ) (o : Owner) → n < key.locks → IsValid o → get_or s.words (16 + 8 * n) 0 ≡ packed o → o ≡ word_of r.core n
+  pub found : (n : ℕ) (o : Owner) → n < key.locks → IsValid o → get_or s.words (lock_at key.locks n) 0 ≡ packed o → o ≡ word_of r.core n
   found n o low valid hit = wide_found_is r.core n o r.reached (have_room key s r) valid (sym hit ∙ r.words.owners n low)
 
   -- the seat as the owner of a lock is one that a word can tell
@@ -100,7 +102,7 @@ module _ (key : Start) (s : St) (r : Ruled key s) (id : ℕ) (me : Sat) (here : 
   }
 
   -- of a seat that is away the word of a lock tells whether it owns that
-  pub told : (n : ℕ) → n < key.locks → IsAway me.0.part.core → IsToldBy me.0.part.core n (get_or s.words (16 + 8 * n) 0)
+  pub told : (n : ℕ) → n < key.locks → IsAway me.0.part.core → IsToldBy me.0.part.core n (get_or s.words (lock_at key.locks n) 0)
   told n low away = subst (IsToldBy me.0.part.core n) (sym (r.words.owners n low))
       (told_by r.core me.0.part.core law mine.part.knows away n
       (wide_word_is_valid r.core n r.reached (have_room key s r)) taker_valid)
@@ -198,15 +200,15 @@ module _ (key : Start) (s : St) (r : Ruled key s) (id : ℕ) (me : Sat) (here : 
       drawn counted words homes
 
   -- take_free: the owner word was 0
-  pub fast_makes : (n : ℕ) → n < length (first_graph key) → MayFast me.0.part.core → get_or s.words (16 + 8 * n) 0 ≡ 0
+  pub fast_makes : (n : ℕ) → n < length (first_graph key) → MayFast me.0.part.core → get_or s.words (lock_at key.locks n) 0 ≡ 0
       → Makes key s r (Fast me.0.part.core.who n)
-      (stepped s (16 + 8 * n) (packed (taker me.0.part.core)) id me.1 (taking me.0 n (node_at graph n))
+      (stepped s (lock_at key.locks n) (packed (taker me.0.part.core)) id me.1 (taking me.0 n (node_at graph n))
       (takes n (Content (node_at graph n))))
   fast_makes n small may hit = let c = r.core in let v = me.0.part.core in let k = mine.part.knows in
       let l = low n small in let is : idle ≡ word_of c n = found n idle l idle_valid hit in
       let can = shows_fast c v law k n (signed_owns_outside c r.reached) may (let z = r.locks in omega arith) is in
       let deep = r.homes.deep in let x = node_at graph n in let room = mine.room in
-      makes (Fast v.who n) (16 + 8 * n) (packed (taker v)) (fast_taken v n) (set me.0.held n (Some x))
+      makes (Fast v.who n) (lock_at key.locks n) (packed (taker v)) (fast_taken v n) (set me.0.held n (Some x))
       (takes n (Content x)) refl refl can (mine_fast c v law k n can)
       (length-set me.0.held n (Some x) ∙ mine.room)
       (λ m own in_graph. dite (ℕ_discrete m n)
@@ -230,13 +232,13 @@ module _ (key : Start) (s : St) (r : Ruled key s) (id : ℕ) (me : Sat) (here : 
   -- give_free: the owner word was that of the seat without flags
   pub fast_give_makes : (n : ℕ) (x : Node) → n < length (first_graph key) → IsAway me.0.part.core
       → owns me.0.part.core n ≡ true → get_elem? me.0.held n ≡ some (Some x) → IsValid (taker me.0.part.core)
-      → get_or s.words (16 + 8 * n) 0 ≡ packed (taker me.0.part.core) → me.1 ≡ (n, Content x) ∷ rest me.1
-      → Makes key s r (FastGive me.0.part.core.who n) (stepped s (16 + 8 * n) 0 id me.1 (giving me.0 n) gives)
+      → get_or s.words (lock_at key.locks n) 0 ≡ packed (taker me.0.part.core) → me.1 ≡ (n, Content x) ∷ rest me.1
+      → Makes key s r (FastGive me.0.part.core.who n) (stepped s (lock_at key.locks n) 0 id me.1 (giving me.0 n) gives)
   fast_give_makes n x small away own has valid hit top = let c = r.core in let v = me.0.part.core in
       let k = mine.part.knows in let l = low n small in let is = found n (taker v) l valid hit in
       let can = shows_fast_give c v law k n away own (let z = r.locks in omega arith) (taker v) is refl in let deep = r.homes.deep in
       let value : x ≡ node_at graph n = (let p : some (Some x) ≡ some (Some (node_at graph n)) = sym has ∙ mine.held n own small in cc) in
-      makes (FastGive v.who n) (16 + 8 * n) 0 (fast_given v n) (set me.0.held n None) gives refl refl can (mine_fast_give c v law k n can)
+      makes (FastGive v.who n) (lock_at key.locks n) 0 (fast_given v n) (set me.0.held n None) gives refl refl can (mine_fast_give c v law k n can)
       (length-set me.0.held n None ∙ mine.room)
       (λ m own' in_graph. dite (ℕ_discrete m n)
       (λ e. absurd (true≢false (sym own' ∙ ap (λ i. get_or (set v.owned n false) i false) e
@@ -259,14 +261,14 @@ module _ (key : Start) (s : St) (r : Ruled key s) (id : ℕ) (me : Sat) (here : 
       }))
 
   -- take_bare: the owner word was 0, and the lock guards no node
-  pub bare_makes : (n : ℕ) → length (first_graph key) ≤ n → n < key.locks → MayFast me.0.part.core → get_or s.words (16 + 8 * n) 0 ≡ 0
+  pub bare_makes : (n : ℕ) → length (first_graph key) ≤ n → n < key.locks → MayFast me.0.part.core → get_or s.words (lock_at key.locks n) 0 ≡ 0
       → Makes key s r (Fast me.0.part.core.who n)
-      (stepped s (16 + 8 * n) (packed (taker me.0.part.core)) id me.1
+      (stepped s (lock_at key.locks n) (packed (taker me.0.part.core)) id me.1
       (knowing me.0 (fast_taken me.0.part.core n)) keeps)
   bare_makes n big l may hit = let c = r.core in let v = me.0.part.core in let k = mine.part.knows in
       let is : idle ≡ word_of c n = found n idle l idle_valid hit in
       let can = shows_fast c v law k n (signed_owns_outside c r.reached) may (let z = r.locks in omega arith) is in
-      makes (Fast v.who n) (16 + 8 * n) (packed (taker v)) (fast_taken v n) me.0.held keeps refl refl can (mine_fast c v law k n can)
+      makes (Fast v.who n) (lock_at key.locks n) (packed (taker v)) (fast_taken v n) me.0.held keeps refl refl can (mine_fast c v law k n can)
       mine.room
       (λ m own in_graph. mine.held m (sym (get_or-set_other v.owned n m true false (λ z. omega arith)) ∙ own) in_graph)
       r.drawn r.counted
@@ -284,12 +286,12 @@ module _ (key : Start) (s : St) (r : Ruled key s) (id : ℕ) (me : Sat) (here : 
   -- give_bare: the owner word was that of the seat without flags, and the lock guards no node
   pub bare_give_makes : (n : ℕ) → length (first_graph key) ≤ n → n < key.locks → IsAway me.0.part.core
       → owns me.0.part.core n ≡ true → IsValid (taker me.0.part.core)
-      → get_or s.words (16 + 8 * n) 0 ≡ packed (taker me.0.part.core)
-      → Makes key s r (FastGive me.0.part.core.who n) (stepped s (16 + 8 * n) 0 id me.1 (knowing me.0 (fast_given me.0.part.core n)) keeps)
+      → get_or s.words (lock_at key.locks n) 0 ≡ packed (taker me.0.part.core)
+      → Makes key s r (FastGive me.0.part.core.who n) (stepped s (lock_at key.locks n) 0 id me.1 (knowing me.0 (fast_given me.0.part.core n)) keeps)
   bare_give_makes n big l away own valid hit = let c = r.core in let v = me.0.part.core in
       let k = mine.part.knows in let is = found n (taker v) l valid hit in
       let can = shows_fast_give c v law k n away own (let z = r.locks in omega arith) (taker v) is refl in
-      makes (FastGive v.who n) (16 + 8 * n) 0 (fast_given v n) me.0.held keeps refl refl can (mine_fast_give c v law k n can)
+      makes (FastGive v.who n) (lock_at key.locks n) 0 (fast_given v n) me.0.held keeps refl refl can (mine_fast_give c v law k n can)
       mine.room
       (λ m own' in_graph. mine.held m (sym (get_or-set_other v.owned n m false false (λ z. omega arith)) ∙ own') in_graph)
       r.drawn r.counted
@@ -303,11 +305,11 @@ module _ (key : Start) (s : St) (r : Ruled key s) (id : ℕ) (me : Sat) (here : 
       })
 
   -- end: the own sign word is 0, and stays
-  pub end_makes : MayEnd me.0.part.core → get_or s.words (16 + 8 * key.locks + 8 * me.0.part.core.who) 0 ≡ 0
+  pub end_makes : MayEnd me.0.part.core → get_or s.words (lock_at key.locks key.locks + 8 * me.0.part.core.who) 0 ≡ 0
       → Makes key s r (End me.0.part.core.who)
-      (stepped s (16 + 8 * key.locks + 8 * me.0.part.core.who) (get_or s.words (16 + 8 * key.locks + 8 * me.0.part.core.who) 0) id me.1
+      (stepped s (lock_at key.locks key.locks + 8 * me.0.part.core.who) (get_or s.words (lock_at key.locks key.locks + 8 * me.0.part.core.who) 0) id me.1
       (knowing me.0 (ended me.0.part.core)) keeps)
-  end_makes may hit = let c = r.core in let v = me.0.part.core in let k = mine.part.knows in let i = 16 + 8 * key.locks + 8 * v.who in
+  end_makes may hit = let c = r.core in let v = me.0.part.core in let k = mine.part.knows in let i = lock_at key.locks key.locks + 8 * v.who in
       let can = shows_end c v law k may.away may.context may.bare
       (sym (r.words.signs v.who (let z = k.itself.seat in let y = r.places in omega arith)) ∙ hit) in
       makes (End v.who) i (get_or s.words i 0) (ended v) me.0.held keeps refl refl can
@@ -524,20 +526,34 @@ pub cas : (key : Start) (slots id : ℕ) (me : Sat) (i old new : ℕ) (lost : Vi
 cas key slots id me i old new lost then seated same has keeps' hit miss =
     cas_told key slots id me i old new lost then seated same has keeps' hit (λ s r at ne. miss (get_or s.words i 0) ne)
 
+-- the words of the locks lie as the view has it, and those of the seats behind them
+pub room_is : (key : Start) (s : St) (r : Ruled key s) (id : ℕ) (me : Sat) → get_elem? s.views id ≡ some me.0
+    → me.0.seated ≡ true → (me.0.part.core.room ≡ key.locks) × (me.0.part.core.seats ≡ key.places)
+room_is key s r id me at seated = let k = (mine key s r id me at seated).part.knows in
+    (k.itself.room ∙ r.locks, k.itself.seats ∙ r.places)
+
+pub at_room : (key : Start) (s : St) (r : Ruled key s) (id : ℕ) (me : Sat) → get_elem? s.views id ≡ some me.0
+    → me.0.seated ≡ true → (n : ℕ) → lock_at me.0.part.core.room n ≡ lock_at key.locks n
+at_room key s r id me at seated n = ap (λ (l : ℕ). lock_at l n) (room_is key s r id me at seated).0
+
+pub same_lock : (key : Start) (s : St) (r : Ruled key s) (id : ℕ) (me : Sat) → get_elem? s.views id ≡ some me.0
+    → me.0.seated ≡ true → (m n : ℕ) → lock_at key.locks m ≡ lock_at me.0.part.core.room n → m ≡ n
+same_lock key s r id me at seated m n is = lock_same key.locks m n (is ∙ at_room key s r id me at seated n)
+
 takes_there : (key : Start) (slots id : ℕ) (me : Sat) (n new : ℕ) → n < length (first_graph key)
     → me.0.seated ≡ true → MayFast me.0.part.core → new ≡ packed (taker me.0.part.core)
-    → Allows (Ruled key) slots id me (16 + 8 * n) (λ x. either (eqb x 0) new x) (takes_to (step slots (16 + 8 * n) 0 new none) me)
+    → Allows (Ruled key) slots id me (lock_at key.locks n) (λ x. either (eqb x 0) new x) (takes_to (step slots (lock_at key.locks n) 0 new none) me)
 takes_there key slots id me n new small seated may is =
-    cas key slots id me (16 + 8 * n) 0 new (fast_missed me.0.part.core)
-    (takes_to (step slots (16 + 8 * n) 0 new none) me) seated refl (λ m. refl)
+    cas key slots id me (lock_at key.locks n) 0 new (fast_missed me.0.part.core)
+    (takes_to (step slots (lock_at key.locks n) 0 new none) me) seated refl (λ m. refl)
     (λ c k. mine_missed c me.0.part.core k)
     (λ s r at hit. let x : Node = node_at (last_graph (first_graph key) r.log) n in
     let m = fast_makes key s r id me at seated n small may hit in (
       taking me.0 n x,
       takes n (Content x),
       r.homes.nodes n (let z = r.counted.size in omega arith) (λ t own. let z = sym m.can.base.idle.free ∙ own in absurd cc),
-      subst (λ (y : ℕ). Ruled key (stepped s (16 + 8 * n) y id me.1 (taking me.0 n x) (takes n (Content x)))) (sym is) m.ruled,
-      (λ j there. let e : n ≡ j = omega arith in (
+      subst (λ (y : ℕ). Ruled key (stepped s (lock_at key.locks n) y id me.1 (taking me.0 n x) (takes n (Content x)))) (sym is) m.ruled,
+      (λ j there. let e : n ≡ j = same_lock key s r id me at seated n j there in (
         (λ _. (
           x,
           node_there key s r id me at seated n small,
@@ -549,7 +565,7 @@ takes_there key slots id me n new small seated may is =
     ))
     (λ x ne j there. ((λ z. absurd (ne z)), λ _. refl))
 
-pub takes_free : (key : Start) (slots id : ℕ) (me : Sat) (n i new : ℕ) → i ≡ 16 + 8 * n
+pub takes_free : (key : Start) (slots id : ℕ) (me : Sat) (n i new : ℕ) → i ≡ lock_at key.locks n
     → n < length (first_graph key) → me.0.seated ≡ true → MayFast me.0.part.core
     → new ≡ packed (taker me.0.part.core)
     → Allows (Ruled key) slots id me i (λ x. either (eqb x 0) new x) (takes_to (step slots i 0 new none) me)
@@ -561,22 +577,22 @@ gives_there : (key : Start) (slots id : ℕ) (me : Sat) (n old : ℕ) (x : Node)
     → me.0.seated ≡ true → IsAway me.0.part.core → owns me.0.part.core n ≡ true
     → get_elem? me.0.held n ≡ some (Some x)
     → IsValid (taker me.0.part.core) → me.1 ≡ (n, Content x) ∷ rest me.1 → old ≡ packed (taker me.0.part.core)
-    → Allows (Ruled key) slots id me (16 + 8 * n) (λ y. either (eqb y old) 0 y) (gives_to (step slots (16 + 8 * n) old 0 none) me)
+    → Allows (Ruled key) slots id me (lock_at key.locks n) (λ y. either (eqb y old) 0 y) (gives_to (step slots (lock_at key.locks n) old 0 none) me)
 gives_there key slots id me n old x small seated away own has valid top is =
-    cas key slots id me (16 + 8 * n) old 0 (fast_kept me.0.part.core)
-    (gives_to (step slots (16 + 8 * n) old 0 none) me) seated refl (λ m. refl)
+    cas key slots id me (lock_at key.locks n) old 0 (fast_kept me.0.part.core)
+    (gives_to (step slots (lock_at key.locks n) old 0 none) me) seated refl (λ m. refl)
     (λ c k. mine_kept c me.0.part.core k)
     (λ s r at hit. (
       giving me.0 n,
       gives,
       tt,
       (fast_give_makes key s r id me at seated n x small away own has valid (hit ∙ is) top).ruled,
-      (λ j there. let e : n ≡ j = omega arith in
+      (λ j there. let e : n ≡ j = same_lock key s r id me at seated n j there in
           ((λ _. ap (λ (i : ℕ). let w : Sat = (giving me.0 i, rest me.1) in w) e), λ no. absurd (no refl))),
     ))
     (λ y ne j there. ((λ z. absurd (ne z)), λ _. refl))
 
-pub gives_free : (key : Start) (slots id : ℕ) (me : Sat) (n i old : ℕ) (x : Node) → i ≡ 16 + 8 * n
+pub gives_free : (key : Start) (slots id : ℕ) (me : Sat) (n i old : ℕ) (x : Node) → i ≡ lock_at key.locks n
     → n < length (first_graph key) → me.0.seated ≡ true → IsAway me.0.part.core → owns me.0.part.core n ≡ true
     → get_elem? me.0.held n ≡ some (Some x)
     → IsValid (taker me.0.part.core) → me.1 ≡ (n, Content x) ∷ rest me.1 → old ≡ packed (taker me.0.part.core)
@@ -588,37 +604,37 @@ gives_free key slots id me n i old x at small seated away own has valid top is =
 
 bares_there : (key : Start) (slots id : ℕ) (me : Sat) (n new : ℕ) → length (first_graph key) ≤ n → n < key.locks
     → me.0.seated ≡ true → MayFast me.0.part.core → new ≡ packed (taker me.0.part.core)
-    → Allows (Ruled key) slots id me (16 + 8 * n) (λ x. either (eqb x 0) new x) (takes_bare_to (step slots (16 + 8 * n) 0 new none) me)
+    → Allows (Ruled key) slots id me (lock_at key.locks n) (λ x. either (eqb x 0) new x) (takes_bare_to (step slots (lock_at key.locks n) 0 new none) me)
 bares_there key slots id me n new big low seated may is =
     let v : View = me.0.part.core in
-    let then : ℕ → Sat → Type 0 = takes_bare_to (step slots (16 + 8 * n) 0 new none) me in
-    let tells : (s : St) (r : Ruled key s) → get_elem? s.views id ≡ some me.0 → (j : ℕ) → n ≡ j → IsToldBy v j (get_or s.words (16 + 8 * n) 0) =
-    λ s r at j e. subst (λ (m : ℕ). IsToldBy v m (get_or s.words (16 + 8 * n) 0)) e (told key s r id me at seated n low may.away) in
-    let won : (s : St) (r : Ruled key s) → get_elem? s.views id ≡ some me.0 → get_or s.words (16 + 8 * n) 0 ≡ 0 → (w : Sight)
-    × (a : Act Cell) × Valid s.homes me.1 a × Ruled key (stepped s (16 + 8 * n) new id me.1 w a) × then 0 (w, carried_after me.1 a) =
+    let then : ℕ → Sat → Type 0 = takes_bare_to (step slots (lock_at key.locks n) 0 new none) me in
+    let tells : (s : St) (r : Ruled key s) → get_elem? s.views id ≡ some me.0 → (j : ℕ) → n ≡ j → IsToldBy v j (get_or s.words (lock_at key.locks n) 0) =
+    λ s r at j e. subst (λ (m : ℕ). IsToldBy v m (get_or s.words (lock_at key.locks n) 0)) e (told key s r id me at seated n low may.away) in
+    let won : (s : St) (r : Ruled key s) → get_elem? s.views id ≡ some me.0 → get_or s.words (lock_at key.locks n) 0 ≡ 0 → (w : Sight)
+    × (a : Act Cell) × Valid s.homes me.1 a × Ruled key (stepped s (lock_at key.locks n) new id me.1 w a) × then 0 (w, carried_after me.1 a) =
     λ s r at hit. (
       knowing me.0 (fast_taken v n),
       keeps,
       tt,
-      subst (λ (y : ℕ). Ruled key (stepped s (16 + 8 * n) y id me.1 (knowing me.0 (fast_taken v n)) keeps)) (sym is)
+      subst (λ (y : ℕ). Ruled key (stepped s (lock_at key.locks n) y id me.1 (knowing me.0 (fast_taken v n)) keeps)) (sym is)
           (bare_makes key s r id me at seated n big low may hit).ruled,
-      (λ j there. let e : n ≡ j = omega arith in (
+      (λ j there. let e : n ≡ j = same_lock key s r id me at seated n j there in (
         subst (IsToldBy v j) hit (tells s r at j e),
         (λ _. ap (λ (i : ℕ). let w : Sat = (knowing me.0 (fast_taken v i), me.1) in w) e),
         (λ no. absurd (no refl)),
         (λ no. absurd (no refl)),
       )),
     ) in elim (true_or_false (owns v n)) [
-      | inl own ↦ cas_told key slots id me (16 + 8 * n) 0 new v then seated refl (λ m. refl) (λ c k. k) won
-          (λ s r at ne j there. let e : n ≡ j = omega arith in (
+      | inl own ↦ cas_told key slots id me (lock_at key.locks n) 0 new v then seated refl (λ m. refl) (λ c k. k) won
+          (λ s r at ne j there. let e : n ≡ j = same_lock key s r id me at seated n j there in (
             tells s r at j e,
             (λ z. absurd (ne z)),
             (λ _ _. refl),
             (λ _ no. absurd (true≢false (sym own ∙ ap (owns v) e ∙ no))),
           ))
-      | inr lacks ↦ cas_told key slots id me (16 + 8 * n) 0 new (fast_missed v) then seated refl (λ m. refl)
+      | inr lacks ↦ cas_told key slots id me (lock_at key.locks n) 0 new (fast_missed v) then seated refl (λ m. refl)
           (λ c k. mine_missed c v k) won
-          (λ s r at ne j there. let e : n ≡ j = omega arith in (
+          (λ s r at ne j there. let e : n ≡ j = same_lock key s r id me at seated n j there in (
             tells s r at j e,
             (λ z. absurd (ne z)),
             (λ _ own. absurd (true≢false (sym own ∙ sym (ap (owns v) e) ∙ lacks))),
@@ -626,7 +642,7 @@ bares_there key slots id me n new big low seated may is =
           ))
     ]
 
-pub takes_bare : (key : Start) (slots id : ℕ) (me : Sat) (n i new : ℕ) → i ≡ 16 + 8 * n
+pub takes_bare : (key : Start) (slots id : ℕ) (me : Sat) (n i new : ℕ) → i ≡ lock_at key.locks n
     → length (first_graph key) ≤ n → n < key.locks → me.0.seated ≡ true → MayFast me.0.part.core
     → new ≡ packed (taker me.0.part.core)
     → Allows (Ruled key) slots id me i (λ x. either (eqb x 0) new x) (takes_bare_to (step slots i 0 new none) me)
@@ -637,14 +653,14 @@ takes_bare key slots id me n i new at big low seated may is =
 gives_bare_there : (key : Start) (slots id : ℕ) (me : Sat) (n old : ℕ) → length (first_graph key) ≤ n
     → n < key.locks → me.0.seated ≡ true → IsAway me.0.part.core
     → IsValid (taker me.0.part.core) → old ≡ packed (taker me.0.part.core)
-    → Allows (Ruled key) slots id me (16 + 8 * n) (λ y. either (eqb y old) 0 y) (gives_bare_to (step slots (16 + 8 * n) old 0 none) me)
+    → Allows (Ruled key) slots id me (lock_at key.locks n) (λ y. either (eqb y old) 0 y) (gives_bare_to (step slots (lock_at key.locks n) old 0 none) me)
 gives_bare_there key slots id me n old big low seated away valid is =
     let v : View = me.0.part.core in
-    let then : ℕ → Sat → Type 0 = gives_bare_to (step slots (16 + 8 * n) old 0 none) me in
-    let tells : (s : St) (r : Ruled key s) → get_elem? s.views id ≡ some me.0 → (j : ℕ) → n ≡ j → IsToldBy v j (get_or s.words (16 + 8 * n) 0) =
-    λ s r at j e. subst (λ (m : ℕ). IsToldBy v m (get_or s.words (16 + 8 * n) 0)) e (told key s r id me at seated n low away) in
-    let won : (s : St) (r : Ruled key s) → get_elem? s.views id ≡ some me.0 → get_or s.words (16 + 8 * n) 0 ≡ old → (w : Sight)
-    × (a : Act Cell) × Valid s.homes me.1 a × Ruled key (stepped s (16 + 8 * n) 0 id me.1 w a) × then old (w, carried_after me.1 a) =
+    let then : ℕ → Sat → Type 0 = gives_bare_to (step slots (lock_at key.locks n) old 0 none) me in
+    let tells : (s : St) (r : Ruled key s) → get_elem? s.views id ≡ some me.0 → (j : ℕ) → n ≡ j → IsToldBy v j (get_or s.words (lock_at key.locks n) 0) =
+    λ s r at j e. subst (λ (m : ℕ). IsToldBy v m (get_or s.words (lock_at key.locks n) 0)) e (told key s r id me at seated n low away) in
+    let won : (s : St) (r : Ruled key s) → get_elem? s.views id ≡ some me.0 → get_or s.words (lock_at key.locks n) 0 ≡ old → (w : Sight)
+    × (a : Act Cell) × Valid s.homes me.1 a × Ruled key (stepped s (lock_at key.locks n) 0 id me.1 w a) × then old (w, carried_after me.1 a) =
     λ s r at hit. (
       knowing me.0 (fast_given v n),
       keeps,
@@ -652,23 +668,23 @@ gives_bare_there key slots id me n old big low seated away valid is =
       (bare_give_makes key s r id me at seated n big low away
           (told key s r id me at seated n low away ∙ ap (λ (y : ℕ). unflagged y == unflagged (packed (taker v))) (hit ∙ is)
           ∙ number_same (unflagged (packed (taker v))) (unflagged (packed (taker v))) refl) valid (hit ∙ is)).ruled,
-      (λ j there. let e : n ≡ j = omega arith in (
+      (λ j there. let e : n ≡ j = same_lock key s r id me at seated n j there in (
         subst (IsToldBy v j) hit (tells s r at j e),
         (λ _. ap (λ (i : ℕ). let w : Sat = (knowing me.0 (fast_given v i), me.1) in w) e),
         (λ no. absurd (no refl)),
         (λ no. absurd (no refl)),
       )),
     ) in elim (true_or_false (owns v n)) [
-      | inl own ↦ cas_told key slots id me (16 + 8 * n) old 0 (fast_kept v) then seated refl (λ m. refl)
+      | inl own ↦ cas_told key slots id me (lock_at key.locks n) old 0 (fast_kept v) then seated refl (λ m. refl)
           (λ c k. mine_kept c v k) won
-          (λ s r at ne j there. let e : n ≡ j = omega arith in (
+          (λ s r at ne j there. let e : n ≡ j = same_lock key s r id me at seated n j there in (
             tells s r at j e,
             (λ z. absurd (ne z)),
             (λ _ _. refl),
             (λ _ no. absurd (true≢false (sym own ∙ ap (owns v) e ∙ no))),
           ))
-      | inr lacks ↦ cas_told key slots id me (16 + 8 * n) old 0 v then seated refl (λ m. refl) (λ c k. k) won
-          (λ s r at ne j there. let e : n ≡ j = omega arith in (
+      | inr lacks ↦ cas_told key slots id me (lock_at key.locks n) old 0 v then seated refl (λ m. refl) (λ c k. k) won
+          (λ s r at ne j there. let e : n ≡ j = same_lock key s r id me at seated n j there in (
             tells s r at j e,
             (λ z. absurd (ne z)),
             (λ _ own. absurd (true≢false (sym own ∙ sym (ap (owns v) e) ∙ lacks))),
@@ -676,7 +692,7 @@ gives_bare_there key slots id me n old big low seated away valid is =
           ))
     ]
 
-pub gives_bare : (key : Start) (slots id : ℕ) (me : Sat) (n i old : ℕ) → i ≡ 16 + 8 * n
+pub gives_bare : (key : Start) (slots id : ℕ) (me : Sat) (n i old : ℕ) → i ≡ lock_at key.locks n
     → length (first_graph key) ≤ n → n < key.locks → me.0.seated ≡ true → IsAway me.0.part.core
     → IsValid (taker me.0.part.core) → old ≡ packed (taker me.0.part.core)
     → Allows (Ruled key) slots id me i (λ y. either (eqb y old) 0 y) (gives_bare_to (step slots i old 0 none) me)
@@ -686,7 +702,7 @@ gives_bare key slots id me n i old at big low seated away valid is =
     (gives_bare_there key slots id me n old big low seated away valid is)
 
 -- a look from outside whether the seat owns a lock
-pub owns_outside : (key : Start) (slots id : ℕ) (me : Sat) (n i : ℕ) → i ≡ 16 + 8 * n → n < key.locks
+pub owns_outside : (key : Start) (slots id : ℕ) (me : Sat) (n i : ℕ) → i ≡ lock_at key.locks n → n < key.locks
     → me.0.seated ≡ true → IsAway me.0.part.core
     → Allows (Ruled key) slots id me i (λ x. x) (owns_to (step slots i 0 0 none) me)
 owns_outside key slots id me n i is low seated away s r deep at small = let v : View = me.0.part.core in (
@@ -696,7 +712,7 @@ owns_outside key slots id me n i is low seated away s r deep at small = let v : 
   looks key s r id me at seated i v refl (λ m. refl) (r.seats id me.0 at seated).part.knows,
   (
     refl,
-    (λ j there. let e : n ≡ j = (let z = sym is ∙ there in omega arith) in
+    (λ j there. let e : n ≡ j = same_lock key s r id me at seated n j (sym is ∙ there) in
         subst (λ (m : ℕ). IsToldBy v m (get_or s.words i 0)) e
         (subst (λ (k : ℕ). IsToldBy v n (get_or s.words k 0)) (sym is) (told key s r id me at seated n low away))),
   ),
@@ -704,7 +720,7 @@ owns_outside key slots id me n i is low seated away s r deep at small = let v : 
 
 -- ... of a slot that was brought to the front, by the number and stamp that the seat keeps
 pub gives_brought : (key : Start) (slots id : ℕ) (v : Sight) (me : Sat) (n i old who stamp : ℕ) (x : Node)
-    (others : List (ℕ × Cell)) → me.0 ≡ v → me.1 ≡ (n, Content x) ∷ others → i ≡ 16 + 8 * n
+    (others : List (ℕ × Cell)) → me.0 ≡ v → me.1 ≡ (n, Content x) ∷ others → i ≡ lock_at key.locks n
     → n < length (first_graph key) → v.seated ≡ true
     → IsAway v.part.core → owns v.part.core n ≡ true → get_elem? v.held n ≡ some (Some x) → v.part.core.who ≡ who
     → v.part.core.stamp ≡ stamp → Fits who stamp
@@ -724,11 +740,11 @@ gives_brought key slots id v me n i old who stamp x others view top at small sea
     (ap (λ (w : Sight). get_elem? w.held n) view ∙ has) (subst IsValid (sym same) valid)
     (top ∙ ap (λ (l : List (ℕ × Cell)). (n, Content x) ∷ rest l) (sym top)) (is ∙ ap packed (sym same))
 
-pub ends : (key : Start) (slots id : ℕ) (me : Sat) (i : ℕ) → i ≡ 16 + 8 * me.0.part.core.room + 8 * me.0.part.core.who → me.0.seated ≡ true
+pub ends : (key : Start) (slots id : ℕ) (me : Sat) (i : ℕ) → i ≡ lock_at me.0.part.core.room me.0.part.core.room + 8 * me.0.part.core.who → me.0.seated ≡ true
     → MayEnd me.0.part.core → Allows (Ruled key) slots id me i (λ x. x) (ends_to (step slots i 0 0 none) me)
 ends key slots id me i there seated may s r deep at small = let c : State = r.core in let v : View = me.0.part.core in
     let k = (r.seats id me.0 at seated).part.knows in
-    let is : i ≡ 16 + 8 * key.locks + 8 * v.who = (let a = k.itself.room in let b = r.locks in omega arith) in let x : ℕ = get_or s.words i 0 in
+    let is : i ≡ lock_at key.locks key.locks + 8 * v.who = (let a = ap (λ (l : ℕ). lock_at l l) (k.itself.room ∙ r.locks) in omega arith) in let x : ℕ = get_or s.words i 0 in
     let tells : x ≡ c.sign v.who = ap (λ (j : ℕ). get_or s.words j 0) is
     ∙ r.words.signs v.who (let z = k.itself.seat in let y = r.places in omega arith) in
     let known : (j : ℕ) → v.sign ≡ Some j → x ≡ j = λ j told. tells ∙ k.sign j told in dite (ℕ_discrete x 0)

@@ -1,8 +1,7 @@
 -- What a transaction leaves of the nodes of a table, which may have none.
-use Rattle.std.proofs.Common.{◌≡◌, ℕ, ◌+◌, ◌-◌, ◌^◌, ◌<◌, ◌≤◌, nat_lt, inl, inr, Bool, true, false, List, [], ◌∷◌, length, fold, Option, Some, refl, ap, sym, subst, ◌∙◌, arith}
-use Rattle.std.specs.List.{AllByRecursion}
+use Rattle.std.proofs.Common.{◌≡◌, ℕ, ◌+◌, ◌-◌, ◌^◌, nat_lt, inl, inr, Bool, true, false, List, [], ◌∷◌, length, fold, Option, Some, refl, ap, sym, subst, arith}
 use Rattle.ww_plain.specs.declared.node.Node.{Node}
-use Rattle.ww_plain.specs.Graph.{IsGraph, IsNodeOf, with_port, value_of}
+use Rattle.ww_plain.specs.Graph.{IsGraph, value_of}
 use Rattle.ww_plain.specs.Transaction.{Transaction, get, add, move, link, sum, reverse, peek, Fits}
 use Rattle.ww_plain.specs.Walk.{walk_of, stop_of}
 use Rattle.ww_plain.specs.Meaning.{raised, moving, turned, graph_after}

@@ -21,6 +21,7 @@ use Rattle.ww_rule.specs.declared.cells.Counts.{Counts}
 use Rattle.ww_rule.specs.declared.cells.Part.{Part}
 use Rattle.ww_rule.specs.declared.cells.Sight.{Sight}
 use Rattle.ww_rule.specs.declared.cells.Start.{Start}
+use Rattle.ww_rule.specs.Layout.{lock_at}
 use Rattle.ww_rule.specs.Rule.{St, first_graph, PartFits, Sits, Speaks, IsThere, Ruled, Stays, IsSize, no_counts, first_part, first_parts, first_sight, AreNodes}
 use Rattle.ww_rule.specs.Steps.{nobody, seat_of, rest_of, first_seat, without_first, with_seat}
 use Rattle.ww_rule.proofs.Totals.{total_zero}
@@ -283,7 +284,7 @@ parts_at kind locks places s (suc n) zero low = ap (λ (t : ℕ). some (first_pa
 parts_at kind locks places s (suc n) (suc k) low = parts_at kind locks places (s + 1) n k (omega arith)
     ∙ ap (λ (t : ℕ). some (first_part kind locks places t)) (let z : s + 1 + k ≡ s + suc k = omega arith in z)
 
-module _ (key : Start) (some_seat : 1 ≤ key.seats) (few : key.seats ≤ key.places) (size : IsSize key.places) (many : key.locks ≤ 65536)
+module _ (key : Start) (some_seat : 1 ≤ key.seats) (few : key.seats ≤ key.places) (size : IsSize key.places) (many : key.locks ≤ 16777216)
     (fits : length (first_graph key) ≤ key.locks) (graph : AreNodes (first_graph key)) where
   abbrev first_core : State
   first_core = start key.kind key.locks key.places
@@ -335,7 +336,7 @@ module _ (key : Start) (some_seat : 1 ≤ key.seats) (few : key.seats ≤ key.pl
   pub opens : (xs : List Cell) → length xs ≡ 64 + key.locks
       → ((n : ℕ) → n < length (first_graph key) → get_elem? xs n ≡ some (Content (node_at (first_graph key) n)))
       → ((n : ℕ) → n < key.locks → get_elem? xs (64 + n) ≡ some (Line []))
-      → Ruled key (opening (replicate (16 + 8 * key.locks + 8 * key.places) 0) xs (first_sight key))
+      → Ruled key (opening (replicate (lock_at key.locks key.locks + 8 * key.places) 0) xs (first_sight key))
   opens xs long nodes lists = record {
     core = first_core;
     log = [];
@@ -358,13 +359,13 @@ module _ (key : Start) (some_seat : 1 ≤ key.seats) (few : key.seats ≤ key.pl
       waits = λ n e h. absurd h;
     };
     words = record {
-      wide = length-replicate {A = ℕ} (16 + 8 * key.locks + 8 * key.places) 0;
-      owners = λ n l. all_zero (16 + 8 * key.locks + 8 * key.places) (16 + 8 * n);
-      guards = λ n l. all_zero (16 + 8 * key.locks + 8 * key.places) (16 + 8 * n + 1);
-      signs = λ t l. all_zero (16 + 8 * key.locks + 8 * key.places) (16 + 8 * key.locks + 8 * t);
-      cancels = λ t l. all_zero (16 + 8 * key.locks + 8 * key.places) (16 + 8 * key.locks + 8 * t + 1);
-      drawn = all_zero (16 + 8 * key.locks + 8 * key.places) 0;
-      front = all_zero (16 + 8 * key.locks + 8 * key.places) 8;
+      wide = length-replicate {A = ℕ} (lock_at key.locks key.locks + 8 * key.places) 0;
+      owners = λ n l. all_zero (lock_at key.locks key.locks + 8 * key.places) (lock_at key.locks n);
+      guards = λ n l. all_zero (lock_at key.locks key.locks + 8 * key.places) (lock_at key.locks n + 1);
+      signs = λ t l. all_zero (lock_at key.locks key.locks + 8 * key.places) (lock_at key.locks key.locks + 8 * t);
+      cancels = λ t l. all_zero (lock_at key.locks key.locks + 8 * key.places) (lock_at key.locks key.locks + 8 * t + 1);
+      drawn = all_zero (lock_at key.locks key.locks + 8 * key.places) 0;
+      front = all_zero (lock_at key.locks key.locks + 8 * key.places) 8;
     };
     homes = record {
       deep = length-map xs (λ (x : Cell). some x) ∙ long;

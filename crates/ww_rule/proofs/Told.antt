@@ -1,5 +1,5 @@
 -- What the words and lists that a seat finds tell it, by what its view knows.
-use Rattle.std.proofs.Common.{◌≡◌, ◌==◌, ◌⊎◌, length, inl, inr, ⊎_elim, ℕ, zero, suc, ◌<◌, Bool, true, false, true≢false, Option, Some, None, refl, sym, ap, ◌∙◌, subst, arith}
+use Rattle.std.proofs.Common.{◌≡◌, ◌==◌, ◌⊎◌, length, inl, inr, ⊎_elim, ℕ, zero, suc, ◌<◌, Bool, true, false, true≢false, Option, Some, refl, sym, ap, ◌∙◌, subst, arith}
 use mathlib.Core.Logic.{dite}
 use native.Mathlib.Decide.{dec_le}
 use Rattle.ww_word.specs.declared.owner.Owner.{Owner}

@@ -1,8 +1,9 @@
 -- Turning the slots that are out.
-use Rattle.std.proofs.Common.{◌≡◌, ◌≢◌, ℕ, ◌+◌, ◌<◌, ◌≤◌, Bool, true, false, eqb, eq-eqb, ne_eqb, List, [], ◌∷◌, ◌++◌, length, refl, sym, ap, ◌∙◌, arith, Option, Some, None, append-nil, append_assoc, length-append, get_or}
-use Rattle.std.proofs.lemmas.List.{get_or_push}
+use Rattle.std.proofs.Common.{◌≡◌, ◌≢◌, ℕ, ◌+◌, ◌-◌, ◌<◌, ◌≤◌, zero, suc, set, take, Bool, true, false, eqb, eq-eqb, ne_eqb, List, [], ◌∷◌, ◌++◌, length, refl, sym, ap, ◌∙◌, arith, Option, Some, None, append-nil, append_assoc, length-append, get_or}
+use Rattle.std.proofs.lemmas.List.{get_or_push, take_all, drop_all}
 use Rattle.std.specs.Bool.{if◌then◌else◌}
 use Rattle.std.specs.Prelude.{option_to_list, IsSome}
+use Rattle.std.specs.List.{refill}
 use Rattle.ww_rule.specs.declared.cells.Cell.{Cell}
 use Rattle.atomic_table.specs.Table.{rest}
 use Rattle.ww_plain.specs.declared.node.Node.{Node}
@@ -26,12 +27,6 @@ ends_alike [] [] a b e = (refl, ap (λ l. first_of l) e)
 ends_alike [] (y ∷ ys) a b e = absurd (let l = ap length e in let m = length-append ys (b ∷ []) in omega arith)
 ends_alike (x ∷ xs) [] a b e = absurd (let l = ap length e in let m = length-append xs (a ∷ []) in omega arith)
 ends_alike (x ∷ xs) (y ∷ ys) a b e = let more = ends_alike xs ys a b (ap (λ l. later_of l) e) in ((λ i. first_of (e i) ∷ more.0 i), more.1)
-
--- the last number is that of the slot taken last
-pub last_number : (slots : List (ℕ × Cell)) (ns : List ℕ) (n : ℕ) → numbers_of slots ≡ ns ++ n ∷ [] → (y : Cell)
-    × (xs : List (ℕ × Cell)) × (slots ≡ (n, y) ∷ xs) × (ns ≡ numbers_of xs)
-last_number [] ns n e = absurd (let l = ap length e in let m = length-append ns (n ∷ []) in omega arith)
-last_number (x ∷ xs) ns n e = let both = ends_alike (numbers_of xs) ns x.0 n e in (x.1, xs, (λ i. (both.1 i, x.1) ∷ xs), sym both.0)
 
 -- what is read at the last place
 pub last_read : (items ns : List ℕ) (n d i : ℕ) → items ≡ ns ++ n ∷ [] → i + 1 ≡ length items → get_or items i d ≡ n
@@ -127,3 +122,62 @@ turned_to slots xs x k n t more is = go t.back t.parts t.turned
 pub brought : (slots : List (ℕ × Cell)) (n : ℕ) (x : Node) (y : Cell) → slot_of slots n ≡ Some y
     → slot_of slots n ≡ Some (Content x) → y ≡ Content x
 brought slots n x y there is = let e : Some y ≡ Some (Content x) = sym there ∙ is in cc
+
+-- ---- numbers that go up by one place
+
+-- after so many steps, where this one is carried to the front
+abbrev pub shifted : List ℕ → ℕ → ℕ → List ℕ
+shifted [] c i = []
+shifted (x ∷ xs) c zero = x ∷ xs
+shifted (x ∷ xs) c (suc i) = c ∷ shifted xs x i
+
+pub shifted_none : (xs : List ℕ) (c : ℕ) → shifted xs c 0 ≡ xs
+shifted_none [] c = refl
+shifted_none (x ∷ xs) c = refl
+
+pub shifted_long : (xs : List ℕ) (c i : ℕ) → length (shifted xs c i) ≡ length xs
+shifted_long [] c i = refl
+shifted_long (x ∷ xs) c zero = refl
+shifted_long (x ∷ xs) c (suc i) = ap suc (shifted_long xs x i)
+
+-- what is read there was there before
+pub shifted_read : (xs : List ℕ) (c i d : ℕ) → i < length xs → get_or (shifted xs c i) i d ≡ get_or (c ∷ xs) (suc i) d
+shifted_read [] c i d lt = absurd (omega arith)
+shifted_read (x ∷ xs) c zero d lt = refl
+shifted_read (x ∷ xs) c (suc i) d lt = shifted_read xs x i d (omega arith)
+
+-- one more step
+pub shifted_more : (xs : List ℕ) (c i d : ℕ) → i < length xs → set (shifted xs c i) i (get_or (c ∷ xs) i d) ≡ shifted xs c (suc i)
+shifted_more [] c i d lt = absurd (omega arith)
+shifted_more (x ∷ xs) c zero d lt = ap (λ l. c ∷ l) (sym (shifted_none xs x))
+shifted_more (x ∷ xs) c (suc i) d lt = ap (λ l. c ∷ l) (shifted_more xs x i d (omega arith))
+
+-- after all of them
+pub shifted_all : (ns : List ℕ) (n c i : ℕ) → length ns < i → shifted (ns ++ n ∷ []) c i ≡ c ∷ ns
+shifted_all ns n c zero lt = absurd (omega arith)
+shifted_all [] n c (suc i) lt = refl
+shifted_all (m ∷ ms) n c (suc i) lt = ap (λ l. c ∷ l) (shifted_all ms n m i (omega arith))
+
+-- one more step of the loop
+pub shifted_on : (xs now : List ℕ) (c carried i : ℕ) → now ≡ shifted xs c i → carried ≡ get_or (c ∷ xs) i 0 → i < length now
+    → (set now i carried ≡ shifted xs c (i + 1)) × (get_or now i 0 ≡ get_or (c ∷ xs) (i + 1) 0)
+shifted_on xs now c carried i is at lt =
+    let long : length now ≡ length xs = ap length is ∙ shifted_long xs c i in
+    let up : i + 1 ≡ suc i = omega arith in (
+      ap (λ l. set l i carried) is ∙ ap (λ k. set (shifted xs c i) i k) at ∙ shifted_more xs c i 0 (omega arith)
+          ∙ ap (λ k. shifted xs c k) (sym up),
+      ap (λ l. get_or l i 0) is ∙ shifted_read xs c i 0 (omega arith) ∙ ap (λ k. get_or (c ∷ xs) k 0) (sym up),
+    )
+
+-- and its end
+pub shifted_out : (xs now ns : List ℕ) (n i : ℕ) → xs ≡ ns ++ n ∷ [] → length xs ≤ i
+    → now ≡ shifted xs (get_or xs (length xs - 1) 0) i → now ≡ n ∷ ns
+shifted_out xs now ns n i is over at =
+    let long = ap length is in let more = length-append ns (n ∷ []) in
+    let last = last_read xs ns n 0 (length xs - 1) is (omega arith) in
+    at ∙ ap (λ k. shifted xs k i) last ∙ ap (λ l. shifted l n i) is ∙ shifted_all ns n n i (omega arith)
+
+-- all of a list is written again
+pub refill_all : (xs ws : List ℕ) → length ws ≡ length xs → refill (length xs) xs ws ≡ ws
+refill_all xs ws same = ap (λ l. take (length xs) (ws ++ l)) (drop_all (length ws) xs (omega arith))
+    ∙ ap (λ l. take (length xs) l) (append-nil ws) ∙ take_all (length xs) ws (omega arith)

@@ -54,4 +54,4 @@ stops n o m m' = (m' ≡ (stopping m.0 o, m.1)) × StandsIfWaiting m.0.part.core
 -- The word is still the one that the seat saw last: nobody else writes it while somebody waits and the seat is inside.
 abbrev pub leaves_to : Step Cell → Sat → ℕ → Sat → Type 0
 leaves_to st m found m' = tries_to stops st m found m' × ((n : ℕ) (o : Owner) →
-    MayStop m.0.part.core n → m.0.part.core.seen ≡ Some o → st.word ≡ owner_at n → found ≡ packed o)
+    MayStop m.0.part.core n → m.0.part.core.seen ≡ Some o → st.word ≡ owner_at m.0.part.core.room n → found ≡ packed o)

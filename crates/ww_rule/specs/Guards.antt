@@ -1,5 +1,5 @@
 -- What each step at a guard makes of the seat.
-use Rattle.std.specs.Prelude.{ℕ, suc, ◌≡◌, ◌≢◌, ◌<◌, ◌^◌, true, false, List, [], ◌∷◌, Some}
+use Rattle.std.specs.Prelude.{ℕ, suc, ◌≡◌, ◌≢◌, ◌<◌, true, false, List, [], ◌∷◌, Some}
 use Rattle.atomic_table.specs.Table.{Step, rest}
 use Rattle.ww_word.specs.declared.owner.Owner.{Owner}
 use Rattle.ww_word.specs.Owner.{is_handed}
@@ -41,7 +41,7 @@ abbrev pub shutting_out : Sight → Sight
 shutting_out v = knowing v (shut_out v.part.core)
 
 abbrev pub enters_to : Step Cell → Sat → ℕ → Sat → Type 0
-enters_to st m found m' = (n : ℕ) → st.word ≡ guard_at n →
+enters_to st m found m' = (n : ℕ) → st.word ≡ guard_at m.0.part.core.room n →
     (found ≡ 0 → (q : List Entry) × AreSeats m.0.part.core.seats q × StandsAs m.0.part.core n q
     × (m' ≡ (entering m.0 n q, (list_at n, Line q) ∷ m.1))) × (found ≢ 0 → m' ≡ (shutting_out m.0, m.1))
 
@@ -67,7 +67,7 @@ pub record IsSeenBy (v : View) (n : ℕ) (o : Owner) : Type 0 where
 
 abbrev pub looks_to : Step Cell → Sat → ℕ → Sat → Type 0
 looks_to st m found m' = (o : Owner) × IsValid o × (found ≡ packed o) × (m' ≡ (looking m.0 o, m.1))
-    × ((n : ℕ) → st.word ≡ owner_at n → IsSeenBy m.0.part.core n o)
+    × ((n : ℕ) → st.word ≡ owner_at m.0.part.core.room n → IsSeenBy m.0.part.core n o)
 
 -- ---- a spin read: the owner word, read from outside the guard: others may have changed it since
 

@@ -73,8 +73,8 @@ places_for seats = if nat_lt 16 seats then seats else 16
 -- the words show the core, of so many locks and seats, and how often a stamp was drawn
 pub record Shown (locks places all : ℕ) (c : State) (words : List ℕ) : Type 0 where
   pub wide : length words ≡ words_for locks places
-  pub owners : (n : ℕ) → n < locks → slice_index words (owner_at n) ≡ packed (word_of c n)
-  pub guards : (n : ℕ) → n < locks → slice_index words (guard_at n) ≡ c.guard n
+  pub owners : (n : ℕ) → n < locks → slice_index words (owner_at locks n) ≡ packed (word_of c n)
+  pub guards : (n : ℕ) → n < locks → slice_index words (guard_at locks n) ≡ c.guard n
   pub signs : (s : ℕ) → s < places → slice_index words (sign_at locks s) ≡ c.sign s
   pub cancels : (s : ℕ) → s < places → slice_index words (cancel_at locks s) ≡ c.cancel s
   pub drawn : slice_index words stamp_at ≡ all
@@ -160,7 +160,7 @@ pub record Ruled (key : Start) (s : St) : Type 0 where
   pub reached : Reached core
   pub kind : core.kind ≡ key.kind
   pub locks : core.locks ≡ key.locks
-  pub many : key.locks ≤ 65536
+  pub many : key.locks ≤ 16777216
   pub fits : length (first_graph key) ≤ key.locks
   pub places : core.seats ≡ key.places
   pub sizes : IsSize key.places

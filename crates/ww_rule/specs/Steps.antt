@@ -67,7 +67,7 @@ abbrev pub taking : Sight → ℕ → Node → Sight
 taking v n x = record v { part = record (v.part) { core = fast_taken v.part.core n }; held = slice_set v.held n (Some x) }
 
 abbrev pub takes_to : Step Cell → Sat → ℕ → Sat → Type 0
-takes_to st m found m' = (n : ℕ) → st.word ≡ owner_at n →
+takes_to st m found m' = (n : ℕ) → st.word ≡ owner_at m.0.part.core.room n →
     (found ≡ 0 → (x : Node) × IsNodeOf (length m.0.held) x × (m' ≡ (taking m.0 n x, (n, Content x) ∷ m.1)))
     × (found ≢ 0 → m' ≡ (knowing m.0 (fast_missed m.0.part.core), m.1))
 
@@ -81,7 +81,7 @@ abbrev pub keeping : Sight → Sight
 keeping v = knowing v (fast_kept v.part.core)
 
 abbrev pub gives_to : Step Cell → Sat → ℕ → Sat → Type 0
-gives_to st m found m' = (n : ℕ) → st.word ≡ owner_at n →
+gives_to st m found m' = (n : ℕ) → st.word ≡ owner_at m.0.part.core.room n →
     (found ≡ st.first → m' ≡ (giving m.0 n, rest m.1)) × (found ≢ st.first → m' ≡ (keeping m.0, m.1))
 
 -- ---- the same of a lock that guards no node: no slot comes or goes, and the word tells whether the seat owns it
@@ -92,14 +92,14 @@ IsToldBy v n found = owns v n ≡ (unflagged found == unflagged (packed (taker v
 
 -- it is taken where the word was 0; where the seat owns it nothing changes
 abbrev pub takes_bare_to : Step Cell → Sat → ℕ → Sat → Type 0
-takes_bare_to st m found m' = (n : ℕ) → st.word ≡ owner_at n → IsToldBy m.0.part.core n found
+takes_bare_to st m found m' = (n : ℕ) → st.word ≡ owner_at m.0.part.core.room n → IsToldBy m.0.part.core n found
     × (found ≡ 0 → m' ≡ (knowing m.0 (fast_taken m.0.part.core n), m.1))
     × (found ≢ 0 → owns m.0.part.core n ≡ true → m' ≡ m)
     × (found ≢ 0 → owns m.0.part.core n ≡ false → m' ≡ (knowing m.0 (fast_missed m.0.part.core), m.1))
 
 -- it is released where the word was the seat's own without flags; where the seat doesn't own it nothing changes
 abbrev pub gives_bare_to : Step Cell → Sat → ℕ → Sat → Type 0
-gives_bare_to st m found m' = (n : ℕ) → st.word ≡ owner_at n → IsToldBy m.0.part.core n found
+gives_bare_to st m found m' = (n : ℕ) → st.word ≡ owner_at m.0.part.core.room n → IsToldBy m.0.part.core n found
     × (found ≡ st.first → m' ≡ (knowing m.0 (fast_given m.0.part.core n), m.1))
     × (found ≢ st.first → owns m.0.part.core n ≡ true → m' ≡ (keeping m.0, m.1))
     × (found ≢ st.first → owns m.0.part.core n ≡ false → m' ≡ m)
@@ -107,7 +107,7 @@ gives_bare_to st m found m' = (n : ℕ) → st.word ≡ owner_at n → IsToldBy 
 -- ---- owns: the owner word of any lock, read by a seat that is away, which tells whether it owns the lock
 
 abbrev pub owns_to : Step Cell → Sat → ℕ → Sat → Type 0
-owns_to st m found m' = (m' ≡ m) × ((n : ℕ) → st.word ≡ owner_at n → IsToldBy m.0.part.core n found)
+owns_to st m found m' = (m' ≡ m) × ((n : ℕ) → st.word ≡ owner_at m.0.part.core.room n → IsToldBy m.0.part.core n found)
 
 -- ---- end: the context ends, where the own sign is 0
 

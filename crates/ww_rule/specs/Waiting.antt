@@ -19,9 +19,9 @@ use Rattle.ww_rule.specs.Out.{slot_of, AreOthers}
 use Rattle.ww_rule.specs.Steps.{knowing}
 use Rattle.ww_rule.specs.Guards.{lost}
 
--- what a step on an owner word is told: the lock, and the owner that the seat expects
-abbrev pub Expects : Step Cell → ℕ → Owner → Type 0
-Expects st n o = (st.word ≡ owner_at n) × IsValid o × (st.first ≡ packed o)
+-- what a step on an owner word is told, at a table of so many locks: the lock, and the owner that the seat expects
+abbrev pub Expects : ℕ → Step Cell → ℕ → Owner → Type 0
+Expects locks st n o = (st.word ≡ owner_at locks n) × IsValid o × (st.first ≡ packed o)
 
 -- the seat is inside the guard, nobody else writes the owner word there, and this is the owner that it saw last
 pub record IsStillThere (v : View) (n : ℕ) (o : Owner) : Type 0 where
@@ -32,7 +32,7 @@ pub record IsStillThere (v : View) (n : ℕ) (o : Owner) : Type 0 where
 -- What such a step makes of the seat where the word is the one expected; where it is another, nothing but that it made
 -- a step. It is the one expected where the seat saw it last and nobody else writes it.
 abbrev pub tries_to : (ℕ → Owner → Sat → Sat → Type 0) → Step Cell → Sat → ℕ → Sat → Type 0
-tries_to wins st m found m' = (n : ℕ) (o : Owner) → Expects st n o →
+tries_to wins st m found m' = (n : ℕ) (o : Owner) → Expects m.0.part.core.room st n o →
     (found ≡ packed o → wins n o m m') × (found ≢ packed o → m' ≡ (lost m.0, m.1))
     × (IsStillThere m.0.part.core n o → found ≡ packed o)
 

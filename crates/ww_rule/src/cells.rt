@@ -1,3 +1,5 @@
+//! The types of what the table keeps: its slots, and the proof-only records of each seat.
+
 use crate::pages::Waiters;
 use atomic_table::{Seat, Shared, TableRule};
 use std::collections::LinkedList;

@@ -19,7 +19,7 @@ use ww_plain::{Graph, Node};
 
 /// What the slots have at the start, where the locks guard the nodes of the graph, or none does.
 pub fn slots(alloc: Global, graph: &Graph, bare: bool, locks: u32) -> Result<Vec<Cell>, AllocError>
-    requires { locks ≤ 65536 }
+    requires { locks ≤ 16777216 }
     ensures { IfOk result (λ slots. AreSlots (nodes_of bare graph.now) (slots_for locks) slots.items) }
 {
     let count = layout::slots(locks);

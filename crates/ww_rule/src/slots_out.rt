@@ -1,5 +1,5 @@
 //! The slots that a seat has out. Bringing one to the front is no step: nobody else sees it.
-ghost use Rattle.std.specs.Prelude.{ℕ, ◌≡◌, ◌∷◌, List, Some};
+ghost use Rattle.std.specs.Prelude.{ℕ, ◌≡◌, ◌≤◌, ◌∷◌, ◌++◌, [], List, length, Some};
 ghost use Rattle.ww_rule.specs.declared.cells.Cell.{Cell};
 ghost use Rattle.ww_rule.specs.Out.{AreOthers, numbers_of, slot_of};
 
@@ -39,10 +39,21 @@ fn turn_to(seat: &mut TableSeat, order: &mut ArrayVec<u32, MAX_OUT>, slot: u32)
         if order[order.len() - 1] == slot {
             return;
         }
-        let Some(last) = order.pop() else {
-            return;
-        };
-        order.insert(0, last);
+        turn_numbers(order);
         seat.turn();
+    }
+}
+
+/// The number at the end goes to the front, and each other one up by one place. They go one at a time: a copy of several
+/// at once would wait for the one that was written last.
+fn turn_numbers(order: &mut ArrayVec<u32, MAX_OUT>)
+    requires { 1 ≤ length order.old.items }
+    ensures { (ns : List ℕ) (n : ℕ) → order.old.items ≡ ns ++ n ∷ [] → order.new.items ≡ n ∷ ns }
+{
+    let mut carried = order[order.len() - 1];
+    for at in 0..order.len() {
+        let before = order[at];
+        order[at] = carried;
+        carried = before;
     }
 }

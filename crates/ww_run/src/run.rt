@@ -1,3 +1,5 @@
+//! One run of the program, from the bytes of its input to its exit status.
+
 ghost use Rattle.std.specs.Prelude.{◌≡◌, ◌≤◌, OnOk, OnErr, IfOk, IfErr};
 ghost use Rattle.std.specs.Io.KnownBytes.{Appends};
 ghost use Rattle.ww_run.specs.declared.run.Status.TheVariants.{Ended};

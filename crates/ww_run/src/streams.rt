@@ -1,3 +1,5 @@
+//! All bytes of a reader, and all to a writer, whatever it takes at a time.
+
 ghost use Rattle.std.specs.Prelude.{◌≡◌, ◌≤◌, ◌<◌, length, OnOk, OnErr, IfOk};
 ghost use Rattle.std.specs.Io.KnownBytes.{Appends, Consumes, IsAtEnd};
 ghost use Rattle.ww_run.specs.Streams.{AppendsFront, ConsumesSome};

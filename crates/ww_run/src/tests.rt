@@ -1,3 +1,5 @@
+//! The program on readers and writers that are slow, endless, or fail.
+
 use crate::run::{Status, run};
 use std::alloc::Global;
 use std::io;

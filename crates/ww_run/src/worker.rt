@@ -1,3 +1,5 @@
+//! The thread of one script.
+
 ghost use Rattle.std.specs.Prelude.{◌≢◌, ◌≤◌, length, map, IfOk};
 ghost use Rattle.ww_plain.specs.declared.node.TheConstants.{PORTS};
 ghost use Rattle.ww_script.specs.Acts.{deed_of, Suits};

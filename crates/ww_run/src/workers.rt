@@ -1,3 +1,5 @@
+//! All scripts at once, a thread each, and what came of them.
+
 ghost use Rattle.std.specs.Prelude.{◌≡◌, ◌≤◌, ℕ, map, IfOk};
 ghost use Rattle.ww_plain.specs.History.{history_of};
 ghost use Rattle.ww_script.specs.Scripts.{script_lists};

@@ -21,7 +21,7 @@ use Rattle.ww_rule.specs.declared.cells.Cell.TheVariants.{Line}
 use Rattle.ww_rule.specs.declared.cells.Part.{Part}
 use Rattle.ww_rule.specs.declared.cells.Sight.{Sight}
 use Rattle.ww_rule.specs.declared.cells.Start.{Start}
-use Rattle.ww_rule.specs.Layout.{owner_at, guard_at, sign_at, stamp_at, words_for, list_at, slots_for}
+use Rattle.ww_rule.specs.Layout.{lock_at, owner_at, guard_at, sign_at, stamp_at, words_for, list_at, slots_for}
 use Rattle.ww_rule.specs.Rule.{St, Sat, Ruled, AreNodes, first_sight}
 use Rattle.ww_rule.specs.Steps.{drawing, knowing, first_seat, without_first}
 use Rattle.ww_rule.specs.Guards.{entering, exiting}
@@ -146,16 +146,16 @@ abbrev table_3 : Kind → St
 table_3 kind = stepped (table_2 kind) stamp_at 2 0 [] (b_1 kind) keeps
 
 abbrev table_4 : Kind → St
-table_4 kind = stepped (table_3 kind) (owner_at 0) (packed older) 1 [] (a_2 kind) keeps
+table_4 kind = stepped (table_3 kind) (owner_at 2 0) (packed older) 1 [] (a_2 kind) keeps
 
 abbrev table_5 : Kind → St
-table_5 kind = stepped (table_4 kind) (owner_at 1) (packed younger) 0 [] (b_2 kind) keeps
+table_5 kind = stepped (table_4 kind) (owner_at 2 1) (packed younger) 0 [] (b_2 kind) keeps
 
 abbrev table_6 : Kind → St
-table_6 kind = stepped (table_5 kind) (guard_at 1) 1 1 [] (a_3 kind) (takes (list_at 1) (Line []))
+table_6 kind = stepped (table_5 kind) (guard_at 2 1) 1 1 [] (a_3 kind) (takes (list_at 1) (Line []))
 
 abbrev pub table_7 : Kind → St
-table_7 kind = stepped (table_6 kind) (owner_at 1) (packed (with_waiters younger)) 1 (out 1 []) (a_4 kind) keeps
+table_7 kind = stepped (table_6 kind) (owner_at 2 1) (packed (with_waiters younger)) 1 (out 1 []) (a_4 kind) keeps
 
 abbrev core_3 : Kind → State
 core_3 kind = after (after (start kind 2 16) (Begin 0)) (Begin 1)
@@ -182,6 +182,7 @@ at_1 kind = let a = at_0 kind in let v = first_sight (pair kind) in
     (play.cuts_off (a_0 kind).part [] refl)
 
 at_2 : (kind : Kind) → At (pair kind) (table_2 kind) (after (start kind 2 16) (Begin 0)) nobody nobody
+unfolding lock_at
 at_2 kind = let a = at_1 kind in let me : Sat = (a_0 kind, []) in
     performs_there a 1 me refl refl (omega arith) refl refl (Begin 0) (table_2 kind) _
     (λ i. let w = slice_index (a.is_table i).words stamp_at + 1 in
@@ -190,6 +191,7 @@ at_2 kind = let a = at_1 kind in let me : Sat = (a_0 kind, []) in
     (subst (λ (k : ℕ). k < most_for 16) (sym (word_there a stamp_at 0 refl)) (omega arith)))
 
 at_3 : (kind : Kind) → At (pair kind) (table_3 kind) (core_3 kind) nobody nobody
+unfolding lock_at
 at_3 kind = let a = at_2 kind in let me : Sat = (b_0 kind, []) in
     performs_there a 0 me refl refl (omega arith) refl refl (Begin 1) (table_3 kind) _
     (λ i. let w = slice_index (a.is_table i).words stamp_at + 1 in
@@ -198,30 +200,32 @@ at_3 kind = let a = at_2 kind in let me : Sat = (b_0 kind, []) in
     (subst (λ (k : ℕ). k < most_for 16) (sym (word_there a stamp_at 1 refl)) (omega arith)))
 
 at_4 : (kind : Kind) → At (pair kind) (table_4 kind) (after (core_3 kind) (Fast 0 0)) nobody nobody
+unfolding lock_at
 at_4 kind = let a = at_3 kind in let me : Sat = (a_1 kind, []) in
     performs_there a 1 me refl refl (omega arith) refl refl (Fast 0 0) (table_4 kind) _
-    (λ i. stepped (a.is_table i) (owner_at 0) (packed older) 1 [] (a_2 kind) keeps)
+    (λ i. stepped (a.is_table i) (owner_at 2 0) (packed older) 1 [] (a_2 kind) keeps)
     (play.takes_bare 0 (omega arith) (omega arith)
     (record { away = (refl, refl); base = inl (omega arith); signs = inr (inl refl) })
-    (word_there a (owner_at 0) 0 refl))
+    (word_there a (owner_at 2 0) 0 refl))
 
 at_5 : (kind : Kind) → At (pair kind) (table_5 kind) (core_5 kind) nobody nobody
+unfolding lock_at
 at_5 kind = let a = at_4 kind in let me : Sat = (b_1 kind, []) in
     performs_there a 0 me refl refl (omega arith) refl refl (Fast 1 1) (table_5 kind) _
-    (λ i. stepped (a.is_table i) (owner_at 1) (packed younger) 0 [] (b_2 kind) keeps)
+    (λ i. stepped (a.is_table i) (owner_at 2 1) (packed younger) 0 [] (b_2 kind) keeps)
     (play.takes_bare 1 (omega arith) (omega arith)
     (record { away = (refl, refl); base = inl (omega arith); signs = inr (inl refl) })
-    (word_there a (owner_at 1) 0 refl))
+    (word_there a (owner_at 2 1) 0 refl))
 
 at_6 : (kind : Kind) → At (pair kind) (table_6 kind) (after (core_5 kind) (Guard 0 1)) nobody nobody
-unfolding put ℕ_discrete
+unfolding put ℕ_discrete lock_at
 at_6 kind = let a = at_5 kind in let me : Sat = (a_2 kind, []) in
     performs_there a 1 me refl refl (omega arith) refl refl (Guard 0 1) (table_6 kind) _
     (λ i. let q = (a.is_core i).queue 1 in
-    stepped (a.is_table i) (guard_at 1) 1 1 [] (entering (a_2 kind) 1 q) (takes (list_at 1) (Line q)))
+    stepped (a.is_table i) (guard_at 2 1) 1 1 [] (entering (a_2 kind) 1 q) (takes (list_at 1) (Line q)))
     (play.enters 1 (omega arith)
     (record { outside = refl; why = inr (inr (refl, refl, inl (omega arith), inr (inr (inl (0, refl))))) })
-    (word_there a (guard_at 1) 0 refl))
+    (word_there a (guard_at 2 1) 0 refl))
 
 pub first_not_second : ◌≢◌ {A = ℕ} 0 1
 first_not_second is = omega arith
@@ -236,10 +240,10 @@ is_valid_older : IsValid older
 is_valid_older = record { seating = inl (omega arith, omega arith); flags = inl refl }
 
 pub at_7 : (kind : Kind) → At (pair kind) (table_7 kind) (core_7 kind) nobody nobody
-unfolding put ℕ_discrete
+unfolding put ℕ_discrete lock_at
 at_7 kind = let a = at_6 kind in let me : Sat = (a_3 kind, out 1 []) in
     performs_there a 1 me refl refl (omega arith) refl refl (Join 0 1) (table_7 kind) _
-    (λ i. stepped (a.is_table i) (owner_at 1) (packed (with_waiters younger)) 1 (out 1 []) (a_4 kind) keeps)
+    (λ i. stepped (a.is_table i) (owner_at 2 1) (packed (with_waiters younger)) 1 (out 1 []) (a_4 kind) keeps)
     (play.joins 1 younger
     (record {
       inside = refl;
@@ -248,7 +252,7 @@ at_7 kind = let a = at_6 kind in let me : Sat = (a_3 kind, out 1 []) in
       signs = inr (inr (inl (0, refl)));
       other = (1, refl, second_not_first);
     })
-    is_valid (word_there a (owner_at 1) (packed younger) refl))
+    is_valid (word_there a (owner_at 2 1) (packed younger) refl))
 
 -- ---- the older falls asleep: in Wound-Wait it condemns the younger before, and wakes it
 
@@ -263,9 +267,10 @@ abbrev dying_8 : St
 dying_8 = stepped (table_7 WaitDie) (sign_at 2 0) 0 1 (out 1 older_waits) aged keeps
 
 abbrev pub dying_9 : St
-dying_9 = stepped dying_8 (guard_at 1) 0 1 (out 1 older_waits) aged_out gives
+dying_9 = stepped dying_8 (guard_at 2 1) 0 1 (out 1 older_waits) aged_out gives
 
 at_dying_8 : At (pair WaitDie) dying_8 (core_7 WaitDie) nobody nobody
+unfolding lock_at
 at_dying_8 = let a = at_7 WaitDie in let me : Sat = (a_4 WaitDie, out 1 older_waits) in
     unsigned_there a 1 me refl refl (omega arith) refl refl 0 dying_8 _
     (λ i. stepped (a.is_table i) (sign_at 2 0) (slice_index (a.is_table i).words (sign_at 2 0)) 1 (out 1 older_waits)
@@ -273,9 +278,10 @@ at_dying_8 = let a = at_7 WaitDie in let me : Sat = (a_4 WaitDie, out 1 older_wa
     (play.finds_unsigned_for_long (word_there a (sign_at 2 0) 0 refl) (inr (refl, λ is. let z : 2 ≡ 0 = is in omega arith)))
 
 at_dying_9 : At (pair WaitDie) dying_9 (after (core_7 WaitDie) (Unguard 0 1)) nobody (put nobody 0 false)
+unfolding lock_at
 at_dying_9 = let a = at_dying_8 in let me : Sat = (aged, out 1 older_waits) in
     leaves_there a 1 me refl refl (omega arith) refl refl 0 1 false dying_9 _
-    (λ i. stepped (a.is_table i) (guard_at 1) 0 1 (out 1 older_waits) aged_out gives)
+    (λ i. stepped (a.is_table i) (guard_at 2 1) 0 1 (out 1 older_waits) aged_out gives)
     (play.exits_to_sleep 1 false
     (record {
       exit = record {
@@ -313,9 +319,10 @@ abbrev wound_9 : St
 wound_9 = stepped wound_8 (sign_at 2 0) 0 1 (out 1 older_waits) wounded keeps
 
 abbrev pub wound_10 : St
-wound_10 = stepped wound_9 (guard_at 1) 0 1 (out 1 older_waits) wounded_out gives
+wound_10 = stepped wound_9 (guard_at 2 1) 0 1 (out 1 older_waits) wounded_out gives
 
 at_wound_8 : At (pair WoundWait) wound_8 (after (core_7 WoundWait) (Sign 0 1)) nobody nobody
+unfolding lock_at
 at_wound_8 = let a = at_7 WoundWait in let me : Sat = (a_4 WoundWait, out 1 older_waits) in
     performs_there a 1 me refl refl (omega arith) refl refl (Sign 0 1) wound_8 _
     (λ i. stepped (a.is_table i) (sign_at 2 1) 1 1 (out 1 older_waits) wounding keeps)
@@ -323,6 +330,7 @@ at_wound_8 = let a = at_7 WoundWait in let me : Sat = (a_4 WoundWait, out 1 olde
     (word_there a (sign_at 2 1) 0 refl))
 
 at_wound_9 : At (pair WoundWait) wound_9 (after (core_7 WoundWait) (Sign 0 1)) nobody nobody
+unfolding lock_at
 at_wound_9 = let a = at_wound_8 in let me : Sat = (wounding, out 1 older_waits) in
     unsigned_there a 1 me refl refl (omega arith) refl refl 0 wound_9 _
     (λ i. stepped (a.is_table i) (sign_at 2 0) (slice_index (a.is_table i).words (sign_at 2 0)) 1 (out 1 older_waits)
@@ -336,9 +344,10 @@ abbrev pub core_dying : State
 core_dying = after (core_7 WaitDie) (Unguard 0 1)
 
 at_wound_10 : At (pair WoundWait) wound_10 core_wound nobody (put nobody 0 false)
+unfolding lock_at
 at_wound_10 = let a = at_wound_9 in let me : Sat = (wounded, out 1 older_waits) in
     leaves_there a 1 me refl refl (omega arith) refl refl 0 1 false wound_10 _
-    (λ i. stepped (a.is_table i) (guard_at 1) 0 1 (out 1 older_waits) wounded_out gives)
+    (λ i. stepped (a.is_table i) (guard_at 2 1) 0 1 (out 1 older_waits) wounded_out gives)
     (play.exits_to_sleep 1 false
     (record {
       exit = record {
@@ -373,7 +382,8 @@ module _ {kind : Kind} {table : St} {core : State} {given : ℕ → ℕ → ℕ}
         is_asleep = ap (λ (f : ℕ → Bool). f 0) a.asleep;
         due = ap (λ (f : ℕ → ℕ). f 0 + 1) a.risen ∙ sym naps ∙ ap (λ (p : Part). p.core.naps) part;
       };
-      paid = λ u low. ap (λ (f : ℕ → ℕ → ℕ). f 0 u) a.rung ∙ paid u low ∙ ap (λ (p : Part). wakes_owed p u) part;
+      paid = λ u h. let few = h.owed in let even = ap (λ (f : ℕ → ℕ → ℕ). f 0 u) a.rung ∙ paid u h.sleeper
+          ∙ ap (λ (p : Part). wakes_owed p u) part in omega arith;
       asleep = refl;
       rung = refl;
       risen = refl;
@@ -421,12 +431,10 @@ at_wound_11 = let a = at_wound_10 in let m = a.moment in
         stays = record { core = refl; parts = λ u low. refl; heeds = refl };
         awake = ap (λ (f : ℕ → Bool). f 0) a.asleep;
         outside = ap (λ (p : Part). p.core.inside) (sym part);
-        due = record {
-          waker = omega arith;
-          sleeper = omega arith;
-          owed = let owed = ap (λ (p : Part). wakes_owed p 1) part in
-              let none = ap (λ (f : ℕ → ℕ → ℕ). f 0 1) a.rung in omega arith;
-        };
+        waker = omega arith;
+        count = 1;
+        most = let owed = ap (λ (p : Part). wakes_owed p 1) part in
+            let none = ap (λ (f : ℕ → ℕ → ℕ). f 0 1) a.rung in omega arith;
         rung = refl;
         token = refl;
         risen = refl;
@@ -454,16 +462,16 @@ at_wound_12 = asleep_then at_wound_11 wounded_out
 -- ---- the younger goes inside the guard of lock 0, and joins its list: the two are deadlocked
 
 abbrev dying_11 : St
-dying_11 = stepped dying_9 (guard_at 0) 2 0 [] (b_3 WaitDie) (takes (list_at 0) (Line []))
+dying_11 = stepped dying_9 (guard_at 2 0) 2 0 [] (b_3 WaitDie) (takes (list_at 0) (Line []))
 
 abbrev pub dying_12 : St
-dying_12 = stepped dying_11 (owner_at 0) (packed (with_waiters older)) 0 (out 0 []) (b_4 WaitDie) keeps
+dying_12 = stepped dying_11 (owner_at 2 0) (packed (with_waiters older)) 0 (out 0 []) (b_4 WaitDie) keeps
 
 abbrev wound_13 : St
-wound_13 = stepped wound_10 (guard_at 0) 2 0 [] (b_3 WoundWait) (takes (list_at 0) (Line []))
+wound_13 = stepped wound_10 (guard_at 2 0) 2 0 [] (b_3 WoundWait) (takes (list_at 0) (Line []))
 
 abbrev wound_14 : St
-wound_14 = stepped wound_13 (owner_at 0) (packed (with_waiters older)) 0 (out 0 []) (b_4 WoundWait) keeps
+wound_14 = stepped wound_13 (owner_at 2 0) (packed (with_waiters older)) 0 (out 0 []) (b_4 WoundWait) keeps
 
 -- ... and in Wound-Wait it reads its sign
 abbrev pub b_5 : Sight
@@ -476,20 +484,20 @@ abbrev pub core_dead : State → State
 core_dead c = after (after c (Guard 1 0)) (Join 1 0)
 
 at_dying_11 : At (pair WaitDie) dying_11 (after core_dying (Guard 1 0)) sleeping heeding
-unfolding put ℕ_discrete
+unfolding put ℕ_discrete lock_at
 at_dying_11 = let a = at_dying_10 in let me : Sat = (b_2 WaitDie, []) in
     performs_there a 0 me refl refl (omega arith) refl refl (Guard 1 0) dying_11 _
     (λ i. let q = (a.is_core i).queue 0 in
-    stepped (a.is_table i) (guard_at 0) 2 0 [] (entering (b_2 WaitDie) 0 q) (takes (list_at 0) (Line q)))
+    stepped (a.is_table i) (guard_at 2 0) 2 0 [] (entering (b_2 WaitDie) 0 q) (takes (list_at 0) (Line q)))
     (play.enters 0 (omega arith)
     (record { outside = refl; why = inr (inr (refl, refl, inl (omega arith), inr (inr (inl (1, refl))))) })
-    (word_there a (guard_at 0) 0 refl))
+    (word_there a (guard_at 2 0) 0 refl))
 
 pub at_dying_12 : At (pair WaitDie) dying_12 (core_dead core_dying) sleeping heeding
-unfolding put ℕ_discrete
+unfolding put ℕ_discrete lock_at
 at_dying_12 = let a = at_dying_11 in let me : Sat = (b_3 WaitDie, out 0 []) in
     performs_there a 0 me refl refl (omega arith) refl refl (Join 1 0) dying_12 _
-    (λ i. stepped (a.is_table i) (owner_at 0) (packed (with_waiters older)) 0 (out 0 []) (b_4 WaitDie) keeps)
+    (λ i. stepped (a.is_table i) (owner_at 2 0) (packed (with_waiters older)) 0 (out 0 []) (b_4 WaitDie) keeps)
     (play.joins 0 older
     (record {
       inside = refl;
@@ -498,23 +506,23 @@ at_dying_12 = let a = at_dying_11 in let me : Sat = (b_3 WaitDie, out 0 []) in
       signs = inr (inr (inl (1, refl)));
       other = (0, refl, first_not_second);
     })
-    is_valid_older (word_there a (owner_at 0) (packed older) refl))
+    is_valid_older (word_there a (owner_at 2 0) (packed older) refl))
 
 at_wound_13 : AtWith (pair WoundWait) wound_13 (after core_wound (Guard 1 0)) rang told sleeping heeding
-unfolding put ℕ_discrete
+unfolding put ℕ_discrete lock_at
 at_wound_13 = let a = at_wound_12 in let me : Sat = (b_2 WoundWait, []) in
     performs_there a 0 me refl refl (omega arith) refl refl (Guard 1 0) wound_13 _
     (λ i. let q = (a.is_core i).queue 0 in
-    stepped (a.is_table i) (guard_at 0) 2 0 [] (entering (b_2 WoundWait) 0 q) (takes (list_at 0) (Line q)))
+    stepped (a.is_table i) (guard_at 2 0) 2 0 [] (entering (b_2 WoundWait) 0 q) (takes (list_at 0) (Line q)))
     (play.enters 0 (omega arith)
     (record { outside = refl; why = inr (inr (refl, refl, inl (omega arith), inr (inr (inl (1, refl))))) })
-    (word_there a (guard_at 0) 0 refl))
+    (word_there a (guard_at 2 0) 0 refl))
 
 at_wound_14 : AtWith (pair WoundWait) wound_14 (core_dead core_wound) rang told sleeping heeding
-unfolding put ℕ_discrete
+unfolding put ℕ_discrete lock_at
 at_wound_14 = let a = at_wound_13 in let me : Sat = (b_3 WoundWait, out 0 []) in
     performs_there a 0 me refl refl (omega arith) refl refl (Join 1 0) wound_14 _
-    (λ i. stepped (a.is_table i) (owner_at 0) (packed (with_waiters older)) 0 (out 0 []) (b_4 WoundWait) keeps)
+    (λ i. stepped (a.is_table i) (owner_at 2 0) (packed (with_waiters older)) 0 (out 0 []) (b_4 WoundWait) keeps)
     (play.joins 0 older
     (record {
       inside = refl;
@@ -523,10 +531,10 @@ at_wound_14 = let a = at_wound_13 in let me : Sat = (b_3 WoundWait, out 0 []) in
       signs = inr (inr (inl (1, refl)));
       other = (0, refl, first_not_second);
     })
-    is_valid_older (word_there a (owner_at 0) (packed older) refl))
+    is_valid_older (word_there a (owner_at 2 0) (packed older) refl))
 
 pub at_wound_15 : AtWith (pair WoundWait) wound_15 (core_dead core_wound) rang told sleeping heeding
-unfolding put ℕ_discrete
+unfolding put ℕ_discrete lock_at
 at_wound_15 = let a = at_wound_14 in let me : Sat = (b_4 WoundWait, out 0 younger_waits) in
     others_there a 0 me refl refl (omega arith) refl refl wound_15 _
     (λ i. let k = slice_index (a.is_table i).words (sign_at 2 1) in

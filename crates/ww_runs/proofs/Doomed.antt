@@ -11,7 +11,7 @@ use Rattle.ww_model.specs.State.{State, put}
 use Rattle.ww_view.specs.Word.{rest_word}
 use Rattle.ww_rule.specs.declared.cells.Part.{Part}
 use Rattle.ww_rule.specs.declared.cells.Sight.{Sight}
-use Rattle.ww_rule.specs.Layout.{owner_at}
+use Rattle.ww_rule.specs.Layout.{lock_at, owner_at}
 use Rattle.ww_rule.specs.Rule.{St, Sat}
 use Rattle.ww_rule.specs.Waiting.{dying}
 use Rattle.ww_wakes.specs.Scene.{Step, performs}
@@ -161,12 +161,12 @@ abbrev died : Sight
 died = dying (b_4 WaitDie) (with_waiters older)
 
 abbrev dying_13 : St
-dying_13 = stepped dying_12 (owner_at 0) (packed (rest_word [] (with_waiters older))) 0 (out 0 younger_waits) died keeps
+dying_13 = stepped dying_12 (owner_at 2 0) (packed (rest_word [] (with_waiters older))) 0 (out 0 younger_waits) died keeps
 
-dying_moved : Moved at_dying_12.moment (Some (performs (Die 1 0)))
-    (stepped at_dying_12.moment.table (owner_at 0) (packed (rest_word [] (with_waiters older))) 0 (out 0 younger_waits)
+dying_moved : Moved at_dying_12.moment 1 (Some (performs (Die 1 0)))
+    (stepped at_dying_12.moment.table (owner_at 2 0) (packed (rest_word [] (with_waiters older))) 0 (out 0 younger_waits)
     died keeps)
-unfolding put ℕ_discrete
+unfolding put ℕ_discrete lock_at
 dying_moved = let a = at_dying_12 in
     moves_there a 0 dying_me refl refl (omega arith) refl refl (Some (performs (Die 1 0))) _
     (play.dies 0 (with_waiters older) 1
@@ -177,7 +177,7 @@ dying_moved = let a = at_dying_12 in
       why = (0, inl refl, refl);
       unheeded = refl;
     })
-    is_valid (word_there a (owner_at 0) (packed (with_waiters older)) refl))
+    is_valid (word_there a (owner_at 2 0) (packed (with_waiters older)) refl))
 
 -- in Wound-Wait
 abbrev wounded_me : Sat
@@ -187,12 +187,12 @@ abbrev fell : Sight
 fell = dying b_5 (with_waiters older)
 
 abbrev wound_16 : St
-wound_16 = stepped wound_15 (owner_at 0) (packed (rest_word [] (with_waiters older))) 0 (out 0 younger_waits) fell keeps
+wound_16 = stepped wound_15 (owner_at 2 0) (packed (rest_word [] (with_waiters older))) 0 (out 0 younger_waits) fell keeps
 
-wound_moved : Moved at_wound_15.moment (Some (performs (Die 1 0)))
-    (stepped at_wound_15.moment.table (owner_at 0) (packed (rest_word [] (with_waiters older))) 0 (out 0 younger_waits)
+wound_moved : Moved at_wound_15.moment 1 (Some (performs (Die 1 0)))
+    (stepped at_wound_15.moment.table (owner_at 2 0) (packed (rest_word [] (with_waiters older))) 0 (out 0 younger_waits)
     fell keeps)
-unfolding put ℕ_discrete
+unfolding put ℕ_discrete lock_at
 wound_moved = let a = at_wound_15 in
     moves_there a 0 wounded_me refl refl (omega arith) refl refl (Some (performs (Die 1 0))) _
     (play.dies 0 (with_waiters older) 1
@@ -203,13 +203,13 @@ wound_moved = let a = at_wound_15 in
       why = (1, inr refl, refl);
       unheeded = refl;
     })
-    is_valid (word_there a (owner_at 0) (packed (with_waiters older)) refl))
+    is_valid (word_there a (owner_at 2 0) (packed (with_waiters older)) refl))
 
 pub deadlocks_are_in_endless_runs : DeadlocksAreInEndlessRuns
-unfolding put ℕ_discrete after_event
+unfolding put ℕ_discrete after_event lock_at
 deadlocks_are_in_endless_runs WaitDie = let a = at_dying_12 in let moved = dying_moved in
     let after = after_event a (Die 1 0) (Some (performs (Die 1 0))) dying_13 _ moved
-    (λ i. stepped (a.is_table i) (owner_at 0) (packed (rest_word [] (with_waiters older))) 0 (out 0 younger_waits) died
+    (λ i. stepped (a.is_table i) (owner_at 2 0) (packed (rest_word [] (with_waiters older))) 0 (out 0 younger_waits) died
     keeps) moved.follows.makes heeding (moved.follows.heeds ∙ a.heeding) in
     has_deadlock a.moment moved.moment a.run moved.follows
     (is_pending a aged_out (b_4 WaitDie) (part_there a 1 (aged_out, []) refl refl (omega arith))
@@ -219,7 +219,7 @@ deadlocks_are_in_endless_runs WaitDie = let a = at_dying_12 in let moved = dying
     (subst (λ (c : State). AreDeadlocked c (0 ∷ 1 ∷ [])) (sym a.is_core) are_deadlocked_dying)
 deadlocks_are_in_endless_runs WoundWait = let a = at_wound_15 in let moved = wound_moved in
     let after = after_event a (Die 1 0) (Some (performs (Die 1 0))) wound_16 _ moved
-    (λ i. stepped (a.is_table i) (owner_at 0) (packed (rest_word [] (with_waiters older))) 0 (out 0 younger_waits) fell
+    (λ i. stepped (a.is_table i) (owner_at 2 0) (packed (rest_word [] (with_waiters older))) 0 (out 0 younger_waits) fell
     keeps) moved.follows.makes heeding (moved.follows.heeds ∙ a.heeding) in
     has_deadlock a.moment moved.moment a.run moved.follows
     (is_pending a wounded_out b_5 (part_there a 1 (wounded_out, []) refl refl (omega arith))

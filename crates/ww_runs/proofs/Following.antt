@@ -7,6 +7,7 @@ use Rattle.ww_model.specs.declared.event.Event.{Event}
 use Rattle.ww_model.specs.declared.event.Event.TheVariants.{Unguard}
 use Rattle.ww_model.specs.State.{State, put}
 use Rattle.ww_model.specs.Event.{Possible, after, actor}
+use Rattle.ww_model.proofs.Kept.{reached_is_lawful}
 use Rattle.ww_model.proofs.Puts.{put_here, put_else, put_cases}
 use Rattle.ww_view.specs.declared.view.View.{View}
 use Rattle.ww_view.specs.View.{Knows}
@@ -23,7 +24,7 @@ use Rattle.ww_runs.specs.Moment.{Moment, wakes_owed, core, view, HasToWake, Acts
 use Rattle.ww_runs.specs.Moves.{cancelled_after, StepsThere, MakesEvent, Performs, LeavesToSleep, Looks, FindsNoSign, FindsNoCancel, Notes, StaysThere, Rings, Parks, Rises, StandsStill}
 use Rattle.ww_runs.specs.Runs.{IsPhase, IsShownBy, GoesAlong, MovesAreSteps, OthersAreNone}
 use Rattle.std.proofs.lemmas.Bool.{cases_Bool}
-use Rattle.ww_runs.proofs.Owed.{owed_grows, newly_owed, condemned_owed, not_fresh, still_uncancelled, others_uncancelled}
+use Rattle.ww_runs.proofs.Owed.{owed_grows, newly_owed, woken_other, condemned_owed, not_fresh, still_uncancelled, others_uncancelled}
 
 -- ---- phases
 
@@ -120,6 +121,7 @@ module _ {key : Start} (m m' : Moment key) (e : Event) (makes : MakesEvent m m' 
   still s u h = record {
     waker = h.waker;
     sleeper = h.sleeper;
+    other = h.other;
     owed = let a = h.owed in let b = grows s u h.waker in let c = rung_is s u in omega arith;
   }
 
@@ -136,6 +138,7 @@ module _ {key : Start} (m m' : Moment key) (e : Event) (makes : MakesEvent m m' 
     newly u is there = record {
       waker = seat;
       sleeper = there;
+      other = woken_other (core m) e u (reached_is_lawful (core m) m.ruled.reached) makes.can is;
       owed = let a = newly_owed (core m) e (view m (actor e)) knows makes.can own (m.part (actor e)).counts.cancelled u
           (m.rung (actor e) u) (shown.even (actor e) u seat) (had u) is in
           let b = owed_then u in let c = rung_is (actor e) u in omega arith;
@@ -309,6 +312,7 @@ module _ {key : Start} (m m' : Moment key) (w : Scene) (t : ℕ) (shown : IsShow
     owes = λ s u owed. let h = shown.owes s u (subst (λ (f : ℕ → ℕ → Bool). f s u ≡ true) owes owed) in record {
       waker = h.waker;
       sleeper = h.sleeper;
+      other = h.other;
       owed = let a = h.owed in let b = owed_still s u h.waker in let c = given_still s u in omega arith;
     };
     fresh = of_each m m' t there (λ x p. p.core.inside ≢ 0 → p.core.fresh ≡ true → w'.found_no_sign x ≡ true) fresh
@@ -410,6 +414,7 @@ module _ {key : Start} (m m' : Moment key) (w : Scene) (shown : IsShownBy m w) (
     owes_is s u h = record {
       waker = h.waker;
       sleeper = h.sleeper;
+      other = h.other;
       owed = let a = h.owed in let b = owed_is s u h.waker in let c = given_is s u in omega arith;
     }
 
@@ -429,8 +434,7 @@ parks_on m m' w s shown p = let r = p.ready in record {
   may = record {
     ready = is_going (w.phase s) (m.risen s) (view m s).naps r.due
         (subst (λ b. IsPhase (w.phase s) b (m.risen s) (view m s).naps) r.is_asleep (shown.phase s r.seat));
-    paid = λ u. ⊎_elim (λ is. let h = shown.owes s u is in let a = h.owed in let b = p.paid u h.sleeper in
-        absurd (omega arith))
+    paid = λ u. ⊎_elim (λ is. absurd (p.paid u (shown.owes s u is)))
         (λ isnt. isnt) (cases_Bool (w.owes s u));
   };
   shown = record {
@@ -526,29 +530,29 @@ rises_on {key = key} m m' w s reached shown p = let r = p.rests.1 in
 
 -- ---- a ring
 
--- a count that went one up at one place
-one_up : (f : ℕ → ℕ → ℕ) (s u x y : ℕ) → (put f s (put (f s) u (f s u + 1)) x y ≡ f x y)
-    ⊎ ((x ≡ s) × (y ≡ u) × (put f s (put (f s) u (f s u + 1)) x y ≡ f x y + 1))
-one_up f s u x y = dite (ℕ_discrete x s)
-    (λ is. let here : put f s (put (f s) u (f s u + 1)) x y ≡ put (f s) u (f s u + 1) y =
-    (ap (λ z. put f s (put (f s) u (f s u + 1)) z y) is ∙ ap (λ (g : ℕ →
-    ℕ). g y) (put_here f s (put (f s) u (f s u + 1)))) in
+-- a count that went up at one place
+gone_up : (f : ℕ → ℕ → ℕ) (s u k x y : ℕ) → (put f s (put (f s) u (f s u + k)) x y ≡ f x y)
+    ⊎ ((x ≡ s) × (y ≡ u) × (put f s (put (f s) u (f s u + k)) x y ≡ f x y + k))
+gone_up f s u k x y = dite (ℕ_discrete x s)
+    (λ is. let here : put f s (put (f s) u (f s u + k)) x y ≡ put (f s) u (f s u + k) y =
+    (ap (λ z. put f s (put (f s) u (f s u + k)) z y) is ∙ ap (λ (g : ℕ →
+    ℕ). g y) (put_here f s (put (f s) u (f s u + k)))) in
     dite (ℕ_discrete y u)
     (λ same. inr (
       is,
       same,
-      here ∙ ap (put (f s) u (f s u + 1)) same ∙ put_here (f s) u (f s u + 1)
-          ∙ ap (λ z. f s z + 1) (sym same) ∙ ap (λ z. f z y + 1) (sym is),
+      here ∙ ap (put (f s) u (f s u + k)) same ∙ put_here (f s) u (f s u + k)
+          ∙ ap (λ z. f s z + k) (sym same) ∙ ap (λ z. f z y + k) (sym is),
     ))
-    (λ other. inl (here ∙ put_else (f s) u (f s u + 1) y other ∙ ap (λ z. f z y) (sym is))))
-    (λ isnt. inl (ap (λ (g : ℕ → ℕ). g y) (put_else f s (put (f s) u (f s u + 1)) x isnt)))
+    (λ other. inl (here ∙ put_else (f s) u (f s u + k) y other ∙ ap (λ z. f z y) (sym is))))
+    (λ isnt. inl (ap (λ (g : ℕ → ℕ). g y) (put_else f s (put (f s) u (f s u + k)) x isnt)))
 
 rings_on : {key : Start} (m m' : Moment key) (w : Scene) (s u : ℕ) → IsShownBy m w → Rings m m' s u →
     GoesAlong m' w (wakes s u)
-rings_on m m' w s u shown p = let seat = p.due.waker in
-    let up : (x y : ℕ) → (m'.rung x y ≡ m.rung x y) ⊎ ((x ≡ s) × (y ≡ u) × (m'.rung x y ≡ m.rung x y + 1)) =
-    (λ x y. subst (λ (k : ℕ). (k ≡ m.rung x y) ⊎ ((x ≡ s) × (y ≡ u) × (k ≡ m.rung x y + 1)))
-    (sym (ap (λ (f : ℕ → ℕ → ℕ). f x y) p.rung)) (one_up m.rung s u x y)) in record {
+rings_on m m' w s u shown p = let seat = p.waker in
+    let up : (x y : ℕ) → (m'.rung x y ≡ m.rung x y) ⊎ ((x ≡ s) × (y ≡ u) × (m'.rung x y ≡ m.rung x y + p.count)) =
+    (λ x y. subst (λ (k : ℕ). (k ≡ m.rung x y) ⊎ ((x ≡ s) × (y ≡ u) × (k ≡ m.rung x y + p.count)))
+    (sym (ap (λ (f : ℕ → ℕ → ℕ). f x y) p.rung)) (gone_up m.rung s u p.count x y)) in record {
       may = not_asleep (w.phase s) (m.risen s) (view m s).naps
           (subst (λ b. IsPhase (w.phase s) b (m.risen s) (view m s).naps) p.awake (shown.phase s seat));
       shown = record {
@@ -562,6 +566,7 @@ rings_on m m' w s u shown p = let seat = p.due.waker in
             (λ old. let h = shown.owes x y old in record {
               waker = h.waker;
               sleeper = h.sleeper;
+              other = h.other;
               owed = ⊎_elim
                   (λ same. let a = h.owed in let b = owed_is m m' w shown p.stays x y h.waker in omega arith)
                   (λ one. absurd (true≢false (sym owed ∙ ap (λ z. put_debt w.owes s u false z y) one.0
@@ -572,8 +577,8 @@ rings_on m m' w s u shown p = let seat = p.due.waker in
         uncancelled = none_is m m' w shown p.stays;
         even = λ x y low. let b = owed_is m m' w shown p.stays x y low in ⊎_elim
             (λ same. let a = shown.even x y low in omega arith)
-            (λ one. let a = subst (λ z. m.rung z y < wakes_owed (m.part z) y) (sym one.0)
-            (subst (λ z. m.rung s z < wakes_owed (m.part s) z) (sym one.1) p.due.owed) in let c = one.2 in
+            (λ one. let a = subst (λ z. m.rung z y + p.count ≤ wakes_owed (m.part z) y) (sym one.0)
+            (subst (λ z. m.rung s z + p.count ≤ wakes_owed (m.part s) z) (sym one.1) p.most) in let c = one.2 in
             omega arith) (up x y);
         condemned = λ x y low i h other. let out : (view m x).inside ≢ 0 =
             (λ none. i (inside_is m m' w shown p.stays x low ∙ none)) in

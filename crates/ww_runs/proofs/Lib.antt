@@ -5,8 +5,10 @@ pub mod Seating
 pub mod Playing
 pub mod Ends
 pub mod Unlocking
+pub mod Serving
 pub mod Standstill
 pub mod Small
 pub mod Deadlocked
 pub mod Doomed
 pub mod Sleepers
+pub mod CalledOff

@@ -5,19 +5,20 @@ use Rattle.std.specs.Prelude.{slice_get, if◌then◌else◌}
 use mathlib.Core.Logic.{dite}
 use native.Mathlib.Decide.{ℕ_discrete}
 use Rattle.ww_queue.specs.declared.entry.Entry.{Entry}
-use Rattle.ww_queue.specs.Queue.{Has}
+use Rattle.ww_queue.specs.Queue.{Has, Stands}
 use Rattle.ww_queue.proofs.Outcomes.{by_test, same_number}
 use Rattle.ww_model.specs.declared.event.Event.{Event}
 use Rattle.ww_model.specs.declared.event.Event.TheVariants.{Sign, Give, Guard, Unguard, Commit, Cancel}
 use Rattle.ww_model.specs.State.{State, InsideNone, place_of}
 use Rattle.ww_model.specs.Event.{Possible, actor}
+use Rattle.ww_model.specs.Lawful.{IsLawful}
 use Rattle.ww_model.proofs.Outcomes.{number_same}
 use Rattle.ww_model.proofs.Puts.{put_else}
 use Rattle.ww_view.specs.declared.view.View.{View}
 use Rattle.ww_view.specs.View.{Knows}
 use Rattle.ww_view.specs.Made.{view_after, with_condemned, with_heir, is_one_of}
 use Rattle.ww_rule.specs.Rule.{times}
-use Rattle.ww_wakes.specs.Scene.{woken_by, uncancelled_after}
+use Rattle.ww_wakes.specs.Scene.{first_of, woken_by, uncancelled_after}
 use Rattle.ww_wakes.proofs.Woken.{another_was}
 use Rattle.ww_wakes.proofs.Calls.{views_tell_whom_to_wake}
 use Rattle.ww_runs.specs.Moves.{cancelled_after}
@@ -94,6 +95,18 @@ newly_owed c (Give s n) v k can own us x given low had is =
 newly_owed c (Cancel s y) v k can own us x given low had is = let a = another_was s y x is in
     let z = times_here x y us a.0 in omega arith
 newly_owed c _ v k can own us x given low had is = absurd (cc)
+
+-- ... which is another seat: whoever has a lock doesn't wait for it
+first_stands : (q : List Entry) (x : ℕ) → first_of q ≡ Some x → Stands q x
+first_stands [] x is = absurd cc
+first_stands (e ∷ es) x is = (e, inl refl, cc)
+
+pub woken_other : (c : State) (e : Event) (x : ℕ) → IsLawful c → Possible c e → woken_by c e ≡ Some x → x ≢ actor e
+woken_other c (Sign s y) x l can is = (another_was s y x is).1
+woken_other c (Give s n) x l can is = let stands = first_stands (c.queue n) x is in
+    λ same. (l.base.owners.at n).taken_stands_not s can.base.owns stands.0 stands.1 (stands.2 ∙ same)
+woken_other c (Cancel s y) x l can is = (another_was s y x is).1
+woken_other c _ x l can is = absurd (cc)
 
 -- inside a guard it has to wake those whom it condemned there
 pub condemned_owed : (c : State) (e : Event) (v : View) → Knows c v → Possible c e → actor e ≡ v.who → (us : List ℕ)

@@ -220,13 +220,15 @@ module _ {key : Start} (m : Moment key) (id : ℕ) (me : Sat) (here : get_elem? 
       w.part.core ≡ view_after (core m) e me.0.part.core →
       w.part.counts.cancelled ≡ cancelled_after e me.0.part.counts.cancelled →
       (view_after (core m) e me.0.part.core).naps ≡ me.0.part.core.naps →
-      ((u : ℕ) → woken_by (core m) e ≡ Some u → u < key.seats) → Moved m (Some (performs e)) s
+      ((u : ℕ) → woken_by (core m) e ≡ Some u → u < key.seats) → Moved m who (Some (performs e)) s
   event_moved e log s w makes views w_seated idle own knows cancelled naps woken =
       let w_who : w.part.core.who ≡ who = (ap (λ (v : View). v.who) knows ∙ same_who (core m) e me.0.part.core) in
       let made = makes_event s makes.ruled w views w_seated idle w_who m.heeds e own makes.can makes.is knows cancelled
       in record {
         moment = then s makes.ruled w views w_seated idle w_who m.heeds;
         table = refl;
+        there = there s makes.ruled w views w_seated idle w_who m.heeds;
+        by = own;
         follows = record {
           makes = made;
           stays_up = ap (λ (v : View). v.naps) made.view
@@ -242,12 +244,14 @@ module _ {key : Start} (m : Moment key) (id : ℕ) (me : Sat) (here : get_elem? 
       (Unguard who n) m.ruled.log s →
       s.views ≡ set m.table.views id w → w.seated ≡ true → w.idle ≡ me.0.idle → w.part.core ≡ exited me.0.part.core →
       w.part.counts.cancelled ≡ me.0.part.counts.cancelled → MayLeave me.0.part.core n → me.0.part.core.waits ≡ suc n →
-      (heeds ≡ true → me.0.part.core.uncancelled ≡ true) → Moved m (Some (leaves_to_sleep who n heeds)) s
+      (heeds ≡ true → me.0.part.core.uncancelled ≡ true) → Moved m who (Some (leaves_to_sleep who n heeds)) s
   exit_moved n heeds s w makes views w_seated idle knows cancelled may waits found =
       let w_who : w.part.core.who ≡ who = ap (λ (v : View). v.who) knows in
       let to = put m.heeds who heeds in record {
         moment = then s makes.ruled w views w_seated idle w_who to;
         table = refl;
+        there = there s makes.ruled w views w_seated idle w_who to;
+        by = refl;
         follows = record {
           makes = makes_event s makes.ruled w views w_seated idle w_who to
               (Unguard who n) refl makes.can makes.is knows cancelled;
@@ -278,10 +282,12 @@ module _ {key : Start} (m : Moment key) (id : ℕ) (me : Sat) (here : get_elem? 
       heeds = refl;
     }
 
-    noted_moved : IsNoted me.0.part.core w.part.core → Moved m None s
+    noted_moved : IsNoted me.0.part.core w.part.core → Moved m who None s
     noted_moved noted = record {
       moment = after_it;
       table = refl;
+      there = looks_there.there;
+      by = tt;
       follows = inr (
         who,
         record {
@@ -298,10 +304,12 @@ module _ {key : Start} (m : Moment key) (id : ℕ) (me : Sat) (here : get_elem? 
 
     unsigned_moved : (core m).sign who ≡ 0 →
         (w.part.core ≡ found_none me.0.part.core) ⊎ (w.part.core ≡ has_read me.0.part.core 0) →
-        Moved m (Some (finds_no_sign who)) s
+        Moved m who (Some (finds_no_sign who)) s
     unsigned_moved none is = record {
       moment = after_it;
       table = refl;
+      there = looks_there.there;
+      by = refl;
       follows = record {
         looks = looks_there;
         none = none;
@@ -310,16 +318,18 @@ module _ {key : Start} (m : Moment key) (id : ℕ) (me : Sat) (here : get_elem? 
     }
 
     uncancelled_moved : (core m).cancel who ≡ 0 → w.part.core ≡ found_uncancelled me.0.part.core →
-        Moved m (Some (finds_no_cancel who)) s
+        Moved m who (Some (finds_no_cancel who)) s
     uncancelled_moved none is = record {
       moment = after_it;
       table = refl;
+      there = looks_there.there;
+      by = refl;
       follows = record { looks = looks_there; none = none; view = made_by found_uncancelled is };
     }
 
   -- ... and no view changed but in where it stands
   retold_moved : (s : St) → Stays key m.table m.ruled s → ((t : ℕ) (p : Part) → IsToldOf m.table t p →
-      IsToldOf s t p) → Moved m None s
+      IsToldOf s t p) → Moved m who None s
   retold_moved s stays told = record {
     moment = record {
       table = s;
@@ -333,6 +343,8 @@ module _ {key : Start} (m : Moment key) (id : ℕ) (me : Sat) (here : get_elem? 
       heeds = m.heeds;
     };
     table = refl;
+    there = record { acts = acts; others = λ u low isnt. refl; rung = refl; risen = refl; token = refl; asleep = refl };
+    by = tt;
     follows = inr (
       who,
       record {
@@ -364,13 +376,13 @@ module _ {key : Start} (m : Moment key) (id : ℕ) (me : Sat) (here : get_elem? 
   own_cancel = m.ruled.words.cancels who (let a = m.ruled.seats_there in let b = acts.seat in omega arith)
 
   found : (n : ℕ) (o : Owner) → me.0.part.core.inside ≡ suc n → IsValid o →
-      slice_index m.table.words (owner_at n) ≡ packed o →
+      slice_index m.table.words (owner_at key.locks n) ≡ packed o →
       o ≡ word_of (core m) n
   found n o is valid hit = moves.found key m.table m.ruled id me here seated n o
       (inside.inside_low key m.table m.ruled id me here seated n is) valid hit
 
   asked_so : (n : ℕ) (o : Owner) → MayGive me.0.part.core n → IsValid o →
-      slice_index m.table.words (owner_at n) ≡ packed o →
+      slice_index m.table.words (owner_at key.locks n) ≡ packed o →
       (o.flags == 3) ≡ (core m).asked n
   asked_so n o may valid hit = asked_is (core m) n o (found n o may.inside valid hit) who (reached_is_lawful
       (core m) m.ruled.reached)
@@ -420,7 +432,7 @@ module _ {key : Start} (m : Moment key) (id : ℕ) (me : Sat) (here : get_elem? 
   read_stays i v same has knows = moves.looks_on key m.table m.ruled id me here seated i v same
       (λ n. ap (λ (bs : List Bool). slice_index_or bs n false) has) knows
 
-  plays_moved : (x : Option Step) (s : St) → Plays m id me x s → Moved m x s
+  plays_moved : (x : Option Step) (s : St) → Plays m id me x s → Moved m who x s
   plays_moved _ _ (play.draws may room) = event_moved (Begin who) _ _ _
       (moves.draw_makes key m.table m.ruled id me here seated may room) refl seated refl refl
       (ap (λ k. begun me.0.part.core (k + 1)) (drawn_so room)) refl refl (wakes_none m None refl)

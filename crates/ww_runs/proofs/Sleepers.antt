@@ -88,6 +88,7 @@ module _ (kind : Kind) where
   is_owed = record {
     waker = omega arith;
     sleeper = omega arith;
+    other = λ same. omega arith;
     owed = let owed = ap (λ (p : Part). wakes_owed p 1) first_part in
         let none = ap (λ (f : ℕ → ℕ → ℕ). f 0 1) (at_11 kind).rung in omega arith;
   }
@@ -145,7 +146,9 @@ module _ (kind : Kind) where
     stays = record { core = refl; parts = λ u low. refl; heeds = refl };
     awake = first_awake;
     outside = first_outside;
-    due = is_owed;
+    waker = omega arith;
+    count = 1;
+    most = let few = is_owed.owed in omega arith;
     rung = refl;
     token = refl;
     risen = refl;
@@ -165,7 +168,7 @@ module _ (kind : Kind) where
   made zero s u has = let who = only_owed s u has in
       (0, omega arith, ap (λ x. Some (wakes x 1)) (sym who.0) ∙ ap (λ x. Some (wakes s x)) (sym who.1))
   made (suc zero) s u has = absurd (none_owed s u has)
-  made (suc (suc i)) s u has = absurd (none_owed s u (record { waker = has.waker; sleeper = has.sleeper; owed = has.owed }))
+  made (suc (suc i)) s u has = absurd (none_owed s u (record { waker = has.waker; sleeper = has.sleeper; other = has.other; owed = has.owed }))
 
   heard : (i s : ℕ) → (waking i).token s ≡ true → (j : ℕ) × (i ≤ j) × (waking_move j ≡ Some (rises s))
   heard zero s token = absurd (no_token s token)

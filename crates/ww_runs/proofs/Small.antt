@@ -27,7 +27,7 @@ use Rattle.ww_rule.specs.declared.cells.Cell.TheVariants.{Line}
 use Rattle.ww_rule.specs.declared.cells.Part.{Part}
 use Rattle.ww_rule.specs.declared.cells.Sight.{Sight}
 use Rattle.ww_rule.specs.declared.cells.Start.{Start}
-use Rattle.ww_rule.specs.Layout.{owner_at, guard_at, cancel_at, stamp_at, words_for, list_at, slots_for}
+use Rattle.ww_rule.specs.Layout.{lock_at, owner_at, guard_at, cancel_at, stamp_at, words_for, list_at, slots_for}
 use Rattle.ww_rule.specs.Rule.{St, Sat, Ruled, AreNodes, first_sight}
 use Rattle.ww_rule.specs.Steps.{drawing, knowing, first_seat, without_first}
 use Rattle.ww_rule.specs.Guards.{entering, exiting}
@@ -116,7 +116,7 @@ at_0 kind = let r = ruled_0 kind in let b = new_tables_begin (small kind) (table
 module _ {key : Start} {table : St} {core : State} {given : ℕ → ℕ → ℕ} {has sleeps heeds : ℕ → Bool}
     (a : AtWith key table core given has sleeps heeds) where
   -- ... and one that follows it by an event
-  unfoldable pub after_event : (e : Event) (x : Option Step) (then : St) (s : St) (moved : Moved a.moment x s) → s ≡ then →
+  unfoldable pub after_event : {d : ℕ} (e : Event) (x : Option Step) (then : St) (s : St) (moved : Moved a.moment d x s) → s ≡ then →
       MakesEvent a.moment moved.moment e → (now : ℕ → Bool) → moved.moment.heeds ≡ now →
       AtWith key then (after core e) given has sleeps now
   after_event e x then s moved is makes now heeding = record {
@@ -132,7 +132,7 @@ module _ {key : Start} {table : St} {core : State} {given : ℕ → ℕ → ℕ}
   }
 
   -- ... or by none
-  pub after_look : (t : ℕ) (x : Option Step) (then : St) (s : St) (moved : Moved a.moment x s) → s ≡ then →
+  pub after_look : {d : ℕ} (t : ℕ) (x : Option Step) (then : St) (s : St) (moved : Moved a.moment d x s) → s ≡ then →
       Looks a.moment moved.moment t → AtWith key then core given has sleeps heeds
   after_look t x then s moved is looks = record {
     moment = moved.moment;
@@ -147,7 +147,7 @@ module _ {key : Start} {table : St} {core : State} {given : ℕ → ℕ → ℕ}
   }
 
   -- ... or without any change
-  pub after_none : (x : Option Step) (then : St) (s : St) (moved : Moved a.moment x s) → s ≡ then →
+  pub after_none : {d : ℕ} (x : Option Step) (then : St) (s : St) (moved : Moved a.moment d x s) → s ≡ then →
       StandsStill a.moment moved.moment → AtWith key then core given has sleeps heeds
   after_none x then s moved is still = record {
     moment = moved.moment;
@@ -182,7 +182,7 @@ module _ {key : Start} {table : St} {core : State} {given : ℕ → ℕ → ℕ}
             ∙ ap (λ (p : Part). p.core.naps) part_there;
       }
 
-      pub moves_there : (x : Option Step) (s : St) → Plays a.moment id me x s → Moved a.moment x s
+      pub moves_there : (x : Option Step) (s : St) → Plays a.moment id me x s → Moved a.moment me.0.part.core.who x s
       moves_there x s plays = plays_are_moves key a.moment id me x s here_there seated acts_there plays
 
       -- ... after a play: an event, an exit in order to sleep, a look for the own cancel, or none of these
@@ -220,11 +220,11 @@ module _ {key : Start} {table : St} {core : State} {given : ℕ → ℕ → ℕ}
 abbrev pub second : Entry
 second = record { seat = 1; stamp = 2; holds = false }
 
-abbrev line : List Entry
+abbrev pub line : List Entry
 line = second ∷ []
 
 -- a wait list that a seat has out
-abbrev out : List Entry → List (ℕ × Cell)
+abbrev pub out : List Entry → List (ℕ × Cell)
 out q = (list_at 0, Line q) ∷ []
 
 -- the first draws, takes the lock, goes inside the guard again, releases the lock, and comes out
@@ -250,14 +250,14 @@ holder_5 kind = exiting (holder_4 kind)
 abbrev waiter_0 : Kind → Sight
 waiter_0 kind = without_first (first_sight (small kind))
 
-abbrev waiter_1 : Kind → Sight
+abbrev pub waiter_1 : Kind → Sight
 waiter_1 kind = drawing (waiter_0 kind) 2
 
 abbrev waiter_2 : Kind → Sight
 waiter_2 kind = entering (waiter_1 kind) 0 []
 
 -- the lock is the first one's
-abbrev owner : Owner
+abbrev pub owner : Owner
 owner = record { seat = Some 0; stamp = 1; flags = 0 }
 
 abbrev waiter_3 : Kind → Sight
@@ -284,33 +284,33 @@ table_2 kind = stepped (table_1 kind) stamp_at 1 1 [] (holder_1 kind) keeps
 abbrev table_3 : Kind → St
 table_3 kind = stepped (table_2 kind) stamp_at 2 0 [] (waiter_1 kind) keeps
 
-abbrev table_4 : Kind → St
-table_4 kind = stepped (table_3 kind) (owner_at 0) (packed owner) 1 [] (holder_2 kind) keeps
+abbrev pub table_4 : Kind → St
+table_4 kind = stepped (table_3 kind) (owner_at 1 0) (packed owner) 1 [] (holder_2 kind) keeps
 
 abbrev table_5 : Kind → St
-table_5 kind = stepped (table_4 kind) (guard_at 0) 2 0 [] (waiter_2 kind) (takes (list_at 0) (Line []))
+table_5 kind = stepped (table_4 kind) (guard_at 1 0) 2 0 [] (waiter_2 kind) (takes (list_at 0) (Line []))
 
 abbrev table_6 : Kind → St
-table_6 kind = stepped (table_5 kind) (owner_at 0) (packed (with_waiters owner)) 0 (out []) (waiter_3 kind) keeps
+table_6 kind = stepped (table_5 kind) (owner_at 1 0) (packed (with_waiters owner)) 0 (out []) (waiter_3 kind) keeps
 
 abbrev table_7 : Kind → St
 table_7 kind = stepped (table_6 kind) (cancel_at 1 1) 0 0 (out line) (waiter_4 kind) keeps
 
 abbrev table_8 : Kind → St
-table_8 kind = stepped (table_7 kind) (guard_at 0) 0 0 (out line) (waiter_5 kind) gives
+table_8 kind = stepped (table_7 kind) (guard_at 1 0) 0 0 (out line) (waiter_5 kind) gives
 
 abbrev table_9 : Kind → St
-table_9 kind = stepped (table_8 kind) (guard_at 0) 1 1 [] (holder_3 kind) (takes (list_at 0) (Line line))
+table_9 kind = stepped (table_8 kind) (guard_at 1 0) 1 1 [] (holder_3 kind) (takes (list_at 0) (Line line))
 
 abbrev table_10 : Kind → St
-table_10 kind = stepped (table_9 kind) (owner_at 0) (packed (given_word false line)) 1 (out line) (holder_4 kind) keeps
+table_10 kind = stepped (table_9 kind) (owner_at 1 0) (packed (given_word false line)) 1 (out line) (holder_4 kind) keeps
 
 abbrev table_11 : Kind → St
-table_11 kind = stepped (table_10 kind) (guard_at 0) 0 1 (out line) (holder_5 kind) gives
+table_11 kind = stepped (table_10 kind) (guard_at 1 0) 0 1 (out line) (holder_5 kind) gives
 
 -- ---- the locks
 
-abbrev core_2 : Kind → State
+abbrev pub core_2 : Kind → State
 core_2 kind = after (after (start kind 1 16) (Begin 0)) (Begin 1)
 
 abbrev core_4 : Kind → State
@@ -324,7 +324,7 @@ core_10 kind = after (after (core_6 kind) (Guard 0 0)) (Give 0 0)
 
 -- ---- the plays
 
-bare : (n : ℕ) → slice_index_or (false ∷ []) n false ≡ false
+pub bare : (n : ℕ) → slice_index_or (false ∷ []) n false ≡ false
 bare zero = refl
 bare (suc n) = refl
 
@@ -339,6 +339,7 @@ at_1 kind = let a = at_0 kind in let v = first_sight (small kind) in
     (play.cuts_off (holder_0 kind).part [] refl)
 
 at_2 : (kind : Kind) → At (small kind) (table_2 kind) (after (start kind 1 16) (Begin 0)) nobody nobody
+unfolding lock_at
 at_2 kind = let a = at_1 kind in let me : Sat = (holder_0 kind, []) in
     performs_there a 1 me refl refl (omega arith) refl refl (Begin 0) (table_2 kind) _
     (λ i. let w = slice_index (a.is_table i).words stamp_at + 1 in
@@ -347,6 +348,7 @@ at_2 kind = let a = at_1 kind in let me : Sat = (holder_0 kind, []) in
     (subst (λ (k : ℕ). k < most_for 16) (sym (word_there a stamp_at 0 refl)) (omega arith)))
 
 at_3 : (kind : Kind) → At (small kind) (table_3 kind) (core_2 kind) nobody nobody
+unfolding lock_at
 at_3 kind = let a = at_2 kind in let me : Sat = (waiter_0 kind, []) in
     performs_there a 0 me refl refl (omega arith) refl refl (Begin 1) (table_3 kind) _
     (λ i. let w = slice_index (a.is_table i).words stamp_at + 1 in
@@ -354,34 +356,37 @@ at_3 kind = let a = at_2 kind in let me : Sat = (waiter_0 kind, []) in
     (play.draws (record { away = (refl, refl); no_context = refl; bare = bare; fewer = omega arith })
     (subst (λ (k : ℕ). k < most_for 16) (sym (word_there a stamp_at 1 refl)) (omega arith)))
 
-at_4 : (kind : Kind) → At (small kind) (table_4 kind) (after (core_2 kind) (Fast 0 0)) nobody nobody
+pub at_4 : (kind : Kind) → At (small kind) (table_4 kind) (after (core_2 kind) (Fast 0 0)) nobody nobody
+unfolding lock_at
 at_4 kind = let a = at_3 kind in let me : Sat = (holder_1 kind, []) in
     performs_there a 1 me refl refl (omega arith) refl refl (Fast 0 0) (table_4 kind) _
-    (λ i. stepped (a.is_table i) (owner_at 0) (packed owner) 1 [] (holder_2 kind) keeps)
+    (λ i. stepped (a.is_table i) (owner_at 1 0) (packed owner) 1 [] (holder_2 kind) keeps)
     (play.takes_bare 0 (omega arith) (omega arith)
     (record { away = (refl, refl); base = inl (omega arith); signs = inr (inl refl) })
-    (word_there a (owner_at 0) 0 refl))
+    (word_there a (owner_at 1 0) 0 refl))
 
 at_5 : (kind : Kind) → At (small kind) (table_5 kind) (core_4 kind) nobody nobody
+unfolding lock_at
 at_5 kind = let a = at_4 kind in let me : Sat = (waiter_1 kind, []) in
     performs_there a 0 me refl refl (omega arith) refl refl (Guard 1 0) (table_5 kind) _
     (λ i. let q = (a.is_core i).queue 0 in
-    stepped (a.is_table i) (guard_at 0) 2 0 [] (entering (waiter_1 kind) 0 q) (takes (list_at 0) (Line q)))
+    stepped (a.is_table i) (guard_at 1 0) 2 0 [] (entering (waiter_1 kind) 0 q) (takes (list_at 0) (Line q)))
     (play.enters 0 (omega arith)
     (record { outside = refl; why = inr (inr (refl, refl, inl (omega arith), inr (inl refl))) })
-    (word_there a (guard_at 0) 0 refl))
+    (word_there a (guard_at 1 0) 0 refl))
 
-unsigned_inside : (kind : Kind) → once_inside kind 0 (Some 0) ≡ Some 0
+pub unsigned_inside : (kind : Kind) → once_inside kind 0 (Some 0) ≡ Some 0
 unsigned_inside WoundWait = refl
 unsigned_inside WaitDie = refl
 
-is_valid : IsValid owner
+pub is_valid : IsValid owner
 is_valid = record { seating = inl (omega arith, omega arith); flags = inl refl }
 
 at_6 : (kind : Kind) → At (small kind) (table_6 kind) (after (core_4 kind) (Join 1 0)) nobody nobody
+unfolding lock_at
 at_6 kind = let a = at_5 kind in let me : Sat = (waiter_2 kind, out []) in
     performs_there a 0 me refl refl (omega arith) refl refl (Join 1 0) (table_6 kind) _
-    (λ i. stepped (a.is_table i) (owner_at 0) (packed (with_waiters owner)) 0 (out []) (waiter_3 kind) keeps)
+    (λ i. stepped (a.is_table i) (owner_at 1 0) (packed (with_waiters owner)) 0 (out []) (waiter_3 kind) keeps)
     (play.joins 0 owner
     (record {
       inside = refl;
@@ -390,9 +395,10 @@ at_6 kind = let a = at_5 kind in let me : Sat = (waiter_2 kind, out []) in
       signs = inr (inl (unsigned_inside kind));
       other = (0, refl, λ is. let z : 0 ≡ 1 = is in omega arith);
     })
-    is_valid (word_there a (owner_at 0) (packed owner) refl))
+    is_valid (word_there a (owner_at 1 0) (packed owner) refl))
 
 at_7 : (kind : Kind) → At (small kind) (table_7 kind) (after (core_4 kind) (Join 1 0)) nobody nobody
+unfolding lock_at
 at_7 kind = let a = at_6 kind in let me : Sat = (waiter_3 kind, out line) in
     finds_there a 0 me refl refl (omega arith) refl refl 1 (table_7 kind) _
     (λ i. stepped (a.is_table i) (cancel_at 1 1) (slice_index (a.is_table i).words (cancel_at 1 1)) 0 (out line)
@@ -413,9 +419,10 @@ has_paid kind = record {
 }
 
 at_8 : (kind : Kind) → At (small kind) (table_8 kind) (core_6 kind) nobody one
+unfolding lock_at
 at_8 kind = let a = at_7 kind in let me : Sat = (waiter_4 kind, out line) in
     leaves_there a 0 me refl refl (omega arith) refl refl 1 0 true (table_8 kind) _
-    (λ i. stepped (a.is_table i) (guard_at 0) 0 0 (out line) (waiter_5 kind) gives)
+    (λ i. stepped (a.is_table i) (guard_at 1 0) 0 0 (out line) (waiter_5 kind) gives)
     (play.exits_to_sleep 0 true
     (record {
       exit = record {
@@ -432,7 +439,7 @@ at_8 kind = let a = at_7 kind in let me : Sat = (waiter_4 kind, out line) in
 
 -- the second falls asleep
 pub at_rest : (kind : Kind) → At (small kind) (table_8 kind) (core_6 kind) one one
-unfolding put ℕ_discrete
+unfolding put ℕ_discrete lock_at
 at_rest kind = let a = at_8 kind in let m = a.moment in
     let part = part_there a 0 (waiter_5 kind, []) refl refl (omega arith) in
     let then : Moment (small kind) = record m { asleep = put m.asleep 1 true } in record {
@@ -444,7 +451,8 @@ at_rest kind = let a = at_8 kind in let m = a.moment in
           is_asleep = ap (λ (f : ℕ → Bool). f 1) a.asleep;
           due = ap (λ (f : ℕ → ℕ). f 1 + 1) a.risen ∙ ap (λ (p : Part). p.core.naps) part;
         };
-        paid = λ u low. ap (λ (f : ℕ → ℕ → ℕ). f 1 u) a.rung ∙ ap (λ (p : Part). wakes_owed p u) part;
+        paid = λ u h. let few = h.owed in
+            let even = ap (λ (f : ℕ → ℕ → ℕ). f 1 u) a.rung ∙ ap (λ (p : Part). wakes_owed p u) part in omega arith;
         asleep = refl;
         rung = refl;
         risen = refl;
@@ -461,30 +469,30 @@ at_rest kind = let a = at_8 kind in let m = a.moment in
 
 -- the first goes inside the guard, releases the lock, and comes out
 at_9 : (kind : Kind) → At (small kind) (table_9 kind) (after (core_6 kind) (Guard 0 0)) one one
-unfolding put ℕ_discrete
+unfolding put ℕ_discrete lock_at
 at_9 kind = let a = at_rest kind in let me : Sat = (holder_2 kind, []) in
     performs_there a 1 me refl refl (omega arith) refl refl (Guard 0 0) (table_9 kind) _
     (λ i. let q = (a.is_core i).queue 0 in
-    stepped (a.is_table i) (guard_at 0) 1 1 [] (entering (holder_2 kind) 0 q) (takes (list_at 0) (Line q)))
+    stepped (a.is_table i) (guard_at 1 0) 1 1 [] (entering (holder_2 kind) 0 q) (takes (list_at 0) (Line q)))
     (play.enters 0 (omega arith)
     (record { outside = refl; why = inl (refl, refl) })
-    (word_there a (guard_at 0) 0 refl))
+    (word_there a (guard_at 1 0) 0 refl))
 
 at_10 : (kind : Kind) → At (small kind) (table_10 kind) (core_10 kind) one one
-unfolding put ℕ_discrete
+unfolding put ℕ_discrete lock_at
 at_10 kind = let a = at_9 kind in let me : Sat = (holder_3 kind, out line) in
     performs_there a 1 me refl refl (omega arith) refl refl (Give 0 0) (table_10 kind) _
-    (λ i. stepped (a.is_table i) (owner_at 0) (packed (given_word false line)) 1 (out line) (holder_4 kind) keeps)
+    (λ i. stepped (a.is_table i) (owner_at 1 0) (packed (given_word false line)) 1 (out line) (holder_4 kind) keeps)
     (play.gives_bare_inside 0 (with_waiters owner) (omega arith)
     (record { inside = refl; owns = refl })
     (record { seating = inl (omega arith, omega arith); flags = inr (inl refl) })
-    (word_there a (owner_at 0) (packed (with_waiters owner)) refl))
+    (word_there a (owner_at 1 0) (packed (with_waiters owner)) refl))
 
 pub at_11 : (kind : Kind) → At (small kind) (table_11 kind) (after (core_10 kind) (Unguard 0 0)) one one
-unfolding put ℕ_discrete
+unfolding put ℕ_discrete lock_at
 at_11 kind = let a = at_10 kind in let me : Sat = (holder_4 kind, out line) in
     performs_there a 1 me refl refl (omega arith) refl refl (Unguard 0 0) (table_11 kind) _
-    (λ i. stepped (a.is_table i) (guard_at 0) 0 1 (out line) (holder_5 kind) gives)
+    (λ i. stepped (a.is_table i) (guard_at 1 0) 0 1 (out line) (holder_5 kind) gives)
     (play.exits 0
     (record { inside = refl; why = inl (refl, refl); unsigned = λ _. inr (inr bare); unheeded = refl })
     refl refl)

@@ -17,7 +17,7 @@ use Rattle.ww_view.specs.Made.{view_after, naps_after}
 use Rattle.ww_rule.specs.declared.cells.Part.{Part}
 use Rattle.ww_rule.specs.declared.cells.Start.{Start}
 use Rattle.ww_wakes.specs.Scene.{acting, going_to_sleep, Step, performs, leaves_to_sleep, finds_no_sign, finds_no_cancel, wakes, falls_asleep, rises}
-use Rattle.ww_live.specs.Premises.{IsScheduled, WaiterGoesOn, HoldersGoOn}
+use Rattle.ww_live.specs.Premises.{IsScheduled, WaiterGoesOn, WaitersGoOn, HoldersGoOn}
 use Rattle.ww_live.specs.Theorem.{AreDeadlocked}
 use Rattle.ww_live.proofs.Asked.{who_leaves_has_asked}
 use Rattle.ww_live.proofs.Deadlocks.{no_deadlock_lasts}
@@ -58,7 +58,7 @@ module _ {key : Start} (m : Moment key) (t : ℕ) (low : t < key.seats) where
 
 -- ---- which move is this step
 
-performed : (key : Start) (x : Option Step) (e : Event) → step_of key x ≡ performs e → x ≡ Some (performs e)
+pub performed : (key : Start) (x : Option Step) (e : Event) → step_of key x ≡ performs e → x ≡ Some (performs e)
 performed key None e is = absurd (cc)
 performed key (Some y) e is = ap Some is
 
@@ -262,15 +262,20 @@ module _ {key : Start} (moment : ℕ → Moment key) (move : ℕ → Option Step
             )) h.2,
       )
 
+-- all that wait go on
+pub waiters_go_on : {key : Start} (moment : ℕ → Moment key) (move : ℕ → Option Step) → IsEndless moment move →
+    (a : RunsAlong moment move) → ((s : ℕ) → s < key.seats → IsScheduledThere moment move s) →
+    WaitersGoOn a.scene (λ i. step_of key (move i))
+waiters_go_on {key = key} moment move endless a scheduled t = record {
+  scheduled = dite (dec_le key.seats t) (λ far. stranger_is_scheduled moment move a t far)
+      (λ near. let less = lt_of_not-le near in is_scheduled moment move endless a t less (scheduled t less));
+  sleeps = waiters_sleep_in_runs key moment move endless a t;
+}
+
 pub waits_end_in_runs : WaitsEndInRuns
 waits_end_in_runs key moment move endless scheduled holders i s n low waits = let a = runs_along moment move endless in
     let step : ℕ → Step = (λ j. step_of key (move j)) in
-    let goes_on : (t : ℕ) → WaiterGoesOn a.scene step t = (λ t. record {
-      scheduled = dite (dec_le key.seats t) (λ far. stranger_is_scheduled moment move a t far)
-          (λ near. let less = lt_of_not-le near in is_scheduled moment move endless a t less (scheduled t less));
-      sleeps = waiters_sleep_in_runs key moment move endless a t;
-    }) in
-    let end = waits_end a.scene step a.run goes_on (holders_go_on moment move a holders)
+    let end = waits_end a.scene step a.run (waiters_go_on moment move endless a scheduled) (holders_go_on moment move a holders)
     (firsts_ask_in_runs key moment move endless a) i s n
     (subst (λ (c : State). Stands (c.queue n) s) (sym (a.shown i).core) (stands_there (moment i) s low n waits)) in
     let j = end.0 in let e = end.2 in let x = move j in

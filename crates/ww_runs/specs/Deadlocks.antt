@@ -103,3 +103,21 @@ pub record HasDeadlockThere (kind : Kind) : Type 0 where
 -- There is such a run in each kind.
 abbrev pub DeadlocksAreInEndlessRuns : Type 0
 DeadlocksAreInEndlessRuns = (kind : Kind) → HasDeadlockThere kind
+
+-- In an endless run of threads at a table of the kind all are scheduled, and holders go on; and a thread waits at first.
+pub record HasWaitThere (kind : Kind) : Type 0 where
+  pub key : Start
+  pub moment : ℕ → Moment key
+  pub move : ℕ → Option Step
+  pub seat : ℕ
+  pub lock : ℕ
+  pub of_kind : key.kind ≡ kind
+  pub low : seat < key.seats
+  pub endless : IsEndless moment move
+  pub scheduled : (s : ℕ) → s < key.seats → IsScheduledThere moment move s
+  pub go_on : HoldersGoOnThere moment
+  pub waits : (view (moment 0) seat).waits ≡ suc lock
+
+-- There is such a run in each kind.
+abbrev pub WaitsAreInEndlessRuns : Type 0
+WaitsAreInEndlessRuns = (kind : Kind) → HasWaitThere kind

@@ -4,3 +4,4 @@ pub mod Runs
 pub mod Plays
 pub mod Endless
 pub mod Deadlocks
+pub mod Contexts

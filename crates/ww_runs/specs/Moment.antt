@@ -1,5 +1,5 @@
 -- Threads at a table, at one moment.
-use Rattle.std.specs.Prelude.{ℕ, ◌≡◌, ◌<◌, ◌+◌, ◌⊎◌, Bool, true, false}
+use Rattle.std.specs.Prelude.{ℕ, ◌≡◌, ◌≢◌, ◌<◌, ◌+◌, ◌⊎◌, Bool, true, false}
 use mathlib.Core.Option.{some}
 use lib.ListN.{get_elem?}
 use Rattle.ww_model.specs.State.{State, start}
@@ -22,9 +22,9 @@ pub record IsToldOf (s : St) (t : ℕ) (p : Part) : Type 0 where
   pub tells : Tells view p
   pub who : p.core.who ≡ t
 
--- The table, by its rule, and what it tells of each seat. Beside it: how many tokens each seat gave each other; how
--- often a seat rose from its sleep; whether it has a token, which ends its sleep; whether it sleeps; and whether the
--- call in which it last went to sleep heeds cancels.
+-- The table, by its rule, and what it tells of each seat. Beside it: for how many of the wakes that a seat owed each other
+-- one it gave tokens; how often a seat rose from its sleep; whether it has a token, which ends its sleep; whether it
+-- sleeps; and whether the call in which it last went to sleep heeds cancels.
 pub record Moment (key : Start) : Type 0 where
   pub table : St
   pub ruled : Ruled key table
@@ -50,10 +50,11 @@ module _ {key : Start} (m : Moment key) where
   abbrev pub view : ℕ → View
   view t = (m.part t).core
 
-  -- seat s has yet to wake seat u
+  -- seat s has yet to wake seat u, another one
   pub record HasToWake (s u : ℕ) : Type 0 where
     pub waker : s < key.seats
     pub sleeper : u < key.seats
+    pub other : u ≢ s
     pub owed : m.rung s u < wakes_owed (m.part s) u
 
   -- seat t doesn't sleep, and has risen each time that it left a guard as a waiter

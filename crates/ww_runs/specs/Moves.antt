@@ -1,5 +1,5 @@
 -- How one moment follows another.
-use Rattle.std.specs.Prelude.{ℕ, suc, ◌≡◌, ◌≢◌, ◌<◌, ◌+◌, ◌⊎◌, Bool, true, false, List, ◌∷◌, Option, Some, None}
+use Rattle.std.specs.Prelude.{ℕ, suc, ◌≡◌, ◌≢◌, ◌<◌, ◌≤◌, ◌+◌, ◌⊎◌, Bool, true, false, List, ◌∷◌, Option, Some, None}
 use Rattle.ww_model.specs.declared.event.Event.{Event}
 use Rattle.ww_model.specs.declared.event.Event.TheVariants.{Unguard, Cancel}
 use Rattle.ww_model.specs.State.{put}
@@ -96,13 +96,16 @@ module _ {key : Start} (m m' : Moment key) where
     pub parts : (u : ℕ) → u < key.seats → m'.part u ≡ m.part u
     pub heeds : m'.heeds ≡ m.heeds
 
-  -- outside all guards a seat that doesn't sleep gives a token to one that it has to wake
+  -- outside all guards a seat that doesn't sleep gives another a token: for as many of the wakes that it owes that one as
+  -- it likes, or for none
   pub record Rings (s u : ℕ) : Type 0 where
     pub stays : StaysThere
     pub awake : m.asleep s ≡ false
     pub outside : (view m s).inside ≡ 0
-    pub due : HasToWake m s u
-    pub rung : m'.rung ≡ put m.rung s (put (m.rung s) u (m.rung s u + 1))
+    pub waker : s < key.seats
+    pub count : ℕ
+    pub most : m.rung s u + count ≤ wakes_owed (m.part s) u
+    pub rung : m'.rung ≡ put m.rung s (put (m.rung s) u (m.rung s u + count))
     pub token : m'.token ≡ put m.token u true
     pub risen : m'.risen ≡ m.risen
     pub asleep : m'.asleep ≡ m.asleep
@@ -111,7 +114,7 @@ module _ {key : Start} (m m' : Moment key) where
   pub record Parks (s : ℕ) : Type 0 where
     pub stays : StaysThere
     pub ready : Rests m s false
-    pub paid : (u : ℕ) → u < key.seats → m.rung s u ≡ wakes_owed (m.part s) u
+    pub paid : (u : ℕ) → ¬ HasToWake m s u
     pub asleep : m'.asleep ≡ put m.asleep s true
     pub rung : m'.rung ≡ m.rung
     pub risen : m'.risen ≡ m.risen

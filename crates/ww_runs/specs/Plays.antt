@@ -8,6 +8,7 @@ use Rattle.ww_word.specs.Owner.{with_waiters}
 use Rattle.ww_word.specs.AnySeats.{IsValid, packed, most_for}
 use Rattle.ww_queue.specs.Queue.{left}
 use Rattle.ww_model.specs.declared.event.Event.TheVariants.{Begin, Clear, Fast, FastGive, Guard, Join, Sign, Take, Ask, Give, Die, Unguard, Commit, End, Cancel, Heed, Leave}
+use Rattle.ww_model.specs.Event.{actor}
 use Rattle.ww_plain.specs.declared.node.Node.{Node}
 use Rattle.ww_plain.specs.declared.history.Record.{Record}
 use Rattle.ww_plain.specs.Graph.{node_at}
@@ -29,9 +30,9 @@ use Rattle.ww_rule.specs.Guards.{entering, exiting}
 use Rattle.ww_rule.specs.Waiting.{joining, taking_inside, giving_inside, asking, dying}
 use Rattle.ww_rule.specs.Signs.{condemning, clearing}
 use Rattle.ww_rule.specs.Cancels.{cancelling, heeding, stopping}
-use Rattle.ww_wakes.specs.Scene.{Step, performs, leaves_to_sleep, finds_no_sign, finds_no_cancel}
+use Rattle.ww_wakes.specs.Scene.{Step, performs, leaves_to_sleep, finds_no_sign, finds_no_cancel, wakes, falls_asleep, rises}
 use Rattle.ww_runs.specs.Moment.{Moment, core, Acts}
-use Rattle.ww_runs.specs.Moves.{Follows}
+use Rattle.ww_runs.specs.Moves.{StepsThere, Follows}
 
 module _ {key : Start} (m : Moment key) (id : ℕ) (me : Sat) where
   abbrev pub own : View
@@ -56,8 +57,8 @@ module _ {key : Start} (m : Moment key) (id : ℕ) (me : Sat) where
   -- it looked at an owner word inside the guard; read a word from outside; read its own sign, which isn't 0; found a
   -- seat signed, or its cancel pending; or found another word than it expected.
   pub data IsFound : ℕ → View → Type 0 where
-    looks : (n : ℕ) (o : Owner) → own.inside ≡ suc n → IsValid o → word (owner_at n) ≡ packed o →
-        IsFound (owner_at n) (has_looked own o)
+    looks : (n : ℕ) (o : Owner) → own.inside ≡ suc n → IsValid o → word (owner_at key.locks n) ≡ packed o →
+        IsFound (owner_at key.locks n) (has_looked own o)
     glances : (i : ℕ) → IsFound i (glanced own)
     tells_nothing : (i : ℕ) → IsFound i own
     is_signed : word (sign_at key.locks own.who) ≢ 0 →
@@ -75,19 +76,19 @@ module _ {key : Start} (m : Moment key) (id : ℕ) (me : Sat) where
     draws : MayDraw me.0.part → word stamp_at < most_for key.places →
         Plays (Some (performs (Begin own.who)))
         (changed stamp_at (word stamp_at + 1) (drawing me.0 (word stamp_at + 1)) keeps)
-    takes_free : (n : ℕ) → n < length (first_graph key) → MayFast own → word (owner_at n) ≡ 0 →
+    takes_free : (n : ℕ) → n < length (first_graph key) → MayFast own → word (owner_at key.locks n) ≡ 0 →
         Plays (Some (performs (Fast own.who n)))
-        (changed (owner_at n) (packed (taker own)) (taking me.0 n (node_there n)) (takes n (Content (node_there n))))
+        (changed (owner_at key.locks n) (packed (taker own)) (taking me.0 n (node_there n)) (takes n (Content (node_there n))))
     gives_free : (n : ℕ) (x : Node) → n < length (first_graph key) → IsAway own → owns own n ≡ true →
         get_elem? me.0.held n ≡ some (Some x) → me.1 ≡ (n, Content x) ∷ rest me.1 →
-        word (owner_at n) ≡ packed (taker own) →
-        Plays (Some (performs (FastGive own.who n))) (changed (owner_at n) 0 (giving me.0 n) gives)
-    takes_bare : (n : ℕ) → length (first_graph key) ≤ n → n < key.locks → MayFast own → word (owner_at n) ≡ 0 →
+        word (owner_at key.locks n) ≡ packed (taker own) →
+        Plays (Some (performs (FastGive own.who n))) (changed (owner_at key.locks n) 0 (giving me.0 n) gives)
+    takes_bare : (n : ℕ) → length (first_graph key) ≤ n → n < key.locks → MayFast own → word (owner_at key.locks n) ≡ 0 →
         Plays (Some (performs (Fast own.who n)))
-        (changed (owner_at n) (packed (taker own)) (knowing me.0 (fast_taken own n)) keeps)
+        (changed (owner_at key.locks n) (packed (taker own)) (knowing me.0 (fast_taken own n)) keeps)
     gives_bare : (n : ℕ) → length (first_graph key) ≤ n → n < key.locks → IsAway own → owns own n ≡ true →
-        word (owner_at n) ≡ packed (taker own) →
-        Plays (Some (performs (FastGive own.who n))) (changed (owner_at n) 0 (knowing me.0 (fast_given own n)) keeps)
+        word (owner_at key.locks n) ≡ packed (taker own) →
+        Plays (Some (performs (FastGive own.who n))) (changed (owner_at key.locks n) 0 (knowing me.0 (fast_given own n)) keeps)
     ends : MayEnd own → word (sign_at key.locks own.who) ≡ 0 →
         Plays (Some (performs (End own.who))) (read (sign_at key.locks own.who) (ended own))
     places : (done : Record) → MayPlace me.0 (recorded_of done) →
@@ -97,47 +98,47 @@ module _ {key : Start} (m : Moment key) (id : ℕ) (me : Sat) where
         Plays (Some (performs (Cancel own.who u)))
         (changed (cancel_at key.locks u) (own.who + 1) (cancelling me.0 u) keeps)
     -- into a guard, and out of it
-    enters : (n : ℕ) → n < key.locks → MayEnter own n → word (guard_at n) ≡ 0 →
+    enters : (n : ℕ) → n < key.locks → MayEnter own n → word (guard_at key.locks n) ≡ 0 →
         Plays (Some (performs (Guard own.who n)))
-        (changed (guard_at n) (suc own.who) (entering me.0 n ((core m).queue n))
+        (changed (guard_at key.locks n) (suc own.who) (entering me.0 n ((core m).queue n))
         (takes (list_at n) (Line ((core m).queue n))))
     exits : (n : ℕ) → MayExit own n → own.waits ≡ 0 → me.1 ≡ (list_at n, Line own.list) ∷ rest me.1 →
-        Plays (Some (performs (Unguard own.who n))) (changed (guard_at n) 0 (exiting me.0) gives)
+        Plays (Some (performs (Unguard own.who n))) (changed (guard_at key.locks n) 0 (exiting me.0) gives)
     exits_to_sleep : (n : ℕ) (heeds : Bool) → MayLeave own n → own.waits ≡ suc n →
         (heeds ≡ true → own.uncancelled ≡ true) → me.1 ≡ (list_at n, Line own.list) ∷ rest me.1 →
-        Plays (Some (leaves_to_sleep own.who n heeds)) (changed (guard_at n) 0 (exiting me.0) gives)
+        Plays (Some (leaves_to_sleep own.who n heeds)) (changed (guard_at key.locks n) 0 (exiting me.0) gives)
     -- inside
-    joins : (n : ℕ) (o : Owner) → MayJoin own n o → IsValid o → word (owner_at n) ≡ packed o →
+    joins : (n : ℕ) (o : Owner) → MayJoin own n o → IsValid o → word (owner_at key.locks n) ≡ packed o →
         Plays (Some (performs (Join own.who n)))
-        (changed (owner_at n) (packed (with_waiters o)) (joining me.0 n o) keeps)
+        (changed (owner_at key.locks n) (packed (with_waiters o)) (joining me.0 n o) keeps)
     takes_inside : (n : ℕ) (o : Owner) (y : Cell) (others : List (ℕ × Cell)) → n < length (first_graph key) →
-        MayTake own n o → IsValid o → word (owner_at n) ≡ packed o → me.1 ≡ (list_at n, y) ∷ others →
+        MayTake own n o → IsValid o → word (owner_at key.locks n) ≡ packed o → me.1 ≡ (list_at n, y) ∷ others →
         Plays (Some (performs (Take own.who n)))
-        (changed (owner_at n) (packed (taken_word own.who own.stamp (left own.list own.who)))
+        (changed (owner_at key.locks n) (packed (taken_word own.who own.stamp (left own.list own.who)))
         (taking_inside me.0 n (node_there n))
         (chain gives (chain (takes n (Content (node_there n))) (takes (list_at n) y))))
     takes_bare_inside : (n : ℕ) (o : Owner) → length (first_graph key) ≤ n → MayTake own n o → IsValid o →
-        word (owner_at n) ≡ packed o →
+        word (owner_at key.locks n) ≡ packed o →
         Plays (Some (performs (Take own.who n)))
-        (changed (owner_at n) (packed (taken_word own.who own.stamp (left own.list own.who)))
+        (changed (owner_at key.locks n) (packed (taken_word own.who own.stamp (left own.list own.who)))
         (knowing me.0 (taken own n)) keeps)
     gives_inside : (n : ℕ) (o : Owner) (x : Node) → MayGive own n → get_elem? me.0.held n ≡ some (Some x) → IsValid o →
-        word (owner_at n) ≡ packed o → me.1 ≡ (n, Content x) ∷ rest me.1 →
+        word (owner_at key.locks n) ≡ packed o → me.1 ≡ (n, Content x) ∷ rest me.1 →
         Plays (Some (performs (Give own.who n)))
-        (changed (owner_at n) (packed (given_word (o.flags == 3) own.list)) (giving_inside me.0 n (o.flags == 3)) gives)
+        (changed (owner_at key.locks n) (packed (given_word (o.flags == 3) own.list)) (giving_inside me.0 n (o.flags == 3)) gives)
     gives_bare_inside : (n : ℕ) (o : Owner) → length (first_graph key) ≤ n → MayGive own n → IsValid o →
-        word (owner_at n) ≡ packed o →
+        word (owner_at key.locks n) ≡ packed o →
         Plays (Some (performs (Give own.who n)))
-        (changed (owner_at n) (packed (given_word (o.flags == 3) own.list))
+        (changed (owner_at key.locks n) (packed (given_word (o.flags == 3) own.list))
         (knowing me.0 (given own n (o.flags == 3))) keeps)
-    asks : (n : ℕ) (o : Owner) → MayAsk own n o → IsValid o → word (owner_at n) ≡ packed o →
-        Plays (Some (performs (Ask own.who n))) (changed (owner_at n) (packed (asked_word o)) (asking me.0 o) keeps)
-    dies : (n : ℕ) (o : Owner) (k : ℕ) → MayDie own n o k → IsValid o → word (owner_at n) ≡ packed o →
+    asks : (n : ℕ) (o : Owner) → MayAsk own n o → IsValid o → word (owner_at key.locks n) ≡ packed o →
+        Plays (Some (performs (Ask own.who n))) (changed (owner_at key.locks n) (packed (asked_word o)) (asking me.0 o) keeps)
+    dies : (n : ℕ) (o : Owner) (k : ℕ) → MayDie own n o k → IsValid o → word (owner_at key.locks n) ≡ packed o →
         Plays (Some (performs (Die own.who n)))
-        (changed (owner_at n) (packed (rest_word (left own.list own.who) o)) (dying me.0 o) keeps)
-    leaves : (n : ℕ) (o : Owner) → MayStop own n → IsValid o → word (owner_at n) ≡ packed o →
+        (changed (owner_at key.locks n) (packed (rest_word (left own.list own.who) o)) (dying me.0 o) keeps)
+    leaves : (n : ℕ) (o : Owner) → MayStop own n → IsValid o → word (owner_at key.locks n) ≡ packed o →
         Plays (Some (performs (Leave own.who n)))
-        (changed (owner_at n) (packed (rest_word (left own.list own.who) o)) (stopping me.0 o) keeps)
+        (changed (owner_at key.locks n) (packed (rest_word (left own.list own.who) o)) (stopping me.0 o) keeps)
     heeds : (n : ℕ) → MayHeed own n → word (cancel_at key.locks own.who) ≢ 0 →
         Plays (Some (performs (Heed own.who n)))
         (changed (cancel_at key.locks own.who) 0 (heeding me.0 (word (cancel_at key.locks own.who))) keeps)
@@ -172,14 +173,27 @@ module _ {key : Start} (m : Moment key) (id : ℕ) (me : Sat) where
           views = slice_set (slice_set m.table.views id (with_seat me.0 w)) other nobody;
         })
 
--- a moment follows by that, in which the table is this
-pub record Moved {key : Start} (m : Moment key) (x : Option Step) (s : St) : Type 0 where
+-- this is a step that seat d makes at the table
+abbrev pub IsBy : ℕ → Option Step → Type 0
+IsBy d (Some (performs e)) = actor e ≡ d
+IsBy d (Some (leaves_to_sleep s n until)) = s ≡ d
+IsBy d (Some (finds_no_sign s)) = s ≡ d
+IsBy d (Some (finds_no_cancel s)) = s ≡ d
+IsBy d (Some (wakes s u)) = ⊥
+IsBy d (Some (falls_asleep s)) = ⊥
+IsBy d (Some (rises s)) = ⊥
+IsBy d None = Unit {0}
+
+-- a moment follows by that step of seat d, in which the table is this
+pub record Moved {key : Start} (m : Moment key) (d : ℕ) (x : Option Step) (s : St) : Type 0 where
   pub moment : Moment key
   pub table : moment.table ≡ s
+  pub there : StepsThere m moment d
+  pub by : IsBy d x
   pub follows : Follows m moment x
 
--- each play of a seat that acts is a move
+-- each play of a seat that acts is a move of that seat
 abbrev pub PlaysAreMoves : Type 0
 PlaysAreMoves = (key : Start) (m : Moment key) (id : ℕ) (me : Sat) (x : Option Step) (s : St) →
     get_elem? m.table.views id ≡ some me.0 → me.0.seated ≡ true → Acts m me.0.part.core.who →
-    Plays m id me x s → Moved m x s
+    Plays m id me x s → Moved m me.0.part.core.who x s

@@ -1,5 +1,5 @@
 //! No deadlock of threads lasts.
-ghost use Rattle.ww_runs.specs.Deadlocks.{WaitersSleepInRuns, FirstsAskInRuns, NoDeadlockLastsInRuns, NoStandstillInRuns, WaitsEndInRuns, DeadlocksAreInEndlessRuns};
+ghost use Rattle.ww_runs.specs.Deadlocks.{WaitersSleepInRuns, FirstsAskInRuns, NoDeadlockLastsInRuns, NoStandstillInRuns, WaitsEndInRuns, DeadlocksAreInEndlessRuns, WaitsAreInEndlessRuns};
 
 /// Each waiter that leaves a guard does so in order to sleep.
 pub fn waiters_sleep_in_runs()
@@ -33,4 +33,10 @@ pub fn waits_end_in_runs()
 /// some.
 pub fn deadlocks_are_in_endless_runs()
     ensures { DeadlocksAreInEndlessRuns }
+{}
+
+/// In each kind a thread waits in an endless run in which all are scheduled and holders go on: so the law on waits speaks
+/// of some.
+pub fn waits_are_in_endless_runs()
+    ensures { WaitsAreInEndlessRuns }
 {}

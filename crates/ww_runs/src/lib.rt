@@ -2,6 +2,7 @@
 //! is no code.
 #![tactic(auto)]
 
+pub mod contexts;
 pub mod deadlocks;
 pub mod endless;
 pub mod plays;

@@ -1,3 +1,5 @@
+//! The text of a schedule's replay, line by line.
+
 ghost use Rattle.std.specs.Prelude.{◌≡◌, ◌<◌, ◌≤◌, ◌++◌, string_bytes, Some, OnOk, IfOk};
 ghost use Rattle.std.specs.List.{flat_map};
 ghost use Rattle.ww_model.specs.Snapshot.{state_of};

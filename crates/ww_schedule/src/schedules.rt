@@ -1,3 +1,5 @@
+//! Schedules of events, as an input writes them.
+
 ghost use Rattle.std.specs.Prelude.{map};
 ghost use Rattle.serde_json.specs.View.{view};
 ghost use Rattle.ww_json.specs.Parts.{Gives, each};

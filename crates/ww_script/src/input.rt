@@ -1,3 +1,5 @@
+//! An input of either sort is read, and three laws of that reading.
+
 ghost use Rattle.std.specs.Prelude.{◌≡◌, ◌<◌, length};
 ghost use Rattle.serde_json.specs.View.{view};
 ghost use Rattle.ww_json.specs.Parts.{Gives, Says};
@@ -76,12 +78,14 @@ pub fn read_input(alloc: Global, bytes: &[u8]) -> Result<Input, InputFault>
 }
 
 /// A law of the definition by which [`read_input`] answers: whatever it reads keeps to the ranges of the format.
+#[tactic(auto, using(crate::proofs::Kept::reading_kept))]
 pub fn reading_keeps_ranges()
     ensures { ReadingKeepsRanges }
 {}
 
 /// A law of the definition by which [`read_input`] answers: for whatever keeps to the ranges there is a JSON
 /// value that is read as it. Whether its text is too long for an input is another question.
+#[tactic(auto, using(crate::proofs::Said::input_said))]
 pub fn each_input_can_be_said()
     ensures { EachInputCanBeSaid }
 {}

@@ -1,3 +1,5 @@
+//! Scripts on a graph, as an input writes them.
+
 ghost use Rattle.std.specs.Prelude.{◌≤◌, length, map};
 ghost use Rattle.serde_json.specs.View.{view};
 ghost use Rattle.ww_json.specs.Parts.{Gives, Says, each};

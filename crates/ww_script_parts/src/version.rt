@@ -1,3 +1,5 @@
+//! The two versions of the format, which differ in the ports of a node.
+
 ghost use Rattle.std.specs.Prelude.{◌≡◌};
 ghost use Rattle.ww_script_parts.specs.Versions.{ports_of};
 

@@ -15,7 +15,7 @@ use Rattle.ww_seat.proofs.Without.{another}
 -- ---- how often a seat stands in the debts
 
 -- by whether it has to be woken for these that were condemned
-abbrev wakes : ℕ → ℕ → List ℕ → Bool
+abbrev pub wakes : ℕ → ℕ → List ℕ → Bool
 wakes who x condemned = cond (eqb x who) false (is_one_of x condemned)
 
 -- one more that was condemned, seat u: it is the own one, or x, or was condemned before
@@ -77,13 +77,13 @@ same_bool true false to from = sym (to refl)
 same_bool false true to from = from refl
 same_bool false false to from = refl
 
-has_wakes : (v : View) (x : ℕ) → HasToWake v x → wakes v.who x v.condemned ≡ true
+pub has_wakes : (v : View) (x : ℕ) → HasToWake v x → wakes v.who x v.condemned ≡ true
 has_wakes v x has = elim (true_or_false (eqb x v.who)) [
   | inl own ↦ absurd (has.1 (same_from_eqb x v.who own))
   | inr other ↦ ap (λ (b : Bool). cond b false (is_one_of x v.condemned)) other ∙ has_one x v.condemned has.0
 ]
 
-wakes_has : (v : View) (x : ℕ) → wakes v.who x v.condemned ≡ true → HasToWake v x
+pub wakes_has : (v : View) (x : ℕ) → wakes v.who x v.condemned ≡ true → HasToWake v x
 wakes_has v x is = elim (true_or_false (eqb x v.who)) [
   | inl own ↦ absurd (true≢false (sym is ∙ ap (λ (b : Bool). cond b false (is_one_of x v.condemned)) own))
   | inr other ↦ (

@@ -253,6 +253,14 @@ owner_of_first size m n y others was outside out = ⊎_elim
     (ap (λ (l : List (ℕ × Cell)). slot_of l n) out ∙ slot_here n y others)))
     (true_or_false (owns m.0.part.core n))
 
+-- a seat that owns none has nothing out
+pub nothing_out : (size : ℕ) (m : Sat) → IsOrderly size m → m.0.part.core.inside ≡ 0 → IsBare m.0.part.core → m.1 ≡ []
+nothing_out size m was outside bare = go m.1 refl
+  where
+    go : (slots : List (ℕ × Cell)) → m.1 ≡ slots → slots ≡ []
+    go [] out = refl
+    go (x ∷ xs) out = absurd (true≢false (sym (owner_of_first size m x.0 x.1 xs was outside out) ∙ bare x.0))
+
 -- so where each lock that it owns guards a node, it owns one just where something is out
 pub holds_outside : (size : ℕ) (m : Sat) → IsOrderly size m → m.0.part.core.inside ≡ 0
     → ((n : ℕ) → owns m.0.part.core n ≡ true → n < size)

@@ -2,13 +2,15 @@
 use Rattle.std.proofs.Common.{◌≡◌, ℕ, ◌<◌, List, [], ◌∷◌, Option, Some, None, inl, sym, ap, subst, refl, arith, slice_get}
 use Rattle.std.specs.Prelude.{unwrap_or, IfSome}
 use Rattle.ww_queue.specs.declared.entry.Entry.{Entry}
+use Rattle.ww_rule.specs.Layout.{lock_at}
 use Rattle.ww_rule.specs.Guards.{AreSeats}
 use Rattle.ww_table.specs.declared.board.Board.{Board}
 use Rattle.ww_table.specs.declared.seat.Seat16.{Seat16}
 use Rattle.ww_table.specs.Seat.{IsSeatOf, view_of}
 
 pub seats_there : (b : Board) (s : Seat16) → IsSeatOf b s → (view_of s).seats ≡ b.table.shared.key.places
-seats_there b s is = let all = is.seats in let x = is.sized.0 in let y = b.sized.0 in let u = is.sized.1 in let w = b.sized.1 in omega arith
+seats_there b s is = let all = is.seats in let x = is.sized.0 in let y = b.sized.0 in let u = is.sized.1 in let w = b.sized.1 in
+    let same : s.room ≡ b.table.shared.key.locks = omega arith in let lie = ap (λ (locks : ℕ). lock_at locks locks) same in omega arith
 
 first_seat : (n : ℕ) (q : List Entry) (e : Entry) → AreSeats n q → Some e ≡ slice_get q 0 → e.seat < n
 first_seat n [] e seats is = absurd cc

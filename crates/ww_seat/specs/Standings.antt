@@ -130,6 +130,7 @@ pub record MayTake (board : Board) (n : ℕ) (s : Standing) : Type 0 where
 pub record MayTryBare (board : Board) (n : ℕ) (holds : Bool) (s : Standing) : Type 0 where
   pub bare : size_of board ≤ n
   pub there : n < locks_of board
+  pub packed : 64 < locks_of board
   pub away : IsAway (view_in s)
   pub base : WantsBase (view_in s)
   pub any : owns_any (view_in s) ≡ holds
@@ -138,6 +139,7 @@ pub record MayTryBare (board : Board) (n : ℕ) (holds : Bool) (s : Standing) : 
 pub record MayTakeBare (board : Board) (n : ℕ) (s : Standing) : Type 0 where
   pub bare : size_of board ≤ n
   pub there : n < locks_of board
+  pub packed : 64 < locks_of board
   pub may : MayFast (view_in s)
 
 -- it has the lock, with this node; or it may go on to wait for it
@@ -189,12 +191,14 @@ pub record IsWait (board : Board) (s : Standing) (n : ℕ) (waits : Waits) (r : 
   pub came : HasWaited board.table.shared.key.places s.me n waits r s'.me
   pub deaf : waits ≡ UntilCancelled → (view_in s').deaf ≡ (view_in s).deaf
 
--- it sleeps as a waiter, outside of all guards, for the last time that it left one so, and has made all wakes that it owed
-pub record MaySleep (patience : Patience) (bells : List Bell) (s : Standing) : Type 0 where
+-- It sleeps as a waiter, outside of all guards, for the last time that it left one so, and has made all wakes that it owed. In
+-- a wait until a cancel it found none there.
+pub record MaySleep (patience : Patience) (bells : List Bell) (waits : Waits) (s : Standing) : Type 0 where
   pub stands : (view_in s).waits ≢ 0
   pub outside : (view_in s).inside ≡ 0
   pub paid : ArePaid s.me bells
   pub due : heard patience + 1 ≡ (view_in s).naps
+  pub uncancelled : waits ≡ UntilCancelled → (view_in s).uncancelled ≡ true
 
 -- it has made some spin reads, and is otherwise as it was
 pub record HasStayedAway (s s' : Standing) : Type 0 where
@@ -225,6 +229,7 @@ pub record MayReleaseNode (board : Board) (n : ℕ) (s : Standing) : Type 0 wher
 pub record MayReleaseBare (board : Board) (n : ℕ) (s : Standing) : Type 0 where
   pub bare : size_of board ≤ n
   pub there : n < locks_of board
+  pub packed : 64 < locks_of board
   pub away : IsAway (view_in s)
 
 -- it has the lock no more; or somebody may wait for it, and it is kept

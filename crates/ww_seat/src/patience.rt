@@ -5,6 +5,7 @@ use crate::pacing::Pace;
 use crate::resting::{Memory, Rest, Stay};
 use crate::seats::Seat;
 use crate::staying_away::pause_for;
+use crate::waits::Waits;
 use std::sync::Wait;
 use ww_word::wide::Owner;
 
@@ -110,9 +111,10 @@ impl Patience {
     }
 
     /// Sleeps until somebody wakes the seat, once for each time that it left a guard as a waiter. It is outside of all, and has
-    /// woken whom it has to. If the wake-up comes during the pauses before, it costs no system call.
-    pub(crate) fn sleep<R: Wait>(&mut self, rt: &R, seat: &Seat, bells: &[Bell])
-        requires { MaySleep self.old bells.now seat.now }
+    /// woken whom it has to; and if the wait is until a cancel, it found none. If the wake-up comes during the pauses before,
+    /// it costs no system call.
+    pub(crate) fn sleep<R: Wait>(&mut self, rt: &R, seat: &Seat, bells: &[Bell], waits: Waits)
+        requires { MaySleep self.old bells.now waits seat.now }
         ensures parker { sleeps_at self.new ≡ sleeps_at self.old }
         ensures heard { heard self.new ≡ heard self.old + 1 }
     {

@@ -1,3 +1,5 @@
+//! The wait for a lock: looks at it, with a sleep between two, until one ends it.
+
 use crate::bell::Bell;
 use crate::look::{Arrival, Attempt, Look};
 use crate::patience::Patience;
@@ -72,7 +74,7 @@ impl Seat {
                 }
                 Look::Interrupted(by) => return Err(Stop::Interrupted(by)),
                 Look::Waits => {
-                    patience.sleep(rt, self, bells);
+                    patience.sleep(rt, self, bells, waits);
                     arrival = Arrival::Woken;
                 }
             }

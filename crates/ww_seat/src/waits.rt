@@ -1,3 +1,5 @@
+//! Whether a lock call heeds its caller's cancel.
+
 /// How a lock call waits, once it has to.
 #[derive(Clone, Copy, Debug, PartialEq, Eq, Drop)]
 pub enum Waits {

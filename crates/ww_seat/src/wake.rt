@@ -1,3 +1,5 @@
+//! Whom a seat wakes once it is outside the guard: marks first, and then bells.
+
 ghost use Rattle.std.specs.Prelude.{ℕ, ◌≡◌, ◌≢◌, ◌<◌, ◌≤◌, ◌*◌, true, length, Some, IfSome};
 ghost use Rattle.std.specs.Option.{option_map};
 ghost use Rattle.ww_queue.specs.declared.entry.Entry.{Entry};

@@ -16,7 +16,7 @@ use Rattle.ww_rule.specs.declared.cells.Part.{Part}
 use Rattle.ww_rule.specs.declared.cells.Sight.{Sight}
 use Rattle.ww_rule.specs.declared.cells.Start.{Start}
 use Rattle.ww_word.specs.AnySeats.{packed, most_for}
-use Rattle.ww_rule.specs.Layout.{IsSized, sign_at}
+use Rattle.ww_rule.specs.Layout.{IsSized, lock_at, sign_at}
 use Rattle.ww_table.specs.declared.seat.Seat16.{Seat16}
 use Rattle.ww_rule.specs.Rule.{Sat, first_graph, first_part, first_parts, first_sight, Ruled, IsSize, AreNodes}
 use Rattle.ww_rule.specs.Steps.{seat_of, first_seat, rest_of, without_first}
@@ -101,9 +101,9 @@ last_left key k is = (λ i. record (first_sight key) {
 })
 
 pub opens_made : (key : Start) (graph : List Node) (slots : List Cell) → first_graph key ≡ graph → 1 ≤ key.seats
-    → key.seats ≤ key.places → IsSize key.places → key.locks ≤ 65536 → length graph ≤ key.locks → AreNodes graph
+    → key.seats ≤ key.places → IsSize key.places → key.locks ≤ 16777216 → length graph ≤ key.locks → AreNodes graph
     → AreSlots graph (64 + key.locks) slots
-    → Ruled key (opening (replicate (16 + 8 * key.locks + 8 * key.places) 0) slots (first_sight key))
+    → Ruled key (opening (replicate (lock_at key.locks key.locks + 8 * key.places) 0) slots (first_sight key))
 opens_made key graph slots same one few size many fits is are =
     opens key one few size many (let l = ap length same in omega arith) (subst AreNodes (sym same) is) slots
     are.many
@@ -113,14 +113,14 @@ opens_made key graph slots same one few size many fits is are =
     (λ n low. are.lists (64 + n) (omega arith) (let m = is.few in omega arith))
 
 pub opens_made_start : (key : Start) (graph : List Node) (slots : List Cell) (same : first_graph key ≡ graph)
-    (one : 1 ≤ key.seats) (few : key.seats ≤ key.places) (size : IsSize key.places) (many : key.locks ≤ 65536) (fits : length graph ≤ key.locks)
+    (one : 1 ≤ key.seats) (few : key.seats ≤ key.places) (size : IsSize key.places) (many : key.locks ≤ 16777216) (fits : length graph ≤ key.locks)
     (is : AreNodes graph) (are : AreSlots graph (64 + key.locks) slots)
     → ((opens_made key graph slots same one few size many fits is are).core ≡ start key.kind key.locks key.places)
     × ((opens_made key graph slots same one few size many fits is are).log ≡ [])
 unfolding opens_made
 opens_made_start key graph slots same one few size many fits is are = opens_start key _ _ _ _ _ _ slots _ _ _
 
-all_from : {A : Type 0} (P : A → Type 0) (xs : List A) → ((k : ℕ) (x : A) → get_elem? xs k ≡ some x → P x) → AllByRecursion P xs
+pub all_from : {A : Type 0} (P : A → Type 0) (xs : List A) → ((k : ℕ) (x : A) → get_elem? xs k ≡ some x → P x) → AllByRecursion P xs
 all_from P [] each = tt
 all_from P (x ∷ xs) each = (each 0 x refl, all_from P xs (λ k y e. each (suc k) y e))
 

@@ -1,26 +1,23 @@
 -- What a seat is after a step that leaves the rest of it alone.
-use Rattle.std.proofs.Common.{◌≡◌, ℕ, ◌+◌, ◌*◌, ◌<◌, ◌≤◌, ◌^◌, Some, refl, sym, ap, ◌∙◌, subst, ◌≢◌, true, false, inl, ⊎_elim, arith}
-use Rattle.std.proofs.lemmas.Grind.{common_steps}
-use mathlib.Core.Logic.{dite}
-use native.Mathlib.Decide.{dec_le}
-use Rattle.ww_word.proofs.AnyWords.{few_word, many_word}
+use Rattle.std.proofs.Common.{◌≡◌, ℕ, ◌+◌, ◌<◌, ◌≤◌, ◌^◌, Some, refl, sym, ap, ◌∙◌, subst, inl, arith}
 use Rattle.std.specs.Prelude.{IsSome}
 use Rattle.std.specs.List.{AllByRecursion}
 use Rattle.atomic_table.specs.Seated.{TableId}
 use Rattle.ww_plain.specs.declared.history.Record.{Record}
-use Rattle.ww_word.specs.AnySeats.{Fits, IsValid, packed, most_for, unflagged}
+use Rattle.ww_word.specs.declared.wide.Owner.{Owner}
+use Rattle.ww_word.specs.AnySeats.{Fits, IsValid, packed, most_for}
 use Rattle.ww_queue.specs.declared.kind.Kind.{Kind}
 use Rattle.ww_view.specs.declared.view.View.{View}
-use Rattle.ww_rule.specs.Layout.{IsSized, sign_at}
+use Rattle.ww_rule.specs.Layout.{IsSized, lock_at, sign_at}
 use Rattle.ww_rule.specs.declared.cells.Sight.{Sight}
+use Rattle.ww_rule.proofs.Lies.{lock_next}
 use Rattle.ww_rule.specs.Rule.{Sat, IsSize}
 use Rattle.ww_rule.specs.Out.{numbers_of}
-use Rattle.ww_rule.specs.Steps.{taker, IsToldBy}
-use Rattle.ww_queue.proofs.Outcomes.{number_other}
-use Rattle.ww_model.proofs.Outcomes.{number_same}
-use Rattle.ww_view.specs.View.{owns}
+use Rattle.ww_rule.specs.Waiting.{HasListOnTop}
+use Rattle.ww_rule.specs.Steps.{taker}
 use Rattle.ww_table.specs.declared.seat.Seat16.{Seat16}
-use Rattle.ww_table.specs.Seat.{IsSeated, base_of, step_of}
+use Rattle.ww_table.specs.declared.board.Board.{Board}
+use Rattle.ww_table.specs.Seat.{IsSeated, IsSeatOf, base_of, locks_of, size_of, step_of}
 
 -- what never changes of a view, and of a seat
 abbrev fixed_of : View → Kind × (ℕ × ℕ)
@@ -94,3 +91,31 @@ taker_valid table s is = record {
   seating = subst (λ (x : ℕ × ℕ). Fits x.0 x.1) (λ i. (sym is.who i, sym is.stamp i)) is.fits;
   flags = inl refl;
 }
+
+-- where the words of a lock lie, by the number of locks that the board keeps: it is that of the rule, and that of the view
+pub by_rule : (b : Board) (n : ℕ) → lock_at b.locks n ≡ lock_at b.table.shared.key.locks n
+by_rule b n = ap (λ (locks : ℕ). lock_at locks n) b.locks_is
+
+pub by_view : (b : Board) (s : Seat16) → IsSeatOf b s → (n : ℕ) (v : Sight) → v ≡ s.seat.me.0
+    → lock_at b.locks n ≡ lock_at v.part.core.room n
+by_view b s is n v same = ap (λ (locks : ℕ). lock_at locks n)
+    ((let slots = is.sized.1 in let all = b.sized.1 in let kept = b.locks_is in let z : b.locks ≡ s.room = omega arith in z)
+    ∙ sym is.room ∙ ap (λ (w : Sight). w.part.core.room) (sym same))
+
+-- what a seat inside a guard expects of the owner word, once it has brought the wait list on top
+pub expected : (b : Board) {s : Seat16} {n i old : ℕ} {o : Owner} {now : Sat} → IsSeatOf b s → HasListOnTop s.seat.me n now
+    → i ≡ lock_at b.locks n → IsValid o → old ≡ packed o → (i ≡ lock_at now.0.part.core.room n) × IsValid o × (old ≡ packed o)
+expected b {s} {n} {now = now} is t at valid old = (at ∙ by_view b s is n now.0 (ap (λ (m : Sat). m.0) t.now), valid, old)
+
+-- a lock's word, and its guard beside it, are words of the table
+pub has_word : (b : Board) (n i : ℕ) → n < locks_of b → i ≤ lock_at b.table.shared.key.locks n + 1
+    → i < b.table.shared.table_id.words
+has_word b n i low at = let z = b.sized.0 in let few = b.few in let many = b.many in let fits = b.fits in
+    let next = lock_next b.table.shared.key.locks n b.table.shared.key.locks low in omega arith
+
+-- a board with nodes has few locks
+pub few_locks : (b : Board) (n : ℕ) → n < size_of b → b.locks ≤ 64
+few_locks b n low = let few = b.spread (omega arith) in let kept = b.locks_is in omega arith
+
+pub many_locks : (b : Board) → 64 < locks_of b → 64 < b.locks
+many_locks b many = let kept = b.locks_is in omega arith

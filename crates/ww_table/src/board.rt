@@ -1,4 +1,6 @@
-ghost use Rattle.std.specs.Prelude.{◌≡◌, ◌≤◌, length};
+//! The table as all seats share it.
+
+ghost use Rattle.std.specs.Prelude.{◌≡◌, ◌≤◌, ◌<◌, length};
 ghost use Rattle.ww_rule.specs.Layout.{IsSized};
 ghost use Rattle.ww_rule.specs.Rule.{first_graph};
 
@@ -7,7 +9,8 @@ use std::alloc::Global;
 use ww_rule::layout::{FRONT, STAMP, cancel_word, guard_word, owner_word, sign_word};
 use ww_rule::{Cell, Sight, Start, Words};
 
-/// A table of so many locks, 65,536 at most, of which the first ones guard the nodes of a graph, and of 16 seats or more.
+/// A table of so many locks, 2^24 at most, and of 16 seats or more. If locks guard the nodes of a graph these are the
+/// first ones, of 64 at most.
 #[derive(Drop)]
 pub struct Board {
     pub(crate) table: Table<Cell, Sight, Start, Words, Global>,
@@ -17,7 +20,8 @@ pub struct Board {
     ghost sized: { IsSized table.shared.key.locks table.shared.key.places table.shared.table_id },
     ghost locks_is: { locks ≡ table.shared.key.locks },
     ghost places_are: { places ≡ table.shared.key.places },
-    ghost many: { table.shared.key.locks ≤ 65536 },
+    ghost many: { table.shared.key.locks ≤ 16777216 },
+    ghost spread: { 0 < length (first_graph table.shared.key) → table.shared.key.locks ≤ 64 },
     ghost fits: { length (first_graph table.shared.key) ≤ table.shared.key.locks },
     ghost size_is: { size ≡ length (first_graph table.shared.key) },
     ghost some: { 1 ≤ table.shared.key.seats },
@@ -52,6 +56,7 @@ impl Board {
     /// Reads one word, for whoever has the board for itself, as tests do: a seat at work shares it, and reads by its
     /// steps alone. No clause says what the word has. The words are numbered: owner words from 0, guards from 64, signs
     /// from 128, the stamp word 144, the front word 145, cancels from 146. It gives 0 for a lock that isn't there.
+    #[tactic(auto, unfolding(ww_rule::specs::Layout::lock_at))]
     pub fn peek(&mut self, word: u8) -> u64
         requires { word < 162 }
         ensures same { self.new ≡ self.old }
@@ -60,8 +65,8 @@ impl Board {
             return 0;
         }
         self.table.shared.peek(match word {
-            0..=63 => owner_word(u32::from(word)),
-            64..=127 => guard_word(u32::from(word) - 64),
+            0..=63 => owner_word(self.locks, u32::from(word)),
+            64..=127 => guard_word(self.locks, u32::from(word) - 64),
             128..=143 => sign_word(self.locks, u16::from(word) - 128),
             144 => STAMP,
             145 => FRONT,

@@ -1,3 +1,5 @@
+//! The steps on a cancel word: it is set, and taken by its own seat.
+
 ghost use Rattle.std.specs.Prelude.{◌≡◌, ◌≢◌, ◌<◌, ◌≤◌, true, false};
 ghost use Rattle.ww_view.specs.View.{IsAway};
 ghost use Rattle.ww_view.specs.May.{MayHeed};

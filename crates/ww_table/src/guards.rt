@@ -1,3 +1,5 @@
+//! The steps into a guard and out of it, and the reads of an owner word.
+
 ghost use Rattle.std.specs.Prelude.{ℕ, ◌≡◌, ◌≢◌, ◌<◌, ◌+◌, [], ◌∷◌, length, true, false, Some, List};
 ghost use Rattle.atomic_table.specs.Seated.{TableId};
 ghost use Rattle.ww_word.specs.Owner.{is_handed};
@@ -22,7 +24,7 @@ use ww_word::wide::{Owner, unpack};
 impl Seat16 {
     /// Rotates the slots that are out until the wait list of the lock is the last taken, and gives the slot's number.
     pub(crate) fn bring_list(&mut self, lock: u32) -> u32
-        requires lock { lock < 65536 }
+        requires lock { lock < 16777216 }
         requires order { self.old.order.items ≡ numbers_of self.old.seat.me.1 }
         requires list { slot_of self.old.seat.me.1 (list_at lock) ≡ Some (Line (view_of self.old).list) }
         ensures slot { result ≡ list_at lock }
@@ -48,7 +50,12 @@ impl Seat16 {
     {
         let own = u64::from(self.who) + 1;
         let shared = &board.table.shared;
-        let found = shared.compare_exchange::<Enter>(&mut self.seat, guard_word(lock), 0, own);
+        let found = shared.compare_exchange::<Enter>(
+            &mut self.seat,
+            guard_word(board.locks, lock),
+            0,
+            own,
+        );
         if found != 0 {
             return false;
         }
@@ -69,7 +76,7 @@ impl Seat16 {
     {
         self.bring_list(lock);
         let shared = &board.table.shared;
-        shared.store::<Exit>(&mut self.seat, guard_word(lock), 0);
+        shared.store::<Exit>(&mut self.seat, guard_word(board.locks, lock), 0);
         self.order.pop();
     }
 
@@ -87,7 +94,7 @@ impl Seat16 {
         ensures flags { (view_of self.old).list ≢ [] → result.flags ≢ 0 }
     {
         let shared = &board.table.shared;
-        let word = shared.load::<Look>(&mut self.seat, owner_word(lock));
+        let word = shared.load::<Look>(&mut self.seat, owner_word(board.locks, lock));
         match unpack(word) {
             Some(owner) => owner,
             None => unreachable!(),
@@ -106,7 +113,7 @@ impl Seat16 {
         ensures valid { IsValid result }
     {
         let shared = &board.table.shared;
-        let word = shared.load::<Glance>(&mut self.seat, owner_word(lock));
+        let word = shared.load::<Glance>(&mut self.seat, owner_word(board.locks, lock));
         match unpack(word) {
             Some(owner) => owner,
             None => unreachable!(),

@@ -1,3 +1,5 @@
+//! A table is made, and cut into its seats.
+
 ghost use Rattle.std.specs.Prelude.{◌≡◌, ◌<◌, ◌≤◌, [], Some, length, IfOk, IfErr, IsSome, vec_len, vec_capacity};
 ghost use Rattle.ww_word.specs.AnySeats.{packed, most_for};
 ghost use Rattle.ww_plain.specs.Graph.{IsGraph};
@@ -30,7 +32,7 @@ impl Board {
         locks: u32,
         seats: u16,
     ) -> Result<(Board, Vec<Seat16>), (Graph, AllocError)>
-        requires locks { (length graph ≤ locks) × (locks ≤ 65536) }
+        requires locks { (length graph ≤ locks) × (locks ≤ 64) }
         requires seats { (1 ≤ seats) × (seats < 4096) }
         ensures ok { IfOk result (λ r. IsMade kind graph locks seats r.0 r.1.items) }
         ensures err { IfErr result (λ e. e.0 ≡ graph) }
@@ -48,7 +50,7 @@ impl Board {
         locks: u32,
         seats: u16,
     ) -> Result<(Board, Vec<Seat16>), AllocError>
-        requires locks { locks ≤ 65536 }
+        requires locks { locks ≤ 16777216 }
         requires seats { (1 ≤ seats) × (seats < 4096) }
         ensures { IfOk result (λ r. IsMade kind [] locks seats r.0 r.1.items) }
     {
@@ -79,7 +81,8 @@ fn lay(
     locks: u32,
     seats: u16,
 ) -> Result<(Board, Vec<Seat16>), AllocError>
-    requires locks { (length (nodes_of bare graph.now) ≤ locks) × (locks ≤ 65536) }
+    requires locks { (length (nodes_of bare graph.now) ≤ locks) × (locks ≤ 16777216) }
+    requires spread { 0 < length (nodes_of bare graph.now) → locks ≤ 64 }
     requires seats { (1 ≤ seats) × (seats < 4096) }
     ensures { IfOk result (λ r. IsMade kind (nodes_of bare graph.now) locks seats r.0 r.1.items) }
 {

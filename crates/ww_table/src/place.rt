@@ -1,3 +1,5 @@
+//! The step by which a commit takes its place.
+
 ghost use Rattle.std.specs.Prelude.{◌≡◌, ◌<◌, ◌^◌, ◌↔◌, true, length, Some, IfOk, IsTrue, OnErr, vec_len, vec_capacity};
 ghost use Rattle.std.specs.List.{AllByRecursion};
 ghost use Rattle.ww_plain.specs.History.{recorded_of};

@@ -1,3 +1,5 @@
+//! A seat of the table, its contexts, and its steps outside all guards.
+
 ghost use Rattle.std.specs.Prelude.{◌≡◌, ◌<◌, ◌≤◌, [], ◌∷◌, length, true, false, Some, IfSome, IfNone, IsSome};
 ghost use lib.ListN.{get_elem?};
 ghost use mathlib.Core.Option.{some};
@@ -18,7 +20,7 @@ use crate::board::Board;
 use arrayvec::ArrayVec;
 use ww_plain::{Node, Record};
 use ww_queue::Kind;
-use ww_rule::layout::{STAMP, owner_word};
+use ww_rule::layout::{STAMP, owner_word, packed_word, spread_word};
 use ww_rule::nodes::{node_there, swap_there};
 use ww_rule::plays::{Draw, End, GiveBare, GiveFree, Owns, TakeBare, TakeFree};
 use ww_rule::{MAX_OUT, Page, TableSeat, bring};
@@ -242,7 +244,7 @@ impl Seat16 {
     {
         let own = self.own;
         let shared = &board.table.shared;
-        let found = shared.compare_exchange::<TakeFree>(&mut self.seat, owner_word(lock), 0, own);
+        let found = shared.compare_exchange::<TakeFree>(&mut self.seat, spread_word(lock), 0, own);
         if found != 0 {
             return false;
         }
@@ -265,7 +267,7 @@ impl Seat16 {
         bring(&mut self.seat, &mut self.order, lock);
         let own = self.own;
         let shared = &board.table.shared;
-        let found = shared.compare_exchange::<GiveFree>(&mut self.seat, owner_word(lock), own, 0);
+        let found = shared.compare_exchange::<GiveFree>(&mut self.seat, spread_word(lock), own, 0);
         if found != own {
             return false;
         }
@@ -278,6 +280,7 @@ impl Seat16 {
     pub fn take_bare(&mut self, board: &Board, lock: u32) -> Tried
         requires seat { IsSeatOf board.now self.old }
         requires lock { (size_of board.now ≤ lock) × (lock < locks_of board.now) }
+        requires packed { 64 < locks_of board.now }
         requires may { MayFast (view_of self.old) }
         ensures seat { IsSeatOf board.now self.new }
         ensures records { self.new.records ≡ self.old.records }
@@ -285,7 +288,7 @@ impl Seat16 {
     {
         let own = self.own;
         let shared = &board.table.shared;
-        let found = shared.compare_exchange::<TakeBare>(&mut self.seat, owner_word(lock), 0, own);
+        let found = shared.compare_exchange::<TakeBare>(&mut self.seat, packed_word(lock), 0, own);
         if found == 0 {
             return Tried::Did;
         }
@@ -297,6 +300,7 @@ impl Seat16 {
     pub fn give_bare(&mut self, board: &Board, lock: u32) -> Tried
         requires seat { IsSeatOf board.now self.old }
         requires lock { (size_of board.now ≤ lock) × (lock < locks_of board.now) }
+        requires packed { 64 < locks_of board.now }
         requires away { IsAway (view_of self.old) }
         ensures seat { IsSeatOf board.now self.new }
         ensures records { self.new.records ≡ self.old.records }
@@ -304,7 +308,7 @@ impl Seat16 {
     {
         let own = self.own;
         let shared = &board.table.shared;
-        let found = shared.compare_exchange::<GiveBare>(&mut self.seat, owner_word(lock), own, 0);
+        let found = shared.compare_exchange::<GiveBare>(&mut self.seat, packed_word(lock), own, 0);
         if found != own {
             return Tried::InVain(Found { word: found, own });
         }
@@ -323,7 +327,7 @@ impl Seat16 {
     {
         let own = self.own;
         let shared = &board.table.shared;
-        let found = shared.load::<Owns>(&mut self.seat, owner_word(lock));
+        let found = shared.load::<Owns>(&mut self.seat, owner_word(board.locks, lock));
         without_flags(found) == without_flags(own)
     }
 

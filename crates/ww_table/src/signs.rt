@@ -1,3 +1,5 @@
+//! The steps on a sign word: a seat is condemned, sees it, and takes it back.
+
 ghost use Rattle.std.specs.Prelude.{◌≡◌, ◌≢◌, ◌<◌, true, false};
 ghost use Rattle.ww_view.specs.View.{IsQuiet};
 ghost use Rattle.ww_view.specs.May.{MayClear, MaySign};

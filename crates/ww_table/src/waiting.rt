@@ -1,3 +1,5 @@
+//! The steps of a waiter, and of the owner that it waits for, inside the guard.
+
 ghost use Rattle.std.specs.Prelude.{ℕ, ◌≡◌, ◌≢◌, ◌<◌, ◌≤◌, ◌==◌, [], ◌∷◌, length, nat_lt, true, false, List, Some};
 ghost use lib.ListN.{get_elem?};
 ghost use mathlib.Core.Option.{some};
@@ -51,7 +53,12 @@ impl Seat16 {
         let shared = &board.table.shared;
         let old = pack(seen);
         let new = pack(seen.with_waiters());
-        let found = shared.compare_exchange::<Join>(&mut self.seat, owner_word(lock), old, new);
+        let found = shared.compare_exchange::<Join>(
+            &mut self.seat,
+            owner_word(board.locks, lock),
+            old,
+            new,
+        );
         if found != old {
             return false;
         }
@@ -80,7 +87,8 @@ impl Seat16 {
         let old = pack(seen);
         let new = pack(seen.with_flags(WAITERS | HANDOFF));
         let shared = &board.table.shared;
-        shared.compare_exchange::<Ask>(&mut self.seat, owner_word(lock), old, new) == old
+        shared.compare_exchange::<Ask>(&mut self.seat, owner_word(board.locks, lock), old, new)
+            == old
     }
 
     /// Takes the lock, if its owner word is still the one seen: that of a free lock, or of one handed to the seat. The
@@ -102,7 +110,12 @@ impl Seat16 {
         let old = pack(seen);
         let new = pack(owner);
         let shared = &board.table.shared;
-        let found = shared.compare_exchange::<Take>(&mut self.seat, owner_word(lock), old, new);
+        let found = shared.compare_exchange::<Take>(
+            &mut self.seat,
+            owner_word(board.locks, lock),
+            old,
+            new,
+        );
         if found != old {
             return false;
         }
@@ -134,7 +147,7 @@ impl Seat16 {
         let shared = &board.table.shared;
         let found = shared.compare_exchange::<TakeBareInside>(
             &mut self.seat,
-            owner_word(lock),
+            owner_word(board.locks, lock),
             old,
             new,
         );
@@ -164,7 +177,12 @@ impl Seat16 {
         let old = pack(seen);
         let new = pack(owner);
         let shared = &board.table.shared;
-        shared.compare_exchange::<GiveBareInside>(&mut self.seat, owner_word(lock), old, new);
+        shared.compare_exchange::<GiveBareInside>(
+            &mut self.seat,
+            owner_word(board.locks, lock),
+            old,
+            new,
+        );
     }
 
     /// Leaves the wait list, as the context has to back off, if the owner word is still the one seen.
@@ -185,7 +203,12 @@ impl Seat16 {
         let old = pack(seen);
         let new = pack(rest);
         let shared = &board.table.shared;
-        let found = shared.compare_exchange::<Die>(&mut self.seat, owner_word(lock), old, new);
+        let found = shared.compare_exchange::<Die>(
+            &mut self.seat,
+            owner_word(board.locks, lock),
+            old,
+            new,
+        );
         if found != old {
             return false;
         }
@@ -213,7 +236,12 @@ impl Seat16 {
         let old = pack(seen);
         let new = pack(rest);
         let shared = &board.table.shared;
-        let found = shared.compare_exchange::<Leave>(&mut self.seat, owner_word(lock), old, new);
+        let found = shared.compare_exchange::<Leave>(
+            &mut self.seat,
+            owner_word(board.locks, lock),
+            old,
+            new,
+        );
         if found != old {
             return false;
         }
@@ -242,7 +270,7 @@ impl Seat16 {
         let old = pack(seen);
         let new = pack(owner);
         let shared = &board.table.shared;
-        shared.compare_exchange::<Give>(&mut self.seat, owner_word(lock), old, new);
+        shared.compare_exchange::<Give>(&mut self.seat, owner_word(board.locks, lock), old, new);
         self.order.pop();
     }
 }

@@ -6,6 +6,7 @@ use Rattle.ww_word.specs.declared.owner.Owner.{Owner}
 use Rattle.ww_word.specs.AnySeats.{IsValid, packed}
 use Rattle.ww_view.specs.Made.{noted, found_uncancelled, stepped, glanced, found_pending, shut_out, has_looked, has_read, found_none, fast_missed, fast_kept}
 use Rattle.ww_view.proofs.Inside.{mine_look, mine_uncancelled, mine_lost_sign, mine_read, mine_read_none, mine_missed, mine_kept, mine_glanced, mine_found_pending, mine_shut_out, mine_stepped}
+use Rattle.ww_rule.specs.Layout.{lock_at}
 use Rattle.ww_rule.specs.declared.cells.Start.{Start}
 use Rattle.ww_rule.specs.Rule.{St, Sat, Sits, Ruled, Stays}
 use Rattle.ww_rule.specs.Guards.{looking, glancing}
@@ -20,24 +21,24 @@ module _ (key : Start) (s : St) (r : Ruled key s) (id : ℕ) (me : Sat) (here : 
   mine = moves.mine key s r id me here seated
 
   pub look_stays : (n : ℕ) (o : Owner) → me.0.part.core.inside ≡ suc n → IsValid o
-      → get_or s.words (16 + 8 * n) 0 ≡ packed o → Stays key s r (read s (16 + 8 * n) id me (looking me.0 o))
-  look_stays n o inside valid hit = moves.looks_on key s r id me here seated (16 + 8 * n) (has_looked me.0.part.core o) refl (λ m. refl)
+      → get_or s.words (lock_at key.locks n) 0 ≡ packed o → Stays key s r (read s (lock_at key.locks n) id me (looking me.0 o))
+  look_stays n o inside valid hit = moves.looks_on key s r id me here seated (lock_at key.locks n) (has_looked me.0.part.core o) refl (λ m. refl)
       (mine_look r.core me.0.part.core mine.part.knows n o inside
       (moves.found key s r id me here seated n o (inside_low key s r id me here seated n inside) valid hit))
 
-  pub glance_stays : (n : ℕ) → Stays key s r (read s (16 + 8 * n) id me (glancing me.0))
-  glance_stays n = moves.looks_on key s r id me here seated (16 + 8 * n) (glanced me.0.part.core) refl (λ m. refl)
+  pub glance_stays : (n : ℕ) → Stays key s r (read s (lock_at key.locks n) id me (glancing me.0))
+  glance_stays n = moves.looks_on key s r id me here seated (lock_at key.locks n) (glanced me.0.part.core) refl (λ m. refl)
       (mine_glanced r.core me.0.part.core mine.part.knows)
 
-  pub owns_stays : (n : ℕ) → Stays key s r (read s (16 + 8 * n) id me me.0)
-  owns_stays n = moves.looks_on key s r id me here seated (16 + 8 * n) me.0.part.core refl (λ m. refl) mine.part.knows
+  pub owns_stays : (n : ℕ) → Stays key s r (read s (lock_at key.locks n) id me me.0)
+  owns_stays n = moves.looks_on key s r id me here seated (lock_at key.locks n) me.0.part.core refl (λ m. refl) mine.part.knows
 
   pub count_stays : Stays key s r (read s 0 id me (glancing me.0))
   count_stays = moves.looks_on key s r id me here seated 0 (glanced me.0.part.core) refl (λ m. refl)
       (mine_glanced r.core me.0.part.core mine.part.knows)
 
-  pub own_sign_stays : IsNotedOnly key s r id me (16 + 8 * key.locks + 8 * me.0.part.core.who)
-  own_sign_stays = let c = r.core in let v = me.0.part.core in let k = mine.part.knows in let i = 16 + 8 * key.locks + 8 * v.who in let x = get_or s.words i 0 in
+  pub own_sign_stays : IsNotedOnly key s r id me (lock_at key.locks key.locks + 8 * me.0.part.core.who)
+  own_sign_stays = let c = r.core in let v = me.0.part.core in let k = mine.part.knows in let i = lock_at key.locks key.locks + 8 * v.who in let x = get_or s.words i 0 in
       let tells : x ≡ c.sign v.who = r.words.signs v.who (let z = k.itself.seat in let y = r.places in omega arith) in record {
         found = λ quiet. moves.looks_on key s r id me here seated i (has_read v x) refl (λ m. refl) (mine_read c v k x (sym tells) quiet);
         found_none = moves.looks_on key s r id me here seated i (found_none v) refl (λ m. refl) (mine_read_none c v k);
@@ -54,6 +55,6 @@ module _ (key : Start) (s : St) (r : Ruled key s) (id : ℕ) (me : Sat) (here : 
     others = moves.looks_on key s r id me here seated i (stepped v) refl (λ m. refl) (mine_stepped c v k);
   }
 
-  pub lost_sign_stays : (u : ℕ) → u < key.places → get_or s.words (16 + 8 * key.locks + 8 * u) 0 ≢ 0 → Stays key s r (read s (16 + 8 * key.locks + 8 * u) id me (noting me.0 u))
-  lost_sign_stays u low isnt = moves.looks_on key s r id me here seated (16 + 8 * key.locks + 8 * u) (noted me.0.part.core u) refl
+  pub lost_sign_stays : (u : ℕ) → u < key.places → get_or s.words (lock_at key.locks key.locks + 8 * u) 0 ≢ 0 → Stays key s r (read s (lock_at key.locks key.locks + 8 * u) id me (noting me.0 u))
+  lost_sign_stays u low isnt = moves.looks_on key s r id me here seated (lock_at key.locks key.locks + 8 * u) (noted me.0.part.core u) refl
       (λ m. refl) (mine_lost_sign r.core me.0.part.core mine.part.knows u (λ z. isnt (r.words.signs u low ∙ z)))

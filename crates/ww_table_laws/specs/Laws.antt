@@ -54,43 +54,43 @@ FewSeatsSpendNone = (key : Start) (s : St) (r : Ruled key s) → key.places ≡ 
 -- with 16 seats each owner word is the one that `ww_word` packs without its second form
 abbrev pub FewSeatsHaveNarrowWords : Type 0
 FewSeatsHaveNarrowWords = (key : Start) (s : St) (r : Ruled key s) (n : ℕ) → key.places ≡ 16 → n < key.locks →
-    slice_index s.words (owner_at n) ≡ narrow.packed (word_of r.core n)
+    slice_index s.words (owner_at key.locks n) ≡ narrow.packed (word_of r.core n)
 
 -- outside a guard an owner word 0 becomes that of the seat as Fast, and the node that comes out has the fold's value
 abbrev pub TakeFreeIsFast : Type 0
 TakeFreeIsFast = (key : Start) (s : St) (r : Ruled key s) (id : ℕ) (me : Sat) (n : ℕ) → Steps s id me
-    → n < length (first_graph key) → MayFast me.0.part.core → slice_index s.words (owner_at n) ≡ 0 →
+    → n < length (first_graph key) → MayFast me.0.part.core → slice_index s.words (owner_at key.locks n) ≡ 0 →
     let x : Node = node_at (last_graph (first_graph key) r.log) n in
     Makes key s r (Fast me.0.part.core.who n)
-    (stepped s (owner_at n) (packed (taker me.0.part.core)) id me.1 (taking me.0 n x) (takes n (Content x)))
+    (stepped s (owner_at key.locks n) (packed (taker me.0.part.core)) id me.1 (taking me.0 n x) (takes n (Content x)))
 
 -- outside a guard the owner word of the seat without flags becomes 0 as FastGive
 abbrev pub GiveFreeIsFastGive : Type 0
 GiveFreeIsFastGive = (key : Start) (s : St) (r : Ruled key s) (id : ℕ) (me : Sat) (n : ℕ) (x : Node) → Steps s id me
     → n < length (first_graph key) → IsAway me.0.part.core → owns me.0.part.core n ≡ true →
     get_elem? me.0.held n ≡ some (Some x) → me.1 ≡ (n, Content x) ∷ rest me.1
-    → slice_index s.words (owner_at n) ≡ packed (taker me.0.part.core) →
-    Makes key s r (FastGive me.0.part.core.who n) (stepped s (owner_at n) 0 id me.1 (giving me.0 n) gives)
+    → slice_index s.words (owner_at key.locks n) ≡ packed (taker me.0.part.core) →
+    Makes key s r (FastGive me.0.part.core.who n) (stepped s (owner_at key.locks n) 0 id me.1 (giving me.0 n) gives)
 
 -- the same of a lock that guards no node: no slot comes or goes
 abbrev pub TakeBareIsFast : Type 0
 TakeBareIsFast = (key : Start) (s : St) (r : Ruled key s) (id : ℕ) (me : Sat) (n : ℕ) → Steps s id me
-    → length (first_graph key) ≤ n → n < key.locks → MayFast me.0.part.core → slice_index s.words (owner_at n) ≡ 0 →
+    → length (first_graph key) ≤ n → n < key.locks → MayFast me.0.part.core → slice_index s.words (owner_at key.locks n) ≡ 0 →
     Makes key s r (Fast me.0.part.core.who n)
-    (stepped s (owner_at n) (packed (taker me.0.part.core)) id me.1 (knowing me.0 (fast_taken me.0.part.core n))
+    (stepped s (owner_at key.locks n) (packed (taker me.0.part.core)) id me.1 (knowing me.0 (fast_taken me.0.part.core n))
     keeps)
 
 abbrev pub GiveBareIsFastGive : Type 0
 GiveBareIsFastGive = (key : Start) (s : St) (r : Ruled key s) (id : ℕ) (me : Sat) (n : ℕ) → Steps s id me
     → length (first_graph key) ≤ n → n < key.locks → IsAway me.0.part.core → owns me.0.part.core n ≡ true →
-    slice_index s.words (owner_at n) ≡ packed (taker me.0.part.core) →
-    Makes key s r (FastGive me.0.part.core.who n) (stepped s (owner_at n) 0 id me.1 (knowing me.0 (fast_given me.0.part.core n)) keeps)
+    slice_index s.words (owner_at key.locks n) ≡ packed (taker me.0.part.core) →
+    Makes key s r (FastGive me.0.part.core.who n) (stepped s (owner_at key.locks n) 0 id me.1 (knowing me.0 (fast_given me.0.part.core n)) keeps)
 
 -- Outside all guards and lists an owner word is the seat's own, but for its flags, just where the seat owns the lock: so a
 -- seat needs no list of what it holds.
 abbrev pub WordsTellOwners : Type 0
 WordsTellOwners = (key : Start) (s : St) (r : Ruled key s) (id : ℕ) (me : Sat) (n : ℕ) → Steps s id me → n < key.locks →
-    IsAway me.0.part.core → IsToldBy me.0.part.core n (slice_index s.words (owner_at n))
+    IsAway me.0.part.core → IsToldBy me.0.part.core n (slice_index s.words (owner_at key.locks n))
 
 -- Mutual exclusion: at each moment a lock is owned by one seat of the table at most. Who owns it stands where any other does
 -- that owns it, and so has its number.
@@ -136,7 +136,7 @@ StepsExtendTheRun = (key : Start) (s : St) (r : Ruled key s) (e : Event) (log : 
 
 -- the rule holds of a table made just now, and tells the start of the core and no commits
 abbrev pub NewTableShowsStart : Type 0
-NewTableShowsStart = (key : Start) (slots : List Cell) → 1 ≤ key.seats → key.seats ≤ key.places → IsSize key.places → key.locks ≤ 65536
+NewTableShowsStart = (key : Start) (slots : List Cell) → 1 ≤ key.seats → key.seats ≤ key.places → IsSize key.places → key.locks ≤ 16777216
     → length (first_graph key) ≤ key.locks → AreNodes (first_graph key)
     → AreSlots (first_graph key) (slots_for key.locks) slots →
     let s : St = opening (replicate (words_for key.locks key.places) 0) slots (first_sight key) in

@@ -25,18 +25,18 @@ read s i id me w = stepped s i (slice_index s.words i) id me.1 w keeps
 -- a look at the owner word inside the guard
 abbrev pub LookIsNoEvent : Type 0
 LookIsNoEvent = (key : Start) (s : St) (r : Ruled key s) (id : ℕ) (me : Sat) (n : ℕ) (o : Owner) → Steps s id me →
-    me.0.part.core.inside ≡ suc n → IsValid o → slice_index s.words (owner_at n) ≡ packed o →
-    Stays key s r (read s (owner_at n) id me (looking me.0 o))
+    me.0.part.core.inside ≡ suc n → IsValid o → slice_index s.words (owner_at key.locks n) ≡ packed o →
+    Stays key s r (read s (owner_at key.locks n) id me (looking me.0 o))
 
 -- a spin read of an owner word from outside the guard
 abbrev pub GlanceIsNoEvent : Type 0
 GlanceIsNoEvent = (key : Start) (s : St) (r : Ruled key s) (id : ℕ) (me : Sat) (n : ℕ) → Steps s id me →
-    Stays key s r (read s (owner_at n) id me (glancing me.0))
+    Stays key s r (read s (owner_at key.locks n) id me (glancing me.0))
 
 -- a look from outside whether the seat owns a lock
 abbrev pub OwnsIsNoEvent : Type 0
 OwnsIsNoEvent = (key : Start) (s : St) (r : Ruled key s) (id : ℕ) (me : Sat) (n : ℕ) → Steps s id me →
-    Stays key s r (read s (owner_at n) id me me.0)
+    Stays key s r (read s (owner_at key.locks n) id me me.0)
 
 -- a spin read of the stamp word
 abbrev pub CountIsNoEvent : Type 0

@@ -4,21 +4,25 @@
 ghost use Rattle.ww_table_laws.specs.NoEvents.{LookIsNoEvent, GlanceIsNoEvent, OwnsIsNoEvent, CountIsNoEvent, OwnSignIsNoEvent, LostIsNoEvent, LostSignIsNoEvent, SplitIsNoEvent, JoinIsNoEvent};
 
 /// A look at an owner word leaves core and commits as they are.
+#[tactic(auto, using(crate::proofs::NoEvents::look_stays))]
 pub fn look_is_no_event()
     ensures { LookIsNoEvent }
 {}
 
 /// So does a spin read of one.
+#[tactic(auto, using(crate::proofs::NoEvents::glance_stays))]
 pub fn glance_is_no_event()
     ensures { GlanceIsNoEvent }
 {}
 
 /// So does a look whether the seat owns one.
+#[tactic(auto, using(crate::proofs::NoEvents::owns_stays))]
 pub fn owns_is_no_event()
     ensures { OwnsIsNoEvent }
 {}
 
 /// So does a spin read of the stamp word.
+#[tactic(auto, using(crate::proofs::NoEvents::count_stays))]
 pub fn count_is_no_event()
     ensures { CountIsNoEvent }
 {}
@@ -34,16 +38,19 @@ pub fn lost_is_no_event()
 {}
 
 /// So does a sign for a seat that has one.
+#[tactic(auto, using(crate::proofs::NoEvents::lost_sign_stays))]
 pub fn lost_sign_is_no_event()
     ensures { LostSignIsNoEvent }
 {}
 
 /// So does cutting off a seat.
+#[tactic(auto, using(ww_rule::proofs::Seats::splits_on))]
 pub fn split_is_no_event()
     ensures { SplitIsNoEvent }
 {}
 
 /// So does taking a seat in.
+#[tactic(auto, using(ww_rule::proofs::Seats::joins_on))]
 pub fn join_is_no_event()
     ensures { JoinIsNoEvent }
 {}

@@ -1,3 +1,5 @@
+//! What a caller may be told of each commit, before it and behind it.
+
 ghost use Rattle.std.specs.Prelude.{ℕ};
 
 /// Its methods are called, in the thread of the transaction, for each transaction that commits; they may hold that

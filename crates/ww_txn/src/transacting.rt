@@ -1,3 +1,5 @@
+//! A transaction from its locks to its answer, in one call.
+
 ghost use Rattle.std.specs.Prelude.{◌≡◌, ◌<◌, length, IfOk, IfErr, OnOk, OnErr};
 ghost use Rattle.ww_plain.specs.Transaction.{transaction_of, peek, Fits};
 ghost use Rattle.ww_lock.specs.Holding.{IsAtHome};

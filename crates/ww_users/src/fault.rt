@@ -1,3 +1,5 @@
+//! Why a list or a walk was not locked.
+
 use thiserror::Error;
 
 /// Why the nodes of a list, or of a walk, were not locked. The pass holds no lock then.

@@ -1,3 +1,5 @@
+//! The loop of a caller whose own code takes the locks.
+
 ghost use Rattle.std.specs.Prelude.{◌≡◌, [], Ok, IfOk, IfErr};
 ghost use Rattle.ww_lock.specs.Holding.{IsAtHome};
 ghost use Rattle.ww_users.specs.Turns.{KeepsContext, StartsTurn, IsTurn, IsHaltingTurn, IsHaltedBy};

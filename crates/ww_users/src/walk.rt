@@ -1,3 +1,5 @@
+//! Method 3: a walk, whose nodes are known only once they are locked.
+
 ghost use Rattle.std.specs.Prelude.{◌≡◌, ◌<◌, false, length, Some, IfOk, IfErr, IfSome, IsTrue};
 ghost use Rattle.ww_plain.specs.Graph.{port_of};
 ghost use Rattle.ww_plain.specs.Numbers.{is_among};

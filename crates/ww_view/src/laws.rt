@@ -8,11 +8,13 @@ pub fn others_know()
 {}
 
 /// Nobody else signs a seat whose view is quiet.
+#[tactic(auto, using(crate::proofs::Others::quiet_is_left_alone))]
 pub fn quiet_is_left_alone()
     ensures { QuietIsLeftAlone }
 {}
 
 /// After its own event a seat knows what that event makes of its view.
+#[tactic(auto, using(crate::proofs::Events::actor_knows))]
 pub fn actor_knows()
     ensures { ActorKnows }
 {}
@@ -23,16 +25,19 @@ pub fn found_is_known()
 {}
 
 /// At the start each seat knows what its first view says.
+#[tactic(auto, using(crate::proofs::Starts::knows_start))]
 pub fn knows_at_start()
     ensures { KnowsAtStart }
 {}
 
 /// A seat that rests knows no more and no less than at the start, whatever it did before.
+#[tactic(auto, using(crate::proofs::Starts::rests))]
 pub fn rests_as_at_start()
     ensures { RestsAsAtStart }
 {}
 
 /// The event that a seat's view shows, with what the seat finds, is possible.
+#[tactic(auto, using(crate::proofs::Events::shown_is_possible))]
 pub fn shown_is_possible()
     ensures { ShownIsPossible }
 {}
@@ -58,22 +63,26 @@ pub fn death_is_shown()
 {}
 
 /// Its view names the lock and the stamp of the older context, once it has died.
+#[tactic(auto, using(crate::proofs::Deaths::die_notes))]
 pub fn death_is_noted()
     ensures { DeathIsNoted }
 {}
 
 /// No other event makes a view name one.
+#[tactic(auto, using(crate::proofs::Deaths::others_note_none))]
 pub fn no_other_is_noted()
     ensures { NoOtherIsNoted }
 {}
 
 /// The view of a seat that was interrupted names the lock, and the seat whose cancel it had heeded, beside all that it
 /// named.
+#[tactic(auto, using(crate::proofs::Interruptions::stop_notes))]
 pub fn interruption_is_noted()
     ensures { InterruptionIsNoted }
 {}
 
 /// No other event changes which interruptions a view names.
+#[tactic(auto, using(crate::proofs::Interruptions::others_stop_none))]
 pub fn no_other_is_stopped()
     ensures { NoOtherIsStopped }
 {}
@@ -84,11 +93,13 @@ pub fn shown_death_was_met()
 {}
 
 /// Each event writes to the owner words what the definition says, and nothing else changes there.
+#[tactic(auto, using(crate::proofs::Written::words_are_written))]
 pub fn words_are_written()
     ensures { WordsAreWritten }
 {}
 
 /// A number found in an owner word is that of one owner.
+#[tactic(auto, using(crate::proofs::Written::found_is))]
 pub fn words_are_told()
     ensures { WordsAreTold }
 {}

@@ -20,16 +20,19 @@ pub fn flag_numbers()
 {}
 
 /// A valid owner packs to 64 bits.
+#[tactic(auto, using(crate::proofs::Words::packing_fits))]
 pub fn packing_fits()
     ensures { PackingFits }
 {}
 
 /// No two valid owners pack to one word.
+#[tactic(auto, using(crate::proofs::Words::packing_is_injective))]
 pub fn packing_is_injective()
     ensures { PackingIsInjective }
 {}
 
 /// What a valid owner packs to is read as that owner, and what is read packs to its word again.
+#[tactic(auto, using(crate::proofs::Words::unpacking_is_inverse))]
 pub fn unpacking_is_inverse()
     ensures { UnpackingIsInverse }
 {}
@@ -40,6 +43,7 @@ pub fn reading_is_unique()
 {}
 
 /// Waiters add one to a word that has no flag, and leave the others.
+#[tactic(auto, using(crate::proofs::Words::waiters_add_one))]
 pub fn waiters_add_one()
     ensures { WaitersAddOne }
 {}
@@ -50,26 +54,31 @@ pub fn handing_is_seat_and_stamp()
 {}
 
 /// Of a valid owner the flags of waiters and of a pickup, and no others, tell that the lock was handed over.
+#[tactic(auto, using(crate::proofs::Words::handing_tells_pickup))]
 pub fn handing_tells_pickup()
     ensures { HandingTellsPickup }
 {}
 
 /// The word 0 is the free lock with an empty wait list, and no other owner's.
+#[tactic(auto, using(crate::proofs::Words::zero_is_idle))]
 pub fn zero_is_idle()
     ensures { ZeroIsIdle }
 {}
 
 /// A valid owner of a table with any number of seats packs to 64 bits.
+#[tactic(auto, using(crate::proofs::AnyWords::any_packing_fits))]
 pub fn any_packing_fits()
     ensures { AnyPackingFits }
 {}
 
 /// No two valid owners of such a table pack to one word.
+#[tactic(auto, using(crate::proofs::AnyWords::packing_is_injective))]
 pub fn any_packing_is_injective()
     ensures { AnyPackingIsInjective }
 {}
 
 /// Seats below 16 have the same words in a table of more seats.
+#[tactic(auto, using(crate::proofs::AnyWords::few_seats_keep_their_words))]
 pub fn few_seats_keep_their_words()
     ensures { FewSeatsKeepTheirWords }
 {}

@@ -1,3 +1,5 @@
+//! The owner of a lock, as a value, with its flags.
+
 ghost use Rattle.std.specs.Prelude.{◌≡◌, ◌↔◌, IsTrue};
 ghost use Rattle.ww_word.specs.Owner.{IsValid, AreFlags, packed, IsReadOf};
 

@@ -1,18 +1,20 @@
-use Rattle.std.proofs.Common.{rules, ◌≡◌, ◌<◌, length, sym, subst, ◌∙◌, arith}
+use Rattle.std.proofs.Common.{rules, ◌≡◌, ◌<◌, ℕ, length, sym, subst, ◌∙◌, arith}
 use Rattle.std.proofs.lemmas.List.Elements.{recursion_from_All}
 use Rattle.ww_plain.proofs.GraphFacts.{all_item}
 use Rattle.ww_table.specs.declared.board.Board.{Board}
+use Rattle.ww_table.specs.declared.seat.Seat16.{Seat16}
 use Rattle.ww_table.specs.Closed.{HaveAllCome}
-use Rattle.ww_table_loads.specs.Standing.{IsUnused}
-use Rattle.ww_table_loads.proofs.Standing.{few_places, new_unused}
+use Rattle.ww_low_tests.specs.Looking.{IsUnused}
 use Rattle.ww_low_tests.proofs.Gathered.{all_come}
+use Rattle.ww_low_tests.proofs.Trying.{made_unused, made_small}
 use Rattle.ww_low_tests.proofs.rounds.crowd.Goals as goal
 
 pub map_vec-requires-after_bounds : goal.map_vec-requires-after_bounds
 map_vec-requires-after_bounds g c = λ κs live i x lt is. let board = c.in_ok-board.board in (
-  subst (IsUnused board) (sym is) (all_item (IsUnused board) c.in_ok-board.seats.items i x lt
-      (new_unused _ _ _ _ board c.in_ok-board.seats.items c.in_ok-board.ensures)),
-  few_places _ _ _ _ board c.in_ok-board.seats.items c.in_ok-board.ensures c.requires.1,
+  subst (λ (q : Seat16). (k : ℕ) × IsUnused board k q) (sym is)
+      (all_item (λ (q : Seat16). (k : ℕ) × IsUnused board k q) c.in_ok-board.seats.items i x lt
+      (made_unused _ _ _ _ board c.in_ok-board.seats.items c.in_ok-board.ensures)),
+  made_small _ _ _ _ board c.in_ok-board.seats.items c.in_ok-board.ensures (search rules) (search rules) c.requires.1,
 )
 
 pub apart-requires : goal.apart-requires

@@ -1,13 +1,14 @@
-use Rattle.std.proofs.Common.{Bool, true, length, sym, ap, refl, subst, ◌+◌, ◌∙◌}
+use Rattle.std.proofs.Common.{rules, arith, Bool, true, length, sym, ap, refl, subst, ◌+◌, ◌∙◌}
 use Rattle.ww_model.specs.State.{any_below}
 use Rattle.ww_view.specs.View.{owns}
 use Rattle.ww_rule.specs.Rule.{Sat}
-use Rattle.ww_table.specs.Seat.{size_of}
+use Rattle.ww_table.specs.Seat.{size_of, view_of}
 use Rattle.ww_seat.specs.declared.look.Attempt.TheVariants.{Lost}
 use Rattle.ww_seat.specs.declared.look.Look.TheVariants.{Interrupted}
-use Rattle.ww_seat.specs.Work.{has_joined, looks_again, HasCome, IsWorking}
+use Rattle.ww_seat.specs.Work.{has_joined, looks_again, AreWoken, HasCome, IsWorking}
 use Rattle.ww_seat.proofs.Coming.{attempted, come_goes_on, come_looked, come_out, come_stood, come_then, come_touched}
 use Rattle.ww_seat.proofs.Stood.{flags_later}
+use Rattle.ww_seat.proofs.There.{seats_there}
 use Rattle.ww_seat.proofs.Stopped.{goes_on_sees}
 use Rattle.ww_seat.proofs.look.look_once.Goals.{In_default-stop_if_cancelled}
 use Rattle.ww_seat.proofs.look.look_once.Goals as goal
@@ -24,6 +25,11 @@ take_inside-requires-clause-at c =
         working = w.working;
       },
     )
+
+pub take_inside-requires-clause-marks : goal.take_inside-requires-clause-marks
+take_inside-requires-clause-marks c = let woken : AreWoken (view_of c.look-seen.new.self) c.args.wake.now = search rules in
+    let seats = seats_there c.args.board.now c.look-seen.new.self c.look-seen.ensures.seat in let marks = c.requires.may.marks in
+    record { woken = woken; room = omega arith }
 
 pub returns-in-Some-clause-came : goal.returns-in-Some-clause-came
 returns-in-Some-clause-came c = let same = c.take_inside.ensures.same in
@@ -114,6 +120,11 @@ stay_or_back_off-requires-clause-seen c = let stands = c.in-Some-stand.ensures.s
       c.args.seat.now.seat.me.0.part.core c.look-seen.result c.in-Some-stand.word c.requires.may.working
       c.look-seen.ensures.flags stands.flags (sym c.joining.ensures.again ∙ again);
 }
+
+pub stay_or_back_off-requires-clause-marks : goal.stay_or_back_off-requires-clause-marks
+stay_or_back_off-requires-clause-marks c = let woken : AreWoken (view_of c.stop_if_cancelled.new.seat) c.args.wake.now = search rules in
+    let seats = seats_there c.args.board.now c.stop_if_cancelled.new.seat c.stop_if_cancelled.ensures.same.seat in
+    let marks = c.requires.may.marks in record { woken = woken; room = omega arith }
 
 pub returns-clause-came : goal.returns-clause-came
 returns-clause-came c = let m3 = c.stop_if_cancelled.new.seat.seat.me in

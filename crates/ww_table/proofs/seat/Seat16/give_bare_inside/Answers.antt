@@ -9,7 +9,7 @@ use Rattle.ww_rule.specs.Steps.{knowing}
 use Rattle.ww_rule.specs.Waiting.{IsStillThere}
 use Rattle.ww_rule.proofs.InsideSteps.{gives_bare_with_list}
 use Rattle.ww_rule.proofs.InsideTurning.{given_valid}
-use Rattle.ww_table.proofs.Seated.{seated_as}
+use Rattle.ww_table.proofs.Seated.{has_word, seated_as, by_rule, by_view}
 use Rattle.ww_table.proofs.seat.Seat16.give_bare_inside.Goals as goal
 
 pub pack-new-requires : goal.pack-new-requires
@@ -19,15 +19,15 @@ pack-new-requires c = subst IsValid (sym (c.next_owner-owner.ensures.owner ∙ a
 pub compare_exchange-requires : goal.compare_exchange-requires
 compare_exchange-requires c = let r = c.next_owner-owner.ensures in (
   r.seat.home,
-  (let z = c.args.board.now.sized.0 in let small = c.requires.lock.1 in let word = c.owner_word.ensures in omega arith),
+  has_word c.args.board.now c.args.lock _ c.requires.lock.1 (omega (arith, c.owner_word.ensures ∙ by_rule c.args.board.now c.args.lock)),
   gives_bare_with_list _ _ _ c.args.self.now.seat.me.0 _ c.args.lock c.args.seen c.next_owner-owner.result _ _ _
-      (ap (λ (m : Sat). m.0) r.read.now) c.owner_word.ensures c.pack-old.ensures c.pack-new.ensures (c.next_owner-owner.ensures.owner ∙ ap (λ (f : ℕ). given_word (f == 3) c.args.self.now.seat.me.0.part.core.list) c.flags.ensures)
+      (ap (λ (m : Sat). m.0) r.read.now) (c.owner_word.ensures ∙ by_rule c.args.board.now c.args.lock) c.pack-old.ensures c.pack-new.ensures (c.next_owner-owner.ensures.owner ∙ ap (λ (f : ℕ). given_word (f == 3) c.args.self.now.seat.me.0.part.core.list) c.flags.ensures)
       c.requires.lock.0 c.requires.seat.seated c.requires.may c.requires.valid,
 )
 
 pub returns-clause-gave : goal.returns-clause-gave
 returns-clause-gave c = let t = c.next_owner-owner.ensures.read in let view = ap (λ (m : Sat). m.0) t.now in
-    let told = c.compare_exchange.ensures.2 c.args.lock c.args.seen (c.owner_word.ensures, c.requires.valid, c.pack-old.ensures) in
+    let told = c.compare_exchange.ensures.2 c.args.lock c.args.seen (c.owner_word.ensures ∙ by_view c.args.board.now _ c.requires.seat c.args.lock _ (ap (λ (m : Sat). m.0) c.next_owner-owner.ensures.read.now), c.requires.valid, c.pack-old.ensures) in
     let hit = told.0 (told.2 (subst (λ (w : Sight). IsStillThere w.part.core c.args.lock c.args.seen) (sym view)
     (record { inside = c.requires.may.inside; alone = inr c.requires.may.owns; seen = c.requires.seen }))) in (
       t.others,
@@ -38,7 +38,7 @@ returns-clause-gave c = let t = c.next_owner-owner.ensures.read in let view = ap
 
 pub returns-clause-seat : goal.returns-clause-seat
 returns-clause-seat c = let r = c.next_owner-owner.ensures in let view = ap (λ (m : Sat). m.0) r.read.now in
-    let told = c.compare_exchange.ensures.2 c.args.lock c.args.seen (c.owner_word.ensures, c.requires.valid, c.pack-old.ensures) in
+    let told = c.compare_exchange.ensures.2 c.args.lock c.args.seen (c.owner_word.ensures ∙ by_view c.args.board.now _ c.requires.seat c.args.lock _ (ap (λ (m : Sat). m.0) c.next_owner-owner.ensures.read.now), c.requires.valid, c.pack-old.ensures) in
     let hit = told.0 (told.2 (subst (λ (w : Sight). IsStillThere w.part.core c.args.lock c.args.seen) (sym view)
     (record { inside = c.requires.may.inside; alone = inr c.requires.may.owns; seen = c.requires.seen }))) in
     seated_as _ _ _ _ r.seat c.compare_exchange.ensures.0 (ap (λ (m : Sat). m.0) hit) refl refl refl refl refl refl

@@ -7,16 +7,16 @@ use Rattle.ww_rule.specs.Out.{numbers_of, AreOthers}
 use Rattle.ww_rule.specs.Steps.{giving, keeping}
 use Rattle.ww_rule.proofs.Moves.{gives_brought}
 use Rattle.ww_rule.proofs.Turning.{brought, popped}
-use Rattle.ww_table.proofs.Seated.{seated_as}
+use Rattle.ww_table.proofs.Seated.{has_word, seated_as, by_rule, by_view, few_locks}
 use Rattle.ww_table.proofs.seat.Seat16.give_free.Goals as goal
 
 pub compare_exchange-found-requires : goal.compare_exchange-found-requires
 compare_exchange-found-requires c = let s = c.requires.seat in let b = c.bring.ensures in
-    let out = c.requires.out in let small = c.requires.lock in let word = c.owner_word.ensures in
+    let out = c.requires.out in let small = c.requires.lock in let word = c.spread_word.ensures c.args.board.now.locks (few_locks c.args.board.now c.args.lock c.requires.lock) ∙ by_rule c.args.board.now c.args.lock in
     let few = c.args.board.now.few in let many = c.args.board.now.many in let fits = c.args.board.now.fits in
     let y = brought c.args.self.now.seat.me.1 c.args.lock out.0 b.slots.0 b.slots.2 out.1 in (
       b.home.0 ∙ s.home,
-      (let z = c.args.board.now.sized.0 in let fits = c.args.board.now.fits in omega arith),
+      has_word c.args.board.now c.args.lock _ (omega arith) (omega (arith, word)),
       gives_brought _ _ _ c.args.self.now.seat.me.0 _ c.args.lock _ _ _ _ out.0 b.slots.1 b.view
           (b.slots.4 ∙ ap (λ (z : Cell). (c.args.lock, z) ∷ b.slots.1) y) word small s.seated c.requires.away
           c.requires.owner out.2 s.who s.stamp s.fits s.own,
@@ -24,14 +24,14 @@ compare_exchange-found-requires c = let s = c.requires.seat in let b = c.bring.e
 
 pub returns-then-found-own-clause-seat : goal.returns-then-found-own-clause-seat
 returns-then-found-own-clause-seat c = let b = c.bring.ensures in let e = c.compare_exchange-found.ensures in
-    let lost = (e.2 c.args.lock c.owner_word.ensures).1 c.if-found-own.true in
+    let lost = (e.2 c.args.lock (c.spread_word.ensures c.args.board.now.locks (few_locks c.args.board.now c.args.lock c.requires.lock) ∙ by_view c.args.board.now _ c.requires.seat c.args.lock _ c.bring.ensures.view)).1 c.if-found-own.true in
     seated_as _ c.args.self.now _ (keeping c.args.self.now.seat.me.0) c.requires.seat (e.0 ∙ b.home.0)
     (ap (λ m. m.0) lost ∙ ap keeping b.view) refl refl refl refl refl refl refl refl refl refl refl refl refl
     (b.order ∙ ap numbers_of (sym (ap (λ m. m.1) lost)))
 
 pub returns-then-found-own-clause-kept : goal.returns-then-found-own-clause-kept
 returns-then-found-own-clause-kept c = let b = c.bring.ensures in let e = c.compare_exchange-found.ensures in
-    let lost = (e.2 c.args.lock c.owner_word.ensures).1 c.if-found-own.true in let out = c.requires.out in
+    let lost = (e.2 c.args.lock (c.spread_word.ensures c.args.board.now.locks (few_locks c.args.board.now c.args.lock c.requires.lock) ∙ by_view c.args.board.now _ c.requires.seat c.args.lock _ c.bring.ensures.view)).1 c.if-found-own.true in let out = c.requires.out in
     let y = brought c.args.self.now.seat.me.1 c.args.lock out.0 b.slots.0 b.slots.2 out.1 in let top = b.slots.4
     ∙ ap (λ (z : Cell). (c.args.lock, z) ∷ b.slots.1) y in
     λ _. (
@@ -44,7 +44,7 @@ returns-then-found-own-clause-kept c = let b = c.bring.ensures in let e = c.comp
 
 pub returns-clause-seat : goal.returns-clause-seat
 returns-clause-seat c = let b = c.bring.ensures in let e = c.compare_exchange-found.ensures in
-    let got = (e.2 c.args.lock c.owner_word.ensures).0 c.if-found-own.false in
+    let got = (e.2 c.args.lock (c.spread_word.ensures c.args.board.now.locks (few_locks c.args.board.now c.args.lock c.requires.lock) ∙ by_view c.args.board.now _ c.requires.seat c.args.lock _ c.bring.ensures.view)).0 c.if-found-own.false in
     let p = c.pop.ensures in
     seated_as _ c.args.self.now _ (giving c.args.self.now.seat.me.0 c.args.lock) c.requires.seat (e.0 ∙ b.home.0)
     (ap (λ m. m.0) got ∙ ap (λ (v : Sight). giving v c.args.lock) b.view) refl refl refl refl refl refl refl
@@ -55,7 +55,7 @@ returns-clause-seat c = let b = c.bring.ensures in let e = c.compare_exchange-fo
 
 pub returns-clause-gave : goal.returns-clause-gave
 returns-clause-gave c = let b = c.bring.ensures in let e = c.compare_exchange-found.ensures in
-    let got = (e.2 c.args.lock c.owner_word.ensures).0 c.if-found-own.false in let out = c.requires.out in
+    let got = (e.2 c.args.lock (c.spread_word.ensures c.args.board.now.locks (few_locks c.args.board.now c.args.lock c.requires.lock) ∙ by_view c.args.board.now _ c.requires.seat c.args.lock _ c.bring.ensures.view)).0 c.if-found-own.false in let out = c.requires.out in
     let y = brought c.args.self.now.seat.me.1 c.args.lock out.0 b.slots.0 b.slots.2 out.1 in
     λ _. (
       out.0,

@@ -11,15 +11,14 @@ use Rattle.ww_rule.specs.Rule.{Sat}
 use Rattle.ww_rule.specs.Out.{numbers_of, slot_of}
 use Rattle.ww_rule.proofs.InsideSteps.{joins_list}
 use Rattle.ww_rule.proofs.InsideTurning.{list_brought, on_top}
-use Rattle.ww_table.proofs.Seated.{seated_as, seated_paged}
+use Rattle.ww_table.proofs.Seated.{has_word, seated_as, seated_paged, by_rule, by_view}
 use Rattle.ww_table.proofs.seat.Seat16.join.Goals as goal
 
 pub compare_exchange-found-requires : goal.compare_exchange-found-requires
 compare_exchange-found-requires c = let s = c.requires.seat in let small = c.requires.lock in
-    let word = c.owner_word.ensures in let few = c.args.board.now.few in let many = c.args.board.now.many in
-    let fits = c.args.board.now.fits in (
+    let word = c.owner_word.ensures ∙ by_rule c.args.board.now c.args.lock in (
       s.home,
-      (let z = c.args.board.now.sized.0 in let fits = c.args.board.now.fits in omega arith),
+      has_word c.args.board.now c.args.lock _ c.requires.lock (omega (arith, word)),
       joins_list _ _ _
           _ c.args.lock c.args.seen _ _ _ word c.pack-old.ensures
           (c.pack-new.ensures ∙ ap packed c.with_waiters.ensures.same) s.seated c.requires.may c.requires.valid,
@@ -28,12 +27,12 @@ compare_exchange-found-requires c = let s = c.requires.seat in let small = c.req
 pub returns-then-found-old-clause-lost : goal.returns-then-found-old-clause-lost
 returns-then-found-old-clause-lost c =
     λ _. (c.compare_exchange-found.ensures.2 c.args.lock c.args.seen
-    (c.owner_word.ensures, c.requires.valid, c.pack-old.ensures)).1
+    (c.owner_word.ensures ∙ by_view c.args.board.now _ c.requires.seat c.args.lock _ refl, c.requires.valid, c.pack-old.ensures)).1
     (λ z. c.if-found-old.true (z ∙ sym c.pack-old.ensures))
 
 pub returns-then-found-old-clause-seat : goal.returns-then-found-old-clause-seat
 returns-then-found-old-clause-seat c = let s = c.requires.seat in let e = c.compare_exchange-found.ensures in
-    let miss = (e.2 c.args.lock c.args.seen (c.owner_word.ensures, c.requires.valid, c.pack-old.ensures)).1
+    let miss = (e.2 c.args.lock c.args.seen (c.owner_word.ensures ∙ by_view c.args.board.now _ c.requires.seat c.args.lock _ refl, c.requires.valid, c.pack-old.ensures)).1
     (λ z. c.if-found-old.true (z ∙ sym c.pack-old.ensures)) in
     seated_as _ c.args.self.now _ _ s e.0 (ap (λ (m : Sat). m.0) miss) refl refl refl refl refl refl refl refl refl
     refl refl refl refl (s.order ∙ ap numbers_of (sym (ap (λ (m : Sat). m.1) miss)))
@@ -41,13 +40,13 @@ returns-then-found-old-clause-seat c = let s = c.requires.seat in let e = c.comp
 pub bring-requires-clause-order : goal.bring-requires-clause-order
 bring-requires-clause-order c = let won =
     (c.compare_exchange-found.ensures.2 c.args.lock c.args.seen
-    (c.owner_word.ensures, c.requires.valid, c.pack-old.ensures)).0 (c.if-found-old.false ∙ c.pack-old.ensures) in
+    (c.owner_word.ensures ∙ by_view c.args.board.now _ c.requires.seat c.args.lock _ refl, c.requires.valid, c.pack-old.ensures)).0 (c.if-found-old.false ∙ c.pack-old.ensures) in
     c.requires.seat.order ∙ ap numbers_of (sym (ap (λ (m : Sat). m.1) won.0))
 
 pub bring-requires-clause-out : goal.bring-requires-clause-out
 bring-requires-clause-out c = let won =
     (c.compare_exchange-found.ensures.2 c.args.lock c.args.seen
-    (c.owner_word.ensures, c.requires.valid, c.pack-old.ensures)).0 (c.if-found-old.false ∙ c.pack-old.ensures) in (
+    (c.owner_word.ensures ∙ by_view c.args.board.now _ c.requires.seat c.args.lock _ refl, c.requires.valid, c.pack-old.ensures)).0 (c.if-found-old.false ∙ c.pack-old.ensures) in (
       Line c.args.self.now.seat.me.0.part.core.list,
       (λ i. slot_of (won.0 i).1 (c.list_slot-slot.ensures i))
           ∙ c.requires.list,
@@ -56,7 +55,7 @@ bring-requires-clause-out c = let won =
 pub join_list-requires-clause-top : goal.join_list-requires-clause-top
 join_list-requires-clause-top c = let v = c.args.self.now.seat.me.0 in let b = c.bring.ensures in
     let won = (c.compare_exchange-found.ensures.2 c.args.lock c.args.seen
-    (c.owner_word.ensures, c.requires.valid, c.pack-old.ensures)).0 (c.if-found-old.false ∙ c.pack-old.ensures) in
+    (c.owner_word.ensures ∙ by_view c.args.board.now _ c.requires.seat c.args.lock _ refl, c.requires.valid, c.pack-old.ensures)).0 (c.if-found-old.false ∙ c.pack-old.ensures) in
     let l = list_brought c.args.self.now.seat.me.1 c.compare_exchange-found.new.seat.me.1 c.bring.new.seat.me.1
     b.slots.1 c.args.lock c.list_slot-slot.result v.part.core.list b.slots.0 (ap (λ (m : Sat). m.1) won.0)
     c.list_slot-slot.ensures c.requires.list b.slots.2 b.slots.3 b.slots.4 in
@@ -70,7 +69,7 @@ join_list-requires-clause-top c = let v = c.args.self.now.seat.me.0 in let b = c
 pub returns-clause-seat : goal.returns-clause-seat
 returns-clause-seat c = let v = c.args.self.now.seat.me.0 in let b = c.bring.ensures in
     let won = (c.compare_exchange-found.ensures.2 c.args.lock c.args.seen
-    (c.owner_word.ensures, c.requires.valid, c.pack-old.ensures)).0 (c.if-found-old.false ∙ c.pack-old.ensures) in
+    (c.owner_word.ensures ∙ by_view c.args.board.now _ c.requires.seat c.args.lock _ refl, c.requires.valid, c.pack-old.ensures)).0 (c.if-found-old.false ∙ c.pack-old.ensures) in
     let l = list_brought c.args.self.now.seat.me.1 c.compare_exchange-found.new.seat.me.1 c.bring.new.seat.me.1
     b.slots.1 c.args.lock c.list_slot-slot.result v.part.core.list b.slots.0 (ap (λ (m : Sat). m.1) won.0)
     c.list_slot-slot.ensures c.requires.list b.slots.2 b.slots.3 b.slots.4 in
@@ -85,7 +84,7 @@ returns-clause-seat c = let v = c.args.self.now.seat.me.0 in let b = c.bring.ens
 pub returns-clause-joined : goal.returns-clause-joined
 returns-clause-joined c = let v = c.args.self.now.seat.me.0 in let b = c.bring.ensures in
     let won = (c.compare_exchange-found.ensures.2 c.args.lock c.args.seen
-    (c.owner_word.ensures, c.requires.valid, c.pack-old.ensures)).0 (c.if-found-old.false ∙ c.pack-old.ensures) in
+    (c.owner_word.ensures ∙ by_view c.args.board.now _ c.requires.seat c.args.lock _ refl, c.requires.valid, c.pack-old.ensures)).0 (c.if-found-old.false ∙ c.pack-old.ensures) in
     let l = list_brought c.args.self.now.seat.me.1 c.compare_exchange-found.new.seat.me.1 c.bring.new.seat.me.1
     b.slots.1 c.args.lock c.list_slot-slot.result v.part.core.list b.slots.0 (ap (λ (m : Sat). m.1) won.0)
     c.list_slot-slot.ensures c.requires.list b.slots.2 b.slots.3 b.slots.4 in
@@ -106,7 +105,7 @@ pub returns-then-found-old-clause-sure : goal.returns-then-found-old-clause-sure
 returns-then-found-old-clause-sure c =
     λ waits saw. absurd (c.if-found-old.true
     ((c.compare_exchange-found.ensures.2 c.args.lock c.args.seen
-    (c.owner_word.ensures, c.requires.valid, c.pack-old.ensures)).2
+    (c.owner_word.ensures ∙ by_view c.args.board.now _ c.requires.seat c.args.lock _ refl, c.requires.valid, c.pack-old.ensures)).2
     (record { inside = c.requires.may.inside; alone = inl waits; seen = saw }) ∙ sym c.pack-old.ensures))
 
 pub pack-new-requires : goal.pack-new-requires

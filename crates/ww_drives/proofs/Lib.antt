@@ -1,0 +1,5 @@
+pub mod Answered
+pub mod Outside
+pub mod Kept
+pub mod Keeping
+pub mod Drives

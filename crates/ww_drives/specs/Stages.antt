@@ -1,0 +1,45 @@
+-- Desks at a table, and whoever drives their calls, at one moment.
+use Rattle.std.specs.Prelude.{ℕ, ◌≡◌, ◌<◌, Bool, false}
+use Rattle.atomic_table.specs.Seated.{TableId}
+use Rattle.ww_rule.specs.declared.cells.Start.{Start}
+use Rattle.ww_rule.specs.Rule.{places_for}
+use Rattle.ww_runs.specs.Moment.{Moment, IsFirst}
+use Rattle.ww_desk.specs.declared.station.Station.{Station}
+use Rattle.ww_desk.specs.Situations.{Situation, is_inside}
+use Rattle.ww_desk.specs.Stations.{situation_of, Keeps}
+use Rattle.ww_desk.specs.Opened.{fresh}
+
+-- A moment of the table, with who has a token and who sleeps. Beside it, of each desk: how its last call left it; whether a
+-- call of it is on its way; whether its last call told it to sleep, and it hasn't risen since; and whom it named as to be
+-- woken, and who has had no token of it since.
+pub record Stage (key : Start) : Type 0 where
+  pub moment : Moment key
+  pub desk : ℕ → Situation
+  pub calling : ℕ → Bool
+  pub to_sleep : ℕ → Bool
+  pub named : ℕ → ℕ → Bool
+
+-- a desk, whatever was called before, of which contracts see this
+pub record IsDesk (s : Situation) : Type 0 where
+  pub station : Station
+  pub keeps : Keeps station
+  pub seen : s ≡ situation_of station
+
+-- unless its call stands inside a guard, its seat is outside of all
+abbrev pub StandsOutside : Situation → Type 0
+StandsOutside s = is_inside s.turn ≡ false → s.view.inside ≡ 0
+
+-- the desk of this number is one that opening a world gives
+pub record IsFresh (key : Start) (d : ℕ) (s : Situation) : Type 0 where
+  pub home : TableId
+  pub left : ℕ
+  pub now : s ≡ fresh home key.locks key.seats key.kind left d
+
+-- nothing was called yet
+pub record IsFirstStage {key : Start} (g : Stage key) : Type 0 where
+  pub first : IsFirst g.moment
+  pub places : key.places ≡ places_for key.seats
+  pub desks : (d : ℕ) → d < key.seats → IsFresh key d (g.desk d)
+  pub calling : (d : ℕ) → g.calling d ≡ false
+  pub to_sleep : (d : ℕ) → g.to_sleep d ≡ false
+  pub named : (d : ℕ) → g.named d ≡ (λ _. false)

@@ -1,0 +1,50 @@
+//! Desks whose callers wait by themselves, as runs of threads.
+ghost use Rattle.ww_drives.specs.Laws.{NewWorldsBegin, DesksStandOutside, DrivesAreRuns, NoWakeIsLostInDrives, NoStandstillInDrives, NobodySleepsInVainInDrives, NoDeadlockLastsInDrives, DrivesRunOn, WaitsEndInDrives};
+
+/// Opening a world gives a first stage.
+pub fn new_worlds_begin()
+    ensures { NewWorldsBegin }
+{}
+
+/// Each desk whose call doesn't stand inside a guard is outside of all.
+pub fn desks_stand_outside()
+    ensures { DesksStandOutside }
+{}
+
+/// Each deed of desks and their drivers is a move of threads, or none.
+pub fn drives_are_runs()
+    ensures { DrivesAreRuns }
+{}
+
+/// Whoever sleeps has a token, is marked, named or owed a wake by a desk whose thread is awake, or has to wait.
+pub fn no_wake_is_lost_in_drives()
+    ensures { NoWakeIsLostInDrives }
+{}
+
+/// Seats that all sleep, and for whose waking nobody has yet to see, aren't deadlocked.
+pub fn no_standstill_in_drives()
+    ensures { NoStandstillInDrives }
+{}
+
+/// Where each waking that a desk has to see to is made in the end, and each sleeper with a token rises in the end, whoever
+/// sleeps without having to is awake later.
+pub fn nobody_sleeps_in_vain_in_drives()
+    ensures { NobodySleepsInVainInDrives }
+{}
+
+/// Whenever seats are deadlocked, and their drivers scheduled, one of them gets EDEADLK or is called off in the end.
+pub fn no_deadlock_lasts_in_drives()
+    ensures { NoDeadlockLastsInDrives }
+{}
+
+/// An endless drive is an endless run of threads, in which each seat is scheduled whose driver is: so whatever holds of
+/// these holds of drives.
+pub fn drives_run_on()
+    ensures { DrivesRunOn }
+{}
+
+/// Whenever a seat waits, some wait ends later, if all drivers are scheduled, and whoever has a lock and waits for none
+/// releases it in the end or comes to wait.
+pub fn waits_end_in_drives()
+    ensures { WaitsEndInDrives }
+{}

@@ -1,0 +1,5 @@
+//! Whoever drives desks loses no wake-up, and no deadlock of theirs lasts: each function's contract is a law, and there is no
+//! code.
+#![tactic(auto)]
+
+pub mod laws;

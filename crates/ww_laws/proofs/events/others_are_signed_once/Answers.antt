@@ -1,5 +1,0 @@
-use Rattle.ww_model.proofs.Stays as kept
-use Rattle.ww_laws.proofs.events.others_are_signed_once.Goals as goal
-
-pub returns : goal.returns
-returns c = kept.others_are_signed_once

@@ -1,5 +1,0 @@
-use Rattle.ww_model.proofs.FreeGuards as kept
-use Rattle.ww_laws.proofs.states.free_guards_owe_nothing.Goals as goal
-
-pub returns : goal.returns
-returns c = kept.free_guards_owe_nothing
