@@ -5,7 +5,7 @@
 # each test and example in C and C++ that needs no sanitizer.  make install: the program, the library, the pages, below
 # PREFIX (and DESTDIR).  make clean: what was made goes.
 #
-# ./build proves these again, and writes the assembly anew; it needs the Rattle kit. CC, CXX, CPPFLAGS, CFLAGS, CXXFLAGS and
+# ./build proves these again, and writes the assembly anew; it needs the Rattle toolchain. CC, CXX, CPPFLAGS, CFLAGS, CXXFLAGS and
 # LDFLAGS are those of whoever builds. For another processor than this one: CROSS=aarch64-linux-gnu-, and what runs its
 # programs here, RUN='qemu-aarch64 -L /usr/aarch64-linux-gnu'.
 CFLAGS ?= -O2

@@ -1,18 +1,14 @@
 /* ww.c - the waiting that the proved library leaves to its caller. */
 #define _GNU_SOURCE
-#include "ww_inside.h"
+#include "ww_pool.h"
 #include <errno.h>
 #include <linux/futex.h>
 #include <sched.h>
-#include <stdlib.h>
-#include <string.h>
 #include <sys/syscall.h>
 #include <unistd.h>
 
 _Static_assert(sizeof(ww_seat) == 128 && offsetof(ww_seat, waits) == 64, "a seat has two cache lines");
 _Static_assert(offsetof(ww_seat, handle) == 0, "a seat begins with its handle");
-
-enum { NOTHING, TOKEN, ASLEEP };
 
 /* At a guard's entrance the pauses between two tries double so often; then other threads are let run, in these rounds. */
 enum { SPINS = 6, ROUNDS = 11 };
@@ -41,12 +37,10 @@ enum { BREATH = 64 };
 static inline void pause_for(unsigned count)
 {
 	for (unsigned i = 0; i < count; i++)
-#if defined(__x86_64__) || defined(__i386__)
+#ifdef __x86_64__
 		__builtin_ia32_pause();
-#elif defined(__aarch64__)
-		__asm__ volatile("isb" ::: "memory");
 #else
-		__asm__ volatile("" ::: "memory");
+		__asm__ volatile("isb" ::: "memory");
 #endif
 }
 
@@ -76,13 +70,7 @@ static void from_now(struct timespec *at, long nanoseconds)
 	}
 }
 
-/* How a call lets other threads run: until when, once it has begun to, and that it does so no more. */
-struct stay {
-	struct timespec until;
-	bool yielded, over;
-};
-
-static void yield(struct stay *stay)
+static void yield(struct ww_stay *stay)
 {
 	if (!stay->yielded)
 		from_now(&stay->until, STAY);
@@ -102,7 +90,7 @@ static void nap(void)
 }
 
 /* Before a further try to go inside a guard. Nobody waits for this seat meanwhile: whom it had to wake it has woken. */
-static void await_guard(struct stay *stay, unsigned *step)
+static void await_guard(struct ww_stay *stay, unsigned *step)
 {
 	if (*step <= SPINS)
 		pause_for(1u << *step);
@@ -122,43 +110,70 @@ static bool is_due(const struct ww_stop *stop)
 /*
  * Sleeps until the seat is woken, which whoever asks for the wait's end does too, or until
  * its time has come.  A token that was given before is kept, so that no wake-up is lost.
+ * Of a driver's six moves (crates/ww_drives) the first exchange is `parks`, and what leaves NOTHING is `rises`.
  */
 static void park(ww_seat *s, const struct ww_stop *stop)
 {
 	uint32_t word = NOTHING;
+	bool woken = false;
 
 	for (unsigned step = 0; step < WAKES && __atomic_load_n(&s->token, __ATOMIC_SEQ_CST) != TOKEN; step++)
 		pause_for(1u << step);
+	ww_sleeps(s->pool);
 	if (__atomic_compare_exchange_n(&s->token, &word, ASLEEP, false, __ATOMIC_SEQ_CST, __ATOMIC_SEQ_CST)) {
 		const struct timespec *until = stop && !stop->sent ? stop->until : NULL;
 
 		while (__atomic_load_n(&s->token, __ATOMIC_SEQ_CST) == ASLEEP && !(until && ww_has_come(until)))
 			ww_futex_wait(&s->token, ASLEEP, until);
+		woken = __atomic_exchange_n(&s->token, NOTHING, __ATOMIC_SEQ_CST) == TOKEN;
+	} else {
+		__atomic_store_n(&s->token, NOTHING, __ATOMIC_SEQ_CST);
 	}
-	__atomic_store_n(&s->token, NOTHING, __ATOMIC_SEQ_CST);
+	if (!woken) /* whoever wakes it says so */
+		ww_sleeps_no_more(s->pool);
 }
 
+/*
+ * A waker is read before the token is left: behind that the seat may be another's, or wait again.  It was the one that is to
+ * be called if the word is still the same, in which each wait has a number of its own; so what is read relaxed was stored
+ * before that.  The exchange is a driver's move `wakes`.
+ */
 void ww_unpark(ww_seat *s)
 {
-	if (__atomic_exchange_n(&s->token, TOKEN, __ATOMIC_SEQ_CST) == ASLEEP)
+	uint32_t was = __atomic_load_n(&s->token, __ATOMIC_SEQ_CST);
+	struct ww_waker waker = { 0 };
+
+	do {
+		if (UNLIKELY(was >= ARMED)) {
+			waker.wake = __atomic_load_n(&s->waker.wake, __ATOMIC_RELAXED);
+			waker.loop = __atomic_load_n(&s->waker.loop, __ATOMIC_RELAXED);
+			waker.task = __atomic_load_n(&s->waker.task, __ATOMIC_RELAXED);
+		}
+	} while (!__atomic_compare_exchange_n(&s->token, &was, TOKEN, false, __ATOMIC_SEQ_CST, __ATOMIC_SEQ_CST));
+	if (was == ASLEEP) {
+		ww_sleeps_no_more(s->pool);
 		ww_futex_wake(&s->token);
+	} else if (UNLIKELY(was >= ARMED)) {
+		waker.wake(waker.loop, waker.task);
+	}
 }
 
 #ifdef WW_DEBUG
 bool ww_is_parked(const ww_seat *s) { return __atomic_load_n(&s->token, __ATOMIC_SEQ_CST) == ASLEEP; }
 #endif
 
-static void wake(ww_seat *s)
+/* A driver's move `names`, and at once `wakes`. */
+void ww_wake(ww_seat *s)
 {
 	for (int32_t k; (k = ww_next_wake_(&s->handle)) >= 0;)
-		ww_unpark(&s->world->seats[k]);
+		ww_unpark(&s->pool->seats[k]);
 }
 
 /*
  * Rests as long as the library says; amid a long rest it lets other threads run, since one of them may have the lock.
  * Once that is over, the few spin reads that are left follow at once.
  */
-static void rest(struct stay *stay, uint32_t pauses, bool yields)
+static void rest(struct ww_stay *stay, uint32_t pauses, bool yields)
 {
 	if (!yields && !stay->over)
 		pause_for(pauses);
@@ -169,7 +184,7 @@ static void rest(struct stay *stay, uint32_t pauses, bool yields)
 }
 
 /* Asks for the end of the wait, once, where that is due. */
-static void stop_if_due(ww_seat *s, struct ww_stop *stop)
+void ww_stop_if_due(ww_seat *s, struct ww_stop *stop)
 {
 	if (!stop || stop->sent || !is_due(stop))
 		return;
@@ -185,91 +200,45 @@ static void stop_if_due(ww_seat *s, struct ww_stop *stop)
  * Whom to wake is asked where somebody can be due: a call stays away from its lock before it goes inside a guard for the
  * first time, and who is shut out of one has learned nothing.
  */
-__attribute__((noinline, cold)) int ww_go_on(ww_seat *s, struct ww_stop *stop)
+COLD int ww_go_on_awake(ww_seat *s, struct ww_stop *stop, struct ww_stay *stay)
 {
-	struct stay stay = { 0 };
 	unsigned step = 0;
 
-	stop_if_due(s, stop);
+	ww_waits_for_lock();
 	for (;;) {
 		uint32_t pauses;
-		int r = ww_go_on_(&s->handle, &pauses);
+		int r = ww_go_on_(&s->handle, &pauses); /* a driver's move `calls`, as each first step is */
 
-		if (r <= 0 || r == WW_SLEEPS)
-			wake(s);
 		switch (r) {
 		case WW_AGAIN:
 			continue;
 		case WW_AWAITS:
-			await_guard(&stay, &step);
+			await_guard(stay, &step);
 			break;
 		case WW_STAYS:
 		case WW_YIELDS:
-			rest(&stay, pauses, r == WW_YIELDS);
-			break;
-		case WW_SLEEPS:
-			park(s, stop);
-			step = 0;
+			rest(stay, pauses, r == WW_YIELDS);
 			break;
 		default:
 			return r;
 		}
-		stop_if_due(s, stop);
+		ww_stop_if_due(s, stop);
+	}
+}
+
+COLD int ww_go_on(ww_seat *s, struct ww_stop *stop)
+{
+	struct ww_stay stay = { 0 };
+	int r;
+
+	for (;;) {
+		ww_stop_if_due(s, stop);
+		r = ww_go_on_awake(s, stop, &stay);
+		ww_wake(s);
+		if (r != WW_SLEEPS)
+			return r;
+		park(s, stop);
 	}
 }
 
 uint32_t ww_version(void) { return 10000 * WW_VERSION_MAJOR + 100 * WW_VERSION_MINOR + WW_VERSION_PATCH; }
-
-/* A world of seats that have done nothing yet, whose handles change places with these; or NULL. */
-static ww_world *lay_out(uint32_t locks, uint32_t seats, ww_handle *handles)
-{
-	size_t size = sizeof(ww_world) + seats * sizeof(ww_seat);
-	ww_world *w = aligned_alloc(_Alignof(ww_world), size);
-
-	if (!w)
-		return NULL;
-	memset(w, 0, size);
-	w->locks = locks;
-	w->count = seats;
-	for (uint32_t k = 0; k < seats; k++) {
-		ww_swap_(&w->seats[k].handle, &handles[k]);
-		w->seats[k].world = w;
-	}
-	return w;
-}
-
-int ww_open(ww_world **world, int kind, uint32_t locks, uint32_t seats)
-{
-	ww_handle *handles;
-	int r;
-
-	if (!world)
-		return -EINVAL;
-	*world = NULL;
-	if (!seats || seats > WW_MAX_SEATS)
-		return -EINVAL;
-	handles = calloc(seats, sizeof *handles);
-	if (!handles)
-		return -ENOMEM;
-	r = ww_open_((uint32_t)kind, locks, ((uint64_t)1 << 52) - 1, handles, seats);
-	if (!r && !(*world = lay_out(locks, seats, handles))) {
-		for (uint32_t k = 0; k < seats; k++)
-			ww_close_(&handles[k]);
-		r = -ENOMEM;
-	}
-	free(handles);
-	return r;
-}
-
-int ww_close(ww_world *w)
-{
-	if (!w)
-		return 0;
-	for (uint32_t k = 0; k < w->count; k++)
-		if (ww_idle_(&w->seats[k].handle))
-			return -EBUSY;
-	for (uint32_t k = 0; k < w->count; k++)
-		ww_close_(&w->seats[k].handle);
-	free(w);
-	return 0;
-}

@@ -1,4 +1,4 @@
-/* ww_context.c - the contexts of ww_mutex.h: how they begin and end, are called off, and what they hold. */
+/* ww_context.c - the contexts of ww_mutex.h: how they begin and end, are called off, and whether they hold a mutex. */
 #define _GNU_SOURCE
 #define WW_NO_INLINE /* As ww_mutex.c. */
 #include "ww_pool.h"
@@ -12,7 +12,8 @@ static inline void of_seat(struct ww_acquire_ctx *x, struct ww_pool *p, ww_seat 
 	x->gives = s;
 	__atomic_store_n(&x->own, s, __ATOMIC_RELAXED);
 	__atomic_store_n(&x->cancelled, 0, __ATOMIC_RELAXED);
-	x->acquired = x->flags = x->state = 0;
+	x->acquired = x->state = 0;
+	x->newest = NULL;
 }
 
 static inline void no_more(struct ww_acquire_ctx *x)
@@ -21,61 +22,67 @@ static inline void no_more(struct ww_acquire_ctx *x)
 	__atomic_store_n(&x->own, NULL, __ATOMIC_RELAXED);
 }
 
-/* A begin that failed: no call but one that begins does anything with it. */
-COLD static int begun_not(struct ww_acquire_ctx *x, int r)
+/* Where its seat rests the context goes on with that age, unless it is by hand, as its first lock tells. */
+static inline int begin_core(struct ww_acquire_ctx *x, ww_seat *s)
 {
+	if (!s->ages)
+		return ww_begin_(&s->handle);
+	x->pool = NO_POOL;
+	return 0;
+}
+
+/* No call but one that begins does anything with it: as if in a loop, where it acquired nothing. */
+COLD static int not_begun(struct ww_acquire_ctx *x, ww_seat *s, int r)
+{
+	if (s)
+		give_seat(s);
 	no_more(x);
-	x->gives = NULL;
-	x->acquired = x->flags = x->state = 0;
+	x->gives = x->empty_;
+	x->acquired = x->state = 0;
+	x->newest = x->prelocked = NULL;
 	return r;
 }
 
-static inline int begin_with(struct ww_acquire_ctx *x, struct ww_pool *p, ww_seat *s)
+int ww_begin_by(struct ww_acquire_ctx *x, ww_seat *s, int r)
 {
-	int r;
-
-	of_seat(x, p, s);
-	r = ww_begin_(&s->handle);
-	if (UNLIKELY(r)) {
-		no_more(x);
-		give_seat(s);
-		return r;
-	}
-	ww_debug_begun(x);
+	if (UNLIKELY(r))
+		return not_begun(x, NULL, r);
+	of_seat(x, s->pool, s);
+	r = begin_core(x, s);
+	if (UNLIKELY(r))
+		return not_begun(x, x->own, r);
+	DEBUG(ww_debug_begun(x));
 	return 0;
 }
 
 /* Until then a begin waits that doesn't wait: -EAGAIN. NULL is for ever. */
 static const struct timespec at_once;
 
-COLD static int begin_anyhow(struct ww_acquire_ctx *x, struct ww_class *c, const struct timespec *until)
+static int begin(struct ww_acquire_ctx *x, struct ww_class *c, const struct timespec *until)
 {
+	ww_seat *s = NULL;
 	struct ww_pool *p;
-	ww_seat *s;
-	int r = pool_of(c, &p);
+	int r = is_time(until) ? pool_of(c, &p) : -EINVAL;
 
-	if (r)
-		return begun_not(x, r);
-	s = ww_other_seat(p);
-	if (!s)
+	if (!r && UNLIKELY(is_crowded(p)) && until != &at_once)
+		ww_await_permit(p, until);
+	if (!r)
+		s = seat_at_once(p);
+	if (!r && !s)
 		r = until != &at_once ? ww_seek_seat(p, until, &s) : p->gone ? -EINVAL : -EAGAIN;
-	return r ? begun_not(x, r) : begin_with(x, p, s);
+	return ww_begin_by(x, s, r);
 }
 
-static inline int begin(struct ww_acquire_ctx *x, struct ww_class *c, const struct timespec *until)
+/* Most contexts of Rust and Python begin here. */
+int ww_acquire_init_checked(struct ww_acquire_ctx *x, struct ww_class *c)
 {
 	struct ww_pool *p = __atomic_load_n(&c->pool, __ATOMIC_ACQUIRE);
 	ww_seat *s = LIKELY(p) ? seat_at_hand(p) : NULL;
 
-	return LIKELY(s) ? begin_with(x, p, s) : begin_anyhow(x, c, until);
+	return LIKELY(s) ? ww_begin_by(x, s, 0) : begin(x, c, &at_once);
 }
 
-int ww_acquire_init_checked(struct ww_acquire_ctx *x, struct ww_class *c) { return begin(x, c, &at_once); }
-
-int ww_acquire_init_until(struct ww_acquire_ctx *x, struct ww_class *c, const struct timespec *until)
-{
-	return is_time(until) ? begin(x, c, until) : begun_not(x, -EINVAL);
-}
+int ww_acquire_init_until(struct ww_acquire_ctx *x, struct ww_class *c, const struct timespec *until) { return begin(x, c, until); }
 
 /*
  * A seat that nobody uses begins a context for certain, unless as many were begun as may be: then this is none,
@@ -84,18 +91,18 @@ int ww_acquire_init_until(struct ww_acquire_ctx *x, struct ww_class *c, const st
 static inline void begin_for_certain(struct ww_acquire_ctx *x, struct ww_pool *p, ww_seat *s)
 {
 	of_seat(x, p, s);
-	ww_debug_begun(x);
-	(void)!ww_begin_(&s->handle);
+	DEBUG(ww_debug_begun(x));
+	(void)!begin_core(x, s);
 }
 
 static __attribute__((noinline)) void init_else(struct ww_acquire_ctx *x, struct ww_class *c, struct ww_pool *p)
 {
-	ww_seat *s = LIKELY(p) ? ww_other_seat(p) : NULL;
+	ww_seat *s = LIKELY(p) ? ww_seat_to_begin(p) : NULL;
 	int r;
 
 	if (LIKELY(s))
 		begin_for_certain(x, p, s);
-	else if ((r = begin_anyhow(x, c, NULL)))
+	else if ((r = begin(x, c, NULL)))
 		end_of(c, "ww_acquire_init", told_at_begin(r));
 }
 
@@ -132,9 +139,10 @@ int ww_acquire_fini_checked(struct ww_acquire_ctx *x)
 	ww_seat *s = x->own;
 	int r = s ? ww_end_(&s->handle) : -EINVAL;
 
-	if (r && !(s && is_let_go(s)))
+	if (r && !(s && is_let_go(s, r)))
 		return r;
-	ww_debug_ended(x);
+	s->ages = 0;
+	DEBUG(ww_debug_ended(x));
 	no_more(x);
 	give_seat(s);
 	return 0;
@@ -156,9 +164,14 @@ void ww_acquire_fini(struct ww_acquire_ctx *x)
 		fini_else(x);
 		return;
 	}
-	ww_debug_ended(x);
+	DEBUG(ww_debug_ended(x));
 	no_more(x);
-	ww_end_(&s->handle);
+	if (LIKELY(!s->ages))
+		ww_end_(&s->handle);
+	else if (s->ages > MET + 1)
+		s->ages--; /* it leaves its age to the next one */
+	else
+		stop_rest(s);
 	give_seat(s);
 }
 
@@ -186,30 +199,6 @@ bool ww_mutex_is_held_by(const struct ww_mutex *m, const struct ww_acquire_ctx *
 
 	if (x)
 		return __atomic_load_n(&m->ctx, __ATOMIC_RELAXED) == x;
-	s = __atomic_load_n(&m->alone, __ATOMIC_ACQUIRE);
+	s = seat_of(m);
 	return s && __atomic_load_n(&s->user, __ATOMIC_RELAXED) == ww_mine.thread;
-}
-
-/* Only in a loop, or behind it, the list of what it acquired is exact. */
-static bool has_list(const struct ww_acquire_ctx *x) { return x->gives != x->own; }
-
-/* Of what it holds, whether one wasn't asked for yet: it waited for that after a back-off, and has it for the longest. */
-static bool owes(const struct ww_acquire_ctx *x)
-{
-	const struct ww_mutex *m = has_list(x) && x->prelocked ? x->newest : NULL;
-
-	while (m && m != x->prelocked)
-		m = m->older;
-	return m;
-}
-
-size_t ww_acquire_mark(const struct ww_acquire_ctx *x) { return x->acquired - owes(x); }
-
-void ww_acquire_unlock_to(struct ww_acquire_ctx *x, size_t mark)
-{
-	if (!mark)
-		ww_acquire_unlock_all(x);
-	else if (has_list(x))
-		for (size_t left = mark + owes(x); x->acquired > left;)
-			ww_mutex_unlock(x->newest);
 }

@@ -1,9 +1,9 @@
-/* ww_debug.c - what libww_debug does beside each call of ww_mutex.h. */
+/* ww_debug.c - what libww_debug does beside each call of ww_mutex.h: it tells what is wrong, and what may become so. */
 #define _GNU_SOURCE
-#include "ww_debug.h"
+#include "ww_pool.h"
 #ifdef WW_DEBUG /* all sources may be named at once */
-#include <limits.h>
 #include <stdarg.h>
+#include <sys/syscall.h>
 #include <unistd.h>
 /* Not each C library has it. */
 #ifdef __has_include
@@ -13,9 +13,80 @@
 #endif
 #endif
 
+/*
+ * What others look at meanwhile is stored and read relaxed: nothing is ordered by it, and ww_class_print tells
+ * what was so at a glance.
+ */
+
+/* Of a call of the program. */
+struct place {
+	const char *file;
+	int line;
+};
+
+/* Of a mutex, by its number: the seat that holds it, plus one, and the thread that acquired it, as long as it is held. */
+struct holding {
+	uint32_t seat;
+	const void *thread;
+};
+
+/*
+ * Of a seat: its context, and the place of that in the order in which they began, 0 without one; how many mutexes it holds;
+ * as long as a context or a lock with NULL uses it, the thread that called by it last, unless it is a task's, which may go
+ * on in any, and where that began; and while it waits, the number of the mutex, plus one, where, its thread as the system
+ * has it, and which wait that is of all those without a time, or 0.
+ */
+struct standing {
+	const struct ww_acquire_ctx *context;
+	unsigned long stamp;
+	uint32_t held, wants;
+	bool is_polled;
+	const void *thread;
+	struct place began, waits;
+	long tid;
+	uint64_t turn;
+};
+
+struct debug {
+	unsigned long stamps;
+	struct holding *mutexes;
+	struct standing seats[];
+};
+
 static unsigned long faults, dangers;
-__thread struct place ww_here;
+static unsigned patience = 1000; /* in milliseconds */
+enum { LONG = 10000 };		 /* likewise */
+static uint64_t turns;
+/* Where this thread made its call; the address is that of the thread. */
+static __thread struct place ww_here;
+/* The wait of this thread for a mutex; it has no seat while there is none. */
+static __thread struct {
+	ww_seat *seat;
+	struct timespec looks;	 /* then it looks whether it sleeps for ever */
+	struct timespec is_long; /* from then on it has waited for long */
+	uint64_t seen;		 /* by its last look */
+} mine;
 static __thread const struct ww_mutex *acquired; /* by the lock call of a context that is on its way */
+static __thread bool polls; /* what this thread begins now is a task's */
+
+static const char *name_of(const struct ww_pool *p) { return p->class_->name ? p->class_->name : ""; }
+
+static const char *file_of(struct place at) { return at.file ? at.file : "(unknown)"; }
+
+static void set_place(struct place *of)
+{
+	__atomic_store_n(&of->file, ww_here.file, __ATOMIC_RELAXED);
+	__atomic_store_n(&of->line, ww_here.line, __ATOMIC_RELAXED);
+}
+
+static struct place place_of(const struct place *of)
+{
+	return (struct place){ __atomic_load_n(&of->file, __ATOMIC_RELAXED), __atomic_load_n(&of->line, __ATOMIC_RELAXED) };
+}
+
+static uint32_t number_of(const ww_seat *s) { return (uint32_t)(s - s->pool->seats); }
+
+static struct standing *standing_of(const ww_seat *s) { return &s->pool->debug->seats[number_of(s)]; }
 
 /* ---- what is told ---- */
 
@@ -25,15 +96,53 @@ unsigned long ww_debug_faults(void) { return __atomic_load_n(&faults, __ATOMIC_R
 
 unsigned long ww_debug_dangers(void) { return __atomic_load_n(&dangers, __ATOMIC_RELAXED); }
 
-/*
- * Of a class, if that isn't NULL.  Nothing is locked then but standard error.  A thread that pthread_cancel told to end
- * doesn't amid the message: it would keep that locked, and whatever its call had acquired.
- */
-__attribute__((format(printf, 3, 4))) static void tell(const struct ww_pool *p, const char *call, const char *format, ...)
+/* A prime, by which a number of 64 bits is mixed. */
+#define MIX 1099511628211u
+
+/* Whether this wasn't told yet: what it is about stands for it. */
+static bool is_new(uint64_t about)
 {
+	enum { PLACES = 4096 };
+	static uint64_t told_of[PLACES];
+
+	for (unsigned k = 0; k < PLACES; k++) {
+		uint64_t is = 0;
+
+		if (__atomic_compare_exchange_n(&told_of[(about / PLACES + k) % PLACES], &is, about, false, __ATOMIC_RELAXED, __ATOMIC_RELAXED))
+			return true;
+		if (is == about)
+			return false;
+	}
+	return false;
+}
+
+/* Of this call of the program, in this class. */
+static bool is_new_here(const struct ww_pool *p, const char *words)
+{
+	uint64_t key = 14695981039346656037u;
+
+	for (const char *at = file_of(ww_here); *at; at++)
+		key = (key ^ (unsigned char)*at) * MIX;
+	key = (key ^ (unsigned)ww_here.line) * MIX;
+	return is_new(((key ^ (uintptr_t)words) * MIX ^ (uintptr_t)p->class_) * MIX | 1);
+}
+
+/*
+ * Of a class, if that isn't NULL.  The words end before the place of what began earlier, if there is such.  What is no fault,
+ * since the call is right by itself, is told once for each call of the program and class.
+ *
+ * Nothing is locked then but standard error.  A thread that pthread_cancel told to end doesn't amid the message: it would
+ * keep that locked, and whatever its call had acquired.
+ */
+__attribute__((format(printf, 5, 6))) static void tell(unsigned long *counted, const struct ww_pool *p, const char *call,
+						       const struct standing *earlier, const char *format, ...)
+{
+	struct place at = earlier ? place_of(&earlier->began) : ww_here;
 	va_list words;
 	int may_end;
 
+	if (counted == &dangers && p && !is_new_here(p, format))
+		return;
 	pthread_setcancelstate(PTHREAD_CANCEL_DISABLE, &may_end);
 	flockfile(stderr);
 	if (ww_here.file)
@@ -44,6 +153,9 @@ __attribute__((format(printf, 3, 4))) static void tell(const struct ww_pool *p, 
 	va_start(words, format);
 	vfprintf(stderr, format, words);
 	va_end(words);
+	if (earlier)
+		fprintf(stderr, " %s:%d", file_of(at), at.line);
+	fputc('\n', stderr);
 	fflush(stderr);
 #ifdef HAS_BACKTRACE
 	enum { DEPTH = 32 };
@@ -52,70 +164,41 @@ __attribute__((format(printf, 3, 4))) static void tell(const struct ww_pool *p, 
 	backtrace_symbols_fd(calls, backtrace(calls, DEPTH), STDERR_FILENO);
 #endif
 	funlockfile(stderr);
+	__atomic_fetch_add(counted, 1, __ATOMIC_RELAXED);
 	pthread_setcancelstate(may_end, NULL);
 }
 
-static void fault_in(const struct ww_pool *p, const char *call, const char *why)
-{
-	__atomic_fetch_add(&faults, 1, __ATOMIC_RELAXED);
-	tell(p, call, "%s\n", why);
-}
+void ww_debug_fault(const char *call, const char *why) { tell(&faults, NULL, call, NULL, "%s", why); }
 
-void ww_debug_fault(const char *call, const char *why) { fault_in(NULL, call, why); }
-
-bool ww_debug_is_new(enum danger kind, const struct ww_pool *p)
-{
-	enum { PLACES = 4096 };
-	static uint64_t told_of[PLACES];
-	uint64_t key = 14695981039346656037u;
-
-	for (const char *at = file_of(ww_here); *at; at++)
-		key = (key ^ (unsigned char)*at) * MIX;
-	key = (key ^ (unsigned)ww_here.line) * MIX;
-	key = (key ^ kind) * MIX;
-	key = (key ^ (uintptr_t)p->class_) * MIX | 1;
-	for (unsigned k = 0; k < PLACES; k++) {
-		uint64_t is = 0;
-
-		if (__atomic_compare_exchange_n(&told_of[(key / PLACES + k) % PLACES], &is, key, false, __ATOMIC_RELAXED, __ATOMIC_RELAXED))
-			return true;
-		if (is == key)
-			return false;
-	}
-	return false;
-}
-
-void ww_debug_danger(const char *call, const char *words)
-{
-	tell(NULL, call, "%s", words);
-	__atomic_fetch_add(&dangers, 1, __ATOMIC_RELAXED);
-}
-
-void ww_debug_warn(enum danger kind, const struct ww_pool *p, const char *call, const char *why, const struct standing *earlier)
-{
-	struct place at = place_of(&earlier->began);
-
-	if (!ww_debug_is_new(kind, p))
-		return;
-	tell(p, call, "%s %s:%d\n", why, file_of(at), at.line);
-	__atomic_fetch_add(&dangers, 1, __ATOMIC_RELAXED);
-}
+static void fault_in(const struct ww_pool *p, const char *call, const char *why) { tell(&faults, p, call, NULL, "%s", why); }
 
 /* ---- what each seat does ---- */
 
-static void set_began(struct standing *s)
+int ww_debug_open(struct ww_pool *p)
 {
-	__atomic_store_n(&s->began.file, ww_here.file, __ATOMIC_RELAXED);
-	__atomic_store_n(&s->began.line, ww_here.line, __ATOMIC_RELAXED);
+	p->debug = calloc(1, sizeof *p->debug + seats_of(p) * sizeof(struct standing) + p->locks * sizeof(struct holding));
+	if (!p->debug)
+		return -ENOMEM;
+	p->debug->mutexes = (struct holding *)(void *)&p->debug->seats[seats_of(p)];
+	return 0;
 }
+
+void ww_debug_free(struct ww_pool *p) { free(p->debug); }
+
+/* The thread that calls by it now, unless that may be another one at any time. */
+static const void *user_of(const struct standing *s) { return __atomic_load_n(&s->is_polled, __ATOMIC_RELAXED) ? NULL : &ww_here; }
 
 /* This thread calls by it; a lock with NULL begins with that. */
 static void use(struct standing *s)
 {
 	if (!__atomic_load_n(&s->stamp, __ATOMIC_RELAXED))
-		set_began(s);
-	__atomic_store_n(&s->thread, &ww_here, __ATOMIC_RELAXED);
+		set_place(&s->began);
+	__atomic_store_n(&s->thread, user_of(s), __ATOMIC_RELAXED);
 }
+
+void ww_debug_polls(bool now) { polls = now; }
+
+void ww_debug_is_polled(ww_seat *s) { __atomic_store_n(&standing_of(s)->is_polled, true, __ATOMIC_RELAXED); }
 
 /* A seat without a context is given once it holds nothing and waits for nothing. */
 static void unuse_if_free(struct standing *s)
@@ -124,52 +207,48 @@ static void unuse_if_free(struct standing *s)
 		__atomic_store_n(&s->thread, NULL, __ATOMIC_RELAXED);
 }
 
-const struct standing *ww_debug_own_seat(const struct ww_pool *p, enum has what)
-{
-	for (uint32_t k = 0; k < seats_of(p); k++) {
-		const struct standing *s = &p->debug->seats[k];
+enum has { THIS_CONTEXT, ANYTHING, A_CONTEXT, A_MUTEX, A_WAIT };
 
-		if (__atomic_load_n(&s->thread, __ATOMIC_RELAXED) != &ww_here)
-			continue;
-		if (what == ANYTHING || (what == A_CONTEXT ? __atomic_load_n(&s->stamp, __ATOMIC_RELAXED) != 0 :
-							     __atomic_load_n(&s->held, __ATOMIC_RELAXED) != 0))
-			return s;
-	}
-	return NULL;
+/* Whether its context is this, or the thread has such a thing by it. */
+static bool has(const struct standing *s, const void *it, enum has what)
+{
+	if (what == THIS_CONTEXT)
+		return __atomic_load_n(&s->context, __ATOMIC_RELAXED) == it;
+	if (__atomic_load_n(&s->thread, __ATOMIC_RELAXED) != it)
+		return false;
+	return what == ANYTHING || (what == A_CONTEXT ? __atomic_load_n(&s->stamp, __ATOMIC_RELAXED) :
+		what == A_MUTEX ? __atomic_load_n(&s->held, __ATOMIC_RELAXED) : __atomic_load_n(&s->wants, __ATOMIC_RELAXED));
 }
 
-/* Where this context begins another one began, of this class, which hasn't ended: its memory is another's by now. */
-static void tell_what_was_left(struct ww_pool *p, const struct ww_acquire_ctx *x)
+/* A seat of which that is so, of this class alone, or of all that come from there on in their list, which is locked then; or NULL. */
+static const ww_seat *seat_with(const struct ww_pool *p, bool further, const void *it, enum has what)
 {
-	for (uint32_t k = 0; k < seats_of(p); k++) {
-		struct standing *s = &p->debug->seats[k];
-		struct place at = place_of(&s->began);
-
-		if (__atomic_load_n(&s->context, __ATOMIC_RELAXED) != x)
-			continue;
-		__atomic_store_n(&s->context, NULL, __ATOMIC_RELAXED);
-		__atomic_fetch_add(&faults, 1, __ATOMIC_RELAXED);
-		tell(p, "ww_acquire_init", "the context that was here before was left without ww_acquire_fini; it began at %s:%d\n",
-		     file_of(at), at.line);
-	}
+	for (; p; p = further ? p->next : NULL)
+		for (uint32_t k = 0; k < seats_of(p) && !p->gone; k++)
+			if (has(&p->debug->seats[k], it, what))
+				return &p->seats[k];
+	return NULL;
 }
 
 void ww_debug_begun(struct ww_acquire_ctx *x)
 {
 	struct ww_pool *p = x->own->pool;
+	const ww_seat *left = seat_with(p, false, x, THIS_CONTEXT), *first = seat_with(p, false, &ww_here, A_CONTEXT);
 	struct standing *s = standing_of(x->own);
-	const struct standing *first = ww_debug_own_seat(p, A_CONTEXT);
 
-	tell_what_was_left(p, x);
-	if (first)
-		ww_debug_warn(SECOND_CONTEXT, p, "ww_acquire_init",
-			      "two contexts of a thread can wait for each other for ever; its other one, if it wasn't left without "
-			      "ww_acquire_fini, began at", first);
-	__atomic_store_n(&s->context, x, __ATOMIC_RELAXED);
+	__atomic_store_n(&s->is_polled, polls, __ATOMIC_RELAXED);
+	if (left) { /* and its memory is another's by now */
+		__atomic_store_n(&standing_of(left)->context, NULL, __ATOMIC_RELAXED);
+		tell(&faults, p, "ww_acquire_init", standing_of(left), "the context that was here before was left without ww_acquire_fini; it began at");
+	}
+	if (first && !polls)
+		tell(&dangers, p, "ww_acquire_init", standing_of(first), "two contexts of a thread can wait for each other forever; "
+		     "its other one, if it wasn't left without ww_acquire_fini, began at");
+	__atomic_store_n(&s->context, polls ? NULL : x, __ATOMIC_RELAXED); /* A task's may be moved, as Rust does. */
 	x->stamp = __atomic_add_fetch(&p->debug->stamps, 1, __ATOMIC_RELAXED);
 	x->deadlock_inject_interval = 1;
 	x->deadlock_inject_countdown = x->stamp & 15;
-	set_began(s);
+	set_place(&s->began);
 	__atomic_store_n(&s->held, 0, __ATOMIC_RELAXED);
 	__atomic_store_n(&s->stamp, x->stamp, __ATOMIC_RELAXED);
 	use(s);
@@ -179,6 +258,7 @@ void ww_debug_ended(struct ww_acquire_ctx *x)
 {
 	struct standing *s = standing_of(x->own);
 
+	__atomic_store_n(&s->is_polled, false, __ATOMIC_RELAXED);
 	__atomic_store_n(&s->context, NULL, __ATOMIC_RELAXED);
 	__atomic_store_n(&s->thread, NULL, __ATOMIC_RELAXED);
 	__atomic_store_n(&s->stamp, 0, __ATOMIC_RELAXED);
@@ -193,25 +273,11 @@ static bool is_seen(void) { return ww_here.file; }
 void ww_debug_alone(const struct ww_mutex *m, const struct timespec *until)
 {
 	struct ww_pool *p = pool_at(m);
-	const struct standing *s = p && !until && is_seen() ? ww_debug_own_seat(p, A_MUTEX) : NULL;
+	const ww_seat *s = p && !until && is_seen() ? seat_with(p, false, &ww_here, A_MUTEX) : NULL;
 
 	if (s)
-		ww_debug_warn(WITHOUT_CONTEXT, p, "ww_mutex_lock",
-			      "deadlocks through locks without a context are not detected; the thread holds a mutex by what began at", s);
-}
-
-void ww_debug_waits(ww_seat *s, const struct ww_mutex *m, const struct timespec *until)
-{
-	struct standing *it = standing_of(s);
-
-	__atomic_store_n(&it->wants, m ? m->number + 1 : 0, __ATOMIC_RELAXED);
-	if (m) {
-		use(it);
-		ww_debug_begin_wait(s->pool, s, m->number, until);
-	} else {
-		ww_debug_end_wait();
-		unuse_if_free(it);
-	}
+		tell(&dangers, p, "ww_mutex_lock", standing_of(s),
+		     "deadlocks through locks without a context are not detected; the thread holds a mutex by what began at");
 }
 
 void ww_debug_acquired(const struct ww_mutex *m, const struct ww_acquire_ctx *x, ww_seat *s)
@@ -221,8 +287,8 @@ void ww_debug_acquired(const struct ww_mutex *m, const struct ww_acquire_ctx *x,
 
 	use(by);
 	__atomic_store_n(&by->held, __atomic_load_n(&by->held, __ATOMIC_RELAXED) + 1, __ATOMIC_RELAXED);
-	__atomic_store_n(&h->seat, number_of(m->pool, x ? x->own : s) + 1, __ATOMIC_RELAXED);
-	__atomic_store_n(&h->thread, &ww_here, __ATOMIC_RELAXED);
+	__atomic_store_n(&h->seat, number_of(x ? x->own : s) + 1, __ATOMIC_RELAXED);
+	__atomic_store_n(&h->thread, user_of(by), __ATOMIC_RELAXED);
 	if (x)
 		acquired = m;
 }
@@ -231,13 +297,12 @@ void ww_debug_released(const struct ww_mutex *m)
 {
 	struct holding *h = &m->pool->debug->mutexes[m->number];
 	uint32_t seat = __atomic_load_n(&h->seat, __ATOMIC_RELAXED);
-	struct standing *by;
+	struct standing *by = seat ? &m->pool->debug->seats[seat - 1] : NULL; /* NULL: that one is amid its own unlock */
 
-	if (is_seen() && __atomic_load_n(&h->thread, __ATOMIC_RELAXED) != &ww_here)
+	if (is_seen() && __atomic_load_n(&h->thread, __ATOMIC_RELAXED) != &ww_here && !(by && !user_of(by)))
 		fault_in(m->pool, "ww_mutex_unlock", "another thread acquired the mutex");
-	if (!seat)
-		return; /* that one is amid its own unlock */
-	by = &m->pool->debug->seats[seat - 1];
+	if (!by)
+		return;
 	__atomic_store_n(&h->thread, NULL, __ATOMIC_RELAXED);
 	__atomic_store_n(&h->seat, 0, __ATOMIC_RELAXED);
 	__atomic_store_n(&by->held, __atomic_load_n(&by->held, __ATOMIC_RELAXED) - 1, __ATOMIC_RELAXED);
@@ -246,7 +311,7 @@ void ww_debug_released(const struct ww_mutex *m)
 
 /* ---- -EDEADLK ---- */
 
-static const char not_released[] = "the context was told -EDEADLK, and still holds a mutex";
+static const char not_released[] = "the context got -EDEADLK, and still holds a mutex";
 
 bool ww_debug_refuses(const struct ww_acquire_ctx *x)
 {
@@ -263,9 +328,8 @@ static int injected(struct ww_mutex *m, struct ww_acquire_ctx *x)
 
 	if (x->deadlock_inject_countdown--)
 		return 0;
-	interval = interval > UINT_MAX / 4 ? UINT_MAX : interval * 7 / 2;
-	x->deadlock_inject_interval = interval;
-	x->deadlock_inject_countdown = interval;
+	interval = interval > ~0u / 7 ? ~0u : interval * 7 / 2;
+	x->deadlock_inject_interval = x->deadlock_inject_countdown = interval;
 	x->contending_lock = m;
 	x->state |= WAS_TOLD | WAS_INJECTED;
 	if (x->gives != x->own) {
@@ -298,5 +362,234 @@ int ww_debug_told(struct ww_mutex *m, struct ww_acquire_ctx *x, int r, bool inje
 bool ww_debug_injected(const struct ww_mutex *m, const struct ww_acquire_ctx *x)
 {
 	return x->state & WAS_INJECTED && x->contending_lock == m && !x->acquired;
+}
+
+/* ---- waits ---- */
+
+static struct timespec in_milliseconds(unsigned count)
+{
+	struct timespec at;
+	long long of_second;
+
+	clock_gettime(CLOCK_MONOTONIC, &at);
+	of_second = at.tv_nsec + count * 1000000ll;
+	return (struct timespec){ at.tv_sec + (time_t)(of_second / 1000000000), (long)(of_second % 1000000000) };
+}
+
+void ww_debug_waits(ww_seat *s, const struct ww_mutex *m, const struct timespec *until)
+{
+	struct standing *it = standing_of(s);
+
+	mine.seat = m && !until ? s : NULL;
+	mine.seen = 0;
+	if (m) {
+		mine.looks = in_milliseconds(__atomic_load_n(&patience, __ATOMIC_RELAXED));
+		mine.is_long = in_milliseconds(LONG);
+		use(it);
+		set_place(&it->waits);
+		__atomic_store_n(&it->tid, syscall(SYS_gettid), __ATOMIC_RELAXED);
+		__atomic_store_n(&it->turn, until ? 0 : __atomic_add_fetch(&turns, 1, __ATOMIC_RELAXED), __ATOMIC_RELAXED);
+	}
+	__atomic_store_n(&it->wants, m ? m->number + 1 : 0, __ATOMIC_RELAXED);
+	if (!m)
+		unuse_if_free(it);
+}
+
+void ww_debug_rests(void) { mine.seat = NULL; }
+
+void ww_debug_seeks(const struct ww_pool *p, const struct timespec *until)
+{
+	const ww_seat *s;
+
+	if (until)
+		return;
+	s = seat_with(ww_lock_pools(), true, &ww_here, ANYTHING);
+	ww_unlock_pools();
+	if (s)
+		tell(&dangers, p, "a wait for a context", standing_of(s),
+		     "all are in use, and deadlocks through this wait are not detected; the thread has what began at");
+}
+
+void ww_debug_patience(unsigned milliseconds) { __atomic_store_n(&patience, milliseconds, __ATOMIC_RELAXED); }
+
+/* By which the thread that holds what this seat waits for waits as well, in any class of the list, which is locked; or NULL. */
+static const ww_seat *next_wait(const struct ww_pool *of, const ww_seat *s)
+{
+	uint32_t wants = __atomic_load_n(&standing_of(s)->wants, __ATOMIC_RELAXED);
+	const void *holder = wants ? __atomic_load_n(&s->pool->debug->mutexes[wants - 1].thread, __ATOMIC_RELAXED) : NULL;
+
+	return holder ? seat_with(of, true, holder, A_WAIT) : NULL;
+}
+
+/*
+ * Goes from this wait to that of the thread that holds the mutex, and so on.  If it comes back, and each of these threads
+ * sleeps without a time: a number that tells these waits from others, and how many there are; and else 0.
+ *
+ * Where two looks give the same number, each of them was in that wait all the while between, and holds what it held: they
+ * sleep for ever.  One that is told something, or has got what it waited for, was woken, and isn't parked.
+ */
+static uint64_t deadlock(const struct ww_pool *of, unsigned *count)
+{
+	uint64_t turn, these = 0;
+	const ww_seat *s = mine.seat, *before = NULL;
+
+	for (*count = 1; s; ++*count) {
+		turn = __atomic_load_n(&standing_of(s)->turn, __ATOMIC_RELAXED);
+		if (!turn || (s != mine.seat && !ww_is_parked(s)))
+			return 0;
+		turn *= MIX;
+		these += (turn ^ turn >> 29) * MIX; /* so that no other waits have that sum */
+		s = next_wait(of, s);
+		if (s == mine.seat)
+			return these | 1;
+		if (s == before)
+			return 0; /* this one waits for them, and is none of them */
+		if (!(*count & (*count - 1)))
+			before = s;
+	}
+	return 0;
+}
+
+/* A line of each; a cancel may end any of these waits still. */
+static char *text_of_deadlock(const struct ww_pool *of, unsigned count)
+{
+	const ww_seat *s = mine.seat, *next = s;
+	char *words;
+	size_t size;
+	FILE *to = open_memstream(&words, &size);
+
+	for (; to && count && next; count--, s = next) {
+		const struct standing *it = standing_of(s);
+		struct place at = place_of(&it->waits);
+
+		next = next_wait(of, s);
+		if (next)
+			fprintf(to, "\nthread %ld waits at %s:%d for mutex %u of class \"%s\", which thread %ld holds",
+				__atomic_load_n(&it->tid, __ATOMIC_RELAXED), file_of(at), at.line,
+				__atomic_load_n(&it->wants, __ATOMIC_RELAXED) - 1, name_of(s->pool),
+				__atomic_load_n(&standing_of(next)->tid, __ATOMIC_RELAXED));
+	}
+	return to && !fclose(to) ? words : NULL;
+}
+
+/* It is told at the second look, since somebody may be about to wake one of them; and by one of them alone. */
+static void look_for_deadlock(void)
+{
+	const struct ww_pool *of = ww_lock_pools();
+	char *text = NULL;
+	unsigned count;
+	uint64_t seen = deadlock(of, &count);
+
+	if (seen && seen == mine.seen && is_new(seen))
+		text = text_of_deadlock(of, count);
+	ww_unlock_pools();
+	mine.seen = seen;
+	if (text)
+		tell(&dangers, NULL, "a wait", NULL, "no class detects this deadlock of %u thread%s%s", count, count == 1 ? "" : "s", text);
+	free(text);
+}
+
+/* What it waits for is held: by a thread that does something else for long, or by a context that was left and never ends. */
+static void look_for_long_wait(void)
+{
+	const struct ww_pool *p = mine.seat->pool;
+	uint32_t number = __atomic_load_n(&standing_of(mine.seat)->wants, __ATOMIC_RELAXED) - 1;
+	uint32_t holder = __atomic_load_n(&p->debug->mutexes[number].seat, __ATOMIC_RELAXED);
+
+	if (holder && !mine.seen && ww_has_come(&mine.is_long))
+		tell(&dangers, p, "a wait", &p->debug->seats[holder - 1], "it has lasted %d seconds; mutex %u is held by what began at",
+		     LONG / 1000, number);
+}
+
+const struct timespec *ww_debug_sleeps(const struct timespec *until)
+{
+	unsigned most = __atomic_load_n(&patience, __ATOMIC_RELAXED);
+
+	if (!mine.seat || !most)
+		return until;
+	if (ww_has_come(&mine.looks)) {
+		look_for_deadlock();
+		look_for_long_wait();
+		mine.looks = in_milliseconds(most);
+	}
+	return &mine.looks;
+}
+
+static bool is_used(const struct standing *s)
+{
+	return __atomic_load_n(&s->thread, __ATOMIC_RELAXED) || __atomic_load_n(&s->stamp, __ATOMIC_RELAXED);
+}
+
+void ww_debug_leak(const struct ww_loose *of, const char *why)
+{
+	const struct standing *first = NULL;
+
+	for (uint32_t k = 0; k < of->count; k++) {
+		const struct standing *s = standing_of(&of->seats[k]);
+
+		if (is_used(s) && (!first || __atomic_load_n(&s->stamp, __ATOMIC_RELAXED) - 1 < __atomic_load_n(&first->stamp, __ATOMIC_RELAXED) - 1))
+			first = s;
+	}
+	tell(&dangers, of->pool, "a wait for a context", first, "%s%s", why, first ? "; the oldest began at" : "");
+}
+
+/* ---- what is in use ---- */
+
+static uint32_t used_seats(const struct ww_pool *p)
+{
+	uint32_t used = 0;
+
+	for (uint32_t k = 0; k < seats_of(p); k++)
+		used += is_used(&p->debug->seats[k]);
+	return used;
+}
+
+static void print_seat(const struct standing *s, uint32_t k, FILE *to)
+{
+	unsigned long stamp = __atomic_load_n(&s->stamp, __ATOMIC_RELAXED);
+	uint32_t wants = __atomic_load_n(&s->wants, __ATOMIC_RELAXED);
+	struct place began = place_of(&s->began), waits = place_of(&s->waits);
+
+	fprintf(to, "\nseat %u: %s%.0lu began at %s:%d", k, stamp ? "context " : "a lock without a context", stamp, file_of(began), began.line);
+	if (wants)
+		fprintf(to, "; thread %ld waits at %s:%d for mutex %u", __atomic_load_n(&s->tid, __ATOMIC_RELAXED), file_of(waits), waits.line, wants - 1);
+}
+
+char *ww_debug_seen(struct ww_pool *p)
+{
+	char *words;
+	size_t size;
+	FILE *to = open_memstream(&words, &size);
+
+	if (!to)
+		return NULL;
+	fprintf(to, "class \"%s\": %u of %u mutexes and %u of %u contexts in use, waits for a context: %u", name_of(p), taken_numbers(p),
+		p->mutexes, used_seats(p), seats_of(p),
+		__atomic_load_n(&p->loose.seekers, __ATOMIC_RELAXED) + __atomic_load_n(&p->tasks.seekers, __ATOMIC_RELAXED));
+	if (is_crowded(p))
+		fprintf(to, "; a crowd, permits: %u, waits for one: %u", p->crowd.permits, ww_permit_seekers(p));
+	for (uint32_t k = 0; k < seats_of(p); k++)
+		if (is_used(&p->debug->seats[k]))
+			print_seat(&p->debug->seats[k], k, to);
+	for (uint32_t n = 0; n < p->locks; n++) {
+		uint32_t holder = __atomic_load_n(&p->debug->mutexes[n].seat, __ATOMIC_RELAXED);
+
+		if (holder)
+			fprintf(to, "\nmutex %u is held by seat %u", n, holder - 1);
+	}
+	return fclose(to) ? NULL : words;
+}
+
+/* Whoever ended the last context may not be through with that; then the class is as good as free. */
+char *ww_debug_left(struct ww_pool *p)
+{
+	return (taken_numbers(p) || used_seats(p)) && is_new_here(p, "ww_class_free") ? ww_debug_seen(p) : NULL;
+}
+
+void ww_debug_busy(char *left)
+{
+	if (left)
+		tell(&dangers, NULL, "ww_class_free", NULL, "%s", left);
+	free(left);
 }
 #endif

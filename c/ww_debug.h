@@ -1,81 +1,41 @@
-/* ww_debug.h - what the sources of the debug library share. No program includes it. */
+/* ww_debug.h - what the debug library does beside each call; without it these do nothing. No program includes it. */
 #ifndef WW_DEBUG_H
 #define WW_DEBUG_H
-#include "ww_pool.h"
+WW_HIDDEN int ww_debug_open(struct ww_pool *p);
+WW_HIDDEN void ww_debug_free(struct ww_pool *p);
+WW_HIDDEN void ww_debug_begun(struct ww_acquire_ctx *x);
+WW_HIDDEN void ww_debug_ended(struct ww_acquire_ctx *x);
+/* Whether what this thread begins from now on is a task's; and that this is. This thread doesn't wait itself where that does. */
+WW_HIDDEN void ww_debug_polls(bool now);
+WW_HIDDEN void ww_debug_is_polled(ww_seat *s);
+WW_HIDDEN void ww_debug_rests(void);
+/* The seat waits for the mutex, until a time if that isn't NULL; or for none any more. */
+WW_HIDDEN void ww_debug_waits(ww_seat *s, const struct ww_mutex *m, const struct timespec *until);
+/* This thread waits for a seat, likewise. */
+WW_HIDDEN void ww_debug_seeks(const struct ww_pool *p, const struct timespec *until);
+/* Tells that none of these seats was given for long, in these words, and where the oldest context began. */
+WW_HIDDEN void ww_debug_leak(const struct ww_loose *of, const char *why);
+/* The mutex is asked for without a context. */
+WW_HIDDEN void ww_debug_alone(const struct ww_mutex *m, const struct timespec *until);
+WW_HIDDEN void ww_debug_acquired(const struct ww_mutex *m, const struct ww_acquire_ctx *x, ww_seat *s);
+WW_HIDDEN void ww_debug_released(const struct ww_mutex *m);
+/* What keeps a class from being freed, or NULL if that was told before; and tells it. */
+WW_HIDDEN char *ww_debug_left(struct ww_pool *p);
+WW_HIDDEN void ww_debug_busy(char *left);
+/* What ww_class_print writes of an open class, or NULL; whoever has it frees it. */
+WW_HIDDEN char *ww_debug_seen(struct ww_pool *p);
+/* Tells what is wrong, where, and by which calls the program came there. */
+WW_HIDDEN void ww_debug_fault(const char *call, const char *why);
+/* Whether a lock call may be made, as far as the proved library doesn't know. */
+WW_HIDDEN bool ww_debug_refuses(const struct ww_acquire_ctx *x);
+/* What a lock call answers in place of this. */
+WW_HIDDEN int ww_debug_told(struct ww_mutex *m, struct ww_acquire_ctx *x, int r, bool injects);
+/* Whether the last -EDEADLK of the context was made up, at this mutex, and it has released all since. */
+WW_HIDDEN bool ww_debug_injected(const struct ww_mutex *m, const struct ww_acquire_ctx *x);
+/* Of ww_pool.c: the pools of all classes, whose list is locked until the other is called. */
+WW_HIDDEN const struct ww_pool *ww_lock_pools(void);
+WW_HIDDEN void ww_unlock_pools(void);
 
-/*
- * What others look at meanwhile is stored and read relaxed: nothing is ordered by it, and ww_class_print tells
- * what was so at a glance.
- */
-
-/* Of a call of the program. */
-struct place {
-	const char *file;
-	int line;
-};
-
-/* Of a mutex, by its number: the seat that holds it, plus one, and the thread that acquired it, as long as it is held. */
-struct holding {
-	uint32_t seat;
-	const void *thread;
-};
-
-/*
- * Of a seat: its context, and the place of that in the order in which they began, 0 without one; the number that it waits
- * for, plus one; how many mutexes it holds; and as long as a context or a lock with NULL uses it, the thread that called by
- * it last, and where that began.
- */
-struct standing {
-	const struct ww_acquire_ctx *context;
-	unsigned long stamp;
-	uint32_t wants, held;
-	const void *thread;
-	struct place began;
-};
-
-struct debug {
-	struct debug *next; /* of all that are open */
-	struct ww_pool *pool;
-	unsigned long stamps;
-	struct standing *seats;
-	struct holding mutexes[];
-};
-
-/* Where this thread made its call; the address is that of the thread. */
-WW_HIDDEN extern __thread struct place ww_here;
-
-static inline const char *name_of(const struct ww_pool *p) { return p->class_->name ? p->class_->name : ""; }
-
-static inline const char *file_of(struct place at) { return at.file ? at.file : "(unknown)"; }
-
-/* At a glance. */
-static inline struct place place_of(const struct place *of)
-{
-	return (struct place){ __atomic_load_n(&of->file, __ATOMIC_RELAXED), __atomic_load_n(&of->line, __ATOMIC_RELAXED) };
-}
-
-static inline uint32_t number_of(const struct ww_pool *p, const ww_seat *s) { return (uint32_t)(s - p->world->seats); }
-
-static inline struct standing *standing_of(const ww_seat *s) { return &s->pool->debug->seats[number_of(s->pool, s)]; }
-
-/* A prime, by which a number of 64 bits is mixed. */
-#define MIX 1099511628211u
-
-/* What no answer tells, since the call is right by itself. */
-enum danger { SECOND_CONTEXT, WITHOUT_CONTEXT, WAIT_FOR_CONTEXT, STAYS_OPEN, LONG_WAIT };
-/* Whether this kind of danger wasn't told yet of this call of the program, for this class. */
-WW_HIDDEN bool ww_debug_is_new(enum danger kind, const struct ww_pool *p);
-/* Tells it, if it is new; the words end before the place of what this thread began earlier. */
-WW_HIDDEN void ww_debug_warn(enum danger kind, const struct ww_pool *p, const char *call, const char *why,
-			     const struct standing *earlier);
-/* Tells it in these words, which are whole lines. */
-WW_HIDDEN void ww_debug_danger(const char *call, const char *words);
-
-enum has { ANYTHING, A_CONTEXT, A_MUTEX };
-/* A seat of the class by which this thread has such a thing, or NULL. */
-WW_HIDDEN const struct standing *ww_debug_own_seat(const struct ww_pool *p, enum has what);
-
-/* This thread waits for a mutex by this seat, or for a context if that is NULL; and no more. */
-WW_HIDDEN void ww_debug_begin_wait(struct ww_pool *p, ww_seat *s, uint32_t number, const struct timespec *until);
-WW_HIDDEN void ww_debug_end_wait(void);
+/* Whether each list of locks is kept exactly, since a mutex is released at once where -EDEADLK is made up. */
+static inline bool ww_debug_lists(void) { return true; }
 #endif

@@ -1,4 +1,4 @@
-// ww_mutex.hpp - the mutexes and contexts of ww_mutex.h for C++17, released by themselves. Nothing here throws, or needs
+// ww_mutex.hpp - the mutexes and contexts of ww_mutex.h for C++17, which release themselves. Nothing here throws, or needs
 // exceptions. clang's -Wthread-safety knows what each call acquires.
 #ifndef WW_MUTEX_HPP
 #define WW_MUTEX_HPP
@@ -8,8 +8,6 @@
 #include "ww_mutex.h"
 #include <cassert>
 #include <cstdint>
-#include <cstdio>
-#include <cstdlib>
 #include <optional>
 #include <type_traits>
 #include <utility>
@@ -19,11 +17,11 @@
 #else
 #define WW_SAFETY_(...)
 #endif
-// Of a variable: it is reached under this mutex alone. Of a function: it is called under these.
+// On a variable: it is accessed only under this mutex. On a function: it is called under these.
 #define WW_GUARDED_BY(mutex) WW_SAFETY_(guarded_by(mutex))
 #define WW_REQUIRES(...) WW_SAFETY_(requires_capability(__VA_ARGS__))
 
-// Where the program made a call, which the debug library tells: each call here has it from its caller.
+// Where the program made a call, which the debug library reports: each call here gets it from its caller.
 #ifdef WW_DEBUG
 #define WW_FROM_ const char *file_ = __builtin_FILE(), int line_ = __builtin_LINE()
 #define WW_AND_FROM_ , WW_FROM_
@@ -42,47 +40,40 @@
 
 namespace ww {
 
-// At its end something was still in use. A static object stays there, and may be, since other threads may go on beside the
-// end of the program.
-inline void left_(const char *what, const void *object) noexcept
-{
-	if (ww_place_(object) != WW_MEMORY_)
-		return;
-	std::fputs(what, stderr);
-	std::abort();
-}
-
-// A class that is gone with its scope. It has no mutex then, and no context. A static one is there before anything runs, and
-// that of a program as long as the program.
+// A class that is freed at the end of its scope, if it has no mutex and no context then; otherwise it stays open, which the
+// debug library reports. A static one exists before anything runs. If threads use it that go on during the end of the
+// program, use DEFINE_WW_CLASS instead, which nothing frees.
 class mutex_class {
 	struct ww_class it_;
 	friend class mutex;
 
 public:
 	enum kind { wound_wait, wait_die };
-	constexpr explicit mutex_class(kind k, const char *name = "") noexcept : it_{ nullptr, 0, 0, k == wait_die, name } {}
+	constexpr explicit mutex_class(kind k, const char *name = "") noexcept : it_{ nullptr, 0, 0, k == wait_die, 0, name } {}
 	~mutex_class()
 	{
 		WW_NOWHERE_;
-		if (ww_place_(this) != WW_PROGRAM_ && ww_class_free(&it_))
-			left_("ww::mutex_class: a mutex or a context is left\n", this);
+		ww_class_free(&it_);
 	}
 	mutex_class(const mutex_class &) = delete;
 	mutex_class &operator=(const mutex_class &) = delete;
-	// As many at once, as ww_class_limit has it. -EINVAL: too many; -EBUSY: it is open.
+	// Limits how many there are at a time, as ww_class_limit does. -EINVAL: too many; -EBUSY: it is open.
 	[[nodiscard]] int limit(std::uint32_t mutexes, std::uint32_t contexts) noexcept
 	{
 		return ww_class_limit(&it_, mutexes, contexts);
 	}
-	// Takes all memory now. -ENOMEM.
+	// In a crowd so many threads begin contexts at a time, as ww_class_crowd has it, and as limit answers.
+	[[nodiscard]] int crowd(std::uint32_t permits) noexcept { return ww_class_crowd(&it_, permits); }
+	// Allocates all memory now. -ENOMEM.
 	[[nodiscard]] int open() noexcept { return ww_class_open(&it_); }
 	operator struct ww_class &() noexcept { return it_; }
 };
 
-// A member of the object that it guards. It stays where it is, and nobody holds it or waits for it at its end. Its own
-// calls are those without a context, so std::lock_guard and std::unique_lock take it. It gets its number at its first lock,
-// so a static one is there before anything runs; and threads that go on beside the end of the program may lock it behind
-// its own end, though not amid that. Its class outlives it: the end of a class tells of no mutex that was never locked.
+// A member of the object that it protects. It doesn't move, and nobody holds it or waits for it when it is destroyed, which
+// the debug library checks. Its own calls are those without a context, so std::lock_guard and std::unique_lock work with it.
+// It gets its number at its first lock, so a static one exists before anything runs; and threads that go on during the end of
+// the program may lock it after its destructor, though not during that. Its class outlives it: the end of a class doesn't
+// report a mutex that was never locked.
 class WW_SAFETY_(capability("mutex")) mutex {
 	struct ww_mutex it_;
 
@@ -92,8 +83,7 @@ public:
 	~mutex()
 	{
 		WW_NOWHERE_;
-		if (ww_mutex_end_(&it_))
-			left_("ww::mutex: somebody holds it, or waits for it\n", this);
+		ww_mutex_end_(&it_);
 	}
 	mutex(const mutex &) = delete;
 	mutex &operator=(const mutex &) = delete;
@@ -109,7 +99,8 @@ public:
 	struct ww_mutex *get() noexcept { return &it_; }
 };
 
-// Holds a mutex without a context, in its scope. std::lock_guard does the same, but clang doesn't see what that acquires.
+// Holds a mutex without a context until the end of its scope. std::lock_guard does the same, but clang doesn't see what that
+// acquires.
 class WW_SAFETY_(scoped_lockable) guard {
 	mutex &m_;
 
@@ -120,7 +111,7 @@ public:
 	guard &operator=(const guard &) = delete;
 };
 
-// What a callable returned under its locks, or the error for which it wasn't called.
+// What a callable returned under its locks, or the error because of which it wasn't called.
 template <class T> class [[nodiscard]] result {
 	std::optional<T> value_;
 	int error_ = 0;
@@ -143,7 +134,7 @@ public:
 	int error() const noexcept { return error_; }
 };
 
-// A context. At its end it releases all that it still holds, and ends.
+// A context. Its destructor releases everything that it still holds, and ends it.
 class context {
 	ww_acquire_ctx it_;
 
@@ -156,8 +147,8 @@ class context {
 		}
 	};
 
-	// Acquires by `locks`, which answers the first error of a lock call, and again after each -EDEADLK. After another
-	// error, and where a callable throws, it holds nothing.
+	// Acquires with `locks`, which returns the first error of a lock call, and again after each -EDEADLK. After another
+	// error, and if a callable throws, it holds nothing.
 	template <class Locks> int acquire(Locks &&locks)
 	{
 		int r = 0;
@@ -176,7 +167,7 @@ class context {
 		return r;
 	}
 
-	// Calls fn under what was acquired with this answer, and releases all.
+	// Calls fn under what was acquired, if that returned 0, and releases everything.
 	template <class Fn> WW_SAFETY_(no_thread_safety_analysis) auto under(int answer, Fn &&fn) -> result<std::invoke_result_t<Fn>>
 	{
 		using value = std::invoke_result_t<Fn>;
@@ -193,7 +184,7 @@ class context {
 	}
 
 public:
-	// Where all contexts of the class are in use it waits for one, as ww_acquire_init does.
+	// If all contexts of the class are in use it waits for one, as ww_acquire_init does.
 	explicit context(struct ww_class &c, unsigned flags = 0 WW_AND_FROM_) noexcept
 	{
 		ww_acquire_init(&it_, &c);
@@ -209,17 +200,17 @@ public:
 	context(const context &) = delete;
 	context &operator=(const context &) = delete;
 
-	// 0, or -EDEADLK, -EALREADY, -EINVAL, -ENOSPC, -ENOMEM, as ww_mutex_lock; after -EDEADLK comes back_off().
+	// 0, or -EDEADLK, -EALREADY, -EINVAL, -ENOSPC, -ENOMEM, as ww_mutex_lock; after -EDEADLK call back_off().
 	[[nodiscard]] int lock(mutex &m WW_AND_FROM_) noexcept WW_SAFETY_(try_acquire_capability(false, m))
 	{
 		return ww_mutex_lock(m.get(), &it_);
 	}
-	// -EINTR besides, where another thread called cancel().
+	// Also -EINTR, if another thread called cancel().
 	[[nodiscard]] int lock_interruptible(mutex &m WW_AND_FROM_) noexcept WW_SAFETY_(try_acquire_capability(false, m))
 	{
 		return ww_mutex_lock_interruptible(m.get(), &it_);
 	}
-	// -ETIMEDOUT besides.
+	// Also -ETIMEDOUT.
 	[[nodiscard]] int lock_until(mutex &m, const timespec &monotonic WW_AND_FROM_) noexcept
 		WW_SAFETY_(try_acquire_capability(false, m))
 	{
@@ -234,7 +225,7 @@ public:
 		ww_mutex_unlock(m.get());
 	}
 	void unlock_all(WW_FROM_) noexcept { ww_acquire_unlock_all(&it_); }
-	// After -EDEADLK: releases all. The next lock call first waits for the mutex at which that came.
+	// After -EDEADLK: releases everything. The next lock call first waits for the contended mutex.
 	void back_off() noexcept { ww_back_off_(&it_); }
 	void done(WW_FROM_) noexcept { ww_acquire_done(&it_); }
 	int cancel() noexcept { return ww_acquire_cancel(&it_); }
@@ -242,7 +233,7 @@ public:
 	ww_acquire_ctx *get() noexcept { return &it_; }
 
 	// Acquires the mutexes of a list of pointers, in any order, and backs off by itself; the context holds nothing before.
-	// 0, or an error for which it holds nothing: -EALREADY for one that stands there twice, -EINTR, -EINVAL.
+	// 0, or an error, after which it holds nothing: -EALREADY for a mutex that the list has twice, -EINTR, -EINVAL.
 	template <class List> [[nodiscard]] int lock_all(const List &list WW_AND_FROM_)
 	{
 		return acquire([&] {
@@ -253,9 +244,9 @@ public:
 		});
 	}
 
-	// The same for mutexes that are found on the way: next(starts) tells the next one, or nullptr behind the last. It may
-	// read what those guard that it told since it was last called with starts, and tell one of these again. After a
-	// back-off it starts again, and holds the mutex at which that came, whose memory has to be there still.
+	// The same for mutexes that are found while others are held: next(restart) returns the next mutex, or nullptr at the end.
+	// It may read what is protected by mutexes that it returned since restart was last true, and return one of these again.
+	// After a back-off restart is true, and the contended mutex is held, so its memory must still exist.
 	template <class Next> [[nodiscard]] int lock_walk(Next &&next WW_AND_FROM_)
 	{
 		return acquire([&] {
@@ -269,8 +260,8 @@ public:
 		});
 	}
 
-	// Both, and then they call fn and release all, also where a callable throws. They give what fn returns. clang's analysis
-	// doesn't see what is held there: fn says it by WW_REQUIRES, or for each mutex by assert_held, as next does.
+	// Both, and then they call fn and release everything, also if a callable throws. They return what fn returns. clang's
+	// analysis doesn't see what is held there: fn says it with WW_REQUIRES, or for each mutex with assert_held, as next does.
 	template <class List, class Fn> auto with_all(const List &list, Fn &&fn WW_AND_FROM_)
 	{
 		return under(lock_all(list WW_AND_THERE_), std::forward<Fn>(fn));
@@ -281,7 +272,7 @@ public:
 	}
 };
 
-// By a context of its own.
+// With a context of its own.
 template <class List, class Fn> auto lock_all(struct ww_class &c, const List &list, Fn &&fn, unsigned flags = 0 WW_AND_FROM_)
 {
 	return context(c, flags WW_AND_THERE_).with_all(list, std::forward<Fn>(fn) WW_AND_THERE_);

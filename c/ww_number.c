@@ -4,8 +4,8 @@
  * call knows the number alone.  Outside loops that mutex doesn't say who holds it, therefore: its lock does.
  */
 #define _GNU_SOURCE
-#define WW_NO_INLINE /* Here are the functions that may be called in place of those that ww_number.h compiles into its callers. */
 #include "ww_pool.h" /* before the next one: here no call tells its line */
+#define WW_NO_INLINE /* Here are the functions that may be called in place of those that ww_number.h compiles into its callers. */
 #include "ww_number.h"
 
 static const char no_such[] = "the class has no mutex of this number";
@@ -15,24 +15,30 @@ static const char no_such[] = "the class has no mutex of this number";
 /* The mutexes of a class, or NULL: memory is taken for them as the first number is. */
 static struct ww_mutex *mutexes_of(struct ww_pool *p)
 {
-	struct ww_mutex *all = __atomic_load_n(&p->numbered, __ATOMIC_ACQUIRE), *made;
-
-	if (LIKELY(all))
-		return all;
-	made = calloc(p->mutexes, sizeof *made);
-	/* Released, and acquired here and in mutex_at: whoever has the address sees that the memory is empty. */
-	if (made && __atomic_compare_exchange_n(&p->numbered, &all, made, false, __ATOMIC_ACQ_REL, __ATOMIC_ACQUIRE))
-		return made;
-	free(made);
-	return all;
+	pthread_mutex_lock(&p->numbers);
+	/* Released, and acquired in mutex_at: whoever has the address sees that the memory is empty. */
+	if (!p->numbered)
+		__atomic_store_n(&p->numbered, calloc(p->locks, sizeof *p->numbered), __ATOMIC_RELEASE);
+	pthread_mutex_unlock(&p->numbers);
+	return p->numbered;
 }
 
 /* That of a number, which stays what it is once the number is put back; NULL where it was never taken. */
 static struct ww_mutex *mutex_at(const struct ww_pool *p, uint32_t number)
 {
-	struct ww_mutex *all = number < p->world->locks ? __atomic_load_n(&p->numbered, __ATOMIC_ACQUIRE) : NULL;
+	struct ww_mutex *all = number < p->locks ? __atomic_load_n(&p->numbered, __ATOMIC_ACQUIRE) : NULL;
 
 	return all && pool_at(&all[number]) ? &all[number] : NULL;
+}
+
+/* The same of a class, and why there is none, as an answer. */
+static int mutex_in(struct ww_class *c, uint32_t number, struct ww_mutex **m)
+{
+	struct ww_pool *p;
+	int r = pool_of(c, &p);
+
+	*m = r ? NULL : mutex_at(p, number);
+	return r ? r : *m ? 0 : -EINVAL;
 }
 
 /* Of its `waiters`, beside their number. */
@@ -41,21 +47,22 @@ static struct ww_mutex *mutex_at(const struct ww_pool *p, uint32_t number)
 /* A thread that was told of the number before may wait for it still.  Relaxed: nobody puts it back before it was taken. */
 int ww_number_take(uint32_t *number, struct ww_class *c)
 {
-	struct ww_mutex *all = NULL;
+	struct ww_mutex *m;
 	struct ww_pool *p;
 	int r = pool_of(c, &p);
 
-	if (!r && !p->gone && !(all = mutexes_of(p)))
+	if (!r && !p->gone && !mutexes_of(p))
 		r = -ENOMEM;
 	if (!r)
-		r = number_of_pool(p, number);
+		r = ww_take_number(p, number);
 	if (r)
 		return r;
-	if (!pool_at(&all[*number])) {
-		all[*number].number = *number;
-		__atomic_store_n(&all[*number].pool, p, __ATOMIC_RELEASE);
+	m = &p->numbered[*number];
+	if (!pool_at(m)) {
+		m->number = *number;
+		__atomic_store_n(&m->pool, p, __ATOMIC_RELEASE);
 	}
-	__atomic_fetch_add(&all[*number].waiters, IS_TAKEN, __ATOMIC_RELAXED);
+	__atomic_fetch_add(&m->waiters, IS_TAKEN, __ATOMIC_RELAXED);
 	return 0;
 }
 
@@ -66,21 +73,14 @@ int ww_number_take(uint32_t *number, struct ww_class *c)
 int ww_number_put(uint32_t number, struct ww_class *c)
 {
 	struct ww_mutex *m;
-	struct ww_pool *p;
-	uint32_t taken;
-	int r = pool_of(c, &p);
+	uint32_t taken = mutex_in(c, number, &m) ? 0 : __atomic_load_n(&m->waiters, __ATOMIC_SEQ_CST);
 
-	if (r || p->gone)
-		return r;
-	m = mutex_at(p, number);
-	taken = m ? __atomic_load_n(&m->waiters, __ATOMIC_SEQ_CST) : 0;
-	if (taken == IS_TAKEN) {
-		if (!ww_is_released(p, m))
-			return -EBUSY;
-		if (__atomic_compare_exchange_n(&m->waiters, &taken, 0, false, __ATOMIC_SEQ_CST, __ATOMIC_SEQ_CST)) {
-			ww_give_number(&p->numbers, number);
-			return 0;
-		}
+	if (m && m->pool->gone)
+		return 0;
+	if (taken == IS_TAKEN && ww_is_released(m->pool, m) &&
+	    __atomic_compare_exchange_n(&m->waiters, &taken, 0, false, __ATOMIC_SEQ_CST, __ATOMIC_SEQ_CST)) {
+		ww_give_number(m->pool, number);
+		return 0;
 	}
 	if (taken & IS_TAKEN)
 		return -EBUSY;
@@ -90,18 +90,15 @@ int ww_number_put(uint32_t number, struct ww_class *c)
 
 bool ww_number_is_locked(uint32_t number, struct ww_class *c)
 {
-	struct ww_pool *p;
-	struct ww_mutex *m = pool_of(c, &p) || p->gone ? NULL : mutex_at(p, number);
+	struct ww_mutex *m;
 
-	return m && !ww_is_released(p, m);
+	return !mutex_in(c, number, &m) && !m->pool->gone && !ww_is_released(m->pool, m);
 }
 
 /* ---- by a context ---- */
 
-static bool is_loop(const struct ww_acquire_ctx *x) { return x->gives != x->own; }
-
 /* That of a context's class.  A first step that wasn't enough can't be left as it is, so the program ends with it. */
-static struct ww_mutex *asked(const char *call, uint32_t number, const struct ww_acquire_ctx *x, int r)
+struct ww_mutex *ww_number_asked(const char *call, uint32_t number, const struct ww_acquire_ctx *x, int r)
 {
 	struct ww_mutex *m = x->own ? mutex_at(x->own->pool, number) : NULL;
 
@@ -113,43 +110,37 @@ static struct ww_mutex *asked(const char *call, uint32_t number, const struct ww
 }
 
 /* What a lock call answered; only in a loop the mutex says on who holds it. */
-static int answer(struct ww_mutex *m, const struct ww_acquire_ctx *x, int r)
+int ww_number_told(struct ww_mutex *m, const struct ww_acquire_ctx *x, int r)
 {
 	if (!is_loop(x) && __atomic_load_n(&m->ctx, __ATOMIC_RELAXED) == x)
 		__atomic_store_n(&m->ctx, NULL, __ATOMIC_RELAXED);
 	return r;
 }
 
+/* Where the first step was refused nothing was done yet: so it is in a loop. */
 int ww_number_lock_further_(uint32_t number, struct ww_acquire_ctx *x, int r)
 {
-	struct ww_mutex *m = asked("ww_number_lock", number, x, r);
+	struct ww_mutex *m = ww_number_asked("ww_number_lock", number, x, r);
 
 	if (!m)
 		return -EINVAL;
-	return answer(m, x, is_loop(x) ? ww_mutex_lock(m, x) : ww_mutex_lock_further_(m, x, r));
+	return ww_number_told(m, x, r == -EINVAL ? ww_mutex_lock(m, x) : ww_mutex_lock_further_(m, x, r));
 }
 
-int ww_number_lock(uint32_t number, struct ww_acquire_ctx *x)
-{
-	struct ww_mutex *m = asked("ww_number_lock", number, x, 0);
-
-	return m ? answer(m, x, ww_mutex_lock(m, x)) : -EINVAL;
-}
+int ww_number_lock(uint32_t number, struct ww_acquire_ctx *x) { return ww_number_lock_further_(number, x, -EINVAL); }
 
 int ww_number_lock_until(uint32_t number, struct ww_acquire_ctx *x, const struct timespec *until)
 {
-	struct ww_mutex *m = asked("ww_number_lock_until", number, x, 0);
+	struct ww_mutex *m = ww_number_asked("ww_number_lock_until", number, x, 0);
 
-	if (!m)
-		return -EINVAL;
-	return answer(m, x, until ? ww_mutex_lock_until(m, x, until) : ww_mutex_lock_interruptible(m, x));
+	return m ? ww_number_told(m, x, ww_mutex_lock_until(m, x, until)) : -EINVAL;
 }
 
 int ww_number_trylock(uint32_t number, struct ww_acquire_ctx *x)
 {
-	struct ww_mutex *m = asked("ww_number_trylock", number, x, 0);
+	struct ww_mutex *m = ww_number_asked("ww_number_trylock", number, x, 0);
 
-	return m ? answer(m, x, ww_mutex_trylock(m, x)) : 0;
+	return m ? ww_number_told(m, x, ww_mutex_trylock(m, x)) : 0;
 }
 
 int ww_number_trylock_else_(uint32_t number, struct ww_acquire_ctx *x) { return ww_number_trylock(number, x); }
@@ -161,28 +152,24 @@ bool ww_number_is_held(uint32_t number, const struct ww_acquire_ctx *x)
 
 int ww_number_unlock(uint32_t number, struct ww_acquire_ctx *x)
 {
-	struct ww_mutex *m = asked("ww_number_unlock", number, x, 0);
+	struct ww_mutex *m = ww_number_asked("ww_number_unlock", number, x, 0);
+	int r = m ? ww_has_(&x->own->handle, number) : 0;
 
-	if (!m)
-		return -EINVAL;
-	if (!ww_number_is_held(number, x) && !is_let_go(x->own)) {
+	if (r && !is_let_go(x->own, r))
 		ww_debug_fault("ww_number_unlock", "the context doesn't hold the mutex");
+	if (!m || (r && !is_let_go(x->own, r)))
 		return -EINVAL;
-	}
 	__atomic_store_n(&m->ctx, x, __ATOMIC_RELAXED);
 	return ww_mutex_unlock_checked(m);
 }
 
+/* In a loop nothing was done yet, likewise. */
 int ww_number_unlock_further_(uint32_t number, struct ww_acquire_ctx *x, int r)
 {
-	struct ww_mutex *m;
-
-	if (r < 0) /* in a loop, or wrong: then nothing was done yet */
+	if (r < 0)
 		return ww_number_unlock(number, x);
-	m = asked("ww_number_unlock", number, x, r);
 	x->acquired--;
-	ww_mutex_unlock_further_(m, x, r);
-	return 0;
+	return ww_release_on(x->own, r);
 }
 
 void ww_number_unlock_all(struct ww_acquire_ctx *x)
@@ -193,7 +180,7 @@ void ww_number_unlock_all(struct ww_acquire_ctx *x)
 		ww_acquire_unlock_all(x);
 		return;
 	}
-	for (uint32_t n = 0; s && ww_held_(&s->handle) && n < s->world->locks; n++)
+	for (uint32_t n = 0; s && ww_held_(&s->handle) && n < s->pool->locks; n++)
 		if (ww_number_is_held(n, x))
 			ww_number_unlock(n, x);
 }
@@ -203,38 +190,32 @@ void ww_number_unlock_all(struct ww_acquire_ctx *x)
 int ww_number_lock_alone(uint32_t number, struct ww_class *c, const struct timespec *until, struct ww_seat **by)
 {
 	struct ww_mutex *m;
-	struct ww_pool *p;
-	int r = pool_of(c, &p);
+	int r = mutex_in(c, number, &m);
 
-	if (r)
-		return r;
-	m = mutex_at(p, number);
-	if (!m) {
+	if (r == -EINVAL)
 		ww_debug_fault("ww_number_lock_alone", no_such);
-		return -EINVAL;
-	}
-	r = until ? ww_mutex_lock_until(m, NULL, until) : ww_mutex_lock_interruptible(m, NULL);
 	if (!r)
-		*by = m->alone;
+		r = ww_mutex_lock_until(m, NULL, until);
+	if (!r)
+		*by = seat_of(m);
 	return r;
 }
 
 int ww_number_trylock_alone(uint32_t number, struct ww_class *c, struct ww_seat **by)
 {
-	struct ww_pool *p;
-	struct ww_mutex *m = pool_of(c, &p) ? NULL : mutex_at(p, number);
+	struct ww_mutex *m;
+	int r = !mutex_in(c, number, &m) && ww_mutex_trylock(m, NULL);
 
-	if (!m || !ww_mutex_trylock(m, NULL))
-		return 0;
-	*by = m->alone;
-	return 1;
+	if (r)
+		*by = seat_of(m);
+	return r;
 }
 
 void ww_number_unlock_alone(uint32_t number, struct ww_seat *by)
 {
 	struct ww_mutex *m = mutex_at(by->pool, number);
 
-	if (!m || __atomic_load_n(&m->alone, __ATOMIC_RELAXED) != by)
+	if (!m || seat_of(m) != by)
 		end("ww_number_unlock_alone", "nobody holds the mutex so");
 	ww_mutex_unlock(m);
 }

@@ -8,7 +8,8 @@ import threading
 sys.path.insert(0, os.path.join(os.path.dirname(os.path.abspath(__file__)), "../python"))  # where it isn't installed
 import ww
 
-accounts = ww.Class(ww.WOUND_WAIT, 16, 4, *sys.argv[1:])
+LIBRARY = sys.argv[1] if sys.argv[1:] else None  # the installed one
+accounts = ww.Class(ww.WOUND_WAIT, library=LIBRARY)
 
 
 class Account:

@@ -1,5 +1,5 @@
-# find_package(ww) makes these targets: ww::ww (libww.so), ww::ww_static (libww.a), and of the library that tells of wrong
-# calls ww::ww_debug and ww::ww_debug_static, which define WW_DEBUG.
+# find_package(ww) makes these targets: ww::ww (libww.so), ww::ww_static (libww.a), and of the library that reports
+# misuse ww::ww_debug and ww::ww_debug_static, which define WW_DEBUG.
 include(CMakeFindDependencyMacro)
 set(THREADS_PREFER_PTHREAD_FLAG ON)
 find_dependency(Threads)

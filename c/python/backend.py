@@ -35,7 +35,7 @@ def pack(folder, library, platform, more=()):
     """Writes the wheel of this library into the folder; its name."""
     number, tag = version(), f"py3-none-{platform}"
     info = f"{NAME}-{number}.dist-info"
-    metadata = f"Metadata-Version: 2.1\nName: {NAME}\nVersion: {number}\nSummary: proved wound/wait locks\nRequires-Python: >=3.9\n"
+    metadata = f"Metadata-Version: 2.1\nName: {NAME}\nVersion: {number}\nSummary: wound/wait mutexes over a proved core\nRequires-Python: >=3.9\n"
     modules = sorted(glob.glob(f"{C}/python/ww/*.py"))
     files = {f"ww/{os.path.basename(it)}": read(it) for it in modules}
     files |= {

@@ -5,7 +5,7 @@
  */
 #include "test.h"
 
-enum { THREADS = 4, LOCKS = 8 };
+enum { THREADS = 4, LOCKS = 8, NONE = 65 }; /* no world has fewer locks */
 
 static ww_handle handles[THREADS];
 static volatile unsigned long counters[LOCKS];
@@ -131,7 +131,7 @@ static void *work(void *arg)
 	for (unsigned long i = 0; i < times; i++) {
 		unsigned drawn = next(&x), n = (drawn >> 8) % 10;
 
-		any(&m, drawn % 16, n == 9 ? 255 : n, drawn >> 12 & 1);
+		any(&m, drawn % 16, n == 9 ? 255 : n == 8 ? NONE : n, drawn >> 12 & 1);
 		for (n = 0; n < LOCKS; n++)
 			if (m.own[n]) {
 				counters[n]++;
@@ -166,7 +166,8 @@ int main(int count, char **words)
 		MUST(ww_open_(kind, WW_MAX_LOCKS + 1, 9, handles, 4) == -EINVAL && ww_open_(kind, 8, 9, handles, 0) == -EINVAL);
 		MUST(ww_open_(kind, 8, 9, handles, 4096) == -EINVAL);
 		MUST(ww_open_(kind, 8, (uint64_t)1 << 52, handles, 4) == -EINVAL);
-		MUST(!ww_open_(kind, 1, 1, &one, 1) && !ww_begin_(&one) && ww_close_(&one) == -EBUSY && !ww_end_(&one));
+		MUST(!ww_open_(kind, 1, 1, &one, 1) && !ww_begin_(&one) && ww_close_(&one) == -EBUSY);
+		MUST(ww_try_(&one, NONE) == -EINVAL && !ww_try_(&one, NONE - 1) && !ww_unlock_(&one, NONE - 1) && !ww_end_(&one));
 		MUST(ww_begin_(&one) == -ENOSPC && !ww_lock_(&one, 0, false));
 		ww_swap_(&one, &other);
 		empty_handles(&one);

@@ -269,8 +269,8 @@ def arm_model(events, sb, rf, mo, lse):
 
 # ---- the sources ----
 
-SOURCES = ["ww.c", "ww_pool.h", "ww_pool.c", "ww_context.c", "ww_mutex.h", "ww_mutex.c", "ww_number.h", "ww_number.c", "ww_inside.h",
-           "ww_debug.h", "ww_debug.c", "ww_debug_waits.c"]
+SOURCES = ["ww.c", "ww_pool.h", "ww_pool.c", "ww_crowd.c", "ww_context.c", "ww_mutex.h", "ww_mutex.c", "ww_loop.c", "ww_number.h", "ww_number.c",
+           "ww_inside.h", "ww_poll.c", "ww_debug.h", "ww_debug.c"]
 SHORT = {"RELAXED": "rlx", "ACQUIRE": "acq", "RELEASE": "rel", "ACQ_REL": "ar", "SEQ_CST": "sc"}
 
 # Of each field, in each function that has it, in the order of the text: its accesses, and what orders them. Of a
@@ -278,100 +278,121 @@ SHORT = {"RELAXED": "rlx", "ACQUIRE": "acq", "RELEASE": "rel", "ACQ_REL": "ar", 
 TABLE = {
     # A token that was given is taken away before its thread looks at the state again, which the giver changed before.
     "token": {
-        "park": "load sc, compare_exchange sc/sc, load sc, store sc", "ww_unpark": "exchange sc", "ww_is_parked": "load sc",
+        "park": "load sc, compare_exchange sc/sc, load sc, exchange sc, store sc", "ww_unpark": "load sc, compare_exchange sc/sc",
+        "ww_is_parked": "load sc", "arm": "compare_exchange sc/sc, store sc", "disarm": "compare_exchange sc/sc",
     },
+    # Tasks that were woken, and what they wrote before.
+    "first_": {"ww_event_wake": "load rlx, compare_exchange rel/rlx", "ww_event_take": "exchange acq"},
+    # What a waker is, as long as the token says that it is to be called.
+    "wake": {"arm": "store rlx", "ww_unpark": "load rlx"},
+    "loop": {"arm": "store rlx", "ww_unpark": "load rlx"},
+    "task": {"arm": "store rlx", "ww_unpark": "load rlx"},
     # Said before the waiter is woken, which looks at it after it took its token away.
     "asked": {"is_due": "load sc"},
-    "cancelled": {"of_seat": "store rlx", "ww_acquire_cancel": "exchange sc", "lock_on": "exchange sc"},
+    "cancelled": {"of_seat": "store rlx", "ww_acquire_cancel": "exchange sc", "ww_lock_ends": "exchange sc"},
     # A canceller may look while a context begins or ends: a cancel that isn't ordered after ww_acquire_init is no right call.
     "own": {"of_seat": "store rlx", "no_more": "store rlx", "ww_acquire_cancel": "load rlx"},
     # A mutex's holder alone writes these, and the lock orders holders; whoever else looks has only a glance, or takes the lock.
     "ctx": {
         "ww_mutex_is_held_by": "load rlx", "WW_HOLDS_": "store rlx", "WW_HOLDS_NO_MORE_": "store rlx",
         "ww_mutex_unlock": "load rlx", "holder": "load rlx", "own": "store rlx", "release_all": "store rlx",
-        "unlock": "store rlx", "answer": "load rlx, store rlx", "ww_number_unlock": "store rlx",
+        "ww_mutex_unlock_checked": "store rlx", "ww_number_told": "load rlx, store rlx", "ww_number_unlock": "store rlx",
     },
     # By it others look who uses the seat, which was said before.
-    "alone": {
-        "ww_mutex_is_held_by": "load acq", "ww_mutex_is_locked": "load rlx", "own": "store rel", "unlock_alone": "store rlx",
-        "ww_number_unlock_alone": "load rlx",
-    },
+    "alone": {"seat_of": "load acq", "own": "store rel", "unlock_alone": "store rlx"},
+    # By what lies there before, the words that a list fetches ahead are of no use, and nothing else.
+    "number": {"ww_number_at_first": "store rlx", "fetch_ahead": "load rlx"},
+    "is_large": {"make_pool": "store rlx", "ww_take_number": "store rlx", "ww_mutex_lock_all": "load rlx"},
+    # It lies in the place of that, and others see that it is even.
+    "older": {"WW_HOLDS_": "store rlx", "enlist": "store rlx"},
+    "link": {"unlist": "store rlx"},
     "user": {"is_user": "store rlx", "ww_mutex_is_held_by": "load rlx"},
     # A waiter says first that it holds the mutex, and then that it waits no more; who destroys looks the other way round.
-    # In a forked child those that waited aren't there; its number goes with `pool`.
     # Of one that is known by its number also that this is taken, which nobody asks for before.
     "waiters": {
-        "number_anew": "store rlx", "end_mutex": "load sc", "lock_on": "fetch_add sc, fetch_sub sc",
-        "seek_and_lock": "fetch_add sc, fetch_sub sc", "ww_number_put": "load sc, compare_exchange sc/sc",
+        "ww_mutex_end_": "load sc", "ww_begin_wait": "fetch_add sc", "ww_end_wait": "fetch_sub sc",
+        "lock_by_any": "fetch_add sc, fetch_sub sc", "ww_number_put": "load sc, compare_exchange sc/sc",
         "ww_number_take": "fetch_add rlx",
     },
-    # Before a mutex has a pool; then its holder writes another thing there, by which its pool is seen too.
-    "class_": {"class_of": "load acq"},
     # All of an open class; and of a mutex the number, which its first lock may just have given it.
     "pool": {
-        "pool_of": "load acq, load acq", "pool_at": "load acq", "open_now": "store rel", "number_now": "store rel",
-        "ww_class_free": "store rel", "begin": "load acq", "ww_acquire_init": "load acq", "ww_mutex_lock": "load acq",
-        "ww_mutex_trylock": "load acq", "end_mutex": "store rel", "ww_number_take": "store rel",
+        "pool_of": "load acq, load acq", "pool_at": "load acq", "open_now": "store rel", "ww_number_at_first": "store rel",
+        "ww_class_free": "store rel", "ww_class_limit": "load rlx", "ww_class_crowd": "load rlx", "ww_acquire_init": "load acq", "ww_acquire_init_checked": "load acq", "ww_acquire_init_poll": "load acq", "ww_mutex_lock": "load acq",
+        "ww_mutex_trylock": "load acq", "ww_mutex_end_": "store rel", "ww_number_take": "store rel",
     },
     # The mutexes of numbers, which are empty then.
-    "numbered": {"mutex_at": "load acq", "mutexes_of": "load acq, compare_exchange ar/acq"},
+    "numbered": {"mutex_at": "load acq", "mutexes_of": "store rel"},
     # What the user of a seat wrote goes with busy: of a kept one to its keeper, of a loose one to whoever claims it, of both to
     # whoever frees the class. A loose one is given before its giver looks for seekers.
     "busy": {
-        "seat_at_hand": "load acq, store rlx", "give_seat": "store rel", "give_kept": "exchange ar",
+        "use_kept": "load acq, store rlx", "give_seat": "store rel", "give_kept": "exchange ar",
         "let_go": "exchange ar, store rlx", "keep": "store rlx", "claim": "load sc, compare_exchange sc/sc",
-        "ww_give_seat": "store sc, load rlx", "is_idle": "load acq",
+        "ww_give_seat": "store sc, load rlx", "is_idle": "load acq", "call_another": "load sc", "has_another": "load rlx", "next_look": "load rlx",
     },
+    # Hints: whoever sees them late waits for a permit without need, for a while, or begins without one.
+    "at_hand": {
+        "seat_at_hand": "load rlx", "ww_other_seat": "load rlx", "ww_seat_to_begin": "load rlx", "is_crowded": "load rlx", "be": "store rlx", "set_id": "store rlx",
+    },
+    "asleep": {"ww_sleeps": "add_fetch rlx", "ww_sleeps_no_more": "sub_fetch rlx", "may_harm": "load rlx"},
+    "backed_off": {"ww_backs_off": "add_fetch rlx"},
+    "harmless": {"ww_crowd_open": "store rlx", "many_sleep": "load rlx", "disperse": "store rlx"},
+    "awaited": {"ww_crowd_open": "store rlx", "ww_class_stats": "load rlx"},
+    # Under the crowd's lock; without it the futex reads it.
+    "calls": {"call_first": "store rlx"},
     # To all threads but the one that it names, or named, it is the same. Who may be the next keeper is a glance before the lock.
     "keeper": {"give_seat": "load rlx", "let_go": "store rlx", "keep": "store rlx"},
     "unkept": {"put_back": "store rlx", "keep": "store rlx", "kept_seat": "load rlx"},
-    # Written before others see the class; where it is freed under the queue's lock, and whoever serves late sees that.
+    # Written before others see the class; whoever serves late finds nobody in the queue, or somebody who saw that.
     "id": {"set_id": "store rlx", "serve": "load rlx"},
     # Whoever gives a loose seat looks for seekers then; a seeker has said so before it looks for a seat.
-    "seekers": {"has_seekers": "load sc", "take_out": "fetch_sub sc", "queue_up": "fetch_add sc"},
-    "top": {
-        "pop": "load sc, compare_exchange sc/sc", "changes": "load sc",
-        "ww_give_number": "load rlx, compare_exchange sc/rlx", "ww_free_numbers": "load sc",
-    },
-    # Written before its number is given, read before it is taken: top orders both, and counts its changes.
-    "below": {"pop": "load rlx", "ww_give_number": "store rlx", "ww_free_numbers": "load rlx"},
-    # A number that nobody had has no history.
-    "fresh": {
-        "take_fresh": "load rlx, compare_exchange rlx/rlx", "ww_free_numbers": "load rlx",
-    },
+    "seekers": {"has_seekers": "load sc", "take_out": "fetch_sub sc", "ww_queue_up": "fetch_add sc", "ww_debug_seen": "load rlx, load rlx"},
+    # Of tasks: whoever gives a seat looks then whether somebody was called for it; who was called says first that it looks.
+    "called": {"is_not_called": "store sc", "call_for": "store sc", "ww_give_seat": "load sc"},
+    "owed": {"take_out": "store sc", "ww_look_again": "store sc", "is_barred": "load sc"},
+    # Changed under the lock of numbers; whoever frees a class at 0 sees all that those wrote who had one.
+    "taken": {"ww_take_number": "fetch_add rlx", "ww_give_number": "fetch_sub rel", "taken_numbers": "load acq"},
     # The seat that is handed over, and all that goes with it.
-    "served": {"serve": "store rel", "ww_seek_seat": "load acq"},
+    "served_": {"serve": "store rel", "ww_seek_seat": "load acq"},
     # Counts, which order nothing; and glances of the debug library. What a waiter in its list did before is ordered by its lock.
     "threads": {"my_thread": "add_fetch rlx"},
-    "sought": {"make_pool": "store rlx", "ww_class_stats": "load rlx"},
+    "sought": {"make_pool": "store rlx, store rlx", "ww_class_stats": "load rlx, load rlx"},
     "waits": {"ww_class_stats": "load rlx"},
     "back_offs": {"ww_class_stats": "load rlx"},
-    "counted": {"count": "store rlx, load rlx"},
-    "faults": {"ww_debug_faults": "load rlx", "fault_in": "fetch_add rlx", "tell_what_was_left": "fetch_add rlx"},
-    "context": {"tell_what_was_left": "load rlx, store rlx", "ww_debug_begun": "store rlx", "ww_debug_ended": "store rlx"},
-    "dangers": {"ww_debug_dangers": "load rlx", "ww_debug_danger": "fetch_add rlx", "ww_debug_warn": "fetch_add rlx"},
-    "told_of": {"ww_debug_is_new": "compare_exchange rlx/rlx"},
-    "patience": {"ww_debug_patience": "store rlx", "ww_debug_sleeps": "load rlx"},
-    "stamps": {"ww_debug_begun": "add_fetch rlx"},
-    "stamp": {
-        "use": "load rlx", "unuse_if_free": "load rlx", "ww_debug_own_seat": "load rlx", "ww_debug_begun": "store rlx",
-        "ww_debug_ended": "store rlx", "look": "load rlx", "write_uses": "load rlx", "oldest": "load rlx, load rlx",
+    "is_told": {"make_pool": "store rlx", "next_look": "exchange rlx"},
+    "counted": {"count": "store rlx, load rlx", "tell": "fetch_add rlx"},
+    "faults": {"ww_debug_faults": "load rlx"},
+    "dangers": {"ww_debug_dangers": "load rlx"},
+    "is_polled": {
+        "user_of": "load rlx", "ww_debug_is_polled": "store rlx", "ww_debug_begun": "store rlx", "ww_debug_ended": "store rlx",
     },
-    "wants": {"ww_debug_waits": "store rlx", "look": "load rlx"},
+    "told_of": {"is_new": "compare_exchange rlx/rlx"},
+    "patience": {"ww_debug_patience": "store rlx", "ww_debug_waits": "load rlx", "ww_debug_sleeps": "load rlx"},
+    "stamps": {"ww_debug_begun": "add_fetch rlx"},
+    "turns": {"ww_debug_waits": "add_fetch rlx"},
+    "context": {"has": "load rlx", "ww_debug_begun": "store rlx, store rlx", "ww_debug_ended": "store rlx"},
+    "stamp": {
+        "use": "load rlx", "unuse_if_free": "load rlx", "has": "load rlx", "ww_debug_begun": "store rlx", "ww_debug_ended": "store rlx",
+        "is_used": "load rlx", "ww_debug_leak": "load rlx, load rlx", "print_seat": "load rlx",
+    },
+    "wants": {
+        "has": "load rlx", "ww_debug_waits": "store rlx", "next_wait": "load rlx", "text_of_deadlock": "load rlx",
+        "look_for_long_wait": "load rlx", "print_seat": "load rlx",
+    },
+    "tid": {"ww_debug_waits": "store rlx", "text_of_deadlock": "load rlx, load rlx", "print_seat": "load rlx"},
+    "turn": {"ww_debug_waits": "store rlx", "deadlock": "load rlx"},
     "held": {
-        "unuse_if_free": "load rlx", "ww_debug_own_seat": "load rlx", "ww_debug_begun": "store rlx",
+        "unuse_if_free": "load rlx", "has": "load rlx", "ww_debug_begun": "store rlx",
         "ww_debug_acquired": "store rlx, load rlx", "ww_debug_released": "store rlx, load rlx",
     },
-    "file": {"place_of": "load rlx", "set_began": "store rlx"},
-    "line": {"place_of": "load rlx", "set_began": "store rlx"},
+    "file": {"place_of": "load rlx", "set_place": "store rlx"},
+    "line": {"place_of": "load rlx", "set_place": "store rlx"},
     "seat": {
-        "ww_debug_acquired": "store rlx", "ww_debug_released": "load rlx, store rlx", "holder_of": "load rlx",
-        "look_for_long_wait": "load rlx",
+        "ww_debug_acquired": "store rlx", "ww_debug_released": "load rlx, store rlx", "look_for_long_wait": "load rlx",
+        "ww_debug_seen": "load rlx",
     },
     "thread": {
-        "use": "store rlx", "unuse_if_free": "store rlx", "ww_debug_own_seat": "load rlx", "ww_debug_ended": "store rlx",
-        "ww_debug_acquired": "store rlx", "ww_debug_released": "load rlx, store rlx", "awaited": "load rlx, load rlx", "oldest": "load rlx",
-        "used_seats": "load rlx", "write_uses": "load rlx",
+        "use": "store rlx", "unuse_if_free": "store rlx", "has": "load rlx", "ww_debug_ended": "store rlx",
+        "ww_debug_acquired": "store rlx", "ww_debug_released": "load rlx, store rlx", "next_wait": "load rlx", "is_used": "load rlx",
     },
 }
 
@@ -382,55 +403,97 @@ TABLE = {
 LOCKS = {
     "opening": ("pthread_mutex_lock(&opening)", "pening is locked"),
     "queue": ("pthread_mutex_lock(&p->queue)", "queue is locked"),
+    "numbers": ("pthread_mutex_lock(&p->numbers)", "numbers are locked"),
+    "crowd": ("pthread_mutex_lock(&crowd->lock)", "rowd is locked"),
 }
 PLAIN = {
-    "c->mutexes": "opening: make_pool",
-    "c->contexts": "opening: kept_of make_pool",
+    # Said before the class is opened first, which the caller orders.
+    "c->mutexes": "by: ww_class_limit",
+    "c->contexts": "by: ww_class_limit",
     "c->pool": "opening: ",
     "p->next": "opening: in_child keep_memory memory_of_pool",
     # Of seats that nobody keeps; make_pool gives them back before others see the class.
     "s->next": "opening: ",
-    "p->unkept": "opening: make_pool",
-    # Of seekers; memory_of_pool has an empty queue. One that was served, by another or by itself, reads its own.
-    "p->first": "queue: ",
-    "p->end": "queue: memory_of_pool",
-    "me->seat": "queue: ww_seek_seat",
-    "me->served": "queue: ",
-    "first->seat": "queue: ",
-    # Before others see the class, by its pool, or the world.
-    "p->world": "by: make_pool",
+    "p->unkept": "opening: open_world",
+    # Of seekers; memory_of_pool has empty queues. One that was served, by another or by itself, reads its own.
+    "of->first": "queue: ",
+    "of->end": "queue: ",
+    "loose->end": "by: memory_of_pool",
+    "tasks->end": "by: memory_of_pool",
+    "me->seat_": "queue: seek seek_on ww_seek_seat",
+    "me->served_": "queue: ",
+    "me->waker_": "queue: ",
+    "first->seat_": "queue: ",
+    "it->served_": "queue: ",
+    "of->called": "queue: ",
+    "it->waker_": "queue: ",
+    "waker_->wake": "queue: ",
+    # Before others see the class; and a seek's before it is in the queue.
+    "of->pool": "by: ",
+    "loose->pool": "by: memory_of_pool",
+    "tasks->pool": "by: memory_of_pool",
+    "of->seats": "by: ",
+    "loose->seats": "by: open_world",
+    "tasks->seats": "by: open_world",
+    "of->count": "by: ",
+    "loose->count": "by: make_pool",
+    "tasks->count": "by: make_pool",
+    "me->of_": "by: ",
+    "of_->pool": "by: ",
+    "pool->id": "by: ",
+    "pool->gone": "by: ",
+    # Of a crowd. Before others see the class; in a forked child nobody else is there.
+    "crowd->asleep": "crowd: in_child",
+    "crowd->resting": "crowd: ww_crowd_open",
+    "crowd->since": "crowd: ww_crowd_open",
+    "crowd->term": "crowd: ww_crowd_open",
+    "crowd->over": "crowd: ww_crowd_open",
+    "crowd->off": "crowd: ww_crowd_open",
+    "it->is_out": "crowd: ",
+    "me->is_out": "crowd: ",
+    "me->calls": "crowd: ",
+    "first->calls": "crowd: ",
+    "crowd->first": "crowd: ",
+    "crowd->last": "crowd: ",
+    "crowd->ends": "crowd: ww_crowd_open",
+    "crowd->slow": "crowd: ww_crowd_open",
+    "crowd->permits": "by: ww_crowd_open",
+    # Before others see the class, by its pool.
+    "p->seats": "by: make_pool",
     "p->class_": "by: make_pool",
     "pool->class_": "by: ",
-    "p->contexts": "by: make_pool",
-    "s->pool": "by: make_pool",
-    "s->world": "by: lay_out",
-    # That, and in a forked child, where nobody else is. Whoever has a seat of the class reads `id`, so it isn't freed.
-    "p->id": "by: in_child",
+    "s->pool": "by: open_world",
+    "s->of": "by: open_world",
+    # Whoever has a seat of the class reads `id`, so it isn't freed.
+    "p->id": "by: ",
+    "of->id": "by: ",
+    "loose->id": "by: set_id",
+    "tasks->id": "by: set_id",
     "p->copy": "by: make_pool",
     "p->kept": "by: make_pool",
-    "s->keeper": "by: make_pool",
-    "p->mutexes": "by: in_child make_pool",
+    "s->keeper": "by: open_world",
+    "p->mutexes": "by: make_pool",
     "p->gone": "by: in_child",
     "p->numbered": "by: free_pool",
     # By whoever holds the mutex, which its lock orders, or makes or destroys it.
-    "m->older": "by: own unlink_from was_prelocked",
-    "m->newer": "by: unlink_from",
-    "m->class_": "by: end_mutex ww_mutex_destroy",
-    "m->alone": "by: ",
+    "m->older": "by: ",
+    # In that place, too: read where it has no number, before whoever gives it one, under the lock of opening, or by itself.
+    "m->class_": "by: ww_mutex_destroy ww_mutex_end_",
     # By nobody, so by __atomic_* alone; but for number, which is given before `pool` is stored.
     "m->pool": "by: ",
-    "m->number": "by: ",
+    "m->number": "by: ww_number_take",
     "x->own": "by: ",
     # By the context's own thread, and of a class before others see it, or in a forked child.
-    "x->pool": "by: close_or_open no_more of_seat",
-    "of->fresh": "by: set_out",
-    "of->below": "by: set_out",
-    "stacks->top": "by: set_out",
-    "numbers->below": "by: ",
+    "x->pool": "by: begin_core close_or_open goes_by_hand may_be_older no_more of_seat",
+    # By the user of a seat, and by its keeper, or whoever frees the class, once nobody uses it: all that goes with `busy`.
+    "s->ages": "by: has_met may_be_older stop_rest unlock_alone_on ww_acquire_fini ww_acquire_fini_checked",
+    "p->fresh": "numbers: make_pool",
+    "p->free": "numbers: make_pool",
+    "p->below": "numbers: keep_memory make_pool",
 }
 # What a thread has for itself, under names of fields that others share; and names under which others stand for the same.
-OWN = ["stop", "front", "f", "ww_mine", "kept", "counts", "s->seat", "s->id", "last"]
-SAME = {"lock": "m", "owed": "m", "older": "m", "newer": "m", "ctx": "x", "victim": "s", "by": "s", "own": "s", "seat": "s", "seats": "s"}
+OWN = ["permit", "stop", "waker", "front", "f", "ww_mine", "kept", "counts", "s->seat", "s->id", "last"]
+SAME = {"lock": "m", "owed": "m", "older": "m", "ctx": "x", "victim": "s", "by": "s", "own": "s", "seat": "s", "seats": "s"}
 
 
 def arguments(text):
@@ -697,16 +760,12 @@ def orphan(ends, leaves):
     )
 
 
-def scan(looks):
-    """Whoever seeks a number looks at two stacks, and at the first again; meanwhile one comes to the first and goes from the
-    second. Bad: it saw none, and that nothing changed."""
+def given(gives):
+    """A number is put back, and the class is freed."""
     return (
-        [
-            [X("g", "first", put(1), "sc"), X("t", "second", swap(1, 2), "sc")],
-            [R("a", "first", looks), R("b", "second", looks), R("c", "first", looks)],
-        ],
-        lambda r, f: r[1]["a"] == 0 and r[1]["b"] == 2 and r[1]["c"] == 0,
-        {"second": 1},
+        [[W("below", 7), X("t", "taken", add(-1), gives)], [R("t", "taken", "acq"), IF("t", 0, R("b", "below"))]],
+        lambda r, f: r[1].get("b") == 0,
+        {"taken": 1},
     )
 
 
@@ -722,7 +781,7 @@ def wrong():
     yield "a kept seat is given relaxed", kept("rlx", "acq")
     yield "a keeper looks relaxed", kept("ar", "rlx")
     yield "whoever comes second acquires nothing", orphan("rel", "rel")
-    yield "stacks are looked at relaxed", scan("rlx")
+    yield "a number is put back relaxed", given("rlx")
 
 
 def ours():
@@ -750,12 +809,7 @@ def ours():
         [X("t", "other", put(0), "ar"), W("there", 2)],
         [R("b", "busy", "acq"), R("o", "other", "acq"), IF("b", 0, IF("o", 0, R("h", "handle"), W("handle", 9)))],
     ], lambda r, f: r[2].get("h") == 0, {"busy": 1, "other": 1}
-    yield "a number's below is that of its top, over a second push", [
-        [W("below1", 7, "rlx"), X("a", "top", swap(0, 1), "sc")],
-        [R("t", "top", "rlx"), IF("t", 1, W("below2", 8, "rlx"), X("a", "top", swap(1, 2), "sc"))],
-        [R("t", "top", "sc"), IF("t", 2, R("b", "below2", "rlx"), R("c", "below1", "rlx"))],
-    ], lambda r, f: r[2]["t"] == 2 and (r[2]["b"] == 0 or r[2]["c"] == 0)
-    yield "no number is free, and no stack changed", *scan("sc")
+    yield "a class is freed once all numbers are put back", *given("rel")
     yield "a seat of a world goes from user to user", [
         [W("handle", 1), X("p", "taken", put(0), "rel")],
         [X("t", "taken", put(1), "acq"), IF("t", 0, R("h", "handle"))],
@@ -769,9 +823,14 @@ def ours():
         [R("b", "busy", "acq"), IF("b", 0, W("user", 2, "rlx"), W("alone", 1, "rel"))],
     ], lambda r, f: r[0].get("u") == 1, {"busy": 1}
     yield "a mutex gets its number at its first lock, by another thread", [
-        [W("number", 5), W("pool", 1, "rel"), X("l", "lock", swap(0, 2), "sc"), W("newer", 3)],
+        [W("number", 5), W("pool", 1, "rel"), X("l", "lock", swap(0, 2), "sc")],
         [R("p", "pool", "acq"), IF("p", 1, R("n", "number"), X("l", "lock", swap(0, 2), "sc"))],
     ], lambda r, f: r[1].get("n") == 0
+    yield "whoever gives a mutex its number locks it, and another comes to give it one", [
+        [X("o", "opening", swap(0, 1), "ar"),
+         IF("o", 0, W("pool", 1, "rel"), X("u", "opening", put(0), "ar"), X("l", "lock", swap(0, 2), "sc"), W("class", 3, "rlx"))],
+        [X("o", "opening", swap(0, 1), "ar"), IF("o", 0, R("p", "pool", "acq"), IF("p", 0, R("c", "class")), X("u", "opening", put(0), "ar"))],
+    ], lambda r, f: r[1].get("c") == 3, {"class": 7}
     yield "a class is freed, and opened anew, behind its last context", [
         [R("i", "id"), W("busy", 0, "sc"), X("l", "queue", put(1), "ar"), R("j", "id", "rlx")],
         [R("b", "busy", "acq"), IF("b", 0, W("id", 0, "rlx"), X("l", "queue", put(2), "ar"), W("id", 6, "rlx"))],
@@ -790,6 +849,16 @@ def ours():
         [R("l", "lock", "sc"), IF("l", 2, W("ctx", 2, "rlx"), R("d", "data"))],
     ], lambda r, f: r[1]["l"] == 2 and (f["ctx"] == 0 or r[1]["d"] == 0), {"ctx": 1, "lock": 1}
     yield "a token", *token("sc")
+    yield "a waker that is called is that of the poll which waits", [
+        [W("waker", 1, "rlx"), X("a", "token", swap(0, 3), "sc"), X("d", "token", swap(3, 0), "sc"),
+         IF("d", 3, W("waker", 2, "rlx"), X("b", "token", swap(0, 4), "sc"))],
+        [R("t", "token", "sc"), IF("t", 3, R("w", "waker", "rlx"), X("x", "token", swap(3, 1), "sc"))],
+    ], lambda r, f: r[1].get("x") == 3 and r[1].get("w") != 1
+    yield "tasks that were woken are taken with what was written before", [
+        [W("held", 1), X("f", "first", swap(0, 1), "rel")],
+        [X("g", "first", swap(1, 2), "rel")],
+        [X("t", "first", put(0), "acq"), IF("t", 2, R("h", "held"))],
+    ], lambda r, f: r[2].get("h") == 0
     yield "a cancel, against the context's end", [
         [W("own", 0, "rlx"), W("cancelled", 0, "rlx")],
         [R("o", "own", "rlx"), IF("o", 5, X("c", "cancelled", put(1), "sc"), X("t", "token", put(1), "sc"))],

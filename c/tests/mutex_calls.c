@@ -42,11 +42,15 @@ static void answers(struct ww_class *c)
 	/* No context and no mutex any more. */
 	MUST(ww_mutex_lock(&a, &x) == -EINVAL && ww_mutex_lock_interruptible(&a, &x) == -EINVAL);
 	MUST(ww_mutex_unlock_checked(&a) == -EINVAL);
-	/* Memory that was something else before. */
+	/* Memory that was something else before: what the context says of it in a mutex isn't taken for a seat. */
 	memset(&x, 0xff, sizeof x);
+	ww_mutex_init(&a, c);
 	ww_acquire_init(&x, c);
-	MUST(!ww_is_contended(&x) && !x.acquired);
+	MUST(!ww_is_contended(&x) && !x.acquired && !ww_mutex_lock(&a, &x));
+	ww_mutex_unlock(&a);
 	ww_acquire_fini(&x);
+	MUST(!ww_mutex_is_locked(&a) && !ww_mutex_is_held_by(&a, NULL) && ww_mutex_unlock_checked(&a) == -EINVAL);
+	MUST(!ww_mutex_destroy(&a));
 }
 
 /* Without a context a thread holds several at once, also while it has a context. */

@@ -19,7 +19,7 @@ static pthread_barrier_t all_hold;
 /* Where calls were made, and by which threads: as the child knows it. */
 static struct seen {
 	int lines[4];
-	long threads[2];
+	long threads[3];
 } *seen;
 #define AT(k, call) (__atomic_store_n(&seen->lines[k], __LINE__, __ATOMIC_RELAXED), (call))
 
@@ -29,6 +29,20 @@ static void awaits_dangers(unsigned long count)
 {
 	while (ww_debug_dangers() < count)
 		usleep(1000);
+}
+
+/* ---- time ---- */
+
+/* Linked in place of the system's clock, which is ahead of that by so much; behind it, a time that a thread sleeps until has come already. */
+static time_t ahead;
+int __real_clock_gettime(clockid_t clock, struct timespec *at);
+int __wrap_clock_gettime(clockid_t clock, struct timespec *at);
+int __wrap_clock_gettime(clockid_t clock, struct timespec *at)
+{
+	int r = __real_clock_gettime(clock, at);
+
+	at->tv_sec += __atomic_load_n(&ahead, __ATOMIC_RELAXED);
+	return r;
 }
 
 /* ---- dangers ---- */
@@ -108,13 +122,16 @@ static void *waits_for_a(void *arg)
 	return NULL;
 }
 
-/* A thread sleeps because no context is left. */
-static void awaits_seeker(void)
+/* So many threads sleep because no context is left. */
+static void awaits_seekers(unsigned count)
 {
+	char words[64];
+
+	sprintf(words, "waits for a context: %u\n", count);
 	for (bool is_there = false; !is_there;) {
 		char *text = printed();
 
-		is_there = strstr(text, "threads that wait for a context: 1\n") && strstr(text, " waits for a context at ");
+		is_there = strstr(text, words);
 		free(text);
 		usleep(1000);
 	}
@@ -144,7 +161,7 @@ static void wait_for_context(void)
 		ww_acquire_init(&x, &c);
 		ww_mutex_lock(&b, NULL);
 		thread = begin_thread(waits_for_context, (void *)holds);
-		awaits_seeker();
+		awaits_seekers(1);
 		ww_mutex_unlock(&b);
 		ww_acquire_fini(&x);
 		end_thread(thread);
@@ -215,20 +232,32 @@ static void *for_itself(void *second)
 	return NULL;
 }
 
-static void deadlocked(void *(*work)(void *), unsigned long dangers)
+/* Around a ring: each holds its mutex without a context, and asks for that of the next one. */
+static void *in_a_ring(void *place)
+{
+	static struct ww_mutex *const ring[] = { &a, &other, &b };
+	size_t k = (size_t)place;
+
+	is_thread(k);
+	AT(0, ww_mutex_lock(ring[k], NULL));
+	locks_at_last(ring[(k + 1) % 3], NULL);
+	return NULL;
+}
+
+static void deadlocked(unsigned threads, void *(*work)(void *), unsigned long dangers)
 {
 	ww_debug_patience(20);
-	MUST(!pthread_barrier_init(&all_hold, NULL, 2));
-	for (size_t k = 0; k < 2; k++)
+	MUST(!pthread_barrier_init(&all_hold, NULL, threads));
+	for (size_t k = 0; k < threads; k++)
 		MUST(!pthread_detach(begin_thread(work, (void *)k)));
 	awaits_dangers(dangers);
 }
 
-static void two_classes(void) { deadlocked(by_two_classes, 1); }
-static void two_without(void) { deadlocked(without, 2); }
-static void one_without(void) { deadlocked(by_context_and_without, 2); }
-static void itself(void) { deadlocked(for_itself, 2); }
-static void no_context_left(void) { deadlocked(without, 3); }
+static void two_classes(void) { deadlocked(2, by_two_classes, 1); }
+static void two_without(void) { deadlocked(2, without, 2); }
+static void one_without(void) { deadlocked(2, by_context_and_without, 2); }
+static void itself(void) { deadlocked(2, for_itself, 2); }
+static void three(void) { deadlocked(3, in_a_ring, 2); }
 
 /* A thread waits for one of them, and isn't one. */
 static void behind(void)
@@ -276,23 +305,11 @@ static void one_is_awake(void)
 	MUST(!pthread_barrier_init(&all_hold, NULL, 1));
 	ww_acquire_init(&x, &c);
 	thread = begin_thread(without, NULL);
-	awaits_seeker();
+	awaits_seekers(1);
 	usleep(200000);
 	ww_acquire_fini(&x);
 	end_thread(thread);
 	MUST(ww_debug_dangers() == 2);
-}
-
-/* Linked in place of the system's clock, which goes on by so much at once. */
-static time_t ahead;
-int __real_clock_gettime(clockid_t clock, struct timespec *at);
-int __wrap_clock_gettime(clockid_t clock, struct timespec *at);
-int __wrap_clock_gettime(clockid_t clock, struct timespec *at)
-{
-	int r = __real_clock_gettime(clock, at);
-
-	at->tv_sec += __atomic_load_n(&ahead, __ATOMIC_RELAXED);
-	return r;
 }
 
 static void *waits_long(void *for_context)
@@ -309,21 +326,48 @@ static void *waits_long(void *for_context)
 /* A context that holds a mutex is left, as by a throw: who waits for that, or for a context, says after ten seconds where it began. */
 static void waits_for_what_was_left(bool for_context)
 {
+	__atomic_store_n(&ahead, for_context ? -11 : 0, __ATOMIC_RELAXED);
 	ww_debug_patience(20);
 	AT(0, ww_acquire_init(&x, &c));
 	MUST(!ww_mutex_lock(&a, &x));
 	MUST(!pthread_detach(begin_thread(waits_long, for_context ? &x : NULL)));
 	if (for_context)
-		awaits_seeker();
+		awaits_seekers(1);
 	else
 		awaits_waiter(&a);
 	usleep(100000);
 	MUST(!ww_debug_dangers());
-	__atomic_store_n(&ahead, 11, __ATOMIC_RELAXED);
+	__atomic_store_n(&ahead, for_context ? 0 : 11, __ATOMIC_RELAXED);
 	awaits_dangers(1);
 }
 static void for_a_mutex(void) { waits_for_what_was_left(false); }
 static void for_a_context(void) { waits_for_what_was_left(true); }
+
+/* Each of two threads waits for a context, and has one: no cycle of mutexes, so it is told by its time alone. */
+static void no_context_left(void)
+{
+	__atomic_store_n(&ahead, -11, __ATOMIC_RELAXED);
+	deadlocked(2, without, 2);
+	__atomic_store_n(&ahead, 0, __ATOMIC_RELAXED);
+	awaits_dangers(3);
+}
+
+/* One of two threads gets the context that both wait for: the other one says so only where it isn't given for ten seconds more. */
+static void contexts_come_back(void)
+{
+	__atomic_store_n(&ahead, -22, __ATOMIC_RELAXED);
+	ww_acquire_init(&x, &c);
+	for (unsigned k = 0; k < 2; k++)
+		MUST(!pthread_detach(begin_thread(waits_long, &x)));
+	awaits_seekers(2);
+	ww_acquire_fini(&x);
+	awaits_seekers(1);
+	__atomic_store_n(&ahead, -11, __ATOMIC_RELAXED);
+	usleep(200000);
+	MUST(!ww_debug_dangers());
+	__atomic_store_n(&ahead, 0, __ATOMIC_RELAXED);
+	awaits_dangers(1);
+}
 
 /* A context is left by a return, and the next one lies in its memory. */
 static void in_the_same_memory(void)
@@ -442,23 +486,33 @@ static void in_child(uint32_t contexts, uint32_t others, void (*what)(void))
 
 static int by_words(const void *one, const void *two) { return strcmp(*(char *const *)one, *(char *const *)two); }
 
-/* Its lines in order, without the folders of sources, and without those of backtraces. */
+/* Without the folders of sources. */
+static void strip(char *text)
+{
+	char *to = text;
+
+	for (const char *at = text; *at;)
+		if (strncmp(at, "tests/", 6))
+			*to++ = *at++;
+		else
+			at += 6;
+	*to = 0;
+}
+
+/* Its lines in order, without those and without the lines of backtraces. */
 static void put_in_order(char *said, char *to)
 {
 	char *lines[64];
 	unsigned count = 0;
 
+	strip(said);
 	for (char *line = strtok(said, "\n"); line && count < 64; line = strtok(NULL, "\n"))
 		if (!strstr(line, "[0x"))
 			lines[count++] = line;
 	qsort(lines, count, sizeof *lines, by_words);
-	for (unsigned k = 0; k < count; k++)
-		for (char *at = lines[k]; *at || !(*to++ = '\n');)
-			if (!strncmp(at, "tests/", 6))
-				at += 6;
-			else
-				*to++ = *at++;
 	*to = 0;
+	for (unsigned k = 0; k < count; k++)
+		to += sprintf(to, "%s\n", lines[k]);
 }
 
 static char said[65536];
@@ -515,8 +569,9 @@ static void tells(uint32_t contexts, uint32_t others, void (*what)(void), const 
 	}
 }
 
-#define OTHER_CONTEXT "two contexts of a thread can wait for each other for ever; its other one, if it wasn't left without ww_acquire_fini, began at "
+#define OTHER_CONTEXT "two contexts of a thread can wait for each other forever; its other one, if it wasn't left without ww_acquire_fini, began at "
 #define BESIDE "deadlocks through locks without a context are not detected; the thread holds a mutex by what began at "
+#define ALL_IN_USE(n) "all " n " contexts have been in use for 10 seconds; one that isn't ended by ww_acquire_fini stays in use; the oldest began at "
 #define NONE_LEFT "all are in use, and deadlocks through this wait are not detected; the thread has what began at "
 
 static void tells_dangers(void)
@@ -527,14 +582,15 @@ static void tells_dangers(void)
 	tells(4, 4, without_context_beside_one, "$1: ww_mutex_lock: class \"c\": " BESIDE "$0\n");
 	tells(2, 2, wait_for_context, "$1: a wait for a context: class \"c\": " NONE_LEFT "$0\n");
 	tells(2, 2, for_a_mutex, "$1: a wait: class \"c\": it has lasted 10 seconds; mutex 0 is held by what began at $0\n");
-	tells(1, 2, for_a_context, "$1: a wait: class \"c\": it has lasted 10 seconds; all contexts are in use, and the oldest began at $0\n");
+	tells(1, 2, contexts_come_back, "$1: a wait for a context: class \"c\": " ALL_IN_USE("1") "$1\n");
+	tells(1, 2, for_a_context, "$1: a wait for a context: class \"c\": " ALL_IN_USE("1") "$0\n");
 	tells(4, 2, in_the_same_memory,
 	      "$1: ww_acquire_init: class \"c\": the context that was here before was left without ww_acquire_fini; it began at $0\n"
 	      "$1: ww_acquire_init: class \"c\": " OTHER_CONTEXT "$0\n"
 	      "$2: ww_acquire_init: class \"c\": " OTHER_CONTEXT "$0\n");
 	tells(2, 2, stays_open,
-	      "$2: ww_class_free: class \"c\": 2 of 8 mutexes and 2 of 2 contexts in use, threads that wait for a context: 0\n"
-	      "context 0/1 began at $0\na lock without a context, by seat 1, began at $1\n");
+	      "$2: ww_class_free: class \"c\": 2 of 8 mutexes and 2 of 2 contexts in use, waits for a context: 0\n"
+	      "seat 0: context 1 began at $0\nseat 1: a lock without a context began at $1\nmutex 0 is held by seat 1\n");
 }
 
 static void tells_deadlocks(void)
@@ -544,24 +600,27 @@ static void tells_deadlocks(void)
 				 "~1 waits at $1 for mutex 0 of class \"c\", which ~0 holds\n");
 	tells(4, 2, two_without, "$1: ww_mutex_lock: class \"c\": " BESIDE "$0\n"
 				 "$1: a wait: no class detects this deadlock of 2 threads\n"
-				 "~0 waits at $1 for mutex 1 of class \"c\", which ~1 holds\n"
+				 "~0 waits at $1 for mutex 4 of class \"c\", which ~1 holds\n"
 				 "~1 waits at $1 for mutex 0 of class \"c\", which ~0 holds\n");
 	tells(4, 2, behind, "$1: ww_mutex_lock: class \"c\": " BESIDE "$0\n"
 			    "$1: a wait: no class detects this deadlock of 2 threads\n"
-			    "~0 waits at $1 for mutex 1 of class \"c\", which ~1 holds\n"
+			    "~0 waits at $1 for mutex 4 of class \"c\", which ~1 holds\n"
 			    "~1 waits at $1 for mutex 0 of class \"c\", which ~0 holds\n");
 	tells(4, 2, one_without, "$1: ww_mutex_lock: class \"c\": " BESIDE "$0\n"
 				 "$1: a wait: no class detects this deadlock of 2 threads\n"
-				 "~0 waits at $1 for mutex 1 of class \"c\", which ~1 holds\n"
+				 "~0 waits at $1 for mutex 4 of class \"c\", which ~1 holds\n"
 				 "~1 waits at $1 for mutex 0 of class \"c\", which ~0 holds\n");
 	tells(4, 2, itself, "$1: ww_mutex_lock: class \"c\": " BESIDE "$0\n"
 			    "$1: a wait: no class detects this deadlock of 1 thread\n"
 			    "~0 waits at $1 for mutex 0 of class \"c\", which ~0 holds\n");
+	tells(4, 2, three, "$1: ww_mutex_lock: class \"c\": " BESIDE "$0\n"
+			   "$1: a wait: no class detects this deadlock of 3 threads\n"
+			   "~0 waits at $1 for mutex 0 of class \"d\", which ~1 holds\n"
+			   "~1 waits at $1 for mutex 4 of class \"c\", which ~2 holds\n"
+			   "~2 waits at $1 for mutex 0 of class \"c\", which ~0 holds\n");
 	tells(2, 2, no_context_left, "$1: ww_mutex_lock: class \"c\": " BESIDE "$0\n"
 				     "$1: a wait for a context: class \"c\": " NONE_LEFT "$0\n"
-				     "$1: a wait: no class detects this deadlock of 2 threads\n"
-				     "~0 waits at $1 for a context of class \"c\": all 2 are in use\n"
-				     "~1 waits at $1 for a context of class \"c\": all 2 are in use\n");
+				     "$1: a wait for a context: class \"c\": " ALL_IN_USE("2") "$0\n");
 }
 
 /* ---- what ww_class_print writes ---- */
@@ -569,6 +628,7 @@ static void tells_deadlocks(void)
 static void *acquires(void *arg)
 {
 	(void)arg;
+	is_thread(0);
 	AT(1, ww_mutex_lock(&a, NULL));
 	pthread_barrier_wait(&all_hold);
 	pthread_barrier_wait(&all_hold);
@@ -578,18 +638,15 @@ static void *acquires(void *arg)
 
 static void prints(unsigned mutexes, unsigned contexts, const char *words)
 {
-	static char expected[8192], bare[8192];
-	char *to = bare, *text = printed();
-	int count = sprintf(expected, "class \"c\": %u of 8 mutexes and %u of 4 contexts in use, threads that wait for a context: 0\n",
+	static char expected[8192];
+	char *text = printed();
+	int count = sprintf(expected, "class \"c\": %u of 8 mutexes and %u of 4 contexts in use, waits for a context: 0\n",
 			    mutexes, contexts);
 
 	fill_in(expected + count, words);
-	for (const char *at = text; *at; *to++ = *at++)
-		if (!strncmp(at, "tests/", 6))
-			at += 6;
-	*to = 0;
-	if (strcmp(bare, expected)) {
-		fprintf(stderr, "printed is\n%sin place of\n%s", bare, expected);
+	strip(text);
+	if (strcmp(text, expected)) {
+		fprintf(stderr, "printed is\n%sin place of\n%s", text, expected);
 		exit(1);
 	}
 	free(text);
@@ -603,28 +660,76 @@ static void prints_what_is(void)
 	MUST(!ww_class_limit(&c, 8, 4) && !pthread_barrier_init(&all_hold, NULL, 2));
 	ww_mutex_init(&a, &c);
 	ww_mutex_init(&b, &c);
-	prints(2, 0, "ring -\ncondemned -\nseat 0 0 0\n");
+	prints(2, 0, "");
 	AT(0, ww_acquire_init(&x, &c));
 	MUST(!ww_mutex_lock(&a, &x));
 	thread = begin_thread(acquires, NULL);
 	awaits_waiter(&a);
-	prints(2, 2, "context 0/1 began at $0\na lock without a context, by seat 1, began at $1\n"
-		     "ring -\ncondemned -\nlock 0 0/1 : 1/0\nseat 0 1 0\nseat 1 0 0\n");
+	prints(2, 2, "seat 0: context 1 began at $0\nseat 1: a lock without a context began at $1; ~0 waits at $1 for mutex 0\n"
+		     "mutex 0 is held by seat 0\n");
 	ww_mutex_unlock(&a);
 	pthread_barrier_wait(&all_hold);
-	prints(2, 2, "context 0/1 began at $0\na lock without a context, by seat 1, began at $1\n"
-		     "ring -\ncondemned -\nlock 0 1/0 :\nseat 0 1 0\nseat 1 0 0\n");
+	prints(2, 2, "seat 0: context 1 began at $0\nseat 1: a lock without a context began at $1\nmutex 0 is held by seat 1\n");
 	MUST(ww_mutex_lock_until(&a, &x, &now) == -ETIMEDOUT && ww_mutex_lock_until(&a, NULL, &now) == -ETIMEDOUT);
 	pthread_barrier_wait(&all_hold);
 	end_thread(thread);
-	prints(2, 1, "context 0/1 began at $0\nring -\ncondemned -\nseat 0 1 0\n");
+	prints(2, 1, "seat 0: context 1 began at $0\n");
 	ww_acquire_fini(&x);
 	MUST(!ww_mutex_destroy(&b));
-	prints(1, 0, "ring -\ncondemned -\nseat 0 0 0\n");
+	prints(1, 0, "");
 	MUST(!ww_mutex_destroy(&a) && !ww_class_free(&c) && !ww_debug_dangers() && !ww_debug_faults());
 }
 
+/* Of a crowd, whose sleepers wait for a, it writes how many wait for a permit; at some time two of three do. */
 static bool is_over;
+
+static void *begins_on(void *arg)
+{
+	struct ww_acquire_ctx z;
+
+	while (!__atomic_load_n(&is_over, __ATOMIC_RELAXED)) {
+		ww_acquire_init(&z, &c);
+		ww_acquire_fini(&z);
+	}
+	return arg;
+}
+
+static void *acquires_a(void *arg)
+{
+	ww_mutex_lock(&a, NULL);
+	ww_mutex_unlock(&a);
+	return arg;
+}
+
+static bool is_printed(const char *words)
+{
+	char *text = printed();
+	bool is = strstr(text, words) != NULL;
+
+	free(text);
+	return is;
+}
+
+static void prints_crowd(void)
+{
+	pthread_t threads[5];
+
+	MUST(!ww_class_limit(&c, 8, 0) && !ww_class_crowd(&c, 1));
+	ww_mutex_init(&a, &c);
+	ww_acquire_init(&x, &c);
+	MUST(!ww_mutex_lock(&a, &x) && !is_printed("crowd"));
+	for (unsigned k = 0; k < 5; k++)
+		threads[k] = begin_thread(k < 2 ? acquires_a : begins_on, NULL);
+	while (!is_printed("waits for a context: 0; a crowd, permits: 1, waits for one: 2\n"))
+		usleep(100);
+	__atomic_store_n(&is_over, true, __ATOMIC_RELAXED);
+	ww_mutex_unlock(&a);
+	ww_acquire_fini(&x);
+	for (unsigned k = 0; k < 5; k++)
+		end_thread(threads[k]);
+	MUST(!ww_mutex_destroy(&a) && !ww_class_free(&c) && !ww_class_crowd(&c, 0));
+	is_over = false;
+}
 
 static void *prints_on(void *arg)
 {
@@ -662,6 +767,7 @@ int main(void)
 	hear(4, 2, no_deadlock);
 	MUST(!strstr(said, "no class detects this deadlock"));
 	prints_what_is();
+	prints_crowd();
 	prints_beside_its_end();
 	puts("mutex_dangers: each danger and each deadlock is told, and no other");
 	return 0;

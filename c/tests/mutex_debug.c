@@ -309,12 +309,12 @@ int main(int count, char **words)
 	tells(releases_all_without_a_loop,
 	      "ww_acquire_unlock_all: outside ww_until_all_locked this call releases nothing");
 	tells(another_after_deadlk, "ww_mutex_lock: the context is of another class");
-	tells(holds_after_deadlk, "ww_mutex_lock: class \"c\": the context was told -EDEADLK, and still holds a mutex");
-	tells(told_without_need, "ww_mutex_lock: class \"c\": the context was told -EDEADLK, and still holds a mutex");
+	tells(holds_after_deadlk, "ww_mutex_lock: class \"c\": the context got -EDEADLK, and still holds a mutex");
+	tells(told_without_need, "ww_mutex_lock: class \"c\": the context got -EDEADLK, and still holds a mutex");
 	tells(another_first, "ww_mutex_lock: class \"c\": after -EDEADLK another mutex comes first");
 	tells(tries_another_first, "ww_mutex_lock: class \"c\": after -EDEADLK another mutex comes first");
 	tells(slow_without_cause,
-	      "ww_mutex_lock_slow_interruptible: no -EDEADLK of this mutex came before, or the context still holds a mutex");
+	      "ww_mutex_lock_slow: no -EDEADLK of this mutex came before, or the context still holds a mutex");
 	tells(slow_ends, "ww_mutex_lock_slow: no -EDEADLK of this mutex came before, or the context still holds a mutex");
 	tells(destroys_held, "ww_mutex_destroy: somebody holds the mutex, or waits for it");
 	tells(told_by_a_thread_that_ends, "ww_mutex_destroy: somebody holds the mutex, or waits for it");

@@ -101,14 +101,14 @@ static void has_a_time(void)
 	MUST(!ww_mutex_lock_interruptible(&b, &x) && x.acquired == 2);
 }
 
+/* No list is locked in a loop. */
 static void locks_all(void)
 {
-	struct ww_mutex *list[] = { &b, &a, &d }, *twice[] = { &b, &a, &b };
+	struct ww_mutex *list[] = { &b, &a, &d };
 
 	ww_mutex_unlock(&a);
-	MUST(ww_mutex_lock_all(&x, twice, 3) == -EALREADY && !x.acquired);
-	MUST(!ww_mutex_lock_all(&x, list, 3) && x.acquired == 3);
-	MUST(ww_mutex_lock_all(&x, list, 1) == -EALREADY && x.acquired == 3);
+	MUST(ww_mutex_lock_all(&x, list, 3) == -EINVAL && !x.acquired);
+	MUST(!ww_mutex_lock(&b, &x) && !ww_mutex_lock(&a, &x) && !ww_mutex_lock(&d, &x) && x.acquired == 3);
 }
 
 /* As the kernel's documents have it, amid a loop: so the loop has nothing more to do. */
@@ -139,20 +139,21 @@ static void *lets_go(void *arg)
 	return NULL;
 }
 
-/* Behind a loop, and amid one: it backs off by itself where nothing was held, and else releases what it took. */
-static void all_behind_a_loop(void)
+/* It backs off by itself where nothing was held, and else releases what it took. */
+static void all_of_a_list(void)
 {
 	struct ww_mutex *list[] = { &b, &a };
 	pthread_t thread;
 
 	begins();
-	ww_until_all_locked(&x)
-		MUST(!ww_mutex_lock(&d, &x));
+	MUST(!ww_mutex_lock(&d, &x));
 	MUST(ww_mutex_lock_all(&x, list, 2) == -EDEADLK && x.acquired == 1 && !ww_mutex_is_locked(&b));
-	ww_acquire_unlock_all(&x);
+	ww_mutex_unlock(&d);
 	thread = begin_thread(lets_go, NULL);
 	MUST(!ww_mutex_lock_all(&x, list, 2) && x.acquired == 2);
 	end_thread(thread);
+	ww_mutex_unlock(&b);
+	ww_mutex_unlock(&a);
 	ends();
 }
 
@@ -536,7 +537,7 @@ int main(void)
 	for (unsigned k = 0; k < sizeof firsts / sizeof *firsts; k++)
 		in_second_body(firsts[k]);
 	backs_off_by_hand();
-	all_behind_a_loop();
+	all_of_a_list();
 	goes_on_by_continue();
 	waits_for_what_is_out();
 	for (way = 0; way < WAYS; way++)

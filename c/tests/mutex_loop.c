@@ -1,5 +1,5 @@
 /*
- * The table of a loop's states at the head of ww_mutex.c, walked row by row: a context is
+ * The table of a loop's states at the head of ww_loop.c, walked row by row: a context is
  * brought into the state, makes the call, and has to answer and to stand as the table says.
  */
 #include "mutex_test.h"
@@ -35,8 +35,8 @@ static const struct row rows[] = {
 	{ EASE, SLOW, FREE, true, -EINVAL, EASE, 0 },
 	{ EASE, UNLOCK, HELD, true, 0, EASE_BARE, 0 },
 	{ EASE, UNLOCK_ALL, IT, true, 0, EASE_BARE, 0 },
-	{ EASE, ALL, FREE, true, 0, EASE, 0 },
-	{ EASE, ALL, TAKEN, true, -EDEADLK, TOLD, 0 },
+	{ EASE, ALL, FREE, true, -EINVAL, EASE, 0 },
+	{ EASE, ALL, TAKEN, true, -EINVAL, EASE, 0 },
 
 	{ OWES, LOCK, IT, true, 0, EASE, 0 },
 	{ OWES, UNTIL, IT, true, 0, EASE, 0 },
@@ -51,8 +51,8 @@ static const struct row rows[] = {
 	{ OWES, SLOW, IT, true, -EINVAL, OWES, 0 },
 	{ OWES, UNLOCK, IT, true, 0, OWES, 0 },
 	{ OWES, UNLOCK_ALL, IT, true, 0, EASE_BARE, 0 },
-	{ OWES, ALL, FREE, true, 0, OWES, 0 },
-	{ OWES, ALL, IT, true, 0, EASE, 0 },
+	{ OWES, ALL, FREE, true, -EINVAL, OWES, 0 },
+	{ OWES, ALL, IT, true, -EINVAL, OWES, 0 },
 
 	{ TOLD, LOCK, HELD, false, -EALREADY, TOLD, 0 },
 	{ TOLD, LOCK, HELD, false, 0, TOLD, WW_IGNORE_DUPLICATES },
@@ -85,7 +85,7 @@ static const struct row rows[] = {
 	{ TOLD_BARE, SLOW, FREE, false, -EINVAL, TOLD_BARE, 0 },
 	{ TOLD_BARE, TRY, IT, false, 0, TOLD_BARE, 0 },
 	{ TOLD_BARE, TRY, FREE, false, 1, EASE, 0 },
-	{ TOLD_BARE, ALL, FREE, false, 0, EASE, 0 },
+	{ TOLD_BARE, ALL, FREE, false, -EINVAL, TOLD_BARE, 0 },
 	{ TOLD_BARE, BACK_OFF, IT, false, 0, FIRST, 0 },
 
 	{ FIRST, LOCK, IT, true, 0, EASE, 0 },
@@ -104,8 +104,8 @@ static const struct row rows[] = {
 	{ FIRST, TRY, IT, false, 0, FIRST, 0 },
 	{ FIRST, TRY, FREE, false, 1, EASE, 0 },
 	{ FIRST, UNLOCK_ALL, IT, false, 0, EASE_BARE, 0 },
-	{ FIRST, ALL, IT, true, 0, EASE, 0 },
-	{ FIRST, ALL, FREE, true, 0, OWES, 0 },
+	{ FIRST, ALL, IT, true, -EINVAL, FIRST, 0 },
+	{ FIRST, ALL, FREE, true, -EINVAL, FIRST, 0 },
 
 	{ EASE_BARE, LOCK, FREE, false, 0, EASE, 0 },
 	{ EASE_BARE, UNTIL, IT, false, -ETIMEDOUT, EASE_BARE, 0 },
@@ -228,7 +228,7 @@ static void walks(const struct row *row)
 			ww_mutex_unlock(x.contending_lock);
 		MUST(!ww_mutex_lock(x.contending_lock, &x) && !ww_is_contended(&x));
 	}
-	MUST(ww_mutex_lock_all(&x, (struct ww_mutex *[]){ NULL }, 0) == 0);
+	MUST(ww_mutex_lock_all(&x, (struct ww_mutex *[]){ NULL }, 0) == -EINVAL);
 	ww_acquire_unlock_all(&x);
 	MUST(!x.acquired && !it.ctx + (it.ctx == &older) == 1);
 	if (it.ctx)

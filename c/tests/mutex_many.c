@@ -95,7 +95,7 @@ int main(int count, char **words)
 		c = classes[kind];
 		storm(many, SIXTEEN, many);
 		storm(many, SIXTEEN, FEW);
-		storm(AWAKE, WW_MAX_LOCKS, 0);
+		storm(AWAKE, 65536, 0);
 	}
 	puts("mutex_many: exact sums");
 	return 0;

@@ -33,7 +33,7 @@ static struct box *begins(void)
 		free(b);
 		return NULL;
 	}
-	b->seat = (unsigned)(b->x.own - c.pool->world->seats);
+	b->seat = (unsigned)(b->x.own - c.pool->seats);
 	enter(&users[b->seat]);
 	return b;
 }

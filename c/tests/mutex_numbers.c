@@ -7,20 +7,20 @@
 #include <sys/wait.h>
 
 /* So many numbers are enough for all threads, and with so few each takes what others put back. */
-enum { THREADS = 4, ENOUGH = 8, FEW = 5 };
+enum { THREADS = 4, ENOUGH = 8, FEW = 5, MANY = 65536 };
 
 static DEFINE_WW_CLASS(few);
 static struct ww_class opened;
 static struct ww_pool *seen[THREADS];
 static pthread_barrier_t begins, ends;
-static bool own[WW_MAX_LOCKS], over;
+static bool own[MANY], over;
 static unsigned rounds = 25000, openings = 200, numbers;
 
-static struct ww_numbers bare;
+static struct ww_pool bare;
 static uint32_t below[ENOUGH];
 
-/* Few by one stack, so that what one thread looks at others take away and put back meanwhile; enough by any. */
-static void *pops_and_pushes(void *arg)
+/* Few, so that what one thread looks for others take away and put back meanwhile; or enough for all. */
+static void *takes_and_gives(void *arg)
 {
 	unsigned x = 5 + (unsigned)(size_t)arg;
 
@@ -28,10 +28,9 @@ static void *pops_and_pushes(void *arg)
 		unsigned count = 1 + next(&x) % 2, taken = 0;
 		uint32_t n[2];
 
-		ww_mine.thread = bare.count == FEW ? 1 : 1 + next(&x) % STACKS; /* by which a thread has its stack */
-		while (taken < count && ww_take_number(&bare, &n[taken]))
+		while (taken < count && !ww_take_number(&bare, &n[taken]))
 			MUST(!__atomic_exchange_n(&own[n[taken++]], true, __ATOMIC_SEQ_CST));
-		MUST(taken == count || bare.count == FEW);
+		MUST(taken == count || bare.mutexes == FEW);
 		for (unsigned j = 0; j < taken; j++) {
 			MUST(__atomic_exchange_n(&own[n[j]], false, __ATOMIC_SEQ_CST));
 			ww_give_number(&bare, n[j]);
@@ -45,15 +44,17 @@ static void bare_by_threads(uint32_t of)
 	uint32_t n, count = 0;
 
 	memset(&bare, 0, sizeof bare);
-	bare.count = of;
+	bare.numbers = (pthread_mutex_t)PTHREAD_MUTEX_INITIALIZER;
+	bare.mutexes = of;
+	bare.lines = ENOUGH / 4;
 	bare.below = below;
-	in_threads(THREADS, pops_and_pushes);
-	while (ww_take_number(&bare, &n)) {
+	in_threads(THREADS, takes_and_gives);
+	while (!ww_take_number(&bare, &n)) {
 		MUST(!own[n]);
 		own[n] = true;
 		count++;
 	}
-	MUST(count == of);
+	MUST(count == of && bare.taken == of);
 	memset(own, 0, sizeof own);
 }
 
@@ -62,8 +63,8 @@ static void *takes_a_share(void *arg)
 	uint32_t n;
 
 	(void)arg;
-	for (uint32_t k = 0; k < WW_MAX_LOCKS / THREADS; k++)
-		MUST(ww_take_number(&bare, &n) && !__atomic_exchange_n(&own[n], true, __ATOMIC_RELAXED));
+	for (uint32_t k = 0; k < MANY / THREADS; k++)
+		MUST(!ww_take_number(&bare, &n) && !__atomic_exchange_n(&own[n], true, __ATOMIC_RELAXED));
 	return NULL;
 }
 
@@ -75,9 +76,11 @@ static void fresh_by_threads(void)
 	for (unsigned k = 0; k < 20; k++) {
 		memset(&bare, 0, sizeof bare);
 		memset(own, 0, sizeof own);
-		bare.count = WW_MAX_LOCKS;
+		bare.numbers = (pthread_mutex_t)PTHREAD_MUTEX_INITIALIZER;
+		bare.mutexes = MANY;
+		bare.lines = MANY / 4;
 		in_threads(THREADS, takes_a_share);
-		MUST(!ww_take_number(&bare, &n));
+		MUST(ww_take_number(&bare, &n) == -ENOSPC);
 	}
 	memset(own, 0, sizeof own);
 }
@@ -127,19 +130,88 @@ static void by_threads(void)
 
 static void as_many_as_may_be(void)
 {
-	struct ww_mutex *m = calloc(WW_MAX_LOCKS + (size_t)1, sizeof *m);
+	static const uint32_t sizes[] = { 0, MANY };
+	struct ww_mutex *m = calloc(MANY + (size_t)1, sizeof *m);
 
-	MUST(m && !ww_class_limit(&few, WW_MAX_LOCKS, 1));
-	for (uint32_t n = 0; n < WW_MAX_LOCKS; n++)
-		ww_mutex_init(&m[n], &few);
-	MUST(ww_mutex_init_checked(&m[WW_MAX_LOCKS], &few) == -ENOSPC);
-	for (uint32_t n = 0; n < WW_MAX_LOCKS; n += WW_MAX_LOCKS - 1) {
-		MUST(!ww_mutex_lock(&m[n], NULL));
-		ww_mutex_unlock(&m[n]);
+	MUST(m);
+	for (unsigned k = 0; k < sizeof sizes / sizeof *sizes; k++) {
+		uint32_t most = sizes[k] ? sizes[k] : MANY;
+
+		MUST(!ww_class_limit(&few, sizes[k], 1));
+		for (uint32_t n = 0; n < most; n++)
+			ww_mutex_init(&m[n], &few);
+		MUST(ww_mutex_init_checked(&m[most], &few) == -ENOSPC);
+		for (uint32_t n = 0; n < most; n += most - 1) {
+			MUST(!ww_mutex_lock(&m[n], NULL));
+			ww_mutex_unlock(&m[n]);
+		}
+		for (uint32_t n = 0; n < most; n++)
+			MUST(!ww_mutex_destroy(&m[n]));
+		MUST(!ww_class_free(&few));
 	}
-	for (uint32_t n = 0; n < WW_MAX_LOCKS; n++)
+	MUST(ww_class_limit(&few, WW_MAX_LOCKS + 1, 1) == -EINVAL);
+	free(m);
+}
+
+/* The words of four numbers share a line: of so many mutexes none does so with another, and each has a number of its own. */
+static void have_lines(uint32_t count, uint32_t alone)
+{
+	struct ww_mutex *m = calloc(count + (size_t)1, sizeof *m);
+	unsigned char *in = calloc(count, 4);
+
+	MUST(m && in && !ww_class_limit(&few, count, 1));
+	for (uint32_t n = 0; n < count; n++) {
+		ww_mutex_init(&m[n], &few);
+		MUST(m[n].number < 4 * count && !in[m[n].number]);
+		in[m[n].number] = 1;
+		if (n < alone)
+			MUST(m[n].number == 4 * n);
+	}
+	MUST(ww_mutex_init_checked(&m[count], &few) == -ENOSPC);
+	for (uint32_t n = 0; n < count; n++)
 		MUST(!ww_mutex_destroy(&m[n]));
-	MUST(!ww_class_free(&few) && ww_class_limit(&few, WW_MAX_LOCKS + 1, 1) == -EINVAL);
+	MUST(!ww_class_free(&few));
+	free(m);
+	free(in);
+}
+
+/* By the word that a list of many fetches ahead. */
+static bool looks_free(const struct ww_mutex *m) { return !words_of(m->pool->seats)[2 * (size_t)m->number]; }
+
+/* A few of a million: the first and the last ones, and where a second one begins to share a line. */
+static void a_million(void)
+{
+	enum { MILLION = 1 << 20 };
+	static const uint32_t some[] = { 0, 1, MILLION / 4 - 1, MILLION / 4, MILLION / 4 + 1, MILLION / 2, MILLION - 2, MILLION - 1 };
+	enum { SOME = sizeof some / sizeof *some };
+	struct ww_mutex *m = calloc(MILLION, sizeof *m);
+	struct ww_mutex *list[SOME];
+	struct ww_acquire_ctx one, other;
+
+	MUST(m && !ww_class_limit(&few, MILLION, 2));
+	for (uint32_t n = 0; n < MILLION; n++)
+		ww_mutex_init(&m[n], &few);
+	for (uint32_t k = 0; k < SOME; k++)
+		list[k] = &m[some[k]];
+	for (uint32_t out = 0; out < SOME; out++) {
+		ww_acquire_init(&one, &few);
+		ww_acquire_init(&other, &few);
+		for (uint32_t k = 0; k < SOME; k++)
+			if (k != out)
+				MUST(!ww_mutex_lock(&m[some[k]], &one));
+		for (uint32_t k = 0; k < SOME; k++)
+			MUST(looks_free(list[k]) == (k == out) && ww_mutex_trylock(list[k], &other) == (k == out));
+		for (uint32_t k = 0; k < SOME; k++)
+			ww_mutex_unlock(list[k]);
+		MUST(!ww_mutex_lock_all(&one, list, out) && one.acquired == out);
+		for (uint32_t k = 0; k < out; k++)
+			ww_mutex_unlock(list[k]);
+		ww_acquire_fini(&one);
+		ww_acquire_fini(&other);
+	}
+	for (uint32_t n = 0; n < MILLION; n++)
+		MUST(!ww_mutex_destroy(&m[n]));
+	MUST(!ww_class_free(&few));
 	free(m);
 }
 
@@ -256,6 +328,11 @@ int main(int count, char **words)
 	for (numbers = ENOUGH; numbers; numbers = numbers == ENOUGH ? FEW : 0)
 		by_threads();
 	as_many_as_may_be();
+	have_lines(1, 1);
+	have_lines(1024, 1024);
+	have_lines(1027, 1024);
+	have_lines(4099, 1025);
+	a_million();
 	opened_by_all();
 	forks_beside_opening();
 	forks_with_a_free_number();

@@ -258,23 +258,21 @@ static void leaves_a_held_one() WW_SAFETY_(no_thread_safety_analysis)
 	mutex_class c(mutex_class::wait_die, "of a child");
 	mutex left(c);
 
-	std::fclose(stderr);
 	left.lock();
 }
 
-// A child ends as others do, whatever threads held that aren't there; not so where memory goes that is held.
+// A child ends as others do, whatever threads held that aren't there, and also where memory goes that is held.
 static void forks()
 {
 	held_at_a_fork.lock();
 	MUST(!status_of_child([] {}));
 	held_at_a_fork.unlock();
-	const int status = status_of_child(leaves_a_held_one);
-	MUST(WIFSIGNALED(status) && WTERMSIG(status) == SIGABRT);
+	MUST(!status_of_child(leaves_a_held_one));
 }
 
 // Files may be initialized in any order, and end in any: the first constructor and the last destructor use what others have.
 namespace {
-extern mutex_class later, of_program;
+extern mutex_class later;
 extern mutex of_later;
 
 struct first_and_last {
@@ -289,13 +287,11 @@ struct first_and_last {
 	{
 		if (getpid() == program)
 			guard held(of_later);
-		if (!static_cast<struct ww_class &>(of_program).pool)
-			std::abort();
 	}
 } first_and_last;
 
 mutex of_later(later);
-mutex_class later(mutex_class::wait_die, "later"), of_program(mutex_class::wait_die, "of the program");
+mutex_class later(mutex_class::wait_die, "later");
 } // namespace
 
 static void in_any_order()
@@ -378,7 +374,6 @@ int main()
 	}
 	lists(ww_class);
 	backs_off(ww_class);
-	MUST(!of_program.open());
 	forks();
 	in_any_order();
 	goes_on();

@@ -145,10 +145,46 @@ static void many_for_few(void)
 	MUST(sum == THREADS * 500 && !ww_mutex_destroy(&guard) && !ww_class_free(c));
 }
 
-int main(void)
+static unsigned tries = 30000;
+static bool is_over;
+static void *goes_from_one_to_the_next(void *arg)
+{
+	struct ww_acquire_ctx x[2];
+	unsigned k = 0;
+
+	ww_acquire_init(&x[0], c);
+	for (; !__atomic_load_n(&is_over, __ATOMIC_RELAXED); k++) {
+		ww_acquire_init(&x[(k + 1) % 2], c);
+		ww_acquire_fini(&x[k % 2]);
+	}
+	ww_acquire_fini(&x[k % 2]);
+	return arg;
+}
+
+/* Of three contexts one is free all the while, though maybe none where somebody looks just then: a begin finds it. */
+static void one_is_always_free(void)
+{
+	struct ww_acquire_ctx x;
+	pthread_t thread;
+
+	MUST(!ww_class_limit(c, 0, 3));
+	is_over = false;
+	thread = begin_thread(goes_from_one_to_the_next, NULL);
+	for (unsigned k = 0; k < tries; k++) {
+		MUST(!ww_acquire_init_checked(&x, c));
+		ww_acquire_fini(&x);
+	}
+	__atomic_store_n(&is_over, true, __ATOMIC_RELAXED);
+	end_thread(thread);
+	MUST(!ww_class_free(c));
+}
+
+int main(int count, char **words)
 {
 	struct ww_class *classes[] = { &wound_wait, &wait_die };
 
+	if (count > 1)
+		tries = (unsigned)atoi(words[1]);
 	pthread_barrier_init(&all_there, NULL, 16 + 1);
 	pthread_barrier_init(&all_done, NULL, 16 + 1);
 	for (unsigned kind = 0; kind < 2; kind++) {
@@ -161,6 +197,7 @@ int main(void)
 			MUST(!ww_class_free(c)); /* what threads kept of it is nothing to the next one */
 		}
 		many_for_few();
+		one_is_always_free();
 	}
 	puts("mutex_seats: sixteen at once, and whoever waited went on");
 	return 0;

@@ -21,6 +21,7 @@ static __thread struct {
 } at;
 static __thread struct ww_acquire_ctx *cancelled_amid; /* behind each step that answers WW_AGAIN, as by another thread */
 static void (*behind_a_stay)(void); /* as another thread would, once */
+static __thread unsigned shut_out, naps; /* so many tries to go inside a guard are in vain; and how often it slept behind one */
 
 static bool has_to_ask(int32_t answer) { return answer <= 0 || answer == WW_SLEEPS; }
 static void does_anything_else(void) { MUST(at.answer != WW_AGAIN); }
@@ -32,7 +33,8 @@ int32_t __wrap_ww_go_on_(ww_handle *seat, uint32_t *rest)
 	int32_t r;
 
 	MUST(!at.seat || at.asked == has_to_ask(at.answer));
-	r = __real_ww_go_on_(seat, rest);
+	r = shut_out ? WW_AWAITS : __real_ww_go_on_(seat, rest);
+	shut_out -= !!shut_out;
 	if (r == WW_AGAIN && cancelled_amid)
 		ww_acquire_cancel(cancelled_amid);
 	at.seat = seat;
@@ -99,6 +101,7 @@ long __wrap_syscall(long number, ...)
 		words[k] = va_arg(list, long);
 	va_end(list);
 	does_anything_else();
+	naps += at.answer == WW_AWAITS;
 	return __real_syscall(number, words[0], words[1], words[2], words[3], words[4], words[5]);
 }
 
@@ -123,6 +126,23 @@ static void waits_in_vain(void)
 	for (unsigned k = 0; k < 3; k++)
 		MUST(ww_mutex_lock_interruptible(&m, &x) == -EINTR && at.asked);
 	cancelled_amid = NULL;
+	ww_mutex_unlock(&m);
+	ww_acquire_fini(&x);
+	ww_acquire_fini(&older);
+}
+
+/* Before most tries it sleeps, and doesn't only let others run: the one inside may be of a lower priority. */
+static void is_shut_out(void)
+{
+	struct ww_acquire_ctx older, x;
+	struct timespec soon = in_ms(1);
+
+	ww_acquire_init(&older, c);
+	ww_acquire_init(&x, c);
+	MUST(!ww_mutex_lock(&m, &older));
+	shut_out = 40;
+	naps = 0;
+	MUST(ww_mutex_lock_until(&m, &x, &soon) == -ETIMEDOUT && !shut_out && naps > 20);
 	ww_mutex_unlock(&m);
 	ww_acquire_fini(&x);
 	ww_acquire_fini(&older);
@@ -217,10 +237,11 @@ int main(void)
 		c = kind ? &wait_die : &wound_wait;
 		ww_mutex_init(&m, c);
 		waits_in_vain();
+		is_shut_out();
 		is_awaited();
 		in_a_storm();
 		MUST(!ww_mutex_destroy(&m) && !ww_class_free(c));
 	}
-	puts("mutex_steps: behind WW_AGAIN the next step, and nobody is asked for in vain");
+	puts("mutex_steps: behind WW_AGAIN the next step, naps before a guard, and nobody is asked for in vain");
 	return 0;
 }

@@ -21,7 +21,7 @@ static unsigned pairs = 20000;
 /* So many wait, or went. */
 static void awaits_seekers(uint32_t count)
 {
-	while (__atomic_load_n(&c->pool->seekers, __ATOMIC_SEQ_CST) + __atomic_load_n(&gone, __ATOMIC_SEQ_CST) != count)
+	while (__atomic_load_n(&c->pool->loose.seekers, __ATOMIC_SEQ_CST) + __atomic_load_n(&gone, __ATOMIC_SEQ_CST) != count)
 		usleep(100);
 }
 
@@ -75,7 +75,7 @@ static void in_order(void)
 	for (unsigned k = 0; k < WAITERS; k++)
 		if (!is_late(k))
 			end_thread(threads[k]);
-	MUST(come == WAITERS - 2 && !c->pool->seekers);
+	MUST(come == WAITERS - 2 && !c->pool->loose.seekers);
 	for (unsigned k = 0; k < come; k++)
 		MUST(order[k] == (k < LATE ? k : k + 2));
 	for (unsigned k = 0; k < WAITERS; k++)
@@ -121,9 +121,9 @@ static void nobody_barges(void)
 		MUST(ww_mutex_trylock(&alone[0], NULL));
 		ww_mutex_unlock(&alone[0]);
 		/* As if somebody waited whom no seat was handed to yet. */
-		c->pool->seekers++;
+		c->pool->loose.seekers++;
 		MUST(ww_acquire_init_checked(&y, c) == -EAGAIN && !ww_mutex_trylock(&alone[0], NULL));
-		c->pool->seekers--;
+		c->pool->loose.seekers--;
 		ww_acquire_fini(&x);
 	}
 	MUST(!ww_mutex_destroy(&alone[0]) && !ww_class_free(c));
@@ -178,10 +178,30 @@ int __wrap_pthread_mutex_lock(pthread_mutex_t *m)
 int __real_pthread_mutex_unlock(pthread_mutex_t *m);
 int __wrap_pthread_mutex_unlock(pthread_mutex_t *m);
 
+/* The program forks just before the queue is unlocked: in the child this context ends then, which waits for nobody. */
+static __thread struct ww_acquire_ctx *ends_in_child;
+
+static void fork_amid(pthread_mutex_t *m)
+{
+	struct ww_acquire_ctx *x = ends_in_child;
+	int status;
+
+	if (!x || m != &c->pool->queue)
+		return;
+	ends_in_child = NULL;
+	if (!fork()) {
+		alarm(60);
+		ww_acquire_fini(x);
+		_exit(0);
+	}
+	MUST(wait(&status) > 0 && !status);
+}
+
 int __wrap_pthread_mutex_unlock(pthread_mutex_t *m)
 {
 	int r;
 
+	fork_amid(m);
 	stop_at(m, 1);
 	r = __real_pthread_mutex_unlock(m);
 	locked -= asks;
@@ -189,9 +209,10 @@ int __wrap_pthread_mutex_unlock(pthread_mutex_t *m)
 	return r;
 }
 
-/* The only context ends just after this one found none, and before it said that it waits. */
+/* The only context ends just after this one found none, and before it said that it waits: so it didn't wait. */
 static void ends_just_then(void)
 {
+	struct ww_class_counts counts;
 	struct ww_acquire_ctx x, y;
 
 	MUST(!ww_class_limit(c, 1, 1));
@@ -200,9 +221,11 @@ static void ends_just_then(void)
 		ends_then = &x;
 		before_that = 0;
 		ww_acquire_init(&y, c);
-		MUST(!ends_then && !c->pool->seekers && ww_acquire_init_checked(&x, c) == -EAGAIN);
+		MUST(!ends_then && !c->pool->loose.seekers && ww_acquire_init_checked(&x, c) == -EAGAIN);
 		ww_acquire_fini(&y);
 	}
+	ww_class_stats(c, &counts);
+	MUST(!counts.context_waits);
 	MUST(!ww_class_free(c));
 }
 
@@ -218,10 +241,10 @@ static void gives_up_just_then(void)
 	MUST(!ww_class_limit(c, 1, 1));
 	ww_acquire_init(&x, c);
 	for (unsigned k = 0; k < 3; k++) {
-		MUST(ww_acquire_init_until(&y, c, &past) == -ETIMEDOUT && !c->pool->seekers);
+		MUST(ww_acquire_init_until(&y, c, &past) == -ETIMEDOUT && !c->pool->loose.seekers);
 		ends_then = &x;
 		before_that = 1;
-		MUST(!ww_acquire_init_until(&y, c, &past) && !ends_then && !c->pool->seekers);
+		MUST(!ww_acquire_init_until(&y, c, &past) && !ends_then && !c->pool->loose.seekers);
 		MUST(ww_acquire_init_checked(&x, c) == -EAGAIN);
 		ww_acquire_fini(&y);
 		MUST(!ww_acquire_init_until(&x, c, &past));
@@ -319,11 +342,42 @@ static void freed_and_forked(void)
 	MUST(wait(&status) > 0 && WIFEXITED(status) && !WEXITSTATUS(status));
 }
 
+/* ---- a fork while others wait for contexts, and one of them is served ---- */
+
+static void *begins_and_ends(void *arg)
+{
+	struct ww_acquire_ctx x;
+
+	ww_acquire_init(&x, c);
+	ww_acquire_fini(&x);
+	return arg;
+}
+
+static void forked_amid(void)
+{
+	struct ww_acquire_ctx x, y;
+	pthread_t threads[2];
+
+	MUST(!ww_class_limit(c, 1, 2));
+	ww_acquire_init(&x, c);
+	ww_acquire_init(&y, c);
+	for (unsigned k = 0; k < 2; k++)
+		threads[k] = begin_thread(begins_and_ends, NULL);
+	gone = 0;
+	awaits_seekers(2);
+	ends_in_child = &x;
+	ww_acquire_fini(&y);
+	ww_acquire_fini(&x);
+	for (unsigned k = 0; k < 2; k++)
+		end_thread(threads[k]);
+	MUST(!ends_in_child && !ww_class_free(c));
+}
+
 /* ---- seats that threads keep ---- */
 
 static void opens(uint32_t contexts, uint32_t kept) { MUST(!ww_class_limit(c, 1, contexts) && !ww_class_open_kept(c, kept)); }
 
-static bool is_kept(const struct ww_acquire_ctx *x) { return x->own - c->pool->world->seats < c->pool->kept; }
+static bool is_kept(const struct ww_acquire_ctx *x) { return x->own - c->pool->seats < c->pool->kept; }
 
 static uint32_t may_be_kept(void)
 {
@@ -437,10 +491,9 @@ static void are_freed(void)
 	MUST(may_be_kept() == 1 && !ww_class_free(c));
 }
 
-/* Of more classes than a thread keeps seats of: it lets one go while it uses it. */
-static void are_let_go(void)
+static void *keeps_of_many(void *classes)
 {
-	struct ww_class all[KEPT + 1], *first = c;
+	struct ww_class *all = classes;
 	struct ww_acquire_ctx x, y;
 
 	for (unsigned k = 0; k < KEPT + 1; k++) {
@@ -456,8 +509,19 @@ static void are_let_go(void)
 	MUST(x.own->busy == ORPHAN);
 	ww_acquire_fini(&x);
 	MUST(may_be_kept() == 1);
-	for (unsigned k = 0; k < KEPT + 1; k++)
-		MUST(!ww_class_free(&all[k]));
+	return NULL;
+}
+
+/* Of more classes than a thread keeps seats of: it lets one go while it uses it, and as it ends all others. */
+static void are_let_go(void)
+{
+	struct ww_class all[KEPT + 1], *first = c;
+
+	end_thread(begin_thread(keeps_of_many, all));
+	for (unsigned k = 0; k < KEPT + 1; k++) {
+		c = &all[k];
+		MUST(may_be_kept() == 1 && !ww_class_free(c));
+	}
 	c = first;
 }
 
@@ -469,8 +533,9 @@ static void says_last_words(void *again)
 
 	ww_acquire_init(&x, c);
 	ww_acquire_fini(&x);
-	if (again)
-		pthread_setspecific(last_words, NULL);
+	/* The thread sanitizer has forgotten the thread before the last time. */
+	if (again && !SANITIZES_THREADS)
+		pthread_setspecific(last_words, again);
 }
 
 static void *has_last_words(void *arg)
@@ -480,7 +545,7 @@ static void *has_last_words(void *arg)
 	return arg;
 }
 
-/* A thread uses the class amid its end: it keeps no seat beyond that. */
+/* A thread uses the class amid its end, as often as the system asks whether anything is left: it keeps no seat beyond that. */
 static void are_used_to_the_end(void)
 {
 	opens(1, 1);
@@ -565,7 +630,7 @@ static void each_end_wakes(void)
 			sched_yield();
 	}
 	end_thread(thread);
-	MUST(!c->pool->seekers && !ww_class_free(c));
+	MUST(!c->pool->loose.seekers && !ww_class_free(c));
 }
 
 /* So many contexts at once, of a class that may have so many: each but the one beyond is there. */
@@ -610,6 +675,9 @@ int main(int count, char **words)
 		gives_up_just_then();
 		is_never_idle();
 		freed_and_forked();
+		/* It forks in the thread that has the queue's lock, which the thread sanitizer takes for another order of locks. */
+		if (!SANITIZES_THREADS)
+			forked_amid();
 		are_kept_for_life();
 		outlive_their_keepers(false);
 		outlive_their_keepers(true);

@@ -320,10 +320,11 @@ static void tries_again(void)
 	ww_until_all_locked(&x, second) {
 		struct ww_mutex *locks[] = { &list[1], &list[2], &list[1] };
 
-		MUST(!ww_mutex_lock(&list[1], &x) && !ww_mutex_lock(&list[1], &x) && !ww_mutex_lock_all(&x, locks, 3));
+		MUST(!ww_mutex_lock(&list[1], &x) && !ww_mutex_lock(&list[1], &x) && !ww_mutex_lock(&list[2], &x));
+		MUST(ww_mutex_lock_all(&x, locks, 3) == -EINVAL && x.acquired == 2);
 		ww_retry_on_contention(&x, second);
 		ww_acquire_flags(&x, 0);
-		MUST(ww_mutex_lock_all(&x, locks, 2) == -EALREADY && x.acquired == 2);
+		MUST(ww_mutex_lock(&list[1], &x) == -EALREADY && ww_mutex_lock_all(&x, locks, 2) == -EINVAL && x.acquired == 2);
 		break;
 	}
 	ww_mutex_unlock(&list[2]);

@@ -62,7 +62,7 @@ def wait_for(thread, name, ended=threading.Event()):
 
 
 def refuses_classes():
-    for words in ((2, 8, 4), (-1, 8, 4), (ww.WAIT_DIE, 65537, 4), (ww.WAIT_DIE, -1, 4), (ww.WAIT_DIE, 8, 4095), (ww.WAIT_DIE, 8, 2**32)):
+    for words in ((2, 8, 4), (-1, 8, 4), (ww.WAIT_DIE, 2**24 + 1, 4), (ww.WAIT_DIE, -1, 4), (ww.WAIT_DIE, 8, 4095), (ww.WAIT_DIE, 8, 2**32)):
         assert fault_of(made, *words) == errno.EINVAL
     assert is_raised(TypeError, ww.Mutex, None)
 

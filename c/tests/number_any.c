@@ -31,7 +31,10 @@ struct mine {
 	unsigned long backs, stops, cancels; /* how often it was told to back off, was called off, and cancelled others */
 };
 
-static uint32_t number_at(unsigned n) { return n < MUTEXES ? numbers[n] : n == MUTEXES ? MUTEXES : UINT32_MAX - n; }
+/* No number of the class is as great. */
+enum { BEYOND = 4 * (MUTEXES < 17 ? 17 : MUTEXES) };
+
+static uint32_t number_at(unsigned n) { return n < MUTEXES ? numbers[n] : n == MUTEXES ? BEYOND : UINT32_MAX - n; }
 
 static void holds(struct mine *m, unsigned n)
 {

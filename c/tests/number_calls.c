@@ -9,7 +9,7 @@
 static DEFINE_WW_CLASS(wound_wait);
 static DEFINE_WD_CLASS(wait_die);
 static struct ww_class *c;
-enum { COUNT = 4 };
+enum { COUNT = 4, BEYOND = 4 * 17 }; /* no number of the class is as great */
 static uint32_t n[COUNT];
 static struct ww_acquire_ctx x, y;
 static const struct timespec past = { 0, 0 };
@@ -92,10 +92,10 @@ static void refuses(void)
 {
 	struct timespec none = { 0, -1 };
 
-	MUST(ww_number_put(COUNT, c) == -EINVAL && !ww_number_is_locked(COUNT, c));
+	MUST(ww_number_put(BEYOND, c) == -EINVAL && !ww_number_is_locked(BEYOND, c));
 	begins(&x);
-	MUST(ww_number_lock(COUNT, &x) == -EINVAL && ww_number_lock_until(n[0], &x, &none) == -EINVAL);
-	MUST(ww_number_unlock(n[0], &x) == -EINVAL && ww_number_unlock(COUNT, &x) == -EINVAL && !x.acquired);
+	MUST(ww_number_lock(BEYOND, &x) == -EINVAL && ww_number_lock_until(n[0], &x, &none) == -EINVAL);
+	MUST(ww_number_unlock(n[0], &x) == -EINVAL && ww_number_unlock(BEYOND, &x) == -EINVAL && !x.acquired);
 	ww_acquire_fini(&x);
 	MUST(ww_number_lock(n[0], &x) == -EINVAL && ww_number_lock_until(n[0], &x, NULL) == -EINVAL);
 	MUST(!ww_number_trylock(n[0], &x) && ww_number_unlock(n[0], &x) == -EINVAL && !ww_number_is_held(n[0], &x));
@@ -174,7 +174,10 @@ static void goes_with_addresses(void)
 		ww_mutex_unlock(&m);
 	}
 	ww_acquire_unlock_all(&x);
-	MUST(!x.acquired && !ww_mutex_lock_all(&x, (struct ww_mutex *[]){ &m, &other }, 2));
+	MUST(!x.acquired);
+	ww_acquire_fini(&x);
+	begins(&x);
+	MUST(!ww_mutex_lock_all(&x, (struct ww_mutex *[]){ &m, &other }, 2));
 	ww_mutex_unlock(&other);
 	ww_mutex_unlock(&m);
 	ww_acquire_fini(&x);

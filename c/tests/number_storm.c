@@ -12,26 +12,28 @@ enum { THREADS = 16, MOST = 1000, HOT = 32, TURNS = 100 };
 static DEFINE_WW_CLASS(wound_wait);
 static DEFINE_WD_CLASS(wait_die);
 static struct ww_class *c;
-static uint32_t size, takes;
+/* The numbers of so many mutexes, each below the range. */
+static uint32_t *numbers, size, range, takes;
 /* budget: how often a thread takes a mutex in a storm */
 static unsigned long budget = 20000, *counters, *added, backs;
 static pthread_barrier_t barrier;
 
-/* One that nobody had before gets the next number. */
 static void opens(struct ww_class *class_, uint32_t mutexes)
 {
 	c = class_;
 	size = mutexes;
-	MUST(!ww_class_limit(c, size, THREADS));
-	for (uint32_t n = 0, number; n < size; n++)
-		MUST(!ww_number_take(&number, c) && number == n);
+	range = 4 * size;
+	MUST(!ww_class_limit(c, size, THREADS) && (numbers = calloc(size, sizeof *numbers)));
+	for (uint32_t k = 0; k < size; k++)
+		MUST(!ww_number_take(&numbers[k], c) && numbers[k] < range);
 }
 
 static void closes(void)
 {
-	for (uint32_t n = 0; n < size; n++)
-		MUST(!ww_number_put(n, c));
+	for (uint32_t k = 0; k < size; k++)
+		MUST(!ww_number_put(numbers[k], c));
 	MUST(!ww_class_free(c));
+	free(numbers);
 }
 
 /* Takes them in this order, but for the one that was told, and backs off until it has them all: how often it did. */
@@ -144,8 +146,8 @@ static void meet(uint32_t one, uint32_t other)
 static void call(void)
 {
 	struct ww_acquire_ctx x, other;
-	const uint32_t inside[] = { 0, 1, size / 2, size - 1 };
-	const uint32_t beyond[] = { size, size + 1, 256 * size, WW_MAX_LOCKS, WW_MAX_LOCKS + 1, 1u << 31, UINT32_MAX };
+	const uint32_t inside[] = { numbers[0], numbers[1], numbers[size / 2], numbers[size - 1] };
+	const uint32_t beyond[] = { range, range + 1, 256 * size, WW_MAX_LOCKS, WW_MAX_LOCKS + 1, 1u << 31, UINT32_MAX };
 
 	ww_acquire_init(&x, c);
 	ww_acquire_init(&other, c);
@@ -165,20 +167,21 @@ static void call(void)
 static void take_all(bool by_loop)
 {
 	struct ww_acquire_ctx x, other;
+	uint32_t last = numbers[size - 1];
 
 	ww_acquire_init(&x, c);
 	ww_acquire_init(&other, c);
 	if (by_loop)
 		ww_until_all_locked(&x)
-			for (uint32_t n = 0; n + 1 < size; n++)
-				MUST(!ww_number_lock(n, &x));
+			for (uint32_t k = 0; k + 1 < size; k++)
+				MUST(!ww_number_lock(numbers[k], &x));
 	else
-		for (uint32_t n = 0; n + 1 < size; n++)
-			MUST(!ww_number_lock(n, &x));
-	MUST(x.acquired == size - 1 && ww_number_trylock(size - 1, &other) == 1 && !ww_number_trylock(size - 1, &x));
-	MUST(!ww_number_unlock(size - 1, &other) && !ww_number_lock(size - 1, &x) && x.acquired == size);
-	for (uint32_t n = 0; n < size; n++)
-		MUST(!ww_number_trylock(n, &other) && ww_number_lock(n, &x) == -EALREADY);
+		for (uint32_t k = 0; k + 1 < size; k++)
+			MUST(!ww_number_lock(numbers[k], &x));
+	MUST(x.acquired == size - 1 && ww_number_trylock(last, &other) == 1 && !ww_number_trylock(last, &x));
+	MUST(!ww_number_unlock(last, &other) && !ww_number_lock(last, &x) && x.acquired == size);
+	for (uint32_t k = 0; k < size; k++)
+		MUST(!ww_number_trylock(numbers[k], &other) && ww_number_lock(numbers[k], &x) == -EALREADY);
 	ww_number_unlock_all(&x);
 	MUST(!x.acquired);
 	ww_acquire_fini(&x);
@@ -196,12 +199,13 @@ struct own {
 static void draw(unsigned *x, struct own *own, unsigned long time, uint32_t *list)
 {
 	for (uint32_t k = 0; k < takes;) {
-		uint32_t n = next(x) % size;
+		uint32_t at = next(x) % size, n;
 
 		if (takes < HOT && next(x) % 2)
-			n = n % 2 ? n % HOT / 2 : size - 1 - n % HOT / 2;
+			at = at % 2 ? at % HOT / 2 : size - 1 - at % HOT / 2;
 		if (k == 0 && time % 2 == 0)
-			n = next(x) % 2 ? 0 : size - 1;
+			at = next(x) % 2 ? 0 : size - 1;
+		n = numbers[at];
 		if (own[n].drawn == time)
 			continue;
 		own[n].drawn = time;
@@ -223,7 +227,7 @@ static void gives_back(struct ww_acquire_ctx *x, bool by_loop, unsigned way, con
 static void *work(void *arg)
 {
 	unsigned x = 97 * (unsigned)(size_t)arg + 1;
-	struct own *own = calloc(size, sizeof *own);
+	struct own *own = calloc(range, sizeof *own);
 	uint32_t list[MOST];
 	unsigned long mine = 0;
 
@@ -246,7 +250,7 @@ static void *work(void *arg)
 		ww_acquire_fini(&ctx);
 	}
 	__atomic_fetch_add(&backs, mine, __ATOMIC_RELAXED);
-	for (uint32_t n = 0; n < size; n++)
+	for (uint32_t n = 0; n < range; n++)
 		__atomic_fetch_add(&added[n], own[n].added, __ATOMIC_RELAXED);
 	free(own);
 	return NULL;
@@ -254,11 +258,11 @@ static void *work(void *arg)
 
 static void storm(void)
 {
-	MUST((counters = calloc(size, sizeof *counters)) && (added = calloc(size, sizeof *added)));
+	MUST((counters = calloc(range, sizeof *counters)) && (added = calloc(range, sizeof *added)));
 	in_threads(THREADS, work);
-	for (uint32_t n = 0; n < size; n++)
+	for (uint32_t n = 0; n < range; n++)
 		MUST(counters[n] == added[n]);
-	MUST(counters[0] && counters[size - 1]);
+	MUST(counters[numbers[0]] && counters[numbers[size - 1]]);
 	free(counters);
 	free(added);
 }
@@ -267,7 +271,8 @@ static void storm(void)
 
 static void *turns(void *arg)
 {
-	uint32_t me = (uint32_t)(size_t)arg, list[2] = { me, (me + 1) % size }, turned[2] = { list[1], list[0] };
+	uint32_t me = (uint32_t)(size_t)arg;
+	uint32_t list[2] = { numbers[me], numbers[(me + 1) % size] }, turned[2] = { list[1], list[0] };
 
 	for (unsigned i = 0; i < TURNS; i++) {
 		struct ww_acquire_ctx x;
@@ -294,14 +299,14 @@ static void *turns(void *arg)
 /* Each ring is broken, as often as it is made. */
 static void ring(void)
 {
-	unsigned long all[THREADS] = { 0 };
+	unsigned long all[4 * THREADS] = { 0 };
 
 	counters = all;
 	backs = 0;
 	pthread_barrier_init(&barrier, NULL, size);
 	in_threads(size, turns);
 	for (unsigned k = 0; k < size; k++)
-		MUST(all[k] == 2ul * TURNS);
+		MUST(all[numbers[k]] == 2ul * TURNS);
 	MUST(backs >= TURNS);
 	pthread_barrier_destroy(&barrier);
 }
@@ -309,7 +314,7 @@ static void ring(void)
 int main(int count, char **words)
 {
 	struct ww_class *classes[] = { &wound_wait, &wait_die };
-	const uint32_t sizes[] = { 64, 4096, WW_MAX_LOCKS }, sets[] = { 2, 8, MOST };
+	const uint32_t sizes[] = { 64, 4096, 65536 }, sets[] = { 2, 8, MOST };
 
 	if (count > 1)
 		budget = strtoul(words[1], NULL, 10);

@@ -76,7 +76,7 @@ static void opens_handles(uint32_t kind, uint32_t locks)
 
 int main(void)
 {
-	const uint32_t sizes[] = { 64, 4096, WW_MAX_LOCKS };
+	const uint32_t sizes[] = { 64, 4096, 65536 };
 
 	for (int kind = 0; kind < 2; kind++)
 		for (unsigned k = 0; k < sizeof sizes / sizeof *sizes; k++)

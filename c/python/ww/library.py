@@ -12,11 +12,11 @@ _LARGEST = 2**32 - 1
 
 
 class Deadlock(OSError):
-    """EDEADLK: an older context goes first, so this one has to release all that it holds."""
+    """EDEADLK: an older context goes first, so this one must release everything that it holds."""
 
 
 class Already(OSError):
-    """EALREADY: the lock is held already by who asks for it; or that wait is called off already."""
+    """EALREADY: whoever asks for the lock holds it already; or that wait is cancelled already."""
 
 
 class Time(ctypes.Structure):
@@ -43,6 +43,12 @@ _CALLS = {
     "ww_is_contended": (ctypes.c_bool, _AT),
     "ww_mutex_lock_until": (ctypes.c_int, _AT, _AT, ctypes.POINTER(Time)),
     "ww_acquire_init_until": (ctypes.c_int, _AT, _AT, ctypes.POINTER(Time)),
+}
+_CALLS |= {
+    "ww_acquire_init_poll": (ctypes.c_int, _AT, _AT, _AT, _AT),
+    "ww_mutex_lock_poll": (ctypes.c_int, _AT, _AT, _AT),
+    "ww_poll_take_back": (ctypes.c_bool, _AT, _AT),
+    "ww_event_take": (_AT, _AT),
 }
 _CALLS |= {f"ww_{it}_size": (ctypes.c_size_t,) for it in ("class", "mutex", "acquire")}
 _ALONE = ("class_free", "mutex_destroy", "acquire_done_checked", "acquire_fini_checked", "acquire_cancel", "mutex_unlock_checked")

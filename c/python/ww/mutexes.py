@@ -1,7 +1,7 @@
 """The mutexes of ww_mutex.h: a Class of them, a Mutex in each object, and a Context, which acquires what one change needs.
 
 Their structures are opaque here: the library says how large each is. Each object keeps alive what the library knows of
-it, so nothing has to be closed: a mutex that nobody refers to gives its number back, and then its class its memory.
+it, so nothing has to be closed: a mutex that is garbage-collected frees its number, and then its class its memory.
 """
 import collections
 import ctypes
@@ -97,9 +97,9 @@ def _is_main():
 
 
 class Class:
-    """A class of mutexes, among which deadlocks are detected. It may have so many mutexes and contexts at once (0: 65,536,
-    and 1,024 or more), and takes memory for as many. A forked child makes a class of its own: each call of this one is EINVAL there.
-    `library` is the path of another libww.so than the installed one."""
+    """A class of mutexes, among which deadlocks are detected. It has at most this many mutexes and contexts at a time (0:
+    65,536, and 1,024 or more), and allocates memory for as many. A forked child makes a class of its own: there each call
+    of this one is EINVAL. `library` is the path of another libww.so than the installed one."""
 
     def __init__(self, kind=WOUND_WAIT, mutexes=0, contexts=0, library=None):
         if kind not in (WOUND_WAIT, WAIT_DIE):
@@ -111,14 +111,34 @@ class Class:
         told(self._library.ww_class_limit(self._at, mutexes, contexts))
 
     def context(self, timeout=None):
-        """A context, which `with` begins, and ends where its block ends, however that does: then it releases all that it
-        holds. Where all are in use it waits for one; at the longest for so many seconds (TimeoutError)."""
+        """A context. `with` begins it, and ends it when its block ends in whatever way: then it releases everything that it
+        holds. If all contexts are in use it waits for one, at most for `timeout` seconds (TimeoutError)."""
         return Context(self, timeout)
 
+    async def run_async(self, body):
+        """As run, for a task: returns what `await body(context)` returns, with a context of `async with`."""
+        async with self.context() as context:
+            while True:
+                try:
+                    result = await body(context)
+                    if context._contended is None:
+                        return result
+                except Deadlock:
+                    if context._contended is None:
+                        raise
+                context.unlock_all()
+
+    def _check(self, *mutexes):
+        for mutex in mutexes:
+            if not isinstance(mutex, Mutex):
+                raise TypeError(f"{mutex!r} is no ww.Mutex")
+            if mutex._class is not self:
+                raise _wrong("the mutex is of another class")
+
     def run(self, body, timeout=None):
-        """What body(context) returns. Where that was told Deadlock, all is released, and it is called again: so up to its
-        last lock call it changes nothing that it doesn't set anew. It may catch other errors, but after Deadlock it
-        returns or raises. The time is that of context()."""
+        """Returns what body(context) returns. If body gets Deadlock, everything is released, and it is called again: so
+        before its last lock call it should change nothing that it doesn't set again. It may catch other errors, but after
+        Deadlock it must return or raise. `timeout` is that of context()."""
         with self.context(timeout) as context:
             while True:
                 try:
@@ -132,9 +152,9 @@ class Class:
 
 
 class Mutex:
-    """A mutex of a class. `with mutex:` holds it alone, by a context of its own. Already: this thread holds it. Where the
-    handler of a signal raises just as that block ends, it may stay held: a block of Class.context() always releases (but for
-    Python 3.9, which itself may raise between the block and its end)."""
+    """A mutex of a class. `with mutex:` holds only this one, with a context of its own. Already: this thread holds it. If
+    the handler of a signal raises just as that block ends, it may stay held; a block of Class.context() always releases
+    (except in Python 3.9, which itself may raise between the block and its end)."""
 
     def __init__(self, of):
         if not isinstance(of, Class):
@@ -164,17 +184,17 @@ class Mutex:
         alone._end()
 
     def locked(self):
-        """Whether somebody holds it, at a glance."""
+        """Whether somebody holds it: that may be out of date when it returns."""
         return self._library.ww_mutex_is_locked(self._at)
 
 
 class Context:
-    """A context, for one thread: `with Class.context() as context`. In each other thread, and outside the block, its calls
-    are EINVAL; but cancel is for any thread."""
+    """A context, for one thread: `with Class.context() as context`. A task of asyncio gets one of its own by `async with`,
+    whose lock is awaited. In other threads, and outside the block, its calls are EINVAL, except cancel."""
 
     def __init__(self, of, timeout=None):
         self._class, self._library, self._timeout = of, of._library, timeout
-        self._thread = None
+        self._thread = self._of_task = None
         self._begun = None  # An event, where another thread begins it: that it has.
         # What the library may still read, and what it said that the context holds. An interrupt may come between
         # two lines: so a mutex is in the first before it can be held, and leaves the second before it is released.
@@ -197,6 +217,18 @@ class Context:
                 self._end()
             raise
         return self  # Behind the last call no signal is heard before the block.
+
+    async def __aenter__(self):
+        from .tasks import TaskContext  # asyncio is loaded for those who use it
+
+        if self._thread is not None or self._timeout is not None:
+            raise _wrong("a context begins once, and a task's without a timeout: asyncio has some")
+        self._of_task = TaskContext(self._class)
+        await self._of_task.begin()
+        return self._of_task
+
+    async def __aexit__(self, *_):
+        self._of_task.end()
 
     def _begin(self, until=None):
         code = self._library.ww_acquire_init_checked(self._at, self._class._at)
@@ -232,14 +264,10 @@ class Context:
         return codes[0]
 
     def _check(self, *mutexes):
-        """What would be wrong with a call of this thread."""
+        """Raises if a call of this thread would be misuse."""
         if self._is_over or self._thread != threading.get_ident():
-            raise _wrong("the context is of another thread, or of no `with` block that goes on")
-        for mutex in mutexes:
-            if not isinstance(mutex, Mutex):
-                raise TypeError(f"{mutex!r} is no ww.Mutex")
-            if mutex._class is not self._class:
-                raise _wrong("the mutex is of another class")
+            raise _wrong("the context belongs to another thread, or its `with` block isn't running")
+        self._class._check(*mutexes)
 
     def _is_contended(self):
         """Whether it was told Deadlock, and hasn't backed off since."""
@@ -279,10 +307,10 @@ class Context:
             raise
 
     def lock(self, *mutexes, timeout=None):
-        """Acquires all of them, and waits for them; at the longest for so many seconds (TimeoutError), or until it is called
-        off (InterruptedError). One that is free is acquired, however late it is. A context that held nothing before
-        backs off by itself; any other one may be told Deadlock, and releases all. Already: it holds one of them.
-        Where it fails, it has released what it acquired here."""
+        """Acquires all of them, and waits for them; at most for `timeout` seconds (TimeoutError), or until it is cancelled
+        (InterruptedError). One that is free is acquired, however late it is. A context that held nothing before backs
+        off by itself; any other one may raise Deadlock, and must release everything. Already: it holds one of them.
+        If it fails, it has released what it acquired here."""
         self._check(*mutexes)
         until = _until(timeout)
         held_nothing = not self._held
@@ -300,7 +328,7 @@ class Context:
                 raise
 
     def try_lock(self, mutex):
-        """Acquires it if nobody has it or waits for it; whether it did."""
+        """Acquires it if nobody has it or waits for it; returns whether it did."""
         self._check(mutex)
         return self._asks(mutex, lambda: -errno.EBUSY * (not self._library.ww_mutex_trylock(mutex._at, self._at))) == 0
 
@@ -314,7 +342,7 @@ class Context:
         self._near.discard(mutex._its_end)
 
     def unlock_all(self):
-        """Releases all. After a Deadlock the next lock call first waits for the mutex at which that came."""
+        """Releases everything. After Deadlock the next lock call first waits for the contended mutex."""
         self._check()
         held = self._held.copy()
         self._held.clear()
@@ -329,10 +357,11 @@ class Context:
         return isinstance(mutex, Mutex) and mutex._its_end in self._held
 
     def done(self):
-        """It has all its mutexes. EINVAL: this was said before."""
+        """Says that it has all its mutexes. EINVAL: this was said before."""
         self._check()
         told(self._library.ww_acquire_done_checked(self._at))
 
     def cancel(self):
-        """Calls its wait off, this one or the next, by any thread. Already: that is pending; EINVAL: it has ended."""
+        """Ends its wait, the current one or the next; any thread may call it. Already: a cancel is pending; EINVAL: the
+        context has ended."""
         told(self._library.ww_acquire_cancel(self._at))  # Before the end or behind it: no other thread of Python runs amid either.

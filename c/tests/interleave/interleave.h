@@ -21,8 +21,6 @@ struct il_program {
 	unsigned flags, most;	/* of the above and of programs.c; the bound, where no other is asked for */
 };
 extern const struct il_program il_programs[];
-/* Those that fail because of what is known to be wrong; one of these that doesn't fail is told too. */
-extern const char *const il_fail_yet[];
 void il_setup(const struct il_program *p);
 void il_thread(const char *text);
 /* Once all threads have ended. */

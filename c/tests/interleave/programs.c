@@ -9,54 +9,74 @@
  *	a b m	locks, and backs off	A B M	unlocks
  *	?	the next lock is tried; t: until a time; i: interruptible; where it has none, all up to its unlock is left out
  *	n	the next lock is without a context; !: it has to fail; .: it must not
+ *	y	the next lock or ( is by polls: it sleeps until its waker is called; z: it polls once more without need; x: it ends
+ *		the wait, and where it has none, all up to the unlock or ) is left out; h: whoever is called goes on with it
+ *	H	waits for that, and goes on with the context, which ends there, and is gone: where there is none, all up to ) is left out
  *	Lab;	locks these in a loop	U	unlocks all of it	&ab;	locks these as a list
  *	Kab;	as L, but once told to back off it unlocks what it holds one by one, and locks that one before it begins anew
- *	+	adds to what each mutex guards that is held
  *	-	under m: one user less	D	whoever was the last one destroys m, and its memory goes
  *	d	destroys m where nobody has it or waits for it, and makes it anew
  *	c	cancels			1-9	something has happened	~1	waits for that, which orders	_1	which doesn't	=1	it has
  *	s w	waits until somebody waits for a context, unless 4 has happened; until somebody waits for m
  *	F	frees the class, asking until it is free	v	looks at its counts
- *	T G g	takes a number, if one is free (.: one is); puts back that taken last, or first
- *	p P	puts the number of m, which is to be -EBUSY; which one thread is to have done	@1	the thread's stack of numbers is this one
+ *	T G	takes a number, if one is free (.: one is); puts back that taken last
+ *	q	asks whether anybody has the number of m
+ *	p P	puts the number of m, which is to be -EBUSY; which one thread is to have done
  *	Where a program is NUMBERED all mutexes are known by their numbers.
  */
 #define _GNU_SOURCE
 #include "interleave.h"
 #include "ww_pool.h"
 #include "ww_number.h"
+#include "ww_poll.h"
 #include <ctype.h>
 #include <stdio.h>
 #include <string.h>
 
 #define CONTEXTS(n) ((n) << 4)
 #define KEEP(n) ((n) << 12) /* so many threads keep a seat besides */
-enum { WAIT_DIE = 1 << 8, STATIC = 1 << 9, GIVEN = 1 << 10, NUMBERED = 1 << 11 };
+/* The class says no number of contexts: so two for threads, and two for tasks. */
+#define TASKS (CONTEXTS(2) | HAS_TASKS)
+enum { WAIT_DIE = 1 << 8, STATIC = 1 << 9, NUMBERED = 1 << 10, CROWDS = 1 << 14, HAS_TASKS = 1 << 15, SLOW = 1 << 16, OVER = 1 << 17 };
 
 enum way { FREE, BY_CONTEXT, ALONE, BY_LOOP };
 struct user {
 	struct ww_acquire_ctx *own, *x; /* two, the second once the first is another's */
 	enum way held[3];
 	struct ww_seat *by[3];
-	bool told, last;
+	bool told, last, goes_on;
 	uint32_t number[2];
 	unsigned numbers;
+	struct ww_seek seek;
 };
+
+/* What a poll's waker was to do, and did. */
+enum due { NEVER, ONCE };
+struct polled {
+	uint32_t calls;
+	enum due due;
+};
+enum { POLLS = 12 };
 
 static struct ww_class c;
 static struct ww_mutex *mutexes;
 static bool numbered;
 static uint32_t numbers[3];
 static struct ww_acquire_ctx contexts[IL_THREADS + 1][2], *shared, *given;
-static unsigned long sum[3], added[3][IL_THREADS + 1];
+static unsigned holder[3];
 static bool put[IL_THREADS + 1];
-static uint32_t inside, most, keep, users[8], happened[10], refs, owner[4], cancels, met;
+/* The numbers are so far apart. */
+enum { IN_A_LINE = 4 };
+static uint32_t inside, most, keep, tasks, users[8], happened[10], refs, owner[3], cancels, met;
 static struct timespec soon;
+static struct polled polled[IL_THREADS + 1][POLLS];
+static unsigned polls[IL_THREADS + 1];
+static struct ww_acquire_ctx *left; /* by h, to whoever is called */
+static uint32_t handed;
 
 #define SEEN(word) __atomic_load_n(&(word), __ATOMIC_RELAXED)
 #define ADD(word, by) __atomic_fetch_add(&(word), by, __ATOMIC_RELAXED)
 
-static const char letters[] = "abm";
 static unsigned index_of(char letter) { return tolower(letter) == 'm' ? 2 : (unsigned)(tolower(letter) - 'a'); }
 static struct ww_mutex *mutex_of(char letter) { return &mutexes[index_of(letter)]; }
 
@@ -69,10 +89,30 @@ static bool names(const struct il_program *p, const char *some)
 	return false;
 }
 
-static void add_by(unsigned k)
+/* Plain accesses, so a holder who wasn't ordered behind the one before is told as a race. */
+static void is_held(struct user *u, unsigned k, enum way way)
 {
-	sum[k]++;
-	added[k][il_me()]++;
+	MUST(!holder[k]);
+	holder[k] = il_me();
+	u->held[k] = way;
+}
+
+static void is_held_no_more(struct user *u, unsigned k)
+{
+	MUST(holder[k] == il_me());
+	holder[k] = 0;
+	u->held[k] = FREE;
+}
+
+/* A crowd of one permit, to be given up once this comes to little, or over amid the first one. */
+static void begin_crowd(bool is_slow)
+{
+	struct timespec now;
+
+	MUST(!clock_gettime(CLOCK_MONOTONIC, &now));
+	c.pool->at_hand = CROWDED;
+	c.pool->crowd.slow = is_slow ? 2 : 0;
+	c.pool->crowd.over = is_slow ? UINT64_MAX : (uint64_t)now.tv_sec * 1000000000 + (uint64_t)now.tv_nsec + 1;
 }
 
 /* ---- ww_mutex.h, ww_number.h ---- */
@@ -82,11 +122,13 @@ void il_setup(const struct il_program *p)
 	ww_class_init(&c, !!(p->flags & WAIT_DIE), "c");
 	most = p->flags >> 4 & 15;
 	keep = p->flags >> 12 & 3;
-	MUST(!ww_class_limit(&c, 3, most) && (!keep || !ww_class_open_kept(&c, keep)));
+	MUST(!ww_class_crowd(&c, p->flags & CROWDS ? 1 : WW_NO_CROWD));
+	tasks = p->flags & HAS_TASKS ? 2 : 0;
+	MUST(!ww_class_limit(&c, 3, tasks ? 0 : most) && (!(keep || tasks) || !ww_class_open_kept(&c, keep)));
 	mutexes = il_new(3 * sizeof *mutexes);
 	shared = il_new(sizeof *shared);
 	numbered = p->flags & NUMBERED;
-	for (const char *at = p->flags & (STATIC | NUMBERED) ? "" : "abm"; *at; at++)
+	for (const char *at = p->flags & NUMBERED ? "" : p->flags & STATIC ? "ab" : "abm"; *at; at++)
 		if (names(p, (char[]){ *at, 0 }))
 			ww_mutex_init(mutex_of(*at), &c);
 	for (unsigned k = 0; numbered && k < 3; k++)
@@ -95,15 +137,12 @@ void il_setup(const struct il_program *p)
 		*mutex_of('m') = (struct ww_mutex)WW_MUTEX_INIT(&c);
 	else
 		MUST(!ww_class_open(&c));
-	/* Two numbers are free that had an owner, and none that had not. */
-	for (unsigned k = 0; p->flags & GIVEN && k < 3; k++)
-		MUST(!ww_number_take(&owner[3], &c));
-	for (unsigned k = 0; p->flags & GIVEN && k < 2; k++)
-		MUST(!ww_number_put(k, &c));
 	for (unsigned k = 0; k < IL_THREADS && p->threads[k]; k++)
 		refs += !!strchr(p->threads[k], '-');
 	if (names(p, "[t"))
 		soon = il_in(1000000);
+	if (p->flags & (SLOW | OVER))
+		begin_crowd(p->flags & SLOW);
 }
 
 /* All that was taken was put back. */
@@ -112,22 +151,22 @@ void il_check(const struct il_program *p)
 	struct ww_acquire_ctx x[8];
 	uint32_t kept = 0;
 
-	for (unsigned k = 0; k < 3; k++) {
-		MUST(sum[k] == added[k][1] + added[k][2] + added[k][3] + added[k][4]);
+	for (unsigned k = 0; k < 3; k++)
 		if ((k < 2 || !names(p, "D")) && mutexes[k].pool)
 			MUST(!ww_mutex_destroy(&mutexes[k]));
-	}
 	MUST(met <= cancels && put[1] + put[2] == names(p, "P"));
 #ifdef WW_DEBUG
 	/* Of these, each call is right, and none is dangerous. */
 	MUST(names(p, "n>LKdDFP") || (!ww_debug_faults() && !ww_debug_dangers()));
 #endif
-	if (p->flags & GIVEN)
-		MUST(!ww_number_put(2, &c));
+	for (unsigned k = 1; k <= IL_THREADS; k++)
+		for (unsigned i = 0; i < polls[k]; i++)
+			MUST(polled[k][i].calls == polled[k][i].due);
 	for (unsigned k = 0; numbered && k < 3; k++)
 		MUST(ww_number_put(numbers[k], &c) == (k == 2 && names(p, "P") ? -EINVAL : 0));
 	if (c.pool) {
-		MUST(!c.pool->seekers && !c.pool->first);
+		MUST(!c.pool->loose.seekers && !c.pool->loose.first && !c.pool->crowd.first && !c.pool->crowd.asleep);
+		MUST(!(p->flags & (SLOW | OVER)) || !is_crowded(c.pool));
 		for (const ww_seat *it = c.pool->unkept; it; it = it->next)
 			kept++;
 		MUST(kept == keep);
@@ -137,15 +176,21 @@ void il_check(const struct il_program *p)
 		MUST(ww_acquire_init_checked(&x[most], &c) == -EAGAIN);
 		for (uint32_t k = 0; k < most; k++)
 			ww_acquire_fini(&x[k]);
-		MUST(ww_free_numbers(&c.pool->numbers) == 3);
+		MUST(!c.pool->tasks.seekers && !c.pool->tasks.first && !c.pool->tasks.owed);
+		for (uint32_t k = 0; k < tasks; k++)
+			MUST(!ww_acquire_init_poll(&x[k], &c, NULL, NULL));
+		MUST(!tasks || ww_acquire_init_poll(&x[tasks], &c, NULL, NULL) == -ETIMEDOUT);
+		for (uint32_t k = 0; k < tasks; k++)
+			ww_acquire_fini(&x[k]);
+		MUST(!taken_numbers(c.pool));
 	}
 	MUST(!ww_class_free(&c));
 }
 
-static uint32_t *user_of(const ww_seat *s) { return &users[s - c.pool->world->seats]; }
+static uint32_t *user_of(const ww_seat *s) { return &users[s - c.pool->seats]; }
 
 /* A context has a seat of its own. */
-static void enter(const ww_seat *s) { MUST(ADD(inside, 1) < most + keep && !ADD(*user_of(s), 1)); }
+static void enter(const ww_seat *s) { MUST(ADD(inside, 1) < most + keep + tasks && !ADD(*user_of(s), 1)); }
 
 static void leave(const ww_seat *s)
 {
@@ -153,33 +198,134 @@ static void leave(const ww_seat *s)
 	ADD(*user_of(s), -1u);
 }
 
-static int begin(struct user *u, char how)
+/* ---- ww_poll.h ---- */
+
+/* Nothing is locked then, and it is at most once. */
+static void is_called(void *loop, void *task)
+{
+	struct polled *it = task;
+
+	(void)loop;
+	pthread_mutex_lock(&c.pool->queue);
+	pthread_mutex_unlock(&c.pool->queue);
+	pthread_mutex_lock(&c.pool->spare);
+	pthread_mutex_unlock(&c.pool->spare);
+	MUST(!__atomic_load_n(&it->calls, __ATOMIC_RELAXED));
+	il_set(&it->calls);
+}
+
+static void hands_on(void *loop, void *task)
+{
+	is_called(loop, task);
+	il_set(&handed);
+}
+
+/* A poll of a mutex, or with -1 of a context's begin. */
+static int poll_once(struct user *u, int k, const struct ww_waker *waker)
+{
+	if (k < 0)
+		return ww_acquire_init_poll(u->x, &c, &u->seek, waker);
+	return numbered ? ww_number_lock_poll(numbers[k], u->x, waker) : ww_mutex_lock_poll(&mutexes[k], u->x, waker);
+}
+
+/* What is due of it is known as long as no other poll has come: else somebody may be about to call it. */
+static void take_back(struct user *u, int k, struct polled *it)
+{
+	if (ww_poll_take_back(u->x, k < 0 ? &u->seek : NULL))
+		it->due = NEVER;
+}
+
+/* As the words say; -ETIMEDOUT where it ended the wait. */
+static int by_polls(struct user *u, int k, const char *how)
+{
+	bool again = strchr(how, 'z'), ends = strchr(how, 'x');
+
+	for (;;) {
+		struct polled *it = &polled[il_me()][polls[il_me()]++];
+		int r;
+
+		MUST(polls[il_me()] <= POLLS);
+		it->due = ONCE;
+		r = poll_once(u, k, &(struct ww_waker){ is_called, NULL, it });
+		if (r != -EINPROGRESS) {
+			it->due = NEVER;
+			return r;
+		}
+		if (again || ends)
+			take_back(u, k, it);
+		if (ends)
+			return poll_once(u, k, NULL);
+		if (!again)
+			il_await(&it->calls);
+		again = false;
+	}
+}
+
+/* From -EINPROGRESS on all of it is whoever's who is called. */
+static int by_another(struct user *u, unsigned k)
+{
+	struct polled *it = &polled[il_me()][polls[il_me()]++];
+	int r;
+
+	it->due = ONCE;
+	left = u->x;
+	leave(u->x->own);
+	r = poll_once(u, (int)k, &(struct ww_waker){ hands_on, NULL, it });
+	if (r == -EINPROGRESS)
+		return r;
+	it->due = NEVER;
+	enter(u->x->own);
+	left = NULL;
+	il_set(&handed);
+	return r;
+}
+
+/* Whether there is a context to go on with. */
+static bool goes_on(struct user *u)
+{
+	il_await(&handed);
+	if (!left)
+		return false;
+	u->x = left;
+	u->goes_on = true;
+	enter(u->x->own);
+	return true;
+}
+
+static int begin(struct user *u, char how, const char *words)
 {
 	int r = 0;
 
-	if (how == '(')
+	if (strpbrk(words, "xyz"))
+		r = by_polls(u, -1, words);
+	else if (how == '(')
 		ww_acquire_init(u->x, &c);
 	else if (how == '[')
 		r = ww_acquire_init_until(u->x, &c, &soon);
 	else
 		r = ww_acquire_init_checked(u->x, &c);
-	MUST(!r || r == (how == '[' ? -ETIMEDOUT : -EAGAIN));
+	MUST(!r || r == (how == '{' ? -EAGAIN : -ETIMEDOUT));
 	if (!r)
 		enter(u->x->own);
 	return r;
 }
 
-static void unlock(struct user *u, char letter)
+static void unlock_plainly(const struct user *u, unsigned k, enum way way)
 {
-	unsigned k = index_of(letter);
-
 	if (!numbered)
 		ww_mutex_unlock(&mutexes[k]);
-	else if (u->held[k] == ALONE)
+	else if (way == ALONE)
 		ww_number_unlock_alone(numbers[k], u->by[k]);
 	else
 		MUST(!ww_number_unlock(numbers[k], u->x));
-	u->held[k] = FREE;
+}
+
+static void unlock(struct user *u, unsigned k)
+{
+	enum way way = u->held[k];
+
+	is_held_no_more(u, k);
+	unlock_plainly(u, k, way);
 }
 
 static int lock_plainly(const struct user *u, unsigned k)
@@ -188,16 +334,15 @@ static int lock_plainly(const struct user *u, unsigned k)
 }
 
 /* All that it held by its context it holds again, and this one. */
-static void back_off(struct user *u, char letter)
+static void back_off(struct user *u, unsigned slow)
 {
 	bool again[3];
 	int r = -EDEADLK;
 
 	for (unsigned k = 0; k < 3; k++)
 		if ((again[k] = u->held[k] == BY_CONTEXT))
-			unlock(u, letters[k]);
-	again[index_of(letter)] = true;
-	for (unsigned slow = index_of(letter); r == -EDEADLK;) {
+			unlock(u, k);
+	for (again[slow] = true; r == -EDEADLK;) {
 		unsigned k;
 
 		if (numbered)
@@ -210,11 +355,12 @@ static void back_off(struct user *u, char letter)
 		MUST(!r || r == -EDEADLK);
 		for (unsigned i = 0; r && i < 3; i++)
 			if (again[i] && (i < k - 1 || i == slow))
-				unlock(u, letters[i]);
+				unlock_plainly(u, i, BY_CONTEXT);
 		slow = k - 1;
 	}
 	for (unsigned k = 0; k < 3; k++)
-		u->held[k] = again[k] ? BY_CONTEXT : u->held[k];
+		if (again[k])
+			is_held(u, k, BY_CONTEXT);
 }
 
 static int lock_number(struct user *u, unsigned k, const struct timespec *until, bool alone, bool tries)
@@ -236,7 +382,11 @@ static int lock(struct user *u, char letter, const char *how)
 	const struct timespec *until = ends ? &soon : NULL;
 	int r;
 
-	if (numbered && !alone && !tries && !ends && !strchr(how, 'i'))
+	if (strpbrk(how, "xyz"))
+		r = by_polls(u, (int)k, how);
+	else if (strchr(how, 'h'))
+		r = by_another(u, k);
+	else if (numbered && !alone && !tries && !ends && !strchr(how, 'i'))
 		r = lock_plainly(u, k);
 	else if (numbered)
 		r = lock_number(u, k, until, alone, tries);
@@ -249,15 +399,16 @@ static int lock(struct user *u, char letter, const char *how)
 	MUST(!strchr(how, '!') || r == (ends ? -ETIMEDOUT : -EINTR));
 	MUST(!strchr(how, '.') || !r);
 	if (r == -EDEADLK) {
-		back_off(u, letter);
+		back_off(u, k);
 		return 0;
 	}
-	MUST(!r || tries || (r == -ETIMEDOUT && ends) || (r == -EINTR && strchr(how, 'i')));
+	MUST(!r || tries || (r == -ETIMEDOUT && (ends || strchr(how, 'x'))) || (r == -EINTR && strchr(how, 'i')) ||
+	     (r == -EINPROGRESS && strchr(how, 'h')));
 	if (r == -EINTR)
 		ADD(met, 1);
 	if (!r) {
 		MUST(numbered || ww_mutex_is_held_by(m, x));
-		u->held[k] = alone ? ALONE : BY_CONTEXT;
+		is_held(u, k, alone ? ALONE : BY_CONTEXT);
 	}
 	return r;
 }
@@ -275,7 +426,7 @@ static bool has(const struct user *u, unsigned k)
 	return numbered ? ww_number_is_held(numbers[k], u->x) : ww_mutex_is_held_by(&mutexes[k], u->x);
 }
 
-/* Told to back off, it is refused all of these, as the table in ww_mutex.c says. */
+/* Told to back off, it is refused all of these, as the table in ww_loop.c says. */
 static void is_refused(const struct user *u, const char *at)
 {
 	MUST(ww_is_contended(u->x));
@@ -292,7 +443,7 @@ static void back_off_by_hand(struct user *u, const char *at, unsigned contended)
 {
 	for (; *at != ';'; at++)
 		if (has(u, index_of(*at)))
-			unlock(u, *at);
+			unlock_plainly(u, index_of(*at), BY_LOOP);
 	MUST(!lock_plainly(u, contended) && !ww_is_contended(u->x));
 	ww_acquire_unlock_all(u->x);
 }
@@ -314,7 +465,7 @@ static const char *loop(struct user *u, const char *at, bool by_hand)
 		}
 	}
 	for (; *at != ';'; at++)
-		u->held[index_of(*at)] = BY_LOOP;
+		is_held(u, index_of(*at), BY_LOOP);
 	return at;
 }
 
@@ -323,20 +474,20 @@ static const char *list(struct user *u, const char *at)
 	struct ww_mutex *locks[3];
 	size_t count = 0;
 
-	for (; *at != ';'; at++) {
-		locks[count++] = mutex_of(*at);
-		u->held[index_of(*at)] = BY_CONTEXT;
-	}
+	for (; at[count] != ';'; count++)
+		locks[count] = mutex_of(at[count]);
 	MUST(!ww_mutex_lock_all(u->x, locks, count));
+	for (; *at != ';'; at++)
+		is_held(u, index_of(*at), BY_CONTEXT);
 	return at;
 }
 
 static void unlock_loop(struct user *u)
 {
-	ww_acquire_unlock_all(u->x);
 	for (unsigned k = 0; k < 3; k++)
 		if (u->held[k] == BY_LOOP)
-			u->held[k] = FREE;
+			is_held_no_more(u, k);
+	ww_acquire_unlock_all(u->x);
 }
 
 /* Until nobody has it or waits for it; then its memory goes. */
@@ -354,9 +505,11 @@ static void destroy_last(void)
 /* A waiter that was there before has had it before it is destroyed, which happened[8] says. */
 static void destroy_beside(void)
 {
-	int r = ww_mutex_destroy(mutex_of('m'));
+	int r = numbered ? ww_number_put(numbers[2], &c) : ww_mutex_destroy(&mutexes[2]);
 
-	MUST(r ? r == -EBUSY : SEEN(happened[8]) && !ww_mutex_init_checked(mutex_of('m'), &c));
+	MUST(r ? r == -EBUSY : SEEN(happened[8]));
+	if (!r)
+		MUST(!(numbered ? ww_number_take(&numbers[2], &c) : ww_mutex_init_checked(&mutexes[2], &c)));
 }
 
 static void free_class(void)
@@ -371,25 +524,37 @@ static void free_class(void)
 
 static void take_number(struct user *u, bool is_there)
 {
-	int r = ww_number_take(&u->number[u->numbers], &c);
+	uint32_t *number = &u->number[u->numbers];
+	int r = ww_number_take(number, &c);
 
 	MUST(!r || (r == -ENOSPC && !is_there));
-	if (!r)
-		MUST(u->number[u->numbers] < 3 && !ADD(owner[u->number[u->numbers++]], 1));
+	if (r)
+		return;
+	MUST(*number / IN_A_LINE < 3 && !owner[*number / IN_A_LINE]);
+	owner[*number / IN_A_LINE] = il_me();
+	u->numbers++;
 }
 
-/* The one that it took first, or last. */
-static void give_number(struct user *u, bool first)
+/* The one that it took last, if any. */
+static void put_number(struct user *u)
 {
-	uint32_t given = u->number[first ? 0 : u->numbers - 1];
-
 	if (!u->numbers)
 		return;
-	u->number[0] = first ? u->number[1] : u->number[0];
-	u->numbers--;
-	ADD(owner[given], -1u);
-	MUST(!ww_number_put(given, &c));
+	owner[u->number[--u->numbers] / IN_A_LINE] = 0;
+	MUST(!ww_number_put(u->number[u->numbers], &c));
 }
+
+static void end_context(struct user *u)
+{
+	leave(u->x->own);
+	ww_acquire_fini(u->x);
+	if (u->goes_on)
+		il_gone(u->x, sizeof *u->x);
+	u->x = &u->own[u->x == &u->own[1]];
+}
+
+/* For m; of a number's count the highest bit says that it is taken. */
+static bool are_waiting(void) { return numbered ? SEEN(c.pool->numbered[numbers[2]].waiters) << 1 : SEEN(mutexes[2].waiters); }
 
 static void act(struct user *u, char what, const char *how)
 {
@@ -400,26 +565,21 @@ static void act(struct user *u, char what, const char *how)
 	case '>': given = u->x; u->x = &u->own[1]; break;
 	case '^': u->x = &u->own[1]; break;
 	case '<': u->x = given; break;
-	case ')': leave(u->x->own); ww_acquire_fini(u->x); u->x = &u->own[u->x == &u->own[1]]; break;
+	case ')': end_context(u); break;
 	case 'U': unlock_loop(u); break;
 	case '-': u->last = !--refs; break;
 	case 'D': if (u->last) destroy_last(); break;
 	case 'd': destroy_beside(); break;
 	case 'c': ADD(cancels, 1); MUST(!ww_acquire_cancel(shared)); break;
-	case 's': while (!SEEN(c.pool->seekers) && !SEEN(happened[4])) il_yield(); break;
-	case 'w': while (!SEEN(mutex_of('m')->waiters)) il_yield(); break;
+	case 's': while (!SEEN(c.pool->loose.seekers) && !SEEN(happened[4])) il_yield(); break;
+	case 'w': while (!are_waiting()) il_yield(); break;
 	case 'F': free_class(); break;
 	case 'v': ww_class_stats(&c, &counts); MUST(counts.context_waits <= 8); break;
 	case 'T': take_number(u, strchr(how, '.')); break;
-	case 'G': give_number(u, false); break;
-	case 'g': give_number(u, true); break;
+	case 'G': put_number(u); break;
 	case 'P': put[il_me()] = !ww_number_put(numbers[2], &c); break;
+	case 'q': (void)ww_number_is_locked(numbers[2], &c); break;
 	case 'p': MUST(ww_number_put(numbers[2], &c) == -EBUSY); break;
-	case '+':
-		for (unsigned k = 0; k < 3; k++)
-			if (u->held[k])
-				add_by(k);
-		break;
 	default: il_fail("no such call: %c", what);
 	}
 }
@@ -430,22 +590,22 @@ void il_thread(const char *at)
 	char how[4] = "";
 
 	for (; *at; at++) {
-		if (strchr("?tin!.", *at)) {
+		if (strchr("?tin!.xyzh", *at)) {
 			strncat(how, at, 1);
 			continue;
 		}
 		if (strchr("([{", *at))
-			at = begin(&u, *at) ? past(at, ')') : at;
+			at = begin(&u, *at, how) ? past(at, ')') : at;
 		else if (strchr("abm", *at))
-			at = lock(&u, *at, how) ? past(at, (char)toupper(*at)) : at;
+			at = lock(&u, *at, how) ? past(at, strchr(how, 'h') ? ')' : (char)toupper(*at)) : at;
+		else if (*at == 'H')
+			at = goes_on(&u) ? at : past(at, ')');
 		else if (strchr("ABM", *at))
-			unlock(&u, *at);
+			unlock(&u, index_of(*at));
 		else if (*at == 'L' || *at == 'K')
 			at = loop(&u, at + 1, *at == 'K');
 		else if (*at == '&')
 			at = list(&u, at + 1);
-		else if (*at == '@')
-			ww_mine.thread = STACKS + (uint64_t)(*++at - '0');
 		else if (*at == '~')
 			il_await(&happened[*++at - '0']);
 		else if (*at == '=')
@@ -461,36 +621,35 @@ void il_thread(const char *at)
 	}
 }
 
-const char *const il_fail_yet[] = { NULL };
-
 const struct il_program il_programs[] = {
-	{ "lock", { "(a+A)", "(a+A)" }, CONTEXTS(4), 3 },
-	{ "lock-try", { "(a+A)", "(?a+A)" }, CONTEXTS(4), 3 },
-	{ "lock-alone", { "(a+A)", "na+A" }, CONTEXTS(4), 3 },
-	{ "alone", { "na+A", "na+A" }, CONTEXTS(4), 3 },
-	{ "alone-try", { "na+A", "?na+A" }, CONTEXTS(4), 3 },
-	{ "try-try", { "(?a+A)", "?na+A" }, CONTEXTS(4), 3 },
-	{ "slow", { "(ab+AB)", "(ba+BA)" }, CONTEXTS(4), 3 },
-	{ "slow-die", { "(ab+AB)", "(ba+BA)" }, CONTEXTS(4) | WAIT_DIE, 3 },
-	{ "loop", { "(Lab;+U)", "(Lba;+U)" }, CONTEXTS(4), 3 },
-	{ "loop-by-hand", { "(Kab;+U)", "(Lba;+U)" }, CONTEXTS(4), 3 },
-	{ "loop-by-hand-die", { "(Kab;+U)", "(Lba;+U)" }, CONTEXTS(4) | WAIT_DIE, 3 },
-	{ "list", { "(&ab;+AB)", "(&ba;+AB)" }, CONTEXTS(4), 3 },
-	{ "slow-loop", { "(ab+AB)", "(Lba;+U)" }, CONTEXTS(4), 3 },
-	{ "number", { "(a+A)", "na+A" }, CONTEXTS(4) | NUMBERED, 3 },
-	{ "number-try", { "(a+A)", "(?a+A)" }, CONTEXTS(4) | NUMBERED, 3 },
-	{ "number-slow", { "(ab+AB)", "(ba+BA)" }, CONTEXTS(4) | NUMBERED, 3 },
-	{ "number-slow-die", { "(ab+AB)", "(ba+BA)" }, CONTEXTS(4) | WAIT_DIE | NUMBERED, 3 },
-	{ "number-loop", { "(Lab;+U)", "(Lba;+U)" }, CONTEXTS(4) | NUMBERED, 3 },
-	{ "number-by-hand", { "(Kab;+U)", "(Lba;+U)" }, CONTEXTS(4) | NUMBERED, 2 },
-	{ "number-slow-loop", { "(ab+AB)", "(Lba;+U)" }, CONTEXTS(4) | NUMBERED, 3 },
-	{ "lock-spurious", { "(a+A)", "(a+A)" }, CONTEXTS(4) | IL_SPURIOUS, 3 },
-	{ "lock-few", { "(a+A)", "(ab+AB)" }, CONTEXTS(1), 3 },
-	{ "lock-few-3", { "na+A", "(a+A)", "nb+B" }, CONTEXTS(1), 2 },
-	{ "lock-3", { "(a+A)", "(a+A)", "(a+A)" }, CONTEXTS(4), 2 },
-	{ "slow-3", { "(ab+AB)", "(ba+BA)", "(a+A)" }, CONTEXTS(4), 1 },
-	{ "ring", { "(ab+AB)", "(bm+BM)", "(ma+MA)" }, CONTEXTS(4), 1 },
-	{ "ring-die", { "(ab+AB)", "(bm+BM)", "(ma+MA)" }, CONTEXTS(2) | WAIT_DIE, 1 },
+	{ "lock", { "(aA)", "(aA)" }, CONTEXTS(4), 3 },
+	{ "lock-try", { "(aA)", "(?aA)" }, CONTEXTS(4), 3 },
+	{ "lock-alone", { "(aA)", "naA" }, CONTEXTS(4), 3 },
+	{ "alone", { "naA", "naA" }, CONTEXTS(4), 3 },
+	{ "alone-try", { "naA", "?naA" }, CONTEXTS(4), 3 },
+	{ "try-try", { "(?aA)", "?naA" }, CONTEXTS(4), 3 },
+	{ "slow", { "(abAB)", "(baBA)" }, CONTEXTS(4), 3 },
+	{ "slow-die", { "(abAB)", "(baBA)" }, CONTEXTS(4) | WAIT_DIE, 3 },
+	{ "loop", { "(Lab;U)", "(Lba;U)" }, CONTEXTS(4), 3 },
+	{ "loop-by-hand", { "(Kab;U)", "(Lba;U)" }, CONTEXTS(4), 3 },
+	{ "loop-by-hand-die", { "(Kab;U)", "(Lba;U)" }, CONTEXTS(4) | WAIT_DIE, 3 },
+	{ "loop-out-of-turn", { "(Lab;AB)", "?nbB" }, CONTEXTS(4), 3 },
+	{ "list", { "(&ab;AB)", "(&ba;AB)" }, CONTEXTS(4), 3 },
+	{ "slow-loop", { "(abAB)", "(Lba;U)" }, CONTEXTS(4), 3 },
+	{ "number", { "(aA)", "naA" }, CONTEXTS(4) | NUMBERED, 3 },
+	{ "number-try", { "(aA)", "(?aA)" }, CONTEXTS(4) | NUMBERED, 3 },
+	{ "number-slow", { "(abAB)", "(baBA)" }, CONTEXTS(4) | NUMBERED, 3 },
+	{ "number-slow-die", { "(abAB)", "(baBA)" }, CONTEXTS(4) | WAIT_DIE | NUMBERED, 3 },
+	{ "number-loop", { "(Lab;U)", "(Lba;U)" }, CONTEXTS(4) | NUMBERED, 3 },
+	{ "number-by-hand", { "(Kab;U)", "(Lba;U)" }, CONTEXTS(4) | NUMBERED, 2 },
+	{ "number-slow-loop", { "(abAB)", "(Lba;U)" }, CONTEXTS(4) | NUMBERED, 3 },
+	{ "lock-spurious", { "(aA)", "(aA)" }, CONTEXTS(4) | IL_SPURIOUS, 3 },
+	{ "lock-few", { "(aA)", "(abAB)" }, CONTEXTS(1), 3 },
+	{ "lock-few-3", { "naA", "(aA)", "nbB" }, CONTEXTS(1), 2 },
+	{ "lock-3", { "(aA)", "(aA)", "(aA)" }, CONTEXTS(4), 2 },
+	{ "slow-3", { "(abAB)", "(baBA)", "(aA)" }, CONTEXTS(4), 1 },
+	{ "ring", { "(abAB)", "(bmBM)", "(maMA)" }, CONTEXTS(4), 1 },
+	{ "ring-die", { "(abAB)", "(bmBM)", "(maMA)" }, CONTEXTS(2) | WAIT_DIE, 1 },
 	{ "contexts", { "()", "()" }, CONTEXTS(1), 3 },
 	{ "contexts-twice", { "()()", "()()" }, CONTEXTS(1), 2 },
 	{ "contexts-3", { "()", "()", "()" }, CONTEXTS(1), 2 },
@@ -502,12 +661,12 @@ const struct il_program il_programs[] = {
 	{ "contexts-soon-3", { "()", "[)", "[)" }, CONTEXTS(1), 2 },
 	{ "contexts-soon-first", { "()", "[)", "()" }, CONTEXTS(1), 2 },
 	{ "contexts-at-once", { "()", "{)", "{)" }, CONTEXTS(2), 2 },
-	{ "contexts-alone", { "()", "nb+B" }, CONTEXTS(1), 3 },
-	{ "seat-tried", { "(na)(A)", "?.nb+B" }, CONTEXTS(3), 3 },
-	{ "contexts-alone-3", { "()()", "nb+B", "()" }, CONTEXTS(2), 2 },
-	{ "contexts-alone-soon", { "()", "tnb+B", "()" }, CONTEXTS(1), 2 },
+	{ "contexts-alone", { "()", "nbB" }, CONTEXTS(1), 3 },
+	{ "seat-tried", { "(na)(A)", "?.nbB" }, CONTEXTS(3), 3 },
+	{ "contexts-alone-3", { "()()", "nbB", "()" }, CONTEXTS(2), 2 },
+	{ "contexts-alone-soon", { "()", "tnbB", "()" }, CONTEXTS(1), 2 },
 	{ "contexts-soon-again", { "()", "()", "[)()" }, CONTEXTS(1), 2 },
-	{ "contexts-in-turn", { "(1)", "~1(4)", "~1s(=4)" }, CONTEXTS(1), 3 },
+	{ "contexts-in-turn", { "~5(1)", "~1(4)", "()5~1s(=4)" }, CONTEXTS(1), 2 },
 	{ "contexts-kept", { "(>(<)()^)", "()" }, CONTEXTS(2), 3 },
 	{ "contexts-kept-3", { "(>(<)()^)", "()", "()" }, CONTEXTS(3), 2 },
 	{ "contexts-counts", { "()", "()", "v" }, CONTEXTS(1), 2 },
@@ -517,8 +676,8 @@ const struct il_program il_programs[] = {
 	{ "kept", { "()()", "()()" }, CONTEXTS(1) | KEEP(1), 3 },
 	{ "kept-2", { "()()", "()()", "()" }, CONTEXTS(1) | KEEP(2), 2 },
 	{ "kept-3", { "()()", "()", "()" }, CONTEXTS(1) | KEEP(1), 2 },
-	{ "kept-amid", { "(>()(<)^)", "()()" }, CONTEXTS(2) | KEEP(1), 3 },
-	{ "kept-alone", { "na+A()", "(nb+B)" }, CONTEXTS(2) | KEEP(1), 3 },
+	{ "kept-amid", { "()(>()(<)^)", "()()" }, CONTEXTS(2) | KEEP(1), 3 },
+	{ "kept-alone", { "()naA()", "(nbB)" }, CONTEXTS(2) | KEEP(1), 3 },
 	{ "kept-on", { "(>1()()", "~1<)" }, CONTEXTS(1) | KEEP(1), 3 },
 	{ "kept-on-delayed", { "(>1()()", "~1<)" }, CONTEXTS(1) | KEEP(1) | IL_DELAYS, 3 },
 	{ "kept-on-3", { "(>1()", "~1<)", "()" }, CONTEXTS(1) | KEEP(1), 2 },
@@ -527,6 +686,16 @@ const struct il_program il_programs[] = {
 	{ "kept-end-3", { "(>1", "~1<)", "()()" }, CONTEXTS(1) | KEEP(1), 3 },
 	{ "kept-end-2-of-3", { "(>1", "~1()<)", "()" }, CONTEXTS(1) | KEEP(2), 2 },
 	{ "kept-free", { "(>8", "~8<)9", "_8_9F()" }, CONTEXTS(1) | KEEP(1), 2 },
+	{ "kept-free-soon", { "(>8", "~8<)", "_8F()" }, CONTEXTS(1) | KEEP(1), 2 },
+	{ "rest", { "(La;U)(Lab;U)", "(Lb;U)(Lba;U)" }, CONTEXTS(1) | KEEP(2), 2 },
+	{ "rest-die", { "(La;U)(Lab;U)", "(Lb;U)(Lba;U)" }, CONTEXTS(1) | KEEP(2) | WAIT_DIE, 2 },
+	{ "rest-by-hand", { "(La;U)(abAB)", "(&b;B)(baBA)" }, CONTEXTS(1) | KEEP(2), 2 },
+	{ "rest-alone", { "(La;U)naA(Lab;U)", "(baBA)" }, CONTEXTS(1) | KEEP(2), 2 },
+	{ "rest-end", { "(La;U)", "(La;U)(baAB)" }, CONTEXTS(1) | KEEP(1), 3 },
+	{ "rest-on", { "(La;U)(La;U>1", "~1<)(Lb;U)" }, CONTEXTS(1) | KEEP(1), 3 },
+	{ "rest-on-delayed", { "(La;U)(La;U>1", "~1<)()" }, CONTEXTS(1) | KEEP(1) | IL_DELAYS, 3 },
+	{ "rest-on-back", { "(La;U)(La;U>1(bB)2", "~1<)~2(Lb;U)" }, CONTEXTS(1) | KEEP(2), 2 },
+	{ "rest-free", { "(Lm;-U)D8", "(9)", "_8_9F()" }, CONTEXTS(1) | KEEP(2), 2 },
 	{ "destroy", { "(m-M)D", "(m-M)D" }, CONTEXTS(4), 3 },
 	{ "destroy-alone", { "nm-MD", "nm-MD" }, CONTEXTS(4), 3 },
 	{ "destroy-both", { "(m-M)D", "nm-MD" }, CONTEXTS(4), 2 },
@@ -535,33 +704,89 @@ const struct il_program il_programs[] = {
 	{ "destroy-waiter", { "(m1~2M)", "(~1m8M)", "~1w2dd" }, CONTEXTS(4), 2 },
 	{ "destroy-waiter-alone", { "nm1~2M", "~1nm8M", "~1w2dd" }, CONTEXTS(4), 2 },
 	{ "destroy-seeker", { "(1~2)", "~1nm8M", "~1sw2dd" }, CONTEXTS(1), 2 },
-	{ "cancel", { "(a+A)(a+A)", "$(1ia+A~2)$(.ia+A)", "~1c2" }, CONTEXTS(4), 2 },
+	{ "cancel", { "(aA)(aA)", "$(1iaA~2)$(.iaA)", "~1c2" }, CONTEXTS(4), 2 },
 	{ "cancel-asleep", { "na1~2A", "~1$(3!iaA2)", "~3c" }, CONTEXTS(2), 2 },
-	{ "cancel-once", { "na1~2A", "~1$(3!iaA2.ia+A)", "~3c" }, CONTEXTS(2), 2 },
-	{ "cancel-slow", { "(ab+AB)", "$(1ibia+AB~2)", "~1c2" }, CONTEXTS(4), 2 },
-	{ "cancel-deadline", { "(a+A)", "$(1tia+A~2)", "~1c2" }, CONTEXTS(4), 2 },
-	{ "deadline", { "(a+A)(a+A)", "(ta+A)" }, CONTEXTS(4), 3 },
-	{ "deadline-3", { "(a+A)", "(ta+A)", "(a+A)" }, CONTEXTS(4), 2 },
-	{ "deadline-alone", { "(a+A)", "tna+A", "(a+A)" }, CONTEXTS(2), 2 },
+	{ "cancel-once", { "na1~2A", "~1$(3!iaA2.iaA)", "~3c" }, CONTEXTS(2), 2 },
+	{ "cancel-slow", { "(abAB)", "$(1ibiaAB~2)", "~1c2" }, CONTEXTS(4), 2 },
+	{ "cancel-deadline", { "(aA)", "$(1tiaA~2)", "~1c2" }, CONTEXTS(4), 2 },
+	{ "deadline", { "(aA)(aA)", "(taA)" }, CONTEXTS(4), 3 },
+	{ "deadline-3", { "(aA)", "(taA)", "(aA)" }, CONTEXTS(4), 2 },
+	{ "deadline-alone", { "(aA)", "tnaA", "(aA)" }, CONTEXTS(2), 2 },
+	{ "deadline-slow", { "(atbBA)", "(baBA)" }, CONTEXTS(4), 3 },
 	{ "deadline-asleep", { "na1~2A", "~1(!taA2)" }, CONTEXTS(2), 3 },
 	{ "deadline-asleep-alone", { "na1~2A", "~1!tnaA2" }, CONTEXTS(2), 3 },
 	{ "deadline-seeking", { "(1~2)", "~1!tnaA2", "()" }, CONTEXTS(1), 2 },
-	{ "deadline-handed-on", { "(ab+A+B)", "(ta+ib+BA)" }, CONTEXTS(4), 2 },
-	{ "cancel-inside", { "(a3~4A)", "~3$(1ia+A~2)", "~1c4TG2" }, CONTEXTS(4) | IL_INSIDE, 2 },
-	{ "static", { "(m+M)", "(m+M)" }, CONTEXTS(4) | STATIC, 2 },
-	{ "static-alone", { "nm+M", "nm+M" }, CONTEXTS(4) | STATIC, 2 },
-	{ "static-both", { "nm+M", "(m+M)" }, CONTEXTS(4) | STATIC, 2 },
-	{ "static-try", { "?nm+M", "(Lm;+U)" }, CONTEXTS(4) | STATIC, 2 },
-	{ "numbers", { "TGTG", "TGTG" }, CONTEXTS(4), 3 },
-	{ "numbers-aba", { "@1TTGG", "@1TTgG" }, CONTEXTS(4) | GIVEN, 3 },
+	{ "deadline-handed-on", { "(abAB)", "(taibBA)" }, CONTEXTS(4), 2 },
+	{ "cancel-inside", { "(a3~4A)", "~3$(1iaA~2)", "~1c4TG2" }, CONTEXTS(4) | IL_INSIDE, 2 },
+	{ "crowd", { "(aA)(bB)", "(aA)(bB)", "(aA)(bB)" }, CONTEXTS(4) | CROWDS, 2 },
+	{ "crowd-kept", { "(aA)(aA)", "(aA)(aA)", "(aA)" }, CONTEXTS(4) | KEEP(3) | CROWDS, 2 },
+	{ "crowd-4", { "(aA)(bB)", "(aA)(bB)", "(aA)", "(bB)(aA)" }, CONTEXTS(4) | CROWDS, 1 },
+	{ "crowd-until", { "(aA)[bB)", "(aA)[bB)", "(aA)[bB)" }, CONTEXTS(4) | CROWDS, 1 },
+	{ "crowd-time", { "(aA)(bB)", "(taA)(bB)", "(aA)" }, CONTEXTS(4) | CROWDS, 2 },
+	{ "crowd-last", { "(aA)()", "(aA)[)()", "(aA)()" }, CONTEXTS(4) | CROWDS, 2 },
+	{ "crowd-last-4", { "(aA)()", "(aA)[)", "(aA)()", "()" }, CONTEXTS(4) | CROWDS, 1 },
+	{ "crowd-free", { "(mM)(m-M)D(8)", "(m-M)D(9)", "(m-M)D", "~8~9F()" }, CONTEXTS(4) | CROWDS, 1 },
+	{ "crowd-slow", { "(1~2)()", "~1(2)", "~1()" }, CONTEXTS(4) | CROWDS | SLOW, 2 },
+	{ "crowd-slow-4", { "(1~2)()", "~1(2)", "~1()", "~1()" }, CONTEXTS(4) | CROWDS | SLOW, 1 },
+	{ "crowd-over", { "(1~2)()", "~1(2)", "~1()" }, CONTEXTS(4) | CROWDS | OVER, 2 },
+	{ "crowd-over-4", { "(1~2)()", "~1(2)", "~1()", "~1()" }, CONTEXTS(4) | CROWDS | OVER, 1 },
+	{ "static", { "(mM)", "(mM)" }, CONTEXTS(4) | STATIC, 2 },
+	{ "static-alone", { "nmM", "nmM" }, CONTEXTS(4) | STATIC, 2 },
+	{ "static-both", { "nmM", "(mM)" }, CONTEXTS(4) | STATIC, 2 },
+	{ "static-try", { "?nmM", "(Lm;U)" }, CONTEXTS(4) | STATIC, 2 },
+	{ "static-list", { "(&am;AM)", "(mM)" }, CONTEXTS(4) | STATIC, 2 },
+	{ "poll", { "(yaA)", "(aA)" }, CONTEXTS(4), 3 },
+	{ "poll-poll", { "(yaA)", "(yaA)" }, CONTEXTS(4), 3 },
+	{ "poll-again", { "(zaA)", "(aA)" }, CONTEXTS(4), 3 },
+	{ "poll-ends", { "(xaA)", "(aA)" }, CONTEXTS(4), 3 },
+	{ "poll-twice", { "(yaA)(zaA)", "(aA)(aA)" }, CONTEXTS(2), 2 },
+	{ "poll-slow", { "(yaybAB)", "(ybyaBA)" }, CONTEXTS(4), 3 },
+	{ "poll-slow-die", { "(yaybAB)", "(ybzaBA)" }, CONTEXTS(4) | WAIT_DIE, 3 },
+	{ "poll-slow-ends", { "(yaybAB)", "(ybxaAB)" }, CONTEXTS(4), 3 },
+	{ "poll-handed-on", { "(abAB)", "(xaybBA)" }, CONTEXTS(4), 3 },
+	{ "poll-3", { "(yaA)", "(zaA)", "(aA)" }, CONTEXTS(4), 2 },
+	{ "poll-ends-3", { "(yaA)", "(xaA)", "(aA)" }, CONTEXTS(4), 2 },
+	{ "poll-number", { "(zaA)", "(yaA)", "naA" }, CONTEXTS(4) | NUMBERED, 2 },
+	{ "poll-on", { "(haA)", "HyaA)", "(aA)" }, CONTEXTS(4), 2 },
+	{ "poll-on-number", { "(haA)", "HyaA)", "naA" }, CONTEXTS(4) | NUMBERED, 2 },
+	{ "poll-cancel", { "na1~2A", "~1$(3!yiaA2)", "~3c" }, CONTEXTS(4), 2 },
+	{ "poll-cancel-late", { "(aA)", "$(1yiaA~2)", "~1c2" }, CONTEXTS(4), 2 },
+	{ "poll-deadline", { "(yaA)", "(taA)", "(aA)" }, CONTEXTS(4), 1 },
+	{ "poll-destroy", { "(m1~2M)", "(~1ym8M)", "~1w2dd" }, CONTEXTS(4), 2 },
+	{ "poll-asked", { "(ymM)", "q" }, CONTEXTS(4) | NUMBERED, 3 },
+	{ "poll-contexts", { "y()", "()" }, CONTEXTS(1), 3 },
+	{ "poll-contexts-again", { "z()", "()()" }, CONTEXTS(1), 3 },
+	{ "poll-contexts-end", { "x()", "()", "y()" }, CONTEXTS(1), 2 },
+	{ "poll-contexts-3", { "y()", "z()", "()" }, CONTEXTS(1), 2 },
+	{ "poll-contexts-2-of-3", { "y()()", "y()", "()" }, CONTEXTS(2), 2 },
+	{ "poll-contexts-kept", { "y()", "()()" }, CONTEXTS(1) | KEEP(1), 3 },
+	{ "poll-in-turn", { "~5(1)", "~1y(4)", "y()5~1sy(=4)" }, CONTEXTS(1), 2 },
+	{ "poll-contexts-free", { "(8)", "y(9)", "_8_9F()" }, CONTEXTS(1), 2 },
+	{ "tasks", { "y()", "y()", "y()" }, TASKS, 2 },
+	{ "tasks-again", { "y()y()", "z()", "y()" }, TASKS, 2 },
+	{ "tasks-4", { "y()", "y()", "y()", "y()" }, TASKS, 1 },
+	{ "tasks-end", { "y()", "x()", "y()" }, TASKS, 2 },
+	{ "tasks-free", { "y(7)", "y(8)", "y(9)", "_7_8_9F" }, TASKS, 1 },
+	{ "tasks-one", { "y(1~2~3)", "~1y()y()2", "~1y()3" }, TASKS, 2 },
+	{ "tasks-one-ends", { "y(1~2~3~4)", "~1y()2", "~1x()3", "~1z()4" }, TASKS, 1 },
+	{ "numbers", { ".TG.TG", ".TG.TG" }, CONTEXTS(4), 3 },
+	{ "numbers-two", { "TTGG", "TTGG" }, CONTEXTS(4), 2 },
 	{ "numbers-4", { "TG", "TG", "TG", "TG" }, CONTEXTS(4), 1 },
-	{ "numbers-scan", { "@3T1~2G3", "~12@2.TG", "~3@4TG" }, CONTEXTS(4) | GIVEN, 1 },
 	{ "number-put", { "(1~2)", "~1nmM", "~1sp2" }, CONTEXTS(1) | NUMBERED, 2 },
-	{ "number-puts", { "(m+M)1P", "~1P" }, CONTEXTS(4) | NUMBERED, 3 },
-	{ "number-deadline", { "(a+A)(a+A)", "(ta+A)" }, CONTEXTS(4) | NUMBERED, 3 },
+	{ "number-put-held", { "(m1~2M)", "~1p2" }, CONTEXTS(4) | NUMBERED, 2 },
+	{ "number-put-waiter", { "(m1~2M)", "(~1m8M)", "~1w2dd" }, CONTEXTS(4) | NUMBERED, 2 },
+	{ "number-put-seeker", { "(1~2)", "~1nm8M", "~1sw2dd" }, CONTEXTS(1) | NUMBERED, 2 },
+	{ "number-puts", { "(mM)1P", "~1P" }, CONTEXTS(4) | NUMBERED, 3 },
+	{ "number-again", { "P1.T~2~3G", "~1(mM)2", "~1(mM)3" }, CONTEXTS(4) | NUMBERED, 2 },
+	{ "number-look", { "(mM)", "q(mM)" }, CONTEXTS(4) | NUMBERED, 3 },
+	{ "number-look-3", { "(mM)", "q", "q" }, CONTEXTS(4) | NUMBERED, 3 },
+	{ "number-look-late", { "(~1!taA2)q", "na1~2A(mM)" }, CONTEXTS(4) | NUMBERED, 2 },
+	{ "number-deadline", { "(aA)(aA)", "(taA)" }, CONTEXTS(4) | NUMBERED, 3 },
 	{ "free", { "(8)", "(9)", "_8_9F()" }, CONTEXTS(2), 2 },
 	{ "free-one", { "(8)", "(9)", "_8_9F()" }, CONTEXTS(1), 2 },
 	{ "free-seeker", { "(1~2)", "~1()", "~1s2F()" }, CONTEXTS(1), 2 },
+	{ "free-number", { ".T8G", "_8F()" }, CONTEXTS(1), 2 },
+	{ "free-and-seek", { "(8)", "_8F(3s)", "~3()" }, CONTEXTS(1), 2 },
 	{ "free-3", { "(7)", "(8)", "(9)", "_7_8_9F()" }, CONTEXTS(2), 1 },
 	{ "free-and-use", { "(8)", "(9)", "_8_9F(3)", "~3()" }, CONTEXTS(1), 1 },
 	{ 0 },

@@ -1,0 +1,573 @@
+/*
+ * hooks.c - what comes in the place of the thread sanitizer, of what the sources call of the system and of the C library, and
+ * before each step of the proved library: what threads share, in which order, and whether they may.
+ */
+#define _GNU_SOURCE
+#include "inside.h"
+#include "ww_inside.h"
+#include <linux/futex.h>
+#include <pthread.h>
+#include <stdarg.h>
+#include <stdlib.h>
+#include <sys/syscall.h>
+
+enum { SLICE = 100000 }; /* nanoseconds that a sched_yield takes */
+static const char core, clock_object; /* what all steps of the proved library, and all looks at the time, are about */
+
+/* Of a byte: when each thread accessed it so. */
+enum access { READS, WRITES, READS_ATOMICALLY, WRITES_ATOMICALLY, ACCESSES };
+static struct cell {
+	uint32_t run;
+	bool gone;
+	uint16_t last[ACCESSES][ALL];
+} cells[sizeof il.memory + DATA];
+
+/* ---- what depends on what: hashes for runs that are alike, clocks for races ---- */
+
+struct object *il_object_of(const volatile void *at)
+{
+	uintptr_t key = (uintptr_t)at;
+	struct object *o = &il.objects[mix(key, 1) % OBJECTS];
+
+	while (o->key && o->key != key)
+		o = o == &il.objects[OBJECTS - 1] ? il.objects : o + 1;
+	o->key = key;
+	if (o->run != il.run) {
+		o->run = il.run;
+		o->written = o->read = 0;
+		memset(&o->clocks, 0, sizeof o->clocks);
+	}
+	return o;
+}
+
+static void happens(struct object *o, bool writes)
+{
+	uint64_t h = mix(mix(me()->hash, o->key), o->written);
+
+	if (!il.running)
+		return;
+	if (writes) {
+		h = mix(h, o->read);
+		o->written = h;
+		o->read = 0;
+	} else {
+		o->read += mix(h, 7);
+	}
+	me()->hash = h;
+}
+
+static void join(struct clocks *to, const struct clocks *from)
+{
+	for (unsigned t = 0; t < ALL; t++)
+		if (to->of[t] < from->of[t])
+			to->of[t] = from->of[t];
+}
+
+static void acquire(struct object *o, int order)
+{
+	if (il.running && order != __ATOMIC_RELAXED && order != __ATOMIC_RELEASE)
+		join(&me()->clocks, &o->clocks);
+}
+
+/* A store begins what others acquire, and a change goes on with it. */
+static void release(struct object *o, int order, bool goes_on)
+{
+	if (!il.running)
+		return;
+	if (!goes_on)
+		memset(&o->clocks, 0, sizeof o->clocks);
+	if (order >= __ATOMIC_RELEASE) {
+		join(&o->clocks, &me()->clocks);
+		me()->clocks.of[il.current]++;
+	}
+}
+
+static struct cell *cell_of(uintptr_t at)
+{
+	uintptr_t k = at - (uintptr_t)il.memory, data = at - (uintptr_t)__start_il_data;
+	struct cell *c = k < sizeof il.memory ? &cells[k] :
+			 data < (uintptr_t)(__stop_il_data - __start_il_data) ? &cells[sizeof il.memory + data] : NULL;
+
+	if (c && c->run != il.run)
+		*c = (struct cell){ .run = il.run };
+	return c;
+}
+
+/* Those by others that have to be ordered before one. */
+static const uint8_t ordered[] = {
+	[READS] = 1 << WRITES | 1 << WRITES_ATOMICALLY,
+	[WRITES] = 1 << READS | 1 << WRITES | 1 << READS_ATOMICALLY | 1 << WRITES_ATOMICALLY,
+	[READS_ATOMICALLY] = 1 << WRITES,
+	[WRITES_ATOMICALLY] = 1 << READS | 1 << WRITES,
+};
+
+static void check_one(struct cell *c, enum access access, const void *pc)
+{
+	const struct clocks *mine = &me()->clocks;
+
+	il.from = pc;
+	if (c->gone)
+		il_fail("memory is touched that is gone");
+	if (c->last[access][il.current] == mine->of[il.current])
+		return; /* Whatever came since then met this. */
+	for (unsigned t = 1; t <= il.count; t++)
+		for (enum access k = READS; k < ACCESSES; k++)
+			if (ordered[access] >> k & 1 && c->last[k][t] > mine->of[t])
+				il_fail("a race with what thread %u did", t);
+	c->last[access][il.current] = mine->of[il.current];
+}
+
+/* Of four bytes and more every fourth is looked at: no field is reached in two sizes but by copies of all. */
+static void check(const volatile void *at, size_t size, enum access access, const void *pc)
+{
+	struct cell *c;
+
+	if (!il.running || (uintptr_t)at - (uintptr_t)il.own < il.own_size)
+		return;
+	for (size_t k = 0; k < size && (c = cell_of((uintptr_t)at + k)); k += size >= 4 ? 4 : 1)
+		check_one(c, access, pc);
+	il.from = NULL;
+}
+
+/* ---- memory ---- */
+
+void *il_new(size_t size)
+{
+	size_t at = (il.used + 127) / 64 * 64;
+
+	if (at + size > ARENA)
+		il_fail("the arena is too small");
+	*(size_t *)(void *)&il.memory[at - 64] = size;
+	il.used = at + size;
+	return &il.memory[at];
+}
+
+void il_gone(void *at, size_t size)
+{
+	il_commit(me());
+	for (size_t k = 0; k < size && il.running; k++) {
+		struct cell *c = cell_of((uintptr_t)at + k);
+
+		check_one(c, WRITES, PC);
+		c->gone = true;
+	}
+	memset(at, 0xdb, size);
+}
+
+void __real_free(void *at);
+void *__wrap_malloc(size_t size) { return il_new(size); }
+void *__wrap_calloc(size_t count, size_t size) { return il_new(count * size); }
+void *__wrap_aligned_alloc(size_t align, size_t size) { return (void)align, il_new(size); }
+/* What isn't in the arena the C library gave. */
+void __wrap_free(void *at)
+{
+	if ((uintptr_t)at - (uintptr_t)il.memory >= sizeof il.memory)
+		__real_free(at);
+	else
+		il_gone(at, *(size_t *)(void *)((char *)at - 64));
+}
+
+/* ---- atomic accesses ---- */
+
+_Static_assert(__BYTE_ORDER__ == __ORDER_LITTLE_ENDIAN__, "the lowest bytes come first");
+static uint64_t get(const volatile void *at, unsigned size)
+{
+	uint64_t value = 0;
+
+	memcpy(&value, (const void *)(uintptr_t)at, size);
+	return value;
+}
+
+static void put(volatile void *at, unsigned size, uint64_t value) { memcpy((void *)(uintptr_t)at, &value, size); }
+
+void il_commit(struct thread *it)
+{
+	for (unsigned k = 0; k < it->lates; k++) {
+		put(it->late[k].at, it->late[k].size, it->late[k].value);
+		happens(il_object_of(it->late[k].at), true);
+	}
+	it->lates = 0;
+}
+
+/* The last late store that meets this, whose own thread sees it at once. */
+static const struct late_store *late_at(const volatile void *at, size_t size)
+{
+	const struct thread *it = me();
+
+	for (unsigned k = it->lates; k--;)
+		if ((uintptr_t)it->late[k].at < (uintptr_t)at + size && (uintptr_t)at < (uintptr_t)it->late[k].at + it->late[k].size)
+			return &it->late[k];
+	return NULL;
+}
+
+static uint64_t load(const volatile void *at, unsigned size, int order, const void *pc)
+{
+	struct object *o = il_before(at, false, "load", pc);
+	const struct late_store *late = late_at(at, size);
+
+	check(at, size, READS_ATOMICALLY, pc);
+	happens(o, false);
+	acquire(o, order);
+	return late ? late->value : get(at, size);
+}
+
+/* On a stack what isn't instrumented writes too, so nothing is delayed there. */
+static bool may_be_late(const struct object *o, const volatile void *at, int order)
+{
+	return il.running && il.flags & IL_DELAYS && order != __ATOMIC_SEQ_CST && (o->shared || il.replay) &&
+	       (uintptr_t)at - (uintptr_t)il.memory - ARENA >= IL_THREADS * STACK;
+}
+
+static void store(volatile void *at, unsigned size, uint64_t value, int order, const void *pc)
+{
+	struct object *o = il_before(at, true, "store", pc);
+	struct thread *it = me();
+
+	check(at, size, WRITES_ATOMICALLY, pc);
+	il_stores(at, get(at, size), value, pc);
+	if (it->lates < LATE && may_be_late(o, at, order) && (it->lates || il_chooses(COMMITS, DELAYS))) {
+		it->late[it->lates++] = (struct late_store){ (void *)(uintptr_t)at, value, size };
+	} else {
+		il_commit(it);
+		put(at, size, value);
+		happens(o, true);
+	}
+	release(o, order, false);
+}
+
+enum change { EXCHANGES, ADDS, COMPARES };
+
+/* What was there; where it compares, nothing is changed unless that is as expected. */
+static uint64_t change(volatile void *at, unsigned size, enum change how, uint64_t by, uint64_t is, const int orders[2], const void *pc)
+{
+	struct object *o = il_before(at, true, "change", pc);
+	uint64_t old;
+	bool changes;
+
+	il_commit(me());
+	old = get(at, size);
+	changes = how != COMPARES || old == is;
+	check(at, size, changes ? WRITES_ATOMICALLY : READS_ATOMICALLY, pc);
+	happens(o, changes);
+	acquire(o, orders[!changes]);
+	if (changes) {
+		il_stores(at, old, how == ADDS ? old + by : by, pc);
+		put(at, size, how == ADDS ? old + by : by);
+		release(o, orders[0], true);
+	}
+	return old;
+}
+
+#define CHANGE(n, type, name, how, by)                                                                 \
+	type __tsan_atomic##n##_##name(volatile type *at, type value, int order)                       \
+	{                                                                                              \
+		return (type)change(at, sizeof *at, how, by, 0, (const int[]){ order, 0 }, PC);        \
+	}
+#define COMPARE(n, type, name)                                                                         \
+	int __tsan_atomic##n##_##name(volatile type *at, type *is, type value, int order, int fails)   \
+	{                                                                                              \
+		type old = (type)change(at, sizeof *at, COMPARES, value, *is, (const int[]){ order, fails }, PC), was = *is; \
+		*is = old;                                                                             \
+		return old == was;                                                                     \
+	}
+#define HOOKS(n, type)                                                                                 \
+	type __tsan_atomic##n##_load(const volatile type *at, int order) { return (type)load(at, sizeof *at, order, PC); } \
+	void __tsan_atomic##n##_store(volatile type *at, type value, int order) { store(at, sizeof *at, value, order, PC); } \
+	CHANGE(n, type, exchange, EXCHANGES, value) CHANGE(n, type, fetch_add, ADDS, value) CHANGE(n, type, fetch_sub, ADDS, -(uint64_t)value) \
+	COMPARE(n, type, compare_exchange_strong) COMPARE(n, type, compare_exchange_weak)
+HOOKS(8, uint8_t)
+HOOKS(32, uint32_t)
+HOOKS(64, uint64_t)
+
+/* ---- plain accesses: nobody runs between two of them, since a race of theirs fails anyway ---- */
+
+static void plain(void *at, size_t size, enum access access, const void *pc)
+{
+	if (me()->lates && late_at(at, size))
+		il_commit(me());
+	check(at, size, access, pc);
+}
+
+#define PLAIN(bytes)                                                                                   \
+	void __tsan_read##bytes(void *at) { plain(at, bytes, READS, PC); }                             \
+	void __tsan_write##bytes(void *at) { plain(at, bytes, WRITES, PC); }
+PLAIN(1)
+PLAIN(2)
+PLAIN(4)
+PLAIN(8)
+PLAIN(16)
+void __tsan_read_range(void *at, size_t size) { plain(at, size, READS, PC); }
+void __tsan_write_range(void *at, size_t size) { plain(at, size, WRITES, PC); }
+void __tsan_init(void) {}
+void __tsan_func_entry(void *pc) { (void)pc; }
+void __tsan_func_exit(void) {}
+
+/* ---- pthreads: the first word of a mutex says who has it ---- */
+
+static struct object *at_mutex(pthread_mutex_t *m, const char *op, const void *pc)
+{
+	struct object *o = il_before(m, true, op, pc);
+
+	il_commit(me());
+	check(m, 4, WRITES_ATOMICALLY, pc);
+	happens(o, true);
+	return o;
+}
+
+int __wrap_pthread_mutex_lock(pthread_mutex_t *m)
+{
+	uint32_t *owner = (uint32_t *)(void *)m;
+	struct object *o;
+
+	while (o = at_mutex(m, "mutex lock", PC), *owner) {
+		if (!il.running || *owner == il.current + 1 || me()->inside)
+			il_fail(me()->inside ? "it waits for a mutex inside a guard" : "a mutex that its own thread has is locked");
+		me()->state = BLOCKED;
+		me()->word = owner;
+		il_switch_away();
+	}
+	*owner = il.current + 1;
+	acquire(o, __ATOMIC_ACQUIRE);
+	return 0;
+}
+
+int __wrap_pthread_mutex_unlock(pthread_mutex_t *m)
+{
+	uint32_t *owner = (uint32_t *)(void *)m;
+
+	release(at_mutex(m, "mutex unlock", PC), __ATOMIC_RELEASE, true);
+	il_unlocks(m, PC);
+	if (*owner != il.current + 1)
+		il_fail("a mutex that another has is unlocked");
+	*owner = 0;
+	for (unsigned t = 1; t <= il.count; t++)
+		if (il.threads[t].state == BLOCKED && il.threads[t].word == owner)
+			il.threads[t].state = READY;
+	return 0;
+}
+
+int __wrap_pthread_key_create(pthread_key_t *key, void (*destructor)(void *)) { return *key = 0, il.destructor = destructor, 0; }
+int __wrap_pthread_key_delete(pthread_key_t key) { return (void)key, 0; }
+int __wrap_pthread_setspecific(pthread_key_t key, const void *value)
+{
+	return (void)key, me()->specific = (void *)(uintptr_t)value, 0;
+}
+int __wrap_pthread_atfork(void (*first)(void), void (*second)(void), void (*third)(void)) { return !first && !second && !third; }
+
+/* ---- the system ---- */
+
+static long futex_wait(uint32_t *word, uint32_t is, const struct timespec *until)
+{
+	struct object *o = il_before(word, true, "futex wait", PC);
+
+	il_commit(me());
+	check(word, 4, READS_ATOMICALLY, PC);
+	happens(o, true);
+	if (*word != is || (until && time_of(until) <= il.now))
+		return -1;
+	if (!il.running || me()->inside)
+		il_fail(me()->inside ? "it sleeps inside a guard" : "the first thread sleeps");
+	il_waits("waits", PC);
+	me()->word = word;
+	me()->is = is;
+	me()->until = until;
+	me()->state = SLEEPS;
+	il_yielded();
+	il_switch_away();
+	return 0;
+}
+
+/* By its address alone, so nothing of that is looked at. */
+static long futex_wake(uint32_t *word)
+{
+	struct object *o = il_before(word, true, "futex wake", PC);
+
+	il_commit(me());
+	happens(o, true);
+	for (unsigned t = 1; t <= il.count; t++)
+		if (il.threads[t].state == SLEEPS && il.threads[t].word == word) {
+			il.threads[t].state = READY;
+			return 1;
+		}
+	return 0;
+}
+
+long __wrap_syscall(long number, ...)
+{
+	va_list list;
+	uint32_t *word, is;
+	int command;
+
+	if (number == SYS_gettid)
+		return (long)il.current;
+	va_start(list, number);
+	if (number != SYS_futex)
+		il_fail("another call of the system");
+	word = va_arg(list, uint32_t *);
+	command = va_arg(list, int) & FUTEX_CMD_MASK;
+	is = va_arg(list, uint32_t);
+	return command == FUTEX_WAKE ? futex_wake(word) : futex_wait(word, is, va_arg(list, const struct timespec *));
+}
+
+/* How the debug library came to what it tells. */
+int __wrap_backtrace(void **calls, int most) { return (void)calls, (void)most, 0; }
+void __wrap_backtrace_symbols_fd(void *const *calls, int count, int to) { (void)calls, (void)count, (void)to; }
+
+/* A thread that rests since the library said so needn't switch: whatever waits at a guard does as its step answers that. */
+int __wrap_sched_yield(void) { return me()->skew += SLICE, 0; }
+
+/* The time that somebody asked for may come at each look. */
+int __wrap_clock_gettime(clockid_t id, struct timespec *at)
+{
+	long long now;
+	bool ticks;
+
+	me()->coming = PC;
+	ticks = il.running && il.asked > il.now && il_chooses(STANDS, TICKS);
+	if (ticks)
+		il_let_time_pass(il.asked);
+	happens(il_object_of(&clock_object), ticks);
+	now = il.now + me()->skew;
+	*at = (struct timespec){ .tv_sec = now / 1000000000, .tv_nsec = now % 1000000000 };
+	return (void)id, 0;
+}
+
+/* ---- the proved library, of which each call is one step ---- */
+
+static void step(const char *op, const void *pc)
+{
+	struct object *o = il_before(&core, true, op, pc);
+
+	il_commit(me());
+	happens(o, true);
+}
+
+/*
+ * Where steps are looked into: before each atomic access of the generated assembly (the Makefile puts a call there, amid
+ * whatever it has in registers).
+ */
+void il_inside(const void *pc)
+{
+	if (il.running && il.flags & IL_INSIDE)
+		step("inside", pc);
+}
+__asm__(".text\n.globl il_inside_\nil_inside_:\n"
+	"	pushfq\n	push %rax\n	push %rcx\n	push %rdx\n	push %rsi\n	push %rdi\n"
+	"	push %r8\n	push %r9\n	push %r10\n	push %r11\n	movq 80(%rsp), %rdi\n"
+	"	push %rbp\n	movq %rsp, %rbp\n	subq $576, %rsp\n	andq $-64, %rsp\n	fxsave (%rsp)\n"
+	"	call il_inside\n	fxrstor (%rsp)\n	movq %rbp, %rsp\n	pop %rbp\n"
+	"	pop %r11\n	pop %r10\n	pop %r9\n	pop %r8\n"
+	"	pop %rdi\n	pop %rsi\n	pop %rdx\n	pop %rcx\n	pop %rax\n	popfq\n	ret\n");
+
+/* One thread at a time uses a handle; one that is empty is no seat's. */
+static void by(const ww_handle *h, const void *pc)
+{
+	if (!h->at)
+		return;
+	check(h, sizeof *h, WRITES, pc);
+	il_calls(h, pc);
+}
+
+static int32_t answered(const ww_handle *h, int32_t r)
+{
+	if (h->at)
+		il_answers(h, r);
+	return r;
+}
+
+/* What a lock orders. */
+static struct object *order_of(const ww_handle *h, uint32_t lock)
+{
+	return il_object_of((const void *)((uintptr_t)((const ww_seat *)(const void *)h)->pool + ((uintptr_t)lock << 33) + 3));
+}
+
+static int32_t locked(const ww_handle *h, int32_t r)
+{
+	answered(h, r);
+	if (r == 0 && me()->wants != UINT32_MAX)
+		acquire(order_of(h, me()->wants), __ATOMIC_ACQUIRE);
+	if (r <= 0)
+		me()->wants = UINT32_MAX;
+	return r;
+}
+
+static void wants(uint32_t lock)
+{
+	me()->wants = lock;
+	me()->rests = 0;
+}
+
+#define STEP(name, ...) int32_t __real_##name(__VA_ARGS__); int32_t __wrap_##name(__VA_ARGS__)
+#define LOCKS(name)                                                                                    \
+	STEP(name, ww_handle *h, uint32_t lock, bool heeds)                                            \
+	{                                                                                              \
+		return step(#name, PC), by(h, PC), wants(lock), locked(h, __real_##name(h, lock, heeds)); \
+	}
+LOCKS(ww_lock_)
+LOCKS(ww_lock_slow_)
+STEP(ww_begin_, ww_handle *h) { return step("ww_begin_", PC), by(h, PC), answered(h, __real_ww_begin_(h)); }
+STEP(ww_end_, ww_handle *h) { return step("ww_end_", PC), by(h, PC), answered(h, __real_ww_end_(h)); }
+STEP(ww_cancel_, ww_handle *h, uint16_t victim)
+{
+	return step("ww_cancel_", PC), by(h, PC), answered(h, __real_ww_cancel_(h, victim));
+}
+STEP(ww_try_, ww_handle *h, uint32_t lock)
+{
+	return step("ww_try_", PC), by(h, PC), wants(lock), locked(h, __real_ww_try_(h, lock));
+}
+STEP(ww_unlock_, ww_handle *h, uint32_t lock)
+{
+	if (h->at) {
+		step("ww_unlock_", PC), by(h, PC), wants(UINT32_MAX);
+		release(order_of(h, lock), __ATOMIC_RELEASE, true);
+	}
+	return answered(h, __real_ww_unlock_(h, lock));
+}
+/* These two look at nothing but their own seat. */
+STEP(ww_has_, ww_handle *h, uint32_t lock) { return by(h, PC), answered(h, __real_ww_has_(h, lock)); }
+STEP(ww_close_, ww_handle *h) { return il_closes(), __real_ww_close_(h); }
+STEP(ww_next_wake_, ww_handle *h) { return check(h, sizeof *h, WRITES, PC), il_names(h, __real_ww_next_wake_(h), PC); }
+
+/*
+ * Where it answers that the thread is to rest, for the second time, it looks again and again until it answers something
+ * else: a look that came between is as one that came later.
+ */
+STEP(ww_go_on_, ww_handle *h, uint32_t *rest)
+{
+	unsigned rests;
+	int32_t r;
+
+	step("ww_go_on_", PC), by(h, PC);
+	do {
+		r = locked(h, __real_ww_go_on_(h, rest));
+		rests = me()->rests;
+		me()->rests |= r == WW_STAYS || r == WW_YIELDS ? 1u << r : 0;
+	} while ((r == WW_STAYS || r == WW_YIELDS) && rests >> r & 1);
+	me()->inside = r == WW_AGAIN;
+	if (r == WW_AWAITS && il.running) {
+		il_yielded();
+		il_switch_away();
+	}
+	return r;
+}
+
+/* ---- what programs ask ---- */
+
+struct timespec il_in(long nanoseconds)
+{
+	il.asked = il.now + nanoseconds;
+	return (struct timespec){ .tv_sec = il.asked / 1000000000, .tv_nsec = il.asked % 1000000000 };
+}
+
+void il_await(uint32_t *word)
+{
+	while (!load(word, 4, __ATOMIC_ACQUIRE, PC))
+		futex_wait(word, 0, NULL);
+}
+
+void il_set(uint32_t *word)
+{
+	store(word, 4, 1, __ATOMIC_RELEASE, PC);
+	while (futex_wake(word))
+		;
+}

@@ -1,0 +1,201 @@
+/*
+ * Contexts that are left without ww_acquire_fini: who waits for one says so after ten seconds, once, and only where none
+ * was given meanwhile; and goes on waiting.
+ */
+#include "mutex_test.h"
+
+static struct ww_class c;
+static struct ww_acquire_ctx x;
+static struct ww_mutex a;
+static bool comes_back;
+
+/* Linked in place of the system's clock, which is ahead of that by so much; behind it, a time that a thread sleeps until has come already. */
+static time_t ahead;
+int __real_clock_gettime(clockid_t clock, struct timespec *at);
+int __wrap_clock_gettime(clockid_t clock, struct timespec *at);
+int __wrap_clock_gettime(clockid_t clock, struct timespec *at)
+{
+	int r = __real_clock_gettime(clock, at);
+
+	at->tv_sec += __atomic_load_n(&ahead, __ATOMIC_RELAXED);
+	return r;
+}
+
+/* As if so many seconds had gone since the waits began; then each of them has looked. */
+static void is_later_by(time_t seconds)
+{
+	__atomic_store_n(&ahead, seconds - 60, __ATOMIC_RELAXED);
+	usleep(200000);
+}
+
+/* ---- what is said ---- */
+
+static int said;
+
+static void listens(void)
+{
+	int ends[2];
+
+	MUST(!pipe(ends) && dup2(ends[1], STDERR_FILENO) == STDERR_FILENO);
+	close(ends[1]);
+	said = ends[0];
+}
+
+/* Since it was asked last; what a call says it says at once. */
+static void says(const char *words)
+{
+	char heard[1024] = "";
+	ssize_t count = 0;
+
+	fputc('.', stderr); /* so that there is something to read */
+	count = read(said, heard, sizeof heard - 1);
+	MUST(count > 0);
+	heard[count - 1] = 0;
+	if (strcmp(heard, words)) {
+		printf("said is\n%s\nin place of\n%s\n", heard, words);
+		exit(1);
+	}
+}
+
+static const char all_in_use[] = "a wait for a context: class \"it\": all 1 contexts have been in use for 10 seconds; one that isn't "
+				 "ended by ww_acquire_fini stays in use\n";
+
+/* ---- who waits ---- */
+
+static uint64_t waits(void)
+{
+	struct ww_class_counts counts;
+
+	ww_class_stats(&c, &counts);
+	return counts.context_waits;
+}
+
+static void *begins(void *ctx)
+{
+	struct ww_acquire_ctx mine, *y = ctx ? ctx : &mine;
+
+	ww_acquire_init(y, &c);
+	__atomic_store_n(&comes_back, true, __ATOMIC_RELAXED);
+	pthread_testcancel();
+	if (!ctx)
+		ww_acquire_fini(y);
+	return NULL;
+}
+
+static pthread_t waits_for_one(void *ctx)
+{
+	uint64_t before = waits();
+	pthread_t thread = begin_thread(begins, ctx);
+
+	while (waits() == before)
+		usleep(1000);
+	usleep(100000);
+	return thread;
+}
+
+static void begins_anew(void)
+{
+	__atomic_store_n(&ahead, -60, __ATOMIC_RELAXED);
+	ww_class_init(&c, 0, "it");
+	MUST(!ww_class_limit(&c, 1, 1));
+	ww_acquire_init(&x, &c);
+}
+
+static void ends_again(void) { MUST(!ww_class_free(&c)); }
+
+/* Two threads wait, and one of them says it; later nobody does. */
+static void is_said_once(void)
+{
+	pthread_t threads[2];
+
+	begins_anew();
+	for (unsigned k = 0; k < 2; k++)
+		threads[k] = waits_for_one(NULL);
+	is_later_by(9);
+	says("");
+	is_later_by(11);
+	says(all_in_use);
+	is_later_by(35);
+	says("");
+	ww_acquire_fini(&x);
+	for (unsigned k = 0; k < 2; k++)
+		end_thread(threads[k]);
+	ends_again();
+}
+
+/* The first of two threads gets the context, and keeps it: the other one says it ten seconds later. */
+static void is_given_meanwhile(void)
+{
+	struct ww_acquire_ctx y;
+	pthread_t first, second;
+
+	begins_anew();
+	first = waits_for_one(&y);
+	second = waits_for_one(NULL);
+	ww_acquire_fini(&x);
+	end_thread(first);
+	is_later_by(11);
+	says("");
+	is_later_by(22);
+	says(all_in_use);
+	ww_acquire_fini(&y);
+	end_thread(second);
+	ends_again();
+}
+
+/* pthread_cancel doesn't end the thread amid the message: its wait is in the queue. */
+static void is_to_end(void)
+{
+	struct ww_acquire_ctx y;
+	pthread_t thread;
+	void *how;
+
+	begins_anew();
+	comes_back = false;
+	thread = waits_for_one(&y);
+	MUST(!pthread_cancel(thread));
+	is_later_by(11);
+	says(all_in_use);
+	ww_acquire_fini(&x);
+	MUST(!pthread_join(thread, &how) && how == PTHREAD_CANCELED && comes_back);
+	ww_acquire_fini(&y);
+	ends_again();
+}
+
+static void *locks_until(void *until)
+{
+	MUST(ww_mutex_lock_until(&a, NULL, until) == -ETIMEDOUT);
+	return NULL;
+}
+
+/* A wait that ends by itself says nothing. */
+static void has_a_time(void)
+{
+	struct timespec until;
+	pthread_t thread;
+
+	begins_anew();
+	ww_mutex_init(&a, &c);
+	until = in_ms(15000);
+	thread = begin_thread(locks_until, &until);
+	while (!waits())
+		usleep(1000);
+	is_later_by(12);
+	is_later_by(16);
+	end_thread(thread);
+	says("");
+	MUST(!ww_mutex_destroy(&a));
+	ww_acquire_fini(&x);
+	ends_again();
+}
+
+int main(void)
+{
+	listens();
+	is_said_once();
+	is_given_meanwhile();
+	is_to_end();
+	has_a_time();
+	puts("mutex_leaks: it is said that no context comes back");
+	return 0;
+}

@@ -1,0 +1,283 @@
+"""Tasks of asyncio that wait without their thread: what they refuse, how their waits end, and sums by tasks of several
+loops beside threads: tasks.py libww.so"""
+import asyncio
+import errno
+import gc
+import os
+import random
+import sys
+import threading
+import time
+
+sys.path.insert(0, os.path.join(os.path.dirname(os.path.abspath(__file__)), "../python"))
+import ww
+import ww.tasks
+
+KINDS = (ww.WOUND_WAIT, ww.WAIT_DIE)
+
+
+def made(kind=ww.WOUND_WAIT, mutexes=8, contexts=4):
+    return ww.Class(kind, mutexes, contexts, sys.argv[1])
+
+
+async def fault_of(awaited):
+    """The errno of a call that fails, or 0."""
+    try:
+        await awaited
+    except OSError as error:
+        return error.errno
+    return 0
+
+
+async def refuses(kind):
+    buffers, others = made(kind), made(kind)
+    a, b, strange = ww.Mutex(buffers), ww.Mutex(buffers), ww.Mutex(others)
+    async with buffers.context() as one, buffers.context() as two:
+        assert await fault_of(one.lock(strange)) == errno.EINVAL
+        assert await fault_of(one.lock(a, b, a)) == errno.EALREADY and not a.locked() and not b.locked()
+        await one.lock(a)
+        assert await fault_of(one.lock(b, a)) == errno.EALREADY and a in one and b not in one and not b.locked()
+        assert not one.try_lock(a) and not two.try_lock(a) and two.try_lock(b) and b in two
+        one.unlock(a)
+        one.unlock_all()
+    assert not a.locked() and not b.locked()
+    assert await fault_of(one.lock(a)) == errno.EINVAL
+    try:
+        async with buffers.context(timeout=1):
+            assert False
+    except OSError as error:
+        assert error.errno == errno.EINVAL
+
+
+async def begins(of):
+    async with of.context():
+        pass
+
+
+async def waits_in_turn():
+    """For a context: who is cancelled goes, and who has got it and is cancelled hands it on."""
+    buffers = made(contexts=1)
+    order = []
+
+    async def begin(name):
+        async with buffers.context():
+            order.append(name)
+
+    async with buffers.context():
+        tasks = [asyncio.create_task(begin(k)) for k in range(4)]
+        await asyncio.sleep(0)
+        tasks[1].cancel()
+        await asyncio.sleep(0)
+    tasks[0].cancel()  # it has the context by now, and doesn't know yet
+    told = await asyncio.gather(*tasks, return_exceptions=True)
+    assert order == [2, 3] and [isinstance(it, asyncio.CancelledError) for it in told] == [True, True, False, False]
+    await asyncio.wait_for(begins(buffers), 10)
+
+
+async def is_cancelled(kind):
+    """Amid a wait for a mutex: it leaves that as it was, and keeps what it held before."""
+    buffers = made(kind)
+    a, b = ww.Mutex(buffers), ww.Mutex(buffers)
+    async with buffers.context() as one:
+        await one.lock(a)
+
+        async def other():
+            async with buffers.context() as two:
+                await two.lock(b)
+                try:
+                    await asyncio.wait_for(two.lock(a), 0.05)
+                except (asyncio.TimeoutError, ww.Deadlock):
+                    assert b in two and a not in two
+                    two.unlock_all()
+                    return True
+
+        assert await other() and not b.locked() and a.locked()
+        task = asyncio.create_task(other())
+        await asyncio.sleep(0.01)
+        one.unlock(a)  # it wakes the other one, which is cancelled before it knows
+        task.cancel()
+        try:
+            await task
+        except asyncio.CancelledError:
+            pass
+    assert not a.locked() and not b.locked()
+
+
+async def a_thread_wakes_it():
+    """One that holds the mutex by `with`; the loop goes on meanwhile."""
+    buffers = made()
+    mutex = ww.Mutex(buffers)
+    is_held, goes = threading.Event(), threading.Event()
+
+    def hold():
+        with mutex:
+            is_held.set()
+            goes.wait()
+
+    thread = threading.Thread(target=hold)
+    thread.start()
+    is_held.wait()
+    turns = 0
+
+    async def turn():
+        nonlocal turns
+        while turns < 20:
+            turns += 1
+            await asyncio.sleep(0.001)
+        goes.set()
+
+    async def lock():
+        async with buffers.context() as context:
+            await context.lock(mutex)
+            return turns
+
+    told = await asyncio.gather(lock(), turn())
+    thread.join()
+    assert told[0] >= 20
+
+
+class Account:
+    def __init__(self, of):
+        self.mutex, self.money = ww.Mutex(of), 0
+
+
+async def move(of, accounts, draws, cancels):
+    """Between two accounts, found one by one or at once; its waits may be cancelled."""
+    source, target = draws.sample(accounts, 2)
+
+    async def by_body(context):
+        await context.lock(source.mutex)
+        await asyncio.sleep(0)
+        await context.lock(target.mutex)
+        source.money -= 1
+        target.money += 1
+
+    async def at_once():
+        async with of.context() as context:
+            await context.lock(source.mutex, target.mutex)
+            source.money -= 1
+            await asyncio.sleep(0)
+            target.money += 1 if source is not target else 0
+
+    work = of.run_async(by_body)
+    if draws.random() < 0.5:
+        work.close()
+        work = at_once() if not cancels else of.run_async(by_body)
+        if cancels:
+            try:
+                return await asyncio.wait_for(work, draws.random() / 500)
+            except asyncio.TimeoutError:
+                return None
+    return await work
+
+
+def storm(kind, loops, tasks, times, contexts, cancels):
+    of = made(kind, 16, contexts)
+    accounts = [Account(of) for _ in range(5)]
+    faults = []
+
+    async def work(seed):
+        draws = random.Random(seed)
+        for _ in range(times):
+            await move(of, accounts, draws, cancels)
+
+    async def all_of(first):
+        await asyncio.gather(*(work(first + k) for k in range(tasks)))
+
+    def run(first):
+        try:
+            asyncio.run(all_of(first))
+        except BaseException as error:
+            faults.append(error)
+
+    def block():
+        draws = random.Random(7)
+        for _ in range(tasks * times // 4):
+            source, target = draws.sample(accounts, 2)
+            with of.context() as context:
+                context.lock(source.mutex, target.mutex)
+                source.money -= 1
+                target.money += 1
+
+    threads = [threading.Thread(target=run, args=(1000 * k,)) for k in range(loops)] + [threading.Thread(target=block)]
+    for it in threads:
+        it.start()
+    for it in threads:
+        it.join()
+    assert not faults, faults
+    assert sum(it.money for it in accounts) == 0 and not any(it.mutex.locked() for it in accounts)
+    asyncio.run(begin_all(of, contexts))
+
+
+async def begin_all(of, count):
+    """None of its contexts is in use."""
+    all_at_once = [of.context() for _ in range(count)]
+    for it in all_at_once:
+        await asyncio.wait_for(it.__aenter__(), 10)
+    for it in all_at_once:
+        await it.__aexit__(None, None, None)
+
+
+def a_loop_is_left():
+    """With a task amid its wait, and with one that holds something."""
+    buffers = made()
+    a, b = ww.Mutex(buffers), ww.Mutex(buffers)
+
+    async def hold():
+        async with buffers.context() as context:
+            await context.lock(a)
+            await asyncio.sleep(1000)
+
+    async def wait():
+        async with buffers.context() as context:
+            await context.lock(b)
+            await context.lock(a)
+
+    loop = asyncio.new_event_loop()
+    tasks = [loop.create_task(hold()), loop.create_task(wait())]
+    loop.run_until_complete(asyncio.sleep(0.02))
+    assert a.locked() and b.locked()
+    for it in tasks:
+        it._log_destroy_pending = False
+    loop.close()
+    del tasks, loop, it
+    for _ in range(3):
+        gc.collect()
+    assert not a.locked() and not b.locked()
+    asyncio.run(begin_all(buffers, 4))
+
+
+async def one_is_dropped():
+    """Without its block's end: it releases all, and ends."""
+    buffers = made(contexts=1)
+    mutex = ww.Mutex(buffers)
+    context = await buffers.context().__aenter__()
+    await context.lock(mutex)
+    del context
+    gc.collect()
+    assert not mutex.locked()
+    await asyncio.wait_for(begins(buffers), 10)
+
+
+def main():
+    begun = time.monotonic()
+    for kind in KINDS:
+        asyncio.run(refuses(kind))
+        asyncio.run(is_cancelled(kind))
+        storm(kind, 2, 30, 20, 4, False)
+        storm(kind, 2, 30, 20, 3, True)
+    asyncio.run(waits_in_turn())
+    asyncio.run(a_thread_wakes_it())
+    asyncio.run(one_is_dropped())
+    a_loop_is_left()
+    gc.collect()
+    assert not ww.tasks._Wakes.awaited
+    assert time.monotonic() - begun < 300
+    print("tasks: each wait ended as it should")
+
+
+if __name__ == "__main__":
+    if hasattr(os, "eventfd"):
+        main()
+    else:
+        print("tasks: os.eventfd, of Python 3.10, is not here, so nothing was tried")

@@ -1,0 +1,285 @@
+/*
+ * ww_loop.c - contexts that back off by themselves, in ww_until_all_locked and ww_mutex_lock_all.
+ *
+ * What a context has to do, amid a loop (ww_until_all_locked) and behind it, is one of six states.  `it` is the mutex at
+ * which it was told -EDEADLK last; OWES: it waited for `it` before that was asked for, which is to come.
+ *
+ *	state		call				answer			then
+ *	EASE		a lock				0			EASE
+ *							-EDEADLK		TOLD
+ *							-EALREADY (0 with WW_IGNORE_DUPLICATES), -EINTR, -ETIMEDOUT	EASE
+ *			a slow lock			-EINVAL			EASE
+ *	OWES		a lock of it			0, a trylock 1		EASE
+ *			a lock of another		0			OWES
+ *							-EDEADLK		TOLD, OWES
+ *			unlock of it, and a lock of it	0			EASE
+ *			ww_acquire_unlock_all					EASE
+ *	TOLD		a lock of what is held		-EALREADY, as above	TOLD
+ *			any other lock			-EINVAL, a trylock 0	TOLD
+ *			back off						FIRST
+ *			its last unlock						TOLD, holding nothing
+ *	TOLD, OWES	a lock of what is owed		0, a trylock 1		TOLD
+ *			else as TOLD, and behind each other lock still OWES
+ *	TOLD, holding nothing: as FIRST, but a lock of another doesn't wait for it
+ *	FIRST		a lock of it			0			EASE
+ *			a lock of another		0, having waited for it	OWES
+ *							-EDEADLK, likewise	TOLD, OWES
+ *			a slow lock of it		0			EASE
+ *			a slow lock of another		-EINVAL			FIRST
+ *			a trylock			1			EASE
+ *							0			FIRST
+ *			ww_acquire_unlock_all					EASE, holding nothing
+ *			any of these			-EINTR, -ETIMEDOUT	FIRST, or OWES if that came at the other one
+ *	EASE, holding nothing: behind FIRST a slow lock of it is 0, having waited for it
+ *	any		ww_mutex_lock_all		-EINVAL			as it was
+ *
+ *
+ * HAS_TO_BACK_OFF is TOLD, WAITS_FIRST is FIRST, and `prelocked` what it OWES.  tests/mutex_loop.c walks through all of it.
+ */
+#define _GNU_SOURCE
+#include "ww_pool.h"
+
+/*
+ * As long as one of these stands its lock calls take the long way (lock_by), as they do where each wait may be called off:
+ * no mutex has its pool.
+ */
+static void close_or_open(struct ww_acquire_ctx *x)
+{
+	x->pool = is_loop(x) && (x->state & (TRIES | WW_INTERRUPTIBLE) || x->prelocked) ? NO_POOL : x->own->pool;
+}
+
+/* What stands no more, and what stands; and it owes this one, if that isn't NULL. */
+static void become(struct ww_acquire_ctx *x, unsigned int not, unsigned int now, struct ww_mutex *prelocked)
+{
+	x->state = (x->state & ~not) | now;
+	x->prelocked = prelocked;
+	close_or_open(x);
+}
+
+void ww_acquire_flags(struct ww_acquire_ctx *x, unsigned int flags)
+{
+	x->state = (x->state & ~(unsigned)FLAGS) | (flags & FLAGS);
+	if (!x->own)
+		return;
+	if (flags & WW_MAY_BE_OLDER)
+		may_be_older(x);
+	if (is_loop(x))
+		close_or_open(x);
+}
+
+/* ---- the list of what it acquired, the newest first ---- */
+
+/* Of what it holds, whether one wasn't asked for yet: it waited for that after a back-off, and has it for the longest. */
+static bool owes(const struct ww_acquire_ctx *x)
+{
+	const struct ww_mutex *m = is_loop(x) && x->prelocked ? x->newest : NULL;
+
+	while (m && m != x->prelocked)
+		m = m->older;
+	return m;
+}
+
+size_t ww_acquire_mark(const struct ww_acquire_ctx *x) { return x->acquired - owes(x); }
+
+void ww_acquire_unlock_to(struct ww_acquire_ctx *x, size_t mark)
+{
+	if (!mark)
+		ww_acquire_unlock_all(x);
+	else if (is_loop(x))
+		for (size_t left = mark + owes(x); x->acquired > left;)
+			ww_mutex_unlock(x->newest);
+}
+
+/* From the first step on a mutex is another's, who may destroy it and give its memory away. */
+static inline void release_all(struct ww_acquire_ctx *x)
+{
+	struct ww_mutex *m;
+
+	while ((m = x->newest)) {
+		uint32_t number = m->number;
+		int r;
+
+		DEBUG(ww_debug_released(m));
+		x->newest = m->older;
+		x->acquired--;
+		__atomic_store_n(&m->ctx, NULL, __ATOMIC_RELAXED);
+		__tsan_release(m);
+		r = ww_unlock_(&x->own->handle, number);
+		if (UNLIKELY(r) && ww_release_on(x->own, r))
+			end("ww_acquire_unlock_all", "nobody holds the mutex");
+	}
+	x->prelocked = NULL;
+}
+
+/* Without ww_until_all_locked nothing tells what was acquired, so nothing is released. */
+void ww_acquire_unlock_all(struct ww_acquire_ctx *x)
+{
+	if (LIKELY(is_loop(x))) {
+		release_all(x);
+		/* It waits first for none any more: the mutex may be gone. */
+		if (UNLIKELY(x->state & WAITS_FIRST))
+			become(x, WAITS_FIRST, 0, NULL);
+	} else if (x->acquired) {
+		ww_debug_fault("ww_acquire_unlock_all", "outside ww_until_all_locked this call releases nothing");
+	}
+}
+
+/* ---- its locks ---- */
+
+/* Whether it waited for this mutex before the call for it came, which comes now: so it is the newest now. */
+bool ww_was_prelocked(struct ww_acquire_ctx *x, struct ww_mutex *m)
+{
+	if (x->prelocked != m)
+		return false;
+	unlist(x, m);
+	enlist(x, m);
+	become(x, 0, 0, NULL);
+	return true;
+}
+
+int ww_looped(struct ww_mutex *m, struct ww_acquire_ctx *x, int r)
+{
+	if (r == 0)
+		become(x, TRIES, 0, x->prelocked == m ? NULL : x->prelocked); /* That one may have been released meanwhile. */
+	if (r == -EDEADLK)
+		become(x, 0, HAS_TO_BACK_OFF, x->prelocked);
+	return r == -EALREADY && (ww_was_prelocked(x, m) || x->state & WW_IGNORE_DUPLICATES) ? 0 : r;
+}
+
+/* Before anything else it waits for the mutex at which it was told to back off. */
+static int wait_first(struct ww_acquire_ctx *x, unsigned int way, const struct timespec *until)
+{
+	struct ww_mutex *m = x->contending_lock;
+	int r = ww_lock_by(m, x, x->own, ww_debug_injected(m, x) ? way : way | SLOWLY, until);
+
+	if (!ww_debug_told(m, x, r, false))
+		become(x, TRIES, 0, m);
+	return r;
+}
+
+int ww_lock_in_loop(struct ww_mutex *m, struct ww_acquire_ctx *x, unsigned int way, const struct timespec *until)
+{
+	if (x->state & WW_INTERRUPTIBLE)
+		way |= HEEDS;
+	if (x->state & WAITS_FIRST) {
+		int r = wait_first(x, way, until);
+
+		if (r || ww_was_prelocked(x, m))
+			return r;
+	}
+	return ww_looped(m, x, ww_lock_by(m, x, x->own, way, until));
+}
+
+/* ---- loops ---- */
+
+/* What is acquired from now on is kept, and an unlock takes it out. */
+static inline void begin_loop(struct ww_acquire_ctx *x)
+{
+	x->prelocked = NULL;
+	x->empty_[0] = x->empty_[1] = NULL;
+	x->gives = x->empty_;
+}
+
+COLD static void begin_loop_else(struct ww_acquire_ctx *x)
+{
+	if (!x->own || x->acquired)
+		end("ww_until_all_locked", "the context holds a mutex, or has ended");
+	may_be_older(x);
+	become(x, TRIES, 0, NULL);
+}
+
+struct ww_acquire_ctx *ww_tries_begin_(struct ww_acquire_ctx *x)
+{
+	x->newest = NULL;
+	begin_loop(x);
+	if (UNLIKELY(!x->own || x->acquired | x->state))
+		begin_loop_else(x);
+	else
+		may_be_older(x);
+	return x;
+}
+
+COLD static void back_off(struct ww_acquire_ctx *x)
+{
+	release_all(x);
+	become(x, HAS_TO_BACK_OFF, WAITS_FIRST, NULL);
+}
+
+void ww_back_off_(struct ww_acquire_ctx *x)
+{
+	if (ww_is_contended(x))
+		back_off(x);
+}
+
+/*
+ * All words but the first lock's come into the cache at once, where each would come behind the step of the lock before.  By a
+ * number that is none yet, or of another class, what comes is of no use.  (Atomic loads stay what they are to gcc; what only
+ * reads and fetches it leaves out.)
+ */
+static inline void fetch_ahead(const ww_seat *s, struct ww_mutex *const *locks, size_t count)
+{
+	const uint64_t *words = words_of(s);
+
+	for (size_t k = 1; k < count; k++)
+		__builtin_prefetch(words + 2 * (size_t)__atomic_load_n(&locks[k]->number, __ATOMIC_RELAXED), 1);
+}
+
+/* Up to the first one that fails. */
+static inline int lock_each(struct ww_acquire_ctx *x, struct ww_mutex *const *locks, size_t count)
+{
+	for (size_t k = 0; k < count; k++) {
+		int r = ww_mutex_lock(locks[k], x);
+
+		if (UNLIKELY(r))
+			return r;
+	}
+	return 0;
+}
+
+/* Whether it holds more than what is listed. */
+static bool held_before(const struct ww_acquire_ctx *x)
+{
+	unsigned int listed = 0;
+
+	for (const struct ww_mutex *m = x->newest; m; m = m->older)
+		listed++;
+	return x->acquired > listed;
+}
+
+/* From here on in a loop, which ends with it; r is what it has come to, or 0 where it begins. */
+COLD static int lock_all_on(struct ww_acquire_ctx *x, struct ww_mutex *const *locks, size_t count, int r)
+{
+	bool held = held_before(x);
+
+	begin_loop(x);
+	become(x, TRIES, 0, NULL);
+	if (!r)
+		r = lock_each(x, locks, count);
+	while (r == -EDEADLK && !held) {
+		back_off(x);
+		r = lock_each(x, locks, count);
+	}
+	if (r)
+		release_all(x);
+	x->gives = x->own;
+	become(x, TRIES, 0, NULL);
+	return r;
+}
+
+int ww_mutex_lock_all(struct ww_acquire_ctx *x, struct ww_mutex *const *locks, size_t count)
+{
+	int r;
+
+	if (UNLIKELY(!x || is_loop(x))) {
+		ww_debug_fault("ww_mutex_lock_all", "the context has ended, or is in or behind ww_until_all_locked");
+		return -EINVAL;
+	}
+	x->newest = NULL;
+	may_be_older(x);
+	if (UNLIKELY(__atomic_load_n(&x->own->pool->is_large, __ATOMIC_RELAXED)))
+		fetch_ahead(x->own, locks, count);
+	if (UNLIKELY(x->state & FLAGS) || ww_debug_lists())
+		return lock_all_on(x, locks, count, 0);
+	r = lock_each(x, locks, count);
+	return LIKELY(!r) ? 0 : lock_all_on(x, locks, count, r);
+}

@@ -1,0 +1,96 @@
+/*
+ * ww_poll.h - contexts of ww_mutex.h and ww_number.h that wait without a thread: for event loops and coroutines.
+ *
+ * A poll is a call that does what it can without blocking.  -EINPROGRESS: it waits, and whoever ends the wait calls the
+ * waker.  Then the program makes the same call again, with the same arguments and this waker or another one, until it returns
+ * something else.  Threads that block, and tasks that poll, may lock the same mutexes.
+ *
+ * What a waker may do, and when it is called:
+ *
+ *	by whom		any thread: one that releases the mutex, ends a context, backs off, or cancels
+ *	when		as soon as the poll begins, also before it has returned; so a caller that got -EINPROGRESS accesses neither
+ *			the context nor the task any more, unless it knows that no other thread goes on with it
+ *	how often	at most once for each -EINPROGRESS; never for one that another poll or ww_poll_take_back (true) followed
+ *	with what	no lock of this library held, so it may use other contexts and mutexes
+ *	what for	it makes a loop run the task, and doesn't block.  A poll without need does no harm: it waits again
+ *	not		it may call nothing by the context that waits, nor by the one whose unlock or end calls it
+ *
+ * From -EINPROGRESS until a poll returns something else, any other call with the context returns -EBUSY, another poll too, and
+ * an unlock ends the program.  Polls and other calls of a context may come from any thread, one at a time, which the program
+ * orders as it orders its tasks: the context may be unlocked, and end, in another thread than it began in.  A poll blocks its
+ * thread only while another thread is in the middle of a step: for some instructions, unless that thread is preempted there.
+ */
+#ifndef WW_POLL_H
+#define WW_POLL_H
+#include "ww_mutex.h"
+
+#ifdef __cplusplus
+extern "C" {
+#endif
+
+/* wake(loop, task) is called: both are the program's. */
+struct ww_waker {
+	void (*wake)(void *loop, void *task);
+	void *loop, *task;
+};
+
+/* One wait for a context: { 0 } before, and the library's while polls return -EINPROGRESS; it doesn't move then. */
+struct ww_seek {
+	struct ww_seek *next_;
+	struct ww_loose *of_;
+	struct ww_seat *seat_;
+	struct ww_waker waker_;
+	uint32_t served_;
+};
+
+/*
+ * Begins a context, as ww_acquire_init_checked, but waits for one.  Tasks have contexts of their own, two for each processor
+ * but at most 64, besides those of threads.  When one ends, the task that has waited longest is called, but others may begin
+ * first: if the called one finds none free then, the next one that ends is its own.  If ww_class_limit set how many contexts the
+ * class has, tasks and threads share these, and wait in one queue, in which nobody is passed.  Without a waker (NULL) it ends
+ * the wait, or doesn't wait, and then seek may be NULL: it returns 0 if a context was begun, else -ETIMEDOUT.
+ */
+WW_MUST_CHECK int ww_acquire_init_poll(struct ww_acquire_ctx *ctx, struct ww_class *ww_class, struct ww_seek *seek,
+				       const struct ww_waker *waker);
+/*
+ * As ww_mutex_lock_interruptible, and ww_number_lock_until with NULL, with any context; they also return -EINVAL in
+ * ww_until_all_locked and after it.  After -EDEADLK release everything, and poll the same mutex first.  Without a waker
+ * (NULL) they end the wait: 0 if the mutex was acquired first, -EDEADLK or -EINTR if that came first, else -ETIMEDOUT; what
+ * was held still is.
+ */
+WW_MUST_CHECK int ww_mutex_lock_poll(struct ww_mutex *lock, struct ww_acquire_ctx *ctx, const struct ww_waker *waker);
+WW_MUST_CHECK int ww_number_lock_poll(uint32_t number, struct ww_acquire_ctx *ctx, const struct ww_waker *waker);
+/*
+ * After -EINPROGRESS: true if the waker wasn't called and won't be; a poll must follow nevertheless.  False: it was called,
+ * or is about to be.  So a waker can own a reference.  seek is that of a wait for a context, else NULL.
+ */
+bool ww_poll_take_back(struct ww_acquire_ctx *ctx, struct ww_seek *seek);
+
+/*
+ * For loops that watch a descriptor of eventfd(2): ww_event_wake is the function of such a waker, its `loop` the event, and
+ * its `task` a struct ww_woken that only this wait uses, and that doesn't move until it is taken, or the waker was taken back.
+ * ww_event_take returns all that were woken since, the last one first; the loop reads the descriptor before.
+ */
+struct ww_woken {
+	struct ww_woken *next;
+};
+struct ww_event {
+	struct ww_woken *first_; /* NULL at first */
+	int descriptor;
+};
+void ww_event_wake(void *event, void *woken);
+struct ww_woken *ww_event_take(struct ww_event *event);
+
+#if defined(WW_DEBUG) && !defined(WW_POOL_H)
+#define ww_acquire_init_poll(...) (WW_HERE_, ww_acquire_init_poll(__VA_ARGS__))
+#define ww_mutex_lock_poll(...) (WW_HERE_, ww_mutex_lock_poll(__VA_ARGS__))
+#define ww_number_lock_poll(...) (WW_HERE_, ww_number_lock_poll(__VA_ARGS__))
+#endif
+
+/* A first poll whose first step by the proved library, one that heeds cancels, was made already and returned r, not 0. */
+int ww_number_lock_poll_further_(uint32_t number, struct ww_acquire_ctx *ctx, const struct ww_waker *waker, int r);
+
+#ifdef __cplusplus
+}
+#endif
+#endif
