@@ -4,8 +4,8 @@ use core::fmt;
 use core::sync::atomic::{AtomicBool, Ordering};
 use std::sync::Arc;
 
-/// Calls off the waits of contexts that run with it ([`Options::cancelled_by`](crate::Options::cancelled_by)), from any
-/// thread, and for good. Its clones are the same one.
+/// Ends the waits of contexts that run with it ([`Options::cancelled_by`](crate::Options::cancelled_by)), from any
+/// thread, and permanently. Its clones are the same canceller.
 ///
 /// ```
 /// # use ww_mutex::{class, Canceller, Class, Error, Mutex};
@@ -38,14 +38,14 @@ struct Running(*mut ffi::ww_acquire_ctx);
 unsafe impl Send for Running {}
 
 impl Canceller {
-    /// One that hasn't called anything off.
+    /// A canceller that hasn't cancelled anything yet.
     #[must_use]
     pub fn new() -> Self {
         Self::default()
     }
 
-    /// Each context that runs with it is told [`Cancelled`](crate::Error::Cancelled) from now on: at once where it
-    /// waits, and else by its next lock.
+    /// From now on each context that runs with it gets [`Cancelled`](crate::Error::Cancelled): immediately if it waits,
+    /// else from its next lock.
     pub fn cancel(&self) {
         self.shared.is_cancelled.store(true, Ordering::SeqCst);
         for running in self.shared.running.lock().iter() {
@@ -55,7 +55,7 @@ impl Canceller {
         }
     }
 
-    /// Whether it has.
+    /// Whether it was cancelled.
     #[must_use]
     pub fn is_cancelled(&self) -> bool {
         self.shared.is_cancelled.load(Ordering::SeqCst)

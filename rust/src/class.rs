@@ -1,4 +1,4 @@
-use crate::lock::Lock;
+use crate::lock::{Lock, Locked};
 use crate::number::Number;
 use crate::{error, ffi, library_version, Error, Options, Tx};
 use core::cell::UnsafeCell;
@@ -6,12 +6,12 @@ use core::ffi::{c_int, CStr};
 use core::fmt;
 use core::sync::atomic::{AtomicU32, Ordering::Relaxed};
 
-/// How contexts that collide are told apart. In both kinds the older one goes first.
+/// What happens when contexts collide. In both kinds the older one goes first.
 #[derive(Clone, Copy, Debug, PartialEq, Eq, Hash)]
 pub enum Kind {
-    /// An older context wounds a younger one that holds what it wants; that one is told `Deadlock` when it next waits.
+    /// An older context wounds a younger one that holds what it wants; that one gets `Deadlock` when it next waits.
     WoundWait,
-    /// A younger context doesn't wait for an older one while it holds something: it is told `Deadlock` at once.
+    /// A younger context doesn't wait for an older one while it holds something: it gets `Deadlock` immediately.
     WaitDie,
 }
 
@@ -21,11 +21,11 @@ pub trait Class: Sized + 'static {
     /// What the class has at run time: the same one at each call.
     fn raw() -> &'static RawClass;
 
-    /// Runs the body in a new context, and releases all that it locked. Where a lock call was told
+    /// Runs the body in a new context, and releases everything that it locked. If a lock call returned
     /// [`Deadlock`](Error::Deadlock) and the body fails, this waits for the contended mutex and runs the body again.
     ///
-    /// So the body may run several times, and should change nothing before it has all its locks. What it returns is
-    /// handed on, unless it was told `Deadlock`: to return `Ok` then is a mistake, which is
+    /// So the body may run several times, and should change nothing before it has all its locks. Its result is
+    /// returned, unless it got `Deadlock`: a body that returns `Ok` then is wrong, and this returns
     /// [`Swallowed`](Error::Swallowed).
     ///
     /// ```
@@ -45,17 +45,17 @@ pub trait Class: Sized + 'static {
     /// # Ok::<(), Error>(())
     /// ```
     ///
-    /// Where all contexts of the class are in use (1,024, unless [`class!`](crate::class!) said another number), it
-    /// waits for one first; no deadlock is detected in which that wait has a part.
+    /// If all contexts of the class are in use (1,024, unless [`class!`](crate::class!) says another number), it waits
+    /// for one first; no deadlock is detected that involves this wait.
     ///
     /// # Errors
     ///
-    /// What the body fails with, but for [`Error::Deadlock`] that its context was told; [`Error::OutOfMemory`], where
+    /// The errors of the body, except an [`Error::Deadlock`] that its context got; [`Error::OutOfMemory`], if
     /// this opens the class; [`Error::Swallowed`].
     ///
     /// # Panics
     ///
-    /// In a forked child, for a class that was opened before.
+    /// In a forked child, if the class was opened before the fork.
     #[inline]
     fn run<R>(body: impl FnMut(&Tx<Self>) -> Result<R, Error>) -> Result<R, Error> {
         Options::new().run(body)
@@ -106,14 +106,52 @@ pub trait Class: Sized + 'static {
         Options::new().try_run(body)
     }
 
-    /// Contexts with a deadline, or which somebody may call off.
+    /// The same for a task, whose thread does something else while it waits: [`task`](crate::task).
+    ///
+    /// ```
+    /// # use ww_mutex::{class, Class, Error, Mutex};
+    /// # use std::sync::Arc;
+    /// class!(struct Accounts: WoundWait);
+    ///
+    /// async fn transfer(from: Arc<Mutex<Accounts, u64>>, to: Arc<Mutex<Accounts, u64>>) -> Result<(), Error> {
+    ///     Accounts::run_async(async move |tx| {
+    ///         let mut from = tx.lock(&from).await?;
+    ///         let mut to = tx.lock(&to).await?;
+    ///         *from -= 30;
+    ///         *to += 30;
+    ///         Ok(())
+    ///     })
+    ///     .await
+    /// }
+    /// # fn sends(_: impl Send) {}
+    /// # sends(transfer(Arc::new(Mutex::new(30)), Arc::new(Mutex::new(30))));
+    /// ```
+    ///
+    /// If the body borrows, the compiler doesn't see that the future is `Send`: use
+    /// [`transaction!`](crate::transaction) then.
+    ///
+    /// # Errors
+    ///
+    /// As [`run`](Class::run).
+    ///
+    /// # Panics
+    ///
+    /// As [`run`](Class::run).
+    #[cfg(feature = "async")]
+    fn run_async<R>(
+        body: impl AsyncFnMut(&crate::task::Tx<Self>) -> Result<R, Error>,
+    ) -> impl core::future::Future<Output = Result<R, Error>> {
+        crate::task::run(body)
+    }
+
+    /// Contexts with a deadline, or which other threads may cancel.
     #[inline]
     fn options<'c>() -> Options<'c, Self> {
         Options::new()
     }
 
-    /// Takes the class's memory now, and not at its first use: 104 bytes for each mutex that it may have, and 1 to 1.5
-    /// KB for each context.
+    /// Allocates the class's memory now, and not at its first use: 52 bytes for each mutex that it may have, and 0.8 to
+    /// 1.3 KiB for each context.
     ///
     /// # Errors
     ///
@@ -136,36 +174,36 @@ pub struct RawClass {
 
 /// That of no number.
 const NO_TAG: u32 = u32::MAX;
-/// As many classes have mutexes.
-const MOST_TAGS: u32 = 65_535;
 
 // SAFETY: any thread may call the library with a `ww_class`, and nothing else reads or writes `raw`.
 unsafe impl Sync for RawClass {}
 
 impl RawClass {
-    /// How many mutexes a class has at once at the most, and unless another number is said.
+    /// How many mutexes a class may have at a time, unless [`class!`](crate::class!) says another number.
     pub const MUTEXES: u32 = 65_536;
-    /// How many contexts a class has at once at the least. Where another number is said it has exactly as many, and each
-    /// costs more.
+    /// How many mutexes a class may have at a time at most.
+    pub const MOST_MUTEXES: u32 = 1 << 24;
+    /// How many contexts a class has at a time at least. If [`class!`](crate::class!) says another number, it has exactly
+    /// as many, and each costs more.
     pub const CONTEXTS: u32 = 1_024;
-    /// How many contexts a class has at once at the most.
+    /// How many contexts a class may have at a time at most.
     pub const MOST_CONTEXTS: u32 = 4_094;
 
-    /// With [`MUTEXES`](Self::MUTEXES) and [`CONTEXTS`](Self::CONTEXTS) at once.
+    /// A class with [`MUTEXES`](Self::MUTEXES) and [`CONTEXTS`](Self::CONTEXTS) at a time.
     #[must_use]
     pub const fn new(kind: Kind, name: &'static CStr) -> Self {
         Self::with_limits(kind, name, Self::MUTEXES, Self::CONTEXTS)
     }
 
-    /// With so many mutexes and contexts at once at the most. Memory is taken for as many.
+    /// A class with at most this many mutexes and contexts at a time. It allocates memory for as many.
     ///
     /// # Panics
     ///
-    /// Where there are none, or more than [`MUTEXES`](Self::MUTEXES) and [`MOST_CONTEXTS`](Self::MOST_CONTEXTS): in a
-    /// `static`, as [`class!`](crate::class!) makes it, that doesn't compile.
+    /// If a number is 0, or more than [`MOST_MUTEXES`](Self::MOST_MUTEXES) and
+    /// [`MOST_CONTEXTS`](Self::MOST_CONTEXTS): in a `static`, as [`class!`](crate::class!) makes it, that doesn't compile.
     #[must_use]
     pub const fn with_limits(kind: Kind, name: &'static CStr, mutexes: u32, contexts: u32) -> Self {
-        assert!(mutexes >= 1 && mutexes <= Self::MUTEXES, "a class has 1 to 65,536 mutexes");
+        assert!(mutexes >= 1 && mutexes <= Self::MOST_MUTEXES, "a class has 1 to 16,777,216 mutexes");
         assert!(contexts >= 1 && contexts <= Self::MOST_CONTEXTS, "a class has 1 to 4,094 contexts");
         RawClass {
             raw: UnsafeCell::new(ffi::ww_class {
@@ -174,6 +212,7 @@ impl RawClass {
                 // 0: as many as is usual, besides which threads keep contexts of their own.
                 contexts: if contexts == Self::CONTEXTS { 0 } else { contexts },
                 is_wait_die: matches!(kind, Kind::WaitDie) as c_int,
+                permits: 0,
                 name: name.as_ptr(),
             }),
             kind,
@@ -216,20 +255,25 @@ impl RawClass {
     fn first_tag(&self) -> u32 {
         static LAST: AtomicU32 = AtomicU32::new(0);
         assert_eq!(library_version() / 10_000, ffi::INTERFACE, "this is a library of another interface");
-        let last = LAST.fetch_update(Relaxed, Relaxed, |last| (last < MOST_TAGS).then_some(last + 1));
-        let tag = last.expect("there are more than 65,535 classes") + 1;
+        let last = LAST.fetch_update(Relaxed, Relaxed, |last| (last + 1 < NO_TAG).then_some(last + 1));
+        let tag = last.expect("each class has a tag of its own") + 1;
         self.tag.compare_exchange(NO_TAG, tag, Relaxed, Relaxed).map_or_else(|other| other, |_| tag)
     }
 
+    /// Who has them alone takes numbers.
+    pub(crate) fn unreturned(&self) -> Locked<'_, Vec<Number>> {
+        self.unreturned.lock()
+    }
+
     /// One that no mutex has.
-    pub(crate) fn take(&'static self) -> Result<Number, Error> {
+    pub(crate) fn take(&'static self, unreturned: &mut Vec<Number>) -> Result<Number, Error> {
         let tag = if self.tag() == NO_TAG { self.first_tag() } else { self.tag() };
         let mut index = 0;
         // SAFETY: the class is static, and `index` lives for the call.
         let mut take = || unsafe { ffi::ww_number_take(&raw mut index, self.get()) };
         let mut answer = take();
         if answer == -ffi::ENOSPC {
-            self.unreturned.lock().retain(|&number| self.put(number) == -ffi::EBUSY);
+            unreturned.retain(|&number| self.put(number) == -ffi::EBUSY);
             answer = take();
         }
         match answer {
@@ -267,7 +311,7 @@ impl fmt::Debug for RawClass {
     }
 }
 
-/// Makes a [`Class`], or several: `class!(pub struct Buffers: WoundWait);`, with limits if need be.
+/// Makes a [`Class`], or several: `class!(pub struct Buffers: WoundWait);`, with limits if you need them.
 ///
 /// ```
 /// ww_mutex::class! {
@@ -278,10 +322,10 @@ impl fmt::Debug for RawClass {
 /// }
 /// ```
 ///
-/// Limits outside 1 to 65,536 mutexes and 1 to 4,094 contexts don't compile:
+/// Limits outside 1 to 16,777,216 mutexes and 1 to 4,094 contexts don't compile:
 ///
 /// ```compile_fail,E0080
-/// ww_mutex::class!(struct Ports: WaitDie, mutexes = 65_537);
+/// ww_mutex::class!(struct Ports: WaitDie, mutexes = 16_777_217);
 /// ```
 ///
 /// ```compile_fail,E0080

@@ -121,6 +121,9 @@ impl Context {
             0 => {}
             answer => self.begin_late(answer, begin, wait)?,
         }
+        // No program sees when a context began, so none needs an age of its own.
+        // SAFETY: it has begun, and has locked nothing.
+        unsafe { ffi::ww_acquire_flags(self.raw(), ffi::WW_MAY_BE_OLDER) };
         own::begun(self.raw(), self.class);
         if let Some(canceller) = self.canceller() {
             canceller.joins(self.raw());
@@ -254,6 +257,7 @@ impl Context {
         &'g self,
         list: [&'g Mutex<C, T>; N],
     ) -> Result<[MutexGuard<'g, C, T>; N], Error> {
+        list.iter().skip(1).for_each(|mutex| mutex.fetch());
         // It stays as it is until a lock call is refused.
         let rare = self.rare();
         for (count, mutex) in list.iter().enumerate() {

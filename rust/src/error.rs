@@ -6,26 +6,26 @@ use core::fmt;
 #[derive(Clone, Copy, Debug, PartialEq, Eq, Hash)]
 #[non_exhaustive]
 pub enum Error {
-    /// An older context goes first. All guards of this context have to go, and then it tries again:
-    /// [`Class::run`](crate::Class::run) does so where the body hands this on by `?`.
+    /// An older context goes first. Drop all guards of this context, and then try again:
+    /// [`Class::run`](crate::Class::run) does so if the body returns this error, as `?` does.
     Deadlock,
     /// The context holds this mutex already. A second guard would be a second `&mut` to one value.
     Duplicate,
-    /// The [`Canceller`](crate::Canceller) called it off.
+    /// The [`Canceller`](crate::Canceller) ended the wait.
     Cancelled,
-    /// The deadline came before the mutex.
+    /// The deadline came before the mutex was locked.
     TimedOut,
-    /// The class has as many mutexes in use as it may have: 65,536, or what its limit says.
+    /// All mutexes that the class may have are in use: 65,536, or its own limit.
     Exhausted,
-    /// There is no memory to open the class, of which this was the first use.
+    /// There is no memory to open the class, at its first use.
     OutOfMemory,
-    /// A lock call of the body was told [`Deadlock`](Error::Deadlock), and the body returned `Ok` all the same, without
-    /// what it was to lock. It has to fail then, so that it runs again.
+    /// A lock call of the body returned [`Deadlock`](Error::Deadlock), and yet the body returned `Ok`, without the lock.
+    /// It must fail then, so that it runs again.
     Swallowed,
 }
 
 impl Error {
-    /// Whether all guards have to go before anything else can be locked.
+    /// Whether all guards must be dropped before anything else can be locked.
     #[must_use]
     pub const fn is_deadlock(self) -> bool {
         matches!(self, Error::Deadlock)
@@ -37,11 +37,11 @@ impl fmt::Display for Error {
         f.write_str(match self {
             Error::Deadlock => "an older context goes first",
             Error::Duplicate => "the context holds this mutex already",
-            Error::Cancelled => "the wait was called off",
-            Error::TimedOut => "the deadline came before the mutex",
+            Error::Cancelled => "the wait was cancelled",
+            Error::TimedOut => "the deadline passed",
             Error::Exhausted => "the class has all mutexes that it may have",
             Error::OutOfMemory => "there is no memory to open the class",
-            Error::Swallowed => "the body was told Deadlock, and returned Ok",
+            Error::Swallowed => "the body got Deadlock, but returned Ok",
         })
     }
 }

@@ -3,6 +3,8 @@
 #![allow(non_camel_case_types, reason = "the names are those of the header")]
 
 use core::ffi::{c_char, c_int, c_long, c_uint, c_ulong, c_void};
+#[cfg(feature = "async")]
+use core::ptr;
 
 /// The first number of the library's version, which changes with its binary interface.
 pub const INTERFACE: u32 = 4;
@@ -23,6 +25,7 @@ pub struct ww_class {
     pub mutexes: u32,
     pub contexts: u32,
     pub is_wait_die: c_int,
+    pub permits: u32,
     pub name: *const c_char,
 }
 
@@ -37,18 +40,44 @@ pub struct ww_acquire_ctx {
     pub own: *mut ww_seat,
     pub gives: *mut c_void,
     pub acquired: c_uint,
-    pub cancelled: c_uint,
-    pub called: *mut ww_mutex,
+    pub state: c_uint,
     pub contending_lock: *mut ww_mutex,
     pub newest: *mut ww_mutex,
-    pub linked: *mut ww_mutex,
     pub prelocked: *mut ww_mutex,
-    pub flags: c_uint,
-    pub state: c_uint,
+    pub cancelled: c_uint,
     pub deadlock_inject_interval: c_uint,
     pub deadlock_inject_countdown: c_uint,
     pub stamp: c_ulong,
     pub empty_: [*mut c_void; 2],
+}
+
+/// Of `c/ww_poll.h`.
+#[cfg(feature = "async")]
+#[repr(C)]
+#[derive(Clone, Copy)]
+pub struct ww_waker {
+    pub wake: Option<unsafe extern "C" fn(*mut c_void, *mut c_void)>,
+    pub r#loop: *mut c_void,
+    pub task: *mut c_void,
+}
+
+#[cfg(feature = "async")]
+#[repr(C)]
+#[allow(clippy::struct_field_names, reason = "the names are those of the header")]
+pub struct ww_seek {
+    pub next_: *mut ww_seek,
+    pub of_: *mut c_void,
+    pub seat_: *mut ww_seat,
+    pub waker_: ww_waker,
+    pub served_: u32,
+}
+
+#[cfg(feature = "async")]
+impl ww_seek {
+    pub const fn new() -> Self {
+        let waker_ = ww_waker { wake: None, r#loop: ptr::null_mut(), task: ptr::null_mut() };
+        ww_seek { next_: ptr::null_mut(), of_: ptr::null_mut(), seat_: ptr::null_mut(), waker_, served_: 0 }
+    }
 }
 
 /// As 64-bit Linux has it.
@@ -61,6 +90,9 @@ pub struct timespec {
 
 pub const CLOCK_MONOTONIC: c_int = 1;
 
+/// A flag of `ww_acquire_flags`.
+pub const WW_MAY_BE_OLDER: c_uint = 4;
+
 pub const EINTR: c_int = 4;
 pub const EAGAIN: c_int = 11;
 pub const ENOMEM: c_int = 12;
@@ -69,6 +101,8 @@ pub const ENOSPC: c_int = 28;
 pub const EDEADLK: c_int = 35;
 pub const ETIMEDOUT: c_int = 110;
 pub const EALREADY: c_int = 114;
+#[cfg(feature = "async")]
+pub const EINPROGRESS: c_int = 115;
 
 extern "C" {
     pub fn ww_version() -> u32;
@@ -78,6 +112,7 @@ extern "C" {
     pub fn ww_acquire_init(ctx: *mut ww_acquire_ctx, class: *mut ww_class);
     pub fn ww_acquire_init_checked(ctx: *mut ww_acquire_ctx, class: *mut ww_class) -> c_int;
     pub fn ww_acquire_init_until(ctx: *mut ww_acquire_ctx, class: *mut ww_class, monotonic: *const timespec) -> c_int;
+    pub fn ww_acquire_flags(ctx: *mut ww_acquire_ctx, flags: c_uint);
     pub fn ww_acquire_fini(ctx: *mut ww_acquire_ctx);
     pub fn ww_acquire_cancel(ctx: *mut ww_acquire_ctx) -> c_int;
 
@@ -107,6 +142,46 @@ extern "C" {
 
     /// Of the C library, which std links.
     pub fn clock_gettime(clock: c_int, at: *mut timespec) -> c_int;
+}
+
+#[cfg(feature = "async")]
+extern "C" {
+    pub fn ww_acquire_init_poll(
+        ctx: *mut ww_acquire_ctx,
+        class: *mut ww_class,
+        seek: *mut ww_seek,
+        waker: *const ww_waker,
+    ) -> c_int;
+    pub fn ww_number_lock_poll(number: u32, ctx: *mut ww_acquire_ctx, waker: *const ww_waker) -> c_int;
+    pub fn ww_number_lock_poll_further_(
+        number: u32,
+        ctx: *mut ww_acquire_ctx,
+        waker: *const ww_waker,
+        r: c_int,
+    ) -> c_int;
+    pub fn ww_poll_take_back(ctx: *mut ww_acquire_ctx, seek: *mut ww_seek) -> bool;
+}
+
+/// The first turn of `ww_number_lock_poll`: what it answers if that is 0, and else how the call goes on.
+///
+/// # Safety
+///
+/// The context has begun, no call of it is on its way, and nothing else is done with it meanwhile.
+#[cfg(feature = "async")]
+#[inline]
+pub unsafe fn try_first(number: u32, ctx: *mut ww_acquire_ctx) -> Result<(), Option<i32>> {
+    if cfg!(ww_no_inline) {
+        return Err(None);
+    }
+    // SAFETY: the caller's. What is read and written of the context is its user's.
+    unsafe {
+        let r = ww_lock_((*ctx).own, number, true);
+        if r != 0 {
+            return Err(Some(r));
+        }
+        (*ctx).acquired += 1;
+    }
+    Ok(())
 }
 
 /// `ww_number_lock`, as the header compiles it into its callers, by a context that has begun, and hasn't ended.
@@ -154,6 +229,8 @@ pub unsafe fn unlock(number: u32, ctx: *mut ww_acquire_ctx) {
 
 #[cfg(test)]
 mod tests {
+    #[cfg(feature = "async")]
+    use super::ww_seek;
     use super::{timespec, ww_acquire_ctx, ww_class, INTERFACE};
     use std::mem::{align_of, offset_of, size_of};
     use std::process::Command;
@@ -179,13 +256,20 @@ mod tests {
     #[test]
     fn the_layouts_are_those_of_the_header() {
         let (asked, here) = layouts! {
-            ww_class: pool mutexes contexts is_wait_die name;
-            ww_acquire_ctx: pool own gives acquired cancelled called contending_lock newest linked prelocked flags state
+            ww_class: pool mutexes contexts is_wait_die permits name;
+            ww_acquire_ctx: pool own gives acquired state contending_lock newest prelocked cancelled
                 deadlock_inject_interval deadlock_inject_countdown stamp empty_;
             timespec: tv_sec tv_nsec;
         };
+        #[cfg(feature = "async")]
+        let (asked, here) = {
+            let (more, too) = layouts! {
+                ww_seek: next_ of_ seat_ waker_ served_;
+            };
+            (asked + &more, here + &too)
+        };
         let source = format!(
-            "#include \"ww_mutex.h\"\n#include <stdio.h>\n\
+            "#include \"ww_poll.h\"\n#include <stdio.h>\n\
              #define SIZE(it) printf(\"%zu %zu\\n\", sizeof(it), _Alignof(it));\n\
              #define PLACE(it, field) printf(\"%zu\\n\", offsetof(it, field));\n\
              int main(void) {{\n{asked}}}\n"

@@ -37,7 +37,7 @@ impl Holder {
     }
 }
 
-/// A locked mutex, and the way to its value. Its drop releases the mutex, in the thread that locked it.
+/// A locked mutex, with access to its value. Its drop releases the mutex, in the thread that locked it.
 ///
 /// ```compile_fail,E0277
 /// # use ww_mutex::{class, Mutex};
@@ -68,7 +68,7 @@ impl Holder {
 /// let guard = BOX.lock();
 /// std::thread::scope(|scope| { scope.spawn(|| guard.set(1)); });
 /// ```
-#[must_use = "the mutex is released at once where its guard is dropped"]
+#[must_use = "the mutex is released as soon as its guard is dropped"]
 #[clippy::has_significant_drop]
 pub struct MutexGuard<'g, C: Class, T: ?Sized> {
     mutex: &'g Mutex<C, T>,
@@ -134,9 +134,9 @@ impl<C: Class, T: ?Sized + fmt::Display> fmt::Display for MutexGuard<'_, C, T> {
     }
 }
 
-/// As [`MutexGuard`], but it shares the mutex rather than borrowing it: one that was found on the way, and that nothing
-/// else in the body keeps. It lives no longer than the borrow of its context, `'x`.
-#[must_use = "the mutex is released at once where its guard is dropped"]
+/// As [`MutexGuard`], but it shares the mutex instead of borrowing it: for one that was found while others were locked,
+/// and that nothing else in the body keeps alive. It lives no longer than the borrow of its context, `'x`.
+#[must_use = "the mutex is released as soon as its guard is dropped"]
 #[clippy::has_significant_drop]
 pub struct ArcMutexGuard<'x, C: Class, T: ?Sized> {
     mutex: Arc<Mutex<C, T>>,

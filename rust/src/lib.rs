@@ -1,5 +1,5 @@
-//! Wound/wait mutexes: a thread locks several values, in any order, and learns which ones as it goes. Where threads
-//! would wait for each other for ever, the youngest of them releases what it holds, and tries again.
+//! Wound/wait mutexes: a thread locks several values, in any order, and finds out which ones as it goes. If threads
+//! would deadlock, a younger one releases what it holds, and tries again.
 //!
 //! ```
 //! use ww_mutex::{class, Class, Error, Mutex};
@@ -18,7 +18,7 @@
 //! ```
 //!
 //! - A [`Class`] is a type: the mutexes among which deadlocks are detected. It is Wound-Wait or Wait-Die, and has up to
-//!   65,536 mutexes at once, and at least 1,024 contexts, or as many as [`class!`] says.
+//!   65,536 mutexes at a time, and at least 1,024 contexts, or as many as [`class!`] says: up to 2^24 and 4,094.
 //! - A [`Mutex`] belongs to a class, and guards a value. It may be a `static`, and may be moved while nobody borrows
 //!   it.
 //! - [`Class::run`] runs a body with a context, [`Tx`], and runs it again after each [`Deadlock`](Error::Deadlock).
@@ -28,23 +28,23 @@
 //!
 //! # The body runs again
 //!
-//! After [`Deadlock`](Error::Deadlock) all guards go, and the body that [`Class::run`] was given runs from its
-//! beginning. What it changed before is still changed. So a body locks all that it needs, and changes something only
-//! then; what it has to do once, like sending a message, comes behind `run`.
+//! After [`Deadlock`](Error::Deadlock) all guards are dropped, and the body that [`Class::run`] was given runs again from
+//! its beginning. What it changed before is still changed. So a body locks all that it needs before it changes anything,
+//! and what must happen once, like sending a message, comes after `run`.
 //!
-//! Such a mistake shows only where threads collide. The feature `debug-library` links a library that tells contexts
-//! `Deadlock` now and then without need: run the tests of a program with it.
+//! Such a mistake shows only where threads collide. The feature `debug-library` links a library in which some lock calls
+//! return `Deadlock` without need: run the tests of a program with it.
 //!
 //! # What it doesn't do
 //!
 //! Deadlocks are detected among the mutexes of one class, and among contexts. A thread that has two contexts, or locks
-//! a mutex without its context inside a body, can wait for itself for ever; with debug assertions that is a panic where
-//! it is certain. No deadlock is detected in which another class, another kind of lock, a channel or a thread that is
-//! waited for has a part.
+//! a mutex without its context inside a body, can wait for itself forever; with debug assertions it panics if that is
+//! certain. No deadlock is detected that involves another class, another kind of lock, a channel or a thread that is
+//! waited for.
 //!
-//! Nothing says that a waiting call returns, or in which order; there is no fairness. Classes that were in use can't be
-//! used in a forked child: each use panics. None of it is for signal handlers, nor for `async`: a wait blocks its
-//! thread.
+//! It isn't promised that a waiting call returns, or in which order; there is no fairness. Classes that were in use can't
+//! be used in a forked child: each use panics. Signal handlers may use nothing of it. A wait blocks its thread, except the
+//! waits of tasks: the feature `async` has a module for these, `task`.
 //!
 //! # Panics and leaks
 //!
@@ -53,13 +53,13 @@
 //!
 //! A guard of a context that is forgotten ([`std::mem::forget`]) is released with the context's next attempt, or at its
 //! end: by then nothing can reach the value. One that was locked without a context keeps its mutex locked, and one of
-//! the contexts of the class in use, for ever.
+//! the contexts of the class in use, forever.
 //!
 //! # What it is built on
 //!
-//! The locks are those of `libww`, whose core is proved: mutual exclusion, that each cycle of waits has a member that
-//! is told to back off, and that no context is told so but because of an older one. What `libww` adds to its core in C
-//! (waits, wake-ups, deadlines, cancels), and what this crate adds, is tested. It runs on Linux.
+//! The locks are those of `libww`, whose core is proved: mutual exclusion, that each cycle of waits contains a victim,
+//! and that a context has to back off only because of an older one. What `libww` adds to its core in C (waits, wake-ups,
+//! deadlines, cancels), and what this crate adds, is tested. It runs on Linux.
 
 mod cancel;
 mod class;
@@ -73,6 +73,9 @@ mod mutex;
 mod number;
 mod options;
 mod own;
+#[cfg(feature = "async")]
+#[allow(clippy::incompatible_msrv, reason = "the feature asks for Rust 1.85")]
+pub mod task;
 mod tx;
 pub mod typed;
 

@@ -13,7 +13,8 @@ use std::time::{Duration, Instant};
 /// A context locks it by [`Tx::lock`](crate::Tx::lock); [`lock`](Mutex::lock) does so without a context.
 ///
 /// It may be a `static`, and may be moved while nobody borrows it. From its first lock until it is dropped it is one of
-/// the 65,536 mutexes that a class may have in use. There is no poison: a guard that a panic drops releases its mutex.
+/// the mutexes that its class may have in use, 65,536 unless [`class!`](crate::class!) says another number. There is no
+/// poison: a guard that a panic drops releases its mutex.
 ///
 /// It isn't moved while it is locked:
 ///
@@ -47,14 +48,14 @@ unsafe impl<C: Class, T: ?Sized + Send> Sync for Mutex<C, T> {}
 unsafe impl<C: Class, T: ?Sized + Send> Send for Mutex<C, T> {}
 
 impl<C: Class, T> Mutex<C, T> {
-    /// It takes nothing of its class yet: its first lock does.
+    /// It doesn't take a number of its class yet: its first lock does.
     #[inline]
     #[must_use]
     pub const fn new(value: T) -> Self {
         Mutex { handle: Handle::new(), value: UnsafeCell::new(value) }
     }
 
-    /// One that takes its place in the class at once, so that no lock of it is told `Exhausted`.
+    /// As [`new`](Mutex::new), but it takes a number of its class immediately, so that no lock of it returns `Exhausted`.
     ///
     /// # Errors
     ///
@@ -75,17 +76,17 @@ impl<C: Class, T> Mutex<C, T> {
 }
 
 impl<C: Class, T: ?Sized> Mutex<C, T> {
-    /// Locks it without a context, and waits for it. Where all contexts of the class are in use it waits for one, too,
-    /// and keeps that until the guard goes.
+    /// Locks it without a context, and waits for it. If all contexts of the class are in use, it waits for one, too,
+    /// and keeps that until the guard is dropped.
     ///
-    /// No deadlock is detected among mutexes that are locked so. A thread that holds something and needs more locks it
-    /// by a context.
+    /// No deadlock is detected among mutexes that are locked so. A thread that holds something and needs more locks that
+    /// with a context.
     ///
     /// # Panics
     ///
-    /// Where the class has all mutexes that it may have, or no memory to open ([`try_new`](Mutex::try_new) tells that);
-    /// in a forked child, for a class that was opened before; and, with debug assertions, where a context of this
-    /// thread holds it.
+    /// If the class has all mutexes that it may have, or no memory to open ([`try_new`](Mutex::try_new) returns these
+    /// errors); in a forked child, if the class was opened before the fork; and, with debug assertions, if a context of
+    /// this thread holds the mutex.
     #[inline]
     pub fn lock(&self) -> MutexGuard<'_, C, T> {
         let class = C::raw();
@@ -99,7 +100,7 @@ impl<C: Class, T: ?Sized> Mutex<C, T> {
     ///
     /// # Panics
     ///
-    /// Where the class has all mutexes that it may have, or no memory to open.
+    /// If the class has all mutexes that it may have, or no memory to open.
     #[inline]
     pub fn try_lock(&self) -> Option<MutexGuard<'_, C, T>> {
         let class = C::raw();
@@ -111,13 +112,13 @@ impl<C: Class, T: ?Sized> Mutex<C, T> {
         is_locked.then(|| unsafe { MutexGuard::of(self, Holder::alone(by)) })
     }
 
-    /// As [`lock`](Mutex::lock), but waits until this time at the longest. A mutex that is free is locked, however late
+    /// As [`lock`](Mutex::lock), but waits at most until this time. A mutex that is free is locked, however late
     /// it is, if a context of the class is free.
     ///
     /// # Panics
     ///
-    /// Where the class has all mutexes that it may have, or no memory to open; in a forked child, for a class that was
-    /// opened before.
+    /// If the class has all mutexes that it may have, or no memory to open; in a forked child, if the class was opened
+    /// before the fork.
     pub fn try_lock_until(&self, deadline: Instant) -> Option<MutexGuard<'_, C, T>> {
         let class = C::raw();
         let number = self.number_or_panic(class);
@@ -128,7 +129,7 @@ impl<C: Class, T: ?Sized> Mutex<C, T> {
         }
     }
 
-    /// As [`try_lock_until`](Mutex::try_lock_until), so long from now on.
+    /// As [`try_lock_until`](Mutex::try_lock_until), with a time from now on.
     ///
     /// # Panics
     ///
@@ -140,8 +141,8 @@ impl<C: Class, T: ?Sized> Mutex<C, T> {
         }
     }
 
-    /// Whether somebody holds it, at a glance. One that is free isn't for that moment, in which a
-    /// [`try_lock`](Mutex::try_lock) may miss it.
+    /// Whether somebody holds it; that may be out of date when it returns. A mutex that is free is taken for a moment,
+    /// in which a [`try_lock`](Mutex::try_lock) may fail.
     #[must_use]
     pub fn is_locked(&self) -> bool {
         let class = C::raw();
@@ -165,6 +166,12 @@ impl<C: Class, T: ?Sized> Mutex<C, T> {
     #[inline]
     pub(crate) fn number(&self, class: &'static RawClass) -> Result<Number, Error> {
         self.handle.number(class)
+    }
+
+    /// Of a list, so that it comes at once, and not behind the lock before.
+    #[inline]
+    pub(crate) fn fetch(&self) {
+        self.handle.fetch();
     }
 
     #[inline]

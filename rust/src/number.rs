@@ -4,47 +4,57 @@
 use crate::class::RawClass;
 use crate::{Class, Error};
 use core::marker::PhantomData;
-use core::sync::atomic::{AtomicU32, Ordering};
+use core::sync::atomic::{AtomicU64, Ordering};
 
 /// A number with the tag of its class, since [`Class::raw`] may be written to tell different classes.
 #[derive(Clone, Copy, PartialEq, Eq)]
-pub(crate) struct Number(u32);
+pub(crate) struct Number(u64);
 
 impl Number {
-    const BITS: u32 = u16::BITS;
-
     /// The tag isn't 0.
     pub(crate) const fn new(tag: u32, index: u32) -> Self {
-        Number(tag << Self::BITS | index)
+        Number((tag as u64) << u32::BITS | index as u64)
     }
 
     #[inline]
     pub(crate) const fn tag(self) -> u32 {
-        self.0 >> Self::BITS
+        (self.0 >> u32::BITS) as u32
     }
 
     /// As the library knows it.
     #[inline]
+    #[allow(clippy::cast_possible_truncation, reason = "the tag goes")]
     pub(crate) const fn index(self) -> u32 {
-        self.0 & u16::MAX as u32
+        self.0 as u32
     }
 }
 
 /// The number of a mutex, which it gets by its first lock.
 pub(crate) struct Handle<C: Class> {
     /// 0 until then.
-    word: AtomicU32,
+    word: AtomicU64,
     class: PhantomData<fn() -> C>,
 }
 
 impl<C: Class> Handle<C> {
     pub(crate) const fn new() -> Self {
-        Handle { word: AtomicU32::new(0), class: PhantomData }
+        Handle { word: AtomicU64::new(0), class: PhantomData }
     }
 
     #[inline]
     fn load(&self) -> Number {
         Number(self.word.load(Ordering::Acquire))
+    }
+
+    /// Has it come into the cache, where the compiler can ask the processor for that.
+    #[inline]
+    pub(crate) fn fetch(&self) {
+        #[cfg(target_arch = "x86_64")]
+        // SAFETY: that accesses nothing.
+        unsafe {
+            use core::arch::x86_64::{_mm_prefetch, _MM_HINT_T0};
+            _mm_prefetch::<_MM_HINT_T0>((&raw const self.word).cast());
+        }
     }
 
     /// If it has one.
@@ -85,12 +95,19 @@ impl<C: Class> Handle<C> {
         Ok(number)
     }
 
+    /// By one thread of a class at a time: a second one would take a number that another mutex wants.
     fn take(&self, class: &'static RawClass) -> Result<Number, Error> {
-        let number = class.take()?;
-        match self.word.compare_exchange(0, number.0, Ordering::AcqRel, Ordering::Acquire) {
+        let mut unreturned = class.unreturned();
+        if let Some(number) = self.existing() {
+            return Ok(number);
+        }
+        let number = class.take(&mut unreturned)?;
+        let was = self.word.compare_exchange(0, number.0, Ordering::AcqRel, Ordering::Acquire);
+        drop(unreturned);
+        match was {
             Ok(_) => Ok(number),
             Err(other) => {
-                // Another thread was first.
+                // Another thread was first, which `Class::raw` told another class.
                 class.give(number);
                 Ok(Number(other))
             }

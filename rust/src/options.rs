@@ -5,7 +5,7 @@ use core::fmt;
 use core::marker::PhantomData;
 use std::time::{Duration, Instant};
 
-/// How long a context waits, and who may call it off: [`Class::options`].
+/// How long a context waits, and who may cancel it: [`Class::options`].
 ///
 /// ```
 /// # use ww_mutex::{class, Class, Error, Mutex};
@@ -25,26 +25,26 @@ pub struct Options<'c, C> {
 }
 
 impl<'c, C: Class> Options<'c, C> {
-    /// A context that waits as long as it takes.
+    /// A context that waits without a limit.
     #[inline]
     pub const fn new() -> Self {
         Options { deadline: None, canceller: None, class: PhantomData }
     }
 
-    /// It waits until this time at the longest: for a context where all are in use, for each mutex, and for the
-    /// contended one before the body runs again. A mutex that is free is locked, however late it is.
+    /// It waits at most until this time: for a context if all are in use, for each mutex, and for the contended one
+    /// before the body runs again. A mutex that is free is locked, however late it is.
     pub const fn deadline(mut self, at: Instant) -> Self {
         self.deadline = Some(at);
         self
     }
 
-    /// It waits so long at the longest, from now on and in all.
+    /// It waits at most this long, from now on and in all.
     pub fn timeout(mut self, timeout: Duration) -> Self {
         self.deadline = Instant::now().checked_add(timeout);
         self
     }
 
-    /// It waits until this calls it off.
+    /// It waits until this canceller ends the wait.
     pub const fn cancelled_by(mut self, canceller: &'c Canceller) -> Self {
         self.canceller = Some(canceller);
         self

@@ -20,7 +20,7 @@ use std::sync::Arc;
 /// });
 /// ```
 ///
-/// Nor does what was reached through one:
+/// A reference that came from a guard doesn't leave it either:
 ///
 /// ```compile_fail,E0515
 /// # use ww_mutex::{class, Class, Mutex};
@@ -32,7 +32,7 @@ use std::sync::Arc;
 /// }).unwrap();
 /// ```
 ///
-/// A mutex of another class doesn't go with it:
+/// It can't lock a mutex of another class:
 ///
 /// ```compile_fail,E0308
 /// # use ww_mutex::{class, Class, Mutex};
@@ -63,19 +63,19 @@ impl<C: Class> Tx<C> {
 
     /// Locks it, and waits for it.
     ///
-    /// After [`Deadlock`](Error::Deadlock) this attempt is over: each further lock call is told so at once, until the
-    /// body has returned and runs again. So hand it on by `?`.
+    /// After [`Deadlock`](Error::Deadlock) this attempt is over: each further lock call returns `Deadlock` immediately,
+    /// until the body has returned and runs again. So return it, with `?`.
     ///
     /// # Errors
     ///
     /// `Deadlock`; `Duplicate` for a mutex that it has a guard of; with [`Options`](crate::Options), `Cancelled` and
-    /// `TimedOut`; `Exhausted` at a mutex's first lock, where the class has all that it may have. But for `Deadlock`,
+    /// `TimedOut`; `Exhausted` at a mutex's first lock, if the class has all that it may have. Except after `Deadlock`,
     /// the context holds what it held, and may go on.
     ///
     /// # Panics
     ///
-    /// In a forked child, for a class that was opened before; with debug assertions, where another context of this
-    /// thread holds it, and nothing would end the wait.
+    /// In a forked child, if the class was opened before the fork; with debug assertions, if another context of this
+    /// thread holds the mutex, and nothing would end the wait.
     #[inline]
     pub fn lock<'g, T: ?Sized>(&'g self, mutex: &'g Mutex<C, T>) -> Result<MutexGuard<'g, C, T>, Error> {
         self.context.lock(mutex)?;
@@ -83,8 +83,8 @@ impl<C: Class> Tx<C> {
         Ok(unsafe { MutexGuard::of(mutex, self.context.holder()) })
     }
 
-    /// As [`lock`](Self::lock), for a mutex that the guard shares: one that was found on the way, and whose `Arc` goes
-    /// before the guard does.
+    /// As [`lock`](Self::lock), for a mutex that the guard shares: one that was found while others were locked, and whose
+    /// `Arc` is dropped before the guard.
     ///
     /// ```
     /// # use ww_mutex::{class, Class, Error, Mutex};
@@ -125,7 +125,7 @@ impl<C: Class> Tx<C> {
         is_locked.then(|| unsafe { MutexGuard::of(mutex, self.context.holder()) })
     }
 
-    /// Locks all of them, in this order. Where one isn't locked it keeps none of them.
+    /// Locks all of them, in this order. If one can't be locked, it keeps none of them.
     ///
     /// ```
     /// # use ww_mutex::{class, Class, Error, Mutex};
@@ -151,7 +151,7 @@ impl<C: Class> Tx<C> {
         self.context.lock_all(list)
     }
 
-    /// The same for a list of any length, as it comes.
+    /// The same for a list of any length, in its order.
     ///
     /// ```
     /// # use ww_mutex::{class, Class, Error, Mutex};
@@ -172,7 +172,7 @@ impl<C: Class> Tx<C> {
         list.into_iter().map(|mutex| self.lock(mutex)).collect()
     }
 
-    /// Whether it has a guard of this mutex, so that [`lock`](Self::lock) would be told `Duplicate`.
+    /// Whether it has a guard of this mutex, so that [`lock`](Self::lock) would return `Duplicate`.
     #[must_use]
     pub fn holds<T: ?Sized>(&self, mutex: &Mutex<C, T>) -> bool {
         self.context.holds(mutex)
@@ -184,7 +184,7 @@ impl<C: Class> Tx<C> {
         self.attempts.get()
     }
 
-    /// Whether it was told `Deadlock` in this attempt.
+    /// Whether it got `Deadlock` in this attempt.
     #[inline]
     pub(crate) fn is_over(&self) -> bool {
         self.context.is_over()

@@ -1,4 +1,4 @@
-//! Contexts by types, without a closure: what may be called next is what there is a value for.
+//! Contexts by types, without a closure: a call is possible only with the value that it takes.
 //!
 //! | value | what it is | calls |
 //! |---|---|---|
@@ -7,9 +7,9 @@
 //! | [`Deadlock`] | the mutex that comes first from now on | |
 //! | [`MutexGuard`] | a mutex that is held; it borrows its context | |
 //!
-//! A lock call takes the `Acquiring`, and returns it with the guard. Where it is told `Deadlock` it keeps it, so
-//! nothing else can be locked. [`Context::back_off`] makes a new one; it wants the context exclusively, so all guards
-//! have to go before. A thread that has all its locks drops the `Acquiring`: that is the kernel's `ww_acquire_done`.
+//! A lock call takes the `Acquiring`, and returns it with the guard. If it returns `Deadlock` it keeps it, so
+//! nothing else can be locked. [`Context::back_off`] makes a new one; it borrows the context exclusively, so all guards
+//! must be dropped before. A thread that has all its locks drops the `Acquiring`, as `ww_acquire_done` in the kernel.
 //!
 //! ```
 //! use ww_mutex::typed::{Acquiring, Context, Refused};
@@ -40,7 +40,7 @@
 //!
 //! # What doesn't compile
 //!
-//! A lock after `Deadlock`, whose `Acquiring` is gone:
+//! A lock after `Deadlock`, which kept the `Acquiring`:
 //!
 //! ```compile_fail,E0382
 //! # use ww_mutex::typed::{Acquiring, Context, Refused};
@@ -194,8 +194,8 @@ pub struct Acquiring<'x, C: Class> {
 /// What a lock call returns: the permission to lock more, and what it locked.
 pub type Locked<'x, C, G> = (Acquiring<'x, C>, G);
 
-/// An older context goes first: the context has to release all, and to wait for the mutex at which it was told so.
-#[must_use = "`Context::back_off` waits for the mutex at which this was told"]
+/// An older context goes first: the context must release everything, and wait for the contended mutex.
+#[must_use = "`Context::back_off` waits for the contended mutex"]
 pub struct Deadlock<C: Class> {
     contended: Option<Number>,
     class: PhantomData<fn() -> C>,
@@ -204,7 +204,7 @@ pub struct Deadlock<C: Class> {
 /// Why a mutex wasn't locked.
 #[derive(Debug)]
 pub enum Refused<'x, C: Class> {
-    /// All guards of the context have to go, and then [`Context::back_off`] comes.
+    /// Drop all guards of the context, and then call [`Context::back_off`].
     Deadlock(Deadlock<C>),
     /// Any other reason. What was held still is, and the context may go on.
     Other(Error, Acquiring<'x, C>),
@@ -220,22 +220,22 @@ impl<C: Class> From<Refused<'_, C>> for Error {
 }
 
 impl<C: Class> Deadlock<C> {
-    /// It serves once.
+    /// It is used once.
     fn contended(self) -> Option<Number> {
         self.contended
     }
 }
 
 impl<C: Class> Context<C> {
-    /// Begins a context. Where all contexts of the class are in use it waits for one.
+    /// Begins a context. If all contexts of the class are in use, it waits for one.
     ///
     /// # Errors
     ///
-    /// [`Error::OutOfMemory`], where this opens the class.
+    /// [`Error::OutOfMemory`], if this opens the class.
     ///
     /// # Panics
     ///
-    /// In a forked child, for a class that was opened before.
+    /// In a forked child, if the class was opened before the fork.
     pub fn begin() -> Result<Self, Error> {
         let inner = NonNull::from(Box::leak(Box::new(Inner::new(C::raw()))));
         // SAFETY: it stays where it is until the drop, which ends it; all borrow it as shared until then.
@@ -262,8 +262,8 @@ impl<C: Class> Context<C> {
         Acquiring { inner: self.inner(), class: PhantomData }
     }
 
-    /// After a lock call was told [`Deadlock`]: waits for the mutex at which that came. The context has it then, and
-    /// the lock call that asks for it returns at once.
+    /// After a lock call returned [`Deadlock`]: waits for the contended mutex. The context has it then, and the lock call
+    /// for it returns immediately.
     pub fn back_off(&mut self, lost: Deadlock<C>) -> Acquiring<'_, C> {
         // SAFETY: as in `start`.
         let told = unsafe { self.inner().back_off(lost.contended()) };
@@ -275,7 +275,7 @@ impl<C: Class> Context<C> {
     ///
     /// # Errors
     ///
-    /// As [`Tx::lock`](crate::Tx::lock), but for `Deadlock`. The context holds nothing then.
+    /// Those of [`Tx::lock`](crate::Tx::lock), except `Deadlock`. The context holds nothing then.
     pub fn lock_all<'g, T: ?Sized, const N: usize>(
         &'g mut self,
         list: [&'g Mutex<C, T>; N],

@@ -1,6 +1,7 @@
 //! What ends a wait: times and cancels, also where all contexts of the class are in use.
 
 use std::sync::mpsc::channel;
+use std::sync::Barrier;
 use std::thread;
 use std::time::{Duration, Instant};
 use ww_mutex::typed::Context;
@@ -32,6 +33,25 @@ fn a_deadline_ends_each_wait() {
     assert_eq!(Boxes::options().timeout(SOON).run(|_| Ok(())), Err(Error::TimedOut));
     assert!(begun.elapsed() >= SOON);
     assert!(m.try_lock_for(SOON).is_none());
+}
+
+/// Threads that lock a new mutex at once take one number for it, so a class of one mutex is enough.
+#[test]
+fn a_first_lock_takes_one_number() {
+    class!(struct Boxes: WoundWait, mutexes = 1);
+    let meet = Barrier::new(4);
+    for _ in 0..500 {
+        let m: Mutex<Boxes, u64> = Mutex::new(0);
+        thread::scope(|scope| {
+            for _ in 0..4 {
+                scope.spawn(|| {
+                    meet.wait();
+                    *m.lock() += 1;
+                });
+            }
+        });
+        assert_eq!(m.into_inner(), 4);
+    }
 }
 
 /// How often this thread went to sleep.

@@ -290,7 +290,7 @@ fn what_is_shown() {
     assert_eq!(Boxes::open(), Ok(()));
     assert_eq!(format!("{:?}", Boxes::raw()), "RawClass { name: \"Boxes\", kind: WaitDie, .. }");
     assert_eq!(Boxes::raw().kind(), Kind::WaitDie);
-    assert_eq!(Error::TimedOut.to_string(), "the deadline came before the mutex");
+    assert_eq!(Error::TimedOut.to_string(), "the deadline passed");
     assert!(Error::Deadlock.is_deadlock() && !Error::Duplicate.is_deadlock());
     assert_eq!(format!("{:?}", Canceller::new()), "Canceller { is_cancelled: false }");
     assert!(ww_mutex::library_version() >= 30_000);

@@ -258,6 +258,16 @@ fn a_class_has_65536_mutexes() {
     assert!(Mutex::<Boxes, _>::try_new(()).is_ok());
 }
 
+#[test]
+fn a_class_that_says_so_has_more_mutexes() {
+    const MANY: u32 = 70_000;
+    class!(struct Boxes: WoundWait, mutexes = MANY, contexts = 4);
+    let all: Vec<Mutex<Boxes, u32>> = (0..MANY).map(|number| Mutex::try_new(number).unwrap()).collect();
+    assert!(matches!(Mutex::<Boxes, _>::try_new(0), Err((0, Error::Exhausted))));
+    let sum = Boxes::run(|tx| Ok(*tx.lock(&all[0])? + *tx.lock(&all[65_536])? + *tx.lock(&all[69_999])?));
+    assert_eq!(sum, Ok(65_536 + 69_999));
+}
+
 /// `Class::raw` is safe to write, so a wrong one may do no harm.
 #[test]
 fn a_class_that_is_another_one_at_each_call_panics() {

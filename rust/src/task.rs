@@ -1,0 +1,465 @@
+//! Contexts of tasks: they wait without blocking their thread, under any executor.
+//!
+//! ```
+//! # #![forbid(unsafe_code)]
+//! use ww_mutex::{class, transaction, Error, Mutex};
+//!
+//! class!(struct Accounts: WoundWait);
+//!
+//! async fn transfer(from: &Mutex<Accounts, u64>, to: &Mutex<Accounts, u64>, amount: u64) -> Result<(), Error> {
+//!     transaction!(Accounts, |tx| {
+//!         let mut from = tx.lock(from).await?;
+//!         let mut to = tx.lock(to).await?;
+//!         *from -= amount;
+//!         *to += amount;
+//!         Ok(())
+//!     })
+//! }
+//! # fn sends(_: impl Send) {}
+//! # let (one, other) = (Mutex::new(70), Mutex::new(0));
+//! # sends(transfer(&one, &other, 30));
+//! ```
+//!
+//! [`transaction!`](crate::transaction) awaits a body again after each [`Deadlock`](Error::Deadlock), as
+//! [`Class::run`] runs it; [`Class::run_async`] does so with an async closure. Both are [`Context`], which is there for
+//! loops of your own. Threads ([`Class::run`], [`Mutex::lock`]) and tasks lock the same mutexes.
+//!
+//! A whole program, with an executor that is a loop (`tokio::spawn` takes these futures as well):
+//!
+//! ```
+//! use std::future::Future;
+//! use std::pin::pin;
+//! use std::sync::Arc;
+//! use std::task::{Context, Poll, Wake, Waker};
+//! use std::thread::{self, Thread};
+//! use ww_mutex::{class, transaction, Error, Mutex};
+//!
+//! class!(struct Accounts: WoundWait);
+//! static BANK: [Mutex<Accounts, i64>; 2] = [Mutex::new(70), Mutex::new(0)];
+//!
+//! struct Unpark(Thread);
+//! impl Wake for Unpark {
+//!     fn wake(self: Arc<Self>) {
+//!         self.0.unpark();
+//!     }
+//! }
+//!
+//! fn block_on<R>(future: impl Future<Output = R>) -> R {
+//!     let waker = Waker::from(Arc::new(Unpark(thread::current())));
+//!     let mut future = pin!(future);
+//!     loop {
+//!         match future.as_mut().poll(&mut Context::from_waker(&waker)) {
+//!             Poll::Ready(value) => return value,
+//!             Poll::Pending => thread::park(),
+//!         }
+//!     }
+//! }
+//!
+//! async fn transfer(from: usize, to: usize, amount: i64) -> Result<(), Error> {
+//!     transaction!(Accounts, |tx| {
+//!         let [mut from, mut to] = tx.lock_all([&BANK[from], &BANK[to]]).await?;
+//!         *from -= amount;
+//!         *to += amount;
+//!         Ok(())
+//!     })
+//! }
+//!
+//! let other = thread::spawn(|| block_on(transfer(1, 0, 10)));
+//! block_on(transfer(0, 1, 30))?;
+//! other.join().unwrap()?;
+//! assert_eq!((*BANK[0].lock(), *BANK[1].lock()), (50, 20));
+//! # Ok::<(), Error>(())
+//! ```
+//!
+//! # How many run at once
+//!
+//! A class has contexts for tasks, two for each processor, besides those of threads; if [`class!`](crate::class!) says
+//! how many contexts it has, threads and tasks share these. Further tasks wait for one, holding nothing, since the more run
+//! at a time, the more of them retry; whichever waits longest is called first. So a body that awaits something else for long
+//! keeps another task waiting, and a body that awaits a task which needs a context may wait forever.
+//!
+//! # Guards across an `.await`
+//!
+//! A [`Guard`] may be held while its task waits for something else, but not for a task which waits for the mutex: such a
+//! deadlock isn't detected, nor is that of a task with two contexts. Futures, contexts and guards are `Send` if the values
+//! are, so that any thread may poll the task next. For this each lock and each release has one atomic exchange more than
+//! those of a thread.
+//!
+//! # Dropped futures
+//!
+//! A future may be dropped at any point, so tasks need no deadlines or cancellers. Dropping a [`Lock`] leaves its mutex as
+//! it was, and its context goes on; dropping any other future releases everything, and ends the context. What was changed
+//! stays changed.
+
+mod body;
+mod inner;
+mod lock;
+mod seek;
+mod waker;
+
+pub use lock::{ArcGuard, Guard, Lock, LockArc, LoneGuard};
+
+use crate::{error, ffi, Class, Error, Mutex};
+use body::Body;
+use core::fmt;
+use core::future::{poll_fn, Future};
+use core::marker::PhantomData;
+use core::mem::MaybeUninit;
+use core::ops::ControlFlow;
+use core::pin::pin;
+use core::ptr;
+use core::task::Poll;
+use inner::Inner;
+use lock::Acquire;
+use seek::Seek;
+use std::sync::Arc;
+
+/// The context of a body: it locks mutexes of the class, in any order. Guards borrow it, so none leaves the body:
+///
+/// ```compile_fail,E0521
+/// # use ww_mutex::{class, Class, Mutex};
+/// # class!(struct Boxes: WoundWait);
+/// # static BOX: Mutex<Boxes, u64> = Mutex::new(0);
+/// let mut kept = None;
+/// Boxes::run_async(async |tx| {
+///     kept = Some(tx.lock(&BOX).await?);
+///     Ok(())
+/// });
+/// ```
+///
+/// ```compile_fail,E0499
+/// # use ww_mutex::{class, transaction, Error, Mutex};
+/// # class!(struct Boxes: WoundWait);
+/// # static BOX: Mutex<Boxes, u64> = Mutex::new(0);
+/// async { transaction!(Boxes, |tx| Ok::<_, Error>(tx.lock(&BOX).await?)) };
+/// ```
+pub struct Tx<C: Class> {
+    inner: Inner,
+    attempts: u32,
+    class: PhantomData<fn() -> C>,
+}
+
+impl<C: Class> Tx<C> {
+    /// Locks it, and waits for it. As with [`Tx::lock`](crate::Tx::lock), return `Deadlock`, with `?`.
+    ///
+    /// # Errors
+    ///
+    /// `Deadlock`; `Duplicate` for a mutex that it has a guard of; `Exhausted` at a mutex's first lock, if the class
+    /// has all that it may have. Except after `Deadlock`, the context holds what it held, and may go on.
+    ///
+    /// # Panics
+    ///
+    /// In a forked child, if the class was opened before the fork.
+    #[inline]
+    pub fn lock<'x, T: ?Sized>(&'x self, mutex: &'x Mutex<C, T>) -> Lock<'x, C, T> {
+        Lock { mutex, acquire: Acquire::new(&self.inner) }
+    }
+
+    /// The same for a mutex that the guard shares.
+    #[inline]
+    pub fn lock_arc<'x, T: ?Sized>(&'x self, mutex: &Arc<Mutex<C, T>>) -> LockArc<'x, C, T> {
+        LockArc { mutex: Arc::clone(mutex), acquire: Acquire::new(&self.inner) }
+    }
+
+    /// Locks it if nobody has it or waits for it. `None` for one that it has a guard of, after `Deadlock`, and while another
+    /// lock call of this `Tx` waits.
+    pub fn try_lock<'x, T: ?Sized>(&'x self, mutex: &'x Mutex<C, T>) -> Option<Guard<'x, C, T>> {
+        let number = mutex.number(self.inner.class).ok()?;
+        self.inner.enter().tries(number).then(|| Guard::of(mutex, &self.inner))
+    }
+
+    /// Locks all of them, in this order. If one can't be locked, or the future is dropped, it keeps none of them.
+    ///
+    /// # Errors
+    ///
+    /// As [`lock`](Self::lock).
+    ///
+    /// # Panics
+    ///
+    /// As [`lock`](Self::lock).
+    #[inline]
+    pub async fn lock_all<'x, T: ?Sized, const N: usize>(
+        &'x self,
+        list: [&'x Mutex<C, T>; N],
+    ) -> Result<[Guard<'x, C, T>; N], Error> {
+        list.iter().skip(1).for_each(|mutex| mutex.fetch());
+        let mut guards = [const { None }; N];
+        for (guard, mutex) in guards.iter_mut().zip(list) {
+            *guard = Some(self.lock(mutex).await?);
+        }
+        Ok(guards.map(|guard| guard.expect("each was locked")))
+    }
+
+    /// The same for a list of any length, in its order.
+    ///
+    /// # Errors
+    ///
+    /// As [`lock`](Self::lock).
+    ///
+    /// # Panics
+    ///
+    /// As [`lock`](Self::lock).
+    pub async fn lock_each<'x, 'm: 'x, T: ?Sized + 'm>(
+        &'x self,
+        list: impl IntoIterator<Item = &'m Mutex<C, T>>,
+    ) -> Result<Vec<Guard<'x, C, T>>, Error> {
+        let mut guards = Vec::new();
+        for mutex in list {
+            guards.push(self.lock(mutex).await?);
+        }
+        Ok(guards)
+    }
+
+    /// How often the body has begun: 1 the first time.
+    #[must_use]
+    pub fn attempts(&self) -> u32 {
+        self.attempts
+    }
+}
+
+impl<C: Class> fmt::Debug for Tx<C> {
+    fn fmt(&self, f: &mut fmt::Formatter<'_>) -> fmt::Result {
+        f.debug_struct("Tx").field("attempts", &self.attempts).finish_non_exhaustive()
+    }
+}
+
+/// A context for loops of your own, as [`transaction!`](crate::transaction) makes one. Its drop releases everything.
+///
+/// ```
+/// # use core::ops::ControlFlow;
+/// # use ww_mutex::{class, task::Context, Error, Mutex};
+/// # class!(struct Boxes: WoundWait);
+/// # async fn swap(one: &Mutex<Boxes, u64>, other: &Mutex<Boxes, u64>) -> Result<(), Error> {
+/// let mut context = Context::<Boxes>::new();
+/// loop {
+///     let tx = context.attempt().await?;
+///     let told = async {
+///         let (mut one, mut other) = (tx.lock(one).await?, tx.lock(other).await?);
+///         core::mem::swap(&mut *one, &mut *other);
+///         Ok(())
+///     }
+///     .await;
+///     match context.settle(told) {
+///         ControlFlow::Break(told) => return told,
+///         ControlFlow::Continue(()) => {}
+///     }
+/// }
+/// # }
+/// ```
+pub struct Context<C: Class> {
+    tx: Tx<C>,
+}
+
+impl<C: Class> Context<C> {
+    /// It begins with its first attempt.
+    #[inline]
+    #[must_use]
+    pub fn new() -> Self {
+        Context { tx: Tx { inner: Inner::new(C::raw()), attempts: 1, class: PhantomData } }
+    }
+
+    /// Starts an attempt. The first one begins the context, and waits if all contexts of the class are in use; each later
+    /// one waits for the mutex at which the one before got `Deadlock`. What that one left locked is released.
+    ///
+    /// # Errors
+    ///
+    /// [`Error::OutOfMemory`], if this opens the class.
+    ///
+    /// # Panics
+    ///
+    /// In a forked child, if the class was opened before the fork.
+    #[inline]
+    pub async fn attempt(&mut self) -> Result<&Tx<C>, Error> {
+        match self.begin_now_() {
+            Poll::Ready(begun) => begun?,
+            Poll::Pending => self.wait_().await?,
+        }
+        Ok(self.begun_())
+    }
+
+    // `attempt`, in the parts of which `transaction!` makes it: the future of one that waits for nothing isn't made.
+
+    #[doc(hidden)]
+    #[inline]
+    pub fn begun_(&mut self) -> &Tx<C> {
+        &self.tx
+    }
+
+    /// Pending: something is to be waited for, by `wait_`.
+    #[doc(hidden)]
+    #[inline]
+    #[allow(clippy::missing_errors_doc, reason = "as `attempt`")]
+    pub fn begin_now_(&mut self) -> Poll<Result<(), Error>> {
+        let class = self.tx.inner.class;
+        let inside = self.tx.inner.own();
+        if inside.has_begun() {
+            return self.begin_again();
+        }
+        // SAFETY: the call reads nothing of what stood there; the class is static. Without a waker it doesn't wait.
+        match unsafe { ffi::ww_acquire_init_poll(inside.raw(), class.get(), ptr::null_mut(), ptr::null()) } {
+            0 => Poll::Ready(Ok(())),
+            answer if answer == -ffi::ETIMEDOUT => Poll::Pending,
+            answer => Poll::Ready(Err(error::of_making(answer))),
+        }
+    }
+
+    /// Pending: the mutex at which the attempt before was told `Deadlock` is to be waited for.
+    #[cold]
+    fn begin_again(&mut self) -> Poll<Result<(), Error>> {
+        let inside = self.tx.inner.own();
+        // SAFETY: it has begun, and each guard borrows what this borrows exclusively.
+        drop(unsafe { inside.release_all() });
+        let rare = inside.rare();
+        rare.is_over = false;
+        if rare.contended.is_some() {
+            return Poll::Pending;
+        }
+        self.tx.attempts = self.tx.attempts.saturating_add(1);
+        Poll::Ready(Ok(()))
+    }
+
+    #[doc(hidden)]
+    #[cold]
+    #[allow(clippy::missing_errors_doc, reason = "as `attempt`")]
+    pub fn wait_(&mut self) -> impl Future<Output = Result<(), Error>> + use<'_, C> {
+        let block = async {
+            let Inner { class, .. } = self.tx.inner;
+            if !self.tx.inner.own().has_begun() {
+                let mut seek = pin!(Seek::new(class));
+                let raw = poll_fn(|cx| seek.as_mut().poll(cx.waker())).await?;
+                self.tx.inner.own().raw = MaybeUninit::new(raw);
+                return Ok(());
+            }
+            if let Some(first) = self.tx.inner.own().rare().contended {
+                class.check(first);
+                // A context that holds nothing is never told `Deadlock`.
+                {
+                    let mut acquire = Acquire::new(&self.tx.inner);
+                    poll_fn(|cx| acquire.poll(first, cx.waker())).await?;
+                }
+                let rare = self.tx.inner.own().rare();
+                rare.contended = None;
+                rare.prelocked = Some(first);
+            }
+            self.tx.attempts = self.tx.attempts.saturating_add(1);
+            Ok(())
+        };
+        // SAFETY: it is an async block.
+        unsafe { Body::new(block) }
+    }
+
+    /// The result of an attempt; or, if that failed after `Deadlock`, everything is released, and another attempt follows.
+    #[inline]
+    pub fn settle<R, E: From<Error>>(&mut self, told: Result<R, E>) -> ControlFlow<Result<R, E>> {
+        if !self.tx.inner.own().is_over() {
+            return ControlFlow::Break(told);
+        }
+        if told.is_ok() {
+            return ControlFlow::Break(Err(Error::Swallowed.into()));
+        }
+        drop(told);
+        // SAFETY: as in `release`.
+        drop(unsafe { self.tx.inner.own().release_all() });
+        ControlFlow::Continue(())
+    }
+}
+
+impl<C: Class> Default for Context<C> {
+    fn default() -> Self {
+        Self::new()
+    }
+}
+
+impl<C: Class> fmt::Debug for Context<C> {
+    fn fmt(&self, f: &mut fmt::Formatter<'_>) -> fmt::Result {
+        f.debug_struct("Context").field("tx", &self.tx).finish()
+    }
+}
+
+impl<C: Class, T: ?Sized> Mutex<C, T> {
+    /// Locks it without a context of the caller's, as [`lock`](Mutex::lock) does for threads. It uses one of the contexts
+    /// of tasks, for which it waits too. So a task that holds something meanwhile may wait for itself, or for others.
+    ///
+    /// ```
+    /// # use ww_mutex::{class, Mutex};
+    /// # class!(struct Accounts: WoundWait);
+    /// async fn deposit(account: &Mutex<Accounts, u64>, amount: u64) {
+    ///     *account.lock_by_task().await += amount;
+    /// }
+    /// ```
+    ///
+    /// # Panics
+    ///
+    /// In a forked child, if the class was opened before the fork; if this opens the class, and there is no memory; at the
+    /// first lock of the mutex, if the class has all mutexes that it may have.
+    pub async fn lock_by_task(&self) -> LoneGuard<'_, C, T> {
+        let mut context = Context::<C>::new();
+        let told = async { context.attempt().await?.lock(self).await.map(core::mem::forget) }.await;
+        // A context that holds nothing is never told `Deadlock`.
+        told.unwrap_or_else(|error| panic!("{error}"));
+        LoneGuard::of(self, context.tx.inner)
+    }
+}
+
+/// Awaits the body in a new context, again after each `Deadlock`. As [`Class::run_async`], with an error type of the
+/// caller's.
+///
+/// # Errors
+///
+/// As [`Class::run`].
+///
+/// # Panics
+///
+/// As [`Class::run`].
+pub async fn run<C: Class, R, E: From<Error>>(mut body: impl AsyncFnMut(&Tx<C>) -> Result<R, E>) -> Result<R, E> {
+    let mut context = Context::new();
+    loop {
+        match context.begin_now_() {
+            Poll::Ready(begun) => begun?,
+            Poll::Pending => context.wait_().await?,
+        }
+        let told = body(context.begun_()).await;
+        if let ControlFlow::Break(told) = context.settle(told) {
+            return told;
+        }
+    }
+}
+
+/// # Safety
+///
+/// It is an async block, or holds nothing either once it is ready: it isn't dropped then.
+#[doc(hidden)]
+#[inline]
+pub unsafe fn body_<F: Future>(block: F) -> impl Future<Output = F::Output> {
+    // SAFETY: the caller's.
+    unsafe { Body::new(block) }
+}
+
+/// Awaits a body in a context of a class, and again after each [`Deadlock`](Error::Deadlock); for use in async functions:
+/// `transaction!(Accounts, |tx| { tx.lock(&mutex).await?; .. Ok(()) })`. The body is an async block, which may borrow
+/// its surroundings, and whose `?` ends the attempt; its result is that of the macro.
+///
+/// Otherwise as [`Class::run_async`], but the future is `Send` also if the body borrows.
+#[macro_export]
+macro_rules! transaction {
+    ($class:ty, |$tx:ident| $body:expr) => {{
+        let mut context = $crate::task::Context::<$class>::new();
+        loop {
+            let begun = match context.begin_now_() {
+                ::core::task::Poll::Ready(begun) => begun,
+                ::core::task::Poll::Pending => context.wait_().await,
+            };
+            if let ::core::result::Result::Err(error) = begun {
+                break ::core::result::Result::Err(::core::convert::From::from(error));
+            }
+            let $tx = context.begun_();
+            let block = async { $body };
+            // SAFETY: it is an async block.
+            let told = unsafe { $crate::task::body_(block) }.await;
+            match context.settle(told) {
+                ::core::ops::ControlFlow::Break(told) => break told,
+                ::core::ops::ControlFlow::Continue(()) => {}
+            }
+        }
+    }};
+}

@@ -1,0 +1,53 @@
+//! Async blocks that cost nothing once they are through.
+
+use core::future::Future;
+use core::mem::ManuallyDrop;
+use core::pin::Pin;
+use core::task::{Context, Poll};
+
+/// An async block; once it is through it holds nothing, so it isn't dropped then.
+#[must_use = "nothing is done until it is awaited"]
+pub struct Body<F> {
+    block: ManuallyDrop<F>,
+    is_through: bool,
+}
+
+impl<F> Body<F> {
+    /// # Safety
+    ///
+    /// Once it is ready the block holds nothing, as all async blocks.
+    #[inline]
+    pub(super) unsafe fn new(block: F) -> Self {
+        Body { block: ManuallyDrop::new(block), is_through: false }
+    }
+
+    #[cold]
+    #[inline(never)]
+    fn stop(&mut self) {
+        // SAFETY: it is dropped once, where it stands, and isn't used any more.
+        unsafe { ManuallyDrop::drop(&mut self.block) };
+    }
+}
+
+impl<F: Future> Future for Body<F> {
+    type Output = F::Output;
+
+    #[inline]
+    fn poll(self: Pin<&mut Self>, cx: &mut Context<'_>) -> Poll<F::Output> {
+        // SAFETY: the block stays in its place.
+        let this = unsafe { self.get_unchecked_mut() };
+        // SAFETY: as above; it is dropped there.
+        let told = unsafe { Pin::new_unchecked(&mut *this.block) }.poll(cx);
+        this.is_through = told.is_ready();
+        told
+    }
+}
+
+impl<F> Drop for Body<F> {
+    #[inline]
+    fn drop(&mut self) {
+        if !self.is_through {
+            self.stop();
+        }
+    }
+}

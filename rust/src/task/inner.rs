@@ -1,0 +1,362 @@
+//! What the parts of a context share.
+
+use super::waker::Lent;
+use crate::class::RawClass;
+use crate::number::Number;
+use crate::{error, ffi, Error};
+use core::cell::UnsafeCell;
+use core::ffi::c_int;
+use core::hint;
+use core::mem::{self, ManuallyDrop, MaybeUninit};
+use core::ops::{Deref, DerefMut};
+use core::ptr;
+use core::sync::atomic::{AtomicBool, Ordering};
+use core::task::{Poll, Waker};
+use std::thread;
+
+/// A context. Its `Tx` and its guards may be in several threads, so one of them uses it at a time.
+pub(super) struct Inner {
+    is_used: AtomicBool,
+    inside: UnsafeCell<Inside>,
+    pub(super) class: &'static RawClass,
+}
+
+// SAFETY: the library lets any thread use a context, one at a time, which `enter` sees to.
+unsafe impl Send for Inner {}
+// SAFETY: as above.
+unsafe impl Sync for Inner {}
+
+pub(super) struct Inside {
+    /// As long as it hasn't begun, only `own` is there. The library keeps no address of it.
+    pub(super) raw: MaybeUninit<ffi::ww_acquire_ctx>,
+    /// As long as there is none of it, a lock call or a release is the library's and nothing else. `Inner` drops it.
+    pub(super) rare: ManuallyDrop<Option<Rare>>,
+}
+
+/// What a context has once a lock call had to wait.
+#[derive(Default)]
+pub(super) struct Rare {
+    /// A lock call was told `Deadlock`, so that nothing is locked until all is released.
+    pub(super) is_over: bool,
+    /// Where that was: it comes first from then on.
+    pub(super) contended: Option<Number>,
+    /// It came first, and nobody has asked for it yet.
+    pub(super) prelocked: Option<Number>,
+    pub(super) call: Call,
+    /// Tasks whose lock calls come behind that one.
+    pub(super) others: Vec<Waker>,
+}
+
+impl Rare {
+    /// A lock call may begin.
+    pub(super) fn is_free(&self) -> bool {
+        matches!(self.call, Call::None) && !self.is_over
+    }
+
+    /// Hands out what the context has from its back-off, if that is it.
+    fn takes_first(&mut self, number: Number) -> bool {
+        self.prelocked.take_if(|first| *first == number).is_some()
+    }
+}
+
+/// The one lock call that may be on its way.
+#[derive(Default)]
+pub(super) enum Call {
+    #[default]
+    None,
+    /// It waits.
+    Waits(Number, Lent),
+    /// A guard had to be released, so it waits no more: what it was told, or nothing, and it is made anew.
+    Ended(Number, Option<Result<(), Error>>),
+}
+
+/// What is done when the context isn't used any more: wakers are other programs'.
+#[derive(Default)]
+pub(super) struct Later {
+    pub(super) back: Option<Waker>,
+    pub(super) others: Vec<Waker>,
+}
+
+impl Later {
+    pub(super) fn wake(self) {
+        self.back.into_iter().chain(self.others).for_each(Waker::wake);
+    }
+}
+
+pub(super) struct Entered<'i>(&'i Inner);
+
+impl Deref for Entered<'_> {
+    type Target = Inside;
+
+    #[inline]
+    fn deref(&self) -> &Inside {
+        // SAFETY: nobody else has entered.
+        unsafe { &*self.0.inside.get() }
+    }
+}
+
+impl DerefMut for Entered<'_> {
+    #[inline]
+    fn deref_mut(&mut self) -> &mut Inside {
+        // SAFETY: nobody else has entered.
+        unsafe { &mut *self.0.inside.get() }
+    }
+}
+
+impl Drop for Entered<'_> {
+    #[inline]
+    fn drop(&mut self) {
+        self.0.is_used.store(false, Ordering::Release);
+    }
+}
+
+impl Inner {
+    #[inline]
+    pub(super) fn new(class: &'static RawClass) -> Self {
+        let mut inner = MaybeUninit::<Self>::uninit();
+        let at = inner.as_mut_ptr();
+        // SAFETY: the places are there, and after these all is that a context has which hasn't begun. Written one by one, since
+        // the compiler would fill a value that is partly uninitialized.
+        unsafe {
+            (&raw mut (*at).is_used).write(AtomicBool::new(false));
+            (&raw mut (*at).class).write(class);
+            let inside = UnsafeCell::raw_get(&raw const (*at).inside);
+            (&raw mut (*inside).rare).write(ManuallyDrop::new(None));
+            (&raw mut (*(*inside).raw.as_mut_ptr()).own).write(ptr::null_mut());
+            inner.assume_init()
+        }
+    }
+
+    /// Nobody else has it.
+    #[inline]
+    pub(super) fn own(&mut self) -> &mut Inside {
+        self.inside.get_mut()
+    }
+
+    #[inline]
+    pub(super) fn enter(&self) -> Entered<'_> {
+        if self.is_used.swap(true, Ordering::Acquire) {
+            self.await_others();
+        }
+        Entered(self)
+    }
+
+    #[cold]
+    fn await_others(&self) {
+        for step in 0u32.. {
+            if step < 64 {
+                hint::spin_loop();
+            } else {
+                thread::yield_now();
+            }
+            if !self.is_used.swap(true, Ordering::Acquire) {
+                return;
+            }
+        }
+    }
+
+    /// Releases a mutex that a guard held. The library can't amid a wait, so that ends, and its task is woken.
+    #[inline]
+    pub(super) fn release(&self, index: u32) {
+        let mut inside = self.enter();
+        if inside.rare.is_some() {
+            return Self::release_rarely(inside, index);
+        }
+        // SAFETY: the context holds it, and no call of it is on its way.
+        unsafe { ffi::unlock(index, inside.raw()) };
+    }
+
+    #[cold]
+    fn release_rarely(mut inside: Entered<'_>, index: u32) {
+        let back = inside.end_wait();
+        // SAFETY: as above.
+        unsafe { ffi::unlock(index, inside.raw()) };
+        drop(inside);
+        Later { back, ..Later::default() }.wake();
+    }
+}
+
+impl Inside {
+    /// The library says so.
+    #[inline]
+    pub(super) fn has_begun(&self) -> bool {
+        // SAFETY: `own` is always there.
+        unsafe { !(*self.raw.as_ptr()).own.is_null() }
+    }
+
+    #[inline]
+    pub(super) fn raw(&mut self) -> *mut ffi::ww_acquire_ctx {
+        self.raw.as_mut_ptr()
+    }
+
+    pub(super) fn rare(&mut self) -> &mut Rare {
+        self.rare.get_or_insert_with(Rare::default)
+    }
+
+    /// Whether it was told `Deadlock`, and hasn't backed off since.
+    #[inline]
+    pub(super) fn is_over(&self) -> bool {
+        self.rare.as_ref().is_some_and(|rare| rare.is_over)
+    }
+
+    /// What an answer of the library comes to.
+    fn told(&mut self, number: Number, answer: c_int) -> Result<(), Error> {
+        match -answer {
+            0 => Ok(()),
+            ffi::EALREADY if self.rare().takes_first(number) => Ok(()),
+            ffi::EALREADY => Err(Error::Duplicate),
+            ffi::EDEADLK => {
+                self.rare().contended = Some(number);
+                self.rare().is_over = true;
+                Err(Error::Deadlock)
+            }
+            ffi::EINTR => Err(Error::Cancelled),
+            _ => error::in_child(),
+        }
+    }
+
+    /// What the library has lent, if nobody was or is being woken by it.
+    fn take_back(&mut self, lent: Lent) -> Option<Waker> {
+        // SAFETY: a lock call is on its way; if the library says so, it has the waker no more.
+        unsafe { ffi::ww_poll_take_back(self.raw(), ptr::null_mut()).then(|| lent.back()) }
+    }
+
+    /// No call is on its way any more that waits. Its waker, if that wasn't called.
+    pub(super) fn end_wait(&mut self) -> Option<Waker> {
+        let Call::Waits(number, lent) = self.rare.as_ref()?.call else { return None };
+        let back = self.take_back(lent);
+        // SAFETY: the call is on its way, and ends with this.
+        let told = match unsafe { ffi::ww_number_lock_poll(number.index(), self.raw(), ptr::null()) } {
+            answer if answer == -ffi::ETIMEDOUT => None,
+            answer => Some(self.told(number, answer)),
+        };
+        self.rare().call = Call::Ended(number, told);
+        back
+    }
+
+    /// Acquires it if that can be at once.
+    pub(super) fn tries(&mut self, number: Number) -> bool {
+        if let Some(rare) = self.rare.as_mut() {
+            if !rare.is_free() {
+                return false;
+            }
+            if rare.takes_first(number) {
+                return true;
+            }
+        }
+        // SAFETY: the context has begun, and no call of it is on its way.
+        unsafe { ffi::ww_number_trylock(number.index(), self.raw()) == 1 }
+    }
+
+    /// The lock call goes on, whose future this is, or begins.
+    pub(super) fn poll(
+        &mut self,
+        number: Number,
+        waker: &Waker,
+        first: Option<i32>,
+        later: &mut Later,
+    ) -> Poll<Result<(), Error>> {
+        let mut lent = None;
+        match mem::take(&mut self.rare().call) {
+            Call::Ended(_, Some(told)) => return Poll::Ready(told),
+            Call::Waits(_, old) => match self.take_back(old) {
+                Some(back) if back.will_wake(waker) => lent = Some(Lent::lend(back)),
+                back => later.back = back,
+            },
+            _ if self.is_over() => return Poll::Ready(Err(Error::Deadlock)),
+            _ => {}
+        }
+        let lent = lent.unwrap_or_else(|| Lent::lend(waker.clone()));
+        let (index, raw) = (number.index(), self.raw());
+        // SAFETY: the context has begun; what is on its way is this call, or nothing.
+        let answer = unsafe {
+            match first {
+                Some(r) => ffi::ww_number_lock_poll_further_(index, raw, &raw const lent.0, r),
+                None => ffi::ww_number_lock_poll(index, raw, &raw const lent.0),
+            }
+        };
+        if answer == -ffi::EINPROGRESS {
+            self.rare().call = Call::Waits(number, lent);
+            return Poll::Pending;
+        }
+        // SAFETY: the library hasn't taken it.
+        drop(unsafe { lent.back() });
+        Poll::Ready(self.told(number, answer))
+    }
+
+    /// What the context has from its back-off; and what was forgotten, for which the library asks for each number. A lock
+    /// future that was forgotten may have left a call, whose waker this returns.
+    ///
+    /// # Safety
+    ///
+    /// It has begun, and nobody has a guard of it any more.
+    pub(super) unsafe fn release_all(&mut self) -> Option<Waker> {
+        let back = self.end_wait();
+        let first = self.rare.as_mut().and_then(|rare| {
+            rare.call = Call::None;
+            rare.prelocked.take()
+        });
+        // SAFETY: as asked for here, and no call is on its way.
+        unsafe {
+            if let Some(first) = first {
+                ffi::unlock(first.index(), self.raw());
+            }
+            if self.held() != 0 {
+                ffi::ww_number_unlock_all(self.raw());
+            }
+        }
+        back
+    }
+
+    /// How many mutexes it holds.
+    ///
+    /// # Safety
+    ///
+    /// It has begun.
+    #[inline]
+    unsafe fn held(&mut self) -> u32 {
+        // SAFETY: as asked for here.
+        unsafe { (*self.raw()).acquired }
+    }
+
+    /// # Safety
+    ///
+    /// It has begun, and holds nothing; it isn't used any more.
+    #[inline]
+    unsafe fn end(&mut self) {
+        // SAFETY: as asked for here.
+        unsafe { ffi::ww_acquire_fini(self.raw()) };
+    }
+}
+
+impl Drop for Inner {
+    fn drop(&mut self) {
+        let inside = self.inside.get_mut();
+        // SAFETY: it has begun then.
+        unsafe {
+            if inside.has_begun() {
+                if inside.rare.is_some() || inside.held() != 0 {
+                    return self.end_rarely();
+                }
+                inside.end();
+            }
+        }
+    }
+}
+
+impl Inner {
+    /// # Safety
+    ///
+    /// It has begun, and isn't used any more.
+    #[cold]
+    unsafe fn end_rarely(&mut self) {
+        let inside = self.inside.get_mut();
+        // SAFETY: as asked for here; guards borrow it, and none is left.
+        unsafe {
+            let back = inside.release_all();
+            inside.end();
+            drop(back);
+            ManuallyDrop::drop(&mut inside.rare);
+        }
+    }
+}

@@ -1,0 +1,243 @@
+//! Lock calls and guards.
+
+use super::inner::{Call, Entered, Inner, Later, Rare};
+use crate::number::Number;
+use crate::{ffi, Class, Error, Mutex};
+use core::fmt;
+use core::future::Future;
+use core::marker::PhantomData;
+use core::mem;
+use core::ops::{Deref, DerefMut};
+use core::pin::Pin;
+use core::task::{Poll, Waker};
+use std::sync::Arc;
+
+/// The future of a lock call: of a number, which nobody need have a mutex of.
+pub(super) struct Acquire<'x> {
+    inner: &'x Inner,
+    /// A call of the context is on its way, and is this one's.
+    is_under_way: bool,
+}
+
+impl<'x> Acquire<'x> {
+    pub(super) fn new(inner: &'x Inner) -> Self {
+        Acquire { inner, is_under_way: false }
+    }
+
+    #[inline]
+    pub(super) fn poll(&mut self, number: Number, waker: &Waker) -> Poll<Result<(), Error>> {
+        let mut inside = self.inner.enter();
+        let mut first = None;
+        if inside.rare.is_none() {
+            // SAFETY: the number is one of the context's class, and no call is on its way.
+            match unsafe { ffi::try_first(number.index(), inside.raw()) } {
+                Ok(()) => return Poll::Ready(Ok(())),
+                Err(r) => first = r,
+            }
+        }
+        self.poll_on(inside, number, waker, first)
+    }
+
+    #[cold]
+    fn poll_on(
+        &mut self,
+        mut inside: Entered<'_>,
+        number: Number,
+        waker: &Waker,
+        mut first: Option<i32>,
+    ) -> Poll<Result<(), Error>> {
+        if inside.rare.as_ref().is_some_and(Rare::is_free) {
+            // SAFETY: as in `poll`.
+            match unsafe { ffi::try_first(number.index(), inside.raw()) } {
+                Ok(()) => return Poll::Ready(Ok(())),
+                Err(r) => first = r,
+            }
+        }
+        let rare = inside.rare();
+        if !self.is_under_way && !matches!(rare.call, Call::None) {
+            if !rare.others.iter().any(|other| other.will_wake(waker)) {
+                rare.others.push(waker.clone());
+            }
+            return Poll::Pending;
+        }
+        let mut later = Later::default();
+        let told = inside.poll(number, waker, first, &mut later);
+        self.is_under_way = told.is_pending();
+        if told.is_ready() {
+            later.others = mem::take(&mut inside.rare().others);
+        }
+        drop(inside);
+        drop(later.back.take()); // The task runs, and has another one.
+        later.wake();
+        told
+    }
+}
+
+impl Drop for Acquire<'_> {
+    #[inline]
+    fn drop(&mut self) {
+        if self.is_under_way {
+            self.stop();
+        }
+    }
+}
+
+impl Acquire<'_> {
+    /// It is dropped under way: the call ends, and what it acquired all the same is released.
+    #[cold]
+    fn stop(&mut self) {
+        let mut inside = self.inner.enter();
+        let back = inside.end_wait();
+        let rare = inside.rare();
+        let (call, others) = (mem::take(&mut rare.call), mem::take(&mut rare.others));
+        if let Call::Ended(number, Some(Ok(()))) = call {
+            // SAFETY: the context holds it, no call is on its way, and nobody gets a guard of it.
+            unsafe { ffi::unlock(number.index(), inside.raw()) };
+        }
+        let later = Later { back: None, others };
+        drop(inside);
+        drop(back);
+        later.wake();
+    }
+}
+
+/// The future that [`Tx::lock`](super::Tx::lock) returns. The lock calls of a context come one after the other: where several of these are
+/// polled in turn, one of them waits for its mutex, and the others for that one.
+#[must_use = "nothing is locked until it is awaited"]
+pub struct Lock<'x, C: Class, T: ?Sized> {
+    pub(super) mutex: &'x Mutex<C, T>,
+    pub(super) acquire: Acquire<'x>,
+}
+
+impl<'x, C: Class, T: ?Sized> Future for Lock<'x, C, T> {
+    type Output = Result<Guard<'x, C, T>, Error>;
+
+    #[inline]
+    fn poll(mut self: Pin<&mut Self>, cx: &mut core::task::Context<'_>) -> Poll<Self::Output> {
+        let (mutex, inner) = (self.mutex, self.acquire.inner);
+        let number = mutex.number(inner.class)?;
+        self.acquire.poll(number, cx.waker()).map(|told| told.map(|()| Guard::of(mutex, inner)))
+    }
+}
+
+/// The future that [`Tx::lock_arc`](super::Tx::lock_arc) returns.
+#[must_use = "nothing is locked until it is awaited"]
+pub struct LockArc<'x, C: Class, T: ?Sized> {
+    pub(super) mutex: Arc<Mutex<C, T>>,
+    pub(super) acquire: Acquire<'x>,
+}
+
+impl<'x, C: Class, T: ?Sized> Future for LockArc<'x, C, T> {
+    type Output = Result<ArcGuard<'x, C, T>, Error>;
+
+    #[inline]
+    fn poll(mut self: Pin<&mut Self>, cx: &mut core::task::Context<'_>) -> Poll<Self::Output> {
+        let inner = self.acquire.inner;
+        let number = self.mutex.number(inner.class)?;
+        let told = self.acquire.poll(number, cx.waker());
+        told.map(|told| told.map(|()| ArcGuard { mutex: self.mutex.clone(), inner, value: PhantomData }))
+    }
+}
+
+/// A locked mutex, and the way to its value, as long as a task has it, in whichever thread. Its drop releases the mutex.
+///
+/// It is `Send` only if its value is:
+///
+/// ```compile_fail,E0277
+/// # use ww_mutex::{class, transaction, Error, Mutex};
+/// # class!(struct Boxes: WoundWait);
+/// # fn sends(_: impl Send) {}
+/// let shared: Mutex<Boxes, _> = Mutex::new(std::rc::Rc::new(1));
+/// sends(async { transaction!(Boxes, |tx| { let value = tx.lock(&shared).await?; Ok::<_, Error>(**value) }) });
+/// ```
+///
+/// and threads share it only if they may share its value:
+///
+/// ```compile_fail,E0277
+/// # use ww_mutex::{class, transaction, Error, Mutex};
+/// # class!(struct Boxes: WoundWait);
+/// # fn shares(_: impl Sync) {}
+/// # static BOX: Mutex<Boxes, std::cell::Cell<u64>> = Mutex::new(std::cell::Cell::new(0));
+/// async { transaction!(Boxes, |tx| { shares(&tx.lock(&BOX).await?); Ok::<_, Error>(()) }) };
+/// ```
+#[must_use = "the mutex is released as soon as its guard is dropped"]
+#[clippy::has_significant_drop]
+pub struct Guard<'x, C: Class, T: ?Sized> {
+    mutex: &'x Mutex<C, T>,
+    inner: &'x Inner,
+    /// It is shared and sent only as the lines below say.
+    value: PhantomData<*mut T>,
+}
+
+/// As [`Guard`], but it shares the mutex rather than borrowing it.
+#[must_use = "the mutex is released as soon as its guard is dropped"]
+#[clippy::has_significant_drop]
+pub struct ArcGuard<'x, C: Class, T: ?Sized> {
+    mutex: Arc<Mutex<C, T>>,
+    inner: &'x Inner,
+    value: PhantomData<*mut T>,
+}
+
+impl<'x, C: Class, T: ?Sized> Guard<'x, C, T> {
+    /// By a context that has just locked the mutex for it.
+    #[inline]
+    pub(super) fn of(mutex: &'x Mutex<C, T>, inner: &'x Inner) -> Self {
+        Guard { mutex, inner, value: PhantomData }
+    }
+}
+
+/// What [`Mutex::lock_by_task`] returns: a guard that has its context itself.
+#[must_use = "the mutex is released as soon as its guard is dropped"]
+#[clippy::has_significant_drop]
+pub struct LoneGuard<'x, C: Class, T: ?Sized> {
+    mutex: &'x Mutex<C, T>,
+    inner: Inner,
+    value: PhantomData<*mut T>,
+}
+
+impl<'x, C: Class, T: ?Sized> LoneGuard<'x, C, T> {
+    pub(super) fn of(mutex: &'x Mutex<C, T>, inner: Inner) -> Self {
+        LoneGuard { mutex, inner, value: PhantomData }
+    }
+}
+
+macro_rules! guards {
+    ($($guard:ident)*) => { $(
+        // SAFETY: it leads to a value that may be sent, and releases its mutex in any thread.
+        unsafe impl<C: Class, T: ?Sized + Send> Send for $guard<'_, C, T> {}
+        // SAFETY: threads that share it get `&T`, and the mutex, which asks for `Send` of T.
+        unsafe impl<C: Class, T: ?Sized + Send + Sync> Sync for $guard<'_, C, T> {}
+
+        impl<C: Class, T: ?Sized> Deref for $guard<'_, C, T> {
+            type Target = T;
+
+            #[inline]
+            fn deref(&self) -> &T {
+                // SAFETY: the mutex is held, and the guard is borrowed.
+                unsafe { &*self.mutex.value() }
+            }
+        }
+
+        impl<C: Class, T: ?Sized> DerefMut for $guard<'_, C, T> {
+            #[inline]
+            fn deref_mut(&mut self) -> &mut T {
+                // SAFETY: the mutex is held, and this is its one guard, borrowed exclusively.
+                unsafe { &mut *self.mutex.value() }
+            }
+        }
+
+        impl<C: Class, T: ?Sized> Drop for $guard<'_, C, T> {
+            #[inline]
+            fn drop(&mut self) {
+                self.inner.release(self.mutex.index());
+            }
+        }
+
+        impl<C: Class, T: ?Sized + fmt::Debug> fmt::Debug for $guard<'_, C, T> {
+            fn fmt(&self, f: &mut fmt::Formatter<'_>) -> fmt::Result {
+                (**self).fmt(f)
+            }
+        }
+    )* };
+}
+guards!(Guard ArcGuard LoneGuard);

@@ -1,0 +1,84 @@
+//! Waits for a context.
+
+use super::waker::Lent;
+use crate::class::RawClass;
+use crate::{error, ffi, Error};
+use core::cell::UnsafeCell;
+use core::marker::PhantomPinned;
+use core::mem::MaybeUninit;
+use core::pin::Pin;
+use core::ptr;
+use core::task::{Poll, Waker};
+
+/// A wait for a context: it stays where it is until it is dropped.
+pub(super) struct Seek {
+    raw: UnsafeCell<MaybeUninit<ffi::ww_acquire_ctx>>,
+    inside: UnsafeCell<ffi::ww_seek>,
+    class: &'static RawClass,
+    /// Under way.
+    lent: Option<Lent>,
+    _stays: PhantomPinned,
+}
+
+// SAFETY: the library lets any thread poll, one at a time.
+unsafe impl Send for Seek {}
+
+impl Seek {
+    pub(super) fn new(class: &'static RawClass) -> Self {
+        Seek {
+            raw: UnsafeCell::new(MaybeUninit::uninit()),
+            inside: ffi::ww_seek::new().into(),
+            class,
+            lent: None,
+            _stays: PhantomPinned,
+        }
+    }
+
+    /// What the library has lent, if nobody was or is being woken by it.
+    fn take_back(&mut self) -> Option<Waker> {
+        let lent = self.lent.take()?;
+        // SAFETY: a wait is on its way; if the library says so, it has the waker no more.
+        unsafe { ffi::ww_poll_take_back(self.raw.get().cast(), self.inside.get()).then(|| lent.back()) }
+    }
+
+    pub(super) fn poll(self: Pin<&mut Self>, waker: &Waker) -> Poll<Result<ffi::ww_acquire_ctx, Error>> {
+        // SAFETY: nothing is moved.
+        let this = unsafe { self.get_unchecked_mut() };
+        let back = this.take_back();
+        let lent = Lent::lend(waker.clone());
+        // SAFETY: the class is static, and the wait stays where it is.
+        let answer = unsafe {
+            ffi::ww_acquire_init_poll(this.raw.get().cast(), this.class.get(), this.inside.get(), &raw const lent.0)
+        };
+        drop(back);
+        if answer == -ffi::EINPROGRESS {
+            this.lent = Some(lent);
+            return Poll::Pending;
+        }
+        // SAFETY: the library hasn't taken it.
+        drop(unsafe { lent.back() });
+        match answer {
+            // SAFETY: it has begun. The library keeps no address of it.
+            0 => Poll::Ready(Ok(unsafe { (*this.raw.get()).assume_init_read() })),
+            _ => Poll::Ready(Err(error::of_making(answer))),
+        }
+    }
+}
+
+impl Drop for Seek {
+    fn drop(&mut self) {
+        if self.lent.is_none() {
+            return;
+        }
+        let back = self.take_back();
+        let raw = self.raw.get().cast();
+        // SAFETY: a wait is on its way, which ends with this; where a context was given first, that ends, too, and
+        // somebody else gets it.
+        unsafe {
+            if ffi::ww_acquire_init_poll(raw, self.class.get(), self.inside.get(), ptr::null()) == 0 {
+                ffi::ww_acquire_fini(raw);
+            }
+        }
+        drop(back);
+    }
+}
