@@ -31,21 +31,26 @@ void must(bool fact)
 // ---- ww_mutex.h ----
 
 ww_class objects;
-std::array<ww_mutex, most> mutexes;
+// Mutexes in what they guard, as they stand in programs.
+struct object {
+	ww_mutex lock;
+	std::uint64_t guarded;
+};
+std::array<object, most> all;
 
 void open_class(unsigned contexts = 0)
 {
 	ww_class_init(&objects, WW_WOUND_WAIT, "objects");
 	must(!ww_class_limit(&objects, most, contexts));
-	for (ww_mutex &it : mutexes)
-		ww_mutex_init(&it, &objects);
+	for (object &it : all)
+		ww_mutex_init(&it.lock, &objects);
 }
 
 // As if it stood where it is called.
 [[gnu::always_inline]] inline void unlock_newest_first(unsigned k)
 {
 	while (k--)
-		ww_mutex_unlock(&mutexes[k]);
+		ww_mutex_unlock(&all[k].lock);
 }
 
 template <class Acquire, class Release> void by_mutex(unsigned times, Acquire acquire, Release release)
@@ -64,7 +69,7 @@ auto locking(unsigned k)
 {
 	return [k](ww_acquire_ctx *x) {
 		for (unsigned n = 0; n < k; n++)
-			must(!ww_mutex_lock(&mutexes[n], x));
+			must(!ww_mutex_lock(&all[n].lock, x));
 	};
 }
 
@@ -79,7 +84,7 @@ void plain_oldest_first(unsigned k, unsigned times)
 	open_class();
 	by_mutex(times, locking(k), [k](ww_acquire_ctx *) {
 		for (unsigned n = 0; n < k; n++)
-			ww_mutex_unlock(&mutexes[n]);
+			ww_mutex_unlock(&all[n].lock);
 	});
 }
 
@@ -106,7 +111,7 @@ void plain_tried(unsigned k, unsigned times)
 		times,
 		[k](ww_acquire_ctx *x) {
 			for (unsigned n = 0; n < k; n++)
-				must(ww_mutex_trylock(&mutexes[n], x));
+				must(ww_mutex_trylock(&all[n].lock, x));
 		},
 		[k](ww_acquire_ctx *) { unlock_newest_first(k); });
 }
@@ -148,7 +153,7 @@ struct newest_first {
 };
 
 void numbered(unsigned k, unsigned times) { by_number(k, times, most, newest_first()); }
-void numbered_of_many(unsigned k, unsigned times) { by_number(k, times, WW_MAX_LOCKS, newest_first()); }
+void numbered_of_many(unsigned k, unsigned times) { by_number(k, times, 65536, newest_first()); }
 
 void numbered_oldest_first(unsigned k, unsigned times)
 {
@@ -197,7 +202,7 @@ auto looping(unsigned k)
 	return [k](ww_acquire_ctx *x) {
 		ww_until_all_locked(x) {
 			for (unsigned n = 0; n < k; n++) {
-				const int answer = ww_mutex_lock(&mutexes[n], x);
+				const int answer = ww_mutex_lock(&all[n].lock, x);
 
 				ww_retry_on_contention(x);
 				must(!answer);
@@ -224,7 +229,7 @@ void lock_all(unsigned k, unsigned times)
 
 	open_class();
 	for (unsigned n = 0; n < most; n++)
-		list[n] = &mutexes[n];
+		list[n] = &all[n].lock;
 	by_mutex(
 		times, [k, &list](ww_acquire_ctx *x) { must(!ww_mutex_lock_all(x, list.data(), k)); },
 		[k](ww_acquire_ctx *) { unlock_newest_first(k); });
@@ -236,8 +241,8 @@ void without_context(unsigned k, unsigned times)
 	open_class();
 	while (times--)
 		for (unsigned n = 0; n < k; n++) {
-			must(!ww_mutex_lock(&mutexes[n], nullptr));
-			ww_mutex_unlock(&mutexes[n]);
+			must(!ww_mutex_lock(&all[n].lock, nullptr));
+			ww_mutex_unlock(&all[n].lock);
 		}
 }
 

@@ -32,6 +32,12 @@ def waits(w, s):
     return bool(core_of(w.state).lists(s))
 
 
+def is_in_use(w, s):
+    """The context of the seat owns a lock and waits for none. One that neither owns nor waits may rest for ever."""
+    core = core_of(w.state)
+    return core.stamp[s] > 0 and not waits(w, s) and bool(core.owned(s))
+
+
 def is_inside(w, s, n):
     return core_of(w.state).inside[n] == s
 
@@ -75,15 +81,19 @@ def holders_release(s, n, seats):
 
 
 def contexts_end_or_die(s, n, seats):
-    goes_on = lambda w: core_of(w.state).stamp[s] > 0 and not waits(w, s)
-    yield Asked(goes_on, lambda step, w: step[0] in ("end", "die") and step[1] == s)
+    yield Asked(lambda w: is_in_use(w, s), lambda step, w: step[0] in ("end", "die") and step[1] == s)
 
 
 def contexts_end(s, n, seats):
     """The law asks it of the oldest alone."""
-    goes_on = lambda w: core_of(w.state).stamp[s] > 0 and not waits(w, s)
     if s == 0:
-        yield Asked(goes_on, lambda step, w: step[0] in ("end", "die", "leave") and step[1] == s)
+        yield Asked(lambda w: is_in_use(w, s), lambda step, w: step[0] in ("end", "die", "leave") and step[1] == s)
+
+
+def rests_not(s, n, seats):
+    """The oldest doesn't rest for ever, which is an end of it as the law tells it."""
+    if s == 0:
+        yield Asked(lambda w: True, lambda step, w: is_in_use(w, 0) or waits(w, 0))
 
 
 # What is asked of each step, at the scene before it.
@@ -183,7 +193,7 @@ OLDEST_IS_SERVED = Law(
 )
 OLDEST_ENDS = Law(
     "oldest_ends",
-    (*WAITERS_GO_ON, holders_release, firsts_ask, contexts_end, waits_owning),
+    (*WAITERS_GO_ON, holders_release, firsts_ask, contexts_end, waits_owning, rests_not),
     lambda w, s: core_of(w.state).stamp[0] > 0,
     lambda w, step, s: step[0] in ("end", "leave") and step[1] == 0,
 )

@@ -25,6 +25,8 @@ class Part(enum.Enum):
     FIRST = "a giver wakes the last waiter in place of the first"
     SIGNER = "a signer wakes nobody"
     CANCELLER = "who cancels wakes nobody"
+    TOLD = "a seat falls asleep that isn't going to sleep"
+    ROSE = "a seat that is going to sleep acts before it has risen"
     PAID = "a seat falls asleep before it has woken all"
     EARLY = "a wake leaves no token where the seat doesn't sleep yet"
     TOKEN = "a seat that falls asleep loses its token"
@@ -101,7 +103,11 @@ class Scenes:
         return with_phase(w, s, GOING_TO_SLEEP)
 
     def may_fall_asleep(self, w, s):
-        return w.phase[s] == GOING_TO_SLEEP and (self.without is Part.PAID or all(t != s for t, _ in w.owes))
+        may = w.phase[s] == GOING_TO_SLEEP or self.without is Part.TOLD and w.phase[s] == ACTING
+        return may and (self.without is Part.PAID or all(t != s for t, _ in w.owes))
+
+    def may_act(self, w, s):
+        return w.phase[s] == ACTING or self.without is Part.ROSE and w.phase[s] == GOING_TO_SLEEP
 
     def fallen_asleep(self, w, s):
         return with_phase(w._replace(token=w.token - {s}) if self.without is Part.TOKEN else w, s, ASLEEP)
@@ -124,7 +130,7 @@ class Scenes:
         core = core_of(w.state)
         for event, state in self.possible(w.state):
             name, s, *more = event
-            if w.phase[s] != ACTING:
+            if not self.may_act(w, s):
                 continue
             yield event, self.performed(w, event, state)
             if name == "unguard" and s in core.waiters[more[0]]:

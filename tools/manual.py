@@ -8,11 +8,11 @@ import re
 
 LONGEST = 100
 COMMENT = re.compile(r"^/\*.*?\*/$", re.DOTALL | re.MULTILINE)
-# A call, a macro that takes arguments, and a value with what it is for.
+# A call, a macro that takes arguments (but for those that only add a line to a call), and a value with what it is for.
 ARGUMENTS = r"((?:[^()]|\([^()]*\))*)"
 CALL = re.compile(rf"^(?:WW_MUST_CHECK )?((?:\w+[ *]+)+)(\w*[a-z\d])\({ARGUMENTS}\)(?: [^;{{}}]*)?;", re.MULTILINE)
 STEP = re.compile(CALL.pattern.replace(r"[a-z\d])", r"[a-z\d]_?)"), re.MULTILINE)
-MACRO = re.compile(r"^#define (DEFINE_\w+|WW_[A-Z_]*[A-Z]|ww_\w*[a-z])\(([\w, ]+|\.\.\.)\)", re.MULTILINE)
+MACRO = re.compile(r"^#define (DEFINE_\w+|WW_[A-Z_]*[A-Z]|ww_\w*[a-z])\(([\w, ]+|\.\.\.)\)(?! \(WW_HERE_)", re.MULTILINE)
 VALUE = re.compile(r"^\t(WW_\w+) = \d+,\s*/\* (.*?) \*/$", re.MULTILINE)
 NAME = re.compile(r"(?<![/\w])((?:ww_|DEFINE_W)\w*[a-zA-Z]_?|WW_[A-Z_]+[A-Z])\b(?!\.h)")
 END = "#define WW_NO_INLINE\n"

@@ -1,0 +1,363 @@
+//! Tasks that lock some of 64 objects and add one to each: this crate's contexts beside tokio's mutexes in sorted order and one
+//! mutex for all, under tokio's executor; and threads that block.
+//!
+//!     time SECONDS ROUNDS THREADS     thousands of transactions a second: medians, and attempts a commit
+//!     attempts SECONDS THREADS        attempts a commit, by how many contexts the class has
+//!     alone ENGINE LOCKS TIMES        one task alone, for who counts instructions: own, sorted, one, thread, none
+use std::cell::UnsafeCell;
+use std::future::Future;
+use std::pin::pin;
+use std::sync::atomic::{AtomicBool, AtomicU64, Ordering::Relaxed};
+use std::sync::Arc;
+use std::task::{Context, Poll, Waker};
+use std::thread;
+use std::time::{Duration, Instant};
+use ww_mutex::{class, transaction, Class, Error, Mutex};
+
+class! {
+    struct Wound: WoundWait;
+    struct Die: WaitDie;
+    struct Wound4: WoundWait, contexts = 4;
+    struct Wound8: WoundWait, contexts = 8;
+    struct Wound16: WoundWait, contexts = 16;
+    struct Wound32: WoundWait, contexts = 32;
+    struct Wound64: WoundWait, contexts = 64;
+    struct Wound256: WoundWait, contexts = 256;
+    struct Wound4094: WoundWait, contexts = 4094;
+    struct Die4: WaitDie, contexts = 4;
+    struct Die8: WaitDie, contexts = 8;
+    struct Die16: WaitDie, contexts = 16;
+    struct Die32: WaitDie, contexts = 32;
+    struct Die64: WaitDie, contexts = 64;
+    struct Die4094: WaitDie, contexts = 4094;
+}
+
+const OBJECTS: usize = 64;
+
+static ATTEMPTS: AtomicU64 = AtomicU64::new(0);
+static COMMITS: AtomicU64 = AtomicU64::new(0);
+
+#[repr(align(64))]
+struct Line<T>(T);
+
+struct Objects<C: Class> {
+    own: Vec<Line<Mutex<C, u64>>>,
+    tokio: Vec<Line<tokio::sync::Mutex<u64>>>,
+    one: Line<tokio::sync::Mutex<()>>,
+    bare: Vec<Line<UnsafeCell<u64>>>,
+}
+
+// SAFETY: `bare` is reached under `one` alone.
+unsafe impl<C: Class> Sync for Objects<C> {}
+
+fn each<T>(make: impl Fn() -> T) -> Vec<Line<T>> {
+    (0..OBJECTS).map(|_| Line(make())).collect()
+}
+
+impl<C: Class> Objects<C> {
+    fn new() -> Self {
+        Objects {
+            own: each(|| Mutex::try_new(0).unwrap()),
+            tokio: each(|| tokio::sync::Mutex::new(0)),
+            one: Line(tokio::sync::Mutex::new(())),
+            bare: each(|| UnsafeCell::new(0)),
+        }
+    }
+}
+
+/// Different ones.
+fn draw<const N: usize>(x: &mut u64) -> [usize; N] {
+    let mut list = [usize::MAX; N];
+    let mut count = 0;
+    while count < N {
+        *x = x
+            .wrapping_mul(6_364_136_223_846_793_005)
+            .wrapping_add(1_442_695_040_888_963_407);
+        let it = usize::try_from(*x >> 33).unwrap() % OBJECTS;
+        if !list[..count].contains(&it) {
+            list[count] = it;
+            count += 1;
+        }
+    }
+    list
+}
+
+/// Lets the executor run others.
+async fn yield_now() {
+    let mut has_yielded = false;
+    std::future::poll_fn(|cx| {
+        if std::mem::replace(&mut has_yielded, true) {
+            return Poll::Ready(());
+        }
+        cx.waker().wake_by_ref();
+        Poll::Pending
+    })
+    .await;
+}
+
+/// What is done under the locks.
+#[derive(Clone, Copy, PartialEq)]
+enum Under {
+    Nothing,
+    /// About two microseconds of the processor.
+    Work,
+    /// Others run.
+    Await,
+}
+
+impl Under {
+    async fn pass(self) {
+        match self {
+            Under::Nothing => {}
+            Under::Work => {
+                for k in 0..2000_u64 {
+                    std::hint::black_box(k);
+                }
+            }
+            Under::Await => yield_now().await,
+        }
+    }
+}
+
+async fn own<C: Class, const N: usize>(
+    objects: &Objects<C>,
+    list: &[usize; N],
+    under: Under,
+) -> u32 {
+    let told: Result<u32, Error> = transaction!(C, |tx| {
+        let mut guards: [Option<_>; N] = [const { None }; N];
+        for k in 0..N {
+            guards[k] = Some(tx.lock(&objects.own[list[k]].0).await?);
+        }
+        under.pass().await;
+        for guard in guards.iter_mut().flatten() {
+            **guard += 1;
+        }
+        Ok(tx.attempts())
+    });
+    told.unwrap()
+}
+
+async fn sorted<C: Class, const N: usize>(objects: &Objects<C>, list: &[usize; N], under: Under) {
+    let mut list = *list;
+    list.sort_unstable();
+    let mut guards: [Option<_>; N] = [const { None }; N];
+    for k in 0..N {
+        guards[k] = Some(objects.tokio[list[k]].0.lock().await);
+    }
+    under.pass().await;
+    for guard in guards.iter_mut().flatten() {
+        **guard += 1;
+    }
+}
+
+async fn one<C: Class, const N: usize>(objects: &Objects<C>, list: &[usize; N], under: Under) {
+    let _all = objects.one.0.lock().await;
+    under.pass().await;
+    for &k in list {
+        // SAFETY: under the one mutex.
+        unsafe { *objects.bare[k].0.get() += 1 };
+    }
+}
+
+fn by_thread<C: Class, const N: usize>(objects: &Objects<C>, list: &[usize; N]) {
+    C::run(|tx| {
+        let mut guards: [Option<_>; N] = [const { None }; N];
+        for k in 0..N {
+            guards[k] = Some(tx.lock(&objects.own[list[k]].0)?);
+        }
+        for guard in guards.iter_mut().flatten() {
+            **guard += 1;
+        }
+        Ok(())
+    })
+    .unwrap();
+}
+
+#[derive(Clone, Copy)]
+enum Engine {
+    Own,
+    Sorted,
+    One,
+}
+
+/// Thousands of transactions a second, by so many tasks.
+fn run<C: Class, const N: usize>(
+    engine: Engine,
+    tasks: usize,
+    threads: usize,
+    time: Duration,
+    under: Under,
+) -> f64 {
+    let runtime = tokio::runtime::Builder::new_multi_thread()
+        .worker_threads(threads)
+        .build()
+        .unwrap();
+    let (stop, done) = (
+        Arc::new(AtomicBool::new(false)),
+        Arc::new(AtomicU64::new(0)),
+    );
+    let objects = Arc::new(Objects::<C>::new());
+    let begun = Instant::now();
+    let all: Vec<_> = (0..tasks)
+        .map(|me| {
+            let (objects, stop, done) = (objects.clone(), stop.clone(), done.clone());
+            runtime.spawn(async move {
+                let (mut x, mut made) = (99 * me as u64 + 7, 0);
+                while !stop.load(Relaxed) {
+                    let list = draw::<N>(&mut x);
+                    match engine {
+                        Engine::Own => {
+                            let attempts = own(&objects, &list, under).await;
+                            ATTEMPTS.fetch_add(u64::from(attempts), Relaxed);
+                            COMMITS.fetch_add(1, Relaxed);
+                        }
+                        Engine::Sorted => sorted(&objects, &list, under).await,
+                        Engine::One => one(&objects, &list, under).await,
+                    }
+                    made += 1;
+                    if made % 8 == 0 {
+                        yield_now().await;
+                    }
+                }
+                done.fetch_add(made, Relaxed);
+            })
+        })
+        .collect();
+    thread::sleep(time);
+    stop.store(true, Relaxed);
+    runtime.block_on(async {
+        for it in all {
+            it.await.unwrap();
+        }
+    });
+    done.load(Relaxed) as f64 / begun.elapsed().as_secs_f64() / 1e3
+}
+
+/// Of those since this was asked last.
+fn attempts_a_commit() -> f64 {
+    ATTEMPTS.swap(0, Relaxed) as f64 / COMMITS.swap(0, Relaxed) as f64
+}
+
+fn median(list: &mut [f64]) -> f64 {
+    list.sort_by(f64::total_cmp);
+    list[list.len() / 2]
+}
+
+fn row<C: Class, const N: usize>(
+    kind: &str,
+    tasks: usize,
+    threads: usize,
+    time: Duration,
+    rounds: usize,
+    under: Under,
+) {
+    let mut seen = [const { Vec::new() }; 3];
+    attempts_a_commit();
+    for _ in 0..rounds {
+        for (of, engine) in seen
+            .iter_mut()
+            .zip([Engine::Own, Engine::Sorted, Engine::One])
+        {
+            of.push(run::<C, N>(engine, tasks, threads, time, under));
+        }
+    }
+    let [own, sorted, one] = seen.each_mut().map(|list| median(list));
+    let under = match under {
+        Under::Nothing => "nothing",
+        Under::Work => "work",
+        Under::Await => "an await",
+    };
+    println!(
+        "| {kind} | {N} of {OBJECTS} | {tasks} | {under} | {own:.0} | {sorted:.0} | {one:.0} | {:.2} | {:.2} |",
+        own / sorted,
+        attempts_a_commit()
+    );
+}
+
+fn time(time: Duration, rounds: usize, threads: usize) {
+    println!("| kind | locks | tasks | under them | tasks' contexts | tokio, sorted | one mutex | to sorted | attempts a commit |");
+    println!("|---|---|---|---|---|---|---|---|---|");
+    for under in [Under::Nothing, Under::Work, Under::Await] {
+        for tasks in [64, 4096] {
+            row::<Wound, 2>("Wound-Wait", tasks, threads, time, rounds, under);
+            row::<Die, 2>("Wait-Die", tasks, threads, time, rounds, under);
+            row::<Wound, 8>("Wound-Wait", tasks, threads, time, rounds, under);
+            row::<Die, 8>("Wait-Die", tasks, threads, time, rounds, under);
+        }
+    }
+}
+
+fn attempts(time: Duration, threads: usize) {
+    fn row<C: Class>(name: &str, threads: usize, time: Duration) {
+        print!("| {name} |");
+        for under in [Under::Nothing, Under::Await] {
+            for tasks in [64, 4096] {
+                run::<C, 2>(Engine::Own, tasks, threads, time, under);
+                print!(" {:.2} |", attempts_a_commit());
+                run::<C, 8>(Engine::Own, tasks, threads, time, under);
+                print!(" {:.2} |", attempts_a_commit());
+            }
+        }
+        println!();
+    }
+    println!(
+        "| contexts | 2, 64 tasks | 8, 64 | 2, 4096 | 8, 4096 | the same with an await: | | | |"
+    );
+    println!("|---|---|---|---|---|---|---|---|---|");
+    row::<Wound4>("Wound-Wait, 4", threads, time);
+    row::<Wound8>("8", threads, time);
+    row::<Wound16>("16", threads, time);
+    row::<Wound32>("32", threads, time);
+    row::<Wound64>("64", threads, time);
+    row::<Wound256>("256", threads, time);
+    row::<Wound4094>("4,094", threads, time);
+    row::<Die4>("Wait-Die, 4", threads, time);
+    row::<Die8>("8", threads, time);
+    row::<Die16>("16", threads, time);
+    row::<Die32>("32", threads, time);
+    row::<Die64>("64", threads, time);
+    row::<Die4094>("4,094", threads, time);
+}
+
+/// What waits for nothing.
+fn at_once<R>(future: impl Future<Output = R>) -> R {
+    match pin!(future).poll(&mut Context::from_waker(Waker::noop())) {
+        Poll::Ready(it) => it,
+        Poll::Pending => panic!("it waits"),
+    }
+}
+
+fn alone<const N: usize>(engine: &str, times: u64) {
+    let objects = Objects::<Wound>::new();
+    let mut x = 7;
+    for _ in 0..times {
+        let list = draw::<N>(&mut x);
+        match engine {
+            "own" => drop(at_once(own(&objects, &list, Under::Nothing))),
+            "sorted" => at_once(sorted(&objects, &list, Under::Nothing)),
+            "one" => at_once(one(&objects, &list, Under::Nothing)),
+            "thread" => by_thread(&objects, &list),
+            _ => drop(std::hint::black_box(list)),
+        }
+    }
+}
+
+fn main() {
+    let words: Vec<String> = std::env::args().skip(1).collect();
+    let seconds = |word: &str| Duration::from_secs_f64(word.parse().unwrap());
+    match words.iter().map(String::as_str).collect::<Vec<_>>()[..] {
+        ["time", s, rounds, threads] => time(
+            seconds(s),
+            rounds.parse().unwrap(),
+            threads.parse().unwrap(),
+        ),
+        ["attempts", s, threads] => attempts(seconds(s), threads.parse().unwrap()),
+        ["alone", engine, "1", times] => alone::<1>(engine, times.parse().unwrap()),
+        ["alone", engine, "2", times] => alone::<2>(engine, times.parse().unwrap()),
+        ["alone", engine, "8", times] => alone::<8>(engine, times.parse().unwrap()),
+        _ => panic!(
+            "time SECONDS ROUNDS THREADS | attempts SECONDS THREADS | alone ENGINE LOCKS TIMES"
+        ),
+    }
+}
