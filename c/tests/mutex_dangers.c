@@ -694,9 +694,17 @@ static void *begins_on(void *arg)
 	return arg;
 }
 
+/* It falls asleep again and again, since a crowd that sleepers begin is soon over. */
 static void *acquires_a(void *arg)
 {
-	ww_mutex_lock(&a, NULL);
+	int r;
+
+	do {
+		struct timespec soon = in_ms(20);
+
+		r = ww_mutex_lock_until(&a, NULL, &soon);
+	} while (r == -ETIMEDOUT);
+	MUST(!r);
 	ww_mutex_unlock(&a);
 	return arg;
 }

@@ -271,7 +271,7 @@ static void beside_threads(void)
 	MUST(!ww_class_limit(&many, 8, 0));
 	while (tasks < 64 && ww_acquire_init_poll(&of_tasks[tasks], &many, &waits, &w) != -EINPROGRESS)
 		tasks++;
-	MUST(tasks && tasks % 4 == 0 && tasks <= 64);
+	MUST(tasks && tasks % 2 == 0 && tasks <= 64);
 	if (tasks < 64) { /* and one waits */
 		for (unsigned k = 0; k < 1025; k++)
 			MUST(!ww_acquire_init_checked(&all[k], &many));
