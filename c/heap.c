@@ -1,6 +1,6 @@
 /*
  * heap.c - the heap of the proved library, over malloc.  What the three functions
- * have to do stands in the kit's libc (src/heap.rt).
+ * have to do is written in the toolchain's libc (src/heap.rt).
  */
 #define _GNU_SOURCE
 #include <stddef.h>
@@ -8,7 +8,7 @@
 #include <stdlib.h>
 #include <sys/mman.h>
 
-/* Whether it was granted, and the block; where it wasn't, an address that isn't null. */
+/* Whether it was granted, and the block; if it wasn't, an address that isn't null. */
 struct tried {
 	uint64_t ok;
 	void *p;
@@ -25,8 +25,8 @@ static char none;
 static struct tried told(void *p) { return (struct tried){ .ok = p != NULL, .p = p ? p : &none }; }
 
 /*
- * The tables of a class's locks, which are written whole when it opens: in large pages that takes half of the time, and of a
- * million locks each has a page at hand.  To ask for these is a hint.
+ * The tables of a class's locks are written whole when the class opens: in large pages that takes half the time, and random
+ * locks of a million miss fewer pages.  The kernel takes the request as a hint.
  */
 enum { LARGE_PAGE = 2 << 20 };
 
@@ -39,7 +39,7 @@ static void *large(size_t size)
 	return p;
 }
 
-/* 0 bytes may be asked for, of which malloc may answer NULL. */
+/* 0 bytes may be asked for, for which malloc may return NULL. */
 struct tried rattle_alloc(size_t size, size_t align)
 {
 	return told(size >= LARGE_PAGE ? large(size) : malloc(size ? size : align));

@@ -2,7 +2,7 @@
  * program.c - what the proved program, as `make` builds it, has of C besides its heap
  * (heap.c): the error number of a call that failed, and a start at which the heap gets
  * large pages, since a quarter of a run on a long input were the faults of small ones.
- * What the function has to do stands in the kit's os.
+ * What the function has to do is written in the toolchain's os.
  */
 #define _DEFAULT_SOURCE
 #include <errno.h>
@@ -13,20 +13,20 @@
 #include <unistd.h>
 
 #define PAGE ((uintptr_t)2 << 20) /* a large one, on x86-64 and mostly on arm64 */
-#define ROOM (32 * PAGE)          /* what the longest input takes, without what threads have of their own */
+#define ROOM (32 * PAGE)          /* what the longest input allocates, except what each thread has for itself */
 
 int rattle_errno(void);
 
 int rattle_errno(void) { return errno; }
 
-/* Where the system hasn't any, or there is no heap that grows at its end, nothing comes of it. */
+/* If the system has no large pages, or no heap that grows at its end, this has no effect. */
 __attribute__((constructor)) static void begin_heap(void)
 {
-	void *volatile first; /* that asks for all of it */
+	void *volatile first; /* an allocation of all of it */
 	uintptr_t end, from;
 
 	mallopt(M_TOP_PAD, ROOM);
-	mallopt(M_MMAP_THRESHOLD, ROOM / 2); /* no more may be said */
+	mallopt(M_MMAP_THRESHOLD, ROOM / 2); /* the greatest value that is allowed */
 	mallopt(M_TRIM_THRESHOLD, 2 * ROOM);
 	first = malloc(1);
 	end = (uintptr_t)sbrk(0);

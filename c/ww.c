@@ -10,27 +10,27 @@
 _Static_assert(sizeof(ww_seat) == 128 && offsetof(ww_seat, waits) == 64, "a seat has two cache lines");
 _Static_assert(offsetof(ww_seat, handle) == 0, "a seat begins with its handle");
 
-/* At a guard's entrance the pauses between two tries double so often; then other threads are let run, in these rounds. */
+/* At a guard's entrance the pauses between two tries double SPINS times; from then to round ROUNDS the thread yields. */
 enum { SPINS = 6, ROUNDS = 11 };
 
-/* Before a seat sleeps it looks so often whether it was woken; the pauses in between double. It lets nobody run for that. */
+/* Before a seat sleeps it checks WAKES times whether it was woken. The pauses in between double, and it doesn't yield. */
 enum { WAKES = 9 };
 
 /*
- * A seat that is outside a guard after so many tries sleeps for so many nanoseconds
- * before each further one: if its thread has a higher priority than that of the seat
+ * For how many nanoseconds a seat that is still outside a guard after these rounds sleeps
+ * before each further try: if its thread has a higher priority than that of the seat
  * inside, and only yielded, that one would never run.
  */
 enum { NAP = 50000 };
 
 /*
- * A call lets other threads run for so many nanoseconds, from the first time that it
- * does so.  By then somebody else wants its processor, and each further time would
- * cost it a time slice, before its age helps it: it goes on to wait, and sleeps sooner.
+ * For how many nanoseconds a call may yield, from its first yield on.  By then somebody
+ * else wants its processor, and each further yield would cost it a time slice, before
+ * its age helps it.  So it goes on without yields, and sleeps sooner.
  */
 enum { STAY = 500000 };
 
-/* Behind so many pauses of a long rest another thread is let run. */
+/* During a long rest a thread yields after each BREATH pauses. */
 enum { BREATH = 64 };
 
 /* On AArch64 `yield` is no pause where a core has one thread. */
@@ -59,7 +59,7 @@ bool ww_has_come(const struct timespec *until)
 	return now.tv_sec != until->tv_sec ? now.tv_sec > until->tv_sec : now.tv_nsec >= until->tv_nsec;
 }
 
-/* The time of the monotonic clock in so many nanoseconds, fewer than a second has. */
+/* The time of the monotonic clock after this many nanoseconds, less than a second. */
 static void from_now(struct timespec *at, long nanoseconds)
 {
 	clock_gettime(CLOCK_MONOTONIC, at);
@@ -79,7 +79,7 @@ static void yield(struct ww_stay *stay)
 	stay->over = ww_has_come(&stay->until);
 }
 
-/* Not by nanosleep, where pthread_cancel would end the thread amid its call. */
+/* Doesn't use nanosleep, in which pthread_cancel would end the thread during its call. */
 static void nap(void)
 {
 	uint32_t nobody_wakes = 0;
@@ -89,7 +89,7 @@ static void nap(void)
 	ww_futex_wait(&nobody_wakes, 0, &until);
 }
 
-/* Before a further try to go inside a guard. Nobody waits for this seat meanwhile: whom it had to wake it has woken. */
+/* Pauses before a further try to go inside a guard. Nobody waits for this seat meanwhile: it has woken all that it had to. */
 static void await_guard(struct ww_stay *stay, unsigned *step)
 {
 	if (*step <= SPINS)
@@ -108,8 +108,8 @@ static bool is_due(const struct ww_stop *stop)
 }
 
 /*
- * Sleeps until the seat is woken, which whoever asks for the wait's end does too, or until
- * its time has come.  A token that was given before is kept, so that no wake-up is lost.
+ * Sleeps until the seat is woken, or until its time has come.  A thread that asks for the wait's end wakes it, too.
+ * A token that was given before is kept, so no wake-up is lost.
  * Of a driver's six moves (crates/ww_drives) the first exchange is `parks`, and what leaves NOTHING is `rises`.
  */
 static void park(ww_seat *s, const struct ww_stop *stop)
@@ -129,14 +129,14 @@ static void park(ww_seat *s, const struct ww_stop *stop)
 	} else {
 		__atomic_store_n(&s->token, NOTHING, __ATOMIC_SEQ_CST);
 	}
-	if (!woken) /* whoever wakes it says so */
+	if (!woken) /* otherwise the thread that woke it has called that */
 		ww_sleeps_no_more(s->pool);
 }
 
 /*
- * A waker is read before the token is left: behind that the seat may be another's, or wait again.  It was the one that is to
- * be called if the word is still the same, in which each wait has a number of its own; so what is read relaxed was stored
- * before that.  The exchange is a driver's move `wakes`.
+ * The waker is read before the token is left: after that the seat may be another's, or wait again.  Each wait has a number of
+ * its own in the word.  So if the exchange finds the word unchanged, the waker is that wait's, and what was read relaxed was
+ * stored before.  The exchange is a driver's move `wakes`.
  */
 void ww_unpark(ww_seat *s)
 {
@@ -162,7 +162,7 @@ void ww_unpark(ww_seat *s)
 bool ww_is_parked(const ww_seat *s) { return __atomic_load_n(&s->token, __ATOMIC_SEQ_CST) == ASLEEP; }
 #endif
 
-/* A driver's move `names`, and at once `wakes`. */
+/* A driver's move `names`, and `wakes` right after it. */
 void ww_wake(ww_seat *s)
 {
 	for (int32_t k; (k = ww_next_wake_(&s->handle)) >= 0;)
@@ -170,8 +170,8 @@ void ww_wake(ww_seat *s)
 }
 
 /*
- * Rests as long as the library says; amid a long rest it lets other threads run, since one of them may have the lock.
- * Once that is over, the few spin reads that are left follow at once.
+ * Rests as long as the library says.  In a long rest it yields, since one of the other threads may have the lock.
+ * Once its time for yields is over, the few spin reads that are left follow without a pause.
  */
 static void rest(struct ww_stay *stay, uint32_t pauses, bool yields)
 {
@@ -183,7 +183,6 @@ static void rest(struct ww_stay *stay, uint32_t pauses, bool yields)
 	}
 }
 
-/* Asks for the end of the wait, once, where that is due. */
 void ww_stop_if_due(ww_seat *s, struct ww_stop *stop)
 {
 	if (!stop || stop->sent || !is_due(stop))
@@ -193,12 +192,12 @@ void ww_stop_if_due(ww_seat *s, struct ww_stop *stop)
 }
 
 /*
- * Behind WW_AGAIN the next step comes at once and nothing else, since the seat may be inside a guard, where it holds up
- * everybody else: to call its wait off, too, takes a lock for which it might have to wait.  What asks for that meanwhile
- * ends the sleep to which these steps lead.
+ * After WW_AGAIN the next step comes immediately, and nothing else: the seat may be inside a guard, where it holds up
+ * everybody, and cancelling its wait takes a lock for which it might have to wait.  A cancel that comes meanwhile ends the
+ * sleep to which these steps lead.
  *
- * Whom to wake is asked where somebody can be due: a call stays away from its lock before it goes inside a guard for the
- * first time, and who is shut out of one has learned nothing.
+ * Whom to wake is asked after these steps, since nobody can be due while a call pauses between them: it spins before it goes
+ * inside a guard for the first time, and a seat that is shut out of a guard has learned nothing.
  */
 COLD int ww_go_on_awake(ww_seat *s, struct ww_stop *stop, struct ww_stay *stay)
 {

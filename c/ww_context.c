@@ -1,11 +1,11 @@
-/* ww_context.c - the contexts of ww_mutex.h: how they begin and end, are called off, and whether they hold a mutex. */
+/* ww_context.c - the contexts of ww_mutex.h: how they begin and end, how they are cancelled, and whether they hold a mutex. */
 #define _GNU_SOURCE
 #define WW_NO_INLINE /* As ww_mutex.c. */
 #include "ww_pool.h"
 
 static const char *told_at_begin(int r) { return r == -ENOSPC ? "it has begun as many contexts as it may" : told(r); }
 
-/* Relaxed: whoever cancels the context that was here before may look meanwhile, and nothing is ordered by what it sees. */
+/* Relaxed: a thread that cancels the context that was here before may read these, and nothing is ordered by what it reads. */
 static inline void of_seat(struct ww_acquire_ctx *x, struct ww_pool *p, ww_seat *s)
 {
 	x->pool = p;
@@ -22,7 +22,7 @@ static inline void no_more(struct ww_acquire_ctx *x)
 	__atomic_store_n(&x->own, NULL, __ATOMIC_RELAXED);
 }
 
-/* Where its seat rests the context goes on with that age, unless it is by hand, as its first lock tells. */
+/* If its seat rests, the context has that age, unless its first lock shows that it acquires by hand. */
 static inline int begin_core(struct ww_acquire_ctx *x, ww_seat *s)
 {
 	if (!s->ages)
@@ -31,7 +31,7 @@ static inline int begin_core(struct ww_acquire_ctx *x, ww_seat *s)
 	return 0;
 }
 
-/* No call but one that begins does anything with it: as if in a loop, where it acquired nothing. */
+/* Leaves a context with which only a begin does anything: it is as if in a loop, and has acquired nothing. */
 COLD static int not_begun(struct ww_acquire_ctx *x, ww_seat *s, int r)
 {
 	if (s)
@@ -55,7 +55,7 @@ int ww_begin_by(struct ww_acquire_ctx *x, ww_seat *s, int r)
 	return 0;
 }
 
-/* Until then a begin waits that doesn't wait: -EAGAIN. NULL is for ever. */
+/* As its time this makes a begin return -EAGAIN instead of waiting. NULL is forever. */
 static const struct timespec at_once;
 
 static int begin(struct ww_acquire_ctx *x, struct ww_class *c, const struct timespec *until)
@@ -85,8 +85,8 @@ int ww_acquire_init_checked(struct ww_acquire_ctx *x, struct ww_class *c)
 int ww_acquire_init_until(struct ww_acquire_ctx *x, struct ww_class *c, const struct timespec *until) { return begin(x, c, until); }
 
 /*
- * A seat that nobody uses begins a context for certain, unless as many were begun as may be: then this is none,
- * by which no second lock is acquired, and ww_acquire_fini ends the program.
+ * A seat that nobody uses certainly begins a context, unless it has begun as many as it may.  Then there is none:
+ * no second lock is acquired by it, and ww_acquire_fini ends the program.
  */
 static inline void begin_for_certain(struct ww_acquire_ctx *x, struct ww_pool *p, ww_seat *s)
 {
@@ -117,7 +117,7 @@ void ww_acquire_init(struct ww_acquire_ctx *x, struct ww_class *c)
 		init_else(x, c, p);
 }
 
-/* The proved library isn't told: a lock that comes then is as any other, as in the kernel, and the debug library tells of it. */
+/* The proved library isn't called: as in the kernel, a lock after this is like any other; the debug library reports it. */
 int ww_acquire_done_checked(struct ww_acquire_ctx *x)
 {
 	if (UNLIKELY(!x->own || x->state & IS_DONE))
@@ -159,7 +159,7 @@ void ww_acquire_fini(struct ww_acquire_ctx *x)
 {
 	ww_seat *s = x->own;
 
-	/* A context that has released all ends for certain. */
+	/* A context that has released everything certainly ends. */
 	if (UNLIKELY(!s || s->handle.standing != WW_BARE_)) {
 		fini_else(x);
 		return;
@@ -176,8 +176,8 @@ void ww_acquire_fini(struct ww_acquire_ctx *x)
 }
 
 /*
- * The thread that waits does the rest, since only it knows when the wait is over.  Relaxed: that its own begin of the
- * context came before is the caller's to see to.
+ * The thread that waits does the rest, since only it knows when the wait is over.  Relaxed: the caller ensures that the
+ * context was begun before.
  */
 int ww_acquire_cancel(struct ww_acquire_ctx *x)
 {

@@ -1,39 +1,40 @@
 /*
- * ww_crowd.c - crowds: where at least twice as many threads sleep in lock calls of a class as it has permits, only threads with
- * a permit begin contexts of it, and the others wait for one in turn, holding nothing.
+ * ww_crowd.c - crowds: once at least twice as many threads sleep in lock calls of a class as it has permits, only threads with
+ * a permit begin contexts of it.  The others wait for a permit in turn, holding nothing.
  *
  * Contexts that sleep with locks held make others sleep, and wound one another: with far more threads than processors they do
  * little else.  A class has as many permits as there are processors.
  *
- * Where contexts seldom meet they do no harm, however many sleep, and permits hold them up.  So a crowd is over after a while,
- * and behind it only so many sleepers that often back off make the next one, which lasts longer; if they don't, it is longer
- * until sleepers alone make one again.  Whoever goes on then wakes two others, so where they do harm few have begun by then.
+ * If contexts seldom collide, they do no harm, however many sleep, and permits only hold them up.  So a crowd ends after a while.
+ * After it, sleeping threads make the next one only if contexts often back off too; that one lasts longer.  If contexts seldom
+ * back off, it takes longer until sleeping threads alone make one again.  As a crowd ends, each thread that goes on wakes two
+ * others; so if contexts do harm, few have begun by then.
  *
- * A permit ends after LEASE, whatever its thread does; until then its thread begins as many contexts as it likes, since each
- * change costs a wake-up.  The first one who waits takes a permit that has ended, or sleeps until the next one ends; then whoever
- * comes behind it is the first.  So no wait is endless, whatever the threads do that have permits.  And all of this is a hint: no
- * lock asks who has a permit, so to come without one, or too late, costs time alone.
+ * A permit ends after LEASE, whatever its thread does.  Until then its thread begins as many contexts as it likes, since each
+ * change costs a wake-up.  The first thread in the queue takes a permit that has ended, or sleeps until the next one ends; then
+ * the next thread is the first.  So no wait is endless, whatever the threads do that have permits.  All of this is a hint: no
+ * lock asks who has a permit, so coming without one, or too late, costs only time.
  *
- * Where permits end after few contexts, though their threads waited for no lock, contexts take long, or threads do other things
- * between them: then permits leave processors idle.  So all go on, and for a while there is no crowd.
+ * If permits end after few contexts, though their threads waited for no lock, then contexts take long, or threads do other
+ * things between them, and permits leave processors idle.  So all threads go on, and for a while there is no crowd.
  */
 #define _GNU_SOURCE
 #include "ww_pool.h"
 #include <sched.h>
 #include <string.h>
 
-/* Nanoseconds, as all times here: how long a permit lasts; and fewer contexts than these in one are few. */
+/* How long a permit lasts, in nanoseconds, as all times here; and with fewer contexts than FEW it ends after few. */
 enum { LEASE = 200000, FEW = 4 };
-/* Contexts often back off where so many do, for each permit, in so long. */
+/* Contexts back off often if OFTEN per permit do within WINDOW. */
 enum { OFTEN = 8, WINDOW = 2500000 };
-/* How long there is a crowd, and how long behind it sleepers alone make none. */
+/* Bounds for how long a crowd lasts, and for how long after it sleeping threads alone make none. */
 enum { LEAST = 10000000, MOST = 1280000000 };
 
 /* On the stack of a thread that waits for a permit; under the lock of the crowd. */
 struct ww_turn {
 	struct ww_turn *next;
-	uint32_t calls; /* it sleeps on this: not 0 once it is the first, and one more each time that it is to look */
-	bool is_out;	/* of the queue: it needs no permit any more */
+	uint32_t calls; /* it sleeps on this: not 0 once it is the first, and one more each time that it is called to look */
+	bool is_out;	/* it was taken out of the queue, and needs no permit any more */
 };
 
 static uint64_t now_is(void)
@@ -52,7 +53,7 @@ uint32_t ww_processors(void)
 	return count < MANY_PERMITS ? (uint32_t)count : MANY_PERMITS;
 }
 
-/* Nobody uses the class yet. How many sleep stays: who woke one of a class that had this memory before may be about to say so. */
+/* Nobody uses the class yet. `asleep` stays: a thread that woke one, of a class before in this memory, may have yet to count it. */
 void ww_crowd_open(struct ww_pool *p)
 {
 	struct ww_crowd *crowd = &p->crowd;
@@ -67,10 +68,10 @@ void ww_crowd_open(struct ww_pool *p)
 
 /* ---- whether there is one ---- */
 
-/* Relaxed: who sees it late begins one context more without a permit, or looks once more for one. */
+/* Relaxed: a thread that sees it late begins one context more without a permit, or looks once more for one. */
 static void be(struct ww_pool *p, bool crowded) { __atomic_store_n(&p->at_hand, crowded ? CROWDED : p->id, __ATOMIC_RELAXED); }
 
-/* There was one; until then sleepers alone make none. The crowd is locked. */
+/* Ends a crowd; until this time sleeping threads alone make none. The crowd is locked. */
 static void disperse(struct ww_pool *p, uint64_t until)
 {
 	__atomic_store_n(&p->crowd.harmless, until, __ATOMIC_RELAXED);
@@ -110,7 +111,7 @@ COLD static void many_sleep(struct ww_pool *p)
 	pthread_mutex_unlock(&crowd->lock);
 }
 
-/* So many since this was called last. */
+/* OFTEN contexts per permit have backed off since this was called last. */
 COLD static void many_back_off(struct ww_pool *p)
 {
 	struct ww_crowd *crowd = &p->crowd;
@@ -142,7 +143,7 @@ void ww_sleeps_no_more(struct ww_pool *p) { __atomic_sub_fetch(&p->crowd.asleep,
 
 void ww_waits_for_lock(void) { ww_mine.permit.waits++; }
 
-/* What this thread's last permit came to. The crowd is locked. */
+/* Counts whether this thread's last permit ended after few contexts. The crowd is locked. */
 static void judge(struct ww_pool *p, uint64_t now)
 {
 	struct ww_crowd *crowd = &p->crowd;
@@ -159,7 +160,7 @@ static void judge(struct ww_pool *p, uint64_t now)
 
 /* ---- permits ---- */
 
-/* The one that ends first. The crowd is locked. */
+/* The permit that ends first. The crowd is locked. */
 static uint32_t next_permit(const struct ww_crowd *crowd)
 {
 	uint32_t next = 0;
@@ -178,7 +179,7 @@ static void begin_permit(struct ww_crowd *crowd, uint32_t k, uint64_t now)
 	ww_mine.permit.had_waited = ww_mine.permit.waits;
 }
 
-/* It waits from now on, until it leaves. The crowd is locked. */
+/* Enters the queue, until `leave`. The crowd is locked. */
 static void join(struct ww_crowd *crowd, struct ww_turn *me)
 {
 	me->calls = !crowd->first;
@@ -186,7 +187,7 @@ static void join(struct ww_crowd *crowd, struct ww_turn *me)
 	crowd->last = me;
 }
 
-/* The first one, where somebody waits, is to look for a permit. The crowd is locked. */
+/* Wakes the first thread in the queue, if there is one, to look for a permit. The crowd is locked. */
 static void call_first(struct ww_crowd *crowd)
 {
 	if (!crowd->first)
@@ -229,7 +230,7 @@ static bool is_earlier(const struct timespec *a, const struct timespec *b)
 	return a->tv_sec != b->tv_sec ? a->tv_sec < b->tv_sec : a->tv_nsec < b->tv_nsec;
 }
 
-/* Until a permit is this thread's, or its time has come, or nobody needs one any more. The crowd is locked, but while it sleeps. */
+/* Waits for a permit, until its time has come, or nobody needs one any more. The crowd is locked, except while it sleeps. */
 static void await_permit(struct ww_pool *p, struct ww_turn *me, uint64_t now, const struct timespec *until)
 {
 	struct ww_crowd *crowd = &p->crowd;
@@ -258,7 +259,7 @@ static void await_permit(struct ww_pool *p, struct ww_turn *me, uint64_t now, co
 	}
 }
 
-/* Its last permit has ended: whoever waits longest may have it, before this thread comes again. */
+/* This thread's last permit has ended, so the thread that has waited longest may take it, before this one gets another. */
 COLD static void find_permit(struct ww_pool *p, uint64_t now, const struct timespec *until)
 {
 	struct ww_crowd *crowd = &p->crowd;
@@ -293,7 +294,7 @@ uint32_t ww_permit_seekers(struct ww_pool *p)
 	return count;
 }
 
-/* Whether this thread uses the seat of the class that it keeps: then somebody may wait for what it holds. */
+/* Whether this thread already uses the seat of the class that it keeps: then others may wait for what it holds. */
 static bool has_another(const struct ww_pool *p)
 {
 	for (uint32_t k = 0; k < KEPT; k++)

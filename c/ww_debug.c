@@ -1,11 +1,11 @@
-/* ww_debug.c - what libww_debug does beside each call of ww_mutex.h: it tells what is wrong, and what may become so. */
+/* ww_debug.c - what libww_debug does in addition to each call of ww_mutex.h: it reports misuse, and warns. */
 #define _GNU_SOURCE
 #include "ww_pool.h"
-#ifdef WW_DEBUG /* all sources may be named at once */
+#ifdef WW_DEBUG /* a build may name all sources */
 #include <stdarg.h>
 #include <sys/syscall.h>
 #include <unistd.h>
-/* Not each C library has it. */
+/* Not every C library has it. */
 #ifdef __has_include
 #if __has_include(<execinfo.h>)
 #include <execinfo.h>
@@ -14,27 +14,27 @@
 #endif
 
 /*
- * What others look at meanwhile is stored and read relaxed: nothing is ordered by it, and ww_class_print tells
- * what was so at a glance.
+ * What other threads read meanwhile is stored and loaded relaxed: nothing is ordered by it, and what ww_class_print
+ * shows may be out of date.
  */
 
-/* Of a call of the program. */
+/* The place of a call in the program. */
 struct place {
 	const char *file;
 	int line;
 };
 
-/* Of a mutex, by its number: the seat that holds it, plus one, and the thread that acquired it, as long as it is held. */
+/* Of a mutex, by its number, while it is held: the number of the seat that holds it, plus one, and the thread that acquired it. */
 struct holding {
 	uint32_t seat;
 	const void *thread;
 };
 
 /*
- * Of a seat: its context, and the place of that in the order in which they began, 0 without one; how many mutexes it holds;
- * as long as a context or a lock with NULL uses it, the thread that called by it last, unless it is a task's, which may go
- * on in any, and where that began; and while it waits, the number of the mutex, plus one, where, its thread as the system
- * has it, and which wait that is of all those without a time, or 0.
+ * Of a seat: its context; the index of that in the order in which contexts began (`stamp`; 0 without a context); and how many
+ * mutexes it holds.  While a context or a lock with NULL uses it: where that began, and the thread that called by it last, but
+ * not for a task, which may go on in any thread.  While it waits: the number of the mutex, plus one (`wants`); where; its thread's
+ * number in the system; and the number of this wait among all without a time, or 0 (`turn`).
  */
 struct standing {
 	const struct ww_acquire_ctx *context;
@@ -62,12 +62,12 @@ static __thread struct place ww_here;
 /* The wait of this thread for a mutex; it has no seat while there is none. */
 static __thread struct {
 	ww_seat *seat;
-	struct timespec looks;	 /* then it looks whether it sleeps for ever */
+	struct timespec looks;	 /* when it next checks whether it is in a deadlock */
 	struct timespec is_long; /* from then on it has waited for long */
-	uint64_t seen;		 /* by its last look */
+	uint64_t seen;		 /* what its last check found */
 } mine;
-static __thread const struct ww_mutex *acquired; /* by the lock call of a context that is on its way */
-static __thread bool polls; /* what this thread begins now is a task's */
+static __thread const struct ww_mutex *acquired; /* by the present lock call of a context */
+static __thread bool polls; /* contexts that this thread begins now are those of tasks */
 
 static const char *name_of(const struct ww_pool *p) { return p->class_->name ? p->class_->name : ""; }
 
@@ -88,7 +88,7 @@ static uint32_t number_of(const ww_seat *s) { return (uint32_t)(s - s->pool->sea
 
 static struct standing *standing_of(const ww_seat *s) { return &s->pool->debug->seats[number_of(s)]; }
 
-/* ---- what is told ---- */
+/* ---- reports ---- */
 
 void ww_debug_at_(const char *file, int line) { ww_here = (struct place){ file, line }; }
 
@@ -99,7 +99,7 @@ unsigned long ww_debug_dangers(void) { return __atomic_load_n(&dangers, __ATOMIC
 /* A prime, by which a number of 64 bits is mixed. */
 #define MIX 1099511628211u
 
-/* Whether this wasn't told yet: what it is about stands for it. */
+/* Whether this wasn't reported yet; the number identifies what the report is about. */
 static bool is_new(uint64_t about)
 {
 	enum { PLACES = 4096 };
@@ -116,7 +116,7 @@ static bool is_new(uint64_t about)
 	return false;
 }
 
-/* Of this call of the program, in this class. */
+/* The same for a report about this call of the program, in this class. */
 static bool is_new_here(const struct ww_pool *p, const char *words)
 {
 	uint64_t key = 14695981039346656037u;
@@ -128,11 +128,11 @@ static bool is_new_here(const struct ww_pool *p, const char *words)
 }
 
 /*
- * Of a class, if that isn't NULL.  The words end before the place of what began earlier, if there is such.  What is no fault,
- * since the call is right by itself, is told once for each call of the program and class.
+ * Writes a report, with the name of the class, if that isn't NULL.  After the words comes the place of what began earlier, if
+ * that isn't NULL.  A warning, of a call that is right by itself, is reported once for each call of the program and class.
  *
- * Nothing is locked then but standard error.  A thread that pthread_cancel told to end doesn't amid the message: it would
- * keep that locked, and whatever its call had acquired.
+ * Only standard error is locked meanwhile.  pthread_cancel doesn't end the thread during the message: otherwise standard error
+ * would stay locked, and whatever the call had acquired.
  */
 __attribute__((format(printf, 5, 6))) static void tell(unsigned long *counted, const struct ww_pool *p, const char *call,
 						       const struct standing *earlier, const char *format, ...)
@@ -185,10 +185,10 @@ int ww_debug_open(struct ww_pool *p)
 
 void ww_debug_free(struct ww_pool *p) { free(p->debug); }
 
-/* The thread that calls by it now, unless that may be another one at any time. */
+/* The thread that calls by it now; NULL for a task, which may go on in another thread at any time. */
 static const void *user_of(const struct standing *s) { return __atomic_load_n(&s->is_polled, __ATOMIC_RELAXED) ? NULL : &ww_here; }
 
-/* This thread calls by it; a lock with NULL begins with that. */
+/* This thread makes a call by the seat. For a lock with NULL that is where it began. */
 static void use(struct standing *s)
 {
 	if (!__atomic_load_n(&s->stamp, __ATOMIC_RELAXED))
@@ -200,7 +200,7 @@ void ww_debug_polls(bool now) { polls = now; }
 
 void ww_debug_is_polled(ww_seat *s) { __atomic_store_n(&standing_of(s)->is_polled, true, __ATOMIC_RELAXED); }
 
-/* A seat without a context is given once it holds nothing and waits for nothing. */
+/* Without a context, nobody uses a seat any more once it holds nothing and waits for nothing. */
 static void unuse_if_free(struct standing *s)
 {
 	if (!__atomic_load_n(&s->stamp, __ATOMIC_RELAXED) && !__atomic_load_n(&s->held, __ATOMIC_RELAXED))
@@ -209,7 +209,7 @@ static void unuse_if_free(struct standing *s)
 
 enum has { THIS_CONTEXT, ANYTHING, A_CONTEXT, A_MUTEX, A_WAIT };
 
-/* Whether its context is this, or the thread has such a thing by it. */
+/* Whether its context is this one, or whether this thread has such a thing by the seat. */
 static bool has(const struct standing *s, const void *it, enum has what)
 {
 	if (what == THIS_CONTEXT)
@@ -220,7 +220,7 @@ static bool has(const struct standing *s, const void *it, enum has what)
 		what == A_MUTEX ? __atomic_load_n(&s->held, __ATOMIC_RELAXED) : __atomic_load_n(&s->wants, __ATOMIC_RELAXED));
 }
 
-/* A seat of which that is so, of this class alone, or of all that come from there on in their list, which is locked then; or NULL. */
+/* A seat of which that is so, in this class, or with `further` in any from it on in their list, which is locked then; or NULL. */
 static const ww_seat *seat_with(const struct ww_pool *p, bool further, const void *it, enum has what)
 {
 	for (; p; p = further ? p->next : NULL)
@@ -265,8 +265,8 @@ void ww_debug_ended(struct ww_acquire_ctx *x)
 }
 
 /*
- * Whether all calls of this thread are seen.  What isn't compiled with WW_DEBUG has the quick ones compiled in, of which
- * nothing is known here, and names no line.
+ * Whether all calls of this thread come here.  Code that isn't compiled with WW_DEBUG has the quick calls compiled in, which
+ * don't come here, and its calls don't say their lines.
  */
 static bool is_seen(void) { return ww_here.file; }
 
@@ -297,7 +297,7 @@ void ww_debug_released(const struct ww_mutex *m)
 {
 	struct holding *h = &m->pool->debug->mutexes[m->number];
 	uint32_t seat = __atomic_load_n(&h->seat, __ATOMIC_RELAXED);
-	struct standing *by = seat ? &m->pool->debug->seats[seat - 1] : NULL; /* NULL: that one is amid its own unlock */
+	struct standing *by = seat ? &m->pool->debug->seats[seat - 1] : NULL; /* NULL: that seat is in the middle of its own unlock */
 
 	if (is_seen() && __atomic_load_n(&h->thread, __ATOMIC_RELAXED) != &ww_here && !(by && !user_of(by)))
 		fault_in(m->pool, "ww_mutex_unlock", "another thread acquired the mutex");
@@ -321,7 +321,7 @@ bool ww_debug_refuses(const struct ww_acquire_ctx *x)
 	return true;
 }
 
-/* The mutex that was just acquired is released again, and the next time is three and a half times as far. */
+/* Releases the mutex that was just acquired, and returns -EDEADLK; until the next time it takes three and a half times as long. */
 static int injected(struct ww_mutex *m, struct ww_acquire_ctx *x)
 {
 	unsigned interval = x->deadlock_inject_interval;
@@ -412,7 +412,7 @@ void ww_debug_seeks(const struct ww_pool *p, const struct timespec *until)
 
 void ww_debug_patience(unsigned milliseconds) { __atomic_store_n(&patience, milliseconds, __ATOMIC_RELAXED); }
 
-/* By which the thread that holds what this seat waits for waits as well, in any class of the list, which is locked; or NULL. */
+/* The seat by which the holder of what this seat waits for waits itself, in any class of the list, which is locked; or NULL. */
 static const ww_seat *next_wait(const struct ww_pool *of, const ww_seat *s)
 {
 	uint32_t wants = __atomic_load_n(&standing_of(s)->wants, __ATOMIC_RELAXED);
@@ -422,11 +422,11 @@ static const ww_seat *next_wait(const struct ww_pool *of, const ww_seat *s)
 }
 
 /*
- * Goes from this wait to that of the thread that holds the mutex, and so on.  If it comes back, and each of these threads
- * sleeps without a time: a number that tells these waits from others, and how many there are; and else 0.
+ * Follows this wait to that of the thread that holds the mutex, and so on.  If this comes back to the first wait, and each of
+ * the threads sleeps without a time, it returns a number that identifies these waits, and how many there are; otherwise 0.
  *
- * Where two looks give the same number, each of them was in that wait all the while between, and holds what it held: they
- * sleep for ever.  One that is told something, or has got what it waited for, was woken, and isn't parked.
+ * If two checks give the same number, each thread was in its wait all the time between them, and holds what it held: so they
+ * sleep forever.  A thread that has got something, an error or what it waited for, was woken, and isn't parked.
  */
 static uint64_t deadlock(const struct ww_pool *of, unsigned *count)
 {
@@ -450,7 +450,7 @@ static uint64_t deadlock(const struct ww_pool *of, unsigned *count)
 	return 0;
 }
 
-/* A line of each; a cancel may end any of these waits still. */
+/* A line for each wait. Each of them may still end by a cancel. */
 static char *text_of_deadlock(const struct ww_pool *of, unsigned count)
 {
 	const ww_seat *s = mine.seat, *next = s;
@@ -472,7 +472,7 @@ static char *text_of_deadlock(const struct ww_pool *of, unsigned count)
 	return to && !fclose(to) ? words : NULL;
 }
 
-/* It is told at the second look, since somebody may be about to wake one of them; and by one of them alone. */
+/* The second check reports a deadlock, since one of the threads may be about to be woken; and only one of them reports it. */
 static void look_for_deadlock(void)
 {
 	const struct ww_pool *of = ww_lock_pools();
@@ -489,7 +489,7 @@ static void look_for_deadlock(void)
 	free(text);
 }
 
-/* What it waits for is held: by a thread that does something else for long, or by a context that was left and never ends. */
+/* What it waits for has been held for long: by a thread that does something else, or by a context that was left and never ends. */
 static void look_for_long_wait(void)
 {
 	const struct ww_pool *p = mine.seat->pool;
@@ -580,7 +580,7 @@ char *ww_debug_seen(struct ww_pool *p)
 	return fclose(to) ? NULL : words;
 }
 
-/* Whoever ended the last context may not be through with that; then the class is as good as free. */
+/* The thread that ended the last context may not be done with that; then nothing is left that is worth a report. */
 char *ww_debug_left(struct ww_pool *p)
 {
 	return (taken_numbers(p) || used_seats(p)) && is_new_here(p, "ww_class_free") ? ww_debug_seen(p) : NULL;

@@ -1,10 +1,10 @@
 /*
  * ww_loop.c - contexts that back off by themselves, in ww_until_all_locked and ww_mutex_lock_all.
  *
- * What a context has to do, amid a loop (ww_until_all_locked) and behind it, is one of six states.  `it` is the mutex at
- * which it was told -EDEADLK last; OWES: it waited for `it` before that was asked for, which is to come.
+ * What a context has to do, in a loop (ww_until_all_locked) and after it, is one of six states.  `it` is the mutex at
+ * which it got -EDEADLK last.  OWES: it has waited for `it` before the body asked for it, as the body has yet to do.
  *
- *	state		call				answer			then
+ *	state		call				returns			then
  *	EASE		a lock				0			EASE
  *							-EDEADLK		TOLD
  *							-EALREADY (0 with WW_IGNORE_DUPLICATES), -EINTR, -ETIMEDOUT	EASE
@@ -19,7 +19,7 @@
  *			back off						FIRST
  *			its last unlock						TOLD, holding nothing
  *	TOLD, OWES	a lock of what is owed		0, a trylock 1		TOLD
- *			else as TOLD, and behind each other lock still OWES
+ *			else as TOLD, and after each other lock still OWES
  *	TOLD, holding nothing: as FIRST, but a lock of another doesn't wait for it
  *	FIRST		a lock of it			0			EASE
  *			a lock of another		0, having waited for it	OWES
@@ -30,25 +30,25 @@
  *							0			FIRST
  *			ww_acquire_unlock_all					EASE, holding nothing
  *			any of these			-EINTR, -ETIMEDOUT	FIRST, or OWES if that came at the other one
- *	EASE, holding nothing: behind FIRST a slow lock of it is 0, having waited for it
+ *	EASE, holding nothing: after FIRST a slow lock of it returns 0, having waited for it
  *	any		ww_mutex_lock_all		-EINVAL			as it was
  *
  *
- * HAS_TO_BACK_OFF is TOLD, WAITS_FIRST is FIRST, and `prelocked` what it OWES.  tests/mutex_loop.c walks through all of it.
+ * HAS_TO_BACK_OFF is TOLD, WAITS_FIRST is FIRST, and `prelocked` what it OWES.  tests/mutex_loop.c tests all of this.
  */
 #define _GNU_SOURCE
 #include "ww_pool.h"
 
 /*
- * As long as one of these stands its lock calls take the long way (lock_by), as they do where each wait may be called off:
- * no mutex has its pool.
+ * In each state but EASE, and with WW_INTERRUPTIBLE, the context's lock calls take the long way (ww_lock_in_loop), since no
+ * mutex has its pool.
  */
 static void close_or_open(struct ww_acquire_ctx *x)
 {
 	x->pool = is_loop(x) && (x->state & (TRIES | WW_INTERRUPTIBLE) || x->prelocked) ? NO_POOL : x->own->pool;
 }
 
-/* What stands no more, and what stands; and it owes this one, if that isn't NULL. */
+/* Clears and sets bits of its state; it owes this mutex, if that isn't NULL. */
 static void become(struct ww_acquire_ctx *x, unsigned int not, unsigned int now, struct ww_mutex *prelocked)
 {
 	x->state = (x->state & ~not) | now;
@@ -69,7 +69,7 @@ void ww_acquire_flags(struct ww_acquire_ctx *x, unsigned int flags)
 
 /* ---- the list of what it acquired, the newest first ---- */
 
-/* Of what it holds, whether one wasn't asked for yet: it waited for that after a back-off, and has it for the longest. */
+/* Whether the context holds a mutex for which the body hasn't asked yet, since it waited for that after a back-off. */
 static bool owes(const struct ww_acquire_ctx *x)
 {
 	const struct ww_mutex *m = is_loop(x) && x->prelocked ? x->newest : NULL;
@@ -90,7 +90,7 @@ void ww_acquire_unlock_to(struct ww_acquire_ctx *x, size_t mark)
 			ww_mutex_unlock(x->newest);
 }
 
-/* From the first step on a mutex is another's, who may destroy it and give its memory away. */
+/* After the first step of an unlock, another thread may own the mutex, destroy it and free its memory. */
 static inline void release_all(struct ww_acquire_ctx *x)
 {
 	struct ww_mutex *m;
@@ -111,12 +111,12 @@ static inline void release_all(struct ww_acquire_ctx *x)
 	x->prelocked = NULL;
 }
 
-/* Without ww_until_all_locked nothing tells what was acquired, so nothing is released. */
+/* Outside ww_until_all_locked there is no list of what was acquired, so nothing is released. */
 void ww_acquire_unlock_all(struct ww_acquire_ctx *x)
 {
 	if (LIKELY(is_loop(x))) {
 		release_all(x);
-		/* It waits first for none any more: the mutex may be gone. */
+		/* It doesn't wait for the contended mutex any more, since that may have been destroyed. */
 		if (UNLIKELY(x->state & WAITS_FIRST))
 			become(x, WAITS_FIRST, 0, NULL);
 	} else if (x->acquired) {
@@ -126,7 +126,7 @@ void ww_acquire_unlock_all(struct ww_acquire_ctx *x)
 
 /* ---- its locks ---- */
 
-/* Whether it waited for this mutex before the call for it came, which comes now: so it is the newest now. */
+/* Whether the context has waited for this mutex before the body asked for it, as it does now; then that is the newest now. */
 bool ww_was_prelocked(struct ww_acquire_ctx *x, struct ww_mutex *m)
 {
 	if (x->prelocked != m)
@@ -146,7 +146,7 @@ int ww_looped(struct ww_mutex *m, struct ww_acquire_ctx *x, int r)
 	return r == -EALREADY && (ww_was_prelocked(x, m) || x->state & WW_IGNORE_DUPLICATES) ? 0 : r;
 }
 
-/* Before anything else it waits for the mutex at which it was told to back off. */
+/* Before anything else, waits for the mutex at which the context got -EDEADLK. */
 static int wait_first(struct ww_acquire_ctx *x, unsigned int way, const struct timespec *until)
 {
 	struct ww_mutex *m = x->contending_lock;
@@ -172,7 +172,7 @@ int ww_lock_in_loop(struct ww_mutex *m, struct ww_acquire_ctx *x, unsigned int w
 
 /* ---- loops ---- */
 
-/* What is acquired from now on is kept, and an unlock takes it out. */
+/* From now on a list has what the context acquired, and an unlock takes the mutex out of it. */
 static inline void begin_loop(struct ww_acquire_ctx *x)
 {
 	x->prelocked = NULL;
@@ -212,9 +212,9 @@ void ww_back_off_(struct ww_acquire_ctx *x)
 }
 
 /*
- * All words but the first lock's come into the cache at once, where each would come behind the step of the lock before.  By a
- * number that is none yet, or of another class, what comes is of no use.  (Atomic loads stay what they are to gcc; what only
- * reads and fetches it leaves out.)
+ * Fetches the words of all locks but the first into the cache together; otherwise each would come after the step of the lock
+ * before.  For a mutex that has no number yet, or is of another class, what is fetched is of no use.  (The loads are atomic,
+ * since gcc would leave out plain ones that only serve a fetch.)
  */
 static inline void fetch_ahead(const ww_seat *s, struct ww_mutex *const *locks, size_t count)
 {
@@ -224,7 +224,7 @@ static inline void fetch_ahead(const ww_seat *s, struct ww_mutex *const *locks, 
 		__builtin_prefetch(words + 2 * (size_t)__atomic_load_n(&locks[k]->number, __ATOMIC_RELAXED), 1);
 }
 
-/* Up to the first one that fails. */
+/* Locks each, up to the first one that fails. */
 static inline int lock_each(struct ww_acquire_ctx *x, struct ww_mutex *const *locks, size_t count)
 {
 	for (size_t k = 0; k < count; k++) {
@@ -236,7 +236,7 @@ static inline int lock_each(struct ww_acquire_ctx *x, struct ww_mutex *const *lo
 	return 0;
 }
 
-/* Whether it holds more than what is listed. */
+/* Whether the context holds more than the list has. */
 static bool held_before(const struct ww_acquire_ctx *x)
 {
 	unsigned int listed = 0;
@@ -246,7 +246,7 @@ static bool held_before(const struct ww_acquire_ctx *x)
 	return x->acquired > listed;
 }
 
-/* From here on in a loop, which ends with it; r is what it has come to, or 0 where it begins. */
+/* Goes on as in a loop, which ends here; r is what the locks returned so far, or 0 if none was made. */
 COLD static int lock_all_on(struct ww_acquire_ctx *x, struct ww_mutex *const *locks, size_t count, int r)
 {
 	bool held = held_before(x);

@@ -9,21 +9,21 @@
  *
  * A lock, of which the quick way is compiled into its callers (ww_mutex.h):
  *
- *	ww_mutex_lock --- the context's pool isn't the mutex's ---> _else_: the mutex gets its number, a fault is told,
+ *	ww_mutex_lock --- the context's pool isn't the mutex's ---> _else_: the mutex gets its number, a misuse is reported,
  *	  |                                                         or the context is in a loop, and has more to do (ww_loop.c)
  *	  +-- its first step --- 0 ---> the mutex is the context's
- *	  |                  \-- other ---> _further_: steps and sleeps up to an answer (lock_on, ww_go_on)
+ *	  |                  \-- other ---> _further_: steps and sleeps until the call can return (lock_on, ww_go_on)
  *	  \-- with NULL ---> _alone_: by the seat at hand, or any, or once there is one
  *
- * So `_else_` is what the quick way doesn't do, `_further_` (and `_on`, inside) all but the first step, `_alone` without a
- * context, and `_checked` with an answer where the program would end.
+ * So `_else_` is what the quick way doesn't do; `_further_` (and `_on`, inside) is all after the first step; `_alone` is for
+ * locks without a context; and `_checked` returns an error where the other call would end the program.
  */
 #define _GNU_SOURCE
 #define WW_NO_INLINE /* Here are the functions that may be called in place of those that ww_mutex.h compiles into its callers. */
 #include "ww_pool.h"
 
 _Static_assert(sizeof(struct ww_mutex) == 32, "a mutex and 32 bytes of what it guards have room in one cache line");
-/* A call by an empty handle answers -EINVAL, and changes nothing. */
+/* A call by an empty handle returns -EINVAL, and changes nothing. */
 _Static_assert(sizeof(((struct ww_acquire_ctx *)0)->empty_) == sizeof(ww_handle), "a context has room for one");
 
 /* ---- mutexes ---- */
@@ -51,20 +51,20 @@ void ww_mutex_init(struct ww_mutex *m, struct ww_class *c)
 }
 
 /*
- * `ctx` and `alone` are written by the mutex's holder alone, relaxed: one holder's accesses are ordered before
- * the next one's by the lock, and to all others they are a glance.  By `alone` others look into the seat.
+ * Only the mutex's holder writes `ctx` and `alone`, `ctx` relaxed: the lock orders one holder's accesses before the next
+ * one's, and for all others what they read is a hint.  `alone` leads others into the seat.
  */
 static inline struct ww_acquire_ctx *holder(const struct ww_mutex *m) { return __atomic_load_n(&m->ctx, __ATOMIC_RELAXED); }
 
 bool ww_mutex_is_locked(struct ww_mutex *m) { return holder(m) || seat_of(m); }
 
 /*
- * All steps of a call but the first.  In a forked child one by a seat that was taken before would wait for threads that
- * aren't there: so it makes none.  Then that call stays on its way, and any other by the seat changes nothing: -EBUSY.
+ * Makes all steps of a call after the first one.  In a forked child, a call by a seat from before the fork would wait for
+ * threads that don't exist; so it makes no step.  That call never ends, and any other by the seat changes nothing: -EBUSY.
  */
 COLD static int go_on(ww_seat *s, struct ww_stop *stop) { return LIKELY(!s->pool->gone) ? ww_go_on(s, stop) : -EBUSY; }
 
-/* In a child nobody else has the mutex, so it is released. */
+/* In a forked child nobody else uses the mutex, so it counts as released. */
 COLD int ww_release_on(ww_seat *s, int r)
 {
 	has_met(s);
@@ -74,9 +74,9 @@ COLD int ww_release_on(ww_seat *s, int r)
 }
 
 /*
- * Whether the lock of a mutex is free: the spare seat takes it, if it can at once, and
- * releases it.  An unlock's last access to the mutex comes before the step that releases
- * its lock; so whoever had it is through with it, and what they wrote is seen here.
+ * Whether the lock of a mutex is free: the spare seat takes it, if it can without waiting,
+ * and releases it.  An unlock's last access to the mutex comes before the step that releases
+ * its lock; so all former holders are through with it, and what they wrote is seen here.
  */
 bool ww_is_released(struct ww_pool *p, struct ww_mutex *m)
 {
@@ -89,21 +89,21 @@ bool ww_is_released(struct ww_pool *p, struct ww_mutex *m)
 		woken = ww_next_wake_(&s->handle); /* a driver's move `names`: the first waiter, and nobody else */
 	}
 	put_spare(p);
-	if (UNLIKELY(woken >= 0)) /* `wakes`: by a waker maybe, which is called with nothing locked */
+	if (UNLIKELY(woken >= 0)) /* `wakes`: a waker may be called, so nothing is locked now */
 		ww_unpark(&p->seats[woken]);
 	__tsan_acquire(m);
 	return released;
 }
 
 /*
- * Who sees no waiter sees the holder that one became, and who sees neither comes behind the last access of an unlock:
+ * A thread that sees no waiter sees the holder that a waiter became; one that sees neither comes after an unlock's last access:
  *
- *	who waited for it (lock_on)	who releases it			who destroys it
+ *	one that waited (lock_on)	one that releases it		one that destroys it
  *	ctx or alone = its own		ctx or alone = NULL		waiters?
  *	waiters--			ww_unlock_, the last access	ctx, alone?
  *									ww_try_, ww_unlock_ (ww_is_released)
  *
- * In a forked child nobody uses it any more, and its number isn't given.
+ * In a forked child nobody uses the mutex any more, and its number isn't given.
  */
 int ww_mutex_end_(struct ww_mutex *m)
 {
@@ -138,13 +138,12 @@ int ww_mutex_destroy(struct ww_mutex *m)
 
 /* ---- waiting ---- */
 
-/* A call by the spare seat cancels the wait of this one. */
 void ww_call_off(ww_seat *victim)
 {
 	struct ww_pool *p = victim->pool;
 	ww_seat *s = borrow_spare(p);
 
-	/* One that is pending does as well. It wakes nobody but this thread, which is awake: its next sleep ends at once. */
+	/* If one is pending, that serves as well. This wakes only this thread, which is awake: so its next sleep ends immediately. */
 	(void)ww_cancel_(&s->handle, (uint16_t)(victim - p->seats));
 	ww_wake(s);
 	put_spare(p);
@@ -155,7 +154,7 @@ static inline int32_t first_turn(ww_seat *s, uint32_t number, unsigned int way)
 	return way & SLOWLY ? ww_lock_slow_(&s->handle, number, way & HEEDS) : ww_lock_(&s->handle, number, way & HEEDS);
 }
 
-/* The mutex is this context's, or that of a seat without one. */
+/* Makes this context the mutex's holder, or the seat, if there is no context. */
 static inline void own(struct ww_mutex *m, struct ww_acquire_ctx *x, ww_seat *s)
 {
 	__tsan_acquire(m);
@@ -188,7 +187,6 @@ void ww_end_wait(struct ww_mutex *m, struct ww_acquire_ctx *x, ww_seat *s, int r
 	__atomic_fetch_sub(&m->waiters, 1, __ATOMIC_SEQ_CST);
 }
 
-/* What a lock call comes to that its last step answered with r. */
 int ww_lock_ends(struct ww_mutex *m, struct ww_acquire_ctx *x, ww_seat *s, int r)
 {
 	if (r == 0)
@@ -204,7 +202,7 @@ int ww_lock_ends(struct ww_mutex *m, struct ww_acquire_ctx *x, ww_seat *s, int r
 	return is_let_go(s, r) ? -EINVAL : r;
 }
 
-/* From the second step of a lock call to its end; r is what the first one answered. */
+/* Makes a lock call from its second step to its end; r is what the first step returned. */
 COLD static int lock_on(struct ww_mutex *m, struct ww_acquire_ctx *x, ww_seat *s, int r, unsigned int way, const struct timespec *until)
 {
 	struct ww_stop stop = { .asked = x ? &x->cancelled : NULL, .until = until };
@@ -217,7 +215,7 @@ COLD static int lock_on(struct ww_mutex *m, struct ww_acquire_ctx *x, ww_seat *s
 			r = go_on(s, way & HEEDS ? &stop : NULL);
 		if (r != -EINTR || stop.sent)
 			break;
-		/* It was called off by a cancel that another wait of the seat had left. */
+		/* A cancel that an earlier wait of the seat had left ended this one. */
 		r = first_turn(s, m->number, way);
 	}
 	r = ww_lock_ends(m, x, s, r);
@@ -239,8 +237,8 @@ static const char not_due[] = "no -EDEADLK of this mutex came before, or the con
 static const char *told_of(const struct ww_mutex *m, int r) { return ww_class_of(m) ? told(r) : "the mutex isn't initialized"; }
 
 /*
- * Where they don't fit yet: 0, or what is answered, and why.  A mutex that WW_MUTEX_INIT made gets its number here, before it
- * is locked first.
+ * For a mutex and a context that don't fit: 0 once they do, or the error, and why.  A mutex that WW_MUTEX_INIT made gets its
+ * number here, before its first lock.
  */
 COLD static int fit(struct ww_mutex *m, const struct ww_acquire_ctx *x, const char **why)
 {
@@ -250,7 +248,7 @@ COLD static int fit(struct ww_mutex *m, const struct ww_acquire_ctx *x, const ch
 	return r ? r : fits(m, x) ? 0 : -EINVAL;
 }
 
-/* The same, and tells it. */
+/* The same, and reports it. */
 COLD static int fit_or_told(const char *call, struct ww_mutex *m, const struct ww_acquire_ctx *x)
 {
 	const char *why;
@@ -262,8 +260,8 @@ COLD static int fit_or_told(const char *call, struct ww_mutex *m, const struct w
 }
 
 /*
- * By hand comes first: where its seat rested this context draws its own age now, unless it holds something, or has met somebody,
- * by a number that it acquired at once.
+ * This context acquires by hand first: if its seat rested, it draws an age of its own now, unless it already holds a mutex, or
+ * has met somebody, by the quick call of ww_number.h.
  */
 static void goes_by_hand(struct ww_acquire_ctx *x)
 {
@@ -308,8 +306,8 @@ int ww_mutex_lock_further_(struct ww_mutex *m, struct ww_acquire_ctx *x, int r)
 }
 
 /*
- * In a loop it is the wait that comes first itself, or isn't due.  After an -EDEADLK that the
- * debug library made up the proved one doesn't know that it is.
+ * In a loop this is the wait that the loop would begin with, or isn't due.  The proved library doesn't know of an -EDEADLK
+ * that the debug library made up.
  */
 static int lock_slowly(struct ww_mutex *m, struct ww_acquire_ctx *x, unsigned int way, const struct timespec *until)
 {
@@ -361,7 +359,7 @@ static inline int lock_by_seat(struct ww_mutex *m, ww_seat *s, unsigned int way,
 	return 0;
 }
 
-/* Where the seat at hand isn't. Who waits for one waits for the mutex, until it holds that. */
+/* If no seat is at hand. A thread that waits for a seat counts as a waiter of the mutex, until it holds that. */
 COLD static int lock_by_any(struct ww_mutex *m, unsigned int way, const struct timespec *until)
 {
 	const char *why;
@@ -393,7 +391,7 @@ static inline int lock_alone(struct ww_mutex *m, unsigned int way, const struct 
 	return LIKELY(s) ? lock_by_seat(m, s, way, until) : lock_by_any(m, way, until);
 }
 
-/* Nobody looks at what it would answer. */
+/* Its callers look at no error, so it ends the program. */
 int ww_mutex_lock_alone_(struct ww_mutex *m)
 {
 	int r = lock_alone(m, STAYS, NULL);
@@ -419,7 +417,7 @@ int ww_mutex_lock_interruptible(struct ww_mutex *m, struct ww_acquire_ctx *x) { 
 
 /* ---- trylocks ---- */
 
-/* No seat is waited for. */
+/* Waits for no seat. */
 static int try_alone(struct ww_mutex *m)
 {
 	ww_seat *s = ww_mutex_is_locked(m) ? NULL : seat_at_once(m->pool);
@@ -436,7 +434,7 @@ static int try_alone(struct ww_mutex *m)
 	return 1;
 }
 
-/* A context that was told to back off may try, once it holds nothing; then it waits for nothing first. */
+/* A context that got -EDEADLK may try, once it holds nothing; then it doesn't first wait for the contended mutex. */
 static int try_by(struct ww_mutex *m, struct ww_acquire_ctx *x)
 {
 	int r;
@@ -473,8 +471,8 @@ int ww_mutex_trylock_checked(struct ww_mutex *m, struct ww_acquire_ctx *x)
 /* ---- unlocks ---- */
 
 /*
- * From the step that releases the lock on the mutex is another's, who may destroy it and give its memory away; until then
- * nobody does, since ww_mutex_destroy takes the lock.
+ * After the step that releases the lock, another thread may own the mutex, destroy it and free its memory.  Until then nobody
+ * does, since ww_mutex_destroy takes the lock.
  */
 static inline int unlock_by(struct ww_mutex *m, struct ww_acquire_ctx *x)
 {
@@ -540,7 +538,7 @@ void ww_mutex_unlock_else_(struct ww_mutex *m)
 		end_unheld();
 }
 
-/* In a loop the first step did nothing, so the mutex is there still. */
+/* In a loop the first step did nothing, so the mutex is still held. */
 void ww_mutex_unlock_further_(struct ww_mutex *m, struct ww_acquire_ctx *x, int r)
 {
 	if (is_loop(x)) {

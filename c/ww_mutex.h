@@ -107,9 +107,9 @@ struct timespec; /* which <time.h> has not by -std=c99 */
 /* A class of mutexes: a context belongs to one, and locks the mutexes of that class alone. */
 struct ww_class {
 	struct ww_pool *pool;		/* once it is open */
-	uint32_t mutexes, contexts;	/* as many at once; 0: 65,536, and 1,024 or more */
+	uint32_t mutexes, contexts;	/* how many it has; 0: 65,536, and at least 1,024 */
 	int is_wait_die;
-	uint32_t permits;		/* in a crowd so many threads begin contexts; 0: as many as there are processors */
+	uint32_t permits;		/* how many threads begin contexts in a crowd; 0: as many as there are processors */
 	const char *name;
 };
 
@@ -131,29 +131,29 @@ struct ww_mutex {
 	struct ww_pool *pool;		/* NULL: it has no number */
 	__extension__ union {
 		struct ww_class *class_; /* without a number; NULL: it isn't initialized */
-		struct ww_mutex *older;	/* what a context acquired before it, where that is kept */
-		void *alone;		/* one byte behind the seat by which it is held without a context: so this is odd */
+		struct ww_mutex *older;	/* what its context acquired before it, if that is listed */
+		void *alone;		/* the address of the seat by which it is held without a context, plus one: so it is odd */
 	};
 	uint32_t number;
 	uint32_t waiters;
 };
 
 struct ww_acquire_ctx {
-	struct ww_pool *pool;		/* what it may lock at once; no class's once it has ended, or where a call has more to do */
+	struct ww_pool *pool;		/* its class's, if its locks may be quick; no class's once it has ended, or if they have more to do */
 	struct ww_seat *own;		/* NULL once it has ended */
-	void *gives;			/* the same; or empty_, where an unlock has more to do */
+	void *gives;			/* the same; or empty_, if an unlock has more to do */
 	unsigned int acquired;		/* how many mutexes it holds */
 	unsigned int state;		/* with its flags */
 	struct ww_mutex *contending_lock; /* at which the last -EDEADLK came */
-	struct ww_mutex *newest;	/* what it acquired last, where that is kept, and else any, or NULL */
+	struct ww_mutex *newest;	/* what it acquired last, if that is listed; otherwise any mutex, or NULL */
 	__extension__ union {
-		struct ww_mutex *prelocked; /* in a loop, and behind it */
+		struct ww_mutex *prelocked; /* in a loop, and after it */
 		struct ww_mutex *polled; /* by a call of ww_poll.h that waits */
 	};
 	unsigned int cancelled;
 	unsigned int deadlock_inject_interval, deadlock_inject_countdown; /* of the debug library */
 	unsigned long stamp;		/* likewise */
-	void *empty_[2];		/* a seat's handle that has none: by it an unlock answers that it has more to do */
+	void *empty_[2];		/* an empty handle: by it an unlock returns that it has more to do */
 };
 
 /*

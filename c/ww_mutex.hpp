@@ -62,7 +62,7 @@ public:
 	{
 		return ww_class_limit(&it_, mutexes, contexts);
 	}
-	// In a crowd so many threads begin contexts at a time, as ww_class_crowd has it, and as limit answers.
+	// How many threads begin contexts in a crowd, as by ww_class_crowd; it returns what limit does.
 	[[nodiscard]] int crowd(std::uint32_t permits) noexcept { return ww_class_crowd(&it_, permits); }
 	// Allocates all memory now. -ENOMEM.
 	[[nodiscard]] int open() noexcept { return ww_class_open(&it_); }

@@ -1,10 +1,10 @@
 /*
- * ww_number.c - mutexes by their numbers.  The library has a struct ww_mutex for each number that was ever taken, and a
- * call that isn't quick is one of ww_mutex.h, of that mutex: so it waits, backs off and is listed as any other.  A quick
- * call knows the number alone.  Outside loops that mutex doesn't say who holds it, therefore: its lock does.
+ * ww_number.c - mutexes by their numbers.  The library has a struct ww_mutex for each number that was ever taken.  A call
+ * that isn't quick makes the call of ww_mutex.h on that mutex: so it waits, backs off and is listed like any other.  A quick
+ * call uses only the number.  Therefore, outside loops, that mutex doesn't say who holds it: its lock in the library does.
  */
 #define _GNU_SOURCE
-#include "ww_pool.h" /* before the next one: here no call tells its line */
+#include "ww_pool.h" /* before the next one: here no call reports its line */
 #define WW_NO_INLINE /* Here are the functions that may be called in place of those that ww_number.h compiles into its callers. */
 #include "ww_number.h"
 
@@ -12,18 +12,18 @@ static const char no_such[] = "the class has no mutex of this number";
 
 /* ---- numbers ---- */
 
-/* The mutexes of a class, or NULL: memory is taken for them as the first number is. */
+/* The mutexes of a class, or NULL if there is no memory for them: it is allocated with the first number. */
 static struct ww_mutex *mutexes_of(struct ww_pool *p)
 {
 	pthread_mutex_lock(&p->numbers);
-	/* Released, and acquired in mutex_at: whoever has the address sees that the memory is empty. */
+	/* Released here, and acquired in mutex_at: a thread that sees the address sees that the memory is zeroed. */
 	if (!p->numbered)
 		__atomic_store_n(&p->numbered, calloc(p->locks, sizeof *p->numbered), __ATOMIC_RELEASE);
 	pthread_mutex_unlock(&p->numbers);
 	return p->numbered;
 }
 
-/* That of a number, which stays what it is once the number is put back; NULL where it was never taken. */
+/* The mutex of a number, which is kept when the number is put back; NULL if the number was never taken. */
 static struct ww_mutex *mutex_at(const struct ww_pool *p, uint32_t number)
 {
 	struct ww_mutex *all = number < p->locks ? __atomic_load_n(&p->numbered, __ATOMIC_ACQUIRE) : NULL;
@@ -31,7 +31,7 @@ static struct ww_mutex *mutex_at(const struct ww_pool *p, uint32_t number)
 	return all && pool_at(&all[number]) ? &all[number] : NULL;
 }
 
-/* The same of a class, and why there is none, as an answer. */
+/* The same by class; returns 0, or why there is none. */
 static int mutex_in(struct ww_class *c, uint32_t number, struct ww_mutex **m)
 {
 	struct ww_pool *p;
@@ -41,10 +41,10 @@ static int mutex_in(struct ww_class *c, uint32_t number, struct ww_mutex **m)
 	return r ? r : *m ? 0 : -EINVAL;
 }
 
-/* Of its `waiters`, beside their number. */
+/* A bit of a mutex's `waiters`, beside their number. */
 #define IS_TAKEN ((uint32_t)1 << 31)
 
-/* A thread that was told of the number before may wait for it still.  Relaxed: nobody puts it back before it was taken. */
+/* A thread that knew the number before may still wait for it.  Relaxed: nobody puts the number back before this. */
 int ww_number_take(uint32_t *number, struct ww_class *c)
 {
 	struct ww_mutex *m;
@@ -67,8 +67,8 @@ int ww_number_take(uint32_t *number, struct ww_class *c)
 }
 
 /*
- * Who waits for it says so first, and that it holds it before it says that it waits no more.  Of several threads that put
- * it back one does.  In a forked child nobody uses it any more, and it isn't given.
+ * A waiter counts itself first, and becomes the holder before it stops counting as a waiter.  Of several threads that put
+ * the number back only one does.  In a forked child nobody uses it any more, and it isn't given.
  */
 int ww_number_put(uint32_t number, struct ww_class *c)
 {
@@ -97,7 +97,7 @@ bool ww_number_is_locked(uint32_t number, struct ww_class *c)
 
 /* ---- by a context ---- */
 
-/* That of a context's class.  A first step that wasn't enough can't be left as it is, so the program ends with it. */
+/* The mutex of a number in the context's class.  If the first step wasn't enough it can't be undone, so the program ends. */
 struct ww_mutex *ww_number_asked(const char *call, uint32_t number, const struct ww_acquire_ctx *x, int r)
 {
 	struct ww_mutex *m = x->own ? mutex_at(x->own->pool, number) : NULL;
@@ -109,7 +109,7 @@ struct ww_mutex *ww_number_asked(const char *call, uint32_t number, const struct
 	return m;
 }
 
-/* What a lock call answered; only in a loop the mutex says on who holds it. */
+/* What a lock call returned; only in a loop the mutex goes on saying who holds it. */
 int ww_number_told(struct ww_mutex *m, const struct ww_acquire_ctx *x, int r)
 {
 	if (!is_loop(x) && __atomic_load_n(&m->ctx, __ATOMIC_RELAXED) == x)
@@ -117,7 +117,7 @@ int ww_number_told(struct ww_mutex *m, const struct ww_acquire_ctx *x, int r)
 	return r;
 }
 
-/* Where the first step was refused nothing was done yet: so it is in a loop. */
+/* If the first step was refused, nothing was done yet: the context is in a loop. */
 int ww_number_lock_further_(uint32_t number, struct ww_acquire_ctx *x, int r)
 {
 	struct ww_mutex *m = ww_number_asked("ww_number_lock", number, x, r);
@@ -163,7 +163,7 @@ int ww_number_unlock(uint32_t number, struct ww_acquire_ctx *x)
 	return ww_mutex_unlock_checked(m);
 }
 
-/* In a loop nothing was done yet, likewise. */
+/* If r is an error, nothing was done yet, likewise. */
 int ww_number_unlock_further_(uint32_t number, struct ww_acquire_ctx *x, int r)
 {
 	if (r < 0)

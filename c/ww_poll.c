@@ -1,7 +1,7 @@
 /*
  * ww_poll.c - contexts that wait without a thread.  Where a thread would sleep on its seat's token, a poll leaves its waker in
- * the seat and arms the token: whoever wakes the seat then calls that.  Where a thread would wait for a seat, a poll waits in
- * the same queue, with its waker in place of a thread's.
+ * the seat and arms the token: the thread that wakes the seat then calls the waker.  Where a thread would wait for a seat, a
+ * poll waits in the same queue, with its own waker instead of a thread's.
  */
 #define _GNU_SOURCE
 #define WW_NO_INLINE /* As ww_mutex.c. */
@@ -14,12 +14,12 @@ static const struct timespec past;
 
 /* ---- lock calls ---- */
 
-/* What the token is as long as the last one that was armed is to be called. */
+/* The token while the waker that was armed last is still to be called. */
 static uint32_t armed(const ww_seat *s) { return ARMED | s->armed << 2; }
 
 /*
- * Whoever wakes the seat calls this from now on; false: it was woken before, and isn't any more.  Relaxed: whoever reads it
- * found the token as it stands here then, and finds it so again behind that.  A driver's move `parks`, or else `rises`.
+ * From now on the thread that wakes the seat calls this waker; false if the seat was woken before, whose token is then gone.
+ * Relaxed: a thread that reads the waker finds this token before and after that.  A driver's move `parks`, or else `rises`.
  */
 static bool arm(ww_seat *s, const struct ww_waker *waker)
 {
@@ -35,7 +35,7 @@ static bool arm(ww_seat *s, const struct ww_waker *waker)
 	return false;
 }
 
-/* Its waker is called no more, and wasn't. By its user. */
+/* Called by the seat's user: true if its waker wasn't called, and won't be. */
 static bool disarm(ww_seat *s)
 {
 	uint32_t was = armed(s);
@@ -44,8 +44,8 @@ static bool disarm(ww_seat *s)
 }
 
 /*
- * As ww_go_on, but it neither rests nor lets others run, since the task that has the lock may be its own thread's; and waits by
- * its waker: -EINPROGRESS.  `sleeps`: so it did before, and goes on only if something woke it.
+ * As ww_go_on, but it neither rests nor yields, since the task that has the lock may be one of its own thread; and instead of
+ * sleeping it arms its waker and returns -EINPROGRESS.  `sleeps`: it did so before, and goes on only if it was woken.
  */
 static int go_on(ww_seat *s, struct ww_stop *stop, const struct ww_waker *waker, bool sleeps)
 {
@@ -70,7 +70,7 @@ static void begin_wait(struct ww_mutex *m, struct ww_acquire_ctx *x)
 	DEBUG(ww_debug_rests());
 }
 
-/* All of a poll but its first turn, which answered r.  Once it is armed another thread may go on with the context. */
+/* Makes all of a poll after its first step, which returned r.  Once its waker is armed, another thread may use the context. */
 static int poll_on(struct ww_mutex *m, struct ww_acquire_ctx *x, const struct ww_waker *waker, int r)
 {
 	struct ww_stop stop = { .asked = &x->cancelled, .until = waker ? NULL : &past };
@@ -82,7 +82,7 @@ static int poll_on(struct ww_mutex *m, struct ww_acquire_ctx *x, const struct ww
 	while (sleeps || r > 0) {
 		r = go_on(s, &stop, waker, sleeps);
 		sleeps = false;
-		/* A cancel that another wait of the seat had left called it off. */
+		/* A cancel that an earlier wait of the seat had left ended this one. */
 		if (r == -EINTR && !stop.sent)
 			r = ww_lock_(&s->handle, m->number, true);
 	}
@@ -117,7 +117,7 @@ int ww_mutex_lock_poll(struct ww_mutex *m, struct ww_acquire_ctx *x, const struc
 	return poll_on(m, x, waker, -EINPROGRESS);
 }
 
-/* Where it waits the context may be another thread's already. */
+/* If it waits, another thread may already use the context. */
 static int told_of_number(struct ww_mutex *m, struct ww_acquire_ctx *x, int r)
 {
 	return r == -EINPROGRESS ? r : ww_number_told(m, x, r);
@@ -139,7 +139,7 @@ int ww_number_lock_poll_further_(uint32_t number, struct ww_acquire_ctx *x, cons
 
 /* ---- contexts ---- */
 
-/* Whether it has a seat; or else whose waker it has now. The queue orders what whoever served it wrote. */
+/* Whether it has a seat; if not, this is its waker from now on. The queue's lock orders what the thread that served it wrote. */
 static bool is_served(struct ww_seek *me, const struct ww_waker *otherwise)
 {
 	struct ww_pool *p = me->of_->pool;
@@ -158,7 +158,7 @@ static bool is_served(struct ww_seek *me, const struct ww_waker *otherwise)
 	return served;
 }
 
-/* Whoever called its waker took that. */
+/* Takes its waker back; false if another thread has taken it, to call it. */
 static bool takes_back(struct ww_seek *me)
 {
 	struct ww_pool *p = me->of_->pool;
@@ -225,7 +225,7 @@ static __attribute__((noinline)) int begin_later(struct ww_acquire_ctx *x, struc
 	return r == -EINPROGRESS ? r : begin_by(x, s, r);
 }
 
-/* The seat that a task of this thread had last, if it is free, and nobody waits for one. */
+/* The seat that a task of this thread used last, if it is free, and nobody waits for a seat. */
 static inline ww_seat *task_seat_at_hand(struct ww_pool *p)
 {
 	const struct ww_loose *of = of_tasks(p);
@@ -252,8 +252,8 @@ bool ww_poll_take_back(struct ww_acquire_ctx *x, struct ww_seek *seek)
 /* ---- loops that watch a descriptor ---- */
 
 /*
- * What a task wrote before goes with the list.  Where that isn't empty whoever came first writes.  By syscall, since at write(2)
- * a thread may end that pthread_cancel told to, amid its unlock.
+ * What a task wrote before is released with the list.  If the list isn't empty, the thread that filled it first writes to the
+ * descriptor.  It does so by syscall, since in write(2) pthread_cancel could end a thread during its unlock.
  */
 void ww_event_wake(void *event, void *woken)
 {

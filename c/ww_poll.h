@@ -1,7 +1,7 @@
 /*
  * ww_poll.h - contexts of ww_mutex.h and ww_number.h that wait without a thread: for event loops and coroutines.
  *
- * A poll is a call that does what it can without blocking.  -EINPROGRESS: it waits, and whoever ends the wait calls the
+ * A poll is a call that does what it can without blocking.  -EINPROGRESS: it waits, and the thread that ends the wait calls the
  * waker.  Then the program makes the same call again, with the same arguments and this waker or another one, until it returns
  * something else.  Threads that block, and tasks that poll, may lock the same mutexes.
  *

@@ -1,8 +1,8 @@
 /*
  * ww_pool.c - classes of mutexes: their opening and freeing, numbers that are handed out and put back, and seats.
  *
- * A seat is kept, by one thread after another, or loose; the first ones of a class are kept ones.  What `busy` of it is, and
- * what comes next:
+ * A seat is either *kept*, by one thread after another, or *loose*; the first seats of a class are kept ones.  The values of
+ * its `busy`, and what comes next:
  *
  *	seat	busy	whose			what comes next, and by what
  *	kept	IDLE	its keeper's		BUSY: the keeper uses it, by a store
@@ -14,16 +14,16 @@
  *	loose	IDLE	nobody's		BUSY: any thread uses it, by an exchange that finds IDLE
  *	loose	BUSY	its user's		IDLE: the user is through, by a store, which counts it as given (GIVEN_ONCE)
  *
- * So no seat is in two hands.  A kept one: its keeper alone sets BUSY, and its user alone IDLE, so between the keeper's look
- * that finds IDLE and its store nothing changes.  One whose keeper changes: keeper and user both exchange, so one of the
- * two comes second, and that one alone puts it back.  A loose one: of the exchanges that find IDLE one is the first, be it
+ * So two threads never use one seat.  A kept seat: only its keeper sets BUSY, and only its user IDLE, so nothing changes
+ * between the keeper's load that finds IDLE and its store.  If its keeper ends: keeper and user both exchange, so one of the
+ * two comes second, and only that one puts it back.  A loose seat: of the exchanges that find IDLE one is the first; it may be
  * made for another thread, which is taken out of the queue for it (serve).
  *
- * What a user wrote in the seat goes to the next one.  Kept: IDLE is a release, by store or exchange, and the keeper's look
- * (seat_at_hand), the exchange for ORPHAN and the look of whoever frees the class acquire; the lock of opening orders who
- * puts it back and who comes to keep it.  Loose: all is sequentially consistent, so one of these two sees the other:
+ * The next user sees what a user wrote in the seat.  Kept: IDLE is stored or exchanged with release.  The keeper's load
+ * (seat_at_hand), the exchange for ORPHAN, and the load by the thread that frees the class acquire.  The lock `opening` orders
+ * putting a seat back before coming to keep it.  Loose: all is sequentially consistent, so one of these two sees the other:
  *
- *	who is through (ww_give_seat)		who seeks a seat (ww_queue_up)
+ *	a user that is through (ww_give_seat)	a thread that seeks a seat (ww_queue_up)
  *	busy = IDLE				seekers++
  *	seekers?				busy of each seat?
  */
@@ -35,31 +35,31 @@
 #include <unistd.h>
 
 /*
- * As many mutexes has a class at once that says no number.  The words of so many locks share a cache line; so many mutexes
- * have one to themselves, whatever the class says.
+ * How many mutexes a class has if it says no number; how many locks have their words in one cache line; and how many mutexes
+ * have a line to themselves, however many the class has.
  */
 enum { MANY_MUTEXES = 65536, IN_A_LINE = 4, APART = 1024 };
-/* With so many it is large; in the search of schedules with one. */
+/* From how many mutexes on a class is large; in the search of schedules with one. */
 #ifndef WW_LARGE
 #define WW_LARGE 16384
 #endif
-/* A world has 65 locks at least, which so many lines have. */
+/* How many lines are enough for 65 locks, which a world has at least. */
 enum { LEAST_LINES = 17 };
 /*
- * As many contexts has a class at once that says no number, and so many threads besides keep a seat of it; and so many tasks for
- * each processor, but not more at once: see ww_poll.h.  In the search of schedules there are few.
+ * If a class says no number of contexts: how many it has, how many threads keep a seat besides, and how many seats tasks have
+ * for each processor, and at most (see ww_poll.h).  In the search of schedules there are few.
  */
 #ifndef WW_FEW
 enum { MANY_CONTEXTS = 1024, MANY_KEPT = 256, EACH_TASKS = 2, MANY_TASKS = 64 };
 #else
 enum { MANY_CONTEXTS = WW_FEW, MANY_KEPT = WW_FEW, EACH_TASKS = WW_FEW, MANY_TASKS = WW_FEW };
 #endif
-/* And a seat that no context has: see borrow_spare. */
+/* One more seat, which no context has: see borrow_spare. */
 enum { SPARE = 1 };
 
 __thread struct ww_mine ww_mine __attribute__((tls_model("initial-exec")));
 
-static uint64_t last_id; /* of a class; its address names this copy of the library, of which a process may have several */
+static uint64_t last_id; /* of a class; its address identifies this copy of the library: a process may have several */
 
 /* Each copy counts in a range of its own. */
 static uint64_t of_this_copy(uint64_t n) { return ((uint64_t)(uintptr_t)&last_id << 16) + n; }
@@ -110,11 +110,11 @@ void ww_give_number(struct ww_pool *p, uint32_t number)
 
 static pthread_mutex_t opening = PTHREAD_MUTEX_INITIALIZER;
 static struct ww_pool *pools; /* all that are open */
-static struct ww_pool *freed; /* the memory of others */
+static struct ww_pool *freed; /* the memory of classes that were freed */
 static pthread_key_t ending;
 static bool is_prepared;
 
-/* The copy that opened a class has its lock, and knows which threads keep its seats. */
+/* Only the copy that opened a class has the lock `opening` for it, and knows which threads keep its seats. */
 static struct ww_pool *of_this_copy_alone(struct ww_pool *p)
 {
 	if (UNLIKELY(p && p->copy != &last_id))
@@ -122,7 +122,7 @@ static struct ww_pool *of_this_copy_alone(struct ww_pool *p)
 	return p;
 }
 
-/* The class that has this number, if it is open. Opening is locked. */
+/* The class that has this number, if it is open. `opening` is locked. */
 static struct ww_pool *open_pool(uint64_t id)
 {
 	struct ww_pool *p = pools;
@@ -132,14 +132,14 @@ static struct ww_pool *open_pool(uint64_t id)
 	return p;
 }
 
-/* The seat's keeper and its user are both through with it. Opening is locked; others look at `unkept` at a glance. */
+/* Neither keeper nor user need the seat any more. `opening` is locked; others read `unkept` without that, as a hint. */
 static void put_back(struct ww_pool *p, ww_seat *s)
 {
 	s->next = p->unkept;
 	__atomic_store_n(&p->unkept, s, __ATOMIC_RELAXED);
 }
 
-/* This thread keeps it no more, and by that isn't its keeper either where it uses it still. Opening is locked. */
+/* This thread stops keeping the seat, even if it still uses it. `opening` is locked. */
 static void let_go(struct ww_known *kept)
 {
 	struct ww_pool *p = open_pool(kept->id);
@@ -167,7 +167,7 @@ static void forget(void *mine)
 	pthread_mutex_unlock(&opening);
 }
 
-/* The next context of this thread looks there first; so many others move on by one. */
+/* The next context of this thread tries this seat first; the others that come before its place move on by one. */
 static void put_first(struct ww_known first, uint32_t others)
 {
 	memmove(&ww_mine.seats[1], &ww_mine.seats[0], others * sizeof ww_mine.seats[0]);
@@ -175,8 +175,8 @@ static void put_first(struct ww_known first, uint32_t others)
 }
 
 /*
- * If the library will be told when this thread ends.  Where it keeps as many as it may, it lets go the one that it hasn't used
- * for the longest.
+ * The thread comes to keep a seat, if the library will learn when the thread ends.  If it keeps as many as it may, it stops
+ * keeping the one that it hasn't used for the longest.
  */
 static ww_seat *keep(struct ww_pool *p)
 {
@@ -212,8 +212,9 @@ static ww_seat *kept_seat(struct ww_pool *p)
 /* ---- loose seats ---- */
 
 /*
- * Any that is free, at first the one that this thread had last; where threads keep seats, one that others don't begin with.
- * NULL only if at some moment amid the call none was: each was in use at one look and at the next, and given to nobody between.
+ * Any seat that is free.  The search begins at the one that this thread used last, or, where threads keep seats, at one where
+ * others don't begin.  NULL only if at some moment during the call none was free: each was in use in two passes, and wasn't
+ * given in between.
  */
 static ww_seat *claim_any(const struct ww_loose *of)
 {
@@ -235,7 +236,7 @@ static ww_seat *claim_any(const struct ww_loose *of)
 	return NULL;
 }
 
-/* Tasks keep none. */
+/* Tasks keep no seat. */
 COLD static ww_seat *any_seat(struct ww_pool *p, const struct ww_loose *of)
 {
 	ww_seat *s = NULL;
@@ -265,11 +266,11 @@ ww_seat *ww_seat_to_begin(struct ww_pool *p)
 
 ww_seat *ww_task_seat(struct ww_pool *p) { return any_seat(p, of_tasks(p)); }
 
-/* What `served_` is: of a seat's place and more, it was called for that seat, and hasn't looked since. */
+/* The values of `served_`. From CALLED on: the waiter was called for the seat with this place, and hasn't looked since. */
 enum { WAITS, SERVED, CALLED };
 static uint64_t bit(uint32_t place) { return (uint64_t)1 << place; }
 
-/* It looks now, or doesn't wait any more. The queue is locked. A thread that waits, and reads that at any time, is never called. */
+/* It looks now, or has stopped waiting. The queue is locked. Threads read `served_` without that lock, and are never called. */
 static void is_not_called(struct ww_loose *of, struct ww_seek *it)
 {
 	if (it->served_ < CALLED)
@@ -278,7 +279,7 @@ static void is_not_called(struct ww_loose *of, struct ww_seek *it)
 	it->served_ = WAITS;
 }
 
-/* The one that stands there waits no more. The queue is locked. */
+/* Takes the waiter at this place out of the queue, which is locked. */
 static void take_out(struct ww_loose *of, struct ww_seek **at)
 {
 	is_not_called(of, *at);
@@ -290,14 +291,14 @@ static void take_out(struct ww_loose *of, struct ww_seek **at)
 	__atomic_fetch_sub(&of->seekers, 1, __ATOMIC_SEQ_CST);
 }
 
-/* Of a thread that waits. */
+/* The waker of a thread that waits. */
 static void wake_thread(void *nothing, void *served)
 {
 	(void)nothing;
-	ww_futex_wake(served); /* by its address alone: it may be gone */
+	ww_futex_wake(served); /* uses only the address: the thread may have ended */
 }
 
-/* What its waker was to do, for which it waits no more. The queue is locked. */
+/* Takes its waker, which is then called at most once. The queue is locked. */
 static struct ww_waker waker_of(struct ww_seek *it)
 {
 	struct ww_waker waker = it->waker_;
@@ -312,7 +313,7 @@ static void wake(struct ww_waker waker)
 		waker.wake(waker.loop, waker.task);
 }
 
-/* Whoever waits longest, and wasn't called yet, is to look, since this seat is free. The queue is locked. */
+/* The seat is free, so the waiter that has waited longest, and wasn't called yet, is called. The queue is locked. */
 static struct ww_waker call_for(struct ww_loose *of, const ww_seat *s)
 {
 	struct ww_seek *it = of->first;
@@ -326,7 +327,7 @@ static struct ww_waker call_for(struct ww_loose *of, const ww_seat *s)
 	return waker_of(it);
 }
 
-/* One who was called has looked, or left: if it leaves a seat free somebody else is called. The queue is locked. */
+/* A waiter that was called has looked, or left: if a seat is still free, another one is called. The queue is locked. */
 static struct ww_waker call_another(struct ww_loose *of)
 {
 	for (uint32_t k = 0; k < of->count && of != &of->pool->loose; k++)
@@ -356,8 +357,8 @@ struct ww_waker ww_look_again(struct ww_seek *me)
 }
 
 /*
- * Whoever waits longest gets the seat, or is called, and is woken with nothing locked.  Others may have freed the class since it
- * was given; and in a forked child nobody waits.
+ * The waiter that has waited longest gets the seat, or is called for it; it is woken with nothing locked.  Others may have
+ * freed the class since the seat was given, and in a forked child nobody waits.
  */
 COLD static void serve(struct ww_loose *of, uint64_t id, ww_seat *s)
 {
@@ -376,13 +377,13 @@ COLD static void serve(struct ww_loose *of, uint64_t id, ww_seat *s)
 		take_out(of, &of->first);
 		waker = waker_of(first);
 		first->seat_ = s;
-		__atomic_store_n(&first->served_, SERVED, __ATOMIC_RELEASE); /* from here on it may be gone */
+		__atomic_store_n(&first->served_, SERVED, __ATOMIC_RELEASE); /* from here on `first` may not exist any more */
 	}
 	pthread_mutex_unlock(&p->queue);
 	wake(waker);
 }
 
-/* The keeper isn't this thread, and may have come to its end. */
+/* Releases a seat whose keeper isn't this thread, and may have ended. */
 COLD static void give_kept(uint64_t id, ww_seat *s)
 {
 	struct ww_pool *p;
@@ -396,7 +397,7 @@ COLD static void give_kept(uint64_t id, ww_seat *s)
 	pthread_mutex_unlock(&opening);
 }
 
-/* It rests for its keeper alone. */
+/* A seat may rest only for its keeper. */
 COLD static void give_rested(ww_seat *s)
 {
 	stop_rest(s);
@@ -441,7 +442,7 @@ bool ww_leave_queue(struct ww_seek *me)
 	return !me->seat_;
 }
 
-/* Where others wait already none is free, but for those of which whoever is through with them is about to serve the first. */
+/* If others wait already, none is free, except seats whose last user is about to serve the first waiter. */
 bool ww_queue_up(struct ww_seek *me)
 {
 	struct ww_loose *of = me->of_;
@@ -467,14 +468,14 @@ bool ww_queue_up(struct ww_seek *me)
 }
 
 /*
- * After so many seconds of a wait a thread looks whether any seat was given meanwhile.  0, in the search of schedules: it
- * doesn't, since a wait with a time would hide there that a wake-up was lost.
+ * After how many seconds of a wait a thread checks whether any seat was given meanwhile.  In the search of schedules this is 0,
+ * and it doesn't, since a wait with a time would hide that a wake-up was lost.
  */
 #ifndef WW_PATIENCE
 #define WW_PATIENCE 10
 #endif
 
-/* A context that is left without ww_acquire_fini keeps its seat.  The thread is in the queue, so it doesn't end amid this. */
+/* A context that is left without ww_acquire_fini keeps its seat.  The thread is in the queue, so it must not end here. */
 static void tell_leak(const struct ww_loose *of)
 {
 	char why[128];
@@ -487,13 +488,13 @@ static void tell_leak(const struct ww_loose *of)
 	pthread_setcancelstate(may_end, NULL);
 }
 
-/* Of a thread that waits: when it looks next, and what it saw. */
+/* When a thread that waits checks next, and what it saw last. */
 struct look {
 	struct timespec next;
 	uint64_t seen;
 };
 
-/* Until when it may sleep.  Whenever a seat is claimed or given the sum grows; it is told once that it doesn't. */
+/* Until when it may sleep.  The sum grows whenever a seat is claimed or given; that it doesn't is reported once. */
 static const struct timespec *next_look(const struct ww_loose *of, struct look *look)
 {
 	uint64_t sum = 0;
@@ -534,8 +535,8 @@ COLD int ww_seek_seat(struct ww_pool *p, const struct timespec *until, ww_seat *
 /* ---- classes ---- */
 
 /*
- * Where threads keep seats they don't come back to a loose one.  Relaxed: whoever gave a seat of a class that was freed since
- * may look still (serve), and whom it finds in the queue has seen this number, and locked that.
+ * Where threads keep seats they don't come back to a loose one.  Relaxed: a thread that gave a seat of a class which was freed
+ * since may still read this (serve), and a waiter that it finds in the queue has seen this number, and then locked the queue.
  */
 static void set_id(struct ww_pool *p, uint64_t id)
 {
@@ -549,8 +550,8 @@ static void before_fork(void) { pthread_mutex_lock(&opening); }
 static void in_parent(void) { pthread_mutex_unlock(&opening); }
 
 /*
- * Other threads were amid their calls, and aren't there: no seat and no number of these classes is given any more.  One that
- * had been freed is used again, though a thread may have been amid the end of its last context, or of its last mutex.
+ * Other threads were in the middle of their calls, and don't exist here: so no seat and no number of these classes is given any
+ * more.  The memory of a freed class is used again, though a thread may have been about to leave its last context or mutex.
  */
 static void in_child(void)
 {
@@ -581,8 +582,8 @@ static int prepare(void)
 }
 
 /*
- * Where the library is closed (dlclose), threads that used it go on, and end without it; at the end of the program they may
- * go on as well, and whoever makes a key then may have that one.
+ * When the library is closed (dlclose), threads that used it go on, and end without it.  At the end of the program they may go
+ * on as well, and another key may get the number of this one.
  */
 __attribute__((destructor)) static void unprepare(void)
 {
@@ -593,7 +594,7 @@ __attribute__((destructor)) static void unprepare(void)
 	pthread_mutex_unlock(&opening);
 }
 
-/* Of a class that was freed, or else new. */
+/* The memory of a class that was freed, or new memory. */
 static struct ww_pool *memory_of_pool(void)
 {
 	struct ww_pool *p = freed;
@@ -621,7 +622,7 @@ static void keep_memory(struct ww_pool *p)
 	freed = p;
 }
 
-/* Tasks of which more run at once retry more often than they get on. */
+/* If more tasks than these have a context at a time, they retry more often than they make progress. */
 static uint32_t tasks_of(const struct ww_class *c)
 {
 	uint32_t tasks = EACH_TASKS * ww_processors();
@@ -629,7 +630,7 @@ static uint32_t tasks_of(const struct ww_class *c)
 	return c->contexts ? 0 : tasks < MANY_TASKS ? tasks : MANY_TASKS;
 }
 
-/* Its seats are those of one new world, whose handles change places with these. */
+/* Opens a new world, whose handles are moved into the seats. */
 static int open_world(struct ww_pool *p, bool is_wait_die, ww_handle *handles)
 {
 	int r = ww_open_(is_wait_die, p->locks, ((uint64_t)1 << 52) - 1, handles, seats_of(p) + SPARE);
@@ -655,7 +656,7 @@ static int open_world(struct ww_pool *p, bool is_wait_die, ww_handle *handles)
 	return 0;
 }
 
-/* A quarter of the numbers, or more where these are few. */
+/* A quarter of the numbers, or more if these are few. */
 static uint32_t lines_for(uint32_t mutexes)
 {
 	uint32_t quarter = (mutexes + IN_A_LINE - 1) / IN_A_LINE, apart = mutexes < APART ? mutexes : APART;
@@ -704,7 +705,7 @@ static int make_pool(struct ww_class *c, uint32_t kept, struct ww_pool **made)
 	return r;
 }
 
-/* Opening is locked. */
+/* `opening` is locked. */
 static int open_now(struct ww_class *c, uint32_t kept)
 {
 	struct ww_pool *p = NULL;
@@ -718,7 +719,7 @@ static int open_now(struct ww_class *c, uint32_t kept)
 	return r;
 }
 
-/* Where a class says how many contexts it has, there are as many, and no more by seats that threads keep. */
+/* If a class says how many contexts it has, threads keep no seats, which would be more. */
 static uint32_t kept_of(const struct ww_class *c) { return c->contexts ? 0 : MANY_KEPT; }
 
 COLD int ww_class_open_kept(struct ww_class *c, uint32_t kept)
@@ -733,7 +734,7 @@ COLD int ww_class_open_kept(struct ww_class *c, uint32_t kept)
 
 int ww_class_open(struct ww_class *c) { return ww_class_open_kept(c, kept_of(c)); }
 
-/* Others may lock it first as well: one of them gives it its number, and whatever lay in the place of its class is theirs then. */
+/* Other threads may lock it first too. One of them gives it its number; then `alone`, where the class was, is theirs. */
 COLD int ww_number_at_first(struct ww_mutex *m)
 {
 	int r = 0;
@@ -755,7 +756,7 @@ COLD int ww_number_at_first(struct ww_mutex *m)
 	return r;
 }
 
-/* Whoever gives the mutex its number has the lock, and then the class is that of its pool. */
+/* The thread that gives the mutex its number holds the lock; once it has one, the class is that of its pool. */
 struct ww_class *ww_class_of(const struct ww_mutex *m)
 {
 	struct ww_class *c;
@@ -796,7 +797,7 @@ int ww_class_crowd(struct ww_class *c, uint32_t permits)
 	return 0;
 }
 
-/* Whether nobody uses a seat. Opening is locked. */
+/* Whether nobody uses a seat. `opening` is locked. */
 static bool is_idle(struct ww_pool *p)
 {
 	bool idle = !has_seekers(&p->loose) && !has_seekers(&p->tasks) && !ww_permit_seekers(p);
@@ -806,7 +807,7 @@ static bool is_idle(struct ww_pool *p)
 	return idle;
 }
 
-/* Whoever gave a seat may look for somebody to serve still, but nobody stands in its queues. */
+/* A thread that gave a seat may still look for a waiter to serve, but nobody is in the queues. */
 static void free_pool(struct ww_pool *p)
 {
 	DEBUG(ww_debug_free(p));
@@ -836,7 +837,7 @@ int ww_class_free(struct ww_class *c)
 			at = &(*at)->next;
 		*at = p->next;
 		__atomic_store_n(&c->pool, NULL, __ATOMIC_RELEASE);
-		/* In a forked child others may have been amid their calls, so its memory stays as it is. */
+		/* In a forked child others may have been in the middle of their calls, so its memory stays as it is. */
 		if (!p->gone)
 			free_pool(p);
 	}
@@ -845,7 +846,6 @@ int ww_class_free(struct ww_class *c)
 	return r;
 }
 
-/* A seat that was never given counts nothing. */
 void ww_class_stats(struct ww_class *c, struct ww_class_counts *counts)
 {
 	struct ww_pool *p;
@@ -874,7 +874,7 @@ const struct ww_pool *ww_lock_pools(void)
 }
 void ww_unlock_pools(void) { pthread_mutex_unlock(&opening); }
 
-/* Nobody frees the class meanwhile; in a forked child nothing is to be seen of one that was open before. */
+/* Under the lock nobody frees the class. In a forked child nothing is shown of one that was open before. */
 void ww_class_print(struct ww_class *c, FILE *to)
 {
 	char *seen = NULL;

@@ -1,4 +1,4 @@
-/* ww_pool.h - what an open class has, and what the debug library does beside each call. It isn't installed. */
+/* ww_pool.h - what an open class consists of, and what the library's sources share. It isn't installed. */
 #ifndef WW_POOL_H
 #define WW_POOL_H
 #include "ww_inside.h"
@@ -7,8 +7,8 @@
 #include <stdlib.h>
 
 /*
- * What perf and bpftrace may be told, where SystemTap's header is here: each is an instruction that does nothing, where
- * a call waits anyway.
+ * The probes for perf and bpftrace, if SystemTap's header is installed.  Each is an instruction that does nothing, at a place
+ * where a call waits anyway.
  */
 #if __has_include(<sys/sdt.h>)
 #include <sys/sdt.h>
@@ -26,65 +26,66 @@ struct debug;
 /* See ww_crowd.c. */
 enum { MANY_PERMITS = 64 };
 struct ww_crowd {
-	uint32_t asleep __attribute__((aligned(64))); /* so many threads sleep in lock calls, and nobody has woken them yet */
+	uint32_t asleep __attribute__((aligned(64))); /* how many threads sleep in lock calls, and weren't woken yet */
 	uint32_t permits;
-	uint32_t backed_off; /* so many contexts, while so many slept that there may be a crowd */
-	uint64_t harmless; /* until then sleepers alone make none */
+	uint32_t backed_off; /* how many contexts did, while enough threads slept for a crowd */
+	uint64_t harmless; /* until then sleeping threads alone make no crowd */
 	pthread_mutex_t lock; /* for what follows */
-	struct ww_turn *first, *last; /* of those that wait for a permit */
-	uint64_t ends[MANY_PERMITS];  /* of each permit */
-	uint64_t term, over; /* how long the last crowd is to last, and until when */
-	uint64_t off;	     /* how long sleepers alone make none behind it */
-	uint64_t resting;    /* until then there is none at all: permits were no help */
-	uint64_t since;	     /* when contexts had backed off so often last */
+	struct ww_turn *first, *last; /* of the threads that wait for a permit */
+	uint64_t ends[MANY_PERMITS];  /* when each permit ends */
+	uint64_t term, over; /* how long the last crowd lasts, and until when */
+	uint64_t off;	     /* for how long after it sleeping threads alone make none */
+	uint64_t resting;    /* until then there is no crowd at all, since permits were no help */
+	uint64_t since;	     /* when many_back_off was called last */
 	uint64_t awaited;
-	uint32_t slow; /* permits that came to little, less those that didn't */
+	uint32_t slow; /* permits that began few contexts, less those that began more */
 };
 
 /*
- * Seats that no thread keeps, and a queue of those who found none of them free: in `loose` for threads, and in `tasks` for
- * polls, unless the class says how many contexts it has: then that has none, and all are in one queue.
+ * Seats that no thread keeps, and the queue of those that found none of them free.  A class has two of these: `loose` for
+ * threads, and `tasks` for polls.  If it says how many contexts it has, `tasks` is empty, and all are in the one queue.
  */
 struct ww_loose {
 	struct ww_pool *pool;
-	uint64_t id; /* by which a thread knows that it had one of them last; no class's, where threads don't come back to them */
+	uint64_t id; /* by which a thread knows that it used one of them last; NO_ID if threads don't come back to them */
 	ww_seat *seats;
 	uint32_t count;
-	uint32_t seekers;	       /* so many wait; others take none meanwhile */
+	uint32_t seekers;	       /* how many wait; meanwhile others take none */
 	uint32_t owed;		       /* of tasks: see is_barred */
-	uint64_t called;	       /* for which of these seats somebody was called who hasn't looked yet, a bit for each */
-	struct ww_seek *first, **end; /* of these, in the order in which they came, and where that ends */
-	uint64_t sought;	       /* how many waited, in all */
+	uint64_t called;	       /* a bit for each seat: a waiter was called for it, and hasn't looked yet */
+	struct ww_seek *first, **end; /* the queue, in the order in which they came, and its last link */
+	uint64_t sought;	       /* how many have waited in all */
 } __attribute__((aligned(64)));
 
 /*
- * Once its class is freed its memory stays, for a class that is opened later: whoever gave a
- * loose seat looks at `seekers` then, and may lock the queue, though others may have freed the class.
+ * The memory outlives its class, and serves one that is opened later.  For a thread that has given a loose seat then reads
+ * `seekers`, and may lock the queue, though others may have freed the class meanwhile.
  */
 struct ww_pool {
 	ww_seat *seats; /* of one world */
 	struct ww_class *class_;
-	uint64_t id;	  /* no other class that is or was open has the same, also of another copy of the library */
-	uint64_t at_hand; /* the same, or CROWDED: then a seat that a thread used last isn't at hand */
-	const void *copy; /* of the library: the one that opened it */
-	uint32_t kept; /* of its seats so many are kept: see ww_pool.c */
-	bool gone; /* it was opened before a fork, of which this is the child */
-	bool is_large; /* it had so many mutexes at once that they, and what they guard, don't stay in a processor's own cache */
+	uint64_t id;	  /* no other class has the same, open or freed, nor one of another copy of the library */
+	uint64_t at_hand; /* the same; or CROWDED, so that no thread finds its seat at hand */
+	const void *copy; /* the copy of the library that opened it */
+	uint32_t kept; /* how many of its seats are kept: see ww_pool.c */
+	bool gone; /* it was opened before a fork, and this is the child */
+	bool is_large; /* it has had so many mutexes that they, and what they guard, don't stay in a processor's own cache */
 	struct ww_pool *next;
 	struct debug *debug;
-	struct ww_mutex *numbered; /* of ww_number.h: one for each number, from the first on that is taken */
-	ww_seat *unkept; /* the kept ones that have no keeper; changed where opening is locked */
+	struct ww_mutex *numbered; /* of ww_number.h: one for each number, once the first number was taken */
+	ww_seat *unkept; /* the kept seats without a keeper; changed under the lock `opening` */
 	struct ww_loose loose, tasks;
-	pthread_mutex_t queue; /* for both queues */
-	bool is_told;	       /* that all contexts of threads have been in use for long */
+	pthread_mutex_t queue; /* the lock of both queues */
+	bool is_told;	       /* it was reported that all contexts of threads have been in use for long */
 	/*
-	 * Of the numbers of so many mutexes the first `fresh` were given, and each of these that is free is in a list, by its
-	 * number plus one.  The words of four neighbours share a cache line: so the first `lines` numbers are 0, 4, 8 and so
-	 * on, the next ones 1, 5, 9, and only of many mutexes two have one line.  The numbers are those of `locks` locks.
+	 * Of the numbers of `mutexes` mutexes the first `fresh` were given out at least once.  Those of them that are free again
+	 * are in a list: `free` is the first one plus one, and `below` has the next one of each, likewise.  The words of four
+	 * neighbours share a cache line.  So the first `lines` numbers are 0, 4, 8 and so on, the next ones 1, 5, 9, and two
+	 * mutexes share a line only if there are many.  The proved library has `locks` locks.
 	 */
 	pthread_mutex_t numbers __attribute__((aligned(64)));
 	uint32_t mutexes, lines, locks, fresh, free, taken, *below;
-	/* Whoever has it uses the seat behind those of the contexts, and waits for nobody. */
+	/* The thread that holds it uses the seat after those of contexts, and waits for nobody. */
 	pthread_mutex_t spare __attribute__((aligned(64)));
 	struct ww_crowd crowd;
 };
@@ -92,75 +93,77 @@ struct ww_pool {
 /* No class has this number. */
 #define CROWDED ((uint64_t)1)
 
-/* What `busy` of a seat is: see ww_pool.c; and who keeps one that is loose, or whose keeper ended. */
+/* The values of a seat's `busy`: see ww_pool.c; and of its `keeper`, if it is loose or its keeper ended (NO_THREAD). */
 enum { IDLE, BUSY, ORPHAN };
-#define GIVEN_ONCE 4u /* that much more each time that a loose one is given */
+#define GIVEN_ONCE 4u /* added to `busy` each time that a loose seat is given */
 #define NO_THREAD UINT64_MAX
 #define NO_ID UINT64_MAX
 
-/* What a thread has of its own. */
+/* What each thread has for itself. */
 enum { KEPT = 10 };
 struct ww_mine {
 	struct ww_known {
 		uint64_t id;
 		ww_seat *seat;
-	} seats[KEPT],	 /* that it keeps, one of a class; the one that it used last first */
-	  last;		 /* that it had last, of the loose ones to which it comes back */
-	uint64_t thread; /* a number that no other has, also of another copy; 0 until it takes a number or a seat */
-	bool ends;	 /* so it keeps no seat any more */
+	} seats[KEPT],	 /* the seats that it keeps, one in each class; the one that it used last is first */
+	  last;		 /* the loose seat that it used last, if it comes back to these */
+	uint64_t thread; /* a number that no other thread has, in any copy of the library; 0 until it takes a seat */
+	bool ends;	 /* it is about to end, and keeps no seat any more */
 	struct {
 		uint64_t id;		/* of the class whose permit it had last */
-		uint64_t ends;		/* that permit; 0: it went on without one */
-		uint32_t contexts;	/* so many it began by that */
-		uint32_t waits, had_waited; /* how often it waited for a lock, and had then */
+		uint64_t ends;		/* when that permit ends; 0: it went on without one */
+		uint32_t contexts;	/* how many it began with that */
+		uint32_t waits, had_waited; /* how often it has waited for a lock, and had when the permit began */
 	} permit;
 };
 WW_HIDDEN extern __thread struct ww_mine ww_mine __attribute__((tls_model("initial-exec")));
 
-/* A number for a mutex that WW_MUTEX_INIT made, unless it has one: 0, or as ww_mutex_init_checked. */
+/* Gives a number to a mutex that WW_MUTEX_INIT made, unless it has one. Returns 0, or an error of ww_mutex_init_checked. */
 WW_HIDDEN int ww_number_at_first(struct ww_mutex *m);
-/* NULL: it isn't initialized. */
+/* NULL if it isn't initialized. */
 WW_HIDDEN struct ww_class *ww_class_of(const struct ww_mutex *m);
-/* A number that is free: -ENOSPC, and in a forked child -EINVAL. */
+/* Takes a number that is free; -ENOSPC if there is none, and -EINVAL in a forked child. */
 WW_HIDDEN int ww_take_number(struct ww_pool *p, uint32_t *number);
 WW_HIDDEN void ww_give_number(struct ww_pool *p, uint32_t number);
-/* Opens the class, where it isn't, and so many threads keep a seat of it. */
+/* Opens the class, unless it is open; then up to this many threads keep a seat of it. */
 WW_HIDDEN int ww_class_open_kept(struct ww_class *c, uint32_t kept);
-/* Where the seat that this thread had last isn't at hand: any other that it may use now; or NULL. */
+/* Any seat that this thread may use now, if the one that it used last isn't at hand; or NULL. */
 WW_HIDDEN ww_seat *ww_other_seat(struct ww_pool *p);
-/* The same of a begin: NULL in a crowd, too. */
+/* The same to begin a context: NULL in a crowd, too. */
 WW_HIDDEN ww_seat *ww_seat_to_begin(struct ww_pool *p);
-/* By whoever isn't its keeper. */
+/* Releases a seat, by a thread that isn't its keeper. */
 WW_HIDDEN void ww_give_seat(ww_seat *s);
-/* Waits for a seat behind all who wait already, until a time if that isn't NULL: -ETIMEDOUT; -EINVAL in a child. */
+/* Waits for a seat, after all that wait already, until a time if that isn't NULL (-ETIMEDOUT); -EINVAL in a child. */
 WW_HIDDEN int ww_seek_seat(struct ww_pool *p, const struct timespec *until, ww_seat **s);
-/* For polls: any that is free, unless it is another's turn; or NULL. */
+/* For polls: any seat that is free, unless it is another's turn; or NULL. */
 WW_HIDDEN ww_seat *ww_task_seat(struct ww_pool *p);
-/* Its turn may have come: it has a seat then, and waits no more.  The queue is locked; whom to call with nothing locked. */
+/* If its turn has come it gets a seat, and waits no more.  The queue is locked; the caller calls the waker once it isn't. */
 WW_HIDDEN struct ww_waker ww_look_again(struct ww_seek *me);
-/* It waits behind all who wait already, unless it has a seat at once: true. And no more, unless it has one: false. */
+/* Gets a seat immediately (true), or waits from now on, after all that wait already. */
 WW_HIDDEN bool ww_queue_up(struct ww_seek *me);
+/* Stops waiting; false if it has got a seat. */
 WW_HIDDEN bool ww_leave_queue(struct ww_seek *me);
-/* Begins a context by a seat, unless r isn't 0: what ww_acquire_init_checked then answers. */
+/* Begins a context by a seat, if r is 0; else the context has ended, and r is returned. */
 WW_HIDDEN int ww_begin_by(struct ww_acquire_ctx *x, ww_seat *s, int r);
-/* Whether a context that isn't in a loop may lock the mutex: 0, or what its call answers. */
+/* Whether a context may lock the mutex: 0, or the error that its call returns. */
 WW_HIDDEN int ww_may_lock(const char *call, struct ww_mutex *m, struct ww_acquire_ctx *x);
-/* Of a lock call that has to wait, and has waited; and what one comes to by its last step. */
+/* A lock call has to wait; and its wait is over. */
 WW_HIDDEN void ww_begin_wait(struct ww_mutex *m, struct ww_acquire_ctx *x, ww_seat *s, const struct timespec *until);
 WW_HIDDEN void ww_end_wait(struct ww_mutex *m, struct ww_acquire_ctx *x, ww_seat *s, int r);
+/* What a lock call returns whose last step returned r. */
 WW_HIDDEN int ww_lock_ends(struct ww_mutex *m, struct ww_acquire_ctx *x, ww_seat *s, int r);
-/* The mutex of a number, and what its lock call answered: see ww_number.c. */
+/* The mutex of a number, and what its lock call returns: see ww_number.c. */
 WW_HIDDEN struct ww_mutex *ww_number_asked(const char *call, uint32_t number, const struct ww_acquire_ctx *x, int r);
 WW_HIDDEN int ww_number_told(struct ww_mutex *m, const struct ww_acquire_ctx *x, int r);
-/* How many there are for this thread, but MANY_PERMITS at most. */
+/* How many processors this thread may use, at most MANY_PERMITS. */
 WW_HIDDEN uint32_t ww_processors(void);
 WW_HIDDEN void ww_crowd_open(struct ww_pool *p);
-/* In a crowd: this thread begins a context, and waits for a permit, until a time if that isn't NULL. */
+/* Called in a crowd before a context begins: waits for a permit, until a time if that isn't NULL. */
 WW_HIDDEN void ww_await_permit(struct ww_pool *p, const struct timespec *until);
-/* So many wait for one. */
+/* How many threads wait for one. */
 WW_HIDDEN uint32_t ww_permit_seekers(struct ww_pool *p);
 static inline bool is_crowded(const struct ww_pool *p) { return __atomic_load_n(&p->at_hand, __ATOMIC_RELAXED) == CROWDED; }
-/* Whether the mutex could be acquired at once; at a glance, for all but who knows that nobody uses it. */
+/* Whether the mutex could be acquired. It may be out of date when it returns, unless nobody else uses the mutex. */
 WW_HIDDEN bool ww_is_released(struct ww_pool *p, struct ww_mutex *m);
 
 static inline int pool_of(struct ww_class *c, struct ww_pool **p)
@@ -171,25 +174,25 @@ static inline int pool_of(struct ww_class *c, struct ww_pool **p)
 	return r;
 }
 
-/* One more: by whoever may write it alone, while others read it. */
+/* Counts one more. Only one thread writes the number at a time, while others read it. */
 static inline void count(uint64_t *counted)
 {
 	__atomic_store_n(counted, __atomic_load_n(counted, __ATOMIC_RELAXED) + 1, __ATOMIC_RELAXED);
 }
 
-/* How many have an owner; whoever gives one doesn't look at anything but the lock afterwards. */
+/* How many numbers are in use; a thread that puts one back accesses nothing but the lock afterwards. */
 static inline uint32_t taken_numbers(const struct ww_pool *p) { return __atomic_load_n(&p->taken, __ATOMIC_ACQUIRE); }
 
-/* Those that contexts may have. */
+/* The number of seats that contexts may have. */
 static inline uint32_t seats_of(const struct ww_pool *p) { return p->kept + p->loose.count + p->tasks.count; }
 
-/* Those of polls. */
+/* The seats that polls use. */
 static inline struct ww_loose *of_tasks(struct ww_pool *p) { return p->tasks.count ? &p->tasks : &p->loose; }
 
-/* NULL: it has no number.  Where it has one its number is to be seen, whoever gave it. */
+/* NULL if it has no number.  Otherwise the caller sees its number too, whichever thread gave it. */
 static inline struct ww_pool *pool_at(const struct ww_mutex *m) { return __atomic_load_n(&m->pool, __ATOMIC_ACQUIRE); }
 
-/* The seat by which it is held without a context, or NULL: of all that lies there at other times nothing is odd. */
+/* The seat by which it is held without a context, or NULL: anything else that lies there is even. */
 static inline ww_seat *seat_of(const struct ww_mutex *m)
 {
 	uintptr_t at = (uintptr_t)__atomic_load_n(&m->alone, __ATOMIC_ACQUIRE);
@@ -198,7 +201,7 @@ static inline ww_seat *seat_of(const struct ww_mutex *m)
 	return at & 1 ? (ww_seat *)(at ^ 1) : NULL;
 }
 
-/* It is the newest of what the context acquired. */
+/* Puts the mutex into the list of what the context acquired, as the newest. */
 static inline void enlist(struct ww_acquire_ctx *x, struct ww_mutex *m)
 {
 	__atomic_store_n(&m->older, x->newest, __ATOMIC_RELAXED);
@@ -206,15 +209,14 @@ static inline void enlist(struct ww_acquire_ctx *x, struct ww_mutex *m)
 }
 
 /*
- * This thread has the seat: said as it keeps it, and by each lock without a context that takes another one.  Nobody looks
- * but by a mutex that is held with it, later.
+ * This thread uses the seat: called when it comes to keep it, and by each lock without a context that takes another one.
+ * Others read that only through a mutex that is held by the seat, so later.
  */
 static inline void is_user(ww_seat *s) { __atomic_store_n(&s->user, ww_mine.thread, __ATOMIC_RELAXED); }
 
 /*
- * The seat that this thread used last, if it keeps it, it is of this class, and nobody uses it: a context that was begun here
- * may go on elsewhere, and what that thread wrote in the seat goes with `busy` (ww_give_seat).  Nobody else sets it then,
- * so the store is relaxed.
+ * The seat, which this thread keeps, or NULL if it is in use: a context that was begun here may go on in another thread,
+ * which releases what it wrote in the seat by `busy` (ww_give_seat).  Nobody else sets `busy` then, so the store is relaxed.
  */
 static inline ww_seat *use_kept(ww_seat *s)
 {
@@ -241,7 +243,7 @@ static inline ww_seat *seat_at_once(struct ww_pool *p)
 
 static inline bool has_seekers(const struct ww_loose *of) { return __atomic_load_n(&of->seekers, __ATOMIC_SEQ_CST); }
 
-/* Where it is in use, what `busy` of it is then is added to `seen`. */
+/* If it is in use, its `busy` is added to `seen`. */
 static inline bool claim(ww_seat *s, uint64_t *seen)
 {
 	uint32_t was = __atomic_load_n(&s->busy, __ATOMIC_SEQ_CST);
@@ -255,17 +257,17 @@ static inline bool claim(ww_seat *s, uint64_t *seen)
 }
 
 /*
- * Whether a begin has to wait behind others, though a seat be free.  Where tasks have seats of their own, to hand each to whoever
- * waits longest would make each context a change of tasks: so whoever gives one calls somebody who waits, unless one who was called
- * for this seat hasn't looked yet, and others begin meanwhile.  If the first in the queue finds none free it is owed the next one:
- * that is handed over, and until then nobody else begins.
+ * Whether a begin has to wait for others, even if a seat is free.  Where tasks have seats of their own, handing each to the
+ * task that waits longest would make each context a change of tasks.  So the task that gives a seat calls one that waits,
+ * unless one that was called for this seat hasn't looked yet, and others begin meanwhile.  If the first in the queue finds no
+ * seat free, it is owed the next one: that is handed to it, and until then nobody else begins.
  */
 static inline bool is_barred(const struct ww_loose *of, const struct ww_pool *p)
 {
 	return of == &p->loose ? has_seekers(of) : __atomic_load_n(&of->owed, __ATOMIC_SEQ_CST);
 }
 
-/* The loose one that this thread had last, if that was of the class, or the tasks, of this number. */
+/* The loose seat that this thread used last, if it belongs to the class, or the tasks, with this number, and is free. */
 static inline ww_seat *claim_last(const struct ww_loose *of, const struct ww_pool *p, uint64_t id)
 {
 	ww_seat *s = ww_mine.last.seat;
@@ -275,20 +277,21 @@ static inline ww_seat *claim_last(const struct ww_loose *of, const struct ww_poo
 }
 
 /*
- * The age of a context is the stamp of its seat in the proved library.  Where a context backs off by itself, and met nobody,
- * that of the proved library goes on when it ends: the seat rests, and the next context by it has the same age, unless that
- * one acquires by hand first.  So threads that don't meet don't meet at the class's stamp either, but at every 16th context.
+ * The age of a context is the timestamp of its seat in the proved library.  If a context retries by itself, and met nobody,
+ * the proved library's context isn't ended with it: the seat *rests*, and its next context has the same age, unless that one
+ * acquires by hand first.  So threads that don't collide don't meet at the class's timestamp either, except with every
+ * 16th context.
  *
- * `ages` is how many contexts may still have this age, the one that there is included, plus MET; MET, if that one met
- * somebody; or 0: it is by hand, or the seat has none, nor has the proved library.  Only its keeper lets a seat rest, so a
- * loose one never does.
+ * `ages` is how many contexts may still have this age, the present one included, plus MET.  It is MET if the present one met
+ * somebody; and 0 if that one acquires by hand, or neither the seat nor the proved library has a context.  Only its keeper lets
+ * a seat rest, so a loose seat never does.
  */
 enum { MET = 1, SHARE_AGE = 16 };
 
-/* Its context has just waited, or released what somebody waited for, so it is the last one of this age. */
+/* Its context has just waited, or released a mutex for which somebody waited; so it is the last one of this age. */
 static inline void has_met(ww_seat *s) { s->ages = MET; }
 
-/* The seat rests no more: by its user, before it has another one. */
+/* Ends the seat's rest. Its user calls this before it uses the seat for anything else. */
 static inline void stop_rest(ww_seat *s)
 {
 	if (UNLIKELY(s->ages)) {
@@ -297,7 +300,7 @@ static inline void stop_rest(ww_seat *s)
 	}
 }
 
-/* It backs off by itself. In the debug library each context has an age of its own. */
+/* The context retries by itself, so it may share an age. In the debug library each context has an age of its own. */
 static inline void may_be_older(struct ww_acquire_ctx *x)
 {
 	ww_seat *s = x->own;
@@ -310,8 +313,8 @@ static inline void may_be_older(struct ww_acquire_ctx *x)
 }
 
 /*
- * Nobody but its user may free the class until then.  The keeper changes while nobody uses it, but that whoever keeps it no
- * more says so first (let_go): to all who aren't that thread it makes no difference, so it is relaxed.
+ * Releases a seat; until then nobody but its user may free the class.  The load of `keeper` is relaxed: it changes while
+ * nobody uses the seat, except that a thread that stops keeping it says so first (let_go), which matters to no other.
  */
 static inline void give_seat(ww_seat *s)
 {
@@ -322,8 +325,8 @@ static inline void give_seat(ww_seat *s)
 }
 
 /*
- * A seat that no context has, so that whatever has to be done at once is, though all
- * contexts are in use: it calls off waits, and tells whether a lock is free.
+ * The spare seat, which no context has.  It cancels waits, and finds out whether a lock is free, which is to be done
+ * immediately, even if all contexts are in use.
  */
 static inline ww_seat *borrow_spare(struct ww_pool *p)
 {
@@ -332,10 +335,10 @@ static inline ww_seat *borrow_spare(struct ww_pool *p)
 }
 static inline void put_spare(struct ww_pool *p) { pthread_mutex_unlock(&p->spare); }
 
-/* The pool of a context that has ended, or whose lock calls have more to do: no mutex has it. */
+/* The pool of a context that has ended, or whose lock calls take the long way: no mutex has this pool. */
 #define NO_POOL ((struct ww_pool *)1)
 
-/* Of a context's state: what ww_acquire_flags said, what a loop has to do, and what only the debug library asks for. */
+/* The bits of a context's state: the flags of ww_acquire_flags, what a loop has to do, and those of the debug library. */
 enum {
 	FLAGS = WW_IGNORE_DUPLICATES | WW_INTERRUPTIBLE,
 	HAS_TO_BACK_OFF = WW_HAS_TO_BACK_OFF_,
@@ -347,45 +350,46 @@ enum {
 	IS_POLLED = 128, /* a lock call of ww_poll.h waits */
 };
 
-/* In a forked child a call by the seat stays on its way, by go_on of ww_mutex.c, and each other one answers this. */
+/* In a forked child a call by the seat never ends (go_on of ww_mutex.c), so each further one returns -EBUSY. */
 static inline bool is_let_go(const ww_seat *s, int r) { return r == -EBUSY && s->pool->gone; }
 
-/* Amid ww_until_all_locked, or behind it: it backs off by itself, and what it acquired is listed. */
+/* In ww_until_all_locked, or after it: the context retries by itself, and what it acquired is listed. */
 static inline bool is_loop(const struct ww_acquire_ctx *x) { return x->gives != x->own; }
 
 /*
- * The words of the proved library's locks, two for each: as that is compiled, a seat's memory begins with the address of its
- * table, which has theirs behind its first word, and 16 words come before.  tests/mutex_numbers.c sees that it is so.
+ * The words of the proved library's locks, two for each.  As that library is compiled, a seat's memory begins with the address
+ * of its table.  The table's second word is the address of an array, in which 16 words come before these.
+ * tests/mutex_numbers.c tests that it is so.
  */
 static inline const uint64_t *words_of(const ww_seat *s) { return (const uint64_t *)(*(void **const *)s->handle.at)[1] + 16; }
 
-/* Whether the context has begun, and is of the mutex's class, which has given that a number; it may be NULL. */
+/* Whether the mutex has a number, and the context, if that isn't NULL, has begun and is of the same class. */
 static inline bool fits(const struct ww_mutex *m, const struct ww_acquire_ctx *x)
 {
 	return x ? x->own && pool_at(m) == x->own->pool : pool_at(m) != NULL;
 }
 
-/* How a mutex is asked for: the wait may be called off; it is the first one after -EDEADLK. */
+/* How to lock a mutex. HEEDS: a cancel may end the wait. SLOWLY: it is the first lock after -EDEADLK. */
 enum { STAYS = 0, HEEDS = 1, SLOWLY = 2 };
-/* All of a lock by this seat, which is the context's, if that isn't NULL. */
+/* Makes all steps of a lock by this seat, which is the context's, if that isn't NULL. */
 WW_HIDDEN int ww_lock_by(struct ww_mutex *m, struct ww_acquire_ctx *x, ww_seat *s, unsigned int way, const struct timespec *until);
-/* All of a release but the first step, which answered r, not 0. */
+/* Makes all steps of a release after the first one, which returned r, not 0. */
 WW_HIDDEN int ww_release_on(ww_seat *s, int r);
-/* A lock in a loop; and what a lock there comes to, by what the proved library answered at last. */
+/* Locks in a loop. */
 WW_HIDDEN int ww_lock_in_loop(struct ww_mutex *m, struct ww_acquire_ctx *x, unsigned int way, const struct timespec *until);
+/* What a lock call in a loop returns, if the proved library returned r. */
 WW_HIDDEN int ww_looped(struct ww_mutex *m, struct ww_acquire_ctx *x, int r);
 WW_HIDDEN bool ww_was_prelocked(struct ww_acquire_ctx *x, struct ww_mutex *m);
-/* The mutex stands on the list of what the context acquired, and no more. */
+/* Removes the mutex from the list of what the context acquired. */
 static inline void unlist(struct ww_acquire_ctx *x, const struct ww_mutex *m)
 {
 	struct ww_mutex **link = &x->newest;
 
 	while (*link != m)
 		link = &(*link)->older;
-	__atomic_store_n(link, m->older, __ATOMIC_RELAXED); /* where others look for a seat meanwhile */
+	__atomic_store_n(link, m->older, __ATOMIC_RELAXED); /* others may read it as `alone` meanwhile */
 }
 
-/* What the debug library does beside each call. */
 #ifdef WW_DEBUG
 #include "ww_debug.h"
 #define DEBUG(call) call
@@ -402,7 +406,7 @@ static inline void unlist(struct ww_acquire_ctx *x, const struct ww_mutex *m)
 #define ww_debug_lists() false
 #endif
 
-/* Of a class, if that isn't NULL. */
+/* Writes a message, with the name of the class, if that isn't NULL. */
 __attribute__((cold)) static inline void say_of(const struct ww_class *c, const char *call, const char *why)
 {
 	fprintf(stderr, "%s: ", call);
@@ -411,7 +415,7 @@ __attribute__((cold)) static inline void say_of(const struct ww_class *c, const 
 	fprintf(stderr, "%s\n", why);
 }
 
-/* Ends the program, and says of which class, where that isn't NULL. */
+/* Ends the program with a message, with the name of the class, if that isn't NULL. */
 __attribute__((noreturn, cold)) static inline void end_of(const struct ww_class *c, const char *call, const char *why)
 {
 	ww_debug_fault(call, why);
@@ -421,7 +425,7 @@ __attribute__((noreturn, cold)) static inline void end_of(const struct ww_class 
 
 __attribute__((noreturn, cold)) static inline void end(const char *call, const char *why) { end_of(NULL, call, why); }
 
-/* Why a class gave no number or no seat, in words. */
+/* A message for an error: why a class gave no number or no seat. */
 static inline const char *told(int r)
 {
 	switch (r) {
@@ -432,6 +436,6 @@ static inline const char *told(int r)
 	}
 }
 
-/* By which a thread can sleep; NULL is for ever. */
+/* Whether a thread can sleep until this time; NULL is forever. */
 static inline bool is_time(const struct timespec *at) { return !at || (at->tv_nsec >= 0 && at->tv_nsec < 1000000000); }
 #endif

@@ -47,7 +47,7 @@ fn told(name: &str) -> Option<String> {
     env::var(name).ok().filter(|word| !word.is_empty())
 }
 
-/// What orders the accesses under a lock the library tells the sanitizer, where it is built for it.
+/// Whether this is built for the thread sanitizer: then the library's C says what orders the accesses under a lock.
 fn sanitizes_threads() -> bool {
     env::var("CARGO_CFG_SANITIZE").is_ok_and(|all| all.split(',').any(|it| it == "thread"))
 }

@@ -1,5 +1,5 @@
 /*
- * What nobody promises: that whoever waits gets its lock.  Two contexts take one
+ * What nobody promises: that a waiter gets its lock.  Two contexts take one
  * lock by turns, each within its one context; a third, younger than both, stands
  * behind them in the list, and sleeps for as long as they go on.  All calls are
  * made step by step in one thread, so each run is the same.

@@ -27,12 +27,12 @@ def read(path):
 
 
 def version():
-    """That of the library, as ww_steps.h has it."""
+    """The library's version, as in ww_steps.h."""
     return ".".join(re.findall(r"#define WW_VERSION_[A-Z]+ (\d+)", read(f"{C}/ww_steps.h").decode()))
 
 
 def pack(folder, library, platform, more=()):
-    """Writes the wheel of this library into the folder; its name."""
+    """Writes the wheel of this library into the folder, and returns its name."""
     number, tag = version(), f"py3-none-{platform}"
     info = f"{NAME}-{number}.dist-info"
     metadata = f"Metadata-Version: 2.1\nName: {NAME}\nVersion: {number}\nSummary: wound/wait mutexes over a proved core\nRequires-Python: >=3.9\n"
@@ -58,7 +58,7 @@ def pack(folder, library, platform, more=()):
 
 
 def build_wheel(wheel_directory, config_settings=None, metadata_directory=None):
-    """What pip calls."""
+    """Called by pip."""
     with tempfile.TemporaryDirectory() as out:
         subprocess.run(["make", "-s", "-C", C, f"OUT={out}", f"{out}/libww.so"], check=True)
         platform = re.sub(r"[-.]", "_", sysconfig.get_platform())

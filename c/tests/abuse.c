@@ -1,7 +1,7 @@
 /*
- * Four threads make any step in any state, with any number: every answer is a
- * code, and every lock exclusive.  Then handles that were never opened, or were
- * closed.
+ * Four threads make any step in any state, with any number: every step returns
+ * one of the codes, and every lock is exclusive.  Then they do so by handles that
+ * were never opened, or were closed.
  */
 #include "test.h"
 

@@ -1,7 +1,7 @@
 /*
- * Whose age a context has.  By hand it is that of its own ww_acquire_init; one that backs off by itself may have that of
- * an earlier one of its thread, as long as no context of that age met anybody.  In Wait-Die the younger of two contexts
- * is told -EDEADLK where it asks for what the other holds, and the older one waits: that tells their ages.
+ * Which age a context has.  A context that acquires by hand has that of its own ww_acquire_init.  One that retries by itself
+ * may have that of an earlier one of its thread, as long as no context of that age met anybody.  In Wait-Die the younger of
+ * two contexts gets -EDEADLK when it asks for what the other holds, and the older one waits: that shows their ages.
  */
 #include "mutex_test.h"
 #include "../ww_number.h"
@@ -16,7 +16,7 @@ static struct ww_mutex m[MUTEXES];
 static uint32_t number, other_number; /* two more */
 static struct ww_acquire_ctx x, y; /* x is the main thread's, and y that of another one */
 
-/* ---- another thread, which does what it is told ---- */
+/* ---- another thread, which makes the calls that this one names ---- */
 
 static sem_t told, done;
 static void (*task)(void);
@@ -249,7 +249,7 @@ static void one_gives_way_so_often(void)
 	MUST(count == SHARE_AGE - 1);
 }
 
-/* ---- whoever met somebody goes on no more ---- */
+/* ---- a context that met somebody is the last one of its age ---- */
 
 static bool y_wants_number;
 static void y_locks_it(void)
@@ -288,7 +288,7 @@ static void y_lets_0_go_late(void)
 	awaits_sleeper(&x);
 	y_lets_0_go();
 }
-/* Whoever met somebody does so for the rest of the context. */
+/* That it met somebody counts for the rest of the context. */
 static void another_one(void)
 {
 	ww_acquire_flags(&x, WW_MAY_BE_OLDER);
@@ -347,7 +347,7 @@ static void it_waits_in_vain(void)
 	ww_acquire_fini(&x);
 	there(y_lets_0_go);
 }
-/* It is told -EDEADLK: first it draws an age, younger than y's. */
+/* It gets -EDEADLK: first it draws an age, younger than y's. */
 static void it_backs_off(void)
 {
 	int r = 0;

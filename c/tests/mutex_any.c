@@ -1,7 +1,7 @@
 /*
  * Four threads make any call of ww_mutex.h in any state, each with a context of its
- * own and mutexes that all share.  What each may answer follows from the answers
- * before, so every answer is asked for exactly, and every mutex is exclusive.
+ * own and mutexes that all share.  What a call may return follows from what the calls
+ * before returned, so each value is checked exactly, and every mutex is exclusive.
  */
 #include "mutex_test.h"
 
@@ -46,7 +46,7 @@ static int refusal(const struct mine *m, unsigned n)
 	return !m->runs || (m->count && m->told != NONE) ? -EINVAL : 0;
 }
 
-/* heeds: it may be called off; until: and have its time. */
+/* heeds: a cancel may end it; until: and a time. */
 static void ends(struct mine *m, unsigned n, int refused, bool heeds, bool until, int r)
 {
 	if (refused) {

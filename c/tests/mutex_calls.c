@@ -1,5 +1,5 @@
 /*
- * The calls of ww_mutex.h, one after another, in both kinds: what each answers, and
+ * The calls of ww_mutex.h, one after another, in both kinds: what each returns, and
  * what a program that is written for the kernel relies on.
  */
 #include "mutex_test.h"

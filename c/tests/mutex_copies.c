@@ -1,7 +1,7 @@
 /*
- * Two copies of the library in one program, as two plugins have it that are linked with the archive.  Each has classes of its
- * own, whose contexts are lawful; of one that the other copy opened each call that takes a seat or all of it ends the
- * program, and says why.  mutex_copies LIBRARY LIBRARY
+ * Two copies of the library in one program, as two plugins that are linked with the archive have.  Each has classes of its
+ * own, whose contexts work.  For a class that the other copy opened, each call that takes a seat, or is about the whole class,
+ * ends the program with a message.  mutex_copies LIBRARY LIBRARY
  */
 #include "mutex_test.h"
 #include <dlfcn.h>

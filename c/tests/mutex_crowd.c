@@ -1,7 +1,7 @@
 /*
- * Crowds: where at least twice as many threads sleep as there are permits, threads begin contexts by permits, in turn.  No
- * wait for a permit is endless, and a thread that runs a context waits for none; everybody gets on; and where there is no crowd any
- * more, or permits are no help, nothing is left of it.
+ * Crowds: once at least twice as many threads sleep as there are permits, threads begin contexts by permits, in turn.  No wait
+ * for a permit is endless; a thread that runs a context waits for none; and every thread makes progress.  Once there is no
+ * crowd any more, or permits are no help, nothing is left of it.
  */
 #include "mutex_test.h"
 #include "../ww_pool.h"
@@ -309,7 +309,7 @@ static void crowds(void)
 	all_made(&most);
 	MUST(most < FAIR * QUICK);
 	calms_down();
-	/* Those that sleep under their mutexes wait for no permit, but for a few. */
+	/* Those that sleep under their mutexes wait for no permit, except a few. */
 	nap = 1000;
 	least = SLOW;
 	mutexes = WARM;

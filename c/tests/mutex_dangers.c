@@ -1,6 +1,6 @@
 /*
- * What libww_debug tells of calls that are right by themselves: each danger once a call, each deadlock that no class
- * detects with all of its threads, and none where there is none; and what ww_class_print writes as things come and go.
+ * What libww_debug warns of, though the calls are right by themselves: each warning once for a call, each deadlock that no
+ * class detects with all of its threads, and none if there is none.  And what ww_class_print writes in each situation.
  */
 #ifndef WW_DEBUG
 #define WW_DEBUG
@@ -343,7 +343,7 @@ static void waits_for_what_was_left(bool for_context)
 static void for_a_mutex(void) { waits_for_what_was_left(false); }
 static void for_a_context(void) { waits_for_what_was_left(true); }
 
-/* Each of two threads waits for a context, and has one: no cycle of mutexes, so it is told by its time alone. */
+/* Each of two threads waits for a context, and has one: no cycle of mutexes, so only its time shows it. */
 static void no_context_left(void)
 {
 	__atomic_store_n(&ahead, -11, __ATOMIC_RELAXED);
@@ -426,7 +426,7 @@ static void one_is_woken(void)
 
 static struct ww_mutex firsts[3], seconds[3], outside[2];
 
-/* Takes two of three and then two of three others, now and then amid a lock without a context: long enough that others look. */
+/* Takes two of three and then two of three others, now and then during a lock without a context: long enough that others look. */
 static void *goes_on(void *arg)
 {
 	unsigned draws = 1 + (unsigned)(size_t)arg;

@@ -1,7 +1,7 @@
 /*
- * What libww_debug tells: each wrong call with its line and the calls that led to it;
- * -EDEADLK without need, after which a program goes on; and who waits for whom: with
- * the word `waits` that alone, for tools/picture.
+ * What libww_debug does: it reports each misuse with its line and a backtrace; it returns
+ * -EDEADLK without need, after which a program goes on; and it shows who waits for whom
+ * (with the word `waits` the test does only that, for tools/picture).
  */
 #ifndef WW_DEBUG
 #define WW_DEBUG
@@ -104,7 +104,7 @@ static void *is_to_end(void *arg)
 	return NULL;
 }
 
-/* A thread that pthread_cancel told to end doesn't amid a message: the call comes back, and others may write. */
+/* pthread_cancel doesn't end a thread during a message: the call returns, and others may write. */
 static void told_by_a_thread_that_ends(void)
 {
 	bool comes_back = false;
@@ -170,7 +170,7 @@ static void tells(void (*what)(void), const char *message)
 	}
 }
 
-/* A program that backs off as it should gets there, however often it is told to. */
+/* A program that backs off as it should gets its locks, however often it has to. */
 static void goes_on(void)
 {
 	struct ww_mutex list[6], *locks[6];

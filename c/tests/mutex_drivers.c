@@ -1,7 +1,7 @@
 /*
- * What code that was written for the kernel's mutexes names of ww_mutex.h besides its
- * calls: `base`, as Linux asserts that a mutex is held; and a mutex that is there before
- * any call, whose number its first lock gives it; who holds one; marks; counts.
+ * What code that was written for the kernel's mutexes uses besides the calls: `base`, by
+ * which Linux asserts that a mutex is held; and a mutex that exists before any call, and
+ * gets its number at its first lock.  Also which context holds a mutex, marks, and counts.
  */
 #include "mutex_test.h"
 #include <stddef.h>
@@ -463,7 +463,7 @@ static void rolls_back(void)
 		MUST(were_released("543") && x.acquired == 3 && ww_mutex_is_held_by(&list[2], &x));
 		ww_acquire_unlock_to(&x, mark);
 		MUST(were_released(""));
-		/* One that came since the mark was released amid the others, and then one of before it. */
+		/* One that came since the mark was released among the others, and then one from before it. */
 		lock_those(&x, 3, 6);
 		ww_mutex_unlock(&list[4]);
 		ww_acquire_unlock_to(&x, mark);
@@ -523,7 +523,7 @@ static void rolls_back_what_it_owed(void)
 		MUST(!ww_mutex_destroy(&list[k]));
 }
 
-/* In a loop that was told to back off: the mutex that it waited for first goes with what came since the mark. */
+/* In a loop that got -EDEADLK: the mutex that it waited for first is released with what came since the mark. */
 static void rolls_back_after_a_wait(void)
 {
 	struct ww_acquire_ctx older, x;
@@ -616,7 +616,7 @@ static void without_contention(void)
 	MUST(are_counted(0, 0) && !lock_waits());
 }
 
-/* One waits, for another that is told to back off; that may take it more than a step, too. */
+/* One waits, for another that gets -EDEADLK; that may take it more than a step, too. */
 static void with_contention(struct ww_acquire_ctx *younger)
 {
 	pthread_t thread;

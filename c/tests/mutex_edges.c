@@ -1,6 +1,6 @@
 /*
- * Edges of ww_mutex.h: what a context in a loop may do after a back-off, who may destroy
- * and free a mutex when, times that are none, a forked child, and a class that isn't freed.
+ * Edges of ww_mutex.h: what a context in a loop may do after a back-off, when a mutex may be
+ * destroyed and freed, times that are invalid, a forked child, and a class that isn't freed.
  * The step that releases a lock comes by a wrapper (ld --wrap).
  */
 #include "mutex_test.h"
@@ -111,7 +111,7 @@ static void locks_all(void)
 	MUST(!ww_mutex_lock(&b, &x) && !ww_mutex_lock(&a, &x) && !ww_mutex_lock(&d, &x) && x.acquired == 3);
 }
 
-/* As the kernel's documents have it, amid a loop: so the loop has nothing more to do. */
+/* As the kernel's documents write it, inside a loop: so the loop has nothing more to do. */
 static void backs_off_by_hand(void)
 {
 	unsigned bodies = 0;
@@ -205,7 +205,7 @@ static void takes_child_out(struct child *it)
 	drop(it);
 }
 
-/* What it was told at is taken out before the body begins again: it waits for that one all the same, which a reference keeps. */
+/* The contended mutex is taken out before the body begins again: it waits for that one all the same, which a reference keeps. */
 static void waits_for_what_is_out(void)
 {
 	struct child *kept = NULL;
@@ -272,7 +272,7 @@ static void *uses(void *arg)
 	return NULL;
 }
 
-/* Asked until nobody holds it, and then freed at once: whoever released it is through with it. */
+/* Asked until nobody holds it, and then freed immediately: the thread that released it is through with it. */
 static void is_freed_at_once(void)
 {
 	pthread_t thread = begin_thread(uses, NULL);

@@ -1,6 +1,6 @@
 /*
- * What the kernel's calls can't answer ends the program, and says why under the
- * call's name: each such end is one of a child.  And what a forked child may do.
+ * Errors that the kernel's calls can't return end the program, with a message that names
+ * the call: each such end is that of a child.  And what a forked child may do.
  */
 #include "mutex_test.h"
 #include <signal.h>
@@ -10,7 +10,7 @@ static DEFINE_WD_CLASS(c);
 static DEFINE_WW_CLASS(other);
 static DEFINE_WD_CLASS(small);
 static struct ww_mutex a, b, its;
-static struct ww_acquire_ctx x, y; /* x holds a, and y was told so */
+static struct ww_acquire_ctx x, y; /* x holds a, at which y got -EDEADLK */
 
 static void fini_with_a_mutex(void) { ww_acquire_fini(&x); }
 static void fini_twice(void)
@@ -170,7 +170,7 @@ static void *works(void *arg)
 	return NULL;
 }
 
-/* Forks while other threads are amid their calls; the parent goes on as ever. */
+/* Forks while other threads are in their calls; the parent goes on as ever. */
 static void forks(void)
 {
 	pthread_t threads[4];

@@ -1,6 +1,6 @@
 /*
- * The program ends while a thread goes on, whose first use of the library comes behind the library's own end.  What other
- * code has made then, a key for thread-specific data that may be the library's former one, isn't touched.
+ * The program ends while a thread goes on, whose first use of the library comes after the library's own end.  A key for
+ * thread-specific data that other code has made since then, maybe with the number of the library's, isn't touched.
  */
 #include "mutex_test.h"
 

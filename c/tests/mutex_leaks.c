@@ -1,6 +1,6 @@
 /*
- * Contexts that are left without ww_acquire_fini: who waits for one says so after ten seconds, once, and only where none
- * was given meanwhile; and goes on waiting.
+ * Contexts that are left without ww_acquire_fini: a thread that waits for a context reports that after ten seconds, once, and
+ * only if none was given meanwhile; and it goes on waiting.
  */
 #include "mutex_test.h"
 
@@ -143,7 +143,7 @@ static void is_given_meanwhile(void)
 	ends_again();
 }
 
-/* pthread_cancel doesn't end the thread amid the message: its wait is in the queue. */
+/* pthread_cancel doesn't end the thread during the message: its wait is in the queue. */
 static void is_to_end(void)
 {
 	struct ww_acquire_ctx y;

@@ -1,6 +1,7 @@
 /*
- * The table of a loop's states at the head of ww_loop.c, walked row by row: a context is
- * brought into the state, makes the call, and has to answer and to stand as the table says.
+ * The table of a loop's states at the head of ww_loop.c, tested row by row: a context is brought
+ * into the state, makes the call, which has to return what the table says, and is then in the state
+ * that the table says.
  */
 #include "mutex_test.h"
 #include "../ww_pool.h"
@@ -213,7 +214,7 @@ static void walks(const struct row *row)
 			row->answer, states[state_of()], states[row->then]);
 		exit(1);
 	}
-	/* What it answered is so: it holds what it was told to, and no more but what it waited for first. */
+	/* What it returned is so: it holds what its calls returned, and besides only what it waited for first. */
 	if (row->call <= TRY || row->call == ALL) {
 		bool got = row->call == TRY ? r == 1 : r == 0;
 
@@ -242,7 +243,7 @@ static void walks(const struct row *row)
 	ww_acquire_fini(&older);
 }
 
-/* What is told to a loop is evaluated once. */
+/* The arguments of a loop are evaluated once. */
 static void is_told_once(void)
 {
 	unsigned times = 0, bodies = 0;

@@ -1,6 +1,6 @@
 /*
  * Many threads: a thousand on sixteen mutexes, with a context each and with fewer contexts than
- * threads, and 64 on as many mutexes as a class may have.  What each adds under its mutexes is there.
+ * threads, and 64 on as many mutexes as a class may have.  Nothing that they add under their mutexes is lost.
  */
 #include "mutex_test.h"
 

@@ -1,7 +1,7 @@
 /*
- * Contexts that begin in one thread and end in another, by threads that come and go, and some that end while a context of
- * theirs goes on; in classes of few contexts, whose seats are anybody's, and of such as threads keep.  Each seat has one user,
- * each mutex one holder, and no seat is lost.  mutex_moves TIMES.
+ * Contexts that begin in one thread and end in another.  Threads come and go, and some end while a context of theirs goes on.
+ * The classes have few contexts, whose seats any thread uses, or seats that threads keep.  Each seat has one user, each mutex
+ * one holder, and no seat is lost.  mutex_moves TIMES.
  */
 #include "mutex_test.h"
 #include "../ww_pool.h"
@@ -45,7 +45,7 @@ static void ends(struct box *b)
 	free(b);
 }
 
-/* To whoever comes, where there is room. */
+/* To the next thread that comes, if there is room. */
 static struct box *leaves(struct box *b)
 {
 	pthread_mutex_lock(&leaving);

@@ -1,6 +1,6 @@
 /*
- * Numbers of mutexes, and classes that come and go: no number is two mutexes', none is lost, a class
- * that many threads use first at once is opened once, and a fork beside all that leaves a child that works.
+ * Numbers of mutexes, and classes that come and go: no two mutexes have one number, and none is lost; a class that many
+ * threads first use at the same time is opened once; and a fork at any moment leaves a child that works.
  */
 #include "mutex_test.h"
 #include "../ww_pool.h"

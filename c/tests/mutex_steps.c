@@ -1,7 +1,7 @@
 /*
- * What a call does between its steps, as ww_steps.h asks it of whoever makes them: behind WW_AGAIN, when its seat may be inside a
- * guard, it makes the next step and nothing else; and it asks whom to wake where somebody can be due, each time until nobody
- * is.  The steps, what the library locks and what it asks the system for come by wrappers (ld --wrap).
+ * What a call does between its steps, as ww_steps.h demands of its callers: after WW_AGAIN, when its seat may be inside a
+ * guard, it makes the next step and nothing else; and where somebody can be due it asks whom to wake, until nobody is.  The
+ * steps, the library's locks and its system calls come by wrappers (ld --wrap).
  */
 #include "mutex_test.h"
 #include "../ww_number.h"
@@ -105,7 +105,7 @@ long __wrap_syscall(long number, ...)
 	return __real_syscall(number, words[0], words[1], words[2], words[3], words[4], words[5]);
 }
 
-/* An older context of this thread holds the mutex, so each of these waits until it is called off, or until its time. */
+/* An older context of this thread holds the mutex, so each of these waits until it is cancelled, or until its time. */
 static void waits_in_vain(void)
 {
 	struct ww_acquire_ctx older, x;
@@ -153,7 +153,7 @@ static struct ww_acquire_ctx holder;
 
 static void is_released_just_then(void) { MUST(!ww_number_unlock(number, &holder) && ww_number_put(number, c) == -EBUSY); }
 
-/* Whoever waits for a number, and hasn't seen yet that it is free, gets it: it isn't put back meanwhile. */
+/* A thread that waits for a number, and hasn't seen yet that it is free, gets it: it isn't put back meanwhile. */
 static void is_awaited(void)
 {
 	struct ww_acquire_ctx x;

@@ -77,7 +77,7 @@ static unsigned draw(unsigned *x, struct object **list)
 	return count;
 }
 
-/* As the kernel's documents write it; now and then a lock is waited for until a time, or called off by nobody. */
+/* As the kernel's documents write it; now and then a lock waits until a time, or until a cancel that nobody makes. */
 static void by_hand(struct ww_acquire_ctx *x, struct object **list, unsigned count, unsigned drawn)
 {
 	unsigned slow = count, k, lates = 0;

@@ -1,8 +1,8 @@
 /*
  * Any legal call of contexts in loops, drawn by eight threads on six mutexes: locks that wait,
- * with a time, or until they are called off, trylocks, slow locks, lists, unlocks, back-offs by
- * hand and by the loop.  After each call a context holds what it was told, no mutex is two
- * contexts', and no call is refused.  The first word is how many loops each thread makes.
+ * with a time, or until they are cancelled, trylocks, slow locks, lists, unlocks, back-offs by
+ * hand and by the loop.  After each call a context holds what its calls returned, no two contexts
+ * hold one mutex, and no call is refused.  The first word is how many loops each thread makes.
  */
 #include "mutex_test.h"
 #include "../ww_pool.h"
@@ -54,7 +54,7 @@ static unsigned held(const struct one *o)
 	return count;
 }
 
-/* What came besides, as the wait for the mutex at which it was told, is its own too; nothing went. */
+/* What it acquired besides, by waiting for the contended mutex, is its own too; nothing was lost. */
 static void looks(struct one *o)
 {
 	for (unsigned k = 0; k < MUTEXES; k++) {

@@ -1,7 +1,7 @@
 /*
- * Contexts are handed out in order: whoever waits longest for one of the class gets the
- * next one, nobody takes one meanwhile, and each wait is ended by one end of a context.
- * A seat that a thread keeps is its own, whoever ends a context there, until its life ends.
+ * Contexts are handed out in order: the thread that has waited longest gets the next one, and
+ * no other takes one meanwhile; each end of a context ends one wait.  A seat that a thread
+ * keeps stays its own until the thread ends, even if another thread ends a context there.
  * What the library locks comes by wrappers (ld --wrap).
  */
 #include "mutex_test.h"
@@ -98,7 +98,7 @@ static void *holds_it(void *arg)
 	return NULL;
 }
 
-/* Whoever ended a context, and would begin the next one at once, comes behind who waits. */
+/* A thread that ended a context, and would begin the next one immediately, comes after those that wait. */
 static void nobody_barges(void)
 {
 	struct ww_acquire_ctx x, y;
@@ -313,7 +313,7 @@ static bool goes_well_in_child(void)
 }
 
 /*
- * Whoever ended the only context saw somebody wait, who gives up before it is served: when it locks the queue the class is
+ * A thread that ended the only context saw somebody wait, who gives up before it is served: when it locks the queue the class is
  * freed.  Then the program forks, and the child's next class has that memory.
  */
 static void freed_and_forked(void)
@@ -545,7 +545,7 @@ static void *has_last_words(void *arg)
 	return arg;
 }
 
-/* A thread uses the class amid its end, as often as the system asks whether anything is left: it keeps no seat beyond that. */
+/* A thread uses the class while it ends, as often as the system asks whether anything is left: it keeps no seat beyond that. */
 static void are_used_to_the_end(void)
 {
 	opens(1, 1);
@@ -579,7 +579,7 @@ static void *asks_whether_it_holds(void *m)
 	return NULL;
 }
 
-/* Whoever took nothing holds nothing. */
+/* A context that took nothing holds nothing. */
 static void by_its_thread_alone(void)
 {
 	MUST(!ww_class_limit(c, 1, 1) && sizeof ww_mine.thread == 8);

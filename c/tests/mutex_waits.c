@@ -1,7 +1,7 @@
 /*
- * Waits, and what comes right behind them: they sleep, end when they are called off or when their time
- * comes though contexts are scarce, are seen by ww_mutex_destroy all the time, and the last of several
- * threads may destroy and free what they waited for; as a class may be freed once its last context ends.
+ * Waits, and what comes right after them: they sleep; a cancel or their time ends them, even if contexts
+ * are scarce; ww_mutex_destroy sees them all the time; and the last of several threads may destroy and free
+ * what they waited for, as it may free a class once its last context has ended.
  */
 #include "mutex_test.h"
 #include <sys/resource.h>
@@ -274,7 +274,7 @@ static void *begins_one(void *arg)
 	return NULL;
 }
 
-/* While a thread is amid the end of its last context: with seats that are shared, too. */
+/* While a thread ends its last context: with seats that are shared, too. */
 static void class_is_freed_at_once(bool shared)
 {
 	for (unsigned k = 0; k < 200; k++) {

@@ -159,7 +159,7 @@ static void calls_off(void)
 		MUST(ww_mutex_lock_interruptible(&a, &victim) == -EINTR);
 	}
 	MUST(!ww_mutex_lock_interruptible(&list[0], &victim) && !ww_acquire_cancel(&victim));
-	MUST(!ww_mutex_lock_interruptible(&list[1], &victim)); /* without a wait nothing is called off */
+	MUST(!ww_mutex_lock_interruptible(&list[1], &victim)); /* without a wait nothing is cancelled */
 	ww_mutex_unlock(&list[0]);
 	ww_mutex_unlock(&list[1]);
 	ww_mutex_unlock(&b);
@@ -202,7 +202,7 @@ static void forgets_cancels(void)
 	end_thread(thread);
 }
 
-/* A slow lock is called off too, or ends at a time, and is then asked for again. */
+/* A cancel or a time ends a slow lock too, which is then asked for again. */
 static void slowly(void)
 {
 	struct timespec past = { 0, 0 }, none = { 0, -1 };
@@ -246,7 +246,7 @@ static void takes_all(void)
 	MUST(ww_mutex_lock_all(&x, locks, 9) == -EALREADY && !x.acquired);
 	ww_acquire_flags(&x, WW_IGNORE_DUPLICATES);
 	MUST(!ww_mutex_lock_all(&x, locks, 9) && x.acquired == 8 && !ww_mutex_lock_all(&x, locks, 9) && x.acquired == 8);
-	/* Outside it is told as ever. */
+	/* Outside it returns it as ever. */
 	MUST(ww_mutex_lock(&list[0], &x) == -EALREADY);
 	for (k = 1; k < 8; k++)
 		ww_mutex_unlock(&list[k]);
@@ -335,7 +335,7 @@ static void tries_again(void)
 	ww_acquire_fini(&older);
 }
 
-/* An interruptible loop: the wait for the contended mutex is called off, and told by the first lock call. */
+/* An interruptible loop: a cancel ends the wait for the contended mutex, and the first lock call returns that. */
 static void is_interrupted(void)
 {
 	struct ww_acquire_ctx older, x;

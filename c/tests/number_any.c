@@ -1,7 +1,7 @@
 /*
- * Four threads make any call of ww_number.h in any state, with any number, by contexts and without.  What each may answer
- * follows from the answers before: a thread keeps what it holds by them, so every answer is asked for exactly, every mutex
- * is exclusive, and all come to their ends.  On the way contexts end and begin, and are called off by others.
+ * Four threads make any call of ww_number.h in any state, with any number, by contexts and without.  What a call may return
+ * follows from what the calls before returned: a thread remembers what it holds, so each value is checked exactly, every mutex
+ * is exclusive, and all threads come to their ends.  Meanwhile contexts end and begin, and others cancel them.
  */
 #include "mutex_test.h"
 #include "../ww_number.h"
@@ -28,7 +28,7 @@ struct mine {
 	unsigned me, count;
 	bool own[MUTEXES], begun, done, told;
 	struct ww_seat *alone[MUTEXES];
-	unsigned long backs, stops, cancels; /* how often it was told to back off, was called off, and cancelled others */
+	unsigned long backs, stops, cancels; /* how often it had to back off, was cancelled, and cancelled others */
 };
 
 /* No number of the class is as great. */

@@ -1,6 +1,6 @@
 /*
- * Mutexes by their numbers: what each call of ww_number.h answers, where they stand beside those of ww_mutex.h, who is
- * told -EDEADLK, and sums by threads.  Compiled with -DWW_DEBUG, over the debug library: which calls that tells.
+ * Mutexes by their numbers: what each call of ww_number.h returns, how they mix with those of ww_mutex.h, which context gets
+ * -EDEADLK, and sums by threads.  Compiled with -DWW_DEBUG, over the debug library: which calls that reports.
  */
 #include "mutex_test.h"
 #include "../ww_number.h"
@@ -87,7 +87,7 @@ static void puts_no_other_back(void)
 	puts_back();
 }
 
-/* Each of these is told by the debug library, and changes nothing. */
+/* The debug library reports each of these, which changes nothing. */
 static void refuses(void)
 {
 	struct timespec none = { 0, -1 };
@@ -286,7 +286,7 @@ static void *is_told_to_end(void *arg)
 	return arg;
 }
 
-/* It ends behind its calls, though it sleeps amid one. */
+/* It ends after its calls, though it sleeps during one. */
 static void is_no_end_of_thread(void)
 {
 	struct ww_seat *by;
@@ -312,7 +312,7 @@ static void another_comes_first(void)
 	ww_acquire_fini(&y);
 }
 
-/* Each holds what the other wants next: the younger one is told so, and waits for that one first. */
+/* Each holds what the other wants next: the younger one gets -EDEADLK, and waits for that one first. */
 static pthread_barrier_t both;
 static void *goes_against(void *arg)
 {
@@ -477,7 +477,7 @@ static void in_a_child(void)
 	ww_acquire_fini(&x);
 }
 
-/* How many calls of `what` are told to be wrong. */
+/* How many calls of `what` are reported as misuse. */
 static void tells(void (*what)(void), unsigned long count)
 {
 #ifdef WW_DEBUG

@@ -1,8 +1,8 @@
 /*
  * Classes of 64, 4,096 and 65,536 mutexes by their numbers: each call on the first, the second and the last one, and beyond
- * the end; then storms, in which 16 threads take random sets of 2, 8 and 1,000, in any order, by a loop or by back-offs of
- * their own, and release them in the order of taking, in the opposite one, or all at once.  And rings of 2 to 16 threads,
- * each of which takes its mutex, waits for the others, and then wants the next one's.
+ * the end.  Then storms, in which 16 threads take random sets of 2, 8 and 1,000, in any order, by a loop or by back-offs of
+ * their own, and release them in the order of taking, in the opposite one, or by one call.  And cycles of 2 to 16 threads,
+ * each of which takes its mutex, waits for the others, and then wants that of the next one.
  */
 #include "mutex_test.h"
 #include "../ww_number.h"
@@ -36,7 +36,7 @@ static void closes(void)
 	free(numbers);
 }
 
-/* Takes them in this order, but for the one that was told, and backs off until it has them all: how often it did. */
+/* Takes them in this order, except the contended one, and backs off until it has them all: how often it did. */
 static unsigned long lock_each(struct ww_acquire_ctx *x, const uint32_t *list, uint32_t count)
 {
 	uint32_t slow = UINT32_MAX;

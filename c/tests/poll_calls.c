@@ -1,6 +1,6 @@
 /*
- * Contexts that wait without a thread: what each call of ww_poll.h returns, who is called when, and sums by event loops
- * beside a thread that blocks.  Compiled with -DWW_DEBUG, over the debug library.
+ * Contexts that wait without a thread: what each call of ww_poll.h returns, which waker is called when, and sums by event
+ * loops beside a thread that blocks.  Compiled with -DWW_DEBUG, over the debug library.
  */
 #include "mutex_test.h"
 #include "../ww_number.h"
@@ -96,7 +96,7 @@ static void wait_ends(void)
 	ends(&y);
 }
 
-/* The younger one is told so: at once, or where it sleeps as it is wounded. */
+/* The younger one gets -EDEADLK: immediately, or while it sleeps, as it is wounded. */
 static void backs_off(void)
 {
 	int calls, olders;
@@ -174,7 +174,7 @@ static bool begins_at_once(struct ww_acquire_ctx *ctx)
 	return !r;
 }
 
-/* Two were called, one takes the seat for which the other one was, and ends; whoever comes then leaves a seat, and calls a third. */
+/* Two were called, one takes the seat for which the other one was, and ends; a task that comes then leaves a seat, and calls a third. */
 static void called_for_another_seat(struct ww_acquire_ctx all[2])
 {
 	struct ww_seek seeks[3] = { { 0 } };
@@ -194,7 +194,7 @@ static void called_for_another_seat(struct ww_acquire_ctx all[2])
 	MUST(!ww_acquire_init_poll(&all[1], c, &seeks[2], &wakers[2]));
 }
 
-/* Whoever ends one calls the first who wasn't called yet, once for each seat; who looks and finds none is owed the next. */
+/* A task that ends one calls the first that wasn't called yet, once for each seat; one that looks and finds none is owed the next. */
 static void called_in_turn(void)
 {
 	struct ww_acquire_ctx all[65];

@@ -34,7 +34,7 @@ struct Shared {
 /// A context that has begun, and hasn't ended: it leaves before that, under the lock.
 struct Running(*mut ffi::ww_acquire_ctx);
 
-// SAFETY: whoever finds it under the lock may cancel it, from any thread.
+// SAFETY: any thread that finds it under the lock may cancel it.
 unsafe impl Send for Running {}
 
 impl Canceller {
@@ -49,8 +49,8 @@ impl Canceller {
     pub fn cancel(&self) {
         self.shared.is_cancelled.store(true, Ordering::SeqCst);
         for running in self.shared.running.lock().iter() {
-            // SAFETY: the context has begun, and doesn't end before it has left the list, which is locked. Where a
-            // cancel is pending that serves as well.
+            // SAFETY: the context has begun, and doesn't end before it has left the list, which is locked. If a
+            // cancel is pending already, that serves as well.
             unsafe { ffi::ww_acquire_cancel(running.0) };
         }
     }

@@ -168,11 +168,11 @@ pub struct RawClass {
     name: &'static CStr,
     /// No other class has the same one; `NO_TAG` until its first mutex has a number.
     tag: AtomicU32,
-    /// Numbers whose mutexes went while a context held them, by guards that were forgotten or as what comes first.
+    /// Numbers of mutexes that were dropped while a context held them: by a forgotten guard, or after a back-off.
     unreturned: Lock<Vec<Number>>,
 }
 
-/// That of no number.
+/// The tag of a mutex without a number.
 const NO_TAG: u32 = u32::MAX;
 
 // SAFETY: any thread may call the library with a `ww_class`, and nothing else reads or writes `raw`.
@@ -209,7 +209,7 @@ impl RawClass {
             raw: UnsafeCell::new(ffi::ww_class {
                 pool: core::ptr::null_mut(),
                 mutexes,
-                // 0: as many as is usual, besides which threads keep contexts of their own.
+                // 0: the usual number, besides which threads keep contexts of their own.
                 contexts: if contexts == Self::CONTEXTS { 0 } else { contexts },
                 is_wait_die: matches!(kind, Kind::WaitDie) as c_int,
                 permits: 0,
@@ -260,12 +260,12 @@ impl RawClass {
         self.tag.compare_exchange(NO_TAG, tag, Relaxed, Relaxed).map_or_else(|other| other, |_| tag)
     }
 
-    /// Who has them alone takes numbers.
+    /// Only the thread that holds this takes numbers.
     pub(crate) fn unreturned(&self) -> Locked<'_, Vec<Number>> {
         self.unreturned.lock()
     }
 
-    /// One that no mutex has.
+    /// A number that no mutex has.
     pub(crate) fn take(&'static self, unreturned: &mut Vec<Number>) -> Result<Number, Error> {
         let tag = if self.tag() == NO_TAG { self.first_tag() } else { self.tag() };
         let mut index = 0;
@@ -282,10 +282,10 @@ impl RawClass {
         }
     }
 
-    /// Of a mutex that is gone. Where it is locked that waits until numbers are wanted. Whoever was told `Deadlock` at
-    /// it may wait for it still, holding nothing, and has then waited for the mutex that gets the number next.
+    /// Puts back the number of a mutex that was dropped; if that is locked, only once numbers are needed. A context that
+    /// got `Deadlock` at it may still wait for it, holding nothing; then it waits for the mutex that gets the number next.
     pub(crate) fn give(&'static self, number: Number) {
-        // One of another class is lost.
+        // A number of another class is lost.
         if number.tag() == self.tag() && self.put(number) == -ffi::EBUSY {
             self.unreturned.lock().push(number);
         }

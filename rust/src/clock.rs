@@ -5,12 +5,12 @@ use std::time::Instant;
 
 fn now() -> ffi::timespec {
     let mut at = ffi::timespec { tv_sec: 0, tv_nsec: 0 };
-    // SAFETY: it writes into `at` alone, and doesn't fail for this clock.
+    // SAFETY: the call writes only into `at`, and doesn't fail for this clock.
     unsafe { ffi::clock_gettime(ffi::CLOCK_MONOTONIC, &raw mut at) };
     at
 }
 
-/// This time by the monotonic clock; one that is past is now.
+/// This time by the monotonic clock; a time in the past becomes now.
 pub(crate) fn monotonic(at: Instant) -> ffi::timespec {
     const NANOSECONDS: i64 = 1_000_000_000;
     let left = at.saturating_duration_since(Instant::now());
@@ -39,7 +39,7 @@ mod tests {
         let at = nanoseconds(monotonic(Instant::now() + Duration::from_millis(1500)));
         let took = nanoseconds(now()) - before;
         let least = before + 1_500_000_000;
-        // What passes between two readings of the clock is late.
+        // The time that passes between two readings of the clock makes it late.
         assert!((least..=least + 2 * took).contains(&at));
     }
 }

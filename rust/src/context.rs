@@ -15,24 +15,24 @@ use std::time::{Duration, Instant};
 pub(crate) struct Context {
     raw: UnsafeCell<MaybeUninit<ffi::ww_acquire_ctx>>,
     class: &'static RawClass,
-    /// As long as there is none of it, a lock call is the library's and nothing else.
+    /// While this is `None`, a lock call is just that of the library.
     rare: OnceCell<Box<Rare>>,
 }
 
-/// What a context has with limits, or once it was told `Deadlock`.
+/// What a context has in addition if it has limits, or once it got `Deadlock`.
 #[derive(Default)]
 struct Rare {
     limits: Limits,
-    /// A lock call was told `Deadlock`, so that nothing is locked until all is released.
+    /// A lock call got `Deadlock`, so nothing is locked until all is released.
     is_over: Cell<bool>,
-    /// Where that was: it comes first from then on, whatever happens to its mutex meanwhile.
+    /// The number at which that was: it is locked first from then on, whatever happens to its mutex meanwhile.
     contended: Cell<Option<Number>>,
-    /// It came first, and nobody has asked for it yet.
+    /// It was locked first, and the body hasn't asked for it yet.
     prelocked: Cell<Option<Number>>,
 }
 
 impl Rare {
-    /// Whether the context has it from its back-off, and no guard has.
+    /// Whether the context holds it since its back-off, without a guard.
     fn comes_first(&self, number: Number) -> bool {
         self.prelocked.get() == Some(number)
     }
@@ -50,7 +50,7 @@ impl Limits {
         self.canceller.as_ref().is_some_and(Canceller::is_cancelled)
     }
 
-    /// For a wait in which the library looks at none of them.
+    /// The error, if one of them ends the wait now: for a wait in which the library looks at none of them.
     fn check(&self) -> Result<(), Error> {
         if self.is_cancelled() {
             Err(Error::Cancelled)
@@ -107,7 +107,7 @@ impl Context {
     /// It stays where it is, and isn't borrowed exclusively, until `end`, which comes once.
     #[inline]
     pub(crate) unsafe fn begin(&self) -> Result<(), Error> {
-        // SAFETY: the call reads nothing of what stood there; the class is static.
+        // SAFETY: the call reads nothing of what was there; the class is static.
         let begin = || unsafe { ffi::ww_acquire_init_checked(self.raw(), self.class.get()) };
         // SAFETY: as above; the time lives for the call. It waits for a context.
         let wait = |until: Option<&ffi::timespec>| unsafe {
@@ -131,7 +131,7 @@ impl Context {
         Ok(())
     }
 
-    /// The library's wait for a context heeds a time, but no canceller: a context that has one looks again and again.
+    /// The library's wait for a context ends at a time, but not by a canceller: with one, it is made of short waits.
     #[cold]
     fn begin_late(
         &self,
@@ -176,7 +176,7 @@ impl Context {
 
     // ---- locks ----
 
-    /// Whose lock it is that it has acquired.
+    /// The context as the owner of a lock that it has acquired.
     #[inline]
     pub(crate) fn holder(&self) -> Holder {
         Holder::context(self.raw())
@@ -212,7 +212,7 @@ impl Context {
 
     #[inline]
     fn ask(&self, number: Number) -> c_int {
-        // In Wait-Die one that holds something may be told to back off instead.
+        // In Wait-Die a context that holds something may get `Deadlock` instead.
         if cfg!(debug_assertions) && (self.held() == 0 || self.class.kind() == Kind::WoundWait) {
             own::check_wait(number, self.raw());
         }
@@ -232,7 +232,7 @@ impl Context {
         unsafe { ffi::ww_number_lock_until(number.index(), self.raw(), until) }
     }
 
-    /// What another answer than 0 comes to.
+    /// The error for a value other than 0 that the library returned.
     #[cold]
     fn refused(&self, number: Number, answer: c_int) -> Result<(), Error> {
         match -answer {
@@ -250,15 +250,15 @@ impl Context {
         }
     }
 
-    /// Acquires all of them, in this order, for guards that live no longer than the context; or none of them. What it
-    /// has where a lock call panics is released like what was forgotten.
+    /// Acquires all of them, in this order, for guards that live no longer than the context; or none of them. If a lock
+    /// call panics, what it acquired is released like what was forgotten.
     #[inline]
     pub(crate) fn lock_all<'g, C: Class, T: ?Sized, const N: usize>(
         &'g self,
         list: [&'g Mutex<C, T>; N],
     ) -> Result<[MutexGuard<'g, C, T>; N], Error> {
         list.iter().skip(1).for_each(|mutex| mutex.fetch());
-        // It stays as it is until a lock call is refused.
+        // This changes only when a lock call is refused.
         let rare = self.rare();
         for (count, mutex) in list.iter().enumerate() {
             let told = mutex.number(self.class).and_then(|number| self.lock_with(rare, number));
@@ -290,7 +290,7 @@ impl Context {
         is_held && !self.rare().is_some_and(|rare| rare.comes_first(number))
     }
 
-    /// Hands out what the context has from its back-off, if that is it.
+    /// Hands out what the context holds since its back-off, if it is this mutex.
     fn take_first(&self, number: Number) -> bool {
         let Some(rare) = self.rare().filter(|rare| rare.comes_first(number)) else { return false };
         rare.prelocked.take();
@@ -299,13 +299,13 @@ impl Context {
 
     // ---- back-offs ----
 
-    /// Whether it was told `Deadlock`, and hasn't backed off since.
+    /// Whether it got `Deadlock`, and hasn't backed off since.
     #[inline]
     pub(crate) fn is_over(&self) -> bool {
         self.rare().is_some_and(|rare| rare.is_over.get())
     }
 
-    /// The mutex at which `Deadlock` was told.
+    /// The mutex at which it got `Deadlock`.
     pub(crate) fn take_contended(&self) -> Option<Number> {
         self.rare()?.contended.take()
     }
@@ -326,7 +326,7 @@ impl Context {
         }
     }
 
-    /// Releases all, and waits for this mutex, which it then has.
+    /// Releases all, and waits for this mutex, which it then holds.
     ///
     /// # Safety
     ///
@@ -338,8 +338,8 @@ impl Context {
         let Some(first) = first else { return Ok(()) };
         self.class.check(first);
         let rare = self.rare.get_or_init(Box::default);
-        // A context that holds nothing is never told `Deadlock`. So a lock call like any other does for the slow one,
-        // and has the same limits.
+        // A context that holds nothing never gets `Deadlock`. So an ordinary lock call serves as the slow one, and has
+        // the same limits.
         match self.ask_within(first, &rare.limits) {
             0 => {
                 rare.prelocked.set(Some(first));
@@ -349,7 +349,7 @@ impl Context {
         }
     }
 
-    /// What it has from its back-off; and what was forgotten, for which the library asks for each number of the class.
+    /// Releases what it holds since its back-off, and what was forgotten: for that it asks about each number of the class.
     ///
     /// # Safety
     ///

@@ -1,4 +1,4 @@
-//! What `c/ww_number.h` and `c/ww_mutex.h` declare, as far as it is called here. The test below compares it with what a C compiler says.
+//! The declarations of `c/ww_number.h` and `c/ww_mutex.h` that are used here. The test below compares them with what a C compiler says.
 
 #![allow(non_camel_case_types, reason = "the names are those of the header")]
 
@@ -51,7 +51,7 @@ pub struct ww_acquire_ctx {
     pub empty_: [*mut c_void; 2],
 }
 
-/// Of `c/ww_poll.h`.
+/// That of `c/ww_poll.h`.
 #[cfg(feature = "async")]
 #[repr(C)]
 #[derive(Clone, Copy)]
@@ -134,7 +134,7 @@ extern "C" {
     pub fn ww_number_trylock_alone(number: u32, class: *mut ww_class, by: *mut *mut ww_seat) -> c_int;
     pub fn ww_number_unlock_alone(number: u32, by: *mut ww_seat);
 
-    // What the calls that the header compiles into its callers are made of.
+    // The calls of which those are made that the header compiles into its callers.
     fn ww_lock_(seat: *mut ww_seat, lock: u32, heeds: bool) -> i32;
     fn ww_unlock_(seat: *mut ww_seat, lock: u32) -> i32;
     fn ww_number_lock_further_(number: u32, ctx: *mut ww_acquire_ctx, r: c_int) -> c_int;
@@ -162,7 +162,7 @@ extern "C" {
     pub fn ww_poll_take_back(ctx: *mut ww_acquire_ctx, seek: *mut ww_seek) -> bool;
 }
 
-/// The first turn of `ww_number_lock_poll`: what it answers if that is 0, and else how the call goes on.
+/// The first step of `ww_number_lock_poll`; if it isn't enough, what it returned, or `None` if it wasn't made.
 ///
 /// # Safety
 ///
@@ -173,7 +173,7 @@ pub unsafe fn try_first(number: u32, ctx: *mut ww_acquire_ctx) -> Result<(), Opt
     if cfg!(ww_no_inline) {
         return Err(None);
     }
-    // SAFETY: the caller's. What is read and written of the context is its user's.
+    // SAFETY: as the caller promises. Only the context's user accesses what is read and written of it here.
     unsafe {
         let r = ww_lock_((*ctx).own, number, true);
         if r != 0 {
@@ -191,7 +191,7 @@ pub unsafe fn try_first(number: u32, ctx: *mut ww_acquire_ctx) -> Result<(), Opt
 /// That of `ww_number_lock`; nothing else is done with the context meanwhile.
 #[inline]
 pub unsafe fn lock(number: u32, ctx: *mut ww_acquire_ctx) -> c_int {
-    // SAFETY: the caller's. What is read and written of the context is its own thread's.
+    // SAFETY: as the caller promises. Only the context's own thread accesses what is read and written of it here.
     unsafe {
         if cfg!(ww_no_inline) {
             return ww_number_lock(number, ctx);
@@ -236,7 +236,7 @@ mod tests {
     use std::process::Command;
     use std::{env, fs};
 
-    /// What a program in C is to print, and what is so here.
+    /// What a program in C has to print, and the same as it is here.
     macro_rules! layouts {
         ($( $name:ident: $($field:ident)* ;)*) => {{
             let mut source = String::new();

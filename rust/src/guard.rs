@@ -5,7 +5,7 @@ use core::marker::PhantomData;
 use core::ops::{Deref, DerefMut};
 use std::sync::Arc;
 
-/// Whose a lock is: a context's, or that of a place in the class without one, whose address is one more then.
+/// The owner of a lock: the address of a context, or, without one, that of a seat in the class plus one.
 #[derive(Clone, Copy)]
 pub(crate) struct Holder(*mut ww_acquire_ctx);
 
@@ -72,17 +72,17 @@ impl Holder {
 #[clippy::has_significant_drop]
 pub struct MutexGuard<'g, C: Class, T: ?Sized> {
     mutex: &'g Mutex<C, T>,
-    /// By its pointer the guard stays in this thread.
+    /// A pointer, so that the guard isn't `Send`.
     holder: Holder,
 }
 
-// SAFETY: threads that share it get `&T`, and the mutex, which asks for `Send` of T.
+// SAFETY: threads that share it get `&T`, and the mutex, which demands `Send` of T.
 unsafe impl<C: Class, T: ?Sized + Send + Sync> Sync for MutexGuard<'_, C, T> {}
 
 impl<'g, C: Class, T: ?Sized> MutexGuard<'g, C, T> {
     /// # Safety
     ///
-    /// This thread has locked the mutex, by this holder, and no other guard stands for that. `'g` ends before a context
+    /// This thread has locked the mutex, by this holder, and there is no other guard for that. `'g` ends before a context
     /// that holds it does.
     #[inline]
     pub(crate) unsafe fn of(mutex: &'g Mutex<C, T>, holder: Holder) -> Self {
@@ -117,7 +117,7 @@ impl<C: Class, T: ?Sized> DerefMut for MutexGuard<'_, C, T> {
 impl<C: Class, T: ?Sized> Drop for MutexGuard<'_, C, T> {
     #[inline]
     fn drop(&mut self) {
-        // SAFETY: a guard stands for a lock by its holder, and goes but once.
+        // SAFETY: each guard is for one lock by its holder, and is dropped once.
         unsafe { self.holder.release(self.mutex.index()) };
     }
 }
@@ -144,7 +144,7 @@ pub struct ArcMutexGuard<'x, C: Class, T: ?Sized> {
     of_this_context: PhantomData<&'x ()>,
 }
 
-// SAFETY: threads that share it get `&T`, and clones of the `Arc`, which asks for `Send` of T.
+// SAFETY: threads that share it get `&T`, and clones of the `Arc`, which demands `Send` of T.
 unsafe impl<C: Class, T: ?Sized + Send + Sync> Sync for ArcMutexGuard<'_, C, T> {}
 
 impl<C: Class, T: ?Sized> ArcMutexGuard<'_, C, T> {
@@ -184,7 +184,7 @@ impl<C: Class, T: ?Sized> DerefMut for ArcMutexGuard<'_, C, T> {
 impl<C: Class, T: ?Sized> Drop for ArcMutexGuard<'_, C, T> {
     #[inline]
     fn drop(&mut self) {
-        // SAFETY: a guard stands for a lock by its holder, and goes but once. The mutex may go with it, behind this.
+        // SAFETY: each guard is for one lock by its holder, and is dropped once. The mutex may be dropped with it, after this.
         unsafe { self.holder.release(self.mutex.index()) };
     }
 }

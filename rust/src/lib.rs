@@ -90,7 +90,7 @@ pub use tx::Tx;
 /// The version of `libww`: 10,000 times its first number, 100 times the second one, and the third one.
 #[must_use]
 pub fn library_version() -> u32 {
-    // SAFETY: it takes nothing, and tells a constant.
+    // SAFETY: it takes no arguments, and returns a constant.
     unsafe { ffi::ww_version() }
 }
 

@@ -6,8 +6,8 @@ use std::sync::{Mutex, MutexGuard, PoisonError};
 
 #[derive(Default)]
 pub(crate) struct Lock<T> {
-    /// It orders what std's lock orders already, for the thread sanitizer: that doesn't see what std does, unless std
-    /// was built for it, too.
+    /// Orders what std's lock already orders, for the thread sanitizer: it sees what std does only if std was built for it,
+    /// too.
     seen: AtomicBool,
     value: Mutex<T>,
 }

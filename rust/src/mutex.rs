@@ -92,7 +92,7 @@ impl<C: Class, T: ?Sized> Mutex<C, T> {
         let class = C::raw();
         let number = self.number_or_panic(class);
         own::check_wait(number, ptr::null());
-        // Nothing calls this off.
+        // Nothing cancels this wait.
         self.lock_alone(number, class, None).unwrap_or_else(|_| error::in_child())
     }
 
@@ -157,7 +157,7 @@ impl<C: Class, T: ?Sized> Mutex<C, T> {
         self.value.get_mut()
     }
 
-    /// For who has a guard.
+    /// For a caller that has a guard.
     #[inline]
     pub(crate) fn value(&self) -> *mut T {
         self.value.get()
@@ -168,7 +168,7 @@ impl<C: Class, T: ?Sized> Mutex<C, T> {
         self.handle.number(class)
     }
 
-    /// Of a list, so that it comes at once, and not behind the lock before.
+    /// Fetches the words of a lock in a list ahead, so that they don't come only after the lock before.
     #[inline]
     pub(crate) fn fetch(&self) {
         self.handle.fetch();
@@ -179,7 +179,7 @@ impl<C: Class, T: ?Sized> Mutex<C, T> {
         self.handle.existing()
     }
 
-    /// For who has a guard.
+    /// For a caller that has a guard.
     #[inline]
     pub(crate) fn index(&self) -> u32 {
         self.handle.index()
@@ -193,7 +193,7 @@ impl<C: Class, T: ?Sized> Mutex<C, T> {
         }
     }
 
-    /// Without a context; what the library answers where it isn't 0.
+    /// Locks without a context; returns what the library returned, if that isn't 0.
     fn lock_alone(
         &self,
         number: Number,
@@ -231,7 +231,7 @@ impl<C: Class, T> From<T> for Mutex<C, T> {
 impl<C: Class, T: ?Sized + fmt::Debug> fmt::Debug for Mutex<C, T> {
     fn fmt(&self, f: &mut fmt::Formatter<'_>) -> fmt::Result {
         let mut shown = f.debug_struct("Mutex");
-        // One that was never locked isn't given a place in its class for this.
+        // A mutex that was never locked gets no number of its class for this.
         match self.existing().and_then(|_| self.try_lock()) {
             Some(guard) => shown.field("data", &&*guard),
             None => shown.field("data", &format_args!("<locked>")),

@@ -6,7 +6,7 @@ use crate::{Class, Error};
 use core::marker::PhantomData;
 use core::sync::atomic::{AtomicU64, Ordering};
 
-/// A number with the tag of its class, since [`Class::raw`] may be written to tell different classes.
+/// A number with the tag of its class, since a [`Class::raw`] may return different classes.
 #[derive(Clone, Copy, PartialEq, Eq)]
 pub(crate) struct Number(u64);
 
@@ -21,7 +21,7 @@ impl Number {
         (self.0 >> u32::BITS) as u32
     }
 
-    /// As the library knows it.
+    /// The number as the library has it.
     #[inline]
     #[allow(clippy::cast_possible_truncation, reason = "the tag goes")]
     pub(crate) const fn index(self) -> u32 {
@@ -31,7 +31,7 @@ impl Number {
 
 /// The number of a mutex, which it gets by its first lock.
 pub(crate) struct Handle<C: Class> {
-    /// 0 until then.
+    /// 0 before that.
     word: AtomicU64,
     class: PhantomData<fn() -> C>,
 }
@@ -46,7 +46,7 @@ impl<C: Class> Handle<C> {
         Number(self.word.load(Ordering::Acquire))
     }
 
-    /// Has it come into the cache, where the compiler can ask the processor for that.
+    /// Fetches it into the cache, where the compiler has an instruction for that.
     #[inline]
     pub(crate) fn fetch(&self) {
         #[cfg(target_arch = "x86_64")]
@@ -57,20 +57,20 @@ impl<C: Class> Handle<C> {
         }
     }
 
-    /// If it has one.
+    /// The number, if it has one.
     #[inline]
     pub(crate) fn existing(&self) -> Option<Number> {
         let number = self.load();
         (number.tag() != 0).then_some(number)
     }
 
-    /// For a mutex that is locked.
+    /// The number of a mutex that is locked.
     #[inline]
     pub(crate) fn index(&self) -> u32 {
         self.load().index()
     }
 
-    /// For a lock by this class.
+    /// The number, for a lock by this class.
     ///
     /// # Panics
     ///
@@ -95,7 +95,7 @@ impl<C: Class> Handle<C> {
         Ok(number)
     }
 
-    /// By one thread of a class at a time: a second one would take a number that another mutex wants.
+    /// Called by one thread of a class at a time: a second one would take a number that another mutex needs.
     fn take(&self, class: &'static RawClass) -> Result<Number, Error> {
         let mut unreturned = class.unreturned();
         if let Some(number) = self.existing() {
@@ -107,7 +107,7 @@ impl<C: Class> Handle<C> {
         match was {
             Ok(_) => Ok(number),
             Err(other) => {
-                // Another thread was first, which `Class::raw` told another class.
+                // Another thread was first, to which `Class::raw` returned another class.
                 class.give(number);
                 Ok(Number(other))
             }

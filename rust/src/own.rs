@@ -1,5 +1,5 @@
-//! The contexts that this thread has, so that one which would wait for itself for ever is told. With debug assertions
-//! alone.
+//! The contexts that this thread has, so that a thread which would wait for itself forever panics. Only with debug
+//! assertions.
 
 use crate::class::RawClass;
 use crate::ffi::{self, ww_acquire_ctx};
@@ -12,7 +12,7 @@ std::thread_local! {
     static OWN: RefCell<Vec<Own>> = const { RefCell::new(Vec::new()) };
 }
 
-/// What runs while a thread ends, when its list is gone, isn't looked at.
+/// After the list was destroyed, as its thread ends, nothing is checked.
 fn with_own<R>(with: impl FnOnce(&mut Vec<Own>) -> R) -> Option<R> {
     OWN.try_with(|own| with(&mut own.borrow_mut())).ok()
 }
@@ -31,7 +31,7 @@ pub(crate) fn ended(context: *const ww_acquire_ctx) {
     }
 }
 
-/// Before a wait that nobody would call off: without a context (null), or by one that won't be told to back off.
+/// Called before a wait that nothing would end: without a context (null), or by one that won't get `Deadlock`.
 ///
 /// # Panics
 ///

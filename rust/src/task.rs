@@ -295,7 +295,7 @@ impl<C: Class> Context<C> {
         if inside.has_begun() {
             return self.begin_again();
         }
-        // SAFETY: the call reads nothing of what stood there; the class is static. Without a waker it doesn't wait.
+        // SAFETY: the call reads nothing of what was there; the class is static. Without a waker it doesn't wait.
         match unsafe { ffi::ww_acquire_init_poll(inside.raw(), class.get(), ptr::null_mut(), ptr::null()) } {
             0 => Poll::Ready(Ok(())),
             answer if answer == -ffi::ETIMEDOUT => Poll::Pending,
@@ -303,7 +303,7 @@ impl<C: Class> Context<C> {
         }
     }
 
-    /// Pending: the mutex at which the attempt before was told `Deadlock` is to be waited for.
+    /// Pending: the mutex at which the attempt before got `Deadlock` is to be waited for.
     #[cold]
     fn begin_again(&mut self) -> Poll<Result<(), Error>> {
         let inside = self.tx.inner.own();
@@ -332,7 +332,7 @@ impl<C: Class> Context<C> {
             }
             if let Some(first) = self.tx.inner.own().rare().contended {
                 class.check(first);
-                // A context that holds nothing is never told `Deadlock`.
+                // A context that holds nothing never gets `Deadlock`.
                 {
                     let mut acquire = Acquire::new(&self.tx.inner);
                     poll_fn(|cx| acquire.poll(first, cx.waker())).await?;
@@ -395,7 +395,7 @@ impl<C: Class, T: ?Sized> Mutex<C, T> {
     pub async fn lock_by_task(&self) -> LoneGuard<'_, C, T> {
         let mut context = Context::<C>::new();
         let told = async { context.attempt().await?.lock(self).await.map(core::mem::forget) }.await;
-        // A context that holds nothing is never told `Deadlock`.
+        // A context that holds nothing never gets `Deadlock`.
         told.unwrap_or_else(|error| panic!("{error}"));
         LoneGuard::of(self, context.tx.inner)
     }

@@ -72,7 +72,7 @@ fn the_wait_for_a_context_is_one_sleep() {
     drop(context);
 }
 
-/// Times beyond the clock's are for ever.
+/// Times beyond the clock's are forever.
 #[test]
 fn a_timeout_may_be_endless() {
     class!(struct Boxes: WoundWait);

@@ -27,7 +27,7 @@ fn a_context_locks_in_any_order() {
     assert!(LIST.iter().all(|m| !m.is_locked()));
 }
 
-/// Any error type that is made of `Error`; it is handed on after one attempt, unless `Deadlock` was told.
+/// Any error type that is made from `Error`; it is handed on after one attempt, unless the context got `Deadlock`.
 #[test]
 fn other_errors_are_handed_on() {
     class!(struct Boxes: WaitDie);
@@ -44,7 +44,7 @@ fn other_errors_are_handed_on() {
     assert_eq!((attempts, m.into_inner()), (1, 1));
 }
 
-/// In Wait-Die a younger context is told so at once, so one thread can play both.
+/// In Wait-Die a younger context gets it immediately, so one thread can play both.
 #[test]
 fn the_younger_one_backs_off() {
     class!(struct Boxes: WaitDie);

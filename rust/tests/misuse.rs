@@ -17,7 +17,7 @@ fn panics<R>(what: impl FnOnce() -> R) -> bool {
     catch_unwind(AssertUnwindSafe(|| drop(what()))).is_err()
 }
 
-/// A younger context, which is told `Deadlock` in its first attempt, does this with what it is told.
+/// A younger context, which gets `Deadlock` in its first attempt, does this with what its lock call returned.
 fn told_deadlock<C: Class, R>(
     mut then: impl FnMut(&Tx<C>, MutexGuard<'_, C, u64>, Error) -> Result<R, Error>,
 ) -> Result<R, Error> {

@@ -93,7 +93,7 @@ impl<C: Class> Storm<C> {
         .unwrap()
     }
 
-    /// It is called off, or late, now and then, and then adds nothing.
+    /// Now and then it is cancelled, or late, and then adds nothing.
     fn with_limits(&self, list: &[Object<C>]) -> u64 {
         let canceller = self.canceller.lock().clone();
         let told = C::options().timeout(Duration::from_micros(50)).cancelled_by(&canceller).run(|tx| {

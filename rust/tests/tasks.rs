@@ -31,7 +31,7 @@ fn bank<C: Class>(count: usize) -> Bank<C> {
     (0..count).map(|_| Mutex::new(100)).collect()
 }
 
-/// Moves one from the first to the last, and lets others run amid it.
+/// Moves one from the first to the last, and lets others run in the middle.
 async fn transfer<C: Class>(bank: &[Mutex<C, i64>], list: &[usize], yields: usize) -> Result<u32, Error> {
     transaction!(C, |tx| {
         let mut held: Vec<Guard<'_, C, i64>> = Vec::new();
@@ -239,7 +239,7 @@ fn locks_are_dropped_at_any_poll() {
     storm::<Die>();
 }
 
-/// As timeouts are: by another thread, at any moment, be it amid a wake-up.
+/// As timeouts are: by another thread, at any moment, even during a wake-up.
 #[test]
 fn tasks_are_aborted() {
     class! {
@@ -364,7 +364,7 @@ fn in_each_order() {
         let (runs, others) = each_order(make, drops, anyway, |_| nothing_is_left(&bank, contexts));
         let class = std::any::type_name::<C>();
         println!("{class}: {lists:?}, {drops} drops, {anyway} more polls: {runs} orders, {others} went another way");
-        // A later run finds the token of a wait that was called off; the debug library's Deadlock comes at other places each time.
+        // A later run finds the token of a wait that was cancelled; the debug library's Deadlock comes at other places each time.
         assert!(others * 50 <= runs || cfg!(feature = "debug-library"));
     }
     fn all<C: Class>(contexts: usize) {
@@ -572,7 +572,7 @@ fn a_dropped_lock_leaves_its_mutex() {
     }
 }
 
-/// The library can't release amid a wait: it ends, and begins anew.
+/// The library can't release during a wait: that ends, and begins again.
 #[test]
 fn a_guard_goes_amid_a_wait() {
     class!(struct Boxes: WaitDie);
@@ -731,7 +731,7 @@ fn tries_and_lists() {
     assert_eq!(sum, Ok(3));
 }
 
-/// Without a context: by tasks, beside a thread; and dropped amid its wait.
+/// Locks without a context: by tasks, beside a thread; and dropped while it waits.
 #[test]
 fn lone_locks() {
     class!(struct Boxes: WoundWait, mutexes = 2, contexts = 2);
@@ -752,7 +752,7 @@ fn lone_locks() {
     nothing_is_left::<Boxes>(&[], 2);
 }
 
-/// A body that was told `Deadlock` and returns `Ok` all the same.
+/// A body that got `Deadlock` and returns `Ok` all the same.
 #[test]
 fn what_is_swallowed() {
     class!(struct Boxes: WaitDie);

@@ -1,4 +1,4 @@
-"""libww.so by ctypes: where it is, the types of its calls, and what their answers become."""
+"""libww.so by ctypes: where it is, the types of its calls, and which error each return value raises."""
 import ctypes
 import errno
 import functools
@@ -16,7 +16,7 @@ class Deadlock(OSError):
 
 
 class Already(OSError):
-    """EALREADY: whoever asks for the lock holds it already; or that wait is cancelled already."""
+    """EALREADY: the context holds this mutex already; or a cancel is pending already."""
 
 
 class Time(ctypes.Structure):
@@ -26,7 +26,7 @@ class Time(ctypes.Structure):
 
 
 class _Number:
-    """A number of 32 bits. What is wider, or below 0, becomes the largest one, which no class may have."""
+    """A number of 32 bits. Any other number becomes the largest one, which no class may have."""
 
     @classmethod
     def from_param(cls, number):
@@ -56,7 +56,7 @@ _CALLS |= {f"ww_{it}": (ctypes.c_int, _AT) for it in _ALONE}
 _PAIRS = ("mutex_init_checked", "acquire_init_checked", "mutex_lock_interruptible", "mutex_trylock")
 _CALLS |= {f"ww_{it}": (ctypes.c_int, _AT, _AT) for it in _PAIRS}
 _CALLS |= {f"ww_{it}": (None, _AT) for it in ("tries_begin_", "back_off_", "acquire_unlock_all")}
-# Amid these no other thread of Python runs: so a context isn't cancelled amid its end.
+# During these calls no other thread of Python runs: so a context isn't cancelled while it ends.
 _ALONE_IN_PYTHON = ("ww_acquire_cancel", "ww_acquire_fini_checked")
 
 
@@ -83,7 +83,7 @@ def opened(path):
 
 
 def told(code):
-    """Raises what a call answered, if that isn't 0."""
+    """Raises the error that a call returned, if that isn't 0."""
     if code:
         if code == -errno.EALREADY:
             raise Already(-code, "it is held, or called off, already")

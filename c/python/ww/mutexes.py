@@ -1,7 +1,7 @@
 """The mutexes of ww_mutex.h: a Class of them, a Mutex in each object, and a Context, which acquires what one change needs.
 
-Their structures are opaque here: the library says how large each is. Each object keeps alive what the library knows of
-it, so nothing has to be closed: a mutex that is garbage-collected frees its number, and then its class its memory.
+Their structures are opaque here: the library says how large each is. Each object keeps its structure alive, so nothing has
+to be closed: when a mutex is garbage-collected its number is put back, and then its class's memory is freed.
 """
 import collections
 import ctypes
@@ -14,26 +14,27 @@ import weakref
 
 from .library import WAIT_DIE, WOUND_WAIT, Already, Deadlock, Time, opened, told
 
-# Python runs the handler of a signal in the main thread, between two calls of C: it could cancel no wait in which that
-# thread is. So a wait there is made of calls that end after so many nanoseconds; other threads wait by one call. Waiters
-# with a context are in the order of their stamps, so no place in it is lost by that.
+# Python runs the handler of a signal in the main thread, between two calls of C, so never while that thread is in one. So
+# a wait there is made of calls that end after so many nanoseconds; other threads wait by one call. Waiters with a context
+# are in the order of their timestamps, so this loses no place in the order.
 _SLICE = 100_000_000
 _NEVER = 2**62  # A time of the clock, in nanoseconds too.
-# By its number, the call by which each structure of the library ends. They are made to the program's last moment.
+# By number, the call that ends each structure of the library. They are made until the program's last moment.
 _ends, _numbers = {}, itertools.count()
 ctypes.pythonapi.Py_IncRef(ctypes.py_object(_ends))
 
 
 class _End(int):
-    """The number of a call that is made once nothing refers to this. What that call keeps is reached from `_ends`: so it
-    goes behind it, whatever cycle their owners were in. No line of Python is run, at which a signal could break in."""
+    """The number of a call that is made once nothing refers to this. What that call keeps is reached from `_ends`: so it is
+    freed after the call, whatever cycle of references their owners were in. No line of Python is run, which a signal could
+    interrupt."""
 
     __slots__ = ()
     __del__ = property(_ends.pop)
 
 
 def _ending(call, at, *kept):
-    """An end of this memory by this call, which keeps what may go behind it."""
+    """An end of this memory by this call, which keeps what may only be freed after it."""
     number, end = next(_numbers), functools.partial(call, at)
     end.kept = kept
     _ends[number] = end
@@ -41,16 +42,16 @@ def _ending(call, at, *kept):
 
 
 def _once(*calls):
-    """What makes these calls, in this order and each once, whatever it is called with, and tells nothing; and what is true
-    once it was called. str.format looks for 0 in each dictionary, which hasn't that, and so has it made by its call: no line
-    of Python is run, at which a signal could break in."""
+    """A callable that makes these calls, in this order and each once, whatever its arguments are, and ignores what they
+    return; and a mapping that is true once it was called. str.format looks up 0 in each dictionary, which lacks it and so
+    makes it by its call: no line of Python is run, which a signal could interrupt."""
     made = [collections.defaultdict(call) for call in calls]
     return functools.partial("".join(f"{{{k}[0]!s:.0}}" for k in range(len(made))).format, *made), made[0]
 
 
 class _Exit:
-    """How a context ends: `with` asks the context for that before it begins it, and what it calls at the end of its block is
-    no function of Python. Others, as contextlib.ExitStack, ask the class."""
+    """A context's `__exit__`: `with` fetches it from the context before the context begins, and what `with` calls at the end
+    of its block is no function of Python. Others, such as contextlib.ExitStack, fetch it from the class."""
 
     def __get__(self, context, _=None):
         return self if context is None else context._end
@@ -60,7 +61,7 @@ class _Exit:
 
 
 def _memory(size):
-    """So many bytes, all 0, and laid out for words."""
+    """So many bytes, all 0, and aligned for words."""
     return (ctypes.c_uint64 * -(-size // 8))()
 
 
@@ -74,7 +75,7 @@ def _until(timeout):
 
 
 class _Thread(threading.local):
-    """Contexts that a thread began. Without callbacks: what a signal raises there is lost."""
+    """Contexts that a thread began. It uses no callbacks, since what a signal raises in one is lost."""
 
     contexts = ()
 
@@ -174,7 +175,7 @@ class Mutex:
         except BaseException:
             context._end()
             raise
-        self._alone = context  # Behind the last call no signal is heard before the block.
+        self._alone = context  # After the last call no signal is handled before the block.
         return self
 
     def __exit__(self, *_):
@@ -195,9 +196,9 @@ class Context:
     def __init__(self, of, timeout=None):
         self._class, self._library, self._timeout = of, of._library, timeout
         self._thread = self._of_task = None
-        self._begun = None  # An event, where another thread begins it: that it has.
-        # What the library may still read, and what it said that the context holds. An interrupt may come between
-        # two lines: so a mutex is in the first before it can be held, and leaves the second before it is released.
+        self._begun = None  # If another thread begins it, the event that it has.
+        # The mutexes that the library may still read, and those that the context holds. An interrupt may come between
+        # two lines: so a mutex is in the first set before it can be held, and leaves the second before it is released.
         self._near, self._held = set(), set()
         self._at = _memory(self._library.ww_acquire_size())
         fini = _ending(self._library.ww_acquire_fini_checked, self._at, of._its_end, self._near)
@@ -216,7 +217,7 @@ class Context:
             if not self._begun or self._begun.is_set():
                 self._end()
             raise
-        return self  # Behind the last call no signal is heard before the block.
+        return self  # After the last call no signal is handled before the block.
 
     async def __aenter__(self):
         from .tasks import TaskContext  # asyncio is loaded for those who use it
@@ -239,8 +240,8 @@ class Context:
         _mine.begins(self)
 
     def _begin_in_turn(self, until):
-        """Waits until one of the class's contexts is free. By calls of a slice the main thread would lose its place in
-        that queue each time: so another one waits for it; where the main one waits no more, the context ends as soon
+        """Waits until one of the class's contexts is free. With calls of a slice each the main thread would lose its place
+        in that queue each time, so another thread waits for it. If the main thread stops waiting, the context ends as soon
         as it has begun."""
         begun, left, codes = threading.Event(), threading.Event(), []
         end = Time(*divmod(_NEVER if until is None else until, 10**9))
@@ -270,11 +271,11 @@ class Context:
         self._class._check(*mutexes)
 
     def _is_contended(self):
-        """Whether it was told Deadlock, and hasn't backed off since."""
+        """Whether it got Deadlock, and hasn't backed off since."""
         return self._library.ww_is_contended(self._at)
 
     def _answer(self, mutex, until):
-        """What the lock call answers at last."""
+        """What the lock call returns in the end."""
         while until is not None or _is_main():
             end = time.monotonic_ns() + _SLICE if _is_main() else until
             end = end if until is None else min(end, until)
@@ -284,7 +285,7 @@ class Context:
         return self._library.ww_mutex_lock_interruptible(mutex._at, self._at)
 
     def _asks(self, mutex, call):
-        """What the call answers by which it may acquire this mutex."""
+        """What this call returns, which may acquire the mutex."""
         was_near = mutex._its_end in self._near
         self._near.add(mutex._its_end)
         code = call()
@@ -295,7 +296,7 @@ class Context:
         return code
 
     def _lock_each(self, mutexes, until):
-        """Acquires them in this order; where that fails it has released what it acquired."""
+        """Acquires them in this order; if that fails, it has released what it acquired."""
         acquired = []
         try:
             for mutex in mutexes:
@@ -322,7 +323,7 @@ class Context:
                     raise
                 self.unlock_all()
             except BaseException:
-                # It may have one that it waited for first, and hasn't been asked for yet.
+                # It may hold the contended mutex, for which it waited first, and which this call hasn't reached yet.
                 if held_nothing:
                     self.unlock_all()
                 raise
@@ -364,4 +365,4 @@ class Context:
     def cancel(self):
         """Ends its wait, the current one or the next; any thread may call it. Already: a cancel is pending; EINVAL: the
         context has ended."""
-        told(self._library.ww_acquire_cancel(self._at))  # Before the end or behind it: no other thread of Python runs amid either.
+        told(self._library.ww_acquire_cancel(self._at))  # Before the end or after it: no other thread of Python runs during either.

@@ -37,11 +37,12 @@ class _Woken(ctypes.Structure):
 
 
 class _Wakes:
-    """What a loop is woken by: whichever thread ends a wait fills a list and writes to a descriptor, without Python's lock. The
-    loop alone refers to it, and to the futures of its waits, so that what is left of a closed one can go."""
+    """What wakes a loop: the thread that ends a wait fills a list and writes to a descriptor, without Python's lock. Only the
+    loop refers to it, and to the futures of its waits, so that the rest of a closed loop can be freed."""
 
     of_loops = weakref.WeakKeyDictionary()
-    # By the place of a wait in the list: where whoever calls its waker writes, so until it is taken from there, or back.
+    # The waits by their entries of the list. The thread that calls the waker writes there, so an entry stays until it was
+    # taken from the list, or the waker was taken back.
     awaited = {}
 
     def __init__(self, loop, library):
@@ -68,12 +69,12 @@ class _Wakes:
         return _Waker(self.wake, ctypes.addressof(self.event), at), at, future
 
     def end(self, at):
-        """It was taken from the list, or won't come there."""
+        """Removes the wait at this place, which was taken from the list, or won't come there, and returns its future."""
         del self.awaited[at]
         return self.futures.pop(at)
 
     def taken(self):
-        """The futures of those that were woken since."""
+        """The futures of the waits that were woken since."""
         at = self.library.ww_event_take(ctypes.byref(self.event))
         while at:
             after = _Woken.from_address(at).next
@@ -90,7 +91,7 @@ class _Wakes:
                 future.set_result(None)
 
     def __del__(self):
-        """A loop was left before it took them all."""
+        """Takes all, if a loop was left before it did."""
         for _ in self.taken():
             pass
 
@@ -104,7 +105,7 @@ class TaskContext:
         self._at = (ctypes.c_uint64 * -(-of._library.ww_acquire_size() // 8))()
         self._seek = _Seek()
         self._held = {}  # Its mutexes, in the order in which it acquired them.
-        self._contended = None  # The one at which it was told Deadlock, since it released all.
+        self._contended = None  # The mutex at which it got Deadlock, once it has released all.
         self._is_begun = self._is_over = False
 
     def _begin_poll(self, waker):
@@ -217,7 +218,7 @@ class TaskContext:
                 raise
 
     def try_lock(self, mutex):
-        """Acquires it if nobody has it or waits for it; whether it did."""
+        """Acquires it if nobody has it or waits for it; returns whether it did."""
         self._check(mutex)
         is_acquired = mutex not in self and self._library.ww_mutex_trylock(mutex._at, self._at) == 1
         if is_acquired:

@@ -36,7 +36,7 @@ impl Plan {
     }
 }
 
-/// So many accounts, from 1 to 64, each of which has 100.
+/// From 1 to 64 accounts, each of which has 100.
 pub(crate) fn accounts(alloc: Global, size: u8) -> Result<Graph, AllocError> {
     let mut nodes = Vec::new(alloc);
     for _ in 0..size {
@@ -87,7 +87,7 @@ pub(crate) fn trade<R: Threads + Wait + Sync>(
     Ok(history)
 }
 
-/// Makes so many transfers, between accounts that are drawn at random.
+/// Makes this many transfers, between accounts that are drawn at random.
 fn move_often<R: Wait>(rt: &R, world: &World, pass: Pass, transfers: u32) -> Pass
     requires home { IsAtHome pass world.now }
     requires new { pass.own ≡ [] }

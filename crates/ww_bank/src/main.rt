@@ -16,7 +16,7 @@ use ww_queue::Kind;
 /// The kinds of locks, each with its name.
 const KINDS: [(&str, Kind); 2] = [("wound-wait", Kind::WoundWait), ("wait-die", Kind::WaitDie)];
 
-/// What is to be done, by the words behind the program's name.
+/// What the program's arguments ask for.
 fn read_words(words: &[String]) -> Option<(Plan, u8)> {
     let [_, threads, accounts, transfers] = words else {
         return None;

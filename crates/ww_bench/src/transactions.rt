@@ -49,7 +49,7 @@ fn take_all<R: Wait>(rt: &R, world: &World, mut acquiring: Acquiring, list: &[u8
     unreachable!()
 }
 
-/// Reads each of these nodes, and tells whether all are held and have the value 1.
+/// Reads each of these nodes, and returns whether all are held and have the value 1.
 fn read_all(world: &World, acquiring: &Acquiring, list: &[u8]) -> bool
     requires home { IsAtHome acquiring.now world.now }
 {
@@ -64,7 +64,7 @@ fn read_all(world: &World, acquiring: &Acquiring, list: &[u8]) -> bool
     sum == list.len() as u64
 }
 
-/// Takes the locks of these nodes, reads each of them where that is wanted, and releases all. Tells whether it read
+/// Takes the locks of these nodes, reads each of them where that is wanted, and releases all. Returns whether it read
 /// what is there.
 pub(crate) fn look<R: Wait, const READS: bool>(
     rt: &R,
@@ -85,7 +85,7 @@ pub(crate) fn look<R: Wait, const READS: bool>(
 }
 
 /// Takes the locks of these nodes, reads each of them, works for so many pauses of the processor, and releases all.
-/// Tells whether it read what is there.
+/// Returns whether it read what is there.
 pub(crate) fn work<R: Wait>(
     rt: &R,
     world: &World,
@@ -118,7 +118,7 @@ fn is_possible(world: &World, done: &Done, txn: &Txn) -> bool
     txn.fits(world.size()) && first_double(txn).is_none() && done.covers(world, txn)
 }
 
-/// Commits a transaction and releases all, and tells whether it was committed.
+/// Commits a transaction and releases all, and returns whether it was committed.
 fn commit<R: Wait>(rt: &R, world: &World, mut done: Done, txn: Txn) -> (Pass, bool)
     requires home { IsAtHome done world.now }
     ensures home { IsAtHome result.0 world.now }
@@ -133,7 +133,7 @@ fn commit<R: Wait>(rt: &R, world: &World, mut done: Done, txn: Txn) -> (Pass, bo
     (committed.unlock_all(rt, world).fini(world), true)
 }
 
-/// Takes the locks of these nodes, commits a transaction on them and releases all. Tells whether it was committed.
+/// Takes the locks of these nodes, commits a transaction on them and releases all. Returns whether it was committed.
 pub(crate) fn add<R: Wait>(rt: &R, world: &World, pass: Pass, list: &[u8], txn: Txn) -> (Pass, bool)
     requires home { IsAtHome pass world.now }
     ensures home { IsAtHome result.0 world.now }
@@ -146,7 +146,7 @@ pub(crate) fn add<R: Wait>(rt: &R, world: &World, pass: Pass, list: &[u8], txn: 
     commit(rt, world, acquiring.done(), txn)
 }
 
-/// Makes a transaction in one call. Tells whether it was committed.
+/// Makes a transaction in one call. Returns whether it was committed.
 pub(crate) fn transact<R: Wait>(rt: &R, world: &World, pass: Pass, txn: Txn) -> (Pass, bool)
     requires home { IsAtHome pass world.now }
     ensures home { IsAtHome result.0 world.now }

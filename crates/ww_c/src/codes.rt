@@ -1,4 +1,4 @@
-//! The numbers by which C knows an answer, how long it rests after one, and how a lock call waits.
+//! The numbers of answers for C, how long C rests after an answer, and how its lock calls wait.
 
 ghost use Rattle.std.specs.Prelude.{◌≡◌};
 ghost use Rattle.ww_c.specs.Codes.{code_of, pauses_of, waits_of};
@@ -43,7 +43,7 @@ pub(crate) fn pauses(answer: Answer) -> u32
     }
 }
 
-/// How a lock call of C waits: `heeds` says that it may be called off.
+/// How a lock call of C waits: `heeds` says that it may be cancelled.
 #[inline(always)]
 pub(crate) fn waits(heeds: bool) -> Waits
     ensures { result ≡ waits_of heeds }

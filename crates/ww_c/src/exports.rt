@@ -10,7 +10,7 @@ use std::alloc::Global;
 use std::mem;
 use ww_desk::Answer;
 
-/// So many locks C keeps in the array of a seat.
+/// How many locks C keeps in the array of a seat.
 pub(crate) const KEPT: usize = 9;
 
 /// Starts a context.
@@ -110,7 +110,7 @@ fn end_anyhow(seat: &mut Handle) -> i32
     }
 }
 
-/// Takes a lock, or begins to wait for it; where `heeds` the wait may be called off.
+/// Takes a lock, or begins to wait for it; where `heeds` the wait may be cancelled.
 #[unsafe(no_mangle)]
 pub extern "C" fn ww_lock_(seat: &mut Handle, lock: u32, heeds: bool) -> i32
     ensures { IsCall (λ s a t. IsLockAnswer s lock (waits_of heeds) a t) seat.old.slot.desk result seat.new.slot.desk }
@@ -206,7 +206,7 @@ fn lock_anyhow(seat: &mut Handle, lock: u32, heeds: bool) -> i32
     }
 }
 
-/// Takes the lock for which the context was told to back off.
+/// Takes the contended lock, after the context got EDEADLK and backed off.
 #[unsafe(no_mangle)]
 pub extern "C" fn ww_lock_slow_(seat: &mut Handle, lock: u32, heeds: bool) -> i32
     ensures { IsCall (λ s a t. IsSlowAnswer s lock (waits_of heeds) a t) seat.old.slot.desk result seat.new.slot.desk }
@@ -362,8 +362,8 @@ fn unlock_anyhow(seat: &mut Handle, lock: u32) -> i32
     code(seat.slot.lend().unlock(lock))
 }
 
-/// Releases the first `count` locks of these, the last one first, up to one that isn't held or isn't released at once, and
-/// gives how many are left. Where the handle doesn't know that its context may want a lock, it releases none.
+/// Releases the first `count` locks of these, the last one first, up to one that isn't held or that one step doesn't
+/// release, and returns how many are left. It releases none if the handle doesn't know that its context may want one.
 #[unsafe(no_mangle)]
 pub extern "C" fn ww_unlock_each_(seat: &mut Handle, locks: &[u32; KEPT], count: usize) -> usize
     ensures each { count ≤ 9 → 0 < seat.old.below → IsEachCall seat.old.slot.desk (take count locks.now) result seat.new.slot.desk }
@@ -409,7 +409,7 @@ pub extern "C" fn ww_go_on_(seat: &mut Handle, rest: &mut u32) -> i32
 }
 
 /// The number of one of the seats to be woken now, or EINVAL if there are none, or while the seat may be inside a guard.
-/// Each is told once.
+/// Each is named once.
 #[unsafe(no_mangle)]
 pub extern "C" fn ww_next_wake_(seat: &mut Handle) -> i32
     ensures { IsWakeCall seat.old.slot.desk result seat.new.slot.desk }

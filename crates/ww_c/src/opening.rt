@@ -10,8 +10,8 @@ use ww_desk::{Desk, OpenFault, open};
 use ww_queue::Kind;
 use ww_word::wide::MANY_SEATS;
 
-/// Opens a world of so many locks of a kind (0 Wound-Wait, 1 Wait-Die), with a seat for each of the handles, which are
-/// empty before.
+/// Opens a world with this many locks of a kind (0 Wound-Wait, 1 Wait-Die), with a seat for each of the handles, which
+/// are empty before.
 #[unsafe(no_mangle)]
 pub extern "C" fn ww_open_(
     alloc: Global,

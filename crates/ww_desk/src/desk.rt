@@ -3,9 +3,9 @@
 use crate::station::Station;
 use std::marker::Model;
 
-/// What a thread has of a world of locks: a seat, and where its call stands. Every call may be made at any time, waits
-/// for nobody, and answers what became of it; `Again`, `Awaits`, `Stays` and `Sleeps` want a call of `go_on`. Contracts
-/// see it as a situation.
+/// One thread's handle of a world of locks: its seat, and the state of its current call. Any call may be made at any
+/// time, and calls never block: each returns what became of it, and `Again`, `Awaits`, `Stays` and `Sleeps` ask for a
+/// call of `go_on`. Contracts see it as a situation.
 #[derive(Drop)]
 pub struct Desk {
     pub(crate) station: Station,

@@ -44,7 +44,7 @@ impl Desk {
         }
     }
 
-    /// One try to release a lock, between two calls; whether it did. Whether the lock is held its word tells.
+    /// One try to release a lock, between two calls; returns whether it did. The lock's word says whether it is held.
     #[inline(always)]
     #[tactic(auto, using(crate::proofs::Keeping::gave_at_once))]
     fn releases(&mut self, lock: u32) -> bool
@@ -64,7 +64,7 @@ impl Desk {
     }
 
     /// Releases the locks of a list from its end on, between two calls, and gives how many are left: it stops at one that
-    /// isn't released at once, or isn't held.
+    /// one step doesn't release, or that isn't held.
     #[inline(always)]
     pub fn unlock_each(&mut self, locks: &[u32]) -> usize
         requires { is_at_rest self.old.turn ≡ true }

@@ -97,7 +97,7 @@ impl Desk {
         Answer::Done
     }
 
-    /// One of those to wake now, if there are any. Each is told once.
+    /// One of the seats to wake now, if there are any. Each is named once.
     pub fn next_wake(&mut self) -> Option<u16>
         ensures { IsWakeAnswer self.old result self.new }
     {

@@ -1,9 +1,9 @@
 //! The locks for callers that wait by themselves: a [`Desk`] for each seat of a world, which knows where the seat's
 //! call stands.
 //!
-//! A call of a desk makes a few steps and waits for nobody. What would wait answers that it wants another step, at once
+//! A call of a desk makes a few steps and waits for nobody. One that would wait returns that it wants another step, now
 //! or once somebody has woken the seat, and [`Desk::go_on`] makes that step. Each call may be made at any time,
-//! whatever was called before, and answers what became of it.
+//! whatever was called before, and returns what became of it.
 #![tactic(auto)]
 
 mod contexts;

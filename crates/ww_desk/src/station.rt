@@ -9,7 +9,7 @@ use ww_seat::{Memory, Seat};
 use ww_table::Board;
 
 /// What a desk keeps: its seat at the table that it shares with others, and where its call stands. Contracts see it as
-/// a situation. Which locks it holds it doesn't keep: the owner words tell that.
+/// a situation. It doesn't keep which locks it holds: the owner words say that.
 #[derive(Drop)]
 pub(crate) struct Station {
     pub(crate) board: Arc<Board, Global>,
@@ -22,14 +22,14 @@ pub(crate) struct Station {
     pub(crate) is_done: bool,
     /// How many seats the world has.
     pub(crate) seats: u16,
-    /// The lock for which it was told to back off.
+    /// The contended lock, because of which it has to back off.
     pub(crate) told: Option<u32>,
     pub(crate) turn: Turn,
     /// How many contexts it may still begin.
     pub(crate) left: u64,
     /// What it remembers of its first tries. No contract speaks of it.
     pub(crate) memory: Memory,
-    /// Whom to wake once it is outside the guard: a mark for each seat, 64 in a word.
+    /// The seats to wake once it is outside the guard: a mark for each seat, 64 in a word.
     pub(crate) wake: Vec<u64>,
 }
 

@@ -10,7 +10,7 @@ impl Desk {
     ghost use Rattle.ww_desk.specs.Situations.{is_at_rest, is_empty, wants_now, IsBare, IsPlain};
     ghost use Rattle.ww_desk.specs.Answers.{answer_of, CanNotTry, IsRefusal, IsTryAnswer, IsLockAnswer, IsSlowAnswer, HasJustLost, HasTriedAsIs, HasTurnedAway};
 
-    /// Why it doesn't try to take this lock. Whether it holds it the lock's word tells.
+    /// Why it doesn't try to take this lock. The lock's word says whether it holds it.
     #[cold]
     #[inline(never)]
     fn refuses(&mut self, lock: u32) -> Refusal
@@ -67,7 +67,7 @@ impl Desk {
         tried
     }
 
-    /// Takes a lock if nobody has it or waits for it, and else answers `Busy`.
+    /// Takes a lock if nobody has it or waits for it, and else returns `Busy`.
     pub fn try_lock(&mut self, lock: u32) -> Answer
         ensures { IsTryAnswer self.old lock result self.new }
     {
@@ -82,7 +82,7 @@ impl Desk {
     }
 
     /// Takes a lock, or begins to wait for it. `Invalid` for a lock that isn't there, for a context that is done, for
-    /// one that was told to back off and hasn't, and for a second lock without a context.
+    /// one that has to back off and hasn't, and for a second lock without a context.
     #[inline(always)]
     pub fn lock(&mut self, lock: u32, waits: Waits) -> Answer
         ensures { IsLockAnswer self.old lock waits result self.new }
@@ -180,7 +180,7 @@ impl Desk {
         self.station.turn = Turn::Stays(lock, Stay::new(self.station.count != 0), waits);
     }
 
-    /// Takes the lock for which the context was told to back off, once it has. `Invalid` for any other lock, or while
+    /// Takes the contended lock, once the context has backed off because of it. `Invalid` for any other lock, or while
     /// one is held.
     pub fn lock_slow(&mut self, lock: u32, waits: Waits) -> Answer
         ensures { IsSlowAnswer self.old lock waits result self.new }

@@ -1,4 +1,4 @@
-//! Where a call stands that is made in non-blocking steps, and what a step answers.
+//! Where a call stands that is made in non-blocking steps, and what a step returns.
 
 use ww_seat::{Arrival, Rest, Stay, Waits};
 
@@ -22,7 +22,7 @@ pub enum Turn {
 pub enum Answer {
     /// The call is at its end, and did what it is for.
     Done,
-    /// It wants another step, at once: it hasn't come to the guard of its lock yet, or is inside of it.
+    /// It wants another step, immediately: it hasn't come to the guard of its lock yet, or is inside of it.
     Again,
     /// It wants another step once it may go inside the guard of its lock, where another seat is.
     Awaits,

@@ -1,4 +1,4 @@
--- What desks do, and what is asked of whoever drives their calls.
+-- What desks do, and what is asked of the drivers that make their calls.
 use Rattle.std.specs.Prelude.{ℕ, ◌≡◌, ◌<◌, ◌+◌, ◌-◌, Bool, true, false, List, Option, Some}
 use Rattle.ww_model.specs.State.{put}
 use Rattle.ww_rule.specs.declared.cells.Start.{Start}
@@ -109,13 +109,13 @@ module _ {key : Start} (g g' : Stage key) where
     pub answer : IsWakeAnswer (g.desk d) (Some u) (g'.desk d)
     pub now : g' ≡ record g { desk = put g.desk d (g'.desk d); named = put g.named d (put (g.named d) u true) }
 
-  -- a seat is given a token, outside the guards: whoever was named, or another
+  -- a seat is given a token, outside the guards: a seat that was named, or another
   pub record Wakes (d u : ℕ) : Type 0 where
     pub at_hand : IsAtHand d
     pub outside : is_inside (g.desk d).turn ≡ false
     pub now : g' ≡ record g { moment = woken g.moment d u; named = put g.named d (put (g.named d) u false) }
 
-  -- The thread falls asleep: the desk told it so, has nobody to name, and whoever was named has had a token.
+  -- The thread falls asleep: the desk told it so, has nobody to name, and each seat that was named has had a token.
   pub record Parks (d : ℕ) : Type 0 where
     pub at_hand : IsAtHand d
     pub told : g.to_sleep d ≡ true

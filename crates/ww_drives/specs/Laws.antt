@@ -1,4 +1,4 @@
--- What holds of whoever drives desks so.
+-- What holds of desks that are driven so.
 use Rattle.std.specs.Prelude.{ℕ, suc, ◌≡◌, ◌≢◌, ◌<◌, ◌⊎◌, true, false, List, [], ◌∷◌, Option, Some, None}
 use Rattle.ww_model.specs.declared.event.Event.TheVariants.{Die, Leave}
 use Rattle.ww_model.specs.Waits.{IsOneOf}
@@ -65,7 +65,7 @@ abbrev pub IsAlertedByDesks : {key : Start} → Stage key → ℕ → Type 0
 IsAlertedByDesks {key = key} g s = (g.moment.token s ≡ true)
     ⊎ ((t : ℕ) × (t < key.seats) × (g.moment.asleep t ≡ false) × IsDueBy g t s)
 
--- whoever sleeps, and neither was woken nor is about to be, has to wait
+-- each seat that sleeps, and neither was woken nor is about to be, has to wait
 abbrev pub NoWakeIsLostInDrives : Type 0
 NoWakeIsLostInDrives = (key : Start) (g : Stage key) → IsDriven g → (s : ℕ) → s < key.seats → g.moment.asleep s ≡ true →
     IsAlertedByDesks g s ⊎ HasToWaitThere g.moment s
@@ -77,9 +77,9 @@ abbrev pub NoStandstillInDrives : Type 0
 NoStandstillInDrives = (key : Start) (g : Stage key) → IsDriven g → (seats : List ℕ) →
     ((s : ℕ) → IsOneOf s seats → (g.moment.asleep s ≡ true) × (¬ IsAlertedByDesks g s)) → ¬ AreDeadlocked (core g.moment) seats
 
--- ---- nobody sleeps for ever in vain
+-- ---- nobody sleeps forever in vain
 
--- a drive that goes on for ever, if only by halts
+-- a drive that goes on forever, if only by halts
 pub record IsEndlessDrive {key : Start} (stage : ℕ → Stage key) (deed : ℕ → Deed) : Type 0 where
   pub begins : IsDriven (stage 0)
   pub goes_on : (i : ℕ) → Does (stage i) (stage (suc i)) (deed i)
@@ -90,7 +90,7 @@ pub record WakesArriveByDesks {key : Start} (stage : ℕ → Stage key) (deed : 
   pub heard : (i s : ℕ) → s < key.seats → (stage i).moment.token s ≡ true → (stage i).moment.asleep s ≡ true →
       InTheEnd i (λ j. deed j ≡ rises s)
 
--- whoever sleeps without having to is awake later
+-- each seat that sleeps without having to is awake later
 abbrev pub NobodySleepsInVainInDrives : Type 0
 NobodySleepsInVainInDrives = (key : Start) (stage : ℕ → Stage key) (deed : ℕ → Deed) → IsEndlessDrive stage deed →
     WakesArriveByDesks stage deed → (i s : ℕ) → s < key.seats → (stage i).moment.asleep s ≡ true →
@@ -112,7 +112,7 @@ pub record IsServed {key : Start} (stage : ℕ → Stage key) (deed : ℕ → De
   pub leaves : (i n : ℕ) → (view (stage i).moment s).waits ≡ suc n → (view (stage i).moment s).inside ≡ suc n →
       InTheEnd i (λ j. ((view (stage j).moment s).inside ≢ suc n) ⊎ ((view (stage j).moment s).waits ≢ suc n))
 
--- Whenever seats are deadlocked, and their drivers scheduled, one of them gets EDEADLK or is called off in the end, whatever
+-- Whenever seats are deadlocked, and their drivers scheduled, one of them gets EDEADLK or is cancelled in the end, whatever
 -- other drivers do.
 abbrev pub NoDeadlockLastsInDrives : Type 0
 NoDeadlockLastsInDrives = (key : Start) (stage : ℕ → Stage key) (deed : ℕ → Deed) → IsEndlessDrive stage deed →

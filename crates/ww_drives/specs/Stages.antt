@@ -1,4 +1,4 @@
--- Desks at a table, and whoever drives their calls, at one moment.
+-- Desks at a table, and the drivers that make their calls, at one moment.
 use Rattle.std.specs.Prelude.{ℕ, ◌≡◌, ◌<◌, Bool, false}
 use Rattle.atomic_table.specs.Seated.{TableId}
 use Rattle.ww_rule.specs.declared.cells.Start.{Start}

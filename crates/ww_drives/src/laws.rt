@@ -16,12 +16,12 @@ pub fn drives_are_runs()
     ensures { DrivesAreRuns }
 {}
 
-/// Whoever sleeps has a token, is marked, named or owed a wake by a desk whose thread is awake, or has to wait.
+/// Each seat that sleeps has a token, is marked, named or owed a wake by a desk whose thread is awake, or has to wait.
 pub fn no_wake_is_lost_in_drives()
     ensures { NoWakeIsLostInDrives }
 {}
 
-/// Seats that all sleep, and for whose waking nobody has yet to see, aren't deadlocked.
+/// Seats that all sleep, and that nobody has yet to wake, aren't deadlocked.
 pub fn no_standstill_in_drives()
     ensures { NoStandstillInDrives }
 {}
@@ -32,7 +32,7 @@ pub fn nobody_sleeps_in_vain_in_drives()
     ensures { NobodySleepsInVainInDrives }
 {}
 
-/// Whenever seats are deadlocked, and their drivers scheduled, one of them gets EDEADLK or is called off in the end.
+/// Whenever seats are deadlocked, and their drivers scheduled, one of them gets EDEADLK or is cancelled in the end.
 pub fn no_deadlock_lasts_in_drives()
     ensures { NoDeadlockLastsInDrives }
 {}

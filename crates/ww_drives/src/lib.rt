@@ -1,4 +1,4 @@
-//! Whoever drives desks loses no wake-up, and no deadlock of theirs lasts: each function's contract is a law, and there is no
+//! Drivers of desks lose no wake-up, and no deadlock of theirs lasts: each function's contract is a law, and there is no
 //! code.
 #![tactic(auto)]
 

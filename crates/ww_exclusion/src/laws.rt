@@ -7,7 +7,7 @@ pub fn passes_exclude()
     ensures { PassesExclude }
 {}
 
-/// At each moment one desk of a world at most holds a lock, between two calls or amid one.
+/// At each moment at most one desk of a world holds a lock, between two calls or during one.
 pub fn desks_exclude()
     ensures { DesksExclude }
 {}

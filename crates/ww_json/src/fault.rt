@@ -1,4 +1,4 @@
-//! The faults of an input, and the line that tells each.
+//! The faults of an input, and the line that names each.
 
 ghost use Rattle.std.specs.Prelude.{◌≡◌, ◌≤◌};
 ghost use Rattle.ww_json.specs.Fault.{refusal_text};

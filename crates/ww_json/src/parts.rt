@@ -29,7 +29,7 @@ pub fn member_of<'v>(name: &str, value: &'v Value) -> Result<&'v Value, InputFau
     value.get(name).ok_or(InputFault::BadKey)
 }
 
-/// An object of so many members has no other than those that were named.
+/// An object with this many members has no others than those that were named.
 pub fn only_of(named: usize, members: usize) -> Result<(), InputFault>
     ensures { Says (λ done. done) result (only named members) }
 {

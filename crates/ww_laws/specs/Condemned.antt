@@ -1,4 +1,4 @@
--- Whoever is condemned gives way at its next look, for as long as the lock keeps its owner and, in Wait-Die, its waiters
+-- A condemned seat gives way at its next look, for as long as the lock keeps its owner and, in Wait-Die, its waiters
 -- ahead of that seat.
 use Rattle.std.specs.Prelude.{ℕ, ◌≡◌, ◌≢◌, IsSome}
 use Rattle.ww_queue.specs.declared.kind.Kind.TheVariants.{WaitDie}
@@ -10,7 +10,7 @@ use Rattle.ww_model.specs.State.{State, HasOther, Inside, dies}
 use Rattle.ww_model.specs.Event.{Possible, after, actor}
 use Rattle.ww_model.specs.Waits.{IsCondemned}
 
--- from c to d the lock keeps its owner and, in Wait-Die, whoever waits ahead of the seat still does
+-- from c to d the lock keeps its owner and, in Wait-Die, each waiter ahead of the seat stays ahead of it
 pub record KeepsCause (c d : State) (a n : ℕ) : Type 0 where
   pub owner : d.owner n ≡ c.owner n
   pub ahead : c.kind ≡ WaitDie → (x e : Entry) → e.seat ≡ a → Before (c.queue n) x e → Before (d.queue n) x e

@@ -29,7 +29,7 @@ pub fn rings_are_apart()
     ensures { OfLawful RingsAreApart }
 {}
 
-/// A condemned seat can go inside the guard of the lock where it waits, if that is free, and die there, and is told the
+/// A condemned seat can go inside the guard of the lock where it waits, if that is free, and die there, and gets the
 /// stamp for which it has to die.
 #[tactic(auto, using(ww_model::proofs::Leaving::condemned_can_die))]
 pub fn condemned_can_die()
@@ -52,7 +52,7 @@ pub fn looks_on()
     ensures { OfLawful LooksOn }
 {}
 
-/// A seat that looks condemned can't take the lock: it is told EDEADLK, or EINTR if it heeds a cancel.
+/// A seat that looks condemned can't take the lock: it gets EDEADLK, or EINTR if it heeds a cancel.
 #[tactic(auto, using(crate::proofs::Condemned::who_looks_gives_way))]
 pub fn who_looks_gives_way()
     ensures { OfLawful WhoLooksGivesWay }
@@ -70,7 +70,7 @@ pub fn signed_owns_outside()
     ensures { OfReached SignedOwnsOutside }
 {}
 
-/// Wait-Die, in every lawful state: where a guard is free, whoever must die there has a sign.
+/// Wait-Die, in every lawful state: where a guard is free, each seat that must die there has a sign.
 #[tactic(auto, using(ww_model::proofs::FreeGuards::free_guards_owe_nothing))]
 pub fn free_guards_owe_nothing()
     ensures { OfLawful FreeGuardsOweNothing }
@@ -101,7 +101,7 @@ pub fn queues_ascend()
     ensures { OfLawful QueuesAscend }
 {}
 
-/// Whoever waits in a reached state is one of the seats.
+/// Each waiter in a reached state is one of the seats.
 #[tactic(auto, using(ww_model::proofs::Leaving::waiters_are_seats))]
 pub fn waiters_are_seats()
     ensures { OfReached WaitersAreSeats }

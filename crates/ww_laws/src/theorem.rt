@@ -27,7 +27,7 @@ pub fn reached_is_lawful()
     ensures { ReachedIsLawful }
 {}
 
-/// Whoever is answered EDEADLK dies, owns a lock, and met the older context whose stamp it is told.
+/// Each seat that gets EDEADLK dies, owns a lock, and met the older context whose stamp it gets.
 #[tactic(auto, using(ww_model::proofs::Meetings::deadlk_was_met))]
 pub fn deadlk_was_met()
     ensures { DeadlkWasMet }
@@ -40,7 +40,7 @@ pub fn oldest_never_dies()
 {}
 
 /// Wherever the oldest context waits and has heeded no cancel, some run leads to it owning the lock in which nobody
-/// begins anything new, and in which it neither dies nor is interrupted nor releases anything: whoever is in its way
+/// begins anything new, and in which it neither dies nor is interrupted nor releases anything: the seats in its way
 /// can be made to give way, and it never has to.
 #[tactic(auto, using(crate::proofs::Taking::oldest_can_take))]
 pub fn oldest_can_take()

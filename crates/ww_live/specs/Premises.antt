@@ -42,7 +42,7 @@ module _ (scene : ℕ → Scene) (step : ℕ → Step) where
   abbrev pub WaitersGoOn : Type 0
   WaitersGoOn = (s : ℕ) → WaiterGoesOn s
 
-  -- Whoever has taken a lock, and waits for none, has it no more later, or stands in a list.
+  -- Each seat that has taken a lock, and waits for none, has it no more later, or stands in a list.
   abbrev pub HoldersGoOn : Type 0
   HoldersGoOn = (i s n : ℕ) → (scene i).core.owner n ≡ Taken s → InNoQueue (scene i).core s →
       InTheEnd i (λ j. ((scene j).core.owner n ≢ Taken s) ⊎ ((m : ℕ) × Stands ((scene j).core.queue m) s))
@@ -51,13 +51,13 @@ module _ (scene : ℕ → Scene) (step : ℕ → Step) where
   abbrev pub WaitsForEver : ℕ → ℕ → Type 0
   WaitsForEver s j = (m : ℕ) × ((k : ℕ) → j ≤ k → Stands ((scene k).core.queue m) s)
 
-  -- The same of programs that come to an end: whoever has taken a lock has it no more later, unless it comes to wait
-  -- for ever.
+  -- The same of programs that come to an end: each seat that has taken a lock has it no more later, unless it comes to
+  -- wait forever.
   abbrev pub HoldersRelease : Type 0
   HoldersRelease = (i s n : ℕ) → (scene i).core.owner n ≡ Taken s →
       InTheEnd i (λ j. ((scene j).core.owner n ≢ Taken s) ⊎ WaitsForEver s j)
 
-  -- From i on the context of the seat rests: as long as it goes on, which may be for ever, the seat owns no lock and
+  -- From i on the context of the seat rests: as long as it goes on, which may be forever, the seat owns no lock and
   -- waits for none.
   abbrev pub RestsOn : ℕ → ℕ → Type 0
   RestsOn s i = (j : ℕ) → i ≤ j → (scene j).core.stamp s ≡ (scene i).core.stamp s →
@@ -72,8 +72,8 @@ module _ (scene : ℕ → Scene) (step : ℕ → Step) where
   abbrev pub IsOver : ℕ → ℕ → Type 0
   IsOver s j = (step j ≡ performs (End s)) ⊎ RestsOn s j
 
-  -- The program of the seat comes to an end: a context of it is over later, unless it comes to wait for ever, dies, or
-  -- is called off.
+  -- The program of the seat comes to an end: a context of it is over later, unless it comes to wait forever, dies, or
+  -- is cancelled.
   abbrev pub ContextsEnd : ℕ → Type 0
   ContextsEnd s = (i : ℕ) → 0 < (scene i).core.stamp s → InTheEnd i (λ j. IsOver s j ⊎
       (WaitsForEver s j ⊎ ((m : ℕ) × ((step j ≡ performs (Die s m)) ⊎ (step j ≡ performs (Leave s m))))))
@@ -90,19 +90,19 @@ module _ (scene : ℕ → Scene) (step : ℕ → Step) where
       step j ≡ leaves_to_sleep s n heeds → IsFirst ((scene j).core.queue n) s →
       ((scene j).core.asked n ≡ true) ⊎ ((t : ℕ) × ((scene j).core.owner n ≡ Handed t))
 
-  -- Whoever has died wants a lock again only once it has owned none.
+  -- Each seat that has died wants a lock again only once it has owned none.
   abbrev pub BacksOff : Type 0
   BacksOff = (i j s m n : ℕ) → i < j → step i ≡ performs (Die s m) → Wants s n (step j) →
       (k : ℕ) × (i < k) × (k ≤ j) × OwnsNone (scene k).core s
 
-  -- The slow path: whoever has died at a lock wants no other one in that context before it has taken this one.
+  -- The slow path: each seat that has died at a lock wants no other one in that context before it has taken this one.
   abbrev pub TakesContendedFirst : Type 0
   TakesContendedFirst = (i j s m n : ℕ) → i < j → step i ≡ performs (Die s m) → Wants s n (step j) →
       ((k : ℕ) → i < k → k ≤ j →
       ((scene k).core.owner m ≢ Taken s) × ((scene k).core.stamp s ≡ (scene i).core.stamp s)) → n ≡ m
 
-  -- Programs come to an end, also where they are called off: each context is over later, unless it comes to wait for
-  -- ever, or dies.
+  -- Programs come to an end, also where they are cancelled: each context is over later, unless it comes to wait
+  -- forever, or dies.
   abbrev pub ContextsEndOrDie : Type 0
   ContextsEndOrDie = (i s : ℕ) → 0 < (scene i).core.stamp s → InTheEnd i (λ j. IsOver s j ⊎
       (WaitsForEver s j ⊎ ((m : ℕ) × (step j ≡ performs (Die s m)))))

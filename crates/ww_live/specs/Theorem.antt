@@ -11,7 +11,7 @@ use Rattle.ww_wakes.specs.Scene.{asleep, Scene, Step, performs}
 use Rattle.ww_wakes.specs.Theorem.{IsDue, IsEndlessRun}
 use Rattle.ww_live.specs.Premises.{InTheEnd, Wants, WaiterGoesOn, WaitersGoOn, HoldersGoOn, HoldersRelease, IsOver, RestsOn, IsOldestActive, ContextsEnd, WaitsOwning, FirstsAsk, BacksOff, TakesContendedFirst, ContextsEndOrDie}
 
--- the seat gives up waiting: it dies, which is EDEADLK, or it leaves the list since it was called off
+-- the seat gives up waiting: it dies, which is EDEADLK, or it leaves the list since it was cancelled
 abbrev pub GivesUp : ℕ → Step → Type 0
 GivesUp s x = (n : ℕ) × ((x ≡ performs (Die s n)) ⊎ (x ≡ performs (Leave s n)))
 
@@ -31,7 +31,7 @@ abbrev pub IsResolved : (ℕ → Step) → ℕ → List ℕ → Type 0
 IsResolved step i seats = InTheEnd i (λ j. (s : ℕ) × IsOneOf s seats × GivesUp s (step j))
 
 -- These seats are scheduled while they wait. So others make the wakes that they owe these, and don't keep the guards of
--- their lists for ever; nothing else is asked of others.
+-- their lists forever; nothing else is asked of others.
 abbrev pub TheseGoOn : (ℕ → Scene) → (ℕ → Step) → List ℕ → Type 0
 TheseGoOn scene step seats = (s : ℕ) → IsOneOf s seats → WaiterGoesOn scene step s
 
@@ -68,7 +68,7 @@ pub record EndsSomeWait (c : State) (x : Step) : Type 0 where
   pub stands : Stands (c.queue lock) seat
   pub ends : EndsWait seat lock x
 
--- Whenever somebody waits, some wait ends later, if beside that whoever is first in a list asks for the lock.
+-- Whenever somebody waits, some wait ends later, if beside that each seat that is first in a list asks for the lock.
 abbrev pub WaitsEnd : Type 0
 WaitsEnd = (scene : ℕ → Scene) (step : ℕ → Step) → IsEndlessRun scene step → WaitersGoOn scene step →
     HoldersGoOn scene step → FirstsAsk scene step → (i s n : ℕ) → Stands ((scene i).core.queue n) s →
@@ -76,14 +76,14 @@ WaitsEnd = (scene : ℕ → Scene) (step : ℕ → Step) → IsEndlessRun scene 
 
 -- ---- not by deaths alone
 
--- somebody takes a lock, at once or inside its guard, or is called off
+-- somebody takes a lock, at once or inside its guard, or is cancelled
 abbrev pub TakesOrIsCalledOff : Step → Type 0
 TakesOrIsCalledOff x = (s : ℕ) × (n : ℕ) ×
     ((x ≡ performs (Fast s n)) ⊎ ((x ≡ performs (Take s n)) ⊎ (x ≡ performs (Leave s n))))
 
--- Whenever somebody waits, its own wait ends later, or somebody takes a lock or is called off: so nobody waits while
--- the others do nothing but die and try again, if whoever has died releases all that it has before it wants a lock
--- again.
+-- Whenever somebody waits, its own wait ends later, or somebody takes a lock or is cancelled: so nobody waits while
+-- the others do nothing but die and try again, if each seat that has died releases all that it has before it wants a
+-- lock again.
 abbrev pub NoLivelock : Type 0
 NoLivelock = (scene : ℕ → Scene) (step : ℕ → Step) → IsEndlessRun scene step → WaitersGoOn scene step →
     HoldersGoOn scene step → BacksOff scene step → (i s n : ℕ) → Stands ((scene i).core.queue n) s →
@@ -110,31 +110,31 @@ OldestNeverGivesWay = (scene : ℕ → Scene) (step : ℕ → Step) → IsEndles
     ((t : ℕ) → step j ≢ performs (Sign t s)) × ((n : ℕ) → step j ≢ performs (Die s n))
 
 -- In Wound-Wait the oldest of those, if it has no sign, and has a lock already, gets each lock
--- that it waits for, unless it is called off: if whoever has a lock releases it in the end, unless it waits for ever, and
--- the first waiters ask.
+-- that it waits for, unless it is cancelled: if each seat that has a lock releases it in the end, unless it waits
+-- forever, and the first waiters ask.
 abbrev pub OldestIsServed : Type 0
 OldestIsServed = (scene : ℕ → Scene) (step : ℕ → Step) → IsEndlessRun scene step → WaitersGoOn scene step →
     HoldersRelease scene step → FirstsAsk scene step → (i s n : ℕ) → (scene i).core.kind ≡ WoundWait →
     IsOldestActive scene step s i → (scene i).core.sign s ≡ 0 → OwnsSome (scene i).core s →
     Stands ((scene i).core.queue n) s → InTheEnd i (λ j. (step j ≡ performs (Take s n)) ⊎ (step j ≡ performs (Leave s n)))
 
--- So it ends, or comes to rest, unless it is called off, if its program comes to an end, and it waits only while it owns a
--- lock.
+-- So it ends, or comes to rest, unless it is cancelled, if its program comes to an end, and it waits only while it owns
+-- a lock.
 abbrev pub OldestEnds : Type 0
 OldestEnds = (scene : ℕ → Scene) (step : ℕ → Step) → IsEndlessRun scene step → WaitersGoOn scene step →
     HoldersRelease scene step → FirstsAsk scene step → (i s : ℕ) → (scene i).core.kind ≡ WoundWait →
     IsOldestActive scene step s i → (scene i).core.sign s ≡ 0 → ContextsEnd scene step s → WaitsOwning scene step s i →
     InTheEnd i (λ j. IsOver scene step s j ⊎ ((n : ℕ) × (step j ≡ performs (Leave s n))))
 
--- In Wait-Die each context gets each lock that it waits for, unless it dies or is called off: if programs come to an
--- end, the first waiters ask, and whoever dies releases all that it has and then takes the contended lock first.
+-- In Wait-Die each context gets each lock that it waits for, unless it dies or is cancelled: if programs come to an
+-- end, the first waiters ask, and each seat that dies releases all that it has and then takes the contended lock first.
 abbrev pub ContextsAreServed : Type 0
 ContextsAreServed = (scene : ℕ → Scene) (step : ℕ → Step) → IsEndlessRun scene step → WaitersGoOn scene step →
     HoldersRelease scene step → ContextsEndOrDie scene step → FirstsAsk scene step → BacksOff scene step →
     TakesContendedFirst scene step → (i s n : ℕ) → (scene i).core.kind ≡ WaitDie → 0 < (scene i).core.stamp s →
     Stands ((scene i).core.queue n) s → InTheEnd i (λ j. EndsWait s n (step j))
 
--- The oldest of those that don't rest on, which never has to die there, gets each of them, unless it is called off.
+-- The oldest of those that don't rest on, which never has to die there, gets each of them, unless it is cancelled.
 abbrev pub OldestWaitDieIsServed : Type 0
 OldestWaitDieIsServed = (scene : ℕ → Scene) (step : ℕ → Step) → IsEndlessRun scene step → WaitersGoOn scene step →
     HoldersRelease scene step → ContextsEndOrDie scene step → FirstsAsk scene step → BacksOff scene step →

@@ -95,7 +95,7 @@ pub record MayLockAlone (n : ℕ) (c : Carried) : Type 0 where
   pub there : n < length c.seen
 
 -- what its seat has met where it came without lock n: an older context of the stamp that it tells; or nothing, where its
--- wait was called off
+-- wait was cancelled
 abbrev pub HasMetSo : ℕ → Stop → Carried → Type 0
 HasMetSo n (Deadlk k) c = HasMet n k (known_of c)
 HasMetSo n (Interrupted by) c = met_of c ≡ None

@@ -24,7 +24,7 @@ missing_of (suc k) passes = if has_pass passes k then missing_of k passes else m
 abbrev pub AreParts : List Holding → List Recorded → Type 0
 AreParts passes history = AllByRecursion (λ s. part_of s.caller history ≡ s.own) passes
 
--- how often the first of two passes called off the wait of the second, which was told so as often; once more where that
+-- how often the first of two passes cancelled the wait of the second, which was told so as often; once more where that
 -- cancel is pending
 abbrev pub IsBalanced : Holding → Holding → ℕ → Type 0
 IsBalanced s t pending = times t.caller s.cancelled ≡ times s.caller (by_of t.interrupted) + one_of s.caller t.caller pending

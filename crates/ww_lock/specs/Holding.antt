@@ -22,9 +22,9 @@ pub record Home : Type 0 where
 -- oldest first, with room for so many more; the nodes that it holds, in the order in which it took them; the graph as
 -- it has seen it, of which the nodes held are as they were when they were locked; how often it tried to take a lock at
 -- once, by one step that a free lock allows, how often it took a lock, and how often it had to back off; how often it left
--- a guard to sleep without having looked there whether its wait was called off; the callers
--- whose wait it called off, the last one first, and how often it found a cancel pending where it would set one; and each
--- time that its own wait was called off, the last one first: for which node, and by which caller.
+-- a guard to sleep without having looked there whether its wait was cancelled; the callers
+-- whose wait it cancelled, the last one first, and how often it found a cancel pending where it would set one; and each
+-- time that its own wait was cancelled, the last one first: for which node, and by which caller.
 pub record Holding : Type 0 where
   pub home : Home
   pub caller : ℕ
@@ -43,7 +43,7 @@ pub record Holding : Type 0 where
   pub pendings : ℕ
   pub interrupted : List (ℕ × ℕ)
 
--- a context that is told EDEADLK: the lock that it couldn't get, and the stamp of the older context that it met
+-- a context that gets EDEADLK: the lock that it couldn't get, and the stamp of the older context that it met
 pub record Refused : Type 0 where
   pub holding : Holding
   pub contended : ℕ

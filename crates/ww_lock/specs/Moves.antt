@@ -31,7 +31,7 @@ with_node s n x = record s { held = s.held ++ n ∷ []; seen = slice_set s.seen 
 abbrev pub emptied : Holding → Holding
 emptied s = record s { held = [] }
 
--- it went to sleep in a wait without looking whether that was called off, until it had so often in all
+-- it went to sleep in a wait without looking whether that was cancelled, until it had so often in all
 abbrev pub having_slept : Holding → ℕ → Holding
 having_slept s k = record s { deaf = k }
 
@@ -83,11 +83,11 @@ pub record IsRefused (s : Holding) (n : ℕ) (b : Refused) : Type 0 where
   pub is_stamp : 1 ≤ b.met
   pub older : b.met < s.stamp
 
--- once more its wait was called off, for this node and by this caller, after one try to take the lock at once
+-- once more its wait was cancelled, for this node and by this caller, after one try to take the lock at once
 abbrev pub interrupted_by : Holding → ℕ → ℕ → Holding
 interrupted_by s n by = record s { tries = s.tries + 1; interrupted = (n, by) ∷ s.interrupted }
 
--- The node wasn't held, and the wait for it was called off by this caller: the seat left the wait list of its lock, for
+-- The node wasn't held, and the wait for it was cancelled by this caller: the seat left the wait list of its lock, for
 -- the cancel of that caller, which it had heeded there. The state still holds what it held.
 pub record IsInterrupted (s : Holding) (n by : ℕ) (a : Holding) : Type 0 where
   pub new : is_among n s.held ≡ false
@@ -98,11 +98,11 @@ abbrev pub IsStop : Holding → ℕ → Stop → Holding → Type 0
 IsStop s n (seat.Deadlk k) a = (a ≡ backed_off (having_slept s a.deaf)) × (1 ≤ k) × (k < s.stamp) × (1 ≤ length s.held)
 IsStop s n (seat.Interrupted by) a = IsInterrupted s n by a
 
--- the wait of this caller was called off
+-- the wait of this caller was cancelled
 abbrev pub IsCancelling : Holding → ℕ → Holding → Type 0
 IsCancelling s who a = a ≡ record s { cancelled = who ∷ s.cancelled }
 
--- it tried to call off the wait of a caller, by one step, and found a cancel of it pending
+-- it tried to cancel the wait of a caller, by one step, and found a cancel of it pending
 abbrev pub found_pending : Holding → Holding
 found_pending s = record s { pendings = s.pendings + 1 }
 
@@ -124,15 +124,15 @@ going_on (Locked a) = Ok a
 going_on (Already a) = Ok a
 going_on (Deadlk b) = Err b
 
--- the answer of a lock call that waits so: only a wait until a cancel is called off, and such a wait looks for one each time
--- before it sleeps
+-- the answer of a lock call that waits so: only a wait until a cancel is ended by one, and such a wait looks for one each
+-- time before it sleeps
 abbrev pub IsAnswer : Waits → Holding → ℕ → Interruptible → Type 0
 IsAnswer waits s n (stop.Locked a) = IsTaken s n a × IsHeeding waits s a
 IsAnswer waits s n (stop.Already a) = (is_among n s.held ≡ true) × (a ≡ s)
 IsAnswer waits s n (stop.Deadlk b) = IsRefused s n b × IsHeeding waits s b.holding
 IsAnswer waits s n (stop.Interrupted a by) = (waits ≡ UntilCancelled) × IsInterrupted s n by a
 
--- ... of one that may be called off
+-- ... of one that may be cancelled
 abbrev pub IsInterruptibleAnswer : Holding → ℕ → Interruptible → Type 0
 IsInterruptibleAnswer s n answer = IsAnswer UntilCancelled s n answer
 

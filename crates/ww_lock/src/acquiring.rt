@@ -1,4 +1,4 @@
-//! The state in which a context takes locks, its calls, and what they answer.
+//! The state in which a context takes locks, its calls, and what they return.
 
 use crate::backoff::Backoff;
 use crate::done::{Done, Empty};
@@ -28,7 +28,7 @@ impl Model for Acquiring {
     ghost invariant = { λ s. IsFresh s.hand.value × (0 < stamp_of s.hand.value) × (met_of s.hand.value ≡ None) };
 }
 
-/// What a lock call answers.
+/// What a lock call returns.
 pub enum Lock {
     Locked(Acquiring),
     /// The context holds the node: the kernel's EALREADY.
@@ -42,7 +42,7 @@ impl Lock {
     ghost use Rattle.std.specs.Prelude.{◌≡◌};
     ghost use Rattle.ww_lock.specs.Moves.{code_of, going_on};
 
-    /// The kernel's error number of the answer, without its sign; 0 where the lock was taken.
+    /// The kernel's error number for this, without its sign; 0 if the lock was taken.
     pub fn code(&self) -> u8
         ensures { result ≡ code_of self.now }
     {
@@ -65,7 +65,7 @@ impl Lock {
     }
 }
 
-/// What a trylock answers.
+/// What a trylock returns.
 pub enum Try {
     Locked(Acquiring),
     /// Somebody has the lock, or waits for it; or the context holds it itself.
@@ -110,7 +110,7 @@ impl Acquiring {
         }
     }
 
-    /// The same, to the end or until it is called off: the last argument says how it waits.
+    /// The same, to the end or until it is cancelled: the last argument says how it waits.
     #[cold]
     fn wait_as<R: Wait>(
         rt: &R,
@@ -197,7 +197,7 @@ impl Acquiring {
     }
 
     /// Releases all locks of its own accord, and takes this one first, however long that takes. The context keeps its
-    /// stamp, and with it its age among the others. It holds no other lock, so nobody tells it EDEADLK.
+    /// stamp, and with it its age among the others. It holds no other lock, so it never gets EDEADLK.
     pub fn start_over<R: Wait>(self, rt: &R, world: &World, n: u8) -> Acquiring
         requires home { IsAtHome self world.now }
         requires node { n < length world.now.first }

@@ -1,4 +1,4 @@
-//! The state of a context that was told EDEADLK and still holds its locks.
+//! The state of a context that got EDEADLK and still holds its locks.
 
 use crate::acquiring::Acquiring;
 use crate::contended::Contended;
@@ -7,7 +7,7 @@ use crate::world::World;
 use std::marker::Model;
 use std::sync::Wait;
 
-/// A context that was told EDEADLK. It still holds its locks, and can only release them all. Invariant: the view of
+/// A context that got EDEADLK. It still holds its locks, and can only release them all. Invariant: the view of
 /// its seat keeps what it saw at just this lock when it backed off, and that shows an older context of just this stamp.
 /// It has taken and released no lock since.
 pub struct Backoff {

@@ -12,7 +12,7 @@ use ww_table::Seat16;
 /// Why a world was not closed. All is handed back then, and it can be tried again.
 #[derive(Clone, Copy, Debug, PartialEq, Eq, Drop, Error)]
 pub enum CloseFault {
-    /// So many passes are missing.
+    /// This many passes are missing.
     #[error("passes that are missing: {0}")]
     Missing(u8),
     /// A growth was refused.

@@ -1,4 +1,4 @@
-//! The state behind a back-off: nothing is held, and the contended lock comes first.
+//! The state after a back-off: nothing is held, and the contended lock comes first.
 
 use crate::acquiring::Acquiring;
 use crate::hand::Hand;
@@ -8,7 +8,7 @@ use std::marker::Model;
 use std::sync::Wait;
 use ww_seat::{Stop, Waits};
 
-/// A context that was told EDEADLK and has released all locks. It may take the lock that it couldn't get, or end.
+/// A context that got EDEADLK and has released all locks. It may take the lock that it couldn't get, or end.
 pub struct Contended {
     pub(crate) hand: Box<Hand>,
     pub(crate) contended: u8,
@@ -32,8 +32,8 @@ impl Contended {
     ghost use Rattle.ww_lock.specs.Moves.{IsHeeding, IsTaken, IsInterrupted};
     ghost use Rattle.ww_seat.specs.declared.waits.Waits.TheVariants.{UntilCancelled};
 
-    /// Takes the contended lock, however long that takes: the kernel's slow path. It holds no other lock, so nobody
-    /// tells it EDEADLK.
+    /// Takes the contended lock, however long that takes: the kernel's slow path. It holds no other lock, so it never
+    /// gets EDEADLK.
     pub fn lock_slow<R: Wait>(self, rt: &R, world: &World) -> Acquiring
         requires home { IsAtHome self.holding world.now }
         ensures taken { IsTaken self.holding self.contended result }

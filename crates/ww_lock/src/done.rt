@@ -1,4 +1,4 @@
-//! The states of a context that takes no more locks: before its commit, behind it, and with all released.
+//! The states of a context that takes no more locks: before its commit, after it, and with all released.
 
 use crate::hand::Hand;
 use crate::held::{Held, InContext, Kept};

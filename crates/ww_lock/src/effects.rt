@@ -11,8 +11,8 @@ use std::alloc::{AllocError, Global};
 use ww_plain::{Graph, Reply, Txn, apply, footprint};
 use ww_seat::NodeChange;
 
-/// What the transaction answers, and the changes of its footprint. It is applied to the graph itself, and then each
-/// node is put back.
+/// The transaction's reply, and the changes of its footprint. It is applied to the graph itself, and then each node is
+/// put back.
 pub(crate) fn changes(
     alloc: Global,
     graph: &mut Graph,

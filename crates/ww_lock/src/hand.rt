@@ -1,4 +1,4 @@
-//! What a pass keeps through all of its states, under the types that tell these apart.
+//! What a pass keeps through all of its states, inside the types of these states.
 
 ghost use Rattle.std.specs.Prelude.{◌≡◌, ◌<◌, ◌≤◌, length, slice_set, true};
 ghost use Rattle.ww_plain.specs.Graph.{IsNodeOf};

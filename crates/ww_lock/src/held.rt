@@ -9,7 +9,7 @@ use std::alloc::AllocError;
 use std::marker::{Model, PhantomData};
 use ww_plain::{Node, Txn, first_double};
 
-/// Who holds locks: a context, or whoever took one lock without a context.
+/// A holder of locks: a context, or a pass that took one lock without a context.
 pub trait Holder {
     /// The stamps that it has.
     ghost is_stamp: { ℕ → Type 0 };

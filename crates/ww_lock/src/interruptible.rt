@@ -1,4 +1,4 @@
-//! Lock calls that may be called off while they wait.
+//! Lock calls that may be cancelled while they wait.
 
 use crate::acquiring::Acquiring;
 use crate::backoff::Backoff;
@@ -7,7 +7,7 @@ use crate::world::World;
 use std::sync::Wait;
 use ww_seat::Waits;
 
-/// What an interruptible lock call answers.
+/// What an interruptible lock call returns.
 pub enum Interruptible {
     Locked(Acquiring),
     /// The context holds the node: the kernel's EALREADY.
@@ -15,15 +15,15 @@ pub enum Interruptible {
     /// An older context was met, and all locks have to be released: the kernel's EDEADLK. Only a context that holds a
     /// lock gets it.
     Deadlk(Backoff),
-    /// The wait was called off by this caller: the kernel's EINTR. The context holds what it held, and may go on.
+    /// The wait was cancelled by this caller: the kernel's EINTR. The context holds what it held, and may go on.
     Interrupted(Acquiring, u8),
 }
 
-/// Why a context that may be called off didn't get a lock.
+/// Why a context that may be cancelled didn't get a lock.
 pub enum Halt {
-    /// It was told EDEADLK, and has to back off.
+    /// It got EDEADLK, and has to back off.
     Deadlk(Backoff),
-    /// Its wait was called off by this caller. It holds what it held.
+    /// Its wait was cancelled by this caller. It holds what it held.
     Interrupted(Acquiring, u8),
 }
 
@@ -31,7 +31,7 @@ impl Interruptible {
     ghost use Rattle.std.specs.Prelude.{◌≡◌};
     ghost use Rattle.ww_lock.specs.Moves.{interruptible_code_of, going_on_or_halted};
 
-    /// The kernel's error number of the answer, without its sign; 0 where the lock was taken.
+    /// The kernel's error number for this, without its sign; 0 if the lock was taken.
     pub fn code(&self) -> u8
         ensures { result ≡ interruptible_code_of self.now }
     {
@@ -61,9 +61,9 @@ impl Acquiring {
     ghost use Rattle.ww_lock.specs.Holding.{IsAtHome};
     ghost use Rattle.ww_lock.specs.Moves.{IsInterruptibleAnswer};
 
-    /// Takes the lock of a node as `lock` does, but a wait for it may be called off: the kernel's
+    /// Takes the lock of a node as `lock` does, but a wait for it may be cancelled: the kernel's
     /// `ww_mutex_lock_interruptible`. If the call has to wait and a cancel of this caller is pending, whenever it was
-    /// set, the answer is that, before any EDEADLK. A call that meets no contention leaves the cancel pending.
+    /// set, it returns that, before any EDEADLK. A call that meets no contention leaves the cancel pending.
     pub fn lock_interruptible<R: Wait>(self, rt: &R, world: &World, n: u8) -> Interruptible
         requires home { IsAtHome self world.now }
         requires node { n < length world.now.first }
@@ -78,7 +78,7 @@ impl Contended {
     ghost use Rattle.ww_lock.specs.Holding.{IsAtHome};
     ghost use Rattle.ww_lock.specs.Moves.{IsTaken, IsInterrupted};
 
-    /// Takes the contended lock as `lock_slow` does, but the wait may be called off: the kernel's
+    /// Takes the contended lock as `lock_slow` does, but the wait may be cancelled: the kernel's
     /// `ww_mutex_lock_slow_interruptible`. It may then be tried again, or the context ends.
     pub fn lock_slow_interruptible<R: Wait>(
         self,

@@ -76,7 +76,7 @@ impl Hand {
         Ok(())
     }
 
-    /// Takes a lock that isn't held, by one try, or else after waiting for it; or it tells why it has to go without.
+    /// Takes a lock that isn't held, by one try, or else after waiting for it; or returns why it wasn't taken.
     #[inline(always)]
     pub(crate) fn take<R: Wait>(
         &mut self,
@@ -106,7 +106,7 @@ impl Hand {
             .cancel(&world.board, u16::from(who), &mut self.bells)
     }
 
-    /// Takes a lock where nothing is held: nobody is told EDEADLK there.
+    /// Takes a lock where nothing is held: nobody gets EDEADLK there.
     pub(crate) fn take_alone<R: Wait>(&mut self, rt: &R, world: &World, n: u8)
         requires home { IsAtHome (holding_of self.old) world.now }
         requires may { MayLockAlone n self.old }

@@ -38,8 +38,8 @@ impl Model for Prepared {
     ghost invariant = { λ p. IsPrepared p };
 }
 
-/// What a caller is told of its commit: its place in the one history, which of the caller's commits it is, from 0, and
-/// the transaction's answer.
+/// The receipt of a commit: its place in the one history, its number among the caller's commits, from 0, and the
+/// transaction's reply.
 #[derive(Debug, Drop)]
 pub struct Receipt {
     pub place: u64,
@@ -58,8 +58,8 @@ impl Hand {
     ghost use Rattle.ww_lock.specs.Making.{IsMade, IsMadeOf, Finds};
     ghost use Rattle.ww_lock.specs.Moves.{IsCommitted, MayPrepare, HasReserved};
 
-    /// The transaction's answer, twice, and its changes of the nodes as they were seen, with the room in the log
-    /// that its commit needs.
+    /// The transaction's reply, twice, and its changes of the nodes as they were seen, with the room in the log that
+    /// its commit needs.
     fn change(
         &mut self,
         alloc: Global,

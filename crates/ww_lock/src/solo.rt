@@ -1,4 +1,4 @@
-//! The states of whoever takes one lock without a context.
+//! The states of a pass that takes one lock without a context.
 
 use crate::held::{Alone, Held, Kept};
 use crate::pass::Pass;

@@ -74,7 +74,7 @@ impl World {
     ghost use Rattle.std.specs.Prelude.{◌≡◌, IfOk, IfErr, length};
     ghost use Rattle.ww_lock.specs.Opened.{IsOpened, IsOpenFault};
 
-    /// Opens a world on a graph, with so many passes, from 1 to 16, each of which may start so many contexts and solos.
+    /// Opens a world on a graph, with 1 to 16 passes, each of which may start this many contexts and solos.
     /// A pass is a caller of its own, and has the number of its place in the list.
     pub fn open(
         alloc: Global,

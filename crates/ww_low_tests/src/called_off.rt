@@ -1,4 +1,4 @@
-//! A waiter is called off, by one thread with both seats of a board. After each call all words of the board are
+//! A waiter is cancelled, by one thread with both seats of a board. After each call all words of the board are
 //! compared, its cancel among them.
 
 ghost use Rattle.std.specs.Prelude.{◌≡◌, length, IfOk};
@@ -65,7 +65,7 @@ fn stop<R: Wait + Abort>(
     }
 }
 
-/// Seat 1 was called off, and nobody waits: the lock is released, and a try takes it.
+/// Seat 1 was cancelled, and nobody waits: the lock is released, and a try takes it.
 fn taken_at_once<R: Wait + Abort>(rt: &R, board: &mut Board, owner: &mut Seat, stopped: &mut Seat)
     requires owner { Holds board.old (just 0) owner.old }
     requires stopped { Holds board.old none stopped.old }
@@ -180,7 +180,7 @@ fn a_plain_look_leaves_the_cancel(rt: HostRuntime) -> Result<(), Fail> {
     Ok(())
 }
 
-/// The younger would have to die, and is called off: it is told so first, and keeps its sign; at its next look it dies.
+/// The younger would have to die, and is cancelled: it gets that first, and keeps its sign; at its next look it dies.
 fn called_off_then_dies<R: Wait + Abort>(
     rt: &R,
     alloc: Global,
@@ -226,7 +226,7 @@ fn a_younger_context_is_called_off_first(rt: HostRuntime) -> Result<(), Fail> {
     Ok(())
 }
 
-/// Whoever is called off is woken: else this would never end.
+/// A seat that is cancelled is woken: else this would never end.
 #[test]
 fn a_cancel_wakes_the_waiter(rt: HostRuntime) -> Result<(), Fail> {
     let alloc = rt.alloc();

@@ -188,7 +188,7 @@ fn has_sums(graph: &Graph, all: &[Made]) -> bool {
     true
 }
 
-/// So many threads at once, with a seat each.
+/// This many threads at the same time, with a seat each.
 fn crowd<R: Threads + Abort + Sync>(rt: &R, alloc: Global, threads: u8) -> Result<(), Fail>
     requires { (1 ≤ threads) × (threads ≤ 16) }
 {

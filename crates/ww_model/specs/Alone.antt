@@ -68,7 +68,7 @@ HandedLeavesByTaking = (c : State) (e : Event) (s n : ℕ) → BasePossible c e 
 
 -- ---- of one state
 
--- Whoever is inside a guard, doesn't wait there and hasn't taken the lock owes no unsigned seat.
+-- A seat that is inside a guard, doesn't wait there and hasn't taken the lock owes no unsigned seat.
 abbrev pub OutsidersOweNothing : State → Type 0
 OutsidersOweNothing c = (s n : ℕ) → c.guard n ≡ suc s → StandsNot (c.queue n) s → c.owner n ≢ Taken s →
     (v k : ℕ) → Has (owes c s n) (v, k) → c.sign v ≢ 0

@@ -61,9 +61,9 @@ pub record IsKept (owner : ℕ → Holder) (queue : ℕ → List Entry) (guard :
   pub waits : Stands (queue n) s
   pub other : (t : ℕ) × (t ≢ s) × ((owner n ≡ Taken t) ⊎ (owner n ≡ Handed t))
 
--- A cancel that is pending, and one that was heeded, is 0 or a seat plus 1; and whoever has heeded one is inside the
--- guard where it waits, kept from the lock by another. This is no matter of signs: that a handed owner goes on waiting
--- in the list holds after Leave only since the seat that leaves isn't that owner.
+-- A cancel that is pending, and one that was heeded, is 0 or a seat plus 1; and a seat that has heeded one is inside
+-- the guard where it waits, kept from the lock by another. This is no matter of signs: that a handed owner goes on
+-- waiting in the list holds after Leave only since the seat that leaves isn't that owner.
 pub record Cancels (seats : ℕ) (cancel mark : ℕ → ℕ) (owner : ℕ → Holder) (queue : ℕ → List Entry) (guard : ℕ → ℕ)
     : Type 0 where
   pub set : (s : ℕ) → cancel s ≤ seats
@@ -86,8 +86,8 @@ abbrev pub Wounds : Kind → (ℕ → ℕ) → (ℕ → ℕ) → (ℕ → Holder
 Wounds kind stamp sign owner queue guard =
     kind ≡ WoundWait → (n : ℕ) → WoundsAt stamp sign (owner n) (queue n) (guard n)
 
--- Wait-Die, of one lock, whoever is inside the guard: of the waiters outside it that hold locks, one that is younger
--- than the owner outside it is signed, and so is one that stands behind another context outside it.
+-- Wait-Die, of one lock, whichever seat is inside the guard: of the waiters outside it that hold locks, one that is
+-- younger than the owner outside it is signed, and so is one that stands after another context outside it.
 pub record DeathsAt (stamp sign : ℕ → ℕ) (owner : Holder) (q : List Entry) (guard : ℕ) : Type 0 where
   pub younger_signed : (t : ℕ) (e : Entry) → owner ≡ Taken t → 0 < stamp t → guard ≢ suc t →
       Has q e → guard ≢ suc e.seat → e.holds ≡ true → stamp t < e.stamp → 0 < sign e.seat
@@ -135,7 +135,7 @@ Keeps P = (c : State) (e : Event) → Possible c e → IsLawful c → P (after c
 
 -- ---- laws of one state
 
--- Wait-Die: where a guard is free, whoever must die there has a sign
+-- Wait-Die: where a guard is free, each seat that must die there has a sign
 abbrev pub FreeGuardsOweNothing : State → Type 0
 FreeGuardsOweNothing c = c.kind ≡ WaitDie → (n s : ℕ) → c.guard n ≡ 0 → IsSome (dies c s n) → 0 < c.sign s
 

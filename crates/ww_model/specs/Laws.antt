@@ -78,7 +78,7 @@ SignWasMet = (c : State) (run : Reached c) → c.kind ≡ WoundWait → (s : ℕ
 abbrev pub OfReached : (State → Type 0) → Type 0
 OfReached P = (c : State) → Reached c → P c
 
--- whoever waits is one of the seats
+-- each waiter is one of the seats
 abbrev pub WaitersAreSeats : State → Type 0
 WaitersAreSeats c = (n : ℕ) (e : Entry) → Has (c.queue n) e → e.seat < c.seats
 

@@ -53,7 +53,7 @@ module _ {A : Type 0} where
   pick (yes _) a b = a
   pick (no _) a b = b
 
-  -- the function, but for this number, where it has that value
+  -- the function, except this number, where it has that value
   unfoldable pub put : (ℕ → A) → ℕ → A → ℕ → A
   put f i a j = pick (ℕ_discrete j i) a (f j)
 

@@ -37,14 +37,14 @@ ReachedIsLawful = (c : State) → Reached c → IsLawful c
 
 -- ---- who backs off had to
 
--- The event is the death of a waiter that holds locks, and met the older context whose stamp it is told.
+-- The event is the death of a waiter that holds locks, and met the older context whose stamp it gets.
 pub record IsMetDeath (c : State) (run : Reached c) (e : Event) (k : ℕ) : Type 0 where
   pub seat : ℕ
   pub lock : ℕ
   pub event : e ≡ Die seat lock
   pub met : DeadlkIsMet c run seat lock k
 
--- whoever is told EDEADLK, in whatever run, by whatever event
+-- each EDEADLK, in whatever run, by whatever event, is such a death
 abbrev pub DeadlkWasMet : Type 0
 DeadlkWasMet = (c : State) (run : Reached c) (e : Event) (k : ℕ) → Possible c e → answer c e ≡ Deadlk k →
     IsMetDeath c run e k
@@ -57,7 +57,7 @@ abbrev pub OldestNeverDies : Type 0
 OldestNeverDies = (c : State) → IsLawful c → (s : ℕ) → IsOldestUnsigned c s →
     (events : List Event) → IsRun c events → ¬ Has events (End s) → GoesOn c (state_after c events) s
 
--- Wherever the oldest context waits and has heeded no cancel, whoever is in its way can be made to give way: some run
+-- Wherever the oldest context waits and has heeded no cancel, the seats in its way can be made to give way: some run
 -- leads to it owning the lock, in which it neither dies nor is interrupted nor releases anything, and nobody begins
 -- anything new.
 abbrev pub OldestCanTake : Type 0

@@ -154,7 +154,7 @@ impl Core {
     }
 }
 
-/// So many empty wait lists.
+/// This many empty wait lists.
 fn empty_queues(alloc: Global, count: usize) -> Result<Vec<Queue>, AllocError>
     ensures { IfOk result (λ queues. queues.items ≡ replicate count []) }
 {

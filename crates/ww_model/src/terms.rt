@@ -197,7 +197,7 @@ impl Core {
         must_die(self.kind, owner, queue, seat, self.sign_at(seat))
     }
 
-    /// Whom the seat has to sign inside the guard of the lock, and with which stamp.
+    /// The seats that this one has to sign inside the guard of the lock, with the stamps.
     pub(crate) fn owes(&self, seat: u8, lock: u8) -> ArrayVec<(u8, u64), MAX_WAITERS>
         ensures { result.items ≡ owes (state_of self.now) seat lock }
     {

@@ -18,7 +18,7 @@ use ww_word::MAX_SEATS;
 pub fn cycle_in(core: &Core) -> Option<ArrayVec<u8, MAX_SEATS>>
     ensures { let c = state_of core.now in FindsChosen (IsRing c) (λ ring. IsLeastRing c ring.items) result }
 {
-    // Where nobody's ring is found there is none, since whoever waits is one of the seats: the core's state was
+    // Where nobody's ring is found there is none, since each waiter is one of the seats: the core's state was
     // reached, which is known where a field is used.
     let _reached = &core.kind;
     for seat in 0..core.seats() {

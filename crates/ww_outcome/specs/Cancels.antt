@@ -42,7 +42,7 @@ module _ (scripts : List (List Deed)) (replies : List (List Said)) where
       ≡ times script (interrupters_of victim) + (if pending victim == script + 1 then 1 else 0)
 
   -- A script interrupts another at most as often as it cancelled it. Of all cancels of a script each was answered by one
-  -- interruption, but for one at most.
+  -- interruption, except at most one.
   pub record AreAnsweredOnce : Type 0 where
     pub each : (script victim : ℕ) → victim < length scripts
         → times script (interrupters_of victim) ≤ cancels_of victim script

@@ -40,7 +40,7 @@ pub record IsRecordOf (r : Recorded) (number : ℕ) (txn : Transaction) (said : 
   pub answer : r.answer ≡ said
 
 -- The act may be told this without a record: of a transaction that lists a node twice the first such node; of one that
--- may be called off, who did so; of a cancel, whether it was set.
+-- may be cancelled, who did so; of a cancel, whether it was set.
 abbrev pub IsUnrecorded : Said → Deed → Type 0
 IsUnrecorded (already n) (does txn) = FirstDouble (listed txn) (Some n)
 IsUnrecorded (already n) (interruptible txn) = FirstDouble (listed txn) (Some n)

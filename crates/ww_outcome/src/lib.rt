@@ -1,4 +1,4 @@
-//! What comes of scripts, and how it is told.
+//! The outcome of scripts, and how it is written.
 #![tactic(auto)]
 
 mod outcome;

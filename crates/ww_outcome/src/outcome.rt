@@ -6,21 +6,21 @@ ghost use Rattle.ww_outcome.specs.CutOff.{VersionsAgree};
 use std::marker::Model;
 use ww_plain::{Graph, Reply};
 
-/// What an act of a script is answered.
+/// What an act of a script returned.
 #[derive(Debug, Drop)]
 pub enum ScriptAnswer {
     /// The transaction was carried out.
     Reply(Reply),
     /// The transaction was not carried out, since it lists this node twice.
     Already(u8),
-    /// The transaction was not carried out: a cancel of this script called it off.
+    /// The transaction was not carried out: a cancel of this script ended it.
     Interrupted(u8),
     /// Whether the cancel was set. It wasn't where one was pending.
     Cancel(bool),
 }
 
-/// What came of scripts: the answers of each, the (script, seq) of each place if they were asked for, and the last
-/// graph, with how many ports of each of its nodes are told, as many as the version of the input has.
+/// The outcome of scripts: what the acts of each returned; the (script, seq) of each place, if these were asked for; and
+/// the last graph, with the number of ports of each node that are written, which the version of the input says.
 #[derive(Debug, Drop)]
 pub struct Outcome {
     pub replies: Vec<Vec<ScriptAnswer>>,
@@ -41,7 +41,7 @@ impl Model for Outcome {
 }
 
 /// A law of what an outcome says of cancels: a script interrupts another at most as often as it cancelled it, and of
-/// all cancels of a script each was answered by one interruption, but for one at most, which is pending.
+/// all cancels of a script each was answered by one interruption, except at most one, which is pending.
 pub fn cancels_are_answered_once()
     ensures { CancelsAreAnsweredOnce }
 {}

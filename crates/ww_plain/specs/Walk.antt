@@ -29,7 +29,7 @@ BeginsWith (v ∷ vs) start = v ≡ start
 abbrev pub stop_of : List Node → ℕ → List ℕ → Option ℕ
 stop_of graph p vs = port_of graph (last_of vs) p
 
--- a walk of at most so many nodes ends behind these: it has that many, or the stop is empty or one of them
+-- a walk of at most this many nodes ends behind these: it has that many, or the stop is empty or one of them
 abbrev pub IsEnd : List ℕ → ℕ → Option ℕ → Type 0
 IsEnd vs most stop = (most ≤ length vs) ⊎ IfSome stop (λ n. IsTrue (is_among n vs))
 
@@ -39,7 +39,7 @@ pub record GoesOnTo (vs : List ℕ) (most : ℕ) (stop : Option ℕ) (next : ℕ
   pub room : length vs < most
   pub fresh : is_among next vs ≡ false
 
--- The list is the walk from a node along port p, of at most so many nodes.
+-- The list is the walk from a node along port p, of at most this many nodes.
 pub record IsWalk (graph : List Node) (start p most : ℕ) (vs : List ℕ) : Type 0 where
   pub begins : BeginsWith vs start
   pub different : AreDifferent vs
@@ -52,12 +52,12 @@ abbrev pub onward : Option ℕ → List ℕ → (ℕ → List ℕ) → List ℕ
 onward None past go = []
 onward (Some n) past go = if is_among n past then [] else go n
 
--- the nodes from v on, at most so many, behind those of `past`
+-- the nodes from v on, at most this many, behind those of `past`
 unfoldable pub walk_past : List Node → ℕ → ℕ → List ℕ → ℕ → List ℕ
 walk_past graph p zero past v = []
 walk_past graph p (suc most) past v =
     v ∷ onward (port_of graph v p) (v ∷ past) (λ n. walk_past graph p most (v ∷ past) n)
 
--- the walk from a node along port p, of at most so many nodes
+-- the walk from a node along port p, of at most this many nodes
 unfoldable pub walk_of : List Node → ℕ → ℕ → ℕ → List ℕ
 walk_of graph start p most = walk_past graph p most [] start

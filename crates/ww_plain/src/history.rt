@@ -11,7 +11,7 @@ use crate::reply::Reply;
 use crate::transaction::{Txn, first_double};
 use std::alloc::{AllocError, Global};
 
-/// A committed transaction: whose it was, which of that caller's, and what it was answered.
+/// A committed transaction: its caller, its number among those of that caller, and its reply.
 #[derive(Debug, PartialEq, Eq, Drop)]
 pub struct Record {
     pub caller: u8,

@@ -1,4 +1,4 @@
-//! What each transaction does to a graph, alone and at once: all else is measured by this.
+//! What each transaction does to a graph, alone and in one step: everything else is measured by this.
 
 ghost use Rattle.std.specs.Prelude.{◌≡◌, ◌≢◌, ◌<◌, ◌≤◌, length, map, fold, IfOk, OnErr};
 ghost use Rattle.std.specs.List.{AllByRecursion};

@@ -5,7 +5,7 @@ ghost use Rattle.ww_plain.specs.Meaning.{answer_of};
 
 use std::alloc::{AllocError, Global};
 
-/// What a transaction is answered.
+/// What a transaction returns.
 #[derive(Debug, PartialEq, Eq, Drop)]
 pub enum Reply {
     /// The values that were asked for.

@@ -7,7 +7,7 @@ ghost use Rattle.ww_plain.specs.Seen.{Marks};
 /// A flag for each number that a node may be named by.
 const NUMBERS: usize = 256;
 
-/// The numbers that a list has so far: each is looked up at once, however long the list is.
+/// The numbers that a list has so far: each is looked up in one step, however long the list is.
 #[derive(Drop)]
 pub(crate) struct Seen {
     came: [bool; NUMBERS],

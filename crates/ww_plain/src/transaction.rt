@@ -28,9 +28,9 @@ pub enum Txn {
     Move(u8, u8, u64),
     /// Sets a port of a node to a target.
     Link(u8, u8, Option<u8>),
-    /// Counts the nodes of the walk from a start along a port, of at most so many nodes, and sums their values.
+    /// Counts the nodes of the walk from a start along a port, of at most this many nodes, and sums their values.
     Sum(u8, u8, u8),
-    /// Turns the walk from a start along a port, of at most so many nodes.
+    /// Turns the walk from a start along a port, of at most this many nodes.
     Reverse(u8, u8, u8),
     /// Asks for the value of one node.
     Peek(u8),
@@ -87,7 +87,7 @@ impl Txn {
     }
 }
 
-/// A list or a walk may have so many nodes.
+/// Whether a list or a walk may have this many nodes.
 fn has_length(length: usize) -> bool
     ensures { IsTrue result ↔ (1 ≤ length) × (length ≤ MAX_NODES) }
 {

@@ -19,7 +19,7 @@ pub(crate) struct Walk {
     pub(crate) stop: Option<u8>,
 }
 
-/// The walk from a node along a port, of at most so many nodes.
+/// The walk from a node along a port, of at most this many nodes.
 pub(crate) fn walk_from(graph: &[Node], start: u8, port: u8, most: u8) -> Walk
     requires graph { IsGraph graph.now }
     requires course { IsCourse (length graph.now) start port most }

@@ -29,7 +29,7 @@ pub record HasJoined (q : List Entry) (x : Entry) (new : List Entry) : Type 0 wh
   pub passed : NoneYounger x.stamp front
   pub stopped : BeginsYounger x.stamp rest
 
--- whoever joins stands immediately before the first younger context, else last, and nobody else moves
+-- a waiter that joins comes immediately before the first younger context, else last, and nobody else moves
 abbrev pub JoinTakesItsPosition : Type 0
 JoinTakesItsPosition = (q : List Entry) (x : Entry) → HasJoined q x (joined q x)
 
@@ -56,7 +56,7 @@ pub record HasLeft (q : List Entry) (seat : ℕ) (new : List Entry) (e : Entry) 
   pub own : e.seat ≡ seat
   pub first : StandsNot front seat
 
--- whoever leaves is taken out and nobody else moves; where the seat doesn't wait, the list stays
+-- a waiter that leaves is taken out, and nobody else moves; if the seat doesn't wait, the list stays as it is
 abbrev pub LeaveTakesOneOut : Type 0
 LeaveTakesOneOut = (q : List Entry) (seat : ℕ) →
     MatchOption (entry_of q seat) (StandsNot q seat × (left q seat ≡ q)) (HasLeft q seat (left q seat))
@@ -71,7 +71,7 @@ abbrev pub EachSeatHasRoom : Type 0
 EachSeatHasRoom = (q : List Entry) (seat : ℕ) → Once q → ((e : Entry) → Has q e → e.seat < MAX_WAITERS) →
     StandsNot q seat → seat < MAX_WAITERS → length q < MAX_WAITERS
 
--- e is the first waiter with a context, and the seat waits behind it
+-- e is the first waiter with a context, and the seat waits after it
 pub record IsAhead (q : List Entry) (seat : ℕ) (e : Entry) : Type 0 where
   pub front : List Entry
   pub rest : List Entry
@@ -81,7 +81,7 @@ pub record IsAhead (q : List Entry) (seat : ℕ) (e : Entry) : Type 0 where
   pub other : e.seat ≢ seat
   pub behind : Stands rest seat
 
--- an entry ahead with a context is the first one in the list, where the seat waits behind that
+-- the context ahead of a seat is the first one in the list, if the seat waits after it
 abbrev pub AheadIsFirstContext : Type 0
 AheadIsFirstContext = (q : List Entry) (seat : ℕ) (e : Entry) → (ahead_of q seat ≡ Some e) ↔ IsAhead q seat e
 
@@ -118,7 +118,7 @@ abbrev pub DeathIsOfOlder : Type 0
 DeathIsOfOlder = (owner : Owner) (q : List Entry) (e : Entry) (sign k : ℕ) → Once q → Ascends q → Has q e →
     must_die WaitDie owner q e.seat sign ≡ Some k → IsOlder k e.stamp
 
--- in Wait-Die exactly those that have to die are signed, but for the seat inside
+-- in Wait-Die exactly the waiters that have to die are signed, except the seat inside
 abbrev pub SignsAreDeaths : Type 0
 SignsAreDeaths = (owner : Owner) (q : List Entry) (me seat k : ℕ) →
     Has (owed_signs WaitDie owner q me) (seat, k) ↔ ((seat ≢ me) × (must_die WaitDie owner q seat 0 ≡ Some k))

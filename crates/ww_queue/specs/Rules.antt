@@ -1,4 +1,4 @@
--- Which waiter has to die, and which has to be told.
+-- Which waiter has to die, and which seats are owed a sign.
 use Rattle.std.specs.Prelude.{ℕ, ◌==◌, ◌&&◌, Bool, false, not, nat_lt, min, List, [], ◌∷◌, Option, Some, None, if◌then◌else◌}
 use Rattle.std.specs.Option.{option_and_then, option_map, option_or}
 use Rattle.std.specs.List.{filter_map}
@@ -64,7 +64,7 @@ owed_death owner q me seat = if seat == me then None else option_map (λ k. (sea
 abbrev pub owed_deaths : Owner → List Entry → ℕ → List Entry → List (ℕ × ℕ)
 owed_deaths owner q me es = filter_map (λ e. owed_death owner q me e.seat) es
 
--- whom the seat me inside the guard has to sign, and with which stamp
+-- the seats that the seat me inside the guard has to sign, with the stamps
 abbrev pub owed_signs : Kind → Owner → List Entry → ℕ → List (ℕ × ℕ)
 owed_signs WoundWait owner q me = owed_wound (taker_of owner) owner.stamp (least_holding q)
 owed_signs WaitDie owner q me = owed_deaths owner q me q

@@ -14,7 +14,7 @@ impl Entry {
     ghost use Rattle.std.specs.Prelude.{◌≡◌};
     ghost use Rattle.ww_queue.specs.Entry.{is_holding};
 
-    /// Whether it has a context and holds locks: nobody else wounds or dies.
+    /// Whether it has a context and holds locks: only such a waiter wounds or dies.
     pub(crate) fn is_holding(self) -> bool
         ensures { result ≡ is_holding self }
     {

@@ -10,7 +10,7 @@ pub fn limits()
     ensures { MAX_WAITERS ≡ 16 }
 {}
 
-/// Whoever joins stands immediately before the first younger context, else last, and nobody else moves.
+/// A waiter that joins comes immediately before the first younger context, else last, and nobody else moves.
 #[tactic(auto, using(crate::proofs::Joins::takes_its_position))]
 pub fn join_takes_its_position()
     ensures { JoinTakesItsPosition }
@@ -34,7 +34,7 @@ pub fn join_keeps_order()
     ensures { JoinKeepsOrder }
 {}
 
-/// Whoever leaves is taken out and nobody else moves; where the seat doesn't wait, the list stays.
+/// A waiter that leaves is taken out, and nobody else moves; if the seat doesn't wait, the list stays as it is.
 #[tactic(auto, using(crate::proofs::Leaves::takes_one_out))]
 pub fn leave_takes_one_out()
     ensures { LeaveTakesOneOut }
@@ -50,7 +50,7 @@ pub fn each_seat_has_room()
     ensures { EachSeatHasRoom }
 {}
 
-/// An entry ahead with a context is the first one in the list, where the seat waits behind that.
+/// The context ahead of a seat is the first one in the list, if the seat waits after it.
 pub fn ahead_is_first_context()
     ensures { AheadIsFirstContext }
 {}
@@ -77,7 +77,7 @@ pub fn death_is_of_older()
     ensures { DeathIsOfOlder }
 {}
 
-/// In Wait-Die exactly those that have to die are signed, but for the seat inside.
+/// In Wait-Die exactly the waiters that have to die are signed, except the seat inside.
 #[tactic(auto, using(crate::proofs::Signs::signs_are_deaths))]
 pub fn signs_are_deaths()
     ensures { SignsAreDeaths }

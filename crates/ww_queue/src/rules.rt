@@ -9,10 +9,10 @@ use crate::queue::{MAX_WAITERS, Queue, is_older};
 use arrayvec::ArrayVec;
 use ww_word::{Owner, PICKUP};
 
-/// The stamp of the older context for which a waiter has to die, if it has to. Nobody dies who has no context or holds
-/// no lock. In Wound-Wait a waiter dies of the sign that it was wounded with. In Wait-Die it dies of an owner that is
-/// an older context, or else of a context that stands before it. These are the kernel's rules; that a lock which was
-/// handed over has an owner in this sense too, and that the stamp is told, is ours.
+/// The stamp of the older context for which a waiter has to die, if it has to. Only a waiter with a context and at
+/// least one lock may have to die: in Wound-Wait because of the sign with which it was wounded; in Wait-Die because of
+/// an owner that is an older context, or else of a context that comes before it in the list. These are the kernel's
+/// rules. Ours is that a lock which was handed over has an owner in this sense too, and that the stamp is returned.
 pub fn must_die(kind: Kind, owner: Owner, queue: &Queue, me: u8, sign: u64) -> Option<u64>
     ensures { result ≡ must_die kind owner queue.now me sign }
 {
@@ -46,10 +46,10 @@ fn older_owner(owner: Owner, entry: Entry) -> Option<u64>
 }
 
 /// The signs that the seat inside the guard owes to others, as pairs of a seat and the stamp that condemns it. In
-/// Wound-Wait the oldest waiter that holds locks wounds the owner, if that is younger; an owner to whom the lock was
-/// handed has not taken it yet, and looks at the list itself. In Wait-Die each other waiter that has to die is told.
-/// The kernel wakes and wounds at moments of its own. That one rule on a lock's state stands for all of these, and that
-/// a seat is told by a sign with the stamp in it, is ours: `docs/RULES.md`, "Which waiter must die ..".
+/// Wound-Wait the oldest waiter that holds locks wounds the owner, if that is younger; an owner to which the lock was
+/// handed has not taken it yet, and looks at the list itself. In Wait-Die each other waiter that has to die is signed.
+/// The kernel wakes and wounds at moments of its own. Ours is one rule on a lock's state instead of all of these, and a
+/// sign that has the stamp in it: `docs/RULES.md`, "Which waiter must die ..".
 pub fn owed_signs(
     kind: Kind,
     owner: Owner,

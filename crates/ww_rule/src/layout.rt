@@ -8,10 +8,10 @@ pub const STAMP: usize = 0;
 /// The number of commits.
 pub const FRONT: usize = 8;
 
-/// At a table of so many locks, or fewer, each lock has a cache line of its own.
+/// At a table with this many locks, or fewer, each lock has a cache line of its own.
 const SPREAD: u32 = 64;
 
-/// Where the words of a lock begin, at a table of so many locks.
+/// Where the words of a lock begin, at a table with this many locks.
 #[tactic(auto, using(crate::proofs::Lies::lies_packed, crate::proofs::Lies::lies_spread))]
 #[inline(always)]
 fn lock_word(locks: u32, lock: u32) -> usize
@@ -34,7 +34,7 @@ pub fn words(locks: u32, seats: u16) -> usize
     lock_word(locks, locks) + 8 * usize::from(seats)
 }
 
-/// How many slots a table of so many locks has.
+/// How many slots a table with this many locks has.
 pub fn slots(locks: u32) -> usize
     requires { locks ≤ 16777216 }
     ensures { result ≡ slots_for locks }
@@ -42,7 +42,7 @@ pub fn slots(locks: u32) -> usize
     64 + locks as usize
 }
 
-/// The owner word of a lock, at a table of so many locks.
+/// The owner word of a lock, at a table with this many locks.
 pub fn owner_word(locks: u32, lock: u32) -> usize
     ensures { result ≡ owner_at locks lock }
 {
@@ -67,14 +67,14 @@ pub fn packed_word(lock: u32) -> usize
     16 + 2 * lock as usize
 }
 
-/// The guard word of a lock, at a table of so many locks.
+/// The guard word of a lock, at a table with this many locks.
 pub fn guard_word(locks: u32, lock: u32) -> usize
     ensures { result ≡ guard_at locks lock }
 {
     lock_word(locks, lock) + 1
 }
 
-/// The sign word of a seat, at a table of so many locks.
+/// The sign word of a seat, at a table with this many locks.
 pub fn sign_word(locks: u32, seat: u16) -> usize
     ensures { result ≡ sign_at locks seat }
 {

@@ -1,4 +1,4 @@
-//! What each step tells its caller: the definitions are in `specs/Steps.antt`.
+//! What each step lets its caller know: the definitions are in `specs/Steps.antt`.
 use crate::cells::{Cell, Sight};
 use atomic_table::{Join, Play, Split};
 use std::marker::{Brand, PhantomData};

@@ -1,4 +1,4 @@
-//! What the steps at guards, inside them, on signs and on cancels tell their caller: the definitions are in
+//! What the steps at guards, inside them, on signs and on cancels let their caller know: the definitions are in
 //! `specs/Guards.antt`, `specs/Waiting.antt`, `specs/Signs.antt` and `specs/Cancels.antt`.
 use crate::cells::{Cell, Sight};
 use atomic_table::Play;

@@ -8,6 +8,6 @@ AppendsFront None new bytes = Unit {0}
 AppendsFront (Some old) None bytes = ⊥
 AppendsFront (Some old) (Some new) bytes = (n : ℕ) × (new ≡ old ++ take n bytes)
 
--- at most so many bytes were read
+-- at most this many bytes were read
 abbrev pub ConsumesSome : ℕ → Option (List ℕ) → Option (List ℕ) → Type 0
 ConsumesSome most old new = (bytes : List ℕ) × (length bytes ≤ most) × Consumes old new bytes

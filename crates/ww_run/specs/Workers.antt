@@ -73,7 +73,7 @@ pub record IsReady (w : Setting) (number : ℕ) (deeds : List Deed) (s : Holding
   pub suit : AllByRecursion (Suits (ranges_of (length w.first) PORTS w.passes)) deeds
 
 -- The pass's log is exactly what the acts came to that were told this, and it counts what they cancelled or found
--- pending, and by whom they were called off.
+-- pending, and by whom they were cancelled.
 pub record HasRun (deeds : List Deed) (saids : List Said) (s : Holding) : Type 0 where
   pub answered : IsAnswered 0 deeds saids s.own
   pub cancelled : (victim : ℕ) → times victim s.cancelled ≡ times victim (cancelled_in deeds saids)

@@ -53,7 +53,7 @@ fn outcome_of<R: Threads + Wait + Sync, G: Gate + Sync>(
     }
 }
 
-/// Turns until the flag is set, and tells whether it was within 2^32 - 1 turns.
+/// Turns until the flag is set, and returns whether it was within 2^32 - 1 turns.
 fn is_set_in_time(flag: &AtomicBool) -> bool {
     for _ in 0..u32::MAX {
         if flag.load(Ordering::SeqCst) {

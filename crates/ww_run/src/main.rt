@@ -12,7 +12,7 @@ use std::process::ExitCode;
 
 fn main(rt: HostRuntime) -> ExitCode {
     let status = run::run(&rt, rt.alloc(), &mut rt.stdin(), &mut rt.stdout());
-    // Where this line can't be written either, the exit status still tells.
+    // If this line can't be written either, the exit status still says so.
     let _ = match status {
         Status::ReadFailed => eprintln!(rt; "read failed"),
         Status::WriteFailed => eprintln!(rt; "write failed"),

@@ -16,7 +16,7 @@ use ww_lock::{Pass, Receipt, World};
 use ww_script::{Act, ScriptAnswer};
 use ww_txn::{Gate, TxnFault, transact, transact_interruptible};
 
-/// What a worker returns: its pass, and what the acts of its script were told. It stops for lack of memory
+/// What a worker returns: its pass, and what the acts of its script returned. It stops for lack of memory
 /// alone.
 #[derive(Drop)]
 pub(crate) struct Work {

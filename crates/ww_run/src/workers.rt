@@ -1,4 +1,4 @@
-//! All scripts at once, a thread each, and what came of them.
+//! Runs all scripts at the same time, a thread each, and returns their outcome.
 
 ghost use Rattle.std.specs.Prelude.{◌≡◌, ◌≤◌, ℕ, map, IfOk};
 ghost use Rattle.ww_plain.specs.History.{history_of};
@@ -22,8 +22,8 @@ use ww_plain::Record;
 use ww_script::{Act, Outcome, ScriptAnswer, Scripts};
 use ww_txn::Gate;
 
-/// Why scripts, or the text of a schedule's replay, were given up. The numbers are those of the refusal lines. Of both
-/// reasons the higher number is told.
+/// Why scripts, or the text of a schedule's replay, were given up. The numbers are those of the refusal lines. If both
+/// reasons hold, the higher number is reported.
 #[derive(Clone, Copy, Debug, PartialEq, Eq, Error)]
 pub enum RunFault {
     #[error("no memory")]

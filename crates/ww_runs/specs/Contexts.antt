@@ -20,7 +20,7 @@ steps_of key move = λ i. step_of key (move i)
 abbrev pub AllAreScheduled : {key : Start} → (ℕ → Moment key) → (ℕ → Option Step) → Type 0
 AllAreScheduled {key = key} moment move = (s : ℕ) → s < key.seats → IsScheduledThere moment move s
 
--- the seat takes the lock for which it waits, or is called off
+-- the seat takes the lock for which it waits, or is cancelled
 abbrev pub TakesOrLeaves : ℕ → ℕ → Option Step → Type 0
 TakesOrLeaves s n x = (x ≡ Some (performs (Take s n))) ⊎ (x ≡ Some (performs (Leave s n)))
 
@@ -38,7 +38,7 @@ OldestNeverGivesWayInRuns = (key : Start) (moment : ℕ → Moment key) (move : 
     ((t : ℕ) → move j ≢ Some (performs (Sign t s))) × ((n : ℕ) → move j ≢ Some (performs (Die s n)))
 
 -- In Wound-Wait the oldest of those, if it has no sign, and has a lock already, gets each lock that it waits for, unless it
--- is called off: if whoever has a lock releases it in the end, unless it waits for ever.
+-- is cancelled: if each seat that has a lock releases it in the end, unless it waits forever.
 abbrev pub OldestIsServedInRuns : Type 0
 OldestIsServedInRuns = (key : Start) (moment : ℕ → Moment key) (move : ℕ → Option Step) → IsEndless moment move →
     AllAreScheduled moment move → (a : RunsAlong moment move) → HoldersRelease a.scene (steps_of key move) →
@@ -46,7 +46,7 @@ OldestIsServedInRuns = (key : Start) (moment : ℕ → Moment key) (move : ℕ �
     (core (moment i)).sign s ≡ 0 → OwnsSome (core (moment i)) s → Stands ((core (moment i)).queue n) s →
     InTheEnd i (λ j. TakesOrLeaves s n (move j))
 
--- So it ends, or comes to rest, unless it is called off, if its program comes to an end, and it waits only while it owns a
+-- So it ends, or comes to rest, unless it is cancelled, if its program comes to an end, and it waits only while it owns a
 -- lock.
 abbrev pub OldestEndsInRuns : Type 0
 OldestEndsInRuns = (key : Start) (moment : ℕ → Moment key) (move : ℕ → Option Step) → IsEndless moment move →
@@ -56,8 +56,8 @@ OldestEndsInRuns = (key : Start) (moment : ℕ → Moment key) (move : ℕ → O
     WaitsOwning a.scene (steps_of key move) s i →
     InTheEnd i (λ j. IsOver a.scene (steps_of key move) s j ⊎ ((n : ℕ) × (move j ≡ Some (performs (Leave s n)))))
 
--- In Wait-Die each context gets each lock that it waits for, unless it gets EDEADLK or is called off: if programs come to
--- an end, and whoever gets EDEADLK releases all that it has and then takes the contended lock first.
+-- In Wait-Die each context gets each lock that it waits for, unless it gets EDEADLK or is cancelled: if programs come to
+-- an end, and each seat that gets EDEADLK releases all that it has and then takes the contended lock first.
 abbrev pub ContextsAreServedInRuns : Type 0
 ContextsAreServedInRuns = (key : Start) (moment : ℕ → Moment key) (move : ℕ → Option Step) → IsEndless moment move →
     AllAreScheduled moment move → (a : RunsAlong moment move) → HoldersRelease a.scene (steps_of key move) →
@@ -65,7 +65,7 @@ ContextsAreServedInRuns = (key : Start) (moment : ℕ → Moment key) (move : �
     TakesContendedFirst a.scene (steps_of key move) → (i s n : ℕ) → (core (moment i)).kind ≡ WaitDie →
     0 < (core (moment i)).stamp s → Stands ((core (moment i)).queue n) s → InTheEnd i (λ j. EndsWaitThere s n (move j))
 
--- The oldest of those that don't rest on gets each of them, unless it is called off.
+-- The oldest of those that don't rest on gets each of them, unless it is cancelled.
 abbrev pub OldestWaitDieIsServedInRuns : Type 0
 OldestWaitDieIsServedInRuns = (key : Start) (moment : ℕ → Moment key) (move : ℕ → Option Step) → IsEndless moment move →
     AllAreScheduled moment move → (a : RunsAlong moment move) → HoldersRelease a.scene (steps_of key move) →

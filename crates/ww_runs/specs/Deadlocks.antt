@@ -40,7 +40,7 @@ pub record IsScheduledThere {key : Start} (moment : ℕ → Moment key) (move : 
   pub leaves : (i n : ℕ) → (view (moment i) s).waits ≡ suc n → (view (moment i) s).inside ≡ suc n →
       InTheEnd i (λ j. ((view (moment j) s).inside ≢ suc n) ⊎ ((view (moment j) s).waits ≢ suc n))
 
--- Whenever threads are deadlocked, and scheduled, one of them gets EDEADLK or is called off in the end, whatever other
+-- Whenever threads are deadlocked, and scheduled, one of them gets EDEADLK or is cancelled in the end, whatever other
 -- threads do.
 abbrev pub NoDeadlockLastsInRuns : Type 0
 NoDeadlockLastsInRuns = (key : Start) (moment : ℕ → Moment key) (move : ℕ → Option Step) → IsEndless moment move →
@@ -57,7 +57,7 @@ pub record SleepsUndisturbed {key : Start} (m : Moment key) (s : ℕ) : Type 0 w
   pub no_token : m.token s ≡ false
   pub unowed : (t : ℕ) → ¬ HasToWake m t s
 
--- So threads that all sleep undisturbed aren't deadlocked, at any moment of any run: a program that stands still for ever
+-- So threads that all sleep undisturbed aren't deadlocked, at any moment of any run: a program that stands still forever
 -- does so for another reason.
 abbrev pub NoStandstillInRuns : Type 0
 NoStandstillInRuns = (key : Start) (m : Moment key) → IsOfRun m → (seats : List ℕ) →
@@ -71,7 +71,7 @@ HoldersGoOnThere {key = key} moment = (i s n : ℕ) → s < key.seats → owns (
     (view (moment i) s).waits ≡ 0 →
     InTheEnd i (λ j. (owns (view (moment j) s) n ≡ false) ⊎ ((view (moment j) s).waits ≢ 0))
 
--- the wait of some thread ends by the move: it takes its lock, gets EDEADLK, or is called off
+-- the wait of some thread ends by the move: it takes its lock, gets EDEADLK, or is cancelled
 pub record EndsSomeWaitThere {key : Start} (m : Moment key) (x : Option Step) : Type 0 where
   pub seat : ℕ
   pub lock : ℕ

@@ -29,7 +29,7 @@ abbrev pub EndlessRunsShowScenes : Type 0
 EndlessRunsShowScenes = (key : Start) (moment : ℕ → Moment key) (move : ℕ → Option Step) → IsEndless moment move →
     RunsAlong moment move
 
--- Whoever has yet to wake a seat does so in the end, and whoever sleeps with a token rises in the end.
+-- Each seat that has yet to wake another does so in the end, and each that sleeps with a token rises in the end.
 pub record WakesArriveThere {key : Start} (moment : ℕ → Moment key) (move : ℕ → Option Step) : Type 0 where
   pub made : (i s u : ℕ) → HasToWake (moment i) s u → (j : ℕ) × (i ≤ j) × (move j ≡ Some (wakes s u))
   pub heard : (i s : ℕ) → s < key.seats → (moment i).token s ≡ true → (moment i).asleep s ≡ true →
@@ -41,7 +41,7 @@ NobodySleepsInVainInRuns = (key : Start) (moment : ℕ → Moment key) (move : �
     WakesArriveThere moment move → (i s : ℕ) → s < key.seats → (moment i).asleep s ≡ true →
     ¬ HasToWaitThere (moment i) s → (j : ℕ) × (i ≤ j) × ((moment j).asleep s ≡ false)
 
--- whichever thread sleeps for ever has to wait at each moment
+-- each thread that sleeps forever has to wait at each moment
 abbrev pub SleepForEverIsAWaitInRuns : Type 0
 SleepForEverIsAWaitInRuns = (key : Start) (moment : ℕ → Moment key) (move : ℕ → Option Step) → IsEndless moment move →
     WakesArriveThere moment move → (i s : ℕ) → s < key.seats →

@@ -129,7 +129,7 @@ module _ {key : Start} (m m' : Moment key) where
     pub token : m'.token ≡ put m.token s false
     pub rung : m'.rung ≡ m.rung
 
-  -- nothing happens, whether any seat acts or not: so each run goes on for ever, also where all sleep
+  -- nothing happens, whether any seat acts or not: so each run goes on forever, also where all sleep
   pub record StandsStill : Type 0 where
     pub stays : StaysThere
     pub rung : m'.rung ≡ m.rung

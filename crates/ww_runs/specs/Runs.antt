@@ -94,12 +94,12 @@ pub record HasToWaitThere {key : Start} (m : Moment key) (s : ℕ) : Type 0 wher
   pub shows : ShowsScene m
   pub waits : HasToWait shows.scene s
 
--- whoever sleeps in a run, and neither was woken nor is about to be, has to wait
+-- each seat that sleeps in a run, and neither was woken nor is about to be, has to wait
 abbrev pub NoWakeIsLostInRuns : Type 0
 NoWakeIsLostInRuns = (key : Start) (m : Moment key) → IsOfRun m → (s : ℕ) → s < key.seats → m.asleep s ≡ true →
     IsAlertedThere m s ⊎ HasToWaitThere m s
 
--- whoever is inside a guard acts
+-- each seat that is inside a guard acts
 abbrev pub GuardsAreHeldAwakeInRuns : Type 0
 GuardsAreHeldAwakeInRuns = (key : Start) (m : Moment key) → IsOfRun m → (s : ℕ) → s < key.seats →
     (view m s).inside ≢ 0 → Acts m s

@@ -12,7 +12,7 @@ pub fn firsts_ask_in_runs()
     ensures { FirstsAskInRuns }
 {}
 
-/// Whenever threads are deadlocked, and scheduled while they wait, one of them gets EDEADLK or is called off in the
+/// Whenever threads are deadlocked, and scheduled while they wait, one of them gets EDEADLK or is cancelled in the
 /// end.
 pub fn no_deadlock_lasts_in_runs()
     ensures { NoDeadlockLastsInRuns }

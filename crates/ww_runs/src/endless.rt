@@ -12,12 +12,12 @@ pub fn nobody_sleeps_in_vain_in_runs()
     ensures { NobodySleepsInVainInRuns }
 {}
 
-/// Then whichever thread sleeps for ever has to wait at each moment.
+/// Then each thread that sleeps forever has to wait at each moment.
 pub fn sleep_for_ever_is_a_wait_in_runs()
     ensures { SleepForEverIsAWaitInRuns }
 {}
 
-/// In each kind there is an endless run of threads, in which wakes arrive, with a thread that sleeps for ever, and
+/// In each kind there is an endless run of threads, in which wakes arrive, with a thread that sleeps forever, and
 /// another with one that sleeps without having to: so these laws speak of some.
 pub fn sleepers_are_in_endless_runs()
     ensures { SleepersAreInEndlessRuns }

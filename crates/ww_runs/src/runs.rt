@@ -27,12 +27,12 @@ pub fn runs_show_scenes()
     ensures { RunsShowScenes }
 {}
 
-/// Whichever thread of a run sleeps, has no token, and is owed no wake by a thread that doesn't sleep, has to wait.
+/// A thread of a run that sleeps, has no token, and is owed no wake by a thread that doesn't sleep, has to wait.
 pub fn no_wake_is_lost_in_runs()
     ensures { NoWakeIsLostInRuns }
 {}
 
-/// Whichever thread of a run is inside a guard acts.
+/// Each thread of a run that is inside a guard acts.
 pub fn guards_are_held_awake_in_runs()
     ensures { GuardsAreHeldAwakeInRuns }
 {}

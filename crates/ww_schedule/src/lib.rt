@@ -1,4 +1,4 @@
-//! Schedules of lock events, how an input writes them, and how their replay by the core is told.
+//! Schedules of lock events, how an input writes them, and how their replay by the core is written.
 #![tactic(auto)]
 
 mod events;

@@ -211,7 +211,7 @@ fn push_ring(out: &mut String, core: &Core) -> Result<(), AllocError>
     }
 }
 
-/// What the events of the schedule answer, and the state after them, from the start.
+/// Writes what the events of the schedule return, and the state after them, from the start.
 fn push_replay(out: &mut String, core: &mut Core, schedule: &Schedule) -> Result<(), AllocError>
     requires { state_of core.old ≡ first_state schedule.now }
     ensures { OnOk result (IsReplayTold schedule.now (string_bytes out.old) (string_bytes out.new)) }
@@ -222,7 +222,7 @@ fn push_replay(out: &mut String, core: &mut Core, schedule: &Schedule) -> Result
     push_seats(out, core, schedule.seats)
 }
 
-/// The lines of a schedule: what its events answer up to the first that isn't possible, and the state after those.
+/// The lines of a schedule: what its events return up to the first that isn't possible, and the state after those.
 pub fn schedule_text(alloc: Global, schedule: &Schedule) -> Result<Vec<u8>, AllocError>
     ensures { IfOk result (λ text. IsTextOf schedule.now text.items) }
 {
@@ -232,7 +232,7 @@ pub fn schedule_text(alloc: Global, schedule: &Schedule) -> Result<Vec<u8>, Allo
     Ok(out.into_bytes())
 }
 
-/// A law of the definition by which [`schedule_text`] answers: no schedule has two texts.
+/// A law of the definition of [`schedule_text`]: no schedule has two texts.
 pub fn a_schedule_has_one_text()
     ensures { HasOneText }
 {}

@@ -16,7 +16,7 @@ use ww_lock::{CloseFault, History, Pass, World};
 use ww_plain::Graph;
 use ww_queue::Kind;
 
-/// Opens a world on a graph, with so many passes, from 1 to 16, each of which may start so many contexts and solos;
+/// Opens a world on a graph, with 1 to 16 passes, each of which may start this many contexts and solos;
 /// calls `work` with the world and each of the passes; and closes the world, once all calls have returned. Each call
 /// has a thread of its own, or that of the caller; where no thread can be started, calls are made one after another. A
 /// call returns its pass, and a value, which stand in the order of the passes. It is refused for lack of memory

@@ -64,7 +64,7 @@ fn input_of(alloc: Global, value: &Value) -> Result<Input, InputFault>
     }
 }
 
-/// Reads an input, or answers its first fault.
+/// Reads an input, or returns its first fault.
 #[tactic(auto, unfolding(crate::specs::Reading::reading))]
 pub fn read_input(alloc: Global, bytes: &[u8]) -> Result<Input, InputFault>
     ensures exact { Gives (λ input. input) result (reading bytes.now) }
@@ -77,13 +77,13 @@ pub fn read_input(alloc: Global, bytes: &[u8]) -> Result<Input, InputFault>
     input_of(alloc, &value)
 }
 
-/// A law of the definition by which [`read_input`] answers: whatever it reads keeps to the ranges of the format.
+/// A law of the definition of [`read_input`]: whatever it reads keeps to the ranges of the format.
 #[tactic(auto, using(crate::proofs::Kept::reading_kept))]
 pub fn reading_keeps_ranges()
     ensures { ReadingKeepsRanges }
 {}
 
-/// A law of the definition by which [`read_input`] answers: for whatever keeps to the ranges there is a JSON
+/// A law of the definition of [`read_input`]: for whatever keeps to the ranges there is a JSON
 /// value that is read as it. Whether its text is too long for an input is another question.
 #[tactic(auto, using(crate::proofs::Said::input_said))]
 pub fn each_input_can_be_said()

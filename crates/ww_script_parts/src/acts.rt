@@ -18,7 +18,7 @@ pub enum Act {
     /// A transaction, which waits for its locks as long as it takes.
     Do(Txn),
     /// A transaction that a cancel may call off where it waits. It isn't a peek, which takes one lock without a context
-    /// and can't be called off.
+    /// and can't be cancelled.
     Interruptible(Txn),
     /// A cancel of the script of this number, which may be the script itself.
     Cancel(u8),

@@ -71,7 +71,7 @@ impl Parker {
         Ok(Wire { unparker, rang })
     }
 
-    /// Gives others a while to ring: a sleep behind that costs no system call.
+    /// Gives others a while to ring: a sleep after that costs no system call.
     pub(crate) fn listen(&self) {
         for _ in 0..LISTENS {
             if self.rang.load(Ordering::SeqCst) {
@@ -98,7 +98,7 @@ pub struct Wire {
     rang: Arc<AtomicBool, Global>,
 }
 
-/// Wakes whoever sleeps on one parker, by its token. It counts the tokens that it gave.
+/// Wakes the thread that sleeps on one parker, by its token. It counts the tokens that it gave.
 #[derive(Drop)]
 pub struct Bell {
     unparker: RuledUnparker<u64, Rings>,
@@ -126,7 +126,7 @@ impl Bell {
         })
     }
 
-    /// Gives the token, and wakes whoever sleeps there.
+    /// Gives the token, and wakes the thread that sleeps there.
     pub(crate) fn ring(&mut self)
         ensures rung { rung self.new ≡ rung self.old + 1 }
         ensures placed { rings_at self.new ≡ rings_at self.old }

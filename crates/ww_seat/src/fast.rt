@@ -1,4 +1,4 @@
-//! One try to take a lock at once, which a free lock with an empty wait list allows.
+//! One try to take a lock by one step, which a free lock with an empty wait list allows.
 
 ghost use Rattle.std.specs.Prelude.{ℕ};
 ghost use Rattle.ww_plain.specs.Graph.{IsNodeOf};

@@ -1,4 +1,4 @@
-//! A wait is called off.
+//! A cancel ends a wait.
 ghost use Rattle.std.specs.Prelude.{◌≡◌, ◌<◌, true, false};
 ghost use Rattle.ww_table.specs.Seat.{size_of, view_of};
 ghost use Rattle.ww_seat.specs.Work.{IsSameSeat, IsStop, SeesOther, StandsHere};

@@ -37,7 +37,7 @@ fn clear_if_signed(seat: &mut Seat16, board: &Board)
     seat.clear(board);
 }
 
-/// Leaves the guard. In Wait-Die the seat takes back its own sign first: whoever condemned it was met.
+/// Leaves the guard. In Wait-Die the seat takes back its own sign first: the seat that condemned it was met.
 pub(crate) fn leave(seat: &mut Seat16, board: &Board, lock: u32)
     requires at { IsHere board.now lock seat.old }
     requires may { MayGo lock (view_of seat.old) }

@@ -95,7 +95,7 @@ fn is_ours(seat: &Seat16, seen: Owner) -> bool
 }
 
 /// One attempt at a look. If the call heeds its cancel, that is checked as soon as the seat is in the wait list: so the
-/// seat asks for nothing and condemns nobody for a wait that ends at once.
+/// seat asks for nothing and condemns nobody for a wait that ends immediately.
 pub fn look_once(
     seat: &mut Seat16,
     board: &Board,

@@ -4,10 +4,10 @@
 /// The fewest pauses of such a rest.
 const FEWEST: u32 = 8;
 
-/// At most so many doublings of that.
+/// At most this many doublings of that.
 const MOST_JAMS: u32 = 12;
 
-/// So few contexts that met others make no jam.
+/// At most this many contexts that met others make no jam.
 const FEW: u32 = 3;
 
 /// In a jam one of these is forgotten after so many contexts that met no other; else after each.

@@ -18,7 +18,7 @@ pub struct Waited {
     pub looks: u64,
     /// Sleeps, of which each took a system call at most.
     pub sleeps: u64,
-    /// Calls that were told EDEADLK.
+    /// Calls that returned EDEADLK.
     pub back_offs: u64,
 }
 
@@ -111,7 +111,7 @@ impl Patience {
     }
 
     /// Sleeps until somebody wakes the seat, once for each time that it left a guard as a waiter. It is outside of all, and has
-    /// woken whom it has to; and if the wait is until a cancel, it found none. If the wake-up comes during the pauses before,
+    /// woken all it has to; and if the wait is until a cancel, it found none. If the wake-up comes during the pauses before,
     /// it costs no system call.
     pub(crate) fn sleep<R: Wait>(&mut self, rt: &R, seat: &Seat, bells: &[Bell], waits: Waits)
         requires { MaySleep self.old bells.now waits seat.now }

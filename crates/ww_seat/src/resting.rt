@@ -17,10 +17,10 @@ pub const MOST_PAUSES: u32 = 12_416;
 /// processors other programs may have run meanwhile.
 const LATE: u64 = 4096;
 
-/// In what seats of desks and of passes differ.
+/// The constants in which seats of desks and of passes differ.
 #[derive(Clone, Copy, Debug, PartialEq, Eq)]
 struct Manner {
-    /// A context that still owns the lock after so many pauses works for longer.
+    /// A context that still owns the lock after this many pauses works for longer.
     moment: u32,
     /// A seat that holds locks rests shortly, since others may wait for these: so often, and for so many pauses at most.
     rests_holding: u8,
@@ -54,16 +54,16 @@ const RESTS_LONGER: u8 = 7;
 
 const PAUSES_LONGER: u32 = 1024;
 
-/// After each so many pauses of a rest another thread may have the processor: it may be the one that has the lock.
+/// Each time after this many pauses of a rest another thread may have the processor: it may be the one that has the lock.
 pub(crate) const BREATH: u32 = 64;
 
 /// The fewest pauses of a seat that holds nothing.
 const FEWEST: u32 = 8;
 
-/// At most so many doublings of that, for a seat that keeps losing its first tries.
+/// At most this many doublings of that, for a seat that keeps losing its first tries.
 const MOST_LOSSES: u32 = 10;
 
-/// After so many first tries that won, one that was lost is forgotten.
+/// After this many first tries that won, one that was lost is forgotten.
 const CALM: u32 = 128;
 
 /// A law of these numbers: a call makes sixteen spin reads at most, and rests for 12,416 pauses at most.
@@ -93,7 +93,7 @@ impl Memory {
         }
     }
 
-    /// Of a pass, which doesn't tell when it wins: that would cost each of its locks a test.
+    /// That of a pass, which doesn't say when it wins: that would cost each of its locks a test.
     pub(crate) fn of_pass() -> Memory {
         Memory {
             losses: 0,
@@ -143,7 +143,7 @@ impl Memory {
 #[derive(Clone, Copy, Debug, PartialEq, Eq)]
 pub struct Rest {
     pub pauses: u32,
-    /// How often other threads are let run meanwhile: behind each 64 pauses.
+    /// How often it yields meanwhile: after each 64 pauses.
     pub yields: u32,
 }
 
@@ -329,7 +329,7 @@ impl Plan {
     }
 }
 
-/// Whether it is still the same context that owns the lock. Without a context nobody can tell.
+/// Whether it is still the same context that owns the lock. An owner without a context can't be recognized.
 fn is_same(before: Owner, now: Owner) -> bool {
     now.stamp() != 0 && before.seat() == now.seat() && before.stamp() == now.stamp()
 }

@@ -134,7 +134,7 @@ impl Seat {
         self.seat.top()
     }
 
-    /// Whether it owns a lock, which the lock's word tells.
+    /// Whether it owns a lock, which the lock's word says.
     #[inline(always)]
     pub fn has(&mut self, board: &Board, lock: u32) -> bool
         requires at { IsAt board.now self.old }

@@ -1,4 +1,4 @@
-//! Whom the seat condemns, and whether it is condemned itself.
+//! Which seats this one condemns, and whether it is condemned itself.
 ghost use Rattle.ww_table.specs.Seat.{size_of, view_of};
 ghost use Rattle.ww_seat.specs.Work.{AreMarksOf, AreOwed, HasLookedForDeath, HasMarked, HasNoted, HasSigned, IsInsideHere, IsSameSeat, SeesOther, SeesSeats, StandsHere};
 
@@ -24,7 +24,7 @@ fn sign_some(seat: &mut Seat16, board: &Board, lock: u32, owed: &[(u16, u64)], w
 }
 
 /// Sets all signs that the seat owes by the word it saw. The seats that this call condemned have to be woken by it; a
-/// seat that was signed before is woken by whoever signed it.
+/// seat that was signed before is woken by the one that signed it.
 pub(crate) fn sign_all(seat: &mut Seat16, board: &Board, lock: u32, seen: Owner, wake: &mut [u64])
     requires at { IsInsideHere board.now lock seat.old }
     requires seen { SeesSeats seen (view_of seat.old) }

@@ -32,7 +32,7 @@ impl Seat {
     }
 
     /// Rests as it is told to, and lets other threads run meanwhile. Where these ran for so long that the call is late, it
-    /// ends the rest and answers true.
+    /// ends the rest and returns true.
     fn take_rest(&mut self, board: &Board, stay: &mut Stay, rest: Rest) -> bool
         requires at { IsAt board.now self.old }
         requires may { MayGlanceOn stay.old (view_in self.old) }

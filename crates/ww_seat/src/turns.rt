@@ -24,7 +24,7 @@ impl Seat {
         self.seat.enter(board, lock)
     }
 
-    /// One try to release a lock at once that guards a node, which only an empty wait list allows.
+    /// One try to release, by one step, a lock that guards a node, which only an empty wait list allows.
     #[inline(always)]
     pub fn give(&mut self, board: &Board, lock: u32) -> bool
         requires at { IsAt board.now self.old }
@@ -34,7 +34,7 @@ impl Seat {
         self.seat.give_free(board, lock)
     }
 
-    /// The same of a lock that guards no node. Whether the seat has it the lock's word tells.
+    /// The same of a lock that guards no node. The lock's word says whether the seat has it.
     #[inline(always)]
     pub fn give_bare(&mut self, board: &Board, lock: u32) -> Tried
         requires at { IsAt board.now self.old }

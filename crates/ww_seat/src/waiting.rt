@@ -26,7 +26,7 @@ impl Seat {
     ghost use Rattle.ww_seat.specs.Standings.{view_in, OwnsNodes, IsAt, MayGoIn, MayWait, MayWaitWith, IsWait, StaysEven, IsVisit, IsAtWorkThere, HasLooked};
 
     /// Waits for a lock after a try has failed, and gives its node; or else the older stamp that was met, or, if the
-    /// call heeds its cancel, the seat that called the wait off. It stays away for a while, and then looks and parks until
+    /// call heeds its cancel, the seat that cancelled the wait. It stays away for a while, and then looks and parks until
     /// a look ends the wait.
     #[cold]
     pub fn wait_for<R: Wait>(

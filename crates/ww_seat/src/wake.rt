@@ -1,4 +1,4 @@
-//! Whom a seat wakes once it is outside the guard: marks first, and then bells.
+//! Which seats a seat wakes once it is outside the guard: marks first, and then bells.
 
 ghost use Rattle.std.specs.Prelude.{ℕ, ◌≡◌, ◌≢◌, ◌<◌, ◌≤◌, ◌*◌, true, length, Some, IfSome};
 ghost use Rattle.std.specs.Option.{option_map};
@@ -19,7 +19,7 @@ fn set_mark(marks: &mut [u64], u: u16)
     marks[usize::from(u / 64)] |= 1 << (u % 64);
 }
 
-/// Also wakes a seat that was condemned, but for the one that did so, and nobody else: the seats that are to be woken have
+/// Also wakes a seat that was condemned, except the one that did so, and nobody else: the seats that are to be woken have
 /// marks, 64 in a word.
 pub fn mark(marks: &mut [u64], who: u16, victim: u16, is_condemned: bool)
     requires victim { victim < 64 * length marks.old }

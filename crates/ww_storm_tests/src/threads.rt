@@ -33,7 +33,7 @@ fn first_graph(alloc: Global) -> Result<Graph, AllocError> {
 }
 
 /// What a thread remembers: its random numbers, the place and the number that each receipt told, what it added to each
-/// node, how often it called each thread off and was called off by each, and how often something went wrong.
+/// node, how often it called each thread off and was cancelled by each, and how often something went wrong.
 #[derive(Drop)]
 struct Memory {
     random: Pcg32,
@@ -52,7 +52,7 @@ struct Asks {
 }
 
 /// What a round does: the locks that it takes, each with what is added to its node; that addition; what is done
-/// instead, if the locks serve for it; and whom it calls off before.
+/// instead, if the locks serve for it; and whom it cancels before.
 #[derive(Drop)]
 struct Plan {
     amounts: Vec<(u8, u64)>,
@@ -116,7 +116,7 @@ impl Memory {
         })
     }
 
-    /// How its calls wait: a third of the rounds may be called off, where any is.
+    /// How its calls wait: a third of the rounds may be cancelled, where any is.
     fn waits(&mut self, cancels: bool) -> Waits {
         if cancels && self.below(3) == 0 {
             Waits::UntilCancelled
@@ -161,7 +161,7 @@ impl Memory {
     }
 }
 
-/// Waits for a lock, and tells who called that off. A context that gets EDEADLK has to back off.
+/// Waits for a lock, and returns who cancelled that. A context that gets EDEADLK has to back off.
 fn wait<R: Wait>(
     rt: &R,
     world: &World,
@@ -210,7 +210,7 @@ fn take<R: Wait>(
     wait(rt, world, acquiring, n, asks.waits)
 }
 
-/// Takes the locks of these nodes in turn, up to a call that is called off.
+/// Takes the locks of these nodes in turn, up to a call that is cancelled.
 fn take_in_turn<R: Wait>(
     rt: &R,
     world: &World,
@@ -233,7 +233,7 @@ fn take_in_turn<R: Wait>(
     Ok((acquiring, None))
 }
 
-/// Releases all, and takes the lock that it couldn't get; or ends the context where that is called off.
+/// Releases all, and takes the lock that it couldn't get; or ends the context where that is cancelled.
 fn back_off<R: Wait>(
     rt: &R,
     world: &World,
@@ -302,7 +302,7 @@ fn round_alone<R: Wait>(
     }
 }
 
-/// Commits the change, where all that it needs is held, else the addition. Tells whether it was the addition.
+/// Commits the change, where all that it needs is held, else the addition. Returns whether it was the addition.
 fn commit_one<R: Wait>(
     rt: &R,
     world: &World,
@@ -382,7 +382,7 @@ fn cancel(world: &World, pass: &mut Pass, victim: Option<u8>, memory: &mut Memor
     }
 }
 
-/// One round, which is to commit once, unless it is called off.
+/// One round, which is to commit once, unless it is cancelled.
 fn round<R: Wait>(rt: &R, world: &World, mut pass: Pass, plan: Plan, memory: &mut Memory) -> Pass
     requires home { IsAtHome pass world.now }
     ensures home { IsAtHome result world.now }
@@ -460,7 +460,7 @@ fn is_part(records: &[Record], caller: u8, receipts: &[(u64, u64)]) -> bool {
     rest.next().is_none()
 }
 
-/// How often a thread was called off by another, and how often that one had set its cancel.
+/// How often a thread was cancelled by another, and how often that one had set its cancel.
 fn times(memories: &[Memory], victim: usize, by: usize) -> (u64, u64) {
     let answered = memories
         .get(victim)
@@ -522,7 +522,7 @@ fn check<R: Abort>(
     Ok(())
 }
 
-/// So many threads at once, a pass each. They call one another off, or nobody does.
+/// This many threads at the same time, a pass each. They cancel one another, or nobody does.
 fn storm<R: Threads + Wait + Abort + Sync>(
     rt: &R,
     alloc: Global,

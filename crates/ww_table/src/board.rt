@@ -53,7 +53,7 @@ impl Board {
         self.places
     }
 
-    /// Reads one word, for whoever has the board for itself, as tests do: a seat at work shares it, and reads by its
+    /// Reads one word, for a caller that has the board for itself, as tests do: a seat at work shares it, and reads by its
     /// steps alone. No clause says what the word has. The words are numbered: owner words from 0, guards from 64, signs
     /// from 128, the stamp word 144, the front word 145, cancels from 146. It gives 0 for a lock that isn't there.
     #[tactic(auto, unfolding(ww_rule::specs::Layout::lock_at))]

@@ -12,7 +12,7 @@ use ww_rule::layout::cancel_word;
 use ww_rule::plays_inside::{Heed, SetCancel};
 
 impl Seat16 {
-    /// Sets the cancel of a seat, which may be the own one, and answers whether this call did so: a cancel that is
+    /// Sets the cancel of a seat, which may be the own one, and returns whether this call did so: a cancel that is
     /// pending stays as it is.
     pub fn set_cancel(&mut self, board: &Board, victim: u16) -> bool
         requires seat { IsSeatOf board.now self.old }

@@ -101,7 +101,7 @@ impl Seat16 {
         }
     }
 
-    /// The owner word of a lock, read from outside its guard. It is a guess: others may change the word at once, and no
+    /// The owner word of a lock, read from outside its guard. It is a guess: others may change the word any time, and no
     /// clause says what it was.
     pub fn glance(&mut self, board: &Board, lock: u32) -> Owner
         requires seat { IsSeatOf board.now self.old }

@@ -43,7 +43,7 @@ impl Board {
         }
     }
 
-    /// A table of so many locks, of which none guards a node.
+    /// A table with this many locks, of which none guards a node.
     pub fn make_bare(
         alloc: Global,
         kind: Kind,

@@ -135,7 +135,7 @@ impl Seat16 {
         seen
     }
 
-    /// Who owns the lock after it is released: the first waiter if HANDOFF is set, else nobody.
+    /// The owner of the lock after it is released: the first waiter if HANDOFF is set, else nobody.
     pub(crate) fn next_owner(&mut self, board: &Board, lock: u32, is_asked: bool) -> Owner
         requires seat { IsSeatOf board.now self.old }
         requires lock { lock < locks_of board.now }

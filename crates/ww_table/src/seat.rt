@@ -54,7 +54,7 @@ pub struct Seat16 {
     pub(crate) page: Option<Page>,
 }
 
-/// What one try to take a lock at once came to.
+/// The outcome of a try to take a lock by one step.
 #[derive(Clone, Copy, Debug, PartialEq, Eq)]
 pub enum Taking {
     /// The seat has the lock now.
@@ -65,7 +65,7 @@ pub enum Taking {
     Missed,
 }
 
-/// What one try to release a lock at once came to.
+/// The outcome of a try to release a lock by one step.
 #[derive(Clone, Copy, Debug, PartialEq, Eq)]
 pub enum Giving {
     /// The seat has the lock no more.
@@ -87,7 +87,7 @@ impl Found {
     ghost use Rattle.std.specs.Prelude.{◌≡◌};
     ghost use Rattle.ww_table.specs.Seat.{tells_own};
 
-    /// Whether that word tells that the seat has the lock.
+    /// Whether that word says that the seat has the lock.
     #[inline(always)]
     pub fn is_own(self) -> bool
         ensures { result ≡ tells_own self }
@@ -231,7 +231,7 @@ impl Seat16 {
         Some(stamp)
     }
 
-    /// One try to take a lock at once, which only a free one with an empty wait list allows.
+    /// One try to take a lock by one step, which only a free one with an empty wait list allows.
     pub fn take_free(&mut self, board: &Board, lock: u32) -> bool
         requires seat { IsSeatOf board.now self.old }
         requires lock { lock < size_of board.now }
@@ -252,7 +252,7 @@ impl Seat16 {
         true
     }
 
-    /// One try to release a lock at once, which only an empty wait list allows.
+    /// One try to release a lock by one step, which only an empty wait list allows.
     pub fn give_free(&mut self, board: &Board, lock: u32) -> bool
         requires seat { IsSeatOf board.now self.old }
         requires lock { lock < size_of board.now }
@@ -275,7 +275,7 @@ impl Seat16 {
         true
     }
 
-    /// One try to take a lock at once that guards no node. The word tells whether the seat had it before.
+    /// One try to take, by one step, a lock that guards no node. The word says whether the seat had it before.
     #[inline(always)]
     pub fn take_bare(&mut self, board: &Board, lock: u32) -> Tried
         requires seat { IsSeatOf board.now self.old }
@@ -295,7 +295,7 @@ impl Seat16 {
         Tried::InVain(Found { word: found, own })
     }
 
-    /// One try to release a lock at once that guards no node. The word tells whether the seat has it.
+    /// One try to release, by one step, a lock that guards no node. The word says whether the seat has it.
     #[inline(always)]
     pub fn give_bare(&mut self, board: &Board, lock: u32) -> Tried
         requires seat { IsSeatOf board.now self.old }

@@ -12,7 +12,7 @@ use ww_rule::layout::sign_word;
 use ww_rule::plays_inside::{Clear, OwnSign, Sign};
 
 impl Seat16 {
-    /// Condemns another seat by the stamp of the older context that it meets here, and answers whether this call did
+    /// Condemns another seat by the stamp of the older context that it meets here, and returns whether this call did
     /// so: a seat that has a sign keeps it. Either way the victim has one.
     pub fn sign(&mut self, board: &Board, lock: u32, victim: u16, stamp: u64) -> bool
         requires seat { IsSeatOf board.now self.old }

@@ -72,7 +72,7 @@ impl Seat16 {
         true
     }
 
-    /// Asks whoever owns the lock to hand it over, if its owner word is still the one seen.
+    /// Asks the owner of the lock to hand it over, if its owner word is still the one seen.
     pub fn ask(&mut self, board: &Board, lock: u32, seen: Owner) -> bool
         requires seat { IsSeatOf board.now self.old }
         requires lock { lock < locks_of board.now }

@@ -86,8 +86,8 @@ GiveBareIsFastGive = (key : Start) (s : St) (r : Ruled key s) (id : ℕ) (me : S
     slice_index s.words (owner_at key.locks n) ≡ packed (taker me.0.part.core) →
     Makes key s r (FastGive me.0.part.core.who n) (stepped s (owner_at key.locks n) 0 id me.1 (knowing me.0 (fast_given me.0.part.core n)) keeps)
 
--- Outside all guards and lists an owner word is the seat's own, but for its flags, just where the seat owns the lock: so a
--- seat needs no list of what it holds.
+-- Outside all guards and lists an owner word, except its flags, is the seat's own if and only if the seat owns the lock:
+-- so a seat needs no list of what it holds.
 abbrev pub WordsTellOwners : Type 0
 WordsTellOwners = (key : Start) (s : St) (r : Ruled key s) (id : ℕ) (me : Sat) (n : ℕ) → Steps s id me → n < key.locks →
     IsAway me.0.part.core → IsToldBy me.0.part.core n (slice_index s.words (owner_at key.locks n))

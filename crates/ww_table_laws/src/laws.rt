@@ -28,7 +28,7 @@ pub fn take_free_is_fast()
     ensures { TakeFreeIsFast }
 {}
 
-/// Releasing a lock at once is the event FastGive.
+/// Releasing a lock by one step is the event FastGive.
 pub fn give_free_is_fast_give()
     ensures { GiveFreeIsFastGive }
 {}
@@ -38,12 +38,12 @@ pub fn take_bare_is_fast()
     ensures { TakeBareIsFast }
 {}
 
-/// Releasing such a lock at once is the event FastGive.
+/// Releasing such a lock by one step is the event FastGive.
 pub fn give_bare_is_fast_give()
     ensures { GiveBareIsFastGive }
 {}
 
-/// The word of a lock tells a seat that is away whether it owns the lock.
+/// By the word of a lock, a seat that is away knows whether it owns the lock.
 #[tactic(auto, using(ww_rule::proofs::Moves::told))]
 pub fn words_tell_owners()
     ensures { WordsTellOwners }

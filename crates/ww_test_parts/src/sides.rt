@@ -18,7 +18,7 @@ pub fn rest(turn: u32) {
     }
 }
 
-/// Waits until others have brought a number so far, and tells whether they did within 2^32 - 1 turns.
+/// Waits until others have brought a number so far, and returns whether they did within 2^32 - 1 turns.
 pub fn is_reached(number: &AtomicU64, wanted: u64) -> bool {
     for turn in 0..u32::MAX {
         if number.load(Ordering::SeqCst) >= wanted {
@@ -68,7 +68,7 @@ impl<'a> Sides<'a> {
         self.other.stamp.load(Ordering::SeqCst)
     }
 
-    /// Waits until the other thread has come as often as this one, and tells whether it has within 2^32 - 1 turns.
+    /// Waits until the other thread has come as often as this one, and returns whether it has within 2^32 - 1 turns.
     pub fn meet(&self) -> bool {
         let times = self.own.come.load(Ordering::SeqCst).wrapping_add(1);
         self.own.come.store(times, Ordering::SeqCst);

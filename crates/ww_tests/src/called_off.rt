@@ -1,4 +1,4 @@
-//! Waits that are called off, by one thread: what would wait for a lock finds a cancel that was set before.
+//! Waits that are cancelled, by one thread: what would wait for a lock finds a cancel that was set before.
 
 ghost use Rattle.std.specs.Prelude.{◌≡◌, ◌<◌, length, Err, IsTrue, IfOk, IfErr};
 ghost use Rattle.ww_plain.specs.Numbers.{is_among};
@@ -53,7 +53,7 @@ fn taken<R: Wait + Abort>(rt: &R, world: &World, acquiring: Acquiring, n: u8, co
     }
 }
 
-/// Asks for a lock, and is called off by this caller.
+/// Asks for a lock, and is cancelled by this caller.
 fn called_off<R: Wait + Abort>(
     rt: &R,
     world: &World,
@@ -126,7 +126,7 @@ fn a_call_is_called_off(rt: HostRuntime) -> Result<(), Fail> {
     Ok(())
 }
 
-/// Tries again for the lock that it couldn't get, and is called off by this caller.
+/// Tries again for the lock that it couldn't get, and is cancelled by this caller.
 fn called_off_again<R: Wait + Abort>(
     rt: &R,
     world: &World,
@@ -145,7 +145,7 @@ fn called_off_again<R: Wait + Abort>(
     }
 }
 
-/// The younger backs off, and its slow call is called off, and made again.
+/// The younger backs off, and its slow call is cancelled, and made again.
 #[test]
 fn a_slow_call_is_called_off(rt: HostRuntime) -> Result<(), Fail> {
     let (world, zero, one, two) = three_passes(rt.alloc(), Kind::WaitDie, 1)?;
@@ -216,7 +216,7 @@ fn ways_taken<R: Wait + Abort>(rt: &R, world: &World, pass: Pass) -> Pass
     covered(rt, world, done, &Txn::Reverse(0, 0, 64))
 }
 
-/// Each way is called off, and then locks what it names, with a budget of one context for each.
+/// Each way is cancelled, and then locks what it names, with a budget of one context for each.
 fn in_turn<R: Wait + Abort>(rt: &R, alloc: Global, kind: Kind) -> Result<(), Fail> {
     let (world, zero, one, two) = three_passes(alloc, kind, 6)?;
     assert!(rt; world.size() == 3);
@@ -238,7 +238,7 @@ fn each_way_is_called_off(rt: HostRuntime) -> Result<(), Fail> {
     Ok(())
 }
 
-/// Takes the locks of both nodes, unless it is called off.
+/// Takes the locks of both nodes, unless it is cancelled.
 fn both<R: Wait>(
     rt: &R,
     world: &World,
@@ -266,7 +266,7 @@ fn both<R: Wait>(
     lock_until_interruptible(rt, world, acquiring, body)
 }
 
-/// A body is called off at its second lock while another holds that, and takes both locks once nobody does.
+/// A body is cancelled at its second lock while another holds that, and takes both locks once nobody does.
 fn body_in_turn<R: Wait + Abort>(rt: &R, alloc: Global, kind: Kind) -> Result<(), Fail> {
     let (world, zero, one, two) = three_passes(alloc, kind, 2)?;
     assert!(rt; world.size() == 3);

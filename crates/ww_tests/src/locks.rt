@@ -260,7 +260,7 @@ fn younger_holder_backs_off(rt: HostRuntime) -> Result<(), Fail> {
     Ok(())
 }
 
-/// A pass that took its lock at once didn't wait. The younger one lost its try for that lock, and was told EDEADLK in its
+/// A pass that took its lock at once didn't wait. The younger one lost its try for that lock, and got EDEADLK in its
 /// only look.
 #[test]
 fn each_pass_tells_how_it_waited(rt: HostRuntime) -> Result<(), Fail> {

@@ -31,7 +31,7 @@ pub(crate) fn asked<R: Wait + Abort, G: Gate>(
     transact(world, pass, rt, gate, txn)
 }
 
-/// Asks for a transaction whose waits may be called off.
+/// Asks for a transaction whose waits may be cancelled.
 fn asked_interruptible<R: Wait + Abort, G: Gate>(
     rt: &R,
     world: &World,
@@ -66,8 +66,8 @@ impl Gate for Counts {
     }
 }
 
-/// Asks for a transaction, whose waits may be called off or not. If it is made, the gate is told of it, once before its
-/// commit and once behind; if it is refused or called off, the gate isn't told.
+/// Asks for a transaction, whose waits may be cancelled or not. If it is made, the gate is told of it, once before its
+/// commit and once behind; if it is refused or cancelled, the gate isn't told.
 pub(crate) fn counted<R: Wait + Abort>(
     rt: &R,
     world: &World,

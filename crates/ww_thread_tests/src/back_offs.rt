@@ -1,6 +1,6 @@
-//! A back-off that is called off. In Wound-Wait the younger of two threads takes nodes 0 and 1 by a way that may be
-//! called off; the older one holds node 1, and asks for node 0 once the younger has it, so it gets that only when the
-//! younger has backed off. Then it has the younger called off, and releases nothing before the younger is told: only a
+//! A back-off that is cancelled. In Wound-Wait the younger of two threads takes nodes 0 and 1 by a way that may be
+//! cancelled; the older one holds node 1, and asks for node 0 once the younger has it, so it gets that only when the
+//! younger has backed off. Then it has the younger cancelled, and releases nothing before the younger is told: only a
 //! slow lock that heeds the cancel ends the wait, and one that doesn't makes this fail.
 
 ghost use Rattle.std.specs.Prelude.{◌≡◌, length};
@@ -124,7 +124,7 @@ fn younger<R: Wait>(
     (told, is_held && is_told)
 }
 
-/// Gets node 0, for which the younger backs off, and releases it once the younger, which was called off since, is told.
+/// Gets node 0, for which the younger backs off, and releases it once the younger, which was cancelled since, is told.
 fn calls_off<R: Wait + Abort>(
     rt: &R,
     world: &World,
@@ -147,7 +147,7 @@ fn calls_off<R: Wait + Abort>(
     is_told
 }
 
-/// The older one. It tells whether the younger had node 0, and whether both have met.
+/// The older one. It returns whether the younger had node 0, and whether both have met.
 fn older<R: Wait + Abort>(
     rt: &R,
     world: &World,
@@ -177,7 +177,7 @@ fn older<R: Wait + Abort>(
     }
 }
 
-/// One try, and whether the younger had node 0 in time. Then its back-off is called off; else it gets both nodes.
+/// One try, and whether the younger had node 0 in time. Then its back-off is cancelled; else it gets both nodes.
 fn is_called_off<R: Threads + Wait + Abort + Sync>(
     rt: &R,
     alloc: Global,

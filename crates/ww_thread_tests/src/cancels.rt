@@ -1,4 +1,4 @@
-//! Two threads in step: one waits for a lock, and the other releases it only once the first was called off. So a
+//! Two threads in step: one waits for a lock, and the other releases it only once the first was cancelled. So a
 //! cancel that is lost, or the wake-up for it, makes this hang.
 
 ghost use Rattle.ww_lock.specs.Holding.{IsAtHome};
@@ -26,7 +26,7 @@ fn delay(round: u32) {
     pause(round % DELAYS * YIELDS);
 }
 
-/// Holds node 0 until pass 0, which asks for it, was called off by pass 2.
+/// Holds node 0 until pass 0, which asks for it, was cancelled by pass 2.
 fn holds<R: Wait>(
     rt: &R,
     world: &World,
@@ -56,7 +56,7 @@ fn holds<R: Wait>(
     }
 }
 
-/// Asks for node 0, which another holds until this call is called off. It tells whether pass 2 did that.
+/// Asks for node 0, which another holds until this call is cancelled. It returns whether pass 2 did that.
 fn asks<R: Wait>(rt: &R, world: &World, pass: Pass, sides: &Sides) -> (Pass, bool)
     requires home { IsAtHome pass world.now }
     ensures home { IsAtHome result.0 world.now }

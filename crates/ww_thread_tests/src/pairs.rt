@@ -22,10 +22,10 @@ const YIELDS: u32 = 5_000;
 #[derive(Clone, Copy)]
 enum Play {
     /// They lock both nodes in opposite orders: both hold their first node before either asks for its second. The
-    /// younger alone is told EDEADLK.
+    /// younger alone gets EDEADLK.
     Crossed,
     /// The older holds a node and asks for nothing more, and the younger, which holds another node, asks for that one.
-    /// In Wound-Wait it waits and gets it; in Wait-Die it is told EDEADLK, with the older one's stamp.
+    /// In Wound-Wait it waits and gets it; in Wait-Die it gets EDEADLK, with the older one's stamp.
     Asked(Kind),
 }
 
@@ -38,7 +38,7 @@ impl Play {
     }
 }
 
-/// Releases all, takes the lock that it couldn't get, and ends. It tells whether it then held that lock and not its
+/// Releases all, takes the lock that it couldn't get, and ends. It returns whether it then held that lock and not its
 /// first.
 fn gives_way<R: Wait>(
     rt: &R,
@@ -55,8 +55,8 @@ fn gives_way<R: Wait>(
     (acquiring.unlock_all(rt, world).fini(world), is_moved)
 }
 
-/// Locks its second node, and ends. It tells whether that came as the stamps have it: the older one gets it, and the
-/// younger is told EDEADLK, with the older one's stamp.
+/// Locks its second node, and ends. It returns whether that came as the stamps have it: the older one gets it, and the
+/// younger gets EDEADLK, with the older one's stamp.
 fn second_locked<R: Wait>(
     rt: &R,
     world: &World,
@@ -145,7 +145,7 @@ fn holds<R: Wait>(rt: &R, world: &World, pass: Pass, kind: Kind, sides: &Sides) 
     }
 }
 
-/// The younger one holds node 1 and asks for node 0. It tells whether the answer was that of the kind.
+/// The younger one holds node 1 and asks for node 0. It returns whether the answer was that of the kind.
 fn asks<R: Wait>(rt: &R, world: &World, pass: Pass, kind: Kind, sides: &Sides) -> (Pass, bool)
     requires home { IsAtHome pass world.now }
     requires node { 1 < length world.now.first }
@@ -213,7 +213,7 @@ fn rounds<R: Wait>(rt: &R, world: &World, mut pass: Pass, play: Play, sides: &Si
     Work { pass, good }
 }
 
-/// Two threads at once.
+/// Two threads at the same time.
 fn in_step<R: Threads + Wait + Abort + Sync>(
     rt: &R,
     alloc: Global,

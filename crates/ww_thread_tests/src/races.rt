@@ -159,7 +159,7 @@ fn is_last(alloc: Global, graph: &Graph, way: Option<Way>) -> Result<bool, Alloc
     )
 }
 
-/// Two threads at once.
+/// Two threads at the same time.
 fn race<R: Threads + Wait + Abort + Sync>(
     rt: &R,
     alloc: Global,

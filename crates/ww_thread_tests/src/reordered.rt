@@ -59,7 +59,7 @@ fn are_busy<R: Wait + Abort>(rt: &R, world: &World, mut pass: Pass) -> bool
     false
 }
 
-/// Takes node 0 while the list waits for node 2, and keeps it while that is released. It tells whether the list took
+/// Takes node 0 while the list waits for node 2, and keeps it while that is released. It returns whether the list took
 /// both other nodes meanwhile.
 fn first_is_kept<R: Wait + Abort>(rt: &R, world: &World, pass: Pass, second: Acquiring) -> bool
     requires pass { IsAtHome pass world.now }

@@ -25,7 +25,7 @@ pub enum Refusal {
     NoMemory,
 }
 
-/// Moves an amount from one node to another, in a context that holds both locks. The receipt tells whether the amount
+/// Moves an amount from one node to another, in a context that holds both locks. The receipt says whether the amount
 /// was there, and whether there was room for it.
 pub fn transfer<R: Wait>(
     rt: &R,

@@ -23,7 +23,7 @@ pub enum ChangeFault {
     /// The list names this node twice; it is the first one that does.
     #[error("the list names node {0} twice")]
     Already(u8),
-    /// The closure answered no transaction.
+    /// The closure returned no transaction.
     #[error("no transaction was decided on")]
     Declined,
     /// The closure's transaction doesn't fit the world, names a node twice, or needs a node that the list doesn't name.
@@ -35,8 +35,8 @@ pub enum ChangeFault {
 }
 
 /// Locks the nodes of a list, hands their values to a closure, in the order of the list, commits the transaction that
-/// it answers, and releases all. It begins one context. It is refused where the pass has none left; else where the
-/// list names a node twice; else where the closure answers nothing, or a transaction that can't be made with these
+/// it returns, and releases all. It begins one context. It is refused where the pass has none left; else where the
+/// list names a node twice; else where the closure returns nothing, or a transaction that can't be made with these
 /// locks; else for lack of memory.
 pub fn change<R: Wait, F: FnOnce(&[u64]) -> Option<Txn>>(
     rt: &R,

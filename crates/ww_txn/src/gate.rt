@@ -1,14 +1,14 @@
-//! What a caller may be told of each commit, before it and behind it.
+//! Hooks that a caller may have run at each commit, before it and after it.
 
 ghost use Rattle.std.specs.Prelude.{ℕ};
 
 /// Its methods are called, in the thread of the transaction, for each transaction that commits; they may hold that
 /// thread up. For a transaction that is refused they aren't called.
 pub trait Gate {
-    /// What holds once a gate was asked before the commit of this number of this caller.
+    /// What holds once a gate was called before the commit of this number of this caller.
     ghost is_asked: { Self → ℕ → ℕ → Type 0 } = { λ _ _ _. Unit {0} };
 
-    /// What holds once a gate was told that the commit of this number of this caller is answered.
+    /// What holds once a gate was called after the commit of this number of this caller.
     ghost is_answered: { Self → ℕ → ℕ → Type 0 } = { λ _ _ _. Unit {0} };
 
     /// The transaction is prepared, and all its locks are held.

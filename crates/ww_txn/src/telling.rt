@@ -1,9 +1,9 @@
-//! What a gate is told of one transaction: nothing where that is refused; else first that it is about to commit, and
+//! The calls of a gate for one transaction: none if that is refused; else first that it is about to commit, and
 //! then that it is answered.
 
 use crate::gate::Gate;
 
-/// How much a gate was told of a transaction.
+/// Which calls a gate got for a transaction.
 #[derive(Clone, Copy, PartialEq, Eq)]
 pub(crate) enum Stage {
     Untold,
@@ -11,7 +11,7 @@ pub(crate) enum Stage {
     Answered,
 }
 
-/// A gate, the commit that it is to be told of, and how much it was told of that.
+/// A gate, the commit for which it is to be called, and which calls it got for that.
 #[derive(Drop)]
 pub(crate) struct Telling<'a, G> {
     gate: &'a G,

@@ -1,4 +1,4 @@
-//! A transaction from its locks to its answer, in one call.
+//! A transaction from its locks to its reply, in one call.
 
 ghost use Rattle.std.specs.Prelude.{◌≡◌, ◌<◌, length, IfOk, IfErr, OnOk, OnErr};
 ghost use Rattle.ww_plain.specs.Transaction.{transaction_of, peek, Fits};
@@ -25,7 +25,7 @@ pub enum TxnFault {
     /// The list names this node twice; it is the first one that does.
     #[error("the list names node {0} twice")]
     Already(u8),
-    /// A wait for one of its locks was called off by this caller.
+    /// A wait for one of its locks was cancelled by this caller.
     #[error("caller {0} called the wait off")]
     Interrupted(u8),
     /// A growth was refused.
@@ -66,7 +66,7 @@ impl From<UserFault> for TxnFault {
 }
 
 /// Makes a transaction: takes its locks, commits it and releases all, for one of the contexts and solos that the
-/// pass has left. The gate is told of it twice, where it commits. It is refused where the pass has none left; else
+/// pass has left. The gate is called twice, if it commits. It is refused where the pass has none left; else
 /// where its list names a node twice; else for lack of memory.
 pub fn transact<R: Wait, G: Gate>(
     world: &World,
@@ -89,8 +89,8 @@ pub fn transact<R: Wait, G: Gate>(
     }
 }
 
-/// Makes a transaction as `transact` does, but its waits may be called off: nothing is recorded then, and the pass
-/// holds no lock. A `Peek` takes one lock without a context, as a plain mutex, and can't be called off.
+/// Makes a transaction as `transact` does, but its waits may be cancelled: nothing is recorded then, and the pass
+/// holds no lock. A `Peek` takes one lock without a context, as a plain mutex, and can't be cancelled.
 pub fn transact_interruptible<R: Wait, G: Gate>(
     world: &World,
     pass: Pass,

@@ -11,7 +11,7 @@ pub enum UserFault {
     /// The list names this node a second time: the kernel's EALREADY.
     #[error("the list names node {0} twice")]
     Already(u8),
-    /// The wait for one of the nodes was called off by this caller: the kernel's EINTR.
+    /// The wait for one of the nodes was cancelled by this caller: the kernel's EINTR.
     #[error("caller {0} called the wait off")]
     Interrupted(u8),
 }

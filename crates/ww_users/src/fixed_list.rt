@@ -36,7 +36,7 @@ pub fn lock_list<R: Wait>(
     lock_list_as(world, pass, rt, list, Waits::ToTheEnd)
 }
 
-/// Method 1, but each wait may be called off. All is released then, too.
+/// Method 1, but each wait may be cancelled. All is released then, too.
 pub fn lock_list_interruptible<R: Wait>(
     world: &World,
     pass: Pass,

@@ -16,7 +16,7 @@ use ww_lock::{Done, Pass, Waits, World};
 use ww_plain::MAX_NODES;
 
 /// Method 2: as method 1, but after the slow lock the contended entry is moved to the head of the list, and the
-/// trip goes on behind it. So an entry that was contended is locked first from then on. The duplicate that a refusal
+/// trip goes on after it. So an entry that was contended is locked first from then on. The duplicate that a refusal
 /// names is that of the list as it was given, not of the reordered one.
 pub fn lock_order<R: Wait>(
     world: &World,
@@ -37,7 +37,7 @@ pub fn lock_order<R: Wait>(
     lock_order_as(world, pass, rt, list, Waits::ToTheEnd)
 }
 
-/// Method 2, but each wait may be called off. All is released then, too.
+/// Method 2, but each wait may be cancelled. All is released then, too.
 pub fn lock_order_interruptible<R: Wait>(
     world: &World,
     pass: Pass,

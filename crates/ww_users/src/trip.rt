@@ -13,9 +13,9 @@ use ww_lock::{Acquiring, Backoff, Interruptible, Waits, World};
 pub(crate) enum Trip {
     /// All of it is locked.
     Through(Acquiring),
-    /// The context was told EDEADLK at the entry of this position.
+    /// The context got EDEADLK at the entry of this position.
     Deadlk(Backoff, usize),
-    /// An entry named a node that an earlier entry had locked, or the wait for a lock was called off.
+    /// An entry named a node that an earlier entry had locked, or the wait for a lock was cancelled.
     Failed(Acquiring, UserFault),
 }
 

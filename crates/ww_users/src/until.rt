@@ -34,8 +34,8 @@ pub fn lock_until<R: Wait, F: Fn(Acquiring) -> Result<Acquiring, Backoff>>(
     unreachable!()
 }
 
-/// Runs a body as `lock_until` does, but each wait may be called off: those of the body, which tells so by `going_on`,
-/// and those of the back-offs. Then all locks are released, the context ends, and it is told by whom.
+/// Runs a body as `lock_until` does, but each wait may be cancelled: those of the body, which reports that by `going_on`,
+/// and those of the back-offs. Then all locks are released, the context ends, and the call returns by whom.
 pub fn lock_until_interruptible<R: Wait, F: Fn(Acquiring) -> Result<Acquiring, Halt>>(
     rt: &R,
     world: &World,

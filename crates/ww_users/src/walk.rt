@@ -18,7 +18,7 @@ use std::sync::Wait;
 use ww_lock::{Acquiring, Done, Halt, Pass, Waits, World};
 use ww_plain::{MAX_NODES, PORTS};
 
-/// Method 3: locks the walk from a node along a port, of at most so many nodes, and its stop, as it finds them. On
+/// Method 3: locks the walk from a node along a port, of at most this many nodes, and its stop, as it finds them. On
 /// EDEADLK it releases all, takes the contended lock by the slow path, keeps it, and starts the walk again:
 /// others may have changed the ports along it. A spent pass is returned.
 pub fn lock_walk<R: Wait>(
@@ -43,7 +43,7 @@ pub fn lock_walk<R: Wait>(
     }
 }
 
-/// Method 3, but each wait may be called off. All is released then.
+/// Method 3, but each wait may be cancelled. All is released then.
 pub fn lock_walk_interruptible<R: Wait>(
     world: &World,
     pass: Pass,
@@ -125,7 +125,7 @@ fn lock_along<R: Wait>(
     Ok(acquiring)
 }
 
-/// Whether a walk of at most so many nodes ends behind these, where the port of the last one names this node.
+/// Whether a walk of at most this many nodes ends after these, if the port of the last one names this node.
 fn is_over(walk: &[u8], most: u8, next: u8) -> bool
     ensures over { IsTrue result → IsEnd walk.now most (Some next) }
     ensures goes_on { result ≡ false → GoesOnTo walk.now most (Some next) next }

@@ -47,12 +47,12 @@ pub fn exit_is_possible()
     ensures { ExitIsPossible }
 {}
 
-/// Which waiter must die and whom to sign is the same by the view as by the core.
+/// Which waiter must die and which seats to sign is the same by the view as by the core.
 pub fn view_decides()
     ensures { ViewDecides }
 {}
 
-/// The stamp that the view tells for a sign is the one that is given.
+/// The stamp that the view has for a sign is the one that is given.
 pub fn sign_is_told()
     ensures { SignIsTold }
 {}

@@ -44,17 +44,17 @@ pub struct View {
     pub fresh: bool,
     /// It has read its own cancel since it last went inside a guard, and found none.
     pub uncancelled: bool,
-    /// How often it tried to take a lock at once.
+    /// How often it tried to take a lock by one step.
     pub tries: u64,
-    /// How many spin reads it made since it last tried to take a lock at once.
+    /// How many spin reads it made since it last tried to take a lock by one step.
     pub glances: u64,
     /// How often it made a spin read at all.
     pub all_glances: u64,
-    /// How often it took a lock, at once or inside its guard.
+    /// How often it took a lock, by one step or inside its guard.
     pub takes: u64,
     /// How often it backed off.
     pub deaths: u64,
-    /// How often it tried to release a lock at once, and kept it.
+    /// How often it tried to release a lock by one step, and kept it.
     pub kept: u64,
     /// The seats that its own signs condemned since it last went inside a guard.
     pub condemned: LinkedList<u16>,

@@ -15,9 +15,10 @@ pub data Phase : Type 0 where
   going_to_sleep : Phase
   asleep : Phase
 
--- Beside the core, of each seat: its phase; whether it has a token, which whoever wakes it leaves, and which ends its
--- sleep; whom it has yet to wake; whether it has found no sign since it last rose or performed an event; whether it has
--- found no cancel since it last rose or cancelled; and whether the call in which it last went to sleep heeds cancels.
+-- Beside the core, of each seat: its phase; whether it has a token, which a seat leaves that wakes it, and which ends
+-- its sleep; which seats it has yet to wake; whether it has found no sign since it last rose or performed an event;
+-- whether it has found no cancel since it last rose or cancelled; and whether the call in which it last went to sleep
+-- heeds cancels.
 pub record Scene : Type 0 where
   pub core : State
   pub phase : ℕ → Phase

@@ -37,11 +37,11 @@ module _ (w : Scene) where
 
 -- ---- at each moment
 
--- whoever sleeps, and neither was woken nor is about to be, has to wait
+-- each seat that sleeps, and neither was woken nor is about to be, has to wait
 abbrev pub NoWakeIsLost : Type 0
 NoWakeIsLost = (w : Scene) → IsReached w → (s : ℕ) → w.phase s ≡ asleep → IsAlerted w s ⊎ HasToWait w s
 
--- whoever is inside a guard acts: so nobody who spins for a guard waits for a sleeper
+-- each seat that is inside a guard acts: so nobody who spins for a guard waits for a sleeper
 abbrev pub GuardsAreHeldAwake : Type 0
 GuardsAreHeldAwake = (w : Scene) → IsReached w → (s n : ℕ) → w.core.guard n ≡ suc s → w.phase s ≡ acting
 
@@ -56,11 +56,11 @@ pub data WaitsLeadTo (c : State) (IsSuch : ℕ → Type 0) : ℕ → Type 0 wher
   is_such : (s : ℕ) → IsSuch s → WaitsLeadTo c IsSuch s
   awaits : (s t n : ℕ) → Awaits c s t n → WaitsLeadTo c IsSuch t → WaitsLeadTo c IsSuch s
 
--- whoever sleeps waits, maybe through other sleepers, for somebody who is up
+-- each seat that sleeps waits, maybe through other sleepers, for somebody who is up
 abbrev pub SleepersAwaitSomebodyUp : Type 0
 SleepersAwaitSomebodyUp = (w : Scene) → IsReached w → (s : ℕ) → w.phase s ≡ asleep → WaitsLeadTo w.core (IsUp w) s
 
--- no seat was woken or has yet to wake another, and whoever stands in a list sleeps
+-- no seat was woken or has yet to wake another, and each seat that stands in a list sleeps
 pub record IsStill (w : Scene) : Type 0 where
   pub no_token : (s : ℕ) → w.token s ≡ false
   pub paid : (s v : ℕ) → w.owes s v ≡ false
@@ -72,12 +72,12 @@ pub record IsAwakeHolder (w : Scene) (s : ℕ) : Type 0 where
   pub awake : w.phase s ≢ asleep
   pub no_waiter : InNoQueue w.core s
 
--- where nothing is under way, whoever sleeps waits, maybe through others, for a holder that is awake
+-- where nothing is under way, each seat that sleeps waits, maybe through others, for a holder that is awake
 abbrev pub SleepersAwaitAHolder : Type 0
 SleepersAwaitAHolder = (w : Scene) → IsReached w → IsStill w → (s : ℕ) → w.phase s ≡ asleep →
     WaitsLeadTo w.core (IsAwakeHolder w) s
 
--- ---- nobody sleeps for ever in vain
+-- ---- nobody sleeps forever in vain
 
 -- an endless run of steps, with the scene before each
 pub record IsEndlessRun (scene : ℕ → Scene) (step : ℕ → Step) : Type 0 where
@@ -85,20 +85,20 @@ pub record IsEndlessRun (scene : ℕ → Scene) (step : ℕ → Step) : Type 0 w
   pub may : (i : ℕ) → May (scene i) (step i)
   pub goes_on : (i : ℕ) → scene (suc i) ≡ next (scene i) (step i)
 
--- Whoever has yet to wake a seat does so in the end, and whoever sleeps with a token rises in the end. Nothing is asked
--- of the order in which seats come to a guard, or of what they do with a lock.
+-- Each seat that has yet to wake another does so in the end, and each seat that sleeps with a token rises in the end.
+-- Nothing is assumed about the order in which seats come to a guard, or about what they do with a lock.
 pub record WakesArrive (scene : ℕ → Scene) (step : ℕ → Step) : Type 0 where
   pub made : (i s v : ℕ) → (scene i).owes s v ≡ true → (j : ℕ) × (i ≤ j) × (step j ≡ wakes s v)
   pub heard : (i s : ℕ) → (scene i).token s ≡ true → (scene i).phase s ≡ asleep →
       (j : ℕ) × (i ≤ j) × (step j ≡ rises s)
 
--- whoever sleeps without having to is awake later
+-- each seat that sleeps without having to is awake later
 abbrev pub NobodySleepsInVain : Type 0
 NobodySleepsInVain = (scene : ℕ → Scene) (step : ℕ → Step) → IsEndlessRun scene step → WakesArrive scene step →
     (i s : ℕ) → (scene i).phase s ≡ asleep → ¬ HasToWait (scene i) s →
     (j : ℕ) × (i ≤ j) × ((scene j).phase s ≢ asleep)
 
--- whoever sleeps for ever has to wait all the time, in the list of one lock
+-- each seat that sleeps forever has to wait all the time, in the list of one lock
 abbrev pub SleepForEverIsAWait : Type 0
 SleepForEverIsAWait = (scene : ℕ → Scene) (step : ℕ → Step) → IsEndlessRun scene step → WakesArrive scene step →
     (i s : ℕ) → ((j : ℕ) → i ≤ j → (scene j).phase s ≡ asleep) →

@@ -149,7 +149,7 @@ pub record MayFallAsleepThen (w : Scene) (s : ℕ) : Type 0 where
   pub reached : IsReached w
   pub may : MayFallAsleep w s
 
--- whoever goes to sleep and wakes all of these, among whom are all whom it has yet to wake, may fall asleep
+-- a seat that goes to sleep and wakes all of these, among which are all that it has yet to wake, may fall asleep
 abbrev pub WakersMaySleep : Type 0
 WakersMaySleep = (w : Scene) (s : ℕ) (us : List ℕ) → IsReached w → w.phase s ≡ going_to_sleep →
     ((u : ℕ) → w.owes s u ≡ true → Has us u) → MayFallAsleepThen (once_woken s us w) s

@@ -6,7 +6,7 @@ pub fn shown_is_a_step()
     ensures { ShownIsAStep }
 {}
 
-/// Whatever waiter the table lets out of a guard may go to sleep, if its call heeds no cancel or its view says that it
+/// Each waiter that the table lets out of a guard may go to sleep, if its call heeds no cancel or its view says that it
 /// found none.
 pub fn leaving_is_a_step()
     ensures { LeavingIsAStep }
@@ -62,12 +62,12 @@ pub fn condemned_may_not_leave()
     ensures { CondemnedMayNotLeave }
 {}
 
-/// Whom a seat has to wake is whom its view tells: the seats that its signs condemned, and its heir.
+/// A seat has to wake those that its view says: the seats that its signs condemned, and its heir.
 pub fn views_tell_whom_to_wake()
     ensures { ViewsTellWhomToWake }
 {}
 
-/// Whoever goes to sleep, and wakes all whom it has yet to wake, may fall asleep.
+/// A seat that goes to sleep, and wakes all that it has yet to wake, may fall asleep.
 pub fn wakers_may_sleep()
     ensures { WakersMaySleep }
 {}

@@ -17,7 +17,7 @@ AnyPackingIsInjective = (owner other : Owner) → IsValid owner → IsValid othe
 abbrev pub FewSeatsKeepTheirWords : Type 0
 FewSeatsKeepTheirWords = (owner : Owner) → narrow.IsValid owner → IsValid owner × (packed owner ≡ narrow.packed owner)
 
--- the word of a valid owner is, but for its flags, that of a seat with a stamp iff that seat owns the lock with that stamp
+-- the word of a valid owner is, except its flags, that of a seat with a stamp iff that seat owns the lock with that stamp
 abbrev pub WordsTellHolders : Type 0
 WordsTellHolders = (owner : Owner) (flags seat stamp : ℕ) → IsValid owner → AreFlags flags → Fits seat stamp →
     (unflagged (packed owner) ≡ unflagged (seat_word flags seat stamp)) ↔ ((owner.seat ≡ Some seat) × (owner.stamp ≡ stamp))

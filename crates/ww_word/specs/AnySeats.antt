@@ -14,7 +14,7 @@ abbrev pub IsSeating : Owner → Option ℕ → Type 0
 IsSeating owner (Some seat) = Fits seat owner.stamp
 IsSeating owner None = (owner.stamp ≡ 0) × (owner.flags ≤ 1)
 
--- an owner that an owner word can tell
+-- an owner for which there is an owner word
 pub record IsValid (owner : Owner) : Type 0 where
   pub seating : IsSeating owner owner.seat
   pub flags : AreFlags owner.flags
@@ -36,7 +36,7 @@ packed owner = packed_as owner owner.seat
 abbrev pub IsReadOf : ℕ → Option Owner → Type 0
 IsReadOf word read = (owner : Owner) → (read ≡ Some owner) ↔ (IsValid owner × (packed owner ≡ word))
 
--- the greatest stamp of a table of so many seats
+-- the greatest stamp of a table with this many seats
 abbrev pub most_for : ℕ → ℕ
 most_for seats = if nat_lt 16 seats then 2 ^ 49 - 1 else 2 ^ 56 - 1
 
@@ -44,6 +44,6 @@ most_for seats = if nat_lt 16 seats then 2 ^ 49 - 1 else 2 ^ 56 - 1
 abbrev pub is_wide : ℕ → Bool
 is_wide word = ((word % 8 == 2) || (word % 8 == 4)) || ((word % 8 == 6) || (word % 8 == 7))
 
--- what a word tells but for its flags: two words with this in common tell one seat with one stamp
+-- the word without its flags: two words that have this in common are of one seat with one stamp
 abbrev pub unflagged : ℕ → ℕ
 unflagged word = if is_wide word then 2 * (word / 8) + 1 else 2 * (word / 8)

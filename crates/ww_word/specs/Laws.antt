@@ -30,7 +30,7 @@ WaitersAddOne = (owner : Owner) → IsValid owner →
 abbrev pub HandingIsSeatAndStamp : Type 0
 HandingIsSeatAndStamp = (seat stamp : ℕ) → packed (handed_to seat stamp) ≡ 5 + 8 * (seat + 1) + 256 * stamp
 
--- of a valid owner the flags WAITERS and PICKUP, and no others, tell that the lock was handed over
+-- the flags of a valid owner say that the lock was handed over iff they are WAITERS and PICKUP
 abbrev pub HandingTellsPickup : Type 0
 HandingTellsPickup = (owner : Owner) → IsValid owner → is_handed owner ≡ (owner.flags == 5)
 

@@ -1,4 +1,4 @@
--- What an owner word tells.
+-- What an owner word means.
 use Rattle.std.specs.Prelude.{ℕ, ◌≡◌, ◌+◌, ◌*◌, ◌^◌, ◌<◌, ◌≤◌, ◌==◌, ◌⊎◌, ◌↔◌, Bool, Option, Some, None, not, bit_and, bit_or}
 use Rattle.ww_word.specs.declared.owner.Owner.{Owner}
 
@@ -11,7 +11,7 @@ abbrev pub IsSeating : Owner → Option ℕ → Type 0
 IsSeating owner (Some seat) = seat < 16
 IsSeating owner None = (owner.stamp ≡ 0) × (owner.flags ≤ 1)
 
--- an owner that an owner word can tell
+-- an owner for which there is an owner word
 pub record IsValid (owner : Owner) : Type 0 where
   pub seating : IsSeating owner owner.seat
   pub stamp : owner.stamp < 2 ^ 56

@@ -53,7 +53,7 @@ pub fn handing_is_seat_and_stamp()
     ensures { HandingIsSeatAndStamp }
 {}
 
-/// Of a valid owner the flags of waiters and of a pickup, and no others, tell that the lock was handed over.
+/// The flags of a valid owner say that the lock was handed over iff they are those of waiters and of a pickup.
 #[tactic(auto, using(crate::proofs::Words::handing_tells_pickup))]
 pub fn handing_tells_pickup()
     ensures { HandingTellsPickup }
@@ -83,7 +83,7 @@ pub fn few_seats_keep_their_words()
     ensures { FewSeatsKeepTheirWords }
 {}
 
-/// Two words that differ in their flags alone tell the same holder, and no others do.
+/// Two words are of the same holder iff they differ at most in their flags.
 pub fn words_tell_holders()
     ensures { WordsTellHolders }
 {}

@@ -1,4 +1,4 @@
-//! The owner word of a lock: who owns it and which flags stand, in one number of 64 bits.
+//! The owner word of a lock: who owns it and which flags are set, in one number of 64 bits.
 #![tactic(auto)]
 
 pub mod laws;

@@ -18,8 +18,8 @@ pub const MAX_SEATS: usize = 16;
 /// The greatest stamp that an owner word has room for.
 pub const MAX_STAMP: u64 = (1 << 56) - 1;
 
-/// Who owns a lock, and which of its flags stand. The flags are the kernel's; that the word also tells the owner's seat
-/// and stamp is ours, so that one load answers whether the owner is an older context.
+/// The owner of a lock, and which of its flags are set. The flags are the kernel's. Ours is that the word also has the
+/// owner's seat and stamp, so that one load shows whether the owner is an older context.
 #[derive(Clone, Copy, Debug, PartialEq, Eq)]
 pub struct Owner {
     /// The owner's seat, `None` of a free lock.
@@ -65,7 +65,7 @@ impl Owner {
         }
     }
 
-    /// Whether an owner word can tell this.
+    /// Whether there is an owner word for this.
     fn is_valid(self) -> bool
         ensures { IsTrue result ↔ IsValid self }
     {
@@ -77,7 +77,7 @@ impl Owner {
     }
 }
 
-/// Whether the flags may stand together.
+/// Whether the flags may be set together.
 fn are_flags(flags: u8) -> bool
     ensures { IsTrue result ↔ AreFlags flags }
 {
@@ -93,7 +93,7 @@ pub fn pack(owner: Owner) -> u64
     u64::from(owner.flags) + 8 * number + 256 * owner.stamp
 }
 
-/// The owner that a word tells, or `None` where no owner packs to it.
+/// The owner that packs to the word, or `None` if none does.
 pub fn unpack(word: u64) -> Option<Owner>
     ensures { IsReadOf word result }
 {

@@ -13,7 +13,7 @@ pub const MANY_SEATS: u16 = 4095;
 /// The greatest stamp of a table with more than 16 seats.
 pub const MOST_STAMP: u64 = (1 << 49) - 1;
 
-/// Who owns a lock of a table with any number of seats. Contracts see it as an `Owner`.
+/// The owner of a lock of a table with any number of seats. Contracts see it as an `Owner`.
 #[derive(Clone, Copy, Debug, PartialEq, Eq)]
 pub struct Owner {
     seat: Option<u16>,
@@ -98,7 +98,7 @@ impl Owner {
         }
     }
 
-    /// Whether an owner word can tell this.
+    /// Whether there is an owner word for this.
     fn is_valid(self) -> bool
         ensures { IsTrue result ↔ IsValid self }
     {
@@ -116,14 +116,14 @@ fn fits(seat: u16, stamp: u64) -> bool
     (seat < 16 && stamp <= MAX_STAMP) || (seat <= MANY_SEATS && stamp <= MOST_STAMP)
 }
 
-/// Whether the flags may stand together.
+/// Whether the flags may be set together.
 fn are_flags(flags: u8) -> bool
     ensures { IsTrue result ↔ AreFlags flags }
 {
     matches!(flags, 0 | WAITERS) || flags == WAITERS | HANDOFF || flags == WAITERS | PICKUP
 }
 
-/// The greatest stamp of a table of so many seats.
+/// The greatest stamp of a table with this many seats.
 pub fn most_stamp(seats: u16) -> u64
     ensures { result ≡ most_for seats }
 {
@@ -155,7 +155,7 @@ pub fn pack(owner: Owner) -> u64
     }
 }
 
-/// What a word tells but for its flags.
+/// The word without its flags, as a number that two words share iff they are of one seat and stamp.
 pub fn without_flags(word: u64) -> u64
     ensures { result ≡ unflagged word }
 {
@@ -167,7 +167,7 @@ pub fn without_flags(word: u64) -> u64
     }
 }
 
-/// What the parts of a word are, if it is one.
+/// The parts of a word, if it is an owner word.
 fn parts_of(word: u64) -> Owner
     ensures { (owner : Owner) → IsValid owner → packed owner ≡ word → result ≡ owner }
 {
@@ -188,7 +188,7 @@ fn parts_of(word: u64) -> Owner
     }
 }
 
-/// The owner that a word tells, or `None` where no owner packs to it.
+/// The owner that packs to the word, or `None` if none does.
 pub fn unpack(word: u64) -> Option<Owner>
     ensures { IsReadOf word result }
 {

@@ -36,7 +36,7 @@ pub(super) struct Inside {
 /// What a context has once a lock call had to wait.
 #[derive(Default)]
 pub(super) struct Rare {
-    /// A lock call was told `Deadlock`, so that nothing is locked until all is released.
+    /// A lock call got `Deadlock`, so nothing is locked until all is released.
     pub(super) is_over: bool,
     /// Where that was: it comes first from then on.
     pub(super) contended: Option<Number>,
@@ -66,7 +66,7 @@ pub(super) enum Call {
     None,
     /// It waits.
     Waits(Number, Lent),
-    /// A guard had to be released, so it waits no more: what it was told, or nothing, and it is made anew.
+    /// The wait was ended, since a guard had to be released: what it returned, or nothing, if the call is to be made again.
     Ended(Number, Option<Result<(), Error>>),
 }
 
@@ -155,7 +155,7 @@ impl Inner {
         }
     }
 
-    /// Releases a mutex that a guard held. The library can't amid a wait, so that ends, and its task is woken.
+    /// Releases a mutex that a guard held. The library can't do that during a wait, so the wait ends, and its task is woken.
     #[inline]
     pub(super) fn release(&self, index: u32) {
         let mut inside = self.enter();
@@ -193,7 +193,7 @@ impl Inside {
         self.rare.get_or_insert_with(Rare::default)
     }
 
-    /// Whether it was told `Deadlock`, and hasn't backed off since.
+    /// Whether it got `Deadlock`, and hasn't backed off since.
     #[inline]
     pub(super) fn is_over(&self) -> bool {
         self.rare.as_ref().is_some_and(|rare| rare.is_over)

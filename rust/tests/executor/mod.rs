@@ -12,7 +12,7 @@ use std::sync::{Arc, Condvar, Mutex, MutexGuard, Weak};
 use std::task::{Context, Poll, Wake, Waker};
 use std::thread;
 
-/// std's lock, whose order the thread sanitizer is told, as it doesn't see what std does.
+/// std's lock, which tells the thread sanitizer its order, since that doesn't see what std does.
 #[derive(Default)]
 struct Lock<T> {
     seen: AtomicBool,
