@@ -1,4 +1,4 @@
--- What became of a call of a desk, by its answer. A call may learn something of the locks, which its view tells then.
+-- What became of a call of a desk, by its answer. A call may learn something of the locks, which its view then says.
 use Rattle.std.specs.Prelude.{ℕ, suc, ◌≡◌, ◌≢◌, ◌<◌, ◌≤◌, ◌+◌, ◌-◌, ◌⊎◌, ◌∷◌, ◌++◌, [], Option, Bool, true, false, List, Some, None, length}
 use Rattle.ww_plain.specs.Numbers.{is_among}
 use Rattle.ww_view.specs.Made.{found_pending, shut_out, without}
@@ -28,16 +28,16 @@ use Rattle.ww_desk.specs.Situations.{Situation, is_at_rest, is_inside, can_want,
 abbrev pub StaysOut : Situation → Situation → Type 0
 StaysOut s s' = HasStayedOut s.view s'.view
 
--- one lock more is held, the only one that it took, and it took that at once
+-- one lock more is held, the only one that it took, and it took that by one step
 abbrev pub HasLock : Situation → ℕ → Situation → Type 0
 HasLock s n s' = StaysOut s s'
     × (s' ≡ record s { held = s.held ++ n ∷ []; told = None; tries = s.tries + 1; takes = s.takes + 1; view = s'.view })
 
--- it tried once to take the lock at once, in vain
+-- it tried once to take the lock by one step, in vain
 abbrev pub TriedInVain : Situation → Situation → Type 0
 TriedInVain s s' = StaysOut s s' × (s' ≡ record s { tries = s.tries + 1; view = s'.view })
 
--- this lock is held no more; it was released at once
+-- this lock is held no more; it was released by one step
 abbrev pub HasGivenBack : Situation → ℕ → Situation → Type 0
 HasGivenBack s n s' = StaysOut s s' × (s' ≡ record s { held = without n s.held; view = s'.view })
 
@@ -49,7 +49,7 @@ HasTurned s turn s' = StaysOut s s' × (s' ≡ record s { turn = turn; view = s'
 abbrev pub MadeProgress : Situation → Situation → Type 0
 MadeProgress s s' = s.view.attempts < s'.view.attempts
 
--- it tried once to release a lock at once, in vain: the lock's word told more than its owner
+-- it tried once to release a lock by one step, in vain: the lock's word said more than its owner
 abbrev pub HasKept : Situation → Situation → Type 0
 HasKept s s' = s'.view.kept ≡ s.view.kept + 1
 
@@ -96,12 +96,12 @@ BooksWakes s s' = (first : Situation) → Balances first s → Balances first s'
 
 -- ---- when it has to sleep
 
--- how often it left a guard as a waiter, after a step that answers this: once more if it is told to sleep
+-- how often it left a guard as a waiter, after a step that returns this: once more if that is to sleep
 abbrev pub naps_then : Answer → ℕ → ℕ
 naps_then Sleeps naps = naps + 1
 naps_then _ naps = naps
 
--- it left a guard as a waiter once, if it is told to sleep, and else not
+-- it left a guard as a waiter once, if the answer is to sleep, and otherwise not
 abbrev pub CountsNaps : Situation → Answer → Situation → Type 0
 CountsNaps s a s' = s'.view.naps ≡ naps_then a s.view.naps
 
@@ -158,7 +158,7 @@ HasTriedAsIs s n try.Took s' = IsTryable s n × HasLock s n s'
 HasTriedAsIs s n try.Had s' = IsHeldAtRest s n × (s' ≡ s)
 HasTriedAsIs s n try.Missed s' = IsTryable s n × TriedInVain s s' × HasJustLost n s'
 
--- it is told to back off: by its own step, for an older context of stamp k, which its view shows; and it holds a lock
+-- it has to back off: by its own step, for an older context of stamp k, which its view shows; and it holds a lock
 pub record HasToBackOff (s : Situation) (n k : ℕ) (s' : Situation) : Type 0 where
   pub context : 0 < k
   pub older : k < s.stamp
@@ -219,7 +219,7 @@ IsTryAnswer s n Already s' = IsHeldAtRest s n × (s' ≡ s)
 IsTryAnswer s n Invalid s' = IsBarred s n × (s' ≡ s)
 IsTryAnswer s n _ s' = ⊥
 
--- the lock for which it was told to back off, with nothing held
+-- the contended lock, because of which it backed off, with nothing held
 abbrev pub IsSlowAnswer : Situation → ℕ → Waits → Answer → Situation → Type 0
 IsSlowAnswer s n waits Done s' = (s.told ≡ Some n) × (s.held ≡ []) × IsTryable s n × HasLock s n s'
 IsSlowAnswer s n waits Again s' = (s.told ≡ Some n) × (s.held ≡ []) × IsLockAnswer s n waits Again s'
@@ -287,7 +287,7 @@ HasReleased s (n ∷ ns) s' = (t : Situation) × HasReleased s ns t × IsUnlockA
 abbrev pub HasSomeHeld : Situation → Situation → Type 0
 HasSomeHeld s s' = s' ≡ record s { held = s'.held; view = s'.view }
 
--- why the last one of these isn't released: it isn't held, or one try to release it at once was in vain
+-- why the last one of these isn't released: it isn't held, or one try to release it by one step was in vain
 abbrev pub HasStoppedAt : Situation → List ℕ → Situation → Type 0
 HasStoppedAt s kept s' = (more : List ℕ) × (n : ℕ) × (kept ≡ more ++ n ∷ []) × ((is_among n s'.held ≡ false) ⊎ HasKept s s')
 
@@ -329,12 +329,12 @@ IsTaken marks None marks' = ((u : ℕ) → ¬ IsMarked marks u) × (marks' ≡ m
 IsTaken marks (Some u) marks' = IsMarked marks u × (is_marked marks' u ≡ false)
     × ((t : ℕ) → t ≢ u → is_marked marks' t ≡ is_marked marks t)
 
--- Each seat is told once, and none while this one is inside a guard.
+-- Each seat is named once, and none while this one is inside a guard.
 abbrev pub IsWakeAnswer : Situation → Option ℕ → Situation → Type 0
 IsWakeAnswer s who s' = (is_inside s.turn ≡ true → (who ≡ None) × (s' ≡ s))
     × (is_inside s.turn ≡ false → IsTaken s.wakes who s'.wakes × (s' ≡ record s { wakes = s'.wakes }))
 
--- the wait of seat u, one of the world, is called off; or its one step found that pending already, which is counted
+-- the wait of seat u, one of the world, is cancelled; or its one step found a cancel pending already, which is counted
 abbrev pub IsCancelAnswer : Situation → ℕ → Answer → Situation → Type 0
 IsCancelAnswer s u Done s' = (is_at_rest s.turn ≡ true) × (u < s.seats) × WakesAlso s u s'
     × (s' ≡ record s { cancelled = u ∷ s.cancelled; wakes = s'.wakes })

@@ -8,10 +8,10 @@ use Rattle.ww_desk.specs.declared.turn.Turn.TheVariants.{Rests, Stays, Wants, Lo
 
 -- Its world: the table; how many locks and seats that has, and of which kind; its number there; how many contexts it may still
 -- begin, and how many it has begun; its stamp, 0 without a context; whether its context is done; the locks that it holds,
--- each new one the last; the lock for which it was told to back off; where its call stands; whom it has
+-- each new one the last; the contended lock, if it has to back off; where its call stands; which seats it has
 -- to wake, a mark for each seat, 64 in a word; how often it tried to take a lock at once, took one, and had to back off; the seats whose
--- wait it called off, the last one first, and how often it found a cancel pending where it would set one; each time that
--- its own wait was called off, the last one first: for which lock, and by which seat; and what its seat knows of the locks.
+-- wait it cancelled, the last one first, and how often it found a cancel pending where it would set one; each time that
+-- its own wait was cancelled, the last one first: for which lock, and by which seat; and what its seat knows of the locks.
 pub record Situation : Type 0 where
   pub home : TableId
   pub size : ℕ

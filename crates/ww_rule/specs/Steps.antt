@@ -60,7 +60,7 @@ draws_to st m found m' = st.word ≡ stamp_at → (found < 2 ^ 64 - 1)
     × (most_for m.0.part.core.seats ≤ found → m' ≡ (drawing_none m.0, m.1))
     × (m.0.part.core.seats ≡ 16 → found < most_for m.0.part.core.seats)
 
--- ---- take_free: one try to take a lock at once
+-- ---- take_free: one try to take a lock by one step
 
 -- its view once it has the lock, and names the node's value
 abbrev pub taking : Sight → ℕ → Node → Sight
@@ -71,7 +71,7 @@ takes_to st m found m' = (n : ℕ) → st.word ≡ owner_at m.0.part.core.room n
     (found ≡ 0 → (x : Node) × IsNodeOf (length m.0.held) x × (m' ≡ (taking m.0 n x, (n, Content x) ∷ m.1)))
     × (found ≢ 0 → m' ≡ (knowing m.0 (fast_missed m.0.part.core), m.1))
 
--- ---- give_free: the lock is released at once, where nobody waits
+-- ---- give_free: the lock is released by one step, where nobody waits
 
 abbrev pub giving : Sight → ℕ → Sight
 giving v n = record v { part = record (v.part) { core = fast_given v.part.core n }; held = slice_set v.held n None }
@@ -84,9 +84,9 @@ abbrev pub gives_to : Step Cell → Sat → ℕ → Sat → Type 0
 gives_to st m found m' = (n : ℕ) → st.word ≡ owner_at m.0.part.core.room n →
     (found ≡ st.first → m' ≡ (giving m.0 n, rest m.1)) × (found ≢ st.first → m' ≡ (keeping m.0, m.1))
 
--- ---- the same of a lock that guards no node: no slot comes or goes, and the word tells whether the seat owns it
+-- ---- the same of a lock that guards no node: no slot comes or goes, and the word says whether the seat owns it
 
--- what an owner word tells a seat that is away: but for its flags it is the seat's own just where it owns the lock
+-- what a seat that is away learns from an owner word: without its flags it is the seat's own just where it owns the lock
 abbrev pub IsToldBy : View → ℕ → ℕ → Type 0
 IsToldBy v n found = owns v n ≡ (unflagged found == unflagged (packed (taker v)))
 
@@ -104,7 +104,7 @@ gives_bare_to st m found m' = (n : ℕ) → st.word ≡ owner_at m.0.part.core.r
     × (found ≢ st.first → owns m.0.part.core n ≡ true → m' ≡ (keeping m.0, m.1))
     × (found ≢ st.first → owns m.0.part.core n ≡ false → m' ≡ m)
 
--- ---- owns: the owner word of any lock, read by a seat that is away, which tells whether it owns the lock
+-- ---- owns: the owner word of any lock, read by a seat that is away, which says whether it owns the lock
 
 abbrev pub owns_to : Step Cell → Sat → ℕ → Sat → Type 0
 owns_to st m found m' = (m' ≡ m) × ((n : ℕ) → st.word ≡ owner_at m.0.part.core.room n → IsToldBy m.0.part.core n found)

@@ -36,7 +36,7 @@ tries_to wins st m found m' = (n : ℕ) (o : Owner) → Expects m.0.part.core.ro
     (found ≡ packed o → wins n o m m') × (found ≢ packed o → m' ≡ (lost m.0, m.1))
     × (IsStillThere m.0.part.core n o → found ≡ packed o)
 
--- the wait list is the slot taken last, and the seat is as it was but for the order of its slots
+-- the wait list is the slot taken last, and the seat is as it was except the order of its slots
 pub record HasListOnTop (m : Sat) (n : ℕ) (m' : Sat) : Type 0 where
   pub others : List (ℕ × Cell)
   pub apart : AreOthers m.1 (list_at n) (Line m.0.part.core.list) others

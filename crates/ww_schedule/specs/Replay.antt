@@ -34,7 +34,7 @@ abbrev pub seats_of : Option (List ℕ) → List ℕ
 seats_of None = []
 seats_of (Some ring) = ring
 
--- ---- what is told of it
+-- ---- what is written of it
 
 -- the answers of a run of events
 abbrev pub answers_of : State → List Event → List Answer
@@ -92,7 +92,7 @@ replay_lines t r =
     run_lines (first_state t) t.events r.stop ++ ring_line r.ring ++ condemned_line r.condemned
     ++ below_count t.locks (line_of_lock (last_state t r)) ++ below_count t.seats (line_of_seat (last_state t r))
 
--- the timetable's replay was told behind a text
+-- the timetable's replay was written after a text
 abbrev pub IsReplayTold : Timetable → List ℕ → List ℕ → Type 0
 IsReplayTold t old new = (r : Replay) × IsReplay t r × (new ≡ old ++ replay_lines t r)
 
@@ -106,14 +106,14 @@ HasOneText = (t : Timetable) (a b : List ℕ) → IsTextOf t a → IsTextOf t b 
 
 -- ---- parts of a text
 
--- the events up to the first that isn't possible were told behind a text, and led to this state
+-- the events up to the first that isn't possible were written after a text, and led to this state
 pub record AreTold (c : State) (events : List Event) (end : State) (old new : List ℕ) : Type 0 where
   pub stop : Option ℕ
   pub stops : StopsAt c events stop
   pub state : end ≡ state_after c (front stop events)
   pub text : new ≡ old ++ run_lines c events stop
 
--- the ring of the state and its condemned seats were told behind a text
+-- the ring of the state and its condemned seats were written after a text
 pub record IsRingTold (c : State) (old new : List ℕ) : Type 0 where
   pub ring : Option (List ℕ)
   pub condemned : Option ℕ

@@ -30,7 +30,7 @@ TakesLocks _ = Unit {0}
 abbrev pub IsWithin : Ranges → Transaction → Type 0
 IsWithin ranges txn = Fits ranges.nodes txn × NamesBelow ranges.ports txn
 
--- what the act names is in range, and what may be called off takes locks
+-- what the act names is in range, and what may be cancelled takes locks
 abbrev pub Suits : Ranges → Deed → Type 0
 Suits ranges (does txn) = IsWithin ranges txn
 Suits ranges (interruptible txn) = IsWithin ranges txn × TakesLocks txn

@@ -27,7 +27,7 @@ use Rattle.ww_seat.specs.declared.waits.Waits.TheVariants.{UntilCancelled}
 abbrev pub HoldsAsBefore : Sat → Sat → Type 0
 HoldsAsBefore m m' = account_of m' ≡ account_of m
 
--- it tried in vain to take a lock at once
+-- it tried in vain to take a lock by one step
 abbrev pub HasTriedInVain : Sat → Sat → Type 0
 HasTriedInVain m m' = account_of m' ≡ having_tried (account_of m)
 
@@ -38,15 +38,15 @@ pub record HasAdded (a : Account) (n : ℕ) (x : Node) (m' : Sat) : Type 0 where
   pub node : IsNodeOf (length a.held) x
   pub unmet : m'.0.part.core.met ≡ None
 
--- it owns one lock more, the only one that it took; it tried to take none at once
+-- it owns one lock more, the only one that it took; it tried to take none by one step
 abbrev pub HasTaken : Sat → ℕ → Node → Sat → Type 0
 HasTaken m n x m' = HasAdded (account_of m) n x m'
 
--- ... by one try to take it at once
+-- ... by one try to take it by one step
 abbrev pub HasTakenAtOnce : Sat → ℕ → Node → Sat → Type 0
 HasTakenAtOnce m n x m' = HasAdded (having_tried (account_of m)) n x m'
 
--- It tried in vain to take lock n at once, which it doesn't own, and may go on to want it.
+-- It tried in vain to take lock n by one step, which it doesn't own, and may go on to want it.
 pub record HasMissed (m : Sat) (n : ℕ) (m' : Sat) : Type 0 where
   pub lacks : owns m.0.part.core n ≡ false
   pub tried : HasTriedInVain m m'
@@ -79,15 +79,15 @@ HasLetOnce m n Gave m' = (owns m.0.part.core n ≡ true) × HasGiven m n m' × (
 HasLetOnce m n Kept m' = (owns m.0.part.core n ≡ true) × HoldsAsBefore m m' × (m'.0.part.core.kept ≡ m.0.part.core.kept + 1)
 HasLetOnce m n Lacked m' = (owns m.0.part.core n ≡ false) × (m' ≡ m)
 
--- Its view tells what it met as it backed off from lock n, and what it saw there: that shows an older context of stamp
--- k. Only the step that the rules have for a context that has to back off makes a view tell so.
+-- Its view says what it met as it backed off from lock n, and what it saw there: that shows an older context of stamp
+-- k. Only the step that the rules have for a context that has to back off makes a view say so.
 pub record HasMet (n k : ℕ) (v : View) : Type 0 where
   pub owner : Owner
   pub list : List Entry
   pub noted : v.met ≡ Some (record { lock = n; stamp = k; owner = owner; list = list })
   pub shown : IsShownBy v.kind v.sign list v.who owner k
 
--- It was told EDEADLK: it owns what it owned, one lock at least, and backed off once, from an older context that it met.
+-- It got EDEADLK: it owns what it owned, one lock at least, and backed off once, from an older context that it met.
 pub record HasToDie (m : Sat) (n k : ℕ) (m' : Sat) : Type 0 where
   pub now : account_of m' ≡ having_died (account_of m)
   pub one : (j : ℕ) × (owns m.0.part.core j ≡ true)

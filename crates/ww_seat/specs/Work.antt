@@ -65,7 +65,7 @@ pub record IsTold (size : ℕ) (m m' : Sat) : Type 0 where
 
 -- ---- which seats are to be woken
 
--- each seat that its own signs condemned since it went inside the guard, but for itself
+-- each seat that its own signs condemned since it went inside the guard, except itself
 abbrev pub HasToWake : View → ℕ → Type 0
 HasToWake v u = Has v.condemned u × (u ≢ v.who)
 
@@ -141,7 +141,7 @@ abbrev pub IsPlaced : Bool → ℕ → View → Type 0
 IsPlaced true n v = (v.waits ≡ suc n) × (entry_of v.list v.who ≡ Some (entry_of_view v)) × (v.acted ≡ true)
 IsPlaced false n v = (v.waits ≡ 0) × StandsNot v.list v.who
 
--- inside the guard, of a lock that it wants; whoever looks again stands there already
+-- inside the guard, of a lock that it wants; a seat that looks again stands there already
 pub record IsWorking (n : ℕ) (stands again : Bool) (v : View) : Type 0 where
   pub want : MayWant n v
   pub inside : v.inside ≡ suc n
@@ -337,7 +337,7 @@ pub record HasBackedOff (size n : ℕ) (o : Owner) (m : Sat) (did : Bool) (m' : 
   pub lost : did ≡ false → IsTouched size m m'
   pub idle : HasCondemnedNone m m'
 
--- a wait that a cancel calls off has found none
+-- a wait that a cancel may end has found none
 abbrev pub HasFoundNone : Waits → View → Type 0
 HasFoundNone waits v = waits ≡ UntilCancelled → v.uncancelled ≡ true
 

@@ -77,7 +77,7 @@ pub record IsNew (table : TableId) (key : Start) (k : ℕ) (s : Seat16) : Type 0
 
 -- ---- one try at a lock that guards no node
 
--- the word that was found is the seat's own but for its flags
+-- the word that was found is the seat's own except its flags
 abbrev pub tells_own : Found → Bool
 tells_own found = unflagged found.word == unflagged found.own
 

@@ -45,7 +45,7 @@ IsUndecided Decides list seen NoMemory = (txn : Txn) × Decides (values_of seen 
 IsUndecided Decides list seen _ = ⊥
 
 -- Exactly one record more: that of the transaction that was answered to the values of the listed nodes, as they were when
--- they were locked, with the place, the number and the answer that the receipt tells. The pass holds no lock, has one
+-- they were locked, with the place, the number and the answer that the receipt says. The pass holds no lock, has one
 -- context less to start, and has begun one more.
 pub record IsChanged (Decides : Deciding) (s : Holding) (list : List ℕ) (a : Holding) (told : Receipt) : Type 0 where
   pub some : 1 ≤ s.left

@@ -49,8 +49,8 @@ pub record IsTransacted (s a : Holding) (txn : Transaction) (told : Receipt) : T
   pub seq : told.seq ≡ length s.own
   pub size : length a.seen ≡ length s.seen
 
--- Why nothing was recorded: first comes that the pass has no context left. Then a duplicate is told, or that a wait
--- was called off, whichever is met first; the latter only of a transaction that waits until a cancel.
+-- Why nothing was recorded: first comes that the pass has no context left. Then a duplicate is reported, or that a wait
+-- was cancelled, whichever is met first; the latter only of a transaction that waits until a cancel.
 abbrev pub IsTxnFault : Waits → Holding → Transaction → Holding → TxnFault → Type 0
 IsTxnFault waits s txn a PassSpent = (s.left ≡ 0) × (a ≡ s)
 IsTxnFault waits s txn a (Already n) = FirstDouble (listed txn) (Some n) × IsReturned s (contexts_of txn) a

@@ -41,13 +41,13 @@ pub record HoldsKept (kept : Option ℕ) (list : List ℕ) (s : Holding) : Type 
   pub held : s.held ≡ kept_nodes kept
   pub listed : IfSome kept (λ n. IsTrue (is_among n list))
 
--- it was told EDEADLK at the entry of this position, and all entries up to there differ
+-- it got EDEADLK at the entry of this position, and all entries up to there differ
 pub record IsContended (list : List ℕ) (b : Refused) (position : ℕ) : Type 0 where
   pub there : position < length list
   pub entry : slice_get list position ≡ Some b.contended
   pub different : AreDifferent (take (position + 1) list)
 
--- its wait for some node was called off by this caller; it is the same context otherwise
+-- its wait for some node was cancelled by this caller; it is the same context otherwise
 abbrev pub IsHalted : Waits → Holding → ℕ → Holding → Type 0
 IsHalted waits s by a = (waits ≡ UntilCancelled) × ((n : ℕ) × IsSameContext (interrupted_by s n by) a)
 
@@ -56,7 +56,7 @@ abbrev pub IsHalt : Waits → Holding → Halt → Type 0
 IsHalt waits s (halt.Deadlk b) = IsSameContext s b.holding
 IsHalt waits s (halt.Interrupted a by) = IsHalted waits s by a
 
--- How a trip through a list ended: with all of it locked in order, with EDEADLK, at its first duplicate, or called off.
+-- How a trip through a list ended: with all of it locked in order, with EDEADLK, at its first duplicate, or cancelled.
 abbrev pub IsTrip : Waits → Holding → List ℕ → Option ℕ → Trip → Type 0
 IsTrip waits s list kept (Through a) = IsSameContext s a × HoldsExactly list a × FirstDouble list None × (a.held ≡ in_order kept list)
 IsTrip waits s list kept (Deadlk b position) = IsSameContext s b.holding × IsContended list b position

@@ -25,7 +25,7 @@ abbrev pub IsOneMore : ℕ → List (ℕ × ℕ) → List (ℕ × ℕ) → Type 
 IsOneMore by before [] = ⊥
 IsOneMore by before (last ∷ rest) = (last.1 ≡ by) × (rest ≡ before)
 
--- its wait was called off by this caller; it is the same context otherwise, which may hold other locks
+-- its wait was cancelled by this caller; it is the same context otherwise, which may hold other locks
 pub record IsHaltedBy (s : Holding) (by : ℕ) (a : Holding) : Type 0 where
   pub rest : a ≡ record s { held = a.held; seen = a.seen; tries = a.tries; takes = a.takes; deaths = a.deaths; deaf = a.deaf; interrupted = a.interrupted }
   pub told : IsOneMore by s.interrupted a.interrupted
@@ -36,7 +36,7 @@ abbrev pub IsTurnHalt : Holding → Halt → Type 0
 IsTurnHalt s (halt.Deadlk b) = KeepsContext s b.holding
 IsTurnHalt s (halt.Interrupted a by) = IsHaltedBy s by a
 
--- a round that may be called off keeps the context, whichever way it ends
+-- a round that may be cancelled keeps the context, whichever way it ends
 pub record IsHaltingTurn (s : Holding) (r : Result Holding Halt) : Type 0 where
   pub ok : IfOk r (KeepsContext s)
   pub err : IfErr r (IsTurnHalt s)

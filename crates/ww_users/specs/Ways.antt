@@ -10,7 +10,7 @@ use Rattle.ww_lock.specs.Waits.TheVariants.{UntilCancelled}
 use Rattle.ww_users.specs.declared.fault.UserFault.{UserFault}
 use Rattle.ww_users.specs.declared.fault.UserFault.TheVariants.{PassSpent, Already, Interrupted}
 
--- each further try to take a lock at once was followed by a lock taken, or by backing off
+-- each further try to take a lock by one step was followed by a lock taken, or by backing off
 abbrev pub IsToldOfEach : Holding → Holding → Type 0
 IsToldOfEach s a = a.tries + s.takes + s.deaths ≡ s.tries + a.takes + a.deaths
 
@@ -33,7 +33,7 @@ pub record IsReturned (s : Holding) (begun : ℕ) (a : Holding) : Type 0 where
   pub told : IsToldOfEach s a
   pub size : length a.seen ≡ length s.seen
 
--- a pass that comes back since its wait for one of the nodes was called off, by this caller
+-- a pass that comes back since its wait for one of the nodes was cancelled, by this caller
 abbrev pub IsCalledOff : Holding → ℕ → Holding → Type 0
 IsCalledOff s by a = (n : ℕ) × IsReturned (interrupted_by s n by) 1 a
 
@@ -64,7 +64,7 @@ abbrev pub in_order : Option ℕ → List ℕ → List ℕ
 in_order None list = list
 in_order (Some kept) list = kept ∷ filter (λ n. not (n == kept)) list
 
--- it took the nodes in the order of the list, but for the one that was contended last, if any was
+-- it took the nodes in the order of the list, except the one that was contended last, if any was
 abbrev pub TookInOrder : List ℕ → Holding → Type 0
 TookInOrder list a = (kept : Option ℕ) × (a.held ≡ in_order kept list)
 

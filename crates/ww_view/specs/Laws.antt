@@ -86,7 +86,7 @@ abbrev pub ViewDecides : Type 0
 ViewDecides = (c : State) (v : View) (n : ℕ) (o : Owner) → Knows c v → v.inside ≡ suc n → o ≡ word_of c n →
     DecidesAlike c v n o
 
--- the stamp that the view tells is the one that a Sign gives
+-- the stamp that the view has is the one that a Sign gives
 abbrev pub SignIsTold : Type 0
 SignIsTold = (c : State) (v : View) (n u k : ℕ) → IsLawful c → Knows c v → MaySign v n u k → Possible c (Sign v.who u) →
     (after c (Sign v.who u)).sign u ≡ k
@@ -136,6 +136,6 @@ abbrev pub WordsAreTold : Type 0
 WordsAreTold = (c : State) (n : ℕ) (o : Owner) → Reached c → c.seats ≤ 16 → IsValid o →
     packed o ≡ packed (word_of c n) → o ≡ word_of c n
 
--- what they tell is valid
+-- what they say is valid
 abbrev pub WordsAreValid : Type 0
 WordsAreValid = (c : State) (n : ℕ) → Reached c → c.seats ≤ 16 → IsValid (word_of c n)

@@ -97,7 +97,7 @@ fast_given v n = record v { owned = slice_set v.owned n false; fresh = false; me
 abbrev pub fast_kept : View → View
 fast_kept v = record v { fresh = false; kept = v.kept + 1 }
 
--- it read an owner word, which tells nothing that lasts
+-- it read an owner word, from which it learns nothing that lasts
 abbrev pub glanced : View → View
 glanced v = record v { glances = v.glances + 1; all_glances = v.all_glances + 1 }
 
@@ -247,7 +247,7 @@ has_condemned v u = record (noted v u) { condemned = u ∷ v.condemned; debts = 
 abbrev pub has_read : View → ℕ → View
 has_read v k = record v { sign = Some k; fresh = k == 0 }
 
--- it was 0, and others may change that at once
+-- it was 0, and others may change that at any time
 abbrev pub found_none : View → View
 found_none v = record v { sign = None; fresh = true }
 
@@ -256,7 +256,7 @@ cleared v = record v { sign = Some 0; fresh = false }
 
 -- ---- the own cancel
 
--- none was pending, and others may change that at once
+-- none was pending, and others may change that at any time
 abbrev pub found_uncancelled : View → View
 found_uncancelled v = record v { fresh = false; uncancelled = true }
 

@@ -19,11 +19,11 @@ use Rattle.ww_view.specs.View.{owns, IsBare, IsAway}
 abbrev pub WantsBase : View → Type 0
 WantsBase v = (0 < v.stamp) ⊎ IsBare v
 
--- ... and as far as its sign goes: in Wait-Die whoever is signed owns a lock
+-- ... and as far as its sign goes: in Wait-Die each seat that is signed owns a lock
 abbrev pub WantsSigns : View → Type 0
 WantsSigns v = (v.stamp ≡ 0) ⊎ ((v.sign ≡ Some 0) ⊎ (((n : ℕ) × (owns v n ≡ true)) ⊎ (v.kind ≡ WaitDie)))
 
--- to take lock n at once
+-- to take lock n by one step
 pub record MayFast (v : View) : Type 0 where
   pub away : IsAway v
   pub base : WantsBase v
@@ -75,7 +75,7 @@ pub record MayDie (v : View) (n : ℕ) (o : Owner) (k : ℕ) : Type 0 where
   pub unheeded : v.heeded ≡ 0
 
 -- To heed a cancel: another has the lock, by the word that it saw last. The step itself finds the cancel and no owner,
--- so the view tells the owner, whose word nobody else changes meanwhile.
+-- so the view has the owner, whose word nobody else changes meanwhile.
 pub record MayHeed (v : View) (n : ℕ) : Type 0 where
   pub inside : v.inside ≡ suc n
   pub waits : v.waits ≡ suc n
@@ -136,7 +136,7 @@ pub record IsShownBy (kind : Kind) (sign : Option ℕ) (list : List Entry) (who 
   pub older : kind ≡ WaitDie → (TellsOther o who × (o.stamp ≡ k))
       ⊎ ((e : Entry) × (f : Entry) × Before list e f × (f.seat ≡ who) × (e.stamp ≡ k))
 
--- ... by what its view tells of it
+-- ... by what its view says of it
 abbrev pub MetByView : View → Owner → ℕ → Type 0
 MetByView v o k = IsShownBy v.kind v.sign v.list v.who o k
 

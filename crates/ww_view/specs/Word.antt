@@ -1,4 +1,4 @@
--- Owner words: what one tells a seat, and what the events write.
+-- Owner words: what a seat learns from one, and what the events write.
 use Rattle.std.specs.Prelude.{ℕ, ◌≡◌, ◌≢◌, Bool, true, List, [], ◌∷◌, Some}
 use Rattle.ww_word.specs.declared.owner.Owner.{Owner}
 use Rattle.ww_word.specs.Owner.{idle, with_waiters, handed_to}
