@@ -122,7 +122,7 @@ static struct ww_pool *of_this_copy_alone(struct ww_pool *p)
 	return p;
 }
 
-/* The class that has this number, if it is open. `opening` is locked. */
+/* The class that has this number, if it is open. Opening is locked. */
 static struct ww_pool *open_pool(uint64_t id)
 {
 	struct ww_pool *p = pools;
@@ -132,14 +132,14 @@ static struct ww_pool *open_pool(uint64_t id)
 	return p;
 }
 
-/* Neither keeper nor user need the seat any more. `opening` is locked; others read `unkept` without that, as a hint. */
+/* Neither keeper nor user need the seat any more. Opening is locked; others read `unkept` without that, as a hint. */
 static void put_back(struct ww_pool *p, ww_seat *s)
 {
 	s->next = p->unkept;
 	__atomic_store_n(&p->unkept, s, __ATOMIC_RELAXED);
 }
 
-/* This thread stops keeping the seat, even if it still uses it. `opening` is locked. */
+/* This thread stops keeping the seat, even if it still uses it. Opening is locked. */
 static void let_go(struct ww_known *kept)
 {
 	struct ww_pool *p = open_pool(kept->id);
@@ -279,7 +279,7 @@ static void is_not_called(struct ww_loose *of, struct ww_seek *it)
 	it->served_ = WAITS;
 }
 
-/* Takes the waiter at this place out of the queue, which is locked. */
+/* Takes the waiter at this place out. The queue is locked. */
 static void take_out(struct ww_loose *of, struct ww_seek **at)
 {
 	is_not_called(of, *at);
@@ -705,7 +705,7 @@ static int make_pool(struct ww_class *c, uint32_t kept, struct ww_pool **made)
 	return r;
 }
 
-/* `opening` is locked. */
+/* Opening is locked. */
 static int open_now(struct ww_class *c, uint32_t kept)
 {
 	struct ww_pool *p = NULL;
@@ -797,7 +797,7 @@ int ww_class_crowd(struct ww_class *c, uint32_t permits)
 	return 0;
 }
 
-/* Whether nobody uses a seat. `opening` is locked. */
+/* Whether nobody uses a seat. Opening is locked. */
 static bool is_idle(struct ww_pool *p)
 {
 	bool idle = !has_seekers(&p->loose) && !has_seekers(&p->tasks) && !ww_permit_seekers(p);
