@@ -3,3 +3,13 @@ pub mod Outside
 pub mod Kept
 pub mod Keeping
 pub mod Drives
+pub mod Shown
+pub mod Turns
+pub mod Starting
+pub mod Pair
+pub mod Sleeping
+pub mod Backing
+pub mod Dying
+pub mod Wounding
+pub mod Doomed
+pub mod CalledOff

@@ -1,3 +1,4 @@
 pub mod Stages
 pub mod Deeds
 pub mod Laws
+pub mod Witness

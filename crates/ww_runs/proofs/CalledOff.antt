@@ -26,11 +26,12 @@ use Rattle.ww_wakes.specs.Scene.{Step, performs}
 use Rattle.ww_runs.specs.Moment.{Moment, view, wakes_owed, HasToWake}
 use Rattle.ww_runs.specs.Moves.{Follows}
 use Rattle.ww_runs.specs.Runs as runs
+use Rattle.ww_runs.specs.Runs.{IsOfRun}
 use Rattle.ww_runs.specs.Plays as play
 use Rattle.ww_runs.specs.Plays.{Moved}
 use Rattle.ww_runs.specs.Deadlocks.{IsScheduledThere, HoldersGoOnThere, WaitsAreInEndlessRuns}
 use Rattle.ww_runs.proofs.Standstill.{idles}
-use Rattle.ww_runs.proofs.Small.{small, At, nobody, line, out, owner, waiter_1, holder_2, table_4, core_2, bare, unsigned_inside, is_valid, at_4, performs_there, moves_there, part_there, word_there}
+use Rattle.ww_runs.proofs.Small.{least, small, At, nobody, line, out, owner, waiter_1, holder_2, table_4, core_2, bare, unsigned_inside, is_valid, at_4, performs_there, moves_there, part_there, word_there}
 
 -- ---- what the second knows after each play: it cancels, goes inside the guard, joins, heeds, leaves the list, and comes out
 
@@ -57,25 +58,25 @@ abbrev free : Kind → Sight
 free kind = knowing (holder_2 kind) (fast_given (holder_2 kind).part.core 0)
 
 abbrev table_5 : Kind → St
-table_5 kind = stepped (table_4 kind) (cancel_at 1 1) 2 0 [] (off_1 kind) keeps
+table_5 kind = stepped (table_4 kind) (cancel_at least 1) 2 0 [] (off_1 kind) keeps
 
 abbrev table_6 : Kind → St
-table_6 kind = stepped (table_5 kind) (guard_at 1 0) 2 0 [] (off_2 kind) (takes (list_at 0) (Line []))
+table_6 kind = stepped (table_5 kind) (guard_at least 0) 2 0 [] (off_2 kind) (takes (list_at 0) (Line []))
 
 abbrev table_7 : Kind → St
-table_7 kind = stepped (table_6 kind) (owner_at 1 0) (packed (with_waiters owner)) 0 (out []) (off_3 kind) keeps
+table_7 kind = stepped (table_6 kind) (owner_at least 0) (packed (with_waiters owner)) 0 (out []) (off_3 kind) keeps
 
 abbrev table_8 : Kind → St
-table_8 kind = stepped (table_7 kind) (cancel_at 1 1) 0 0 (out line) (off_4 kind) keeps
+table_8 kind = stepped (table_7 kind) (cancel_at least 1) 0 0 (out line) (off_4 kind) keeps
 
 abbrev table_9 : Kind → St
-table_9 kind = stepped (table_8 kind) (owner_at 1 0) (packed (rest_word [] (with_waiters owner))) 0 (out line) (off_5 kind) keeps
+table_9 kind = stepped (table_8 kind) (owner_at least 0) (packed (rest_word [] (with_waiters owner))) 0 (out line) (off_5 kind) keeps
 
 abbrev table_10 : Kind → St
-table_10 kind = stepped (table_9 kind) (guard_at 1 0) 0 0 (out []) (off_6 kind) gives
+table_10 kind = stepped (table_9 kind) (guard_at least 0) 0 0 (out []) (off_6 kind) gives
 
 abbrev table_11 : Kind → St
-table_11 kind = stepped (table_10 kind) (owner_at 1 0) 0 1 [] (free kind) keeps
+table_11 kind = stepped (table_10 kind) (owner_at least 0) 0 1 [] (free kind) keeps
 
 abbrev core_5 : Kind → State
 core_5 kind = after (after (core_2 kind) (Fast 0 0)) (Cancel 1 1)
@@ -92,27 +93,27 @@ at_5 : (kind : Kind) → At (small kind) (table_5 kind) (core_5 kind) nobody nob
 unfolding lock_at
 at_5 kind = let a = at_4 kind in
     performs_there a 0 (waiter_1 kind, []) refl refl (omega arith) refl refl (Cancel 1 1) (table_5 kind) _
-    (λ i. stepped (a.is_table i) (cancel_at 1 1) 2 0 [] (off_1 kind) keeps)
-    (play.cancels 1 (refl, refl) (omega arith) (word_there a (cancel_at 1 1) 0 refl))
+    (λ i. stepped (a.is_table i) (cancel_at least 1) 2 0 [] (off_1 kind) keeps)
+    (play.cancels 1 (refl, refl) (omega arith) (word_there a (cancel_at least 1) 0 refl))
 
 at_6 : (kind : Kind) → At (small kind) (table_6 kind) (after (core_5 kind) (Guard 1 0)) nobody nobody
 unfolding lock_at
 at_6 kind = let a = at_5 kind in
     performs_there a 0 (off_1 kind, []) refl refl (omega arith) refl refl (Guard 1 0) (table_6 kind) _
     (λ i. let q = (a.is_core i).queue 0 in
-    stepped (a.is_table i) (guard_at 1 0) 2 0 [] (entering (off_1 kind) 0 q) (takes (list_at 0) (Line q)))
+    stepped (a.is_table i) (guard_at least 0) 2 0 [] (entering (off_1 kind) 0 q) (takes (list_at 0) (Line q)))
     (play.enters 0 (omega arith)
     (record { outside = refl; why = inr (inr (refl, refl, inl (omega arith), inr (inl refl))) })
-    (word_there a (guard_at 1 0) 0 refl))
+    (word_there a (guard_at least 0) 0 refl))
 
-first_not_second : let a : ℕ = 0 in a ≢ 1
+pub first_not_second : let a : ℕ = 0 in a ≢ 1
 first_not_second is = let z : 0 ≡ 1 = is in omega arith
 
 at_7 : (kind : Kind) → At (small kind) (table_7 kind) (core_7 kind) nobody nobody
 unfolding lock_at
 at_7 kind = let a = at_6 kind in
     performs_there a 0 (off_2 kind, out []) refl refl (omega arith) refl refl (Join 1 0) (table_7 kind) _
-    (λ i. stepped (a.is_table i) (owner_at 1 0) (packed (with_waiters owner)) 0 (out []) (off_3 kind) keeps)
+    (λ i. stepped (a.is_table i) (owner_at least 0) (packed (with_waiters owner)) 0 (out []) (off_3 kind) keeps)
     (play.joins 0 owner
     (record {
       inside = refl;
@@ -121,17 +122,17 @@ at_7 kind = let a = at_6 kind in
       signs = inr (inl (unsigned_inside kind));
       other = (0, refl, first_not_second);
     })
-    is_valid (word_there a (owner_at 1 0) (packed owner) refl))
+    is_valid (word_there a (owner_at least 0) (packed owner) refl))
 
 at_8 : (kind : Kind) → At (small kind) (table_8 kind) (core_8 kind) nobody nobody
 unfolding lock_at
 at_8 kind = let a = at_7 kind in
     performs_there a 0 (off_3 kind, out line) refl refl (omega arith) refl refl (Heed 1 0) (table_8 kind) _
-    (λ i. stepped (a.is_table i) (cancel_at 1 1) 0 0 (out line)
-    (heeding (off_3 kind) (slice_index (a.is_table i).words (cancel_at 1 1))) keeps)
+    (λ i. stepped (a.is_table i) (cancel_at least 1) 0 0 (out line)
+    (heeding (off_3 kind) (slice_index (a.is_table i).words (cancel_at least 1))) keeps)
     (play.heeds 0
     (record { inside = refl; waits = refl; other = (with_waiters owner, refl, (0, refl, first_not_second)); unheeded = refl })
-    (λ none. let set = word_there a (cancel_at 1 1) 2 refl in omega arith))
+    (λ none. let set = word_there a (cancel_at least 1) 2 refl in omega arith))
 
 -- ---- from then on
 
@@ -165,8 +166,8 @@ leaves_list kind = let a = at_8 kind in let me : Sat = (off_4 kind, out line) in
     (moves_there a 0 me refl refl (omega arith) refl refl (Some (performs (Leave 1 0))) _
     (play.leaves 0 (with_waiters owner) (record { inside = refl; waits = refl; heeded = λ none. omega arith })
     (record { seating = inl (omega arith, omega arith); flags = inr (inl refl) })
-    (word_there a (owner_at 1 0) (packed (with_waiters owner)) refl)))
-    (λ i. stepped (a.is_table i) (owner_at 1 0) (packed (rest_word [] (with_waiters owner))) 0 (out line) (off_5 kind) keeps)
+    (word_there a (owner_at least 0) (packed (with_waiters owner)) refl)))
+    (λ i. stepped (a.is_table i) (owner_at least 0) (packed (rest_word [] (with_waiters owner))) 0 (out line) (off_5 kind) keeps)
 
 comes_out : (kind : Kind) → Next (leaves_list kind).at (Some (performs (Unguard 1 0))) (table_10 kind)
     (after (after (core_8 kind) (Leave 1 0)) (Unguard 1 0))
@@ -175,7 +176,7 @@ comes_out kind = let a = (leaves_list kind).at in let me : Sat = (off_5 kind, ou
     next_event a (Unguard 1 0) (table_10 kind) _
     (moves_there a 0 me refl refl (omega arith) refl refl (Some (performs (Unguard 1 0))) _
     (play.exits 0 (record { inside = refl; why = inl (refl, refl); unsigned = λ _. inr (inr bare); unheeded = refl }) refl refl))
-    (λ i. stepped (a.is_table i) (guard_at 1 0) 0 0 (out []) (off_6 kind) gives)
+    (λ i. stepped (a.is_table i) (guard_at least 0) 0 0 (out []) (off_6 kind) gives)
 
 releases : (kind : Kind) → Next (comes_out kind).at (Some (performs (FastGive 0 0))) (table_11 kind)
     (after (after (after (core_8 kind) (Leave 1 0)) (Unguard 1 0)) (FastGive 0 0))
@@ -183,13 +184,13 @@ unfolding lock_at
 releases kind = let a = (comes_out kind).at in let me : Sat = (holder_2 kind, []) in
     next_event a (FastGive 0 0) (table_11 kind) _
     (moves_there a 1 me refl refl (omega arith) refl refl (Some (performs (FastGive 0 0))) _
-    (play.gives_bare 0 (omega arith) (omega arith) (refl, refl) refl (word_there a (owner_at 1 0) (packed owner) refl)))
-    (λ i. stepped (a.is_table i) (owner_at 1 0) 0 1 [] (free kind) keeps)
+    (play.gives_bare 0 (omega arith) (omega arith) (refl, refl) refl (word_there a (owner_at least 0) (packed owner) refl)))
+    (λ i. stepped (a.is_table i) (owner_at least 0) 0 1 [] (free kind) keeps)
 
 -- ---- at each of these moments
 
 -- nobody has a token, sleeps or is owed a wake, and the second waits at this lock, or nowhere
-record IsCalm {kind : Kind} (m : Moment (small kind)) (waits : ℕ) : Type 0 where
+pub record IsCalm {kind : Kind} (m : Moment (small kind)) (waits : ℕ) : Type 0 where
   pub token : (s : ℕ) → m.token s ≡ false
   pub unowed : (s u : ℕ) → ¬ HasToWake m s u
   pub risen : (s : ℕ) → m.risen s ≡ 0
@@ -214,7 +215,7 @@ module _ {kind : Kind} {table : St} {core : State} (a : At (small kind) table co
   no_naps (suc zero) low = ap (λ (p : Part). p.core.naps) (sym second) ∙ w_naps
   no_naps (suc (suc s)) low = absurd (omega arith)
 
-  is_calm : (waits : ℕ) → w.part.core.waits ≡ waits → IsCalm a.moment waits
+  pub is_calm : (waits : ℕ) → w.part.core.waits ≡ waits → IsCalm a.moment waits
   is_calm waits stands = record {
     token = λ s. ap (λ (f : ℕ → Bool). f s) a.token;
     unowed = nothing_owed;
@@ -224,14 +225,28 @@ module _ {kind : Kind} {table : St} {core : State} (a : At (small kind) table co
     second = ap (λ (p : Part). p.core.waits) (sym second) ∙ stands;
   }
 
-module _ (kind : Kind) where
-  abbrev moment : ℕ → Moment (small kind)
-  moment zero = (at_8 kind).moment
-  moment (suc zero) = (leaves_list kind).at.moment
-  moment (suc (suc zero)) = (comes_out kind).at.moment
-  moment (suc (suc (suc i))) = (releases kind).at.moment
+-- The second leaves the list at the first of these moments of a run, comes out of the guard at the next, and the first
+-- releases the lock then.
+pub record IsOff {kind : Kind} (m_0 m_1 m_2 m_3 : Moment (small kind)) : Type 0 where
+  pub run : IsOfRun m_0
+  pub leaves : Follows m_0 m_1 (Some (performs (Leave 1 0)))
+  pub comes_out : Follows m_1 m_2 (Some (performs (Unguard 1 0)))
+  pub releases : Follows m_2 m_3 (Some (performs (FastGive 0 0)))
+  pub calm_0 : IsCalm m_0 1
+  pub calm_1 : IsCalm m_1 0
+  pub calm_2 : IsCalm m_2 0
+  pub calm_3 : IsCalm m_3 0
+  pub inside : (view m_0 1).inside ≡ 1
+  pub bare : (s n : ℕ) → s < 2 → owns (view m_3 s) n ≡ false
 
-  abbrev move : ℕ → Option Step
+module _ {kind : Kind} {m_0 m_1 m_2 m_3 : Moment (small kind)} (off : IsOff m_0 m_1 m_2 m_3) where
+  abbrev pub moment : ℕ → Moment (small kind)
+  moment zero = m_0
+  moment (suc zero) = m_1
+  moment (suc (suc zero)) = m_2
+  moment (suc (suc (suc i))) = m_3
+
+  abbrev pub move : ℕ → Option Step
   move zero = Some (performs (Leave 1 0))
   move (suc zero) = Some (performs (Unguard 1 0))
   move (suc (suc zero)) = Some (performs (FastGive 0 0))
@@ -242,24 +257,16 @@ module _ (kind : Kind) where
   waits_at (suc i) = 0
 
   follows : (i : ℕ) → Follows (moment i) (moment (suc i)) (move i)
-  follows zero = (leaves_list kind).follows
-  follows (suc zero) = (comes_out kind).follows
-  follows (suc (suc zero)) = (releases kind).follows
-  follows (suc (suc (suc i))) = idles (releases kind).at.moment
+  follows zero = off.leaves
+  follows (suc zero) = off.comes_out
+  follows (suc (suc zero)) = off.releases
+  follows (suc (suc (suc i))) = idles m_3
 
-  calm : (i : ℕ) → IsCalm (moment i) (waits_at i)
-  calm zero = let a = at_8 kind in is_calm a (holder_2 kind) (off_4 kind)
-      (part_there a 1 (holder_2 kind, []) refl refl (omega arith)) (part_there a 0 (off_4 kind, []) refl refl (omega arith))
-      (λ u. refl) refl refl refl refl 1 refl
-  calm (suc zero) = let a = (leaves_list kind).at in is_calm a (holder_2 kind) (off_5 kind)
-      (part_there a 1 (holder_2 kind, []) refl refl (omega arith)) (part_there a 0 (off_5 kind, []) refl refl (omega arith))
-      (λ u. refl) refl refl refl refl 0 refl
-  calm (suc (suc zero)) = let a = (comes_out kind).at in is_calm a (holder_2 kind) (off_6 kind)
-      (part_there a 1 (holder_2 kind, []) refl refl (omega arith)) (part_there a 0 (off_6 kind, []) refl refl (omega arith))
-      (λ u. refl) refl refl refl refl 0 refl
-  calm (suc (suc (suc i))) = let a = (releases kind).at in is_calm a (free kind) (off_6 kind)
-      (part_there a 1 (free kind, []) refl refl (omega arith)) (part_there a 0 (off_6 kind, []) refl refl (omega arith))
-      (λ u. refl) refl refl refl refl 0 refl
+  pub calm : (i : ℕ) → IsCalm (moment i) (waits_at i)
+  calm zero = off.calm_0
+  calm (suc zero) = off.calm_1
+  calm (suc (suc zero)) = off.calm_2
+  calm (suc (suc (suc i))) = off.calm_3
 
   -- only the second waits, at the first moment alone, inside the guard of the lock
   waits_once : (i s n : ℕ) → s < 2 → (view (moment i) s).waits ≡ suc n → (i ≡ 0) × (s ≡ 1) × (n ≡ 0)
@@ -268,26 +275,16 @@ module _ (kind : Kind) where
   waits_once (suc i) (suc zero) n low waits = let none = (calm (suc i)).second in absurd (omega arith)
   waits_once i (suc (suc s)) n low waits = absurd (omega arith)
 
-  inside_then : (view (moment 0) 1).inside ≡ 1
-  inside_then = ap (λ (p : Part). p.core.inside) (sym (part_there (at_8 kind) 0 (off_4 kind, []) refl refl (omega arith)))
-
-  bare_then : (s n : ℕ) → s < 2 → owns (view (moment 3) s) n ≡ false
-  bare_then zero n low = ap (λ (p : Part). slice_index_or p.core.owned n false)
-      (sym (part_there (releases kind).at 1 (free kind, []) refl refl (omega arith))) ∙ bare n
-  bare_then (suc zero) n low = ap (λ (p : Part). slice_index_or p.core.owned n false)
-      (sym (part_there (releases kind).at 0 (off_6 kind, []) refl refl (omega arith))) ∙ bare n
-  bare_then (suc (suc s)) n low = absurd (omega arith)
-
-  scheduled : (s : ℕ) → s < 2 → IsScheduledThere moment move s
+  pub scheduled : (s : ℕ) → s < 2 → IsScheduledThere moment move s
   scheduled s low = record {
     made = λ i t has. absurd ((calm i).unowed t s has);
     heard = λ i token sleeps. absurd (true≢false (sym token ∙ (calm i).token s));
-    settled = λ i rests. let due = rests.due in let none = (calm i).naps s low in absurd (omega arith);
+    settled = λ i rests. let due = rests.due in let none = (calm i).naps s low in let rose = (calm i).risen s in absurd (omega arith);
     looks = λ i n waits acts. let h = waits_once i s n low waits in (
       i,
       omega arith,
       subst (λ x. (view (moment x) s).inside ≡ suc n) (sym h.0)
-          (subst (λ x. (view (moment 0) x).inside ≡ suc n) (sym h.1) (let a = h.2 in let b = inside_then in omega arith)),
+          (subst (λ x. (view (moment 0) x).inside ≡ suc n) (sym h.1) (let a = h.2 in let b = off.inside in omega arith)),
     );
     leaves = λ i n waits inside. let h = waits_once i s n low waits in (
       1,
@@ -296,23 +293,51 @@ module _ (kind : Kind) where
     );
   }
 
-  go_on : HoldersGoOnThere moment
-  go_on zero s n low owner waits = (3, omega arith, inl (bare_then s n low))
-  go_on (suc zero) s n low owner waits = (3, omega arith, inl (bare_then s n low))
-  go_on (suc (suc zero)) s n low owner waits = (3, omega arith, inl (bare_then s n low))
-  go_on (suc (suc (suc i))) s n low owner waits = (suc (suc (suc i)), omega arith, inl (bare_then s n low))
+  pub go_on : HoldersGoOnThere moment
+  go_on zero s n low owner waits = (3, omega arith, inl (off.bare s n low))
+  go_on (suc zero) s n low owner waits = (3, omega arith, inl (off.bare s n low))
+  go_on (suc (suc zero)) s n low owner waits = (3, omega arith, inl (off.bare s n low))
+  go_on (suc (suc (suc i))) s n low owner waits = (suc (suc (suc i)), omega arith, inl (off.bare s n low))
+
+-- ---- this one
+
+is_off : (kind : Kind) → IsOff (at_8 kind).moment (leaves_list kind).at.moment (comes_out kind).at.moment (releases kind).at.moment
+is_off kind = let a_0 = at_8 kind in let a_1 = (leaves_list kind).at in let a_2 = (comes_out kind).at in
+    let a_3 = (releases kind).at in record {
+      run = a_0.run;
+      leaves = (leaves_list kind).follows;
+      comes_out = (comes_out kind).follows;
+      releases = (releases kind).follows;
+      calm_0 = is_calm a_0 (holder_2 kind) (off_4 kind) (part_there a_0 1 (holder_2 kind, []) refl refl (omega arith))
+          (part_there a_0 0 (off_4 kind, []) refl refl (omega arith)) (λ u. refl) refl refl refl refl 1 refl;
+      calm_1 = is_calm a_1 (holder_2 kind) (off_5 kind) (part_there a_1 1 (holder_2 kind, []) refl refl (omega arith))
+          (part_there a_1 0 (off_5 kind, []) refl refl (omega arith)) (λ u. refl) refl refl refl refl 0 refl;
+      calm_2 = is_calm a_2 (holder_2 kind) (off_6 kind) (part_there a_2 1 (holder_2 kind, []) refl refl (omega arith))
+          (part_there a_2 0 (off_6 kind, []) refl refl (omega arith)) (λ u. refl) refl refl refl refl 0 refl;
+      calm_3 = is_calm a_3 (free kind) (off_6 kind) (part_there a_3 1 (free kind, []) refl refl (omega arith))
+          (part_there a_3 0 (off_6 kind, []) refl refl (omega arith)) (λ u. refl) refl refl refl refl 0 refl;
+      inside = ap (λ (p : Part). p.core.inside) (sym (part_there a_0 0 (off_4 kind, []) refl refl (omega arith)));
+      bare = bare_then kind;
+    }
+  where
+    bare_then : (kind : Kind) (s n : ℕ) → s < 2 → owns (view (releases kind).at.moment s) n ≡ false
+    bare_then kind zero n low = ap (λ (p : Part). slice_index_or p.core.owned n false)
+        (sym (part_there (releases kind).at 1 (free kind, []) refl refl (omega arith))) ∙ bare n
+    bare_then kind (suc zero) n low = ap (λ (p : Part). slice_index_or p.core.owned n false)
+        (sym (part_there (releases kind).at 0 (off_6 kind, []) refl refl (omega arith))) ∙ bare n
+    bare_then kind (suc (suc s)) n low = absurd (omega arith)
 
 pub waits_are_in_endless_runs : WaitsAreInEndlessRuns
-waits_are_in_endless_runs kind = record {
+waits_are_in_endless_runs kind = let off = is_off kind in record {
   key = small kind;
-  moment = moment kind;
-  move = move kind;
+  moment = moment off;
+  move = move off;
   seat = 1;
   lock = 0;
   of_kind = refl;
   low = omega arith;
-  endless = record { begins = (at_8 kind).run; goes_on = follows kind };
-  scheduled = scheduled kind;
-  go_on = go_on kind;
-  waits = (calm kind 0).second;
+  endless = record { begins = (at_8 kind).run; goes_on = follows off };
+  scheduled = scheduled off;
+  go_on = go_on off;
+  waits = (calm off 0).second;
 }

@@ -1,4 +1,4 @@
--- A run of two threads at a table with one lock, play by play: the one takes the lock, the other sleeps for it, and
+-- A run of two threads at a table, play by play: the one takes the lock, the other sleeps for it, and
 -- then the lock is released.
 use Rattle.std.proofs.Common.{◌≡◌, ⊎_elim, inl, inr, ℕ, zero, suc, ◌+◌, ◌<◌, Bool, true, false, true≢false, List, [], ◌∷◌, Option, Some, None, refl, sym, ap, ◌∙◌, subst, arith}
 use mathlib.Core.Option.{some}
@@ -43,12 +43,15 @@ use Rattle.ww_runs.specs.Plays.{Plays, Moved}
 use Rattle.ww_runs.proofs.Playing.{told_there, plays_are_moves}
 use Rattle.ww_runs.proofs.Seating.{new_tables_begin}
 
--- ---- one bare lock and two seats
+-- ---- as many bare locks as the smallest world has, and two seats
+
+abbrev pub least : ℕ
+least = 65
 
 abbrev pub small : Kind → Start
 small kind = record {
   kind = kind;
-  locks = 1;
+  locks = least;
   seats = 2;
   places = 16;
   nodes = record { value = []; marker = record {} };
@@ -56,16 +59,20 @@ small kind = record {
 }
 
 abbrev cells : List Cell
-cells = replicate (slots_for 1) (Line [])
+cells = replicate (slots_for least) (Line [])
 
 abbrev table_0 : Kind → St
-table_0 kind = opening (replicate (words_for 1 16) 0) cells (first_sight (small kind))
+table_0 kind = opening (replicate (words_for least 16) 0) cells (first_sight (small kind))
 
-line_there : (n : ℕ) → n < 1 → get_elem? cells (list_at n) ≡ some (Line [])
-line_there zero low = refl
-line_there (suc n) low = absurd (omega arith)
+alike : (k i : ℕ) → i < k → get_elem? (replicate k (Line [])) i ≡ some (Line [])
+alike zero i low = absurd (omega arith)
+alike (suc k) zero low = refl
+alike (suc k) (suc i) low = alike k i (omega arith)
 
-ruled_0 : (kind : Kind) → (r : Ruled (small kind) (table_0 kind)) × (r.core ≡ start kind 1 16)
+line_there : (n : ℕ) → n < least → get_elem? cells (list_at n) ≡ some (Line [])
+line_there n low = alike (slots_for least) (list_at n) (omega arith)
+
+ruled_0 : (kind : Kind) → (r : Ruled (small kind) (table_0 kind)) × (r.core ≡ start kind least 16)
 ruled_0 kind = let none : AreNodes [] = record { few = omega arith; closed = tt } in (
   opens (small kind) (omega arith) (omega arith) (inl refl) (omega arith) (omega arith) none cells refl
       (λ n low. absurd (omega arith)) line_there,
@@ -100,7 +107,7 @@ At key table core sleeps heeds = AtWith key table core nothing nobody sleeps hee
 abbrev one : ℕ → Bool
 one = put nobody 1 true
 
-at_0 : (kind : Kind) → At (small kind) (table_0 kind) (start kind 1 16) nobody nobody
+at_0 : (kind : Kind) → At (small kind) (table_0 kind) (start kind least 16) nobody nobody
 at_0 kind = let r = ruled_0 kind in let b = new_tables_begin (small kind) (table_0 kind) r.0 refl r.1 in record {
   moment = b.moment;
   run = runs.begins b.moment b.first;
@@ -228,10 +235,10 @@ abbrev pub out : List Entry → List (ℕ × Cell)
 out q = (list_at 0, Line q) ∷ []
 
 -- the first draws, takes the lock, goes inside the guard again, releases the lock, and comes out
-abbrev holder_0 : Kind → Sight
+abbrev pub holder_0 : Kind → Sight
 holder_0 kind = first_seat 0 (first_sight (small kind)).idle
 
-abbrev holder_1 : Kind → Sight
+abbrev pub holder_1 : Kind → Sight
 holder_1 kind = drawing (holder_0 kind) 1
 
 abbrev pub holder_2 : Kind → Sight
@@ -247,7 +254,7 @@ abbrev pub holder_5 : Kind → Sight
 holder_5 kind = exiting (holder_4 kind)
 
 -- the second draws, goes inside the guard, joins the list, finds no cancel, and comes out
-abbrev waiter_0 : Kind → Sight
+abbrev pub waiter_0 : Kind → Sight
 waiter_0 kind = without_first (first_sight (small kind))
 
 abbrev pub waiter_1 : Kind → Sight
@@ -271,7 +278,7 @@ waiter_5 kind = exiting (waiter_4 kind)
 
 -- ---- the tables
 
-abbrev table_1 : Kind → St
+abbrev pub table_1 : Kind → St
 table_1 kind = record {
   words = (table_0 kind).words;
   homes = (table_0 kind).homes;
@@ -285,33 +292,33 @@ abbrev table_3 : Kind → St
 table_3 kind = stepped (table_2 kind) stamp_at 2 0 [] (waiter_1 kind) keeps
 
 abbrev pub table_4 : Kind → St
-table_4 kind = stepped (table_3 kind) (owner_at 1 0) (packed owner) 1 [] (holder_2 kind) keeps
+table_4 kind = stepped (table_3 kind) (owner_at least 0) (packed owner) 1 [] (holder_2 kind) keeps
 
 abbrev table_5 : Kind → St
-table_5 kind = stepped (table_4 kind) (guard_at 1 0) 2 0 [] (waiter_2 kind) (takes (list_at 0) (Line []))
+table_5 kind = stepped (table_4 kind) (guard_at least 0) 2 0 [] (waiter_2 kind) (takes (list_at 0) (Line []))
 
 abbrev table_6 : Kind → St
-table_6 kind = stepped (table_5 kind) (owner_at 1 0) (packed (with_waiters owner)) 0 (out []) (waiter_3 kind) keeps
+table_6 kind = stepped (table_5 kind) (owner_at least 0) (packed (with_waiters owner)) 0 (out []) (waiter_3 kind) keeps
 
 abbrev table_7 : Kind → St
-table_7 kind = stepped (table_6 kind) (cancel_at 1 1) 0 0 (out line) (waiter_4 kind) keeps
+table_7 kind = stepped (table_6 kind) (cancel_at least 1) 0 0 (out line) (waiter_4 kind) keeps
 
 abbrev table_8 : Kind → St
-table_8 kind = stepped (table_7 kind) (guard_at 1 0) 0 0 (out line) (waiter_5 kind) gives
+table_8 kind = stepped (table_7 kind) (guard_at least 0) 0 0 (out line) (waiter_5 kind) gives
 
 abbrev table_9 : Kind → St
-table_9 kind = stepped (table_8 kind) (guard_at 1 0) 1 1 [] (holder_3 kind) (takes (list_at 0) (Line line))
+table_9 kind = stepped (table_8 kind) (guard_at least 0) 1 1 [] (holder_3 kind) (takes (list_at 0) (Line line))
 
 abbrev table_10 : Kind → St
-table_10 kind = stepped (table_9 kind) (owner_at 1 0) (packed (given_word false line)) 1 (out line) (holder_4 kind) keeps
+table_10 kind = stepped (table_9 kind) (owner_at least 0) (packed (given_word false line)) 1 (out line) (holder_4 kind) keeps
 
 abbrev table_11 : Kind → St
-table_11 kind = stepped (table_10 kind) (guard_at 1 0) 0 1 (out line) (holder_5 kind) gives
+table_11 kind = stepped (table_10 kind) (guard_at least 0) 0 1 (out line) (holder_5 kind) gives
 
 -- ---- the locks
 
 abbrev pub core_2 : Kind → State
-core_2 kind = after (after (start kind 1 16) (Begin 0)) (Begin 1)
+core_2 kind = after (after (start kind least 16) (Begin 0)) (Begin 1)
 
 abbrev core_4 : Kind → State
 core_4 kind = after (after (core_2 kind) (Fast 0 0)) (Guard 1 0)
@@ -324,11 +331,15 @@ core_10 kind = after (after (core_6 kind) (Guard 0 0)) (Give 0 0)
 
 -- ---- the plays
 
-pub bare : (n : ℕ) → slice_index_or (false ∷ []) n false ≡ false
-bare zero = refl
-bare (suc n) = refl
+none_owned : (k n : ℕ) → slice_index_or (replicate k false) n false ≡ false
+none_owned zero n = refl
+none_owned (suc k) zero = refl
+none_owned (suc k) (suc n) = none_owned k n
 
-at_1 : (kind : Kind) → At (small kind) (table_1 kind) (start kind 1 16) nobody nobody
+pub bare : (n : ℕ) → slice_index_or (replicate least false) n false ≡ false
+bare n = none_owned least n
+
+pub at_1 : (kind : Kind) → At (small kind) (table_1 kind) (start kind least 16) nobody nobody
 at_1 kind = let a = at_0 kind in let v = first_sight (small kind) in
     others_there a 0 (v, []) refl refl (omega arith) refl refl (table_1 kind) _
     (λ i. record {
@@ -338,7 +349,7 @@ at_1 kind = let a = at_0 kind in let v = first_sight (small kind) in
     })
     (play.cuts_off (holder_0 kind).part [] refl)
 
-at_2 : (kind : Kind) → At (small kind) (table_2 kind) (after (start kind 1 16) (Begin 0)) nobody nobody
+at_2 : (kind : Kind) → At (small kind) (table_2 kind) (after (start kind least 16) (Begin 0)) nobody nobody
 unfolding lock_at
 at_2 kind = let a = at_1 kind in let me : Sat = (holder_0 kind, []) in
     performs_there a 1 me refl refl (omega arith) refl refl (Begin 0) (table_2 kind) _
@@ -360,20 +371,20 @@ pub at_4 : (kind : Kind) → At (small kind) (table_4 kind) (after (core_2 kind)
 unfolding lock_at
 at_4 kind = let a = at_3 kind in let me : Sat = (holder_1 kind, []) in
     performs_there a 1 me refl refl (omega arith) refl refl (Fast 0 0) (table_4 kind) _
-    (λ i. stepped (a.is_table i) (owner_at 1 0) (packed owner) 1 [] (holder_2 kind) keeps)
+    (λ i. stepped (a.is_table i) (owner_at least 0) (packed owner) 1 [] (holder_2 kind) keeps)
     (play.takes_bare 0 (omega arith) (omega arith)
     (record { away = (refl, refl); base = inl (omega arith); signs = inr (inl refl) })
-    (word_there a (owner_at 1 0) 0 refl))
+    (word_there a (owner_at least 0) 0 refl))
 
 at_5 : (kind : Kind) → At (small kind) (table_5 kind) (core_4 kind) nobody nobody
 unfolding lock_at
 at_5 kind = let a = at_4 kind in let me : Sat = (waiter_1 kind, []) in
     performs_there a 0 me refl refl (omega arith) refl refl (Guard 1 0) (table_5 kind) _
     (λ i. let q = (a.is_core i).queue 0 in
-    stepped (a.is_table i) (guard_at 1 0) 2 0 [] (entering (waiter_1 kind) 0 q) (takes (list_at 0) (Line q)))
+    stepped (a.is_table i) (guard_at least 0) 2 0 [] (entering (waiter_1 kind) 0 q) (takes (list_at 0) (Line q)))
     (play.enters 0 (omega arith)
     (record { outside = refl; why = inr (inr (refl, refl, inl (omega arith), inr (inl refl))) })
-    (word_there a (guard_at 1 0) 0 refl))
+    (word_there a (guard_at least 0) 0 refl))
 
 pub unsigned_inside : (kind : Kind) → once_inside kind 0 (Some 0) ≡ Some 0
 unsigned_inside WoundWait = refl
@@ -386,7 +397,7 @@ at_6 : (kind : Kind) → At (small kind) (table_6 kind) (after (core_4 kind) (Jo
 unfolding lock_at
 at_6 kind = let a = at_5 kind in let me : Sat = (waiter_2 kind, out []) in
     performs_there a 0 me refl refl (omega arith) refl refl (Join 1 0) (table_6 kind) _
-    (λ i. stepped (a.is_table i) (owner_at 1 0) (packed (with_waiters owner)) 0 (out []) (waiter_3 kind) keeps)
+    (λ i. stepped (a.is_table i) (owner_at least 0) (packed (with_waiters owner)) 0 (out []) (waiter_3 kind) keeps)
     (play.joins 0 owner
     (record {
       inside = refl;
@@ -395,15 +406,15 @@ at_6 kind = let a = at_5 kind in let me : Sat = (waiter_2 kind, out []) in
       signs = inr (inl (unsigned_inside kind));
       other = (0, refl, λ is. let z : 0 ≡ 1 = is in omega arith);
     })
-    is_valid (word_there a (owner_at 1 0) (packed owner) refl))
+    is_valid (word_there a (owner_at least 0) (packed owner) refl))
 
 at_7 : (kind : Kind) → At (small kind) (table_7 kind) (after (core_4 kind) (Join 1 0)) nobody nobody
 unfolding lock_at
 at_7 kind = let a = at_6 kind in let me : Sat = (waiter_3 kind, out line) in
     finds_there a 0 me refl refl (omega arith) refl refl 1 (table_7 kind) _
-    (λ i. stepped (a.is_table i) (cancel_at 1 1) (slice_index (a.is_table i).words (cancel_at 1 1)) 0 (out line)
+    (λ i. stepped (a.is_table i) (cancel_at least 1) (slice_index (a.is_table i).words (cancel_at least 1)) 0 (out line)
     (waiter_4 kind) keeps)
-    (play.finds_uncancelled (word_there a (cancel_at 1 1) 0 refl))
+    (play.finds_uncancelled (word_there a (cancel_at least 1) 0 refl))
 
 signs_none : (kind : Kind) → owed_signs kind (with_waiters owner) line 1 ≡ []
 signs_none WoundWait = refl
@@ -422,7 +433,7 @@ at_8 : (kind : Kind) → At (small kind) (table_8 kind) (core_6 kind) nobody one
 unfolding lock_at
 at_8 kind = let a = at_7 kind in let me : Sat = (waiter_4 kind, out line) in
     leaves_there a 0 me refl refl (omega arith) refl refl 1 0 true (table_8 kind) _
-    (λ i. stepped (a.is_table i) (guard_at 1 0) 0 0 (out line) (waiter_5 kind) gives)
+    (λ i. stepped (a.is_table i) (guard_at least 0) 0 0 (out line) (waiter_5 kind) gives)
     (play.exits_to_sleep 0 true
     (record {
       exit = record {
@@ -473,26 +484,26 @@ unfolding put ℕ_discrete lock_at
 at_9 kind = let a = at_rest kind in let me : Sat = (holder_2 kind, []) in
     performs_there a 1 me refl refl (omega arith) refl refl (Guard 0 0) (table_9 kind) _
     (λ i. let q = (a.is_core i).queue 0 in
-    stepped (a.is_table i) (guard_at 1 0) 1 1 [] (entering (holder_2 kind) 0 q) (takes (list_at 0) (Line q)))
+    stepped (a.is_table i) (guard_at least 0) 1 1 [] (entering (holder_2 kind) 0 q) (takes (list_at 0) (Line q)))
     (play.enters 0 (omega arith)
     (record { outside = refl; why = inl (refl, refl) })
-    (word_there a (guard_at 1 0) 0 refl))
+    (word_there a (guard_at least 0) 0 refl))
 
 at_10 : (kind : Kind) → At (small kind) (table_10 kind) (core_10 kind) one one
 unfolding put ℕ_discrete lock_at
 at_10 kind = let a = at_9 kind in let me : Sat = (holder_3 kind, out line) in
     performs_there a 1 me refl refl (omega arith) refl refl (Give 0 0) (table_10 kind) _
-    (λ i. stepped (a.is_table i) (owner_at 1 0) (packed (given_word false line)) 1 (out line) (holder_4 kind) keeps)
+    (λ i. stepped (a.is_table i) (owner_at least 0) (packed (given_word false line)) 1 (out line) (holder_4 kind) keeps)
     (play.gives_bare_inside 0 (with_waiters owner) (omega arith)
     (record { inside = refl; owns = refl })
     (record { seating = inl (omega arith, omega arith); flags = inr (inl refl) })
-    (word_there a (owner_at 1 0) (packed (with_waiters owner)) refl))
+    (word_there a (owner_at least 0) (packed (with_waiters owner)) refl))
 
 pub at_11 : (kind : Kind) → At (small kind) (table_11 kind) (after (core_10 kind) (Unguard 0 0)) one one
 unfolding put ℕ_discrete lock_at
 at_11 kind = let a = at_10 kind in let me : Sat = (holder_4 kind, out line) in
     performs_there a 1 me refl refl (omega arith) refl refl (Unguard 0 0) (table_11 kind) _
-    (λ i. stepped (a.is_table i) (guard_at 1 0) 0 1 (out line) (holder_5 kind) gives)
+    (λ i. stepped (a.is_table i) (guard_at least 0) 0 1 (out line) (holder_5 kind) gives)
     (play.exits 0
     (record { inside = refl; why = inl (refl, refl); unsigned = λ _. inr (inr bare); unheeded = refl })
     refl refl)

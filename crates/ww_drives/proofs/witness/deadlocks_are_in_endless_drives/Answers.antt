@@ -1,0 +1,5 @@
+use Rattle.ww_drives.proofs.Doomed as kept
+use Rattle.ww_drives.proofs.witness.deadlocks_are_in_endless_drives.Goals as goal
+
+pub returns : goal.returns
+returns c = kept.deadlocks_are_in_endless_drives

@@ -1,0 +1,14 @@
+//! The laws of endless drives speak of something.
+ghost use Rattle.ww_drives.specs.Witness.{DeadlocksAreInEndlessDrives, WaitsAreInEndlessDrives};
+
+/// In each kind an endless drive of a world begins with a deadlock, of seats whose drivers are scheduled, and a call of
+/// one of them answers EDEADLK.
+pub fn deadlocks_are_in_endless_drives()
+    ensures { DeadlocksAreInEndlessDrives }
+{}
+
+/// In each kind a seat waits at the beginning of an endless drive of a world in which the drivers of all seats are
+/// scheduled, and holders go on.
+pub fn waits_are_in_endless_drives()
+    ensures { WaitsAreInEndlessDrives }
+{}
