@@ -1,6 +1,6 @@
 -- What becomes of a transaction that is decided on under its locks. What the closure answers to the values of the listed
 -- nodes is told by a relation between those values and an answer.
-use Rattle.std.specs.Prelude.{ℕ, ◌≡◌, ◌≤◌, ◌+◌, ◌-◌, ◌∷◌, ◌++◌, [], List, length, map, Option, Some, None, IsTrue}
+use Rattle.std.specs.Prelude.{ℕ, ◌≡◌, List, length, map, Option, Some, None, Result, Ok, Err, IsTrue}
 use Rattle.std.specs.List.{AllByRecursion}
 use Rattle.ww_plain.specs.declared.node.Node.{Node}
 use Rattle.ww_plain.specs.declared.transaction.Txn.{Txn}
@@ -10,11 +10,12 @@ use Rattle.ww_plain.specs.Transaction.{Transaction, transaction_of, Fits, HasNoD
 use Rattle.ww_plain.specs.Meaning.{answer_of, answer_to}
 use Rattle.ww_plain.specs.Footprint.{footprint_of}
 use Rattle.ww_lock.specs.declared.prepared.Receipt.{Receipt}
-use Rattle.ww_lock.specs.Holding.{Holding, Change, AreBelow}
+use Rattle.ww_lock.specs.Holding.{Holding, Change}
 use Rattle.ww_lock.specs.Making.{IsMadeOf}
-use Rattle.ww_users.specs.Ways.{IsToldOfEach, IsReturned}
+use Rattle.ww_users.specs.Ways.{IsReturned}
 use Rattle.ww_txn.specs.declared.changing.ChangeFault.{ChangeFault}
 use Rattle.ww_txn.specs.declared.changing.ChangeFault.TheVariants.{PassSpent, Already, Declined, NotServed, NoMemory}
+use Rattle.ww_txn.specs.Transact.{IsRecorded}
 
 -- the values of the listed nodes, in the order of the list
 abbrev pub values_of : List Node → List ℕ → List ℕ
@@ -44,44 +45,28 @@ IsUndecided Decides list seen (NotServed txn) = Decides (values_of seen list) (S
 IsUndecided Decides list seen NoMemory = (txn : Txn) × Decides (values_of seen list) (Some txn) × IsServed list seen (transaction_of txn)
 IsUndecided Decides list seen _ = ⊥
 
+-- what is decided on the values of the nodes that this state holds, or why nothing is
+abbrev pub IsDecision : Deciding → List ℕ → Holding → Result Change ChangeFault → Type 0
+IsDecision Decides list d (Ok p) = IsDecided Decides list d p
+IsDecision Decides list d (Err fault) = IsUndecided Decides list d.seen fault
+
 -- Exactly one record more: that of the transaction that was answered to the values of the listed nodes, as they were when
--- they were locked, with the place, the number and the answer that the receipt says. The pass holds no lock, has one
--- context less to start, and has begun one more.
+-- they were locked. One context more was begun.
 pub record IsChanged (Decides : Deciding) (s : Holding) (list : List ℕ) (a : Holding) (told : Receipt) : Type 0 where
-  pub some : 1 ≤ s.left
   pub no_double : FirstDouble list None
   pub txn : Txn
   pub decided : Decides (values_of a.seen list) (Some txn)
   pub served : IsServed list a.seen (transaction_of txn)
   pub answer : answer_of told.reply ≡ answer_to a.seen (transaction_of txn)
-  pub rest : a ≡ record s {
-    left = s.left - 1;
-    draws = s.draws + 1;
-    stamp = 0;
-    own = s.own ++ (
-      told.place,
-      record {
-        caller = s.caller;
-        seq = length s.own;
-        transaction = transaction_of txn;
-        answer = answer_of told.reply;
-      },
-    ) ∷ [];
-    room = a.room;
-    held = [];
-    seen = a.seen;
-    tries = a.tries;
-    takes = a.takes;
-    deaths = a.deaths;
-    deaf = a.deaf;
-  }
-  pub counted : IsToldOfEach s a
-  pub above : AreBelow told.place s.own
-  pub seq : told.seq ≡ length s.own
-  pub size : length a.seen ≡ length s.seen
+  pub recorded : IsRecorded s 1 (transaction_of txn) a told
 
 -- Why nothing was recorded: first it is looked whether the pass has a context left, then whether a node is named twice.
 abbrev pub IsChangeFault : Deciding → Holding → List ℕ → Holding → ChangeFault → Type 0
 IsChangeFault Decides s list a PassSpent = (s.left ≡ 0) × (a ≡ s)
 IsChangeFault Decides s list a (Already n) = FirstDouble list (Some n) × IsReturned s 1 a
 IsChangeFault Decides s list a fault = FirstDouble list None × IsReturned s 1 a × IsUndecided Decides list a.seen fault
+
+-- what becomes of a transaction that is decided on under its locks
+abbrev pub IsChangeAnswer : Deciding → Holding → List ℕ → Holding → Result Receipt ChangeFault → Type 0
+IsChangeAnswer Decides s list a (Ok told) = IsChanged Decides s list a told
+IsChangeAnswer Decides s list a (Err fault) = IsChangeFault Decides s list a fault

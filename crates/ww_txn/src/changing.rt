@@ -1,11 +1,10 @@
 //! A transaction that a closure decides, on the values that it finds.
 
-ghost use Rattle.std.specs.Prelude.{◌≡◌, ◌≤◌, ◌<◌, length, IfOk, IfErr, OnErr};
+ghost use Rattle.std.specs.Prelude.{◌≡◌, ◌≤◌, length};
 ghost use Rattle.std.specs.Fn.{FnOnceReturnsAt, FnOnceTakesAt};
-ghost use Rattle.std.specs.List.{AllByRecursion};
 ghost use Rattle.ww_lock.specs.Holding.{IsAtHome};
-ghost use Rattle.ww_users.specs.Ways.{HoldsExactly};
-ghost use Rattle.ww_txn.specs.Change.{values_of, IsDecided, IsUndecided, IsChanged, IsChangeFault};
+ghost use Rattle.ww_users.specs.Ways.{MayTake, HoldsExactly};
+ghost use Rattle.ww_txn.specs.Change.{values_of, IsDecision, IsChangeAnswer};
 
 use arrayvec::ArrayVec;
 use std::sync::Wait;
@@ -45,14 +44,11 @@ pub fn change<R: Wait, F: FnOnce(&[u64]) -> Option<Txn>>(
     list: &[u8],
     decide: F,
 ) -> (Pass, Result<Receipt, ChangeFault>)
-    requires home { IsAtHome pass world.now }
-    requires some { 1 ≤ length list.now }
+    requires may { MayTake list.now pass world.now }
     requires few { length list.now ≤ MAX_NODES }
-    requires nodes { AllByRecursion (λ n. n < length world.now.first) list.now }
     requires decides { (values : _) → length values ≡ length list.now → FnOnceTakesAt F.FnOnce decide values }
     ensures home { IsAtHome result.0 world.now }
-    ensures ok { IfOk result.1 (IsChanged (FnOnceReturnsAt F.FnOnce decide) pass list.now result.0) }
-    ensures err { IfErr result.1 (IsChangeFault (FnOnceReturnsAt F.FnOnce decide) pass list.now result.0) }
+    ensures answer { IsChangeAnswer (FnOnceReturnsAt F.FnOnce decide) pass list.now result.0 result.1 }
 {
     let mut done = match lock_list(world, pass, rt, list) {
         Ok(done) => done,
@@ -77,14 +73,11 @@ fn prepare_decided<F: FnOnce(&[u64]) -> Option<Txn>>(
     list: &[u8],
     decide: F,
 ) -> Result<Prepared, ChangeFault>
-    requires home { IsAtHome done.old world.now }
-    requires few { length list.now ≤ MAX_NODES }
-    requires nodes { AllByRecursion (λ n. n < length world.now.first) list.now }
-    requires holds { HoldsExactly list.now done.old }
+    requires may { MayTake list.now done.old world.now }
+    requires holds { HoldsExactly list.now done.old × (length list.now ≤ MAX_NODES) }
     requires decides { (values : _) → length values ≡ length list.now → FnOnceTakesAt F.FnOnce decide values }
     ensures same { done.new ≡ record done.old { room = done.new.room } }
-    ensures ok { IfOk result (IsDecided (FnOnceReturnsAt F.FnOnce decide) list.now done.new) }
-    ensures err { IfErr result (IsUndecided (FnOnceReturnsAt F.FnOnce decide) list.now done.new.seen) }
+    ensures decision { IsDecision (FnOnceReturnsAt F.FnOnce decide) list.now done.new result }
 {
     let values = read_values(world, done, list);
     let Some(txn) = decide(&values) else {
@@ -101,10 +94,8 @@ fn prepare_decided<F: FnOnce(&[u64]) -> Option<Txn>>(
 
 /// The values of these nodes, which are held, in the order of the list.
 fn read_values(world: &World, done: &Done, list: &[u8]) -> ArrayVec<u64, MAX_NODES>
-    requires home { IsAtHome done.now world.now }
-    requires few { length list.now ≤ MAX_NODES }
-    requires nodes { AllByRecursion (λ n. n < length world.now.first) list.now }
-    requires holds { HoldsExactly list.now done.now }
+    requires may { MayTake list.now done.now world.now }
+    requires holds { HoldsExactly list.now done.now × (length list.now ≤ MAX_NODES) }
     ensures { result.items ≡ values_of done.now.seen list.now }
 {
     let mut values = ArrayVec::new();

@@ -1,11 +1,11 @@
 //! A transaction from its locks to its reply, in one call.
 
-ghost use Rattle.std.specs.Prelude.{◌≡◌, ◌<◌, length, IfOk, IfErr, OnOk, OnErr};
-ghost use Rattle.ww_plain.specs.Transaction.{transaction_of, peek, Fits};
+ghost use Rattle.std.specs.Prelude.{◌≡◌, length, OnOk};
+ghost use Rattle.ww_plain.specs.Transaction.{transaction_of, peek};
 ghost use Rattle.ww_lock.specs.Holding.{IsAtHome};
 ghost use Rattle.ww_lock.specs.Waits.TheVariants.{ToTheEnd, UntilCancelled};
-ghost use Rattle.ww_txn.specs.declared.telling.Stage.TheVariants.{Untold, Answered};
-ghost use Rattle.ww_txn.specs.Transact.{IsTransacted, IsTxnFault, contexts_of};
+ghost use Rattle.ww_txn.specs.declared.telling.Stage.TheVariants.{Untold};
+ghost use Rattle.ww_txn.specs.Transact.{MayTransact, IsTxnAnswer, contexts_of, stage_of};
 
 use crate::gate::Gate;
 use crate::telling::Telling;
@@ -75,11 +75,9 @@ pub fn transact<R: Wait, G: Gate>(
     gate: &G,
     txn: Txn,
 ) -> (Pass, Result<Receipt, TxnFault>)
-    requires home { IsAtHome pass world.now }
-    requires fits { Fits (length world.now.first) (transaction_of txn) }
+    requires { MayTransact (transaction_of txn) pass world.now }
     ensures home { IsAtHome result.0 world.now }
-    ensures ok { IfOk result.1 (IsTransacted pass result.0 (transaction_of txn)) }
-    ensures err { IfErr result.1 (IsTxnFault ToTheEnd pass (transaction_of txn) result.0) }
+    ensures answer { IsTxnAnswer ToTheEnd pass (transaction_of txn) result.0 result.1 }
     ensures gate { OnOk result.1 (G.is_answered gate.now pass.caller (length pass.own)) }
 {
     let mut telling = Telling::new(gate, pass.caller(), pass.commits());
@@ -98,12 +96,10 @@ pub fn transact_interruptible<R: Wait, G: Gate>(
     gate: &G,
     txn: Txn,
 ) -> (Pass, Result<Receipt, TxnFault>)
-    requires home { IsAtHome pass world.now }
-    requires fits { Fits (length world.now.first) (transaction_of txn) }
+    requires may { MayTransact (transaction_of txn) pass world.now }
     requires context { contexts_of (transaction_of txn) ≡ 1 }
     ensures home { IsAtHome result.0 world.now }
-    ensures ok { IfOk result.1 (IsTransacted pass result.0 (transaction_of txn)) }
-    ensures err { IfErr result.1 (IsTxnFault UntilCancelled pass (transaction_of txn) result.0) }
+    ensures answer { IsTxnAnswer UntilCancelled pass (transaction_of txn) result.0 result.1 }
     ensures gate { OnOk result.1 (G.is_answered gate.now pass.caller (length pass.own)) }
 {
     let mut telling = Telling::new(gate, pass.caller(), pass.commits());
@@ -119,16 +115,11 @@ fn transact_together<R: Wait, G: Gate>(
     txn: Txn,
     waits: Waits,
 ) -> (Pass, Result<Receipt, TxnFault>)
-    requires home { IsAtHome pass world.now }
-    requires untold { telling.old.stage ≡ Untold }
-    requires fits { Fits (length world.now.first) (transaction_of txn) }
-    requires one { contexts_of (transaction_of txn) ≡ 1 }
+    requires may { MayTransact (transaction_of txn) pass world.now × (contexts_of (transaction_of txn) ≡ 1) × (telling.old.stage ≡ Untold) }
     ensures home { IsAtHome result.0 world.now }
-    ensures ok { IfOk result.1 (IsTransacted pass result.0 (transaction_of txn)) }
-    ensures err { IfErr result.1 (IsTxnFault waits pass (transaction_of txn) result.0) }
-    ensures told { OnOk result.1 (G.is_answered telling.old.gate.now telling.old.caller telling.old.seq) }
-    ensures once { OnOk result.1 (telling.new ≡ record telling.old { stage = Answered }) }
-    ensures untold { OnErr result.1 (telling.new ≡ telling.old) }
+    ensures answer { IsTxnAnswer waits pass (transaction_of txn) result.0 result.1 }
+    ensures gate { OnOk result.1 (G.is_answered telling.old.gate.now telling.old.caller telling.old.seq) }
+    ensures told { telling.new ≡ record telling.old { stage = stage_of result.1 } }
 {
     let mut done = match lock_all(world, pass, rt, &txn, waits) {
         Ok(done) => done,
@@ -153,15 +144,11 @@ fn transact_alone<R: Wait, G: Gate>(
     telling: &mut Telling<G>,
     node: u8,
 ) -> (Pass, Result<Receipt, TxnFault>)
-    requires home { IsAtHome pass world.now }
-    requires untold { telling.old.stage ≡ Untold }
-    requires node { node < length world.now.first }
+    requires may { MayTransact (peek node) pass world.now × (telling.old.stage ≡ Untold) }
     ensures home { IsAtHome result.0 world.now }
-    ensures ok { IfOk result.1 (IsTransacted pass result.0 (peek node)) }
-    ensures err { IfErr result.1 (IsTxnFault ToTheEnd pass (peek node) result.0) }
-    ensures told { OnOk result.1 (G.is_answered telling.old.gate.now telling.old.caller telling.old.seq) }
-    ensures once { OnOk result.1 (telling.new ≡ record telling.old { stage = Answered }) }
-    ensures untold { OnErr result.1 (telling.new ≡ telling.old) }
+    ensures answer { IsTxnAnswer ToTheEnd pass (peek node) result.0 result.1 }
+    ensures gate { OnOk result.1 (G.is_answered telling.old.gate.now telling.old.caller telling.old.seq) }
+    ensures told { telling.new ≡ record telling.old { stage = stage_of result.1 } }
 {
     let mut solo = match pass.lock_solo(rt, world, node) {
         Ok(solo) => solo,

@@ -1,33 +1,23 @@
 //! Which way the locks of a transaction are taken.
 
-ghost use Rattle.std.specs.Prelude.{◌≡◌, ◌≤◌, ◌<◌, ◌∷◌, [], length, map, None, IfOk, IfErr, IfSome};
-ghost use Rattle.std.specs.List.{AllByRecursion};
-ghost use Rattle.ww_plain.specs.Transaction.{transaction_of, listed, Fits, FirstDouble};
+ghost use Rattle.std.specs.Prelude.{◌≡◌, ◌≤◌, ◌<◌, ◌∷◌, [], length, map, IfSome};
+ghost use Rattle.ww_plain.specs.Transaction.{transaction_of, listed};
 ghost use Rattle.ww_plain.specs.Footprint.{with_target};
 ghost use Rattle.ww_lock.specs.Holding.{IsAtHome};
-ghost use Rattle.ww_users.specs.Ways.{IsContext, HoldsExactly, IsUserFault};
-ghost use Rattle.ww_txn.specs.Transact.{IsReady};
+ghost use Rattle.ww_users.specs.Ways.{MayTake, HoldsExactly, IsWayAnswer, IsOrderAnswer};
+ghost use Rattle.ww_txn.specs.Transact.{MayTransact, IsReady};
 
 use arrayvec::ArrayVec;
 use std::sync::Wait;
-use ww_lock::{Done, Pass, Waits, World};
+use ww_lock::{Pass, Waits, World};
 use ww_plain::{By, MAX_NODES, Txn};
-use ww_users::{UserFault, lock_list_as, lock_order_as, lock_walk_as};
+use ww_users::{Taken, lock_list_as, lock_order_as, lock_walk_as};
 
 /// Takes a transaction's locks in a context. Get and Add name their way, Sum and Reverse use the walk, all others the
 /// fixed list.
-#[tactic(auto, using(ww_plain::proofs::Members::different_none))]
-pub(crate) fn lock_all<R: Wait>(
-    world: &World,
-    pass: Pass,
-    rt: &R,
-    txn: &Txn,
-    waits: Waits,
-) -> Result<Done, (Pass, UserFault)>
-    requires home { IsAtHome pass world.now }
-    requires fits { Fits (length world.now.first) (transaction_of txn.now) }
-    ensures ok { IfOk result (IsReady pass (transaction_of txn.now)) }
-    ensures err { IfErr result (λ e. IsUserFault waits pass (listed (transaction_of txn.now)) e.0 e.1) }
+pub(crate) fn lock_all<R: Wait>(world: &World, pass: Pass, rt: &R, txn: &Txn, waits: Waits) -> Taken
+    requires { MayTransact (transaction_of txn.now) pass world.now }
+    ensures { IsWayAnswer waits pass (listed (transaction_of txn.now)) (IsReady (transaction_of txn.now)) result }
 {
     match txn {
         Txn::Get(by, nodes) => lock_by(world, pass, rt, *by, nodes, waits),
@@ -43,22 +33,10 @@ pub(crate) fn lock_all<R: Wait>(
 }
 
 /// Takes the locks of a list by the way that is named.
-fn lock_by<R: Wait>(
-    world: &World,
-    pass: Pass,
-    rt: &R,
-    by: By,
-    list: &[u8],
-    waits: Waits,
-) -> Result<Done, (Pass, UserFault)>
-    requires home { IsAtHome pass world.now }
-    requires some { 1 ≤ length list.now }
+fn lock_by<R: Wait>(world: &World, pass: Pass, rt: &R, by: By, list: &[u8], waits: Waits) -> Taken
+    requires may { MayTake list.now pass world.now }
     requires few { length list.now ≤ MAX_NODES }
-    requires nodes { AllByRecursion (λ n. n < length world.now.first) list.now }
-    ensures context { IfOk result (IsContext pass) }
-    ensures holds { IfOk result (HoldsExactly list.now) }
-    ensures no_double { IfOk result (λ _. FirstDouble list.now None) }
-    ensures err { IfErr result (λ e. IsUserFault waits pass list.now e.0 e.1) }
+    ensures { IsOrderAnswer waits pass list.now result }
 {
     match by {
         By::List => lock_list_as(world, pass, rt, list, waits),
@@ -74,13 +52,10 @@ fn lock_link<R: Wait>(
     node: u8,
     target: Option<u8>,
     waits: Waits,
-) -> Result<Done, (Pass, UserFault)>
+) -> Taken
     requires home { IsAtHome pass world.now }
-    requires node { node < length world.now.first }
-    requires target { IfSome target (λ t. t < length world.now.first) }
-    ensures context { IfOk result (IsContext pass) }
-    ensures holds { IfOk result (HoldsExactly (with_target (node ∷ []) target)) }
-    ensures err { IfErr result (λ e. IsUserFault waits pass [] e.0 e.1) }
+    requires nodes { (node < length world.now.first) × IfSome target (λ t. t < length world.now.first) }
+    ensures { IsWayAnswer waits pass [] (HoldsExactly (with_target (node ∷ []) target)) result }
 {
     match target {
         Some(target) if target != node => lock_list_as(world, pass, rt, &[node, target], waits),

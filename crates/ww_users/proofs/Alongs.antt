@@ -11,7 +11,8 @@ use Rattle.ww_plain.proofs.Fronts.{IsFront, front_of_one, front_more, front_ends
 use Rattle.ww_plain.proofs.Frames.{is_among-joined}
 use Rattle.ww_plain.proofs.Walks.{only_walk}
 use Rattle.ww_lock.specs.Holding.{Holding}
-use Rattle.ww_users.specs.Trips.{IsSameContext, HasLocked, HoldsWalk}
+use Rattle.ww_users.specs.Ways.{IsSameContext, HoldsWalk}
+use Rattle.ww_users.specs.Trips.{HasLocked}
 use Rattle.ww_users.proofs.Contexts.{same_later}
 
 -- the context a came from s along these nodes of a walk; all of them are held, and the port of the last leads to the stop
@@ -37,12 +38,12 @@ front_agrees graph other start p most (v ∷ ws) stop agree h =
     let both = follows_agrees graph other p v ws agree h.follows in
     record { begins = h.begins; different = h.different; follows = both.0; short = h.short; leads = h.leads ∙ both.1 }
 
-pub along_begins : (s a : Holding) (start p most : ℕ) (vs : List ℕ) (stop : Option ℕ) → HasLocked s start a
+pub along_begins : {a : Holding} {start : ℕ} {s : Holding} {p most : ℕ} (vs : List ℕ) (stop : Option ℕ) → HasLocked s start a
     → 1 ≤ most → vs ≡ start ∷ [] → stop ≡ port_of a.seen start p → IfSome stop (λ n. n < length s.seen)
     → IsAlong s a start p most vs stop
-along_begins s a start p most vs stop locked some is leads there = rw is (record {
+along_begins {a} {start} vs stop locked some is leads there = rw is (record {
   same = locked.same;
-  front = front_of_one a.seen start p most stop some leads;
+  front = front_of_one _ _ _ _ stop some leads;
   held = λ n e. elim (or_cases (eqb start n) false e) [
     | inl same ↦ subst (λ (m : ℕ). is_among m a.held ≡ true) (same_from_eqb start n same) locked.holds
     | inr none
@@ -52,22 +53,22 @@ along_begins s a start p most vs stop locked some is leads there = rw is (record
 })
 
 -- one lock more, of any node
-pub along_locks : (s a b : Holding) (start p most n : ℕ) (vs : List ℕ) (stop : Option ℕ)
+pub along_locks : {s a b : Holding} {start p most n : ℕ} {vs : List ℕ} {stop : Option ℕ}
     → IsAlong s a start p most vs stop → HasLocked a n b → IsAlong s b start p most vs stop
-along_locks s a b start p most n vs stop h locked = record {
-  same = same_later s a b h.same locked.same;
-  front = front_agrees a.seen b.seen start p most vs stop (λ m e. locked.contents m (h.held m e)) h.front;
+along_locks h locked = record {
+  same = same_later h.same locked.same;
+  front = front_agrees _ _ _ _ _ _ _ (λ m e. locked.contents m (h.held m e)) h.front;
   held = λ m e. locked.keeps m (h.held m e);
   there = h.there;
 }
 
 -- the stop is held and new, and the walk goes on from it
-pub along_goes_on : (s a : Holding) (start p most n : ℕ) (vs new : List ℕ) (stop next : Option ℕ)
+pub along_goes_on : {a s : Holding} {start p most : ℕ} {new : List ℕ} {stop next : Option ℕ} (vs : List ℕ) (n : ℕ)
     → IsAlong s a start p most vs stop → GoesOnTo vs most stop n → is_among n a.held ≡ true → new ≡ vs ++ n ∷ []
     → next ≡ port_of a.seen n p → IfSome next (λ m. m < length s.seen) → IsAlong s a start p most new next
-along_goes_on s a start p most n vs new stop next h goes holds pushed leads there = record {
+along_goes_on {a} vs n h goes holds pushed leads there = record {
   same = h.same;
-  front = rw leads (front_more a.seen start p most vs new stop n h.front goes pushed);
+  front = rw leads (front_more _ _ _ _ vs _ _ n h.front goes pushed);
   held = λ m e. elim (or_cases (is_among m vs) (is_among m (n ∷ []))
       (sym (is_among-append m vs (n ∷ [])) ∙ ap (is_among m) (sym pushed) ∙ e)) [
         | inl before ↦ h.held m before
@@ -94,9 +95,9 @@ stop_held held vs (Some t) each last =
       | inr same ↦ subst (λ (m : ℕ). is_among m held ≡ true) (same_from_eqb t n same) last
     ])
 
-pub along_ends : (s a : Holding) (start p most : ℕ) (vs : List ℕ) (stop : Option ℕ)
+pub along_ends : {a : Holding} {start p most : ℕ} {s : Holding} (vs : List ℕ) (stop : Option ℕ)
     → IsAlong s a start p most vs stop → IsEnd vs most stop → IfSome stop (λ n. is_among n a.held ≡ true)
-    → HoldsWalk start p most a
-along_ends s a start p most vs stop h ends last =
+    → IsSameContext s a × HoldsWalk start p most a
+along_ends {a} {start} {p} {most} vs stop h ends last =
     let walk : vs ≡ walk_of a.seen start p most = only_walk a.seen start p most vs (front_ends a.seen start p most vs stop h.front ends) in
-    rw (← walk, ← h.front.leads) (stop_held a.held vs stop h.held last)
+    (h.same, rw (← walk, ← h.front.leads) (stop_held a.held vs stop h.held last))

@@ -1,25 +1,31 @@
 -- A trip through a list: what is held is what was kept, and the entries so far.
-use Rattle.std.proofs.Common.{◌≡◌, ℕ, suc, ◌+◌, ◌<◌, ◌≤◌, ◌||◌, ◌⊎◌, Bool, true, false, not, eqb, inl, inr, List, [], ◌∷◌, ◌++◌, length, take, drop, get_or, Option, Some, None, IfSome, refl, sym, ap, subst, ◌∙◌, append_assoc, drop-cons}
+use Rattle.std.proofs.Common.{◌≡◌, ℕ, suc, ◌+◌, ◌<◌, ◌||◌, ◌⊎◌, Bool, false, true, not, eqb, inl, inr, List, [], ◌∷◌, ◌++◌, length, take, drop, get_or, Option, Some, None, IfSome, refl, sym, ap, subst, ◌∙◌, append_assoc, drop-cons}
 use Rattle.std.specs.List.{filter}
-use Rattle.std.proofs.lemmas.List.Elements.{filter-append}
-use Rattle.std.proofs.lemmas.List.{append-nil}
 use Rattle.std.specs.Option.{option_eq}
-use Rattle.std.proofs.lemmas.List.{take_all, take_more, take-append-drop}
+use Rattle.std.proofs.lemmas.List.Elements.{filter-append}
+use Rattle.std.proofs.lemmas.List.{append-nil, take_more, take-append-drop}
 use Rattle.std.proofs.lemmas.Option.{slice_get-get_or}
 use Rattle.std.proofs.lemmas.List.Sorted.{IsPermutation-to_front, list_any-IsPermutation}
 use Rattle.std.proofs.lemmas.Map.Keys.{any_passes_from_place}
 use Rattle.ww_plain.specs.Numbers.{is_among, AreDifferent}
-use Rattle.ww_plain.specs.Transaction.{IsFirstDouble, FirstDouble}
-use Rattle.ww_plain.proofs.Members.{or_cases, or_false, same_from_eqb, eqb_same, eqb_comm, is_among-append, different_none, different_push, different_head, different_tail}
+use Rattle.ww_plain.specs.Transaction.{IsFirstDouble}
+use Rattle.ww_plain.proofs.Members.{or_false, same_from_eqb, eqb_same, eqb_comm, is_among-append, different_none, different_push, different_head, different_tail}
 use Rattle.ww_lock.specs.Holding.{Holding, Refused}
 use Rattle.ww_lock.specs.Moves.{IsTaken, IsRefused}
-use Rattle.ww_users.specs.Ways.{HoldsExactly, in_order}
-use Rattle.ww_users.specs.Trips.{IsSameContext, HoldsKept, IsContended, kept_nodes}
-use Rattle.ww_users.proofs.Contexts.{same_later, same_taken, same_backed_off}
+use Rattle.ww_users.specs.Ways.{IsSameContext, in_order}
+use Rattle.ww_users.specs.Trips.{HoldsKept, IsContended, kept_nodes}
+use Rattle.ww_users.proofs.Contexts.{same_itself, same_later, same_taken}
 
--- what was kept at first is still kept, or its entry was skipped
-abbrev pub IsLeft : Option ℕ → Option ℕ → Type 0
-IsLeft first kept = (kept ≡ first) ⊎ (kept ≡ None)
+-- ---- a list, up to an entry
+
+pub take_next : (list : List ℕ) (position n : ℕ) → position < length list → n ≡ get_or list position 0
+    → take (position + 1) list ≡ take position list ++ n ∷ []
+take_next list position n lt is = take_more list position 0 lt ∙ ap (λ m. take position list ++ m ∷ []) (sym is)
+
+pub parts_at : (list : List ℕ) (position n : ℕ) → position < length list → n ≡ get_or list position 0
+    → list ≡ take position list ++ n ∷ drop (suc position) list
+parts_at list position n lt is = sym (take-append-drop position list) ∙ ap (λ ns. take position list ++ ns)
+    (drop-cons list position 0 lt ∙ ap (λ m. m ∷ drop (suc position) list) (sym is))
 
 -- an entry that isn't the one kept is the last in order
 order_more : (first : Option ℕ) (ns : List ℕ) (n : ℕ) → is_among n (in_order first ns) ≡ false
@@ -37,137 +43,102 @@ order_skips k ns =
     ap (λ ms. k ∷ ms) (filter-append (λ m. not (eqb m k)) ns (k ∷ [])
     ∙ ap (λ ms. filter (λ m. not (eqb m k)) ns ++ ms) none ∙ append-nil (filter (λ m. not (eqb m k)) ns))
 
--- The context a came from s on the way to this position of the list, having kept `first`; so much is still kept for an entry
--- to come.
-pub record IsOnTheWay (first : Option ℕ) (s a : Holding) (list : List ℕ) (position : ℕ) (kept : Option ℕ) : Type 0 where
-  pub same : IsSameContext s a
-  pub order : a.held ≡ in_order first (take position list)
-  pub left : IsLeft first kept
-  pub held : (n : ℕ) → is_among n a.held ≡ is_among n (kept_nodes kept ++ take position list)
-  pub once : AreDifferent (kept_nodes kept ++ take position list)
-  pub listed : IfSome kept (λ n. is_among n list ≡ true)
+-- ---- the way through it
 
-pub way_begins : (kept : Option ℕ) (s : Holding) (list : List ℕ) → HoldsKept kept list s → IsOnTheWay kept s s list 0 kept
-way_begins None s list h = record {
-  same = record { rest = refl; told = refl; size = refl };
-  order = h.held;
+-- The context a came from s past these entries, having kept `first`; so much is still kept for an entry to come.
+pub record IsPast (first : Option ℕ) (s a : Holding) (past : List ℕ) (kept : Option ℕ) : Type 0 where
+  pub same : IsSameContext s a
+  pub order : a.held ≡ in_order first past
+  pub left : (kept ≡ first) ⊎ (kept ≡ None)
+  pub held : (n : ℕ) → is_among n a.held ≡ is_among n (kept_nodes kept ++ past)
+  pub once : AreDifferent (kept_nodes kept ++ past)
+
+pub way_begins : (kept : Option ℕ) (s : Holding) → s.held ≡ kept_nodes kept → IsPast kept s s [] kept
+way_begins None s held = record {
+  same = same_itself s;
+  order = held;
   left = inl refl;
-  held = λ n. ap (is_among n) h.held;
+  held = λ n. ap (is_among n) held;
   once = different_none;
-  listed = tt;
 }
-way_begins (Some k) s list h = record {
-  same = record { rest = refl; told = refl; size = refl };
-  order = h.held;
+way_begins (Some k) s held = record {
+  same = same_itself s;
+  order = held;
   left = inl refl;
-  held = λ n. ap (is_among n) h.held;
+  held = λ n. ap (is_among n) held;
   once = different_push [] k different_none refl;
-  listed = h.listed;
 }
 
 -- the entry is the node that was kept
-pub way_skips : (first : Option ℕ) (s a : Holding) (list : List ℕ) (position n : ℕ) (kept : Option ℕ)
-    → position < length list → n ≡ get_or list position 0 → IsOnTheWay first s a list position kept
-    → option_eq eqb kept (Some n) ≡ true → IsOnTheWay first s a list (position + 1) None
-way_skips first s a list position n None lt is h same = absurd cc
-way_skips first s a list position n (Some k) lt is h same =
-    let kept : k ≡ n = same_from_eqb k n same in
-    let more : take (position + 1) list ≡ take position list ++ k ∷ [] = take_more list position 0 lt
-    ∙ ap (λ m. take position list ++ m ∷ []) (sym (kept ∙ is)) in
-    let was : first ≡ Some k = elim h.left [ inl same ↦ sym same | inr none ↦ absurd cc ] in
+pub way_skips : (first : Option ℕ) {s a : Holding} (past : List ℕ) (n : ℕ) (kept : Option ℕ) → IsPast first s a past kept
+    → option_eq eqb kept (Some n) ≡ true → IsPast first s a (past ++ n ∷ []) None
+way_skips first past n None h same = absurd cc
+way_skips first past n (Some k) h same =
+    let was : first ≡ Some n = elim h.left [ inl same' ↦ sym same' ∙ ap Some (same_from_eqb k n same) | inr none ↦ absurd cc ] in
+    let once : AreDifferent (n ∷ past) = subst (λ m. AreDifferent (m ∷ past)) (same_from_eqb k n same) h.once in
     record {
       same = h.same;
-      order = h.order ∙ subst (λ (o : Option ℕ). in_order o (take position list)
-          ≡ in_order o (take position list ++ k ∷ [])) (sym was) (sym (order_skips k (take position list)))
-          ∙ ap (in_order first) (sym more);
+      order = h.order ∙ rw was (sym (order_skips n past));
       left = inr refl;
-      held = λ m. h.held m ∙ sym (list_any-IsPermutation (λ l. eqb l m) (take position list ++ k ∷ [])
-          (k ∷ take position list) (IsPermutation-to_front (take position list) k)) ∙ ap (is_among m) (sym more);
-      once = rw more (different_push (take position list) k (different_tail k (take position list) h.once)
-          (different_head k (take position list) h.once));
-      listed = tt;
+      held = λ m. h.held m ∙ ap (λ j. is_among m (j ∷ past)) (same_from_eqb k n same)
+          ∙ sym (list_any-IsPermutation (λ l. eqb l m) (past ++ n ∷ []) (n ∷ past) (IsPermutation-to_front past n));
+      once = different_push past n (different_tail n past once) (different_head n past once);
     }
 
-pub way_locks : (first : Option ℕ) (s a b : Holding) (list : List ℕ) (position n : ℕ) (kept : Option ℕ)
-    → position < length list → n ≡ get_or list position 0 → IsOnTheWay first s a list position kept → IsTaken a n b
-    → IsOnTheWay first s b list (position + 1) kept
-way_locks first s a b list position n kept lt is h taken =
-    let so_far = kept_nodes kept ++ take position list in
-    let more : take (position + 1) list ≡ take position list ++ n ∷ [] = take_more list position 0 lt
-    ∙ ap (λ m. take position list ++ m ∷ []) (sym is) in
-    let whole : kept_nodes kept ++ take (position + 1) list ≡ so_far ++ n ∷ [] =
-    ap (λ ns. kept_nodes kept ++ ns) more
-    ∙ sym (append_assoc (kept_nodes kept) (take position list) (n ∷ [])) in
+pub way_locks : (first : Option ℕ) {s a : Holding} (b : Holding) (past : List ℕ) (n : ℕ) (kept : Option ℕ)
+    → IsPast first s a past kept → IsTaken a n b → IsPast first s b (past ++ n ∷ []) kept
+way_locks first b past n kept h taken =
+    let whole : kept_nodes kept ++ past ++ n ∷ [] ≡ kept_nodes kept ++ (past ++ n ∷ []) = append_assoc (kept_nodes kept) past (n ∷ []) in
     record {
-      same = same_later s a b h.same (same_taken a b n taken);
+      same = same_later h.same (same_taken taken);
       order = ap (λ (c : Holding). c.held) taken.added ∙ ap (λ ns. ns ++ n ∷ []) h.order
-          ∙ order_more first (take position list) n (ap (is_among n) (sym h.order) ∙ taken.new)
-          ∙ ap (in_order first) (sym more);
+          ∙ order_more first past n (ap (is_among n) (sym h.order) ∙ taken.new);
       left = h.left;
-      held = λ m. ap (λ (c : Holding). is_among m c.held) taken.added ∙ is_among-append m a.held (n ∷ [])
-          ∙ ap (λ (here : Bool). here || is_among m (n ∷ [])) (h.held m) ∙ sym (is_among-append m so_far (n ∷ []))
-          ∙ ap (is_among m) (sym whole);
-      once = subst AreDifferent (sym whole) (different_push so_far n h.once (sym (h.held n) ∙ taken.new));
-      listed = h.listed;
+      held = λ m. ap (λ (c : Holding). is_among m c.held) taken.added ∙ is_among-append m _ (n ∷ [])
+          ∙ ap (λ (here : Bool). here || is_among m (n ∷ [])) (h.held m)
+          ∙ sym (is_among-append m (kept_nodes kept ++ past) (n ∷ [])) ∙ ap (is_among m) whole;
+      once = subst AreDifferent whole (different_push (kept_nodes kept ++ past) n h.once (sym (h.held n) ∙ taken.new));
     }
 
-parts_at : (list : List ℕ) (position n : ℕ) → position < length list → n ≡ get_or list position 0
-    → list ≡ take position list ++ n ∷ drop (suc position) list
-parts_at list position n lt is =
-    sym (take-append-drop position list) ∙ ap (λ ns. take position list ++ ns)
-    (drop-cons list position 0 lt ∙ ap (λ m. m ∷ drop (suc position) list) (sym is))
+past_once : (kept : Option ℕ) (past : List ℕ) → AreDifferent (kept_nodes kept ++ past) → AreDifferent past
+past_once None past once = once
+past_once (Some k) past once = different_tail k past once
 
--- the entry is held, and isn't the one that was kept
-pub way_doubles : (first : Option ℕ) (s a : Holding) (list : List ℕ) (position n : ℕ) (kept : Option ℕ)
-    → position < length list → n ≡ get_or list position 0 → IsOnTheWay first s a list position kept
-    → option_eq eqb kept (Some n) ≡ false → is_among n a.held ≡ true → IsFirstDouble list n
-way_doubles first s a list position n None lt is h other held = record {
+past_has : (kept : Option ℕ) (past : List ℕ) (n : ℕ) → option_eq eqb kept (Some n) ≡ false
+    → is_among n (kept_nodes kept ++ past) ≡ is_among n past
+past_has None past n other = refl
+past_has (Some k) past n other = rw other refl
+
+-- an entry that isn't the one kept is held where it stands before; all before it differ
+pub way_meets : {first : Option ℕ} {s a : Holding} (past : List ℕ) (n : ℕ) (kept : Option ℕ) → IsPast first s a past kept
+    → option_eq eqb kept (Some n) ≡ false → (is_among n past ≡ is_among n a.held) × AreDifferent past
+way_meets past n kept h other = (sym (h.held n ∙ past_has kept past n other), past_once kept past h.once)
+
+-- ... it is held
+pub way_doubles : (list : List ℕ) (position n : ℕ) → position < length list → n ≡ get_or list position 0
+    → is_among n (take position list) ≡ true → AreDifferent (take position list) → IsFirstDouble list n
+way_doubles list position n lt is earlier different = record {
   front = take position list;
   rest = drop (suc position) list;
   parts = parts_at list position n lt is;
-  different = h.once;
-  earlier = sym (h.held n) ∙ held;
-}
-way_doubles first s a list position n (Some k) lt is h other held = record {
-  front = take position list;
-  rest = drop (suc position) list;
-  parts = parts_at list position n lt is;
-  different = different_tail k (take position list) h.once;
-  earlier = elim (or_cases (eqb k n) (is_among n (take position list)) (sym (h.held n) ∙ held))
-      [ inl same ↦ absurd cc | inr there ↦ there ];
+  different = different;
+  earlier = earlier;
 }
 
-different_so_far : (ns : List ℕ) (n : ℕ) (kept : Option ℕ) → AreDifferent (kept_nodes kept ++ ns)
-    → is_among n (kept_nodes kept ++ ns) ≡ false → AreDifferent (ns ++ n ∷ [])
-different_so_far ns n None once absent = different_push ns n once absent
-different_so_far ns n (Some k) once absent = different_push ns n (different_tail k ns once) ((or_false (eqb k n) (is_among n ns) absent).1)
+-- ... it isn't, and its lock couldn't be got
+pub way_contended : (a : Holding) (b : Refused) (list : List ℕ) (position n : ℕ) → position < length list
+    → n ≡ get_or list position 0 → IsRefused a n b → (is_among n (take position list) ≡ is_among n a.held) × AreDifferent (take position list)
+    → IsContended list b position
+way_contended a b list position n lt is refused met = record {
+  there = lt;
+  entry = slice_get-get_or list position 0 lt ∙ ap Some (sym is ∙ sym refused.contended);
+  different = rw (take_next list position n lt is) (different_push (take position list) n met.1 (met.0 ∙ refused.new));
+}
 
-pub way_contended : (first : Option ℕ) (s a : Holding) (b : Refused) (list : List ℕ) (position n : ℕ)
-    (kept : Option ℕ) → position < length list → n ≡ get_or list position 0
-    → IsOnTheWay first s a list position kept → IsRefused a n b
-    → IsSameContext s b.holding × IsContended list b position
-way_contended first s a b list position n kept lt is h refused = (
-  same_later s a b.holding h.same (same_backed_off a b.holding refused.told),
-  record {
-    there = lt;
-    entry = slice_get-get_or list position 0 lt ∙ ap Some (sym is) ∙ ap Some (sym refused.contended);
-    different = rw (take_more list position 0 lt, ← is)
-        (different_so_far (take position list) n kept h.once (sym (h.held n) ∙ refused.new));
-  },
-)
-
-pub way_ends : (first : Option ℕ) (s a : Holding) (list : List ℕ) (position : ℕ) (kept : Option ℕ)
-    → length list ≤ position → IsOnTheWay first s a list position kept
-    → IsSameContext s a × HoldsExactly list a × FirstDouble list None × (a.held ≡ in_order first list)
-way_ends first s a list position None le h =
-    let all : take position list ≡ list = take_all position list le in
-    (h.same, λ n. h.held n ∙ ap (is_among n) all, subst AreDifferent all h.once, h.order ∙ ap (in_order first) all)
-way_ends first s a list position (Some k) le h =
-    let all : take position list ≡ list = take_all position list le in
-    let absent = different_head k (take position list) h.once in
-    let there = h.listed in
-    let here : is_among k list ≡ false = ap (is_among k) (sym all) ∙ absent in
-    absurd cc
+-- nothing is kept behind the last entry, since what was kept is one
+pub way_ends : (list : List ℕ) (kept : Option ℕ) → AreDifferent (kept_nodes kept ++ list) → (IfSome kept (λ n. is_among n list ≡ true)) → kept ≡ None
+way_ends list None once listed = refl
+way_ends list (Some k) once listed = absurd (let absent = different_head k list once in cc)
 
 -- the contended lock is held: the next trip skips its entry
 pub way_again : (a : Holding) (b : Refused) (list : List ℕ) (position n : ℕ) → IsContended list b position

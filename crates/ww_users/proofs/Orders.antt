@@ -1,8 +1,7 @@
 -- An entry is moved to the head of a list.
-use Rattle.std.proofs.Common.{◌≡◌, ℕ, suc, ◌+◌, ◌<◌, ◌⊎◌, inl, inr, eqb, List, [], ◌∷◌, ◌++◌, length, take, drop, get_or, Option, Some, None, refl, sym, ap, subst, ◌∙◌, append_assoc, drop-cons, arith}
+use Rattle.std.proofs.Common.{◌≡◌, ℕ, suc, ◌<◌, ◌⊎◌, inl, inr, eqb, List, [], ◌∷◌, ◌++◌, take, drop, Option, Some, None, refl, sym, ap, subst, ◌∙◌, append_assoc, arith}
 use Rattle.std.specs.List.{AllByRecursion, remove}
 use Rattle.std.specs.List.Sorted.{IsPermutation}
-use Rattle.std.proofs.lemmas.List.{take_more, take-append-drop}
 use Rattle.std.proofs.lemmas.Option.{get_or_from_slice_get}
 use Rattle.std.proofs.lemmas.List.Sorted.{IsPermutation-sym, IsPermutation-trans, IsPermutation-middle, IsPermutation-remove, IsPermutation-to_front, All-permutation, list_any-IsPermutation}
 use Rattle.std.proofs.lemmas.List.Elements.{recursion_from_All, All-from_recursion}
@@ -16,8 +15,9 @@ use Rattle.ww_lock.specs.Holding.{Holding, Refused}
 use Rattle.ww_lock.specs.Waits.{Waits}
 use Rattle.ww_users.specs.declared.fault.UserFault.{UserFault}
 use Rattle.ww_users.specs.declared.fault.UserFault.TheVariants.{PassSpent, Already, Interrupted}
-use Rattle.ww_users.specs.Ways.{IsUserFault}
+use Rattle.ww_users.specs.Ways.{IsRefusal}
 use Rattle.ww_users.specs.Trips.{HoldsKept, IsContended, IsReordered}
+use Rattle.ww_users.proofs.Entries.{take_next, parts_at}
 
 different_moved : (ns ms : List ℕ) → IsPermutation ns ms → AreDifferent ns → AreDifferent ms
 different_moved ns ms moved different = IsDistinct-IsPermutation eqb flips ns ms moved different
@@ -72,44 +72,30 @@ double_before ms ks n (Some m) different h =
           absurd (no_double_is_none (n ∷ ms) (Some m) first refl head_first)
     ]
 
--- the entry of this position is moved to the head, and all up to it differ
-order_later : (list order : List ℕ) (position n : ℕ) → position < length order → n ≡ get_or order position n
-    → AreDifferent (take (position + 1) order) → IsReordered list order
-    → IsReordered list (n ∷ remove order position)
-order_later list order position n lt is different h =
-    let front : take (position + 1) order ≡ take position order ++ n ∷ [] = take_more order position n lt
-    ∙ ap (λ m. take position order ++ m ∷ []) (sym is) in
-    let whole : order ≡ take position order ++ n ∷ drop (suc position) order = sym (take-append-drop position order)
-    ∙ ap (λ ns. take position order ++ ns)
-    (drop-cons order position n lt ∙ ap (λ m. m ∷ drop (suc position) order) (sym is)) in
-    record {
-      moved = IsPermutation-trans list order (n ∷ remove order position) h.moved (IsPermutation-remove order position n lt is);
-      double = λ d first. h.double d (subst (λ (ns : List ℕ). FirstDouble ns d) (sym whole)
-          (double_before (take position order) (drop (suc position) order) n d (subst AreDifferent front different)
-          first));
-    }
-
--- so the trip goes on behind it
-pub order_goes_on : (list order new : List ℕ) (position n : ℕ) (b : Refused) (a : Holding) → IsReordered list order
-    → IsContended order b position → n ≡ b.contended → new ≡ n ∷ remove order position
-    → a.held ≡ b.contended ∷ []
-    → HoldsKept (Some n) new a × IsReordered list new
-order_goes_on list order new position n b a h met is moved alone =
-    let there : n ≡ get_or order position n = is ∙ sym (get_or_from_slice_get order position b.contended n met.entry) in
-    rw moved (
+-- the entry of this position is moved to the head, and all up to it differ: the trip goes on behind it
+pub order_goes_on : (list order : List ℕ) (position : ℕ) (b : Refused) (a : Holding) → IsReordered list order
+    → IsContended order b position → a.held ≡ b.contended ∷ []
+    → HoldsKept (Some b.contended) (b.contended ∷ remove order position) a × IsReordered list (b.contended ∷ remove order position)
+order_goes_on list order position b a h met alone =
+    let n = b.contended in
+    let is = sym (get_or_from_slice_get order position n 0 met.entry) in
+    let front = take_next order position n met.there is in
+    let whole = parts_at order position n met.there is in (
+      record { held = alone; listed = is_among-head n (remove order position) },
       record {
-        held = alone ∙ ap (λ m. m ∷ []) (sym is);
-        listed = is_among-head n (remove order position);
+        moved = IsPermutation-trans list order (n ∷ remove order position) h.moved (IsPermutation-remove order position n met.there
+            (sym (get_or_from_slice_get order position n n met.entry)));
+        double = λ d first. h.double d (subst (λ (ns : List ℕ). FirstDouble ns d) (sym whole)
+            (double_before (take position order) (drop (suc position) order) n d (subst AreDifferent front met.different) first));
       },
-      order_later list order position n met.there there met.different h,
     )
 
 -- why the nodes of the reordered list weren't locked is why those of the list weren't
-pub order_fault : (waits : Waits) (s p : Holding) (list order : List ℕ) (fault : UserFault) → IsReordered list order
-    → IsUserFault waits s order p fault → IsUserFault waits s list p fault
-order_fault waits s p list order PassSpent h why = why
-order_fault waits s p list order (Already n) h why = (h.double (Some n) why.0, why.1)
-order_fault waits s p list order (Interrupted by) h why = why
+pub order_refused : (waits : Waits) (s p : Holding) (list order : List ℕ) (fault : UserFault) → IsReordered list order
+    → IsRefusal waits s order p fault → IsRefusal waits s list p fault
+order_refused waits s p list order PassSpent h why = why
+order_refused waits s p list order (Already n) h why = ((h.double (Some n) why.0.0, why.0.1), why.1)
+order_refused waits s p list order (Interrupted by) h why = why
 
 pub order_among : (list order : List ℕ) (n : ℕ) → IsReordered list order → is_among n order ≡ is_among n list
 order_among list order n h = sym (list_any-IsPermutation (λ m. eqb m n) list order h.moved)

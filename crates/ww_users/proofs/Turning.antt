@@ -1,83 +1,62 @@
 -- What holds of each round of a body, and of what its rounds come to.
-use Rattle.std.proofs.Common.{◌≡◌, ℕ, ◌∷◌, [], List, refl, sym, ap, subst, ◌∙◌, inr}
+use Rattle.std.proofs.Common.{◌≡◌, ℕ, ◌∷◌, [], List, refl, ap, subst, ◌∙◌, inr}
 use Rattle.ww_lock.specs.Holding.{Holding, Setting, IsAtHome}
-use Rattle.ww_lock.specs.Moves.{IsTaken, IsInterrupted, emptied}
-use Rattle.ww_users.specs.Turns.{KeepsContext, StartsTurn, IsOneMore, IsHaltedBy}
+use Rattle.ww_lock.specs.Moves.{IsTaken, IsInterrupted, emptied, interrupted_by}
+use Rattle.ww_users.specs.Ways.{with_locks_of}
+use Rattle.ww_users.specs.Turns.{KeepsContext, StartsTurn, IsOneMore, IsHaltedBy, IsPutOff}
 use Rattle.ww_users.proofs.Contexts.{same_taken}
 
-keeps_home : (s a : Holding) (w : Setting) → KeepsContext s a → IsAtHome s w → IsAtHome a w
-keeps_home s a w h home = record {
+keeps_home : {s a : Holding} {w : Setting} → KeepsContext s a → IsAtHome s w → IsAtHome a w
+keeps_home h home = record {
   home = ap (λ (c : Holding). c.home) h.rest ∙ home.home;
   size = h.size ∙ home.size;
   number = rw (ap (λ (c : Holding). c.caller) h.rest) home.number;
 }
 
-keeps_later : (s a b : Holding) → KeepsContext s a → KeepsContext a b → KeepsContext s b
-keeps_later s a b h more = record {
-  rest = more.rest ∙ ap (λ (c : Holding).
-      record c { held = b.held; seen = b.seen; tries = b.tries; takes = b.takes; deaths = b.deaths; deaf = b.deaf }) h.rest;
-  size = more.size ∙ h.size;
-}
+keeps_later : {s a b : Holding} → KeepsContext s a → KeepsContext a b → KeepsContext s b
+keeps_later {s} {a} {b} h more = record { rest = more.rest ∙ ap (with_locks_of b) h.rest; size = more.size ∙ h.size }
+
+keeps_taken : (b c : Holding) (n : ℕ) → IsTaken (emptied b) n c → KeepsContext b c
+keeps_taken b c n taken = let same = same_taken taken in record { rest = same.rest; size = same.size }
 
 -- a round after a back-off starts with the contended lock alone
-pub starts_again : (s a b c : Holding) (n : ℕ) (w : Setting) → StartsTurn s w a → KeepsContext a b
+pub starts_again : {s a b c : Holding} {n : ℕ} {w : Setting} → StartsTurn s w a → KeepsContext a b
     → IsTaken (emptied b) n c → c.held ≡ n ∷ [] → StartsTurn s w c
-starts_again s a b c n w starts turn taken alone =
-    let again = same_taken (emptied b) c n taken in
-    let same : KeepsContext a c = keeps_later a b c turn (record { rest = again.rest; size = again.size }) in record {
-      home = keeps_home a c w same starts.home;
-      same = keeps_later s a c starts.same same;
-      held = inr (n, alone);
-    }
+starts_again starts turn taken alone = let same = keeps_later turn (keeps_taken _ _ _ taken) in
+    record { home = keeps_home same starts.home; same = keeps_later starts.same same; held = inr (_, alone) }
 
 -- ---- a body of `lock_until_interruptible`
 
-halted_home_by : (s a : Holding) (by : ℕ) (w : Setting) → IsHaltedBy s by a → IsAtHome s w → IsAtHome a w
-halted_home_by s a by w h home = record {
-  home = ap (λ (c : Holding). c.home) h.rest ∙ home.home;
-  size = h.size ∙ home.size;
-  number = rw (ap (λ (c : Holding). c.caller) h.rest) home.number;
-}
+halted_home : {s a : Holding} {w : Setting} {by : ℕ} → IsHaltedBy s by a → IsAtHome s w → IsAtHome a w
+halted_home h home = keeps_home h.same (record { home = home.home; size = home.size; number = home.number })
 
--- the back-off was called off
-back_halted_by : (s a : Holding) (n by : ℕ) → IsInterrupted (emptied s) n by a → IsHaltedBy s by a
-back_halted_by s a n by h = subst (IsHaltedBy s by) (sym h.told) (record { rest = refl; told = (refl, refl); size = refl })
-
-halted_later_by : (s a b : Holding) (by : ℕ) → KeepsContext s a → IsHaltedBy a by b → IsHaltedBy s by b
-halted_later_by s a b by h more = record {
-  rest = more.rest ∙ ap (λ (c : Holding).
-      record c {
-        held = b.held;
-        seen = b.seen;
-        tries = b.tries;
-        takes = b.takes;
-        deaths = b.deaths;
-        deaf = b.deaf;
-        interrupted = b.interrupted;
-      }) h.rest;
+halted_later : {s a b : Holding} {by : ℕ} → KeepsContext s a → IsHaltedBy a by b → IsHaltedBy s by b
+halted_later {s} {a} {b} {by} h more = record {
+  same = record {
+    rest = more.same.rest ∙ ap (λ (c : Holding). with_locks_of b (record c { interrupted = b.interrupted })) h.rest;
+    size = more.same.size ∙ h.size;
+  };
   told = subst (λ (l : List (ℕ × ℕ)). IsOneMore by l b.interrupted) (ap (λ (c : Holding). c.interrupted) h.rest) more.told;
-  size = more.size ∙ h.size;
 }
 
 -- the body was called off, in a context that starts a round; all is released, and it is a pass
-pub turn_halted : (s a b p : Holding) (by : ℕ) (w : Setting) → StartsTurn s w a → IsHaltedBy a by b
-    → p ≡ record b { held = []; stamp = 0 } → IsHaltedBy (record s { stamp = 0 }) by p × IsAtHome p w
-turn_halted s a b p by w starts h is =
-    let home = halted_home_by a b by w h starts.home in
-    let halted = halted_later_by s a b by starts.same h in
-    subst (λ (c : Holding). IsHaltedBy (record s { stamp = 0 }) by c × IsAtHome c w) (sym is) (
-      record {
-        rest = ap (λ (c : Holding). record c { held = []; stamp = 0 }) halted.rest;
+pub turn_halted : {s a b : Holding} {w : Setting} {by : ℕ} (p : Holding) → StartsTurn s w a → IsHaltedBy a by b
+    → p ≡ record b { held = []; stamp = 0 } → IsPutOff s w by p
+turn_halted p starts h is =
+    let halted = halted_later starts.same h in
+    let home = halted_home h starts.home in
+    rw is (record {
+      home = record { home = home.home; size = home.size; number = home.number };
+      halted = record {
+        same = record { rest = ap (λ (c : Holding). record c { held = []; stamp = 0 }) halted.same.rest; size = halted.same.size };
         told = halted.told;
-        size = halted.size;
-      },
-      record { home = home.home; size = home.size; number = home.number },
-    )
+      };
+      nothing = refl;
+    })
 
 -- ... or the back-off after it
-pub back_halted : (s a b c p : Holding) (n by : ℕ) (w : Setting) → StartsTurn s w a → KeepsContext a b
-    → IsInterrupted (emptied b) n by c → p ≡ record c { stamp = 0 }
-    → IsHaltedBy (record s { stamp = 0 }) by p × IsAtHome p w
-back_halted s a b c p n by w starts turn h is =
-    turn_halted s a c p by w starts (halted_later_by a b c by turn (back_halted_by b c n by h))
-    (is ∙ ap (λ (ns : List ℕ). record c { held = ns; stamp = 0 }) (ap (λ (d : Holding). d.held) h.told))
+pub back_halted : {b : Holding} {n by : ℕ} {s a c : Holding} {w : Setting} (p : Holding) → StartsTurn s w a → KeepsContext a b
+    → IsInterrupted (emptied b) n by c → p ≡ record c { stamp = 0 } → IsPutOff s w by p
+back_halted {b} {n} {by} p starts turn h is =
+    let halted : IsHaltedBy b by (interrupted_by b n by) = record { same = record { rest = refl; size = refl }; told = (refl, refl) } in
+    turn_halted p starts (halted_later turn halted) (is ∙ ap (λ (d : Holding). record d { stamp = 0 }) h.told)

@@ -3,26 +3,17 @@ use Rattle.std.specs.Prelude.{ℕ, ◌≡◌, ◌<◌, ◌+◌, ◌∷◌, [], L
 use Rattle.std.specs.List.Sorted.{IsPermutation}
 use Rattle.ww_plain.specs.Numbers.{is_among, AreDifferent}
 use Rattle.ww_plain.specs.Graph.{Agree}
-use Rattle.ww_plain.specs.Footprint.{walked}
 use Rattle.ww_plain.specs.Transaction.{FirstDouble}
-use Rattle.ww_plain.specs.Walk.{walk_of}
 use Rattle.ww_lock.specs.Waits.{Waits}
 use Rattle.ww_lock.specs.Waits.TheVariants.{UntilCancelled}
-use Rattle.ww_lock.specs.Holding.{Holding, Refused, Holds}
+use Rattle.ww_lock.specs.Holding.{Holding, Refused}
 use Rattle.ww_lock.specs.Moves.{interrupted_by}
 use Rattle.ww_lock.specs.declared.interruptible.Halt.{Halt}
 use Rattle.ww_lock.specs.declared.interruptible.Halt.TheVariants as halt
 use Rattle.ww_users.specs.declared.trip.Trip.{Trip}
 use Rattle.ww_users.specs.declared.trip.Trip.TheVariants.{Through, Deadlk, Failed}
-use Rattle.ww_users.specs.declared.fault.UserFault.{UserFault}
 use Rattle.ww_users.specs.declared.fault.UserFault.TheVariants.{PassSpent, Already, Interrupted}
-use Rattle.ww_users.specs.Ways.{IsToldOfEach, IsWalkFault, HoldsExactly, in_order}
-
--- the same context, which may hold other locks; each try more to take one ended with the lock, or with EDEADLK
-pub record IsSameContext (s a : Holding) : Type 0 where
-  pub rest : a ≡ record s { held = a.held; seen = a.seen; tries = a.tries; takes = a.takes; deaths = a.deaths; deaf = a.deaf }
-  pub told : IsToldOfEach s a
-  pub size : length a.seen ≡ length s.seen
+use Rattle.ww_users.specs.Ways.{IsSameContext, HoldsList, in_order}
 
 -- the same context, which holds this node too; what it held before is as it was
 pub record HasLocked (s : Holding) (n : ℕ) (a : Holding) : Type 0 where
@@ -58,22 +49,13 @@ IsHalt waits s (halt.Interrupted a by) = IsHalted waits s by a
 
 -- How a trip through a list ended: with all of it locked in order, with EDEADLK, at its first duplicate, or cancelled.
 abbrev pub IsTrip : Waits → Holding → List ℕ → Option ℕ → Trip → Type 0
-IsTrip waits s list kept (Through a) = IsSameContext s a × HoldsExactly list a × FirstDouble list None × (a.held ≡ in_order kept list)
+IsTrip waits s list kept (Through a) = IsSameContext s a × HoldsList list a × (a.held ≡ in_order kept list)
 IsTrip waits s list kept (Deadlk b position) = IsSameContext s b.holding × IsContended list b position
 IsTrip waits s list kept (Failed a PassSpent) = ⊥
 IsTrip waits s list kept (Failed a (Already n)) = IsSameContext s a × FirstDouble list (Some n)
 IsTrip waits s list kept (Failed a (Interrupted by)) = IsHalted waits s by a
 
--- why a context of this pass came back as a pass, with the room that it had, where nothing was named twice
-pub record IsWayFault (waits : Waits) (s p : Holding) (fault : UserFault) : Type 0 where
-  pub why : IsWalkFault waits s p fault
-  pub room : p.room ≡ s.room
-
 -- the same entries in another order, with the same first duplicate
 pub record IsReordered (list order : List ℕ) : Type 0 where
   pub moved : IsPermutation list order
   pub double : (d : Option ℕ) → FirstDouble order d → FirstDouble list d
-
--- it holds the walk and its stop, in the graph as it has seen it
-abbrev pub HoldsWalk : ℕ → ℕ → ℕ → Holding → Type 0
-HoldsWalk start port most a = Holds a (walked a.seen port (walk_of a.seen start port most))

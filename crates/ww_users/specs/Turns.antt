@@ -1,12 +1,13 @@
 -- What a body that takes locks does in its rounds, of which each but the last one ends with EDEADLK.
-use Rattle.std.specs.Prelude.{ℕ, ◌≡◌, ◌∷◌, ◌⊎◌, [], List, length, Result, IfOk, IfErr}
+use Rattle.std.specs.Prelude.{ℕ, ◌≡◌, ◌∷◌, ◌⊎◌, [], List, length, Result, Ok, IfOk, IfErr}
 use Rattle.ww_lock.specs.Holding.{Holding, Refused, Setting, IsAtHome}
 use Rattle.ww_lock.specs.declared.interruptible.Halt.{Halt}
 use Rattle.ww_lock.specs.declared.interruptible.Halt.TheVariants as halt
+use Rattle.ww_users.specs.Ways.{with_locks_of}
 
 -- the same context of the same pass, with the same stamp, budget and log, which may hold other locks
 pub record KeepsContext (s a : Holding) : Type 0 where
-  pub rest : a ≡ record s { held = a.held; seen = a.seen; tries = a.tries; takes = a.takes; deaths = a.deaths; deaf = a.deaf }
+  pub rest : a ≡ with_locks_of a s
   pub size : length a.seen ≡ length s.seen
 
 -- a context that a round starts with: the given one; or, after a back-off, the same one with the contended lock alone
@@ -27,9 +28,8 @@ IsOneMore by before (last ∷ rest) = (last.1 ≡ by) × (rest ≡ before)
 
 -- its wait was cancelled by this caller; it is the same context otherwise, which may hold other locks
 pub record IsHaltedBy (s : Holding) (by : ℕ) (a : Holding) : Type 0 where
-  pub rest : a ≡ record s { held = a.held; seen = a.seen; tries = a.tries; takes = a.takes; deaths = a.deaths; deaf = a.deaf; interrupted = a.interrupted }
+  pub same : KeepsContext (record s { interrupted = a.interrupted }) a
   pub told : IsOneMore by s.interrupted a.interrupted
-  pub size : length a.seen ≡ length s.seen
 
 -- why a round ended without all of its locks
 abbrev pub IsTurnHalt : Holding → Halt → Type 0
@@ -40,3 +40,24 @@ IsTurnHalt s (halt.Interrupted a by) = IsHaltedBy s by a
 pub record IsHaltingTurn (s : Holding) (r : Result Holding Halt) : Type 0 where
   pub ok : IfOk r (KeepsContext s)
   pub err : IfErr r (IsTurnHalt s)
+
+-- A body, by what it wants and what it gives, that may run in rounds of this kind, the first one from a context of this
+-- world.
+pub record MayTurn {E : Type 0} (Turn : Holding → Result Holding E → Type 0) (s : Holding) (w : Setting)
+    (pre : Holding → Type 0) (post : Holding → Result Holding E → Type 0) : Type 0 where
+  pub home : IsAtHome s w
+  pub callable : (a : Holding) → StartsTurn s w a → pre a
+  pub turns : (a : Holding) (r : Result Holding E) → StartsTurn s w a → post a r → Turn a r
+
+-- it is still the same context, of this world, as the body returned it from a round
+pub record HasTurned {E : Type 0} (s : Holding) (w : Setting) (post : Holding → Result Holding E → Type 0) (a : Holding)
+    : Type 0 where
+  pub home : IsAtHome a w
+  pub same : KeepsContext s a
+  pub taken : (b : Holding) × StartsTurn s w b × post b (Ok a)
+
+-- the pass of a context whose wait was called off by this caller, still of this world: it has no context, and no lock
+pub record IsPutOff (s : Holding) (w : Setting) (by : ℕ) (p : Holding) : Type 0 where
+  pub home : IsAtHome p w
+  pub halted : IsHaltedBy (record s { stamp = 0 }) by p
+  pub nothing : p.held ≡ []

@@ -1,10 +1,10 @@
 //! What a context does in each of the three ways, however it waits.
 
-ghost use Rattle.std.specs.Prelude.{◌≡◌, ◌<◌, ◌∷◌, [], length, IfOk, IfErr};
+ghost use Rattle.std.specs.Prelude.{ℕ, ◌≡◌, ◌<◌, ◌∷◌, [], List, length, IfOk, IfErr};
 ghost use Rattle.ww_lock.specs.Holding.{Holding, IsAtHome};
 ghost use Rattle.ww_lock.specs.Waits.{Waits};
-ghost use Rattle.ww_users.specs.Ways.{IsContext};
-ghost use Rattle.ww_users.specs.Trips.{IsSameContext, HasLocked, IsHalt, IsWayFault};
+ghost use Rattle.ww_users.specs.Ways.{IsContext, IsRefusal, IsWayAnswer};
+ghost use Rattle.ww_users.specs.Trips.{HasLocked, IsHalt};
 
 use crate::fault::UserFault;
 use std::sync::Wait;
@@ -13,10 +13,9 @@ use ww_lock::{Acquiring, Backoff, Halt, Pass, Waits, World};
 /// Starts a context that holds no lock yet.
 #[inline(always)]
 pub(crate) fn begin(world: &World, pass: Pass) -> Result<Acquiring, (Pass, UserFault)>
-    requires home { IsAtHome pass world.now }
-    ensures context { IfOk result (IsContext pass) }
-    ensures nothing { IfOk result (λ a. a.held ≡ []) }
-    ensures spent { (waits : Waits) → IfErr result (λ e. IsWayFault waits pass e.0 e.1) }
+    requires { IsAtHome pass world.now }
+    ensures begun { IfOk result (λ a. IsContext pass a × (a.held ≡ [])) }
+    ensures spent { (waits : Waits) (list : List ℕ) → IfErr result (λ e. IsRefusal waits pass list e.0 e.1) }
 {
     match pass.begin(world) {
         Ok(acquiring) => Ok(acquiring),
@@ -32,10 +31,8 @@ pub(crate) fn back_off<R: Wait>(
     rt: &R,
     waits: Waits,
 ) -> Result<Acquiring, (Pass, UserFault)>
-    requires home { IsAtHome backoff.holding world.now }
-    ensures same { IfOk result (IsSameContext backoff.holding) }
-    ensures alone { IfOk result (λ a. a.held ≡ backoff.contended ∷ []) }
-    ensures halted { (pass : Holding) → IsContext pass backoff.holding → IfErr result (λ e. IsWayFault waits pass e.0 e.1) }
+    requires { IsAtHome backoff.holding world.now }
+    ensures { (pass : Holding) (list : List ℕ) → IsContext pass backoff.holding → IsWayAnswer waits pass list (λ a. a.held ≡ backoff.contended ∷ []) result }
 {
     match backoff.unlock_all(rt, world).lock_slow_as(rt, world, waits) {
         Ok(acquiring) => Ok(acquiring),
@@ -45,7 +42,7 @@ pub(crate) fn back_off<R: Wait>(
 
 /// Releases all locks, and ends the context.
 pub(crate) fn give_up<R: Wait>(world: &World, acquiring: Acquiring, rt: &R) -> Pass
-    requires home { IsAtHome acquiring world.now }
+    requires { IsAtHome acquiring world.now }
     ensures { result ≡ record acquiring { held = []; stamp = 0 } }
 {
     acquiring.unlock_all(rt, world).fini(world)

@@ -1,6 +1,10 @@
 //! Why a list or a walk was not locked.
 
 use thiserror::Error;
+use ww_lock::{Done, Pass};
+
+/// What a way of taking many locks gives: a context that has them, or the pass and why not.
+pub type Taken = Result<Done, (Pass, UserFault)>;
 
 /// Why the nodes of a list, or of a walk, were not locked. The pass holds no lock then.
 #[derive(Clone, Copy, Debug, PartialEq, Eq, Drop, Error)]

@@ -10,7 +10,7 @@ mod trip;
 mod until;
 mod walk;
 
-pub use fault::UserFault;
+pub use fault::{Taken, UserFault};
 pub use fixed_list::{lock_list, lock_list_as, lock_list_interruptible};
 pub use reordered_list::{lock_order, lock_order_as, lock_order_interruptible};
 pub use until::{lock_until, lock_until_interruptible};

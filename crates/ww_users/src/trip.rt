@@ -1,8 +1,6 @@
 //! One trip through a list, as the fixed list and the reordered one make it in each round.
 
-ghost use Rattle.std.specs.Prelude.{◌<◌, length};
-ghost use Rattle.std.specs.List.{AllByRecursion};
-ghost use Rattle.ww_lock.specs.Holding.{IsAtHome};
+ghost use Rattle.ww_users.specs.Ways.{MayTake};
 ghost use Rattle.ww_users.specs.Trips.{HoldsKept, IsTrip};
 
 use crate::fault::UserFault;
@@ -28,8 +26,7 @@ pub(crate) fn lock_entries<R: Wait>(
     kept: Option<u8>,
     waits: Waits,
 ) -> Trip
-    requires home { IsAtHome acquiring world.now }
-    requires nodes { AllByRecursion (λ n. n < length world.now.first) list.now }
+    requires may { MayTake list.now acquiring world.now }
     requires kept { HoldsKept kept list.now acquiring }
     ensures { IsTrip waits acquiring list.now kept result }
 {

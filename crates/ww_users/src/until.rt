@@ -1,8 +1,7 @@
 //! The loop of a caller whose own code takes the locks.
 
-ghost use Rattle.std.specs.Prelude.{◌≡◌, [], Ok, IfOk, IfErr};
-ghost use Rattle.ww_lock.specs.Holding.{IsAtHome};
-ghost use Rattle.ww_users.specs.Turns.{KeepsContext, StartsTurn, IsTurn, IsHaltingTurn, IsHaltedBy};
+ghost use Rattle.std.specs.Prelude.{IfOk, IfErr};
+ghost use Rattle.ww_users.specs.Turns.{IsTurn, IsHaltingTurn, MayTurn, HasTurned, IsPutOff};
 
 use crate::context::give_up;
 use std::sync::Wait;
@@ -17,12 +16,8 @@ pub fn lock_until<R: Wait, F: Fn(Acquiring) -> Result<Acquiring, Backoff>>(
     acquiring: Acquiring,
     body: F,
 ) -> Acquiring
-    requires home { IsAtHome acquiring world.now }
-    requires callable { (a : _) → StartsTurn acquiring world.now a → F.pre body a }
-    requires turns { (a : _) (r : _) → StartsTurn acquiring world.now a → F.post body a r → IsTurn a r }
-    ensures home { IsAtHome result world.now }
-    ensures same { KeepsContext acquiring result }
-    ensures taken { (a : _) × StartsTurn acquiring world.now a × F.post body a (Ok result) }
+    requires { MayTurn IsTurn acquiring world.now (F.pre body) (F.post body) }
+    ensures { HasTurned acquiring world.now (F.post body) result }
 {
     let mut acquiring = acquiring;
     for _ in rt.forever() {
@@ -42,15 +37,9 @@ pub fn lock_until_interruptible<R: Wait, F: Fn(Acquiring) -> Result<Acquiring, H
     acquiring: Acquiring,
     body: F,
 ) -> Result<Acquiring, (Pass, u8)>
-    requires home { IsAtHome acquiring world.now }
-    requires callable { (a : _) → StartsTurn acquiring world.now a → F.pre body a }
-    requires turns { (a : _) (r : _) → StartsTurn acquiring world.now a → F.post body a r → IsHaltingTurn a r }
-    ensures home { IfOk result (λ b. IsAtHome b world.now) }
-    ensures same { IfOk result (KeepsContext acquiring) }
-    ensures taken { IfOk result (λ b. (a : _) × StartsTurn acquiring world.now a × F.post body a (Ok b)) }
-    ensures back { IfErr result (λ e. IsAtHome e.0 world.now) }
-    ensures halted { IfErr result (λ e. IsHaltedBy (record acquiring { stamp = 0 }) e.1 e.0) }
-    ensures nothing { IfErr result (λ e. e.0.held ≡ []) }
+    requires { MayTurn IsHaltingTurn acquiring world.now (F.pre body) (F.post body) }
+    ensures turned { IfOk result (HasTurned acquiring world.now (F.post body)) }
+    ensures put_off { IfErr result (λ e. IsPutOff acquiring world.now e.1 e.0) }
 {
     let mut acquiring = acquiring;
     for _ in rt.forever() {

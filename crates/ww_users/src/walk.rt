@@ -3,16 +3,15 @@
 ghost use Rattle.std.specs.Prelude.{◌≡◌, ◌<◌, false, length, Some, IfOk, IfErr, IfSome, IsTrue};
 ghost use Rattle.ww_plain.specs.Graph.{port_of};
 ghost use Rattle.ww_plain.specs.Numbers.{is_among};
-ghost use Rattle.ww_plain.specs.Transaction.{IsCourse, sum, reverse};
+ghost use Rattle.ww_plain.specs.Transaction.{IsCourse};
 ghost use Rattle.ww_plain.specs.Walk.{IsEnd, GoesOnTo};
 ghost use Rattle.ww_lock.specs.Holding.{IsAtHome};
 ghost use Rattle.ww_lock.specs.Waits.TheVariants.{UntilCancelled};
-ghost use Rattle.ww_lock.specs.Making.{Covers};
-ghost use Rattle.ww_users.specs.Ways.{IsContext, IsWalkFault};
-ghost use Rattle.ww_users.specs.Trips.{IsSameContext, HoldsWalk, IsHalt};
+ghost use Rattle.ww_users.specs.Ways.{IsContext, IsSameContext, HoldsWalk, IsWalkAnswer};
+ghost use Rattle.ww_users.specs.Trips.{IsHalt};
 
 use crate::context::{back_off, begin, give_up, lock_one};
-use crate::fault::UserFault;
+use crate::fault::{Taken, UserFault};
 use arrayvec::ArrayVec;
 use std::sync::Wait;
 use ww_lock::{Acquiring, Done, Halt, Pass, Waits, World};
@@ -32,8 +31,7 @@ pub fn lock_walk<R: Wait>(
     requires home { IsAtHome pass world.now }
     requires course { IsCourse (length world.now.first) start port most }
     ensures context { IfOk result (IsContext pass) }
-    ensures sum { IfOk result (λ d. Covers d (sum start port most)) }
-    ensures reverse { IfOk result (λ d. Covers d (reverse start port most)) }
+    ensures holds { IfOk result (HoldsWalk start port most) }
     ensures err { IfErr result (λ p. (pass.left ≡ 0) × (p ≡ pass)) }
 {
     match lock_walk_as(world, pass, rt, start, port, most, Waits::ToTheEnd) {
@@ -51,13 +49,10 @@ pub fn lock_walk_interruptible<R: Wait>(
     start: u8,
     port: u8,
     most: u8,
-) -> Result<Done, (Pass, UserFault)>
+) -> Taken
     requires home { IsAtHome pass world.now }
     requires course { IsCourse (length world.now.first) start port most }
-    ensures context { IfOk result (IsContext pass) }
-    ensures sum { IfOk result (λ d. Covers d (sum start port most)) }
-    ensures reverse { IfOk result (λ d. Covers d (reverse start port most)) }
-    ensures err { IfErr result (λ e. IsWalkFault UntilCancelled pass e.0 e.1) }
+    ensures { IsWalkAnswer UntilCancelled pass start port most result }
 {
     lock_walk_as(world, pass, rt, start, port, most, Waits::UntilCancelled)
 }
@@ -71,13 +66,10 @@ pub fn lock_walk_as<R: Wait>(
     port: u8,
     most: u8,
     waits: Waits,
-) -> Result<Done, (Pass, UserFault)>
+) -> Taken
     requires home { IsAtHome pass world.now }
     requires course { IsCourse (length world.now.first) start port most }
-    ensures context { IfOk result (IsContext pass) }
-    ensures sum { IfOk result (λ d. Covers d (sum start port most)) }
-    ensures reverse { IfOk result (λ d. Covers d (reverse start port most)) }
-    ensures err { IfErr result (λ e. IsWalkFault waits pass e.0 e.1) }
+    ensures { IsWalkAnswer waits pass start port most result }
 {
     let mut acquiring = begin(world, pass)?;
     for _ in rt.forever() {
@@ -106,8 +98,7 @@ fn lock_along<R: Wait>(
 ) -> Result<Acquiring, Halt>
     requires home { IsAtHome acquiring world.now }
     requires course { IsCourse (length world.now.first) start port most }
-    ensures ok { IfOk result (IsSameContext acquiring) }
-    ensures holds { IfOk result (HoldsWalk start port most) }
+    ensures ok { IfOk result (λ a. IsSameContext acquiring a × HoldsWalk start port most a) }
     ensures err { IfErr result (IsHalt waits acquiring) }
 {
     let mut acquiring = lock_one(world, acquiring, rt, start, waits)?;
@@ -135,10 +126,8 @@ fn is_over(walk: &[u8], most: u8, next: u8) -> bool
 
 /// Where a port of a held node leads.
 fn target_of(world: &World, acquiring: &Acquiring, n: u8, port: u8) -> Option<u8>
-    requires home { IsAtHome acquiring.now world.now }
-    requires node { n < length world.now.first }
-    requires held { IsTrue (is_among n acquiring.now.held) }
-    requires port { port < PORTS }
+    requires home { IsAtHome acquiring.now world.now × (n < length world.now.first) }
+    requires held { IsTrue (is_among n acquiring.now.held) × (port < PORTS) }
     ensures leads { result ≡ port_of acquiring.now.seen n port }
     ensures there { IfSome result (λ target. target < length world.now.first) }
 {

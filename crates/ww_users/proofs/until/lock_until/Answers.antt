@@ -5,4 +5,4 @@ use Rattle.ww_users.proofs.until.lock_until.Goals as goal
 pub loop-preserved : goal.loop-preserved
 loop-preserved g c = let starts = c.loop.invariant.2 in
     let turn = (c.requires.turns _ (Err c.in-Err.backoff) starts c.in-Err.ensures).err in
-    (tt, tt, starts_again _ _ _ _ _ _ starts turn c.back_off-acquiring.ensures.taken c.back_off-acquiring.ensures.alone)
+    (tt, tt, starts_again starts turn c.back_off-acquiring.ensures.taken c.back_off-acquiring.ensures.alone)
