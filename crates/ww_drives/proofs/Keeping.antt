@@ -11,13 +11,13 @@ use Rattle.ww_wakes.specs.Scene.{Step}
 use Rattle.ww_wakes.specs.Scene as scene
 use Rattle.ww_runs.specs.Moment.{Moment, Acts}
 use Rattle.ww_runs.specs.Moment as runs
-use Rattle.ww_runs.specs.Moves.{StepsThere, Follows}
+use Rattle.ww_runs.specs.Moves.{OthersStay, StepsThere, Reads, Follows}
 use Rattle.ww_runs.proofs.Standstill.{idles}
 use Rattle.ww_desk.specs.declared.turn.Answer.{Answer}
 use Rattle.ww_desk.specs.Situations.{Situation, is_inside}
 use Rattle.ww_desk.specs.Answers.{IsTaken, IsWakeAnswer, wakes_owed}
 use Rattle.ww_drives.specs.Stages.{Stage}
-use Rattle.ww_drives.specs.Deeds.{Call, Deed, calls, steps, answers, names, wakes, parks, rises, halts, is_sleeps, woken, slept, risen_then, Calls, Names, Wakes, Parks, Rises, Steps, Answers, Does}
+use Rattle.ww_drives.specs.Deeds.{Call, Deed, calls, steps, reads, answers, names, wakes, parks, rises, halts, is_sleeps, woken, slept, risen_then, Calls, Names, Wakes, Parks, Rises, Steps, ReadsOnly, Answers, Does}
 use Rattle.ww_drives.specs.Laws.{move_of}
 use Rattle.ww_drives.proofs.Answered.{each_accounts}
 use Rattle.ww_drives.proofs.Kept.{IsKept, Keeps, as_is, owed_there, other_part, call_untold, called, answered, names_one, wakes_one, sleeps_on, rises_up}
@@ -28,24 +28,35 @@ IsInOrder {key = key} g = (d : ℕ) → d < key.seats → Keeps g d
 -- ---- a step at the table
 
 module _ {key : Start} (g g' : Stage key) (i : IsInOrder g) where
-  -- amid a call the desk acts
+  -- amid a call the desk doesn't sleep, and isn't told to
+  amid : (d : ℕ) → d < key.seats → g.calling d ≡ true → (g.moment.asleep d ≡ false) × (g.moment.risen d ≡ (g.desk d).view.naps)
+  amid d low calling = let k = subst (λ c. IsKept d (g.desk d) c (g.to_sleep d) (g.moment.asleep d) (g.named d) (g.moment.rung d)
+      (g.moment.risen d) (g.moment.part d)) calling (i d low) in
+      let free = call_untold d _ _ _ _ _ _ _ k in (free.1, k.up free.0)
+
+  -- ... so it acts, until it left a guard as a waiter
   pub acts : (d : ℕ) (x : Option Step) → Steps g g' d x → Acts g.moment d
-  acts d x h = let k = subst (λ c. IsKept d (g.desk d) c (g.to_sleep d) (g.moment.asleep d) (g.named d) (g.moment.rung d)
-      (g.moment.risen d) (g.moment.part d)) h.calling (i d h.seat) in
-      let free = call_untold d _ _ _ _ _ _ _ k in
-      record { seat = h.seat; awake = free.1; risen = k.up free.0 ∙ sym h.stays_up }
+  acts d x h = let free = amid d h.seat h.calling in record { seat = h.seat; awake = free.0; risen = free.1 ∙ sym h.stays_up }
 
   steps_there : (d : ℕ) (x : Option Step) → Steps g g' d x → StepsThere g.moment g'.moment d
   steps_there d x h = (h.there (acts d x h)).there
 
-  steps_keep : (d : ℕ) (x : Option Step) → Steps g g' d x → IsInOrder g'
-  steps_keep d x h t low = let m = g.moment in let m' = g'.moment in let s = steps_there d x h in
-      subst (λ (z : Stage key). Keeps z t) (sym h.now)
+  pub reads_there : (d : ℕ) → ReadsOnly g g' d → Reads g.moment g'.moment d
+  reads_there d h = let free = amid d h.seat h.calling in h.there (record {
+    seat = h.seat;
+    is_asleep = free.0;
+    due = ap (λ (k : ℕ). k + 1) free.1 ∙ sym h.left;
+  })
+
+  -- either way all desks are as they were
+  stays_keep : (d : ℕ) → g.calling d ≡ true → OthersStay g.moment g'.moment d → g' ≡ record g { moment = g'.moment } → IsInOrder g'
+  stays_keep d calling s now t low = let m = g.moment in let m' = g'.moment in
+      subst (λ (z : Stage key). Keeps z t) (sym now)
       (as_is t (g.desk t) _ (g.calling t) _ (g.to_sleep t) _ (m.asleep t) (m'.asleep t) (g.named t) _ (m.rung t) (m'.rung t)
       (m.risen t) (m'.risen t) (m'.part t) _ refl refl refl (ap (λ (f : ℕ → Bool). f t) s.asleep) refl
       (ap (λ (f : ℕ → ℕ → ℕ). f t) s.rung) (ap (λ (f : ℕ → ℕ). f t) s.risen) refl
       (dite (ℕ_discrete t d)
-      (λ is. let on = ap g.calling is ∙ h.calling in
+      (λ is. let on = ap g.calling is ∙ calling in
       subst (λ c. IsKept t (g.desk t) c (g.to_sleep t) (m.asleep t) (g.named t) (m.rung t) (m.risen t) (m'.part t)) (sym on)
       (other_part t _ _ _ _ _ _ (m.part t) (m'.part t)
       (subst (λ c. IsKept t (g.desk t) c (g.to_sleep t) (m.asleep t) (g.named t) (m.rung t) (m.risen t) (m.part t)) on
@@ -217,6 +228,7 @@ module _ {key : Start} (g g' : Stage key) (i : IsInOrder g) where
   pub follows : (x : Deed) → Does g g' x → Follows g.moment g'.moment (move_of x)
   follows (calls d) h = stays_there _ h.now refl
   follows (steps d x) h = (h.there (acts d x h)).follows
+  follows (reads d) h = inr (d, inr (reads_there d h))
   follows (answers d call a) h = stays_there _ h.now refl
   follows (names d u) h = stays_there _ h.now refl
   follows (wakes d u) h = wakes_follow d u h
@@ -226,7 +238,8 @@ module _ {key : Start} (g g' : Stage key) (i : IsInOrder g) where
 
   pub keep : (x : Deed) → Does g g' x → IsInOrder g'
   keep (calls d) h = calls_keep d h
-  keep (steps d x) h = steps_keep d x h
+  keep (steps d x) h = stays_keep d h.calling (steps_there d x h).stay h.now
+  keep (reads d) h = stays_keep d h.calling (reads_there d h).stay h.now
   keep (answers d call a) h = answers_keep d call a h
   keep (names d u) h = names_keep d u h
   keep (wakes d u) h = wakes_keep d u h

@@ -1,5 +1,6 @@
 pub mod Answered
 pub mod Outside
+pub mod Ordered
 pub mod Kept
 pub mod Keeping
 pub mod Drives

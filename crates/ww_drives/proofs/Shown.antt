@@ -161,7 +161,8 @@ core_follows m m' d (Some (finds_no_cancel s)) by f = f.looks.core
 core_follows m m' d (Some (wakes s u)) by f = absurd by
 core_follows m m' d (Some (falls_asleep s)) by f = absurd by
 core_follows m m' d (Some (rises s)) by f = absurd by
-core_follows m m' d None by f = ⊎_elim (λ still. still.stays.core) (λ noted. noted.1.looks.core) f
+core_follows m m' d None by f = ⊎_elim (λ still. still.stays.core)
+    (λ more. ⊎_elim (λ noted. noted.looks.core) (λ reads. reads.core) more.1) f
 
 heeds_follow : {key : Start} (m m' : Moment key) (d : ℕ) (x : Option Step) → IsBy d x → Follows m m' x →
     m'.heeds ≡ heeds_after x m.heeds
@@ -172,7 +173,8 @@ heeds_follow m m' d (Some (finds_no_cancel s)) by f = f.looks.heeds
 heeds_follow m m' d (Some (wakes s u)) by f = absurd by
 heeds_follow m m' d (Some (falls_asleep s)) by f = absurd by
 heeds_follow m m' d (Some (rises s)) by f = absurd by
-heeds_follow m m' d None by f = ⊎_elim (λ still. still.stays.heeds) (λ noted. noted.1.looks.heeds) f
+heeds_follow m m' d None by f = ⊎_elim (λ still. still.stays.heeds)
+    (λ more. ⊎_elim (λ noted. noted.looks.heeds) (λ reads. reads.heeds) more.1) f
 
 -- seat d of the table, at this place of it
 pub record IsSeated (key : Start) (table : St) (id d : ℕ) (v : Sight) : Type 0 where
@@ -260,10 +262,10 @@ module _ {key : Start} {p : Picture} (g : Shown key p) where
             run = is_of_run next driven;
             is_table = moved.table ∙ play.is;
             is_core = core_follows a.moment moved.moment d x moved.by moved.follows ∙ ap (core_after x) a.is_core;
-            rung = moved.there.rung ∙ a.rung;
-            risen = moved.there.risen ∙ a.risen;
-            token = moved.there.token ∙ a.token;
-            asleep = moved.there.asleep ∙ a.asleep;
+            rung = moved.there.stay.rung ∙ a.rung;
+            risen = moved.there.stay.risen ∙ a.risen;
+            token = moved.there.stay.token ∙ a.token;
+            asleep = moved.there.stay.asleep ∙ a.asleep;
             heeding = heeds_follow a.moment moved.moment d x moved.by moved.follows ∙ ap (heeds_after x) a.heeding;
           };
           driven = driven;

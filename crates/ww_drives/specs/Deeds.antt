@@ -3,8 +3,8 @@ use Rattle.std.specs.Prelude.{ℕ, ◌≡◌, ◌<◌, ◌+◌, ◌-◌, Bool, t
 use Rattle.ww_model.specs.State.{put}
 use Rattle.ww_rule.specs.declared.cells.Start.{Start}
 use Rattle.ww_wakes.specs.Scene.{Step}
-use Rattle.ww_runs.specs.Moment.{Moment, wakes_owed, view, Acts}
-use Rattle.ww_runs.specs.Moves.{StepsThere, Follows}
+use Rattle.ww_runs.specs.Moment.{Moment, wakes_owed, view, Acts, Rests}
+use Rattle.ww_runs.specs.Moves.{StepsThere, Reads, Follows}
 use Rattle.ww_runs.specs.Plays.{IsBy}
 use Rattle.ww_seat.specs.Marks.{IsMarked}
 use Rattle.ww_seat.specs.declared.waits.Waits.{Waits}
@@ -46,11 +46,12 @@ HasDone (cancel u) s a s' = IsCancelAnswer s u a s' × BooksWakes s s'
 
 -- ---- deeds
 
--- A desk is called; makes a step at the table; answers. It names a seat to wake. Its driver gives a seat a token; its thread
+-- A desk is called; makes a step at the table, or reads something there; answers. It names a seat to wake. Its driver gives a seat a token; its thread
 -- falls asleep, and rises. Nothing happens.
 pub data Deed : Type 0 where
   calls : (d : ℕ) → Deed
   steps : (d : ℕ) (x : Option Step) → Deed
+  reads : (d : ℕ) → Deed
   answers : (d : ℕ) (call : Call) (a : Answer) → Deed
   names : (d u : ℕ) → Deed
   wakes : (d u : ℕ) → Deed
@@ -131,13 +132,21 @@ module _ {key : Start} (g g' : Stage key) where
 
   -- ---- what desks do
 
-  -- Amid a call the desk makes a step at the table, if the table lets its seat. It makes none in the same call once it left a
-  -- guard as a waiter.
+  -- Amid a call the desk makes a step at the table, if the table lets its seat. Once it left a guard as a waiter it makes none in
+  -- the same call, unless it only reads.
   pub record Steps (d : ℕ) (x : Option Step) : Type 0 where
     pub seat : d < key.seats
     pub calling : g.calling d ≡ true
     pub stays_up : (view g.moment d).naps ≡ (g.desk d).view.naps
     pub there : Acts g.moment d → IsStepThere g.moment g'.moment d x
+    pub now : g' ≡ record g { moment = g'.moment }
+
+  -- Amid a call, once it left a guard as a waiter, the desk reads something at the table, from outside the guards.
+  pub record ReadsOnly (d : ℕ) : Type 0 where
+    pub seat : d < key.seats
+    pub calling : g.calling d ≡ true
+    pub left : (view g.moment d).naps ≡ (g.desk d).view.naps + 1
+    pub there : Rests g.moment d false → Reads g.moment g'.moment d
     pub now : g' ≡ record g { moment = g'.moment }
 
   -- The call is at its end, and the desk is what the clauses of that call say, and as each desk is; of the locks it knows what
@@ -160,6 +169,7 @@ module _ {key : Start} (g g' : Stage key) where
   abbrev pub Does : Deed → Type 0
   Does (calls d) = Calls d
   Does (steps d x) = Steps d x
+  Does (reads d) = ReadsOnly d
   Does (answers d call a) = Answers d call a
   Does (names d u) = Names d u
   Does (wakes d u) = Wakes d u

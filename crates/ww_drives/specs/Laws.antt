@@ -12,13 +12,16 @@ use Rattle.ww_live.specs.Premises.{InTheEnd}
 use Rattle.ww_live.specs.Theorem.{AreDeadlocked}
 use Rattle.ww_runs.specs.Moment.{core, view, HasToWake, Acts, Rests}
 use Rattle.ww_runs.specs.Moves.{Follows}
+use Rattle.ww_runs.specs.Naps.{ArePlaysOf, is_to_sleep, HaveNone, SleepsLast}
 use Rattle.ww_runs.specs.Runs.{IsOfRun, HasToWaitThere}
 use Rattle.ww_runs.specs.Endless.{IsEndless}
 use Rattle.ww_runs.specs.Deadlocks.{IsScheduledThere, HoldersGoOnThere, EndsSomeWaitThere}
 use Rattle.ww_seat.specs.Marks.{IsMarked}
+use Rattle.ww_desk.specs.declared.turn.Answer.{Answer}
+use Rattle.ww_desk.specs.declared.turn.Answer.TheVariants.{Sleeps}
 use Rattle.ww_desk.specs.Situations.{Situation}
 use Rattle.ww_drives.specs.Stages.{Stage, IsDesk, StandsOutside, IsFirstStage}
-use Rattle.ww_drives.specs.Deeds.{Deed, steps, wakes, parks, rises, Does, IsDriven}
+use Rattle.ww_drives.specs.Deeds.{Call, HasDone, Deed, steps, wakes, parks, rises, Does, IsDriven}
 
 -- ---- the first stage
 
@@ -36,6 +39,18 @@ NewWorldsBegin = (key : Start) (s : St) (r : Ruled key s) (home : TableId) (left
 -- what is asked of a desk that answers is true of each
 abbrev pub DesksStandOutside : Type 0
 DesksStandOutside = (s : Situation) → IsDesk s → StandsOutside s
+
+-- ---- what a call did, in which order
+
+-- as the answer has it: it left a guard as a waiter, and made no event after that; or it left none so
+abbrev pub SleepsAtItsEnd : Answer → List (Option Step) → Type 0
+SleepsAtItsEnd Sleeps xs = SleepsLast xs
+SleepsAtItsEnd _ xs = HaveNone is_to_sleep xs
+
+-- Whatever the seat of a desk did at the table during a call, by what the clauses of that call say afterwards.
+abbrev pub CallsSleepLast : Type 0
+CallsSleepLast = (key : Start) (call : Call) (s s' : Situation) (a : Answer) (xs : List (Option Step)) → HasDone call s a s' →
+    IsDesk s' → ArePlaysOf key s.view xs s'.view → SleepsAtItsEnd a xs
 
 -- ---- drives are runs
 

@@ -1,5 +1,5 @@
 //! Desks whose callers wait by themselves, as runs of threads.
-ghost use Rattle.ww_drives.specs.Laws.{NewWorldsBegin, DesksStandOutside, DrivesAreRuns, NoWakeIsLostInDrives, NoStandstillInDrives, NobodySleepsInVainInDrives, NoDeadlockLastsInDrives, DrivesRunOn, WaitsEndInDrives};
+ghost use Rattle.ww_drives.specs.Laws.{NewWorldsBegin, DesksStandOutside, CallsSleepLast, DrivesAreRuns, NoWakeIsLostInDrives, NoStandstillInDrives, NobodySleepsInVainInDrives, NoDeadlockLastsInDrives, DrivesRunOn, WaitsEndInDrives};
 
 /// Opening a world gives a first stage.
 pub fn new_worlds_begin()
@@ -9,6 +9,11 @@ pub fn new_worlds_begin()
 /// Each desk whose call doesn't stand inside a guard is outside of all.
 pub fn desks_stand_outside()
     ensures { DesksStandOutside }
+{}
+
+/// A call left a guard as a waiter only if it answers `Sleeps`, then once, and made no event after that.
+pub fn calls_sleep_last()
+    ensures { CallsSleepLast }
 {}
 
 /// Each deed of desks and their drivers is a move of threads, or none.

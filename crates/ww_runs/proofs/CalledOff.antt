@@ -150,10 +150,10 @@ next_event a e then s moved is = let makes = moved.follows.makes in record {
     run = runs.goes_on a.moment moved.moment (Some (performs e)) a.run moved.follows;
     is_table = moved.table ∙ is;
     is_core = makes.core ∙ ap (λ (c : State). after c e) a.is_core;
-    rung = makes.there.rung ∙ a.rung;
-    risen = makes.there.risen ∙ a.risen;
-    token = makes.there.token ∙ a.token;
-    asleep = makes.there.asleep ∙ a.asleep;
+    rung = makes.there.stay.rung ∙ a.rung;
+    risen = makes.there.stay.risen ∙ a.risen;
+    token = makes.there.stay.token ∙ a.token;
+    asleep = makes.there.stay.asleep ∙ a.asleep;
     heeding = moved.follows.heeds ∙ a.heeding;
   };
   follows = moved.follows;

@@ -21,7 +21,7 @@ use Rattle.ww_wakes.proofs.Woken.{owing_was, debt_was, debt_here}
 use Rattle.ww_wakes.proofs.Keeping.{guards_are_held_awake}
 use Rattle.ww_wakes.proofs.Calls.{leaving_is_a_step}
 use Rattle.ww_runs.specs.Moment.{Moment, wakes_owed, core, view, HasToWake, Acts}
-use Rattle.ww_runs.specs.Moves.{cancelled_after, StepsThere, MakesEvent, Performs, LeavesToSleep, Looks, FindsNoSign, FindsNoCancel, Notes, StaysThere, Rings, Parks, Rises, StandsStill}
+use Rattle.ww_runs.specs.Moves.{cancelled_after, OthersStay, MakesEvent, Performs, LeavesToSleep, FindsNoSign, FindsNoCancel, Notes, Reads, StaysThere, Rings, Parks, Rises, StandsStill}
 use Rattle.ww_runs.specs.Runs.{IsPhase, IsShownBy, GoesAlong, MovesAreSteps, OthersAreNone}
 use Rattle.std.proofs.lemmas.Bool.{cases_Bool}
 use Rattle.ww_runs.proofs.Owed.{owed_grows, newly_owed, woken_other, condemned_owed, not_fresh, still_uncancelled, others_uncancelled}
@@ -81,7 +81,7 @@ module _ {key : Start} (m : Moment key) where
 
 -- ---- a step at the table
 
-module _ {key : Start} (m m' : Moment key) (t : ℕ) (s : StepsThere m m' t) where
+module _ {key : Start} (m m' : Moment key) (t : ℕ) (s : OthersStay m m' t) where
   -- what holds of that seat then, and of the others before, holds of all
   of_each : (P : ℕ → Part → Type 0) → P t (m'.part t) → ((u : ℕ) → u < key.seats → u ≢ t → P u (m.part u)) →
       (u : ℕ) → u < key.seats → P u (m'.part u)
@@ -109,13 +109,13 @@ module _ {key : Start} (m m' : Moment key) (e : Event) (makes : MakesEvent m m' 
       omega arith
 
   grows : (s u : ℕ) → s < key.seats → wakes_owed (m.part s) u ≤ wakes_owed (m'.part s) u
-  grows s u there = of_each m m' (actor e) makes.there (λ x p. wakes_owed (m.part x) u ≤ wakes_owed p u)
+  grows s u there = of_each m m' (actor e) makes.there.stay (λ x p. wakes_owed (m.part x) u ≤ wakes_owed p u)
       (let z = owed_grows (core m) e (view m (actor e)) (m.part (actor e)).counts.cancelled u in
       let y = owed_then u in omega arith)
       (λ _ _ _. omega arith) s there
 
   rung_is : (s u : ℕ) → m'.rung s u ≡ m.rung s u
-  rung_is s u = ap (λ (f : ℕ → ℕ → ℕ). f s u) makes.there.rung
+  rung_is s u = ap (λ (f : ℕ → ℕ → ℕ). f s u) makes.there.stay.rung
 
   still : (s u : ℕ) → HasToWake m s u → HasToWake m' s u
   still s u h = record {
@@ -146,7 +146,7 @@ module _ {key : Start} (m m' : Moment key) (e : Event) (makes : MakesEvent m m' 
 
     still_condemned : (s u : ℕ) → s < key.seats → (view m' s).inside ≢ 0 → Has (view m' s).condemned u → u ≢ s →
         m'.rung s u < wakes_owed (m'.part s) u
-    still_condemned s u there = of_each m m' (actor e) makes.there
+    still_condemned s u there = of_each m m' (actor e) makes.there.stay
         (λ x p. p.core.inside ≢ 0 → Has p.core.condemned u → u ≢ x → m'.rung x u < wakes_owed p u)
         (subst (λ (v : View). v.inside ≢ 0 → Has v.condemned u → u ≢ actor e →
         m'.rung (actor e) u < wakes_owed (m'.part (actor e)) u)
@@ -160,7 +160,7 @@ module _ {key : Start} (m m' : Moment key) (e : Event) (makes : MakesEvent m m' 
 
     still_fresh : (u : ℕ) → u < key.seats → (view m' u).inside ≢ 0 → (view m' u).fresh ≡ true →
         put w.found_no_sign (actor e) false u ≡ true
-    still_fresh = of_each m m' (actor e) makes.there
+    still_fresh = of_each m m' (actor e) makes.there.stay
         (λ x p. p.core.inside ≢ 0 → p.core.fresh ≡ true → put w.found_no_sign (actor e) false x ≡ true)
         (subst (λ (v : View). v.inside ≢ 0 → v.fresh ≡ true → put w.found_no_sign (actor e) false (actor e) ≡ true)
         (sym makes.view)
@@ -169,7 +169,7 @@ module _ {key : Start} (m m' : Moment key) (e : Event) (makes : MakesEvent m m' 
 
     still_unsettled : (u : ℕ) → u < key.seats → (view m' u).inside ≢ 0 → (view m' u).uncancelled ≡ true →
         uncancelled_after w.found_no_cancel e u ≡ true
-    still_unsettled = of_each m m' (actor e) makes.there
+    still_unsettled = of_each m m' (actor e) makes.there.stay
         (λ x p. p.core.inside ≢ 0 → p.core.uncancelled ≡ true → uncancelled_after w.found_no_cancel e x ≡ true)
         (subst (λ (v : View). v.inside ≢ 0 → v.uncancelled ≡ true → uncancelled_after w.found_no_cancel e
         (actor e) ≡ true)
@@ -194,13 +194,13 @@ performs_on m m' w e shown p = let a = p.makes in record {
   may = record { acts = acts_there m m' e a w shown; possible = possible m m' e a w shown };
   shown = record {
     core = core_then m m' e a w shown;
-    token = shown.token ∙ sym a.there.token;
+    token = shown.token ∙ sym a.there.stay.token;
     heeds = shown.heeds ∙ sym p.heeds;
-    phase = of_each m m' (actor e) a.there (λ t p. IsPhase (w.phase t) (m'.asleep t) (m'.risen t) p.core.naps)
-        (phase_as (w.phase (actor e)) _ _ _ _ _ _ (ap (λ (f : ℕ → Bool). f (actor e)) a.there.asleep)
-        (ap (λ (f : ℕ → ℕ). f (actor e)) a.there.risen) p.stays_up (shown.phase (actor e) (seat m m' e a)))
-        (λ t low isnt. phase_as (w.phase t) _ _ _ _ _ _ (ap (λ (f : ℕ → Bool). f t) a.there.asleep)
-        (ap (λ (f : ℕ → ℕ). f t) a.there.risen) refl (shown.phase t low));
+    phase = of_each m m' (actor e) a.there.stay (λ t p. IsPhase (w.phase t) (m'.asleep t) (m'.risen t) p.core.naps)
+        (phase_as (w.phase (actor e)) _ _ _ _ _ _ (ap (λ (f : ℕ → Bool). f (actor e)) a.there.stay.asleep)
+        (ap (λ (f : ℕ → ℕ). f (actor e)) a.there.stay.risen) p.stays_up (shown.phase (actor e) (seat m m' e a)))
+        (λ t low isnt. phase_as (w.phase t) _ _ _ _ _ _ (ap (λ (f : ℕ → Bool). f t) a.there.stay.asleep)
+        (ap (λ (f : ℕ → ℕ). f t) a.there.stay.risen) refl (shown.phase t low));
     strangers = shown.strangers;
     owes = λ s u owed. ⊎_elim
         (λ new. let is = subst (λ c. woken_by c e ≡ Some u) shown.core new.1 in
@@ -249,21 +249,21 @@ leaves_on {key = key} m m' w s n heeds reached shown p = let a = p.makes in let 
           (in_call m w s shown a.there.acts) p.may p.waits p.uncancelled);
       shown = record {
         core = core_then m m' e a w shown;
-        token = shown.token ∙ sym a.there.token;
+        token = shown.token ∙ sym a.there.stay.token;
         heeds = ap (λ (f : ℕ → Bool). put f s heeds) shown.heeds ∙ sym p.noted;
         phase = λ t low. put_cases w.phase s going_to_sleep t (λ q. IsPhase q (m'.asleep t) (m'.risen t)
             (view m' t).naps)
             (λ is. subst (λ x. IsPhase going_to_sleep (m'.asleep x) (m'.risen x) (view m' x).naps) (sym is) (
-              ap (λ (f : ℕ → Bool). f s) a.there.asleep ∙ a.there.acts.awake,
-              (let x = ap (λ (f : ℕ → ℕ). f s) a.there.risen in let y = a.there.acts.risen in omega arith),
+              ap (λ (f : ℕ → Bool). f s) a.there.stay.asleep ∙ a.there.acts.awake,
+              (let x = ap (λ (f : ℕ → ℕ). f s) a.there.stay.risen in let y = a.there.acts.risen in omega arith),
             ))
-            (λ isnt. phase_as (w.phase t) _ _ _ _ _ _ (ap (λ (f : ℕ → Bool). f t) a.there.asleep)
-            (ap (λ (f : ℕ → ℕ). f t) a.there.risen) (ap (λ (p : Part). p.core.naps) (a.there.others t low isnt))
+            (λ isnt. phase_as (w.phase t) _ _ _ _ _ _ (ap (λ (f : ℕ → Bool). f t) a.there.stay.asleep)
+            (ap (λ (f : ℕ → ℕ). f t) a.there.stay.risen) (ap (λ (p : Part). p.core.naps) (a.there.stay.others t low isnt))
             (shown.phase t low));
         strangers = λ t far. put_else w.phase s going_to_sleep t (far_off t s far a.there.acts.seat)
             ∙ shown.strangers t far;
         owes = λ x u owed. still m m' e a x u (shown.owes x u owed);
-        fresh = λ t low. of_each m m' s a.there
+        fresh = λ t low. of_each m m' s a.there.stay
             (λ x p. p.core.inside ≢ 0 → p.core.fresh ≡ true → w.found_no_sign x ≡ true)
             (subst (λ (v : View). v.inside ≢ 0 → v.fresh ≡ true → w.found_no_sign s ≡ true) (sym a.view)
             (λ inside fresh. absurd (inside refl)))
@@ -276,7 +276,9 @@ leaves_on {key = key} m m' w s n heeds reached shown p = let a = p.makes in let 
 
 -- ---- a step at the table that is no event
 
-module _ {key : Start} (m m' : Moment key) (w : Scene) (t : ℕ) (shown : IsShownBy m w) (looks : Looks m m' t)
+module _ {key : Start} (m m' : Moment key) (w : Scene) (t : ℕ) (shown : IsShownBy m w)
+    (sits : t < key.seats) (there : OthersStay m m' t) (same_core : m'.ruled.core ≡ m.ruled.core)
+    (cancelled : (m'.part t).counts.cancelled ≡ (m.part t).counts.cancelled) (same_heeds : m'.heeds ≡ m.heeds)
     (inside : (view m' t).inside ≡ (view m t).inside) (condemned : (view m' t).condemned ≡ (view m t).condemned)
     (debts : (view m' t).debts ≡ (view m t).debts) (naps : (view m' t).naps ≡ (view m t).naps)
     (w' : Scene) (core : w'.core ≡ w.core) (token : w'.token ≡ w.token) (heeds : w'.heeds ≡ w.heeds)
@@ -286,25 +288,22 @@ module _ {key : Start} (m m' : Moment key) (w : Scene) (t : ℕ) (shown : IsShow
     (uncancelled : (view m' t).inside ≢ 0 → (view m' t).uncancelled ≡ true → w'.found_no_cancel t ≡ true)
     (others_fresh : (u : ℕ) → u ≢ t → w.found_no_sign u ≡ true → w'.found_no_sign u ≡ true)
     (others_uncancelled : (u : ℕ) → u ≢ t → w.found_no_cancel u ≡ true → w'.found_no_cancel u ≡ true) where
-  there : StepsThere m m' t
-  there = looks.there
-
   owed_still : (s u : ℕ) → s < key.seats → wakes_owed (m'.part s) u ≡ wakes_owed (m.part s) u
-  owed_still s u low = of_each m m' t there (λ x p. wakes_owed p u ≡ wakes_owed (m.part x) u)
-      (let x = ap (times u) looks.cancelled in let y = ap (times u) debts in omega arith) (λ _ _ _. refl) s low
+  owed_still s u there_is = of_each m m' t there (λ x p. wakes_owed p u ≡ wakes_owed (m.part x) u)
+      (let x = ap (times u) cancelled in let y = ap (times u) debts in omega arith) (λ _ _ _. refl) s there_is
 
   given_still : (s u : ℕ) → m'.rung s u ≡ m.rung s u
   given_still s u = ap (λ (f : ℕ → ℕ → ℕ). f s u) there.rung
 
   looked : IsShownBy m' w'
   looked = record {
-    core = core ∙ shown.core ∙ sym looks.core;
+    core = core ∙ shown.core ∙ sym same_core;
     token = token ∙ shown.token ∙ sym there.token;
-    heeds = heeds ∙ shown.heeds ∙ sym looks.heeds;
+    heeds = heeds ∙ shown.heeds ∙ sym same_heeds;
     phase = of_each m m' t there (λ x p. IsPhase (w'.phase x) (m'.asleep x) (m'.risen x) p.core.naps)
         (subst (λ (f : ℕ → Phase). IsPhase (f t) (m'.asleep t) (m'.risen t) (view m' t).naps) (sym phase)
         (phase_as (w.phase t) _ _ _ _ _ _ (ap (λ (f : ℕ → Bool). f t) there.asleep)
-        (ap (λ (f : ℕ → ℕ). f t) there.risen) naps (shown.phase t there.acts.seat)))
+        (ap (λ (f : ℕ → ℕ). f t) there.risen) naps (shown.phase t sits)))
         (λ x low isnt. subst (λ (f : ℕ → Phase). IsPhase (f x) (m'.asleep x) (m'.risen x) (view m x).naps) (sym phase)
         (phase_as (w.phase x) _ _ _ _ _ _ (ap (λ (f : ℕ → Bool). f x) there.asleep)
         (ap (λ (f : ℕ → ℕ). f x) there.risen) refl (shown.phase x low)));
@@ -324,9 +323,9 @@ module _ {key : Start} (m m' : Moment key) (w : Scene) (t : ℕ) (shown : IsShow
         omega arith;
     condemned = λ s u low. of_each m m' t there
         (λ x p. p.core.inside ≢ 0 → Has p.core.condemned u → u ≢ x → m'.rung x u < wakes_owed p u)
-        (λ i h other. let a = shown.condemned t u there.acts.seat (λ out. i (inside
+        (λ i h other. let a = shown.condemned t u sits (λ out. i (inside
         ∙ out)) (subst (λ us. Has us u) condemned h) other in
-        let b = owed_still t u there.acts.seat in let c = given_still t u in omega arith)
+        let b = owed_still t u sits in let c = given_still t u in omega arith)
         (λ x there isnt i h other. let a = shown.condemned x u there i h other in let c = given_still x u in
         omega arith) s low;
   }
@@ -345,7 +344,7 @@ finds_no_sign_on m m' w s shown p = let v = view m s in let v' = view m' s in le
         is_acting (w.phase s) (m.asleep s) (m.risen s) v.naps acts.risen (shown.phase s acts.seat),
         ap (λ (c : State). c.sign s) shown.core ∙ p.none,
       );
-      shown = looked m m' w s shown p.looks inside
+      shown = looked m m' w s shown acts.seat p.looks.there.stay p.looks.core p.looks.cancelled p.looks.heeds inside
           (of_sign_look (λ (v : View). v.condemned) v v' refl refl p.view)
           (of_sign_look (λ (v : View). v.debts) v v' refl refl p.view)
           (of_sign_look (λ (v : View). v.naps) v v' refl refl p.view)
@@ -363,7 +362,7 @@ finds_no_cancel_on m m' w s shown p = let v = view m s in let acts = p.looks.the
     is_acting (w.phase s) (m.asleep s) (m.risen s) v.naps acts.risen (shown.phase s acts.seat),
     ap (λ (c : State). c.cancel s) shown.core ∙ p.none,
   );
-  shown = looked m m' w s shown p.looks (ap (λ (v : View). v.inside) p.view) (ap (λ (v : View). v.condemned) p.view)
+  shown = looked m m' w s shown acts.seat p.looks.there.stay p.looks.core p.looks.cancelled p.looks.heeds (ap (λ (v : View). v.inside) p.view) (ap (λ (v : View). v.condemned) p.view)
       (ap (λ (v : View). v.debts) p.view) (ap (λ (v : View). v.naps) p.view)
       (next w (finds_no_cancel s)) refl refl refl refl refl
       (λ _ fresh. absurd (true≢false (sym fresh ∙ ap (λ (v : View). v.fresh) p.view)))
@@ -373,10 +372,15 @@ finds_no_cancel_on m m' w s shown p = let v = view m s in let acts = p.looks.the
 
 notes_on : {key : Start} (m m' : Moment key) (w : Scene) (t : ℕ) → IsShownBy m w → Notes m m' t → IsShownBy m' w
 notes_on m m' w t shown p = let seat = p.looks.there.acts.seat in let n = p.view in
-    looked m m' w t shown p.looks n.inside n.condemned n.debts n.naps w refl refl refl refl refl
+    looked m m' w t shown seat p.looks.there.stay p.looks.core p.looks.cancelled p.looks.heeds n.inside n.condemned n.debts n.naps w refl refl refl refl refl
     (λ i fresh. shown.fresh t seat (λ out. i (n.inside ∙ out)) (n.fresh fresh))
     (λ i none. shown.uncancelled t seat (λ out. i (n.inside ∙ out)) (n.uncancelled none))
     (λ u isnt had. had) (λ u isnt had. had)
+
+reads_on : {key : Start} (m m' : Moment key) (w : Scene) (t : ℕ) → IsShownBy m w → Reads m m' t → IsShownBy m' w
+reads_on m m' w t shown p = let n = p.view in let out = n.inside ∙ p.outside in
+    looked m m' w t shown p.rests.seat p.stay p.core p.cancelled p.heeds n.inside n.condemned n.debts n.naps w refl refl refl refl refl
+    (λ inside _. absurd (inside out)) (λ inside _. absurd (inside out)) (λ u isnt had. had) (λ u isnt had. had)
 
 -- ---- beside the table
 
@@ -478,7 +482,7 @@ stands_on m m' w shown p = record {
 
 pub others_are_none : OthersAreNone
 others_are_none key m m' w shown follows =
-    ⊎_elim (λ still. stands_on m m' w shown still) (λ noted. notes_on m m' w noted.0 shown noted.1) follows
+    ⊎_elim (λ still. stands_on m m' w shown still) (λ some. ⊎_elim (λ noted. notes_on m m' w some.0 shown noted) (λ reads. reads_on m m' w some.0 shown reads) some.1) follows
 
 -- ---- a rise
 

@@ -3,6 +3,9 @@ pub mod Following
 pub mod Wholes
 pub mod Seating
 pub mod Playing
+pub mod Outs
+pub mod Telling
+pub mod Napping
 pub mod Ends
 pub mod Unlocking
 pub mod Serving

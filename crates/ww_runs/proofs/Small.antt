@@ -35,7 +35,7 @@ use Rattle.ww_rule.specs.Waiting.{joining}
 use Rattle.ww_rule.proofs.Seats.{opens, opens_start}
 use Rattle.ww_wakes.specs.Scene.{Step, performs, leaves_to_sleep, finds_no_sign, finds_no_cancel, falls_asleep}
 use Rattle.ww_runs.specs.Moment.{Moment, wakes_owed, Acts}
-use Rattle.ww_runs.specs.Moves.{MakesEvent, Looks, StandsStill}
+use Rattle.ww_runs.specs.Moves.{OthersStay, MakesEvent, Looks, StandsStill}
 use Rattle.ww_runs.specs.Runs.{IsOfRun, goes_on}
 use Rattle.ww_runs.specs.Runs as runs
 use Rattle.ww_runs.specs.Plays as play
@@ -131,27 +131,33 @@ module _ {key : Start} {table : St} {core : State} {given : ℕ → ℕ → ℕ}
     run = runs.goes_on a.moment moved.moment x a.run moved.follows;
     is_table = moved.table ∙ is;
     is_core = makes.core ∙ ap (λ (c : State). after c e) a.is_core;
-    rung = makes.there.rung ∙ a.rung;
-    risen = makes.there.risen ∙ a.risen;
-    token = makes.there.token ∙ a.token;
-    asleep = makes.there.asleep ∙ a.asleep;
+    rung = makes.there.stay.rung ∙ a.rung;
+    risen = makes.there.stay.risen ∙ a.risen;
+    token = makes.there.stay.token ∙ a.token;
+    asleep = makes.there.stay.asleep ∙ a.asleep;
     heeding = heeding;
   }
 
   -- ... or by none
-  pub after_look : {d : ℕ} (t : ℕ) (x : Option Step) (then : St) (s : St) (moved : Moved a.moment d x s) → s ≡ then →
-      Looks a.moment moved.moment t → AtWith key then core given has sleeps heeds
-  after_look t x then s moved is looks = record {
+  after_stay : {d : ℕ} (t : ℕ) (x : Option Step) (then : St) (s : St) (moved : Moved a.moment d x s) → s ≡ then →
+      OthersStay a.moment moved.moment t →
+      (moved.moment.ruled.core ≡ a.moment.ruled.core) × (moved.moment.heeds ≡ a.moment.heeds) →
+      AtWith key then core given has sleeps heeds
+  after_stay t x then s moved is stay same = record {
     moment = moved.moment;
     run = runs.goes_on a.moment moved.moment x a.run moved.follows;
     is_table = moved.table ∙ is;
-    is_core = looks.core ∙ a.is_core;
-    rung = looks.there.rung ∙ a.rung;
-    risen = looks.there.risen ∙ a.risen;
-    token = looks.there.token ∙ a.token;
-    asleep = looks.there.asleep ∙ a.asleep;
-    heeding = looks.heeds ∙ a.heeding;
+    is_core = same.0 ∙ a.is_core;
+    rung = stay.rung ∙ a.rung;
+    risen = stay.risen ∙ a.risen;
+    token = stay.token ∙ a.token;
+    asleep = stay.asleep ∙ a.asleep;
+    heeding = same.1 ∙ a.heeding;
   }
+
+  pub after_look : {d : ℕ} (t : ℕ) (x : Option Step) (then : St) (s : St) (moved : Moved a.moment d x s) → s ≡ then →
+      Looks a.moment moved.moment t → AtWith key then core given has sleeps heeds
+  after_look t x then s moved is looks = after_stay t x then s moved is looks.there.stay (looks.core, looks.heeds)
 
   -- ... or without any change
   pub after_none : {d : ℕ} (x : Option Step) (then : St) (s : St) (moved : Moved a.moment d x s) → s ≡ then →
@@ -219,7 +225,8 @@ module _ {key : Start} {table : St} {core : State} {given : ℕ → ℕ → ℕ}
       pub others_there : (then : St) (s : St) → s ≡ then → Plays a.moment id me None s → AtWith key then core given has sleeps heeds
       others_there then s is plays = let moved = moves_there None s plays in ⊎_elim
           (λ still. after_none None then s moved is still)
-          (λ noted. after_look noted.0 None then s moved is noted.1.looks) moved.follows
+          (λ some. ⊎_elim (λ noted. after_look some.0 None then s moved is noted.looks)
+          (λ reads. after_stay some.0 None then s moved is reads.stay (reads.core, reads.heeds)) some.1) moved.follows
 
 -- ---- what the two know after each play
 

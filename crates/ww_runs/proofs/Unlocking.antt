@@ -23,7 +23,7 @@ use Rattle.ww_live.proofs.Asked.{who_leaves_has_asked}
 use Rattle.ww_live.proofs.Deadlocks.{no_deadlock_lasts}
 use Rattle.ww_live.proofs.Handoff.{waits_end}
 use Rattle.ww_runs.specs.Moment.{Moment, core, view, Acts, Rests}
-use Rattle.ww_runs.specs.Moves.{StepsThere, Performs, Follows}
+use Rattle.ww_runs.specs.Moves.{OthersStay, Performs, Follows}
 use Rattle.ww_runs.specs.Runs.{IsPhase}
 use Rattle.ww_runs.specs.Endless.{IsEndless, step_of, RunsAlong}
 use Rattle.ww_runs.specs.Deadlocks.{WaitersSleepInRuns, FirstsAskInRuns, IsScheduledThere, HoldersGoOnThere, NoDeadlockLastsInRuns, WaitsEndInRuns}
@@ -91,7 +91,7 @@ event_later c (Begin s) v k can own inside still = refl
 event_later c _ v k can own inside still = refl
 
 -- another seat's step leaves it
-other_later : {key : Start} (m m' : Moment key) (t s : ℕ) → s < key.seats → StepsThere m m' t → (s ≡ t →
+other_later : {key : Start} (m m' : Moment key) (t s : ℕ) → s < key.seats → OthersStay m m' t → (s ≡ t →
     (view m' s).later ≡ (view m s).later) →
     (view m' s).later ≡ (view m s).later
 other_later m m' t s low there mine = dite (ℕ_discrete s t) mine (λ isnt. ap (λ (p : Part). p.core.later)
@@ -100,21 +100,23 @@ other_later m m' t s low there mine = dite (ℕ_discrete s t) mine (λ isnt. ap 
 later_kept : {key : Start} (m m' : Moment key) (x : Option Step) (s : ℕ) → s < key.seats → (view m s).inside ≢ 0 →
     (view m' s).inside ≢ 0 → Follows m m' x → (view m' s).later ≡ (view m s).later
 later_kept m m' None s low inside still (inl f) = ap (λ (p : Part). p.core.later) (f.stays.parts s low)
-later_kept m m' None s low inside still (inr f) = other_later m m' f.0 s low f.1.looks.there
-    (λ is. subst (λ x. (view m' x).later ≡ (view m x).later) (sym is) f.1.view.later)
-later_kept m m' (Some (performs e)) s low inside still f = other_later m m' (actor e) s low f.makes.there
+later_kept m m' None s low inside still (inr (t, inl f)) = other_later m m' t s low f.looks.there.stay
+    (λ is. subst (λ x. (view m' x).later ≡ (view m x).later) (sym is) f.view.later)
+later_kept m m' None s low inside still (inr (t, inr f)) = other_later m m' t s low f.stay
+    (λ is. absurd (inside (ap (λ x. (view m x).inside) is ∙ f.outside)))
+later_kept m m' (Some (performs e)) s low inside still f = other_later m m' (actor e) s low f.makes.there.stay
     (λ is. let at = f.makes.there.acts.seat in
     subst (λ x. (view m' x).later ≡ (view m x).later) (sym is) (ap (λ (v : View). v.later) f.makes.view
     ∙ event_later (core m) e (view m (actor e)) (knows_there m (actor e) at) f.makes.can (sym (who_there m
     (actor e) at))
     (λ z. inside (ap (λ x. (view m x).inside) is ∙ z))
     (λ z. still (ap (λ x. (view m' x).inside) is ∙ ap (λ (v : View). v.inside) f.makes.view ∙ z))))
-later_kept m m' (Some (leaves_to_sleep t n heeds)) s low inside still f = other_later m m' t s low f.makes.there
+later_kept m m' (Some (leaves_to_sleep t n heeds)) s low inside still f = other_later m m' t s low f.makes.there.stay
     (λ is. absurd (still (ap (λ x. (view m' x).inside) is ∙ ap (λ (v : View). v.inside) f.makes.view)))
-later_kept m m' (Some (finds_no_sign t)) s low inside still f = other_later m m' t s low f.looks.there
+later_kept m m' (Some (finds_no_sign t)) s low inside still f = other_later m m' t s low f.looks.there.stay
     (λ is. subst (λ x. (view m' x).later ≡ (view m x).later) (sym is)
     (⊎_elim (λ a. ap (λ (v : View). v.later) a) (λ a. ap (λ (v : View). v.later) a) f.view))
-later_kept m m' (Some (finds_no_cancel t)) s low inside still f = other_later m m' t s low f.looks.there
+later_kept m m' (Some (finds_no_cancel t)) s low inside still f = other_later m m' t s low f.looks.there.stay
     (λ is. subst (λ x. (view m' x).later ≡ (view m x).later) (sym is) (ap (λ (v : View). v.later) f.view))
 later_kept m m' (Some (wakes t u)) s low inside still f = ap (λ (p : Part). p.core.later) (f.stays.parts s low)
 later_kept m m' (Some (falls_asleep t)) s low inside still f = ap (λ (p : Part). p.core.later) (f.stays.parts s low)

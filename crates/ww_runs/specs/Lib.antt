@@ -2,6 +2,8 @@ pub mod Moment
 pub mod Moves
 pub mod Runs
 pub mod Plays
+pub mod Told
+pub mod Naps
 pub mod Endless
 pub mod Deadlocks
 pub mod Contexts

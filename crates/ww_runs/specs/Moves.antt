@@ -16,6 +16,14 @@ abbrev pub cancelled_after : Event → List ℕ → List ℕ
 cancelled_after (Cancel s u) us = u ∷ us
 cancelled_after _ us = us
 
+-- a read from outside the guards: it changes what is noted in the view, but not where the seat is, whom it condemned or has to
+-- wake, or how often it left a guard as a waiter
+pub record IsRead (v v' : View) : Type 0 where
+  pub inside : v'.inside ≡ v.inside
+  pub condemned : v'.condemned ≡ v.condemned
+  pub debts : v'.debts ≡ v.debts
+  pub naps : v'.naps ≡ v.naps
+
 -- A step that is no event: it changes what is noted in the view, but not where the seat is, whether it looks again,
 -- whom it condemned or has to wake, or how often it left a guard as a waiter; nor has it found no sign, or no cancel,
 -- by it.
@@ -31,14 +39,18 @@ pub record IsNoted (v v' : View) : Type 0 where
 module _ {key : Start} (m m' : Moment key) where
   -- ---- at the table
 
-  -- A seat that acts makes a step there. What the table tells of other seats stays, and so does all beside the table.
-  pub record StepsThere (t : ℕ) : Type 0 where
-    pub acts : Acts m t
+  -- what the table tells of other seats stays, and so does all beside the table
+  pub record OthersStay (t : ℕ) : Type 0 where
     pub others : (u : ℕ) → u < key.seats → u ≢ t → m'.part u ≡ m.part u
     pub rung : m'.rung ≡ m.rung
     pub risen : m'.risen ≡ m.risen
     pub token : m'.token ≡ m.token
     pub asleep : m'.asleep ≡ m.asleep
+
+  -- a seat that acts makes a step there
+  pub record StepsThere (t : ℕ) : Type 0 where
+    pub acts : Acts m t
+    pub stay : OthersStay t
 
   -- the step is this event of the locks, and the seat knows of it what its view says then
   pub record MakesEvent (e : Event) : Type 0 where
@@ -87,6 +99,17 @@ module _ {key : Start} (m m' : Moment key) where
   pub record Notes (t : ℕ) : Type 0 where
     pub looks : Looks t
     pub view : IsNoted (view m t) (view m' t)
+
+  -- A seat that left a guard as a waiter, and is about to fall asleep, reads something from outside the guards. What its view
+  -- says of its sign and its cancel matters inside only, and it has found neither when it goes there.
+  pub record Reads (t : ℕ) : Type 0 where
+    pub rests : Rests m t false
+    pub outside : (view m t).inside ≡ 0
+    pub stay : OthersStay t
+    pub core : m'.ruled.core ≡ m.ruled.core
+    pub cancelled : (m'.part t).counts.cancelled ≡ (m.part t).counts.cancelled
+    pub heeds : m'.heeds ≡ m.heeds
+    pub view : IsRead (view m t) (view m' t)
 
   -- ---- beside the table
 
@@ -148,4 +171,4 @@ module _ {key : Start} (m m' : Moment key) where
   Follows (Some (wakes s u)) = Rings s u
   Follows (Some (falls_asleep s)) = Parks s
   Follows (Some (rises s)) = Rises s
-  Follows None = StandsStill ⊎ ((t : ℕ) × Notes t)
+  Follows None = StandsStill ⊎ ((t : ℕ) × (Notes t ⊎ Reads t))
