@@ -1,7 +1,7 @@
 /*
  * The proved library for C on aarch64, as the kit's compiler (LLVM) makes it.  Written by ./build c --assembly.
  *
- * sources: 239390d21629b4102ceb5e4a7b4752e083e315937d99d5b59ef5c5896da668cf
+ * sources: 2d541a0d2a9406c8934fa3a46af0266a6831173bc618811d276054af89933d54
  * kit:     rattle-kit-13b logic dac8208d650f15bf
  * proof:   logic=proved functions=59 axioms=3 target=aarch64-unknown-linux-gnu sum=dac8208d650f15bf
  */
