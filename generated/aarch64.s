@@ -1,7 +1,7 @@
 /*
  * The proved program on aarch64, as the kit's compiler (LLVM) makes it.  Written by ./build --assembly.
  *
- * sources: fda8a2f0f2e0b344928d91acec4a1529267ffa8590d81b08233a67ff678c58a7
+ * sources: 6f3c34448b11d628c22de0248d64fa9bc5b6e0318e85264eaa7bf81fe53e996a
  * kit:     rattle-kit-13b logic dac8208d650f15bf
  * proof:   logic=proved functions=68 axioms=6 target=aarch64-unknown-linux-gnu threads=_exit,abort,free,malloc,pthread_attr_destroy,pthread_attr_init,pthread_attr_setguardsize,pthread_attr_setstacksize,pthread_create,pthread_detach,pthread_join,pthread_self,sched_yield,syscall main=Threads+Wait may-wait=7 sum=dac8208d650f15bf
  */

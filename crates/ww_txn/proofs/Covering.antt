@@ -5,7 +5,7 @@ use Rattle.std.specs.List.{AllByRecursion}
 use Rattle.ww_plain.specs.Transaction.{Transaction, listed}
 use Rattle.ww_plain.specs.Footprint.{footprint_of}
 use Rattle.ww_plain.specs.Numbers.{is_among, distinct_of, AreDifferent}
-use Rattle.ww_plain.proofs.Members.{is_among-head, is_among-tail, different_cons, different_none}
+use Rattle.ww_plain.proofs.Members.{different_cons, different_none}
 use Rattle.ww_plain.proofs.Frames.{is_among-distinct_of}
 use Rattle.ww_plain.proofs.Doubles.{no_double_is_none}
 use Rattle.ww_lock.specs.Waits.{Waits}
@@ -13,6 +13,7 @@ use Rattle.ww_lock.specs.Holding.{Holding}
 use Rattle.ww_users.specs.declared.fault.UserFault.{UserFault}
 use Rattle.ww_users.specs.declared.fault.UserFault.TheVariants.{PassSpent, Already, Interrupted}
 use Rattle.ww_users.specs.Ways.{HoldsList, IsWayAnswer}
+use Rattle.ww_users.proofs.Alongs.{all_among}
 use Rattle.ww_txn.specs.Transact.{IsReady}
 
 -- ---- what it gives
@@ -38,10 +39,6 @@ pub different_two : (n m : ℕ) → is_among n (m ∷ []) ≡ false → AreDiffe
 different_two n m new = different_cons n (m ∷ []) new (different_one m)
 
 -- ---- what it holds
-
-pub all_among : (P : ℕ → Type 0) (ns : List ℕ) → ((n : ℕ) → is_among n ns ≡ true → P n) → AllByRecursion P ns
-all_among P [] each = tt
-all_among P (n ∷ ns) each = (each n (is_among-head n ns), all_among P ns (λ m e. each m (is_among-tail n m ns e)))
 
 pub all_mapped : {A : Type 0} (P : ℕ → Type 0) (f : A → ℕ) (xs : List A) → AllByRecursion (λ x. P (f x)) xs → AllByRecursion P (map f xs)
 all_mapped P f [] all = tt

@@ -1,12 +1,12 @@
 -- The front of a walk, in a graph that is seen node by node.
-use Rattle.std.proofs.Common.{◌≡◌, ℕ, ◌<◌, ◌≤◌, true, false, eqb, inl, inr, List, [], ◌∷◌, ◌++◌, length, get_or, Option, Some, None, IfSome, sym, ap, subst, ◌∙◌}
+use Rattle.std.proofs.Common.{◌≡◌, ℕ, ◌<◌, ◌≤◌, true, eqb, inl, inr, List, [], ◌∷◌, ◌++◌, length, get_or, Option, Some, None, IfSome, sym, ap, subst, ◌∙◌}
 use Rattle.std.specs.List.{AllByRecursion}
 use Rattle.ww_plain.specs.declared.node.Node.{Node}
 use Rattle.ww_plain.specs.Numbers.{is_among, joined}
 use Rattle.ww_plain.specs.Graph.{port_of, Agree}
 use Rattle.ww_plain.specs.Footprint.{with_target}
 use Rattle.ww_plain.specs.Walk.{IsEnd, GoesOnTo, Follows, stop_of, walk_of}
-use Rattle.ww_plain.proofs.Members.{or_cases, same_from_eqb, is_among-head, is_among-tail, is_among-append}
+use Rattle.ww_plain.proofs.Members.{or_cases, same_from_eqb, is_among-head, is_among-tail, is_among-append, among_cons}
 use Rattle.ww_plain.proofs.Fronts.{IsFront, front_of_one, front_more, front_ends}
 use Rattle.ww_plain.proofs.Frames.{is_among-joined}
 use Rattle.ww_plain.proofs.Walks.{only_walk}
@@ -44,11 +44,7 @@ pub along_begins : {a : Holding} {start : ℕ} {s : Holding} {p most : ℕ} (vs 
 along_begins {a} {start} vs stop locked some is leads there = rw is (record {
   same = locked.same;
   front = front_of_one _ _ _ _ stop some leads;
-  held = λ n e. elim (or_cases (eqb start n) false e) [
-    | inl same ↦ subst (λ (m : ℕ). is_among m a.held ≡ true) (same_from_eqb start n same) locked.holds
-    | inr none
-        ↦ absurd cc
-  ];
+  held = among_cons (λ m. is_among m a.held ≡ true) start [] locked.holds (λ n e. absurd cc);
   there = there;
 })
 
@@ -72,25 +68,21 @@ along_goes_on {a} vs n h goes holds pushed leads there = record {
   held = λ m e. elim (or_cases (is_among m vs) (is_among m (n ∷ []))
       (sym (is_among-append m vs (n ∷ [])) ∙ ap (is_among m) (sym pushed) ∙ e)) [
         | inl before ↦ h.held m before
-        | inr last ↦ elim (or_cases (eqb n m) false last) [
-          | inl same ↦ subst (λ (k : ℕ). is_among k a.held ≡ true) (same_from_eqb n m same) holds
-          | inr none ↦ absurd
-              cc
-        ]
+        | inr last ↦ among_cons (λ k. is_among k a.held ≡ true) n [] holds (λ k none. absurd cc) m last
       ];
   there = there;
 }
 
-all_held : (held ns : List ℕ) → ((n : ℕ) → is_among n ns ≡ true → is_among n held ≡ true) → AllByRecursion (λ n. is_among n held ≡ true) ns
-all_held held [] each = tt
-all_held held (n ∷ ns) each = (each n (is_among-head n ns), all_held held ns (λ m e. each m (is_among-tail n m ns e)))
+pub all_among : (P : ℕ → Type 0) (ns : List ℕ) → ((n : ℕ) → is_among n ns ≡ true → P n) → AllByRecursion P ns
+all_among P [] each = tt
+all_among P (n ∷ ns) each = (each n (is_among-head n ns), all_among P ns (λ m e. each m (is_among-tail n m ns e)))
 
 -- the stop, too, where there is one
 stop_held : (held vs : List ℕ) (stop : Option ℕ) → ((n : ℕ) → is_among n vs ≡ true → is_among n held ≡ true)
     → IfSome stop (λ n. is_among n held ≡ true) → AllByRecursion (λ n. is_among n held ≡ true) (with_target vs stop)
-stop_held held vs None each last = all_held held vs each
+stop_held held vs None each last = all_among _ vs each
 stop_held held vs (Some t) each last =
-    all_held held (joined vs t) (λ n e. elim (or_cases (is_among n vs) (eqb t n) (sym (is_among-joined n vs t) ∙ e)) [
+    all_among _ (joined vs t) (λ n e. elim (or_cases (is_among n vs) (eqb t n) (sym (is_among-joined n vs t) ∙ e)) [
       | inl before ↦ each n before
       | inr same ↦ subst (λ (m : ℕ). is_among m held ≡ true) (same_from_eqb t n same) last
     ])

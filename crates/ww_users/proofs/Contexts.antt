@@ -1,5 +1,5 @@
 -- Contexts of a pass, through their tries.
-use Rattle.std.proofs.Common.{◌≡◌, ℕ, ◌+◌, [], length, refl, sym, subst, ap, ◌∙◌, arith, length-set, List, Option, Some, IfErr}
+use Rattle.std.proofs.Common.{◌≡◌, ℕ, [], length, refl, sym, subst, ap, ◌∙◌, arith, length-set, List, Option, Some, IfErr}
 use Rattle.ww_plain.proofs.Doubles.{no_double_is_none}
 use Rattle.ww_plain.proofs.Members.{different_none}
 use Rattle.ww_lock.specs.Holding.{Holding}
@@ -14,22 +14,6 @@ use Rattle.ww_users.specs.declared.trip.Trip.TheVariants.{Failed}
 use Rattle.ww_users.specs.Ways.{IsToldOfEach, IsSameContext, IsReturned, IsContext, IsRefusal, with_locks_of, having_begun}
 use Rattle.ww_users.specs.Trips.{IsHalted, IsHalt, IsTrip}
 
--- ---- each try is told of
-
-told_later : (s a b : Holding) → IsToldOfEach s a → IsToldOfEach a b → IsToldOfEach s b
-told_later s a b h more = omega (arith, h, more)
-
-one_take : (tries takes deaths : ℕ) → tries + 1 + takes + deaths ≡ tries + (takes + 1) + deaths
-one_take tries takes deaths = omega arith
-
-one_death : (tries takes deaths : ℕ) → tries + 1 + takes + deaths ≡ tries + takes + (deaths + 1)
-one_death tries takes deaths = omega arith
-
--- ... and one that was called off, on either side
-one_more : (tries takes deaths tries' takes' deaths' : ℕ) → tries' + takes + deaths ≡ tries + takes' + deaths'
-    → tries' + 1 + takes + deaths ≡ tries + 1 + takes' + deaths'
-one_more tries takes deaths tries' takes' deaths' h = omega (arith, h)
-
 -- ---- the same context
 
 pub same_itself : (s : Holding) → IsSameContext s s
@@ -38,7 +22,7 @@ same_itself s = record { rest = refl; told = refl; size = refl }
 pub same_later : {s a b : Holding} → IsSameContext s a → IsSameContext a b → IsSameContext s b
 same_later {s} {a} {b} h more = record {
   rest = more.rest ∙ ap (with_locks_of b) h.rest;
-  told = told_later s a b h.told more.told;
+  told = omega (arith, h.told, more.told);
   size = more.size ∙ h.size;
 }
 
@@ -48,17 +32,17 @@ same_as : (s now a : Holding) → a ≡ now → now ≡ with_locks_of now s → 
 same_as s now a is rest told size = subst (IsSameContext s) (sym is) (record { rest = rest; told = told; size = size })
 
 pub same_taken : {s a : Holding} {n : ℕ} → IsTaken s n a → IsSameContext s a
-same_taken {s} {a} {n} t = same_as s (with_node (taken (having_slept s a.deaf)) n t.contents) a t.added refl
-    (one_take s.tries s.takes s.deaths) (length-set s.seen n t.contents)
+same_taken {s} {a} {n} t = same_as s (with_node (taken (having_slept s a.deaf)) n t.contents) a t.added refl (omega arith)
+    (length-set s.seen n t.contents)
 
 pub same_backed_off : (s a : Holding) → a ≡ backed_off (having_slept s a.deaf) → IsSameContext s a
-same_backed_off s a is = same_as s (backed_off (having_slept s a.deaf)) a is refl (one_death s.tries s.takes s.deaths) refl
+same_backed_off s a is = same_as s (backed_off (having_slept s a.deaf)) a is refl (omega arith) refl
 
 -- its wait was called off, before or after it took and gave locks
 same_interrupted : {s a : Holding} (n by : ℕ) → IsSameContext s a → IsSameContext (interrupted_by s n by) (interrupted_by a n by)
 same_interrupted {s} {a} n by h = record {
   rest = ap (λ (c : Holding). interrupted_by c n by) h.rest;
-  told = one_more s.tries s.takes s.deaths a.tries a.takes a.deaths h.told;
+  told = omega (arith, h.told);
   size = h.size;
 }
 

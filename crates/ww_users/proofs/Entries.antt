@@ -53,20 +53,17 @@ pub record IsPast (first : Option ℕ) (s a : Holding) (past : List ℕ) (kept :
   pub held : (n : ℕ) → is_among n a.held ≡ is_among n (kept_nodes kept ++ past)
   pub once : AreDifferent (kept_nodes kept ++ past)
 
+kept_alone : (kept : Option ℕ) → (kept_nodes kept ≡ in_order kept []) × AreDifferent (kept_nodes kept ++ [])
+kept_alone None = (refl, different_none)
+kept_alone (Some k) = (refl, different_push [] k different_none refl)
+
 pub way_begins : (kept : Option ℕ) (s : Holding) → s.held ≡ kept_nodes kept → IsPast kept s s [] kept
-way_begins None s held = record {
+way_begins kept s held = record {
   same = same_itself s;
-  order = held;
+  order = held ∙ (kept_alone kept).0;
   left = inl refl;
-  held = λ n. ap (is_among n) held;
-  once = different_none;
-}
-way_begins (Some k) s held = record {
-  same = same_itself s;
-  order = held;
-  left = inl refl;
-  held = λ n. ap (is_among n) held;
-  once = different_push [] k different_none refl;
+  held = λ n. ap (is_among n) (held ∙ sym (append-nil (kept_nodes kept)));
+  once = (kept_alone kept).1;
 }
 
 -- the entry is the node that was kept

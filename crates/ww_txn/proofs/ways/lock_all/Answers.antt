@@ -2,7 +2,8 @@ use Rattle.std.proofs.Common.{◌∙◌, ◌≡◌, ◌<◌, [], true, ℕ, leng
 use Rattle.ww_plain.specs.Numbers.{is_among}
 use Rattle.ww_plain.specs.Transaction.{get, add, move}
 use Rattle.ww_plain.proofs.Members.{different_none, is_among-head}
-use Rattle.ww_txn.proofs.Covering.{way_weaker, way_differs, different_one, all_among, all_mapped, ready}
+use Rattle.ww_users.proofs.Alongs.{all_among}
+use Rattle.ww_txn.proofs.Covering.{way_weaker, way_differs, different_one, all_mapped, ready}
 use Rattle.ww_txn.proofs.ways.lock_all.Goals as goal
 
 pub lock_by-requires-in-Add-clause-may : goal.lock_by-requires-in-Add-clause-may
