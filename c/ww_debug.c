@@ -53,8 +53,8 @@ struct debug {
 	struct standing seats[];
 };
 
-static unsigned long faults, dangers;
-static unsigned patience = 1000; /* in milliseconds */
+static unsigned long faults, warnings;
+static unsigned check_interval = 1000; /* in milliseconds */
 enum { LONG = 10000 };		 /* likewise */
 static uint64_t turns;
 /* Where this thread made its call; the address is that of the thread. */
@@ -94,7 +94,7 @@ void ww_debug_at_(const char *file, int line) { ww_here = (struct place){ file, 
 
 unsigned long ww_debug_faults(void) { return __atomic_load_n(&faults, __ATOMIC_RELAXED); }
 
-unsigned long ww_debug_dangers(void) { return __atomic_load_n(&dangers, __ATOMIC_RELAXED); }
+unsigned long ww_debug_warnings(void) { return __atomic_load_n(&warnings, __ATOMIC_RELAXED); }
 
 /* A prime, by which a number of 64 bits is mixed. */
 #define MIX 1099511628211u
@@ -141,7 +141,7 @@ __attribute__((format(printf, 5, 6))) static void tell(unsigned long *counted, c
 	va_list words;
 	int may_end;
 
-	if (counted == &dangers && p && !is_new_here(p, format))
+	if (counted == &warnings && p && !is_new_here(p, format))
 		return;
 	pthread_setcancelstate(PTHREAD_CANCEL_DISABLE, &may_end);
 	flockfile(stderr);
@@ -242,7 +242,7 @@ void ww_debug_begun(struct ww_acquire_ctx *x)
 		tell(&faults, p, "ww_acquire_init", standing_of(left), "the context that was here before was left without ww_acquire_fini; it began at");
 	}
 	if (first && !polls)
-		tell(&dangers, p, "ww_acquire_init", standing_of(first), "two contexts of a thread can wait for each other forever; "
+		tell(&warnings, p, "ww_acquire_init", standing_of(first), "two contexts of a thread can wait for each other forever; "
 		     "its other one, if it wasn't left without ww_acquire_fini, began at");
 	__atomic_store_n(&s->context, polls ? NULL : x, __ATOMIC_RELAXED); /* A task's may be moved, as Rust does. */
 	x->stamp = __atomic_add_fetch(&p->debug->stamps, 1, __ATOMIC_RELAXED);
@@ -276,7 +276,7 @@ void ww_debug_alone(const struct ww_mutex *m, const struct timespec *until)
 	const ww_seat *s = p && !until && is_seen() ? seat_with(p, false, &ww_here, A_MUTEX) : NULL;
 
 	if (s)
-		tell(&dangers, p, "ww_mutex_lock", standing_of(s),
+		tell(&warnings, p, "ww_mutex_lock", standing_of(s),
 		     "deadlocks through locks without a context are not detected; the thread holds a mutex by what began at");
 }
 
@@ -383,7 +383,7 @@ void ww_debug_waits(ww_seat *s, const struct ww_mutex *m, const struct timespec 
 	mine.seat = m && !until ? s : NULL;
 	mine.seen = 0;
 	if (m) {
-		mine.looks = in_milliseconds(__atomic_load_n(&patience, __ATOMIC_RELAXED));
+		mine.looks = in_milliseconds(__atomic_load_n(&check_interval, __ATOMIC_RELAXED));
 		mine.is_long = in_milliseconds(LONG);
 		use(it);
 		set_place(&it->waits);
@@ -406,11 +406,11 @@ void ww_debug_seeks(const struct ww_pool *p, const struct timespec *until)
 	s = seat_with(ww_lock_pools(), true, &ww_here, ANYTHING);
 	ww_unlock_pools();
 	if (s)
-		tell(&dangers, p, "a wait for a context", standing_of(s),
+		tell(&warnings, p, "a wait for a context", standing_of(s),
 		     "all are in use, and deadlocks through this wait are not detected; the thread has what began at");
 }
 
-void ww_debug_patience(unsigned milliseconds) { __atomic_store_n(&patience, milliseconds, __ATOMIC_RELAXED); }
+void ww_debug_check_interval(unsigned milliseconds) { __atomic_store_n(&check_interval, milliseconds, __ATOMIC_RELAXED); }
 
 /* The seat by which the holder of what this seat waits for waits itself, in any class of the list, which is locked; or NULL. */
 static const ww_seat *next_wait(const struct ww_pool *of, const ww_seat *s)
@@ -485,7 +485,7 @@ static void look_for_deadlock(void)
 	ww_unlock_pools();
 	mine.seen = seen;
 	if (text)
-		tell(&dangers, NULL, "a wait", NULL, "no class detects this deadlock of %u thread%s%s", count, count == 1 ? "" : "s", text);
+		tell(&warnings, NULL, "a wait", NULL, "no class detects this deadlock of %u thread%s%s", count, count == 1 ? "" : "s", text);
 	free(text);
 }
 
@@ -497,13 +497,13 @@ static void look_for_long_wait(void)
 	uint32_t holder = __atomic_load_n(&p->debug->mutexes[number].seat, __ATOMIC_RELAXED);
 
 	if (holder && !mine.seen && ww_has_come(&mine.is_long))
-		tell(&dangers, p, "a wait", &p->debug->seats[holder - 1], "it has lasted %d seconds; mutex %u is held by what began at",
+		tell(&warnings, p, "a wait", &p->debug->seats[holder - 1], "it has lasted %d seconds; mutex %u is held by what began at",
 		     LONG / 1000, number);
 }
 
 const struct timespec *ww_debug_sleeps(const struct timespec *until)
 {
-	unsigned most = __atomic_load_n(&patience, __ATOMIC_RELAXED);
+	unsigned most = __atomic_load_n(&check_interval, __ATOMIC_RELAXED);
 
 	if (!mine.seat || !most)
 		return until;
@@ -530,7 +530,7 @@ void ww_debug_leak(const struct ww_loose *of, const char *why)
 		if (is_used(s) && (!first || __atomic_load_n(&s->stamp, __ATOMIC_RELAXED) - 1 < __atomic_load_n(&first->stamp, __ATOMIC_RELAXED) - 1))
 			first = s;
 	}
-	tell(&dangers, of->pool, "a wait for a context", first, "%s%s", why, first ? "; the oldest began at" : "");
+	tell(&warnings, of->pool, "a wait for a context", first, "%s%s", why, first ? "; the oldest began at" : "");
 }
 
 /* ---- what is in use ---- */
@@ -589,7 +589,7 @@ char *ww_debug_left(struct ww_pool *p)
 void ww_debug_busy(char *left)
 {
 	if (left)
-		tell(&dangers, NULL, "ww_class_free", NULL, "%s", left);
+		tell(&warnings, NULL, "ww_class_free", NULL, "%s", left);
 	free(left);
 }
 #endif

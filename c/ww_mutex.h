@@ -470,12 +470,12 @@ void ww_class_print(struct ww_class *ww_class, FILE *to);
 /* How many misused calls were reported. */
 unsigned long ww_debug_faults(void);
 /* How many warnings and deadlocks were reported. */
-unsigned long ww_debug_dangers(void);
+unsigned long ww_debug_warnings(void);
 /*
  * Sets the interval, in milliseconds, at which waits that begin from now on check for a
  * deadlock; the second check that finds it reports it.  The default is 1,000; 0: no checks.
  */
-void ww_debug_patience(unsigned int milliseconds);
+void ww_debug_check_interval(unsigned int milliseconds);
 void ww_debug_at_(const char *file, int line);
 #ifdef __cplusplus
 }

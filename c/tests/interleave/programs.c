@@ -157,7 +157,7 @@ void il_check(const struct il_program *p)
 	MUST(met <= cancels && put[1] + put[2] == names(p, "P"));
 #ifdef WW_DEBUG
 	/* Of these, each call is right, and none is dangerous. */
-	MUST(names(p, "n>LKdDFP") || (!ww_debug_faults() && !ww_debug_dangers()));
+	MUST(names(p, "n>LKdDFP") || (!ww_debug_faults() && !ww_debug_warnings()));
 #endif
 	for (unsigned k = 1; k <= IL_THREADS; k++)
 		for (unsigned i = 0; i < polls[k]; i++)

@@ -25,9 +25,9 @@ static struct seen {
 
 static void is_thread(size_t k) { seen->threads[k] = syscall(SYS_gettid); }
 
-static void awaits_dangers(unsigned long count)
+static void awaits_warnings(unsigned long count)
 {
-	while (ww_debug_dangers() < count)
+	while (ww_debug_warnings() < count)
 		usleep(1000);
 }
 
@@ -45,7 +45,7 @@ int __wrap_clock_gettime(clockid_t clock, struct timespec *at)
 	return r;
 }
 
-/* ---- dangers ---- */
+/* ---- warnings ---- */
 
 static void *begins_and_ends(void *class)
 {
@@ -69,7 +69,7 @@ static void second_context(void)
 	ww_acquire_fini(&x);
 	ww_acquire_fini(&y);
 	begins_and_ends(&c);
-	MUST(ww_debug_dangers() == 2);
+	MUST(ww_debug_warnings() == 2);
 }
 
 static void without_context(void)
@@ -84,7 +84,7 @@ static void without_context(void)
 	ww_mutex_unlock(&b);
 	MUST(!ww_mutex_lock_until(&b, NULL, &late));
 	ww_mutex_unlock(&b);
-	MUST(!ww_debug_dangers());
+	MUST(!ww_debug_warnings());
 	ww_mutex_unlock(&a);
 	ww_acquire_fini(&x);
 	AT(1, ww_mutex_lock(&a, NULL));
@@ -92,7 +92,7 @@ static void without_context(void)
 		AT(2, ww_mutex_lock(&b, NULL));
 		ww_mutex_unlock(&b);
 	}
-	MUST(ww_debug_dangers() == 1);
+	MUST(ww_debug_warnings() == 1);
 }
 
 static void without_context_beside_one(void)
@@ -144,7 +144,7 @@ static void *waits_for_context(void *holds)
 
 	if (holds)
 		AT(0, ww_mutex_lock(&other, NULL));
-	MUST(ww_mutex_lock_until(&a, NULL, &now) == -ETIMEDOUT && !ww_debug_dangers());
+	MUST(ww_mutex_lock_until(&a, NULL, &now) == -ETIMEDOUT && !ww_debug_warnings());
 	AT(1, ww_acquire_init(&z, &c));
 	ww_acquire_fini(&z);
 	if (holds)
@@ -165,7 +165,7 @@ static void wait_for_context(void)
 		ww_mutex_unlock(&b);
 		ww_acquire_fini(&x);
 		end_thread(thread);
-		MUST(ww_debug_dangers() == holds);
+		MUST(ww_debug_warnings() == holds);
 	}
 }
 
@@ -175,7 +175,7 @@ static void stays_open(void)
 	AT(1, ww_mutex_lock(&a, NULL));
 	for (unsigned k = 0; k < 2; k++)
 		MUST(AT(2, ww_class_free(&c)) == -EBUSY);
-	MUST(ww_debug_dangers() == 1);
+	MUST(ww_debug_warnings() == 1);
 }
 
 /* ---- deadlocks ---- */
@@ -244,13 +244,13 @@ static void *in_a_ring(void *place)
 	return NULL;
 }
 
-static void deadlocked(unsigned threads, void *(*work)(void *), unsigned long dangers)
+static void deadlocked(unsigned threads, void *(*work)(void *), unsigned long warnings)
 {
-	ww_debug_patience(20);
+	ww_debug_check_interval(20);
 	MUST(!pthread_barrier_init(&all_hold, NULL, threads));
 	for (size_t k = 0; k < threads; k++)
 		MUST(!pthread_detach(begin_thread(work, (void *)k)));
-	awaits_dangers(dangers);
+	awaits_warnings(warnings);
 }
 
 static void two_classes(void) { deadlocked(2, by_two_classes, 1); }
@@ -266,7 +266,7 @@ static void behind(void)
 	MUST(!pthread_detach(begin_thread(waits_for_a, NULL)));
 	awaits_waiter(&a);
 	usleep(200000);
-	MUST(ww_debug_dangers() == 2);
+	MUST(ww_debug_warnings() == 2);
 }
 
 /* ---- none ---- */
@@ -290,10 +290,10 @@ static void *without_for_a_while(void *second)
 
 static void for_a_while(void)
 {
-	ww_debug_patience(5);
+	ww_debug_check_interval(5);
 	MUST(!pthread_barrier_init(&all_hold, NULL, 2));
 	in_threads(2, without_for_a_while);
-	MUST(ww_debug_dangers() == 1);
+	MUST(ww_debug_warnings() == 1);
 }
 
 /* The thread has one of the two contexts that it waits for, and another, which doesn't wait, has the other one. */
@@ -301,7 +301,7 @@ static void one_is_awake(void)
 {
 	pthread_t thread;
 
-	ww_debug_patience(5);
+	ww_debug_check_interval(5);
 	MUST(!pthread_barrier_init(&all_hold, NULL, 1));
 	ww_acquire_init(&x, &c);
 	thread = begin_thread(without, NULL);
@@ -309,7 +309,7 @@ static void one_is_awake(void)
 	usleep(200000);
 	ww_acquire_fini(&x);
 	end_thread(thread);
-	MUST(ww_debug_dangers() == 2);
+	MUST(ww_debug_warnings() == 2);
 }
 
 static void *waits_long(void *for_context)
@@ -327,7 +327,7 @@ static void *waits_long(void *for_context)
 static void waits_for_what_was_left(bool for_context)
 {
 	__atomic_store_n(&ahead, for_context ? -11 : 0, __ATOMIC_RELAXED);
-	ww_debug_patience(20);
+	ww_debug_check_interval(20);
 	AT(0, ww_acquire_init(&x, &c));
 	MUST(!ww_mutex_lock(&a, &x));
 	MUST(!pthread_detach(begin_thread(waits_long, for_context ? &x : NULL)));
@@ -336,9 +336,9 @@ static void waits_for_what_was_left(bool for_context)
 	else
 		awaits_waiter(&a);
 	usleep(100000);
-	MUST(!ww_debug_dangers());
+	MUST(!ww_debug_warnings());
 	__atomic_store_n(&ahead, for_context ? 0 : 11, __ATOMIC_RELAXED);
-	awaits_dangers(1);
+	awaits_warnings(1);
 }
 static void for_a_mutex(void) { waits_for_what_was_left(false); }
 static void for_a_context(void) { waits_for_what_was_left(true); }
@@ -349,7 +349,7 @@ static void no_context_left(void)
 	__atomic_store_n(&ahead, -11, __ATOMIC_RELAXED);
 	deadlocked(2, without, 2);
 	__atomic_store_n(&ahead, 0, __ATOMIC_RELAXED);
-	awaits_dangers(3);
+	awaits_warnings(3);
 }
 
 /* One of two threads gets the context that both wait for: the other one says so only where it isn't given for ten seconds more. */
@@ -364,9 +364,9 @@ static void contexts_come_back(void)
 	awaits_seekers(1);
 	__atomic_store_n(&ahead, -11, __ATOMIC_RELAXED);
 	usleep(200000);
-	MUST(!ww_debug_dangers());
+	MUST(!ww_debug_warnings());
 	__atomic_store_n(&ahead, 0, __ATOMIC_RELAXED);
-	awaits_dangers(1);
+	awaits_warnings(1);
 }
 
 /* A context is left by a return, and the next one lies in its memory. */
@@ -409,7 +409,7 @@ static void one_is_woken(void)
 	struct ww_mutex further;
 	pthread_t thread;
 
-	ww_debug_patience(5);
+	ww_debug_check_interval(5);
 	ww_mutex_init(&further, &c);
 	ww_acquire_init(&x, &c);
 	x.deadlock_inject_countdown = ~0u;
@@ -421,7 +421,7 @@ static void one_is_woken(void)
 	MUST(!ww_mutex_lock(&b, &x));
 	__atomic_store_n(&is_slow, false, __ATOMIC_RELAXED);
 	end_thread(thread);
-	MUST(!ww_debug_dangers());
+	MUST(!ww_debug_warnings());
 }
 
 static struct ww_mutex firsts[3], seconds[3], outside[2];
@@ -459,7 +459,7 @@ static DEFINE_WW_CLASS(beyond);
 
 static void no_deadlock(void)
 {
-	ww_debug_patience(1);
+	ww_debug_check_interval(1);
 	for (unsigned k = 0; k < 3; k++) {
 		ww_mutex_init(&firsts[k], &c);
 		ww_mutex_init(&seconds[k], &d);
@@ -545,7 +545,7 @@ static void fill_in(char *to, const char *words)
 {
 	for (; *words; words++)
 		if (*words == '$')
-			to += sprintf(to, "mutex_dangers.c:%d", seen->lines[*++words - '0']);
+			to += sprintf(to, "mutex_warnings.c:%d", seen->lines[*++words - '0']);
 		else if (*words == '~')
 			to += sprintf(to, "thread %ld", seen->threads[*++words - '0']);
 		else
@@ -574,7 +574,7 @@ static void tells(uint32_t contexts, uint32_t others, void (*what)(void), const 
 #define ALL_IN_USE(n) "all " n " contexts have been in use for 10 seconds; one that isn't ended by ww_acquire_fini stays in use; the oldest began at "
 #define NONE_LEFT "all are in use, and deadlocks through this wait are not detected; the thread has what began at "
 
-static void tells_dangers(void)
+static void tells_warnings(void)
 {
 	tells(4, 4, second_context, "$1: ww_acquire_init: class \"c\": " OTHER_CONTEXT "$0\n"
 				    "$2: ww_acquire_init: class \"c\": " OTHER_CONTEXT "$0\n");
@@ -677,7 +677,7 @@ static void prints_what_is(void)
 	ww_acquire_fini(&x);
 	MUST(!ww_mutex_destroy(&b));
 	prints(1, 0, "");
-	MUST(!ww_mutex_destroy(&a) && !ww_class_free(&c) && !ww_debug_dangers() && !ww_debug_faults());
+	MUST(!ww_mutex_destroy(&a) && !ww_class_free(&c) && !ww_debug_warnings() && !ww_debug_faults());
 }
 
 /* Of a crowd, whose sleepers wait for a, it writes how many wait for a permit; at some time two of three do. */
@@ -766,7 +766,7 @@ int main(void)
 {
 	seen = mmap(NULL, sizeof *seen, PROT_READ | PROT_WRITE, MAP_SHARED | MAP_ANONYMOUS, -1, 0);
 	MUST(seen != MAP_FAILED);
-	tells_dangers();
+	tells_warnings();
 	tells_deadlocks();
 	tells(4, 2, for_a_while, "$1: ww_mutex_lock: class \"c\": " BESIDE "$0\n");
 	tells(2, 2, one_is_awake, "$1: ww_mutex_lock: class \"c\": " BESIDE "$0\n"
@@ -777,6 +777,6 @@ int main(void)
 	prints_what_is();
 	prints_crowd();
 	prints_beside_its_end();
-	puts("mutex_dangers: each danger and each deadlock is told, and no other");
+	puts("mutex_warnings: each warning and each deadlock is told, and no other");
 	return 0;
 }
