@@ -38,7 +38,7 @@ $(PROGRAM): $(ASSEMBLY) c/heap.c c/program.c
 	@mkdir -p $(OUT)
 	@rm -f $@ $@.sources
 	$(CC) -c $(ASSEMBLY) -o $@.o
-	$(CC) $(AS_C) $@.o c/heap.c c/program.c $(LDFLAGS) -pthread -o $@
+	$(CC) $(AS_C) -DWW_RUN $@.o c/heap.c c/program.c $(LDFLAGS) -pthread -o $@
 	@sed -n 's/^ \* sources: //p' $(ASSEMBLY) >$@.sources
 	@tools/is_of_sources $@ || true
 

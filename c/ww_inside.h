@@ -62,6 +62,15 @@ struct ww_stay {
 enum { NOTHING, TOKEN, ASLEEP, ARMED };
 
 #define WW_HIDDEN __attribute__((visibility("hidden")))
+/* Of the proved library's heap: the large blocks that a thread took while it opens a world, in this order. */
+enum { MANY_BLOCKS = 8 };
+struct ww_blocks {
+	struct ww_block { char *at; size_t size; } all[MANY_BLOCKS];
+	uint32_t count;
+};
+/* This thread opens a world between these calls.  The second one returns zeros to the system: see heap.c. */
+WW_HIDDEN void ww_heap_opens(struct ww_blocks *its);
+WW_HIDDEN void ww_heap_opened(void);
 /* Makes all steps of a call after the first one. */
 WW_HIDDEN int ww_go_on(ww_seat *s, struct ww_stop *stop);
 /* The same, but it returns WW_SLEEPS where it would have to sleep. Its caller then asks whom to wake. */

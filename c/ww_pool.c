@@ -633,8 +633,12 @@ static uint32_t tasks_of(const struct ww_class *c)
 /* Opens a new world, whose handles are moved into the seats. */
 static int open_world(struct ww_pool *p, bool is_wait_die, ww_handle *handles)
 {
-	int r = ww_open_(is_wait_die, p->locks, ((uint64_t)1 << 52) - 1, handles, seats_of(p) + SPARE);
+	struct ww_blocks blocks;
+	int r;
 
+	ww_heap_opens(&blocks);
+	r = ww_open_(is_wait_die, p->locks, ((uint64_t)1 << 52) - 1, handles, seats_of(p) + SPARE);
+	ww_heap_opened();
 	if (r)
 		return r;
 	memset(p->seats, 0, (seats_of(p) + SPARE) * sizeof *p->seats);

@@ -52,6 +52,10 @@ struct tried rattle_realloc(void *p, size_t kept, size_t size, size_t align)
 
 void rattle_dealloc(void *p) { free(p); }
 
+/* It returns nothing to the system. */
+void ww_heap_opens(struct ww_blocks *its) { (void)its; }
+void ww_heap_opened(void) { }
+
 void *__wrap_aligned_alloc(size_t align, size_t size)
 {
 	return asked(made++ == refused ? NULL : __real_aligned_alloc(align, size));

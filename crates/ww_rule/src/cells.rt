@@ -8,11 +8,11 @@ use ww_plain::{Graph, Node, Record};
 use ww_queue::Kind;
 use ww_view::view::View;
 
-/// What a slot has.
+/// What a slot has. The first variant is told by a zero, so that a slot with a list in which nobody stands is zeros.
 #[derive(Drop)]
 pub enum Cell {
-    Content(Node),
     Line(Waiters),
+    Content(Node),
 }
 
 /// Proof-only state of a seat number, kept after its seat is gone: what it knows of the core, its counts, and all its

@@ -25,23 +25,23 @@ pub fn slots(alloc: Global, graph: &Graph, bare: bool, locks: u32) -> Result<Vec
     let count = layout::slots(locks);
     let mut slots = Vec::with_capacity(alloc, count)?;
     for n in 0..count {
-        slots.push_reserved(cell(alloc, graph, bare, n));
+        slots.push_reserved(cell(graph, bare, n));
     }
     Ok(slots)
 }
 
 /// What a slot has at the start.
-fn cell(alloc: Global, graph: &Graph, bare: bool, n: usize) -> Cell
+fn cell(graph: &Graph, bare: bool, n: usize) -> Cell
     ensures node { n < length (nodes_of bare graph.now) → result ≡ Content (node_at (nodes_of bare graph.now) n) }
     ensures list { length (nodes_of bare graph.now) ≤ n → result ≡ Line [] }
 {
     if bare {
-        return Cell::Line(Waiters::new(alloc));
+        return Cell::Line(Waiters::new());
     }
     if n < usize::from(graph.size()) {
         Cell::Content(graph.node(n as u8))
     } else {
-        Cell::Line(Waiters::new(alloc))
+        Cell::Line(Waiters::new())
     }
 }
 

@@ -13,7 +13,7 @@ use crate::cells::{Cell, TableSeat, Top};
 use crate::pages::{Page, Waiters};
 use arrayvec::ArrayVec;
 use ww_queue::Kind;
-use ww_queue::wide::{Entry, SOME_SIGNS, must_die, signs_from};
+use ww_queue::wide::{Entry, SOME_SIGNS};
 use ww_word::WAITERS;
 use ww_word::wide::Owner;
 
@@ -120,7 +120,7 @@ pub fn death_there(
     ensures death { (q : List Entry) → seat.old.me.1 ≡ (slot, Line q) ∷ rest seat.old.me.1 → result ≡ must_die kind seen q who sign }
 {
     match seat.slot_mut(shared, slot as usize) {
-        Cell::Line(waiters) => must_die(kind, seen, waiters.entries(), who, sign),
+        Cell::Line(waiters) => waiters.death(kind, seen, who, sign),
         Cell::Content(_) => unreachable!(),
     }
 }
@@ -145,7 +145,7 @@ pub fn owed_there(
     ensures further { (q : List Entry) → seat.old.me.1 ≡ (slot, Line q) ∷ rest seat.old.me.1 → IfSome result.1 (λ next. (from < next) × (next ≤ length q)) }
 {
     match seat.slot_mut(shared, slot as usize) {
-        Cell::Line(waiters) => signs_from(kind, seen, waiters.entries(), who, from),
+        Cell::Line(waiters) => waiters.owed(kind, seen, who, from),
         Cell::Content(_) => unreachable!(),
     }
 }
