@@ -5,7 +5,7 @@ ghost use Rattle.std.specs.Prelude.{◌≡◌, ◌≢◌, ◌<◌, length, IfOk,
 ghost use Rattle.ww_plain.specs.Transaction.{move};
 ghost use Rattle.ww_lock.specs.Holding.{IsAtHome};
 ghost use Rattle.ww_lock.specs.Moves.{backed_off, having_slept};
-ghost use Rattle.ww_users.specs.Turns.{KeepsContext, IsTurn};
+ghost use Rattle.ww_users.specs.Rounds.{KeepsContext, IsRound};
 ghost use Rattle.ww_transfer.specs.Caller.{IsLockedMore, HasBoth, HasRecord};
 
 use std::sync::Wait;
@@ -71,7 +71,7 @@ fn lock_both<R: Wait>(rt: &R, world: &World, acquiring: Acquiring, from: u8, to:
         requires home { IsAtHome acquiring world.now }
         requires from { from < length world.now.first }
         requires to { to < length world.now.first }
-        ensures turn { IsTurn acquiring result }
+        ensures round { IsRound acquiring result }
         ensures both { IfOk result (HasBoth from to) }
     { lock_in_turn(rt, world, acquiring, from, to) };
     lock_until(rt, world, acquiring, body)
@@ -88,7 +88,7 @@ fn lock_in_turn<R: Wait>(
     requires home { IsAtHome acquiring world.now }
     requires from { from < length world.now.first }
     requires to { to < length world.now.first }
-    ensures turn { IsTurn acquiring result }
+    ensures round { IsRound acquiring result }
     ensures both { IfOk result (HasBoth from to) }
 {
     let acquiring = lock_one(rt, world, acquiring, from)?;
