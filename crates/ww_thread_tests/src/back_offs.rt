@@ -48,7 +48,7 @@ const WAYS: [Way; 5] = [
 ];
 
 /// Takes both nodes in the rounds of a body.
-fn in_turns<R: Wait>(rt: &R, world: &World, pass: Pass) -> Result<(), UserFault>
+fn in_rounds<R: Wait>(rt: &R, world: &World, pass: Pass) -> Result<(), UserFault>
     requires home { IsAtHome pass world.now }
     requires size { length world.now.first ≡ 3 }
 {
@@ -93,7 +93,7 @@ fn takes<R: Wait>(rt: &R, world: &World, pass: Pass, way: Way) -> Result<(), Use
         Way::List => lock_list_interruptible(world, pass, rt, &[0, 1]),
         Way::Order => lock_order_interruptible(world, pass, rt, &[0, 1]),
         Way::Walk => lock_walk_interruptible(world, pass, rt, 0, 0, 2),
-        Way::Body => return in_turns(rt, world, pass),
+        Way::Body => return in_rounds(rt, world, pass),
         Way::Transaction => return in_a_call(rt, world, pass),
     };
     match locked {
