@@ -1,7 +1,7 @@
 //! What C keeps of a seat.
 ghost use Rattle.std.specs.Prelude.{◌≡◌, ◌<◌, ◌==◌, Option, Some, None, IfSome, IfNone, true, not};
 ghost use Rattle.std.proofs.Props.{props};
-ghost use Rattle.ww_desk.specs.Situations.{IsReady, IsPlain, IsBare};
+ghost use Rattle.ww_desk.specs.Situations.{IsReady, IsPlain, HasReleasedAll};
 ghost use Rattle.ww_desk.specs.contracts.desk.Desk.{the_row};
 ghost use Rattle.ww_c.specs.Modes.{knows, is_ready, is_plain, is_bare, is_alone, has_locks};
 ghost use Rattle.ww_c.specs.Slots.{slot_owns, slot_coded, is_full};

@@ -32,7 +32,7 @@ use Rattle.ww_lock.specs.declared.hand.Hand.TheInside.{Inside}
 use Rattle.ww_lock.specs.Holding.{Home, Holding, Setting, IsAtHome, AreHeld, by_of}
 use Rattle.ww_lock.specs.Carried.{Carried, known_of, held_of, seen_with, holding_of, IsFresh, MayLock}
 use Rattle.ww_lock.specs.Hands.{carried_of, Suits, Carries}
-use Rattle.ww_lock.specs.Moves.{tried, with_node, HasCome, IsTried}
+use Rattle.ww_lock.specs.Moves.{tried, with_node, HasReturned, IsTried}
 use Rattle.ww_lock.specs.Opened.{setting_of}
 use Rattle.ww_lock.proofs.Helds.{held_more, held_less, all_among}
 
@@ -255,7 +255,7 @@ holds_one h c one = some_among (held_of (carried_of h)) one.0 (sym (c.suits.owne
 -- it came without the lock, after one try in vain
 pub record TurnsAway (h g : Inside) (n : ℕ) (waits : Waits) (why : Stop) : Type 0 where
   pub carries : Carries g
-  pub came : (s : Holding) → holding_of (carried_of h) ≡ tried s → HasCome s n waits (Err why) (carried_of g)
+  pub came : (s : Holding) → holding_of (carried_of h) ≡ tried s → HasReturned s n waits (Err why) (carried_of g)
 
 pub turned_away : (h : Inside) (s' : Standing) (p : Patience) (bells : Vec Bell) (n : ℕ) (waits : Waits) (why : Stop)
     → Carries h → IsFresh (carried_of h) → is_among n (held_of (carried_of h)) ≡ false → IsBack h.seat s'
@@ -314,7 +314,7 @@ waits_in_vain h b s p was now n m waits why c may e even is same places =
 -- it has the lock, after one try in vain
 pub record Gets (h g : Inside) (n : ℕ) (waits : Waits) : Type 0 where
   pub carries : Carries g
-  pub came : (s : Holding) → holding_of (carried_of h) ≡ tried s → HasCome s n waits (Ok tt) (carried_of g)
+  pub came : (s : Holding) → holding_of (carried_of h) ≡ tried s → HasReturned s n waits (Ok tt) (carried_of g)
 
 pub waits_out : (h g : Inside) (b : Board) (was now : List Bell) (n m : ℕ) (waits : Waits) (x : Node) → Carries h
     → MayLock n (carried_of h) → IsWait b h.seat m waits (Ok x) g.seat → StaysEven h.patience was g.seat g.patience now

@@ -8,12 +8,13 @@ use Rattle.ww_plain.specs.Numbers.{is_among}
 use Rattle.ww_plain.specs.Graph.{node_at}
 use Rattle.ww_view.specs.declared.view.View.{View}
 use Rattle.ww_view.specs.declared.view.Met.{Met}
+use Rattle.ww_rule.specs.Rule.{own_of}
 use Rattle.ww_seat.specs.Accounts.{Account, account_of}
 use Rattle.ww_seat.specs.Calls.{HasMet}
 use Rattle.ww_seat.specs.Standings.{Standing, view_in}
 use Rattle.ww_seat.specs.declared.waiting.Stop.{Stop}
 use Rattle.ww_seat.specs.declared.waiting.Stop.TheVariants.{Deadlk, Interrupted}
-use Rattle.ww_lock.specs.Holding.{Holding, own_of}
+use Rattle.ww_lock.specs.Holding.{Holding}
 
 -- Its seat; the parkers that its bells ring, in their order; how many contexts and solos it may still start; and the graph
 -- as it was seen.

@@ -94,9 +94,9 @@ pub record IsInterrupted (s : Holding) (n by : ℕ) (a : Holding) : Type 0 where
   pub told : a ≡ interrupted_by s n by
 
 -- why a lock wasn't taken, told of a node that wasn't held
-abbrev pub IsStop : Holding → ℕ → Stop → Holding → Type 0
-IsStop s n (seat.Deadlk k) a = (a ≡ backed_off (having_slept s a.deaf)) × (1 ≤ k) × (k < s.stamp) × (1 ≤ length s.held)
-IsStop s n (seat.Interrupted by) a = IsInterrupted s n by a
+abbrev pub IsStopOf : Holding → ℕ → Stop → Holding → Type 0
+IsStopOf s n (seat.Deadlk k) a = (a ≡ backed_off (having_slept s a.deaf)) × (1 ≤ k) × (k < s.stamp) × (1 ≤ length s.held)
+IsStopOf s n (seat.Interrupted by) a = IsInterrupted s n by a
 
 -- the wait of this caller was cancelled
 abbrev pub IsCancelling : Holding → ℕ → Holding → Type 0
@@ -202,9 +202,9 @@ IsTried c n true c' = IsFresh c' × IsTaken (holding_of c) n (holding_of c') × 
 IsTried c n false c' = HasLost n c' × (holding_of c' ≡ tried (holding_of c)) × (met_of c' ≡ met_of c)
 
 -- what a call that takes lock n came to, from a state that hadn't tried yet: it has the lock; or why not
-abbrev pub HasCome : Holding → ℕ → Waits → Result (Unit {0}) Stop → Carried → Type 0
-HasCome s n waits (Ok _) c' = IsFresh c' × IsHeeding waits s (holding_of c') × IsTaken s n (holding_of c') × (met_of c' ≡ None)
-HasCome s n waits (Err why) c' = IsFresh c' × IsHeeding waits s (holding_of c') × IsStop s n why (holding_of c')
+abbrev pub HasReturned : Holding → ℕ → Waits → Result (Unit {0}) Stop → Carried → Type 0
+HasReturned s n waits (Ok _) c' = IsFresh c' × IsHeeding waits s (holding_of c') × IsTaken s n (holding_of c') × (met_of c' ≡ None)
+HasReturned s n waits (Err why) c' = IsFresh c' × IsHeeding waits s (holding_of c') × IsStopOf s n why (holding_of c')
     × HasMetSo n why c' × MayStop 16 waits why
 
 -- it holds one node less
@@ -213,6 +213,6 @@ pub record HasLetGo (c c' : Carried) : Type 0 where
   pub fewer : length (held_of c') < length (held_of c)
 
 -- ... or still what it held
-abbrev pub HasLet : Carried → Bool → Carried → Type 0
-HasLet c true c' = HasLetGo c c'
-HasLet c false c' = holding_of c' ≡ holding_of c
+abbrev pub HasLetOrKept : Carried → Bool → Carried → Type 0
+HasLetOrKept c true c' = HasLetGo c c'
+HasLetOrKept c false c' = holding_of c' ≡ holding_of c

@@ -10,7 +10,7 @@ impl Hand {
     ghost use Rattle.ww_plain.specs.Numbers.{is_among};
     ghost use Rattle.ww_lock.specs.Holding.{Holding, IsAtHome};
     ghost use Rattle.ww_lock.specs.Carried.{holding_of, held_of, stamp_of, met_of, IsFresh, MayBegin, MayLock, MayLockAlone};
-    ghost use Rattle.ww_lock.specs.Moves.{tried, found_pending, emptied, IsTaken, IsCancelling, HasBegun, HasLost, IsTried, HasCome, HasLet, HasLetGo};
+    ghost use Rattle.ww_lock.specs.Moves.{tried, found_pending, emptied, IsTaken, IsCancelling, HasBegun, HasLost, IsTried, HasReturned, HasLetOrKept, HasLetGo};
 
     /// Starts a context: it draws a stamp.
     pub(crate) fn begin(&mut self, world: &World)
@@ -62,7 +62,7 @@ impl Hand {
     ) -> Result<(), Stop>
         requires home { IsAtHome (holding_of self.old) world.now }
         requires may { HasLost n self.old }
-        ensures { (s : Holding) → holding_of self.old ≡ tried s → HasCome s n waits result self.new }
+        ensures { (s : Holding) → holding_of self.old ≡ tried s → HasReturned s n waits result self.new }
     {
         let node = self.seat.wait_for(
             rt,
@@ -87,7 +87,7 @@ impl Hand {
     ) -> Result<(), Stop>
         requires home { IsAtHome (holding_of self.old) world.now }
         requires may { MayLock n self.old }
-        ensures { HasCome (holding_of self.old) n waits result self.new }
+        ensures { HasReturned (holding_of self.old) n waits result self.new }
     {
         if self.try_take(world, n) {
             return Ok(());
@@ -123,7 +123,7 @@ impl Hand {
     fn give(&mut self, world: &World, n: u32) -> bool
         requires home { IsAtHome (holding_of self.old) world.now }
         requires held { is_among n (held_of self.old) ≡ true }
-        ensures { HasLet self.old result self.new }
+        ensures { HasLetOrKept self.old result self.new }
     {
         let gave = self.seat.give(&world.board, n);
         if gave {

@@ -17,7 +17,7 @@ use ww_plain::{By, Graph, Reply, Txn, replays};
 use ww_queue::Kind;
 use ww_scope::run_crew;
 use ww_test_parts::{KINDS, add, graph_of, is_possible, is_possible_alone};
-use ww_transfer::{Refusal, transfer};
+use ww_transfer::{TransferFault, transfer};
 use ww_txn::TxnFault;
 
 /// How many transactions each of two passes makes that take turns.
@@ -415,7 +415,7 @@ fn moved<R: Wait>(rt: &R, world: &World, pass: Pass) -> (Pass, bool)
         return (pass, false);
     }
     let (pass, told) = match transfer(rt, world, pass, 0, 1, 1) {
-        (pass, Err(Refusal::NoMemory)) => transfer(rt, world, pass, 0, 1, 1),
+        (pass, Err(TransferFault::NoMemory)) => transfer(rt, world, pass, 0, 1, 1),
         told => told,
     };
     (

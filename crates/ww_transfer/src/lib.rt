@@ -16,7 +16,7 @@ use ww_users::lock_until;
 
 /// Why nothing was moved, and nothing recorded.
 #[derive(Clone, Copy, Debug, PartialEq, Eq, Drop, Error)]
-pub enum Refusal {
+pub enum TransferFault {
     /// The pass has no context left to start.
     #[error("the pass has no context left to start")]
     Spent,
@@ -34,7 +34,7 @@ pub fn transfer<R: Wait>(
     from: u8,
     to: u8,
     amount: u64,
-) -> (Pass, Result<Receipt, Refusal>)
+) -> (Pass, Result<Receipt, TransferFault>)
     requires home { IsAtHome pass world.now }
     requires from { from < length world.now.first }
     requires to { to < length world.now.first }
@@ -46,12 +46,12 @@ pub fn transfer<R: Wait>(
 {
     let acquiring = match pass.begin(world) {
         Ok(acquiring) => acquiring,
-        Err(pass) => return (pass, Err(Refusal::Spent)),
+        Err(pass) => return (pass, Err(TransferFault::Spent)),
     };
     let mut done = lock_both(rt, world, acquiring, from, to).done();
     let Ok(prepared) = done.prepare(world, Txn::Move(from, to, amount)) else {
         let pass = done.unlock_all(rt, world).fini(world);
-        return (pass, Err(Refusal::NoMemory));
+        return (pass, Err(TransferFault::NoMemory));
     };
     let (committed, receipt) = done.commit(world, prepared);
     let pass = committed.unlock_all(rt, world).fini(world);
