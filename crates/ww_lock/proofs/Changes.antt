@@ -19,7 +19,7 @@ use Rattle.ww_seat.specs.Standings.{Standing, view_in, IsCommit}
 use Rattle.ww_lock.specs.declared.hand.Hand.TheInside.{Inside}
 use Rattle.ww_lock.specs.declared.prepared.Prepared.TheInside as prepared
 use Rattle.ww_lock.specs.declared.prepared.Receipt.{Receipt}
-use Rattle.ww_lock.specs.Carried.{held_of, seen_with, holding_of, IsFresh}
+use Rattle.ww_lock.specs.Carried.{held_of, seen_with, holding_of, MayStillCommit}
 use Rattle.ww_lock.specs.Hands.{carried_of, Carries}
 use Rattle.ww_lock.specs.Moves.{IsCommitted}
 use Rattle.ww_lock.proofs.Helds.{all_among}
@@ -114,7 +114,7 @@ pub record MaySettle (h : Inside) (p : Change) (r : Record) : Type 0 where
 pub many : (own : List (ℕ × Record)) → length (own_of own) ≡ length own
 many own = length-map own (λ (x : ℕ × Record). (x.0, recorded_of x.1))
 
-pub may_settle : (h : Inside) (p : Change) (r : Record) → Carries h → IsFresh (carried_of h) → IsChangeMade (holding_of (carried_of h)) p
+pub may_settle : (h : Inside) (p : Change) (r : Record) → Carries h → MayStillCommit (carried_of h) → IsChangeMade (holding_of (carried_of h)) p
     → r.seq ≡ length (own_of h.seat.me.0.part.own) → Fits (length p.before) p.transaction → MaySettle h p r
 may_settle h p r c f made seq fits =
     let ns : List ℕ = footprint_of p.before p.transaction in
@@ -141,7 +141,7 @@ below_as place [] all = tt
 below_as place (r ∷ rs) all = (all.0, below_as place rs all.1)
 
 pub commits : (h : Inside) (s' : Standing) (p : Change) (r : Record) (before : List Node) (told : Receipt) → Carries h
-    → IsFresh (carried_of h) → IsCommit h.seat r before told.place s'
+    → MayStillCommit (carried_of h) → IsCommit h.seat r before told.place s'
     → recorded_of r ≡ record {
       caller = (view_in h.seat).who;
       seq = length (own_of h.seat.me.0.part.own);

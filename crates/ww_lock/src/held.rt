@@ -41,13 +41,13 @@ pub struct Held<H: HolderKind> {
 
 impl<H: HolderKind> Model for Held<H> {
     ghost use Rattle.ww_lock.specs.Holding.{Holding};
-    ghost use Rattle.ww_lock.specs.Carried.{holding_of, stamp_of, IsFresh};
+    ghost use Rattle.ww_lock.specs.Carried.{holding_of, stamp_of, MayStillCommit};
 
     ghost Value = { Holding };
 
     ghost view = { λ s. holding_of s.hand.value };
 
-    ghost invariant = { λ s. IsFresh s.hand.value × H.is_stamp (stamp_of s.hand.value) };
+    ghost invariant = { λ s. MayStillCommit s.hand.value × H.is_stamp (stamp_of s.hand.value) };
 }
 
 /// The locks that are still held after the commit.

@@ -54,7 +54,7 @@ impl Hand {
     ghost use Rattle.ww_plain.specs.Meaning.{answer_of, answer_to};
     ghost use Rattle.ww_seat.specs.Commits.{changes_of};
     ghost use Rattle.ww_lock.specs.Holding.{IsAtHome};
-    ghost use Rattle.ww_lock.specs.Carried.{holding_of, IsFresh};
+    ghost use Rattle.ww_lock.specs.Carried.{holding_of, MayStillCommit};
     ghost use Rattle.ww_lock.specs.Making.{IsChangeMade, IsMadeOf, HoldsUnchanged};
     ghost use Rattle.ww_lock.specs.Moves.{IsCommitted, MayPrepare, HasReserved};
 
@@ -137,7 +137,7 @@ impl Hand {
     /// Commits what was prepared: it takes the next place of the one history, and the nodes change.
     pub(crate) fn commit(&mut self, world: &World, prepared: Prepared) -> Receipt
         requires home { IsAtHome (holding_of self.old) world.now }
-        requires may { IsFresh self.old × IsChangeMade (holding_of self.old) prepared }
+        requires may { MayStillCommit self.old × IsChangeMade (holding_of self.old) prepared }
         ensures { IsCommitted (holding_of self.old) prepared (holding_of self.new) result }
     {
         let Prepared {
