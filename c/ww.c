@@ -21,7 +21,7 @@ enum { WAKES = 9 };
  * before each further try: if its thread has a higher priority than that of the seat
  * inside, and only yielded, that one would never run.
  */
-enum { NAP = 50000 };
+enum { SHORT_SLEEP = 50000 };
 
 /*
  * For how many nanoseconds a call may yield, from its first yield on.  By then somebody
@@ -80,12 +80,12 @@ static void yield(struct ww_stay *stay)
 }
 
 /* Doesn't use nanosleep, in which pthread_cancel would end the thread during its call. */
-static void nap(void)
+static void sleep_briefly(void)
 {
 	uint32_t nobody_wakes = 0;
 	struct timespec until;
 
-	from_now(&until, NAP);
+	from_now(&until, SHORT_SLEEP);
 	ww_futex_wait(&nobody_wakes, 0, &until);
 }
 
@@ -97,7 +97,7 @@ static void await_guard(struct ww_stay *stay, unsigned *step)
 	else if (*step < ROUNDS && !stay->over)
 		yield(stay);
 	else
-		nap();
+		sleep_briefly();
 	if (*step < ROUNDS)
 		(*step)++;
 }

@@ -160,7 +160,7 @@ void ww_acquire_fini(struct ww_acquire_ctx *x)
 	ww_seat *s = x->own;
 
 	/* A context that has released everything certainly ends. */
-	if (UNLIKELY(!s || s->handle.standing != WW_BARE_)) {
+	if (UNLIKELY(!s || s->handle.mode != WW_BARE_)) {
 		fini_else(x);
 		return;
 	}

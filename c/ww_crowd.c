@@ -31,8 +31,8 @@ enum { OFTEN = 8, WINDOW = 2500000 };
 enum { LEAST = 10000000, MOST = 1280000000 };
 
 /* On the stack of a thread that waits for a permit; under the lock of the crowd. */
-struct ww_turn {
-	struct ww_turn *next;
+struct ww_permit_seeker {
+	struct ww_permit_seeker *next;
 	uint32_t calls; /* it sleeps on this: not 0 once it is the first, and one more each time that it is called to look */
 	bool is_out;	/* it was taken out of the queue, and needs no permit any more */
 };
@@ -180,7 +180,7 @@ static void begin_permit(struct ww_crowd *crowd, uint32_t k, uint64_t now)
 }
 
 /* Enters the queue, until `leave`. The crowd is locked. */
-static void join(struct ww_crowd *crowd, struct ww_turn *me)
+static void join(struct ww_crowd *crowd, struct ww_permit_seeker *me)
 {
 	me->calls = !crowd->first;
 	*(crowd->first ? &crowd->last->next : &crowd->first) = me;
@@ -197,9 +197,9 @@ static void call_first(struct ww_crowd *crowd)
 }
 
 /* The crowd is locked. */
-static void take_out(struct ww_crowd *crowd, struct ww_turn *it)
+static void take_out(struct ww_crowd *crowd, struct ww_permit_seeker *it)
 {
-	struct ww_turn **at = &crowd->first, *before = NULL;
+	struct ww_permit_seeker **at = &crowd->first, *before = NULL;
 
 	while (*at != it) {
 		before = *at;
@@ -212,7 +212,7 @@ static void take_out(struct ww_crowd *crowd, struct ww_turn *it)
 }
 
 /* The crowd is locked. */
-static void leave(struct ww_pool *p, struct ww_turn *me)
+static void leave(struct ww_pool *p, struct ww_permit_seeker *me)
 {
 	struct ww_crowd *crowd = &p->crowd;
 
@@ -231,7 +231,7 @@ static bool is_earlier(const struct timespec *a, const struct timespec *b)
 }
 
 /* Waits for a permit, until its time has come, or nobody needs one any more. The crowd is locked, except while it sleeps. */
-static void await_permit(struct ww_pool *p, struct ww_turn *me, uint64_t now, const struct timespec *until)
+static void await_permit(struct ww_pool *p, struct ww_permit_seeker *me, uint64_t now, const struct timespec *until)
 {
 	struct ww_crowd *crowd = &p->crowd;
 	bool slept = false;
@@ -263,7 +263,7 @@ static void await_permit(struct ww_pool *p, struct ww_turn *me, uint64_t now, co
 COLD static void find_permit(struct ww_pool *p, uint64_t now, const struct timespec *until)
 {
 	struct ww_crowd *crowd = &p->crowd;
-	struct ww_turn me = { 0 };
+	struct ww_permit_seeker me = { 0 };
 
 	pthread_mutex_lock(&crowd->lock);
 	if (ww_mine.permit.id == p->id && ww_mine.permit.ends) {
@@ -288,7 +288,7 @@ uint32_t ww_permit_seekers(struct ww_pool *p)
 	uint32_t count = 0;
 
 	pthread_mutex_lock(&crowd->lock);
-	for (const struct ww_turn *it = crowd->first; it; it = it->next)
+	for (const struct ww_permit_seeker *it = crowd->first; it; it = it->next)
 		count++;
 	pthread_mutex_unlock(&crowd->lock);
 	return count;

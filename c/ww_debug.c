@@ -31,12 +31,12 @@ struct holding {
 };
 
 /*
- * Of a seat: its context; the index of that in the order in which contexts began (`stamp`; 0 without a context); and how many
- * mutexes it holds.  While a context or a lock with NULL uses it: where that began, and the thread that called by it last, but
- * not for a task, which may go on in any thread.  While it waits: the number of the mutex, plus one (`wants`); where; its thread's
- * number in the system; and the number of this wait among all without a time, or 0 (`turn`).
+ * What is watched of a seat: its context; the index of that in the order in which contexts began (`stamp`; 0 without a context);
+ * and how many mutexes it holds.  While a context or a lock with NULL uses it: where that began, and the thread that called by it
+ * last, but not for a task, which may go on in any thread.  While it waits: the number of the mutex, plus one (`wants`); where;
+ * its thread's number in the system; and the number of this wait among all without a time, or 0 (`endless`).
  */
-struct standing {
+struct watch {
 	const struct ww_acquire_ctx *context;
 	unsigned long stamp;
 	uint32_t held, wants;
@@ -44,19 +44,19 @@ struct standing {
 	const void *thread;
 	struct place began, waits;
 	long tid;
-	uint64_t turn;
+	uint64_t endless;
 };
 
 struct debug {
 	unsigned long stamps;
 	struct holding *mutexes;
-	struct standing seats[];
+	struct watch seats[];
 };
 
 static unsigned long faults, warnings;
 static unsigned check_interval = 1000; /* in milliseconds */
 enum { LONG = 10000 };		 /* likewise */
-static uint64_t turns;
+static uint64_t endless_waits;
 /* Where this thread made its call; the address is that of the thread. */
 static __thread struct place ww_here;
 /* The wait of this thread for a mutex; it has no seat while there is none. */
@@ -86,7 +86,7 @@ static struct place place_of(const struct place *of)
 
 static uint32_t number_of(const ww_seat *s) { return (uint32_t)(s - s->pool->seats); }
 
-static struct standing *standing_of(const ww_seat *s) { return &s->pool->debug->seats[number_of(s)]; }
+static struct watch *watch_of(const ww_seat *s) { return &s->pool->debug->seats[number_of(s)]; }
 
 /* ---- reports ---- */
 
@@ -135,7 +135,7 @@ static bool is_new_here(const struct ww_pool *p, const char *words)
  * would stay locked, and whatever the call had acquired.
  */
 __attribute__((format(printf, 5, 6))) static void tell(unsigned long *counted, const struct ww_pool *p, const char *call,
-						       const struct standing *earlier, const char *format, ...)
+						       const struct watch *earlier, const char *format, ...)
 {
 	struct place at = earlier ? place_of(&earlier->began) : ww_here;
 	va_list words;
@@ -176,7 +176,7 @@ static void fault_in(const struct ww_pool *p, const char *call, const char *why)
 
 int ww_debug_open(struct ww_pool *p)
 {
-	p->debug = calloc(1, sizeof *p->debug + seats_of(p) * sizeof(struct standing) + p->locks * sizeof(struct holding));
+	p->debug = calloc(1, sizeof *p->debug + seats_of(p) * sizeof(struct watch) + p->locks * sizeof(struct holding));
 	if (!p->debug)
 		return -ENOMEM;
 	p->debug->mutexes = (struct holding *)(void *)&p->debug->seats[seats_of(p)];
@@ -186,10 +186,10 @@ int ww_debug_open(struct ww_pool *p)
 void ww_debug_free(struct ww_pool *p) { free(p->debug); }
 
 /* The thread that calls by it now; NULL for a task, which may go on in another thread at any time. */
-static const void *user_of(const struct standing *s) { return __atomic_load_n(&s->is_polled, __ATOMIC_RELAXED) ? NULL : &ww_here; }
+static const void *user_of(const struct watch *s) { return __atomic_load_n(&s->is_polled, __ATOMIC_RELAXED) ? NULL : &ww_here; }
 
 /* This thread makes a call by the seat. For a lock with NULL that is where it began. */
-static void use(struct standing *s)
+static void use(struct watch *s)
 {
 	if (!__atomic_load_n(&s->stamp, __ATOMIC_RELAXED))
 		set_place(&s->began);
@@ -198,10 +198,10 @@ static void use(struct standing *s)
 
 void ww_debug_polls(bool now) { polls = now; }
 
-void ww_debug_is_polled(ww_seat *s) { __atomic_store_n(&standing_of(s)->is_polled, true, __ATOMIC_RELAXED); }
+void ww_debug_is_polled(ww_seat *s) { __atomic_store_n(&watch_of(s)->is_polled, true, __ATOMIC_RELAXED); }
 
 /* Without a context, nobody uses a seat any more once it holds nothing and waits for nothing. */
-static void unuse_if_free(struct standing *s)
+static void unuse_if_free(struct watch *s)
 {
 	if (!__atomic_load_n(&s->stamp, __ATOMIC_RELAXED) && !__atomic_load_n(&s->held, __ATOMIC_RELAXED))
 		__atomic_store_n(&s->thread, NULL, __ATOMIC_RELAXED);
@@ -210,7 +210,7 @@ static void unuse_if_free(struct standing *s)
 enum has { THIS_CONTEXT, ANYTHING, A_CONTEXT, A_MUTEX, A_WAIT };
 
 /* Whether its context is this one, or whether this thread has such a thing by the seat. */
-static bool has(const struct standing *s, const void *it, enum has what)
+static bool has(const struct watch *s, const void *it, enum has what)
 {
 	if (what == THIS_CONTEXT)
 		return __atomic_load_n(&s->context, __ATOMIC_RELAXED) == it;
@@ -234,15 +234,15 @@ void ww_debug_begun(struct ww_acquire_ctx *x)
 {
 	struct ww_pool *p = x->own->pool;
 	const ww_seat *left = seat_with(p, false, x, THIS_CONTEXT), *first = seat_with(p, false, &ww_here, A_CONTEXT);
-	struct standing *s = standing_of(x->own);
+	struct watch *s = watch_of(x->own);
 
 	__atomic_store_n(&s->is_polled, polls, __ATOMIC_RELAXED);
 	if (left) { /* and its memory is another's by now */
-		__atomic_store_n(&standing_of(left)->context, NULL, __ATOMIC_RELAXED);
-		tell(&faults, p, "ww_acquire_init", standing_of(left), "the context that was here before was left without ww_acquire_fini; it began at");
+		__atomic_store_n(&watch_of(left)->context, NULL, __ATOMIC_RELAXED);
+		tell(&faults, p, "ww_acquire_init", watch_of(left), "the context that was here before was left without ww_acquire_fini; it began at");
 	}
 	if (first && !polls)
-		tell(&warnings, p, "ww_acquire_init", standing_of(first), "two contexts of a thread can wait for each other forever; "
+		tell(&warnings, p, "ww_acquire_init", watch_of(first), "two contexts of a thread can wait for each other forever; "
 		     "its other one, if it wasn't left without ww_acquire_fini, began at");
 	__atomic_store_n(&s->context, polls ? NULL : x, __ATOMIC_RELAXED); /* A task's may be moved, as Rust does. */
 	x->stamp = __atomic_add_fetch(&p->debug->stamps, 1, __ATOMIC_RELAXED);
@@ -256,7 +256,7 @@ void ww_debug_begun(struct ww_acquire_ctx *x)
 
 void ww_debug_ended(struct ww_acquire_ctx *x)
 {
-	struct standing *s = standing_of(x->own);
+	struct watch *s = watch_of(x->own);
 
 	__atomic_store_n(&s->is_polled, false, __ATOMIC_RELAXED);
 	__atomic_store_n(&s->context, NULL, __ATOMIC_RELAXED);
@@ -276,14 +276,14 @@ void ww_debug_alone(const struct ww_mutex *m, const struct timespec *until)
 	const ww_seat *s = p && !until && is_seen() ? seat_with(p, false, &ww_here, A_MUTEX) : NULL;
 
 	if (s)
-		tell(&warnings, p, "ww_mutex_lock", standing_of(s),
+		tell(&warnings, p, "ww_mutex_lock", watch_of(s),
 		     "deadlocks through locks without a context are not detected; the thread holds a mutex by what began at");
 }
 
 void ww_debug_acquired(const struct ww_mutex *m, const struct ww_acquire_ctx *x, ww_seat *s)
 {
 	struct holding *h = &m->pool->debug->mutexes[m->number];
-	struct standing *by = standing_of(x ? x->own : s);
+	struct watch *by = watch_of(x ? x->own : s);
 
 	use(by);
 	__atomic_store_n(&by->held, __atomic_load_n(&by->held, __ATOMIC_RELAXED) + 1, __ATOMIC_RELAXED);
@@ -297,7 +297,7 @@ void ww_debug_released(const struct ww_mutex *m)
 {
 	struct holding *h = &m->pool->debug->mutexes[m->number];
 	uint32_t seat = __atomic_load_n(&h->seat, __ATOMIC_RELAXED);
-	struct standing *by = seat ? &m->pool->debug->seats[seat - 1] : NULL; /* NULL: that seat is in the middle of its own unlock */
+	struct watch *by = seat ? &m->pool->debug->seats[seat - 1] : NULL; /* NULL: that seat is in the middle of its own unlock */
 
 	if (is_seen() && __atomic_load_n(&h->thread, __ATOMIC_RELAXED) != &ww_here && !(by && !user_of(by)))
 		fault_in(m->pool, "ww_mutex_unlock", "another thread acquired the mutex");
@@ -378,7 +378,7 @@ static struct timespec in_milliseconds(unsigned count)
 
 void ww_debug_waits(ww_seat *s, const struct ww_mutex *m, const struct timespec *until)
 {
-	struct standing *it = standing_of(s);
+	struct watch *it = watch_of(s);
 
 	mine.seat = m && !until ? s : NULL;
 	mine.seen = 0;
@@ -388,7 +388,7 @@ void ww_debug_waits(ww_seat *s, const struct ww_mutex *m, const struct timespec 
 		use(it);
 		set_place(&it->waits);
 		__atomic_store_n(&it->tid, syscall(SYS_gettid), __ATOMIC_RELAXED);
-		__atomic_store_n(&it->turn, until ? 0 : __atomic_add_fetch(&turns, 1, __ATOMIC_RELAXED), __ATOMIC_RELAXED);
+		__atomic_store_n(&it->endless, until ? 0 : __atomic_add_fetch(&endless_waits, 1, __ATOMIC_RELAXED), __ATOMIC_RELAXED);
 	}
 	__atomic_store_n(&it->wants, m ? m->number + 1 : 0, __ATOMIC_RELAXED);
 	if (!m)
@@ -406,7 +406,7 @@ void ww_debug_seeks(const struct ww_pool *p, const struct timespec *until)
 	s = seat_with(ww_lock_pools(), true, &ww_here, ANYTHING);
 	ww_unlock_pools();
 	if (s)
-		tell(&warnings, p, "a wait for a context", standing_of(s),
+		tell(&warnings, p, "a wait for a context", watch_of(s),
 		     "all are in use, and deadlocks through this wait are not detected; the thread has what began at");
 }
 
@@ -415,7 +415,7 @@ void ww_debug_check_interval(unsigned milliseconds) { __atomic_store_n(&check_in
 /* The seat by which the holder of what this seat waits for waits itself, in any class of the list, which is locked; or NULL. */
 static const ww_seat *next_wait(const struct ww_pool *of, const ww_seat *s)
 {
-	uint32_t wants = __atomic_load_n(&standing_of(s)->wants, __ATOMIC_RELAXED);
+	uint32_t wants = __atomic_load_n(&watch_of(s)->wants, __ATOMIC_RELAXED);
 	const void *holder = wants ? __atomic_load_n(&s->pool->debug->mutexes[wants - 1].thread, __ATOMIC_RELAXED) : NULL;
 
 	return holder ? seat_with(of, true, holder, A_WAIT) : NULL;
@@ -430,15 +430,15 @@ static const ww_seat *next_wait(const struct ww_pool *of, const ww_seat *s)
  */
 static uint64_t deadlock(const struct ww_pool *of, unsigned *count)
 {
-	uint64_t turn, these = 0;
+	uint64_t number, these = 0;
 	const ww_seat *s = mine.seat, *before = NULL;
 
 	for (*count = 1; s; ++*count) {
-		turn = __atomic_load_n(&standing_of(s)->turn, __ATOMIC_RELAXED);
-		if (!turn || (s != mine.seat && !ww_is_parked(s)))
+		number = __atomic_load_n(&watch_of(s)->endless, __ATOMIC_RELAXED);
+		if (!number || (s != mine.seat && !ww_is_parked(s)))
 			return 0;
-		turn *= MIX;
-		these += (turn ^ turn >> 29) * MIX; /* so that no other waits have that sum */
+		number *= MIX;
+		these += (number ^ number >> 29) * MIX; /* so that no other waits have that sum */
 		s = next_wait(of, s);
 		if (s == mine.seat)
 			return these | 1;
@@ -459,7 +459,7 @@ static char *text_of_deadlock(const struct ww_pool *of, unsigned count)
 	FILE *to = open_memstream(&words, &size);
 
 	for (; to && count && next; count--, s = next) {
-		const struct standing *it = standing_of(s);
+		const struct watch *it = watch_of(s);
 		struct place at = place_of(&it->waits);
 
 		next = next_wait(of, s);
@@ -467,7 +467,7 @@ static char *text_of_deadlock(const struct ww_pool *of, unsigned count)
 			fprintf(to, "\nthread %ld waits at %s:%d for mutex %u of class \"%s\", which thread %ld holds",
 				__atomic_load_n(&it->tid, __ATOMIC_RELAXED), file_of(at), at.line,
 				__atomic_load_n(&it->wants, __ATOMIC_RELAXED) - 1, name_of(s->pool),
-				__atomic_load_n(&standing_of(next)->tid, __ATOMIC_RELAXED));
+				__atomic_load_n(&watch_of(next)->tid, __ATOMIC_RELAXED));
 	}
 	return to && !fclose(to) ? words : NULL;
 }
@@ -493,7 +493,7 @@ static void look_for_deadlock(void)
 static void look_for_long_wait(void)
 {
 	const struct ww_pool *p = mine.seat->pool;
-	uint32_t number = __atomic_load_n(&standing_of(mine.seat)->wants, __ATOMIC_RELAXED) - 1;
+	uint32_t number = __atomic_load_n(&watch_of(mine.seat)->wants, __ATOMIC_RELAXED) - 1;
 	uint32_t holder = __atomic_load_n(&p->debug->mutexes[number].seat, __ATOMIC_RELAXED);
 
 	if (holder && !mine.seen && ww_has_come(&mine.is_long))
@@ -515,17 +515,17 @@ const struct timespec *ww_debug_sleeps(const struct timespec *until)
 	return &mine.looks;
 }
 
-static bool is_used(const struct standing *s)
+static bool is_used(const struct watch *s)
 {
 	return __atomic_load_n(&s->thread, __ATOMIC_RELAXED) || __atomic_load_n(&s->stamp, __ATOMIC_RELAXED);
 }
 
 void ww_debug_leak(const struct ww_loose *of, const char *why)
 {
-	const struct standing *first = NULL;
+	const struct watch *first = NULL;
 
 	for (uint32_t k = 0; k < of->count; k++) {
-		const struct standing *s = standing_of(&of->seats[k]);
+		const struct watch *s = watch_of(&of->seats[k]);
 
 		if (is_used(s) && (!first || __atomic_load_n(&s->stamp, __ATOMIC_RELAXED) - 1 < __atomic_load_n(&first->stamp, __ATOMIC_RELAXED) - 1))
 			first = s;
@@ -544,7 +544,7 @@ static uint32_t used_seats(const struct ww_pool *p)
 	return used;
 }
 
-static void print_seat(const struct standing *s, uint32_t k, FILE *to)
+static void print_seat(const struct watch *s, uint32_t k, FILE *to)
 {
 	unsigned long stamp = __atomic_load_n(&s->stamp, __ATOMIC_RELAXED);
 	uint32_t wants = __atomic_load_n(&s->wants, __ATOMIC_RELAXED);

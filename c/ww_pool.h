@@ -31,7 +31,7 @@ struct ww_crowd {
 	uint32_t backed_off; /* how many contexts did, while enough threads slept for a crowd */
 	uint64_t harmless; /* until then sleeping threads alone make no crowd */
 	pthread_mutex_t lock; /* for what follows */
-	struct ww_turn *first, *last; /* of the threads that wait for a permit */
+	struct ww_permit_seeker *first, *last; /* of the threads that wait for a permit */
 	uint64_t ends[MANY_PERMITS];  /* when each permit ends */
 	uint64_t term, over; /* how long the last crowd lasts, and until when */
 	uint64_t off;	     /* for how long after it sleeping threads alone make none */

@@ -39,7 +39,7 @@ uint32_t ww_version(void);
 /* Only the steps write it, and nobody copies it; ww_swap_ moves it.  { 0 } is an empty one. */
 typedef struct {
 	void *at;
-	uint32_t standing, below;
+	uint32_t mode, below;
 } ww_handle;
 
 /*
@@ -112,7 +112,7 @@ int32_t ww_next_wake_(ww_handle *seat);
  */
 int32_t ww_cancel_(ww_handle *seat, uint16_t victim);
 
-/* A handle's `standing` when it may begin a context, and once that has released everything that it held. */
+/* A handle's `mode` when it may begin a context, and once that has released everything that it held. */
 enum { WW_READY_ = 2, WW_BARE_ = 4 };
 #ifdef __cplusplus
 }

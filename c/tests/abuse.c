@@ -74,7 +74,7 @@ static int idle(struct mine *m)
 	int r = ww_idle_(h);
 
 	MUST(r == -EBUSY || (!r && !m->pending && owns_none(m)));
-	MUST(!r || (ww_close_(h) == -EBUSY && h->standing));
+	MUST(!r || (ww_close_(h) == -EBUSY && h->mode));
 	return r;
 }
 

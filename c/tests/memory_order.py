@@ -368,7 +368,7 @@ TABLE = {
     "told_of": {"is_new": "compare_exchange rlx/rlx"},
     "check_interval": {"ww_debug_check_interval": "store rlx", "ww_debug_waits": "load rlx", "ww_debug_sleeps": "load rlx"},
     "stamps": {"ww_debug_begun": "add_fetch rlx"},
-    "turns": {"ww_debug_waits": "add_fetch rlx"},
+    "endless_waits": {"ww_debug_waits": "add_fetch rlx"},
     "context": {"has": "load rlx", "ww_debug_begun": "store rlx, store rlx", "ww_debug_ended": "store rlx"},
     "stamp": {
         "use": "load rlx", "unuse_if_free": "load rlx", "has": "load rlx", "ww_debug_begun": "store rlx", "ww_debug_ended": "store rlx",
@@ -379,7 +379,7 @@ TABLE = {
         "look_for_long_wait": "load rlx", "print_seat": "load rlx",
     },
     "tid": {"ww_debug_waits": "store rlx", "text_of_deadlock": "load rlx, load rlx", "print_seat": "load rlx"},
-    "turn": {"ww_debug_waits": "store rlx", "deadlock": "load rlx"},
+    "endless": {"ww_debug_waits": "store rlx", "deadlock": "load rlx"},
     "held": {
         "unuse_if_free": "load rlx", "has": "load rlx", "ww_debug_begun": "store rlx",
         "ww_debug_acquired": "store rlx, load rlx", "ww_debug_released": "store rlx, load rlx",

@@ -153,7 +153,7 @@ static void *begins_late(void *arg)
 
 static unsigned long made[MOST];
 static bool stops;
-static unsigned nap, least, mutexes;
+static unsigned hold_for, least, mutexes;
 
 static void transact(unsigned *drawn)
 {
@@ -170,8 +170,8 @@ static void transact(unsigned *drawn)
 		ww_retry_on_contention(&x);
 		MUST(!r);
 	}
-	if (nap)
-		usleep(nap);
+	if (hold_for)
+		usleep(hold_for);
 	sum[a]++;
 	sum[b]++;
 	ww_acquire_unlock_all(&x);
@@ -302,7 +302,7 @@ static void crowds(void)
 	calms_down();
 	/* Short contexts: each thread gets about as far as the others. */
 	many = 12 * permits;
-	nap = 0;
+	hold_for = 0;
 	least = QUICK;
 	mutexes = HOT;
 	in_many(many, works);
@@ -310,7 +310,7 @@ static void crowds(void)
 	MUST(most < FAIR * QUICK);
 	calms_down();
 	/* Those that sleep under their mutexes wait for no permit, except a few. */
-	nap = 1000;
+	hold_for = 1000;
 	least = SLOW;
 	mutexes = WARM;
 	done = permit_waits();

@@ -6,7 +6,7 @@
 #include "mutex_test.h"
 #include "../ww_pool.h"
 
-enum { MUTEXES = 3, LEFT = 32, TURNS = 12, MANY = 1000 };
+enum { MUTEXES = 3, LEFT = 32, ROUNDS = 12, MANY = 1000 };
 
 struct box {
 	struct ww_acquire_ctx x;
@@ -81,7 +81,7 @@ static void *works(void *arg)
 	unsigned x = __atomic_fetch_add(&drawn, 7919, __ATOMIC_RELAXED), k;
 
 	(void)arg;
-	for (unsigned turn = 0; turn < TURNS; turn++) {
+	for (unsigned round = 0; round < ROUNDS; round++) {
 		struct box *b = begins(), *other;
 
 		k = next(&x);

@@ -6,14 +6,14 @@ enum { CLASSES = 20, CONTEXTS = 5, HANDED = 3 };
 static struct ww_class classes[CLASSES];
 static struct ww_mutex mutexes[CLASSES];
 static unsigned long counters[CLASSES];
-static unsigned turns = 400;
+static unsigned times = 400;
 
 /* One context after another, each of another class. */
 static void *goes_around(void *arg)
 {
 	unsigned long x = (unsigned long)(size_t)arg * 2654435761u | 1;
 
-	for (unsigned t = 0; t < turns; t++) {
+	for (unsigned t = 0; t < times; t++) {
 		struct ww_acquire_ctx ctx;
 		unsigned k;
 
@@ -66,7 +66,7 @@ int main(int count, char **words)
 	pthread_t threads[16];
 
 	if (count > 1)
-		turns = (unsigned)atoi(words[1]);
+		times = (unsigned)atoi(words[1]);
 	for (unsigned again = 0; again < 3; again++) {
 		unsigned long sum = 0;
 
@@ -87,7 +87,7 @@ int main(int count, char **words)
 			sum += counters[k];
 			MUST(!ww_mutex_destroy(&mutexes[k]) && !ww_class_free(&classes[k]));
 		}
-		MUST(sum >= 2ul * 16 * turns);
+		MUST(sum >= 2ul * 16 * times);
 	}
 	printf("seats of %d classes\n", CLASSES);
 	return 0;

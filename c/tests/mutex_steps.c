@@ -21,7 +21,7 @@ static __thread struct {
 } at;
 static __thread struct ww_acquire_ctx *cancelled_amid; /* behind each step that answers WW_AGAIN, as by another thread */
 static void (*behind_a_stay)(void); /* as another thread would, once */
-static __thread unsigned shut_out, naps; /* so many tries to go inside a guard are in vain; and how often it slept behind one */
+static __thread unsigned shut_out, slept; /* so many tries to go inside a guard are in vain; and how often it slept behind one */
 
 static bool has_to_ask(int32_t answer) { return answer <= 0 || answer == WW_SLEEPS; }
 static void does_anything_else(void) { MUST(at.answer != WW_AGAIN); }
@@ -101,7 +101,7 @@ long __wrap_syscall(long number, ...)
 		words[k] = va_arg(list, long);
 	va_end(list);
 	does_anything_else();
-	naps += at.answer == WW_AWAITS;
+	slept += at.answer == WW_AWAITS;
 	return __real_syscall(number, words[0], words[1], words[2], words[3], words[4], words[5]);
 }
 
@@ -141,8 +141,8 @@ static void is_shut_out(void)
 	ww_acquire_init(&x, c);
 	MUST(!ww_mutex_lock(&m, &older));
 	shut_out = 40;
-	naps = 0;
-	MUST(ww_mutex_lock_until(&m, &x, &soon) == -ETIMEDOUT && !shut_out && naps > 20);
+	slept = 0;
+	MUST(ww_mutex_lock_until(&m, &x, &soon) == -ETIMEDOUT && !shut_out && slept > 20);
 	ww_mutex_unlock(&m);
 	ww_acquire_fini(&x);
 	ww_acquire_fini(&older);
@@ -242,6 +242,6 @@ int main(void)
 		in_a_storm();
 		MUST(!ww_mutex_destroy(&m) && !ww_class_free(c));
 	}
-	puts("mutex_steps: behind WW_AGAIN the next step, naps before a guard, and nobody is asked for in vain");
+	puts("mutex_steps: behind WW_AGAIN the next step, short sleeps before a guard, and nobody is asked for in vain");
 	return 0;
 }

@@ -7,7 +7,7 @@
 #include "mutex_test.h"
 #include "../ww_number.h"
 
-enum { THREADS = 16, MOST = 1000, HOT = 32, TURNS = 100 };
+enum { THREADS = 16, MOST = 1000, HOT = 32, ROUNDS = 100 };
 
 static DEFINE_WW_CLASS(wound_wait);
 static DEFINE_WD_CLASS(wait_die);
@@ -269,12 +269,12 @@ static void storm(void)
 
 /* ---- rings ---- */
 
-static void *turns(void *arg)
+static void *rounds(void *arg)
 {
 	uint32_t me = (uint32_t)(size_t)arg;
 	uint32_t list[2] = { numbers[me], numbers[(me + 1) % size] }, turned[2] = { list[1], list[0] };
 
-	for (unsigned i = 0; i < TURNS; i++) {
+	for (unsigned i = 0; i < ROUNDS; i++) {
 		struct ww_acquire_ctx x;
 		int r;
 
@@ -304,10 +304,10 @@ static void ring(void)
 	counters = all;
 	backs = 0;
 	pthread_barrier_init(&barrier, NULL, size);
-	in_threads(size, turns);
+	in_threads(size, rounds);
 	for (unsigned k = 0; k < size; k++)
-		MUST(all[numbers[k]] == 2ul * TURNS);
-	MUST(backs >= TURNS);
+		MUST(all[numbers[k]] == 2ul * ROUNDS);
+	MUST(backs >= ROUNDS);
 	pthread_barrier_destroy(&barrier);
 }
 

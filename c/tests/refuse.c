@@ -55,7 +55,7 @@ static void opens_handles(uint32_t kind, uint32_t locks)
 			break;
 		MUST(r == -ENOMEM && !live);
 		for (unsigned k = 0; k < 16; k++)
-			MUST(!handles[k].at && !handles[k].standing);
+			MUST(!handles[k].at && !handles[k].mode);
 	}
 	all = made;
 	MUST(all == refused);

@@ -117,21 +117,21 @@ async def a_thread_wakes_it():
     thread = threading.Thread(target=hold)
     thread.start()
     is_held.wait()
-    turns = 0
+    rounds = 0
 
-    async def turn():
-        nonlocal turns
-        while turns < 20:
-            turns += 1
+    async def go_round():
+        nonlocal rounds
+        while rounds < 20:
+            rounds += 1
             await asyncio.sleep(0.001)
         goes.set()
 
     async def lock():
         async with buffers.context() as context:
             await context.lock(mutex)
-            return turns
+            return rounds
 
-    told = await asyncio.gather(lock(), turn())
+    told = await asyncio.gather(lock(), go_round())
     thread.join()
     assert told[0] >= 20
 

@@ -273,10 +273,10 @@ fn a_class_that_says_so_has_more_mutexes() {
 fn a_class_that_is_another_one_at_each_call_panics() {
     class!(struct One: WoundWait; struct Other: WoundWait);
     enum Both {}
-    static TURN: AtomicBool = AtomicBool::new(false);
+    static IS_OTHER: AtomicBool = AtomicBool::new(false);
     impl Class for Both {
         fn raw() -> &'static RawClass {
-            if TURN.fetch_xor(true, Ordering::Relaxed) {
+            if IS_OTHER.fetch_xor(true, Ordering::Relaxed) {
                 One::raw()
             } else {
                 Other::raw()

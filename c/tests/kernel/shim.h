@@ -67,9 +67,9 @@ static inline unsigned long shim_jiffies(void)
 static inline void cond_resched(void) { sched_yield(); }
 static inline void usleep_range(unsigned long least, unsigned long most)
 {
-	struct timespec nap = { 0, (long)(least + prandom_u32_max((u32)(most - least + 1))) * 1000 };
+	struct timespec length = { 0, (long)(least + prandom_u32_max((u32)(most - least + 1))) * 1000 };
 
-	nanosleep(&nap, NULL);
+	nanosleep(&length, NULL);
 }
 /* A class has 16 contexts, and the kernel's rings have one more than processors. */
 static inline unsigned num_online_cpus(void)

@@ -18,7 +18,7 @@ use ww_transfer::transfer;
 
 /// How many threads there are, from 1 to 16, and how many transfers each tries to make, at least one.
 #[derive(Clone, Copy, Debug)]
-pub(crate) struct Plan {
+pub(crate) struct Trading {
     threads: u8,
     transfers: u32,
     ghost some: { 1 ≤ threads },
@@ -26,13 +26,13 @@ pub(crate) struct Plan {
     ghost budgeted: { 1 ≤ transfers },
 }
 
-impl Plan {
+impl Trading {
     /// Nothing where a number is out of its range.
-    pub(crate) fn new(threads: u8, transfers: u32) -> Option<Plan> {
+    pub(crate) fn new(threads: u8, transfers: u32) -> Option<Trading> {
         if threads == 0 || threads > 16 || transfers == 0 {
             return None;
         }
-        Some(Plan { threads, transfers })
+        Some(Trading { threads, transfers })
     }
 }
 
@@ -65,7 +65,7 @@ pub(crate) fn trade<R: Threads + Wait + Sync>(
     alloc: Global,
     kind: Kind,
     accounts: Graph,
-    plan: &Plan,
+    plan: &Trading,
 ) -> Result<History, AllocError>
     ensures { IfOk result (λ history. total_of history.graph ≡ total_of accounts) }
 {

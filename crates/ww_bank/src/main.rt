@@ -7,7 +7,7 @@
 
 mod bank;
 
-use bank::{Plan, accounts, total, trade};
+use bank::{Trading, accounts, total, trade};
 use std::process::ExitCode;
 use std::{env, io};
 use ww_plain::MAX_NODES;
@@ -17,11 +17,11 @@ use ww_queue::Kind;
 const KINDS: [(&str, Kind); 2] = [("wound-wait", Kind::WoundWait), ("wait-die", Kind::WaitDie)];
 
 /// What the program's arguments ask for.
-fn read_words(words: &[String]) -> Option<(Plan, u8)> {
+fn read_words(words: &[String]) -> Option<(Trading, u8)> {
     let [_, threads, accounts, transfers] = words else {
         return None;
     };
-    let plan = Plan::new(threads.parse().ok()?, transfers.parse().ok()?)?;
+    let plan = Trading::new(threads.parse().ok()?, transfers.parse().ok()?)?;
     let size: u8 = accounts.parse().ok()?;
     if size == 0 || usize::from(size) > MAX_NODES {
         return None;

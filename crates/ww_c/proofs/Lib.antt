@@ -1,3 +1,3 @@
 pub mod AsBox
 pub mod Filling
-pub mod Standings
+pub mod Modes

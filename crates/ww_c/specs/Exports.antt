@@ -58,7 +58,7 @@ IsCloseCall None code after = (code ≡ pos 0) × (after ≡ None)
 IsCloseCall (Some s) code after = (HasNothing s × (code ≡ pos 0) × (after ≡ None)) ⊎ ((¬ HasNothing s) × (code ≡ negsuc 15) × (after ≡ Some s))
 
 -- 1 to 2^24 locks and 1 to 4,095 seats, each of which may begin fewer than 2 ^ 52 contexts, of one of two kinds
-pub record IsWorld (kind locks left seats : ℕ) : Type 0 where
+pub record IsWorldAsked (kind locks left seats : ℕ) : Type 0 where
   pub kinds : kind ≤ 1
   pub sizes : IsWorldSize locks seats left
 
@@ -84,5 +84,5 @@ pub record IsOpen (kind locks left seats : ℕ) (after : List (Option Situation)
 -- a world; ENOMEM, or EINVAL for any other sizes, and then the handles have what they had
 abbrev pub IsOpenCall : ℕ → ℕ → ℕ → ℕ → List (Option Situation) → ℤ → List (Option Situation) → Type 0
 IsOpenCall kind locks left seats before code after = ((code ≡ pos 0) × IsOpen kind locks left seats after)
-    ⊎ (((code ≡ negsuc 11) × IsWorld kind locks left seats × (after ≡ before))
-    ⊎ ((code ≡ negsuc 21) × (¬ IsWorld kind locks left seats) × (after ≡ before)))
+    ⊎ (((code ≡ negsuc 11) × IsWorldAsked kind locks left seats × (after ≡ before))
+    ⊎ ((code ≡ negsuc 21) × (¬ IsWorldAsked kind locks left seats) × (after ≡ before)))

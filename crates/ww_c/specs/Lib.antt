@@ -2,4 +2,4 @@ pub mod Slots
 pub mod Lending
 pub mod Codes
 pub mod Exports
-pub mod Standing
+pub mod Modes

@@ -18,7 +18,7 @@ pub(crate) const KEPT: usize = 9;
 pub extern "C" fn ww_begin_(seat: &mut Handle) -> i32
     ensures { IsCall IsBeginAnswer seat.old.slot.desk result seat.new.slot.desk }
 {
-    if seat.standing != READY {
+    if seat.mode != READY {
         return begin_anyhow(seat);
     }
     let desk = seat.slot.lend();
@@ -26,14 +26,14 @@ pub extern "C" fn ww_begin_(seat: &mut Handle) -> i32
         Answer::Done => {
             if desk.has_contexts_left() {
                 seat.below = desk.locks();
-                seat.standing = PLAIN;
+                seat.mode = PLAIN;
             } else {
-                seat.standing = FULL;
+                seat.mode = FULL;
             }
             0
         }
         answer => {
-            seat.standing = FULL;
+            seat.mode = FULL;
             code(answer)
         }
     }
@@ -47,14 +47,14 @@ fn begin_anyhow(seat: &mut Handle) -> i32
     if seat.is_empty() {
         return EINVAL;
     }
-    seat.standing = FULL;
+    seat.mode = FULL;
     seat.below = 0;
     let desk = seat.slot.lend();
     match desk.begin() {
         Answer::Done => {
             if desk.has_contexts_left() {
                 seat.below = desk.locks();
-                seat.standing = PLAIN;
+                seat.mode = PLAIN;
             }
             0
         }
@@ -70,7 +70,7 @@ pub extern "C" fn ww_done_(seat: &mut Handle) -> i32
     if seat.is_empty() {
         return EINVAL;
     }
-    seat.standing = FULL;
+    seat.mode = FULL;
     seat.below = 0;
     code(seat.slot.lend().done())
 }
@@ -80,11 +80,11 @@ pub extern "C" fn ww_done_(seat: &mut Handle) -> i32
 pub extern "C" fn ww_end_(seat: &mut Handle) -> i32
     ensures { IsCall IsEndAnswer seat.old.slot.desk result seat.new.slot.desk }
 {
-    if seat.standing != BARE {
+    if seat.mode != BARE {
         return end_anyhow(seat);
     }
     seat.slot.lend().end_bare();
-    seat.standing = READY;
+    seat.mode = READY;
     0
 }
 
@@ -96,13 +96,13 @@ fn end_anyhow(seat: &mut Handle) -> i32
     if seat.is_empty() {
         return EINVAL;
     }
-    seat.standing = FULL;
+    seat.mode = FULL;
     seat.below = 0;
     let desk = seat.slot.lend();
     match desk.end() {
         Answer::Done => {
             if desk.has_contexts_left() {
-                seat.standing = READY;
+                seat.mode = READY;
             }
             0
         }
@@ -116,7 +116,7 @@ pub extern "C" fn ww_lock_(seat: &mut Handle, lock: u32, heeds: bool) -> i32
     ensures { IsCall (λ s a t. IsLockAnswer s lock (waits_of heeds) a t) seat.old.slot.desk result seat.new.slot.desk }
 {
     if lock >= seat.below {
-        if seat.standing == BARE {
+        if seat.mode == BARE {
             return lock_bare(seat, lock, heeds);
         }
         return lock_alone(seat, lock, heeds);
@@ -124,7 +124,7 @@ pub extern "C" fn ww_lock_(seat: &mut Handle, lock: u32, heeds: bool) -> i32
     match seat.slot.lend().lock_plainly(lock, waits(heeds)) {
         Answer::Done => 0,
         answer => {
-            seat.standing = FULL;
+            seat.mode = FULL;
             seat.below = 0;
             code(answer)
         }
@@ -136,7 +136,7 @@ pub extern "C" fn ww_lock_(seat: &mut Handle, lock: u32, heeds: bool) -> i32
 fn lock_alone(seat: &mut Handle, lock: u32, heeds: bool) -> i32
     ensures { IsCall (λ s a t. IsLockAnswer s lock (waits_of heeds) a t) seat.old.slot.desk result seat.new.slot.desk }
 {
-    if seat.standing != READY {
+    if seat.mode != READY {
         return lock_anyhow(seat, lock, heeds);
     }
     let desk = seat.slot.lend();
@@ -145,11 +145,11 @@ fn lock_alone(seat: &mut Handle, lock: u32, heeds: bool) -> i32
     }
     match desk.lock_plainly(lock, waits(heeds)) {
         Answer::Done => {
-            seat.standing = ALONE;
+            seat.mode = ALONE;
             0
         }
         answer => {
-            seat.standing = FULL;
+            seat.mode = FULL;
             code(answer)
         }
     }
@@ -158,7 +158,7 @@ fn lock_alone(seat: &mut Handle, lock: u32, heeds: bool) -> i32
 /// The same by a context that has released all that it held.
 #[inline(always)]
 fn lock_bare(seat: &mut Handle, lock: u32, heeds: bool) -> i32
-    requires { seat.old.standing ≡ 4 }
+    requires { seat.old.mode ≡ 4 }
     ensures { IsCall (λ s a t. IsLockAnswer s lock (waits_of heeds) a t) seat.old.slot.desk result seat.new.slot.desk }
 {
     let desk = seat.slot.lend();
@@ -169,11 +169,11 @@ fn lock_bare(seat: &mut Handle, lock: u32, heeds: bool) -> i32
     match desk.lock_bare(lock, waits(heeds)) {
         Answer::Done => {
             seat.below = locks;
-            seat.standing = PLAIN;
+            seat.mode = PLAIN;
             0
         }
         answer => {
-            seat.standing = FULL;
+            seat.mode = FULL;
             code(answer)
         }
     }
@@ -187,7 +187,7 @@ fn lock_anyhow(seat: &mut Handle, lock: u32, heeds: bool) -> i32
     if seat.is_empty() {
         return EINVAL;
     }
-    seat.standing = FULL;
+    seat.mode = FULL;
     seat.below = 0;
     let desk = seat.slot.lend();
     match desk.lock(lock, waits(heeds)) {
@@ -195,9 +195,9 @@ fn lock_anyhow(seat: &mut Handle, lock: u32, heeds: bool) -> i32
             if desk.has_contexts_left() {
                 if desk.has_context() {
                     seat.below = desk.locks();
-                    seat.standing = PLAIN;
+                    seat.mode = PLAIN;
                 } else {
-                    seat.standing = ALONE;
+                    seat.mode = ALONE;
                 }
             }
             0
@@ -214,14 +214,14 @@ pub extern "C" fn ww_lock_slow_(seat: &mut Handle, lock: u32, heeds: bool) -> i3
     if seat.is_empty() {
         return EINVAL;
     }
-    seat.standing = FULL;
+    seat.mode = FULL;
     seat.below = 0;
     let desk = seat.slot.lend();
     match desk.lock_slow(lock, waits(heeds)) {
         Answer::Done => {
             if desk.has_context() && desk.has_contexts_left() {
                 seat.below = desk.locks();
-                seat.standing = PLAIN;
+                seat.mode = PLAIN;
             }
             0
         }
@@ -240,7 +240,7 @@ pub extern "C" fn ww_try_(seat: &mut Handle, lock: u32) -> i32
     match seat.slot.lend().try_lock_plainly(lock) {
         Answer::Done => 0,
         answer => {
-            seat.standing = FULL;
+            seat.mode = FULL;
             seat.below = 0;
             code(answer)
         }
@@ -252,7 +252,7 @@ pub extern "C" fn ww_try_(seat: &mut Handle, lock: u32) -> i32
 fn try_alone(seat: &mut Handle, lock: u32) -> i32
     ensures { IsCall (λ s a t. IsTryAnswer s lock a t) seat.old.slot.desk result seat.new.slot.desk }
 {
-    if seat.standing != READY {
+    if seat.mode != READY {
         return try_anyhow(seat, lock);
     }
     let desk = seat.slot.lend();
@@ -261,11 +261,11 @@ fn try_alone(seat: &mut Handle, lock: u32) -> i32
     }
     match desk.try_lock_plainly(lock) {
         Answer::Done => {
-            seat.standing = ALONE;
+            seat.mode = ALONE;
             0
         }
         answer => {
-            seat.standing = FULL;
+            seat.mode = FULL;
             code(answer)
         }
     }
@@ -279,7 +279,7 @@ fn try_anyhow(seat: &mut Handle, lock: u32) -> i32
     if seat.is_empty() {
         return EINVAL;
     }
-    seat.standing = FULL;
+    seat.mode = FULL;
     seat.below = 0;
     let desk = seat.slot.lend();
     match desk.try_lock(lock) {
@@ -287,9 +287,9 @@ fn try_anyhow(seat: &mut Handle, lock: u32) -> i32
             if desk.has_contexts_left() {
                 if desk.has_context() {
                     seat.below = desk.locks();
-                    seat.standing = PLAIN;
+                    seat.mode = PLAIN;
                 } else {
-                    seat.standing = ALONE;
+                    seat.mode = ALONE;
                 }
             }
             0
@@ -310,13 +310,13 @@ pub extern "C" fn ww_unlock_(seat: &mut Handle, lock: u32) -> i32
     match desk.unlock_at_rest(lock) {
         Answer::Done => {
             if desk.holds_none() {
-                seat.standing = BARE;
+                seat.mode = BARE;
                 seat.below = 0;
             }
             0
         }
         answer => {
-            seat.standing = FULL;
+            seat.mode = FULL;
             seat.below = 0;
             code(answer)
         }
@@ -328,7 +328,7 @@ pub extern "C" fn ww_unlock_(seat: &mut Handle, lock: u32) -> i32
 fn unlock_alone(seat: &mut Handle, lock: u32) -> i32
     ensures { IsCall (λ s a t. IsUnlockAnswer s lock a t) seat.old.slot.desk result seat.new.slot.desk }
 {
-    if seat.standing != ALONE {
+    if seat.mode != ALONE {
         return unlock_anyhow(seat, lock);
     }
     let desk = seat.slot.lend();
@@ -338,12 +338,12 @@ fn unlock_alone(seat: &mut Handle, lock: u32) -> i32
     match desk.unlock_at_rest(lock) {
         Answer::Done => {
             if desk.holds_none() {
-                seat.standing = READY;
+                seat.mode = READY;
             }
             0
         }
         answer => {
-            seat.standing = FULL;
+            seat.mode = FULL;
             code(answer)
         }
     }
@@ -357,7 +357,7 @@ fn unlock_anyhow(seat: &mut Handle, lock: u32) -> i32
     if seat.is_empty() {
         return EINVAL;
     }
-    seat.standing = FULL;
+    seat.mode = FULL;
     seat.below = 0;
     code(seat.slot.lend().unlock(lock))
 }
@@ -375,7 +375,7 @@ pub extern "C" fn ww_unlock_each_(seat: &mut Handle, locks: &[u32; KEPT], count:
     let desk = seat.slot.lend();
     let left = desk.unlock_each(&locks[..count]);
     if desk.holds_none() {
-        seat.standing = BARE;
+        seat.mode = BARE;
         seat.below = 0;
     }
     left
@@ -401,7 +401,7 @@ pub extern "C" fn ww_go_on_(seat: &mut Handle, rest: &mut u32) -> i32
     if seat.is_empty() {
         return EINVAL;
     }
-    seat.standing = FULL;
+    seat.mode = FULL;
     seat.below = 0;
     let answer = seat.slot.lend().go_on();
     *rest = pauses(answer);
@@ -417,7 +417,7 @@ pub extern "C" fn ww_next_wake_(seat: &mut Handle) -> i32
     if seat.is_empty() {
         return EINVAL;
     }
-    seat.standing = FULL;
+    seat.mode = FULL;
     seat.below = 0;
     match seat.slot.lend().next_wake() {
         Some(who) => i32::from(who),
@@ -433,7 +433,7 @@ pub extern "C" fn ww_cancel_(seat: &mut Handle, victim: u16) -> i32
     if seat.is_empty() {
         return EINVAL;
     }
-    seat.standing = FULL;
+    seat.mode = FULL;
     seat.below = 0;
     code(seat.slot.lend().cancel(victim))
 }

@@ -1,9 +1,9 @@
 //! What C keeps of a seat.
 ghost use Rattle.std.specs.Prelude.{◌≡◌, ◌<◌, ◌==◌, Option, Some, None, IfSome, IfNone, true, not};
 ghost use Rattle.std.proofs.Props.{props};
-ghost use Rattle.ww_desk.specs.Situations.{IsReady, IsPlain, IsBare};
+ghost use Rattle.ww_desk.specs.Situations.{IsReady, IsPlain, HasReleasedAll};
 ghost use Rattle.ww_desk.specs.contracts.desk.Desk.{the_row};
-ghost use Rattle.ww_c.specs.Standing.{knows, is_ready, is_plain, is_bare, is_alone, has_locks};
+ghost use Rattle.ww_c.specs.Modes.{knows, is_ready, is_plain, is_bare, is_alone, has_locks};
 ghost use Rattle.ww_c.specs.Slots.{slot_owns, slot_coded, is_full};
 
 mod parts;
@@ -90,22 +90,22 @@ pub(crate) const BARE: u32 = 4;
 /// Its desk has no context, and has taken a lock without one.
 pub(crate) const ALONE: u32 = 5;
 
-/// What C declares as `struct { void *at; uint32_t standing, below; }`.
+/// What C declares as `struct { void *at; uint32_t mode, below; }`.
 #[repr(C)]
 #[derive(Drop)]
 pub struct Handle {
     pub(crate) slot: Slot,
     /// What is known of the desk, by the numbers above, so that the next call need not look.
-    pub(crate) standing: u32,
+    pub(crate) mode: u32,
     /// Where that context may want a lock, it may want each below this number that it doesn't hold; else it is 0.
     pub(crate) below: u32,
-    ghost full: { is_full slot.desk ≡ not (standing == 0) },
-    ghost ready: { standing ≡ 2 → knows is_ready slot.desk ≡ true },
-    ghost plain: { standing ≡ 3 → knows is_plain slot.desk ≡ true },
+    ghost full: { is_full slot.desk ≡ not (mode == 0) },
+    ghost ready: { mode ≡ 2 → knows is_ready slot.desk ≡ true },
+    ghost plain: { mode ≡ 3 → knows is_plain slot.desk ≡ true },
     ghost locks: { 0 < below → knows (has_locks below) slot.desk ≡ true },
-    ghost only_plain: { 0 < below → standing ≡ 3 },
-    ghost bare: { standing ≡ 4 → knows is_bare slot.desk ≡ true },
-    ghost alone: { standing ≡ 5 → knows is_alone slot.desk ≡ true },
+    ghost only_plain: { 0 < below → mode ≡ 3 },
+    ghost bare: { mode ≡ 4 → knows is_bare slot.desk ≡ true },
+    ghost alone: { mode ≡ 5 → knows is_alone slot.desk ≡ true },
 }
 
 impl Handle {
@@ -114,7 +114,7 @@ impl Handle {
     pub(crate) fn is_empty(&self) -> bool
         ensures { result ≡ not (is_full self.now.slot.desk) }
     {
-        self.standing == EMPTY
+        self.mode == EMPTY
     }
 
     /// Takes the desk out.
@@ -123,20 +123,20 @@ impl Handle {
         ensures none { IfNone result (self.old.slot.desk ≡ None) }
         ensures empty { self.new.slot.desk ≡ None }
     {
-        if self.standing == EMPTY {
+        if self.mode == EMPTY {
             return None;
         }
         let was = mem::replace(
             self,
             Handle {
                 slot: Slot::empty(alloc),
-                standing: EMPTY,
+                mode: EMPTY,
                 below: 0,
             },
         );
         let Handle {
             slot,
-            standing: _,
+            mode: _,
             below: _,
         } = was;
         Some(slot.into_parts().into_box())
@@ -148,7 +148,7 @@ impl Handle {
     {
         *self = Handle {
             slot: Slot::of_parts(Parts::of(desk)),
-            standing: FULL,
+            mode: FULL,
             below: 0,
         };
     }

@@ -16,8 +16,8 @@ use Rattle.ww_seat.specs.declared.waits.Waits.{Waits}
 use Rattle.ww_seat.specs.declared.waits.Waits.TheVariants.{UntilCancelled}
 use Rattle.ww_desk.specs.declared.turn.Turn.{Turn}
 use Rattle.ww_desk.specs.declared.turn.Turn.TheVariants as at
-use Rattle.ww_desk.specs.declared.turn.Refusal.{Refusal}
-use Rattle.ww_desk.specs.declared.turn.Refusal.TheVariants as no
+use Rattle.ww_desk.specs.declared.turn.NoTry.{NoTry}
+use Rattle.ww_desk.specs.declared.turn.NoTry.TheVariants as no
 use Rattle.ww_desk.specs.declared.turn.Answer.{Answer}
 use Rattle.ww_desk.specs.declared.turn.Answer.TheVariants.{Done, Again, Awaits, Stays, Sleeps, Busy, Invalid, Already, NoSpace, Deadlk, Interrupted}
 use Rattle.ww_desk.specs.Situations.{Situation, is_at_rest, is_inside, can_want, wants_now}
@@ -108,21 +108,21 @@ CountsNaps s a s' = s'.view.naps ≡ naps_then a s.view.naps
 -- ---- where a call may go on
 
 -- there is a lock of this number
-abbrev pub IsThere : Situation → ℕ → Type 0
-IsThere s n = n < s.size
+abbrev pub HasLockNumber : Situation → ℕ → Type 0
+HasLockNumber s n = n < s.size
 
 -- between two calls, with a lock that it may want
 pub record IsTryable (s : Situation) (n : ℕ) : Type 0 where
   pub rests : is_at_rest s.turn ≡ true
   pub lacks : is_among n s.held ≡ false
-  pub there : IsThere s n
+  pub there : HasLockNumber s n
   pub wants : can_want s ≡ true
 
 -- ... with one that it doesn't hold, and may not want, or that isn't there
 pub record IsBarred (s : Situation) (n : ℕ) : Type 0 where
   pub rests : is_at_rest s.turn ≡ true
   pub lacks : is_among n s.held ≡ false
-  pub why : (¬ IsThere s n) ⊎ (can_want s ≡ false)
+  pub why : (¬ HasLockNumber s n) ⊎ (can_want s ≡ false)
 
 -- ... with one that it holds
 pub record IsHeldAtRest (s : Situation) (n : ℕ) : Type 0 where
@@ -133,22 +133,22 @@ pub record IsHeldAtRest (s : Situation) (n : ℕ) : Type 0 where
 abbrev pub CanNotTry : Situation → ℕ → Type 0
 CanNotTry s n = (wants_now s ≡ false) ⊎ (s.size ≤ n)
 
-abbrev pub answer_of : Refusal → Answer
-answer_of no.Busy = Busy
-answer_of no.Already = Already
-answer_of no.Invalid = Invalid
+abbrev pub answer_of_none : NoTry → Answer
+answer_of_none no.Busy = Busy
+answer_of_none no.Already = Already
+answer_of_none no.Invalid = Invalid
 
 -- why it can't try to take this lock
-abbrev pub IsRefusal : Situation → ℕ → Answer → Type 0
-IsRefusal s n Busy = is_at_rest s.turn ≡ false
-IsRefusal s n Already = IsHeldAtRest s n
-IsRefusal s n Invalid = IsBarred s n
-IsRefusal s n _ = ⊥
+abbrev pub IsTryRefusal : Situation → ℕ → Answer → Type 0
+IsTryRefusal s n Busy = is_at_rest s.turn ≡ false
+IsTryRefusal s n Already = IsHeldAtRest s n
+IsTryRefusal s n Invalid = IsBarred s n
+IsTryRefusal s n _ = ⊥
 
 -- it has just tried this lock in vain, and may stay away from it
 pub record HasJustLost (n : ℕ) (s : Situation) : Type 0 where
   pub rests : is_at_rest s.turn ≡ true
-  pub there : IsThere s n
+  pub there : HasLockNumber s n
   pub want : MayWant n s.view
   pub unseen : s.view.glances ≡ 0
 

@@ -82,7 +82,7 @@ pub record IsPlain (s : Situation) : Type 0 where
   pub unsigned : s.held ≡ [] → (s.stamp ≡ 0) ⊎ (s.view.sign ≡ Some 0)
 
 -- between two calls, with a context that has released all that it held
-pub record IsBare (s : Situation) : Type 0 where
+pub record HasReleasedAll (s : Situation) : Type 0 where
   pub rests : is_at_rest s.turn ≡ true
   pub context : s.stamp ≢ 0
   pub bare : s.held ≡ []

@@ -5,7 +5,7 @@ use crate::turn::Answer;
 impl Desk {
     ghost use Rattle.std.specs.Prelude.{◌≡◌, Some};
     ghost use Rattle.ww_desk.specs.declared.turn.Answer.TheVariants.{Done};
-    ghost use Rattle.ww_desk.specs.Situations.{IsReady, IsBare};
+    ghost use Rattle.ww_desk.specs.Situations.{IsReady, HasReleasedAll};
     ghost use Rattle.ww_desk.specs.Answers.{IsBeginAnswer, IsDoneAnswer, IsEndAnswer};
 
     /// Starts a context, with a stamp of its own. `Invalid` where there is one, or a lock is held; `NoSpace` where all
@@ -84,7 +84,7 @@ impl Desk {
     /// Ends a context that has released all that it held.
     #[inline(always)]
     pub fn end_bare(&mut self)
-        requires { IsBare self.old }
+        requires { HasReleasedAll self.old }
         ensures { IsEndAnswer self.old Done self.new }
     {
         self.station.seat.end(&self.station.board);

@@ -1,30 +1,30 @@
 //! The first step of taking a lock.
 use crate::desk::Desk;
-use crate::turn::{Answer, Refusal, Turn};
+use crate::turn::{Answer, NoTry, Turn};
 use ww_seat::{Stay, Waits};
 use ww_table::{Taking, Tried};
 
 impl Desk {
     ghost use Rattle.std.specs.Prelude.{◌≡◌, ◌<◌, not, true};
     ghost use Rattle.ww_table.specs.Seat.{taking_of};
-    ghost use Rattle.ww_desk.specs.Situations.{is_at_rest, is_empty, wants_now, IsBare, IsPlain};
-    ghost use Rattle.ww_desk.specs.Answers.{answer_of, CanNotTry, IsRefusal, IsTryAnswer, IsLockAnswer, IsSlowAnswer, HasJustLost, HasTriedAsIs, HasTurnedAway};
+    ghost use Rattle.ww_desk.specs.Situations.{is_at_rest, is_empty, wants_now, HasReleasedAll, IsPlain};
+    ghost use Rattle.ww_desk.specs.Answers.{answer_of_none, CanNotTry, IsTryRefusal, IsTryAnswer, IsLockAnswer, IsSlowAnswer, HasJustLost, HasTriedAsIs, HasTurnedAway};
 
     /// Why it doesn't try to take this lock. The lock's word says whether it holds it.
     #[cold]
     #[inline(never)]
-    fn refuses(&mut self, lock: u32) -> Refusal
+    fn refuses(&mut self, lock: u32) -> NoTry
         requires { CanNotTry self.old lock }
         ensures same { self.new ≡ self.old }
-        ensures why { IsRefusal self.old lock (answer_of result) }
+        ensures why { IsTryRefusal self.old lock (answer_of_none result) }
     {
         if !self.station.rests() {
-            return Refusal::Busy;
+            return NoTry::Busy;
         }
         if self.station.is_lock(lock) && self.station.seat.has(&self.station.board, lock) {
-            return Refusal::Already;
+            return NoTry::Already;
         }
-        Refusal::Invalid
+        NoTry::Invalid
     }
 
     /// One try to take a lock, while it may want one, by a desk that holds others or none. Whether it holds this one the
@@ -124,7 +124,7 @@ impl Desk {
     /// Takes a lock, or begins to wait for it, by a context that has released all that it held.
     #[inline(always)]
     pub fn lock_bare(&mut self, lock: u32, waits: Waits) -> Answer
-        requires bare { IsBare self.old }
+        requires bare { HasReleasedAll self.old }
         requires there { lock < self.old.size }
         ensures { IsLockAnswer self.old lock waits result self.new }
     {

@@ -46,25 +46,25 @@ pub enum Answer {
 
 /// Why a call doesn't try to take a lock. It is smaller than an answer.
 #[derive(Clone, Copy)]
-pub(crate) enum Refusal {
+pub(crate) enum NoTry {
     Busy,
     Already,
     Invalid,
 }
 
-impl Refusal {
+impl NoTry {
     ghost use Rattle.std.specs.Prelude.{◌≡◌};
-    ghost use Rattle.ww_desk.specs.Answers.{answer_of};
+    ghost use Rattle.ww_desk.specs.Answers.{answer_of_none};
 
     /// The answer that says so.
     #[inline(always)]
     pub(crate) fn answer(self) -> Answer
-        ensures { result ≡ answer_of self }
+        ensures { result ≡ answer_of_none self }
     {
         match self {
-            Refusal::Busy => Answer::Busy,
-            Refusal::Already => Answer::Already,
-            Refusal::Invalid => Answer::Invalid,
+            NoTry::Busy => Answer::Busy,
+            NoTry::Already => Answer::Already,
+            NoTry::Invalid => Answer::Invalid,
         }
     }
 }

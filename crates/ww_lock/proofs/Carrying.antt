@@ -30,9 +30,9 @@ use Rattle.ww_seat.proofs.Debts.{paid_still}
 use Rattle.ww_seat.proofs.Without.{another, owns_less, shorter}
 use Rattle.ww_lock.specs.declared.hand.Hand.TheInside.{Inside}
 use Rattle.ww_lock.specs.Holding.{Home, Holding, Setting, IsAtHome, AreHeld, by_of}
-use Rattle.ww_lock.specs.Carried.{Carried, known_of, held_of, seen_with, holding_of, IsFresh, MayLock}
+use Rattle.ww_lock.specs.Carried.{Carried, known_of, held_of, seen_with, holding_of, MayStillCommit, MayLock}
 use Rattle.ww_lock.specs.Hands.{carried_of, Suits, Carries}
-use Rattle.ww_lock.specs.Moves.{tried, with_node, HasCome, IsTried}
+use Rattle.ww_lock.specs.Moves.{tried, with_node, HasReturned, IsTried}
 use Rattle.ww_lock.specs.Opened.{setting_of}
 use Rattle.ww_lock.proofs.Helds.{held_more, held_less, all_among}
 
@@ -146,7 +146,7 @@ pub record HoldsStill (m : Sat) (a : Account) : Type 0 where
 
 pub record Keeps (h g : Inside) (a : Account) : Type 0 where
   pub carries : Carries g
-  pub fresh : IsFresh (carried_of h) → IsFresh (carried_of g)
+  pub fresh : MayStillCommit (carried_of h) → MayStillCommit (carried_of g)
   pub is : holding_of (carried_of g) ≡ seen_with (carried_of h) a (view_in g.seat).deaf
 
 pub keeps : (h : Inside) (s : Standing) (p : Patience) (bells : Vec Bell) (a : Account) → Carries h → IsBack h.seat s
@@ -196,14 +196,14 @@ elem_else (y ∷ ys) (suc n) (suc m) x isnt = elem_else ys n m x (λ e. isnt (ap
 -- one node more is held, after so many tries
 pub record Takes (h g : Inside) (tries n : ℕ) (x : Node) : Type 0 where
   pub carries : Carries g
-  pub fresh : IsFresh (carried_of g)
+  pub fresh : MayStillCommit (carried_of g)
   pub is : holding_of (carried_of g) ≡ with_node (record (holding_of (carried_of h)) {
     tries = tries;
     takes = (holding_of (carried_of h)).takes + 1;
     deaf = (view_in g.seat).deaf;
   }) n x
 
-pub takes : (h g : Inside) (tries n : ℕ) (x : Node) → Carries h → IsFresh (carried_of h) → n < length h.seen
+pub takes : (h g : Inside) (tries n : ℕ) (x : Node) → Carries h → MayStillCommit (carried_of h) → n < length h.seen
     → is_among n (held_of (carried_of h)) ≡ false → IsBack h.seat g.seat
     → HasAdded (record (account_of h.seat.me) { tries = tries }) n x g.seat.me → IsAlike h g → g.left ≡ h.left
     → g.marks ≡ set h.marks n true → g.seen ≡ set h.seen n x → Takes h g tries n x
@@ -255,10 +255,10 @@ holds_one h c one = some_among (held_of (carried_of h)) one.0 (sym (c.suits.owne
 -- it came without the lock, after one try in vain
 pub record TurnsAway (h g : Inside) (n : ℕ) (waits : Waits) (why : Stop) : Type 0 where
   pub carries : Carries g
-  pub came : (s : Holding) → holding_of (carried_of h) ≡ tried s → HasCome s n waits (Err why) (carried_of g)
+  pub came : (s : Holding) → holding_of (carried_of h) ≡ tried s → HasReturned s n waits (Err why) (carried_of g)
 
 pub turned_away : (h : Inside) (s' : Standing) (p : Patience) (bells : Vec Bell) (n : ℕ) (waits : Waits) (why : Stop)
-    → Carries h → IsFresh (carried_of h) → is_among n (held_of (carried_of h)) ≡ false → IsBack h.seat s'
+    → Carries h → MayStillCommit (carried_of h) → is_among n (held_of (carried_of h)) ≡ false → IsBack h.seat s'
     → IsAlike h (record h { seat = s'; patience = p; bells = bells }) → IsTurnedAway h.seat.me n why s'.me → MayStop 16 waits why
     → (waits ≡ UntilCancelled → (view_in s').deaf ≡ (view_in h.seat).deaf)
     → TurnsAway h (record h { seat = s'; patience = p; bells = bells }) n waits why
@@ -314,7 +314,7 @@ waits_in_vain h b s p was now n m waits why c may e even is same places =
 -- it has the lock, after one try in vain
 pub record Gets (h g : Inside) (n : ℕ) (waits : Waits) : Type 0 where
   pub carries : Carries g
-  pub came : (s : Holding) → holding_of (carried_of h) ≡ tried s → HasCome s n waits (Ok tt) (carried_of g)
+  pub came : (s : Holding) → holding_of (carried_of h) ≡ tried s → HasReturned s n waits (Ok tt) (carried_of g)
 
 pub waits_out : (h g : Inside) (b : Board) (was now : List Bell) (n m : ℕ) (waits : Waits) (x : Node) → Carries h
     → MayLock n (carried_of h) → IsWait b h.seat m waits (Ok x) g.seat → StaysEven h.patience was g.seat g.patience now

@@ -3,7 +3,7 @@ use Rattle.std.proofs.Common.{◌≡◌, ℕ, zero, suc, ◌+◌, ◌-◌, ◌<�
 use Rattle.std.specs.List.{AllByRecursion}
 use Rattle.std.proofs.lemmas.List.{length-map, map-append}
 use mathlib.Core.Option.{some}
-use Rattle.ww_plain.specs.Numbers.{joined, distinct_of}
+use Rattle.ww_plain.specs.Numbers.{with_number, distinct_of}
 use Rattle.ww_plain.specs.Graph.{node_at}
 use Rattle.ww_plain.specs.Walk.{BeginsWith, walk_of, stop_of}
 use Rattle.ww_plain.specs.Footprint.{with_target, walked}
@@ -12,13 +12,14 @@ use Rattle.ww_plain.specs.Meaning.{answer_of, graph_after}
 use Rattle.ww_plain.proofs.Members.{true_or_false, is_among-append, is_among-head}
 use Rattle.ww_plain.proofs.Walks.{gives_walk}
 use Rattle.ww_view.specs.View.{owns}
+use Rattle.ww_rule.specs.Rule.{own_of}
 use Rattle.ww_seat.specs.Accounts.{Account, account_of, having_committed}
 use Rattle.ww_seat.specs.Calls.{HoldsAll}
 use Rattle.ww_seat.specs.Standings.{Standing, view_in, IsCommit}
 use Rattle.ww_lock.specs.declared.hand.Hand.TheInside.{Inside}
 use Rattle.ww_lock.specs.declared.prepared.Prepared.TheInside as prepared
 use Rattle.ww_lock.specs.declared.prepared.Receipt.{Receipt}
-use Rattle.ww_lock.specs.Carried.{held_of, seen_with, holding_of, IsFresh}
+use Rattle.ww_lock.specs.Carried.{held_of, seen_with, holding_of, MayStillCommit}
 use Rattle.ww_lock.specs.Hands.{carried_of, Carries}
 use Rattle.ww_lock.specs.Moves.{IsCommitted}
 use Rattle.ww_lock.proofs.Helds.{all_among}
@@ -29,14 +30,14 @@ use Rattle.ww_plain.specs.Numbers.{is_among}
 use Rattle.ww_plain.specs.Footprint.{footprint_of}
 use Rattle.ww_plain.specs.Transaction.{Transaction}
 use Rattle.ww_plain.specs.History.{Recorded, recorded_of}
-use Rattle.ww_lock.specs.Holding.{Holding, Change, Holds, SameAt, AreBelow, own_of}
-use Rattle.ww_lock.specs.Making.{IsMade, Finds}
+use Rattle.ww_lock.specs.Holding.{Holding, Change, Holds, SameAt, AreBelow}
+use Rattle.ww_lock.specs.Making.{IsChangeMade, HoldsUnchanged}
 use Rattle.ww_seat.specs.Commits.{change_at}
 
 -- the nodes are held as they were before
 pub found : (s : Holding) (before after : List Node) (ns : List ℕ)
-    → (AllByRecursion (Finds s) (map (change_at before after) ns) → Holds s ns × SameAt before s.seen ns)
-    × (Holds s ns × SameAt before s.seen ns → AllByRecursion (Finds s) (map (change_at before after) ns))
+    → (AllByRecursion (HoldsUnchanged s) (map (change_at before after) ns) → Holds s ns × SameAt before s.seen ns)
+    × (Holds s ns × SameAt before s.seen ns → AllByRecursion (HoldsUnchanged s) (map (change_at before after) ns))
 found s before after [] = (λ _. (tt, tt), λ _. tt)
 found s before after (n ∷ ns) = let rest = found s before after ns in (
   λ all. let more = rest.0 all.1 in ((all.0.0, more.0), (sym all.0.1, more.1)),
@@ -54,15 +55,15 @@ node_read (y ∷ ys) (suc n) x e = node_read ys n x e
 abbrev pub Some_among : List ℕ → Type 0
 Some_among ns = (n : ℕ) × (is_among n ns ≡ true)
 
-still_joined : (ns : List ℕ) (m n : ℕ) → is_among n ns ≡ true → is_among n (joined ns m) ≡ true
+still_joined : (ns : List ℕ) (m n : ℕ) → is_among n ns ≡ true → is_among n (with_number ns m) ≡ true
 still_joined ns m n e = elim (true_or_false (is_among m ns)) [
   | inl here ↦ rw here e
   | inr absent ↦ rw absent (is_among-append n ns (m ∷ []) ∙ ap (λ (b : Bool). b || is_among n (m ∷ [])) e)
 ]
 
-still_all : (ns ms : List ℕ) (n : ℕ) → is_among n ns ≡ true → is_among n (fold joined ns ms) ≡ true
+still_all : (ns ms : List ℕ) (n : ℕ) → is_among n ns ≡ true → is_among n (fold with_number ns ms) ≡ true
 still_all ns [] n e = e
-still_all ns (m ∷ ms) n e = still_all (joined ns m) ms n (still_joined ns m n e)
+still_all ns (m ∷ ms) n e = still_all (with_number ns m) ms n (still_joined ns m n e)
 
 some_distinct : (ns : List ℕ) → 1 ≤ length ns → Some_among (distinct_of ns)
 some_distinct [] one = absurd (omega (arith, one))
@@ -113,7 +114,7 @@ pub record MaySettle (h : Inside) (p : Change) (r : Record) : Type 0 where
 pub many : (own : List (ℕ × Record)) → length (own_of own) ≡ length own
 many own = length-map own (λ (x : ℕ × Record). (x.0, recorded_of x.1))
 
-pub may_settle : (h : Inside) (p : Change) (r : Record) → Carries h → IsFresh (carried_of h) → IsMade (holding_of (carried_of h)) p
+pub may_settle : (h : Inside) (p : Change) (r : Record) → Carries h → MayStillCommit (carried_of h) → IsChangeMade (holding_of (carried_of h)) p
     → r.seq ≡ length (own_of h.seat.me.0.part.own) → Fits (length p.before) p.transaction → MaySettle h p r
 may_settle h p r c f made seq fits =
     let ns : List ℕ = footprint_of p.before p.transaction in
@@ -140,7 +141,7 @@ below_as place [] all = tt
 below_as place (r ∷ rs) all = (all.0, below_as place rs all.1)
 
 pub commits : (h : Inside) (s' : Standing) (p : Change) (r : Record) (before : List Node) (told : Receipt) → Carries h
-    → IsFresh (carried_of h) → IsCommit h.seat r before told.place s'
+    → MayStillCommit (carried_of h) → IsCommit h.seat r before told.place s'
     → recorded_of r ≡ record {
       caller = (view_in h.seat).who;
       seq = length (own_of h.seat.me.0.part.own);

@@ -11,7 +11,7 @@ use Rattle.ww_view.specs.View.{IsAway, IsBare}
 use Rattle.ww_rule.specs.declared.cells.Start.{Start}
 use Rattle.ww_table.specs.declared.seat.Seat16.{Seat16}
 use Rattle.ww_model.specs.State.{one_if}
-use Rattle.ww_rule.specs.Rule.{first_graph, times}
+use Rattle.ww_rule.specs.Rule.{first_graph, own_of, times}
 use Rattle.ww_table.specs.Closed.{HasCome, HaveAllCome, HasPlaces}
 use Rattle.ww_table.specs.Closed as table
 use Rattle.ww_table.proofs.Making.{all_from}
@@ -21,7 +21,7 @@ use Rattle.ww_seat.proofs.Outside.{nothing_out}
 use Rattle.ww_table.specs.Seat.{IsSeated}
 use Rattle.ww_lock.specs.declared.hand.Hand.TheInside.{Inside}
 use Rattle.ww_lock.specs.declared.close.History.{History}
-use Rattle.ww_lock.specs.Holding.{Home, Holding, Setting, AreAtHome, AreBelow, by_of, own_of}
+use Rattle.ww_lock.specs.Holding.{Home, Holding, Setting, AreAtHome, AreBelow, by_of}
 use Rattle.ww_lock.specs.Carried.{held_of, holding_of}
 use Rattle.ww_lock.specs.Hands.{carried_of, Carries}
 use Rattle.ww_lock.specs.Closed.{has_pass, missing_of, WasSeatOf, AreSeatsOf, AreAllBelow, AreParts, IsBalanced, AreBalanced, IsClosed}

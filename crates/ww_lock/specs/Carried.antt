@@ -8,12 +8,13 @@ use Rattle.ww_plain.specs.Numbers.{is_among}
 use Rattle.ww_plain.specs.Graph.{node_at}
 use Rattle.ww_view.specs.declared.view.View.{View}
 use Rattle.ww_view.specs.declared.view.Met.{Met}
+use Rattle.ww_rule.specs.Rule.{own_of}
 use Rattle.ww_seat.specs.Accounts.{Account, account_of}
 use Rattle.ww_seat.specs.Calls.{HasMet}
 use Rattle.ww_seat.specs.Standings.{Standing, view_in}
 use Rattle.ww_seat.specs.declared.waiting.Stop.{Stop}
 use Rattle.ww_seat.specs.declared.waiting.Stop.TheVariants.{Deadlk, Interrupted}
-use Rattle.ww_lock.specs.Holding.{Holding, own_of}
+use Rattle.ww_lock.specs.Holding.{Holding}
 
 -- Its seat; the parkers that its bells ring, in their order; how many contexts and solos it may still start; and the graph
 -- as it was seen.
@@ -64,13 +65,13 @@ abbrev pub holding_of : Carried → Holding
 holding_of c = seen_with c (account_of c.seat.me) (known_of c).deaf
 
 -- it may still commit: each node that is held is as it was seen, and one commit more can be counted
-pub record IsFresh (c : Carried) : Type 0 where
+pub record MayStillCommit (c : Carried) : Type 0 where
   pub seen : (n : ℕ) → is_among n (held_of c) ≡ true → get_elem? c.seat.me.0.held n ≡ some (Some (node_at c.seen n))
   pub commits : length c.seat.me.0.part.own + c.left + 1 < 2 ^ 32
 
 -- it may begin a context: it has none, holds nothing, and may draw once more
 pub record MayBegin (c : Carried) : Type 0 where
-  pub fresh : IsFresh c
+  pub fresh : MayStillCommit c
   pub idle : stamp_of c ≡ 0
   pub nothing : held_of c ≡ []
   pub draws : (holding_of c).draws + c.left + 1 < 2 ^ 32
@@ -83,14 +84,14 @@ pub record IsSpent (s : Holding) (c : Carried) : Type 0 where
 
 -- it may take the lock of node n, which it doesn't hold: it has a context, or holds nothing
 pub record MayLock (n : ℕ) (c : Carried) : Type 0 where
-  pub fresh : IsFresh c
+  pub fresh : MayStillCommit c
   pub want : (0 < stamp_of c) ⊎ (held_of c ≡ [])
   pub there : n < length c.seen
   pub new : is_among n (held_of c) ≡ false
 
 -- ... and nothing else
 pub record MayLockAlone (n : ℕ) (c : Carried) : Type 0 where
-  pub fresh : IsFresh c
+  pub fresh : MayStillCommit c
   pub nothing : held_of c ≡ []
   pub there : n < length c.seen
 

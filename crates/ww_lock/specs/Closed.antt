@@ -3,13 +3,13 @@ use Rattle.std.specs.Prelude.{ℕ, zero, suc, ◌≡◌, ◌≤◌, ◌<◌, ◌
 use Rattle.std.specs.List.{AllByRecursion, list_any}
 use Rattle.ww_plain.specs.History.{Recorded, history_of, part_of, IsLegal, last_graph}
 use Rattle.ww_model.specs.Interrupts.{one_of}
-use Rattle.ww_rule.specs.Rule.{times}
+use Rattle.ww_rule.specs.Rule.{own_of, times}
 use Rattle.ww_table.specs.declared.seat.Seat16.{Seat16}
 use Rattle.ww_table.specs.Closed.{HasCome}
 use Rattle.ww_lock.specs.declared.close.History.{History}
 use Rattle.ww_lock.specs.declared.close.CloseFault.{CloseFault}
 use Rattle.ww_lock.specs.declared.close.CloseFault.TheVariants.{Missing, NoMemory}
-use Rattle.ww_lock.specs.Holding.{Holding, Setting, AreBelow, by_of, own_of}
+use Rattle.ww_lock.specs.Holding.{Holding, Setting, AreBelow, by_of}
 
 -- one of the passes is that of the caller
 abbrev pub has_pass : List Holding → ℕ → Bool

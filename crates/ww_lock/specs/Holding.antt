@@ -4,12 +4,11 @@ use Rattle.std.specs.List.{AllByRecursion}
 use Rattle.atomic_table.specs.Seated.{TableId}
 use Rattle.ww_queue.specs.declared.kind.Kind.{Kind}
 use Rattle.ww_plain.specs.declared.node.Node.{Node}
-use Rattle.ww_plain.specs.declared.history.Record.{Record}
 use Rattle.ww_plain.specs.Numbers.{is_among, AreDifferent}
 use Rattle.ww_plain.specs.Graph.{node_at}
 use Rattle.ww_plain.specs.Transaction.{Transaction}
 use Rattle.ww_plain.specs.Meaning.{Answer}
-use Rattle.ww_plain.specs.History.{Recorded, recorded_of}
+use Rattle.ww_plain.specs.History.{Recorded}
 
 -- which world a pass is of: its table, and the parkers that its passes sleep on, in their order. A parker is told from
 -- others by the table that has its token.
@@ -81,9 +80,6 @@ AreAtHome passes w = AllByRecursion (λ s. IsAtHome s w) passes
 -- the callers by whom it was interrupted
 abbrev pub by_of : List (ℕ × ℕ) → List ℕ
 by_of interruptions = map (λ p. p.1) interruptions
-
-abbrev pub own_of : List (ℕ × Record) → List (ℕ × Recorded)
-own_of records = map (λ p. (p.0, recorded_of p.1)) records
 
 -- what it reads at a node: nothing where it doesn't hold that
 abbrev pub reads : Holding → ℕ → Option Node

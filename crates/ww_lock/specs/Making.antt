@@ -25,20 +25,20 @@ Covers s txn = Holds s (footprint_of s.seen txn)
 
 -- the state holds the transaction's footprint with the contents that the change was made from, and has room for its
 -- record
-pub record IsMade (s : Holding) (p : Change) : Type 0 where
+pub record IsChangeMade (s : Holding) (p : Change) : Type 0 where
   pub sizes : length p.before ≡ length s.seen
   pub holds : Holds s (footprint_of p.before p.transaction)
   pub contents : SameAt p.before s.seen (footprint_of p.before p.transaction)
   pub room : 1 ≤ s.room
 
 -- it holds this node, as it was before the change
-abbrev pub Finds : Holding → NodeChange → Type 0
-Finds s c = IsTrue (is_among c.number s.held) × (node_at s.seen c.number ≡ c.before)
+abbrev pub HoldsUnchanged : Holding → NodeChange → Type 0
+HoldsUnchanged s c = IsTrue (is_among c.number s.held) × (node_at s.seen c.number ≡ c.before)
 
 -- what preparing this transaction gives: its answer is that of the nodes as they were seen, and they become the new
 -- nodes
 pub record IsMadeOf (s : Holding) (p : Change) (txn : Transaction) : Type 0 where
-  pub made : IsMade s p
+  pub made : IsChangeMade s p
   pub transaction : p.transaction ≡ txn
   pub answer : p.answer ≡ answer_to s.seen txn
   pub leads : p.after ≡ graph_after p.before txn

@@ -21,7 +21,7 @@ use Rattle.ww_view.specs.May.{WantsSigns}
 use Rattle.ww_seat.specs.Calls.{MayStop}
 use Rattle.ww_lock.specs.Holding.{Holding, Refused, Change, AreBelow}
 use Rattle.ww_lock.specs.Making.{Covers}
-use Rattle.ww_lock.specs.Carried.{Carried, known_of, held_of, stamp_of, met_of, holding_of, IsFresh, MayLock, HasMetSo}
+use Rattle.ww_lock.specs.Carried.{Carried, known_of, held_of, stamp_of, met_of, holding_of, MayStillCommit, MayLock, HasMetSo}
 
 -- one node more is held, with these contents
 abbrev pub with_node : Holding → ℕ → Node → Holding
@@ -94,9 +94,9 @@ pub record IsInterrupted (s : Holding) (n by : ℕ) (a : Holding) : Type 0 where
   pub told : a ≡ interrupted_by s n by
 
 -- why a lock wasn't taken, told of a node that wasn't held
-abbrev pub IsStop : Holding → ℕ → Stop → Holding → Type 0
-IsStop s n (seat.Deadlk k) a = (a ≡ backed_off (having_slept s a.deaf)) × (1 ≤ k) × (k < s.stamp) × (1 ≤ length s.held)
-IsStop s n (seat.Interrupted by) a = IsInterrupted s n by a
+abbrev pub IsStopOf : Holding → ℕ → Stop → Holding → Type 0
+IsStopOf s n (seat.Deadlk k) a = (a ≡ backed_off (having_slept s a.deaf)) × (1 ≤ k) × (k < s.stamp) × (1 ≤ length s.held)
+IsStopOf s n (seat.Interrupted by) a = IsInterrupted s n by a
 
 -- the wait of this caller was cancelled
 abbrev pub IsCancelling : Holding → ℕ → Holding → Type 0
@@ -170,21 +170,21 @@ pub record IsCommitted (s : Holding) (p : Change) (a : Holding) (told : Receipt)
 
 -- it has begun a context, and met nothing
 pub record HasBegun (c c' : Carried) : Type 0 where
-  pub fresh : IsFresh c'
+  pub fresh : MayStillCommit c'
   pub begun : holding_of c' ≡ record (holding_of c) { draws = (holding_of c).draws + 1; stamp = stamp_of c' }
   pub stamp : 0 < stamp_of c'
   pub unmet : met_of c' ≡ None
 
 -- it may prepare this transaction, which fits it and names no node twice: it holds all that this depends on and may change
 pub record MayPrepare (txn : Transaction) (c : Carried) : Type 0 where
-  pub fresh : IsFresh c
+  pub fresh : MayStillCommit c
   pub fits : Fits (length c.seen) txn
   pub no_double : HasNoDouble txn
   pub covers : Covers (holding_of c) txn
 
 -- it may have more room for records, and is otherwise as it was
 pub record HasReserved (c c' : Carried) : Type 0 where
-  pub fresh : IsFresh c'
+  pub fresh : MayStillCommit c'
   pub same : holding_of c' ≡ record (holding_of c) { room = (holding_of c').room }
 
 -- it has just lost its first try for lock n, hasn't made a spin read of it yet, and may go on to wait for it
@@ -197,14 +197,14 @@ pub record HasLost (n : ℕ) (c : Carried) : Type 0 where
 
 -- what one try to take lock n came to: it has the lock; or it may go on to wait for it
 abbrev pub IsTried : Carried → ℕ → Bool → Carried → Type 0
-IsTried c n true c' = IsFresh c' × IsTaken (holding_of c) n (holding_of c') × (met_of c' ≡ None)
+IsTried c n true c' = MayStillCommit c' × IsTaken (holding_of c) n (holding_of c') × (met_of c' ≡ None)
     × ((holding_of c').deaf ≡ (holding_of c).deaf)
 IsTried c n false c' = HasLost n c' × (holding_of c' ≡ tried (holding_of c)) × (met_of c' ≡ met_of c)
 
 -- what a call that takes lock n came to, from a state that hadn't tried yet: it has the lock; or why not
-abbrev pub HasCome : Holding → ℕ → Waits → Result (Unit {0}) Stop → Carried → Type 0
-HasCome s n waits (Ok _) c' = IsFresh c' × IsHeeding waits s (holding_of c') × IsTaken s n (holding_of c') × (met_of c' ≡ None)
-HasCome s n waits (Err why) c' = IsFresh c' × IsHeeding waits s (holding_of c') × IsStop s n why (holding_of c')
+abbrev pub HasReturned : Holding → ℕ → Waits → Result (Unit {0}) Stop → Carried → Type 0
+HasReturned s n waits (Ok _) c' = MayStillCommit c' × IsHeeding waits s (holding_of c') × IsTaken s n (holding_of c') × (met_of c' ≡ None)
+HasReturned s n waits (Err why) c' = MayStillCommit c' × IsHeeding waits s (holding_of c') × IsStopOf s n why (holding_of c')
     × HasMetSo n why c' × MayStop 16 waits why
 
 -- it holds one node less
@@ -213,6 +213,6 @@ pub record HasLetGo (c c' : Carried) : Type 0 where
   pub fewer : length (held_of c') < length (held_of c)
 
 -- ... or still what it held
-abbrev pub HasLet : Carried → Bool → Carried → Type 0
-HasLet c true c' = HasLetGo c c'
-HasLet c false c' = holding_of c' ≡ holding_of c
+abbrev pub HasLetOrKept : Carried → Bool → Carried → Type 0
+HasLetOrKept c true c' = HasLetGo c c'
+HasLetOrKept c false c' = holding_of c' ≡ holding_of c

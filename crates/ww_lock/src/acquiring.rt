@@ -19,13 +19,13 @@ pub struct Acquiring {
 impl Model for Acquiring {
     ghost use Rattle.std.specs.Prelude.{◌≡◌, ◌<◌, None};
     ghost use Rattle.ww_lock.specs.Holding.{Holding};
-    ghost use Rattle.ww_lock.specs.Carried.{holding_of, stamp_of, met_of, IsFresh};
+    ghost use Rattle.ww_lock.specs.Carried.{holding_of, stamp_of, met_of, MayStillCommit};
 
     ghost Value = { Holding };
 
     ghost view = { λ s. holding_of s.hand.value };
 
-    ghost invariant = { λ s. IsFresh s.hand.value × (0 < stamp_of s.hand.value) × (met_of s.hand.value ≡ None) };
+    ghost invariant = { λ s. MayStillCommit s.hand.value × (0 < stamp_of s.hand.value) × (met_of s.hand.value ≡ None) };
 }
 
 /// What a lock call returns.

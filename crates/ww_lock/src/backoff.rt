@@ -20,13 +20,13 @@ impl Model for Backoff {
     ghost use Rattle.std.specs.Prelude.{◌<◌, length};
     ghost use Rattle.ww_seat.specs.Calls.{HasMet};
     ghost use Rattle.ww_lock.specs.Holding.{Refused};
-    ghost use Rattle.ww_lock.specs.Carried.{holding_of, known_of, stamp_of, IsFresh};
+    ghost use Rattle.ww_lock.specs.Carried.{holding_of, known_of, stamp_of, MayStillCommit};
 
     ghost Value = { Refused };
 
     ghost view = { λ s. record { holding = holding_of s.hand.value; contended = s.contended; met = s.met } };
 
-    ghost invariant = { λ s. IsFresh s.hand.value × HasMet s.contended s.met (known_of s.hand.value) × (0 < s.met) × (s.met < stamp_of s.hand.value) × (s.contended < length s.hand.value.seen) };
+    ghost invariant = { λ s. MayStillCommit s.hand.value × HasMet s.contended s.met (known_of s.hand.value) × (0 < s.met) × (s.met < stamp_of s.hand.value) × (s.contended < length s.hand.value.seen) };
 }
 
 impl Backoff {

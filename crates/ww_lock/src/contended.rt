@@ -17,13 +17,13 @@ pub struct Contended {
 impl Model for Contended {
     ghost use Rattle.std.specs.Prelude.{◌≡◌, ◌<◌, [], length};
     ghost use Rattle.ww_lock.specs.Holding.{Wanting};
-    ghost use Rattle.ww_lock.specs.Carried.{holding_of, held_of, stamp_of, IsFresh};
+    ghost use Rattle.ww_lock.specs.Carried.{holding_of, held_of, stamp_of, MayStillCommit};
 
     ghost Value = { Wanting };
 
     ghost view = { λ s. record { holding = holding_of s.hand.value; contended = s.contended } };
 
-    ghost invariant = { λ s. IsFresh s.hand.value × (0 < stamp_of s.hand.value) × (held_of s.hand.value ≡ []) × (s.contended < length s.hand.value.seen) };
+    ghost invariant = { λ s. MayStillCommit s.hand.value × (0 < stamp_of s.hand.value) × (held_of s.hand.value ≡ []) × (s.contended < length s.hand.value.seen) };
 }
 
 impl Contended {

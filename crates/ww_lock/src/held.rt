@@ -10,7 +10,7 @@ use std::marker::{Model, PhantomData};
 use ww_plain::{Node, Txn, first_double};
 
 /// A holder of locks: a context, or a pass that took one lock without a context.
-pub trait Holder {
+pub trait HolderKind {
     /// The stamps that it has.
     ghost is_stamp: { ℕ → Type 0 };
 }
@@ -18,7 +18,7 @@ pub trait Holder {
 /// A context holds the locks.
 pub struct InContext;
 
-impl Holder for InContext {
+impl HolderKind for InContext {
     ghost use Rattle.std.specs.Prelude.{◌<◌};
 
     ghost is_stamp = { λ k. 0 < k };
@@ -27,36 +27,36 @@ impl Holder for InContext {
 /// One lock is held without a context.
 pub struct Alone;
 
-impl Holder for Alone {
+impl HolderKind for Alone {
     ghost use Rattle.std.specs.Prelude.{◌≡◌};
 
     ghost is_stamp = { λ k. k ≡ 0 };
 }
 
 /// All locks that a transaction needs, before its commit.
-pub struct Held<H: Holder> {
+pub struct Held<H: HolderKind> {
     pub(crate) hand: Box<Hand>,
     pub(crate) by: PhantomData<H>,
 }
 
-impl<H: Holder> Model for Held<H> {
+impl<H: HolderKind> Model for Held<H> {
     ghost use Rattle.ww_lock.specs.Holding.{Holding};
-    ghost use Rattle.ww_lock.specs.Carried.{holding_of, stamp_of, IsFresh};
+    ghost use Rattle.ww_lock.specs.Carried.{holding_of, stamp_of, MayStillCommit};
 
     ghost Value = { Holding };
 
     ghost view = { λ s. holding_of s.hand.value };
 
-    ghost invariant = { λ s. IsFresh s.hand.value × H.is_stamp (stamp_of s.hand.value) };
+    ghost invariant = { λ s. MayStillCommit s.hand.value × H.is_stamp (stamp_of s.hand.value) };
 }
 
 /// The locks that are still held after the commit.
-pub struct Kept<H: Holder> {
+pub struct Kept<H: HolderKind> {
     pub(crate) hand: Box<Hand>,
     pub(crate) by: PhantomData<H>,
 }
 
-impl<H: Holder> Model for Kept<H> {
+impl<H: HolderKind> Model for Kept<H> {
     ghost use Rattle.ww_lock.specs.Holding.{Holding};
     ghost use Rattle.ww_lock.specs.Carried.{holding_of, stamp_of};
 
@@ -67,12 +67,12 @@ impl<H: Holder> Model for Kept<H> {
     ghost invariant = { λ s. H.is_stamp (stamp_of s.hand.value) };
 }
 
-impl<H: Holder> Held<H> {
+impl<H: HolderKind> Held<H> {
     ghost use Rattle.std.specs.Prelude.{◌≡◌, ◌<◌, ◌↔◌, length, IsTrue, IfSome, IfOk, IfErr, OnErr};
     ghost use Rattle.ww_plain.specs.Graph.{IsNodeOf};
     ghost use Rattle.ww_plain.specs.Transaction.{transaction_of, Fits, HasNoDouble};
     ghost use Rattle.ww_lock.specs.Holding.{IsAtHome, reads};
-    ghost use Rattle.ww_lock.specs.Making.{Covers, IsMade, IsMadeOf};
+    ghost use Rattle.ww_lock.specs.Making.{Covers, IsChangeMade, IsMadeOf};
     ghost use Rattle.ww_lock.specs.Moves.{IsCommitted};
 
     /// The node as it was when it was locked; nothing where it isn't held. Its ports name nodes of the world, or none.
@@ -124,7 +124,7 @@ impl<H: Holder> Held<H> {
     /// Whether what was prepared can be committed here: the nodes that it depends on and may change are held, with the
     /// contents that it was made from, and there is room for its record.
     pub fn made(&self, prepared: &Prepared) -> bool
-        ensures { IsTrue result ↔ IsMade self.now prepared.now }
+        ensures { IsTrue result ↔ IsChangeMade self.now prepared.now }
     {
         self.hand.made(prepared)
     }
@@ -132,7 +132,7 @@ impl<H: Holder> Held<H> {
     /// Commits what was prepared: it takes the next place of the one history, and the nodes change. It takes no memory.
     pub fn commit(self, world: &World, prepared: Prepared) -> (Kept<H>, Receipt)
         requires home { IsAtHome self world.now }
-        requires made { IsMade self prepared }
+        requires made { IsChangeMade self prepared }
         ensures { IsCommitted self prepared result.0 result.1 }
     {
         let Held { mut hand, by } = self;

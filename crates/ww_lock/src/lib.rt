@@ -27,7 +27,7 @@ pub use backoff::Backoff;
 pub use close::{CloseFault, History};
 pub use contended::Contended;
 pub use done::{Committed, Done, Empty};
-pub use held::{Alone, Held, Holder, InContext, Kept};
+pub use held::{Alone, Held, HolderKind, InContext, Kept};
 pub use interruptible::{Halt, Interruptible};
 pub use pass::Pass;
 pub use prepared::{Prepared, Receipt};

@@ -9,8 +9,8 @@ impl Hand {
     ghost use Rattle.std.specs.Prelude.{◌≡◌, ◌<◌, ◌≤◌, ◌∷◌, [], true, false, length, None};
     ghost use Rattle.ww_plain.specs.Numbers.{is_among};
     ghost use Rattle.ww_lock.specs.Holding.{Holding, IsAtHome};
-    ghost use Rattle.ww_lock.specs.Carried.{holding_of, held_of, stamp_of, met_of, IsFresh, MayBegin, MayLock, MayLockAlone};
-    ghost use Rattle.ww_lock.specs.Moves.{tried, found_pending, emptied, IsTaken, IsCancelling, HasBegun, HasLost, IsTried, HasCome, HasLet, HasLetGo};
+    ghost use Rattle.ww_lock.specs.Carried.{holding_of, held_of, stamp_of, met_of, MayStillCommit, MayBegin, MayLock, MayLockAlone};
+    ghost use Rattle.ww_lock.specs.Moves.{tried, found_pending, emptied, IsTaken, IsCancelling, HasBegun, HasLost, IsTried, HasReturned, HasLetOrKept, HasLetGo};
 
     /// Starts a context: it draws a stamp.
     pub(crate) fn begin(&mut self, world: &World)
@@ -62,7 +62,7 @@ impl Hand {
     ) -> Result<(), Stop>
         requires home { IsAtHome (holding_of self.old) world.now }
         requires may { HasLost n self.old }
-        ensures { (s : Holding) → holding_of self.old ≡ tried s → HasCome s n waits result self.new }
+        ensures { (s : Holding) → holding_of self.old ≡ tried s → HasReturned s n waits result self.new }
     {
         let node = self.seat.wait_for(
             rt,
@@ -87,7 +87,7 @@ impl Hand {
     ) -> Result<(), Stop>
         requires home { IsAtHome (holding_of self.old) world.now }
         requires may { MayLock n self.old }
-        ensures { HasCome (holding_of self.old) n waits result self.new }
+        ensures { HasReturned (holding_of self.old) n waits result self.new }
     {
         if self.try_take(world, n) {
             return Ok(());
@@ -110,7 +110,7 @@ impl Hand {
     pub(crate) fn take_alone<R: Wait>(&mut self, rt: &R, world: &World, n: u8)
         requires home { IsAtHome (holding_of self.old) world.now }
         requires may { MayLockAlone n self.old }
-        ensures fresh { IsFresh self.new × (met_of self.new ≡ None) }
+        ensures fresh { MayStillCommit self.new × (met_of self.new ≡ None) }
         ensures taken { IsTaken (holding_of self.old) n (holding_of self.new) }
     {
         if self.take(rt, world, n, Waits::ToTheEnd).is_err() {
@@ -123,7 +123,7 @@ impl Hand {
     fn give(&mut self, world: &World, n: u32) -> bool
         requires home { IsAtHome (holding_of self.old) world.now }
         requires held { is_among n (held_of self.old) ≡ true }
-        ensures { HasLet self.old result self.new }
+        ensures { HasLetOrKept self.old result self.new }
     {
         let gave = self.seat.give(&world.board, n);
         if gave {
@@ -148,7 +148,7 @@ impl Hand {
     pub(crate) fn give_all<R: Wait>(&mut self, rt: &R, world: &World)
         requires home { IsAtHome (holding_of self.old) world.now }
         ensures emptied { holding_of self.new ≡ emptied (holding_of self.old) }
-        ensures fresh { IsFresh self.old → IsFresh self.new }
+        ensures fresh { MayStillCommit self.old → MayStillCommit self.new }
     {
         while let Some(n) = self.seat.top() {
             if !self.give(world, n) {

@@ -54,8 +54,8 @@ impl Hand {
     ghost use Rattle.ww_plain.specs.Meaning.{answer_of, answer_to};
     ghost use Rattle.ww_seat.specs.Commits.{changes_of};
     ghost use Rattle.ww_lock.specs.Holding.{IsAtHome};
-    ghost use Rattle.ww_lock.specs.Carried.{holding_of, IsFresh};
-    ghost use Rattle.ww_lock.specs.Making.{IsMade, IsMadeOf, Finds};
+    ghost use Rattle.ww_lock.specs.Carried.{holding_of, MayStillCommit};
+    ghost use Rattle.ww_lock.specs.Making.{IsChangeMade, IsMadeOf, HoldsUnchanged};
     ghost use Rattle.ww_lock.specs.Moves.{IsCommitted, MayPrepare, HasReserved};
 
     /// The transaction's reply, twice, and its changes of the nodes as they were seen, with the room in the log that
@@ -104,14 +104,14 @@ impl Hand {
 
     /// Whether this node is held, as it was before.
     fn finds(&self, change: &NodeChange) -> bool
-        ensures { IsTrue result ↔ Finds (holding_of self.now) change.now }
+        ensures { IsTrue result ↔ HoldsUnchanged (holding_of self.now) change.now }
     {
         self.holds(change.number) && self.seen.node(change.number).is_same(&change.before)
     }
 
     /// Whether all these nodes are held, as they were before.
     fn finds_all(&self, changes: &[NodeChange]) -> bool
-        ensures { IsTrue result ↔ AllByRecursion (Finds (holding_of self.now)) changes.now }
+        ensures { IsTrue result ↔ AllByRecursion (HoldsUnchanged (holding_of self.now)) changes.now }
     {
         for change in changes {
             if !self.finds(change) {
@@ -123,7 +123,7 @@ impl Hand {
 
     /// Whether what was prepared can be committed here.
     pub(crate) fn made(&self, prepared: &Prepared) -> bool
-        ensures { IsTrue result ↔ IsMade (holding_of self.now) prepared.now }
+        ensures { IsTrue result ↔ IsChangeMade (holding_of self.now) prepared.now }
     {
         if prepared.size != self.seen.size() {
             return false;
@@ -137,7 +137,7 @@ impl Hand {
     /// Commits what was prepared: it takes the next place of the one history, and the nodes change.
     pub(crate) fn commit(&mut self, world: &World, prepared: Prepared) -> Receipt
         requires home { IsAtHome (holding_of self.old) world.now }
-        requires may { IsFresh self.old × IsMade (holding_of self.old) prepared }
+        requires may { MayStillCommit self.old × IsChangeMade (holding_of self.old) prepared }
         ensures { IsCommitted (holding_of self.old) prepared (holding_of self.new) result }
     {
         let Prepared {

@@ -12,11 +12,11 @@ use Rattle.ww_table.specs.Closed.{HasCome, HaveAllCome}
 use Rattle.ww_seat.specs.Standings.{Standing, standing_of, view_in, IsKept}
 use Rattle.ww_seat.proofs.Outside.{nothing_out}
 use Rattle.ww_low_tests.specs.Gathered.{HaveCome}
-use Rattle.ww_low_tests.specs.Trying.{Rests}
+use Rattle.ww_low_tests.specs.Trying.{IsBetween}
 use Rattle.ww_low_tests.proofs.Holding.{bare_with}
 
 -- a seat between two contexts comes back with nothing
-pub rests_come : (board : Board) (s : Standing) (q : Seat16) → Rests board s → standing_of q ≡ s → IsKept q
+pub rests_come : (board : Board) (s : Standing) (q : Seat16) → IsBetween board s → standing_of q ≡ s → IsKept q
     → HasCome board.table.shared.table_id q
 rests_come board s q rests is kept =
     let home = ap (λ (t : Standing). t.home) is ∙ rests.at.home in

@@ -8,7 +8,7 @@ use Rattle.ww_table.specs.declared.board.Board.{Board}
 use Rattle.ww_view.proofs.Starts.{none_at}
 use Rattle.ww_seat.specs.declared.look.Arrival.TheVariants.{Came}
 use Rattle.ww_seat.specs.Standings.{Standing, view_in, size_in, OwnsNodes, MayTry}
-use Rattle.ww_low_tests.specs.Looking.{Holds, MayLook, just, none, owned_in}
+use Rattle.ww_low_tests.specs.Looking.{OwnsOnly, MayLook, just, none, owned_in}
 
 -- each lock of these guards a node
 pub none_nodes : (size n : ℕ) → get_or none n false ≡ true → n < size
@@ -21,7 +21,7 @@ just_nodes size lock low n own = dite (ℕ_discrete n lock)
 
 -- it holds lock j, and comes to look at lock n
 looks_at_other : (board : Board) (n j : ℕ) (s : Standing) → n < 2 → j < 2 → get_or (just j) n false ≡ false
-    → get_or (just j) j false ≡ true → Holds board (just j) s → MayLook board (owned_in s) n Came s
+    → get_or (just j) j false ≡ true → OwnsOnly board (just j) s → MayLook board (owned_in s) n Came s
 looks_at_other board n j s there low lacks has h = let off = ap (λ (w : ℕ). not (eqb w 0)) (sym h.away.1) in record {
   small = h.small;
   at = h.at;
@@ -40,10 +40,10 @@ looks_at_other board n j s there low lacks has h = let off = ap (λ (w : ℕ). n
   comes = (off, off);
 }
 
-pub looks_at_zero : (board : Board) (s : Standing) → Holds board (just 1) s → MayLook board (owned_in s) 0 Came s
+pub looks_at_zero : (board : Board) (s : Standing) → OwnsOnly board (just 1) s → MayLook board (owned_in s) 0 Came s
 looks_at_zero board s h = looks_at_other board 0 1 s (omega arith) (omega arith) refl refl h
 
-pub looks_at_one : (board : Board) (s : Standing) → Holds board (just 0) s → MayLook board (owned_in s) 1 Came s
+pub looks_at_one : (board : Board) (s : Standing) → OwnsOnly board (just 0) s → MayLook board (owned_in s) 1 Came s
 looks_at_one board s h = looks_at_other board 1 0 s (omega arith) (omega arith) refl refl h
 
 -- it holds nothing
@@ -54,7 +54,7 @@ pub none_owns : (s : Standing) → owned_in s ≡ none → OwnsNodes s
 none_owns s is n own = absurd (true≢false (sym own ∙ ap (λ (l : List Bool). get_or l n false) is ∙ none_at 64 n))
 
 -- ... so it may try to take a lock, or end
-pub may_try : (board : Board) (n : ℕ) (s : Standing) → n < 2 → Holds board none s → MayTry board n s
+pub may_try : (board : Board) (n : ℕ) (s : Standing) → n < 2 → OwnsOnly board none s → MayTry board n s
 may_try board n s there h = record {
   there = omega (arith, there, h.small.two);
   away = h.away;
@@ -63,5 +63,5 @@ may_try board n s there h = record {
   nodes = none_owns s h.owned;
 }
 
-pub may_end : (board : Board) (s : Standing) → Holds board none s → MayEnd (view_in s)
+pub may_end : (board : Board) (s : Standing) → OwnsOnly board none s → MayEnd (view_in s)
 may_end board s h = record { away = h.away; context = h.context; bare = bare_with s h.owned }

@@ -27,8 +27,8 @@ use Rattle.ww_seat.specs.Accounts.{Account}
 use Rattle.ww_seat.specs.Calls.{HoldsAll}
 use Rattle.ww_seat.specs.Commits.{changes_of}
 use Rattle.ww_seat.specs.Standings.{Standing, view_in, IsTry, MayCommit}
-use Rattle.ww_low_tests.specs.Looking.{IsSmall, IsUnused, Holds, just, none, owned_in}
-use Rattle.ww_low_tests.specs.Trying.{Has, OwnsBoth, IsRecord, Rests, both, draws_in, raising}
+use Rattle.ww_low_tests.specs.Looking.{IsSmall, IsUnused, OwnsOnly, just, none, owned_in}
+use Rattle.ww_low_tests.specs.Trying.{NamesNode, OwnsBoth, IsRecord, IsBetween, both_owned, draws_in, raising}
 use Rattle.ww_low_tests.proofs.Holding.{bare_with, just_nodes, none_nodes}
 
 -- what it adds
@@ -41,7 +41,7 @@ pair x y = x ∷ y ∷ []
 abbrev said : ℕ → ℕ → Recorded
 said who seq = record { caller = who; seq = seq; transaction = adding; answer = done }
 
-owns_it : (s : Standing) (n : ℕ) → owned_in s ≡ both → get_or both n false ≡ true → get_or (owned_in s) n false ≡ true
+owns_it : (s : Standing) (n : ℕ) → owned_in s ≡ both_owned → get_or both_owned n false ≡ true → get_or (owned_in s) n false ≡ true
 owns_it s n is has = ap (λ (l : List Bool). get_or l n false) is ∙ has
 
 holds_all : (board : Board) (x y : Node) (s : Standing) → OwnsBoth board x y s → HoldsAll s.me (pair x y) (0 ∷ 1 ∷ [])
@@ -59,8 +59,8 @@ is_next x y who seq = record {
 
 -- ---- one try to take a lock
 
-pub took : (board : Board) (n : ℕ) (s s' : Standing) (r : Option Node) → n < 2 → Holds board (owned_in s) s → IsTry s n r s'
-    → IfSome r (λ x. Holds board (slice_set (owned_in s) n true) s' × Has n x s')
+pub took : (board : Board) (n : ℕ) (s s' : Standing) (r : Option Node) → n < 2 → OwnsOnly board (owned_in s) s → IsTry s n r s'
+    → IfSome r (λ x. OwnsOnly board (slice_set (owned_in s) n true) s' × NamesNode n x s')
 took board n s s' None low h t = tt
 took board n s s' (Some x) low h t = let b = t.0.back in let a = t.1 in (
   record {
@@ -74,7 +74,7 @@ took board n s s' (Some x) low h t = let b = t.0.back in let a = t.1 in (
       (set_here s.me.0.held n (Some x) (omega (arith, low, h.at.size, h.small.two))),
 )
 
-pub others_stay : (n : ℕ) (s s' : Standing) (r : Option Node) → IsTry s n r s' → (k : ℕ) (y : Node) → k ≢ n → Has k y s → Has k y s'
+pub others_stay : (n : ℕ) (s s' : Standing) (r : Option Node) → IsTry s n r s' → (k : ℕ) (y : Node) → k ≢ n → NamesNode k y s → NamesNode k y s'
 others_stay n s s' None t k y isnt has =
     subst (λ (l : List (Option Node)). get_elem? l k ≡ some (Some y)) (sym (ap (λ (v : Account). v.held) t.1.tried)) has
 others_stay n s s' (Some x) t k y isnt has =
@@ -87,10 +87,10 @@ below_none s is n own = none_nodes 2 n (sym (ap (λ (l : List Bool). get_or l n 
 pub below_just : (s : Standing) (j : ℕ) → j < 2 → owned_in s ≡ just j → (n : ℕ) → get_or (owned_in s) n false ≡ true → n < 2
 below_just s j low is n own = just_nodes 2 j low n (sym (ap (λ (l : List Bool). get_or l n false) is) ∙ own)
 
-pub owns_both : (board board' : Board) (l : List Bool) (x y : Node) (s : Standing) → board' ≡ board → l ≡ both → Holds board l s
-    → Has 0 x s → Has 1 y s → OwnsBoth board' x y s
+pub owns_both : (board board' : Board) (l : List Bool) (x y : Node) (s : Standing) → board' ≡ board → l ≡ both_owned → OwnsOnly board l s
+    → NamesNode 0 x s → NamesNode 1 y s → OwnsBoth board' x y s
 owns_both board board' l x y s same is holds zero one = record {
-  holds = subst (λ (b : Board). Holds b both s) (sym same) (subst (λ (o : List Bool). Holds board o s) is holds);
+  holds = subst (λ (b : Board). OwnsOnly b both_owned s) (sym same) (subst (λ (o : List Bool). OwnsOnly board o s) is holds);
   zero = zero;
   one = one;
 }
@@ -141,7 +141,7 @@ may_commit board x y s s' who seq before r c d had same is told is_who is_seq fi
     }
 
 -- it may begin one
-pub may_begin : (board : Board) (s : Standing) → Rests board s → draws_in s + 1 < 2 ^ 52 → MayDraw s.me.0.part
+pub may_begin : (board : Board) (s : Standing) → IsBetween board s → draws_in s + 1 < 2 ^ 52 → MayDraw s.me.0.part
 may_begin board s rests fewer = record { away = rests.away; no_context = rests.context; bare = bare_with s rests.owned; fewer = fewer }
 
 -- ---- seats of a table that was made just now

@@ -31,7 +31,7 @@ abbrev pub owned_in : Standing → List Bool
 owned_in s = (view_in s).owned
 
 -- a seat of this board, which is small, owns just these locks in a context, and waits for no lock
-pub record Holds (board : Board) (locks : List Bool) (s : Standing) : Type 0 where
+pub record OwnsOnly (board : Board) (locks : List Bool) (s : Standing) : Type 0 where
   pub small : IsSmall board
   pub at : IsAt board s
   pub context : 0 < (view_in s).stamp

@@ -12,18 +12,18 @@ use Rattle.ww_view.specs.View.{IsAway}
 use Rattle.ww_table.specs.declared.board.Board.{Board}
 use Rattle.ww_seat.specs.declared.committing.NodeChange.{NodeChange}
 use Rattle.ww_seat.specs.Standings.{Standing, view_in, IsAt}
-use Rattle.ww_low_tests.specs.Looking.{IsSmall, Holds, just, none, owned_in}
+use Rattle.ww_low_tests.specs.Looking.{IsSmall, OwnsOnly, just, none, owned_in}
 
 -- it owns both locks
-abbrev pub both : List Bool
-both = slice_set (just 0) 1 true
+abbrev pub both_owned : List Bool
+both_owned = slice_set (just 0) 1 true
 
 -- how often it began a context
 abbrev pub draws_in : Standing → ℕ
 draws_in s = s.me.0.part.counts.draws
 
 -- a seat of this board, which is small, between two contexts
-pub record Rests (board : Board) (s : Standing) : Type 0 where
+pub record IsBetween (board : Board) (s : Standing) : Type 0 where
   pub small : IsSmall board
   pub at : IsAt board s
   pub context : (view_in s).stamp ≡ 0
@@ -31,14 +31,14 @@ pub record Rests (board : Board) (s : Standing) : Type 0 where
   pub away : IsAway (view_in s)
 
 -- its view names this node
-abbrev pub Has : ℕ → Node → Standing → Type 0
-Has n x s = get_elem? s.me.0.held n ≡ some (Some x)
+abbrev pub NamesNode : ℕ → Node → Standing → Type 0
+NamesNode n x s = get_elem? s.me.0.held n ≡ some (Some x)
 
 -- it owns both locks, with these nodes
 pub record OwnsBoth (board : Board) (x y : Node) (s : Standing) : Type 0 where
-  pub holds : Holds board both s
-  pub zero : Has 0 x s
-  pub one : Has 1 y s
+  pub holds : OwnsOnly board both_owned s
+  pub zero : NamesNode 0 x s
+  pub one : NamesNode 1 y s
 
 -- what a commit makes of a node
 abbrev pub raising : ℕ → Node → NodeChange

@@ -4,7 +4,7 @@
 ghost use Rattle.std.specs.Prelude.{◌≡◌, length, IfOk};
 ghost use Rattle.ww_seat.specs.declared.look.Arrival.TheVariants.{Came};
 ghost use Rattle.ww_seat.specs.Bells.{AreBellsOf};
-ghost use Rattle.ww_low_tests.specs.Looking.{Holds, MayLook, owned_in, just, none};
+ghost use Rattle.ww_low_tests.specs.Looking.{OwnsOnly, MayLook, owned_in, just, none};
 
 use crate::rings::{
     back_off, bells, compare, compare_cancelled, hold, miss, start, tied, two_seats, untie, wait,
@@ -22,7 +22,7 @@ const KINDS: [Kind; 2] = [Kind::WoundWait, Kind::WaitDie];
 /// Seat 0 has lock 0, and seat 1 wants it and has none.
 fn asked<R: Abort>(rt: &R, alloc: Global, kind: Kind) -> Result<(Board, Seat, Seat), AllocError>
     ensures count { IfOk result (λ r. r.0.table.shared.key.seats ≡ 2) }
-    ensures owner { IfOk result (λ r. Holds r.0 (just 0) r.1) }
+    ensures owner { IfOk result (λ r. OwnsOnly r.0 (just 0) r.1) }
     ensures asking { IfOk result (λ r. MayLook r.0 none 0 Came r.2) }
 {
     let (mut board, zero, one) = two_seats(rt, alloc, kind)?;
@@ -35,9 +35,9 @@ fn asked<R: Abort>(rt: &R, alloc: Global, kind: Kind) -> Result<(Board, Seat, Se
 
 /// Sets the cancel of seat 1, or finds it set.
 fn call_off<R: Abort>(rt: &R, board: &Board, by: &mut Seat, is_pending: bool, bells: &mut [Bell])
-    requires holds { Holds board.now (just 0) by.old }
+    requires holds { OwnsOnly board.now (just 0) by.old }
     requires bells { AreBellsOf board.now bells.old }
-    ensures holds { Holds board.now (just 0) by.new }
+    ensures holds { OwnsOnly board.now (just 0) by.new }
     ensures bells { length bells.new ≡ length bells.old }
 {
     if by.cancel(board, 1, bells) == is_pending {
@@ -57,7 +57,7 @@ fn stop<R: Wait + Abort>(
     requires may { MayLook board.now (owned_in seat.old) lock arrival seat.old }
     requires bells { AreBellsOf board.now bells.old }
     ensures bells { length bells.new ≡ length bells.old }
-    ensures holds { Holds board.now (owned_in seat.old) seat.new }
+    ensures holds { OwnsOnly board.now (owned_in seat.old) seat.new }
 {
     match seat.visit(rt, board, lock, arrival, Waits::UntilCancelled, bells) {
         Look::Interrupted(by) => by,
@@ -67,8 +67,8 @@ fn stop<R: Wait + Abort>(
 
 /// Seat 1 was cancelled, and nobody waits: the lock is released, and a try takes it.
 fn taken_at_once<R: Wait + Abort>(rt: &R, board: &mut Board, owner: &mut Seat, stopped: &mut Seat)
-    requires owner { Holds board.old (just 0) owner.old }
-    requires stopped { Holds board.old none stopped.old }
+    requires owner { OwnsOnly board.old (just 0) owner.old }
+    requires stopped { OwnsOnly board.old none stopped.old }
 {
     compare(rt, board, [264, 0], 0, [2, 0]);
     if !owner.give(board, 0) {

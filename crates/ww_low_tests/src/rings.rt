@@ -4,7 +4,7 @@
 ghost use Rattle.std.specs.Prelude.{ℕ, ◌≡◌, ◌<◌, length, IfOk};
 ghost use Rattle.ww_seat.specs.declared.look.Arrival.TheVariants.{Came, Woken};
 ghost use Rattle.ww_seat.specs.Bells.{AreBellsOf};
-ghost use Rattle.ww_low_tests.specs.Looking.{IsSmall, IsUnused, Holds, MayLook, owned_in, just, none};
+ghost use Rattle.ww_low_tests.specs.Looking.{IsSmall, IsUnused, OwnsOnly, MayLook, owned_in, just, none};
 
 use crate::growths::twice;
 use crate::plain::{graph_of, node};
@@ -95,7 +95,7 @@ pub(crate) fn start<R: Abort>(rt: &R, board: &mut Board, seat: Seat16, before: [
     requires small { IsSmall board.old }
     requires unused { (k : ℕ) × IsUnused board.old k seat }
     ensures same { board.new ≡ board.old }
-    ensures holds { Holds board.new none result }
+    ensures holds { OwnsOnly board.new none result }
 {
     let mut seat = Seat::new(seat);
     let Some(stamp) = seat.begin(board) else {
@@ -117,7 +117,7 @@ pub(crate) fn hold<R: Abort>(
     requires unused { (k : ℕ) × IsUnused board.old k seat }
     requires lock { lock < 2 }
     ensures same { board.new ≡ board.old }
-    ensures holds { Holds board.new (just lock) result }
+    ensures holds { OwnsOnly board.new (just lock) result }
 {
     let mut seat = start(rt, board, seat, before);
     if seat.try_take(board, lock).is_none() {
@@ -128,7 +128,7 @@ pub(crate) fn hold<R: Abort>(
 
 /// Tries for lock 0, which isn't free.
 pub(crate) fn miss<R: Abort>(rt: &R, board: &Board, seat: &mut Seat)
-    requires { Holds board.now none seat.old }
+    requires { OwnsOnly board.now none seat.old }
     ensures { MayLook board.now none 0 Came seat.new }
 {
     if seat.try_take(board, 0).is_some() {
@@ -170,7 +170,7 @@ pub(crate) fn back_off<R: Wait + Abort>(
     requires may { MayLook board.now (owned_in seat.old) lock arrival seat.old }
     requires bells { AreBellsOf board.now bells.old }
     ensures bells { length bells.new ≡ length bells.old }
-    ensures holds { Holds board.now (owned_in seat.old) seat.new }
+    ensures holds { OwnsOnly board.now (owned_in seat.old) seat.new }
 {
     match seat.visit(rt, board, lock, arrival, Waits::ToTheEnd, bells) {
         Look::Deadlk(met) => met,
@@ -196,8 +196,8 @@ pub(crate) fn tied<R: Abort>(
     kind: Kind,
 ) -> Result<(Board, Seat, Seat), AllocError>
     ensures count { IfOk result (λ r. r.0.table.shared.key.seats ≡ 2) }
-    ensures older { IfOk result (λ r. Holds r.0 (just 0) r.1) }
-    ensures younger { IfOk result (λ r. Holds r.0 (just 1) r.2) }
+    ensures older { IfOk result (λ r. OwnsOnly r.0 (just 0) r.1) }
+    ensures younger { IfOk result (λ r. OwnsOnly r.0 (just 1) r.2) }
 {
     let (mut board, zero, one) = two_seats(rt, alloc, kind)?;
     compare(rt, &mut board, [0, 0], 0, [0, 0]);
@@ -218,10 +218,10 @@ fn hand_back<R: Wait + Abort>(
     bells: &mut [Bell],
 )
     requires older { MayLook board.old (owned_in older.old) 1 Woken older.old }
-    requires younger { Holds board.old (just 1) younger.old }
+    requires younger { OwnsOnly board.old (just 1) younger.old }
     requires bells { AreBellsOf board.old bells.old }
     ensures same { board.new ≡ board.old }
-    ensures holds { Holds board.new none younger.new }
+    ensures holds { OwnsOnly board.new none younger.new }
 {
     compare(rt, board, [264, 529], sign, [2, 0]);
     younger.give_waited(rt, board, 1, bells);
@@ -240,7 +240,7 @@ pub(crate) fn untie<R: Wait + Abort>(
     bells: &mut [Bell],
 )
     requires older { MayLook board.old (owned_in older.old) 1 Woken older.old }
-    requires younger { Holds board.old (just 1) younger.old }
+    requires younger { OwnsOnly board.old (just 1) younger.old }
     requires bells { AreBellsOf board.old bells.old }
 {
     hand_back(rt, board, older, younger, sign, bells);
@@ -250,7 +250,7 @@ pub(crate) fn untie<R: Wait + Abort>(
 
 /// A seat that holds nothing takes its sign back, and ends with none.
 fn clear_and_end<R: Abort>(rt: &R, board: &mut Board, seat: Seat)
-    requires holds { Holds board.old none seat }
+    requires holds { OwnsOnly board.old none seat }
 {
     let mut seat = seat.into_inner();
     seat.clear(board);
@@ -351,7 +351,7 @@ pub(crate) fn bells(alloc: Global, seats: u8) -> Result<(Parker, Vec<Bell>), All
 
 /// Releases lock 0, where somebody waits for it.
 pub(crate) fn hand_over<R: Wait>(rt: &R, board: &Board, owner: &mut Seat, bells: &mut [Bell])
-    requires owner { Holds board.now (just 0) owner.old }
+    requires owner { OwnsOnly board.now (just 0) owner.old }
     requires bells { AreBellsOf board.now bells.old }
     ensures bells { length bells.new ≡ length bells.old }
 {

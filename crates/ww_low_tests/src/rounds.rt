@@ -5,7 +5,7 @@ ghost use Rattle.std.specs.List.{AllByRecursion};
 ghost use Rattle.ww_table.specs.Closed.{HasCome};
 ghost use Rattle.ww_low_tests.specs.Gathered.{HaveCome};
 ghost use Rattle.ww_low_tests.specs.Looking.{IsSmall, IsUnused};
-ghost use Rattle.ww_low_tests.specs.Trying.{Rests, draws_in};
+ghost use Rattle.ww_low_tests.specs.Trying.{IsBetween, draws_in};
 
 use crate::plain::{graph_of, node};
 use crate::rings::compare;
@@ -60,9 +60,9 @@ struct Work {
 /// A context of a seat that began so many before: it tries to take both locks, and commits where it has them. The place of its
 /// commit, if there was one; nothing where it can't be ended.
 fn try_both(board: &Board, alloc: Global, seat: &mut Seat, _before: u32) -> Option<Option<u64>>
-    requires rests { Rests board.now seat.old }
+    requires rests { IsBetween board.now seat.old }
     requires draws { draws_in seat.old ≡ _before }
-    ensures rests { IfSome result (λ _. Rests board.now seat.new) }
+    ensures rests { IfSome result (λ _. IsBetween board.now seat.new) }
     ensures draws { IfSome result (λ _. draws_in seat.new ≡ _before + 1) }
 {
     seat.begin(board)?;

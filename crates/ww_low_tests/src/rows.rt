@@ -3,8 +3,8 @@
 ghost use Rattle.std.specs.Prelude.{ℕ, ◌≡◌, ◌≢◌, ◌<◌, true, false, get_or, length, slice_set, IfOk, IfSome, IfNone, OnErr};
 ghost use Rattle.ww_table.specs.Closed.{HasCome};
 ghost use Rattle.ww_low_tests.specs.Gathered.{HaveCome};
-ghost use Rattle.ww_low_tests.specs.Looking.{IsSmall, IsUnused, Holds, owned_in, just, none};
-ghost use Rattle.ww_low_tests.specs.Trying.{Rests, Has, OwnsBoth, IsRecord, both, draws_in, raising};
+ghost use Rattle.ww_low_tests.specs.Looking.{IsSmall, IsUnused, OwnsOnly, owned_in, just, none};
+ghost use Rattle.ww_low_tests.specs.Trying.{IsBetween, NamesNode, OwnsBoth, IsRecord, both_owned, draws_in, raising};
 
 use crate::growths::twice;
 use crate::plain::{graph_of, node};
@@ -25,13 +25,13 @@ const MOST_COMMITS: u64 = 1_000_000;
 
 /// One try to take a lock, whose node this gives.
 pub(crate) fn take(board: &Board, seat: &mut Seat, lock: u32) -> Option<Node>
-    requires holds { Holds board.now (owned_in seat.old) seat.old }
+    requires holds { OwnsOnly board.now (owned_in seat.old) seat.old }
     requires lock { lock < 2 }
     requires lacks { get_or (owned_in seat.old) lock false ≡ false }
     requires below { (n : ℕ) → get_or (owned_in seat.old) n false ≡ true → n < 2 }
-    ensures took { IfSome result (λ x. Holds board.now (slice_set (owned_in seat.old) lock true) seat.new × Has lock x seat.new) }
-    ensures missed { IfNone result (Holds board.now (owned_in seat.old) seat.new) }
-    ensures others { (n : ℕ) (y : Node) → n ≢ lock → Has n y seat.old → Has n y seat.new }
+    ensures took { IfSome result (λ x. OwnsOnly board.now (slice_set (owned_in seat.old) lock true) seat.new × NamesNode lock x seat.new) }
+    ensures missed { IfNone result (OwnsOnly board.now (owned_in seat.old) seat.new) }
+    ensures others { (n : ℕ) (y : Node) → n ≢ lock → NamesNode n y seat.old → NamesNode n y seat.new }
     ensures draws { draws_in seat.new ≡ draws_in seat.old }
 {
     seat.try_take(board, lock)
@@ -39,10 +39,10 @@ pub(crate) fn take(board: &Board, seat: &mut Seat, lock: u32) -> Option<Node>
 
 /// One try to release a lock.
 pub(crate) fn give(board: &Board, seat: &mut Seat, lock: u32) -> bool
-    requires holds { Holds board.now (owned_in seat.old) seat.old }
+    requires holds { OwnsOnly board.now (owned_in seat.old) seat.old }
     requires lock { lock < 2 }
     requires has { get_or (owned_in seat.old) lock false ≡ true }
-    ensures gave { result ≡ true → Holds board.now (slice_set (owned_in seat.old) lock false) seat.new }
+    ensures gave { result ≡ true → OwnsOnly board.now (slice_set (owned_in seat.old) lock false) seat.new }
     ensures draws { draws_in seat.new ≡ draws_in seat.old }
 {
     seat.give(board, lock)
@@ -50,8 +50,8 @@ pub(crate) fn give(board: &Board, seat: &mut Seat, lock: u32) -> bool
 
 /// Ends the context.
 pub(crate) fn end(board: &Board, seat: &mut Seat)
-    requires { Holds board.now none seat.old }
-    ensures rests { Rests board.now seat.new }
+    requires { OwnsOnly board.now none seat.old }
+    ensures rests { IsBetween board.now seat.new }
     ensures draws { draws_in seat.new ≡ draws_in seat.old }
 {
     seat.end(board);
@@ -59,7 +59,7 @@ pub(crate) fn end(board: &Board, seat: &mut Seat)
 
 /// Back to what the seat is at its table.
 pub(crate) fn come_back(_board: &Board, seat: Seat) -> Seat16
-    requires { Rests _board.now seat }
+    requires { IsBetween _board.now seat }
     ensures { HasCome _board.now.table.shared.table_id result }
 {
     seat.into_inner()
@@ -100,7 +100,7 @@ fn commit_once(
     y: Node,
 ) -> Result<u64, AllocError>
     requires both { OwnsBoth board.now x y seat.old }
-    ensures ok { IfOk result (λ _. Holds board.now both seat.new) }
+    ensures ok { IfOk result (λ _. OwnsOnly board.now both_owned seat.new) }
     ensures err { OnErr result (OwnsBoth board.now x y seat.new) }
     ensures draws { draws_in seat.new ≡ draws_in seat.old }
 {
@@ -128,7 +128,7 @@ pub(crate) fn commit(
     y: Node,
 ) -> Result<u64, AllocError>
     requires both { OwnsBoth board.now x y seat.old }
-    ensures ok { IfOk result (λ _. Holds board.now both seat.new) }
+    ensures ok { IfOk result (λ _. OwnsOnly board.now both_owned seat.new) }
     ensures draws { draws_in seat.new ≡ draws_in seat.old }
 {
     if let Ok(place) = commit_once(board, alloc, seat, x, y) {
@@ -142,8 +142,8 @@ fn take_second<R: Abort>(rt: &R, board: &mut Board, one: Seat16) -> (Seat, Node)
     requires small { IsSmall board.old }
     requires unused { IsUnused board.old 1 one }
     ensures same { board.new ≡ board.old }
-    ensures holds { Holds board.new (just 1) result.0 }
-    ensures has { Has 1 result.1 result.0 }
+    ensures holds { OwnsOnly board.new (just 1) result.0 }
+    ensures has { NamesNode 1 result.1 result.0 }
 {
     let mut one = start(rt, board, one, [264, 0]);
     if take(board, &mut one, 0).is_some() {
@@ -159,7 +159,7 @@ fn take_second<R: Abort>(rt: &R, board: &mut Board, one: Seat16) -> (Seat, Node)
 
 /// Seat 0 releases its node, and ends.
 fn give_first<R: Abort>(rt: &R, board: &mut Board, mut zero: Seat) -> Seat16
-    requires { Holds board.old (just 0) zero }
+    requires { OwnsOnly board.old (just 0) zero }
     ensures same { board.new ≡ board.old }
     ensures come { HasCome board.new.table.shared.table_id result }
 {
@@ -180,10 +180,10 @@ fn take_and_commit<R: Abort>(
     one: &mut Seat,
     second: Node,
 ) -> Result<(), AllocError>
-    requires holds { Holds board.old (just 1) one.old }
-    requires has { Has 1 second one.old }
+    requires holds { OwnsOnly board.old (just 1) one.old }
+    requires has { NamesNode 1 second one.old }
     ensures same { board.new ≡ board.old }
-    ensures holds { IfOk result (λ _. Holds board.new both one.new) }
+    ensures holds { IfOk result (λ _. OwnsOnly board.new both_owned one.new) }
 {
     let Some(first) = take(board, one, 0) else {
         panic!(rt; "it was given back");
@@ -196,7 +196,7 @@ fn take_and_commit<R: Abort>(
 
 /// ... releases both, and ends.
 fn give_both<R: Abort>(rt: &R, board: &mut Board, mut one: Seat) -> Seat16
-    requires { Holds board.old both one }
+    requires { OwnsOnly board.old both_owned one }
     ensures same { board.new ≡ board.old }
     ensures come { HasCome board.new.table.shared.table_id result }
 {

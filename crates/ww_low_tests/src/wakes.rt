@@ -4,7 +4,7 @@
 ghost use Rattle.std.specs.Prelude.{◌≡◌, length, IfOk};
 ghost use Rattle.ww_seat.specs.declared.look.Arrival.TheVariants.{Came, Woken};
 ghost use Rattle.ww_seat.specs.Bells.{AreBellsOf};
-ghost use Rattle.ww_low_tests.specs.Looking.{IsSmall, IsUnused, Holds, MayLook, owned_in, just, none};
+ghost use Rattle.ww_low_tests.specs.Looking.{IsSmall, IsUnused, OwnsOnly, MayLook, owned_in, just, none};
 
 use crate::growths::twice;
 use crate::plain::{graph_of, node};
@@ -53,7 +53,7 @@ fn asleep<R: Wait + Abort>(
     ensures count { IfOk result (λ r. r.0.table.shared.key.seats ≡ 3) }
     ensures oldest { IfOk result (λ r. MayLook r.0 none 0 Came r.1) }
     ensures sleeper { IfOk result (λ r. MayLook r.0 (just 1) 0 Woken r.2) }
-    ensures owner { IfOk result (λ r. Holds r.0 (just 0) r.3) }
+    ensures owner { IfOk result (λ r. OwnsOnly r.0 (just 0) r.3) }
 {
     let (mut board, zero, one, two) = three_seats(rt, alloc, Kind::WaitDie)?;
     let mut oldest = start(rt, &mut board, zero, [0, 0]);

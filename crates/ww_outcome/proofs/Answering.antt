@@ -5,7 +5,7 @@ use Rattle.std.specs.List.{AllByRecursion}
 use Rattle.std.proofs.lemmas.Bool.Decides.{nat_tests}
 use Rattle.std.proofs.lemmas.List.{get_or_past}
 use Rattle.std.proofs.lemmas.List.Sums.{sum_by-cons}
-use Rattle.ww_script_parts.specs.Acts.{Deed}
+use Rattle.ww_script_parts.specs.Acts.{Action}
 use Rattle.ww_outcome.specs.Said.{Said}
 use Rattle.ww_outcome.specs.Cancels.{cancelled_in, times, sum_below, cancels_of, interrupters_of, AreBalanced, AreAnsweredOnce, CancelsAreAnsweredOnce}
 
@@ -75,7 +75,7 @@ all_counted n (x ∷ xs) all =
 
 -- ---- cancels
 
-module _ (scripts : List (List Deed)) (replies : List (List Said)) (pending : ℕ → ℕ) (balanced : AreBalanced scripts replies pending) where
+module _ (scripts : List (List Action)) (replies : List (List Said)) (pending : ℕ → ℕ) (balanced : AreBalanced scripts replies pending) where
   -- nobody but a script sets a cancel
   unset : (victim script : ℕ) → length scripts ≤ script → cancels_of scripts replies victim script ≡ 0
   unset victim script le =

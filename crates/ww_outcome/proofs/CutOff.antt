@@ -17,12 +17,12 @@ use Rattle.ww_json.specs.Pieces.{spaced_or_dash, numbered}
 use Rattle.ww_script_parts.specs.declared.ranges.Ranges.{Ranges}
 use Rattle.ww_script_parts.specs.declared.version.Version.TheVariants.{One, Two}
 use Rattle.ww_script_parts.specs.Versions.{ports_of}
-use Rattle.ww_script_parts.specs.Acts.{Deed, does, interruptible, cancels, Suits}
+use Rattle.ww_script_parts.specs.Acts.{Action, does, interruptible, cancels, IsActWithin}
 use Rattle.ww_script_parts.specs.Scripts.{Plan, IsPlan, IsScript, ranges_of}
 use Rattle.ww_script_parts.proofs.More.{all_kept, scripts_more}
 use Rattle.ww_script_parts.proofs.Said.{none_repeated}
 use Rattle.ww_outcome.specs.Said.{Said, answered, already, interrupted, cancelling}
-use Rattle.ww_outcome.specs.Outcome.{Told, IsRecorded, IsAnswered, AreAnswered, IsOutcome}
+use Rattle.ww_outcome.specs.Outcome.{Told, IsActRecorded, IsAnswered, AreAnswered, IsOutcome}
 use Rattle.ww_outcome.specs.Text.{script_lines, place_lines, node_line, outcome_lines}
 use Rattle.ww_outcome.specs.CutOff.{in_version_2, told_in_version_2, longer_line, VersionsAgree}
 
@@ -54,7 +54,7 @@ module _ (used : ℕ) where
   IsLow r = NamesBelow used r.transaction
 
   -- the same of a deed's transaction, where it has one
-  abbrev IsLowDeed : Deed → Type 0
+  abbrev IsLowDeed : Action → Type 0
   IsLowDeed (does txn) = NamesBelow used txn
   IsLowDeed (interruptible txn) = NamesBelow used txn
   IsLowDeed (cancels script) = Unit {0}
@@ -62,12 +62,12 @@ module _ (used : ℕ) where
   abbrev ArePartLow : List (ℕ × Recorded) → Type 0
   ArePartLow part = AllByRecursion (λ x. IsLow x.1) part
 
-  record_low : (deed : Deed) (number : ℕ) (a : Answer) (r : Recorded) → IsLowDeed deed → IsRecorded deed number a r → IsLow r
+  record_low : (deed : Action) (number : ℕ) (a : Answer) (r : Recorded) → IsLowDeed deed → IsActRecorded deed number a r → IsLow r
   record_low (does txn) number a r low is = subst (NamesBelow used) (sym is.1.transaction) low
   record_low (interruptible txn) number a r low is = subst (NamesBelow used) (sym is.1.transaction) low
   record_low (cancels script) number a r low is = absurd is
 
-  part_low : (seq : ℕ) (deeds : List Deed) (saids : List Said) (part : List (ℕ × Recorded))
+  part_low : (seq : ℕ) (deeds : List Action) (saids : List Said) (part : List (ℕ × Recorded))
       → AllByRecursion IsLowDeed deeds → IsAnswered seq deeds saids part → ArePartLow part
   part_low seq [] [] [] low is = tt
   part_low seq [] [] (r ∷ part) low is = absurd is
@@ -81,7 +81,7 @@ module _ (used : ℕ) where
   part_low seq (deed ∷ deeds) (cancelling is_set ∷ saids) part low is = part_low seq deeds saids part low.1 is.1
 
   -- the parts of all callers from one on, which have these scripts
-  parts_low : (caller : ℕ) (scripts : List (List Deed)) (replies : List (List Said)) (history : List Recorded)
+  parts_low : (caller : ℕ) (scripts : List (List Action)) (replies : List (List Said)) (history : List Recorded)
       → AllByRecursion (λ script. AllByRecursion IsLowDeed script) scripts → AreAnswered caller scripts replies history
       → (k : ℕ) → k < length scripts → ArePartLow (part_of (caller + k) history)
   parts_low caller [] replies history low are k lt = absurd (omega arith)
@@ -112,7 +112,7 @@ module _ (used : ℕ) where
     whole_low n (place + 1) rs callers.1 (λ c lt. later_low place c r rs (parts c lt)),
   )
 
-  deed_low : (ranges : Ranges) (deed : Deed) → ranges.ports ≡ used → Suits ranges deed → IsLowDeed deed
+  deed_low : (ranges : Ranges) (deed : Action) → ranges.ports ≡ used → IsActWithin ranges deed → IsLowDeed deed
   deed_low ranges (does txn) same suits = subst (λ k. NamesBelow k txn) same suits.1
   deed_low ranges (interruptible txn) same suits = subst (λ k. NamesBelow k txn) same suits.0.1
   deed_low ranges (cancels script) same suits = tt
@@ -122,7 +122,7 @@ module _ (used : ℕ) where
       let n = length plan.scripts in
       let ranges = ranges_of (length plan.graph) plan.ports n in
       let low = all_kept (IsScript ranges) (λ script. AllByRecursion IsLowDeed script) plan.scripts
-      (λ script s. all_kept (Suits ranges) IsLowDeed script (λ deed. deed_low ranges deed same) s.suit)
+      (λ script s. all_kept (IsActWithin ranges) IsLowDeed script (λ deed. deed_low ranges deed same) s.suit)
       is.each in
       whole_low n 0 o.history o.explained.callers (λ c lt.
       let e : 0 + c ≡ c = omega arith in

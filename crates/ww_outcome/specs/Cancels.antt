@@ -1,10 +1,10 @@
 -- What becomes of the cancels that scripts set.
 use Rattle.std.specs.Prelude.{ℕ, zero, suc, ◌≡◌, ◌+◌, ◌<◌, ◌≤◌, ◌==◌, true, List, [], ◌∷◌, length, slice_index_or, count_by, if◌then◌else◌}
-use Rattle.ww_script_parts.specs.Acts.{Deed, cancels}
+use Rattle.ww_script_parts.specs.Acts.{Action, cancels}
 use Rattle.ww_outcome.specs.Said.{Said, interrupted, cancelling}
 
 -- the scripts that these acts cancelled, each as often as a cancel of it was set
-abbrev pub cancelled_in : List Deed → List Said → List ℕ
+abbrev pub cancelled_in : List Action → List Said → List ℕ
 cancelled_in (cancels script ∷ deeds) (cancelling true ∷ saids) = script ∷ cancelled_in deeds saids
 cancelled_in (deed ∷ deeds) (said ∷ saids) = cancelled_in deeds saids
 cancelled_in _ _ = []
@@ -24,7 +24,7 @@ abbrev pub sum_below : ℕ → (ℕ → ℕ) → ℕ
 sum_below zero f = 0
 sum_below (suc n) f = sum_below n f + f n
 
-module _ (scripts : List (List Deed)) (replies : List (List Said)) where
+module _ (scripts : List (List Action)) (replies : List (List Said)) where
   -- how often the script set a cancel of the victim
   abbrev pub cancels_of : ℕ → ℕ → ℕ
   cancels_of victim script = times victim (cancelled_in (slice_index_or scripts script []) (slice_index_or replies script []))
@@ -53,5 +53,5 @@ module _ (scripts : List (List Deed)) (replies : List (List Said)) where
 
 -- whose cancels are balanced, each is answered once
 abbrev pub CancelsAreAnsweredOnce : Type 0
-CancelsAreAnsweredOnce = (scripts : List (List Deed)) (replies : List (List Said)) (pending : ℕ → ℕ)
+CancelsAreAnsweredOnce = (scripts : List (List Action)) (replies : List (List Said)) (pending : ℕ → ℕ)
     → AreBalanced scripts replies pending → AreAnsweredOnce scripts replies

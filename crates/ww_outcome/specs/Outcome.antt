@@ -7,7 +7,7 @@ use Rattle.ww_plain.specs.Transaction.{Transaction, listed, FirstDouble}
 use Rattle.ww_plain.specs.Meaning.{Answer}
 use Rattle.ww_plain.specs.History.{Recorded, IsLegal, last_graph, part_of}
 use Rattle.ww_outcome.specs.declared.outcome.ScriptAnswer.{ScriptAnswer}
-use Rattle.ww_script_parts.specs.Acts.{Deed, does, interruptible, cancels}
+use Rattle.ww_script_parts.specs.Acts.{Action, does, interruptible, cancels}
 use Rattle.ww_script_parts.specs.Scripts.{Plan}
 use Rattle.ww_outcome.specs.Said.{Said, answered, already, interrupted, cancelling, said_of}
 use Rattle.ww_outcome.specs.Cancels.{AreBalanced}
@@ -41,7 +41,7 @@ pub record IsRecordOf (r : Recorded) (number : ℕ) (txn : Transaction) (said : 
 
 -- The act may be told this without a record: of a transaction that lists a node twice the first such node; of one that
 -- may be cancelled, who did so; of a cancel, whether it was set.
-abbrev pub IsUnrecorded : Said → Deed → Type 0
+abbrev pub IsUnrecorded : Said → Action → Type 0
 IsUnrecorded (already n) (does txn) = FirstDouble (listed txn) (Some n)
 IsUnrecorded (already n) (interruptible txn) = FirstDouble (listed txn) (Some n)
 IsUnrecorded (interrupted script) (interruptible txn) = Unit {0}
@@ -49,22 +49,22 @@ IsUnrecorded (cancelling is_set) (cancels script) = Unit {0}
 IsUnrecorded _ _ = ⊥
 
 -- the act is a transaction that lists no node twice, and the record is of it and this answer, and has this number
-abbrev pub IsRecorded : Deed → ℕ → Answer → Recorded → Type 0
-IsRecorded (does txn) number said r = FirstDouble (listed txn) None × IsRecordOf r number txn said
-IsRecorded (interruptible txn) number said r = FirstDouble (listed txn) None × IsRecordOf r number txn said
-IsRecorded (cancels script) number said r = ⊥
+abbrev pub IsActRecorded : Action → ℕ → Answer → Recorded → Type 0
+IsActRecorded (does txn) number said r = FirstDouble (listed txn) None × IsRecordOf r number txn said
+IsActRecorded (interruptible txn) number said r = FirstDouble (listed txn) None × IsRecordOf r number txn said
+IsActRecorded (cancels script) number said r = ⊥
 
 -- A script's acts, what each was told, and the part of the script in the history: the acts with an answer of the plain
 -- graph are, in order, the part, whose next number is given, and the others have no record.
-abbrev pub IsAnswered : ℕ → List Deed → List Said → List (ℕ × Recorded) → Type 0
+abbrev pub IsAnswered : ℕ → List Action → List Said → List (ℕ × Recorded) → Type 0
 IsAnswered seq [] [] [] = Unit {0}
 IsAnswered seq (deed ∷ deeds) (answered a ∷ saids) (r ∷ part) =
-    IsRecorded deed seq a r.1 × IsAnswered (seq + 1) deeds saids part
+    IsActRecorded deed seq a r.1 × IsAnswered (seq + 1) deeds saids part
 IsAnswered seq (deed ∷ deeds) (said ∷ saids) part = IsUnrecorded said deed × IsAnswered seq deeds saids part
 IsAnswered seq _ _ _ = ⊥
 
 -- each script is answered, of which the first is this caller
-abbrev pub AreAnswered : ℕ → List (List Deed) → List (List Said) → List Recorded → Type 0
+abbrev pub AreAnswered : ℕ → List (List Action) → List (List Said) → List Recorded → Type 0
 AreAnswered caller [] [] history = Unit {0}
 AreAnswered caller (script ∷ scripts) (saids ∷ rest) history =
     IsAnswered 0 script saids (part_of caller history) × AreAnswered (caller + 1) scripts rest history

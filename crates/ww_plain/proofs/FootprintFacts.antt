@@ -7,9 +7,9 @@ use Rattle.std.proofs.lemmas.Map.Steps.{length-le_from_distinct_below}
 use Rattle.ww_plain.specs.declared.node.Node.{Node}
 use Rattle.ww_plain.specs.declared.graph.TheConstants.{MAX_NODES}
 use Rattle.ww_plain.specs.Transaction.{IsCourse}
-use Rattle.ww_plain.specs.Numbers.{is_among, AreDifferent, joined, distinct_of}
+use Rattle.ww_plain.specs.Numbers.{is_among, AreDifferent, with_number, distinct_of}
 use Rattle.ww_plain.specs.Graph.{IsGraph}
-use Rattle.ww_plain.specs.Walk.{IsWalk, Follows, stop_of, last_of, walk_of}
+use Rattle.ww_plain.specs.Walk.{IsWalk, FollowsPort, stop_of, last_of, walk_of}
 use Rattle.ww_plain.specs.Footprint.{with_target, walked}
 use Rattle.ww_plain.proofs.Members.{or_cases, true_or_false, same_from_eqb, different_push}
 use Rattle.ww_plain.proofs.GraphFacts.{port_is_there, target_is_there}
@@ -24,26 +24,26 @@ below_push : (size : ℕ) (ns : List ℕ) (n : ℕ) → AreBelow size ns → n <
 below_push size [] n below here = (here, tt)
 below_push size (m ∷ ms) n below here = (below.0, below_push size ms n below.1 here)
 
-pub below_joined : (size : ℕ) (ns : List ℕ) (n : ℕ) → AreBelow size ns → n < size → AreBelow size (joined ns n)
+pub below_joined : (size : ℕ) (ns : List ℕ) (n : ℕ) → AreBelow size ns → n < size → AreBelow size (with_number ns n)
 below_joined size ns n below here = elim (true_or_false (is_among n ns))
     [ inl e ↦ rw e below | inr e ↦ rw e (below_push size ns n below here) ]
 
-pub different_joined : (ns : List ℕ) (n : ℕ) → AreDifferent ns → AreDifferent (joined ns n)
+pub different_joined : (ns : List ℕ) (n : ℕ) → AreDifferent ns → AreDifferent (with_number ns n)
 different_joined ns n different = elim (true_or_false (is_among n ns))
     [ inl e ↦ rw e different | inr e ↦ rw e (different_push ns n different e) ]
 
-length_joined : (ns : List ℕ) (n : ℕ) → length (joined ns n) ≤ length ns + 1
+length_joined : (ns : List ℕ) (n : ℕ) → length (with_number ns n) ≤ length ns + 1
 length_joined ns n = elim (true_or_false (is_among n ns))
     [ inl e ↦ rw e (omega arith) | inr e ↦ rw e (omega (arith, length-append ns (n ∷ []))) ]
 
-pub length_all_joined : (ns ms : List ℕ) → length (fold joined ns ms) ≤ length ns + length ms
+pub length_all_joined : (ns ms : List ℕ) → length (fold with_number ns ms) ≤ length ns + length ms
 length_all_joined ns [] = omega arith
-length_all_joined ns (m ∷ ms) = omega (arith, length_all_joined (joined ns m) ms, length_joined ns m)
+length_all_joined ns (m ∷ ms) = omega (arith, length_all_joined (with_number ns m) ms, length_joined ns m)
 
 -- one item more
 pub distinct_more : {X : Type 0} (f : X → ℕ) (xs : List X) (i : ℕ) (x : X) (n : ℕ) → i < length xs → x ≡ get_or xs i x → n ≡ f x
-    → distinct_of (map f (take (i + 1) xs)) ≡ joined (distinct_of (map f (take i xs))) n
-distinct_more f xs i x n lt is names = rw (map_more f xs i x lt, ← names ∙ ap f is) (fold_push joined [] (map f (take i xs)) n)
+    → distinct_of (map f (take (i + 1) xs)) ≡ with_number (distinct_of (map f (take i xs))) n
+distinct_more f xs i x n lt is names = rw (map_more f xs i x lt, ← names ∙ ap f is) (fold_push with_number [] (map f (take i xs)) n)
 
 -- ---- different nodes of a graph
 
@@ -58,7 +58,7 @@ pub few_different : (size : ℕ) (ns : List ℕ) → AreDifferent ns → AreBelo
 few_different size ns different below = length-le_from_distinct_below ns size different (below_among size ns below)
 
 follows_below : (graph : List Node) (p v : ℕ) (ws : List ℕ) → IsGraph graph → v < length graph
-    → Follows graph p (v ∷ ws) → AreBelow (length graph) (v ∷ ws)
+    → FollowsPort graph p (v ∷ ws) → AreBelow (length graph) (v ∷ ws)
 follows_below graph p v [] is here follows = (here, tt)
 follows_below graph p v (w ∷ ws) is here follows =
     (here, follows_below graph p w ws is (target_is_there graph v p w is follows.0) follows.1)
@@ -82,7 +82,7 @@ few_with_target : (size : ℕ) (ns : List ℕ) (target : Option ℕ) → AreDiff
     → IfSome target (λ t. t < size) → length (with_target ns target) ≤ size
 few_with_target size ns None different below there = few_different size ns different below
 few_with_target size ns (Some t) different below there =
-    few_different size (joined ns t) (different_joined ns t different) (below_joined size ns t below there)
+    few_different size (with_number ns t) (different_joined ns t different) (below_joined size ns t below there)
 
 -- a walk and its stop are no more nodes than the graph has
 pub few_walked : (graph : List Node) (start p most : ℕ) → IsGraph graph → start < length graph → 1 ≤ most
@@ -94,7 +94,7 @@ few_walked graph start p most is here some =
 
 -- so far there are no more nodes than items
 pub few_more : {X : Type 0} (f : X → ℕ) (xs : List X) (i : ℕ) (x : X) (n : ℕ) (ns : List ℕ) → i < length xs
-    → x ≡ get_or xs i x → n ≡ f x → ns ≡ distinct_of (map f (take i xs)) → length (joined ns n) ≤ length xs
+    → x ≡ get_or xs i x → n ≡ f x → ns ≡ distinct_of (map f (take i xs)) → length (with_number ns n) ≤ length xs
 few_more f xs i x n ns lt is names so_far =
     let more = length_joined ns n in
     let few = length_all_joined [] (map f (take i xs)) in

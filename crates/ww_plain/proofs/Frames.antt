@@ -2,7 +2,7 @@
 use Rattle.std.proofs.Common.{◌≡◌, ◌≢◌, ℕ, zero, suc, ◌+◌, ◌-◌, ◌%◌, ◌^◌, ◌↔◌, Bool, true, false, ◌||◌, nat_lt, eqb, ◌⊎◌, inl, inr, List, [], ◌∷◌, length, get_or, set, map, fold, Option, Some, None, refl, sym, ap, subst, ◌∙◌, arith, length-set, get_or-set_other, sum_by, ◌≤◌}
 use Rattle.std.proofs.lemmas.List.Sums.{sum_by-cons}
 use Rattle.ww_plain.specs.declared.node.Node.{Node}
-use Rattle.ww_plain.specs.Numbers.{is_among, joined, distinct_of, AreDifferent}
+use Rattle.ww_plain.specs.Numbers.{is_among, with_number, distinct_of, AreDifferent}
 use Rattle.ww_plain.specs.Graph.{no_node, node_at, value_of, port_of, with_value, with_port, Agree}
 use Rattle.ww_plain.specs.Transaction.{Transaction, get, add, move, link, sum, reverse, peek, Fits, listed}
 use Rattle.ww_plain.specs.Walk.{BeginsWith, walk_of, walk_past, stop_of, last_of, last_from, onward}
@@ -39,16 +39,16 @@ same_among : (m n : ℕ) (ns : List ℕ) → is_among m ns ≡ true → eqb m n 
 same_among m n ns e same = subst (λ (k : ℕ). is_among k ns ≡ true) (same_from_eqb m n same) e
 
 -- in the list that m joins there are those of the list, and m
-pub is_among-joined : (n : ℕ) (ns : List ℕ) (m : ℕ) → is_among n (joined ns m) ≡ (is_among n ns || eqb m n)
+pub is_among-joined : (n : ℕ) (ns : List ℕ) (m : ℕ) → is_among n (with_number ns m) ≡ (is_among n ns || eqb m n)
 is_among-joined n ns m = elim (true_or_false (is_among m ns)) [
   | inl e ↦ rw e (sym (or_taken (is_among n ns) (eqb m n) (same_among m n ns e)))
   | inr e ↦ rw e (is_among-append n ns (m ∷ []) ∙ or_last (is_among n ns) (eqb m n))
 ]
 
-is_among-all_joined : (n : ℕ) (ns ms : List ℕ) → is_among n (fold joined ns ms) ≡ (is_among n ns || is_among n ms)
+is_among-all_joined : (n : ℕ) (ns ms : List ℕ) → is_among n (fold with_number ns ms) ≡ (is_among n ns || is_among n ms)
 is_among-all_joined n ns [] = sym (or_no (is_among n ns) false refl)
 is_among-all_joined n ns (m ∷ ms) =
-    is_among-all_joined n (joined ns m) ms ∙ ap (λ b. b || is_among n ms) (is_among-joined n ns m)
+    is_among-all_joined n (with_number ns m) ms ∙ ap (λ b. b || is_among n ms) (is_among-joined n ns m)
     ∙ or_assoc (is_among n ns) (eqb m n) (is_among n ms)
 
 pub is_among-distinct_of : (n : ℕ) (ns : List ℕ) → is_among n (distinct_of ns) ≡ is_among n ns
@@ -351,9 +351,9 @@ concerns graph (sum start p most) n = concerns_target n (walk_of graph start p m
 concerns graph (reverse start p most) n = concerns_target n (walk_of graph start p most) (stop_of graph p (walk_of graph start p most))
 concerns graph (peek node) n = (λ e. e, λ e. e)
 
-different_all_joined : (ns ms : List ℕ) → AreDifferent ns → AreDifferent (fold joined ns ms)
+different_all_joined : (ns ms : List ℕ) → AreDifferent ns → AreDifferent (fold with_number ns ms)
 different_all_joined ns [] h = h
-different_all_joined ns (m ∷ ms) h = different_all_joined (joined ns m) ms (different_joined ns m h)
+different_all_joined ns (m ∷ ms) h = different_all_joined (with_number ns m) ms (different_joined ns m h)
 
 different_with_target : (ns : List ℕ) (target : Option ℕ) → AreDifferent ns → AreDifferent (with_target ns target)
 different_with_target ns None h = h

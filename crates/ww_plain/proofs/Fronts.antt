@@ -4,14 +4,14 @@ use Rattle.std.specs.List.{IsDistinct}
 use Rattle.ww_plain.specs.declared.node.Node.{Node}
 use Rattle.ww_plain.specs.Numbers.{AreDifferent}
 use Rattle.ww_plain.specs.Graph.{port_of}
-use Rattle.ww_plain.specs.Walk.{IsEnd, GoesOnTo, Follows, BeginsWith, IsWalk, stop_of, last_from}
+use Rattle.ww_plain.specs.Walk.{IsWalkEnd, GoesOnTo, FollowsPort, BeginsWith, IsWalk, stop_of, last_from}
 use Rattle.ww_plain.proofs.Members.{different_push}
 
 -- the nodes of a walk so far, and where the port of the last one leads
 pub record IsFront (graph : List Node) (start p most : ℕ) (vs : List ℕ) (stop : Option ℕ) : Type 0 where
   pub begins : BeginsWith vs start
   pub different : AreDifferent vs
-  pub follows : Follows graph p vs
+  pub follows : FollowsPort graph p vs
   pub short : length vs ≤ most
   pub leads : stop ≡ stop_of graph p vs
 
@@ -19,8 +19,8 @@ pub last_from-push : (v : ℕ) (ws : List ℕ) (n : ℕ) → last_from v (ws ++ 
 last_from-push v [] n = refl
 last_from-push v (w ∷ ws) n = last_from-push w ws n
 
-follows_push : (graph : List Node) (p : ℕ) (v : ℕ) (ws : List ℕ) (n : ℕ) → Follows graph p (v ∷ ws)
-    → Some n ≡ stop_of graph p (v ∷ ws) → Follows graph p (v ∷ ws ++ n ∷ [])
+follows_push : (graph : List Node) (p : ℕ) (v : ℕ) (ws : List ℕ) (n : ℕ) → FollowsPort graph p (v ∷ ws)
+    → Some n ≡ stop_of graph p (v ∷ ws) → FollowsPort graph p (v ∷ ws ++ n ∷ [])
 follows_push graph p v [] n h leads = (sym leads, tt)
 follows_push graph p v (w ∷ ws) n h leads = (h.0, follows_push graph p w ws n h.1 leads)
 
@@ -44,11 +44,11 @@ front_of_one graph start p most stop some e = record { begins = refl; different 
 
 -- the walk ends
 pub front_ends : (graph : List Node) (start p most : ℕ) (vs : List ℕ) (stop : Option ℕ)
-    → IsFront graph start p most vs stop → IsEnd vs most stop → IsWalk graph start p most vs
+    → IsFront graph start p most vs stop → IsWalkEnd vs most stop → IsWalk graph start p most vs
 front_ends graph start p most vs stop h ends = record {
   begins = h.begins;
   different = h.different;
   follows = h.follows;
   short = h.short;
-  ends = subst (λ (s : Option ℕ). IsEnd vs most s) h.leads ends;
+  ends = subst (λ (s : Option ℕ). IsWalkEnd vs most s) h.leads ends;
 }

@@ -4,14 +4,14 @@ use Rattle.std.specs.List.{AllByRecursion, IsDistinct}
 use Rattle.ww_plain.specs.declared.node.Node.{Node}
 use Rattle.ww_plain.specs.Numbers.{is_among, AreDifferent}
 use Rattle.ww_plain.specs.Graph.{port_of}
-use Rattle.ww_plain.specs.Walk.{Follows, BeginsWith, IsWalk, stop_of, onward, walk_past, walk_of}
+use Rattle.ww_plain.specs.Walk.{FollowsPort, BeginsWith, IsWalk, stop_of, onward, walk_past, walk_of}
 use Rattle.ww_plain.proofs.Members.{or_cases, or_false, true_or_false, is_among-tail, different_cons, different_none}
 
 -- A walk's nodes from v on, at most so many, behind those of `past`.
 pub record IsWalkPast (graph : List Node) (p most : ℕ) (past : List ℕ) (v : ℕ) (vs : List ℕ) : Type 0 where
   pub begins : BeginsWith vs v
   pub different : AreDifferent vs
-  pub follows : Follows graph p vs
+  pub follows : FollowsPort graph p vs
   pub short : length vs ≤ most
   pub apart : AllByRecursion (λ n. is_among n past ≡ false) vs
   pub ends : (most ≤ length vs) ⊎ IfSome (stop_of graph p vs) (λ stop. (is_among stop vs ≡ true) ⊎ (is_among stop past ≡ true))

@@ -1,14 +1,14 @@
 -- The nodes that a transaction depends on and may change.
 use Rattle.std.specs.Prelude.{ℕ, ◌≡◌, ◌⊎◌, ◌∷◌, [], List, Option, Some, None, IsTrue}
 use Rattle.ww_plain.specs.declared.node.Node.{Node}
-use Rattle.ww_plain.specs.Numbers.{is_among, joined, distinct_of}
+use Rattle.ww_plain.specs.Numbers.{is_among, with_number, distinct_of}
 use Rattle.ww_plain.specs.Transaction.{Transaction, get, add, move, link, sum, reverse, peek, listed}
 use Rattle.ww_plain.specs.Walk.{walk_of, stop_of}
 
 -- the target joins the nodes, where there is one
 abbrev pub with_target : List ℕ → Option ℕ → List ℕ
 with_target ns None = ns
-with_target ns (Some target) = joined ns target
+with_target ns (Some target) = with_number ns target
 
 -- a walk's nodes, and its stop
 abbrev pub walked : List Node → ℕ → List ℕ → List ℕ

@@ -54,15 +54,15 @@ pub record IsGraph (graph : List Node) : Type 0 where
   pub closed : AllByRecursion (IsNodeOf (length graph)) graph
 
 -- why nodes are no graph: first their number is looked at, then where their ports lead
-abbrev pub IsRefused : List Node → GraphFault → Type 0
-IsRefused nodes BadSize = (length nodes < 1) ⊎ (MAX_NODES < length nodes)
-IsRefused nodes BadGraph =
+abbrev pub IsNoGraph : List Node → GraphFault → Type 0
+IsNoGraph nodes BadSize = (length nodes < 1) ⊎ (MAX_NODES < length nodes)
+IsNoGraph nodes BadGraph =
     (1 ≤ length nodes) × (length nodes ≤ MAX_NODES) × ¬ AllByRecursion (IsNodeOf (length nodes)) nodes
 
 -- the number of a fault
-abbrev pub number_of : GraphFault → ℕ
-number_of BadSize = 1
-number_of BadGraph = 2
+abbrev pub graph_fault_number : GraphFault → ℕ
+graph_fault_number BadSize = 1
+graph_fault_number BadGraph = 2
 
 -- the two graphs have the same nodes at these positions
 abbrev pub Agree : List Node → List Node → List ℕ → Type 0

@@ -11,9 +11,9 @@ abbrev pub AreDifferent : List ℕ → Type 0
 AreDifferent ns = IsDistinct ◌==◌ ns
 
 -- the number joins the list, where it isn't in it
-abbrev pub joined : List ℕ → ℕ → List ℕ
-joined ns n = if is_among n ns then ns else ns ++ n ∷ []
+abbrev pub with_number : List ℕ → ℕ → List ℕ
+with_number ns n = if is_among n ns then ns else ns ++ n ∷ []
 
 -- each number of the list once, in the order in which they first come
 abbrev pub distinct_of : List ℕ → List ℕ
-distinct_of ns = fold joined [] ns
+distinct_of ns = fold with_number [] ns

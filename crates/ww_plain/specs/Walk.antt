@@ -5,10 +5,10 @@ use Rattle.ww_plain.specs.Numbers.{is_among, AreDifferent}
 use Rattle.ww_plain.specs.Graph.{port_of}
 
 -- port p of each node of the list names the next
-abbrev pub Follows : List Node → ℕ → List ℕ → Type 0
-Follows graph p [] = Unit {0}
-Follows graph p (v ∷ []) = Unit {0}
-Follows graph p (v ∷ w ∷ ws) = (port_of graph v p ≡ Some w) × Follows graph p (w ∷ ws)
+abbrev pub FollowsPort : List Node → ℕ → List ℕ → Type 0
+FollowsPort graph p [] = Unit {0}
+FollowsPort graph p (v ∷ []) = Unit {0}
+FollowsPort graph p (v ∷ w ∷ ws) = (port_of graph v p ≡ Some w) × FollowsPort graph p (w ∷ ws)
 
 -- the last of the nodes v, ws
 abbrev pub last_from : ℕ → List ℕ → ℕ
@@ -30,8 +30,8 @@ abbrev pub stop_of : List Node → ℕ → List ℕ → Option ℕ
 stop_of graph p vs = port_of graph (last_of vs) p
 
 -- a walk of at most this many nodes ends behind these: it has that many, or the stop is empty or one of them
-abbrev pub IsEnd : List ℕ → ℕ → Option ℕ → Type 0
-IsEnd vs most stop = (most ≤ length vs) ⊎ IfSome stop (λ n. IsTrue (is_among n vs))
+abbrev pub IsWalkEnd : List ℕ → ℕ → Option ℕ → Type 0
+IsWalkEnd vs most stop = (most ≤ length vs) ⊎ IfSome stop (λ n. IsTrue (is_among n vs))
 
 -- the walk goes on to the stop, which is none of its nodes
 pub record GoesOnTo (vs : List ℕ) (most : ℕ) (stop : Option ℕ) (next : ℕ) : Type 0 where
@@ -43,9 +43,9 @@ pub record GoesOnTo (vs : List ℕ) (most : ℕ) (stop : Option ℕ) (next : ℕ
 pub record IsWalk (graph : List Node) (start p most : ℕ) (vs : List ℕ) : Type 0 where
   pub begins : BeginsWith vs start
   pub different : AreDifferent vs
-  pub follows : Follows graph p vs
+  pub follows : FollowsPort graph p vs
   pub short : length vs ≤ most
-  pub ends : IsEnd vs most (stop_of graph p vs)
+  pub ends : IsWalkEnd vs most (stop_of graph p vs)
 
 -- goes on to a node that did not come before, and else ends
 abbrev pub onward : Option ℕ → List ℕ → (ℕ → List ℕ) → List ℕ

@@ -1,7 +1,7 @@
 //! Which nodes a transaction depends on and may change: those whose locks it needs.
 
 ghost use Rattle.std.specs.Prelude.{◌≡◌, ◌≤◌, length, map};
-ghost use Rattle.ww_plain.specs.Numbers.{joined, distinct_of};
+ghost use Rattle.ww_plain.specs.Numbers.{with_number, distinct_of};
 ghost use Rattle.ww_plain.specs.Transaction.{transaction_of, Fits, IsCourse};
 ghost use Rattle.ww_plain.specs.Graph.{IsGraph};
 ghost use Rattle.ww_plain.specs.Walk.{walk_of};
@@ -79,8 +79,8 @@ fn join_target(nodes: &mut ArrayVec<u8, MAX_NODES>, target: Option<u8>)
 
 /// The node joins the others, where it isn't among them.
 fn join(nodes: &mut ArrayVec<u8, MAX_NODES>, node: u8)
-    requires { length (joined nodes.old.items node) ≤ MAX_NODES }
-    ensures { nodes.new.items ≡ joined nodes.old.items node }
+    requires { length (with_number nodes.old.items node) ≤ MAX_NODES }
+    ensures { nodes.new.items ≡ with_number nodes.old.items node }
 {
     if !nodes.contains(&node) {
         nodes.push(node);

@@ -22,11 +22,11 @@ pub enum GraphFault {
 }
 
 impl GraphFault {
-    ghost use Rattle.ww_plain.specs.Graph.{number_of};
+    ghost use Rattle.ww_plain.specs.Graph.{graph_fault_number};
 
     /// The number of the fault.
     pub fn number(self) -> u8
-        ensures { result ≡ number_of self }
+        ensures { result ≡ graph_fault_number self }
     {
         self as u8
     }
@@ -51,13 +51,13 @@ impl Model for Graph {
 }
 
 impl Graph {
-    ghost use Rattle.ww_plain.specs.Graph.{IsGraph, IsRefused, IsNodeOf, node_at};
+    ghost use Rattle.ww_plain.specs.Graph.{IsGraph, IsNoGraph, IsNodeOf, node_at};
 
     /// Takes the nodes for a graph. It looks at their number first, and returns them if they are none.
     pub fn new(nodes: Vec<Node>) -> Result<Graph, (Vec<Node>, GraphFault)>
         ensures ok { IsOk result ↔ IsGraph nodes.items }
         ensures kept { IfOk result (λ graph. graph ≡ nodes.items) }
-        ensures fault { IfErr result (λ e. IsRefused nodes.items e.1) }
+        ensures fault { IfErr result (λ e. IsNoGraph nodes.items e.1) }
         ensures back { IfErr result (λ e. e.0 ≡ nodes) }
     {
         let size = nodes.len();

@@ -5,7 +5,7 @@ ghost use Rattle.std.specs.List.{AllByRecursion};
 ghost use Rattle.ww_plain.specs.Graph.{port_of, IsGraph};
 ghost use Rattle.ww_plain.specs.Transaction.{IsCourse};
 ghost use Rattle.ww_plain.specs.Seen.{Marks};
-ghost use Rattle.ww_plain.specs.Walk.{walk_of, stop_of, IsEnd, GoesOnTo};
+ghost use Rattle.ww_plain.specs.Walk.{walk_of, stop_of, IsWalkEnd, GoesOnTo};
 
 use crate::graph::MAX_NODES;
 use crate::node::{Node, PORTS};
@@ -43,7 +43,7 @@ pub(crate) fn walk_from(graph: &[Node], start: u8, port: u8, most: u8) -> Walk
 /// The node at which a walk goes on, or `None` where it ends.
 fn new_node(nodes: &[u8], seen: &Seen, most: u8, stop: Option<u8>) -> Option<u8>
     requires { Marks seen.now.came nodes.now }
-    ensures { MatchOption result (IsEnd nodes.now most stop) (GoesOnTo nodes.now most stop) }
+    ensures { MatchOption result (IsWalkEnd nodes.now most stop) (GoesOnTo nodes.now most stop) }
 {
     match stop {
         Some(next) if nodes.len() < usize::from(most) && !seen.contains(next) => Some(next),

@@ -7,12 +7,12 @@ use Rattle.ww_plain.specs.Meaning.{Answer}
 use Rattle.ww_plain.specs.History.{Recorded}
 use Rattle.ww_lock.specs.Holding.{Holding, Setting, IsAtHome, by_of}
 use Rattle.ww_plain.specs.declared.node.TheConstants.{PORTS}
-use Rattle.ww_script.specs.Acts.{Deed, does, interruptible, cancels, Suits}
+use Rattle.ww_script.specs.Acts.{Action, does, interruptible, cancels, IsActWithin}
 use Rattle.ww_script.specs.Scripts.{ranges_of}
 use Rattle.ww_script.specs.Said.{Said, answered, already, interrupted, cancelling}
 use Rattle.ww_script.specs.Cancels.{cancelled_in, interrupters_in, times}
-use Rattle.ww_script.specs.Outcome.{IsUnrecorded, IsRecorded, IsAnswered}
-use Rattle.ww_run.specs.Workers.{IsAfter, Adds, pendings_in, IsTold, HasRun, IsReady}
+use Rattle.ww_script.specs.Outcome.{IsUnrecorded, IsActRecorded, IsAnswered}
+use Rattle.ww_run.specs.Workers.{IsAfter, AddsAnswered, pendings_in, IsSaidBy, HasRun, IsReadyToRun}
 
 pub one_later : (m n : ℕ) → m + suc n ≡ m + 1 + n
 one_later m n = omega arith
@@ -20,7 +20,7 @@ one_later m n = omega arith
 -- ---- answers
 
 -- an act without a record comes first
-unrecorded_first : (seq : ℕ) (deed : Deed) (said : Said) (deeds : List Deed) (saids : List Said) (part : List (ℕ × Recorded))
+unrecorded_first : (seq : ℕ) (deed : Action) (said : Said) (deeds : List Action) (saids : List Said) (part : List (ℕ × Recorded))
     → IsUnrecorded said deed → IsAnswered seq deeds saids part → IsAnswered seq (deed ∷ deeds) (said ∷ saids) part
 unrecorded_first seq deed (answered a) deeds saids part is h = absurd is
 unrecorded_first seq deed (already n) deeds saids part is h = (is, h)
@@ -28,7 +28,7 @@ unrecorded_first seq deed (interrupted script) deeds saids part is h = (is, h)
 unrecorded_first seq deed (cancelling set) deeds saids part is h = (is, h)
 
 -- one act more without a record
-unrecorded_more : (seq : ℕ) (deeds : List Deed) (saids : List Said) (part : List (ℕ × Recorded)) (deed : Deed) (said : Said)
+unrecorded_more : (seq : ℕ) (deeds : List Action) (saids : List Said) (part : List (ℕ × Recorded)) (deed : Action) (said : Said)
     → IsAnswered seq deeds saids part → IsUnrecorded said deed
     → IsAnswered seq (deeds ++ deed ∷ []) (saids ++ said ∷ []) part
 unrecorded_more seq [] [] [] deed said h is = unrecorded_first seq deed said [] [] [] is tt
@@ -46,10 +46,10 @@ unrecorded_more seq (x ∷ deeds) (cancelling m ∷ saids) part deed said h is =
     (h.0, unrecorded_more seq deeds saids part deed said h.1 is)
 
 -- one act more that was recorded
-recorded_more : (seq : ℕ) (deeds : List Deed) (saids : List Said) (part : List (ℕ × Recorded)) (deed : Deed) (a : Answer) (r : ℕ × Recorded)
-    → IsAnswered seq deeds saids part → IsRecorded deed (seq + length part) a r.1
+recorded_more : (seq : ℕ) (deeds : List Action) (saids : List Said) (part : List (ℕ × Recorded)) (deed : Action) (a : Answer) (r : ℕ × Recorded)
+    → IsAnswered seq deeds saids part → IsActRecorded deed (seq + length part) a r.1
     → IsAnswered seq (deeds ++ deed ∷ []) (saids ++ answered a ∷ []) (part ++ r ∷ [])
-recorded_more seq [] [] [] deed a r h is = (subst (λ (k : ℕ). IsRecorded deed k a r.1) (add-zero seq) is, tt)
+recorded_more seq [] [] [] deed a r h is = (subst (λ (k : ℕ). IsActRecorded deed k a r.1) (add-zero seq) is, tt)
 recorded_more seq [] [] (p ∷ part) deed a r h is = absurd h
 recorded_more seq [] (s ∷ saids) part deed a r h is = absurd h
 recorded_more seq (x ∷ deeds) [] part deed a r h is = absurd h
@@ -57,24 +57,24 @@ recorded_more seq (x ∷ deeds) (answered b ∷ saids) [] deed a r h is = absurd
 recorded_more seq (x ∷ deeds) (answered b ∷ saids) (p ∷ part) deed a r h is = (
   h.0,
   recorded_more (seq + 1) deeds saids part deed a r h.1
-      (subst (λ (k : ℕ). IsRecorded deed k a r.1) (one_later seq (length part)) is),
+      (subst (λ (k : ℕ). IsActRecorded deed k a r.1) (one_later seq (length part)) is),
 )
 recorded_more seq (x ∷ deeds) (already m ∷ saids) part deed a r h is = (h.0, recorded_more seq deeds saids part deed a r h.1 is)
 recorded_more seq (x ∷ deeds) (interrupted m ∷ saids) part deed a r h is = (h.0, recorded_more seq deeds saids part deed a r h.1 is)
 recorded_more seq (x ∷ deeds) (cancelling m ∷ saids) part deed a r h is = (h.0, recorded_more seq deeds saids part deed a r h.1 is)
 
 -- one act more
-answered_more : (deeds : List Deed) (saids : List Said) (deed : Deed) (said : Said) (s a : Holding)
-    → IsAnswered 0 deeds saids s.own → Adds s deed said a → IsAnswered 0 (deeds ++ deed ∷ []) (saids ++ said ∷ []) a.own
+answered_more : (deeds : List Action) (saids : List Said) (deed : Action) (said : Said) (s a : Holding)
+    → IsAnswered 0 deeds saids s.own → AddsAnswered s deed said a → IsAnswered 0 (deeds ++ deed ∷ []) (saids ++ said ∷ []) a.own
 answered_more deeds saids deed (answered answer) s a h adds = rw adds.2
     (recorded_more 0 deeds saids s.own deed answer (adds.0, adds.1) h
-    (subst (λ (k : ℕ). IsRecorded deed k answer adds.1) (sym (zero-add (length s.own))) adds.3))
+    (subst (λ (k : ℕ). IsActRecorded deed k answer adds.1) (sym (zero-add (length s.own))) adds.3))
 answered_more deeds saids deed (already n) s a h adds = rw adds.0 (unrecorded_more 0 deeds saids s.own deed (already n) h adds.1)
 answered_more deeds saids deed (interrupted n) s a h adds = rw adds.0 (unrecorded_more 0 deeds saids s.own deed (interrupted n) h adds.1)
 answered_more deeds saids deed (cancelling n) s a h adds = rw adds.0 (unrecorded_more 0 deeds saids s.own deed (cancelling n) h adds.1)
 
 -- as many acts as answers
-same_number : (seq : ℕ) (deeds : List Deed) (saids : List Said) (part : List (ℕ × Recorded)) → IsAnswered seq deeds saids part
+same_number : (seq : ℕ) (deeds : List Action) (saids : List Said) (part : List (ℕ × Recorded)) → IsAnswered seq deeds saids part
     → length deeds ≡ length saids
 same_number seq [] [] part h = refl
 same_number seq [] (s ∷ saids) part h = absurd h
@@ -88,7 +88,7 @@ same_number seq (x ∷ deeds) (cancelling m ∷ saids) part h = ap suc (same_num
 -- ---- cancels and interruptions
 
 -- what one act cancelled, and the rest
-cancelled_first : (x : Deed) (s : Said) (deeds : List Deed) (saids : List Said)
+cancelled_first : (x : Action) (s : Said) (deeds : List Action) (saids : List Said)
     → cancelled_in (x ∷ deeds) (s ∷ saids) ≡ cancelled_in (x ∷ []) (s ∷ []) ++ cancelled_in deeds saids
 cancelled_first (does t) s deeds saids = refl
 cancelled_first (interruptible t) s deeds saids = refl
@@ -98,7 +98,7 @@ cancelled_first (cancels v) (interrupted n) deeds saids = refl
 cancelled_first (cancels v) (cancelling true) deeds saids = refl
 cancelled_first (cancels v) (cancelling false) deeds saids = refl
 
-cancelled_more : (deeds : List Deed) (saids : List Said) (deed : Deed) (said : Said) → length deeds ≡ length saids
+cancelled_more : (deeds : List Action) (saids : List Said) (deed : Action) (said : Said) → length deeds ≡ length saids
     → cancelled_in (deeds ++ deed ∷ []) (saids ++ said ∷ []) ≡ cancelled_in deeds saids ++ cancelled_in (deed ∷ []) (said ∷ [])
 cancelled_more [] [] deed said same = refl
 cancelled_more [] (s ∷ saids) deed said same = absurd (omega (arith, same))
@@ -137,8 +137,8 @@ counted_more n now counted more all last is whole same =
     omega (arith, ap (times n) is, ap (times n) whole, times_both n last counted, times_both n more last, same)
 
 -- one act more
-ran_more : (deeds : List Deed) (saids : List Said) (deed : Deed) (said : Said) (s a : Holding)
-    → HasRun deeds saids s → IsTold s deed said a → HasRun (deeds ++ deed ∷ []) (saids ++ said ∷ []) a
+ran_more : (deeds : List Action) (saids : List Said) (deed : Action) (said : Said) (s a : Holding)
+    → HasRun deeds saids s → IsSaidBy s deed said a → HasRun (deeds ++ deed ∷ []) (saids ++ said ∷ []) a
 ran_more deeds saids deed said s a h told = record {
   answered = answered_more deeds saids deed said s a h.answered told.own;
   cancelled = λ victim. counted_more victim a.cancelled s.cancelled (cancelled_in deeds saids) _ _ told.cancelled
@@ -151,16 +151,16 @@ ran_more deeds saids deed said s a h told = record {
 -- ---- a script under way
 
 -- How far a script has come: the acts done, and those to come, for which there is budget.
-pub record IsUnderWay (w : Setting) (number : ℕ) (deeds rest : List Deed) (saids : List Said) (s : Holding) : Type 0 where
-  pub done : List Deed
+pub record IsUnderWay (w : Setting) (number : ℕ) (deeds rest : List Action) (saids : List Said) (s : Holding) : Type 0 where
+  pub done : List Action
   pub parts : deeds ≡ done ++ rest
   pub ran : HasRun done saids s
   pub home : IsAtHome s w
   pub same_caller : s.caller ≡ number
   pub budget : length rest ≤ s.left
-  pub suit : AllByRecursion (Suits (ranges_of (length w.first) PORTS w.passes)) rest
+  pub suit : AllByRecursion (IsActWithin (ranges_of (length w.first) PORTS w.passes)) rest
 
-pub under_way : (w : Setting) (number : ℕ) (deeds : List Deed) (s : Holding) → IsReady w number deeds s
+pub under_way : (w : Setting) (number : ℕ) (deeds : List Action) (s : Holding) → IsReadyToRun w number deeds s
     → IsUnderWay w number deeds deeds [] s
 under_way w number deeds s h = record {
   done = [];
@@ -178,14 +178,14 @@ under_way w number deeds s h = record {
 }
 
 -- one act more
-pub one_more : (w : Setting) (number : ℕ) (deeds now rest : List Deed) (saids more : List Said) (deed : Deed)
+pub one_more : (w : Setting) (number : ℕ) (deeds now rest : List Action) (saids more : List Said) (deed : Action)
     (said : Said) (s a : Holding)
     → now ≡ deed ∷ rest → more ≡ saids ++ said ∷ []
-    → IsUnderWay w number deeds now saids s → IsAtHome a w → IsAfter s a → IsTold s deed said a
+    → IsUnderWay w number deeds now saids s → IsAtHome a w → IsAfter s a → IsSaidBy s deed said a
     → IsUnderWay w number deeds rest more a
 one_more w number deeds now rest saids more deed said s a first grown h home after told =
     let under : IsUnderWay w number deeds (deed ∷ rest) saids s =
-    subst (λ (xs : List Deed). IsUnderWay w number deeds xs saids s) first h in record {
+    subst (λ (xs : List Action). IsUnderWay w number deeds xs saids s) first h in record {
       done = under.done ++ deed ∷ [];
       parts = under.parts ∙ sym (append_assoc under.done (deed ∷ []) rest);
       ran = rw grown (ran_more under.done saids deed said s a under.ran told);

@@ -11,7 +11,7 @@ use Rattle.ww_model.specs.State.{one_if}
 use Rattle.ww_rule.specs.Rule as rule
 use Rattle.ww_lock.specs.Holding.{Holding, Setting, by_of}
 use Rattle.ww_lock.specs.Closed as lock
-use Rattle.ww_script.specs.Acts.{Deed}
+use Rattle.ww_script.specs.Acts.{Action}
 use Rattle.ww_script.specs.Said.{Said}
 use Rattle.ww_script.specs.Cancels.{cancelled_in, times, cancels_of, interrupters_of, AreBalanced}
 use Rattle.ww_run.specs.Workers.{HasRun}
@@ -19,7 +19,7 @@ use Rattle.ww_run.proofs.Acts.{one_later}
 use Rattle.ww_run.proofs.Scripts.{AreWorked, length_worked}
 
 -- the passes say what the scripts were told, each at its number
-worked_at : (number : ℕ) (scripts : List (List Deed)) (replies : List (List Said)) (passes : List Holding) (i : ℕ) (d : Holding)
+worked_at : (number : ℕ) (scripts : List (List Action)) (replies : List (List Said)) (passes : List Holding) (i : ℕ) (d : Holding)
     → AreWorked number scripts replies passes → i < length scripts
     → ((get_or passes i d).caller ≡ number + i) × HasRun (get_or scripts i []) (get_or replies i []) (get_or passes i d)
 worked_at number [] replies passes i d h lt = absurd (omega (arith, lt))
@@ -70,7 +70,7 @@ named_past count pending script le = grind (arith, nat_tests)
 
 -- ---- balance
 
-module _ (scripts : List (List Deed)) (replies : List (List Said)) (w : Setting) (passes : List Holding)
+module _ (scripts : List (List Action)) (replies : List (List Said)) (w : Setting) (passes : List Holding)
     (many : w.passes ≡ length scripts) (all : AreWorked 0 scripts replies passes) (closed : lock.AreBalanced w passes) where
   -- whose cancel of the victim is pending
   abbrev pending_of : ℕ → ℕ
@@ -144,7 +144,7 @@ a_member : {A : Type 0} (xs : List A) → 0 < length xs → A
 a_member [] lt = absurd (omega (arith, lt))
 a_member (x ∷ xs) lt = x
 
-pub are_balanced : (scripts : List (List Deed)) (replies : List (List Said)) (w : Setting) (passes : List Holding)
+pub are_balanced : (scripts : List (List Action)) (replies : List (List Said)) (w : Setting) (passes : List Holding)
     → w.passes ≡ length scripts → AreWorked 0 scripts replies passes → lock.AreBalanced w passes
     → (pending : ℕ → ℕ) × AreBalanced scripts replies pending
 are_balanced scripts replies w passes many all closed = (

@@ -7,21 +7,21 @@ use Rattle.ww_run.specs.declared.run.Refusal.TheVariants.{Input, Run}
 use Rattle.ww_run.specs.declared.run.Status.{Status}
 use Rattle.ww_run.specs.declared.run.Status.TheVariants.{Ended, Refused, ReadFailed, WriteFailed, Stopped}
 use Rattle.ww_run.specs.Streams.{ConsumesSome}
-use Rattle.ww_run.specs.Run.{most_read, refusal_number, status_of, line_of, IsRefusedFor, IsRead, IsDue, Writes, Runs}
+use Rattle.ww_run.specs.Run.{most_read, refusal_number, status_of, line_of, IsRefusedFor, IsReadFrom, IsTextDue, Writes, Runs}
 
 -- what is due, and what was written of it
 pub runs_due : (left rest held holds : Option (List ℕ)) (due : Status) (text : List ℕ) (status : Status)
-    → IsDue left rest due text → Writes held holds due text status → Runs left rest held holds status
+    → IsTextDue left rest due text → Writes held holds due text status → Runs left rest held holds status
 runs_due left rest held holds due text Ended d w = (due, text, d, w)
 runs_due left rest held holds due text Refused d w = (due, text, d, w)
 runs_due left rest held holds due text ReadFailed d w = absurd
-    (subst (λ (s : Status). IsDue left rest s text) (sym w.0) d)
+    (subst (λ (s : Status). IsTextDue left rest s text) (sym w.0) d)
 runs_due left rest held holds due text WriteFailed d w = (due, text, d, w)
 runs_due left rest held holds due text Stopped d w = (due, text, d, w)
 
 -- what is due after a refusal
-due_refused : (left rest : Option (List ℕ)) (input : List ℕ) (refusal : Refusal) → IsRead left rest input
-    → IsRefusedFor input refusal → IsDue left rest (status_of refusal) (line_of (refusal_number refusal))
+due_refused : (left rest : Option (List ℕ)) (input : List ℕ) (refusal : Refusal) → IsReadFrom left rest input
+    → IsRefusedFor input refusal → IsTextDue left rest (status_of refusal) (line_of (refusal_number refusal))
 due_refused left rest input (Input NotJson) r h =
     (input, r, record { fault = NotJson; own = (λ e. absurd cc); read = h (λ e. absurd cc); text_is = refl })
 due_refused left rest input (Input BadKey) r h =
@@ -44,7 +44,7 @@ due_refused left rest input (Run run.NoThread) r h =
     inr (input, r, record { scripts = h (λ e. absurd cc); fault = run.NoThread; text_is = refl })
 
 pub runs_refused : (left rest held holds : Option (List ℕ)) (input : List ℕ) (refusal : Refusal) (status : Status)
-    → IsRead left rest input → IsRefusedFor input refusal
+    → IsReadFrom left rest input → IsRefusedFor input refusal
     → Writes held holds (status_of refusal) (line_of (refusal_number refusal)) status
     → Runs left rest held holds status
 runs_refused left rest held holds input refusal status r h w = runs_due left rest held holds (status_of refusal)

@@ -5,7 +5,7 @@ use Rattle.std.specs.List.{AllByRecursion}
 use Rattle.std.specs.Global.{Vec}
 use Rattle.ww_plain.specs.declared.node.Node.{Node}
 use Rattle.ww_script_parts.specs.declared.acts.Act.{Act}
-use Rattle.ww_script.specs.Acts.{Deed, deed_of, Suits}
+use Rattle.ww_script.specs.Acts.{Action, deed_of, IsActWithin}
 use Rattle.ww_plain.proofs.GraphFacts.{all_item}
 use Rattle.ww_lock.specs.Holding.{Holding, Setting, IsAtHome}
 use Rattle.ww_lock.specs.Opened.{IsOpened}
@@ -14,7 +14,7 @@ use Rattle.ww_plain.specs.declared.node.TheConstants.{PORTS}
 use Rattle.ww_script.specs.Scripts.{IsScript, ranges_of}
 use Rattle.ww_run.specs.Workers.{AreShort, AreNoLonger, IsBudget, AreReady}
 
-abbrev lists : List (Vec Act) → List (List Deed)
+abbrev lists : List (Vec Act) → List (List Action)
 lists scripts = map (λ (acts : Vec Act). map deed_of acts.items) scripts
 
 -- no script of a plan has more than 10,000 transactions
@@ -27,7 +27,7 @@ few_each ranges (acts ∷ scripts) all (suc i) d lt = few_each ranges scripts al
 -- what bounds each script bounds it as a list
 short_each : (budget : ℕ) (scripts : List (Vec Act))
     → ((i : ℕ) (d : Vec Act) → i < length scripts → length (get_or scripts i d).items ≤ budget)
-    → (i : ℕ) (t : List Deed) → i < length (lists scripts) → length (get_or (lists scripts) i t) ≤ budget
+    → (i : ℕ) (t : List Action) → i < length (lists scripts) → length (get_or (lists scripts) i t) ≤ budget
 short_each budget [] each i t lt = absurd (omega (arith, lt))
 short_each budget (acts ∷ scripts) each zero t lt =
     omega (arith, each 0 acts (omega arith), length-map acts.items deed_of)
@@ -81,9 +81,9 @@ are_ready w scripts passes first count budget opened many all is_budget =
             none_pending = ap (λ s. s.pendings) is;
             uninterrupted = ap (λ s. s.interrupted) is;
             budget = omega (arith, is_budget.enough i t lt, ap (λ s. s.left) is);
-            suit = subst (λ (n : ℕ). AllByRecursion (Suits (ranges (length w.first) n)) (get_or (lists scripts) i t))
+            suit = subst (λ (n : ℕ). AllByRecursion (IsActWithin (ranges (length w.first) n)) (get_or (lists scripts) i t))
                 (sym (same_count w scripts passes first count budget opened many))
-                (subst (λ (g : List Node). AllByRecursion (Suits (ranges (length g) number))
+                (subst (λ (g : List Node). AllByRecursion (IsActWithin (ranges (length g) number))
                 (get_or (lists scripts) i t)) (sym opened.first_graph) script.suit);
           };
     }

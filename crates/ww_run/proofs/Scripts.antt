@@ -7,7 +7,7 @@ use Rattle.std.proofs.lemmas.Bool.Decides.{nat_tests}
 use Rattle.ww_plain.specs.History.{Recorded, part_of}
 use Rattle.ww_lock.specs.Holding.{Holding, Setting, IsAtHome, AreAtHome}
 use Rattle.ww_lock.specs.Closed.{has_pass, missing_of, AreParts}
-use Rattle.ww_script.specs.Acts.{Deed}
+use Rattle.ww_script.specs.Acts.{Action}
 use Rattle.ww_script.specs.Said.{Said, said_of}
 use Rattle.ww_script.specs.Outcome.{IsAnswered, AreAnswered}
 use Rattle.ww_outcome.specs.declared.outcome.ScriptAnswer.{ScriptAnswer}
@@ -16,7 +16,7 @@ use Rattle.ww_run.specs.Workers.{HasRun, IsWork, AreWorks, AreParted}
 use Rattle.ww_run.proofs.Acts.{one_later}
 
 -- passes in the order of their callers, each of which says of its script what that was told
-abbrev pub AreWorked : ℕ → List (List Deed) → List (List Said) → List Holding → Type 0
+abbrev pub AreWorked : ℕ → List (List Action) → List (List Said) → List Holding → Type 0
 AreWorked number [] [] [] = Unit {0}
 AreWorked number (t ∷ ts) (saids ∷ replies) (s ∷ ss) =
     (s.caller ≡ number) × HasRun t saids s × AreWorked (number + 1) ts replies ss
@@ -35,10 +35,10 @@ parted_more (x ∷ works) (y ∷ passes) [] work pass answers h p q = absurd h
 parted_more (x ∷ works) (y ∷ passes) (z ∷ replies) work pass answers h p q =
     (h.0, h.1, parted_more works passes replies work pass answers h.2 p q)
 
-worked : (w : Setting) (number : ℕ) (scripts : List (List Deed)) (works : List Work) (passes : List Holding)
+worked : (w : Setting) (number : ℕ) (scripts : List (List Action)) (works : List Work) (passes : List Holding)
     (replies : List (Vec ScriptAnswer))
     → length works ≡ length scripts
-    → ((i : ℕ) (t : List Deed) (d : Work) → i < length scripts → IsWork w (number + i) (get_or scripts i t) (get_or works i d))
+    → ((i : ℕ) (t : List Action) (d : Work) → i < length scripts → IsWork w (number + i) (get_or scripts i t) (get_or works i d))
     → AreParted works passes replies
     → AreWorked number scripts (map (λ answers. map said_of answers.items) replies) passes × AreAtHome passes w
 worked w number [] [] [] [] count each h = (tt, tt)
@@ -63,7 +63,7 @@ worked w number (t ∷ scripts) (work ∷ works) (pass ∷ passes) (answers ∷ 
       (subst (λ (s : Holding). IsAtHome s w) h.0 mine.home, later.1),
     )
 
-pub all_worked : (w : Setting) (scripts : List (List Deed)) (works : List Work) (passes : List Holding)
+pub all_worked : (w : Setting) (scripts : List (List Action)) (works : List Work) (passes : List Holding)
     (replies : List (Vec ScriptAnswer))
     → AreWorks w scripts works → AreParted works passes replies
     → AreWorked 0 scripts (map (λ answers. map said_of answers.items) replies) passes × AreAtHome passes w
@@ -76,7 +76,7 @@ or_right true c e = refl
 or_right false c e = e
 
 -- each caller has its pass
-has_each : (number : ℕ) (scripts : List (List Deed)) (replies : List (List Said)) (passes : List Holding) (k : ℕ)
+has_each : (number : ℕ) (scripts : List (List Action)) (replies : List (List Said)) (passes : List Holding) (k : ℕ)
     → AreWorked number scripts replies passes → k < length passes → has_pass passes (number + k) ≡ true
 has_each number [] [] [] k h lt = absurd (omega (arith, lt))
 has_each number [] [] (s ∷ passes) k h lt = absurd h
@@ -94,7 +94,7 @@ none_missing : (n : ℕ) (passes : List Holding) → ((k : ℕ) → k < n → ha
 none_missing zero passes each = refl
 none_missing (suc n) passes each = rw (each n (omega arith)) (none_missing n passes (λ k lt. each k (omega (arith, lt))))
 
-pub length_worked : (number : ℕ) (scripts : List (List Deed)) (replies : List (List Said)) (passes : List Holding)
+pub length_worked : (number : ℕ) (scripts : List (List Action)) (replies : List (List Said)) (passes : List Holding)
     → AreWorked number scripts replies passes → length passes ≡ length scripts
 length_worked number [] [] [] h = refl
 length_worked number [] [] (s ∷ passes) h = absurd h
@@ -104,14 +104,14 @@ length_worked number (t ∷ scripts) (x ∷ replies) [] h = absurd h
 length_worked number (t ∷ scripts) (x ∷ replies) (s ∷ passes) h =
     ap suc (length_worked (number + 1) scripts replies passes h.2)
 
-pub all_there : (n : ℕ) (scripts : List (List Deed)) (replies : List (List Said)) (passes : List Holding)
+pub all_there : (n : ℕ) (scripts : List (List Action)) (replies : List (List Said)) (passes : List Holding)
     → n ≡ length scripts → AreWorked 0 scripts replies passes → missing_of n passes ≡ 0
 all_there n scripts replies passes is h = none_missing n passes (λ k lt.
     subst (λ (j : ℕ). has_pass passes j ≡ true) (zero-add k)
     (has_each 0 scripts replies passes k h (omega (arith, lt, is, length_worked 0 scripts replies passes h))))
 
 -- the parts of the history are the logs, and these are what the scripts came to
-pub are_answered : (number : ℕ) (scripts : List (List Deed)) (replies : List (List Said)) (passes : List Holding)
+pub are_answered : (number : ℕ) (scripts : List (List Action)) (replies : List (List Said)) (passes : List Holding)
     (history : List Recorded)
     → AreWorked number scripts replies passes → AreParts passes history → AreAnswered number scripts replies history
 are_answered number [] [] [] history h parts = tt

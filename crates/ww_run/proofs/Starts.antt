@@ -5,17 +5,17 @@ use Rattle.std.proofs.lemmas.List.{append-nil, length-map}
 use Rattle.std.specs.Global.{Vec}
 use Rattle.std.specs.declared.thread.PromisedHandle.{PromisedHandle}
 use Rattle.ww_script_parts.specs.declared.acts.Act.{Act}
-use Rattle.ww_script.specs.Acts.{Deed, deed_of}
+use Rattle.ww_script.specs.Acts.{Action, deed_of}
 use Rattle.ww_lock.specs.Holding.{Holding, Setting}
 use Rattle.ww_run.specs.declared.worker.Work.{Work}
 use Rattle.ww_run.specs.declared.worker.WorkOf.{WorkOf}
-use Rattle.ww_run.specs.Workers.{IsReady, IsWork, AreWorks}
+use Rattle.ww_run.specs.Workers.{IsReadyToRun, IsWork, AreWorks}
 use Rattle.ww_run.proofs.Acts.{one_later}
 
 -- each script has its pass, of which the first is this caller's
 abbrev pub AreReadyFrom : Setting → ℕ → List (Vec Act) → List Holding → Type 0
 AreReadyFrom w number [] [] = Unit {0}
-AreReadyFrom w number (t ∷ ts) (s ∷ ss) = IsReady w number (map deed_of t.items) s × AreReadyFrom w (number + 1) ts ss
+AreReadyFrom w number (t ∷ ts) (s ∷ ss) = IsReadyToRun w number (map deed_of t.items) s × AreReadyFrom w (number + 1) ts ss
 AreReadyFrom w number _ _ = ⊥
 
 -- what a worker returns was promised of this script and this caller
@@ -41,16 +41,16 @@ pub record IsStarting (w : Setting) (all rest : List (Vec Act)) (passes : List H
 
 pub ready_from : (w : Setting) (number : ℕ) (scripts : List (Vec Act)) (passes : List Holding)
     → length passes ≡ length (map (λ (t : Vec Act). map deed_of t.items) scripts)
-    → ((i : ℕ) (t : List Deed) (d : Holding) → i < length (map (λ (s : Vec Act). map deed_of s.items) scripts)
-    → IsReady w (number + i) (get_or (map (λ (s : Vec Act). map deed_of s.items) scripts) i t) (get_or passes i d))
+    → ((i : ℕ) (t : List Action) (d : Holding) → i < length (map (λ (s : Vec Act). map deed_of s.items) scripts)
+    → IsReadyToRun w (number + i) (get_or (map (λ (s : Vec Act). map deed_of s.items) scripts) i t) (get_or passes i d))
     → AreReadyFrom w number scripts passes
 ready_from w number [] [] count each = tt
 ready_from w number [] (s ∷ passes) count each = absurd (omega (arith, count))
 ready_from w number (t ∷ scripts) [] count each = absurd (omega (arith, count))
 ready_from w number (t ∷ scripts) (s ∷ passes) count each = (
-  subst (λ (k : ℕ). IsReady w k (map deed_of t.items) s) (add-zero number) (each 0 (map deed_of t.items) s (omega arith)),
+  subst (λ (k : ℕ). IsReadyToRun w k (map deed_of t.items) s) (add-zero number) (each 0 (map deed_of t.items) s (omega arith)),
   ready_from w (number + 1) scripts passes (omega (arith, count)) (λ i u d lt.
-      subst (λ (k : ℕ). IsReady w k (get_or (map (λ (x : Vec Act). map deed_of x.items) scripts) i u) (get_or passes i d))
+      subst (λ (k : ℕ). IsReadyToRun w k (get_or (map (λ (x : Vec Act). map deed_of x.items) scripts) i u) (get_or passes i d))
       (one_later number i) (each (suc i) u d (omega (arith, lt)))),
 )
 
@@ -76,7 +76,7 @@ same_rest w number (t ∷ rest) (s ∷ passes) h = ap suc (same_rest w (number +
 -- the next pass and the next script are ready for one another
 ready_next : (w : Setting) (number : ℕ) (rest now : List (Vec Act)) (passes later : List Holding) (pass : Holding) (acts : Vec Act)
     → AreReadyFrom w number rest passes → passes ≡ pass ∷ later → rest ≡ acts ∷ now
-    → IsReady w number (map deed_of acts.items) pass × AreReadyFrom w (number + 1) now later
+    → IsReadyToRun w number (map deed_of acts.items) pass × AreReadyFrom w (number + 1) now later
 ready_next w number rest now passes later pass acts h first next =
     subst (λ (ss : List Holding). AreReadyFrom w number (acts ∷ now) ss) first
     (subst (λ (ts : List (Vec Act)). AreReadyFrom w number ts passes) next h)
@@ -128,7 +128,7 @@ not_started w all rest now passes later pass acts workers room is_short h first 
     }
 
 promised_at : (w : Setting) (number : ℕ) (scripts : List (Vec Act)) (workers : List (PromisedHandle Work WorkOf)) (i : ℕ)
-    (t : List Deed) (d : PromisedHandle Work WorkOf) (work : Work)
+    (t : List Action) (d : PromisedHandle Work WorkOf) (work : Work)
     → ArePromised w number scripts workers → i < length scripts
     → IsWork d.promise.world.now d.promise.caller (map deed_of d.promise.acts.value.items) work
     → d ≡ get_or workers i d

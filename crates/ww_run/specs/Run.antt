@@ -89,20 +89,20 @@ pub record IsGivenUpLine (input text : List ℕ) : Type 0 where
   pub text_is : text ≡ line_of (run_number fault)
 
 -- these bytes were read: all that there were, unless that was one more than an input may have
-pub record IsRead (left rest : Option (List ℕ)) (input : List ℕ) : Type 0 where
+pub record IsReadFrom (left rest : Option (List ℕ)) (input : List ℕ) : Type 0 where
   pub few : length input ≤ most_read
   pub taken : Consumes left rest input
   pub whole : length input < most_read → IsAtEnd rest
 
 -- What is to be written, and how the run ends where it is. Memory may be refused before all is read.
-abbrev pub IsDue : Option (List ℕ) → Option (List ℕ) → Status → List ℕ → Type 0
-IsDue left rest Ended text = (input : List ℕ) × IsRead left rest input × IsTextFor input text
-IsDue left rest Refused text = (input : List ℕ) × IsRead left rest input × IsRefusalLine input text
-IsDue left rest Stopped text =
+abbrev pub IsTextDue : Option (List ℕ) → Option (List ℕ) → Status → List ℕ → Type 0
+IsTextDue left rest Ended text = (input : List ℕ) × IsReadFrom left rest input × IsTextFor input text
+IsTextDue left rest Refused text = (input : List ℕ) × IsReadFrom left rest input × IsRefusalLine input text
+IsTextDue left rest Stopped text =
     (ConsumesSome most_read left rest × (text ≡ line_of 16))
-    ⊎ ((input : List ℕ) × IsRead left rest input × IsGivenUpLine input text)
-IsDue left rest ReadFailed text = ⊥
-IsDue left rest WriteFailed text = ⊥
+    ⊎ ((input : List ℕ) × IsReadFrom left rest input × IsGivenUpLine input text)
+IsTextDue left rest ReadFailed text = ⊥
+IsTextDue left rest WriteFailed text = ⊥
 
 -- What is written of a text that is due, given what the writer holds before and after: all of it, and the run ends as
 -- it then does, or a front of it.
@@ -114,4 +114,4 @@ Writes held holds due text status = (status ≡ due) × Appends held holds text
 abbrev pub Runs : Option (List ℕ) → Option (List ℕ) → Option (List ℕ) → Option (List ℕ) → Status → Type 0
 Runs left rest held holds ReadFailed = ConsumesSome most_read left rest × Keeps held holds
 Runs left rest held holds status =
-    (due : Status) × (text : List ℕ) × IsDue left rest due text × Writes held holds due text status
+    (due : Status) × (text : List ℕ) × IsTextDue left rest due text × Writes held holds due text status

@@ -10,11 +10,11 @@ use Rattle.ww_txn.specs.declared.transacting.TxnFault.TheVariants.{PassSpent, Al
 use Rattle.ww_txn.specs.declared.transacting.TxnFault.TheVariants as txn
 use Rattle.ww_plain.specs.declared.node.TheConstants.{PORTS}
 use Rattle.ww_script_parts.specs.declared.acts.Act.{Act}
-use Rattle.ww_script.specs.Acts.{Deed, Suits}
+use Rattle.ww_script.specs.Acts.{Action, IsActWithin}
 use Rattle.ww_script.specs.Scripts.{ranges_of}
 use Rattle.ww_script.specs.Said.{Said, answered, cancelling, said_of}
 use Rattle.ww_script.specs.Cancels.{cancelled_in, interrupters_in, times}
-use Rattle.ww_script.specs.Outcome.{IsUnrecorded, IsRecorded, IsAnswered}
+use Rattle.ww_script.specs.Outcome.{IsUnrecorded, IsActRecorded, IsAnswered}
 use Rattle.ww_outcome.specs.declared.outcome.ScriptAnswer.{ScriptAnswer}
 use Rattle.ww_outcome.specs.declared.outcome.ScriptAnswer.TheVariants as answer
 use Rattle.std.specs.declared.alloc.AllocError.{AllocError}
@@ -41,10 +41,10 @@ pub record IsAfter (s a : Holding) : Type 0 where
   pub budget : s.left ≤ a.left + 1
 
 -- An act with an answer of the plain graph added its record to the log, as the next. Any other left it as it was.
-abbrev pub Adds : Holding → Deed → Said → Holding → Type 0
-Adds s deed (answered answer) a =
-    (place : ℕ) × (r : Recorded) × (a.own ≡ s.own ++ (place, r) ∷ []) × IsRecorded deed (length s.own) answer r
-Adds s deed said a = (a.own ≡ s.own) × IsUnrecorded said deed
+abbrev pub AddsAnswered : Holding → Action → Said → Holding → Type 0
+AddsAnswered s deed (answered answer) a =
+    (place : ℕ) × (r : Recorded) × (a.own ≡ s.own ++ (place, r) ∷ []) × IsActRecorded deed (length s.own) answer r
+AddsAnswered s deed said a = (a.own ≡ s.own) × IsUnrecorded said deed
 
 -- how many acts found a cancel pending where they would set one
 abbrev pub pendings_in : List Said → ℕ
@@ -54,15 +54,15 @@ pendings_in [] = 0
 
 -- What the act was told is what the pass says of it: its record, the script that it cancelled, or that it found a cancel
 -- of it pending, and the script that called it off.
-pub record IsTold (s : Holding) (deed : Deed) (said : Said) (a : Holding) : Type 0 where
-  pub own : Adds s deed said a
+pub record IsSaidBy (s : Holding) (deed : Action) (said : Said) (a : Holding) : Type 0 where
+  pub own : AddsAnswered s deed said a
   pub cancelled : a.cancelled ≡ cancelled_in (deed ∷ []) (said ∷ []) ++ s.cancelled
   pub pendings : a.pendings ≡ s.pendings + pendings_in (said ∷ [])
   pub interrupted : by_of a.interrupted ≡ interrupters_in (said ∷ []) ++ by_of s.interrupted
 
 -- The pass of this caller, which has done nothing yet, and a script for it: there is budget for each of its acts, and
 -- each suits the world.
-pub record IsReady (w : Setting) (number : ℕ) (deeds : List Deed) (s : Holding) : Type 0 where
+pub record IsReadyToRun (w : Setting) (number : ℕ) (deeds : List Action) (s : Holding) : Type 0 where
   pub home : IsAtHome s w
   pub same_caller : s.caller ≡ number
   pub nothing : s.own ≡ []
@@ -70,18 +70,18 @@ pub record IsReady (w : Setting) (number : ℕ) (deeds : List Deed) (s : Holding
   pub none_pending : s.pendings ≡ 0
   pub uninterrupted : s.interrupted ≡ []
   pub budget : length deeds ≤ s.left
-  pub suit : AllByRecursion (Suits (ranges_of (length w.first) PORTS w.passes)) deeds
+  pub suit : AllByRecursion (IsActWithin (ranges_of (length w.first) PORTS w.passes)) deeds
 
 -- The pass's log is exactly what the acts came to that were told this, and it counts what they cancelled or found
 -- pending, and by whom they were cancelled.
-pub record HasRun (deeds : List Deed) (saids : List Said) (s : Holding) : Type 0 where
+pub record HasRun (deeds : List Action) (saids : List Said) (s : Holding) : Type 0 where
   pub answered : IsAnswered 0 deeds saids s.own
   pub cancelled : (victim : ℕ) → times victim s.cancelled ≡ times victim (cancelled_in deeds saids)
   pub pendings : s.pendings ≡ pendings_in saids
   pub interrupted : (script : ℕ) → times script (by_of s.interrupted) ≡ times script (interrupters_in saids)
 
 -- What the worker of this caller returns. If it didn't stop, its pass says of the script what that was told.
-pub record IsWork (w : Setting) (number : ℕ) (deeds : List Deed) (work : Work) : Type 0 where
+pub record IsWork (w : Setting) (number : ℕ) (deeds : List Action) (work : Work) : Type 0 where
   pub home : IsAtHome work.pass w
   pub same_caller : work.pass.caller ≡ number
   pub told : IfOk work.told (λ answers. HasRun deeds (map said_of answers.items) work.pass)
@@ -91,26 +91,26 @@ abbrev pub AreShort : ℕ → List (Vec Act) → Type 0
 AreShort most scripts = (i : ℕ) (d : Vec Act) → i < length scripts → length (slice_index_or scripts i d).items ≤ most
 
 -- the same, of scripts as lists
-abbrev pub AreNoLonger : ℕ → List (List Deed) → Type 0
-AreNoLonger most scripts = (i : ℕ) (t : List Deed) → i < length scripts → length (slice_index_or scripts i t) ≤ most
+abbrev pub AreNoLonger : ℕ → List (List Action) → Type 0
+AreNoLonger most scripts = (i : ℕ) (t : List Action) → i < length scripts → length (slice_index_or scripts i t) ≤ most
 
 -- how many acts the longest script has, and 1 if none has any: nothing less would do
-pub record IsBudget (scripts : List (List Deed)) (budget : ℕ) : Type 0 where
+pub record IsBudget (scripts : List (List Action)) (budget : ℕ) : Type 0 where
   pub some : 1 ≤ budget
   pub enough : AreNoLonger budget scripts
   pub least : (other : ℕ) → 1 ≤ other → AreNoLonger other scripts → budget ≤ other
 
 -- there is a pass for each script, of that budget, and both are ready for one another
-pub record AreReady (w : Setting) (scripts : List (List Deed)) (passes : List Holding) : Type 0 where
+pub record AreReady (w : Setting) (scripts : List (List Action)) (passes : List Holding) : Type 0 where
   pub count : length passes ≡ length scripts
   pub budget : (i : ℕ) (d : Holding) → i < length passes → IsBudget scripts (slice_index_or passes i d).left
-  pub each : (i : ℕ) (t : List Deed) (d : Holding) → i < length scripts
-      → IsReady w i (slice_index_or scripts i t) (slice_index_or passes i d)
+  pub each : (i : ℕ) (t : List Action) (d : Holding) → i < length scripts
+      → IsReadyToRun w i (slice_index_or scripts i t) (slice_index_or passes i d)
 
 -- a worker for each script returned what it came to
-pub record AreWorks (w : Setting) (scripts : List (List Deed)) (works : List Work) : Type 0 where
+pub record AreWorks (w : Setting) (scripts : List (List Action)) (works : List Work) : Type 0 where
   pub count : length works ≡ length scripts
-  pub each : (i : ℕ) (t : List Deed) (d : Work) → i < length scripts
+  pub each : (i : ℕ) (t : List Action) (d : Work) → i < length scripts
       → IsWork w i (slice_index_or scripts i t) (slice_index_or works i d)
 
 -- each worker's pass, and what its script was told: none of them stopped

@@ -2,11 +2,11 @@
 
 ghost use Rattle.std.specs.Prelude.{◌≢◌, ◌≤◌, length, map, IfOk};
 ghost use Rattle.ww_plain.specs.declared.node.TheConstants.{PORTS};
-ghost use Rattle.ww_script.specs.Acts.{deed_of, Suits};
+ghost use Rattle.ww_script.specs.Acts.{deed_of, IsActWithin};
 ghost use Rattle.ww_script.specs.Scripts.{ranges_of};
 ghost use Rattle.ww_lock.specs.Holding.{IsAtHome};
 ghost use Rattle.ww_script.specs.Said.{said_of};
-ghost use Rattle.ww_run.specs.Workers.{IsAnswerTo, IsAfter, IsTold, IsReady, IsWork};
+ghost use Rattle.ww_run.specs.Workers.{IsAnswerTo, IsAfter, IsSaidBy, IsReadyToRun, IsWork};
 
 use std::alloc::{AllocError, Global};
 use std::snapshot::Snapshot;
@@ -59,11 +59,11 @@ fn carry_out<R: Wait, G: Gate>(
     act: Act,
 ) -> (Pass, Result<ScriptAnswer, AllocError>)
     requires home { IsAtHome pass world.now }
-    requires suits { Suits (ranges_of (length world.now.first) PORTS world.now.passes) (deed_of act) }
+    requires suits { IsActWithin (ranges_of (length world.now.first) PORTS world.now.passes) (deed_of act) }
     requires budget { 1 ≤ pass.left }
     ensures home { IsAtHome result.0 world.now }
     ensures after { IsAfter pass result.0 }
-    ensures told { IfOk result.1 (λ answer. IsTold pass (deed_of act) (said_of answer) result.0) }
+    ensures told { IfOk result.1 (λ answer. IsSaidBy pass (deed_of act) (said_of answer) result.0) }
 {
     match act {
         Act::Do(txn) => {
@@ -90,7 +90,7 @@ pub(crate) fn run_script<R: Wait, G: Gate>(
     gate: &G,
     acts: Vec<Act>,
 ) -> Work
-    requires { IsReady world.now pass.caller (map deed_of acts.items) pass }
+    requires { IsReadyToRun world.now pass.caller (map deed_of acts.items) pass }
     ensures { IsWork world.now pass.caller (map deed_of acts.items) result }
 {
     let Ok(mut answers) = Vec::with_capacity(alloc, acts.len()) else {

@@ -8,7 +8,7 @@ ghost use Rattle.ww_lock.specs.Holding.{AreAtHome};
 ghost use Rattle.ww_lock.specs.Closed.{missing_of, IsClosed};
 ghost use Rattle.ww_run.specs.declared.workers.RunFault.TheVariants.{NoMemory};
 ghost use Rattle.ww_script.specs.Acts.{deed_of};
-ghost use Rattle.ww_run.specs.Workers.{IsReady, IsWork, AreShort, AreReady, AreWorks, AreParted};
+ghost use Rattle.ww_run.specs.Workers.{IsReadyToRun, IsWork, AreShort, AreReady, AreWorks, AreParted};
 
 use crate::worker::{Work, WorkOf, run_script};
 use std::alloc::{AllocError, AllocFailed, Global};
@@ -108,7 +108,7 @@ fn work<R: Threads + Wait + Sync, G: Gate + Sync>(
                 let started = scope.spawn_with(
                     promise,
                     move || -> Work
-                        requires { IsReady world.now pass.caller (map deed_of acts.items) pass }
+                        requires { IsReadyToRun world.now pass.caller (map deed_of acts.items) pass }
                         ensures { IsWork world.entry.now pass.caller (map deed_of acts.items) result }
                     { run_script(rt, alloc, world, pass, gate, acts) },
                 );

@@ -9,7 +9,7 @@ use Rattle.ww_json.specs.Parts.{each, counted, ranged, array, below, member, onl
 use Rattle.ww_json.specs.Kinds.{kind_in}
 use Rattle.ww_json.proofs.Kept.{bind_ok, done, ok_is, either_kept, each_kept, below_kept, ranged_kept, counted_kept}
 use Rattle.ww_schedule.specs.Events.{seat_of, both_of, alone, both, event_with, event_from, event_in}
-use Rattle.ww_schedule.specs.Schedules.{Timetable, IsThere, AreEvents, IsTimetable, events_in, timetable_in}
+use Rattle.ww_schedule.specs.Schedules.{Timetable, NamesWhatIsThere, AreEvents, IsTimetable, events_in, timetable_in}
 
 -- ---- events
 
@@ -48,10 +48,10 @@ pair_event_kept P event seats limit ds x h e =
     subst P (ok_is (event p.0.0 p.0.1) x p.2) (h p.0.0 p.0.1 b.0 b.1)
 
 event_with_kept : (seats locks : ℕ) (word : List ℕ) (ds : List Data) (x : Event)
-    → event_with seats locks word ds ≡ Ok x → IsThere seats locks x
+    → event_with seats locks word ds ≡ Ok x → NamesWhatIsThere seats locks x
 unfolding event_with
 event_with_kept seats locks word ds x e =
-    let P = IsThere seats locks in
+    let P = NamesWhatIsThere seats locks in
     either_kept P (bytes_eq word (codes "begin")) _ _ x (alone_kept P Begin seats ds x (λ s a. a))
     (either_kept P (bytes_eq word (codes "clear")) _ _ x (alone_kept P Clear seats ds x (λ s a. a))
     (either_kept P (bytes_eq word (codes "fast")) _ _ x (pair_event_kept P Fast seats locks ds x (λ s n a b. (a, b)))
@@ -71,13 +71,13 @@ event_with_kept seats locks word ds x e =
     (either_kept P (bytes_eq word (codes "leave")) _ _ x
     (pair_event_kept P Leave seats locks ds x (λ s n a b. (a, b))) (λ none. absurd cc))))))))))))))))) e
 
-event_from_kept : (seats locks : ℕ) (ds : List Data) (x : Event) → event_from seats locks ds ≡ Ok x → IsThere seats locks x
+event_from_kept : (seats locks : ℕ) (ds : List Data) (x : Event) → event_from seats locks ds ≡ Ok x → NamesWhatIsThere seats locks x
 event_from_kept seats locks [] x e = absurd cc
 event_from_kept seats locks (d ∷ ds) x e =
     let w = bind_ok (text d) (λ word. event_with seats locks word ds) x e in
     event_with_kept seats locks w.0 ds x w.2
 
-event_kept : (seats locks : ℕ) (d : Data) (x : Event) → event_in seats locks d ≡ Ok x → IsThere seats locks x
+event_kept : (seats locks : ℕ) (d : Data) (x : Event) → event_in seats locks d ≡ Ok x → NamesWhatIsThere seats locks x
 unfolding event_in
 event_kept seats locks d x e =
     let a = bind_ok (array d) (event_from seats locks) x e in
@@ -90,7 +90,7 @@ unfolding events_in
 events_kept seats locks d es e =
     let a = bind_ok (counted 0 10000 d) (λ ds. each (event_in seats locks) ds) es e in
     let c = counted_kept 0 10000 d a.0 a.1 in
-    let p = each_kept (IsThere seats locks) (event_in seats locks) a.0 es (event_kept seats locks) a.2 in
+    let p = each_kept (NamesWhatIsThere seats locks) (event_in seats locks) a.0 es (event_kept seats locks) a.2 in
     record { few = omega (arith, c.1, p.1); there = p.0 }
 
 pub timetable_kept : (members : ℕ) (d : Data) (t : Timetable) → timetable_in members d ≡ Ok t → IsTimetable t

@@ -6,7 +6,7 @@ use Rattle.ww_model.specs.declared.event.Event.TheVariants.{Begin, Clear, Fast, 
 use Rattle.ww_json.specs.Spelling.{list, whole}
 use Rattle.ww_json.proofs.Said.{below_said, ranged_said, counted_said, each_said, kind_said}
 use Rattle.ww_schedule.specs.Events.{alone, both, event_with, event_in}
-use Rattle.ww_schedule.specs.Schedules.{Timetable, IsThere, AreEvents, IsTimetable, events_in, timetable_in}
+use Rattle.ww_schedule.specs.Schedules.{Timetable, NamesWhatIsThere, AreEvents, IsTimetable, events_in, timetable_in}
 use Rattle.ww_schedule.specs.Spelling.{event_data, timetable_data}
 
 alone_said : (event : ℕ → Event) (seats s : ℕ) → s < seats → alone event seats (whole s ∷ []) ≡ Ok (event s)
@@ -16,7 +16,7 @@ both_said : (event : ℕ → ℕ → Event) (seats limit s n : ℕ) → (s < sea
     → both event seats limit (whole s ∷ whole n ∷ []) ≡ Ok (event s n)
 both_said event seats limit s n lt = rw (below_said seats s lt.0, below_said limit n lt.1) refl
 
-event_said : (seats locks : ℕ) (e : Event) → IsThere seats locks e → event_in seats locks (event_data e) ≡ Ok e
+event_said : (seats locks : ℕ) (e : Event) → NamesWhatIsThere seats locks e → event_in seats locks (event_data e) ≡ Ok e
 unfolding event_in event_with
 event_said seats locks (Begin s) there = alone_said Begin seats s there
 event_said seats locks (Clear s) there = alone_said Clear seats s there
@@ -43,7 +43,7 @@ events_said seats locks es are =
     let most : length (map event_data es) ≤ 10000 = omega (arith, are.few) in
     rw (
       counted_said 0 10000 (map event_data es) (omega arith) most,
-      each_said (IsThere seats locks) event_data
+      each_said (NamesWhatIsThere seats locks) event_data
           (event_in seats locks) es (event_said seats locks) are.there,
     ) refl
 

@@ -25,29 +25,29 @@ abbrev pub timetable_of : Kind → ℕ → ℕ → Vec Event → Timetable
 timetable_of kind locks seats events = record { kind = kind; locks = locks; seats = seats; events = events.items }
 
 -- the seats and the lock that the event names are there
-abbrev pub IsThere : ℕ → ℕ → Event → Type 0
-IsThere seats locks (Begin s) = s < seats
-IsThere seats locks (Clear s) = s < seats
-IsThere seats locks (Fast s n) = (s < seats) × (n < locks)
-IsThere seats locks (FastGive s n) = (s < seats) × (n < locks)
-IsThere seats locks (Guard s n) = (s < seats) × (n < locks)
-IsThere seats locks (Join s n) = (s < seats) × (n < locks)
-IsThere seats locks (Sign s v) = (s < seats) × (v < seats)
-IsThere seats locks (Take s n) = (s < seats) × (n < locks)
-IsThere seats locks (Ask s n) = (s < seats) × (n < locks)
-IsThere seats locks (Give s n) = (s < seats) × (n < locks)
-IsThere seats locks (Die s n) = (s < seats) × (n < locks)
-IsThere seats locks (Unguard s n) = (s < seats) × (n < locks)
-IsThere seats locks (Commit s) = s < seats
-IsThere seats locks (End s) = s < seats
-IsThere seats locks (Cancel s v) = (s < seats) × (v < seats)
-IsThere seats locks (Heed s n) = (s < seats) × (n < locks)
-IsThere seats locks (Leave s n) = (s < seats) × (n < locks)
+abbrev pub NamesWhatIsThere : ℕ → ℕ → Event → Type 0
+NamesWhatIsThere seats locks (Begin s) = s < seats
+NamesWhatIsThere seats locks (Clear s) = s < seats
+NamesWhatIsThere seats locks (Fast s n) = (s < seats) × (n < locks)
+NamesWhatIsThere seats locks (FastGive s n) = (s < seats) × (n < locks)
+NamesWhatIsThere seats locks (Guard s n) = (s < seats) × (n < locks)
+NamesWhatIsThere seats locks (Join s n) = (s < seats) × (n < locks)
+NamesWhatIsThere seats locks (Sign s v) = (s < seats) × (v < seats)
+NamesWhatIsThere seats locks (Take s n) = (s < seats) × (n < locks)
+NamesWhatIsThere seats locks (Ask s n) = (s < seats) × (n < locks)
+NamesWhatIsThere seats locks (Give s n) = (s < seats) × (n < locks)
+NamesWhatIsThere seats locks (Die s n) = (s < seats) × (n < locks)
+NamesWhatIsThere seats locks (Unguard s n) = (s < seats) × (n < locks)
+NamesWhatIsThere seats locks (Commit s) = s < seats
+NamesWhatIsThere seats locks (End s) = s < seats
+NamesWhatIsThere seats locks (Cancel s v) = (s < seats) × (v < seats)
+NamesWhatIsThere seats locks (Heed s n) = (s < seats) × (n < locks)
+NamesWhatIsThere seats locks (Leave s n) = (s < seats) × (n < locks)
 
 -- at most 10,000 events, whose numbers are those of the seats and locks
 pub record AreEvents (seats locks : ℕ) (events : List Event) : Type 0 where
   pub few : length events ≤ 10000
-  pub there : AllByRecursion (IsThere seats locks) events
+  pub there : AllByRecursion (NamesWhatIsThere seats locks) events
 
 -- 1 to 64 locks, 1 to 16 seats, and their events
 pub record IsTimetable (t : Timetable) : Type 0 where

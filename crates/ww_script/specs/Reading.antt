@@ -11,22 +11,22 @@ use Rattle.ww_script.specs.declared.input.Input.TheVariants as input
 use Rattle.ww_json.specs.Parts.{◌>>=◌, size, member}
 use Rattle.ww_script_parts.specs.declared.version.Version.{Version}
 use Rattle.ww_script_parts.specs.declared.version.Version.TheVariants.{One, Two}
-use Rattle.ww_script_parts.specs.Versions.{number_of}
+use Rattle.ww_script_parts.specs.Versions.{number_of_version}
 use Rattle.ww_script_parts.specs.Scripts.{IsPlan, plan_in}
 use Rattle.ww_schedule.specs.Schedules.{IsTimetable, timetable_in}
 
 -- the version of this number, where there is one
-abbrev pub numbered : Option ℕ → Result Version InputFault
-numbered None = Err BadVersion
-numbered (Some n) =
-    if n == number_of One then Ok One else if n == number_of Two then Ok Two else Err BadVersion
+abbrev pub version_numbered : Option ℕ → Result Version InputFault
+version_numbered None = Err BadVersion
+version_numbered (Some n) =
+    if n == number_of_version One then Ok One else if n == number_of_version Two then Ok Two else Err BadVersion
 
 -- the version, which is given by its number
 unfoldable pub version_in : Data → Result Version InputFault
 version_in d = do
   version ← member (codes "version") d
   n ← ok_or (as_number version) BadType
-  numbered (as_u64 n)
+  version_numbered (as_u64 n)
 
 -- what an object says as scripts
 abbrev pub as_scripts : Version → ℕ → Data → Result Input InputFault

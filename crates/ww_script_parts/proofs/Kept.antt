@@ -21,7 +21,7 @@ use Rattle.ww_script_parts.specs.declared.ranges.Ranges.{Ranges}
 use Rattle.ww_script_parts.specs.declared.version.Version.{Version}
 use Rattle.ww_script_parts.specs.declared.version.Version.TheVariants.{One, Two}
 use Rattle.ww_script_parts.specs.Versions.{ports_of, ArePorts}
-use Rattle.ww_script_parts.specs.Acts.{Deed, does, interruptible, cancels, TakesLocks, IsWithin, Suits, cancel_of, interruptible_of, worded, act_from, act_in}
+use Rattle.ww_script_parts.specs.Acts.{Action, does, interruptible, cancels, TakesLocks, IsWithin, IsActWithin, cancel_of, interruptible_of, worded, act_from, act_in}
 use Rattle.ww_script_parts.specs.Scripts.{Plan, IsPlan, IsScript, ranges_of, port_in, first_ports, ports_in, node_in, graph_in, script_in, scripts_in, plan_in}
 
 -- ---- transactions and acts
@@ -176,39 +176,39 @@ module _ (ranges : Ranges) (few : ranges.ports ≤ PORTS) where
 
   -- ---- acts
 
-  cancel_kept : (ds : List Data) (x : Deed) → cancel_of ranges.scripts ds ≡ Ok x → Suits ranges x
+  cancel_kept : (ds : List Data) (x : Action) → cancel_of ranges.scripts ds ≡ Ok x → IsActWithin ranges x
   cancel_kept [] x e = absurd cc
   cancel_kept (a ∷ []) x e =
-      let n = bind_ok (below ranges.scripts a) (λ n. let r : Result Deed InputFault = Ok (cancels n) in r) x e in
-      subst (Suits ranges) (ok_is (cancels n.0) x n.2) (below_kept ranges.scripts a n.0 n.1)
+      let n = bind_ok (below ranges.scripts a) (λ n. let r : Result Action InputFault = Ok (cancels n) in r) x e in
+      subst (IsActWithin ranges) (ok_is (cancels n.0) x n.2) (below_kept ranges.scripts a n.0 n.1)
   cancel_kept (a ∷ b ∷ ds) x e = absurd cc
 
-  interruptible_kept : (ds : List Data) (x : Deed) → interruptible_of ranges ds ≡ Ok x → Suits ranges x
+  interruptible_kept : (ds : List Data) (x : Action) → interruptible_of ranges ds ≡ Ok x → IsActWithin ranges x
   interruptible_kept [] x e = absurd cc
   interruptible_kept (a ∷ []) x e =
-      let t = bind_ok (locking_in ranges a) (λ t. let r : Result Deed InputFault = Ok (interruptible t) in r) x e in
-      subst (Suits ranges) (ok_is (interruptible t.0) x t.2) (locking_kept a t.0 t.1)
+      let t = bind_ok (locking_in ranges a) (λ t. let r : Result Action InputFault = Ok (interruptible t) in r) x e in
+      subst (IsActWithin ranges) (ok_is (interruptible t.0) x t.2) (locking_kept a t.0 t.1)
   interruptible_kept (a ∷ b ∷ ds) x e = absurd cc
 
-  does_kept : (word : List ℕ) (ds : List Data) (x : Deed)
-      → (transaction_worded ranges word ds >>= λ t. Ok (does t)) ≡ Ok x → Suits ranges x
+  does_kept : (word : List ℕ) (ds : List Data) (x : Action)
+      → (transaction_worded ranges word ds >>= λ t. Ok (does t)) ≡ Ok x → IsActWithin ranges x
   does_kept word ds x e =
-      let t = bind_ok (transaction_worded ranges word ds) (λ t. let r : Result Deed InputFault = Ok (does t) in r) x e in
-      subst (Suits ranges) (ok_is (does t.0) x t.2) (transaction_worded_kept word ds t.0 t.1)
+      let t = bind_ok (transaction_worded ranges word ds) (λ t. let r : Result Action InputFault = Ok (does t) in r) x e in
+      subst (IsActWithin ranges) (ok_is (does t.0) x t.2) (transaction_worded_kept word ds t.0 t.1)
 
-  worded_kept : (word : List ℕ) (ds : List Data) (x : Deed) → worded ranges word ds ≡ Ok x → Suits ranges x
+  worded_kept : (word : List ℕ) (ds : List Data) (x : Action) → worded ranges word ds ≡ Ok x → IsActWithin ranges x
   worded_kept word ds x e =
-      either_kept (Suits ranges) (bytes_eq word (codes "cancel")) _ _ x (cancel_kept ds x)
-      (either_kept (Suits ranges) (bytes_eq word (codes "interruptible")) _ _ x (interruptible_kept ds x)
+      either_kept (IsActWithin ranges) (bytes_eq word (codes "cancel")) _ _ x (cancel_kept ds x)
+      (either_kept (IsActWithin ranges) (bytes_eq word (codes "interruptible")) _ _ x (interruptible_kept ds x)
       (does_kept word ds x)) e
 
-  act_from_kept : (ds : List Data) (x : Deed) → act_from ranges ds ≡ Ok x → Suits ranges x
+  act_from_kept : (ds : List Data) (x : Action) → act_from ranges ds ≡ Ok x → IsActWithin ranges x
   act_from_kept [] x e = absurd cc
   act_from_kept (d ∷ ds) x e =
       let w = bind_ok (text d) (λ word. worded ranges word ds) x e in
       worded_kept w.0 ds x w.2
 
-  act_kept : (d : Data) (x : Deed) → act_in ranges d ≡ Ok x → Suits ranges x
+  act_kept : (d : Data) (x : Action) → act_in ranges d ≡ Ok x → IsActWithin ranges x
   unfolding act_in
   act_kept d x e =
       let a = bind_ok (array d) (act_from ranges) x e in
@@ -305,21 +305,21 @@ graph_kept version d ns e =
 
 -- ---- scripts
 
-script_kept : (ranges : Ranges) → ranges.ports ≤ PORTS → (d : Data) (xs : List Deed) → script_in ranges d ≡ Ok xs → IsScript ranges xs
+script_kept : (ranges : Ranges) → ranges.ports ≤ PORTS → (d : Data) (xs : List Action) → script_in ranges d ≡ Ok xs → IsScript ranges xs
 unfolding script_in
 script_kept ranges few d xs e =
     let a = bind_ok (counted 0 10000 d) (λ ds. each (act_in ranges) ds) xs e in
     let c = counted_kept 0 10000 d a.0 a.1 in
-    let p = each_kept (Suits ranges) (act_in ranges) a.0 xs (act_kept ranges few) a.2 in
+    let p = each_kept (IsActWithin ranges) (act_in ranges) a.0 xs (act_kept ranges few) a.2 in
     record { few = omega (arith, c.1, p.1); suit = p.0 }
 
 -- as many scripts as there may be, each of them one
-pub record AreScripts (nodes ports : ℕ) (scripts : List (List Deed)) : Type 0 where
+pub record AreScripts (nodes ports : ℕ) (scripts : List (List Action)) : Type 0 where
   pub some : 1 ≤ length scripts
   pub few : length scripts ≤ 16
   pub each : AllByRecursion (IsScript (ranges_of nodes ports (length scripts))) scripts
 
-pub scripts_kept : (nodes : ℕ) (version : Version) (d : Data) (ss : List (List Deed))
+pub scripts_kept : (nodes : ℕ) (version : Version) (d : Data) (ss : List (List Action))
     → scripts_in nodes (ports_of version) d ≡ Ok ss → AreScripts nodes (ports_of version) ss
 unfolding scripts_in
 scripts_kept nodes version d ss e =
@@ -350,10 +350,10 @@ plan_kept version members d plan e =
     let kind = bind_ok (kind_in k.0) _ plan o.2 in
     let history = bind_ok (boolean h.0) _ plan kind.2 in
     let graph = bind_ok (graph_in version n.0) _ plan history.2 in
-    let made : List (List Deed) → Plan = λ ss.
+    let made : List (List Action) → Plan = λ ss.
     record { kind = kind.0; history = history.0; ports = ports_of version; graph = graph.0; scripts = ss } in
     let ss = bind_ok (scripts_in (length graph.0) (ports_of version) s.0)
-    (λ (ss : List (List Deed)). let r : Result Plan InputFault = Ok (made ss) in r) plan graph.2 in
+    (λ (ss : List (List Action)). let r : Result Plan InputFault = Ok (made ss) in r) plan graph.2 in
     let all = scripts_kept (length graph.0) version s.0 ss.0 ss.1 in
     let g = graph_kept version n.0 graph.0 graph.1 in
     subst IsPlan (ok_is (made ss.0) plan ss.2)

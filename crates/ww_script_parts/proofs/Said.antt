@@ -19,7 +19,7 @@ use Rattle.ww_script_parts.specs.Transactions.{by_in, get_of, pair_in, add_of, m
 use Rattle.ww_script_parts.specs.declared.ranges.Ranges.{Ranges}
 use Rattle.ww_script_parts.specs.declared.version.Version.{Version}
 use Rattle.ww_script_parts.specs.Versions.{ports_of}
-use Rattle.ww_script_parts.specs.Acts.{Deed, does, interruptible, cancels, TakesLocks, IsWithin, Suits, act_in}
+use Rattle.ww_script_parts.specs.Acts.{Action, does, interruptible, cancels, TakesLocks, IsWithin, IsActWithin, act_in}
 use Rattle.ww_script_parts.specs.Scripts.{Plan, IsPlan, IsScript, ranges_of, port_in, ports_in, node_in, graph_in, script_in, scripts_in, plan_in}
 use Rattle.ww_script_parts.proofs.Kept.{few_ports}
 use Rattle.ww_script_parts.specs.Spelling.{by_word, target_data, node_data, pair_data, transaction_data, act_data, script_data, plan_data}
@@ -117,7 +117,7 @@ locking_said ranges (peek node) is locks = absurd locks
 -- ---- acts
 
 -- what an act is that does the transaction which was read, or the fault
-abbrev doing : Result Transaction InputFault → Result Deed InputFault
+abbrev doing : Result Transaction InputFault → Result Action InputFault
 doing r = r >>= λ t. Ok (does t)
 
 does_said : (ranges : Ranges) (t : Transaction) → IsWithin ranges t → act_in ranges (transaction_data t) ≡ Ok (does t)
@@ -130,7 +130,7 @@ does_said ranges (sum start port length) is = ap doing (sum_said ranges start po
 does_said ranges (reverse start port length) is = ap doing (reverse_said ranges start port length is)
 does_said ranges (peek node) is = ap doing (peek_said ranges.nodes node is.0)
 
-act_said : (ranges : Ranges) (x : Deed) → Suits ranges x → act_in ranges (act_data x) ≡ Ok x
+act_said : (ranges : Ranges) (x : Action) → IsActWithin ranges x → act_in ranges (act_data x) ≡ Ok x
 unfolding act_in
 act_said ranges (does t) suits = does_said ranges t suits
 act_said ranges (interruptible t) suits = ap (λ r. r >>= λ t. Ok (interruptible t)) (locking_said ranges t suits.0 suits.1)
@@ -211,18 +211,18 @@ graph_said version graph is unused =
 
 -- ---- scripts
 
-script_said : (ranges : Ranges) (xs : List Deed) → IsScript ranges xs → script_in ranges (script_data xs) ≡ Ok xs
+script_said : (ranges : Ranges) (xs : List Action) → IsScript ranges xs → script_in ranges (script_data xs) ≡ Ok xs
 unfolding script_in
 script_said ranges xs is =
     let n = length-map xs act_data in
     let most : length (map act_data xs) ≤ 10000 = omega (arith, is.few) in
     rw (
       counted_said 0 10000 (map act_data xs) (omega arith) most,
-      each_said (Suits ranges) act_data (act_in ranges)
+      each_said (IsActWithin ranges) act_data (act_in ranges)
           xs (act_said ranges) is.suit,
     ) refl
 
-scripts_said : (nodes ports : ℕ) (ss : List (List Deed)) → 1 ≤ length ss → length ss ≤ 16
+scripts_said : (nodes ports : ℕ) (ss : List (List Action)) → 1 ≤ length ss → length ss ≤ 16
     → AllByRecursion (IsScript (ranges_of nodes ports (length ss))) ss
     → scripts_in nodes ports (list (map script_data ss)) ≡ Ok ss
 unfolding scripts_in

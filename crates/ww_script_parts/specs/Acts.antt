@@ -11,12 +11,12 @@ use Rattle.ww_script_parts.specs.declared.acts.Act.TheVariants.{Do, Interruptibl
 use Rattle.ww_script_parts.specs.Transactions.{transaction_worded, locking_in}
 
 -- an `Act`, with what its transaction asks for
-pub data Deed : Type 0 where
-  does : Transaction → Deed
-  interruptible : Transaction → Deed
-  cancels : ℕ → Deed
+pub data Action : Type 0 where
+  does : Transaction → Action
+  interruptible : Transaction → Action
+  cancels : ℕ → Action
 
-abbrev pub deed_of : Act → Deed
+abbrev pub deed_of : Act → Action
 deed_of (Do txn) = does (transaction_of txn)
 deed_of (Interruptible txn) = interruptible (transaction_of txn)
 deed_of (Cancel script) = cancels script
@@ -31,39 +31,39 @@ abbrev pub IsWithin : Ranges → Transaction → Type 0
 IsWithin ranges txn = Fits ranges.nodes txn × NamesBelow ranges.ports txn
 
 -- what the act names is in range, and what may be cancelled takes locks
-abbrev pub Suits : Ranges → Deed → Type 0
-Suits ranges (does txn) = IsWithin ranges txn
-Suits ranges (interruptible txn) = IsWithin ranges txn × TakesLocks txn
-Suits ranges (cancels script) = script < ranges.scripts
+abbrev pub IsActWithin : Ranges → Action → Type 0
+IsActWithin ranges (does txn) = IsWithin ranges txn
+IsActWithin ranges (interruptible txn) = IsWithin ranges txn × TakesLocks txn
+IsActWithin ranges (cancels script) = script < ranges.scripts
 
 -- what follows the word `cancel`
-abbrev pub cancel_of : ℕ → List Data → Result Deed InputFault
+abbrev pub cancel_of : ℕ → List Data → Result Action InputFault
 cancel_of count (script ∷ []) = do
   s ← below count script
   Ok (cancels s)
 cancel_of count _ = Err BadWord
 
 -- what follows the word `interruptible`
-abbrev pub interruptible_of : Ranges → List Data → Result Deed InputFault
+abbrev pub interruptible_of : Ranges → List Data → Result Action InputFault
 interruptible_of ranges (txn ∷ []) = do
   t ← locking_in ranges txn
   Ok (interruptible t)
 interruptible_of ranges _ = Err BadWord
 
 -- what follows this word
-abbrev pub worded : Ranges → List ℕ → List Data → Result Deed InputFault
+abbrev pub worded : Ranges → List ℕ → List Data → Result Action InputFault
 worded ranges word members =
     if bytes_eq word (codes "cancel") then cancel_of ranges.scripts members
     else if bytes_eq word (codes "interruptible") then interruptible_of ranges members
     else (transaction_worded ranges word members >>= λ t. Ok (does t))
 
 -- a word, and then the members that it asks for
-abbrev pub act_from : Ranges → List Data → Result Deed InputFault
+abbrev pub act_from : Ranges → List Data → Result Action InputFault
 act_from ranges [] = Err BadWord
 act_from ranges (first ∷ members) = do
   word ← text first
   worded ranges word members
 
 -- an array that begins with a word
-unfoldable pub act_in : Ranges → Data → Result Deed InputFault
+unfoldable pub act_in : Ranges → Data → Result Action InputFault
 act_in ranges d = array d >>= act_from ranges

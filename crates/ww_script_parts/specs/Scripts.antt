@@ -17,7 +17,7 @@ use Rattle.ww_script_parts.specs.declared.acts.Act.{Act}
 use Rattle.ww_script_parts.specs.declared.ranges.Ranges.{Ranges}
 use Rattle.ww_script_parts.specs.declared.version.Version.{Version}
 use Rattle.ww_script_parts.specs.Versions.{ports_of, ArePorts}
-use Rattle.ww_script_parts.specs.Acts.{Deed, deed_of, Suits, act_in}
+use Rattle.ww_script_parts.specs.Acts.{Action, deed_of, IsActWithin, act_in}
 
 -- `Scripts`, with lists where they have vectors
 pub record Plan : Type 0 where
@@ -25,10 +25,10 @@ pub record Plan : Type 0 where
   pub history : Bool
   pub ports : ℕ
   pub graph : List Node
-  pub scripts : List (List Deed)
+  pub scripts : List (List Action)
 
 -- the scripts as lists
-abbrev pub script_lists : Vec (Vec Act) → List (List Deed)
+abbrev pub script_lists : Vec (Vec Act) → List (List Action)
 script_lists scripts = map (λ script. map deed_of script.items) scripts.items
 
 -- the plan of these fields of `Scripts`
@@ -37,9 +37,9 @@ plan_of kind history ports graph scripts =
     record { kind = kind; history = history; ports = ports; graph = graph; scripts = script_lists scripts }
 
 -- a script of at most 10,000 acts in range
-pub record IsScript (ranges : Ranges) (script : List Deed) : Type 0 where
+pub record IsScript (ranges : Ranges) (script : List Action) : Type 0 where
   pub few : length script ≤ 10000
-  pub suit : AllByRecursion (Suits ranges) script
+  pub suit : AllByRecursion (IsActWithin ranges) script
 
 -- so many nodes, ports of a node and scripts
 abbrev pub ranges_of : ℕ → ℕ → ℕ → Ranges
@@ -88,13 +88,13 @@ graph_in version d = do
   each (node_in version (length ds)) ds
 
 -- an array of at most 10,000 acts
-unfoldable pub script_in : Ranges → Data → Result (List Deed) InputFault
+unfoldable pub script_in : Ranges → Data → Result (List Action) InputFault
 script_in ranges d = do
   ds ← counted 0 10000 d
   each (act_in ranges) ds
 
 -- an array of 1 to 16 scripts, each of which may name any of them
-unfoldable pub scripts_in : ℕ → ℕ → Data → Result (List (List Deed)) InputFault
+unfoldable pub scripts_in : ℕ → ℕ → Data → Result (List (List Action)) InputFault
 scripts_in nodes ports d = do
   ds ← counted 1 16 d
   each (script_in (ranges_of nodes ports (length ds))) ds

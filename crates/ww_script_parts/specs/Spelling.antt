@@ -6,9 +6,9 @@ use Rattle.ww_plain.specs.declared.transaction.By.{By}
 use Rattle.ww_plain.specs.declared.transaction.By.TheVariants as by
 use Rattle.ww_plain.specs.Transaction.{Transaction, get, add, move, link, sum, reverse, peek}
 use Rattle.ww_json.specs.Spelling.{list, whole, kind_word}
-use Rattle.ww_script_parts.specs.Acts.{Deed, does, interruptible, cancels}
+use Rattle.ww_script_parts.specs.Acts.{Action, does, interruptible, cancels}
 use Rattle.ww_script_parts.specs.declared.version.Version.TheVariants.{One, Two}
-use Rattle.ww_script_parts.specs.Versions.{ports_of, number_of}
+use Rattle.ww_script_parts.specs.Versions.{ports_of, number_of_version}
 use Rattle.ww_script_parts.specs.Scripts.{Plan}
 
 -- the word for a way of taking many locks
@@ -47,18 +47,18 @@ transaction_data (reverse start port length) = course_data (codes "reverse") sta
 transaction_data (peek node) = list (string (codes "peek") ∷ whole node ∷ [])
 
 -- an act, with its word first
-abbrev pub act_data : Deed → Data
+abbrev pub act_data : Action → Data
 act_data (does txn) = transaction_data txn
 act_data (interruptible txn) = list (string (codes "interruptible") ∷ transaction_data txn ∷ [])
 act_data (cancels script) = list (string (codes "cancel") ∷ whole script ∷ [])
 
 -- a script
-abbrev pub script_data : List Deed → Data
+abbrev pub script_data : List Action → Data
 script_data script = list (map act_data script)
 
 -- the number of the version whose nodes have so many ports
 abbrev pub version_number : ℕ → ℕ
-version_number ports = number_of (if ports == ports_of One then One else Two)
+version_number ports = number_of_version (if ports == ports_of One then One else Two)
 
 -- the value of an input of scripts, with the keys in the order in which an object holds them
 abbrev pub plan_data : Plan → Data

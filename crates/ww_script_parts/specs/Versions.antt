@@ -10,9 +10,9 @@ ports_of One = 4
 ports_of Two = PORTS
 
 -- the number by which an input says its version
-abbrev pub number_of : Version → ℕ
-number_of One = 1
-number_of Two = 2
+abbrev pub number_of_version : Version → ℕ
+number_of_version One = 1
+number_of_version Two = 2
 
 -- a node of some version has so many ports
 abbrev pub ArePorts : ℕ → Type 0

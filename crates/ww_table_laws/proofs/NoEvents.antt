@@ -13,7 +13,7 @@ use Rattle.ww_rule.specs.Guards.{looking, glancing}
 use Rattle.ww_rule.specs.Signs.{noting}
 use Rattle.ww_rule.proofs.Moves as moves
 use Rattle.ww_rule.proofs.InsideMoves.{inside_low}
-use Rattle.ww_table_laws.specs.NoEvents.{read, IsNotedOnly, IsLostOnly}
+use Rattle.ww_table_laws.specs.NoEvents.{once_read, IsNotedOnly, IsLostOnly}
 
 module _ (key : Start) (s : St) (r : Ruled key s) (id : ℕ) (me : Sat) (here : get_elem? s.views id ≡ some me.0)
     (seated : me.0.seated ≡ true) where
@@ -21,19 +21,19 @@ module _ (key : Start) (s : St) (r : Ruled key s) (id : ℕ) (me : Sat) (here : 
   mine = moves.mine key s r id me here seated
 
   pub look_stays : (n : ℕ) (o : Owner) → me.0.part.core.inside ≡ suc n → IsValid o
-      → get_or s.words (lock_at key.locks n) 0 ≡ packed o → Stays key s r (read s (lock_at key.locks n) id me (looking me.0 o))
+      → get_or s.words (lock_at key.locks n) 0 ≡ packed o → Stays key s r (once_read s (lock_at key.locks n) id me (looking me.0 o))
   look_stays n o inside valid hit = moves.looks_on key s r id me here seated (lock_at key.locks n) (has_looked me.0.part.core o) refl (λ m. refl)
       (mine_look r.core me.0.part.core mine.part.knows n o inside
       (moves.found key s r id me here seated n o (inside_low key s r id me here seated n inside) valid hit))
 
-  pub glance_stays : (n : ℕ) → Stays key s r (read s (lock_at key.locks n) id me (glancing me.0))
+  pub glance_stays : (n : ℕ) → Stays key s r (once_read s (lock_at key.locks n) id me (glancing me.0))
   glance_stays n = moves.looks_on key s r id me here seated (lock_at key.locks n) (glanced me.0.part.core) refl (λ m. refl)
       (mine_glanced r.core me.0.part.core mine.part.knows)
 
-  pub owns_stays : (n : ℕ) → Stays key s r (read s (lock_at key.locks n) id me me.0)
+  pub owns_stays : (n : ℕ) → Stays key s r (once_read s (lock_at key.locks n) id me me.0)
   owns_stays n = moves.looks_on key s r id me here seated (lock_at key.locks n) me.0.part.core refl (λ m. refl) mine.part.knows
 
-  pub count_stays : Stays key s r (read s 0 id me (glancing me.0))
+  pub count_stays : Stays key s r (once_read s 0 id me (glancing me.0))
   count_stays = moves.looks_on key s r id me here seated 0 (glanced me.0.part.core) refl (λ m. refl)
       (mine_glanced r.core me.0.part.core mine.part.knows)
 
@@ -55,6 +55,6 @@ module _ (key : Start) (s : St) (r : Ruled key s) (id : ℕ) (me : Sat) (here : 
     others = moves.looks_on key s r id me here seated i (stepped v) refl (λ m. refl) (mine_stepped c v k);
   }
 
-  pub lost_sign_stays : (u : ℕ) → u < key.places → get_or s.words (lock_at key.locks key.locks + 8 * u) 0 ≢ 0 → Stays key s r (read s (lock_at key.locks key.locks + 8 * u) id me (noting me.0 u))
+  pub lost_sign_stays : (u : ℕ) → u < key.places → get_or s.words (lock_at key.locks key.locks + 8 * u) 0 ≢ 0 → Stays key s r (once_read s (lock_at key.locks key.locks + 8 * u) id me (noting me.0 u))
   lost_sign_stays u low isnt = moves.looks_on key s r id me here seated (lock_at key.locks key.locks + 8 * u) (noted me.0.part.core u) refl
       (λ m. refl) (mine_lost_sign r.core me.0.part.core mine.part.knows u (λ z. isnt (r.words.signs u low ∙ z)))

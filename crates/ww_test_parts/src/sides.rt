@@ -10,21 +10,21 @@ pub fn pause(yields: u32) {
     }
 }
 
-/// Gives the processor away once in a thousand turns: what is waited for is mostly near, and a processor that is given
+/// Gives the processor away once in a thousand rounds: what is waited for is mostly near, and a processor that is given
 /// away is long in coming back.
-pub fn rest(turn: u32) {
-    if turn % 1_000 == 999 {
+pub fn rest(round: u32) {
+    if round % 1_000 == 999 {
         thread::yield_now();
     }
 }
 
-/// Waits until others have brought a number so far, and returns whether they did within 2^32 - 1 turns.
+/// Waits until others have brought a number so far, and returns whether they did within 2^32 - 1 rounds.
 pub fn is_reached(number: &AtomicU64, wanted: u64) -> bool {
-    for turn in 0..u32::MAX {
+    for round in 0..u32::MAX {
         if number.load(Ordering::SeqCst) >= wanted {
             return true;
         }
-        rest(turn);
+        rest(round);
     }
     false
 }
@@ -68,7 +68,7 @@ impl<'a> Sides<'a> {
         self.other.stamp.load(Ordering::SeqCst)
     }
 
-    /// Waits until the other thread has come as often as this one, and returns whether it has within 2^32 - 1 turns.
+    /// Waits until the other thread has come as often as this one, and returns whether it has within 2^32 - 1 rounds.
     pub fn meet(&self) -> bool {
         let times = self.own.come.load(Ordering::SeqCst).wrapping_add(1);
         self.own.come.store(times, Ordering::SeqCst);

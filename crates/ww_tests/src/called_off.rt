@@ -3,7 +3,7 @@
 ghost use Rattle.std.specs.Prelude.{◌≡◌, ◌<◌, length, Err, IsTrue, IfOk, IfErr};
 ghost use Rattle.ww_plain.specs.Numbers.{is_among};
 ghost use Rattle.ww_lock.specs.Holding.{IsAtHome};
-ghost use Rattle.ww_users.specs.Turns.{IsHaltingTurn};
+ghost use Rattle.ww_users.specs.Rounds.{IsHaltingRound};
 
 use crate::locks::{begun, closed, locked};
 use crate::transactions::counted;
@@ -257,7 +257,7 @@ fn both<R: Wait>(
         requires home { IsAtHome acquiring world.now }
         requires one { one < length world.now.first }
         requires other { other < length world.now.first }
-        ensures turn { IsHaltingTurn acquiring result }
+        ensures round { IsHaltingRound acquiring result }
         ensures held { IfOk result (λ a. IsTrue (is_among other a.held)) }
     {
         let acquiring = acquiring.lock_interruptible(rt, world, one).going_on()?;

@@ -17,11 +17,11 @@ use ww_plain::{By, Graph, Reply, Txn, replays};
 use ww_queue::Kind;
 use ww_scope::run_crew;
 use ww_test_parts::{KINDS, add, graph_of, is_possible, is_possible_alone};
-use ww_transfer::{Refusal, transfer};
+use ww_transfer::{TransferFault, transfer};
 use ww_txn::TxnFault;
 
 /// How many transactions each of two passes makes that take turns.
-const TURNS: u32 = 100;
+const ROUNDS: u32 = 100;
 
 /// A graph of nodes with these values. Where a growth is refused, it is made once more.
 fn nodes_of(alloc: Global, nodes: &[(u64, Option<u8>)]) -> Result<Graph, AllocError> {
@@ -338,7 +338,7 @@ fn take_turns<R: Wait + Abort>(
     ensures one { IfOk result (λ r. IsAtHome r.1 world.now) }
 {
     let (up, down) = ([(0, 1), (1, 1)], [(1, 1), (0, 1)]);
-    for _ in 0..TURNS {
+    for _ in 0..ROUNDS {
         zero = made(
             rt,
             world,
@@ -376,7 +376,7 @@ fn both(alloc: Global, _world: &World, zero: Pass, one: Pass) -> Result<Vec<Pass
 
 /// What two passes made of this graph of two nodes.
 fn made_in_turns<R: Wait + Abort>(rt: &R, alloc: Global, graph: Graph) -> Result<History, Fail> {
-    let (world, mut passes) = opened(rt, alloc, Kind::WaitDie, graph, 2, TURNS + 1);
+    let (world, mut passes) = opened(rt, alloc, Kind::WaitDie, graph, 2, ROUNDS + 1);
     let (Some(one), Some(zero)) = (passes.pop(), passes.pop()) else {
         return Err(Fail::from("there are two passes"));
     };
@@ -415,7 +415,7 @@ fn moved<R: Wait>(rt: &R, world: &World, pass: Pass) -> (Pass, bool)
         return (pass, false);
     }
     let (pass, told) = match transfer(rt, world, pass, 0, 1, 1) {
-        (pass, Err(Refusal::NoMemory)) => transfer(rt, world, pass, 0, 1, 1),
+        (pass, Err(TransferFault::NoMemory)) => transfer(rt, world, pass, 0, 1, 1),
         told => told,
     };
     (

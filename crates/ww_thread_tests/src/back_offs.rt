@@ -5,7 +5,7 @@
 
 ghost use Rattle.std.specs.Prelude.{◌≡◌, length};
 ghost use Rattle.ww_lock.specs.Holding.{IsAtHome};
-ghost use Rattle.ww_users.specs.Turns.{IsHaltingTurn};
+ghost use Rattle.ww_users.specs.Rounds.{IsHaltingRound};
 
 use std::alloc::Global;
 use std::process::Abort;
@@ -24,7 +24,7 @@ use ww_users::{
 };
 
 /// How often the younger may come too late, since it hadn't run when the older one looked for it.
-const TURNS: u32 = 1_000;
+const ROUNDS: u32 = 1_000;
 
 /// For how many yields more than the time before the older one waits for it each time.
 const YIELDS: u32 = 100;
@@ -48,7 +48,7 @@ const WAYS: [Way; 5] = [
 ];
 
 /// Takes both nodes in the rounds of a body.
-fn in_turns<R: Wait>(rt: &R, world: &World, pass: Pass) -> Result<(), UserFault>
+fn in_rounds<R: Wait>(rt: &R, world: &World, pass: Pass) -> Result<(), UserFault>
     requires home { IsAtHome pass world.now }
     requires size { length world.now.first ≡ 3 }
 {
@@ -58,7 +58,7 @@ fn in_turns<R: Wait>(rt: &R, world: &World, pass: Pass) -> Result<(), UserFault>
     let body = |acquiring: Acquiring|
         requires home { IsAtHome acquiring world.now }
         requires size { length world.now.first ≡ 3 }
-        ensures turn { IsHaltingTurn acquiring result }
+        ensures round { IsHaltingRound acquiring result }
     {
         let acquiring = acquiring.lock_interruptible(rt, world, 0).going_on()?;
         acquiring.lock_interruptible(rt, world, 1).going_on()
@@ -93,7 +93,7 @@ fn takes<R: Wait>(rt: &R, world: &World, pass: Pass, way: Way) -> Result<(), Use
         Way::List => lock_list_interruptible(world, pass, rt, &[0, 1]),
         Way::Order => lock_order_interruptible(world, pass, rt, &[0, 1]),
         Way::Walk => lock_walk_interruptible(world, pass, rt, 0, 0, 2),
-        Way::Body => return in_turns(rt, world, pass),
+        Way::Body => return in_rounds(rt, world, pass),
         Way::Transaction => return in_a_call(rt, world, pass),
     };
     match locked {
@@ -206,8 +206,8 @@ fn is_called_off<R: Threads + Wait + Abort + Sync>(
 
 /// Tries until the younger has node 0 in time.
 fn in_time<R: Threads + Wait + Abort + Sync>(rt: &R, alloc: Global, way: Way) -> Result<(), Fail> {
-    for turn in 1..=TURNS {
-        if is_called_off(rt, alloc, way, turn.saturating_mul(YIELDS))? {
+    for round in 1..=ROUNDS {
+        if is_called_off(rt, alloc, way, round.saturating_mul(YIELDS))? {
             return Ok(());
         }
     }

@@ -105,14 +105,14 @@ fn looks<R: Wait + Abort>(rt: &R, world: &World, mut pass: Pass, stage: &AtomicU
 {
     assert!(rt; world.size() > 1);
     let is_third = is_reached(stage, CUTTER_HAS_BEGUN);
-    for turn in 0..TRIES {
+    for round in 0..TRIES {
         let (next, told) = tries(rt, world, pass, 1);
         assert!(rt; told.is_some());
         pass = next;
         if told == Some(true) {
             break;
         }
-        rest(turn);
+        rest(round);
     }
     stage.store(WALK_IS_AWAY, Ordering::SeqCst);
     (pass, is_third)

@@ -4,7 +4,7 @@
 ghost use Rattle.std.specs.Prelude.{◌≡◌, ◌<◌, length, IsTrue, IfOk, IfErr};
 ghost use Rattle.ww_plain.specs.Numbers.{is_among};
 ghost use Rattle.ww_lock.specs.Holding.{IsAtHome};
-ghost use Rattle.ww_users.specs.Turns.{IsTurn};
+ghost use Rattle.ww_users.specs.Rounds.{IsRound};
 
 use std::alloc::{AllocError, Global};
 use std::process::Abort;
@@ -46,7 +46,7 @@ fn both<R: Wait>(rt: &R, world: &World, acquiring: Acquiring, one: u8, other: u8
         requires home { IsAtHome acquiring world.now }
         requires one { one < length world.now.first }
         requires other { other < length world.now.first }
-        ensures turn { IsTurn acquiring result }
+        ensures round { IsRound acquiring result }
         ensures held { IfOk result (λ a. IsTrue (is_among other a.held)) }
     {
         let acquiring = acquiring.lock(rt, world, one).going_on()?;

@@ -5,7 +5,7 @@ use Rattle.ww_plain.specs.Transaction.{Transaction}
 use Rattle.ww_plain.specs.Meaning.{answer_of}
 use Rattle.ww_lock.specs.declared.prepared.Receipt.{Receipt}
 use Rattle.ww_lock.specs.Holding.{Holding}
-use Rattle.ww_users.specs.Turns.{KeepsContext}
+use Rattle.ww_users.specs.Rounds.{KeepsContext}
 
 -- it is the same context, and holds what it held, and this node
 pub record IsLockedMore (s : Holding) (n : ℕ) (a : Holding) : Type 0 where

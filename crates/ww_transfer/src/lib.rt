@@ -5,7 +5,7 @@ ghost use Rattle.std.specs.Prelude.{◌≡◌, ◌≢◌, ◌<◌, length, IfOk,
 ghost use Rattle.ww_plain.specs.Transaction.{move};
 ghost use Rattle.ww_lock.specs.Holding.{IsAtHome};
 ghost use Rattle.ww_lock.specs.Moves.{backed_off, having_slept};
-ghost use Rattle.ww_users.specs.Turns.{KeepsContext, IsTurn};
+ghost use Rattle.ww_users.specs.Rounds.{KeepsContext, IsRound};
 ghost use Rattle.ww_transfer.specs.Caller.{IsLockedMore, HasBoth, HasRecord};
 
 use std::sync::Wait;
@@ -16,7 +16,7 @@ use ww_users::lock_until;
 
 /// Why nothing was moved, and nothing recorded.
 #[derive(Clone, Copy, Debug, PartialEq, Eq, Drop, Error)]
-pub enum Refusal {
+pub enum TransferFault {
     /// The pass has no context left to start.
     #[error("the pass has no context left to start")]
     Spent,
@@ -34,7 +34,7 @@ pub fn transfer<R: Wait>(
     from: u8,
     to: u8,
     amount: u64,
-) -> (Pass, Result<Receipt, Refusal>)
+) -> (Pass, Result<Receipt, TransferFault>)
     requires home { IsAtHome pass world.now }
     requires from { from < length world.now.first }
     requires to { to < length world.now.first }
@@ -46,12 +46,12 @@ pub fn transfer<R: Wait>(
 {
     let acquiring = match pass.begin(world) {
         Ok(acquiring) => acquiring,
-        Err(pass) => return (pass, Err(Refusal::Spent)),
+        Err(pass) => return (pass, Err(TransferFault::Spent)),
     };
     let mut done = lock_both(rt, world, acquiring, from, to).done();
     let Ok(prepared) = done.prepare(world, Txn::Move(from, to, amount)) else {
         let pass = done.unlock_all(rt, world).fini(world);
-        return (pass, Err(Refusal::NoMemory));
+        return (pass, Err(TransferFault::NoMemory));
     };
     let (committed, receipt) = done.commit(world, prepared);
     let pass = committed.unlock_all(rt, world).fini(world);
@@ -71,7 +71,7 @@ fn lock_both<R: Wait>(rt: &R, world: &World, acquiring: Acquiring, from: u8, to:
         requires home { IsAtHome acquiring world.now }
         requires from { from < length world.now.first }
         requires to { to < length world.now.first }
-        ensures turn { IsTurn acquiring result }
+        ensures round { IsRound acquiring result }
         ensures both { IfOk result (HasBoth from to) }
     { lock_in_turn(rt, world, acquiring, from, to) };
     lock_until(rt, world, acquiring, body)
@@ -88,7 +88,7 @@ fn lock_in_turn<R: Wait>(
     requires home { IsAtHome acquiring world.now }
     requires from { from < length world.now.first }
     requires to { to < length world.now.first }
-    ensures turn { IsTurn acquiring result }
+    ensures round { IsRound acquiring result }
     ensures both { IfOk result (HasBoth from to) }
 {
     let acquiring = lock_one(rt, world, acquiring, from)?;

@@ -14,7 +14,7 @@ use Rattle.ww_users.specs.declared.fault.UserFault.{UserFault}
 use Rattle.ww_users.specs.declared.fault.UserFault.TheVariants.{PassSpent, Already, Interrupted}
 use Rattle.ww_users.specs.Ways.{HoldsList, IsWayAnswer}
 use Rattle.ww_users.proofs.Alongs.{all_among}
-use Rattle.ww_txn.specs.Transact.{IsReady}
+use Rattle.ww_txn.specs.Transact.{HoldsFootprint}
 
 -- ---- what it gives
 
@@ -45,7 +45,7 @@ all_mapped P f [] all = tt
 all_mapped P f (x ∷ xs) all = (all.0, all_mapped P f xs all.1)
 
 -- whoever holds just the nodes that a transaction lists is ready for it, where those are all that it depends on and may change
-pub ready : (txn : Transaction) (a : Holding) → footprint_of a.seen txn ≡ distinct_of (listed txn) → HoldsList (listed txn) a → IsReady txn a
+pub ready : (txn : Transaction) (a : Holding) → footprint_of a.seen txn ≡ distinct_of (listed txn) → HoldsList (listed txn) a → HoldsFootprint txn a
 ready txn a names h = (
   h.1,
   rw names (all_among (λ n. is_among n a.held ≡ true) (distinct_of (listed txn))

@@ -26,7 +26,7 @@ abbrev pub Deciding : Type 1
 Deciding = List ℕ → Option Txn → Type 0
 
 -- the transaction fits these nodes, names no node twice, and the list has all that it depends on and may change
-pub record IsServed (list : List ℕ) (seen : List Node) (txn : Transaction) : Type 0 where
+pub record IsAnswerable (list : List ℕ) (seen : List Node) (txn : Transaction) : Type 0 where
   pub fits : Fits (length seen) txn
   pub no_double : HasNoDouble txn
   pub covers : AllByRecursion (λ n. IsTrue (is_among n list)) (footprint_of seen txn)
@@ -35,14 +35,14 @@ pub record IsServed (list : List ℕ) (seen : List Node) (txn : Transaction) : T
 pub record IsDecided (Decides : Deciding) (list : List ℕ) (d : Holding) (p : Change) : Type 0 where
   pub txn : Txn
   pub decided : Decides (values_of d.seen list) (Some txn)
-  pub served : IsServed list d.seen (transaction_of txn)
+  pub served : IsAnswerable list d.seen (transaction_of txn)
   pub made : IsMadeOf d p (transaction_of txn)
 
 -- why nothing was prepared, once the nodes were held as they were seen
 abbrev pub IsUndecided : Deciding → List ℕ → List Node → ChangeFault → Type 0
 IsUndecided Decides list seen Declined = Decides (values_of seen list) None
-IsUndecided Decides list seen (NotServed txn) = Decides (values_of seen list) (Some txn) × (IsServed list seen (transaction_of txn) → ⊥)
-IsUndecided Decides list seen NoMemory = (txn : Txn) × Decides (values_of seen list) (Some txn) × IsServed list seen (transaction_of txn)
+IsUndecided Decides list seen (NotServed txn) = Decides (values_of seen list) (Some txn) × (IsAnswerable list seen (transaction_of txn) → ⊥)
+IsUndecided Decides list seen NoMemory = (txn : Txn) × Decides (values_of seen list) (Some txn) × IsAnswerable list seen (transaction_of txn)
 IsUndecided Decides list seen _ = ⊥
 
 -- what is decided on the values of the nodes that this state holds, or why nothing is
@@ -52,11 +52,11 @@ IsDecision Decides list d (Err fault) = IsUndecided Decides list d.seen fault
 
 -- Exactly one record more: that of the transaction that was answered to the values of the listed nodes, as they were when
 -- they were locked. One context more was begun.
-pub record IsChanged (Decides : Deciding) (s : Holding) (list : List ℕ) (a : Holding) (told : Receipt) : Type 0 where
+pub record IsDecidedBy (Decides : Deciding) (s : Holding) (list : List ℕ) (a : Holding) (told : Receipt) : Type 0 where
   pub no_double : FirstDouble list None
   pub txn : Txn
   pub decided : Decides (values_of a.seen list) (Some txn)
-  pub served : IsServed list a.seen (transaction_of txn)
+  pub served : IsAnswerable list a.seen (transaction_of txn)
   pub answer : answer_of told.reply ≡ answer_to a.seen (transaction_of txn)
   pub recorded : IsRecorded s 1 (transaction_of txn) a told
 
@@ -68,5 +68,5 @@ IsChangeFault Decides s list a fault = FirstDouble list None × IsReturned s 1 a
 
 -- what becomes of a transaction that is decided on under its locks
 abbrev pub IsChangeAnswer : Deciding → Holding → List ℕ → Holding → Result Receipt ChangeFault → Type 0
-IsChangeAnswer Decides s list a (Ok told) = IsChanged Decides s list a told
+IsChangeAnswer Decides s list a (Ok told) = IsDecidedBy Decides s list a told
 IsChangeAnswer Decides s list a (Err fault) = IsChangeFault Decides s list a fault

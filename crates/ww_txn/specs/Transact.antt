@@ -10,8 +10,8 @@ use Rattle.ww_lock.specs.Making.{Covers}
 use Rattle.ww_users.specs.declared.fault.UserFault.{UserFault}
 use Rattle.ww_users.specs.declared.fault.UserFault.TheVariants as user
 use Rattle.ww_users.specs.Ways.{IsReturned, IsCalledOff}
-use Rattle.ww_txn.specs.declared.telling.Stage.{Stage}
-use Rattle.ww_txn.specs.declared.telling.Stage.TheVariants.{Untold, Answered}
+use Rattle.ww_txn.specs.declared.telling.GateCalls.{GateCalls}
+use Rattle.ww_txn.specs.declared.telling.GateCalls.TheVariants.{Untold, Answered}
 use Rattle.ww_txn.specs.declared.transacting.TxnFault.{TxnFault}
 use Rattle.ww_txn.specs.declared.transacting.TxnFault.TheVariants.{PassSpent, Already, Interrupted, NoMemory}
 
@@ -59,7 +59,7 @@ IsTxnAnswer waits s txn a (Ok told) = IsTransacted s a txn told
 IsTxnAnswer waits s txn a (Err fault) = IsTxnFault waits s txn a fault
 
 -- a gate was told of a transaction to its end, or not at all
-abbrev pub stage_of : Result Receipt TxnFault → Stage
+abbrev pub stage_of : Result Receipt TxnFault → GateCalls
 stage_of (Ok told) = Answered
 stage_of (Err fault) = Untold
 
@@ -76,5 +76,5 @@ fault_of (user.Already n) = Already n
 fault_of (user.Interrupted by) = Interrupted by
 
 -- it holds all that the transaction depends on and may change, which names no node twice
-abbrev pub IsReady : Transaction → Holding → Type 0
-IsReady txn a = FirstDouble (listed txn) None × Covers a txn
+abbrev pub HoldsFootprint : Transaction → Holding → Type 0
+HoldsFootprint txn a = FirstDouble (listed txn) None × Covers a txn

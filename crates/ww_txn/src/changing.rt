@@ -3,7 +3,7 @@
 ghost use Rattle.std.specs.Prelude.{◌≡◌, ◌≤◌, length};
 ghost use Rattle.std.specs.Fn.{FnOnceReturnsAt, FnOnceTakesAt};
 ghost use Rattle.ww_lock.specs.Holding.{IsAtHome};
-ghost use Rattle.ww_users.specs.Ways.{MayTake, HoldsExactly};
+ghost use Rattle.ww_users.specs.Ways.{MayTakeList, HoldsExactly};
 ghost use Rattle.ww_txn.specs.Change.{values_of, IsDecision, IsChangeAnswer};
 
 use arrayvec::ArrayVec;
@@ -44,7 +44,7 @@ pub fn change<R: Wait, F: FnOnce(&[u64]) -> Option<Txn>>(
     list: &[u8],
     decide: F,
 ) -> (Pass, Result<Receipt, ChangeFault>)
-    requires may { MayTake list.now pass world.now }
+    requires may { MayTakeList list.now pass world.now }
     requires few { length list.now ≤ MAX_NODES }
     requires decides { (values : _) → length values ≡ length list.now → FnOnceTakesAt F.FnOnce decide values }
     ensures home { IsAtHome result.0 world.now }
@@ -73,7 +73,7 @@ fn prepare_decided<F: FnOnce(&[u64]) -> Option<Txn>>(
     list: &[u8],
     decide: F,
 ) -> Result<Prepared, ChangeFault>
-    requires may { MayTake list.now done.old world.now }
+    requires may { MayTakeList list.now done.old world.now }
     requires holds { HoldsExactly list.now done.old × (length list.now ≤ MAX_NODES) }
     requires decides { (values : _) → length values ≡ length list.now → FnOnceTakesAt F.FnOnce decide values }
     ensures same { done.new ≡ record done.old { room = done.new.room } }
@@ -94,7 +94,7 @@ fn prepare_decided<F: FnOnce(&[u64]) -> Option<Txn>>(
 
 /// The values of these nodes, which are held, in the order of the list.
 fn read_values(world: &World, done: &Done, list: &[u8]) -> ArrayVec<u64, MAX_NODES>
-    requires may { MayTake list.now done.now world.now }
+    requires may { MayTakeList list.now done.now world.now }
     requires holds { HoldsExactly list.now done.now × (length list.now ≤ MAX_NODES) }
     ensures { result.items ≡ values_of done.now.seen list.now }
 {

@@ -5,7 +5,7 @@ use crate::gate::Gate;
 
 /// Which calls a gate got for a transaction.
 #[derive(Clone, Copy, PartialEq, Eq)]
-pub(crate) enum Stage {
+pub(crate) enum GateCalls {
     Untold,
     Asked,
     Answered,
@@ -17,12 +17,12 @@ pub(crate) struct Telling<'a, G> {
     gate: &'a G,
     caller: u8,
     seq: u64,
-    stage: Stage,
+    stage: GateCalls,
 }
 
 impl<'a, G: Gate> Telling<'a, G> {
     ghost use Rattle.std.specs.Prelude.{◌≡◌};
-    ghost use Rattle.ww_txn.specs.declared.telling.Stage.TheVariants.{Untold, Asked, Answered};
+    ghost use Rattle.ww_txn.specs.declared.telling.GateCalls.TheVariants.{Untold, Asked, Answered};
 
     pub(crate) fn new(gate: &'a G, caller: u8, seq: u64) -> Telling<'a, G>
         ensures gate { result.gate.now ≡ gate.now }
@@ -33,7 +33,7 @@ impl<'a, G: Gate> Telling<'a, G> {
             gate,
             caller,
             seq,
-            stage: Stage::Untold,
+            stage: GateCalls::Untold,
         }
     }
 
@@ -44,7 +44,7 @@ impl<'a, G: Gate> Telling<'a, G> {
         ensures asked { G.is_asked self.new.gate.now self.new.caller self.new.seq }
     {
         self.gate.before_commit(self.caller, self.seq);
-        self.stage = Stage::Asked;
+        self.stage = GateCalls::Asked;
     }
 
     /// The transaction is committed, and all its locks were released.
@@ -55,6 +55,6 @@ impl<'a, G: Gate> Telling<'a, G> {
         ensures answered { G.is_answered self.new.gate.now self.new.caller self.new.seq }
     {
         self.gate.answered(self.caller, self.seq);
-        self.stage = Stage::Answered;
+        self.stage = GateCalls::Answered;
     }
 }

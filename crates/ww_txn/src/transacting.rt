@@ -4,7 +4,7 @@ ghost use Rattle.std.specs.Prelude.{◌≡◌, length, OnOk};
 ghost use Rattle.ww_plain.specs.Transaction.{transaction_of, peek};
 ghost use Rattle.ww_lock.specs.Holding.{IsAtHome};
 ghost use Rattle.ww_lock.specs.Waits.TheVariants.{ToTheEnd, UntilCancelled};
-ghost use Rattle.ww_txn.specs.declared.telling.Stage.TheVariants.{Untold};
+ghost use Rattle.ww_txn.specs.declared.telling.GateCalls.TheVariants.{Untold};
 ghost use Rattle.ww_txn.specs.Transact.{MayTransact, IsTxnAnswer, contexts_of, stage_of};
 
 use crate::gate::Gate;

@@ -4,8 +4,8 @@ ghost use Rattle.std.specs.Prelude.{◌≡◌, ◌≤◌, ◌<◌, ◌∷◌, []
 ghost use Rattle.ww_plain.specs.Transaction.{transaction_of, listed};
 ghost use Rattle.ww_plain.specs.Footprint.{with_target};
 ghost use Rattle.ww_lock.specs.Holding.{IsAtHome};
-ghost use Rattle.ww_users.specs.Ways.{MayTake, HoldsExactly, IsWayAnswer, IsOrderAnswer};
-ghost use Rattle.ww_txn.specs.Transact.{MayTransact, IsReady};
+ghost use Rattle.ww_users.specs.Ways.{MayTakeList, HoldsExactly, IsWayAnswer, IsOrderAnswer};
+ghost use Rattle.ww_txn.specs.Transact.{MayTransact, HoldsFootprint};
 
 use arrayvec::ArrayVec;
 use std::sync::Wait;
@@ -17,7 +17,7 @@ use ww_users::{Taken, lock_list_as, lock_order_as, lock_walk_as};
 /// fixed list.
 pub(crate) fn lock_all<R: Wait>(world: &World, pass: Pass, rt: &R, txn: &Txn, waits: Waits) -> Taken
     requires { MayTransact (transaction_of txn.now) pass world.now }
-    ensures { IsWayAnswer waits pass (listed (transaction_of txn.now)) (IsReady (transaction_of txn.now)) result }
+    ensures { IsWayAnswer waits pass (listed (transaction_of txn.now)) (HoldsFootprint (transaction_of txn.now)) result }
 {
     match txn {
         Txn::Get(by, nodes) => lock_by(world, pass, rt, *by, nodes, waits),
@@ -34,7 +34,7 @@ pub(crate) fn lock_all<R: Wait>(world: &World, pass: Pass, rt: &R, txn: &Txn, wa
 
 /// Takes the locks of a list by the way that is named.
 fn lock_by<R: Wait>(world: &World, pass: Pass, rt: &R, by: By, list: &[u8], waits: Waits) -> Taken
-    requires may { MayTake list.now pass world.now }
+    requires may { MayTakeList list.now pass world.now }
     requires few { length list.now ≤ MAX_NODES }
     ensures { IsOrderAnswer waits pass list.now result }
 {

@@ -2,10 +2,10 @@
 use Rattle.std.proofs.Common.{◌≡◌, ℕ, ◌<◌, ◌≤◌, true, eqb, inl, inr, List, [], ◌∷◌, ◌++◌, length, get_or, Option, Some, None, IfSome, sym, ap, subst, ◌∙◌}
 use Rattle.std.specs.List.{AllByRecursion}
 use Rattle.ww_plain.specs.declared.node.Node.{Node}
-use Rattle.ww_plain.specs.Numbers.{is_among, joined}
+use Rattle.ww_plain.specs.Numbers.{is_among, with_number}
 use Rattle.ww_plain.specs.Graph.{port_of, Agree}
 use Rattle.ww_plain.specs.Footprint.{with_target}
-use Rattle.ww_plain.specs.Walk.{IsEnd, GoesOnTo, Follows, stop_of, walk_of}
+use Rattle.ww_plain.specs.Walk.{IsWalkEnd, GoesOnTo, FollowsPort, stop_of, walk_of}
 use Rattle.ww_plain.proofs.Members.{or_cases, same_from_eqb, is_among-head, is_among-tail, is_among-append, among_cons}
 use Rattle.ww_plain.proofs.Fronts.{IsFront, front_of_one, front_more, front_ends}
 use Rattle.ww_plain.proofs.Frames.{is_among-joined}
@@ -23,7 +23,7 @@ pub record IsAlong (s a : Holding) (start p most : ℕ) (vs : List ℕ) (stop : 
   pub there : IfSome stop (λ n. n < length s.seen)
 
 follows_agrees : (graph other : List Node) (p v : ℕ) (ws : List ℕ) → Agree graph other (v ∷ ws)
-    → Follows graph p (v ∷ ws) → Follows other p (v ∷ ws) × (stop_of graph p (v ∷ ws) ≡ stop_of other p (v ∷ ws))
+    → FollowsPort graph p (v ∷ ws) → FollowsPort other p (v ∷ ws) × (stop_of graph p (v ∷ ws) ≡ stop_of other p (v ∷ ws))
 follows_agrees graph other p v [] agree follows = (tt, ap (λ (node : Node). get_or node.ports p None) (agree v (is_among-head v [])))
 follows_agrees graph other p v (w ∷ ws) agree follows =
     let here : port_of graph v p ≡ port_of other v p =
@@ -82,13 +82,13 @@ stop_held : (held vs : List ℕ) (stop : Option ℕ) → ((n : ℕ) → is_among
     → IfSome stop (λ n. is_among n held ≡ true) → AllByRecursion (λ n. is_among n held ≡ true) (with_target vs stop)
 stop_held held vs None each last = all_among _ vs each
 stop_held held vs (Some t) each last =
-    all_among _ (joined vs t) (λ n e. elim (or_cases (is_among n vs) (eqb t n) (sym (is_among-joined n vs t) ∙ e)) [
+    all_among _ (with_number vs t) (λ n e. elim (or_cases (is_among n vs) (eqb t n) (sym (is_among-joined n vs t) ∙ e)) [
       | inl before ↦ each n before
       | inr same ↦ subst (λ (m : ℕ). is_among m held ≡ true) (same_from_eqb t n same) last
     ])
 
 pub along_ends : {a : Holding} {start p most : ℕ} {s : Holding} (vs : List ℕ) (stop : Option ℕ)
-    → IsAlong s a start p most vs stop → IsEnd vs most stop → IfSome stop (λ n. is_among n a.held ≡ true)
+    → IsAlong s a start p most vs stop → IsWalkEnd vs most stop → IfSome stop (λ n. is_among n a.held ≡ true)
     → IsSameContext s a × HoldsWalk start p most a
 along_ends {a} {start} {p} {most} vs stop h ends last =
     let walk : vs ≡ walk_of a.seen start p most = only_walk a.seen start p most vs (front_ends a.seen start p most vs stop h.front ends) in

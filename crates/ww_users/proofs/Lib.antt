@@ -2,4 +2,4 @@ pub mod Contexts
 pub mod Entries
 pub mod Orders
 pub mod Alongs
-pub mod Turning
+pub mod Rounds

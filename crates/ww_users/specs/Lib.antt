@@ -1,3 +1,3 @@
 pub mod Ways
 pub mod Trips
-pub mod Turns
+pub mod Rounds

@@ -13,7 +13,7 @@ use Rattle.ww_users.specs.declared.fault.UserFault.{UserFault}
 use Rattle.ww_users.specs.declared.fault.UserFault.TheVariants.{PassSpent, Already, Interrupted}
 
 -- the state came from a pass of this world, and the nodes of the list are the world's
-pub record MayTake (list : List ℕ) (s : Holding) (w : Setting) : Type 0 where
+pub record MayTakeList (list : List ℕ) (s : Holding) (w : Setting) : Type 0 where
   pub home : IsAtHome s w
   pub nodes : AllByRecursion (λ n. n < length w.first) list
 

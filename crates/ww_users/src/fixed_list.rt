@@ -1,7 +1,7 @@
 //! Method 1: a list, always in its order.
 
 ghost use Rattle.ww_lock.specs.Waits.TheVariants.{ToTheEnd, UntilCancelled};
-ghost use Rattle.ww_users.specs.Ways.{MayTake, IsListAnswer};
+ghost use Rattle.ww_users.specs.Ways.{MayTakeList, IsListAnswer};
 
 use crate::context::{back_off, begin, give_up};
 use crate::fault::Taken;
@@ -13,7 +13,7 @@ use ww_lock::{Pass, Waits, World};
 /// the slow path, and starts again with that entry skipped once. A list that names a node twice is refused with the
 /// first entry whose node stands earlier; then, as with a spent pass, no lock is held and nothing is recorded.
 pub fn lock_list<R: Wait>(world: &World, pass: Pass, rt: &R, list: &[u8]) -> Taken
-    requires { MayTake list.now pass world.now }
+    requires { MayTakeList list.now pass world.now }
     ensures { IsListAnswer ToTheEnd pass list.now result }
 {
     lock_list_as(world, pass, rt, list, Waits::ToTheEnd)
@@ -21,7 +21,7 @@ pub fn lock_list<R: Wait>(world: &World, pass: Pass, rt: &R, list: &[u8]) -> Tak
 
 /// Method 1, but each wait may be cancelled. All is released then, too.
 pub fn lock_list_interruptible<R: Wait>(world: &World, pass: Pass, rt: &R, list: &[u8]) -> Taken
-    requires { MayTake list.now pass world.now }
+    requires { MayTakeList list.now pass world.now }
     ensures { IsListAnswer UntilCancelled pass list.now result }
 {
     lock_list_as(world, pass, rt, list, Waits::UntilCancelled)
@@ -29,7 +29,7 @@ pub fn lock_list_interruptible<R: Wait>(world: &World, pass: Pass, rt: &R, list:
 
 /// Method 1; the last argument says how its lock calls wait.
 pub fn lock_list_as<R: Wait>(world: &World, pass: Pass, rt: &R, list: &[u8], waits: Waits) -> Taken
-    requires { MayTake list.now pass world.now }
+    requires { MayTakeList list.now pass world.now }
     ensures { IsListAnswer waits pass list.now result }
 {
     let mut acquiring = begin(world, pass)?;

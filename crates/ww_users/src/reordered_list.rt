@@ -2,7 +2,7 @@
 
 ghost use Rattle.std.specs.Prelude.{◌≤◌, length};
 ghost use Rattle.ww_lock.specs.Waits.TheVariants.{ToTheEnd, UntilCancelled};
-ghost use Rattle.ww_users.specs.Ways.{MayTake, IsOrderAnswer};
+ghost use Rattle.ww_users.specs.Ways.{MayTakeList, IsOrderAnswer};
 
 use crate::context::{back_off, begin, give_up};
 use crate::fault::Taken;
@@ -16,7 +16,7 @@ use ww_plain::MAX_NODES;
 /// trip goes on after it. So an entry that was contended is locked first from then on. The duplicate that a refusal
 /// names is that of the list as it was given, not of the reordered one.
 pub fn lock_order<R: Wait>(world: &World, pass: Pass, rt: &R, list: &[u8]) -> Taken
-    requires may { MayTake list.now pass world.now }
+    requires may { MayTakeList list.now pass world.now }
     requires few { length list.now ≤ 64 }
     ensures { IsOrderAnswer ToTheEnd pass list.now result }
 {
@@ -25,7 +25,7 @@ pub fn lock_order<R: Wait>(world: &World, pass: Pass, rt: &R, list: &[u8]) -> Ta
 
 /// Method 2, but each wait may be cancelled. All is released then, too.
 pub fn lock_order_interruptible<R: Wait>(world: &World, pass: Pass, rt: &R, list: &[u8]) -> Taken
-    requires may { MayTake list.now pass world.now }
+    requires may { MayTakeList list.now pass world.now }
     requires few { length list.now ≤ 64 }
     ensures { IsOrderAnswer UntilCancelled pass list.now result }
 {
@@ -34,7 +34,7 @@ pub fn lock_order_interruptible<R: Wait>(world: &World, pass: Pass, rt: &R, list
 
 /// Method 2; the last argument says how its lock calls wait.
 pub fn lock_order_as<R: Wait>(world: &World, pass: Pass, rt: &R, list: &[u8], waits: Waits) -> Taken
-    requires may { MayTake list.now pass world.now }
+    requires may { MayTakeList list.now pass world.now }
     requires few { length list.now ≤ 64 }
     ensures { IsOrderAnswer waits pass list.now result }
 {

@@ -1,6 +1,6 @@
 //! One trip through a list, as the fixed list and the reordered one make it in each round.
 
-ghost use Rattle.ww_users.specs.Ways.{MayTake};
+ghost use Rattle.ww_users.specs.Ways.{MayTakeList};
 ghost use Rattle.ww_users.specs.Trips.{HoldsKept, IsTrip};
 
 use crate::fault::UserFault;
@@ -26,7 +26,7 @@ pub(crate) fn lock_entries<R: Wait>(
     kept: Option<u8>,
     waits: Waits,
 ) -> Trip
-    requires may { MayTake list.now acquiring world.now }
+    requires may { MayTakeList list.now acquiring world.now }
     requires kept { HoldsKept kept list.now acquiring }
     ensures { IsTrip waits acquiring list.now kept result }
 {

@@ -1,7 +1,7 @@
 //! The loop of a caller whose own code takes the locks.
 
 ghost use Rattle.std.specs.Prelude.{IfOk, IfErr};
-ghost use Rattle.ww_users.specs.Turns.{IsTurn, IsHaltingTurn, MayTurn, HasTurned, IsPutOff};
+ghost use Rattle.ww_users.specs.Rounds.{IsRound, IsHaltingRound, MayRunRounds, HasRunRounds, IsPutOff};
 
 use crate::context::give_up;
 use std::sync::Wait;
@@ -16,8 +16,8 @@ pub fn lock_until<R: Wait, F: Fn(Acquiring) -> Result<Acquiring, Backoff>>(
     acquiring: Acquiring,
     body: F,
 ) -> Acquiring
-    requires { MayTurn IsTurn acquiring world.now (F.pre body) (F.post body) }
-    ensures { HasTurned acquiring world.now (F.post body) result }
+    requires { MayRunRounds IsRound acquiring world.now (F.pre body) (F.post body) }
+    ensures { HasRunRounds acquiring world.now (F.post body) result }
 {
     let mut acquiring = acquiring;
     for _ in rt.forever() {
@@ -37,8 +37,8 @@ pub fn lock_until_interruptible<R: Wait, F: Fn(Acquiring) -> Result<Acquiring, H
     acquiring: Acquiring,
     body: F,
 ) -> Result<Acquiring, (Pass, u8)>
-    requires { MayTurn IsHaltingTurn acquiring world.now (F.pre body) (F.post body) }
-    ensures turned { IfOk result (HasTurned acquiring world.now (F.post body)) }
+    requires { MayRunRounds IsHaltingRound acquiring world.now (F.pre body) (F.post body) }
+    ensures round { IfOk result (HasRunRounds acquiring world.now (F.post body)) }
     ensures put_off { IfErr result (λ e. IsPutOff acquiring world.now e.1 e.0) }
 {
     let mut acquiring = acquiring;

@@ -4,7 +4,7 @@ ghost use Rattle.std.specs.Prelude.{◌≡◌, ◌<◌, false, length, Some, IfO
 ghost use Rattle.ww_plain.specs.Graph.{port_of};
 ghost use Rattle.ww_plain.specs.Numbers.{is_among};
 ghost use Rattle.ww_plain.specs.Transaction.{IsCourse};
-ghost use Rattle.ww_plain.specs.Walk.{IsEnd, GoesOnTo};
+ghost use Rattle.ww_plain.specs.Walk.{IsWalkEnd, GoesOnTo};
 ghost use Rattle.ww_lock.specs.Holding.{IsAtHome};
 ghost use Rattle.ww_lock.specs.Waits.TheVariants.{UntilCancelled};
 ghost use Rattle.ww_users.specs.Ways.{IsContext, IsSameContext, HoldsWalk, IsWalkAnswer};
@@ -118,7 +118,7 @@ fn lock_along<R: Wait>(
 
 /// Whether a walk of at most this many nodes ends after these, if the port of the last one names this node.
 fn is_over(walk: &[u8], most: u8, next: u8) -> bool
-    ensures over { IsTrue result → IsEnd walk.now most (Some next) }
+    ensures over { IsTrue result → IsWalkEnd walk.now most (Some next) }
     ensures goes_on { result ≡ false → GoesOnTo walk.now most (Some next) next }
 {
     walk.len() >= usize::from(most) || walk.contains(&next)

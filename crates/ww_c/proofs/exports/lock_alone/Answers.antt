@@ -1,8 +1,8 @@
 use Rattle.std.proofs.Common.{rules, ◌≡◌}
-use Rattle.ww_c.specs.Standing.{is_ready}
-use Rattle.ww_c.proofs.Standings.{lent, ready_plain}
+use Rattle.ww_c.specs.Modes.{is_ready}
+use Rattle.ww_c.proofs.Modes.{lent, ready_plain}
 use Rattle.ww_c.proofs.exports.lock_alone.Goals as goal
 
 pub lock_plainly-requires-clause-plain : goal.lock_plainly-requires-clause-plain
-lock_plainly-requires-clause-plain c = let h = c.args.seat.now in let is : h.standing ≡ 2 = search rules in
+lock_plainly-requires-clause-plain c = let h = c.args.seat.now in let is : h.mode ≡ 2 = search rules in
     ready_plain _ (lent is_ready _ _ c.lend-desk.ensures.value (h.ready is))

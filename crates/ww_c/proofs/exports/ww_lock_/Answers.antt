@@ -1,6 +1,6 @@
 use Rattle.std.proofs.Common.{rules, ◌<◌, arith}
-use Rattle.ww_c.specs.Standing.{is_plain}
-use Rattle.ww_c.proofs.Standings.{lent, plain_plain}
+use Rattle.ww_c.specs.Modes.{is_plain}
+use Rattle.ww_c.proofs.Modes.{lent, plain_plain}
 use Rattle.ww_c.proofs.exports.ww_lock_.Goals as goal
 
 pub lock_plainly-requires-clause-plain : goal.lock_plainly-requires-clause-plain

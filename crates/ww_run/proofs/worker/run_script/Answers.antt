@@ -4,7 +4,7 @@ use Rattle.ww_script.specs.Acts.{deed_of}
 use Rattle.ww_outcome.specs.declared.outcome.ScriptAnswer.{ScriptAnswer}
 use Rattle.ww_script.specs.Said.{said_of}
 use Rattle.std.specs.declared.alloc.AllocError.{AllocError}
-use Rattle.ww_run.specs.Workers.{IsTold}
+use Rattle.ww_run.specs.Workers.{IsSaidBy}
 use Rattle.ww_run.proofs.Acts.{under_way, one_more}
 use Rattle.ww_run.proofs.worker.run_script.Goals as goal
 
@@ -32,6 +32,6 @@ loop-act-preserved g c =
           (ap (map deed_of) c.in-Some.ensures.steps.0)
           (ap (map said_of) c.push_reserved.ensures.items ∙ map_push said_of answers c.in-Ok-told.answer)
           c.loop-act.invariant.1 done.ensures.home done.ensures.after
-          (subst (λ (r : Result ScriptAnswer AllocError). IfOk r (λ answer. IsTold c.loop-act.pass deed (said_of answer) done.result.0))
+          (subst (λ (r : Result ScriptAnswer AllocError). IfOk r (λ answer. IsSaidBy c.loop-act.pass deed (said_of answer) done.result.0))
           c.in-Ok-told.is done.ensures.told),
     )

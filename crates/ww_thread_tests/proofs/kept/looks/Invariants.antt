@@ -1,5 +1,5 @@
 use Rattle.ww_lock.specs.Holding.{IsAtHome}
 use Rattle.ww_thread_tests.proofs.kept.looks.Given as goal
 
-abbrev pub invariant-loop-turn : goal.invariant-loop-turn
-invariant-loop-turn g l = IsAtHome l.pass l.world
+abbrev pub invariant-loop-round : goal.invariant-loop-round
+invariant-loop-round g l = IsAtHome l.pass l.world

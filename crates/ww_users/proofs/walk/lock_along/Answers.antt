@@ -1,5 +1,5 @@
 use Rattle.std.proofs.Common.{◌∙◌, ℕ, List, [], ◌∷◌, ◌++◌, Some, inr, ap, subst}
-use Rattle.ww_plain.specs.Walk.{IsEnd, GoesOnTo}
+use Rattle.ww_plain.specs.Walk.{IsWalkEnd, GoesOnTo}
 use Rattle.ww_users.proofs.Alongs.{along_begins, along_locks, along_goes_on, along_ends}
 use Rattle.ww_users.proofs.walk.lock_along.Goals as goal
 
@@ -11,7 +11,7 @@ loop-stop-init g c =
 
 pub returns-then-is_over-clause-ok : goal.returns-then-is_over-clause-ok
 returns-then-is_over-clause-ok g c =
-    let ends = subst (λ (vs : List ℕ). IsEnd vs c.args.most (Some c.in-Some.next)) c.deref.ensures.0
+    let ends = subst (λ (vs : List ℕ). IsWalkEnd vs c.args.most (Some c.in-Some.next)) c.deref.ensures.0
     (c.is_over.ensures.over c.if-is_over.true) in
     let along = along_locks c.loop-stop.invariant c.in_ok-acquiring-2.ensures.ok in
     along_ends _ _ (rw c.in-Some.is at along) ends c.in_ok-acquiring-2.ensures.ok.holds

@@ -3,7 +3,7 @@ use Rattle.std.specs.Vec.Iter.{into_iter_items}
 use Rattle.std.specs.Global.{Vec}
 use Rattle.ww_script_parts.specs.declared.acts.Act.{Act}
 use Rattle.ww_script.specs.Acts.{deed_of}
-use Rattle.ww_run.specs.Workers.{IsReady}
+use Rattle.ww_run.specs.Workers.{IsReadyToRun}
 use Rattle.ww_run.proofs.Starts.{IsPromised, ArePromised, ready_from, starting, started, not_started, all_started, all_kept, no_length}
 use Rattle.ww_run.proofs.workers.fn.work.scope.Goals as goal
 
@@ -12,7 +12,7 @@ loop-pass-init g c =
     let w = c.captures.world.now in
     let ready = ready_from w 0 c.captures.scripts.items c.captures.passes.items c.requires.count
     (λ i t d lt. subst
-    (λ (k : ℕ). IsReady w k (get_or (map (λ (s : Vec Act). map deed_of s.items) c.captures.scripts.items) i t)
+    (λ (k : ℕ). IsReadyToRun w k (get_or (map (λ (s : Vec Act). map deed_of s.items) c.captures.scripts.items) i t)
     (get_or c.captures.passes.items i d))
     (sym (zero-add i)) (c.requires.each i t d lt)) in
     let gives = c.into_iter-pass-iterator.ensures.into_iter_gives in (

@@ -3,7 +3,7 @@ use Rattle.std.proofs.Common.{◌≡◌, ℕ, ◌∷◌, [], List, refl, ap, sub
 use Rattle.ww_lock.specs.Holding.{Holding, Setting, IsAtHome}
 use Rattle.ww_lock.specs.Moves.{IsTaken, IsInterrupted, emptied, interrupted_by}
 use Rattle.ww_users.specs.Ways.{with_locks_of}
-use Rattle.ww_users.specs.Turns.{KeepsContext, StartsTurn, IsOneMore, IsHaltedBy, IsPutOff}
+use Rattle.ww_users.specs.Rounds.{KeepsContext, StartsRound, IsOneMore, IsHaltedBy, IsPutOff}
 use Rattle.ww_users.proofs.Contexts.{same_taken}
 
 keeps_home : {s a : Holding} {w : Setting} → KeepsContext s a → IsAtHome s w → IsAtHome a w
@@ -20,9 +20,9 @@ keeps_taken : (b c : Holding) (n : ℕ) → IsTaken (emptied b) n c → KeepsCon
 keeps_taken b c n taken = let same = same_taken taken in record { rest = same.rest; size = same.size }
 
 -- a round after a back-off starts with the contended lock alone
-pub starts_again : {s a b c : Holding} {n : ℕ} {w : Setting} → StartsTurn s w a → KeepsContext a b
-    → IsTaken (emptied b) n c → c.held ≡ n ∷ [] → StartsTurn s w c
-starts_again starts turn taken alone = let same = keeps_later turn (keeps_taken _ _ _ taken) in
+pub starts_again : {s a b c : Holding} {n : ℕ} {w : Setting} → StartsRound s w a → KeepsContext a b
+    → IsTaken (emptied b) n c → c.held ≡ n ∷ [] → StartsRound s w c
+starts_again starts round taken alone = let same = keeps_later round (keeps_taken _ _ _ taken) in
     record { home = keeps_home same starts.home; same = keeps_later starts.same same; held = inr (_, alone) }
 
 -- ---- a body of `lock_until_interruptible`
@@ -40,9 +40,9 @@ halted_later {s} {a} {b} {by} h more = record {
 }
 
 -- the body was called off, in a context that starts a round; all is released, and it is a pass
-pub turn_halted : {s a b : Holding} {w : Setting} {by : ℕ} (p : Holding) → StartsTurn s w a → IsHaltedBy a by b
+pub round_halted : {s a b : Holding} {w : Setting} {by : ℕ} (p : Holding) → StartsRound s w a → IsHaltedBy a by b
     → p ≡ record b { held = []; stamp = 0 } → IsPutOff s w by p
-turn_halted p starts h is =
+round_halted p starts h is =
     let halted = halted_later starts.same h in
     let home = halted_home h starts.home in
     rw is (record {
@@ -55,8 +55,8 @@ turn_halted p starts h is =
     })
 
 -- ... or the back-off after it
-pub back_halted : {b : Holding} {n by : ℕ} {s a c : Holding} {w : Setting} (p : Holding) → StartsTurn s w a → KeepsContext a b
+pub back_halted : {b : Holding} {n by : ℕ} {s a c : Holding} {w : Setting} (p : Holding) → StartsRound s w a → KeepsContext a b
     → IsInterrupted (emptied b) n by c → p ≡ record c { stamp = 0 } → IsPutOff s w by p
-back_halted {b} {n} {by} p starts turn h is =
+back_halted {b} {n} {by} p starts round h is =
     let halted : IsHaltedBy b by (interrupted_by b n by) = record { same = record { rest = refl; size = refl }; told = (refl, refl) } in
-    turn_halted p starts (halted_later turn halted) (is ∙ ap (λ (d : Holding). record d { stamp = 0 }) h.told)
+    round_halted p starts (halted_later round halted) (is ∙ ap (λ (d : Holding). record d { stamp = 0 }) h.told)

@@ -11,13 +11,13 @@ pub record KeepsContext (s a : Holding) : Type 0 where
   pub size : length a.seen ≡ length s.seen
 
 -- a context that a round starts with: the given one; or, after a back-off, the same one with the contended lock alone
-pub record StartsTurn (s : Holding) (w : Setting) (a : Holding) : Type 0 where
+pub record StartsRound (s : Holding) (w : Setting) (a : Holding) : Type 0 where
   pub home : IsAtHome a w
   pub same : KeepsContext s a
   pub held : (a ≡ s) ⊎ ((n : ℕ) × (a.held ≡ n ∷ []))
 
 -- a round keeps the context, whichever way it ends
-pub record IsTurn (s : Holding) (r : Result Holding Refused) : Type 0 where
+pub record IsRound (s : Holding) (r : Result Holding Refused) : Type 0 where
   pub ok : IfOk r (KeepsContext s)
   pub err : IfErr r (λ b. KeepsContext s b.holding)
 
@@ -32,29 +32,29 @@ pub record IsHaltedBy (s : Holding) (by : ℕ) (a : Holding) : Type 0 where
   pub told : IsOneMore by s.interrupted a.interrupted
 
 -- why a round ended without all of its locks
-abbrev pub IsTurnHalt : Holding → Halt → Type 0
-IsTurnHalt s (halt.Deadlk b) = KeepsContext s b.holding
-IsTurnHalt s (halt.Interrupted a by) = IsHaltedBy s by a
+abbrev pub IsRoundHalt : Holding → Halt → Type 0
+IsRoundHalt s (halt.Deadlk b) = KeepsContext s b.holding
+IsRoundHalt s (halt.Interrupted a by) = IsHaltedBy s by a
 
 -- a round that may be cancelled keeps the context, whichever way it ends
-pub record IsHaltingTurn (s : Holding) (r : Result Holding Halt) : Type 0 where
+pub record IsHaltingRound (s : Holding) (r : Result Holding Halt) : Type 0 where
   pub ok : IfOk r (KeepsContext s)
-  pub err : IfErr r (IsTurnHalt s)
+  pub err : IfErr r (IsRoundHalt s)
 
 -- A body, by what it wants and what it gives, that may run in rounds of this kind, the first one from a context of this
 -- world.
-pub record MayTurn {E : Type 0} (Turn : Holding → Result Holding E → Type 0) (s : Holding) (w : Setting)
+pub record MayRunRounds {E : Type 0} (Round : Holding → Result Holding E → Type 0) (s : Holding) (w : Setting)
     (pre : Holding → Type 0) (post : Holding → Result Holding E → Type 0) : Type 0 where
   pub home : IsAtHome s w
-  pub callable : (a : Holding) → StartsTurn s w a → pre a
-  pub turns : (a : Holding) (r : Result Holding E) → StartsTurn s w a → post a r → Turn a r
+  pub callable : (a : Holding) → StartsRound s w a → pre a
+  pub rounds : (a : Holding) (r : Result Holding E) → StartsRound s w a → post a r → Round a r
 
 -- it is still the same context, of this world, as the body returned it from a round
-pub record HasTurned {E : Type 0} (s : Holding) (w : Setting) (post : Holding → Result Holding E → Type 0) (a : Holding)
+pub record HasRunRounds {E : Type 0} (s : Holding) (w : Setting) (post : Holding → Result Holding E → Type 0) (a : Holding)
     : Type 0 where
   pub home : IsAtHome a w
   pub same : KeepsContext s a
-  pub taken : (b : Holding) × StartsTurn s w b × post b (Ok a)
+  pub taken : (b : Holding) × StartsRound s w b × post b (Ok a)
 
 -- the pass of a context whose wait was called off by this caller, still of this world: it has no context, and no lock
 pub record IsPutOff (s : Holding) (w : Setting) (by : ℕ) (p : Holding) : Type 0 where

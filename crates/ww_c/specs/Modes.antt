@@ -1,5 +1,5 @@
--- What a handle may know of its desk, as tests: see IsReady, IsPlain and IsBare of ww_desk. Each says besides that the desk
--- may begin another context.
+-- What a handle may know of its desk, as tests: see IsReady, IsPlain and HasReleasedAll of ww_desk. Each says besides that
+-- the desk may begin another context.
 use Rattle.std.specs.Prelude.{ℕ, ◌==◌, ◌∷◌, [], ◌&&◌, not, Bool, true, false, List, Option, Some, None, is_none}
 use Rattle.ww_desk.specs.Situations.{Situation, is_at_rest, is_empty}
 
