@@ -8,4 +8,4 @@ pub mod Signs
 pub mod Cancels
 pub mod Homes
 pub mod Records
-pub mod Standing
+pub mod Presence

@@ -1,9 +1,9 @@
 -- What a slot has of a wait list, as the list of those who stand there.
 use Rattle.std.specs.Prelude.{List, []}
 use Rattle.ww_queue.specs.declared.entry.Entry.{Entry}
-use Rattle.ww_rule.specs.declared.pages.Standing.{Standing}
-use Rattle.ww_rule.specs.declared.pages.Standing.TheVariants.{Nobody, Somebody}
+use Rattle.ww_rule.specs.declared.pages.Presence.{Presence}
+use Rattle.ww_rule.specs.declared.pages.Presence.TheVariants.{Nobody, Somebody}
 
-abbrev pub waiters_of : Standing → List Entry
+abbrev pub waiters_of : Presence → List Entry
 waiters_of (Nobody a b c) = []
 waiters_of (Somebody waiters) = waiters
