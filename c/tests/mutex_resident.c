@@ -139,7 +139,7 @@ static void opens(bool told)
 	if (!told)
 		return;
 	printf("%ld KiB resident with all mutexes unused; %u of %d waits made more than a MiB so\n", opened / 1024, large, WAITS);
-	MUST(opened < 8 * MiB && large < WAITS / 2);
+	MUST(opened < 16 * MiB && large < WAITS / 2);
 }
 
 int main(void)
