@@ -17,7 +17,7 @@ use Rattle.ww_rule.specs.declared.cells.Sight.{Sight}
 use Rattle.ww_rule.specs.declared.cells.Start.{Start}
 use Rattle.ww_word.specs.AnySeats.{packed, most_for}
 use Rattle.ww_rule.specs.Layout.{IsSized, lock_at, sign_at}
-use Rattle.ww_table.specs.declared.seat.Seat16.{Seat16}
+use Rattle.ww_table.specs.declared.seat.Stepper.{Stepper}
 use Rattle.ww_rule.specs.Rule.{Sat, first_graph, first_part, first_parts, first_sight, Ruled, IsSize, AreNodes}
 use Rattle.ww_rule.specs.Steps.{seat_of, first_seat, rest_of, without_first}
 use Rattle.ww_table.specs.Seat.{IsNew, base_of, step_of}
@@ -30,7 +30,7 @@ use Rattle.ww_model.specs.State.{start}
 use Rattle.ww_view.specs.View.{IsBare}
 use Rattle.ww_rule.proofs.Seats.{opens, opens_start, splits, at_end, bare_first}
 
-pub new_seat : (table : TableId) (key : Start) (k : ℕ) (s : Seat16) → s.seat.table_id ≡ table
+pub new_seat : (table : TableId) (key : Start) (k : ℕ) (s : Stepper) → s.seat.table_id ≡ table
     → s.seat.me ≡ (seat_of (length (first_graph key)) (first_part key.kind key.locks key.places k), []) → s.kind ≡ key.kind
     → s.who ≡ k → s.room ≡ key.locks → s.seats ≡ key.places → k < key.places → IsSize key.places
     → s.most ≡ most_for s.seats → s.sign ≡ sign_at s.room s.who → IsSized key.locks key.places table → s.stamp ≡ 0 → s.base ≡ base_of s.who → s.step ≡ step_of s.who → s.own ≡ packed (record { seat = Some s.who; stamp = s.stamp; flags = 0 })
@@ -63,12 +63,12 @@ new_seat table key k s home me kind who room seats few size most sign sized stam
   me = me;
 }
 
-pub news_more : (table : TableId) (key : Start) (n : ℕ) (seats : List Seat16) (s : Seat16)
+pub news_more : (table : TableId) (key : Start) (n : ℕ) (seats : List Stepper) (s : Stepper)
     → AreNew table key n seats → IsNew table key n s → AreNew table key (n + 1) (seats ++ s ∷ [])
 news_more table key n seats s are new = record {
   many = let l = length-append seats (s ∷ []) in let m = are.many in omega arith;
   new = λ k t there. ⊎_elim (λ was. are.new k t was)
-      (λ now. subst (λ (x : ℕ × Seat16). IsNew table key x.0 x.1) (λ i. (sym (now.0 ∙ are.many) i, now.1 i)) new)
+      (λ now. subst (λ (x : ℕ × Stepper). IsNew table key x.0 x.1) (λ i. (sym (now.0 ∙ are.many) i, now.1 i)) new)
       (at_end seats s t k there);
 }
 
@@ -130,7 +130,7 @@ there (x ∷ xs) zero low = (x, inl refl, refl)
 there (x ∷ xs) (suc k) low = let t = there xs k (omega arith) in (t.0, inr t.1, t.2)
 
 -- seats that did nothing yet hold nothing
-pub new_come : (table : TableId) (key : Start) (seats : List Seat16) → AreNew table key key.seats seats → HaveAllCome table key seats
+pub new_come : (table : TableId) (key : Start) (seats : List Stepper) → AreNew table key key.seats seats → HaveAllCome table key seats
 new_come table key seats are = record {
   each = all_from (HasCome table) seats (λ k s e. let n = are.new k s e in record {
     seated = n.seated;

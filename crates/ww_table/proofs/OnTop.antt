@@ -15,7 +15,7 @@ use Rattle.ww_rule.specs.Rule.{Sat}
 use Rattle.ww_rule.specs.Out.{slot_of, numbers_of, AreOthers}
 use Rattle.ww_rule.specs.Waiting.{StandsIfWaiting, HasListOnTop, IsOut}
 use Rattle.ww_rule.proofs.InsideTurning.{on_top, slot_brought, still_out}
-use Rattle.ww_table.specs.declared.seat.Seat16.{Seat16}
+use Rattle.ww_table.specs.declared.seat.Stepper.{Stepper}
 use Rattle.ww_table.specs.Seat.{IsSeated}
 use Rattle.ww_table.proofs.Seated.{seated_as}
 
@@ -24,11 +24,11 @@ pub still_on_top : (m now m' : Sat) (n : ℕ) → HasListOnTop m n now → m' �
 still_on_top m now m' n t same = record { others = t.others; apart = t.apart; now = same ∙ t.now }
 
 -- the seat that brought it there has the number and the stamp that its view had before
-pub number_before : (table : TableId) (m : Sat) (n : ℕ) (s : Seat16) → IsSeated table s → HasListOnTop m n s.seat.me
+pub number_before : (table : TableId) (m : Sat) (n : ℕ) (s : Stepper) → IsSeated table s → HasListOnTop m n s.seat.me
     → m.0.part.core.who ≡ s.who
 number_before table m n s seated t = ap (λ (w : Sat). w.0.part.core.who) (sym t.now) ∙ seated.who
 
-pub stamp_before : (table : TableId) (m : Sat) (n : ℕ) (s : Seat16) → IsSeated table s → HasListOnTop m n s.seat.me
+pub stamp_before : (table : TableId) (m : Sat) (n : ℕ) (s : Stepper) → IsSeated table s → HasListOnTop m n s.seat.me
     → m.0.part.core.stamp ≡ s.stamp
 stamp_before table m n s seated t = ap (λ (w : Sat). w.0.part.core.stamp) (sym t.now) ∙ seated.stamp
 
@@ -41,7 +41,7 @@ has_left slots others new n k who w q top at is leaves = leaves q (on_top slots 
     ∙ (λ i. (at i, Line (left q (sym is i))) ∷ rest (top i))
 
 -- a seat that leaves the list has its page: the one that it had, or the one that the list gives it
-pub has_page : (table : TableId) (m : Sat) (n : ℕ) (s : Seat16) (page : Option (Unit {0})) → IsSeated table s
+pub has_page : (table : TableId) (m : Sat) (n : ℕ) (s : Stepper) (page : Option (Unit {0})) → IsSeated table s
     → HasListOnTop m n s.seat.me → StandsIfWaiting s.seat.me.0.part.core → page ≡ s.page → IsSome page
     ⊎ Stands m.0.part.core.list s.who
 has_page table m n s page seated t stands same = ⊎_elim
@@ -64,7 +64,7 @@ node_brought m now n x t new others y out is apart top =
     (still_out m.1 (64 + n) (Line m.0.part.core.list) t.others n (Content x) (λ z. omega arith) t.apart out) is apart top
 
 -- a seat that brought the list there, once its compare-exchange has found another word, or its own
-module _ (table : TableId) (m : Sat) (n : ℕ) (s : Seat16) (seated : IsSeated table s) (t : HasListOnTop m n s.seat.me) where
+module _ (table : TableId) (m : Sat) (n : ℕ) (s : Stepper) (seated : IsSeated table s) (t : HasListOnTop m n s.seat.me) where
   pub missed_seat : (token : Seat Cell Sight) → token.table_id ≡ s.seat.table_id → token.me ≡ (lost s.seat.me.0, s.seat.me.1)
       → IsSeated table (record s { seat = token })
   missed_seat token home miss = seated_as table s _ (lost s.seat.me.0) seated home (ap (λ (x : Sat). x.0) miss) refl refl refl refl

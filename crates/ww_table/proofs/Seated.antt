@@ -15,7 +15,7 @@ use Rattle.ww_rule.specs.Rule.{Sat, IsSize}
 use Rattle.ww_rule.specs.Out.{numbers_of}
 use Rattle.ww_rule.specs.Waiting.{HasListOnTop}
 use Rattle.ww_rule.specs.Steps.{taker}
-use Rattle.ww_table.specs.declared.seat.Seat16.{Seat16}
+use Rattle.ww_table.specs.declared.seat.Stepper.{Stepper}
 use Rattle.ww_table.specs.declared.board.Board.{Board}
 use Rattle.ww_table.specs.Seat.{IsSeated, IsSeatOf, base_of, locks_of, size_of, step_of}
 
@@ -23,11 +23,11 @@ use Rattle.ww_table.specs.Seat.{IsSeated, IsSeatOf, base_of, locks_of, size_of, 
 abbrev fixed_of : View → Kind × (ℕ × ℕ)
 fixed_of v = (v.kind, (v.room, v.seats))
 
-abbrev fixed : Seat16 → Kind × (ℕ × (ℕ × (ℕ × (ℕ × (ℕ × ℕ)))))
+abbrev fixed : Stepper → Kind × (ℕ × (ℕ × (ℕ × (ℕ × (ℕ × ℕ)))))
 fixed s = (s.kind, (s.room, (s.seats, (s.most, (s.sign, (s.base, s.step))))))
 
 -- the seat is as it was, but for its view, the slots that it has out, and its page
-pub seated_paged : (table : TableId) (s new : Seat16) (w : Sight) → IsSeated table s
+pub seated_paged : (table : TableId) (s new : Stepper) (w : Sight) → IsSeated table s
     → new.seat.table_id ≡ s.seat.table_id → new.seat.me.0 ≡ w → w.seated ≡ s.seat.me.0.seated
     → fixed_of w.part.core ≡ fixed_of s.seat.me.0.part.core → w.part.core.who ≡ s.seat.me.0.part.core.who
     → w.part.core.stamp ≡ s.seat.me.0.part.core.stamp → w.part.own ≡ s.seat.me.0.part.own
@@ -63,7 +63,7 @@ seated_paged table s new w was home view seated kind who stamp own idle paged sa
 }
 
 -- ... and its page
-pub seated_as : (table : TableId) (s new : Seat16) (w : Sight) → IsSeated table s
+pub seated_as : (table : TableId) (s new : Stepper) (w : Sight) → IsSeated table s
     → new.seat.table_id ≡ s.seat.table_id → new.seat.me.0 ≡ w → w.seated ≡ s.seat.me.0.seated
     → fixed_of w.part.core ≡ fixed_of s.seat.me.0.part.core → w.part.core.who ≡ s.seat.me.0.part.core.who
     → w.part.core.stamp ≡ s.seat.me.0.part.core.stamp → w.part.own ≡ s.seat.me.0.part.own
@@ -75,7 +75,7 @@ seated_as table s new w was home view seated kind who stamp own idle waits same_
     (λ out. subst IsSome (sym page) (was.page (sym waits ∙ out))) same_kind same_who same_stamp word records
 
 -- ... where these stay too
-pub seated_still : (table : TableId) (s new : Seat16) → IsSeated table s → new.seat.table_id ≡ s.seat.table_id
+pub seated_still : (table : TableId) (s new : Stepper) → IsSeated table s → new.seat.table_id ≡ s.seat.table_id
     → new.seat.me ≡ s.seat.me → fixed new ≡ fixed s → new.who ≡ s.who → new.stamp ≡ s.stamp → new.own ≡ s.own
     → new.records.items ≡ s.records.items → new.page ≡ s.page → new.order.items ≡ s.order.items → IsSeated table new
 seated_still table s new was home same kind who stamp word records page order =
@@ -83,10 +83,10 @@ seated_still table s new was home same kind who stamp word records page order =
     who stamp word records page (order ∙ was.order ∙ ap (λ (m : Sat). numbers_of m.1) (sym same))
 
 -- the word that it keeps is that of a lock that it has taken
-pub own_taker : (table : TableId) (s : Seat16) → IsSeated table s → s.own ≡ packed (taker s.seat.me.0.part.core)
+pub own_taker : (table : TableId) (s : Stepper) → IsSeated table s → s.own ≡ packed (taker s.seat.me.0.part.core)
 own_taker table s is = is.own ∙ (λ i. packed (record { seat = Some (sym is.who i); stamp = sym is.stamp i; flags = 0 }))
 
-pub taker_valid : (table : TableId) (s : Seat16) → IsSeated table s → IsValid (taker s.seat.me.0.part.core)
+pub taker_valid : (table : TableId) (s : Stepper) → IsSeated table s → IsValid (taker s.seat.me.0.part.core)
 taker_valid table s is = record {
   seating = subst (λ (x : ℕ × ℕ). Fits x.0 x.1) (λ i. (sym is.who i, sym is.stamp i)) is.fits;
   flags = inl refl;
@@ -96,14 +96,14 @@ taker_valid table s is = record {
 pub by_rule : (b : Board) (n : ℕ) → lock_at b.locks n ≡ lock_at b.table.shared.key.locks n
 by_rule b n = ap (λ (locks : ℕ). lock_at locks n) b.locks_is
 
-pub by_view : (b : Board) (s : Seat16) → IsSeatOf b s → (n : ℕ) (v : Sight) → v ≡ s.seat.me.0
+pub by_view : (b : Board) (s : Stepper) → IsSeatOf b s → (n : ℕ) (v : Sight) → v ≡ s.seat.me.0
     → lock_at b.locks n ≡ lock_at v.part.core.room n
 by_view b s is n v same = ap (λ (locks : ℕ). lock_at locks n)
     ((let slots = is.sized.1 in let all = b.sized.1 in let kept = b.locks_is in let z : b.locks ≡ s.room = omega arith in z)
     ∙ sym is.room ∙ ap (λ (w : Sight). w.part.core.room) (sym same))
 
 -- what a seat inside a guard expects of the owner word, once it has brought the wait list on top
-pub expected : (b : Board) {s : Seat16} {n i old : ℕ} {o : Owner} {now : Sat} → IsSeatOf b s → HasListOnTop s.seat.me n now
+pub expected : (b : Board) {s : Stepper} {n i old : ℕ} {o : Owner} {now : Sat} → IsSeatOf b s → HasListOnTop s.seat.me n now
     → i ≡ lock_at b.locks n → IsValid o → old ≡ packed o → (i ≡ lock_at now.0.part.core.room n) × IsValid o × (old ≡ packed o)
 expected b {s} {n} {now = now} is t at valid old = (at ∙ by_view b s is n now.0 (ap (λ (m : Sat). m.0) t.now), valid, old)
 

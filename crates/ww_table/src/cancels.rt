@@ -7,11 +7,11 @@ ghost use Rattle.ww_table.specs.Seat.{IsSeatOf, view_of};
 ghost use Rattle.ww_rule.specs.Cancels.{cancelling, finding_pending, finding_uncancelled, heeding};
 
 use crate::board::Board;
-use crate::seat::Seat16;
+use crate::seat::Stepper;
 use ww_rule::layout::cancel_word;
 use ww_rule::plays_inside::{Heed, SetCancel};
 
-impl Seat16 {
+impl Stepper {
     /// Sets the cancel of a seat, which may be the own one, and returns whether this call did so: a cancel that is
     /// pending stays as it is.
     pub fn set_cancel(&mut self, board: &Board, victim: u16) -> bool

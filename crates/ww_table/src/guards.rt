@@ -15,13 +15,13 @@ ghost use Rattle.ww_rule.specs.Guards.{AreSeats, StandsAs, shutting_out, enterin
 ghost use Rattle.ww_rule.specs.Waiting.{HasListOnTop};
 
 use crate::board::Board;
-use crate::seat::Seat16;
+use crate::seat::Stepper;
 use ww_rule::bring;
 use ww_rule::layout::{STAMP, guard_word, list_slot, owner_word};
 use ww_rule::plays_inside::{Count, Enter, Exit, Glance, Look};
 use ww_word::wide::{Owner, unpack};
 
-impl Seat16 {
+impl Stepper {
     /// Rotates the slots that are out until the wait list of the lock is the last taken, and gives the slot's number.
     pub(crate) fn bring_list(&mut self, lock: u32) -> u32
         requires lock { lock < 16777216 }

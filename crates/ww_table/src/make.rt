@@ -9,7 +9,7 @@ ghost use Rattle.ww_table.specs.Made.{AreNew, IsMade};
 ghost use Rattle.ww_table.specs.Seat.{base_of, step_of};
 
 use crate::board::Board;
-use crate::seat::{Seat16, own_word};
+use crate::seat::{Stepper, own_word};
 use arrayvec::ArrayVec;
 use atomic_table::Table;
 use std::alloc::{AllocError, Global};
@@ -31,7 +31,7 @@ impl Board {
         graph: Graph,
         locks: u32,
         seats: u16,
-    ) -> Result<(Board, Vec<Seat16>), (Graph, AllocError)>
+    ) -> Result<(Board, Vec<Stepper>), (Graph, AllocError)>
         requires locks { (length graph ≤ locks) × (locks ≤ 64) }
         requires seats { (1 ≤ seats) × (seats < 4096) }
         ensures ok { IfOk result (λ r. IsMade kind graph locks seats r.0 r.1.items) }
@@ -49,7 +49,7 @@ impl Board {
         kind: Kind,
         locks: u32,
         seats: u16,
-    ) -> Result<(Board, Vec<Seat16>), AllocError>
+    ) -> Result<(Board, Vec<Stepper>), AllocError>
         requires locks { locks ≤ 16777216 }
         requires seats { (1 ≤ seats) × (seats < 4096) }
         ensures { IfOk result (λ r. IsMade kind [] locks seats r.0 r.1.items) }
@@ -80,7 +80,7 @@ fn lay(
     bare: bool,
     locks: u32,
     seats: u16,
-) -> Result<(Board, Vec<Seat16>), AllocError>
+) -> Result<(Board, Vec<Stepper>), AllocError>
     requires locks { (length (nodes_of bare graph.now) ≤ locks) × (locks ≤ 16777216) }
     requires spread { 0 < length (nodes_of bare graph.now) → locks ≤ 64 }
     requires seats { (1 ≤ seats) × (seats < 4096) }
@@ -142,8 +142,8 @@ fn cut(
     mut first: TableSeat,
     sizes: (u32, u16),
     seats: u16,
-    mut made: Vec<Seat16>,
-) -> Result<Vec<Seat16>, AllocError>
+    mut made: Vec<Stepper>,
+) -> Result<Vec<Stepper>, AllocError>
     requires sized { IsSized shared.now.key.locks shared.now.key.places shared.now.table_id }
     requires sizes { (sizes.0 ≡ shared.now.key.locks) × (sizes.1 ≡ shared.now.key.places) × IsSize sizes.1 × (seats ≤ sizes.1) }
     requires home { first.table_id ≡ shared.now.table_id }
@@ -176,7 +176,7 @@ fn seated(
     who: u16,
     sizes: (u32, u16),
     page: Page,
-) -> Seat16
+) -> Stepper
     requires { (who < sizes.1) × IsSize sizes.1 }
     ensures same { result ≡ record { seat = seat; kind = kind; who = who; room = sizes.0; seats = sizes.1; most = result.most; sign = result.sign; stamp = 0; base = result.base; step = result.step; own = result.own; order = result.order; records = result.records; page = result.page } }
     ensures most { result.most ≡ most_for sizes.1 }
@@ -188,7 +188,7 @@ fn seated(
     ensures records { result.records.items ≡ [] }
     ensures page { IsSome result.page }
 {
-    Seat16 {
+    Stepper {
         seat,
         kind,
         who,

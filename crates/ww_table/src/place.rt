@@ -7,7 +7,7 @@ ghost use Rattle.ww_table.specs.Seat.{IsSeatOf};
 ghost use Rattle.ww_rule.specs.Steps.{MayPlace, placing};
 
 use crate::board::Board;
-use crate::seat::Seat16;
+use crate::seat::Stepper;
 use std::alloc::AllocError;
 use std::marker::Brand;
 use ww_plain::Record;
@@ -15,7 +15,7 @@ use ww_rule::TableSeat;
 use ww_rule::layout::FRONT;
 use ww_rule::plays::{Commit, Said};
 
-impl Seat16 {
+impl Stepper {
     /// How many commits it made.
     pub fn commits(&self) -> u64
         ensures { result ≡ length self.now.records.items }

@@ -14,13 +14,13 @@ ghost use Rattle.ww_rule.specs.Out.{slot_of};
 ghost use Rattle.ww_rule.specs.Waiting.{HasListOnTop};
 
 use crate::board::Board;
-use crate::seat::Seat16;
+use crate::seat::Stepper;
 use arrayvec::ArrayVec;
 use ww_queue::wide::{Entry, SOME_SIGNS};
 use ww_rule::lists::{death_there, first_there, flag_there, owed_there, owner_there};
 use ww_word::wide::Owner;
 
-impl Seat16 {
+impl Stepper {
     /// The stamp for which the seat has to die, by the owner that it saw and the wait list.
     pub fn must_die(&mut self, board: &Board, lock: u32, seen: Owner, sign: u64) -> Option<u64>
         requires seat { IsSeatOf board.now self.old }

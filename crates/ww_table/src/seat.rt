@@ -29,7 +29,7 @@ use ww_word::wide::{pack_seat, without_flags};
 /// A seat of a board. It may start one context after another. Each of its steps is one atomic operation on one word;
 /// its other calls look at what it has out.
 #[derive(Drop)]
-pub struct Seat16 {
+pub struct Stepper {
     pub(crate) seat: TableSeat,
     pub(crate) kind: Kind,
     pub(crate) who: u16,
@@ -147,7 +147,7 @@ pub(crate) fn own_word(who: u16, stamp: u64) -> u64
     pack_seat(0, who, stamp)
 }
 
-impl Seat16 {
+impl Stepper {
     /// The kind of the board's locks.
     pub fn kind(&self) -> Kind
         ensures { result ≡ self.now.kind }

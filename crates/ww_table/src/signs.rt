@@ -7,11 +7,11 @@ ghost use Rattle.ww_table.specs.Seat.{IsSeatOf, view_of};
 ghost use Rattle.ww_rule.specs.Signs.{condemning, noting, reading, finding_none, clearing};
 
 use crate::board::Board;
-use crate::seat::Seat16;
+use crate::seat::Stepper;
 use ww_rule::layout::sign_word;
 use ww_rule::plays_inside::{Clear, OwnSign, Sign};
 
-impl Seat16 {
+impl Stepper {
     /// Condemns another seat by the stamp of the older context that it meets here, and returns whether this call did
     /// so: a seat that has a sign keeps it. Either way the victim has one.
     pub fn sign(&mut self, board: &Board, lock: u32, victim: u16, stamp: u64) -> bool

@@ -23,7 +23,7 @@ ghost use Rattle.ww_rule.specs.Waiting.{IsOut, joining, taking_inside, giving_in
 ghost use Rattle.ww_rule.specs.Cancels.{stopping};
 
 use crate::board::Board;
-use crate::seat::Seat16;
+use crate::seat::Stepper;
 use ww_queue::wide::Entry;
 use ww_rule::bring;
 use ww_rule::layout::{list_slot, owner_word};
@@ -35,7 +35,7 @@ use ww_word::{HANDOFF, WAITERS};
 /// The steps on an owner word inside its guard. Each succeeds if the word is still the one expected. It is if the seat
 /// saw that word last and somebody waits (`sure`), since nobody else writes it then; and nobody but its owner writes the
 /// word of a lock while that is inside the guard, so a release there always succeeds.
-impl Seat16 {
+impl Stepper {
     /// Stands in the wait list of the lock, if its owner word is still the one seen.
     pub fn join(&mut self, board: &Board, lock: u32, seen: Owner, holds: bool) -> bool
         requires seat { IsSeatOf board.now self.old }
