@@ -1,13 +1,11 @@
-use Rattle.std.proofs.Common.{arith, ◌+◌, ◌*◌, sym, ◌∙◌}
-use Rattle.ww_rule.specs.Layout.{lock_at}
-use Rattle.ww_rule.proofs.Lies.{lock_low}
+use Rattle.std.proofs.Common.{arith}
 use Rattle.ww_rule.proofs.InsideSteps.{clears}
+use Rattle.ww_table.proofs.Seated.{has_sign, own_sign_by_view}
 use Rattle.ww_table.proofs.seat.Stepper.clear.Goals as goal
 
 pub store-requires : goal.store-requires
-store-requires c = let s = c.requires.seat in let small = s.few in let wide = s.sized.0 in let word = c.requires.seat.sign in (
+store-requires c = let s = c.requires.at in (
   s.home,
-  (let z = c.args.board.now.sized.0 in let fits = c.args.board.now.fits in let low = lock_low c.args.board.now.table.shared.key.locks c.args.board.now.table.shared.key.locks in omega arith),
-  clears _ _ _ _ _
-      (word ∙ (λ i. lock_at (sym s.room i) (sym s.room i) + 8 * sym s.who i)) s.seated c.requires.may,
+  has_sign c.args.board.now c.args.self.now c.args.self.now.who _ s s.few (let word = s.sign in omega arith),
+  clears _ _ _ _ _ (own_sign_by_view s) s.seated c.requires.may,
 )

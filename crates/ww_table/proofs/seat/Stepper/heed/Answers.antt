@@ -1,29 +1,18 @@
-use Rattle.std.proofs.Common.{arith, ◌+◌, ◌*◌, sym, refl, ap, ◌∙◌}
-use mathlib.Core.Logic.{dite}
-use native.Mathlib.Decide.{ℕ_discrete}
-use Rattle.ww_rule.specs.Layout.{lock_at}
-use Rattle.ww_rule.proofs.Lies.{lock_low}
-use Rattle.ww_rule.specs.Out.{numbers_of}
+use Rattle.std.proofs.Common.{arith, refl, ◌∙◌}
 use Rattle.ww_rule.specs.Cancels.{finding_uncancelled, heeding}
 use Rattle.ww_rule.proofs.InsideSteps.{heeds}
-use Rattle.ww_table.proofs.Seated.{seated_as}
+use Rattle.ww_table.proofs.Seated.{either, has_sign, own_cancel_by_view}
 use Rattle.ww_table.proofs.seat.Stepper.heed.Goals as goal
 
 pub swap-requires : goal.swap-requires
-swap-requires c = let s = c.requires.seat in let small = s.few in let wide = s.sized.0 in let word = c.cancel_word.ensures in (
+swap-requires c = let s = c.requires.at in (
   s.home,
-  (let z = c.args.board.now.sized.0 in let fits = c.args.board.now.fits in let low = lock_low c.args.board.now.table.shared.key.locks c.args.board.now.table.shared.key.locks in omega arith),
-  heeds _ _ _ _
-      c.args.lock _ (word ∙ (λ i. lock_at (sym s.room i) (sym s.room i) + 8 * sym s.who i + 1)) s.seated c.requires.may,
+  has_sign c.args.board.now c.args.self.now c.args.self.now.who _ s s.few (let word = c.cancel_word.ensures in omega arith),
+  heeds _ _ _ _ c.args.lock _ (c.cancel_word.ensures ∙ own_cancel_by_view s) s.seated c.requires.may,
 )
 
-pub returns-clause-seat : goal.returns-clause-seat
-returns-clause-seat c = let s = c.requires.seat in let e = c.swap.ensures in
-    let heard = e.2 (c.cancel_word.ensures ∙ (λ i. lock_at (sym s.room i) (sym s.room i) + 8 * sym s.who i + 1)) in
-    dite (ℕ_discrete c.swap.result 0)
-    (λ none. let now = heard.0 none in seated_as _ c.args.self.now _ (finding_uncancelled c.args.self.now.seat.me.0)
-    s e.0 (ap (λ m. m.0) now) refl refl refl refl refl refl refl refl refl refl refl refl refl
-    (s.order ∙ ap numbers_of (sym (ap (λ m. m.1) now))))
-    (λ some. let now = heard.1 some in seated_as _ c.args.self.now _
-    (heeding c.args.self.now.seat.me.0 c.swap.result) s e.0 (ap (λ m. m.0) now) refl refl refl refl refl refl
-    refl refl refl refl refl refl refl (s.order ∙ ap numbers_of (sym (ap (λ m. m.1) now))))
+pub returns : goal.returns
+returns c = let s = c.requires.at in let e = c.swap.ensures in let v = c.args.self.now.seat.me.0 in
+    let heard = e.2 (c.cancel_word.ensures ∙ own_cancel_by_view s) in
+    let came = either c.swap.new.seat c.swap.result 0 (finding_uncancelled v) (heeding v c.swap.result) s e.0 (heard.0, heard.1) (refl, refl) in
+    record { seat = came.0; records = refl; few = heard.2; none = heard.0; heeded = heard.1 }

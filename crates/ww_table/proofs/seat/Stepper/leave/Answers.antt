@@ -1,63 +1,55 @@
-use Rattle.std.proofs.Common.{◌≡◌, arith, ap, sym, refl, ◌∙◌, subst}
+use Rattle.std.proofs.Common.{◌≢◌, ap, sym, refl, ◌∙◌, subst}
 use Rattle.ww_view.specs.May.{MayStop}
+use Rattle.ww_word.specs.AnySeats.{packed}
 use Rattle.ww_rule.specs.declared.cells.Sight.{Sight}
 use Rattle.ww_rule.specs.Rule.{Sat}
-use Rattle.ww_rule.specs.Out.{numbers_of}
-use Rattle.ww_rule.specs.Guards.{lost}
-use Rattle.ww_rule.specs.Cancels.{stopping}
+use Rattle.ww_rule.specs.Cancels.{stops, stopping}
 use Rattle.ww_rule.proofs.InsideSteps.{stops_brought}
-use Rattle.ww_table.proofs.OnTop.{missed_seat, missed_list, list_there, list_left, page_left}
-use Rattle.ww_table.proofs.Seated.{has_word, expected, seated_paged, by_rule}
+use Rattle.ww_table.specs.declared.seat.Stepper.{Stepper}
+use Rattle.ww_table.proofs.OnTop.{list_there, gone, only_tried}
+use Rattle.ww_table.proofs.Seated.{IsTold, has_lock, expected, by_rule}
+use Rattle.ww_table.proofs.seat.Stepper.leave.Goals.{After-compare_exchange-found}
 use Rattle.ww_table.proofs.seat.Stepper.leave.Goals as goal
 
 pub compare_exchange-found-requires : goal.compare_exchange-found-requires
-compare_exchange-found-requires c = let r = c.owner_left-rest.ensures in let v = c.args.self.now.seat.me.0 in (
+compare_exchange-found-requires c = let r = c.owner_left-rest.ensures in let may = c.requires.may in (
   r.seat.home,
-  has_word c.args.board.now c.args.lock _ c.requires.lock (omega (arith, c.owner_word.ensures ∙ by_rule c.args.board.now c.args.lock)),
-  stops_brought _ _ _ v _ c.args.lock c.args.seen c.owner_left-rest.result _ _ _ (ap (λ (m : Sat). m.0) r.read.now)
-      (c.owner_word.ensures ∙ by_rule c.args.board.now c.args.lock) c.pack-old.ensures c.pack-new.ensures r.owner c.requires.seat.seated c.requires.may
-      c.requires.valid,
+  has_lock c.args.board.now c.args.lock _ may.lock c.owner_word.ensures,
+  stops_brought _ _ _ c.args.self.now.seat.me.0 _ c.args.lock c.args.seen c.owner_left-rest.result _ _ _
+      (ap (λ (m : Sat). m.0) r.read.now) (c.owner_word.ensures ∙ by_rule c.args.board.now c.args.lock) c.pack-old.ensures
+      c.pack-new.ensures r.owner c.requires.at.seated may.may may.valid,
 )
 
--- another word was found
-missed : (c : goal.Then-found-old) → c.compare_exchange-found.new.seat.me ≡ (lost c.owner_left-rest.new.self.seat.me.0, c.owner_left-rest.new.self.seat.me.1)
-missed c = (c.compare_exchange-found.ensures.2.0 c.args.lock c.args.seen
-    (expected c.args.board.now c.requires.seat c.owner_left-rest.ensures.read c.owner_word.ensures c.requires.valid c.pack-old.ensures)).1
-    (λ z. c.if-found-old.true (z ∙ sym c.pack-old.ensures))
+told : (c : After-compare_exchange-found) → IsTold stops c.args.lock c.args.seen c.owner_left-rest.new.self.seat.me
+    c.compare_exchange-found.result c.compare_exchange-found.new.seat.me
+told c = c.compare_exchange-found.ensures.2.0 c.args.lock c.args.seen
+    (expected c.args.board.now c.requires.at c.owner_left-rest.ensures.read c.owner_word.ensures c.requires.may.valid c.pack-old.ensures)
 
-pub returns-then-found-old-clause-lost : goal.returns-then-found-old-clause-lost
-returns-then-found-old-clause-lost c = λ _. missed_list _ _ _ _ c.owner_left-rest.ensures.seat c.owner_left-rest.ensures.read _ (missed c)
-
-pub returns-then-found-old-clause-seat : goal.returns-then-found-old-clause-seat
-returns-then-found-old-clause-seat c =
-    missed_seat _ _ _ _ c.owner_left-rest.ensures.seat c.owner_left-rest.ensures.read _ c.compare_exchange-found.ensures.0 (missed c)
+pub returns-then-found-old : goal.returns-then-found-old
+returns-then-found-old c = let r = c.owner_left-rest.ensures in let other : c.compare_exchange-found.result ≢ packed c.args.seen = λ z. c.if-found-old.true (z ∙ sym c.pack-old.ensures) in
+    let tried = only_tried c.compare_exchange-found.new.seat r.seat r.read c.compare_exchange-found.ensures.0 ((told (goal.at.returns-then-found-old c).After-compare_exchange-found).1 other) in record {
+      seat = tried.0;
+      records = ap (λ (s : Stepper). s.records) r.same;
+      sure = λ saw. absurd (other (c.compare_exchange-found.ensures.2.1 c.args.lock c.args.seen
+          (subst (λ (m : Sat). MayStop m.0.part.core c.args.lock) (sym r.read.now) c.requires.may.may)
+          (ap (λ (m : Sat). m.0.part.core.seen) r.read.now ∙ saw)
+          (expected c.args.board.now c.requires.at r.read c.owner_word.ensures c.requires.may.valid c.pack-old.ensures).0));
+      left = λ no. absurd cc;
+      lost = λ _. tried.1;
+    }
 
 pub leave_list-requires-clause-top : goal.leave_list-requires-clause-top
-leave_list-requires-clause-top c = let t = c.owner_left-rest.ensures.read in let hit = (c.compare_exchange-found.ensures.2.0 c.args.lock c.args.seen
-    (expected c.args.board.now c.requires.seat c.owner_left-rest.ensures.read c.owner_word.ensures c.requires.valid c.pack-old.ensures)).0 (c.if-found-old.false ∙ c.pack-old.ensures) in
-    let top = ap (λ (m : Sat). m.1) hit.0 ∙ ap (λ (m : Sat). m.1) t.now in
-    list_there _ _ _ _ c.owner_left-rest.ensures.seat t c.compare_exchange-found.new.seat t.others _ top c.list_slot.ensures
+leave_list-requires-clause-top c = let r = c.owner_left-rest.ensures in let hit = (told (goal.at.leave_list-requires-clause-top c).After-compare_exchange-found).0 (c.if-found-old.false ∙ c.pack-old.ensures) in
+    (_, list_there c.args.self.now.seat.me c.args.lock (ap (λ (m : Sat). m.1) hit.0 ∙ ap (λ (m : Sat). m.1) r.read.now) c.list_slot.ensures)
 
-pub returns-clause-left : goal.returns-clause-left
-returns-clause-left c = let r = c.owner_left-rest.ensures in let t = r.read in let g = c.leave_list.ensures in let hit = (c.compare_exchange-found.ensures.2.0 c.args.lock c.args.seen
-    (expected c.args.board.now c.requires.seat c.owner_left-rest.ensures.read c.owner_word.ensures c.requires.valid c.pack-old.ensures)).0 (c.if-found-old.false ∙ c.pack-old.ensures) in
-    let top = ap (λ (m : Sat). m.1) hit.0 ∙ ap (λ (m : Sat). m.1) t.now in
-    let list = list_left _ _ _ _ r.seat t c.compare_exchange-found.new.seat t.others _ top c.list_slot.ensures _ g.list in
-    let view = g.view ∙ ap (λ (m : Sat). m.0) hit.0 ∙ ap (λ (m : Sat). stopping m.0 c.args.seen) t.now in
-    λ _. (t.others, t.apart, λ i. (view i, list i))
-
-pub returns-clause-seat : goal.returns-clause-seat
-returns-clause-seat c = let r = c.owner_left-rest.ensures in let t = r.read in let g = c.leave_list.ensures in let hit = (c.compare_exchange-found.ensures.2.0 c.args.lock c.args.seen
-    (expected c.args.board.now c.requires.seat c.owner_left-rest.ensures.read c.owner_word.ensures c.requires.valid c.pack-old.ensures)).0 (c.if-found-old.false ∙ c.pack-old.ensures) in
-    let top = ap (λ (m : Sat). m.1) hit.0 ∙ ap (λ (m : Sat). m.1) t.now in
-    let list = list_left _ _ _ _ r.seat t c.compare_exchange-found.new.seat t.others _ top c.list_slot.ensures _ g.list in
-    seated_paged _ _ _ (stopping c.owner_left-rest.new.self.seat.me.0 c.args.seen) r.seat
-    (g.home.0 ∙ c.compare_exchange-found.ensures.0) (g.view ∙ ap (λ (m : Sat). m.0) hit.0) refl refl refl refl refl refl
-    (λ _. page_left _ _ _ _ r.seat t c.compare_exchange-found.new.seat t.others _ top c.list_slot.ensures _ _ g.page hit.1 c.take-page.ensures.value)
-    refl refl refl refl refl (r.seat.order ∙ ap (λ (m : Sat). numbers_of m.1) t.now ∙ ap numbers_of (sym list))
-
-pub returns-then-found-old-clause-sure : goal.returns-then-found-old-clause-sure
-returns-then-found-old-clause-sure c = let t = c.owner_left-rest.ensures.read in let v = ap (λ (m : Sat). m.0) t.now in
-    λ saw. absurd (c.if-found-old.true (c.compare_exchange-found.ensures.2.1 c.args.lock c.args.seen
-    (subst (λ (w : Sight). MayStop w.part.core c.args.lock) (sym v) c.requires.may)
-    (ap (λ (w : Sight). w.part.core.seen) v ∙ saw) (expected c.args.board.now c.requires.seat c.owner_left-rest.ensures.read c.owner_word.ensures c.requires.valid c.pack-old.ensures).0 ∙ sym c.pack-old.ensures))
+pub returns : goal.returns
+returns c = let r = c.owner_left-rest.ensures in let g = c.leave_list.ensures in
+    let done = gone r.seat r.read c.compare_exchange-found.new.seat c.leave_list.new.seat (λ (v : Sight). stopping v c.args.seen) c.compare_exchange-found.ensures.0
+    ((told (goal.at.returns c).After-compare_exchange-found).0 (c.if-found-old.false ∙ c.pack-old.ensures)) refl c.list_slot.ensures c.take-page.ensures.value
+    (record { home = g.home.0; view = g.view; list = g.list; page = g.page }) in record {
+      seat = done.0;
+      records = ap (λ (s : Stepper). s.records) r.same;
+      sure = λ _. refl;
+      left = λ _. done.1;
+      lost = λ no. absurd cc;
+    }

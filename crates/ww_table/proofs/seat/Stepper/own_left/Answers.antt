@@ -7,17 +7,18 @@ use Rattle.ww_rule.proofs.InsideTurning.{waiting_flags}
 use Rattle.ww_table.proofs.OnTop.{number_before, stamp_before}
 use Rattle.ww_table.proofs.seat.Stepper.own_left.Goals as goal
 
-pub returns-clause-owner : goal.returns-clause-owner
-returns-clause-owner c = let r = c.flag_left-flags.ensures in
-    c.of.ensures ∙ (λ i. let w : Owner = record {
-      seat = Some (sym (number_before _ _ _ _ r.seat r.read) i);
-      stamp = sym (stamp_before _ _ _ _ r.seat r.read) i;
-      flags = r.flag i;
-    } in w)
-
-pub returns-clause-valid : goal.returns-clause-valid
-returns-clause-valid c = let r = c.flag_left-flags.ensures in let v = c.args.self.now.seat.me.0 in
-    subst IsValid (sym c.of.ensures) (record {
-      seating = r.seat.fits;
-      flags = subst AreFlags (sym r.flag) (waiting_flags (left v.part.core.list v.part.core.who));
-    })
+pub returns : goal.returns
+returns c = let r = c.flag_left-flags.ensures in let v = c.args.self.now.seat.me.0 in record {
+  seat = r.seat;
+  read = r.read;
+  owner = c.of.ensures ∙ (λ i. let w : Owner = record {
+    seat = Some (sym (number_before _ _ _ _ r.seat r.read) i);
+    stamp = sym (stamp_before _ _ _ _ r.seat r.read) i;
+    flags = r.flag i;
+  } in w);
+  valid = subst IsValid (sym c.of.ensures) (record {
+    seating = r.seat.fits;
+    flags = subst AreFlags (sym r.flag) (waiting_flags (left v.part.core.list v.part.core.who));
+  });
+  same = r.same;
+}
