@@ -13,15 +13,12 @@ loop-pair-init c = (
   refl,
 )
 
-pub sign-is_condemned-requires-clause-victim : goal.sign-is_condemned-requires-clause-victim
-sign-is_condemned-requires-clause-victim c =
-    victim_low _ _ c.args.owed.now c.args.seat.now.seat.me c.loop-pair.seat.seat.me _ _ c.loop-pair.invariant.1
-    c.requires.owed (owed_at c.args.owed.now c.loop-pair.pair-index c.loop-pair-test.true)
-
 pub sign-is_condemned-requires-clause-may : goal.sign-is_condemned-requires-clause-may
-sign-is_condemned-requires-clause-may c =
-    may_sign _ c.args.lock _ c.args.owed.now c.args.seat.now.seat.me c.loop-pair.seat.seat.me _ _ c.requires.at.inside
-    c.loop-pair.invariant.1 c.requires.owed (owed_at c.args.owed.now c.loop-pair.pair-index c.loop-pair-test.true)
+sign-is_condemned-requires-clause-may c = let owed = owed_at c.args.owed.now c.loop-pair.pair-index c.loop-pair-test.true in (
+  victim_low _ _ c.args.owed.now c.args.seat.now.seat.me c.loop-pair.seat.seat.me _ _ c.loop-pair.invariant.1 c.requires.owed owed,
+  may_sign _ c.args.lock _ c.args.owed.now c.args.seat.now.seat.me c.loop-pair.seat.seat.me _ _ c.requires.at.inside
+      c.loop-pair.invariant.1 c.requires.owed owed,
+)
 
 pub mark-requires : goal.mark-requires
 mark-requires c = let low = (c.requires.owed _ _ (owed_at c.args.owed.now c.loop-pair.pair-index c.loop-pair-test.true)).0 in
